@@ -1,0 +1,6 @@
+use Rattle.std.proofs.Common.{arith}
+use Rattle.r4_base.proofs.Numbers.{number_is}
+use Rattle.r4_base.proofs.bytes.get64.Goals as goal
+
+pub returns : goal.returns
+returns c = number_is 8 c.args.at c.read_u64.result c.args.b.now (λ k. let fits = c.type_inv.b k in omega (arith, fits)) c.read_u64.ensures

@@ -1,0 +1,6 @@
+pub mod Bytes
+pub mod Lending
+pub mod Image
+pub mod Log
+pub mod Chain
+pub mod Refusal

@@ -1,0 +1,13 @@
+//! The numbers, blocks and images of an r4 volume, and what the log on an image means.
+#![tactic(auto)]
+
+mod block;
+mod bytes;
+mod journal;
+mod things;
+
+pub use block::Block;
+pub use bytes::{blank, get16, get32, get64, move_bytes, put_bytes, put16, put32, put64};
+pub use journal::{Footer, Header, LogFault, TxHead};
+pub use std::alloc::AllocError as Memory;
+pub use things::{AtomNo, BlockNo, NodeId, Oid, ScriptNo, TaskId, TxnNo};
