@@ -1,2 +1,6 @@
 pub mod Numbers
 pub mod Lent
+pub mod Logs
+pub mod Members
+pub mod Frame
+pub mod Again

@@ -2,7 +2,7 @@
 use Rattle.std.proofs.Common.{◌≡◌, ℕ, zero, suc, ◌+◌, ◌-◌, ◌%◌, ◌^◌, ◌<◌, ◌≤◌, List, [], ◌∷◌, ◌++◌, length, get_or, take, drop, replicate, refl, sym, ap, subst, ◌∙◌, arith}
 use Rattle.std.proofs.lemmas.List.{places, length-take-le, ext_get_or, drop-replicate, take_at, drop_at, drop_all, take_rest, append-nil, drop-drop, get_or-drop, get_or-take, length-append, length-take, length-drop, append_assoc}
 use Rattle.byteorder.specs.Endian.{little_from, little_bytes}
-use Rattle.byteorder.specs.Numbers.{little_number-reads_back, little_from-lt, length-bytes_low_first}
+use Rattle.byteorder.specs.Numbers.{little_number-reads_back, length-bytes_low_first}
 use Rattle.r4_base.specs.Bytes.{number_at, number_bytes, overwrite, fields_bytes, width_of, FieldsFit, HasFields, put_all}
 use Rattle.std.proofs.Math.Nat.{pow-suc}
 use Rattle.std.specs.Int.{byte_at, bytes_low_first}

@@ -1,6 +1,6 @@
 -- The log of an image, as a chain of transactions, and the settled image (docs/layout.md, "Replay").
-use Rattle.std.specs.Prelude.{◌≡◌, ◌≢◌, ◌⊎◌, ℕ, ◌+◌, ◌<◌, ◌≤◌, ◌==◌, if◌then◌else◌, List, [], ◌∷◌, ◌++◌, length, map, Contains, Any, All, Some}
-use Rattle.r4_base.specs.Image.{Image, block_at, put_pairs}
+use Rattle.std.specs.Prelude.{◌≡◌, ◌≢◌, ◌⊎◌, ℕ, ◌+◌, ◌<◌, ◌≤◌, ◌==◌, if◌then◌else◌, List, [], ◌∷◌, ◌++◌, length, map, Contains, All, Some}
+use Rattle.r4_base.specs.Image.{Image, block_at, put_pairs, AgreesOutside}
 use Rattle.r4_base.specs.Log.{Record, header_of, footer_of, head_of, record_of}
 use Rattle.r4_base.specs.declared.journal.TxHead.{TxHead}
 
@@ -34,8 +34,8 @@ pub record Txn : Type 0 where
 abbrev pub HasRecords : ℕ → Image → (id head serial at : ℕ) → List ℕ → List (ℕ × ℕ) → Type 0
 HasRecords n image id head serial at [] pairs = (at ≡ head) × (pairs ≡ [])
 HasRecords n image id head serial at (r ∷ rs) pairs =
-  (says : Record) × (rest : List (ℕ × ℕ)) × (at ≡ r) × InRange n r × (record_of (block_at image r) ≡ Some says) × (says.id ≡ id) × (says.serial ≡ serial)
-  × All (PairInRange n) says.pairs × (pairs ≡ says.pairs ++ rest) × HasRecords n image id head (serial + 1) says.next_block rs rest
+    (says : Record) × (rest : List (ℕ × ℕ)) × (at ≡ r) × InRange n r × (record_of (block_at image r) ≡ Some says) × (says.id ≡ id) × (says.serial ≡ serial)
+    × All (PairInRange n) says.pairs × (pairs ≡ says.pairs ++ rest) × HasRecords n image id head (serial + 1) says.next_block rs rest
 
 -- A transaction: its head counts itself and its records, at most as many blocks as the device has, and it has no more pairs than that.
 pub record HasTxn (n : ℕ) (image : Image) (t : Txn) : Type 0 where
@@ -82,3 +82,20 @@ pub record Settles (n : ℕ) (image settled : Image) : Type 0 where
   pub chain : List Txn
   pub has : HasLog n image chain
   pub is : settled ≡ put_pairs (chain_pairs chain) image
+
+-- Where the settled content of a block stands: in the wandered block of the last pair with that original, or in the block itself.
+abbrev pub home_from : List (ℕ × ℕ) → ℕ → ℕ → ℕ
+home_from [] b so_far = so_far
+home_from (p ∷ ps) b so_far = home_from ps b (if b == p.0 then p.1 else so_far)
+
+abbrev pub home : List (ℕ × ℕ) → ℕ → ℕ
+home ps b = home_from ps b b
+
+-- An image that settles to this one but for the blocks of W.
+pub record SettlesTo (n : ℕ) (W : ℕ → Type 0) (target image : Image) : Type 0 where
+  pub settled : Image
+  pub settles : Settles n image settled
+  pub agrees : AgreesOutside W target settled
+
+abbrev pub is_footer : ℕ → Type 0
+is_footer b = b ≡ 20

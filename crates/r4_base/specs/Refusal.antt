@@ -1,8 +1,8 @@
 -- Which fault of a log is found first, and where (docs/layout.md, "Replay").
-use Rattle.std.specs.Prelude.{◌≡◌, ℕ, zero, suc, ◌+◌, ◌-◌, ◌<◌, ◌≤◌, ◌==◌, ◌&&◌, ◌||◌, not, nat_le, nat_lt, Bool, if◌then◌else◌, List, [], ◌∷◌, ◌++◌, length, Contains, Option, Some, None, Result, Ok, Err, MatchResult}
+use Rattle.std.specs.Prelude.{◌≡◌, ℕ, zero, suc, ◌+◌, ◌-◌, ◌≤◌, ◌==◌, ◌&&◌, ◌||◌, not, nat_le, nat_lt, Bool, if◌then◌else◌, List, [], ◌∷◌, ◌++◌, length, Contains, Option, Some, None, Result, Ok, Err, MatchResult}
 use Rattle.std.specs.List.{list_all}
 use Rattle.r4_base.specs.Image.{Image, block_at}
-use Rattle.r4_base.specs.Log.{Record, header_of, footer_of, head_of, record_of}
+use Rattle.r4_base.specs.Log.{Record, head_of, record_of}
 use Rattle.r4_base.specs.Chain.{Txn, committed, flushed, originals, kept_blocks}
 use Rattle.r4_base.specs.declared.journal.TxHead.{TxHead}
 use Rattle.r4_base.specs.declared.journal.LogFault.{LogFault}
@@ -47,7 +47,7 @@ Head = ℕ × TxHead
 unfoldable pub heads_from : (more n : ℕ) → Image → (footer holder at : ℕ) → Result (List Head) Refusal
 heads_from zero n image footer holder at = if at == footer then Ok [] else then_with (head_at n image holder at) (λ h. refuse at Long)
 heads_from (suc more) n image footer holder at = if at == footer then Ok [] else then_with (head_at n image holder at) (λ h.
-  then_with (heads_from more n image footer at h.prev_tx) (λ older. Ok ((at, h) ∷ older)))
+    then_with (heads_from more n image footer at h.prev_tx) (λ older. Ok ((at, h) ∷ older)))
 
 -- ---- the records of a transaction: `Range` of a record's number names its holder; that of a pair, and all others, the record
 
@@ -55,15 +55,15 @@ heads_from (suc more) n image footer holder at = if at == footer then Ok [] else
 abbrev pub checked_record : (n id serial before at : ℕ) → Option Record → Result Record Refusal
 checked_record n id serial before at None = refuse at RecordMagic
 checked_record n id serial before at (Some r) =
-  if not (r.id == id) then refuse at Id else
-  if not (r.serial == serial) then refuse at Serial else
-  if not (list_all (pair_is_in_range n) r.pairs) then refuse at Range else
-  if nat_lt n (before + length r.pairs) then refuse at Pairs else
-  Ok r
+    if not (r.id == id) then refuse at Id else
+    if not (r.serial == serial) then refuse at Serial else
+    if not (list_all (pair_is_in_range n) r.pairs) then refuse at Range else
+    if nat_lt n (before + length r.pairs) then refuse at Pairs else
+    Ok r
 
 unfoldable pub record_at : ℕ → Image → (id serial before holder at : ℕ) → Result Record Refusal
 record_at n image id serial before holder at =
-  if is_log_block n at then checked_record n id serial before at (record_of (block_at image at)) else refuse holder Range
+    if is_log_block n at then checked_record n id serial before at (record_of (block_at image at)) else refuse holder Range
 
 -- what a transaction's records are found to be: their blocks, and their pairs
 pub record Found : Type 0 where
@@ -74,12 +74,12 @@ pub record Found : Type 0 where
 unfoldable pub records_from : (left n : ℕ) → Image → (id head serial before holder at : ℕ) → Result Found Refusal
 records_from zero n image id head serial before holder at = if at == head then Ok (record { records = []; pairs = [] }) else refuse holder Circle
 records_from (suc left) n image id head serial before holder at = then_with (record_at n image id serial before holder at) (λ r.
-  then_with (records_from left n image id head (serial + 1) (before + length r.pairs) at r.next_block) (λ rest.
+    then_with (records_from left n image id head (serial + 1) (before + length r.pairs) at r.next_block) (λ rest.
     Ok (record { records = at ∷ rest.records; pairs = r.pairs ++ rest.pairs })))
 
 unfoldable pub txn_at : ℕ → Image → Head → Result Txn Refusal
 txn_at n image h = then_with (records_from (h.1.total - 1) n image h.1.id h.0 1 0 h.0 h.1.next_block) (λ found.
-  Ok (record { head = h.0; says = h.1; records = found.records; pairs = found.pairs }))
+    Ok (record { head = h.0; says = h.1; records = found.records; pairs = found.pairs }))
 
 -- ---- the log: all heads first, then the transactions, the oldest first, then the smallest original that is also another block of the log
 
