@@ -1,0 +1,5 @@
+pub mod Fields
+pub mod Laws
+pub mod Pairs
+pub mod Writes
+pub mod Again
