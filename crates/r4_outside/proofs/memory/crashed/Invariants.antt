@@ -1,0 +1,6 @@
+use Rattle.std.proofs.Common.{take, reverse}
+use Rattle.r4_outside.specs.Crash.{IsRedone}
+use Rattle.r4_outside.proofs.memory.crashed.Given as goal
+
+abbrev pub invariant-loop-call : goal.invariant-loop-call
+invariant-loop-call l = IsRedone l.start (reverse (take l.call-index l.calls)) l.moment l.full.items l.left.items

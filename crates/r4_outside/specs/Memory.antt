@@ -1,0 +1,34 @@
+-- What a device in memory tells.
+use Rattle.std.specs.Prelude.{ℕ, ◌≡◌, IsTrue, Bool, true, false, List, map, reverse, length, None}
+use Rattle.r4_base.specs.Image.{Image}
+use Rattle.r4_outside.specs.Device.{State, Sectors}
+use Rattle.r4_outside.specs.Record.{may}
+use Rattle.r4_outside.specs.declared.memory.Call.{Call}
+use Rattle.r4_outside.specs.declared.memory.MemoryDevice.{MemoryDevice}
+
+-- what the device holds
+abbrev pub memory_image : MemoryDevice → Image
+memory_image d = d.blocks.items
+
+-- The state of a device with this image, record (the newest call first) and counts. Without a record it does not tell what a crash leaves.
+abbrev pub state_of : Image → Bool → Image → List Call → ℕ → ℕ → State
+state_of image keeps start calls clock faults = record {
+  blocks = length image;
+  seen = image;
+  may_hold = λ m b s x. IsTrue keeps × may start calls m b s x;
+  clock = clock;
+  faults = faults;
+  lender = None;
+  stop = None;
+}
+
+-- what the device tells
+abbrev pub memory_state : MemoryDevice → State
+memory_state d = state_of (memory_image d) d.keeps d.start.items (reverse d.calls.items) d.clock d.faults
+
+-- No call was made yet, and the device is nobody's.
+pub record IsFresh (d : State) : Type 0 where
+  pub clock : d.clock ≡ 0
+  pub faults : d.faults ≡ 0
+  pub lender : d.lender ≡ None
+  pub stop : d.stop ≡ None

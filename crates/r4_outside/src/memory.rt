@@ -1,0 +1,360 @@
+//! A device in memory, with a record of its writes and good syncs or without.
+
+ghost use Rattle.std.specs.Prelude.{◌≡◌, ◌<◌, ◌≤◌, List, [], ℕ, Bool, true, false, reverse, cond, length, replicate, vec_len, slice_set, ◌∷◌, IfOk, OnOk, OnErr};
+ghost use Rattle.r4_base.specs.Image.{Image, IsBlock, block_at};
+ghost use Rattle.r4_outside.specs.Device.{IsQuiet, TellsReads, TellsCrashes, Leaves, IsAs};
+ghost use Rattle.r4_outside.specs.Crash.{IsLeft, IsRedone};
+ghost use Rattle.r4_outside.specs.Record.{IsWhole, image_after, is_till};
+
+use crate::failing::{counted, missed};
+use crate::mix::mix;
+use crate::{Device, Failed};
+use r4_base::{Block, BlockNo, Memory};
+use std::alloc::Global;
+
+/// A write, or a sync that went well, with the clock after it.
+#[derive(Drop)]
+pub enum Call {
+    Wrote {
+        moment: u64,
+        at: usize,
+        block: Block,
+    },
+    Synced {
+        moment: u64,
+    },
+}
+
+/// Blocks in memory. It may keep a record of its writes and good syncs, and then tells what a crash leaves.
+#[derive(Drop)]
+pub struct MemoryDevice {
+    alloc: Global,
+    blocks: Vec<Block>,
+    keeps: bool,
+    start: Vec<Block>,
+    calls: Vec<Call>,
+    fails: Vec<u64>,
+    made: u64,
+    clock: u64,
+    faults: u64,
+
+    // The blocks are what the record says.
+    ghost agrees: { cond keeps blocks.items [] ≡ image_after start.items (reverse calls.items) },
+
+    // No call of the record is later than now.
+    ghost till: { is_till clock (reverse calls.items) ≡ true },
+
+    ghost whole: { IsWhole blocks.items },
+
+    ghost began_whole: { IsWhole start.items },
+}
+
+impl MemoryDevice {
+    ghost use Rattle.r4_outside.specs.Memory.{memory_image, memory_state, IsFresh};
+
+    /// A device of that many blocks of zeros that keeps a record of all calls and tells everything. A `write` or a
+    /// `sync` that finds no memory for the record fails, and leaves no sector of its own. The only error is want of
+    /// memory.
+    pub fn new(alloc: Global, blocks: u64) -> Result<MemoryDevice, Memory>
+        ensures zeros { IfOk result (λ d. memory_image d ≡ replicate blocks (replicate 4096 0)) }
+        ensures fresh { IfOk result (λ d. IsFresh (memory_state d)) }
+        ensures quiet { IfOk result (λ d. IsQuiet (memory_state d)) }
+    {
+        Ok(MemoryDevice {
+            alloc,
+            blocks: zeros(alloc, blocks)?,
+            keeps: true,
+            start: zeros(alloc, blocks)?,
+            calls: Vec::new(alloc),
+            fails: Vec::new(alloc),
+            made: 0,
+            clock: 0,
+            faults: 0,
+        })
+    }
+
+    /// A device of that many blocks of zeros that keeps no record and does not tell what a crash leaves. It takes no
+    /// memory afterwards but in `fail`. The only error is want of memory.
+    pub fn plain(alloc: Global, blocks: u64) -> Result<MemoryDevice, Memory>
+        ensures zeros { IfOk result (λ d. memory_image d ≡ replicate blocks (replicate 4096 0)) }
+        ensures fresh { IfOk result (λ d. IsFresh (memory_state d)) }
+        ensures tells { IfOk result (λ d. TellsReads (memory_state d)) }
+    {
+        Ok(MemoryDevice {
+            alloc,
+            blocks: zeros(alloc, blocks)?,
+            keeps: false,
+            start: Vec::new(alloc),
+            calls: Vec::new(alloc),
+            fails: Vec::new(alloc),
+            made: 0,
+            clock: 0,
+            faults: 0,
+        })
+    }
+
+    /// The call of that number is to fail, counting reads, writes and syncs from 1. A write that fails so is made all
+    /// the same. The only error is want of memory.
+    pub fn fail(&mut self, alloc: Global, call: u64) -> Result<(), Memory>
+        ensures { IsAs (memory_state self.old) (memory_state self.new) }
+    {
+        let _ = alloc;
+        self.fails.push(call)?;
+        Ok(())
+    }
+
+    /// One of the images that a crash at a moment may leave, as a device that keeps a record from there on. `pick` says
+    /// which one; which image belongs to which number is left open. The only error is want of memory.
+    pub fn crash(&self, alloc: Global, moment: u64, pick: u64) -> Result<MemoryDevice, Memory>
+        requires { TellsCrashes (memory_state self.now) }
+        ensures leaves { IfOk result (λ d. Leaves (memory_state self.now) moment (memory_image d)) }
+        ensures fresh { IfOk result (λ d. IsFresh (memory_state d)) }
+        ensures quiet { IfOk result (λ d. IsQuiet (memory_state d)) }
+    {
+        let blocks = crashed(alloc, &self.start, &self.calls, moment, pick)?;
+        let start = copies(alloc, &blocks)?;
+        Ok(MemoryDevice {
+            alloc,
+            blocks,
+            keeps: true,
+            start,
+            calls: Vec::new(alloc),
+            fails: Vec::new(alloc),
+            made: 0,
+            clock: 0,
+            faults: 0,
+        })
+    }
+
+    /// Shows block `at`, which is below the number of blocks.
+    pub fn block(&self, at: BlockNo) -> &Block
+        requires { at.0 < length (memory_image self.now) }
+        ensures { result.now ≡ block_at (memory_image self.now) at.0 }
+    {
+        &self.blocks[at.0 as usize]
+    }
+}
+
+// Blocks of zeros.
+fn zeros(alloc: Global, count: u64) -> Result<Vec<Block>, Memory>
+    ensures items { IfOk result (λ v. v.items ≡ replicate count (replicate 4096 0)) }
+    ensures whole { IfOk result (λ v. IsWhole v.items) }
+{
+    let mut blocks = Vec::new(alloc);
+    for i in 0..count {
+        blocks.push(Block::zeroed(alloc)?)?;
+    }
+    Ok(blocks)
+}
+
+// The same blocks.
+fn copies(alloc: Global, blocks: &[Block]) -> Result<Vec<Block>, Memory>
+    ensures { IfOk result (λ v. v.items ≡ blocks.now) }
+{
+    let mut copied = Vec::new(alloc);
+    for block in blocks {
+        copied.push(block.copy(alloc)?)?;
+    }
+    Ok(copied)
+}
+
+// What a crash leaves of the blocks after these calls.
+fn crashed(
+    alloc: Global,
+    start: &[Block],
+    calls: &[Call],
+    moment: u64,
+    pick: u64,
+) -> Result<Vec<Block>, Memory>
+    requires { IsWhole start.now }
+    ensures { IfOk result (λ v. IsLeft start.now (reverse calls.now) moment v.items) }
+{
+    let mut full = copies(alloc, start)?;
+    let mut left = copies(alloc, start)?;
+    let mut x = pick;
+    for call in calls {
+        let (mask, after) = picks(x);
+        x = after;
+        redo(alloc, &mut full, &mut left, call, moment, mask)?;
+    }
+    Ok(left)
+}
+
+// One call more: of a write by then the sectors with a set bit are left.
+fn redo(
+    alloc: Global,
+    full: &mut Vec<Block>,
+    left: &mut Vec<Block>,
+    call: &Call,
+    moment: u64,
+    mask: u8,
+) -> Result<(), Memory>
+    ensures { (start : List (List ℕ)) (calls : List Call) → IsRedone start calls moment full.old.items left.old.items
+        → OnOk result (IsRedone start (call.now ∷ calls) moment full.new.items left.new.items) }
+{
+    match call {
+        Call::Wrote {
+            moment: made,
+            at,
+            block,
+        } => {
+            put_block(full, *at, block);
+            if *made > moment || *at >= left.len() {
+                return Ok(());
+            }
+            let torn = &mut left[*at];
+            mix(torn, block, mask);
+            Ok(())
+        }
+        Call::Synced { moment: made } => {
+            if *made > moment {
+                return Ok(());
+            }
+            *left = copies(alloc, full)?;
+            Ok(())
+        }
+    }
+}
+
+// Takes over a block at a place, where there is one.
+#[tactic(auto, using(r4_base::proofs::Lent::refilled_is))]
+fn put_block(blocks: &mut Vec<Block>, at: usize, from: &Block)
+    ensures set { blocks.new.items ≡ slice_set blocks.old.items at from.now }
+    ensures whole { IsBlock from.now }
+{
+    let bytes = from.bytes();
+    if at >= blocks.len() {
+        return;
+    }
+    let block = &mut blocks[at];
+    block.bytes_mut().copy_from_slice(bytes);
+}
+
+// Which sectors of a write are left, and the number for the next write.
+fn picks(mut x: u64) -> (u8, u64) {
+    let mut mask = 0u8;
+    for s in 0..8u32 {
+        x = x
+            .wrapping_mul(6364136223846793005)
+            .wrapping_add(1442695040888963407);
+        if x >> 63 == 1 {
+            mask |= 1u8 << s;
+        }
+    }
+    (mask, x)
+}
+
+impl Device for MemoryDevice {
+    ghost use Rattle.r4_outside.specs.Memory.{memory_state};
+
+    ghost state = { memory_state };
+
+    fn blocks(&mut self) -> Result<u64, Failed> {
+        Ok(self.blocks.len() as u64)
+    }
+
+    fn read(&mut self, at: BlockNo, into: &mut Block) -> Result<(), Failed> {
+        if counted(&self.fails, &mut self.made) {
+            return Err(missed(&mut self.faults));
+        }
+        into.copy_from(&self.blocks[at.0 as usize]);
+        Ok(())
+    }
+
+    fn write(&mut self, at: BlockNo, from: &Block) -> Result<(), Failed> {
+        let failing = counted(&self.fails, &mut self.made);
+        if self.clock == u64::MAX {
+            return Err(missed(&mut self.faults));
+        }
+        self.clock += 1;
+        let place = at.0 as usize;
+        let Ok(()) = put(
+            self.alloc,
+            self.keeps,
+            &mut self.blocks,
+            &mut self.calls,
+            self.clock,
+            place,
+            from,
+        ) else {
+            return Err(missed(&mut self.faults));
+        };
+        if failing {
+            return Err(missed(&mut self.faults));
+        }
+        Ok(())
+    }
+
+    fn sync(&mut self) -> Result<(), Failed> {
+        let failing = counted(&self.fails, &mut self.made);
+        if self.clock == u64::MAX {
+            return Err(missed(&mut self.faults));
+        }
+        self.clock += 1;
+        if failing {
+            return Err(missed(&mut self.faults));
+        }
+        let Ok(()) = note_sync(self.keeps, &mut self.calls, self.clock) else {
+            return Err(missed(&mut self.faults));
+        };
+        Ok(())
+    }
+
+    fn clock(&self) -> u64 {
+        self.clock
+    }
+
+    fn faults(&self) -> u64 {
+        self.faults
+    }
+}
+
+// Writes a block, and first notes the write where a record is kept. At `Err` nothing is changed.
+fn put(
+    alloc: Global,
+    keeps: bool,
+    blocks: &mut Vec<Block>,
+    calls: &mut Vec<Call>,
+    moment: u64,
+    at: usize,
+    from: &Block,
+) -> Result<(), Memory>
+    requires { at < vec_len blocks.old }
+    ensures ok { OnOk result (blocks.new.items ≡ slice_set blocks.old.items at from.now) }
+    ensures whole { OnOk result (IsBlock from.now) }
+    ensures noted { OnOk result (reverse calls.new.items ≡ cond keeps (Call.Wrote moment at from.now ∷ reverse calls.old.items) (reverse calls.old.items)) }
+    ensures err { OnErr result ((blocks.new.items ≡ blocks.old.items) × (calls.new.items ≡ calls.old.items)) }
+{
+    if keeps {
+        note_write(alloc, calls, moment, at, from)?;
+    }
+    put_block(blocks, at, from);
+    Ok(())
+}
+
+// Notes a write. At `Err` the record is as it was.
+fn note_write(
+    alloc: Global,
+    calls: &mut Vec<Call>,
+    moment: u64,
+    at: usize,
+    from: &Block,
+) -> Result<(), Memory>
+    ensures noted { OnOk result (reverse calls.new.items ≡ Call.Wrote moment at from.now ∷ reverse calls.old.items) }
+    ensures err { OnErr result (calls.new.items ≡ calls.old.items) }
+{
+    let block = from.copy(alloc)?;
+    calls.push(Call::Wrote { moment, at, block })?;
+    Ok(())
+}
+
+// Notes a good sync where a record is kept. At `Err` the record is as it was.
+fn note_sync(keeps: bool, calls: &mut Vec<Call>, moment: u64) -> Result<(), Memory>
+    ensures noted { OnOk result (reverse calls.new.items ≡ cond keeps (Call.Synced moment ∷ reverse calls.old.items) (reverse calls.old.items)) }
+    ensures err { OnErr result (calls.new.items ≡ calls.old.items) }
+{
+    if keeps {
+        calls.push(Call::Synced { moment })?;
+    }
+    Ok(())
+}
