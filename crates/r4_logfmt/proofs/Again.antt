@@ -1,15 +1,11 @@
 -- A record that was written is read.
 use Rattle.std.proofs.Common.{◌≡◌, ◌≢◌, ℕ, zero, suc, ◌+◌, ◌-◌, ◌*◌, ◌^◌, ◌<◌, ◌≤◌, List, [], ◌∷◌, ◌++◌, length, replicate, Some, refl, sym, ap, ◌∙◌, arith}
-use Rattle.std.specs.List.{All, flat_map}
+use Rattle.std.specs.List.{flat_map}
 use Rattle.std.proofs.lemmas.List.{append_assoc, length-append, replicate-append-replicate}
-use Rattle.r4_base.specs.Bytes.{number_at, number_bytes, fields_bytes, FieldsFit}
+use Rattle.r4_base.specs.Bytes.{number_at, number_bytes, fields_bytes, FieldsFit, HasFields}
 use Rattle.r4_base.proofs.Numbers.{fields_read, number_at-bytes, length-number_bytes, length-fields_bytes}
 use Rattle.r4_base.specs.Log.{Record, pair_at, pairs_from, pairs_of, record_magic, record_of, record_fields, pair_fields, record_block}
-use Rattle.r4_logfmt.proofs.Pairs.{none_at, one_at}
-
--- pairs that can be written: numbers of eight bytes, and no original is 0
-abbrev pub PairsFit : List (ℕ × ℕ) → Type 0
-PairsFit ps = All (λ (p : ℕ × ℕ). (p.0 ≢ 0) × (p.0 < 2 ^ 64) × (p.1 < 2 ^ 64)) ps
+use Rattle.r4_logfmt.proofs.Pairs.{PairsFit, none_at, one_at}
 
 zero_bytes : number_bytes 8 0 ≡ replicate 8 0
 unfolding number_bytes
@@ -49,9 +45,9 @@ pairs_again (suc n) i m (p ∷ ps) front len le fit room =
 pub record_again : (r : Record) → FieldsFit (record_fields r) → PairsFit r.pairs → length r.pairs ≤ 254 → record_of (record_block r) ≡ Some r
 unfolding record_of record_block pairs_of
 record_again r fit pairs few =
-    let more = fields_bytes (flat_map pair_fields r.pairs) in
-    let zeros = replicate (4064 - 16 * length r.pairs) 0 in
-    let f = fields_read (record_fields r) record_magic (more ++ zeros) 8 refl fit in
+    let more : List ℕ = fields_bytes (flat_map pair_fields r.pairs) in
+    let zeros : List ℕ = replicate (4064 - 16 * length r.pairs) 0 in
+    let f : HasFields (record_fields r) 8 (record_magic ++ (fields_bytes (record_fields r) ++ (more ++ zeros))) = fields_read (record_fields r) record_magic (more ++ zeros) 8 refl fit in
     let front_long : length (record_magic ++ fields_bytes (record_fields r)) ≡ 32 = omega (arith, length-fields_bytes (record_fields r)) in
     let listed : pairs_from 254 0 (record_magic ++ (fields_bytes (record_fields r) ++ (more ++ zeros))) ≡ r.pairs = ap (pairs_from 254 0) (sym (append_assoc record_magic (fields_bytes (record_fields r)) (more ++ zeros))) ∙ pairs_again 254 0 (4064 - 16 * length r.pairs) r.pairs (record_magic ++ fields_bytes (record_fields r)) front_long few pairs (λ lt. omega arith) in
     rw (f.0, f.1.0, f.1.1.0, f.1.1.1.0, listed) refl

@@ -1,7 +1,8 @@
 -- The journal header, the journal footer and a head: what is written is read.
 use Rattle.std.proofs.Common.{◌≡◌, ℕ, ◌≤◌, List, [], length, replicate, Some, refl, arith}
-use Rattle.r4_base.specs.Bytes.{overwrite, FieldsFit, put_all}
-use Rattle.r4_base.proofs.Numbers.{overwrite_next, put_all-blank, fields_read}
+use Rattle.r4_base.specs.Bytes.{overwrite, fields_bytes, FieldsFit, put_all}
+use Rattle.r4_base.proofs.Numbers.{overwrite_next, put_all-blank, fields_read, length-fields_bytes}
+use Rattle.std.proofs.lemmas.List.{length-append, length-replicate}
 use Rattle.r4_base.specs.declared.journal.Header.{Header}
 use Rattle.r4_base.specs.declared.journal.Footer.{Footer}
 use Rattle.r4_base.specs.declared.journal.TxHead.{TxHead}
@@ -30,3 +31,7 @@ unfolding head_of head_block
 head_again h fit =
     let f = fields_read (head_fields h) head_magic (replicate 4032 0) 8 refl fit in
     rw (f.0, f.1.0, f.1.1.1.0, f.1.1.1.1.0, f.1.1.1.1.1.0, f.1.1.1.1.1.1.0, f.1.1.1.1.1.1.1.0) refl
+
+pub length-head_block : (h : TxHead) → length (head_block h) ≡ 4096
+unfolding head_block
+length-head_block h = omega (arith, length-append (fields_bytes (head_fields h)) (replicate 4032 0), length-fields_bytes (head_fields h), length-replicate {A = ℕ} 4032 0)

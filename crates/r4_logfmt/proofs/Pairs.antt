@@ -1,9 +1,15 @@
 -- The pairs of a record, as a loop counts them and as they are asked for.
-use Rattle.std.proofs.Common.{◌≡◌, ◌≢◌, ℕ, zero, suc, ◌+◌, ◌-◌, ◌*◌, ◌<◌, ◌≤◌, Bool, true, false, cond, eqb, List, [], ◌∷◌, length, Some, refl, sym, ap, ◌∙◌, arith}
+use Rattle.std.proofs.Common.{◌≡◌, ◌≢◌, ℕ, zero, suc, ◌+◌, ◌-◌, ◌*◌, ◌^◌, ◌<◌, ◌≤◌, Bool, true, false, cond, eqb, List, [], ◌∷◌, length, Some, refl, sym, ap, ◌∙◌, arith}
 use Rattle.std.specs.Prelude.{slice_get}
+use Rattle.std.specs.List.{All}
 use Rattle.std.proofs.lemmas.Bool.{eqb-true, eq-eqb}
 use Rattle.r4_base.specs.Bytes.{number_at}
+use Rattle.r4_base.proofs.Numbers.{number_at-lt}
 use Rattle.r4_base.specs.Log.{pair_at, pairs_from, pairs_of}
+
+-- pairs as they are written and read: numbers of eight bytes, and no original is 0
+abbrev pub PairsFit : List (ℕ × ℕ) → Type 0
+PairsFit ps = All (λ (p : ℕ × ℕ). (p.0 ≢ 0) × (p.0 < 2 ^ 64) × (p.1 < 2 ^ 64)) ps
 
 pub none_at : (n i : ℕ) (b : List ℕ) → (pair_at b i).0 ≡ 0 → pairs_from (suc n) i b ≡ []
 unfolding pairs_from
@@ -41,6 +47,21 @@ length-pairs_of b = length-pairs_from 254 0 b
 pub get-pairs_of : (k : ℕ) (b : List ℕ) → k < length (pairs_of b) → slice_get (pairs_of b) k ≡ Some (pair_at b k)
 unfolding pairs_of
 get-pairs_of k b lt = let e : 0 + k ≡ k = omega arith in get-pairs_from 254 0 k b lt ∙ ap (λ (j : ℕ). Some (pair_at b j)) e
+
+fit_by : (t : Bool) (p : ℕ × ℕ) (ps : List (ℕ × ℕ)) → t ≡ eqb p.0 0 → p.0 < 2 ^ 64 → p.1 < 2 ^ 64 → PairsFit ps → PairsFit (cond t [] (p ∷ ps))
+fit_by true p ps e small small' rest k d lt = absurd (omega arith)
+fit_by false p ps e small small' rest zero d lt = ((λ z. let t = eq-eqb p.0 0 z in cc), small, small')
+fit_by false p ps e small small' rest (suc k) d lt = rest k d (omega arith)
+
+fit-pairs_from : (n i : ℕ) (b : List ℕ) → PairsFit (pairs_from n i b)
+unfolding pairs_from
+fit-pairs_from zero i b = λ k d lt. absurd (omega arith)
+fit-pairs_from (suc n) i b = fit_by (eqb (pair_at b i).0 0) (pair_at b i) (pairs_from n (i + 1) b) refl (number_at-lt 8 (32 + 16 * i) b) (number_at-lt 8 (40 + 16 * i) b) (fit-pairs_from n (i + 1) b)
+
+-- what a block spells could be written
+pub fit-pairs_of : (b : List ℕ) → PairsFit (pairs_of b)
+unfolding pairs_of
+fit-pairs_of b = fit-pairs_from 254 0 b
 
 -- ---- the loop that counts
 

@@ -1,9 +1,9 @@
 -- A record's pairs, written one after the other, and the block that they make.
 use Rattle.std.proofs.Common.{◌≡◌, ℕ, ◌+◌, ◌-◌, ◌*◌, ◌<◌, ◌≤◌, List, [], ◌∷◌, ◌++◌, length, get_or, take, replicate, refl, sym, ap, ◌∙◌, arith}
 use Rattle.std.specs.List.{flat_map}
-use Rattle.std.proofs.lemmas.List.{take_more, length-take, flat_map_more, append_assoc}
+use Rattle.std.proofs.lemmas.List.{take_more, length-take, flat_map_more, append_assoc, length-append, length-replicate}
 use Rattle.r4_base.specs.Bytes.{number_bytes, overwrite, fields_bytes, width_of, put_all}
-use Rattle.r4_base.proofs.Numbers.{overwrite_next, put_all-blank, put_all-append}
+use Rattle.r4_base.proofs.Numbers.{overwrite_next, put_all-blank, put_all-append, length-fields_bytes}
 use Rattle.r4_base.specs.Log.{Record, record_magic, record_fields, pair_fields, record_block}
 
 width_of-append : (fs gs : List (ℕ × ℕ)) → width_of (fs ++ gs) ≡ width_of fs + width_of gs
@@ -41,3 +41,11 @@ is_record_block r b1 b2 b3 few e1 e2 e3 =
     let first : b1 ≡ record_magic ++ replicate 4088 0 = e1 ∙ overwrite_next 0 [] record_magic 4096 refl (omega arith) in
     let left : 4088 - width_of (record_fields r ++ ps) ≡ 4064 - 16 * length r.pairs = omega arith in
     all ∙ ap (put_all (record_fields r ++ ps) 8) first ∙ put_all-blank (record_fields r ++ ps) 8 record_magic 4088 refl (omega arith) ∙ rw (left, fields_bytes-append (record_fields r) ps) (ap (λ (xs : List ℕ). record_magic ++ xs) (append_assoc (fields_bytes (record_fields r)) (fields_bytes ps) (replicate (4064 - 16 * length r.pairs) 0)))
+
+pub length-record_block : (r : Record) → length r.pairs ≤ 254 → length (record_block r) ≡ 4096
+unfolding record_block
+length-record_block r few =
+    let fields = fields_bytes (record_fields r) in
+    let more = fields_bytes (flat_map pair_fields r.pairs) in
+    let blank = 4064 - 16 * length r.pairs in
+    omega (arith, length-append fields (more ++ replicate blank 0), length-append more (replicate blank 0), length-fields_bytes (record_fields r), length-fields_bytes (flat_map pair_fields r.pairs), width_of-pairs r.pairs, length-replicate {A = ℕ} blank 0)

@@ -1,5 +1,5 @@
-use Rattle.r4_logfmt.proofs.Pairs.{length-pairs_of, get-pairs_of}
 use Rattle.std.proofs.Common.{arith}
+use Rattle.r4_logfmt.proofs.Pairs.{length-pairs_of, get-pairs_of}
 use Rattle.r4_logfmt.proofs.record.LogRecord.pair.Goals as goal
 
 pub pair_in-requires-clause-within : goal.pair_in-requires-clause-within
