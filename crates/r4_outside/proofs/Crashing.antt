@@ -1,7 +1,7 @@
 -- What a crash leaves, call by call.
-use Rattle.std.proofs.Common.{◌≡◌, ◌≢◌, ◌⊎◌, inl, inr, ⊎_elim, ℕ, ◌+◌, ◌<◌, ◌≤◌, List, [], ◌∷◌, map, length, slice_set, refl, sym, ◌∙◌, ap, subst, arith, Bool, true, false, cond, IsTrue}
-use Rattle.std.proofs.lemmas.Bool.{cases_eq, cases_lt}
-use Rattle.std.proofs.lemmas.List.{length-set, get_or-set_same, get_or-set_other, get_or_past}
+use Rattle.std.proofs.Common.{◌≡◌, inl, inr, ⊎_elim, ℕ, ◌<◌, ◌≤◌, List, [], ◌∷◌, length, slice_set, refl, sym, ◌∙◌, ap, subst, arith, Bool, true, false, cond}
+use Rattle.std.proofs.lemmas.Bool.{cases_eq}
+use Rattle.std.proofs.lemmas.List.{length-set, get_or-set_same, get_or-set_other}
 use Rattle.r4_base.specs.Image.{Image, IsBlock, block_at, sector}
 use Rattle.r4_outside.specs.Device.{Leaves, TellsCrashes}
 use Rattle.r4_outside.specs.Record.{IsWhole, image_after, may}

@@ -4,3 +4,4 @@ pub mod Recorded
 pub mod Lent
 pub mod Mixing
 pub mod Crashing
+pub mod Texts

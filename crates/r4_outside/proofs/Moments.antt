@@ -1,10 +1,10 @@
 -- How a run of device calls goes on.
-use Rattle.std.proofs.Common.{◌≡◌, ◌≢◌, ◌⊎◌, inl, inr, ⊎_elim, ◌↔◌, ℕ, ◌+◌, ◌*◌, ◌^◌, ◌-◌, ◌<◌, ◌≤◌, min, List, [], length, slice_set, refl, sym, ◌∙◌, ap, subst, arith, Result, Ok, Err, OnOk, OnErr}
+use Rattle.std.proofs.Common.{◌≡◌, ◌⊎◌, inl, inr, ⊎_elim, ℕ, ◌+◌, ◌<◌, ◌≤◌, List, [], refl, sym, ◌∙◌, subst, arith, Result, Ok}
 use Rattle.std.proofs.lemmas.Bool.{cases_eq, cases_lt}
 use Rattle.std.proofs.lemmas.List.{ext_get_or}
 use Rattle.r4_base.specs.Image.{Image, block_at, sector}
 use Rattle.r4_outside.proofs.Images.{same_sectors}
-use Rattle.r4_outside.specs.Device.{State, Sectors, Leaves, TellsReads, TellsCrashes, Goes, Counts, Reads, Writes, Syncs, Within, only, IsQuiet, LeavesOnly, HasSectors, IsTorn, Spares}
+use Rattle.r4_outside.specs.Device.{State, Sectors, Leaves, TellsReads, TellsCrashes, Goes, Writes, Syncs, Within, only, LeavesOnly, HasSectors, IsTorn, Spares}
 
 -- Going on is reflexive and transitive.
 pub goes_same : (d : State) → Goes d d

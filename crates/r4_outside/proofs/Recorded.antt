@@ -1,11 +1,10 @@
 -- What a record says after one call more.
-use Rattle.std.proofs.Common.{◌≡◌, ◌≢◌, ◌⊎◌, inl, inr, ⊎_elim, ◌↔◌, ℕ, ◌+◌, ◌*◌, ◌^◌, ◌-◌, ◌<◌, ◌≤◌, min, Bool, true, false, cond, ◌&&◌, nat_le, IsTrue, List, [], ◌∷◌, zero, suc, map, length, slice_set, refl, sym, ◌∙◌, ap, subst, arith, rules, Result, Ok, Err, OnOk, OnErr, IsErr}
-use Rattle.std.proofs.lemmas.Bool.{cases_eq, cases_lt}
+use Rattle.std.proofs.Common.{◌≡◌, ◌⊎◌, inl, inr, ⊎_elim, ℕ, ◌+◌, ◌^◌, ◌-◌, ◌<◌, ◌≤◌, Bool, true, false, cond, IsTrue, List, [], ◌∷◌, length, slice_set, refl, sym, ◌∙◌, ap, subst, arith, Result, Ok, Err, OnOk, OnErr}
 use Rattle.std.proofs.lemmas.Bool.Decides.{nat_tests}
-use Rattle.std.proofs.lemmas.List.{length-set, get_or-set_same, get_or-set_other, get_or_past}
+use Rattle.std.proofs.lemmas.List.{length-set}
 use Rattle.r4_base.specs.Image.{Image, IsBlock, block_at, sector}
 use Rattle.r4_outside.proofs.Images.{written_block}
-use Rattle.r4_outside.specs.Device.{State, Sectors, Leaves, TellsCrashes, Goes, Writes, Syncs, Within, only, IsQuiet, HasSectors, next}
+use Rattle.r4_outside.specs.Device.{TellsCrashes, Goes, Writes, Syncs, IsQuiet, next}
 use Rattle.r4_outside.specs.Record.{IsWhole, image_after, moment_of, is_till, may}
 use Rattle.r4_outside.specs.Memory.{state_of}
 use Rattle.r4_outside.specs.declared.memory.Call.{Call}

@@ -1,5 +1,5 @@
 -- What a crash leaves of an image after calls, the newest first.
-use Rattle.std.specs.Prelude.{◌≡◌, ℕ, ◌<◌, List, length}
+use Rattle.std.specs.Prelude.{◌≡◌, ℕ, List, length}
 use Rattle.r4_base.specs.Image.{Image}
 use Rattle.r4_outside.specs.Device.{HasSectors}
 use Rattle.r4_outside.specs.Record.{IsWhole, may, image_after}

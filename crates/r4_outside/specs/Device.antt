@@ -1,5 +1,5 @@
 -- What a device tells, and what its calls do to that.
-use Rattle.std.specs.Prelude.{◌≡◌, ◌≢◌, ◌↔◌, ◌⊎◌, ℕ, ◌+◌, ◌-◌, ◌*◌, ◌^◌, ◌<◌, ◌≤◌, min, List, length, slice_set, Option, Some, Result, IfOk, OnOk, OnErr, IsErr}
+use Rattle.std.specs.Prelude.{◌≡◌, ◌≢◌, ◌↔◌, ◌⊎◌, ℕ, ◌+◌, ◌-◌, ◌^◌, ◌<◌, ◌≤◌, min, List, length, slice_set, Option, Some, Result, IfOk, OnOk, OnErr, IsErr}
 use Rattle.std.specs.Borrow.{GName}
 use Rattle.r4_base.specs.Image.{Image, IsBlock, IsImage, block_at, sector}
 

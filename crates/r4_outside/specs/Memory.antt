@@ -1,7 +1,7 @@
 -- What a device in memory tells.
-use Rattle.std.specs.Prelude.{ℕ, ◌≡◌, IsTrue, Bool, true, false, List, map, reverse, length, None}
+use Rattle.std.specs.Prelude.{ℕ, ◌≡◌, IsTrue, Bool, List, reverse, length, None}
 use Rattle.r4_base.specs.Image.{Image}
-use Rattle.r4_outside.specs.Device.{State, Sectors}
+use Rattle.r4_outside.specs.Device.{State}
 use Rattle.r4_outside.specs.Record.{may}
 use Rattle.r4_outside.specs.declared.memory.Call.{Call}
 use Rattle.r4_outside.specs.declared.memory.MemoryDevice.{MemoryDevice}

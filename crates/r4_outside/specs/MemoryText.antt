@@ -1,5 +1,5 @@
 -- What sources and sinks in memory tell.
-use Rattle.std.specs.Prelude.{ℕ, List, drop, Some}
+use Rattle.std.specs.Prelude.{drop, Some}
 use Rattle.r4_outside.specs.Source.{SourceState}
 use Rattle.r4_outside.specs.Sink.{SinkState}
 use Rattle.r4_outside.specs.declared.memory_text.MemorySource.{MemorySource}

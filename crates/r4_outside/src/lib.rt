@@ -15,6 +15,6 @@ pub use device::{Device, Failed};
 pub use gate::{Gate, OpenGate};
 pub use memory::MemoryDevice;
 pub use memory_text::{MemorySink, MemorySource};
-pub use run::{Run, Unnamed};
+pub use run::{Named, NamedNew, Run, Unnamed};
 pub use sink::Sink;
 pub use source::Source;

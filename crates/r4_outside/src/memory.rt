@@ -286,12 +286,12 @@ impl Device for MemoryDevice {
     }
 
     fn sync(&mut self) -> Result<(), Failed> {
-        let failing = counted(&self.fails, &mut self.made);
+        let lost = counted(&self.fails, &mut self.made);
         if self.clock == u64::MAX {
             return Err(missed(&mut self.faults));
         }
         self.clock += 1;
-        if failing {
+        if lost {
             return Err(missed(&mut self.faults));
         }
         let Ok(()) = note_sync(self.keeps, &mut self.calls, self.clock) else {

@@ -1,5 +1,8 @@
 //! With what a run began, as contracts name it.
 
+/// A run of which contracts name what the call says that it is passed to. For proofs and tests.
+pub use std::marker::Brand as Named;
+
 /// A value that says in contracts with what a run began. Each of the four things may be left out. At run time it is
 /// nothing.
 pub trait Run: Copy + Send {
@@ -32,6 +35,30 @@ impl Unnamed {
 }
 
 impl Run for Unnamed {
+    ghost use Rattle.std.specs.Prelude.{None};
+
+    ghost start = { None };
+
+    ghost clock = { None };
+
+    ghost scripts = { None };
+
+    ghost lender = { None };
+}
+
+/// How a `Named` is made.
+pub trait NamedNew {
+    /// A run whose names are picked at the call that it is passed to.
+    fn new() -> Self;
+}
+
+impl NamedNew for Named {
+    fn new() -> Named {
+        Named
+    }
+}
+
+impl Run for Named {
     ghost use Rattle.std.specs.Prelude.{None};
 
     ghost start = { None };

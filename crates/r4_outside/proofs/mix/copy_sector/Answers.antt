@@ -1,4 +1,4 @@
-use Rattle.std.proofs.Common.{refl, ◌≡◌, ◌+◌, ◌*◌, ◌-◌, ℕ, List, length, take, drop, ap, ◌∙◌, arith}
+use Rattle.std.proofs.Common.{refl, ◌+◌, ◌*◌, ◌-◌, ℕ, take, drop, ap, ◌∙◌, arith}
 use Rattle.r4_outside.proofs.Mixing.{copies}
 use Rattle.r4_outside.proofs.mix.copy_sector.Goals as goal
 

@@ -1,4 +1,4 @@
-use Rattle.std.proofs.Common.{◌≡◌, ℕ, ◌+◌, ◌^◌, ◌-◌, ◌<◌, ◌≤◌, Bool, true, List, [], ◌∷◌, cond, reverse, sym, ap, subst, arith, refl, Ok, Err}
+use Rattle.std.proofs.Common.{◌≡◌, ◌+◌, true, List, [], cond, reverse, sym, ap, subst, arith, refl, Ok}
 use Rattle.r4_outside.specs.declared.device.Failed.{Failed}
 use Rattle.r4_outside.specs.Device.{Syncs}
 use Rattle.r4_outside.specs.Record.{image_after, is_till}
@@ -8,11 +8,11 @@ use Rattle.r4_outside.specs.declared.memory.Call.TheVariants.{Synced}
 use Rattle.r4_outside.proofs.Recorded.{till_later, till_call, agrees_sync, idle_sync, idle_sync_as, note_sync}
 use Rattle.r4_outside.proofs.memory.MemoryDeviceDevice.sync.Goals as goal
 
-pub invariant_of-self-then-failing : goal.invariant_of-self-then-failing
-invariant_of-self-then-failing c = let d = c.args.self.now in record { agrees = d.agrees; till = till_later d.clock (d.clock + 1) _ (omega arith) d.till; whole = d.whole; began_whole = d.began_whole }
+pub invariant_of-self-then-lost : goal.invariant_of-self-then-lost
+invariant_of-self-then-lost c = let d = c.args.self.now in record { agrees = d.agrees; till = till_later d.clock (d.clock + 1) _ (omega arith) d.till; whole = d.whole; began_whole = d.began_whole }
 
-pub returns-then-failing : goal.returns-then-failing
-returns-then-failing c = let d = c.args.self.now in idle_sync d.blocks.items d.keeps _ _ d.clock (d.clock + 1) d.faults _ d.till d.agrees d.whole (omega arith) (omega arith) (omega arith) (omega arith) _
+pub returns-then-lost : goal.returns-then-lost
+returns-then-lost c = let d = c.args.self.now in idle_sync d.blocks.items d.keeps _ _ d.clock (d.clock + 1) d.faults _ d.till d.agrees d.whole (omega arith) (omega arith) (omega arith) (omega arith) _
 
 pub invariant_of-self-in-Ok : goal.invariant_of-self-in-Ok
 invariant_of-self-in-Ok c =
