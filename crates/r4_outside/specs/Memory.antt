@@ -26,6 +26,10 @@ state_of image keeps start calls clock faults = record {
 abbrev pub memory_state : MemoryDevice → State
 memory_state d = state_of (memory_image d) d.keeps d.start.items (reverse d.calls.items) d.clock d.faults
 
+-- the calls that are to fail
+abbrev pub memory_fails : MemoryDevice → List ℕ
+memory_fails d = d.fails.items
+
 -- No call was made yet, and the device is nobody's.
 pub record IsFresh (d : State) : Type 0 where
   pub clock : d.clock ≡ 0

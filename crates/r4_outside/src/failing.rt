@@ -1,12 +1,15 @@
 //! Calls that are to fail, and the count of those that did.
 
-ghost use Rattle.std.specs.Prelude.{◌≡◌, ◌≤◌};
+ghost use Rattle.std.specs.Prelude.{IsTrue, Contains, ◌↔◌, ◌≡◌, ◌≤◌};
 ghost use Rattle.r4_outside.specs.Device.{next};
 
 use crate::Failed;
 
 /// Counts one call more. Is it to fail?
-pub fn counted(fails: &[u64], made: &mut u64) -> bool {
+pub fn counted(fails: &[u64], made: &mut u64) -> bool
+    ensures count { made.new ≡ next made.old }
+    ensures fails { IsTrue result ↔ Contains fails.now made.new }
+{
     *made = made.saturating_add(1);
     fails.contains(made)
 }

@@ -1,6 +1,6 @@
 //! A device in memory, with a record of its writes and good syncs or without.
 
-ghost use Rattle.std.specs.Prelude.{◌≡◌, ◌<◌, ◌≤◌, List, [], ℕ, Bool, true, false, reverse, cond, length, replicate, vec_len, slice_set, ◌∷◌, IfOk, OnOk, OnErr};
+ghost use Rattle.std.specs.Prelude.{◌≡◌, ◌<◌, ◌≤◌, List, [], ℕ, Bool, true, false, reverse, cond, length, replicate, vec_len, slice_set, ◌∷◌, ◌++◌, IfOk, OnOk, OnErr};
 ghost use Rattle.r4_base.specs.Image.{Image, IsBlock, block_at};
 ghost use Rattle.r4_outside.specs.Device.{IsQuiet, TellsReads, TellsCrashes, Leaves, IsAs};
 ghost use Rattle.r4_outside.specs.Crash.{IsLeft, IsRedone};
@@ -50,7 +50,7 @@ pub struct MemoryDevice {
 }
 
 impl MemoryDevice {
-    ghost use Rattle.r4_outside.specs.Memory.{memory_image, memory_state, IsFresh};
+    ghost use Rattle.r4_outside.specs.Memory.{memory_image, memory_state, memory_fails, IsFresh};
 
     /// A device of that many blocks of zeros that keeps a record of all calls and tells everything. A `write` or a
     /// `sync` that finds no memory for the record fails, and leaves no sector of its own. The only error is want of
@@ -96,7 +96,9 @@ impl MemoryDevice {
     /// The call of that number is to fail, counting reads, writes and syncs from 1. A write that fails so is made all
     /// the same. The only error is want of memory.
     pub fn fail(&mut self, alloc: Global, call: u64) -> Result<(), Memory>
-        ensures { IsAs (memory_state self.old) (memory_state self.new) }
+        ensures same { IsAs (memory_state self.old) (memory_state self.new) }
+        ensures noted { OnOk result (memory_fails self.new ≡ memory_fails self.old ++ call ∷ []) }
+        ensures err { OnErr result (memory_fails self.new ≡ memory_fails self.old) }
     {
         let _ = alloc;
         self.fails.push(call)?;

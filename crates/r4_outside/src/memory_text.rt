@@ -1,6 +1,6 @@
 //! A source and a sink in memory.
 
-ghost use Rattle.std.specs.Prelude.{◌≡◌, ◌≤◌, [], Some, IfOk, vec_len};
+ghost use Rattle.std.specs.Prelude.{◌≡◌, ◌≤◌, [], ◌∷◌, ◌++◌, Some, IfOk, OnOk, OnErr, vec_len};
 ghost use Rattle.r4_outside.specs.Source.{SourceState};
 ghost use Rattle.r4_outside.specs.Sink.{SinkState};
 
@@ -22,7 +22,7 @@ pub struct MemorySource {
 }
 
 impl MemorySource {
-    ghost use Rattle.r4_outside.specs.MemoryText.{source_state};
+    ghost use Rattle.r4_outside.specs.MemoryText.{source_state, source_fails};
 
     /// A source of these bytes. The only error is want of memory.
     pub fn new(alloc: Global, bytes: &[u8]) -> Result<MemorySource, Memory>
@@ -41,7 +41,9 @@ impl MemorySource {
     /// The read of that number is to fail, counted from 1. A read that fails takes nothing. The only error is want of
     /// memory.
     pub fn fail(&mut self, alloc: Global, call: u64) -> Result<(), Memory>
-        ensures { source_state self.new ≡ source_state self.old }
+        ensures same { source_state self.new ≡ source_state self.old }
+        ensures noted { OnOk result (source_fails self.new ≡ source_fails self.old ++ call ∷ []) }
+        ensures err { OnErr result (source_fails self.new ≡ source_fails self.old) }
     {
         let _ = alloc;
         self.fails.push(call)?;
@@ -80,13 +82,14 @@ pub struct MemorySink {
 }
 
 impl MemorySink {
-    ghost use Rattle.r4_outside.specs.MemoryText.{sink_state};
+    ghost use Rattle.r4_outside.specs.MemoryText.{sink_state, sink_fails, sink_room};
 
     /// An empty sink that takes no memory up to `room` bytes in all. A write past them that finds none appends nothing
     /// and fails. The only error is want of memory.
     pub fn new(alloc: Global, room: usize) -> Result<MemorySink, Memory>
         ensures written { IfOk result (λ s. (sink_state s).written ≡ Some []) }
         ensures faults { IfOk result (λ s. (sink_state s).faults ≡ 0) }
+        ensures room { IfOk result (λ s. room ≤ sink_room s) }
     {
         Ok(MemorySink {
             bytes: Vec::with_capacity(alloc, room)?,
@@ -106,7 +109,9 @@ impl MemorySink {
     /// The write of that number is to fail, counted from 1. A write that fails appends nothing. The only error is want of
     /// memory.
     pub fn fail(&mut self, alloc: Global, call: u64) -> Result<(), Memory>
-        ensures { sink_state self.new ≡ sink_state self.old }
+        ensures same { sink_state self.new ≡ sink_state self.old }
+        ensures noted { OnOk result (sink_fails self.new ≡ sink_fails self.old ++ call ∷ []) }
+        ensures err { OnErr result (sink_fails self.new ≡ sink_fails self.old) }
     {
         let _ = alloc;
         self.fails.push(call)?;
