@@ -13,7 +13,7 @@ source_state s = record { rest = Some (drop s.at s.bytes.items); faults = s.faul
 abbrev pub source_fails : MemorySource → List ℕ
 source_fails s = s.fails.items
 
--- all the bytes so far
+-- all the bytes that were written
 abbrev pub sink_state : MemorySink → SinkState
 sink_state s = record { written = Some s.bytes.items; faults = s.faults }
 
@@ -24,3 +24,14 @@ sink_fails s = s.fails.items
 -- how many bytes in all it takes without memory
 abbrev pub sink_room : MemorySink → ℕ
 sink_room s = vec_capacity s.bytes
+
+-- how many reads were made, and how many writes
+abbrev pub source_calls : MemorySource → ℕ
+source_calls s = s.made
+
+abbrev pub sink_calls : MemorySink → ℕ
+sink_calls s = s.made
+
+-- all the bytes so far
+abbrev pub written_of : MemorySink → List ℕ
+written_of s = s.bytes.items

@@ -22,12 +22,14 @@ pub struct MemorySource {
 }
 
 impl MemorySource {
-    ghost use Rattle.r4_outside.specs.MemoryText.{source_state, source_fails};
+    ghost use Rattle.r4_outside.specs.MemoryText.{source_state, source_fails, source_calls};
 
     /// A source of these bytes. The only error is want of memory.
     pub fn new(alloc: Global, bytes: &[u8]) -> Result<MemorySource, Memory>
         ensures rest { IfOk result (λ s. (source_state s).rest ≡ Some bytes.now) }
         ensures faults { IfOk result (λ s. (source_state s).faults ≡ 0) }
+        ensures plan { IfOk result (λ s. source_fails s ≡ []) }
+        ensures calls { IfOk result (λ s. source_calls s ≡ 0) }
     {
         Ok(MemorySource {
             bytes: bytes.to_vec(alloc)?,
@@ -43,6 +45,7 @@ impl MemorySource {
     pub fn fail(&mut self, alloc: Global, call: u64) -> Result<(), Memory>
         ensures same { source_state self.new ≡ source_state self.old }
         ensures noted { OnOk result (source_fails self.new ≡ source_fails self.old ++ call ∷ []) }
+        ensures calls { source_calls self.new ≡ source_calls self.old }
         ensures err { OnErr result (source_fails self.new ≡ source_fails self.old) }
     {
         let _ = alloc;
@@ -52,11 +55,20 @@ impl MemorySource {
 }
 
 impl Source for MemorySource {
-    ghost use Rattle.r4_outside.specs.MemoryText.{source_state};
+    ghost use Rattle.std.specs.Prelude.{◌↔◌, Contains, IsErr, OnErr, ◌≡◌};
+    ghost use Rattle.r4_outside.specs.Device.{next};
+    ghost use Rattle.r4_outside.specs.Source.{Takes};
+    ghost use Rattle.r4_outside.specs.MemoryText.{source_state, source_fails, source_calls};
 
     ghost state = { source_state };
 
-    fn read(&mut self, into: &mut [u8]) -> Result<usize, Failed> {
+    fn read(&mut self, into: &mut [u8]) -> Result<usize, Failed>
+        ensures takes { Takes into.old into.new (source_state self.old) result (source_state self.new) }
+        ensures kept { OnErr result ((source_state self.new).rest ≡ (source_state self.old).rest) }
+        ensures fails { IsErr result ↔ Contains (source_fails self.old) (next (source_calls self.old)) }
+        ensures plan { source_fails self.new ≡ source_fails self.old }
+        ensures calls { source_calls self.new ≡ next (source_calls self.old) }
+    {
         if counted(&self.fails, &mut self.made) {
             return Err(missed(&mut self.faults));
         }
@@ -82,13 +94,15 @@ pub struct MemorySink {
 }
 
 impl MemorySink {
-    ghost use Rattle.r4_outside.specs.MemoryText.{sink_state, sink_fails, sink_room};
+    ghost use Rattle.r4_outside.specs.MemoryText.{sink_state, sink_fails, sink_calls, sink_room};
 
     /// An empty sink that takes no memory up to `room` bytes in all. A write past them that finds none appends nothing
     /// and fails. The only error is want of memory.
     pub fn new(alloc: Global, room: usize) -> Result<MemorySink, Memory>
         ensures written { IfOk result (λ s. (sink_state s).written ≡ Some []) }
         ensures faults { IfOk result (λ s. (sink_state s).faults ≡ 0) }
+        ensures plan { IfOk result (λ s. sink_fails s ≡ []) }
+        ensures calls { IfOk result (λ s. sink_calls s ≡ 0) }
         ensures room { IfOk result (λ s. room ≤ sink_room s) }
     {
         Ok(MemorySink {
@@ -111,6 +125,7 @@ impl MemorySink {
     pub fn fail(&mut self, alloc: Global, call: u64) -> Result<(), Memory>
         ensures same { sink_state self.new ≡ sink_state self.old }
         ensures noted { OnOk result (sink_fails self.new ≡ sink_fails self.old ++ call ∷ []) }
+        ensures calls { sink_calls self.new ≡ sink_calls self.old }
         ensures err { OnErr result (sink_fails self.new ≡ sink_fails self.old) }
     {
         let _ = alloc;
@@ -120,11 +135,21 @@ impl MemorySink {
 }
 
 impl Sink for MemorySink {
-    ghost use Rattle.r4_outside.specs.MemoryText.{sink_state};
+    ghost use Rattle.std.specs.Prelude.{◌⊎◌, ◌<◌, ◌+◌, length, Contains, IsErr, OnErr, ◌≡◌};
+    ghost use Rattle.r4_outside.specs.Device.{next};
+    ghost use Rattle.r4_outside.specs.Sink.{Appends};
+    ghost use Rattle.r4_outside.specs.MemoryText.{sink_state, sink_fails, sink_calls, sink_room, written_of};
 
     ghost state = { sink_state };
 
-    fn write(&mut self, bytes: &[u8]) -> Result<(), Failed> {
+    fn write(&mut self, bytes: &[u8]) -> Result<(), Failed>
+        ensures appends { Appends bytes.now (sink_state self.old) result (sink_state self.new) }
+        ensures kept { OnErr result ((sink_state self.new).written ≡ (sink_state self.old).written) }
+        ensures fails { Contains (sink_fails self.old) (next (sink_calls self.old)) → IsErr result }
+        ensures room { OnErr result (Contains (sink_fails self.old) (next (sink_calls self.old)) ⊎ (sink_room self.old < length bytes.now + length (written_of self.old))) }
+        ensures plan { sink_fails self.new ≡ sink_fails self.old }
+        ensures calls { sink_calls self.new ≡ next (sink_calls self.old) }
+    {
         if counted(&self.fails, &mut self.made) {
             return Err(missed(&mut self.faults));
         }
