@@ -1,5 +1,5 @@
 -- What a device in memory tells.
-use Rattle.std.specs.Prelude.{ℕ, ◌≡◌, IsTrue, Bool, List, reverse, length, None}
+use Rattle.std.specs.Prelude.{ℕ, ◌≡◌, ◌↔◌, [], IsTrue, Bool, List, reverse, length, None}
 use Rattle.r4_base.specs.Image.{Image}
 use Rattle.r4_outside.specs.Device.{State}
 use Rattle.r4_outside.specs.Record.{may}
@@ -30,9 +30,18 @@ memory_state d = state_of (memory_image d) d.keeps d.start.items (reverse d.call
 abbrev pub memory_fails : MemoryDevice → List ℕ
 memory_fails d = d.fails.items
 
--- No call was made yet, and the device is nobody's.
-pub record IsFresh (d : State) : Type 0 where
-  pub clock : d.clock ≡ 0
-  pub faults : d.faults ≡ 0
-  pub lender : d.lender ≡ None
-  pub stop : d.stop ≡ None
+-- how many reads, writes and syncs were made
+abbrev pub memory_calls : MemoryDevice → ℕ
+memory_calls d = d.made
+
+-- No call was made yet, and none is to fail.
+pub record IsFresh (d : MemoryDevice) : Type 0 where
+  pub clock : (memory_state d).clock ≡ 0
+  pub faults : (memory_state d).faults ≡ 0
+  pub fails : memory_fails d ≡ []
+  pub calls : memory_calls d ≡ 0
+
+-- No sector was written, not even as far as a crash may leave it.
+pub record IsIdle (old new : State) : Type 0 where
+  pub seen : new.seen ≡ old.seen
+  pub may_hold : (m b s : ℕ) (x : List ℕ) → new.may_hold m b s x ↔ old.may_hold m b s x

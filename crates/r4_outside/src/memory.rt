@@ -50,14 +50,14 @@ pub struct MemoryDevice {
 }
 
 impl MemoryDevice {
-    ghost use Rattle.r4_outside.specs.Memory.{memory_image, memory_state, memory_fails, IsFresh};
+    ghost use Rattle.r4_outside.specs.Memory.{memory_image, memory_state, memory_fails, memory_calls, IsFresh};
 
     /// A device of that many blocks of zeros that keeps a record of all calls and tells everything. A `write` or a
     /// `sync` that finds no memory for the record fails, and leaves no sector of its own. The only error is want of
     /// memory.
     pub fn new(alloc: Global, blocks: u64) -> Result<MemoryDevice, Memory>
         ensures zeros { IfOk result (λ d. memory_image d ≡ replicate blocks (replicate 4096 0)) }
-        ensures fresh { IfOk result (λ d. IsFresh (memory_state d)) }
+        ensures fresh { IfOk result IsFresh }
         ensures quiet { IfOk result (λ d. IsQuiet (memory_state d)) }
     {
         Ok(MemoryDevice {
@@ -77,7 +77,7 @@ impl MemoryDevice {
     /// memory afterwards but in `fail`. The only error is want of memory.
     pub fn plain(alloc: Global, blocks: u64) -> Result<MemoryDevice, Memory>
         ensures zeros { IfOk result (λ d. memory_image d ≡ replicate blocks (replicate 4096 0)) }
-        ensures fresh { IfOk result (λ d. IsFresh (memory_state d)) }
+        ensures fresh { IfOk result IsFresh }
         ensures tells { IfOk result (λ d. TellsReads (memory_state d)) }
     {
         Ok(MemoryDevice {
@@ -98,6 +98,7 @@ impl MemoryDevice {
     pub fn fail(&mut self, alloc: Global, call: u64) -> Result<(), Memory>
         ensures same { IsAs (memory_state self.old) (memory_state self.new) }
         ensures noted { OnOk result (memory_fails self.new ≡ memory_fails self.old ++ call ∷ []) }
+        ensures calls { memory_calls self.new ≡ memory_calls self.old }
         ensures err { OnErr result (memory_fails self.new ≡ memory_fails self.old) }
     {
         let _ = alloc;
@@ -105,12 +106,13 @@ impl MemoryDevice {
         Ok(())
     }
 
-    /// One of the images that a crash at a moment may leave, as a device that keeps a record from there on. `pick` says
-    /// which one; which image belongs to which number is left open. The only error is want of memory.
+    /// One of the images that a crash at a moment of the clock may leave, as a device that keeps a record from there on.
+    /// The device has to tell what a crash leaves. `pick` says which image it is; which one belongs to which number is
+    /// left open. The only error is want of memory.
     pub fn crash(&self, alloc: Global, moment: u64, pick: u64) -> Result<MemoryDevice, Memory>
         requires { TellsCrashes (memory_state self.now) }
         ensures leaves { IfOk result (λ d. Leaves (memory_state self.now) moment (memory_image d)) }
-        ensures fresh { IfOk result (λ d. IsFresh (memory_state d)) }
+        ensures fresh { IfOk result IsFresh }
         ensures quiet { IfOk result (λ d. IsQuiet (memory_state d)) }
     {
         let blocks = crashed(alloc, &self.start, &self.calls, moment, pick)?;
@@ -247,7 +249,9 @@ fn picks(mut x: u64) -> (u8, u64) {
 }
 
 impl Device for MemoryDevice {
-    ghost use Rattle.r4_outside.specs.Memory.{memory_state};
+    ghost use Rattle.std.specs.Prelude.{◌↔◌, ◌⊎◌, ◌≡◌, ◌<◌, Contains, IsErr, OnErr};
+    ghost use Rattle.r4_outside.specs.Device.{Reads, Writes, Syncs, next};
+    ghost use Rattle.r4_outside.specs.Memory.{memory_state, memory_fails, memory_calls, IsIdle};
 
     ghost state = { memory_state };
 
@@ -255,7 +259,13 @@ impl Device for MemoryDevice {
         Ok(self.blocks.len() as u64)
     }
 
-    fn read(&mut self, at: BlockNo, into: &mut Block) -> Result<(), Failed> {
+    fn read(&mut self, at: BlockNo, into: &mut Block) -> Result<(), Failed>
+        requires { at.0 < (memory_state self.old).blocks }
+        ensures reads { Reads at.0 into.new (memory_state self.old) result (memory_state self.new) }
+        ensures fails { IsErr result ↔ Contains (memory_fails self.old) (next (memory_calls self.old)) }
+        ensures plan { memory_fails self.new ≡ memory_fails self.old }
+        ensures calls { memory_calls self.new ≡ next (memory_calls self.old) }
+    {
         if counted(&self.fails, &mut self.made) {
             return Err(missed(&mut self.faults));
         }
@@ -263,7 +273,14 @@ impl Device for MemoryDevice {
         Ok(())
     }
 
-    fn write(&mut self, at: BlockNo, from: &Block) -> Result<(), Failed> {
+    fn write(&mut self, at: BlockNo, from: &Block) -> Result<(), Failed>
+        requires { at.0 < (memory_state self.old).blocks }
+        ensures writes { Writes at.0 from.now (memory_state self.old) result (memory_state self.new) }
+        ensures fails { Contains (memory_fails self.old) (next (memory_calls self.old)) → IsErr result }
+        ensures idle { OnErr result (Contains (memory_fails self.old) (next (memory_calls self.old)) ⊎ IsIdle (memory_state self.old) (memory_state self.new)) }
+        ensures plan { memory_fails self.new ≡ memory_fails self.old }
+        ensures calls { memory_calls self.new ≡ next (memory_calls self.old) }
+    {
         let failing = counted(&self.fails, &mut self.made);
         if self.clock == u64::MAX {
             return Err(missed(&mut self.faults));
@@ -287,7 +304,12 @@ impl Device for MemoryDevice {
         Ok(())
     }
 
-    fn sync(&mut self) -> Result<(), Failed> {
+    fn sync(&mut self) -> Result<(), Failed>
+        ensures syncs { Syncs (memory_state self.old) result (memory_state self.new) }
+        ensures fails { Contains (memory_fails self.old) (next (memory_calls self.old)) → IsErr result }
+        ensures plan { memory_fails self.new ≡ memory_fails self.old }
+        ensures calls { memory_calls self.new ≡ next (memory_calls self.old) }
+    {
         let lost = counted(&self.fails, &mut self.made);
         if self.clock == u64::MAX {
             return Err(missed(&mut self.faults));

@@ -126,6 +126,7 @@ impl MemorySink {
         ensures same { sink_state self.new ≡ sink_state self.old }
         ensures noted { OnOk result (sink_fails self.new ≡ sink_fails self.old ++ call ∷ []) }
         ensures calls { sink_calls self.new ≡ sink_calls self.old }
+        ensures room { sink_room self.new ≡ sink_room self.old }
         ensures err { OnErr result (sink_fails self.new ≡ sink_fails self.old) }
     {
         let _ = alloc;
@@ -135,7 +136,7 @@ impl MemorySink {
 }
 
 impl Sink for MemorySink {
-    ghost use Rattle.std.specs.Prelude.{◌⊎◌, ◌<◌, ◌+◌, length, Contains, IsErr, OnErr, ◌≡◌};
+    ghost use Rattle.std.specs.Prelude.{◌⊎◌, ◌<◌, ◌≤◌, ◌+◌, length, Contains, IsErr, OnErr, ◌≡◌};
     ghost use Rattle.r4_outside.specs.Device.{next};
     ghost use Rattle.r4_outside.specs.Sink.{Appends};
     ghost use Rattle.r4_outside.specs.MemoryText.{sink_state, sink_fails, sink_calls, sink_room, written_of};
@@ -147,6 +148,7 @@ impl Sink for MemorySink {
         ensures kept { OnErr result ((sink_state self.new).written ≡ (sink_state self.old).written) }
         ensures fails { Contains (sink_fails self.old) (next (sink_calls self.old)) → IsErr result }
         ensures room { OnErr result (Contains (sink_fails self.old) (next (sink_calls self.old)) ⊎ (sink_room self.old < length bytes.now + length (written_of self.old))) }
+        ensures kept_room { sink_room self.old ≤ sink_room self.new }
         ensures plan { sink_fails self.new ≡ sink_fails self.old }
         ensures calls { sink_calls self.new ≡ next (sink_calls self.old) }
     {

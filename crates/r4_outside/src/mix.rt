@@ -31,7 +31,7 @@ fn mix_bytes(into: &mut [u8], from: &[u8], mask: u8)
     }
 }
 
-/// Copies the sectors with a set bit.
+/// Copies the sectors with a set bit; the contract leaves open which ones these are.
 #[tactic(auto, using(r4_base::proofs::Lent::refilled_is))]
 pub fn mix(into: &mut Block, from: &Block, mask: u8)
     ensures mix { IsMix from.now into.old into.new }

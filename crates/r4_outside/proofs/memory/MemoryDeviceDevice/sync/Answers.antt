@@ -11,8 +11,8 @@ use Rattle.r4_outside.proofs.memory.MemoryDeviceDevice.sync.Goals as goal
 pub invariant_of-self-then-lost : goal.invariant_of-self-then-lost
 invariant_of-self-then-lost c = let d = c.args.self.now in record { agrees = d.agrees; till = till_later d.clock (d.clock + 1) _ (omega arith) d.till; whole = d.whole; began_whole = d.began_whole }
 
-pub returns-then-lost : goal.returns-then-lost
-returns-then-lost c = let d = c.args.self.now in idle_sync d.blocks.items d.keeps _ _ d.clock (d.clock + 1) d.faults _ d.till d.agrees d.whole (omega arith) (omega arith) (omega arith) (omega arith) _
+pub returns-then-lost-clause-syncs : goal.returns-then-lost-clause-syncs
+returns-then-lost-clause-syncs c = let d = c.args.self.now in idle_sync d.blocks.items d.keeps _ _ d.clock (d.clock + 1) d.faults _ d.till d.agrees d.whole (omega arith) (omega arith) (omega arith) (omega arith) _
 
 pub invariant_of-self-in-Ok : goal.invariant_of-self-in-Ok
 invariant_of-self-in-Ok c =
@@ -31,15 +31,15 @@ invariant_of-self-in_default c =
     let same : reverse c.note_sync.new.calls.items ≡ reverse d.calls.items = ap (λ (l : List Call). reverse l) c.in_default.ensures.err in
     record { agrees = rw same d.agrees; till = rw same (till_later d.clock (d.clock + 1) (reverse d.calls.items) (omega arith) d.till); whole = d.whole; began_whole = d.began_whole }
 
-pub returns-in_default : goal.returns-in_default
-returns-in_default c =
+pub returns-in_default-clause-syncs : goal.returns-in_default-clause-syncs
+returns-in_default-clause-syncs c =
     let d = c.args.self.now in
     let same : reverse c.note_sync.new.calls.items ≡ reverse d.calls.items = ap (λ (l : List Call). reverse l) c.in_default.ensures.err in
     let failed : Failed = record {} in
     idle_sync_as d.blocks.items d.keeps _ _ _ d.clock (d.clock + 1) d.faults _ same d.till d.agrees d.whole (omega arith) (omega arith) (omega arith) (omega arith) failed
 
-pub returns : goal.returns
-returns c =
+pub returns-clause-syncs : goal.returns-clause-syncs
+returns-clause-syncs c =
     let d = c.args.self.now in
     let cs = reverse d.calls.items in
     subst (λ (l : List Call). Syncs {E = Failed} (state_of d.blocks.items d.keeps d.start.items cs d.clock d.faults) (Ok tt) (state_of d.blocks.items d.keeps d.start.items l (d.clock + 1) d.faults))

@@ -34,8 +34,8 @@ invariant_of-self-in_default c =
     let kept = c.in_default.ensures.err.0 in
     record { agrees = rw (same, kept) d.agrees; till = rw same (till_later d.clock (d.clock + 1) (reverse d.calls.items) (omega arith) d.till); whole = rw kept d.whole; began_whole = d.began_whole }
 
-pub returns-in_default : goal.returns-in_default
-returns-in_default c =
+pub returns-in_default-clause-writes : goal.returns-in_default-clause-writes
+returns-in_default-clause-writes c =
     let d = c.args.self.now in
     let same : reverse c.put.new.calls.items ≡ reverse d.calls.items = ap (λ (l : List Call). reverse l) c.in_default.ensures.err.1 in
     let failed : Failed = record {} in
@@ -52,8 +52,8 @@ invariant_of-self-then-failing c =
       began_whole = d.began_whole;
     }
 
-pub returns-then-failing : goal.returns-then-failing
-returns-then-failing c =
+pub returns-then-failing-clause-writes : goal.returns-then-failing-clause-writes
+returns-then-failing-clause-writes c =
     let d = c.args.self.now in
     let e = c.in-Ok.ensures in
     let failed : Failed = record {} in
@@ -70,8 +70,8 @@ invariant_of-self-else-failing c =
       began_whole = d.began_whole;
     }
 
-pub returns : goal.returns
-returns c =
+pub returns-clause-writes : goal.returns-clause-writes
+returns-clause-writes c =
     let d = c.args.self.now in
     let e = c.in-Ok.ensures in
     written d.blocks.items _ d.keeps d.start.items (reverse d.calls.items) (reverse c.put.new.calls.items) d.clock d.faults d.faults d.till d.agrees c.args.at.0 c.args.from.now e.ok e.noted e.whole d.whole (Ok tt) (omega arith) (omega arith) tt
