@@ -1,8 +1,9 @@
 -- Blocks of an image, and sectors of a block.
-use Rattle.std.proofs.Common.{◌≡◌, ◌≢◌, ◌⊎◌, inl, inr, ℕ, zero, suc, ◌+◌, ◌*◌, ◌<◌, ◌≤◌, List, [], ◌++◌, length, drop, slice_set, sym, ◌∙◌, ap, arith, get_or-set_same, get_or-set_other}
+use Rattle.std.proofs.Common.{◌≡◌, ◌≢◌, ◌⊎◌, inl, inr, ℕ, zero, suc, ◌+◌, ◌*◌, ◌<◌, ◌≤◌, List, [], ◌∷◌, ◌++◌, refl, length, drop, slice_set, sym, ◌∙◌, ap, arith, get_or-set_same, get_or-set_other, All}
 use Rattle.std.proofs.lemmas.Bool.{cases_eq, cases_lt}
 use Rattle.std.proofs.lemmas.List.{drop-drop, take-append-drop, length-set, drop_all, get_or_past}
-use Rattle.r4_base.specs.Image.{Image, IsBlock, block_at, sector}
+use Rattle.std.proofs.lemmas.List.Elements.{All-head, All-tail}
+use Rattle.r4_base.specs.Image.{Image, IsBlock, block_at, sector, put_pairs}
 
 pub read_written : (image : Image) (at : ℕ) (block : List ℕ) → at < length image → block_at (slice_set image at block) at ≡ block
 read_written image at block h = get_or-set_same image at block [] h
@@ -32,3 +33,12 @@ from_sectors (suc n) s x y same lx ly =
 -- two blocks of the same sectors are equal
 pub same_sectors : (x y : List ℕ) → IsBlock x → IsBlock y → ((k : ℕ) → k < 8 → sector x k ≡ sector y k) → x ≡ y
 same_sectors x y lx ly same = from_sectors 8 0 x y (λ k lo hi. same k hi) (omega (arith, lx)) (omega (arith, ly))
+
+-- what is put in place leaves the number of blocks, and the blocks that are no originals
+pub length-put_pairs : (ps : List (ℕ × ℕ)) (image : Image) → length (put_pairs ps image) ≡ length image
+length-put_pairs [] image = refl
+length-put_pairs (p ∷ ps) image = length-put_pairs ps _ ∙ length-set image p.0 (block_at image p.1)
+
+pub put_elsewhere : (ps : List (ℕ × ℕ)) (image : Image) (b : ℕ) → All (λ (p : ℕ × ℕ). b ≢ p.0) ps → block_at (put_pairs ps image) b ≡ block_at image b
+put_elsewhere [] image b h = refl
+put_elsewhere (p ∷ ps) image b h = put_elsewhere ps _ b (All-tail (λ (q : ℕ × ℕ). b ≢ q.0) p ps h) ∙ read_other image p.0 b _ (All-head (λ (q : ℕ × ℕ). b ≢ q.0) p ps h)
