@@ -4,3 +4,4 @@ pub mod Logs
 pub mod Members
 pub mod Frame
 pub mod Again
+pub mod Superblocks

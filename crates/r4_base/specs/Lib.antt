@@ -4,3 +4,5 @@ pub mod Image
 pub mod Log
 pub mod Chain
 pub mod Refusal
+pub mod Bitmap
+pub mod Layout

@@ -5,6 +5,7 @@ mod block;
 mod bytes;
 mod journal;
 mod laws;
+mod superblock;
 mod things;
 
 pub use block::Block;
@@ -12,4 +13,5 @@ pub use bytes::{blank, get16, get32, get64, move_bytes, put_bytes, put16, put32,
 pub use journal::{Footer, Header, LogFault, TxHead};
 pub use laws::{log_law, number_law};
 pub use std::alloc::AllocError as Memory;
+pub use superblock::{LayoutFault, Master, Super40};
 pub use things::{AtomNo, BlockNo, NodeId, Oid, ScriptNo, TaskId, TxnNo};
