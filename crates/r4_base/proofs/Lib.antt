@@ -5,3 +5,4 @@ pub mod Members
 pub mod Frame
 pub mod Again
 pub mod Superblocks
+pub mod Bits
