@@ -6,3 +6,4 @@ pub mod Frame
 pub mod Again
 pub mod Superblocks
 pub mod Bits
+pub mod Bitmaps

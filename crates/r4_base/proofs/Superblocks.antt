@@ -53,6 +53,12 @@ master_again m len =
     let label : slice_range (master_magic ++ (numbers ++ rest)) 36 52 ≡ m.label = ap (λ (xs : List ℕ). take 16 (drop 36 xs)) regrouped ∙ rw (drop_at front (m.label ++ replicate 4044 0) 36 long) (take_at m.label (replicate 4044 0) 16 len) in
     rw (f.0, f.1.0, label) refl
 
+pub length-master_block : (m : Master) → length m.label ≡ 16 → length (master_block m) ≡ 4096
+unfolding master_block
+length-master_block m len =
+    let numbers = fields_bytes master_numbers in
+    omega (arith, length-append numbers (replicate 16 0 ++ (m.label ++ replicate 4044 0)), length-fields_bytes master_numbers, length-append (replicate 16 0) (m.label ++ replicate 4044 0), length-append m.label (replicate 4044 0), length-replicate {A = ℕ} 16 0, length-replicate {A = ℕ} 4044 0)
+
 -- ---- the format superblock
 
 pub is_super_block : (s : Super40) → overwrite 88 profile_mark (put_all (fields_behind_magic s) 68 (overwrite 52 super_magic (put_all (fields_before_magic s) 0 (replicate 4096 0)))) ≡ super_block s
@@ -85,7 +91,7 @@ fields_again s fit =
     let front_long : length (before ++ super_magic) ≡ 68 = omega (arith, length-append before super_magic) in
     let f : HasFields (fields_before_magic s) 0 (before ++ (super_magic ++ (behind ++ last))) = fields_read (fields_before_magic s) [] (super_magic ++ (behind ++ last)) 0 refl fit.before in
     let g' = fields_read (fields_behind_magic s) (before ++ super_magic) last 68 front_long fit.behind in
-    let g : HasFields (fields_behind_magic s) 68 (before ++ (super_magic ++ (behind ++ last))) = rw append_assoc at g' in
+    let g : HasFields (fields_behind_magic s) 68 (before ++ (super_magic ++ (behind ++ last))) = rw (append_assoc before super_magic (behind ++ last)) at g' in
     rw (f.0, f.1.0, f.1.1.0, f.1.1.1.0, f.1.1.1.1.0, f.1.1.1.1.1.0, f.1.1.1.1.1.1.0, g.0, g.1.0, g.1.1.0, g.1.1.1.0, g.1.1.1.1.0) refl
 
 pub magic_stands : (s : Super40) → stands_at 52 super_magic (super_block s) ≡ true
@@ -106,6 +112,14 @@ mark_stands s =
     let mark_long : length ((before ++ super_magic) ++ behind) ≡ 88 = omega (arith, length-append (before ++ super_magic) behind, length-append before super_magic) in
     let regrouped : before ++ (super_magic ++ (behind ++ last)) ≡ ((before ++ super_magic) ++ behind) ++ last = simp append_assoc in
     rw (regrouped, drop_at ((before ++ super_magic) ++ behind) last 88 mark_long) refl
+
+pub length-super_block : (s : Super40) → length (super_block s) ≡ 4096
+unfolding super_block
+length-super_block s =
+    let before = fields_bytes (fields_before_magic s) in
+    let behind = fields_bytes (fields_behind_magic s) in
+    let last = profile_mark ++ replicate 4000 0 in
+    omega (arith, length-append before (super_magic ++ (behind ++ last)), length-append behind last, length-fields_bytes (fields_before_magic s), length-fields_bytes (fields_behind_magic s), length-replicate {A = ℕ} 4000 0)
 
 -- the tests that lawful fields pass
 lawful_height : (n : ℕ) (s : Super40) → IsLawfulSuper n s → height_is_good s ≡ true

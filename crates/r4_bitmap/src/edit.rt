@@ -13,7 +13,7 @@ pub struct BitmapMut<'a> {
 impl<'a> BitmapMut<'a> {
     ghost use Rattle.r4_bitmap.specs.Seen.{mut_bits, mut_name, mut_bytes};
 
-    /// Takes a block of 4096 bytes as a bitmap. Every such block is one.
+    /// Takes a block of 4096 bytes as a bitmap: every such block is one (docs/layout.md, "Bitmaps").
     pub fn new(block: &'a mut [u8]) -> BitmapMut<'a>
         requires { length block.old ≡ 4096 }
         ensures same_reference { mut_name result ≡ block.entry.ghost_name }
@@ -22,7 +22,7 @@ impl<'a> BitmapMut<'a> {
         BitmapMut { block }
     }
 
-    /// Makes bit `i` 1; `i` is below 32736.
+    /// Makes bit `i`, below 32736, 1: used (docs/layout.md, "Bitmaps").
     pub fn set(&mut self, i: u64)
         requires { i < 32736 }
         ensures same_reference { mut_name self.new ≡ mut_name self.old }
@@ -32,7 +32,7 @@ impl<'a> BitmapMut<'a> {
         self.block[4 + (i / 8) as usize] |= 1 << (i % 8);
     }
 
-    /// Makes bit `i` 0; `i` is below 32736.
+    /// Makes bit `i`, below 32736, 0: free (docs/layout.md, "Bitmaps").
     pub fn clear(&mut self, i: u64)
         requires { i < 32736 }
         ensures same_reference { mut_name self.new ≡ mut_name self.old }

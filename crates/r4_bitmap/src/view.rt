@@ -19,7 +19,7 @@ pub struct BitmapView<'a> {
 impl<'a> BitmapView<'a> {
     ghost use Rattle.r4_bitmap.specs.Seen.{view_bits, view_bytes};
 
-    /// Reads a block of 4096 bytes as a bitmap. Every such block is one.
+    /// Reads a block of 4096 bytes as a bitmap: every such block is one (docs/layout.md, "Bitmaps").
     pub fn new(block: &'a [u8]) -> BitmapView<'a>
         requires { length block.now ≡ 4096 }
         ensures { view_bytes result ≡ block.now }
@@ -27,7 +27,7 @@ impl<'a> BitmapView<'a> {
         BitmapView { block }
     }
 
-    /// Whether bit `i` is 1; `i` is below 32736.
+    /// Whether bit `i`, below 32736, is 1: bit `i % 8` of byte `4 + i / 8`, the lowest first (docs/layout.md, "Bitmaps").
     pub fn get(&self, i: u64) -> bool
         requires { i < 32736 }
         ensures { slice_get (view_bits self.now) i ≡ Some result }
@@ -35,7 +35,8 @@ impl<'a> BitmapView<'a> {
         bit(self.block, i)
     }
 
-    /// The first 0 from bit `from` on, and `None` exactly where there is none. It looks at whole words of 64 bits.
+    /// The first 0 from bit `from` on, and `None` exactly where there is none, as for a `from` of 32736 or more. It looks
+    /// at whole words of 64 bits (docs/layout.md, "Bitmaps").
     pub fn first_free(&self, from: u64) -> Option<u64>
         ensures { MatchOption result (IsFullFrom (view_bytes self.now) from) (λ j. IsFirstFree (view_bytes self.now) from j) }
     {
