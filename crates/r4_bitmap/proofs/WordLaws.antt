@@ -68,10 +68,6 @@ used_in b w from word j k seen lt is le =
     let same = seen.from_on j lt (omega arith) in
     rw (same, byte, place) refl
 
--- nothing before the first word
-pub none_before : (b : List ℕ) (from w k : ℕ) → w ≡ (from + 32) / 64 → from ≤ k → k + 32 < 64 * w → is_used b k ≡ true
-none_before b from w k is le lt = absurd (omega arith)
-
 -- a word of ones
 pub full_word : (b : List ℕ) (from w word : ℕ) → IsSeenFrom b w from word → word ≡ 18446744073709551615 → ((k : ℕ) → from ≤ k → k + 32 < 64 * w → is_used b k ≡ true) → (k : ℕ) → from ≤ k → k + 32 < 64 * (w + 1) → is_used b k ≡ true
 full_word b from w word seen full so_far k le lt =
