@@ -14,11 +14,11 @@ pub pairs_last : (newer : List Txn) (t : Txn) → chain_pairs (newer ++ t ∷ []
 pairs_last [] t = sym (append-nil t.pairs)
 pairs_last (u ∷ us) t = ap (λ (l : List (ℕ × ℕ)). l ++ u.pairs) (pairs_last us t) ∙ append_assoc t.pairs (chain_pairs us) u.pairs
 
-firsts-append : (ps qs : List (ℕ × ℕ)) → firsts (ps ++ qs) ≡ firsts ps ++ firsts qs
+pub firsts-append : (ps qs : List (ℕ × ℕ)) → firsts (ps ++ qs) ≡ firsts ps ++ firsts qs
 firsts-append [] qs = refl
 firsts-append (p ∷ ps) qs = ap (λ (l : List ℕ). p.0 ∷ l) (firsts-append ps qs)
 
-seconds-append : (ps qs : List (ℕ × ℕ)) → seconds (ps ++ qs) ≡ seconds ps ++ seconds qs
+pub seconds-append : (ps qs : List (ℕ × ℕ)) → seconds (ps ++ qs) ≡ seconds ps ++ seconds qs
 seconds-append [] qs = refl
 seconds-append (p ∷ ps) qs = ap (λ (l : List ℕ). p.1 ∷ l) (seconds-append ps qs)
 

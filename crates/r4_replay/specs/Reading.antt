@@ -1,9 +1,7 @@
 -- What reading the log leaves, and what it finds.
-use Rattle.std.specs.Prelude.{◌≡◌, ◌≢◌, ℕ, Result, Ok, Err}
-use Rattle.r4_base.specs.Chain.{committed, flushed}
+use Rattle.std.specs.Prelude.{◌≡◌, ℕ, Result, Ok, Err}
 use Rattle.r4_base.specs.Refusal.{Refusal}
 use Rattle.r4_outside.specs.Device.{State, Goes, TellsReads, Rose}
-use Rattle.r4_base.specs.declared.journal.LogFault.TheVariants.{Many}
 use Rattle.r4_replay.specs.declared.fault.ReplayFault.{ReplayFault}
 use Rattle.r4_replay.specs.declared.fault.ReplayFault.TheVariants.{Device, Memory as NoMemory, Log as Refused}
 use Rattle.r4_replay.specs.declared.fault.Stop.{Stop}
@@ -22,12 +20,10 @@ Finds view old says (Err (Log b f)) new = TellsReads old → says ≡ Err (recor
 Finds view old says (Err Failed) new = Rose old.faults new.faults
 Finds view old says (Err Memory) new = Unit {0}
 
--- Header and footer are equal, or `Many` is answered.
-abbrev pub Looks : {T : Type 0} → State → Result T Stop → State → Type 0
-Looks old (Ok y) new = TellsReads old → committed old.seen ≡ flushed old.seen
-Looks old (Err (Log b f)) new = (b ≡ 19) × (f ≡ Many) × (TellsReads old → committed old.seen ≢ flushed old.seen)
-Looks old (Err Failed) new = Rose old.faults new.faults
-Looks old (Err Memory) new = Unit {0}
+-- a finding as it is answered
+abbrev pub as_stop : {X : Type 0} → Result X Refusal → Result X Stop
+as_stop (Ok x) = Ok x
+as_stop (Err r) = Err (Log r.block r.fault)
 
 -- what is answered where reading the log stopped
 abbrev pub fault_by : (clock faults : ℕ) → Stop → ReplayFault

@@ -1,13 +1,14 @@
 -- What replay answers and leaves (docs/layout.md, "Replay").
-use Rattle.std.specs.Prelude.{◌≡◌, ◌≢◌, ◌⊎◌, ℕ, ◌<◌, ◌≤◌, List, [], ◌∷◌, length, Result, Ok, Err}
+use Rattle.std.specs.Prelude.{◌≡◌, ◌⊎◌, ℕ, ◌<◌, ◌≤◌, List, [], ◌∷◌, length, Result, Ok, Err}
 use Rattle.r4_base.specs.Bytes.{put_all}
 use Rattle.r4_base.specs.Image.{Image, block_at, put_pairs, AgreesOutside}
 use Rattle.r4_base.specs.Log.{footer_fields}
 use Rattle.r4_base.specs.Chain.{Txn, HasLog, Settles, SettlesTo, is_footer, chain_pairs, committed, flushed}
 use Rattle.r4_base.specs.Refusal.{Refusal, IsRefused}
 use Rattle.r4_base.specs.declared.journal.Footer.{Footer}
-use Rattle.r4_base.specs.declared.journal.LogFault.TheVariants.{Many}
 use Rattle.r4_outside.specs.Device.{State, TellsReads, Rose, LeavesOnly}
+use Rattle.r4_replay.specs.declared.fault.Stop.{Stop}
+use Rattle.r4_replay.specs.declared.fault.Stop.TheVariants.{Failed, Memory as NoMemory, Log as Fault}
 use Rattle.r4_replay.specs.declared.fault.ReplayFault.{ReplayFault}
 use Rattle.r4_replay.specs.declared.fault.ReplayFault.TheVariants.{Log, Device, Size, Memory}
 
@@ -38,15 +39,16 @@ pub record PutInPlace (old : State) (transactions : ℕ) (new : State) : Type 0 
   pub footer : block_at new.seen 20 ≡ footer_after chain (block_at old.seen 20)
   pub equal : committed new.seen ≡ flushed new.seen
 
--- The log is not replayed: so far every log whose header and footer differ.
-pub record IsTooMany (image : Image) (r : Refusal) : Type 0 where
-  pub fault : r.fault ≡ Many
-  pub block : r.block ≡ 19
-  pub differ : committed image ≢ flushed image
-
 -- The log of an image of n blocks is refused so.
 abbrev pub RefusedAs : ℕ → Image → Refusal → Type 0
-RefusedAs n image r = IsTooMany image r
+RefusedAs n image r = IsRefused n image r
+
+-- The log of a device of a lawful size, read and put in place.
+abbrev pub Works : State → Result ℕ Stop → State → Type 0
+Works old (Ok count) new = (count ≡ 0 → Untouched old new) × (TellsReads old → PutInPlace old count new)
+Works old (Err (Fault block fault)) new = Untouched old new × (TellsReads old → RefusedAs old.blocks old.seen (record { block = block; fault = fault }))
+Works old (Err Failed) new = Rose old.faults new.faults
+Works old (Err NoMemory) new = Untouched old new
 
 abbrev pub Replayed : State → Result ℕ ReplayFault → State → Type 0
 Replayed old (Ok count) new = IsLawful old.blocks × (count ≡ 0 → Untouched old new) × (TellsReads old → PutInPlace old count new)

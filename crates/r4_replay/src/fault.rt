@@ -2,6 +2,7 @@
 
 use r4_base::{BlockNo, LogFault, Memory};
 use r4_outside::Failed;
+use std::alloc::AllocFailed;
 
 /// Why nothing, or not everything, was put in place.
 #[derive(Clone, Copy, Debug, PartialEq, Eq)]
@@ -42,6 +43,17 @@ impl From<Memory> for Stop {
     ghost from_gives = { λ _ e. e ≡ NoMemory };
 
     fn from(_none: Memory) -> Stop {
+        Stop::Memory
+    }
+}
+
+impl<T: Drop> From<AllocFailed<T>> for Stop {
+    ghost use Rattle.std.specs.Prelude.{◌≡◌};
+    ghost use Rattle.r4_replay.specs.declared.fault.Stop.TheVariants.{Memory as NoMemory};
+
+    ghost from_gives = { λ _ e. e ≡ NoMemory };
+
+    fn from(_none: AllocFailed<T>) -> Stop {
         Stop::Memory
     }
 }

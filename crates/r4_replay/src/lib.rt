@@ -1,8 +1,13 @@
 //! Replay: the committed transactions of the log, put in their place (docs/layout.md, "Replay").
 #![tactic(auto)]
 
+mod chain;
 mod fault;
+mod heads;
+mod overlap;
+mod place;
 mod replaying;
+mod txn;
 
 pub use fault::ReplayFault;
 pub use r4_base::LogFault;

@@ -1,21 +1,20 @@
 //! The whole replay.
 
-ghost use Rattle.std.specs.Prelude.{◌≡◌, ◌≤◌};
+ghost use Rattle.std.specs.Prelude.{◌≡◌, ◌≤◌, OnOk};
 ghost use Rattle.r4_outside.specs.Device.{Goes, IsQuiet};
-ghost use Rattle.r4_replay.specs.Replay.{Replayed, IsDeviceFault, SettlesAlways};
-ghost use Rattle.r4_replay.specs.Reading.{Idles, Looks, fault_by};
+ghost use Rattle.r4_replay.specs.Replay.{Replayed, IsDeviceFault, SettlesAlways, Works};
+ghost use Rattle.r4_replay.specs.Reading.{fault_by};
 
+use crate::chain::read_chain;
 use crate::fault::{ReplayFault, Stop};
-use r4_base::{Block, BlockNo, LogFault};
+use crate::place::{FOOTER, put_txns};
+use r4_base::{Block, BlockNo};
 use r4_logfmt::{read_footer, read_header};
 use r4_outside::Device;
 use std::alloc::Global;
 
 /// The journal header's block.
 const HEADER: BlockNo = BlockNo(19);
-
-/// The journal footer's block.
-const FOOTER: BlockNo = BlockNo(20);
 
 /// Puts the transactions of the log in place, the oldest first, and counts them. Nothing is written before the whole
 /// log was looked at (docs/layout.md, "Replay").
@@ -25,6 +24,7 @@ pub fn replay<D: Device>(alloc: Global, dev: &mut D) -> Result<u64, ReplayFault>
 
     // A crash at any moment of the call leaves an image that settles as before, but for the footer's block.
     ensures any_moment { IsQuiet (D.state dev.old) → SettlesAlways (D.state dev.old) (D.state dev.new) }
+    ensures quiet { IsQuiet (D.state dev.old) → OnOk result (IsQuiet (D.state dev.new)) }
 {
     let Ok(blocks) = dev.blocks() else {
         return Err(device_fault(dev));
@@ -32,32 +32,30 @@ pub fn replay<D: Device>(alloc: Global, dev: &mut D) -> Result<u64, ReplayFault>
     if blocks < 64 || blocks > 1_048_576 {
         return Err(ReplayFault::Size { blocks });
     }
-    let Ok(mut buffer) = Block::zeroed(alloc) else {
-        return Err(ReplayFault::Memory);
-    };
-    match look(dev, &mut buffer) {
-        Ok(()) => Ok(0),
+    match read_and_put(alloc, dev, blocks) {
+        Ok(count) => Ok(count),
         Err(stop) => Err(fault_of(dev, stop)),
     }
 }
 
-// Is there nothing to do? So far every other log is refused.
-fn look<D: Device>(dev: &mut D, buffer: &mut Block) -> Result<(), Stop>
-    requires { 64 ≤ (D.state dev.old).blocks }
-    ensures idles { Idles (D.state dev.old) (D.state dev.new) }
-    ensures looks { Looks (D.state dev.old) result (D.state dev.new) }
+// Reads the log of a device of a lawful size, and puts it in place.
+fn read_and_put<D: Device>(alloc: Global, dev: &mut D, blocks: u64) -> Result<u64, Stop>
+    requires blocks { blocks ≡ (D.state dev.old).blocks }
+    requires more { 64 ≤ blocks }
+    ensures goes { Goes (D.state dev.old) (D.state dev.new) }
+    ensures works { Works (D.state dev.old) result (D.state dev.new) }
+    ensures any_moment { IsQuiet (D.state dev.old) → SettlesAlways (D.state dev.old) (D.state dev.new) }
+    ensures quiet { IsQuiet (D.state dev.old) → OnOk result (IsQuiet (D.state dev.new)) }
 {
-    dev.read(HEADER, buffer)?;
-    let header = read_header(buffer.bytes());
-    dev.read(FOOTER, buffer)?;
-    let footer = read_footer(buffer.bytes());
-    if header.last != footer.last {
-        return Err(Stop::Log {
-            block: HEADER.0,
-            fault: LogFault::Many,
-        });
-    }
-    Ok(())
+    let mut buffer = Block::zeroed(alloc)?;
+    let mut footer = Block::zeroed(alloc)?;
+    dev.read(HEADER, &mut buffer)?;
+    let header = read_header(buffer.bytes()).last;
+    dev.read(FOOTER, &mut footer)?;
+    let flushed = read_footer(footer.bytes()).last;
+    let txns = read_chain(alloc, dev, blocks, header, flushed, &mut buffer)?;
+    put_txns(dev, &txns, &mut footer, &mut buffer)?;
+    Ok(txns.len() as u64)
 }
 
 fn fault_of<D: Device>(dev: &D, stop: Stop) -> ReplayFault

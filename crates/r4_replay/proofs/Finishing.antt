@@ -1,0 +1,115 @@
+-- The whole replay, from reading and putting in place.
+use Rattle.std.proofs.Common.{◌≡◌, ℕ, List, length, map, sym, ◌∙◌, ap, subst, arith, Result, Err}
+use Rattle.std.proofs.lemmas.List.{length-map, length-reverse}
+use Rattle.r4_base.specs.Image.{Image, block_at, sector, put_pairs, AgreesOutside}
+use Rattle.r4_base.specs.Log.{header_of, footer_of}
+use Rattle.r4_base.specs.Chain.{Txn, HasLog, SettlesTo, is_footer, chain_pairs, committed, flushed}
+use Rattle.r4_base.specs.Refusal.{Refusal, IsRefused}
+use Rattle.r4_base.proofs.Logs.{one_log, not_refused}
+use Rattle.r4_outside.specs.Device.{State, Goes, IsQuiet, LeavesOnly, TellsReads}
+use Rattle.r4_replay.specs.declared.txn.Txn.{Txn as TxnHere}
+use Rattle.r4_replay.specs.Txns.{txn_shown, chain_shown}
+use Rattle.r4_replay.specs.declared.fault.Stop.{Stop}
+use Rattle.r4_replay.specs.declared.fault.Stop.TheVariants.{Failed, Memory, Log}
+use Rattle.r4_replay.specs.Chains.{ReadsLog}
+use Rattle.r4_replay.specs.Reading.{Idles}
+use Rattle.r4_replay.specs.Placing.{IsPlaced}
+use Rattle.r4_replay.specs.Replay.{SettlesAlike, SettlesAlways, PutInPlace, Untouched, Works, footer_after}
+use Rattle.r4_replay.proofs.Found.{idles_both}
+
+-- a device stays quiet while it is only read
+pub quiet_idle : (old mid : State) → Idles old mid → IsQuiet old → IsQuiet mid
+quiet_idle old mid idles quiet = record {
+  tells = idles.goes.crashes.1 quiet.tells;
+  within = record {
+    each = λ b s x lb ls may.
+        let now = idles.clock in
+        let before = (idles.goes.earlier mid.clock b s x (omega (arith, now))).0 may in
+        let at_old = subst (λ (m : ℕ). old.may_hold m b s x) now before in
+        quiet.within.each b s x (let same = idles.goes.blocks in omega (arith, lb, same)) ls at_old ∙ ap (λ (i : Image). sector (block_at i b) s) (sym idles.seen);
+  };
+}
+
+-- what one chain settles to, seen from any
+pub alike : (n : ℕ) (base image : Image) (chain : List Txn) → HasLog n base chain → SettlesTo n is_footer (put_pairs (chain_pairs chain) base) image → SettlesAlike n base image
+alike n base image chain has to = record {
+  settled = λ s is.
+      let same : put_pairs (chain_pairs chain) base ≡ s = ap (λ (c : List Txn). put_pairs (chain_pairs c) base) (one_log n base chain is.chain has is.has) ∙ sym is.is in
+      subst (λ (t : Image). SettlesTo n is_footer t image) same to;
+  refused = λ r no_log. absurd (not_refused n base chain r has no_log);
+}
+
+pub always_alike : (old mid new : State) (chain : List Txn) → Idles old mid → Goes mid new → IsQuiet old → HasLog old.blocks old.seen chain
+    → (IsQuiet mid → HasLog mid.blocks mid.seen chain → LeavesOnly mid new (SettlesTo mid.blocks is_footer (put_pairs (chain_pairs chain) mid.seen))) → SettlesAlways old new
+always_alike old mid new chain idles goes quiet has moment =
+    let here : HasLog mid.blocks mid.seen chain = subst (λ (i : Image). HasLog mid.blocks i chain) (sym idles.seen) (subst (λ (n : ℕ). HasLog n old.seen chain) (sym idles.goes.blocks) has) in
+    let left = moment (quiet_idle old mid idles quiet) here in
+    record {
+      each = λ m image lo hi may. alike old.blocks old.seen image chain has
+          (subst (λ (n : ℕ). SettlesTo n is_footer (put_pairs (chain_pairs chain) old.seen) image) idles.goes.blocks
+          (subst (λ (i : Image). SettlesTo mid.blocks is_footer (put_pairs (chain_pairs chain) i) image) idles.seen (left.each m image (let now = idles.clock in omega (arith, lo, now)) hi may)));
+    }
+
+-- what holds after a call that only looked holds before it
+pub always_after : (old mid new : State) → Idles old mid → IsQuiet old → (IsQuiet mid → SettlesAlways mid new) → SettlesAlways old new
+always_after old mid new idles quiet moment =
+    let left = moment (quiet_idle old mid idles quiet) in
+    record {
+      each = λ m image lo hi may. subst (λ (n : ℕ). SettlesAlike n old.seen image) idles.goes.blocks
+          (subst (λ (i : Image). SettlesAlike mid.blocks i image) idles.seen (left.each m image (let now = idles.clock in omega (arith, lo, now)) hi may));
+    }
+
+module _ (s0 s1 s2 : State) (i1 : Idles s0 s1) (i2 : Idles s1 s2) (buffer footer : List ℕ) (read_header : TellsReads s0 → buffer ≡ block_at s0.seen 19) (read_footer : TellsReads s1 → footer ≡ block_at s1.seen 20) where
+  i02 : Idles s0 s2
+  i02 = idles_both s0 s1 s2 i1 i2
+
+  tells2 : TellsReads s0 → TellsReads s2
+  tells2 tells = i02.goes.reads.1 tells
+
+  header_is : (header : ℕ) → header ≡ (header_of buffer).last → TellsReads s0 → header ≡ committed s2.seen
+  header_is header is tells = is ∙ ap (λ (b : List ℕ). (header_of b).last) (read_header tells) ∙ ap (λ (i : Image). committed i) (sym i02.seen)
+
+  pub footer_block : TellsReads s0 → footer ≡ block_at s2.seen 20
+  footer_block tells = read_footer (i1.goes.reads.1 tells) ∙ ap (λ (i : Image). block_at i 20) (sym i2.seen)
+
+  footer_is : (last : ℕ) → last ≡ (footer_of footer).last → TellsReads s0 → last ≡ flushed s2.seen
+  footer_is last is tells = is ∙ ap (λ (b : List ℕ). (footer_of b).last) (footer_block tells)
+
+  module _ (header last : ℕ) (h : header ≡ (header_of buffer).last) (f : last ≡ (footer_of footer).last) where
+    pub log_refused : (r : Refusal) → (TellsReads s2 → header ≡ committed s2.seen → last ≡ flushed s2.seen → IsRefused s2.blocks s2.seen r) → TellsReads s0 → IsRefused s0.blocks s0.seen r
+    log_refused r found tells = subst (λ (i : Image). IsRefused s0.blocks i r) i02.seen (subst (λ (n : ℕ). IsRefused n s2.seen r) i02.goes.blocks (found (tells2 tells) (header_is header h tells) (footer_is last f tells)))
+
+    pub log_read : (chain : List Txn) → (TellsReads s2 → header ≡ committed s2.seen → last ≡ flushed s2.seen → HasLog s2.blocks s2.seen chain) → TellsReads s0 → HasLog s0.blocks s0.seen chain
+    log_read chain found tells = subst (λ (i : Image). HasLog s0.blocks i chain) i02.seen (subst (λ (n : ℕ). HasLog n s2.seen chain) i02.goes.blocks (found (tells2 tells) (header_is header h tells) (footer_is last f tells)))
+
+pub length_chain : (txns : List TxnHere) → length (chain_shown txns) ≡ length txns
+length_chain txns = length-reverse (map txn_shown txns) ∙ length-map txns txn_shown
+
+-- the end, seen from the beginning
+pub put_whole : (s0 s3 s4 : State) (txns : List TxnHere) (count : ℕ) (footer : List ℕ) → Idles s0 s3 → count ≡ length txns → HasLog s0.blocks s0.seen (chain_shown txns) → footer ≡ block_at s3.seen 20
+    → (HasLog s3.blocks s3.seen (chain_shown txns) → footer ≡ block_at s3.seen 20 → IsPlaced s3 (chain_shown txns) s4) → PutInPlace s0 count s4
+put_whole s0 s3 s4 txns count footer idles is has holds placed =
+    let chain = chain_shown txns in
+    let here : HasLog s3.blocks s3.seen chain = subst (λ (i : Image). HasLog s3.blocks i chain) (sym idles.seen) (subst (λ (n : ℕ). HasLog n s0.seen chain) (sym idles.goes.blocks) has) in
+    let p = placed here holds in
+    record {
+      chain = chain;
+      log = has;
+      count = is ∙ sym (length_chain txns);
+      settled = subst (λ (i : Image). AgreesOutside is_footer (put_pairs (chain_pairs chain) i) s4.seen) idles.seen p.settled;
+      footer = p.footer ∙ ap (λ (i : Image). footer_after chain (block_at i 20)) idles.seen;
+      equal = p.equal;
+    }
+
+pub idles_untouched : (old new : State) → Idles old new → Untouched old new
+idles_untouched old new idles = record { seen = idles.seen; clock = idles.clock }
+
+-- where reading the log stopped
+pub works_stopped : (s0 s2 s3 : State) (header last : ℕ) → Idles s0 s2 → Idles s2 s3 → ((r : Refusal) → (TellsReads s2 → header ≡ committed s2.seen → last ≡ flushed s2.seen → IsRefused s2.blocks s2.seen r) → TellsReads s0 → IsRefused s0.blocks s0.seen r)
+    → (e : Stop) (result : Result ℕ Stop) → ReadsLog header last s2 (Err e) s3 → result ≡ Err e → Works s0 result s3
+works_stopped s0 s2 s3 header last i j back (Log b f) result reads is = subst (λ (x : Result ℕ Stop). Works s0 x s3) (sym is) (idles_untouched s0 s3 (idles_both s0 s2 s3 i j), back (record { block = b; fault = f }) reads)
+works_stopped s0 s2 s3 header last i j back Failed result reads is = subst (λ (x : Result ℕ Stop). Works s0 x s3) (sym is) (let before = i.goes.faults in omega (arith, reads, before))
+works_stopped s0 s2 s3 header last i j back Memory result reads is = subst (λ (x : Result ℕ Stop). Works s0 x s3) (sym is) (idles_untouched s0 s3 (idles_both s0 s2 s3 i j))
+
+pub untouched_after : (s0 s3 s4 : State) → Idles s0 s3 → Untouched s3 s4 → Untouched s0 s4
+untouched_after s0 s3 s4 idles u = record { seen = u.seen ∙ idles.seen; clock = u.clock ∙ idles.clock }

@@ -1,0 +1,8 @@
+use Rattle.std.proofs.Common.{take}
+use Rattle.std.specs.Prelude.{map}
+use Rattle.r4_replay.specs.Txns.{txn_shown}
+use Rattle.r4_replay.proofs.Overlaps.{IsSmallestOf}
+use Rattle.r4_replay.proofs.overlap.smallest_overlap.Given as goal
+
+abbrev pub invariant-loop-txn : goal.invariant-loop-txn
+invariant-loop-txn l = IsSmallestOf l.kept (take l.txn-index (map txn_shown l.txns)) l.smallest

@@ -1,0 +1,61 @@
+//! The whole log: all heads, then each transaction, and no block that is both put in place and kept.
+
+ghost use Rattle.std.specs.Prelude.{◌≡◌, IfOk, All};
+ghost use Rattle.r4_base.specs.Refusal.{txns_at};
+ghost use Rattle.r4_replay.specs.Reading.{Idles, Finds};
+ghost use Rattle.r4_replay.specs.Heads.{heads_shown};
+ghost use Rattle.r4_replay.specs.Chains.{chain_of, InRangeAll, ReadsLog};
+
+use crate::fault::Stop;
+use crate::heads::{Head, read_heads};
+use crate::overlap::smallest_overlap;
+use crate::txn::{Txn, read_txn};
+use r4_base::{Block, LogFault};
+use r4_outside::Device;
+use std::alloc::Global;
+
+/// The transactions of the log, the oldest first. `header` and `footer` are the numbers of the journal header and
+/// footer.
+pub fn read_chain<D: Device>(
+    alloc: Global,
+    dev: &mut D,
+    blocks: u64,
+    header: u64,
+    footer: u64,
+    buffer: &mut Block,
+) -> Result<Vec<Txn>, Stop>
+    requires { blocks ≡ (D.state dev.old).blocks }
+    ensures idles { Idles (D.state dev.old) (D.state dev.new) }
+    ensures reads { ReadsLog header footer (D.state dev.old) result (D.state dev.new) }
+    ensures in_range { IfOk result (λ txns. InRangeAll blocks txns.items) }
+{
+    let heads = read_heads(alloc, dev, blocks, header, footer, buffer)?;
+    let txns = read_txns(alloc, dev, blocks, heads, buffer)?;
+    if let Some(block) = smallest_overlap(alloc, &txns)? {
+        return Err(Stop::Log {
+            block,
+            fault: LogFault::Overlap,
+        });
+    }
+    Ok(txns)
+}
+
+// The transactions of heads that are given the newest first, the oldest first.
+fn read_txns<D: Device>(
+    alloc: Global,
+    dev: &mut D,
+    blocks: u64,
+    mut heads: Vec<Head>,
+    buffer: &mut Block,
+) -> Result<Vec<Txn>, Stop>
+    requires { blocks ≡ (D.state dev.old).blocks }
+    ensures idles { Idles (D.state dev.old) (D.state dev.new) }
+    ensures finds { Finds chain_of (D.state dev.old) (txns_at blocks (D.state dev.old).seen (heads_shown heads)) result (D.state dev.new) }
+    ensures in_range { IfOk result (λ txns. InRangeAll blocks txns.items) }
+{
+    let mut txns = Vec::new(alloc);
+    while let Some(head) = heads.pop() {
+        txns.push(read_txn(alloc, dev, blocks, head, buffer)?)?;
+    }
+    Ok(txns)
+}
