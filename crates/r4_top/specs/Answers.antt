@@ -1,0 +1,72 @@
+-- What a call answers, prints and leaves on the device (docs/program.md, "Lines and statuses").
+use Rattle.std.specs.Prelude.{◌≡◌, ◌⊎◌, ℕ, ◌<◌, List, Option, Some, None, Ok, Err}
+use Rattle.r4_base.specs.Refusal.{Refusal}
+use Rattle.r4_outside.specs.Device.{State, TellsReads, Rose}
+use Rattle.r4_outside.specs.Sink.{SinkState, Appends}
+use Rattle.r4_replay.specs.Replay.{IsLawful, Untouched, PutInPlace, RefusedAs}
+use Rattle.r4_replay.specs.declared.fault.ReplayFault.{ReplayFault}
+use Rattle.r4_replay.specs.declared.fault.ReplayFault.TheVariants.{Log, Device, Size, Memory}
+use Rattle.r4_top.specs.Lines.{usage_line, device_line, size_line, image_line, memory_line, replayed_line}
+use Rattle.r4_top.specs.declared.words.Command.{Command}
+use Rattle.r4_top.specs.declared.words.Command.TheVariants.{Replay}
+
+-- The sink took all of the text.
+abbrev pub Gets : List ℕ → SinkState → SinkState → Type 0
+Gets text old new = Appends {T = Unit {0}} {E = Unit {0}} text old (Ok tt) new
+
+-- The sink took a prefix of the text, and its count of faults rose.
+abbrev pub GetsPart : List ℕ → SinkState → SinkState → Type 0
+GetsPart text old new = Appends {T = Unit {0}} {E = Unit {0}} text old (Err tt) new
+
+-- The text is printed, as far as the sink takes it.
+abbrev pub Prints : List ℕ → SinkState → SinkState → Type 0
+Prints text old new = Gets text old new ⊎ GetsPart text old new
+
+-- fewer blocks than a volume may have, or more
+abbrev pub IsUnlawful : ℕ → Type 0
+IsUnlawful blocks = (blocks < 64) ⊎ (1048576 < blocks)
+
+-- The transactions of the log were put in place, so many. Where there was none, nothing was written.
+pub record PutAll (old : State) (count : ℕ) (new : State) : Type 0 where
+  pub lawful : IsLawful old.blocks
+  pub none : count ≡ 0 → Untouched old new
+  pub put : TellsReads old → PutInPlace old count new
+
+-- The log is refused so, where the device tells what reading gives; nothing was written.
+pub record Refuses (old : State) (r : Refusal) (new : State) : Type 0 where
+  pub lawful : IsLawful old.blocks
+  pub idle : Untouched old new
+  pub refused : TellsReads old → RefusedAs old.blocks old.seen r
+
+-- What the command `replay` answers with a code: d and k are the device and the sink before the call, d' and k' those after it.
+pub record Replays (d : State) (k : SinkState) (code : ℕ) (d' : State) (k' : SinkState) : Type 0 where
+  pub codes : (code ≡ 0) ⊎ ((code ≡ 5) ⊎ ((code ≡ 6) ⊎ ((code ≡ 7) ⊎ ((code ≡ 8) ⊎ (code ≡ 9)))))
+  pub done : code ≡ 0 → (n : ℕ) × PutAll d n d' × Gets (replayed_line n) k k'
+  -- the device stands as 0 leaves it
+  pub sink : code ≡ 5 → (n : ℕ) × PutAll d n d' × GetsPart (replayed_line n) k k' × Rose k.faults k'.faults
+  pub device : code ≡ 6 → Rose d.faults d'.faults × Prints (device_line d'.clock d'.faults) k k'
+  pub image : code ≡ 7 → (r : Refusal) × Refuses d r d' × Prints (image_line r.block r.fault) k k'
+  pub size : code ≡ 8 → IsUnlawful d.blocks × Untouched d d' × Prints (size_line d.blocks) k k'
+  -- an unlawful number of blocks is not passed over
+  pub size_only : IsUnlawful d.blocks → (code ≡ 8) ⊎ ((code ≡ 6) ⊎ (code ≡ 9))
+  pub memory : code ≡ 9 → Untouched d d' × Prints memory_line k k'
+  -- where nothing stands against it, the log is replayed
+  pub complete : IsLawful d.blocks → TellsReads d → ((r : Refusal) → RefusedAs d.blocks d.seen r → ⊥) → (Rose d.faults d'.faults → ⊥) → (Rose k.faults k'.faults → ⊥) → (code ≡ 0) ⊎ (code ≡ 9)
+
+-- faulty words: the device is not called
+pub record RefusesWords (d : State) (k : SinkState) (code : ℕ) (d' : State) (k' : SinkState) : Type 0 where
+  pub two : code ≡ 2
+  pub idle : Untouched d d'
+  pub line : Prints usage_line k k'
+
+-- What a call answers, by the command that its words spell, or none.
+abbrev pub Answers : Option Command → State → SinkState → ℕ → State → SinkState → Type 0
+Answers None d k code d' k' = RefusesWords d k code d' k'
+Answers (Some Replay) d k code d' k' = Replays d k code d' k'
+
+-- The code and the line of a fault.
+abbrev pub TellsFault : ReplayFault → ℕ → SinkState → SinkState → Type 0
+TellsFault (Device clock faults) code k k' = (code ≡ 6) × Prints (device_line clock faults) k k'
+TellsFault (Log block fault) code k k' = (code ≡ 7) × Prints (image_line block.0 fault) k k'
+TellsFault (Size blocks) code k k' = (code ≡ 8) × Prints (size_line blocks) k k'
+TellsFault Memory code k k' = (code ≡ 9) × Prints memory_line k k'

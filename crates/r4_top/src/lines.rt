@@ -1,0 +1,89 @@
+//! The lines that are printed, written piece by piece, without memory (docs/program.md, "Lines and statuses").
+
+ghost use Rattle.std.specs.Prelude.{◌≡◌, ◌++◌, decimal};
+ghost use Rattle.r4_outside.specs.Sink.{Appends};
+ghost use Rattle.r4_top.specs.Lines.{usage_line, device_line, size_line, image_line, memory_line, replayed_line, word_of};
+
+use itoa::Buffer;
+use r4_base::BlockNo;
+use r4_outside::{Failed, Sink};
+use r4_replay::LogFault;
+
+/// Writes how the words are to be.
+pub fn write_usage<K: Sink>(out: &mut K) -> Result<(), Failed>
+    ensures { Appends usage_line (K.state out.old) result (K.state out.new) }
+{
+    out.write(b"usage: r4_tool replay, mkfs, run, list or check, then IMAGE and options\n")
+}
+
+/// Writes how far a device came that failed.
+pub fn write_device<K: Sink>(out: &mut K, clock: u64, faults: u64) -> Result<(), Failed>
+    ensures { Appends (device_line clock faults) (K.state out.old) result (K.state out.new) }
+{
+    write_number(out, b"device: clock ", clock, b" faults ")?;
+    write_number(out, b"", faults, b"\n")
+}
+
+/// Writes the number of blocks of a device that is too small or too large.
+pub fn write_size<K: Sink>(out: &mut K, blocks: u64) -> Result<(), Failed>
+    ensures { Appends (size_line blocks) (K.state out.old) result (K.state out.new) }
+{
+    write_number(out, b"size: ", blocks, b" blocks\n")
+}
+
+/// Writes why an image is refused.
+pub fn write_image<K: Sink>(out: &mut K, block: BlockNo, fault: LogFault) -> Result<(), Failed>
+    ensures { Appends (image_line block.0 fault) (K.state out.old) result (K.state out.new) }
+{
+    write_number(out, b"image: block ", block.0, b": ")?;
+    out.write(word(fault).as_bytes())?;
+    out.write(b"\n")
+}
+
+/// Writes that no memory was found.
+pub fn write_memory<K: Sink>(out: &mut K) -> Result<(), Failed>
+    ensures { Appends memory_line (K.state out.old) result (K.state out.new) }
+{
+    out.write(b"memory\n")
+}
+
+/// Writes how many transactions were put in place.
+pub fn write_replayed<K: Sink>(out: &mut K, count: u64) -> Result<(), Failed>
+    ensures { Appends (replayed_line count) (K.state out.old) result (K.state out.new) }
+{
+    write_number(out, b"replayed ", count, b"\n")
+}
+
+// Writes a number between two texts.
+fn write_number<K: Sink>(
+    out: &mut K,
+    before: &[u8],
+    number: u64,
+    after: &[u8],
+) -> Result<(), Failed>
+    ensures { Appends (before.now ++ decimal number ++ after.now) (K.state out.old) result (K.state out.new) }
+{
+    let mut digits = Buffer::new();
+    out.write(before)?;
+    out.write(digits.format(number).as_bytes())?;
+    out.write(after)
+}
+
+// The words for a fault.
+fn word(fault: LogFault) -> &'static str
+    ensures { result.now ≡ word_of fault }
+{
+    match fault {
+        LogFault::Range => "range",
+        LogFault::HeadMagic => "head magic",
+        LogFault::Total => "total",
+        LogFault::Long => "long",
+        LogFault::RecordMagic => "record magic",
+        LogFault::Id => "id",
+        LogFault::Serial => "serial",
+        LogFault::Pairs => "pairs",
+        LogFault::Circle => "circle",
+        LogFault::Overlap => "overlap",
+        LogFault::Many => "many",
+    }
+}
