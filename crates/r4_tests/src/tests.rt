@@ -65,7 +65,11 @@ fn faulty_words_are_refused(rt: HostRuntime) -> Result<(), Fail> {
     let mut dev = MemoryDevice::new(rt.alloc(), 64)?;
     for words in table {
         let mut out = MemorySink::new(rt.alloc(), 100)?;
-        assert_eq!(rt; call(&rt, rt.alloc(), words, &mut dev, &mut out)?, 2, "at {words:?}");
+        assert_eq!(rt;
+            call(&rt, rt.alloc(), words, &mut dev, &mut out)?,
+            2,
+            "at {words:?}"
+        );
         assert_eq!(rt; out.written(), USAGE.as_bytes(), "at {words:?}");
     }
     assert_eq!(rt; dev.clock(), 0);
@@ -79,7 +83,13 @@ fn devices_without_blocks(rt: HostRuntime) -> Result<(), Fail> {
         (63, false, 5, 8, "size: 63 blocks\n"),
         (1_048_577, false, 5, 8, "size: 1048577 blocks\n"),
         (64, true, 0, 6, "device: clock 0 faults 1\n"),
-        (64, true, end, 6, "device: clock 18446744073709551615 faults 18446744073709551615\n"),
+        (
+            64,
+            true,
+            end,
+            6,
+            "device: clock 18446744073709551615 faults 18446744073709551615\n",
+        ),
     ];
     for (blocks, fails, counts, code, line) in table {
         let mut out = MemorySink::new(rt.alloc(), 100)?;
@@ -89,7 +99,11 @@ fn devices_without_blocks(rt: HostRuntime) -> Result<(), Fail> {
             clock: counts,
             faults: counts,
         };
-        assert_eq!(rt; call(&rt, rt.alloc(), &REPLAY, &mut dev, &mut out)?, code, "{line}");
+        assert_eq!(rt;
+            call(&rt, rt.alloc(), &REPLAY, &mut dev, &mut out)?,
+            code,
+            "{line}"
+        );
         assert_eq!(rt; out.written(), line.as_bytes(), "{line}");
         assert_eq!(rt; dev.clock(), counts, "{line}");
     }

@@ -4,6 +4,8 @@
 mod counts;
 mod file;
 mod streams;
+#[cfg(test)]
+mod tests;
 
 use file::FileDevice;
 use r4_outside::{OpenGate, Sink, Unnamed};
