@@ -10,12 +10,16 @@ here=$(CDPATH='' cd -- "$(dirname -- "$0")" && pwd)
 work=$(mktemp -d)
 trap 'rm -rf -- "$work"' EXIT
 
-# Replays an image, and looks whether the program prints this line.
+# Replays an image, and looks whether the program prints this line and ends with status 0.
 replays() {
-    echo "\$ r4_tool replay $1"
-    printed=$("$tool" replay "$work/$1")
+    echo "\$ ./r4 replay $1"
+    status=0
+    printed=$("$tool" replay "$work/$1") || status=$?
     echo "$printed"
-    [ "$printed" = "$2" ]
+    if [ "$status" -ne 0 ] || [ "$printed" != "$2" ]; then
+        echo "The demo failed: status $status, and '$2' was wanted." >&2
+        exit 1
+    fi
 }
 
 # Copies so many blocks from a block on, for a look at them.
