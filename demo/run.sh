@@ -3,7 +3,7 @@
 set -eu
 
 # Does the program replay a log that holds a transaction? While it does not, that part of the demo is left out.
-replays_transactions=no
+replays_transactions=yes
 
 tool=$1
 here=$(CDPATH='' cd -- "$(dirname -- "$0")" && pwd)

@@ -27,8 +27,7 @@ pub struct TxHead {
     pub next_oid: u64,
 }
 
-/// Why a log is refused, in the order in which the faults are looked for. `Many` stands for every log that is not
-/// replayed yet.
+/// Why a log is refused (docs/layout.md, "Replay").
 #[derive(Clone, Copy, Debug, PartialEq, Eq)]
 pub enum LogFault {
     Range,
@@ -41,5 +40,4 @@ pub enum LogFault {
     Pairs,
     Circle,
     Overlap,
-    Many,
 }

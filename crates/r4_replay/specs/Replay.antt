@@ -55,7 +55,7 @@ Replayed old (Ok count) new = IsLawful old.blocks × (count ≡ 0 → Untouched 
 Replayed old (Err (Log block fault)) new = IsLawful old.blocks × Untouched old new × (TellsReads old → RefusedAs old.blocks old.seen (record { block = block.0; fault = fault }))
 Replayed old (Err (Device clock faults)) new = Rose old.faults new.faults × (clock ≡ new.clock) × (faults ≡ new.faults)
 Replayed old (Err (Size blocks)) new = (blocks ≡ old.blocks) × ((blocks < 64) ⊎ (1048576 < blocks)) × Untouched old new
-Replayed old (Err Memory) new = Untouched old new
+Replayed old (Err Memory) new = IsLawful old.blocks × Untouched old new
 
 abbrev pub IsDeviceFault : State → ReplayFault → Type 0
 IsDeviceFault d fault = fault ≡ Device d.clock d.faults

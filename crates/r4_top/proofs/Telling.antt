@@ -1,26 +1,12 @@
 -- What is answered, by what replay answers.
 use Rattle.std.proofs.Common.{◌≡◌, inl, inr, ⊎_elim, ℕ, refl, sym, subst, arith, Ok, Err}
-use Rattle.r4_base.specs.Image.{Image}
-use Rattle.r4_outside.specs.Device.{State, Goes, IsQuiet, only}
+use Rattle.r4_outside.specs.Device.{State}
 use Rattle.r4_outside.specs.Sink.{SinkState, Appends}
-use Rattle.r4_outside.proofs.Moments.{has_now, only_one}
-use Rattle.r4_replay.specs.Replay.{Replayed, SettlesAlike, SettlesAlways}
+use Rattle.r4_replay.specs.Replay.{Replayed}
 use Rattle.r4_replay.specs.declared.fault.ReplayFault.{ReplayFault}
 use Rattle.r4_replay.specs.declared.fault.ReplayFault.TheVariants.{Log, Device, Size, Memory}
 use Rattle.r4_top.specs.Answers.{Prints, Replays, TellsFault}
 use Rattle.r4_top.specs.Lines.{replayed_line, device_line, size_line}
-
--- a quiet device that is not called
-pub idle_always : (d : State) → Goes d d → IsQuiet d → SettlesAlways d d
-idle_always d goes quiet = record {
-  each = λ m image lo hi left.
-      let now : m ≡ d.clock = omega (arith, lo, hi) in
-      let same : image ≡ d.seen = only_one d.blocks (d.may_hold d.clock) d.seen image quiet.tells (has_now d (only d.seen) m image quiet.within now left) in
-      subst (λ (i : Image). SettlesAlike d.blocks d.seen i) (sym same) (record {
-        settled = λ s is. record { settled = s; settles = is; agrees = record { blocks = refl; others = λ b out. refl } };
-        refused = λ r is. is;
-      });
-}
 
 module _ (d d' : State) (k k' : SinkState) where
   pub told_done : {T E : Type 0} (n : ℕ) (v : T) → Replayed d (Ok n) d' → Appends {E = E} (replayed_line n) k (Ok v) k' → Replays d k 0 d' k'
@@ -68,7 +54,7 @@ module _ (d d' : State) (k k' : SinkState) where
     device = λ is. (was.0, subst (λ (f : ℕ). Prints (device_line d'.clock f) k k') was.2 (subst (λ (c : ℕ). Prints (device_line c faults) k k') was.1 told.1));
     image = λ is. absurd (omega (arith, is, told.0));
     size = λ is. absurd (omega (arith, is, told.0));
-    size_only = λ out. inr (inl told.0);
+    size_only = λ out. inr told.0;
     memory = λ is. absurd (omega (arith, is, told.0));
     complete = λ lawful tells fine dev out. absurd (dev was.0);
   }
@@ -90,8 +76,8 @@ module _ (d d' : State) (k k' : SinkState) where
     device = λ is. absurd (omega (arith, is, told.0));
     image = λ is. absurd (omega (arith, is, told.0));
     size = λ is. absurd (omega (arith, is, told.0));
-    size_only = λ out. inr (inr told.0);
-    memory = λ is. (was, told.1);
+    size_only = λ out. absurd (⊎_elim (λ few. omega (arith, few, was.0.0)) (λ many. omega (arith, many, was.0.1)) out);
+    memory = λ is. (was.1, told.1);
     complete = λ lawful tells fine dev out. inr told.0;
   }
 

@@ -48,7 +48,7 @@ pub record Replays (d : State) (k : SinkState) (code : ℕ) (d' : State) (k' : S
   pub image : code ≡ 7 → (r : Refusal) × Refuses d r d' × Prints (image_line r.block r.fault) k k'
   pub size : code ≡ 8 → IsUnlawful d.blocks × Untouched d d' × Prints (size_line d.blocks) k k'
   -- an unlawful number of blocks is not passed over
-  pub size_only : IsUnlawful d.blocks → (code ≡ 8) ⊎ ((code ≡ 6) ⊎ (code ≡ 9))
+  pub size_only : IsUnlawful d.blocks → (code ≡ 8) ⊎ (code ≡ 6)
   pub memory : code ≡ 9 → Untouched d d' × Prints memory_line k k'
   -- where nothing stands against it, the log is replayed
   pub complete : IsLawful d.blocks → TellsReads d → ((r : Refusal) → RefusedAs d.blocks d.seen r → ⊥) → (Rose d.faults d'.faults → ⊥) → (Rose k.faults k'.faults → ⊥) → (code ≡ 0) ⊎ (code ≡ 9)

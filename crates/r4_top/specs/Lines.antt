@@ -1,7 +1,7 @@
 -- The lines that are printed (docs/program.md, "Lines and statuses").
 use Rattle.std.specs.Prelude.{ℕ, List, ◌++◌, codes, decimal}
 use Rattle.r4_base.specs.declared.journal.LogFault.{LogFault}
-use Rattle.r4_base.specs.declared.journal.LogFault.TheVariants.{Range, HeadMagic, Total, Long, RecordMagic, Id, Serial, Pairs, Circle, Overlap, Many}
+use Rattle.r4_base.specs.declared.journal.LogFault.TheVariants.{Range, HeadMagic, Total, Long, RecordMagic, Id, Serial, Pairs, Circle, Overlap}
 
 abbrev pub usage_line : List ℕ
 usage_line = codes "usage: r4_tool replay, mkfs, run, list or check, then IMAGE and options\n"
@@ -24,7 +24,6 @@ word_of Serial = codes "serial"
 word_of Pairs = codes "pairs"
 word_of Circle = codes "circle"
 word_of Overlap = codes "overlap"
-word_of Many = codes "many"
 
 abbrev pub image_line : (block : ℕ) → LogFault → List ℕ
 image_line block fault = codes "image: block " ++ decimal block ++ codes ": " ++ (word_of fault ++ codes "\n")

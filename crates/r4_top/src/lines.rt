@@ -84,6 +84,5 @@ fn word(fault: LogFault) -> &'static str
         LogFault::Pairs => "pairs",
         LogFault::Circle => "circle",
         LogFault::Overlap => "overlap",
-        LogFault::Many => "many",
     }
 }
