@@ -15,7 +15,7 @@ use Rattle.r4_outside.proofs.Moments.{left_before, reads_of, only_one, has_now}
 use Rattle.r4_replay.specs.declared.txn.Txn.{Txn as TxnHere}
 use Rattle.r4_replay.specs.Txns.{txn_shown, chain_shown}
 use Rattle.r4_replay.specs.Replay.{footer_naming, footer_after}
-use Rattle.r4_replay.specs.Placing.{LeftByPut, IsPlaced}
+use Rattle.r4_replay.specs.Placing.{LeftByPut}
 
 -- Some of the chain is put in place, and the rest is the log; `footer` is what the footer's block holds, where it began so.
 pub record IsUnderWay (old : State) (chain : List Txn) (began : List ℕ) (now : State) (rest done : List Txn) (footer : List ℕ) : Type 0 where
@@ -131,14 +131,6 @@ module _ (old mid new : State) (chain : List Txn) (began : List ℕ) (newer : Li
             settles_back old.blocks (put_pairs (chain_pairs chain) old.seen) (put_pairs (chain_pairs (newer ++ t ∷ [])) mid.seen) image (u.settled has)
             (one_image old.blocks mid.seen newer t next (u.log has) (long_mid tells) more named image (left.each m image lo hi may));
       })
-
--- the end
-pub all_placed : (old now : State) (chain : List Txn) (began footer : List ℕ) → IsUnderWay old chain began now [] chain footer → HasLog old.blocks old.seen chain → began ≡ block_at old.seen 20 → IsPlaced old chain now
-all_placed old now chain began footer u has is = record {
-  settled = u.settled has;
-  footer = u.holds has is ∙ u.spelled ∙ ap (λ (l : List ℕ). footer_after chain l) is;
-  equal = (u.log has).txns;
-}
 
 pub begins : (old : State) (chain : List Txn) (began : List ℕ) → IsUnderWay old chain began old chain [] began
 begins old chain began = record { log = λ has. has; settled = λ has. record { blocks = refl; others = λ b out. refl }; spelled = refl; holds = λ has is. sym is }

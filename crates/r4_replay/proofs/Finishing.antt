@@ -1,21 +1,15 @@
 -- The whole replay, from reading and putting in place.
-use Rattle.std.proofs.Common.{◌≡◌, ℕ, List, length, map, sym, ◌∙◌, ap, subst, arith, Result, Err}
+use Rattle.std.proofs.Common.{◌≡◌, ℕ, List, length, map, sym, ◌∙◌, ap, subst, arith}
 use Rattle.std.proofs.lemmas.List.{length-map, length-reverse}
 use Rattle.r4_base.specs.Image.{Image, block_at, sector, put_pairs, AgreesOutside}
-use Rattle.r4_base.specs.Log.{header_of, footer_of}
-use Rattle.r4_base.specs.Chain.{Txn, HasLog, SettlesTo, is_footer, chain_pairs, committed, flushed}
-use Rattle.r4_base.specs.Refusal.{Refusal, IsRefused}
+use Rattle.r4_base.specs.Chain.{Txn, HasLog, SettlesTo, is_footer, chain_pairs}
 use Rattle.r4_base.proofs.Logs.{one_log, not_refused}
-use Rattle.r4_outside.specs.Device.{State, Goes, IsQuiet, LeavesOnly, TellsReads}
+use Rattle.r4_outside.specs.Device.{State, Goes, IsQuiet, LeavesOnly}
 use Rattle.r4_replay.specs.declared.txn.Txn.{Txn as TxnHere}
 use Rattle.r4_replay.specs.Txns.{txn_shown, chain_shown}
-use Rattle.r4_replay.specs.declared.fault.Stop.{Stop}
-use Rattle.r4_replay.specs.declared.fault.Stop.TheVariants.{Failed, Memory, Log}
-use Rattle.r4_replay.specs.Chains.{ReadsLog}
 use Rattle.r4_replay.specs.Reading.{Idles}
 use Rattle.r4_replay.specs.Placing.{IsPlaced}
-use Rattle.r4_replay.specs.Replay.{SettlesAlike, SettlesAlways, PutInPlace, Untouched, Works, footer_after}
-use Rattle.r4_replay.proofs.Found.{idles_both}
+use Rattle.r4_replay.specs.Replay.{SettlesAlike, SettlesAlways, PutInPlace, Untouched, footer_after}
 
 -- a device stays quiet while it is only read
 pub quiet_idle : (old mid : State) → Idles old mid → IsQuiet old → IsQuiet mid
@@ -59,29 +53,6 @@ always_after old mid new idles quiet moment =
           (subst (λ (i : Image). SettlesAlike mid.blocks i image) idles.seen (left.each m image (let now = idles.clock in omega (arith, lo, now)) hi may));
     }
 
-module _ (s0 s1 s2 : State) (i1 : Idles s0 s1) (i2 : Idles s1 s2) (buffer footer : List ℕ) (read_header : TellsReads s0 → buffer ≡ block_at s0.seen 19) (read_footer : TellsReads s1 → footer ≡ block_at s1.seen 20) where
-  i02 : Idles s0 s2
-  i02 = idles_both s0 s1 s2 i1 i2
-
-  tells2 : TellsReads s0 → TellsReads s2
-  tells2 tells = i02.goes.reads.1 tells
-
-  header_is : (header : ℕ) → header ≡ (header_of buffer).last → TellsReads s0 → header ≡ committed s2.seen
-  header_is header is tells = is ∙ ap (λ (b : List ℕ). (header_of b).last) (read_header tells) ∙ ap (λ (i : Image). committed i) (sym i02.seen)
-
-  pub footer_block : TellsReads s0 → footer ≡ block_at s2.seen 20
-  footer_block tells = read_footer (i1.goes.reads.1 tells) ∙ ap (λ (i : Image). block_at i 20) (sym i2.seen)
-
-  footer_is : (last : ℕ) → last ≡ (footer_of footer).last → TellsReads s0 → last ≡ flushed s2.seen
-  footer_is last is tells = is ∙ ap (λ (b : List ℕ). (footer_of b).last) (footer_block tells)
-
-  module _ (header last : ℕ) (h : header ≡ (header_of buffer).last) (f : last ≡ (footer_of footer).last) where
-    pub log_refused : (r : Refusal) → (TellsReads s2 → header ≡ committed s2.seen → last ≡ flushed s2.seen → IsRefused s2.blocks s2.seen r) → TellsReads s0 → IsRefused s0.blocks s0.seen r
-    log_refused r found tells = subst (λ (i : Image). IsRefused s0.blocks i r) i02.seen (subst (λ (n : ℕ). IsRefused n s2.seen r) i02.goes.blocks (found (tells2 tells) (header_is header h tells) (footer_is last f tells)))
-
-    pub log_read : (chain : List Txn) → (TellsReads s2 → header ≡ committed s2.seen → last ≡ flushed s2.seen → HasLog s2.blocks s2.seen chain) → TellsReads s0 → HasLog s0.blocks s0.seen chain
-    log_read chain found tells = subst (λ (i : Image). HasLog s0.blocks i chain) i02.seen (subst (λ (n : ℕ). HasLog n s2.seen chain) i02.goes.blocks (found (tells2 tells) (header_is header h tells) (footer_is last f tells)))
-
 pub length_chain : (txns : List TxnHere) → length (chain_shown txns) ≡ length txns
 length_chain txns = length-reverse (map txn_shown txns) ∙ length-map txns txn_shown
 
@@ -100,16 +71,6 @@ put_whole s0 s3 s4 txns count footer idles is has holds placed =
       footer = p.footer ∙ ap (λ (i : Image). footer_after chain (block_at i 20)) idles.seen;
       equal = p.equal;
     }
-
-pub idles_untouched : (old new : State) → Idles old new → Untouched old new
-idles_untouched old new idles = record { seen = idles.seen; clock = idles.clock }
-
--- where reading the log stopped
-pub works_stopped : (s0 s2 s3 : State) (header last : ℕ) → Idles s0 s2 → Idles s2 s3 → ((r : Refusal) → (TellsReads s2 → header ≡ committed s2.seen → last ≡ flushed s2.seen → IsRefused s2.blocks s2.seen r) → TellsReads s0 → IsRefused s0.blocks s0.seen r)
-    → (e : Stop) (result : Result ℕ Stop) → ReadsLog header last s2 (Err e) s3 → result ≡ Err e → Works s0 result s3
-works_stopped s0 s2 s3 header last i j back (Log b f) result reads is = subst (λ (x : Result ℕ Stop). Works s0 x s3) (sym is) (idles_untouched s0 s3 (idles_both s0 s2 s3 i j), back (record { block = b; fault = f }) reads)
-works_stopped s0 s2 s3 header last i j back Failed result reads is = subst (λ (x : Result ℕ Stop). Works s0 x s3) (sym is) (let before = i.goes.faults in omega (arith, reads, before))
-works_stopped s0 s2 s3 header last i j back Memory result reads is = subst (λ (x : Result ℕ Stop). Works s0 x s3) (sym is) (idles_untouched s0 s3 (idles_both s0 s2 s3 i j))
 
 pub untouched_after : (s0 s3 s4 : State) → Idles s0 s3 → Untouched s3 s4 → Untouched s0 s4
 untouched_after s0 s3 s4 idles u = record { seen = u.seen ∙ idles.seen; clock = u.clock ∙ idles.clock }

@@ -6,3 +6,4 @@ pub mod WholeLog
 pub mod Placing
 pub mod Chaining
 pub mod Finishing
+pub mod Homes

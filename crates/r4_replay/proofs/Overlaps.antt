@@ -35,9 +35,6 @@ has_one old new k u b =
       (λ h. u.0 b ∙ both.1 (⊎_elim inr (λ is. inl ((at_is k b).1 is)) h)),
     )
 
-pub adds_none : (set : BTreeSet ℕ) → Adds set [] set
-adds_none set = record { each = λ b. (inl, (λ h. ⊎_elim (λ x. x) (λ c. absurd (no_member b c)) h)) }
-
 pub adds_more : (start now new : BTreeSet ℕ) (xs : List ℕ) (i k d : ℕ) → i < length xs → get_or xs i d ≡ k → Adds start (take i xs) now → Updates nat_cmp now new k true → Adds start (take (i + 1) xs) new
 adds_more start now new xs i k d lt is so_far u = record {
   each = λ b.
@@ -234,9 +231,6 @@ module _ (set : BTreeSet ℕ) (xs : List ℕ) (k : ℕ) (before : Option ℕ) wh
     (λ b some. let old = below b some in omega (arith, old, e)),
     λ b c h. ⊎_elim (λ was. let old = least b was h in omega (arith, old, e)) (λ same. omega (arith, e, same)) (split b c),
   )
-
-pub kept_none : (set : BTreeSet ℕ) → set.keys ≡ [] → HasKeptOf [] set
-kept_none set e = record { each = λ b. ((λ h. (let none : false ≡ true = rw e at h in absurd (cc))), (λ h. absurd h)) }
 
 pub more_taken : {X : Type 0} {Y : Type 0} (f : X → Y) (xs : List X) (i : ℕ) (x : X) → i < length xs → x ≡ get_or xs i x → take (i + 1) (map f xs) ≡ take i (map f xs) ++ f x ∷ []
 more_taken {X} {Y} f xs i x lt is = take_more (map f xs) i (f x) (omega (arith, lt, length-map xs f)) ∙ ap (λ (y : Y). take i (map f xs) ++ y ∷ []) (get_or-map f xs i x ∙ ap f (sym is))

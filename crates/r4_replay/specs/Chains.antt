@@ -22,3 +22,10 @@ ReadsLog header footer old (Ok txns) new = TellsReads old → header ≡ committ
 ReadsLog header footer old (Err (Log b f)) new = TellsReads old → header ≡ committed old.seen → footer ≡ flushed old.seen → IsRefused old.blocks old.seen (record { block = b; fault = f })
 ReadsLog header footer old (Err Failed) new = Rose old.faults new.faults
 ReadsLog header footer old (Err Memory) new = Unit {0}
+
+-- The whole log: its transactions, or the refusal.
+abbrev pub ReadsWhole : State → Result (Vec Txn) Stop → State → Type 0
+ReadsWhole old (Ok txns) new = TellsReads old → HasLog old.blocks old.seen (chain_of txns)
+ReadsWhole old (Err (Log b f)) new = TellsReads old → IsRefused old.blocks old.seen (record { block = b; fault = f })
+ReadsWhole old (Err Failed) new = Rose old.faults new.faults
+ReadsWhole old (Err Memory) new = Unit {0}

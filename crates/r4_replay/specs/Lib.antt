@@ -5,3 +5,4 @@ pub mod Txns
 pub mod Overlaps
 pub mod Chains
 pub mod Placing
+pub mod Homes

@@ -50,12 +50,21 @@ Works old (Err (Fault block fault)) new = Untouched old new × (TellsReads old �
 Works old (Err Failed) new = Rose old.faults new.faults
 Works old (Err NoMemory) new = Untouched old new
 
+-- Why nothing was done, or not everything.
+abbrev pub Faulted : State → ReplayFault → State → Type 0
+Faulted old (Log block fault) new = IsLawful old.blocks × Untouched old new × (TellsReads old → RefusedAs old.blocks old.seen (record { block = block.0; fault = fault }))
+Faulted old (Device clock faults) new = Rose old.faults new.faults × (clock ≡ new.clock) × (faults ≡ new.faults)
+Faulted old (Size blocks) new = (blocks ≡ old.blocks) × ((blocks < 64) ⊎ (1048576 < blocks)) × Untouched old new
+Faulted old Memory new = IsLawful old.blocks × Untouched old new
+
+-- The number of blocks, where a volume may have as many.
+abbrev pub CountsBlocks : State → Result ℕ ReplayFault → State → Type 0
+CountsBlocks old (Ok n) new = (n ≡ old.blocks) × IsLawful old.blocks
+CountsBlocks old (Err fault) new = Faulted old fault new
+
 abbrev pub Replayed : State → Result ℕ ReplayFault → State → Type 0
 Replayed old (Ok count) new = IsLawful old.blocks × (count ≡ 0 → Untouched old new) × (TellsReads old → PutInPlace old count new)
-Replayed old (Err (Log block fault)) new = IsLawful old.blocks × Untouched old new × (TellsReads old → RefusedAs old.blocks old.seen (record { block = block.0; fault = fault }))
-Replayed old (Err (Device clock faults)) new = Rose old.faults new.faults × (clock ≡ new.clock) × (faults ≡ new.faults)
-Replayed old (Err (Size blocks)) new = (blocks ≡ old.blocks) × ((blocks < 64) ⊎ (1048576 < blocks)) × Untouched old new
-Replayed old (Err Memory) new = IsLawful old.blocks × Untouched old new
+Replayed old (Err fault) new = Faulted old fault new
 
 abbrev pub IsDeviceFault : State → ReplayFault → Type 0
 IsDeviceFault d fault = fault ≡ Device d.clock d.faults

@@ -1,22 +1,52 @@
 //! The whole log: all heads, then each transaction, and no block that is both put in place and kept.
 
-ghost use Rattle.std.specs.Prelude.{◌≡◌, IfOk, All};
+ghost use Rattle.std.specs.Prelude.{◌≡◌, ◌<◌, IfOk, OnOk, All};
 ghost use Rattle.r4_base.specs.Refusal.{txns_at};
 ghost use Rattle.r4_replay.specs.Reading.{Idles, Finds};
 ghost use Rattle.r4_replay.specs.Heads.{heads_shown};
-ghost use Rattle.r4_replay.specs.Chains.{chain_of, InRangeAll, ReadsLog};
+ghost use Rattle.r4_base.specs.Image.{block_at};
+ghost use Rattle.r4_outside.specs.Device.{TellsReads};
+ghost use Rattle.r4_replay.specs.Chains.{chain_of, InRangeAll, ReadsLog, ReadsWhole};
 
 use crate::fault::Stop;
 use crate::heads::{Head, read_heads};
 use crate::overlap::smallest_overlap;
 use crate::txn::{Txn, read_txn};
-use r4_base::{Block, LogFault};
+use r4_base::{Block, BlockNo, LogFault};
+use r4_logfmt::{read_footer, read_header};
 use r4_outside::Device;
 use std::alloc::Global;
 
-/// The transactions of the log, the oldest first. `header` and `footer` are the numbers of the journal header and
-/// footer.
-pub fn read_chain<D: Device>(
+/// The journal header's block.
+const HEADER: BlockNo = BlockNo(19);
+
+/// The journal footer's block.
+pub const FOOTER: BlockNo = BlockNo(20);
+
+/// The transactions of the log, the oldest first. `footer` holds the footer's block then.
+pub fn read_whole<D: Device>(
+    alloc: Global,
+    dev: &mut D,
+    blocks: u64,
+    footer: &mut Block,
+    buffer: &mut Block,
+) -> Result<Vec<Txn>, Stop>
+    requires blocks { blocks ≡ (D.state dev.old).blocks }
+    requires more { 20 < blocks }
+    ensures idles { Idles (D.state dev.old) (D.state dev.new) }
+    ensures reads { ReadsWhole (D.state dev.old) result (D.state dev.new) }
+    ensures footer { OnOk result (TellsReads (D.state dev.old) → footer.new ≡ block_at (D.state dev.old).seen 20) }
+    ensures in_range { IfOk result (λ txns. InRangeAll blocks txns.items) }
+{
+    dev.read(HEADER, buffer)?;
+    let header = read_header(buffer.bytes()).last;
+    dev.read(FOOTER, footer)?;
+    let flushed = read_footer(footer.bytes()).last;
+    read_chain(alloc, dev, blocks, header, flushed, buffer)
+}
+
+// The transactions between the numbers of the journal header and footer, the oldest first.
+fn read_chain<D: Device>(
     alloc: Global,
     dev: &mut D,
     blocks: u64,

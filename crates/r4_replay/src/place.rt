@@ -11,13 +11,11 @@ ghost use Rattle.r4_replay.specs.Chains.{InRangeAll};
 ghost use Rattle.r4_replay.specs.Replay.{Untouched, footer_naming};
 ghost use Rattle.r4_replay.specs.Placing.{IsOriginalOf, LeftByPut, IsPlaced};
 
+use crate::chain::FOOTER;
 use crate::txn::Txn;
 use r4_base::{Block, BlockNo, Footer};
 use r4_logfmt::write_footer;
 use r4_outside::{Device, Failed};
-
-/// The journal footer's block.
-pub const FOOTER: BlockNo = BlockNo(20);
 
 /// Puts transactions in place, the oldest first, and lets the footer's block name the newest. `footer` holds what that
 /// block holds.

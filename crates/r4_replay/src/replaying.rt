@@ -2,19 +2,15 @@
 
 ghost use Rattle.std.specs.Prelude.{◌≡◌, ◌≤◌, OnOk};
 ghost use Rattle.r4_outside.specs.Device.{Goes, IsQuiet};
-ghost use Rattle.r4_replay.specs.Replay.{Replayed, IsDeviceFault, SettlesAlways, Works};
-ghost use Rattle.r4_replay.specs.Reading.{fault_by};
+ghost use Rattle.r4_replay.specs.Replay.{Replayed, SettlesAlways, Works};
 
-use crate::chain::read_chain;
+use crate::chain::read_whole;
 use crate::fault::{ReplayFault, Stop};
-use crate::place::{FOOTER, put_txns};
-use r4_base::{Block, BlockNo};
-use r4_logfmt::{read_footer, read_header};
+use crate::place::put_txns;
+use crate::size::{fault_of, lawful_blocks};
+use r4_base::Block;
 use r4_outside::Device;
 use std::alloc::Global;
-
-/// The journal header's block.
-const HEADER: BlockNo = BlockNo(19);
 
 /// Puts the transactions of the log in place, the oldest first, and counts them. Nothing is written before the whole
 /// log was looked at (docs/layout.md, "Replay").
@@ -26,12 +22,7 @@ pub fn replay<D: Device>(alloc: Global, dev: &mut D) -> Result<u64, ReplayFault>
     ensures any_moment { IsQuiet (D.state dev.old) → SettlesAlways (D.state dev.old) (D.state dev.new) }
     ensures quiet { IsQuiet (D.state dev.old) → OnOk result (IsQuiet (D.state dev.new)) }
 {
-    let Ok(blocks) = dev.blocks() else {
-        return Err(device_fault(dev));
-    };
-    if blocks < 64 || blocks > 1_048_576 {
-        return Err(ReplayFault::Size { blocks });
-    }
+    let blocks = lawful_blocks(dev)?;
     match read_and_put(alloc, dev, blocks) {
         Ok(count) => Ok(count),
         Err(stop) => Err(fault_of(dev, stop)),
@@ -49,33 +40,7 @@ fn read_and_put<D: Device>(alloc: Global, dev: &mut D, blocks: u64) -> Result<u6
 {
     let mut buffer = Block::zeroed(alloc)?;
     let mut footer = Block::zeroed(alloc)?;
-    dev.read(HEADER, &mut buffer)?;
-    let header = read_header(buffer.bytes()).last;
-    dev.read(FOOTER, &mut footer)?;
-    let flushed = read_footer(footer.bytes()).last;
-    let txns = read_chain(alloc, dev, blocks, header, flushed, &mut buffer)?;
+    let txns = read_whole(alloc, dev, blocks, &mut footer, &mut buffer)?;
     put_txns(dev, &txns, &mut footer, &mut buffer)?;
     Ok(txns.len() as u64)
-}
-
-fn fault_of<D: Device>(dev: &D, stop: Stop) -> ReplayFault
-    ensures { result ≡ fault_by (D.state dev.now).clock (D.state dev.now).faults stop }
-{
-    match stop {
-        Stop::Failed => device_fault(dev),
-        Stop::Memory => ReplayFault::Memory,
-        Stop::Log { block, fault } => ReplayFault::Log {
-            block: BlockNo(block),
-            fault,
-        },
-    }
-}
-
-fn device_fault<D: Device>(dev: &D) -> ReplayFault
-    ensures { IsDeviceFault (D.state dev.now) result }
-{
-    ReplayFault::Device {
-        clock: dev.clock(),
-        faults: dev.faults(),
-    }
 }

@@ -1,0 +1,56 @@
+-- Where the content of each block stands, one pair after the other.
+use Rattle.std.proofs.Common.{◌≡◌, inl, inr, ℕ, ◌+◌, ◌<◌, ◌==◌, Bool, true, false, cond, List, [], ◌∷◌, ◌++◌, length, take, get_or, Option, Some, refl, sym, ap, ◌∙◌, arith}
+use Rattle.std.specs.Ordering.{nat_cmp}
+use Rattle.std.specs.Option.{unwrap_or}
+use Rattle.std.specs.BTreeMap.{BTreeMap, get, is_at, Updates}
+use Rattle.std.proofs.lemmas.Bool.{cases_eq, cases_lt}
+use Rattle.std.proofs.lemmas.Bool.Decides.{nat_tests}
+use Rattle.std.proofs.lemmas.List.{take_more}
+use Rattle.r4_base.specs.Chain.{Txn, chain_pairs, home, home_from}
+use Rattle.r4_base.specs.Chain.{HasLog}
+use Rattle.r4_base.specs.Image.{block_at}
+use Rattle.r4_base.proofs.Frame.{settled_at}
+use Rattle.r4_outside.specs.Device.{State, TellsReads}
+use Rattle.r4_replay.specs.declared.txn.Txn.{Txn as TxnHere}
+use Rattle.r4_replay.specs.declared.log.Log.{Log}
+use Rattle.r4_replay.specs.Txns.{chain_shown}
+use Rattle.r4_replay.specs.Homes.{home_in, TellsHomes}
+use Rattle.r4_replay.proofs.Finishing.{length_chain}
+
+pub home_both : (ps qs : List (ℕ × ℕ)) (b so_far : ℕ) → home_from (ps ++ qs) b so_far ≡ home_from qs b (home_from ps b so_far)
+home_both [] qs b so_far = refl
+home_both (p ∷ ps) qs b so_far = home_both ps qs b _
+
+at_is : (k b : ℕ) → is_at (nat_cmp k) b ≡ (b == k)
+at_is k b = elim (cases_eq b k) [
+  | inl is ↦ grind (arith, nat_tests)
+  | inr other ↦ elim (cases_lt k b) [ inl lt ↦ grind (arith, nat_tests) | inr ge ↦ grind (arith, nat_tests) ]
+]
+
+some_or : (t : Bool) (v b : ℕ) (o : Option ℕ) → unwrap_or (cond t (Some v) o) b ≡ cond t v (unwrap_or o b)
+some_or true v b o = refl
+some_or false v b o = refl
+
+pub home_put : (now new : BTreeMap ℕ ℕ) (k v b : ℕ) → Updates nat_cmp now new k (Some v) → home_in new b ≡ home_from ((k, v) ∷ []) b (home_in now b)
+home_put now new k v b u = ap (λ (o : Option ℕ). unwrap_or o b) (u.0 b) ∙ some_or (is_at (nat_cmp k) b) v b (get nat_cmp now b) ∙ ap (λ (t : Bool). cond t v (home_in now b)) (at_is k b)
+
+pub homes_more : (start now new : BTreeMap ℕ ℕ) (ps : List (ℕ × ℕ)) (i : ℕ) → i < length ps → ((b : ℕ) → home_in now b ≡ home_from (take i ps) b (home_in start b))
+    → Updates nat_cmp now new (get_or ps i (0, 0)).0 (Some (get_or ps i (0, 0)).1) → (b : ℕ) → home_in new b ≡ home_from (take (i + 1) ps) b (home_in start b)
+homes_more start now new ps i lt so_far u b =
+    let p : ℕ × ℕ = get_or ps i (0, 0) in
+    home_put now new p.0 p.1 b u ∙ ap (λ (h : ℕ). home_from (p ∷ []) b h) (so_far b) ∙ sym (home_both (take i ps) (p ∷ []) b (home_in start b))
+    ∙ ap (λ (l : List (ℕ × ℕ)). home_from l b (home_in start b)) (sym (take_more ps i (0, 0) lt))
+
+-- the homes of one transaction more
+pub home_later : (chain older : List Txn) (t : Txn) (old new : BTreeMap ℕ ℕ) (b : ℕ) → chain ≡ t ∷ older → home_in old b ≡ home (chain_pairs older) b → home_in new b ≡ home_from t.pairs b (home_in old b) → home_in new b ≡ home (chain_pairs chain) b
+home_later chain older t old new b is so_far more = more ∙ ap (λ (h : ℕ). home_from t.pairs b h) so_far ∙ sym (home_both (chain_pairs older) t.pairs b b) ∙ ap (λ (l : List Txn). home (chain_pairs l) b) (sym is)
+
+pub tells_homes : (old : State) (txns : List TxnHere) (log : Log) → TellsReads old → HasLog old.blocks old.seen (chain_shown txns) → log.count ≡ length txns
+    → ((b : ℕ) → home_in log.homes b ≡ home (chain_pairs (chain_shown txns)) b) → TellsHomes old log
+tells_homes old txns log tells has count homes = record {
+  chain = chain_shown txns;
+  has = has;
+  count = count ∙ sym (length_chain txns);
+  homes = homes;
+  settled = λ b lt. settled_at old.seen old.blocks (chain_shown txns) b has (omega (arith, lt, tells.blocks)) ∙ ap (λ (h : ℕ). block_at old.seen h) (sym (homes b));
+}
