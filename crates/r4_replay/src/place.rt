@@ -65,8 +65,7 @@ fn put_txn<D: Device>(
     copy_pairs(dev, &txn.pairs, buffer)?;
     dev.sync()?;
     dev.write(FOOTER, footer)?;
-    dev.sync()?;
-    Ok(())
+    dev.sync()
 }
 
 // Lets the footer name a transaction's head, with the head's three numbers.

@@ -20,12 +20,6 @@ returns-in_err-write-clause-any_moment g c = λ quiet. (footed _ c.args.txn.now.
     (c.in_ok-copy_pairs.ensures.copied (reads_of (g.D.Device.state c.args.dev.now) quiet.tells) ∙ ap (λ (l : List (ℕ × ℕ)). put_pairs l (g.D.Device.state c.args.dev.now).seen) c.deref.ensures.value)
     _ _ c.in_ok-sync.ensures _ _ c.write.ensures).so_far
 
-pub returns-in_err-sync-2-clause-any_moment : goal.returns-in_err-sync-2-clause-any_moment
-returns-in_err-sync-2-clause-any_moment g c = λ quiet. (footed_synced _ c.args.txn.now.pairs.items c.name_in.new.footer c.requires.more quiet _ c.copy_pairs.ensures.goes
-    (subst (λ (l : List (ℕ × ℕ)). Spares (IsOriginalOf l) (g.D.Device.state c.args.dev.now) (g.D.Device.state c.copy_pairs.new.dev)) c.deref.ensures.value c.copy_pairs.ensures.spares)
-    (c.in_ok-copy_pairs.ensures.copied (reads_of (g.D.Device.state c.args.dev.now) quiet.tells) ∙ ap (λ (l : List (ℕ × ℕ)). put_pairs l (g.D.Device.state c.args.dev.now).seen) c.deref.ensures.value)
-    _ _ c.in_ok-sync.ensures _ _ _ _ c.write.ensures c.sync-2.ensures).so_far
-
 pub returns-clause-any_moment : goal.returns-clause-any_moment
 returns-clause-any_moment g c = λ quiet. (footed_synced _ c.args.txn.now.pairs.items c.name_in.new.footer c.requires.more quiet _ c.copy_pairs.ensures.goes
     (subst (λ (l : List (ℕ × ℕ)). Spares (IsOriginalOf l) (g.D.Device.state c.args.dev.now) (g.D.Device.state c.copy_pairs.new.dev)) c.deref.ensures.value c.copy_pairs.ensures.spares)
