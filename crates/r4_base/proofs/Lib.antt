@@ -7,3 +7,4 @@ pub mod Again
 pub mod Superblocks
 pub mod Bits
 pub mod Bitmaps
+pub mod Stats

@@ -6,3 +6,4 @@ pub mod Chain
 pub mod Refusal
 pub mod Bitmap
 pub mod Layout
+pub mod Stat

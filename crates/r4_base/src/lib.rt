@@ -3,6 +3,7 @@
 
 mod block;
 mod bytes;
+mod items;
 mod journal;
 mod laws;
 mod superblock;
@@ -10,6 +11,7 @@ mod things;
 
 pub use block::Block;
 pub use bytes::{blank, get16, get32, get64, move_bytes, put_bytes, put16, put32, put64};
+pub use items::{Attr, ExtentFault, StatFault, Unit};
 pub use journal::{Footer, Header, LogFault, TxHead};
 pub use laws::{log_law, number_law};
 pub use std::alloc::AllocError as Memory;
