@@ -7,3 +7,4 @@ pub mod Refusal
 pub mod Bitmap
 pub mod Layout
 pub mod Stat
+pub mod Extents

@@ -1,0 +1,65 @@
+//! An extent, read where it stands (docs/layout.md, "Items").
+
+ghost use Rattle.std.specs.Prelude.{◌≡◌, ◌<◌, ◌≤◌, length, slice_get, None, Some, IfOk, IfErr};
+ghost use Rattle.r4_base.specs.Extents.{extent_fault, memory_fault};
+
+use crate::fault::fault_of;
+use crate::units::{UNIT, unit_in};
+use r4_base::{ExtentFault, Unit};
+
+/// An extent whose units are read from the body that it lends, when they are asked for. It has at least one unit
+/// (docs/layout.md, "Items").
+#[derive(Drop)]
+pub struct ExtentView<'a> {
+    body: &'a [u8],
+    ghost short: { length body.now ≤ 4096 },
+}
+
+impl<'a> ExtentView<'a> {
+    ghost use Rattle.r4_twig.specs.View.{view_body, view_units};
+
+    /// Reads a body of at most 4096 bytes as an extent of a volume of `blocks` blocks. The faults are looked for in this
+    /// order: `Length`, where the body is empty or its length no multiple of 16; then for each unit, by its place from 0
+    /// on, `Start`, where the start is 1 to 21; `Width`, where the width is 0; `Range`, where a run goes past the block
+    /// count or holds a fixed block (docs/layout.md, "Items").
+    pub fn read(body: &'a [u8], blocks: u64) -> Result<ExtentView<'a>, ExtentFault>
+        requires { length body.now ≤ 4096 }
+        ensures ok { IfOk result (λ v. extent_fault blocks body.now ≡ None) }
+        ensures lent { IfOk result (λ v. view_body v ≡ body.entry) }
+        ensures err { IfErr result (λ e. extent_fault blocks body.now ≡ Some e) }
+    {
+        match fault_of(body, blocks, false) {
+            Some(fault) => Err(fault),
+            None => Ok(ExtentView { body }),
+        }
+    }
+
+    /// Reads a body of at most 4096 bytes as an extent in memory: as `read`, but a unit with a start of at least 2^63 and a
+    /// width of 1, a block that is not placed yet, is accepted too (docs/layout.md, "Items").
+    pub fn in_memory(body: &'a [u8], blocks: u64) -> Result<ExtentView<'a>, ExtentFault>
+        requires { length body.now ≤ 4096 }
+        ensures ok { IfOk result (λ v. memory_fault blocks body.now ≡ None) }
+        ensures lent { IfOk result (λ v. view_body v ≡ body.entry) }
+        ensures err { IfErr result (λ e. memory_fault blocks body.now ≡ Some e) }
+    {
+        match fault_of(body, blocks, true) {
+            Some(fault) => Err(fault),
+            None => Ok(ExtentView { body }),
+        }
+    }
+
+    /// How many units the extent has: 1 to 256.
+    pub fn len(&self) -> u16
+        ensures { result ≡ length (view_units self.now) }
+    {
+        (self.body.len() / UNIT) as u16
+    }
+
+    /// The unit at place `i`, counted from 0 (docs/layout.md, "Items").
+    pub fn unit(&self, i: u16) -> Unit
+        requires { i < length (view_units self.now) }
+        ensures { slice_get (view_units self.now) i ≡ Some result }
+    {
+        unit_in(self.body, usize::from(i))
+    }
+}
