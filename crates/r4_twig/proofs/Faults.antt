@@ -1,5 +1,5 @@
 -- What is wrong with units: what a run holds, how a loop over units goes on, and what holds where nothing is wrong.
-use Rattle.std.proofs.Common.{◌≡◌, ◌≢◌, ◌⊎◌, inl, inr, ℕ, zero, suc, ◌+◌, ◌-◌, ◌/◌, ◌%◌, ◌^◌, ◌<◌, ◌≤◌, Bool, true, false, not, ◌&&◌, ◌||◌, cond, eqb, ltb, leb, List, [], ◌∷◌, length, Some, None, refl, ap, ◌∙◌, arith}
+use Rattle.std.proofs.Common.{◌≡◌, ◌≢◌, ◌⊎◌, inl, inr, ℕ, zero, suc, ◌+◌, ◌-◌, ◌/◌, ◌%◌, ◌^◌, ◌<◌, ◌≤◌, Bool, true, false, not, ◌&&◌, ◌||◌, cond, eqb, ltb, leb, List, [], ◌∷◌, length, set, Some, None, refl, ap, sym, subst, ◌∙◌, arith}
 use Rattle.std.specs.Prelude.{Option}
 use Rattle.std.specs.Option.{option_or}
 use Rattle.std.proofs.lemmas.Bool.{eq-eqb, ne_eqb, lt-ltb, le-ltb, cases_eq, eqb-true, eqb-false, leb-true, ltb-false, le-leb}
@@ -181,3 +181,42 @@ unfolding body_fault
 body_none in_memory blocks b h =
     let ne : length b ≢ 0 = λ e. omega arith in
     rw (ne_eqb (length b) 0 ne, eq-eqb (length b % 16) 0 h.1) (units_none in_memory blocks 0 (units_of b) h.2)
+
+-- ---- other volumes, and a unit that is replaced
+
+lawful_larger : (in_memory : Bool) (blocks more : ℕ) (u : ExtentUnit) → blocks ≤ more → IsLawfulUnit in_memory blocks u → IsLawfulUnit true more u
+lawful_larger in_memory blocks more u le (inl h) = inl (refl, h.1, h.2)
+lawful_larger in_memory blocks more u le (inr (inl h)) = inr (inl h)
+lawful_larger in_memory blocks more u le (inr (inr h)) =
+    let high : 22 ≤ u.start = h.start in
+    let within : u.start + u.width ≤ blocks = h.within in
+    inr (inr (record { start = high; width = h.width; within = omega arith; spares_fixed = held_by more u.start u.width high (omega arith) ∙ sym (held_by blocks u.start u.width high within) ∙ h.spares_fixed }))
+
+all_larger : (in_memory : Bool) (blocks more : ℕ) (us : List ExtentUnit) → blocks ≤ more → AreLawfulUnits in_memory blocks us → AreLawfulUnits true more us
+all_larger in_memory blocks more [] le h = tt
+all_larger in_memory blocks more (u ∷ us) le h = (lawful_larger in_memory blocks more u le h.0, all_larger in_memory blocks more us le h.1)
+
+pub body_larger : (in_memory : Bool) (blocks more : ℕ) (b : List ℕ) → blocks ≤ more → body_fault in_memory blocks b ≡ None → body_fault true more b ≡ None
+body_larger in_memory blocks more b le e =
+    let h = body_lawful in_memory blocks b e in
+    body_none true more b (h.0, h.1, all_larger in_memory blocks more (units_of b) le h.2)
+
+lawful-set : (in_memory : Bool) (blocks : ℕ) (us : List ExtentUnit) (i : ℕ) (u : ExtentUnit) → IsLawfulUnit in_memory blocks u → AreLawfulUnits in_memory blocks us → AreLawfulUnits in_memory blocks (set us i u)
+lawful-set in_memory blocks [] i u l h = tt
+lawful-set in_memory blocks (v ∷ us) zero u l h = (l, h.1)
+lawful-set in_memory blocks (v ∷ us) (suc i) u l h = (h.0, lawful-set in_memory blocks us i u l h.1)
+
+pub body_replaced : (in_memory : Bool) (blocks : ℕ) (b new : List ℕ) (i : ℕ) (u : ExtentUnit) → length new ≡ length b → units_of new ≡ set (units_of b) i u → IsLawfulUnit in_memory blocks u → body_fault in_memory blocks b ≡ None → body_fault in_memory blocks new ≡ None
+body_replaced in_memory blocks b new i u len is l e =
+    let h = body_lawful in_memory blocks b e in
+    let some : 0 < length new = rw len h.0 in
+    let whole : length new % 16 ≡ 0 = rw len h.1 in
+    body_none in_memory blocks new (some, whole, subst (AreLawfulUnits in_memory blocks) (sym is) (lawful-set in_memory blocks (units_of b) i u l h.2))
+
+-- an extent has a unit at least
+pub has_unit : (in_memory : Bool) (blocks : ℕ) (b : List ℕ) → body_fault in_memory blocks b ≡ None → 16 ≤ length b
+has_unit in_memory blocks b e =
+    let h = body_lawful in_memory blocks b e in
+    let some = h.0 in
+    let whole = h.1 in
+    omega arith

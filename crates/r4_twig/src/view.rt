@@ -1,7 +1,7 @@
 //! An extent, read where it stands (docs/layout.md, "Items").
 
 ghost use Rattle.std.specs.Prelude.{◌≡◌, ◌<◌, ◌≤◌, length, slice_get, None, Some, IfOk, IfErr};
-ghost use Rattle.r4_base.specs.Extents.{extent_fault, memory_fault};
+ghost use Rattle.r4_base.specs.Extents.{extent_fault, memory_fault, units_of};
 
 use crate::fault::fault_of;
 use crate::units::{UNIT, unit_in};
@@ -12,6 +12,7 @@ use r4_base::{ExtentFault, Unit};
 #[derive(Drop)]
 pub struct ExtentView<'a> {
     body: &'a [u8],
+    ghost some: { 16 ≤ length body.now },
     ghost short: { length body.now ≤ 4096 },
 }
 
@@ -26,6 +27,7 @@ impl<'a> ExtentView<'a> {
         requires { length body.now ≤ 4096 }
         ensures ok { IfOk result (λ v. extent_fault blocks body.now ≡ None) }
         ensures lent { IfOk result (λ v. view_body v ≡ body.entry) }
+        ensures units { IfOk result (λ v. view_units v ≡ units_of body.now) }
         ensures err { IfErr result (λ e. extent_fault blocks body.now ≡ Some e) }
     {
         match fault_of(body, blocks, false) {
@@ -40,6 +42,7 @@ impl<'a> ExtentView<'a> {
         requires { length body.now ≤ 4096 }
         ensures ok { IfOk result (λ v. memory_fault blocks body.now ≡ None) }
         ensures lent { IfOk result (λ v. view_body v ≡ body.entry) }
+        ensures units { IfOk result (λ v. view_units v ≡ units_of body.now) }
         ensures err { IfErr result (λ e. memory_fault blocks body.now ≡ Some e) }
     {
         match fault_of(body, blocks, true) {
@@ -50,7 +53,9 @@ impl<'a> ExtentView<'a> {
 
     /// How many units the extent has: 1 to 256.
     pub fn len(&self) -> u16
-        ensures { result ≡ length (view_units self.now) }
+        ensures units { result ≡ length (view_units self.now) }
+        ensures some { 1 ≤ result }
+        ensures few { result ≤ 256 }
     {
         (self.body.len() / UNIT) as u16
     }

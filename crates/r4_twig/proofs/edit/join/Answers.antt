@@ -1,5 +1,8 @@
-use Rattle.std.proofs.Common.{◌^◌, ◌+◌, ◌*◌, inr, ℕ, List, get_or, sym, ap, ◌∙◌, arith}
+use Rattle.std.proofs.Common.{◌^◌, ◌+◌, ◌*◌, ◌/◌, inr, ℕ, List, take, get_or, sym, ap, subst, ◌∙◌, arith}
+use Rattle.r4_base.specs.Extents.{AreApart, block_of, units_of}
 use Rattle.r4_twig.proofs.Places.{put_elsewhere}
+use Rattle.r4_base.specs.declared.items.Unit.{Unit as ExtentUnit}
+use Rattle.r4_twig.proofs.Joins.{apart-joined, block_of-joined}
 use Rattle.r4_twig.proofs.Edits.{accepted}
 use Rattle.r4_twig.proofs.Merges.{first_state, more_state, next_state, sum_fits, all_joined, join_accepted}
 use Rattle.r4_twig.proofs.edit.join.Goals as goal
@@ -65,3 +68,9 @@ returns-clause-rest c k past =
     let some = (accepted (2 ^ 63) c.args.body.now c.args.used c.requires.within c.requires.lawful).some in
     let apart = c.loop-i.invariant.apart in
     ap (λ (xs : List ℕ). get_or xs k 0) c.replace-2.ensures.spelled ∙ put_elsewhere c.loop-i.end c.loop-i.last c.loop-i.body k (omega arith) (inr (omega arith)) ∙ c.loop-i.invariant.behind k (omega arith)
+
+pub returns-clause-apart : goal.returns-clause-apart
+returns-clause-apart c = subst AreApart (sym (returns-clause-units c)) (apart-joined (units_of (take c.args.used c.args.body.now)))
+
+pub returns-clause-bytes : goal.returns-clause-bytes
+returns-clause-bytes c k = ap (λ (us : List ExtentUnit). block_of us (k / 4096)) (returns-clause-units c) ∙ block_of-joined (units_of (take c.args.used c.args.body.now)) (k / 4096)

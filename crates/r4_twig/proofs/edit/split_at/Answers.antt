@@ -1,9 +1,11 @@
-use Rattle.std.proofs.Common.{◌≡◌, ◌+◌, ◌*◌, inr, ℕ, List, set, get_or, ap, ◌∙◌, arith}
-use Rattle.std.specs.Prelude.{slice_range}
+use Rattle.std.proofs.Common.{◌≡◌, ◌+◌, ◌*◌, ◌/◌, ◌≤◌, inr, ℕ, List, set, take, get_or, ap, ◌∙◌, arith}
+use Rattle.std.specs.Prelude.{slice_get, slice_range}
 use Rattle.r4_base.specs.Bytes.{overwrite}
 use Rattle.r4_base.specs.declared.items.Unit.{Unit as ExtentUnit}
-use Rattle.r4_base.specs.Extents.{unit_at}
+use Rattle.r4_base.specs.Extents.{block_of, unit_at, units_of}
 use Rattle.r4_twig.proofs.Places.{put_elsewhere}
+use Rattle.std.specs.Option.{ForSome}
+use Rattle.r4_twig.proofs.Cuts.{block_of-cut_at}
 use Rattle.r4_twig.proofs.Edits.{can_be_cut, is_moved, cut_written, cut_accepted}
 use Rattle.r4_twig.proofs.edit.split_at.Goals as goal
 
@@ -70,3 +72,8 @@ returns-clause-rest c k past =
     let m = is_moved b c.move_bytes.new.b c.args.used c.args.i c.requires.room within moved in
     ap (λ (xs : List ℕ). get_or xs k 0) c.replace-2.ensures.spelled ∙ put_elsewhere (c.args.i + 1) c.unit_past.result c.replace.new.body k (omega arith) (inr (omega arith))
     ∙ ap (λ (xs : List ℕ). get_or xs k 0) c.replace.ensures.spelled ∙ put_elsewhere c.args.i _ c.move_bytes.new.b k (omega arith) (inr (omega arith)) ∙ m.past k past
+
+pub returns-clause-bytes : goal.returns-clause-bytes
+returns-clause-bytes c k =
+    let inside : ForSome (slice_get (units_of (take c.args.used c.args.body.now)) c.args.i) (λ u. c.args.width ≤ u.width) = λ u is. let lt = c.requires.inside u is in omega arith in
+    ap (λ (us : List ExtentUnit). block_of us (k / 4096)) (returns-clause-units c) ∙ block_of-cut_at (units_of (take c.args.used c.args.body.now)) c.args.i c.args.width (k / 4096) inside

@@ -1,0 +1,6 @@
+use Rattle.std.proofs.Common.{false, sym, ◌∙◌}
+use Rattle.r4_twig.proofs.Faults.{has_unit}
+use Rattle.r4_twig.proofs.view.ExtentView.read.Goals as goal
+
+pub invariant_of-result : goal.invariant_of-result
+invariant_of-result c = record { some = has_unit false c.args.blocks c.args.body.now (sym c.fault_of.ensures ∙ c.in-None.is); short = c.requires }
