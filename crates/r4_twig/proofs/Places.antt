@@ -127,3 +127,6 @@ put_units_whole i u b le small small' =
     let two : take (length b) b ≡ b = take_all (length b) b (omega arith) in
     let e = put_units (length b) i u b le (omega arith) small small' in
     ap units_of (sym one) ∙ e ∙ ap (λ (xs : List ℕ). set (units_of xs) i u) two
+
+pub has_first : (b : List ℕ) → 16 ≤ length b → 0 < length (units_of b)
+has_first b some = let n = length-units_of b in omega arith

@@ -1,6 +1,6 @@
 //! A node pointer (docs/layout.md, "Items").
 
-ghost use Rattle.std.specs.Prelude.{◌≡◌, ◌≤◌, length, Some, option_map};
+ghost use Rattle.std.specs.Prelude.{◌≡◌, ◌≤◌, length, Some, IfSome, option_map};
 ghost use Rattle.r4_base.specs.Bytes.{number_bytes};
 ghost use Rattle.r4_base.specs.Extents.{pointer_of};
 
@@ -13,7 +13,8 @@ const FIRST_BLOCK: u64 = 22;
 /// (docs/layout.md, "Items").
 #[tactic(auto, unfolding(r4_base::specs::Extents::pointer_of))]
 pub fn pointer(body: &[u8]) -> Option<BlockNo>
-    ensures { option_map (λ to. to.0) result ≡ pointer_of body.now }
+    ensures value { option_map (λ to. to.0) result ≡ pointer_of body.now }
+    ensures high { IfSome result (λ to. 22 ≤ to.0) }
 {
     if body.len() != 8 {
         return None;

@@ -28,6 +28,7 @@ impl<'a> ExtentView<'a> {
         ensures ok { IfOk result (λ v. extent_fault blocks body.now ≡ None) }
         ensures lent { IfOk result (λ v. view_body v ≡ body.entry) }
         ensures units { IfOk result (λ v. view_units v ≡ units_of body.now) }
+        ensures some { IfOk result (λ v. 0 < length (view_units v)) }
         ensures err { IfErr result (λ e. extent_fault blocks body.now ≡ Some e) }
     {
         match fault_of(body, blocks, false) {
@@ -43,6 +44,7 @@ impl<'a> ExtentView<'a> {
         ensures ok { IfOk result (λ v. memory_fault blocks body.now ≡ None) }
         ensures lent { IfOk result (λ v. view_body v ≡ body.entry) }
         ensures units { IfOk result (λ v. view_units v ≡ units_of body.now) }
+        ensures some { IfOk result (λ v. 0 < length (view_units v)) }
         ensures err { IfErr result (λ e. memory_fault blocks body.now ≡ Some e) }
     {
         match fault_of(body, blocks, true) {
