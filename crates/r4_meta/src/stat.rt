@@ -1,6 +1,6 @@
 //! Stat data (docs/layout.md, "Items").
 
-ghost use Rattle.std.specs.Prelude.{◌≡◌, ℕ, length, IsTrue, Ok};
+ghost use Rattle.std.specs.Prelude.{◌≡◌, ℕ, length, IfOk, IsTrue, Ok};
 ghost use Rattle.r4_base.specs.Bytes.{FieldsFit, put_all};
 ghost use Rattle.r4_base.specs.Stat.{attr_of, kind_is_good, stat_body, stat_fields, stat_of};
 
@@ -23,7 +23,9 @@ const FILE: u16 = 0o10;
 /// neither a directory's nor a file's. The other fields may be any numbers (docs/layout.md, "Items").
 #[tactic(auto, unfolding(r4_base::specs::Stat::stat_of))]
 pub fn read_stat(body: &[u8]) -> Result<Attr, StatFault>
-    ensures { result ≡ stat_of body.now }
+    ensures value { result ≡ stat_of body.now }
+    ensures long { IfOk result (λ a. length body.now ≡ 44) }
+    ensures kind { IfOk result (λ a. IsTrue (kind_is_good a.mode)) }
 {
     if body.len() < 2 || get16(body, 0) != MASK {
         return Err(StatFault::Mask);
