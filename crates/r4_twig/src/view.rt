@@ -53,7 +53,7 @@ impl<'a> ExtentView<'a> {
         }
     }
 
-    /// How many units the extent has: 1 to 256.
+    /// How many units the extent has: 1 to 256 (docs/layout.md, "Items").
     pub fn len(&self) -> u16
         ensures units { result ≡ length (view_units self.now) }
         ensures some { 1 ≤ result }
