@@ -13,7 +13,7 @@ pub use block::Block;
 pub use bytes::{blank, get16, get32, get64, move_bytes, put_bytes, put16, put32, put64};
 pub use items::{Attr, ExtentFault, StatFault, Unit};
 pub use journal::{Footer, Header, LogFault, TxHead};
-pub use laws::{log_law, number_law};
+pub use laws::{log_law, number_law, settled_law};
 pub use std::alloc::AllocError as Memory;
 pub use superblock::{LayoutFault, Master, Super40};
 pub use things::{AtomNo, BlockNo, NodeId, Oid, ScriptNo, TaskId, TxnNo};
