@@ -3,6 +3,7 @@
 #   make_image.sh FILE empty   64 blocks of zeros: a log that holds nothing
 #   make_image.sh FILE log     1,024 blocks whose log has one committed transaction that is not yet put in place:
 #                              blocks 300, 301 and 302 get what stands in blocks 600, 601 and 602
+#   make_image.sh FILE full    the same with 254 blocks, as many as one record holds
 set -eu
 image=$1
 
@@ -40,17 +41,37 @@ head_block() {
     number 65536 8
 }
 
-# Its one record: magic, id, total, serial, the next block (the head again), then the pairs.
+# Its one record, of so many pairs: magic, id, total, serial, the next block (the head again), then the pairs.
 record_block() {
     printf 'LogMagc4'
     number 1 8
     number 2 4
     number 1 4
     number 900 8
-    for i in 0 1 2; do
-        number "$((300 + i))" 8
-        number "$((600 + i))" 8
+    pair=0
+    while [ "$pair" -lt "$1" ]; do
+        number "$((300 + pair))" 8
+        number "$((600 + pair))" 8
+        pair=$((pair + 1))
     done
+}
+
+# The new contents, one after the other.
+contents() {
+    pair=0
+    while [ "$pair" -lt "$1" ]; do
+        printf '%-4095s\n' "the new content of block $((300 + pair))"
+        pair=$((pair + 1))
+    done
+}
+
+# An image whose log has a transaction of so many pairs.
+logged() {
+    zeros 1024
+    number 900 8 | block 19
+    head_block | block 900
+    record_block "$1" | block 901
+    contents "$1" | block 600
 }
 
 case $2 in
@@ -58,16 +79,13 @@ empty)
     zeros 64
     ;;
 log)
-    zeros 1024
-    number 900 8 | block 19
-    head_block | block 900
-    record_block | block 901
-    for i in 0 1 2; do
-        printf '%-4095s\n' "the new content of block $((300 + i))" | block "$((600 + i))"
-    done
+    logged 3
+    ;;
+full)
+    logged 254
     ;;
 *)
-    echo "make_image.sh: $2 is neither empty nor log" >&2
+    echo "make_image.sh: $2 is none of empty, log and full" >&2
     exit 1
     ;;
 esac

@@ -2,9 +2,6 @@
 # The demo: run.sh TOOL makes images, lets the program replay them and looks at what it leaves.
 set -eu
 
-# Does the program replay a log that holds a transaction? While it does not, that part of the demo is left out.
-replays_transactions=yes
-
 tool=$1
 here=$(CDPATH='' cd -- "$(dirname -- "$0")" && pwd)
 work=$(mktemp -d)
@@ -27,25 +24,36 @@ blocks() {
     dd if="$work/$1" of="$work/part" bs=4096 skip="$2" count="$3" 2>/dev/null
 }
 
+# Looks whether two files hold the same; otherwise the demo failed, as the last words say.
+same() {
+    if ! cmp -- "$1" "$2" >&2; then
+        echo "The demo failed: $3." >&2
+        exit 1
+    fi
+}
+
 echo "An image of 64 zero blocks: its log holds nothing, and nothing is written."
 sh "$here/make_image.sh" "$work/empty.img" empty
 cp -- "$work/empty.img" "$work/before.img"
 replays empty.img "replayed 0"
-cmp -- "$work/before.img" "$work/empty.img"
+same "$work/before.img" "$work/empty.img" "the image is not what it was"
 
-if [ "$replays_transactions" = yes ]; then
-    echo
-    echo "An image whose log has one committed transaction: its three blocks are put in place."
-    sh "$here/make_image.sh" "$work/log.img" log
-    replays log.img "replayed 1"
-    blocks log.img 600 3
-    mv -- "$work/part" "$work/wanted"
-    blocks log.img 300 3
-    cmp -- "$work/wanted" "$work/part"
-    blocks log.img 20 1
-    echo "The footer names the transaction's head, its free blocks, its files and its next id:"
-    od -A d -t u8 -N 32 "$work/part"
-    echo "A second time there is nothing to do."
-    replays log.img "replayed 0"
-fi
+echo
+echo "An image of 1,024 blocks: its log has one committed transaction, whose three blocks are put in place."
+sh "$here/make_image.sh" "$work/log.img" log
+replays log.img "replayed 1"
+blocks log.img 600 3
+mv -- "$work/part" "$work/wanted"
+blocks log.img 300 3
+same "$work/wanted" "$work/part" "blocks 300, 301 and 302 do not hold what blocks 600, 601 and 602 hold"
+echo "Block 300 now holds: $(head -n 1 "$work/part" | sed 's/ *$//')"
+blocks log.img 20 1
+echo "Block 20, the journal footer, names the transaction's head, its free blocks, its files and its next id:"
+od -A n -t u8 -w32 -N 32 "$work/part"
+echo
+echo "A second time there is nothing to do."
+cp -- "$work/log.img" "$work/before.img"
+replays log.img "replayed 0"
+same "$work/before.img" "$work/log.img" "the image is not what it was"
+echo
 echo "The demo went well."

@@ -1,0 +1,51 @@
+#!/bin/sh
+# The speed of a replay: sh bench/replay.sh [ROUNDS], after ./r4 has built the program.
+# A transaction of 254 pairs is put in place, and dd copies as many blocks with as many syncs. Both work on fresh copies
+# of one image, which the page cache holds. The fastest round of each is printed.
+set -eu
+
+rounds=${1:-15}
+here=$(CDPATH='' cd -- "$(dirname -- "$0")" && pwd)
+tool=$here/../out/r4_tool
+work=$(mktemp -d "$here/work.XXXXXX")
+trap 'rm -rf -- "$work"' EXIT
+
+if [ ! -x "$tool" ]; then
+    echo "bench: there is no $tool: run ./r4 demo first" >&2
+    exit 1
+fi
+
+# A fresh copy of the image, of which nothing is left to be written.
+fresh() {
+    cp -- "$work/full.img" "$work/$1"
+    sync "$work/$1"
+    cat -- "$work/$1" >"$work/read"
+}
+
+# What `replay` does: it reads the 254 copies and writes them to their places, syncs, writes the footer, and syncs.
+copies() {
+    dd if="$work/dd.img" of="$work/dd.img" bs=4096 skip=600 seek=300 count=254 conv=notrunc,fsync 2>/dev/null
+    dd if="$work/dd.img" of="$work/dd.img" bs=4096 skip=20 seek=20 count=1 conv=notrunc,fsync 2>/dev/null
+}
+
+# Runs a command, and prints its nanoseconds.
+nanoseconds() {
+    before=$(date +%s%N)
+    "$@" >"$work/printed"
+    after=$(date +%s%N)
+    echo "$((after - before))"
+}
+
+sh "$here/../demo/make_image.sh" "$work/full.img" full
+round=0
+while [ "$round" -lt "$rounds" ]; do
+    fresh replay.img
+    nanoseconds "$tool" replay "$work/replay.img" >>"$work/replay.times"
+    grep -qx "replayed 1" "$work/printed"
+    fresh dd.img
+    nanoseconds copies >>"$work/dd.times"
+    round=$((round + 1))
+done
+awk 'FNR == 1 { file++ } FNR == 1 || $1 < least[file] { least[file] = $1 }
+    END { printf "replay 254 pairs: %.1f ms, dd: %.1f ms, ratio %.2f\n", least[1] / 1e6, least[2] / 1e6, least[1] / least[2] }' \
+    "$work/replay.times" "$work/dd.times"
