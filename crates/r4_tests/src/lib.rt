@@ -2,6 +2,14 @@
 #![tactic(auto)]
 
 #[cfg(test)]
+mod calls;
+#[cfg(test)]
 mod counting;
+#[cfg(test)]
+mod logs;
+#[cfg(test)]
+mod replays;
+#[cfg(test)]
+mod tables;
 #[cfg(test)]
 mod tests;

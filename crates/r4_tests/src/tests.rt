@@ -1,42 +1,11 @@
 //! The program's call, status by status.
 
+use crate::calls::{REPLAY, call};
 use crate::counting::CountingDevice;
-use r4_outside::{Device, MemoryDevice, MemorySink, MemorySource, OpenGate, Unnamed};
-use r4_top::r4_main;
-use std::alloc::Global;
-use std::sync::Wait;
+use r4_outside::{Device, MemoryDevice, MemorySink};
 use std::test::Fail;
-use std::thread::Threads;
-
-const REPLAY: [&str; 2] = ["replay", "image"];
 
 const USAGE: &str = "usage: r4_tool replay, mkfs, run, list or check, then IMAGE and options\n";
-
-// Calls the program with these words, and gives its status.
-fn call<D: Device, X: Threads + Wait + Sync>(
-    rt: &X,
-    alloc: Global,
-    words: &[&str],
-    dev: &mut D,
-    out: &mut MemorySink,
-) -> Result<u8, Fail> {
-    let mut owned = Vec::new(alloc);
-    for word in words {
-        owned.push(String::from_str(alloc, word)?)?;
-    }
-    let mut script = MemorySource::new(alloc, b"")?;
-    let status = r4_main(
-        rt,
-        alloc,
-        &owned,
-        dev,
-        &mut script,
-        out,
-        &OpenGate,
-        Unnamed::new(),
-    );
-    Ok(status.code)
-}
 
 #[test]
 fn an_empty_log_is_replayed(rt: HostRuntime) -> Result<(), Fail> {

@@ -1,0 +1,58 @@
+//! The program's call, over memory.
+
+ghost use Rattle.r4_outside.specs.Device.{Goes};
+
+use r4_outside::{Device, MemorySink, MemorySource, OpenGate, Unnamed};
+use r4_top::r4_main;
+use std::alloc::Global;
+use std::process::Abort;
+use std::sync::Wait;
+use std::test::Fail;
+use std::thread::Threads;
+
+pub const REPLAY: [&str; 2] = ["replay", "image"];
+
+/// Calls the program with these words, and gives its status.
+pub fn call<D: Device, X: Threads + Wait + Sync>(
+    rt: &X,
+    alloc: Global,
+    words: &[&str],
+    dev: &mut D,
+    out: &mut MemorySink,
+) -> Result<u8, Fail>
+    ensures { Goes (D.state dev.old) (D.state dev.new) }
+{
+    let mut owned = Vec::new(alloc);
+    for word in words {
+        owned.push(String::from_str(alloc, word)?)?;
+    }
+    let mut script = MemorySource::new(alloc, b"")?;
+    let status = r4_main(
+        rt,
+        alloc,
+        &owned,
+        dev,
+        &mut script,
+        out,
+        &OpenGate,
+        Unnamed::new(),
+    );
+    Ok(status.code)
+}
+
+/// Replays a device, and looks at the status and at the line that is printed.
+pub fn replays<D: Device, X: Abort + Threads + Wait + Sync>(
+    rt: &X,
+    alloc: Global,
+    dev: &mut D,
+    status: u8,
+    line: &str,
+) -> Result<(), Fail>
+    ensures { Goes (D.state dev.old) (D.state dev.new) }
+{
+    let mut out = MemorySink::new(alloc, 100)?;
+    let code = call(rt, alloc, &REPLAY, dev, &mut out)?;
+    assert_eq!(rt; out.written(), line.as_bytes(), "{line}");
+    assert_eq!(rt; code, status, "{line}");
+    Ok(())
+}
