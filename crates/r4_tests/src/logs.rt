@@ -1,7 +1,7 @@
 //! Images with a log, made up for a test.
 
 ghost use Rattle.std.specs.Prelude.{◌≡◌, length, IfOk};
-ghost use Rattle.r4_outside.specs.Device.{TellsCrashes};
+ghost use Rattle.r4_outside.specs.Device.{Goes, TellsCrashes};
 ghost use Rattle.r4_outside.specs.Memory.{memory_state};
 
 use r4_base::{Block, BlockNo, Footer, Header, Memory, TxHead, get64, put32, put64};
@@ -240,9 +240,6 @@ fn set_field(b: &mut [u8], field: Field, value: u64)
         Field::Wandered(i) => put64(b, 40 + 16 * (i as usize % 254), value),
     }
 }
-
-ghost use Rattle.std.specs.Prelude.{OnOk};
-ghost use Rattle.r4_outside.specs.Device.{Goes};
 
 // Do two blocks hold the same? Words are compared, since bytes take long where each step is checked.
 fn is_same(one: &[u8], other: &[u8]) -> bool

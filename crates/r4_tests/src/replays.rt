@@ -171,7 +171,7 @@ fn unread_bytes_are_of_no_account(rt: HostRuntime) -> Result<(), Fail> {
         change(alloc, &mut dev, changes)?;
         replays(&rt, alloc, &mut dev, 0, "replayed 1\n")?;
         image.restore(&mut dev, changes)?;
-        assert_eq!(rt; wanted.first_difference(&mut dev)?, None);
+        assert_eq!(rt; wanted.first_difference(&mut dev)?, None, "{changes:?}");
     }
     Ok(())
 }
@@ -225,7 +225,7 @@ fn a_crash_is_replayed_again(rt: HostRuntime) -> Result<(), Fail> {
     replays(&rt, alloc, &mut dev, 0, "replayed 3\n")?;
     assert_eq!(rt; dev.clock(), 14);
     for moment in 0..15 {
-        for pick in 0..4 {
+        for pick in 0..8 {
             let mut left = dev.crash(alloc, moment, pick)?;
             let mut out = MemorySink::new(alloc, 100)?;
             let status = call(&rt, alloc, &REPLAY, &mut left, &mut out)?;
