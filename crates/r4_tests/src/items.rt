@@ -1,0 +1,151 @@
+//! Stat data, extents, pointers and tails, over tables of bodies.
+
+use r4_base::{Attr, BlockNo, ExtentFault, StatFault, put64};
+use r4_meta::{read_stat, tail_part, write_stat};
+use r4_twig::{ExtentView, pointer, put_pointer, split_at};
+use std::alloc::Global;
+use std::test::Fail;
+
+// A directory as a new volume has it.
+const ROOT: Attr = Attr {
+    mode: 0o40755,
+    nlink: 2,
+    size: 0,
+    uid: 0,
+    gid: 0,
+    atime: 0,
+    mtime: 0,
+    ctime: 0,
+    bytes: 0,
+};
+
+// So many bytes of a body, behind which zeros stand, with one byte changed.
+fn damaged(alloc: Global, body: &[u8], at: usize, byte: u8, long: usize) -> Result<Vec<u8>, Fail> {
+    let mut bytes = Vec::new(alloc);
+    for i in 0..long {
+        let was = body.get(i).copied().unwrap_or(0);
+        bytes.push(if i == at { byte } else { was })?;
+    }
+    Ok(bytes)
+}
+
+#[test]
+fn stat_data_are_read(rt: HostRuntime) -> Result<(), Fail> {
+    let mut body = [0xffu8; 44];
+    write_stat(&mut body, &ROOT);
+    assert_eq!(rt; &body[..9], [3, 0, 0xed, 0x41, 2, 0, 0, 0, 0].as_slice());
+    // The byte that is changed, what it is to be, how many bytes are read, and what they are refused for.
+    let table = [
+        (0, 3, 44, None),
+        (3, 0x81, 44, None),
+        (0, 3, 0, Some(StatFault::Mask)),
+        (0, 3, 1, Some(StatFault::Mask)),
+        (0, 7, 44, Some(StatFault::Mask)),
+        (0, 1, 44, Some(StatFault::Mask)),
+        (1, 1, 44, Some(StatFault::Mask)),
+        (0, 3, 2, Some(StatFault::Length)),
+        (0, 3, 43, Some(StatFault::Length)),
+        (0, 3, 45, Some(StatFault::Length)),
+        (3, 0x01, 44, Some(StatFault::Kind)),
+        (3, 0xa1, 44, Some(StatFault::Kind)),
+        (3, 0xc1, 44, Some(StatFault::Kind)),
+    ];
+    for (at, byte, long, fault) in table {
+        let bytes = damaged(rt.alloc(), &body, at, byte, long)?;
+        assert_eq!(rt; read_stat(&bytes).err(), fault, "{at} {byte} {long}");
+    }
+    assert_eq!(rt; read_stat(&body), Ok(ROOT));
+    Ok(())
+}
+
+#[test]
+fn tails_and_pointers_are_read(rt: HostRuntime) -> Result<(), Fail> {
+    let body = *b"0123456789";
+    assert_eq!(rt; tail_part(&body, 0, 10), b"0123456789".as_slice());
+    assert_eq!(rt; tail_part(&body, 3, 5), b"34".as_slice());
+    assert_eq!(rt; tail_part(&body, 10, 10), b"".as_slice());
+    for (to, is_named) in [(0, false), (21, false), (22, true), (u64::MAX, true)] {
+        let mut eight = [0u8; 8];
+        put_pointer(&mut eight, BlockNo(to));
+        assert_eq!(rt; pointer(&eight), is_named.then_some(BlockNo(to)), "{to}");
+        assert_eq!(rt; pointer(&eight[..7]), None);
+    }
+    Ok(())
+}
+
+// The body of an extent.
+fn spelled(alloc: Global, units: &[(u64, u64)]) -> Result<Vec<u8>, Fail> {
+    let mut bytes = Vec::new(alloc);
+    for &(start, width) in units {
+        let mut unit = [0u8; 16];
+        put64(&mut unit, 0, start);
+        put64(&mut unit, 8, width);
+        for &byte in &unit {
+            bytes.push(byte)?;
+        }
+    }
+    Ok(bytes)
+}
+
+#[test]
+fn extents_are_read(rt: HostRuntime) -> Result<(), Fail> {
+    let far = 1u64 << 63;
+    // The units, and what they are refused for on 65536 blocks, and in memory.
+    let table: [(&[(u64, u64)], Option<ExtentFault>, Option<ExtentFault>); 13] = [
+        (&[(22, 1)], None, None),
+        (&[(0, 5), (65535, 1)], None, None),
+        (&[(32735, 1), (32737, 32735)], None, None),
+        (&[], Some(ExtentFault::Length), Some(ExtentFault::Length)),
+        (&[(1, 1)], Some(ExtentFault::Start(0)), Some(ExtentFault::Start(0))),
+        (&[(22, 1), (21, 0)], Some(ExtentFault::Start(1)), Some(ExtentFault::Start(1))),
+        (&[(22, 1), (0, 0)], Some(ExtentFault::Width(1)), Some(ExtentFault::Width(1))),
+        (&[(70000, 0)], Some(ExtentFault::Width(0)), Some(ExtentFault::Width(0))),
+        (&[(65535, 2)], Some(ExtentFault::Range(0)), Some(ExtentFault::Range(0))),
+        (&[(32736, 1)], Some(ExtentFault::Range(0)), Some(ExtentFault::Range(0))),
+        (&[(32735, 2)], Some(ExtentFault::Range(0)), Some(ExtentFault::Range(0))),
+        (&[(far, 1)], Some(ExtentFault::Range(0)), None),
+        (&[(22, 1), (far, 2)], Some(ExtentFault::Range(1)), Some(ExtentFault::Range(1))),
+    ];
+    for (units, stored, kept) in table {
+        let body = spelled(rt.alloc(), units)?;
+        if body.len() > 4096 {
+            return Err(Fail::from("the units do not fit"));
+        }
+        assert_eq!(rt; ExtentView::read(&body, 65536).err(), stored, "{units:?}");
+        assert_eq!(rt; ExtentView::in_memory(&body, 65536).err(), kept, "{units:?}");
+    }
+    Ok(())
+}
+
+// The units, with unit `i` cut behind `width` blocks.
+fn cut(alloc: Global, units: &[(u64, u64)], i: u16, width: u64) -> Result<Vec<u8>, Fail> {
+    let mut body = spelled(alloc, units)?;
+    if body.len() < 32 || body.len() > 4096 {
+        return Err(Fail::from("the units do not fit"));
+    }
+    let used = body.len() - 16;
+    let Ok(view) = ExtentView::in_memory(&body[..used], 1 << 63) else {
+        return Err(Fail::from("the units are refused"));
+    };
+    if i >= view.len() || width == 0 || width >= view.unit(i).width {
+        return Err(Fail::from("the unit has not as many blocks"));
+    }
+    split_at(&mut body, used, i, width);
+    Ok(body)
+}
+
+#[test]
+fn extents_are_cut(rt: HostRuntime) -> Result<(), Fail> {
+    let alloc = rt.alloc();
+    // The units and room for one more; the unit and its blocks; what comes of it.
+    let table: [(&[(u64, u64)], u16, u64, &[(u64, u64)]); 3] = [
+        (&[(30, 9), (7, 7)], 0, 4, &[(30, 4), (34, 5)]),
+        (&[(0, 9), (50, 1), (7, 7)], 0, 1, &[(0, 1), (0, 8), (50, 1)]),
+        (&[(50, 1), (60, 3), (7, 7)], 1, 2, &[(50, 1), (60, 2), (62, 1)]),
+    ];
+    for (units, i, width, wanted) in table {
+        let body = cut(alloc, units, i, width)?;
+        assert_eq!(rt; body.as_slice(), spelled(alloc, wanted)?.as_slice(), "{units:?}");
+    }
+    Ok(())
+}
