@@ -8,3 +8,4 @@ pub mod Superblocks
 pub mod Bits
 pub mod Bitmaps
 pub mod Stats
+pub mod Keys

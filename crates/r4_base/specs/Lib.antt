@@ -8,3 +8,5 @@ pub mod Bitmap
 pub mod Layout
 pub mod Stat
 pub mod Extents
+pub mod Key
+pub mod Node

@@ -5,7 +5,9 @@ mod block;
 mod bytes;
 mod items;
 mod journal;
+mod key;
 mod laws;
+mod node;
 mod superblock;
 mod things;
 
@@ -14,6 +16,9 @@ pub use bytes::{blank, get16, get32, get64, move_bytes, put_bytes, put16, put32,
 pub use items::{Attr, ExtentFault, StatFault, Unit};
 pub use journal::{Footer, Header, LogFault, TxHead};
 pub use laws::{log_law, number_law, settled_law};
+pub use key::{Key, key_law};
+pub use laws::{log_law, number_law};
+pub use node::NodeFault;
 pub use std::alloc::AllocError as Memory;
 pub use superblock::{LayoutFault, Master, Super40};
 pub use things::{AtomNo, BlockNo, NodeId, Oid, ScriptNo, TaskId, TxnNo};

@@ -1,0 +1,43 @@
+//! The keys of items (docs/layout.md, "Keys").
+
+ghost use Rattle.std.specs.Prelude.{◌≡◌, ◌↔◌, ◌<◌, ◌^◌, nat_lt, IsTrue};
+ghost use Rattle.std.specs.Ordering.{nat_cmp, is_lt};
+ghost use Rattle.std.specs.Cmp.Lexicographic.{slice_cmp};
+ghost use Rattle.r4_base.specs.Key.{IsKey, IsBelow, stat_key, body_key};
+
+use crate::things::Oid;
+
+/// The key of an item: locality and minor type, ordering, object id and offset, each below 2^64. Keys are ordered by
+/// the first number, then by the second, and so on (docs/layout.md, "Keys").
+#[derive(Clone, Copy, Debug, PartialEq, Eq, PartialOrd, Ord)]
+pub struct Key {
+    pub el: [u64; 4],
+}
+
+impl Key {
+    /// The key of an object's stat data: minor type 1 and offset 0. The locality is below 2^60 (docs/layout.md, "Keys").
+    pub fn stat(locality: u64, ordering: u64, oid: Oid) -> Key
+        requires { locality < 2 ^ 60 }
+        ensures { result ≡ stat_key locality ordering oid }
+    {
+        Key {
+            el: [locality * 16 + 1, ordering, oid.0, 0],
+        }
+    }
+
+    /// The key of an object's body from byte `offset` on: minor type 4. The locality is below 2^60 (docs/layout.md,
+    /// "Keys").
+    pub fn body(locality: u64, ordering: u64, oid: Oid, offset: u64) -> Key
+        requires { locality < 2 ^ 60 }
+        ensures { result ≡ body_key locality ordering oid offset }
+    {
+        Key {
+            el: [locality * 16 + 4, ordering, oid.0, offset],
+        }
+    }
+}
+
+/// The order of keys that is computed is that of their ranks.
+pub fn key_law()
+    ensures { (a b : Key) → IsKey a → IsKey b → (IsTrue (is_lt (slice_cmp nat_cmp a.el b.el)) ↔ IsBelow a b) }
+{}

@@ -1,0 +1,61 @@
+//! What a node's block says of its items, field by field (docs/layout.md, "Nodes").
+
+ghost use Rattle.std.specs.Prelude.{◌≡◌, ◌+◌, ◌*◌, ◌<◌, ◌≤◌, length};
+ghost use Rattle.r4_base.specs.Node.{key_at, offset_at, plugin_at, edge_at, end_at, count_of, start_of};
+ghost use Rattle.r4_node40.specs.Laid.{IsLaid};
+
+use r4_base::{Key, get16, get64};
+
+
+/// The key of item `i`.
+#[tactic(auto, unfolding(r4_base::specs::Node::key_at))]
+pub(crate) fn key_of(b: &[u8], i: u16) -> Key
+    requires whole { length b.now ≡ 4096 }
+    requires within { 38 * (i + 1) ≤ 4096 }
+    ensures { result ≡ key_at b.now i }
+{
+    let at = 4096 - 38 * (i as usize + 1);
+    Key {
+        el: [
+            get64(b, at),
+            get64(b, at + 8),
+            get64(b, at + 16),
+            get64(b, at + 24),
+        ],
+    }
+}
+
+/// Where the body of item `i` begins.
+#[tactic(auto, unfolding(r4_base::specs::Node::offset_at))]
+pub(crate) fn offset_of(b: &[u8], i: u16) -> u16
+    requires whole { length b.now ≡ 4096 }
+    requires within { 38 * (i + 1) ≤ 4096 }
+    ensures { result ≡ offset_at b.now i }
+{
+    get16(b, 4096 - 38 * (i as usize + 1) + 32)
+}
+
+/// The plugin of item `i`.
+#[tactic(auto, unfolding(r4_base::specs::Node::plugin_at))]
+pub(crate) fn plugin_of(b: &[u8], i: u16) -> u16
+    requires whole { length b.now ≡ 4096 }
+    requires within { 38 * (i + 1) ≤ 4096 }
+    ensures { result ≡ plugin_at b.now i }
+{
+    get16(b, 4096 - 38 * (i as usize + 1) + 36)
+}
+
+/// Where the body of item `i` begins, or where the bodies end where there is no such item.
+#[tactic(auto, unfolding(r4_base::specs::Node::edge_at))]
+pub(crate) fn edge_of(b: &[u8], count: u16, i: u16) -> u16
+    requires whole { length b.now ≡ 4096 }
+    requires room { 38 * count ≤ 4096 }
+    requires within { i ≤ count }
+    ensures { result ≡ edge_at count b.now i }
+{
+    if i == count {
+        get16(b, 6)
+    } else {
+        offset_of(b, i)
+    }
+}
