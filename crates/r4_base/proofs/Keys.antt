@@ -28,7 +28,7 @@ ends a b e = sym (le-ltb a b (omega arith))
 
 four_digits : (x0 x1 x2 x3 y0 y1 y2 y3 : ℕ) → x1 < 2 ^ 64 → x2 < 2 ^ 64 → x3 < 2 ^ 64 → y1 < 2 ^ 64 → y2 < 2 ^ 64 → y3 < 2 ^ 64
     → is_lt (ordering_then (nat_cmp x0 y0) (ordering_then (nat_cmp x1 y1) (ordering_then (nat_cmp x2 y2) (ordering_then (nat_cmp x3 y3) Equal))))
-      ≡ nat_lt (x0 * 2 ^ 192 + (x1 * 2 ^ 128 + (x2 * 2 ^ 64 + x3))) (y0 * 2 ^ 192 + (y1 * 2 ^ 128 + (y2 * 2 ^ 64 + y3)))
+    ≡ nat_lt (x0 * 2 ^ 192 + (x1 * 2 ^ 128 + (x2 * 2 ^ 64 + x3))) (y0 * 2 ^ 192 + (y1 * 2 ^ 128 + (y2 * 2 ^ 64 + y3)))
 four_digits x0 x1 x2 x3 y0 y1 y2 y3 h1 h2 h3 g1 g2 g3 =
     let a : ℕ = x0 * 2 ^ 192 + (x1 * 2 ^ 128 + (x2 * 2 ^ 64 + x3)) in
     let b : ℕ = y0 * 2 ^ 192 + (y1 * 2 ^ 128 + (y2 * 2 ^ 64 + y3)) in

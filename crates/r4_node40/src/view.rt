@@ -1,8 +1,8 @@
 //! A node that is read (docs/layout.md, "Nodes").
 
-ghost use Rattle.std.specs.Prelude.{◌≡◌, ◌+◌, ◌*◌, ◌<◌, ◌≤◌, length, nat_lt, slice_get, Some, None, IfOk, IfErr};
+ghost use Rattle.std.specs.Prelude.{◌≡◌, ◌+◌, ◌-◌, ◌*◌, ◌<◌, ◌≤◌, length, nat_lt, slice_get, Some, None, IfOk, IfErr};
 ghost use Rattle.r4_base.specs.Key.{rank};
-ghost use Rattle.r4_base.specs.Node.{header_fault, item_fault, items_fault, node_fault, fits_level, count_of, level_of, offset_at, end_at};
+ghost use Rattle.r4_base.specs.Node.{header_fault, item_fault, items_fault, node_fault, fits_level, count_of, level_of, key_at, offset_at, end_at};
 ghost use Rattle.r4_node40.specs.Laid.{IsLaid};
 
 use crate::fields::{edge_of, key_of, offset_of, plugin_of};
@@ -132,7 +132,7 @@ fn fault_of_item(b: &[u8], i: u16) -> Option<NodeFault>
     if !fits(b[26], plugin_of(b, i)) {
         return Some(NodeFault::Plugin(i));
     }
-    if i > 0 && !is_below(&key_of(b, i - 1), &key_of(b, i)) {
+    if i > 0 && !rises(b, i) {
         return Some(NodeFault::Order(i));
     }
     None
@@ -149,10 +149,14 @@ fn fits(level: u8, plugin: u16) -> bool
     }
 }
 
-fn is_below(a: &Key, b: &Key) -> bool
-    ensures { result ≡ nat_lt (rank a.now) (rank b.now) }
+/// Whether the key of item `i` is above the one before it.
+fn rises(b: &[u8], i: u16) -> bool
+    requires whole { length b.now ≡ 4096 }
+    requires later { 0 < i }
+    requires within { 38 * (i + 1) ≤ 4096 }
+    ensures { result ≡ nat_lt (rank (key_at b.now (i - 1))) (rank (key_at b.now i)) }
 {
-    a.cmp(b).is_lt()
+    key_of(b, i - 1).cmp(&key_of(b, i)).is_lt()
 }
 
 /// Where the body of item `i` begins and ends.

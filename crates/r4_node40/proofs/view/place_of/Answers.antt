@@ -1,4 +1,4 @@
-use Rattle.std.proofs.Common.{arith, rules, ◌∙◌, sym}
+use Rattle.std.proofs.Common.{arith, rules, ◌+◌}
 use Rattle.r4_node40.proofs.Laid.{edge_next, edge_step, edge_stands}
 use Rattle.r4_node40.proofs.view.place_of.Goals as goal
 
