@@ -137,4 +137,3 @@ items_stop b n f head is e = rw (head, ← is, e) refl
 pub no_fault : (b : List ℕ) (n : ℕ) → header_fault b ≡ None → n ≡ count_of b → items_fault n 0 b ≡ None → node_fault b ≡ None
 unfolding node_fault
 no_fault b n head is e = rw (head, ← is, e) refl
-

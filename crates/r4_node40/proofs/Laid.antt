@@ -1,13 +1,13 @@
 -- Where the bodies of a block begin and end, and its list of items.
-use Rattle.std.proofs.Common.{◌≡◌, ℕ, zero, suc, ◌+◌, ◌-◌, ◌*◌, ◌^◌, ◌<◌, ◌≤◌, List, [], ◌∷◌, length, get_or, Some, refl, sym, ap, subst, ◌∙◌, arith, inl, inr}
-use Rattle.std.proofs.lemmas.Bool.{cases_eq, cases_lt, eq-eqb}
+use Rattle.std.proofs.Common.{◌≡◌, ℕ, zero, suc, ◌+◌, ◌-◌, ◌*◌, ◌^◌, ◌<◌, ◌≤◌, List, [], ◌∷◌, length, get_or, Some, refl, sym, ap, ◌∙◌, arith, inl, inr}
+use Rattle.std.proofs.lemmas.Bool.{cases_eq, eq-eqb}
 use Rattle.std.specs.Prelude.{slice_get, slice_range}
 use Rattle.r4_base.specs.declared.key.Key.{Key}
 use Rattle.r4_base.specs.Bytes.{number_at}
 use Rattle.r4_base.specs.Key.{IsKey}
 use Rattle.r4_base.proofs.Numbers.{number_at-lt}
 use Rattle.r4_base.specs.Node.{Item, header, count_of, start_of, free_of, key_at, plugin_at, offset_at, edge_at, end_at, item_at, items_from, items_of}
-use Rattle.r4_node40.specs.Laid.{IsPlaced, IsLaid}
+use Rattle.r4_node40.specs.Laid.{IsLaid}
 use Rattle.r4_node40.proofs.Faults.{neq-eqb}
 
 -- ---- edges: where bodies begin, and where they end
@@ -141,7 +141,6 @@ get_or-items_from n (suc k) i (suc j) d b lt = let e : i + 1 + j ≡ i + suc j =
 pub get_or-items_of : (b : List ℕ) (n j : ℕ) (d : Item) → count_of b ≡ n → j < n → get_or (items_of b) j d ≡ item_at n b j
 unfolding items_of
 get_or-items_of b n j d is lt = let e : 0 + j ≡ j = omega arith in get_or-items_from (count_of b) (count_of b) 0 j d b (omega arith) ∙ rw (e, is) refl
-
 
 -- the numbers of a key in a block are numbers of 64 bits
 pub key_fits : (b : List ℕ) (i : ℕ) → IsKey (key_at b i)

@@ -1,2 +1,9 @@
 pub mod Faults
 pub mod Laid
+pub mod Fresh
+pub mod Headers
+pub mod Bodies
+pub mod Splices
+pub mod Edits
+pub mod Writes
+pub mod Settling

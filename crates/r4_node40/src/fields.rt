@@ -6,7 +6,6 @@ ghost use Rattle.r4_node40.specs.Laid.{IsLaid};
 
 use r4_base::{Key, get16, get64};
 
-
 /// The key of item `i`.
 #[tactic(auto, unfolding(r4_base::specs::Node::key_at))]
 pub(crate) fn key_of(b: &[u8], i: u16) -> Key
