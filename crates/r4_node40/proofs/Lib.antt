@@ -7,3 +7,4 @@ pub mod Splices
 pub mod Edits
 pub mod Writes
 pub mod Settling
+pub mod Accepted

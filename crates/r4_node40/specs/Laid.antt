@@ -1,7 +1,7 @@
 -- How a block lays out its items, whatever their keys and plugins are, and what an edit leaves of its head.
 use Rattle.std.specs.Prelude.{◌≡◌, ℕ, ◌+◌, ◌-◌, ◌*◌, ◌<◌, ◌≤◌, List, [], ◌∷◌, length, replicate, slice_get, slice_range, slice_set, Some, ◌==◌, if◌then◌else◌}
 use Rattle.r4_base.specs.Bytes.{put_all}
-use Rattle.r4_base.specs.Node.{plugin_of, count_of, start_of, free_of, magic_of, mkfs_id_of, flush_id_of, flags_of, level_of, pad_of, key_at, plugin_at, offset_at, end_at, items_of}
+use Rattle.r4_base.specs.Node.{PluginsFit, KeysRise, plugin_of, count_of, start_of, free_of, magic_of, mkfs_id_of, flush_id_of, flags_of, level_of, pad_of, key_at, plugin_at, offset_at, end_at, items_of}
 
 -- The place of the body of item i.
 pub record IsPlaced (b : List ℕ) (i : ℕ) : Type 0 where
@@ -21,6 +21,13 @@ pub record HasGoodHead (b : List ℕ) : Type 0 where
   pub magic : magic_of b ≡ 0x52344653
   pub plugin : plugin_of b ≡ 0
   pub level : (1 ≤ level_of b) × (level_of b ≤ 8)
+
+-- What the reader asks of a node, but that a branch has items.
+pub record IsNode (b : List ℕ) : Type 0 where
+  pub laid : IsLaid b
+  pub head : HasGoodHead b
+  pub plugins : PluginsFit (level_of b) (items_of b)
+  pub keys : KeysRise (items_of b)
 
 -- The head but for its counts of items and bytes.
 pub record SameHead (old new : List ℕ) : Type 0 where

@@ -3,10 +3,12 @@
 
 mod edit;
 mod fields;
+mod laws;
 mod node_mut;
 mod view;
 
 pub use edit::Full;
-pub use node_mut::{NodeMut, body_law, span_law};
+pub use laws::{body_law, node_law, span_law};
+pub use node_mut::NodeMut;
 pub use r4_base::NodeFault;
 pub use view::{ItemView, NodeView};

@@ -6,7 +6,7 @@ ghost use Rattle.r4_base.specs.Lending.{written};
 ghost use Rattle.r4_base.specs.contracts.block.Block.{the_row as block_row};
 ghost use Rattle.r4_base.specs.Node.{node_fault, offset_at, end_at, count_of};
 ghost use Rattle.r4_node40.specs.contracts.node_mut.NodeMut.{the_row};
-ghost use Rattle.r4_node40.specs.Laid.{IsLaid, IsFresh, WritesBody, WritesSpan, fresh_node, room_of};
+ghost use Rattle.r4_node40.specs.Laid.{IsLaid, IsFresh, fresh_node, room_of};
 ghost use Rattle.r4_node40.specs.Edits.{InsertsItem, RemovesItem, ResizesItem, growth};
 ghost use mir.Syntax.{named};
 
@@ -139,13 +139,3 @@ fn span_of(b: &[u8], i: u16, j: u16) -> (u16, u16)
     let (_, to) = place_of(b, count, j);
     (from, to)
 }
-
-/// A write through `body_mut` changes just that body.
-pub fn body_law()
-    ensures { (b ws : List ℕ) (i : ℕ) → IsLaid b → i < count_of b → offset_at b i + length ws ≡ end_at (count_of b) b i → WritesBody b ws i (written b (offset_at b i) ws) }
-{}
-
-/// A write through `span_mut` changes just those bodies, each to what then stands in its part of the span.
-pub fn span_law()
-    ensures { (b ws : List ℕ) (i j : ℕ) → IsLaid b → i ≤ j → j < count_of b → offset_at b i + length ws ≡ end_at (count_of b) b j → WritesSpan b ws i j (written b (offset_at b i) ws) }
-{}
