@@ -191,6 +191,7 @@ body_written b ws n i f =
     let set_long = length-set (items_of b) i item in
     record {
       laid = laid_again b ws n i i f;
+      count = k'.count_is;
       items = same_lists (items_of new) (set (items_of b) i item) (omega arith) (λ k d h.
           elim (cases_eq k i) [
             | inl at ↦ rw at (get_or-items_of new n i d (sym now) lt ∙ this ∙ sym (get_or-set_same (items_of b) i item d (omega arith)))

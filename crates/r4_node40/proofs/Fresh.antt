@@ -1,10 +1,11 @@
 -- A block that was made a node without items.
-use Rattle.std.proofs.Common.{◌≡◌, ℕ, zero, suc, ◌+◌, ◌^◌, ◌<◌, ◌≤◌, List, length, get_or, set, replicate, refl, ◌∙◌, arith}
-use Rattle.std.proofs.lemmas.List.{length-set, get_or-set_same, get_or-set_other, length-replicate, get_or-replicate}
+use Rattle.std.proofs.Common.{◌≡◌, ℕ, zero, suc, ◌+◌, ◌^◌, ◌<◌, ◌≤◌, List, [], length, get_or, set, replicate, refl, ◌∙◌, arith}
+use Rattle.std.proofs.lemmas.List.{same_lists, length-set, get_or-set_same, get_or-set_other, length-replicate, get_or-replicate}
 use Rattle.std.proofs.lemmas.Bool.{eq-eqb}
 use Rattle.r4_base.specs.Bytes.{number_at, number_bytes, overwrite}
-use Rattle.r4_base.specs.Node.{count_of, start_of, free_of}
+use Rattle.r4_base.specs.Node.{count_of, start_of, free_of, items_of}
 use Rattle.r4_base.proofs.Numbers.{length-overwrite, length-number_bytes, number_at-same, number_at-overwrite, number_at-overwrite_after}
+use Rattle.r4_node40.proofs.Laid.{length-items_of}
 use Rattle.r4_node40.specs.Laid.{IsFresh, fresh_node, room_of}
 
 number_at-zeros : (n at m : ℕ) → at + n ≤ m → number_at n at (replicate m 0) ≡ 0
@@ -53,6 +54,7 @@ fresh level mkfs_id low high small =
         level = (omega arith, omega arith);
       };
       count = count;
+      items = same_lists (items_of b5) [] (length-items_of b5 ∙ count) (λ k d lt. absurd (omega (arith, length-items_of b5)));
       room = let t = eq-eqb (count_of b5) 0 count in rw t refl;
       level_is = at_level;
       mkfs_id_is = s5 4 12 (omega arith) ∙ number_at-overwrite 4 12 mkfs_id b3 (omega arith) (omega (arith, small));

@@ -8,6 +8,7 @@ use Rattle.r4_node40.specs.Laid.{IsLaid, SameHead, room_of}
 -- Item i is taken away.
 pub record RemovesItem (old : List ℕ) (i : ℕ) (new : List ℕ) : Type 0 where
   pub laid : IsLaid new
+  pub count : count_of new + 1 ≡ count_of old
   pub items : items_of new ≡ remove (items_of old) i
   pub head : SameHead old new
   pub room : room_of new + offset_at old i ≡ room_of old + end_at (count_of old) old i + 38
@@ -15,6 +16,7 @@ pub record RemovesItem (old : List ℕ) (i : ℕ) (new : List ℕ) : Type 0 wher
 -- An item with a body of zeros is put in as item i.
 pub record InsertsItem (old : List ℕ) (i : ℕ) (key : Key) (plugin len : ℕ) (new : List ℕ) : Type 0 where
   pub laid : IsLaid new
+  pub count : count_of new ≡ count_of old + 1
   pub items : items_of new ≡ insert (items_of old) i (record { key = key; plugin = plugin; body = replicate len 0 })
   pub head : SameHead old new
   pub room : room_of new + len + 38 ≡ room_of old
@@ -33,6 +35,7 @@ growth b i len = len - (end_at (count_of b) b i - offset_at b i)
 -- The body of item i is cut, or made longer by zeros.
 pub record ResizesItem (old : List ℕ) (i len : ℕ) (new : List ℕ) : Type 0 where
   pub laid : IsLaid new
+  pub count : count_of new ≡ count_of old
   pub items : items_of new ≡ slice_set (items_of old) i (record { key = key_at old i; plugin = plugin_at old i; body = resized (body_at old i) len })
   pub head : SameHead old new
   pub room : room_of new + len + offset_at old i ≡ room_of old + end_at (count_of old) old i

@@ -52,6 +52,7 @@ pub record IsFresh (b : List ℕ) (level mkfs_id : ℕ) : Type 0 where
   pub laid : IsLaid b
   pub head : HasGoodHead b
   pub count : count_of b ≡ 0
+  pub items : items_of b ≡ []
   pub room : room_of b ≡ 4068
   pub level_is : level_of b ≡ level
   pub mkfs_id_is : mkfs_id_of b ≡ mkfs_id
@@ -65,6 +66,7 @@ pub record SameHeader (xs ys : List ℕ) (k m : ℕ) : Type 0 where
 -- What a block is after the body of item i was written.
 pub record WritesBody (b ws : List ℕ) (i : ℕ) (new : List ℕ) : Type 0 where
   pub laid : IsLaid new
+  pub count : count_of new ≡ count_of b
   pub items : items_of new ≡ slice_set (items_of b) i (record { key = key_at b i; plugin = plugin_at b i; body = ws })
   pub head : SameHead b new
   pub room : room_of new ≡ room_of b

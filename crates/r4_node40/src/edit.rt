@@ -50,11 +50,8 @@ impl Splice {
         move_bytes(b, headers, end, 4096 - 38 * left as usize);
         shift_offsets(b, self.at + self.come, left, self.old, self.new);
         put16(b, 2, left);
-        put16(
-            b,
-            4,
-            free + self.old + 38 * self.gone - self.new - 38 * self.come,
-        );
+        let room = free + self.old + 38 * self.gone;
+        put16(b, 4, room - self.new - 38 * self.come);
         put16(b, 6, start + self.new - self.old);
     }
 }

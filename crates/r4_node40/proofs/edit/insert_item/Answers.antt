@@ -43,6 +43,7 @@ returns-clause-ok c =
     let room = edited_room (insertion c.args.i c.edge_of-from.result c.args.len) c.settle.new.b c.zero.new.b c.get16.result (c.get16.result + 1 - 0) e in
     record {
       laid = edited_laid (insertion c.args.i c.edge_of-from.result c.args.len) c.settle.new.b c.zero.new.b c.get16.result (c.get16.result + 1 - 0) e;
+      count = omega (arith, e.count, e.now, e.counted, c.settle.ensures.count);
       items = edited_insert (insertion c.args.i c.edge_of-from.result c.args.len) c.settle.new.b c.zero.new.b c.get16.result (c.get16.result + 1 - 0) e refl refl ∙ ap (λ (x : Item). insert (items_of c.settle.new.b) c.args.i x) item ∙ ap (λ (xs : List Item). insert xs c.args.i (record { key = c.args.key.now; plugin = c.args.plugin; body = replicate c.args.len 0 })) c.settle.ensures.items;
       head = heads_same c.args.b.now c.settle.new.b c.zero.new.b c.settle.ensures.head (edited_head (insertion c.args.i c.edge_of-from.result c.args.len) c.settle.new.b c.zero.new.b c.get16.result (c.get16.result + 1 - 0) e);
       room = omega (arith, c.settle.ensures.room);

@@ -13,6 +13,7 @@ returns c =
     let same : edge_at c.get16-count.result c.args.b.now (c.args.i + 1) ≡ edge_at (count_of c.args.b.now) c.args.b.now (c.args.i + 1) = ap (λ (x : ℕ). edge_at x c.args.b.now (c.args.i + 1)) c.get16-count.ensures in
     record {
       laid = edited_laid (removal c.args.i c.place_of-from.result.0 c.place_of-from.result.1) c.args.b.now c.apply.new.b c.get16-count.result (c.get16-count.result + 0 - 1) e;
+      count = omega (arith, e.count, e.now, e.counted);
       items = edited_remove (removal c.args.i c.place_of-from.result.0 c.place_of-from.result.1) c.args.b.now c.apply.new.b c.get16-count.result (c.get16-count.result + 0 - 1) e refl refl;
       head = edited_head (removal c.args.i c.place_of-from.result.0 c.place_of-from.result.1) c.args.b.now c.apply.new.b c.get16-count.result (c.get16-count.result + 0 - 1) e;
       room = omega (arith, c.place_of-from.ensures.order, c.place_of-from.ensures.from, c.place_of-from.ensures.to);

@@ -29,6 +29,7 @@ returns-clause-ok c =
     let same : edge_at c.get16.result c.args.b.now (c.args.i + 1) ≡ edge_at (count_of c.args.b.now) c.args.b.now (c.args.i + 1) = ap (λ (x : ℕ). edge_at x c.args.b.now (c.args.i + 1)) c.get16.ensures in
     record {
       laid = edited_laid (resizing c.args.i c.place_of-from.result.0 c.place_of-from.result.1 c.args.len) c.args.b.now c.zero.new.b c.get16.result (c.get16.result + 1 - 1) e;
+      count = omega (arith, e.count, e.now, e.counted);
       items = edited_set (resizing c.args.i c.place_of-from.result.0 c.place_of-from.result.1 c.args.len) c.args.b.now c.zero.new.b c.get16.result (c.get16.result + 1 - 1) e refl refl ∙ ap (λ (x : Item). set (items_of c.args.b.now) c.args.i x) item ∙ ap (λ (to : ℕ). set (items_of c.args.b.now) c.args.i (record { key = key_at c.args.b.now c.args.i; plugin = plugin_at c.args.b.now c.args.i; body = resized (slice_range c.args.b.now (offset_at c.args.b.now c.args.i) to) c.args.len })) same;
       head = edited_head (resizing c.args.i c.place_of-from.result.0 c.place_of-from.result.1 c.args.len) c.args.b.now c.zero.new.b c.get16.result (c.get16.result + 1 - 1) e;
       room = omega (arith, c.place_of-from.ensures.order, c.place_of-from.ensures.from, c.place_of-from.ensures.to);

@@ -22,13 +22,13 @@ move_bytes-requires-clause-room c =
     let st = started c.args.self c.args.b.now c.requires in
     omega (arith, st.inside, st.sum, st.low)
 
-pub overflow_add-free : goal.overflow_add-free
-overflow_add-free c =
+pub overflow_add-room : goal.overflow_add-room
+overflow_add-room c =
     let st = started c.args.self c.args.b.now c.requires in
     omega (arith, st.inside, st.sum, st.low)
 
-pub overflow_add-free-2 : goal.overflow_add-free-2
-overflow_add-free-2 c =
+pub overflow_add-room-2 : goal.overflow_add-room-2
+overflow_add-room-2 c =
     let st = started c.args.self c.args.b.now c.requires in
     omega (arith, st.inside, st.sum, st.low)
 
