@@ -6,9 +6,9 @@ use Rattle.std.proofs.lemmas.List.{take_all, same_lists, length-set, get_or-set_
 use Rattle.r4_base.specs.Bytes.{overwrite}
 use Rattle.r4_base.specs.Lending.{written}
 use Rattle.r4_base.proofs.Lent.{written_is}
-use Rattle.r4_base.proofs.Numbers.{length-overwrite, get_or-overwrite_below, get_or-overwrite_inside, get_or-overwrite_above, number_at-overwrite_after, slice_range-same}
+use Rattle.r4_base.proofs.Numbers.{length-overwrite, length-slice_range, get_or-overwrite_below, get_or-overwrite_inside, get_or-overwrite_above, number_at-overwrite_after, slice_range-same}
 use Rattle.r4_base.specs.Node.{Item, count_of, start_of, free_of, key_at, plugin_at, offset_at, edge_at, end_at, item_at, items_of}
-use Rattle.r4_node40.specs.Laid.{IsLaid, SameHeader, SameHead, WritesBody, WritesSpan}
+use Rattle.r4_node40.specs.Laid.{IsLaid, SameHeader, SameHead, WritesBody, WritesSpan, span_at}
 use Rattle.r4_node40.proofs.Laid.{edge_next, edge_last, edge_first, edge_step, edges_apart, edge_stands, laid_by_edges, length-items_of, get-items_of, get_or-items_of}
 use Rattle.r4_node40.proofs.Headers.{same_header, same_head, room_same}
 
@@ -204,18 +204,22 @@ body_written b ws n i f =
       room = room_same b new k'.count_is k'.free_is;
     }
 
-pub span_lent : (b ws : List ℕ) (i j : ℕ) → IsLaid b → i ≤ j → j < count_of b → offset_at b i + length ws ≡ end_at (count_of b) b j → WritesSpan b ws i j (written b (offset_at b i) ws)
+pub span_lent : (b ws : List ℕ) (i j : ℕ) → IsLaid b → i ≤ j → j < count_of b → length ws ≡ length (span_at b i j) → WritesSpan b ws i j (written b (offset_at b i) ws)
 span_lent b ws i j laid le lt long =
     let n = count_of b in
     let here : edge_at n b i ≡ offset_at b i = edge_next n i b (omega arith) in
     let e = edge_stands b n (j + 1) laid refl (omega arith) in
+    let up = edges_apart b n i (j + 1) laid refl (omega arith) (omega arith) in
+    let all = length-slice_range b (offset_at b i) (edge_at n b (j + 1)) (omega arith) (omega (arith, e.high, e.start, laid.whole)) in
     let same : written b (offset_at b i) ws ≡ with_span b n i ws = written_is b ws (offset_at b i) (omega (arith, e.high, e.start, laid.whole)) ∙ ap (λ (at : ℕ). overwrite at ws b) (sym here) in
     rw same (span_written b ws n i j (record { laid = laid; counted = refl; order = le; within = lt; long = omega arith }))
 
-pub body_lent : (b ws : List ℕ) (i : ℕ) → IsLaid b → i < count_of b → offset_at b i + length ws ≡ end_at (count_of b) b i → WritesBody b ws i (written b (offset_at b i) ws)
+pub body_lent : (b ws : List ℕ) (i : ℕ) → IsLaid b → i < count_of b → length ws ≡ length (span_at b i i) → WritesBody b ws i (written b (offset_at b i) ws)
 body_lent b ws i laid lt long =
     let n = count_of b in
     let here : edge_at n b i ≡ offset_at b i = edge_next n i b (omega arith) in
     let e = edge_stands b n (i + 1) laid refl (omega arith) in
+    let up = edges_apart b n i (i + 1) laid refl (omega arith) (omega arith) in
+    let all = length-slice_range b (offset_at b i) (edge_at n b (i + 1)) (omega arith) (omega (arith, e.high, e.start, laid.whole)) in
     let same : written b (offset_at b i) ws ≡ with_span b n i ws = written_is b ws (offset_at b i) (omega (arith, e.high, e.start, laid.whole)) ∙ ap (λ (at : ℕ). overwrite at ws b) (sym here) in
     rw same (body_written b ws n i (record { laid = laid; counted = refl; order = omega arith; within = lt; long = omega arith }))

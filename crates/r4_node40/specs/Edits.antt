@@ -1,9 +1,9 @@
 -- What the edits of a block do to its list of items.
-use Rattle.std.specs.Prelude.{◌≡◌, ℕ, ◌+◌, ◌-◌, List, [], ◌∷◌, ◌++◌, length, take, replicate, remove, slice_index, slice_range, slice_set}
+use Rattle.std.specs.Prelude.{◌≡◌, ℕ, ◌+◌, ◌-◌, List, [], ◌∷◌, ◌++◌, length, take, replicate, remove, slice_index, slice_set}
 use Rattle.std.specs.List.{insert}
 use Rattle.r4_base.specs.declared.key.Key.{Key}
 use Rattle.r4_base.specs.Node.{count_of, key_at, plugin_at, offset_at, end_at, items_of}
-use Rattle.r4_node40.specs.Laid.{IsLaid, SameHead, room_of}
+use Rattle.r4_node40.specs.Laid.{IsLaid, SameHead, room_of, span_at}
 
 -- Item i is taken away.
 pub record RemovesItem (old : List ℕ) (i : ℕ) (new : List ℕ) : Type 0 where
@@ -25,9 +25,6 @@ pub record InsertsItem (old : List ℕ) (i : ℕ) (key : Key) (plugin len : ℕ)
 abbrev pub resized : List ℕ → ℕ → List ℕ
 resized body len = take len body ++ replicate (len - length body) 0
 
-abbrev pub body_at : List ℕ → ℕ → List ℕ
-body_at b i = slice_range b (offset_at b i) (end_at (count_of b) b i)
-
 -- by how much a body of `len` bytes is longer than that of item i
 abbrev pub growth : List ℕ → (i len : ℕ) → ℕ
 growth b i len = len - (end_at (count_of b) b i - offset_at b i)
@@ -36,7 +33,7 @@ growth b i len = len - (end_at (count_of b) b i - offset_at b i)
 pub record ResizesItem (old : List ℕ) (i len : ℕ) (new : List ℕ) : Type 0 where
   pub laid : IsLaid new
   pub count : count_of new ≡ count_of old
-  pub items : items_of new ≡ slice_set (items_of old) i (record { key = key_at old i; plugin = plugin_at old i; body = resized (body_at old i) len })
+  pub items : items_of new ≡ slice_set (items_of old) i (record { key = key_at old i; plugin = plugin_at old i; body = resized (span_at old i i) len })
   pub head : SameHead old new
   pub room : room_of new + len + offset_at old i ≡ room_of old + end_at (count_of old) old i
 

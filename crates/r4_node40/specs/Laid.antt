@@ -63,6 +63,10 @@ pub record SameHeader (xs ys : List ℕ) (k m : ℕ) : Type 0 where
   pub plugin : plugin_at xs k ≡ plugin_at ys m
   pub offset : offset_at xs k ≡ offset_at ys m
 
+-- the bytes from the first of body i to the last of body j
+abbrev pub span_at : List ℕ → (i j : ℕ) → List ℕ
+span_at b i j = slice_range b (offset_at b i) (end_at (count_of b) b j)
+
 -- What a block is after the body of item i was written.
 pub record WritesBody (b ws : List ℕ) (i : ℕ) (new : List ℕ) : Type 0 where
   pub laid : IsLaid new

@@ -3,8 +3,8 @@
 ghost use Rattle.std.specs.Prelude.{◌≡◌, ℕ, ◌+◌, ◌<◌, ◌≤◌, List, None, Some, false, length, sum_by, slice_get, if◌then◌else◌};
 ghost use Rattle.r4_base.specs.Key.{IsKey};
 ghost use Rattle.r4_base.specs.Lending.{written};
-ghost use Rattle.r4_base.specs.Node.{Item, is_empty_branch, node_fault, items_of, item_at, offset_at, end_at, count_of, key_at};
-ghost use Rattle.r4_node40.specs.Laid.{IsLaid, IsNode, WritesBody, WritesSpan, room_of};
+ghost use Rattle.r4_base.specs.Node.{Item, is_empty_branch, node_fault, items_of, item_at, offset_at, count_of, key_at};
+ghost use Rattle.r4_node40.specs.Laid.{IsLaid, IsNode, span_at, WritesBody, WritesSpan, room_of};
 
 use r4_base::NodeFault;
 
@@ -22,10 +22,10 @@ pub fn node_law()
 
 /// A write through `body_mut` changes just that body.
 pub fn body_law()
-    ensures { (b ws : List ℕ) (i : ℕ) → IsLaid b → i < count_of b → offset_at b i + length ws ≡ end_at (count_of b) b i → WritesBody b ws i (written b (offset_at b i) ws) }
+    ensures { (b ws : List ℕ) (i : ℕ) → IsLaid b → i < count_of b → length ws ≡ length (span_at b i i) → WritesBody b ws i (written b (offset_at b i) ws) }
 {}
 
 /// A write through `span_mut` changes just those bodies, each to what then stands in its part of the span.
 pub fn span_law()
-    ensures { (b ws : List ℕ) (i j : ℕ) → IsLaid b → i ≤ j → j < count_of b → offset_at b i + length ws ≡ end_at (count_of b) b j → WritesSpan b ws i j (written b (offset_at b i) ws) }
+    ensures { (b ws : List ℕ) (i j : ℕ) → IsLaid b → i ≤ j → j < count_of b → length ws ≡ length (span_at b i j) → WritesSpan b ws i j (written b (offset_at b i) ws) }
 {}

@@ -1,12 +1,12 @@
 //! A node that is written (docs/layout.md, "Nodes").
 
-ghost use Rattle.std.specs.Prelude.{◌≡◌, ◌↔◌, ◌<◌, ◌≤◌, ◌+◌, [], length, slice_range, IsOk, IfOk, IfErr, OnOk, OnErr, List, ℕ};
+ghost use Rattle.std.specs.Prelude.{◌≡◌, ◌↔◌, ◌<◌, ◌≤◌, ◌+◌, [], IsOk, IfOk, IfErr, OnOk, OnErr, List, ℕ};
 ghost use Rattle.std.specs.Borrow.{sem, Lends, follows_if, Array, u8 as byte};
 ghost use Rattle.r4_base.specs.Lending.{written};
 ghost use Rattle.r4_base.specs.contracts.block.Block.{the_row as block_row};
 ghost use Rattle.r4_base.specs.Node.{node_fault, offset_at, end_at, count_of};
 ghost use Rattle.r4_node40.specs.contracts.node_mut.NodeMut.{the_row};
-ghost use Rattle.r4_node40.specs.Laid.{IsLaid, IsFresh, fresh_node, room_of};
+ghost use Rattle.r4_node40.specs.Laid.{IsLaid, IsFresh, fresh_node, room_of, span_at};
 ghost use Rattle.r4_node40.specs.Edits.{InsertsItem, RemovesItem, ResizesItem, growth};
 ghost use mir.Syntax.{named};
 
@@ -101,7 +101,7 @@ impl<'a> NodeMut<'a> {
         requires laid { IsLaid (bytes_of self.old) }
         requires within { i < count_of (bytes_of self.old) }
         ensures* lends { sem 𝓛 (Lends (the_row (record { mir = named 1; lft = [] })) (Array byte 0) self.entry result (λ w. with_bytes self.old (written (bytes_of self.old) (offset_at (bytes_of self.old) i) w))) }
-        ensures value { result.now ≡ slice_range (bytes_of self.old) (offset_at (bytes_of self.old) i) (end_at (count_of (bytes_of self.old)) (bytes_of self.old) i) }
+        ensures value { result.now ≡ span_at (bytes_of self.old) i i }
     {
         let bytes = self.block.bytes();
         let (from, to) = place_of(bytes, get16(bytes, 2), i);
@@ -116,7 +116,7 @@ impl<'a> NodeMut<'a> {
         requires order { i ≤ j }
         requires within { j < count_of (bytes_of self.old) }
         ensures* lends { sem 𝓛 (Lends (the_row (record { mir = named 1; lft = [] })) (Array byte 0) self.entry result (λ w. with_bytes self.old (written (bytes_of self.old) (offset_at (bytes_of self.old) i) w))) }
-        ensures value { result.now ≡ slice_range (bytes_of self.old) (offset_at (bytes_of self.old) i) (end_at (count_of (bytes_of self.old)) (bytes_of self.old) j) }
+        ensures value { result.now ≡ span_at (bytes_of self.old) i j }
     {
         let bytes = self.block.bytes();
         let (from, to) = span_of(bytes, i, j);
