@@ -1,5 +1,5 @@
 -- The order of keys that code computes is that of their ranks.
-use Rattle.std.proofs.Common.{Ordering, Less, Equal, Greater, ◌≡◌, ◌↔◌, ℕ, ◌+◌, ◌*◌, ◌^◌, ◌<◌, Bool, true, false, List, [], ◌∷◌, length, get_or, refl, sym, ap, ◌∙◌, arith, inl, inr}
+use Rattle.std.proofs.Common.{Ordering, Less, Equal, Greater, ◌≡◌, ◌↔◌, ℕ, ◌+◌, ◌*◌, ◌^◌, ◌<◌, List, [], ◌∷◌, length, get_or, sym, ◌∙◌, arith, inl, inr}
 use Rattle.std.specs.Prelude.{nat_lt, IsTrue}
 use Rattle.std.specs.Ordering.{nat_cmp, is_lt, ordering_then}
 use Rattle.std.specs.Cmp.{nat_cmp_is}

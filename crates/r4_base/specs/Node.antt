@@ -1,5 +1,5 @@
 -- What a block says as a node, and the first fault where it says nothing (docs/layout.md, "Nodes").
-use Rattle.std.specs.Prelude.{◌≡◌, ℕ, zero, suc, ◌+◌, ◌-◌, ◌*◌, ◌<◌, List, [], ◌∷◌, slice_get, slice_index, slice_range, Bool, true, not, ◌&&◌, ◌||◌, Option, Some, None, nat_lt, nat_le, ◌==◌, if◌then◌else◌}
+use Rattle.std.specs.Prelude.{◌≡◌, ℕ, zero, suc, ◌+◌, ◌-◌, ◌*◌, List, [], ◌∷◌, slice_get, slice_index, slice_range, Bool, true, not, ◌&&◌, ◌||◌, Option, Some, None, nat_lt, nat_le, ◌==◌, if◌then◌else◌}
 use Rattle.r4_base.specs.Bytes.{number_at}
 use Rattle.r4_base.specs.Key.{rank, IsBelow}
 use Rattle.r4_base.specs.declared.key.Key.{Key}

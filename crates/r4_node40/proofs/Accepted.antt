@@ -1,13 +1,13 @@
 -- Which blocks the reader accepts, in words of their lists of items.
-use Rattle.std.proofs.Common.{◌≡◌, ℕ, zero, suc, ◌+◌, ◌-◌, ◌*◌, ◌<◌, ◌≤◌, Bool, true, false, cond, ◌&&◌, ◌||◌, not, eqb, List, length, Option, Some, None, refl, sym, ap, subst, ◌∙◌, arith, inl, inr}
-use Rattle.std.proofs.lemmas.Bool.{cases_eq, cases_lt, eq-eqb, eqb-true, lt-ltb, ltb-true, le-leb, leb-true}
+use Rattle.std.proofs.Common.{◌≡◌, ℕ, zero, suc, ◌+◌, ◌-◌, ◌*◌, ◌<◌, ◌≤◌, Bool, true, false, cond, ◌||◌, not, eqb, List, length, Option, Some, None, refl, sym, ap, subst, ◌∙◌, arith, inl, inr}
+use Rattle.std.proofs.lemmas.Bool.{cases_eq, eq-eqb, eqb-true, lt-ltb, ltb-true, le-leb, leb-true}
 use Rattle.std.proofs.lemmas.Option.{slice_get_within}
 use Rattle.std.proofs.lemmas.List.Sums.{sum_by-cons}
 use Rattle.std.specs.Prelude.{nat_lt, nat_le, slice_get, sum_by}
 use Rattle.r4_base.proofs.Numbers.{length-slice_range}
 use Rattle.r4_base.specs.declared.node.NodeFault.TheVariants.{Magic, Level, Empty, Space, Offset, Plugin, Order}
 use Rattle.r4_base.specs.declared.node.NodeFault.{NodeFault}
-use Rattle.r4_base.specs.Key.{IsBelow, rank}
+use Rattle.r4_base.specs.Key.{rank}
 use Rattle.r4_base.specs.Node.{Item, PluginsFit, KeysRise, count_of, start_of, free_of, magic_of, plugin_of, level_of, key_at, plugin_at, offset_at, edge_at, item_at, items_from, items_of, then_fault, header_fault, item_fault, items_fault, node_fault, magic_is_good, level_is_good, is_empty_branch, space_is_good, offset_is_good, fits_level, order_is_good}
 use Rattle.r4_node40.specs.Laid.{IsPlaced, IsLaid, IsNode, HasGoodHead, room_of}
 use Rattle.r4_node40.proofs.Faults.{chosen_none, and_true, not_false, neq-eqb, node_parts, each_good, laid_from_good}

@@ -7,7 +7,7 @@ use Rattle.r4_base.specs.Bytes.{overwrite}
 use Rattle.r4_base.specs.Lending.{written}
 use Rattle.r4_base.proofs.Lent.{written_is}
 use Rattle.r4_base.proofs.Numbers.{length-overwrite, length-slice_range, get_or-overwrite_below, get_or-overwrite_inside, get_or-overwrite_above, number_at-overwrite_after, slice_range-same}
-use Rattle.r4_base.specs.Node.{Item, count_of, start_of, free_of, key_at, plugin_at, offset_at, edge_at, end_at, item_at, items_of}
+use Rattle.r4_base.specs.Node.{Item, count_of, start_of, free_of, key_at, plugin_at, offset_at, edge_at, item_at, items_of}
 use Rattle.r4_node40.specs.Laid.{IsLaid, SameHeader, SameHead, WritesBody, WritesSpan, span_at}
 use Rattle.r4_node40.proofs.Laid.{edge_next, edge_last, edge_first, edge_step, edges_apart, edge_stands, laid_by_edges, length-items_of, get-items_of, get_or-items_of}
 use Rattle.r4_node40.proofs.Headers.{same_header, same_head, room_same}
