@@ -1,9 +1,9 @@
 //! The keys of items (docs/layout.md, "Keys").
 
-ghost use Rattle.std.specs.Prelude.{◌≡◌, ◌↔◌, ◌<◌, ◌^◌, nat_lt, IsTrue};
+ghost use Rattle.std.specs.Prelude.{◌≡◌, ◌↔◌, ◌<◌, ◌^◌, IsTrue};
 ghost use Rattle.std.specs.Ordering.{nat_cmp, is_lt};
 ghost use Rattle.std.specs.Cmp.Lexicographic.{slice_cmp};
-ghost use Rattle.r4_base.specs.Key.{IsKey, IsBelow, stat_key, body_key};
+ghost use Rattle.r4_base.specs.Key.{IsKey, IsBelow, rank, stat_key, body_key};
 
 use crate::things::Oid;
 
@@ -37,7 +37,8 @@ impl Key {
     }
 }
 
-/// The order of keys that is computed is that of their ranks.
+/// The order of keys that is computed is that of their ranks, and keys of one rank are equal.
 pub fn key_law()
-    ensures { (a b : Key) → IsKey a → IsKey b → (IsTrue (is_lt (slice_cmp nat_cmp a.el b.el)) ↔ IsBelow a b) }
+    ensures order { (a b : Key) → IsKey a → IsKey b → (IsTrue (is_lt (slice_cmp nat_cmp a.el b.el)) ↔ IsBelow a b) }
+    ensures equal { (a b : Key) → IsKey a → IsKey b → rank a ≡ rank b → a ≡ b }
 {}

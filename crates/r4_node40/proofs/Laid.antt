@@ -5,6 +5,7 @@ use Rattle.std.specs.Prelude.{slice_get, slice_range}
 use Rattle.r4_base.specs.declared.key.Key.{Key}
 use Rattle.r4_base.specs.Bytes.{number_at}
 use Rattle.r4_base.specs.Key.{IsKey}
+use Rattle.r4_base.proofs.Keys.{is_key}
 use Rattle.r4_base.proofs.Numbers.{number_at-lt}
 use Rattle.r4_base.specs.Node.{Item, header, count_of, start_of, free_of, key_at, plugin_at, offset_at, edge_at, end_at, item_at, items_from, items_of}
 use Rattle.r4_node40.specs.Laid.{IsLaid}
@@ -146,12 +147,5 @@ get_or-items_of b n j d is lt = let e : 0 + j ≡ j = omega arith in get_or-item
 pub key_fits : (b : List ℕ) (i : ℕ) → IsKey (key_at b i)
 unfolding key_at
 key_fits b i =
-    let at = header i in
-    record { four = refl; small = each (number_at 8 at b) (number_at 8 (at + 8) b) (number_at 8 (at + 16) b) (number_at 8 (at + 24) b) (number_at-lt 8 at b) (number_at-lt 8 (at + 8) b) (number_at-lt 8 (at + 16) b) (number_at-lt 8 (at + 24) b) }
-  where
-    each : (w x y z : ℕ) → w < 256 ^ 8 → x < 256 ^ 8 → y < 256 ^ 8 → z < 256 ^ 8 → (k : ℕ) → get_or (w ∷ x ∷ y ∷ z ∷ []) k 0 < 2 ^ 64
-    each w x y z f g h i zero = omega arith
-    each w x y z f g h i (suc zero) = omega arith
-    each w x y z f g h i (suc (suc zero)) = omega arith
-    each w x y z f g h i (suc (suc (suc zero))) = omega arith
-    each w x y z f g h i (suc (suc (suc (suc k)))) = omega arith
+    let small = λ (at : ℕ). number_at-lt 8 at b in
+    is_key (key_at b i) refl (omega (arith, small (header i))) (omega (arith, small (header i + 8))) (omega (arith, small (header i + 16))) (omega (arith, small (header i + 24)))

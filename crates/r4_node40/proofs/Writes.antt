@@ -58,17 +58,6 @@ four _ e = absurd (omega arith)
 key_is : (k : Key) (w x y z : ℕ) → length k.el ≡ 4 → w ≡ get_or k.el 0 0 → x ≡ get_or k.el 1 0 → y ≡ get_or k.el 2 0 → z ≡ get_or k.el 3 0 → record { el = w ∷ x ∷ y ∷ z ∷ [] } ≡ k
 key_is k w x y z long a b c d = rw (a, b, c, d) (ap (λ (xs : List ℕ). let r : Key = record { el = xs } in r) (four k.el long))
 
-small_digits : (xs : List ℕ) → length xs ≡ 4 → get_or xs 0 0 < 2 ^ 64 → get_or xs 1 0 < 2 ^ 64 → get_or xs 2 0 < 2 ^ 64 → get_or xs 3 0 < 2 ^ 64 → (i : ℕ) → get_or xs i 0 < 2 ^ 64
-small_digits (w ∷ x ∷ y ∷ z ∷ []) e a b c d zero = a
-small_digits (w ∷ x ∷ y ∷ z ∷ []) e a b c d (suc zero) = b
-small_digits (w ∷ x ∷ y ∷ z ∷ []) e a b c d (suc (suc zero)) = c
-small_digits (w ∷ x ∷ y ∷ z ∷ []) e a b c d (suc (suc (suc zero))) = d
-small_digits (w ∷ x ∷ y ∷ z ∷ []) e a b c d (suc (suc (suc (suc i)))) = omega arith
-small_digits _ e a b c d i = absurd (omega arith)
-
-pub is_key : (k : Key) → length k.el ≡ 4 → get_or k.el 0 0 < 2 ^ 64 → get_or k.el 1 0 < 2 ^ 64 → get_or k.el 2 0 < 2 ^ 64 → get_or k.el 3 0 < 2 ^ 64 → IsKey k
-is_key k e a b c d = record { four = e; small = small_digits k.el e a b c d }
-
 -- an item header that was written says what was written
 pub record HeaderSays (b : List ℕ) (i : ℕ) (k : Key) (offset plugin : ℕ) : Type 0 where
   pub key : key_at b i ≡ k

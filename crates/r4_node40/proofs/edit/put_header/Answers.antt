@@ -1,5 +1,6 @@
 use Rattle.std.proofs.Common.{◌+◌, ◌-◌, ◌*◌, arith, rules}
-use Rattle.r4_node40.proofs.Writes.{HeaderSays, header_put, header_says, is_key}
+use Rattle.r4_base.proofs.Keys.{is_key}
+use Rattle.r4_node40.proofs.Writes.{HeaderSays, header_put, header_says}
 use Rattle.r4_node40.proofs.edit.put_header.Goals as goal
 
 pub returns : goal.returns
