@@ -1,5 +1,5 @@
 -- Fields that are written one after the other are one write.
-use Rattle.std.proofs.Common.{◌≡◌, ℕ, zero, suc, ◌+◌, ◌-◌, ◌*◌, ◌^◌, ◌<◌, ◌≤◌, List, [], ◌∷◌, ◌++◌, length, get_or, take, drop, refl, sym, ap, ◌∙◌, arith}
+use Rattle.std.proofs.Common.{◌≡◌, ℕ, ◌+◌, ◌-◌, ◌*◌, ◌^◌, ◌<◌, ◌≤◌, List, [], ◌∷◌, ◌++◌, length, get_or, take, drop, refl, sym, ap, ◌∙◌, arith}
 use Rattle.std.proofs.lemmas.List.{places, ext_get_or, length-append, length-take}
 use Rattle.r4_base.specs.Bytes.{number_at, number_bytes, overwrite, fields_bytes, width_of, HasFields, put_all}
 use Rattle.r4_base.proofs.Numbers.{length-overwrite, length-number_bytes, length-fields_bytes, fields_read}

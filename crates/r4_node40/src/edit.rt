@@ -2,16 +2,17 @@
 
 ghost use Rattle.std.specs.Prelude.{◌≡◌, ◌↔◌, ℕ, ◌+◌, ◌-◌, ◌*◌, ◌^◌, ◌<◌, ◌≤◌, length, replicate, IsOk, IfErr, OnOk, OnErr};
 ghost use Rattle.r4_base.specs.Bytes.{fields_bytes, overwrite};
-ghost use Rattle.r4_base.specs.Node.{count_of, key_at, offset_at, plugin_at};
-ghost use Rattle.r4_node40.specs.Laid.{fresh_node, room_of, IsLaid, SameHead};
+ghost use Rattle.r4_base.specs.Node.{count_of, header, key_at, offset_at, plugin_at};
+ghost use Rattle.r4_node40.specs.Laid.{fresh_node, room_of, IsLaid};
 ghost use Rattle.r4_node40.specs.Edits.{RemovesItem, InsertsItem, ResizesItem, header_fields, growth};
-ghost use Rattle.r4_node40.specs.Splice.{ShiftsOffsets, IsSettled, Settles};
+ghost use Rattle.r4_node40.specs.Splice.{ShiftsOffsets, Settles};
 
-use crate::fields::{edge_of, offset_of};
+use crate::fields::{edge_of, header_of, offset_of};
 use crate::view::{MAGIC, place_of};
 use r4_base::{Key, blank, get16, move_bytes, put16, put32, put64};
 
-/// An edit has no room: it needs `need` bytes, and `free` bytes are free (docs/layout.md, "Nodes").
+/// An edit has no room: it needs `need` bytes, and only `free` bytes are free, of 4068 in a node without items. An insert
+/// needs its body's bytes and 38 more, a resize the bytes by which the body grows (docs/layout.md, "Nodes").
 #[derive(Clone, Copy, Debug, PartialEq, Eq)]
 pub struct Full {
     pub need: u16,
@@ -66,7 +67,7 @@ fn shift_offsets(b: &mut [u8], first: u16, count: u16, old: u16, new: u16)
 {
     for i in first..count {
         let offset = offset_of(b, i);
-        put16(b, 4096 - 38 * (i as usize + 1) + 32, offset + new - old);
+        put16(b, header_of(i) + 32, offset + new - old);
     }
 }
 
@@ -182,12 +183,12 @@ fn settle(b: &mut [u8])
 fn put_header(b: &mut [u8], i: u16, key: &Key, offset: u16, plugin: u16)
     requires whole { length b.old ≡ 4096 }
     requires within { 38 * (i + 1) ≤ 4096 }
-    ensures bytes { b.new ≡ overwrite (4096 - 38 * (i + 1)) (fields_bytes (header_fields key.now offset plugin)) b.old }
+    ensures bytes { b.new ≡ overwrite (header i) (fields_bytes (header_fields key.now offset plugin)) b.old }
     ensures key { key_at b.new i ≡ key.now }
     ensures offset { offset_at b.new i ≡ offset }
     ensures plugin { plugin_at b.new i ≡ plugin }
 {
-    let at = 4096 - 38 * (i as usize + 1);
+    let at = header_of(i);
     put64(b, at, key.el[0]);
     put64(b, at + 8, key.el[1]);
     put64(b, at + 16, key.el[2]);

@@ -1,10 +1,17 @@
 //! What a node's block says of its items, field by field (docs/layout.md, "Nodes").
 
-ghost use Rattle.std.specs.Prelude.{◌≡◌, ◌+◌, ◌*◌, ◌<◌, ◌≤◌, length};
-ghost use Rattle.r4_base.specs.Node.{key_at, offset_at, plugin_at, edge_at, end_at, count_of, start_of};
-ghost use Rattle.r4_node40.specs.Laid.{IsLaid};
+ghost use Rattle.std.specs.Prelude.{◌≡◌, ◌+◌, ◌*◌, ◌≤◌, length};
+ghost use Rattle.r4_base.specs.Node.{header, key_at, offset_at, plugin_at, edge_at};
 
 use r4_base::{Key, get16, get64};
+
+/// Where the header of item `i` begins: header 0 ends the block, and each ends where the one before it begins.
+pub(crate) fn header_of(i: u16) -> usize
+    requires { 38 * (i + 1) ≤ 4096 }
+    ensures { result ≡ header i }
+{
+    4096 - 38 * (i as usize + 1)
+}
 
 /// The key of item `i`.
 #[tactic(auto, unfolding(r4_base::specs::Node::key_at))]
@@ -13,7 +20,7 @@ pub(crate) fn key_of(b: &[u8], i: u16) -> Key
     requires within { 38 * (i + 1) ≤ 4096 }
     ensures { result ≡ key_at b.now i }
 {
-    let at = 4096 - 38 * (i as usize + 1);
+    let at = header_of(i);
     Key {
         el: [
             get64(b, at),
@@ -31,7 +38,7 @@ pub(crate) fn offset_of(b: &[u8], i: u16) -> u16
     requires within { 38 * (i + 1) ≤ 4096 }
     ensures { result ≡ offset_at b.now i }
 {
-    get16(b, 4096 - 38 * (i as usize + 1) + 32)
+    get16(b, header_of(i) + 32)
 }
 
 /// The plugin of item `i`.
@@ -41,7 +48,7 @@ pub(crate) fn plugin_of(b: &[u8], i: u16) -> u16
     requires within { 38 * (i + 1) ≤ 4096 }
     ensures { result ≡ plugin_at b.now i }
 {
-    get16(b, 4096 - 38 * (i as usize + 1) + 36)
+    get16(b, header_of(i) + 36)
 }
 
 /// Where the body of item `i` begins, or where the bodies end where there is no such item.

@@ -1,6 +1,6 @@
 //! A node that is written (docs/layout.md, "Nodes").
 
-ghost use Rattle.std.specs.Prelude.{◌≡◌, ◌↔◌, ◌<◌, ◌≤◌, ◌+◌, [], IsOk, IfOk, IfErr, OnOk, OnErr, List, ℕ};
+ghost use Rattle.std.specs.Prelude.{◌≡◌, ◌↔◌, ◌<◌, ◌≤◌, ◌+◌, [], IsOk, IfOk, IfErr, OnOk, OnErr};
 ghost use Rattle.std.specs.Borrow.{sem, Lends, follows_if, Array, u8 as byte};
 ghost use Rattle.r4_base.specs.Lending.{written};
 ghost use Rattle.r4_base.specs.contracts.block.Block.{the_row as block_row};
