@@ -8,3 +8,4 @@ pub mod Edits
 pub mod Writes
 pub mod Settling
 pub mod Accepted
+pub mod Kept

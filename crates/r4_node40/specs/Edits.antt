@@ -1,8 +1,9 @@
 -- What the edits of a block do to its list of items.
-use Rattle.std.specs.Prelude.{◌≡◌, ℕ, ◌+◌, ◌-◌, List, [], ◌∷◌, ◌++◌, length, take, replicate, remove, slice_index, slice_set}
+use Rattle.std.specs.Prelude.{◌≡◌, ℕ, ◌+◌, ◌-◌, List, [], ◌∷◌, ◌++◌, length, take, replicate, remove, slice_get, slice_index, slice_set, Some}
 use Rattle.std.specs.List.{insert}
+use Rattle.r4_base.specs.Key.{IsBelow}
 use Rattle.r4_base.specs.declared.key.Key.{Key}
-use Rattle.r4_base.specs.Node.{count_of, key_at, plugin_at, offset_at, end_at, items_of}
+use Rattle.r4_base.specs.Node.{Item, count_of, key_at, plugin_at, offset_at, end_at, items_of}
 use Rattle.r4_node40.specs.Laid.{IsLaid, SameHead, room_of, span_at}
 
 -- Item i is taken away.
@@ -40,3 +41,8 @@ pub record ResizesItem (old : List ℕ) (i len : ℕ) (new : List ℕ) : Type 0 
 -- the fields of an item header; its flags are 0
 abbrev pub header_fields : Key → (offset plugin : ℕ) → List (ℕ × ℕ)
 header_fields k offset plugin = (8, slice_index k.el 0) ∷ (8, slice_index k.el 1) ∷ (8, slice_index k.el 2) ∷ (8, slice_index k.el 3) ∷ (2, offset) ∷ (2, 0) ∷ (2, plugin) ∷ []
+
+-- A key that is above the one before place i and below the one that stands there.
+pub record GoesBetween (items : List Item) (i : ℕ) (key : Key) : Type 0 where
+  pub above : (k : ℕ) (x : Item) → k + 1 ≡ i → slice_get items k ≡ Some x → IsBelow x.key key
+  pub below : (y : Item) → slice_get items i ≡ Some y → IsBelow key y.key

@@ -8,7 +8,7 @@ mod node_mut;
 mod view;
 
 pub use edit::Full;
-pub use laws::{body_law, node_law, span_law};
+pub use laws::{body_law, edit_law, node_law, span_law};
 pub use node_mut::NodeMut;
 pub use r4_base::NodeFault;
 pub use view::{ItemView, NodeView};
