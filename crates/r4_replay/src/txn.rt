@@ -133,13 +133,13 @@ fn judge_record(
 fn take_pairs(
     blocks: u64,
     at: u64,
-    record: &LogRecord<'_>,
+    says: &LogRecord<'_>,
     pairs: &mut Vec<(u64, u64)>,
 ) -> Result<(), Stop>
-    ensures { TakesPairs blocks at (view_record record.now).pairs pairs.old.items pairs.new.items result }
+    ensures { TakesPairs blocks at (view_record says.now).pairs pairs.old.items pairs.new.items result }
 {
-    for i in 0..record.pairs() {
-        let (original, wandered) = record.pair(i);
+    for i in 0..says.pairs() {
+        let (original, wandered) = says.pair(i);
         if !is_original(blocks, original) || !is_in_log(blocks, wandered) {
             return Err(Stop::Log {
                 block: at,

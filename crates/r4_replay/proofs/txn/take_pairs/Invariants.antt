@@ -6,7 +6,7 @@ use Rattle.r4_replay.proofs.txn.take_pairs.Given as goal
 
 abbrev pub invariant-loop-i : goal.invariant-loop-i
 invariant-loop-i l =
-    let ps = (view_record l.record).pairs in
+    let ps = (view_record l.says).pairs in
     record {
       ends : l.i-end ≡ length ps;
       good : list_all (pair_is_in_range l.blocks) (take l.i ps) ≡ true;
