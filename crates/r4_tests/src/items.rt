@@ -96,15 +96,47 @@ fn extents_are_read(rt: HostRuntime) -> Result<(), Fail> {
         (&[(0, 5), (65535, 1)], None, None),
         (&[(32735, 1), (32737, 32735)], None, None),
         (&[], Some(ExtentFault::Length), Some(ExtentFault::Length)),
-        (&[(1, 1)], Some(ExtentFault::Start(0)), Some(ExtentFault::Start(0))),
-        (&[(22, 1), (21, 0)], Some(ExtentFault::Start(1)), Some(ExtentFault::Start(1))),
-        (&[(22, 1), (0, 0)], Some(ExtentFault::Width(1)), Some(ExtentFault::Width(1))),
-        (&[(70000, 0)], Some(ExtentFault::Width(0)), Some(ExtentFault::Width(0))),
-        (&[(65535, 2)], Some(ExtentFault::Range(0)), Some(ExtentFault::Range(0))),
-        (&[(32736, 1)], Some(ExtentFault::Range(0)), Some(ExtentFault::Range(0))),
-        (&[(32735, 2)], Some(ExtentFault::Range(0)), Some(ExtentFault::Range(0))),
+        (
+            &[(1, 1)],
+            Some(ExtentFault::Start(0)),
+            Some(ExtentFault::Start(0)),
+        ),
+        (
+            &[(22, 1), (21, 0)],
+            Some(ExtentFault::Start(1)),
+            Some(ExtentFault::Start(1)),
+        ),
+        (
+            &[(22, 1), (0, 0)],
+            Some(ExtentFault::Width(1)),
+            Some(ExtentFault::Width(1)),
+        ),
+        (
+            &[(70000, 0)],
+            Some(ExtentFault::Width(0)),
+            Some(ExtentFault::Width(0)),
+        ),
+        (
+            &[(65535, 2)],
+            Some(ExtentFault::Range(0)),
+            Some(ExtentFault::Range(0)),
+        ),
+        (
+            &[(32736, 1)],
+            Some(ExtentFault::Range(0)),
+            Some(ExtentFault::Range(0)),
+        ),
+        (
+            &[(32735, 2)],
+            Some(ExtentFault::Range(0)),
+            Some(ExtentFault::Range(0)),
+        ),
         (&[(far, 1)], Some(ExtentFault::Range(0)), None),
-        (&[(22, 1), (far, 2)], Some(ExtentFault::Range(1)), Some(ExtentFault::Range(1))),
+        (
+            &[(22, 1), (far, 2)],
+            Some(ExtentFault::Range(1)),
+            Some(ExtentFault::Range(1)),
+        ),
     ];
     for (units, stored, kept) in table {
         let body = spelled(rt.alloc(), units)?;
@@ -112,7 +144,11 @@ fn extents_are_read(rt: HostRuntime) -> Result<(), Fail> {
             return Err(Fail::from("the units do not fit"));
         }
         assert_eq!(rt; ExtentView::read(&body, 65536).err(), stored, "{units:?}");
-        assert_eq!(rt; ExtentView::in_memory(&body, 65536).err(), kept, "{units:?}");
+        assert_eq!(rt;
+            ExtentView::in_memory(&body, 65536).err(),
+            kept,
+            "{units:?}"
+        );
     }
     Ok(())
 }
@@ -141,11 +177,20 @@ fn extents_are_cut(rt: HostRuntime) -> Result<(), Fail> {
     let table: [(&[(u64, u64)], u16, u64, &[(u64, u64)]); 3] = [
         (&[(30, 9), (7, 7)], 0, 4, &[(30, 4), (34, 5)]),
         (&[(0, 9), (50, 1), (7, 7)], 0, 1, &[(0, 1), (0, 8), (50, 1)]),
-        (&[(50, 1), (60, 3), (7, 7)], 1, 2, &[(50, 1), (60, 2), (62, 1)]),
+        (
+            &[(50, 1), (60, 3), (7, 7)],
+            1,
+            2,
+            &[(50, 1), (60, 2), (62, 1)],
+        ),
     ];
     for (units, i, width, wanted) in table {
         let body = cut(alloc, units, i, width)?;
-        assert_eq!(rt; body.as_slice(), spelled(alloc, wanted)?.as_slice(), "{units:?}");
+        assert_eq!(rt;
+            body.as_slice(),
+            spelled(alloc, wanted)?.as_slice(),
+            "{units:?}"
+        );
     }
     Ok(())
 }

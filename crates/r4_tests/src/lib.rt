@@ -10,6 +10,8 @@ mod items;
 #[cfg(test)]
 mod logs;
 #[cfg(test)]
+mod nodes;
+#[cfg(test)]
 mod replays;
 #[cfg(test)]
 mod tables;

@@ -1,0 +1,135 @@
+//! Nodes: the faults of a leaf, and its edits.
+
+use r4_base::{Block, Key, NodeFault, Oid, put16};
+use r4_node40::{Full, NodeMut, NodeView};
+use std::alloc::Global;
+use std::test::Fail;
+
+// A leaf with the stat data of the root, of zeros, and a tail of two bytes. One byte of each is written, or none.
+fn leaf(alloc: Global, is_written: bool) -> Result<Block, Fail> {
+    let mut block = Block::zeroed(alloc)?;
+    let mut node = NodeMut::format(&mut block, 1, 0);
+    let Ok(()) = node.insert(0, Key::stat(41, 0, Oid(42)), 0, 44) else {
+        return Err(Fail::from("there is no room for stat data"));
+    };
+    let Ok(()) = node.insert(1, Key::body(41, 0, Oid(42), 0), 6, 2) else {
+        return Err(Fail::from("there is no room for a tail"));
+    };
+    if is_written {
+        let span = node.span_mut(0, 1);
+        if span.len() != 46 {
+            return Err(Fail::from("the bodies are not 46 bytes"));
+        }
+        let (stat, tail) = span.split_at_mut(44);
+        stat[3] = 7;
+        tail[1] = 9;
+    }
+    Ok(block)
+}
+
+// The fault of a block in which some numbers of two bytes are changed.
+fn fault_of(
+    alloc: Global,
+    block: &Block,
+    changes: &[(usize, u16)],
+) -> Result<Option<NodeFault>, Fail> {
+    let mut changed = block.copy(alloc)?;
+    for &(at, number) in changes {
+        if at > 4094 {
+            return Err(Fail::from("there is no such place"));
+        }
+        put16(changed.bytes_mut(), at, number);
+    }
+    Ok(NodeView::read(changed.bytes()).err())
+}
+
+#[test]
+fn faults_of_a_leaf_are_named(rt: HostRuntime) -> Result<(), Fail> {
+    let block = leaf(rt.alloc(), false)?;
+    // The head begins at 0, the header of item 0 at 4058, and that of item 1 at 4020.
+    let table: [(&[(usize, u16)], Option<NodeFault>); 14] = [
+        (&[], None),
+        (&[(16, 5), (24, 5), (27, 5)], None),
+        (&[(8, 1)], Some(NodeFault::Magic)),
+        (&[(0, 1)], Some(NodeFault::Magic)),
+        (&[(26, 0)], Some(NodeFault::Level)),
+        (&[(26, 9)], Some(NodeFault::Level)),
+        (&[(26, 2), (2, 0)], Some(NodeFault::Empty)),
+        (&[(4, 3945)], Some(NodeFault::Space)),
+        (&[(6, 27), (4, 3993)], Some(NodeFault::Space)),
+        (&[(4090, 29)], Some(NodeFault::Offset(0))),
+        (&[(4052, 28)], Some(NodeFault::Offset(1))),
+        (&[(4052, 74)], Some(NodeFault::Offset(1))),
+        (&[(4094, 3)], Some(NodeFault::Plugin(0))),
+        (&[(4020, 657)], Some(NodeFault::Order(1))),
+    ];
+    for (changes, fault) in table {
+        assert_eq!(rt;
+            fault_of(rt.alloc(), &block, changes)?,
+            fault,
+            "{changes:?}"
+        );
+    }
+    Ok(())
+}
+
+#[test]
+fn two_bodies_are_written_at_once(rt: HostRuntime) -> Result<(), Fail> {
+    let before = leaf(rt.alloc(), false)?;
+    let after = leaf(rt.alloc(), true)?;
+    let mut changed = Vec::new(rt.alloc());
+    for (at, (old, new)) in before.bytes().iter().zip(after.bytes()).enumerate() {
+        if old != new {
+            changed.push((at, *new))?;
+        }
+    }
+    assert_eq!(rt; changed.as_slice(), [(31, 7), (73, 9)].as_slice());
+    Ok(())
+}
+
+#[test]
+fn a_leaf_is_filled(rt: HostRuntime) -> Result<(), Fail> {
+    let mut block = Block::zeroed(rt.alloc())?;
+    let mut node = NodeMut::format(&mut block, 1, 0);
+    let key = Key::body(42, 0, Oid(70_000), 0);
+    let Err(full) = node.insert(0, key, 6, 4031) else {
+        return Err(Fail::from("a body of 4031 bytes does not fit"));
+    };
+    assert_eq!(rt;
+        full,
+        Full {
+            need: 4069,
+            free: 4068
+        }
+    );
+    let Ok(()) = node.insert(0, key, 6, 4030) else {
+        return Err(Fail::from("a body of 4030 bytes fits"));
+    };
+    let Err(full) = node.insert(1, key, 6, 1) else {
+        return Err(Fail::from("the leaf is full"));
+    };
+    assert_eq!(rt; full, Full { need: 39, free: 0 });
+    let Err(full) = node.resize(0, 4031) else {
+        return Err(Fail::from("the body cannot grow"));
+    };
+    assert_eq!(rt; full, Full { need: 1, free: 0 });
+    let Ok(()) = node.resize(0, 10) else {
+        return Err(Fail::from("the body can shrink"));
+    };
+    let Ok(()) = node.insert(1, Key::body(42, 0, Oid(70_001), 0), 6, 20) else {
+        return Err(Fail::from("there is room again"));
+    };
+    node.remove(0);
+    let view = match NodeView::read(block.bytes()) {
+        Ok(view) => view,
+        Err(_) => return Err(Fail::from("the leaf is refused")),
+    };
+    assert_eq!(rt; view.len(), 1);
+    if view.len() > 0 {
+        let item = view.item(0);
+        assert_eq!(rt; item.key, Key::body(42, 0, Oid(70_001), 0));
+        assert_eq!(rt; item.plugin, 6);
+        assert_eq!(rt; item.body, [0u8; 20].as_slice());
+    }
+    Ok(())
+}
