@@ -6,7 +6,9 @@ use crate::tables::{
     CALLS, Damage, OF_ONE_RECORD, OF_TWO_RECORDS, OF_TWO_TRANSACTIONS, REFUSED, REPLAYED, TEN,
     THREE, TWO, UNREAD,
 };
+use r4_base::BlockNo;
 use r4_outside::{Device, MemorySink};
+use r4_replay::{LogFault, ReplayFault, read_log};
 use std::alloc::Global;
 use std::process::Abort;
 use std::sync::Wait;
@@ -234,5 +236,35 @@ fn a_crash_is_replayed_again(rt: HostRuntime) -> Result<(), Fail> {
             assert_eq!(rt; differs, None, "moment {moment}, pick {pick}");
         }
     }
+    Ok(())
+}
+
+#[test]
+fn the_log_tells_where_blocks_stand(rt: HostRuntime) -> Result<(), Fail> {
+    let alloc = rt.alloc();
+    let mut dev = short_log(alloc, &THREE)?.device()?;
+    let before = dev.clock();
+    let Ok(log) = read_log(alloc, &mut dev) else {
+        return Err(Fail::from("the log is refused"));
+    };
+    assert_eq!(rt; log.count(), 3);
+    for (at, home) in [
+        (17, 47),
+        (55, 49),
+        (56, 46),
+        (45, 45),
+        (57, 57),
+        (5000, 5000),
+    ] {
+        assert_eq!(rt; log.home(BlockNo(at)), BlockNo(home), "{at}");
+    }
+    assert_eq!(rt; dev.clock(), before);
+
+    let mut long = short_log(alloc, &TEN)?.device()?;
+    let refused = ReplayFault::Log {
+        block: BlockNo(24),
+        fault: LogFault::Long,
+    };
+    assert_eq!(rt; read_log(alloc, &mut long).err(), Some(refused));
     Ok(())
 }
