@@ -1,8 +1,8 @@
 //! Stat data, extents, pointers and tails, over tables of bodies.
 
-use r4_base::{Attr, BlockNo, ExtentFault, StatFault, put64};
+use r4_base::{Attr, BlockNo, ExtentFault, StatFault, Unit, put64};
 use r4_meta::{read_stat, tail_part, write_stat};
-use r4_twig::{ExtentView, pointer, put_pointer, split_at};
+use r4_twig::{ExtentView, join, join_law, pointer, put_pointer, replace, split_at};
 use std::alloc::Global;
 use std::test::Fail;
 
@@ -192,5 +192,82 @@ fn extents_are_cut(rt: HostRuntime) -> Result<(), Fail> {
             "{units:?}"
         );
     }
+    Ok(())
+}
+
+ghost use Rattle.std.specs.Prelude.{◌≡◌, IfSome};
+ghost use Rattle.r4_base.specs.Extents.{blocks_in};
+ghost use Rattle.r4_twig.specs.View.{view_units};
+
+// How many blocks the units have, where 64 bits are enough.
+fn blocks_of(view: &ExtentView<'_>) -> Option<u64>
+    ensures { IfSome result (λ n. n ≡ blocks_in (view_units view.now)) }
+{
+    let mut blocks = 0u64;
+    for i in 0..view.len() {
+        blocks = blocks.checked_add(view.unit(i).width)?;
+    }
+    Some(blocks)
+}
+
+// The units, with neighbours made one.
+fn made_one(alloc: Global, units: &[(u64, u64)]) -> Result<Vec<u8>, Fail> {
+    let mut body = spelled(alloc, units)?;
+    let used = body.len();
+    if used > 4096 {
+        return Err(Fail::from("the units do not fit"));
+    }
+    let Ok(view) = ExtentView::in_memory(&body, 1 << 63) else {
+        return Err(Fail::from("the units are refused"));
+    };
+    let Some(_) = blocks_of(&view) else {
+        return Err(Fail::from("there are too many blocks"));
+    };
+    join_law();
+    let end = join(&mut body, used);
+    body.truncate(end);
+    Ok(body)
+}
+
+#[test]
+fn extents_are_made_one(rt: HostRuntime) -> Result<(), Fail> {
+    let alloc = rt.alloc();
+    let far = 1u64 << 63;
+    let table: [(&[(u64, u64)], &[(u64, u64)]); 5] = [
+        (&[(30, 2)], &[(30, 2)]),
+        (&[(30, 2), (32, 1), (33, 4)], &[(30, 7)]),
+        (
+            &[(30, 2), (33, 1), (0, 3), (0, 4)],
+            &[(30, 2), (33, 1), (0, 7)],
+        ),
+        (&[(0, 30), (30, 2), (0, 1)], &[(0, 30), (30, 2), (0, 1)]),
+        (&[(far, 1), (far + 1, 1)], &[(far, 1), (far + 1, 1)]),
+    ];
+    for (units, wanted) in table {
+        let body = made_one(alloc, units)?;
+        assert_eq!(rt;
+            body.as_slice(),
+            spelled(alloc, wanted)?.as_slice(),
+            "{units:?}"
+        );
+    }
+    Ok(())
+}
+
+#[test]
+fn units_are_replaced(rt: HostRuntime) -> Result<(), Fail> {
+    let mut body = [0xffu8; 48];
+    replace(
+        &mut body,
+        1,
+        &Unit {
+            start: 22,
+            width: 3,
+        },
+    );
+    let mut wanted = [0xffu8; 48];
+    put64(&mut wanted, 16, 22);
+    put64(&mut wanted, 24, 3);
+    assert_eq!(rt; body, wanted);
     Ok(())
 }
