@@ -10,3 +10,5 @@ pub mod Stat
 pub mod Extents
 pub mod Key
 pub mod Node
+pub mod Name
+pub mod Dir

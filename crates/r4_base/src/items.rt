@@ -1,5 +1,8 @@
 //! What the bodies of items say, and why one is refused (docs/layout.md, "Items").
 
+use crate::node::NodeFault;
+use crate::things::Oid;
+
 /// The stat data of an object. The upper four bits of `mode` are its type: 0o04 for a directory and 0o10 for a file. A
 /// directory's `nlink` is 2 plus its directories and its `size` the number of its entries; a file's `nlink` is the number
 /// of entries that name it, and its `size` is in bytes. The times are in seconds. Each field may be any number of its
@@ -45,4 +48,54 @@ pub enum ExtentFault {
     Start(u16),
     Width(u16),
     Range(u16),
+}
+
+/// What an entry names: the object whose stat data has this locality, ordering and object id. The locality is below 2^60
+/// for every object (docs/layout.md, "Items").
+#[derive(Clone, Copy, Debug, PartialEq, Eq)]
+pub struct Target {
+    pub locality: u64,
+    pub ordering: u64,
+    pub oid: Oid,
+}
+
+/// Why bytes are no name, in the order in which the faults are looked for: `Empty`; `Long`, with more than 255 bytes, of
+/// which it tells the number; `Byte`, at the place of the first byte that is 0 or a slash, counted from 0; `Dot`, where
+/// the name is one dot or two (docs/layout.md, "Names").
+#[derive(Clone, Copy, Debug, PartialEq, Eq)]
+pub enum NameFault {
+    Empty,
+    Long(usize),
+    Byte(usize),
+    Dot,
+}
+
+/// Why a body is no directory item, in the order in which the faults are looked for: `Count`, where it ends before its
+/// count, counts no entries, or has no room for their headers; then for each entry, by its place from 0 on, `Offset`,
+/// where entry 0 does not begin behind the headers, or a body goes past the item or has fewer than 24 bytes; `Order`,
+/// where entry 0 has another key than the item, or a later key is not above the one before it; `Name`, where the name
+/// does not give the key, is no name, or the body is not exactly of its form (docs/layout.md, "Items").
+#[derive(Clone, Copy, Debug, PartialEq, Eq)]
+pub enum DirFault {
+    Count,
+    Offset(u16),
+    Order(u16),
+    Name(u16),
+}
+
+/// Why a block may not stand as a cell at its level and range, in the order in which the faults are looked for: `Node`;
+/// `Level`, where the node has another level; then item by item the fault of its body, and `Range`, where the item's key
+/// or one of its units lies outside the range, or a unit not below the next item's key, or where the first item of a node
+/// above leaf level does not begin the range. `Tail`: a tail that ends past byte 16384. `Pointer`: a pointer to no block
+/// of the volume, or to a fixed one (docs/volume.md, "Cells").
+#[derive(Clone, Copy, Debug, PartialEq, Eq)]
+pub enum CellFault {
+    Node(NodeFault),
+    Stat(StatFault),
+    Dir(DirFault),
+    Extent(ExtentFault),
+    Tail,
+    Pointer,
+    Level,
+    Range { item: u16 },
 }

@@ -13,7 +13,7 @@ mod things;
 
 pub use block::Block;
 pub use bytes::{blank, get16, get32, get64, move_bytes, put_bytes, put16, put32, put64};
-pub use items::{Attr, ExtentFault, StatFault, Unit};
+pub use items::{Attr, CellFault, DirFault, ExtentFault, NameFault, StatFault, Target, Unit};
 pub use journal::{Footer, Header, LogFault, TxHead};
 pub use key::{Key, key_law};
 pub use laws::{log_law, number_law, settled_law};
