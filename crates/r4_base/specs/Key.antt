@@ -1,5 +1,5 @@
 -- Keys, and their order (docs/layout.md, "Keys").
-use Rattle.std.specs.Prelude.{◌≡◌, ℕ, ◌+◌, ◌*◌, ◌^◌, ◌<◌, [], ◌∷◌, length, slice_index}
+use Rattle.std.specs.Prelude.{◌≡◌, ℕ, ◌+◌, ◌-◌, ◌*◌, ◌/◌, ◌%◌, ◌^◌, ◌<◌, [], ◌∷◌, length, slice_index}
 use Rattle.r4_base.specs.declared.key.Key.{Key}
 use Rattle.r4_base.specs.declared.things.Oid.{Oid}
 
@@ -21,3 +21,21 @@ rank k = slice_index k.el 0 * 2 ^ 192 + (slice_index k.el 1 * 2 ^ 128 + (slice_i
 
 abbrev pub IsBelow : Key → Key → Type 0
 IsBelow a b = rank a < rank b
+
+-- the key of a rank, and what it says
+unfoldable pub key_of_rank : ℕ → Key
+key_of_rank r = record { el = r / 2 ^ 192 ∷ r / 2 ^ 128 % 2 ^ 64 ∷ r / 2 ^ 64 % 2 ^ 64 ∷ r % 2 ^ 64 ∷ [] }
+
+-- the minor type: 0 a name, 1 stat data, 4 a body
+abbrev pub minor_of : Key → ℕ
+minor_of k = slice_index k.el 0 % 16
+
+abbrev pub offset_of : Key → ℕ
+offset_of k = slice_index k.el 3
+
+-- the rank of the least key of all, (657, 0, 42, 0), and that of the four greatest numbers, which no item has
+unfoldable pub least : ℕ
+least = 657 * 2 ^ 192 + 42 * 2 ^ 64
+
+unfoldable pub top : ℕ
+top = 2 ^ 256 - 1

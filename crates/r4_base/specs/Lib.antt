@@ -12,3 +12,7 @@ pub mod Key
 pub mod Node
 pub mod Name
 pub mod Dir
+pub mod Value
+pub mod Tree
+pub mod Cell
+pub mod Volume
