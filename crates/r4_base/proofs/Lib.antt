@@ -9,3 +9,6 @@ pub mod Bits
 pub mod Bitmaps
 pub mod Stats
 pub mod Keys
+pub mod Trees
+pub mod Contents
+pub mod Images

@@ -108,3 +108,11 @@ UnitAt {V} t k v = (i : ℕ) × (c : Node V) × (t i ≡ Some c) × Contains c.u
 -- the key is the cell's own: it lies in the leaf or the data block, or in an extent of the twig and in no block
 abbrev pub Holds : {V : Type 0} → Node V → ℕ → Type 0
 Holds c k = ((c.level ≤ 1) × InNode c k) ⊎ ((s : Span) × Contains c.spans s × InSpan s k × ((n : Name) → Contains c.names n → IsData n → InName n k → ⊥))
+
+-- the key lies in a cell of the level
+abbrev pub Covers : {V : Type 0} → Store V → (level key : ℕ) → Type 0
+Covers {V} t l k = (i : ℕ) × (c : Node V) × (t i ≡ Some c) × (c.level ≡ l) × InNode c k
+
+-- the key lies in a leaf or in an extent
+abbrev pub CoversLeaf : {V : Type 0} → Store V → ℕ → Type 0
+CoversLeaf {V} t k = Covers t 1 k ⊎ ((i : ℕ) × (c : Node V) × (s : Span) × (t i ≡ Some c) × Contains c.spans s × InSpan s k)

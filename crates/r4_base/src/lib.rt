@@ -10,6 +10,7 @@ mod laws;
 mod node;
 mod superblock;
 mod things;
+mod volume;
 
 pub use block::Block;
 pub use bytes::{blank, get16, get32, get64, move_bytes, put_bytes, put16, put32, put64};
@@ -21,3 +22,4 @@ pub use node::NodeFault;
 pub use std::alloc::AllocError as Memory;
 pub use superblock::{LayoutFault, Master, Super40};
 pub use things::{AtomNo, BlockNo, NodeId, Oid, ScriptNo, TaskId, TxnNo};
+pub use volume::volume_law;
