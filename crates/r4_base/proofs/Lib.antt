@@ -12,3 +12,6 @@ pub mod Keys
 pub mod Trees
 pub mod Contents
 pub mod Images
+pub mod Spare
+pub mod Visible
+pub mod Twice

@@ -341,4 +341,3 @@ module _ {V : Type 0} (t : Store V) (root : Root) (it : IsTree t root) where
       let from = ic.from_least in
       let to = ic.to_top in
       (omega (arith, at, from), omega (arith, at, to))
-

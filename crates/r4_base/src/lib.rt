@@ -22,4 +22,4 @@ pub use node::NodeFault;
 pub use std::alloc::AllocError as Memory;
 pub use superblock::{LayoutFault, Master, Super40};
 pub use things::{AtomNo, BlockNo, NodeId, Oid, ScriptNo, TaskId, TxnNo};
-pub use volume::volume_law;
+pub use volume::{content_law, volume_law};

@@ -1,0 +1,6 @@
+use Rattle.r4_base.proofs.Images.{one_content}
+use Rattle.r4_base.proofs.Visible.{in_cell, below_size, whole_file}
+use Rattle.r4_base.proofs.volume.content_law.Goals as goal
+
+pub returns : goal.returns
+returns c = record { one = one_content; keys = in_cell; within = below_size; whole = whole_file }
