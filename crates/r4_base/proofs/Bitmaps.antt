@@ -74,6 +74,10 @@ pub first_unheld-found : (block_count k n : ℕ) (image : Image) → are_held bl
 unfolding first_unheld
 first_unheld-found block_count k n image unheld = rw unheld refl
 
+pub free_below-zero : (image : Image) → free_below 0 image ≡ 0
+unfolding free_below
+free_below-zero image = refl
+
 pub free_below-suc : (n : ℕ) (image : Image) → free_below (suc n) image ≡ free_below n image + count_by not (bitmap_bits image n)
 unfolding free_below
 free_below-suc n image = refl

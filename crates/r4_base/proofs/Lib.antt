@@ -15,3 +15,4 @@ pub mod Images
 pub mod Spare
 pub mod Visible
 pub mod Twice
+pub mod FreshBits

@@ -16,3 +16,4 @@ pub mod Value
 pub mod Tree
 pub mod Cell
 pub mod Volume
+pub mod Fresh

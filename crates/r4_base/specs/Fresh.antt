@@ -1,0 +1,49 @@
+-- A fresh volume: the root directory alone (docs/volume.md, "A fresh volume").
+use Rattle.std.specs.Prelude.{◌≡◌, ℕ, ◌+◌, ◌-◌, ◌*◌, ◌<◌, ◌≤◌, List, [], ◌∷◌, length, replicate, Bool, ◌||◌, ◌==◌, None}
+use Rattle.r4_base.specs.Bytes.{number_bytes}
+use Rattle.r4_base.specs.Image.{Image, IsImage, block_at}
+use Rattle.r4_base.specs.Layout.{master_block, super_block}
+use Rattle.r4_base.specs.Bitmap.{is_used, is_always_used, bitmap_count, bitmap_block}
+use Rattle.r4_base.specs.Key.{stat_key}
+use Rattle.r4_base.specs.Node.{Item, items_of, level_of, node_fault}
+use Rattle.r4_base.specs.Stat.{stat_body}
+use Rattle.r4_base.specs.Volume.{HasContent, IsLost, empty_volume, root_attr, root_object}
+use Rattle.r4_base.specs.declared.key.Key.{Key}
+use Rattle.r4_base.specs.declared.superblock.Master.{Master}
+use Rattle.r4_base.specs.declared.superblock.Super40.{Super40}
+
+-- the root's node, a twig, stands in block 22, and its one leaf in block 23
+abbrev pub is_taken : (block_count b : ℕ) → Bool
+is_taken block_count b = is_always_used block_count b || b == 22 || b == 23
+
+-- the blocks but for the fixed ones and those two
+abbrev pub fresh_free : (block_count : ℕ) → ℕ
+fresh_free block_count = block_count - (23 + bitmap_count block_count)
+
+abbrev pub fresh_super : (block_count : ℕ) → Super40
+fresh_super n = record { block_count = n; free_blocks = fresh_free n; root_block = 22; oid = 65536; file_count = 1; flushes = 0; mkfs_id = 1; tree_height = 2; formatting_policy = 0; flags = 1; version = 0; node_pid = 0 }
+
+-- the key of the root's stat data, the least of all
+abbrev pub root_key : Key
+root_key = stat_key root_object.locality root_object.ordering root_object.oid
+
+-- The block is a node of a level with one item, which has the least key.
+pub record HasOneItem (b : List ℕ) (level plugin : ℕ) (body : List ℕ) : Type 0 where
+  pub sound : node_fault b ≡ None
+  pub level_is : level_of b ≡ level
+  pub items : items_of b ≡ record { key = root_key; plugin = plugin; body = body } ∷ []
+
+-- The image of n blocks is a fresh volume of this label, all but its first superblock.
+pub record IsFreshBut16 (n : ℕ) (image : Image) : Type 0 where
+  pub whole : IsImage n image
+  pub super : block_at image 17 ≡ super_block (fresh_super n)
+  pub bitmaps : (k i : ℕ) → k < bitmap_count n → i < 32736 → is_used (block_at image (bitmap_block k)) i ≡ is_taken n (k * 32736 + i)
+  pub header : block_at image 19 ≡ replicate 4096 0
+  pub footer : block_at image 20 ≡ replicate 4096 0
+  pub status : block_at image 21 ≡ replicate 4096 0
+  pub twig : HasOneItem (block_at image 22) 2 3 (number_bytes 8 23)
+  pub leaf : HasOneItem (block_at image 23) 1 0 (stat_body root_attr)
+
+pub record IsFreshImage (n : ℕ) (label : List ℕ) (image : Image) : Type 0 where
+  pub rest : IsFreshBut16 n image
+  pub master : block_at image 16 ≡ master_block (record { label = label })
