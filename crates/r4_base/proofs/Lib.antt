@@ -16,3 +16,5 @@ pub mod Spare
 pub mod Visible
 pub mod Twice
 pub mod FreshBits
+pub mod FreshTree
+pub mod FreshVolume

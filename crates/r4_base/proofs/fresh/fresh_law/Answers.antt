@@ -1,6 +1,6 @@
 use Rattle.std.proofs.Common.{refl}
-use Rattle.r4_base.proofs.FreshBits.{free_bits, taken_first, taken_low, taken_past, not_taken, fresh_fault, fresh_marks, taken_cases}
+use Rattle.r4_base.proofs.FreshVolume.{fresh_volume, fresh_super_is, fresh_lost}
 use Rattle.r4_base.proofs.fresh.fresh_law.Goals as goal
 
 pub returns : goal.returns
-returns c n b l h = refl
+returns c n label image long low high f = (fresh_volume n label image long low high f, fresh_super_is n label image long low high f, fresh_lost n label image long low high f)
