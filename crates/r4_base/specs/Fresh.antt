@@ -1,5 +1,5 @@
 -- A fresh volume: the root directory alone (docs/volume.md, "A fresh volume").
-use Rattle.std.specs.Prelude.{◌≡◌, ℕ, ◌+◌, ◌-◌, ◌*◌, ◌<◌, ◌≤◌, List, [], ◌∷◌, length, replicate, Bool, ◌||◌, ◌==◌, None}
+use Rattle.std.specs.Prelude.{◌≡◌, ℕ, ◌+◌, ◌-◌, ◌*◌, ◌<◌, ◌≤◌, List, [], ◌∷◌, replicate, take, Bool, ◌||◌, ◌==◌, None}
 use Rattle.r4_base.specs.Bytes.{number_bytes}
 use Rattle.r4_base.specs.Image.{Image, IsImage, block_at}
 use Rattle.r4_base.specs.Layout.{master_block, super_block}
@@ -33,17 +33,19 @@ pub record HasOneItem (b : List ℕ) (level plugin : ℕ) (body : List ℕ) : Ty
   pub level_is : level_of b ≡ level
   pub items : items_of b ≡ record { key = root_key; plugin = plugin; body = body } ∷ []
 
--- The image of n blocks is a fresh volume of this label, all but its first superblock.
+-- The image of n blocks is a fresh volume, all but its master superblock, which has the label.
 pub record IsFreshBut16 (n : ℕ) (image : Image) : Type 0 where
   pub whole : IsImage n image
   pub super : block_at image 17 ≡ super_block (fresh_super n)
   pub bitmaps : (k i : ℕ) → k < bitmap_count n → i < 32736 → is_used (block_at image (bitmap_block k)) i ≡ is_taken n (k * 32736 + i)
+  pub fronts : (k : ℕ) → k < bitmap_count n → take 4 (block_at image (bitmap_block k)) ≡ replicate 4 0
   pub header : block_at image 19 ≡ replicate 4096 0
   pub footer : block_at image 20 ≡ replicate 4096 0
   pub status : block_at image 21 ≡ replicate 4096 0
   pub twig : HasOneItem (block_at image 22) 2 3 (number_bytes 8 23)
   pub leaf : HasOneItem (block_at image 23) 1 0 (stat_body root_attr)
 
+-- The image is a fresh volume of this label.
 pub record IsFreshImage (n : ℕ) (label : List ℕ) (image : Image) : Type 0 where
   pub rest : IsFreshBut16 n image
   pub master : block_at image 16 ≡ master_block (record { label = label })

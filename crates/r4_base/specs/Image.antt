@@ -1,5 +1,5 @@
 -- An image: a list of blocks, each a list of 4096 bytes.
-use Rattle.std.specs.Prelude.{◌≡◌, ℕ, ◌*◌, ◌<◌, List, [], ◌∷◌, length, take, drop, slice_index_or, slice_set}
+use Rattle.std.specs.Prelude.{◌≡◌, ℕ, ◌*◌, ◌<◌, ◌≤◌, List, [], ◌∷◌, length, take, drop, slice_index_or, slice_set}
 
 abbrev pub Image : Type 0
 Image = List (List ℕ)
@@ -13,6 +13,10 @@ block_at image b = slice_index_or image b []
 -- sector s of a block, of its eight: 512 bytes
 abbrev pub sector : List ℕ → ℕ → List ℕ
 sector block s = take 512 (drop (512 * s) block)
+
+-- how many blocks a volume may have
+abbrev pub IsLawful : (blocks : ℕ) → Type 0
+IsLawful blocks = (64 ≤ blocks) × (blocks ≤ 1048576)
 
 -- An image of n blocks.
 pub record IsImage (n : ℕ) (image : Image) : Type 0 where

@@ -1,10 +1,10 @@
 -- How a run of device calls goes on.
-use Rattle.std.proofs.Common.{◌≡◌, ◌⊎◌, inl, inr, ⊎_elim, ℕ, ◌+◌, ◌<◌, ◌≤◌, List, [], refl, sym, ◌∙◌, subst, arith, Result, Ok}
+use Rattle.std.proofs.Common.{◌≡◌, ◌⊎◌, inl, inr, ⊎_elim, ℕ, ◌+◌, ◌<◌, ◌≤◌, List, [], refl, sym, ◌∙◌, ap, subst, arith, Result, Ok}
 use Rattle.std.proofs.lemmas.Bool.{cases_eq, cases_lt}
 use Rattle.std.proofs.lemmas.List.{ext_get_or}
 use Rattle.r4_base.specs.Image.{Image, block_at, sector}
 use Rattle.r4_outside.proofs.Images.{same_sectors}
-use Rattle.r4_outside.specs.Device.{State, Sectors, Leaves, TellsReads, TellsCrashes, Goes, Writes, Syncs, Within, only, LeavesOnly, HasSectors, IsTorn, Spares}
+use Rattle.r4_outside.specs.Device.{State, Sectors, Leaves, TellsReads, TellsCrashes, Goes, Writes, Syncs, Within, only, LeavesOnly, HasSectors, IsQuiet, IsTorn, Spares}
 
 -- Going on is reflexive and transitive.
 pub goes_same : (d : State) → Goes d d
@@ -176,3 +176,22 @@ reads_of d tells = record { blocks = tells.blocks; whole = tells.whole }
 -- what is told stays told
 pub tells_on : (old new : State) → Goes old new → TellsReads old → TellsReads new
 tells_on old new goes tells = goes.reads.1 tells
+
+-- a device stays quiet while nothing is written
+pub quiet_on : (old new : State) → Goes old new → new.seen ≡ old.seen → new.clock ≡ old.clock → IsQuiet old → IsQuiet new
+quiet_on old new goes seen clock quiet = record {
+  tells = goes.crashes.1 quiet.tells;
+  within = record {
+    each = λ b s x lb ls may.
+        let before = (goes.earlier new.clock b s x (omega (arith, clock))).0 may in
+        let at_old = subst (λ (m : ℕ). old.may_hold m b s x) clock before in
+        quiet.within.each b s x (let same = goes.blocks in omega (arith, lb, same)) ls at_old ∙ ap (λ (i : Image). sector (block_at i b) s) (sym seen);
+  };
+}
+
+-- and a crash leaves what reading gives
+pub one_left : (old new : State) (m : ℕ) (image : Image) → Goes old new → new.clock ≡ old.clock → IsQuiet old → old.clock ≤ m → m ≤ new.clock → Leaves new m image → image ≡ old.seen
+one_left old new m image goes clock quiet lo hi left =
+    let now : m ≡ old.clock = omega (arith, lo, hi, clock) in
+    let left_old = left_before old new m image goes (omega (arith, now)) left in
+    only_one old.blocks (old.may_hold old.clock) old.seen image quiet.tells (has_now old (only old.seen) m image quiet.within now left_old)

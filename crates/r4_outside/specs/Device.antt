@@ -85,6 +85,11 @@ pub record Goes (old new : State) : Type 0 where
   pub faults : old.faults ≤ new.faults
   pub earlier : (m b s : ℕ) (x : List ℕ) → m ≤ old.clock → new.may_hold m b s x ↔ old.may_hold m b s x
 
+-- Nothing was written.
+pub record Untouched (old new : State) : Type 0 where
+  pub seen : new.seen ≡ old.seen
+  pub clock : new.clock ≡ old.clock
+
 -- `blocks`
 pub record Counts {E : Type 0} (old : State) (result : Result ℕ E) (new : State) : Type 0 where
   pub goes : Goes old new

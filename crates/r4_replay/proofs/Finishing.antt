@@ -4,25 +4,17 @@ use Rattle.std.proofs.lemmas.List.{length-map, length-reverse}
 use Rattle.r4_base.specs.Image.{Image, block_at, sector, put_pairs, AgreesOutside}
 use Rattle.r4_base.specs.Chain.{Txn, HasLog, SettlesTo, is_footer, chain_pairs}
 use Rattle.r4_base.proofs.Logs.{one_log, not_refused}
-use Rattle.r4_outside.specs.Device.{State, Goes, IsQuiet, LeavesOnly}
+use Rattle.r4_outside.specs.Device.{State, Goes, IsQuiet, LeavesOnly, Untouched}
 use Rattle.r4_replay.specs.declared.txn.Txn.{Txn as TxnHere}
 use Rattle.r4_replay.specs.Txns.{txn_shown, chain_shown}
+use Rattle.r4_outside.proofs.Moments.{quiet_on}
 use Rattle.r4_replay.specs.Reading.{Idles}
 use Rattle.r4_replay.specs.Placing.{IsPlaced}
-use Rattle.r4_replay.specs.Replay.{SettlesAlike, SettlesAlways, PutInPlace, Untouched, footer_after}
+use Rattle.r4_replay.specs.Replay.{SettlesAlike, SettlesAlways, PutInPlace, footer_after}
 
 -- a device stays quiet while it is only read
 pub quiet_idle : (old mid : State) → Idles old mid → IsQuiet old → IsQuiet mid
-quiet_idle old mid idles quiet = record {
-  tells = idles.goes.crashes.1 quiet.tells;
-  within = record {
-    each = λ b s x lb ls may.
-        let now = idles.clock in
-        let before = (idles.goes.earlier mid.clock b s x (omega (arith, now))).0 may in
-        let at_old = subst (λ (m : ℕ). old.may_hold m b s x) now before in
-        quiet.within.each b s x (let same = idles.goes.blocks in omega (arith, lb, same)) ls at_old ∙ ap (λ (i : Image). sector (block_at i b) s) (sym idles.seen);
-  };
-}
+quiet_idle old mid idles quiet = quiet_on old mid idles.goes idles.seen idles.clock quiet
 
 -- what one chain settles to, seen from any
 pub alike : (n : ℕ) (base image : Image) (chain : List Txn) → HasLog n base chain → SettlesTo n is_footer (put_pairs (chain_pairs chain) base) image → SettlesAlike n base image

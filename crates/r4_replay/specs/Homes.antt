@@ -3,14 +3,14 @@ use Rattle.std.specs.Prelude.{◌≡◌, ℕ, ◌<◌, List, length, Result, Ok,
 use Rattle.std.specs.Ordering.{nat_cmp}
 use Rattle.std.specs.Option.{unwrap_or}
 use Rattle.std.specs.BTreeMap.{BTreeMap, get}
-use Rattle.r4_base.specs.Image.{block_at, put_pairs}
+use Rattle.r4_base.specs.Image.{IsLawful, block_at, put_pairs}
 use Rattle.r4_base.specs.Chain.{Txn, HasLog, chain_pairs, home}
 use Rattle.r4_outside.specs.Device.{State, TellsReads, Rose}
 use Rattle.r4_replay.specs.declared.fault.Stop.{Stop}
 use Rattle.r4_replay.specs.declared.fault.Stop.TheVariants.{Failed, Memory as NoMemory, Log as Fault}
 use Rattle.r4_replay.specs.declared.fault.ReplayFault.{ReplayFault}
 use Rattle.r4_replay.specs.declared.log.Log.{Log}
-use Rattle.r4_replay.specs.Replay.{IsLawful, RefusedAs, Faulted}
+use Rattle.r4_replay.specs.Replay.{RefusedAs, Faulted}
 
 -- the block that a map has for a block, or the block itself
 abbrev pub home_in : BTreeMap ℕ ℕ → ℕ → ℕ

@@ -1,24 +1,16 @@
 -- What replay answers and leaves (docs/layout.md, "Replay").
 use Rattle.std.specs.Prelude.{◌≡◌, ◌⊎◌, ℕ, ◌<◌, ◌≤◌, List, [], ◌∷◌, length, Result, Ok, Err}
 use Rattle.r4_base.specs.Bytes.{put_all}
-use Rattle.r4_base.specs.Image.{Image, block_at, put_pairs, AgreesOutside}
+use Rattle.r4_base.specs.Image.{Image, IsLawful, block_at, put_pairs, AgreesOutside}
 use Rattle.r4_base.specs.Log.{footer_fields}
 use Rattle.r4_base.specs.Chain.{Txn, HasLog, Settles, SettlesTo, is_footer, chain_pairs, committed, flushed}
 use Rattle.r4_base.specs.Refusal.{Refusal, IsRefused}
 use Rattle.r4_base.specs.declared.journal.Footer.{Footer}
-use Rattle.r4_outside.specs.Device.{State, TellsReads, Rose, LeavesOnly}
+use Rattle.r4_outside.specs.Device.{State, TellsReads, Rose, LeavesOnly, Untouched}
 use Rattle.r4_replay.specs.declared.fault.Stop.{Stop}
 use Rattle.r4_replay.specs.declared.fault.Stop.TheVariants.{Failed, Memory as NoMemory, Log as Fault}
 use Rattle.r4_replay.specs.declared.fault.ReplayFault.{ReplayFault}
 use Rattle.r4_replay.specs.declared.fault.ReplayFault.TheVariants.{Log, Device, Size, Memory}
-
--- Nothing was written.
-pub record Untouched (old new : State) : Type 0 where
-  pub seen : new.seen ≡ old.seen
-  pub clock : new.clock ≡ old.clock
-
-abbrev pub IsLawful : ℕ → Type 0
-IsLawful blocks = (64 ≤ blocks) × (blocks ≤ 1048576)
 
 -- the footer that names a transaction's head, with the head's three numbers
 abbrev pub footer_naming : Txn → Footer

@@ -5,10 +5,10 @@ ghost use Rattle.r4_base.specs.Bytes.{put_all};
 ghost use Rattle.r4_base.specs.Image.{block_at, put_pairs};
 ghost use Rattle.r4_base.specs.Log.{footer_fields, footer_of};
 ghost use Rattle.r4_base.specs.Chain.{PairInRange, HasLog, SettlesTo, is_footer, chain_pairs};
-ghost use Rattle.r4_outside.specs.Device.{Goes, HasCause, TellsReads, Spares, IsQuiet, LeavesOnly};
+ghost use Rattle.r4_outside.specs.Device.{Goes, HasCause, TellsReads, Spares, IsQuiet, LeavesOnly, Untouched};
 ghost use Rattle.r4_replay.specs.Txns.{txn_shown, chain_shown};
 ghost use Rattle.r4_replay.specs.Chains.{InRangeAll};
-ghost use Rattle.r4_replay.specs.Replay.{Untouched, footer_naming};
+ghost use Rattle.r4_replay.specs.Replay.{footer_naming};
 ghost use Rattle.r4_replay.specs.Placing.{IsOriginalOf, LeftByPut, IsPlaced};
 
 use crate::chain::FOOTER;

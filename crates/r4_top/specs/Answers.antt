@@ -1,9 +1,10 @@
 -- What a call answers, prints and leaves on the device (docs/program.md, "Lines and statuses").
 use Rattle.std.specs.Prelude.{◌≡◌, ◌⊎◌, ℕ, ◌<◌, List, Option, Some, None, Ok, Err}
 use Rattle.r4_base.specs.Refusal.{Refusal}
-use Rattle.r4_outside.specs.Device.{State, TellsReads, Rose}
+use Rattle.r4_base.specs.Image.{IsLawful}
+use Rattle.r4_outside.specs.Device.{State, TellsReads, Rose, Untouched}
 use Rattle.r4_outside.specs.Sink.{SinkState, Appends}
-use Rattle.r4_replay.specs.Replay.{IsLawful, Untouched, PutInPlace, RefusedAs}
+use Rattle.r4_replay.specs.Replay.{PutInPlace, RefusedAs}
 use Rattle.r4_replay.specs.declared.fault.ReplayFault.{ReplayFault}
 use Rattle.r4_replay.specs.declared.fault.ReplayFault.TheVariants.{Log, Device, Size, Memory}
 use Rattle.r4_top.specs.Lines.{usage_line, device_line, size_line, image_line, memory_line, replayed_line}

@@ -1,7 +1,6 @@
 use Rattle.std.proofs.Common.{◌≡◌, take, drop}
-use Rattle.r4_outside.specs.Device.{Goes, TellsReads, IsQuiet}
+use Rattle.r4_outside.specs.Device.{Goes, TellsReads, IsQuiet, Untouched}
 use Rattle.r4_replay.specs.Txns.{chain_shown}
-use Rattle.r4_replay.specs.Replay.{Untouched}
 use Rattle.r4_replay.proofs.Chaining.{IsUnderWay, IsSafeSoFar}
 use Rattle.r4_replay.proofs.place.put_txns.Given as goal
 

@@ -1,0 +1,6 @@
+pub mod Marks
+pub mod OneItem
+pub mod Labels
+pub mod Writing
+pub mod Ordering
+pub mod Idling

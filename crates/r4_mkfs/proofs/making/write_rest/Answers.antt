@@ -1,0 +1,20 @@
+use Rattle.std.proofs.Common.{◌≡◌, slice_set, sym, ◌∙◌}
+use Rattle.r4_base.specs.Fresh.{IsFreshBut16}
+use Rattle.r4_outside.proofs.Moments.{goes_both}
+use Rattle.r4_mkfs.proofs.Writing.{on_ok, rest_written}
+use Rattle.r4_mkfs.proofs.making.write_rest.Goals as goal
+
+pub returns-clause-rest : goal.returns-clause-rest
+returns-clause-rest g c = λ tells.
+    let s0 = g.D.Device.state c.args.dev.now in
+    let s1 = g.D.Device.state c.write_bitmaps.new.dev in
+    let s2 = g.D.Device.state c.write.new.self in
+    let s3 = g.D.Device.state c.write_zeros.new.dev in
+    let s4 = g.D.Device.state c.write-2.new.self in
+    let s5 = g.D.Device.state c.write-3.new.self in
+    let went = goes_both s0 s1 s5 c.write_bitmaps.ensures.goes (goes_both s1 s2 s5 c.write.ensures.goes (goes_both s2 s3 s5 c.write_zeros.ensures.goes (goes_both s3 s4 s5 c.write-2.ensures.goes c.write-3.ensures.goes))) in
+    on_ok c.write-3.result (s5.seen ≡ slice_set s4.seen 23 c.fill_leaf.new.block) (IsFreshBut16 c.args.blocks s5.seen)
+    (λ seen. rest_written c.args.blocks s1 s2 s3 s4 s5 c.fill_super.new.block c.fill_twig.new.block c.fill_leaf.new.block (c.requires.blocks ∙ sym c.write_bitmaps.ensures.goes.blocks) (went.blocks ∙ sym c.requires.blocks)
+    c.requires.lawful (c.write_bitmaps.ensures.goes.reads.1 tells) (went.reads.1 tells) c.fill_super.ensures c.in_ok-write.ensures.seen c.in_ok-write_zeros.ensures.zeros c.in_ok-write-2.ensures.seen seen
+    (c.in_ok-write_bitmaps.ensures.bitmaps tells) c.fill_twig.ensures c.fill_leaf.ensures)
+    c.write-3.ensures.seen

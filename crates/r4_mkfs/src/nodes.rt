@@ -1,0 +1,67 @@
+//! The two nodes of a fresh volume: the root, a twig, and its leaf (docs/volume.md, "A fresh volume").
+
+ghost use Rattle.std.specs.Prelude.{◌≡◌, ◌≤◌, length, true};
+ghost use Rattle.r4_base.specs.Bytes.{number_bytes};
+ghost use Rattle.r4_base.specs.Node.{fits_level};
+ghost use Rattle.r4_base.specs.Stat.{stat_body};
+ghost use Rattle.r4_base.specs.Volume.{root_attr};
+ghost use Rattle.r4_base.specs.Fresh.{HasOneItem};
+
+use r4_base::{Attr, Block, BlockNo, Key, Oid};
+use r4_meta::write_stat;
+use r4_node40::NodeMut;
+use r4_twig::put_pointer;
+
+/// What nodes and the superblock say of the mkfs that made them.
+pub const MKFS_ID: u32 = 1;
+
+/// Where the leaf stands.
+const LEAF: BlockNo = BlockNo(23);
+
+const STAT_DATA: u16 = 0;
+
+const POINTER: u16 = 3;
+
+/// The attributes of an empty root directory.
+const ROOT: Attr = Attr {
+    mode: 0o40755,
+    nlink: 2,
+    size: 0,
+    uid: 0,
+    gid: 0,
+    atime: 0,
+    mtime: 0,
+    ctime: 0,
+    bytes: 0,
+};
+
+/// Makes the block the root: a twig that points to the leaf.
+pub fn fill_twig(block: &mut Block)
+    ensures { HasOneItem block.new 2 3 (number_bytes 8 23) }
+{
+    let mut body = [0; 8];
+    put_pointer(&mut body, LEAF);
+    fill_node(block, 2, POINTER, &body);
+}
+
+/// Makes the block the leaf: it has the root directory's stat data.
+pub fn fill_leaf(block: &mut Block)
+    ensures { HasOneItem block.new 1 0 (stat_body root_attr) }
+{
+    let mut body = [0; 44];
+    write_stat(&mut body, &ROOT);
+    fill_node(block, 1, STAT_DATA, &body);
+}
+
+/// Makes the block a node of one item, which has the least key.
+fn fill_node(block: &mut Block, level: u8, plugin: u16, body: &[u8])
+    requires level { (1 ≤ level) × (level ≤ 8) }
+    requires plugin { fits_level level plugin ≡ true }
+    requires some { 1 ≤ length body.now }
+    requires short { length body.now ≤ 4030 }
+    ensures { HasOneItem block.new level plugin body.now }
+{
+    let mut node = NodeMut::format(block, level, MKFS_ID);
+    let _ = node.insert(0, Key::stat(41, 0, Oid(42)), plugin, body.len() as u16);
+    node.body_mut(0).copy_from_slice(body);
+}
