@@ -1,2 +1,3 @@
 mod Texts
 mod Telling
+pub mod MkfsTold

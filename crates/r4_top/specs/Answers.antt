@@ -1,15 +1,18 @@
 -- What a call answers, prints and leaves on the device (docs/program.md, "Lines and statuses").
 use Rattle.std.specs.Prelude.{◌≡◌, ◌⊎◌, ℕ, ◌<◌, List, Option, Some, None, Ok, Err}
+use Rattle.r4_base.specs.Fresh.{fresh_free}
 use Rattle.r4_base.specs.Refusal.{Refusal}
 use Rattle.r4_base.specs.Image.{IsLawful}
 use Rattle.r4_outside.specs.Device.{State, TellsReads, Rose, Untouched}
 use Rattle.r4_outside.specs.Sink.{SinkState, Appends}
-use Rattle.r4_replay.specs.Replay.{PutInPlace, RefusedAs}
+use Rattle.r4_replay.specs.Replay.{PutInPlace, RefusedAs, SettlesAlways}
 use Rattle.r4_replay.specs.declared.fault.ReplayFault.{ReplayFault}
 use Rattle.r4_replay.specs.declared.fault.ReplayFault.TheVariants.{Log, Device, Size, Memory}
-use Rattle.r4_top.specs.Lines.{usage_line, device_line, size_line, image_line, memory_line, replayed_line}
-use Rattle.r4_top.specs.declared.words.Command.{Command}
-use Rattle.r4_top.specs.declared.words.Command.TheVariants.{Replay}
+use Rattle.r4_top.specs.Lines.{usage_line, device_line, size_line, image_line, made_line, memory_line, replayed_line}
+use Rattle.r4_mkfs.specs.Mkfs.{IsMade, MakesInOrder}
+use Rattle.r4_mkfs.specs.declared.fault.MkfsFault.{MkfsFault}
+use Rattle.r4_mkfs.specs.declared.fault.MkfsFault.TheVariants.{Small, Large, Device as MkfsDevice, Memory as MkfsMemory}
+use Rattle.r4_top.specs.Words.{Asked, AsksReplay, AsksMkfs}
 
 -- The sink took all of the text.
 abbrev pub Gets : List ℕ → SinkState → SinkState → Type 0
@@ -60,10 +63,37 @@ pub record RefusesWords (d : State) (k : SinkState) (code : ℕ) (d' : State) (k
   pub idle : Untouched d d'
   pub line : Prints usage_line k k'
 
--- What a call answers, by the command that its words spell, or none.
-abbrev pub Answers : Option Command → State → SinkState → ℕ → State → SinkState → Type 0
+-- An empty volume of this label was made: where the device tells what reading gives, it reads as one.
+pub record MakesAll (old : State) (label : List ℕ) (new : State) : Type 0 where
+  pub lawful : IsLawful old.blocks
+  pub made : TellsReads old → IsMade label new
+
+-- What the command `mkfs` answers with a code.
+pub record Makes (label : List ℕ) (d : State) (k : SinkState) (code : ℕ) (d' : State) (k' : SinkState) : Type 0 where
+  pub codes : (code ≡ 0) ⊎ ((code ≡ 5) ⊎ ((code ≡ 6) ⊎ ((code ≡ 8) ⊎ (code ≡ 9))))
+  pub done : code ≡ 0 → MakesAll d label d' × Gets (made_line d.blocks (fresh_free d.blocks)) k k'
+  -- the device stands as 0 leaves it
+  pub sink : code ≡ 5 → MakesAll d label d' × GetsPart (made_line d.blocks (fresh_free d.blocks)) k k' × Rose k.faults k'.faults
+  pub device : code ≡ 6 → Rose d.faults d'.faults × Prints (device_line d'.clock d'.faults) k k'
+  pub size : code ≡ 8 → IsUnlawful d.blocks × Untouched d d' × Prints (size_line d.blocks) k k'
+  -- an unlawful number of blocks is not passed over
+  pub size_only : IsUnlawful d.blocks → (code ≡ 8) ⊎ (code ≡ 6)
+  pub memory : code ≡ 9 → Untouched d d' × Prints memory_line k k'
+  -- where nothing stands against it, the volume is made
+  pub complete : IsLawful d.blocks → (Rose d.faults d'.faults → ⊥) → (Rose k.faults k'.faults → ⊥) → (code ≡ 0) ⊎ (code ≡ 9)
+
+-- What a call answers, by what its words ask for, or faulty words.
+abbrev pub Answers : Option Asked → State → SinkState → ℕ → State → SinkState → Type 0
 Answers None d k code d' k' = RefusesWords d k code d' k'
-Answers (Some Replay) d k code d' k' = Replays d k code d' k'
+Answers (Some AsksReplay) d k code d' k' = Replays d k code d' k'
+Answers (Some (AsksMkfs label)) d k code d' k' = Makes label d k code d' k'
+
+-- What crashes leave at any moment of a call on a quiet device: an image that settles as before, but for the footer's block; for `mkfs`, the
+-- master superblock that was there, or all the rest of an empty volume.
+abbrev pub HasMoments : Option Asked → State → State → Type 0
+HasMoments None d d' = SettlesAlways d d'
+HasMoments (Some AsksReplay) d d' = SettlesAlways d d'
+HasMoments (Some (AsksMkfs label)) d d' = MakesInOrder d d'
 
 -- The code and the line of a fault.
 abbrev pub TellsFault : ReplayFault → ℕ → SinkState → SinkState → Type 0
@@ -71,3 +101,9 @@ TellsFault (Device clock faults) code k k' = (code ≡ 6) × Prints (device_line
 TellsFault (Log block fault) code k k' = (code ≡ 7) × Prints (image_line block.0 fault) k k'
 TellsFault (Size blocks) code k k' = (code ≡ 8) × Prints (size_line blocks) k k'
 TellsFault Memory code k k' = (code ≡ 9) × Prints memory_line k k'
+
+abbrev pub TellsMkfsFault : MkfsFault → ℕ → SinkState → SinkState → Type 0
+TellsMkfsFault (MkfsDevice clock faults) code k k' = (code ≡ 6) × Prints (device_line clock faults) k k'
+TellsMkfsFault (Small blocks) code k k' = (code ≡ 8) × Prints (size_line blocks) k k'
+TellsMkfsFault (Large blocks) code k k' = (code ≡ 8) × Prints (size_line blocks) k k'
+TellsMkfsFault MkfsMemory code k k' = (code ≡ 9) × Prints memory_line k k'

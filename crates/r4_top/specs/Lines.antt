@@ -33,3 +33,6 @@ memory_line = codes "memory\n"
 
 abbrev pub replayed_line : (count : ℕ) → List ℕ
 replayed_line count = codes "replayed " ++ decimal count ++ codes "\n"
+
+abbrev pub made_line : (blocks free : ℕ) → List ℕ
+made_line blocks free = codes "made " ++ decimal blocks ++ codes " blocks " ++ (decimal free ++ codes " free\n")

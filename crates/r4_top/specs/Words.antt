@@ -1,16 +1,67 @@
--- Which command the words of a command line spell (docs/program.md, "Words").
-use Rattle.std.specs.Prelude.{ℕ, Bool, false, not, nat_eq, ◌&&◌, if◌then◌else◌, List, [], ◌∷◌, codes, bytes_eq, Option, Some, None}
+-- What the words of a command line ask for (docs/program.md, "Words").
+use Rattle.std.specs.Prelude.{ℕ, Bool, false, not, nat_eq, nat_le, ◌&&◌, if◌then◌else◌, List, [], ◌∷◌, codes, bytes_eq, drop, length, Option, Some, None}
+use Rattle.std.specs.List.{list_all, starts_with}
+use Rattle.r4_mkfs.specs.Mkfs.{IsLabel}
 use Rattle.r4_top.specs.declared.words.Command.{Command}
-use Rattle.r4_top.specs.declared.words.Command.TheVariants.{Replay}
+use Rattle.r4_top.specs.declared.words.Command.TheVariants.{Replay, Mkfs}
+
+-- What is asked for; `mkfs` has a label, which is empty where none was given.
+pub data Asked : Type 0 where
+  AsksReplay : Asked
+  AsksMkfs : (label : List ℕ) → Asked
+
+abbrev pub asked_by : Command → Asked
+asked_by Replay = AsksReplay
+asked_by (Mkfs label) = AsksMkfs label.now
+
+-- a label that `mkfs` takes
+abbrev pub HasLabel : Command → Type 0
+HasLabel Replay = Unit {0}
+HasLabel (Mkfs label) = IsLabel label.now
+
+-- whether a word begins with '-'
+abbrev pub is_option : List ℕ → Bool
+is_option [] = false
+is_option (byte ∷ rest) = nat_eq byte 45
 
 -- An IMAGE is not empty and does not begin with '-'.
 abbrev pub is_image : List ℕ → Bool
 is_image [] = false
 is_image (byte ∷ rest) = not (nat_eq byte 45)
 
--- Exactly two words: the command's name, and an IMAGE.
-abbrev pub command_of : List (List ℕ) → Option Command
-command_of [] = None
-command_of (name ∷ []) = None
-command_of (name ∷ image ∷ []) = if bytes_eq name (codes "replay") && is_image image then Some Replay else None
-command_of (name ∷ image ∷ option ∷ options) = None
+-- A label that is given has 1 to 16 bytes, none of them zero, and does not begin with '-'.
+abbrev pub is_label : List ℕ → Bool
+is_label word = nat_le 1 (length word) && nat_le (length word) 16 && not (is_option word) && list_all (λ byte. not (nat_eq byte 0)) word
+
+abbrev pub as_label : List ℕ → Option (List ℕ)
+as_label word = if is_label word then Some word else None
+
+-- the label in `--label=L`
+abbrev pub label_in : List ℕ → Option (List ℕ)
+label_in word = if starts_with nat_eq word (codes "--label=") then as_label (drop 8 word) else None
+
+-- The words behind the IMAGE of `mkfs`: none, `--label L` or `--label=L`.
+abbrev pub label_of : List (List ℕ) → Option (List ℕ)
+label_of [] = Some []
+label_of (word ∷ []) = label_in word
+label_of (word ∷ value ∷ []) = if bytes_eq word (codes "--label") then as_label value else None
+label_of (word ∷ value ∷ more ∷ words) = None
+
+abbrev pub mkfs_of : Option (List ℕ) → Option Asked
+mkfs_of None = None
+mkfs_of (Some label) = Some (AsksMkfs label)
+
+-- no word follows the IMAGE
+abbrev pub replay_of : List (List ℕ) → Option Asked
+replay_of [] = Some AsksReplay
+replay_of (word ∷ words) = None
+
+-- The command's name, an IMAGE, and what the command has behind it.
+abbrev pub asked_of : List (List ℕ) → Option Asked
+asked_of [] = None
+asked_of (name ∷ []) = None
+asked_of (name ∷ image ∷ words) =
+    if not (is_image image) then None else
+    if bytes_eq name (codes "replay") then replay_of words else
+    if bytes_eq name (codes "mkfs") then mkfs_of (label_of words) else
+    None

@@ -2,6 +2,8 @@
 #![tactic(auto)]
 
 mod lines;
+mod making;
+mod replaying;
 mod top;
 mod words;
 

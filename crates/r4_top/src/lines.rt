@@ -2,7 +2,7 @@
 
 ghost use Rattle.std.specs.Prelude.{◌≡◌, ◌++◌, decimal};
 ghost use Rattle.r4_outside.specs.Sink.{Appends};
-ghost use Rattle.r4_top.specs.Lines.{usage_line, device_line, size_line, image_line, memory_line, replayed_line, word_of};
+ghost use Rattle.r4_top.specs.Lines.{usage_line, device_line, size_line, image_line, made_line, memory_line, replayed_line, word_of};
 
 use itoa::Buffer;
 use r4_base::BlockNo;
@@ -52,6 +52,14 @@ pub fn write_replayed<K: Sink>(out: &mut K, count: u64) -> Result<(), Failed>
     ensures { Appends (replayed_line count) (K.state out.old) result (K.state out.new) }
 {
     write_number(out, b"replayed ", count, b"\n")
+}
+
+/// Writes how many blocks a volume has that was made, and how many of them are free.
+pub fn write_made<K: Sink>(out: &mut K, blocks: u64, free: u64) -> Result<(), Failed>
+    ensures { Appends (made_line blocks free) (K.state out.old) result (K.state out.new) }
+{
+    write_number(out, b"made ", blocks, b" blocks ")?;
+    write_number(out, b"", free, b" free\n")
 }
 
 // Writes a number between two texts.

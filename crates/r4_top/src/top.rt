@@ -1,18 +1,16 @@
 //! The top call.
 
-ghost use Rattle.std.specs.Prelude.{◌≡◌, map, string_bytes};
+ghost use Rattle.std.specs.Prelude.{◌≡◌, Some, map, string_bytes};
 ghost use Rattle.r4_outside.specs.Device.{Goes, IsQuiet};
-ghost use Rattle.r4_replay.specs.Replay.{SettlesAlways};
-ghost use Rattle.r4_top.specs.Words.{command_of};
-ghost use Rattle.r4_top.specs.Answers.{Answers, Replays, TellsFault, Prints};
+ghost use Rattle.r4_top.specs.Words.{HasLabel, asked_by, asked_of};
+ghost use Rattle.r4_top.specs.Answers.{Answers, HasMoments, Prints};
 ghost use Rattle.r4_top.specs.Lines.{usage_line};
 
-use crate::lines::{
-    write_device, write_image, write_memory, write_replayed, write_size, write_usage,
-};
+use crate::lines::write_usage;
+use crate::making::make_volume;
+use crate::replaying::replay_image;
 use crate::words::{Command, read_words};
-use r4_outside::{Device, Failed, Gate, Run, Sink, Source};
-use r4_replay::{ReplayFault, replay};
+use r4_outside::{Device, Gate, Run, Sink, Source};
 use std::alloc::Global;
 use std::sync::Wait;
 use std::thread::Threads;
@@ -36,10 +34,10 @@ pub fn r4_main<D: Device, S: Source, K: Sink, G: Gate, R: Run, X: Threads + Wait
 ) -> Status
     ensures goes { Goes (D.state dev.old) (D.state dev.new) }
     ensures script { S.state script.new ≡ S.state script.old }
-    ensures answers { Answers (command_of (map string_bytes words.now)) (D.state dev.old) (K.state out.old) result.code (D.state dev.new) (K.state out.new) }
+    ensures answers { Answers (asked_of (map string_bytes words.now)) (D.state dev.old) (K.state out.old) result.code (D.state dev.new) (K.state out.new) }
 
-    // A crash at any moment of the call leaves an image that settles as before, but for the footer's block.
-    ensures any_moment { IsQuiet (D.state dev.old) → SettlesAlways (D.state dev.old) (D.state dev.new) }
+    // What a crash at any moment of the call leaves.
+    ensures any_moment { IsQuiet (D.state dev.old) → HasMoments (asked_of (map string_bytes words.now)) (D.state dev.old) (D.state dev.new) }
 {
     let _ = rt;
     let _ = script;
@@ -47,7 +45,7 @@ pub fn r4_main<D: Device, S: Source, K: Sink, G: Gate, R: Run, X: Threads + Wait
     let _ = run;
     match read_words(words) {
         None => refuse_words(out),
-        Some(Command::Replay) => replay_image(alloc, dev, out),
+        Some(command) => obey(alloc, command, dev, out),
     }
 }
 
@@ -60,41 +58,15 @@ fn refuse_words<K: Sink>(out: &mut K) -> Status
     Status { code: 2 }
 }
 
-// The command `replay`.
-fn replay_image<D: Device, K: Sink>(alloc: Global, dev: &mut D, out: &mut K) -> Status
+// Does a command.
+fn obey<D: Device, K: Sink>(alloc: Global, command: Command<'_>, dev: &mut D, out: &mut K) -> Status
+    requires { HasLabel command }
     ensures goes { Goes (D.state dev.old) (D.state dev.new) }
-    ensures replays { Replays (D.state dev.old) (K.state out.old) result.code (D.state dev.new) (K.state out.new) }
-    ensures any_moment { IsQuiet (D.state dev.old) → SettlesAlways (D.state dev.old) (D.state dev.new) }
+    ensures answers { Answers (Some (asked_by command.entry)) (D.state dev.old) (K.state out.old) result.code (D.state dev.new) (K.state out.new) }
+    ensures any_moment { IsQuiet (D.state dev.old) → HasMoments (Some (asked_by command.entry)) (D.state dev.old) (D.state dev.new) }
 {
-    match replay(alloc, dev) {
-        Ok(count) => match write_replayed(out, count) {
-            Ok(()) => Status { code: 0 },
-            Err(Failed) => Status { code: 5 },
-        },
-        Err(fault) => tell_fault(out, fault),
-    }
-}
-
-// Prints why nothing, or not everything, was put in place. A sink that fails here does not change the status.
-fn tell_fault<K: Sink>(out: &mut K, fault: ReplayFault) -> Status
-    ensures { TellsFault fault result.code (K.state out.old) (K.state out.new) }
-{
-    match fault {
-        ReplayFault::Device { clock, faults } => {
-            let _ = write_device(out, clock, faults);
-            Status { code: 6 }
-        }
-        ReplayFault::Log { block, fault } => {
-            let _ = write_image(out, block, fault);
-            Status { code: 7 }
-        }
-        ReplayFault::Size { blocks } => {
-            let _ = write_size(out, blocks);
-            Status { code: 8 }
-        }
-        ReplayFault::Memory => {
-            let _ = write_memory(out);
-            Status { code: 9 }
-        }
+    match command {
+        Command::Replay => replay_image(alloc, dev, out),
+        Command::Mkfs { label } => make_volume(alloc, label, dev, out),
     }
 }

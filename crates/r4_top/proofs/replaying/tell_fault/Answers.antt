@@ -2,7 +2,7 @@ use Rattle.std.proofs.Common.{refl}
 use Rattle.r4_replay.specs.declared.fault.ReplayFault.TheVariants.{Log, Device, Size, Memory}
 use Rattle.r4_top.proofs.Texts.{printed}
 use Rattle.r4_top.proofs.Telling.{tells_same}
-use Rattle.r4_top.proofs.top.tell_fault.Goals as goal
+use Rattle.r4_top.proofs.replaying.tell_fault.Goals as goal
 
 pub returns-in-Device : goal.returns-in-Device
 returns-in-Device g c = tells_same _ (Device c.in-Device.clock c.in-Device.faults) 6 _ _ c.in-Device.is (refl, printed _ _ _ c.write_device.result c.write_device.ensures)
