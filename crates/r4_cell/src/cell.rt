@@ -1,0 +1,69 @@
+//! A node or a data block, with its name, its level and its range.
+
+ghost use Rattle.std.specs.Prelude.{◌≡◌};
+
+use r4_base::{Block, Key, NodeId};
+use std::marker::Model;
+
+/// A block as a cell: a node of a level from 1, a leaf, to 8, or a data block, at level 0. Its keys are at least `lo` and
+/// below `hi`. It is named by its block's number, or by a number of at least 2^63 where it has no block yet. It is always
+/// one that may stand at its level and range, in memory (docs/volume.md, "Cells").
+#[derive(Drop)]
+pub struct Cell {
+    id: NodeId,
+    level: u8,
+    lo: Key,
+    hi: Key,
+    block: Block,
+}
+
+impl Model for Cell {
+    ghost use Rattle.std.specs.Prelude.{IsTrue, true, ◌^◌};
+    ghost use Rattle.std.specs.Option.{is_none};
+    ghost use Rattle.r4_base.specs.Cell.{cell_fault};
+    ghost use Rattle.r4_base.specs.Key.{rank};
+    ghost use Rattle.r4_cell.specs.Seen.{CellSeen};
+
+    ghost Value = { CellSeen };
+
+    ghost view = { λ c. record { id = c.id.0; level = c.level; lo = c.lo; hi = c.hi; block = c.block } };
+
+    ghost invariant = { λ c. IsTrue (is_none (cell_fault true (2 ^ 64) c.level (rank c.lo) (rank c.hi) c.block)) };
+}
+
+impl Cell {
+    /// Its name.
+    pub fn id(&self) -> NodeId
+        ensures { result.0 ≡ self.now.id }
+    {
+        self.id
+    }
+
+    /// From 1, a leaf, to 8; a data block has level 0.
+    pub fn level(&self) -> u8
+        ensures { result ≡ self.now.level }
+    {
+        self.level
+    }
+
+    /// The least key that it may hold.
+    pub fn lo(&self) -> Key
+        ensures { result ≡ self.now.lo }
+    {
+        self.lo
+    }
+
+    /// The key that all its keys are below.
+    pub fn hi(&self) -> Key
+        ensures { result ≡ self.now.hi }
+    {
+        self.hi
+    }
+
+    /// Its bytes.
+    pub fn block(&self) -> &Block
+        ensures { result.now ≡ self.now.block }
+    {
+        &self.block
+    }
+}
