@@ -36,13 +36,13 @@ only_root : (o : Target) → IsObject o → stat_rank o ≡ least → o ≡ root
 unfolding rank least
 only_root o is e = let p = root_parts o.locality o.ordering o.oid.0 is.1 is.2 e in λ i. record { locality = p.0 i; ordering = p.1 i; oid = record { 0 = p.2 i } }
 
-same_attr : (a : Attr) (b : Attr) → Stat a ≡ Stat b → a ≡ b
+pub same_attr : (a : Attr) (b : Attr) → Stat a ≡ Stat b → a ≡ b
 same_attr a b e = ap (λ (v : Value). elim v as (λ _. Attr) [ Stat y ↦ y | Entry s p ↦ a | Byte y ↦ a ]) e
 
 one_object : (o : Target) (a : Attr) → HasStat empty_volume o a → (o ≡ root_object) × (a ≡ root_attr)
 one_object o a h = let f = found (stat_rank o) (Stat a) h.1 in (only_root o h.0 f.0, same_attr a root_attr f.1)
 
-root_rank : stat_rank root_object ≡ least
+pub root_rank : stat_rank root_object ≡ least
 unfolding rank least
 root_rank = refl
 
@@ -53,7 +53,7 @@ no_items : (es : List (ℕ × Value)) → length es ≡ 0 → es ≡ []
 no_items [] e = refl
 no_items (x ∷ es) e = absurd (omega (arith, e))
 
-none_in_empty : entries (empty {K = ℕ} {X = Value} {R = nat_cmp}) ≡ []
+pub none_in_empty : entries (empty {K = ℕ} {X = Value} {R = nat_cmp}) ≡ []
 none_in_empty = no_items (entries (empty {K = ℕ} {X = Value} {R = nat_cmp})) (sym (len-entries (empty {K = ℕ} {X = Value} {R = nat_cmp})) ∙ len-empty nat_cmp Value)
 
 the_entries : entries empty_volume ≡ (least, Stat root_attr) ∷ []

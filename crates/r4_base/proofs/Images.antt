@@ -77,7 +77,7 @@ same_node_option None None f g = refl
 pub one_tree : (blocks : ℕ) (image : Image) (t u : Store Value) (root : Root) → ReadsAs blocks image t root → ReadsAs blocks image u root → t ≡ u
 one_tree blocks image t u root it iu = λ j i. same_node_option (t i) (u i) (same_cell blocks image t u root it iu i) (same_cell blocks image u t root iu it i) j
 
-same_Ok : (s u : Super40) → ◌≡◌ {A = Result Super40 LayoutFault} (Ok s) (Ok u) → s ≡ u
+pub same_Ok : (s u : Super40) → ◌≡◌ {A = Result Super40 LayoutFault} (Ok s) (Ok u) → s ≡ u
 same_Ok s u e = ap (λ (r : Result Super40 LayoutFault). elim r as (λ _. Super40) [ Ok x ↦ x | Err f ↦ s ]) e
 
 module _ (n : ℕ) (image : Image) (m o : Content) (c : HasContent n image m) (d : HasContent n image o) where

@@ -18,3 +18,4 @@ pub mod Twice
 pub mod FreshBits
 pub mod FreshTree
 pub mod FreshVolume
+pub mod SmallImages

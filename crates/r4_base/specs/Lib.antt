@@ -17,3 +17,4 @@ pub mod Tree
 pub mod Cell
 pub mod Volume
 pub mod Fresh
+pub mod Small

@@ -15,7 +15,7 @@ mod volume;
 
 pub use block::Block;
 pub use bytes::{blank, get16, get32, get64, move_bytes, put_bytes, put16, put32, put64};
-pub use fresh::fresh_law;
+pub use fresh::{fresh_law, object_law, pointer_law};
 pub use items::{Attr, CellFault, DirFault, ExtentFault, NameFault, StatFault, Target, Unit};
 pub use journal::{Footer, Header, LogFault, TxHead};
 pub use key::{Key, key_law};
