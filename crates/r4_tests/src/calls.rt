@@ -2,6 +2,7 @@
 
 ghost use Rattle.r4_outside.specs.Device.{Goes};
 
+use crate::same::same;
 use r4_outside::{Device, MemorySink, MemorySource, OpenGate, Unnamed};
 use r4_top::r4_main;
 use std::alloc::Global;
@@ -10,7 +11,7 @@ use std::sync::Wait;
 use std::test::Fail;
 use std::thread::Threads;
 
-pub const REPLAY: [&str; 2] = ["replay", "image"];
+pub static REPLAY: [&str; 2] = ["replay", "image"];
 
 /// Calls the program with these words, and gives its status.
 pub fn call<D: Device, X: Threads + Wait + Sync>(
@@ -52,7 +53,7 @@ pub fn replays<D: Device, X: Abort + Threads + Wait + Sync>(
 {
     let mut out = MemorySink::new(alloc, 100)?;
     let code = call(rt, alloc, &REPLAY, dev, &mut out)?;
-    assert_eq!(rt; out.written(), line.as_bytes(), "{line}");
-    assert_eq!(rt; code, status, "{line}");
+    same(rt, &out.written(), &line.as_bytes(), line);
+    same(rt, &code, &status, line);
     Ok(())
 }

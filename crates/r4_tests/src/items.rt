@@ -1,5 +1,6 @@
 //! Stat data, extents, pointers and tails, over tables of bodies.
 
+use crate::same::{same, same_in};
 use r4_base::{Attr, BlockNo, ExtentFault, StatFault, Unit, put64};
 use r4_meta::{read_stat, tail_part, write_stat};
 use r4_twig::{ExtentView, join, join_law, pointer, put_pointer, replace, split_at};
@@ -29,47 +30,62 @@ fn damaged(alloc: Global, body: &[u8], at: usize, byte: u8, long: usize) -> Resu
     Ok(bytes)
 }
 
+// The byte that is changed, what it is to be, how many bytes are read, and what they are refused for.
+static OF_STAT_DATA: [(usize, u8, usize, Option<StatFault>); 13] = [
+    (0, 3, 44, None),
+    (3, 0x81, 44, None),
+    (0, 3, 0, Some(StatFault::Mask)),
+    (0, 3, 1, Some(StatFault::Mask)),
+    (0, 7, 44, Some(StatFault::Mask)),
+    (0, 1, 44, Some(StatFault::Mask)),
+    (1, 1, 44, Some(StatFault::Mask)),
+    (0, 3, 2, Some(StatFault::Length)),
+    (0, 3, 43, Some(StatFault::Length)),
+    (0, 3, 45, Some(StatFault::Length)),
+    (3, 0x01, 44, Some(StatFault::Kind)),
+    (3, 0xa1, 44, Some(StatFault::Kind)),
+    (3, 0xc1, 44, Some(StatFault::Kind)),
+];
+
 #[test]
 fn stat_data_are_read(rt: HostRuntime) -> Result<(), Fail> {
     let mut body = [0xffu8; 44];
     write_stat(&mut body, &ROOT);
-    assert_eq!(rt; &body[..9], [3, 0, 0xed, 0x41, 2, 0, 0, 0, 0].as_slice());
-    // The byte that is changed, what it is to be, how many bytes are read, and what they are refused for.
-    let table = [
-        (0, 3, 44, None),
-        (3, 0x81, 44, None),
-        (0, 3, 0, Some(StatFault::Mask)),
-        (0, 3, 1, Some(StatFault::Mask)),
-        (0, 7, 44, Some(StatFault::Mask)),
-        (0, 1, 44, Some(StatFault::Mask)),
-        (1, 1, 44, Some(StatFault::Mask)),
-        (0, 3, 2, Some(StatFault::Length)),
-        (0, 3, 43, Some(StatFault::Length)),
-        (0, 3, 45, Some(StatFault::Length)),
-        (3, 0x01, 44, Some(StatFault::Kind)),
-        (3, 0xa1, 44, Some(StatFault::Kind)),
-        (3, 0xc1, 44, Some(StatFault::Kind)),
-    ];
-    for (at, byte, long, fault) in table {
+    let begins = [3, 0, 0xed, 0x41, 2, 0, 0, 0, 0];
+    same(&rt, &&body[..9], &begins.as_slice(), "first bytes");
+    for (row, &(at, byte, long, fault)) in OF_STAT_DATA.iter().enumerate() {
         let bytes = damaged(rt.alloc(), &body, at, byte, long)?;
-        assert_eq!(rt; read_stat(&bytes).err(), fault, "{at} {byte} {long}");
+        same_in(&rt, &read_stat(&bytes).err(), &fault, row);
     }
-    assert_eq!(rt; read_stat(&body), Ok(ROOT));
+    same(&rt, &read_stat(&body), &Ok(ROOT), "read again");
+    Ok(())
+}
+
+// Numbers, and whether a pointer may name them.
+static POINTERS: [(u64, bool); 4] = [(0, false), (21, false), (22, true), (u64::MAX, true)];
+
+#[test]
+fn pointers_are_read(rt: HostRuntime) -> Result<(), Fail> {
+    for (row, &(to, is_named)) in POINTERS.iter().enumerate() {
+        let mut eight = [0u8; 8];
+        put_pointer(&mut eight, BlockNo(to));
+        let wanted = is_named.then_some(BlockNo(to));
+        same_in(&rt, &pointer(&eight), &wanted, row);
+        same_in(&rt, &pointer(&eight[..7]), &None, row);
+    }
     Ok(())
 }
 
 #[test]
-fn tails_and_pointers_are_read(rt: HostRuntime) -> Result<(), Fail> {
+fn tails_are_read(rt: HostRuntime) -> Result<(), Fail> {
     let body = *b"0123456789";
-    assert_eq!(rt; tail_part(&body, 0, 10), b"0123456789".as_slice());
-    assert_eq!(rt; tail_part(&body, 3, 5), b"34".as_slice());
-    assert_eq!(rt; tail_part(&body, 10, 10), b"".as_slice());
-    for (to, is_named) in [(0, false), (21, false), (22, true), (u64::MAX, true)] {
-        let mut eight = [0u8; 8];
-        put_pointer(&mut eight, BlockNo(to));
-        assert_eq!(rt; pointer(&eight), is_named.then_some(BlockNo(to)), "{to}");
-        assert_eq!(rt; pointer(&eight[..7]), None);
-    }
+    let parts = [
+        tail_part(&body, 0, 10),
+        tail_part(&body, 3, 5),
+        tail_part(&body, 10, 10),
+    ];
+    let wanted = [b"0123456789".as_slice(), b"34".as_slice(), b"".as_slice()];
+    same(&rt, &parts, &wanted, "parts");
     Ok(())
 }
 
@@ -87,68 +103,71 @@ fn spelled(alloc: Global, units: &[(u64, u64)]) -> Result<Vec<u8>, Fail> {
     Ok(bytes)
 }
 
+// The smallest start that stands for a block without a place.
+const FAR: u64 = 1 << 63;
+
+// The units of an extent.
+type Units = &'static [(u64, u64)];
+
+// The units, and what they are refused for on 65536 blocks, and in memory.
+static OF_EXTENTS: [(Units, Option<ExtentFault>, Option<ExtentFault>); 13] = [
+    (&[(22, 1)], None, None),
+    (&[(0, 5), (65535, 1)], None, None),
+    (&[(32735, 1), (32737, 32735)], None, None),
+    (&[], Some(ExtentFault::Length), Some(ExtentFault::Length)),
+    (
+        &[(1, 1)],
+        Some(ExtentFault::Start(0)),
+        Some(ExtentFault::Start(0)),
+    ),
+    (
+        &[(22, 1), (21, 0)],
+        Some(ExtentFault::Start(1)),
+        Some(ExtentFault::Start(1)),
+    ),
+    (
+        &[(22, 1), (0, 0)],
+        Some(ExtentFault::Width(1)),
+        Some(ExtentFault::Width(1)),
+    ),
+    (
+        &[(70000, 0)],
+        Some(ExtentFault::Width(0)),
+        Some(ExtentFault::Width(0)),
+    ),
+    (
+        &[(65535, 2)],
+        Some(ExtentFault::Range(0)),
+        Some(ExtentFault::Range(0)),
+    ),
+    (
+        &[(32736, 1)],
+        Some(ExtentFault::Range(0)),
+        Some(ExtentFault::Range(0)),
+    ),
+    (
+        &[(32735, 2)],
+        Some(ExtentFault::Range(0)),
+        Some(ExtentFault::Range(0)),
+    ),
+    (&[(FAR, 1)], Some(ExtentFault::Range(0)), None),
+    (
+        &[(22, 1), (FAR, 2)],
+        Some(ExtentFault::Range(1)),
+        Some(ExtentFault::Range(1)),
+    ),
+];
+
 #[test]
 fn extents_are_read(rt: HostRuntime) -> Result<(), Fail> {
-    let far = 1u64 << 63;
-    // The units, and what they are refused for on 65536 blocks, and in memory.
-    let table: [(&[(u64, u64)], Option<ExtentFault>, Option<ExtentFault>); 13] = [
-        (&[(22, 1)], None, None),
-        (&[(0, 5), (65535, 1)], None, None),
-        (&[(32735, 1), (32737, 32735)], None, None),
-        (&[], Some(ExtentFault::Length), Some(ExtentFault::Length)),
-        (
-            &[(1, 1)],
-            Some(ExtentFault::Start(0)),
-            Some(ExtentFault::Start(0)),
-        ),
-        (
-            &[(22, 1), (21, 0)],
-            Some(ExtentFault::Start(1)),
-            Some(ExtentFault::Start(1)),
-        ),
-        (
-            &[(22, 1), (0, 0)],
-            Some(ExtentFault::Width(1)),
-            Some(ExtentFault::Width(1)),
-        ),
-        (
-            &[(70000, 0)],
-            Some(ExtentFault::Width(0)),
-            Some(ExtentFault::Width(0)),
-        ),
-        (
-            &[(65535, 2)],
-            Some(ExtentFault::Range(0)),
-            Some(ExtentFault::Range(0)),
-        ),
-        (
-            &[(32736, 1)],
-            Some(ExtentFault::Range(0)),
-            Some(ExtentFault::Range(0)),
-        ),
-        (
-            &[(32735, 2)],
-            Some(ExtentFault::Range(0)),
-            Some(ExtentFault::Range(0)),
-        ),
-        (&[(far, 1)], Some(ExtentFault::Range(0)), None),
-        (
-            &[(22, 1), (far, 2)],
-            Some(ExtentFault::Range(1)),
-            Some(ExtentFault::Range(1)),
-        ),
-    ];
-    for (units, stored, kept) in table {
+    for (row, &(units, stored, kept)) in OF_EXTENTS.iter().enumerate() {
         let body = spelled(rt.alloc(), units)?;
-        if body.len() > 4096 {
-            return Err(Fail::from("the units do not fit"));
+        if body.len() >= 16 * 65536 {
+            return Err(Fail::from("the units cannot be counted"));
         }
-        assert_eq!(rt; ExtentView::read(&body, 65536).err(), stored, "{units:?}");
-        assert_eq!(rt;
-            ExtentView::in_memory(&body, 65536).err(),
-            kept,
-            "{units:?}"
-        );
+        same_in(&rt, &ExtentView::read(&body, 65536).err(), &stored, row);
+        let refused = ExtentView::in_memory(&body, 65536).err();
+        same_in(&rt, &refused, &kept, row);
     }
     Ok(())
 }
@@ -170,27 +189,24 @@ fn cut(alloc: Global, units: &[(u64, u64)], i: u16, width: u64) -> Result<Vec<u8
     Ok(body)
 }
 
+// The units and room for one more; the unit and its blocks; what comes of it.
+static CUTS: [(Units, u16, u64, Units); 3] = [
+    (&[(30, 9), (7, 7)], 0, 4, &[(30, 4), (34, 5)]),
+    (&[(0, 9), (50, 1), (7, 7)], 0, 1, &[(0, 1), (0, 8), (50, 1)]),
+    (
+        &[(50, 1), (60, 3), (7, 7)],
+        1,
+        2,
+        &[(50, 1), (60, 2), (62, 1)],
+    ),
+];
+
 #[test]
 fn extents_are_cut(rt: HostRuntime) -> Result<(), Fail> {
     let alloc = rt.alloc();
-    // The units and room for one more; the unit and its blocks; what comes of it.
-    let table: [(&[(u64, u64)], u16, u64, &[(u64, u64)]); 3] = [
-        (&[(30, 9), (7, 7)], 0, 4, &[(30, 4), (34, 5)]),
-        (&[(0, 9), (50, 1), (7, 7)], 0, 1, &[(0, 1), (0, 8), (50, 1)]),
-        (
-            &[(50, 1), (60, 3), (7, 7)],
-            1,
-            2,
-            &[(50, 1), (60, 2), (62, 1)],
-        ),
-    ];
-    for (units, i, width, wanted) in table {
+    for (row, &(units, i, width, wanted)) in CUTS.iter().enumerate() {
         let body = cut(alloc, units, i, width)?;
-        assert_eq!(rt;
-            body.as_slice(),
-            spelled(alloc, wanted)?.as_slice(),
-            "{units:?}"
-        );
+        same_in(&rt, &body, &spelled(alloc, wanted)?, row);
     }
     Ok(())
 }
@@ -229,27 +245,24 @@ fn made_one(alloc: Global, units: &[(u64, u64)]) -> Result<Vec<u8>, Fail> {
     Ok(body)
 }
 
+// Units, and the same with neighbours made one.
+static JOINS: [(Units, Units); 5] = [
+    (&[(30, 2)], &[(30, 2)]),
+    (&[(30, 2), (32, 1), (33, 4)], &[(30, 7)]),
+    (
+        &[(30, 2), (33, 1), (0, 3), (0, 4)],
+        &[(30, 2), (33, 1), (0, 7)],
+    ),
+    (&[(0, 30), (30, 2), (0, 1)], &[(0, 30), (30, 2), (0, 1)]),
+    (&[(FAR, 1), (FAR + 1, 1)], &[(FAR, 1), (FAR + 1, 1)]),
+];
+
 #[test]
 fn extents_are_made_one(rt: HostRuntime) -> Result<(), Fail> {
     let alloc = rt.alloc();
-    let far = 1u64 << 63;
-    let table: [(&[(u64, u64)], &[(u64, u64)]); 5] = [
-        (&[(30, 2)], &[(30, 2)]),
-        (&[(30, 2), (32, 1), (33, 4)], &[(30, 7)]),
-        (
-            &[(30, 2), (33, 1), (0, 3), (0, 4)],
-            &[(30, 2), (33, 1), (0, 7)],
-        ),
-        (&[(0, 30), (30, 2), (0, 1)], &[(0, 30), (30, 2), (0, 1)]),
-        (&[(far, 1), (far + 1, 1)], &[(far, 1), (far + 1, 1)]),
-    ];
-    for (units, wanted) in table {
+    for (row, &(units, wanted)) in JOINS.iter().enumerate() {
         let body = made_one(alloc, units)?;
-        assert_eq!(rt;
-            body.as_slice(),
-            spelled(alloc, wanted)?.as_slice(),
-            "{units:?}"
-        );
+        same_in(&rt, &body, &spelled(alloc, wanted)?, row);
     }
     Ok(())
 }
@@ -268,6 +281,6 @@ fn units_are_replaced(rt: HostRuntime) -> Result<(), Fail> {
     let mut wanted = [0xffu8; 48];
     put64(&mut wanted, 16, 22);
     put64(&mut wanted, 24, 3);
-    assert_eq!(rt; body, wanted);
+    same(&rt, &body, &wanted, "bytes");
     Ok(())
 }

@@ -1,13 +1,14 @@
 //! The command `replay` over images with a log.
 
 use crate::calls::{REPLAY, call, replays};
-use crate::logs::{Field, Image, Pair, change};
+use crate::logs::{Change, Field, Image, Pair, change};
+use crate::same::{same, same_in};
 use crate::tables::{
     CALLS, Damage, OF_ONE_RECORD, OF_TWO_RECORDS, OF_TWO_TRANSACTIONS, REFUSED, REPLAYED, TEN,
     THREE, TWO, UNREAD,
 };
 use r4_base::BlockNo;
-use r4_outside::{Device, MemorySink};
+use r4_outside::{Device, MemoryDevice, MemorySink};
 use r4_replay::{LogFault, ReplayFault, read_log};
 use std::alloc::Global;
 use std::process::Abort;
@@ -41,14 +42,20 @@ fn second_record(alloc: Global) -> Result<Image, Fail> {
 #[test]
 fn a_record_is_filled(rt: HostRuntime) -> Result<(), Fail> {
     let alloc = rt.alloc();
-    let table = [(full_record(alloc)?, 254), (second_record(alloc)?, 255)];
-    for (image, count) in &table {
-        let mut wanted = image.copy()?;
-        wanted.place(&pairs_from_300(alloc, *count)?)?;
-        wanted.name_placed()?;
-        ends_as(&rt, alloc, image, "replayed 1\n", &wanted)?;
-    }
-    Ok(())
+    is_filled(&rt, alloc, &full_record(alloc)?, 254)?;
+    is_filled(&rt, alloc, &second_record(alloc)?, 255)
+}
+
+fn is_filled<X: Abort + Threads + Wait + Sync>(
+    rt: &X,
+    alloc: Global,
+    image: &Image,
+    count: u32,
+) -> Result<(), Fail> {
+    let mut wanted = image.copy()?;
+    wanted.place(&pairs_from_300(alloc, count)?)?;
+    wanted.name_placed()?;
+    ends_as(rt, alloc, image, "replayed 1\n", &wanted)
 }
 
 // Looks whether each damage of the image is refused with its line. The clock tells that nothing was written, and at the
@@ -64,11 +71,10 @@ fn refuses<X: Abort + Threads + Wait + Sync>(
         change(alloc, &mut dev, changes)?;
         let before = dev.clock();
         replays(rt, alloc, &mut dev, 7, line)?;
-        assert_eq!(rt; dev.clock(), before, "{line}");
+        same(rt, &dev.clock(), &before, line);
         image.restore(&mut dev, changes)?;
     }
-    assert_eq!(rt; image.first_difference(&mut dev)?, None);
-    Ok(())
+    is_left(rt, image, &mut dev, "at the end")
 }
 
 // Replays the image, which is to end as the other.
@@ -81,7 +87,17 @@ fn ends_as<X: Abort + Threads + Wait + Sync>(
 ) -> Result<(), Fail> {
     let mut dev = image.device()?;
     replays(rt, alloc, &mut dev, 0, line)?;
-    assert_eq!(rt; wanted.first_difference(&mut dev)?, None, "{line}");
+    is_left(rt, wanted, &mut dev, line)
+}
+
+// Looks whether a device holds the image.
+fn is_left<X: Abort>(
+    rt: &X,
+    wanted: &Image,
+    dev: &mut MemoryDevice,
+    what: &str,
+) -> Result<(), Fail> {
+    same(rt, &wanted.first_difference(dev)?, &None, what);
     Ok(())
 }
 
@@ -124,7 +140,7 @@ fn short_logs_are_replayed(rt: HostRuntime) -> Result<(), Fail> {
     let alloc = rt.alloc();
     short_ends(&rt, alloc, &TEN[..3], "replayed 3\n")?;
     short_ends(&rt, alloc, &TEN[..8], "replayed 8\n")?;
-    for (transactions, line) in REPLAYED {
+    for (transactions, line) in &REPLAYED {
         short_ends(&rt, alloc, transactions, line)?;
     }
     Ok(())
@@ -147,7 +163,7 @@ fn short_logs_are_refused(rt: HostRuntime) -> Result<(), Fail> {
     // The ninth head from the newest back is one too many.
     short_refused(&rt, alloc, &TEN[..9], "image: block 22: long\n")?;
     short_refused(&rt, alloc, &TEN, "image: block 24: long\n")?;
-    for (transactions, line) in REFUSED {
+    for (transactions, line) in &REFUSED {
         short_refused(&rt, alloc, transactions, line)?;
     }
     Ok(())
@@ -168,29 +184,37 @@ fn unread_bytes_are_of_no_account(rt: HostRuntime) -> Result<(), Fail> {
     let alloc = rt.alloc();
     let image = short_log(alloc, &TEN[..1])?;
     let wanted = placed(&image, &TEN[..1])?;
-    for changes in UNREAD {
-        let mut dev = image.device()?;
-        change(alloc, &mut dev, changes)?;
-        replays(&rt, alloc, &mut dev, 0, "replayed 1\n")?;
-        image.restore(&mut dev, changes)?;
-        assert_eq!(rt; wanted.first_difference(&mut dev)?, None, "{changes:?}");
+    for changes in &UNREAD {
+        goes_unread(&rt, alloc, &image, changes, &wanted)?;
     }
     Ok(())
+}
+
+fn goes_unread<X: Abort + Threads + Wait + Sync>(
+    rt: &X,
+    alloc: Global,
+    image: &Image,
+    changes: &[Change],
+    wanted: &Image,
+) -> Result<(), Fail> {
+    let mut dev = image.device()?;
+    change(alloc, &mut dev, changes)?;
+    replays(rt, alloc, &mut dev, 0, "replayed 1\n")?;
+    image.restore(&mut dev, changes)?;
+    is_left(rt, wanted, &mut dev, "unread bytes")
 }
 
 #[test]
 fn equal_numbers_are_an_empty_log(rt: HostRuntime) -> Result<(), Fail> {
     let alloc = rt.alloc();
+    let image = Image::new(alloc, 64)?;
     for number in [0, 5, 22, 63, 5000, u64::MAX] {
-        let mut dev = Image::new(alloc, 64)?.device()?;
-        change(
-            alloc,
-            &mut dev,
-            &[(19, Field::Newest, number), (20, Field::Newest, number)],
-        )?;
+        let changes = [(19, Field::Newest, number), (20, Field::Newest, number)];
+        let mut dev = image.device()?;
+        change(alloc, &mut dev, &changes)?;
         let before = dev.clock();
         replays(&rt, alloc, &mut dev, 0, "replayed 0\n")?;
-        assert_eq!(rt; dev.clock(), before, "{number}");
+        same(&rt, &dev.clock(), &before, "clock");
     }
     Ok(())
 }
@@ -200,22 +224,32 @@ fn a_replay_that_failed_is_repeated(rt: HostRuntime) -> Result<(), Fail> {
     let alloc = rt.alloc();
     let image = short_log(alloc, &TWO)?;
     let wanted = placed(&image, &TWO)?;
-    for i in 0..CALLS.len() {
-        let mut dev = image.fresh_device()?;
-        dev.fail(alloc, i as u64 + 1)?;
-        let made = &CALLS[..i + 1];
-        let clock = made.iter().filter(|call| **call != b'r').count();
-        let line = format!(in alloc; "device: clock {clock} faults 1\n")?;
-        replays(&rt, alloc, &mut dev, 6, line.as_str())?;
-
-        let named = made.iter().filter(|call| **call == b'f').count();
-        let again = format!(in alloc; "replayed {}\n", 2usize.saturating_sub(named))?;
-        replays(&rt, alloc, &mut dev, 0, again.as_str())?;
-        assert_eq!(rt; wanted.first_difference(&mut dev)?, None, "call {i}");
+    for made in 1..CALLS.len() + 1 {
+        is_repeated(&rt, alloc, &image, &CALLS[..made], &wanted)?;
     }
     let mut dev = image.fresh_device()?;
     dev.fail(alloc, CALLS.len() as u64 + 1)?;
     replays(&rt, alloc, &mut dev, 0, "replayed 2\n")
+}
+
+// Replays the log of two with the last of these calls failing, and then again.
+fn is_repeated<X: Abort + Threads + Wait + Sync>(
+    rt: &X,
+    alloc: Global,
+    image: &Image,
+    made: &[u8],
+    wanted: &Image,
+) -> Result<(), Fail> {
+    let mut dev = image.fresh_device()?;
+    dev.fail(alloc, made.len() as u64)?;
+    let clock = made.iter().filter(|call| **call != b'r').count();
+    let line = format!(in alloc; "device: clock {clock} faults 1\n")?;
+    replays(rt, alloc, &mut dev, 6, line.as_str())?;
+
+    let named = made.iter().filter(|call| **call == b'f').count();
+    let again = format!(in alloc; "replayed {}\n", 2usize.saturating_sub(named))?;
+    replays(rt, alloc, &mut dev, 0, again.as_str())?;
+    is_left(rt, wanted, &mut dev, line.as_str())
 }
 
 #[test]
@@ -225,19 +259,41 @@ fn a_crash_is_replayed_again(rt: HostRuntime) -> Result<(), Fail> {
     let wanted = placed(&image, &THREE)?;
     let mut dev = image.fresh_device()?;
     replays(&rt, alloc, &mut dev, 0, "replayed 3\n")?;
-    assert_eq!(rt; dev.clock(), 14);
+    same(&rt, &dev.clock(), &14, "clock");
     for moment in 0..15 {
         for pick in 0..8 {
             let mut left = dev.crash(alloc, moment, pick)?;
-            let mut out = MemorySink::new(alloc, 100)?;
-            let status = call(&rt, alloc, &REPLAY, &mut left, &mut out)?;
-            assert_eq!(rt; status, 0, "moment {moment}, pick {pick}");
-            let differs = wanted.first_difference(&mut left)?;
-            assert_eq!(rt; differs, None, "moment {moment}, pick {pick}");
+            let row = (8 * moment + pick) as usize;
+            ends_whole(&rt, alloc, &mut left, &wanted, row)?;
         }
     }
     Ok(())
 }
+
+// Replays what a crash left, whatever is printed.
+fn ends_whole<X: Abort + Threads + Wait + Sync>(
+    rt: &X,
+    alloc: Global,
+    left: &mut MemoryDevice,
+    wanted: &Image,
+    row: usize,
+) -> Result<(), Fail> {
+    let mut out = MemorySink::new(alloc, 100)?;
+    let status = call(rt, alloc, &REPLAY, left, &mut out)?;
+    same_in(rt, &status, &0, row);
+    same_in(rt, &wanted.first_difference(left)?, &None, row);
+    Ok(())
+}
+
+// Blocks, and where they stand before the log of three is put in place.
+static HOMES: [(u64, u64); 6] = [
+    (17, 47),
+    (55, 49),
+    (56, 46),
+    (45, 45),
+    (57, 57),
+    (5000, 5000),
+];
 
 #[test]
 fn the_log_tells_where_blocks_stand(rt: HostRuntime) -> Result<(), Fail> {
@@ -247,24 +303,22 @@ fn the_log_tells_where_blocks_stand(rt: HostRuntime) -> Result<(), Fail> {
     let Ok(log) = read_log(alloc, &mut dev) else {
         return Err(Fail::from("the log is refused"));
     };
-    assert_eq!(rt; log.count(), 3);
-    for (at, home) in [
-        (17, 47),
-        (55, 49),
-        (56, 46),
-        (45, 45),
-        (57, 57),
-        (5000, 5000),
-    ] {
-        assert_eq!(rt; log.home(BlockNo(at)), BlockNo(home), "{at}");
+    same(&rt, &log.count(), &3, "transactions");
+    for (row, &(at, home)) in HOMES.iter().enumerate() {
+        same_in(&rt, &log.home(BlockNo(at)), &BlockNo(home), row);
     }
-    assert_eq!(rt; dev.clock(), before);
+    same(&rt, &dev.clock(), &before, "clock");
+    Ok(())
+}
 
-    let mut long = short_log(alloc, &TEN)?.device()?;
+#[test]
+fn a_long_log_is_not_read(rt: HostRuntime) -> Result<(), Fail> {
+    let mut dev = short_log(rt.alloc(), &TEN)?.device()?;
     let refused = ReplayFault::Log {
         block: BlockNo(24),
         fault: LogFault::Long,
     };
-    assert_eq!(rt; read_log(alloc, &mut long).err(), Some(refused));
+    let fault = read_log(rt.alloc(), &mut dev).err();
+    same(&rt, &fault, &Some(refused), "fault");
     Ok(())
 }

@@ -10,7 +10,7 @@ pub type Damage = (&'static [Change], &'static str);
 
 /// Damages of 1,024 blocks with one transaction: the head in block 900, the record in block 901, and 254 pairs, from
 /// original 300 and wandered block 600 on.
-pub const OF_ONE_RECORD: [Damage; 53] = [
+pub static OF_ONE_RECORD: [Damage; 53] = [
     (&[(19, Newest, 5000)], "image: block 19: range\n"),
     (&[(19, Newest, 1024)], "image: block 19: range\n"),
     (&[(19, Newest, 1023)], "image: block 1023: head magic\n"),
@@ -98,7 +98,7 @@ pub const OF_ONE_RECORD: [Damage; 53] = [
 ];
 
 /// Damages of the same with one pair more, 554 and 854, in a second record, block 902.
-pub const OF_TWO_RECORDS: [Damage; 13] = [
+pub static OF_TWO_RECORDS: [Damage; 13] = [
     (&[(900, Total, 2)], "image: block 901: circle\n"),
     (&[(900, Total, 4)], "image: block 900: record magic\n"),
     (&[(901, NextBlock, 5000)], "image: block 901: range\n"),
@@ -119,7 +119,7 @@ pub const OF_TWO_RECORDS: [Damage; 13] = [
 
 /// Damages of 64 blocks with two transactions: the older in blocks 30 and 31 puts 40 into 50, the newer in blocks 34 and
 /// 35 puts 41 into 51.
-pub const OF_TWO_TRANSACTIONS: [Damage; 17] = [
+pub static OF_TWO_TRANSACTIONS: [Damage; 17] = [
     (&[(30, Byte(0), 0)], "image: block 30: head magic\n"),
     (&[(30, Total, 1)], "image: block 30: total\n"),
     (&[(30, Total, 65)], "image: block 30: total\n"),
@@ -153,7 +153,7 @@ pub const OF_TWO_TRANSACTIONS: [Damage; 17] = [
 pub type Transactions = &'static [&'static [&'static [Pair]]];
 
 /// Ten transactions of one pair each.
-pub const TEN: [&[&[Pair]]; 10] = [
+pub static TEN: [&[&[Pair]]; 10] = [
     &[&[(55, 45)]],
     &[&[(55, 46)]],
     &[&[(55, 47)]],
@@ -167,7 +167,7 @@ pub const TEN: [&[&[Pair]]; 10] = [
 ];
 
 /// Short logs that are replayed.
-pub const REPLAYED: [(Transactions, &str); 4] = [
+pub static REPLAYED: [(Transactions, &str); 4] = [
     // The copies of a transaction are made in order.
     (
         &[&[&[(55, 45), (56, 46), (55, 47)], &[(56, 48)]]],
@@ -181,7 +181,7 @@ pub const REPLAYED: [(Transactions, &str); 4] = [
 ];
 
 /// Short logs that are refused.
-pub const REFUSED: [(Transactions, &str); 4] = [
+pub static REFUSED: [(Transactions, &str); 4] = [
     (&[&[&[(55, 45); 65]]], "image: block 23: pairs\n"),
     (
         &[&[&[(55, 45); 40], &[(56, 46); 25]]],
@@ -200,7 +200,7 @@ pub const REFUSED: [(Transactions, &str); 4] = [
 
 /// Changes of the first of the ten alone, in blocks 22 and 23, that are of no account: padding, a record's total, and
 /// what stands behind the first pair without an original.
-pub const UNREAD: [&[Change]; 5] = [
+pub static UNREAD: [&[Change]; 5] = [
     &[(22, Byte(20), 1), (22, Byte(23), 1)],
     &[(22, Byte(64), 1), (22, Byte(4095), 1)],
     &[(23, Total, 1025)],
@@ -209,13 +209,13 @@ pub const UNREAD: [&[Change]; 5] = [
 ];
 
 /// Two transactions.
-pub const TWO: [&[&[Pair]]; 2] = [&[&[(55, 45), (56, 46)]], &[&[(55, 47)]]];
+pub static TWO: [&[&[Pair]]; 2] = [&[&[(55, 45), (56, 46)]], &[&[(55, 47)]]];
 
 /// The calls of a replay of these two: `r` reads, `w` writes an original, `s` syncs and `f` writes the footer.
-pub const CALLS: [u8; 18] = *b"rrrrrrrwrwsfsrwsfs";
+pub static CALLS: [u8; 18] = *b"rrrrrrrwrwsfsrwsfs";
 
 /// Three transactions, which write to some blocks more than once.
-pub const THREE: [&[&[Pair]]; 3] = [
+pub static THREE: [&[&[Pair]]; 3] = [
     &[&[(55, 45), (56, 46)]],
     &[&[(17, 47), (55, 48)]],
     &[&[(55, 49)]],

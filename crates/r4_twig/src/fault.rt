@@ -1,6 +1,6 @@
 //! What is wrong with an extent (docs/layout.md, "Items").
 
-ghost use Rattle.std.specs.Prelude.{◌≡◌, ◌<◌, ◌≤◌, length, not};
+ghost use Rattle.std.specs.Prelude.{◌≡◌, ◌*◌, ◌<◌, ◌≤◌, length, not};
 ghost use Rattle.r4_base.specs.Extents.{body_fault, is_out_of_range, unit_fault};
 
 use crate::units::{UNIT, UNPLACED, unit_in};
@@ -15,7 +15,7 @@ const BITMAP_BLOCKS: u64 = 32_736;
 /// The first fault of a body, on a volume of `blocks` blocks.
 #[tactic(auto, unfolding(r4_base::specs::Extents::body_fault))]
 pub(crate) fn fault_of(body: &[u8], blocks: u64, in_memory: bool) -> Option<ExtentFault>
-    requires { length body.now ≤ 4096 }
+    requires { length body.now < 16 * 65536 }
     ensures { result ≡ body_fault in_memory blocks body.now }
 {
     if body.is_empty() || body.len() % UNIT != 0 {

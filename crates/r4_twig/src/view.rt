@@ -1,6 +1,6 @@
 //! An extent, read where it stands (docs/layout.md, "Items").
 
-ghost use Rattle.std.specs.Prelude.{◌≡◌, ◌<◌, ◌≤◌, length, slice_get, None, Some, IfOk, IfErr};
+ghost use Rattle.std.specs.Prelude.{◌≡◌, ◌*◌, ◌%◌, ◌<◌, ◌≤◌, length, slice_get, None, Some, IfOk, IfErr};
 ghost use Rattle.r4_base.specs.Extents.{extent_fault, memory_fault, units_of};
 
 use crate::fault::fault_of;
@@ -13,18 +13,19 @@ use r4_base::{ExtentFault, Unit};
 pub struct ExtentView<'a> {
     body: &'a [u8],
     ghost some: { 16 ≤ length body.now },
-    ghost short: { length body.now ≤ 4096 },
+    ghost whole: { length body.now % 16 ≡ 0 },
+    ghost countable: { length body.now < 16 * 65536 },
 }
 
 impl<'a> ExtentView<'a> {
     ghost use Rattle.r4_twig.specs.View.{view_body, view_units};
 
-    /// Reads a body of at most 4096 bytes as an extent of a volume of `blocks` blocks. The faults are looked for in this
-    /// order: `Length`, where the body is empty or its length no multiple of 16; then for each unit, by its place from 0
-    /// on, `Start`, where the start is 1 to 21; `Width`, where the width is 0; `Range`, where a run goes past the block
-    /// count or holds a fixed block (docs/layout.md, "Items").
+    /// Reads a body as an extent of a volume of `blocks` blocks. A body has fewer than 65536 units, so that 16 bits count
+    /// them and name each. The faults are looked for in this order: `Length`, where the body is empty or its length no
+    /// multiple of 16; then for each unit, by its place from 0 on, `Start`, where the start is 1 to 21; `Width`, where the
+    /// width is 0; `Range`, where a run goes past the block count or holds a fixed block (docs/layout.md, "Items").
     pub fn read(body: &'a [u8], blocks: u64) -> Result<ExtentView<'a>, ExtentFault>
-        requires { length body.now ≤ 4096 }
+        requires { length body.now < 16 * 65536 }
         ensures ok { IfOk result (λ v. extent_fault blocks body.now ≡ None) }
         ensures lent { IfOk result (λ v. view_body v ≡ body.entry) }
         ensures units { IfOk result (λ v. view_units v ≡ units_of body.now) }
@@ -37,10 +38,10 @@ impl<'a> ExtentView<'a> {
         }
     }
 
-    /// Reads a body of at most 4096 bytes as an extent in memory: as `read`, but a unit with a start of at least 2^63 and a
-    /// width of 1, a block that is not placed yet, is accepted too (docs/layout.md, "Items").
+    /// Reads a body as an extent in memory: as `read`, but a unit with a start of at least 2^63 and a width of 1, a block
+    /// that is not placed yet, is accepted too (docs/layout.md, "Items").
     pub fn in_memory(body: &'a [u8], blocks: u64) -> Result<ExtentView<'a>, ExtentFault>
-        requires { length body.now ≤ 4096 }
+        requires { length body.now < 16 * 65536 }
         ensures ok { IfOk result (λ v. memory_fault blocks body.now ≡ None) }
         ensures lent { IfOk result (λ v. view_body v ≡ body.entry) }
         ensures units { IfOk result (λ v. view_units v ≡ units_of body.now) }
@@ -53,11 +54,11 @@ impl<'a> ExtentView<'a> {
         }
     }
 
-    /// How many units the extent has: 1 to 256 (docs/layout.md, "Items").
+    /// How many units the extent has, each of 16 bytes: one at least (docs/layout.md, "Items").
     pub fn len(&self) -> u16
         ensures units { result ≡ length (view_units self.now) }
+        ensures bytes { 16 * result ≡ length (view_body self.now).now }
         ensures some { 1 ≤ result }
-        ensures few { result ≤ 256 }
     {
         (self.body.len() / UNIT) as u16
     }
