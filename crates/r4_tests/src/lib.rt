@@ -19,3 +19,5 @@ mod same;
 mod tables;
 #[cfg(test)]
 mod tests;
+#[cfg(test)]
+mod volumes;

@@ -42,13 +42,19 @@ fn an_empty_log_is_replayed(rt: HostRuntime) -> Result<(), Fail> {
     Ok(())
 }
 
-static FAULTY_WORDS: [&[&str]; 9] = [
+static FAULTY_WORDS: [&[&str]; 15] = [
     &[],
     &["replay"],
     &["replay", ""],
     &["replay", "-x"],
     &["replay", "img", "more"],
-    &["mkfs", "img"],
+    &["mkfs", ""],
+    &["mkfs", "img", "--label"],
+    &["mkfs", "img", "--label", ""],
+    &["mkfs", "img", "--label=-x"],
+    &["mkfs", "img", "--label=a\0b"],
+    &["mkfs", "img", "--label", "12345678901234567"],
+    &["mkfs", "img", "--label", "a", "--label=b"],
     &["run"],
     &["--help"],
     &["frob", "img"],
