@@ -9,3 +9,4 @@ pub mod Bits
 pub mod Bitmaps
 pub mod Stats
 pub mod Keys
+pub mod Names
