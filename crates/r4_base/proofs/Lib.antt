@@ -10,3 +10,4 @@ pub mod Bitmaps
 pub mod Stats
 pub mod Keys
 pub mod Names
+pub mod Dirs

@@ -12,3 +12,4 @@ pub mod Key
 pub mod Node
 pub mod Name
 pub mod Dir
+pub mod Entries

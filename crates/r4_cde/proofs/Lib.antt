@@ -1,2 +1,5 @@
 pub mod Spelled
 pub mod NamesOfKeys
+pub mod Forms
+pub mod Shows
+pub mod Finds

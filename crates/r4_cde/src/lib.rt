@@ -1,11 +1,18 @@
 //! Names and directory items (docs/layout.md, "Names" and "Items").
 #![tactic(auto)]
 
+mod fault;
+mod fields;
 mod laws;
+mod lent;
 mod name;
+mod order;
 mod short;
+mod view;
 
 pub use laws::name_law;
+pub use lent::NameRef;
 pub use name::{entry_key, name_of_key, r5};
-pub use r4_base::{Key, NameFault, Oid};
+pub use r4_base::{DirFault, Key, NameFault, Oid, Target};
 pub use short::ShortName;
+pub use view::{DirView, EntryRef};

@@ -4,7 +4,7 @@ ghost use Rattle.std.specs.Prelude.{◌≡◌, ◌+◌, ◌^◌, ◌<◌, ◌≤
 ghost use Rattle.std.specs.List.{position_from};
 ghost use Rattle.std.specs.Option.{is_none};
 ghost use Rattle.r4_base.specs.Key.{rank};
-ghost use Rattle.r4_base.specs.Name.{IsShortNameKey, dir_of_key, is_dots, key_of_name, name_fault, packed, r5_of};
+ghost use Rattle.r4_base.specs.Name.{IsShortNameKey, dir_of_key, is_dots, is_long_key, key_of_name, name_fault, packed, r5_of};
 ghost use Rattle.r4_cde.specs.Shown.{short_bytes};
 
 use crate::short::ShortName;
@@ -41,6 +41,13 @@ pub fn name_of_key(key: &Key) -> Option<ShortName>
 {
     let name = ShortName::spelled_by(key);
     is_key_of(key, name.as_bytes()).then_some(name)
+}
+
+/// Whether a key is that of a long name: the upper byte of its ordering is 1.
+pub(crate) fn is_long(key: &Key) -> bool
+    ensures { result ≡ is_long_key key.now }
+{
+    key.el[1] >> 56 == 1
 }
 
 /// Whether bytes are a name, and the key is the one that it has in the key's directory.
