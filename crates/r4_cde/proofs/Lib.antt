@@ -3,3 +3,5 @@ pub mod NamesOfKeys
 pub mod Forms
 pub mod Shows
 pub mod Finds
+pub mod Shifts
+pub mod Splices

@@ -1,2 +1,4 @@
 pub mod Spelling
 pub mod Shown
+pub mod Offsets
+pub mod Splice

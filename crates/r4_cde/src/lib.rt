@@ -6,8 +6,10 @@ mod fields;
 mod laws;
 mod lent;
 mod name;
+mod offsets;
 mod order;
 mod short;
+mod splice;
 mod view;
 
 pub use laws::name_law;
