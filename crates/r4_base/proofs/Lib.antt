@@ -11,3 +11,4 @@ pub mod Stats
 pub mod Keys
 pub mod Names
 pub mod Dirs
+pub mod Overwrites

@@ -5,3 +5,8 @@ pub mod Shows
 pub mod Finds
 pub mod Shifts
 pub mod Splices
+pub mod Edits
+pub mod Carried
+pub mod Cuts
+pub mod Puts
+pub mod Inserts

@@ -2,3 +2,4 @@ pub mod Spelling
 pub mod Shown
 pub mod Offsets
 pub mod Splice
+pub mod Edits

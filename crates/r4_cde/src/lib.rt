@@ -1,6 +1,7 @@
 //! Names and directory items (docs/layout.md, "Names" and "Items").
 #![tactic(auto)]
 
+mod edit;
 mod fault;
 mod fields;
 mod laws;
@@ -8,10 +9,12 @@ mod lent;
 mod name;
 mod offsets;
 mod order;
+mod put;
 mod short;
 mod splice;
 mod view;
 
+pub use edit::{cut, insert};
 pub use laws::name_law;
 pub use lent::NameRef;
 pub use name::{entry_key, name_of_key, r5};
