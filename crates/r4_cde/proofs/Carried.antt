@@ -1,13 +1,12 @@
 -- The entries that an edit leaves, where they stand afterwards, and the lists and bodies that they make.
-use Rattle.std.proofs.Common.{◌≡◌, ◌⊎◌, inl, inr, ℕ, ◌+◌, ◌-◌, ◌*◌, ◌<◌, ◌≤◌, true, List, ◌++◌, length, get_or, take, drop, refl, sym, ap, subst, ◌∙◌, arith}
+use Rattle.std.proofs.Common.{◌≡◌, inl, inr, ℕ, ◌+◌, ◌-◌, ◌*◌, ◌<◌, ◌≤◌, true, List, ◌++◌, length, get_or, take, drop, refl, sym, ap, subst, ◌∙◌, arith}
 use Rattle.std.proofs.lemmas.Bool.{cases_eq, cases_lt}
-use Rattle.std.proofs.lemmas.List.{places, same_lists, length-append, length-take-le, length-drop, get_or-take, get_or-drop}
+use Rattle.std.proofs.lemmas.List.{places, same_lists, length-append, length-take-le, length-drop}
 use Rattle.std.proofs.lemmas.List.Edits.{length-insert, get_or-insert_below, get_or-insert_at, get_or-insert_above}
 use Rattle.std.specs.List.{insert}
-use Rattle.std.specs.Prelude.{slice_range, slice_get}
 use Rattle.r4_base.specs.declared.key.Key.{Key}
 use Rattle.r4_base.specs.Key.{rank}
-use Rattle.r4_base.specs.Dir.{Entry, entry_at, entry_body, entry_count, entry_edge, entry_header, entry_key_at, entry_offset, entry_name_is_good, entries_of}
+use Rattle.r4_base.specs.Dir.{entry_at, entry_body, entry_count, entry_edge, entry_key_at, entry_offset, entry_name_is_good, entries_of}
 use Rattle.r4_base.specs.Entries.{IsLaid, first_key}
 use Rattle.r4_base.proofs.Numbers.{slice_range-same}
 use Rattle.r4_base.proofs.Dirs.{IsAccepted, edge_next, edge_last, edge_stands, edges_rise, length-entries_of, get_or-entries_of, keys_apart}
@@ -111,7 +110,7 @@ pub carries_rank : (item : Key) (b c : List ℕ) (j k : ℕ) → Carries b c j k
 carries_rank item b c j k h = ap rank (h.key item)
 
 -- bodies with the same bytes, d behind in one of them
-same_body : (b c : List ℕ) (j k : ℕ) → IsLaid b → IsLaid c → j < entry_count b → k < entry_count c → entry_edge c (k + 1) + entry_edge b j ≡ entry_edge c k + entry_edge b (j + 1)
+pub same_body : (b c : List ℕ) (j k : ℕ) → IsLaid b → IsLaid c → j < entry_count b → k < entry_count c → entry_edge c (k + 1) + entry_edge b j ≡ entry_edge c k + entry_edge b (j + 1)
     → ((q : ℕ) → entry_edge b j ≤ q → q < entry_edge b (j + 1) → get_or c (q + entry_edge c k - entry_edge b j) 0 ≡ get_or b q 0) → entry_body c k ≡ entry_body b j
 unfolding entry_body
 same_body b c j k laid laid' lt lt' long same =

@@ -1,10 +1,10 @@
 -- A cut of entries.
-use Rattle.std.proofs.Common.{◌≡◌, ◌⊎◌, inl, inr, ℕ, ◌+◌, ◌-◌, ◌*◌, ◌<◌, ◌≤◌, List, [], ◌∷◌, ◌++◌, length, get_or, take, drop, None, refl, sym, ap, subst, ◌∙◌, arith}
+use Rattle.std.proofs.Common.{◌≡◌, inl, inr, ℕ, ◌+◌, ◌-◌, ◌<◌, ◌≤◌, List, [], ◌∷◌, ◌++◌, length, take, drop, None, refl, sym, ap, ◌∙◌, arith}
 use Rattle.std.proofs.lemmas.Bool.{cases_eq}
 use Rattle.std.proofs.lemmas.List.{length-take-le}
 use Rattle.r4_base.specs.Bytes.{number_at}
 use Rattle.r4_base.specs.declared.key.Key.{Key}
-use Rattle.r4_base.specs.Dir.{dir_fault, entries_from, entries_of, entry_count, entry_edge, entry_header}
+use Rattle.r4_base.specs.Dir.{dir_fault, entries_from, entries_of, entry_count, entry_edge}
 use Rattle.r4_base.specs.Entries.{IsLaid, first_key}
 use Rattle.r4_base.proofs.Dirs.{accepted, accepted_none, edge_last, edge_stands, edges_rise}
 use Rattle.r4_cde.specs.Edits.{IsDirBody}

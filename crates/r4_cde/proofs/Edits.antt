@@ -1,15 +1,11 @@
 -- What an edit of a body does to its entries: some give way to others at a place, and the rest is moved.
-use Rattle.std.proofs.Common.{◌≡◌, ◌⊎◌, inl, inr, ℕ, ◌+◌, ◌-◌, ◌*◌, ◌<◌, ◌≤◌, true, List, length, get_or, take, drop, refl, sym, ap, subst, ◌∙◌, arith}
-use Rattle.std.proofs.lemmas.Bool.{cases_eq, cases_lt}
+use Rattle.std.proofs.Common.{◌≡◌, ℕ, ◌+◌, ◌*◌, ◌<◌, ◌≤◌, List, length, get_or, take, sym, ◌∙◌, arith}
 use Rattle.std.proofs.lemmas.List.{length-take-le, get_or-take}
-use Rattle.std.specs.Prelude.{slice_range}
-use Rattle.r4_base.specs.Bytes.{number_at}
 use Rattle.r4_base.specs.declared.key.Key.{Key}
-use Rattle.r4_base.specs.Key.{rank}
-use Rattle.r4_base.specs.Dir.{entry_at, entry_body, entry_count, entry_edge, entry_header, entry_key_at, entry_offset, entry_name_is_good}
-use Rattle.r4_base.specs.Entries.{IsLaid, first_key}
-use Rattle.r4_base.proofs.Numbers.{number_at-same, slice_range-same}
-use Rattle.r4_base.proofs.Dirs.{IsAccepted, edge_next, edge_last, edge_stands, edges_rise}
+use Rattle.r4_base.specs.Dir.{entry_count, entry_edge, entry_header, entry_key_at, entry_offset}
+use Rattle.r4_base.specs.Entries.{IsLaid}
+use Rattle.r4_base.proofs.Numbers.{number_at-same}
+use Rattle.r4_base.proofs.Dirs.{edge_next, edge_stands, edges_rise}
 use Rattle.r4_cde.specs.Splice.{CanSplice, IsSpliced}
 use Rattle.r4_cde.specs.declared.splice.Splice.{Splice}
 use Rattle.r4_cde.proofs.Splices.{SameHeader, same_header}

@@ -1,24 +1,24 @@
 -- An entry that is put in.
-use Rattle.std.proofs.Common.{◌≡◌, ◌⊎◌, inl, inr, ℕ, ◌+◌, ◌-◌, ◌*◌, ◌/◌, ◌^◌, ◌<◌, ◌≤◌, Bool, true, false, cond, eqb, ltb, leb, ◌&&◌, List, [], ◌∷◌, ◌++◌, length, get_or, take, drop, Option, Some, None, refl, sym, ap, subst, ◌∙◌, arith}
+use Rattle.std.proofs.Common.{◌≡◌, ◌⊎◌, inl, inr, ℕ, ◌+◌, ◌-◌, ◌/◌, ◌^◌, ◌<◌, ◌≤◌, true, List, [], ◌∷◌, ◌++◌, length, get_or, take, Option, Some, None, refl, sym, ap, ◌∙◌, arith}
 use Rattle.std.proofs.lemmas.Bool.{cases_eq, cases_lt, eq-eqb, eqb-true, ne_eqb, lt-ltb, le-leb}
 use Rattle.std.proofs.lemmas.List.{places, ext_get_or, length-append, length-take, length-take-le}
 use Rattle.std.specs.List.{All, insert}
-use Rattle.std.specs.Option.{IfSome, is_none, is_some}
-use Rattle.std.specs.Prelude.{slice_get, slice_range}
+use Rattle.std.specs.Option.{IfSome, is_some}
+use Rattle.std.specs.Prelude.{slice_range}
 use Rattle.r4_base.specs.Bytes.{number_bytes, overwrite, fields_bytes}
 use Rattle.r4_base.specs.declared.key.Key.{Key}
 use Rattle.r4_base.specs.declared.items.Target.{Target}
 use Rattle.r4_base.specs.Key.{rank}
-use Rattle.r4_base.specs.Name.{dir_of_key, is_long_key, is_long_name, key_of_name, name_fault, short_name_in}
+use Rattle.r4_base.specs.Name.{dir_of_key, is_long_key, key_of_name, short_name_in}
 use Rattle.r4_base.specs.Dir.{Entry, dir_fault, entries_of, entry_at, entry_body, entry_count, entry_edge, entry_header, entry_key_at, entry_offset, entry_name_is_good, name_of, target_of}
 use Rattle.r4_base.specs.Entries.{IsLaid, IsLawfulEntry, first_key}
-use Rattle.r4_base.proofs.Numbers.{AreBytes, length-overwrite, length-slice_range, length-fields_bytes, get_or-slice_range, get_or-overwrite_below, get_or-overwrite_inside, get_or-overwrite_above}
+use Rattle.r4_base.proofs.Numbers.{length-overwrite, length-slice_range, length-fields_bytes, get_or-slice_range, get_or-overwrite_below, get_or-overwrite_inside, get_or-overwrite_above}
 use Rattle.r4_base.proofs.Names.{bytes_of, ordering_short}
-use Rattle.r4_base.proofs.Dirs.{IsAccepted, accepted, accepted_none, edge_last, edge_next, edge_stands, get-entries_of, length-entries_of}
+use Rattle.r4_base.proofs.Dirs.{accepted, accepted_none, edge_last, edge_stands, get-entries_of, length-entries_of}
 use Rattle.r4_cde.specs.Edits.{GoesBetween, IsAcceptedOrEmpty, IsBegun, given_body, given_entry, given_name, given_room, target_fields}
 use Rattle.r4_cde.specs.Splice.{CanSplice, IsSpliced}
 use Rattle.r4_cde.specs.declared.splice.Splice.{Splice}
-use Rattle.r4_cde.proofs.Splices.{Counted, counted, same_header}
+use Rattle.r4_cde.proofs.Splices.{counted, same_header}
 use Rattle.r4_cde.proofs.Edits.{Edited, can_splice, edited, take_byte, take_count, take_header}
 use Rattle.r4_cde.proofs.Carried.{accepted_by, carried_low, carried_high, carries_named, carries_rank, edge_high, edited_insert, edited_laid, same_dir}
 use Rattle.r4_cde.proofs.Cuts.{empty_count, no_entries}

@@ -10,3 +10,4 @@ pub mod Carried
 pub mod Cuts
 pub mod Puts
 pub mod Inserts
+pub mod Parts

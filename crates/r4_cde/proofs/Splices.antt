@@ -1,10 +1,10 @@
 -- What the steps of a splice leave, byte by byte and header by header.
-use Rattle.std.proofs.Common.{◌≡◌, ◌⊎◌, inl, inr, ℕ, ◌+◌, ◌-◌, ◌*◌, ◌^◌, ◌<◌, ◌≤◌, List, length, get_or, refl, sym, ap, subst, ◌∙◌, arith}
+use Rattle.std.proofs.Common.{◌≡◌, inl, inr, ℕ, ◌+◌, ◌-◌, ◌*◌, ◌^◌, ◌<◌, ◌≤◌, List, length, get_or, refl, sym, ap, ◌∙◌, arith}
 use Rattle.std.specs.Prelude.{slice_range}
 use Rattle.r4_base.specs.Bytes.{number_at, number_bytes, overwrite}
 use Rattle.r4_base.specs.declared.key.Key.{Key}
 use Rattle.r4_base.specs.Dir.{entry_count, entry_header, entry_key_at, entry_offset}
-use Rattle.r4_base.proofs.Numbers.{length-overwrite, length-number_bytes, length-slice_range, get_or-slice_range, get_or-overwrite_below, get_or-overwrite_inside, get_or-overwrite_above, number_at-overwrite, number_at-moved, number_at-same}
+use Rattle.r4_base.proofs.Numbers.{length-overwrite, length-number_bytes, length-slice_range, get_or-slice_range, get_or-overwrite_below, get_or-overwrite_inside, get_or-overwrite_above, number_at-overwrite, number_at-moved}
 use Rattle.r4_cde.specs.Offsets.{ShiftsOffsets}
 use Rattle.r4_cde.specs.Splice.{CanSplice, IsSpliced}
 use Rattle.r4_cde.specs.declared.splice.Splice.{Splice}

@@ -1,11 +1,11 @@
 -- Edits of a body of entries, in its first bytes.
-use Rattle.std.specs.Prelude.{◌≡◌, ◌⊎◌, ℕ, ◌+◌, ◌<◌, ◌≤◌, List, [], ◌∷◌, ◌++◌, length, take, slice_get, slice_index, Option, Some, None, Bool, if◌then◌else◌, ◌==◌}
+use Rattle.std.specs.Prelude.{◌≡◌, ◌⊎◌, ℕ, ◌+◌, ◌-◌, ◌<◌, ◌≤◌, List, [], ◌∷◌, ◌++◌, length, take, slice_get, slice_index, Option, Some, None, if◌then◌else◌, ◌==◌}
 use Rattle.r4_base.specs.declared.key.Key.{Key}
 use Rattle.r4_base.specs.declared.items.Target.{Target}
 use Rattle.r4_base.specs.Bytes.{fields_bytes}
 use Rattle.r4_base.specs.Key.{IsBelow}
 use Rattle.r4_base.specs.Name.{short_name_in}
-use Rattle.r4_base.specs.Dir.{Entry, dir_fault, entries_of, entry_count}
+use Rattle.r4_base.specs.Dir.{Entry, dir_fault, entries_of, entry_count, entry_edge, entry_header, entry_key_at, entry_offset}
 use Rattle.r4_base.specs.Entries.{IsLaid, first_key}
 
 -- A body that the reader accepts under some key.
@@ -61,3 +61,18 @@ pub record IsBegun (dir : Key) (used : ℕ) (b : List ℕ) (u : ℕ) (c : List �
   pub entries : (item : Key) → entries_of item (take u c) ≡ entries_of item (take used b)
   pub accepted : (entry_count (take u c) ≡ 0) ⊎ (dir_fault (first_key dir (take u c)) (take u c) ≡ None)
   pub rest : (k : ℕ) → u ≤ k → slice_index c k ≡ slice_index b k
+
+-- ---- a part of the entries as a body of its own
+
+-- how many bytes the entries from one place up to another take: a count, and their headers and bodies
+abbrev pub part_room : List ℕ → (first end : ℕ) → ℕ
+part_room b first end = entry_header (end - first) + (entry_edge b end - entry_edge b first)
+
+-- The first u bytes are the entries from one place up to another of a body.
+pub record IsPart (b : List ℕ) (first end u : ℕ) (c : List ℕ) : Type 0 where
+  pub used_is : u ≡ part_room b first end
+  pub room : u ≤ length c
+  pub count : entry_count c ≡ end - first
+  pub keys : (item : Key) (k : ℕ) → first + k < end → entry_key_at item c k ≡ entry_key_at item b (first + k)
+  pub offsets : (k : ℕ) → first + k < end → entry_offset c k + entry_edge b first ≡ entry_offset b (first + k) + entry_header (end - first)
+  pub bodies : (p q : ℕ) → entry_edge b first ≤ q → q < entry_edge b end → p + entry_edge b first ≡ q + entry_header (end - first) → slice_index c p ≡ slice_index b q

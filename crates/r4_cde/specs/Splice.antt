@@ -1,5 +1,5 @@
 -- What an edit that puts entries in the place of others leaves of the rest of a body.
-use Rattle.std.specs.Prelude.{◌≡◌, ℕ, ◌+◌, ◌*◌, ◌<◌, ◌≤◌, List, length, take, slice_index}
+use Rattle.std.specs.Prelude.{◌≡◌, ℕ, ◌+◌, ◌*◌, ◌<◌, ◌≤◌, List, length, slice_index}
 use Rattle.r4_base.specs.declared.key.Key.{Key}
 use Rattle.r4_base.specs.Dir.{entry_count, entry_header, entry_key_at, entry_offset}
 use Rattle.r4_cde.specs.declared.splice.Splice.{Splice}

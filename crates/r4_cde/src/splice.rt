@@ -34,7 +34,13 @@ impl Splice {
         move_bytes(body, headers + gone, end, headers + come);
         put16(body, 0, left);
         shift_offsets(body, 0, self.at, gone, come);
-        shift_offsets(body, self.at + self.come, left, self.old + gone, self.new + come);
+        shift_offsets(
+            body,
+            self.at + self.come,
+            left,
+            self.old + gone,
+            self.new + come,
+        );
         end + come - gone
     }
 }

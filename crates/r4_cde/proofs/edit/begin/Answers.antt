@@ -1,4 +1,3 @@
-use Rattle.std.proofs.Common.{arith}
 use Rattle.r4_cde.proofs.Inserts.{begun_new, begun_same}
 use Rattle.r4_cde.proofs.edit.begin.Goals as goal
 

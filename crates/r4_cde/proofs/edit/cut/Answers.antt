@@ -1,6 +1,5 @@
-use Rattle.std.proofs.Common.{◌≡◌, ◌+◌, ◌-◌, ◌∙◌, ℕ, List, take, length, inr, ap, sym, arith}
+use Rattle.std.proofs.Common.{◌≡◌, ◌∙◌, ℕ, List, take, length, inr, sym, arith}
 use Rattle.std.proofs.lemmas.List.{length-take-le}
-use Rattle.r4_base.specs.Entries.{IsLaid}
 use Rattle.r4_cde.proofs.Edits.{Edited}
 use Rattle.r4_cde.proofs.Carried.{edited_laid}
 use Rattle.r4_cde.proofs.Cuts.{cutting, body_laid, cut_order, can_cut, cut_edited, cut_entries, cut_all, cut_accepted}

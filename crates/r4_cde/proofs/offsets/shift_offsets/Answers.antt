@@ -1,8 +1,8 @@
-use Rattle.std.proofs.Common.{◌≡◌, ◌+◌, ◌-◌, ◌≤◌, ℕ, ◌∙◌, ap, subst, inr, arith}
+use Rattle.std.proofs.Common.{◌≡◌, ◌+◌, ◌-◌, ℕ, ◌∙◌, ap, subst, arith}
 use Rattle.r4_base.specs.Bytes.{number_bytes, overwrite}
 use Rattle.r4_base.specs.Dir.{entry_header, entry_offset}
 use Rattle.r4_cde.specs.Offsets.{ShiftsOffsets}
-use Rattle.r4_cde.proofs.Shifts.{shifted_none, shifted_more}
+use Rattle.r4_cde.proofs.Shifts.{shifted_more}
 use Rattle.r4_cde.proofs.offsets.shift_offsets.Goals as goal
 
 pub loop-i-preserved : goal.loop-i-preserved

@@ -1,8 +1,4 @@
-use Rattle.std.proofs.Common.{◌++◌, ◌∷◌, [], sym, ◌∙◌}
-use Rattle.r4_base.specs.Dir.{target_of}
-use Rattle.std.proofs.lemmas.List.{append-nil}
-use Rattle.r4_base.specs.Bytes.{fields_bytes}
-use Rattle.r4_cde.specs.Edits.{target_fields}
+use Rattle.std.proofs.Common.{◌++◌, ◌∷◌, []}
 use Rattle.r4_cde.proofs.Puts.{body_put}
 use Rattle.r4_cde.proofs.put.put_body.Goals as goal
 

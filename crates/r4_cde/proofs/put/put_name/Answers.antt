@@ -1,4 +1,4 @@
-use Rattle.std.proofs.Common.{refl, arith}
+use Rattle.std.proofs.Common.{refl}
 use Rattle.r4_cde.proofs.Puts.{name_put}
 use Rattle.r4_cde.proofs.put.put_name.Goals as goal
 

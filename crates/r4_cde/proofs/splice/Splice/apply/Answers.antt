@@ -1,4 +1,4 @@
-use Rattle.std.proofs.Common.{◌≡◌, ◌+◌, ◌-◌, ◌*◌, ◌≤◌, ◌∙◌, ℕ, ap, arith}
+use Rattle.std.proofs.Common.{◌≡◌, ◌+◌, ◌-◌, ◌*◌, ℕ, arith}
 use Rattle.std.specs.Prelude.{slice_range}
 use Rattle.r4_base.specs.Bytes.{overwrite}
 use Rattle.r4_base.specs.Dir.{entry_header}
