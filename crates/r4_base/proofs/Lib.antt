@@ -12,3 +12,4 @@ pub mod Keys
 pub mod Names
 pub mod Dirs
 pub mod Overwrites
+pub mod EntryLists

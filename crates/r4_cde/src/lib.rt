@@ -16,7 +16,7 @@ mod splice;
 mod view;
 
 pub use edit::{cut, insert};
-pub use laws::name_law;
+pub use laws::{dir_law, given_law, name_law};
 pub use lent::NameRef;
 pub use name::{entry_key, name_of_key, r5};
 pub use part::split;
