@@ -19,3 +19,7 @@ pub mod FreshBits
 pub mod FreshTree
 pub mod FreshVolume
 pub mod SmallImages
+pub mod Names
+pub mod Dirs
+pub mod Overwrites
+pub mod EntryLists

@@ -18,3 +18,4 @@ pub mod Cell
 pub mod Volume
 pub mod Fresh
 pub mod Small
+pub mod Entries

@@ -1,0 +1,13 @@
+pub mod Spelled
+pub mod NamesOfKeys
+pub mod Forms
+pub mod Shows
+pub mod Finds
+pub mod Shifts
+pub mod Splices
+pub mod Edits
+pub mod Carried
+pub mod Cuts
+pub mod Puts
+pub mod Inserts
+pub mod Parts

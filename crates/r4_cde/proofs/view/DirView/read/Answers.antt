@@ -1,0 +1,6 @@
+use Rattle.std.proofs.Common.{◌∙◌, sym}
+use Rattle.r4_base.proofs.Dirs.{accepted}
+use Rattle.r4_cde.proofs.view.DirView.read.Goals as goal
+
+pub get16-requires : goal.get16-requires
+get16-requires c = (accepted c.args.key.now c.args.body.now (sym c.fault_of.ensures ∙ c.in-None.is)).laid.two

@@ -1,0 +1,5 @@
+pub mod Spelling
+pub mod Shown
+pub mod Offsets
+pub mod Splice
+pub mod Edits
