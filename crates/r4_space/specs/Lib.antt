@@ -1,2 +1,4 @@
 pub mod Words
 pub mod TakenWords
+pub mod Accounts
+pub mod Books
