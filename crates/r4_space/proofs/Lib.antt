@@ -1,3 +1,5 @@
 pub mod WordLaws
 pub mod TakenLaws
 pub mod AccountLaws
+pub mod ClaimLaws
+pub mod SpaceLaws

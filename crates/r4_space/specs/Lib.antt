@@ -2,3 +2,5 @@ pub mod Words
 pub mod TakenWords
 pub mod Accounts
 pub mod Books
+pub mod Space
+pub mod Kept

@@ -31,3 +31,10 @@ pub record TellsFull (words full : List ℕ) : Type 0 where
 pub record IsSeenFrom (word from seen : ℕ) : Type 0 where
   pub before : (j : ℕ) → j < from → bit_at seen j ≡ 1
   pub from_on : (j : ℕ) → from ≤ j → bit_at seen j ≡ bit_at word j
+
+-- i is the first number from `near` on that is not in the set, or else the first of all.
+pub record IsNextClear (set : ℕ → Bool) (n near i : ℕ) : Type 0 where
+  pub within : i < n
+  pub clear : set i ≡ false
+  pub ahead : near ≤ i → (k : ℕ) → near ≤ k → k < i → set k ≡ true
+  pub around : i < near → IsFull set n near × ((k : ℕ) → k < i → set k ≡ true)

@@ -89,6 +89,14 @@ impl Ledger {
         add(&mut self.atoms, no_account(atom));
     }
 
+    /// Uses up one of the calls for which there is room.
+    pub fn use_up(&mut self)
+        requires { 0 < self.old.spare }
+        ensures { self.new ≡ record self.old { spare = self.old.spare - 1 } }
+    {
+        self.spare -= 1;
+    }
+
     /// Adds the account of `gone` to that of `kept`.
     pub fn merge(&mut self, kept: AtomNo, gone: AtomNo)
         requires { kept.0 ≢ gone.0 }
@@ -170,7 +178,7 @@ fn due(account: &Account, bitmaps: u64) -> u64
 }
 
 /// Adds an element for which there is room.
-fn add<T: Drop>(items: &mut Vec<T>, item: T)
+pub fn add<T: Drop>(items: &mut Vec<T>, item: T)
     requires { vec_len items.old < vec_capacity items.old }
     ensures items { items.new.items ≡ items.old.items ++ item ∷ [] }
     ensures capacity { vec_capacity items.old ≤ vec_capacity items.new }

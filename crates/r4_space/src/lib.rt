@@ -1,11 +1,14 @@
 //! The space of a volume: which blocks are used, and what a change costs.
 #![tactic(auto)]
 
+mod claims;
 mod cost;
 mod ledger;
+mod space_map;
 mod taken;
 mod things;
 mod words;
 
 pub use cost::price;
+pub use space_map::SpaceMap;
 pub use things::Short;

@@ -1,7 +1,7 @@
 //! A set of the first numbers, in which the next number that is not there is found by a few words.
 
 ghost use Rattle.std.specs.Prelude.{◌≡◌, ◌<◌, ◌≤◌, length, replicate, true, false, not, count_by, slice_set, slice_index_or, IfOk, MatchOption};
-ghost use Rattle.r4_space.specs.Words.{IsFirstClear, IsFull};
+ghost use Rattle.r4_space.specs.Words.{IsFirstClear, IsFull, IsNextClear};
 
 use crate::words::{first_clear, get_bit, take_bit, wipe};
 use r4_base::Memory;
@@ -77,6 +77,17 @@ impl Taken {
             Some(i) if i < self.size => found,
             _ => None,
         }
+    }
+
+    /// The first number from `near` on that is not taken, or else the first of all.
+    pub fn next_around(&self, near: u64) -> Option<u64>
+        ensures { MatchOption result (IsFull (λ k. slice_index_or self.now k true) (length self.now) 0) (IsNextClear (λ k. slice_index_or self.now k true) (length self.now) near) }
+    {
+        let ahead = self.next(near);
+        if ahead.is_some() {
+            return ahead;
+        }
+        self.next(0)
     }
 
     /// Takes number `i`.

@@ -1,0 +1,150 @@
+//! Which blocks of a volume are used, and for whom.
+
+ghost use Rattle.std.specs.Prelude.{◌≡◌, ◌≢◌, ℕ, ◌+◌, ◌-◌, ◌^◌, ◌<◌, ◌≤◌, ◌↔◌, max, length, false, slice_index_or, IsOk, OnOk, OnErr, IfOk, IfErr, IfSome, IfNone, IsTrue, MatchOption};
+ghost use Rattle.r4_base.specs.Bitmap.{is_fixed};
+ghost use Rattle.r4_space.specs.Accounts.{is_sealed};
+ghost use Rattle.r4_space.specs.Words.{IsFull, IsNextClear};
+ghost use Rattle.r4_space.specs.Space.{charged, free_of, is_taken, merged, need_at, sealed_in, settled, used_up, with_deferred, with_held, with_placed};
+
+use crate::claims::{drop_claims, rename, retake, settle_marks};
+use crate::ledger::{Ledger, add};
+use crate::taken::Taken;
+use crate::things::{Claim, Short};
+use r4_base::{AtomNo, BlockNo};
+use std::marker::Model;
+
+/// Which blocks of a volume are marked, placed, held or deferred, what its open atoms take up, and for how many calls
+/// of `charge`, `hold` and `defer` there is room (docs/space.md).
+#[derive(Drop)]
+pub struct SpaceMap {
+    blocks: u64,
+    marked: Vec<bool>,
+    placed: Vec<bool>,
+    held: Vec<Claim>,
+    deferred: Vec<Claim>,
+    taken: Taken,
+    ledger: Ledger,
+}
+
+impl Model for SpaceMap {
+    ghost use Rattle.std.specs.Prelude.{vec_capacity};
+    ghost use Rattle.r4_space.specs.Space.{Space};
+    ghost use Rattle.r4_space.specs.Kept.{IsSpace};
+
+    ghost Value = { Space };
+
+    ghost view = { λ s. record { block_count = s.blocks; marked = s.marked.items; placed = s.placed.items; held = s.held.items; deferred = s.deferred.items; atoms = s.ledger.atoms; sealed = s.ledger.sealed; spare = s.ledger.spare } };
+
+    ghost invariant = { λ s. IsSpace s.blocks s.marked.items s.placed.items s.held.items s.deferred.items s.taken s.ledger.bitmaps s.ledger.spare (vec_capacity s.held) (vec_capacity s.deferred) };
+}
+
+impl SpaceMap {
+    /// Sets an atom's number of cells, and of those without a block, where as many blocks are free as that takes
+    /// besides what the atom takes up already.
+    pub fn charge(&mut self, atom: AtomNo, cells: u64, fresh: u64) -> Result<(), Short>
+        requires cells { cells < 2 ^ 32 }
+        requires fresh { fresh < 2 ^ 32 }
+        requires open { is_sealed self.old.sealed atom ≡ false }
+        requires room { 1 ≤ self.old.spare }
+        ensures ok { OnOk result (need_at self.old atom cells fresh ≤ free_of self.old) }
+        ensures charged { OnOk result (self.new ≡ charged self.old atom cells fresh) }
+        ensures short { IfErr result (λ e. (e.free < e.need) × (e.need ≡ need_at self.old atom cells fresh) × (e.free ≡ free_of self.old)) }
+        ensures stays { OnErr result (self.new ≡ used_up self.old) }
+    {
+        let unused = self.taken.clear();
+        self.ledger.charge(unused, atom, cells, fresh)
+    }
+
+    /// Places the first unused block from `near` on, or else the first unused one. `None` exactly where no block is
+    /// unused. A fixed block never is.
+    pub fn place(&mut self, near: BlockNo) -> Option<BlockNo>
+        ensures found { IfSome result (λ b. IsNextClear (is_taken self.old) self.old.block_count near.0 b.0) }
+        ensures free { IfSome result (λ b. is_fixed self.old.block_count b.0 ≡ false) }
+        ensures placed { IfSome result (λ b. self.new ≡ with_placed self.old b.0) }
+        ensures none { IfNone result (IsFull (is_taken self.old) self.old.block_count 0) }
+        ensures stays { IfNone result (self.new ≡ self.old) }
+    {
+        let block = self.taken.next_around(near.0)?;
+        self.placed[block as usize] = true;
+        self.taken.take(block);
+        Some(BlockNo(block))
+    }
+
+    /// Holds the block that `place` would place, for an atom's log. It is marked in no bitmap.
+    pub fn hold(&mut self, atom: AtomNo, near: BlockNo) -> Option<BlockNo>
+        requires { 1 ≤ self.old.spare }
+        ensures found { IfSome result (λ b. IsNextClear (is_taken self.old) self.old.block_count near.0 b.0) }
+        ensures free { IfSome result (λ b. is_fixed self.old.block_count b.0 ≡ false) }
+        ensures held { IfSome result (λ b. self.new ≡ with_held self.old atom b) }
+        ensures none { IfNone result (IsFull (is_taken self.old) self.old.block_count 0) }
+        ensures stays { IfNone result (self.new ≡ used_up self.old) }
+    {
+        let Some(number) = self.taken.next_around(near.0) else {
+            self.ledger.use_up();
+            return None;
+        };
+        let block = BlockNo(number);
+        add(&mut self.held, Claim { atom, block });
+        self.taken.take(number);
+        self.ledger.open(atom);
+        Some(block)
+    }
+
+    /// Defers a block: it becomes unused when the atom settles.
+    pub fn defer(&mut self, atom: AtomNo, block: BlockNo)
+        requires within { block.0 < self.old.block_count }
+        requires room { 1 ≤ self.old.spare }
+        ensures { self.new ≡ with_deferred self.old atom block }
+    {
+        add(&mut self.deferred, Claim { atom, block });
+        self.taken.take(block.0);
+        self.ledger.open(atom);
+    }
+
+    /// Adds the numbers and the deferred blocks of `gone` to those of `kept`; `gone` has none from then on.
+    pub fn merge(&mut self, kept: AtomNo, gone: AtomNo)
+        requires two { kept.0 ≢ gone.0 }
+        requires kept_open { is_sealed self.old.sealed kept ≡ false }
+        requires gone_open { is_sealed self.old.sealed gone ≡ false }
+        ensures { self.new ≡ merged self.old kept gone }
+    {
+        rename(self.deferred.as_mut_slice(), kept, gone);
+        self.ledger.merge(kept, gone);
+    }
+
+    /// Seals an atom: its numbers are 0 from then on.
+    pub fn seal(&mut self, atom: AtomNo)
+        ensures { self.new ≡ sealed_in self.old atom }
+    {
+        self.ledger.seal(atom);
+    }
+
+    /// Settles an atom: its held and its deferred blocks become unused, and the placed ones are marked. A fixed block
+    /// stays marked.
+    pub fn settle(&mut self, atom: AtomNo)
+        ensures { self.new ≡ settled self.old atom }
+    {
+        settle_marks(
+            self.marked.as_mut_slice(),
+            self.placed.as_mut_slice(),
+            self.deferred.as_slice(),
+            atom,
+        );
+        drop_claims(&mut self.held, atom);
+        drop_claims(&mut self.deferred, atom);
+        retake(
+            &mut self.taken,
+            self.marked.as_slice(),
+            self.held.as_slice(),
+            self.deferred.as_slice(),
+        );
+        self.ledger.settle(atom);
+    }
+
+    /// How many blocks are free: the unused ones, less what the open atoms take up, and 0 where that is negative.
+    pub fn free(&self) -> u64
+        ensures { result ≡ free_of self.now }
+    {
+        self.taken.clear().saturating_sub(self.ledger.owed())
+    }
+}
