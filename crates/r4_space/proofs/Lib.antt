@@ -3,3 +3,4 @@ pub mod TakenLaws
 pub mod AccountLaws
 pub mod ClaimLaws
 pub mod SpaceLaws
+pub mod MarkLaws

@@ -1,6 +1,6 @@
 -- A space as a whole.
 use Rattle.std.proofs.Common.{◌≡◌, ℕ, ◌+◌, ◌-◌, ◌<◌, ◌≤◌, Bool, true, false, not, ◌||◌, List, [], ◌∷◌, ◌++◌, length, get_or, set, refl, sym, ap, ◌∙◌, arith}
-use Rattle.std.specs.Prelude.{map, replicate, count_by, Vec}
+use Rattle.std.specs.Prelude.{map, replicate, count_by, nat_le, Vec}
 use Rattle.std.specs.Vec.{with_items}
 use Rattle.std.specs.List.{range_with_len}
 use Rattle.std.proofs.lemmas.Bool.{false_from_ne_true}
@@ -12,7 +12,7 @@ use Rattle.r4_base.specs.declared.things.AtomNo.{AtomNo}
 use Rattle.r4_space.specs.declared.things.Account.{Account}
 use Rattle.r4_space.specs.declared.things.Claim.{Claim}
 use Rattle.r4_space.specs.Accounts.{dues, is_atom}
-use Rattle.r4_space.specs.Space.{Space, claims_of, claims_without, free_of, is_marked_after, is_taken_by, renamed, unused_count}
+use Rattle.r4_space.specs.Space.{Space, claims_of, claims_without, free_of, freed_by, is_marked_after, is_marked_by, is_taken_by, unused_count, up_to}
 use Rattle.r4_space.specs.Words.{IsNextClear}
 use Rattle.r4_space.specs.Kept.{AreBlocks, AreWithin, IsSpace}
 use Rattle.r4_space.proofs.ClaimLaws.{blocks_placed, blocks_held, blocks_deferred, blocks_merged, within-without, unused_is}
@@ -86,3 +86,11 @@ fewer atom claims spare =
     let count = length-filter (λ (c : Claim). not (is_atom atom c.atom)) claims in
     let most = count_by-le-length (λ (c : Claim). not (is_atom atom c.atom)) claims in
     omega arith
+
+-- ---- a bitmap
+
+pub marked_by : (n b : ℕ) (m m' p p' : List Bool) (h d d' : List Claim) (atoms : List Account) (sealed sealed' : List AtomNo) (spare : ℕ) (atom : AtomNo) (x : Bool) → m ≡ m' → p ≡ p' → d ≡ d' → sealed ≡ sealed' → length m' ≡ n
+    → x ≡ (nat_le (length m) b || is_marked_after (length m) m p (freed_by (up_to sealed atom) d) b)
+    → x ≡ is_marked_by (record { block_count = n; marked = m'; placed = p'; held = h; deferred = d'; atoms = atoms; sealed = sealed'; spare = spare }) atom b
+unfolding is_marked_by
+marked_by n b m m' p p' h d d' atoms sealed sealed' spare atom x e f g k size is = is ∙ rw (e, f, g, k, size) refl

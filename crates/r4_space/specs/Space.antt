@@ -1,12 +1,12 @@
 -- The space of a volume, in the words of its contracts (docs/space.md).
-use Rattle.std.specs.Prelude.{ℕ, ◌-◌, nat_le, List, [], ◌∷◌, ◌++◌, map, filter, replicate, count_by, slice_index_or, slice_set, Bool, true, false, not, ◌&&◌, ◌||◌, ◌==◌, if◌then◌else◌}
-use Rattle.std.specs.List.{list_any, range_with_len, before_first}
+use Rattle.std.specs.Prelude.{ℕ, ◌-◌, max, nat_le, List, [], ◌∷◌, ◌++◌, map, filter, replicate, count_by, slice_index_or, slice_set, Bool, true, false, not, ◌&&◌, ◌||◌, ◌==◌, if◌then◌else◌}
+use Rattle.std.specs.List.{list_any, range_with_len}
 use Rattle.r4_base.specs.Bitmap.{is_fixed, bitmap_count}
 use Rattle.r4_base.specs.declared.things.AtomNo.{AtomNo}
 use Rattle.r4_base.specs.declared.things.BlockNo.{BlockNo}
 use Rattle.r4_space.specs.declared.things.Account.{Account}
 use Rattle.r4_space.specs.declared.things.Claim.{Claim}
-use Rattle.r4_space.specs.Accounts.{dues, is_atom, need_of, with_account, with_atom, with_merged, with_sealed, without_account, without_atom}
+use Rattle.r4_space.specs.Accounts.{dues, is_atom, is_sealed, need_of, with_account, with_atom, with_merged, with_sealed, without_account, without_atom}
 
 -- For each block whether it is marked, and whether it is placed; which blocks are held, and which deferred, and for which
 -- atom; the two numbers of each open atom; the sealed atoms, the first one first; and for how many calls there is room.
@@ -51,6 +51,9 @@ need_at s atom cells fresh = need_of (bitmap_count s.block_count) s.atoms atom c
 
 abbrev pub used_up : Space → Space
 used_up s = record s { spare = s.spare - 1 }
+
+abbrev pub with_room : Space → (calls : ℕ) → Space
+with_room s calls = record s { spare = max s.spare calls }
 
 abbrev pub charged : Space → AtomNo → (cells fresh : ℕ) → Space
 charged s atom cells fresh = record s { atoms = with_account s.atoms (record { atom = atom; cells = cells; fresh = fresh }); spare = s.spare - 1 }
@@ -100,12 +103,13 @@ settled s atom = record s {
 
 -- an atom, after those that were sealed before it
 abbrev pub up_to : List AtomNo → AtomNo → List AtomNo
-up_to sealed atom = before_first (is_atom atom) sealed ++ atom ∷ []
+up_to [] atom = atom ∷ []
+up_to (a ∷ rest) atom = if is_atom atom a then atom ∷ [] else a ∷ up_to rest atom
 
 -- the blocks that these atoms free
 abbrev pub freed_by : List AtomNo → List Claim → List Claim
-freed_by atoms claims = filter (λ c. list_any (λ a. is_atom a c.atom) atoms) claims
+freed_by atoms claims = filter (λ c. is_sealed atoms c.atom) claims
 
 -- whether the commit of an atom leaves block b marked; a number past the block count is
-abbrev pub is_marked_by : Space → AtomNo → ℕ → Bool
+unfoldable pub is_marked_by : Space → AtomNo → ℕ → Bool
 is_marked_by s atom b = nat_le s.block_count b || is_marked_after s.block_count s.marked s.placed (freed_by (up_to s.sealed atom) s.deferred) b

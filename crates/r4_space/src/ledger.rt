@@ -1,12 +1,12 @@
 //! The accounts of the open atoms, and the atoms that are sealed.
 
-ghost use Rattle.std.specs.Prelude.{◌≡◌, ℕ, ◌+◌, ◌-◌, ◌<◌, ◌≤◌, ◌≢◌, ◌↔◌, [], ◌∷◌, ◌++◌, max, filter, not, IsOk, OnOk, OnErr, IfOk, IfErr, vec_len, vec_capacity};
+ghost use Rattle.std.specs.Prelude.{◌≡◌, ℕ, ◌+◌, ◌-◌, ◌<◌, ◌≤◌, ◌≢◌, ◌↔◌, [], ◌∷◌, ◌++◌, length, max, filter, not, IsOk, OnOk, OnErr, IfOk, IfErr, vec_len, vec_capacity};
 ghost use Rattle.r4_space.specs.Accounts.{account_at, dues, is_atom, is_open, is_sealed, need_of, with_account, with_atom, with_merged, with_sealed, without_account, without_atom, due_of};
 
 use crate::cost::price;
 use crate::things::{Account, Short};
 use r4_base::{AtomNo, Memory};
-use std::alloc::Global;
+use std::alloc::{AllocError, Global};
 use std::marker::Model;
 
 /// The accounts of the open atoms, the sealed atoms in the order of their sealing, and `owed`, what all open atoms
@@ -51,6 +51,45 @@ impl Ledger {
         ensures { result ≡ dues self.now.bitmaps self.now.atoms }
     {
         self.owed
+    }
+
+    /// The sealed atoms, the first one first.
+    pub fn sealed(&self) -> &[AtomNo]
+        ensures { result.now ≡ self.now.sealed }
+    {
+        self.sealed.as_slice()
+    }
+
+    /// For how many calls there is room.
+    pub fn spare(&self) -> u64
+        ensures { result ≡ self.now.spare }
+    {
+        self.spare
+    }
+
+    /// Makes room for at least so many calls.
+    pub fn reserve(&mut self, calls: u64) -> Result<(), Memory>
+        ensures ok { OnOk result (self.new ≡ record self.old { spare = max self.old.spare calls }) }
+        ensures err { OnErr result (self.new ≡ self.old) }
+    {
+        let both = calls.checked_add(self.atoms.len() as u64).ok_or(AllocError)?;
+        self.atoms.reserve(calls as usize)?;
+        self.sealed.reserve(both as usize)?;
+        self.spare = self.spare.max(calls);
+        Ok(())
+    }
+
+    /// The same accounts, with the same room.
+    pub fn copy(&self, alloc: Global) -> Result<Ledger, Memory>
+        ensures { IfOk result (λ l. l ≡ self.now) }
+    {
+        Ok(Ledger {
+            bitmaps: self.bitmaps,
+            atoms: copied(alloc, self.atoms.as_slice(), self.spare)?,
+            sealed: copied(alloc, self.sealed.as_slice(), self.atoms.len() as u64 + self.spare)?,
+            owed: self.owed,
+            spare: self.spare,
+        })
     }
 
     /// Sets the numbers of an atom, where what is free of so many unused blocks is enough for it.
@@ -184,6 +223,17 @@ pub fn add<T: Drop>(items: &mut Vec<T>, item: T)
     ensures capacity { vec_capacity items.old ≤ vec_capacity items.new }
 {
     let _ = items.push(item);
+}
+
+/// The same elements, with room for so many more.
+pub fn copied<T: Copy + Drop>(alloc: Global, items: &[T], more: u64) -> Result<Vec<T>, Memory>
+    requires { length items.now + more < 18446744073709551616 }
+    ensures items { IfOk result (λ v. v.items ≡ items.now) }
+    ensures room { IfOk result (λ v. length items.now + more ≤ vec_capacity v) }
+{
+    let mut copy = Vec::with_capacity(alloc, items.len() + more as usize)?;
+    copy.extend_from_slice(items)?;
+    Ok(copy)
 }
 
 /// Takes out the account of an atom.

@@ -4,6 +4,7 @@
 mod claims;
 mod cost;
 mod ledger;
+mod marks;
 mod space_map;
 mod taken;
 mod things;

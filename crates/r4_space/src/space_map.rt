@@ -1,16 +1,18 @@
 //! Which blocks of a volume are used, and for whom.
 
-ghost use Rattle.std.specs.Prelude.{◌≡◌, ◌≢◌, ℕ, ◌+◌, ◌-◌, ◌^◌, ◌<◌, ◌≤◌, ◌↔◌, max, length, false, slice_index_or, IsOk, OnOk, OnErr, IfOk, IfErr, IfSome, IfNone, IsTrue, MatchOption};
-ghost use Rattle.r4_base.specs.Bitmap.{is_fixed};
+ghost use Rattle.std.specs.Prelude.{◌≡◌, ◌≢◌, ℕ, ◌+◌, ◌-◌, ◌*◌, ◌^◌, ◌<◌, ◌≤◌, length, take, replicate, false, OnOk, OnErr, IfOk, IfErr, IfSome, IfNone};
+ghost use Rattle.r4_base.specs.Bitmap.{bitmap_count, is_fixed, is_used};
 ghost use Rattle.r4_space.specs.Accounts.{is_sealed};
 ghost use Rattle.r4_space.specs.Words.{IsFull, IsNextClear};
-ghost use Rattle.r4_space.specs.Space.{charged, free_of, is_taken, merged, need_at, sealed_in, settled, used_up, with_deferred, with_held, with_placed};
+ghost use Rattle.r4_space.specs.Space.{charged, free_of, is_marked_by, is_taken, merged, need_at, sealed_in, settled, used_up, with_deferred, with_held, with_placed, with_room};
 
 use crate::claims::{drop_claims, rename, retake, settle_marks};
-use crate::ledger::{Ledger, add};
+use crate::ledger::{Ledger, add, copied};
+use crate::marks::write_bitmap;
 use crate::taken::Taken;
 use crate::things::{Claim, Short};
-use r4_base::{AtomNo, BlockNo};
+use r4_base::{AtomNo, Block, BlockNo, Memory};
+use std::alloc::Global;
 use std::marker::Model;
 
 /// Which blocks of a volume are marked, placed, held or deferred, what its open atoms take up, and for how many calls
@@ -139,6 +141,55 @@ impl SpaceMap {
             self.deferred.as_slice(),
         );
         self.ledger.settle(atom);
+    }
+
+    /// Writes bitmap `n` as the commit of a sealed atom leaves it. A bit is 1 where its block is marked or placed and is
+    /// not deferred for that atom or for one that was sealed before it; bits of fixed blocks and of numbers past the last
+    /// block are 1, and the four bytes in front are 0. For an atom that is not sealed, all sealed ones count as sealed
+    /// before it.
+    #[tactic(auto, using(r4_base::proofs::Lent::refilled_is))]
+    pub fn bitmap(&self, n: u64, atom: AtomNo, into: &mut Block)
+        requires { n < bitmap_count self.now.block_count }
+        ensures bits { (i : ℕ) → i < 32736 → is_used into.new i ≡ is_marked_by self.now atom (n * 32736 + i) }
+        ensures front { take 4 into.new ≡ replicate 4 0 }
+        ensures whole { length into.new ≡ 4096 }
+    {
+        write_bitmap(
+            into.bytes_mut(),
+            n,
+            self.marked.as_slice(),
+            self.placed.as_slice(),
+            self.deferred.as_slice(),
+            self.ledger.sealed(),
+            atom,
+        );
+    }
+
+    /// Makes room for at least so many calls of `charge`, `hold` and `defer`. The only error is want of memory.
+    pub fn room(&mut self, alloc: Global, calls: u64) -> Result<(), Memory>
+        ensures ok { OnOk result (self.new ≡ with_room self.old calls) }
+        ensures err { OnErr result (self.new ≡ self.old) }
+    {
+        let _ = alloc;
+        self.held.reserve(calls as usize)?;
+        self.deferred.reserve(calls as usize)?;
+        self.ledger.reserve(calls)
+    }
+
+    /// The same space, with the same room. The only error is want of memory.
+    pub fn copy(&self, alloc: Global) -> Result<SpaceMap, Memory>
+        ensures { IfOk result (λ s. s ≡ self.now) }
+    {
+        let spare = self.ledger.spare();
+        Ok(SpaceMap {
+            blocks: self.blocks,
+            marked: copied(alloc, self.marked.as_slice(), 0)?,
+            placed: copied(alloc, self.placed.as_slice(), 0)?,
+            held: copied(alloc, self.held.as_slice(), spare)?,
+            deferred: copied(alloc, self.deferred.as_slice(), spare)?,
+            taken: self.taken.copy(alloc)?,
+            ledger: self.ledger.copy(alloc)?,
+        })
     }
 
     /// How many blocks are free: the unused ones, less what the open atoms take up, and 0 where that is negative.

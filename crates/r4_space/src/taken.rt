@@ -47,6 +47,19 @@ impl Taken {
         })
     }
 
+    /// The same set.
+    pub fn copy(&self, alloc: Global) -> Result<Taken, Memory>
+        ensures { IfOk result (λ t. t ≡ self.now) }
+    {
+        Ok(Taken {
+            size: self.size,
+            words: copied(alloc, self.words.as_slice())?,
+            full: copied(alloc, self.full.as_slice())?,
+            fuller: copied(alloc, self.fuller.as_slice())?,
+            clear: self.clear,
+        })
+    }
+
     /// How many numbers are not taken.
     pub fn clear(&self) -> u64
         ensures count { result ≡ count_by not self.now }
@@ -116,6 +129,13 @@ impl Taken {
         wipe(self.fuller.as_mut_slice());
         self.clear = self.size;
     }
+}
+
+/// The same words.
+fn copied(alloc: Global, words: &[u64]) -> Result<Vec<u64>, Memory>
+    ensures { IfOk result (λ v. v.items ≡ words.now) }
+{
+    words.to_vec(alloc)
 }
 
 /// So many words of 0.
