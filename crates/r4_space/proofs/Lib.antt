@@ -4,3 +4,4 @@ pub mod AccountLaws
 pub mod ClaimLaws
 pub mod SpaceLaws
 pub mod MarkLaws
+pub mod BitmapLaws

@@ -1,10 +1,10 @@
 -- A space as a whole.
 use Rattle.std.proofs.Common.{◌≡◌, ℕ, ◌+◌, ◌-◌, ◌<◌, ◌≤◌, Bool, true, false, not, ◌||◌, List, [], ◌∷◌, ◌++◌, length, get_or, set, refl, sym, ap, ◌∙◌, arith}
-use Rattle.std.specs.Prelude.{map, replicate, count_by, nat_le, Vec}
+use Rattle.std.specs.Prelude.{map, replicate, count_by, nat_le, None, Vec}
 use Rattle.std.specs.Vec.{with_items}
 use Rattle.std.specs.List.{range_with_len}
 use Rattle.std.proofs.lemmas.Bool.{false_from_ne_true}
-use Rattle.std.proofs.lemmas.List.{length-append, length-map, length-replicate, with_items_is}
+use Rattle.std.proofs.lemmas.List.{length-append, length-map, length-replicate, get_or-replicate, with_items_is}
 use Rattle.std.proofs.lemmas.List.FromFn.{length-map-range_with_len, get_or-map-range_with_len}
 use Rattle.std.proofs.lemmas.List.Sums.{length-filter, count_by-le-length}
 use Rattle.r4_base.specs.Bitmap.{is_fixed, bitmap_count}
@@ -15,6 +15,8 @@ use Rattle.r4_space.specs.Accounts.{dues, is_atom}
 use Rattle.r4_space.specs.Space.{Space, claims_of, claims_without, free_of, freed_by, is_marked_after, is_marked_by, is_taken_by, unused_count, up_to}
 use Rattle.r4_space.specs.Words.{IsNextClear}
 use Rattle.r4_space.specs.Kept.{AreBlocks, AreWithin, IsSpace}
+use Rattle.r4_space.specs.Bitmaps.{bitmaps_fault, marks}
+use Rattle.r4_space.proofs.BitmapLaws.{fixed_marked}
 use Rattle.r4_space.proofs.ClaimLaws.{blocks_placed, blocks_held, blocks_deferred, blocks_merged, within-without, unused_is}
 
 -- ---- what is free
@@ -94,3 +96,29 @@ pub marked_by : (n b : ℕ) (m m' p p' : List Bool) (h d d' : List Claim) (atoms
     → x ≡ is_marked_by (record { block_count = n; marked = m'; placed = p'; held = h; deferred = d'; atoms = atoms; sealed = sealed'; spare = spare }) atom b
 unfolding is_marked_by
 marked_by n b m m' p p' h d d' atoms sealed sealed' spare atom x e f g k size is = is ∙ rw (e, f, g, k, size) refl
+
+-- ---- the space that bitmaps tell
+
+told_alike : (m : Bool) → (false || m) ≡ (m || (false || (false || false)))
+told_alike true = refl
+told_alike false = refl
+
+pub blocks_told : (n free : ℕ) (bitmaps : List (List ℕ)) (marked placed taken was : List Bool) (held deferred : List Claim) → 64 ≤ n → n ≤ 1048576 → length bitmaps ≡ bitmap_count n → bitmaps_fault n free bitmaps ≡ None
+    → marked ≡ map (marks bitmaps) (range_with_len 0 n) → placed ≡ replicate n false → was ≡ replicate n false → held ≡ [] → deferred ≡ [] → length taken ≡ length was
+    → ((b : ℕ) → b < length was → get_or taken b true ≡ (get_or was b true || get_or marked b false)) → AreBlocks n marked placed held deferred taken
+unfolding is_taken_by
+blocks_told n free bitmaps marked placed taken was held deferred least most size none marks_are places were held_none deferred_none same each =
+    let count : length was ≡ n = ap length were ∙ length-replicate n false in
+    record {
+      least = least; most = most;
+      marked_size = ap length marks_are ∙ length-map-range_with_len (marks bitmaps) 0 n;
+      placed_size = ap length places ∙ length-replicate n false;
+      taken_size = same ∙ count;
+      fixed = λ b lt f. ap (λ (bits : List Bool). get_or bits b false) marks_are ∙ get_or-map-range_with_len (marks bitmaps) 0 n b b false lt (omega arith) ∙ fixed_marked n free b bitmaps none size lt f;
+      tells = λ b lt.
+          let clear : get_or was b true ≡ false = ap (λ (bits : List Bool). get_or bits b true) were ∙ get_or-replicate n b false true lt in
+          let unplaced : get_or placed b false ≡ false = ap (λ (bits : List Bool). get_or bits b false) places ∙ get_or-replicate n b false false lt in
+          each b (omega arith) ∙ rw (clear, unplaced, held_none, deferred_none) (told_alike (get_or marked b false));
+      held_within = rw held_none (λ k d h. absurd (omega arith));
+      deferred_within = rw deferred_none (λ k d h. absurd (omega arith));
+    }

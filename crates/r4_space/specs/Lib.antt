@@ -4,3 +4,5 @@ pub mod Accounts
 pub mod Books
 pub mod Space
 pub mod Kept
+pub mod Bitmaps
+pub mod ReadFault

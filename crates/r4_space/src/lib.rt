@@ -1,8 +1,10 @@
 //! The space of a volume: which blocks are used, and what a change costs.
 #![tactic(auto)]
 
+mod check;
 mod claims;
 mod cost;
+mod laws;
 mod ledger;
 mod marks;
 mod space_map;
@@ -11,5 +13,6 @@ mod things;
 mod words;
 
 pub use cost::price;
+pub use laws::bitmaps_law;
 pub use space_map::SpaceMap;
-pub use things::Short;
+pub use things::{Short, SpaceFault};

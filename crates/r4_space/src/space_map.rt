@@ -1,16 +1,19 @@
 //! Which blocks of a volume are used, and for whom.
 
-ghost use Rattle.std.specs.Prelude.{◌≡◌, ◌≢◌, ℕ, ◌+◌, ◌-◌, ◌*◌, ◌^◌, ◌<◌, ◌≤◌, length, take, replicate, false, OnOk, OnErr, IfOk, IfErr, IfSome, IfNone};
+ghost use Rattle.std.specs.Prelude.{◌≡◌, ◌≢◌, ℕ, ◌+◌, ◌-◌, ◌*◌, ◌^◌, ◌<◌, ◌≤◌, length, take, replicate, false, None, OnOk, OnErr, IfOk, IfErr, IfSome, IfNone};
 ghost use Rattle.r4_base.specs.Bitmap.{bitmap_count, is_fixed, is_used};
 ghost use Rattle.r4_space.specs.Accounts.{is_sealed};
+ghost use Rattle.r4_space.specs.Bitmaps.{bitmaps_fault, told_space};
+ghost use Rattle.r4_space.specs.ReadFault.{IsReadFault};
 ghost use Rattle.r4_space.specs.Words.{IsFull, IsNextClear};
 ghost use Rattle.r4_space.specs.Space.{charged, free_of, is_marked_by, is_taken, merged, need_at, sealed_in, settled, used_up, with_deferred, with_held, with_placed, with_room};
 
-use crate::claims::{drop_claims, rename, retake, settle_marks};
+use crate::check::{find_fault, read_marks};
+use crate::claims::{drop_claims, rename, retake, settle_marks, take_marked};
 use crate::ledger::{Ledger, add, copied};
 use crate::marks::write_bitmap;
 use crate::taken::Taken;
-use crate::things::{Claim, Short};
+use crate::things::{Claim, Short, SpaceFault};
 use r4_base::{AtomNo, Block, BlockNo, Memory};
 use std::alloc::Global;
 use std::marker::Model;
@@ -41,6 +44,36 @@ impl Model for SpaceMap {
 }
 
 impl SpaceMap {
+    /// Reads which blocks are marked from the bitmaps of a volume of `blocks` blocks, one for each 32736 blocks or part of
+    /// them. `Bitmap` names the block of the first bitmap with a 0 for a fixed block or past the last block, or else block
+    /// 18, where the number of 0 bits is not `free_blocks`. The only other error is want of memory.
+    pub fn read(alloc: Global, bitmaps: &[Block], blocks: u64, free_blocks: u64) -> Result<SpaceMap, SpaceFault>
+        requires least { 64 ≤ blocks }
+        requires most { blocks ≤ 1048576 }
+        requires each { length bitmaps.now ≡ bitmap_count blocks }
+        ensures sound { OnOk result (bitmaps_fault blocks free_blocks bitmaps.now ≡ None) }
+        ensures told { IfOk result (λ s. s ≡ told_space blocks bitmaps.now) }
+        ensures fault { IfErr result (IsReadFault (bitmaps_fault blocks free_blocks bitmaps.now)) }
+    {
+        if let Some(block) = find_fault(bitmaps, blocks, free_blocks) {
+            return Err(SpaceFault::Bitmap {
+                block: BlockNo(block),
+            });
+        }
+        let marked = read_marks(alloc, bitmaps, blocks)?;
+        let mut taken = Taken::new(alloc, blocks)?;
+        take_marked(&mut taken, marked.as_slice());
+        Ok(SpaceMap {
+            blocks,
+            marked,
+            placed: none_placed(alloc, blocks)?,
+            held: Vec::new(alloc),
+            deferred: Vec::new(alloc),
+            taken,
+            ledger: Ledger::new(alloc, bitmaps.len() as u64),
+        })
+    }
+
     /// Sets an atom's number of cells, and of those without a block, where as many blocks are free as that takes
     /// besides what the atom takes up already.
     pub fn charge(&mut self, atom: AtomNo, cells: u64, fresh: u64) -> Result<(), Short>
@@ -198,4 +231,11 @@ impl SpaceMap {
     {
         self.taken.clear().saturating_sub(self.ledger.owed())
     }
+}
+
+/// No block is placed.
+fn none_placed(alloc: Global, blocks: u64) -> Result<Vec<bool>, Memory>
+    ensures { IfOk result (λ v. v.items ≡ replicate blocks false) }
+{
+    vec![in alloc; false; blocks as usize]
 }
