@@ -124,9 +124,9 @@ other_account kept gone (a ∷ rest) ne = elim (cases_Bool (is_account_of gone a
       let miss : is_account_of kept a ≡ false = ne_eqb _ _ (λ e. ne (sym e ∙ eqb-true _ _ hit)) in
       rw (hit, miss) (other_account kept gone rest ne)
   | inr stays ↦ elim (cases_Bool (is_account_of kept a)) [
-      | inl hit ↦ rw (stays, hit) refl
-      | inr miss ↦ rw (stays, miss) (other_account kept gone rest ne)
-    ]
+    | inl hit ↦ rw (stays, hit) refl
+    | inr miss ↦ rw (stays, miss) (other_account kept gone rest ne)
+  ]
 ]
 
 pub length-without : (atom : AtomNo) (accounts : List Account) → length (without_account atom accounts) ≤ length accounts
@@ -225,7 +225,7 @@ books_put bitmaps owed spare room room_sealed less more after atoms sealed a is 
 pub books_merged : (bitmaps owed spare room room_sealed more : ℕ) (atoms : List Account) (sealed : List AtomNo) (kept gone : AtomNo) → IsBooks bitmaps atoms sealed owed spare room room_sealed
     → kept.0 ≢ gone.0 → is_open atoms gone ≡ true → room ≤ more
     → IsBooks bitmaps (with_account (without_account gone atoms) (sum_account kept (account_at atoms kept) (account_at atoms gone))) sealed
-        (owed - due_of bitmaps (account_at atoms kept) - due_of bitmaps (account_at atoms gone) + due_of bitmaps (sum_account kept (account_at atoms kept) (account_at atoms gone))) spare more room_sealed
+    (owed - due_of bitmaps (account_at atoms kept) - due_of bitmaps (account_at atoms gone) + due_of bitmaps (sum_account kept (account_at atoms kept) (account_at atoms gone))) spare more room_sealed
 books_merged bitmaps owed spare room room_sealed more atoms sealed kept gone is ne open_gone grows =
     let out = books_freed bitmaps owed spare room room_sealed atoms sealed gone is open_gone in
     let other : account_at (without_account gone atoms) kept ≡ account_at atoms kept = other_account kept gone atoms ne in

@@ -67,8 +67,8 @@ same_unheld blocks (suc k) n image (b ∷ rest) size each =
     let zero_is : n + 0 ≡ n = omega arith in
     let here : b ≡ block_at image (bitmap_block n) = each 0 (omega arith) ∙ ap (λ (j : ℕ). block_at image (bitmap_block j)) zero_is in
     let later : (i : ℕ) → i < k → get_or rest i [] ≡ block_at image (bitmap_block (n + 1 + i)) = λ i lt.
-        let next : n + suc i ≡ n + 1 + i = omega arith in
-        each (suc i) (omega arith) ∙ ap (λ (j : ℕ). block_at image (bitmap_block j)) next in
+    let next : n + suc i ≡ n + 1 + i = omega arith in
+    each (suc i) (omega arith) ∙ ap (λ (j : ℕ). block_at image (bitmap_block j)) next in
     elim (cases_Bool (are_held blocks (n * 32736) (bits_of b))) [
       | inl held ↦ first_unheld-held blocks k n image (ap (λ (x : List ℕ). are_held blocks (n * 32736) (bits_of x)) (sym here) ∙ held) ∙ same_unheld blocks k (n + 1) image rest (omega arith) later ∙ rw held refl
       | inr unheld ↦ first_unheld-found blocks k n image (ap (λ (x : List ℕ). are_held blocks (n * 32736) (bits_of x)) (sym here) ∙ unheld) ∙ rw unheld refl
@@ -131,6 +131,6 @@ fixed_marked blocks free b bitmaps none size lt fixed =
     let unheld = first_of (first_unheld_of blocks 0 bitmaps) _ none in
     let plain : 0 + b / 32736 ≡ b / 32736 = omega arith in
     let held : are_held blocks (b / 32736 * 32736) (bits_of (get_or bitmaps (b / 32736) [])) ≡ true =
-        ap (λ (k : ℕ). are_held blocks (k * 32736) (bits_of (get_or bitmaps (b / 32736) []))) (sym plain) ∙ each_held blocks 0 (b / 32736) bitmaps unheld (omega arith) in
+    ap (λ (k : ℕ). are_held blocks (k * 32736) (bits_of (get_or bitmaps (b / 32736) []))) (sym plain) ∙ each_held blocks 0 (b / 32736) bitmaps unheld (omega arith) in
     let whole : b / 32736 * 32736 + b % 32736 ≡ b = omega arith in
     bitmap_held blocks (b / 32736) (b % 32736) (get_or bitmaps (b / 32736) []) held (omega arith) (ap (is_always_used blocks) whole ∙ left_of (is_fixed blocks b) _ fixed)

@@ -22,18 +22,18 @@ mapped_all f xs ys size each = same_lists xs (map f ys) (size ∙ sym (length-ma
 
 -- ---- one of four
 
-second : (a b c d : Bool) → b ≡ true → (a || (b || (c || d))) ≡ true
+pub second : (a b c d : Bool) → b ≡ true → (a || (b || (c || d))) ≡ true
 second true b c d e = refl
 second false true c d e = refl
 second false false c d e = absurd cc
 
-third : (a b c d : Bool) → c ≡ true → (a || (b || (c || d))) ≡ true
+pub third : (a b c d : Bool) → c ≡ true → (a || (b || (c || d))) ≡ true
 third true b c d e = refl
 third false true c d e = refl
 third false false true d e = refl
 third false false false d e = absurd cc
 
-fourth : (a b c d : Bool) → d ≡ true → (a || (b || (c || d))) ≡ true
+pub fourth : (a b c d : Bool) → d ≡ true → (a || (b || (c || d))) ≡ true
 fourth true b c d e = refl
 fourth false true c d e = refl
 fourth false false true d e = refl
@@ -51,12 +51,12 @@ or_false false = refl
 claimed-add : (claims : List Claim) (c : Claim) (k : ℕ) → is_claimed (claims ++ c ∷ []) k ≡ (is_claimed claims k || (is_block k c || false))
 claimed-add claims c k = list_any-append (is_block k) claims (c ∷ [])
 
-claimed-new : (claims : List Claim) (c : Claim) (k : ℕ) → k ≡ c.block.0 → is_claimed (claims ++ c ∷ []) k ≡ true
+pub claimed-new : (claims : List Claim) (c : Claim) (k : ℕ) → k ≡ c.block.0 → is_claimed (claims ++ c ∷ []) k ≡ true
 claimed-new claims c k is =
     let hit : is_block k c ≡ true = eq-eqb _ _ (sym is) in
     claimed-add claims c k ∙ rw hit (or_true (is_claimed claims k))
 
-claimed-old : (claims : List Claim) (c : Claim) (k : ℕ) → k ≢ c.block.0 → is_claimed (claims ++ c ∷ []) k ≡ is_claimed claims k
+pub claimed-old : (claims : List Claim) (c : Claim) (k : ℕ) → k ≢ c.block.0 → is_claimed (claims ++ c ∷ []) k ≡ is_claimed claims k
 claimed-old claims c k ne =
     let miss : is_block k c ≡ false = ne_eqb _ _ (λ e. ne (sym e)) in
     claimed-add claims c k ∙ rw miss (or_false (is_claimed claims k))
@@ -78,7 +78,12 @@ blocks_placed n b marked placed taken held deferred is lt =
     let x = is.placed_size in
     let y = is.taken_size in
     record {
-      least = is.least; most = is.most; marked_size = is.marked_size; placed_size = omega arith; taken_size = omega arith; fixed = is.fixed;
+      least = is.least;
+      most = is.most;
+      marked_size = is.marked_size;
+      placed_size = omega arith;
+      taken_size = omega arith;
+      fixed = is.fixed;
       tells = λ k within. elim (cases_eq k b) [
         | inl at ↦
             let new : get_or (set placed b true) k false ≡ true = rw at (get_or-set_same placed b true false (omega arith)) in
@@ -86,7 +91,8 @@ blocks_placed n b marked placed taken held deferred is lt =
             shown ∙ sym (second (get_or marked k false) (get_or (set placed b true) k false) (is_claimed held k) (is_claimed deferred k) new)
         | inr other ↦ get_or-set_other taken b k true true other ∙ is.tells k within ∙ ap (λ (p : Bool). get_or marked k false || (p || (is_claimed held k || is_claimed deferred k))) (sym (get_or-set_other placed b k true false other))
       ];
-      held_within = is.held_within; deferred_within = is.deferred_within;
+      held_within = is.held_within;
+      deferred_within = is.deferred_within;
     }
 
 pub blocks_held : (n : ℕ) (marked placed taken : List Bool) (held deferred : List Claim) (c : Claim) → AreBlocks n marked placed held deferred taken → c.block.0 < n → AreBlocks n marked placed (held ++ c ∷ []) deferred (set taken c.block.0 true)
@@ -95,14 +101,20 @@ blocks_held n marked placed taken held deferred c is lt =
     let t = length-set taken c.block.0 true in
     let y = is.taken_size in
     record {
-      least = is.least; most = is.most; marked_size = is.marked_size; placed_size = is.placed_size; taken_size = omega arith; fixed = is.fixed;
+      least = is.least;
+      most = is.most;
+      marked_size = is.marked_size;
+      placed_size = is.placed_size;
+      taken_size = omega arith;
+      fixed = is.fixed;
       tells = λ k within. elim (cases_eq k c.block.0) [
         | inl at ↦
             let shown : get_or (set taken c.block.0 true) k true ≡ true = rw at (get_or-set_same taken c.block.0 true true (omega arith)) in
             shown ∙ sym (third (get_or marked k false) (get_or placed k false) (is_claimed (held ++ c ∷ []) k) (is_claimed deferred k) (claimed-new held c k at))
         | inr other ↦ get_or-set_other taken c.block.0 k true true other ∙ is.tells k within ∙ ap (λ (h : Bool). get_or marked k false || (get_or placed k false || (h || is_claimed deferred k))) (sym (claimed-old held c k other))
       ];
-      held_within = within-add n held c is.held_within lt; deferred_within = is.deferred_within;
+      held_within = within-add n held c is.held_within lt;
+      deferred_within = is.deferred_within;
     }
 
 pub blocks_deferred : (n : ℕ) (marked placed taken : List Bool) (held deferred : List Claim) (c : Claim) → AreBlocks n marked placed held deferred taken → c.block.0 < n → AreBlocks n marked placed held (deferred ++ c ∷ []) (set taken c.block.0 true)
@@ -111,14 +123,20 @@ blocks_deferred n marked placed taken held deferred c is lt =
     let t = length-set taken c.block.0 true in
     let y = is.taken_size in
     record {
-      least = is.least; most = is.most; marked_size = is.marked_size; placed_size = is.placed_size; taken_size = omega arith; fixed = is.fixed;
+      least = is.least;
+      most = is.most;
+      marked_size = is.marked_size;
+      placed_size = is.placed_size;
+      taken_size = omega arith;
+      fixed = is.fixed;
       tells = λ k within. elim (cases_eq k c.block.0) [
         | inl at ↦
             let shown : get_or (set taken c.block.0 true) k true ≡ true = rw at (get_or-set_same taken c.block.0 true true (omega arith)) in
             shown ∙ sym (fourth (get_or marked k false) (get_or placed k false) (is_claimed held k) (is_claimed (deferred ++ c ∷ []) k) (claimed-new deferred c k at))
         | inr other ↦ get_or-set_other taken c.block.0 k true true other ∙ is.tells k within ∙ ap (λ (d : Bool). get_or marked k false || (get_or placed k false || (is_claimed held k || d))) (sym (claimed-old deferred c k other))
       ];
-      held_within = is.held_within; deferred_within = within-add n deferred c is.deferred_within lt;
+      held_within = is.held_within;
+      deferred_within = within-add n deferred c is.deferred_within lt;
     }
 
 -- ---- the deferred blocks of one atom become another's
@@ -136,7 +154,12 @@ claimed-renamed kept gone (c ∷ rest) k =
 pub blocks_merged : (n : ℕ) (marked placed taken : List Bool) (held deferred : List Claim) (kept gone : AtomNo) → AreBlocks n marked placed held deferred taken → AreBlocks n marked placed held (map (renamed kept gone) deferred) taken
 unfolding is_taken_by
 blocks_merged n marked placed taken held deferred kept gone is = record {
-  least = is.least; most = is.most; marked_size = is.marked_size; placed_size = is.placed_size; taken_size = is.taken_size; fixed = is.fixed;
+  least = is.least;
+  most = is.most;
+  marked_size = is.marked_size;
+  placed_size = is.placed_size;
+  taken_size = is.taken_size;
+  fixed = is.fixed;
   tells = λ k within. is.tells k within ∙ ap (λ (d : Bool). get_or marked k false || (get_or placed k false || (is_claimed held k || d))) (sym (claimed-renamed kept gone deferred k));
   held_within = is.held_within;
   deferred_within = λ k d lt.
@@ -183,7 +206,7 @@ within-without n atom claims within = All-filter (λ (c : Claim). not (is_atom a
 
 -- ---- how many blocks are unused
 
-count-map : (f : ℕ → Bool) (xs : List ℕ) → count_by not (map f xs) ≡ count_by (λ b. not (f b)) xs
+pub count-map : (f : ℕ → Bool) (xs : List ℕ) → count_by not (map f xs) ≡ count_by (λ b. not (f b)) xs
 count-map f [] = refl
 count-map f (x ∷ xs) =
     sum_by-cons (λ (used : Bool). cond (not used) 1 0) (f x) (map f xs) ∙ ap (λ (m : ℕ). cond (not (f x)) 1 0 + m) (count-map f xs) ∙ sym (sum_by-cons (λ (b : ℕ). cond (not (f b)) 1 0) x xs)

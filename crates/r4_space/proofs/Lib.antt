@@ -5,3 +5,4 @@ pub mod ClaimLaws
 pub mod SpaceLaws
 pub mod MarkLaws
 pub mod BitmapLaws
+pub mod UsedLaws

@@ -117,10 +117,10 @@ freed_step true false false false e false same = refl
 
 pub freed_more : (blocks first i : ℕ) (atoms : List AtomNo) (claims : List Claim) (c : Claim) (o : Bool)
     → ((o && (is_fixed blocks (first + i) || not (is_claimed (freed_by atoms claims) (first + i)))) && not ((not (is_fixed blocks c.block.0) && is_sealed atoms c.atom) && eqb c.block.0 (first + i)))
-        ≡ (o && (is_fixed blocks (first + i) || not (is_claimed (freed_by atoms (claims ++ c ∷ [])) (first + i))))
+    ≡ (o && (is_fixed blocks (first + i) || not (is_claimed (freed_by atoms (claims ++ c ∷ [])) (first + i))))
 freed_more blocks first i atoms claims c o =
     freed_step o (is_fixed blocks (first + i)) (is_claimed (freed_by atoms claims) (first + i)) (is_sealed atoms c.atom) (eqb c.block.0 (first + i)) (is_fixed blocks c.block.0) (λ e. ap (is_fixed blocks) (eqb-true _ _ e))
-        ∙ ap (λ (x : Bool). o && (is_fixed blocks (first + i) || not x)) (sym (freed-add atoms claims c (first + i)))
+    ∙ ap (λ (x : Bool). o && (is_fixed blocks (first + i) || not x)) (sym (freed-add atoms claims c (first + i)))
 
 -- ---- a bitmap as a whole
 
@@ -142,8 +142,8 @@ pub bit_is : (n b : ℕ) (marked placed : List Bool) (atoms : List AtomNo) (clai
 unfolding is_marked_after
 bit_is n b marked placed atoms claims within fixed =
     bit_alike (nat_le n b) (get_or marked b false || get_or placed b false) (is_fixed n b) (is_claimed (freed_by atoms claims) b)
-        (λ e. none_past n b atoms claims within (leb-true n b e))
-        (λ e f. left_of (get_or marked b false) (get_or placed b false) (fixed b (leb-false n b e) f))
+    (λ e. none_past n b atoms claims within (leb-true n b e))
+    (λ e f. left_of (get_or marked b false) (get_or placed b false) (fixed b (leb-false n b e) f))
   where
     left_of : (m x : Bool) → m ≡ true → (m || x) ≡ true
     left_of m x e = rw e refl

@@ -59,7 +59,8 @@ pub blocks_settled : (n : ℕ) (marked placed new placed' taken taken' : List Bo
     → ((b : ℕ) → b < n → get_or taken' b true ≡ is_taken_by new placed' (claims_without atom held) (claims_without atom deferred) b)
     → AreBlocks n new placed' (claims_without atom held) (claims_without atom deferred) taken'
 blocks_settled n marked placed new placed' taken taken' held deferred atom is marks none size tells = record {
-  least = is.least; most = is.most;
+  least = is.least;
+  most = is.most;
   marked_size = ap length marks ∙ length-map-range_with_len (is_marked_after n marked placed (claims_of atom deferred)) 0 n;
   placed_size = ap length none ∙ length-replicate n false;
   taken_size = size;
@@ -110,7 +111,8 @@ unfolding is_taken_by
 blocks_told n free bitmaps marked placed taken was held deferred least most size none marks_are places were held_none deferred_none same each =
     let count : length was ≡ n = ap length were ∙ length-replicate n false in
     record {
-      least = least; most = most;
+      least = least;
+      most = most;
       marked_size = ap length marks_are ∙ length-map-range_with_len (marks bitmaps) 0 n;
       placed_size = ap length places ∙ length-replicate n false;
       taken_size = same ∙ count;

@@ -37,7 +37,7 @@ told_space block_count bitmaps = record {
   deferred = [];
   atoms = [];
   sealed = [];
-  spare = 0
+  spare = 0;
 }
 
 -- These are the bitmaps of an image.

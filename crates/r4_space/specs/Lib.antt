@@ -6,3 +6,4 @@ pub mod Space
 pub mod Kept
 pub mod Bitmaps
 pub mod ReadFault
+pub mod Lawful

@@ -96,7 +96,7 @@ settled s atom = record s {
   placed = replicate s.block_count false;
   held = claims_without atom s.held;
   deferred = claims_without atom s.deferred;
-  sealed = without_atom atom s.sealed
+  sealed = without_atom atom s.sealed;
 }
 
 -- ---- the bitmaps that a commit leaves

@@ -108,7 +108,11 @@ pub fn find_fault(bitmaps: &[Block], blocks: u64, free_blocks: u64) -> Option<u6
     if unheld.is_some() {
         return unheld;
     }
-    if count_all_free(bitmaps) == free_blocks { None } else { Some(18) }
+    if count_all_free(bitmaps) == free_blocks {
+        None
+    } else {
+        Some(18)
+    }
 }
 
 /// For each block whether it is marked.

@@ -1,7 +1,7 @@
 //! The accounts of the open atoms, and the atoms that are sealed.
 
 ghost use Rattle.std.specs.Prelude.{◌≡◌, ℕ, ◌+◌, ◌-◌, ◌<◌, ◌≤◌, ◌≢◌, ◌↔◌, [], ◌∷◌, ◌++◌, length, max, filter, not, IsOk, OnOk, OnErr, IfOk, IfErr, vec_len, vec_capacity};
-ghost use Rattle.r4_space.specs.Accounts.{account_at, dues, is_atom, is_open, is_sealed, need_of, with_account, with_atom, with_merged, with_sealed, without_account, without_atom, due_of};
+ghost use Rattle.r4_space.specs.Accounts.{account_at, dues, EachOnce, is_atom, is_open, is_sealed, need_of, with_account, with_atom, with_merged, with_sealed, without_account, without_atom, due_of};
 
 use crate::cost::price;
 use crate::things::{Account, Short};
@@ -60,6 +60,14 @@ impl Ledger {
         self.sealed.as_slice()
     }
 
+    /// What holds of all accounts. It does nothing.
+    pub fn lawful(&self)
+        ensures once { EachOnce self.now.atoms }
+        ensures small { dues self.now.bitmaps self.now.atoms ≤ 1048576 }
+    {
+        let _ = &self.owed;
+    }
+
     /// For how many calls there is room.
     pub fn spare(&self) -> u64
         ensures { result ≡ self.now.spare }
@@ -72,7 +80,9 @@ impl Ledger {
         ensures ok { OnOk result (self.new ≡ record self.old { spare = max self.old.spare calls }) }
         ensures err { OnErr result (self.new ≡ self.old) }
     {
-        let both = calls.checked_add(self.atoms.len() as u64).ok_or(AllocError)?;
+        let both = calls
+            .checked_add(self.atoms.len() as u64)
+            .ok_or(AllocError)?;
         self.atoms.reserve(calls as usize)?;
         self.sealed.reserve(both as usize)?;
         self.spare = self.spare.max(calls);
@@ -86,7 +96,11 @@ impl Ledger {
         Ok(Ledger {
             bitmaps: self.bitmaps,
             atoms: copied(alloc, self.atoms.as_slice(), self.spare)?,
-            sealed: copied(alloc, self.sealed.as_slice(), self.atoms.len() as u64 + self.spare)?,
+            sealed: copied(
+                alloc,
+                self.sealed.as_slice(),
+                self.atoms.len() as u64 + self.spare,
+            )?,
             owed: self.owed,
             spare: self.spare,
         })
@@ -146,8 +160,13 @@ impl Ledger {
         }
         let had = account_at(self.atoms.as_slice(), kept);
         let left = account_at(self.atoms.as_slice(), gone);
-        let sum = Account { atom: kept, cells: had.cells + left.cells, fresh: had.fresh + left.fresh };
-        self.owed = self.owed - due(&had, self.bitmaps) - due(&left, self.bitmaps) + due(&sum, self.bitmaps);
+        let sum = Account {
+            atom: kept,
+            cells: had.cells + left.cells,
+            fresh: had.fresh + left.fresh,
+        };
+        self.owed = self.owed - due(&had, self.bitmaps) - due(&left, self.bitmaps)
+            + due(&sum, self.bitmaps);
         forget(&mut self.atoms, gone);
         put(&mut self.atoms, sum);
     }

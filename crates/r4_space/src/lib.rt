@@ -13,6 +13,6 @@ mod things;
 mod words;
 
 pub use cost::price;
-pub use laws::bitmaps_law;
+pub use laws::{bitmaps_law, settled_law, used_law};
 pub use space_map::SpaceMap;
 pub use things::{Short, SpaceFault};

@@ -105,7 +105,14 @@ fn write_marks(block: &mut [u8], first: u64, marked: &[bool], placed: &[bool])
 }
 
 /// Makes the bits of blocks 0 that are freed by an atom or by one that was sealed before it, but for the fixed ones.
-fn free_claims(block: &mut [u8], first: u64, blocks: u64, claims: &[Claim], sealed: &[AtomNo], atom: AtomNo)
+fn free_claims(
+    block: &mut [u8],
+    first: u64,
+    blocks: u64,
+    claims: &[Claim],
+    sealed: &[AtomNo],
+    atom: AtomNo,
+)
     requires whole { length block.old ≡ 4096 }
     ensures bits { (i : ℕ) → i < 32736 → is_used block.new i ≡ (is_used block.old i && (is_fixed blocks (first + i) || not (is_claimed (freed_by (up_to sealed.now atom) claims.now) (first + i)))) }
     ensures front { take 4 block.new ≡ take 4 block.old }
@@ -121,7 +128,15 @@ fn free_claims(block: &mut [u8], first: u64, blocks: u64, claims: &[Claim], seal
 }
 
 /// Writes bitmap `n` of a volume with these marks and these deferred blocks, as the commit of a sealed atom leaves it.
-pub fn write_bitmap(block: &mut [u8], n: u64, marked: &[bool], placed: &[bool], deferred: &[Claim], sealed: &[AtomNo], atom: AtomNo)
+pub fn write_bitmap(
+    block: &mut [u8],
+    n: u64,
+    marked: &[bool],
+    placed: &[bool],
+    deferred: &[Claim],
+    sealed: &[AtomNo],
+    atom: AtomNo,
+)
     requires whole { length block.old ≡ 4096 }
     requires few { n < 64 }
     requires size { length placed.now ≡ length marked.now }

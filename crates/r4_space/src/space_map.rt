@@ -4,6 +4,7 @@ ghost use Rattle.std.specs.Prelude.{◌≡◌, ◌≢◌, ℕ, ◌+◌, ◌-◌,
 ghost use Rattle.r4_base.specs.Bitmap.{bitmap_count, is_fixed, is_used};
 ghost use Rattle.r4_space.specs.Accounts.{is_sealed};
 ghost use Rattle.r4_space.specs.Bitmaps.{bitmaps_fault, told_space};
+ghost use Rattle.r4_space.specs.Lawful.{IsLawful};
 ghost use Rattle.r4_space.specs.ReadFault.{IsReadFault};
 ghost use Rattle.r4_space.specs.Words.{IsFull, IsNextClear};
 ghost use Rattle.r4_space.specs.Space.{charged, free_of, is_marked_by, is_taken, merged, need_at, sealed_in, settled, used_up, with_deferred, with_held, with_placed, with_room};
@@ -47,7 +48,12 @@ impl SpaceMap {
     /// Reads which blocks are marked from the bitmaps of a volume of `blocks` blocks, one for each 32736 blocks or part of
     /// them. `Bitmap` names the block of the first bitmap with a 0 for a fixed block or past the last block, or else block
     /// 18, where the number of 0 bits is not `free_blocks`. The only other error is want of memory.
-    pub fn read(alloc: Global, bitmaps: &[Block], blocks: u64, free_blocks: u64) -> Result<SpaceMap, SpaceFault>
+    pub fn read(
+        alloc: Global,
+        bitmaps: &[Block],
+        blocks: u64,
+        free_blocks: u64,
+    ) -> Result<SpaceMap, SpaceFault>
         requires least { 64 ≤ blocks }
         requires most { blocks ≤ 1048576 }
         requires each { length bitmaps.now ≡ bitmap_count blocks }
@@ -72,6 +78,14 @@ impl SpaceMap {
             taken,
             ledger: Ledger::new(alloc, bitmaps.len() as u64),
         })
+    }
+
+    /// What holds of every space. It does nothing.
+    pub fn lawful(&self)
+        ensures { IsLawful self.now }
+    {
+        let _ = &self.blocks;
+        self.ledger.lawful();
     }
 
     /// Sets an atom's number of cells, and of those without a block, where as many blocks are free as that takes

@@ -78,4 +78,4 @@ invariant_of-self c =
     let opened : is_open i.atoms.items c.args.gone ≡ true = rw c.as_slice.ensures.value at (sym c.if-not-is_open.ensures) in
     let room : vec_capacity i.atoms ≤ vec_capacity c.put.new.atoms = omega (arith, c.forget.ensures.capacity, c.put.ensures.capacity) in
     rw (c.put.ensures.items, c.forget.ensures.items, c.due.ensures, c.due-2.ensures, c.due-3.ensures, c.account_at-had.ensures, c.account_at-left.ensures, c.as_slice-2.ensures.value, c.as_slice-3.ensures.value)
-        (books_merged i.bitmaps i.owed i.spare _ _ _ i.atoms.items i.sealed.items c.args.kept c.args.gone c.self.invariant c.requires opened room)
+    (books_merged i.bitmaps i.owed i.spare _ _ _ i.atoms.items i.sealed.items c.args.kept c.args.gone c.self.invariant c.requires opened room)

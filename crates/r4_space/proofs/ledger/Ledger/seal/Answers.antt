@@ -32,4 +32,4 @@ invariant_of-self c =
     let opened : is_open i.atoms.items c.args.atom ≡ true = rw c.as_slice.ensures.value at (sym c.if-not-is_open.ensures) in
     let room = c.forget.ensures.capacity in
     rw (c.forget.ensures.items, c.add.ensures.items, c.due.ensures, c.account_at.ensures, c.as_slice-2.ensures.value, room)
-        (books_sealed i.bitmaps i.owed i.spare _ _ _ i.atoms.items i.sealed.items c.args.atom c.self.invariant opened c.add.ensures.capacity)
+    (books_sealed i.bitmaps i.owed i.spare _ _ _ i.atoms.items i.sealed.items c.args.atom c.self.invariant opened c.add.ensures.capacity)

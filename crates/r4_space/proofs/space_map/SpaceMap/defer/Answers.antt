@@ -17,4 +17,4 @@ invariant_of-self c =
     let longer = length-append i.deferred.items (claim ∷ []) in
     let room = c.add.ensures.capacity in
     rw (c.take.ensures, c.add.ensures.items, c.open.ensures) (space_blocks i.blocks i.marked.items i.placed.items _ _ i.held.items i.deferred.items _ _ i.taken _ i.ledger.bitmaps i.ledger.spare _ _ _ _ _ c.self.invariant
-        (blocks_deferred i.blocks i.marked.items i.placed.items i.taken i.held.items i.deferred.items claim c.self.invariant.blocks within) (omega arith) (omega arith) (omega arith) room)
+    (blocks_deferred i.blocks i.marked.items i.placed.items i.taken i.held.items i.deferred.items claim c.self.invariant.blocks within) (omega arith) (omega arith) (omega arith) room)

@@ -18,7 +18,7 @@ invariant_of-self-2 c =
     let longer = length-append i.held.items (claim ∷ []) in
     let room = c.add.ensures.capacity in
     rw (c.take.ensures, c.add.ensures.items, c.open.ensures) (space_blocks i.blocks i.marked.items i.placed.items _ _ i.held.items i.deferred.items _ _ i.taken _ i.ledger.bitmaps i.ledger.spare _ _ _ _ _ c.self.invariant
-        (blocks_held i.blocks i.marked.items i.placed.items i.taken i.held.items i.deferred.items claim c.self.invariant.blocks within) (omega arith) (omega arith) room (omega arith))
+    (blocks_held i.blocks i.marked.items i.placed.items i.taken i.held.items i.deferred.items claim c.self.invariant.blocks within) (omega arith) (omega arith) room (omega arith))
 
 pub returns-clause-free : goal.returns-clause-free
 returns-clause-free c =

@@ -13,4 +13,4 @@ invariant_of-self c =
     let names : c.rename.new.claims ≡ map (renamed c.args.kept c.args.gone) i.deferred.items = rw c.as_mut_slice.ensures.value at c.rename.ensures in
     let size = length-map i.deferred.items (renamed c.args.kept c.args.gone) in
     rw (new, names, c.merge.ensures) (space_blocks i.blocks i.marked.items i.placed.items _ _ i.held.items i.deferred.items _ _ i.taken _ i.ledger.bitmaps i.ledger.spare _ _ _ _ _ c.self.invariant
-        (blocks_merged i.blocks i.marked.items i.placed.items i.taken i.held.items i.deferred.items c.args.kept c.args.gone c.self.invariant.blocks) (omega arith) (omega arith) (omega arith) (omega arith))
+    (blocks_merged i.blocks i.marked.items i.placed.items i.taken i.held.items i.deferred.items c.args.kept c.args.gone c.self.invariant.blocks) (omega arith) (omega arith) (omega arith) (omega arith))

@@ -25,10 +25,10 @@ invariant_of-self c =
     let placed_size : length c.as_mut_slice-2.result.now ≡ n = ap length c.as_mut_slice-2.ensures.value ∙ is.placed_size in
     let none : c.settle_marks.new.placed ≡ replicate n false = c.settle_marks.ensures.placed ∙ ap (λ (k : ℕ). replicate k false) placed_size in
     let after = same_marks n c.as_mut_slice.result.now i.marked.items c.as_mut_slice-2.result.now i.placed.items c.settle_marks.new.marked _ (claims_of c.args.atom i.deferred.items)
-        c.as_mut_slice.ensures.value c.as_mut_slice-2.ensures.value (ap (claims_of c.args.atom) c.as_slice.ensures.value) is.marked_size c.settle_marks.ensures.marked in
+    c.as_mut_slice.ensures.value c.as_mut_slice-2.ensures.value (ap (claims_of c.args.atom) c.as_slice.ensures.value) is.marked_size c.settle_marks.ensures.marked in
     let tells : (b : ℕ) → b < n → get_or c.retake.new.taken b true ≡ is_taken_by c.settle_marks.new.marked c.settle_marks.new.placed (claims_without c.args.atom i.held.items) (claims_without c.args.atom i.deferred.items) b =
-        λ b lt. c.retake.ensures.tells b (let size = is.taken_size in omega arith) ∙ same_taken _ c.settle_marks.new.marked _ c.settle_marks.new.placed _ _ _ _ b (c.as_slice-2.ensures.value ∙ marks) (ap (λ (k : ℕ). replicate k false) is.taken_size ∙ sym none) (c.as_slice-3.ensures.value ∙ c.drop_claims.ensures.items) (c.as_slice-4.ensures.value ∙ c.drop_claims-2.ensures.items) in
+    λ b lt. c.retake.ensures.tells b (let size = is.taken_size in omega arith) ∙ same_taken _ c.settle_marks.new.marked _ c.settle_marks.new.placed _ _ _ _ b (c.as_slice-2.ensures.value ∙ marks) (ap (λ (k : ℕ). replicate k false) is.taken_size ∙ sym none) (c.as_slice-3.ensures.value ∙ c.drop_claims.ensures.items) (c.as_slice-4.ensures.value ∙ c.drop_claims-2.ensures.items) in
     rw (marks, places, c.drop_claims.ensures.items, c.drop_claims-2.ensures.items, c.settle.ensures, c.drop_claims.ensures.capacity, c.drop_claims-2.ensures.capacity)
-        (space_blocks n i.marked.items i.placed.items _ _ i.held.items i.deferred.items _ _ i.taken _ i.ledger.bitmaps i.ledger.spare _ _ _ _ _ c.self.invariant
-            (blocks_settled n i.marked.items i.placed.items c.settle_marks.new.marked c.settle_marks.new.placed i.taken c.retake.new.taken i.held.items i.deferred.items c.args.atom is after none (c.retake.ensures.size ∙ is.taken_size) tells)
-            (fewer c.args.atom i.held.items i.ledger.spare) (fewer c.args.atom i.deferred.items i.ledger.spare) (omega arith) (omega arith))
+    (space_blocks n i.marked.items i.placed.items _ _ i.held.items i.deferred.items _ _ i.taken _ i.ledger.bitmaps i.ledger.spare _ _ _ _ _ c.self.invariant
+    (blocks_settled n i.marked.items i.placed.items c.settle_marks.new.marked c.settle_marks.new.placed i.taken c.retake.new.taken i.held.items i.deferred.items c.args.atom is after none (c.retake.ensures.size ∙ is.taken_size) tells)
+    (fewer c.args.atom i.held.items i.ledger.spare) (fewer c.args.atom i.deferred.items i.ledger.spare) (omega arith) (omega arith))

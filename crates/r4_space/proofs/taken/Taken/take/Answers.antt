@@ -41,12 +41,12 @@ invariant_of-self c =
     let in_range = in_words i.size c.args.i (length i.words.items) i.words.items c.args.self.now c.self.view_is c.requires c.self.invariant.covers in
     let off : is_set i.words.items c.args.i ≡ false = rw c.as_slice.ensures.value at (sym c.if-get_bit.ensures) in
     same_words i.size (i.clear - 1) _ _ _ _ _ _
-        (changed i.words c.as_mut_slice.result.now c.take_bit.new.words c.as_mut_slice.ensures.value c.take_bit.auto.words)
-        (changed i.full c.as_mut_slice-2.result.now c.take_bit.new.full c.as_mut_slice-2.ensures.value c.take_bit.auto.full)
-        (changed i.fuller c.as_mut_slice-3.result.now c.take_bit.new.fuller c.as_mut_slice-3.ensures.value c.take_bit.auto.fuller)
-        (taken_more i.size c.args.i i.clear i.words.items i.full.items i.fuller.items c.take_bit.new.words c.take_bit.new.full c.take_bit.new.fuller c.self.invariant in_range.0 off
-            (c.take_bit.auto.words ∙ ap length c.as_mut_slice.ensures.value) (c.take_bit.auto.full ∙ ap length c.as_mut_slice-2.ensures.value) (c.take_bit.auto.fuller ∙ ap length c.as_mut_slice-3.ensures.value)
-            (rw c.as_mut_slice.ensures.value at c.take_bit.ensures.set) c.take_bit.ensures.told c.take_bit.ensures.told_too)
+    (changed i.words c.as_mut_slice.result.now c.take_bit.new.words c.as_mut_slice.ensures.value c.take_bit.auto.words)
+    (changed i.full c.as_mut_slice-2.result.now c.take_bit.new.full c.as_mut_slice-2.ensures.value c.take_bit.auto.full)
+    (changed i.fuller c.as_mut_slice-3.result.now c.take_bit.new.fuller c.as_mut_slice-3.ensures.value c.take_bit.auto.fuller)
+    (taken_more i.size c.args.i i.clear i.words.items i.full.items i.fuller.items c.take_bit.new.words c.take_bit.new.full c.take_bit.new.fuller c.self.invariant in_range.0 off
+    (c.take_bit.auto.words ∙ ap length c.as_mut_slice.ensures.value) (c.take_bit.auto.full ∙ ap length c.as_mut_slice-2.ensures.value) (c.take_bit.auto.fuller ∙ ap length c.as_mut_slice-3.ensures.value)
+    (rw c.as_mut_slice.ensures.value at c.take_bit.ensures.set) c.take_bit.ensures.told c.take_bit.ensures.told_too)
 
 pub returns : goal.returns
 returns c =

@@ -20,10 +20,10 @@ pub invariant_of-self : goal.invariant_of-self
 invariant_of-self c =
     let i = c.self.inside in
     same_words i.size i.size _ _ _ _ _ _
-        (wiped i.words c.as_mut_slice.result.now c.wipe.new.words c.as_mut_slice.ensures.value c.wipe.ensures)
-        (wiped i.full c.as_mut_slice-2.result.now c.wipe-2.new.words c.as_mut_slice-2.ensures.value c.wipe-2.ensures)
-        (wiped i.fuller c.as_mut_slice-3.result.now c.wipe-3.new.words c.as_mut_slice-3.ensures.value c.wipe-3.ensures)
-        (taken_wiped i.size i.clear i.words.items i.full.items i.fuller.items c.self.invariant)
+    (wiped i.words c.as_mut_slice.result.now c.wipe.new.words c.as_mut_slice.ensures.value c.wipe.ensures)
+    (wiped i.full c.as_mut_slice-2.result.now c.wipe-2.new.words c.as_mut_slice-2.ensures.value c.wipe-2.ensures)
+    (wiped i.fuller c.as_mut_slice-3.result.now c.wipe-3.new.words c.as_mut_slice-3.ensures.value c.wipe-3.ensures)
+    (taken_wiped i.size i.clear i.words.items i.full.items i.fuller.items c.self.invariant)
 
 pub returns : goal.returns
 returns c =
