@@ -1,6 +1,5 @@
 -- Accounts of atoms, each of which has one at most.
-use Rattle.std.proofs.Common.{◌≡◌, ◌≢◌, ℕ, zero, suc, ◌+◌, ◌-◌, ◌*◌, ◌/◌, ◌<◌, ◌≤◌, Bool, true, false, not, ◌||◌, cond, eqb, List, [], ◌∷◌, ◌++◌, length, refl, sym, ap, ◌∙◌, arith, inl, inr}
-use Rattle.std.specs.Prelude.{filter, find, sum_by, unwrap_or}
+use Rattle.std.proofs.Common.{◌≡◌, ◌≢◌, ℕ, zero, suc, ◌+◌, ◌-◌, ◌<◌, ◌≤◌, true, false, eqb, List, [], ◌∷◌, ◌++◌, length, refl, sym, ap, ◌∙◌, arith, inl, inr}
 use Rattle.std.specs.List.{list_any}
 use Rattle.std.proofs.lemmas.Bool.{cases_Bool, eqb-true, eq-eqb, ne_eqb}
 use Rattle.std.proofs.lemmas.List.{length-append}
@@ -9,7 +8,7 @@ use Rattle.std.proofs.lemmas.List.Folds.{list_any-append}
 use Rattle.r4_base.specs.declared.things.AtomNo.{AtomNo}
 use Rattle.r4_space.specs.declared.things.Account.{Account}
 use Rattle.r4_space.specs.Books.{IsBooks}
-use Rattle.r4_space.specs.Accounts.{account_at, due_of, dues, EachOnce, is_account_of, is_atom, is_open, is_sealed, need_of, no_account, price_formula, price_of, sum_account, with_account, with_atom, with_merged, with_sealed, without_account}
+use Rattle.r4_space.specs.Accounts.{account_at, due_of, dues, EachOnce, is_account_of, is_open, no_account, price_formula, price_of, sum_account, with_account, without_account}
 
 -- ---- what an atom takes up
 

@@ -1,9 +1,9 @@
 -- Blocks that are marked, placed, held or deferred.
-use Rattle.std.proofs.Common.{◌≡◌, ◌≢◌, ℕ, zero, suc, ◌+◌, ◌<◌, ◌≤◌, Bool, true, false, not, ◌||◌, ◌&&◌, cond, eqb, List, [], ◌∷◌, ◌++◌, length, get_or, set, refl, sym, ap, ◌∙◌, arith, inl, inr}
-use Rattle.std.specs.Prelude.{map, filter, replicate, count_by, All}
-use Rattle.std.specs.List.{list_any, range_with_len}
-use Rattle.std.proofs.lemmas.Bool.{cases_Bool, cases_eq, eq-eqb, ne_eqb, eqb-true}
-use Rattle.std.proofs.lemmas.List.{same_lists, length-map, length-set, length-append, length-replicate, get_or-set_same, get_or-set_other, get_or-map, get_or-replicate}
+use Rattle.std.proofs.Common.{◌≡◌, ◌≢◌, ℕ, zero, suc, ◌+◌, ◌<◌, Bool, true, false, not, ◌||◌, ◌&&◌, cond, eqb, List, [], ◌∷◌, ◌++◌, length, get_or, set, refl, sym, ap, ◌∙◌, arith, inl, inr}
+use Rattle.std.specs.Prelude.{map, replicate, count_by}
+use Rattle.std.specs.List.{range_with_len}
+use Rattle.std.proofs.lemmas.Bool.{cases_Bool, cases_eq, eq-eqb, ne_eqb}
+use Rattle.std.proofs.lemmas.List.{same_lists, length-map, length-set, get_or-set_same, get_or-set_other, get_or-map, get_or-replicate}
 use Rattle.std.proofs.lemmas.List.FromFn.{fill_by_all}
 use Rattle.std.proofs.lemmas.List.Folds.{list_any-append}
 use Rattle.std.proofs.lemmas.List.Elements.{All-append, All-filter}
@@ -12,7 +12,7 @@ use Rattle.r4_base.specs.Bitmap.{is_fixed}
 use Rattle.r4_base.specs.declared.things.AtomNo.{AtomNo}
 use Rattle.r4_space.specs.declared.things.Claim.{Claim}
 use Rattle.r4_space.specs.Accounts.{is_atom}
-use Rattle.r4_space.specs.Space.{claims_of, claims_without, is_block, is_claimed, is_marked_after, is_taken_by, renamed}
+use Rattle.r4_space.specs.Space.{claims_without, is_block, is_claimed, is_marked_after, is_taken_by, renamed}
 use Rattle.r4_space.specs.Kept.{AreBlocks, AreWithin}
 
 -- ---- lists, element by element

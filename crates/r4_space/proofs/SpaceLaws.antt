@@ -1,10 +1,10 @@
 -- A space as a whole.
-use Rattle.std.proofs.Common.{◌≡◌, ℕ, ◌+◌, ◌-◌, ◌<◌, ◌≤◌, Bool, true, false, not, ◌||◌, List, [], ◌∷◌, ◌++◌, length, get_or, set, refl, sym, ap, ◌∙◌, arith}
+use Rattle.std.proofs.Common.{◌≡◌, ℕ, ◌+◌, ◌-◌, ◌<◌, ◌≤◌, Bool, true, false, not, ◌||◌, List, [], length, get_or, refl, sym, ap, ◌∙◌, arith}
 use Rattle.std.specs.Prelude.{map, replicate, count_by, nat_le, None, Vec}
 use Rattle.std.specs.Vec.{with_items}
 use Rattle.std.specs.List.{range_with_len}
 use Rattle.std.proofs.lemmas.Bool.{false_from_ne_true}
-use Rattle.std.proofs.lemmas.List.{length-append, length-map, length-replicate, get_or-replicate, with_items_is}
+use Rattle.std.proofs.lemmas.List.{length-replicate, get_or-replicate, with_items_is}
 use Rattle.std.proofs.lemmas.List.FromFn.{length-map-range_with_len, get_or-map-range_with_len}
 use Rattle.std.proofs.lemmas.List.Sums.{length-filter, count_by-le-length}
 use Rattle.r4_base.specs.Bitmap.{is_fixed, bitmap_count}
@@ -12,12 +12,11 @@ use Rattle.r4_base.specs.declared.things.AtomNo.{AtomNo}
 use Rattle.r4_space.specs.declared.things.Account.{Account}
 use Rattle.r4_space.specs.declared.things.Claim.{Claim}
 use Rattle.r4_space.specs.Accounts.{dues, is_atom}
-use Rattle.r4_space.specs.Space.{Space, claims_of, claims_without, free_of, freed_by, is_marked_after, is_marked_by, is_taken_by, unused_count, up_to}
-use Rattle.r4_space.specs.Words.{IsNextClear}
-use Rattle.r4_space.specs.Kept.{AreBlocks, AreWithin, IsSpace}
+use Rattle.r4_space.specs.Space.{claims_of, claims_without, free_of, freed_by, is_marked_after, is_marked_by, is_taken_by, unused_count, up_to}
+use Rattle.r4_space.specs.Kept.{AreBlocks, IsSpace}
 use Rattle.r4_space.specs.Bitmaps.{bitmaps_fault, marks}
 use Rattle.r4_space.proofs.BitmapLaws.{fixed_marked}
-use Rattle.r4_space.proofs.ClaimLaws.{blocks_placed, blocks_held, blocks_deferred, blocks_merged, within-without, unused_is}
+use Rattle.r4_space.proofs.ClaimLaws.{within-without, unused_is}
 
 -- ---- what is free
 

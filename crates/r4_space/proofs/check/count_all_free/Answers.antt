@@ -1,7 +1,6 @@
-use Rattle.std.proofs.Common.{◌≡◌, ◌∙◌, ◌+◌, ◌*◌, ◌≤◌, not, ap, sym, arith}
+use Rattle.std.proofs.Common.{◌≡◌, ◌∙◌, not, arith}
 use Rattle.std.specs.Prelude.{count_by}
 use Rattle.r4_base.specs.Bitmap.{bits_of}
-use Rattle.std.proofs.lemmas.List.{get_or_read}
 use Rattle.r4_space.proofs.BitmapLaws.{free_more, free_none, free_all}
 use Rattle.r4_space.proofs.check.count_all_free.Goals as goal
 

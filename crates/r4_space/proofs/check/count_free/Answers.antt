@@ -1,7 +1,5 @@
-use Rattle.std.proofs.Common.{◌≡◌, ◌∙◌, ◌+◌, ◌≤◌, not, cond, ap, sym, arith}
-use Rattle.r4_base.specs.Bitmap.{is_used}
+use Rattle.std.proofs.Common.{◌≡◌, ◌∙◌, arith}
 use Rattle.r4_space.proofs.BitmapLaws.{count_more, count_whole}
-use Rattle.std.proofs.lemmas.Bool.{cases_Bool}
 use Rattle.r4_space.proofs.check.count_free.Goals as goal
 
 pub loop-i-preserved : goal.loop-i-preserved

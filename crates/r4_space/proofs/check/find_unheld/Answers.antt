@@ -1,7 +1,6 @@
-use Rattle.std.proofs.Common.{◌≡◌, ◌∙◌, ◌*◌, ℕ, List, true, false, Some, ap, sym, get_or, drop, arith}
+use Rattle.std.proofs.Common.{◌≡◌, ◌∙◌, ◌*◌, ℕ, List, Some, ap, sym, get_or}
 use Rattle.std.proofs.lemmas.List.{drop_all}
 use Rattle.r4_base.specs.Bitmap.{are_held, bits_of}
-use Rattle.r4_space.specs.Bitmaps.{first_unheld_of}
 use Rattle.r4_space.proofs.BitmapLaws.{unheld_more, unheld_here, unheld_none}
 use Rattle.r4_space.proofs.check.find_unheld.Goals as goal
 

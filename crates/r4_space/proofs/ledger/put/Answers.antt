@@ -1,4 +1,4 @@
-use Rattle.std.proofs.Common.{◌≡◌, ◌≤◌, length, ap, arith}
+use Rattle.std.proofs.Common.{◌≡◌, length, ap, arith}
 use Rattle.r4_space.proofs.AccountLaws.{length-without}
 use Rattle.r4_space.specs.Accounts.{without_account}
 use Rattle.r4_space.proofs.ledger.put.Goals as goal

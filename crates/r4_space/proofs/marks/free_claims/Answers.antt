@@ -1,4 +1,4 @@
-use Rattle.std.proofs.Common.{◌≡◌, ◌∙◌, ◌++◌, ◌∷◌, [], take, ◌+◌, ◌<◌, length, get_or, ap, sym, arith}
+use Rattle.std.proofs.Common.{◌∙◌, take, get_or}
 use Rattle.std.proofs.lemmas.List.{take_more}
 use Rattle.r4_base.specs.Bitmap.{is_used}
 use Rattle.r4_space.specs.declared.things.Claim.{Claim}

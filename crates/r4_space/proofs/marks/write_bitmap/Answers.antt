@@ -1,4 +1,4 @@
-use Rattle.std.proofs.Common.{◌≡◌, ◌∙◌, ◌*◌, ◌+◌, length, ap, arith}
+use Rattle.std.proofs.Common.{◌∙◌, ◌*◌, ◌+◌, length}
 use Rattle.r4_space.specs.Space.{up_to}
 use Rattle.r4_space.proofs.MarkLaws.{bit_is}
 use Rattle.r4_space.proofs.marks.write_bitmap.Goals as goal

@@ -1,4 +1,4 @@
-use Rattle.std.proofs.Common.{◌≡◌, ◌+◌, ◌-◌, ◌≤◌, ◌<◌, ap, sym, arith, inl, inr}
+use Rattle.std.proofs.Common.{◌≡◌, ◌+◌, ap, arith}
 use Rattle.r4_space.specs.Books.{Books}
 use Rattle.r4_space.specs.Accounts.{account_at, due_of}
 use Rattle.r4_space.proofs.AccountLaws.{due_small, books_charged}

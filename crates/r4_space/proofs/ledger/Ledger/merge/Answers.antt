@@ -1,6 +1,6 @@
-use Rattle.std.proofs.Common.{◌≡◌, ◌≤◌, ◌+◌, true, false, length, ap, sym, arith}
-use Rattle.std.specs.Prelude.{vec_len, vec_capacity}
-use Rattle.r4_space.specs.Accounts.{account_at, is_open, without_account}
+use Rattle.std.proofs.Common.{◌≡◌, ◌≤◌, true, length, ap, sym, arith}
+use Rattle.std.specs.Prelude.{vec_capacity}
+use Rattle.r4_space.specs.Accounts.{is_open, without_account}
 use Rattle.r4_space.proofs.AccountLaws.{small_pair, length-without_open, books_merged}
 use Rattle.r4_space.proofs.ledger.Ledger.merge.Goals as goal
 

@@ -1,7 +1,3 @@
-use Rattle.std.proofs.Common.{◌≡◌, ℕ, ◌+◌, ◌≤◌, List, [], length, refl, ap, arith}
-use Rattle.r4_base.specs.declared.things.AtomNo.{AtomNo}
-use Rattle.r4_space.specs.declared.things.Account.{Account}
-use Rattle.r4_space.specs.Books.{IsBooks}
 use Rattle.r4_space.proofs.AccountLaws.{books_none}
 use Rattle.r4_space.proofs.ledger.Ledger.new.Goals as goal
 

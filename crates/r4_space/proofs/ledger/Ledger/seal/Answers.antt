@@ -1,5 +1,5 @@
-use Rattle.std.proofs.Common.{◌≡◌, ◌≤◌, ◌<◌, true, false, ap, sym, ◌∙◌, arith}
-use Rattle.r4_space.specs.Accounts.{account_at, is_open}
+use Rattle.std.proofs.Common.{◌≡◌, true, false, sym, arith}
+use Rattle.r4_space.specs.Accounts.{is_open}
 use Rattle.r4_space.proofs.AccountLaws.{due_small, none_without, books_sealed}
 use Rattle.r4_space.proofs.ledger.Ledger.seal.Goals as goal
 

@@ -1,7 +1,6 @@
-use Rattle.std.proofs.Common.{◌≡◌, ◌∙◌, ◌*◌, ◌+◌, ℕ, List, length, ap, arith}
+use Rattle.std.proofs.Common.{◌≡◌, ◌∙◌, ◌*◌, ◌+◌, ℕ, List, length, ap}
 use Rattle.r4_base.proofs.Lent.{refilled_is}
 use Rattle.r4_base.specs.Bitmap.{is_used}
-use Rattle.r4_base.specs.Lending.{refilled}
 use Rattle.r4_space.specs.Space.{Space, is_marked_by}
 use Rattle.r4_space.proofs.SpaceLaws.{marked_by}
 use Rattle.r4_space.proofs.space_map.SpaceMap.bitmap.Goals as goal

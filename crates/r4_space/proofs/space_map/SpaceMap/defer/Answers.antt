@@ -1,4 +1,4 @@
-use Rattle.std.proofs.Common.{◌≡◌, ◌∙◌, ◌+◌, ◌-◌, ◌<◌, ◌≤◌, List, [], ◌∷◌, length, ap, sym, arith}
+use Rattle.std.proofs.Common.{◌≡◌, ◌<◌, [], ◌∷◌, ap, arith}
 use Rattle.std.proofs.lemmas.List.{length-append}
 use Rattle.r4_space.specs.declared.things.Claim.{Claim}
 use Rattle.r4_space.specs.Space.{Space}

@@ -1,8 +1,7 @@
-use Rattle.std.proofs.Common.{◌≡◌, ◌∙◌, ◌+◌, ◌-◌, ◌<◌, ◌≤◌, List, [], ◌∷◌, length, ap, sym, arith}
+use Rattle.std.proofs.Common.{◌≡◌, ◌<◌, [], ◌∷◌, ap, arith}
 use Rattle.std.proofs.lemmas.List.{length-append}
 use Rattle.r4_space.specs.declared.things.Claim.{Claim}
 use Rattle.r4_space.specs.Space.{Space}
-use Rattle.r4_space.specs.Books.{Books}
 use Rattle.r4_space.proofs.ClaimLaws.{blocks_held}
 use Rattle.r4_space.proofs.SpaceLaws.{space_blocks, unused_free}
 use Rattle.r4_space.proofs.space_map.SpaceMap.hold.Goals as goal

@@ -1,5 +1,4 @@
-use Rattle.std.proofs.Common.{◌≡◌, ◌∙◌, ◌+◌, ◌≤◌, length, map, ap, sym, arith}
-use Rattle.std.specs.Vec.{with_items}
+use Rattle.std.proofs.Common.{◌≡◌, map, arith}
 use Rattle.std.proofs.lemmas.List.{length-map}
 use Rattle.r4_space.specs.Space.{renamed}
 use Rattle.r4_space.proofs.ClaimLaws.{blocks_merged}

@@ -1,6 +1,4 @@
-use Rattle.std.proofs.Common.{◌≡◌, ◌∙◌, ◌+◌, ◌<◌, ◌≤◌, length, ap, arith}
-use Rattle.r4_base.specs.Bitmap.{is_fixed}
-use Rattle.r4_space.specs.Space.{Space}
+use Rattle.std.proofs.Common.{◌<◌, arith}
 use Rattle.r4_space.proofs.ClaimLaws.{blocks_placed}
 use Rattle.r4_space.proofs.SpaceLaws.{space_blocks, unused_free}
 use Rattle.r4_space.proofs.space_map.SpaceMap.place.Goals as goal

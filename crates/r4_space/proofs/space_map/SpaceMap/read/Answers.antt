@@ -1,5 +1,5 @@
-use Rattle.std.proofs.Common.{◌≡◌, ◌∙◌, ◌+◌, ◌≤◌, [], length, ap, sym, refl, arith}
-use Rattle.std.specs.Prelude.{replicate, None, false}
+use Rattle.std.proofs.Common.{◌≡◌, ◌∙◌, length, ap, sym, arith}
+use Rattle.std.specs.Prelude.{None, false}
 use Rattle.std.proofs.lemmas.List.{length-replicate}
 use Rattle.std.proofs.lemmas.List.FromFn.{length-map-range_with_len}
 use Rattle.r4_space.specs.Bitmaps.{bitmaps_fault, marks}

@@ -1,4 +1,4 @@
-use Rattle.std.proofs.Common.{◌≡◌, ◌∙◌, ℕ, ◌<◌, ◌≤◌, length, true, ap, sym, get_or, arith}
+use Rattle.std.proofs.Common.{◌≡◌, ◌∙◌, ℕ, ◌<◌, length, true, ap, sym, get_or, arith}
 use Rattle.std.specs.Prelude.{replicate, false}
 use Rattle.r4_space.specs.Space.{claims_of, claims_without, is_taken_by}
 use Rattle.r4_space.proofs.ClaimLaws.{within-without}
