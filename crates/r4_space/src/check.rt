@@ -1,0 +1,129 @@
+//! What the bitmaps of a volume tell.
+
+ghost use Rattle.std.specs.Prelude.{◌≡◌, ℕ, ◌+◌, ◌*◌, ◌/◌, ◌<◌, ◌≤◌, length, map, count_by, not, IfOk, if◌then◌else◌};
+ghost use Rattle.std.specs.List.{range_with_len};
+ghost use Rattle.r4_base.specs.Bitmap.{are_held, bits_of, bitmap_block, bitmap_count, is_always_used, is_used};
+ghost use Rattle.r4_space.specs.Bitmaps.{bitmaps_fault, first_unheld_of, free_bits, marks};
+
+use crate::claims::is_fixed;
+use r4_base::{Block, BlockNo, Memory};
+use r4_bitmap::BitmapView;
+use std::alloc::Global;
+
+/// How many bits a bitmap block has.
+const BITS: u64 = 32_736;
+
+/// Whether bit `i` of a bitmap is 1.
+fn is_used(block: &[u8], i: u64) -> bool
+    requires whole { length block.now ≡ 4096 }
+    requires within { i < 32736 }
+    ensures { result ≡ is_used block.now i }
+{
+    BitmapView::new(block).get(i)
+}
+
+fn is_always_used(blocks: u64, b: u64) -> bool
+    ensures { result ≡ is_always_used blocks b }
+{
+    is_fixed(blocks, b) || blocks <= b
+}
+
+/// Whether the bits of a bitmap are 1 where they always are; `first` is the number of its first bit.
+fn is_held(block: &[u8], blocks: u64, first: u64) -> bool
+    requires whole { length block.now ≡ 4096 }
+    requires few { first < 4294967296 }
+    ensures { result ≡ are_held blocks first (bits_of block.now) }
+{
+    for i in 0..BITS {
+        if !is_used(block, i) && is_always_used(blocks, first + i) {
+            return false;
+        }
+    }
+    true
+}
+
+/// The number of 0 bits of a bitmap.
+fn count_free(block: &[u8]) -> u64
+    requires { length block.now ≡ 4096 }
+    ensures count { result ≡ count_by not (bits_of block.now) }
+    ensures most { result ≤ 32736 }
+{
+    let mut count = 0;
+    for i in 0..BITS {
+        count += count_bit(block, i);
+    }
+    count
+}
+
+/// 1 for a 0 bit.
+fn count_bit(block: &[u8], i: u64) -> u64
+    requires whole { length block.now ≡ 4096 }
+    requires within { i < 32736 }
+    ensures count { result ≡ (if not (is_used block.now i) then 1 else 0) }
+    ensures most { result ≤ 1 }
+{
+    if is_used(block, i) { 0 } else { 1 }
+}
+
+/// The number of 0 bits of all bitmaps.
+fn count_all_free(bitmaps: &[Block]) -> u64
+    requires { length bitmaps.now ≤ 64 }
+    ensures { result ≡ free_bits bitmaps.now }
+{
+    let mut count = 0;
+    for bitmap in bitmaps {
+        count += count_free(bitmap.bytes());
+    }
+    count
+}
+
+/// Where bitmap `n` stands.
+fn bitmap_block(n: u64) -> u64
+    requires { n < 4294967296 }
+    ensures { result ≡ bitmap_block n }
+{
+    if n == 0 { 18 } else { n * BITS }
+}
+
+/// The block of the first bitmap with a 0 for a block that is always used.
+fn find_unheld(bitmaps: &[Block], blocks: u64) -> Option<u64>
+    requires { length bitmaps.now ≤ 64 }
+    ensures { result ≡ first_unheld_of blocks 0 bitmaps.now }
+{
+    for (n, bitmap) in bitmaps.iter().enumerate() {
+        if !is_held(bitmap.bytes(), blocks, n as u64 * BITS) {
+            return Some(bitmap_block(n as u64));
+        }
+    }
+    None
+}
+
+/// What is wrong with the bitmaps of a volume: the block of the first one with a 0 for a block that is always used, or
+/// else block 18, where the number of 0 bits is not `free_blocks`.
+pub fn find_fault(bitmaps: &[Block], blocks: u64, free_blocks: u64) -> Option<u64>
+    requires { length bitmaps.now ≤ 64 }
+    ensures { result ≡ bitmaps_fault blocks free_blocks bitmaps.now }
+{
+    let unheld = find_unheld(bitmaps, blocks);
+    if unheld.is_some() {
+        return unheld;
+    }
+    if count_all_free(bitmaps) == free_blocks {
+        None
+    } else {
+        Some(18)
+    }
+}
+
+/// For each block whether it is marked.
+pub fn read_marks(alloc: Global, bitmaps: &[Block], blocks: u64) -> Result<Vec<bool>, Memory>
+    requires { length bitmaps.now ≡ bitmap_count blocks }
+    ensures { IfOk result (λ v. v.items ≡ map (marks bitmaps.now) (range_with_len 0 blocks)) }
+{
+    let mut marked = Vec::with_capacity(alloc, blocks as usize)?;
+    for b in 0..blocks {
+        let bitmap = &bitmaps[(b / BITS) as usize];
+        marked.push(is_used(bitmap.bytes(), b % BITS))?;
+    }
+    Ok(marked)
+}
