@@ -1,11 +1,11 @@
 -- A sector that is copied.
-use Rattle.std.proofs.Common.{◌≡◌, ◌≢◌, inl, inr, ⊎_elim, ℕ, ◌+◌, ◌*◌, ◌-◌, ◌<◌, List, length, take, drop, sym, ◌∙◌, ap, arith, rules}
+use Rattle.std.proofs.Common.{◌≡◌, ◌≢◌, inl, inr, ℕ, ◌+◌, ◌*◌, ◌-◌, ◌<◌, ◌≤◌, true, false, cond, List, length, take, drop, refl, sym, ◌∙◌, ap, arith, rules}
 use Rattle.std.proofs.lemmas.Bool.{cases_eq, cases_lt}
 use Rattle.std.proofs.lemmas.List.{drop-take}
 use Rattle.std.proofs.lemmas.Slice.{take-put_mid_below, drop-put_mid, between-put_mid, overwrites}
 use borrow.Rule.Slice.PartMut.{put_mid}
 use Rattle.r4_base.specs.Image.{sector}
-use Rattle.r4_outside.specs.Mix.{IsMix, CopiesSector}
+use Rattle.r4_outside.specs.Mix.{is_marked, IsMix, CopiesSector}
 
 module _ (a s : ℕ) (n : ℕ) (xs ys : List ℕ) (a_is : a ≡ 512 * s) (n_is : n ≡ 512) (ls : s < 8) (lx : length xs ≡ 4096) (ly : length ys ≡ 512) where
   pub sector_same : sector (put_mid a n xs ys) s ≡ ys
@@ -29,13 +29,34 @@ module _ (a s : ℕ) (n : ℕ) (xs ys : List ℕ) (a_is : a ≡ 512 * s) (n_is :
     | inr ge ↦ above k (omega (arith, ge, other))
   ]
 
-pub mix_more : (s : ℕ) (x y old new : List ℕ) → CopiesSector s x old new → IsMix x y old → IsMix x y new
-mix_more s x y old new c m = record {
-  each = λ k lk. elim (cases_eq k s) [
-    | inl is ↦ inl (ap (λ (j : ℕ). sector new j) is ∙ c.same ∙ ap (λ (j : ℕ). sector x j) (sym is))
-    | inr other ↦ ⊎_elim (λ e. inl (c.others k lk other ∙ e)) (λ e. inr (c.others k lk other ∙ e)) (m.each k lk)
+-- the first n sectors are mixed, and the others are as they were
+pub record IsMixedTo (n mask : ℕ) (x y new : List ℕ) : Type 0 where
+  pub before : (s : ℕ) → s < 8 → s < n → sector new s ≡ cond (is_marked mask s) (sector x s) (sector y s)
+  pub behind : (s : ℕ) → s < 8 → n ≤ s → sector new s ≡ sector y s
+
+pub none_mixed : (mask : ℕ) (x y : List ℕ) → IsMixedTo 0 mask x y y
+none_mixed mask x y = record { before = λ s ls lt. absurd (omega (arith, lt)); behind = λ s ls le. refl }
+
+pub mixed_copied : (n mask : ℕ) (x y old new : List ℕ) → is_marked mask n ≡ true → CopiesSector n x old new → IsMixedTo n mask x y old → IsMixedTo (n + 1) mask x y new
+mixed_copied n mask x y old new marked c m = record {
+  before = λ s ls lt. elim (cases_eq s n) [
+    | inl is ↦ rw is (rw marked c.same)
+    | inr other ↦ c.others s ls other ∙ m.before s ls (omega (arith, lt, other))
   ];
+  behind = λ s ls le. c.others s ls (λ e. omega (arith, le, e)) ∙ m.behind s ls (omega (arith, le));
 }
+
+pub mixed_left : (n mask : ℕ) (x y old : List ℕ) → is_marked mask n ≡ false → IsMixedTo n mask x y old → IsMixedTo (n + 1) mask x y old
+mixed_left n mask x y old unmarked m = record {
+  before = λ s ls lt. elim (cases_eq s n) [
+    | inl is ↦ rw is (rw unmarked (m.behind n (omega (arith, ls, is)) (omega arith)))
+    | inr other ↦ m.before s ls (omega (arith, lt, other))
+  ];
+  behind = λ s ls le. m.behind s ls (omega (arith, le));
+}
+
+pub all_mixed : (n mask : ℕ) (x y new : List ℕ) → 8 ≤ n → IsMixedTo n mask x y new → IsMix mask x y new
+all_mixed n mask x y new le m = record { each = λ s ls. m.before s ls (omega (arith, ls, le)) }
 
 -- a sector that is copied into place
 pub copies : (a s n : ℕ) (x xs ys : List ℕ) → a ≡ 512 * s → n ≡ 512 → s < 8 → length xs ≡ 4096 → length ys ≡ 512 → ys ≡ sector x s → CopiesSector s x xs (put_mid a n xs ys)

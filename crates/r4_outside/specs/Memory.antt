@@ -1,7 +1,8 @@
 -- What a device in memory tells.
 use Rattle.std.specs.Prelude.{ℕ, ◌≡◌, ◌↔◌, [], IsTrue, Bool, List, reverse, length, None}
 use Rattle.r4_base.specs.Image.{Image}
-use Rattle.r4_outside.specs.Device.{State}
+use Rattle.r4_outside.specs.Device.{Sectors, State}
+use Rattle.r4_outside.specs.Crash.{picked}
 use Rattle.r4_outside.specs.Record.{may}
 use Rattle.r4_outside.specs.declared.memory.Call.{Call}
 use Rattle.r4_outside.specs.declared.memory.MemoryDevice.{MemoryDevice}
@@ -25,6 +26,10 @@ state_of image keeps start calls clock faults = record {
 -- what the device tells
 abbrev pub memory_state : MemoryDevice → State
 memory_state d = state_of (memory_image d) d.keeps d.start.items (reverse d.calls.items) d.clock d.faults
+
+-- what a sector holds in the image that is picked, after a crash at moment m
+abbrev pub memory_picked : MemoryDevice → (m pick : ℕ) → Sectors
+memory_picked d m pick b s x = x ≡ picked d.start.items (reverse d.calls.items) m pick b s
 
 -- the calls that are to fail
 abbrev pub memory_fails : MemoryDevice → List ℕ

@@ -2,8 +2,8 @@
 
 ghost use Rattle.std.specs.Prelude.{◌≡◌, ◌<◌, ◌≤◌, List, [], ℕ, Bool, true, false, reverse, cond, length, replicate, vec_len, slice_set, ◌∷◌, ◌++◌, IfOk, OnOk, OnErr};
 ghost use Rattle.r4_base.specs.Image.{Image, IsBlock, block_at};
-ghost use Rattle.r4_outside.specs.Device.{IsQuiet, TellsReads, TellsCrashes, Leaves, IsAs};
-ghost use Rattle.r4_outside.specs.Crash.{IsLeft, IsRedone};
+ghost use Rattle.r4_outside.specs.Device.{HasSectors, IsQuiet, TellsReads, TellsCrashes, Leaves, IsAs};
+ghost use Rattle.r4_outside.specs.Crash.{IsPicked, IsRedone, mask_of, next_number, number_after};
 ghost use Rattle.r4_outside.specs.Record.{IsWhole, image_after, is_till};
 
 use crate::failing::{counted, missed};
@@ -50,7 +50,7 @@ pub struct MemoryDevice {
 }
 
 impl MemoryDevice {
-    ghost use Rattle.r4_outside.specs.Memory.{memory_image, memory_state, memory_fails, memory_calls, IsFresh};
+    ghost use Rattle.r4_outside.specs.Memory.{memory_image, memory_state, memory_picked, memory_fails, memory_calls, IsFresh};
 
     /// A device of that many blocks of zeros that keeps a record of all calls and tells everything. A `write` or a
     /// `sync` that finds no memory for the record fails, and leaves no sector of its own. The only error is want of
@@ -107,11 +107,15 @@ impl MemoryDevice {
     }
 
     /// One of the images that a crash at a moment of the clock may leave, as a device that keeps a record from there on.
-    /// The device has to tell what a crash leaves. `pick` says which image it is; which one belongs to which number is
-    /// left open. The only error is want of memory.
+    /// The device has to tell what a crash leaves. `pick` says which image it is: each write and each good sync of the
+    /// record has a number, which is the one before it, at first `pick`, times 6364136223846793005 plus
+    /// 1442695040888963407, modulo 2^64. The upper eight bits of a write's number say which of its sectors are left, the
+    /// lowest of them whether sector 0 is. A good sync up to the moment leaves all that came before it. The only error is
+    /// want of memory.
     pub fn crash(&self, alloc: Global, moment: u64, pick: u64) -> Result<MemoryDevice, Memory>
         requires { TellsCrashes (memory_state self.now) }
         ensures leaves { IfOk result (λ d. Leaves (memory_state self.now) moment (memory_image d)) }
+        ensures picked { IfOk result (λ d. HasSectors (length (memory_image self.now)) (memory_picked self.now moment pick) (memory_image d)) }
         ensures fresh { IfOk result IsFresh }
         ensures quiet { IfOk result (λ d. IsQuiet (memory_state d)) }
     {
@@ -162,7 +166,7 @@ fn copies(alloc: Global, blocks: &[Block]) -> Result<Vec<Block>, Memory>
     Ok(copied)
 }
 
-// What a crash leaves of the blocks after these calls.
+// Which blocks a crash leaves after these calls.
 fn crashed(
     alloc: Global,
     start: &[Block],
@@ -171,20 +175,35 @@ fn crashed(
     pick: u64,
 ) -> Result<Vec<Block>, Memory>
     requires { IsWhole start.now }
-    ensures { IfOk result (λ v. IsLeft start.now (reverse calls.now) moment v.items) }
+    ensures { IfOk result (λ v. IsPicked start.now (reverse calls.now) moment pick v.items) }
 {
     let mut full = copies(alloc, start)?;
     let mut left = copies(alloc, start)?;
-    let mut x = pick;
+    let mut number = pick;
     for call in calls {
-        let (mask, after) = picks(x);
-        x = after;
-        redo(alloc, &mut full, &mut left, call, moment, mask)?;
+        number = next_number(number);
+        redo(
+            alloc,
+            &mut full,
+            &mut left,
+            call,
+            moment,
+            (number >> 56) as u8,
+        )?;
     }
     Ok(left)
 }
 
-// One call more: of a write by then the sectors with a set bit are left.
+// The number of the next call.
+fn next_number(number: u64) -> u64
+    ensures { result ≡ next_number number }
+{
+    number
+        .wrapping_mul(6364136223846793005)
+        .wrapping_add(1442695040888963407)
+}
+
+// One call more: of a write by then the sectors whose bits are set are left.
 fn redo(
     alloc: Global,
     full: &mut Vec<Block>,
@@ -193,8 +212,8 @@ fn redo(
     moment: u64,
     mask: u8,
 ) -> Result<(), Memory>
-    ensures { (start : List (List ℕ)) (calls : List Call) → IsRedone start calls moment full.old.items left.old.items
-        → OnOk result (IsRedone start (call.now ∷ calls) moment full.new.items left.new.items) }
+    ensures { (start : List (List ℕ)) (calls : List Call) (pick : ℕ) → mask ≡ mask_of pick (length calls) → IsRedone start calls moment pick full.old.items left.old.items
+        → OnOk result (IsRedone start (call.now ∷ calls) moment pick full.new.items left.new.items) }
 {
     match call {
         Call::Wrote {
@@ -232,20 +251,6 @@ fn put_block(blocks: &mut Vec<Block>, at: usize, from: &Block)
     }
     let block = &mut blocks[at];
     block.bytes_mut().copy_from_slice(bytes);
-}
-
-// Which sectors of a write are left, and the number for the next write.
-fn picks(mut x: u64) -> (u8, u64) {
-    let mut mask = 0u8;
-    for s in 0..8u32 {
-        x = x
-            .wrapping_mul(6364136223846793005)
-            .wrapping_add(1442695040888963407);
-        if x >> 63 == 1 {
-            mask |= 1u8 << s;
-        }
-    }
-    (mask, x)
 }
 
 impl Device for MemoryDevice {

@@ -17,11 +17,11 @@ fn copy_sector(into: &mut [u8], from: &[u8], s: usize)
     into[start..start + 512].copy_from_slice(&from[start..start + 512]);
 }
 
-// Copies the sectors with a set bit.
+// Copies the sectors whose bits are set.
 fn mix_bytes(into: &mut [u8], from: &[u8], mask: u8)
     requires into { length into.old ≡ 4096 }
     requires from { length from.now ≡ 4096 }
-    ensures mix { IsMix from.now into.old into.new }
+    ensures mix { IsMix mask from.now into.old into.new }
     ensures length { length into.new ≡ 4096 }
 {
     for s in 0..8usize {
@@ -31,10 +31,10 @@ fn mix_bytes(into: &mut [u8], from: &[u8], mask: u8)
     }
 }
 
-/// Copies the sectors with a set bit; the contract leaves open which ones these are.
+/// Copies the sectors whose bits are set: bit 0 is sector 0.
 #[tactic(auto, using(r4_base::proofs::Lent::refilled_is))]
 pub fn mix(into: &mut Block, from: &Block, mask: u8)
-    ensures mix { IsMix from.now into.old into.new }
+    ensures mix { IsMix mask from.now into.old into.new }
     ensures whole { IsBlock into.new }
 {
     mix_bytes(into.bytes_mut(), from.bytes(), mask);
