@@ -14,6 +14,8 @@ mod nodes;
 #[cfg(test)]
 mod replays;
 #[cfg(test)]
+mod spaces;
+#[cfg(test)]
 mod tables;
 #[cfg(test)]
 mod tests;
