@@ -16,6 +16,8 @@ mod replays;
 #[cfg(test)]
 mod same;
 #[cfg(test)]
+mod spaces;
+#[cfg(test)]
 mod tables;
 #[cfg(test)]
 mod tests;
