@@ -6,6 +6,8 @@ mod calls;
 #[cfg(test)]
 mod counting;
 #[cfg(test)]
+mod entries;
+#[cfg(test)]
 mod items;
 #[cfg(test)]
 mod logs;
