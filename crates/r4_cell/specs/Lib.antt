@@ -1,2 +1,3 @@
 pub mod Seen
 pub mod Patch
+pub mod Ends

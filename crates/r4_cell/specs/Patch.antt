@@ -2,7 +2,7 @@
 use Rattle.std.specs.Prelude.{◌≡◌, ◌≢◌, ℕ, ◌<◌, ◌≤◌, ◌⊎◌, ◌==◌, if◌then◌else◌, List, [], ◌∷◌, IsSome, Contains, All, AllPairs, Option, None, Some}
 use Rattle.std.specs.Option.{option_map, unwrap_or}
 use Rattle.r4_base.specs.Key.{least, top}
-use Rattle.r4_base.specs.Tree.{Name, Span, Node, Store, Root, InNode, InSpan, Fits, IsNode, Covers, CoversLeaf, UnitAt}
+use Rattle.r4_base.specs.Tree.{Name, Node, Store, Root, InNode, Fits, IsNode, Covers, CoversLeaf}
 use Rattle.r4_base.specs.Value.{Value}
 use Rattle.r4_cell.specs.Seen.{CellSeen, node_of}
 use Rattle.r4_cell.specs.declared.change.Root.{Root as RootPair}

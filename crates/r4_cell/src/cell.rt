@@ -10,11 +10,11 @@ use std::marker::Model;
 /// one that may stand at its level and range, in memory (docs/volume.md, "Cells").
 #[derive(Drop)]
 pub struct Cell {
-    id: NodeId,
-    level: u8,
-    lo: Key,
-    hi: Key,
-    block: Block,
+    pub(crate) id: NodeId,
+    pub(crate) level: u8,
+    pub(crate) lo: Key,
+    pub(crate) hi: Key,
+    pub(crate) block: Block,
 }
 
 impl Model for Cell {

@@ -1,9 +1,14 @@
 //! Cells: nodes and data blocks, each with the keys that it may hold, and changes of them (docs/volume.md, "Cells").
 #![tactic(auto)]
 
+mod body;
 mod cell;
 mod change;
+mod reading;
+mod refused;
 
 pub use cell::Cell;
 pub use change::{Cells, Change, Fresh, Root};
 pub use r4_base::{CellFault, Key, NodeId};
+pub use reading::{new_cell, read_cell};
+pub use refused::{CellRefused, ImageFault};

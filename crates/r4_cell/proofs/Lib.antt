@@ -1,0 +1,2 @@
+pub mod BodyEnds
+mod Faults
