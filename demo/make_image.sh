@@ -1,6 +1,5 @@
 #!/bin/sh
-# Makes an image:
-#   make_image.sh FILE empty   64 blocks of zeros: a log that holds nothing
+# Makes an image whose log has a transaction:
 #   make_image.sh FILE log     1,024 blocks whose log has one committed transaction that is not yet put in place:
 #                              blocks 300, 301 and 302 get what stands in blocks 600, 601 and 602
 #   make_image.sh FILE full    the same with 254 blocks, as many as one record holds
@@ -75,9 +74,6 @@ logged() {
 }
 
 case $2 in
-empty)
-    zeros 64
-    ;;
 log)
     logged 3
     ;;
@@ -85,7 +81,7 @@ full)
     logged 254
     ;;
 *)
-    echo "make_image.sh: $2 is none of empty, log and full" >&2
+    echo "make_image.sh: $2 is neither log nor full" >&2
     exit 1
     ;;
 esac

@@ -7,14 +7,14 @@ here=$(CDPATH='' cd -- "$(dirname -- "$0")" && pwd)
 work=$(mktemp -d)
 trap 'rm -rf -- "$work"' EXIT
 
-# Replays an image, and looks whether the program prints this line and ends with status 0.
-replays() {
-    echo "\$ ./r4 replay $1"
+# Does a command on an image, and looks whether the program prints this line and ends with status 0.
+does() {
+    echo "\$ ./r4 $1 $2"
     status=0
-    printed=$("$tool" replay "$work/$1") || status=$?
+    printed=$("$tool" "$1" "$work/$2") || status=$?
     echo "$printed"
-    if [ "$status" -ne 0 ] || [ "$printed" != "$2" ]; then
-        echo "The demo failed: status $status, and '$2' was wanted." >&2
+    if [ "$status" -ne 0 ] || [ "$printed" != "$3" ]; then
+        echo "The demo failed: status $status, and '$3' was wanted." >&2
         exit 1
     fi
 }
@@ -32,16 +32,21 @@ same() {
     fi
 }
 
-echo "An image of 64 zero blocks: its log holds nothing, and nothing is written."
-sh "$here/make_image.sh" "$work/empty.img" empty
-cp -- "$work/empty.img" "$work/before.img"
-replays empty.img "replayed 0"
-same "$work/before.img" "$work/empty.img" "the image is not what it was"
+echo "A file of 64 blocks is made an empty volume: a root directory, and 40 blocks to fill."
+dd if=/dev/zero of="$work/volume.img" bs=4096 count=64 2>/dev/null
+does mkfs volume.img "made 64 blocks 40 free"
+blocks volume.img 16 1
+echo "Block 16, the master superblock, begins with: $(head -c 8 "$work/part")"
+echo
+echo "Its log holds nothing, and nothing is written."
+cp -- "$work/volume.img" "$work/before.img"
+does replay volume.img "replayed 0"
+same "$work/before.img" "$work/volume.img" "the image is not what it was"
 
 echo
 echo "An image of 1,024 blocks: its log has one committed transaction, whose three blocks are put in place."
 sh "$here/make_image.sh" "$work/log.img" log
-replays log.img "replayed 1"
+does replay log.img "replayed 1"
 blocks log.img 600 3
 mv -- "$work/part" "$work/wanted"
 blocks log.img 300 3
@@ -53,7 +58,7 @@ od -A n -t u8 -w32 -N 32 "$work/part"
 echo
 echo "A second time there is nothing to do."
 cp -- "$work/log.img" "$work/before.img"
-replays log.img "replayed 0"
+does replay log.img "replayed 0"
 same "$work/before.img" "$work/log.img" "the image is not what it was"
 echo
 echo "The demo went well."
