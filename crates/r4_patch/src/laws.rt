@@ -1,0 +1,25 @@
+//! Laws of patches. Each is the contract of a function that does nothing.
+
+ghost use Rattle.std.specs.Prelude.{◌≡◌, ◌⊎◌, ◌↔◌, ℕ, List};
+ghost use Rattle.r4_base.specs.Tree.{Store, Root, IsTree, UnitAt};
+ghost use Rattle.r4_base.specs.Value.{Value};
+ghost use Rattle.r4_cell.specs.Patch.{Patch, place, root_after, IsPatch, Meets, UnitKept, Apart, place_all, root_all, ArePatches};
+
+/// A tree with a patch in place is again a tree. Its units are those of the new cells and those of the untouched ones.
+pub fn placing_keeps_a_tree()
+    ensures tree { (p : Patch Value) (t : Store Value) (root : Root) → IsPatch p → IsTree t root → Meets p t root → IsTree (place p t) (root_after p root) }
+    ensures units { (p : Patch Value) (t : Store Value) (root : Root) (k : ℕ) (v : Value) → Meets p t root → UnitAt (place p t) k v ↔ (UnitAt p.new k v ⊎ UnitKept p t k v) }
+{}
+
+/// Two patches with no node in common are put in place in either order, and after the first the second can still be put
+/// in place.
+pub fn placing_commutes()
+    ensures cells { (p q : Patch Value) (t : Store Value) → Apart p q → place p (place q t) ≡ place q (place p t) }
+    ensures root { (p q : Patch Value) (t : Store Value) (root : Root) → Meets p t root → Meets q t root → Apart p q → root_after p (root_after q root) ≡ root_after q (root_after p root) }
+    ensures second { (p q : Patch Value) (t : Store Value) (root : Root) → Meets p t root → Meets q t root → Apart p q → Meets q (place p t) (root_after p root) }
+{}
+
+/// A tree with all patches of a list in place, of which no two have a node in common, is again a tree.
+pub fn placing_all_keeps_a_tree()
+    ensures tree { (ps : List (Patch Value)) (t : Store Value) (root : Root) → ArePatches ps t root → IsTree t root → IsTree (place_all ps t) (root_all ps root) }
+{}

@@ -1,0 +1,6 @@
+//! Laws of patches: of cells that take the place of others in a tree (docs/volume.md, "Changes").
+#![tactic(auto)]
+
+mod laws;
+
+pub use laws::{placing_all_keeps_a_tree, placing_commutes, placing_keeps_a_tree};
