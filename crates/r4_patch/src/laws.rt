@@ -1,6 +1,6 @@
 //! Laws of patches. Each is the contract of a function that does nothing.
 
-ghost use Rattle.std.specs.Prelude.{◌≡◌, ◌⊎◌, ◌↔◌, ℕ, List};
+ghost use Rattle.std.specs.Prelude.{◌≡◌, ◌≤◌, ◌⊎◌, ◌↔◌, ℕ, List};
 ghost use Rattle.r4_base.specs.Tree.{Store, Root, IsTree, UnitAt};
 ghost use Rattle.r4_base.specs.Value.{Value};
 ghost use Rattle.r4_cell.specs.Patch.{Patch, place, root_after, IsPatch, Meets, UnitKept, Apart, place_all, root_all, ArePatches};
@@ -22,4 +22,9 @@ pub fn placing_commutes()
 /// A tree with all patches of a list in place, of which no two have a node in common, is again a tree.
 pub fn placing_all_keeps_a_tree()
     ensures tree { (ps : List (Patch Value)) (t : Store Value) (root : Root) → ArePatches ps t root → IsTree t root → IsTree (place_all ps t) (root_all ps root) }
+{}
+
+/// What takes a tree to a tree that is not lower is a patch.
+pub fn trees_differ_by_patches()
+    ensures patch { (p : Patch Value) (t : Store Value) (root : Root) → IsTree t root → Meets p t root → IsTree (place p t) (root_after p root) → root.height ≤ (root_after p root).height → IsPatch p }
 {}
