@@ -1,3 +1,4 @@
 pub mod Placed
 pub mod Sets
 pub mod Converse
+pub mod Joined

@@ -3,7 +3,7 @@
 ghost use Rattle.std.specs.Prelude.{◌≡◌, ◌≤◌, ◌⊎◌, ◌↔◌, ℕ, List};
 ghost use Rattle.r4_base.specs.Tree.{Store, Root, IsTree, UnitAt};
 ghost use Rattle.r4_base.specs.Value.{Value};
-ghost use Rattle.r4_cell.specs.Patch.{Patch, place, root_after, IsPatch, Meets, UnitKept, Apart, place_all, root_all, ArePatches};
+ghost use Rattle.r4_cell.specs.Patch.{Patch, place, root_after, IsPatch, Meets, UnitKept, Apart, place_all, root_all, join, ArePatches};
 
 /// A tree with a patch in place is again a tree. Its units are those of the new cells and those of the untouched ones.
 pub fn placing_keeps_a_tree()
@@ -27,4 +27,12 @@ pub fn placing_all_keeps_a_tree()
 /// What takes a tree to a tree that is not lower is a patch.
 pub fn trees_differ_by_patches()
     ensures patch { (p : Patch Value) (t : Store Value) (root : Root) → IsTree t root → Meets p t root → IsTree (place p t) (root_after p root) → root.height ≤ (root_after p root).height → IsPatch p }
+{}
+
+/// A patch over another is one patch with both effects.
+pub fn patches_join()
+    ensures patch { (p q : Patch Value) (t : Store Value) (root : Root) → IsTree t root → Meets p t root → Meets q (place p t) (root_after p root) → IsPatch p → IsPatch q → IsPatch (join p q) }
+    ensures meets { (p q : Patch Value) (t : Store Value) (root : Root) → IsTree t root → Meets p t root → Meets q (place p t) (root_after p root) → Meets (join p q) t root }
+    ensures cells { (p q : Patch Value) (t : Store Value) (root : Root) → Meets p t root → place (join p q) t ≡ place q (place p t) }
+    ensures root { (p q : Patch Value) (root : Root) → root_after (join p q) root ≡ root_after q (root_after p root) }
 {}
