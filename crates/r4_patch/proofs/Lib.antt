@@ -2,3 +2,4 @@ pub mod Placed
 pub mod Sets
 pub mod Converse
 pub mod Joined
+pub mod SecondRoot

@@ -3,4 +3,7 @@
 
 mod laws;
 
-pub use laws::{patches_join, placing_all_keeps_a_tree, placing_commutes, placing_keeps_a_tree, trees_differ_by_patches};
+pub use laws::{
+    patches_join, placing_all_keeps_a_tree, placing_commutes, placing_keeps_a_tree,
+    root_has_to_be_old, trees_differ_by_patches,
+};
