@@ -9,18 +9,18 @@ use Rattle.std.proofs.Math.Nat.{lt_of_not-le, le_refl}
 use Rattle.std.proofs.lemmas.Option.{none-some}
 use Rattle.r4_base.specs.Key.{least, top}
 use Rattle.r4_base.specs.Tree.{Covers, CoversLeaf, Name, Span, Node, Store, Root, InNode, InSpan, Fits, IsNode, IsTree}
+use Rattle.r4_base.proofs.Trees.{covered_above, covered_low, has_parent, named_once, not_both, one_cell}
 use Rattle.r4_cell.specs.Patch.{Patch, place, root_after, Names, NamesId, SameRange, NeedsName, IsNewRoot, IsPatch, Meets}
 use Rattle.r4_patch.proofs.Placed.{over_from, over_kept, over_new, some_or_none}
-use Rattle.r4_base.proofs.Trees.{covered_above, covered_low, has_parent, named_once, not_both, one_cell}
 
 same_name : (n m : Name) → n.id ≡ m.id → n.level ≡ m.level → n.lo ≡ m.lo → n.hi ≡ m.hi → n ≡ m
 same_name n m a b c d = λ i. record { id = a i; level = b i; lo = c i; hi = d i }
 
-pub some_of : (o : Option Root) (r : Root) → o ≡ Some r → IsSome o
+some_of : (o : Option Root) (r : Root) → o ≡ Some r → IsSome o
 some_of (Some x) r e = refl
 some_of None r e = absurd (none-some r e)
 
-pub root_or_not : (o : Option Root) → ((r : Root) × (o ≡ Some r)) ⊎ (o ≡ None)
+root_or_not : (o : Option Root) → ((r : Root) × (o ≡ Some r)) ⊎ (o ≡ None)
 root_or_not (Some r) = inl (r, refl)
 root_or_not None = inr refl
 
@@ -43,9 +43,6 @@ module _ {V : Type 0} (p : Patch V) (t : Store V) (root : Root) (it : IsTree t r
 
   changed_root : (r : Root) → p.root ≡ Some r → root_after p root ≡ r
   changed_root r e = ap (λ o. unwrap_or o root) e
-
-  root_level_old : (c : Node V) → p.old root.id ≡ Some c → c.level ≡ root.height
-  root_level_old c oc = ap (λ n. n.level) (one_cell t root.id c it.root_node (m.has_old root.id c oc) it.root_is) ∙ it.root_level
 
   level_above : (c : Node V) (n : Name) → IsNode c → Contains c.names n → (n.level < c.level) × (1 ≤ c.level)
   level_above c n ic cn = elim (ic.below n cn) [ inl h ↦ omega (arith, h) | inr h ↦ omega (arith, h) ]

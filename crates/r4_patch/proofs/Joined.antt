@@ -6,8 +6,8 @@ use Rattle.std.specs.Option.{unwrap_or}
 use Rattle.std.proofs.Math.Nat.{le_trans, le_refl}
 use Rattle.std.proofs.lemmas.Option.{none-some}
 use Rattle.r4_base.specs.Tree.{Node, Store, Root, IsTree}
-use Rattle.r4_cell.specs.Patch.{Patch, over, place, root_after, IsPatch, Meets, captured, last_root, join}
 use Rattle.r4_base.proofs.Trees.{not_both}
+use Rattle.r4_cell.specs.Patch.{Patch, over, place, root_after, IsPatch, Meets, captured, last_root, join}
 use Rattle.r4_patch.proofs.Placed.{over_from, placed_tree, rises}
 use Rattle.r4_patch.proofs.Sets.{left}
 use Rattle.r4_patch.proofs.Converse.{patch_from_trees}

@@ -9,8 +9,8 @@ use Rattle.std.proofs.Math.Nat.{lt_of_not-le, le_trans, le_refl}
 use Rattle.std.proofs.lemmas.Option.{none-some}
 use Rattle.r4_base.specs.Key.{least, top}
 use Rattle.r4_base.specs.Tree.{Covers, Name, Span, Node, Store, Root, InNode, InName, InSpan, Fits, IsNode, IsTree}
-use Rattle.r4_cell.specs.Patch.{Patch, over, place, root_after, NamesId, SameRange, NeedsName, IsPatch, Meets}
 use Rattle.r4_base.proofs.Trees.{not_both, one_cell}
+use Rattle.r4_cell.specs.Patch.{Patch, over, place, root_after, NamesId, SameRange, NeedsName, IsPatch, Meets}
 
 module _ {V : Type 0} where
   pub over_from : (n o w : Option (Node V)) (c : Node V) → over n o w ≡ Some c → (n ≡ Some c) ⊎ ((n ≡ None) × (o ≡ None) × (w ≡ Some c))
@@ -45,7 +45,7 @@ same_range o c = elim (ℕ_discrete o.level c.level) [
   ]
 ]
 
-pub not_some : IsSome {T = Root} None → ⊥
+not_some : IsSome {T = Root} None → ⊥
 not_some h = grind arith
 
 module _ {V : Type 0} (p : Patch V) (t : Store V) (root : Root) (ip : IsPatch p) (it : IsTree t root) (m : Meets p t root) where

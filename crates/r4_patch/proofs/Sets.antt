@@ -8,8 +8,8 @@ use Rattle.std.specs.Option.{unwrap_or}
 use Rattle.std.proofs.lemmas.Option.{none-some}
 use Rattle.std.proofs.lemmas.List.Elements.{All-head, All-tail}
 use Rattle.r4_base.specs.Tree.{Node, Store, Root, IsTree, UnitAt}
-use Rattle.r4_cell.specs.Patch.{Patch, over, place, root_after, IsPatch, Meets, Leaves, Apart, place_all, root_all, ArePatches, UnitKept}
 use Rattle.r4_base.proofs.Trees.{not_both}
+use Rattle.r4_cell.specs.Patch.{Patch, over, place, root_after, IsPatch, Meets, Leaves, Apart, place_all, root_all, ArePatches, UnitKept}
 use Rattle.r4_patch.proofs.Placed.{over_from, over_new, over_kept, placed_tree}
 
 roots : (a b : Option Root) (root : Root) → (IsSome a → IsSome b → ⊥) → unwrap_or a (unwrap_or b root) ≡ unwrap_or b (unwrap_or a root)
@@ -50,9 +50,6 @@ module _ {V : Type 0} where
   pub root_commutes : (p q : Patch V) (t : Store V) (root : Root) → Meets p t root → Meets q t root → Apart p q → root_after p (root_after q root) ≡ root_after q (root_after p root)
   root_commutes p q t root mp mq apart = roots p.root q.root root (one_root p q t root mp mq apart)
 
-  flip_apart : (p q : Patch V) → Apart p q → Apart q p
-  flip_apart p q apart i = elim (apart i) [ inl h ↦ inr h | inr h ↦ inl h ]
-
   -- q can be put in place after p too
   pub meets_after : (p q : Patch V) (t : Store V) (root : Root) → Meets p t root → Meets q t root → Apart p q → Meets q (place p t) (root_after p root)
   meets_after p q t root mp mq apart = record {
@@ -79,7 +76,7 @@ module _ {V : Type 0} where
   pairs_tail : (p : Patch V) (ps : List (Patch V)) → AllPairs Apart (p ∷ ps) → AllPairs Apart ps
   pairs_tail p ps h i j d a b = h (suc i) (suc j) d (omega (arith, a)) (omega (arith, b))
 
-  pub are_patches_rest : (p : Patch V) (ps : List (Patch V)) (t : Store V) (root : Root) → ArePatches (p ∷ ps) t root → ArePatches ps (place p t) (root_after p root)
+  are_patches_rest : (p : Patch V) (ps : List (Patch V)) (t : Store V) (root : Root) → ArePatches (p ∷ ps) t root → ArePatches ps (place p t) (root_after p root)
   are_patches_rest p ps t root a =
       let here = All-head (λ x. IsPatch x × Meets x t root) p ps a.each in
       let rest = All-tail (λ x. IsPatch x × Meets x t root) p ps a.each in
