@@ -1,0 +1,5 @@
+pub mod Placed
+pub mod Sets
+pub mod Converse
+pub mod Joined
+pub mod SecondRoot
