@@ -1,2 +1,7 @@
 pub mod BodyEnds
 mod Faults
+pub mod Rows
+pub mod Parts
+pub mod ItemRows
+pub mod Items
+pub mod Nodes

@@ -4,11 +4,13 @@
 mod body;
 mod cell;
 mod change;
+mod laws;
 mod reading;
 mod refused;
 
 pub use cell::Cell;
 pub use change::{Cells, Change, Fresh, Root};
+pub use laws::cell_law;
 pub use r4_base::{CellFault, Key, NodeId};
 pub use reading::{new_cell, read_cell};
 pub use refused::{CellRefused, ImageFault};
