@@ -103,7 +103,7 @@ body_still in_memory blocks more it le h =
     (λ (e : option_map Extent (body_fault in_memory blocks it.body) ≡ None). ap (option_map Extent) (body_larger in_memory blocks more it.body le (named_extent _ e)))
     h
 
-or_none : (a b : Option CellFault) → option_or a b ≡ None → (a ≡ None) × (b ≡ None)
+pub or_none : (a b : Option CellFault) → option_or a b ≡ None → (a ≡ None) × (b ≡ None)
 or_none None b h = (refl, h)
 or_none (Some f) b h = absurd cc
 

@@ -1,7 +1,7 @@
 -- The items of a node that may stand as a cell, each a part of it.
 use Rattle.std.proofs.Common.{◌≡◌, ◌⊎◌, inl, inr, ℕ, suc, ◌+◌, ◌*◌, ◌≤◌, Bool, true, false, not, ◌||◌, List, [], ◌∷◌, length, map, refl, sym, ap, subst, ◌∙◌, arith}
 use Rattle.std.specs.Prelude.{Option, Some, None, ◌==◌, nat_le, nat_lt, if◌then◌else◌}
-use Rattle.std.specs.Option.{option_map, option_or}
+use Rattle.std.specs.Option.{option_map}
 use Rattle.std.proofs.lemmas.Bool.{leb-true}
 use Rattle.std.proofs.lemmas.Bool.Decides.{nat_tests}
 use Rattle.r4_base.specs.Cell.{block_names, bytes_from, entry_unit, hole_bytes, item_body_fault, item_end, item_names, item_units, items_in_fault, last_entry_key, names_block, names_in, next_key, offsets_fit, range_is_good, spans_in, units_in}
@@ -16,6 +16,7 @@ use Rattle.r4_base.specs.declared.items.CellFault.{CellFault}
 use Rattle.r4_base.specs.declared.items.CellFault.TheVariants.{Dir, Pointer, Range}
 use Rattle.r4_base.specs.declared.items.DirFault.{DirFault}
 use Rattle.r4_node40.proofs.Faults.{and_true}
+use Rattle.r4_cell.proofs.Faults.{or_none}
 use Rattle.r4_cell.proofs.Rows.{row_bytes, row_unit, row_wider}
 use Rattle.r4_cell.proofs.Parts.{IsPart, part_append, part_extent, part_leaf, part_none, part_pointer}
 use Rattle.r4_cell.proofs.ItemRows.{dir_row, extent_data, extent_row}
@@ -137,10 +138,6 @@ has_range level lo hi next i it good =
     record { low = leb-true _ _ e.0; end = leb-true _ _ b.1; first = first_is level lo i (rank it.key) a.1 }
 
 -- ---- items
-
-pub or_none : (a b : Option CellFault) → option_or a b ≡ None → (a ≡ None) × (b ≡ None)
-or_none None b h = (refl, h)
-or_none (Some f) b h = absurd cc
 
 pub chosen : (t : Bool) (f : CellFault) → (if t then None else Some f) ≡ None → t ≡ true
 chosen true f h = refl

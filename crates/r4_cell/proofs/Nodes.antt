@@ -16,7 +16,8 @@ use Rattle.r4_node40.proofs.Laid.{length-items_of}
 use Rattle.r4_base.proofs.FreshTree.{nothing}
 use Rattle.r4_cell.proofs.Rows.{IsRow, row_bytes}
 use Rattle.r4_cell.proofs.Parts.{IsPart, part_wider}
-use Rattle.r4_cell.proofs.Items.{good_item, items_part, or_none, chosen}
+use Rattle.r4_cell.proofs.Faults.{or_none}
+use Rattle.r4_cell.proofs.Items.{good_item, items_part, chosen}
 
 pub data_node : (lo : ℕ) (b : List ℕ) → length b ≡ 4096 → least ≤ lo → lo + 4096 ≤ top → IsNode (cell_of 0 lo (lo + 4096) b)
 unfolding cell_of

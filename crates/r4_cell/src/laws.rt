@@ -8,7 +8,7 @@ ghost use Rattle.r4_base.specs.Tree.{IsNode};
 /// A block that may stand as a cell at its level and for its range is a node by itself, in memory too; a data block is one
 /// whatever its bytes are (docs/volume.md, "Cells").
 pub fn cell_law()
-    ensures data { (lo : ℕ) (b : List ℕ) → length b ≡ 4096 → least ≤ lo → lo + 4096 ≤ top → IsNode (cell_of 0 lo (lo + 4096) b) }
+    ensures data_block { (lo : ℕ) (b : List ℕ) → length b ≡ 4096 → least ≤ lo → lo + 4096 ≤ top → IsNode (cell_of 0 lo (lo + 4096) b) }
     ensures node { (in_memory : Bool) (blocks level lo hi : ℕ) (b : List ℕ) → length b ≡ 4096 → 1 ≤ level → least ≤ lo → lo < hi → hi ≤ top
         → cell_fault in_memory blocks level lo hi b ≡ None → IsNode (cell_of level lo hi b) }
 {}
