@@ -5,3 +5,4 @@ pub mod Parts
 pub mod ItemRows
 pub mod Items
 pub mod Nodes
+mod FromImage

@@ -1,14 +1,20 @@
 //! A law of cells. It is the contract of a function that does nothing.
 
-ghost use Rattle.std.specs.Prelude.{◌≡◌, ℕ, ◌+◌, ◌<◌, ◌≤◌, List, Bool, None, length};
-ghost use Rattle.r4_base.specs.Cell.{cell_fault, cell_of};
+ghost use Rattle.std.specs.Prelude.{◌≡◌, ℕ, ◌+◌, ◌<◌, ◌≤◌, List, All, Bool, None, Some, length};
+ghost use Rattle.r4_base.specs.Cell.{IsCellOf, cell_fault, cell_of};
+ghost use Rattle.r4_base.specs.Image.{Image, block_at};
 ghost use Rattle.r4_base.specs.Key.{least, top};
-ghost use Rattle.r4_base.specs.Tree.{IsNode};
+ghost use Rattle.r4_base.specs.Tree.{IsNode, Node};
+ghost use Rattle.r4_base.specs.Value.{Value};
+ghost use Rattle.r4_cell.specs.Patch.{by_name};
+ghost use Rattle.r4_cell.specs.Seen.{CellSeen, IsReadFrom};
 
 /// A block that may stand as a cell at its level and for its range is a node by itself, in memory too; a data block is one
-/// whatever its bytes are (docs/volume.md, "Cells").
+/// whatever its bytes are. Cells that were read from an image are, by their names, the cells that its content speaks of
+/// (docs/volume.md, "Cells").
 pub fn cell_law()
     ensures data_block { (lo : ℕ) (b : List ℕ) → length b ≡ 4096 → least ≤ lo → lo + 4096 ≤ top → IsNode (cell_of 0 lo (lo + 4096) b) }
     ensures node { (in_memory : Bool) (blocks level lo hi : ℕ) (b : List ℕ) → length b ≡ 4096 → 1 ≤ level → least ≤ lo → lo < hi → hi ≤ top
         → cell_fault in_memory blocks level lo hi b ≡ None → IsNode (cell_of level lo hi b) }
+    ensures content { (blocks : ℕ) (image : Image) (cells : List CellSeen) → All (IsReadFrom blocks image) cells → (i : ℕ) (c : Node Value) → by_name cells i ≡ Some c → IsCellOf blocks (block_at image i) c }
 {}
