@@ -3,3 +3,4 @@ pub mod Sets
 pub mod Converse
 pub mod Joined
 pub mod SecondRoot
+pub mod Shared
