@@ -4,3 +4,4 @@ pub mod Converse
 pub mod Joined
 pub mod SecondRoot
 pub mod Shared
+pub mod Changes

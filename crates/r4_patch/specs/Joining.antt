@@ -1,7 +1,10 @@
 -- Two changes as one.
 use Rattle.std.specs.Prelude.{◌≡◌, ℕ, ◌≤◌, ◌++◌, List, map, Contains}
 use Rattle.std.specs.Option.{option_or}
+use Rattle.r4_base.specs.Tree.{Store, Root, IsTree}
+use Rattle.r4_base.specs.Value.{Value}
 use Rattle.r4_cell.specs.Seen.{CellSeen}
+use Rattle.r4_cell.specs.Patch.{Patch, patch_of, IsChange, Meets}
 use Rattle.r4_cell.specs.declared.change.Change.{Change}
 use Rattle.r4_patch.specs.declared.joining.JoinFault.{JoinFault}
 use Rattle.r4_patch.specs.declared.joining.JoinFault.TheVariants.{Meet, Memory as NoMemory}
@@ -29,3 +32,15 @@ pub record IsJoined (one two c : Change) : Type 0 where
 abbrev pub IsJoinFault : Change → Change → JoinFault → Type 0
 IsJoinFault one two (Meet node) = IsFirstShared (ids_of one.old) (ids_of two.old) node.0
 IsJoinFault one two NoMemory = Unit
+
+abbrev pub patch_of_change : Change → Patch Value
+patch_of_change c = patch_of c.old c.new c.root
+
+-- both are changes of this tree, and no new cell of one has the name of a new cell of the other
+pub record AreOfOneTree (one two : Change) (t : Store Value) (root : Root) : Type 0 where
+  pub tree : IsTree t root
+  pub one_is : IsChange one.old one.new one.root
+  pub two_is : IsChange two.old two.new two.root
+  pub one_meets : Meets (patch_of_change one) t root
+  pub two_meets : Meets (patch_of_change two) t root
+  pub new_apart : AreApart one.new two.new

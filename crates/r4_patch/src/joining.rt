@@ -31,7 +31,8 @@ impl From<Memory> for JoinFault {
 
 /// One change with the effects of both: the old cells of both, the new cells of both, and the second one's root where it
 /// has one, else the first one's. Two changes that have an old cell of one node are not joined. Cells are shared and no
-/// block is copied. Of n old cells it sorts the numbers, in time n log n, and it walks the new cells once.
+/// block is copied. Of n old cells it sorts the numbers, in time n log n, and it walks the new cells once. `joined_change`
+/// says what its effect on a tree is.
 pub fn join(alloc: Global, one: &Change, two: &Change) -> Result<Change, JoinFault>
     ensures joined { IfOk result (λ c. IsJoined one.now two.now c) }
     ensures apart { OnOk result (AreApart one.now.old two.now.old) }
