@@ -30,9 +30,9 @@ impl From<Memory> for JoinFault {
 }
 
 /// One change with the effects of both: the old cells of both, the new cells of both, and the second one's root where it
-/// has one, else the first one's. Two changes that have an old cell of one node are not joined. Cells are shared and no
-/// block is copied. Of n old cells it sorts the numbers, in time n log n, and it walks the new cells once. `joined_change`
-/// says what its effect on a tree is.
+/// has one, else the first one's. Two changes that have an old cell of one node are not joined. What the effect on a tree
+/// is, `joined_change` says. Cells are shared and no block is copied. It takes n log n steps for n old cells, and one for
+/// each new cell.
 pub fn join(alloc: Global, one: &Change, two: &Change) -> Result<Change, JoinFault>
     ensures joined { IfOk result (λ c. IsJoined one.now two.now c) }
     ensures apart { OnOk result (AreApart one.now.old two.now.old) }
@@ -95,7 +95,7 @@ fn both(alloc: Global, first: &Cells, second: &Cells) -> Result<Cells, Memory>
 {
     let first = first.as_slice();
     let second = second.as_slice();
-    let mut items = Vec::with_capacity(alloc, first.len().saturating_add(second.len()))?;
+    let mut items = Vec::with_capacity(alloc, first.len() + second.len())?;
     share(&mut items, first)?;
     share(&mut items, second)?;
     Ok(Cells::from_vec(items))
