@@ -3,3 +3,5 @@ pub mod Sets
 pub mod Converse
 pub mod Joined
 pub mod SecondRoot
+pub mod Shared
+pub mod Changes

@@ -1,1 +1,2 @@
 pub mod SecondRoot
+pub mod Joining

@@ -3,7 +3,9 @@
 ghost use Rattle.std.specs.Prelude.{◌≡◌, ◌≤◌, ◌⊎◌, ◌↔◌, ℕ, List, None, Some};
 ghost use Rattle.r4_base.specs.Tree.{Node, Store, Root, IsTree, UnitAt};
 ghost use Rattle.r4_base.specs.Value.{Value};
-ghost use Rattle.r4_cell.specs.Patch.{Patch, place, root_after, IsPatch, Meets, UnitKept, Apart, place_all, root_all, join, ArePatches};
+ghost use Rattle.r4_cell.specs.Patch.{Patch, place, root_after, IsPatch, Meets, UnitKept, Apart, place_all, root_all, join, ArePatches, IsChange};
+ghost use Rattle.r4_cell.specs.declared.change.Change.{Change};
+ghost use Rattle.r4_patch.specs.Joining.{patch_of_change, AreApart, AreOfOneTree, IsJoined};
 ghost use Rattle.r4_patch.specs.SecondRoot.{second_root, small_root, small_tree};
 
 /// A tree with a patch in place is again a tree. Its units are those of the new cells and those of the untouched ones.
@@ -46,4 +48,13 @@ pub fn patches_join()
     ensures meets { (p q : Patch Value) (t : Store Value) (root : Root) → IsTree t root → Meets p t root → Meets q (place p t) (root_after p root) → Meets (join p q) t root }
     ensures cells { (p q : Patch Value) (t : Store Value) (root : Root) → Meets p t root → place (join p q) t ≡ place q (place p t) }
     ensures root { (p q : Patch Value) (root : Root) → root_after (join p q) root ≡ root_after q (root_after p root) }
+{}
+
+/// Two changes of one tree as one change, where no node is an old cell of both or a new cell of both: it is a change of the
+/// tree, and it does what the first and then the second do.
+pub fn joined_change()
+    ensures change { (one two c : Change) (t : Store Value) (root : Root) → AreOfOneTree one two t root → IsJoined one two c → AreApart one.old two.old → IsChange c.old c.new c.root }
+    ensures meets { (one two c : Change) (t : Store Value) (root : Root) → AreOfOneTree one two t root → IsJoined one two c → AreApart one.old two.old → Meets (patch_of_change c) t root }
+    ensures cells { (one two c : Change) (t : Store Value) (root : Root) → AreOfOneTree one two t root → IsJoined one two c → AreApart one.old two.old → place (patch_of_change c) t ≡ place (patch_of_change two) (place (patch_of_change one) t) }
+    ensures root { (one two c : Change) (t : Store Value) (root : Root) → AreOfOneTree one two t root → IsJoined one two c → AreApart one.old two.old → root_after (patch_of_change c) root ≡ root_after (patch_of_change two) (root_after (patch_of_change one) root) }
 {}
