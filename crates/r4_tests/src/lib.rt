@@ -16,6 +16,8 @@ mod logs;
 #[cfg(test)]
 mod nodes;
 #[cfg(test)]
+mod patches;
+#[cfg(test)]
 mod replays;
 #[cfg(test)]
 mod same;
