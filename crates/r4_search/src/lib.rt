@@ -1,0 +1,8 @@
+//! The search in a tree: the cells from the root down to the one that has a key (docs/volume.md, "The tree").
+#![tactic(auto)]
+
+mod pool;
+
+pub use pool::{FetchFault, Pool};
+pub use r4_base::{BlockNo, CellFault, Key, NodeId};
+pub use r4_cell::{Cell, Root};
