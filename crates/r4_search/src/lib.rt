@@ -1,6 +1,7 @@
 //! The search in a tree: the cells from the root down to the one that has a key (docs/volume.md, "The tree").
 #![tactic(auto)]
 
+mod inside;
 mod pool;
 
 pub use pool::{FetchFault, Pool};
