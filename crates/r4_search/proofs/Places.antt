@@ -78,11 +78,11 @@ pub record IsBranch (level lo hi : ℕ) (b : List ℕ) : Type 0 where
   pub first : next_key hi (items_of b) ≡ lo
   pub fits : PluginsFit level (items_of b)
 
-none_of_node : {F : Type 0} (f : Option F) (v : F → CellFault) → option_map v f ≡ None → f ≡ None
+pub none_of_node : {F : Type 0} (f : Option F) (v : F → CellFault) → option_map v f ≡ None → f ≡ None
 none_of_node {F} None v h = refl
 none_of_node {F} (Some f) v h = absurd cc
 
-or_none : (a b : Option CellFault) → option_or a b ≡ None → (a ≡ None) × (b ≡ None)
+pub or_none : (a b : Option CellFault) → option_or a b ≡ None → (a ≡ None) × (b ≡ None)
 or_none None b h = (refl, h)
 or_none (Some f) b h = absurd cc
 

@@ -1,10 +1,12 @@
 -- The way down a tree to a key: which node a cell leads to, where the way ends, and the cells on it (docs/volume.md, "The tree"). A key is its rank.
-use Rattle.std.specs.Prelude.{◌≡◌, ◌⊎◌, ℕ, ◌≤◌, List, [], ◌∷◌, Contains, Option, Some, None}
+use Rattle.std.specs.Prelude.{◌≡◌, ◌⊎◌, ℕ, ◌≤◌, List, [], ◌∷◌, All, Contains, Option, Some, None}
 use Rattle.r4_base.specs.Key.{least, top}
 use Rattle.r4_base.specs.Tree.{Name, Span, InName, InSpan}
 use Rattle.r4_cell.specs.Seen.{CellSeen, node_of}
 use Rattle.r4_cell.specs.declared.change.Root.{Root}
-use Rattle.r4_search.specs.Pool.{IsNamed}
+use Rattle.r4_search.specs.Pool.{PoolState, IsNamed, IsOf, IsRefused}
+use Rattle.r4_search.specs.declared.pool.FetchFault.{FetchFault}
+use Rattle.r4_search.specs.declared.pool.FetchFault.TheVariants.{Read, Damaged, Memory}
 
 -- the root as it is asked for: at the height of the tree, with the range of all keys
 abbrev pub root_name : Root → Name
@@ -40,3 +42,18 @@ pub record IsPath (root : Root) (key : ℕ) (cells : List CellSeen) : Type 0 whe
   pub end : CellSeen
   pub is_last : last_of None cells ≡ Some end
   pub ends : EndsAt end key
+
+-- The cells of the pool lead down to one that is refused.
+pub record StopsOn (root : Root) (key : ℕ) (old : PoolState) (e : FetchFault) (new : PoolState) : Type 0 where
+  pub cells : List CellSeen
+  pub descends : Descends root key None cells
+  pub are_of : All (IsOf old) cells
+  pub at : Name
+  pub follows : Follows root key (last_of None cells) at
+  pub refused : IsRefused at old e new
+
+-- Why a path ends early.
+abbrev pub Stops : Root → (key : ℕ) → PoolState → FetchFault → PoolState → Type 0
+Stops root key old (Read at faults) new = StopsOn root key old (Read at faults) new
+Stops root key old (Damaged at fault) new = StopsOn root key old (Damaged at fault) new
+Stops root key old Memory new = Unit {0}

@@ -16,7 +16,7 @@ use r4_twig::pointer;
 /// The plugin of a pointer.
 const POINTER: u16 = 3;
 
-/// A node as a pointer names it.
+/// A node as a pointer names it (docs/volume.md, "The tree").
 #[derive(Clone, Copy, Debug)]
 pub struct Child {
     pub id: NodeId,
@@ -25,7 +25,8 @@ pub struct Child {
     pub hi: Key,
 }
 
-/// The node below a cell whose range has the key; none where the way ends, at a leaf and at an extent.
+/// The node below a cell whose range has the key; none where the way ends, at a leaf and at an extent
+/// (docs/volume.md, "The tree").
 pub fn child_of(cell: &Cell, key: &Key) -> Option<Child>
     requires node { 1 ≤ cell.now.level }
     requires stands { cell_fault true (2 ^ 64) cell.now.level (rank cell.now.lo) (rank cell.now.hi) cell.now.block ≡ None }

@@ -6,10 +6,10 @@ ghost use Rattle.r4_search.specs.Pool.{PoolState, IsKnown, Fetches, called};
 
 use r4_base::{BlockNo, CellFault, Key, NodeId};
 use r4_cell::Cell;
-use std::alloc::Global;
+use std::alloc::{AllocFailed, Global};
 use std::sync::Arc;
 
-/// Why a cell was not fetched.
+/// Why a cell was not fetched (docs/volume.md, "The tree").
 #[derive(Clone, Copy, Debug, PartialEq, Eq)]
 pub enum FetchFault {
     /// A device failed at this block, and counts so many faults now.
@@ -20,6 +20,17 @@ pub enum FetchFault {
     Memory,
 }
 
+impl<T: Drop> From<AllocFailed<T>> for FetchFault {
+    ghost use Rattle.std.specs.Prelude.{◌≡◌};
+    ghost use Rattle.r4_search.specs.declared.pool.FetchFault.TheVariants.{Memory as NoMemory};
+
+    ghost from_gives = { λ _ e. e ≡ NoMemory };
+
+    fn from(_none: AllocFailed<T>) -> FetchFault {
+        FetchFault::Memory
+    }
+}
+
 /// Cells by their names: those that it keeps, and those that it reads as they are asked for (docs/volume.md, "The tree").
 ///
 /// It has a number of blocks. Each name that it does not keep and that is below this number means the block of a device,
@@ -28,7 +39,8 @@ pub trait Pool {
     /// What the pool tells of itself.
     ghost state: { Self → PoolState };
 
-    /// The number of calls of its device that failed, which never falls and stands still at 2^64 - 1.
+    /// The number of calls of its device that failed, which never falls and stands still at 2^64 - 1 (docs/volume.md, "The
+    /// tree").
     fn faults(&self) -> u64
         ensures { result ≡ (state self.now).faults };
 
