@@ -17,7 +17,7 @@ use Rattle.r4_cell.specs.Seen.{CellSeen}
 use Rattle.r4_cell.specs.declared.change.Root.{Root}
 use Rattle.r4_cell.proofs.Items.{chosen}
 use Rattle.r4_search.specs.Pool.{PoolState, IsKnown, IsNamed, IsOf, IsRead, IsKeptOrRead, IsAnswer, IsRefused, FaultIs, place_fault, Goes}
-use Rattle.r4_search.specs.Path.{Follows, Descends, LeadsTo, EndsAt, IsPath, StopsOn, Stops, last_of, root_name}
+use Rattle.r4_search.specs.Path.{Follows, Descends, LeadsTo, EndsAt, IsPath, KeepsOnly, StopsOn, Stops, last_of, root_name}
 use Rattle.r4_search.specs.Place.{child_name}
 use Rattle.r4_search.specs.declared.inside.Child.{Child}
 use Rattle.r4_search.specs.declared.pool.FetchFault.{FetchFault}
@@ -38,7 +38,7 @@ pub record Reached (root : Root) (key : ℕ) (old mid : PoolState) (cells : List
   pub goes : Goes old mid
   pub descends : Descends root key None cells
   pub are_of : All (IsOf old) cells
-  pub only : (i : ℕ) (k : CellSeen) → mid.kept i ≡ Some k → old.kept i ≡ None → Contains cells k
+  pub only : KeepsOnly old mid cells
   pub above : (c : CellSeen) → Contains cells c → left next < c.level
   pub on : GoesOn root key mid (last_of None cells) next
 
@@ -188,13 +188,28 @@ module _ (root : Root) (key : ℕ) (old mid : PoolState) (cells : List CellSeen)
   refused_before (Damaged at fault) new h = (h.0, fault_before (Some fault) (old.kept n.id) (mid.kept n.id) refl refl h.1)
   refused_before Memory new h = tt
 
-  stops_on : (e : FetchFault) (new : PoolState) → IsRefused n mid e new → StopsOn root key old e new
-  stops_on e new h = record { cells = cells; descends = r.descends; are_of = r.are_of; at = n; follows = r.on.0; refused = refused_before e new h }
+  module _ (new : PoolState) (none : (i : ℕ) (k : CellSeen) → new.kept i ≡ Some k → mid.kept i ≡ None → ⊥) (goes : Goes mid new) where
+    only_still : (i : ℕ) (k : CellSeen) → new.kept i ≡ Some k → old.kept i ≡ None → (o : Option CellSeen) → mid.kept i ≡ o → Contains cells k
+    only_still i k h was None e = absurd (none i k h e)
+    only_still i k h was (Some x) e =
+        let same : x ≡ k = same_Some x k (sym (goes.kept i x e) ∙ h) in
+        subst (λ (y : CellSeen). Contains cells y) same (r.only i x e was)
 
-  pub stops : (e : FetchFault) (new : PoolState) → IsRefused n mid e new → Stops root key old e new
-  stops (Read at faults) new h = stops_on (Read at faults) new h
-  stops (Damaged at fault) new h = stops_on (Damaged at fault) new h
-  stops Memory new h = tt
+    stops_on : (e : FetchFault) → IsRefused n mid e new → StopsOn root key old e new
+    stops_on e h = record {
+      cells = cells;
+      descends = r.descends;
+      are_of = r.are_of;
+      only = λ i k h was. only_still i k h was (mid.kept i) refl;
+      at = n;
+      follows = r.on.0;
+      refused = refused_before e new h;
+    }
+
+    pub stops : (e : FetchFault) → IsRefused n mid e new → Stops root key old e new
+    stops (Read at faults) h = stops_on (Read at faults) h
+    stops (Damaged at fault) h = stops_on (Damaged at fault) h
+    stops Memory h = tt
 
 -- an error that a `?` hands on
 pub handed : {T : Type 0} (P : FetchFault → Type 0) (r : Result T FetchFault) (e : FetchFault) → IsErrAnd r (λ y. y ≡ e) → P e → IfErr r P

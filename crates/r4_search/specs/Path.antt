@@ -43,11 +43,16 @@ pub record IsPath (root : Root) (key : ℕ) (cells : List CellSeen) : Type 0 whe
   pub is_last : last_of None cells ≡ Some end
   pub ends : EndsAt end key
 
+-- what is kept from then on is among these cells
+abbrev pub KeepsOnly : (old new : PoolState) → List CellSeen → Type 0
+KeepsOnly old new cells = (i : ℕ) (c : CellSeen) → new.kept i ≡ Some c → old.kept i ≡ None → Contains cells c
+
 -- The cells of the pool lead down to one that is refused.
 pub record StopsOn (root : Root) (key : ℕ) (old : PoolState) (e : FetchFault) (new : PoolState) : Type 0 where
   pub cells : List CellSeen
   pub descends : Descends root key None cells
   pub are_of : All (IsOf old) cells
+  pub only : KeepsOnly old new cells
   pub at : Name
   pub follows : Follows root key (last_of None cells) at
   pub refused : IsRefused at old e new

@@ -21,7 +21,7 @@ returns-in_err-cell-clause-err g c =
     let cells = map (λ cell. arc_value cell) c.loop-next.path.items in
     let so_far = subst (λ (o : Option Child). Reached c.args.root.now (rank c.args.key.now) old mid cells (option_map child_name o)) c.in-Some.is c.loop-next.invariant in
     handed _ c.from_residual.result c.in_err-cell.field-0.0 c.from_residual.ensures.1
-    (stops c.args.root.now (rank c.args.key.now) old mid cells (child_name c.in-Some.child) so_far c.in_err-cell.field-0.0 (g.P.Pool.state c.fetch.new.self) c.in_err-cell.ensures.err)
+    (stops c.args.root.now (rank c.args.key.now) old mid cells (child_name c.in-Some.child) so_far (g.P.Pool.state c.fetch.new.self) c.in_err-cell.ensures.only c.fetch.ensures.goes c.in_err-cell.field-0.0 c.in_err-cell.ensures.err)
 
 pub loop-next-preserved : goal.loop-next-preserved
 loop-next-preserved g c =
