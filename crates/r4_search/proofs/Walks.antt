@@ -1,10 +1,11 @@
 -- A walk down from the root: what is known of the cells so far and of the pool, and how it goes on.
-use Rattle.std.proofs.Common.{◌≡◌, inl, inr, ℕ, zero, suc, ◌+◌, ◌<◌, ◌≤◌, false, List, [], ◌∷◌, ◌++◌, refl, sym, ap, subst, ◌∙◌, arith}
+use Rattle.std.proofs.Common.{◌≡◌, inl, inr, ℕ, zero, suc, ◌+◌, ◌<◌, ◌≤◌, false, List, [], ◌∷◌, ◌++◌, map, refl, sym, ap, subst, ◌∙◌, arith}
 use Rattle.std.specs.Result.{IsErrAnd}
 use Rattle.std.specs.Prelude.{Option, Some, None, IfSome, IfNone, Result, Ok, Err, IfErr, Contains, All, ◌==◌, if◌then◌else◌}
 use Rattle.std.specs.Option.{option_map}
 use Rattle.std.proofs.lemmas.Bool.{eqb-true, ne_eqb}
 use Rattle.std.proofs.lemmas.Option.{same_Some}
+use Rattle.std.proofs.lemmas.List.{map-append}
 use Rattle.std.proofs.lemmas.List.Elements.{All-nil, All-push, Contains-append_left, Contains-push, Contains-push_cases}
 use Rattle.r4_base.specs.Key.{rank, least, top}
 use Rattle.r4_base.specs.Cell.{cell_fault}
@@ -210,6 +211,9 @@ module _ (root : Root) (key : ℕ) (old mid : PoolState) (cells : List CellSeen)
     stops (Read at faults) h = stops_on (Read at faults) h
     stops (Damaged at fault) h = stops_on (Damaged at fault) h
     stops Memory h = tt
+
+pub map_push : {A B : Type 0} (f : A → B) (xs ys : List A) (x : A) → ys ≡ xs ++ x ∷ [] → map f ys ≡ map f xs ++ f x ∷ []
+map_push {A} {B} f xs ys x e = ap (λ (l : List A). map f l) e ∙ map-append f xs (x ∷ [])
 
 -- an error that a `?` hands on
 pub handed : {T : Type 0} (P : FetchFault → Type 0) (r : Result T FetchFault) (e : FetchFault) → IsErrAnd r (λ y. y ≡ e) → P e → IfErr r P

@@ -1,14 +1,13 @@
-use Rattle.std.proofs.Common.{◌≡◌, ◌∙◌, ap, sym, subst, map, ◌+◌, List, [], ◌∷◌}
+use Rattle.std.proofs.Common.{◌≡◌, sym, subst, map, ◌+◌, List}
 use Rattle.std.specs.Prelude.{Option, IfSome, IfNone}
 use Rattle.std.specs.Option.{option_map}
 use Rattle.std.specs.Arc.{arc_value}
-use Rattle.std.proofs.lemmas.List.{map-append}
 use Rattle.r4_base.specs.Key.{rank}
 use Rattle.r4_cell.specs.Seen.{CellSeen}
 use Rattle.r4_search.specs.Path.{LeadsTo, EndsAt}
 use Rattle.r4_search.specs.Place.{child_name}
 use Rattle.r4_search.specs.declared.inside.Child.{Child}
-use Rattle.r4_search.proofs.Walks.{Reached, goes_both, onward, stops, handed}
+use Rattle.r4_search.proofs.Walks.{Reached, goes_both, onward, stops, handed, map_push}
 use Rattle.r4_search.proofs.covering.cover.Goals as goal
 
 pub returns-in_err-cell-clause-goes : goal.returns-in_err-cell-clause-goes
@@ -36,7 +35,7 @@ loop-next-preserved g c =
     let leads = subst (λ (x : CellSeen). IfSome d (λ y. LeadsTo x key (child_name y))) c.deref.ensures c.child_of-next.ensures.child in
     let level = subst (λ (x : CellSeen). IfSome d (λ y. y.level + 1 ≡ x.level)) c.deref.ensures c.child_of-next.ensures.level in
     let ends = subst (λ (x : CellSeen). IfNone d (EndsAt x key)) c.deref.ensures c.child_of-next.ensures.end in
-    let pushed = ap (map (λ cell. arc_value cell)) c.in_ok-push.ensures.items ∙ map-append (λ cell. arc_value cell) c.loop-next.path.items (c.in_ok-cell.cell ∷ []) in
+    let pushed = map_push (λ cell. arc_value cell) c.loop-next.path.items c.push.new.self.items c.in_ok-cell.cell c.in_ok-push.ensures.items in
     subst (λ (cs : List CellSeen). Reached c.args.root.now key old new cs (option_map child_name d)) (sym pushed)
     (onward c.args.root.now key old mid new cells (child_name c.in-Some.child) cell so_far c.in_ok-cell.ensures.goes c.in_ok-cell.ensures.only c.in_ok-cell.ensures.ok d leads level ends)
 
