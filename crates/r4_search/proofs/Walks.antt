@@ -1,0 +1,221 @@
+-- A walk down from the root: what is known of the cells so far and of the pool, and how it goes on.
+use Rattle.std.proofs.Common.{◌≡◌, inl, inr, ℕ, zero, suc, ◌+◌, ◌<◌, ◌≤◌, false, List, [], ◌∷◌, ◌++◌, map, refl, sym, ap, subst, ◌∙◌, arith}
+use Rattle.std.specs.Result.{IsErrAnd}
+use Rattle.std.specs.Prelude.{Option, Some, None, IfSome, IfNone, Result, Ok, Err, IfErr, Contains, All, ◌==◌, if◌then◌else◌}
+use Rattle.std.specs.Option.{option_map}
+use Rattle.std.proofs.lemmas.Bool.{eqb-true, ne_eqb}
+use Rattle.std.proofs.lemmas.Option.{same_Some}
+use Rattle.std.proofs.lemmas.List.{map-append}
+use Rattle.std.proofs.lemmas.List.Elements.{All-nil, All-push, Contains-append_left, Contains-push, Contains-push_cases}
+use Rattle.r4_base.specs.Key.{rank, least, top}
+use Rattle.r4_base.specs.Cell.{cell_fault}
+use Rattle.r4_base.specs.Node.{level_of, node_fault}
+use Rattle.r4_base.specs.Tree.{Name, InName}
+use Rattle.r4_base.specs.declared.items.CellFault.{CellFault}
+use Rattle.r4_base.specs.declared.items.CellFault.TheVariants.{Level, Node}
+use Rattle.r4_base.proofs.FreshTree.{nothing}
+use Rattle.r4_cell.specs.Seen.{CellSeen}
+use Rattle.r4_cell.specs.declared.change.Root.{Root}
+use Rattle.r4_cell.proofs.Items.{chosen}
+use Rattle.r4_search.specs.Pool.{PoolState, IsKnown, IsNamed, IsOf, IsRead, IsKeptOrRead, IsAnswer, IsRefused, FaultIs, place_fault, Goes}
+use Rattle.r4_search.specs.Path.{Follows, Descends, LeadsTo, EndsAt, IsPath, KeepsOnly, StopsOn, Stops, last_of, root_name}
+use Rattle.r4_search.specs.Place.{child_name}
+use Rattle.r4_search.specs.declared.inside.Child.{Child}
+use Rattle.r4_search.specs.declared.pool.FetchFault.{FetchFault}
+use Rattle.r4_search.specs.declared.pool.FetchFault.TheVariants.{Read, Damaged, Memory}
+use Rattle.r4_search.proofs.Places.{or_none, none_of_node}
+
+-- what comes next, if anything does
+abbrev pub GoesOn : Root → (key : ℕ) → PoolState → (before : Option CellSeen) → Option Name → Type 0
+GoesOn root key mid before (Some n) = Follows root key before n × IsKnown mid n.id × (1 ≤ n.level) × InName n key
+GoesOn root key mid before None = (c : CellSeen) × (before ≡ Some c) × EndsAt c key
+
+-- the level of what comes next
+abbrev pub left : Option Name → ℕ
+left (Some n) = n.level
+left None = 0
+
+pub record Reached (root : Root) (key : ℕ) (old mid : PoolState) (cells : List CellSeen) (next : Option Name) : Type 0 where
+  pub goes : Goes old mid
+  pub descends : Descends root key None cells
+  pub are_of : All (IsOf old) cells
+  pub only : KeepsOnly old mid cells
+  pub above : (c : CellSeen) → Contains cells c → left next < c.level
+  pub on : GoesOn root key mid (last_of None cells) next
+
+-- ---- lists of cells
+
+descends_more : (root : Root) (key : ℕ) (before : Option CellSeen) (cells : List CellSeen) (c : CellSeen) (n : Name) → Descends root key before cells → Follows root key (last_of before cells) n → IsNamed n c → Descends root key before (cells ++ c ∷ [])
+descends_more root key before [] c n d f is = ((n, f, is), tt)
+descends_more root key before (x ∷ cells) c n d f is = (d.0, descends_more root key (Some x) cells c n d.1 f is)
+
+last_more : (before : Option CellSeen) (cells : List CellSeen) (c : CellSeen) → last_of before (cells ++ c ∷ []) ≡ Some c
+last_more before [] c = refl
+last_more before (x ∷ cells) c = last_more (Some x) cells c
+
+-- ---- states of the pool
+
+pub goes_same : (p : PoolState) → Goes p p
+goes_same p = record { blocks = refl; faults = omega arith; meant = λ i. refl; kept = λ i c h. h; added = λ i c h none. absurd cc }
+
+module _ (a b c : PoolState) (f : Goes a b) (g : Goes b c) where
+  added_both : (i : ℕ) (k : CellSeen) → c.kept i ≡ Some k → a.kept i ≡ None → (o : Option CellSeen) → b.kept i ≡ o → (k.id ≡ i) × IsRead a.blocks (a.meant i) k
+  added_both i k h none None e =
+      let r = g.added i k h e in
+      (r.0, subst (λ (n : ℕ). IsRead n (a.meant i) k) f.blocks (subst (λ (m : Option (List ℕ)). IsRead b.blocks m k) (f.meant i) r.1))
+  added_both i k h none (Some x) e =
+      let same : x ≡ k = same_Some x k (sym (g.kept i x e) ∙ h) in
+      subst (λ (y : CellSeen). (y.id ≡ i) × IsRead a.blocks (a.meant i) y) same (f.added i x e none)
+
+  pub goes_both : Goes a c
+  goes_both =
+      let x = f.faults in
+      let y = g.faults in
+      record {
+        blocks = g.blocks ∙ f.blocks;
+        faults = omega (arith, x, y);
+        meant = λ i. g.meant i ∙ f.meant i;
+        kept = λ i k h. g.kept i k (f.kept i k h);
+        added = λ i k h none. added_both i k h none (b.kept i) refl;
+      }
+
+of_before : (old mid : PoolState) (c : CellSeen) → Goes old mid → (o m : Option CellSeen) → old.kept c.id ≡ o → mid.kept c.id ≡ m → IsKeptOrRead mid.blocks m (mid.meant c.id) c → IsKeptOrRead old.blocks o (old.meant c.id) c
+of_before old mid c g (Some k) None e d h = absurd (no_cell k (sym (g.kept c.id k e) ∙ d))
+  where
+    no_cell : (k : CellSeen) → Some k ≡ None → ⊥
+    no_cell k h = cc
+of_before old mid c g (Some k) (Some j) e d h = h ∙ same_Some j k (sym d ∙ g.kept c.id k e)
+of_before old mid c g None None e d h = subst (λ (n : ℕ). IsRead n (old.meant c.id) c) g.blocks (subst (λ (m : Option (List ℕ)). IsRead mid.blocks m c) (g.meant c.id) h)
+of_before old mid c g None (Some j) e d h = subst (λ (y : CellSeen). IsRead old.blocks (old.meant c.id) y) (sym h) (g.added c.id j d e).1
+
+is_of_before : (old mid : PoolState) (c : CellSeen) → Goes old mid → IsOf mid c → IsOf old c
+is_of_before old mid c g h = of_before old mid c g (old.kept c.id) (mid.kept c.id) refl refl h
+
+-- ---- the walk
+
+pub begun : (root : Root) (key : ℕ) (p : PoolState) (next : Name) → next ≡ root_name root → IsKnown p root.id.0 → 2 ≤ root.height → least ≤ key → key < top → Reached root key p p [] (Some next)
+begun root key p next is known high from below =
+    let on : GoesOn root key p None (Some (root_name root)) = (refl, known, omega (arith, high), (from, below)) in
+    record {
+      goes = goes_same p;
+      descends = tt;
+      are_of = All-nil (IsOf p);
+      only = λ i k h none. absurd (some_none k (sym h ∙ none));
+      above = λ c h. absurd (nothing c h);
+      on = subst (λ (n : Name). GoesOn root key p None (Some n)) (sym is) on;
+    }
+  where
+    some_none : (k : CellSeen) → Some k ≡ None → ⊥
+    some_none k h = cc
+
+module _ (root : Root) (key : ℕ) (old mid new : PoolState) (cells : List CellSeen) (n : Name) (c : CellSeen) (r : Reached root key old mid cells (Some n)) (goes : Goes mid new)
+    (only : (i : ℕ) (k : CellSeen) → new.kept i ≡ Some k → mid.kept i ≡ None → k ≡ c) (answer : IsAnswer n mid c new) where
+  only_more : (i : ℕ) (k : CellSeen) → new.kept i ≡ Some k → old.kept i ≡ None → (o : Option CellSeen) → mid.kept i ≡ o → Contains (cells ++ c ∷ []) k
+  only_more i k h none None e = subst (λ (x : CellSeen). Contains (cells ++ c ∷ []) x) (sym (only i k h e)) (Contains-push cells c)
+  only_more i k h none (Some x) e =
+      let same : x ≡ k = same_Some x k (sym (goes.kept i x e) ∙ h) in
+      subst (λ (y : CellSeen). Contains (cells ++ c ∷ []) y) same (Contains-append_left cells (c ∷ []) x (r.only i x e none))
+
+  above_more : (next : Option Name) → left next < c.level → (x : CellSeen) → Contains (cells ++ c ∷ []) x → left next < x.level
+  above_more next low x h = elim (Contains-push_cases cells c x h) [
+    | inl at ↦ let above : n.level < x.level = r.above x at in let level = answer.named.level in omega (arith, above, level, low)
+    | inr is ↦ subst (λ (y : CellSeen). left next < y.level) is low
+  ]
+
+  more : (next : Option Name) → left next < c.level → GoesOn root key new (Some c) next → Reached root key old new (cells ++ c ∷ []) next
+  more next low on = record {
+    goes = goes_both old mid new r.goes goes;
+    descends = descends_more root key None cells c n r.descends r.on.0 answer.named;
+    are_of = All-push (IsOf old) cells c r.are_of (is_of_before old mid c r.goes answer.is_of);
+    only = λ i k h none. only_more i k h none (mid.kept i) refl;
+    above = above_more next low;
+    on = subst (λ (b : Option CellSeen). GoesOn root key new b next) (sym (last_more None cells c)) on;
+  }
+
+  pub onward : (d : Option Child) → IfSome d (λ x. LeadsTo c key (child_name x)) → IfSome d (λ x. x.level + 1 ≡ c.level) → IfNone d (EndsAt c key) → Reached root key old new (cells ++ c ∷ []) (option_map child_name d)
+  onward (Some d) leads level ends = more (Some (child_name d)) (omega (arith, level)) (leads, answer.knows (child_name d) leads.named, leads.node, leads.within)
+  onward None leads level ends =
+      let is = answer.named.level in
+      let some = r.on.2 in
+      more None (omega (arith, is, some)) (c, refl, ends)
+
+pub arrived : (root : Root) (key : ℕ) (old mid : PoolState) (cells : List CellSeen) → Reached root key old mid cells None → IsPath root key cells
+arrived root key old mid cells r = record { descends = r.descends; end = r.on.0; is_last = r.on.1; ends = r.on.2 }
+
+-- ---- a refusal
+
+-- a block that is accepted at a level is refused at each other level by that
+other_level : (blocks l m lo hi from to : ℕ) (b : List ℕ) → 1 ≤ m → m < l → cell_fault false blocks l lo hi b ≡ None → cell_fault false blocks m from to b ≡ Some Level
+unfolding cell_fault
+other_level blocks l zero lo hi from to b some lt h = absurd (omega (arith, some))
+other_level blocks zero (suc m) lo hi from to b some lt h = absurd (omega (arith, lt))
+other_level blocks (suc l) (suc m) lo hi from to b some lt h =
+    let node = or_none (option_map Node (node_fault b)) _ h in
+    let accepted = none_of_node (node_fault b) Node node.0 in
+    let level = or_none (if level_of b == suc l then None else Some Level) _ node.1 in
+    let is : level_of b ≡ suc l = eqb-true _ _ (chosen _ Level level.0) in
+    let other : (level_of b == suc m) ≡ false = ne_eqb (level_of b) (suc m) (λ e. absurd (omega (arith, e, is, lt))) in
+    rw (accepted, other) refl
+
+refused_there : (blocks : ℕ) (n : Name) (meant : Option (List ℕ)) (k : CellSeen) → 1 ≤ n.level → n.level < k.level → IsRead blocks meant k → FaultIs blocks n None meant (Some Level)
+refused_there blocks n None k some lt h = tt
+refused_there blocks n (Some b) k some lt h = sym (other_level blocks k.level n.level (rank k.lo) (rank k.hi) n.lo n.hi b some lt h.1)
+
+placed_above : (n : Name) (k : CellSeen) → n.level < k.level → place_fault n k ≡ Some Level
+placed_above n k lt = let other : (k.level == n.level) ≡ false = ne_eqb k.level n.level (λ e. absurd (omega (arith, e, lt))) in rw other refl
+
+module _ (root : Root) (key : ℕ) (old mid : PoolState) (cells : List CellSeen) (n : Name) (r : Reached root key old mid cells (Some n)) where
+  fault_before : (f : Option CellFault) (o m : Option CellSeen) → old.kept n.id ≡ o → mid.kept n.id ≡ m → FaultIs mid.blocks n m (mid.meant n.id) f → FaultIs old.blocks n o (old.meant n.id) f
+  fault_before f (Some k) None e d h = absurd (no_cell k (sym (r.goes.kept n.id k e) ∙ d))
+    where
+      no_cell : (k : CellSeen) → Some k ≡ None → ⊥
+      no_cell k h = cc
+  fault_before f (Some k) (Some j) e d h = h ∙ ap (place_fault n) (same_Some j k (sym d ∙ r.goes.kept n.id k e))
+  fault_before f None None e d h = subst (λ (x : ℕ). FaultIs x n None (old.meant n.id) f) r.goes.blocks (subst (λ (m : Option (List ℕ)). FaultIs mid.blocks n None m f) (r.goes.meant n.id) h)
+  fault_before f None (Some k) e d h =
+      let lt : n.level < k.level = r.above k (r.only n.id k d e) in
+      subst (λ (x : Option CellFault). FaultIs old.blocks n None (old.meant n.id) x) (sym (h ∙ placed_above n k lt))
+      (refused_there old.blocks n (old.meant n.id) k r.on.2 lt (r.goes.added n.id k d e).1)
+
+  none_before : (o : Option CellSeen) → old.kept n.id ≡ o → mid.kept n.id ≡ None → o ≡ None
+  none_before None e d = refl
+  none_before (Some k) e d = sym (r.goes.kept n.id k e) ∙ d
+
+  refused_before : (e : FetchFault) (new : PoolState) → IsRefused n mid e new → IsRefused n old e new
+  refused_before (Read at faults) new h =
+      let before = r.goes.faults in
+      let rose = h.2 in
+      (none_before (old.kept n.id) refl h.0, h.1, omega (arith, before, rose), h.3)
+  refused_before (Damaged at fault) new h = (h.0, fault_before (Some fault) (old.kept n.id) (mid.kept n.id) refl refl h.1)
+  refused_before Memory new h = tt
+
+  module _ (new : PoolState) (none : (i : ℕ) (k : CellSeen) → new.kept i ≡ Some k → mid.kept i ≡ None → ⊥) (goes : Goes mid new) where
+    only_still : (i : ℕ) (k : CellSeen) → new.kept i ≡ Some k → old.kept i ≡ None → (o : Option CellSeen) → mid.kept i ≡ o → Contains cells k
+    only_still i k h was None e = absurd (none i k h e)
+    only_still i k h was (Some x) e =
+        let same : x ≡ k = same_Some x k (sym (goes.kept i x e) ∙ h) in
+        subst (λ (y : CellSeen). Contains cells y) same (r.only i x e was)
+
+    stops_on : (e : FetchFault) → IsRefused n mid e new → StopsOn root key old e new
+    stops_on e h = record {
+      cells = cells;
+      descends = r.descends;
+      are_of = r.are_of;
+      only = λ i k h was. only_still i k h was (mid.kept i) refl;
+      at = n;
+      follows = r.on.0;
+      refused = refused_before e new h;
+    }
+
+    pub stops : (e : FetchFault) → IsRefused n mid e new → Stops root key old e new
+    stops (Read at faults) h = stops_on (Read at faults) h
+    stops (Damaged at fault) h = stops_on (Damaged at fault) h
+    stops Memory h = tt
+
+pub map_push : {A B : Type 0} (f : A → B) (xs ys : List A) (x : A) → ys ≡ xs ++ x ∷ [] → map f ys ≡ map f xs ++ f x ∷ []
+map_push {A} {B} f xs ys x e = ap (λ (l : List A). map f l) e ∙ map-append f xs (x ∷ [])
+
+-- an error that a `?` hands on
+pub handed : {T : Type 0} (P : FetchFault → Type 0) (r : Result T FetchFault) (e : FetchFault) → IsErrAnd r (λ y. y ≡ e) → P e → IfErr r P
+handed {T} P (Ok x) e h p = tt
+handed {T} P (Err y) e h p = subst P (sym h) p

@@ -1,0 +1,101 @@
+-- What a pool of cells tells, and what its calls do to that (docs/volume.md, "The tree"). A key is its rank.
+use Rattle.std.specs.Prelude.{◌≡◌, ◌⊎◌, ℕ, ◌+◌, ◌-◌, ◌^◌, ◌<◌, ◌≤◌, ◌==◌, ◌&&◌, not, if◌then◌else◌, min, List, true, false, Contains, Option, Some, None, IsSome, Result, Ok, Err, IfOk, IfErr}
+use Rattle.r4_base.specs.Key.{rank}
+use Rattle.r4_base.specs.Cell.{cell_fault}
+use Rattle.r4_base.specs.Tree.{Name}
+use Rattle.r4_base.specs.declared.key.Key.{Key}
+use Rattle.r4_base.specs.declared.items.CellFault.{CellFault}
+use Rattle.r4_base.specs.declared.items.CellFault.TheVariants.{Level, Range}
+use Rattle.r4_cell.specs.Seen.{CellSeen, node_of}
+use Rattle.r4_search.specs.declared.pool.FetchFault.{FetchFault}
+use Rattle.r4_search.specs.declared.pool.FetchFault.TheVariants.{Read, Damaged, Memory}
+
+-- What a pool tells of itself.
+pub record PoolState : Type 0 where
+  -- the number of blocks
+  pub blocks : ℕ
+  -- the number of failed calls of its device
+  pub faults : ℕ
+  -- the cells that it keeps, by their names
+  pub kept : ℕ → Option CellSeen
+  -- the block that a name means while it is not kept, where that is told
+  pub meant : ℕ → Option (List ℕ)
+
+-- the name can be asked for
+abbrev pub IsKnown : PoolState → ℕ → Type 0
+IsKnown p i = IsSome (p.kept i) ⊎ (i < p.blocks)
+
+-- one that is asked for, as a cell names it
+abbrev pub called : (id level : ℕ) → Key → Key → Name
+called id level lo hi = record { id = id; level = level; lo = rank lo; hi = rank hi }
+
+-- the cell has this name, level and range
+pub record IsNamed (n : Name) (c : CellSeen) : Type 0 where
+  pub id : c.id ≡ n.id
+  pub level : c.level ≡ n.level
+  pub lo : rank c.lo ≡ n.lo
+  pub hi : rank c.hi ≡ n.hi
+
+-- why a kept cell is not the one that is asked for
+abbrev pub place_fault : Name → CellSeen → Option CellFault
+place_fault n c = if not (c.level == n.level) then Some Level else if rank c.lo == n.lo && rank c.hi == n.hi then None else Some (Range 0)
+
+-- what the fault is by which this one is refused: its kept cell's, else that of the block that it means
+abbrev pub FaultIs : (blocks : ℕ) → Name → (kept : Option CellSeen) → (meant : Option (List ℕ)) → Option CellFault → Type 0
+FaultIs blocks n (Some c) meant f = f ≡ place_fault n c
+FaultIs blocks n None (Some b) f = f ≡ cell_fault false blocks n.level n.lo n.hi b
+FaultIs blocks n None None f = Unit {0}
+
+abbrev pub HasFault : PoolState → Name → Option CellFault → Type 0
+HasFault p n f = FaultIs p.blocks n (p.kept n.id) (p.meant n.id) f
+
+-- the cell is of the block that is meant, which may stand there
+abbrev pub IsRead : (blocks : ℕ) → (meant : Option (List ℕ)) → CellSeen → Type 0
+IsRead blocks None c = Unit {0}
+IsRead blocks (Some b) c = (c.block ≡ b) × (cell_fault false blocks c.level (rank c.lo) (rank c.hi) b ≡ None)
+
+abbrev pub IsKeptOrRead : (blocks : ℕ) → (kept : Option CellSeen) → (meant : Option (List ℕ)) → CellSeen → Type 0
+IsKeptOrRead blocks (Some k) meant c = c ≡ k
+IsKeptOrRead blocks None meant c = IsRead blocks meant c
+
+-- The cell is what the pool has under its name: the one that is kept, else one of the block that the name means.
+abbrev pub IsOf : PoolState → CellSeen → Type 0
+IsOf p c = IsKeptOrRead p.blocks (p.kept c.id) (p.meant c.id) c
+
+-- A count is higher by one or more, or stands at its end.
+abbrev pub Rose : ℕ → ℕ → Type 0
+Rose before now = min (before + 1) (2 ^ 64 - 1) ≤ now
+
+-- What every call keeps: what each name means, and the cells that are kept. What is kept from then on is what its name meant.
+pub record Goes (old new : PoolState) : Type 0 where
+  pub blocks : new.blocks ≡ old.blocks
+  pub faults : old.faults ≤ new.faults
+  pub meant : (i : ℕ) → new.meant i ≡ old.meant i
+  pub kept : (i : ℕ) (c : CellSeen) → old.kept i ≡ Some c → new.kept i ≡ Some c
+  pub added : (i : ℕ) (c : CellSeen) → new.kept i ≡ Some c → old.kept i ≡ None → (c.id ≡ i) × IsRead old.blocks (old.meant i) c
+
+-- The cell that was asked for. What it names can be asked for.
+pub record IsAnswer (n : Name) (old : PoolState) (c : CellSeen) (new : PoolState) : Type 0 where
+  pub named : IsNamed n c
+  pub is_of : IsOf old c
+  -- it may stand there, in memory
+  pub stands : cell_fault true (2 ^ 64) c.level (rank c.lo) (rank c.hi) c.block ≡ None
+  pub knows : (m : Name) → Contains (node_of c).names m → IsKnown new m.id
+
+-- Why it is refused: a device failed, or it has a fault.
+abbrev pub IsRefused : Name → PoolState → FetchFault → PoolState → Type 0
+IsRefused n old (Read at faults) new = (old.kept n.id ≡ None) × (at.0 ≡ n.id) × Rose old.faults new.faults × (faults ≡ new.faults)
+IsRefused n old (Damaged at fault) new = (at.0 ≡ n.id) × HasFault old n (Some fault)
+IsRefused n old Memory new = Unit {0}
+
+-- nothing is kept from then on but the answer
+abbrev pub IsThat : {T : Type 0} → (T → CellSeen) → Result T FetchFault → CellSeen → Type 0
+IsThat seen (Ok x) c = c ≡ seen x
+IsThat seen (Err e) c = ⊥
+
+-- `fetch`
+pub record Fetches {T : Type 0} (seen : T → CellSeen) (n : Name) (old : PoolState) (result : Result T FetchFault) (new : PoolState) : Type 0 where
+  pub goes : Goes old new
+  pub only : (i : ℕ) (c : CellSeen) → new.kept i ≡ Some c → old.kept i ≡ None → IsThat seen result c
+  pub ok : IfOk result (λ x. IsAnswer n old (seen x) new)
+  pub err : IfErr result (λ e. IsRefused n old e new)

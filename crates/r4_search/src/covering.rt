@@ -1,0 +1,76 @@
+//! The path from the root down to the node whose range has a key.
+
+ghost use Rattle.std.specs.Prelude.{◌≡◌, ◌<◌, ◌≤◌, All, map, IfOk, IfErr};
+ghost use Rattle.std.specs.Arc.{arc_value};
+ghost use Rattle.r4_base.specs.Key.{rank, least, top};
+ghost use Rattle.r4_search.specs.Pool.{IsKnown, IsOf, Goes};
+ghost use Rattle.r4_search.specs.Path.{IsPath, KeepsOnly, Stops, root_name};
+ghost use Rattle.r4_search.specs.Place.{child_name};
+
+use crate::inside::{Child, child_of};
+use crate::pool::{FetchFault, Pool};
+use r4_base::Key;
+use r4_cell::{Cell, Root};
+use std::alloc::Global;
+use std::sync::Arc;
+
+/// The cells from the root down to the node whose range has the key: a leaf, or the twig where the key lies in the range
+/// of an extent (docs/volume.md, "The tree"). Each is the one that the pool keeps, or of the block that its name means, and
+/// what the pool keeps from then on is among them. `Read` and `Damaged` name the block that such cells lead to and that is
+/// refused; `Read` comes only where the count of faults rose.
+pub fn cover<P: Pool>(
+    alloc: Global,
+    pool: &mut P,
+    root: &Root,
+    key: &Key,
+) -> Result<Vec<Arc<Cell>>, FetchFault>
+    requires low { 2 ≤ root.now.height }
+    requires high { root.now.height ≤ 8 }
+    requires known { IsKnown (P.state pool.old) root.now.id.0 }
+    requires from { least ≤ rank key.now }
+    requires below { rank key.now < top }
+    ensures goes { Goes (P.state pool.old) (P.state pool.new) }
+    ensures path { IfOk result (λ path. IsPath root.now (rank key.now) (map (λ cell. arc_value cell) path.items)) }
+    ensures are_of { IfOk result (λ path. All (IsOf (P.state pool.old)) (map (λ cell. arc_value cell) path.items)) }
+    ensures only { IfOk result (λ path. KeepsOnly (P.state pool.old) (P.state pool.new) (map (λ cell. arc_value cell) path.items)) }
+    ensures err { IfErr result (λ e. Stops root.now (rank key.now) (P.state pool.old) e (P.state pool.new)) }
+{
+    let mut path = Vec::new(alloc);
+    let mut next = Some(root_of(root));
+    while let Some(child) = next {
+        let cell = pool.fetch(alloc, child.id, child.level, child.lo, child.hi)?;
+        next = child_of(&cell, key);
+        path.push(cell)?;
+    }
+    Ok(path)
+}
+
+// The root as it is asked for.
+fn root_of(root: &Root) -> Child
+    ensures { child_name result ≡ root_name root.now }
+{
+    Child {
+        id: root.id,
+        level: root.height,
+        lo: least(),
+        hi: top(),
+    }
+}
+
+// The least key of all.
+#[tactic(auto, unfolding(r4_base::specs::Key::rank, r4_base::specs::Key::least))]
+fn least() -> Key
+    ensures { rank result ≡ least }
+{
+    Key {
+        el: [657, 0, 42, 0],
+    }
+}
+
+// The key of four greatest numbers, which no item has.
+#[tactic(auto, unfolding(r4_base::specs::Key::rank, r4_base::specs::Key::top))]
+fn top() -> Key
+    ensures { rank result ≡ top }
+{
+    Key { el: [u64::MAX; 4] }
+}

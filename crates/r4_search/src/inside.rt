@@ -1,0 +1,111 @@
+//! The way on inside a node.
+
+ghost use Rattle.std.specs.Prelude.{◌≡◌, ◌+◌, ◌^◌, ◌<◌, ◌≤◌, true, length, drop, nat_lt, None, IfSome, IfNone};
+ghost use Rattle.r4_base.specs.Cell.{cell_fault, next_key};
+ghost use Rattle.r4_base.specs.Key.{rank};
+ghost use Rattle.r4_base.specs.Node.{items_of};
+ghost use Rattle.r4_node40.specs.View.{item_shown, view_items};
+ghost use Rattle.r4_search.specs.Path.{LeadsTo, EndsAt};
+ghost use Rattle.r4_search.specs.Place.{IsPlace, child_name};
+
+use r4_base::{BlockNo, Key, NodeId};
+use r4_cell::Cell;
+use r4_node40::NodeView;
+use r4_twig::pointer;
+
+/// The plugin of a pointer.
+const POINTER: u16 = 3;
+
+/// A node as a pointer names it (docs/volume.md, "The tree").
+#[derive(Clone, Copy, Debug)]
+pub struct Child {
+    pub id: NodeId,
+    pub level: u8,
+    pub lo: Key,
+    pub hi: Key,
+}
+
+/// The node below a cell whose range has the key; none where the way ends, at a leaf and at an extent
+/// (docs/volume.md, "The tree").
+pub fn child_of(cell: &Cell, key: &Key) -> Option<Child>
+    requires node { 1 ≤ cell.now.level }
+    requires stands { cell_fault true (2 ^ 64) cell.now.level (rank cell.now.lo) (rank cell.now.hi) cell.now.block ≡ None }
+    requires from { rank cell.now.lo ≤ rank key.now }
+    requires below { rank key.now < rank cell.now.hi }
+    ensures child { IfSome result (λ child. LeadsTo cell.now (rank key.now) (child_name child)) }
+    ensures level { IfSome result (λ child. child.level + 1 ≡ cell.now.level) }
+    ensures end { IfNone result (EndsAt cell.now (rank key.now)) }
+{
+    if cell.level() == 1 {
+        return None;
+    }
+    match NodeView::read(cell.block().bytes()) {
+        Ok(node) => child_in(&node, cell, key),
+        Err(_) => None,
+    }
+}
+
+// The same in the node that a cell above the leaves is.
+fn child_in(node: &NodeView<'_>, cell: &Cell, key: &Key) -> Option<Child>
+    requires whole { length cell.now.block ≡ 4096 }
+    requires items { view_items node.now ≡ items_of cell.now.block }
+    requires branch { 2 ≤ cell.now.level }
+    requires stands { cell_fault true (2 ^ 64) cell.now.level (rank cell.now.lo) (rank cell.now.hi) cell.now.block ≡ None }
+    requires from { rank cell.now.lo ≤ rank key.now }
+    requires below { rank key.now < rank cell.now.hi }
+    ensures child { IfSome result (λ child. LeadsTo cell.now (rank key.now) (child_name child)) }
+    ensures level { IfSome result (λ child. child.level + 1 ≡ cell.now.level) }
+    ensures end { IfNone result (EndsAt cell.now (rank key.now)) }
+{
+    let i = place_of(node, cell.hi(), key);
+    let item = node.item(i);
+    if item.plugin != POINTER {
+        return None;
+    }
+    match pointer(item.body) {
+        Some(BlockNo(to)) => Some(Child {
+            id: NodeId(to),
+            level: cell.level() - 1,
+            lo: item.key,
+            hi: key_behind(node, i, cell.hi()),
+        }),
+        None => None,
+    }
+}
+
+// The last item whose key is not above the key.
+fn place_of(node: &NodeView<'_>, hi: Key, key: &Key) -> u16
+    requires first { next_key (rank hi) (view_items node.now) ≤ rank key.now }
+    requires below { rank key.now < rank hi }
+    ensures { IsPlace (rank hi) (view_items node.now) (rank key.now) result }
+{
+    let mut low = 0;
+    let mut high = node.len();
+    while high - low > 1 {
+        let middle = low + (high - low) / 2;
+        if is_below(*key, node.item(middle).key) {
+            high = middle;
+        } else {
+            low = middle;
+        }
+    }
+    low
+}
+
+// The key of the item behind item `i`, or the end of the keys.
+fn key_behind(node: &NodeView<'_>, i: u16, hi: Key) -> Key
+    requires { i < length (view_items node.now) }
+    ensures { rank result ≡ next_key (rank hi) (drop (i + 1) (view_items node.now)) }
+{
+    if node.len() - i > 1 {
+        return node.item(i + 1).key;
+    }
+    hi
+}
+
+// Whether a key is below another.
+fn is_below(left: Key, right: Key) -> bool
+    ensures { result ≡ nat_lt (rank left) (rank right) }
+{
+    left.cmp(&right).is_lt()
+}
