@@ -2,7 +2,9 @@
 #![tactic(auto)]
 
 mod bytes;
+mod command;
 mod path;
 
 pub use bytes::Bytes;
+pub use command::Command;
 pub use path::{Name, Path};
