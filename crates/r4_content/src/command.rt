@@ -23,13 +23,14 @@ pub enum Command {
         path: Path,
         oid: Oid,
     },
-    /// The bytes of `text` are put into the file from `offset` on.
+    /// The bytes of `text` are put into the file from `offset` on; a gap before them is filled with zeros. No bytes change
+    /// nothing.
     Write {
         path: Path,
         offset: u64,
         text: Bytes,
     },
-    /// `len` bytes of the file, from `offset` on, become `byte`.
+    /// `len` bytes of the file, from `offset` on, become `byte`, as if they were written.
     Fill {
         path: Path,
         offset: u64,
