@@ -1,7 +1,7 @@
 //! Commands: what a script asks of a volume.
 
 ghost use Rattle.std.specs.Prelude.{◌≡◌, IfOk};
-ghost use Rattle.r4_content.specs.Groups.{IsOfFiles, IsOfEntries};
+ghost use Rattle.r4_content.specs.Groups.{IsOfBytes, IsOfAttributes, IsOfEntries};
 
 use crate::bytes::Bytes;
 use crate::path::Path;
@@ -106,58 +106,26 @@ impl Command {
         ensures { IfOk result (λ c. c ≡ self.now) }
     {
         match *self {
-            Command::Stat { ref path } => {
-                let path = path.copy(alloc)?;
-                Ok(Command::Stat { path })
-            }
-            Command::Chmod { ref path, mode } => {
-                let path = path.copy(alloc)?;
-                Ok(Command::Chmod { path, mode })
-            }
-            Command::Chown { ref path, uid, gid } => {
-                let path = path.copy(alloc)?;
-                Ok(Command::Chown { path, uid, gid })
-            }
-            Command::Times {
-                ref path,
-                atime,
-                mtime,
-                ctime,
-            } => {
-                let path = path.copy(alloc)?;
-                Ok(Command::Times {
-                    path,
-                    atime,
-                    mtime,
-                    ctime,
-                })
-            }
             Command::Begin => Ok(Command::Begin),
             Command::End => Ok(Command::End),
             Command::Commit => Ok(Command::Commit),
-            Command::Names { .. }
-            | Command::Link { .. }
-            | Command::Unlink { .. }
-            | Command::Rmdir { .. }
-            | Command::Rename { .. } => self.copy_of_entries(alloc),
-            _ => self.copy_of_files(alloc),
+            Command::Write { .. } | Command::Fill { .. } | Command::Read { .. } =>
+                self.copy_of_bytes(alloc),
+            Command::Stat { .. }
+            | Command::Truncate { .. }
+            | Command::Chmod { .. }
+            | Command::Chown { .. }
+            | Command::Times { .. } => self.copy_of_attributes(alloc),
+            _ => self.copy_of_entries(alloc),
         }
     }
 
-    /// A copy of a command that makes an object, or that has to do with the bytes of a file.
-    fn copy_of_files(&self, alloc: Global) -> Result<Command, Memory>
-        requires { IsOfFiles self.now }
+    /// A copy of a command that reads or sets bytes of a file.
+    fn copy_of_bytes(&self, alloc: Global) -> Result<Command, Memory>
+        requires { IsOfBytes self.now }
         ensures { IfOk result (λ c. c ≡ self.now) }
     {
         match *self {
-            Command::Create { ref path, oid } => {
-                let path = path.copy(alloc)?;
-                Ok(Command::Create { path, oid })
-            }
-            Command::Mkdir { ref path, oid } => {
-                let path = path.copy(alloc)?;
-                Ok(Command::Mkdir { path, oid })
-            }
             Command::Write {
                 ref path,
                 offset,
@@ -181,10 +149,6 @@ impl Command {
                     byte,
                 })
             }
-            Command::Truncate { ref path, size } => {
-                let path = path.copy(alloc)?;
-                Ok(Command::Truncate { path, size })
-            }
             Command::Read {
                 ref path,
                 offset,
@@ -197,12 +161,60 @@ impl Command {
         }
     }
 
-    /// A copy of a command that has to do with entries.
+    /// A copy of a command that reads or sets attributes, of which a file's size is one.
+    fn copy_of_attributes(&self, alloc: Global) -> Result<Command, Memory>
+        requires { IsOfAttributes self.now }
+        ensures { IfOk result (λ c. c ≡ self.now) }
+    {
+        match *self {
+            Command::Stat { ref path } => {
+                let path = path.copy(alloc)?;
+                Ok(Command::Stat { path })
+            }
+            Command::Truncate { ref path, size } => {
+                let path = path.copy(alloc)?;
+                Ok(Command::Truncate { path, size })
+            }
+            Command::Chmod { ref path, mode } => {
+                let path = path.copy(alloc)?;
+                Ok(Command::Chmod { path, mode })
+            }
+            Command::Chown { ref path, uid, gid } => {
+                let path = path.copy(alloc)?;
+                Ok(Command::Chown { path, uid, gid })
+            }
+            Command::Times {
+                ref path,
+                atime,
+                mtime,
+                ctime,
+            } => {
+                let path = path.copy(alloc)?;
+                Ok(Command::Times {
+                    path,
+                    atime,
+                    mtime,
+                    ctime,
+                })
+            }
+            _ => unreachable!(),
+        }
+    }
+
+    /// A copy of a command that reads, makes, moves or removes entries.
     fn copy_of_entries(&self, alloc: Global) -> Result<Command, Memory>
         requires { IsOfEntries self.now }
         ensures { IfOk result (λ c. c ≡ self.now) }
     {
         match *self {
+            Command::Create { ref path, oid } => {
+                let path = path.copy(alloc)?;
+                Ok(Command::Create { path, oid })
+            }
+            Command::Mkdir { ref path, oid } => {
+                let path = path.copy(alloc)?;
+                Ok(Command::Mkdir { path, oid })
+            }
             Command::Names { ref path } => {
                 let path = path.copy(alloc)?;
                 Ok(Command::Names { path })
