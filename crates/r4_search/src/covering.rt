@@ -24,8 +24,7 @@ pub fn cover<P: Pool>(
     root: &Root,
     key: &Key,
 ) -> Result<Vec<Arc<Cell>>, FetchFault>
-    requires low { 2 ≤ root.now.height }
-    requires high { root.now.height ≤ 8 }
+    requires some { 1 ≤ root.now.height }
     requires known { IsKnown (P.state pool.old) root.now.id.0 }
     requires from { least ≤ rank key.now }
     requires below { rank key.now < top }
