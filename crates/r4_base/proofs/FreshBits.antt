@@ -1,13 +1,13 @@
 -- The bitmaps of a fresh volume: what is free, and that nothing is wrong with them.
-use Rattle.std.proofs.Common.{◌≡◌, ℕ, zero, suc, ◌+◌, ◌-◌, ◌*◌, ◌/◌, ◌%◌, ◌<◌, ◌≤◌, ◌⊎◌, min, max, Bool, true, false, not, ◌||◌, cond, List, ◌∷◌, refl, sym, ap, ◌∙◌, arith, inl, inr}
-use Rattle.std.specs.Prelude.{◌==◌, ◌&&◌, nat_lt, nat_le, count_by, None}
+use Rattle.std.proofs.Common.{◌≡◌, ℕ, zero, suc, ◌+◌, ◌-◌, ◌*◌, ◌/◌, ◌%◌, ◌<◌, ◌≤◌, ◌⊎◌, min, max, Bool, true, false, not, cond, List, ◌∷◌, refl, ap, ◌∙◌, arith, inl, inr}
+use Rattle.std.specs.Prelude.{count_by, None}
 use Rattle.std.proofs.lemmas.Bool.{cases_lt, cases_eq}
 use Rattle.std.proofs.lemmas.List.Sums.{sum_by-cons}
 use Rattle.std.proofs.lemmas.Bool.Decides.{nat_tests}
 use Rattle.r4_base.specs.Image.{Image, block_at}
-use Rattle.r4_base.specs.Bitmap.{is_used, is_fixed, is_always_used, is_marked, bits_from, bits_of, bitmap_bits, bitmap_block, bitmap_count, bitmap_fault, free_below, free_in}
+use Rattle.r4_base.specs.Bitmap.{is_used, is_fixed, is_always_used, is_marked, bits_from, bits_of, bitmap_block, bitmap_count, bitmap_fault, free_below}
 use Rattle.r4_base.specs.Fresh.{is_taken, fresh_free}
-use Rattle.r4_base.proofs.Bitmaps.{IsMarkedWhole, without_fault, free_below-suc, free_below-zero}
+use Rattle.r4_base.proofs.Bitmaps.{without_fault, free_below-suc, free_below-zero}
 
 -- a bit that is 0 from a to below e alone
 pub record IsFreeIn (block : List ℕ) (a e : ℕ) : Type 0 where

@@ -1,5 +1,5 @@
 -- The tree of a fresh volume: its two cells, and the one unit.
-use Rattle.std.specs.Prelude.{◌≡◌, ◌≢◌, ◌⊎◌, ◌↔◌, ℕ, zero, suc, ◌+◌, ◌<◌, ◌≤◌, List, [], ◌∷◌, length, replicate, cond, Contains, Option, Some, None, Ok, Bool, true, false, count_by, nat_lt, ◌==◌, if◌then◌else◌}
+use Rattle.std.specs.Prelude.{◌≡◌, ◌⊎◌, ℕ, zero, suc, ◌<◌, ◌≤◌, List, [], ◌∷◌, cond, Contains, Some, None, Ok, true, false, nat_lt, ◌==◌, if◌then◌else◌}
 use mathlib.Core.Path.{refl, sym, ap, subst, ◌∙◌}
 use mathlib.Core.Logic.{inl, inr}
 use native.Mathlib.Omega.{arith}
@@ -14,12 +14,11 @@ use Rattle.std.proofs.lemmas.Cmp.{nat_cmp_total}
 use Rattle.std.proofs.lemmas.Grind.{common_steps}
 use Rattle.r4_base.specs.Bytes.{FieldsFit, number_at, number_bytes}
 use Rattle.r4_base.specs.Key.{rank, least, top}
-use Rattle.r4_base.specs.Node.{Item, items_of, level_of, node_fault}
 use Rattle.r4_base.specs.Stat.{stat_body, stat_fields, stat_of, attr_of}
 use Rattle.r4_base.specs.Extents.{pointer_of}
 use Rattle.r4_base.specs.Value.{Value, Stat, at_key}
 use Rattle.r4_base.specs.Tree.{Name, Span, Node as Cell, Store, Root, Fits, IsNode, IsTree}
-use Rattle.r4_base.specs.Cell.{IsCellOf, cell_fault, cell_of, items_in_fault, item_body_fault, item_end, item_names, item_units, names_in, spans_in, units_in}
+use Rattle.r4_base.specs.Cell.{cell_fault, cell_of, items_in_fault, item_body_fault, item_end, item_names, item_units, names_in, spans_in, units_in}
 use Rattle.r4_base.specs.Volume.{HasUnits, empty_volume, root_attr}
 use Rattle.r4_base.specs.Fresh.{HasOneItem, root_key}
 use Rattle.r4_base.proofs.Stats.{stat_again, attr_again}

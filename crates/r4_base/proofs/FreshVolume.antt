@@ -1,27 +1,22 @@
 -- A fresh image has the empty volume, and no lost block.
-use Rattle.std.proofs.Common.{◌≡◌, ◌≢◌, ◌⊎◌, ◌↔◌, inl, inr, ⊎_elim, ℕ, zero, ◌+◌, ◌*◌, ◌^◌, ◌<◌, ◌≤◌, Bool, true, false, List, [], ◌∷◌, length, replicate, refl, sym, ap, subst, ◌∙◌, arith}
-use Rattle.std.specs.Prelude.{Option, Some, None, Ok, Contains, All}
+use Rattle.std.proofs.Common.{◌≡◌, inl, inr, ⊎_elim, ℕ, ◌+◌, ◌*◌, ◌^◌, ◌<◌, ◌≤◌, true, false, List, [], ◌∷◌, length, replicate, refl, sym, ap, subst, ◌∙◌, arith}
+use Rattle.std.specs.Prelude.{Some, None}
 use Rattle.std.proofs.Math.Dec.{lit<, lit≤}
-use Rattle.std.proofs.lemmas.Option.{same_Some}
 use Rattle.std.specs.FinMap.{empty, entries, entries-insert, len-entries, len-empty}
 use Rattle.std.specs.Ordering.{nat_cmp}
 use Rattle.std.proofs.lemmas.Cmp.{nat_cmp_total}
-use Rattle.r4_base.specs.Bytes.{FieldsFit, number_at}
-use Rattle.r4_base.specs.Image.{Image, block_at, put_pairs}
+use Rattle.r4_base.specs.Image.{Image, block_at}
 use Rattle.r4_base.specs.Log.{header_of, footer_of}
-use Rattle.r4_base.specs.Chain.{HasLog, committed, flushed, chain_pairs}
+use Rattle.r4_base.specs.Chain.{HasLog}
 use Rattle.r4_base.specs.Layout.{IsLawfulSuper, fields_before_magic, fields_behind_magic}
-use Rattle.r4_base.specs.Bitmap.{is_fixed, is_marked}
 use Rattle.r4_base.specs.Key.{rank, key_of_rank, least}
-use Rattle.r4_base.specs.Value.{Value, Stat, Entry, Byte, Content, at_key}
+use Rattle.r4_base.specs.Value.{Value, Stat, Entry, Byte, at_key}
 use Rattle.r4_base.specs.Tree.{Node as Cell}
 use Rattle.r4_base.specs.Cell.{IsCellOf}
 use Rattle.r4_base.specs.Volume.{HasContent, HasFiles, HasIds, HasLayout, HasObjects, HasStat, HasVolume, IsLost, IsObject, IsPadding, IsPlace, IsVisible, KeyFits, empty_volume, entries_in, directories_in, links_to, objects_in, root_attr, root_object, root_of, stat_rank}
-use Rattle.r4_base.specs.Fresh.{IsFreshBut16, IsFreshImage, fresh_free, fresh_super, is_taken}
+use Rattle.r4_base.specs.Fresh.{IsFreshImage, fresh_super}
 use Rattle.r4_base.specs.declared.items.Attr.{Attr}
 use Rattle.r4_base.specs.declared.items.Target.{Target}
-use Rattle.r4_base.specs.declared.things.Oid.{Oid}
-use Rattle.r4_base.specs.declared.superblock.Super40.{Super40}
 use Rattle.r4_base.proofs.Members.{no_member}
 use Rattle.r4_base.proofs.Superblocks.{FitsSuper, master_again, super_again}
 use Rattle.r4_base.proofs.FreshBits.{fresh_fault, fresh_marks, taken_cases, taken_low}

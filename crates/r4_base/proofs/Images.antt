@@ -5,12 +5,11 @@ use mathlib.Core.Logic.{inl, inr}
 use native.Mathlib.Omega.{arith}
 use Rattle.r4_base.specs.Image.{Image, block_at, put_pairs}
 use Rattle.r4_base.specs.Chain.{Txn, chain_pairs}
-use Rattle.r4_base.specs.Layout.{super_of}
 use Rattle.r4_base.specs.Key.{key_of_rank}
 use Rattle.r4_base.specs.Value.{Value, Content, at_key}
 use Rattle.r4_base.specs.Tree.{Name, Node, Store, Root, Fits, IsTree, UnitAt}
 use Rattle.r4_base.specs.Cell.{IsCellOf, cell_of}
-use Rattle.r4_base.specs.Volume.{HasContent, HasVolume, HasUnits, IsPadding, root_of}
+use Rattle.r4_base.specs.Volume.{HasContent, HasVolume, IsPadding, root_of}
 use Rattle.r4_base.specs.declared.superblock.Super40.{Super40}
 use Rattle.r4_base.specs.declared.superblock.LayoutFault.{LayoutFault}
 use Rattle.r4_base.proofs.Logs.{one_log}

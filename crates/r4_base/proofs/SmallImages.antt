@@ -1,10 +1,10 @@
 -- What holds of a content whose root has one pointer.
-use Rattle.std.specs.Prelude.{◌≡◌, ◌≢◌, ◌⊎◌, ℕ, zero, suc, ◌+◌, ◌^◌, ◌<◌, ◌≤◌, List, [], ◌∷◌, ◌++◌, length, Contains, Option, Some, None, Ok, Bool, true, false, not, ◌&&◌, ◌||◌, nat_lt, nat_le, ◌==◌, if◌then◌else◌, cond, count_by}
+use Rattle.std.specs.Prelude.{◌≡◌, ◌≢◌, ℕ, zero, ◌^◌, ◌<◌, ◌≤◌, List, [], ◌∷◌, Contains, Option, Some, None, Bool, true, false, not, ◌&&◌, nat_lt, nat_le, ◌==◌, if◌then◌else◌, cond}
 use mathlib.Core.Path.{refl, sym, ap, subst, ◌∙◌}
 use mathlib.Core.Logic.{inl, inr}
 use native.Mathlib.Omega.{arith}
 use Rattle.std.proofs.Math.Nat.{le_refl}
-use Rattle.std.proofs.lemmas.Bool.{cases_lt, eqb-true, ltb-true, lt-ltb, le-leb}
+use Rattle.std.proofs.lemmas.Bool.{cases_lt, eqb-true, ltb-true, le-leb}
 use Rattle.std.proofs.lemmas.Bool.Decides.{nat_tests}
 use Rattle.std.proofs.lemmas.List.{append-nil}
 use Rattle.std.specs.Option.{option_map, option_or}
@@ -18,15 +18,15 @@ use Rattle.r4_base.specs.Bytes.{FieldsFit, number_at, number_bytes}
 use Rattle.r4_base.specs.Image.{Image, block_at}
 use Rattle.r4_base.specs.Bitmap.{is_fixed, is_marked}
 use Rattle.r4_base.specs.Key.{rank, least, top}
-use Rattle.r4_base.specs.Node.{Item, items_of, level_of, node_fault}
-use Rattle.r4_base.specs.Stat.{attr_of, stat_body, stat_fields}
+use Rattle.r4_base.specs.Node.{Item, level_of, node_fault}
+use Rattle.r4_base.specs.Stat.{stat_body, stat_fields}
 use Rattle.r4_base.specs.Extents.{pointer_of}
 use Rattle.r4_base.specs.Value.{Value, Stat, Content, at_key}
-use Rattle.r4_base.specs.Tree.{Name, Span, Node as Cell, Store, Root, Fits, IsTree, InNode, IsData, UnitAt}
-use Rattle.r4_base.specs.Cell.{IsCellOf, cell_fault, cell_of, items_in_fault, item_body_fault, item_end, item_names, item_units, names_in, spans_in, units_in, names_block, range_is_good, next_key}
-use Rattle.r4_base.specs.Volume.{HasContent, HasStat, entries_in, directories_in, objects_in, is_directory, root_object}
+use Rattle.r4_base.specs.Tree.{Name, Node as Cell, Fits, UnitAt}
+use Rattle.r4_base.specs.Cell.{cell_fault, cell_of, items_in_fault, item_body_fault, item_names, item_units, names_in, units_in, names_block, range_is_good}
+use Rattle.r4_base.specs.Volume.{HasContent, HasStat, is_directory, root_object}
 use Rattle.r4_base.specs.Fresh.{HasOneItem, root_key}
-use Rattle.r4_base.specs.Small.{HasOnePointer, HasOneObject}
+use Rattle.r4_base.specs.Small.{HasOnePointer}
 use Rattle.r4_base.specs.declared.items.Attr.{Attr}
 use Rattle.r4_base.specs.declared.items.CellFault.{CellFault}
 use Rattle.r4_base.specs.declared.items.CellFault.TheVariants.{Node, Pointer, Level, Range}

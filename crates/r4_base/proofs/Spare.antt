@@ -1,13 +1,12 @@
 -- A block that neither the tree nor the log needs may hold anything.
-use Rattle.std.proofs.Common.{◌≡◌, ℕ, zero, suc, ◌+◌, ◌*◌, ◌/◌, ◌%◌, ◌<◌, ◌≤◌, Bool, true, false, not, cond, List, length, refl, sym, ap, subst, ◌∙◌, arith, inl, inr}
-use Rattle.std.specs.Prelude.{Option, Some, None, Contains, Ok}
-use Rattle.std.specs.Option.{option_or}
-use Rattle.std.proofs.lemmas.List.Elements.{Contains-append_left, Contains-append_right}
+use Rattle.std.proofs.Common.{◌≡◌, ℕ, zero, suc, ◌+◌, ◌/◌, ◌%◌, ◌<◌, ◌≤◌, List, length, refl, sym, ap, subst, ◌∙◌, arith, inl, inr}
+use Rattle.std.specs.Prelude.{Some}
+use Rattle.std.proofs.lemmas.List.Elements.{Contains-append_right}
 use Rattle.r4_base.specs.Image.{Image, IsImage, block_at, put_pairs}
 use Rattle.r4_base.specs.Log.{header_of, footer_of}
-use Rattle.r4_base.specs.Chain.{HasLog, chain_pairs, wandered, log_blocks, kept_blocks, home}
+use Rattle.r4_base.specs.Chain.{HasLog, chain_pairs, wandered, log_blocks, home}
 use Rattle.r4_base.specs.Layout.{master_of, super_of}
-use Rattle.r4_base.specs.Bitmap.{bits_of, is_used, is_marked, bitmap_bits, bitmap_block, bitmap_count, bitmap_fault, first_unheld, are_held, free_below, free_in}
+use Rattle.r4_base.specs.Bitmap.{bits_of, is_used, is_marked, bitmap_bits, bitmap_block, bitmap_count, bitmap_fault, first_unheld, free_below}
 use Rattle.r4_base.specs.Value.{Value, Content}
 use Rattle.r4_base.specs.Tree.{Node}
 use Rattle.r4_base.specs.Cell.{IsCellOf}

@@ -1,15 +1,14 @@
 -- What stands in a content: units in range, and of a file just the bytes below its size.
-use Rattle.std.proofs.Common.{◌≡◌, ℕ, ◌+◌, ◌*◌, ◌/◌, ◌%◌, ◌^◌, ◌<◌, ◌≤◌, Bool, true, false, List, [], ◌∷◌, refl, sym, ap, subst, ◌∙◌, arith, inl, inr, ⊎_elim}
-use Rattle.std.specs.Prelude.{◌⊎◌, Option, Some, None, Contains}
+use Rattle.std.proofs.Common.{◌≡◌, ℕ, ◌+◌, ◌*◌, ◌/◌, ◌%◌, ◌^◌, ◌<◌, ◌≤◌, false, [], ◌∷◌, refl, sym, ap, subst, ◌∙◌, arith, inl, inr, ⊎_elim}
+use Rattle.std.specs.Prelude.{Some, Contains}
 use Rattle.std.proofs.lemmas.Bool.{cases_lt}
 use Rattle.std.proofs.lemmas.Option.{same_Some}
 use Rattle.r4_base.specs.Image.{Image}
-use Rattle.r4_base.specs.Key.{rank, key_of_rank, minor_of, offset_of, body_key, least, top}
+use Rattle.r4_base.specs.Key.{rank, key_of_rank, body_key, least, top}
 use Rattle.r4_base.specs.Value.{Value, Stat, Entry, Byte, Content, at_key}
 use Rattle.r4_base.specs.Tree.{Node, InNode, UnitAt}
-use Rattle.r4_base.specs.Volume.{HasContent, HasStat, IsObject, HasTails, HasExtents, InTail, InExtent, KeyFits, IsPadding, object_of, byte_rank, stat_rank, is_directory, blocks_for}
+use Rattle.r4_base.specs.Volume.{HasContent, HasStat, IsObject, KeyFits, IsPadding, object_of, byte_rank, stat_rank, is_directory}
 use Rattle.r4_base.specs.declared.key.Key.{Key}
-use Rattle.r4_base.specs.declared.things.Oid.{Oid}
 use Rattle.r4_base.specs.declared.items.Attr.{Attr}
 use Rattle.r4_base.specs.declared.items.Target.{Target}
 

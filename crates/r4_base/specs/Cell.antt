@@ -1,9 +1,9 @@
 -- What a block says as a cell, and why it may not stand as one (docs/volume.md, "Cells").
-use Rattle.std.specs.Prelude.{◌≡◌, ℕ, zero, suc, ◌+◌, ◌-◌, ◌*◌, ◌^◌, List, [], ◌∷◌, ◌++◌, length, map, slice_index, Bool, true, false, not, ◌&&◌, ◌||◌, Option, Some, None, Result, Ok, Err, nat_lt, nat_le, ◌==◌, if◌then◌else◌}
+use Rattle.std.specs.Prelude.{◌≡◌, ℕ, zero, suc, ◌+◌, ◌-◌, ◌*◌, ◌^◌, List, [], ◌∷◌, ◌++◌, length, map, Bool, false, not, ◌&&◌, ◌||◌, Option, Some, None, Result, Ok, Err, nat_lt, nat_le, ◌==◌, if◌then◌else◌}
 use Rattle.std.specs.Option.{option_map, option_or}
 use Rattle.r4_base.specs.Bitmap.{is_fixed}
 use Rattle.r4_base.specs.Key.{rank, offset_of}
-use Rattle.r4_base.specs.Node.{Item, count_of, item_at, items_of, level_of, node_fault, key_at}
+use Rattle.r4_base.specs.Node.{Item, items_of, level_of, node_fault}
 use Rattle.r4_base.specs.Stat.{attr_of, stat_of}
 use Rattle.r4_base.specs.Dir.{Entry as DirEntry, dir_fault, entries_of, entry_count, entry_key_at}
 use Rattle.r4_base.specs.Extents.{blocks_in, body_fault, is_hole, pointer_of, units_of}

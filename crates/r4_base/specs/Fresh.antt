@@ -1,15 +1,14 @@
 -- A fresh volume: the root directory alone (docs/volume.md, "A fresh volume").
-use Rattle.std.specs.Prelude.{◌≡◌, ℕ, ◌+◌, ◌-◌, ◌*◌, ◌<◌, ◌≤◌, List, [], ◌∷◌, replicate, take, Bool, ◌||◌, ◌==◌, None}
+use Rattle.std.specs.Prelude.{◌≡◌, ℕ, ◌+◌, ◌-◌, ◌*◌, ◌<◌, List, [], ◌∷◌, replicate, take, Bool, ◌||◌, ◌==◌, None}
 use Rattle.r4_base.specs.Bytes.{number_bytes}
 use Rattle.r4_base.specs.Image.{Image, IsImage, block_at}
 use Rattle.r4_base.specs.Layout.{master_block, super_block}
 use Rattle.r4_base.specs.Bitmap.{is_used, is_always_used, bitmap_count, bitmap_block}
 use Rattle.r4_base.specs.Key.{stat_key}
-use Rattle.r4_base.specs.Node.{Item, items_of, level_of, node_fault}
+use Rattle.r4_base.specs.Node.{items_of, level_of, node_fault}
 use Rattle.r4_base.specs.Stat.{stat_body}
-use Rattle.r4_base.specs.Volume.{HasContent, IsLost, empty_volume, root_attr, root_object}
+use Rattle.r4_base.specs.Volume.{root_attr, root_object}
 use Rattle.r4_base.specs.declared.key.Key.{Key}
-use Rattle.r4_base.specs.declared.superblock.Master.{Master}
 use Rattle.r4_base.specs.declared.superblock.Super40.{Super40}
 
 -- the root's node, a twig, stands in block 22, and its one leaf in block 23

@@ -1,5 +1,5 @@
 -- What an image means: the content of an image, its volume, its lost blocks, and the blocks that it needs (docs/volume.md).
-use Rattle.std.specs.Prelude.{◌≡◌, ◌⊎◌, ◌↔◌, ℕ, zero, suc, ◌+◌, ◌*◌, ◌/◌, ◌%◌, ◌^◌, ◌<◌, ◌≤◌, List, [], ◌∷◌, Contains, Bool, true, false, ◌&&◌, ◌==◌, ◌≢◌, slice_index, Option, Some, None, Ok, count_by}
+use Rattle.std.specs.Prelude.{◌≡◌, ◌⊎◌, ◌↔◌, ℕ, zero, suc, ◌+◌, ◌*◌, ◌/◌, ◌^◌, ◌<◌, ◌≤◌, List, Contains, Bool, true, false, ◌&&◌, ◌==◌, ◌≢◌, slice_index, Option, Some, None, Ok, count_by}
 use Rattle.std.specs.FinMap.{empty, insert, entries}
 use Rattle.r4_base.specs.Image.{Image, IsImage, block_at, put_pairs}
 use Rattle.r4_base.specs.Chain.{Txn, HasLog, chain_pairs, kept_blocks, home}
@@ -11,7 +11,6 @@ use Rattle.r4_base.specs.Value.{Value, Stat, Entry, Byte, Content, at_key}
 use Rattle.r4_base.specs.Tree.{Node, Store, Root, IsTree, UnitAt}
 use Rattle.r4_base.specs.Cell.{IsCellOf}
 use Rattle.r4_base.specs.declared.key.Key.{Key}
-use Rattle.r4_base.specs.declared.things.Oid.{Oid}
 use Rattle.r4_base.specs.declared.items.Attr.{Attr}
 use Rattle.r4_base.specs.declared.items.Target.{Target}
 use Rattle.r4_base.specs.declared.superblock.Master.{Master}

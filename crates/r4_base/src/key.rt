@@ -1,6 +1,6 @@
 //! The keys of items (docs/layout.md, "Keys").
 
-ghost use Rattle.std.specs.Prelude.{◌≡◌, ◌↔◌, ◌<◌, ◌^◌, IsTrue};
+ghost use Rattle.std.specs.Prelude.{◌≡◌, ◌↔◌, ◌<◌, ◌^◌, IsTrue, nat_lt};
 ghost use Rattle.std.specs.Ordering.{nat_cmp, is_lt};
 ghost use Rattle.std.specs.Cmp.Lexicographic.{slice_cmp};
 ghost use Rattle.r4_base.specs.Key.{IsKey, IsBelow, rank, stat_key, body_key};
@@ -34,6 +34,13 @@ impl Key {
         Key {
             el: [locality * 16 + 4, ordering, oid.0, offset],
         }
+    }
+
+    /// Whether this key comes before another one (docs/layout.md, "Keys").
+    pub fn is_below(self, other: Key) -> bool
+        ensures { result ≡ nat_lt (rank self) (rank other) }
+    {
+        self.cmp(&other).is_lt()
     }
 }
 

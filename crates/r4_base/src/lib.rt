@@ -3,6 +3,7 @@
 
 mod block;
 mod bytes;
+mod fixed;
 mod fresh;
 mod items;
 mod journal;
@@ -11,10 +12,12 @@ mod laws;
 mod node;
 mod superblock;
 mod things;
+mod values;
 mod volume;
 
 pub use block::Block;
 pub use bytes::{blank, get16, get32, get64, move_bytes, put_bytes, put16, put32, put64};
+pub use fixed::is_fixed;
 pub use fresh::{fresh_law, object_law, pointer_law};
 pub use items::{Attr, CellFault, DirFault, ExtentFault, NameFault, StatFault, Target, Unit};
 pub use journal::{Footer, Header, LogFault, TxHead};
@@ -24,4 +27,5 @@ pub use node::NodeFault;
 pub use std::alloc::AllocError as Memory;
 pub use superblock::{LayoutFault, Master, Super40};
 pub use things::{AtomNo, BlockNo, NodeId, Oid, ScriptNo, TaskId, TxnNo};
+pub use values::{Bytes, Name, Value};
 pub use volume::{content_law, volume_law};

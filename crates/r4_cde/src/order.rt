@@ -1,16 +1,9 @@
 //! The order of keys, as their ranks have it (docs/layout.md, "Keys").
 
-ghost use Rattle.std.specs.Prelude.{◌≡◌, ◌==◌, nat_lt, IsTrue};
+ghost use Rattle.std.specs.Prelude.{◌≡◌, ◌==◌, IsTrue};
 ghost use Rattle.r4_base.specs.Key.{rank};
 
 use r4_base::Key;
-
-/// Whether a key is below another.
-pub(crate) fn is_below(left: Key, right: Key) -> bool
-    ensures { result ≡ nat_lt (rank left) (rank right) }
-{
-    left.cmp(&right).is_lt()
-}
 
 /// Whether two keys are the same.
 pub(crate) fn is_same(left: Key, right: Key) -> bool

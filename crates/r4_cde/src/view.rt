@@ -7,7 +7,7 @@ ghost use Rattle.r4_base.specs.Dir.{dir_fault, entry_count, entry_offset};
 use crate::fault::fault_of;
 use crate::fields::{key_in, place_of, target_in};
 use crate::lent::NameRef;
-use crate::order::{is_below, is_same};
+use crate::order::is_same;
 use r4_base::{DirFault, Key, Target, get16};
 
 /// A directory item that has no fault, whose entries are read from the body that it lends, when they are asked for. It has
@@ -51,6 +51,20 @@ impl<'a> DirView<'a> {
         }
     }
 
+    /// The directory item of this key that a body spells which is known to have no fault, as one that was read before:
+    /// nothing is looked at again.
+    pub fn of_item(key: &Key, body: &'a [u8]) -> DirView<'a>
+        requires { dir_fault key.now body.now ≡ None }
+        ensures lent { view_body result ≡ body.entry }
+        ensures key { view_key result ≡ key.now }
+    {
+        DirView {
+            item: *key,
+            body,
+            count: get16(body, 0),
+        }
+    }
+
     /// How many entries the item has: at least 1.
     pub fn len(&self) -> u16
         ensures entries { result ≡ length (view_entries self.now) }
@@ -83,7 +97,7 @@ impl<'a> DirView<'a> {
         let mut high = self.count;
         while low < high {
             let middle = low + (high - low) / 2;
-            if is_below(key_in(&self.item, self.body, middle), *key) {
+            if key_in(&self.item, self.body, middle).is_below(*key) {
                 low = middle + 1;
             } else {
                 high = middle;

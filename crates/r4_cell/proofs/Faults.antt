@@ -5,12 +5,11 @@ use Rattle.std.specs.Bool.{IsTrue}
 use Rattle.std.specs.Option.{is_none, option_map, option_or}
 use Rattle.std.proofs.lemmas.Bool.Decides.{nat_tests}
 use Rattle.std.proofs.lemmas.Bool.{eq-eqb}
-use Rattle.std.proofs.lemmas.List.{drop_all, drop_more}
-use Rattle.std.proofs.lemmas.Option.{get_or_from_slice_get, same_Some, slice_get_within}
+use Rattle.std.proofs.lemmas.List.{drop_all}
+use Rattle.std.proofs.lemmas.Option.{same_Some, slice_get_within}
 use Rattle.r4_base.specs.Bitmap.{is_fixed}
 use Rattle.r4_base.specs.Cell.{cell_fault, item_body_fault, items_in_fault, names_block, next_key, range_is_good}
 use Rattle.r4_base.specs.Extents.{body_fault, pointer_of}
-use Rattle.r4_base.specs.Key.{rank}
 use Rattle.r4_base.specs.Node.{Item, count_of, item_at, items_of, level_of, node_fault}
 use Rattle.r4_base.specs.declared.items.ExtentFault.{ExtentFault}
 use Rattle.r4_base.specs.declared.node.NodeFault.{NodeFault}
@@ -18,14 +17,6 @@ use Rattle.r4_base.specs.declared.items.CellFault.{CellFault}
 use Rattle.r4_base.specs.declared.items.CellFault.TheVariants.{Node, Level, Range, Pointer, Extent}
 use Rattle.r4_node40.proofs.Laid.{get-items_of, length-items_of}
 use Rattle.r4_twig.proofs.Faults.{body_larger}
-
--- ---- an item, and the items behind it
-
-pub item_first : (items : List Item) (i : ℕ) (it : Item) → slice_get items i ≡ Some it → drop i items ≡ it ∷ drop (i + 1) items
-item_first items i it is = drop_more items i it (slice_get_within items i it is) ∙ ap (λ (x : Item). x ∷ drop (i + 1) items) (get_or_from_slice_get items i it it is)
-
-pub next_is : (hi : ℕ) (items : List Item) (i : ℕ) (it : Item) → slice_get items i ≡ Some it → next_key hi (drop i items) ≡ rank it.key
-next_is hi items i it is = ap (next_key hi) (item_first items i it is)
 
 take_short : (n : ℕ) (xs : List ℕ) → length (take n xs) ≤ length xs
 take_short zero xs = omega arith

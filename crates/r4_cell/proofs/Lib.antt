@@ -4,5 +4,6 @@ pub mod Rows
 pub mod Parts
 pub mod ItemRows
 pub mod Items
+pub mod NodesAt
 pub mod Nodes
 mod FromImage

@@ -7,7 +7,7 @@ ghost use Rattle.r4_node40.specs.View.{item_shown};
 ghost use Rattle.r4_twig.specs.View.{view_units};
 ghost use Rattle.r4_cell.specs.Ends.{FindsEnd, IsLastByte};
 
-use r4_base::{BlockNo, CellFault, Key};
+use r4_base::{BlockNo, CellFault, Key, is_fixed};
 use r4_cde::DirView;
 use r4_meta::read_stat;
 use r4_node40::ItemView;
@@ -26,9 +26,6 @@ const BLOCK: u128 = 4096;
 
 /// Where the bytes of a tail end at most.
 const TAIL_END: u64 = 16_384;
-
-/// How many blocks a bitmap stands for.
-const BITMAP_BLOCKS: u64 = 32_736;
 
 /// The key of the last unit of an item, or why its body is refused on a volume of `blocks` blocks. There is no key where
 /// the last unit has an offset of 2^64 or more. A pointer counts as one unit.
@@ -86,13 +83,6 @@ fn is_block(blocks: u64, b: u64) -> bool
     ensures { result ≡ (nat_lt b blocks && not (is_fixed blocks b)) }
 {
     b < blocks && !is_fixed(blocks, b)
-}
-
-// Whether a block is a fixed one: 0 to 21, or a bitmap's below the number of blocks.
-fn is_fixed(blocks: u64, b: u64) -> bool
-    ensures { result ≡ is_fixed blocks b }
-{
-    b < 22 || (b > 0 && b % BITMAP_BLOCKS == 0 && b < blocks)
 }
 
 // An extent has as many bytes as its units have blocks, holes too.

@@ -1,8 +1,13 @@
 //! A node or a data block, with its name, its level and its range.
 
-ghost use Rattle.std.specs.Prelude.{◌≡◌};
+ghost use Rattle.std.specs.Prelude.{◌≡◌, ◌^◌, ◌≤◌, None, length, true};
+ghost use Rattle.r4_base.specs.Cell.{cell_fault};
+ghost use Rattle.r4_base.specs.Key.{rank};
+ghost use Rattle.r4_base.specs.Node.{items_of};
+ghost use Rattle.r4_node40.specs.View.{view_block, view_items};
 
 use r4_base::{Block, Key, NodeId};
+use r4_node40::NodeView;
 use std::marker::Model;
 
 /// A block as a cell: a node of a level from 1, a leaf, to 8, or a data block, at level 0. Its keys are at least `lo` and
@@ -65,5 +70,16 @@ impl Cell {
         ensures { result.now ≡ self.now.block }
     {
         &self.block
+    }
+
+    /// The node that it is, which is not looked at again; a data block, at level 0, is none.
+    pub fn node(&self) -> NodeView<'_>
+        requires { 1 ≤ self.now.level }
+        ensures items { view_items result ≡ items_of self.now.block }
+        ensures block { (view_block result).now ≡ self.now.block }
+        ensures whole { length self.now.block ≡ 4096 }
+        ensures stands { cell_fault true (2 ^ 64) self.now.level (rank self.now.lo) (rank self.now.hi) self.now.block ≡ None }
+    {
+        NodeView::of_node(self.block.bytes())
     }
 }

@@ -73,23 +73,12 @@ fn fault_of_item(node: &NodeView<'_>, i: u16, place: &Place) -> Option<CellFault
         ≡ option_or result (items_in_fault false place.now.blocks place.now.level (rank place.now.lo) (rank place.now.hi) (i + 1) (drop (i + 1) (view_items node.now))) }
 {
     let item = node.item(i);
-    let next = key_behind(node, i, place);
+    let next = node.key_behind(i, place.hi);
     match last_key(&item, place.blocks) {
         Ok(last) if is_in_range(&item, last, next, i, place) => None,
         Ok(_) => Some(CellFault::Range { item: i }),
         Err(fault) => Some(fault),
     }
-}
-
-// The key of the item behind item `i`, or the end of the place's keys.
-fn key_behind(node: &NodeView<'_>, i: u16, place: &Place) -> Key
-    requires { i < length (view_items node.now) }
-    ensures { rank result ≡ next_key (rank place.now.hi) (drop (i + 1) (view_items node.now)) }
-{
-    if node.len() - i > 1 {
-        return node.item(i + 1).key;
-    }
-    place.hi
 }
 
 // Whether an item's key and units lie within the place's keys and below the next item's; the first key of a node above
@@ -98,8 +87,8 @@ fn is_in_range(item: &ItemView<'_>, last: Option<Key>, next: Key, i: u16, place:
     requires { EndsAt (item_shown item.now) last }
     ensures { result ≡ range_is_good place.now.level (rank place.now.lo) (rank place.now.hi) (rank next) i (item_shown item.now) }
 {
-    let begins = !is_below(item.key, place.lo) && is_below(item.key, place.hi);
-    let first = place.level <= 1 || i != 0 || !is_below(place.lo, item.key);
+    let begins = !item.key.is_below(place.lo) && item.key.is_below(place.hi);
+    let first = place.level <= 1 || i != 0 || !place.lo.is_below(item.key);
     begins && first && ends_below(last, place.hi, next)
 }
 
@@ -108,16 +97,9 @@ fn ends_below(last: Option<Key>, hi: Key, next: Key) -> bool
     ensures { result ≡ is_last_below (rank hi) (rank next) last }
 {
     match last {
-        Some(key) => is_below(key, hi) && is_below(key, next),
+        Some(key) => key.is_below(hi) && key.is_below(next),
         None => false,
     }
-}
-
-// Whether a key is below another.
-fn is_below(left: Key, right: Key) -> bool
-    ensures { result ≡ nat_lt (rank left) (rank right) }
-{
-    left.cmp(&right).is_lt()
 }
 
 /// The cell that a block is, at a level and for the keys from `lo` up to but without `hi`, on a volume of `blocks` blocks.

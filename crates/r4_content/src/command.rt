@@ -3,9 +3,8 @@
 ghost use Rattle.std.specs.Prelude.{◌≡◌, IfOk};
 ghost use Rattle.r4_content.specs.Groups.{IsOfBytes, IsOfAttributes, IsOfEntries};
 
-use crate::bytes::Bytes;
 use crate::path::Path;
-use r4_base::{Memory, Oid};
+use r4_base::{Bytes, Memory, Oid};
 use std::alloc::Global;
 
 /// One command of a script. Offsets, lengths and sizes are in bytes, and times in seconds. Any path may be there, and any

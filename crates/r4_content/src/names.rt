@@ -2,8 +2,7 @@
 
 ghost use Rattle.std.specs.Prelude.{◌≡◌, IfOk};
 
-use crate::path::Name;
-use r4_base::Memory;
+use r4_base::{Memory, Name};
 use std::alloc::Global;
 use std::marker::Model;
 use std::sync::Arc;

@@ -2,10 +2,8 @@
 
 ghost use Rattle.std.specs.Prelude.{◌≡◌, IfOk};
 
-use crate::bytes::Bytes;
 use crate::names::Names;
-use crate::path::Name;
-use r4_base::{Attr, BlockNo, Memory};
+use r4_base::{Attr, BlockNo, Bytes, Memory, Name};
 
 /// What a command is answered. The first four say that it was done; those from `Name` to `Notempty` that the content does
 /// not allow it, and nothing changed; the others that the volume cannot do it now. Blocks are counted from 0.

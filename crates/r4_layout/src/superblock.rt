@@ -6,7 +6,9 @@ ghost use Rattle.r4_base.specs.Bytes.{FieldsFit, put_all};
 ghost use Rattle.r4_base.specs.Layout.{counts_are_good, super_fields, super_of, super_block, IsLawfulSuper, fields_before_magic, fields_behind_magic};
 
 use crate::field::stands_at;
-use r4_base::{LayoutFault, Super40, blank, get16, get32, get64, put_bytes, put16, put32, put64};
+use r4_base::{
+    LayoutFault, Super40, blank, get16, get32, get64, is_fixed, put_bytes, put16, put32, put64,
+};
 
 const MAGIC: [u8; 16] = *b"ReIsEr40FoRmAt\0\0";
 
@@ -68,13 +70,6 @@ fn counts_are_good(s: &Super40, device_blocks: u64) -> bool
     let root = s.root_block;
     let is_root = root >= 22 && root < blocks && !is_fixed(blocks, root);
     are_blocks && is_root && s.oid >= 65_536 && s.oid < 1 << 60
-}
-
-/// Whether a block is a fixed one: 0 to 21, or a bitmap's below the number of blocks.
-fn is_fixed(block_count: u64, b: u64) -> bool
-    ensures { result ≡ is_fixed block_count b }
-{
-    b < 22 || (b > 0 && b % 32_736 == 0 && b < block_count)
 }
 
 /// Makes a block of 4096 bytes the spelling of a format superblock: all past the mark is zero. What is read again is

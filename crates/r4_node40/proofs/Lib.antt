@@ -9,3 +9,4 @@ pub mod Writes
 pub mod Settling
 pub mod Accepted
 pub mod Kept
+pub mod Following

@@ -1,6 +1,7 @@
 //! A node that is read (docs/layout.md, "Nodes").
 
-ghost use Rattle.std.specs.Prelude.{◌≡◌, ◌+◌, ◌-◌, ◌*◌, ◌<◌, ◌≤◌, length, nat_lt, slice_get, Some, None, IfOk, IfErr};
+ghost use Rattle.std.specs.Prelude.{◌≡◌, ◌+◌, ◌-◌, ◌*◌, ◌<◌, ◌≤◌, length, drop, nat_lt, slice_get, Some, None, IfOk, IfErr};
+ghost use Rattle.r4_base.specs.Cell.{next_key};
 ghost use Rattle.r4_base.specs.Key.{rank};
 ghost use Rattle.r4_base.specs.Node.{header_fault, item_fault, items_fault, node_fault, fits_level, count_of, level_of, key_at, offset_at, end_at};
 ghost use Rattle.r4_node40.specs.Laid.{IsLaid};
@@ -48,6 +49,17 @@ impl<'a> NodeView<'a> {
         Ok(NodeView { block, count })
     }
 
+    /// The node that a block spells which is known to have no fault, as one that was read before: nothing is looked at
+    /// again.
+    pub fn of_node(block: &'a [u8]) -> NodeView<'a>
+        requires whole { length block.now ≡ 4096 }
+        requires good { node_fault block.now ≡ None }
+        ensures { view_block result ≡ block.entry }
+    {
+        let count = get16(block, 2);
+        NodeView { block, count }
+    }
+
     /// How many items the node has: at most 107, and none only in a leaf.
     pub fn len(&self) -> u16
         ensures { result ≡ length (view_items self.now) }
@@ -74,6 +86,17 @@ impl<'a> NodeView<'a> {
             plugin: plugin_of(self.block, i),
             body: &self.block[from as usize..to as usize],
         }
+    }
+
+    /// The key of the item behind item `i`, which is below the number of items, or `hi` where item `i` is the last one.
+    pub fn key_behind(&self, i: u16, hi: Key) -> Key
+        requires { i < length (view_items self.now) }
+        ensures { rank result ≡ next_key (rank hi) (drop (i + 1) (view_items self.now)) }
+    {
+        if self.len() - i > 1 {
+            return self.item(i + 1).key;
+        }
+        hi
     }
 }
 

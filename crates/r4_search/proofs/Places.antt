@@ -4,9 +4,9 @@ use Rattle.std.specs.Prelude.{Option, Some, None, Contains, ◌==◌, nat_lt, if
 use Rattle.std.specs.Option.{option_map, option_or}
 use Rattle.std.proofs.lemmas.Bool.{eq-eqb, eqb-true}
 use Rattle.std.proofs.lemmas.Bool.Decides.{nat_tests}
-use Rattle.std.proofs.lemmas.List.{drop_all, drop_more}
+use Rattle.std.proofs.lemmas.List.{drop_all}
 use Rattle.std.proofs.lemmas.List.Elements.{Contains-append_left, Contains-append_right}
-use Rattle.std.proofs.lemmas.Option.{get_or_from_slice_get, same_Some, slice_get_within}
+use Rattle.std.proofs.lemmas.Option.{same_Some}
 use Rattle.r4_base.specs.Key.{rank}
 use Rattle.r4_base.specs.Node.{Item, PluginsFit, count_of, items_of, level_of, node_fault, fits_level}
 use Rattle.r4_base.specs.Tree.{Name, Span}
@@ -16,17 +16,12 @@ use Rattle.r4_base.specs.declared.node.NodeFault.{NodeFault}
 use Rattle.r4_base.specs.declared.items.CellFault.{CellFault}
 use Rattle.r4_base.specs.declared.items.CellFault.TheVariants.{Level, Node, Pointer}
 use Rattle.r4_node40.proofs.Accepted.{good}
+use Rattle.r4_node40.proofs.Following.{item_first}
 use Rattle.r4_node40.proofs.Laid.{length-items_of}
 use Rattle.r4_cell.specs.Seen.{CellSeen}
 use Rattle.r4_search.specs.Path.{LeadsTo, EndsAt}
 use Rattle.r4_search.specs.Place.{IsPlace}
 use Rattle.r4_cell.proofs.Items.{good_item, chosen}
-
-item_first : (items : List Item) (i : ℕ) (it : Item) → slice_get items i ≡ Some it → drop i items ≡ it ∷ drop (i + 1) items
-item_first items i it is = drop_more items i it (slice_get_within items i it is) ∙ ap (λ (x : Item). x ∷ drop (i + 1) items) (get_or_from_slice_get items i it it is)
-
-pub next_is : (hi : ℕ) (items : List Item) (i : ℕ) (it : Item) → slice_get items i ≡ Some it → next_key hi (drop i items) ≡ rank it.key
-next_is hi items i it is = ap (next_key hi) (item_first items i it is)
 
 pub next_end : (hi : ℕ) (items : List Item) (i : ℕ) → i ≡ length items → next_key hi (drop i items) ≡ hi
 next_end hi items i is = ap (next_key hi) (drop_all i items (omega (arith, is)))

@@ -39,10 +39,7 @@ pub fn child_of(cell: &Cell, key: &Key) -> Option<Child>
     if cell.level() == 1 {
         return None;
     }
-    match NodeView::read(cell.block().bytes()) {
-        Ok(node) => child_in(&node, cell, key),
-        Err(_) => None,
-    }
+    child_in(&cell.node(), cell, key)
 }
 
 // The same in the node that a cell above the leaves is.
@@ -67,7 +64,7 @@ fn child_in(node: &NodeView<'_>, cell: &Cell, key: &Key) -> Option<Child>
             id: NodeId(to),
             level: cell.level() - 1,
             lo: item.key,
-            hi: key_behind(node, i, cell.hi()),
+            hi: node.key_behind(i, cell.hi()),
         }),
         None => None,
     }
@@ -83,29 +80,11 @@ fn place_of(node: &NodeView<'_>, hi: Key, key: &Key) -> u16
     let mut high = node.len();
     while high - low > 1 {
         let middle = low + (high - low) / 2;
-        if is_below(*key, node.item(middle).key) {
+        if key.is_below(node.item(middle).key) {
             high = middle;
         } else {
             low = middle;
         }
     }
     low
-}
-
-// The key of the item behind item `i`, or the end of the keys.
-fn key_behind(node: &NodeView<'_>, i: u16, hi: Key) -> Key
-    requires { i < length (view_items node.now) }
-    ensures { rank result ≡ next_key (rank hi) (drop (i + 1) (view_items node.now)) }
-{
-    if node.len() - i > 1 {
-        return node.item(i + 1).key;
-    }
-    hi
-}
-
-// Whether a key is below another.
-fn is_below(left: Key, right: Key) -> bool
-    ensures { result ≡ nat_lt (rank left) (rank right) }
-{
-    left.cmp(&right).is_lt()
 }

@@ -5,8 +5,7 @@ ghost use Rattle.std.specs.List.{range_with_len};
 ghost use Rattle.r4_base.specs.Bitmap.{are_held, bits_of, bitmap_block, bitmap_count, is_always_used, is_used};
 ghost use Rattle.r4_space.specs.Bitmaps.{bitmaps_fault, first_unheld_of, free_bits, marks};
 
-use crate::claims::is_fixed;
-use r4_base::{Block, BlockNo, Memory};
+use r4_base::{Block, BlockNo, Memory, is_fixed};
 use r4_bitmap::BitmapView;
 use std::alloc::Global;
 

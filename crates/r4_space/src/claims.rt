@@ -8,7 +8,7 @@ ghost use Rattle.r4_space.specs.Kept.{AreWithin};
 
 use crate::taken::Taken;
 use crate::things::Claim;
-use r4_base::AtomNo;
+use r4_base::{AtomNo, is_fixed};
 
 /// What belonged to `gone` belongs to `kept`.
 pub fn rename(claims: &mut [Claim], kept: AtomNo, gone: AtomNo)
@@ -75,13 +75,6 @@ pub fn mark_placed(marked: &mut [bool], placed: &mut [bool])
         }
     }
     placed.fill(false);
-}
-
-/// Whether block `b` is fixed, in a volume of `blocks` blocks.
-pub fn is_fixed(blocks: u64, b: u64) -> bool
-    ensures { result ≡ is_fixed blocks b }
-{
-    b < 22 || (b % 32_736 == 0 && b < blocks)
 }
 
 /// Unmarks the blocks that are claimed for an atom, but for the fixed ones.

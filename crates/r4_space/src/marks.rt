@@ -6,9 +6,8 @@ ghost use Rattle.r4_space.specs.Accounts.{is_sealed};
 ghost use Rattle.r4_space.specs.Kept.{AreWithin};
 ghost use Rattle.r4_space.specs.Space.{freed_by, is_claimed, is_marked_after, up_to};
 
-use crate::claims::is_fixed;
 use crate::things::Claim;
-use r4_base::{AtomNo, blank};
+use r4_base::{AtomNo, blank, is_fixed};
 use r4_bitmap::BitmapMut;
 
 /// How many bits a bitmap block has.

@@ -1,4 +1,3 @@
-use Rattle.std.proofs.Common.{refl}
 use Rattle.r4_base.proofs.FreshVolume.{fresh_volume, fresh_super_is, fresh_lost}
 use Rattle.r4_base.proofs.fresh.fresh_law.Goals as goal
 

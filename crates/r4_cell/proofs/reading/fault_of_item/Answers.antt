@@ -3,7 +3,8 @@ use Rattle.r4_base.specs.Cell.{items_in_fault}
 use Rattle.r4_base.specs.Key.{rank}
 use Rattle.r4_base.specs.Node.{Item}
 use Rattle.r4_node40.specs.View.{view_block, view_items}
-use Rattle.r4_cell.proofs.Faults.{body_short, item_first, items_good, items_out, items_refused}
+use Rattle.r4_node40.proofs.Following.{item_first}
+use Rattle.r4_cell.proofs.Faults.{body_short, items_good, items_out, items_refused}
 use Rattle.r4_cell.proofs.reading.fault_of_item.Goals as goal
 
 pub last_key-requires : goal.last_key-requires
