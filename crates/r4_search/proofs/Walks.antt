@@ -17,8 +17,8 @@ use Rattle.r4_base.proofs.FreshTree.{nothing}
 use Rattle.r4_cell.specs.Seen.{CellSeen}
 use Rattle.r4_cell.specs.declared.change.Root.{Root}
 use Rattle.r4_cell.proofs.Items.{chosen}
-use Rattle.r4_search.specs.Pool.{PoolState, IsKnown, IsNamed, IsOf, IsRead, IsKeptOrRead, IsAnswer, IsRefused, FaultIs, place_fault, Goes}
-use Rattle.r4_search.specs.Path.{Follows, Descends, LeadsTo, EndsAt, IsPath, KeepsOnly, StopsOn, Stops, last_of, root_name}
+use Rattle.r4_search.specs.Pool.{PoolState, IsKnown, IsNamed, IsOf, IsRead, IsKeptOrRead, IsAnswer, IsRefused, KnowsNames, FaultIs, place_fault, Goes}
+use Rattle.r4_search.specs.Path.{Follows, Descends, LeadsTo, EndsAt, IsPath, KeepsOnly, KnowsOn, StopsOn, Stops, last_of, root_name}
 use Rattle.r4_search.specs.Place.{child_name}
 use Rattle.r4_search.specs.declared.inside.Child.{Child}
 use Rattle.r4_search.specs.declared.pool.FetchFault.{FetchFault}
@@ -28,7 +28,7 @@ use Rattle.r4_search.proofs.Places.{or_none, none_of_node}
 -- what comes next, if anything does
 abbrev pub GoesOn : Root → (key : ℕ) → PoolState → (before : Option CellSeen) → Option Name → Type 0
 GoesOn root key mid before (Some n) = Follows root key before n × IsKnown mid n.id × (1 ≤ n.level) × InName n key
-GoesOn root key mid before None = (c : CellSeen) × (before ≡ Some c) × EndsAt c key
+GoesOn root key mid before None = (c : CellSeen) × (before ≡ Some c) × EndsAt c key × KnowsNames mid c
 
 -- the level of what comes next
 abbrev pub left : Option Name → ℕ
@@ -137,10 +137,13 @@ module _ (root : Root) (key : ℕ) (old mid new : PoolState) (cells : List CellS
   onward None leads level ends =
       let is = answer.named.level in
       let some = r.on.2 in
-      more None (omega (arith, is, some)) (c, refl, ends)
+      more None (omega (arith, is, some)) (c, refl, ends, answer.knows)
 
 pub arrived : (root : Root) (key : ℕ) (old mid : PoolState) (cells : List CellSeen) → Reached root key old mid cells None → IsPath root key cells
 arrived root key old mid cells r = record { descends = r.descends; end = r.on.0; is_last = r.on.1; ends = r.on.2 }
+
+pub arrived_on : (root : Root) (key : ℕ) (old mid : PoolState) (cells : List CellSeen) → Reached root key old mid cells None → KnowsOn mid cells
+arrived_on root key old mid cells r c is = subst (KnowsNames mid) (same_Some r.on.0 c (sym r.on.1 ∙ is)) r.on.3
 
 -- ---- a refusal
 

@@ -4,7 +4,7 @@ use Rattle.r4_base.specs.Key.{least, top}
 use Rattle.r4_base.specs.Tree.{Name, Span, InName, InSpan}
 use Rattle.r4_cell.specs.Seen.{CellSeen, node_of}
 use Rattle.r4_cell.specs.declared.change.Root.{Root}
-use Rattle.r4_search.specs.Pool.{PoolState, IsNamed, IsOf, IsRefused}
+use Rattle.r4_search.specs.Pool.{PoolState, IsNamed, IsOf, IsRefused, KnowsNames}
 use Rattle.r4_search.specs.declared.pool.FetchFault.{FetchFault}
 use Rattle.r4_search.specs.declared.pool.FetchFault.TheVariants.{Read, Damaged, Memory}
 
@@ -42,6 +42,10 @@ pub record IsPath (root : Root) (key : ℕ) (cells : List CellSeen) : Type 0 whe
   pub end : CellSeen
   pub is_last : last_of None cells ≡ Some end
   pub ends : EndsAt end key
+
+-- what the last of these cells names can be asked for
+abbrev pub KnowsOn : PoolState → List CellSeen → Type 0
+KnowsOn p cells = (c : CellSeen) → last_of None cells ≡ Some c → KnowsNames p c
 
 -- what is kept from then on is among these cells
 abbrev pub KeepsOnly : (old new : PoolState) → List CellSeen → Type 0

@@ -74,13 +74,17 @@ pub record Goes (old new : PoolState) : Type 0 where
   pub kept : (i : ℕ) (c : CellSeen) → old.kept i ≡ Some c → new.kept i ≡ Some c
   pub added : (i : ℕ) (c : CellSeen) → new.kept i ≡ Some c → old.kept i ≡ None → (c.id ≡ i) × IsRead old.blocks (old.meant i) c
 
+-- what the cell names can be asked for
+abbrev pub KnowsNames : PoolState → CellSeen → Type 0
+KnowsNames p c = (m : Name) → Contains (node_of c).names m → IsKnown p m.id
+
 -- The cell that was asked for. What it names can be asked for.
 pub record IsAnswer (n : Name) (old : PoolState) (c : CellSeen) (new : PoolState) : Type 0 where
   pub named : IsNamed n c
   pub is_of : IsOf old c
   -- it may stand there, in memory
   pub stands : cell_fault true (2 ^ 64) c.level (rank c.lo) (rank c.hi) c.block ≡ None
-  pub knows : (m : Name) → Contains (node_of c).names m → IsKnown new m.id
+  pub knows : KnowsNames new c
 
 -- Why it is refused: a device failed, or it has a fault.
 abbrev pub IsRefused : Name → PoolState → FetchFault → PoolState → Type 0

@@ -4,7 +4,7 @@ ghost use Rattle.std.specs.Prelude.{◌≡◌, ◌<◌, ◌≤◌, All, map, IfO
 ghost use Rattle.std.specs.Arc.{arc_value};
 ghost use Rattle.r4_base.specs.Key.{rank, least, top};
 ghost use Rattle.r4_search.specs.Pool.{IsKnown, IsOf, Goes};
-ghost use Rattle.r4_search.specs.Path.{IsPath, KeepsOnly, Stops, root_name};
+ghost use Rattle.r4_search.specs.Path.{IsPath, KeepsOnly, KnowsOn, Stops, root_name};
 ghost use Rattle.r4_search.specs.Place.{child_name};
 
 use crate::inside::{Child, child_of};
@@ -16,7 +16,7 @@ use std::sync::Arc;
 
 /// The cells from the root down to the node whose range has the key: a leaf, or the twig where the key lies in the range
 /// of an extent (docs/volume.md, "The tree"). Each is the one that the pool keeps, or of the block that its name means, and
-/// what the pool keeps from then on is among them. `Read` and `Damaged` name the block that such cells lead to and that is
+/// what the pool keeps from then on is among them. What the last one names can be asked for. `Read` and `Damaged` name the block that such cells lead to and that is
 /// refused; `Read` comes only where the count of faults rose.
 pub fn cover<P: Pool>(
     alloc: Global,
@@ -32,6 +32,7 @@ pub fn cover<P: Pool>(
     ensures path { IfOk result (λ path. IsPath root.now (rank key.now) (map (λ cell. arc_value cell) path.items)) }
     ensures are_of { IfOk result (λ path. All (IsOf (P.state pool.old)) (map (λ cell. arc_value cell) path.items)) }
     ensures only { IfOk result (λ path. KeepsOnly (P.state pool.old) (P.state pool.new) (map (λ cell. arc_value cell) path.items)) }
+    ensures knows { IfOk result (λ path. KnowsOn (P.state pool.new) (map (λ cell. arc_value cell) path.items)) }
     ensures err { IfErr result (λ e. Stops root.now (rank key.now) (P.state pool.old) e (P.state pool.new)) }
 {
     let mut path = Vec::new(alloc);
@@ -56,9 +57,9 @@ fn root_of(root: &Root) -> Child
     }
 }
 
-// The least key of all.
+/// The least key of all, that of the root directory's stat data (docs/layout.md, "Keys").
 #[tactic(auto, unfolding(r4_base::specs::Key::rank, r4_base::specs::Key::least))]
-fn least() -> Key
+pub fn least() -> Key
     ensures { rank result ≡ least }
 {
     Key {

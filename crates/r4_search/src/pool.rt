@@ -4,7 +4,7 @@ ghost use Rattle.std.specs.Prelude.{◌≡◌};
 ghost use Rattle.std.specs.Arc.{arc_value};
 ghost use Rattle.r4_search.specs.Pool.{PoolState, IsKnown, Fetches, called};
 
-use r4_base::{BlockNo, CellFault, Key, NodeId};
+use r4_base::{BlockNo, CellFault, Key, Memory, NodeId};
 use r4_cell::Cell;
 use std::alloc::{AllocFailed, Global};
 use std::sync::Arc;
@@ -18,6 +18,17 @@ pub enum FetchFault {
     Damaged { block: BlockNo, fault: CellFault },
     /// No memory was found.
     Memory,
+}
+
+impl From<Memory> for FetchFault {
+    ghost use Rattle.std.specs.Prelude.{◌≡◌};
+    ghost use Rattle.r4_search.specs.declared.pool.FetchFault.TheVariants.{Memory as NoMemory};
+
+    ghost from_gives = { λ _ e. e ≡ NoMemory };
+
+    fn from(_none: Memory) -> FetchFault {
+        FetchFault::Memory
+    }
 }
 
 impl<T: Drop> From<AllocFailed<T>> for FetchFault {

@@ -1,7 +1,7 @@
 //! An extent, read where it stands (docs/layout.md, "Items").
 
-ghost use Rattle.std.specs.Prelude.{◌≡◌, ◌*◌, ◌%◌, ◌<◌, ◌≤◌, length, slice_get, None, Some, IfOk, IfErr};
-ghost use Rattle.r4_base.specs.Extents.{extent_fault, memory_fault, units_of};
+ghost use Rattle.std.specs.Prelude.{◌≡◌, ◌*◌, ◌%◌, ◌<◌, ◌≤◌, ◌^◌, length, slice_get, true, None, Some, IfOk, IfErr};
+ghost use Rattle.r4_base.specs.Extents.{body_fault, extent_fault, memory_fault, units_of};
 
 use crate::fault::fault_of;
 use crate::units::{UNIT, unit_in};
@@ -52,6 +52,17 @@ impl<'a> ExtentView<'a> {
             Some(fault) => Err(fault),
             None => Ok(ExtentView { body }),
         }
+    }
+
+    /// The extent that a body spells which is known to have no fault in memory on a volume of 2^64 blocks, as one that was
+    /// read before on a volume of any size: nothing is looked at again. It has fewer than 65536 units.
+    pub fn of_item(body: &'a [u8]) -> ExtentView<'a>
+        requires few { length body.now < 16 * 65536 }
+        requires good { body_fault true (2 ^ 64) body.now ≡ None }
+        ensures lent { view_body result ≡ body.entry }
+        ensures units { view_units result ≡ units_of body.now }
+    {
+        ExtentView { body }
     }
 
     /// How many units the extent has, each of 16 bytes: one at least (docs/layout.md, "Items").
