@@ -1,3 +1,4 @@
+pub mod PartCells
 pub mod Placed
 pub mod Sets
 pub mod Converse

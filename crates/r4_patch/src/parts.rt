@@ -1,0 +1,25 @@
+//! Laws of parts of a tree. Each is the contract of a function that does nothing.
+
+ghost use Rattle.std.specs.Prelude.{◌≡◌, ◌≤◌, ℕ, Bool, IsTrue, Contains, Some};
+ghost use Rattle.r4_base.specs.Tree.{Name, Span, Node, Store, Root, InNode, InSpan, IsTree};
+ghost use Rattle.r4_base.specs.Value.{Value};
+ghost use Rattle.r4_cell.specs.Patch.{Patch, Meets};
+ghost use Rattle.r4_patch.specs.Part.{IsPart, IsWhole, IsClosed, MeetsPart, cut};
+
+/// In a part no key lies in two cells of one level, the data blocks aside, nor in a leaf and an extent; each data block is
+/// named by a twig; and a cell that is there is named once.
+pub fn part_law()
+    ensures apart { (t : Store Value) (root : Root) → IsPart t root → (i j : ℕ) (c d : Node Value) (k : ℕ) → t i ≡ Some c → t j ≡ Some d → c.level ≡ d.level → 1 ≤ c.level → InNode c k → InNode d k → i ≡ j }
+    ensures leaf_or_extent { (t : Store Value) (root : Root) → IsPart t root → (i j : ℕ) (c d : Node Value) (s : Span) (k : ℕ) → t i ≡ Some c → t j ≡ Some d → c.level ≡ 1 → Contains d.spans s → InNode c k → InSpan s k → ⊥ }
+    ensures data_named { (t : Store Value) (root : Root) → IsPart t root → (i : ℕ) (c : Node Value) → t i ≡ Some c → c.level ≡ 0 → (j : ℕ) × (d : Node Value) × (n : Name) × (t j ≡ Some d) × Contains d.names n × (n.id ≡ i) }
+    ensures named_once { (t : Store Value) (root : Root) → IsPart t root → (i j a : ℕ) (c d x : Node Value) (n m : Name) → t i ≡ Some c → t j ≡ Some d → Contains c.names n → Contains d.names m → t a ≡ Some x → n.id ≡ a → m.id ≡ a → (i ≡ j) × (n ≡ m) }
+{}
+
+/// A tree is a part of itself, and so are its cells in a set that has the root and, with each cell, those that name it. A
+/// part that has what its cells name is a tree.
+pub fn trees_and_parts()
+    ensures tree { (t : Store Value) (root : Root) → IsTree t root → IsPart t root }
+    ensures kept { (t : Store Value) (root : Root) (keep : ℕ → Bool) → IsPart t root → IsTrue (keep root.id) → IsClosed keep t → IsPart (cut keep t) root }
+    ensures whole { (t : Store Value) (root : Root) → IsPart t root → IsWhole t → IsTree t root }
+    ensures meets { (p : Patch Value) (t : Store Value) (root : Root) → IsTree t root → Meets p t root → MeetsPart p t root }
+{}
