@@ -5,4 +5,5 @@ pub mod Converse
 pub mod Joined
 pub mod SecondRoot
 pub mod Shared
+pub mod Union
 pub mod Changes

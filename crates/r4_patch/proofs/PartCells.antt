@@ -5,7 +5,7 @@ use mathlib.Core.Logic.{inl, inr}
 use native.Mathlib.Omega.{arith}
 use Rattle.std.proofs.Math.Nat.{le_refl}
 use Rattle.std.proofs.lemmas.Option.{none-some}
-use Rattle.r4_base.specs.Tree.{Name, Span, Node, Store, Root, InNode, InName, InSpan, Fits, IsNode, IsTree}
+use Rattle.r4_base.specs.Tree.{CoversLeaf, Name, Span, Node, Store, Root, InNode, InName, InSpan, Fits, IsNode, IsTree}
 use Rattle.r4_base.proofs.Trees.{has_parent, not_both, one_cell}
 use Rattle.r4_cell.specs.Patch.{Patch, NamesId, Meets}
 use Rattle.r4_patch.specs.Part.{IsPart, IsWhole, IsClosed, IsUnnamed, cut}
@@ -32,6 +32,23 @@ module _ {V : Type 0} where
 
   pub in_twig : (c : Node V) (s : Span) (k : ℕ) → IsNode c → Contains c.spans s → InSpan s k → InNode c k
   in_twig c s k ic cs at = (omega (arith, ic.span_from s cs, at), omega (arith, ic.span_to s cs, at))
+
+-- the key lies in the leaf, or in an extent of the twig
+abbrev pub HasPiece : {V : Type 0} → Node V → ℕ → Type 0
+HasPiece c k = ((c.level ≡ 1) × InNode c k) ⊎ ((s : Span) × Contains c.spans s × InSpan s k)
+
+-- a piece at a key, with its cell
+abbrev pub Piece : {V : Type 0} → Store V → ℕ → Type 0
+Piece {V} t k = (i : ℕ) × (c : Node V) × (t i ≡ Some c) × HasPiece c k
+
+module _ {V : Type 0} where
+  pub to_piece : (t : Store V) (k : ℕ) → CoversLeaf t k → Piece t k
+  to_piece t k (inl (i, c, tc, low, at)) = (i, c, tc, inl (low, at))
+  to_piece t k (inr (i, c, s, tc, cs, at)) = (i, c, tc, inr (s, cs, at))
+
+  pub from_piece : (t : Store V) (k : ℕ) → Piece t k → CoversLeaf t k
+  from_piece t k (i, c, tc, inl (low, at)) = inl (i, c, tc, low, at)
+  from_piece t k (i, c, tc, inr (s, cs, at)) = inr (i, c, s, tc, cs, at)
 
 -- the cell that names another, and the name
 abbrev pub Parent : {V : Type 0} → Store V → ℕ → Node V → Type 0
@@ -119,6 +136,17 @@ module _ {V : Type 0} (t : Store V) (root : Root) (it : IsPart t root) where
       let xd : x ≡ d = one_cell t j x d (subst (λ z. t z ≡ Some x) aj tx) td in
       let block = jd.spans_apart n s k (subst (λ z. Contains z.names n) xd xn) ds at_n at_s in
       omega (arith, block, level, low)
+
+  -- two pieces with a key in common are of one cell
+  pub one_piece : (k i j : ℕ) (c d : Node V) → t i ≡ Some c → t j ≡ Some d → HasPiece c k → HasPiece d k → i ≡ j
+  one_piece k i j c d tc td (inl (lc, at_c)) (inl (ld, at_d)) = apart i j c d k tc td (lc ∙ sym ld) (omega (arith, lc)) at_c at_d
+  one_piece k i j c d tc td (inl (lc, at_c)) (inr (s, ds, at_s)) = absurd (leaf_or_extent i j c d s k tc td lc ds at_c at_s)
+  one_piece k i j c d tc td (inr (s, cs, at_s)) (inl (ld, at_d)) = absurd (leaf_or_extent j i d c s k td tc ld cs at_d at_s)
+  one_piece k i j c d tc td (inr (s, cs, at_s)) (inr (r, dr, at_r)) =
+      let ic = it.nodes i c tc in
+      let id = it.nodes j d td in
+      let lc = ic.spans_in_twigs s cs in
+      apart i j c d k tc td (lc ∙ sym (id.spans_in_twigs r dr)) (omega (arith, lc)) (in_twig c s k ic cs at_s) (in_twig d r k id dr at_r)
 
   pub data_named : (i : ℕ) (c : Node V) → t i ≡ Some c → c.level ≡ 0 → (j : ℕ) × (d : Node V) × (n : Name) × (t j ≡ Some d) × Contains d.names n × (n.id ≡ i)
   data_named i c tc low = let (j, d, n, td, dn, is, f) = leaf_parent i c tc (omega (arith, low)) in (j, d, n, td, dn, is)

@@ -38,7 +38,7 @@ module _ {V : Type 0} where
   place_commutes p q t apart = λ j i. commutes_at p q t i (apart i) j
 
   -- at most one of them changes the root pair
-  one_root : (p q : Patch V) (t : Store V) (root : Root) → Meets p t root → Meets q t root → Apart p q → IsSome p.root → IsSome q.root → ⊥
+  pub one_root : (p q : Patch V) (t : Store V) (root : Root) → Meets p t root → Meets q t root → Apart p q → IsSome p.root → IsSome q.root → ⊥
   one_root p q t root mp mq apart hp hq =
       let (c, oc) = mp.root_old hp in
       let (d, od) = mq.root_old hq in

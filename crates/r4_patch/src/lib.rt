@@ -10,4 +10,4 @@ pub use laws::{
     joined_change, patches_join, placing_all_keeps_a_tree, placing_commutes, placing_keeps_a_tree,
     root_has_to_be_old, trees_differ_by_patches,
 };
-pub use parts::{part_law, trees_and_parts};
+pub use parts::{joined_change_of_a_part, part_law, placing_keeps_a_part, trees_and_parts};

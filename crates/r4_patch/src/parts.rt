@@ -3,8 +3,10 @@
 ghost use Rattle.std.specs.Prelude.{◌≡◌, ◌≤◌, ℕ, Bool, IsTrue, Contains, Some};
 ghost use Rattle.r4_base.specs.Tree.{Name, Span, Node, Store, Root, InNode, InSpan, IsTree};
 ghost use Rattle.r4_base.specs.Value.{Value};
-ghost use Rattle.r4_cell.specs.Patch.{Patch, Meets};
-ghost use Rattle.r4_patch.specs.Part.{IsPart, IsWhole, IsClosed, MeetsPart, cut};
+ghost use Rattle.r4_cell.specs.Patch.{Patch, place, root_after, IsPatch, Meets, IsChange};
+ghost use Rattle.r4_cell.specs.declared.change.Change.{Change};
+ghost use Rattle.r4_patch.specs.Joining.{patch_of_change, AreApart, IsJoined};
+ghost use Rattle.r4_patch.specs.Part.{IsPart, IsWhole, IsClosed, IsUnnamed, MeetsPart, AreOfOnePart, cut};
 
 /// In a part no key lies in two cells of one level, the data blocks aside, nor in a leaf and an extent; each data block is
 /// named by a twig; and a cell that is there is named once.
@@ -22,4 +24,19 @@ pub fn trees_and_parts()
     ensures kept { (t : Store Value) (root : Root) (keep : ℕ → Bool) → IsPart t root → IsTrue (keep root.id) → IsClosed keep t → IsPart (cut keep t) root }
     ensures whole { (t : Store Value) (root : Root) → IsPart t root → IsWhole t → IsTree t root }
     ensures meets { (p : Patch Value) (t : Store Value) (root : Root) → IsTree t root → Meets p t root → MeetsPart p t root }
+{}
+
+/// A part with a patch in place is again a part, where no cell that is there names a new cell that is no old one.
+pub fn placing_keeps_a_part()
+    ensures { (p : Patch Value) (t : Store Value) (root : Root) → IsPatch p → IsPart t root → MeetsPart p t root → IsPart (place p t) (root_after p root) }
+{}
+
+/// Two changes of one part as one change, where no node is an old cell of both or a new cell of both: it is a change of the
+/// part, and it does what the first and then the second do.
+pub fn joined_change_of_a_part()
+    ensures change { (one two c : Change) (t : Store Value) (root : Root) → AreOfOnePart one two t root → IsJoined one two c → AreApart one.old two.old → IsChange c.old c.new c.root }
+    ensures meets { (one two c : Change) (t : Store Value) (root : Root) → AreOfOnePart one two t root → IsJoined one two c → AreApart one.old two.old → Meets (patch_of_change c) t root }
+    ensures unnamed { (one two c : Change) (t : Store Value) (root : Root) → AreOfOnePart one two t root → IsJoined one two c → AreApart one.old two.old → IsUnnamed (patch_of_change one) t → IsUnnamed (patch_of_change two) t → IsUnnamed (patch_of_change c) t }
+    ensures cells { (one two c : Change) (t : Store Value) (root : Root) → AreOfOnePart one two t root → IsJoined one two c → AreApart one.old two.old → place (patch_of_change c) t ≡ place (patch_of_change two) (place (patch_of_change one) t) }
+    ensures root { (one two c : Change) (t : Store Value) (root : Root) → AreOfOnePart one two t root → IsJoined one two c → AreApart one.old two.old → root_after (patch_of_change c) root ≡ root_after (patch_of_change two) (root_after (patch_of_change one) root) }
 {}
