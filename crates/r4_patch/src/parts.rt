@@ -3,7 +3,7 @@
 ghost use Rattle.std.specs.Prelude.{◌≡◌, ◌≤◌, ℕ, Bool, IsTrue, Contains, Some};
 ghost use Rattle.r4_base.specs.Tree.{Name, Span, Node, Store, Root, InNode, InSpan, IsTree};
 ghost use Rattle.r4_base.specs.Value.{Value};
-ghost use Rattle.r4_cell.specs.Patch.{Patch, place, root_after, IsPatch, Meets, IsChange};
+ghost use Rattle.r4_cell.specs.Patch.{Patch, place, root_after, IsPatch, Meets, Apart, IsChange};
 ghost use Rattle.r4_cell.specs.declared.change.Change.{Change};
 ghost use Rattle.r4_patch.specs.Joining.{patch_of_change, AreApart, IsJoined};
 ghost use Rattle.r4_patch.specs.Part.{IsPart, IsWhole, IsClosed, IsUnnamed, MeetsPart, AreOfOnePart, cut};
@@ -26,9 +26,11 @@ pub fn trees_and_parts()
     ensures meets { (p : Patch Value) (t : Store Value) (root : Root) → IsTree t root → Meets p t root → MeetsPart p t root }
 {}
 
-/// A part with a patch in place is again a part, where no cell that is there names a new cell that is no old one.
+/// A part with a patch in place is again a part, where no cell that is there names a new cell that is no old one. After it
+/// a second patch with no node in common can still be put in place.
 pub fn placing_keeps_a_part()
-    ensures { (p : Patch Value) (t : Store Value) (root : Root) → IsPatch p → IsPart t root → MeetsPart p t root → IsPart (place p t) (root_after p root) }
+    ensures part { (p : Patch Value) (t : Store Value) (root : Root) → IsPatch p → IsPart t root → MeetsPart p t root → IsPart (place p t) (root_after p root) }
+    ensures second { (p q : Patch Value) (t : Store Value) (root : Root) → IsPatch p → MeetsPart p t root → MeetsPart q t root → Apart p q → MeetsPart q (place p t) (root_after p root) }
 {}
 
 /// Two changes of one part as one change, where no node is an old cell of both or a new cell of both: it is a change of the
