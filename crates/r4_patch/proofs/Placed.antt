@@ -1,5 +1,5 @@
 -- A part of a tree with a patch in place is again a part, and a tree a tree.
-use Rattle.std.specs.Prelude.{◌≡◌, ℕ, ◌<◌, ◌≤◌, ◌⊎◌, ◌+◌, ◌-◌, zero, suc, Contains, IsSome, None, Option, Some}
+use Rattle.std.specs.Prelude.{◌≡◌, ℕ, ◌≤◌, ◌⊎◌, ◌+◌, ◌-◌, zero, suc, Contains, IsSome, None, Option, Some}
 use mathlib.Core.Path.{refl, sym, ap, subst, ◌∙◌}
 use mathlib.Core.Logic.{inl, inr}
 use Rattle.std.specs.Option.{unwrap_or}
@@ -8,7 +8,7 @@ use Rattle.std.proofs.Math.Decide.{dec_le, ℕ_discrete}
 use Rattle.std.proofs.Math.Nat.{lt_of_not-le, le_trans, le_refl}
 use Rattle.std.proofs.lemmas.Option.{none-some}
 use Rattle.r4_base.specs.Key.{least, top}
-use Rattle.r4_base.specs.Tree.{Name, Span, Node, Store, Root, InNode, Fits, IsTree}
+use Rattle.r4_base.specs.Tree.{Name, Node, Store, Root, InNode, Fits, IsTree}
 use Rattle.r4_base.proofs.Trees.{not_both, one_cell}
 use Rattle.r4_cell.specs.Patch.{Patch, over, place, root_after, NamesId, SameRange, NeedsName, IsPatch, Meets}
 use Rattle.r4_patch.specs.Part.{IsPart, IsUnnamed, IsWhole}
@@ -101,9 +101,9 @@ module _ {V : Type 0} (p : Patch V) (t : Store V) (root : Root) (ip : IsPatch p)
       let to = m.has_old n.id o oe in
       let f = it.named i c o n tc cn to in
       let other : ¬ (NamesId p.old n.id) = λ h.
-          let (n2, (j, b, bj, bn), is) = h in
-          let (ij, _) = named_once t root it i j n.id c b o n n2 tc (m.has_old j b bj) cn bn to refl is in
-          not_both p.old i b gone (subst (λ x. p.old x ≡ Some b) (sym ij) bj)
+      let (n2, (j, b, bj, bn), is) = h in
+      let (ij, _) = named_once t root it i j n.id c b o n n2 tc (m.has_old j b bj) cn bn to refl is in
+      not_both p.old i b gone (subst (λ x. p.old x ≡ Some b) (sym ij) bj)
       in
       elim (ip.replaced n.id o oe other) [
         | inl r ↦ let (e, ne, (el, elo, ehi)) = r in (e, ne, record { level = el ∙ f.level; lo = elo ∙ f.lo; hi = ehi ∙ f.hi })

@@ -1,6 +1,6 @@
 -- Two patches of one part that have no node in common are one patch.
-use Rattle.std.specs.Prelude.{◌≡◌, ℕ, ◌<◌, ◌≤◌, ◌⊎◌, Contains, IsSome, None, Option, Some}
-use mathlib.Core.Path.{refl, sym, ap, subst, ◌∙◌}
+use Rattle.std.specs.Prelude.{◌≡◌, ℕ, ◌<◌, ◌≤◌, ◌⊎◌, IsSome, None, Option, Some}
+use mathlib.Core.Path.{refl, sym, subst, ◌∙◌}
 use mathlib.Core.Logic.{inl, inr}
 use native.Mathlib.Omega.{arith}
 use Rattle.std.proofs.Math.Decide.{dec_le}
@@ -8,9 +8,9 @@ use Rattle.std.proofs.Math.Nat.{le_trans, lt_of_not-le}
 use Rattle.std.proofs.lemmas.Option.{none-some}
 use Rattle.r4_base.specs.Tree.{Covers, CoversLeaf, Name, Node, Store, Root, InNode, Fits}
 use Rattle.r4_base.proofs.Trees.{not_both}
-use Rattle.r4_cell.specs.Patch.{Patch, over, place, Leaves, Apart, Names, NamesId, SameRange, NeedsName, IsNewRoot, IsPatch, Meets, captured, last_root, join}
+use Rattle.r4_cell.specs.Patch.{Patch, over, Leaves, Apart, Names, NamesId, SameRange, NeedsName, IsNewRoot, IsPatch, Meets, captured, last_root, join}
 use Rattle.r4_patch.specs.Part.{IsPart, IsUnnamed}
-use Rattle.r4_patch.proofs.PartCells.{HasPiece, Piece, apart, from_piece, one_piece, to_piece}
+use Rattle.r4_patch.proofs.PartCells.{apart, from_piece, one_piece, to_piece}
 use Rattle.r4_patch.proofs.Placed.{new_level, old_level, old_root, rises, root_or_not, some_of, some_or_none, still_there}
 use Rattle.r4_patch.proofs.Sets.{one_root}
 

@@ -1,7 +1,7 @@
 -- Parts of a tree: what has been read of one, also where the rest of it is no tree (docs/volume.md, "Changes").
 use Rattle.std.specs.Prelude.{◌≡◌, ℕ, ◌≤◌, ◌⊎◌, if◌then◌else◌, Bool, IsTrue, Contains, None, Some}
 use Rattle.r4_base.specs.Key.{least, top}
-use Rattle.r4_base.specs.Tree.{Name, Node, Store, Root, InNode, InSpan, Fits, IsNode}
+use Rattle.r4_base.specs.Tree.{Name, Node, Store, Root, Fits, IsNode}
 use Rattle.r4_base.specs.Value.{Value}
 use Rattle.r4_cell.specs.Patch.{Patch, NamesId, IsChange, Meets}
 use Rattle.r4_cell.specs.declared.change.Change.{Change}
