@@ -16,8 +16,11 @@ use Rattle.r4_cell.specs.Patch.{Patch, over, place, root_after, IsPatch, Meets, 
 use Rattle.r4_cell.specs.declared.change.Root.{Root as RootPair}
 use Rattle.r4_cell.specs.declared.change.Change.{Change}
 use Rattle.r4_patch.specs.Joining.{ids_of, AreApart, IsJoined, AreOfOneTree, patch_of_change}
+use Rattle.r4_patch.specs.Part.{AreOfOnePart, IsUnnamed}
+use Rattle.r4_patch.proofs.PartCells.{tree_is_part}
+use Rattle.r4_patch.proofs.Union.{apart_join, unnamed_join}
 use Rattle.r4_patch.proofs.Sets.{meets_after}
-use Rattle.r4_patch.proofs.Joined.{joined_patch, meets_joined, place_joined, root_joined}
+use Rattle.r4_patch.proofs.Joined.{meets_joined, place_joined, root_joined}
 
 -- ---- cells of two lists, by name
 
@@ -98,7 +101,7 @@ root_joined_pair : (a b : Option RootPair) → option_map root_of_pair (option_o
 root_joined_pair a (Some r) = refl
 root_joined_pair a None = refl
 
-module _ (one two c : Change) (t : Store Value) (root : Root) (both : AreOfOneTree one two t root) (joined : IsJoined one two c) (old_apart : AreApart one.old two.old) where
+module _ (one two c : Change) (t : Store Value) (root : Root) (both : AreOfOnePart one two t root) (joined : IsJoined one two c) (old_apart : AreApart one.old two.old) where
   abbrev p : Patch Value
   p = patch_of_change one
 
@@ -130,14 +133,27 @@ module _ (one two c : Change) (t : Store Value) (root : Root) (both : AreOfOneTr
   joined_change = record {
     old_names = subst HaveNames (sym joined.old) (have_names one.old two.old both.one_is.old_names both.two_is.old_names old_apart);
     new_names = subst HaveNames (sym joined.new) (have_names two.new one.new both.two_is.new_names both.one_is.new_names (apart_back one.new two.new both.new_apart));
-    patch = subst (λ x. IsPatch x) (sym same) (joined_patch p q t root both.tree both.one_meets after both.one_is.patch both.two_is.patch);
+    patch = subst (λ x. IsPatch x) (sym same) (apart_join p q t root both.one_meets both.two_meets apart both.part both.one_is.patch both.two_is.patch);
   }
 
   pub joined_meets : Meets (patch_of_change c) t root
-  joined_meets = subst (λ x. Meets x t root) (sym same) (meets_joined p q t root both.tree both.one_meets after)
+  joined_meets = subst (λ x. Meets x t root) (sym same) (meets_joined p q t root both.one_meets after both.part)
 
   pub joined_cells : place (patch_of_change c) t ≡ place q (place p t)
   joined_cells = ap (λ x. place x t) same ∙ place_joined p q t root both.one_meets
 
   pub joined_root : root_after (patch_of_change c) root ≡ root_after q (root_after p root)
   joined_root = ap (λ x. root_after x root) same ∙ root_joined p q root
+
+  pub joined_unnamed : IsUnnamed (patch_of_change one) t → IsUnnamed (patch_of_change two) t → IsUnnamed (patch_of_change c) t
+  joined_unnamed a b = subst (λ x. IsUnnamed x t) (sym same) (unnamed_join p q t root both.one_meets both.two_meets apart a b)
+
+pub of_part : (one two : Change) (t : Store Value) (root : Root) → AreOfOneTree one two t root → AreOfOnePart one two t root
+of_part one two t root h = record {
+  part = tree_is_part t root h.tree;
+  one_is = h.one_is;
+  two_is = h.two_is;
+  one_meets = h.one_meets;
+  two_meets = h.two_meets;
+  new_apart = h.new_apart;
+}

@@ -1,28 +1,20 @@
 -- What takes a tree to a tree is a patch.
-use Rattle.std.specs.Prelude.{◌≡◌, ℕ, ◌<◌, ◌≤◌, ◌⊎◌, Contains, IsSome, None, Option, Some}
-use mathlib.Core.Path.{refl, sym, ap, subst, ◌∙◌}
+use Rattle.std.specs.Prelude.{◌≡◌, ℕ, ◌<◌, ◌≤◌, ◌⊎◌, Contains, IsSome, None, Some}
+use mathlib.Core.Path.{sym, ap, subst, ◌∙◌}
 use mathlib.Core.Logic.{inl, inr}
 use native.Mathlib.Omega.{arith}
 use Rattle.std.specs.Option.{unwrap_or}
 use Rattle.std.proofs.Math.Decide.{dec_le}
 use Rattle.std.proofs.Math.Nat.{lt_of_not-le, le_refl}
-use Rattle.std.proofs.lemmas.Option.{none-some}
 use Rattle.r4_base.specs.Key.{least, top}
-use Rattle.r4_base.specs.Tree.{Covers, CoversLeaf, Name, Span, Node, Store, Root, InNode, InSpan, Fits, IsNode, IsTree}
+use Rattle.r4_base.specs.Tree.{Covers, CoversLeaf, Name, Node, Store, Root, Fits, IsNode, IsTree}
 use Rattle.r4_base.proofs.Trees.{covered_above, covered_low, has_parent, named_once, not_both, one_cell}
 use Rattle.r4_cell.specs.Patch.{Patch, place, root_after, Names, NamesId, SameRange, NeedsName, IsNewRoot, IsPatch, Meets}
-use Rattle.r4_patch.proofs.Placed.{over_from, over_kept, over_new, some_or_none}
+use Rattle.r4_patch.proofs.PartCells.{Piece, from_piece, one_piece, to_piece, tree_is_part}
+use Rattle.r4_patch.proofs.Placed.{over_from, over_kept, over_new, root_or_not, some_of, some_or_none}
 
 same_name : (n m : Name) → n.id ≡ m.id → n.level ≡ m.level → n.lo ≡ m.lo → n.hi ≡ m.hi → n ≡ m
 same_name n m a b c d = λ i. record { id = a i; level = b i; lo = c i; hi = d i }
-
-some_of : (o : Option Root) (r : Root) → o ≡ Some r → IsSome o
-some_of (Some x) r e = refl
-some_of None r e = absurd (none-some r e)
-
-root_or_not : (o : Option Root) → ((r : Root) × (o ≡ Some r)) ⊎ (o ≡ None)
-root_or_not (Some r) = inl (r, refl)
-root_or_not None = inr refl
 
 module _ {V : Type 0} (p : Patch V) (t : Store V) (root : Root) (it : IsTree t root) (m : Meets p t root) (is : IsTree (place p t) (root_after p root)) (rises : root.height ≤ (root_after p root).height) where
   from : (i : ℕ) (c : Node V) → place p t i ≡ Some c → (p.new i ≡ Some c) ⊎ ((p.new i ≡ None) × (p.old i ≡ None) × (t i ≡ Some c))
@@ -278,44 +270,11 @@ module _ {V : Type 0} (p : Patch V) (t : Store V) (root : Root) (it : IsTree t r
         ]
       ]
 
-  in_twig : (s : Store V) (r : Root) → IsTree s r → (j : ℕ) (d : Node V) (x : Span) (k : ℕ) → s j ≡ Some d → Contains d.spans x → InSpan x k → InNode d k × (d.level ≡ 2)
-  in_twig s r st j d x k sd dx at =
-      let jd = st.nodes j d sd in
-      ((omega (arith, jd.span_from x dx, at), omega (arith, jd.span_to x dx, at)), jd.spans_in_twigs x dx)
-
-  -- two leaf pieces of one tree with a key in common are of one cell
-  one_piece : (s : Store V) (r : Root) → IsTree s r → (k : ℕ) (i j : ℕ) (c d : Node V) → s i ≡ Some c → s j ≡ Some d
-      → ((c.level ≡ 1) × InNode c k) ⊎ ((x : Span) × Contains c.spans x × InSpan x k)
-      → ((d.level ≡ 1) × InNode d k) ⊎ ((x : Span) × Contains d.spans x × InSpan x k) → i ≡ j
-  one_piece s r st k i j c d sc sd (inl (lc, ac)) (inl (ld, ad)) = st.apart i j c d k sc sd (lc ∙ sym ld) (omega (arith, lc)) ac ad
-  one_piece s r st k i j c d sc sd (inl (lc, ac)) (inr (x, dx, ax)) = absurd (st.leaf_or_extent i j c d x k sc sd lc dx ac ax)
-  one_piece s r st k i j c d sc sd (inr (x, cx, ax)) (inl (ld, ad)) = absurd (st.leaf_or_extent j i d c x k sd sc ld cx ad ax)
-  one_piece s r st k i j c d sc sd (inr (x, cx, ax)) (inr (y, dy, ay)) =
-      let (at_c, lc) = in_twig s r st i c x k sc cx ax in
-      let (at_d, ld) = in_twig s r st j d y k sd dy ay in
-      st.apart i j c d k sc sd (lc ∙ sym ld) (omega (arith, lc)) at_c at_d
-
-  -- a piece at a key, with its cell
-  Piece : Store V → ℕ → Type 0
-  Piece s k = (i : ℕ) × (c : Node V) × (s i ≡ Some c) × (((c.level ≡ 1) × InNode c k) ⊎ ((x : Span) × Contains c.spans x × InSpan x k))
-
-  to_piece : (s : Store V) (k : ℕ) → CoversLeaf s k → Piece s k
-  unfolding Piece
-  to_piece s k (inl (i, c, sc, low, at)) = (i, c, sc, inl (low, at))
-  to_piece s k (inr (i, c, x, sc, cx, at)) = (i, c, sc, inr (x, cx, at))
-
-  from_piece : (s : Store V) (k : ℕ) → Piece s k → CoversLeaf s k
-  unfolding Piece
-  from_piece s k (i, c, sc, inl (low, at)) = inl (i, c, sc, low, at)
-  from_piece s k (i, c, sc, inr (x, cx, at)) = inr (i, c, x, sc, cx, at)
-
   piece_range : (s : Store V) (r : Root) → IsTree s r → (k : ℕ) → Piece s k → (least ≤ k) × (k < top)
-  unfolding Piece
   piece_range s r st k (i, c, sc, inl (low, at)) = let ic = st.nodes i c sc in (omega (arith, at, ic.from_least), omega (arith, at, ic.to_top))
   piece_range s r st k (i, c, sc, inr (x, cx, at)) = let ic = st.nodes i c sc in (omega (arith, at, ic.span_from x cx, ic.from_least), omega (arith, at, ic.span_to x cx, ic.to_top))
 
   leaves_old : (k : ℕ) → CoversLeaf p.old k → CoversLeaf p.new k
-  unfolding Piece
   leaves_old k h =
       let (a, o, oa, at) = to_piece p.old k h in
       let ta = m.has_old a o oa in
@@ -324,12 +283,11 @@ module _ {V : Type 0} (p : Patch V) (t : Store V) (root : Root) (it : IsTree t r
       elim (from i c uc) [
         | inl nc ↦ from_piece p.new k (i, c, nc, at_c)
         | inr g ↦
-            let one : i ≡ a = one_piece t root it k i a c o g.2 ta at_c at in
+            let one : i ≡ a = one_piece t root (tree_is_part t root it) k i a c o g.2 ta at_c at in
             absurd (not_both p.old i o g.1 (subst (λ x. p.old x ≡ Some o) (sym one) oa))
       ]
 
   leaves_new : (k : ℕ) → CoversLeaf p.new k → CoversLeaf p.old k
-  unfolding Piece
   leaves_new k h =
       let (i, c, nc, at) = to_piece p.new k h in
       let uc = in_new i c nc in
@@ -341,7 +299,7 @@ module _ {V : Type 0} (p : Patch V) (t : Store V) (root : Root) (it : IsTree t r
             let same : b ≡ o = one_cell t a b o (m.has_old a b ob) ta in
             from_piece p.old k (a, o, ob ∙ ap Some same, at_o)
         | inr gone ↦
-            let one : i ≡ a = one_piece (place p t) (root_after p root) is k i a c o uc (stays a o gone ta) at at_o in
+            let one : i ≡ a = one_piece (place p t) (root_after p root) (tree_is_part (place p t) (root_after p root) is) k i a c o uc (stays a o gone ta) at at_o in
             absurd (no_clash a c o (subst (λ x. p.new x ≡ Some c) one nc) gone ta)
       ]
 

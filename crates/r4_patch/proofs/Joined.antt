@@ -8,6 +8,8 @@ use Rattle.std.proofs.lemmas.Option.{none-some}
 use Rattle.r4_base.specs.Tree.{Node, Store, Root, IsTree}
 use Rattle.r4_base.proofs.Trees.{not_both}
 use Rattle.r4_cell.specs.Patch.{Patch, over, place, root_after, IsPatch, Meets, captured, last_root, join}
+use Rattle.r4_patch.specs.Part.{IsPart}
+use Rattle.r4_patch.proofs.PartCells.{tree_is_part}
 use Rattle.r4_patch.proofs.Placed.{over_from, placed_tree, rises}
 use Rattle.r4_patch.proofs.Sets.{left}
 use Rattle.r4_patch.proofs.Converse.{patch_from_trees}
@@ -54,9 +56,9 @@ changed_by (Some r) b h = inl refl
 changed_by None (Some r) h = inr (refl, refl)
 changed_by None None h = inl h
 
-module _ {V : Type 0} (p q : Patch V) (t : Store V) (root : Root) (it : IsTree t root) (mp : Meets p t root) (mq : Meets q (place p t) (root_after p root)) where
-  pub meets_joined : Meets (join p q) t root
-  meets_joined = record {
+module _ {V : Type 0} (p q : Patch V) (t : Store V) (root : Root) (mp : Meets p t root) (mq : Meets q (place p t) (root_after p root)) where
+  pub meets_joined : IsPart t root → Meets (join p q) t root
+  meets_joined it = record {
     has_old = λ i c e. elim (captured_from (p.old i) (p.new i) (q.old i) c e) [
       | inl h ↦ mp.has_old i c h
       | inr h ↦ sym (left p t i (h.1, h.0)) ∙ mq.has_old i c h.2
@@ -82,10 +84,10 @@ module _ {V : Type 0} (p q : Patch V) (t : Store V) (root : Root) (it : IsTree t
 
   taller : (a : Patch V) (s : Store V) (r : Root) → IsPatch a → IsTree s r → Meets a s r → (o : Option Root) → a.root ≡ o → r.height ≤ (unwrap_or o r).height
   taller a s r ia st ma None e = le_refl r.height
-  taller a s r ia st ma (Some x) e = rises a s r ia st ma x e
+  taller a s r ia st ma (Some x) e = rises a s r ia (tree_is_part s r st) ma x e
 
-  pub joined_patch : IsPatch p → IsPatch q → IsPatch (join p q)
-  joined_patch ip iq =
+  pub joined_patch : IsTree t root → IsPatch p → IsPatch q → IsPatch (join p q)
+  joined_patch it ip iq =
       let mid = placed_tree p t root ip it mp in
       let last = placed_tree q (place p t) (root_after p root) iq mid mq in
       let cells = sym (place_joined p q t root mp) in
@@ -93,4 +95,4 @@ module _ {V : Type 0} (p q : Patch V) (t : Store V) (root : Root) (it : IsTree t
       let low = taller p t root ip it mp p.root refl in
       let high = taller q (place p t) (root_after p root) iq mid mq q.root refl in
       let tree : IsTree (place (join p q) t) (root_after (join p q) root) = subst (λ s. IsTree s (root_after (join p q) root)) cells (subst (IsTree (place q (place p t))) roots last) in
-      patch_from_trees (join p q) t root it meets_joined tree (subst (λ r. root.height ≤ r.height) roots (le_trans low high))
+      patch_from_trees (join p q) t root it (meets_joined (tree_is_part t root it)) tree (subst (λ r. root.height ≤ r.height) roots (le_trans low high))

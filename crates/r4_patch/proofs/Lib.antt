@@ -1,7 +1,9 @@
+pub mod PartCells
 pub mod Placed
 pub mod Sets
 pub mod Converse
 pub mod Joined
 pub mod SecondRoot
 pub mod Shared
+pub mod Union
 pub mod Changes

@@ -9,7 +9,8 @@ use Rattle.std.proofs.lemmas.Option.{none-some}
 use Rattle.std.proofs.lemmas.List.Elements.{All-head, All-tail}
 use Rattle.r4_base.specs.Tree.{Node, Store, Root, IsTree, UnitAt}
 use Rattle.r4_base.proofs.Trees.{not_both}
-use Rattle.r4_cell.specs.Patch.{Patch, over, place, root_after, IsPatch, Meets, Leaves, Apart, place_all, root_all, ArePatches, UnitKept}
+use Rattle.r4_cell.specs.Patch.{Patch, over, place, root_after, IsPatch, Meets, Leaves, Apart, place_all, root_all, ArePatches, UnitKept, NamesId}
+use Rattle.r4_patch.specs.Part.{MeetsPart}
 use Rattle.r4_patch.proofs.Placed.{over_from, over_new, over_kept, placed_tree}
 
 roots : (a b : Option Root) (root : Root) → (IsSome a → IsSome b → ⊥) → unwrap_or a (unwrap_or b root) ≡ unwrap_or b (unwrap_or a root)
@@ -38,7 +39,7 @@ module _ {V : Type 0} where
   place_commutes p q t apart = λ j i. commutes_at p q t i (apart i) j
 
   -- at most one of them changes the root pair
-  one_root : (p q : Patch V) (t : Store V) (root : Root) → Meets p t root → Meets q t root → Apart p q → IsSome p.root → IsSome q.root → ⊥
+  pub one_root : (p q : Patch V) (t : Store V) (root : Root) → Meets p t root → Meets q t root → Apart p q → IsSome p.root → IsSome q.root → ⊥
   one_root p q t root mp mq apart hp hq =
       let (c, oc) = mp.root_old hp in
       let (d, od) = mq.root_old hq in
@@ -65,6 +66,24 @@ module _ {V : Type 0} where
         let same = root_same p.root root (λ hp. one_root p q t root mp mq apart hp changed) in
         let (c, oc) = mq.root_old changed in
         (c, subst (λ r. q.old r.id ≡ Some c) (sym same) oc);
+  }
+
+  -- with names that are still free
+  pub part_meets_after : (p q : Patch V) (t : Store V) (root : Root) → IsPatch p → MeetsPart p t root → MeetsPart q t root → Apart p q → MeetsPart q (place p t) (root_after p root)
+  part_meets_after p q t root ip mp mq apart = record {
+    meets = meets_after p q t root mp.meets mq.meets apart;
+    unnamed = λ i c nc gone h.
+        let (n, (j, d, ud, dn), is) = h in
+        let not_in : NamesId t i → ⊥ = mq.unnamed i c nc gone in
+        elim (over_from (p.new j) (p.old j) (t j) d ud) [
+          | inr g ↦ not_in (n, (j, d, g.2, dn), is)
+          | inl nd ↦ elim (ip.named n (j, d, nd, dn)) [
+            | inl g ↦
+                let ni : p.new i ≡ Some g.0 = subst (λ x. p.new x ≡ Some g.0) is g.1 in
+                elim (apart i) [ inl x ↦ not_both p.new i g.0 x.0 ni | inr x ↦ not_both q.new i c x.0 nc ]
+            | inr g ↦ let (a, o, oa, on) = g.1 in not_in (n, (a, o, mp.meets.has_old a o oa, on), is)
+          ]
+        ];
   }
 
   All-map : {P Q : Patch V → Type 0} → ((x : Patch V) → P x → Q x) → (xs : List (Patch V)) → All P xs → All Q xs

@@ -1,2 +1,3 @@
 pub mod SecondRoot
 pub mod Joining
+pub mod Part

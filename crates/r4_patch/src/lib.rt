@@ -3,9 +3,11 @@
 
 mod joining;
 mod laws;
+mod parts;
 
 pub use joining::{JoinFault, join};
 pub use laws::{
     joined_change, patches_join, placing_all_keeps_a_tree, placing_commutes, placing_keeps_a_tree,
     root_has_to_be_old, trees_differ_by_patches,
 };
+pub use parts::{joined_change_of_a_part, part_law, placing_keeps_a_part, trees_and_parts};

@@ -6,6 +6,8 @@ mod calls;
 #[cfg(test)]
 mod cells;
 #[cfg(test)]
+mod changes;
+#[cfg(test)]
 mod counting;
 #[cfg(test)]
 mod entries;
