@@ -1,5 +1,5 @@
 pub mod BodyEnds
-mod Faults
+pub mod Faults
 pub mod Rows
 pub mod Parts
 pub mod ItemRows

@@ -1,15 +1,19 @@
 //! The writes that make a volume, in their order.
 
 ghost use Rattle.std.specs.Prelude.{◌≡◌, ◌<◌, OnOk, replicate};
+ghost use Rattle.std.specs.Arc.{arc_value};
 ghost use Rattle.r4_base.specs.Image.{IsLawful};
 ghost use Rattle.r4_base.specs.Bitmap.{bitmap_block, bitmap_count};
-ghost use Rattle.r4_base.specs.Fresh.{IsFreshBut16, IsFreshImage};
+ghost use Rattle.r4_base.specs.Bytes.{number_bytes};
+ghost use Rattle.r4_base.specs.Fresh.{HasOneItem, IsFreshBut16, IsFreshImage};
+ghost use Rattle.r4_base.specs.Stat.{stat_body};
+ghost use Rattle.r4_base.specs.Volume.{root_attr};
 ghost use Rattle.r4_outside.specs.Device.{Goes, HasCause, IsQuiet, Spares, TellsCrashes, TellsReads, Untouched};
 ghost use Rattle.r4_mkfs.specs.Mkfs.{Answers, CountsBlocks, HasBitmaps, IsDeviceFault, IsLabel, MakesInOrder, full_label, is_other_than_16, with_zeros};
 
 use crate::bitmaps::fill_bitmap;
 use crate::fault::MkfsFault;
-use crate::nodes::{fill_leaf, fill_twig};
+use crate::nodes::{LEAF, Nodes, TWIG, fresh_nodes};
 use crate::superblocks::{BITS, bitmap_count, fill_master, fill_super, free_blocks};
 use r4_base::{Block, BlockNo, blank};
 use r4_outside::{Device, Failed};
@@ -31,10 +35,6 @@ const HEADER: BlockNo = BlockNo(19);
 const FOOTER: BlockNo = BlockNo(20);
 
 const STATUS: BlockNo = BlockNo(21);
-
-const TWIG: BlockNo = BlockNo(22);
-
-const LEAF: BlockNo = BlockNo(23);
 
 /// How many blocks a volume has that was made, and how many of them are free.
 #[derive(Clone, Copy, Debug, PartialEq, Eq)]
@@ -59,10 +59,13 @@ pub fn mkfs<D: Device>(alloc: Global, dev: &mut D, label: &[u8]) -> Result<Made,
     ensures quiet { TellsCrashes (D.state dev.old) → OnOk result (IsQuiet (D.state dev.new)) }
 {
     let blocks = lawful_blocks(dev)?;
+    let Ok(nodes) = fresh_nodes(alloc) else {
+        return Err(MkfsFault::Memory);
+    };
     let Ok(mut buffer) = Block::zeroed(alloc) else {
         return Err(MkfsFault::Memory);
     };
-    match write_volume(dev, blocks, label, &mut buffer) {
+    match write_volume(dev, blocks, label, &nodes, &mut buffer) {
         Ok(()) => Ok(Made {
             blocks,
             free: free_blocks(blocks),
@@ -103,18 +106,21 @@ fn write_volume<D: Device>(
     dev: &mut D,
     blocks: u64,
     label: &[u8],
+    nodes: &Nodes,
     buffer: &mut Block,
 ) -> Result<(), Failed>
     requires blocks { blocks ≡ (D.state dev.old).blocks }
     requires lawful { IsLawful blocks }
     requires label { IsLabel label.now }
+    requires twig { HasOneItem (arc_value nodes.now.twig).block 2 3 (number_bytes 8 23) }
+    requires leaf { HasOneItem (arc_value nodes.now.leaf).block 1 0 (stat_body root_attr) }
     ensures goes { Goes (D.state dev.old) (D.state dev.new) }
     ensures cause { HasCause (D.state dev.old) result (D.state dev.new) }
     ensures made { TellsReads (D.state dev.old) → OnOk result (IsFreshImage blocks (full_label label.now) (D.state dev.new).seen) }
     ensures any_moment { IsQuiet (D.state dev.old) → MakesInOrder (D.state dev.old) (D.state dev.new) }
     ensures quiet { TellsCrashes (D.state dev.old) → OnOk result (IsQuiet (D.state dev.new)) }
 {
-    write_rest(dev, blocks, buffer)?;
+    write_rest(dev, blocks, nodes, buffer)?;
     dev.sync()?;
     fill_master(buffer, label);
     dev.write(MASTER, buffer)?;
@@ -122,9 +128,16 @@ fn write_volume<D: Device>(
 }
 
 // Writes all but the master superblock.
-fn write_rest<D: Device>(dev: &mut D, blocks: u64, buffer: &mut Block) -> Result<(), Failed>
+fn write_rest<D: Device>(
+    dev: &mut D,
+    blocks: u64,
+    nodes: &Nodes,
+    buffer: &mut Block,
+) -> Result<(), Failed>
     requires blocks { blocks ≡ (D.state dev.old).blocks }
     requires lawful { IsLawful blocks }
+    requires twig { HasOneItem (arc_value nodes.now.twig).block 2 3 (number_bytes 8 23) }
+    requires leaf { HasOneItem (arc_value nodes.now.leaf).block 1 0 (stat_body root_attr) }
     ensures goes { Goes (D.state dev.old) (D.state dev.new) }
     ensures cause { HasCause (D.state dev.old) result (D.state dev.new) }
     ensures rest { TellsReads (D.state dev.old) → OnOk result (IsFreshBut16 blocks (D.state dev.new).seen) }
@@ -134,10 +147,8 @@ fn write_rest<D: Device>(dev: &mut D, blocks: u64, buffer: &mut Block) -> Result
     fill_super(buffer, blocks);
     dev.write(SUPER, buffer)?;
     write_zeros(dev, buffer)?;
-    fill_twig(buffer);
-    dev.write(TWIG, buffer)?;
-    fill_leaf(buffer);
-    dev.write(LEAF, buffer)
+    dev.write(TWIG, nodes.twig.block())?;
+    dev.write(LEAF, nodes.leaf.block())
 }
 
 // Writes zeros as the journal header, the journal footer and the status block.

@@ -1,22 +1,29 @@
 //! The two nodes of a fresh volume: the root, a twig, and its leaf (docs/volume.md, "A fresh volume").
 
-ghost use Rattle.std.specs.Prelude.{◌≡◌, ◌≤◌, length, true};
+ghost use Rattle.std.specs.Prelude.{◌≡◌, ◌≤◌, length, true, IfOk};
+ghost use Rattle.std.specs.Arc.{arc_value};
 ghost use Rattle.r4_base.specs.Bytes.{number_bytes};
 ghost use Rattle.r4_base.specs.Node.{fits_level};
 ghost use Rattle.r4_base.specs.Stat.{stat_body};
 ghost use Rattle.r4_base.specs.Volume.{root_attr};
 ghost use Rattle.r4_base.specs.Fresh.{HasOneItem};
 
-use r4_base::{Attr, Block, BlockNo, Key, Oid};
+use r4_base::{Attr, Block, BlockNo, Key, Memory, NodeId, Oid};
+use r4_cell::{Cell, least, new_cell, top};
 use r4_meta::write_stat;
 use r4_node40::NodeMut;
 use r4_twig::put_pointer;
+use std::alloc::Global;
+use std::sync::Arc;
 
 /// What nodes and the superblock say of the mkfs that made them.
 pub const MKFS_ID: u32 = 1;
 
+/// Where the root stands.
+pub const TWIG: BlockNo = BlockNo(22);
+
 /// Where the leaf stands.
-const LEAF: BlockNo = BlockNo(23);
+pub const LEAF: BlockNo = BlockNo(23);
 
 const STAT_DATA: u16 = 0;
 
@@ -35,8 +42,30 @@ const ROOT: Attr = Attr {
     bytes: 0,
 };
 
+/// The two nodes of a fresh volume, as the cells that its tree has.
+#[derive(Drop)]
+pub struct Nodes {
+    pub twig: Arc<Cell>,
+    pub leaf: Arc<Cell>,
+}
+
+/// Makes the two nodes, in memory.
+pub fn fresh_nodes(alloc: Global) -> Result<Nodes, Memory>
+    ensures twig { IfOk result (λ n. HasOneItem (arc_value n.twig).block 2 3 (number_bytes 8 23)) }
+    ensures leaf { IfOk result (λ n. HasOneItem (arc_value n.leaf).block 1 0 (stat_body root_attr)) }
+{
+    let mut twig = Block::zeroed(alloc)?;
+    fill_twig(&mut twig);
+    let mut leaf = Block::zeroed(alloc)?;
+    fill_leaf(&mut leaf);
+    Ok(Nodes {
+        twig: new_cell(alloc, NodeId(TWIG.0), 2, least(), top(), twig)?,
+        leaf: new_cell(alloc, NodeId(LEAF.0), 1, least(), top(), leaf)?,
+    })
+}
+
 /// Makes the block the root: a twig that points to the leaf.
-pub fn fill_twig(block: &mut Block)
+fn fill_twig(block: &mut Block)
     ensures { HasOneItem block.new 2 3 (number_bytes 8 23) }
 {
     let mut body = [0; 8];
@@ -45,7 +74,7 @@ pub fn fill_twig(block: &mut Block)
 }
 
 /// Makes the block the leaf: it has the root directory's stat data.
-pub fn fill_leaf(block: &mut Block)
+fn fill_leaf(block: &mut Block)
     ensures { HasOneItem block.new 1 0 (stat_body root_attr) }
 {
     let mut body = [0; 44];

@@ -1,19 +1,22 @@
 -- Where the content of each block stands, one pair after the other.
-use Rattle.std.proofs.Common.{◌≡◌, inl, inr, ℕ, ◌+◌, ◌<◌, ◌==◌, Bool, true, false, cond, List, [], ◌∷◌, ◌++◌, length, take, get_or, Option, Some, refl, sym, ap, ◌∙◌, arith}
+use Rattle.std.proofs.Common.{◌≡◌, inl, inr, ℕ, ◌+◌, ◌<◌, ◌==◌, Bool, true, false, cond, List, [], ◌∷◌, ◌++◌, length, take, get_or, Option, Some, refl, sym, ap, subst, ◌∙◌, arith}
+use Rattle.std.specs.Prelude.{All, map, reverse}
+use Rattle.std.proofs.lemmas.List.Elements.{All-append, All-head, All-map, All-nil, All-push, All-tail}
 use Rattle.std.specs.Ordering.{nat_cmp}
 use Rattle.std.specs.Option.{unwrap_or}
 use Rattle.std.specs.BTreeMap.{BTreeMap, get, is_at, Updates}
 use Rattle.std.proofs.lemmas.Bool.{cases_eq, cases_lt}
 use Rattle.std.proofs.lemmas.Bool.Decides.{nat_tests}
-use Rattle.std.proofs.lemmas.List.{take_more}
-use Rattle.r4_base.specs.Chain.{Txn, chain_pairs, home, home_from}
+use Rattle.std.proofs.lemmas.List.{reverse-append, take_more}
+use Rattle.r4_base.specs.Chain.{PairInRange, Txn, chain_pairs, home, home_from}
 use Rattle.r4_base.specs.Chain.{HasLog}
 use Rattle.r4_base.specs.Image.{block_at}
 use Rattle.r4_base.proofs.Frame.{settled_at}
 use Rattle.r4_outside.specs.Device.{State, TellsReads}
 use Rattle.r4_replay.specs.declared.txn.Txn.{Txn as TxnHere}
 use Rattle.r4_replay.specs.declared.log.Log.{Log}
-use Rattle.r4_replay.specs.Txns.{chain_shown}
+use Rattle.r4_replay.specs.Chains.{InRangeAll}
+use Rattle.r4_replay.specs.Txns.{chain_shown, txn_shown}
 use Rattle.r4_replay.specs.Homes.{home_in, TellsHomes}
 use Rattle.r4_replay.proofs.Finishing.{length_chain}
 
@@ -54,3 +57,33 @@ tells_homes old txns log tells has count homes = record {
   homes = homes;
   settled = λ b lt. settled_at old.seen old.blocks (chain_shown txns) b has (omega (arith, lt, tells.blocks)) ∙ ap (λ (h : ℕ). block_at old.seen h) (sym (homes b));
 }
+
+-- ---- what is in place of a block of the device is a block of the device
+
+home_from_within : (n : ℕ) (ps : List (ℕ × ℕ)) (b so_far : ℕ) → All (PairInRange n) ps → so_far < n → home_from ps b so_far < n
+home_from_within n [] b so_far all lt = lt
+home_from_within n (p ∷ ps) b so_far all lt =
+    let first = All-head (PairInRange n) p ps all in
+    home_from_within n ps b _ (All-tail (PairInRange n) p ps all) (either (b == p.0) p.1 so_far first.1.1 lt)
+  where
+    either : (t : Bool) (x y : ℕ) → x < n → y < n → cond t x y < n
+    either true x y lx ly = lx
+    either false x y lx ly = ly
+
+pairs_within : (n : ℕ) (chain : List Txn) → All (λ (t : Txn). All (PairInRange n) t.pairs) chain → All (PairInRange n) (chain_pairs chain)
+pairs_within n [] all = All-nil (PairInRange n)
+pairs_within n (t ∷ older) all =
+    All-append (PairInRange n) (chain_pairs older) t.pairs (pairs_within n older (All-tail (λ (t : Txn). All (PairInRange n) t.pairs) t older all)) (All-head (λ (t : Txn). All (PairInRange n) t.pairs) t older all)
+
+all_turned : (n : ℕ) (ts : List Txn) → All (λ (t : Txn). All (PairInRange n) t.pairs) ts → All (λ (t : Txn). All (PairInRange n) t.pairs) (reverse ts)
+all_turned n [] all = all
+all_turned n (t ∷ ts) all =
+    let P : Txn → Type 0 = λ (t : Txn). All (PairInRange n) t.pairs in
+    subst (All P) (sym (reverse-append (t ∷ []) ts))
+    (All-append P (reverse ts) (t ∷ []) (all_turned n ts (All-tail P t ts all)) (All-push P [] t (All-nil P) (All-head P t ts all)))
+
+pub homes_within : (n : ℕ) (txns : List TxnHere) (homes : BTreeMap ℕ ℕ) → InRangeAll n txns → ((b : ℕ) → home_in homes b ≡ home (chain_pairs (chain_shown txns)) b) → (b : ℕ) → b < n → home_in homes b < n
+homes_within n txns homes all is b lt =
+    let shown : All (λ (t : Txn). All (PairInRange n) t.pairs) (map txn_shown txns) = All-map (λ (t : Txn). All (PairInRange n) t.pairs) txn_shown txns all in
+    let turned = all_turned n (map txn_shown txns) shown in
+    subst (λ (h : ℕ). h < n) (sym (is b)) (home_from_within n (chain_pairs (chain_shown txns)) b b (pairs_within n (chain_shown txns) turned) lt)

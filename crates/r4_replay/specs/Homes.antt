@@ -24,6 +24,10 @@ pub record TellsHomes (old : State) (log : Log) : Type 0 where
   pub homes : (b : ℕ) → home_in log.homes b ≡ home (chain_pairs chain) b
   pub settled : (b : ℕ) → b < old.blocks → block_at (put_pairs (chain_pairs chain) old.seen) b ≡ block_at old.seen (home_in log.homes b)
 
+-- the home of a block below n is below n
+abbrev pub StaysWithin : (n : ℕ) → Log → Type 0
+StaysWithin n log = (b : ℕ) → b < n → home_in log.homes b < n
+
 -- The log of a device of a lawful size.
 abbrev pub Looked : State → Result Log Stop → State → Type 0
 Looked old (Ok log) new = TellsReads old → TellsHomes old log

@@ -4,7 +4,7 @@ ghost use Rattle.std.specs.Prelude.{◌≡◌, ℕ, ◌≤◌, IfOk, OnOk};
 ghost use Rattle.r4_base.specs.Chain.{chain_pairs, home, home_from};
 ghost use Rattle.r4_replay.specs.Txns.{chain_shown};
 ghost use Rattle.r4_replay.specs.Reading.{Idles};
-ghost use Rattle.r4_replay.specs.Homes.{home_in, LooksUp, Looked};
+ghost use Rattle.r4_replay.specs.Homes.{home_in, LooksUp, Looked, StaysWithin};
 
 use crate::chain::read_whole;
 use crate::fault::{ReplayFault, Stop};
@@ -40,10 +40,12 @@ impl Log {
     }
 }
 
-/// Reads the log, and writes nothing. It is refused as `replay` refuses it.
+/// Reads the log, and writes nothing. It is refused as `replay` refuses it. The home of a block of the device is a block
+/// of the device.
 pub fn read_log<D: Device>(alloc: Global, dev: &mut D) -> Result<Log, ReplayFault>
     ensures idles { Idles (D.state dev.old) (D.state dev.new) }
     ensures reads { LooksUp (D.state dev.old) result (D.state dev.new) }
+    ensures within { IfOk result (λ log. StaysWithin (D.state dev.old).blocks log) }
 {
     let blocks = lawful_blocks(dev)?;
     match look_up(alloc, dev, blocks) {
@@ -58,6 +60,7 @@ fn look_up<D: Device>(alloc: Global, dev: &mut D, blocks: u64) -> Result<Log, St
     requires more { 64 ≤ blocks }
     ensures idles { Idles (D.state dev.old) (D.state dev.new) }
     ensures looked { Looked (D.state dev.old) result (D.state dev.new) }
+    ensures within { IfOk result (λ log. StaysWithin (D.state dev.old).blocks log) }
 {
     let mut buffer = Block::zeroed(alloc)?;
     let mut footer = Block::zeroed(alloc)?;

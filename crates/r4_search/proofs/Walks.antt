@@ -14,10 +14,12 @@ use Rattle.r4_base.specs.Tree.{Name, InName}
 use Rattle.r4_base.specs.declared.items.CellFault.{CellFault}
 use Rattle.r4_base.specs.declared.items.CellFault.TheVariants.{Level, Node}
 use Rattle.r4_base.proofs.FreshTree.{nothing}
+use Rattle.r4_outside.specs.Device.{State}
+use Rattle.r4_outside.proofs.Moments.{goes_both as device_both, goes_same as device_same}
 use Rattle.r4_cell.specs.Seen.{CellSeen}
 use Rattle.r4_cell.specs.declared.change.Root.{Root}
 use Rattle.r4_cell.proofs.Items.{chosen}
-use Rattle.r4_search.specs.Pool.{PoolState, IsKnown, IsNamed, IsOf, IsRead, IsKeptOrRead, IsAnswer, IsRefused, KnowsNames, FaultIs, place_fault, Goes}
+use Rattle.r4_search.specs.Pool.{PoolState, IsKnown, IsNamed, IsOf, IsRead, IsKeptOrRead, IsAnswer, IsRefused, KnowsNames, LeavesDevice, FaultIs, place_fault, Goes}
 use Rattle.r4_search.specs.Path.{Follows, Descends, LeadsTo, EndsAt, IsPath, KeepsOnly, KnowsOn, StopsOn, Stops, last_of, root_name}
 use Rattle.r4_search.specs.Place.{child_name}
 use Rattle.r4_search.specs.declared.inside.Child.{Child}
@@ -42,6 +44,21 @@ pub record Reached (root : Root) (key : ℕ) (old mid : PoolState) (cells : List
   pub only : KeepsOnly old mid cells
   pub above : (c : CellSeen) → Contains cells c → left next < c.level
   pub on : GoesOn root key mid (last_of None cells) next
+
+-- the same, and nothing was written to the device
+pub record Walking (root : Root) (key : ℕ) (old mid : PoolState) (cells : List CellSeen) (next : Option Name) (before now : State) : Type 0 where
+  pub walk : Reached root key old mid cells next
+  pub device : LeavesDevice before now
+
+module _ (a b c : State) (f : LeavesDevice a b) (g : LeavesDevice b c) where
+  pub leaves_both : LeavesDevice a c
+  leaves_both = record {
+    goes = device_both a b c f.goes g.goes;
+    idle = record { seen = g.idle.seen ∙ f.idle.seen; clock = g.idle.clock ∙ f.idle.clock };
+  }
+
+pub leaves_same : (d : State) → LeavesDevice d d
+leaves_same d = record { goes = device_same d; idle = record { seen = refl; clock = refl } }
 
 -- ---- lists of cells
 

@@ -6,6 +6,7 @@ use Rattle.r4_base.specs.Tree.{Name}
 use Rattle.r4_base.specs.declared.key.Key.{Key}
 use Rattle.r4_base.specs.declared.items.CellFault.{CellFault}
 use Rattle.r4_base.specs.declared.items.CellFault.TheVariants.{Level, Range}
+use Rattle.r4_outside.specs.Device.{State, Goes as DeviceGoes, Untouched}
 use Rattle.r4_cell.specs.Seen.{CellSeen, node_of}
 use Rattle.r4_search.specs.declared.pool.FetchFault.{FetchFault}
 use Rattle.r4_search.specs.declared.pool.FetchFault.TheVariants.{Read, Damaged, Memory}
@@ -20,6 +21,11 @@ pub record PoolState : Type 0 where
   pub kept : ℕ → Option CellSeen
   -- the block that a name means while it is not kept, where that is told
   pub meant : ℕ → Option (List ℕ)
+
+-- Nothing was written to the device of a pool.
+pub record LeavesDevice (old new : State) : Type 0 where
+  pub goes : DeviceGoes old new
+  pub idle : Untouched old new
 
 -- the name can be asked for
 abbrev pub IsKnown : PoolState → ℕ → Type 0

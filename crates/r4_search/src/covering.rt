@@ -3,14 +3,14 @@
 ghost use Rattle.std.specs.Prelude.{◌≡◌, ◌<◌, ◌≤◌, All, map, IfOk, IfErr};
 ghost use Rattle.std.specs.Arc.{arc_value};
 ghost use Rattle.r4_base.specs.Key.{rank, least, top};
-ghost use Rattle.r4_search.specs.Pool.{IsKnown, IsOf, Goes};
+ghost use Rattle.r4_search.specs.Pool.{IsKnown, IsOf, Goes, LeavesDevice};
 ghost use Rattle.r4_search.specs.Path.{IsPath, KeepsOnly, KnowsOn, Stops, root_name};
 ghost use Rattle.r4_search.specs.Place.{child_name};
 
 use crate::inside::{Child, child_of};
 use crate::pool::{FetchFault, Pool};
 use r4_base::Key;
-use r4_cell::{Cell, Root};
+use r4_cell::{Cell, Root, least, top};
 use std::alloc::Global;
 use std::sync::Arc;
 
@@ -29,6 +29,7 @@ pub fn cover<P: Pool>(
     requires from { least ≤ rank key.now }
     requires below { rank key.now < top }
     ensures goes { Goes (P.state pool.old) (P.state pool.new) }
+    ensures device { LeavesDevice (P.device pool.old) (P.device pool.new) }
     ensures path { IfOk result (λ path. IsPath root.now (rank key.now) (map (λ cell. arc_value cell) path.items)) }
     ensures are_of { IfOk result (λ path. All (IsOf (P.state pool.old)) (map (λ cell. arc_value cell) path.items)) }
     ensures only { IfOk result (λ path. KeepsOnly (P.state pool.old) (P.state pool.new) (map (λ cell. arc_value cell) path.items)) }
@@ -55,22 +56,4 @@ fn root_of(root: &Root) -> Child
         lo: least(),
         hi: top(),
     }
-}
-
-/// The least key of all, that of the root directory's stat data (docs/layout.md, "Keys").
-#[tactic(auto, unfolding(r4_base::specs::Key::rank, r4_base::specs::Key::least))]
-pub fn least() -> Key
-    ensures { rank result ≡ least }
-{
-    Key {
-        el: [657, 0, 42, 0],
-    }
-}
-
-// The key of four greatest numbers, which no item has.
-#[tactic(auto, unfolding(r4_base::specs::Key::rank, r4_base::specs::Key::top))]
-fn top() -> Key
-    ensures { rank result ≡ top }
-{
-    Key { el: [u64::MAX; 4] }
 }

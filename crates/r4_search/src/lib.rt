@@ -5,7 +5,7 @@ mod covering;
 mod inside;
 mod pool;
 
-pub use covering::{cover, least};
+pub use covering::cover;
 pub use pool::{FetchFault, Pool};
 pub use r4_base::{BlockNo, CellFault, Key, NodeId};
-pub use r4_cell::{Cell, Root};
+pub use r4_cell::{Cell, Root, least};

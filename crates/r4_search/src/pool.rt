@@ -2,7 +2,8 @@
 
 ghost use Rattle.std.specs.Prelude.{◌≡◌};
 ghost use Rattle.std.specs.Arc.{arc_value};
-ghost use Rattle.r4_search.specs.Pool.{PoolState, IsKnown, Fetches, called};
+ghost use Rattle.r4_outside.specs.Device.{State};
+ghost use Rattle.r4_search.specs.Pool.{PoolState, IsKnown, Fetches, LeavesDevice, called};
 
 use r4_base::{BlockNo, CellFault, Key, Memory, NodeId};
 use r4_cell::Cell;
@@ -50,13 +51,16 @@ pub trait Pool {
     /// What the pool tells of itself.
     ghost state: { Self → PoolState };
 
+    /// What its device tells of itself.
+    ghost device: { Self → State };
+
     /// The number of calls of its device that failed, which never falls and stands still at 2^64 - 1 (docs/volume.md, "The
     /// tree").
     fn faults(&self) -> u64
         ensures { result ≡ (state self.now).faults };
 
     /// The cell of a name, at a level and for the keys from `lo` up to but without `hi`: the one that is kept, else one
-    /// that is read, which may be kept from then on. A kept cell of another level is `Damaged` by `Level`, and one of
+    /// that is read, which may be kept from then on. Nothing is written to the device. A kept cell of another level is `Damaged` by `Level`, and one of
     /// this level and another range by `Range` at item 0. Every other name is `Damaged` exactly as its block is refused
     /// there. `Read` comes only for a name that is not kept, and only where the count of faults rose (docs/volume.md, "The
     /// tree").
@@ -69,11 +73,14 @@ pub trait Pool {
         hi: Key,
     ) -> Result<Arc<Cell>, FetchFault>
         requires { IsKnown (state self.old) id.0 }
-        ensures { Fetches (λ cell. arc_value cell) (called id.0 level lo hi) (state self.old) result (state self.new) };
+        ensures fetches { Fetches (λ cell. arc_value cell) (called id.0 level lo hi) (state self.old) result (state self.new) }
+        ensures device { LeavesDevice (device self.old) (device self.new) };
 }
 
 impl<P: Pool> Pool for &mut P {
     ghost state = { λ pool. P.state pool.now };
+
+    ghost device = { λ pool. P.device pool.now };
 
     fn faults(&self) -> u64 {
         (**self).faults()

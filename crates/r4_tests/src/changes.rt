@@ -439,17 +439,18 @@ fn block_of(alloc: Global, made: &Made) -> Result<Block, Fail> {
     Ok(block)
 }
 
-// The cell: a node is read, and a data block, which may have any bytes, is made.
+// The cell, made in memory. A node is read first, so that it is known to stand there; a data block may have any bytes.
 fn cell_of(alloc: Global, made: &Made) -> Result<Arc<Cell>, Fail> {
     let id = NodeId(made.id);
     let block = block_of(alloc, made)?;
     if made.level == 0 {
         return Ok(new_cell(alloc, id, 0, made.lo, made.hi, block)?);
     }
-    let Ok(cell) = read_cell(alloc, id, made.level, made.lo, made.hi, BLOCKS, block) else {
+    let Ok(read) = read_cell(alloc, id, made.level, made.lo, made.hi, BLOCKS, block) else {
         return Err(Fail::from("a node of the table is refused"));
     };
-    Ok(cell)
+    let block = read.block().copy(alloc)?;
+    Ok(new_cell(alloc, id, made.level, made.lo, made.hi, block)?)
 }
 
 // The cells of a change.

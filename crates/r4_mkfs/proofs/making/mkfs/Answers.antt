@@ -27,3 +27,6 @@ returns-in-Ok-write_volume-clause-any_moment g c = λ quiet. order_after _ _ _ c
 
 pub returns-clause-any_moment : goal.returns-clause-any_moment
 returns-clause-any_moment g c = λ quiet. order_after _ _ _ c.lawful_blocks.ensures.goes c.lawful_blocks.ensures.idle quiet c.write_volume.ensures.any_moment
+
+pub returns-in_default-zeroed-clause-any_moment : goal.returns-in_default-zeroed-clause-any_moment
+returns-in_default-zeroed-clause-any_moment g c = λ quiet. idle_order _ _ c.lawful_blocks.ensures.goes c.lawful_blocks.ensures.idle quiet
