@@ -5,5 +5,6 @@ pub mod Parts
 pub mod ItemRows
 pub mod Items
 pub mod NodesAt
+pub mod NamesBelow
 pub mod Nodes
 mod FromImage
