@@ -1,0 +1,10 @@
+//! The trace of a run: its entries in their order, and the text of each.
+#![tactic(auto)]
+
+mod entry;
+mod text;
+mod trace;
+
+pub use entry::Entry;
+pub use text::line;
+pub use trace::Trace;
