@@ -1,0 +1,5 @@
+pub mod Command
+pub mod Field
+pub mod Split
+pub mod Text
+pub mod Word

@@ -1,0 +1,14 @@
+//! Scripts: the text that says what is done, and the job that it spells (docs/scripts.md).
+#![tactic(auto)]
+
+mod command;
+mod fault;
+mod field;
+mod job;
+mod number;
+mod path;
+mod split;
+mod word;
+
+pub use fault::{ParseFault, ScriptFault, What};
+pub use job::{Commands, Job, Script, Scripts};
