@@ -7,8 +7,11 @@ mod field;
 mod job;
 mod number;
 mod path;
+mod progress;
 mod split;
+mod text;
 mod word;
 
 pub use fault::{ParseFault, ScriptFault, What};
 pub use job::{Commands, Job, Script, Scripts};
+pub use text::parse;
