@@ -43,12 +43,13 @@ abbrev pub job_read : Result Read ScriptFault → Result Job ScriptFault
 job_read (Ok r) = Ok (record { scripts = all_scripts r })
 job_read (Err fault) = Err fault
 
--- the lines stand between the newlines; what passes 16 MiB is not looked at
-unfoldable pub text_read : List ℕ → Result Read ScriptFault
-text_read text = lines_read (nat_lt 16777216 (length text)) 1 nothing (split 10 (take 16777216 text))
+-- the lines stand between the newlines; what passes the longest text is not looked at
+unfoldable pub text_read : (most : ℕ) → List ℕ → Result Read ScriptFault
+text_read most text = lines_read (nat_lt most (length text)) 1 nothing (split 10 (take most text))
 
+-- the job of a text of at most 16 MiB
 unfoldable pub job_of : List ℕ → Result Job ScriptFault
-job_of text = job_read (text_read text)
+job_of text = job_read (text_read 16777216 text)
 
 -- what stopped a reader is this fault, unless memory ran out
 abbrev pub Faults : {X : Type 0} → ParseFault → Result X ScriptFault → Type 0

@@ -24,18 +24,18 @@ const LIMIT: usize = 16777216;
 pub fn parse(alloc: Global, text: &[u8]) -> Result<Job, ParseFault>
     ensures { Answers result (job_of text.now) }
 {
-    let progress = read_text(alloc, text)?;
+    let progress = read_text(alloc, text, LIMIT)?;
     let scripts = Scripts::from_vec(progress.into_scripts()?);
     Ok(Job { scripts })
 }
 
-// Reads the text up to its limit.
-#[tactic(auto, unfolding(crate::specs::Text::text_read))]
-fn read_text(alloc: Global, text: &[u8]) -> Result<Progress, ParseFault>
-    ensures { Answers result (text_read text.now) }
+// Reads a text up to its limit.
+fn read_text(alloc: Global, text: &[u8], limit: usize) -> Result<Progress, ParseFault>
+    requires { limit ≤ 16777216 }
+    ensures { Answers result (text_read limit text.now) }
 {
-    if text.len() > LIMIT {
-        return read_lines(alloc, &text[..LIMIT], true);
+    if text.len() > limit {
+        return read_lines(alloc, &text[..limit], true);
     }
     read_lines(alloc, text, false)
 }
