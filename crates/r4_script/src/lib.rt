@@ -15,3 +15,6 @@ mod word;
 pub use fault::{ParseFault, ScriptFault, What};
 pub use job::{Commands, Job, Script, Scripts};
 pub use text::parse;
+
+#[cfg(test)]
+mod tests;

@@ -97,13 +97,7 @@ impl Progress {
 
     // A command of the script.
     #[tactic(auto, unfolding(crate::specs::Progress::command_line))]
-    fn command(
-        self,
-        alloc: Global,
-        verb: Verb,
-        line: &[u8],
-        place: usize,
-    ) -> Result<Progress, Stop>
+    fn command(self, alloc: Global, verb: Verb, line: &[u8], place: usize) -> Result<Progress, Stop>
         requires { length line.now ≤ 16777216 }
         ensures { Gives (λ p. p) result (command_line self verb line.now place) }
     {
