@@ -2,9 +2,11 @@
 #![tactic(auto)]
 
 mod entry;
+mod laws;
 mod text;
 mod trace;
 
 pub use entry::Entry;
+pub use laws::line_law;
 pub use text::line;
 pub use trace::Trace;
