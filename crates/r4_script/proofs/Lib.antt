@@ -1,2 +1,7 @@
+pub mod CommandLines
+pub mod Fields
 pub mod Lines
+pub mod Numbers
+pub mod Shapes
+pub mod Words
 pub mod Splits

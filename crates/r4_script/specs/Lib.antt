@@ -1,5 +1,6 @@
 pub mod Command
 pub mod Field
+pub mod Grammar
 pub mod Progress
 pub mod Split
 pub mod Text
