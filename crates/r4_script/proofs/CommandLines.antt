@@ -10,7 +10,7 @@ use Rattle.r4_script.specs.Field.{◌>>=◌, ends_at, number_at, mode_at, text_a
 use Rattle.r4_script.specs.Grammar.{IsNumber, Decimal, Octal, IsPath, joined, OnePath, TwoPaths, WithNumber, WithTwo, WithThree, Spells}
 use Rattle.r4_script.specs.Split.{until}
 use Rattle.r4_script.specs.Word.{verb_of}
-use Rattle.r4_script.proofs.Fields.{bind_ok, done, ok_is, Here, with_tail, Follows, field_follows}
+use Rattle.r4_script.proofs.Fields.{bind_ok, done, ok_is, Here, with_tail, Follows, field_follows, ends_past}
 use Rattle.r4_script.proofs.Shapes.{Spelled, IsReader, number_reader, mode_reader, path_reader, bare_again, alone_is, alone_again, pair_is, pair_again, Step, step_is, step_again, Last, last_is, last_again, before, text_is, text_again}
 use Rattle.r4_script.proofs.Words.{word_of}
 
@@ -134,3 +134,106 @@ three_again M N O Is Js Ks rm rn ro make line i a s t u p m n o path first secon
     (step_again ℕ N Js rn line (i + length a + 1 + length s + 1) (λ (n : ℕ) (j : ℕ). O line j >>= λ (o : ℕ × ℕ). then_end line o.1 (make p m n o.0)) _ t (Some u) n second more
     (step_again ℕ O Ks ro line (i + length a + 1 + length s + 1 + length t + 1) (λ (o : ℕ) (j : ℕ). then_end line j (make p m n o)) _ u None o third last
     (last_again line (i + length a + 1 + length s + 1 + length t + 1) u (make p m n o) last))))
+
+-- ---- what is read is spelled
+
+-- the verb of a command
+abbrev pub verb_of_command : Command → Verb
+verb_of_command commands.Begin = Begin
+verb_of_command commands.End = End
+verb_of_command commands.Commit = Commit
+verb_of_command (commands.Create a b) = Create
+verb_of_command (commands.Mkdir a b) = Mkdir
+verb_of_command (commands.Write a b c) = Write
+verb_of_command (commands.Fill a b c d) = Fill
+verb_of_command (commands.Truncate a b) = Truncate
+verb_of_command (commands.Read a b c) = Read
+verb_of_command (commands.Stat a) = Stat
+verb_of_command (commands.Names a) = Names
+verb_of_command (commands.Link a b) = Link
+verb_of_command (commands.Unlink a) = Unlink
+verb_of_command (commands.Rmdir a) = Rmdir
+verb_of_command (commands.Rename a b) = Rename
+verb_of_command (commands.Chmod a b) = Chmod
+verb_of_command (commands.Chown a b c) = Chown
+verb_of_command (commands.Times a b c d) = Times
+
+-- what stands behind a word
+pub record Behind (line : List ℕ) (i : ℕ) (word : List ℕ) : Type 0 where
+  pub more : (rest : List ℕ) → Here line i rest → line ≡ word ++ (32 ∷ rest)
+  pub none : length line < i → line ≡ word
+
+abbrev Told : List ℕ → Verb → Command → Type 0
+Told line v c = Spells line c × (verb_of_command c ≡ v)
+
+pub command_is : (v : Verb) (line : List ℕ) (i : ℕ) (c : Command) → Behind line i (word_of v) → command_at v line i ≡ Ok c → Told line v c
+unfolding command_at
+command_is Script line i c f e = absurd cc
+command_is Begin line i c f e =
+    let b = bind_ok (ends_at line i) (λ _. done commands.Begin) c e in
+    subst (Told line Begin) (ok_is commands.Begin c b.2) (f.none (ends_past line i b.0 b.1), refl)
+command_is End line i c f e =
+    let b = bind_ok (ends_at line i) (λ _. done commands.End) c e in
+    subst (Told line End) (ok_is commands.End c b.2) (f.none (ends_past line i b.0 b.1), refl)
+command_is Commit line i c f e =
+    let b = bind_ok (ends_at line i) (λ _. done commands.Commit) c e in
+    subst (Told line Commit) (ok_is commands.Commit c b.2) (f.none (ends_past line i b.0 b.1), refl)
+command_is Create line i c f e =
+    let b = bind_ok (path_alone line i) (λ (p : Names_). done ((λ (p : Names_). commands.Create p no_oid) p)) c e in
+    let a = alone_is line i b.0 b.1 in
+    subst (Told line Create) (ok_is ((λ (p : Names_). commands.Create p no_oid) b.0) c b.2) ((refl, (a.0, (a.1.0, f.more a.0 a.1.1))), refl)
+command_is Mkdir line i c f e =
+    let b = bind_ok (path_alone line i) (λ (p : Names_). done ((λ (p : Names_). commands.Mkdir p no_oid) p)) c e in
+    let a = alone_is line i b.0 b.1 in
+    subst (Told line Mkdir) (ok_is ((λ (p : Names_). commands.Mkdir p no_oid) b.0) c b.2) ((refl, (a.0, (a.1.0, f.more a.0 a.1.1))), refl)
+command_is Stat line i c f e =
+    let b = bind_ok (path_alone line i) (λ (p : Names_). done (commands.Stat p)) c e in
+    let a = alone_is line i b.0 b.1 in
+    subst (Told line Stat) (ok_is (commands.Stat b.0) c b.2) ((a.0, (a.1.0, f.more a.0 a.1.1)), refl)
+command_is Names line i c f e =
+    let b = bind_ok (path_alone line i) (λ (p : Names_). done (commands.Names p)) c e in
+    let a = alone_is line i b.0 b.1 in
+    subst (Told line Names) (ok_is (commands.Names b.0) c b.2) ((a.0, (a.1.0, f.more a.0 a.1.1)), refl)
+command_is Unlink line i c f e =
+    let b = bind_ok (path_alone line i) (λ (p : Names_). done (commands.Unlink p)) c e in
+    let a = alone_is line i b.0 b.1 in
+    subst (Told line Unlink) (ok_is (commands.Unlink b.0) c b.2) ((a.0, (a.1.0, f.more a.0 a.1.1)), refl)
+command_is Rmdir line i c f e =
+    let b = bind_ok (path_alone line i) (λ (p : Names_). done (commands.Rmdir p)) c e in
+    let a = alone_is line i b.0 b.1 in
+    subst (Told line Rmdir) (ok_is (commands.Rmdir b.0) c b.2) ((a.0, (a.1.0, f.more a.0 a.1.1)), refl)
+command_is Link line i c f e =
+    let b = bind_ok (paths_alone line i) (λ (p : Names_ × Names_). done (commands.Link p.0 p.1)) c e in
+    let a = pair_is line i b.0.0 b.0.1 b.1 in
+    subst (Told line Link) (ok_is (commands.Link b.0.0 b.0.1) c b.2) ((a.0, (a.1.0, (a.1.1.0, a.1.1.1, f.more (joined (a.0 ∷ a.1.0 ∷ [])) a.1.1.2))), refl)
+command_is Rename line i c f e =
+    let b = bind_ok (paths_alone line i) (λ (p : Names_ × Names_). done (commands.Rename p.0 p.1)) c e in
+    let a = pair_is line i b.0.0 b.0.1 b.1 in
+    subst (Told line Rename) (ok_is (commands.Rename b.0.0 b.0.1) c b.2) ((a.0, (a.1.0, (a.1.1.0, a.1.1.1, f.more (joined (a.0 ∷ a.1.0 ∷ [])) a.1.1.2))), refl)
+command_is Truncate line i c f e =
+    let o = one_is (number_at (2 ^ 64 - 1)) (Decimal (2 ^ 64 - 1)) (number_reader (2 ^ 64 - 1)) commands.Truncate line i c e in
+    subst (Told line Truncate) o.same ((o.a, (o.t, (o.path, o.number, f.more (joined (o.a ∷ o.t ∷ [])) o.here))), refl)
+command_is Chmod line i c f e =
+    let o = one_is mode_at Octal mode_reader commands.Chmod line i c e in
+    subst (Told line Chmod) o.same ((o.a, (o.t, (o.path, o.number, f.more (joined (o.a ∷ o.t ∷ [])) o.here))), refl)
+command_is Read line i c f e =
+    let o = two_is (number_at (2 ^ 64 - 1)) (number_at 65536) (Decimal (2 ^ 64 - 1)) (Decimal 65536) (number_reader (2 ^ 64 - 1)) (number_reader 65536) commands.Read line i c e in
+    subst (Told line Read) o.same ((o.a, (o.s, (o.t, (o.path, o.first, o.second, f.more (joined (o.a ∷ o.s ∷ o.t ∷ [])) o.here)))), refl)
+command_is Chown line i c f e =
+    let o = two_is (number_at (2 ^ 32 - 1)) (number_at (2 ^ 32 - 1)) (Decimal (2 ^ 32 - 1)) (Decimal (2 ^ 32 - 1)) (number_reader (2 ^ 32 - 1)) (number_reader (2 ^ 32 - 1)) commands.Chown line i c e in
+    subst (Told line Chown) o.same ((o.a, (o.s, (o.t, (o.path, o.first, o.second, f.more (joined (o.a ∷ o.s ∷ o.t ∷ [])) o.here)))), refl)
+command_is Fill line i c f e =
+    let o = three_is (number_at (2 ^ 64 - 1)) (number_at 1048576) (number_at 255) (Decimal (2 ^ 64 - 1)) (Decimal 1048576) (Decimal 255) (number_reader (2 ^ 64 - 1)) (number_reader 1048576) (number_reader 255) commands.Fill line i c e in
+    subst (Told line Fill) o.same ((o.a, (o.s, (o.t, (o.u, (o.path, o.first, o.second, o.third, f.more (joined (o.a ∷ o.s ∷ o.t ∷ o.u ∷ [])) o.here))))), refl)
+command_is Times line i c f e =
+    let o = three_is (number_at (2 ^ 32 - 1)) (number_at (2 ^ 32 - 1)) (number_at (2 ^ 32 - 1)) (Decimal (2 ^ 32 - 1)) (Decimal (2 ^ 32 - 1)) (Decimal (2 ^ 32 - 1)) (number_reader (2 ^ 32 - 1)) (number_reader (2 ^ 32 - 1)) (number_reader (2 ^ 32 - 1)) commands.Times line i c e in
+    subst (Told line Times) o.same ((o.a, (o.s, (o.t, (o.u, (o.path, o.first, o.second, o.third, f.more (joined (o.a ∷ o.s ∷ o.t ∷ o.u ∷ [])) o.here))))), refl)
+command_is Write line i c f e =
+    let p = step_is Names_ path_at IsPath path_reader line i (λ (p : Names_) (j : ℕ). number_at (2 ^ 64 - 1) line j >>= λ (o : ℕ × ℕ). text_at line o.1 >>= λ (t : List ℕ). done (commands.Write p o.0 t)) c e in
+    let o = step_is ℕ (number_at (2 ^ 64 - 1)) (Decimal (2 ^ 64 - 1)) (number_reader (2 ^ 64 - 1)) line p.place (λ (o : ℕ) (j : ℕ). text_at line j >>= λ (t : List ℕ). done (commands.Write p.value o t)) c p.rest in
+    let b = bind_ok (text_at line o.place) (λ (t : List ℕ). done (commands.Write p.value o.value t)) c o.rest in
+    let t = text_is line o.place b.0 b.1 in
+    let g = before line p.place (λ t. Decimal (2 ^ 64 - 1) t o.value) o.place b.0 o.spelled t.0 in
+    let h = before line i (λ t. IsPath t p.value) p.place (joined (o.spelled.text ∷ b.0 ∷ [])) p.spelled g in
+    subst (Told line Write) (ok_is (commands.Write p.value o.value b.0) c b.2)
+    ((t.1, (p.spelled.text, (o.spelled.text, (p.spelled.is, o.spelled.is, f.more (joined (p.spelled.text ∷ o.spelled.text ∷ b.0 ∷ [])) h)))), refl)

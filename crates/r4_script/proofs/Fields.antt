@@ -147,3 +147,19 @@ ends_is line i (Some more) u e h = absurd (stands line i u h.within e)
       stands line i u h e =
         let never : at_place i whats.Field ≡ done u = sym (ap (λ (v : Bool). cond v (Ok tt) (at_place i whats.Field)) (le-ltb (length line) i h)) ∙ e in
         cc
+
+pub ends_past : (line : List ℕ) (i : ℕ) (u : Unit {0}) → ends_at line i ≡ Ok u → length line < i
+unfolding ends_at
+ends_past line i u e = elim (cases_lt (length line) i) [
+    | inl lt ↦ lt
+    | inr le ↦ absurd (never (at_place i whats.Field) refl (sym (ap (λ (v : Bool). cond v (Ok tt) (at_place i whats.Field)) (le-ltb (length line) i le)) ∙ e)) ]
+    where
+      never : (r : Result (Unit {0}) Spot) → r ≡ at_place i whats.Field → at_place i whats.Field ≡ done u → ⊥
+      never r same e = cc
+
+-- what stands behind the first blank
+pub front_more : (line : List ℕ) (rest : List ℕ) → Here line (length (until 32 line) + 1) rest → line ≡ until 32 line ++ (32 ∷ rest)
+front_more line rest h = until_tail line (omega (arith, h.within)) ∙ ap (λ (l : List ℕ). until 32 line ++ (32 ∷ l)) h.rest
+
+pub front_whole : (line : List ℕ) → length line < length (until 32 line) + 1 → line ≡ until 32 line
+front_whole line h = until_whole line (omega arith)

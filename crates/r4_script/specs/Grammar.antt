@@ -3,9 +3,10 @@ use Rattle.std.specs.Prelude.{◌≡◌, ◌≢◌, ◌⊎◌, ℕ, ◌-◌, ◌
 use Rattle.std.specs.List.{AllByRecursion}
 use Rattle.r4_content.specs.declared.command.Command.{Command}
 use Rattle.r4_content.specs.declared.command.Command.TheVariants.{Create, Mkdir, Write, Fill, Truncate, Read as ReadBytes, Stat, Names, Link, Unlink, Rmdir, Rename, Chmod, Chown, Times, Begin, End, Commit}
-use Rattle.r4_script.specs.declared.job.Script.{Script}
+use Rattle.r4_script.specs.declared.job.Job.{Job}
 use Rattle.r4_script.specs.Field.{digits_from}
-use Rattle.r4_script.specs.Progress.{Read, all_scripts}
+use Rattle.r4_script.specs.Progress.{Read, nothing, all_scripts}
+use Rattle.r4_script.specs.Split.{split}
 
 -- a number of 1 to so many digits of a base, at most so large
 pub record IsNumber (base count most : ℕ) (text : List ℕ) (n : ℕ) : Type 0 where
@@ -77,3 +78,46 @@ Spells line (Rename p q) = TwoPaths (codes "rename") line p q
 Spells line (Chmod p mode) = WithNumber (codes "chmod") line p (λ t. Octal t mode)
 Spells line (Chown p uid gid) = WithTwo (codes "chown") line p (λ t. Decimal (2 ^ 32 - 1) t uid) (λ t. Decimal (2 ^ 32 - 1) t gid)
 Spells line (Times p atime mtime ctime) = WithThree (codes "times") line p (λ t. Decimal (2 ^ 32 - 1) t atime) (λ t. Decimal (2 ^ 32 - 1) t mtime) (λ t. Decimal (2 ^ 32 - 1) t ctime)
+
+-- whether a transaction is open before a command and behind it
+abbrev pub Turns : Command → Bool → Bool → Type 0
+Turns Begin was is = (was ≡ false) × (is ≡ true)
+Turns End was is = (was ≡ true) × (is ≡ false)
+Turns Commit was is = (was ≡ false) × (is ≡ false)
+Turns command was is = was ≡ is
+
+-- an empty line, or one that begins with `#`
+abbrev pub IsSkipped : List ℕ → Type 0
+IsSkipped [] = Unit {0}
+IsSkipped (b ∷ bytes) = b ≡ 35
+
+-- the line begins the next script
+pub record IsScriptLine (r : Read) (line : List ℕ) (q : Read) : Type 0 where
+  pub word : line ≡ codes "script"
+  pub few : length (all_scripts r) < 64
+  pub begins : q ≡ record { scripts = all_scripts r; current = Some []; inside = false }
+
+-- the line is a command of the script
+pub record IsCommandLine (r : Read) (line : List ℕ) (q : Read) : Type 0 where
+  pub commands : List Command
+  pub command : Command
+  pub in_script : r.current ≡ Some commands
+  pub spells : Spells line command
+  pub turns : Turns command r.inside q.inside
+  pub adds : q ≡ record { scripts = r.scripts; current = Some (commands ++ command ∷ []); inside = q.inside }
+
+-- what a line makes of what was read before it
+abbrev pub IsLine : Read → List ℕ → Read → Type 0
+IsLine r line q = (IsSkipped line × (r ≡ q)) ⊎ (IsScriptLine r line q ⊎ IsCommandLine r line q)
+
+-- the same of lines, one after the other
+abbrev pub AreLines : Read → List (List ℕ) → Read → Type 0
+AreLines r [] q = r ≡ q
+AreLines r (line ∷ lines) q = (mid : Read) × (IsLine r line mid × AreLines mid lines q)
+
+-- the text spells the job
+pub record SpellsJob (text : List ℕ) (job : Job) : Type 0 where
+  pub short : length text ≤ 16777216
+  pub all : Read
+  pub lines : AreLines nothing (split 10 text) all
+  pub scripts : job ≡ record { scripts = all_scripts all }

@@ -1,5 +1,5 @@
 -- What was read of a text so far, and what a line adds (docs/scripts.md, "Lines").
-use Rattle.std.specs.Prelude.{ℕ, ◌+◌, Bool, true, false, nat_eq, if◌then◌else◌, List, [], ◌∷◌, ◌++◌, length, Option, Some, None, Result, Ok, Err}
+use Rattle.std.specs.Prelude.{ℕ, ◌+◌, Bool, true, false, nat_eq, nat_le, if◌then◌else◌, List, [], ◌∷◌, ◌++◌, length, Option, Some, None, Result, Ok, Err}
 use Rattle.r4_content.specs.declared.command.Command.{Command}
 use Rattle.r4_script.specs.declared.fault.What.TheVariants as whats
 use Rattle.r4_script.specs.declared.fault.Spot.{Spot}
@@ -33,7 +33,7 @@ all_scripts r = and_current r.scripts r.current
 -- `script` begins the next one, of at most 64, outside of a transaction
 unfoldable pub script_line : Read → List ℕ → ℕ → Result Read Spot
 script_line r line i =
-    if nat_eq (length (all_scripts r)) 64 then at_place 0 whats.Scripts else do
+    if nat_le 64 (length (all_scripts r)) then at_place 0 whats.Scripts else do
       _ ← ends_at line i
       Ok (record { scripts = all_scripts r; current = Some []; inside = false })
 
@@ -47,13 +47,15 @@ turn verbs.Commit true = at_place 0 whats.Open
 turn _ inside = Ok inside
 
 -- a command stands in a script, and where its transaction allows it
+abbrev pub command_added : Option (List Command) → List Script → Bool → Verb → List ℕ → ℕ → Result Read Spot
+command_added None scripts inside verb line i = at_place 0 whats.Command
+command_added (Some commands) scripts inside verb line i = do
+  open_now ← turn verb inside
+  command ← command_at verb line i
+  Ok (record { scripts = scripts; current = Some (commands ++ command ∷ []); inside = open_now })
+
 unfoldable pub command_line : Read → Verb → List ℕ → ℕ → Result Read Spot
-command_line r verb line i = elim r.current [
-    None ↦ at_place 0 whats.Command
-  | Some commands ↦ do
-      inside ← turn verb r.inside
-      command ← command_at verb line i
-      Ok (record { scripts = r.scripts; current = Some (commands ++ command ∷ []); inside = inside }) ]
+command_line r verb line i = command_added r.current r.scripts r.inside verb line i
 
 -- a line by its word
 abbrev pub worded_line : Option Verb → Read → List ℕ → ℕ → Result Read Spot

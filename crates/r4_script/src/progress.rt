@@ -84,7 +84,7 @@ impl Progress {
         ensures { Gives (λ p. p) result (script_line self line.now place) }
     {
         let scripts = self.into_scripts()?;
-        if scripts.len() == SCRIPTS {
+        if scripts.len() >= SCRIPTS {
             return Err(fault_at(0, What::Scripts));
         }
         ends(line, place)?;
