@@ -1,16 +1,14 @@
 -- The fields of a line are read as they are spelled.
-use Rattle.std.proofs.Common.{◌≡◌, ◌≢◌, ◌⊎◌, inl, inr, ⊎_elim, ℕ, ◌+◌, ◌-◌, ◌*◌, ◌<◌, ◌≤◌, Bool, true, false, cond, ◌&&◌, nat_eq, nat_lt, nat_le, List, [], ◌∷◌, ◌++◌, length, take, drop, Option, Some, None, Result, Ok, Err, refl, ap, ◌∙◌, sym, subst, arith, length-drop, add_assoc, add-one, suc}
-use Rattle.std.specs.List.{AllByRecursion, list_all}
-use Rattle.std.proofs.lemmas.Bool.{lt-ltb, le-ltb, ltb-true, ltb-false, ne_eqb, cases_lt}
+use Rattle.std.proofs.Common.{◌≡◌, ◌≢◌, inl, inr, ℕ, ◌+◌, ◌<◌, ◌≤◌, Bool, true, false, cond, nat_lt, List, [], ◌∷◌, ◌++◌, length, drop, Option, Some, None, Result, Ok, Err, refl, ap, ◌∙◌, sym, subst, arith, length-drop, add_assoc, add-one, suc}
+use Rattle.std.specs.List.{AllByRecursion}
+use Rattle.std.proofs.lemmas.Bool.{lt-ltb, le-ltb, ltb-false, ne_eqb, cases_lt}
 use Rattle.std.proofs.lemmas.Bool.Decides.{eqb_tells}
 use Rattle.std.proofs.lemmas.List.{drop-drop, drop_at, length-append}
 use Rattle.r4_script.specs.declared.fault.Spot.{Spot}
 use Rattle.r4_script.specs.declared.fault.What.{What}
 use Rattle.r4_script.specs.declared.fault.What.TheVariants as whats
-use Rattle.r4_script.specs.Field.{◌>>=◌, at_place, or_at, field_at, ends_at, digits_from, up_to, number_of, number_at, mode_at, text_at, path_of, path_at}
-use Rattle.r4_script.specs.Grammar.{IsNumber, IsPath}
-use Rattle.r4_script.specs.Split.{until, split}
-use Rattle.r4_script.proofs.Splits.{until_short}
+use Rattle.r4_script.specs.Field.{◌>>=◌, at_place, or_at, field_at, ends_at}
+use Rattle.r4_script.specs.Split.{until}
 
 -- ---- results
 
@@ -63,29 +61,32 @@ until_field (b ∷ f) (Some more) h = ap (λ (v : Bool). cond v [] (b ∷ until 
 until_plain : (xs : List ℕ) → NoBlank (until 32 xs)
 until_plain [] = tt
 until_plain (b ∷ xs) = elim (eqb_tells b 32) [
-    | inl p ↦ subst (λ (v : Bool). NoBlank (cond v [] (b ∷ until 32 xs))) (sym p.0) tt
-    | inr q ↦ subst (λ (v : Bool). NoBlank (cond v [] (b ∷ until 32 xs))) (sym q.0) (q.1, until_plain xs) ]
+  | inl p ↦ subst (λ (v : Bool). NoBlank (cond v [] (b ∷ until 32 xs))) (sym p.0) tt
+  | inr q ↦ subst (λ (v : Bool). NoBlank (cond v [] (b ∷ until 32 xs))) (sym q.0) (q.1, until_plain xs)
+]
 
 -- a text is all up to a blank, or more follows the blank
 until_tail : (xs : List ℕ) → (length (until 32 xs) < length xs) → xs ≡ until 32 xs ++ (32 ∷ drop (length (until 32 xs) + 1) xs)
 until_tail [] h = absurd (omega arith)
 until_tail (b ∷ xs) h = elim (eqb_tells b 32) [
-    | inl p ↦ subst (λ (v : Bool). b ∷ xs ≡ cond v [] (b ∷ until 32 xs) ++ (32 ∷ drop (length (cond v [] (b ∷ until 32 xs)) + 1) (b ∷ xs))) (sym p.0) (ap (λ (n : ℕ). n ∷ xs) p.1)
-    | inr q ↦
-        let below : length (until 32 xs) < length xs = omega (arith, subst (λ (v : Bool). length (cond v [] (b ∷ until 32 xs)) < length (b ∷ xs)) q.0 h) in
-        subst (λ (v : Bool). b ∷ xs ≡ cond v [] (b ∷ until 32 xs) ++ (32 ∷ drop (length (cond v [] (b ∷ until 32 xs)) + 1) (b ∷ xs))) (sym q.0)
-        (ap (λ (l : List ℕ). b ∷ l) (until_tail xs below) ∙ ap (λ (l : List ℕ). (b ∷ until 32 xs) ++ (32 ∷ l)) (shift (length (until 32 xs)) b xs)) ]
-    where
-      shift : (n b : ℕ) (xs : List ℕ) → drop (n + 1) xs ≡ drop (suc n + 1) (b ∷ xs)
-      shift n b xs = rw (add-one, add-one) refl
+  | inl p ↦ subst (λ (v : Bool). b ∷ xs ≡ cond v [] (b ∷ until 32 xs) ++ (32 ∷ drop (length (cond v [] (b ∷ until 32 xs)) + 1) (b ∷ xs))) (sym p.0) (ap (λ (n : ℕ). n ∷ xs) p.1)
+  | inr q ↦
+      let below : length (until 32 xs) < length xs = omega (arith, subst (λ (v : Bool). length (cond v [] (b ∷ until 32 xs)) < length (b ∷ xs)) q.0 h) in
+      subst (λ (v : Bool). b ∷ xs ≡ cond v [] (b ∷ until 32 xs) ++ (32 ∷ drop (length (cond v [] (b ∷ until 32 xs)) + 1) (b ∷ xs))) (sym q.0)
+      (ap (λ (l : List ℕ). b ∷ l) (until_tail xs below) ∙ ap (λ (l : List ℕ). (b ∷ until 32 xs) ++ (32 ∷ l)) (shift (length (until 32 xs)) b xs))
+]
+  where
+    shift : (n b : ℕ) (xs : List ℕ) → drop (n + 1) xs ≡ drop (suc n + 1) (b ∷ xs)
+    shift n b xs = rw (add-one, add-one) refl
 
 until_whole : (xs : List ℕ) → (length xs ≤ length (until 32 xs)) → xs ≡ until 32 xs
 until_whole [] h = refl
 until_whole (b ∷ xs) h = elim (eqb_tells b 32) [
-    | inl p ↦ absurd (omega (arith, subst (λ (v : Bool). length (b ∷ xs) ≤ length (cond v [] (b ∷ until 32 xs))) p.0 h))
-    | inr q ↦
-        let below : length xs ≤ length (until 32 xs) = omega (arith, subst (λ (v : Bool). length (b ∷ xs) ≤ length (cond v [] (b ∷ until 32 xs))) q.0 h) in
-        subst (λ (v : Bool). b ∷ xs ≡ cond v [] (b ∷ until 32 xs)) (sym q.0) (ap (λ (l : List ℕ). b ∷ l) (until_whole xs below)) ]
+  | inl p ↦ absurd (omega (arith, subst (λ (v : Bool). length (b ∷ xs) ≤ length (cond v [] (b ∷ until 32 xs))) p.0 h))
+  | inr q ↦
+      let below : length xs ≤ length (until 32 xs) = omega (arith, subst (λ (v : Bool). length (b ∷ xs) ≤ length (cond v [] (b ∷ until 32 xs))) q.0 h) in
+      subst (λ (v : Bool). b ∷ xs ≡ cond v [] (b ∷ until 32 xs)) (sym q.0) (ap (λ (l : List ℕ). b ∷ l) (until_whole xs below))
+]
 
 -- ---- a field
 
@@ -104,11 +105,11 @@ field_follows line i f (Some more) h =
     let long : length (drop i line) ≡ length f + suc (length more) = ap length h.rest ∙ length-append f (32 ∷ more) in
     record {
       within = omega (arith, length-drop i line, h.within, long);
-      rest = ap (λ (n : ℕ). drop n line) (add_assoc i (length f) 1) ∙ sym (drop-drop (length f + 1) i line) ∙ ap (drop (length f + 1)) h.rest ∙ drop_past f 32 more
+      rest = ap (λ (n : ℕ). drop n line) (add_assoc i (length f) 1) ∙ sym (drop-drop (length f + 1) i line) ∙ ap (drop (length f + 1)) h.rest ∙ drop_past f 32 more;
     }
-    where
-      drop_past : (f : List ℕ) (b : ℕ) (more : List ℕ) → drop (length f + 1) (f ++ (b ∷ more)) ≡ more
-      drop_past f b more = sym (drop-drop 1 (length f) (f ++ (b ∷ more))) ∙ ap (drop 1) (drop_at f (b ∷ more) (length f) refl)
+  where
+    drop_past : (f : List ℕ) (b : ℕ) (more : List ℕ) → drop (length f + 1) (f ++ (b ∷ more)) ≡ more
+    drop_past f b more = sym (drop-drop 1 (length f) (f ++ (b ∷ more))) ∙ ap (drop 1) (drop_at f (b ∷ more) (length f) refl)
 
 -- what is read stands there
 pub record ReadsField (line : List ℕ) (i : ℕ) (f : List ℕ) (j : ℕ) : Type 0 where
@@ -128,8 +129,12 @@ field_is line i f j e =
     let plain : NoBlank f = subst NoBlank f-is (until_plain (drop i line)) in
     let goes : j ≡ i + length f + 1 = sym j-is ∙ ap (λ (l : List ℕ). i + length l + 1) f-is in
     elim (cases_lt (length (until 32 (drop i line))) (length (drop i line))) [
-      | inl lt ↦ record { plain = plain; goes = goes; tail = Some (drop (length (until 32 (drop i line)) + 1) (drop i line));
-          here = record { within = early; rest = until_tail (drop i line) lt ∙ ap (λ (l : List ℕ). l ++ (32 ∷ drop (length (until 32 (drop i line)) + 1) (drop i line))) f-is } }
+      | inl lt ↦ record {
+        plain = plain;
+        goes = goes;
+        tail = Some (drop (length (until 32 (drop i line)) + 1) (drop i line));
+        here = record { within = early; rest = until_tail (drop i line) lt ∙ ap (λ (l : List ℕ). l ++ (32 ∷ drop (length (until 32 (drop i line)) + 1) (drop i line))) f-is };
+      }
       | inr le ↦ record { plain = plain; goes = goes; tail = None; here = record { within = early; rest = until_whole (drop i line) le ∙ f-is } }
     ]
 
@@ -142,20 +147,21 @@ pub ends_is : (line : List ℕ) (i : ℕ) (t : Option (List ℕ)) (u : Unit {0})
 unfolding ends_at
 ends_is line i None u e h = refl
 ends_is line i (Some more) u e h = absurd (stands line i u h.within e)
-    where
-      stands : (line : List ℕ) (i : ℕ) (u : Unit {0}) → i ≤ length line → cond (nat_lt (length line) i) (Ok tt) (at_place i whats.Field) ≡ done u → ⊥
-      stands line i u h e =
+  where
+    stands : (line : List ℕ) (i : ℕ) (u : Unit {0}) → i ≤ length line → cond (nat_lt (length line) i) (Ok tt) (at_place i whats.Field) ≡ done u → ⊥
+    stands line i u h e =
         let never : at_place i whats.Field ≡ done u = sym (ap (λ (v : Bool). cond v (Ok tt) (at_place i whats.Field)) (le-ltb (length line) i h)) ∙ e in
         cc
 
 pub ends_past : (line : List ℕ) (i : ℕ) (u : Unit {0}) → ends_at line i ≡ Ok u → length line < i
 unfolding ends_at
 ends_past line i u e = elim (cases_lt (length line) i) [
-    | inl lt ↦ lt
-    | inr le ↦ absurd (never (at_place i whats.Field) refl (sym (ap (λ (v : Bool). cond v (Ok tt) (at_place i whats.Field)) (le-ltb (length line) i le)) ∙ e)) ]
-    where
-      never : (r : Result (Unit {0}) Spot) → r ≡ at_place i whats.Field → at_place i whats.Field ≡ done u → ⊥
-      never r same e = cc
+  | inl lt ↦ lt
+  | inr le ↦ absurd (never (at_place i whats.Field) refl (sym (ap (λ (v : Bool). cond v (Ok tt) (at_place i whats.Field)) (le-ltb (length line) i le)) ∙ e))
+]
+  where
+    never : (r : Result (Unit {0}) Spot) → r ≡ at_place i whats.Field → at_place i whats.Field ≡ done u → ⊥
+    never r same e = cc
 
 -- what stands behind the first blank
 pub front_more : (line : List ℕ) (rest : List ℕ) → Here line (length (until 32 line) + 1) rest → line ≡ until 32 line ++ (32 ∷ rest)

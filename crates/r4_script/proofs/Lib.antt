@@ -1,5 +1,6 @@
 pub mod CommandLines
 pub mod Fields
+pub mod Jobs
 pub mod Lines
 pub mod Numbers
 pub mod Shapes

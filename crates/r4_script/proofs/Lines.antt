@@ -1,5 +1,5 @@
 -- Lines one after the other.
-use Rattle.std.proofs.Common.{◌≡◌, ◌≢◌, ℕ, ◌+◌, ◌≤◌, ◌<◌, Bool, true, false, cond, nat_eq, nat_lt, List, [], ◌∷◌, length, take, drop, refl, ap, ◌∙◌, sym, subst, arith, length-drop, add_assoc, Result, Ok, Err}
+use Rattle.std.proofs.Common.{◌≡◌, ℕ, ◌+◌, ◌≤◌, ◌<◌, Bool, true, false, cond, nat_eq, List, [], ◌∷◌, length, take, drop, refl, ap, ◌∙◌, sym, subst, arith, length-drop, add_assoc, Result, Ok, Err}
 use Rattle.std.proofs.lemmas.Bool.{lt-ltb, le-ltb}
 use Rattle.std.proofs.lemmas.List.{drop-drop, take_all}
 use Rattle.r4_script.specs.declared.fault.Spot.{Spot}
@@ -57,8 +57,8 @@ pub rest_is : (long : Bool) (n place : ℕ) (r : Read) (text line : List ℕ) (w
 rest_is long n place r text line whole is below all =
     let short : length (until 10 (drop place text)) < length (drop place text) = simp length-drop (omega (arith, ap length is)) in
     let further : drop (place + length line + 1) text ≡ drop (length (until 10 (drop place text)) + 1) (drop place text) =
-        ap (λ (n : ℕ). drop n text) (add_assoc place (length line) 1) ∙ sym (drop-drop (length line + 1) place text)
-        ∙ ap (λ (l : List ℕ). drop (length l + 1) (drop place text)) is in
+    ap (λ (n : ℕ). drop n text) (add_assoc place (length line) 1) ∙ sym (drop-drop (length line + 1) place text)
+    ∙ ap (λ (l : List ℕ). drop (length l + 1) (drop place text)) is in
     ap (λ (l : List ℕ). and_then (at_line n (line_read r l)) (λ q. lines_read long (n + 1) q (split 10 (drop (place + length line + 1) text)))) is
     ∙ ap (λ (l : List ℕ). and_then (at_line n (line_read r (until 10 (drop place text)))) (λ q. lines_read long (n + 1) q (split 10 l))) further
     ∙ sym (lines_more long n r (drop place text) short) ∙ all

@@ -1,12 +1,12 @@
 -- Numbers and paths are read as they are spelled.
-use Rattle.std.proofs.Common.{◌≡◌, ◌≢◌, ◌⊎◌, inl, inr, ℕ, ◌+◌, ◌-◌, ◌*◌, ◌<◌, ◌≤◌, Bool, true, false, cond, ◌&&◌, nat_eq, nat_lt, nat_le, List, [], ◌∷◌, ◌++◌, length, take, drop, Option, Some, None, Result, Ok, Err, refl, ap, ◌∙◌, sym, subst, arith, append_assoc, option_map, suc, not, leb-true, le-leb, eq-eqb}
+use Rattle.std.proofs.Common.{◌≡◌, ◌≢◌, inl, inr, ℕ, ◌+◌, ◌-◌, ◌*◌, ◌≤◌, Bool, true, false, cond, ◌&&◌, nat_eq, nat_lt, nat_le, List, [], ◌∷◌, ◌++◌, length, drop, Option, Some, None, refl, ap, ◌∙◌, sym, subst, arith, option_map, not, leb-true, le-leb, eq-eqb}
 use Rattle.std.specs.Prelude.{flat_map}
 use Rattle.std.specs.List.{AllByRecursion, list_all}
-use Rattle.std.proofs.lemmas.Bool.{lt-ltb, le-ltb, ltb-true, ltb-false, ne_eqb, eqb-true}
+use Rattle.std.proofs.lemmas.Bool.{lt-ltb, ltb-true, ne_eqb, eqb-true}
 use Rattle.std.proofs.lemmas.Bool.Decides.{eqb_tells}
 use Rattle.r4_script.specs.Field.{digits_from, up_to, number_of, is_path_byte, components, behind_root, path_of}
 use Rattle.r4_script.specs.Grammar.{IsNumber, IsNameByte, IsPath}
-use Rattle.r4_script.specs.Split.{until, onto_first, split}
+use Rattle.r4_script.specs.Split.{onto_first, split}
 use Rattle.r4_script.proofs.Fields.{NoBlank}
 use Rattle.r4_script.proofs.Lines.{first_part}
 
@@ -57,14 +57,15 @@ number_again base count most text n h =
 split_spells : (xs : List ℕ) → 47 ∷ xs ≡ flat_map (λ n. 47 ∷ n) (split 47 xs)
 split_spells [] = refl
 split_spells (b ∷ bs) = elim (eqb_tells b 47) [
-    | inl p ↦ subst (λ (v : Bool). 47 ∷ b ∷ bs ≡ flat_map (λ n. 47 ∷ n) (cond v ([] ∷ split 47 bs) (onto_first b (split 47 bs)))) (sym p.0)
-        (ap (λ (n : ℕ). 47 ∷ n ∷ bs) p.1 ∙ ap (λ (l : List ℕ). 47 ∷ l) (split_spells bs))
-    | inr q ↦
-        let f = first_part 47 bs in
-        let rest : 47 ∷ bs ≡ 47 ∷ (f.0 ++ flat_map (λ n. 47 ∷ n) f.1.0) = split_spells bs ∙ ap (flat_map (λ n. 47 ∷ n)) f.1.1 in
-        let tail : bs ≡ f.0 ++ flat_map (λ n. 47 ∷ n) f.1.0 = ap (drop 1) rest in
-        subst (λ (v : Bool). 47 ∷ b ∷ bs ≡ flat_map (λ n. 47 ∷ n) (cond v ([] ∷ split 47 bs) (onto_first b (split 47 bs)))) (sym q.0)
-        (ap (λ (l : List ℕ). 47 ∷ b ∷ l) tail ∙ sym (ap (λ (l : List (List ℕ)). flat_map (λ n. 47 ∷ n) (onto_first b l)) f.1.1)) ]
+  | inl p ↦ subst (λ (v : Bool). 47 ∷ b ∷ bs ≡ flat_map (λ n. 47 ∷ n) (cond v ([] ∷ split 47 bs) (onto_first b (split 47 bs)))) (sym p.0)
+      (ap (λ (n : ℕ). 47 ∷ n ∷ bs) p.1 ∙ ap (λ (l : List ℕ). 47 ∷ l) (split_spells bs))
+  | inr q ↦
+      let f = first_part 47 bs in
+      let rest : 47 ∷ bs ≡ 47 ∷ (f.0 ++ flat_map (λ n. 47 ∷ n) f.1.0) = split_spells bs ∙ ap (flat_map (λ n. 47 ∷ n)) f.1.1 in
+      let tail : bs ≡ f.0 ++ flat_map (λ n. 47 ∷ n) f.1.0 = ap (drop 1) rest in
+      subst (λ (v : Bool). 47 ∷ b ∷ bs ≡ flat_map (λ n. 47 ∷ n) (cond v ([] ∷ split 47 bs) (onto_first b (split 47 bs)))) (sym q.0)
+      (ap (λ (l : List ℕ). 47 ∷ b ∷ l) tail ∙ sym (ap (λ (l : List (List ℕ)). flat_map (λ n. 47 ∷ n) (onto_first b l)) f.1.1))
+]
 
 split_names : (xs : List ℕ) → list_all is_path_byte xs ≡ true → AllByRecursion (AllByRecursion IsNameByte) (split 47 xs)
 split_names [] e = (tt, tt)
@@ -73,18 +74,21 @@ split_names (b ∷ bs) e =
     let u = both (nat_lt 32 b) (not (nat_eq b 127)) t.0 in
     let rest = split_names bs t.1 in
     elim (eqb_tells b 47) [
-    | inl p ↦ subst (λ (v : Bool). AllByRecursion (AllByRecursion IsNameByte) (cond v ([] ∷ split 47 bs) (onto_first b (split 47 bs)))) (sym p.0) (tt, rest)
-    | inr q ↦ subst (λ (v : Bool). AllByRecursion (AllByRecursion IsNameByte) (cond v ([] ∷ split 47 bs) (onto_first b (split 47 bs)))) (sym q.0)
-        (onto b (split 47 bs) (record { above = ltb-true 32 b u.0; plain = is_not b u.1; no_slash = q.1 }) rest) ]
-    where
-      onto : (b : ℕ) (parts : List (List ℕ)) → IsNameByte b → AllByRecursion (AllByRecursion IsNameByte) parts → AllByRecursion (AllByRecursion IsNameByte) (onto_first b parts)
-      onto b [] h r = ((h, tt), tt)
-      onto b (part ∷ parts) h r = ((h, r.0), r.1)
-      never : (v : Bool) → v ≡ true → not v ≡ true → ⊥
-      never true p q = cc
-      never false p q = cc
-      is_not : (b : ℕ) → not (nat_eq b 127) ≡ true → b ≢ 127
-      is_not b e same = never (nat_eq b 127) (eq-eqb b 127 same) e
+      | inl p ↦ subst (λ (v : Bool). AllByRecursion (AllByRecursion IsNameByte) (cond v ([] ∷ split 47 bs) (onto_first b (split 47 bs)))) (sym p.0) (tt, rest)
+      | inr q ↦ subst (λ (v : Bool). AllByRecursion (AllByRecursion IsNameByte) (cond v ([] ∷ split 47 bs) (onto_first b (split 47 bs)))) (sym q.0)
+          (onto b (split 47 bs) (record { above = ltb-true 32 b u.0; plain = is_not b u.1; no_slash = q.1 }) rest)
+    ]
+  where
+    onto : (b : ℕ) (parts : List (List ℕ)) → IsNameByte b → AllByRecursion (AllByRecursion IsNameByte) parts → AllByRecursion (AllByRecursion IsNameByte) (onto_first b parts)
+    onto b [] h r = ((h, tt), tt)
+    onto b (part ∷ parts) h r = ((h, r.0), r.1)
+
+    never : (v : Bool) → v ≡ true → not v ≡ true → ⊥
+    never true p q = cc
+    never false p q = cc
+
+    is_not : (b : ℕ) → not (nat_eq b 127) ≡ true → b ≢ 127
+    is_not b e same = never (nat_eq b 127) (eq-eqb b 127 same) e
 
 pub path_is : (text : List ℕ) (p : List (List ℕ)) → path_of text ≡ Some p → IsPath text p
 unfolding path_of
@@ -94,20 +98,24 @@ path_is (b ∷ bytes) p e =
     let t = both (nat_eq b 47) (list_all is_path_byte bytes) r.0 in
     let slash : b ≡ 47 = eqb-true b 47 t.0 in
     subst (λ (n : ℕ). IsPath (n ∷ bytes) p) (sym slash) (subst (IsPath (47 ∷ bytes)) r.1 (named bytes t.1))
-    where
-      some_is : (x y : List (List ℕ)) → Some x ≡ Some y → x ≡ y
-      some_is x y e = cc
-      rooted : (v : Bool) (bytes : List ℕ) (p : List (List ℕ)) → option_map components (cond v (Some bytes) None) ≡ Some p → (v ≡ true) × (components bytes ≡ p)
-      rooted true bytes p e = (refl, some_is (components bytes) p e)
-      rooted false bytes p e = absurd cc
-      not_bare : (c : ℕ) (cs : List ℕ) → 47 ∷ c ∷ cs ≡ 47 ∷ [] → ⊥
-      not_bare c cs e = cc
-      shaped : (c : ℕ) (cs : List ℕ) (parts : List (List ℕ)) → 47 ∷ c ∷ cs ≡ flat_map (λ n. 47 ∷ n) parts → AllByRecursion (AllByRecursion IsNameByte) parts → IsPath (47 ∷ c ∷ cs) parts
-      shaped c cs [] s a = absurd cc
-      shaped c cs (name ∷ names) s a = (s, a, λ bare. not_bare c cs (s ∙ ap (flat_map (λ n. 47 ∷ n)) bare))
-      named : (bytes : List ℕ) → list_all is_path_byte bytes ≡ true → IsPath (47 ∷ bytes) (components bytes)
-      named [] e = refl
-      named (c ∷ cs) e = shaped c cs (split 47 (c ∷ cs)) (split_spells (c ∷ cs)) (split_names (c ∷ cs) e)
+  where
+    some_is : (x y : List (List ℕ)) → Some x ≡ Some y → x ≡ y
+    some_is x y e = cc
+
+    rooted : (v : Bool) (bytes : List ℕ) (p : List (List ℕ)) → option_map components (cond v (Some bytes) None) ≡ Some p → (v ≡ true) × (components bytes ≡ p)
+    rooted true bytes p e = (refl, some_is (components bytes) p e)
+    rooted false bytes p e = absurd cc
+
+    not_bare : (c : ℕ) (cs : List ℕ) → 47 ∷ c ∷ cs ≡ 47 ∷ [] → ⊥
+    not_bare c cs e = cc
+
+    shaped : (c : ℕ) (cs : List ℕ) (parts : List (List ℕ)) → 47 ∷ c ∷ cs ≡ flat_map (λ n. 47 ∷ n) parts → AllByRecursion (AllByRecursion IsNameByte) parts → IsPath (47 ∷ c ∷ cs) parts
+    shaped c cs [] s a = absurd cc
+    shaped c cs (name ∷ names) s a = (s, a, λ bare. not_bare c cs (s ∙ ap (flat_map (λ n. 47 ∷ n)) bare))
+
+    named : (bytes : List ℕ) → list_all is_path_byte bytes ≡ true → IsPath (47 ∷ bytes) (components bytes)
+    named [] e = refl
+    named (c ∷ cs) e = shaped c cs (split 47 (c ∷ cs)) (split_spells (c ∷ cs)) (split_names (c ∷ cs) e)
 
 split_again : (name : List ℕ) (names : List (List ℕ)) → AllByRecursion IsNameByte name → AllByRecursion (AllByRecursion IsNameByte) names → split 47 (name ++ flat_map (λ n. 47 ∷ n) names) ≡ name ∷ names
 split_again [] [] h k = refl
@@ -131,11 +139,11 @@ path_again text (name ∷ names) h =
     ap (λ (l : List ℕ). option_map components (behind_root l)) h.0
     ∙ ap (λ (v : Bool). option_map components (cond v (Some (name ++ flat_map (λ n. 47 ∷ n) names)) None)) (all_visible name names h.1.0 h.1.1)
     ∙ ap Some (whole name names h.1.0 h.1.1 h.2)
-    where
-      whole : (name : List ℕ) (names : List (List ℕ)) → AllByRecursion IsNameByte name → AllByRecursion (AllByRecursion IsNameByte) names → (name ∷ names ≢ [] ∷ []) → components (name ++ flat_map (λ n. 47 ∷ n) names) ≡ name ∷ names
-      whole [] [] h k bare = absurd (bare refl)
-      whole [] (m ∷ ms) h k bare = split_again [] (m ∷ ms) h k
-      whole (b ∷ name) names h k bare = split_again (b ∷ name) names h k
+  where
+    whole : (name : List ℕ) (names : List (List ℕ)) → AllByRecursion IsNameByte name → AllByRecursion (AllByRecursion IsNameByte) names → (name ∷ names ≢ [] ∷ []) → components (name ++ flat_map (λ n. 47 ∷ n) names) ≡ name ∷ names
+    whole [] [] h k bare = absurd (bare refl)
+    whole [] (m ∷ ms) h k bare = split_again [] (m ∷ ms) h k
+    whole (b ∷ name) names h k bare = split_again (b ∷ name) names h k
 
 no_blank_names : (name : List ℕ) (names : List (List ℕ)) → AllByRecursion IsNameByte name → AllByRecursion (AllByRecursion IsNameByte) names → NoBlank (name ++ flat_map (λ n. 47 ∷ n) names)
 no_blank_names [] [] h k = tt

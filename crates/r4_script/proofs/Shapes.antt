@@ -1,15 +1,14 @@
 -- The shapes of commands are read as they are spelled.
-use Rattle.std.proofs.Common.{◌≡◌, ◌≢◌, ◌⊎◌, inl, inr, ℕ, ◌+◌, ◌-◌, ◌^◌, ◌<◌, ◌≤◌, Bool, true, false, cond, nat_lt, List, [], ◌∷◌, ◌++◌, length, take, drop, Option, Some, None, Result, Ok, Err, refl, ap, ◌∙◌, sym, subst, arith, suc}
+use Rattle.std.proofs.Common.{◌≡◌, ℕ, ◌+◌, ◌≤◌, Bool, cond, nat_lt, List, [], ◌∷◌, ◌++◌, length, drop, Option, Some, None, Result, Ok, ap, ◌∙◌, sym, subst, arith}
 use Rattle.std.proofs.lemmas.Bool.{le-ltb, ltb-false}
 use Rattle.r4_content.specs.declared.command.Command.{Command}
-use Rattle.r4_content.specs.declared.command.Command.TheVariants as commands
 use Rattle.r4_script.specs.declared.fault.Spot.{Spot}
 use Rattle.r4_script.specs.declared.fault.What.{What}
 use Rattle.r4_script.specs.declared.fault.What.TheVariants as whats
-use Rattle.r4_script.specs.Command.{bare, path_alone, paths_alone, write_at}
+use Rattle.r4_script.specs.Command.{bare, path_alone, paths_alone}
 use Rattle.r4_script.specs.Field.{◌>>=◌, at_place, or_at, field_at, ends_at, number_of, number_at, mode_at, text_at, path_of, path_at}
-use Rattle.r4_script.specs.Grammar.{IsNumber, Decimal, Octal, IsPath, joined}
-use Rattle.r4_script.proofs.Fields.{bind_ok, done, ok_is, guard_ok, or_at_ok, NoBlank, Here, with_tail, Follows, field_again, field_follows, ReadsField, field_is, ends_again, ends_is}
+use Rattle.r4_script.specs.Grammar.{Decimal, Octal, IsPath, joined}
+use Rattle.r4_script.proofs.Fields.{bind_ok, done, ok_is, guard_ok, or_at_ok, NoBlank, Here, with_tail, Follows, field_again, field_follows, field_is, ends_again, ends_is}
 use Rattle.r4_script.proofs.Numbers.{no_blank_digits, number_is, number_again, path_is, path_again, no_blank_path}
 
 -- a field of this kind stands there
@@ -39,7 +38,7 @@ fielded_reader : (X : Type 0) (what : What) (value : List ℕ → Option X) (Is 
     → ((t : List ℕ) (x : X) → Is t x → NoBlank t) → ((t : List ℕ) (x : X) → value t ≡ Some x → Is t x) → ((t : List ℕ) (x : X) → Is t x → value t ≡ Some x)
     → IsReader X (fielded what value) Is
 fielded_reader X what value Is plain sound complete = record {
-    reads = λ line i x j e.
+  reads = λ line i x j e.
       let b = bind_ok (field_at line i) (λ (f : List ℕ × ℕ). or_at i what (value f.0) >>= λ (x : X). done (x, f.1)) (x, j) e in
       let c = bind_ok (or_at i what (value b.0.0)) (λ (x : X). done (x, b.0.1)) (x, j) b.2 in
       let same = ok_is (c.0, b.0.1) (x, j) c.2 in
@@ -51,12 +50,12 @@ fielded_reader X what value Is plain sound complete = record {
         is = sound b.0.0 x (or_at_ok i what (value b.0.0) c.0 c.1 ∙ ap Some x-is);
         tail = f.tail;
         here = f.here;
-        follows = follows_from line i b.0.0 j f.tail (sym j-is ∙ f.goes) f.here
+        follows = follows_from line i b.0.0 j f.tail (sym j-is ∙ f.goes) f.here;
       };
-    again = λ line i t tail x is here.
+  again = λ line i t tail x is here.
       ap (λ (r : Result (List ℕ × ℕ) Spot). r >>= λ (f : List ℕ × ℕ). or_at i what (value f.0) >>= λ (x : X). done (x, f.1)) (field_again line i t tail here (plain t x is))
-      ∙ ap (λ (o : Option X). or_at i what o >>= λ (x : X). done (x, i + length t + 1)) (complete t x is)
-  }
+      ∙ ap (λ (o : Option X). or_at i what o >>= λ (x : X). done (x, i + length t + 1)) (complete t x is);
+}
 
 pub number_reader : (most : ℕ) → IsReader ℕ (number_at most) (Decimal most)
 unfolding number_at
@@ -109,9 +108,17 @@ pair_is line i p q e =
     let same = ok_is (a.0.0, b.0.0) (p, q) c.2 in
     let s = path_reader.reads line i a.0.0 a.0.1 a.1 in
     let t = path_reader.reads line a.0.1 b.0.0 b.0.1 b.1 in
-    let second = last_here line a.0.1 t.text b.0.1 t.tail c.0 t.here t.follows c.1 in
-    (s.text, (t.text, (subst (IsPath s.text) (ap (λ (z : List (List ℕ) × List (List ℕ)). z.0) same) s.is, subst (IsPath t.text) (ap (λ (z : List (List ℕ) × List (List ℕ)). z.1) same) t.is,
-      more_here line i s.text a.0.1 s.tail t.text s.here s.follows second)))
+    let second = last_here line a.0.1 t.text b.0.1 t.tail c.0 t.here t.follows c.1 in (
+      s.text,
+      (
+        t.text,
+        (
+          subst (IsPath s.text) (ap (λ (z : List (List ℕ) × List (List ℕ)). z.0) same) s.is,
+          subst (IsPath t.text) (ap (λ (z : List (List ℕ) × List (List ℕ)). z.1) same) t.is,
+          more_here line i s.text a.0.1 s.tail t.text s.here s.follows second,
+        ),
+      ),
+    )
 
 pub pair_again : (line : List ℕ) (i : ℕ) (a b : List ℕ) (p q : List (List ℕ)) → IsPath a p → IsPath b q → Here line i (joined (a ∷ b ∷ [])) → paths_alone line i ≡ Ok (p, q)
 pair_again line i a b p q ia ib here =

@@ -1,5 +1,5 @@
 -- Texts that are split at a byte.
-use Rattle.std.proofs.Common.{◌≡◌, ℕ, ◌+◌, ◌≤◌, ◌<◌, Bool, true, false, cond, nat_eq, List, [], ◌∷◌, ◌++◌, length, take, drop, refl, ap, ◌∙◌, append_assoc, arith, sym, length-drop, suc, add-one, add_assoc}
+use Rattle.std.proofs.Common.{◌≡◌, ℕ, ◌+◌, ◌≤◌, ◌<◌, true, false, cond, nat_eq, List, [], ◌∷◌, ◌++◌, length, drop, refl, ap, ◌∙◌, append_assoc, arith, sym, length-drop, suc, add-one, add_assoc}
 use Rattle.std.proofs.lemmas.List.{drop-drop}
 use Rattle.r4_script.specs.Split.{until, onto_first, split}
 
@@ -22,9 +22,9 @@ split_more s [] h = absurd (omega arith)
 split_more s (b ∷ bs) h =
     (elim (nat_eq b s) as (λ v. length (cond v [] (b ∷ until s bs)) < length (b ∷ bs) → cond v ([] ∷ split s bs) (onto_first b (split s bs)) ≡ cond v [] (b ∷ until s bs) ∷ split s (drop (length (cond v [] (b ∷ until s bs)) + 1) (b ∷ bs)))
     [ true ↦ λ g. refl | false ↦ λ g. ap (onto_first b) (split_more s bs (omega arith)) ∙ ap (λ (l : List ℕ). (b ∷ until s bs) ∷ split s l) (next b (length (until s bs)) bs) ]) h
-    where
-      next : (b n : ℕ) (bs : List ℕ) → drop (n + 1) bs ≡ drop (suc n + 1) (b ∷ bs)
-      next b n bs = rw (add-one, add-one) refl
+  where
+    next : (b n : ℕ) (bs : List ℕ) → drop (n + 1) bs ≡ drop (suc n + 1) (b ∷ bs)
+    next b n bs = rw (add-one, add-one) refl
 
 -- One name more, where others follow and where none does.
 pub names_more : (at : ℕ) (xs : List ℕ) (names : List (List ℕ)) → at ≤ length xs → names ++ split 47 (drop at xs) ≡ split 47 xs → at + length (until 47 (drop at xs)) + 1 ≤ length xs → (names ++ until 47 (drop at xs) ∷ []) ++ split 47 (drop (at + length (until 47 (drop at xs)) + 1) xs) ≡ split 47 xs

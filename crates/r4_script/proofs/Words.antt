@@ -1,5 +1,5 @@
 -- The words of commands.
-use Rattle.std.proofs.Common.{◌≡◌, ◌⊎◌, inl, inr, ℕ, Bool, true, false, cond, List, [], ◌∷◌, ◌++◌, codes, Option, Some, None, refl, ap, ◌∙◌, sym, subst, Decides}
+use Rattle.std.proofs.Common.{◌≡◌, ℕ, Bool, true, false, cond, List, codes, Option, Some, None, refl, ap, ◌∙◌, Decides}
 use Rattle.std.proofs.lemmas.Slice.Eq.{bytes_eq-Decides}
 use Rattle.std.specs.Str.{bytes_eq}
 use Rattle.r4_script.specs.declared.word.Verb.{Verb}
@@ -33,6 +33,7 @@ step w word x v rest is more e = go (bytes_eq w word) (bytes_eq-Decides w word) 
   where
     some_is : (x v : Verb) → Some x ≡ Some v → x ≡ v
     some_is x v e = cc
+
     go : (b : Bool) → Decides b (w ≡ word) → cond b (Some x) rest ≡ Some v → w ≡ word_of v
     go true d e = d.0 refl ∙ is ∙ ap word_of (some_is x v e)
     go false d e = more e

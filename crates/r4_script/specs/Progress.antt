@@ -1,5 +1,5 @@
 -- What was read of a text so far, and what a line adds (docs/scripts.md, "Lines").
-use Rattle.std.specs.Prelude.{ℕ, ◌+◌, Bool, true, false, nat_eq, nat_le, if◌then◌else◌, List, [], ◌∷◌, ◌++◌, length, Option, Some, None, Result, Ok, Err}
+use Rattle.std.specs.Prelude.{ℕ, ◌+◌, Bool, true, false, nat_eq, nat_le, if◌then◌else◌, List, [], ◌∷◌, ◌++◌, length, Option, Some, None, Result, Ok}
 use Rattle.r4_content.specs.declared.command.Command.{Command}
 use Rattle.r4_script.specs.declared.fault.What.TheVariants as whats
 use Rattle.r4_script.specs.declared.fault.Spot.{Spot}

@@ -5,6 +5,7 @@ mod command;
 mod fault;
 mod field;
 mod job;
+mod laws;
 mod number;
 mod path;
 mod progress;
@@ -14,6 +15,7 @@ mod word;
 
 pub use fault::{ParseFault, ScriptFault, What};
 pub use job::{Commands, Job, Script, Scripts};
+pub use laws::grammar_law;
 pub use text::parse;
 
 #[cfg(test)]

@@ -1,4 +1,4 @@
-use Rattle.std.proofs.Common.{arith, rules, ◌≡◌, ◌≤◌, ◌++◌, ◌∷◌, [], length, drop}
+use Rattle.std.proofs.Common.{arith, ◌≡◌, ◌≤◌, ◌++◌, ◌∷◌, [], length, drop}
 use Rattle.std.proofs.lemmas.Grind.{common_steps}
 use Rattle.r4_script.specs.Split.{until}
 use Rattle.r4_script.proofs.Splits.{until_short, names_more_at, names_last_at}
@@ -13,5 +13,5 @@ loop-place-preserved c =
     record {
       within = grind (arith, common_steps);
       more = names_more_at c.loop-place.place _ c.args.bytes.now c.until-part.result.now c.loop-place.names.items c.push.new.self.items here c.loop-place.invariant.more part made (omega arith);
-      done = names_last_at c.loop-place.place _ c.args.bytes.now c.until-part.result.now c.loop-place.names.items c.push.new.self.items here c.loop-place.invariant.more part made (omega arith)
+      done = names_last_at c.loop-place.place _ c.args.bytes.now c.until-part.result.now c.loop-place.names.items c.push.new.self.items here c.loop-place.invariant.more part made (omega arith);
     }

@@ -1,4 +1,4 @@
-use Rattle.std.proofs.Common.{arith, rules, ◌≡◌, ◌≤◌, ◌<◌, ◌+◌, length, drop, sym, ap, ◌∙◌, Err}
+use Rattle.std.proofs.Common.{arith, ◌≡◌, ◌≤◌, ◌<◌, ◌+◌, length, drop, sym, ap, ◌∙◌, Err}
 use Rattle.std.proofs.lemmas.Result.{err_from_is_err_and}
 use Rattle.std.proofs.lemmas.Grind.{common_steps}
 use Rattle.r4_script.specs.Split.{until}
@@ -7,12 +7,12 @@ use Rattle.r4_script.proofs.Lines.{reads_last, reads_line, reads_fault}
 use Rattle.r4_script.proofs.text.read_lines.Goals as goal
 
 pub line-requires : goal.line-requires
-line-requires c = 
+line-requires c =
     let line : c.until-line.result.now ≡ until 10 (drop c.lines.place c.args.text.now) = grind (arith, common_steps) in
     grind (arith, until_short, common_steps)
 
 pub returns-then-end-text : goal.returns-then-end-text
-returns-then-end-text c = 
+returns-then-end-text c =
     let line : c.until-line.result.now ≡ until 10 (drop c.lines.place c.args.text.now) = grind (arith, common_steps) in
     reads_last c.args.long c.lines.number c.lines.place _ c.args.text.now c.until-line.result.now _ _ _ (omega arith) line (omega arith) c.lines.invariant.same c.last_line.ensures c.at_line.ensures
 
@@ -33,5 +33,5 @@ lines-preserved c =
     record {
       within = omega arith;
       few = omega arith;
-      same = reads_line c.args.long c.lines.number c.lines.place _ _ c.args.text.now c.until-line.result.now _ _ line below c.lines.invariant.same c.line.ensures c.in_ok-progress.ensures
+      same = reads_line c.args.long c.lines.number c.lines.place _ _ c.args.text.now c.until-line.result.now _ _ line below c.lines.invariant.same c.line.ensures c.in_ok-progress.ensures;
     }

@@ -6,10 +6,10 @@ use Rattle.r4_script.proofs.text.read_lines.Given as goal
 
 abbrev pub invariant-lines : goal.invariant-lines
 invariant-lines l = record {
-    within : l.place ≤ length l.text;
-    few : l.number ≤ l.place + 1;
-    same : lines_read l.long l.number l.progress (split 10 (drop l.place l.text)) ≡ lines_read l.long 1 nothing (split 10 l.text)
-  }
+  within : l.place ≤ length l.text;
+  few : l.number ≤ l.place + 1;
+  same : lines_read l.long l.number l.progress (split 10 (drop l.place l.text)) ≡ lines_read l.long 1 nothing (split 10 l.text);
+}
 
 abbrev pub decreases-lines : goal.decreases-lines
 decreases-lines l = length l.text - l.place

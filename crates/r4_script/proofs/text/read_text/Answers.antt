@@ -1,9 +1,5 @@
-use Rattle.std.proofs.Common.{arith, rules, refl, ◌∙◌, ap, ◌≡◌, ◌≤◌, ◌<◌, List, ℕ, length, take}
-use Rattle.std.proofs.lemmas.Grind.{common_steps}
+use Rattle.std.proofs.Common.{arith, refl}
 use Rattle.r4_script.proofs.Lines.{text_cut, text_whole, same_answer}
-use Rattle.r4_script.specs.Progress.{nothing}
-use Rattle.r4_script.specs.Split.{split}
-use Rattle.r4_script.specs.Text.{lines_read, text_read}
 use Rattle.r4_script.proofs.text.read_text.Goals as goal
 
 pub returns-then-text-limit : goal.returns-then-text-limit

@@ -1,0 +1,12 @@
+//! Laws of the definitions. Each is the contract of a function that does nothing.
+
+ghost use Rattle.std.specs.Prelude.{◌≡◌, ◌↔◌, ℕ, List, Ok};
+ghost use Rattle.r4_script.specs.declared.job.Job.{Job};
+ghost use Rattle.r4_script.specs.Grammar.{SpellsJob};
+ghost use Rattle.r4_script.specs.Text.{job_of};
+
+/// A text is read as a job exactly where it spells that job by the grammar: nothing that is spelled is refused, and nothing
+/// else is read (docs/scripts.md, "Commands").
+pub fn grammar_law()
+    ensures { (text : List ℕ) (job : Job) → (job_of text ≡ Ok job) ↔ SpellsJob text job }
+{}
