@@ -3,10 +3,13 @@
 ghost use Rattle.std.specs.Prelude.{◌≡◌, ◌↔◌, ℕ, List, Ok};
 ghost use Rattle.r4_script.specs.declared.job.Job.{Job};
 ghost use Rattle.r4_script.specs.Grammar.{SpellsJob};
+ghost use Rattle.r4_script.specs.Spelling.{IsJob, job_text};
 ghost use Rattle.r4_script.specs.Text.{job_of};
 
 /// A text is read as a job exactly where it spells that job by the grammar: nothing that is spelled is refused, and nothing
-/// else is read (docs/scripts.md, "Commands").
+/// else is read (docs/scripts.md, "Commands"). And each job that keeps the rules has a text, in which its commands stand line
+/// by line.
 pub fn grammar_law()
-    ensures { (text : List ℕ) (job : Job) → (job_of text ≡ Ok job) ↔ SpellsJob text job }
+    ensures exact { (text : List ℕ) (job : Job) → (job_of text ≡ Ok job) ↔ SpellsJob text job }
+    ensures spelled { (job : Job) → IsJob job → job_of (job_text job) ≡ Ok job }
 {}

@@ -1,5 +1,10 @@
 use Rattle.r4_script.proofs.Jobs.{job_is, job_again}
+use Rattle.r4_script.proofs.Spellings.{job_spells}
+use Rattle.r4_script.specs.Spelling.{job_text}
 use Rattle.r4_script.proofs.laws.grammar_law.Goals as goal
 
 pub returns : goal.returns
-returns c = λ text job. (job_is text job, job_again text job)
+returns c = record {
+  exact = λ text job. (job_is text job, job_again text job);
+  spelled = λ job h. job_again (job_text job) job (job_spells job h);
+}
