@@ -9,6 +9,16 @@ use Rattle.r4_script.specs.declared.word.Verb.{Verb}
 use Rattle.r4_script.specs.declared.word.Verb.TheVariants.{Script, Begin, End, Commit, Create, Mkdir, Write, Fill, Truncate, Read, Stat, Names, Link, Unlink, Rmdir, Rename, Chmod, Chown, Times}
 use Rattle.r4_script.specs.Field.{◌>>=◌, at_place, ends_at, number_at, mode_at, path_at, text_at}
 
+-- the command makes, moves and removes no entries
+abbrev pub IsOther : Verb → Type 0
+IsOther Create = ⊥
+IsOther Mkdir = ⊥
+IsOther Link = ⊥
+IsOther Unlink = ⊥
+IsOther Rmdir = ⊥
+IsOther Rename = ⊥
+IsOther _ = Unit {0}
+
 -- no object is drawn yet
 abbrev pub no_oid : Oid
 no_oid = record { 0 = 0 }

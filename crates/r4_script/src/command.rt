@@ -2,7 +2,7 @@
 
 ghost use Rattle.std.specs.Prelude.{◌≡◌, ◌≤◌, length};
 ghost use Rattle.r4_script.specs.Field.{Gives};
-ghost use Rattle.r4_script.specs.Command.{bare, path_alone, paths_alone, write_at, fill_at, truncate_at, read_at, chmod_at, chown_at, times_at, command_at};
+ghost use Rattle.r4_script.specs.Command.{IsOther, bare, path_alone, paths_alone, write_at, fill_at, truncate_at, read_at, chmod_at, chown_at, times_at, command_at};
 
 use crate::fault::{Stop, What};
 use crate::field::{ends, fault_at, text};
@@ -25,10 +25,6 @@ pub fn command(alloc: Global, verb: Verb, line: &[u8], place: usize) -> Result<C
     ensures { Gives (λ c. c) result (command_at verb line.now place) }
 {
     match verb {
-        Verb::Script => Err(fault_at(0, What::Command)),
-        Verb::Begin => alone(Command::Begin, line, place),
-        Verb::End => alone(Command::End, line, place),
-        Verb::Commit => alone(Command::Commit, line, place),
         Verb::Create => {
             let path = one_path(alloc, line, place)?;
             Ok(Command::Create { path, oid: Oid(0) })
@@ -36,14 +32,6 @@ pub fn command(alloc: Global, verb: Verb, line: &[u8], place: usize) -> Result<C
         Verb::Mkdir => {
             let path = one_path(alloc, line, place)?;
             Ok(Command::Mkdir { path, oid: Oid(0) })
-        }
-        Verb::Stat => {
-            let path = one_path(alloc, line, place)?;
-            Ok(Command::Stat { path })
-        }
-        Verb::Names => {
-            let path = one_path(alloc, line, place)?;
-            Ok(Command::Names { path })
         }
         Verb::Unlink => {
             let path = one_path(alloc, line, place)?;
@@ -61,6 +49,30 @@ pub fn command(alloc: Global, verb: Verb, line: &[u8], place: usize) -> Result<C
             let (from, to) = two_paths(alloc, line, place)?;
             Ok(Command::Rename { from, to })
         }
+        _ => other_command(alloc, verb, line, place),
+    }
+}
+
+// A command that makes, moves and removes no entries.
+#[tactic(auto, unfolding(crate::specs::Command::command_at))]
+fn other_command(alloc: Global, verb: Verb, line: &[u8], place: usize) -> Result<Command, Stop>
+    requires kind { IsOther verb }
+    requires within { length line.now ≤ 16777216 }
+    ensures { Gives (λ c. c) result (command_at verb line.now place) }
+{
+    match verb {
+        Verb::Script => Err(fault_at(0, What::Command)),
+        Verb::Begin => alone(Command::Begin, line, place),
+        Verb::End => alone(Command::End, line, place),
+        Verb::Commit => alone(Command::Commit, line, place),
+        Verb::Stat => {
+            let path = one_path(alloc, line, place)?;
+            Ok(Command::Stat { path })
+        }
+        Verb::Names => {
+            let path = one_path(alloc, line, place)?;
+            Ok(Command::Names { path })
+        }
         Verb::Write => write(alloc, line, place),
         Verb::Fill => fill(alloc, line, place),
         Verb::Truncate => truncate(alloc, line, place),
@@ -68,6 +80,7 @@ pub fn command(alloc: Global, verb: Verb, line: &[u8], place: usize) -> Result<C
         Verb::Chmod => chmod(alloc, line, place),
         Verb::Chown => chown(alloc, line, place),
         Verb::Times => times(alloc, line, place),
+        _ => unreachable!(),
     }
 }
 

@@ -1,7 +1,7 @@
 //! The words with which lines begin.
 
 ghost use Rattle.std.specs.Prelude.{◌≡◌};
-ghost use Rattle.r4_script.specs.Word.{verb_of};
+ghost use Rattle.r4_script.specs.Word.{verb_of, later_verb_of};
 
 /// What a line asks for.
 #[derive(Clone, Copy, Debug, PartialEq, Eq)]
@@ -61,6 +61,13 @@ pub fn read_verb(word: &[u8]) -> Option<Verb>
     if word == b"read".as_slice() {
         return Some(Verb::Read);
     }
+    read_later_verb(word)
+}
+
+// The second half of the words.
+fn read_later_verb(word: &[u8]) -> Option<Verb>
+    ensures { result ≡ later_verb_of word.now }
+{
     if word == b"stat".as_slice() {
         return Some(Verb::Stat);
     }
