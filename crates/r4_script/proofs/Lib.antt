@@ -1,6 +1,7 @@
 pub mod CommandLines
 pub mod Fields
 pub mod Jobs
+pub mod Keeps
 pub mod Lines
 pub mod Numbers
 pub mod Shapes

@@ -76,7 +76,7 @@ digits_one base so_far (d ∷ ds) n e =
     let low : 48 ≤ d = leb-true 48 d t.0 in
     ap (λ (v : Bool). not v && is_one_line ds) (ne_eqb d 10 (λ same. absurd (omega (arith, low, same)))) ∙ digits_one base (so_far * base + (d - 48)) ds n c.1
 
-one_append : (a b : List ℕ) → is_one_line a ≡ true → is_one_line b ≡ true → is_one_line (a ++ b) ≡ true
+pub one_append : (a b : List ℕ) → is_one_line a ≡ true → is_one_line b ≡ true → is_one_line (a ++ b) ≡ true
 one_append [] b h k = k
 one_append (x ∷ a) b h k =
     let t = both (not (nat_eq x 10)) (is_one_line a) h in
@@ -157,7 +157,7 @@ line_split (b ∷ line) rest h =
       not_true true e = absurd cc
       not_true false e = refl
 
-lines_split : (lines : List (List ℕ)) → AllByRecursion (λ line. is_one_line line ≡ true) lines → split 10 (flat_map (λ line. line ++ (10 ∷ [])) lines) ≡ lines ++ ([] ∷ [])
+pub lines_split : (lines : List (List ℕ)) → AllByRecursion (λ line. is_one_line line ≡ true) lines → split 10 (flat_map (λ line. line ++ (10 ∷ [])) lines) ≡ lines ++ ([] ∷ [])
 lines_split [] h = refl
 lines_split (line ∷ lines) h = line_split line (flat_map (λ line. line ++ (10 ∷ [])) lines) h.0 ∙ ap (λ (l : List (List ℕ)). line ∷ l) (lines_split lines h.1)
 
@@ -206,10 +206,10 @@ scripts_lead r (s ∷ scripts) want h few e =
 
 pub job_spells : (job : Job) → IsJob job → SpellsJob (job_text job) job
 job_spells job h =
-    let l = scripts_lead nothing job.scripts job.scripts h.scripts (omega (arith, h.few)) refl in
+    let l = scripts_lead nothing job.scripts job.scripts h.scripts.each (omega (arith, h.scripts.few)) refl in
     record {
       short = h.short;
       all = l.last;
-      lines = subst (λ (ls : List (List ℕ)). AreLines nothing ls l.last) (sym (lines_split (scripts_lines job.scripts) (scripts_one job.scripts h.scripts))) l.lines_are;
+      lines = subst (λ (ls : List (List ℕ)). AreLines nothing ls l.last) (sym (lines_split (scripts_lines job.scripts) (scripts_one job.scripts h.scripts.each))) l.lines_are;
       scripts = ap (λ (s : List Script). record { scripts = s }) (sym l.scripts_are)
     }

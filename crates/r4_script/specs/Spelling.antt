@@ -88,8 +88,12 @@ AreInOrder inside (command ∷ commands) = (now : Bool) × (Turns command inside
 abbrev pub IsScript : Script → Type 0
 IsScript s = AllByRecursion IsCommand s.commands × AreInOrder false s.commands
 
+-- the scripts of a job
+pub record AreScripts (scripts : List Script) : Type 0 where
+  pub few : length scripts ≤ 64
+  pub each : AllByRecursion IsScript scripts
+
 -- a job that has a text
 pub record IsJob (job : Job) : Type 0 where
-  pub few : length job.scripts ≤ 64
-  pub scripts : AllByRecursion IsScript job.scripts
+  pub scripts : AreScripts job.scripts
   pub short : length (job_text job) ≤ 16777216

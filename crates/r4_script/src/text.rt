@@ -1,8 +1,9 @@
 //! The job that a text spells.
 
-ghost use Rattle.std.specs.Prelude.{◌≡◌, ◌+◌, ◌≤◌, ◌<◌, length};
+ghost use Rattle.std.specs.Prelude.{◌≡◌, ◌+◌, ◌≤◌, ◌<◌, length, IfOk};
 ghost use Rattle.r4_script.specs.Field.{Gives};
 ghost use Rattle.r4_script.specs.Progress.{nothing};
+ghost use Rattle.r4_script.specs.Spelling.{AreScripts};
 ghost use Rattle.r4_script.specs.Split.{split};
 ghost use Rattle.r4_script.specs.Text.{last_read, lines_read, text_read, named, job_of, Answers};
 
@@ -20,8 +21,20 @@ const LIMIT: usize = 16777216;
 /// The job that the text spells: its scripts with their commands, in which no object is drawn yet. Where it spells none, the
 /// first place at which it does not (docs/scripts.md). The text is read once, and of it only the names and the texts that
 /// the job keeps are copied. `Memory` comes where there is not enough for the job.
-#[tactic(auto, unfolding(crate::specs::Text::job_of))]
+///
+/// The job keeps the rules: it has at most 64 scripts, and in each of them the commands keep their limits and the transactions
+/// are in order.
+#[tactic(auto, using(crate::proofs::Keeps::answer_keeps))]
 pub fn parse(alloc: Global, text: &[u8]) -> Result<Job, ParseFault>
+    ensures exact { Answers result (job_of text.now) }
+    ensures lawful { IfOk result (λ job. AreScripts job.scripts) }
+{
+    read_job(alloc, text)
+}
+
+// Reads the job.
+#[tactic(auto, unfolding(crate::specs::Text::job_of))]
+fn read_job(alloc: Global, text: &[u8]) -> Result<Job, ParseFault>
     ensures { Answers result (job_of text.now) }
 {
     let progress = read_text(alloc, text, LIMIT)?;
