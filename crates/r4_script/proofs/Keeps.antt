@@ -1,5 +1,5 @@
 -- A job that is read keeps the rules.
-use Rattle.std.proofs.Common.{◌≡◌, ◌≢◌, inl, inr, ℕ, ◌+◌, ◌-◌, ◌^◌, ◌<◌, ◌≤◌, Bool, true, false, cond, not, ◌&&◌, nat_eq, List, [], ◌∷◌, ◌++◌, length, codes, decimal, Option, Some, None, Result, Ok, Err, IfOk, refl, ap, ◌∙◌, sym, subst, arith}
+use Rattle.std.proofs.Common.{◌≡◌, inl, inr, ℕ, ◌<◌, ◌≤◌, Bool, true, false, cond, not, ◌&&◌, nat_eq, List, [], ◌∷◌, ◌++◌, length, codes, Option, Some, None, Result, Ok, Err, IfOk, refl, ap, ◌∙◌, sym, subst, arith}
 use Rattle.std.specs.List.{AllByRecursion}
 use Rattle.std.proofs.lemmas.Bool.Decides.{eqb_tells}
 use Rattle.std.proofs.lemmas.List.{length-append}
@@ -8,7 +8,7 @@ use Rattle.r4_content.specs.declared.command.Command.TheVariants as commands
 use Rattle.r4_script.specs.declared.fault.ParseFault.{ParseFault}
 use Rattle.r4_script.specs.declared.job.Job.{Job}
 use Rattle.r4_script.specs.declared.job.Script.{Script}
-use Rattle.r4_script.specs.Grammar.{IsNumber, Decimal, IsPath, joined, Spells, Turns, IsScriptLine, IsCommandLine, IsLine, AreLines, SpellsJob}
+use Rattle.r4_script.specs.Grammar.{IsPath, joined, Spells, Turns, IsCommandLine, IsLine, AreLines}
 use Rattle.r4_script.specs.Progress.{Read, nothing, and_current, all_scripts}
 use Rattle.r4_script.specs.Spelling.{is_one_line, AreNames, IsCommand, AreInOrder, IsScript, AreScripts}
 use Rattle.r4_script.specs.Split.{onto_first, split}
@@ -32,10 +32,13 @@ command_keeps commands.End line o h = tt
 command_keeps commands.Commit line o h = tt
 command_keeps (commands.Create p oid) line o h = (h.0, names_are h.1.0 p h.1.1.0)
 command_keeps (commands.Mkdir p oid) line o h = (h.0, names_are h.1.0 p h.1.1.0)
-command_keeps (commands.Write p offset text) line o h =
-    (names_are h.1.0 p h.1.1.1.0, omega (arith, h.1.1.1.1.below), h.0,
-    one_tail (32 ∷ []) text (one_tail h.1.1.0 (32 ∷ text) (one_tail (32 ∷ []) (joined (h.1.1.0 ∷ text ∷ [])) (one_tail h.1.0 (32 ∷ joined (h.1.1.0 ∷ text ∷ []))
-      (one_tail (codes "write ") (joined (h.1.0 ∷ h.1.1.0 ∷ text ∷ [])) (ap is_one_line (sym h.1.1.1.2) ∙ o))))))
+command_keeps (commands.Write p offset text) line o h = (
+  names_are h.1.0 p h.1.1.1.0,
+  omega (arith, h.1.1.1.1.below),
+  h.0,
+  one_tail (32 ∷ []) text (one_tail h.1.1.0 (32 ∷ text) (one_tail (32 ∷ []) (joined (h.1.1.0 ∷ text ∷ [])) (one_tail h.1.0 (32 ∷ joined (h.1.1.0 ∷ text ∷ []))
+      (one_tail (codes "write ") (joined (h.1.0 ∷ h.1.1.0 ∷ text ∷ [])) (ap is_one_line (sym h.1.1.1.2) ∙ o))))),
+)
 command_keeps (commands.Fill p offset len byte) line o h = (names_are h.0 p h.1.1.1.1.0, omega (arith, h.1.1.1.1.1.below), h.1.1.1.1.2.below, h.1.1.1.1.3.below)
 command_keeps (commands.Truncate p size) line o h = (names_are h.0 p h.1.1.0, omega (arith, h.1.1.1.below))
 command_keeps (commands.Read p offset len) line o h = (names_are h.0 p h.1.1.1.0, omega (arith, h.1.1.1.1.below), h.1.1.1.2.below)
@@ -85,10 +88,10 @@ kept_scripts scripts (Some cs) inside h k = all_more IsScript scripts (record { 
 
 script_keeps : (r : Read) (line : List ℕ) → Kept r → length (all_scripts r) < 64 → Kept (record { scripts = all_scripts r; current = Some []; inside = false })
 script_keeps r line k few = record {
-    few = omega (arith, few, length-append (all_scripts r) (record { commands = [] } ∷ []));
-    scripts = kept_scripts r.scripts r.current r.inside k.scripts k.current;
-    current = (tt, refl)
-  }
+  few = omega (arith, few, length-append (all_scripts r) (record { commands = [] } ∷ []));
+  scripts = kept_scripts r.scripts r.current r.inside k.scripts k.current;
+  current = (tt, refl);
+}
 
 command_line_keeps : (r q : Read) (line : List ℕ) → Kept r → is_one_line line ≡ true → (h : IsCommandLine r line q) → Kept (record { scripts = r.scripts; current = Some (h.commands ++ h.command ∷ []); inside = q.inside })
 command_line_keeps r q line k o h =
@@ -97,7 +100,7 @@ command_line_keeps r q line k o h =
     record {
       few = omega (arith, few, length-append r.scripts (record { commands = h.commands } ∷ []), length-append r.scripts (record { commands = h.commands ++ h.command ∷ [] } ∷ []));
       scripts = k.scripts;
-      current = (all_more IsCommand h.commands h.command now.0 (command_keeps h.command line o h.spells), order_more false r.inside q.inside h.commands h.command now.1 h.turns)
+      current = (all_more IsCommand h.commands h.command now.0 (command_keeps h.command line o h.spells), order_more false r.inside q.inside h.commands h.command now.1 h.turns);
     }
 
 line_keeps : (r q : Read) (line : List ℕ) → Kept r → is_one_line line ≡ true → IsLine r line q → Kept q
@@ -112,12 +115,13 @@ lines_keep r q (line ∷ lines) k o h = lines_keep h.0 q lines (line_keeps r h.0
 split_one : (xs : List ℕ) → AllByRecursion (λ line. is_one_line line ≡ true) (split 10 xs)
 split_one [] = (refl, tt)
 split_one (b ∷ xs) = elim (eqb_tells b 10) [
-    | inl p ↦ subst (λ (v : Bool). AllByRecursion (λ line. is_one_line line ≡ true) (cond v ([] ∷ split 10 xs) (onto_first b (split 10 xs)))) (sym p.0) (refl, split_one xs)
-    | inr p ↦ subst (λ (v : Bool). AllByRecursion (λ line. is_one_line line ≡ true) (cond v ([] ∷ split 10 xs) (onto_first b (split 10 xs)))) (sym p.0) (onto b (split 10 xs) p.0 (split_one xs)) ]
-    where
-      onto : (b : ℕ) (parts : List (List ℕ)) → nat_eq b 10 ≡ false → AllByRecursion (λ line. is_one_line line ≡ true) parts → AllByRecursion (λ line. is_one_line line ≡ true) (onto_first b parts)
-      onto b [] e h = (ap (λ (v : Bool). not v && true) e, tt)
-      onto b (part ∷ parts) e h = (ap (λ (v : Bool). not v && is_one_line part) e ∙ h.0, h.1)
+  | inl p ↦ subst (λ (v : Bool). AllByRecursion (λ line. is_one_line line ≡ true) (cond v ([] ∷ split 10 xs) (onto_first b (split 10 xs)))) (sym p.0) (refl, split_one xs)
+  | inr p ↦ subst (λ (v : Bool). AllByRecursion (λ line. is_one_line line ≡ true) (cond v ([] ∷ split 10 xs) (onto_first b (split 10 xs)))) (sym p.0) (onto b (split 10 xs) p.0 (split_one xs))
+]
+  where
+    onto : (b : ℕ) (parts : List (List ℕ)) → nat_eq b 10 ≡ false → AllByRecursion (λ line. is_one_line line ≡ true) parts → AllByRecursion (λ line. is_one_line line ≡ true) (onto_first b parts)
+    onto b [] e h = (ap (λ (v : Bool). not v && true) e, tt)
+    onto b (part ∷ parts) e h = (ap (λ (v : Bool). not v && is_one_line part) e ∙ h.0, h.1)
 
 pub job_keeps : (text : List ℕ) (job : Job) → job_of text ≡ Ok job → AreScripts job.scripts
 job_keeps text job e =

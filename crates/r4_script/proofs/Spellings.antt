@@ -1,22 +1,21 @@
 -- The plain spelling of a job is a spelling of it.
-use Rattle.std.proofs.Common.{◌≡◌, ◌≢◌, inl, inr, ℕ, ◌+◌, ◌-◌, ◌*◌, ◌/◌, ◌%◌, ◌^◌, ◌<◌, ◌≤◌, Bool, true, false, cond, not, ◌&&◌, nat_eq, nat_le, nat_lt, List, [], ◌∷◌, ◌++◌, length, map, codes, decimal, Option, Some, None, refl, ap, ◌∙◌, sym, subst, arith, append_assoc, le-leb, leb-true, append-nil}
+use Rattle.std.proofs.Common.{◌≡◌, inl, inr, ℕ, ◌+◌, ◌-◌, ◌*◌, ◌/◌, ◌%◌, ◌^◌, ◌<◌, ◌≤◌, Bool, true, false, cond, not, ◌&&◌, nat_eq, nat_le, nat_lt, List, [], ◌∷◌, ◌++◌, length, map, codes, decimal, Some, None, refl, ap, ◌∙◌, sym, subst, arith, append_assoc, le-leb, leb-true, append-nil}
 use Rattle.std.proofs.lemmas.Bool.Decides.{nat_tests}
 use Rattle.std.specs.Prelude.{flat_map}
-use Rattle.std.specs.List.{AllByRecursion, list_all}
+use Rattle.std.specs.List.{AllByRecursion}
 use Rattle.std.specs.Char.{digit_value}
 use Rattle.std.specs.Str.Parse.{AllDigits, digits_value_after}
 use Rattle.std.proofs.lemmas.List.{length-append}
-use Rattle.std.proofs.lemmas.Bool.{lt-ltb, ltb-true, ne_eqb}
-use Rattle.std.proofs.lemmas.Bool.Decides.{eqb_tells}
+use Rattle.std.proofs.lemmas.Bool.{lt-ltb, ne_eqb}
 use Rattle.std.proofs.lemmas.Fmt.{decimal_is_IsNumeral, length-decimal-le, decimal_nonempty}
 use Rattle.r4_content.specs.declared.command.Command.{Command}
 use Rattle.r4_content.specs.declared.command.Command.TheVariants as commands
 use Rattle.r4_script.specs.declared.job.Job.{Job}
 use Rattle.r4_script.specs.declared.job.Script.{Script}
 use Rattle.r4_script.specs.Field.{digits_from}
-use Rattle.r4_script.specs.Grammar.{IsNumber, Decimal, Octal, IsNameByte, IsPath, joined, Spells, Turns, IsSkipped, IsScriptLine, IsCommandLine, IsLine, AreLines, SpellsJob}
+use Rattle.r4_script.specs.Grammar.{Decimal, Octal, IsNameByte, IsPath, joined, Spells, IsScriptLine, IsCommandLine, AreLines, SpellsJob}
 use Rattle.r4_script.specs.Progress.{Read, nothing, all_scripts}
-use Rattle.r4_script.specs.Spelling.{path_text, octal, command_text, script_lines, scripts_lines, job_text, is_one_line, AreNames, IsCommand, AreInOrder, IsScript, IsJob}
+use Rattle.r4_script.specs.Spelling.{path_text, octal, command_text, scripts_lines, job_text, is_one_line, AreNames, IsCommand, AreInOrder, IsScript, IsJob}
 use Rattle.r4_script.specs.Split.{onto_first, split}
 use Rattle.r4_script.proofs.Numbers.{chosen, both}
 
@@ -42,7 +41,7 @@ decimal_spells most n h k =
       some = decimal_nonempty n h;
       few = length-decimal-le 20 n (omega arith) (omega arith) h;
       value = digits_read 0 (decimal n) (m.0).1 ∙ ap Some m.1;
-      below = k
+      below = k;
     }
 
 octal_digit : (x so_far : ℕ) (ds : List ℕ) → x < 8 → digits_from 8 so_far ((48 + x) ∷ ds) ≡ digits_from 8 (so_far * 8 + x) ds
@@ -55,11 +54,11 @@ octal_spells : (mode : ℕ) → mode < 4096 → Octal (octal mode) mode
 octal_spells mode h =
     let whole : (((0 * 8 + mode / 8 / 8 / 8) * 8 + mode / 8 / 8 % 8) * 8 + mode / 8 % 8) * 8 + mode % 8 ≡ mode = omega arith in
     let value : digits_from 8 0 (octal mode) ≡ Some mode =
-        octal_digit (mode / 8 / 8 / 8) 0 ((48 + mode / 8 / 8 % 8) ∷ (48 + mode / 8 % 8) ∷ (48 + mode % 8) ∷ []) (omega arith)
-        ∙ octal_digit (mode / 8 / 8 % 8) (0 * 8 + mode / 8 / 8 / 8) ((48 + mode / 8 % 8) ∷ (48 + mode % 8) ∷ []) (omega arith)
-        ∙ octal_digit (mode / 8 % 8) ((0 * 8 + mode / 8 / 8 / 8) * 8 + mode / 8 / 8 % 8) ((48 + mode % 8) ∷ []) (omega arith)
-        ∙ octal_digit (mode % 8) (((0 * 8 + mode / 8 / 8 / 8) * 8 + mode / 8 / 8 % 8) * 8 + mode / 8 % 8) [] (omega arith)
-        ∙ ap Some whole in
+    octal_digit (mode / 8 / 8 / 8) 0 ((48 + mode / 8 / 8 % 8) ∷ (48 + mode / 8 % 8) ∷ (48 + mode % 8) ∷ []) (omega arith)
+    ∙ octal_digit (mode / 8 / 8 % 8) (0 * 8 + mode / 8 / 8 / 8) ((48 + mode / 8 % 8) ∷ (48 + mode % 8) ∷ []) (omega arith)
+    ∙ octal_digit (mode / 8 % 8) ((0 * 8 + mode / 8 / 8 / 8) * 8 + mode / 8 / 8 % 8) ((48 + mode % 8) ∷ []) (omega arith)
+    ∙ octal_digit (mode % 8) (((0 * 8 + mode / 8 / 8 / 8) * 8 + mode / 8 / 8 % 8) * 8 + mode / 8 % 8) [] (omega arith)
+    ∙ ap Some whole in
     record { some = omega arith; few = omega arith; value = value; below = omega arith }
 
 path_spells : (p : List (List ℕ)) → AreNames p → IsPath (path_text p) p
@@ -152,10 +151,10 @@ line_split (b ∷ line) rest h =
     let t = both (not (nat_eq b 10)) (is_one_line line) h in
     ap (λ (v : Bool). cond v ([] ∷ split 10 ((line ++ (10 ∷ [])) ++ rest)) (onto_first b (split 10 ((line ++ (10 ∷ [])) ++ rest)))) (not_true (nat_eq b 10) t.0)
     ∙ ap (onto_first b) (line_split line rest t.1)
-    where
-      not_true : (v : Bool) → not v ≡ true → v ≡ false
-      not_true true e = absurd cc
-      not_true false e = refl
+  where
+    not_true : (v : Bool) → not v ≡ true → v ≡ false
+    not_true true e = absurd cc
+    not_true false e = refl
 
 pub lines_split : (lines : List (List ℕ)) → AllByRecursion (λ line. is_one_line line ≡ true) lines → split 10 (flat_map (λ line. line ++ (10 ∷ [])) lines) ≡ lines ++ ([] ∷ [])
 lines_split [] h = refl
@@ -184,9 +183,9 @@ commands_lead : (scripts : List Script) (so_far : List Command) (inside : Bool) 
 commands_lead scripts so_far inside [] rest want h k more = subst (λ (l : List Command). Leads (record { scripts = scripts; current = Some l; inside = inside }) rest want) (append-nil so_far) (more inside)
 commands_lead scripts so_far inside (c ∷ cs) rest want h k more =
     let next = commands_lead scripts (so_far ++ c ∷ []) k.0 cs rest want h.1 k.1.1
-        (λ now. subst (λ (l : List Command). Leads (record { scripts = scripts; current = Some l; inside = now }) rest want) (sym (append_assoc so_far (c ∷ []) cs)) (more now)) in
+    (λ now. subst (λ (l : List Command). Leads (record { scripts = scripts; current = Some l; inside = now }) rest want) (sym (append_assoc so_far (c ∷ []) cs)) (more now)) in
     let line : IsCommandLine (record { scripts = scripts; current = Some so_far; inside = inside }) (command_text c) (record { scripts = scripts; current = Some (so_far ++ c ∷ []); inside = k.0 }) =
-        record { commands = so_far; command = c; in_script = refl; spells = command_spells c h.0; turns = k.1.0; adds = refl } in
+    record { commands = so_far; command = c; in_script = refl; spells = command_spells c h.0; turns = k.1.0; adds = refl } in
     record { last = next.last; lines_are = (record { scripts = scripts; current = Some (so_far ++ c ∷ []); inside = k.0 }, (inr (inr line), next.lines_are)); scripts_are = next.scripts_are }
 
 scripts_lead : (r : Read) (scripts want : List Script) → AllByRecursion IsScript scripts → length (all_scripts r) + length scripts ≤ 64 → all_scripts r ++ scripts ≡ want → Leads r (scripts_lines scripts ++ ([] ∷ [])) want
@@ -195,13 +194,13 @@ scripts_lead r (s ∷ scripts) want h few e =
     let began : Read = record { scripts = all_scripts r; current = Some []; inside = false } in
     let line : IsScriptLine r (codes "script") began = record { word = refl; few = omega (arith, few); begins = refl } in
     let next = commands_lead (all_scripts r) [] false s.commands (scripts_lines scripts ++ ([] ∷ [])) want (h.0).0 (h.0).1
-        (λ now. scripts_lead (record { scripts = all_scripts r; current = Some s.commands; inside = now }) scripts want h.1
-            (omega (arith, few, length-append (all_scripts r) (s ∷ [])))
-            (append_assoc (all_scripts r) (s ∷ []) scripts ∙ e)) in
+    (λ now. scripts_lead (record { scripts = all_scripts r; current = Some s.commands; inside = now }) scripts want h.1
+    (omega (arith, few, length-append (all_scripts r) (s ∷ [])))
+    (append_assoc (all_scripts r) (s ∷ []) scripts ∙ e)) in
     record {
       last = next.last;
       lines_are = (began, (inr (inl line), subst (λ (l : List (List ℕ)). AreLines began l next.last) (sym (append_assoc (map command_text s.commands) (scripts_lines scripts) ([] ∷ []))) next.lines_are));
-      scripts_are = next.scripts_are
+      scripts_are = next.scripts_are;
     }
 
 pub job_spells : (job : Job) → IsJob job → SpellsJob (job_text job) job
@@ -211,5 +210,5 @@ job_spells job h =
       short = h.short;
       all = l.last;
       lines = subst (λ (ls : List (List ℕ)). AreLines nothing ls l.last) (sym (lines_split (scripts_lines job.scripts) (scripts_one job.scripts h.scripts.each))) l.lines_are;
-      scripts = ap (λ (s : List Script). record { scripts = s }) (sym l.scripts_are)
+      scripts = ap (λ (s : List Script). record { scripts = s }) (sym l.scripts_are);
     }

@@ -10,3 +10,6 @@ pub use entry::Entry;
 pub use laws::line_law;
 pub use text::line;
 pub use trace::Trace;
+
+#[cfg(test)]
+mod tests;
