@@ -212,3 +212,32 @@ fn a_text_is_at_most_so_long(rt: HostRuntime) {
     });
     assert_eq!(rt; fault_of(rt.alloc(), text.as_slice()), want);
 }
+
+#[test]
+fn a_cut_line_is_judged_up_to_the_limit(rt: HostRuntime) {
+    // The last line, how many of its bytes are within the limit, and the fault there.
+    let cases: [(&[u8], usize, u32, What); 3] = [
+        (b"mkdir /a", 6, 7, What::Long),
+        (b"commit x", 7, 8, What::Long),
+        (b"commit x", 8, 8, What::Field),
+    ];
+    for (line, within, column, what) in cases {
+        let mut text = Vec::from_slice(rt.alloc(), b"script\n".as_slice()).expect(&rt, "memory");
+        let comment = vec![in rt.alloc(); b'#'; 16777208 - within].expect(&rt, "memory");
+        text.extend_from_slice(comment.as_slice())
+            .expect(&rt, "memory");
+        text.push(b'\n').expect(&rt, "memory");
+        text.extend_from_slice(line).expect(&rt, "memory");
+        text.push(b'\n').expect(&rt, "memory");
+        let want = Some(ScriptFault {
+            line: 3,
+            column,
+            what,
+        });
+        assert_eq!(rt;
+            fault_of(rt.alloc(), text.as_slice()),
+            want,
+            "{within} bytes"
+        );
+    }
+}
