@@ -1,0 +1,10 @@
+pub mod CommandLines
+pub mod Fields
+pub mod Jobs
+pub mod Keeps
+pub mod Lines
+pub mod Numbers
+pub mod Shapes
+pub mod Words
+pub mod Spellings
+pub mod Splits
