@@ -1,0 +1,8 @@
+//! Writes a commit in its order (docs/commit.md, "Order").
+#![tactic(auto)]
+
+mod plan;
+mod stage;
+
+pub use plan::{Blocks, LogPlan, PlacedCell, PlacedCells, WanderedCopies, WanderedCopy};
+pub use stage::Stage;
