@@ -1,3 +1,4 @@
 pub mod Members
 pub mod Settling
 pub mod Order
+pub mod Encoding
