@@ -1,6 +1,6 @@
 -- A commit as four lists of writes, each ended by a sync, and what a crash leaves of each (docs/commit.md, "Order").
 use Rattle.std.specs.Prelude.{◌≡◌, ◌≢◌, ◌⊎◌, ℕ, zero, suc, ◌+◌, ◌<◌, ◌≤◌, List, [], ◌∷◌, length, Contains}
-use Rattle.std.specs.List.Sorted.{IsPermutation, IsNonDecreasing}
+use Rattle.std.specs.List.Sorted.{IsPermutation, IsNonDecreasingBy}
 use Rattle.r4_base.specs.Image.{Image, IsImage, IsBlock, block_at, put_pairs}
 use Rattle.r4_base.specs.Log.{header_of, footer_of}
 use Rattle.r4_base.specs.Chain.{Txn, HasTxn, HasLog, SettlesTo, chain_pairs, originals, kept_blocks, committed, flushed, home}
@@ -32,8 +32,8 @@ pub record IsOrderOf (plan sorted : Parts) : Type 0 where
   pub header : sorted.header ≡ plan.header
   pub homes : IsPermutation plan.homes sorted.homes
   pub footer : sorted.footer ≡ plan.footer
-  pub first_rises : IsNonDecreasing (targets sorted.first)
-  pub homes_rise : IsNonDecreasing (targets sorted.homes)
+  pub first_rises : IsNonDecreasingBy (λ w. w.0) sorted.first
+  pub homes_rise : IsNonDecreasingBy (λ w. w.0) sorted.homes
 
 -- the blocks of the journal header and the journal footer
 abbrev pub is_log_number : ℕ → Type 0

@@ -1,6 +1,7 @@
 //! Writes a commit in its order (docs/commit.md, "Order").
 #![tactic(auto)]
 
+mod entry;
 mod plan;
 mod stage;
 
