@@ -2,3 +2,4 @@ pub mod Members
 pub mod Settling
 pub mod Order
 pub mod Encoding
+pub mod Standing
