@@ -1,8 +1,8 @@
 -- Where a writer stands in its commit, and its device with it (docs/commit.md, "Steps").
-use Rattle.std.specs.Prelude.{◌≡◌, ◌≢◌, ◌⊎◌, ℕ, zero, suc, ◌+◌, ◌-◌, ◌<◌, ◌≤◌, List, [], length, take, slice_index_or, All, OnOk, Result}
+use Rattle.std.specs.Prelude.{◌≡◌, ◌≢◌, ◌⊎◌, ℕ, zero, suc, ◌+◌, ◌-◌, ◌<◌, ◌≤◌, List, [], length, take, slice_index_or, All, Bool, true, false}
 use Rattle.r4_base.specs.Image.{Image, IsImage, block_at, sector}
 use Rattle.r4_base.specs.Chain.{Txn, HasLog}
-use Rattle.r4_outside.specs.Device.{State, TellsCrashes, IsQuiet, Rose}
+use Rattle.r4_outside.specs.Device.{State, TellsCrashes, IsQuiet}
 use Rattle.r4_wander.specs.Torn.{Write, put_writes, targets, IsWritten}
 use Rattle.r4_wander.specs.Parts.{Parts, part, base_of, IsOrderOf, HasHomes}
 use Rattle.r4_wander.specs.LogPlan.{parts_of, txn_of}
@@ -29,6 +29,11 @@ pub record FitOn (blocks : ℕ) (plan : Parts) : Type 0 where
   pub more : 64 ≤ blocks
   pub first : All (λ b. b < blocks) (targets plan.first)
   pub homes : All (λ b. b < blocks) (targets plan.homes)
+
+-- A call is the next write of the part, or its sync where all its writes are made.
+abbrev pub IsNextCall : (synced : Bool) → Progress → Progress → Type 0
+IsNextCall false old new = (old.done < length (under_way old)) × (new.part ≡ old.part) × (new.done ≡ old.done + 1)
+IsNextCall true old new = (length (under_way old) ≤ old.done) × (new.part ≡ old.part + 1) × (new.done ≡ 0)
 
 -- A step makes four writes of its part, or those that are left of it and its sync.
 abbrev pub IsNext : Progress → Progress → Type 0

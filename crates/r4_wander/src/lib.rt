@@ -4,6 +4,8 @@
 mod entry;
 mod plan;
 mod stage;
+mod writer;
 
 pub use plan::{Blocks, LogPlan, PlacedCell, PlacedCells, WanderedCopies, WanderedCopy};
 pub use stage::Stage;
+pub use writer::Writer;

@@ -1,0 +1,115 @@
+//! The writer of a commit, and its steps.
+
+ghost use Rattle.std.specs.Prelude.{ℕ, ◌≡◌, ◌≢◌, ◌+◌, ◌<◌, ◌≤◌, length, OnOk, IfOk, IfSome, List};
+ghost use Rattle.r4_base.specs.Image.{Image};
+ghost use Rattle.r4_base.specs.Chain.{Txn};
+ghost use Rattle.r4_outside.specs.Device.{Goes, HasCause, Writes, Spares, LeavesOnly, Rose, next};
+ghost use Rattle.r4_wander.specs.Torn.{IsTarget, IsTornBy};
+ghost use Rattle.r4_wander.specs.Parts.{base_of};
+ghost use Rattle.r4_wander.specs.Safe.{ByPart};
+ghost use Rattle.r4_wander.specs.Progress.{under_way, write_at, FitOn, IsNextCall, IsNext, stage_at, calls_left, Stands, Commits};
+ghost use Rattle.r4_wander.specs.declared.plan.LogPlan.{LogPlan};
+
+use crate::entry::Entry;
+use crate::stage::Stage;
+use r4_base::{Block, BlockNo};
+use r4_outside::{Device, Failed};
+use std::marker::Model;
+
+/// A commit under way: what is written in each of its four parts, the part that is under way, and how many of its writes
+/// are made (docs/commit.md, "Steps").
+#[derive(Drop)]
+pub struct Writer {
+    pub(crate) first: Vec<Entry>,
+    pub(crate) header: Block,
+    pub(crate) homes: Vec<Entry>,
+    pub(crate) footer: Block,
+    pub(crate) part: u64,
+    pub(crate) done: usize,
+}
+
+impl Model for Writer {
+    ghost use Rattle.std.specs.Prelude.{◌≤◌, length};
+    ghost use Rattle.r4_wander.specs.Progress.{Progress, under_way};
+
+    ghost Value = { Progress };
+
+    ghost view = { λ w. record { plan = record { first = w.first.items; header = w.header; homes = w.homes.items; footer = w.footer }; part = w.part; done = w.done } };
+
+    ghost invariant = { λ w. w.done ≤ length (under_way (record { plan = record { first = w.first.items; header = w.header; homes = w.homes.items; footer = w.footer }; part = w.part; done = w.done })) };
+}
+
+impl Writer {
+    /// Makes the next write of the part that is under way, or its sync where all its writes are made; says whether it was
+    /// the sync.
+    fn call<D: Device>(&mut self, dev: &mut D) -> Result<bool, Failed>
+        requires not_done { self.old.part < 4 }
+        requires fits { FitOn (D.state dev.old).blocks self.old.plan }
+        ensures goes { Goes (D.state dev.old) (D.state dev.new) }
+        ensures cause { HasCause (D.state dev.old) result (D.state dev.new) }
+        ensures plan { self.new.plan ≡ self.old.plan }
+        ensures within { self.old.done ≤ length (under_way self.old) }
+        ensures next { IfOk result (λ synced. IsNextCall synced self.old self.new) }
+        ensures clock { (D.state dev.new).clock ≡ next (D.state dev.old).clock }
+        ensures one { OnOk result ((D.state dev.new).clock ≡ (D.state dev.old).clock + 1) }
+        ensures spares { Spares (IsTarget (under_way self.old)) (D.state dev.old) (D.state dev.new) }
+        ensures stands { (base : Image) → Stands self.old base (D.state dev.old) → OnOk result (Stands self.new base (D.state dev.new)) }
+        ensures left { (base : Image) → Stands self.old base (D.state dev.old)
+            → LeavesOnly (D.state dev.old) (D.state dev.new) (IsTornBy (under_way self.old) (base_of self.old.plan base self.old.part)) }
+    {
+        if self.done < self.len() {
+            self.write_next(dev)?;
+            self.done += 1;
+            return Ok(false);
+        }
+        dev.sync()?;
+        self.part += 1;
+        self.done = 0;
+        Ok(true)
+    }
+
+    /// How many writes the part that is under way has.
+    fn len(&self) -> usize
+        ensures { result ≡ length (under_way self.now) }
+    {
+        match self.part {
+            0 => self.first.len(),
+            1 => 1,
+            2 => self.homes.len(),
+            3 => 1,
+            _ => 0,
+        }
+    }
+
+    /// Makes the next write of the part that is under way.
+    fn write_next<D: Device>(&self, dev: &mut D) -> Result<(), Failed>
+        requires some { self.now.done < length (under_way self.now) }
+        requires fits { FitOn (D.state dev.old).blocks self.now.plan }
+        ensures { Writes (write_at (under_way self.now) self.now.done).0 (write_at (under_way self.now) self.now.done).1 (D.state dev.old) result (D.state dev.new) }
+    {
+        match self.part {
+            0 => self.first[self.done].write(dev),
+            1 => dev.write(BlockNo(19), &self.header),
+            2 => self.homes[self.done].write(dev),
+            _ => dev.write(BlockNo(20), &self.footer),
+        }
+    }
+
+    fn stage(&self) -> Stage
+        ensures { result ≡ stage_at self.now.part self.now.done }
+    {
+        match self.part {
+            0 => Stage::Copies,
+            1 => Stage::Logged,
+            2 => {
+                if self.done == 0 {
+                    Stage::Headed
+                } else {
+                    Stage::Homes
+                }
+            }
+            3 => Stage::Homes,
+            _ => Stage::Footed,
+        }
+    }
+}
