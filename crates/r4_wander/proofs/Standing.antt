@@ -2,7 +2,7 @@
 use Rattle.std.proofs.Common.{◌≡◌, ◌≢◌, ◌⊎◌, inl, inr, ⊎_elim, ℕ, zero, suc, ◌+◌, ◌<◌, ◌≤◌, List, [], ◌∷◌, ◌++◌, length, map, take, drop, get_or, slice_set, refl, sym, ◌∙◌, ap, subst, arith, Result, Ok}
 use Rattle.std.specs.Prelude.{Contains, All}
 use Rattle.std.proofs.lemmas.Bool.{cases_lt}
-use Rattle.std.proofs.lemmas.List.{take_more, take_all, take-append-drop, length-map}
+use Rattle.std.proofs.lemmas.List.{take_more, take_all, take-append-drop, length-map, get_or_default}
 use Rattle.std.proofs.lemmas.List.Elements.{Contains-get_or, Contains-append_left, Contains-append_right, All-get_or}
 use Rattle.std.proofs.Math.ListN.{get_or-map}
 use Rattle.r4_base.specs.Image.{Image, IsImage, block_at, sector}
@@ -165,6 +165,31 @@ write_below n plan (suc zero) k fits lt = one_below n k 19 plan.header (omega (a
 write_below n plan (suc (suc zero)) k fits lt = all_below n k plan.homes fits.homes lt
 write_below n plan (suc (suc (suc zero))) k fits lt = one_below n k 20 plan.footer (omega (arith, fits.more)) lt
 write_below n plan (suc (suc (suc (suc i)))) k fits lt = absurd (omega (arith, lt))
+
+-- the write that is looked up
+pub entry_below : (n k : ℕ) (ws : List Write) (w : Write) → All (λ b. b < n) (targets ws) → k < length ws → w ≡ get_or ws k w → w.0 < n
+entry_below n k ws w all lt is = subst (λ (v : Write). v.0 < n) (get_or_default ws k (0, []) w lt ∙ sym is) (all_below n k ws all lt)
+
+-- what the test of a call says
+pub more_writes : (w v : Progress) → v ≡ w → (len : ℕ) → len ≡ length (under_way w) → v.done < len → w.done < length (under_way w)
+more_writes w v same len is lt = let done : v.done ≡ w.done = ap (λ (u : Progress). u.done) same in omega (arith, is, lt, done)
+
+pub no_more_writes : (w v : Progress) → v ≡ w → (len : ℕ) → len ≡ length (under_way w) → len ≤ v.done → length (under_way w) ≤ w.done
+no_more_writes w v same len is le = let done : v.done ≡ w.done = ap (λ (u : Progress). u.done) same in omega (arith, is, le, done)
+
+-- the next write of the first part, and the next home
+module _ (n : ℕ) (w v : Progress) (same : v ≡ w) (fits : FitOn n w.plan) (some : w.done < length (under_way w)) (x : Write) where
+  here : v.done < length (under_way v)
+  here = subst (λ (u : Progress). u.done < length (under_way u)) (sym same) some
+
+  fits_here : FitOn n v.plan
+  fits_here = subst (λ (u : Progress). FitOn n u.plan) (sym same) fits
+
+  pub first_below : v.part ≡ 0 → x ≡ get_or v.plan.first v.done x → x.0 < n
+  first_below at is = entry_below n v.done v.plan.first x fits_here.first (subst (λ (i : ℕ). v.done < length (part v.plan i)) at here) is
+
+  pub home_below : v.part ≡ 2 → x ≡ get_or v.plan.homes v.done x → x.0 < n
+  home_below at is = entry_below n v.done v.plan.homes x fits_here.homes (subst (λ (i : ℕ). v.done < length (part v.plan i)) at here) is
 
 -- What a crash leaves now, between two steps.
 pub settles_now : (w : Progress) (n : ℕ) (base : Image) (chain : List Txn) (p : LogPlan) (d : State) → w.part ≤ 4 → Commits w n base chain p → Stands w base d → LeavesOnly d d (ByPart n base chain p w.part)

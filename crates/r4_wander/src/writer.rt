@@ -40,6 +40,46 @@ impl Model for Writer {
 }
 
 impl Writer {
+    /// Makes from one to four writes and syncs, and no other device call: up to four writes of the part that is under way
+    /// and, where all its writes are made within fewer than four calls, its sync, with which the step ends. It takes no
+    /// memory. `Ok` says how far the commit is; a stage may be answered by several steps. `Failed` comes only where the
+    /// device's count of faults rose in this step, and the writer is of no use afterwards. Condition: no step has answered
+    /// `Footed` or `Failed`; the device has at least 64 blocks, and every block that the plan writes is below their number
+    /// (docs/commit.md, "Steps").
+    pub fn step<D: Device>(&mut self, dev: &mut D) -> Result<Stage, Failed>
+        requires not_footed { self.old.part < 4 }
+        requires fits { FitOn (D.state dev.old).blocks self.old.plan }
+        ensures goes { Goes (D.state dev.old) (D.state dev.new) }
+        ensures cause { HasCause (D.state dev.old) result (D.state dev.new) }
+        ensures plan { self.new.plan ≡ self.old.plan }
+
+        // It makes four writes of its part, or those that are left of it and the sync.
+        ensures next { OnOk result (IsNext self.old self.new) }
+        ensures stage { IfOk result (λ stage. stage ≡ stage_at self.new.part self.new.done) }
+        ensures some { Rose (D.state dev.old).clock (D.state dev.new).clock }
+        ensures few { (D.state dev.new).clock ≤ (D.state dev.old).clock + 4 }
+
+        // Each call of the commit is made once.
+        ensures calls { OnOk result ((D.state dev.new).clock + calls_left self.new ≡ (D.state dev.old).clock + calls_left self.old) }
+
+        // No write falls on another block than those of the part.
+        ensures spares { Spares (IsTarget (under_way self.old)) (D.state dev.old) (D.state dev.new) }
+
+        // Where the device stands as the writer says, it does so afterwards.
+        ensures stands { (base : Image) → Stands self.old base (D.state dev.old) → OnOk result (Stands self.new base (D.state dev.new)) }
+
+        // A crash at any moment leaves what settles as without the commit or as with it, by the part.
+        ensures settles { (n : ℕ) (base : Image) (chain : List Txn) (p : LogPlan) → Commits self.old n base chain p → Stands self.old base (D.state dev.old)
+            → LeavesOnly (D.state dev.old) (D.state dev.new) (ByPart n base chain p self.old.part) }
+    {
+        for _made in 0..4 {
+            if self.call(dev)? {
+                return Ok(self.stage());
+            }
+        }
+        Ok(self.stage())
+    }
+
     /// Makes the next write of the part that is under way, or its sync where all its writes are made; says whether it was
     /// the sync.
     fn call<D: Device>(&mut self, dev: &mut D) -> Result<bool, Failed>
