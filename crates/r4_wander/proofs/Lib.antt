@@ -3,3 +3,5 @@ pub mod Settling
 pub mod Order
 pub mod Encoding
 pub mod Standing
+pub mod Stepping
+pub mod Needed

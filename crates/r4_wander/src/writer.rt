@@ -3,9 +3,13 @@
 ghost use Rattle.std.specs.Prelude.{ℕ, ◌≡◌, ◌≢◌, ◌+◌, ◌<◌, ◌≤◌, length, OnOk, IfOk, IfSome, List};
 ghost use Rattle.r4_base.specs.Image.{Image};
 ghost use Rattle.r4_base.specs.Chain.{Txn};
+ghost use Rattle.r4_base.specs.Value.{Content};
+ghost use Rattle.r4_base.specs.Volume.{HasVolume, Needs};
 ghost use Rattle.r4_outside.specs.Device.{Goes, HasCause, Writes, Spares, LeavesOnly, Rose, next};
 ghost use Rattle.r4_wander.specs.Torn.{IsTarget, IsTornBy};
 ghost use Rattle.r4_wander.specs.Parts.{base_of};
+ghost use Rattle.r4_wander.specs.LogPlan.{first};
+ghost use Rattle.r4_wander.specs.Needed.{SparesNeeded};
 ghost use Rattle.r4_wander.specs.Safe.{ByPart};
 ghost use Rattle.r4_wander.specs.Progress.{under_way, write_at, FitOn, IsNextCall, IsNext, stage_at, calls_left, Stands, Commits};
 ghost use Rattle.r4_wander.specs.declared.plan.LogPlan.{LogPlan};
@@ -71,8 +75,12 @@ impl Writer {
         // A crash at any moment leaves what settles as without the commit or as with it, by the part.
         ensures settles { (n : ℕ) (base : Image) (chain : List Txn) (p : LogPlan) → Commits self.old n base chain p → Stands self.old base (D.state dev.old)
             → LeavesOnly (D.state dev.old) (D.state dev.new) (ByPart n base chain p self.old.part) }
+
+        // But for the homes, no write falls on a block that an image needs which a crash may leave, where the first part's blocks were needed by none.
+        ensures needed { (n : ℕ) (base : Image) (chain : List Txn) (p : LogPlan) (m : Content) (v : HasVolume n base m) → Commits self.old n base chain p → Stands self.old base (D.state dev.old)
+            → self.old.part ≢ 2 → ((b : ℕ) → IsTarget (first p) b → Needs v b → ⊥) → SparesNeeded (D.state dev.old) (D.state dev.new) }
     {
-        for _made in 0..4 {
+        for _made in 0..4u64 {
             if self.call(dev)? {
                 return Ok(self.stage());
             }
