@@ -313,3 +313,9 @@ module _ (n : ℕ) (base : Image) (chain : List Txn) (p : LogPlan) (safe : IsSaf
   by_part zero image left = left
   by_part (suc zero) image left = ⊎_elim inl (λ w. inr (with_atom_of image w)) left
   by_part (suc (suc i)) image left = with_atom_of image left
+
+-- no pair has the original 0
+pub pairs_named : (ws : List Copy) → All (λ o. o ≢ 0) (map (λ (w : Copy). w.original) ws) → All (λ (q : ℕ × ℕ). q.0 ≢ 0) (map (λ (w : Copy). (w.original, w.copy)) ws)
+pairs_named [] all = All-nil (λ (q : ℕ × ℕ). q.0 ≢ 0)
+pairs_named (w ∷ ws) all = All-cons (λ (q : ℕ × ℕ). q.0 ≢ 0) (w.original, w.copy) (map (λ (v : Copy). (v.original, v.copy)) ws)
+    (All-head (λ (o : ℕ). o ≢ 0) w.original (map (λ (v : Copy). v.original) ws) all) (pairs_named ws (All-tail (λ (o : ℕ). o ≢ 0) w.original (map (λ (v : Copy). v.original) ws) all))

@@ -5,3 +5,4 @@ pub mod Encoding
 pub mod Standing
 pub mod Stepping
 pub mod Needed
+pub mod Cutting

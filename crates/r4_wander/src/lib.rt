@@ -2,6 +2,7 @@
 #![tactic(auto)]
 
 mod entry;
+mod making;
 mod plan;
 mod stage;
 mod writer;

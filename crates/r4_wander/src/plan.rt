@@ -60,6 +60,13 @@ impl Blocks {
     {
         Blocks { items }
     }
+
+    /// The blocks, to be read.
+    pub fn as_slice(&self) -> &[BlockNo]
+        ensures { map (λ block. block.0) result.now ≡ self.now }
+    {
+        self.items.as_slice()
+    }
 }
 
 /// Placed cells in their order.
@@ -84,6 +91,13 @@ impl PlacedCells {
     {
         PlacedCells { items }
     }
+
+    /// The cells, to be read.
+    pub fn as_slice(&self) -> &[PlacedCell]
+        ensures { result.now ≡ self.now }
+    {
+        self.items.as_slice()
+    }
 }
 
 /// Wandered copies in their order.
@@ -107,6 +121,13 @@ impl WanderedCopies {
         ensures { result ≡ items.items }
     {
         WanderedCopies { items }
+    }
+
+    /// The copies, to be read.
+    pub fn as_slice(&self) -> &[WanderedCopy]
+        ensures { result.now ≡ self.now }
+    {
+        self.items.as_slice()
     }
 }
 
