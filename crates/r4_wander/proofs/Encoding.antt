@@ -4,8 +4,8 @@ use Rattle.std.specs.Prelude.{◌==◌, Contains, All, Some, slice_index}
 use Rattle.std.specs.List.{range_with_len}
 use Rattle.std.proofs.lemmas.Bool.{cases_eq, cases_lt}
 use Rattle.std.proofs.lemmas.Bool.Decides.{nat_tests}
-use Rattle.std.proofs.lemmas.List.{length-set, length-map, length-append, length-take, map-append, drop-drop, drop_all, get_or_past, get_or_default, take-append-drop}
-use Rattle.std.proofs.lemmas.List.FromFn.{length-map-range_with_len, get_or-map-range_with_len}
+use Rattle.std.proofs.lemmas.List.{length-set, length-map, length-append, length-take, map-append, drop-drop, drop_all, get_or_past, get_or_default, take-append-drop, take_all, take_more}
+use Rattle.std.proofs.lemmas.List.FromFn.{length-map-range_with_len, get_or-map-range_with_len, take-map-range_with_len}
 use Rattle.std.proofs.lemmas.List.Elements.{All-nil, All-cons, All-take, All-drop, All-head, All-tail, Contains-append_left, Contains-append_right, Contains-append_cases, Contains-get_or}
 use Rattle.std.proofs.lemmas.Simd.{map-map}
 use Rattle.r4_base.specs.Image.{Image, IsBlock, IsImage, block_at, put_pairs}
@@ -319,3 +319,19 @@ pub pairs_named : (ws : List Copy) → All (λ o. o ≢ 0) (map (λ (w : Copy). 
 pairs_named [] all = All-nil (λ (q : ℕ × ℕ). q.0 ≢ 0)
 pairs_named (w ∷ ws) all = All-cons (λ (q : ℕ × ℕ). q.0 ≢ 0) (w.original, w.copy) (map (λ (v : Copy). (v.original, v.copy)) ws)
     (All-head (λ (o : ℕ). o ≢ 0) w.original (map (λ (v : Copy). v.original) ws) all) (pairs_named ws (All-tail (λ (o : ℕ). o ≢ 0) w.original (map (λ (v : Copy). v.original) ws) all))
+
+-- a record more
+pub range_more : {X : Type 0} (f : ℕ → X) (k : ℕ) → map f (range_with_len 0 (k + 1)) ≡ map f (range_with_len 0 k) ++ f k ∷ []
+range_more {X = X} f k =
+    let all : List X = map f (range_with_len 0 (k + 1)) in
+    let long : length all ≡ k + 1 = length-map-range_with_len f 0 (k + 1) in
+    sym (take_all (k + 1) all (omega (arith, long))) ∙ take_more all k (f k) (omega (arith, long))
+    ∙ ap (λ (l : List X). l ++ get_or all k (f k) ∷ []) (take-map-range_with_len f 0 (k + 1) k (omega arith))
+    ∙ ap (λ (x : X). map f (range_with_len 0 k) ++ x ∷ []) (get_or-map-range_with_len f 0 (k + 1) k k (f k) (omega arith) (omega arith))
+
+pub log_more : (p : LogPlan) (k at : ℕ) (block : List ℕ) (log now : List Write) (e : Write) → log ≡ map (record_write p) (range_with_len 0 k) → now ≡ log ++ e ∷ [] → e ≡ (at, block) → at ≡ number_after p k
+    → block ≡ record_block (record_says p k) → k < length p.records → now ≡ map (record_write p) (range_with_len 0 (k + 1))
+log_more p k at block log now e so_far more is number spelled lt =
+    let here : at ≡ slice_index p.records k = number ∙ get_or_default p.records k p.head.0 0 lt in
+    let one : e ≡ record_write p k = is ∙ ap (λ (b : ℕ). let w : Write = (b, block) in w) here ∙ ap (λ (x : List ℕ). let w : Write = (slice_index p.records k, x) in w) spelled in
+    more ∙ ap (λ (l : List Write). l ++ e ∷ []) so_far ∙ ap (λ (w : Write). map (record_write p) (range_with_len 0 k) ++ w ∷ []) one ∙ sym (range_more (record_write p) k)

@@ -8,7 +8,7 @@ ghost use Rattle.r4_wander.specs.LogPlan.{pairs, originals_of, placed_writes, nu
 
 use crate::entry::Entry;
 use crate::plan::{LogPlan, WanderedCopies};
-use r4_base::{Block, Footer, Header, Memory, TxHead};
+use r4_base::{Block, BlockNo, Footer, Header, Memory, TxHead};
 use r4_logfmt::{write_footer, write_head, write_header, write_record};
 use std::alloc::Global;
 use std::marker::Model;
@@ -157,11 +157,12 @@ pub(crate) fn make_log(alloc: Global, plan: &LogPlan) -> Result<Vec<Entry>, Memo
     ensures head { OnOk result (head_of (head_block (head_says plan.now)) ≡ Some (head_says plan.now)) }
 {
     let pairs = make_pairs(alloc, plan)?;
-    let records = plan.records.as_slice();
-    let mut log = Vec::with_capacity(alloc, records.len() + 1)?;
-    for k in 0..records.len() {
+    let count = plan.records.as_slice().len();
+    let mut log = Vec::with_capacity(alloc, count + 1)?;
+    for k in 0..count {
         let block = make_record(alloc, plan, &pairs, k)?;
-        log.push(Entry::of_block(alloc, records[k], block)?)?;
+        let at = BlockNo(block_after(plan, k));
+        log.push(Entry::of_block(alloc, at, block)?)?;
     }
     let head = make_head(alloc, plan)?;
     log.push(Entry::of_block(alloc, plan.head, head)?)?;
@@ -207,13 +208,24 @@ pub(crate) fn share(alloc: Global, wandered: WanderedCopies) -> Result<Vec<Share
 }
 
 /// Puts the copies, each at its block, behind these writes.
-pub(crate) fn add_copies(made: &mut Vec<Entry>, shared: &[Shared]) -> Result<(), Memory>
+fn add_copies(made: &mut Vec<Entry>, shared: &[Shared]) -> Result<(), Memory>
     ensures { OnOk result (made.new.items ≡ made.old.items ++ map (λ w. (w.copy, w.block)) shared.now) }
 {
     for copy in shared {
         made.push(Entry::of_shared(copy.copy, &copy.block)?)?;
     }
     Ok(())
+}
+
+/// The first part: the placed cells, the copies, and the records and the head.
+pub(crate) fn make_first(placed: Vec<Entry>, shared: &[Shared], log: Vec<Entry>) -> Result<Vec<Entry>, Memory>
+    ensures { IfOk result (λ v. v.items ≡ placed.items ++ (map (λ w. (w.copy, w.block)) shared.now ++ log.items)) }
+{
+    let mut made = placed;
+    let mut log = log;
+    add_copies(&mut made, shared)?;
+    made.append(&mut log)?;
+    Ok(made)
 }
 
 /// The homes: each original with its new content.

@@ -7,17 +7,20 @@ ghost use Rattle.r4_base.specs.Value.{Content};
 ghost use Rattle.r4_base.specs.Volume.{HasVolume, Needs};
 ghost use Rattle.r4_outside.specs.Device.{Goes, HasCause, Writes, Spares, LeavesOnly, Rose, next};
 ghost use Rattle.r4_wander.specs.Torn.{IsTarget, IsTornBy};
-ghost use Rattle.r4_wander.specs.Parts.{base_of};
-ghost use Rattle.r4_wander.specs.LogPlan.{first};
+ghost use Rattle.r4_wander.specs.Parts.{base_of, IsOrderOf};
+ghost use Rattle.r4_wander.specs.LogPlan.{first, parts_of, CanBeWritten};
 ghost use Rattle.r4_wander.specs.Needed.{SparesNeeded};
-ghost use Rattle.r4_wander.specs.Safe.{ByPart};
+ghost use Rattle.r4_wander.specs.Safe.{IsEncoded, ByPart};
 ghost use Rattle.r4_wander.specs.Progress.{under_way, write_at, FitOn, IsNextCall, IsNext, stage_at, calls_left, Stands, Commits};
 ghost use Rattle.r4_wander.specs.declared.plan.LogPlan.{LogPlan};
 
 use crate::entry::Entry;
+use crate::making::{in_order, make_first, make_footer, make_header, make_homes, make_log, make_placed, share};
+use crate::plan::LogPlan;
 use crate::stage::Stage;
-use r4_base::{Block, BlockNo};
+use r4_base::{Block, BlockNo, Memory};
 use r4_outside::{Device, Failed};
+use std::alloc::Global;
 use std::marker::Model;
 
 /// A commit under way: what is written in each of its four parts, the part that is under way, and how many of its writes
@@ -44,6 +47,33 @@ impl Model for Writer {
 }
 
 impl Writer {
+    /// The writer of a plan, at its beginning. It takes all the memory of the commit. Its parts are exactly the writes of the
+    /// plan, those of the first part and the homes each in rising order of blocks, and what they write reads back as the
+    /// plan's transaction. The only error is want of memory. Condition: there is one record for each 254 pairs or part of
+    /// them, there are fewer than 2^32 - 1 records, and no original is 0 (docs/commit.md, "Order").
+    pub fn new(alloc: Global, plan: LogPlan) -> Result<Writer, Memory>
+        requires { CanBeWritten plan }
+        ensures begun { IfOk result (λ w. (w.part ≡ 0) × (w.done ≡ 0)) }
+        ensures parts { IfOk result (λ w. IsOrderOf (parts_of plan) w.plan) }
+        ensures encoded { OnOk result (IsEncoded plan) }
+    {
+        let log = make_log(alloc, &plan)?;
+        let header = make_header(alloc, &plan)?;
+        let footer = make_footer(alloc, &plan)?;
+        let first = make_placed(alloc, &plan)?;
+        let shared = share(alloc, plan.wandered)?;
+        let homes = make_homes(alloc, &shared)?;
+        let first = make_first(first, &shared, log)?;
+        Ok(Writer {
+            first: in_order(first)?,
+            header,
+            homes: in_order(homes)?,
+            footer,
+            part: 0,
+            done: 0,
+        })
+    }
+
     /// Makes from one to four writes and syncs, and no other device call: up to four writes of the part that is under way
     /// and, where all its writes are made within fewer than four calls, its sync, with which the step ends. It takes no
     /// memory. `Ok` says how far the commit is; a stage may be answered by several steps. `Failed` comes only where the
