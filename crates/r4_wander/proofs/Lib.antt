@@ -6,3 +6,4 @@ pub mod Standing
 pub mod Stepping
 pub mod Needed
 pub mod Cutting
+pub mod Written
