@@ -7,3 +7,5 @@ pub mod Stepping
 pub mod Needed
 pub mod Cutting
 pub mod Written
+pub mod Ending
+pub mod Boundary

@@ -54,7 +54,7 @@ module _ (n : ℕ) (one two : Image) (m o : Content) (c : HasContent n one m) (d
   made_same b (inr (inr (inr cell))) = inr (inr (inr (cell.0, subst (λ s. s b ≡ Some cell.0) (sym store_same) cell.1)))
 
 -- a volume's content and needs over its chain under another name
-volume_over : (n : ℕ) (image : Image) (m : Content) (v : HasVolume n image m) (chain : List Txn) → v.chain ≡ chain
+pub volume_over : (n : ℕ) (image : Image) (m : Content) (v : HasVolume n image m) (chain : List Txn) → v.chain ≡ chain
     → (c : HasContent n (put_pairs (chain_pairs chain) image) m)
       × ((b : ℕ) → (Needs v b → Contains (kept_blocks chain) b ⊎ ((d : ℕ) × IsMadeOf c d × (b ≡ home (chain_pairs chain) d)))
         × (Contains (kept_blocks chain) b ⊎ ((d : ℕ) × IsMadeOf c d × (b ≡ home (chain_pairs chain) d)) → Needs v b))
@@ -81,27 +81,27 @@ bitmap_apart k b which is = elim (cases_eq k 0) [
       ⊎_elim (λ f. absurd (omega (arith, f, e, is, other))) (λ f. absurd (omega (arith, f, e, is, other))) which
 ]
 
-module _ (n : ℕ) (image : Image) (m : Content) (v : HasVolume n image m) (b : ℕ) (which : is_log_number b) where
-  low : b < 22
-  low = ⊎_elim (λ e. omega (arith, e)) (λ e. omega (arith, e)) which
+log_low : (b : ℕ) → is_log_number b → b < 22
+log_low b which = ⊎_elim (λ e. omega (arith, e)) (λ e. omega (arith, e)) which
 
+pub not_made : (n : ℕ) (image : Image) (m : Content) (c : HasContent n image m) (b : ℕ) → is_log_number b → IsMadeOf c b → ⊥
+not_made n image m c b which (inl is) = ⊎_elim (λ e. absurd (omega (arith, e, is))) (λ e. absurd (omega (arith, e, is))) which
+not_made n image m c b which (inr (inl is)) = ⊎_elim (λ e. absurd (omega (arith, e, is))) (λ e. absurd (omega (arith, e, is))) which
+not_made n image m c b which (inr (inr (inl (k, lt, is)))) = bitmap_apart k b which is
+not_made n image m c b which (inr (inr (inr (d, is)))) = not_both (is_fixed c.super.block_count b) (low_fixed c.super.block_count b (log_low b which)) (c.places b d is).1
+
+module _ (n : ℕ) (image : Image) (m : Content) (v : HasVolume n image m) (b : ℕ) (which : is_log_number b) where
   kept_high : Contains (kept_blocks v.chain) b → ⊥
   kept_high h = ⊎_elim
-      (λ w. let r = second_in_range n (chain_pairs v.chain) b (chain_in_range n image _ _ v.chain v.log.txns) w in absurd (omega (arith, r.0, low)))
-      (λ l. let r = log_in_range n image _ _ b v.chain v.log.txns l in absurd (omega (arith, r.0, low)))
+      (λ w. let r = second_in_range n (chain_pairs v.chain) b (chain_in_range n image _ _ v.chain v.log.txns) w in absurd (omega (arith, r.0, log_low b which)))
+      (λ l. let r = log_in_range n image _ _ b v.chain v.log.txns l in absurd (omega (arith, r.0, log_low b which)))
       (Contains-append_cases (wandered v.chain) (log_blocks v.chain) b h)
-
-  not_made : IsMadeOf v.content b → ⊥
-  not_made (inl is) = ⊎_elim (λ e. absurd (omega (arith, e, is))) (λ e. absurd (omega (arith, e, is))) which
-  not_made (inr (inl is)) = ⊎_elim (λ e. absurd (omega (arith, e, is))) (λ e. absurd (omega (arith, e, is))) which
-  not_made (inr (inr (inl (k, lt, is)))) = bitmap_apart k b which is
-  not_made (inr (inr (inr (d, is)))) = not_both (is_fixed v.content.super.block_count b) (low_fixed v.content.super.block_count b low) (v.content.places b d is).1
 
   pub log_numbers_free : Needs v b → ⊥
   log_numbers_free (inl kept) = kept_high kept
   log_numbers_free (inr (d, made, is)) = ⊎_elim
       (λ w. kept_high (Contains-append_left (wandered v.chain) (log_blocks v.chain) b (subst (Contains (wandered v.chain)) (sym is) w)))
-      (λ stays. not_made (subst (IsMadeOf v.content) (sym (is ∙ stays.0)) made))
+      (λ stays. not_made n _ m v.content b which (subst (IsMadeOf v.content) (sym (is ∙ stays.0)) made))
       (home_cases (chain_pairs v.chain) d)
 
 -- ---- in the first part no target is needed, where none was needed at the start
