@@ -1,5 +1,5 @@
 -- What a commit leaves, in volumes.
-use Rattle.std.proofs.Common.{◌≡◌, ◌≢◌, ◌⊎◌, inl, inr, ⊎_elim, ℕ, ◌<◌, List, ◌∷◌, refl, sym, ◌∙◌, ap, subst, arith}
+use Rattle.std.proofs.Common.{◌≡◌, ◌≢◌, ◌⊎◌, inl, inr, ⊎_elim, ℕ, ◌<◌, List, [], ◌∷◌, refl, sym, ◌∙◌, ap, subst, arith}
 use Rattle.std.specs.Prelude.{Contains}
 use Rattle.r4_base.specs.Image.{Image, IsImage, block_at, put_pairs}
 use Rattle.r4_base.specs.Chain.{Txn, chain_pairs, originals, SettlesTo}
@@ -13,7 +13,7 @@ use Rattle.r4_wander.specs.declared.plan.LogPlan.{LogPlan}
 use Rattle.r4_wander.specs.LogPlan.{first, parts_of, txn_of}
 use Rattle.r4_wander.specs.Safe.{IsSafe, IsEncoded, with_atom, is_scratch, WithoutAtom, WithAtom}
 use Rattle.r4_wander.proofs.Order.{part_target}
-use Rattle.r4_wander.proofs.Encoding.{is_commit, home_other}
+use Rattle.r4_wander.proofs.Encoding.{is_commit, home_other, news_are, originals_are}
 use Rattle.r4_wander.proofs.Needed.{part_free, volume_over, not_made}
 use Rattle.r4_wander.proofs.Ending.{any_order}
 
@@ -45,3 +45,7 @@ pub free_of : (n i : ℕ) (base image : Image) (chain : List Txn) (p : LogPlan) 
     → ((k : ℕ) → IsTarget (first p) k → Needs v k → ⊥) → i ≢ 2 → IsTornBy (part plan i) (base_of plan base i) image → IsTarget (part plan i) b → Needs u b → ⊥
 free_of n i base image chain p plan m o v u b safe code order free other torn target need =
     part_free n base chain (txn_of p) (parts_of p) (is_commit n base chain p safe code) m v free i image b o u other (any_order n base chain p plan safe order i image torn) (part_target (parts_of p) plan order i b target) need
+
+-- the homes are originals of the transaction
+pub home_original : (p : LogPlan) (plan : Parts) (b : ℕ) → IsOrderOf (parts_of p) plan → IsTarget (part plan 2) b → Contains (originals (txn_of p ∷ [])) b
+home_original p plan b order target = subst (λ (l : List ℕ). Contains l b) (news_are p.wandered ∙ sym (originals_are p.wandered)) (part_target (parts_of p) plan order 2 b target)

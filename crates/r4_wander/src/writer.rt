@@ -1,6 +1,6 @@
 //! The writer of a commit, and its steps.
 
-ghost use Rattle.std.specs.Prelude.{ℕ, ◌≡◌, ◌≢◌, ◌+◌, ◌<◌, ◌≤◌, length, OnOk, IfOk, IfSome, List};
+ghost use Rattle.std.specs.Prelude.{ℕ, ◌≡◌, ◌≢◌, ◌+◌, ◌^◌, ◌<◌, ◌≤◌, length, OnOk, IfOk, IfSome, List};
 ghost use Rattle.r4_base.specs.Image.{Image};
 ghost use Rattle.r4_base.specs.Chain.{Txn};
 ghost use Rattle.r4_base.specs.Value.{Content};
@@ -91,6 +91,7 @@ impl Writer {
         ensures next { OnOk result (IsNext self.old self.new) }
         ensures stage { IfOk result (λ stage. stage ≡ stage_at self.new.part self.new.done) }
         ensures some { Rose (D.state dev.old).clock (D.state dev.new).clock }
+        ensures clock { OnOk result (((D.state dev.old).clock + 1 ≤ (D.state dev.new).clock) × ((D.state dev.new).clock ≤ (D.state dev.old).clock + 4) × ((D.state dev.new).clock < 2 ^ 64)) }
         ensures few { (D.state dev.new).clock ≤ (D.state dev.old).clock + 4 }
 
         // Each call of the commit is made once.

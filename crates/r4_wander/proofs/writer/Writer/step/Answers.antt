@@ -16,7 +16,7 @@ returns-then-branch-clause-settles g c = λ n base chain p commits stands.
 pub loop-made-preserved : goal.loop-made-preserved
 loop-made-preserved g c =
     let wrote = subst (λ (synced : Bool). IsNextCall synced c.loop-made.self c.call.new.self) c.if-branch.false c.in_ok-call.ensures.next in
-    on_write _ _ c.loop-made._made _ _ c.loop-made.invariant _ c.call.ensures.goes _ c.call.ensures.plan c.in_ok-call.ensures.one wrote c.call.ensures.spares c.in_ok-call.ensures.stands c.call.ensures.left
+    on_write _ _ c.loop-made._made _ _ c.loop-made.invariant _ c.call.ensures.goes _ c.call.ensures.plan c.in_ok-call.ensures.one c.call.ensures.clock wrote c.call.ensures.spares c.in_ok-call.ensures.stands c.call.ensures.left
 
 pub returns-clause-settles : goal.returns-clause-settles
 returns-clause-settles g c = λ n base chain p commits stands.
