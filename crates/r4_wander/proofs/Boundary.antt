@@ -1,14 +1,14 @@
 -- What a commit leaves, in volumes.
-use Rattle.std.proofs.Common.{◌≡◌, ◌≢◌, ◌⊎◌, inl, inr, ⊎_elim, ℕ, ◌<◌, List, [], ◌∷◌, refl, sym, ◌∙◌, ap, subst, arith}
+use Rattle.std.proofs.Common.{◌≢◌, inr, ⊎_elim, ℕ, List, [], ◌∷◌, sym, ◌∙◌, subst}
 use Rattle.std.specs.Prelude.{Contains}
-use Rattle.r4_base.specs.Image.{Image, IsImage, block_at, put_pairs}
+use Rattle.r4_base.specs.Image.{Image, IsImage}
 use Rattle.r4_base.specs.Chain.{Txn, chain_pairs, originals, SettlesTo}
 use Rattle.r4_base.specs.Value.{Content}
 use Rattle.r4_base.specs.Volume.{HasContent, HasVolume, IsMadeOf, Needs}
 use Rattle.r4_base.proofs.Logs.{one_log}
 use Rattle.r4_base.proofs.Spare.{same_content}
 use Rattle.r4_wander.specs.Torn.{IsTarget, IsTornBy}
-use Rattle.r4_wander.specs.Parts.{Parts, part, base_of, IsOrderOf, is_log_number}
+use Rattle.r4_wander.specs.Parts.{Parts, part, base_of, IsOrderOf}
 use Rattle.r4_wander.specs.declared.plan.LogPlan.{LogPlan}
 use Rattle.r4_wander.specs.LogPlan.{first, parts_of, txn_of}
 use Rattle.r4_wander.specs.Safe.{IsSafe, IsEncoded, with_atom, is_scratch, WithoutAtom, WithAtom}
@@ -32,8 +32,8 @@ pub volume_without : (n : ℕ) (base image : Image) (chain : List Txn) (p : LogP
 volume_without n base image chain p m v safe free whole to =
     let (c, needs) = volume_over n base m v chain (one_log n base v.chain chain v.log safe.log) in
     volume_of n _ _ image m c (λ b w made. ⊎_elim
-        (λ target. free b target ((needs b).1 (inr (b, made, sym (home_other (chain_pairs chain) b b (safe.no_home b target))))))
-        (λ number. not_made n _ m c b number made) w) whole to
+    (λ target. free b target ((needs b).1 (inr (b, made, sym (home_other (chain_pairs chain) b b (safe.no_home b target))))))
+    (λ number. not_made n _ m c b number made) w) whole to
 
 -- With the atom the volume is that of the settled image with the atom's cells, where it is not made of a block of the log.
 pub volume_with : (n : ℕ) (base image : Image) (chain : List Txn) (p : LogPlan) (m : Content) (c : HasContent n (with_atom base chain p) m) → ((b : ℕ) → is_scratch p b → IsMadeOf c b → ⊥)

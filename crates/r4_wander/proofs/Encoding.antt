@@ -1,24 +1,24 @@
 -- What the first part of a safe plan writes reads back as its transaction.
-use Rattle.std.proofs.Common.{◌≡◌, ◌≢◌, ◌⊎◌, inl, inr, ⊎_elim, ℕ, zero, suc, ◌+◌, ◌*◌, ◌/◌, ◌<◌, ◌≤◌, Bool, true, false, cond, List, [], ◌∷◌, ◌++◌, length, map, take, drop, get_or, slice_set, refl, sym, ◌∙◌, ap, subst, arith, get_or-set_same, get_or-set_other, drop-cons, append_assoc}
-use Rattle.std.specs.Prelude.{◌==◌, Contains, All, Some, slice_index}
+use Rattle.std.proofs.Common.{◌≡◌, ◌≢◌, ◌⊎◌, inl, inr, ⊎_elim, ℕ, zero, suc, ◌+◌, ◌*◌, ◌<◌, ◌≤◌, Bool, true, false, cond, List, [], ◌∷◌, ◌++◌, length, map, take, drop, get_or, slice_set, refl, sym, ◌∙◌, ap, subst, arith, get_or-set_same, get_or-set_other, drop-cons}
+use Rattle.std.specs.Prelude.{◌==◌, Contains, All, slice_index}
 use Rattle.std.specs.List.{range_with_len}
-use Rattle.std.proofs.lemmas.Bool.{cases_eq, cases_lt}
+use Rattle.std.proofs.lemmas.Bool.{cases_eq}
 use Rattle.std.proofs.lemmas.Bool.Decides.{nat_tests}
-use Rattle.std.proofs.lemmas.List.{length-set, length-map, length-append, length-take, map-append, drop-drop, drop_all, get_or_past, get_or_default, take-append-drop, take_all, take_more}
+use Rattle.std.proofs.lemmas.List.{length-set, length-map, length-append, drop-drop, drop_all, get_or_past, get_or_default, take-append-drop, take_all, take_more}
 use Rattle.std.proofs.lemmas.List.FromFn.{length-map-range_with_len, get_or-map-range_with_len, take-map-range_with_len}
 use Rattle.std.proofs.lemmas.List.Elements.{All-nil, All-cons, All-take, All-drop, All-head, All-tail, Contains-append_left, Contains-append_right, Contains-append_cases, Contains-get_or}
 use Rattle.std.proofs.lemmas.Simd.{map-map}
-use Rattle.r4_base.specs.Image.{Image, IsBlock, IsImage, block_at, put_pairs}
-use Rattle.r4_base.specs.Log.{Record, head_of, record_of, head_block, record_block, header_of, footer_of}
-use Rattle.r4_base.specs.Chain.{Txn, InRange, IsOriginalNumber, PairInRange, HasRecords, HasTxn, HasLog, chain_pairs, originals, wandered, log_blocks, kept_blocks, home, home_from, committed, flushed}
+use Rattle.r4_base.specs.Image.{Image, IsImage, block_at, put_pairs}
+use Rattle.r4_base.specs.Log.{head_of, record_of, record_block}
+use Rattle.r4_base.specs.Chain.{Txn, InRange, IsOriginalNumber, PairInRange, HasRecords, HasTxn, chain_pairs, wandered, log_blocks, kept_blocks, home, home_from}
 use Rattle.r4_base.proofs.Frame.{length-put_pairs, past, settled_at, home_cases, log_in_range, chain_in_range, second_in_range, first_in_range, original_apart}
-use Rattle.r4_base.proofs.Members.{member_or_not, member_here}
+use Rattle.r4_base.proofs.Members.{member_or_not}
 use Rattle.r4_wander.specs.Torn.{Write, put_writes, targets, IsTarget}
-use Rattle.r4_wander.specs.Parts.{Parts, part, base_of, is_log_number, IsCommit, HasHomes, With, MayLeave}
+use Rattle.r4_wander.specs.Parts.{IsCommit, HasHomes, With, MayLeave}
 use Rattle.r4_wander.specs.Seen.{Copy}
 use Rattle.r4_wander.specs.declared.plan.LogPlan.{LogPlan}
-use Rattle.r4_wander.specs.LogPlan.{pairs, originals_of, placed_writes, copies, news, number_after, total, head_says, record_says, record_write, record_writes, head_write, header_bytes, footer_bytes, scratch, first, parts_of, txn_of}
-use Rattle.r4_wander.specs.Safe.{IsEncoded, AreDifferent, IsSafe, with_atom, is_scratch, WithoutAtom, WithAtom, ByPart}
+use Rattle.r4_wander.specs.LogPlan.{pairs, originals_of, placed_writes, copies, news, number_after, head_says, record_says, record_write, record_writes, head_write, header_bytes, scratch, first, parts_of, txn_of}
+use Rattle.r4_wander.specs.Safe.{IsEncoded, AreDifferent, IsSafe, with_atom, is_scratch, WithAtom, ByPart}
 use Rattle.r4_wander.proofs.Members.{any_cases, any_here, any_later, no_any, from_map, in_map, original_cases, original_new, kept_cases}
 use Rattle.r4_wander.proofs.Order.{put_at, image_put, few_blocks}
 use Rattle.r4_wander.proofs.Settling.{length-put_writes, put_writes_other, log2, long2, image2}
@@ -184,8 +184,15 @@ module _ (n : ℕ) (base : Image) (chain : List Txn) (p : LogPlan) (safe : IsSaf
   few_first = omega (arith, few_blocks n (targets (first p)) safe.different (λ b h. (safe.in_range b h).1), length-map {A = Write} {B = ℕ} (first p) (λ w. w.0))
 
   counted : length p.wandered + (length p.records + 1) ≤ n
-  counted = omega (arith, few_first, length-append (placed_writes p) (scratch p), length-append (copies p) (record_writes p ++ head_write p ∷ []), length-append (record_writes p) (head_write p ∷ []),
-    length-map {A = Copy} {B = Write} p.wandered (λ w. (w.copy, w.block)), length-map-range_with_len {X = Write} (record_write p) 0 (length p.records))
+  counted = omega (
+    arith,
+    few_first,
+    length-append (placed_writes p) (scratch p),
+    length-append (copies p) (record_writes p ++ head_write p ∷ []),
+    length-append (record_writes p) (head_write p ∷ []),
+    length-map {A = Copy} {B = Write} p.wandered (λ w. (w.copy, w.block)),
+    length-map-range_with_len {X = Write} (record_write p) 0 (length p.records),
+  )
 
   in_pairs_of : (ws : List Copy) → All (IsOriginalNumber n) (map (λ (w : Copy). w.original) ws) → ((b : ℕ) → Contains (map (λ (q : ℕ × ℕ). q.1) (map (λ (w : Copy). (w.original, w.copy)) ws)) b → InRange n b) → All (PairInRange n) (map (λ (w : Copy). (w.original, w.copy)) ws)
   in_pairs_of [] all range = All-nil (PairInRange n)
@@ -230,12 +237,12 @@ module _ (n : ℕ) (base : Image) (chain : List Txn) (p : LogPlan) (safe : IsSaf
     free = λ b w. let range = safe.in_range b w in ((λ is. absurd (omega (arith, range.0, is))), (λ is. absurd (omega (arith, range.0, is))), safe.not_kept b w);
     apart = λ b o. ⊎_elim
         (λ old.
-            let out = original_apart n b (first_in_range n (chain_pairs chain) b (chain_in_range n base _ _ chain safe.log.txns) old) in
-            (out.0, out.1, λ k. ⊎_elim (safe.log.apart b old) (λ w. safe.no_home b w old) (kept_is b k)))
+        let out = original_apart n b (first_in_range n (chain_pairs chain) b (chain_in_range n base _ _ chain safe.log.txns) old) in
+        (out.0, out.1, λ k. ⊎_elim (safe.log.apart b old) (λ w. safe.no_home b w old) (kept_is b k)))
         (λ new.
-            let own = original_here b new in
-            let out = original_number b own in
-            (out.0, out.1, λ k. ⊎_elim (safe.originals_apart b own) (λ w. safe.no_original b w own) (kept_is b k)))
+        let own = original_here b new in
+        let out = original_number b own in
+        (out.0, out.1, λ k. ⊎_elim (safe.originals_apart b own) (λ w. safe.no_original b w own) (kept_is b k)))
         (original_cases (txn_of p) chain b o);
     kept = λ b k. (kept_range b k).0;
     header = ap (λ h. h.last) code.header;
@@ -260,8 +267,10 @@ module _ (n : ℕ) (base : Image) (chain : List Txn) (p : LogPlan) (safe : IsSaf
     where
       not19 : (k : ℕ) → k ≢ 19 → block_at base2 k ≡ block_at base1 k
       not19 k other = get_or-set_other base1 19 k (header_bytes p) [] other
+
       in_settled : b < length (put_pairs (chain_pairs chain) base)
       in_settled = omega (arith, lt, safe.image.blocks, length-put_pairs (chain_pairs chain) base)
+
       before : IsTarget (placed_writes p) b ⊎ (IsTarget (placed_writes p) b → ⊥) → block_at base2 (home (chain_pairs chain) b) ≡ block_at (put_writes (placed_writes p) (put_pairs (chain_pairs chain) base)) b
       before (inl placed) =
           let (w, one, at) = from_map (λ (u : Write). u.0) (placed_writes p) b placed in

@@ -1,9 +1,9 @@
 -- How a commit begins and ends.
-use Rattle.std.proofs.Common.{◌≡◌, ◌⊎◌, inl, inr, ℕ, ◌+◌, ◌<◌, ◌≤◌, List, [], ◌∷◌, take, refl, sym, ◌∙◌, ap, subst, arith}
+use Rattle.std.proofs.Common.{◌≡◌, ℕ, ◌≤◌, List, [], ◌∷◌, sym, subst, arith}
 use Rattle.r4_base.specs.Image.{Image}
 use Rattle.r4_base.specs.Chain.{Txn, HasLog}
 use Rattle.r4_outside.specs.Device.{State, IsQuiet}
-use Rattle.r4_wander.specs.Torn.{Write, IsTornBy}
+use Rattle.r4_wander.specs.Torn.{IsTornBy}
 use Rattle.r4_wander.specs.Parts.{Parts, part, base_of, IsOrderOf, HasHomes}
 use Rattle.r4_wander.specs.declared.plan.LogPlan.{LogPlan}
 use Rattle.r4_wander.specs.LogPlan.{parts_of, txn_of}

@@ -1,10 +1,10 @@
 -- Members of lists, and what a chain with one more transaction keeps.
-use Rattle.std.proofs.Common.{◌≡◌, ◌⊎◌, inl, inr, ⊎_elim, ℕ, zero, suc, ◌+◌, ◌<◌, List, [], ◌∷◌, ◌++◌, length, map, refl, sym, ◌∙◌, ap, subst, arith}
+use Rattle.std.proofs.Common.{◌≡◌, ◌⊎◌, inl, inr, ⊎_elim, ℕ, zero, suc, List, [], ◌∷◌, ◌++◌, map, refl, sym, ap, subst, arith}
 use Rattle.std.specs.Prelude.{Contains}
 use Rattle.std.proofs.lemmas.List.{map-append}
 use Rattle.std.proofs.lemmas.List.Elements.{Contains-append_left, Contains-append_right, Contains-append_cases}
 use Rattle.r4_base.specs.Chain.{Txn, chain_pairs, originals, wandered, log_blocks, kept_blocks}
-use Rattle.r4_base.proofs.Members.{member_cases, member_here, member_later}
+use Rattle.r4_base.proofs.Members.{member_cases, member_later}
 
 pub any_cases : {X : Type 0} (x : X) (xs : List X) (b : X) → Contains (x ∷ xs) b → (b ≡ x) ⊎ Contains xs b
 any_cases x xs b (zero, lt, is) = inl (sym is)
@@ -53,10 +53,10 @@ module _ (t : Txn) (chain : List Txn) (b : ℕ) where
   pub kept_cases : Contains (kept_blocks (t ∷ chain)) b → Contains (kept_blocks chain) b ⊎ ((b ≡ t.head) ⊎ (Contains t.records b ⊎ Contains (map (λ (p : ℕ × ℕ). p.1) t.pairs) b))
   kept_cases h = ⊎_elim
       (λ w. ⊎_elim (λ old. inl (Contains-append_left (wandered chain) (log_blocks chain) b old)) (λ new. inr (inr (inr new)))
-          (Contains-append_cases (wandered chain) (map (λ (p : ℕ × ℕ). p.1) t.pairs) b (subst (λ (l : List ℕ). Contains l b) seconds w)))
+      (Contains-append_cases (wandered chain) (map (λ (p : ℕ × ℕ). p.1) t.pairs) b (subst (λ (l : List ℕ). Contains l b) seconds w)))
       (λ l. ⊎_elim (λ is. inr (inl is))
-          (λ more. ⊎_elim (λ r. inr (inr (inl r))) (λ old. inl (Contains-append_right (wandered chain) (log_blocks chain) b old)) (Contains-append_cases t.records (log_blocks chain) b more))
-          (member_cases t.head (t.records ++ log_blocks chain) b l))
+      (λ more. ⊎_elim (λ r. inr (inr (inl r))) (λ old. inl (Contains-append_right (wandered chain) (log_blocks chain) b old)) (Contains-append_cases t.records (log_blocks chain) b more))
+      (member_cases t.head (t.records ++ log_blocks chain) b l))
       (Contains-append_cases (wandered (t ∷ chain)) (log_blocks (t ∷ chain)) b h)
 
   pub log_older : Contains (log_blocks chain) b → Contains (log_blocks (t ∷ chain)) b

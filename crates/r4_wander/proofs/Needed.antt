@@ -1,16 +1,15 @@
 -- No write of a commit but those of the homes falls on a block that some image needs.
-use Rattle.std.proofs.Common.{◌≡◌, ◌≢◌, ◌⊎◌, inl, inr, ⊎_elim, ℕ, zero, suc, ◌+◌, ◌*◌, ◌<◌, ◌≤◌, Bool, true, false, cond, List, [], ◌∷◌, length, refl, sym, ◌∙◌, ap, subst, arith}
+use Rattle.std.proofs.Common.{◌≡◌, ◌≢◌, ◌⊎◌, inl, inr, ⊎_elim, ℕ, zero, suc, ◌*◌, ◌<◌, Bool, true, false, cond, List, length, refl, sym, ◌∙◌, ap, subst, arith}
 use Rattle.std.specs.Prelude.{Contains, Some}
 use Rattle.std.specs.Prelude.{nat_lt, ◌||◌, ◌&&◌, ◌%◌, ◌==◌}
 use Rattle.std.proofs.lemmas.Bool.{cases_eq}
 use Rattle.std.proofs.lemmas.Bool.Decides.{nat_tests}
 use Rattle.std.proofs.lemmas.List.Elements.{Contains-append_left, Contains-append_cases}
-use Rattle.r4_base.specs.Image.{Image, IsImage, block_at, put_pairs, AgreesOutside}
+use Rattle.r4_base.specs.Image.{Image, block_at, put_pairs}
 use Rattle.r4_base.specs.Log.{header_of, footer_of}
 use Rattle.r4_base.specs.Bitmap.{is_fixed, bitmap_count, bitmap_block}
-use Rattle.r4_base.specs.Chain.{Txn, HasLog, chain_pairs, wandered, log_blocks, kept_blocks, originals, home, committed, flushed, InRange}
-use Rattle.r4_base.specs.Value.{Value, Content}
-use Rattle.r4_base.specs.Tree.{Node}
+use Rattle.r4_base.specs.Chain.{Txn, HasLog, chain_pairs, wandered, log_blocks, kept_blocks, originals, home, committed, flushed}
+use Rattle.r4_base.specs.Value.{Content}
 use Rattle.r4_base.specs.Volume.{HasContent, HasVolume, IsMadeOf, Needs, root_of}
 use Rattle.r4_base.specs.declared.superblock.Super40.{Super40}
 use Rattle.r4_base.proofs.Logs.{one_log}
@@ -19,12 +18,12 @@ use Rattle.r4_base.proofs.Members.{member_or_not}
 use Rattle.r4_base.specs.Layout.{super_of}
 use Rattle.r4_base.specs.Cell.{IsCellOf}
 use Rattle.r4_base.proofs.Frame.{home_cases, framed_log, framed_at, log_in_range, chain_in_range, second_in_range}
-use Rattle.r4_outside.specs.Device.{State, Leaves, Spares}
-use Rattle.r4_wander.specs.Torn.{Write, IsTarget, IsTornBy}
+use Rattle.r4_outside.specs.Device.{State, Spares}
+use Rattle.r4_wander.specs.Torn.{IsTarget, IsTornBy}
 use Rattle.r4_wander.specs.Parts.{Parts, part, base_of, IsCommit, is_log_number}
 use Rattle.r4_wander.specs.LogPlan.{first, parts_of, txn_of}
 use Rattle.r4_wander.specs.declared.plan.LogPlan.{LogPlan}
-use Rattle.r4_wander.specs.Progress.{Progress, under_way, HasMade, Stands, Commits}
+use Rattle.r4_wander.specs.Progress.{Progress, under_way, Stands, Commits}
 use Rattle.r4_wander.specs.Needed.{SparesNeeded}
 use Rattle.r4_wander.proofs.Settling.{torn_outside, one_target, length-put_writes}
 use Rattle.r4_wander.proofs.Members.{no_any}
@@ -56,12 +55,12 @@ module _ (n : ℕ) (one two : Image) (m o : Content) (c : HasContent n one m) (d
 -- a volume's content and needs over its chain under another name
 pub volume_over : (n : ℕ) (image : Image) (m : Content) (v : HasVolume n image m) (chain : List Txn) → v.chain ≡ chain
     → (c : HasContent n (put_pairs (chain_pairs chain) image) m)
-      × ((b : ℕ) → (Needs v b → Contains (kept_blocks chain) b ⊎ ((d : ℕ) × IsMadeOf c d × (b ≡ home (chain_pairs chain) d)))
-        × (Contains (kept_blocks chain) b ⊎ ((d : ℕ) × IsMadeOf c d × (b ≡ home (chain_pairs chain) d)) → Needs v b))
+    × ((b : ℕ) → (Needs v b → Contains (kept_blocks chain) b ⊎ ((d : ℕ) × IsMadeOf c d × (b ≡ home (chain_pairs chain) d)))
+    × (Contains (kept_blocks chain) b ⊎ ((d : ℕ) × IsMadeOf c d × (b ≡ home (chain_pairs chain) d)) → Needs v b))
 volume_over n image m v chain same = subst
     (λ (l : List Txn). (c : HasContent n (put_pairs (chain_pairs l) image) m)
-      × ((b : ℕ) → (Needs v b → Contains (kept_blocks l) b ⊎ ((d : ℕ) × IsMadeOf c d × (b ≡ home (chain_pairs l) d)))
-        × (Contains (kept_blocks l) b ⊎ ((d : ℕ) × IsMadeOf c d × (b ≡ home (chain_pairs l) d)) → Needs v b)))
+    × ((b : ℕ) → (Needs v b → Contains (kept_blocks l) b ⊎ ((d : ℕ) × IsMadeOf c d × (b ≡ home (chain_pairs l) d)))
+    × (Contains (kept_blocks l) b ⊎ ((d : ℕ) × IsMadeOf c d × (b ≡ home (chain_pairs l) d)) → Needs v b)))
     same (v.content, λ b. (λ h. h, λ h. h))
 
 -- ---- header and footer are needed by none
@@ -117,9 +116,9 @@ module _ (n : ℕ) (base : Image) (chain : List Txn) (txn : Txn) (plan : Parts) 
       let (c0, needs0) = volume_over n base m0 v0 chain (one_log n base v0.chain chain v0.log ok.log) in
       let (c, needs) = volume_over n image m v chain (one_log n image v.chain chain v.log log) in
       let same : (k : ℕ) → IsMadeOf c0 k → block_at (put_pairs (chain_pairs chain) image) k ≡ block_at (put_pairs (chain_pairs chain) base) k = λ k made.
-          framed_at n (IsTarget plan.first) base image chain ok.log agrees (λ j w. (ok.free j w).2) header footer k (λ w. ⊎_elim (λ o. o)
-            (λ out. absurd (free k w ((needs0 k).1 (inr (k, made, sym (home_other (chain_pairs chain) k k out))))))
-            (member_or_not (originals chain) k)) in
+      framed_at n (IsTarget plan.first) base image chain ok.log agrees (λ j w. (ok.free j w).2) header footer k (λ w. ⊎_elim (λ o. o)
+      (λ out. absurd (free k w ((needs0 k).1 (inr (k, made, sym (home_other (chain_pairs chain) k k out))))))
+      (member_or_not (originals chain) k)) in
       ⊎_elim (λ kept. (ok.free b target).2 kept)
       (λ r. free b target ((needs0 b).1 (inr (r.0, made_same n _ _ m0 m c0 c same r.0 r.1, r.2))))
       ((needs b).0 need)
@@ -147,6 +146,6 @@ spares_needed w n base chain p m v old new c made other free spares =
           let torn : IsTornBy (under_way w) (base_of w.plan base w.part) image = left_start (under_way w) (base_of w.plan base w.part) w.done old made image left in
           subst (λ (k : ℕ). (z : HasVolume k image o) → Needs z b → ⊥) long
           (λ z needs. part_free n base chain (txn_of p) (parts_of p) (is_commit n base chain p c.safe c.encoded) m v free w.part image b o z other
-            (torn_order (parts_of p) w.plan c.order c.safe.different (homes_differ n base chain p c.safe) base w.part image torn) (part_target (parts_of p) w.plan c.order w.part b target) needs)
+          (torn_order (parts_of p) w.plan c.order c.safe.different (homes_differ n base chain p c.safe) base w.part image torn) (part_target (parts_of p) w.plan c.order w.part b target) needs)
           u need) may;
     }

@@ -1,5 +1,5 @@
 -- Writes of different blocks, in any order.
-use Rattle.std.proofs.Common.{◌≡◌, ◌≢◌, ◌⊎◌, inl, inr, ⊎_elim, ℕ, zero, suc, ◌+◌, ◌<◌, ◌≤◌, Bool, true, false, List, [], ◌∷◌, ◌++◌, length, map, get_or, slice_set, refl, sym, ◌∙◌, ap, subst, arith, get_or-set_same, get_or-set_other, eqb}
+use Rattle.std.proofs.Common.{◌≡◌, ◌≢◌, inl, inr, ⊎_elim, ℕ, zero, suc, ◌<◌, ◌≤◌, true, false, List, [], ◌∷◌, length, slice_set, refl, sym, ◌∙◌, ap, subst, arith, get_or-set_same, get_or-set_other, eqb}
 use Rattle.std.specs.Prelude.{Contains, All}
 use Rattle.std.specs.List.{IsDistinct, AllByRecursion, list_any}
 use Rattle.std.specs.List.Sorted.{IsPermutation}
@@ -10,8 +10,8 @@ use Rattle.std.proofs.lemmas.List.Elements.{All-head, All-tail}
 use Rattle.std.proofs.lemmas.List.Sorted.{Contains-permutation, IsPermutation-sym}
 use Rattle.std.proofs.lemmas.Map.Steps.{length-le_from_distinct_below}
 use Rattle.r4_base.specs.Image.{Image, IsBlock, IsImage, block_at}
-use Rattle.r4_base.proofs.Members.{member_or_not, member_here, member_later, member_cases}
-use Rattle.r4_wander.specs.Torn.{Write, put_writes, targets, IsTarget, IsWritten, IsTornBy}
+use Rattle.r4_base.proofs.Members.{member_or_not, member_here, member_later}
+use Rattle.r4_wander.specs.Torn.{Write, put_writes, targets, IsTarget, IsTornBy}
 use Rattle.r4_wander.specs.Parts.{Parts, part, base_of, IsOrderOf}
 use Rattle.r4_wander.specs.Safe.{AreDifferent}
 use Rattle.r4_wander.proofs.Members.{any_cases, any_here, any_later, no_any, from_map, in_map}
@@ -26,22 +26,22 @@ put_member (v ∷ vs) base b x each h lt =
     ⊎_elim
     (λ later. put_member vs next b x (λ w one is. each w (any_later v vs w one) is) later long)
     (λ out. ⊎_elim
-        (λ is. put_writes_other vs next b out ∙ ap (λ (k : ℕ). block_at next k) is ∙ get_or-set_same base v.0 v.1 [] (omega (arith, lt, is)) ∙ each v (any_here v vs v refl) (sym is))
-        (λ later. absurd (out later))
-        (any_cases v.0 (targets vs) b h))
+    (λ is. put_writes_other vs next b out ∙ ap (λ (k : ℕ). block_at next k) is ∙ get_or-set_same base v.0 v.1 [] (omega (arith, lt, is)) ∙ each v (any_here v vs v refl) (sym is))
+    (λ later. absurd (out later))
+    (any_cases v.0 (targets vs) b h))
     (member_or_not (targets vs) b)
 
 pub one_write : (ws : List Write) → AreDifferent (targets ws) → (w v : Write) → Contains ws w → Contains ws v → w.0 ≡ v.0 → w.1 ≡ v.1
 one_write [] different w v one two same = absurd (no_any w one)
 one_write (x ∷ xs) different w v one two same = ⊎_elim
     (λ is. ⊎_elim
-        (λ also. ap (λ (u : Write). u.1) (is ∙ sym also))
-        (λ later. absurd (different.0 (subst (IsTarget xs) (sym same ∙ ap (λ (u : Write). u.0) is) (in_map (λ (u : Write). u.0) xs v later))))
-        (any_cases x xs v two))
+    (λ also. ap (λ (u : Write). u.1) (is ∙ sym also))
+    (λ later. absurd (different.0 (subst (IsTarget xs) (sym same ∙ ap (λ (u : Write). u.0) is) (in_map (λ (u : Write). u.0) xs v later))))
+    (any_cases x xs v two))
     (λ first. ⊎_elim
-        (λ is. absurd (different.0 (subst (IsTarget xs) (same ∙ ap (λ (u : Write). u.0) is) (in_map (λ (u : Write). u.0) xs w first))))
-        (λ later. one_write xs different.1 w v first later same)
-        (any_cases x xs v two))
+    (λ is. absurd (different.0 (subst (IsTarget xs) (same ∙ ap (λ (u : Write). u.0) is) (in_map (λ (u : Write). u.0) xs w first))))
+    (λ later. one_write xs different.1 w v first later same)
+    (any_cases x xs v two))
     (any_cases x xs w one)
 
 -- what is written at a block stands there
@@ -53,13 +53,13 @@ put_order ws vs base different p = ext_get_or [] (put_writes vs base) (put_write
     let lt : b < length base = omega (arith, lb, length-put_writes vs base) in
     ⊎_elim
     (λ h.
-        let (w, one, at) = from_map (λ (u : Write). u.0) ws b h in
-        let below : w.0 < length base = omega (arith, lt, at) in
-        let there : block_at (put_writes vs base) w.0 ≡ w.1 = put_member vs base w.0 w.1 (λ v also is. one_write ws different v w (Contains-permutation vs ws v (IsPermutation-sym ws vs p) also) one is)
-        (in_map (λ (u : Write). u.0) vs w (Contains-permutation ws vs w p one)) below in
-        ap (λ (k : ℕ). block_at (put_writes vs base) k) at ∙ there ∙ sym (ap (λ (k : ℕ). block_at (put_writes ws base) k) at ∙ put_at ws base w different one below))
+    let (w, one, at) = from_map (λ (u : Write). u.0) ws b h in
+    let below : w.0 < length base = omega (arith, lt, at) in
+    let there : block_at (put_writes vs base) w.0 ≡ w.1 = put_member vs base w.0 w.1 (λ v also is. one_write ws different v w (Contains-permutation vs ws v (IsPermutation-sym ws vs p) also) one is)
+    (in_map (λ (u : Write). u.0) vs w (Contains-permutation ws vs w p one)) below in
+    ap (λ (k : ℕ). block_at (put_writes vs base) k) at ∙ there ∙ sym (ap (λ (k : ℕ). block_at (put_writes ws base) k) at ∙ put_at ws base w different one below))
     (λ out. put_writes_other vs base b (λ h. let (w, one, at) = from_map (λ (u : Write). u.0) vs b h in
-            out (subst (IsTarget ws) (sym at) (in_map (λ (u : Write). u.0) ws w (Contains-permutation vs ws w (IsPermutation-sym ws vs p) one)))) ∙ sym (put_writes_other ws base b out))
+    out (subst (IsTarget ws) (sym at) (in_map (λ (u : Write). u.0) ws w (Contains-permutation vs ws w (IsPermutation-sym ws vs p) one)))) ∙ sym (put_writes_other ws base b out))
     (member_or_not (targets ws) b))
 
 -- ---- whole blocks stay whole

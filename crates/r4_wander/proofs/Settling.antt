@@ -1,18 +1,18 @@
 -- What a crash leaves of a commit settles as without it or as with it.
-use Rattle.std.proofs.Common.{◌≡◌, ◌≢◌, ◌⊎◌, inl, inr, ⊎_elim, ℕ, zero, suc, ◌+◌, ◌<◌, ◌≤◌, List, [], ◌∷◌, ◌++◌, length, take, map, get_or, slice_set, refl, sym, ◌∙◌, ap, subst, arith, get_or-set_same, get_or-set_other}
+use Rattle.std.proofs.Common.{◌≡◌, ◌≢◌, ◌⊎◌, inl, inr, ⊎_elim, ℕ, zero, suc, ◌<◌, ◌≤◌, List, [], ◌∷◌, length, get_or, refl, sym, ◌∙◌, ap, subst, arith, get_or-set_same, get_or-set_other}
 use Rattle.std.specs.Prelude.{Contains}
 use Rattle.std.proofs.lemmas.Bool.{cases_eq}
 use Rattle.std.proofs.lemmas.List.{length-set, get_or-take}
 use Rattle.r4_base.specs.Image.{Image, IsBlock, IsImage, block_at, sector, put_pairs, AgreesOutside}
 use Rattle.r4_base.specs.Log.{header_of, footer_of}
-use Rattle.r4_base.specs.Chain.{Txn, HasTxn, HasTxns, HasLog, SettlesTo, chain_pairs, originals, wandered, log_blocks, kept_blocks, home, committed, flushed}
+use Rattle.r4_base.specs.Chain.{Txn, HasTxn, HasTxns, HasLog, chain_pairs, originals, log_blocks, committed, flushed}
 use Rattle.r4_base.proofs.Numbers.{number_at-same}
 use Rattle.r4_base.proofs.Members.{member_here, no_member}
 use Rattle.r4_base.proofs.Frame.{past, length-put_pairs, same_txn, same_txns, settled_at, framed}
 use Rattle.r4_outside.proofs.Images.{same_sectors}
 use Rattle.r4_wander.specs.Torn.{Write, put_writes, targets, IsTarget, IsWritten, IsTornBy}
 use Rattle.r4_wander.specs.Parts.{Parts, part, base_of, is_log_number, IsCommit, HasHomes, Without, With, MayLeave}
-use Rattle.r4_wander.proofs.Members.{any_cases, any_here, any_later, no_any, in_map, log_older, log_record, log_kept, kept_older, original_cases, original_new}
+use Rattle.r4_wander.proofs.Members.{any_cases, any_here, any_later, no_any, in_map, log_older, log_record, log_kept, kept_older}
 
 -- ---- a number at the head of a block lies in one sector
 
@@ -156,12 +156,12 @@ module _ (n : ℕ) (base : Image) (chain : List Txn) (txn : Txn) (plan : Parts) 
       let agrees = torn_outside n ((19, plan.header) ∷ []) base1 image ok.first_image t in
       let others : (b : ℕ) → b ≢ 19 → block_at image b ≡ block_at base1 b = λ b out. agrees.others b (λ h. out (one_target (19, plan.header) b h)) in
       let old : sector (block_at image 19) 0 ≡ sector (block_at base1 19) 0 → Without n base chain plan image = λ same.
-          without image (λ b. IsTarget plan.first b ⊎ (b ≡ 19)) (record { blocks = agrees.blocks ∙ agrees1.blocks; others = λ b out. others b (λ is. out (inr is)) ∙ agrees1.others b (λ w. out (inl w)) }) (λ b w. w)
-          (first_header (block_at image 19) (block_at base1 19) same ∙ ap last_header (agrees1.others 19 (λ w. (ok.free 19 w).0 refl))) in
+      without image (λ b. IsTarget plan.first b ⊎ (b ≡ 19)) (record { blocks = agrees.blocks ∙ agrees1.blocks; others = λ b out. others b (λ is. out (inr is)) ∙ agrees1.others b (λ w. out (inl w)) }) (λ b w. w)
+      (first_header (block_at image 19) (block_at base1 19) same ∙ ap last_header (agrees1.others 19 (λ w. (ok.free 19 w).0 refl))) in
       let new : sector (block_at image 19) 0 ≡ sector plan.header 0 → With n base chain txn plan image = λ same.
-          with_it image (λ b. b ≡ 19) (record { blocks = agrees.blocks ∙ sym agrees2.blocks; others = λ b out. others b out ∙ sym (agrees2.others b out) }) (λ b is. inl (inl is))
-          (first_header (block_at image 19) plan.header same ∙ ap last_header (sym header_block))
-          (ap last_footer (others 20 (λ is. absurd (omega (arith, is))) ∙ sym (agrees2.others 20 (λ no. absurd (omega (arith, no)))))) in
+      with_it image (λ b. b ≡ 19) (record { blocks = agrees.blocks ∙ sym agrees2.blocks; others = λ b out. others b out ∙ sym (agrees2.others b out) }) (λ b is. inl (inl is))
+      (first_header (block_at image 19) plan.header same ∙ ap last_header (sym header_block))
+      (ap last_footer (others 20 (λ is. absurd (omega (arith, is))) ∙ sym (agrees2.others 20 (λ no. absurd (omega (arith, no)))))) in
       ⊎_elim (λ same. inl (old same)) (λ w. inr (new (one_written (19, plan.header) 19 0 _ w))) (t.sectors 19 0 (omega (arith, ok.more, long1)) (omega arith))
 
   -- blocks 19 and 20 are no originals
@@ -185,30 +185,30 @@ module _ (n : ℕ) (base : Image) (chain : List Txn) (txn : Txn) (plan : Parts) 
         let others : (b : ℕ) → b ≢ 20 → block_at image b ≡ block_at base3 b = λ b out. agrees.others b (λ h. out (one_target (20, plan.footer) b h)) in
         let header3 : committed image ≡ committed base2 = ap last_header (others 19 (λ is. absurd (omega (arith, is))) ∙ agrees3.others 19 (λ w. not_original 19 (inl refl) (fin.homes 19 w))) in
         let old : sector (block_at image 20) 0 ≡ sector (block_at base3 20) 0 → With n base chain txn plan image = λ same.
-            with_it image (λ b. IsTarget plan.homes b ⊎ (b ≡ 20)) (record { blocks = agrees.blocks ∙ agrees3.blocks; others = λ b out. others b (λ is. out (inr is)) ∙ agrees3.others b (λ w. out (inl w)) })
-            (λ b w. ⊎_elim (λ h. inr (fin.homes b h)) (λ is. inl (inr is)) w) header3
-            (first_footer (block_at image 20) (block_at base3 20) same ∙ ap last_footer (agrees3.others 20 (λ w. not_original 20 (inr refl) (fin.homes 20 w)))) in
+        with_it image (λ b. IsTarget plan.homes b ⊎ (b ≡ 20)) (record { blocks = agrees.blocks ∙ agrees3.blocks; others = λ b out. others b (λ is. out (inr is)) ∙ agrees3.others b (λ w. out (inl w)) })
+        (λ b w. ⊎_elim (λ h. inr (fin.homes b h)) (λ is. inl (inr is)) w) header3
+        (first_footer (block_at image 20) (block_at base3 20) same ∙ ap last_footer (agrees3.others 20 (λ w. not_original 20 (inr refl) (fin.homes 20 w)))) in
         let new : sector (block_at image 20) 0 ≡ sector plan.footer 0 → With n base chain txn plan image = λ same.
-            let even : committed image ≡ flushed image = header3 ∙ header2 ∙ sym (first_footer (block_at image 20) plan.footer same ∙ fin.footer) in
-            let long : length image ≡ length (put_pairs (chain_pairs longer) base2) = agrees.blocks ∙ long_settled in
-            record {
-              settled = image;
-              settles = record { chain = []; has = record { txns = even; few = omega arith; apart = λ b o k. no_member b o }; is = refl };
-              agrees = record {
-                blocks = long;
-                others = λ b out. past image (put_pairs (chain_pairs longer) base2) b long (λ lt.
-                    let below : b < length base2 = omega (arith, lt, length-put_pairs (chain_pairs longer) base2) in
-                    others b (λ is. out (inr is)) ∙ fin.placed b (omega (arith, below, long2)) ∙ sym (settled_at base2 n longer b log2 below));
-              };
-            } in
+        let even : committed image ≡ flushed image = header3 ∙ header2 ∙ sym (first_footer (block_at image 20) plan.footer same ∙ fin.footer) in
+        let long : length image ≡ length (put_pairs (chain_pairs longer) base2) = agrees.blocks ∙ long_settled in
+        record {
+          settled = image;
+          settles = record { chain = []; has = record { txns = even; few = omega arith; apart = λ b o k. no_member b o }; is = refl };
+          agrees = record {
+            blocks = long;
+            others = λ b out. past image (put_pairs (chain_pairs longer) base2) b long (λ lt.
+                let below : b < length base2 = omega (arith, lt, length-put_pairs (chain_pairs longer) base2) in
+                others b (λ is. out (inr is)) ∙ fin.placed b (omega (arith, below, long2)) ∙ sym (settled_at base2 n longer b log2 below));
+          };
+        } in
         ⊎_elim old (λ w. new (one_written (20, plan.footer) 20 0 _ w)) (t.sectors 20 0 (omega (arith, ok.more, long3)) (omega arith))
 
     -- after the footer nothing is unflushed
     pub log4 : HasLog n (base_of plan base 4) []
     log4 =
         let still : committed (base_of plan base 4) ≡ flushed (base_of plan base 4) =
-            ap last_header (get_or-set_other base3 20 19 plan.footer [] (λ no. absurd (omega (arith, no))) ∙ agrees3.others 19 (λ w. not_original 19 (inl refl) (fin.homes 19 w))) ∙ header2
-            ∙ sym (ap last_footer (get_or-set_same base3 20 plan.footer [] (omega (arith, ok.more, long3))) ∙ fin.footer) in
+        ap last_header (get_or-set_other base3 20 19 plan.footer [] (λ no. absurd (omega (arith, no))) ∙ agrees3.others 19 (λ w. not_original 19 (inl refl) (fin.homes 19 w))) ∙ header2
+        ∙ sym (ap last_footer (get_or-set_same base3 20 plan.footer [] (omega (arith, ok.more, long3))) ∙ fin.footer) in
         record { txns = still; few = omega arith; apart = λ b o k. no_member b o }
 
     -- and once it is synced

@@ -1,23 +1,23 @@
 -- How a device goes through the writes of a part.
-use Rattle.std.proofs.Common.{◌≡◌, ◌≢◌, ◌⊎◌, inl, inr, ⊎_elim, ℕ, zero, suc, ◌+◌, ◌<◌, ◌≤◌, List, [], ◌∷◌, ◌++◌, length, map, take, drop, get_or, slice_set, refl, sym, ◌∙◌, ap, subst, arith, Result, Ok}
-use Rattle.std.specs.Prelude.{Contains, All}
+use Rattle.std.proofs.Common.{◌≡◌, ◌⊎◌, inl, inr, ⊎_elim, ℕ, zero, suc, ◌+◌, ◌<◌, ◌≤◌, List, [], ◌∷◌, ◌++◌, length, take, drop, get_or, slice_set, refl, sym, ◌∙◌, ap, subst, arith, Result, Ok}
+use Rattle.std.specs.Prelude.{All}
 use Rattle.std.proofs.lemmas.Bool.{cases_lt}
 use Rattle.std.proofs.lemmas.List.{take_more, take_all, take-append-drop, length-map, get_or_default}
 use Rattle.std.proofs.lemmas.List.Elements.{Contains-get_or, Contains-append_left, Contains-append_right, All-get_or}
 use Rattle.std.proofs.Math.ListN.{get_or-map}
 use Rattle.r4_base.specs.Image.{Image, IsImage, block_at, sector}
 use Rattle.r4_base.specs.Chain.{Txn}
-use Rattle.r4_outside.specs.Device.{State, Leaves, Sectors, Goes, Writes, Syncs, HasSectors, LeavesOnly, Within, TellsCrashes, IsQuiet, only, Spares}
-use Rattle.r4_outside.proofs.Moments.{Run, or_torn, run_start, run_write, run_sync, spares_same, spares_write, spares_sync, goes_same, left_before}
+use Rattle.r4_outside.specs.Device.{State, Sectors, Goes, Writes, Syncs, HasSectors, LeavesOnly, TellsCrashes, IsQuiet, Spares}
+use Rattle.r4_outside.proofs.Moments.{Run, run_start, run_write, run_sync, spares_same, spares_write, spares_sync, goes_same, left_before}
 use Rattle.r4_wander.specs.Torn.{Write, put_writes, targets, IsTarget, IsWritten, IsTornBy}
-use Rattle.r4_wander.specs.Parts.{Parts, part, base_of, IsOrderOf, MayLeave}
+use Rattle.r4_wander.specs.Parts.{Parts, part, base_of, IsOrderOf}
 use Rattle.r4_wander.specs.declared.plan.LogPlan.{LogPlan}
-use Rattle.r4_wander.specs.LogPlan.{first, news, parts_of, txn_of}
+use Rattle.r4_wander.specs.LogPlan.{news, parts_of, txn_of}
 use Rattle.r4_wander.specs.Safe.{IsSafe, IsEncoded, AreDifferent, ByPart}
 use Rattle.r4_wander.specs.Progress.{Progress, under_way, write_at, HasMade, FitOn, Stands, Commits}
 use Rattle.r4_wander.proofs.Members.{any_here, no_any}
 use Rattle.r4_wander.proofs.Settling.{settles_by_part}
-use Rattle.r4_wander.proofs.Order.{torn_order, base_order}
+use Rattle.r4_wander.proofs.Order.{torn_order}
 use Rattle.r4_wander.proofs.Encoding.{is_commit, has_homes, by_part, news_are}
 
 pub leaves_more : (old new : State) (P Q : Image → Type 0) → ((image : Image) → P image → Q image) → LeavesOnly old new P → LeavesOnly old new Q
@@ -132,7 +132,7 @@ homes_differ n base chain p safe = subst AreDifferent (sym (news_are p.wandered)
 pub settled_by : (w : Progress) (n : ℕ) (base : Image) (chain : List Txn) (p : LogPlan) (image : Image) → w.part ≤ 4 → Commits w n base chain p → IsTornBy (under_way w) (base_of w.plan base w.part) image → ByPart n base chain p w.part image
 settled_by w n base chain p image lt c t =
     by_part n base chain p c.safe c.encoded w.part image (settles_by_part n base chain (txn_of p) (parts_of p) (is_commit n base chain p c.safe c.encoded) w.part image lt c.homes
-        (torn_order (parts_of p) w.plan c.order c.safe.different (homes_differ n base chain p c.safe) base w.part image t))
+    (torn_order (parts_of p) w.plan c.order c.safe.different (homes_differ n base chain p c.safe) base w.part image t))
 
 pub settles : (w : Progress) (n : ℕ) (base : Image) (chain : List Txn) (p : LogPlan) (old new : State) → w.part ≤ 4 → Commits w n base chain p → LeavesOnly old new (IsTornBy (under_way w) (base_of w.plan base w.part)) → LeavesOnly old new (ByPart n base chain p w.part)
 settles w n base chain p old new lt c left = leaves_more old new _ _ (λ image t. settled_by w n base chain p image lt c t) left

@@ -1,12 +1,11 @@
 -- Several calls of a writer, one after the other.
-use Rattle.std.proofs.Common.{◌≡◌, ◌⊎◌, inl, inr, ⊎_elim, ℕ, zero, suc, ◌+◌, ◌-◌, ◌^◌, ◌<◌, ◌≤◌, Bool, true, false, List, [], ◌∷◌, ◌++◌, length, refl, sym, ◌∙◌, ap, subst, arith}
+use Rattle.std.proofs.Common.{◌≡◌, inl, inr, ℕ, zero, suc, ◌+◌, ◌^◌, ◌<◌, ◌≤◌, true, false, List, [], ◌∷◌, ◌++◌, length, refl, sym, ◌∙◌, ap, subst, arith}
 use Rattle.r4_base.specs.Image.{Image}
-use Rattle.r4_base.specs.Chain.{Txn}
 use Rattle.r4_outside.specs.Device.{State, Goes, LeavesOnly, Spares, Rose, next}
 use Rattle.r4_outside.proofs.Moments.{goes_same, goes_both, spares_same, spares_both}
 use Rattle.r4_wander.specs.Torn.{Write, IsTarget, IsTornBy}
 use Rattle.r4_wander.specs.Parts.{Parts, part, base_of, IsOrderOf}
-use Rattle.r4_wander.specs.Progress.{Progress, under_way, HasMade, FitOn, IsNextCall, IsNext, calls_from, calls_left, Stands}
+use Rattle.r4_wander.specs.Progress.{Progress, under_way, FitOn, IsNextCall, IsNext, calls_from, calls_left, Stands}
 use Rattle.std.proofs.lemmas.List.{length-append, length-map}
 use Rattle.std.proofs.lemmas.List.FromFn.{length-map-range_with_len}
 use Rattle.std.proofs.lemmas.List.Sorted.{length_permutation}
@@ -84,7 +83,7 @@ module _ (w0 : Progress) (d0 : State) (k : ℕ) (w : Progress) (d : State) (ran 
     on_left one base stands =
         let here = one base (ran.stands base stands) in
         let there : LeavesOnly d d1 (IsTornBy (under_way w0) (base_of w0.plan base w0.part)) =
-            subst (λ (i : Image). LeavesOnly d d1 (IsTornBy (under_way w0) i)) (same_base base) (subst (λ (ws : List Write). LeavesOnly d d1 (IsTornBy ws (base_of w.plan base w.part))) same_part here) in
+        subst (λ (i : Image). LeavesOnly d d1 (IsTornBy (under_way w0) i)) (same_base base) (subst (λ (ws : List Write). LeavesOnly d d1 (IsTornBy ws (base_of w.plan base w.part))) same_part here) in
         leaves_both d0 d d1 (IsTornBy (under_way w0) (base_of w0.plan base w0.part)) (ran.left base stands) there goes
 
     module _ (w1 : Progress) (plan : w1.plan ≡ w.plan) (one : d1.clock ≡ d.clock + 1) where
@@ -141,6 +140,15 @@ pub all_calls : (p : LogPlan) (plan : Parts) → IsOrderOf (parts_of p) plan →
 all_calls p plan order =
     let firsts : length plan.first ≡ length (first p) = length_permutation (first p) plan.first order.first in
     let homes : length plan.homes ≡ length (news p) = length_permutation (news p) plan.homes order.homes in
-    omega (arith, firsts, homes, length-append (placed_writes p) (scratch p), length-append (copies p) (record_writes p ++ head_write p ∷ []), length-append (record_writes p) (head_write p ∷ []),
-      length-map {A = Placed} {B = Write} p.placed (λ c. (c.at, c.cell.block)), length-map {A = Copy} {B = Write} p.wandered (λ w. (w.copy, w.block)), length-map {A = Copy} {B = Write} p.wandered (λ w. (w.original, w.block)),
-      length-map-range_with_len {X = Write} (record_write p) 0 (length p.records))
+    omega (
+      arith,
+      firsts,
+      homes,
+      length-append (placed_writes p) (scratch p),
+      length-append (copies p) (record_writes p ++ head_write p ∷ []),
+      length-append (record_writes p) (head_write p ∷ []),
+      length-map {A = Placed} {B = Write} p.placed (λ c. (c.at, c.cell.block)),
+      length-map {A = Copy} {B = Write} p.wandered (λ w. (w.copy, w.block)),
+      length-map {A = Copy} {B = Write} p.wandered (λ w. (w.original, w.block)),
+      length-map-range_with_len {X = Write} (record_write p) 0 (length p.records),
+    )

@@ -1,5 +1,5 @@
 -- What a writer makes of a plan reads back as the plan.
-use Rattle.std.proofs.Common.{◌≡◌, ℕ, ◌+◌, ◌*◌, ◌/◌, ◌<◌, ◌≤◌, List, [], ◌∷◌, ◌++◌, length, map, take, drop, arith, length-take}
+use Rattle.std.proofs.Common.{◌≡◌, ℕ, ◌*◌, ◌<◌, [], length, drop, arith, length-take}
 use Rattle.std.specs.Prelude.{All, Some}
 use Rattle.std.specs.List.{range_with_len}
 use Rattle.std.proofs.lemmas.List.Elements.{All-append, All-map, All-cons, All-nil}
@@ -30,7 +30,7 @@ is_encoded p can records head header header_whole footer footer_whole placed wan
   footer = footer;
   enough = omega (arith, can.enough);
   first_whole = All-append IsWhole (placed_writes p) _ placed (All-append IsWhole (copies p) _ (All-map IsWhole (λ (w : Copy). (w.copy, w.block)) p.wandered wandered)
-    (All-append IsWhole (record_writes p) _ (All-map IsWhole (record_write p) (range_with_len 0 (length p.records)) (λ i d lt. record_whole p _))
+      (All-append IsWhole (record_writes p) _ (All-map IsWhole (record_write p) (range_with_len 0 (length p.records)) (λ i d lt. record_whole p _))
       (All-cons IsWhole (head_write p) [] (length-head_block (head_says p)) (All-nil IsWhole))));
   homes_whole = All-map IsWhole (λ (w : Copy). (w.original, w.block)) p.wandered wandered;
   header_whole = header_whole;

@@ -1,5 +1,5 @@
 -- No write of a commit falls on a needed block (docs/commit.md, "Needed blocks").
-use Rattle.std.specs.Prelude.{◌≡◌, ℕ, ◌<◌, ◌≤◌, List}
+use Rattle.std.specs.Prelude.{ℕ, ◌<◌, ◌≤◌, List}
 use Rattle.r4_base.specs.Image.{Image}
 use Rattle.r4_base.specs.Value.{Content}
 use Rattle.r4_base.specs.Volume.{HasVolume, Needs}

@@ -1,10 +1,10 @@
 -- A commit as four lists of writes, each ended by a sync, and what a crash leaves of each (docs/commit.md, "Order").
-use Rattle.std.specs.Prelude.{◌≡◌, ◌≢◌, ◌⊎◌, ℕ, zero, suc, ◌+◌, ◌<◌, ◌≤◌, List, [], ◌∷◌, length, Contains}
+use Rattle.std.specs.Prelude.{◌≡◌, ◌≢◌, ◌⊎◌, ℕ, zero, suc, ◌<◌, ◌≤◌, List, [], ◌∷◌, length, Contains}
 use Rattle.std.specs.List.Sorted.{IsPermutation, IsNonDecreasingBy}
 use Rattle.r4_base.specs.Image.{Image, IsImage, IsBlock, block_at, put_pairs}
 use Rattle.r4_base.specs.Log.{header_of, footer_of}
 use Rattle.r4_base.specs.Chain.{Txn, HasTxn, HasLog, SettlesTo, chain_pairs, originals, kept_blocks, committed, flushed, home}
-use Rattle.r4_wander.specs.Torn.{Write, put_writes, targets, IsTarget}
+use Rattle.r4_wander.specs.Torn.{Write, put_writes, IsTarget}
 
 -- The writes of a commit: placed cells, copies, records and the head; the journal header; the homes; the journal footer.
 pub record Parts : Type 0 where

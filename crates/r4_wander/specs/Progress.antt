@@ -1,5 +1,5 @@
 -- Where a writer stands in its commit, and its device with it (docs/commit.md, "Steps").
-use Rattle.std.specs.Prelude.{◌≡◌, ◌≢◌, ◌⊎◌, ℕ, zero, suc, ◌+◌, ◌-◌, ◌<◌, ◌≤◌, List, [], length, take, slice_index_or, All, Bool, true, false}
+use Rattle.std.specs.Prelude.{◌≡◌, ◌⊎◌, ℕ, zero, suc, ◌+◌, ◌-◌, ◌<◌, ◌≤◌, List, [], length, take, slice_index_or, All, Bool, true, false}
 use Rattle.r4_base.specs.Image.{Image, IsImage, block_at, sector}
 use Rattle.r4_base.specs.Chain.{Txn, HasLog}
 use Rattle.r4_outside.specs.Device.{State, TellsCrashes, IsQuiet}

@@ -1,11 +1,11 @@
 -- The plans for which a commit is safe, and what a crash then leaves (docs/commit.md, "Safe plans").
-use Rattle.std.specs.Prelude.{◌≡◌, ◌≢◌, ◌⊎◌, ℕ, zero, suc, ◌+◌, ◌*◌, ◌<◌, ◌≤◌, List, [], ◌∷◌, ◌++◌, length, Contains, All, Some}
+use Rattle.std.specs.Prelude.{◌≡◌, ◌≢◌, ◌⊎◌, ℕ, zero, suc, ◌*◌, ◌<◌, ◌≤◌, List, [], ◌∷◌, length, Contains, All, Some}
 use Rattle.r4_base.specs.Image.{Image, IsImage, IsBlock, put_pairs}
 use Rattle.r4_base.specs.Log.{header_of, footer_of, head_of, head_block, record_of, record_block}
 use Rattle.r4_base.specs.Chain.{Txn, InRange, IsOriginalNumber, HasLog, SettlesTo, chain_pairs, originals, kept_blocks, committed, flushed}
-use Rattle.r4_wander.specs.Torn.{Write, put_writes, targets, IsTarget}
+use Rattle.r4_wander.specs.Torn.{put_writes, targets, IsTarget}
 use Rattle.r4_wander.specs.Parts.{is_log_number}
-use Rattle.r4_wander.specs.LogPlan.{pairs, originals_of, placed_writes, news, head_says, record_says, header_says, footer_says, header_bytes, footer_bytes, scratch, first}
+use Rattle.r4_wander.specs.LogPlan.{originals_of, placed_writes, news, head_says, record_says, header_says, footer_says, header_bytes, footer_bytes, scratch, first}
 use Rattle.r4_wander.specs.declared.plan.LogPlan.{LogPlan}
 
 -- What is written reads back as what the plan says, and all of it is whole blocks.

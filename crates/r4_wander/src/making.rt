@@ -218,7 +218,11 @@ fn add_copies(made: &mut Vec<Entry>, shared: &[Shared]) -> Result<(), Memory>
 }
 
 /// The first part: the placed cells, the copies, and the records and the head.
-pub(crate) fn make_first(placed: Vec<Entry>, shared: &[Shared], log: Vec<Entry>) -> Result<Vec<Entry>, Memory>
+pub(crate) fn make_first(
+    placed: Vec<Entry>,
+    shared: &[Shared],
+    log: Vec<Entry>,
+) -> Result<Vec<Entry>, Memory>
     ensures { IfOk result (λ v. v.items ≡ placed.items ++ (map (λ w. (w.copy, w.block)) shared.now ++ log.items)) }
 {
     let mut made = placed;

@@ -15,7 +15,9 @@ ghost use Rattle.r4_wander.specs.Progress.{under_way, write_at, FitOn, IsNextCal
 ghost use Rattle.r4_wander.specs.declared.plan.LogPlan.{LogPlan};
 
 use crate::entry::Entry;
-use crate::making::{in_order, make_first, make_footer, make_header, make_homes, make_log, make_placed, share};
+use crate::making::{
+    in_order, make_first, make_footer, make_header, make_homes, make_log, make_placed, share,
+};
 use crate::plan::LogPlan;
 use crate::stage::Stage;
 use r4_base::{Block, BlockNo, Memory};

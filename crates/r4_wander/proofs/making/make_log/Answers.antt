@@ -1,10 +1,9 @@
-use Rattle.std.proofs.Common.{◌≡◌, ℕ, List, length, ◌+◌, ◌<◌, map, ap, sym, ◌∙◌, subst, arith, inl, inr}
+use Rattle.std.proofs.Common.{◌≡◌, ℕ, List, length, ap, sym, ◌∙◌, subst, arith, inl, inr}
 use Rattle.std.specs.Prelude.{Some}
-use Rattle.std.specs.List.{range_with_len}
 use Rattle.std.proofs.lemmas.Bool.{cases_eq}
 use Rattle.std.proofs.lemmas.List.{length-map}
 use Rattle.r4_base.specs.Log.{record_of, record_block}
-use Rattle.r4_wander.specs.LogPlan.{record_says, record_write}
+use Rattle.r4_wander.specs.LogPlan.{record_says}
 use Rattle.r4_wander.proofs.Encoding.{log_more}
 use Rattle.r4_wander.proofs.making.make_log.Goals as goal
 

@@ -1,4 +1,4 @@
-use Rattle.std.proofs.Common.{◌≡◌, ◌++◌, map, take}
+use Rattle.std.proofs.Common.{◌≡◌, map, take}
 use Rattle.r4_wander.specs.Seen.{Copy}
 use Rattle.r4_wander.proofs.making.make_pairs.Given as goal
 

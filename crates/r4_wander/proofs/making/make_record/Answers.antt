@@ -1,6 +1,6 @@
-use Rattle.std.proofs.Common.{◌≡◌, ◌≢◌, ℕ, ◌+◌, ◌*◌, ◌≤◌, List, take, drop, length, ap, sym, ◌∙◌, subst, arith, length-take, refl}
+use Rattle.std.proofs.Common.{◌≡◌, ◌≢◌, ℕ, ◌+◌, ◌*◌, ◌≤◌, List, drop, length, ap, sym, ◌∙◌, subst, arith, length-take, refl}
 use Rattle.std.specs.Prelude.{All}
-use Rattle.std.proofs.lemmas.List.Elements.{All-take, All-drop, All-same}
+use Rattle.std.proofs.lemmas.List.Elements.{All-take, All-drop}
 use Rattle.r4_base.specs.Log.{Record, record_block}
 use Rattle.r4_base.proofs.Lent.{refilled_is}
 use Rattle.r4_logfmt.proofs.Writes.{length-record_block}

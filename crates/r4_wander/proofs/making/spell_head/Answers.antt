@@ -1,4 +1,4 @@
-use Rattle.std.proofs.Common.{◌≡◌, ℕ, List, length, ap, sym, ◌∙◌}
+use Rattle.std.proofs.Common.{ℕ, List, length, ap, sym, ◌∙◌}
 use Rattle.r4_base.proofs.Lent.{refilled_is}
 use Rattle.r4_logfmt.proofs.Laws.{length-head_block}
 use Rattle.r4_wander.proofs.making.spell_head.Goals as goal

@@ -1,9 +1,7 @@
-use Rattle.std.proofs.Common.{rules, ◌≡◌, ℕ, ◌+◌, ◌<◌, ◌≤◌, length, refl, sym, ◌∙◌, ap, subst, arith}
-use Rattle.r4_base.specs.Image.{Image}
-use Rattle.r4_wander.specs.Torn.{Write}
+use Rattle.std.proofs.Common.{◌+◌, sym, subst}
 use Rattle.r4_wander.specs.Parts.{part, base_of}
-use Rattle.r4_wander.specs.Progress.{Progress, under_way, write_at, Stands, HasMade}
-use Rattle.r4_wander.proofs.Standing.{left_write, left_sync, made_write, made_sync, spares_one_write, spares_one_sync, next_base, more_writes, no_more_writes}
+use Rattle.r4_wander.specs.Progress.{Progress, under_way, HasMade}
+use Rattle.r4_wander.proofs.Standing.{left_write, left_sync, made_write, made_sync, spares_one_write, next_base, more_writes, no_more_writes}
 use Rattle.r4_wander.proofs.writer.Writer.call.Goals as goal
 
 pub returns-in_err-write_next-clause-spares : goal.returns-in_err-write_next-clause-spares
