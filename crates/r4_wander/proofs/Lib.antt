@@ -9,3 +9,4 @@ pub mod Cutting
 pub mod Written
 pub mod Ending
 pub mod Boundary
+pub mod Instance
