@@ -41,7 +41,7 @@ target_left xs ys b h = let (w, one, at) = from_map (λ (u : Write). u.0) xs b h
 target_right : (xs ys : List Write) (b : ℕ) → IsTarget ys b → IsTarget (xs ++ ys) b
 target_right xs ys b h = let (w, one, at) = from_map (λ (u : Write). u.0) ys b h in subst (IsTarget (xs ++ ys)) (sym at) (in_map (λ (u : Write). u.0) (xs ++ ys) w (Contains-append_right xs ys w one))
 
-target_cases : (xs ys : List Write) (b : ℕ) → IsTarget (xs ++ ys) b → IsTarget xs b ⊎ IsTarget ys b
+pub target_cases : (xs ys : List Write) (b : ℕ) → IsTarget (xs ++ ys) b → IsTarget xs b ⊎ IsTarget ys b
 target_cases xs ys b h = let (w, one, at) = from_map (λ (u : Write). u.0) (xs ++ ys) b h in ⊎_elim
     (λ l. inl (subst (IsTarget xs) (sym at) (in_map (λ (u : Write). u.0) xs w l)))
     (λ r. inr (subst (IsTarget ys) (sym at) (in_map (λ (u : Write). u.0) ys w r)))

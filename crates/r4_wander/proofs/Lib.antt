@@ -10,3 +10,4 @@ pub mod Written
 pub mod Ending
 pub mod Boundary
 pub mod Instance
+pub mod Fitting

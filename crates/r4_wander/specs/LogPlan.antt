@@ -87,3 +87,10 @@ pub record CanBeWritten (p : LogPlan) : Type 0 where
   pub enough : length p.records ≡ (length p.wandered + 253) / 254
   pub few : length p.records < 4294967295
   pub named : All (λ o. o ≢ 0) (originals_of p)
+
+-- Every block of the plan but `prev` is below a number of blocks.
+pub record IsBelow (n : ℕ) (p : LogPlan) : Type 0 where
+  pub head : p.head.0 < n
+  pub records : All (λ b. b < n) p.records
+  pub placed : All (λ c. c.at < n) p.placed
+  pub wandered : All (λ w. (w.original < n) × (w.copy < n)) p.wandered

@@ -6,9 +6,9 @@ ghost use Rattle.r4_base.specs.Image.{Image, IsImage};
 ghost use Rattle.r4_base.specs.Value.{Content};
 ghost use Rattle.r4_base.specs.Volume.{HasContent, HasVolume, IsMadeOf, Needs};
 ghost use Rattle.r4_outside.specs.Device.{IsQuiet, LeavesOnly};
-ghost use Rattle.r4_wander.specs.LogPlan.{first, parts_of, record_writes, txn_of};
+ghost use Rattle.r4_wander.specs.LogPlan.{IsBelow, first, parts_of, txn_of};
 ghost use Rattle.r4_wander.specs.Parts.{Parts, part, base_of, IsOrderOf, HasHomes};
-ghost use Rattle.r4_wander.specs.Progress.{Progress, Stands, Commits, EndsQuiet, calls_from};
+ghost use Rattle.r4_wander.specs.Progress.{Progress, Stands, Commits, EndsQuiet, FitOn, calls_from};
 ghost use Rattle.r4_wander.specs.Safe.{IsSafe, IsEncoded, ByPart, WithoutAtom, WithAtom, with_atom, is_scratch};
 ghost use Rattle.r4_wander.specs.Torn.{IsTarget, IsTornBy};
 ghost use Rattle.r4_wander.specs.declared.plan.LogPlan.{LogPlan};
@@ -52,6 +52,12 @@ pub fn commit_spares_needed()
 pub fn commit_is_bounded()
     ensures { (p : LogPlan) (plan : Parts) → IsOrderOf (parts_of p) plan
         → calls_from plan 0 ≡ length p.placed + length p.wandered + length p.records + 1 + 1 + length p.wandered + 1 + 4 }
+{}
+
+/// A writer can make its steps on a device of at least 64 blocks where every block of its plan but `prev` is below their
+/// number (docs/commit.md, "Steps").
+pub fn commit_fits()
+    ensures { (n : ℕ) (p : LogPlan) (plan : Parts) → 64 ≤ n → IsBelow n p → IsOrderOf (parts_of p) plan → FitOn n plan }
 {}
 
 /// A writer at its beginning stands on a quiet device. Between two steps a crash leaves what settles by the part; where a

@@ -9,7 +9,7 @@ mod stage;
 mod writer;
 
 pub use laws::{
-    commit_is_bounded, commit_keeps_volumes, commit_on_a_device, commit_settles,
+    commit_fits, commit_is_bounded, commit_keeps_volumes, commit_on_a_device, commit_settles,
     commit_spares_needed,
 };
 pub use plan::{Blocks, LogPlan, PlacedCell, PlacedCells, WanderedCopies, WanderedCopy};
