@@ -6,6 +6,8 @@ mod calls;
 #[cfg(test)]
 mod cells;
 #[cfg(test)]
+mod commits;
+#[cfg(test)]
 mod counting;
 #[cfg(test)]
 mod entries;
@@ -17,6 +19,8 @@ mod logs;
 mod nodes;
 #[cfg(test)]
 mod patches;
+#[cfg(test)]
+mod places;
 #[cfg(test)]
 mod replays;
 #[cfg(test)]
