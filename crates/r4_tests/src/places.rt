@@ -1,11 +1,11 @@
 //! Which blocks the cells of a slum get.
 
-ghost use Rattle.std.specs.Prelude.{◌≡◌, ◌^◌, ◌<◌, ◌≤◌, IfOk, OnOk, length, map, All};
+ghost use Rattle.std.specs.Prelude.{◌≡◌, ◌^◌, ◌<◌, IfOk, length, map, All};
 ghost use Rattle.std.specs.Arc.{arc_value};
 
 use crate::same::{same, same_in};
 use r4_base::{AtomNo, Block, BlockNo, Key, NodeId, Oid};
-use r4_cell::{Cell, new_cell};
+use r4_cell::{Cell, read_cell};
 use r4_place::{How, Placed, choose};
 use r4_space::SpaceMap;
 use std::alloc::Global;
@@ -33,7 +33,10 @@ fn cell(alloc: Global, id: u64) -> Result<Arc<Cell>, Fail>
 {
     let lo = Key::body(41, 0, Oid(42), 0);
     let hi = Key::body(41, 0, Oid(42), 4096);
-    Ok(new_cell(alloc, NodeId(id), 0, lo, hi, Block::zeroed(alloc)?)?)
+    let Ok(cell) = read_cell(alloc, NodeId(id), 0, lo, hi, 64, Block::zeroed(alloc)?) else {
+        return Err(Fail::from("a data block is refused"));
+    };
+    Ok(cell)
 }
 
 const NEW: u64 = 0x8000_0000_0000_0000;

@@ -1,5 +1,5 @@
 -- A plan whose blocks are below a number.
-use Rattle.std.proofs.Common.{◌≡◌, ⊎_elim, ℕ, ◌+◌, ◌≤◌, ◌<◌, List, [], ◌∷◌, ◌++◌, length, get_or, map, sym, ◌∙◌, subst, arith}
+use Rattle.std.proofs.Common.{◌≡◌, ⊎_elim, ℕ, ◌+◌, ◌≤◌, ◌<◌, List, [], ◌∷◌, ◌++◌, length, get_or, sym, ◌∙◌, subst, arith}
 use Rattle.std.specs.Prelude.{Contains, All, slice_index}
 use Rattle.std.specs.List.{range_with_len}
 use Rattle.std.proofs.lemmas.List.Elements.{All-get_or, Contains-get_or}
@@ -7,7 +7,7 @@ use Rattle.std.proofs.lemmas.List.FromFn.{get_or-range_with_len, length-range_wi
 use Rattle.std.proofs.lemmas.Simd.{map-map}
 use Rattle.r4_wander.specs.Seen.{Copy, Placed}
 use Rattle.r4_wander.specs.Torn.{Write, targets, IsTarget}
-use Rattle.r4_wander.specs.Parts.{Parts, part, IsOrderOf}
+use Rattle.r4_wander.specs.Parts.{Parts, IsOrderOf}
 use Rattle.r4_wander.specs.declared.plan.LogPlan.{LogPlan}
 use Rattle.r4_wander.specs.LogPlan.{placed_writes, copies, news, record_write, record_writes, head_write, scratch, first, parts_of}
 use Rattle.r4_wander.specs.Progress.{FitOn}
@@ -50,10 +50,10 @@ module _ (n : ℕ) (p : LogPlan) (below : IsBelow n p) where
   first_below_all : (b : ℕ) → IsTarget (first p) b → b < n
   first_below_all b h = ⊎_elim (placed_below b)
       (λ s. ⊎_elim (copy_below b)
-          (λ l. ⊎_elim (record_below b)
-              (λ e. ⊎_elim (λ is. omega (arith, is, below.head)) (λ no. absurd (no_any b no)) (any_cases p.head.0 [] b e))
-              (target_cases (record_writes p) (head_write p ∷ []) b l))
-          (target_cases (copies p) (record_writes p ++ head_write p ∷ []) b s))
+      (λ l. ⊎_elim (record_below b)
+      (λ e. ⊎_elim (λ is. omega (arith, is, below.head)) (λ no. absurd (no_any b no)) (any_cases p.head.0 [] b e))
+      (target_cases (record_writes p) (head_write p ∷ []) b l))
+      (target_cases (copies p) (record_writes p ++ head_write p ∷ []) b s))
       (target_cases (placed_writes p) (scratch p) b h)
 
   pub fits : (plan : Parts) → 64 ≤ n → IsOrderOf (parts_of p) plan → FitOn n plan

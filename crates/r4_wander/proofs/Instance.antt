@@ -1,9 +1,9 @@
 -- A safe plan: one pair, on an image with nothing unflushed.
-use Rattle.std.proofs.Common.{◌≡◌, ◌≢◌, ◌⊎◌, inl, inr, ⊎_elim, ℕ, ◌+◌, ◌≤◌, ◌<◌, List, [], ◌∷◌, length, replicate, refl, sym, ◌∙◌, subst, arith}
-use Rattle.std.specs.Prelude.{Contains, All}
+use Rattle.std.proofs.Common.{◌≡◌, ◌≢◌, ◌⊎◌, inl, inr, ⊎_elim, ℕ, ◌≤◌, ◌<◌, [], ◌∷◌, replicate, refl, sym, arith}
+use Rattle.std.specs.Prelude.{Contains}
 use Rattle.std.proofs.lemmas.List.Elements.{All-cons, All-nil}
 use Rattle.r4_base.specs.Image.{Image, IsImage}
-use Rattle.r4_base.specs.Chain.{IsOriginalNumber, InRange, committed, flushed}
+use Rattle.r4_base.specs.Chain.{IsOriginalNumber, committed, flushed}
 use Rattle.r4_base.proofs.Members.{no_member}
 use Rattle.r4_wander.specs.Torn.{IsTarget}
 use Rattle.r4_wander.specs.declared.plan.LogPlan.{LogPlan}
