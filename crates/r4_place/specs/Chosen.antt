@@ -32,21 +32,23 @@ AreChosen near s [] (p ∷ ps) = ⊥
 AreChosen near s (c ∷ cs) [] = ⊥
 AreChosen near s (c ∷ cs) (p ∷ ps) = (p.node.0 ≡ c.id) × IsChosen near s c p.how × AreChosen (behind near p.how) (placed_in s p.how) cs ps
 
--- where the next block is looked for, and the space, after these answers
+-- where the next block is looked for after these answers
 abbrev pub behind_all : ℕ → List Placed → ℕ
 behind_all near [] = near
 behind_all near (p ∷ ps) = behind_all (behind near p.how) ps
 
+-- the space with the blocks of all these answers placed
 abbrev pub placed_all : Space → List Placed → Space
 placed_all s [] = s
 placed_all s (p ∷ ps) = placed_all (placed_in s p.how) ps
 
--- the fresh blocks of an answer, and of all, in order
+-- the fresh block of an answer, where there is one
 abbrev pub block_of : How → List ℕ
 block_of (Fresh b) = b.0 ∷ []
 block_of (Relocate b) = b.0 ∷ []
 block_of Overwrite = []
 
+-- the fresh blocks of all answers, in order
 abbrev pub fresh_blocks : List Placed → List ℕ
 fresh_blocks [] = []
 fresh_blocks (p ∷ ps) = block_of p.how ++ fresh_blocks ps

@@ -19,13 +19,15 @@ pairs p = map (λ w. (w.original, w.copy)) p.wandered
 abbrev pub originals_of : LogPlan → List ℕ
 originals_of p = map (λ w. w.original) p.wandered
 
--- placed cells in their blocks, copies in theirs, and the new contents at the originals
+-- the placed cells, each in its block
 abbrev pub placed_writes : LogPlan → List Write
 placed_writes p = map (λ c. (c.at, c.cell.block)) p.placed
 
+-- the copies, each in its block
 abbrev pub copies : LogPlan → List Write
 copies p = map (λ w. (w.copy, w.block)) p.wandered
 
+-- the homes: the new contents at the originals
 abbrev pub news : LogPlan → List Write
 news p = map (λ w. (w.original, w.block)) p.wandered
 
@@ -45,32 +47,39 @@ head_says p = record { id = p.id; total = total p; prev_tx = p.prev.0; next_bloc
 unfoldable pub record_says : LogPlan → ℕ → Record
 record_says p k = record { id = p.id; total = total p; serial = k + 1; next_block = number_after p (k + 1); pairs = take 254 (drop (254 * k) (pairs p)) }
 
+-- record k in its block
 abbrev pub record_write : LogPlan → ℕ → Write
 record_write p k = (slice_index p.records k, record_block (record_says p k))
 
+-- the records in order, each in its block
 abbrev pub record_writes : LogPlan → List Write
 record_writes p = map (record_write p) (range_with_len 0 (length p.records))
 
+-- the head in its block
 abbrev pub head_write : LogPlan → Write
 head_write p = (p.head.0, head_block (head_says p))
 
--- the journal header names the head, and so does the journal footer, with the three numbers; zeros else
+-- the journal header names the head, and so does the journal footer
 abbrev pub header_says : LogPlan → Header
 header_says p = record { last = p.head.0 }
 
+-- the footer has the three numbers too
 abbrev pub footer_says : LogPlan → Footer
 footer_says p = record { last = p.head.0; free_blocks = p.free_blocks; nr_files = p.nr_files; next_oid = p.next_oid }
 
+-- the block of the journal header: its field, and zeros
 unfoldable pub header_bytes : LogPlan → List ℕ
 header_bytes p = put_all (header_fields (header_says p)) 0 (replicate 4096 0)
 
+-- the block of the journal footer: its fields, and zeros
 unfoldable pub footer_bytes : LogPlan → List ℕ
 footer_bytes p = put_all (footer_fields (footer_says p)) 0 (replicate 4096 0)
 
--- the log's own writes of the first part, and the whole first part
+-- the log's own writes of the first part: copies, records, head
 abbrev pub scratch : LogPlan → List Write
 scratch p = copies p ++ (record_writes p ++ head_write p ∷ [])
 
+-- the first part: the placed cells, and the log's own writes
 abbrev pub first : LogPlan → List Write
 first p = placed_writes p ++ scratch p
 

@@ -66,6 +66,7 @@ pub record HasHomes (n : ℕ) (base : Image) (chain : List Txn) (txn : Txn) (pla
 abbrev pub Without : ℕ → Image → List Txn → Parts → Image → Type 0
 Without n base chain plan image = SettlesTo n (λ b. IsTarget plan.first b ⊎ is_log_number b) (put_pairs (chain_pairs chain) base) image
 
+-- As with the commit: outside blocks 19 and 20 it settles as the image with the longer chain.
 abbrev pub With : ℕ → Image → List Txn → Txn → Parts → Image → Type 0
 With n base chain txn plan image = SettlesTo n is_log_number (put_pairs (chain_pairs (txn ∷ chain)) (base_of plan base 2)) image
 

@@ -21,6 +21,7 @@ pub record Progress : Type 0 where
 abbrev pub under_way : Progress → List Write
 under_way w = part w.plan w.part
 
+-- write k of a list, counted from 0
 abbrev pub write_at : List Write → ℕ → Write
 write_at ws k = slice_index_or ws k (0, [])
 

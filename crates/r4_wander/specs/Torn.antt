@@ -15,6 +15,7 @@ put_writes (w ∷ ws) image = put_writes ws (slice_set image w.0 w.1)
 abbrev pub targets : List Write → List ℕ
 targets ws = map (λ w. w.0) ws
 
+-- a block is one of those that are written
 abbrev pub IsTarget : List Write → ℕ → Type 0
 IsTarget ws b = Contains (targets ws) b
 
