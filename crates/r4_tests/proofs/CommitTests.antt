@@ -1,12 +1,11 @@
 -- A writer that is not at its end, and a small plan.
-use Rattle.std.proofs.Common.{◌≡◌, ◌≢◌, ℕ, zero, suc, ◌<◌, List, [], ◌∷◌, refl, arith}
+use Rattle.std.proofs.Common.{◌≡◌, ◌≢◌, ℕ, zero, suc, ◌<◌, [], ◌∷◌, refl, arith}
 use Rattle.std.proofs.lemmas.List.Elements.{All-same, All-cons, All-nil}
 use Rattle.std.specs.Prelude.{All}
 use Rattle.r4_wander.specs.Parts.{Parts, IsOrderOf}
 use Rattle.r4_wander.specs.LogPlan.{parts_of}
 use Rattle.r4_wander.specs.declared.plan.LogPlan.{LogPlan}
 use Rattle.r4_wander.proofs.Fitting.{fits}
-use Rattle.r4_wander.specs.declared.stage.Stage.{Stage}
 use Rattle.r4_wander.specs.declared.stage.Stage.TheVariants.{Footed}
 use Rattle.r4_wander.specs.Progress.{FitOn, stage_at}
 

@@ -147,11 +147,7 @@ fn read<D: Device>(alloc: Global, dev: &mut D, at: u64) -> Result<Block, Fail> {
 // The number of eight bytes at a byte, or 0 where there is none.
 fn number(block: &Block, at: usize) -> u64 {
     let bytes = block.bytes();
-    if at <= 4088 {
-        get64(bytes, at)
-    } else {
-        0
-    }
+    if at <= 4088 { get64(bytes, at) } else { 0 }
 }
 
 #[test]
