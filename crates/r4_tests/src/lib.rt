@@ -8,6 +8,8 @@ mod cells;
 #[cfg(test)]
 mod changes;
 #[cfg(test)]
+mod commits;
+#[cfg(test)]
 mod counting;
 #[cfg(test)]
 mod entries;
@@ -19,6 +21,8 @@ mod logs;
 mod nodes;
 #[cfg(test)]
 mod patches;
+#[cfg(test)]
+mod places;
 #[cfg(test)]
 mod replays;
 #[cfg(test)]

@@ -1,0 +1,8 @@
+//! Which blocks the cells of an atom get (docs/space.md, "Places").
+#![tactic(auto)]
+
+mod choosing;
+mod placed;
+
+pub use choosing::choose;
+pub use placed::{How, Placed};

@@ -1,0 +1,10 @@
+use Rattle.std.proofs.Common.{◌<◌}
+use Rattle.r4_outside.specs.Memory.{memory_state}
+use Rattle.r4_wander.specs.Progress.{FitOn}
+use Rattle.r4_tests.proofs.commits.make_steps.Given as goal
+
+abbrev pub invariant-loop-row : goal.invariant-loop-row
+invariant-loop-row g l = record {
+  at : l.writer.part < 4;
+  fits : FitOn (memory_state l.dev).blocks l.writer.plan;
+}

@@ -1,0 +1,13 @@
+pub mod Members
+pub mod Settling
+pub mod Order
+pub mod Encoding
+pub mod Standing
+pub mod Stepping
+pub mod Needed
+pub mod Cutting
+pub mod Written
+pub mod Ending
+pub mod Boundary
+pub mod Instance
+pub mod Fitting

@@ -1,0 +1,11 @@
+use Rattle.r4_wander.proofs.Standing.{settles_now}
+use Rattle.r4_wander.proofs.Ending.{stands_first, quiet_between, ends}
+use Rattle.r4_wander.proofs.laws.commit_on_a_device.Goals as goal
+
+pub returns : goal.returns
+returns g c = record {
+  begins = λ w quiet first none. stands_first w _ quiet first none;
+  between = λ w n base chain p lt commits stands. settles_now w n base chain p _ lt commits stands;
+  quiet = λ w base none stands. quiet_between w base _ none stands;
+  ends = λ w n base chain p commits last none stands. ends w n base chain p _ commits last none stands;
+}

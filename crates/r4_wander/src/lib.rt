@@ -1,0 +1,17 @@
+//! Writes a commit in its order (docs/commit.md, "Order").
+#![tactic(auto)]
+
+mod entry;
+mod laws;
+mod making;
+mod plan;
+mod stage;
+mod writer;
+
+pub use laws::{
+    commit_fits, commit_is_bounded, commit_keeps_volumes, commit_on_a_device, commit_settles,
+    commit_spares_needed,
+};
+pub use plan::{Blocks, LogPlan, PlacedCell, PlacedCells, WanderedCopies, WanderedCopy};
+pub use stage::Stage;
+pub use writer::Writer;
