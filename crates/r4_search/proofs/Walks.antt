@@ -20,7 +20,7 @@ use Rattle.r4_cell.specs.Seen.{CellSeen}
 use Rattle.r4_cell.specs.declared.change.Root.{Root}
 use Rattle.r4_cell.proofs.Items.{chosen}
 use Rattle.r4_search.specs.Pool.{PoolState, IsKnown, IsNamed, IsOf, IsRead, IsKeptOrRead, IsAnswer, IsRefused, KnowsNames, LeavesDevice, FaultIs, place_fault, Goes}
-use Rattle.r4_search.specs.Path.{Follows, Descends, LeadsTo, EndsAt, IsPath, KeepsOnly, KnowsOn, StopsOn, Stops, last_of, root_name}
+use Rattle.r4_search.specs.Path.{Follows, Descends, LeadsTo, EndsAt, IsPath, KeepsOnly, KnowsOn, StopsOn, StopsShort, Stops, last_of, root_name}
 use Rattle.r4_search.specs.Place.{child_name}
 use Rattle.r4_search.specs.declared.inside.Child.{Child}
 use Rattle.r4_search.specs.declared.pool.FetchFault.{FetchFault}
@@ -230,7 +230,18 @@ module _ (root : Root) (key : ℕ) (old mid : PoolState) (cells : List CellSeen)
     pub stops : (e : FetchFault) → IsRefused n mid e new → Stops root key old e new
     stops (Read at faults) h = stops_on (Read at faults) h
     stops (Damaged at fault) h = stops_on (Damaged at fault) h
-    stops Memory h = tt
+    stops Memory h = record { cells = cells; descends = r.descends; are_of = r.are_of; only = λ i k h was. only_still i k h was (mid.kept i) refl }
+
+-- no memory is found for a cell that was fetched
+module _ (root : Root) (key : ℕ) (old mid new : PoolState) (cells : List CellSeen) (n : Name) (c : CellSeen) (r : Reached root key old mid cells (Some n)) (goes : Goes mid new)
+    (only : (i : ℕ) (k : CellSeen) → new.kept i ≡ Some k → mid.kept i ≡ None → k ≡ c) (answer : IsAnswer n mid c new) where
+  pub stops_short : StopsShort root key old new
+  stops_short = record {
+    cells = cells ++ c ∷ [];
+    descends = descends_more root key None cells c n r.descends r.on.0 answer.named;
+    are_of = All-push (IsOf old) cells c r.are_of (is_of_before old mid c r.goes answer.is_of);
+    only = λ i k h none. only_more root key old mid new cells n c r goes only answer i k h none (mid.kept i) refl;
+  }
 
 pub map_push : {A B : Type 0} (f : A → B) (xs ys : List A) (x : A) → ys ≡ xs ++ x ∷ [] → map f ys ≡ map f xs ++ f x ∷ []
 map_push {A} {B} f xs ys x e = ap (λ (l : List A). map f l) e ∙ map-append f xs (x ∷ [])

@@ -61,8 +61,15 @@ pub record StopsOn (root : Root) (key : ℕ) (old : PoolState) (e : FetchFault) 
   pub follows : Follows root key (last_of None cells) at
   pub refused : IsRefused at old e new
 
+-- The cells of the pool lead down so far.
+pub record StopsShort (root : Root) (key : ℕ) (old new : PoolState) : Type 0 where
+  pub cells : List CellSeen
+  pub descends : Descends root key None cells
+  pub are_of : All (IsOf old) cells
+  pub only : KeepsOnly old new cells
+
 -- Why a path ends early.
 abbrev pub Stops : Root → (key : ℕ) → PoolState → FetchFault → PoolState → Type 0
 Stops root key old (Read at faults) new = StopsOn root key old (Read at faults) new
 Stops root key old (Damaged at fault) new = StopsOn root key old (Damaged at fault) new
-Stops root key old Memory new = Unit {0}
+Stops root key old Memory new = StopsShort root key old new

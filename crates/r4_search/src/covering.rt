@@ -17,7 +17,8 @@ use std::sync::Arc;
 /// The cells from the root down to the node whose range has the key: a leaf, or the twig where the key lies in the range
 /// of an extent (docs/volume.md, "The tree"). Each is the one that the pool keeps, or of the block that its name means, and
 /// what the pool keeps from then on is among them. What the last one names can be asked for. `Read` and `Damaged` name the block that such cells lead to and that is
-/// refused; `Read` comes only where the count of faults rose.
+/// refused; `Read` comes only where the count of faults rose. Also after an error what the pool keeps from then on is among
+/// cells that lead down from the root.
 pub fn cover<P: Pool>(
     alloc: Global,
     pool: &mut P,

@@ -381,7 +381,12 @@ fn commits_fill_their_records(rt: HostRuntime) -> Result<(), Fail> {
         let mut writer = wide_writer(alloc, count)?;
         finish(&mut writer, &mut dev)?;
         let (pairs, records) = (u64::from(count), u64::from(records));
-        same(&rt, &dev.clock(), &(2 * pairs + records + 7), "writes and syncs");
+        same(
+            &rt,
+            &dev.clock(),
+            &(2 * pairs + records + 7),
+            "writes and syncs",
+        );
         // The header was just synced.
         let mut left = dev.crash(alloc, pairs + records + 4, 0)?;
         are_home(&rt, alloc, &mut dev, count)?;

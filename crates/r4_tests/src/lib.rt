@@ -16,6 +16,8 @@ mod entries;
 #[cfg(test)]
 mod items;
 #[cfg(test)]
+mod listings;
+#[cfg(test)]
 mod logs;
 #[cfg(test)]
 mod nodes;

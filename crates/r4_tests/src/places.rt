@@ -108,7 +108,14 @@ fn cells_without_a_block_get_the_next_ones(rt: HostRuntime) -> Result<(), Fail> 
         How::Fresh(BlockNo(62)),
         How::Fresh(BlockNo(63)),
     ];
-    look(&rt, alloc, &mut sufficient, &slum(alloc, NEW + 3)?, &wanted, 0)?;
+    look(
+        &rt,
+        alloc,
+        &mut sufficient,
+        &slum(alloc, NEW + 3)?,
+        &wanted,
+        0,
+    )?;
 
     // Nothing is left, and nothing is wanted.
     look(&rt, alloc, &mut sufficient, &[], &[], 0)

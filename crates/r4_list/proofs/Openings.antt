@@ -1,0 +1,80 @@
+-- How an image is opened.
+use Rattle.std.proofs.Common.{◌≡◌, ℕ, zero, suc, ◌+◌, ◌<◌, ◌≤◌, List, [], ◌∷◌, ◌++◌, length, refl, sym, ap, subst, ◌∙◌, arith}
+use Rattle.std.specs.Prelude.{Option, Ok, slice_index_or}
+use Rattle.std.specs.BTreeMap.{BTreeMap}
+use Rattle.std.proofs.lemmas.Bool.Decides.{nat_tests}
+use Rattle.std.proofs.Math.Decide.{ℕ_discrete}
+use Rattle.std.proofs.lemmas.List.{length-append}
+use Rattle.r4_base.specs.Bitmap.{bitmap_block, bitmap_count, bitmap_fault}
+use Rattle.r4_base.specs.Image.{Image, block_at}
+use Rattle.r4_base.specs.Layout.{master_of, super_of}
+use Rattle.r4_base.specs.declared.superblock.Master.{Master}
+use Rattle.r4_base.specs.declared.superblock.Super40.{Super40}
+use Rattle.r4_outside.specs.Device.{State, TellsReads}
+use Rattle.r4_replay.specs.Homes.{home_in}
+use Rattle.r4_search.specs.Pool.{LeavesDevice}
+use Rattle.r4_space.specs.Bitmaps.{AreBitmapsOf, bitmaps_fault}
+use Rattle.r4_space.proofs.BitmapLaws.{same_fault}
+use Rattle.r4_list.specs.Opening.{AreRead, IsSettledBy, bitmaps_misfit, format_misfit, layout_misfit, master_misfit}
+
+pub record Reading (old now : State) (homes : BTreeMap ℕ ℕ) (count : ℕ) (bitmaps : List (List ℕ)) : Type 0 where
+  pub device : LeavesDevice old now
+  pub read : AreRead old homes count bitmaps
+
+pub none_read : (old : State) (homes : BTreeMap ℕ ℕ) → AreRead old homes 0 []
+none_read old homes = record { count_is = refl; each = λ tells n lt. absurd (omega (arith, lt)) }
+
+pub one_more : (old : State) (homes : BTreeMap ℕ ℕ) (count : ℕ) (bitmaps more : List (List ℕ)) (b : List ℕ) → AreRead old homes count bitmaps → more ≡ bitmaps ++ b ∷ [] → (TellsReads old → b ≡ block_at old.seen (home_in homes (bitmap_block count))) → AreRead old homes (count + 1) more
+one_more old homes count bitmaps more b r is read = record {
+  count_is = ap (λ (l : List (List ℕ)). length l) is ∙ length-append bitmaps (b ∷ []) ∙ ap (λ (n : ℕ). n + 1) r.count_is;
+  each = λ tells n lt. subst (λ (l : List (List ℕ)). slice_index_or l n [] ≡ block_at old.seen (home_in homes (bitmap_block n))) (sym is) (elim (ℕ_discrete n count) [
+    | yes last ↦ at_end bitmaps b n (last ∙ sym r.count_is) ∙ read tells ∙ ap (λ (k : ℕ). block_at old.seen (home_in homes (bitmap_block k))) (sym last)
+    | no other ↦ let long = r.count_is in before bitmaps b n (omega (arith, lt, other, long)) ∙ r.each tells n (omega (arith, lt, other))
+  ]);
+}
+  where
+    at_end : (xs : List (List ℕ)) (x : List ℕ) (n : ℕ) → n ≡ length xs → slice_index_or (xs ++ x ∷ []) n [] ≡ x
+    at_end [] x zero e = refl
+    at_end [] x (suc n) e = absurd (omega (arith, e))
+    at_end (y ∷ xs) x zero e = absurd (omega (arith, e))
+    at_end (y ∷ xs) x (suc n) e = at_end xs x n (omega (arith, e))
+
+    before : (xs : List (List ℕ)) (x : List ℕ) (n : ℕ) → n < length xs → slice_index_or (xs ++ x ∷ []) n [] ≡ slice_index_or xs n []
+    before [] x n lt = absurd (omega (arith, lt))
+    before (y ∷ xs) x zero lt = refl
+    before (y ∷ xs) x (suc n) lt = before xs x n (omega (arith, lt))
+
+-- bitmap n of a volume stands in one of its blocks
+pub bitmap_within : (blocks n : ℕ) → 64 ≤ blocks → n < bitmap_count blocks → bitmap_block n < blocks
+bitmap_within blocks zero more lt = omega (arith, more)
+bitmap_within blocks (suc n) more lt = grind (arith, nat_tests, more, lt)
+
+-- the bitmaps that were read are those of the settled image
+pub are_bitmaps : (old : State) (homes : BTreeMap ℕ ℕ) (blocks : ℕ) (image : Image) (bitmaps : List (List ℕ)) → 64 ≤ blocks → blocks ≤ old.blocks → TellsReads old → IsSettledBy old homes image → AreRead old homes (bitmap_count blocks) bitmaps → AreBitmapsOf blocks image bitmaps
+are_bitmaps old homes blocks image bitmaps more within tells settled r = record {
+  count = r.count_is;
+  each = λ n lt. let low = bitmap_within blocks n more lt in r.each tells n lt ∙ sym (settled (bitmap_block n) (omega (arith, low, within)));
+}
+
+pub layout_is : (n k : ℕ) (image : Image) (m : Master) (s : Super40) → n ≡ k → master_of (block_at image 16) ≡ Ok m → super_of n (block_at image 17) ≡ Ok s → layout_misfit k image ≡ bitmaps_misfit (bitmap_fault s.block_count s.free_blocks image)
+layout_is n k image m s same master format =
+    subst (λ (j : ℕ). layout_misfit j image ≡ bitmaps_misfit (bitmap_fault s.block_count s.free_blocks image)) same
+    (ap (master_misfit n image) master ∙ ap (format_misfit image) format)
+
+-- a block that was read from its home is that of the settled image
+pub read_is : {X : Type 0} (old : State) (homes : BTreeMap ℕ ℕ) (image : Image) (b h : ℕ) (got bytes : List ℕ) (f : List ℕ → X) (r x : X) → IsSettledBy old homes image → b < old.blocks → got ≡ block_at old.seen h → h ≡ home_in homes b → bytes ≡ got → r ≡ f bytes → r ≡ x → f (block_at image b) ≡ x
+read_is {X} old homes image b h got bytes f r x settled lt read home same is end =
+    ap f (settled b lt ∙ sym (ap (block_at old.seen) home) ∙ sym read ∙ sym same) ∙ sym is ∙ end
+
+-- what is found of the bitmaps that were read is so of the settled image
+pub bitmaps_found : (old : State) (homes : BTreeMap ℕ ℕ) (image : Image) (s : Super40) (bitmaps seen : List (List ℕ)) (o r : Option ℕ) → 64 ≤ s.block_count → s.block_count ≤ old.blocks → TellsReads old → IsSettledBy old homes image
+    → AreRead old homes (bitmap_count s.block_count) bitmaps → seen ≡ bitmaps → r ≡ bitmaps_fault s.block_count s.free_blocks seen → r ≡ o → bitmap_fault s.block_count s.free_blocks image ≡ o
+bitmaps_found old homes image s bitmaps seen o r more within tells settled read same is end =
+    sym (same_fault s.block_count s.free_blocks image bitmaps (are_bitmaps old homes s.block_count image bitmaps more within tells settled read))
+    ∙ ap (bitmaps_fault s.block_count s.free_blocks) (sym same) ∙ sym is ∙ end
+
+pub read_later : (a b : State) (homes : BTreeMap ℕ ℕ) (count : ℕ) (bitmaps : List (List ℕ)) → LeavesDevice a b → AreRead b homes count bitmaps → AreRead a homes count bitmaps
+read_later a b homes count bitmaps d r = record {
+  count_is = r.count_is;
+  each = λ tells n lt. r.each (d.goes.reads.1 tells) n lt ∙ ap (λ (s : Image). block_at s (home_in homes (bitmap_block n))) d.idle.seen;
+}

@@ -1,0 +1,51 @@
+use Rattle.std.proofs.Common.{sym, subst, ◌∙◌, arith}
+use Rattle.r4_outside.proofs.Moments.{goes_both}
+use Rattle.r4_list.specs.Lists.{Answers, IsListFault, StaysAsItWas}
+use Rattle.r4_list.proofs.Stages.{prints_same}
+use Rattle.r4_list.proofs.Listings.{image_opened, lent_answers, lent_stays, log_answer, open_answer, stays, stays_both, unsome}
+use Rattle.r4_list.proofs.listing.list.Goals as goal
+
+pub returns-in-Err-clause-answers : goal.returns-in-Err-clause-answers
+returns-in-Err-clause-answers g c =
+    let d = g.D.Device.state in
+    let k = g.K.Sink.state c.args.out.now in
+    record { printed = prints_same _; ok = tt; err = subst (λ x. IsListFault (d c.args.dev.now) k x (d c.read_log.new.dev) k) (sym c.log_fault.ensures) (log_answer _ _ _ c.in-Err.fault c.in-Err.ensures.reads) }
+
+pub returns-in-Err-open_image-clause-answers : goal.returns-in-Err-open_image-clause-answers
+returns-in-Err-open_image-clause-answers g c =
+    let d = g.D.Device.state in
+    let k = g.K.Sink.state c.args.out.now in
+    let first = d c.args.dev.now in
+    let read = c.in-Ok.ensures in
+    let at = d c.open_image.new.dev in
+    record {
+      printed = prints_same _;
+      ok = tt;
+      err = subst (λ x. IsListFault first k x at k) (sym c.open_fault.ensures)
+          (open_answer first _ _ (goes_both _ _ _ read.idles.goes c.blocks-2.ensures.goes) (c.blocks-2.ensures.seen ∙ read.idles.seen) read.reads.0 read.reads.1 at k _ c.in-Err-open_image.ensures.opens);
+    }
+
+pub returns-clause-device : goal.returns-clause-device
+returns-clause-device g c =
+    let d = g.D.Device.state in
+    let read = c.in-Ok.ensures in
+    let opened = c.in-Ok-open_image.ensures.device in
+    let first = d c.args.dev.now in
+    let before = stays_both first _ _ (stays _ _ (goes_both _ _ _ read.idles.goes c.blocks-2.ensures.goes) (c.blocks-2.ensures.seen ∙ read.idles.seen) (c.blocks-2.ensures.clock ∙ read.idles.clock)) (stays _ _ opened.goes opened.idle.seen opened.idle.clock) in
+    let printed = lent_stays _ c.print_settled-printed.result.dev.ghost_name _ (d c.print_settled-printed.result.dev.now) c.print_settled-printed.ensures.device in
+    subst (λ x. StaysAsItWas first (d x)) (sym (c.dev-1.given.1 (sym (unsome c.print_settled-printed.ensures.device.goes.lender)))) (stays_both _ _ _ before printed)
+
+pub returns-clause-answers : goal.returns-clause-answers
+returns-clause-answers g c =
+    let d = g.D.Device.state in
+    let k = g.K.Sink.state in
+    let read = c.in-Ok.ensures in
+    let first = d c.args.dev.now in
+    let at = d c.open_image.new.dev in
+    let opened = image_opened first _ _ (goes_both _ _ _ read.idles.goes c.blocks-2.ensures.goes) (c.blocks-2.ensures.seen ∙ read.idles.seen) read.reads.0 read.reads.1 _ at c.in-Ok-open_image.ensures.opens in
+    let one = read.idles.goes.faults in
+    let two = c.blocks-2.ensures.goes.faults in
+    let three = c.in-Ok-open_image.ensures.device.goes.faults in
+    let ended = c.print_settled-printed in
+    subst (λ x. Answers first (k c.args.out.now) ended.result.printed (d x) (k ended.new.out)) (sym (c.dev-1.given.1 (sym (unsome ended.ensures.device.goes.lender))))
+    (lent_answers c.print_settled-arg-1.given ended.result.dev.ghost_name first at (d ended.result.dev.now) _ _ _ (omega (arith, one, two, three)) opened ended.ensures.prints ended.ensures.cause)

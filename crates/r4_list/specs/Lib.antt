@@ -1,0 +1,13 @@
+pub mod Listing
+pub mod Pool
+pub mod Leaf
+pub mod Printing
+pub mod Body
+pub mod Frame
+pub mod Below
+pub mod Walking
+pub mod Over
+pub mod Opening
+pub mod Lists
+pub mod OverWalks
+pub mod Printed

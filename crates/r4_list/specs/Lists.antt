@@ -1,0 +1,83 @@
+-- What a listing answers (docs/program.md, "Listing").
+use Rattle.std.specs.Prelude.{◌≡◌, ◌⊎◌, ◌↔◌, ℕ, ◌<◌, ◌≤◌, List, None, Result, IfOk, IfErr}
+use Rattle.r4_base.specs.Chain.{Settles}
+use Rattle.r4_base.specs.Image.{Image, IsLawful}
+use Rattle.r4_base.specs.Refusal.{IsRefused}
+use Rattle.r4_outside.specs.Device.{State, TellsCrashes, TellsReads, Rose}
+use Rattle.r4_outside.specs.Sink.{SinkState}
+use Rattle.r4_cell.specs.declared.refused.ImageFault.TheVariants.{Layout, Cell}
+use Rattle.r4_search.specs.declared.pool.FetchFault.TheVariants.{Read, Damaged, Memory as NoRoom}
+use Rattle.r4_list.specs.Opening.{layout_misfit, misfit}
+use Rattle.r4_list.specs.Printing.{Prints}
+use Rattle.r4_replay.specs.declared.fault.ReplayFault.{ReplayFault}
+use Rattle.r4_replay.specs.declared.fault.ReplayFault.TheVariants.{Log as LogRefused, Device as DeviceFailed, Size as BadSize, Memory as NoRoomForLog}
+use Rattle.r4_list.specs.declared.fault.ListFault.{ListFault}
+use Rattle.r4_list.specs.declared.fault.ListFault.TheVariants.{Log, Image as Refused, Device, Size, Sink, Memory}
+use Rattle.r4_list.specs.declared.opening.Unopened.{Unopened}
+use Rattle.r4_list.specs.declared.opening.Unopened.TheVariants.{Failed, Layout as Misfit, Memory as NoBuffer}
+use Rattle.r4_list.specs.declared.fault.Stop.{Stop}
+use Rattle.r4_list.specs.declared.fault.Stop.TheVariants.{Fetch, Sink as SinkFailed, Memory as NoMemory}
+
+-- Nothing was written to a device: what it tells is as before, but for its count of faults. To whom it goes back is not said.
+pub record StaysAsItWas (old new : State) : Type 0 where
+  pub blocks : new.blocks ≡ old.blocks
+  pub seen : new.seen ≡ old.seen
+  pub clock : new.clock ≡ old.clock
+  pub faults : old.faults ≤ new.faults
+  pub stop : new.stop ≡ old.stop
+  pub crashes : TellsCrashes new ↔ TellsCrashes old
+  pub earlier : (m b s : ℕ) (x : List ℕ) → m ≤ old.clock → new.may_hold m b s x ↔ old.may_hold m b s x
+
+-- why the log was not read
+abbrev pub log_fault_of : ReplayFault → ListFault
+log_fault_of (LogRefused block fault) = Log block fault
+log_fault_of (DeviceFailed clock faults) = Device clock faults
+log_fault_of (BadSize blocks) = Size blocks
+log_fault_of NoRoomForLog = Memory
+
+-- what is answered where printing stopped, with the device's and the sink's counts then
+abbrev pub stop_fault_of : Stop → (clock faults : ℕ) → (sink : ℕ) → ListFault
+stop_fault_of (Fetch (Read at f)) clock faults sink = Device clock faults
+stop_fault_of (Fetch (Damaged at f)) clock faults sink = Refused at (Cell f)
+stop_fault_of (Fetch NoRoom) clock faults sink = Memory
+stop_fault_of SinkFailed clock faults sink = Sink sink
+stop_fault_of NoMemory clock faults sink = Memory
+
+-- why the image was not opened
+abbrev pub open_fault_of : Unopened → (clock faults : ℕ) → ListFault
+open_fault_of Failed clock faults = Device clock faults
+open_fault_of (Misfit block fault) clock faults = Refused block (Layout fault)
+open_fault_of NoBuffer clock faults = Memory
+
+-- The log is not refused, and neither the superblocks nor the bitmaps of the image that it settles to are.
+pub record IsOpened (d : State) : Type 0 where
+  pub lawful : IsLawful d.blocks
+  pub opened : TellsReads d → (image : Image) × Settles d.blocks d.seen image × (layout_misfit d.blocks image ≡ None)
+
+-- why printing stopped on a device; that a node is refused is not said of the image yet
+abbrev pub IsPrintCause : State → SinkState → Stop → State → SinkState → Type 0
+IsPrintCause d k (Fetch (Read at faults)) d' k' = Rose d.faults d'.faults
+IsPrintCause d k (Fetch (Damaged at fault)) d' k' = Unit {0}
+IsPrintCause d k (Fetch NoRoom) d' k' = Unit {0}
+IsPrintCause d k SinkFailed d' k' = Rose k.faults k'.faults
+IsPrintCause d k NoMemory d' k' = Unit {0}
+
+-- what is answered where printing stopped on a device
+abbrev pub IsStopFault : State → SinkState → ListFault → State → SinkState → Type 0
+IsStopFault d k e d' k' = (stop : Stop) × IsPrintCause d k stop d' k' × (e ≡ stop_fault_of stop d'.clock d'.faults k'.faults)
+
+-- The log is refused so, or the superblocks and the bitmaps of the image that it settles to; or the device or the sink failed.
+abbrev pub IsListFault : State → SinkState → ListFault → State → SinkState → Type 0
+IsListFault d k (Log block fault) d' k' = IsLawful d.blocks × (TellsReads d → IsRefused d.blocks d.seen (record { block = block.0; fault = fault }))
+IsListFault d k (Refused block (Layout f)) d' k' = IsLawful d.blocks × (TellsReads d → (image : Image) → Settles d.blocks d.seen image → layout_misfit d.blocks image ≡ misfit block.0 f)
+IsListFault d k (Refused block (Cell f)) d' k' = IsOpened d
+IsListFault d k (Device clock faults) d' k' = Rose d.faults d'.faults × (clock ≡ d'.clock) × (faults ≡ d'.faults)
+IsListFault d k (Size blocks) d' k' = (blocks ≡ d.blocks) × ((d.blocks < 64) ⊎ (1048576 < d.blocks))
+IsListFault d k (Sink faults) d' k' = IsOpened d × Rose k.faults k'.faults × (faults ≡ k'.faults)
+IsListFault d k Memory d' k' = IsLawful d.blocks
+
+-- `list`
+pub record Answers {T : Type 0} (d : State) (k : SinkState) (result : Result T ListFault) (d' : State) (k' : SinkState) : Type 0 where
+  pub printed : Prints k k'
+  pub ok : IfOk result (λ v. IsOpened d)
+  pub err : IfErr result (λ e. IsListFault d k e d' k')
