@@ -30,4 +30,7 @@ pub mod FramePlaces
 pub mod FrameSpans
 pub mod FrameOpens
 pub mod BelowPrints
+pub mod BelowWalk
+pub mod BelowSteps
+pub mod BelowBegins
 pub mod Listings

@@ -1,15 +1,22 @@
 //! What is below a directory (docs/program.md, "Listing").
 
-ghost use Rattle.std.specs.Prelude.{◌≡◌, ℕ, ◌^◌, ◌<◌, ◌≤◌, ◌+◌, OnOk, IfErr};
+ghost use Rattle.std.specs.Prelude.{◌≡◌, ℕ, ◌^◌, ◌<◌, ◌≤◌, ◌+◌, suc, List, [], ◌∷◌, ◌++◌, take, Some, OnOk, IfErr};
+ghost use Rattle.std.specs.Arc.{arc_value};
 ghost use Rattle.r4_base.specs.Image.{Image};
+ghost use Rattle.r4_base.specs.Key.{rank};
 ghost use Rattle.r4_base.specs.Value.{Content};
-ghost use Rattle.r4_base.specs.Volume.{HasContent};
+ghost use Rattle.r4_base.specs.Volume.{HasContent, IsReached};
+ghost use Rattle.r4_base.specs.declared.items.Attr.{Attr as Attributes};
+ghost use Rattle.r4_base.specs.declared.items.Target.{Target as Named};
+ghost use Rattle.r4_cde.specs.Shown.{name_bytes};
+ghost use Rattle.r4_content.specs.Walk.{attr_at};
 ghost use Rattle.r4_search.specs.Pool.{Goes, IsKnown, LeavesDevice};
-ghost use Rattle.r4_list.specs.Below.{left_in, weight};
-ghost use Rattle.r4_list.specs.Listing.{line_of};
+ghost use Rattle.r4_list.specs.Below.{GoesDown, GoesOn, IsFrameOf, IsHeld, IsPushed, PrintsOne, left_in, printed_in, weight};
+ghost use Rattle.r4_list.specs.Listing.{lines_of};
 ghost use Rattle.r4_list.specs.Over.{IsOver};
 ghost use Rattle.r4_list.specs.Printed.{PrintsOver};
 ghost use Rattle.r4_list.specs.Printing.{IsPoolCause, Printed};
+ghost use Rattle.r4_list.specs.Walking.{IsEnough, IsWalking, OpenDir, open_from, rest_of};
 
 use crate::fault::Stop;
 use crate::frame::{Frame, Place, first_frame, next_frame, place_in};
@@ -36,7 +43,8 @@ pub struct Below {
     line: Vec<u8>,
 }
 
-/// Prints an object's line, and where it is a directory what is below it.
+/// Prints an object's line, and where it is a directory what is below it (docs/program.md, "Listing"). Over the tree of a
+/// content these are the lines of the object that it says, or where the sink fails a prefix of them, and no block is refused.
 pub fn print_object<P: Pool, K: Sink>(
     alloc: Global,
     pool: &mut P,
@@ -50,6 +58,9 @@ pub fn print_object<P: Pool, K: Sink>(
     requires known { IsKnown (P.state pool.old) root.now.id.0 }
     requires small { object.now.oid.0 < 2 ^ 60 }
     ensures printed { Printed root.now (P.state pool.old) (K.state out.old) result (P.state pool.new) (K.state out.new) (P.device pool.old) (P.device pool.new) }
+    ensures over { (n : ℕ) (image : Image) (m : Content) (c : HasContent n image m) → IsOver c root.now (P.state pool.old)
+        → (s : ℕ) → IsReached m s object.now → attr_at m object.now ≡ Some attr.now → (steps : ℕ) → IsEnough m steps
+        → PrintsOver c root.now (lines_of m (suc steps) object.now path.now) (K.state out.old) result (P.state pool.new) (K.state out.new) }
 {
     let mut below = Below {
         frames: Vec::new(alloc),
@@ -81,7 +92,7 @@ impl Below {
         ensures printed { Printed root.now (P.state pool.old) (K.state out.old) result (P.state pool.new) (K.state out.new) (P.device pool.old) (P.device pool.new) }
         ensures smaller { OnOk result (left_in self.new ≤ left_in self.old) }
         ensures over { (n : ℕ) (image : Image) (m : Content) (c : HasContent n image m) → IsOver c root.now (P.state pool.old)
-            → PrintsOver c root.now (line_of attr.now self.old.path.items) (K.state out.old) result (P.state pool.new) (K.state out.new) }
+            → PrintsOne c root.now object.now attr.now self.old (K.state out.old) result (P.state pool.new) self.new (K.state out.new) }
     {
         self.line.clear();
         push_line(&mut self.line, attr, &self.path)?;
@@ -114,6 +125,9 @@ impl Below {
         requires known { IsKnown (P.state pool.old) root.now.id.0 }
         ensures printed { Printed root.now (P.state pool.old) (K.state out.old) result (P.state pool.new) (K.state out.new) (P.device pool.old) (P.device pool.new) }
         ensures smaller { OnOk result (left_in self.new < left_in self.old + weight frame) }
+        ensures over { (n : ℕ) (image : Image) (m : Content) (c : HasContent n image m) → IsOver c root.now (P.state pool.old)
+            → (start : Named) (f : OpenDir) (fs : List OpenDir) → IsHeld c f fs self.old frame → IsWalking m start (f ∷ fs) (printed_in self.old) → (steps : ℕ) → IsEnough m steps
+            → GoesOn c root.now start steps (rest_of m steps (f ∷ fs)) (K.state out.old) result (P.state pool.new) self.new (K.state out.new) }
     {
         let leaf = Arc::try_clone(&frame.leaf)?;
         match place_in(&leaf, frame.dir, frame.item, frame.entry) {
@@ -130,7 +144,10 @@ impl Below {
     // The place is moved behind the entry, whose path is the path at hand from then on.
     fn go_past(&mut self, frame: Frame, name: &NameRef<'_>) -> Result<(), Memory>
         requires { frame.entry + 1 < 2 ^ 16 }
-        ensures { OnOk result (left_in self.new < left_in self.old + weight frame) }
+        ensures smaller { OnOk result (left_in self.new < left_in self.old + weight frame) }
+        ensures path { OnOk result (self.new.path.items ≡ take frame.path self.old.path.items ++ 47 ∷ name_bytes name.now) }
+        ensures printed { OnOk result (self.new.printed ≡ self.old.printed) }
+        ensures pushed { OnOk result (IsPushed frame frame.item (frame.entry + 1) self.old.frames.items self.new.frames.items) }
     {
         self.path.truncate(frame.path);
         self.path.push(b'/')?;
@@ -152,6 +169,8 @@ impl Below {
         requires known { IsKnown (P.state pool.old) root.now.id.0 }
         ensures printed { Printed root.now (P.state pool.old) (K.state out.old) result (P.state pool.new) (K.state out.new) (P.device pool.old) (P.device pool.new) }
         ensures smaller { OnOk result (left_in self.new ≤ left_in self.old) }
+        ensures over { (n : ℕ) (image : Image) (m : Content) (c : HasContent n image m) → IsOver c root.now (P.state pool.old) → (a : Attributes) → attr_at m object.now ≡ Some a
+            → PrintsOne c root.now object.now a self.old (K.state out.old) result (P.state pool.new) self.new (K.state out.new) }
     {
         match attr_of(alloc, pool, root, object)? {
             Some(attr) => self.print_one(alloc, pool, root, out, object, &attr),
@@ -162,7 +181,10 @@ impl Below {
     // The place is moved to the next item.
     fn go_to_item(&mut self, frame: Frame) -> Result<(), Memory>
         requires { frame.item + 1 < 2 ^ 16 }
-        ensures { OnOk result (left_in self.new < left_in self.old + weight frame) }
+        ensures smaller { OnOk result (left_in self.new < left_in self.old + weight frame) }
+        ensures path { self.new.path ≡ self.old.path }
+        ensures printed { self.new.printed ≡ self.old.printed }
+        ensures pushed { OnOk result (IsPushed frame (frame.item + 1) 0 self.old.frames.items self.new.frames.items) }
     {
         self.frames.push(frame.past_item())?;
         Ok(())
@@ -182,6 +204,8 @@ impl Below {
         ensures device { LeavesDevice (P.device pool.old) (P.device pool.new) }
         ensures cause { IfErr result (λ e. IsPoolCause root.now (P.state pool.old) e (P.state pool.new)) }
         ensures smaller { OnOk result (left_in self.new < left_in self.old + weight frame) }
+        ensures over { (n : ℕ) (image : Image) (m : Content) (c : HasContent n image m) → IsOver c root.now (P.state pool.old)
+            → (f : OpenDir) → IsFrameOf c f frame → GoesDown c root.now (open_from f (rank (arc_value frame.leaf).hi)) self.old result (P.state pool.new) self.new }
     {
         let Some(next) = next_frame(alloc, pool, root, &frame)? else {
             return Ok(());

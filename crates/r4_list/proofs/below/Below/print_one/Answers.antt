@@ -1,6 +1,14 @@
-use Rattle.std.proofs.Common.{◌++◌, ◌∙◌, refl, ap, List, ℕ}
+use Rattle.std.proofs.Common.{◌≡◌, ◌++◌, ◌∙◌, inl, inr, refl, sym, ap, subst, List, ℕ}
+use Rattle.std.specs.Prelude.{IfSome}
+use Rattle.std.specs.Arc.{arc_value}
+use Rattle.r4_cell.specs.Seen.{CellSeen}
+use Rattle.r4_replay.proofs.Overlaps.{has_one}
+use Rattle.r4_list.specs.Frame.{IsOpenAt}
+use Rattle.r4_list.specs.declared.frame.Frame.{Frame}
+use Rattle.r4_list.proofs.BelowSteps.{none_there, one_dir, one_stopped}
 use Rattle.r4_list.specs.Listing.{line_of}
 use Rattle.r4_list.specs.Walking.{open_dir}
+use Rattle.r4_list.specs.declared.fault.Stop.TheVariants.{Fetch, Memory}
 use Rattle.r4_list.proofs.BelowPrints.{printed_whole, stopped_fetching, stopped_memory, same_appends}
 use Rattle.r4_list.proofs.Stages.{went_same, went_both, went_written, went_fetched, ended_well, ended_writing, ended_without}
 use Rattle.r4_list.proofs.below.Below.print_one.Goals as goal
@@ -20,19 +28,38 @@ returns-clause-printed g c =
 pub returns-in_err-frame-clause-over : goal.returns-in_err-frame-clause-over
 returns-in_err-frame-clause-over g c = λ n image m has over.
     let h = c.in_err-frame.ensures.over n image m has over (open_dir c.args.object.now c.args.self.now.path.items 0) refl refl in
-    stopped_fetching has c.args.root.now _ _ _ _ h.over c.from_residual-in_err-frame.result c.in_err-frame.field-0.0 c.from_residual-in_err-frame.ensures.1 h.undamaged
+    one_stopped has c.args.root.now c.args.object.now c.args.attr.now c.args.self.now _ _ _ _ c.from_residual-in_err-frame.result (Fetch c.in_err-frame.field-0.0) c.from_residual-in_err-frame.ensures.1
+    (stopped_fetching has c.args.root.now (line_of c.args.attr.now c.args.self.now.path.items) _ _ _ h.over c.from_residual-in_err-frame.result c.in_err-frame.field-0.0 c.from_residual-in_err-frame.ensures.1 h.undamaged)
 
 pub returns-in_default-clause-over : goal.returns-in_default-clause-over
 returns-in_default-clause-over g c = λ n image m has over.
     let h = c.in_ok-frame.ensures.over n image m has over (open_dir c.args.object.now c.args.self.now.path.items 0) refl refl in
-    printed_whole has c.args.root.now (line_of c.args.attr.now c.args.self.now.path.items) _ _ _ h.over tt c.in_ok-write.field-0 (same_appends _ _ _ _ _ (c.deref-2.ensures.value ∙ (c.in_ok-push_line.ensures ∙ (ap (λ (t : List ℕ). t ++ line_of c.args.attr.now c.deref.result.now) c.clear.ensures.items ∙ ap (line_of c.args.attr.now) c.deref.ensures.value))) c.in_ok-write.ensures)
+    one_dir has c.args.root.now c.args.object.now c.args.attr.now c.args.self.now _ _ _ _ tt
+    (printed_whole has c.args.root.now (line_of c.args.attr.now c.args.self.now.path.items) _ _ _ h.over tt c.in_ok-write.field-0 (same_appends _ _ _ _ _ (c.deref-2.ensures.value ∙ (c.in_ok-push_line.ensures ∙ (ap (λ (t : List ℕ). t ++ line_of c.args.attr.now c.deref.result.now) c.clear.ensures.items ∙ ap (line_of c.args.attr.now) c.deref.ensures.value))) c.in_ok-write.ensures))
+    (sym c.is_directory.ensures ∙ c.if-not-is_directory.false) refl
+    (λ new. (has_one c.args.self.now.printed c.insert.new.self c.args.object.now.oid.0 c.in_ok-insert.ensures.updates, inl (none_there c.in_ok-frame.field-0 c.in_default.is h.found.0, refl)))
 
 pub returns-in_err-push-clause-over : goal.returns-in_err-push-clause-over
 returns-in_err-push-clause-over g c = λ n image m has over.
     let h = c.in_ok-frame.ensures.over n image m has over (open_dir c.args.object.now c.args.self.now.path.items 0) refl refl in
-    stopped_memory has c.args.root.now _ _ _ _ h.over c.from_residual-in_err-push.result c.from_residual-in_err-push.ensures.1
+    one_stopped has c.args.root.now c.args.object.now c.args.attr.now c.args.self.now _ _ _ _ c.from_residual-in_err-push.result Memory c.from_residual-in_err-push.ensures.1
+    (stopped_memory has c.args.root.now (line_of c.args.attr.now c.args.self.now.path.items) _ _ _ h.over c.from_residual-in_err-push.result c.from_residual-in_err-push.ensures.1)
 
 pub returns-clause-over : goal.returns-clause-over
 returns-clause-over g c = λ n image m has over.
     let h = c.in_ok-frame.ensures.over n image m has over (open_dir c.args.object.now c.args.self.now.path.items 0) refl refl in
-    printed_whole has c.args.root.now (line_of c.args.attr.now c.args.self.now.path.items) _ _ _ h.over tt c.in_ok-write.field-0 (same_appends _ _ _ _ _ (c.deref-2.ensures.value ∙ (c.in_ok-push_line.ensures ∙ (ap (λ (t : List ℕ). t ++ line_of c.args.attr.now c.deref.result.now) c.clear.ensures.items ∙ ap (line_of c.args.attr.now) c.deref.ensures.value))) c.in_ok-write.ensures)
+    let path = subst (λ o. IfSome o (λ (frame : Frame). frame.path ≡ c.len-2.result)) c.in-Some.is c.in_ok-frame.ensures.path in
+    one_dir has c.args.root.now c.args.object.now c.args.attr.now c.args.self.now _ _ _ _ tt
+    (printed_whole has c.args.root.now (line_of c.args.attr.now c.args.self.now.path.items) _ _ _ h.over tt c.in_ok-write.field-0 (same_appends _ _ _ _ _ (c.deref-2.ensures.value ∙ (c.in_ok-push_line.ensures ∙ (ap (λ (t : List ℕ). t ++ line_of c.args.attr.now c.deref.result.now) c.clear.ensures.items ∙ ap (line_of c.args.attr.now) c.deref.ensures.value))) c.in_ok-write.ensures))
+    (sym c.is_directory.ensures ∙ c.if-not-is_directory.false) refl
+    (λ new. (
+      has_one c.args.self.now.printed c.insert.new.self c.args.object.now.oid.0 c.in_ok-insert.ensures.updates,
+      inr (record {
+        frame = c.in-Some.frame;
+        is = c.in_ok-push.ensures.items;
+        of = record {
+          place = subst (λ o. IfSome o (λ (frame : Frame). IsOpenAt has (open_dir c.args.object.now c.args.self.now.path.items 0) frame.dir.0 (arc_value {X = CellSeen} frame.leaf) frame.item frame.entry)) c.in-Some.is h.found.1;
+          path = path ∙ (c.len-2.ensures ∙ c.args.self.now.path.ok.0);
+        };
+      }),
+    ))
