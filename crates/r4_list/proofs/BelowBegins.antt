@@ -96,7 +96,7 @@ module _ {n : ℕ} {image : Image} {m : Content} (c : HasContent n image m) (roo
 
 -- ---- a step
 
-part_later : (done rest text before : List ℕ) (after : Option (List ℕ)) → text ≡ done ++ rest → AppendsPart rest (before ++ done) after → AppendsPart text before after
+pub part_later : (done rest text before : List ℕ) (after : Option (List ℕ)) → text ≡ done ++ rest → AppendsPart rest (before ++ done) after → AppendsPart text before after
 part_later done rest text before after is p = record {
   part = done ++ p.part;
   rest = p.rest;

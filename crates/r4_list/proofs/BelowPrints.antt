@@ -18,7 +18,7 @@ abbrev stop_of : {T : Type 0} → Result T Stop → Stop
 stop_of {T} (Ok x) = Memory
 stop_of {T} (Err e) = e
 
-same_stop : {T : Type 0} (y : Stop) (r : Result T Stop) → r ≡ Err y → r ≡ Err Sink → y ≡ Sink
+pub same_stop : {T : Type 0} (y : Stop) (r : Result T Stop) → r ≡ Err y → r ≡ Err Sink → y ≡ Sink
 same_stop {T} y r a b = sym (ap stop_of a) ∙ ap stop_of b
 
 module _ {T : Type 0} {n : ℕ} {image : Image} {m : Content} (c : HasContent n image m) (root : Root) (text : List ℕ) (k k' : SinkState) (p : PoolState) (over : IsOver c root p) where

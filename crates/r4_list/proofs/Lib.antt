@@ -34,3 +34,4 @@ pub mod BelowWalk
 pub mod BelowSteps
 pub mod BelowBegins
 pub mod Listings
+pub mod ListingText

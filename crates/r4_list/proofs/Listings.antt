@@ -6,9 +6,16 @@ use Rattle.r4_base.specs.Image.{Image, IsLawful, block_at, put_pairs}
 use Rattle.r4_base.specs.declared.superblock.LayoutFault.{LayoutFault}
 use Rattle.r4_base.specs.declared.superblock.Super40.{Super40}
 use Rattle.r4_base.specs.declared.things.BlockNo.{BlockNo}
-use Rattle.r4_base.proofs.Logs.{one_log}
+use Rattle.r4_base.specs.Layout.{super_of}
+use Rattle.r4_base.specs.Value.{Content}
+use Rattle.r4_base.specs.Volume.{HasContent, HasVolume}
+use Rattle.r4_base.proofs.Logs.{not_refused, one_log}
+use Rattle.r4_list.proofs.Openings.{layout_is}
+use Rattle.r4_list.proofs.Stages.{prints_same}
+use Rattle.r4_list.specs.Listing.{IsListing}
+use Rattle.r4_list.specs.declared.fault.ListFault.TheVariants.{Device, Size, Sink as SinkFault, Memory as NoMemory}
 use Rattle.std.specs.Borrow.{GName}
-use Rattle.r4_outside.specs.Device.{State, Goes, TellsReads, lent_to}
+use Rattle.r4_outside.specs.Device.{State, Goes, Rose, TellsReads, lent_to}
 use Rattle.r4_search.specs.Pool.{LeavesDevice}
 use Rattle.r4_outside.specs.Sink.{SinkState}
 use Rattle.r4_replay.specs.Homes.{TellsHomes, home_in}
@@ -19,8 +26,8 @@ use Rattle.r4_replay.specs.declared.log.Log.{Log}
 use Rattle.r4_cell.specs.declared.change.Root.{Root}
 use Rattle.r4_search.specs.Pool.{PoolState}
 use Rattle.r4_search.specs.declared.pool.FetchFault.TheVariants.{Read, Damaged, Memory as NoRoom}
-use Rattle.r4_list.specs.Lists.{Answers, IsListFault, IsOpened, IsPrintCause, IsStopFault, StaysAsItWas, log_fault_of, open_fault_of, stop_fault_of}
-use Rattle.r4_list.specs.Opening.{IsSettledBy, Opens, layout_misfit, misfit}
+use Rattle.r4_list.specs.Lists.{Answers, IsListFault, IsOpened, IsPrintCause, IsStopFault, IsUnrefused, PrintsText, StaysAsItWas, log_fault_of, open_fault_of, stop_fault_of}
+use Rattle.r4_list.specs.Opening.{IsSettledBy, Opens, bitmaps_misfit, layout_misfit, misfit}
 use Rattle.r4_list.specs.Printing.{IsCause, Prints}
 use Rattle.r4_list.specs.declared.fault.ListFault.{ListFault}
 use Rattle.r4_list.specs.declared.fault.Stop.{Stop}
@@ -28,9 +35,39 @@ use Rattle.r4_list.specs.declared.fault.Stop.TheVariants.{Fetch, Sink, Memory}
 use Rattle.r4_list.specs.declared.opening.Unopened.{Unopened}
 use Rattle.r4_list.specs.declared.opening.Unopened.TheVariants.{Failed, Layout, Memory as NoBuffer}
 
+-- ---- where nothing was printed
+
+-- a text of which nothing was printed, where neither an image is refused nor the sink failed
+text_without : (text : List ℕ) (k : SinkState) (x e : ListFault) → x ≡ e → IsUnrefused e → ((f : ℕ) → e ≡ SinkFault f → ⊥) → PrintsText {T = Unit {0}} text k (Err x) k
+text_without text k x e is u other = record {
+  whole = λ before w. tt;
+  part = λ before f w bad. absurd (other f (sym is ∙ ap told_fault bad));
+  unrefused = subst IsUnrefused (sym is) u;
+}
+  where
+    told_fault : Result (Unit {0}) ListFault → ListFault
+    told_fault (Ok x) = NoMemory
+    told_fault (Err e) = e
+
+no_misfit : (b : ℕ) (f : LayoutFault) → misfit b f ≡ None → ⊥
+no_misfit b f h = cc
+
+layout_none : {n : ℕ} {image : Image} {m : Content} → HasContent n image m → layout_misfit n image ≡ None
+layout_none {n} {image} {m} c = layout_is n n image c.layout.master.0 c.super refl c.layout.master.1 c.layout.format ∙ ap bitmaps_misfit c.layout.bitmaps
+
+pub same_super : (n k : ℕ) (b : List ℕ) (s t : Super40) → n ≡ k → super_of n b ≡ Ok s → super_of k b ≡ Ok t → s ≡ t
+same_super n k b s t same e f = cc (same, e, f)
+
+-- a log of an image with a volume is not refused
+pub log_text : (first now : State) (k : SinkState) (e : ReplayFault) (x : ListFault) (m : Content) (text : List ℕ) → x ≡ log_fault_of e → Faulted first e now → TellsReads first → HasVolume first.blocks first.seen m → PrintsText {T = Unit {0}} text k (Err x) k
+log_text first now k (LogRefused block fault) x m text is f told v = absurd (not_refused _ _ _ _ v.log (f.2 told))
+log_text first now k (DeviceFailed clock faults) x m text is f told v = text_without text k x (Device clock faults) is tt (λ g h. cc)
+log_text first now k (BadSize blocks) x m text is f told v = text_without text k x (Size blocks) is tt (λ g h. cc)
+log_text first now k NoRoomForLog x m text is f told v = text_without text k x NoMemory is tt (λ g h. cc)
+
 -- the log of a device was read, and then its image was opened
 module _ (first d : State) (log : Log) (goes : Goes first d) (seen : d.seen ≡ first.seen) (lawful : IsLawful first.blocks) (tells : TellsReads first → TellsHomes first log) where
-  settled_by : (image : Image) → TellsReads first → Settles first.blocks first.seen image → IsSettledBy d log.homes image
+  pub settled_by : (image : Image) → TellsReads first → Settles first.blocks first.seen image → IsSettledBy d log.homes image
   settled_by image told settles b below =
       let h = tells told in
       let same = one_log _ _ settles.chain h.chain settles.has h.has in
@@ -57,6 +94,14 @@ module _ (first d : State) (log : Log) (goes : Goes first d) (seen : d.seen ≡ 
   open_answer now k Failed opens = let before = goes.faults in (omega (arith, before, opens), refl, refl)
   open_answer now k (Layout b f) opens = (lawful, image_refused b f now opens)
   open_answer now k NoBuffer opens = lawful
+
+  -- an image with a volume is opened
+  pub open_text : (now : State) (k : SinkState) (e : Unopened) (x : ListFault) (m : Content) (text : List ℕ) → x ≡ open_fault_of e now.clock now.faults → Opens d log.homes (Err e) now → TellsReads first → HasVolume first.blocks first.seen m → PrintsText {T = Unit {0}} text k (Err x) k
+  open_text now k Failed x m text is opens told v = text_without text k x (Device now.clock now.faults) is tt (λ f h. cc)
+  open_text now k (Layout b f) x m text is opens told v =
+      let refused = image_refused b f now opens told (put_pairs (chain_pairs v.chain) first.seen) (record { chain = v.chain; has = v.log; is = refl }) in
+      absurd (no_misfit _ _ (sym refused ∙ layout_none v.content))
+  open_text now k NoBuffer x m text is opens told v = text_without text k x NoMemory is tt (λ f h. cc)
 
 -- nothing was written
 pub stays : (old new : State) → Goes old new → new.seen ≡ old.seen → new.clock ≡ old.clock → StaysAsItWas old new
@@ -108,8 +153,8 @@ stop_answers first d now k l (Ok x) low is c = tt
 stop_answers first d now k l (Err e) low is c = stop_answer first d now k l e low is c
 
 -- a device that was lent
-pub lent_answers : {T : Type 0} (n n' : GName) (first d now : State) (k l : SinkState) (r : Result T ListFault) → first.faults ≤ d.faults → IsOpened first → Prints k l → IfErr r (λ e. IsStopFault (lent_to n d) k e (lent_to n' now) l) → Answers first k r now l
-lent_answers n n' first d now k l r low is prints c = record { printed = prints; ok = opened r; err = stop_answers first d now k l r low is (lent r c) }
+pub lent_answers : {T : Type 0} (path : List ℕ) (n n' : GName) (first d now : State) (k l : SinkState) (r : Result T ListFault) → first.faults ≤ d.faults → IsOpened first → Prints k l → ((m : Content) (text : List ℕ) → TellsReads first → HasVolume first.blocks first.seen m → IsListing m path text → PrintsText text k r l) → IfErr r (λ e. IsStopFault (lent_to n d) k e (lent_to n' now) l) → Answers path first k r now l
+lent_answers path n n' first d now k l r low is prints text c = record { printed = prints; text = text; ok = opened r; err = stop_answers first d now k l r low is (lent r c) }
   where
     opened : {T : Type 0} (r : Result T ListFault) → IfOk r (λ v. IsOpened first)
     opened (Ok x) = is
@@ -136,3 +181,12 @@ log_answer first now k NoRoomForLog f = f.0
 pub print_causes : {T : Type 0} (root : Root) (old new : PoolState) (d now : State) (k l : SinkState) (r : Result T Stop) → old.faults ≡ d.faults → new.faults ≡ now.faults → IfErr r (λ e. IsCause root old k e new l) → IfErr r (λ e. IsPrintCause d k e now l)
 print_causes root old new d now k l (Ok x) same is c = c
 print_causes root old new d now k l (Err e) same is c = print_cause root old new d now k l e same is c
+
+-- the device failed before anything was printed
+pub device_answer : (path : List ℕ) (first d now : State) (k : SinkState) (x : ListFault) → x ≡ Device now.clock now.faults → first.faults ≤ d.faults → Rose d.faults now.faults → Answers {T = Unit {0}} path first k (Err x) now k
+device_answer path first d now k x is low rose = record {
+  printed = prints_same k;
+  text = λ m text told v listing. text_without text k x (Device now.clock now.faults) is tt (λ f h. cc);
+  ok = tt;
+  err = subst (λ (y : ListFault). IsListFault first k y now k) (sym is) (omega (arith, low, rose), refl, refl);
+}

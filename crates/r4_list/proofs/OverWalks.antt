@@ -12,7 +12,7 @@ use Rattle.r4_cell.specs.declared.change.Root.{Root}
 use Rattle.r4_content.specs.Walk.{At, NoDirectory, NoEntry, attr_at, names_in, pieces_of, target_at, walk, walk_from}
 use Rattle.r4_search.specs.Pool.{PoolState}
 use Rattle.r4_list.specs.Over.{IsOver}
-use Rattle.r4_list.specs.OverWalks.{IsReached, IsStep, pieces_from}
+use Rattle.r4_list.specs.OverWalks.{IsLookedUp, IsStep, pieces_from}
 use Rattle.r4_list.specs.declared.walk.Object.{Object}
 use Rattle.r4_list.proofs.OverPieces.{by_first, is_legal, left, left_done, left_here, legal_first, names_left, pieces_left, walk_at, walk_begun, walk_no_entry, walk_step}
 use Rattle.r4_list.proofs.Stages.{Moves, moves_both}
@@ -20,7 +20,7 @@ use Rattle.r4_list.proofs.Stages.{Moves, moves_both}
 -- What a walk keeps: the pool went on, and over a content it is at an object from which the rest of the path leads on.
 pub record IsWalk (root : Root) (path : List ℕ) (old now : PoolState) (before after : State) (from : ℕ) (object : Target) (attr : Attr) : Type 0 where
   pub moves : Moves old now before after
-  pub reached : IsReached object
+  pub reached : IsLookedUp object
   pub legal : list_all is_legal (left path from) ≡ true
   pub over : (n : ℕ) (image : Image) (m : Content) (c : HasContent n image m) → IsOver c root old → IsOver c root now
   pub on : (n : ℕ) (image : Image) (m : Content) (c : HasContent n image m) → IsOver c root old → walk m (names_in path) ≡ walk_from m (left path from) object (Some attr)
@@ -56,7 +56,7 @@ pub ends_here : (m : Content) (path : List ℕ) (from : ℕ) (o : Target) (a : A
 ends_here m path from o a le so_far = sym (so_far ∙ (ap (λ (ps : List (List ℕ)). walk_from m ps o (Some a)) (left_done path from le) ∙ walk_at m o a))
 
 -- at the root
-pub begun : (root : Root) (path : List ℕ) (old now : PoolState) (before after : State) (attr : Attr) → 1 ≤ length path → Moves old now before after → IsReached root_object → list_all is_legal (names_in path) ≡ true
+pub begun : (root : Root) (path : List ℕ) (old now : PoolState) (before after : State) (attr : Attr) → 1 ≤ length path → Moves old now before after → IsLookedUp root_object → list_all is_legal (names_in path) ≡ true
     → ((n : ℕ) (image : Image) (m : Content) (c : HasContent n image m) → IsOver c root old → IsOver c root now × (Some attr ≡ attr_at m root_object)) → IsWalk root path old now before after 1 root_object attr
 begun root path old now before after attr some moves reached legal over =
     let names = names_left path some in
@@ -70,7 +70,7 @@ begun root path old now before after attr some moves reached legal over =
 
 -- at the next object
 pub gone_on : (root : Root) (path : List ℕ) (old mid now : PoolState) (a b c : State) (from end : ℕ) (within : from < length path) (piece : pieces_of (drop from path) ≡ slice_range path from end ∷ pieces_from path (end + 1))
-    → (object : Target) (attr : Attr) (w : IsWalk root path old mid a b from object attr) → is_directory attr ≡ true → Moves mid now b c → (next : Object) → IsReached next.object
+    → (object : Target) (attr : Attr) (w : IsWalk root path old mid a b from object attr) → is_directory attr ≡ true → Moves mid now b c → (next : Object) → IsLookedUp next.object
     → ((n : ℕ) (image : Image) (m : Content) (h : HasContent n image m) → IsOver h root mid → IsOver h root now × IsStep m object.oid.0 (slice_range path from end) (Some next)) → IsWalk root path old now a c (end + 1) next.object next.attr
 gone_on root path old mid now a b c from end within piece object attr w dir moves next reached over = record {
   moves = moves_both old mid now a b c w.moves moves;

@@ -1,12 +1,15 @@
 -- What a listing answers (docs/program.md, "Listing").
-use Rattle.std.specs.Prelude.{◌≡◌, ◌⊎◌, ◌↔◌, ℕ, ◌<◌, ◌≤◌, List, None, Result, IfOk, IfErr}
+use Rattle.std.specs.Prelude.{◌≡◌, ◌⊎◌, ◌↔◌, ℕ, ◌<◌, ◌≤◌, List, ◌++◌, Some, None, Result, Err, IfOk, IfErr, OnOk}
 use Rattle.r4_base.specs.Chain.{Settles}
 use Rattle.r4_base.specs.Image.{Image, IsLawful}
 use Rattle.r4_base.specs.Refusal.{IsRefused}
+use Rattle.r4_base.specs.Value.{Content}
+use Rattle.r4_base.specs.Volume.{HasVolume}
 use Rattle.r4_outside.specs.Device.{State, TellsCrashes, TellsReads, Rose}
-use Rattle.r4_outside.specs.Sink.{SinkState}
+use Rattle.r4_outside.specs.Sink.{SinkState, AppendsPart}
 use Rattle.r4_cell.specs.declared.refused.ImageFault.TheVariants.{Layout, Cell}
 use Rattle.r4_search.specs.declared.pool.FetchFault.TheVariants.{Read, Damaged, Memory as NoRoom}
+use Rattle.r4_list.specs.Listing.{IsListing}
 use Rattle.r4_list.specs.Opening.{layout_misfit, misfit}
 use Rattle.r4_list.specs.Printing.{Prints}
 use Rattle.r4_replay.specs.declared.fault.ReplayFault.{ReplayFault}
@@ -76,8 +79,25 @@ IsListFault d k (Size blocks) d' k' = (blocks ≡ d.blocks) × ((d.blocks < 64) 
 IsListFault d k (Sink faults) d' k' = IsOpened d × Rose k.faults k'.faults × (faults ≡ k'.faults)
 IsListFault d k Memory d' k' = IsLawful d.blocks
 
+-- neither the log nor the image is refused
+abbrev pub IsUnrefused : ListFault → Type 0
+IsUnrefused (Log block fault) = ⊥
+IsUnrefused (Refused block fault) = ⊥
+IsUnrefused (Device clock faults) = Unit {0}
+IsUnrefused (Size blocks) = Unit {0}
+IsUnrefused (Sink faults) = Unit {0}
+IsUnrefused Memory = Unit {0}
+
+-- All of a text was appended, or where the sink failed a prefix of it; and nothing is refused.
+pub record PrintsText {T : Type 0} (text : List ℕ) (k : SinkState) (result : Result T ListFault) (k' : SinkState) : Type 0 where
+  pub whole : (before : List ℕ) → k.written ≡ Some before → OnOk result (k'.written ≡ Some (before ++ text))
+  pub part : (before : List ℕ) (faults : ℕ) → k.written ≡ Some before → result ≡ Err (Sink faults) → AppendsPart text before k'.written
+  pub unrefused : IfErr result IsUnrefused
+
 -- `list`
-pub record Answers {T : Type 0} (d : State) (k : SinkState) (result : Result T ListFault) (d' : State) (k' : SinkState) : Type 0 where
+pub record Answers {T : Type 0} (path : List ℕ) (d : State) (k : SinkState) (result : Result T ListFault) (d' : State) (k' : SinkState) : Type 0 where
   pub printed : Prints k k'
+  -- where the image has a volume, the text is that of the path
+  pub text : (m : Content) (text : List ℕ) → TellsReads d → HasVolume d.blocks d.seen m → IsListing m path text → PrintsText text k result k'
   pub ok : IfOk result (λ v. IsOpened d)
   pub err : IfErr result (λ e. IsListFault d k e d' k')

@@ -26,14 +26,14 @@ IsStep m dir name None = (target_at m dir name ≡ None) ⊎ ((p : Target) × (t
 IsStep m dir name (Some x) = (target_at m dir name ≡ Some x.object) × (attr_at m x.object ≡ Some x.attr)
 
 -- An object that was looked up: its numbers are those of an object, and its stat data have a key that a tree may have.
-pub record IsReached (o : Target) : Type 0 where
+pub record IsLookedUp (o : Target) : Type 0 where
   pub locality : o.locality < 2 ^ 60
   pub oid : o.oid.0 < 2 ^ 60
   pub from : least ≤ stat_rank o
 
 -- where a walk ends at an object, it was looked up
-abbrev pub EndsReached : Told → Type 0
-EndsReached (ToldAt o a) = IsReached o
-EndsReached ToldNoName = Unit {0}
-EndsReached ToldNoDirectory = Unit {0}
-EndsReached ToldNoEntry = Unit {0}
+abbrev pub EndsLookedUp : Told → Type 0
+EndsLookedUp (ToldAt o a) = IsLookedUp o
+EndsLookedUp ToldNoName = Unit {0}
+EndsLookedUp ToldNoDirectory = Unit {0}
+EndsLookedUp ToldNoEntry = Unit {0}

@@ -1,12 +1,24 @@
 //! The listing of a volume (docs/program.md, "Listing").
 
-ghost use Rattle.std.specs.Prelude.{◌≡◌, ◌≤◌, length, IfErr};
+ghost use Rattle.std.specs.Prelude.{◌≡◌, ◌≤◌, ◌++◌, ℕ, suc, List, length, Some, IfErr};
+ghost use Rattle.r4_base.specs.Image.{Image};
+ghost use Rattle.r4_base.specs.Value.{Content};
+ghost use Rattle.r4_base.specs.Volume.{HasContent, IsReached};
+ghost use Rattle.r4_content.specs.Walk.{attr_at};
+ghost use Rattle.r4_outside.specs.Device.{TellsReads};
+ghost use Rattle.r4_outside.specs.Sink.{Appends};
 ghost use Rattle.r4_base.specs.Layout.{IsLawfulSuper};
 ghost use Rattle.r4_replay.specs.Homes.{StaysWithin};
 ghost use Rattle.r4_search.specs.Pool.{IsKnown, LeavesDevice};
-ghost use Rattle.r4_list.specs.Lists.{Answers, IsStopFault, StaysAsItWas, log_fault_of, open_fault_of, stop_fault_of};
-ghost use Rattle.r4_list.specs.OverWalks.{IsReached};
+ghost use Rattle.r4_list.specs.Lists.{Answers, IsStopFault, PrintsText, StaysAsItWas, log_fault_of, open_fault_of, stop_fault_of};
+ghost use Rattle.r4_list.specs.OverWalks.{IsLookedUp};
+ghost use Rattle.r4_list.specs.Listing.{IsListing, file_text, lines_of, shown_path};
+ghost use Rattle.r4_list.specs.Opening.{IsSettledBy};
+ghost use Rattle.r4_list.specs.Over.{IsOver};
+ghost use Rattle.r4_list.specs.Printed.{PrintsOver};
+ghost use Rattle.r4_list.specs.Walking.{IsEnough};
 ghost use Rattle.r4_list.specs.Printing.{Printed, Prints};
+ghost use Rattle.r4_list.specs.declared.fault.Stop.TheVariants.{Sink as SinkFailed};
 ghost use Rattle.r4_list.specs.declared.fault.ListFault.TheVariants.{Device as DeviceFailed};
 
 use crate::below::print_object;
@@ -33,7 +45,7 @@ pub fn list<D: Device, K: Sink>(
 ) -> Result<(), ListFault>
     requires { 1 ≤ length path.now }
     ensures device { StaysAsItWas (D.state dev.old) (D.state dev.new) }
-    ensures answers { Answers (D.state dev.old) (K.state out.old) result (D.state dev.new) (K.state out.new) }
+    ensures answers { Answers path.now (D.state dev.old) (K.state out.old) result (D.state dev.new) (K.state out.new) }
 {
     let log = match read_log(alloc, dev) {
         Ok(log) => log,
@@ -71,6 +83,8 @@ fn print_settled<E: Device, K: Sink>(
     ensures device { LeavesDevice (E.state dev) (E.state result.dev) }
     ensures prints { Prints (K.state out.old) (K.state out.new) }
     ensures cause { IfErr result.printed (λ e. IsStopFault (E.state dev) (K.state out.old) e (E.state result.dev) (K.state out.new)) }
+    ensures text { (n : ℕ) (image : Image) (m : Content) (c : HasContent n image m) → TellsReads (E.state dev) → n ≡ (E.state dev).blocks → IsSettledBy (E.state dev) log.homes image → c.super ≡ found.now
+        → (text : List ℕ) → IsListing m path.now text → PrintsText text (K.state out.old) result.printed (K.state out.new) }
 {
     let root = Root {
         id: NodeId(found.root_block),
@@ -92,7 +106,7 @@ fn print_settled<E: Device, K: Sink>(
     }
 }
 
-// Prints what is at a path.
+// Prints what is at a path: over the tree of a content its listing.
 fn print_path<P: Pool, K: Sink>(
     alloc: Global,
     pool: &mut P,
@@ -104,20 +118,27 @@ fn print_path<P: Pool, K: Sink>(
     requires some { 1 ≤ root.now.height }
     requires known { IsKnown (P.state pool.old) root.now.id.0 }
     ensures printed { Printed root.now (P.state pool.old) (K.state out.old) result (P.state pool.new) (K.state out.new) (P.device pool.old) (P.device pool.new) }
+    ensures over { (n : ℕ) (image : Image) (m : Content) (c : HasContent n image m) → IsOver c root.now (P.state pool.old)
+        → (text : List ℕ) → IsListing m path.now text → PrintsOver c root.now text (K.state out.old) result (P.state pool.new) (K.state out.new) }
 {
-    let word: &[u8] = match walk(alloc, pool, root, path)? {
-        Walked::At { object, attr } => {
-            return print_found(alloc, pool, root, out, &object, &attr, path);
-        }
-        Walked::NoName => b"name\n",
-        Walked::NoDirectory => b"notdir\n",
-        Walked::NoEntry => b"absent\n",
-    };
+    match walk(alloc, pool, root, path)? {
+        Walked::At { object, attr } => print_found(alloc, pool, root, out, &object, &attr, path),
+        Walked::NoName => print_word(out, b"name\n"),
+        Walked::NoDirectory => print_word(out, b"notdir\n"),
+        Walked::NoEntry => print_word(out, b"absent\n"),
+    }
+}
+
+// Prints why there is nothing.
+fn print_word<K: Sink>(out: &mut K, word: &[u8]) -> Result<(), Stop>
+    ensures appends { Appends word.now (K.state out.old) result (K.state out.new) }
+    ensures cause { IfErr result (λ e. e ≡ SinkFailed) }
+{
     out.write(word)?;
     Ok(())
 }
 
-// Prints an object that was found at a path.
+// Prints an object that was found at a path: over the tree of a content its lines and its bytes.
 fn print_found<P: Pool, K: Sink>(
     alloc: Global,
     pool: &mut P,
@@ -129,15 +150,27 @@ fn print_found<P: Pool, K: Sink>(
 ) -> Result<(), Stop>
     requires some { 1 ≤ root.now.height }
     requires known { IsKnown (P.state pool.old) root.now.id.0 }
-    requires reached { IsReached object.now }
+    requires reached { IsLookedUp object.now }
     ensures printed { Printed root.now (P.state pool.old) (K.state out.old) result (P.state pool.new) (K.state out.new) (P.device pool.old) (P.device pool.new) }
+    ensures over { (n : ℕ) (image : Image) (m : Content) (c : HasContent n image m) → IsOver c root.now (P.state pool.old)
+        → (s : ℕ) → IsReached m s object.now → attr_at m object.now ≡ Some attr.now → (steps : ℕ) → IsEnough m steps
+        → PrintsOver c root.now (lines_of m (suc steps) object.now (shown_path path.now) ++ file_text m object.now attr.now) (K.state out.old) result (P.state pool.new) (K.state out.new) }
 {
-    let shown = if path.len() == 1 { b"" } else { path };
-    print_object(alloc, pool, root, out, object, attr, shown)?;
+    print_object(alloc, pool, root, out, object, attr, shown(path))?;
     if is_directory(attr) {
         return Ok(());
     }
     print_body(alloc, pool, root, out, object, attr.size)
+}
+
+// A path as lines show it: none for the root.
+fn shown(path: &[u8]) -> &[u8]
+    ensures { result.now ≡ shown_path path.now }
+{
+    if path.len() == 1 {
+        return b"";
+    }
+    path
 }
 
 // Why the log was not read.

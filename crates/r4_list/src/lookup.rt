@@ -12,7 +12,7 @@ ghost use Rattle.r4_cell.specs.Seen.{CellSeen, node_of};
 ghost use Rattle.r4_search.specs.Pool.{IsKnown, IsOf, KnowsNames};
 ghost use Rattle.r4_search.specs.Path.{EndsAt};
 ghost use Rattle.r4_list.specs.Over.{FindsOver, IsOver};
-ghost use Rattle.r4_list.specs.OverWalks.{IsReached};
+ghost use Rattle.r4_list.specs.OverWalks.{IsLookedUp};
 ghost use Rattle.r4_list.specs.Printing.{Fetched};
 
 use crate::leaf::{attr_in, target_in};
@@ -78,7 +78,7 @@ pub fn attr_of<P: Pool>(
     ensures fetched { Fetched root.now (P.state pool.old) result (P.state pool.new) (P.device pool.old) (P.device pool.new) }
     ensures over { (n : ℕ) (image : Image) (m : Content) (c : HasContent n image m) → IsOver c root.now (P.state pool.old)
         → FindsOver c root.now result (P.state pool.new) (λ a. a ≡ attr_at m object.now) }
-    ensures reached { IfOk result (λ a. IfSome a (λ x. IsReached object.now)) }
+    ensures reached { IfOk result (λ a. IfSome a (λ x. IsLookedUp object.now)) }
 {
     if object.locality >= OBJECTS {
         return Ok(None);

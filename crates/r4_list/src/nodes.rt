@@ -5,7 +5,7 @@ ghost use Rattle.std.specs.Arc.{arc_value};
 ghost use Rattle.r4_base.specs.Key.{rank};
 ghost use Rattle.r4_replay.specs.Homes.{StaysWithin};
 ghost use Rattle.r4_search.specs.Pool.{called, place_fault};
-ghost use Rattle.r4_list.specs.Pool.{AreSound, IsAgain, Keeps, refused_as};
+ghost use Rattle.r4_list.specs.Pool.{AreSound, IsAgain, Keeps, kept_in, refused_as};
 
 use r4_base::{Block, BlockNo, CellFault, Key, NodeId};
 use r4_cell::{Cell, CellRefused, read_cell};
@@ -36,7 +36,9 @@ impl<D: Device> Nodes<D> {
         requires within { blocks ≤ (D.state dev).blocks }
         requires homes { StaysWithin (D.state dev).blocks log }
         ensures device { result.dev ≡ dev }
+        ensures log { result.log ≡ log }
         ensures blocks { result.blocks ≡ blocks }
+        ensures empty { (i : ℕ) → kept_in result.kept i ≡ None }
     {
         Nodes {
             dev,

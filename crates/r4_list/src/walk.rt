@@ -10,7 +10,7 @@ ghost use Rattle.r4_base.specs.Volume.{HasContent, is_directory};
 ghost use Rattle.r4_content.specs.Walk.{names_in, pieces_of, walk};
 ghost use Rattle.r4_search.specs.Pool.{IsKnown};
 ghost use Rattle.r4_list.specs.Over.{FindsOver, IsOver};
-ghost use Rattle.r4_list.specs.OverWalks.{EndsReached, IsReached, IsStep, pieces_from, walked_of};
+ghost use Rattle.r4_list.specs.OverWalks.{EndsLookedUp, IsLookedUp, IsStep, pieces_from, walked_of};
 ghost use Rattle.r4_list.specs.Printing.{Fetched};
 
 use crate::lookup::{attr_of, target_of};
@@ -58,7 +58,7 @@ pub fn walk<P: Pool>(
     ensures fetched { Fetched root.now (P.state pool.old) result (P.state pool.new) (P.device pool.old) (P.device pool.new) }
     ensures over { (n : ℕ) (image : Image) (m : Content) (c : HasContent n image m) → IsOver c root.now (P.state pool.old)
         → FindsOver c root.now result (P.state pool.new) (λ w. walked_of w ≡ walk m (names_in path.now)) }
-    ensures reached { IfOk result EndsReached }
+    ensures reached { IfOk result EndsLookedUp }
 {
     if !has_names(path) {
         return Ok(Walked::NoName);
@@ -103,7 +103,7 @@ fn step<P: Pool>(
     ensures fetched { Fetched root.now (P.state pool.old) result (P.state pool.new) (P.device pool.old) (P.device pool.new) }
     ensures over { (n : ℕ) (image : Image) (m : Content) (c : HasContent n image m) → name_fault name.now ≡ None → IsOver c root.now (P.state pool.old)
         → FindsOver c root.now result (P.state pool.new) (IsStep m dir.0 name.now) }
-    ensures reached { IfOk result (λ r. IfSome r (λ o. IsReached o.object)) }
+    ensures reached { IfOk result (λ r. IfSome r (λ o. IsLookedUp o.object)) }
 {
     let Some(object) = target_of(alloc, pool, root, dir, name)? else {
         return Ok(None);

@@ -1,15 +1,21 @@
-use Rattle.std.proofs.Common.{sym, subst, ◌∙◌, arith}
+use Rattle.std.proofs.Common.{ℕ, List, refl, sym, subst, ◌∙◌, arith}
+use Rattle.r4_base.specs.Chain.{Settles, chain_pairs}
+use Rattle.r4_base.specs.Image.{put_pairs}
+use Rattle.r4_base.specs.Value.{Content}
+use Rattle.r4_base.specs.Volume.{HasVolume}
+use Rattle.r4_outside.specs.Device.{TellsReads}
+use Rattle.r4_list.specs.Listing.{IsListing}
 use Rattle.r4_outside.proofs.Moments.{goes_both}
-use Rattle.r4_list.specs.Lists.{Answers, IsListFault, StaysAsItWas}
+use Rattle.r4_list.specs.Lists.{Answers, IsListFault, PrintsText, StaysAsItWas}
 use Rattle.r4_list.proofs.Stages.{prints_same}
-use Rattle.r4_list.proofs.Listings.{image_opened, lent_answers, lent_stays, log_answer, open_answer, stays, stays_both, unsome}
+use Rattle.r4_list.proofs.Listings.{image_opened, lent_answers, lent_stays, log_answer, log_text, open_answer, open_text, same_super, settled_by, stays, stays_both, unsome}
 use Rattle.r4_list.proofs.listing.list.Goals as goal
 
 pub returns-in-Err-clause-answers : goal.returns-in-Err-clause-answers
 returns-in-Err-clause-answers g c =
     let d = g.D.Device.state in
     let k = g.K.Sink.state c.args.out.now in
-    record { printed = prints_same _; ok = tt; err = subst (λ x. IsListFault (d c.args.dev.now) k x (d c.read_log.new.dev) k) (sym c.log_fault.ensures) (log_answer _ _ _ c.in-Err.fault c.in-Err.ensures.reads) }
+    record { printed = prints_same _; text = λ m text told v listing. log_text (d c.args.dev.now) _ k c.in-Err.fault _ m text c.log_fault.ensures c.in-Err.ensures.reads told v; ok = tt; err = subst (λ x. IsListFault (d c.args.dev.now) k x (d c.read_log.new.dev) k) (sym c.log_fault.ensures) (log_answer _ _ _ c.in-Err.fault c.in-Err.ensures.reads) }
 
 pub returns-in-Err-open_image-clause-answers : goal.returns-in-Err-open_image-clause-answers
 returns-in-Err-open_image-clause-answers g c =
@@ -20,6 +26,7 @@ returns-in-Err-open_image-clause-answers g c =
     let at = d c.open_image.new.dev in
     record {
       printed = prints_same _;
+      text = λ m text told v listing. open_text first _ _ (goes_both _ _ _ read.idles.goes c.blocks-2.ensures.goes) (c.blocks-2.ensures.seen ∙ read.idles.seen) read.reads.0 read.reads.1 at k _ _ m text c.open_fault.ensures c.in-Err-open_image.ensures.opens told v;
       ok = tt;
       err = subst (λ x. IsListFault first k x at k) (sym c.open_fault.ensures)
           (open_answer first _ _ (goes_both _ _ _ read.idles.goes c.blocks-2.ensures.goes) (c.blocks-2.ensures.seen ∙ read.idles.seen) read.reads.0 read.reads.1 at k _ c.in-Err-open_image.ensures.opens);
@@ -47,5 +54,15 @@ returns-clause-answers g c =
     let two = c.blocks-2.ensures.goes.faults in
     let three = c.in-Ok-open_image.ensures.device.goes.faults in
     let ended = c.print_settled-printed in
-    subst (λ x. Answers first (k c.args.out.now) ended.result.printed (d x) (k ended.new.out)) (sym (c.dev-1.given.1 (sym (unsome ended.ensures.device.goes.lender))))
-    (lent_answers c.print_settled-arg-1.given ended.result.dev.ghost_name first at (d ended.result.dev.now) _ _ _ (omega (arith, one, two, three)) opened ended.ensures.prints ended.ensures.cause)
+    let goes = goes_both _ _ _ read.idles.goes c.blocks-2.ensures.goes in
+    let seen = c.blocks-2.ensures.seen ∙ read.idles.seen in
+    let later = goes_both _ _ _ goes c.in-Ok-open_image.ensures.device.goes in
+    let text : (m : Content) (text : List ℕ) → TellsReads first → HasVolume first.blocks first.seen m → IsListing m c.args.path.now text → PrintsText text (k c.args.out.now) ended.result.printed (k ended.new.out) = λ m text told v listing.
+    let image = put_pairs (chain_pairs v.chain) first.seen in
+    let settles : Settles first.blocks first.seen image = record { chain = v.chain; has = v.log; is = refl } in
+    let before = settled_by first _ _ goes seen read.reads.0 read.reads.1 image told settles in
+    let super = same_super _ _ _ _ _ (sym goes.blocks) v.content.layout.format (c.in-Ok-open_image.ensures.opens (goes.reads.1 told) image before).1 in
+    let by = settled_by first at _ later (c.in-Ok-open_image.ensures.device.idle.seen ∙ seen) read.reads.0 read.reads.1 image told settles in
+    ended.ensures.text first.blocks image m v.content (later.reads.1 told) (sym later.blocks) by super text listing in
+    subst (λ x. Answers c.args.path.now first (k c.args.out.now) ended.result.printed (d x) (k ended.new.out)) (sym (c.dev-1.given.1 (sym (unsome ended.ensures.device.goes.lender))))
+    (lent_answers c.args.path.now c.print_settled-arg-1.given ended.result.dev.ghost_name first at (d ended.result.dev.now) _ _ _ (omega (arith, one, two, three)) opened ended.ensures.prints text ended.ensures.cause)

@@ -2,7 +2,7 @@ use Rattle.std.proofs.Common.{arith, sym, subst, ◌∙◌}
 use Rattle.std.specs.Prelude.{IfSome, slice_range}
 use Rattle.r4_base.specs.Volume.{root_object}
 use Rattle.r4_content.specs.Walk.{names_in}
-use Rattle.r4_list.specs.OverWalks.{IsReached, IsStep}
+use Rattle.r4_list.specs.OverWalks.{IsLookedUp, IsStep}
 use Rattle.r4_list.specs.declared.walk.Object.{Object}
 use Rattle.r4_list.proofs.Lookups.{handed_on}
 use Rattle.r4_list.proofs.OverAnswers.{over_handed}
@@ -24,7 +24,7 @@ returns-in_default-clause-over g c = λ n image m has over.
     record { over = f.over; found = walk_no_root m (names_in c.args.path.now) (sym c.has_names.ensures ∙ c.if-not-has_names.false) (sym c.in_default.is ∙ f.found); undamaged = tt }
 
 pub loop-from-init : goal.loop-from-init
-loop-from-init g c = begun c.args.root.now c.args.path.now _ _ _ _ c.in-Some.attr c.requires.path (moved _ _ _ _ _ _ c.attr_of.ensures.fetched) (subst (λ a. IfSome a (λ x. IsReached root_object)) c.in-Some.is c.in_ok-attr.ensures.reached) (sym c.has_names.ensures ∙ c.if-not-has_names.false)
+loop-from-init g c = begun c.args.root.now c.args.path.now _ _ _ _ c.in-Some.attr c.requires.path (moved _ _ _ _ _ _ c.attr_of.ensures.fetched) (subst (λ a. IfSome a (λ x. IsLookedUp root_object)) c.in-Some.is c.in_ok-attr.ensures.reached) (sym c.has_names.ensures ∙ c.if-not-has_names.false)
     (λ n image m has over. let f = c.in_ok-attr.ensures.over n image m has over in (f.over, sym c.in-Some.is ∙ f.found))
 
 pub returns-then-not-is_directory-clause-over : goal.returns-then-not-is_directory-clause-over
@@ -66,7 +66,7 @@ loop-from-preserved g c =
     let from = c.loop-from.from in
     let end = c.piece_end-end.result in
     let legal = piece_legal path from end c.loop-from-test.true c.piece_end-end.ensures.piece c.loop-from.invariant.legal in
-    gone_on c.args.root.now path _ _ _ _ _ _ from end c.loop-from-test.true c.piece_end-end.ensures.piece c.loop-from.object c.loop-from.attr c.loop-from.invariant (sym c.is_directory.ensures ∙ c.if-not-is_directory.false) (moved _ _ _ _ _ _ c.step.ensures.fetched) c.in-Some-2.next (subst (λ r. IfSome r (λ (o : Object). IsReached o.object)) c.in-Some-2.is c.in_ok-next.ensures.reached)
+    gone_on c.args.root.now path _ _ _ _ _ _ from end c.loop-from-test.true c.piece_end-end.ensures.piece c.loop-from.object c.loop-from.attr c.loop-from.invariant (sym c.is_directory.ensures ∙ c.if-not-is_directory.false) (moved _ _ _ _ _ _ c.step.ensures.fetched) c.in-Some-2.next (subst (λ r. IfSome r (λ (o : Object). IsLookedUp o.object)) c.in-Some-2.is c.in_ok-next.ensures.reached)
     (λ n image m has over. let f = c.in_ok-next.ensures.over n image m has (no_fault _ legal) over in (f.over, subst (IsStep m c.loop-from.object.oid.0 (slice_range path from end)) c.in-Some-2.is f.found))
 
 pub returns-clause-over : goal.returns-clause-over
