@@ -1,5 +1,5 @@
 -- An image: a list of blocks, each a list of 4096 bytes.
-use Rattle.std.specs.Prelude.{◌≡◌, ℕ, ◌*◌, ◌<◌, ◌≤◌, List, [], ◌∷◌, length, take, drop, slice_index_or, slice_set}
+use Rattle.std.specs.Prelude.{◌≡◌, ℕ, ◌*◌, ◌<◌, ◌≤◌, List, [], ◌∷◌, length, take, drop, slice_index_or, slice_set, Contains}
 
 abbrev pub Image : Type 0
 Image = List (List ℕ)
@@ -32,3 +32,8 @@ put_pairs (p ∷ ps) image = put_pairs ps (slice_set image p.0 (block_at image p
 pub record AgreesOutside (W : ℕ → Type 0) (base image : Image) : Type 0 where
   pub blocks : length image ≡ length base
   pub others : (b : ℕ) → (W b → ⊥) → block_at image b ≡ block_at base b
+
+-- no block twice
+abbrev pub AreDifferent : List ℕ → Type 0
+AreDifferent [] = Unit {0}
+AreDifferent (b ∷ bs) = (Contains bs b → ⊥) × AreDifferent bs

@@ -1,6 +1,6 @@
 //! The keys of items (docs/layout.md, "Keys").
 
-ghost use Rattle.std.specs.Prelude.{◌≡◌, ◌↔◌, ◌<◌, ◌^◌, IsTrue, nat_lt};
+ghost use Rattle.std.specs.Prelude.{◌≡◌, ◌==◌, ◌↔◌, ◌<◌, ◌^◌, IsTrue, nat_lt};
 ghost use Rattle.std.specs.Ordering.{nat_cmp, is_lt};
 ghost use Rattle.std.specs.Cmp.Lexicographic.{slice_cmp};
 ghost use Rattle.r4_base.specs.Key.{IsKey, IsBelow, rank, stat_key, body_key};
@@ -41,6 +41,14 @@ impl Key {
         ensures { result ≡ nat_lt (rank self) (rank other) }
     {
         self.cmp(&other).is_lt()
+    }
+
+    /// Whether this is another key (docs/layout.md, "Keys").
+    pub fn is_same(self, other: Key) -> bool
+        ensures ranks { result ≡ (rank self == rank other) }
+        ensures keys { IsTrue result → self ≡ other }
+    {
+        self == other
     }
 }
 

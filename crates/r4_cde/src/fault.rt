@@ -6,7 +6,6 @@ ghost use Rattle.r4_base.specs.Dir.{dir_fault, entries_fault, entry_count, entry
 
 use crate::fields::{COUNT, TARGET, edge_in, header_of, key_in, offset_in};
 use crate::name::{is_key_of, is_long};
-use crate::order::is_same;
 use crate::short::ShortName;
 use r4_base::{DirFault, Key, get16};
 
@@ -82,7 +81,7 @@ fn is_in_order(item: &Key, body: &[u8], i: u16) -> bool
 {
     let key = key_in(item, body, i);
     if i == 0 {
-        is_same(key, *item)
+        key.is_same(*item)
     } else {
         key_in(item, body, i - 1).is_below(key)
     }

@@ -8,7 +8,6 @@ mod laws;
 mod lent;
 mod name;
 mod offsets;
-mod order;
 mod part;
 mod put;
 mod short;

@@ -7,7 +7,6 @@ ghost use Rattle.r4_base.specs.Dir.{dir_fault, entry_count, entry_offset};
 use crate::fault::fault_of;
 use crate::fields::{key_in, place_of, target_in};
 use crate::lent::NameRef;
-use crate::order::is_same;
 use r4_base::{DirFault, Key, Target, get16};
 
 /// A directory item that has no fault, whose entries are read from the body that it lends, when they are asked for. It has
@@ -106,6 +105,8 @@ impl<'a> DirView<'a> {
         if low == self.count {
             return None;
         }
-        is_same(key_in(&self.item, self.body, low), *key).then_some(low)
+        key_in(&self.item, self.body, low)
+            .is_same(*key)
+            .then_some(low)
     }
 }

@@ -15,6 +15,8 @@ use Rattle.r4_list.proofs.Stages.{prints_same}
 use Rattle.r4_list.specs.Listing.{IsListing}
 use Rattle.r4_list.specs.declared.fault.ListFault.TheVariants.{Device, Size, Sink as SinkFault, Memory as NoMemory}
 use Rattle.std.specs.Borrow.{GName}
+use Rattle.r4_outside.proofs.Lent.{goes_lent}
+use Rattle.r4_outside.proofs.Moments.{goes_both}
 use Rattle.r4_outside.specs.Device.{State, Goes, Rose, TellsReads, lent_to}
 use Rattle.r4_search.specs.Pool.{LeavesDevice}
 use Rattle.r4_outside.specs.Sink.{SinkState}
@@ -26,7 +28,7 @@ use Rattle.r4_replay.specs.declared.log.Log.{Log}
 use Rattle.r4_cell.specs.declared.change.Root.{Root}
 use Rattle.r4_search.specs.Pool.{PoolState}
 use Rattle.r4_search.specs.declared.pool.FetchFault.TheVariants.{Read, Damaged, Memory as NoRoom}
-use Rattle.r4_list.specs.Lists.{Answers, IsListFault, IsOpened, IsPrintCause, IsStopFault, IsUnrefused, PrintsText, StaysAsItWas, log_fault_of, open_fault_of, stop_fault_of}
+use Rattle.r4_list.specs.Lists.{Answers, IsListFault, IsOpened, IsPrintCause, IsStopFault, IsUnrefused, PrintsText, log_fault_of, open_fault_of, stop_fault_of}
 use Rattle.r4_list.specs.Opening.{IsSettledBy, Opens, bitmaps_misfit, layout_misfit, misfit}
 use Rattle.r4_list.specs.Printing.{IsCause, Prints}
 use Rattle.r4_list.specs.declared.fault.ListFault.{ListFault}
@@ -103,31 +105,13 @@ module _ (first d : State) (log : Log) (goes : Goes first d) (seen : d.seen ≡ 
       absurd (no_misfit _ _ (sym refused ∙ layout_none v.content))
   open_text now k NoBuffer x m text is opens told v = text_without text k x NoMemory is tt (λ f h. cc)
 
--- nothing was written
-pub stays : (old new : State) → Goes old new → new.seen ≡ old.seen → new.clock ≡ old.clock → StaysAsItWas old new
-stays old new g seen clock = record { blocks = g.blocks; seen = seen; clock = clock; faults = g.faults; stop = g.stop; crashes = g.crashes; earlier = g.earlier }
-
-pub stays_both : (a b c : State) → StaysAsItWas a b → StaysAsItWas b c → StaysAsItWas a c
-stays_both a b c f g = record {
-  blocks = g.blocks ∙ f.blocks;
-  seen = g.seen ∙ f.seen;
-  clock = g.clock ∙ f.clock;
-  faults = let low = f.faults in let high = g.faults in omega (arith, low, high);
-  stop = g.stop ∙ f.stop;
-  crashes = (λ t. f.crashes.0 (g.crashes.0 t), λ t. g.crashes.1 (f.crashes.1 t));
-  earlier = λ m k s x le.
-      let first = f.earlier m k s x le in
-      let same = f.clock in
-      let then_ = g.earlier m k s x (omega (arith, le, same)) in
-      (λ h. first.0 (then_.0 h), λ h. then_.1 (first.1 h));
-}
+-- Nothing was written.
+pub stays_both : (a b c : State) → LeavesDevice a b → LeavesDevice b c → LeavesDevice a c
+stays_both a b c f g = record { goes = goes_both _ _ _ f.goes g.goes; idle = record { seen = g.idle.seen ∙ f.idle.seen; clock = g.idle.clock ∙ f.idle.clock } }
 
 -- what was lent stays as it was
-pub lent_stays : (n n' : GName) (old new : State) → LeavesDevice (lent_to n old) (lent_to n' new) → StaysAsItWas old new
-lent_stays n n' old new l = record { blocks = l.goes.blocks; seen = l.idle.seen; clock = l.idle.clock; faults = l.goes.faults; stop = l.goes.stop; crashes = l.goes.crashes; earlier = l.goes.earlier }
-
-pub unsome : {n m : GName} → Some n ≡ Some m → n ≡ m
-unsome {n} {m} same = cc (same)
+pub lent_stays : (n n' : GName) (old new : State) → LeavesDevice (lent_to n old) (lent_to n' new) → LeavesDevice old new
+lent_stays n n' old new l = record { goes = goes_lent n n' old new l.goes; idle = record { seen = l.idle.seen; clock = l.idle.clock } }
 
 -- why printing over a pool stopped, said of its device
 pub print_cause : (root : Root) (old new : PoolState) (d now : State) (k l : SinkState) (e : Stop) → old.faults ≡ d.faults → new.faults ≡ now.faults → IsCause root old k e new l → IsPrintCause d k e now l

@@ -5,7 +5,7 @@ use Rattle.r4_base.specs.Image.{Image, IsLawful}
 use Rattle.r4_base.specs.Refusal.{IsRefused}
 use Rattle.r4_base.specs.Value.{Content}
 use Rattle.r4_base.specs.Volume.{HasVolume}
-use Rattle.r4_outside.specs.Device.{State, TellsCrashes, TellsReads, Rose}
+use Rattle.r4_outside.specs.Device.{State, TellsReads, Rose}
 use Rattle.r4_outside.specs.Sink.{SinkState, AppendsPart}
 use Rattle.r4_cell.specs.declared.refused.ImageFault.TheVariants.{Layout, Cell}
 use Rattle.r4_search.specs.declared.pool.FetchFault.TheVariants.{Read, Damaged, Memory as NoRoom}
@@ -20,16 +20,6 @@ use Rattle.r4_list.specs.declared.opening.Unopened.{Unopened}
 use Rattle.r4_list.specs.declared.opening.Unopened.TheVariants.{Failed, Layout as Misfit, Memory as NoBuffer}
 use Rattle.r4_list.specs.declared.fault.Stop.{Stop}
 use Rattle.r4_list.specs.declared.fault.Stop.TheVariants.{Fetch, Sink as SinkFailed, Memory as NoMemory}
-
--- Nothing was written to a device: what it tells is as before, but for its count of faults. To whom it goes back is not said.
-pub record StaysAsItWas (old new : State) : Type 0 where
-  pub blocks : new.blocks ≡ old.blocks
-  pub seen : new.seen ≡ old.seen
-  pub clock : new.clock ≡ old.clock
-  pub faults : old.faults ≤ new.faults
-  pub stop : new.stop ≡ old.stop
-  pub crashes : TellsCrashes new ↔ TellsCrashes old
-  pub earlier : (m b s : ℕ) (x : List ℕ) → m ≤ old.clock → new.may_hold m b s x ↔ old.may_hold m b s x
 
 -- why the log was not read
 abbrev pub log_fault_of : ReplayFault → ListFault

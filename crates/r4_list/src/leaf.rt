@@ -66,7 +66,7 @@ pub fn attr_in(leaf: &Cell, key: Key) -> Option<Attr>
     if item.plugin != STAT_DATA {
         return None;
     }
-    if !is_same(item.key, key) {
+    if !item.key.is_same(key) {
         return None;
     }
     match read_stat(item.body) {
@@ -93,13 +93,6 @@ pub fn target_in(leaf: &Cell, key: Key, name: &[u8]) -> Option<Target>
         return None;
     }
     Some(entry.target)
-}
-
-// Whether two keys are the same.
-fn is_same(left: Key, right: Key) -> bool
-    ensures { result ≡ (rank left == rank right) }
-{
-    left == right
 }
 
 // Whether two names are the same.

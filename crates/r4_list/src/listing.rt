@@ -10,7 +10,7 @@ ghost use Rattle.r4_outside.specs.Sink.{Appends};
 ghost use Rattle.r4_base.specs.Layout.{IsLawfulSuper};
 ghost use Rattle.r4_replay.specs.Homes.{StaysWithin};
 ghost use Rattle.r4_search.specs.Pool.{IsKnown, LeavesDevice};
-ghost use Rattle.r4_list.specs.Lists.{Answers, IsStopFault, PrintsText, StaysAsItWas, log_fault_of, open_fault_of, stop_fault_of};
+ghost use Rattle.r4_list.specs.Lists.{Answers, IsStopFault, PrintsText, log_fault_of, open_fault_of, stop_fault_of};
 ghost use Rattle.r4_list.specs.OverWalks.{IsLookedUp};
 ghost use Rattle.r4_list.specs.Listing.{IsListing, file_text, lines_of, shown_path};
 ghost use Rattle.r4_list.specs.Opening.{IsSettledBy};
@@ -35,8 +35,14 @@ use r4_search::{FetchFault, Pool};
 use std::alloc::Global;
 
 /// Prints what is at a path of a device's settled volume: the object there, and where it is a directory all that is below
-/// it, or a file its bytes; or in one word why there is nothing. The path begins with a slash. Nothing is written to the
-/// device (docs/program.md, "Listing").
+/// it, or a file its bytes; or in one word why there is nothing. Nothing is written to the device (docs/program.md,
+/// "Listing").
+///
+/// Condition: the path is not empty. Its first byte is taken for the slash.
+///
+/// Answers `Size` only outside 64 to 1,048,576 blocks; `Log`, where the log is refused; `Image`, where the superblocks or
+/// the bitmaps of the settled image are refused, or a node that is read; `Device` and `Sink`, only where their count rose;
+/// `Memory`, where a growth was refused.
 pub fn list<D: Device, K: Sink>(
     alloc: Global,
     dev: &mut D,
@@ -44,7 +50,7 @@ pub fn list<D: Device, K: Sink>(
     out: &mut K,
 ) -> Result<(), ListFault>
     requires { 1 ≤ length path.now }
-    ensures device { StaysAsItWas (D.state dev.old) (D.state dev.new) }
+    ensures device { LeavesDevice (D.state dev.old) (D.state dev.new) }
     ensures answers { Answers path.now (D.state dev.old) (K.state out.old) result (D.state dev.new) (K.state out.new) }
 {
     let log = match read_log(alloc, dev) {

@@ -125,17 +125,10 @@ fn fault_of_place(cell: &Cell, level: u8, lo: Key, hi: Key) -> Option<CellFault>
     if cell.level() != level {
         return Some(CellFault::Level);
     }
-    if !is_same(cell.lo(), lo) || !is_same(cell.hi(), hi) {
+    if !cell.lo().is_same(lo) || !cell.hi().is_same(hi) {
         return Some(CellFault::Range { item: 0 });
     }
     None
-}
-
-// Whether two keys are one.
-fn is_same(left: Key, right: Key) -> bool
-    ensures { result ≡ (rank left == rank right) }
-{
-    !left.is_below(right) && !right.is_below(left)
 }
 
 // Keeps a cell that was read, where it is a node.

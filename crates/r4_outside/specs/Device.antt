@@ -1,5 +1,5 @@
 -- What a device tells, and what its calls do to that.
-use Rattle.std.specs.Prelude.{◌≡◌, ◌≢◌, ◌↔◌, ◌⊎◌, ℕ, ◌+◌, ◌-◌, ◌^◌, ◌<◌, ◌≤◌, min, List, length, slice_set, Option, Some, Result, IfOk, OnOk, OnErr, IsErr}
+use Rattle.std.specs.Prelude.{◌≡◌, ◌≢◌, ◌↔◌, ◌⊎◌, ℕ, ◌+◌, ◌-◌, ◌^◌, ◌<◌, ◌≤◌, min, List, ◌∷◌, length, slice_set, Option, Some, Result, IfOk, OnOk, OnErr, IsErr}
 use Rattle.std.specs.Borrow.{GName}
 use Rattle.r4_base.specs.Image.{Image, IsBlock, IsImage, block_at, sector}
 
@@ -18,14 +18,14 @@ pub record State : Type 1 where
   -- the number of writes and syncs so far, and that of failed calls
   pub clock : ℕ
   pub faults : ℕ
-  -- to whom the device goes back, where it is borrowed
-  pub lender : Option GName
+  -- to whom the device goes back, where it is borrowed: the latest borrow first
+  pub lender : List GName
   -- the moment from which on its calls may fail by its own will, where there is one
   pub stop : Option ℕ
 
 -- what a borrow of a device tells
 abbrev pub lent_to : GName → State → State
-lent_to name d = record d { lender = Some name }
+lent_to name d = record d { lender = name ∷ d.lender }
 
 -- The device tells what reading gives.
 abbrev pub TellsReads : State → Type 0

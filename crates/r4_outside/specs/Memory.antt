@@ -19,7 +19,7 @@ state_of image keeps start calls clock faults = record {
   may_hold = λ m b s x. IsTrue keeps × may start calls m b s x;
   clock = clock;
   faults = faults;
-  lender = None;
+  lender = [];
   stop = None;
 }
 

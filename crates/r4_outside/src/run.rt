@@ -19,8 +19,8 @@ pub trait Run: Copy + Send {
     /// The text of the scripts.
     ghost scripts: { Option (List ℕ) };
 
-    /// To whom the device goes back: to nobody, where it is not borrowed.
-    ghost lender: { Option (Option GName) };
+    /// To whom the device goes back, the latest borrow first: to nobody, where it is not borrowed.
+    ghost lender: { Option (List GName) };
 }
 
 /// Names nothing.

@@ -15,7 +15,8 @@ use Rattle.r4_space.proofs.ClaimLaws.{second}
 use Rattle.r4_place.specs.declared.placed.How.{How}
 use Rattle.r4_place.specs.declared.placed.How.TheVariants.{Fresh, Relocate, Overwrite}
 use Rattle.r4_place.specs.declared.placed.Placed.{Placed}
-use Rattle.r4_place.specs.Chosen.{behind, placed_in, IsChosen, AreChosen, behind_all, placed_all, block_of, fresh_blocks, AreDifferent}
+use Rattle.r4_base.specs.Image.{AreDifferent}
+use Rattle.r4_place.specs.Chosen.{behind, placed_in, IsChosen, AreChosen, behind_all, placed_all, block_of, fresh_blocks}
 
 -- ---- a full space has no unused block
 

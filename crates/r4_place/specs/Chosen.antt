@@ -52,8 +52,3 @@ block_of Overwrite = []
 abbrev pub fresh_blocks : List Placed → List ℕ
 fresh_blocks [] = []
 fresh_blocks (p ∷ ps) = block_of p.how ++ fresh_blocks ps
-
--- no block twice
-abbrev pub AreDifferent : List ℕ → Type 0
-AreDifferent [] = Unit {0}
-AreDifferent (b ∷ bs) = (Contains bs b → ⊥) × AreDifferent bs

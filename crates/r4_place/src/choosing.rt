@@ -2,9 +2,10 @@
 
 ghost use Rattle.std.specs.Prelude.{◌≡◌, ◌+◌, ◌^◌, ◌<◌, ◌≤◌, ℕ, length, map, All, true, false, Contains, slice_index_or, IfOk, OnErr};
 ghost use Rattle.std.specs.Arc.{arc_value};
+ghost use Rattle.r4_base.specs.Image.{AreDifferent};
 ghost use Rattle.r4_space.specs.Space.{is_taken, unused_count, with_placed};
 ghost use Rattle.r4_space.specs.Words.{IsNextClear};
-ghost use Rattle.r4_place.specs.Chosen.{behind, placed_in, IsChosen, AreChosen, AreDifferent, fresh_blocks, placed_all};
+ghost use Rattle.r4_place.specs.Chosen.{behind, placed_in, IsChosen, AreChosen, fresh_blocks, placed_all};
 
 use crate::placed::{How, Placed};
 use r4_base::{AtomNo, BlockNo, Memory};

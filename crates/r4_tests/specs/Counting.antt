@@ -9,6 +9,6 @@ counting_state blocks clock faults = record {
   may_hold = λ m b s x. ⊥;
   clock = clock;
   faults = faults;
-  lender = None;
+  lender = [];
   stop = None;
 }

@@ -12,7 +12,7 @@ file_state blocks clock faults = record {
   may_hold = λ m b s x. ⊥;
   clock = clock;
   faults = faults;
-  lender = None;
+  lender = [];
   stop = None;
 }
 

@@ -8,7 +8,7 @@ use Rattle.std.proofs.lemmas.List.{length-set, length-map, length-append, drop-d
 use Rattle.std.proofs.lemmas.List.FromFn.{length-map-range_with_len, get_or-map-range_with_len, take-map-range_with_len}
 use Rattle.std.proofs.lemmas.List.Elements.{All-nil, All-cons, All-take, All-drop, All-head, All-tail, Contains-append_left, Contains-append_right, Contains-append_cases, Contains-get_or}
 use Rattle.std.proofs.lemmas.Simd.{map-map}
-use Rattle.r4_base.specs.Image.{Image, IsImage, block_at, put_pairs}
+use Rattle.r4_base.specs.Image.{AreDifferent, Image, IsImage, block_at, put_pairs}
 use Rattle.r4_base.specs.Log.{head_of, record_of, record_block}
 use Rattle.r4_base.specs.Chain.{Txn, InRange, IsOriginalNumber, PairInRange, HasRecords, HasTxn, chain_pairs, wandered, log_blocks, kept_blocks, home, home_from}
 use Rattle.r4_base.proofs.Frame.{length-put_pairs, past, settled_at, home_cases, log_in_range, chain_in_range, second_in_range, first_in_range, original_apart}
@@ -18,7 +18,7 @@ use Rattle.r4_wander.specs.Parts.{IsCommit, HasHomes, With, MayLeave}
 use Rattle.r4_wander.specs.Seen.{Copy}
 use Rattle.r4_wander.specs.declared.plan.LogPlan.{LogPlan}
 use Rattle.r4_wander.specs.LogPlan.{pairs, originals_of, placed_writes, copies, news, number_after, head_says, record_says, record_write, record_writes, head_write, header_bytes, scratch, first, parts_of, txn_of}
-use Rattle.r4_wander.specs.Safe.{IsEncoded, AreDifferent, IsSafe, with_atom, is_scratch, WithAtom, ByPart}
+use Rattle.r4_wander.specs.Safe.{IsEncoded, IsSafe, with_atom, is_scratch, WithAtom, ByPart}
 use Rattle.r4_wander.proofs.Members.{any_cases, any_here, any_later, no_any, from_map, in_map, original_cases, original_new, kept_cases}
 use Rattle.r4_wander.proofs.Order.{put_at, image_put, few_blocks}
 use Rattle.r4_wander.proofs.Settling.{length-put_writes, put_writes_other, log2, long2, image2}

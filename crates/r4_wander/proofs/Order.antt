@@ -9,11 +9,10 @@ use Rattle.std.proofs.lemmas.List.{length-set, ext_get_or}
 use Rattle.std.proofs.lemmas.List.Elements.{All-head, All-tail}
 use Rattle.std.proofs.lemmas.List.Sorted.{Contains-permutation, IsPermutation-sym}
 use Rattle.std.proofs.lemmas.Map.Steps.{length-le_from_distinct_below}
-use Rattle.r4_base.specs.Image.{Image, IsBlock, IsImage, block_at}
+use Rattle.r4_base.specs.Image.{AreDifferent, Image, IsBlock, IsImage, block_at}
 use Rattle.r4_base.proofs.Members.{member_or_not, member_here, member_later}
 use Rattle.r4_wander.specs.Torn.{Write, put_writes, targets, IsTarget, IsTornBy}
 use Rattle.r4_wander.specs.Parts.{Parts, part, base_of, IsOrderOf}
-use Rattle.r4_wander.specs.Safe.{AreDifferent}
 use Rattle.r4_wander.proofs.Members.{any_cases, any_here, any_later, no_any, from_map, in_map}
 use Rattle.r4_wander.proofs.Settling.{length-put_writes, put_writes_other}
 

@@ -5,7 +5,7 @@ use Rattle.std.proofs.lemmas.Bool.{cases_lt}
 use Rattle.std.proofs.lemmas.List.{take_more, take_all, take-append-drop, length-map, get_or_default}
 use Rattle.std.proofs.lemmas.List.Elements.{Contains-get_or, Contains-append_left, Contains-append_right, All-get_or}
 use Rattle.std.proofs.Math.ListN.{get_or-map}
-use Rattle.r4_base.specs.Image.{Image, IsImage, block_at, sector}
+use Rattle.r4_base.specs.Image.{AreDifferent, Image, IsImage, block_at, sector}
 use Rattle.r4_base.specs.Chain.{Txn}
 use Rattle.r4_outside.specs.Device.{State, Sectors, Goes, Writes, Syncs, HasSectors, LeavesOnly, TellsCrashes, IsQuiet, Spares}
 use Rattle.r4_outside.proofs.Moments.{Run, run_start, run_write, run_sync, spares_same, spares_write, spares_sync, goes_same, left_before}
@@ -13,7 +13,7 @@ use Rattle.r4_wander.specs.Torn.{Write, put_writes, targets, IsTarget, IsWritten
 use Rattle.r4_wander.specs.Parts.{Parts, part, base_of, IsOrderOf}
 use Rattle.r4_wander.specs.declared.plan.LogPlan.{LogPlan}
 use Rattle.r4_wander.specs.LogPlan.{news, parts_of, txn_of}
-use Rattle.r4_wander.specs.Safe.{IsSafe, IsEncoded, AreDifferent, ByPart}
+use Rattle.r4_wander.specs.Safe.{IsSafe, IsEncoded, ByPart}
 use Rattle.r4_wander.specs.Progress.{Progress, under_way, write_at, HasMade, FitOn, Stands, Commits}
 use Rattle.r4_wander.proofs.Members.{any_here, no_any}
 use Rattle.r4_wander.proofs.Settling.{settles_by_part}

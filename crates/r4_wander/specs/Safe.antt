@@ -1,6 +1,6 @@
 -- The plans for which a commit is safe, and what a crash then leaves (docs/commit.md, "Safe plans").
 use Rattle.std.specs.Prelude.{◌≡◌, ◌≢◌, ◌⊎◌, ℕ, zero, suc, ◌*◌, ◌<◌, ◌≤◌, List, [], ◌∷◌, length, Contains, All, Some}
-use Rattle.r4_base.specs.Image.{Image, IsImage, IsBlock, put_pairs}
+use Rattle.r4_base.specs.Image.{AreDifferent, Image, IsImage, IsBlock, put_pairs}
 use Rattle.r4_base.specs.Log.{header_of, footer_of, head_of, head_block, record_of, record_block}
 use Rattle.r4_base.specs.Chain.{Txn, InRange, IsOriginalNumber, HasLog, SettlesTo, chain_pairs, originals, kept_blocks, committed, flushed}
 use Rattle.r4_wander.specs.Torn.{put_writes, targets, IsTarget}
@@ -19,11 +19,6 @@ pub record IsEncoded (p : LogPlan) : Type 0 where
   pub homes_whole : All (λ w. IsBlock w.1) (news p)
   pub header_whole : IsBlock (header_bytes p)
   pub footer_whole : IsBlock (footer_bytes p)
-
--- no block twice
-abbrev pub AreDifferent : List ℕ → Type 0
-AreDifferent [] = Unit {0}
-AreDifferent (b ∷ bs) = (Contains bs b → ⊥) × AreDifferent bs
 
 -- A plan whose commit is safe on an image of n blocks with this chain of unflushed transactions.
 pub record IsSafe (n : ℕ) (base : Image) (chain : List Txn) (p : LogPlan) : Type 0 where

@@ -32,12 +32,12 @@ returns-then-not-is_same-clause-none c =
     no_stat c.args.leaf.now c.node-node.ensures.whole c.requires c.node-node.ensures.stands (rank c.args.key) (i + 1) up (λ j it e at plugin same.
     let one = same_item _ i j (item_shown c.in_ok-item.item) it is at e in
     let k : rank c.in_ok-item.item.key ≡ rank c.args.key = ap (λ (x : Item). rank x.key) one ∙ same in
-    absurd (true≢false (sym (eq-eqb _ _ k) ∙ (sym c.is_same.ensures ∙ c.if-not-is_same.true))))
+    absurd (true≢false (sym (eq-eqb _ _ k) ∙ (sym c.is_same.ensures.ranks ∙ c.if-not-is_same.true))))
 
 pub returns-in-Ok-clause-some : goal.returns-in-Ok-clause-some
 returns-in-Ok-clause-some c =
     let (i, up, is) = subst (λ (items : List Item). (i : ℕ) × AreUpTo items (rank c.args.key) (i + 1) × (slice_get items i ≡ Some (item_shown c.in_ok-item.item))) c.node-node.ensures.items c.in_ok-item.ensures.some in
-    let same = eqb-true (rank c.in_ok-item.item.key) (rank c.args.key) (sym c.is_same.ensures ∙ c.if-not-is_same.false) in
+    let same = eqb-true (rank c.in_ok-item.item.key) (rank c.args.key) (sym c.is_same.ensures.ranks ∙ c.if-not-is_same.false) in
     stat_read_some c.args.leaf.now c.node-node.ensures.whole c.requires c.node-node.ensures.stands (rank c.args.key) i (item_shown c.in_ok-item.item) c.read_stat.result is c.if-item-ne-STAT_DATA.false same c.read_stat.ensures.value c.in-Ok.attr c.in-Ok.is
 
 pub returns-in-Err-clause-none : goal.returns-in-Err-clause-none

@@ -5,10 +5,12 @@ use Rattle.r4_base.specs.Value.{Content}
 use Rattle.r4_base.specs.Volume.{HasVolume}
 use Rattle.r4_outside.specs.Device.{TellsReads}
 use Rattle.r4_list.specs.Listing.{IsListing}
+use Rattle.r4_outside.proofs.Lent.{lent_name}
 use Rattle.r4_outside.proofs.Moments.{goes_both}
-use Rattle.r4_list.specs.Lists.{Answers, IsListFault, PrintsText, StaysAsItWas}
+use Rattle.r4_search.specs.Pool.{LeavesDevice}
+use Rattle.r4_list.specs.Lists.{Answers, IsListFault, PrintsText}
 use Rattle.r4_list.proofs.Stages.{prints_same}
-use Rattle.r4_list.proofs.Listings.{image_opened, lent_answers, lent_stays, log_answer, log_text, open_answer, open_text, same_super, settled_by, stays, stays_both, unsome}
+use Rattle.r4_list.proofs.Listings.{image_opened, lent_answers, lent_stays, log_answer, log_text, open_answer, open_text, same_super, settled_by, stays_both}
 use Rattle.r4_list.proofs.listing.list.Goals as goal
 
 pub returns-in-Err-clause-answers : goal.returns-in-Err-clause-answers
@@ -36,11 +38,11 @@ pub returns-clause-device : goal.returns-clause-device
 returns-clause-device g c =
     let d = g.D.Device.state in
     let read = c.in-Ok.ensures in
-    let opened = c.in-Ok-open_image.ensures.device in
     let first = d c.args.dev.now in
-    let before = stays_both first _ _ (stays _ _ (goes_both _ _ _ read.idles.goes c.blocks-2.ensures.goes) (c.blocks-2.ensures.seen ∙ read.idles.seen) (c.blocks-2.ensures.clock ∙ read.idles.clock)) (stays _ _ opened.goes opened.idle.seen opened.idle.clock) in
+    let counted : LeavesDevice first (d c.blocks-2.new.self) = record { goes = goes_both _ _ _ read.idles.goes c.blocks-2.ensures.goes; idle = record { seen = c.blocks-2.ensures.seen ∙ read.idles.seen; clock = c.blocks-2.ensures.clock ∙ read.idles.clock } } in
+    let before = stays_both first _ _ counted c.in-Ok-open_image.ensures.device in
     let printed = lent_stays _ c.print_settled-printed.result.dev.ghost_name _ (d c.print_settled-printed.result.dev.now) c.print_settled-printed.ensures.device in
-    subst (λ x. StaysAsItWas first (d x)) (sym (c.dev-1.given.1 (sym (unsome c.print_settled-printed.ensures.device.goes.lender)))) (stays_both _ _ _ before printed)
+    subst (λ x. LeavesDevice first (d x)) (sym (c.dev-1.given.1 (sym (lent_name c.print_settled-printed.ensures.device.goes.lender)))) (stays_both _ _ _ before printed)
 
 pub returns-clause-answers : goal.returns-clause-answers
 returns-clause-answers g c =
@@ -64,5 +66,5 @@ returns-clause-answers g c =
     let super = same_super _ _ _ _ _ (sym goes.blocks) v.content.layout.format (c.in-Ok-open_image.ensures.opens (goes.reads.1 told) image before).1 in
     let by = settled_by first at _ later (c.in-Ok-open_image.ensures.device.idle.seen ∙ seen) read.reads.0 read.reads.1 image told settles in
     ended.ensures.text first.blocks image m v.content (later.reads.1 told) (sym later.blocks) by super text listing in
-    subst (λ x. Answers c.args.path.now first (k c.args.out.now) ended.result.printed (d x) (k ended.new.out)) (sym (c.dev-1.given.1 (sym (unsome ended.ensures.device.goes.lender))))
+    subst (λ x. Answers c.args.path.now first (k c.args.out.now) ended.result.printed (d x) (k ended.new.out)) (sym (c.dev-1.given.1 (sym (lent_name ended.ensures.device.goes.lender))))
     (lent_answers c.args.path.now c.print_settled-arg-1.given ended.result.dev.ghost_name first at (d ended.result.dev.now) _ _ _ (omega (arith, one, two, three)) opened ended.ensures.prints text ended.ensures.cause)
