@@ -1,2 +1,12 @@
 pub mod Groups
 pub mod Walk
+pub mod Edited
+pub mod Course
+pub mod Objects
+pub mod Ways
+pub mod Bodies
+pub mod Entries
+pub mod Meaning
+pub mod Seen
+pub mod Listed
+pub mod Locality
