@@ -1,2 +1,5 @@
 pub mod EditLaws
 pub mod CourseLaws
+pub mod SeenLaws
+pub mod Commuting
+pub mod Refusals

@@ -10,3 +10,5 @@ pub mod Meaning
 pub mod Seen
 pub mod Listed
 pub mod Locality
+pub mod Held
+pub mod Reading

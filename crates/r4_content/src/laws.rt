@@ -1,9 +1,49 @@
 //! Laws of commands (docs/commands.md). Each is the contract of a function that does nothing.
 
-ghost use Rattle.std.specs.Prelude.{ℕ};
-ghost use Rattle.r4_content.specs.Locality.{IsLocal, commands};
+ghost use Rattle.std.specs.FinMap.{from_sorted};
+ghost use Rattle.std.specs.Prelude.{◌≡◌, ◌≢◌, ℕ, false};
+ghost use Rattle.r4_base.specs.Value.{Content};
+ghost use Rattle.r4_content.specs.Course.{ending};
+ghost use Rattle.r4_content.specs.Edited.{Pairs, changed, edited, is_in};
+ghost use Rattle.r4_content.specs.Listed.{list_after};
+ghost use Rattle.r4_content.specs.Locality.{IsLocal, Meaning, Spares, commands};
+ghost use Rattle.r4_content.specs.Meaning.{after, changes, course, reply};
+ghost use Rattle.r4_content.specs.Reading.{OnlyReads};
+ghost use Rattle.r4_content.specs.Seen.{IsSeen, Rises, of_seen};
+ghost use Rattle.r4_content.specs.declared.command.Command.{Command};
+ghost use Rattle.r4_content.specs.declared.reply.Reply.TheVariants.{Okay};
 
 /// Each command does the same in contents that agree where it reads, and leaves all keys that it does not change.
 pub fn commands_are_local()
     ensures { (limit : ℕ) → IsLocal (commands limit) }
+{}
+
+/// What was seen where a command asks for it suffices: the edits for it, made in the content, give the content after the
+/// command, and the reply is the command's.
+pub fn seen_suffices()
+    ensures content { (limit : ℕ) (c : Command) (s : Pairs) (m : Content) → IsSeen limit c s m → edited (ending (course limit c) (of_seen s)).edits m ≡ after limit c m }
+    ensures reply { (limit : ℕ) (c : Command) (s : Pairs) (m : Content) → IsSeen limit c s m → (ending (course limit c) (of_seen s)).reply ≡ reply limit c m }
+    ensures edits { (limit : ℕ) (c : Command) (s : Pairs) (m : Content) (k : ℕ) → IsSeen limit c s m
+        → is_in (changed (ending (course limit c) (of_seen s)).edits) k ≡ is_in (changes limit c m) k }
+{}
+
+/// A command does to a content what it does to the list of its pairs.
+pub fn lists_are_contents()
+    ensures content { (limit : ℕ) (c : Command) (s : Pairs) → Rises s → after limit c (from_sorted s) ≡ from_sorted (list_after limit c s) }
+    ensures reply { (limit : ℕ) (c : Command) (s : Pairs) → Rises s → reply limit c (from_sorted s) ≡ (ending (course limit c) (of_seen s)).reply }
+    ensures rises { (limit : ℕ) (c : Command) (s : Pairs) → Rises s → Rises (list_after limit c s) }
+{}
+
+/// Commands that change nothing which the other one reads or changes may be done in either order, with the same replies.
+pub fn apart_commands_commute<C, R>()
+    ensures contents { (w : Meaning C R) → IsLocal w → (x y : C) (m : Content) → Spares w y x m → Spares w x y m → w.after x (w.after y m) ≡ w.after y (w.after x m) }
+    ensures replies { (w : Meaning C R) → IsLocal w → (x y : C) (m : Content) → Spares w y x m → w.reply x (w.after y m) ≡ w.reply x m }
+{}
+
+/// Where the reply is not `ok`, the content stays: so it does where a command is refused, and where it is answered bytes,
+/// attributes or names. `read`, `stat`, `names`, `begin`, `end` and `commit` change nothing in any content.
+pub fn refusals_change_nothing()
+    ensures content { (limit : ℕ) (c : Command) (m : Content) → reply limit c m ≢ Okay → after limit c m ≡ m }
+    ensures keys { (limit : ℕ) (c : Command) (m : Content) (k : ℕ) → reply limit c m ≢ Okay → is_in (changes limit c m) k ≡ false }
+    ensures reading { (limit : ℕ) (c : Command) (m : Content) → OnlyReads c → after limit c m ≡ m }
 {}

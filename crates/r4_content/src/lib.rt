@@ -2,14 +2,18 @@
 #![tactic(auto)]
 
 mod command;
+mod edits;
 mod laws;
 mod names;
 mod path;
 mod reply;
+mod seen;
 
 pub use command::Command;
-pub use laws::commands_are_local;
+pub use edits::{ByteRun, Edits, FilledInterval, Interval};
+pub use laws::{apart_commands_commute, commands_are_local, lists_are_contents, refusals_change_nothing, seen_suffices};
 pub use names::Names;
 pub use path::Path;
 pub use r4_base::{Bytes, Name};
 pub use reply::Reply;
+pub use seen::{Seen, SeenPart};
