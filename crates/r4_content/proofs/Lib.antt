@@ -3,3 +3,4 @@ pub mod CourseLaws
 pub mod SeenLaws
 pub mod Commuting
 pub mod Refusals
+pub mod Computed

@@ -12,3 +12,4 @@ pub mod Listed
 pub mod Locality
 pub mod Held
 pub mod Reading
+pub mod Examples
