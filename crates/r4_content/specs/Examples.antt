@@ -1,12 +1,12 @@
 -- Small contents, and commands that are done to them one after another, each with its reply (docs/commands.md, "Examples").
-use Rattle.std.specs.Prelude.{◌≡◌, ℕ, ◌-◌, ◌^◌, List, [], ◌∷◌, codes, map, slice_index}
+use Rattle.std.specs.Prelude.{◌≡◌, ℕ, ◌+◌, ◌-◌, ◌^◌, List, [], ◌∷◌, codes, map, slice_index}
 use Rattle.r4_base.specs.Name.{key_of_name}
 use Rattle.r4_base.specs.Value.{Content, Stat, Entry, Byte}
 use Rattle.r4_base.specs.Volume.{byte_rank, root_object, stat_rank}
 use Rattle.r4_base.specs.declared.items.Attr.{Attr}
 use Rattle.r4_base.specs.declared.items.Target.{Target}
 use Rattle.r4_base.specs.declared.things.Oid.{Oid}
-use Rattle.r4_content.specs.Edited.{Pairs}
+use Rattle.r4_content.specs.Edited.{Intervals, Pairs}
 use Rattle.r4_content.specs.Meaning.{replies}
 use Rattle.r4_content.specs.Objects.{entry_rank, new_directory, new_file, sized}
 use Rattle.r4_content.specs.declared.command.Command.{Command}
@@ -201,3 +201,11 @@ three_bytes =
     ∷ (byte_rank (made f 65536) 1, Byte 50)
     ∷ (byte_rank (made f 65536) 2, Byte 51)
     ∷ []
+
+-- one key as an interval
+abbrev pub at_key_of : ℕ → ℕ × ℕ
+at_key_of k = (k, k + 1)
+
+-- what each walk to the file asks for
+abbrev pub way_to_f : Intervals
+way_to_f = at_key_of (stat_rank root_object) ∷ at_key_of (entry_rank root_object f) ∷ at_key_of (stat_rank (made f 65536)) ∷ []
