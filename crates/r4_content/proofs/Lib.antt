@@ -4,3 +4,4 @@ pub mod SeenLaws
 pub mod Commuting
 pub mod Refusals
 pub mod Computed
+pub mod Found

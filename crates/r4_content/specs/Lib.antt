@@ -13,3 +13,4 @@ pub mod Locality
 pub mod Held
 pub mod Reading
 pub mod Examples
+pub mod Walks

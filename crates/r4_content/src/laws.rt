@@ -1,8 +1,10 @@
 //! Laws of commands (docs/commands.md). Each is the contract of a function that does nothing.
 
 ghost use Rattle.std.specs.FinMap.{from_sorted};
-ghost use Rattle.std.specs.Prelude.{◌≡◌, ◌≢◌, ℕ, false};
+ghost use Rattle.std.specs.Prelude.{◌≡◌, ◌≢◌, ◌↔◌, ℕ, List, false};
 ghost use Rattle.r4_base.specs.Value.{Content};
+ghost use Rattle.r4_base.specs.declared.items.Attr.{Attr};
+ghost use Rattle.r4_base.specs.declared.items.Target.{Target};
 ghost use Rattle.r4_content.specs.Course.{ending};
 ghost use Rattle.r4_content.specs.Edited.{Pairs, changed, edited, is_in};
 ghost use Rattle.r4_content.specs.Listed.{list_after};
@@ -10,8 +12,11 @@ ghost use Rattle.r4_content.specs.Locality.{IsLocal, Meaning, Spares, commands};
 ghost use Rattle.r4_content.specs.Meaning.{after, changes, course, reply};
 ghost use Rattle.r4_content.specs.Reading.{OnlyReads};
 ghost use Rattle.r4_content.specs.Seen.{IsSeen, Rises, of_seen};
+ghost use Rattle.r4_content.specs.Walk.{At, NoDirectory, NoEntry, NoName, walk};
+ghost use Rattle.r4_content.specs.Walks.{walk_reply};
 ghost use Rattle.r4_content.specs.declared.command.Command.{Command};
-ghost use Rattle.r4_content.specs.declared.reply.Reply.TheVariants.{Okay};
+ghost use Rattle.r4_content.specs.declared.command.Command.TheVariants.{Stat};
+ghost use Rattle.r4_content.specs.declared.reply.Reply.TheVariants.{Okay, Absent, Notdir, Attr as AttrReply, Name as NameReply};
 
 /// Each command does the same in contents that agree where it reads, and leaves all keys that it does not change.
 pub fn commands_are_local()
@@ -46,4 +51,14 @@ pub fn refusals_change_nothing()
     ensures content { (limit : ℕ) (c : Command) (m : Content) → reply limit c m ≢ Okay → after limit c m ≡ m }
     ensures keys { (limit : ℕ) (c : Command) (m : Content) (k : ℕ) → reply limit c m ≢ Okay → is_in (changes limit c m) k ≡ false }
     ensures reading { (limit : ℕ) (c : Command) (m : Content) → OnlyReads c → after limit c m ≡ m }
+{}
+
+/// The walk of commands is that of the listing: what `stat` is answered tells where the walk along the path ends, and each
+/// ending has a reply of its own.
+pub fn walks_agree()
+    ensures stat { (limit : ℕ) (m : Content) (path : List (List ℕ)) → reply limit (Stat path) m ≡ walk_reply (walk m path) }
+    ensures found { (limit : ℕ) (m : Content) (path : List (List ℕ)) (a : Attr) → (reply limit (Stat path) m ≡ AttrReply a) ↔ ((o : Target) × (walk m path ≡ At o a)) }
+    ensures notdir { (limit : ℕ) (m : Content) (path : List (List ℕ)) → (reply limit (Stat path) m ≡ Notdir) ↔ (walk m path ≡ NoDirectory) }
+    ensures absent { (limit : ℕ) (m : Content) (path : List (List ℕ)) → (reply limit (Stat path) m ≡ Absent) ↔ (walk m path ≡ NoEntry) }
+    ensures name { (limit : ℕ) (m : Content) (path : List (List ℕ)) → (reply limit (Stat path) m ≡ NameReply) ↔ (walk m path ≡ NoName) }
 {}
