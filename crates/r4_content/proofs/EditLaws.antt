@@ -50,20 +50,18 @@ at_zero (r ∷ rs) m k =
     ∙ set_step (is_between r.0 r.1 k) (is_in rs k) (Some (Byte 0)) (at_key m k)
 
 -- the value of the last put at a key
-pub last_put : Pairs → ℕ → Option Value → Option Value
+abbrev pub last_put : Pairs → ℕ → Option Value → Option Value
 last_put [] k v = v
 last_put (e ∷ es) k v = last_put es k (cond (k == e.0) (Some e.1) v)
 
 pub at_put : (es : Pairs) (m : Content) (k : ℕ) → at_key (put_all es m) k ≡ last_put es k (at_key m k)
-unfolding last_put
 at_put [] m k = refl
 at_put (e ∷ es) m k = at_put es _ k ∙ ap (last_put es k) (at_insert m e.0 e.1 k)
 
-one_key : (k a : ℕ) → is_between a (a + 1) k ≡ (k == a)
+pub one_key : (k a : ℕ) → is_between a (a + 1) k ≡ (k == a)
 one_key k a = grind (arith, common_steps)
 
-put_off : (es : Pairs) (k : ℕ) (v : Option Value) → is_in (put_keys es) k ≡ false → last_put es k v ≡ v
-unfolding last_put
+pub put_off : (es : Pairs) (k : ℕ) (v : Option Value) → is_in (put_keys es) k ≡ false → last_put es k v ≡ v
 put_off [] k v h = refl
 put_off (e ∷ es) k v h = split (k == e.0) (put_off es k v) (ap (λ b. b || is_in (put_keys es) k) (sym (one_key k e.0)) ∙ h)
   where
@@ -71,8 +69,7 @@ put_off (e ∷ es) k v h = split (k == e.0) (put_off es k v) (ap (λ b. b || is_
     split true f g = grind (arith, g)
     split false f g = f g
 
-put_on : (es : Pairs) (k : ℕ) (v w : Option Value) → is_in (put_keys es) k ≡ true → last_put es k v ≡ last_put es k w
-unfolding last_put
+pub put_on : (es : Pairs) (k : ℕ) (v w : Option Value) → is_in (put_keys es) k ≡ true → last_put es k v ≡ last_put es k w
 put_on [] k v w h = grind (arith, h)
 put_on (e ∷ es) k v w h = split (k == e.0) (put_on es k v w) (ap (λ b. b || is_in (put_keys es) k) (sym (one_key k e.0)) ∙ h)
   where

@@ -5,3 +5,6 @@ pub mod Commuting
 pub mod Refusals
 pub mod Computed
 pub mod Found
+pub mod Ranks
+pub mod SameWay
+pub mod BytePairs

@@ -14,3 +14,4 @@ pub mod Held
 pub mod Reading
 pub mod Examples
 pub mod Walks
+pub mod Fields
