@@ -14,6 +14,7 @@ use Rattle.r4_content.specs.Edited.{Pairs, is_between, is_in, pairs_between, put
 use Rattle.r4_content.specs.Objects.{byte_pairs}
 use Rattle.r4_content.specs.Seen.{Rises}
 use Rattle.r4_content.proofs.EditLaws.{at_retain, last_put, one_key, put_off, same_content}
+use Rattle.r4_content.proofs.EditParts.{true_not_false}
 use Rattle.r4_content.proofs.SeenLaws.{at_content, content_of}
 
 one_more_key : (from n k : ℕ) → (is_between from (from + 1) k || is_between (from + 1) (from + 1 + n) k) ≡ is_between from (from + suc n) k
@@ -45,9 +46,6 @@ put_found from (x ∷ xs) k v =
         let at = first_of_them from (length xs) k (eqb-true k from e) in
         rest (Some (Byte x)) ∙ ap (λ (b : Bool). cond b (find nat_cmp k (byte_pairs (from + 1) xs)) (Some (Byte x))) at.0 ∙ sym (ap (λ (b : Bool). cond b (Some (Byte x)) v) at.1)
     by_first false e rest = rest v ∙ ap (λ (b : Bool). cond b (find nat_cmp k (byte_pairs (from + 1) xs)) v) (not_first from (length xs) k e)
-
-true_not_false : true ≡ false → ⊥
-true_not_false e = cc
 
 -- and there is nothing else
 pub none_found : (from : ℕ) (xs : List ℕ) (k : ℕ) → is_between from (from + length xs) k ≡ false → find nat_cmp k (byte_pairs from xs) ≡ None

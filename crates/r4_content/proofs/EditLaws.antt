@@ -85,7 +85,7 @@ in_append (r ∷ a) b k = ap (λ x. is_between r.0 r.1 k || x) (in_append a b k)
     assoc true y z = refl
     assoc false y z = refl
 
-in_changed : (e : Edits) (k : ℕ) → is_in (changed e) k ≡ (is_in (put_keys e.puts) k || (is_in e.zeros k || is_in e.cuts k))
+pub in_changed : (e : Edits) (k : ℕ) → is_in (changed e) k ≡ (is_in (put_keys e.puts) k || (is_in e.zeros k || is_in e.cuts k))
 in_changed e k = in_append (put_keys e.puts) (e.zeros ++ e.cuts) k ∙ ap (λ b. is_in (put_keys e.puts) k || b) (in_append e.zeros e.cuts k)
 
 pub at_edited : (e : Edits) (m : Content) (k : ℕ) → at_key (edited e m) k ≡ last_put e.puts k (cond (is_in e.zeros k) (Some (Byte 0)) (cond (is_in e.cuts k) None (at_key m k)))

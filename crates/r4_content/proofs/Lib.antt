@@ -8,3 +8,6 @@ pub mod Found
 pub mod Ranks
 pub mod SameWay
 pub mod BytePairs
+pub mod EditParts
+pub mod FileEdits
+pub mod Writing

@@ -120,3 +120,28 @@ module _ (m after : Content) (g : Target → Attr → Attr) (Goes : Target → A
       let (a, stat, rest) = root_there p (λ a. found_from m path (start a)) (attr_at m root_object) e in
       let on = goes path (start a) p rest h in
       ap (go_attr NotDirectory (λ a. found_from after path (start a))) (same_stat root_object a root_is_object stat on) ∙ way_again path (start a) p bytes (lit< tt) rest h
+
+-- ---- what is found is an object
+
+-- An object is there, with these attributes.
+pub record IsThere (m : Content) (o : Object) : Type 0 where
+  pub object : IsObject o.target
+  pub stat : attr_at m o.target ≡ Some o.attr
+
+module _ (m : Content) (orderings : (k : ℕ) (n : List ℕ) (t : Target) → at_key m k ≡ Some (Entry n t) → t.ordering < 2 ^ 64) where
+  -- what an entry names
+  pub named_there : (k : ℕ) (n : List ℕ) (t : Target) (a : Attr) → target_in n (at_key m k) ≡ Some t → attr_at m t ≡ Some a → IsThere m (record { target = t; attr = a })
+  named_there k n t a entry stat =
+      let may = small_object t (stat_there m t a stat).0 in
+      record { object = (may.0, orderings k n t (target_is n (at_key m k) t entry), omega arith); stat = stat }
+
+  pub way_object : (path : List (List ℕ)) (q p : Place) → IsThere m q.here → found_from m path q ≡ There p → IsThere m p.here
+  way_object [] q p h e = subst (λ (x : Place). IsThere m x.here) (place_in q p e) h
+  way_object (n ∷ path) q p h e =
+      let s = step_is m n path q p e in
+      way_object path (down q s.target s.attr) p (named_there (entry_rank q.here.target n) n s.target s.attr s.entry s.stat) s.rest
+
+  pub found_object : (path : List (List ℕ)) (p : Place) → found m path ≡ There p → IsThere m p.here
+  found_object path p e =
+      let (a, stat, rest) = root_there p (λ a. found_from m path (start a)) (attr_at m root_object) e in
+      way_object path (start a) p (record { object = root_is_object; stat = stat }) rest
