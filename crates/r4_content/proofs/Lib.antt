@@ -11,3 +11,4 @@ pub mod BytePairs
 pub mod EditParts
 pub mod FileEdits
 pub mod Writing
+pub mod Naming

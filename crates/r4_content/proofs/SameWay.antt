@@ -58,7 +58,7 @@ attr_there : (p : Place) (f : Attr → Found) (v : Option Attr) → go_attr NotT
 attr_there p f None e = absurd cc
 attr_there p f (Some a) e = (a, refl, e)
 
-root_there : (p : Place) (f : Attr → Found) (v : Option Attr) → go_attr NotDirectory f v ≡ There p → (a : Attr) × (v ≡ Some a) × (f a ≡ There p)
+pub root_there : (p : Place) (f : Attr → Found) (v : Option Attr) → go_attr NotDirectory f v ≡ There p → (a : Attr) × (v ≡ Some a) × (f a ≡ There p)
 root_there p f None e = absurd cc
 root_there p f (Some a) e = (a, refl, e)
 

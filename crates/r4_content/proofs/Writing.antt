@@ -210,7 +210,7 @@ module _ (m : Content) (o : Object) (there : IsThere m o) (n : ℕ) (fits : n �
       off_first true k ne = off_cuts o n o.attr.size k old ne
       off_first false k ne = off_gap o n k fits ne
 
-stat_ends : (limit : ℕ) (m : Content) (path : List (List ℕ)) (p : Place) → is_path path ≡ true → found m path ≡ There p → reply limit (StatCommand path) m ≡ AttrReply p.here.attr
+pub stat_ends : (limit : ℕ) (m : Content) (path : List (List ℕ)) (p : Place) → is_path path ≡ true → found m path ≡ There p → reply limit (StatCommand path) m ≡ AttrReply p.here.attr
 stat_ends limit m path p is at = ap (λ (x : Ending). x.reply) (goes_on m path (λ p. Answer (AttrReply p.here.attr)) p is at)
 
 pub truncate_stat : (limit : ℕ) (path : List (List ℕ)) (n : ℕ) (m : Content) → HasNumbers m → limit ≤ 2 ^ 64 → HasBytes path → reply limit (Truncate path n) m ≡ Okay
