@@ -12,3 +12,4 @@ pub mod EditParts
 pub mod FileEdits
 pub mod Writing
 pub mod Naming
+pub mod Unnaming

@@ -48,7 +48,7 @@ found_more m (x ∷ xs) n q p e =
     let s = step_is m x xs q p e in
     steps_on m x (xs ++ n ∷ []) q s.target s.attr s.dir s.entry s.stat ∙ found_more m xs n (down q s.target s.attr) p s.rest
 
-found_last : (m : Content) (path : List (List ℕ)) (p : Place) → (length path == 0) ≡ false → found m (take (length path - 1) path) ≡ There p
+pub found_last : (m : Content) (path : List (List ℕ)) (p : Place) → (length path == 0) ≡ false → found m (take (length path - 1) path) ≡ There p
     → found m path ≡ found_from m (slice_index_or path (length path - 1) [] ∷ []) p
 found_last m path p some e =
     let (a, stat, rest) = root_there p (λ a. found_from m (take (length path - 1) path) (start a)) (attr_at m root_object) e in
@@ -81,7 +81,7 @@ came_above m r path next not_okay e = by_length (length path == 0) refl e
         let (p, at, done) = okay_there m on (found m (take (length path - 1) path)) (sym (ap (λ (x : Ending). x.reply) ends) ∙ okay) in
         record { place = p; name = is; some = h; at = at; ends = ap (λ (b : Bool). ending (named path (if b then Answer r else way)) (of_content m)) h ∙ ends ∙ ap (ends_at m on) at }
 
-last_bytes : (path : List (List ℕ)) → (length path == 0) ≡ false → HasBytes path → All (λ x. x < 256) (slice_index_or path (length path - 1) [])
+pub last_bytes : (path : List (List ℕ)) → (length path == 0) ≡ false → HasBytes path → All (λ x. x < 256) (slice_index_or path (length path - 1) [])
 last_bytes path e bytes =
     let some : 0 < length path = positive (length path) e in
     let rest = All-drop (λ n. All (λ x. x < 256) n) (length path - 1) path bytes in

@@ -1,22 +1,25 @@
 //! Laws of commands (docs/commands.md). Each is the contract of a function that does nothing.
 
 ghost use Rattle.std.specs.FinMap.{from_sorted};
-ghost use Rattle.std.specs.Prelude.{◌≡◌, ◌≢◌, ◌↔◌, ℕ, List, false};
+ghost use Rattle.std.specs.Prelude.{◌≡◌, ◌≢◌, ◌↔◌, ◌≤◌, ◌^◌, ℕ, List, length, replicate, false};
 ghost use Rattle.r4_base.specs.Value.{Content};
 ghost use Rattle.r4_base.specs.declared.items.Attr.{Attr};
 ghost use Rattle.r4_base.specs.declared.items.Target.{Target};
+ghost use Rattle.r4_base.specs.declared.things.Oid.{Oid};
 ghost use Rattle.r4_content.specs.Course.{ending};
 ghost use Rattle.r4_content.specs.Edited.{Pairs, changed, edited, is_in};
+ghost use Rattle.r4_content.specs.Fields.{HasBytes, HasNumbers, IsUnused};
 ghost use Rattle.r4_content.specs.Listed.{list_after};
 ghost use Rattle.r4_content.specs.Locality.{IsLocal, Meaning, Spares, commands};
 ghost use Rattle.r4_content.specs.Meaning.{after, changes, course, reply};
+ghost use Rattle.r4_content.specs.Objects.{new_directory, new_file};
 ghost use Rattle.r4_content.specs.Reading.{OnlyReads};
 ghost use Rattle.r4_content.specs.Seen.{IsSeen, Rises, of_seen};
 ghost use Rattle.r4_content.specs.Walk.{At, NoDirectory, NoEntry, NoName, walk};
 ghost use Rattle.r4_content.specs.Walks.{walk_reply};
 ghost use Rattle.r4_content.specs.declared.command.Command.{Command};
-ghost use Rattle.r4_content.specs.declared.command.Command.TheVariants.{Stat};
-ghost use Rattle.r4_content.specs.declared.reply.Reply.TheVariants.{Okay, Absent, Notdir, Attr as AttrReply, Name as NameReply};
+ghost use Rattle.r4_content.specs.declared.command.Command.TheVariants.{Create, Fill, Mkdir, Read, Stat, Truncate, Unlink, Write};
+ghost use Rattle.r4_content.specs.declared.reply.Reply.TheVariants.{Okay, Absent, Data, Notdir, Attr as AttrReply, Name as NameReply};
 
 /// Each command does the same in contents that agree where it reads, and leaves all keys that it does not change.
 pub fn commands_are_local()
@@ -61,4 +64,23 @@ pub fn walks_agree()
     ensures notdir { (limit : ℕ) (m : Content) (path : List (List ℕ)) → (reply limit (Stat path) m ≡ Notdir) ↔ (walk m path ≡ NoDirectory) }
     ensures absent { (limit : ℕ) (m : Content) (path : List (List ℕ)) → (reply limit (Stat path) m ≡ Absent) ↔ (walk m path ≡ NoEntry) }
     ensures name { (limit : ℕ) (m : Content) (path : List (List ℕ)) → (reply limit (Stat path) m ≡ NameReply) ↔ (walk m path ≡ NoName) }
+{}
+
+/// What was written is read: after `write` the bytes of the text, after `fill` its byte as often as it was asked for. After
+/// `truncate` the size is the one that was asked for. What was made has the attributes of a new object, and what was
+/// unlinked is absent. So it is in each content whose numbers and names are of their fields' widths; where an object is
+/// made, its id must not be in use.
+pub fn what_is_written_is_read()
+    ensures write { (limit : ℕ) (path : List (List ℕ)) (offset : ℕ) (text : List ℕ) (m : Content) → HasNumbers m → HasBytes path → limit ≤ 2 ^ 64
+        → reply limit (Write path offset text) m ≡ Okay → reply limit (Read path offset (length text)) (after limit (Write path offset text) m) ≡ Data text }
+    ensures fill { (limit : ℕ) (path : List (List ℕ)) (offset len byte : ℕ) (m : Content) → HasNumbers m → HasBytes path → limit ≤ 2 ^ 64
+        → reply limit (Fill path offset len byte) m ≡ Okay → reply limit (Read path offset len) (after limit (Fill path offset len byte) m) ≡ Data (replicate len byte) }
+    ensures truncate { (limit : ℕ) (path : List (List ℕ)) (size : ℕ) (m : Content) → HasNumbers m → HasBytes path → limit ≤ 2 ^ 64
+        → reply limit (Truncate path size) m ≡ Okay → (a : Attr) × (reply limit (Stat path) (after limit (Truncate path size) m) ≡ AttrReply a) × (a.size ≡ size) }
+    ensures create { (limit : ℕ) (path : List (List ℕ)) (oid : Oid) (m : Content) → HasNumbers m → HasBytes path → IsUnused m oid
+        → reply limit (Create path oid) m ≡ Okay → reply limit (Stat path) (after limit (Create path oid) m) ≡ AttrReply new_file }
+    ensures mkdir { (limit : ℕ) (path : List (List ℕ)) (oid : Oid) (m : Content) → HasNumbers m → HasBytes path → IsUnused m oid
+        → reply limit (Mkdir path oid) m ≡ Okay → reply limit (Stat path) (after limit (Mkdir path oid) m) ≡ AttrReply new_directory }
+    ensures unlink { (limit : ℕ) (path : List (List ℕ)) (m : Content) → HasNumbers m → HasBytes path
+        → reply limit (Unlink path) m ≡ Okay → reply limit (Stat path) (after limit (Unlink path) m) ≡ Absent }
 {}
