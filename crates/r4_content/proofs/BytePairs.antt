@@ -1,19 +1,18 @@
 -- Bytes at one key after another, as pairs.
-use Rattle.std.specs.Prelude.{◌≡◌, ℕ, suc, ◌+◌, ◌<◌, ◌≤◌, List, [], ◌∷◌, ◌++◌, length, replicate, Bool, true, false, ◌&&◌, ◌||◌, ◌==◌, cond, Option, Some, None, T}
+use Rattle.std.specs.Prelude.{◌≡◌, ℕ, suc, ◌+◌, ◌<◌, List, [], ◌∷◌, length, Bool, true, false, ◌&&◌, ◌||◌, ◌==◌, cond, Option, Some, None, T}
 use Rattle.std.proofs.Common.{arith, Less, refl, sym, ap, subst, ◌∙◌}
-use Rattle.std.proofs.lemmas.Cmp.{nat_cmp_total}
 use Rattle.std.proofs.lemmas.Bool.{eqb-true}
 use Rattle.std.proofs.lemmas.Grind.{common_steps}
 use Rattle.std.specs.Cmp.{nat_cmp_is, unsigned_tied}
-use Rattle.std.specs.FinMap.{entries, entries-from_sorted, find, is_sorted, nat_cmp-IsAntisymmetric, retain_keys}
+use Rattle.std.specs.FinMap.{entries, entries-from_sorted, find, is_sorted, retain_keys}
 use Rattle.std.specs.FinMap.Entries.{below_all}
 use Rattle.std.specs.Ordering.{is_lt, nat_cmp}
 use Rattle.r4_base.specs.Value.{Value, Byte, Content, at_key}
 use Rattle.r4_content.specs.Bodies.{bytes_in}
-use Rattle.r4_content.specs.Edited.{Pairs, is_between, is_in, pairs_between, put_keys}
+use Rattle.r4_content.specs.Edited.{is_between, is_in, pairs_between, put_keys}
 use Rattle.r4_content.specs.Objects.{byte_pairs}
 use Rattle.r4_content.specs.Seen.{Rises}
-use Rattle.r4_content.proofs.EditLaws.{at_retain, last_put, one_key, put_off, same_content}
+use Rattle.r4_content.proofs.EditLaws.{at_retain, last_put, same_content}
 use Rattle.r4_content.proofs.EditParts.{true_not_false}
 use Rattle.r4_content.proofs.SeenLaws.{at_content, content_of}
 
@@ -78,7 +77,7 @@ pub read_pairs : (m : Content) (from : ℕ) (xs : List ℕ) → ((k : ℕ) → i
 unfolding content_of
 read_pairs m from xs h =
     ap entries (same_content (retain_keys m (is_between from (from + length xs))) (content_of (byte_pairs from xs)) (λ k.
-      at_retain m (is_between from (from + length xs)) k ∙ inside k (is_between from (from + length xs) k) refl ∙ sym (at_content (byte_pairs from xs) k (pairs_rise from xs))))
+    at_retain m (is_between from (from + length xs)) k ∙ inside k (is_between from (from + length xs) k) refl ∙ sym (at_content (byte_pairs from xs) k (pairs_rise from xs))))
     ∙ entries-from_sorted nat_cmp (byte_pairs from xs) (pairs_rise from xs)
   where
     inside : (k : ℕ) (b : Bool) → is_between from (from + length xs) k ≡ b → cond b (at_key m k) None ≡ find nat_cmp k (byte_pairs from xs)

@@ -26,4 +26,3 @@ module _ {C R : Type 0} (w : Meaning C R) (local : IsLocal w) where
       cases k false a false b =
           local.others x (w.after y m) k (ap (λ r. is_in r k) (sym (local.same_changes x m (w.after y m) (spared x y m hx))) ∙ a) ∙ local.others y m k b
           ∙ sym (local.others y (w.after x m) k (ap (λ r. is_in r k) (sym (local.same_changes y m (w.after x m) (spared y x m hy))) ∙ b) ∙ local.others x m k a)
-

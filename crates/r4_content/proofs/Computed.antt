@@ -7,7 +7,7 @@ use Rattle.std.proofs.lemmas.Cmp.{nat_cmp_total}
 use Rattle.r4_base.proofs.FreshVolume.{none_in_empty}
 use Rattle.r4_base.specs.Key.{rank, least}
 use Rattle.r4_base.specs.Name.{bad_byte, key_of_name, name_fault, packed, r5_from}
-use Rattle.r4_base.specs.Value.{Content, Stat}
+use Rattle.r4_base.specs.Value.{Stat}
 use Rattle.r4_base.specs.Volume.{empty_volume, root_attr, root_object, stat_rank}
 use Rattle.r4_content.specs.Edited.{Pairs, changed}
 use Rattle.r4_content.specs.Course.{asked, ending}

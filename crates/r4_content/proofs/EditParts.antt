@@ -2,7 +2,7 @@
 use Rattle.std.specs.Prelude.{◌≡◌, ℕ, ◌+◌, [], ◌∷◌, ◌++◌, Bool, true, false, ◌||◌, cond, Option, Some, None}
 use Rattle.std.proofs.Common.{refl, sym, ap, ◌∙◌}
 use Rattle.r4_base.specs.Value.{Value, Byte, Content, at_key}
-use Rattle.r4_content.specs.Edited.{Pairs, Intervals, Edits, and_also, changed, edited, is_between, is_in, put_keys}
+use Rattle.r4_content.specs.Edited.{Pairs, Intervals, Edits, and_also, changed, edited, is_in, put_keys}
 use Rattle.r4_content.proofs.EditLaws.{at_edited, in_append, in_changed, last_put, put_off, put_on}
 
 pub true_not_false : true ≡ false → ⊥
@@ -72,8 +72,8 @@ both_puts e f m k = at_edited (and_also e f) m k ∙ last_put_append e.puts f.pu
 pub edited_second : (e f : Edits) (m : Content) (k : ℕ) → IsOff e k → at_key (edited (and_also e f) m) k ≡ at_key (edited f m) k
 edited_second e f m k h =
     both_puts e f m k ∙ ap (last_put f.puts k) (put_off e.puts k (below_puts (and_also e f) m k) h.puts
-      ∙ ap (λ (b : Bool). cond b (Some (Byte 0)) (cond (is_in (e.cuts ++ f.cuts) k) None (at_key m k))) (in_append e.zeros f.zeros k ∙ false_or _ _ h.zeros)
-      ∙ ap (λ (b : Bool). cond (is_in f.zeros k) (Some (Byte 0)) (cond b None (at_key m k))) (in_append e.cuts f.cuts k ∙ false_or _ _ h.cuts))
+    ∙ ap (λ (b : Bool). cond b (Some (Byte 0)) (cond (is_in (e.cuts ++ f.cuts) k) None (at_key m k))) (in_append e.zeros f.zeros k ∙ false_or _ _ h.zeros)
+    ∙ ap (λ (b : Bool). cond (is_in f.zeros k) (Some (Byte 0)) (cond b None (at_key m k))) (in_append e.cuts f.cuts k ∙ false_or _ _ h.cuts))
     ∙ sym (at_edited f m k)
 
 -- the first part alone changes it
@@ -81,7 +81,7 @@ pub edited_first : (e f : Edits) (m : Content) (k : ℕ) → IsOff f k → at_ke
 edited_first e f m k h =
     both_puts e f m k ∙ put_off f.puts k _ h.puts
     ∙ ap (last_put e.puts k) (ap (λ (b : Bool). cond b (Some (Byte 0)) (cond (is_in (e.cuts ++ f.cuts) k) None (at_key m k))) (in_append e.zeros f.zeros k ∙ or_nothing _ _ h.zeros)
-      ∙ ap (λ (b : Bool). cond (is_in e.zeros k) (Some (Byte 0)) (cond b None (at_key m k))) (in_append e.cuts f.cuts k ∙ or_nothing _ _ h.cuts))
+    ∙ ap (λ (b : Bool). cond (is_in e.zeros k) (Some (Byte 0)) (cond b None (at_key m k))) (in_append e.cuts f.cuts k ∙ or_nothing _ _ h.cuts))
     ∙ sym (at_edited e m k)
 
 -- what the second part puts stands, whatever the first one does

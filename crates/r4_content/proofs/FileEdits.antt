@@ -1,25 +1,25 @@
 -- Edits of a file: they change its stat data and its bytes alone, so the way to it stays.
-use Rattle.std.specs.Prelude.{◌≡◌, ◌≢◌, ℕ, ◌+◌, ◌^◌, ◌<◌, ◌≤◌, List, [], ◌∷◌, Bool, true, false, ◌||◌, ◌==◌, cond, nat_lt, All, Some, None, length, if◌then◌else◌}
-use Rattle.std.proofs.Common.{arith, refl, sym, ap, subst, ◌∙◌}
+use Rattle.std.specs.Prelude.{◌≡◌, ◌≢◌, ℕ, ◌+◌, ◌^◌, ◌<◌, ◌≤◌, List, Bool, true, false, ◌==◌, cond, nat_lt, All, Some, None, length, if◌then◌else◌}
+use Rattle.std.proofs.Common.{arith, refl, sym, ap, ◌∙◌}
 use Rattle.std.proofs.lemmas.Bool.{eq-eqb, eqb-true, ne_eqb}
 use Rattle.std.proofs.lemmas.Option.{same_Some}
 use Rattle.std.specs.FinMap.{insert}
-use Rattle.r4_base.specs.Value.{Value, Stat, Entry, Byte, Content, at_key}
+use Rattle.r4_base.specs.Value.{Value, Stat, Content, at_key}
 use Rattle.r4_base.specs.Volume.{IsObject, byte_rank, is_directory, stat_rank}
 use Rattle.r4_base.specs.declared.items.Attr.{Attr}
 use Rattle.r4_base.specs.declared.items.Target.{Target}
-use Rattle.r4_content.specs.Bodies.{fill_gap, resize, truncated, written}
-use Rattle.r4_content.specs.Edited.{Edits, and_also, changed, edited, is_between, is_in, no_edits, put_keys}
+use Rattle.r4_content.specs.Bodies.{fill_gap, resize}
+use Rattle.r4_content.specs.Edited.{Edits, edited, is_between, no_edits}
 use Rattle.r4_content.specs.Fields.{HasNumbers}
-use Rattle.r4_content.specs.Objects.{Object, byte_pairs, cut_body, entry_rank, is_dir, is_same_target, set_attr, set_body, sized, zero_body}
+use Rattle.r4_content.specs.Objects.{Object, cut_body, entry_rank, is_same_target, set_attr, set_body, sized, zero_body}
 use Rattle.r4_content.specs.Walk.{attr_at, attr_in, may_be_object, target_in}
 use Rattle.r4_content.specs.Ways.{Place}
 use Rattle.r4_content.proofs.BytePairs.{keys_in}
 use Rattle.r4_content.proofs.EditLaws.{at_insert, edited_off, one_key}
-use Rattle.r4_content.proofs.EditParts.{IsOff, edited_first, edited_over, edited_second, is_off, neither, off_both, true_not_false}
+use Rattle.r4_content.proofs.EditParts.{IsOff, is_off, neither, true_not_false}
 use Rattle.r4_content.proofs.Found.{There, found, stat_there}
 use Rattle.r4_content.proofs.Ranks.{byte_after, entry_not_byte, entry_not_stat, in_body, same_itself, same_stat, stat_not_byte, told_same}
-use Rattle.r4_content.proofs.SameWay.{IsThere, found_again, place_with, with_attrs}
+use Rattle.r4_content.proofs.SameWay.{IsThere, found_again, place_with}
 
 -- ---- which keys the parts leave
 
@@ -129,8 +129,11 @@ file_again m path p n e numbers bytes at there h =
         → target_in name (at_key (edited e m) (entry_rank d name)) ≡ Some t
     entries d name t a small bytes entry stat _ =
         let off = is_off e (entry_rank d name) (h.elsewhere (entry_rank d name) (record {
-              stat = λ is. entry_not_stat d p.here.target name small bytes there.object is; bytes = λ x lt is. entry_not_byte d p.here.target name x small bytes there.object lt is })) in
+          stat = λ is. entry_not_stat d p.here.target name small bytes there.object is;
+          bytes = λ x lt is. entry_not_byte d p.here.target name x small bytes there.object lt is;
+        })) in
         ap (target_in name) (edited_off e m (entry_rank d name) off) ∙ entry
+
     stats : (t : Target) (a : Attr) → IsObject t → attr_at m t ≡ Some a → Unit {0} → attr_at (edited e m) t ≡ Some (with_size p.here.target n t a)
     stats t a object stat _ = by_target (is_same_target t p.here.target) refl
       where
@@ -142,5 +145,7 @@ file_again m path p n e numbers bytes at there h =
         by_target false other =
             let old = stat_there m t a stat in
             let off = is_off e (stat_rank t) (h.elsewhere (stat_rank t) (record {
-                  stat = other_stat t p.here.target object there.object other; bytes = λ x lt is. stat_not_byte t p.here.target x object there.object lt is })) in
+              stat = other_stat t p.here.target object there.object other;
+              bytes = λ x lt is. stat_not_byte t p.here.target x object there.object lt is;
+            })) in
             attr_of (edited e m) t a old.0 (edited_off e m (stat_rank t) off ∙ old.1)

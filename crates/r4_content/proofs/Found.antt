@@ -1,6 +1,6 @@
 -- Where a way leads in a content: a command goes on from there, or is answered why not. It is where the walk along the path ends.
-use Rattle.std.specs.Prelude.{◌≡◌, ◌↔◌, ℕ, ◌+◌, ◌^◌, ◌<◌, List, [], ◌∷◌, ◌++◌, Bool, true, false, ◌&&◌, nat_lt, Option, Some, None, if◌then◌else◌}
-use Rattle.std.proofs.Common.{arith, lit<, refl, sym, ap, ◌∙◌}
+use Rattle.std.specs.Prelude.{◌≡◌, ◌↔◌, ℕ, ◌^◌, ◌<◌, List, [], ◌∷◌, ◌++◌, Bool, true, false, nat_lt, Option, Some, None, if◌then◌else◌}
+use Rattle.std.proofs.Common.{lit<, refl, sym, ap, ◌∙◌}
 use Rattle.std.proofs.lemmas.Bool.{lt-ltb, ltb-true}
 use Rattle.std.proofs.lemmas.Option.{same_Some}
 use Rattle.r4_base.proofs.Names.{both}
@@ -10,10 +10,10 @@ use Rattle.r4_base.specs.declared.items.Attr.{Attr}
 use Rattle.r4_base.specs.declared.items.Target.{Target}
 use Rattle.r4_content.specs.Course.{Course, Ask, Answer, Ending, ending, of_content}
 use Rattle.r4_content.specs.Edited.{no_edits}
-use Rattle.r4_content.specs.Meaning.{course, is_path, reply}
+use Rattle.r4_content.specs.Meaning.{is_path, reply}
 use Rattle.r4_content.specs.Objects.{Object, entry_rank, is_dir}
-use Rattle.r4_content.specs.Walk.{Walked, At, NoName, NoDirectory, NoEntry, attr_at, attr_in, may_be_object, target_at, target_in, walk, walk_from, walk_on, walk_root}
-use Rattle.r4_content.specs.Ways.{Place, object_at, step, steps, to_object, with_attr, with_target}
+use Rattle.r4_content.specs.Walk.{Walked, At, NoName, NoDirectory, NoEntry, attr_at, attr_in, may_be_object, target_in, walk, walk_from, walk_on, walk_root}
+use Rattle.r4_content.specs.Ways.{Place, object_at, steps, to_object, with_attr, with_target}
 use Rattle.r4_content.specs.Walks.{walk_reply}
 use Rattle.r4_content.specs.declared.command.Command.TheVariants.{Stat as StatCommand}
 use Rattle.r4_content.specs.declared.reply.Reply.{Reply}
@@ -86,10 +86,10 @@ steps_end m [] next p = refl
 steps_end m (n ∷ path) next p =
     ends_if m next (is_dir p.here) _ (Answer Notdir) _ NotDirectory
     (ends_target m next
-      (λ t. object_at t (λ o. steps path next (record { here = o; above = p.above ++ p.here ∷ [] })))
-      (λ t. go_attr NotThere (λ a. found_from m path (down p t a)) (attr_at m t))
-      (target_in n (at_key m (entry_rank p.here.target n)))
-      (λ t. ends_object m next t (λ o. steps path next (record { here = o; above = p.above ++ p.here ∷ [] })) (λ a. found_from m path (down p t a)) (λ a. steps_end m path next (down p t a))))
+    (λ t. object_at t (λ o. steps path next (record { here = o; above = p.above ++ p.here ∷ [] })))
+    (λ t. go_attr NotThere (λ a. found_from m path (down p t a)) (attr_at m t))
+    (target_in n (at_key m (entry_rank p.here.target n)))
+    (λ t. ends_object m next t (λ o. steps path next (record { here = o; above = p.above ++ p.here ∷ [] })) (λ a. found_from m path (down p t a)) (λ a. steps_end m path next (down p t a))))
     refl
 
 -- so a command goes on from where the path leads
@@ -116,6 +116,7 @@ stat_there m t a e = split (may_be_object t) e
     stat_is (Some (Stat b)) is = ap (λ (x : Attr). Some (Stat x)) (same_Some b a is)
     stat_is (Some (Entry s o)) is = absurd cc
     stat_is (Some (Byte x)) is = absurd cc
+
     split : (b : Bool) → (if b then attr_in (at_key m (stat_rank t)) else None) ≡ Some a → (b ≡ true) × (at_key m (stat_rank t) ≡ Some (Stat a))
     split true is = (refl, stat_is (at_key m (stat_rank t)) is)
     split false is = absurd cc
@@ -131,7 +132,7 @@ walk_found m (n ∷ path) p small =
     let dir = p.here.target in
     walk_if (is_directory p.here.attr) _ NoDirectory _ NotDirectory
     (ap (λ b. walk_on (λ t. walk_from m path t (attr_at m t)) (if b then target_in n (at_key m (entry_rank dir n)) else None)) (lt-ltb _ _ small)
-      ∙ at_target (λ t a e. walk_found m path (down p t a) (small_object t (stat_there m t a e).0).1) (target_in n (at_key m (entry_rank dir n))))
+    ∙ at_target (λ t a e. walk_found m path (down p t a) (small_object t (stat_there m t a e).0).1) (target_in n (at_key m (entry_rank dir n))))
     refl
   where
     at_attr : ((t : Target) (a : Attr) → attr_at m t ≡ Some a → walk_from m path t (Some a) ≡ walked (found_from m path (down p t a)))
@@ -142,6 +143,7 @@ walk_found m (n ∷ path) p small =
         none [] = refl
         none (x ∷ xs) = refl
     at_attr rest t (Some a) e = rest t a e
+
     at_target : ((t : Target) (a : Attr) → attr_at m t ≡ Some a → walk_from m path t (Some a) ≡ walked (found_from m path (down p t a)))
         → (v : Option Target) → walk_on (λ t. walk_from m path t (attr_at m t)) v ≡ walked (go_target (λ t. go_attr NotThere (λ a. found_from m path (down p t a)) (attr_at m t)) v)
     at_target rest None = refl
@@ -162,6 +164,7 @@ stat_walks limit m path = by_names (is_path path) ∙ sym (ap walk_reply (walk_i
     at (There p) = refl
     at NotDirectory = refl
     at NotThere = refl
+
     by_names : (b : Bool) → (ending (if b then to_object path (λ p. Answer (AttrReply p.here.attr)) else Answer NameReply) (of_content m)).reply ≡ walk_reply (if b then walked (found m path) else NoName)
     by_names true = ap (λ e. e.reply) (way_ends m path (λ p. Answer (AttrReply p.here.attr))) ∙ at (found m path)
     by_names false = refl
@@ -173,6 +176,7 @@ at_found (At o b) a = ((λ e. (o, ap (λ x. At o x) (same_attr b a e))), (λ h. 
   where
     same_attr : (x y : Attr) → AttrReply x ≡ AttrReply y → x ≡ y
     same_attr x y e = cc
+
     same : (p : Target) → At o b ≡ At p a → AttrReply b ≡ AttrReply a
     same p e = cc
 at_found NoName a = ((λ e. absurd cc), (λ (o, e). absurd cc))

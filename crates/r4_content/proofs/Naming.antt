@@ -1,36 +1,34 @@
 -- What is made under a name is found there, and what is unlinked is not.
-use Rattle.std.specs.Prelude.{◌≡◌, ◌≢◌, ℕ, suc, ◌+◌, ◌-◌, ◌^◌, ◌<◌, ◌≤◌, List, [], ◌∷◌, ◌++◌, Bool, true, false, ◌==◌, cond, nat_le, nat_lt, bytes_eq, All, Option, Some, None, length, take, drop, slice_index, slice_index_or, if◌then◌else◌}
-use Rattle.std.proofs.Common.{arith, get_or, refl, sym, ap, subst, ◌∙◌, drop-cons, add-one}
-use Rattle.std.proofs.lemmas.Bool.{and_from, eqb-true, leb-true, lt-ltb, ltb-true, ne_eqb}
+use Rattle.std.specs.Prelude.{◌≡◌, ◌≢◌, ℕ, suc, ◌-◌, ◌^◌, ◌<◌, List, [], ◌∷◌, ◌++◌, Bool, true, false, ◌==◌, nat_le, nat_lt, bytes_eq, All, Option, Some, None, length, take, drop, slice_index_or, if◌then◌else◌}
+use Rattle.std.proofs.Common.{arith, get_or, refl, sym, ap, subst, ◌∙◌, drop-cons}
+use Rattle.std.proofs.lemmas.Bool.{and_from, lt-ltb, ne_eqb}
 use Rattle.std.proofs.lemmas.Grind.{common_steps}
 use Rattle.std.proofs.lemmas.List.{drop_all, take-append-drop}
 use Rattle.std.proofs.lemmas.List.Elements.{All-drop, All-head, All-take}
 use Rattle.std.proofs.lemmas.Option.{same_Some}
-use Rattle.r4_base.specs.Name.{key_of_name}
-use Rattle.r4_base.specs.Value.{Value, Stat, Entry, Byte, Content, at_key}
-use Rattle.r4_base.specs.Volume.{HasStat, IsObject, byte_rank, is_directory, root_object, stat_rank}
+use Rattle.r4_base.specs.Value.{Stat, Entry, Content, at_key}
+use Rattle.r4_base.specs.Volume.{IsObject, is_directory, root_object, stat_rank}
 use Rattle.r4_base.specs.declared.items.Attr.{Attr}
 use Rattle.r4_base.specs.declared.items.Target.{Target}
 use Rattle.r4_base.specs.declared.things.Oid.{Oid}
-use Rattle.r4_content.specs.Course.{Course, Ask, Scan, Answer, Change, Ending, ending, of_content}
-use Rattle.r4_content.specs.Edited.{Edits, and_also, edited, is_in, no_edits}
-use Rattle.r4_content.specs.Entries.{is_no_id, name_in, unname_in}
+use Rattle.r4_content.specs.Course.{Course, Ask, Answer, Change, Ending, ending, of_content}
+use Rattle.r4_content.specs.Edited.{Edits, and_also, edited}
+use Rattle.r4_content.specs.Entries.{is_no_id, name_in}
 use Rattle.r4_content.specs.Fields.{HasBytes, HasNumbers, IsUnused}
-use Rattle.r4_content.specs.Meaning.{after, course, is_path, named, reply}
-use Rattle.r4_content.specs.Objects.{Object, cut_body, cut_key, entry_less, entry_more, entry_rank, is_dir, is_full, is_same_target, link_less, made_in, new_directory, new_file, set_attr, set_entry, unnamed}
-use Rattle.r4_content.specs.Walk.{attr_at, may_be_object, target_in}
-use Rattle.r4_content.specs.Ways.{Named, Place, entry_in, free_here, if_free, object_at, step, steps, to_entry, to_free, to_object, to_parent}
-use Rattle.r4_content.specs.declared.command.Command.{Command}
-use Rattle.r4_content.specs.declared.command.Command.TheVariants.{Create, Mkdir, Unlink, Stat as StatCommand}
+use Rattle.r4_content.specs.Meaning.{after, is_path, named, reply}
+use Rattle.r4_content.specs.Objects.{Object, cut_key, entry_more, entry_rank, is_dir, is_full, is_same_target, made_in, new_directory, new_file, set_attr, set_entry}
+use Rattle.r4_content.specs.Walk.{attr_at, target_in}
+use Rattle.r4_content.specs.Ways.{Named, Place, entry_in, free_here, if_free, to_free, to_object, to_parent}
+use Rattle.r4_content.specs.declared.command.Command.TheVariants.{Create, Mkdir, Stat as StatCommand}
 use Rattle.r4_content.specs.declared.reply.Reply.{Reply}
-use Rattle.r4_content.specs.declared.reply.Reply.TheVariants.{Okay, Exists, Clash, Oids, Links, Isdir, Notdir, Absent, Attr as AttrReply, Name as NameReply}
+use Rattle.r4_content.specs.declared.reply.Reply.TheVariants.{Okay, Exists, Clash, Oids, Links, Notdir, Attr as AttrReply}
 use Rattle.r4_content.proofs.EditLaws.{edited_off, one_key}
-use Rattle.r4_content.proofs.EditParts.{IsOff, edited_first, edited_second, is_off, neither, off_both, true_not_false}
-use Rattle.r4_content.proofs.FileEdits.{attr_of, off_attr, off_cuts, off_nothing, other_stat, put_itself}
-use Rattle.r4_content.proofs.Found.{Found, There, NotDirectory, NotThere, answered, down, ends_at, found, found_from, go_attr, go_target, small_object, start, stat_there, steps_end, way_ends}
-use Rattle.r4_content.proofs.Ranks.{entry_not_byte, entry_not_stat, name_fits, same_itself, same_stat, stat_not_byte, told_same}
-use Rattle.r4_content.proofs.SameWay.{IsThere, found_again, found_object, itself_in, named_there, place_in, place_with, root_there, step_is, steps_on, target_is, with_attrs}
-use Rattle.r4_content.proofs.Writing.{goes_on, named_ends, okay_named, okay_there, stat_ends}
+use Rattle.r4_content.proofs.EditParts.{IsOff, edited_first, edited_second, is_off, neither, off_both}
+use Rattle.r4_content.proofs.FileEdits.{attr_of, off_attr, other_stat, put_itself}
+use Rattle.r4_content.proofs.Found.{There, NotDirectory, down, ends_at, found, found_from, go_attr, small_object, start, stat_there, way_ends}
+use Rattle.r4_content.proofs.Ranks.{entry_not_stat, name_fits, same_stat, told_same}
+use Rattle.r4_content.proofs.SameWay.{IsThere, found_again, found_object, itself_in, place_in, place_with, root_there, step_is, steps_on, target_is}
+use Rattle.r4_content.proofs.Writing.{named_ends, okay_named, okay_there, stat_ends}
 
 -- ---- the way to the object above, and its last step
 
@@ -159,8 +157,8 @@ module _ (limit : ℕ) (m : Content) (path : List (List ℕ)) (numbers : HasNumb
   entry_made =
       edited_first (set_entry p.here n new.target) (and_also (set_attr new new.attr) (set_attr p.here (entry_more (is_dir new) p.here.attr))) m entry_key
       (off_both (set_attr new new.attr) (set_attr p.here (entry_more (is_dir new) p.here.attr)) entry_key
-        (off_attr new new.attr entry_key (entry_not_stat p.here.target new.target n dir_small name_bytes new_object))
-        (off_attr p.here (entry_more (is_dir new) p.here.attr) entry_key (entry_not_stat p.here.target p.here.target n dir_small name_bytes there.object)))
+      (off_attr new new.attr entry_key (entry_not_stat p.here.target new.target n dir_small name_bytes new_object))
+      (off_attr p.here (entry_more (is_dir new) p.here.attr) entry_key (entry_not_stat p.here.target p.here.target n dir_small name_bytes there.object)))
       ∙ put_itself m entry_key (Entry n new.target)
 
   new_made : at_key (edited naming m) (stat_rank new.target) ≡ Some (Stat a)
@@ -183,7 +181,7 @@ module _ (limit : ℕ) (m : Content) (path : List (List ℕ)) (numbers : HasNumb
       → target_in s (at_key (edited naming m) (entry_rank d s)) ≡ Some t
   entries d s t b small_d bytes_s entry stat _ =
       ap (target_in s) (edited_off naming m (entry_rank d s) (is_off naming (entry_rank d s) (off (entry_rank d s) taken
-        (entry_not_stat d new.target s small_d bytes_s new_object) (entry_not_stat d p.here.target s small_d bytes_s there.object)))) ∙ entry
+      (entry_not_stat d new.target s small_d bytes_s new_object) (entry_not_stat d p.here.target s small_d bytes_s there.object)))) ∙ entry
     where
       taken : entry_rank d s ≡ entry_key → ⊥
       taken same =
@@ -202,7 +200,7 @@ module _ (limit : ℕ) (m : Content) (path : List (List ℕ)) (numbers : HasNumb
       by_target false other =
           let old = stat_there m t b stat in
           attr_of (edited naming m) t b old.0 (edited_off naming m (stat_rank t) (is_off naming (stat_rank t) (off (stat_rank t)
-            (λ e. entry_not_stat p.here.target t n dir_small name_bytes object (sym e)) (unlike t b object stat) (other_stat t p.here.target object there.object other))) ∙ old.1)
+          (λ e. entry_not_stat p.here.target t n dir_small name_bytes object (sym e)) (unlike t b object stat) (other_stat t p.here.target object there.object other))) ∙ old.1)
 
   way_made : found (edited naming m) (take (length path - 1) path) ≡ There (place_with (with_more p.here.target (is_dir new)) p)
   way_made =
@@ -222,9 +220,12 @@ module _ (limit : ℕ) (m : Content) (path : List (List ℕ)) (numbers : HasNumb
 free_is : (m : Content) (next : Object → (name : List ℕ) → Course) (p : Place) (n : List ℕ) → (ending (free_here next p n) (of_content m)).reply ≡ Okay
     → (is_dir p.here ≡ true) × (entry_in (at_key m (entry_rank p.here.target n)) ≡ None) × (ending (free_here next p n) (of_content m) ≡ ending (next p.here n) (of_content m))
 free_is m next p n e =
-    let (dir, free) = both (is_dir p.here) (entry_in (at_key m (entry_rank p.here.target n))) e in
-    (dir, free, ap (λ (b : Bool). ending (if b then Ask (entry_rank p.here.target n) (λ v. if_free n (next p.here n) (entry_in v)) else Answer Notdir) (of_content m)) dir
-      ∙ ap (λ (v : Option Named). ending (if_free n (next p.here n) v) (of_content m)) free)
+    let (dir, free) = both (is_dir p.here) (entry_in (at_key m (entry_rank p.here.target n))) e in (
+      dir,
+      free,
+      ap (λ (b : Bool). ending (if b then Ask (entry_rank p.here.target n) (λ v. if_free n (next p.here n) (entry_in v)) else Answer Notdir) (of_content m)) dir
+          ∙ ap (λ (v : Option Named). ending (if_free n (next p.here n) v) (of_content m)) free,
+    )
   where
     no_entry : (v : Option Named) → (ending (if_free n (next p.here n) v) (of_content m)).reply ≡ Okay → v ≡ None
     no_entry None h = refl
@@ -233,6 +234,7 @@ free_is m next p n e =
         taken : (b : Bool) → (ending (if b then Answer Exists else Answer (Clash x.name)) (of_content m)).reply ≡ Okay → ⊥
         taken true g = cc
         taken false g = cc
+
     both : (b : Bool) (v : Option Named) → (ending (if b then Ask (entry_rank p.here.target n) (λ v. if_free n (next p.here n) (entry_in v)) else Answer Notdir) (of_content m)).reply ≡ Okay
         → (b ≡ true) × (entry_in (at_key m (entry_rank p.here.target n)) ≡ None)
     both true v h = (refl, no_entry (entry_in (at_key m (entry_rank p.here.target n))) h)
@@ -269,7 +271,7 @@ directory_made m dir n oid e = by_id (is_full dir) (is_no_id oid) refl e
 
 make_stat : (limit : ℕ) (path : List (List ℕ)) (oid : Oid) (m : Content) (a : Attr) (make : Object → (name : List ℕ) → Course) → HasNumbers m → HasBytes path → IsUnused m oid
     → ((dir : Object) (n : List ℕ) → (ending (make dir n) (of_content m)).reply ≡ Okay
-      → (oid.0 < 2 ^ 60) × (ending (make dir n) (of_content m) ≡ record { edits = name_in dir n (made_in dir n oid a); reply = Okay }))
+    → (oid.0 < 2 ^ 60) × (ending (make dir n) (of_content m) ≡ record { edits = name_in dir n (made_in dir n oid a); reply = Okay }))
     → (ending (named path (to_free path make)) (of_content m)).reply ≡ Okay
     → reply limit (StatCommand path) (edited (ending (named path (to_free path make)) (of_content m)).edits m) ≡ AttrReply a
 unfolding to_free

@@ -1,6 +1,6 @@
 -- Keys of stat data, of bodies and of entries are told apart by their ranks.
-use Rattle.std.specs.Prelude.{◌≡◌, ℕ, ◌+◌, ◌-◌, ◌*◌, ◌^◌, ◌<◌, ◌≤◌, List, [], ◌∷◌, Bool, true, false, ◌&&◌, ◌==◌, nat_le, nat_lt, slice_index, All}
-use Rattle.std.proofs.Common.{arith, lit<, refl, sym, ap, subst, ◌∙◌, get_or}
+use Rattle.std.specs.Prelude.{◌≡◌, ℕ, ◌+◌, ◌-◌, ◌*◌, ◌^◌, ◌<◌, ◌≤◌, List, Bool, true, false, ◌&&◌, ◌==◌, nat_le, nat_lt, slice_index, All}
+use Rattle.std.proofs.Common.{arith, lit<, refl, sym, ap, ◌∙◌}
 use Rattle.std.proofs.lemmas.Bool.{and_from, eq-eqb, eqb-true, leb-true, ltb-true}
 use Rattle.r4_base.specs.Key.{IsKey, body_key, rank, stat_key}
 use Rattle.r4_base.specs.Name.{key_of_name}

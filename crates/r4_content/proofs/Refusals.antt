@@ -8,13 +8,13 @@ use Rattle.r4_base.specs.declared.items.Target.{Target}
 use Rattle.r4_content.specs.Bodies.{bytes_in, read_in, smaller}
 use Rattle.r4_content.specs.Course.{Course, Ask, Scan, Answer, Change, Source, of_content, ending}
 use Rattle.r4_content.specs.Edited.{Pairs, changed, edited, is_in, no_edits}
-use Rattle.r4_content.specs.Meaning.{after, changes, course, is_path, named, reply}
+use Rattle.r4_content.specs.Meaning.{after, changes, course, is_path, reply}
 use Rattle.r4_content.specs.Objects.{Object, is_dir}
 use Rattle.r4_content.specs.Reading.{OnlyReads}
 use Rattle.r4_content.specs.Walk.{attr_in, may_be_object, target_in}
-use Rattle.r4_content.specs.Ways.{Place, object_at, step, steps, to_object, with_attr, with_target}
+use Rattle.r4_content.specs.Ways.{Place, object_at, steps, to_object, with_attr, with_target}
 use Rattle.r4_content.specs.declared.command.Command.{Command}
-use Rattle.r4_content.specs.declared.command.Command.TheVariants.{Create, Mkdir, Write, Fill, Truncate, Read, Stat, Names, Link, Unlink, Rmdir, Rename, Chmod, Chown, Times, Begin, End, Commit}
+use Rattle.r4_content.specs.declared.command.Command.TheVariants.{Read, Stat, Names, Begin, End, Commit}
 use Rattle.r4_content.specs.declared.reply.Reply.{Reply}
 use Rattle.r4_content.specs.declared.reply.Reply.TheVariants.{Okay, Data, Absent, Notdir}
 

@@ -1,12 +1,12 @@
 -- A way is found again in a content in which the entries on it are the same, and its objects have other attributes at most.
-use Rattle.std.specs.Prelude.{◌≡◌, ℕ, ◌^◌, ◌<◌, List, [], ◌∷◌, ◌++◌, Bool, true, false, map, All, Option, Some, None, bytes_eq, if◌then◌else◌}
+use Rattle.std.specs.Prelude.{◌≡◌, ℕ, ◌^◌, ◌<◌, List, [], ◌∷◌, Bool, true, false, map, All, Option, Some, None, bytes_eq, if◌then◌else◌}
 use Rattle.std.proofs.Common.{arith, refl, sym, ap, subst, ◌∙◌, lit<}
 use Rattle.std.proofs.lemmas.List.{map-append}
 use Rattle.std.proofs.lemmas.Option.{same_Some}
 use Rattle.std.proofs.lemmas.Slice.Eq.{bytes_eq-Decides}
 use Rattle.std.proofs.lemmas.List.Elements.{All-head, All-tail}
 use Rattle.r4_base.specs.Value.{Value, Stat, Entry, Byte, Content, at_key}
-use Rattle.r4_base.specs.Volume.{IsObject, is_directory, root_object, stat_rank}
+use Rattle.r4_base.specs.Volume.{IsObject, is_directory, root_object}
 use Rattle.r4_base.specs.declared.items.Attr.{Attr}
 use Rattle.r4_base.specs.declared.items.Target.{Target}
 use Rattle.r4_content.specs.Objects.{Object, entry_rank, is_dir}
@@ -94,7 +94,7 @@ module _ (m after : Content) (g : Target → Attr → Attr) (Goes : Target → A
     (kind : (t : Target) (a : Attr) → is_directory (g t a) ≡ is_directory a)
     (orderings : (k : ℕ) (n : List ℕ) (t : Target) → at_key m k ≡ Some (Entry n t) → t.ordering < 2 ^ 64)
     (same_entry : (d : Target) (n : List ℕ) (t : Target) (a : Attr) → d.oid.0 < 2 ^ 60 → All (λ x. x < 256) n → target_in n (at_key m (entry_rank d n)) ≡ Some t → attr_at m t ≡ Some a → Goes t a
-      → target_in n (at_key after (entry_rank d n)) ≡ Some t)
+    → target_in n (at_key after (entry_rank d n)) ≡ Some t)
     (same_stat : (t : Target) (a : Attr) → IsObject t → attr_at m t ≡ Some a → Goes t a → attr_at after t ≡ Some (g t a)) where
   goes : (path : List (List ℕ)) (q p : Place) → found_from m path q ≡ There p → Goes p.here.target p.here.attr → Goes q.here.target q.here.attr
   goes [] q p e h = subst (λ (x : Place). Goes x.here.target x.here.attr) (sym (place_in q p e)) h

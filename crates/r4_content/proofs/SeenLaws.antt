@@ -1,5 +1,5 @@
 -- A list that rises by key is a content: it is asked alike, and edited alike.
-use Rattle.std.specs.Prelude.{Option, None, List, ◌≡◌, ℕ, zero, suc, ◌+◌, ◌-◌, [], ◌∷◌, Bool, not, cond}
+use Rattle.std.specs.Prelude.{None, List, ◌≡◌, ℕ, zero, suc, ◌+◌, ◌-◌, [], ◌∷◌, Bool, not, cond}
 use Rattle.std.proofs.Common.{refl, sym, ap, ◌∙◌}
 use Rattle.std.specs.List.{filter}
 use Rattle.std.specs.Ordering.{nat_cmp}
@@ -10,7 +10,7 @@ use Rattle.r4_base.specs.Value.{Value, Byte, Content, at_key}
 use Rattle.r4_content.specs.Edited.{Pairs, Intervals, Edits, is_between, is_in, pairs_between, cut_all, zero_from, zero_all, put_all, edited}
 use Rattle.r4_content.specs.declared.command.Command.{Command}
 use Rattle.r4_content.specs.Course.{of_content, ending, asked}
-use Rattle.r4_content.specs.Meaning.{course, after, after_all, replies, reply}
+use Rattle.r4_content.specs.Meaning.{course, after, replies, reply}
 use Rattle.r4_content.specs.Seen.{of_seen, pairs_in, Rises, IsSeen}
 use Rattle.r4_content.specs.Listed.{list_after, list_replies, list_cut, list_zero_from, list_zero, list_put, list_edited}
 use Rattle.r4_content.proofs.EditLaws.{at_retain, same_content}

@@ -1,30 +1,30 @@
 -- What is unlinked is not found under its name.
-use Rattle.std.specs.Prelude.{◌≡◌, ◌≢◌, ℕ, ◌+◌, ◌-◌, ◌^◌, ◌<◌, ◌≤◌, List, [], ◌∷◌, Bool, true, false, ◌==◌, cond, nat_le, nat_lt, All, Option, Some, None, length, take, slice_index_or, if◌then◌else◌}
+use Rattle.std.specs.Prelude.{◌≡◌, ◌≢◌, ℕ, ◌+◌, ◌-◌, ◌^◌, ◌<◌, ◌≤◌, List, [], ◌∷◌, Bool, true, false, ◌==◌, cond, nat_le, All, Option, Some, None, length, take, slice_index_or, if◌then◌else◌}
 use Rattle.std.proofs.Common.{arith, refl, sym, ap, subst, ◌∙◌}
 use Rattle.std.proofs.lemmas.List.Elements.{All-take}
 use Rattle.std.proofs.lemmas.Option.{same_Some}
-use Rattle.r4_base.specs.Value.{Value, Stat, Entry, Byte, Content, at_key}
+use Rattle.r4_base.specs.Value.{Value, Stat, Entry, Content, at_key}
 use Rattle.r4_base.specs.Volume.{IsObject, byte_rank, is_directory, stat_rank}
 use Rattle.r4_base.specs.declared.items.Attr.{Attr}
 use Rattle.r4_base.specs.declared.items.Target.{Target}
 use Rattle.r4_content.specs.Course.{Course, Answer, Change, Ending, ending, of_content}
-use Rattle.r4_content.specs.Edited.{Edits, and_also, edited, is_between, is_in}
+use Rattle.r4_content.specs.Edited.{Edits, and_also, edited, is_between}
 use Rattle.r4_content.specs.Entries.{unname_in}
 use Rattle.r4_content.specs.Fields.{HasBytes, HasNumbers}
 use Rattle.r4_content.specs.Meaning.{after, is_path, reply}
 use Rattle.r4_content.specs.Objects.{Object, cut_body, cut_key, entry_less, entry_rank, is_dir, is_same_target, link_less, set_attr, unnamed}
 use Rattle.r4_content.specs.Walk.{attr_at, target_in}
-use Rattle.r4_content.specs.Ways.{Place, step, steps, to_entry, to_object}
+use Rattle.r4_content.specs.Ways.{Place, step, to_entry, to_object}
 use Rattle.r4_content.specs.declared.command.Command.TheVariants.{Unlink, Stat as StatCommand}
 use Rattle.r4_content.specs.declared.reply.Reply.TheVariants.{Okay, Isdir, Absent, Attr as AttrReply}
 use Rattle.r4_content.proofs.CourseLaws.{at_itself, or_left}
 use Rattle.r4_content.proofs.EditLaws.{at_edited, edited_off}
 use Rattle.r4_content.proofs.EditParts.{IsOff, edited_first, edited_second, is_off, off_both, true_not_false}
 use Rattle.r4_content.proofs.FileEdits.{attr_of, off_attr, off_cuts, other_stat, put_itself}
-use Rattle.r4_content.proofs.Found.{Found, There, NotDirectory, NotThere, down, ends_at, found, found_from, go_attr, go_target, small_object, stat_there, steps_end, way_ends}
-use Rattle.r4_content.proofs.Naming.{CameAbove, came_above, found_last, last_bytes, off_key}
+use Rattle.r4_content.proofs.Found.{There, NotDirectory, NotThere, down, ends_at, found, found_from, go_attr, go_target, small_object, stat_there, steps_end, way_ends}
+use Rattle.r4_content.proofs.Naming.{came_above, found_last, last_bytes, off_key}
 use Rattle.r4_content.proofs.Ranks.{entry_not_byte, entry_not_stat, same_stat, stat_not_byte, told_same}
-use Rattle.r4_content.proofs.SameWay.{IsThere, StepsTo, found_again, found_object, named_there, place_in, place_with, step_is, target_is, with_attrs}
+use Rattle.r4_content.proofs.SameWay.{IsThere, StepsTo, found_again, found_object, named_there, place_in, place_with, step_is, target_is}
 use Rattle.r4_content.proofs.Writing.{named_ends, okay_there}
 
 -- only the directory has an entry less
@@ -99,6 +99,7 @@ module _ (m : Content) (path : List (List ℕ)) (numbers : HasNumbers m) (bytes 
     where
       size : q.here.attr.size ≤ 2 ^ 64
       size = let lt = numbers.sizes (stat_rank q.here.target) q.here.attr (stat_there m q.here.target q.here.attr file_there.stat).1 in omega arith
+
       by_kind : (d b : Bool) → IsOff (if d then cut_key (stat_rank q.here.target) else if b then and_also (cut_key (stat_rank q.here.target)) (cut_body q.here 0 q.here.attr.size) else set_attr q.here (link_less q.here.attr)) k
       by_kind true b = off_key (stat_rank q.here.target) k one
       by_kind false true = off_both (cut_key (stat_rank q.here.target)) (cut_body q.here 0 q.here.attr.size) k (off_key (stat_rank q.here.target) k one) (off_cuts q.here 0 q.here.attr.size k size two)
@@ -116,9 +117,9 @@ module _ (m : Content) (path : List (List ℕ)) (numbers : HasNumbers m) (bytes 
   entry_gone =
       edited_first (cut_key entry_key) rest_of_it m entry_key
       (off_both (set_attr p.here (entry_less (is_dir q.here) p.here.attr)) (unnamed q.here) entry_key
-        (off_attr p.here (entry_less (is_dir q.here) p.here.attr) entry_key (entry_not_stat p.here.target p.here.target n dir_small name_bytes there.object))
-        (off_unnamed entry_key (entry_not_stat p.here.target q.here.target n dir_small name_bytes file_there.object)
-          (λ x lt. entry_not_byte p.here.target q.here.target n x dir_small name_bytes file_there.object lt)))
+      (off_attr p.here (entry_less (is_dir q.here) p.here.attr) entry_key (entry_not_stat p.here.target p.here.target n dir_small name_bytes there.object))
+      (off_unnamed entry_key (entry_not_stat p.here.target q.here.target n dir_small name_bytes file_there.object)
+      (λ x lt. entry_not_byte p.here.target q.here.target n x dir_small name_bytes file_there.object lt)))
       ∙ at_edited (cut_key entry_key) m entry_key ∙ ap (λ (b : Bool). cond b None (at_key m entry_key)) (or_left (is_between entry_key (entry_key + 1) entry_key) false (at_itself entry_key))
 
   dir_left : at_key gone (stat_rank p.here.target) ≡ Some (Stat (entry_less (is_dir q.here) p.here.attr))
@@ -132,8 +133,8 @@ module _ (m : Content) (path : List (List ℕ)) (numbers : HasNumbers m) (bytes 
       → target_in s (at_key gone (entry_rank d s)) ≡ Some t
   entries d s t b small_d bytes_s entry stat is_d =
       ap (target_in s) (edited_off (unname_in p.here n q.here) m (entry_rank d s) (is_off (unname_in p.here n q.here) (entry_rank d s) (off (entry_rank d s) other
-        (entry_not_stat d p.here.target s small_d bytes_s there.object) (entry_not_stat d q.here.target s small_d bytes_s file_there.object)
-        (λ x lt. entry_not_byte d q.here.target s x small_d bytes_s file_there.object lt)))) ∙ entry
+      (entry_not_stat d p.here.target s small_d bytes_s there.object) (entry_not_stat d q.here.target s small_d bytes_s file_there.object)
+      (λ x lt. entry_not_byte d q.here.target s x small_d bytes_s file_there.object lt)))) ∙ entry
     where
       other : entry_rank d s ≡ entry_key → ⊥
       other same =
@@ -155,8 +156,8 @@ module _ (m : Content) (path : List (List ℕ)) (numbers : HasNumbers m) (bytes 
       by_target false other =
           let old = stat_there m t b stat in
           attr_of gone t b old.0 (edited_off (unname_in p.here n q.here) m (stat_rank t) (is_off (unname_in p.here n q.here) (stat_rank t) (off (stat_rank t)
-            (λ e. entry_not_stat p.here.target t n dir_small name_bytes object (sym e)) (other_stat t p.here.target object there.object other) (not_file t b object stat is_d)
-            (λ x lt. stat_not_byte t q.here.target x object file_there.object lt))) ∙ old.1)
+          (λ e. entry_not_stat p.here.target t n dir_small name_bytes object (sym e)) (other_stat t p.here.target object there.object other) (not_file t b object stat is_d)
+          (λ x lt. stat_not_byte t q.here.target x object file_there.object lt))) ∙ old.1)
 
   way_left : found gone (take (length path - 1) path) ≡ There (place_with (with_less p.here.target (is_dir q.here)) p)
   way_left =

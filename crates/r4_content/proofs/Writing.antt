@@ -1,29 +1,27 @@
 -- What is written is read.
-use Rattle.std.specs.Prelude.{◌≡◌, ◌≢◌, ℕ, ◌+◌, ◌^◌, ◌<◌, ◌≤◌, List, [], ◌∷◌, Bool, true, false, ◌==◌, cond, nat_lt, All, Some, length, replicate, if◌then◌else◌}
-use Rattle.std.proofs.Common.{arith, refl, sym, ap, subst, ◌∙◌}
-use Rattle.std.proofs.lemmas.Bool.{eqb-true, leb-true, lt-ltb, ltb-true}
+use Rattle.std.specs.Prelude.{◌≡◌, ◌≢◌, ℕ, ◌+◌, ◌^◌, ◌<◌, ◌≤◌, List, [], ◌∷◌, Bool, true, false, ◌==◌, cond, nat_lt, length, replicate, if◌then◌else◌}
+use Rattle.std.proofs.Common.{arith, refl, sym, ap, ◌∙◌}
+use Rattle.std.proofs.lemmas.Bool.{eqb-true, lt-ltb}
 use Rattle.std.proofs.lemmas.Grind.{common_steps}
 use Rattle.std.proofs.lemmas.List.{length-replicate}
 use Rattle.std.specs.FinMap.{find}
 use Rattle.std.specs.Ordering.{nat_cmp}
-use Rattle.r4_base.specs.Value.{Value, Stat, Byte, Content, at_key}
-use Rattle.r4_base.specs.Volume.{IsObject, byte_rank, is_directory, stat_rank}
+use Rattle.r4_base.specs.Value.{Value, Content, at_key}
+use Rattle.r4_base.specs.Volume.{byte_rank, stat_rank}
 use Rattle.r4_base.specs.declared.items.Attr.{Attr}
 use Rattle.r4_content.specs.Bodies.{bytes_in, fill_gap, larger, read_in, resize, smaller, truncated, written}
-use Rattle.r4_content.specs.Course.{Course, Ask, Scan, Answer, Change, Ending, ending, of_content}
-use Rattle.r4_content.specs.Edited.{Edits, and_also, edited, is_between, is_in, no_edits, put_keys, pairs_between}
+use Rattle.r4_content.specs.Course.{Course, Scan, Answer, Change, Ending, ending, of_content}
+use Rattle.r4_content.specs.Edited.{Edits, and_also, edited, is_between, is_in, put_keys, pairs_between}
 use Rattle.r4_content.specs.Fields.{HasBytes, HasNumbers}
 use Rattle.r4_content.specs.Meaning.{after, course, is_path, named, reply}
-use Rattle.r4_content.specs.Objects.{Object, byte_pairs, cut_body, is_dir, is_same_target, set_attr, set_body, sized}
+use Rattle.r4_content.specs.Objects.{Object, byte_pairs, cut_body, is_dir, set_body}
 use Rattle.r4_content.specs.Ways.{Place, to_file, to_object}
-use Rattle.r4_content.specs.declared.command.Command.{Command}
 use Rattle.r4_content.specs.declared.command.Command.TheVariants.{Write, Fill, Truncate, Read, Stat as StatCommand}
-use Rattle.r4_content.specs.declared.reply.Reply.{Reply}
-use Rattle.r4_content.specs.declared.reply.Reply.TheVariants.{Okay, Data, Isdir, Toobig, Notdir, Absent, Attr as AttrReply, Name as NameReply}
+use Rattle.r4_content.specs.declared.reply.Reply.TheVariants.{Okay, Data, Isdir, Toobig, Attr as AttrReply, Name as NameReply}
 use Rattle.r4_content.proofs.BytePairs.{bytes_of_pairs, keys_in, put_found, read_pairs}
 use Rattle.r4_content.proofs.EditLaws.{at_edited}
-use Rattle.r4_content.proofs.EditParts.{IsOff, edited_first, edited_over, edited_second, is_off, off_both, put_first, true_not_false}
-use Rattle.r4_content.proofs.FileEdits.{EditsFile, IsElsewhere, file_again, off_attr, off_body, off_cuts, off_gap, off_resize, resized, resized_size, resized_stat, with_size, with_size_kind}
+use Rattle.r4_content.proofs.EditParts.{IsOff, edited_first, edited_over, edited_second, off_both, put_first}
+use Rattle.r4_content.proofs.FileEdits.{EditsFile, file_again, off_body, off_cuts, off_gap, off_resize, resized, resized_size, resized_stat, with_size, with_size_kind}
 use Rattle.r4_content.proofs.Found.{Found, There, NotDirectory, NotThere, answered, ends_at, found, stat_there, way_ends}
 use Rattle.r4_content.proofs.Ranks.{byte_after, in_body, same_itself, stat_not_byte}
 use Rattle.r4_content.proofs.SameWay.{IsThere, found_object, place_with, with_attrs}
@@ -66,14 +64,22 @@ came_to limit m path end next e =
     let way = named_ends m path (to_object path on) is ∙ way_ends m path on in
     let (p, at, okay) = okay_there m on (found m path) (sym (ap (λ (x : Ending). x.reply) way) ∙ e) in
     let (file, small) = told p (is_dir p.here) (nat_lt limit end) okay in
-    record { place = p; name = is; at = at; file = file; small = not_less small; ends = goes_on m path on p is at
-      ∙ ap (λ (b : Bool). ending (if b then Answer Isdir else if nat_lt limit end then Answer Toobig else next p.here) (of_content m)) file
-      ∙ ap (λ (b : Bool). ending (if b then Answer Toobig else next p.here) (of_content m)) small }
+    record {
+      place = p;
+      name = is;
+      at = at;
+      file = file;
+      small = not_less small;
+      ends = goes_on m path on p is at
+          ∙ ap (λ (b : Bool). ending (if b then Answer Isdir else if nat_lt limit end then Answer Toobig else next p.here) (of_content m)) file
+          ∙ ap (λ (b : Bool). ending (if b then Answer Toobig else next p.here) (of_content m)) small;
+    }
   where
     told : (p : Place) (a b : Bool) → (ending (if a then Answer Isdir else if b then Answer Toobig else next p.here) (of_content m)).reply ≡ Okay → (a ≡ false) × (b ≡ false)
     told p true b h = absurd cc
     told p false true h = absurd cc
     told p false false h = (refl, refl)
+
     not_less : nat_lt limit end ≡ false → end ≤ limit
     not_less h = grind (arith, common_steps)
 
@@ -174,7 +180,7 @@ write_read limit path from xs m numbers le bytes okay =
         let n = larger o.attr.size (from + length xs) in
         let made = edited (written o from xs) m in
         let done : ending (course limit (Write path from xs)) (of_content m) ≡ record { edits = written o from xs; reply = Okay }
-              = c.ends ∙ ap (λ (b : Bool). ending (if b then Answer Okay else Change (written o from xs)) (of_content m)) some in
+        = c.ends ∙ ap (λ (b : Bool). ending (if b then Answer Okay else Change (written o from xs)) (of_content m)) some in
         let there = found_object m numbers.orderings path c.place c.at in
         let small = c.small in
         let fits : from + length xs ≤ 2 ^ 64 = omega arith in
@@ -222,7 +228,8 @@ truncate_stat limit path n m numbers le bytes okay =
     let small = c.small in
     let size = numbers.sizes (stat_rank o.target) o.attr (stat_there m o.target o.attr there.stat).1 in
     let again = file_again m path c.place n (truncated o n) numbers bytes c.at there (truncate_edits m o there n (omega arith) (omega arith)) in
-    let p = place_with (with_size o.target n) c.place in
-    (p.here.attr,
+    let p = place_with (with_size o.target n) c.place in (
+      p.here.attr,
       ap (λ (x : Ending). reply limit (StatCommand path) (edited x.edits m)) c.ends ∙ stat_ends limit (edited (truncated o n) m) path p c.name again,
-      ap (λ (x : Object). x.attr.size) (with_size_here o n) ∙ resized_size n o.attr)
+      ap (λ (x : Object). x.attr.size) (with_size_here o n) ∙ resized_size n o.attr,
+    )

@@ -2,7 +2,6 @@
 use Rattle.std.specs.Prelude.{ℕ, ◌+◌, ◌-◌, ◌*◌, ◌^◌, List, [], ◌∷◌, Bool, not, ◌&&◌, ◌==◌, nat_le, length, bytes_eq, Option, Some, None, if◌then◌else◌}
 use Rattle.r4_base.specs.Key.{rank}
 use Rattle.r4_base.specs.Value.{Stat, Entry, Byte}
-use Rattle.r4_base.specs.Volume.{stat_rank}
 use Rattle.r4_base.specs.declared.things.Oid.{Oid}
 use Rattle.r4_content.specs.Course.{Course, Ask, Scan, Answer, Change}
 use Rattle.r4_content.specs.Edited.{Pairs, Edits, and_also}

@@ -1,5 +1,5 @@
 -- Edits, and what was seen, as they are held in memory: bytes of a file stand in intervals and in runs (docs/commands.md, "Edits").
-use Rattle.std.specs.Prelude.{ℕ, ◌-◌, List, [], ◌∷◌, ◌++◌, map, replicate}
+use Rattle.std.specs.Prelude.{ℕ, ◌-◌, [], ◌∷◌, ◌++◌, map, replicate}
 use Rattle.std.specs.List.{flat_map}
 use Rattle.r4_base.specs.Key.{rank}
 use Rattle.r4_base.specs.Value.{Value, value_of}

@@ -7,7 +7,7 @@ use Rattle.r4_base.specs.Volume.{byte_rank, is_directory, stat_rank}
 use Rattle.r4_base.specs.declared.items.Attr.{Attr}
 use Rattle.r4_base.specs.declared.items.Target.{Target}
 use Rattle.r4_base.specs.declared.things.Oid.{Oid}
-use Rattle.r4_content.specs.Edited.{Pairs, Edits, no_edits, and_also}
+use Rattle.r4_content.specs.Edited.{Pairs, Edits, and_also}
 
 -- an object that was found
 pub record Object : Type 0 where

@@ -1,5 +1,5 @@
 -- The ways of commands to the objects that they name: what is asked for, and what is answered where there is no way (docs/commands.md, "Ways").
-use Rattle.std.specs.Prelude.{ℕ, ◌+◌, ◌-◌, List, [], ◌∷◌, ◌++◌, Bool, not, ◌&&◌, ◌||◌, ◌==◌, nat_lt, length, take, slice_index_or, bytes_eq, Option, Some, None, if◌then◌else◌}
+use Rattle.std.specs.Prelude.{ℕ, ◌-◌, List, [], ◌∷◌, ◌++◌, not, ◌&&◌, ◌||◌, ◌==◌, nat_lt, length, take, slice_index_or, bytes_eq, Option, Some, None, if◌then◌else◌}
 use Rattle.r4_base.specs.Value.{Value, Stat, Entry, Byte}
 use Rattle.r4_base.specs.Volume.{root_object, stat_rank}
 use Rattle.r4_base.specs.declared.items.Attr.{Attr}

@@ -13,7 +13,10 @@ mod seen;
 pub use command::Command;
 pub use edits::{ByteRun, Edits, FilledInterval, Interval};
 pub use examples::{empty_volume_examples, other_contents_examples, touched_examples};
-pub use laws::{apart_commands_commute, commands_are_local, lists_are_contents, refusals_change_nothing, seen_suffices, walks_agree, what_is_written_is_read};
+pub use laws::{
+    apart_commands_commute, commands_are_local, lists_are_contents, refusals_change_nothing,
+    seen_suffices, walks_agree, what_is_written_is_read,
+};
 pub use names::Names;
 pub use path::Path;
 pub use r4_base::{Bytes, Name};

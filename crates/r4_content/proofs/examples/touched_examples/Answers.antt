@@ -1,5 +1,4 @@
-use Rattle.std.specs.Prelude.{◌∷◌, [], codes}
-use Rattle.std.proofs.Common.{refl, ◌∙◌}
+use Rattle.std.specs.Prelude.{codes}
 use Rattle.r4_base.specs.Key.{rank}
 use Rattle.r4_base.specs.Name.{bad_byte, key_of_name, name_fault, packed, r5_from}
 use Rattle.r4_content.specs.Examples.{a, at, f, id, three_bytes}

@@ -1,5 +1,4 @@
-use Rattle.std.specs.Prelude.{◌≡◌}
-use Rattle.std.proofs.Common.{sym, subst, ◌∙◌}
+use Rattle.std.proofs.Common.{sym, ◌∙◌}
 use Rattle.r4_content.specs.Walk.{walk}
 use Rattle.r4_content.proofs.Found.{at_absent, at_found, at_name, at_notdir, stat_walks}
 use Rattle.r4_content.proofs.laws.walks_agree.Goals as goal
