@@ -13,3 +13,4 @@ pub mod FileEdits
 pub mod Writing
 pub mod Naming
 pub mod Unnaming
+pub mod Counting
