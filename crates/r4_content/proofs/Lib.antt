@@ -14,3 +14,4 @@ pub mod Writing
 pub mod Naming
 pub mod Unnaming
 pub mod Counting
+pub mod Rewired
