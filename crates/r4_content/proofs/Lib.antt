@@ -15,3 +15,4 @@ pub mod Naming
 pub mod Unnaming
 pub mod Counting
 pub mod Rewired
+pub mod Shapes

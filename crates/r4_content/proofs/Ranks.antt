@@ -30,7 +30,7 @@ stat_not_byte u t x hu ht lt e =
 pub name_fits : (d : Target) (n : List ℕ) → d.oid.0 < 2 ^ 60 → All (λ x. x < 256) n → IsKey (key_of_name d.oid.0 n)
 name_fits d n small bytes = key_fits d.oid.0 n small (bytes_of n bytes)
 
-first_of_name : (dir : ℕ) (n : List ℕ) → slice_index (key_of_name dir n).el 0 ≡ dir * 16
+pub first_of_name : (dir : ℕ) (n : List ℕ) → slice_index (key_of_name dir n).el 0 ≡ dir * 16
 unfolding key_of_name
 first_of_name dir n = refl
 

@@ -62,6 +62,15 @@ pick_not p k (Some (Byte x)) on h = ap (λ (b : Bool). if b then Some (Byte x) e
 pub here_not : (p : ℕ × Value → Bool) (k : ℕ) (v : Option Value) → OnEntries p → ((s : List ℕ) (t : Target) → v ≡ Some (Entry s t) → p (k, Entry s t) ≡ false) → here p k v ≡ 0
 here_not p k v on h = ap (λ (x : Option Value). if is_some x then 1 else 0) (pick_not p k v on h)
 
+pub not_entry : (v : Option Value) (s : List ℕ) (t : Target) → entry_in v ≡ None → v ≡ Some (Entry s t) → ⊥
+not_entry v s t none is = not_some (record { name = s; target = t }) (sym (ap entry_in is) ∙ none)
+  where
+    not_some : (x : Named) → Some x ≡ None → ⊥
+    not_some x e = cc
+
+pub here_empty : (p : ℕ × Value → Bool) (k : ℕ) (v : Option Value) → OnEntries p → entry_in v ≡ None → here p k v ≡ 0
+here_empty p k v on none = here_not p k v on (λ s t is. absurd (not_entry v s t none is))
+
 no_entry : (v : Option Value) (s : List ℕ) (t : Target) → None ≡ entry_in v → v ≡ Some (Entry s t) → ⊥
 no_entry v s t none is = not_some (record { name = s; target = t }) (none ∙ ap entry_in is)
   where
@@ -124,7 +133,7 @@ pub record Rewired (m n : Content) (i j : ℕ) (became : Target → Attr → Opt
   pub others : (k : ℕ) → k ≢ i → k ≢ j → entry_in (at_key m k) ≡ entry_in (at_key n k)
   pub kept : (t : Target) (a b : Attr) → HasStat m t a → became t a ≡ Some b → HasStat n t b
   pub from : (t : Target) (b : Attr) → HasStat n t b → ((a : Attr) × HasStat m t a × (became t a ≡ Some b)) ⊎ Born t b
-  pub kind : (t : Target) (a b : Attr) → became t a ≡ Some b → is_directory b ≡ is_directory a
+  pub kind : (t : Target) (a b : Attr) → HasStat m t a → became t a ≡ Some b → is_directory b ≡ is_directory a
   pub stays : (k : ℕ) (s : List ℕ) (t : Target) (a : Attr) → k ≢ i → k ≢ j → at_key m k ≡ Some (Entry s t) → HasStat m t a → (b : Attr) × (became t a ≡ Some b)
   pub holder_stays : (k : ℕ) (s : List ℕ) (t p : Target) (a : Attr) → k ≢ i → k ≢ j → at_key m k ≡ Some (Entry s t) → HasStat m p a → is_directory a ≡ true → dir_of_key (key_of_rank k) ≡ p.oid.0
       → (b : Attr) × (became p a ≡ Some b)
@@ -175,7 +184,7 @@ module _ (m n : Content) (i j : ℕ) (became : Target → Attr → Option Attr) 
           let (d, e) = r.stays k s t c a b at h in
           let old : is_directory_value (at_key m (stat_rank t)) ≡ is_directory c = ap is_directory_value h.1 in
           let new : is_directory_value (at_key n (stat_rank t)) ≡ is_directory d = ap is_directory_value (r.kept t c d h e).1 in
-          ap (λ (x : Bool). is_entry_in dir (k, Entry s t) && x) (old ∙ sym (r.kind t c d e) ∙ sym new)
+          ap (λ (x : Bool). is_entry_in dir (k, Entry s t) && x) (old ∙ sym (r.kind t c d h e) ∙ sym new)
 
   -- nothing in m speaks of what is born
   born_unnamed : (t : Target) (b : Attr) → Born t b → (k : ℕ) (s : List ℕ) (u : Target) → at_key m k ≡ Some (Entry s u) → names_object t (Entry s u) ≡ false
@@ -203,7 +212,7 @@ module _ (m n : Content) (i j : ℕ) (became : Target → Attr → Option Attr) 
   root =
       let (a, h, dir) = lawful.root in
       let (b, e) = r.root_stays a h in
-      (b, r.kept root_object a b h e, r.kind root_object a b e ∙ dir)
+      (b, r.kept root_object a b h e, r.kind root_object a b h e ∙ dir)
 
   root_unnamed : links_to n root_object ≡ 0
   root_unnamed =
@@ -225,7 +234,7 @@ module _ (m n : Content) (i j : ℕ) (became : Target → Attr → Option Attr) 
   named_once : (t : Target) (b : Attr) → HasStat n t b → is_directory b ≡ true → t ≢ root_object → links_to n t ≡ 1
   named_once t b there dir no_root = elim (r.from t b there) [
     | inl (a, h, e) ↦
-        let was = sym (r.kind t a b e) ∙ dir in
+        let was = sym (r.kind t a b h e) ∙ dir in
         let all = links_are t in
         let one = lawful.named_once t a h was no_root in
         let same = r.directory_links t a b h e was no_root in
@@ -236,7 +245,7 @@ module _ (m n : Content) (i j : ℕ) (became : Target → Attr → Option Attr) 
   directories : (t : Target) (b : Attr) → HasStat n t b → is_directory b ≡ true → (b.size ≡ entries_in n t) × (b.nlink ≡ 2 + directories_in n t)
   directories t b there dir = elim (r.from t b there) [
     | inl (a, h, e) ↦
-        let was = sym (r.kind t a b e) ∙ dir in
+        let was = sym (r.kind t a b h e) ∙ dir in
         let held = lawful.directories t a h was in
         let all = entries_are t.oid.0 in
         let dirs = directories_are t.oid.0 in
@@ -266,7 +275,7 @@ module _ (m n : Content) (i j : ℕ) (became : Target → Attr → Option Attr) 
   files : (t : Target) (b : Attr) → HasStat n t b → is_directory b ≡ false → b.nlink ≡ links_to n t
   files t b there file = elim (r.from t b there) [
     | inl (a, h, e) ↦
-        let was = sym (r.kind t a b e) ∙ file in
+        let was = sym (r.kind t a b h e) ∙ file in
         let all = links_are t in
         let held = lawful.files t a h was in
         let same = r.file_links t a b h e was in
@@ -282,7 +291,7 @@ module _ (m n : Content) (i j : ℕ) (became : Target → Attr → Option Attr) 
         let was = entry_was k s t a b at in
         let (p, c, there, dir, is) = lawful.holder k s t was in
         let (d, e) = r.holder_stays k s t p c a b was there dir is in
-        (p, d, r.kept p c d there e, r.kind p c d e ∙ dir, is)
+        (p, d, r.kept p c d there e, r.kind p c d there e ∙ dir, is)
   ]
 
   target : (k : ℕ) (s : List ℕ) (t : Target) → at_key n k ≡ Some (Entry s t) → (b : Attr) × HasStat n t b
@@ -342,7 +351,7 @@ module _ (m n : Content) (i j : ℕ) (became : Target → Attr → Option Attr) 
           let (p, b, there, dir, in_p) = holder k s t at_t in
           elim (r.from p b there) [
             | inl (a, h, goes) ↦
-                let was = sym (r.kind p a b goes) ∙ dir in
+                let was = sym (r.kind p a b h goes) ∙ dir in
                 let (steps, old) = lawful.reached p a h in
                 let (more, rest) = directory_reached steps p a b old h was goes in
                 (suc more, (p, rest, (k, s, at_t, in_p)))
@@ -376,7 +385,7 @@ module _ (m n : Content) (i j : ℕ) (became : Target → Attr → Option Attr) 
           let links = lawful.files t a h file in
           let some = file_named t a h file in
           let alive = r.alive t a b h e file (omega arith) in
-          let new = files t b there (r.kind t a b e ∙ file) in
+          let new = files t b there (r.kind t a b h e ∙ file) in
           named_reached t (omega arith)
 
   pub rewired_lawful : HasObjects n

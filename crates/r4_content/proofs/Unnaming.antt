@@ -98,7 +98,7 @@ module _ (m : Content) (path : List (List ℕ)) (numbers : HasNumbers m) (bytes 
   off_unnamed k one two = by_kind (is_dir q.here) (nat_le q.here.attr.nlink 1)
     where
       size : q.here.attr.size ≤ 2 ^ 64
-      size = let lt = numbers.sizes (stat_rank q.here.target) q.here.attr (stat_there m q.here.target q.here.attr file_there.stat).1 in omega arith
+      size = let lt = numbers.sizes q.here.target q.here.attr (file_there.object, (stat_there m q.here.target q.here.attr file_there.stat).1) in omega arith
 
       by_kind : (d b : Bool) → IsOff (if d then cut_key (stat_rank q.here.target) else if b then and_also (cut_key (stat_rank q.here.target)) (cut_body q.here 0 q.here.attr.size) else set_attr q.here (link_less q.here.attr)) k
       by_kind true b = off_key (stat_rank q.here.target) k one

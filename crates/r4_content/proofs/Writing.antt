@@ -226,7 +226,7 @@ truncate_stat limit path n m numbers le bytes okay =
     let o = c.place.here in
     let there = found_object m numbers.orderings path c.place c.at in
     let small = c.small in
-    let size = numbers.sizes (stat_rank o.target) o.attr (stat_there m o.target o.attr there.stat).1 in
+    let size = numbers.sizes o.target o.attr (there.object, (stat_there m o.target o.attr there.stat).1) in
     let again = file_again m path c.place n (truncated o n) numbers bytes c.at there (truncate_edits m o there n (omega arith) (omega arith)) in
     let p = place_with (with_size o.target n) c.place in (
       p.here.attr,

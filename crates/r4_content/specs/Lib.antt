@@ -15,3 +15,4 @@ pub mod Reading
 pub mod Examples
 pub mod Walks
 pub mod Fields
+pub mod Lawful
