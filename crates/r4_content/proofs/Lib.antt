@@ -16,3 +16,4 @@ pub mod Unnaming
 pub mod Counting
 pub mod Rewired
 pub mod Shapes
+pub mod OneObject

@@ -56,7 +56,7 @@ pub record CameTo (limit : ℕ) (m : Content) (path : List (List ℕ)) (end : �
   pub small : end ≤ limit
   pub ends : ending (named path (to_file limit path end next)) (of_content m) ≡ ending (next place.here) (of_content m)
 
-came_to : (limit : ℕ) (m : Content) (path : List (List ℕ)) (end : ℕ) (next : Object → Course) → (ending (named path (to_file limit path end next)) (of_content m)).reply ≡ Okay → CameTo limit m path end next
+pub came_to : (limit : ℕ) (m : Content) (path : List (List ℕ)) (end : ℕ) (next : Object → Course) → (ending (named path (to_file limit path end next)) (of_content m)).reply ≡ Okay → CameTo limit m path end next
 unfolding to_file
 came_to limit m path end next e =
     let on : Place → Course = λ (p : Place). if is_dir p.here then Answer Isdir else if nat_lt limit end then Answer Toobig else next p.here in
@@ -159,7 +159,7 @@ with_size_here o n = ap (λ (b : Bool). let p : Object = record { target = o.tar
 positive : (n : ℕ) → (n == 0) ≡ false → 0 < n
 positive n e = grind (arith, common_steps)
 
-abbrev write_on : ℕ → List ℕ → Object → Course
+abbrev pub write_on : ℕ → List ℕ → Object → Course
 write_on from xs o = if length xs == 0 then Answer Okay else Change (written o from xs)
 
 pub write_read : (limit : ℕ) (path : List (List ℕ)) (from : ℕ) (xs : List ℕ) (m : Content) → HasNumbers m → limit ≤ 2 ^ 64 → HasBytes path → reply limit (Write path from xs) m ≡ Okay
@@ -200,7 +200,7 @@ fill_read limit path from len x m numbers le bytes okay =
 
 -- ---- a file that is cut, or grown with zeros
 
-abbrev cut_or_grown : Object → ℕ → Bool → Edits
+abbrev pub cut_or_grown : Object → ℕ → Bool → Edits
 cut_or_grown o n b = if b then cut_body o n o.attr.size else fill_gap o n
 
 module _ (m : Content) (o : Object) (there : IsThere m o) (n : ℕ) (fits : n ≤ 2 ^ 64) (old : o.attr.size ≤ 2 ^ 64) where
