@@ -17,3 +17,4 @@ pub mod Counting
 pub mod Rewired
 pub mod Shapes
 pub mod OneObject
+pub mod Gaining
