@@ -18,3 +18,4 @@ pub mod Rewired
 pub mod Shapes
 pub mod OneObject
 pub mod Gaining
+pub mod Makers

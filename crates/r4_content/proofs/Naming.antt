@@ -217,7 +217,7 @@ module _ (limit : ℕ) (m : Content) (path : List (List ℕ)) (numbers : HasNumb
 
 -- ---- create, mkdir
 
-free_is : (m : Content) (next : Object → (name : List ℕ) → Course) (p : Place) (n : List ℕ) → (ending (free_here next p n) (of_content m)).reply ≡ Okay
+pub free_is : (m : Content) (next : Object → (name : List ℕ) → Course) (p : Place) (n : List ℕ) → (ending (free_here next p n) (of_content m)).reply ≡ Okay
     → (is_dir p.here ≡ true) × (entry_in (at_key m (entry_rank p.here.target n)) ≡ None) × (ending (free_here next p n) (of_content m) ≡ ending (next p.here n) (of_content m))
 free_is m next p n e =
     let (dir, free) = both (is_dir p.here) (entry_in (at_key m (entry_rank p.here.target n))) e in (
@@ -240,16 +240,16 @@ free_is m next p n e =
     both true v h = (refl, no_entry (entry_in (at_key m (entry_rank p.here.target n))) h)
     both false v h = absurd cc
 
-abbrev make_file : Oid → Object → (name : List ℕ) → Course
+abbrev pub make_file : Oid → Object → (name : List ℕ) → Course
 make_file oid dir n = if is_no_id oid then Answer Oids else Change (name_in dir n (made_in dir n oid new_file))
 
-abbrev make_directory : Oid → Object → (name : List ℕ) → Course
+abbrev pub make_directory : Oid → Object → (name : List ℕ) → Course
 make_directory oid dir n = if is_full dir then Answer Links else if is_no_id oid then Answer Oids else Change (name_in dir n (made_in dir n oid new_directory))
 
-small_enough : (n : ℕ) → nat_le (2 ^ 60 - 1) n ≡ false → n < 2 ^ 60
+pub small_enough : (n : ℕ) → nat_le (2 ^ 60 - 1) n ≡ false → n < 2 ^ 60
 small_enough n e = grind (arith, common_steps)
 
-file_made : (m : Content) (dir : Object) (n : List ℕ) (oid : Oid) → (ending (make_file oid dir n) (of_content m)).reply ≡ Okay
+pub file_made : (m : Content) (dir : Object) (n : List ℕ) (oid : Oid) → (ending (make_file oid dir n) (of_content m)).reply ≡ Okay
     → (oid.0 < 2 ^ 60) × (ending (make_file oid dir n) (of_content m) ≡ record { edits = name_in dir n (made_in dir n oid new_file); reply = Okay })
 file_made m dir n oid e = by_id (is_no_id oid) refl e
   where
@@ -258,7 +258,7 @@ file_made m dir n oid e = by_id (is_no_id oid) refl e
     by_id true h okay = absurd cc
     by_id false h okay = (small_enough oid.0 h, refl)
 
-directory_made : (m : Content) (dir : Object) (n : List ℕ) (oid : Oid) → (ending (make_directory oid dir n) (of_content m)).reply ≡ Okay
+pub directory_made : (m : Content) (dir : Object) (n : List ℕ) (oid : Oid) → (ending (make_directory oid dir n) (of_content m)).reply ≡ Okay
     → (oid.0 < 2 ^ 60) × (ending (make_directory oid dir n) (of_content m) ≡ record { edits = name_in dir n (made_in dir n oid new_directory); reply = Okay })
 directory_made m dir n oid e = by_id (is_full dir) (is_no_id oid) refl e
   where
