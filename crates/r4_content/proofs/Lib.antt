@@ -19,3 +19,4 @@ pub mod Shapes
 pub mod OneObject
 pub mod Gaining
 pub mod Makers
+pub mod Losing

@@ -35,12 +35,11 @@ by_done limit c m P same done = elim (nothing_or_okay (course limit c) (of_conte
 
 -- ---- puts without entries
 
-pub NoEntries : Pairs → Type 0
+abbrev pub NoEntries : Pairs → Type 0
 NoEntries [] = Unit {0}
 NoEntries (e ∷ es) = (entry_in (Some e.1) ≡ None) × NoEntries es
 
 none_put : (es : Pairs) (k : ℕ) (v : Option Value) → NoEntries es → entry_in v ≡ None → entry_in (last_put es k v) ≡ None
-unfolding NoEntries
 none_put [] k v h none = none
 none_put (e ∷ es) k v h none = none_put es k (cond (k == e.0) (Some e.1) v) h.1 (by_key (k == e.0))
   where
@@ -48,18 +47,15 @@ none_put (e ∷ es) k v h none = none_put es k (cond (k == e.0) (Some e.1) v) h.
     by_key true = h.0
     by_key false = none
 
-none_append : (xs ys : Pairs) → NoEntries xs → NoEntries ys → NoEntries (xs ++ ys)
-unfolding NoEntries
+pub none_append : (xs ys : Pairs) → NoEntries xs → NoEntries ys → NoEntries (xs ++ ys)
 none_append [] ys h g = g
 none_append (x ∷ xs) ys h g = (h.0, none_append xs ys h.1 g)
 
 bytes_no_entries : (k : ℕ) (xs : List ℕ) → NoEntries (byte_pairs k xs)
-unfolding NoEntries
 bytes_no_entries k [] = tt
 bytes_no_entries k (x ∷ xs) = (refl, bytes_no_entries (k + 1) xs)
 
 resize_no_entries : (o : Object) (n : ℕ) → NoEntries (resize o n).puts
-unfolding NoEntries
 resize_no_entries o n = by_size (o.attr.size == n)
   where
     by_size : (b : Bool) → NoEntries (if b then no_edits else set_attr o (sized o.attr n)).puts
@@ -67,7 +63,6 @@ resize_no_entries o n = by_size (o.attr.size == n)
     by_size false = (refl, tt)
 
 gap_no_entries : (o : Object) (n : ℕ) → NoEntries (fill_gap o n).puts
-unfolding NoEntries
 gap_no_entries o n = by_size (nat_lt o.attr.size n)
   where
     by_size : (b : Bool) → NoEntries (if b then zero_body o o.attr.size n else no_edits).puts
@@ -75,11 +70,10 @@ gap_no_entries o n = by_size (nat_lt o.attr.size n)
     by_size false = tt
 
 cut_no_entries : (o : Object) (n : ℕ) (b : Bool) → NoEntries (cut_or_grown o n b).puts
-unfolding NoEntries
 cut_no_entries o n true = tt
 cut_no_entries o n false = gap_no_entries o n
 
-none_edited : (e : Edits) (m : Content) (k : ℕ) → NoEntries e.puts → entry_in (at_key m k) ≡ None → entry_in (at_key (edited e m) k) ≡ None
+pub none_edited : (e : Edits) (m : Content) (k : ℕ) → NoEntries e.puts → entry_in (at_key m k) ≡ None → entry_in (at_key (edited e m) k) ≡ None
 none_edited e m k puts none = ap entry_in (at_edited e m k) ∙ none_put e.puts k _ puts (by_keys (is_in e.zeros k) (is_in e.cuts k))
   where
     by_keys : (a b : Bool) → entry_in (cond a (Some (Byte 0)) (cond b None (at_key m k))) ≡ None
