@@ -20,3 +20,4 @@ pub mod OneObject
 pub mod Gaining
 pub mod Makers
 pub mod Losing
+pub mod Takers
