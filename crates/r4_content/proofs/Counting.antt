@@ -260,3 +260,12 @@ once p m i j v w few a x b y = by_key (i == j) refl
         let d = here_yes p i v (at_key m i) a x in
         let other = one_there p (cut_at m i) j w (cut_elsewhere m i j (λ same. not_same i j e (sym same)) ∙ b) y in
         absurd (omega arith)
+
+-- at least what is counted at two keys
+pub at_least : (p : ℕ × Value → Bool) (m : Content) (i j : ℕ) → i ≢ j → here p i (at_key m i) + here p j (at_key m j) ≤ count p m
+at_least p m i j ne =
+    let n = cut_at (cut_at m i) j in
+    let all = two_counts p p n m i j ne (λ q a b. ap (pick p q) (cut_elsewhere (cut_at m i) j q b ∙ cut_elsewhere m i q a)) in
+    let first = here_none p i (at_key n i) (cut_elsewhere (cut_at m i) j i ne ∙ cut_there m i) in
+    let second = here_none p j (at_key n j) (cut_there (cut_at m i) j) in
+    omega arith

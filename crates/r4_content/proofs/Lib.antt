@@ -21,3 +21,4 @@ pub mod Gaining
 pub mod Makers
 pub mod Losing
 pub mod Takers
+pub mod Moving

@@ -17,8 +17,9 @@ pub record HasBodies (limit : ℕ) (m : Content) : Type 0 where
   pub offsets : (o : Target) (a : Attr) → HasStat m o a → is_directory a ≡ false → (offset : ℕ) → offset < 2 ^ 64 → HasByte m o offset ↔ (offset < a.size)
   pub bytes : (o : Target) (a : Attr) → HasStat m o a → a.bytes ≡ a.size
 
--- Of a content that a volume has, and in which each directory can count another entry.
+-- Of a content that a volume has, whose links are numbers of their field, and in which each directory can count another entry.
 pub record IsLawful (limit : ℕ) (m : Content) : Type 0 where
   pub objects : HasObjects m
   pub bodies : HasBodies limit m
   pub room : (o : Target) (a : Attr) → HasStat m o a → is_directory a ≡ true → a.size < 2 ^ 64 - 1
+  pub links : (o : Target) (a : Attr) → HasStat m o a → a.nlink < 2 ^ 32
