@@ -22,3 +22,4 @@ pub mod Makers
 pub mod Losing
 pub mod Takers
 pub mod Moving
+pub mod MoveEdits
