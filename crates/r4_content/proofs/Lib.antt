@@ -23,3 +23,4 @@ pub mod Losing
 pub mod Takers
 pub mod Moving
 pub mod MoveEdits
+pub mod Movers

@@ -114,7 +114,7 @@ comes_to o new over = record { target = new.target; attr = less_if over (is_dir 
 abbrev pub moving : (dir : Object) → (name : List ℕ) → Object → (new : Object) → (new_name : List ℕ) → (over : Bool) → (old : Object) → Edits
 moving dir name o new new_name over old = if over then and_also (unnamed old) (moved dir name o (comes_to o new true) new_name) else moved dir name o (comes_to o new false) new_name
 
-same_sym : (t u : Target) → is_same_target t u ≡ is_same_target u t
+pub same_sym : (t u : Target) → is_same_target t u ≡ is_same_target u t
 same_sym t u = by_test (is_same_target t u) (is_same_target u t) refl refl
   where
     by_test : (a b : Bool) → is_same_target t u ≡ a → is_same_target u t ≡ b → a ≡ b
@@ -152,7 +152,7 @@ module _ (limit : ℕ) (m : Content) (dir o new : Object) (name new_name : List 
       by_over false is = not_entry (at_key m key) name o.target (ap (λ (x : ℕ). entry_in (at_key m x)) e ∙ h.free is) h.entry
       by_over true is = let x = h.onto is in x.other (some_entry new_name name old.target o.target (sym x.entry ∙ ap (at_key m) (sym e) ∙ h.entry))
 
-  old_not_new : over ≡ true → old.target ≢ new.target
+  pub old_not_new : over ≡ true → old.target ≢ new.target
   old_not_new is e = by_kind (is_dir old) refl
     where
       x : IsOver m o new old new_name
@@ -331,7 +331,7 @@ module _ (limit : ℕ) (m : Content) (dir o new : Object) (name new_name : List 
           let (a, was) = is_there t b there (not_old t is) in
           (a, was, pick false a is (ap (λ (x : Attr). Some x) (stat_same (parent dir.target new.target over (is_dir o) t a) b (sym (parent_now t a was (not_old t is)) ∙ there.1))))
 
-  others : (k : ℕ) → k ≢ key → k ≢ new_key → entry_in (at_key m k) ≡ entry_in (at_key after k)
+  pub others : (k : ℕ) → k ≢ key → k ≢ new_key → entry_in (at_key m k) ≡ entry_in (at_key after k)
   others k one two = by_key (k == stat_rank dir.target) (k == stat_rank new.target) refl refl
     where
       stat_none : (t : Target) (a : Attr) → HasStat m t a → (over ≡ true → t ≢ old.target) → k ≡ stat_rank t → entry_in (at_key m k) ≡ entry_in (at_key after k)
