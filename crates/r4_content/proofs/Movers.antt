@@ -80,19 +80,166 @@ module _ (limit : ℕ) (m : Content) (dir o : Object) (name new_name : List ℕ)
       let next = named_there m numbers.orderings k n s.target s.attr s.entry s.stat in
       let small = (small_object q.here.target (stat_there m q.here.target q.here.attr there.stat).0).1 in
       let name_bytes = All-head (λ x. All (λ y. y < 256) x) n path bytes in
-      let now = entry_same (at_key m k) (at_key moved_content k) n s.target (others limit m dir o r.here name new_name over old lawful bodies h k (not_key s.target s.attr path (down q s.target s.attr) n k at s.rest refl) (not_new_key s.target s.attr path (down q s.target s.attr) n k at next s.rest refl)) at in
+      let now = entry_same (at_key m k) (at_key moved_content k) n s.target (others limit m dir o r.here name new_name over old lawful bodies h k (not_key s.target s.attr path (down q s.target s.attr) n k at s.rest refl) (not_new_key s.target s.attr path (down q s.target s.attr) n k at next (All-tail (λ x. All (λ y. y < 256) x) n path bytes) s.rest refl)) at in
       way_on path (down q s.target s.attr) (suc steps) (All-tail (λ x. All (λ y. y < 256) x) n path bytes) next s.rest (q.here.target, is, (k, n, now, (entry_dir q.here.target n small name_bytes).0))
     where
       not_key : (t : Target) (a : Attr) (rest : List (List ℕ)) (p : Place) (s : List ℕ) (k : ℕ) → at_key m k ≡ Some (Entry s t) → found_from m rest p ≡ There r → p.here ≡ record { target = t; attr = a } → k ≢ entry_rank dir.target name
       not_key t a rest p s k at found_rest is_here same =
           let aims : t ≡ o.target = some_entry s name t o.target (sym at ∙ ap (at_key m) same ∙ h.entry) in
           true_not_false (sym (same_itself o.target) ∙ ap (is_same_target o.target) (sym aims ∙ ap (λ (x : Object). x.target) (sym is_here)) ∙ on_way m o rest p r found_rest outside other)
-      not_new_key : (t : Target) (a : Attr) (rest : List (List ℕ)) (p : Place) (s : List ℕ) (k : ℕ) → at_key m k ≡ Some (Entry s t) → IsThere m (record { target = t; attr = a }) → found_from m rest p ≡ There r → p.here ≡ record { target = t; attr = a }
+      not_new_key : (t : Target) (a : Attr) (rest : List (List ℕ)) (p : Place) (s : List ℕ) (k : ℕ) → at_key m k ≡ Some (Entry s t) → IsThere m (record { target = t; attr = a }) → HasBytes rest → found_from m rest p ≡ There r → p.here ≡ record { target = t; attr = a }
           → k ≢ entry_rank r.here.target new_name
-      not_new_key t a rest p s k at there_t found_rest is_here same = by_over over refl
+      not_new_key t a rest p s k at there_t rest_bytes found_rest is_here same = by_over over refl
         where
-          by_rest : (yes_over : over ≡ true) → t ≡ old.target → (xs : List (List ℕ)) → found_from m xs p ≡ There r → HasBytes xs → ⊥
-          by_rest yes_over aims xs f b = ?
+          by_rest : over ≡ true → t ≡ old.target → (xs : List (List ℕ)) → HasBytes xs → found_from m xs p ≡ There r → ⊥
+          by_rest yes_over aims [] b f = old_not_new limit m dir o r.here name new_name over old lawful bodies h yes_over (sym aims ∙ ap (λ (x : Object). x.target) (sym is_here) ∙ ap (λ (x : Place). x.here.target) (place_in p r f))
+          by_rest yes_over aims (x ∷ xs) b f =
+              let y = h.onto yes_over in
+              let s2 = step_is m x xs p r f in
+              let at2 = target_is x (at_key m (entry_rank p.here.target x)) s2.target s2.entry in
+              let attr = stat_one m lawful t old.target a old.attr (stat_was m (record { target = t; attr = a }) there_t) y.stat aims in
+              let dir_old : is_dir old ≡ true = ap is_directory (sym attr) ∙ ap is_dir (sym is_here) ∙ s2.dir in
+              let none = y.empty dir_old in
+              let p_is : p.here.target ≡ old.target = ap (λ (z : Object). z.target) is_here ∙ aims in
+              let small_t = (small_object t (stat_there m t a there_t.stat).0).1 in
+              let small = subst (λ (u : Target). u.oid.0 < 2 ^ 60) (ap (λ (z : Object). z.target) (sym is_here)) small_t in
+              let in_old = (entry_dir p.here.target x small (All-head (λ z. All (λ w. w < 256) z) x xs b)).0 ∙ ap (λ (u : Target). u.oid.0) p_is in
+              let some = one_there (is_entry_in old.target.oid.0) m (entry_rank p.here.target x) (Entry x s2.target) at2 (eq-eqb (dir_of_key (key_of_rank (entry_rank p.here.target x))) old.target.oid.0 in_old) in
+              absurd (omega arith)
           by_over : (b : Bool) → over ≡ b → ⊥
           by_over false is = not_entry (at_key m k) s t (ap (λ (x : ℕ). entry_in (at_key m x)) same ∙ h.free is) at
-          by_over true is = ?
+          by_over true is = by_rest is (some_entry s new_name t old.target (sym at ∙ ap (at_key m) same ∙ (h.onto is).entry)) rest rest_bytes found_rest
+
+  pub way_there : (path : List (List ℕ)) → HasBytes path → found m path ≡ There r → (steps : ℕ) × IsReached moved_content steps r.here.target
+  way_there path bytes e =
+      let (a, stat, rest) = root_there r (λ a. found_from m path (start a)) (attr_at m root_object) e in
+      way_on path (start a) 0 bytes (record { object = root_is_object; stat = stat }) rest refl
+
+-- ---- the move, whatever stands under the new name
+
+not_full : (n : ℕ) → nat_le 65535 n ≡ false → n < 65535
+not_full n e = grind (arith, common_steps)
+
+-- what is known where the move is looked at
+pub record Ends (limit : ℕ) (m : Content) (dir o : Object) (name new_name : List ℕ) (r : Place) (path : List (List ℕ)) : Type 0 where
+  pub dir_there : IsThere m dir
+  pub dir_is : is_dir dir ≡ true
+  pub there : IsThere m o
+  pub new_there : IsThere m r.here
+  pub new_is : is_dir r.here ≡ true
+  pub bytes : All (λ x. x < 256) name
+  pub new_bytes : All (λ x. x < 256) new_name
+  pub entry : at_key m (entry_rank dir.target name) ≡ Some (Entry name o.target)
+  pub way : found m path ≡ There r
+  pub path_bytes : HasBytes path
+  pub outside : is_dir o ≡ true → (is_among o r.above ≡ false) × (is_same o r.here ≡ false)
+
+module _ (limit : ℕ) (m : Content) (dir o : Object) (name new_name : List ℕ) (r : Place) (path : List (List ℕ)) (lawful : IsLawful limit m) (numbers : HasNumbers m) (e : Ends limit m dir o name new_name r path) where
+  abbrev HoldsAfter : Edits → Type 0
+  HoldsAfter x = HasObjects (edited x m)
+
+  small_of : (x : Object) → IsThere m x → x.target.oid.0 < 2 ^ 60
+  small_of x there = (small_object x.target (stat_there m x.target x.attr there.stat).0).1
+
+  can : (over : Bool) (old : Object) → (over ≡ false → entry_in (at_key m (entry_rank r.here.target new_name)) ≡ None) → (over ≡ true → IsOver m o r.here old new_name) → (over ≡ true → old.attr.size ≤ 2 ^ 64)
+      → CanMove m dir o r.here name new_name over old
+  can over old free onto size = record {
+    dir_stat = stat_was m dir e.dir_there;
+    dir_is = e.dir_is;
+    stat = stat_was m o e.there;
+    new_stat = stat_was m r.here e.new_there;
+    new_is = e.new_is;
+    dir_small = small_of dir e.dir_there;
+    new_small = small_of r.here e.new_there;
+    bytes = e.bytes;
+    new_bytes = e.new_bytes;
+    entry = e.entry;
+    free = free;
+    onto = onto;
+    size = size;
+  }
+
+  done : (over : Bool) (old : Object) → CanMove m dir o r.here name new_name over old → (over ≡ false → is_dir o ≡ true → is_same_target r.here.target dir.target ≡ false → r.here.attr.nlink < 2 ^ 32 - 1)
+      → HasObjects (edited (moving dir name o r.here new_name over old) m)
+  done over old h few =
+      moves_lawful m (edited (moving dir name o r.here new_name over old) m) dir o r.here name new_name over old lawful.objects
+      (can_move limit m dir o r.here name new_name over old lawful.objects lawful.bodies h lawful.room lawful.links few
+        (λ d. let out = e.outside d in way_there limit m dir o name new_name over old lawful.objects lawful.bodies numbers r h out.0 out.1 path e.path_bytes e.way))
+
+  free_lawful : entry_in (at_key m (entry_rank r.here.target new_name)) ≡ None → HoldsAfter (ending (move_to dir name o r.here new_name None) (of_content m)).edits
+  free_lawful free = by_test (is_dir o) (is_same dir r.here) (is_full r.here) refl refl refl
+    where
+      by_test : (p q f : Bool) → is_dir o ≡ p → is_same dir r.here ≡ q → is_full r.here ≡ f → HoldsAfter (ending (if p && not q && f then Answer Links else Change (moved dir name o r.here new_name)) (of_content m)).edits
+      by_test true false true a b c = lawful.objects
+      by_test true false false a b c =
+          done false o (can false o (λ x. free) (λ x. absurd (true_not_false (sym x))) (λ x. absurd (true_not_false (sym x)))) (λ x y z. let lt = not_full r.here.attr.nlink c in omega arith)
+      by_test true true f a b c =
+          done false o (can false o (λ x. free) (λ x. absurd (true_not_false (sym x))) (λ x. absurd (true_not_false (sym x))))
+          (λ x y z. absurd (true_not_false (sym b ∙ same_sym dir.target r.here.target ∙ z)))
+      by_test false q f a b c =
+          done false o (can false o (λ x. free) (λ x. absurd (true_not_false (sym x))) (λ x. absurd (true_not_false (sym x)))) (λ x y z. absurd (true_not_false (sym y ∙ a)))
+
+  onto_lawful : (old : Object) → IsOver m o r.here old new_name → HoldsAfter (moved_onto dir name o r.here new_name old)
+  onto_lawful old over =
+      let size = numbers.sizes old.target old.attr over.stat in
+      subst (λ (d : Bool). HoldsAfter (and_also (unnamed old) (moved dir name o (record { target = r.here.target; attr = entry_less d r.here.attr }) new_name))) (sym over.kind)
+      (done true old (can true old (λ x. absurd (true_not_false x)) (λ x. over) (λ x. omega arith)) (λ x. absurd (true_not_false x)))
+
+  over_is : (old : Object) → at_key m (entry_rank r.here.target new_name) ≡ Some (Entry new_name old.target) → IsThere m old → is_same_target old.target o.target ≡ false → is_dir old ≡ is_dir o
+      → (is_dir old ≡ true → pairs_between m (entries_from old.target.oid.0) (entries_to old.target.oid.0) ≡ []) → IsOver m o r.here old new_name
+  over_is old at there other kind empty = record {
+    stat = stat_was m old there;
+    entry = at;
+    kind = kind;
+    other = λ same. true_not_false (sym (same_itself old.target) ∙ ap (is_same_target old.target) same ∙ other);
+    empty = λ d. is_empty limit m old.target lawful.bodies (empty d);
+  }
+
+  replace_lawful : (old : Object) → at_key m (entry_rank r.here.target new_name) ≡ Some (Entry new_name old.target) → IsThere m old → is_same_target old.target o.target ≡ false
+      → HoldsAfter (ending (replace dir name o r.here new_name old) (of_content m)).edits
+  replace_lawful old at there other = by_kind (is_dir o) (is_dir old) (pairs_between m (entries_from old.target.oid.0) (entries_to old.target.oid.0)) refl refl refl
+    where
+      by_kind : (p q : Bool) (es : Pairs) → is_dir o ≡ p → is_dir old ≡ q → pairs_between m (entries_from old.target.oid.0) (entries_to old.target.oid.0) ≡ es
+          → HoldsAfter (ending (if p then (if q then with_entries old (if_empty (Change (moved_onto dir name o r.here new_name old))) else Answer Notdir) else (if q then Answer Isdir else Change (moved_onto dir name o r.here new_name old))) (of_content m)).edits
+      by_kind true true es a b c = by_pairs es c
+        where
+          by_pairs : (xs : Pairs) → pairs_between m (entries_from old.target.oid.0) (entries_to old.target.oid.0) ≡ xs
+              → HoldsAfter (ending (if_empty (Change (moved_onto dir name o r.here new_name old)) (pairs_between m (entries_from old.target.oid.0) (entries_to old.target.oid.0))) (of_content m)).edits
+          by_pairs [] is = subst (λ (xs : Pairs). HoldsAfter (ending (if_empty (Change (moved_onto dir name o r.here new_name old)) xs) (of_content m)).edits) (sym is) (onto_lawful old (over_is old at there other (b ∙ sym a) (λ d. is)))
+          by_pairs (x ∷ xs) is = subst (λ (ys : Pairs). HoldsAfter (ending (if_empty (Change (moved_onto dir name o r.here new_name old)) ys) (of_content m)).edits) (sym is) lawful.objects
+      by_kind true false es a b c = lawful.objects
+      by_kind false true es a b c = lawful.objects
+      by_kind false false es a b c = onto_lawful old (over_is old at there other (b ∙ sym a) (λ d. absurd (true_not_false (sym d ∙ b))))
+
+  taken_lawful : (x : Named) → entry_in (at_key m (entry_rank r.here.target new_name)) ≡ Some x → HoldsAfter (ending (move_to dir name o r.here new_name (Some x)) (of_content m)).edits
+  taken_lawful x is = by_name (bytes_eq x.name new_name) (is_same_target x.target o.target) refl refl
+    where
+      by_attr : (b : Bool) (v : Option Attr) → may_be_object x.target ≡ b → attr_in (at_key m (stat_rank x.target)) ≡ v → at_key m (entry_rank r.here.target new_name) ≡ Some (Entry new_name x.target) → is_same_target x.target o.target ≡ false
+          → HoldsAfter (ending (if b then Ask (stat_rank x.target) (λ w. with_attr Absent (λ a. replace dir name o r.here new_name (record { target = x.target; attr = a })) (attr_in w)) else Answer Absent) (of_content m)).edits
+      by_attr false v may a at other = lawful.objects
+      by_attr true v may a at other = by_stat v a
+        where
+          by_stat : (w : Option Attr) → attr_in (at_key m (stat_rank x.target)) ≡ w
+              → HoldsAfter (ending (with_attr Absent (λ a. replace dir name o r.here new_name (record { target = x.target; attr = a })) (attr_in (at_key m (stat_rank x.target)))) (of_content m)).edits
+          by_stat None g = subst (λ (w : Option Attr). HoldsAfter (ending (with_attr Absent (λ a. replace dir name o r.here new_name (record { target = x.target; attr = a })) w) (of_content m)).edits) (sym g) lawful.objects
+          by_stat (Some c) g =
+              let stat : attr_at m x.target ≡ Some c = ap (λ (y : Bool). if y then attr_in (at_key m (stat_rank x.target)) else None) may ∙ g in
+              let (c2, held) = lawful.objects.target (entry_rank r.here.target new_name) new_name x.target at in
+              let there : IsThere m (record { target = x.target; attr = c }) = record { object = held.0; stat = stat } in
+              subst (λ (w : Option Attr). HoldsAfter (ending (with_attr Absent (λ a. replace dir name o r.here new_name (record { target = x.target; attr = a })) w) (of_content m)).edits) (sym g)
+              (replace_lawful (record { target = x.target; attr = c }) at there other)
+      by_name : (p q : Bool) → bytes_eq x.name new_name ≡ p → is_same_target x.target o.target ≡ q
+          → HoldsAfter (ending (if not p then Answer (Clash x.name) else if q then Answer Okay else object_at x.target (replace dir name o r.here new_name)) (of_content m)).edits
+      by_name false q a b = lawful.objects
+      by_name true true a b = lawful.objects
+      by_name true false a b =
+          let same = (bytes_eq-Decides x.name new_name).0 a in
+          let at = entry_is (at_key m (entry_rank r.here.target new_name)) x.name x.target is ∙ ap (λ (s : List ℕ). Some (Entry s x.target)) same in
+          by_attr (may_be_object x.target) (attr_in (at_key m (stat_rank x.target))) refl refl at b
+
+  pub move_lawful : HasObjects (edited (ending (move dir name o r.here new_name) (of_content m)).edits m)
+  move_lawful = by_entry (entry_in (at_key m (entry_rank r.here.target new_name))) refl
+    where
+      by_entry : (v : Option Named) → entry_in (at_key m (entry_rank r.here.target new_name)) ≡ v → HoldsAfter (ending (move_to dir name o r.here new_name (entry_in (at_key m (entry_rank r.here.target new_name)))) (of_content m)).edits
+      by_entry None is = subst (λ (v : Option Named). HoldsAfter (ending (move_to dir name o r.here new_name v) (of_content m)).edits) (sym is) (free_lawful is)
+      by_entry (Some x) is = subst (λ (v : Option Named). HoldsAfter (ending (move_to dir name o r.here new_name v) (of_content m)).edits) (sym is) (taken_lawful x is)
