@@ -243,3 +243,65 @@ module _ (limit : ℕ) (m : Content) (dir o : Object) (name new_name : List ℕ)
       by_entry : (v : Option Named) → entry_in (at_key m (entry_rank r.here.target new_name)) ≡ v → HoldsAfter (ending (move_to dir name o r.here new_name (entry_in (at_key m (entry_rank r.here.target new_name)))) (of_content m)).edits
       by_entry None is = subst (λ (v : Option Named). HoldsAfter (ending (move_to dir name o r.here new_name v) (of_content m)).edits) (sym is) (free_lawful is)
       by_entry (Some x) is = subst (λ (v : Option Named). HoldsAfter (ending (move_to dir name o r.here new_name v) (of_content m)).edits) (sym is) (taken_lawful x is)
+
+-- ---- rename
+
+abbrev pub rename_to : List (List ℕ) → Object → (name : List ℕ) → Place → Place → (new_name : List ℕ) → Course
+rename_to to dir n p q new_name =
+    if not (is_dir q.here) then Answer Notdir
+    else if is_dir p.here && (is_among p.here q.above || is_same p.here q.here) then Answer Loop
+    else move dir n p.here q.here new_name
+
+abbrev pub rename_from : List (List ℕ) → Object → (name : List ℕ) → Place → Course
+rename_from to dir n p = to_parent Loop to (rename_to to dir n p)
+
+pub rename_lawful : (limit : ℕ) (from to : List (List ℕ)) (m : Content) → limit < 2 ^ 64 → IsLawful limit m → HasBytes from → HasBytes to → HasObjects (after limit (Rename from to) m)
+unfolding to_ends
+rename_lawful limit from to m lt lawful from_bytes to_bytes = by_done limit (Rename from to) m (λ x. HasObjects x) lawful.objects done
+  where
+    numbers : HasNumbers m
+    numbers = numbers_of limit m lt lawful
+    some_target : (b : Bool) → (length to == 0) ≡ b → (ending (if b then Answer Loop else to_ends from to move) (of_content m)).reply ≡ Okay
+        → ending (if b then Answer Loop else to_ends from to move) (of_content m) ≡ ending (to_entry Loop from (rename_from to)) (of_content m)
+    some_target true e h = absurd cc
+    some_target false e h = refl
+    tests : (dir : Object) (n : List ℕ) (p q : Place) (new_name : List ℕ) (a b c : Bool) → is_dir q.here ≡ a → is_dir p.here ≡ b → (is_among p.here q.above || is_same p.here q.here) ≡ c
+        → (ending (if not a then Answer Notdir else if b && c then Answer Loop else move dir n p.here q.here new_name) (of_content m)).reply ≡ Okay
+        → (is_dir q.here ≡ true) × (is_dir p.here ≡ true → (is_among p.here q.above || is_same p.here q.here) ≡ false)
+        × (ending (if not a then Answer Notdir else if b && c then Answer Loop else move dir n p.here q.here new_name) (of_content m) ≡ ending (move dir n p.here q.here new_name) (of_content m))
+    tests dir n p q new_name false b c e f g h = absurd cc
+    tests dir n p q new_name true true true e f g h = absurd cc
+    tests dir n p q new_name true true false e f g h = (e, (λ d. g), refl)
+    tests dir n p q new_name true false c e f g h = (e, (λ d. absurd (true_not_false (sym d ∙ f))), refl)
+    done : reply limit (Rename from to) m ≡ Okay → HasObjects (after limit (Rename from to) m)
+    done okay =
+        let one = okay_named m from (named to (rename from to)) okay in
+        let first = named_ends m from (named to (rename from to)) one in
+        let two = okay_named m to (rename from to) (sym (ap (λ (x : Ending). x.reply) first) ∙ okay) in
+        let second = first ∙ named_ends m to (rename from to) two in
+        let third = second ∙ some_target (length to == 0) refl (sym (ap (λ (x : Ending). x.reply) second) ∙ okay) in
+        let named_from = named_ends m from (to_entry Loop from (rename_from to)) one in
+        let c = came_to_entry m Loop from (rename_from to) numbers from_bytes (λ e. cc) (ap (λ (x : Ending). x.reply) named_from ∙ sym (ap (λ (x : Ending). x.reply) third) ∙ okay) in
+        let fourth = third ∙ sym named_from ∙ c.ends in
+        let dir = c.above.here in
+        let p = c.place in
+        let named_to = named_ends m to (to_parent Loop to (rename_to to dir c.name p)) two in
+        let d = came_above m Loop to (rename_to to dir c.name p) (λ e. cc) (ap (λ (x : Ending). x.reply) named_to ∙ sym (ap (λ (x : Ending). x.reply) fourth) ∙ okay) in
+        let q = d.place in
+        let new_name = slice_index_or to (length to - 1) [] in
+        let fifth = fourth ∙ sym named_to ∙ d.ends in
+        let (is, out, goes) = tests dir c.name p q new_name (is_dir q.here) (is_dir p.here) (is_among p.here q.above || is_same p.here q.here) refl refl refl (sym (ap (λ (x : Ending). x.reply) fifth) ∙ okay) in
+        let e : Ends limit m dir p.here c.name new_name q (take (length to - 1) to) = record {
+              dir_there = c.above_there;
+              dir_is = c.above_is;
+              there = c.there;
+              new_there = found_object m numbers.orderings (take (length to - 1) to) q d.at;
+              new_is = is;
+              bytes = c.bytes;
+              new_bytes = last_bytes to d.some to_bytes;
+              entry = c.entry;
+              way = d.at;
+              path_bytes = All-take (λ x. All (λ y. y < 256) x) (length to - 1) to to_bytes;
+              outside = λ yes_dir. or_false (is_among p.here q.above) (is_same p.here q.here) (out yes_dir);
+            } in
+        subst (λ (x : Ending). HasObjects (edited x.edits m)) (sym (fifth ∙ goes)) (move_lawful limit m dir p.here c.name new_name q (take (length to - 1) to) lawful numbers e)
