@@ -24,3 +24,4 @@ pub mod Takers
 pub mod Moving
 pub mod MoveEdits
 pub mod Movers
+pub mod Staying

@@ -1,14 +1,16 @@
 //! Laws of commands (docs/commands.md). Each is the contract of a function that does nothing.
 
 ghost use Rattle.std.specs.FinMap.{from_sorted};
-ghost use Rattle.std.specs.Prelude.{◌≡◌, ◌≢◌, ◌↔◌, ◌≤◌, ◌^◌, ℕ, List, length, replicate, false};
+ghost use Rattle.std.specs.Prelude.{◌≡◌, ◌≢◌, ◌↔◌, ◌<◌, ◌≤◌, ◌^◌, ℕ, List, length, replicate, false};
 ghost use Rattle.r4_base.specs.Value.{Content};
+ghost use Rattle.r4_base.specs.Volume.{HasObjects};
 ghost use Rattle.r4_base.specs.declared.items.Attr.{Attr};
 ghost use Rattle.r4_base.specs.declared.items.Target.{Target};
 ghost use Rattle.r4_base.specs.declared.things.Oid.{Oid};
 ghost use Rattle.r4_content.specs.Course.{ending};
 ghost use Rattle.r4_content.specs.Edited.{Pairs, changed, edited, is_in};
-ghost use Rattle.r4_content.specs.Fields.{HasBytes, HasNumbers, IsUnused};
+ghost use Rattle.r4_content.specs.Fields.{HasBytePaths, HasBytes, HasNumbers, IsUnused, NamesUnused};
+ghost use Rattle.r4_content.specs.Lawful.{IsLawful};
 ghost use Rattle.r4_content.specs.Listed.{list_after};
 ghost use Rattle.r4_content.specs.Locality.{IsLocal, Meaning, Spares, commands};
 ghost use Rattle.r4_content.specs.Meaning.{after, changes, course, reply};
@@ -83,4 +85,11 @@ pub fn what_is_written_is_read()
         → reply limit (Mkdir path oid) m ≡ Okay → reply limit (Stat path) (after limit (Mkdir path oid) m) ≡ AttrReply new_directory }
     ensures unlink { (limit : ℕ) (path : List (List ℕ)) (m : Content) → HasNumbers m → HasBytes path
         → reply limit (Unlink path) m ≡ Okay → reply limit (Stat path) (after limit (Unlink path) m) ≡ Absent }
+{}
+
+/// A content that a volume may have stays one: after each command its objects, directories and entries are again as a
+/// volume asks it (docs/volume.md, "The content of an image"). A command that makes an object must name an id that is not
+/// in use, and each directory must be able to count another entry, and each object another link (`IsLawful`).
+pub fn lawful_contents_stay_lawful()
+    ensures objects { (limit : ℕ) (c : Command) (m : Content) → limit < 2 ^ 64 → IsLawful limit m → HasBytePaths c → NamesUnused m c → HasObjects (after limit c m) }
 {}
