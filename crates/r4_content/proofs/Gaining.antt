@@ -5,23 +5,26 @@ use Rattle.std.proofs.lemmas.Bool.{eq-eqb, eqb-true, ne_eqb}
 use Rattle.std.proofs.lemmas.Grind.{common_steps}
 use Rattle.std.proofs.lemmas.Option.{same_Some}
 use Rattle.std.specs.Option.{is_some}
-use Rattle.r4_base.specs.Key.{key_of_rank}
+use Rattle.r4_base.proofs.Visible.{byte_back, byte_object}
+use Rattle.r4_base.specs.Key.{key_of_rank, minor_of}
 use Rattle.r4_base.specs.Name.{dir_of_key}
 use Rattle.r4_base.specs.Value.{Value, Stat, Entry, Byte, Content, at_key}
-use Rattle.r4_base.specs.Volume.{HasObjects, HasStat, IsObject, is_directory, is_directory_value, is_entry_in, names_directory, root_object, stat_rank}
+use Rattle.r4_base.specs.Volume.{HasObjects, HasStat, IsObject, byte_rank, object_of, is_directory, is_directory_value, is_entry_in, names_directory, root_object, stat_rank}
 use Rattle.r4_base.specs.declared.items.Attr.{Attr}
 use Rattle.r4_base.specs.declared.items.Target.{Target}
 use Rattle.r4_base.specs.declared.things.Oid.{Oid}
 use Rattle.r4_content.specs.Edited.{Edits, and_also, edited}
 use Rattle.r4_content.specs.Entries.{name_in}
+use Rattle.r4_content.specs.Lawful.{HasBodies}
 use Rattle.r4_content.specs.Objects.{Object, entry_more, entry_rank, is_dir, is_same_target, link_more, one_more, set_attr, set_entry, sized}
 use Rattle.r4_content.specs.Ways.{Named, entry_in}
 use Rattle.r4_content.proofs.Counting.{here, here_no, here_none, here_yes, not_same}
 use Rattle.r4_content.proofs.EditLaws.{edited_off}
 use Rattle.r4_content.proofs.EditParts.{IsOff, edited_first, edited_second, is_off, off_both, true_not_false}
 use Rattle.r4_content.proofs.FileEdits.{off_attr, other_stat, put_itself}
+use Rattle.r4_content.proofs.Keeping.{PlainFit, bodies_kept, stat_fit}
 use Rattle.r4_content.proofs.Naming.{off_entry}
-use Rattle.r4_content.proofs.Ranks.{entry_not_stat, same_itself, same_stat, told_same}
+use Rattle.r4_content.proofs.Ranks.{entry_not_byte, entry_not_stat, stat_not_byte, same_itself, same_stat, told_same}
 use Rattle.r4_content.proofs.Rewired.{IsBorn, IsPlaced, OnEntries, Rewired, both_here, directory_in, directory_on, entry_on, here_empty, named, named_on, names_itself, names_other, not_entry, rewired_lawful}
 use Rattle.r4_content.proofs.Shapes.{entry_dir}
 
@@ -88,10 +91,13 @@ pub record WasThere (m : Content) (o : Object) : Type 0 where
   pub file : is_directory old ≡ false
   pub file_still : is_directory o.attr ≡ false
   pub links : o.attr.nlink ≡ old.nlink + 1
+  pub size : o.attr.size ≡ old.size
+  pub length_too : o.attr.bytes ≡ old.bytes
 
 pub record IsNew (m : Content) (o : Object) : Type 0 where
   pub unused : (u : Target) (a : Attr) → HasStat m u a → u.oid.0 ≢ o.target.oid.0
   pub size : o.attr.size ≡ 0
+  pub length_too : o.attr.bytes ≡ 0
   pub links : (is_directory o.attr ≡ true → o.attr.nlink ≡ 2) × (is_directory o.attr ≡ false → o.attr.nlink ≡ 1)
 
 pub record Gains (m : Content) (dir o : Object) (n : List ℕ) : Type 0 where
@@ -408,3 +414,84 @@ module _ (m : Content) (dir o : Object) (n : List ℕ) (lawful : HasObjects m) (
     one_born = λ t u a b x y. x.1 ∙ sym y.1;
     moved = λ k s t a b new at there is e. absurd (none_moved k s t new at);
   })
+
+  -- ---- bodies
+
+  gain_plain : (k : ℕ) (v : Value) → at_key after k ≡ Some v → (at_key m k ≡ Some v) ⊎ PlainFit (key_of_rank k) v
+  gain_plain k v at = by_key (k == key) (k == stat_rank o.target) (k == stat_rank dir.target) refl refl refl
+    where
+      fits : (w : Value) → PlainFit (key_of_rank k) w → at_key after k ≡ Some w → PlainFit (key_of_rank k) v
+      fits w f there = subst (λ (x : Value). PlainFit (key_of_rank k) x) (same_Some w v (sym there ∙ at)) f
+      stat_at : (t : Target) (a : Attr) → IsObject t → k ≡ stat_rank t → PlainFit (key_of_rank k) (Stat a)
+      stat_at t a is same = subst (λ (x : ℕ). PlainFit (key_of_rank x) (Stat a)) (sym same) (stat_fit t a is)
+      by_key : (p q r : Bool) → (k == key) ≡ p → (k == stat_rank o.target) ≡ q → (k == stat_rank dir.target) ≡ r → (at_key m k ≡ Some v) ⊎ PlainFit (key_of_rank k) v
+      by_key true q r e f g =
+          let is = eqb-true k key e in
+          inr (fits (Entry n o.target) (ap (λ (x : ℕ). minor_of (key_of_rank x)) is ∙ (entry_dir dir.target n h.small h.bytes).1) (ap (at_key after) is ∙ entry_now))
+      by_key false true r e f g =
+          let is = eqb-true k (stat_rank o.target) f in
+          inr (fits (Stat o.attr) (stat_at o.target o.attr h.object is) (ap (at_key after) is ∙ object_now))
+      by_key false false true e f g =
+          let is = eqb-true k (stat_rank dir.target) g in
+          inr (fits (Stat (entry_more (is_dir o) dir.attr)) (stat_at dir.target (entry_more (is_dir o) dir.attr) h.dir_stat.0 is) (ap (at_key after) is ∙ dir_now))
+      by_key false false false e f g = inl (sym (off k (not_same k key e) (not_same k (stat_rank o.target) f) (not_same k (stat_rank dir.target) g)) ∙ at)
+
+  body_same : (t : Target) (x : ℕ) → IsObject t → x < 2 ^ 64 → at_key after (byte_rank t x) ≡ at_key m (byte_rank t x)
+  body_same t x is lt =
+      off (byte_rank t x) (λ e. entry_not_byte dir.target t n x h.small h.bytes is lt (sym e)) (λ e. stat_not_byte o.target t x h.object is lt (sym e)) (λ e. stat_not_byte dir.target t x h.dir_stat.0 is lt (sym e))
+
+  more_bytes : (d : Bool) (a : Attr) → (entry_more d a).bytes ≡ (entry_more d a).size
+  more_bytes true a = refl
+  more_bytes false a = refl
+
+  gain_bytes : (limit : ℕ) → HasBodies limit m → (t : Target) (b : Attr) → HasStat after t b → b.bytes ≡ b.size
+  gain_bytes limit bodies t b there = elim (from t b there) [
+    | inl (a, was, e) ↦ subst (λ (x : Attr). x.bytes ≡ x.size) (same_Some (becomes t a) b e) (by_which t a was)
+    | inr (new, is, same) ↦ subst (λ (x : Attr). x.bytes ≡ x.size) (sym same) (new.length_too ∙ sym new.size)
+  ]
+    where
+      by_which : (u : Target) (a : Attr) → HasStat m u a → (becomes u a).bytes ≡ (becomes u a).size
+      by_which u a was = elim (which u) [
+        | inl (e, is) ↦ subst (λ (x : Attr). x.bytes ≡ x.size) (sym (in_dir u a e)) (more_bytes (is_dir o) a)
+        | inr other ↦ elim other [
+          | inl (e, f, is) ↦ subst (λ (x : Attr). x.bytes ≡ x.size) (sym (in_object u a e f)) (elim h.status [
+            | inl held ↦ held.length_too ∙ bodies.bytes o.target held.old held.stat ∙ sym held.size
+            | inr new ↦ new.length_too ∙ sym new.size
+          ])
+          | inr (e, f) ↦ subst (λ (x : Attr). x.bytes ≡ x.size) (sym (in_other u a e f)) (bodies.bytes u a was)
+        ]
+      ]
+
+  gain_size : (t : Target) (a : Attr) → HasStat m t a → is_directory a ≡ false → (becomes t a).size ≡ a.size
+  gain_size t a was file = elim (which t) [
+    | inl (e, is) ↦ absurd (true_not_false (sym h.dir_is ∙ ap is_directory (sym (dir_attr a (subst (λ (u : Target). HasStat m u a) is was))) ∙ file))
+    | inr other ↦ elim other [
+      | inl (e, f, is) ↦ elim h.status [
+        | inl held ↦
+            let same = stat_same a held.old (sym was.1 ∙ ap (λ (u : Target). at_key m (stat_rank u)) is ∙ held.stat.1) in
+            ap (λ (x : Attr). x.size) (in_object t a e f) ∙ held.size ∙ ap (λ (x : Attr). x.size) (sym same)
+        | inr new ↦ absurd (new.unused t a was (ap (λ (u : Target). u.oid.0) is))
+      ]
+      | inr (e, f) ↦ ap (λ (x : Attr). x.size) (in_other t a e f)
+    ]
+  ]
+
+  pub gains_bodies : (limit : ℕ) → HasBodies limit m → HasBodies limit (edited (name_in dir n o) m)
+  gains_bodies limit bodies = bodies_kept limit m after bodies (record {
+    plain = gain_plain;
+    alive = λ t a x y was file lt at. (becomes t a, kept t a was, kind t a was ∙ file);
+    files = λ t b there file. elim (from t b there) [
+      | inl (a, was, e) ↦
+          let same = same_Some (becomes t a) b e in
+          let old_file = sym (kind t a was) ∙ ap is_directory same ∙ file in
+          inl (record { old = a; stat = was; file = old_file; size = ap (λ (x : Attr). x.size) (sym same) ∙ gain_size t a was old_file; same = λ x lt. body_same t x was.0 lt })
+      | inr (new, is, same) ↦ inr (record { size = ap (λ (x : Attr). x.size) same ∙ new.size; none = λ x y lt at. no_byte t new is there.0 x y lt (sym (body_same t x there.0 lt) ∙ at) })
+    ];
+    bytes = gain_bytes limit bodies;
+  })
+    where
+      no_byte : (t : Target) → IsNew m o → t ≡ o.target → IsObject t → (x y : ℕ) → x < 2 ^ 64 → at_key m (byte_rank t x) ≡ Some (Byte y) → ⊥
+      no_byte t new is object x y lt at =
+          let (minor, (a, stat, file)) = bodies.keys (byte_rank t x) (Byte y) at in
+          let back : object_of (key_of_rank (byte_rank t x)) ≡ t = ap object_of (byte_back t x object lt) ∙ byte_object t x in
+          new.unused (object_of (key_of_rank (byte_rank t x))) a stat (ap (λ (u : Target). u.oid.0) (back ∙ is))

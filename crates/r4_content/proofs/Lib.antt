@@ -25,3 +25,4 @@ pub mod Moving
 pub mod MoveEdits
 pub mod Movers
 pub mod Staying
+pub mod Keeping

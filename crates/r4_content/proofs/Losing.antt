@@ -1,7 +1,7 @@
 -- Commands by which an object loses a name: the objects of a lawful content stay lawful.
 use Rattle.std.specs.Prelude.{◌≡◌, ◌≢◌, ◌⊎◌, ℕ, zero, suc, ◌+◌, ◌-◌, ◌^◌, ◌<◌, ◌≤◌, List, [], ◌∷◌, ◌++◌, Bool, true, false, ◌&&◌, ◌==◌, cond, nat_le, nat_lt, All, Option, Some, None, if◌then◌else◌}
 use Rattle.std.proofs.Common.{arith, inl, inr, refl, sym, ap, subst, ◌∙◌}
-use Rattle.std.proofs.lemmas.Bool.{eq-eqb, eqb-true, leb-true, ne_eqb}
+use Rattle.std.proofs.lemmas.Bool.{and_from, eq-eqb, eqb-true, le-leb, leb-true, lt-ltb, ne_eqb}
 use Rattle.std.proofs.lemmas.Grind.{common_steps}
 use Rattle.std.proofs.lemmas.Option.{same_Some}
 use Rattle.r4_base.specs.Key.{key_of_rank}
@@ -11,7 +11,7 @@ use Rattle.r4_base.specs.Volume.{HasObjects, HasStat, IsObject, IsReached, byte_
 use Rattle.r4_base.specs.declared.items.Attr.{Attr}
 use Rattle.r4_base.specs.declared.items.Target.{Target}
 use Rattle.r4_base.specs.declared.things.Oid.{Oid}
-use Rattle.r4_content.specs.Edited.{Edits, and_also, edited, is_between}
+use Rattle.r4_content.specs.Edited.{Edits, and_also, edited, is_between, is_in}
 use Rattle.r4_content.specs.Entries.{unname_in}
 use Rattle.r4_content.specs.Lawful.{HasBodies}
 use Rattle.r4_content.specs.Objects.{Object, cut_body, cut_key, entry_less, entry_rank, is_dir, is_same_target, link_less, set_attr, unnamed}
@@ -22,9 +22,10 @@ use Rattle.r4_content.proofs.EditLaws.{at_edited, edited_off}
 use Rattle.r4_content.proofs.EditParts.{IsOff, edited_first, edited_second, is_off, off_both, true_not_false}
 use Rattle.r4_content.proofs.FileEdits.{IsElsewhere, off_attr, off_cuts, other_stat, put_itself}
 use Rattle.r4_content.proofs.Gaining.{stat_same}
+use Rattle.r4_content.proofs.Keeping.{IsEmptyFile, IsKeptFile, PlainFit, bodies_kept, stat_fit}
 use Rattle.r4_content.proofs.Naming.{off_key}
 use Rattle.r4_content.proofs.OneObject.{NoEntries, none_edited}
-use Rattle.r4_content.proofs.Ranks.{entry_not_byte, entry_not_stat, same_itself, same_stat, stat_not_byte, told_same}
+use Rattle.r4_content.proofs.Ranks.{byte_after, same_bytes, entry_not_byte, entry_not_stat, same_itself, same_stat, stat_not_byte, told_same}
 use Rattle.r4_content.proofs.Rewired.{OnEntries, Rewired, both_here, directory_in, directory_on, entry_on, here_empty, named, named_on, names_itself, names_other, not_entry, rewired_lawful}
 use Rattle.r4_content.proofs.Shapes.{entry_dir, no_entry_body, where_is}
 
@@ -66,6 +67,60 @@ unnamed_no_entries o = by_kind (is_dir o) (nat_le o.attr.nlink 1)
     by_kind true b = tt
     by_kind false true = tt
     by_kind false false = (refl, tt)
+
+-- ---- the bytes of an object after an entry of it went
+
+-- they stay, or they go
+pub unnamed_body : (m : Content) (o : Object) (x : ℕ) → IsObject o.target → x < 2 ^ 64
+    → (at_key (edited (unnamed o) m) (byte_rank o.target x) ≡ at_key m (byte_rank o.target x)) ⊎ (at_key (edited (unnamed o) m) (byte_rank o.target x) ≡ None)
+unnamed_body m o x is lt = by_kind (is_dir o) (nat_le o.attr.nlink 1)
+  where
+    not_stat : byte_rank o.target x ≢ stat_rank o.target
+    not_stat e = stat_not_byte o.target o.target x is is lt (sym e)
+    by_between : (b : Bool) → (cond b None (at_key m (byte_rank o.target x)) ≡ at_key m (byte_rank o.target x)) ⊎ (cond b None (at_key m (byte_rank o.target x)) ≡ None)
+    by_between true = inr refl
+    by_between false = inl refl
+    by_kind : (d b : Bool)
+        → (at_key (edited (if d then cut_key (stat_rank o.target) else if b then and_also (cut_key (stat_rank o.target)) (cut_body o 0 o.attr.size) else set_attr o (link_less o.attr)) m) (byte_rank o.target x) ≡ at_key m (byte_rank o.target x))
+        ⊎ (at_key (edited (if d then cut_key (stat_rank o.target) else if b then and_also (cut_key (stat_rank o.target)) (cut_body o 0 o.attr.size) else set_attr o (link_less o.attr)) m) (byte_rank o.target x) ≡ None)
+    by_kind true b = inl (edited_off (cut_key (stat_rank o.target)) m (byte_rank o.target x) (is_off (cut_key (stat_rank o.target)) (byte_rank o.target x) (off_key (stat_rank o.target) (byte_rank o.target x) not_stat)))
+    by_kind false true =
+        let cut = edited_second (cut_key (stat_rank o.target)) (cut_body o 0 o.attr.size) m (byte_rank o.target x) (off_key (stat_rank o.target) (byte_rank o.target x) not_stat) ∙ at_edited (cut_body o 0 o.attr.size) m (byte_rank o.target x) in
+        elim (by_between (is_in (cut_body o 0 o.attr.size).cuts (byte_rank o.target x))) [ | inl e ↦ inl (cut ∙ e) | inr e ↦ inr (cut ∙ e) ]
+    by_kind false false = inl (edited_off (set_attr o (link_less o.attr)) m (byte_rank o.target x) (is_off (set_attr o (link_less o.attr)) (byte_rank o.target x) (off_attr o (link_less o.attr) (byte_rank o.target x) not_stat)))
+
+-- with a file they go
+pub unnamed_gone : (m : Content) (o : Object) (x : ℕ) → IsObject o.target → x < 2 ^ 64 → x < o.attr.size → rest_of o ≡ None → is_dir o ≡ false → at_key (edited (unnamed o) m) (byte_rank o.target x) ≡ None
+unnamed_gone m o x is lt below gone file = by_kind (is_dir o) (nat_le o.attr.nlink 1) gone file
+  where
+    inside : is_between (byte_rank o.target 0) (byte_rank o.target o.attr.size) (byte_rank o.target x) ≡ true
+    inside =
+        let a : byte_rank o.target (0 + x) ≡ byte_rank o.target 0 + x = byte_after o.target 0 x in
+        let b : byte_rank o.target (0 + x) ≡ byte_rank o.target x = ap (byte_rank o.target) (omega arith) in
+        let c : byte_rank o.target (0 + o.attr.size) ≡ byte_rank o.target 0 + o.attr.size = byte_after o.target 0 o.attr.size in
+        let d : byte_rank o.target (0 + o.attr.size) ≡ byte_rank o.target o.attr.size = ap (byte_rank o.target) (omega arith) in
+        and_from (nat_le (byte_rank o.target 0) (byte_rank o.target x)) (nat_lt (byte_rank o.target x) (byte_rank o.target o.attr.size)) (le-leb _ _ (omega arith)) (lt-ltb _ _ (omega arith))
+    by_kind : (d b : Bool) → (if d then None else if b then None else Some (link_less o.attr)) ≡ None → d ≡ false
+        → at_key (edited (if d then cut_key (stat_rank o.target) else if b then and_also (cut_key (stat_rank o.target)) (cut_body o 0 o.attr.size) else set_attr o (link_less o.attr)) m) (byte_rank o.target x) ≡ None
+    by_kind true b e f = absurd (true_not_false f)
+    by_kind false true e f =
+        edited_second (cut_key (stat_rank o.target)) (cut_body o 0 o.attr.size) m (byte_rank o.target x)
+        (off_key (stat_rank o.target) (byte_rank o.target x) (λ s. stat_not_byte o.target o.target x is is lt (sym s)))
+        ∙ at_edited (cut_body o 0 o.attr.size) m (byte_rank o.target x)
+        ∙ ap (λ (b : Bool). cond b None (at_key m (byte_rank o.target x))) (or_left (is_between (byte_rank o.target 0) (byte_rank o.target o.attr.size) (byte_rank o.target x)) false inside)
+    by_kind false false e f = absurd cc
+
+-- with a file that stays they stay
+pub unnamed_kept : (m : Content) (o : Object) (x : ℕ) (b : Attr) → IsObject o.target → x < 2 ^ 64 → rest_of o ≡ Some b → at_key (edited (unnamed o) m) (byte_rank o.target x) ≡ at_key m (byte_rank o.target x)
+unnamed_kept m o x b is lt left = by_kind (is_dir o) (nat_le o.attr.nlink 1) left
+  where
+    by_kind : (d c : Bool) → (if d then None else if c then None else Some (link_less o.attr)) ≡ Some b
+        → at_key (edited (if d then cut_key (stat_rank o.target) else if c then and_also (cut_key (stat_rank o.target)) (cut_body o 0 o.attr.size) else set_attr o (link_less o.attr)) m) (byte_rank o.target x) ≡ at_key m (byte_rank o.target x)
+    by_kind true c e = absurd cc
+    by_kind false true e = absurd cc
+    by_kind false false e =
+        edited_off (set_attr o (link_less o.attr)) m (byte_rank o.target x)
+        (is_off (set_attr o (link_less o.attr)) (byte_rank o.target x) (off_attr o (link_less o.attr) (byte_rank o.target x) (λ s. stat_not_byte o.target o.target x is is lt (sym s))))
 
 -- ---- numbers of a directory
 
@@ -508,3 +563,113 @@ module _ (limit : ℕ) (m : Content) (dir o : Object) (n : List ℕ) (lawful : H
     one_born = λ t u a b x y. absurd x;
     moved = λ k s t a b new at there is e. absurd (none_moved k s t a b new at there is e);
   })
+
+  -- ---- bodies
+
+  byte_now : (x : ℕ) → x < 2 ^ 64 → at_key after (byte_rank o.target x) ≡ at_key (edited (unnamed o) m) (byte_rank o.target x)
+  byte_now x lt =
+      edited_second (cut_key key) (and_also set_dir (unnamed o)) m (byte_rank o.target x) (off_key key (byte_rank o.target x) (λ e. entry_not_byte dir.target o.target n x h.small h.bytes h.stat.0 lt (sym e)))
+      ∙ edited_second set_dir (unnamed o) m (byte_rank o.target x) (off_attr dir (entry_less (is_dir o) dir.attr) (byte_rank o.target x) (λ e. stat_not_byte dir.target o.target x h.dir_stat.0 h.stat.0 lt (sym e)))
+
+  other_body : (t : Target) (x : ℕ) → IsObject t → x < 2 ^ 64 → is_same_target t o.target ≡ false → at_key after (byte_rank t x) ≡ at_key m (byte_rank t x)
+  other_body t x is lt f =
+      off (byte_rank t x) (λ e. entry_not_byte dir.target t n x h.small h.bytes is lt (sym e)) (λ e. stat_not_byte dir.target t x h.dir_stat.0 is lt (sym e))
+      (record {
+        stat = λ e. stat_not_byte o.target t x h.stat.0 is lt (sym e);
+        bytes = λ y ly e. true_not_false (sym (same_itself o.target) ∙ ap (λ (u : Target). is_same_target u o.target) (sym (same_bytes t o.target x y is h.stat.0 lt ly e)) ∙ f);
+      })
+
+  lose_plain : (k : ℕ) (v : Value) → at_key after k ≡ Some v → (at_key m k ≡ Some v) ⊎ PlainFit (key_of_rank k) v
+  lose_plain k v at = by_key (k == key) (k == stat_rank dir.target) refl refl
+    where
+      none_some : (w : Option Value) → w ≡ None → w ≡ Some v → ⊥
+      none_some w e f = absurd (no_value (sym f ∙ e))
+        where
+          no_value : Some v ≡ None → ⊥
+          no_value g = cc
+      fits : (w : Value) → PlainFit (key_of_rank k) w → at_key after k ≡ Some w → PlainFit (key_of_rank k) v
+      fits w f there = subst (λ (x : Value). PlainFit (key_of_rank k) x) (same_Some w v (sym there ∙ at)) f
+      stat_at : (t : Target) (a : Attr) → IsObject t → k ≡ stat_rank t → PlainFit (key_of_rank k) (Stat a)
+      stat_at t a is same = subst (λ (x : ℕ). PlainFit (key_of_rank x) (Stat a)) (sym same) (stat_fit t a is)
+      rest_fit : (w : Option Attr) → k ≡ stat_rank o.target → at_key after k ≡ stat_value w → (at_key m k ≡ Some v) ⊎ PlainFit (key_of_rank k) v
+      rest_fit None same there = absurd (none_some (at_key after k) there at)
+      rest_fit (Some a) same there = inr (fits (Stat a) (stat_at o.target a h.stat.0 same) there)
+      by_key : (p q : Bool) → (k == key) ≡ p → (k == stat_rank dir.target) ≡ q → (at_key m k ≡ Some v) ⊎ PlainFit (key_of_rank k) v
+      by_key true q e f = absurd (none_some (at_key after k) (ap (at_key after) (eqb-true k key e) ∙ entry_now) at)
+      by_key false true e f =
+          let is = eqb-true k (stat_rank dir.target) f in
+          inr (fits (Stat (entry_less (is_dir o) dir.attr)) (stat_at dir.target (entry_less (is_dir o) dir.attr) h.dir_stat.0 is) (ap (at_key after) is ∙ dir_now))
+      by_key false false e f = elim (where_is o.target k) [
+        | inl is ↦ rest_fit (rest_of o) is (ap (at_key after) is ∙ object_now)
+        | inr other ↦ elim other [
+          | inl (x, lt, is) ↦ elim (unnamed_body m o x h.stat.0 lt) [
+            | inl same ↦ inl (ap (at_key m) is ∙ sym same ∙ sym (byte_now x lt) ∙ ap (at_key after) (sym is) ∙ at)
+            | inr none ↦ absurd (none_some (at_key after k) (ap (at_key after) is ∙ byte_now x lt ∙ none) at)
+          ]
+          | inr elsewhere ↦ inl (sym (off k (not_same k key e) (not_same k (stat_rank dir.target) f) elsewhere) ∙ at)
+        ]
+      ]
+
+  lose_alive : (t : Target) (a : Attr) (x y : ℕ) → HasStat m t a → is_directory a ≡ false → x < 2 ^ 64 → at_key after (byte_rank t x) ≡ Some (Byte y) → (b : Attr) × HasStat after t b × (is_directory b ≡ false)
+  lose_alive t a x y was file lt at =
+      let (b, e) = stays_unless t a (λ same gone. no_byte same gone) in
+      (b, kept t a b was e, kind t a b was e ∙ file)
+    where
+      some_none : Some (Byte y) ≡ None → ⊥
+      some_none g = cc
+      no_byte : t ≡ o.target → rest_of o ≡ None → ⊥
+      no_byte same gone =
+          let attr = stat_one m lawful t o.target a o.attr was h.stat same in
+          let is_file : is_dir o ≡ false = ap is_directory (sym attr) ∙ file in
+          let at_o : at_key (edited (unnamed o) m) (byte_rank o.target x) ≡ Some (Byte y) = sym (byte_now x lt) ∙ ap (λ (u : Target). at_key after (byte_rank u x)) (sym same) ∙ at in
+          elim (unnamed_body m o x h.stat.0 lt) [
+            | inl stays_same ↦
+                let below = (bodies.offsets o.target o.attr h.stat is_file x lt).0 (y, sym stays_same ∙ at_o) in
+                some_none (sym at_o ∙ unnamed_gone m o x h.stat.0 lt below gone is_file)
+            | inr none ↦ some_none (sym at_o ∙ none)
+          ]
+
+  lose_files : (t : Target) (b : Attr) → HasStat after t b → is_directory b ≡ false → IsKeptFile m after t b ⊎ IsEmptyFile after t b
+  lose_files t b there file = elim (from t b there) [
+    | inl (a, was, e) ↦
+        let old_file = sym (kind t a b was e) ∙ file in
+        inl (record { old = a; stat = was; file = old_file; size = size_same a was e old_file; same = λ x lt. body_same a was e old_file x lt })
+    | inr none ↦ absurd none
+  ]
+    where
+      size_same : (a : Attr) → HasStat m t a → becomes t a ≡ Some b → is_directory a ≡ false → b.size ≡ a.size
+      size_same a was e old_file = elim (stays_as t a b was e) [
+        | inl (x, same, attr, new) ↦ absurd (true_not_false (sym h.dir_is ∙ ap is_directory (sym attr) ∙ old_file))
+        | inr other ↦ elim other [
+          | inl (same, attr, is_file, some, new) ↦ ap (λ (c : Attr). c.size) new
+          | inr (x, y, new) ↦ ap (λ (c : Attr). c.size) new
+        ]
+      ]
+      body_same : (a : Attr) → HasStat m t a → becomes t a ≡ Some b → is_directory a ≡ false → (x : ℕ) → x < 2 ^ 64 → at_key after (byte_rank t x) ≡ at_key m (byte_rank t x)
+      body_same a was e old_file x lt = elim (which t) [
+        | inl (s, same) ↦ absurd (true_not_false (sym h.dir_is ∙ ap is_directory (sym (stat_one m lawful t dir.target a dir.attr was h.dir_stat same)) ∙ old_file))
+        | inr other ↦ elim other [
+          | inl (s, u, same) ↦
+              ap (λ (w : Target). at_key after (byte_rank w x)) same ∙ byte_now x lt ∙ unnamed_kept m o x b h.stat.0 lt (sym (in_object t a s u) ∙ e) ∙ ap (λ (w : Target). at_key m (byte_rank w x)) (sym same)
+          | inr (s, u) ↦ other_body t x was.0 lt u
+        ]
+      ]
+
+  less_bytes : (d : Bool) (a : Attr) → (entry_less d a).bytes ≡ (entry_less d a).size
+  less_bytes true a = refl
+  less_bytes false a = refl
+
+  lose_bytes : (t : Target) (b : Attr) → HasStat after t b → b.bytes ≡ b.size
+  lose_bytes t b there = elim (from t b there) [
+    | inl (a, was, e) ↦ elim (stays_as t a b was e) [
+      | inl (x, same, attr, new) ↦ subst (λ (c : Attr). c.bytes ≡ c.size) (sym new) (less_bytes (is_dir o) a)
+      | inr other ↦ elim other [
+        | inl (same, attr, is_file, some, new) ↦ subst (λ (c : Attr). c.bytes ≡ c.size) (sym new) (bodies.bytes t a was)
+        | inr (x, y, new) ↦ subst (λ (c : Attr). c.bytes ≡ c.size) (sym new) (bodies.bytes t a was)
+      ]
+    ]
+    | inr none ↦ absurd none
+  ]
+
+  pub loses_bodies : HasBodies limit (edited (unname_in dir n o) m)
+  loses_bodies = bodies_kept limit m after bodies (record { plain = lose_plain; alive = lose_alive; files = lose_files; bytes = lose_bytes })

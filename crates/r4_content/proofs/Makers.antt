@@ -35,9 +35,9 @@ same_oid a b e i = record { 0 = e i }
 
 -- a new object gets a name
 pub gains_new : (limit : ℕ) (m : Content) (dir : Object) (n : List ℕ) (oid : Oid) (a : Attr) → IsLawful limit m → IsThere m dir → is_dir dir ≡ true → All (λ x. x < 256) n
-    → entry_in (at_key m (entry_rank dir.target n)) ≡ None → oid.0 < 2 ^ 60 → IsUnused m oid → a.size ≡ 0 → (is_directory a ≡ true → a.nlink ≡ 2) × (is_directory a ≡ false → a.nlink ≡ 1)
+    → entry_in (at_key m (entry_rank dir.target n)) ≡ None → oid.0 < 2 ^ 60 → IsUnused m oid → a.size ≡ 0 → a.bytes ≡ 0 → (is_directory a ≡ true → a.nlink ≡ 2) × (is_directory a ≡ false → a.nlink ≡ 1)
     → (is_directory a ≡ true → dir.attr.nlink < 2 ^ 32 - 1) → Gains m dir (made_in dir n oid a) n
-gains_new limit m dir n oid a lawful there is bytes free small unused size kinds links =
+gains_new limit m dir n oid a lawful there is bytes free small unused size length_too kinds links =
     let stat = stat_was m dir there in
     let may = (small_object dir.target (stat_there m dir.target dir.attr there.stat).0).1 in
     let object : IsObject (made_in dir n oid a).target = (may, (name_fits dir.target n may bytes).small 1, omega arith) in
@@ -48,19 +48,19 @@ gains_new limit m dir n oid a lawful there is bytes free small unused size kinds
       small = may;
       bytes = bytes;
       free = free;
-      status = inr (record { unused = λ u b h e. unused u b h (same_oid u.oid oid e); size = size; links = kinds });
+      status = inr (record { unused = λ u b h e. unused u b h (same_oid u.oid oid e); size = size; length_too = length_too; links = kinds });
       room = lawful.room dir.target dir.attr stat is;
       links = links;
       no_entry = no_entry_stat limit m lawful.bodies (made_in dir n oid a).target object;
     }
 
 make_lawful : (limit : ℕ) (path : List (List ℕ)) (oid : Oid) (m : Content) (a : Attr) (make : Object → (name : List ℕ) → Course) → HasNumbers m → IsLawful limit m → HasBytes path → IsUnused m oid
-    → a.size ≡ 0 → (is_directory a ≡ true → a.nlink ≡ 2) × (is_directory a ≡ false → a.nlink ≡ 1)
+    → a.size ≡ 0 → a.bytes ≡ 0 → (is_directory a ≡ true → a.nlink ≡ 2) × (is_directory a ≡ false → a.nlink ≡ 1)
     → ((dir : Object) (n : List ℕ) → (ending (make dir n) (of_content m)).reply ≡ Okay
       → (oid.0 < 2 ^ 60) × (ending (make dir n) (of_content m) ≡ record { edits = name_in dir n (made_in dir n oid a); reply = Okay }) × (is_directory a ≡ true → dir.attr.nlink < 2 ^ 32 - 1))
     → (ending (named path (to_free path make)) (of_content m)).reply ≡ Okay → HasObjects (edited (ending (named path (to_free path make)) (of_content m)).edits m)
 unfolding to_free
-make_lawful limit path oid m a make numbers lawful bytes unused size kinds made okay =
+make_lawful limit path oid m a make numbers lawful bytes unused size length_too kinds made okay =
     let c = came_above m Exists path (free_here make) (λ e. cc) okay in
     let n = slice_index_or path (length path - 1) [] in
     let dir = c.place.here in
@@ -68,12 +68,12 @@ make_lawful limit path oid m a make numbers lawful bytes unused size kinds made 
     let (small, done, links) = made dir n (sym (ap (λ (x : Ending). x.reply) (c.ends ∙ goes)) ∙ okay) in
     let there = found_object m numbers.orderings (take (length path - 1) path) c.place c.at in
     subst (λ (x : Ending). HasObjects (edited x.edits m)) (sym (c.ends ∙ goes ∙ done))
-    (gains_lawful m dir (made_in dir n oid a) n lawful.objects (gains_new limit m dir n oid a lawful there is (last_bytes path c.some bytes) free small unused size kinds links))
+    (gains_lawful m dir (made_in dir n oid a) n lawful.objects (gains_new limit m dir n oid a lawful there is (last_bytes path c.some bytes) free small unused size length_too kinds links))
 
 pub create_lawful : (limit : ℕ) (path : List (List ℕ)) (oid : Oid) (m : Content) → limit < 2 ^ 64 → IsLawful limit m → HasBytes path → IsUnused m oid → HasObjects (after limit (Create path oid) m)
 create_lawful limit path oid m lt lawful bytes unused =
     by_done limit (Create path oid) m (λ x. HasObjects x) lawful.objects
-    (make_lawful limit path oid m new_file (make_file oid) (numbers_of limit m lt lawful) lawful bytes unused refl ((λ d. absurd cc), (λ f. refl))
+    (make_lawful limit path oid m new_file (make_file oid) (numbers_of limit m lt lawful) lawful bytes unused refl refl ((λ d. absurd cc), (λ f. refl))
       (λ dir n okay. let x = file_made m dir n oid okay in (x.0, x.1, (λ d. absurd cc))))
 
 room_of : (m : Content) (oid : Oid) (dir : Object) (n : List ℕ) → (ending (make_directory oid dir n) (of_content m)).reply ≡ Okay → dir.attr.nlink < 2 ^ 32 - 1
@@ -87,7 +87,7 @@ room_of m oid dir n okay = by_links (is_full dir) refl okay
 pub mkdir_lawful : (limit : ℕ) (path : List (List ℕ)) (oid : Oid) (m : Content) → limit < 2 ^ 64 → IsLawful limit m → HasBytes path → IsUnused m oid → HasObjects (after limit (Mkdir path oid) m)
 mkdir_lawful limit path oid m lt lawful bytes unused =
     by_done limit (Mkdir path oid) m (λ x. HasObjects x) lawful.objects
-    (make_lawful limit path oid m new_directory (make_directory oid) (numbers_of limit m lt lawful) lawful bytes unused refl ((λ d. refl), (λ f. absurd cc))
+    (make_lawful limit path oid m new_directory (make_directory oid) (numbers_of limit m lt lawful) lawful bytes unused refl refl ((λ d. refl), (λ f. absurd cc))
       (λ dir n okay. let x = directory_made m dir n oid okay in (x.0, x.1, (λ d. room_of m oid dir n okay))))
 
 -- ---- link
@@ -164,7 +164,7 @@ gains_link limit m dir o n lawful there is bytes free o_there file few =
       small = (small_object dir.target (stat_there m dir.target dir.attr there.stat).0).1;
       bytes = bytes;
       free = free;
-      status = inl (record { old = o.attr; stat = o_stat; file = file; file_still = file; links = one_more_is o.attr.nlink (omega arith) });
+      status = inl (record { old = o.attr; stat = o_stat; file = file; file_still = file; links = one_more_is o.attr.nlink (omega arith); size = refl; length_too = refl });
       room = lawful.room dir.target dir.attr stat is;
       links = λ d. absurd (true_not_false (sym d ∙ file));
       no_entry = ap entry_in o_stat.1;

@@ -111,3 +111,12 @@ entry_not_between d t n from to small bytes ht le = told (is_between (byte_rank 
     told : (b : Bool) → is_between (byte_rank t from) (byte_rank t to) (entry_rank d n) ≡ b → b ≡ false
     told false e = refl
     told true e = let (x, is, low, high) = in_body t from to (entry_rank d n) e in absurd (entry_not_byte d t n x small bytes ht (omega arith) is)
+
+-- keys of bytes are those of one object
+pub same_bytes : (t u : Target) (x y : ℕ) → IsObject t → IsObject u → x < 2 ^ 64 → y < 2 ^ 64 → byte_rank t x ≡ byte_rank u y → t ≡ u
+same_bytes t u x y ht hu lx ly e =
+    let keys = equal _ _ (body_fits t x ht lx) (body_fits u y hu ly) e in
+    let l : t.locality * 16 + 4 ≡ u.locality * 16 + 4 = first _ _ keys in
+    let o : t.ordering ≡ u.ordering = ap (λ (k : Key). slice_index k.el 1) keys in
+    let i : t.oid.0 ≡ u.oid.0 = ap (λ (k : Key). slice_index k.el 2) keys in
+    same_target t u (omega arith) o i
