@@ -22,7 +22,7 @@ use Rattle.r4_content.proofs.Counting.{here, here_no, here_none, here_yes, not_s
 use Rattle.r4_content.proofs.EditLaws.{edited_off}
 use Rattle.r4_content.proofs.EditParts.{IsOff, edited_first, edited_second, is_off, off_both, true_not_false}
 use Rattle.r4_content.proofs.FileEdits.{off_attr, other_stat, put_itself}
-use Rattle.r4_content.proofs.Keeping.{PlainFit, bodies_kept, stat_fit}
+use Rattle.r4_content.proofs.Keeping.{PlainFit, bodies_kept, plain_fits, stat_fit}
 use Rattle.r4_content.proofs.Naming.{off_entry}
 use Rattle.r4_content.proofs.Ranks.{entry_not_byte, entry_not_stat, stat_not_byte, same_itself, same_stat, told_same}
 use Rattle.r4_content.proofs.Rewired.{IsBorn, IsPlaced, OnEntries, Rewired, both_here, directory_in, directory_on, entry_on, here_empty, named, named_on, names_itself, names_other, not_entry, rewired_lawful}
@@ -478,14 +478,14 @@ module _ (m : Content) (dir o : Object) (n : List ℕ) (lawful : HasObjects m) (
 
   pub gains_bodies : (limit : ℕ) → HasBodies limit m → HasBodies limit (edited (name_in dir n o) m)
   gains_bodies limit bodies = bodies_kept limit m after bodies (record {
-    plain = gain_plain;
+    fits = λ k v at. elim (gain_plain k v at) [ | inl old ↦ inl old | inr f ↦ inr (plain_fits after (key_of_rank k) v f) ];
     alive = λ t a x y was file lt at. (becomes t a, kept t a was, kind t a was ∙ file);
     files = λ t b there file. elim (from t b there) [
       | inl (a, was, e) ↦
           let same = same_Some (becomes t a) b e in
           let old_file = sym (kind t a was) ∙ ap is_directory same ∙ file in
           inl (record { old = a; stat = was; file = old_file; size = ap (λ (x : Attr). x.size) (sym same) ∙ gain_size t a was old_file; same = λ x lt. body_same t x was.0 lt })
-      | inr (new, is, same) ↦ inr (record { size = ap (λ (x : Attr). x.size) same ∙ new.size; none = λ x y lt at. no_byte t new is there.0 x y lt (sym (body_same t x there.0 lt) ∙ at) })
+      | inr (new, is, same) ↦ inr (inl (record { size = ap (λ (x : Attr). x.size) same ∙ new.size; none = λ x y lt at. no_byte t new is there.0 x y lt (sym (body_same t x there.0 lt) ∙ at) }))
     ];
     bytes = gain_bytes limit bodies;
   })

@@ -58,23 +58,29 @@ pub record IsEmptyFile (n : Content) (t : Target) (b : Attr) : Type 0 where
   pub size : b.size ≡ 0
   pub none : (x y : ℕ) → x < 2 ^ 64 → at_key n (byte_rank t x) ≡ Some (Byte y) → ⊥
 
-pub record KeepsBodies (m n : Content) : Type 0 where
-  pub plain : (k : ℕ) (v : Value) → at_key n k ≡ Some v → (at_key m k ≡ Some v) ⊎ PlainFit (key_of_rank k) v
+-- what a file is that was written
+pub record IsWholeFile (limit : ℕ) (n : Content) (t : Target) (b : Attr) : Type 0 where
+  pub small : b.size ≤ limit
+  pub offsets : (x : ℕ) → x < 2 ^ 64 → HasByte n t x ↔ (x < b.size)
+
+pub plain_fits : (n : Content) (k : Key) (v : Value) → PlainFit k v → KeyFits n k v
+plain_fits n k (Stat a) f = f
+plain_fits n k (Entry s t) f = f
+plain_fits n k (Byte x) f = absurd f
+
+pub record KeepsBodies (limit : ℕ) (m n : Content) : Type 0 where
+  pub fits : (k : ℕ) (v : Value) → at_key n k ≡ Some v → (at_key m k ≡ Some v) ⊎ KeyFits n (key_of_rank k) v
   pub alive : (t : Target) (a : Attr) (x y : ℕ) → HasStat m t a → is_directory a ≡ false → x < 2 ^ 64 → at_key n (byte_rank t x) ≡ Some (Byte y) → (b : Attr) × HasStat n t b × (is_directory b ≡ false)
-  pub files : (t : Target) (b : Attr) → HasStat n t b → is_directory b ≡ false → IsKeptFile m n t b ⊎ IsEmptyFile n t b
+  pub files : (t : Target) (b : Attr) → HasStat n t b → is_directory b ≡ false → IsKeptFile m n t b ⊎ (IsEmptyFile n t b ⊎ IsWholeFile limit n t b)
   pub bytes : (t : Target) (b : Attr) → HasStat n t b → b.bytes ≡ b.size
 
-module _ (limit : ℕ) (m n : Content) (bodies : HasBodies limit m) (h : KeepsBodies m n) where
+module _ (limit : ℕ) (m n : Content) (bodies : HasBodies limit m) (h : KeepsBodies limit m n) where
   keys : (k : ℕ) (v : Value) → at_key n k ≡ Some v → KeyFits n (key_of_rank k) v
-  keys k v at = elim (h.plain k v at) [
+  keys k v at = elim (h.fits k v at) [
     | inl old ↦ by_value v at (bodies.keys k v old)
-    | inr fits ↦ by_fit v fits
+    | inr fits ↦ fits
   ]
     where
-      by_fit : (w : Value) → PlainFit (key_of_rank k) w → KeyFits n (key_of_rank k) w
-      by_fit (Stat a) f = f
-      by_fit (Entry s t) f = f
-      by_fit (Byte x) f = absurd f
       by_value : (w : Value) → at_key n k ≡ Some w → KeyFits m (key_of_rank k) w → KeyFits n (key_of_rank k) w
       by_value (Stat a) there f = f
       by_value (Entry s t) there f = f
@@ -86,7 +92,10 @@ module _ (limit : ℕ) (m n : Content) (bodies : HasBodies limit m) (h : KeepsBo
   small : (t : Target) (b : Attr) → HasStat n t b → is_directory b ≡ false → b.size ≤ limit
   small t b there file = elim (h.files t b there file) [
     | inl kept ↦ let le = bodies.small t kept.old kept.stat kept.file in let e = kept.size in omega arith
-    | inr empty ↦ let e = empty.size in omega arith
+    | inr other ↦ elim other [
+      | inl empty ↦ let e = empty.size in omega arith
+      | inr whole ↦ whole.small
+    ]
   ]
 
   offsets : (t : Target) (b : Attr) → HasStat n t b → is_directory b ≡ false → (x : ℕ) → x < 2 ^ 64 → HasByte n t x ↔ (x < b.size)
@@ -96,7 +105,10 @@ module _ (limit : ℕ) (m n : Content) (bodies : HasBodies limit m) (h : KeepsBo
         let e = kept.size in
         let same = kept.same x lt in
         ((λ (y, at). let below = was.0 (y, sym same ∙ at) in omega arith), (λ below. let (y, at) = was.1 (omega arith) in (y, same ∙ at)))
-    | inr empty ↦ let e = empty.size in ((λ (y, at). absurd (empty.none x y lt at)), (λ below. absurd (omega arith)))
+    | inr other ↦ elim other [
+      | inl empty ↦ let e = empty.size in ((λ (y, at). absurd (empty.none x y lt at)), (λ below. absurd (omega arith)))
+      | inr whole ↦ whole.offsets x lt
+    ]
   ]
 
   pub bodies_kept : HasBodies limit n

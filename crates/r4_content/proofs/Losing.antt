@@ -22,7 +22,7 @@ use Rattle.r4_content.proofs.EditLaws.{at_edited, edited_off}
 use Rattle.r4_content.proofs.EditParts.{IsOff, edited_first, edited_second, is_off, off_both, true_not_false}
 use Rattle.r4_content.proofs.FileEdits.{IsElsewhere, off_attr, off_cuts, other_stat, put_itself}
 use Rattle.r4_content.proofs.Gaining.{stat_same}
-use Rattle.r4_content.proofs.Keeping.{IsEmptyFile, IsKeptFile, PlainFit, bodies_kept, stat_fit}
+use Rattle.r4_content.proofs.Keeping.{IsKeptFile, PlainFit, bodies_kept, plain_fits, stat_fit}
 use Rattle.r4_content.proofs.Naming.{off_key}
 use Rattle.r4_content.proofs.OneObject.{NoEntries, none_edited}
 use Rattle.r4_content.proofs.Ranks.{byte_after, same_bytes, entry_not_byte, entry_not_stat, same_itself, same_stat, stat_not_byte, told_same}
@@ -629,11 +629,11 @@ module _ (limit : ℕ) (m : Content) (dir o : Object) (n : List ℕ) (lawful : H
             | inr none ↦ some_none (sym at_o ∙ none)
           ]
 
-  lose_files : (t : Target) (b : Attr) → HasStat after t b → is_directory b ≡ false → IsKeptFile m after t b ⊎ IsEmptyFile after t b
+  lose_files : (t : Target) (b : Attr) → HasStat after t b → is_directory b ≡ false → IsKeptFile m after t b
   lose_files t b there file = elim (from t b there) [
     | inl (a, was, e) ↦
         let old_file = sym (kind t a b was e) ∙ file in
-        inl (record { old = a; stat = was; file = old_file; size = size_same a was e old_file; same = λ x lt. body_same a was e old_file x lt })
+        record { old = a; stat = was; file = old_file; size = size_same a was e old_file; same = λ x lt. body_same a was e old_file x lt }
     | inr none ↦ absurd none
   ]
     where
@@ -672,4 +672,9 @@ module _ (limit : ℕ) (m : Content) (dir o : Object) (n : List ℕ) (lawful : H
   ]
 
   pub loses_bodies : HasBodies limit (edited (unname_in dir n o) m)
-  loses_bodies = bodies_kept limit m after bodies (record { plain = lose_plain; alive = lose_alive; files = lose_files; bytes = lose_bytes })
+  loses_bodies = bodies_kept limit m after bodies (record {
+    fits = λ k v at. elim (lose_plain k v at) [ | inl old ↦ inl old | inr f ↦ inr (plain_fits after (key_of_rank k) v f) ];
+    alive = lose_alive;
+    files = λ t b there file. inl (lose_files t b there file);
+    bytes = lose_bytes;
+  })

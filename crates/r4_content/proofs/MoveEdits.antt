@@ -4,7 +4,7 @@ use Rattle.std.proofs.Common.{arith, inl, inr, refl, sym, ap, subst, ◌∙◌}
 use Rattle.std.proofs.lemmas.Bool.{eq-eqb, eqb-true}
 use Rattle.std.proofs.lemmas.Option.{same_Some}
 use Rattle.r4_base.proofs.Names.{both}
-use Rattle.r4_base.specs.Key.{key_of_rank}
+use Rattle.r4_base.specs.Key.{key_of_rank, minor_of}
 use Rattle.r4_base.specs.Name.{dir_of_key}
 use Rattle.r4_base.specs.Value.{Value, Stat, Entry, Byte, Content, at_key}
 use Rattle.r4_base.specs.Volume.{HasObjects, HasStat, IsObject, IsReached, byte_rank, is_directory, is_entry_in, stat_rank}
@@ -20,11 +20,12 @@ use Rattle.r4_content.proofs.EditLaws.{edited_off}
 use Rattle.r4_content.proofs.EditParts.{IsOff, edited_first, edited_second, is_off, off_both, true_not_false}
 use Rattle.r4_content.proofs.FileEdits.{IsElsewhere, off_attr, other_stat, put_itself}
 use Rattle.r4_content.proofs.Gaining.{stat_same}
-use Rattle.r4_content.proofs.Losing.{cut_itself, not_in_itself, off_unnamed, rest_of, stat_one, stat_value, unnamed_no_entries, unnamed_stat}
-use Rattle.r4_content.proofs.Moving.{IsOver, Moves, becomes, less_if, more_if, parent}
+use Rattle.r4_content.proofs.Keeping.{IsKeptFile, PlainFit, bodies_kept, plain_fits, stat_fit}
+use Rattle.r4_content.proofs.Losing.{cut_itself, not_in_itself, off_unnamed, rest_file, unnamed_body, unnamed_gone, unnamed_kept, rest_of, stat_one, stat_value, unnamed_no_entries, unnamed_stat}
+use Rattle.r4_content.proofs.Moving.{IsOver, Moves, becomes, less_if, more_if, parent, parent_kind}
 use Rattle.r4_content.proofs.Naming.{off_entry, off_key}
 use Rattle.r4_content.proofs.OneObject.{none_edited}
-use Rattle.r4_content.proofs.Ranks.{entry_not_byte, entry_not_stat, same_itself, same_stat, stat_not_byte, told_same}
+use Rattle.r4_content.proofs.Ranks.{same_bytes, entry_not_byte, entry_not_stat, same_itself, same_stat, stat_not_byte, told_same}
 use Rattle.r4_content.proofs.Rewired.{not_entry}
 use Rattle.r4_content.proofs.Shapes.{entry_dir, no_entry_body, where_is}
 
@@ -385,3 +386,166 @@ module _ (limit : ℕ) (m : Content) (dir o new : Object) (name new_name : List 
     from = from;
     way = way;
   }
+
+  -- ---- bodies
+
+  old_byte : over ≡ true → (x : ℕ) → x < 2 ^ 64 → at_key after (byte_rank old.target x) ≡ at_key (edited (unnamed old) m) (byte_rank old.target x)
+  old_byte yes_over x lt = by_over over refl yes_over
+    where
+      by_over : (b : Bool) → over ≡ b → b ≡ true
+          → at_key (edited (if b then and_also (unnamed old) (moved dir name o (comes_to o new true) new_name) else moved dir name o (comes_to o new false) new_name) m) (byte_rank old.target x) ≡ at_key (edited (unnamed old) m) (byte_rank old.target x)
+      by_over false is e = absurd (true_not_false (sym e))
+      by_over true is e =
+          let y = (h.onto is).stat.0 in
+          edited_first (unnamed old) (moved dir name o (comes_to o new true) new_name) m (byte_rank old.target x)
+          (off_alone true (byte_rank old.target x) (λ s. entry_not_byte dir.target old.target name x h.dir_small h.bytes y lt (sym s)) (λ s. entry_not_byte new.target old.target new_name x h.new_small h.new_bytes y lt (sym s))
+            (λ s. stat_not_byte dir.target old.target x h.dir_stat.0 y lt (sym s)) (λ s. stat_not_byte new.target old.target x h.new_stat.0 y lt (sym s)))
+
+  other_byte : (t : Target) (x : ℕ) → IsObject t → x < 2 ^ 64 → (over ≡ true → t ≢ old.target) → at_key after (byte_rank t x) ≡ at_key m (byte_rank t x)
+  other_byte t x is lt other =
+      seen_alone (byte_rank t x) (λ yes_over. let y = (h.onto yes_over).stat.0 in
+        old_off yes_over (byte_rank t x) (λ e. stat_not_byte old.target t x y is lt (sym e)) (λ z lz e. other yes_over (same_bytes t old.target x z is y lt lz e)))
+      ∙ edited_off (moved dir name o (comes_to o new over) new_name) m (byte_rank t x) (is_off (moved dir name o (comes_to o new over) new_name) (byte_rank t x)
+        (off_alone over (byte_rank t x) (λ s. entry_not_byte dir.target t name x h.dir_small h.bytes is lt (sym s)) (λ s. entry_not_byte new.target t new_name x h.new_small h.new_bytes is lt (sym s))
+          (λ s. stat_not_byte dir.target t x h.dir_stat.0 is lt (sym s)) (λ s. stat_not_byte new.target t x h.new_stat.0 is lt (sym s))))
+
+  move_plain : (k : ℕ) (v : Value) → at_key after k ≡ Some v → (at_key m k ≡ Some v) ⊎ PlainFit (key_of_rank k) v
+  move_plain k v at = by_key (k == key) (k == new_key) (k == stat_rank dir.target) (k == stat_rank new.target) refl refl refl refl
+    where
+      none_some : (w : Option Value) → w ≡ None → w ≡ Some v → ⊥
+      none_some w e f = absurd (no_value (sym f ∙ e))
+        where
+          no_value : Some v ≡ None → ⊥
+          no_value g = cc
+      fits : (w : Value) → PlainFit (key_of_rank k) w → at_key after k ≡ Some w → PlainFit (key_of_rank k) v
+      fits w f there = subst (λ (x : Value). PlainFit (key_of_rank k) x) (same_Some w v (sym there ∙ at)) f
+      stat_at : (t : Target) (a : Attr) → IsObject t → k ≡ stat_rank t → PlainFit (key_of_rank k) (Stat a)
+      stat_at t a is same = subst (λ (x : ℕ). PlainFit (key_of_rank x) (Stat a)) (sym same) (stat_fit t a is)
+      rest_fit : (w : Option Attr) → IsObject old.target → k ≡ stat_rank old.target → at_key after k ≡ stat_value w → (at_key m k ≡ Some v) ⊎ PlainFit (key_of_rank k) v
+      rest_fit None is same there = absurd (none_some (at_key after k) there at)
+      rest_fit (Some a) is same there = inr (fits (Stat a) (stat_at old.target a is same) there)
+      parent_fit : (t : Target) (a : Attr) → HasStat m t a → (over ≡ true → t ≢ old.target) → k ≡ stat_rank t → PlainFit (key_of_rank k) v
+      parent_fit t a there other same =
+          fits (Stat (parent dir.target new.target over (is_dir o) t a)) (stat_at t (parent dir.target new.target over (is_dir o) t a) there.0 same) (ap (at_key after) same ∙ parent_now t a there other)
+      off_it : k ≢ key → k ≢ new_key → k ≢ stat_rank dir.target → k ≢ stat_rank new.target → (over ≡ true → IsOff (unnamed old) k) → at_key m k ≡ Some v
+      off_it one two three four off =
+          sym (seen_alone k off ∙ edited_off (moved dir name o (comes_to o new over) new_name) m k (is_off (moved dir name o (comes_to o new over) new_name) k (off_alone over k one two three four))) ∙ at
+      by_over : (b : Bool) → over ≡ b → k ≢ key → k ≢ new_key → k ≢ stat_rank dir.target → k ≢ stat_rank new.target → (at_key m k ≡ Some v) ⊎ PlainFit (key_of_rank k) v
+      by_over false is one two three four = inl (off_it one two three four (λ e. absurd (true_not_false (sym e ∙ is))))
+      by_over true is one two three four =
+          let object = (h.onto is).stat.0 in
+          elim (where_is old.target k) [
+            | inl same ↦ rest_fit (rest_of old) object same (ap (at_key after) same ∙ old_now is)
+            | inr other ↦ elim other [
+              | inl (x, lt, same) ↦ elim (unnamed_body m old x object lt) [
+                | inl stays ↦ inl (ap (at_key m) same ∙ sym stays ∙ sym (old_byte is x lt) ∙ ap (at_key after) (sym same) ∙ at)
+                | inr none ↦ absurd (none_some (at_key after k) (ap (at_key after) same ∙ old_byte is x lt ∙ none) at)
+              ]
+              | inr elsewhere ↦ inl (off_it one two three four (λ e. old_off e k elsewhere.stat elsewhere.bytes))
+            ]
+          ]
+      by_key : (p q r s : Bool) → (k == key) ≡ p → (k == new_key) ≡ q → (k == stat_rank dir.target) ≡ r → (k == stat_rank new.target) ≡ s → (at_key m k ≡ Some v) ⊎ PlainFit (key_of_rank k) v
+      by_key true q r s e f g i = absurd (none_some (at_key after k) (ap (at_key after) (eqb-true k key e) ∙ gone) at)
+      by_key false true r s e f g i =
+          let is = eqb-true k new_key f in
+          inr (fits (Entry new_name o.target) (ap (λ (x : ℕ). minor_of (key_of_rank x)) is ∙ (entry_dir new.target new_name h.new_small h.new_bytes).1) (ap (at_key after) is ∙ came))
+      by_key false false true s e f g i = inr (parent_fit dir.target dir.attr h.dir_stat (λ is same. old_not_dir is (sym same)) (eqb-true k (stat_rank dir.target) g))
+      by_key false false false true e f g i = inr (parent_fit new.target new.attr h.new_stat (λ is same. old_not_new is (sym same)) (eqb-true k (stat_rank new.target) i))
+      by_key false false false false e f g i = by_over over refl (not_same k key e) (not_same k new_key f) (not_same k (stat_rank dir.target) g) (not_same k (stat_rank new.target) i)
+
+  -- ---- each object goes, or stays
+
+  pick_old : (t : Target) (a : Attr) → over ≡ true → t ≡ old.target → becomes dir.target new.target over (is_dir o) old t a ≡ rest_of old
+  pick_old t a yes_over same =
+      ap (λ (x : Bool). if x then rest_of old else Some (parent dir.target new.target over (is_dir o) t a))
+      (ap (λ (b : Bool). b && is_same_target t old.target) yes_over ∙ ap (λ (u : Target). is_same_target u old.target) same ∙ same_itself old.target)
+
+  which_goes : (t : Target) → ((over ≡ true) × (t ≡ old.target)) ⊎ ((over ≡ true → t ≢ old.target) × ((a : Attr) → becomes dir.target new.target over (is_dir o) old t a ≡ Some (parent dir.target new.target over (is_dir o) t a)))
+  which_goes t = by_test (over && is_same_target t old.target) refl
+    where
+      by_test : (c : Bool) → (over && is_same_target t old.target) ≡ c
+          → ((over ≡ true) × (t ≡ old.target)) ⊎ ((over ≡ true → t ≢ old.target) × ((a : Attr) → becomes dir.target new.target over (is_dir o) old t a ≡ Some (parent dir.target new.target over (is_dir o) t a)))
+      by_test true is = let (yes_over, same) = both over (is_same_target t old.target) is in inl (yes_over, told_same t old.target same)
+      by_test false is = inr (not_old t is, λ a. ap (λ (x : Bool). if x then rest_of old else Some (parent dir.target new.target over (is_dir o) t a)) is)
+
+  move_alive : (t : Target) (a : Attr) (x y : ℕ) → HasStat m t a → is_directory a ≡ false → x < 2 ^ 64 → at_key after (byte_rank t x) ≡ Some (Byte y) → (b : Attr) × HasStat after t b × (is_directory b ≡ false)
+  move_alive t a x y was file lt at = elim (which_goes t) [
+    | inl (yes_over, same) ↦ by_rest yes_over same (rest_of old) refl
+    | inr (other, goes) ↦
+        (parent dir.target new.target over (is_dir o) t a, kept t a (parent dir.target new.target over (is_dir o) t a) was (goes a), parent_kind dir.target new.target over (is_dir o) t a ∙ file)
+  ]
+    where
+      some_none : Some (Byte y) ≡ None → ⊥
+      some_none g = cc
+      by_rest : over ≡ true → t ≡ old.target → (w : Option Attr) → rest_of old ≡ w → (b : Attr) × HasStat after t b × (is_directory b ≡ false)
+      by_rest yes_over same (Some b) left =
+          let (is_file, some, new_attr) = rest_file old b left in
+          (b, kept t a b was (pick_old t a yes_over same ∙ left), ap is_directory new_attr ∙ is_file)
+      by_rest yes_over same None left =
+          let over_it = h.onto yes_over in
+          let attr = stat_one m lawful t old.target a old.attr was over_it.stat same in
+          let is_file : is_dir old ≡ false = ap is_directory (sym attr) ∙ file in
+          let at_o : at_key (edited (unnamed old) m) (byte_rank old.target x) ≡ Some (Byte y) = sym (old_byte yes_over x lt) ∙ ap (λ (u : Target). at_key after (byte_rank u x)) (sym same) ∙ at in
+          absurd (elim (unnamed_body m old x over_it.stat.0 lt) [
+            | inl stays_same ↦
+                let below = (bodies.offsets old.target old.attr over_it.stat is_file x lt).0 (y, sym stays_same ∙ at_o) in
+                some_none (sym at_o ∙ unnamed_gone m old x over_it.stat.0 lt below left is_file)
+            | inr none ↦ some_none (sym at_o ∙ none)
+          ])
+
+  file_stays : (t : Target) (a : Attr) → HasStat m t a → is_directory a ≡ false → parent dir.target new.target over (is_dir o) t a ≡ a
+  file_stays t a was file = other_parent t a (not_it dir.target dir.attr h.dir_stat h.dir_is) (not_it new.target new.attr h.new_stat h.new_is)
+    where
+      not_it : (u : Target) (c : Attr) → HasStat m u c → is_directory c ≡ true → is_same_target t u ≡ false
+      not_it u c stat is = by_test (is_same_target t u) refl
+        where
+          by_test : (b : Bool) → is_same_target t u ≡ b → b ≡ false
+          by_test false e = refl
+          by_test true e = absurd (true_not_false (sym is ∙ ap is_directory (sym (stat_one m lawful t u a c was stat (told_same t u e))) ∙ file))
+
+  move_files : (t : Target) (b : Attr) → HasStat after t b → is_directory b ≡ false → IsKeptFile m after t b
+  move_files t b there file =
+      let (a, was, e) = from t b there in
+      elim (which_goes t) [
+        | inl (yes_over, same) ↦
+            let left = sym (pick_old t a yes_over same) ∙ e in
+            let over_it = h.onto yes_over in
+            let (is_file, some, new_attr) = rest_file old b left in
+            record {
+              old = old.attr;
+              stat = subst (λ (u : Target). HasStat m u old.attr) (sym same) over_it.stat;
+              file = is_file;
+              size = ap (λ (c : Attr). c.size) new_attr;
+              same = λ x lt. ap (λ (w : Target). at_key after (byte_rank w x)) same ∙ old_byte yes_over x lt ∙ unnamed_kept m old x b over_it.stat.0 lt left ∙ ap (λ (w : Target). at_key m (byte_rank w x)) (sym same);
+            }
+        | inr (other, goes) ↦
+            let is = same_Some (parent dir.target new.target over (is_dir o) t a) b (sym (goes a) ∙ e) in
+            let old_file = sym (parent_kind dir.target new.target over (is_dir o) t a) ∙ ap is_directory is ∙ file in
+            record { old = a; stat = was; file = old_file; size = ap (λ (c : Attr). c.size) (sym is ∙ file_stays t a was old_file); same = λ x lt. other_byte t x was.0 lt other }
+      ]
+
+  if_bytes : (c d : Bool) (a : Attr) → a.bytes ≡ a.size → ((less_if c d a).bytes ≡ (less_if c d a).size) × ((more_if c d a).bytes ≡ (more_if c d a).size)
+  if_bytes true true a e = (refl, refl)
+  if_bytes true false a e = (refl, refl)
+  if_bytes false d a e = (e, e)
+
+  move_bytes : (t : Target) (b : Attr) → HasStat after t b → b.bytes ≡ b.size
+  move_bytes t b there =
+      let (a, was, e) = from t b there in
+      elim (which_goes t) [
+        | inl (yes_over, same) ↦
+            let (is_file, some, new_attr) = rest_file old b (sym (pick_old t a yes_over same) ∙ e) in
+            subst (λ (c : Attr). c.bytes ≡ c.size) (sym new_attr) (bodies.bytes old.target old.attr (h.onto yes_over).stat)
+        | inr (other, goes) ↦
+            subst (λ (c : Attr). c.bytes ≡ c.size) (same_Some (parent dir.target new.target over (is_dir o) t a) b (sym (goes a) ∙ e))
+            (if_bytes (is_same_target t new.target) (is_dir o) (less_if (is_same_target t dir.target) (is_dir o) (less_if (over && is_same_target t new.target) (is_dir o) a))
+              (if_bytes (is_same_target t dir.target) (is_dir o) (less_if (over && is_same_target t new.target) (is_dir o) a) (if_bytes (over && is_same_target t new.target) (is_dir o) a (bodies.bytes t a was)).0).0).1
+      ]
+
+  pub move_bodies : HasBodies limit (edited (moving dir name o new new_name over old) m)
+  move_bodies = bodies_kept limit m after bodies (record {
+    fits = λ k v at. elim (move_plain k v at) [ | inl was ↦ inl was | inr f ↦ inr (plain_fits after (key_of_rank k) v f) ];
+    alive = move_alive;
+    files = λ t b there file. inl (move_files t b there file);
+    bytes = move_bytes;
+  })
