@@ -3,7 +3,7 @@ use Rattle.std.specs.Prelude.{◌≡◌, ◌≢◌, ◌⊎◌, ◌↔◌, ℕ, �
 use Rattle.std.proofs.Common.{arith, inl, inr, refl, sym, ap, subst, ◌∙◌}
 use Rattle.r4_base.specs.Key.{key_of_rank, minor_of, offset_of, rank}
 use Rattle.r4_base.specs.Value.{Value, Stat, Entry, Byte, Content, at_key}
-use Rattle.r4_base.specs.Volume.{HasStat, IsObject, KeyFits, byte_rank, is_directory, object_of, stat_rank}
+use Rattle.r4_base.specs.Volume.{HasObjects, HasStat, IsObject, KeyFits, byte_rank, is_directory, object_of, stat_rank}
 use Rattle.r4_base.specs.declared.key.Key.{Key}
 use Rattle.r4_base.specs.declared.items.Attr.{Attr}
 use Rattle.r4_base.specs.declared.items.Target.{Target}
@@ -113,3 +113,7 @@ module _ (limit : ℕ) (m n : Content) (bodies : HasBodies limit m) (h : KeepsBo
 
   pub bodies_kept : HasBodies limit n
   bodies_kept = record { keys = keys; small = small; offsets = offsets; bytes = h.bytes }
+
+-- what is asked of a content after a command
+abbrev pub Stays : (limit : ℕ) → Content → Type 0
+Stays limit m = HasObjects m × HasBodies limit m

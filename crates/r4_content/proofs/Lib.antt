@@ -26,3 +26,4 @@ pub mod MoveEdits
 pub mod Movers
 pub mod Staying
 pub mod Keeping
+pub mod OneBodies
