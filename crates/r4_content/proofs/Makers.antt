@@ -19,7 +19,8 @@ use Rattle.r4_content.specs.declared.command.Command.TheVariants.{Create, Mkdir,
 use Rattle.r4_content.specs.declared.reply.Reply.TheVariants.{Okay, Exists, Isdir, Links, Oids}
 use Rattle.r4_content.proofs.EditParts.{true_not_false}
 use Rattle.r4_content.proofs.Found.{There, ends_at, found, small_object, stat_there, way_ends}
-use Rattle.r4_content.proofs.Gaining.{Gains, IsNew, WasThere, gains_lawful}
+use Rattle.r4_content.proofs.Gaining.{Gains, IsNew, WasThere, gains_bodies, gains_lawful}
+use Rattle.r4_content.proofs.Keeping.{Stays}
 use Rattle.r4_content.proofs.Naming.{came_above, directory_made, file_made, free_is, last_bytes, make_directory, make_file}
 use Rattle.r4_content.proofs.OneObject.{by_done, numbers_of, stat_was}
 use Rattle.r4_content.proofs.Ranks.{name_fits}
@@ -58,7 +59,7 @@ make_lawful : (limit : ℕ) (path : List (List ℕ)) (oid : Oid) (m : Content) (
     → a.size ≡ 0 → a.bytes ≡ 0 → (is_directory a ≡ true → a.nlink ≡ 2) × (is_directory a ≡ false → a.nlink ≡ 1)
     → ((dir : Object) (n : List ℕ) → (ending (make dir n) (of_content m)).reply ≡ Okay
       → (oid.0 < 2 ^ 60) × (ending (make dir n) (of_content m) ≡ record { edits = name_in dir n (made_in dir n oid a); reply = Okay }) × (is_directory a ≡ true → dir.attr.nlink < 2 ^ 32 - 1))
-    → (ending (named path (to_free path make)) (of_content m)).reply ≡ Okay → HasObjects (edited (ending (named path (to_free path make)) (of_content m)).edits m)
+    → (ending (named path (to_free path make)) (of_content m)).reply ≡ Okay → Stays limit (edited (ending (named path (to_free path make)) (of_content m)).edits m)
 unfolding to_free
 make_lawful limit path oid m a make numbers lawful bytes unused size length_too kinds made okay =
     let c = came_above m Exists path (free_here make) (λ e. cc) okay in
@@ -67,12 +68,13 @@ make_lawful limit path oid m a make numbers lawful bytes unused size length_too 
     let (is, free, goes) = free_is m make c.place n (sym (ap (λ (x : Ending). x.reply) c.ends) ∙ okay) in
     let (small, done, links) = made dir n (sym (ap (λ (x : Ending). x.reply) (c.ends ∙ goes)) ∙ okay) in
     let there = found_object m numbers.orderings (take (length path - 1) path) c.place c.at in
-    subst (λ (x : Ending). HasObjects (edited x.edits m)) (sym (c.ends ∙ goes ∙ done))
-    (gains_lawful m dir (made_in dir n oid a) n lawful.objects (gains_new limit m dir n oid a lawful there is (last_bytes path c.some bytes) free small unused size length_too kinds links))
+    subst (λ (x : Ending). Stays limit (edited x.edits m)) (sym (c.ends ∙ goes ∙ done))
+    (let gains = gains_new limit m dir n oid a lawful there is (last_bytes path c.some bytes) free small unused size length_too kinds links in
+      (gains_lawful m dir (made_in dir n oid a) n lawful.objects gains, gains_bodies m dir (made_in dir n oid a) n lawful.objects gains limit lawful.bodies))
 
-pub create_lawful : (limit : ℕ) (path : List (List ℕ)) (oid : Oid) (m : Content) → limit < 2 ^ 64 → IsLawful limit m → HasBytes path → IsUnused m oid → HasObjects (after limit (Create path oid) m)
+pub create_lawful : (limit : ℕ) (path : List (List ℕ)) (oid : Oid) (m : Content) → limit < 2 ^ 64 → IsLawful limit m → HasBytes path → IsUnused m oid → Stays limit (after limit (Create path oid) m)
 create_lawful limit path oid m lt lawful bytes unused =
-    by_done limit (Create path oid) m (λ x. HasObjects x) lawful.objects
+    by_done limit (Create path oid) m (λ x. Stays limit x) (lawful.objects, lawful.bodies)
     (make_lawful limit path oid m new_file (make_file oid) (numbers_of limit m lt lawful) lawful bytes unused refl refl ((λ d. absurd cc), (λ f. refl))
       (λ dir n okay. let x = file_made m dir n oid okay in (x.0, x.1, (λ d. absurd cc))))
 
@@ -84,9 +86,9 @@ room_of m oid dir n okay = by_links (is_full dir) refl okay
     by_links true e h = absurd cc
     by_links false e h = let few = not_full dir.attr.nlink e in omega arith
 
-pub mkdir_lawful : (limit : ℕ) (path : List (List ℕ)) (oid : Oid) (m : Content) → limit < 2 ^ 64 → IsLawful limit m → HasBytes path → IsUnused m oid → HasObjects (after limit (Mkdir path oid) m)
+pub mkdir_lawful : (limit : ℕ) (path : List (List ℕ)) (oid : Oid) (m : Content) → limit < 2 ^ 64 → IsLawful limit m → HasBytes path → IsUnused m oid → Stays limit (after limit (Mkdir path oid) m)
 mkdir_lawful limit path oid m lt lawful bytes unused =
-    by_done limit (Mkdir path oid) m (λ x. HasObjects x) lawful.objects
+    by_done limit (Mkdir path oid) m (λ x. Stays limit x) (lawful.objects, lawful.bodies)
     (make_lawful limit path oid m new_directory (make_directory oid) (numbers_of limit m lt lawful) lawful bytes unused refl refl ((λ d. refl), (λ f. absurd cc))
       (λ dir n okay. let x = directory_made m dir n oid okay in (x.0, x.1, (λ d. room_of m oid dir n okay))))
 
@@ -173,11 +175,12 @@ gains_link limit m dir o n lawful there is bytes free o_there file few =
     one_more_is : (k : ℕ) → k < 2 ^ 32 - 1 → (if nat_lt k (2 ^ 32 - 1) then k + 1 else k) ≡ k + 1
     one_more_is k lt = grind (arith, common_steps)
 
-pub link_lawful : (limit : ℕ) (from to : List (List ℕ)) (m : Content) → limit < 2 ^ 64 → IsLawful limit m → HasBytes to → HasObjects (after limit (Link from to) m)
-link_lawful limit from to m lt lawful bytes = by_done limit (Link from to) m (λ x. HasObjects x) lawful.objects done
+pub link_lawful : (limit : ℕ) (from to : List (List ℕ)) (m : Content) → limit < 2 ^ 64 → IsLawful limit m → HasBytes to → Stays limit (after limit (Link from to) m)
+link_lawful limit from to m lt lawful bytes = by_done limit (Link from to) m (λ x. Stays limit x) (lawful.objects, lawful.bodies) done
   where
-    done : reply limit (Link from to) m ≡ Okay → HasObjects (after limit (Link from to) m)
+    done : reply limit (Link from to) m ≡ Okay → Stays limit (after limit (Link from to) m)
     done okay =
         let d = link_done m from to (numbers_of limit m lt lawful) bytes okay in
-        subst (λ (x : Ending). HasObjects (edited x.edits m)) (sym d.ends)
-        (gains_lawful m d.dir (linked d.object) d.name lawful.objects (gains_link limit m d.dir d.object d.name lawful d.dir_there d.dir_is d.bytes d.free d.there d.file d.few))
+        subst (λ (x : Ending). Stays limit (edited x.edits m)) (sym d.ends)
+        (let gains = gains_link limit m d.dir d.object d.name lawful d.dir_there d.dir_is d.bytes d.free d.there d.file d.few in
+          (gains_lawful m d.dir (linked d.object) d.name lawful.objects gains, gains_bodies m d.dir (linked d.object) d.name lawful.objects gains limit lawful.bodies))

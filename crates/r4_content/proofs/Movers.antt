@@ -26,8 +26,9 @@ use Rattle.r4_content.specs.declared.reply.Reply.TheVariants.{Okay, Absent, Clas
 use Rattle.r4_content.proofs.Counting.{one_there}
 use Rattle.r4_content.proofs.EditParts.{or_false, true_not_false}
 use Rattle.r4_content.proofs.Found.{There, down, found, found_from, small_object, stat_there, start}
+use Rattle.r4_content.proofs.Keeping.{Stays}
 use Rattle.r4_content.proofs.Losing.{stat_one}
-use Rattle.r4_content.proofs.MoveEdits.{CanMove, can_move, comes_to, moving, old_not_new, others, same_sym}
+use Rattle.r4_content.proofs.MoveEdits.{CanMove, can_move, comes_to, move_bodies, moving, old_not_new, others, same_sym}
 use Rattle.r4_content.proofs.Moving.{IsOver, Moves, moves_lawful}
 use Rattle.r4_content.proofs.Naming.{came_above, last_bytes}
 use Rattle.r4_content.proofs.OneObject.{by_done, numbers_of, stat_was}
@@ -136,7 +137,7 @@ pub record Ends (limit : ℕ) (m : Content) (dir o : Object) (name new_name : Li
 
 module _ (limit : ℕ) (m : Content) (dir o : Object) (name new_name : List ℕ) (r : Place) (path : List (List ℕ)) (lawful : IsLawful limit m) (numbers : HasNumbers m) (e : Ends limit m dir o name new_name r path) where
   abbrev HoldsAfter : Edits → Type 0
-  HoldsAfter x = HasObjects (edited x m)
+  HoldsAfter x = Stays limit (edited x m)
 
   small_of : (x : Object) → IsThere m x → x.target.oid.0 < 2 ^ 60
   small_of x there = (small_object x.target (stat_there m x.target x.attr there.stat).0).1
@@ -160,17 +161,18 @@ module _ (limit : ℕ) (m : Content) (dir o : Object) (name new_name : List ℕ)
   }
 
   done : (over : Bool) (old : Object) → CanMove m dir o r.here name new_name over old → (over ≡ false → is_dir o ≡ true → is_same_target r.here.target dir.target ≡ false → r.here.attr.nlink < 2 ^ 32 - 1)
-      → HasObjects (edited (moving dir name o r.here new_name over old) m)
+      → Stays limit (edited (moving dir name o r.here new_name over old) m)
   done over old h few =
-      moves_lawful m (edited (moving dir name o r.here new_name over old) m) dir o r.here name new_name over old lawful.objects
-      (can_move limit m dir o r.here name new_name over old lawful.objects lawful.bodies h lawful.room lawful.links few
-        (λ d. let out = e.outside d in way_there limit m dir o name new_name over old lawful.objects lawful.bodies numbers r h out.0 out.1 path e.path_bytes e.way))
+      (moves_lawful m (edited (moving dir name o r.here new_name over old) m) dir o r.here name new_name over old lawful.objects
+        (can_move limit m dir o r.here name new_name over old lawful.objects lawful.bodies h lawful.room lawful.links few
+          (λ d. let out = e.outside d in way_there limit m dir o name new_name over old lawful.objects lawful.bodies numbers r h out.0 out.1 path e.path_bytes e.way)),
+        move_bodies limit m dir o r.here name new_name over old lawful.objects lawful.bodies h)
 
   free_lawful : entry_in (at_key m (entry_rank r.here.target new_name)) ≡ None → HoldsAfter (ending (move_to dir name o r.here new_name None) (of_content m)).edits
   free_lawful free = by_test (is_dir o) (is_same dir r.here) (is_full r.here) refl refl refl
     where
       by_test : (p q f : Bool) → is_dir o ≡ p → is_same dir r.here ≡ q → is_full r.here ≡ f → HoldsAfter (ending (if p && not q && f then Answer Links else Change (moved dir name o r.here new_name)) (of_content m)).edits
-      by_test true false true a b c = lawful.objects
+      by_test true false true a b c = (lawful.objects, lawful.bodies)
       by_test true false false a b c =
           done false o (can false o (λ x. free) (λ x. absurd (true_not_false (sym x))) (λ x. absurd (true_not_false (sym x)))) (λ x y z. let lt = not_full r.here.attr.nlink c in omega arith)
       by_test true true f a b c =
@@ -206,9 +208,9 @@ module _ (limit : ℕ) (m : Content) (dir o : Object) (name new_name : List ℕ)
           by_pairs : (xs : Pairs) → pairs_between m (entries_from old.target.oid.0) (entries_to old.target.oid.0) ≡ xs
               → HoldsAfter (ending (if_empty (Change (moved_onto dir name o r.here new_name old)) (pairs_between m (entries_from old.target.oid.0) (entries_to old.target.oid.0))) (of_content m)).edits
           by_pairs [] is = subst (λ (xs : Pairs). HoldsAfter (ending (if_empty (Change (moved_onto dir name o r.here new_name old)) xs) (of_content m)).edits) (sym is) (onto_lawful old (over_is old at there other (b ∙ sym a) (λ d. is)))
-          by_pairs (x ∷ xs) is = subst (λ (ys : Pairs). HoldsAfter (ending (if_empty (Change (moved_onto dir name o r.here new_name old)) ys) (of_content m)).edits) (sym is) lawful.objects
-      by_kind true false es a b c = lawful.objects
-      by_kind false true es a b c = lawful.objects
+          by_pairs (x ∷ xs) is = subst (λ (ys : Pairs). HoldsAfter (ending (if_empty (Change (moved_onto dir name o r.here new_name old)) ys) (of_content m)).edits) (sym is) (lawful.objects, lawful.bodies)
+      by_kind true false es a b c = (lawful.objects, lawful.bodies)
+      by_kind false true es a b c = (lawful.objects, lawful.bodies)
       by_kind false false es a b c = onto_lawful old (over_is old at there other (b ∙ sym a) (λ d. absurd (true_not_false (sym d ∙ b))))
 
   taken_lawful : (x : Named) → entry_in (at_key m (entry_rank r.here.target new_name)) ≡ Some x → HoldsAfter (ending (move_to dir name o r.here new_name (Some x)) (of_content m)).edits
@@ -216,12 +218,12 @@ module _ (limit : ℕ) (m : Content) (dir o : Object) (name new_name : List ℕ)
     where
       by_attr : (b : Bool) (v : Option Attr) → may_be_object x.target ≡ b → attr_in (at_key m (stat_rank x.target)) ≡ v → at_key m (entry_rank r.here.target new_name) ≡ Some (Entry new_name x.target) → is_same_target x.target o.target ≡ false
           → HoldsAfter (ending (if b then Ask (stat_rank x.target) (λ w. with_attr Absent (λ a. replace dir name o r.here new_name (record { target = x.target; attr = a })) (attr_in w)) else Answer Absent) (of_content m)).edits
-      by_attr false v may a at other = lawful.objects
+      by_attr false v may a at other = (lawful.objects, lawful.bodies)
       by_attr true v may a at other = by_stat v a
         where
           by_stat : (w : Option Attr) → attr_in (at_key m (stat_rank x.target)) ≡ w
               → HoldsAfter (ending (with_attr Absent (λ a. replace dir name o r.here new_name (record { target = x.target; attr = a })) (attr_in (at_key m (stat_rank x.target)))) (of_content m)).edits
-          by_stat None g = subst (λ (w : Option Attr). HoldsAfter (ending (with_attr Absent (λ a. replace dir name o r.here new_name (record { target = x.target; attr = a })) w) (of_content m)).edits) (sym g) lawful.objects
+          by_stat None g = subst (λ (w : Option Attr). HoldsAfter (ending (with_attr Absent (λ a. replace dir name o r.here new_name (record { target = x.target; attr = a })) w) (of_content m)).edits) (sym g) (lawful.objects, lawful.bodies)
           by_stat (Some c) g =
               let stat : attr_at m x.target ≡ Some c = ap (λ (y : Bool). if y then attr_in (at_key m (stat_rank x.target)) else None) may ∙ g in
               let (c2, held) = lawful.objects.target (entry_rank r.here.target new_name) new_name x.target at in
@@ -230,14 +232,14 @@ module _ (limit : ℕ) (m : Content) (dir o : Object) (name new_name : List ℕ)
               (replace_lawful (record { target = x.target; attr = c }) at there other)
       by_name : (p q : Bool) → bytes_eq x.name new_name ≡ p → is_same_target x.target o.target ≡ q
           → HoldsAfter (ending (if not p then Answer (Clash x.name) else if q then Answer Okay else object_at x.target (replace dir name o r.here new_name)) (of_content m)).edits
-      by_name false q a b = lawful.objects
-      by_name true true a b = lawful.objects
+      by_name false q a b = (lawful.objects, lawful.bodies)
+      by_name true true a b = (lawful.objects, lawful.bodies)
       by_name true false a b =
           let same = (bytes_eq-Decides x.name new_name).0 a in
           let at = entry_is (at_key m (entry_rank r.here.target new_name)) x.name x.target is ∙ ap (λ (s : List ℕ). Some (Entry s x.target)) same in
           by_attr (may_be_object x.target) (attr_in (at_key m (stat_rank x.target))) refl refl at b
 
-  pub move_lawful : HasObjects (edited (ending (move dir name o r.here new_name) (of_content m)).edits m)
+  pub move_lawful : Stays limit (edited (ending (move dir name o r.here new_name) (of_content m)).edits m)
   move_lawful = by_entry (entry_in (at_key m (entry_rank r.here.target new_name))) refl
     where
       by_entry : (v : Option Named) → entry_in (at_key m (entry_rank r.here.target new_name)) ≡ v → HoldsAfter (ending (move_to dir name o r.here new_name (entry_in (at_key m (entry_rank r.here.target new_name)))) (of_content m)).edits
@@ -255,9 +257,9 @@ rename_to to dir n p q new_name =
 abbrev pub rename_from : List (List ℕ) → Object → (name : List ℕ) → Place → Course
 rename_from to dir n p = to_parent Loop to (rename_to to dir n p)
 
-pub rename_lawful : (limit : ℕ) (from to : List (List ℕ)) (m : Content) → limit < 2 ^ 64 → IsLawful limit m → HasBytes from → HasBytes to → HasObjects (after limit (Rename from to) m)
+pub rename_lawful : (limit : ℕ) (from to : List (List ℕ)) (m : Content) → limit < 2 ^ 64 → IsLawful limit m → HasBytes from → HasBytes to → Stays limit (after limit (Rename from to) m)
 unfolding to_ends
-rename_lawful limit from to m lt lawful from_bytes to_bytes = by_done limit (Rename from to) m (λ x. HasObjects x) lawful.objects done
+rename_lawful limit from to m lt lawful from_bytes to_bytes = by_done limit (Rename from to) m (λ x. Stays limit x) (lawful.objects, lawful.bodies) done
   where
     numbers : HasNumbers m
     numbers = numbers_of limit m lt lawful
@@ -273,7 +275,7 @@ rename_lawful limit from to m lt lawful from_bytes to_bytes = by_done limit (Ren
     tests dir n p q new_name true true true e f g h = absurd cc
     tests dir n p q new_name true true false e f g h = (e, (λ d. g), refl)
     tests dir n p q new_name true false c e f g h = (e, (λ d. absurd (true_not_false (sym d ∙ f))), refl)
-    done : reply limit (Rename from to) m ≡ Okay → HasObjects (after limit (Rename from to) m)
+    done : reply limit (Rename from to) m ≡ Okay → Stays limit (after limit (Rename from to) m)
     done okay =
         let one = okay_named m from (named to (rename from to)) okay in
         let first = named_ends m from (named to (rename from to)) one in
@@ -304,4 +306,4 @@ rename_lawful limit from to m lt lawful from_bytes to_bytes = by_done limit (Ren
               path_bytes = All-take (λ x. All (λ y. y < 256) x) (length to - 1) to to_bytes;
               outside = λ yes_dir. or_false (is_among p.here q.above) (is_same p.here q.here) (out yes_dir);
             } in
-        subst (λ (x : Ending). HasObjects (edited x.edits m)) (sym (fifth ∙ goes)) (move_lawful limit m dir p.here c.name new_name q (take (length to - 1) to) lawful numbers e)
+        subst (λ (x : Ending). Stays limit (edited x.edits m)) (sym (fifth ∙ goes)) (move_lawful limit m dir p.here c.name new_name q (take (length to - 1) to) lawful numbers e)

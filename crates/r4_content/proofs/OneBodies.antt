@@ -237,7 +237,7 @@ not_in_gap a b x e low high = elim (between_cases a b x (is_between a b x) refl)
   | inr (y, other) ↦ elim other [ | inl below ↦ absurd (omega arith) | inr above ↦ absurd (omega arith) ]
 ]
 
-larger_cases : (a b : ℕ) → ((larger a b ≡ a) × (b ≤ a)) ⊎ ((larger a b ≡ b) × (a < b))
+pub larger_cases : (a b : ℕ) → ((larger a b ≡ a) × (b ≤ a)) ⊎ ((larger a b ≡ b) × (a < b))
 larger_cases a b = elim (cases_lt a b) [
   | inl lt ↦ inr (grind (arith, common_steps), lt)
   | inr ge ↦ inl (grind (arith, common_steps), ge)

@@ -20,11 +20,13 @@ use Rattle.r4_content.proofs.EditLaws.{at_edited, edited_off, last_put}
 use Rattle.r4_content.proofs.EditParts.{is_off, true_not_false}
 use Rattle.r4_content.proofs.FileEdits.{EditsFile, IsElsewhere, off_attr, put_itself, resized, resized_kind}
 use Rattle.r4_content.proofs.Found.{There, answered, ends_at, found, stat_there, way_ends}
+use Rattle.r4_content.proofs.Keeping.{Stays}
+use Rattle.r4_content.proofs.OneBodies.{attr_bodies, file_bodies, larger_cases, truncate_touches, write_touches}
 use Rattle.r4_content.proofs.Ranks.{stat_not_byte}
 use Rattle.r4_content.proofs.Refusals.{nothing_or_okay}
 use Rattle.r4_content.proofs.SameWay.{IsThere, found_object}
 use Rattle.r4_content.proofs.Shapes.{EditsOne, no_entry_body, one_lawful}
-use Rattle.r4_content.proofs.Writing.{came_to, cut_or_grown, goes_on, named_ends, okay_named, okay_there, truncate_edits, write_edits, write_on}
+use Rattle.r4_content.proofs.Writing.{came_to, cut_or_grown, goes_on, named_ends, positive, okay_named, okay_there, truncate_edits, write_edits, write_on}
 
 -- a command that was not done left the content
 pub by_done : (limit : ℕ) (c : Command) (m : Content) (P : Content → Type 0) → P m → (reply limit c m ≡ Okay → P (after limit c m)) → P (after limit c m)
@@ -131,31 +133,32 @@ came_to_object m path next numbers e =
     record { place = p; there = found_object m numbers.orderings path p at; ends = goes_on m path next p is at }
 
 attrs_lawful : (limit : ℕ) (path : List (List ℕ)) (f : Attr → Attr) (m : Content) → HasNumbers m → IsLawful limit m
-    → ((a : Attr) → (is_directory (f a) ≡ is_directory a) × ((f a).nlink ≡ a.nlink) × ((f a).size ≡ a.size))
-    → (ending (named path (set_attrs path f)) (of_content m)).reply ≡ Okay → HasObjects (edited (ending (named path (set_attrs path f)) (of_content m)).edits m)
+    → ((a : Attr) → (is_directory (f a) ≡ is_directory a) × ((f a).nlink ≡ a.nlink) × ((f a).size ≡ a.size) × ((f a).bytes ≡ a.bytes))
+    → (ending (named path (set_attrs path f)) (of_content m)).reply ≡ Okay → Stays limit (edited (ending (named path (set_attrs path f)) (of_content m)).edits m)
 attrs_lawful limit path f m numbers lawful keeps okay =
     let c = came_to_object m path (λ p. Change (set_attr p.here (f p.here.attr))) numbers okay in
     let o = c.place.here in
     let k = keeps o.attr in
-    subst (λ (x : Ending). HasObjects (edited x.edits m)) (sym c.ends)
-    (one_lawful limit m (edited (set_attr o (f o.attr)) m) o (f o.attr) lawful.objects lawful.bodies (attr_one limit m o (f o.attr) lawful.bodies c.there) k.0 k.1 (λ dir. k.2))
+    subst (λ (x : Ending). Stays limit (edited x.edits m)) (sym c.ends)
+    (one_lawful limit m (edited (set_attr o (f o.attr)) m) o (f o.attr) lawful.objects lawful.bodies (attr_one limit m o (f o.attr) lawful.bodies c.there) k.0 k.1 (λ dir. k.2),
+      attr_bodies limit m o (f o.attr) lawful.bodies (stat_was m o c.there) k.0 k.2 k.3)
 
 mode_kind : (mode bits : ℕ) → (mode / 4096 * 4096 + bits % 4096) / 4096 ≡ mode / 4096
 mode_kind mode bits = omega arith
 
-pub chmod_lawful : (limit : ℕ) (path : List (List ℕ)) (mode : ℕ) (m : Content) → HasNumbers m → IsLawful limit m → HasObjects (after limit (Chmod path mode) m)
+pub chmod_lawful : (limit : ℕ) (path : List (List ℕ)) (mode : ℕ) (m : Content) → HasNumbers m → IsLawful limit m → Stays limit (after limit (Chmod path mode) m)
 chmod_lawful limit path mode m numbers lawful =
-    by_done limit (Chmod path mode) m (λ x. HasObjects x) lawful.objects
-    (attrs_lawful limit path (λ a. record a { mode = a.mode / 4096 * 4096 + mode % 4096 }) m numbers lawful (λ a. (ap (λ (x : ℕ). x == 4) (mode_kind a.mode mode), refl, refl)))
+    by_done limit (Chmod path mode) m (λ x. Stays limit x) (lawful.objects, lawful.bodies)
+    (attrs_lawful limit path (λ a. record a { mode = a.mode / 4096 * 4096 + mode % 4096 }) m numbers lawful (λ a. (ap (λ (x : ℕ). x == 4) (mode_kind a.mode mode), refl, refl, refl)))
 
-pub chown_lawful : (limit : ℕ) (path : List (List ℕ)) (uid gid : ℕ) (m : Content) → HasNumbers m → IsLawful limit m → HasObjects (after limit (Chown path uid gid) m)
+pub chown_lawful : (limit : ℕ) (path : List (List ℕ)) (uid gid : ℕ) (m : Content) → HasNumbers m → IsLawful limit m → Stays limit (after limit (Chown path uid gid) m)
 chown_lawful limit path uid gid m numbers lawful =
-    by_done limit (Chown path uid gid) m (λ x. HasObjects x) lawful.objects (attrs_lawful limit path (λ a. record a { uid = uid; gid = gid }) m numbers lawful (λ a. (refl, refl, refl)))
+    by_done limit (Chown path uid gid) m (λ x. Stays limit x) (lawful.objects, lawful.bodies) (attrs_lawful limit path (λ a. record a { uid = uid; gid = gid }) m numbers lawful (λ a. (refl, refl, refl, refl)))
 
-pub times_lawful : (limit : ℕ) (path : List (List ℕ)) (atime mtime ctime : ℕ) (m : Content) → HasNumbers m → IsLawful limit m → HasObjects (after limit (Times path atime mtime ctime) m)
+pub times_lawful : (limit : ℕ) (path : List (List ℕ)) (atime mtime ctime : ℕ) (m : Content) → HasNumbers m → IsLawful limit m → Stays limit (after limit (Times path atime mtime ctime) m)
 times_lawful limit path atime mtime ctime m numbers lawful =
-    by_done limit (Times path atime mtime ctime) m (λ x. HasObjects x) lawful.objects
-    (attrs_lawful limit path (λ a. record a { atime = atime; mtime = mtime; ctime = ctime }) m numbers lawful (λ a. (refl, refl, refl)))
+    by_done limit (Times path atime mtime ctime) m (λ x. Stays limit x) (lawful.objects, lawful.bodies)
+    (attrs_lawful limit path (λ a. record a { atime = atime; mtime = mtime; ctime = ctime }) m numbers lawful (λ a. (refl, refl, refl, refl)))
 
 resized_links : (n : ℕ) (a : Attr) → (resized n a).nlink ≡ a.nlink
 resized_links n a = by_size (a.size == n)
@@ -167,12 +170,12 @@ resized_links n a = by_size (a.size == n)
 not_directory : (a : Attr) (n : ℕ) → is_directory a ≡ false → is_directory a ≡ true → n ≡ a.size
 not_directory a n file dir = absurd (true_not_false (sym dir ∙ file))
 
-pub write_lawful : (limit : ℕ) (path : List (List ℕ)) (from : ℕ) (xs : List ℕ) (m : Content) → limit < 2 ^ 64 → IsLawful limit m → HasObjects (after limit (Write path from xs) m)
-write_lawful limit path from xs m lt lawful = by_done limit (Write path from xs) m (λ x. HasObjects x) lawful.objects (λ okay. by_length okay (length xs == 0) refl)
+pub write_lawful : (limit : ℕ) (path : List (List ℕ)) (from : ℕ) (xs : List ℕ) (m : Content) → limit < 2 ^ 64 → IsLawful limit m → Stays limit (after limit (Write path from xs) m)
+write_lawful limit path from xs m lt lawful = by_done limit (Write path from xs) m (λ x. Stays limit x) (lawful.objects, lawful.bodies) (λ okay. by_length okay (length xs == 0) refl)
   where
     numbers : HasNumbers m
     numbers = numbers_of limit m lt lawful
-    by_length : reply limit (Write path from xs) m ≡ Okay → (b : Bool) → (length xs == 0) ≡ b → HasObjects (after limit (Write path from xs) m)
+    by_length : reply limit (Write path from xs) m ≡ Okay → (b : Bool) → (length xs == 0) ≡ b → Stays limit (after limit (Write path from xs) m)
     by_length okay b is =
         let c = came_to limit m path (from + length xs) (write_on from xs) okay in
         let o = c.place.here in
@@ -180,35 +183,43 @@ write_lawful limit path from xs m lt lawful = by_done limit (Write path from xs)
         let small = c.small in
         let fits : from + length xs ≤ 2 ^ 64 = omega arith in
         let done = c.ends ∙ ap (λ (b : Bool). ending (if b then Answer Okay else Change (written o from xs)) (of_content m)) is in
-        subst (λ (x : Ending). HasObjects (edited x.edits m)) (sym done) (by_case o there fits c.file b)
+        subst (λ (x : Ending). Stays limit (edited x.edits m)) (sym done) (by_case o there fits c.small c.file b is)
       where
-        by_case : (o : Object) → IsThere m o → from + length xs ≤ 2 ^ 64 → is_dir o ≡ false → (b : Bool) → HasObjects (edited (ending (if b then Answer Okay else Change (written o from xs)) (of_content m)).edits m)
-        by_case o there fits file true = lawful.objects
-        by_case o there fits file false =
+        within : (o : Object) → IsThere m o → is_dir o ≡ false → from + length xs ≤ limit → larger o.attr.size (from + length xs) ≤ limit
+        within o there file enough =
+            let old = lawful.bodies.small o.target o.attr (stat_was m o there) file in
+            elim (larger_cases o.attr.size (from + length xs)) [ | inl (d, i) ↦ omega arith | inr (d, i) ↦ omega arith ]
+        by_case : (o : Object) → IsThere m o → from + length xs ≤ 2 ^ 64 → from + length xs ≤ limit → is_dir o ≡ false → (b : Bool) → (length xs == 0) ≡ b → Stays limit (edited (ending (if b then Answer Okay else Change (written o from xs)) (of_content m)).edits m)
+        by_case o there fits enough file true some = (lawful.objects, lawful.bodies)
+        by_case o there fits enough file false some =
             let n = larger o.attr.size (from + length xs) in
-            one_lawful limit m (edited (written o from xs) m) o (resized n o.attr) lawful.objects lawful.bodies
-            (file_one limit m o n (written o from xs) lawful.bodies there (write_edits m o there from xs fits)
-              (none_append (fill_gap o from).puts (byte_pairs (byte_rank o.target from) xs ++ (resize o n).puts) (gap_no_entries o from)
-                (none_append (byte_pairs (byte_rank o.target from) xs) (resize o n).puts (bytes_no_entries (byte_rank o.target from) xs) (resize_no_entries o n))))
-            (resized_kind n o.attr) (resized_links n o.attr) (not_directory o.attr (resized n o.attr).size file)
+            let edits = write_edits m o there from xs fits in
+            (one_lawful limit m (edited (written o from xs) m) o (resized n o.attr) lawful.objects lawful.bodies
+              (file_one limit m o n (written o from xs) lawful.bodies there edits
+                (none_append (fill_gap o from).puts (byte_pairs (byte_rank o.target from) xs ++ (resize o n).puts) (gap_no_entries o from)
+                  (none_append (byte_pairs (byte_rank o.target from) xs) (resize o n).puts (bytes_no_entries (byte_rank o.target from) xs) (resize_no_entries o n))))
+              (resized_kind n o.attr) (resized_links n o.attr) (not_directory o.attr (resized n o.attr).size file),
+              file_bodies limit m o n (written o from xs) lawful.bodies (stat_was m o there) file (within o there file enough) edits
+              (write_touches limit m o from xs lawful.bodies (stat_was m o there) there file fits (positive (length xs) some)))
 
-pub fill_lawful : (limit : ℕ) (path : List (List ℕ)) (from len x : ℕ) (m : Content) → limit < 2 ^ 64 → IsLawful limit m → HasObjects (after limit (Fill path from len x) m)
+pub fill_lawful : (limit : ℕ) (path : List (List ℕ)) (from len x : ℕ) (m : Content) → limit < 2 ^ 64 → IsLawful limit m → Stays limit (after limit (Fill path from len x) m)
 fill_lawful limit path from len x m lt lawful = write_lawful limit path from (replicate len x) m lt lawful
 
-pub truncate_lawful : (limit : ℕ) (path : List (List ℕ)) (n : ℕ) (m : Content) → limit < 2 ^ 64 → IsLawful limit m → HasObjects (after limit (Truncate path n) m)
-truncate_lawful limit path n m lt lawful = by_done limit (Truncate path n) m (λ x. HasObjects x) lawful.objects cut
+pub truncate_lawful : (limit : ℕ) (path : List (List ℕ)) (n : ℕ) (m : Content) → limit < 2 ^ 64 → IsLawful limit m → Stays limit (after limit (Truncate path n) m)
+truncate_lawful limit path n m lt lawful = by_done limit (Truncate path n) m (λ x. Stays limit x) (lawful.objects, lawful.bodies) cut
   where
     numbers : HasNumbers m
     numbers = numbers_of limit m lt lawful
-    cut : reply limit (Truncate path n) m ≡ Okay → HasObjects (after limit (Truncate path n) m)
+    cut : reply limit (Truncate path n) m ≡ Okay → Stays limit (after limit (Truncate path n) m)
     cut okay =
         let c = came_to limit m path n (λ o. Change (truncated o n)) okay in
         let o = c.place.here in
         let there = found_object m numbers.orderings path c.place c.at in
         let small = c.small in
         let size = numbers.sizes o.target o.attr (stat_was m o there) in
-        subst (λ (x : Ending). HasObjects (edited x.edits m)) (sym c.ends)
+        subst (λ (x : Ending). Stays limit (edited x.edits m)) (sym c.ends)
         (one_lawful limit m (edited (truncated o n) m) o (resized n o.attr) lawful.objects lawful.bodies
           (file_one limit m o n (truncated o n) lawful.bodies there (truncate_edits m o there n (omega arith) (omega arith))
             (none_append (cut_or_grown o n (nat_lt n o.attr.size)).puts (resize o n).puts (cut_no_entries o n (nat_lt n o.attr.size)) (resize_no_entries o n)))
-          (resized_kind n o.attr) (resized_links n o.attr) (not_directory o.attr (resized n o.attr).size c.file))
+          (resized_kind n o.attr) (resized_links n o.attr) (not_directory o.attr (resized n o.attr).size c.file),
+          file_bodies limit m o n (truncated o n) lawful.bodies (stat_was m o there) c.file small (truncate_edits m o there n (omega arith) (omega arith)) (truncate_touches limit m o n lawful.bodies (stat_was m o there) c.file))

@@ -25,7 +25,8 @@ use Rattle.r4_content.proofs.Counting.{none_there}
 use Rattle.r4_content.proofs.EditLaws.{at_retain}
 use Rattle.r4_content.proofs.EditParts.{true_not_false}
 use Rattle.r4_content.proofs.Found.{There, ends_at, found, found_from, small_object, stat_there, steps_end}
-use Rattle.r4_content.proofs.Losing.{Loses, loses_lawful}
+use Rattle.r4_content.proofs.Keeping.{Stays}
+use Rattle.r4_content.proofs.Losing.{Loses, loses_bodies, loses_lawful}
 use Rattle.r4_content.proofs.Naming.{came_above, last_bytes}
 use Rattle.r4_content.proofs.OneObject.{by_done, numbers_of, stat_was}
 use Rattle.r4_content.proofs.SameWay.{IsThere, found_object, named_there, place_in, step_is, target_is}
@@ -140,13 +141,13 @@ loses_name limit m dir o n numbers there is o_there bytes entry empty =
 abbrev pub unlink_next : Object → (name : List ℕ) → Place → Course
 unlink_next dir n p = if is_dir p.here then Answer Isdir else Change (unname_in dir n p.here)
 
-pub unlink_lawful : (limit : ℕ) (path : List (List ℕ)) (m : Content) → limit < 2 ^ 64 → IsLawful limit m → HasBytes path → HasObjects (after limit (Unlink path) m)
-unlink_lawful limit path m lt lawful bytes = by_done limit (Unlink path) m (λ x. HasObjects x) lawful.objects done
+pub unlink_lawful : (limit : ℕ) (path : List (List ℕ)) (m : Content) → limit < 2 ^ 64 → IsLawful limit m → HasBytes path → Stays limit (after limit (Unlink path) m)
+unlink_lawful limit path m lt lawful bytes = by_done limit (Unlink path) m (λ x. Stays limit x) (lawful.objects, lawful.bodies) done
   where
     is_file : (dir o : Object) (n : List ℕ) (b : Bool) → (ending (if b then Answer Isdir else Change (unname_in dir n o)) (of_content m)).reply ≡ Okay → (b ≡ false)
     is_file dir o n true h = absurd cc
     is_file dir o n false h = refl
-    done : reply limit (Unlink path) m ≡ Okay → HasObjects (after limit (Unlink path) m)
+    done : reply limit (Unlink path) m ≡ Okay → Stays limit (after limit (Unlink path) m)
     done okay =
         let numbers = numbers_of limit m lt lawful in
         let c = came_to_entry m Isdir path unlink_next numbers bytes (λ e. cc) okay in
@@ -154,15 +155,15 @@ unlink_lawful limit path m lt lawful bytes = by_done limit (Unlink path) m (λ x
         let o = c.place.here in
         let file = is_file dir o c.name (is_dir o) (sym (ap (λ (x : Ending). x.reply) c.ends) ∙ okay) in
         let ends = c.ends ∙ ap (λ (b : Bool). ending (if b then Answer Isdir else Change (unname_in dir c.name o)) (of_content m)) file in
-        subst (λ (x : Ending). HasObjects (edited x.edits m)) (sym ends)
-        (loses_lawful limit m dir o c.name lawful.objects lawful.bodies
-          (loses_name limit m dir o c.name numbers c.above_there c.above_is c.there c.bytes c.entry (λ d. absurd (true_not_false (sym d ∙ file)))))
+        subst (λ (x : Ending). Stays limit (edited x.edits m)) (sym ends)
+        (let loses = loses_name limit m dir o c.name numbers c.above_there c.above_is c.there c.bytes c.entry (λ d. absurd (true_not_false (sym d ∙ file))) in
+          (loses_lawful limit m dir o c.name lawful.objects lawful.bodies loses, loses_bodies limit m dir o c.name lawful.objects lawful.bodies loses))
 
 abbrev pub rmdir_next : Object → (name : List ℕ) → Place → Course
 rmdir_next dir n p = if is_dir p.here then with_entries p.here (if_empty (Change (unname_in dir n p.here))) else Answer Notdir
 
-pub rmdir_lawful : (limit : ℕ) (path : List (List ℕ)) (m : Content) → limit < 2 ^ 64 → IsLawful limit m → HasBytes path → HasObjects (after limit (Rmdir path) m)
-rmdir_lawful limit path m lt lawful bytes = by_done limit (Rmdir path) m (λ x. HasObjects x) lawful.objects done
+pub rmdir_lawful : (limit : ℕ) (path : List (List ℕ)) (m : Content) → limit < 2 ^ 64 → IsLawful limit m → HasBytes path → Stays limit (after limit (Rmdir path) m)
+rmdir_lawful limit path m lt lawful bytes = by_done limit (Rmdir path) m (λ x. Stays limit x) (lawful.objects, lawful.bodies) done
   where
     is_done : (dir o : Object) (n : List ℕ) (b : Bool) (es : Pairs)
         → (ending (if b then with_entries o (if_empty (Change (unname_in dir n o))) else Answer Notdir) (of_content m)).reply ≡ Okay → pairs_between m (entries_from o.target.oid.0) (entries_to o.target.oid.0) ≡ es
@@ -173,13 +174,13 @@ rmdir_lawful limit path m lt lawful bytes = by_done limit (Rmdir path) m (λ x. 
       where
         refused : Notempty ≡ Okay → ⊥
         refused e = cc
-    done : reply limit (Rmdir path) m ≡ Okay → HasObjects (after limit (Rmdir path) m)
+    done : reply limit (Rmdir path) m ≡ Okay → Stays limit (after limit (Rmdir path) m)
     done okay =
         let numbers = numbers_of limit m lt lawful in
         let c = came_to_entry m Loop path rmdir_next numbers bytes (λ e. cc) okay in
         let dir = c.above.here in
         let o = c.place.here in
         let (none, made) = is_done dir o c.name (is_dir o) (pairs_between m (entries_from o.target.oid.0) (entries_to o.target.oid.0)) (sym (ap (λ (x : Ending). x.reply) c.ends) ∙ okay) refl in
-        subst (λ (x : Ending). HasObjects (edited x.edits m)) (sym (c.ends ∙ made))
-        (loses_lawful limit m dir o c.name lawful.objects lawful.bodies
-          (loses_name limit m dir o c.name numbers c.above_there c.above_is c.there c.bytes c.entry (λ d. is_empty limit m o.target lawful.bodies none)))
+        subst (λ (x : Ending). Stays limit (edited x.edits m)) (sym (c.ends ∙ made))
+        (let loses = loses_name limit m dir o c.name numbers c.above_there c.above_is c.there c.bytes c.entry (λ d. is_empty limit m o.target lawful.bodies none) in
+          (loses_lawful limit m dir o c.name lawful.objects lawful.bodies loses, loses_bodies limit m dir o c.name lawful.objects lawful.bodies loses))

@@ -156,7 +156,7 @@ file_with o n = record { target = o.target; attr = resized n o.attr }
 with_size_here : (o : Object) (n : ℕ) → with_attrs (with_size o.target n) o ≡ file_with o n
 with_size_here o n = ap (λ (b : Bool). let p : Object = record { target = o.target; attr = if b then resized n o.attr else o.attr } in p) (same_itself o.target)
 
-positive : (n : ℕ) → (n == 0) ≡ false → 0 < n
+pub positive : (n : ℕ) → (n == 0) ≡ false → 0 < n
 positive n e = grind (arith, common_steps)
 
 abbrev pub write_on : ℕ → List ℕ → Object → Course

@@ -10,7 +10,7 @@ ghost use Rattle.r4_base.specs.declared.things.Oid.{Oid};
 ghost use Rattle.r4_content.specs.Course.{ending};
 ghost use Rattle.r4_content.specs.Edited.{Pairs, changed, edited, is_in};
 ghost use Rattle.r4_content.specs.Fields.{HasBytePaths, HasBytes, HasNumbers, IsUnused, NamesUnused};
-ghost use Rattle.r4_content.specs.Lawful.{IsLawful};
+ghost use Rattle.r4_content.specs.Lawful.{HasBodies, IsLawful};
 ghost use Rattle.r4_content.specs.Listed.{list_after};
 ghost use Rattle.r4_content.specs.Locality.{IsLocal, Meaning, Spares, commands};
 ghost use Rattle.r4_content.specs.Meaning.{after, changes, course, reply};
@@ -88,8 +88,10 @@ pub fn what_is_written_is_read()
 {}
 
 /// A content that a volume may have stays one: after each command its objects, directories and entries are again as a
-/// volume asks it (docs/volume.md, "The content of an image"). A command that makes an object must name an id that is not
-/// in use, and each directory must be able to count another entry, and each object another link (`IsLawful`).
+/// volume asks it, its keys fit what stands at them, and each file has just the bytes below its size (docs/volume.md, "The
+/// content of an image"). A command that makes an object must name an id that is not in use, and each directory must be
+/// able to count another entry (`IsLawful`).
 pub fn lawful_contents_stay_lawful()
     ensures objects { (limit : ℕ) (c : Command) (m : Content) → limit < 2 ^ 64 → IsLawful limit m → HasBytePaths c → NamesUnused m c → HasObjects (after limit c m) }
+    ensures bodies { (limit : ℕ) (c : Command) (m : Content) → limit < 2 ^ 64 → IsLawful limit m → HasBytePaths c → NamesUnused m c → HasBodies limit (after limit c m) }
 {}

@@ -1,5 +1,8 @@
-use Rattle.r4_content.proofs.Staying.{objects_stay}
+use Rattle.r4_content.proofs.Staying.{lawful_stays}
 use Rattle.r4_content.proofs.laws.lawful_contents_stay_lawful.Goals as goal
 
 pub returns : goal.returns
-returns c = record { objects = objects_stay }
+returns c = record {
+  objects = λ limit x m lt lawful bytes unused. (lawful_stays limit x m lt lawful bytes unused).0;
+  bodies = λ limit x m lt lawful bytes unused. (lawful_stays limit x m lt lawful bytes unused).1;
+}
