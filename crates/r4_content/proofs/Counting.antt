@@ -1,13 +1,11 @@
 -- How many pairs of a content a test finds, and how that number changes with what stands at a key.
-use Rattle.std.specs.Prelude.{◌≡◌, ◌≢◌, ◌⊎◌, ℕ, zero, suc, ◌+◌, ◌<◌, ◌≤◌, List, [], ◌∷◌, Contains, Bool, true, false, not, ◌&&◌, ◌==◌, cond, filter, count_by, length, T, Option, Some, None, if◌then◌else◌}
+use Rattle.std.specs.Prelude.{◌≡◌, ◌≢◌, ℕ, ◌+◌, ◌<◌, ◌≤◌, [], ◌∷◌, Bool, true, false, not, ◌&&◌, ◌==◌, cond, filter, count_by, length, T, Option, Some, None, if◌then◌else◌}
 use Rattle.std.proofs.Common.{Equal, Greater, arith, inl, inr, refl, sym, ap, subst, ◌∙◌}
 use Rattle.std.proofs.lemmas.Bool.{cases_lt, eq-eqb, eqb-true, ne_eqb}
 use Rattle.std.proofs.lemmas.Cmp.{nat_cmp_total}
-use Rattle.std.proofs.lemmas.Grind.{common_steps}
 use Rattle.std.proofs.lemmas.List.Sums.{length-filter, sum_by-cons}
-use Rattle.std.proofs.lemmas.Option.{same_Some}
 use Rattle.std.specs.Cmp.{nat_cmp_is, unsigned_tied}
-use Rattle.std.specs.FinMap.{contains_key, empty, entries, entries-from_sorted, entries_sorted, find, get, get-entries, insert, is_sorted, len, len-entries, len-insert, retain_keys, from_sorted}
+use Rattle.std.specs.FinMap.{entries, entries-from_sorted, entries_sorted, find, get-entries, insert, is_sorted, len, len-entries, len-insert, retain_keys, from_sorted}
 use Rattle.std.specs.FinMap.Entries.{below_all}
 use Rattle.std.specs.Option.{is_some}
 use Rattle.std.specs.Ordering.{is_lt, nat_cmp}
@@ -139,7 +137,7 @@ counted_with p m i j ne =
     let first = len-insert nat_cmp_total (chosen p m) i (Byte 0) ∙ ap (λ (v : Option Value). cond (is_some v) (len (chosen p m)) (len (chosen p m) + 1)) (at_chosen p m i) in
     let there = at_insert (chosen p m) i (Byte 0) j ∙ ap (λ (b : Bool). cond b (Some (Byte 0)) (at_key (chosen p m) j)) (ne_eqb j i (λ e. ne (sym e))) ∙ at_chosen p m j in
     let next = len-insert nat_cmp_total (insert (chosen p m) i (Byte 0)) j (Byte 0)
-          ∙ ap (λ (v : Option Value). cond (is_some v) (len (insert (chosen p m) i (Byte 0))) (len (insert (chosen p m) i (Byte 0)) + 1)) there in
+    ∙ ap (λ (v : Option Value). cond (is_some v) (len (insert (chosen p m) i (Byte 0))) (len (insert (chosen p m) i (Byte 0)) + 1)) there in
     let all = count_chosen p m in
     adds (is_some (pick p i (at_key m i))) (is_some (pick p j (at_key m j))) (len (chosen p m)) (len (insert (chosen p m) i (Byte 0))) (len (insert (insert (chosen p m) i (Byte 0)) j (Byte 0))) (count p m) first next all
   where
@@ -196,6 +194,7 @@ find_counted p (e ∷ es) h some = by_test (p e) refl (sum_by-cons (λ (y : ℕ 
     later_one k v at true is =
         let le : k ≤ e.0 = let same = eqb-true k e.0 is in omega arith in
         absurd (not_some v (sym at ∙ none_below k e.0 es le (first_holds (below_all nat_cmp e.0 es) (is_sorted nat_cmp es) h)))
+
     by_test : (b : Bool) → p e ≡ b → count_by p (e ∷ es) ≡ cond (p e) 1 0 + count_by p es → (1 ≤ count_by p es → (k : ℕ) × (v : Value) × (find nat_cmp k es ≡ Some v) × (p (k, v) ≡ true))
         → (k : ℕ) × (v : Value) × (find nat_cmp k (e ∷ es) ≡ Some v) × (p (k, v) ≡ true)
     by_test true passes all rest = (e.0, e.1, ap (λ (b : Bool). cond b (Some e.1) (find nat_cmp e.0 es)) (unsigned_tied e.0 e.0 ∙ eq-eqb e.0 e.0 refl), passes)

@@ -1,10 +1,9 @@
 -- Commands by which an object gets a name: the objects of a lawful content stay lawful.
-use Rattle.std.specs.Prelude.{◌≡◌, ◌≢◌, ◌⊎◌, ℕ, ◌+◌, ◌-◌, ◌^◌, ◌<◌, ◌≤◌, List, [], ◌∷◌, Bool, true, false, ◌&&◌, ◌==◌, cond, nat_le, nat_lt, All, Option, Some, None, if◌then◌else◌}
+use Rattle.std.specs.Prelude.{◌≡◌, ◌≢◌, ◌⊎◌, ℕ, ◌+◌, ◌-◌, ◌^◌, ◌<◌, ◌≤◌, List, Bool, true, false, ◌&&◌, ◌==◌, All, Some, None, if◌then◌else◌}
 use Rattle.std.proofs.Common.{arith, inl, inr, refl, sym, ap, subst, ◌∙◌}
 use Rattle.std.proofs.lemmas.Bool.{eq-eqb, eqb-true, ne_eqb}
 use Rattle.std.proofs.lemmas.Grind.{common_steps}
 use Rattle.std.proofs.lemmas.Option.{same_Some}
-use Rattle.std.specs.Option.{is_some}
 use Rattle.r4_base.proofs.Visible.{byte_back, byte_object}
 use Rattle.r4_base.specs.Key.{key_of_rank, minor_of}
 use Rattle.r4_base.specs.Name.{dir_of_key}
@@ -16,16 +15,16 @@ use Rattle.r4_base.specs.declared.things.Oid.{Oid}
 use Rattle.r4_content.specs.Edited.{Edits, and_also, edited}
 use Rattle.r4_content.specs.Entries.{name_in}
 use Rattle.r4_content.specs.Lawful.{HasBodies}
-use Rattle.r4_content.specs.Objects.{Object, entry_more, entry_rank, is_dir, is_same_target, link_more, one_more, set_attr, set_entry, sized}
+use Rattle.r4_content.specs.Objects.{Object, entry_more, entry_rank, is_dir, is_same_target, one_more, set_attr, set_entry}
 use Rattle.r4_content.specs.Ways.{Named, entry_in}
-use Rattle.r4_content.proofs.Counting.{here, here_no, here_none, here_yes, not_same}
+use Rattle.r4_content.proofs.Counting.{here, here_no, here_yes, not_same}
 use Rattle.r4_content.proofs.EditLaws.{edited_off}
-use Rattle.r4_content.proofs.EditParts.{IsOff, edited_first, edited_second, is_off, off_both, true_not_false}
+use Rattle.r4_content.proofs.EditParts.{edited_first, edited_second, is_off, off_both, true_not_false}
 use Rattle.r4_content.proofs.FileEdits.{off_attr, other_stat, put_itself}
 use Rattle.r4_content.proofs.Keeping.{PlainFit, bodies_kept, plain_fits, stat_fit}
 use Rattle.r4_content.proofs.Naming.{off_entry}
 use Rattle.r4_content.proofs.Ranks.{entry_not_byte, entry_not_stat, stat_not_byte, same_itself, same_stat, told_same}
-use Rattle.r4_content.proofs.Rewired.{IsBorn, IsPlaced, OnEntries, Rewired, both_here, directory_in, directory_on, entry_on, here_empty, named, named_on, names_itself, names_other, not_entry, rewired_lawful}
+use Rattle.r4_content.proofs.Rewired.{IsBorn, IsPlaced, OnEntries, both_here, directory_in, directory_on, entry_on, here_empty, named, named_on, names_other, not_entry, rewired_lawful}
 use Rattle.r4_content.proofs.Shapes.{entry_dir}
 
 pub stat_same : (x y : Attr) → Some (Stat x) ≡ Some (Stat y) → x ≡ y
@@ -43,13 +42,13 @@ module _ (m : Content) (dir o : Object) (n : List ℕ) (dir_object : IsObject di
   pub gain_off : (k : ℕ) → k ≢ entry_rank dir.target n → k ≢ stat_rank o.target → k ≢ stat_rank dir.target → at_key (edited (name_in dir n o) m) k ≡ at_key m k
   gain_off k one two three =
       edited_off gain_edits m k (is_off gain_edits k (off_both (set_entry dir n o.target) (and_also (set_attr o o.attr) (set_attr dir (entry_more (is_dir o) dir.attr))) k (off_entry dir n o.target k one)
-        (off_both (set_attr o o.attr) (set_attr dir (entry_more (is_dir o) dir.attr)) k (off_attr o o.attr k two) (off_attr dir (entry_more (is_dir o) dir.attr) k three))))
+      (off_both (set_attr o o.attr) (set_attr dir (entry_more (is_dir o) dir.attr)) k (off_attr o o.attr k two) (off_attr dir (entry_more (is_dir o) dir.attr) k three))))
 
   pub gain_entry : at_key (edited (name_in dir n o) m) (entry_rank dir.target n) ≡ Some (Entry n o.target)
   gain_entry =
       edited_first (set_entry dir n o.target) (and_also (set_attr o o.attr) (set_attr dir (entry_more (is_dir o) dir.attr))) m gain_key
       (off_both (set_attr o o.attr) (set_attr dir (entry_more (is_dir o) dir.attr)) gain_key
-        (off_attr o o.attr gain_key (entry_not_stat dir.target o.target n small bytes object)) (off_attr dir (entry_more (is_dir o) dir.attr) gain_key (entry_not_stat dir.target dir.target n small bytes dir_object)))
+      (off_attr o o.attr gain_key (entry_not_stat dir.target o.target n small bytes object)) (off_attr dir (entry_more (is_dir o) dir.attr) gain_key (entry_not_stat dir.target dir.target n small bytes dir_object)))
       ∙ put_itself m gain_key (Entry n o.target)
 
   pub gain_object : at_key (edited (name_in dir n o) m) (stat_rank o.target) ≡ Some (Stat o.attr)
@@ -176,15 +175,18 @@ module _ (m : Content) (dir o : Object) (n : List ℕ) (lawful : HasObjects m) (
   other_now t is e f = off (stat_rank t) (λ s. entry_not_stat dir.target t n h.small h.bytes is (sym s)) (other_stat t o.target is h.object f) (other_stat t dir.target is h.dir_stat.0 e)
 
   kept : (t : Target) (a : Attr) → HasStat m t a → HasStat after t (becomes t a)
-  kept t a there = (there.0, elim (which t) [
-    | inl (e, is) ↦
-        ap (λ (u : Target). at_key after (stat_rank u)) is ∙ dir_now
-        ∙ ap (λ (x : Attr). Some (Stat x)) (ap (entry_more (is_dir o)) (sym (dir_attr a (subst (λ (u : Target). HasStat m u a) is there))) ∙ sym (in_dir t a e))
-    | inr other ↦ elim other [
-      | inl (e, f, is) ↦ ap (λ (u : Target). at_key after (stat_rank u)) is ∙ object_now ∙ ap (λ (x : Attr). Some (Stat x)) (sym (in_object t a e f))
-      | inr (e, f) ↦ other_now t there.0 e f ∙ there.1 ∙ ap (λ (x : Attr). Some (Stat x)) (sym (in_other t a e f))
-    ]
-  ])
+  kept t a there = (
+    there.0,
+    elim (which t) [
+      | inl (e, is) ↦
+          ap (λ (u : Target). at_key after (stat_rank u)) is ∙ dir_now
+          ∙ ap (λ (x : Attr). Some (Stat x)) (ap (entry_more (is_dir o)) (sym (dir_attr a (subst (λ (u : Target). HasStat m u a) is there))) ∙ sym (in_dir t a e))
+      | inr other ↦ elim other [
+        | inl (e, f, is) ↦ ap (λ (u : Target). at_key after (stat_rank u)) is ∙ object_now ∙ ap (λ (x : Attr). Some (Stat x)) (sym (in_object t a e f))
+        | inr (e, f) ↦ other_now t there.0 e f ∙ there.1 ∙ ap (λ (x : Attr). Some (Stat x)) (sym (in_other t a e f))
+      ]
+    ],
+  )
 
   from : (t : Target) (b : Attr) → HasStat after t b → ((a : Attr) × HasStat m t a × (Some (becomes t a) ≡ Some b)) ⊎ Born t b
   from t b there = elim (which t) [
@@ -356,15 +358,15 @@ module _ (m : Content) (dir o : Object) (n : List ℕ) (lawful : HasObjects m) (
   links_of_kind true t a d e is same =
       let lt = h.links d in
       let now = counted_yes (directory_in after t.oid.0) (directory_on after t.oid.0)
-            (ap (λ (u : Target). is_entry_in u.oid.0 (key, Entry n o.target) && names_directory after (Entry n o.target)) is ∙ ap (λ (x : Bool). x && names_directory after (Entry n o.target)) in_itself ∙ names_kind ∙ d) in
+      (ap (λ (u : Target). is_entry_in u.oid.0 (key, Entry n o.target) && names_directory after (Entry n o.target)) is ∙ ap (λ (x : Bool). x && names_directory after (Entry n o.target)) in_itself ∙ names_kind ∙ d) in
       let new : (becomes t a).nlink ≡ a.nlink + 1
-            = ap (λ (x : Attr). x.nlink) (in_dir t a e) ∙ more_links (is_dir o) a (λ y. omega arith) ∙ ap (λ (x : Bool). if x then a.nlink + 1 else a.nlink) d in
+      = ap (λ (x : Attr). x.nlink) (in_dir t a e) ∙ more_links (is_dir o) a (λ y. omega arith) ∙ ap (λ (x : Bool). if x then a.nlink + 1 else a.nlink) d in
       omega arith
   links_of_kind false t a d e is same =
       let now = counted_no (directory_in after t.oid.0) (directory_on after t.oid.0)
-            (ap (λ (u : Target). is_entry_in u.oid.0 (key, Entry n o.target) && names_directory after (Entry n o.target)) is ∙ ap (λ (x : Bool). x && names_directory after (Entry n o.target)) in_itself ∙ names_kind ∙ d) in
+      (ap (λ (u : Target). is_entry_in u.oid.0 (key, Entry n o.target) && names_directory after (Entry n o.target)) is ∙ ap (λ (x : Bool). x && names_directory after (Entry n o.target)) in_itself ∙ names_kind ∙ d) in
       let new : (becomes t a).nlink ≡ a.nlink
-            = ap (λ (x : Attr). x.nlink) (in_dir t a e) ∙ more_links (is_dir o) a (λ y. absurd (true_not_false (sym y ∙ d))) ∙ ap (λ (x : Bool). if x then a.nlink + 1 else a.nlink) d in
+      = ap (λ (x : Attr). x.nlink) (in_dir t a e) ∙ more_links (is_dir o) a (λ y. absurd (true_not_false (sym y ∙ d))) ∙ ap (λ (x : Bool). if x then a.nlink + 1 else a.nlink) d in
       omega arith
 
   directories : (t : Target) (a : Attr) → HasStat m t a → is_directory a ≡ true
@@ -422,8 +424,10 @@ module _ (m : Content) (dir o : Object) (n : List ℕ) (lawful : HasObjects m) (
     where
       fits : (w : Value) → PlainFit (key_of_rank k) w → at_key after k ≡ Some w → PlainFit (key_of_rank k) v
       fits w f there = subst (λ (x : Value). PlainFit (key_of_rank k) x) (same_Some w v (sym there ∙ at)) f
+
       stat_at : (t : Target) (a : Attr) → IsObject t → k ≡ stat_rank t → PlainFit (key_of_rank k) (Stat a)
       stat_at t a is same = subst (λ (x : ℕ). PlainFit (key_of_rank x) (Stat a)) (sym same) (stat_fit t a is)
+
       by_key : (p q r : Bool) → (k == key) ≡ p → (k == stat_rank o.target) ≡ q → (k == stat_rank dir.target) ≡ r → (at_key m k ≡ Some v) ⊎ PlainFit (key_of_rank k) v
       by_key true q r e f g =
           let is = eqb-true k key e in
@@ -478,7 +482,7 @@ module _ (m : Content) (dir o : Object) (n : List ℕ) (lawful : HasObjects m) (
 
   pub gains_bodies : (limit : ℕ) → HasBodies limit m → HasBodies limit (edited (name_in dir n o) m)
   gains_bodies limit bodies = bodies_kept limit m after bodies (record {
-    fits = λ k v at. elim (gain_plain k v at) [ | inl old ↦ inl old | inr f ↦ inr (plain_fits after (key_of_rank k) v f) ];
+    fits = λ k v at. elim (gain_plain k v at) [ inl old ↦ inl old | inr f ↦ inr (plain_fits after (key_of_rank k) v f) ];
     alive = λ t a x y was file lt at. (becomes t a, kept t a was, kind t a was ∙ file);
     files = λ t b there file. elim (from t b there) [
       | inl (a, was, e) ↦

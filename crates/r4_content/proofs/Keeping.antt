@@ -1,13 +1,12 @@
 -- Keys, sizes and bytes stay lawful where the bodies of files that stay are not touched.
-use Rattle.std.specs.Prelude.{◌≡◌, ◌≢◌, ◌⊎◌, ◌↔◌, ℕ, ◌+◌, ◌*◌, ◌/◌, ◌%◌, ◌^◌, ◌<◌, ◌≤◌, List, [], ◌∷◌, Bool, true, false, slice_index, Option, Some, None}
-use Rattle.std.proofs.Common.{arith, inl, inr, refl, sym, ap, subst, ◌∙◌}
+use Rattle.std.specs.Prelude.{◌≡◌, ◌⊎◌, ◌↔◌, ℕ, ◌+◌, ◌*◌, ◌/◌, ◌%◌, ◌^◌, ◌<◌, ◌≤◌, false, slice_index, Some}
+use Rattle.std.proofs.Common.{arith, inl, inr, refl, sym, ap, ◌∙◌}
 use Rattle.r4_base.specs.Key.{key_of_rank, minor_of, offset_of, rank}
 use Rattle.r4_base.specs.Value.{Value, Stat, Entry, Byte, Content, at_key}
 use Rattle.r4_base.specs.Volume.{HasObjects, HasStat, IsObject, KeyFits, byte_rank, is_directory, object_of, stat_rank}
 use Rattle.r4_base.specs.declared.key.Key.{Key}
 use Rattle.r4_base.specs.declared.items.Attr.{Attr}
 use Rattle.r4_base.specs.declared.items.Target.{Target}
-use Rattle.r4_base.proofs.Visible.{byte_back, byte_object}
 use Rattle.r4_content.specs.Lawful.{HasBodies, HasByte}
 use Rattle.r4_content.proofs.Shapes.{stat_back}
 

@@ -1,5 +1,5 @@
 -- Commands by which an object loses a name: the objects of a lawful content stay lawful.
-use Rattle.std.specs.Prelude.{◌≡◌, ◌≢◌, ◌⊎◌, ℕ, zero, suc, ◌+◌, ◌-◌, ◌^◌, ◌<◌, ◌≤◌, List, [], ◌∷◌, ◌++◌, Bool, true, false, ◌&&◌, ◌==◌, cond, nat_le, nat_lt, All, Option, Some, None, if◌then◌else◌}
+use Rattle.std.specs.Prelude.{◌≡◌, ◌≢◌, ◌⊎◌, ℕ, zero, suc, ◌+◌, ◌-◌, ◌^◌, ◌<◌, ◌≤◌, List, Bool, true, false, ◌&&◌, ◌==◌, cond, nat_le, nat_lt, All, Option, Some, None, if◌then◌else◌}
 use Rattle.std.proofs.Common.{arith, inl, inr, refl, sym, ap, subst, ◌∙◌}
 use Rattle.std.proofs.lemmas.Bool.{and_from, eq-eqb, eqb-true, le-leb, leb-true, lt-ltb, ne_eqb}
 use Rattle.std.proofs.lemmas.Grind.{common_steps}
@@ -7,7 +7,7 @@ use Rattle.std.proofs.lemmas.Option.{same_Some}
 use Rattle.r4_base.specs.Key.{key_of_rank}
 use Rattle.r4_base.specs.Name.{dir_of_key}
 use Rattle.r4_base.specs.Value.{Value, Stat, Entry, Byte, Content, at_key}
-use Rattle.r4_base.specs.Volume.{HasObjects, HasStat, IsObject, IsReached, byte_rank, directories_in, entries_in, is_directory, is_directory_value, is_entry_in, links_to, names_directory, names_object, root_object, stat_rank}
+use Rattle.r4_base.specs.Volume.{HasObjects, HasStat, IsObject, IsReached, byte_rank, entries_in, is_directory, is_directory_value, is_entry_in, links_to, names_directory, names_object, root_object, stat_rank}
 use Rattle.r4_base.specs.declared.items.Attr.{Attr}
 use Rattle.r4_base.specs.declared.items.Target.{Target}
 use Rattle.r4_base.specs.declared.things.Oid.{Oid}
@@ -26,7 +26,7 @@ use Rattle.r4_content.proofs.Keeping.{IsKeptFile, PlainFit, bodies_kept, plain_f
 use Rattle.r4_content.proofs.Naming.{off_key}
 use Rattle.r4_content.proofs.OneObject.{NoEntries, none_edited}
 use Rattle.r4_content.proofs.Ranks.{byte_after, same_bytes, entry_not_byte, entry_not_stat, same_itself, same_stat, stat_not_byte, told_same}
-use Rattle.r4_content.proofs.Rewired.{OnEntries, Rewired, both_here, directory_in, directory_on, entry_on, here_empty, named, named_on, names_itself, names_other, not_entry, rewired_lawful}
+use Rattle.r4_content.proofs.Rewired.{OnEntries, both_here, directory_in, directory_on, entry_on, here_empty, named, named_on, names_itself, names_other, not_entry, rewired_lawful}
 use Rattle.r4_content.proofs.Shapes.{entry_dir, no_entry_body, where_is}
 
 -- ---- what is left of an object after an entry of it went
@@ -77,16 +77,18 @@ unnamed_body m o x is lt = by_kind (is_dir o) (nat_le o.attr.nlink 1)
   where
     not_stat : byte_rank o.target x ≢ stat_rank o.target
     not_stat e = stat_not_byte o.target o.target x is is lt (sym e)
+
     by_between : (b : Bool) → (cond b None (at_key m (byte_rank o.target x)) ≡ at_key m (byte_rank o.target x)) ⊎ (cond b None (at_key m (byte_rank o.target x)) ≡ None)
     by_between true = inr refl
     by_between false = inl refl
+
     by_kind : (d b : Bool)
         → (at_key (edited (if d then cut_key (stat_rank o.target) else if b then and_also (cut_key (stat_rank o.target)) (cut_body o 0 o.attr.size) else set_attr o (link_less o.attr)) m) (byte_rank o.target x) ≡ at_key m (byte_rank o.target x))
         ⊎ (at_key (edited (if d then cut_key (stat_rank o.target) else if b then and_also (cut_key (stat_rank o.target)) (cut_body o 0 o.attr.size) else set_attr o (link_less o.attr)) m) (byte_rank o.target x) ≡ None)
     by_kind true b = inl (edited_off (cut_key (stat_rank o.target)) m (byte_rank o.target x) (is_off (cut_key (stat_rank o.target)) (byte_rank o.target x) (off_key (stat_rank o.target) (byte_rank o.target x) not_stat)))
     by_kind false true =
         let cut = edited_second (cut_key (stat_rank o.target)) (cut_body o 0 o.attr.size) m (byte_rank o.target x) (off_key (stat_rank o.target) (byte_rank o.target x) not_stat) ∙ at_edited (cut_body o 0 o.attr.size) m (byte_rank o.target x) in
-        elim (by_between (is_in (cut_body o 0 o.attr.size).cuts (byte_rank o.target x))) [ | inl e ↦ inl (cut ∙ e) | inr e ↦ inr (cut ∙ e) ]
+        elim (by_between (is_in (cut_body o 0 o.attr.size).cuts (byte_rank o.target x))) [ inl e ↦ inl (cut ∙ e) | inr e ↦ inr (cut ∙ e) ]
     by_kind false false = inl (edited_off (set_attr o (link_less o.attr)) m (byte_rank o.target x) (is_off (set_attr o (link_less o.attr)) (byte_rank o.target x) (off_attr o (link_less o.attr) (byte_rank o.target x) not_stat)))
 
 -- with a file they go
@@ -100,6 +102,7 @@ unnamed_gone m o x is lt below gone file = by_kind (is_dir o) (nat_le o.attr.nli
         let c : byte_rank o.target (0 + o.attr.size) ≡ byte_rank o.target 0 + o.attr.size = byte_after o.target 0 o.attr.size in
         let d : byte_rank o.target (0 + o.attr.size) ≡ byte_rank o.target o.attr.size = ap (byte_rank o.target) (omega arith) in
         and_from (nat_le (byte_rank o.target 0) (byte_rank o.target x)) (nat_lt (byte_rank o.target x) (byte_rank o.target o.attr.size)) (le-leb _ _ (omega arith)) (lt-ltb _ _ (omega arith))
+
     by_kind : (d b : Bool) → (if d then None else if b then None else Some (link_less o.attr)) ≡ None → d ≡ false
         → at_key (edited (if d then cut_key (stat_rank o.target) else if b then and_also (cut_key (stat_rank o.target)) (cut_body o 0 o.attr.size) else set_attr o (link_less o.attr)) m) (byte_rank o.target x) ≡ None
     by_kind true b e f = absurd (true_not_false f)
@@ -143,6 +146,7 @@ rest_file o b e = by_kind (is_dir o) (nat_le o.attr.nlink 1) refl e
   where
     more : (n : ℕ) → nat_le n 1 ≡ false → 2 ≤ n
     more n h = grind (arith, common_steps)
+
     by_kind : (d c : Bool) → nat_le o.attr.nlink 1 ≡ c → (if d then None else if c then None else Some (link_less o.attr)) ≡ Some b → (d ≡ false) × (2 ≤ o.attr.nlink) × (b ≡ link_less o.attr)
     by_kind true c h is = absurd cc
     by_kind false true h is = absurd cc
@@ -239,13 +243,13 @@ module _ (limit : ℕ) (m : Content) (dir o : Object) (n : List ℕ) (lawful : H
   off : (k : ℕ) → k ≢ key → k ≢ stat_rank dir.target → IsElsewhere o.target k → at_key after k ≡ at_key m k
   off k one two elsewhere =
       edited_off (unname_in dir n o) m k (is_off (unname_in dir n o) k (off_both (cut_key key) (and_also set_dir (unnamed o)) k (off_key key k one)
-        (off_both set_dir (unnamed o) k (off_attr dir (entry_less (is_dir o) dir.attr) k two) (off_unnamed o k h.size elsewhere.stat elsewhere.bytes))))
+      (off_both set_dir (unnamed o) k (off_attr dir (entry_less (is_dir o) dir.attr) k two) (off_unnamed o k h.size elsewhere.stat elsewhere.bytes))))
 
   entry_now : at_key after key ≡ None
   entry_now =
       edited_first (cut_key key) (and_also set_dir (unnamed o)) m key
       (off_both set_dir (unnamed o) key (off_attr dir (entry_less (is_dir o) dir.attr) key (entry_not_stat dir.target dir.target n h.small h.bytes h.dir_stat.0))
-        (off_unnamed o key h.size (entry_not_stat dir.target o.target n h.small h.bytes h.stat.0) (λ x lt. entry_not_byte dir.target o.target n x h.small h.bytes h.stat.0 lt)))
+      (off_unnamed o key h.size (entry_not_stat dir.target o.target n h.small h.bytes h.stat.0) (λ x lt. entry_not_byte dir.target o.target n x h.small h.bytes h.stat.0 lt)))
       ∙ cut_itself m key
 
   dir_now : at_key after (stat_rank dir.target) ≡ Some (Stat (entry_less (is_dir o) dir.attr))
@@ -311,15 +315,18 @@ module _ (limit : ℕ) (m : Content) (dir o : Object) (n : List ℕ) (lawful : H
   some_stat v b e = ap stat_value e
 
   kept : (t : Target) (a b : Attr) → HasStat m t a → becomes t a ≡ Some b → HasStat after t b
-  kept t a b there e = (there.0, elim (which t) [
-    | inl (x, is) ↦
-        let same = stat_one m lawful t dir.target a dir.attr there h.dir_stat is in
-        ap (λ (u : Target). at_key after (stat_rank u)) is ∙ dir_now ∙ ap (λ (c : Attr). Some (Stat (entry_less (is_dir o) c))) (sym same) ∙ some_stat (Some (entry_less (is_dir o) a)) b (sym (in_dir t a x) ∙ e)
-    | inr other ↦ elim other [
-      | inl (x, y, is) ↦ ap (λ (u : Target). at_key after (stat_rank u)) is ∙ object_now ∙ some_stat (rest_of o) b (sym (in_object t a x y) ∙ e)
-      | inr (x, y) ↦ other_now t there.0 x y ∙ there.1 ∙ some_stat (Some a) b (sym (in_other t a x y) ∙ e)
-    ]
-  ])
+  kept t a b there e = (
+    there.0,
+    elim (which t) [
+      | inl (x, is) ↦
+          let same = stat_one m lawful t dir.target a dir.attr there h.dir_stat is in
+          ap (λ (u : Target). at_key after (stat_rank u)) is ∙ dir_now ∙ ap (λ (c : Attr). Some (Stat (entry_less (is_dir o) c))) (sym same) ∙ some_stat (Some (entry_less (is_dir o) a)) b (sym (in_dir t a x) ∙ e)
+      | inr other ↦ elim other [
+        | inl (x, y, is) ↦ ap (λ (u : Target). at_key after (stat_rank u)) is ∙ object_now ∙ some_stat (rest_of o) b (sym (in_object t a x y) ∙ e)
+        | inr (x, y) ↦ other_now t there.0 x y ∙ there.1 ∙ some_stat (Some a) b (sym (in_other t a x y) ∙ e)
+      ]
+    ],
+  )
 
   from : (t : Target) (b : Attr) → HasStat after t b → ((a : Attr) × HasStat m t a × (becomes t a ≡ Some b)) ⊎ ⊥
   from t b there = elim (which t) [
@@ -370,10 +377,10 @@ module _ (limit : ℕ) (m : Content) (dir o : Object) (n : List ℕ) (lawful : H
   holder_stays : (k : ℕ) (s : List ℕ) (t p : Target) (a : Attr) → at_key m k ≡ Some (Entry s t) → HasStat m p a → is_directory a ≡ true → dir_of_key (key_of_rank k) ≡ p.oid.0 → (b : Attr) × (becomes p a ≡ Some b)
   holder_stays k s t p a at there is in_p =
       stays_unless p a (λ same gone.
-        let one = stat_one m lawful p o.target a o.attr there h.stat same in
-        let none = h.empty (ap is_directory (sym one) ∙ is) in
-        let some = one_there (is_entry_in o.target.oid.0) m k (Entry s t) at (eq-eqb (dir_of_key (key_of_rank k)) o.target.oid.0 (in_p ∙ ap (λ (u : Target). u.oid.0) same)) in
-        absurd (omega arith))
+      let one = stat_one m lawful p o.target a o.attr there h.stat same in
+      let none = h.empty (ap is_directory (sym one) ∙ is) in
+      let some = one_there (is_entry_in o.target.oid.0) m k (Entry s t) at (eq-eqb (dir_of_key (key_of_rank k)) o.target.oid.0 (in_p ∙ ap (λ (u : Target). u.oid.0) same)) in
+      absurd (omega arith))
 
   -- ---- what is counted at the two keys
 
@@ -504,13 +511,13 @@ module _ (limit : ℕ) (m : Content) (dir o : Object) (n : List ℕ) (lawful : H
       → b.nlink + both_here (directory_in m t.oid.0) key (stat_rank dir.target) m ≡ a.nlink
   dir_links true t a b d there is same new =
       let before = counted_yes (directory_in m t.oid.0) (directory_on m t.oid.0)
-            (ap (λ (u : Target). is_entry_in u.oid.0 (key, Entry n o.target) && names_directory m (Entry n o.target)) same ∙ ap (λ (x : Bool). x && names_directory m (Entry n o.target)) in_itself ∙ names_kind ∙ d) in
+      (ap (λ (u : Target). is_entry_in u.oid.0 (key, Entry n o.target) && names_directory m (Entry n o.target)) same ∙ ap (λ (x : Bool). x && names_directory m (Entry n o.target)) in_itself ∙ names_kind ∙ d) in
       let less : b.nlink ≡ a.nlink - 1 = ap (λ (c : Attr). c.nlink) new ∙ less_links (is_dir o) a ∙ ap (λ (x : Bool). if x then a.nlink - 1 else a.nlink) d in
       let links : a.nlink ≡ 2 + count (directory_in m t.oid.0) m = (lawful.directories t a there is).1 in
       omega arith
   dir_links false t a b d there is same new =
       let before = counted_no (directory_in m t.oid.0) (directory_on m t.oid.0)
-            (ap (λ (u : Target). is_entry_in u.oid.0 (key, Entry n o.target) && names_directory m (Entry n o.target)) same ∙ ap (λ (x : Bool). x && names_directory m (Entry n o.target)) in_itself ∙ names_kind ∙ d) in
+      (ap (λ (u : Target). is_entry_in u.oid.0 (key, Entry n o.target) && names_directory m (Entry n o.target)) same ∙ ap (λ (x : Bool). x && names_directory m (Entry n o.target)) in_itself ∙ names_kind ∙ d) in
       let links : b.nlink ≡ a.nlink = ap (λ (c : Attr). c.nlink) new ∙ less_links (is_dir o) a ∙ ap (λ (x : Bool). if x then a.nlink - 1 else a.nlink) d in
       omega arith
 
@@ -587,13 +594,17 @@ module _ (limit : ℕ) (m : Content) (dir o : Object) (n : List ℕ) (lawful : H
         where
           no_value : Some v ≡ None → ⊥
           no_value g = cc
+
       fits : (w : Value) → PlainFit (key_of_rank k) w → at_key after k ≡ Some w → PlainFit (key_of_rank k) v
       fits w f there = subst (λ (x : Value). PlainFit (key_of_rank k) x) (same_Some w v (sym there ∙ at)) f
+
       stat_at : (t : Target) (a : Attr) → IsObject t → k ≡ stat_rank t → PlainFit (key_of_rank k) (Stat a)
       stat_at t a is same = subst (λ (x : ℕ). PlainFit (key_of_rank x) (Stat a)) (sym same) (stat_fit t a is)
+
       rest_fit : (w : Option Attr) → k ≡ stat_rank o.target → at_key after k ≡ stat_value w → (at_key m k ≡ Some v) ⊎ PlainFit (key_of_rank k) v
       rest_fit None same there = absurd (none_some (at_key after k) there at)
       rest_fit (Some a) same there = inr (fits (Stat a) (stat_at o.target a h.stat.0 same) there)
+
       by_key : (p q : Bool) → (k == key) ≡ p → (k == stat_rank dir.target) ≡ q → (at_key m k ≡ Some v) ⊎ PlainFit (key_of_rank k) v
       by_key true q e f = absurd (none_some (at_key after k) (ap (at_key after) (eqb-true k key e) ∙ entry_now) at)
       by_key false true e f =
@@ -617,6 +628,7 @@ module _ (limit : ℕ) (m : Content) (dir o : Object) (n : List ℕ) (lawful : H
     where
       some_none : Some (Byte y) ≡ None → ⊥
       some_none g = cc
+
       no_byte : t ≡ o.target → rest_of o ≡ None → ⊥
       no_byte same gone =
           let attr = stat_one m lawful t o.target a o.attr was h.stat same in
@@ -645,6 +657,7 @@ module _ (limit : ℕ) (m : Content) (dir o : Object) (n : List ℕ) (lawful : H
           | inr (x, y, new) ↦ ap (λ (c : Attr). c.size) new
         ]
       ]
+
       body_same : (a : Attr) → HasStat m t a → becomes t a ≡ Some b → is_directory a ≡ false → (x : ℕ) → x < 2 ^ 64 → at_key after (byte_rank t x) ≡ at_key m (byte_rank t x)
       body_same a was e old_file x lt = elim (which t) [
         | inl (s, same) ↦ absurd (true_not_false (sym h.dir_is ∙ ap is_directory (sym (stat_one m lawful t dir.target a dir.attr was h.dir_stat same)) ∙ old_file))
@@ -673,7 +686,7 @@ module _ (limit : ℕ) (m : Content) (dir o : Object) (n : List ℕ) (lawful : H
 
   pub loses_bodies : HasBodies limit (edited (unname_in dir n o) m)
   loses_bodies = bodies_kept limit m after bodies (record {
-    fits = λ k v at. elim (lose_plain k v at) [ | inl old ↦ inl old | inr f ↦ inr (plain_fits after (key_of_rank k) v f) ];
+    fits = λ k v at. elim (lose_plain k v at) [ inl old ↦ inl old | inr f ↦ inr (plain_fits after (key_of_rank k) v f) ];
     alive = lose_alive;
     files = λ t b there file. inl (lose_files t b there file);
     bytes = lose_bytes;

@@ -1,25 +1,24 @@
 -- create, mkdir and link leave the objects of a lawful content lawful.
-use Rattle.std.specs.Prelude.{◌≡◌, ◌≢◌, ◌⊎◌, ℕ, ◌+◌, ◌-◌, ◌^◌, ◌<◌, ◌≤◌, List, [], ◌∷◌, Bool, true, false, ◌==◌, nat_le, nat_lt, length, take, slice_index_or, All, Option, Some, None, if◌then◌else◌}
+use Rattle.std.specs.Prelude.{◌≡◌, ℕ, ◌+◌, ◌-◌, ◌^◌, ◌<◌, List, [], Bool, true, false, nat_le, nat_lt, length, take, slice_index_or, All, None, if◌then◌else◌}
 use Rattle.std.proofs.Common.{arith, inl, inr, refl, sym, ap, subst, ◌∙◌}
 use Rattle.std.proofs.lemmas.Grind.{common_steps}
-use Rattle.r4_base.specs.Value.{Value, Stat, Entry, Byte, Content, at_key}
-use Rattle.r4_base.specs.Volume.{HasObjects, HasStat, IsObject, is_directory, stat_rank}
+use Rattle.r4_base.specs.Value.{Content, at_key}
+use Rattle.r4_base.specs.Volume.{IsObject, is_directory}
 use Rattle.r4_base.specs.declared.items.Attr.{Attr}
-use Rattle.r4_base.specs.declared.items.Target.{Target}
 use Rattle.r4_base.specs.declared.things.Oid.{Oid}
 use Rattle.r4_content.specs.Course.{Course, Answer, Change, Ending, ending, of_content}
-use Rattle.r4_content.specs.Edited.{Edits, edited}
+use Rattle.r4_content.specs.Edited.{edited}
 use Rattle.r4_content.specs.Entries.{is_no_id, link, linked, name_in}
 use Rattle.r4_content.specs.Fields.{HasBytes, HasNumbers, IsUnused}
-use Rattle.r4_content.specs.Lawful.{HasBodies, IsLawful}
-use Rattle.r4_content.specs.Meaning.{after, course, is_path, named, reply}
+use Rattle.r4_content.specs.Lawful.{IsLawful}
+use Rattle.r4_content.specs.Meaning.{after, named, reply}
 use Rattle.r4_content.specs.Objects.{Object, entry_rank, is_dir, is_full, made_in, new_directory, new_file}
-use Rattle.r4_content.specs.Ways.{Place, entry_in, free_here, to_free, to_object}
+use Rattle.r4_content.specs.Ways.{Place, entry_in, free_here, to_free}
 use Rattle.r4_content.specs.declared.command.Command.TheVariants.{Create, Mkdir, Link}
 use Rattle.r4_content.specs.declared.reply.Reply.TheVariants.{Okay, Exists, Isdir, Links, Oids}
 use Rattle.r4_content.proofs.EditParts.{true_not_false}
-use Rattle.r4_content.proofs.Found.{There, ends_at, found, small_object, stat_there, way_ends}
-use Rattle.r4_content.proofs.Gaining.{Gains, IsNew, WasThere, gains_bodies, gains_lawful}
+use Rattle.r4_content.proofs.Found.{ends_at, found, small_object, stat_there, way_ends}
+use Rattle.r4_content.proofs.Gaining.{Gains, gains_bodies, gains_lawful}
 use Rattle.r4_content.proofs.Keeping.{Stays}
 use Rattle.r4_content.proofs.Naming.{came_above, directory_made, file_made, free_is, last_bytes, make_directory, make_file}
 use Rattle.r4_content.proofs.OneObject.{by_done, numbers_of, stat_was}
@@ -58,7 +57,7 @@ gains_new limit m dir n oid a lawful there is bytes free small unused size lengt
 make_lawful : (limit : ℕ) (path : List (List ℕ)) (oid : Oid) (m : Content) (a : Attr) (make : Object → (name : List ℕ) → Course) → HasNumbers m → IsLawful limit m → HasBytes path → IsUnused m oid
     → a.size ≡ 0 → a.bytes ≡ 0 → (is_directory a ≡ true → a.nlink ≡ 2) × (is_directory a ≡ false → a.nlink ≡ 1)
     → ((dir : Object) (n : List ℕ) → (ending (make dir n) (of_content m)).reply ≡ Okay
-      → (oid.0 < 2 ^ 60) × (ending (make dir n) (of_content m) ≡ record { edits = name_in dir n (made_in dir n oid a); reply = Okay }) × (is_directory a ≡ true → dir.attr.nlink < 2 ^ 32 - 1))
+    → (oid.0 < 2 ^ 60) × (ending (make dir n) (of_content m) ≡ record { edits = name_in dir n (made_in dir n oid a); reply = Okay }) × (is_directory a ≡ true → dir.attr.nlink < 2 ^ 32 - 1))
     → (ending (named path (to_free path make)) (of_content m)).reply ≡ Okay → Stays limit (edited (ending (named path (to_free path make)) (of_content m)).edits m)
 unfolding to_free
 make_lawful limit path oid m a make numbers lawful bytes unused size length_too kinds made okay =
@@ -70,13 +69,13 @@ make_lawful limit path oid m a make numbers lawful bytes unused size length_too 
     let there = found_object m numbers.orderings (take (length path - 1) path) c.place c.at in
     subst (λ (x : Ending). Stays limit (edited x.edits m)) (sym (c.ends ∙ goes ∙ done))
     (let gains = gains_new limit m dir n oid a lawful there is (last_bytes path c.some bytes) free small unused size length_too kinds links in
-      (gains_lawful m dir (made_in dir n oid a) n lawful.objects gains, gains_bodies m dir (made_in dir n oid a) n lawful.objects gains limit lawful.bodies))
+    (gains_lawful m dir (made_in dir n oid a) n lawful.objects gains, gains_bodies m dir (made_in dir n oid a) n lawful.objects gains limit lawful.bodies))
 
 pub create_lawful : (limit : ℕ) (path : List (List ℕ)) (oid : Oid) (m : Content) → limit < 2 ^ 64 → IsLawful limit m → HasBytes path → IsUnused m oid → Stays limit (after limit (Create path oid) m)
 create_lawful limit path oid m lt lawful bytes unused =
     by_done limit (Create path oid) m (λ x. Stays limit x) (lawful.objects, lawful.bodies)
     (make_lawful limit path oid m new_file (make_file oid) (numbers_of limit m lt lawful) lawful bytes unused refl refl ((λ d. absurd cc), (λ f. refl))
-      (λ dir n okay. let x = file_made m dir n oid okay in (x.0, x.1, (λ d. absurd cc))))
+    (λ dir n okay. let x = file_made m dir n oid okay in (x.0, x.1, (λ d. absurd cc))))
 
 room_of : (m : Content) (oid : Oid) (dir : Object) (n : List ℕ) → (ending (make_directory oid dir n) (of_content m)).reply ≡ Okay → dir.attr.nlink < 2 ^ 32 - 1
 room_of m oid dir n okay = by_links (is_full dir) refl okay
@@ -90,7 +89,7 @@ pub mkdir_lawful : (limit : ℕ) (path : List (List ℕ)) (oid : Oid) (m : Conte
 mkdir_lawful limit path oid m lt lawful bytes unused =
     by_done limit (Mkdir path oid) m (λ x. Stays limit x) (lawful.objects, lawful.bodies)
     (make_lawful limit path oid m new_directory (make_directory oid) (numbers_of limit m lt lawful) lawful bytes unused refl refl ((λ d. refl), (λ f. absurd cc))
-      (λ dir n okay. let x = directory_made m dir n oid okay in (x.0, x.1, (λ d. room_of m oid dir n okay))))
+    (λ dir n okay. let x = directory_made m dir n oid okay in (x.0, x.1, (λ d. room_of m oid dir n okay))))
 
 -- ---- link
 
@@ -149,6 +148,7 @@ link_done m from to numbers bytes okay =
     is_file : (o : Object) (b : Bool) → (ending (if b then Answer Isdir else to_free to (link_on o)) (of_content m)).reply ≡ Okay → b ≡ false
     is_file o true h = absurd cc
     is_file o false h = refl
+
     is_done : (o dir : Object) (n : List ℕ) (b : Bool) → is_full o ≡ b → (ending (if b then Answer Links else Change (name_in dir n (linked o))) (of_content m)).reply ≡ Okay
         → (o.attr.nlink < 65535) × (ending (if b then Answer Links else Change (name_in dir n (linked o))) (of_content m) ≡ record { edits = name_in dir n (linked o); reply = Okay })
     is_done o dir n true e h = absurd cc
@@ -183,4 +183,4 @@ link_lawful limit from to m lt lawful bytes = by_done limit (Link from to) m (λ
         let d = link_done m from to (numbers_of limit m lt lawful) bytes okay in
         subst (λ (x : Ending). Stays limit (edited x.edits m)) (sym d.ends)
         (let gains = gains_link limit m d.dir d.object d.name lawful d.dir_there d.dir_is d.bytes d.free d.there d.file d.few in
-          (gains_lawful m d.dir (linked d.object) d.name lawful.objects gains, gains_bodies m d.dir (linked d.object) d.name lawful.objects gains limit lawful.bodies))
+        (gains_lawful m d.dir (linked d.object) d.name lawful.objects gains, gains_bodies m d.dir (linked d.object) d.name lawful.objects gains limit lawful.bodies))

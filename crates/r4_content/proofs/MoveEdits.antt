@@ -1,5 +1,5 @@
 -- What stands where after an entry moved.
-use Rattle.std.specs.Prelude.{◌≡◌, ◌≢◌, ◌⊎◌, ℕ, ◌+◌, ◌-◌, ◌^◌, ◌<◌, ◌≤◌, List, [], ◌∷◌, Bool, true, false, ◌&&◌, ◌==◌, cond, All, Option, Some, None, if◌then◌else◌}
+use Rattle.std.specs.Prelude.{◌≡◌, ◌≢◌, ◌⊎◌, ℕ, ◌-◌, ◌^◌, ◌<◌, ◌≤◌, List, Bool, true, false, ◌&&◌, ◌==◌, All, Option, Some, None, if◌then◌else◌}
 use Rattle.std.proofs.Common.{arith, inl, inr, refl, sym, ap, subst, ◌∙◌}
 use Rattle.std.proofs.lemmas.Bool.{eq-eqb, eqb-true}
 use Rattle.std.proofs.lemmas.Option.{same_Some}
@@ -18,7 +18,7 @@ use Rattle.r4_content.specs.Ways.{entry_in}
 use Rattle.r4_content.proofs.Counting.{not_same, one_there}
 use Rattle.r4_content.proofs.EditLaws.{edited_off}
 use Rattle.r4_content.proofs.EditParts.{IsOff, edited_first, edited_second, is_off, off_both, true_not_false}
-use Rattle.r4_content.proofs.FileEdits.{IsElsewhere, off_attr, other_stat, put_itself}
+use Rattle.r4_content.proofs.FileEdits.{off_attr, other_stat, put_itself}
 use Rattle.r4_content.proofs.Gaining.{stat_same}
 use Rattle.r4_content.proofs.Keeping.{IsKeptFile, PlainFit, bodies_kept, plain_fits, stat_fit}
 use Rattle.r4_content.proofs.Losing.{cut_itself, not_in_itself, off_unnamed, rest_file, unnamed_body, unnamed_gone, unnamed_kept, rest_of, stat_one, stat_value, unnamed_no_entries, unnamed_stat}
@@ -43,7 +43,7 @@ module _ (m : Content) (dir o to : Object) (name new_name : List ℕ) (dir_objec
   parents_off k one two = by_same (is_same_target dir.target to.target)
     where
       by_same : (b : Bool) → IsOff (if b then set_attr to (entry_more (is_dir o) (entry_less (is_dir o) to.attr))
-            else and_also (set_attr dir (entry_less (is_dir o) dir.attr)) (set_attr to (entry_more (is_dir o) to.attr))) k
+          else and_also (set_attr dir (entry_less (is_dir o) dir.attr)) (set_attr to (entry_more (is_dir o) to.attr))) k
       by_same true = off_attr to (entry_more (is_dir o) (entry_less (is_dir o) to.attr)) k two
       by_same false = off_both (set_attr dir (entry_less (is_dir o) dir.attr)) (set_attr to (entry_more (is_dir o) to.attr)) k
           (off_attr dir (entry_less (is_dir o) dir.attr) k one) (off_attr to (entry_more (is_dir o) to.attr) k two)
@@ -57,7 +57,7 @@ module _ (m : Content) (dir o to : Object) (name new_name : List ℕ) (dir_objec
   move_gone =
       edited_first (cut_key (entry_rank dir.target name)) (and_also (set_entry to new_name o.target) parents) m (entry_rank dir.target name)
       (off_both (set_entry to new_name o.target) parents (entry_rank dir.target name) (off_entry to new_name o.target (entry_rank dir.target name) apart)
-        (parents_off (entry_rank dir.target name) (entry_not_stat dir.target dir.target name dir_small bytes dir_object) (entry_not_stat dir.target to.target name dir_small bytes to_object)))
+      (parents_off (entry_rank dir.target name) (entry_not_stat dir.target dir.target name dir_small bytes dir_object) (entry_not_stat dir.target to.target name dir_small bytes to_object)))
       ∙ cut_itself m (entry_rank dir.target name)
 
   pub move_came : at_key (edited (moved dir name o to new_name) m) (entry_rank to.target new_name) ≡ Some (Entry new_name o.target)
@@ -78,7 +78,7 @@ module _ (m : Content) (dir o to : Object) (name new_name : List ℕ) (dir_objec
   move_to = at_parents to.target to_object ∙ by_same (is_same_target dir.target to.target)
     where
       by_same : (b : Bool) → at_key (edited (if b then set_attr to (entry_more (is_dir o) (entry_less (is_dir o) to.attr)) else and_also (set_attr dir (entry_less (is_dir o) dir.attr)) (set_attr to (entry_more (is_dir o) to.attr))) m)
-            (stat_rank to.target) ≡ Some (Stat (entry_more (is_dir o) (less_if b (is_dir o) to.attr)))
+          (stat_rank to.target) ≡ Some (Stat (entry_more (is_dir o) (less_if b (is_dir o) to.attr)))
       by_same true = put_itself m (stat_rank to.target) (Stat (entry_more (is_dir o) (entry_less (is_dir o) to.attr)))
       by_same false = put_itself (edited (set_attr dir (entry_less (is_dir o) dir.attr)) m) (stat_rank to.target) (Stat (entry_more (is_dir o) to.attr))
 
@@ -86,7 +86,7 @@ module _ (m : Content) (dir o to : Object) (name new_name : List ℕ) (dir_objec
   move_from other =
       at_parents dir.target dir_object
       ∙ ap (λ (b : Bool). at_key (edited (if b then set_attr to (entry_more (is_dir o) (entry_less (is_dir o) to.attr)) else and_also (set_attr dir (entry_less (is_dir o) dir.attr)) (set_attr to (entry_more (is_dir o) to.attr))) m)
-        (stat_rank dir.target)) other
+      (stat_rank dir.target)) other
       ∙ edited_first (set_attr dir (entry_less (is_dir o) dir.attr)) (set_attr to (entry_more (is_dir o) to.attr)) m (stat_rank dir.target)
       (off_attr to (entry_more (is_dir o) to.attr) (stat_rank dir.target) (λ e. true_not_false (sym (same_itself dir.target) ∙ ap (is_same_target dir.target) (same_stat dir.target to.target dir_object to_object e) ∙ other)))
       ∙ put_itself m (stat_rank dir.target) (Stat (entry_less (is_dir o) dir.attr))
@@ -158,6 +158,7 @@ module _ (limit : ℕ) (m : Content) (dir o new : Object) (name new_name : List 
     where
       x : IsOver m o new old new_name
       x = h.onto is
+
       by_kind : (b : Bool) → is_dir old ≡ b → ⊥
       by_kind true d =
           let (steps, reached) = lawful.reached old.target old.attr x.stat in
@@ -169,6 +170,7 @@ module _ (limit : ℕ) (m : Content) (dir o new : Object) (name new_name : List 
     where
       x : IsOver m o new old new_name
       x = h.onto is
+
       by_kind : (b : Bool) → is_dir old ≡ b → ⊥
       by_kind true d =
           let none = x.empty d in
@@ -204,7 +206,7 @@ module _ (limit : ℕ) (m : Content) (dir o new : Object) (name new_name : List 
   stat_alone : (t : Target) → IsObject t → (over ≡ true → t ≢ old.target) → at_key after (stat_rank t) ≡ at_key (alone over) (stat_rank t)
   stat_alone t is other =
       seen_alone (stat_rank t) (λ yes_over. let x = (h.onto yes_over).stat.0 in
-        old_off yes_over (stat_rank t) (λ e. other yes_over (same_stat t old.target is x e)) (λ y lt. stat_not_byte t old.target y is x lt))
+      old_off yes_over (stat_rank t) (λ e. other yes_over (same_stat t old.target is x e)) (λ y lt. stat_not_byte t old.target y is x lt))
 
   old_now : over ≡ true → at_key after (stat_rank old.target) ≡ stat_value (rest_of old)
   old_now yes_over = by_over over refl yes_over
@@ -215,7 +217,7 @@ module _ (limit : ℕ) (m : Content) (dir o new : Object) (name new_name : List 
           let x = (h.onto is).stat.0 in
           edited_first (unnamed old) (moved dir name o (comes_to o new true) new_name) m (stat_rank old.target)
           (off_alone true (stat_rank old.target) (λ s. entry_not_stat dir.target old.target name h.dir_small h.bytes x (sym s)) (λ s. entry_not_stat new.target old.target new_name h.new_small h.new_bytes x (sym s))
-            (λ s. old_not_dir is (same_stat old.target dir.target x h.dir_stat.0 s)) (λ s. old_not_new is (same_stat old.target new.target x h.new_stat.0 s)))
+          (λ s. old_not_dir is (same_stat old.target dir.target x h.dir_stat.0 s)) (λ s. old_not_new is (same_stat old.target new.target x h.new_stat.0 s)))
           ∙ unnamed_stat m old x (h.size is)
 
   old_body : over ≡ true → (y : ℕ) → y < 2 ^ 64 → entry_in (at_key after (byte_rank old.target y)) ≡ None
@@ -226,8 +228,8 @@ module _ (limit : ℕ) (m : Content) (dir o new : Object) (name new_name : List 
       by_over true is e =
           let x = (h.onto is).stat.0 in
           ap entry_in (edited_first (unnamed old) (moved dir name o (comes_to o new true) new_name) m (byte_rank old.target y)
-            (off_alone true (byte_rank old.target y) (λ s. entry_not_byte dir.target old.target name y h.dir_small h.bytes x lt (sym s)) (λ s. entry_not_byte new.target old.target new_name y h.new_small h.new_bytes x lt (sym s))
-              (λ s. stat_not_byte dir.target old.target y h.dir_stat.0 x lt (sym s)) (λ s. stat_not_byte new.target old.target y h.new_stat.0 x lt (sym s))))
+          (off_alone true (byte_rank old.target y) (λ s. entry_not_byte dir.target old.target name y h.dir_small h.bytes x lt (sym s)) (λ s. entry_not_byte new.target old.target new_name y h.new_small h.new_bytes x lt (sym s))
+          (λ s. stat_not_byte dir.target old.target y h.dir_stat.0 x lt (sym s)) (λ s. stat_not_byte new.target old.target y h.new_stat.0 x lt (sym s))))
           ∙ none_edited (unnamed old) m (byte_rank old.target y) (unnamed_no_entries old) (no_entry_body limit m bodies old.target y x lt)
 
   -- ---- the directories
@@ -255,6 +257,7 @@ module _ (limit : ℕ) (m : Content) (dir o new : Object) (name new_name : List 
       and_false : (b : Bool) → (b && false) ≡ false
       and_false true = refl
       and_false false = refl
+
       formula : parent dir.target new.target over (is_dir o) dir.target dir.attr ≡ entry_less (is_dir o) dir.attr
       formula =
           ap (λ (b : Bool). more_if b (is_dir o) (less_if (is_same_target dir.target dir.target) (is_dir o) (less_if (over && b) (is_dir o) dir.attr))) other
@@ -273,8 +276,8 @@ module _ (limit : ℕ) (m : Content) (dir o new : Object) (name new_name : List 
   other_now t is other e f =
       stat_alone t is other
       ∙ edited_off (moved dir name o (comes_to o new over) new_name) m (stat_rank t) (is_off (moved dir name o (comes_to o new over) new_name) (stat_rank t)
-        (off_alone over (stat_rank t) (λ s. entry_not_stat dir.target t name h.dir_small h.bytes is (sym s)) (λ s. entry_not_stat new.target t new_name h.new_small h.new_bytes is (sym s))
-          (other_stat t dir.target is h.dir_stat.0 e) (other_stat t new.target is h.new_stat.0 f)))
+      (off_alone over (stat_rank t) (λ s. entry_not_stat dir.target t name h.dir_small h.bytes is (sym s)) (λ s. entry_not_stat new.target t new_name h.new_small h.new_bytes is (sym s))
+      (other_stat t dir.target is h.dir_stat.0 e) (other_stat t new.target is h.new_stat.0 f)))
 
   -- what stands at a stat key of an object that does not go
   parent_now : (t : Target) (a : Attr) → HasStat m t a → (over ≡ true → t ≢ old.target) → at_key after (stat_rank t) ≡ Some (Stat (parent dir.target new.target over (is_dir o) t a))
@@ -319,15 +322,19 @@ module _ (limit : ℕ) (m : Content) (dir o new : Object) (name new_name : List 
       is_rest : (v : Option Attr) → stat_value v ≡ Some (Stat b) → v ≡ Some b
       is_rest None e = absurd cc
       is_rest (Some c) e = ap (λ (d : Attr). Some d) (stat_same c b e)
+
       pick : (c : Bool) (a : Attr) → (over && is_same_target t old.target) ≡ c → (if c then rest_of old else Some (parent dir.target new.target over (is_dir o) t a)) ≡ Some b → becomes dir.target new.target over (is_dir o) old t a ≡ Some b
       pick c a is e = ap (λ (x : Bool). if x then rest_of old else Some (parent dir.target new.target over (is_dir o) t a)) is ∙ e
+
       by_test : (c : Bool) → (over && is_same_target t old.target) ≡ c → (a : Attr) × HasStat m t a × (becomes dir.target new.target over (is_dir o) old t a ≡ Some b)
       by_test true is =
           let (yes_over, here) = both over (is_same_target t old.target) is in
           let same = told_same t old.target here in
-          let stat = (h.onto yes_over).stat in
-          (old.attr, subst (λ (u : Target). HasStat m u old.attr) (sym same) stat,
-            pick true old.attr is (is_rest (rest_of old) (sym (old_now yes_over) ∙ ap (λ (u : Target). at_key after (stat_rank u)) (sym same) ∙ there.1)))
+          let stat = (h.onto yes_over).stat in (
+            old.attr,
+            subst (λ (u : Target). HasStat m u old.attr) (sym same) stat,
+            pick true old.attr is (is_rest (rest_of old) (sym (old_now yes_over) ∙ ap (λ (u : Target). at_key after (stat_rank u)) (sym same) ∙ there.1)),
+          )
       by_test false is =
           let (a, was) = is_there t b there (not_old t is) in
           (a, was, pick false a is (ap (λ (x : Attr). Some x) (stat_same (parent dir.target new.target over (is_dir o) t a) b (sym (parent_now t a was (not_old t is)) ∙ there.1))))
@@ -337,9 +344,11 @@ module _ (limit : ℕ) (m : Content) (dir o new : Object) (name new_name : List 
     where
       stat_none : (t : Target) (a : Attr) → HasStat m t a → (over ≡ true → t ≢ old.target) → k ≡ stat_rank t → entry_in (at_key m k) ≡ entry_in (at_key after k)
       stat_none t a there other is = ap (λ (x : ℕ). entry_in (at_key m x)) is ∙ ap entry_in there.1 ∙ sym (ap (λ (x : ℕ). entry_in (at_key after x)) is ∙ ap entry_in (parent_now t a there other))
+
       rest_none : (v : Option Attr) → entry_in (stat_value v) ≡ None
       rest_none None = refl
       rest_none (Some a) = refl
+
       by_over : (b : Bool) → over ≡ b → k ≢ stat_rank dir.target → k ≢ stat_rank new.target → entry_in (at_key m k) ≡ entry_in (at_key after k)
       by_over false is three four =
           ap entry_in (sym (seen_alone k (λ e. absurd (true_not_false (sym e ∙ is))) ∙ edited_off (moved dir name o (comes_to o new over) new_name) m k (is_off (moved dir name o (comes_to o new over) new_name) k (off_alone over k one two three four))))
@@ -352,9 +361,10 @@ module _ (limit : ℕ) (m : Content) (dir o new : Object) (name new_name : List 
               ap (λ (x : ℕ). entry_in (at_key m x)) at_byte ∙ no_entry_body limit m bodies old.target y (h.onto is).stat.0 lt ∙ sym (ap (λ (x : ℕ). entry_in (at_key after x)) at_byte ∙ old_body is y lt)
           | inr elsewhere ↦
               ap entry_in (sym (seen_alone k (λ e. old_off e k elsewhere.stat elsewhere.bytes)
-                ∙ edited_off (moved dir name o (comes_to o new over) new_name) m k (is_off (moved dir name o (comes_to o new over) new_name) k (off_alone over k one two three four))))
+              ∙ edited_off (moved dir name o (comes_to o new over) new_name) m k (is_off (moved dir name o (comes_to o new over) new_name) k (off_alone over k one two three four))))
         ]
       ]
+
       by_key : (p q : Bool) → (k == stat_rank dir.target) ≡ p → (k == stat_rank new.target) ≡ q → entry_in (at_key m k) ≡ entry_in (at_key after k)
       by_key true q e f = stat_none dir.target dir.attr h.dir_stat (λ is same. old_not_dir is (sym same)) (eqb-true k (stat_rank dir.target) e)
       by_key false true e f = stat_none new.target new.attr h.new_stat (λ is same. old_not_new is (sym same)) (eqb-true k (stat_rank new.target) f)
@@ -399,15 +409,15 @@ module _ (limit : ℕ) (m : Content) (dir o new : Object) (name new_name : List 
           let y = (h.onto is).stat.0 in
           edited_first (unnamed old) (moved dir name o (comes_to o new true) new_name) m (byte_rank old.target x)
           (off_alone true (byte_rank old.target x) (λ s. entry_not_byte dir.target old.target name x h.dir_small h.bytes y lt (sym s)) (λ s. entry_not_byte new.target old.target new_name x h.new_small h.new_bytes y lt (sym s))
-            (λ s. stat_not_byte dir.target old.target x h.dir_stat.0 y lt (sym s)) (λ s. stat_not_byte new.target old.target x h.new_stat.0 y lt (sym s)))
+          (λ s. stat_not_byte dir.target old.target x h.dir_stat.0 y lt (sym s)) (λ s. stat_not_byte new.target old.target x h.new_stat.0 y lt (sym s)))
 
   other_byte : (t : Target) (x : ℕ) → IsObject t → x < 2 ^ 64 → (over ≡ true → t ≢ old.target) → at_key after (byte_rank t x) ≡ at_key m (byte_rank t x)
   other_byte t x is lt other =
       seen_alone (byte_rank t x) (λ yes_over. let y = (h.onto yes_over).stat.0 in
-        old_off yes_over (byte_rank t x) (λ e. stat_not_byte old.target t x y is lt (sym e)) (λ z lz e. other yes_over (same_bytes t old.target x z is y lt lz e)))
+      old_off yes_over (byte_rank t x) (λ e. stat_not_byte old.target t x y is lt (sym e)) (λ z lz e. other yes_over (same_bytes t old.target x z is y lt lz e)))
       ∙ edited_off (moved dir name o (comes_to o new over) new_name) m (byte_rank t x) (is_off (moved dir name o (comes_to o new over) new_name) (byte_rank t x)
-        (off_alone over (byte_rank t x) (λ s. entry_not_byte dir.target t name x h.dir_small h.bytes is lt (sym s)) (λ s. entry_not_byte new.target t new_name x h.new_small h.new_bytes is lt (sym s))
-          (λ s. stat_not_byte dir.target t x h.dir_stat.0 is lt (sym s)) (λ s. stat_not_byte new.target t x h.new_stat.0 is lt (sym s))))
+      (off_alone over (byte_rank t x) (λ s. entry_not_byte dir.target t name x h.dir_small h.bytes is lt (sym s)) (λ s. entry_not_byte new.target t new_name x h.new_small h.new_bytes is lt (sym s))
+      (λ s. stat_not_byte dir.target t x h.dir_stat.0 is lt (sym s)) (λ s. stat_not_byte new.target t x h.new_stat.0 is lt (sym s))))
 
   move_plain : (k : ℕ) (v : Value) → at_key after k ≡ Some v → (at_key m k ≡ Some v) ⊎ PlainFit (key_of_rank k) v
   move_plain k v at = by_key (k == key) (k == new_key) (k == stat_rank dir.target) (k == stat_rank new.target) refl refl refl refl
@@ -417,19 +427,25 @@ module _ (limit : ℕ) (m : Content) (dir o new : Object) (name new_name : List 
         where
           no_value : Some v ≡ None → ⊥
           no_value g = cc
+
       fits : (w : Value) → PlainFit (key_of_rank k) w → at_key after k ≡ Some w → PlainFit (key_of_rank k) v
       fits w f there = subst (λ (x : Value). PlainFit (key_of_rank k) x) (same_Some w v (sym there ∙ at)) f
+
       stat_at : (t : Target) (a : Attr) → IsObject t → k ≡ stat_rank t → PlainFit (key_of_rank k) (Stat a)
       stat_at t a is same = subst (λ (x : ℕ). PlainFit (key_of_rank x) (Stat a)) (sym same) (stat_fit t a is)
+
       rest_fit : (w : Option Attr) → IsObject old.target → k ≡ stat_rank old.target → at_key after k ≡ stat_value w → (at_key m k ≡ Some v) ⊎ PlainFit (key_of_rank k) v
       rest_fit None is same there = absurd (none_some (at_key after k) there at)
       rest_fit (Some a) is same there = inr (fits (Stat a) (stat_at old.target a is same) there)
+
       parent_fit : (t : Target) (a : Attr) → HasStat m t a → (over ≡ true → t ≢ old.target) → k ≡ stat_rank t → PlainFit (key_of_rank k) v
       parent_fit t a there other same =
           fits (Stat (parent dir.target new.target over (is_dir o) t a)) (stat_at t (parent dir.target new.target over (is_dir o) t a) there.0 same) (ap (at_key after) same ∙ parent_now t a there other)
+
       off_it : k ≢ key → k ≢ new_key → k ≢ stat_rank dir.target → k ≢ stat_rank new.target → (over ≡ true → IsOff (unnamed old) k) → at_key m k ≡ Some v
       off_it one two three four off =
           sym (seen_alone k off ∙ edited_off (moved dir name o (comes_to o new over) new_name) m k (is_off (moved dir name o (comes_to o new over) new_name) k (off_alone over k one two three four))) ∙ at
+
       by_over : (b : Bool) → over ≡ b → k ≢ key → k ≢ new_key → k ≢ stat_rank dir.target → k ≢ stat_rank new.target → (at_key m k ≡ Some v) ⊎ PlainFit (key_of_rank k) v
       by_over false is one two three four = inl (off_it one two three four (λ e. absurd (true_not_false (sym e ∙ is))))
       by_over true is one two three four =
@@ -444,6 +460,7 @@ module _ (limit : ℕ) (m : Content) (dir o new : Object) (name new_name : List 
               | inr elsewhere ↦ inl (off_it one two three four (λ e. old_off e k elsewhere.stat elsewhere.bytes))
             ]
           ]
+
       by_key : (p q r s : Bool) → (k == key) ≡ p → (k == new_key) ≡ q → (k == stat_rank dir.target) ≡ r → (k == stat_rank new.target) ≡ s → (at_key m k ≡ Some v) ⊎ PlainFit (key_of_rank k) v
       by_key true q r s e f g i = absurd (none_some (at_key after k) (ap (at_key after) (eqb-true k key e) ∙ gone) at)
       by_key false true r s e f g i =
@@ -477,6 +494,7 @@ module _ (limit : ℕ) (m : Content) (dir o new : Object) (name new_name : List 
     where
       some_none : Some (Byte y) ≡ None → ⊥
       some_none g = cc
+
       by_rest : over ≡ true → t ≡ old.target → (w : Option Attr) → rest_of old ≡ w → (b : Attr) × HasStat after t b × (is_directory b ≡ false)
       by_rest yes_over same (Some b) left =
           let (is_file, some, new_attr) = rest_file old b left in
@@ -539,12 +557,12 @@ module _ (limit : ℕ) (m : Content) (dir o new : Object) (name new_name : List 
         | inr (other, goes) ↦
             subst (λ (c : Attr). c.bytes ≡ c.size) (same_Some (parent dir.target new.target over (is_dir o) t a) b (sym (goes a) ∙ e))
             (if_bytes (is_same_target t new.target) (is_dir o) (less_if (is_same_target t dir.target) (is_dir o) (less_if (over && is_same_target t new.target) (is_dir o) a))
-              (if_bytes (is_same_target t dir.target) (is_dir o) (less_if (over && is_same_target t new.target) (is_dir o) a) (if_bytes (over && is_same_target t new.target) (is_dir o) a (bodies.bytes t a was)).0).0).1
+            (if_bytes (is_same_target t dir.target) (is_dir o) (less_if (over && is_same_target t new.target) (is_dir o) a) (if_bytes (over && is_same_target t new.target) (is_dir o) a (bodies.bytes t a was)).0).0).1
       ]
 
   pub move_bodies : HasBodies limit (edited (moving dir name o new new_name over old) m)
   move_bodies = bodies_kept limit m after bodies (record {
-    fits = λ k v at. elim (move_plain k v at) [ | inl was ↦ inl was | inr f ↦ inr (plain_fits after (key_of_rank k) v f) ];
+    fits = λ k v at. elim (move_plain k v at) [ inl was ↦ inl was | inr f ↦ inr (plain_fits after (key_of_rank k) v f) ];
     alive = move_alive;
     files = λ t b there file. inl (move_files t b there file);
     bytes = move_bytes;

@@ -1,15 +1,14 @@
 -- rename leaves the objects of a lawful content lawful.
-use Rattle.std.specs.Prelude.{◌≡◌, ◌≢◌, ◌⊎◌, ℕ, zero, suc, ◌+◌, ◌-◌, ◌^◌, ◌<◌, ◌≤◌, List, [], ◌∷◌, ◌++◌, Bool, true, false, not, ◌&&◌, ◌||◌, ◌==◌, bytes_eq, nat_le, length, take, slice_index_or, All, Option, Some, None, if◌then◌else◌}
-use Rattle.std.proofs.Common.{arith, inl, inr, lit<, refl, sym, ap, subst, ◌∙◌}
+use Rattle.std.specs.Prelude.{◌≡◌, ◌≢◌, ℕ, suc, ◌-◌, ◌^◌, ◌<◌, ◌≤◌, List, [], ◌∷◌, ◌++◌, Bool, true, false, not, ◌&&◌, ◌||◌, ◌==◌, bytes_eq, nat_le, length, take, slice_index_or, All, Option, Some, None, if◌then◌else◌}
+use Rattle.std.proofs.Common.{arith, refl, sym, ap, subst, ◌∙◌}
 use Rattle.std.proofs.lemmas.Bool.{eq-eqb}
 use Rattle.std.proofs.lemmas.Grind.{common_steps}
 use Rattle.std.proofs.lemmas.List.Elements.{All-head, All-tail, All-take}
-use Rattle.std.proofs.lemmas.Option.{same_Some}
 use Rattle.std.proofs.lemmas.Slice.Eq.{bytes_eq-Decides}
 use Rattle.r4_base.specs.Key.{key_of_rank}
 use Rattle.r4_base.specs.Name.{dir_of_key}
-use Rattle.r4_base.specs.Value.{Value, Stat, Entry, Byte, Content, at_key}
-use Rattle.r4_base.specs.Volume.{HasObjects, HasStat, IsReached, is_directory, is_entry_in, root_object, stat_rank}
+use Rattle.r4_base.specs.Value.{Entry, Content, at_key}
+use Rattle.r4_base.specs.Volume.{HasObjects, IsReached, is_directory, is_entry_in, root_object, stat_rank}
 use Rattle.r4_base.specs.declared.items.Attr.{Attr}
 use Rattle.r4_base.specs.declared.items.Target.{Target}
 use Rattle.r4_content.specs.Course.{Course, Ask, Answer, Change, Ending, ending, of_content}
@@ -17,22 +16,22 @@ use Rattle.r4_content.specs.Edited.{Edits, Pairs, and_also, edited, pairs_betwee
 use Rattle.r4_content.specs.Entries.{entries_from, entries_to, if_empty, move, move_to, moved, moved_onto, rename, replace, with_entries}
 use Rattle.r4_content.specs.Fields.{HasBytes, HasNumbers}
 use Rattle.r4_content.specs.Lawful.{HasBodies, IsLawful}
-use Rattle.r4_content.specs.Meaning.{after, course, named, reply}
+use Rattle.r4_content.specs.Meaning.{after, named, reply}
 use Rattle.r4_content.specs.Objects.{Object, entry_less, entry_rank, is_among, is_dir, is_full, is_same, is_same_target, unnamed}
 use Rattle.r4_content.specs.Walk.{attr_at, attr_in, may_be_object}
 use Rattle.r4_content.specs.Ways.{Named, Place, entry_in, object_at, to_ends, to_entry, to_parent, with_attr}
 use Rattle.r4_content.specs.declared.command.Command.TheVariants.{Rename}
-use Rattle.r4_content.specs.declared.reply.Reply.TheVariants.{Okay, Absent, Clash, Isdir, Links, Loop, Notdir, Notempty}
+use Rattle.r4_content.specs.declared.reply.Reply.TheVariants.{Okay, Absent, Clash, Isdir, Links, Loop, Notdir}
 use Rattle.r4_content.proofs.Counting.{one_there}
 use Rattle.r4_content.proofs.EditParts.{or_false, true_not_false}
 use Rattle.r4_content.proofs.Found.{There, down, found, found_from, small_object, stat_there, start}
 use Rattle.r4_content.proofs.Keeping.{Stays}
 use Rattle.r4_content.proofs.Losing.{stat_one}
-use Rattle.r4_content.proofs.MoveEdits.{CanMove, can_move, comes_to, move_bodies, moving, old_not_new, others, same_sym}
-use Rattle.r4_content.proofs.Moving.{IsOver, Moves, moves_lawful}
+use Rattle.r4_content.proofs.MoveEdits.{CanMove, can_move, move_bodies, moving, old_not_new, others, same_sym}
+use Rattle.r4_content.proofs.Moving.{IsOver, moves_lawful}
 use Rattle.r4_content.proofs.Naming.{came_above, last_bytes}
 use Rattle.r4_content.proofs.OneObject.{by_done, numbers_of, stat_was}
-use Rattle.r4_content.proofs.Ranks.{root_is_object, same_itself, told_same}
+use Rattle.r4_content.proofs.Ranks.{root_is_object, same_itself}
 use Rattle.r4_content.proofs.Rewired.{entry_is, entry_same, not_entry}
 use Rattle.r4_content.proofs.SameWay.{IsThere, found_object, named_there, place_in, root_there, step_is, target_is}
 use Rattle.r4_content.proofs.Shapes.{entry_dir}
@@ -88,6 +87,7 @@ module _ (limit : ℕ) (m : Content) (dir o : Object) (name new_name : List ℕ)
       not_key t a rest p s k at found_rest is_here same =
           let aims : t ≡ o.target = some_entry s name t o.target (sym at ∙ ap (at_key m) same ∙ h.entry) in
           true_not_false (sym (same_itself o.target) ∙ ap (is_same_target o.target) (sym aims ∙ ap (λ (x : Object). x.target) (sym is_here)) ∙ on_way m o rest p r found_rest outside other)
+
       not_new_key : (t : Target) (a : Attr) (rest : List (List ℕ)) (p : Place) (s : List ℕ) (k : ℕ) → at_key m k ≡ Some (Entry s t) → IsThere m (record { target = t; attr = a }) → HasBytes rest → found_from m rest p ≡ There r → p.here ≡ record { target = t; attr = a }
           → k ≢ entry_rank r.here.target new_name
       not_new_key t a rest p s k at there_t rest_bytes found_rest is_here same = by_over over refl
@@ -107,6 +107,7 @@ module _ (limit : ℕ) (m : Content) (dir o : Object) (name new_name : List ℕ)
               let in_old = (entry_dir p.here.target x small (All-head (λ z. All (λ w. w < 256) z) x xs b)).0 ∙ ap (λ (u : Target). u.oid.0) p_is in
               let some = one_there (is_entry_in old.target.oid.0) m (entry_rank p.here.target x) (Entry x s2.target) at2 (eq-eqb (dir_of_key (key_of_rank (entry_rank p.here.target x))) old.target.oid.0 in_old) in
               absurd (omega arith)
+
           by_over : (b : Bool) → over ≡ b → ⊥
           by_over false is = not_entry (at_key m k) s t (ap (λ (x : ℕ). entry_in (at_key m x)) same ∙ h.free is) at
           by_over true is = by_rest is (some_entry s new_name t old.target (sym at ∙ ap (at_key m) same ∙ (h.onto is).entry)) rest rest_bytes found_rest
@@ -162,11 +163,12 @@ module _ (limit : ℕ) (m : Content) (dir o : Object) (name new_name : List ℕ)
 
   done : (over : Bool) (old : Object) → CanMove m dir o r.here name new_name over old → (over ≡ false → is_dir o ≡ true → is_same_target r.here.target dir.target ≡ false → r.here.attr.nlink < 2 ^ 32 - 1)
       → Stays limit (edited (moving dir name o r.here new_name over old) m)
-  done over old h few =
-      (moves_lawful m (edited (moving dir name o r.here new_name over old) m) dir o r.here name new_name over old lawful.objects
+  done over old h few = (
+    moves_lawful m (edited (moving dir name o r.here new_name over old) m) dir o r.here name new_name over old lawful.objects
         (can_move limit m dir o r.here name new_name over old lawful.objects lawful.bodies h lawful.room lawful.links few
-          (λ d. let out = e.outside d in way_there limit m dir o name new_name over old lawful.objects lawful.bodies numbers r h out.0 out.1 path e.path_bytes e.way)),
-        move_bodies limit m dir o r.here name new_name over old lawful.objects lawful.bodies h)
+        (λ d. let out = e.outside d in way_there limit m dir o name new_name over old lawful.objects lawful.bodies numbers r h out.0 out.1 path e.path_bytes e.way)),
+    move_bodies limit m dir o r.here name new_name over old lawful.objects lawful.bodies h,
+  )
 
   free_lawful : entry_in (at_key m (entry_rank r.here.target new_name)) ≡ None → HoldsAfter (ending (move_to dir name o r.here new_name None) (of_content m)).edits
   free_lawful free = by_test (is_dir o) (is_same dir r.here) (is_full r.here) refl refl refl
@@ -230,6 +232,7 @@ module _ (limit : ℕ) (m : Content) (dir o : Object) (name new_name : List ℕ)
               let there : IsThere m (record { target = x.target; attr = c }) = record { object = held.0; stat = stat } in
               subst (λ (w : Option Attr). HoldsAfter (ending (with_attr Absent (λ a. replace dir name o r.here new_name (record { target = x.target; attr = a })) w) (of_content m)).edits) (sym g)
               (replace_lawful (record { target = x.target; attr = c }) at there other)
+
       by_name : (p q : Bool) → bytes_eq x.name new_name ≡ p → is_same_target x.target o.target ≡ q
           → HoldsAfter (ending (if not p then Answer (Clash x.name) else if q then Answer Okay else object_at x.target (replace dir name o r.here new_name)) (of_content m)).edits
       by_name false q a b = (lawful.objects, lawful.bodies)
@@ -263,10 +266,12 @@ rename_lawful limit from to m lt lawful from_bytes to_bytes = by_done limit (Ren
   where
     numbers : HasNumbers m
     numbers = numbers_of limit m lt lawful
+
     some_target : (b : Bool) → (length to == 0) ≡ b → (ending (if b then Answer Loop else to_ends from to move) (of_content m)).reply ≡ Okay
         → ending (if b then Answer Loop else to_ends from to move) (of_content m) ≡ ending (to_entry Loop from (rename_from to)) (of_content m)
     some_target true e h = absurd cc
     some_target false e h = refl
+
     tests : (dir : Object) (n : List ℕ) (p q : Place) (new_name : List ℕ) (a b c : Bool) → is_dir q.here ≡ a → is_dir p.here ≡ b → (is_among p.here q.above || is_same p.here q.here) ≡ c
         → (ending (if not a then Answer Notdir else if b && c then Answer Loop else move dir n p.here q.here new_name) (of_content m)).reply ≡ Okay
         → (is_dir q.here ≡ true) × (is_dir p.here ≡ true → (is_among p.here q.above || is_same p.here q.here) ≡ false)
@@ -275,6 +280,7 @@ rename_lawful limit from to m lt lawful from_bytes to_bytes = by_done limit (Ren
     tests dir n p q new_name true true true e f g h = absurd cc
     tests dir n p q new_name true true false e f g h = (e, (λ d. g), refl)
     tests dir n p q new_name true false c e f g h = (e, (λ d. absurd (true_not_false (sym d ∙ f))), refl)
+
     done : reply limit (Rename from to) m ≡ Okay → Stays limit (after limit (Rename from to) m)
     done okay =
         let one = okay_named m from (named to (rename from to)) okay in
@@ -294,16 +300,16 @@ rename_lawful limit from to m lt lawful from_bytes to_bytes = by_done limit (Ren
         let fifth = fourth ∙ sym named_to ∙ d.ends in
         let (is, out, goes) = tests dir c.name p q new_name (is_dir q.here) (is_dir p.here) (is_among p.here q.above || is_same p.here q.here) refl refl refl (sym (ap (λ (x : Ending). x.reply) fifth) ∙ okay) in
         let e : Ends limit m dir p.here c.name new_name q (take (length to - 1) to) = record {
-              dir_there = c.above_there;
-              dir_is = c.above_is;
-              there = c.there;
-              new_there = found_object m numbers.orderings (take (length to - 1) to) q d.at;
-              new_is = is;
-              bytes = c.bytes;
-              new_bytes = last_bytes to d.some to_bytes;
-              entry = c.entry;
-              way = d.at;
-              path_bytes = All-take (λ x. All (λ y. y < 256) x) (length to - 1) to to_bytes;
-              outside = λ yes_dir. or_false (is_among p.here q.above) (is_same p.here q.here) (out yes_dir);
-            } in
+          dir_there = c.above_there;
+          dir_is = c.above_is;
+          there = c.there;
+          new_there = found_object m numbers.orderings (take (length to - 1) to) q d.at;
+          new_is = is;
+          bytes = c.bytes;
+          new_bytes = last_bytes to d.some to_bytes;
+          entry = c.entry;
+          way = d.at;
+          path_bytes = All-take (λ x. All (λ y. y < 256) x) (length to - 1) to to_bytes;
+          outside = λ yes_dir. or_false (is_among p.here q.above) (is_same p.here q.here) (out yes_dir);
+        } in
         subst (λ (x : Ending). Stays limit (edited x.edits m)) (sym (fifth ∙ goes)) (move_lawful limit m dir p.here c.name new_name q (take (length to - 1) to) lawful numbers e)

@@ -1,23 +1,22 @@
 -- Where an entry moves, and what stood there goes: the objects of a lawful content stay lawful.
-use Rattle.std.specs.Prelude.{◌≡◌, ◌≢◌, ◌⊎◌, ℕ, zero, suc, ◌+◌, ◌-◌, ◌^◌, ◌<◌, ◌≤◌, List, [], ◌∷◌, Bool, true, false, ◌&&◌, ◌==◌, cond, nat_lt, All, Option, Some, None, if◌then◌else◌}
+use Rattle.std.specs.Prelude.{◌≡◌, ◌≢◌, ◌⊎◌, ℕ, suc, ◌+◌, ◌-◌, ◌^◌, ◌<◌, ◌≤◌, List, Bool, true, false, ◌&&◌, All, Option, Some, None, if◌then◌else◌}
 use Rattle.std.proofs.Common.{arith, inl, inr, refl, sym, ap, subst, ◌∙◌}
-use Rattle.std.proofs.lemmas.Bool.{cases_lt, eq-eqb, eqb-true, ne_eqb}
-use Rattle.std.proofs.lemmas.Grind.{common_steps}
+use Rattle.std.proofs.lemmas.Bool.{cases_lt, eq-eqb, ne_eqb}
 use Rattle.std.proofs.lemmas.Option.{same_Some}
 use Rattle.r4_base.specs.Key.{key_of_rank}
 use Rattle.r4_base.specs.Name.{dir_of_key}
-use Rattle.r4_base.specs.Value.{Value, Stat, Entry, Byte, Content, at_key}
-use Rattle.r4_base.specs.Volume.{HasObjects, HasStat, IsObject, IsReached, directories_in, entries_in, is_directory, is_directory_value, is_entry_in, links_to, names_directory, names_object, root_object, stat_rank}
+use Rattle.r4_base.specs.Value.{Value, Entry, Content, at_key}
+use Rattle.r4_base.specs.Volume.{HasObjects, HasStat, IsReached, entries_in, is_directory, is_directory_value, is_entry_in, names_directory, root_object}
 use Rattle.r4_base.specs.declared.items.Attr.{Attr}
 use Rattle.r4_base.specs.declared.items.Target.{Target}
 use Rattle.r4_content.specs.Objects.{Object, entry_less, entry_more, entry_rank, is_dir, is_same_target, link_less}
-use Rattle.r4_content.specs.Ways.{Named, entry_in}
-use Rattle.r4_content.proofs.Counting.{at_least, count, here, here_no, here_none, here_yes, not_same, once, one_there}
+use Rattle.r4_content.specs.Ways.{entry_in}
+use Rattle.r4_content.proofs.Counting.{at_least, count, here, here_no, here_yes, one_there}
 use Rattle.r4_content.proofs.EditParts.{true_not_false}
-use Rattle.r4_content.proofs.Gaining.{more_kind, more_links, more_size, stat_same}
-use Rattle.r4_content.proofs.Losing.{less_kind, less_links, less_size, named_no_root, named_once_gone, not_in_itself, one_target, rest_file, rest_none, rest_of, stat_one}
-use Rattle.r4_content.proofs.Ranks.{entry_not_stat, same_itself, told_same}
-use Rattle.r4_content.proofs.Rewired.{IsPlaced, OnEntries, Rewired, both_here, directory_in, directory_on, entry_on, here_empty, named, named_on, names_itself, names_other, not_entry, rewired_lawful}
+use Rattle.r4_content.proofs.Gaining.{more_kind, more_links, more_size}
+use Rattle.r4_content.proofs.Losing.{less_kind, less_links, less_size, named_no_root, named_once_gone, not_in_itself, one_target, rest_file, rest_of, stat_one}
+use Rattle.r4_content.proofs.Ranks.{same_itself, told_same}
+use Rattle.r4_content.proofs.Rewired.{IsPlaced, OnEntries, both_here, directory_in, directory_on, entry_on, here_empty, named, named_on, names_other, not_entry, rewired_lawful}
 use Rattle.r4_content.proofs.Shapes.{entry_dir}
 
 -- ---- what a directory becomes: first the old object's entry leaves it, then the moved one's, and then that comes
@@ -156,6 +155,7 @@ module _ (m n : Content) (dir o new : Object) (name new_name : List ℕ) (over :
     where
       x : IsOver m o new old new_name
       x = h.onto is
+
       by_kind : (b : Bool) → is_dir old ≡ b → ⊥
       by_kind true d =
           let (steps, reached) = lawful.reached old.target old.attr x.stat in
@@ -167,6 +167,7 @@ module _ (m n : Content) (dir o new : Object) (name new_name : List ℕ) (over :
     where
       x : IsOver m o new old new_name
       x = h.onto is
+
       by_kind : (b : Bool) → is_dir old ≡ b → ⊥
       by_kind true d =
           let none = x.empty d in
@@ -180,6 +181,7 @@ module _ (m n : Content) (dir o new : Object) (name new_name : List ℕ) (over :
     where
       pick : (b : Bool) (t : Target) (a : Attr) → (over && is_same_target t old.target) ≡ b → become t a ≡ (if b then rest_of old else Some (parent dir.target new.target over (is_dir o) t a))
       pick b t a e = ap (λ (c : Bool). if c then rest_of old else Some (parent dir.target new.target over (is_dir o) t a)) e
+
       by_test : (p q : Bool) → over ≡ p → is_same_target t old.target ≡ q
           → ((over ≡ true) × (t ≡ old.target) × ((a : Attr) → become t a ≡ rest_of old)) ⊎ (((over ≡ true → t ≢ old.target)) × ((a : Attr) → become t a ≡ Some (parent dir.target new.target over (is_dir o) t a)))
       by_test true true e f = inl (e, told_same t old.target f, λ a. pick true t a (ap (λ (c : Bool). c && is_same_target t old.target) e ∙ f))
@@ -210,17 +212,17 @@ module _ (m n : Content) (dir o new : Object) (name new_name : List ℕ) (over :
   stays : (k : ℕ) (s : List ℕ) (t : Target) (a : Attr) → k ≢ new_key → at_key m k ≡ Some (Entry s t) → HasStat m t a → (b : Attr) × (become t a ≡ Some b)
   stays k s t a ne at there =
       stays_unless t a (λ is same gone.
-        let x = h.onto is in
-        ne (sym (named_once_gone m lawful old new_key k new_name s x.stat gone x.entry (at ∙ ap (λ (u : Target). Some (Entry s u)) same))))
+      let x = h.onto is in
+      ne (sym (named_once_gone m lawful old new_key k new_name s x.stat gone x.entry (at ∙ ap (λ (u : Target). Some (Entry s u)) same))))
 
   holder_stays : (k : ℕ) (s : List ℕ) (t p : Target) (a : Attr) → at_key m k ≡ Some (Entry s t) → HasStat m p a → is_directory a ≡ true → dir_of_key (key_of_rank k) ≡ p.oid.0 → (b : Attr) × (become p a ≡ Some b)
   holder_stays k s t p a at there is in_p =
       stays_unless p a (λ yes_over same gone.
-        let x = h.onto yes_over in
-        let attr = stat_one m lawful p old.target a old.attr there x.stat same in
-        let none = x.empty (ap is_directory (sym attr) ∙ is) in
-        let some = one_there (is_entry_in old.target.oid.0) m k (Entry s t) at (eq-eqb (dir_of_key (key_of_rank k)) old.target.oid.0 (in_p ∙ ap (λ (u : Target). u.oid.0) same)) in
-        absurd (omega arith))
+      let x = h.onto yes_over in
+      let attr = stat_one m lawful p old.target a old.attr there x.stat same in
+      let none = x.empty (ap is_directory (sym attr) ∙ is) in
+      let some = one_there (is_entry_in old.target.oid.0) m k (Entry s t) at (eq-eqb (dir_of_key (key_of_rank k)) old.target.oid.0 (in_p ∙ ap (λ (u : Target). u.oid.0) same)) in
+      absurd (omega arith))
 
   root_stays : (a : Attr) → HasStat m root_object a → (b : Attr) × (become root_object a ≡ Some b)
   root_stays a there = stays_unless root_object a (λ is same gone. named_no_root m lawful new_key new_name old.target (h.onto is).entry (sym same))
@@ -313,11 +315,11 @@ module _ (m n : Content) (dir o new : Object) (name new_name : List ℕ) (over :
         let x = is_same_target t dir.target in
         let y = is_same_target t new.target in
         let one : here p key (at_key m key) ≡ one_if (x && is_dir o)
-              = left_here p ∙ ap (λ (c : Bool). one_if (c && names_directory m (Entry name o.target))) (in_dir_test t a there) ∙ ap (λ (c : Bool). one_if (x && c)) (ap is_directory_value h.stat.1) in
+        = left_here p ∙ ap (λ (c : Bool). one_if (c && names_directory m (Entry name o.target))) (in_dir_test t a there) ∙ ap (λ (c : Bool). one_if (x && c)) (ap is_directory_value h.stat.1) in
         let two : here p new_key (at_key m new_key) ≡ one_if ((over && y) && is_dir o) = old_here p (directory_on m t.oid.0) ∙ old_test t a there in
         let three = gone_none q (directory_on n t.oid.0) in
         let four : here q new_key (at_key n new_key) ≡ one_if (y && is_dir o)
-              = came_here q ∙ ap (λ (c : Bool). one_if (c && names_directory n (Entry new_name o.target))) (in_new_test t o.target a there) ∙ ap (λ (c : Bool). one_if (y && c)) names_moved in
+        = came_here q ∙ ap (λ (c : Bool). one_if (c && names_directory n (Entry new_name o.target))) (in_new_test t o.target a there) ∙ ap (λ (c : Bool). one_if (y && c)) names_moved in
         let links : a.nlink ≡ 2 + count p m = (lawful.directories t a there is).1 in
         let least = at_least p m key new_key apart in
         let moved = moved_links (over && y) x y (is_dir o) a (h.fits t a there) (omega arith) (room t a there) in
@@ -353,12 +355,14 @@ module _ (m n : Content) (dir o new : Object) (name new_name : List ℕ) (over :
           by_test : (b : Bool) → is_same_target t new.target ≡ b → b ≡ false
           by_test false e = refl
           by_test true e = absurd (true_not_false (sym h.new_is ∙ ap is_directory (sym (stat_one m lawful t new.target a new.attr there h.new_stat (told_same t new.target e))) ∙ file))
+
       not_dir : is_same_target t dir.target ≡ false
       not_dir = by_test (is_same_target t dir.target) refl
         where
           by_test : (b : Bool) → is_same_target t dir.target ≡ b → b ≡ false
           by_test false e = refl
           by_test true e = absurd (true_not_false (sym h.dir_is ∙ ap is_directory (sym (stat_one m lawful t dir.target a dir.attr there h.dir_stat (told_same t dir.target e))) ∙ file))
+
       by_over : (b : Bool) → less_if (b && false) (is_dir o) a ≡ a
       by_over true = refl
       by_over false = refl
@@ -389,7 +393,7 @@ module _ (m n : Content) (dir o new : Object) (name new_name : List ℕ) (over :
       elim (stays_as t a b there e) [
         | inl (yes_over, same, attr, is_file, some, left) ↦
             let two : here (named t) new_key (at_key m new_key) ≡ 1
-                  = old_here (named t) (named_on t) ∙ ap (λ (c : Bool). one_if (c && named t (new_key, Entry new_name old.target))) yes_over ∙ ap one_if (ap (λ (u : Target). is_same_target u t) (sym same) ∙ same_itself t) in
+            = old_here (named t) (named_on t) ∙ ap (λ (c : Bool). one_if (c && named t (new_key, Entry new_name old.target))) yes_over ∙ ap one_if (ap (λ (u : Target). is_same_target u t) (sym same) ∙ same_itself t) in
             let less : b.nlink ≡ a.nlink - 1 = ap (λ (c : Attr). c.nlink) left in
             let links : a.nlink ≡ old.attr.nlink = ap (λ (c : Attr). c.nlink) attr in
             omega arith

@@ -1,7 +1,7 @@
 -- Keys, sizes and bytes stay lawful where one object's attributes and bytes change.
-use Rattle.std.specs.Prelude.{◌≡◌, ◌≢◌, ◌⊎◌, ◌↔◌, ℕ, ◌+◌, ◌*◌, ◌^◌, ◌<◌, ◌≤◌, List, [], ◌∷◌, Bool, true, false, ◌&&◌, ◌||◌, ◌==◌, cond, nat_le, nat_lt, length, Option, Some, None, if◌then◌else◌}
+use Rattle.std.specs.Prelude.{◌≡◌, ◌⊎◌, ◌↔◌, ℕ, ◌+◌, ◌^◌, ◌<◌, ◌≤◌, List, [], ◌∷◌, Bool, true, false, ◌&&◌, ◌||◌, ◌==◌, cond, nat_lt, length, Some, None, if◌then◌else◌}
 use Rattle.std.proofs.Common.{arith, inl, inr, refl, sym, ap, subst, ◌∙◌}
-use Rattle.std.proofs.lemmas.Bool.{cases_lt, eq-eqb, eqb-true, lt-ltb}
+use Rattle.std.proofs.lemmas.Bool.{cases_lt, lt-ltb}
 use Rattle.std.proofs.lemmas.Grind.{common_steps}
 use Rattle.std.proofs.lemmas.Option.{same_Some}
 use Rattle.std.specs.Cmp.{unsigned_tied}
@@ -14,20 +14,19 @@ use Rattle.r4_base.specs.Volume.{HasStat, IsObject, KeyFits, byte_rank, is_direc
 use Rattle.r4_base.specs.declared.items.Attr.{Attr}
 use Rattle.r4_base.specs.declared.items.Target.{Target}
 use Rattle.r4_content.specs.Bodies.{fill_gap, larger, resize, truncated, written}
-use Rattle.r4_content.specs.Edited.{Edits, and_also, edited, is_between, is_in, no_edits, put_keys}
+use Rattle.r4_content.specs.Edited.{Edits, and_also, edited, is_between, no_edits}
 use Rattle.r4_content.specs.Lawful.{HasBodies, HasByte}
 use Rattle.r4_content.specs.Objects.{Object, byte_pairs, cut_body, is_dir, is_same_target, set_attr, set_body, sized, zero_body}
 use Rattle.r4_content.proofs.BytePairs.{keys_in}
-use Rattle.r4_content.proofs.CourseLaws.{or_left}
 use Rattle.r4_content.proofs.EditLaws.{at_edited, edited_off}
-use Rattle.r4_content.proofs.EditParts.{IsOff, edited_first, edited_second, is_off, off_both, true_not_false}
+use Rattle.r4_content.proofs.EditParts.{IsOff, edited_first, is_off, off_both, true_not_false}
 use Rattle.r4_content.proofs.FileEdits.{EditsFile, IsElsewhere, off_attr, off_resize, other_stat, put_itself, resized, resized_kind, resized_size}
 use Rattle.r4_content.proofs.Gaining.{stat_same}
-use Rattle.r4_content.proofs.Keeping.{IsKeptFile, IsWholeFile, KeepsBodies, bodies_kept, plain_fits, stat_fit}
+use Rattle.r4_content.proofs.Keeping.{IsKeptFile, IsWholeFile, bodies_kept, stat_fit}
 use Rattle.r4_content.proofs.Ranks.{byte_after, same_bytes, same_itself, stat_not_byte, told_same}
 use Rattle.r4_content.proofs.SameWay.{IsThere}
 use Rattle.r4_content.proofs.Shapes.{where_is}
-use Rattle.r4_content.proofs.Writing.{cut_or_grown, truncate_edits, write_edits, written_bytes}
+use Rattle.r4_content.proofs.Writing.{cut_or_grown, written_bytes}
 
 -- What stands where after one object's stat data changed, and its bytes with them.
 pub record ChangesOne (limit : ℕ) (m n : Content) (o : Object) (b : Attr) : Type 0 where
@@ -96,7 +95,7 @@ module _ (limit : ℕ) (m n : Content) (o : Object) (b : Attr) (bodies : HasBodi
   one_bodies = bodies_kept limit m n bodies (record {
     fits = fits;
     alive = λ t a x y was file lt at. alive t a was file;
-    files = λ t c there file. elim (files t c there file) [ | inl kept ↦ inl kept | inr whole ↦ inr (inr whole) ];
+    files = λ t c there file. elim (files t c there file) [ inl kept ↦ inl kept | inr whole ↦ inr (inr whole) ];
     bytes = lengths;
   })
 
@@ -116,6 +115,7 @@ attr_bodies limit m o b bodies was kind size length_too = one_bodies limit m (ed
     same_byte : (x : ℕ) → x < 2 ^ 64 → at_key (edited (set_attr o b) m) (byte_rank o.target x) ≡ at_key m (byte_rank o.target x)
     same_byte x lt =
         edited_off (set_attr o b) m (byte_rank o.target x) (is_off (set_attr o b) (byte_rank o.target x) (off_attr o b (byte_rank o.target x) (λ e. stat_not_byte o.target o.target x was.0 was.0 lt (sym e))))
+
     by_value : (x : ℕ) → x < 2 ^ 64 → (v : Value) → at_key (edited (set_attr o b) m) (byte_rank o.target x) ≡ Some v → KeyFits m (key_of_rank (byte_rank o.target x)) v → KeyFits (edited (set_attr o b) m) (key_of_rank (byte_rank o.target x)) v
     by_value x lt (Stat a) at f = f
     by_value x lt (Entry s t) at f = f
@@ -151,15 +151,18 @@ file_bodies limit m o n e bodies was file small edits touches = one_bodies limit
         by_size : (b : Bool) → (if b then o.attr else sized o.attr n).bytes ≡ (if b then o.attr else sized o.attr n).size
         by_size true = bodies.bytes o.target o.attr was
         by_size false = refl
+
     byte_fit : (x y : ℕ) → x < 2 ^ 64 → KeyFits (edited e m) (key_of_rank (byte_rank o.target x)) (Byte y)
     byte_fit x y lt =
         let back = byte_back o.target x was.0 lt in
         let aims : object_of (key_of_rank (byte_rank o.target x)) ≡ o.target = ap object_of back ∙ byte_object o.target x in
         (ap minor_of back ∙ omega arith, (resized n o.attr, subst (λ (u : Target). HasStat (edited e m) u (resized n o.attr)) (sym aims) (was.0, edits.size), resized_kind n o.attr ∙ file))
+
     by_value : (x : ℕ) → x < 2 ^ 64 → (v : Value) → KeyFits m (key_of_rank (byte_rank o.target x)) v → KeyFits (edited e m) (key_of_rank (byte_rank o.target x)) v
     by_value x lt (Stat a) f = f
     by_value x lt (Entry s t) f = f
     by_value x lt (Byte y) f = byte_fit x y lt
+
     body : (x : ℕ) (v : Value) → x < 2 ^ 64 → at_key (edited e m) (byte_rank o.target x) ≡ Some v → KeyFits (edited e m) (key_of_rank (byte_rank o.target x)) v
     body x v lt at = elim (touches.values x lt) [
       | inl (y, has) ↦ subst (λ (w : Value). KeyFits (edited e m) (key_of_rank (byte_rank o.target x)) w) (same_Some (Byte y) v (sym has ∙ at)) (byte_fit x y lt)
@@ -195,7 +198,7 @@ found_byte : (from : ℕ) (xs : List ℕ) (k : ℕ) → is_between from (from + 
 found_byte from [] k e = absurd (nothing_in e)
   where
     nothing_in : is_between from (from + 0) k ≡ true → ⊥
-    nothing_in h = elim (between_cases from (from + 0) k true h) [ | inl (a, b, c) ↦ absurd (omega arith) | inr (a, b) ↦ absurd (true_not_false a) ]
+    nothing_in h = elim (between_cases from (from + 0) k true h) [ inl (a, b, c) ↦ absurd (omega arith) | inr (a, b) ↦ absurd (true_not_false a) ]
 found_byte from (x ∷ xs) k e = by_first (k == from) refl (found_byte (from + 1) xs k)
   where
     by_first : (b : Bool) → (k == from) ≡ b → (is_between (from + 1) (from + 1 + length xs) k ≡ true → (y : ℕ) × (find nat_cmp k (byte_pairs (from + 1) xs) ≡ Some (Byte y)))
@@ -215,6 +218,7 @@ gap_at m o to x = by_size (nat_lt o.attr.size to)
     or_nothing : (b : Bool) → (b || false) ≡ b
     or_nothing true = refl
     or_nothing false = refl
+
     by_size : (b : Bool) → at_key (edited (if b then zero_body o o.attr.size to else no_edits) m) (byte_rank o.target x) ≡ cond (b && is_between o.attr.size to x) (Some (Byte 0)) (at_key m (byte_rank o.target x))
     by_size true =
         at_edited (zero_body o o.attr.size to) m (byte_rank o.target x)
@@ -234,7 +238,7 @@ in_gap a b x e = elim (between_cases a b x (is_between a b x) refl) [
 not_in_gap : (a b x : ℕ) → (nat_lt a b && is_between a b x) ≡ false → a ≤ x → x < b → ⊥
 not_in_gap a b x e low high = elim (between_cases a b x (is_between a b x) refl) [
   | inl (y, c, d) ↦ true_not_false (sym (ap (λ (p : Bool). p && is_between a b x) (lt-ltb a b (omega arith)) ∙ y) ∙ e)
-  | inr (y, other) ↦ elim other [ | inl below ↦ absurd (omega arith) | inr above ↦ absurd (omega arith) ]
+  | inr (y, other) ↦ elim other [ inl below ↦ absurd (omega arith) | inr above ↦ absurd (omega arith) ]
 ]
 
 pub larger_cases : (a b : ℕ) → ((larger a b ≡ a) × (b ≤ a)) ⊎ ((larger a b ≡ b) × (a < b))
@@ -249,6 +253,7 @@ write_touches limit m o from xs bodies was there file fits some = record { offse
   where
     inside_bytes : (x : ℕ) (b : Bool) → is_between from (from + length xs) x ≡ b → is_between (byte_rank o.target from) (byte_rank o.target from + length xs) (byte_rank o.target x) ≡ b
     inside_bytes x b e = ap (λ (end : ℕ). is_between (byte_rank o.target from) end (byte_rank o.target x)) (sym (byte_after o.target from (length xs))) ∙ between_bytes o.target from (from + length xs) x ∙ e
+
     outside : (x : ℕ) → x < 2 ^ 64 → is_between from (from + length xs) x ≡ false
         → at_key (edited (written o from xs) m) (byte_rank o.target x) ≡ cond (nat_lt o.attr.size from && is_between o.attr.size from x) (Some (Byte 0)) (at_key m (byte_rank o.target x))
     outside x lt e =
@@ -256,15 +261,16 @@ write_touches limit m o from xs bodies was there file fits some = record { offse
         let body_off : IsOff (set_body o from xs) (byte_rank o.target x) = record { puts = keys_in (byte_rank o.target from) xs (byte_rank o.target x) ∙ inside_bytes x false e; zeros = refl; cuts = refl } in
         let size_off = off_resize o n (byte_rank o.target x) (λ s. stat_not_byte o.target o.target x was.0 was.0 lt (sym s)) in
         edited_first (fill_gap o from) (and_also (set_body o from xs) (resize o n)) m (byte_rank o.target x) (off_both (set_body o from xs) (resize o n) (byte_rank o.target x) body_off size_off) ∙ gap_at m o from x
+
     all : (x : ℕ) → x < 2 ^ 64 → (HasByte (edited (written o from xs) m) o.target x ↔ (x < larger o.attr.size (from + length xs)))
         × (HasByte (edited (written o from xs) m) o.target x
-          ⊎ ((at_key (edited (written o from xs) m) (byte_rank o.target x) ≡ at_key m (byte_rank o.target x)) ⊎ (at_key (edited (written o from xs) m) (byte_rank o.target x) ≡ None)))
+        ⊎ ((at_key (edited (written o from xs) m) (byte_rank o.target x) ≡ at_key m (byte_rank o.target x)) ⊎ (at_key (edited (written o from xs) m) (byte_rank o.target x) ≡ None)))
     all x lt = by_inside (is_between from (from + length xs) x) (nat_lt o.attr.size from && is_between o.attr.size from x) refl refl
       where
         by_inside : (p q : Bool) → is_between from (from + length xs) x ≡ p → (nat_lt o.attr.size from && is_between o.attr.size from x) ≡ q
             → (HasByte (edited (written o from xs) m) o.target x ↔ (x < larger o.attr.size (from + length xs)))
             × (HasByte (edited (written o from xs) m) o.target x
-              ⊎ ((at_key (edited (written o from xs) m) (byte_rank o.target x) ≡ at_key m (byte_rank o.target x)) ⊎ (at_key (edited (written o from xs) m) (byte_rank o.target x) ≡ None)))
+            ⊎ ((at_key (edited (written o from xs) m) (byte_rank o.target x) ≡ at_key m (byte_rank o.target x)) ⊎ (at_key (edited (written o from xs) m) (byte_rank o.target x) ≡ None)))
         by_inside true q e f =
             let bytes_in_it = inside_bytes x true e in
             let (y, found) = found_byte (byte_rank o.target from) xs (byte_rank o.target x) bytes_in_it in
@@ -273,18 +279,22 @@ write_touches limit m o from xs bodies was there file fits some = record { offse
           where
             below : is_between from (from + length xs) x ≡ true → x < larger o.attr.size (from + length xs)
             below g = elim (between_cases from (from + length xs) x true g) [
-              | inl (a, b, c) ↦ elim (larger_cases o.attr.size (from + length xs)) [ | inl (d, i) ↦ omega arith | inr (d, i) ↦ omega arith ]
+              | inl (a, b, c) ↦ elim (larger_cases o.attr.size (from + length xs)) [ inl (d, i) ↦ omega arith | inr (d, i) ↦ omega arith ]
               | inr (a, b) ↦ absurd (true_not_false a)
             ]
         by_inside false true e f =
             let has : HasByte (edited (written o from xs) m) o.target x = (0, outside x lt e ∙ ap (λ (c : Bool). cond c (Some (Byte 0)) (at_key m (byte_rank o.target x))) f) in
             let (low, high) = in_gap o.attr.size from x f in
-            (((λ h. elim (larger_cases o.attr.size (from + length xs)) [ | inl (d, i) ↦ omega arith | inr (d, i) ↦ omega arith ]), (λ h. has)), inl has)
+            (((λ h. elim (larger_cases o.attr.size (from + length xs)) [ inl (d, i) ↦ omega arith | inr (d, i) ↦ omega arith ]), (λ h. has)), inl has)
         by_inside false false e f =
             let same = outside x lt e ∙ ap (λ (c : Bool). cond c (Some (Byte 0)) (at_key m (byte_rank o.target x))) f in
-            let (has_below, below_has) = bodies.offsets o.target o.attr was file x lt in
-            (((λ (y, at). let below = has_below (y, sym same ∙ at) in elim (larger_cases o.attr.size (from + length xs)) [ | inl (d, i) ↦ omega arith | inr (d, i) ↦ omega arith ]),
-              (λ h. let (y, at) = below_has (old_below e f h) in (y, same ∙ at))), inr (inl same))
+            let (has_below, below_has) = bodies.offsets o.target o.attr was file x lt in (
+              (
+                (λ (y, at). let below = has_below (y, sym same ∙ at) in elim (larger_cases o.attr.size (from + length xs)) [ inl (d, i) ↦ omega arith | inr (d, i) ↦ omega arith ]),
+                (λ h. let (y, at) = below_has (old_below e f h) in (y, same ∙ at)),
+              ),
+              inr (inl same),
+            )
           where
             old_below : is_between from (from + length xs) x ≡ false → (nat_lt o.attr.size from && is_between o.attr.size from x) ≡ false → x < larger o.attr.size (from + length xs) → x < o.attr.size
             old_below g i h = elim (cases_lt x o.attr.size) [
@@ -293,7 +303,7 @@ write_touches limit m o from xs bodies was there file fits some = record { offse
                 | inl (d, j) ↦ absurd (omega arith)
                 | inr (d, j) ↦ elim (between_cases from (from + length xs) x false g) [
                   | inl (a, b, c) ↦ absurd (true_not_false (sym a))
-                  | inr (a, b) ↦ elim b [ | inl before ↦ absurd (not_in_gap o.attr.size from x i ge before) | inr behind ↦ absurd (omega arith) ]
+                  | inr (a, b) ↦ elim b [ inl before ↦ absurd (not_in_gap o.attr.size from x i ge before) | inr behind ↦ absurd (omega arith) ]
                 ]
               ]
             ]
@@ -304,36 +314,43 @@ truncate_touches limit m o n bodies was file = record { offsets = λ x lt. (all 
     first_alone : (x : ℕ) → x < 2 ^ 64 → at_key (edited (truncated o n) m) (byte_rank o.target x) ≡ at_key (edited (cut_or_grown o n (nat_lt n o.attr.size)) m) (byte_rank o.target x)
     first_alone x lt =
         edited_first (cut_or_grown o n (nat_lt n o.attr.size)) (resize o n) m (byte_rank o.target x) (off_resize o n (byte_rank o.target x) (λ s. stat_not_byte o.target o.target x was.0 was.0 lt (sym s)))
+
     or_nothing : (b : Bool) → (b || false) ≡ b
     or_nothing true = refl
     or_nothing false = refl
+
     cut_at_it : (x : ℕ) → at_key (edited (cut_body o n o.attr.size) m) (byte_rank o.target x) ≡ cond (is_between n o.attr.size x) None (at_key m (byte_rank o.target x))
     cut_at_it x =
         at_edited (cut_body o n o.attr.size) m (byte_rank o.target x)
         ∙ ap (λ (c : Bool). cond c None (at_key m (byte_rank o.target x))) (or_nothing (is_between (byte_rank o.target n) (byte_rank o.target o.attr.size) (byte_rank o.target x)) ∙ between_bytes o.target n o.attr.size x)
+
     all : (x : ℕ) → x < 2 ^ 64 → (HasByte (edited (truncated o n) m) o.target x ↔ (x < n))
         × (HasByte (edited (truncated o n) m) o.target x
-          ⊎ ((at_key (edited (truncated o n) m) (byte_rank o.target x) ≡ at_key m (byte_rank o.target x)) ⊎ (at_key (edited (truncated o n) m) (byte_rank o.target x) ≡ None)))
+        ⊎ ((at_key (edited (truncated o n) m) (byte_rank o.target x) ≡ at_key m (byte_rank o.target x)) ⊎ (at_key (edited (truncated o n) m) (byte_rank o.target x) ≡ None)))
     all x lt = by_cut (nat_lt n o.attr.size) (is_between n o.attr.size x) (nat_lt o.attr.size n && is_between o.attr.size n x) refl refl refl
       where
         no_value : (y : ℕ) → Some (Byte y) ≡ None → ⊥
         no_value y g = cc
+
         at_first : (b : Bool) → nat_lt n o.attr.size ≡ b → at_key (edited (truncated o n) m) (byte_rank o.target x) ≡ at_key (edited (cut_or_grown o n b) m) (byte_rank o.target x)
         at_first b e = first_alone x lt ∙ ap (λ (c : Bool). at_key (edited (cut_or_grown o n c) m) (byte_rank o.target x)) e
+
         not_less : nat_lt n o.attr.size ≡ false → o.attr.size ≤ n
         not_less e = grind (arith, common_steps)
+
         less : nat_lt n o.attr.size ≡ true → n < o.attr.size
         less e = grind (arith, common_steps)
+
         by_cut : (p q r : Bool) → nat_lt n o.attr.size ≡ p → is_between n o.attr.size x ≡ q → (nat_lt o.attr.size n && is_between o.attr.size n x) ≡ r
             → (HasByte (edited (truncated o n) m) o.target x ↔ (x < n))
             × (HasByte (edited (truncated o n) m) o.target x
-              ⊎ ((at_key (edited (truncated o n) m) (byte_rank o.target x) ≡ at_key m (byte_rank o.target x)) ⊎ (at_key (edited (truncated o n) m) (byte_rank o.target x) ≡ None)))
+            ⊎ ((at_key (edited (truncated o n) m) (byte_rank o.target x) ≡ at_key m (byte_rank o.target x)) ⊎ (at_key (edited (truncated o n) m) (byte_rank o.target x) ≡ None)))
         by_cut true true r e f g =
             let none = at_first true e ∙ cut_at_it x ∙ ap (λ (c : Bool). cond c None (at_key m (byte_rank o.target x))) f in
             (((λ (y, at). absurd (no_value y (sym at ∙ none))), (λ h. absurd (not_cut h))), inr (inr none))
           where
             not_cut : x < n → ⊥
-            not_cut h = elim (between_cases n o.attr.size x true f) [ | inl (a, b, c) ↦ absurd (omega arith) | inr (a, b) ↦ absurd (true_not_false a) ]
+            not_cut h = elim (between_cases n o.attr.size x true f) [ inl (a, b, c) ↦ absurd (omega arith) | inr (a, b) ↦ absurd (true_not_false a) ]
         by_cut true false r e f g =
             let same = at_first true e ∙ cut_at_it x ∙ ap (λ (c : Bool). cond c None (at_key m (byte_rank o.target x))) f in
             let (has_below, below_has) = bodies.offsets o.target o.attr was file x lt in
@@ -343,7 +360,7 @@ truncate_touches limit m o n bodies was file = record { offsets = λ x lt. (all 
             outside : x < o.attr.size → x < n
             outside h = elim (between_cases n o.attr.size x false f) [
               | inl (a, b, c) ↦ absurd (true_not_false (sym a))
-              | inr (a, b) ↦ elim b [ | inl before ↦ before | inr behind ↦ absurd (omega arith) ]
+              | inr (a, b) ↦ elim b [ inl before ↦ before | inr behind ↦ absurd (omega arith) ]
             ]
         by_cut false q true e f g =
             let has : HasByte (edited (truncated o n) m) o.target x = (0, at_first false e ∙ gap_at m o n x ∙ ap (λ (c : Bool). cond c (Some (Byte 0)) (at_key m (byte_rank o.target x))) g) in
@@ -356,4 +373,4 @@ truncate_touches limit m o n bodies was file = record { offsets = λ x lt. (all 
             (((λ (y, at). let below = has_below (y, sym same ∙ at) in omega arith), (λ h. let (y, at) = below_has (old_below h) in (y, same ∙ at))), inr (inl same))
           where
             old_below : x < n → x < o.attr.size
-            old_below h = elim (cases_lt x o.attr.size) [ | inl below ↦ below | inr ge ↦ absurd (not_in_gap o.attr.size n x g ge h) ]
+            old_below h = elim (cases_lt x o.attr.size) [ inl below ↦ below | inr ge ↦ absurd (not_in_gap o.attr.size n x g ge h) ]

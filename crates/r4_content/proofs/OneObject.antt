@@ -1,25 +1,25 @@
 -- Commands that change one object's attributes and bytes leave the objects of a lawful content lawful.
-use Rattle.std.specs.Prelude.{◌≡◌, ◌≢◌, ◌⊎◌, ℕ, ◌+◌, ◌*◌, ◌/◌, ◌%◌, ◌^◌, ◌<◌, ◌≤◌, List, [], ◌∷◌, ◌++◌, Bool, true, false, ◌==◌, cond, nat_lt, length, replicate, Option, Some, None, if◌then◌else◌}
-use Rattle.std.proofs.Common.{arith, inl, inr, lit<, refl, sym, ap, subst, ◌∙◌}
-use Rattle.r4_base.specs.Value.{Value, Stat, Entry, Byte, Content, at_key}
-use Rattle.r4_base.specs.Volume.{HasObjects, HasStat, byte_rank, is_directory, stat_rank}
+use Rattle.std.specs.Prelude.{◌≡◌, ℕ, ◌+◌, ◌*◌, ◌/◌, ◌%◌, ◌^◌, ◌<◌, ◌≤◌, List, [], ◌∷◌, ◌++◌, Bool, true, false, ◌==◌, cond, nat_lt, length, replicate, Option, Some, None, if◌then◌else◌}
+use Rattle.std.proofs.Common.{arith, inl, inr, refl, sym, ap, subst, ◌∙◌}
+use Rattle.r4_base.specs.Value.{Value, Stat, Byte, Content, at_key}
+use Rattle.r4_base.specs.Volume.{HasStat, byte_rank, is_directory, stat_rank}
 use Rattle.r4_base.specs.declared.items.Attr.{Attr}
 use Rattle.r4_base.specs.declared.items.Target.{Target}
 use Rattle.r4_content.specs.Bodies.{fill_gap, larger, resize, truncated, written}
 use Rattle.r4_content.specs.Course.{Course, Answer, Change, Ending, ending, of_content}
-use Rattle.r4_content.specs.Edited.{Edits, Pairs, and_also, edited, is_in, no_edits}
+use Rattle.r4_content.specs.Edited.{Edits, Pairs, edited, is_in, no_edits}
 use Rattle.r4_content.specs.Fields.{HasNumbers}
 use Rattle.r4_content.specs.Lawful.{HasBodies, IsLawful}
 use Rattle.r4_content.specs.Meaning.{after, course, named, reply, set_attrs}
-use Rattle.r4_content.specs.Objects.{Object, byte_pairs, cut_body, is_dir, set_attr, set_body, sized, zero_body}
-use Rattle.r4_content.specs.Ways.{Place, entry_in, to_file, to_object}
+use Rattle.r4_content.specs.Objects.{Object, byte_pairs, is_dir, set_attr, sized, zero_body}
+use Rattle.r4_content.specs.Ways.{Place, entry_in, to_object}
 use Rattle.r4_content.specs.declared.command.Command.{Command}
 use Rattle.r4_content.specs.declared.command.Command.TheVariants.{Chmod, Chown, Times, Write, Fill, Truncate}
 use Rattle.r4_content.specs.declared.reply.Reply.TheVariants.{Okay}
 use Rattle.r4_content.proofs.EditLaws.{at_edited, edited_off, last_put}
 use Rattle.r4_content.proofs.EditParts.{is_off, true_not_false}
-use Rattle.r4_content.proofs.FileEdits.{EditsFile, IsElsewhere, off_attr, put_itself, resized, resized_kind}
-use Rattle.r4_content.proofs.Found.{There, answered, ends_at, found, stat_there, way_ends}
+use Rattle.r4_content.proofs.FileEdits.{EditsFile, off_attr, put_itself, resized, resized_kind}
+use Rattle.r4_content.proofs.Found.{found, stat_there, way_ends}
 use Rattle.r4_content.proofs.Keeping.{Stays}
 use Rattle.r4_content.proofs.OneBodies.{attr_bodies, file_bodies, larger_cases, truncate_touches, write_touches}
 use Rattle.r4_content.proofs.Ranks.{stat_not_byte}
@@ -94,7 +94,7 @@ attr_one limit m o b bodies there = record {
   stat = put_itself m (stat_rank o.target) (Stat b);
   elsewhere = λ k h. edited_off (set_attr o b) m k (is_off (set_attr o b) k (off_attr o b k h.stat));
   bodies = λ x lt. ap entry_in (edited_off (set_attr o b) m (byte_rank o.target x) (is_off (set_attr o b) (byte_rank o.target x)
-        (off_attr o b (byte_rank o.target x) (λ e. stat_not_byte o.target o.target x there.object there.object lt (sym e))))) ∙ no_entry_body limit m bodies o.target x there.object lt;
+      (off_attr o b (byte_rank o.target x) (λ e. stat_not_byte o.target o.target x there.object there.object lt (sym e))))) ∙ no_entry_body limit m bodies o.target x there.object lt;
 }
 
 pub file_one : (limit : ℕ) (m : Content) (o : Object) (n : ℕ) (e : Edits) → HasBodies limit m → IsThere m o → EditsFile m o n e → NoEntries e.puts → EditsOne m (edited e m) o (resized n o.attr)
@@ -139,9 +139,10 @@ attrs_lawful limit path f m numbers lawful keeps okay =
     let c = came_to_object m path (λ p. Change (set_attr p.here (f p.here.attr))) numbers okay in
     let o = c.place.here in
     let k = keeps o.attr in
-    subst (λ (x : Ending). Stays limit (edited x.edits m)) (sym c.ends)
-    (one_lawful limit m (edited (set_attr o (f o.attr)) m) o (f o.attr) lawful.objects lawful.bodies (attr_one limit m o (f o.attr) lawful.bodies c.there) k.0 k.1 (λ dir. k.2),
-      attr_bodies limit m o (f o.attr) lawful.bodies (stat_was m o c.there) k.0 k.2 k.3)
+    subst (λ (x : Ending). Stays limit (edited x.edits m)) (sym c.ends) (
+      one_lawful limit m (edited (set_attr o (f o.attr)) m) o (f o.attr) lawful.objects lawful.bodies (attr_one limit m o (f o.attr) lawful.bodies c.there) k.0 k.1 (λ dir. k.2),
+      attr_bodies limit m o (f o.attr) lawful.bodies (stat_was m o c.there) k.0 k.2 k.3,
+    )
 
 mode_kind : (mode bits : ℕ) → (mode / 4096 * 4096 + bits % 4096) / 4096 ≡ mode / 4096
 mode_kind mode bits = omega arith
@@ -175,6 +176,7 @@ write_lawful limit path from xs m lt lawful = by_done limit (Write path from xs)
   where
     numbers : HasNumbers m
     numbers = numbers_of limit m lt lawful
+
     by_length : reply limit (Write path from xs) m ≡ Okay → (b : Bool) → (length xs == 0) ≡ b → Stays limit (after limit (Write path from xs) m)
     by_length okay b is =
         let c = came_to limit m path (from + length xs) (write_on from xs) okay in
@@ -188,19 +190,21 @@ write_lawful limit path from xs m lt lawful = by_done limit (Write path from xs)
         within : (o : Object) → IsThere m o → is_dir o ≡ false → from + length xs ≤ limit → larger o.attr.size (from + length xs) ≤ limit
         within o there file enough =
             let old = lawful.bodies.small o.target o.attr (stat_was m o there) file in
-            elim (larger_cases o.attr.size (from + length xs)) [ | inl (d, i) ↦ omega arith | inr (d, i) ↦ omega arith ]
+            elim (larger_cases o.attr.size (from + length xs)) [ inl (d, i) ↦ omega arith | inr (d, i) ↦ omega arith ]
+
         by_case : (o : Object) → IsThere m o → from + length xs ≤ 2 ^ 64 → from + length xs ≤ limit → is_dir o ≡ false → (b : Bool) → (length xs == 0) ≡ b → Stays limit (edited (ending (if b then Answer Okay else Change (written o from xs)) (of_content m)).edits m)
         by_case o there fits enough file true some = (lawful.objects, lawful.bodies)
         by_case o there fits enough file false some =
             let n = larger o.attr.size (from + length xs) in
-            let edits = write_edits m o there from xs fits in
-            (one_lawful limit m (edited (written o from xs) m) o (resized n o.attr) lawful.objects lawful.bodies
-              (file_one limit m o n (written o from xs) lawful.bodies there edits
-                (none_append (fill_gap o from).puts (byte_pairs (byte_rank o.target from) xs ++ (resize o n).puts) (gap_no_entries o from)
+            let edits = write_edits m o there from xs fits in (
+              one_lawful limit m (edited (written o from xs) m) o (resized n o.attr) lawful.objects lawful.bodies
+                  (file_one limit m o n (written o from xs) lawful.bodies there edits
+                  (none_append (fill_gap o from).puts (byte_pairs (byte_rank o.target from) xs ++ (resize o n).puts) (gap_no_entries o from)
                   (none_append (byte_pairs (byte_rank o.target from) xs) (resize o n).puts (bytes_no_entries (byte_rank o.target from) xs) (resize_no_entries o n))))
-              (resized_kind n o.attr) (resized_links n o.attr) (not_directory o.attr (resized n o.attr).size file),
+                  (resized_kind n o.attr) (resized_links n o.attr) (not_directory o.attr (resized n o.attr).size file),
               file_bodies limit m o n (written o from xs) lawful.bodies (stat_was m o there) file (within o there file enough) edits
-              (write_touches limit m o from xs lawful.bodies (stat_was m o there) there file fits (positive (length xs) some)))
+                  (write_touches limit m o from xs lawful.bodies (stat_was m o there) there file fits (positive (length xs) some)),
+            )
 
 pub fill_lawful : (limit : ℕ) (path : List (List ℕ)) (from len x : ℕ) (m : Content) → limit < 2 ^ 64 → IsLawful limit m → Stays limit (after limit (Fill path from len x) m)
 fill_lawful limit path from len x m lt lawful = write_lawful limit path from (replicate len x) m lt lawful
@@ -210,6 +214,7 @@ truncate_lawful limit path n m lt lawful = by_done limit (Truncate path n) m (λ
   where
     numbers : HasNumbers m
     numbers = numbers_of limit m lt lawful
+
     cut : reply limit (Truncate path n) m ≡ Okay → Stays limit (after limit (Truncate path n) m)
     cut okay =
         let c = came_to limit m path n (λ o. Change (truncated o n)) okay in
@@ -217,9 +222,10 @@ truncate_lawful limit path n m lt lawful = by_done limit (Truncate path n) m (λ
         let there = found_object m numbers.orderings path c.place c.at in
         let small = c.small in
         let size = numbers.sizes o.target o.attr (stat_was m o there) in
-        subst (λ (x : Ending). Stays limit (edited x.edits m)) (sym c.ends)
-        (one_lawful limit m (edited (truncated o n) m) o (resized n o.attr) lawful.objects lawful.bodies
-          (file_one limit m o n (truncated o n) lawful.bodies there (truncate_edits m o there n (omega arith) (omega arith))
-            (none_append (cut_or_grown o n (nat_lt n o.attr.size)).puts (resize o n).puts (cut_no_entries o n (nat_lt n o.attr.size)) (resize_no_entries o n)))
-          (resized_kind n o.attr) (resized_links n o.attr) (not_directory o.attr (resized n o.attr).size c.file),
-          file_bodies limit m o n (truncated o n) lawful.bodies (stat_was m o there) c.file small (truncate_edits m o there n (omega arith) (omega arith)) (truncate_touches limit m o n lawful.bodies (stat_was m o there) c.file))
+        subst (λ (x : Ending). Stays limit (edited x.edits m)) (sym c.ends) (
+          one_lawful limit m (edited (truncated o n) m) o (resized n o.attr) lawful.objects lawful.bodies
+              (file_one limit m o n (truncated o n) lawful.bodies there (truncate_edits m o there n (omega arith) (omega arith))
+              (none_append (cut_or_grown o n (nat_lt n o.attr.size)).puts (resize o n).puts (cut_no_entries o n (nat_lt n o.attr.size)) (resize_no_entries o n)))
+              (resized_kind n o.attr) (resized_links n o.attr) (not_directory o.attr (resized n o.attr).size c.file),
+          file_bodies limit m o n (truncated o n) lawful.bodies (stat_was m o there) c.file small (truncate_edits m o there n (omega arith) (omega arith)) (truncate_touches limit m o n lawful.bodies (stat_was m o there) c.file),
+        )

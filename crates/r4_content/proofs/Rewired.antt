@@ -1,20 +1,19 @@
 -- A content stays lawful where entries at two keys change, and attributes of objects with them.
-use Rattle.std.specs.Prelude.{◌≡◌, ◌≢◌, ◌⊎◌, ℕ, zero, suc, ◌+◌, ◌^◌, ◌<◌, ◌≤◌, List, Bool, true, false, ◌&&◌, ◌==◌, Option, Some, None, if◌then◌else◌}
+use Rattle.std.specs.Prelude.{◌≡◌, ◌≢◌, ◌⊎◌, ℕ, zero, suc, ◌+◌, ◌≤◌, List, Bool, true, false, ◌&&◌, ◌==◌, Option, Some, None, if◌then◌else◌}
 use Rattle.std.proofs.Common.{arith, inl, inr, refl, sym, ap, subst, ◌∙◌}
-use Rattle.std.proofs.lemmas.Bool.{and_from, cases_lt, eq-eqb, eqb-true, ne_eqb}
+use Rattle.std.proofs.lemmas.Bool.{eq-eqb, eqb-true, ne_eqb}
 use Rattle.std.proofs.lemmas.Option.{same_Some}
-use Rattle.std.specs.FinMap.{entries}
 use Rattle.std.specs.Option.{is_some}
 use Rattle.r4_base.specs.Key.{key_of_rank}
 use Rattle.r4_base.specs.Name.{dir_of_key}
 use Rattle.r4_base.specs.Value.{Value, Stat, Entry, Byte, Content, at_key}
-use Rattle.r4_base.specs.Volume.{HasEntry, HasObjects, HasStat, IsObject, IsReached, directories_in, entries_in, is_directory, is_directory_value, is_entry_in, links_to, names_directory, names_object, root_object, stat_rank}
+use Rattle.r4_base.specs.Volume.{HasObjects, HasStat, IsReached, directories_in, entries_in, is_directory, is_directory_value, is_entry_in, links_to, names_directory, names_object, root_object, stat_rank}
 use Rattle.r4_base.specs.declared.items.Attr.{Attr}
 use Rattle.r4_base.specs.declared.items.Target.{Target}
 use Rattle.r4_base.specs.declared.things.Oid.{Oid}
 use Rattle.r4_content.specs.Objects.{is_same_target}
 use Rattle.r4_content.specs.Ways.{Named, entry_in}
-use Rattle.r4_content.proofs.Counting.{count, here, none_there, not_same, once, one_there, pick, some_counted, two_counts}
+use Rattle.r4_content.proofs.Counting.{count, here, none_there, not_same, one_there, pick, some_counted, two_counts}
 use Rattle.r4_content.proofs.EditParts.{true_not_false}
 use Rattle.r4_content.proofs.Ranks.{same_itself, told_same}
 

@@ -1,25 +1,25 @@
 -- Changes that leave entries, links and directories as they are.
-use Rattle.std.specs.Prelude.{◌≡◌, ◌≢◌, ◌⊎◌, ℕ, ◌+◌, ◌-◌, ◌*◌, ◌/◌, ◌%◌, ◌^◌, ◌<◌, ◌≤◌, List, [], ◌∷◌, Bool, true, false, ◌&&◌, ◌==◌, cond, nat_le, nat_lt, slice_index, All, Option, Some, None, if◌then◌else◌}
+use Rattle.std.specs.Prelude.{◌≡◌, ◌≢◌, ◌⊎◌, ℕ, ◌+◌, ◌*◌, ◌/◌, ◌%◌, ◌^◌, ◌<◌, List, [], ◌∷◌, Bool, true, false, ◌==◌, nat_le, nat_lt, slice_index, All, Option, Some, None, if◌then◌else◌}
 use Rattle.std.proofs.Common.{arith, inl, inr, lit<, refl, sym, ap, subst, ◌∙◌}
-use Rattle.std.proofs.lemmas.Bool.{and_from, cases_lt, eq-eqb, eqb-true, le-leb, lt-ltb, ne_eqb}
+use Rattle.std.proofs.lemmas.Bool.{and_from, eqb-true, le-leb, lt-ltb}
 use Rattle.std.proofs.lemmas.Option.{same_Some}
 use Rattle.r4_base.specs.Key.{key_of_rank, minor_of, rank, stat_key}
 use Rattle.r4_base.specs.Name.{dir_of_key, key_of_name}
 use Rattle.r4_base.specs.Value.{Value, Stat, Entry, Byte, Content, at_key}
-use Rattle.r4_base.specs.Volume.{HasObjects, HasStat, IsObject, byte_rank, is_directory, is_directory_value, is_entry_in, names_directory, names_object, root_object, stat_rank}
+use Rattle.r4_base.specs.Volume.{HasObjects, HasStat, IsObject, byte_rank, is_directory, is_entry_in, root_object, stat_rank}
 use Rattle.r4_base.specs.declared.key.Key.{Key}
 use Rattle.r4_base.specs.declared.items.Attr.{Attr}
 use Rattle.r4_base.specs.declared.items.Target.{Target}
 use Rattle.r4_base.proofs.Visible.{byte_back}
-use Rattle.r4_content.specs.Edited.{Edits, edited, is_between}
-use Rattle.r4_content.specs.Lawful.{HasBodies, IsLawful}
+use Rattle.r4_content.specs.Edited.{is_between}
+use Rattle.r4_content.specs.Lawful.{HasBodies}
 use Rattle.r4_content.specs.Objects.{Object, entry_rank, is_same_target}
-use Rattle.r4_content.specs.Ways.{Named, entry_in}
-use Rattle.r4_content.proofs.Counting.{here, not_same, pick}
+use Rattle.r4_content.specs.Ways.{entry_in}
+use Rattle.r4_content.proofs.Counting.{not_same}
 use Rattle.r4_content.proofs.EditParts.{true_not_false}
 use Rattle.r4_content.proofs.FileEdits.{IsElsewhere, other_stat}
-use Rattle.r4_content.proofs.Ranks.{byte_after, first_of_name, in_body, name_fits, same_itself, same_stat, stat_not_byte, told_same}
-use Rattle.r4_content.proofs.Rewired.{OnEntries, Rewired, both_here, directory_in, directory_on, entry_is, entry_on, here_empty, named, named_on, not_entry, pick_same, rewired_lawful}
+use Rattle.r4_content.proofs.Ranks.{byte_after, first_of_name, in_body, name_fits, stat_not_byte, told_same}
+use Rattle.r4_content.proofs.Rewired.{OnEntries, both_here, directory_in, directory_on, entry_on, here_empty, named, named_on, not_entry, rewired_lawful}
 
 -- ---- keys of ranks
 
@@ -83,7 +83,7 @@ module _ (m n : Content) (i j : ℕ) (g : Target → Attr → Attr) (lawful : Ha
       (omega arith, omega arith)
 
   none_at : (k : ℕ) → (k ≡ i) ⊎ (k ≡ j) → entry_in (at_key m k) ≡ None
-  none_at k h = elim h [ | inl e ↦ ap (λ (x : ℕ). entry_in (at_key m x)) e ∙ none_i | inr e ↦ ap (λ (x : ℕ). entry_in (at_key m x)) e ∙ none_j ]
+  none_at k h = elim h [ inl e ↦ ap (λ (x : ℕ). entry_in (at_key m x)) e ∙ none_i | inr e ↦ ap (λ (x : ℕ). entry_in (at_key m x)) e ∙ none_j ]
 
   pub shape_lawful : HasObjects n
   shape_lawful = rewired_lawful m n i j became (λ t b. ⊥) lawful (record {
@@ -177,6 +177,7 @@ module _ (limit : ℕ) (m n : Content) (o : Object) (b : Attr) (objects : HasObj
     where
       stat_same : (x y : Attr) → Some (Stat x) ≡ Some (Stat y) → x ≡ y
       stat_same x y e = cc
+
       by_target : (d : Bool) → is_same_target t o.target ≡ d → (a : Attr) × HasStat m t a × (c ≡ (if d then b else a))
       by_target true same =
           let is = told_same t o.target same in
@@ -189,6 +190,7 @@ module _ (limit : ℕ) (m n : Content) (o : Object) (b : Attr) (objects : HasObj
     where
       stat_same : (x y : Attr) → Some (Stat x) ≡ Some (Stat y) → x ≡ y
       stat_same x y e = cc
+
       by_target : (c : Bool) → is_same_target t o.target ≡ c → P a (if c then b else a)
       by_target true is = subst (λ (x : Attr). P x b) (stat_same o.attr a (sym e.was.1 ∙ ap (λ (u : Target). at_key m (stat_rank u)) (sym (told_same t o.target is)) ∙ h.1)) one
       by_target false other = same a

@@ -1,8 +1,7 @@
 -- Lawful contents stay lawful.
-use Rattle.std.specs.Prelude.{◌≡◌, ℕ, ◌^◌, ◌<◌}
+use Rattle.std.specs.Prelude.{ℕ, ◌^◌, ◌<◌}
 use Rattle.std.proofs.Common.{subst, sym}
 use Rattle.r4_base.specs.Value.{Content}
-use Rattle.r4_base.specs.Volume.{HasObjects}
 use Rattle.r4_content.specs.Fields.{HasBytePaths, NamesUnused}
 use Rattle.r4_content.specs.Lawful.{IsLawful}
 use Rattle.r4_content.specs.Meaning.{after}

@@ -1,21 +1,20 @@
 -- unlink and rmdir leave the objects of a lawful content lawful.
-use Rattle.std.specs.Prelude.{◌≡◌, ◌≢◌, ◌⊎◌, ℕ, ◌+◌, ◌-◌, ◌*◌, ◌/◌, ◌%◌, ◌^◌, ◌<◌, ◌≤◌, List, [], ◌∷◌, Bool, true, false, ◌&&◌, ◌==◌, cond, nat_le, nat_lt, length, take, slice_index, slice_index_or, All, Option, Some, None, if◌then◌else◌}
-use Rattle.std.proofs.Common.{arith, inl, inr, refl, sym, ap, subst, ◌∙◌}
+use Rattle.std.specs.Prelude.{◌≡◌, ◌≢◌, ℕ, ◌+◌, ◌-◌, ◌*◌, ◌/◌, ◌%◌, ◌^◌, ◌<◌, List, [], ◌∷◌, Bool, true, false, ◌==◌, cond, nat_le, nat_lt, length, take, slice_index, slice_index_or, All, Option, Some, None, if◌then◌else◌}
+use Rattle.std.proofs.Common.{arith, refl, sym, ap, subst, ◌∙◌}
 use Rattle.std.proofs.lemmas.Bool.{and_from, eqb-true, le-leb, lt-ltb}
-use Rattle.std.specs.FinMap.{entries, find, get-entries, retain_keys}
+use Rattle.std.specs.FinMap.{find, get-entries, retain_keys}
 use Rattle.std.specs.Ordering.{nat_cmp}
 use Rattle.r4_base.specs.Key.{key_of_rank, minor_of, rank}
 use Rattle.r4_base.specs.Name.{dir_of_key}
 use Rattle.r4_base.specs.Value.{Value, Stat, Entry, Byte, Content, at_key}
-use Rattle.r4_base.specs.Volume.{HasObjects, HasStat, entries_in, is_directory, is_entry_in, stat_rank}
-use Rattle.r4_base.specs.declared.items.Attr.{Attr}
+use Rattle.r4_base.specs.Volume.{entries_in, is_entry_in}
 use Rattle.r4_base.specs.declared.items.Target.{Target}
-use Rattle.r4_content.specs.Course.{Course, Answer, Change, Scan, Ending, ending, of_content}
-use Rattle.r4_content.specs.Edited.{Edits, Pairs, edited, is_between, pairs_between}
-use Rattle.r4_content.specs.Entries.{entries_from, entries_to, if_empty, rmdir, unlink, unname_in, with_entries}
+use Rattle.r4_content.specs.Course.{Course, Answer, Change, Ending, ending, of_content}
+use Rattle.r4_content.specs.Edited.{Pairs, edited, is_between, pairs_between}
+use Rattle.r4_content.specs.Entries.{entries_from, entries_to, if_empty, unname_in, with_entries}
 use Rattle.r4_content.specs.Fields.{HasBytes, HasNumbers}
 use Rattle.r4_content.specs.Lawful.{HasBodies, IsLawful}
-use Rattle.r4_content.specs.Meaning.{after, course, named, reply}
+use Rattle.r4_content.specs.Meaning.{after, named, reply}
 use Rattle.r4_content.specs.Objects.{Object, entry_rank, is_dir}
 use Rattle.r4_content.specs.Ways.{Place, step, to_entry}
 use Rattle.r4_content.specs.declared.command.Command.TheVariants.{Rmdir, Unlink}
@@ -24,7 +23,7 @@ use Rattle.r4_content.specs.declared.reply.Reply.TheVariants.{Okay, Isdir, Loop,
 use Rattle.r4_content.proofs.Counting.{none_there}
 use Rattle.r4_content.proofs.EditLaws.{at_retain}
 use Rattle.r4_content.proofs.EditParts.{true_not_false}
-use Rattle.r4_content.proofs.Found.{There, ends_at, found, found_from, small_object, stat_there, steps_end}
+use Rattle.r4_content.proofs.Found.{ends_at, found_from, small_object, stat_there, steps_end}
 use Rattle.r4_content.proofs.Keeping.{Stays}
 use Rattle.r4_content.proofs.Losing.{Loses, loses_bodies, loses_lawful}
 use Rattle.r4_content.proofs.Naming.{came_above, last_bytes}
@@ -43,8 +42,10 @@ nothing_between m from to k v none at = by_test (is_between from to k) refl
       where
         some_none : Some v ≡ None → ⊥
         some_none g = cc
+
     nothing : at_key (retain_keys m (is_between from to)) k ≡ None
     nothing = get-entries (retain_keys m (is_between from to)) k ∙ ap (find nat_cmp k) none
+
     by_test : (b : Bool) → is_between from to k ≡ b → b ≡ false
     by_test false e = refl
     by_test true e = absurd (not_some (at_key m k) at (sym (at_retain m (is_between from to) k ∙ ap (λ (b : Bool). cond b (at_key m k) None) e) ∙ nothing))
@@ -147,6 +148,7 @@ unlink_lawful limit path m lt lawful bytes = by_done limit (Unlink path) m (λ x
     is_file : (dir o : Object) (n : List ℕ) (b : Bool) → (ending (if b then Answer Isdir else Change (unname_in dir n o)) (of_content m)).reply ≡ Okay → (b ≡ false)
     is_file dir o n true h = absurd cc
     is_file dir o n false h = refl
+
     done : reply limit (Unlink path) m ≡ Okay → Stays limit (after limit (Unlink path) m)
     done okay =
         let numbers = numbers_of limit m lt lawful in
@@ -157,7 +159,7 @@ unlink_lawful limit path m lt lawful bytes = by_done limit (Unlink path) m (λ x
         let ends = c.ends ∙ ap (λ (b : Bool). ending (if b then Answer Isdir else Change (unname_in dir c.name o)) (of_content m)) file in
         subst (λ (x : Ending). Stays limit (edited x.edits m)) (sym ends)
         (let loses = loses_name limit m dir o c.name numbers c.above_there c.above_is c.there c.bytes c.entry (λ d. absurd (true_not_false (sym d ∙ file))) in
-          (loses_lawful limit m dir o c.name lawful.objects lawful.bodies loses, loses_bodies limit m dir o c.name lawful.objects lawful.bodies loses))
+        (loses_lawful limit m dir o c.name lawful.objects lawful.bodies loses, loses_bodies limit m dir o c.name lawful.objects lawful.bodies loses))
 
 abbrev pub rmdir_next : Object → (name : List ℕ) → Place → Course
 rmdir_next dir n p = if is_dir p.here then with_entries p.here (if_empty (Change (unname_in dir n p.here))) else Answer Notdir
@@ -174,6 +176,7 @@ rmdir_lawful limit path m lt lawful bytes = by_done limit (Rmdir path) m (λ x. 
       where
         refused : Notempty ≡ Okay → ⊥
         refused e = cc
+
     done : reply limit (Rmdir path) m ≡ Okay → Stays limit (after limit (Rmdir path) m)
     done okay =
         let numbers = numbers_of limit m lt lawful in
@@ -183,4 +186,4 @@ rmdir_lawful limit path m lt lawful bytes = by_done limit (Rmdir path) m (λ x. 
         let (none, made) = is_done dir o c.name (is_dir o) (pairs_between m (entries_from o.target.oid.0) (entries_to o.target.oid.0)) (sym (ap (λ (x : Ending). x.reply) c.ends) ∙ okay) refl in
         subst (λ (x : Ending). Stays limit (edited x.edits m)) (sym (c.ends ∙ made))
         (let loses = loses_name limit m dir o c.name numbers c.above_there c.above_is c.there c.bytes c.entry (λ d. is_empty limit m o.target lawful.bodies none) in
-          (loses_lawful limit m dir o c.name lawful.objects lawful.bodies loses, loses_bodies limit m dir o c.name lawful.objects lawful.bodies loses))
+        (loses_lawful limit m dir o c.name lawful.objects lawful.bodies loses, loses_bodies limit m dir o c.name lawful.objects lawful.bodies loses))
