@@ -27,3 +27,4 @@ pub mod Movers
 pub mod Staying
 pub mod Keeping
 pub mod OneBodies
+pub mod Volumes

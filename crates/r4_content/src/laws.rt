@@ -2,8 +2,9 @@
 
 ghost use Rattle.std.specs.FinMap.{from_sorted};
 ghost use Rattle.std.specs.Prelude.{◌≡◌, ◌≢◌, ◌↔◌, ◌<◌, ◌≤◌, ◌^◌, ℕ, List, length, replicate, false};
+ghost use Rattle.r4_base.specs.Image.{Image};
 ghost use Rattle.r4_base.specs.Value.{Content};
-ghost use Rattle.r4_base.specs.Volume.{HasObjects};
+ghost use Rattle.r4_base.specs.Volume.{HasContent, HasObjects};
 ghost use Rattle.r4_base.specs.declared.items.Attr.{Attr};
 ghost use Rattle.r4_base.specs.declared.items.Target.{Target};
 ghost use Rattle.r4_base.specs.declared.things.Oid.{Oid};
@@ -13,7 +14,7 @@ ghost use Rattle.r4_content.specs.Fields.{HasBytePaths, HasBytes, HasNumbers, Is
 ghost use Rattle.r4_content.specs.Lawful.{HasBodies, IsLawful};
 ghost use Rattle.r4_content.specs.Listed.{list_after};
 ghost use Rattle.r4_content.specs.Locality.{IsLocal, Meaning, Spares, commands};
-ghost use Rattle.r4_content.specs.Meaning.{after, changes, course, reply};
+ghost use Rattle.r4_content.specs.Meaning.{after, changes, course, greatest_size, reply};
 ghost use Rattle.r4_content.specs.Objects.{new_directory, new_file};
 ghost use Rattle.r4_content.specs.Reading.{OnlyReads};
 ghost use Rattle.r4_content.specs.Seen.{IsSeen, Rises, of_seen};
@@ -94,4 +95,12 @@ pub fn what_is_written_is_read()
 pub fn lawful_contents_stay_lawful()
     ensures objects { (limit : ℕ) (c : Command) (m : Content) → limit < 2 ^ 64 → IsLawful limit m → HasBytePaths c → NamesUnused m c → HasObjects (after limit c m) }
     ensures bodies { (limit : ℕ) (c : Command) (m : Content) → limit < 2 ^ 64 → IsLawful limit m → HasBytePaths c → NamesUnused m c → HasBodies limit (after limit c m) }
+    ensures numbers { (limit : ℕ) (m : Content) → limit < 2 ^ 64 → IsLawful limit m → HasNumbers m }
+{}
+
+/// The content of an image has objects, keys and bytes as this asks of them. What is asked besides is that its links are
+/// numbers of their field and that its directories can count another entry (`IsLawful`).
+pub fn volumes_are_lawful()
+    ensures objects { (n : ℕ) (image : Image) (m : Content) → HasContent n image m → HasObjects m }
+    ensures bodies { (n : ℕ) (image : Image) (m : Content) → HasContent n image m → HasBodies greatest_size m }
 {}
