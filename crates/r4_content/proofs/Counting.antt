@@ -16,11 +16,11 @@ use Rattle.r4_content.proofs.EditLaws.{at_insert, at_retain, same_content}
 use Rattle.r4_content.proofs.EditParts.{true_not_false}
 use Rattle.r4_content.proofs.SeenLaws.{at_content, content_of}
 
-first_holds : (a b : Bool) → T (a && b) → T a
+pub first_holds : (a b : Bool) → T (a && b) → T a
 first_holds true b h = tt
 first_holds false b h = h
 
-second_holds : (a b : Bool) → T (a && b) → T b
+pub second_holds : (a b : Bool) → T (a && b) → T b
 second_holds true b h = h
 second_holds false b h = absurd h
 
@@ -56,7 +56,7 @@ filter_rises p (e ∷ es) h =
     by_test true rest = both_hold (below_all nat_cmp e.0 (filter p es)) (is_sorted nat_cmp (filter p es)) (below_filtered p e.0 es (first_holds (below_all nat_cmp e.0 es) (is_sorted nat_cmp es) h)) rest
     by_test false rest = rest
 
-none_below : (k x : ℕ) (es : Pairs) → k ≤ x → T (below_all nat_cmp x es) → find nat_cmp k es ≡ None
+pub none_below : (k x : ℕ) (es : Pairs) → k ≤ x → T (below_all nat_cmp x es) → find nat_cmp k es ≡ None
 none_below k x [] le h = refl
 none_below k x (e ∷ es) le h =
     let lt = below_lt x e.0 (first_holds (is_lt (nat_cmp x e.0)) (below_all nat_cmp x es) h) in
