@@ -5,7 +5,7 @@ use Rattle.r4_content.specs.Course.{Course, ending}
 use Rattle.r4_content.specs.Edited.{Pairs, no_edits}
 use Rattle.r4_content.specs.Objects.{Object}
 use Rattle.r4_content.specs.Seen.{of_seen}
-use Rattle.r4_content.specs.Ways.{Place, to_free}
+use Rattle.r4_content.specs.Ways.{Place, to_entry, to_free, to_parent}
 use Rattle.r4_content.specs.declared.reply.Reply.{Reply}
 use Rattle.r4_dir.specs.declared.object.Object as held
 use Rattle.r4_dir.specs.declared.object.Place as held_place
@@ -42,3 +42,17 @@ ComesFree path s dir = (next : Object → List ℕ → Course) → ending (to_fr
 
 abbrev pub StopsFree : List (List ℕ) → Pairs → Reply → Type 0
 StopsFree path s r = (next : Object → List ℕ → Course) → ending (to_free path next) (of_seen s) ≡ record { edits = no_edits; reply = r }
+
+-- of ways that come to a place and a name below it
+abbrev pub ComesParent : Reply → List (List ℕ) → Pairs → Place → Type 0
+ComesParent r path s p = (next : Place → List ℕ → Course) → ending (to_parent r path next) (of_seen s) ≡ ending (next p (last_of path)) (of_seen s)
+
+abbrev pub StopsParent : Reply → List (List ℕ) → Pairs → Reply → Type 0
+StopsParent r path s e = (next : Place → List ℕ → Course) → ending (to_parent r path next) (of_seen s) ≡ record { edits = no_edits; reply = e }
+
+-- and of those that come to a directory, a name there, and the place of the object that has it
+abbrev pub ComesEntry : Reply → List (List ℕ) → Pairs → Object → Place → Type 0
+ComesEntry r path s dir p = (next : Object → List ℕ → Place → Course) → ending (to_entry r path next) (of_seen s) ≡ ending (next dir (last_of path) p) (of_seen s)
+
+abbrev pub StopsEntry : Reply → List (List ℕ) → Pairs → Reply → Type 0
+StopsEntry r path s e = (next : Object → List ℕ → Place → Course) → ending (to_entry r path next) (of_seen s) ≡ record { edits = no_edits; reply = e }

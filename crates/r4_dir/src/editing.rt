@@ -31,7 +31,7 @@ pub fn answer(alloc: Global, reply: Reply) -> Edits
 }
 
 // These keys go, and these values are put in.
-fn edits(alloc: Global, cuts: Vec<Interval>, puts: Vec<(Key, Value)>) -> Edits
+pub(crate) fn edits(alloc: Global, cuts: Vec<Interval>, puts: Vec<(Key, Value)>) -> Edits
     ensures { ending_of result ≡ record { edits = record { cuts = map interval_of cuts.items; zeros = []; puts = map pair_of puts.items }; reply = Okay } }
 {
     Edits {

@@ -7,9 +7,11 @@ mod editing;
 mod finding;
 mod making;
 mod object;
+mod removing;
 mod ways;
 
 pub use editing::{answer, set_attr, stat_key};
 pub use making::{plan_create, plan_link, plan_mkdir};
 pub use object::{Object, Place};
+pub use removing::plan_unlink;
 pub use ways::{is_dir, is_full, is_legal, object_at, step_to, walk_to};

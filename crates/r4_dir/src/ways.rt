@@ -13,8 +13,10 @@ ghost use Rattle.r4_content.specs.Meaning.{is_path};
 ghost use Rattle.r4_content.specs.Objects.{Object as SeenObject, is_full};
 ghost use Rattle.r4_content.specs.Seen.{Rises};
 ghost use Rattle.r4_content.specs.Ways.{object_at, step, to_object};
+ghost use Rattle.r4_content.specs.declared.reply.Reply.{Reply as SeenReply};
 ghost use Rattle.r4_content.specs.declared.reply.Reply.TheVariants.{Absent, Clash, Exists};
-ghost use Rattle.r4_dir.specs.Coming.{AreNames, Comes, ComesFree, IsSmall, StopsFree, last_of, Stops, object_of, place_of};
+ghost use Rattle.r4_dir.specs.Coming.{AreNames, Comes, ComesEntry, ComesFree, ComesParent, IsSmall, Stops, StopsEntry, StopsFree, StopsParent, last_of, object_of, place_of};
+ghost use Rattle.r4_dir.specs.Found.{place_found, root_reply};
 
 use crate::finding::{SeenEntry, attr_at, entry_at};
 use crate::object::{Object, Place};
@@ -192,4 +194,88 @@ fn taken(entry: &SeenEntry<'_>, name: &Name) -> Result<Reply, Memory>
     }
     let other = entry.name.share()?;
     Ok(Reply::Clash { other })
+}
+
+// The place above the last name of a path; or the reply where there is none.
+#[tactic(auto, unfolding(r4_content::specs::Ways::to_parent))]
+fn parent_of(alloc: Global, seen: &Seen, path: &[Name]) -> Result<Result<Place, Reply>, Memory>
+    requires rises { Rises (pairs_of seen.now) }
+    requires legal { AreNames path.now }
+    requires some { 0 < length path.now }
+    ensures small { IfOk result (λ r. IfOk r (λ p. IsSmall p.here)) }
+    ensures comes { (of_root : SeenReply) → IfOk result (λ r. MatchResult r (λ p. ComesParent of_root path.now (pairs_of seen.now) (place_of p)) (λ e. StopsParent of_root path.now (pairs_of seen.now) e)) }
+{
+    walk_to(alloc, seen, &path[..path.len() - 1])
+}
+
+/// An object with its entry, and those above the directory of the entry.
+#[derive(Drop)]
+pub struct Found {
+    pub dir: Object,
+    pub key: Key,
+    pub object: Object,
+    pub above: Vec<Object>,
+}
+
+// The object of a path of names with its entry; or the reply where there is none.
+#[tactic(auto, unfolding(r4_content::specs::Ways::to_entry))]
+fn entry_named(alloc: Global, seen: &Seen, path: &[Name]) -> Result<Result<Found, Reply>, Memory>
+    requires rises { Rises (pairs_of seen.now) }
+    requires legal { AreNames path.now }
+    requires some { 0 < length path.now }
+    ensures small { IfOk result (λ r. IfOk r (λ f. IsSmall f.dir × IsSmall f.object)) }
+    ensures key { IfOk result (λ r. IfOk r (λ f. f.key ≡ key_of_name f.dir.target.oid.0 (last_of path.now))) }
+    ensures comes { (of_root : SeenReply) → IfOk result (λ r. MatchResult r (λ f. ComesEntry of_root path.now (pairs_of seen.now) (object_of f.dir) (place_found f)) (λ e. StopsEntry of_root path.now (pairs_of seen.now) e)) }
+{
+    let place = match parent_of(alloc, seen, path)? {
+        Ok(place) => place,
+        Err(reply) => return Ok(Err(reply)),
+    };
+    let dir = place.here;
+    let name = &path[path.len() - 1];
+    match step_to(seen, &dir, name) {
+        Ok(object) => Ok(Ok(Found {
+            dir,
+            key: name_key(dir.target.oid, name),
+            object,
+            above: place.above,
+        })),
+        Err(reply) => Ok(Err(reply)),
+    }
+}
+
+/// The reply to a command that needs an entry where its path is the root's.
+#[derive(Clone, Copy, Debug, PartialEq, Eq)]
+pub enum OfRoot {
+    Isdir,
+    Loop,
+}
+
+/// The object of a path with its entry; or the reply where there is none, and where the path is the root's.
+#[tactic(auto, unfolding(r4_content::specs::Ways::to_entry, r4_content::specs::Ways::to_parent))]
+pub fn entry_of(
+    alloc: Global,
+    seen: &Seen,
+    path: &[Name],
+    of_root: OfRoot,
+) -> Result<Result<Found, Reply>, Memory>
+    requires rises { Rises (pairs_of seen.now) }
+    requires legal { AreNames path.now }
+    ensures small { IfOk result (λ r. IfOk r (λ f. IsSmall f.dir × IsSmall f.object × (0 < length path.now))) }
+    ensures key { IfOk result (λ r. IfOk r (λ f. f.key ≡ key_of_name f.dir.target.oid.0 (last_of path.now))) }
+    ensures comes { IfOk result (λ r. MatchResult r (λ f. ComesEntry (root_reply of_root) path.now (pairs_of seen.now) (object_of f.dir) (place_found f)) (λ e. StopsEntry (root_reply of_root) path.now (pairs_of seen.now) e)) }
+{
+    if path.is_empty() {
+        return Ok(Err(reply_of_root(of_root)));
+    }
+    entry_named(alloc, seen, path)
+}
+
+fn reply_of_root(of_root: OfRoot) -> Reply
+    ensures { result ≡ root_reply of_root }
+{
+    match of_root {
+        OfRoot::Isdir => Reply::Isdir,
+        OfRoot::Loop => Reply::Loop,
+    }
 }
