@@ -1,2 +1,3 @@
 pub mod Finds
 pub mod Below
+pub mod EntryParts

@@ -1,3 +1,4 @@
 pub mod Finding
 pub mod Coming
 pub mod Found
+pub mod Entries

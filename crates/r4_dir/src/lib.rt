@@ -4,6 +4,7 @@
 
 mod attributes;
 mod editing;
+mod entries;
 mod finding;
 mod making;
 mod object;
