@@ -2,5 +2,7 @@
 #![tactic(auto)]
 
 mod attributes;
+mod bodies;
 
 pub use attributes::{plan_chmod, plan_chown, plan_stat, plan_times};
+pub use bodies::{GREATEST_SIZE, plan_truncate};

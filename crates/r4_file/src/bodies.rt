@@ -1,0 +1,109 @@
+//! Commands on the bytes of a file (docs/commands.md, "What each command does").
+
+ghost use Rattle.std.specs.Prelude.{◌≡◌, ◌+◌, ◌<◌, ◌≤◌, ◌^◌, IfOk, MatchResult, nat_lt};
+ghost use Rattle.r4_base.specs.Volume.{byte_rank};
+ghost use Rattle.r4_content.specs.Bodies.{truncate, truncated};
+ghost use Rattle.r4_content.specs.Course.{ending};
+ghost use Rattle.r4_content.specs.Held.{ending_of, interval_of, pairs_of};
+ghost use Rattle.r4_content.specs.Meaning.{greatest_size, named};
+ghost use Rattle.r4_content.specs.Objects.{sized};
+ghost use Rattle.r4_content.specs.Seen.{Rises, of_seen};
+ghost use Rattle.r4_content.specs.declared.reply.Reply.TheVariants.{Okay};
+ghost use Rattle.r4_dir.specs.Coming.{AreNames, IsSmall, object_of};
+ghost use Rattle.r4_file.specs.Coming.{ComesToFile, StopsAtFile};
+
+use r4_base::{Attr, Key, Memory, Name, Value};
+use r4_content::{Edits, Interval, Reply, Seen};
+use r4_dir::{Object, answer, is_dir, is_legal, stat_key, walk_to};
+use std::alloc::Global;
+
+/// The most bytes that a file may have.
+pub const GREATEST_SIZE: u64 = 1 << 30;
+
+/// The file at a path; or the reply where there is no way to one.
+#[tactic(auto, unfolding(r4_content::specs::Ways::to_file))]
+fn file_at(alloc: Global, seen: &Seen, path: &[Name]) -> Result<Result<Object, Reply>, Memory>
+    requires rises { Rises (pairs_of seen.now) }
+    requires legal { AreNames path.now }
+    ensures small { IfOk result (λ r. IfOk r IsSmall) }
+    ensures comes { IfOk result (λ r. MatchResult r (λ o. ComesToFile path.now (pairs_of seen.now) (object_of o)) (λ e. StopsAtFile path.now (pairs_of seen.now) e)) }
+{
+    match walk_to(alloc, seen, path)? {
+        Ok(place) => {
+            if is_dir(&place.here) {
+                return Ok(Err(Reply::Isdir));
+            }
+            Ok(Ok(place.here))
+        }
+        Err(reply) => Ok(Err(reply)),
+    }
+}
+
+// The keys of a file's bytes from an offset up to another one.
+fn body(file: &Object, from: u64, to: u64) -> Interval
+    requires { IsSmall file.now }
+    ensures { interval_of result ≡ (byte_rank file.now.target from, byte_rank file.now.target to) }
+{
+    let target = file.target;
+    Interval {
+        from: Key::body(target.locality, target.ordering, target.oid, from),
+        to: Key::body(target.locality, target.ordering, target.oid, to),
+    }
+}
+
+// The attributes of a file that gets another size.
+fn sized(attr: Attr, size: u64) -> Attr
+    ensures { result ≡ sized attr size }
+{
+    Attr {
+        size,
+        bytes: size,
+        ..attr
+    }
+}
+
+// A file gets another size: its bytes from there on go, or zeros are added.
+fn truncated(alloc: Global, file: &Object, size: u64) -> Result<Edits, Memory>
+    requires { IsSmall file.now }
+    ensures { IfOk result (λ e. ending_of e ≡ record { edits = truncated (object_of file.now) size; reply = Okay }) }
+{
+    let mut cuts = Vec::new(alloc);
+    let mut zeros = Vec::new(alloc);
+    let mut puts = Vec::new(alloc);
+    if size < file.attr.size {
+        cuts.push(body(file, size, file.attr.size))?;
+    }
+    if file.attr.size < size {
+        zeros.push(body(file, file.attr.size, size))?;
+    }
+    if file.attr.size != size {
+        puts.push((stat_key(file), Value::Attr(sized(file.attr, size))))?;
+    }
+    Ok(Edits {
+        cuts,
+        zeros,
+        fills: Vec::new(alloc),
+        runs: Vec::new(alloc),
+        puts,
+        reply: Reply::Okay,
+    })
+}
+
+/// What `truncate` changes: the bytes from `size` on go, or zeros are added up to there.
+pub fn plan_truncate(alloc: Global, path: &[Name], size: u64, seen: &Seen) -> Result<Edits, Memory>
+    requires { Rises (pairs_of seen.now) }
+    ensures { IfOk result (λ e. ending_of e ≡ ending (named path.now (truncate greatest_size path.now size)) (of_seen (pairs_of seen.now))) }
+{
+    if !is_legal(path) {
+        return Ok(answer(alloc, Reply::Name));
+    }
+    match file_at(alloc, seen, path)? {
+        Ok(file) => {
+            if size > GREATEST_SIZE {
+                return Ok(answer(alloc, Reply::Toobig));
+            }
+            truncated(alloc, &file, size)
+        }
+        Err(reply) => Ok(answer(alloc, reply)),
+    }
+}
