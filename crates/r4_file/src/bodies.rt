@@ -1,10 +1,10 @@
 //! Commands on the bytes of a file (docs/commands.md, "What each command does").
 
-ghost use Rattle.std.specs.Prelude.{◌≡◌, ◌+◌, ◌<◌, ◌≤◌, ◌^◌, IfOk, MatchResult, nat_lt};
+ghost use Rattle.std.specs.Prelude.{◌≡◌, ◌+◌, ◌<◌, ◌≤◌, ◌^◌, IfOk, MatchResult, length, map, nat_lt};
 ghost use Rattle.r4_base.specs.Volume.{byte_rank};
-ghost use Rattle.r4_content.specs.Bodies.{truncate, truncated};
+ghost use Rattle.r4_content.specs.Bodies.{fill_gap, larger, resize, truncate, truncated, write, written};
 ghost use Rattle.r4_content.specs.Course.{ending};
-ghost use Rattle.r4_content.specs.Held.{ending_of, interval_of, pairs_of};
+ghost use Rattle.r4_content.specs.Held.{ending_of, interval_of, pair_of, pairs_of};
 ghost use Rattle.r4_content.specs.Meaning.{greatest_size, named};
 ghost use Rattle.r4_content.specs.Objects.{sized};
 ghost use Rattle.r4_content.specs.Seen.{Rises, of_seen};
@@ -12,8 +12,8 @@ ghost use Rattle.r4_content.specs.declared.reply.Reply.TheVariants.{Okay};
 ghost use Rattle.r4_dir.specs.Coming.{AreNames, IsSmall, object_of};
 ghost use Rattle.r4_file.specs.Coming.{ComesToFile, StopsAtFile};
 
-use r4_base::{Attr, Key, Memory, Name, Value};
-use r4_content::{Edits, Interval, Reply, Seen};
+use r4_base::{Attr, Bytes, Key, Memory, Name, Value};
+use r4_content::{ByteRun, Edits, Interval, Reply, Seen};
 use r4_dir::{Object, answer, is_dir, is_legal, stat_key, walk_to};
 use std::alloc::Global;
 
@@ -103,6 +103,91 @@ pub fn plan_truncate(alloc: Global, path: &[Name], size: u64, seen: &Seen) -> Re
                 return Ok(answer(alloc, Reply::Toobig));
             }
             truncated(alloc, &file, size)
+        }
+        Err(reply) => Ok(answer(alloc, reply)),
+    }
+}
+
+// A gap before an offset gets zeros.
+fn gap(alloc: Global, file: &Object, to: u64) -> Result<Vec<Interval>, Memory>
+    requires { IsSmall file.now }
+    ensures { IfOk result (λ v. map interval_of v.items ≡ (fill_gap (object_of file.now) to).zeros) }
+{
+    let mut zeros = Vec::new(alloc);
+    if file.attr.size < to {
+        zeros.push(body(file, file.attr.size, to))?;
+    }
+    Ok(zeros)
+}
+
+// A file grows where bytes end past its size.
+fn grown(alloc: Global, file: &Object, end: u64) -> Result<Vec<(Key, Value)>, Memory>
+    requires { IsSmall file.now }
+    ensures { IfOk result (λ v. map pair_of v.items ≡ (resize (object_of file.now) (larger file.now.attr.size end)).puts) }
+{
+    let mut puts = Vec::new(alloc);
+    if file.attr.size < end {
+        puts.push((stat_key(file), Value::Attr(sized(file.attr, end))))?;
+    }
+    Ok(puts)
+}
+
+/// Whether bytes from an offset on would end past the greatest size.
+fn is_too_big(offset: u64, len: u64) -> bool
+    ensures { result ≡ nat_lt greatest_size (offset + len) }
+{
+    offset > GREATEST_SIZE || len > GREATEST_SIZE - offset
+}
+
+// Bytes are put into a file.
+fn written(alloc: Global, file: &Object, offset: u64, text: &Bytes) -> Result<Edits, Memory>
+    requires small { IsSmall file.now }
+    requires fits { offset + length text.now < 2 ^ 64 }
+    ensures { IfOk result (λ e. ending_of e ≡ record { edits = written (object_of file.now) offset text.now; reply = Okay }) }
+{
+    let zeros = gap(alloc, file, offset)?;
+    let puts = grown(alloc, file, offset + text.as_slice().len() as u64)?;
+    let target = file.target;
+    let mut runs = Vec::new(alloc);
+    runs.push(ByteRun {
+        from: Key::body(target.locality, target.ordering, target.oid, offset),
+        bytes: text.share()?,
+    })?;
+    Ok(Edits {
+        cuts: Vec::new(alloc),
+        zeros,
+        fills: Vec::new(alloc),
+        runs,
+        puts,
+        reply: Reply::Okay,
+    })
+}
+
+/// What `write` changes: the bytes of `text` are set from `offset` on, and a gap before them is zeros. The bytes are
+/// shared, and none is copied.
+pub fn plan_write(
+    alloc: Global,
+    path: &[Name],
+    offset: u64,
+    text: &Bytes,
+    seen: &Seen,
+) -> Result<Edits, Memory>
+    requires { Rises (pairs_of seen.now) }
+    ensures { IfOk result (λ e. ending_of e ≡ ending (named path.now (write greatest_size path.now offset text.now)) (of_seen (pairs_of seen.now))) }
+{
+    if !is_legal(path) {
+        return Ok(answer(alloc, Reply::Name));
+    }
+    match file_at(alloc, seen, path)? {
+        Ok(file) => {
+            let len = text.as_slice().len();
+            if is_too_big(offset, len as u64) {
+                return Ok(answer(alloc, Reply::Toobig));
+            }
+            if len == 0 {
+                return Ok(answer(alloc, Reply::Okay));
+            }
+            written(alloc, &file, offset, text)
         }
         Err(reply) => Ok(answer(alloc, reply)),
     }
