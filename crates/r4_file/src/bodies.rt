@@ -1,19 +1,19 @@
 //! Commands on the bytes of a file (docs/commands.md, "What each command does").
 
-ghost use Rattle.std.specs.Prelude.{◌≡◌, ◌+◌, ◌<◌, ◌≤◌, ◌^◌, IfOk, MatchResult, length, map, nat_lt};
+ghost use Rattle.std.specs.Prelude.{◌≡◌, ◌+◌, ◌<◌, ◌≤◌, ◌^◌, IfOk, MatchResult, length, map, nat_lt, replicate};
 ghost use Rattle.r4_base.specs.Volume.{byte_rank};
 ghost use Rattle.r4_content.specs.Bodies.{fill_gap, larger, resize, truncate, truncated, write, written};
 ghost use Rattle.r4_content.specs.Course.{ending};
-ghost use Rattle.r4_content.specs.Held.{ending_of, interval_of, pair_of, pairs_of};
+ghost use Rattle.r4_content.specs.Held.{ending_of, fill_pairs, interval_of, pair_of, pairs_of};
 ghost use Rattle.r4_content.specs.Meaning.{greatest_size, named};
-ghost use Rattle.r4_content.specs.Objects.{sized};
+ghost use Rattle.r4_content.specs.Objects.{set_body, sized};
 ghost use Rattle.r4_content.specs.Seen.{Rises, of_seen};
 ghost use Rattle.r4_content.specs.declared.reply.Reply.TheVariants.{Okay};
 ghost use Rattle.r4_dir.specs.Coming.{AreNames, IsSmall, object_of};
 ghost use Rattle.r4_file.specs.Coming.{ComesToFile, StopsAtFile};
 
 use r4_base::{Attr, Bytes, Key, Memory, Name, Value};
-use r4_content::{ByteRun, Edits, Interval, Reply, Seen};
+use r4_content::{ByteRun, Edits, FilledInterval, Interval, Reply, Seen};
 use r4_dir::{Object, answer, is_dir, is_legal, stat_key, walk_to};
 use std::alloc::Global;
 
@@ -191,4 +191,64 @@ pub fn plan_write(
         }
         Err(reply) => Ok(answer(alloc, reply)),
     }
+}
+
+// A file's bytes from an offset on, each of which becomes `byte`.
+fn filled(file: &Object, offset: u64, len: u64, byte: u8) -> FilledInterval
+    requires small { IsSmall file.now }
+    requires fits { offset + len < 2 ^ 64 }
+    ensures { fill_pairs result ≡ (set_body (object_of file.now) offset (replicate len byte)).puts }
+{
+    let Interval { from, to } = body(file, offset, offset + len);
+    FilledInterval { from, to, byte }
+}
+
+/// What `fill` changes: `len` bytes from `offset` on become `byte`, and a gap before them is zeros. They take no memory
+/// one by one.
+pub fn plan_fill(
+    alloc: Global,
+    path: &[Name],
+    offset: u64,
+    len: u64,
+    byte: u8,
+    seen: &Seen,
+) -> Result<Edits, Memory>
+    requires { Rises (pairs_of seen.now) }
+    ensures { IfOk result (λ e. ending_of e ≡ ending (named path.now (write greatest_size path.now offset (replicate len byte))) (of_seen (pairs_of seen.now))) }
+{
+    if !is_legal(path) {
+        return Ok(answer(alloc, Reply::Name));
+    }
+    match file_at(alloc, seen, path)? {
+        Ok(file) => {
+            if is_too_big(offset, len) {
+                return Ok(answer(alloc, Reply::Toobig));
+            }
+            if len == 0 {
+                return Ok(answer(alloc, Reply::Okay));
+            }
+            fill(alloc, &file, offset, len, byte)
+        }
+        Err(reply) => Ok(answer(alloc, reply)),
+    }
+}
+
+// One byte is put at each offset of an interval of a file.
+fn fill(alloc: Global, file: &Object, offset: u64, len: u64, byte: u8) -> Result<Edits, Memory>
+    requires small { IsSmall file.now }
+    requires fits { offset + len < 2 ^ 64 }
+    ensures { IfOk result (λ e. ending_of e ≡ record { edits = written (object_of file.now) offset (replicate len byte); reply = Okay }) }
+{
+    let zeros = gap(alloc, file, offset)?;
+    let puts = grown(alloc, file, offset + len)?;
+    let mut fills = Vec::new(alloc);
+    fills.push(filled(file, offset, len, byte))?;
+    Ok(Edits {
+        cuts: Vec::new(alloc),
+        zeros,
+        fills,
+        runs: Vec::new(alloc),
+        puts,
+        reply: Reply::Okay,
+    })
 }

@@ -5,4 +5,4 @@ mod attributes;
 mod bodies;
 
 pub use attributes::{plan_chmod, plan_chown, plan_stat, plan_times};
-pub use bodies::{GREATEST_SIZE, plan_truncate, plan_write};
+pub use bodies::{GREATEST_SIZE, plan_fill, plan_truncate, plan_write};
