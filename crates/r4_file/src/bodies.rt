@@ -40,7 +40,7 @@ fn file_at(alloc: Global, seen: &Seen, path: &[Name]) -> Result<Result<Object, R
 }
 
 // The keys of a file's bytes from an offset up to another one.
-fn body(file: &Object, from: u64, to: u64) -> Interval
+pub(crate) fn body(file: &Object, from: u64, to: u64) -> Interval
     requires { IsSmall file.now }
     ensures { interval_of result ≡ (byte_rank file.now.target from, byte_rank file.now.target to) }
 {
