@@ -184,7 +184,7 @@ pub fn plan_write(
             if is_too_big(offset, len as u64) {
                 return Ok(answer(alloc, Reply::Toobig));
             }
-            if len == 0 {
+            if text.as_slice().is_empty() {
                 return Ok(answer(alloc, Reply::Okay));
             }
             written(alloc, &file, offset, text)
@@ -201,6 +201,26 @@ fn filled(file: &Object, offset: u64, len: u64, byte: u8) -> FilledInterval
 {
     let Interval { from, to } = body(file, offset, offset + len);
     FilledInterval { from, to, byte }
+}
+
+// One byte is put at each offset of an interval of a file.
+fn fill(alloc: Global, file: &Object, offset: u64, len: u64, byte: u8) -> Result<Edits, Memory>
+    requires small { IsSmall file.now }
+    requires fits { offset + len < 2 ^ 64 }
+    ensures { IfOk result (λ e. ending_of e ≡ record { edits = written (object_of file.now) offset (replicate len byte); reply = Okay }) }
+{
+    let zeros = gap(alloc, file, offset)?;
+    let puts = grown(alloc, file, offset + len)?;
+    let mut fills = Vec::new(alloc);
+    fills.push(filled(file, offset, len, byte))?;
+    Ok(Edits {
+        cuts: Vec::new(alloc),
+        zeros,
+        fills,
+        runs: Vec::new(alloc),
+        puts,
+        reply: Reply::Okay,
+    })
 }
 
 /// What `fill` changes: `len` bytes from `offset` on become `byte`, and a gap before them is zeros. They take no memory
@@ -231,24 +251,4 @@ pub fn plan_fill(
         }
         Err(reply) => Ok(answer(alloc, reply)),
     }
-}
-
-// One byte is put at each offset of an interval of a file.
-fn fill(alloc: Global, file: &Object, offset: u64, len: u64, byte: u8) -> Result<Edits, Memory>
-    requires small { IsSmall file.now }
-    requires fits { offset + len < 2 ^ 64 }
-    ensures { IfOk result (λ e. ending_of e ≡ record { edits = written (object_of file.now) offset (replicate len byte); reply = Okay }) }
-{
-    let zeros = gap(alloc, file, offset)?;
-    let puts = grown(alloc, file, offset + len)?;
-    let mut fills = Vec::new(alloc);
-    fills.push(filled(file, offset, len, byte))?;
-    Ok(Edits {
-        cuts: Vec::new(alloc),
-        zeros,
-        fills,
-        runs: Vec::new(alloc),
-        puts,
-        reply: Reply::Okay,
-    })
 }

@@ -3,8 +3,10 @@
 
 mod attributes;
 mod bodies;
+mod planning;
 mod reading;
 
 pub use attributes::{plan_chmod, plan_chown, plan_stat, plan_times};
 pub use bodies::{GREATEST_SIZE, plan_fill, plan_truncate, plan_write};
+pub use planning::plan;
 pub use reading::plan_read;
