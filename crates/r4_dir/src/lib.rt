@@ -14,5 +14,5 @@ mod ways;
 pub use editing::{answer, set_attr, stat_key};
 pub use making::{plan_create, plan_link, plan_mkdir};
 pub use object::{Object, Place};
-pub use removing::plan_unlink;
+pub use removing::{plan_rmdir, plan_unlink};
 pub use ways::{is_dir, is_full, is_legal, object_at, step_to, walk_to};

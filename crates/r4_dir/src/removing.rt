@@ -5,7 +5,7 @@ ghost use Rattle.r4_base.specs.Key.{rank};
 ghost use Rattle.r4_base.specs.Name.{key_of_name};
 ghost use Rattle.r4_base.specs.Volume.{byte_rank};
 ghost use Rattle.r4_content.specs.Course.{ending};
-ghost use Rattle.r4_content.specs.Entries.{unlink, unname_in};
+ghost use Rattle.r4_content.specs.Entries.{rmdir, unlink, unname_in};
 ghost use Rattle.r4_content.specs.Held.{ending_of, interval_of, pairs_of};
 ghost use Rattle.r4_content.specs.Meaning.{named};
 ghost use Rattle.r4_content.specs.Seen.{Rises, of_seen};
@@ -14,6 +14,7 @@ ghost use Rattle.r4_dir.specs.Coming.{IsSmall, object_of};
 
 use crate::attributes::{entry_less, link_less};
 use crate::editing::{answer, edits, stat_key};
+use crate::entries::has_entries;
 use crate::object::Object;
 use crate::ways::{OfRoot, entry_of, is_dir, is_legal};
 use r4_base::{Key, Memory, Name, Value};
@@ -109,6 +110,29 @@ pub fn plan_unlink(alloc: Global, path: &[Name], seen: &Seen) -> Result<Edits, M
         Ok(found) => {
             if is_dir(&found.object) {
                 return Ok(answer(alloc, Reply::Isdir));
+            }
+            let name = &path[path.len() - 1];
+            unname_in(alloc, &found.dir, found.key, name, &found.object)
+        }
+        Err(reply) => Ok(answer(alloc, reply)),
+    }
+}
+
+/// What `rmdir` changes.
+pub fn plan_rmdir(alloc: Global, path: &[Name], seen: &Seen) -> Result<Edits, Memory>
+    requires { Rises (pairs_of seen.now) }
+    ensures { IfOk result (λ e. ending_of e ≡ ending (named path.now (rmdir path.now)) (of_seen (pairs_of seen.now))) }
+{
+    if !is_legal(path) {
+        return Ok(answer(alloc, Reply::Name));
+    }
+    match entry_of(alloc, seen, path, OfRoot::Loop)? {
+        Ok(found) => {
+            if !is_dir(&found.object) {
+                return Ok(answer(alloc, Reply::Notdir));
+            }
+            if has_entries(seen, found.object.target.oid) {
+                return Ok(answer(alloc, Reply::Notempty));
             }
             let name = &path[path.len() - 1];
             unname_in(alloc, &found.dir, found.key, name, &found.object)
