@@ -1,18 +1,19 @@
 //! The entries of a directory that were seen (docs/commands.md, "Entries").
 
-ghost use Rattle.std.specs.Prelude.{◌≡◌, ◌<◌, ◌^◌, ◌+◌, ◌&&◌, nat_lt, length, if◌then◌else◌};
+ghost use Rattle.std.specs.Prelude.{◌≡◌, ◌<◌, ◌^◌, ◌+◌, ◌&&◌, ◌∷◌, [], nat_lt, length, IfOk, MatchOption, if◌then◌else◌};
 ghost use Rattle.std.specs.List.{list_any};
 ghost use Rattle.r4_base.specs.Key.{rank};
 ghost use Rattle.r4_content.specs.Course.{Answer, Course};
 ghost use Rattle.r4_content.specs.Edited.{is_between};
-ghost use Rattle.r4_content.specs.Entries.{entries_from, entries_to, if_empty};
+ghost use Rattle.r4_content.specs.Entries.{entries_from, entries_to, if_empty, names_in};
 ghost use Rattle.r4_content.specs.Held.{pairs_of, part_pairs};
 ghost use Rattle.r4_content.specs.Seen.{pairs_in};
 ghost use Rattle.r4_content.specs.declared.reply.Reply.TheVariants.{Notempty};
-ghost use Rattle.r4_dir.specs.Entries.{has_entry};
+ghost use Rattle.r4_dir.specs.Entries.{has_entry, names_among, part_names};
 
-use r4_base::{Key, Oid};
+use r4_base::{Key, Memory, Name, Oid, Value};
 use r4_content::{ByteRun, Seen, SeenPart};
+use std::alloc::Global;
 
 /// Whether an entry of this directory was seen.
 pub(crate) fn has_entries(seen: &Seen, dir: Oid) -> bool
@@ -70,4 +71,40 @@ fn is_entry_run(run: &ByteRun, dir: Oid) -> bool
         return false;
     }
     el3 > u64::MAX - (bytes - 1)
+}
+
+/// The names of the entries of this directory that were seen, in the order of their keys.
+pub(crate) fn names_of(alloc: Global, seen: &Seen, dir: Oid) -> Result<Vec<Name>, Memory>
+    requires { dir.0 < 2 ^ 60 }
+    ensures { IfOk result (λ v. v.items ≡ names_in (pairs_in (pairs_of seen.now) (entries_from dir.0) (entries_to dir.0))) }
+{
+    collect_names(alloc, seen.parts.as_slice(), dir)
+}
+
+// The names of this directory's entries that the parts have.
+fn collect_names(alloc: Global, parts: &[SeenPart], dir: Oid) -> Result<Vec<Name>, Memory>
+    requires { dir.0 < 2 ^ 60 }
+    ensures { IfOk result (λ v. v.items ≡ names_among dir.0 parts.now) }
+{
+    let mut names = Vec::new(alloc);
+    for part in parts {
+        if let Some(name) = name_of(part, dir) {
+            names.push(name.share()?)?;
+        }
+    }
+    Ok(names)
+}
+
+// The name of this directory's entry that a part has.
+fn name_of(part: &SeenPart, dir: Oid) -> Option<&Name>
+    requires { dir.0 < 2 ^ 60 }
+    ensures { MatchOption result (part_names dir.0 part.now ≡ []) (λ n. part_names dir.0 part.now ≡ n.now ∷ []) }
+{
+    match part {
+        SeenPart::One {
+            key,
+            value: Value::Entry(name, _),
+        } => is_entry_of(*key, dir).then_some(name),
+        _ => None,
+    }
 }

@@ -7,12 +7,14 @@ mod editing;
 mod entries;
 mod finding;
 mod making;
+mod naming;
 mod object;
 mod removing;
 mod ways;
 
 pub use editing::{answer, set_attr, stat_key};
 pub use making::{plan_create, plan_link, plan_mkdir};
+pub use naming::plan_names;
 pub use object::{Object, Place};
 pub use removing::{plan_rmdir, plan_unlink};
 pub use ways::{is_dir, is_full, is_legal, object_at, step_to, walk_to};
