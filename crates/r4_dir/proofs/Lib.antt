@@ -1,3 +1,4 @@
 pub mod Finds
 pub mod Below
 pub mod EntryParts
+pub mod Moves

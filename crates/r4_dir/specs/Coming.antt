@@ -5,7 +5,7 @@ use Rattle.r4_content.specs.Course.{Course, ending}
 use Rattle.r4_content.specs.Edited.{Pairs, no_edits}
 use Rattle.r4_content.specs.Objects.{Object}
 use Rattle.r4_content.specs.Seen.{of_seen}
-use Rattle.r4_content.specs.Ways.{Place, to_entry, to_free, to_parent}
+use Rattle.r4_content.specs.Ways.{Place, to_ends, to_entry, to_free, to_parent}
 use Rattle.r4_content.specs.declared.reply.Reply.{Reply}
 use Rattle.r4_dir.specs.declared.object.Object as held
 use Rattle.r4_dir.specs.declared.object.Place as held_place
@@ -56,3 +56,10 @@ ComesEntry r path s dir p = (next : Object → List ℕ → Place → Course) �
 
 abbrev pub StopsEntry : Reply → List (List ℕ) → Pairs → Reply → Type 0
 StopsEntry r path s e = (next : Object → List ℕ → Place → Course) → ending (to_entry r path next) (of_seen s) ≡ record { edits = no_edits; reply = e }
+
+-- and of ways of a move: an object with its directory and its name there, and the directory that it moves to with the new name
+abbrev pub ComesEnds : (from to : List (List ℕ)) → Pairs → (dir object new_dir : Object) → Type 0
+ComesEnds from to s dir o new_dir = (next : Object → List ℕ → Object → Object → List ℕ → Course) → ending (to_ends from to next) (of_seen s) ≡ ending (next dir (last_of from) o new_dir (last_of to)) (of_seen s)
+
+abbrev pub StopsEnds : (from to : List (List ℕ)) → Pairs → Reply → Type 0
+StopsEnds from to s e = (next : Object → List ℕ → Object → Object → List ℕ → Course) → ending (to_ends from to next) (of_seen s) ≡ record { edits = no_edits; reply = e }

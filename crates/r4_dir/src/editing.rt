@@ -1,12 +1,13 @@
 //! The edits of commands on entries (docs/commands.md, "Edits").
 
-ghost use Rattle.std.specs.Prelude.{◌≡◌, ◌<◌, ◌^◌, [], map, IfOk};
+ghost use Rattle.std.specs.Prelude.{◌≡◌, IfOk};
 ghost use Rattle.r4_base.specs.Key.{rank, stat_key};
 ghost use Rattle.r4_content.specs.Edited.{no_edits};
 ghost use Rattle.r4_content.specs.Entries.{name_in};
-ghost use Rattle.r4_content.specs.Held.{ending_of, interval_of, pair_of};
+ghost use Rattle.r4_content.specs.Held.{ending_of};
 ghost use Rattle.r4_content.specs.Objects.{entry_rank, set_attr};
 ghost use Rattle.r4_content.specs.declared.reply.Reply.TheVariants.{Okay};
+ghost use Rattle.r4_dir.specs.Changes.{edits_made};
 ghost use Rattle.r4_dir.specs.Coming.{IsSmall, object_of};
 
 use crate::attributes::entry_more;
@@ -30,16 +31,33 @@ pub fn answer(alloc: Global, reply: Reply) -> Edits
     }
 }
 
-// These keys go, and these values are put in.
-pub(crate) fn edits(alloc: Global, cuts: Vec<Interval>, puts: Vec<(Key, Value)>) -> Edits
-    ensures { ending_of result ≡ record { edits = record { cuts = map interval_of cuts.items; zeros = []; puts = map pair_of puts.items }; reply = Okay } }
+/// Keys that go, and values that are put in.
+#[derive(Drop)]
+pub struct Changes {
+    pub cuts: Vec<Interval>,
+    pub puts: Vec<(Key, Value)>,
+}
+
+// No changes yet.
+pub(crate) fn no_changes(alloc: Global) -> Changes
+    ensures { edits_made result ≡ no_edits }
+{
+    Changes {
+        cuts: Vec::new(alloc),
+        puts: Vec::new(alloc),
+    }
+}
+
+// These changes are all, and the command succeeds.
+pub(crate) fn edits(alloc: Global, changes: Changes) -> Edits
+    ensures { ending_of result ≡ record { edits = edits_made changes; reply = Okay } }
 {
     Edits {
-        cuts,
+        cuts: changes.cuts,
         zeros: Vec::new(alloc),
         fills: Vec::new(alloc),
         runs: Vec::new(alloc),
-        puts,
+        puts: changes.puts,
         reply: Reply::Okay,
     }
 }
@@ -58,9 +76,9 @@ pub fn set_attr(alloc: Global, object: &Object, attr: Attr) -> Result<Edits, Mem
     requires { IsSmall object.now }
     ensures { IfOk result (λ e. ending_of e ≡ record { edits = set_attr (object_of object.now) attr; reply = Okay }) }
 {
-    let mut puts = Vec::new(alloc);
-    puts.push((stat_key(object), Value::Attr(attr)))?;
-    Ok(edits(alloc, Vec::new(alloc), puts))
+    let mut changes = no_changes(alloc);
+    changes.puts.push((stat_key(object), Value::Attr(attr)))?;
+    Ok(edits(alloc, changes))
 }
 
 /// An object gets a name in a directory; `key` is the name's.
@@ -77,9 +95,11 @@ pub(crate) fn name_in(
     ensures { IfOk result (λ e. ending_of e ≡ record { edits = name_in (object_of dir.now) name.now (object_of object.now); reply = Okay }) }
 {
     let more = entry_more(is_dir(object), dir.attr);
-    let mut puts = Vec::new(alloc);
-    puts.push((key, Value::Entry(name.share()?, object.target)))?;
-    puts.push((stat_key(object), Value::Attr(object.attr)))?;
-    puts.push((stat_key(dir), Value::Attr(more)))?;
-    Ok(edits(alloc, Vec::new(alloc), puts))
+    let mut changes = no_changes(alloc);
+    let entry = Value::Entry(name.share()?, object.target);
+    changes.puts.push((key, entry))?;
+    let attr = Value::Attr(object.attr);
+    changes.puts.push((stat_key(object), attr))?;
+    changes.puts.push((stat_key(dir), Value::Attr(more)))?;
+    Ok(edits(alloc, changes))
 }

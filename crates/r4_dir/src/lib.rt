@@ -7,6 +7,7 @@ mod editing;
 mod entries;
 mod finding;
 mod making;
+mod moving;
 mod naming;
 mod object;
 mod removing;
@@ -14,6 +15,7 @@ mod ways;
 
 pub use editing::{answer, set_attr, stat_key};
 pub use making::{plan_create, plan_link, plan_mkdir};
+pub use moving::plan_rename;
 pub use naming::plan_names;
 pub use object::{Object, Place};
 pub use removing::{plan_rmdir, plan_unlink};

@@ -5,15 +5,18 @@ ghost use Rattle.r4_base.specs.Key.{rank};
 ghost use Rattle.r4_base.specs.Name.{key_of_name};
 ghost use Rattle.r4_base.specs.Volume.{byte_rank};
 ghost use Rattle.r4_content.specs.Course.{ending};
+ghost use Rattle.r4_content.specs.Edited.{and_also};
 ghost use Rattle.r4_content.specs.Entries.{rmdir, unlink, unname_in};
 ghost use Rattle.r4_content.specs.Held.{ending_of, interval_of, pairs_of};
 ghost use Rattle.r4_content.specs.Meaning.{named};
+ghost use Rattle.r4_content.specs.Objects.{unnamed};
 ghost use Rattle.r4_content.specs.Seen.{Rises, of_seen};
 ghost use Rattle.r4_content.specs.declared.reply.Reply.TheVariants.{Okay};
+ghost use Rattle.r4_dir.specs.Changes.{edits_made};
 ghost use Rattle.r4_dir.specs.Coming.{IsSmall, object_of};
 
 use crate::attributes::{entry_less, link_less};
-use crate::editing::{answer, edits, stat_key};
+use crate::editing::{Changes, answer, edits, no_changes, stat_key};
 use crate::entries::has_entries;
 use crate::object::Object;
 use crate::ways::{OfRoot, entry_of, is_dir, is_legal};
@@ -40,8 +43,8 @@ fn next_key(key: Key) -> Key
     Key { el }
 }
 
-// A key alone.
-fn one(key: Key) -> Interval
+/// A key alone.
+pub(crate) fn one(key: Key) -> Interval
     requires { slice_index key.el 0 < 2 ^ 64 - 1 }
     ensures { interval_of result ≡ (rank key, rank key + 1) }
 {
@@ -65,20 +68,30 @@ pub(crate) fn unname_in(
     ensures { IfOk result (λ e. ending_of e ≡ record { edits = unname_in (object_of dir.now) name.now (object_of object.now); reply = Okay }) }
 {
     let less = entry_less(is_dir(object), dir.attr);
-    let mut cuts = Vec::new(alloc);
-    let mut puts = Vec::new(alloc);
-    cuts.push(one(key))?;
-    puts.push((stat_key(dir), Value::Attr(less)))?;
+    let mut changes = no_changes(alloc);
+    changes.cuts.push(one(key))?;
+    changes.puts.push((stat_key(dir), Value::Attr(less)))?;
+    let changes = with_unnamed(changes, object)?;
+    Ok(edits(alloc, changes))
+}
+
+/// An entry that names the object goes: a directory goes with it, and with the last one a file goes with its bytes.
+pub(crate) fn with_unnamed(changes: Changes, object: &Object) -> Result<Changes, Memory>
+    requires { IsSmall object.now }
+    ensures { IfOk result (λ c. edits_made c ≡ and_also (edits_made changes) (unnamed (object_of object.now))) }
+{
+    let mut changes = changes;
     let stat = stat_key(object);
     if is_dir(object) {
-        cuts.push(one(stat))?;
+        changes.cuts.push(one(stat))?;
     } else if object.attr.nlink <= 1 {
-        cuts.push(one(stat))?;
-        cuts.push(body_of(object))?;
+        changes.cuts.push(one(stat))?;
+        changes.cuts.push(body_of(object))?;
     } else {
-        puts.push((stat, Value::Attr(link_less(object.attr))))?;
+        let attr = Value::Attr(link_less(object.attr));
+        changes.puts.push((stat, attr))?;
     }
-    Ok(edits(alloc, cuts, puts))
+    Ok(changes)
 }
 
 // The keys of a file's bytes.
