@@ -10,6 +10,7 @@ mod making;
 mod moving;
 mod naming;
 mod object;
+mod planning;
 mod removing;
 mod ways;
 
@@ -18,5 +19,6 @@ pub use making::{plan_create, plan_link, plan_mkdir};
 pub use moving::plan_rename;
 pub use naming::plan_names;
 pub use object::{Object, Place};
+pub use planning::plan;
 pub use removing::{plan_rmdir, plan_unlink};
 pub use ways::{is_dir, is_full, is_legal, object_at, step_to, walk_to};
