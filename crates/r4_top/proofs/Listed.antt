@@ -50,7 +50,7 @@ module _ (path : List ℕ) (d d' : State) (k mid k' : SinkState) (leaves : Leave
     done = λ is. absurd (omega (arith, is, told.0));
     sink = λ is. absurd (omega (arith, is, told.0));
     device = λ is. absurd (omega (arith, is, told.0));
-    image = λ is. (was.err.0, (block.0, (word_of fault, inl (inl (fault, refl, was.err.1), subst (λ (s : SinkState). Prints (image_line block.0 (word_of fault)) s k') was.err.2 told.1))));
+    image = λ is. (was.err.0, (block.0, word_of fault, inl (inl (fault, refl, was.err.1), subst (λ (s : SinkState). Prints (image_line block.0 (word_of fault)) s k') was.err.2 told.1)));
     size = λ is. absurd (omega (arith, is, told.0));
     size_only = λ out. let lawful = was.err.0 in absurd (⊎_elim (λ few. omega (arith, few, lawful.0)) (λ many. omega (arith, many, lawful.1)) out);
     memory = λ is. absurd (omega (arith, is, told.0));
@@ -62,7 +62,7 @@ module _ (path : List ℕ) (d d' : State) (k mid k' : SinkState) (leaves : Leave
     done = λ is. absurd (omega (arith, is, told.0));
     sink = λ is. absurd (omega (arith, is, told.0));
     device = λ is. absurd (omega (arith, is, told.0));
-    image = λ is. (was.err.0, (block.0, (layout_word_of fault, inl (inr (fault, refl, was.err.1), subst (λ (s : SinkState). Prints (image_line block.0 (layout_word_of fault)) s k') was.err.2 told.1))));
+    image = λ is. (was.err.0, (block.0, layout_word_of fault, inl (inr (fault, refl, was.err.1), subst (λ (s : SinkState). Prints (image_line block.0 (layout_word_of fault)) s k') was.err.2 told.1)));
     size = λ is. absurd (omega (arith, is, told.0));
     size_only = λ out. let lawful = was.err.0 in absurd (⊎_elim (λ few. omega (arith, few, lawful.0)) (λ many. omega (arith, many, lawful.1)) out);
     memory = λ is. absurd (omega (arith, is, told.0));
@@ -74,7 +74,7 @@ module _ (path : List ℕ) (d d' : State) (k mid k' : SinkState) (leaves : Leave
     done = λ is. absurd (omega (arith, is, told.0));
     sink = λ is. absurd (omega (arith, is, told.0));
     device = λ is. absurd (omega (arith, is, told.0));
-    image = λ is. (was.err.0.lawful, (block.0, (cell_word_of fault, inr ((fault, refl, was.err.1), record { listed = mid; some = was.printed; then_line = told.1 }))));
+    image = λ is. (was.err.0.lawful, (block.0, cell_word_of fault, inr ((fault, refl, was.err.1), record { listed = mid; some = was.printed; then_line = told.1 })));
     size = λ is. absurd (omega (arith, is, told.0));
     size_only = λ out. let lawful = was.err.0.lawful in absurd (⊎_elim (λ few. omega (arith, few, lawful.0)) (λ many. omega (arith, many, lawful.1)) out);
     memory = λ is. absurd (omega (arith, is, told.0));
