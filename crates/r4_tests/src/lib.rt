@@ -16,6 +16,8 @@ mod entries;
 #[cfg(test)]
 mod items;
 #[cfg(test)]
+mod listed;
+#[cfg(test)]
 mod listings;
 #[cfg(test)]
 mod logs;
@@ -35,5 +37,7 @@ mod spaces;
 mod tables;
 #[cfg(test)]
 mod tests;
+#[cfg(test)]
+mod trees;
 #[cfg(test)]
 mod volumes;
