@@ -1,6 +1,6 @@
 -- What the parts of a listing say, put together.
 use Rattle.std.proofs.Common.{◌≡◌, ◌≢◌, ◌⊎◌, inl, inr, ⊎_elim, ℕ, Bool, false, cond, List, [], ◌∷◌, ◌<◌, ◌≤◌, refl, sym, ap, subst, ◌∙◌, arith, Result, Ok, Err}
-use Rattle.std.specs.Prelude.{◌==◌, Contains, None, Some, IfErr, IfOk}
+use Rattle.std.specs.Prelude.{◌==◌, Contains, None, IfErr, IfOk}
 use Rattle.std.proofs.lemmas.Bool.{cases_lt}
 use Rattle.std.proofs.lemmas.Bool.Decides.{nat_tests}
 use Rattle.std.proofs.lemmas.List.{get_or_past}

@@ -9,11 +9,10 @@ use Rattle.r4_base.specs.Tree.{Name}
 use Rattle.r4_base.specs.declared.items.CellFault.{CellFault}
 use Rattle.r4_base.specs.declared.superblock.Super40.{Super40}
 use Rattle.r4_outside.specs.Device.{State}
-use Rattle.r4_replay.specs.Homes.{home_in}
 use Rattle.r4_cell.specs.Seen.{CellSeen, IsReadFrom, node_of}
 use Rattle.r4_cell.specs.declared.change.Root.{Root}
 use Rattle.r4_search.specs.Path.{root_name}
-use Rattle.r4_search.specs.Pool.{FaultIs, Goes, IsKeptOrRead, IsOf, IsRead, PoolState}
+use Rattle.r4_search.specs.Pool.{FaultIs, Goes, IsKeptOrRead, IsRead, PoolState}
 use Rattle.r4_search.proofs.Walks.{goes_both}
 use Rattle.r4_list.specs.Lists.{IsNodeRefused, root_name_of}
 use Rattle.r4_list.specs.Pool.{Shared, kept_in, nodes_state}

@@ -1,5 +1,5 @@
 -- What is answered, by what a listing answers.
-use Rattle.std.proofs.Common.{◌≡◌, inl, inr, ⊎_elim, ℕ, List, refl, sym, subst, ap, arith, Ok, Err}
+use Rattle.std.proofs.Common.{◌≡◌, inl, inr, ⊎_elim, ℕ, List, refl, sym, subst, arith, Ok, Err}
 use Rattle.r4_base.specs.Value.{Content}
 use Rattle.r4_base.specs.Volume.{HasVolume}
 use Rattle.r4_outside.specs.Device.{Rose, State, TellsReads}
