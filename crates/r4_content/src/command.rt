@@ -8,7 +8,8 @@ use r4_base::{Bytes, Memory, Oid};
 use std::alloc::Global;
 
 /// One command of a script. Offsets, lengths and sizes are in bytes, and times in seconds. Any path may be there, and any
-/// number of its field's width: what is not allowed is refused by the reply.
+/// number of its field's width: what is not allowed is refused by the reply. What each command does, reads and changes is
+/// in docs/commands.md.
 #[derive(Drop)]
 pub enum Command {
     /// A new empty file at `path`, of mode 100644. Where it is done `oid` is the number of the new object, and in a job,

@@ -6,7 +6,8 @@ use crate::names::Names;
 use r4_base::{Attr, BlockNo, Bytes, Memory, Name};
 
 /// What a command is answered. The first four say that it was done; those from `Name` to `Notempty` that the content does
-/// not allow it, and nothing changed; the others that the volume cannot do it now. Blocks are counted from 0.
+/// not allow it, and nothing changed; the others that the volume cannot do it now. Blocks are counted from 0. When each of
+/// the first two kinds comes is in docs/commands.md.
 #[derive(Drop)]
 pub enum Reply {
     /// It was done, and there is nothing to tell. It is printed as `ok`.

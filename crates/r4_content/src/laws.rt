@@ -1,0 +1,106 @@
+//! Laws of commands (docs/commands.md). Each is the contract of a function that does nothing.
+
+ghost use Rattle.std.specs.FinMap.{from_sorted};
+ghost use Rattle.std.specs.Prelude.{◌≡◌, ◌≢◌, ◌↔◌, ◌<◌, ◌≤◌, ◌^◌, ℕ, List, length, replicate, false};
+ghost use Rattle.r4_base.specs.Image.{Image};
+ghost use Rattle.r4_base.specs.Value.{Content};
+ghost use Rattle.r4_base.specs.Volume.{HasContent, HasObjects};
+ghost use Rattle.r4_base.specs.declared.items.Attr.{Attr};
+ghost use Rattle.r4_base.specs.declared.items.Target.{Target};
+ghost use Rattle.r4_base.specs.declared.things.Oid.{Oid};
+ghost use Rattle.r4_content.specs.Course.{ending};
+ghost use Rattle.r4_content.specs.Edited.{Pairs, changed, edited, is_in};
+ghost use Rattle.r4_content.specs.Fields.{HasBytePaths, HasBytes, HasNumbers, IsUnused, NamesUnused};
+ghost use Rattle.r4_content.specs.Lawful.{HasBodies, IsLawful};
+ghost use Rattle.r4_content.specs.Listed.{list_after};
+ghost use Rattle.r4_content.specs.Locality.{IsLocal, Meaning, Spares, commands};
+ghost use Rattle.r4_content.specs.Meaning.{after, changes, course, greatest_size, reply};
+ghost use Rattle.r4_content.specs.Objects.{new_directory, new_file};
+ghost use Rattle.r4_content.specs.Reading.{OnlyReads};
+ghost use Rattle.r4_content.specs.Seen.{IsSeen, Rises, of_seen};
+ghost use Rattle.r4_content.specs.Walk.{At, NoDirectory, NoEntry, NoName, walk};
+ghost use Rattle.r4_content.specs.Walks.{walk_reply};
+ghost use Rattle.r4_content.specs.declared.command.Command.{Command};
+ghost use Rattle.r4_content.specs.declared.command.Command.TheVariants.{Create, Fill, Mkdir, Read, Stat, Truncate, Unlink, Write};
+ghost use Rattle.r4_content.specs.declared.reply.Reply.TheVariants.{Okay, Absent, Data, Notdir, Attr as AttrReply, Name as NameReply};
+
+/// Each command does the same in contents that agree where it reads, and leaves all keys that it does not change.
+pub fn commands_are_local()
+    ensures { (limit : ℕ) → IsLocal (commands limit) }
+{}
+
+/// What was seen where a command asks for it suffices: the edits for it, made in the content, give the content after the
+/// command, and the reply is the command's.
+pub fn seen_suffices()
+    ensures content { (limit : ℕ) (c : Command) (s : Pairs) (m : Content) → IsSeen limit c s m → edited (ending (course limit c) (of_seen s)).edits m ≡ after limit c m }
+    ensures reply { (limit : ℕ) (c : Command) (s : Pairs) (m : Content) → IsSeen limit c s m → (ending (course limit c) (of_seen s)).reply ≡ reply limit c m }
+    ensures edits { (limit : ℕ) (c : Command) (s : Pairs) (m : Content) (k : ℕ) → IsSeen limit c s m
+        → is_in (changed (ending (course limit c) (of_seen s)).edits) k ≡ is_in (changes limit c m) k }
+{}
+
+/// A command does to a content what it does to the list of its pairs.
+pub fn lists_are_contents()
+    ensures content { (limit : ℕ) (c : Command) (s : Pairs) → Rises s → after limit c (from_sorted s) ≡ from_sorted (list_after limit c s) }
+    ensures reply { (limit : ℕ) (c : Command) (s : Pairs) → Rises s → reply limit c (from_sorted s) ≡ (ending (course limit c) (of_seen s)).reply }
+    ensures rises { (limit : ℕ) (c : Command) (s : Pairs) → Rises s → Rises (list_after limit c s) }
+{}
+
+/// Commands that change nothing which the other one reads or changes may be done in either order, with the same replies.
+pub fn apart_commands_commute<C, R>()
+    ensures contents { (w : Meaning C R) → IsLocal w → (x y : C) (m : Content) → Spares w y x m → Spares w x y m → w.after x (w.after y m) ≡ w.after y (w.after x m) }
+    ensures replies { (w : Meaning C R) → IsLocal w → (x y : C) (m : Content) → Spares w y x m → w.reply x (w.after y m) ≡ w.reply x m }
+{}
+
+/// Where the reply is not `ok`, the content stays: so it does where a command is refused, and where it is answered bytes,
+/// attributes or names. `read`, `stat`, `names`, `begin`, `end` and `commit` change nothing in any content.
+pub fn refusals_change_nothing()
+    ensures content { (limit : ℕ) (c : Command) (m : Content) → reply limit c m ≢ Okay → after limit c m ≡ m }
+    ensures keys { (limit : ℕ) (c : Command) (m : Content) (k : ℕ) → reply limit c m ≢ Okay → is_in (changes limit c m) k ≡ false }
+    ensures reading { (limit : ℕ) (c : Command) (m : Content) → OnlyReads c → after limit c m ≡ m }
+{}
+
+/// The walk of commands is that of the listing: what `stat` is answered tells where the walk along the path ends, and each
+/// ending has a reply of its own.
+pub fn walks_agree()
+    ensures stat { (limit : ℕ) (m : Content) (path : List (List ℕ)) → reply limit (Stat path) m ≡ walk_reply (walk m path) }
+    ensures found { (limit : ℕ) (m : Content) (path : List (List ℕ)) (a : Attr) → (reply limit (Stat path) m ≡ AttrReply a) ↔ ((o : Target) × (walk m path ≡ At o a)) }
+    ensures notdir { (limit : ℕ) (m : Content) (path : List (List ℕ)) → (reply limit (Stat path) m ≡ Notdir) ↔ (walk m path ≡ NoDirectory) }
+    ensures absent { (limit : ℕ) (m : Content) (path : List (List ℕ)) → (reply limit (Stat path) m ≡ Absent) ↔ (walk m path ≡ NoEntry) }
+    ensures name { (limit : ℕ) (m : Content) (path : List (List ℕ)) → (reply limit (Stat path) m ≡ NameReply) ↔ (walk m path ≡ NoName) }
+{}
+
+/// What was written is read: after `write` the bytes of the text, after `fill` its byte as often as it was asked for. After
+/// `truncate` the size is the one that was asked for. What was made has the attributes of a new object, and what was
+/// unlinked is absent. So it is in each content whose numbers and names are of their fields' widths; where an object is
+/// made, its id must not be in use.
+pub fn what_is_written_is_read()
+    ensures write { (limit : ℕ) (path : List (List ℕ)) (offset : ℕ) (text : List ℕ) (m : Content) → HasNumbers m → HasBytes path → limit ≤ 2 ^ 64
+        → reply limit (Write path offset text) m ≡ Okay → reply limit (Read path offset (length text)) (after limit (Write path offset text) m) ≡ Data text }
+    ensures fill { (limit : ℕ) (path : List (List ℕ)) (offset len byte : ℕ) (m : Content) → HasNumbers m → HasBytes path → limit ≤ 2 ^ 64
+        → reply limit (Fill path offset len byte) m ≡ Okay → reply limit (Read path offset len) (after limit (Fill path offset len byte) m) ≡ Data (replicate len byte) }
+    ensures truncate { (limit : ℕ) (path : List (List ℕ)) (size : ℕ) (m : Content) → HasNumbers m → HasBytes path → limit ≤ 2 ^ 64
+        → reply limit (Truncate path size) m ≡ Okay → (a : Attr) × (reply limit (Stat path) (after limit (Truncate path size) m) ≡ AttrReply a) × (a.size ≡ size) }
+    ensures create { (limit : ℕ) (path : List (List ℕ)) (oid : Oid) (m : Content) → HasNumbers m → HasBytes path → IsUnused m oid
+        → reply limit (Create path oid) m ≡ Okay → reply limit (Stat path) (after limit (Create path oid) m) ≡ AttrReply new_file }
+    ensures mkdir { (limit : ℕ) (path : List (List ℕ)) (oid : Oid) (m : Content) → HasNumbers m → HasBytes path → IsUnused m oid
+        → reply limit (Mkdir path oid) m ≡ Okay → reply limit (Stat path) (after limit (Mkdir path oid) m) ≡ AttrReply new_directory }
+    ensures unlink { (limit : ℕ) (path : List (List ℕ)) (m : Content) → HasNumbers m → HasBytes path
+        → reply limit (Unlink path) m ≡ Okay → reply limit (Stat path) (after limit (Unlink path) m) ≡ Absent }
+{}
+
+/// A content that a volume may have stays one: after each command its objects, directories and entries are again as a
+/// volume asks it, its keys fit what stands at them, and each file has just the bytes below its size (docs/volume.md, "The
+/// content of an image"). A command that makes an object must name an id that is not in use, and each directory must be
+/// able to count another entry (`IsLawful`).
+pub fn lawful_contents_stay_lawful()
+    ensures objects { (limit : ℕ) (c : Command) (m : Content) → limit < 2 ^ 64 → IsLawful limit m → HasBytePaths c → NamesUnused m c → HasObjects (after limit c m) }
+    ensures bodies { (limit : ℕ) (c : Command) (m : Content) → limit < 2 ^ 64 → IsLawful limit m → HasBytePaths c → NamesUnused m c → HasBodies limit (after limit c m) }
+    ensures numbers { (limit : ℕ) (m : Content) → limit < 2 ^ 64 → IsLawful limit m → HasNumbers m }
+{}
+
+/// The content of an image has objects, keys and bytes as this asks of them. What is asked besides is that its links are
+/// numbers of their field and that its directories can count another entry (`IsLawful`).
+pub fn volumes_are_lawful()
+    ensures objects { (n : ℕ) (image : Image) (m : Content) → HasContent n image m → HasObjects m }
+    ensures bodies { (n : ℕ) (image : Image) (m : Content) → HasContent n image m → HasBodies greatest_size m }
+{}

@@ -1,0 +1,44 @@
+-- Where the ways of a command lead on what was seen (docs/commands.md, "Ways").
+use Rattle.std.specs.Prelude.{◌≡◌, ◌<◌, ◌^◌, ℕ, List, [], length, ◌-◌, map, slice_index_or, All, None}
+use Rattle.r4_base.specs.Name.{name_fault}
+use Rattle.r4_content.specs.Course.{Course, ending}
+use Rattle.r4_content.specs.Edited.{Pairs, no_edits}
+use Rattle.r4_content.specs.Objects.{Object}
+use Rattle.r4_content.specs.Seen.{of_seen}
+use Rattle.r4_content.specs.Ways.{Place, to_free}
+use Rattle.r4_content.specs.declared.reply.Reply.{Reply}
+use Rattle.r4_dir.specs.declared.object.Object as held
+use Rattle.r4_dir.specs.declared.object.Place as held_place
+
+abbrev pub object_of : held.Object → Object
+object_of o = record { target = o.target; attr = o.attr }
+
+abbrev pub place_of : held_place.Place → Place
+place_of p = record { here = object_of p.here; above = map object_of p.above.items }
+
+-- its numbers are those of an object
+abbrev pub IsSmall : held.Object → Type 0
+IsSmall o = (o.target.oid.0 < 2 ^ 60) × (o.target.locality < 2 ^ 60)
+
+-- the way comes to a, whatever follows
+abbrev pub Comes : {A : Type 0} → ((A → Course) → Course) → Pairs → A → Type 0
+Comes {A} way s a = (next : A → Course) → ending (way next) (of_seen s) ≡ ending (next a) (of_seen s)
+
+-- the way ends, and the command is refused
+abbrev pub Stops : {A : Type 0} → ((A → Course) → Course) → Pairs → Reply → Type 0
+Stops {A} way s r = (next : A → Course) → ending (way next) (of_seen s) ≡ record { edits = no_edits; reply = r }
+
+-- each is a name
+abbrev pub AreNames : List (List ℕ) → Type 0
+AreNames path = All (λ n. name_fault n ≡ None) path
+
+-- the last name of a path
+abbrev pub last_of : List (List ℕ) → List ℕ
+last_of path = slice_index_or path (length path - 1) []
+
+-- the same of ways that come to a directory and a name
+abbrev pub ComesFree : List (List ℕ) → Pairs → Object → Type 0
+ComesFree path s dir = (next : Object → List ℕ → Course) → ending (to_free path next) (of_seen s) ≡ ending (next dir (last_of path)) (of_seen s)
+
+abbrev pub StopsFree : List (List ℕ) → Pairs → Reply → Type 0
+StopsFree path s r = (next : Object → List ℕ → Course) → ending (to_free path next) (of_seen s) ≡ record { edits = no_edits; reply = r }
