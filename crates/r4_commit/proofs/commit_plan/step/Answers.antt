@@ -1,0 +1,11 @@
+use Rattle.std.proofs.Common.{◌≡◌, sym, ap, ◌∙◌, subst}
+use Rattle.r4_wander.specs.Progress.{Commits, Progress, Stands}
+use Rattle.r4_commit.proofs.commit_plan.step.Goals as goal
+
+pub returns-clause-needed : goal.returns-clause-needed
+returns-clause-needed g c = λ n base chain p m v commits stands other free.
+    let same : c.plan.inside.writer ≡ c.args.plan.now = c.plan.view_is in
+    c.step.ensures.needed n base chain p m v
+        (subst (λ (w : Progress). Commits w n base chain p) (sym same) commits)
+        (subst (λ (w : Progress). Stands w base (g.D.Device.state c.args.dev.now)) (sym same) stands)
+        (λ is. other (sym (ap (λ (w : Progress). w.part) same) ∙ is)) free

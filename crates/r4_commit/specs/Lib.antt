@@ -1,0 +1,4 @@
+pub mod Places
+pub mod Planned
+pub mod Plannable
+pub mod Held
