@@ -1,9 +1,9 @@
 -- Blocks that are held for an atom, one more at a time.
-use Rattle.std.proofs.Common.{◌≡◌, ◌≢◌, ◌⊎◌, inl, inr, ⊎_elim, ℕ, zero, suc, ◌+◌, ◌-◌, ◌≤◌, ◌<◌, Bool, true, false, not, ◌||◌, List, [], ◌∷◌, ◌++◌, length, map, take, drop, get_or, refl, sym, ap, ◌∙◌, subst, append_assoc, length-append, length-drop, drop-cons, arith}
-use Rattle.std.specs.Prelude.{Contains, All, count_by}
-use Rattle.std.specs.List.{list_any, range_with_len}
+use Rattle.std.proofs.Common.{◌≡◌, ◌≢◌, ◌⊎◌, inl, inr, ⊎_elim, ℕ, zero, suc, ◌+◌, ◌-◌, ◌≤◌, ◌<◌, Bool, true, false, not, ◌||◌, List, [], ◌∷◌, ◌++◌, length, map, take, drop, get_or, refl, sym, ap, ◌∙◌, subst, append_assoc, length-append, length-drop, arith}
+use Rattle.std.specs.Prelude.{Contains, All}
+use Rattle.std.specs.List.{range_with_len}
 use Rattle.std.proofs.lemmas.Bool.{cases_eq, cases_Bool, eq-eqb}
-use Rattle.std.proofs.lemmas.List.{length-map, map-append, take_more, take_all}
+use Rattle.std.proofs.lemmas.List.{map-append, take_more, take_all}
 use Rattle.std.proofs.lemmas.List.FromFn.{length-range_with_len}
 use Rattle.std.proofs.lemmas.List.Sums.{count_by-le-length}
 use Rattle.std.proofs.lemmas.List.Folds.{list_any-append}
@@ -15,7 +15,7 @@ use Rattle.r4_base.specs.declared.things.BlockNo.{BlockNo}
 use Rattle.r4_base.proofs.Members.{member_cases, no_member}
 use Rattle.r4_space.specs.declared.things.Account.{Account}
 use Rattle.r4_space.specs.declared.things.Claim.{Claim}
-use Rattle.r4_space.specs.Accounts.{is_account_of, is_atom, is_open, is_sealed, no_account, with_atom}
+use Rattle.r4_space.specs.Accounts.{is_account_of, is_open, is_sealed, no_account, with_atom}
 use Rattle.r4_space.specs.Space.{Space, is_block, is_claimed, is_taken, is_taken_by, unused_count, with_held, with_room}
 use Rattle.r4_space.specs.Words.{IsNextClear}
 use Rattle.r4_commit.specs.Planned.{IsUnused, with_all_held}

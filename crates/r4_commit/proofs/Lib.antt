@@ -1,3 +1,5 @@
 pub mod CellPlaces
 pub mod HeldBlocks
 pub mod NewHomes
+pub mod PlanFacts
+pub mod PlanMaking

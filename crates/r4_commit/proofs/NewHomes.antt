@@ -1,5 +1,5 @@
 -- What a commit overwrites, one more at a time.
-use Rattle.std.proofs.Common.{◌≡◌, ℕ, ◌+◌, ◌<◌, List, [], ◌∷◌, ◌++◌, length, map, take, get_or, refl, sym, ap, ◌∙◌, append_assoc, arith}
+use Rattle.std.proofs.Common.{◌≡◌, ℕ, ◌+◌, List, [], ◌∷◌, ◌++◌, length, sym, ap, ◌∙◌, arith}
 use Rattle.r4_base.specs.Bitmap.{bitmap_block}
 use Rattle.r4_wander.specs.Torn.{Write}
 use Rattle.r4_commit.specs.Planned.{bitmap_writes}

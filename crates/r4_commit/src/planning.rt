@@ -9,7 +9,8 @@ ghost use Rattle.r4_space.specs.Accounts.{price_formula};
 ghost use Rattle.r4_space.specs.Space.{unused_count};
 ghost use Rattle.r4_place.specs.Chosen.{fresh_blocks};
 ghost use Rattle.r4_commit.specs.Places.{overwritten, overwritten_blocks, place_of};
-ghost use Rattle.r4_commit.specs.Planned.{IsPlanned};
+ghost use Rattle.r4_commit.specs.Planned.{IsPlanFor, IsPlanned, blocks_of, with_all_held};
+ghost use Rattle.r4_wander.specs.LogPlan.{CanBeWritten, IsBelow};
 
 use crate::commit_plan::CommitPlan;
 use crate::holding::{hold_log, lay_out};
@@ -48,26 +49,49 @@ pub fn plan(
     ensures planned { IfOk result (IsPlanned space.old space.new atom (map (λ cell. arc_value cell) cells.now) placed.now next.now prev) }
     ensures err { OnErr result (space.new ≡ space.old) }
 {
+    let mut held = space.copy(alloc)?;
+    let plan = make_plan(alloc, atom, cells, placed, next, prev, &mut held)?;
+    let writer = Writer::new(alloc, plan)?;
+    *space = held;
+    Ok(CommitPlan { writer })
+}
+
+/// What the commit writes, where the blocks of its log are held. The condition is that of `plan`.
+fn make_plan(
+    alloc: Global,
+    atom: AtomNo,
+    cells: &[Arc<Cell>],
+    placed: &[Placed],
+    next: &Super40,
+    prev: BlockNo,
+    space: &mut SpaceMap,
+) -> Result<LogPlan, Memory>
+    requires room { price_formula (length (overwritten_blocks placed.now (map (λ cell. arc_value cell) cells.now))) (bitmap_count space.old.block_count) ≤ unused_count space.old }
+    requires overwritten { All (λ b. (b ≢ 0) × (b < space.old.block_count)) (overwritten_blocks placed.now (map (λ cell. arc_value cell) cells.now)) }
+    requires placed { All (λ b. b < space.old.block_count) (fresh_blocks placed.now) }
+    requires blocks { next.now.block_count ≡ space.old.block_count }
+    ensures is_for { IfOk result (IsPlanFor space.old atom (map (λ cell. arc_value cell) cells.now) placed.now next.now prev) }
+    ensures below { IfOk result (IsBelow space.old.block_count) }
+    ensures written { IfOk result CanBeWritten }
+    ensures held { IfOk result (λ p. space.new ≡ record (with_all_held space.old atom (blocks_of p)) { spare = space.new.spare }) }
+{
     space.lawful();
     let places = read_places(alloc, placed)?;
-    let placed = PlacedCells::from_vec(place_cells(alloc, cells, &places)?);
+    let placed = place_cells(alloc, cells, &places)?;
     let bitmaps = make_bitmaps(alloc, atom, next.block_count, space)?;
     let last = renew_super(next, &bitmaps);
     let homes = make_homes(alloc, &last, bitmaps, cells, &places)?;
-    let mut held = space.copy(alloc)?;
-    let log = hold_log(alloc, atom, prev, homes.len(), &mut held)?;
-    let plan = LogPlan {
+    let log = hold_log(alloc, atom, prev, homes.len(), space)?;
+    let wandered = lay_out(alloc, homes, &log.copies)?;
+    Ok(LogPlan {
         id: last.flushes,
         prev,
         head: log.head,
         records: Blocks::from_vec(log.records),
-        placed,
-        wandered: WanderedCopies::from_vec(lay_out(alloc, homes, &log.copies)?),
+        placed: PlacedCells::from_vec(placed),
+        wandered: WanderedCopies::from_vec(wandered),
         free_blocks: last.free_blocks,
         nr_files: last.file_count,
         next_oid: last.oid,
-    };
-    let writer = Writer::new(alloc, plan)?;
-    *space = held;
-    Ok(CommitPlan { writer })
+    })
 }

@@ -1,4 +1,4 @@
-use Rattle.std.proofs.Common.{◌≡◌, ◌≤◌, length, map}
+use Rattle.std.proofs.Common.{◌≡◌, length, map}
 use Rattle.r4_commit.proofs.HeldBlocks.{IsHolding}
 use Rattle.r4_commit.proofs.holding.hold_blocks.Given as goal
 

@@ -1,4 +1,4 @@
-use Rattle.std.proofs.Common.{◌≡◌, ℕ, length, map, take}
+use Rattle.std.proofs.Common.{◌≡◌, length, map, take}
 use Rattle.r4_wander.specs.Seen.{Copy}
 use Rattle.r4_base.specs.declared.things.BlockNo.{BlockNo}
 use Rattle.r4_commit.proofs.holding.lay_out.Given as goal
