@@ -3,3 +3,7 @@ pub mod HeldBlocks
 pub mod NewHomes
 pub mod PlanFacts
 pub mod PlanMaking
+pub mod Differing
+pub mod Safety
+pub mod NewImage
+pub mod Bounds
