@@ -15,7 +15,7 @@ use Rattle.r4_wander.specs.Parts.{Parts, IsOrderOf}
 use Rattle.r4_wander.specs.Progress.{calls_from}
 use Rattle.r4_wander.specs.declared.plan.LogPlan.{LogPlan}
 use Rattle.r4_wander.proofs.Stepping.{all_calls}
-use Rattle.r4_commit.specs.Places.{overwritten, place_of, placed_cells}
+use Rattle.r4_commit.specs.Places.{overwritten, place_of}
 use Rattle.r4_commit.specs.Planned.{IsPlanFor, new_super}
 use Rattle.r4_commit.proofs.PlanFacts.{length-both, length-new_homes}
 
@@ -27,7 +27,7 @@ pub bounded : (s : Space) (atom : AtomNo) (cells : List CellSeen) (answers : Lis
 bounded s atom cells answers next last p plan f order =
     let place = place_of answers in
     let copies : length p.wandered ≡ length (overwritten (place_of answers) cells) + bitmap_count s.block_count + 1 =
-        sym (length-map p.wandered (λ (w : Copy). (w.original, w.block))) ∙ ap (λ (l : List Write). length l) f.homes ∙ length-new_homes (new_super next f.bitmaps) f.bitmaps (overwritten (place_of answers) cells)
-        ∙ ap (λ (b : ℕ). length (overwritten (place_of answers) cells) + b + 1) f.are_new.count in
+    sym (length-map p.wandered (λ (w : Copy). (w.original, w.block))) ∙ ap (λ (l : List Write). length l) f.homes ∙ length-new_homes (new_super next f.bitmaps) f.bitmaps (overwritten (place_of answers) cells)
+    ∙ ap (λ (b : ℕ). length (overwritten (place_of answers) cells) + b + 1) f.are_new.count in
     let fresh : length p.placed + length (overwritten (place_of answers) cells) ≡ length cells = ap (λ (l : List PlacedCell). length l + length (overwritten (place_of answers) cells)) f.placed ∙ length-both (place_of answers) cells in
     bound (calls_from plan 0) (length p.placed) (length p.wandered) (length p.records) (length (overwritten (place_of answers) cells)) (bitmap_count s.block_count) (length cells) (all_calls p plan order) copies f.records fresh

@@ -1,7 +1,7 @@
 -- Lists of different blocks.
-use Rattle.std.proofs.Common.{◌≡◌, ◌≢◌, inl, inr, ⊎_elim, ℕ, zero, suc, ◌+◌, ◌≤◌, ◌<◌, List, [], ◌∷◌, ◌++◌, length, map, get_or, Option, Some, None, refl, sym, ap, ◌∙◌, subst, arith}
+use Rattle.std.proofs.Common.{◌≡◌, ⊎_elim, ℕ, List, [], ◌∷◌, ◌++◌, map, Option, Some, None, refl, sym, ap, ◌∙◌, subst}
 use Rattle.std.specs.Prelude.{Contains}
-use Rattle.std.proofs.lemmas.List.Elements.{Contains-append_cases, Contains-append_left, Contains-append_right}
+use Rattle.std.proofs.lemmas.List.Elements.{Contains-append_cases, Contains-append_right}
 use Rattle.r4_base.specs.Image.{AreDifferent}
 use Rattle.r4_base.specs.declared.things.BlockNo.{BlockNo}
 use Rattle.r4_base.proofs.Members.{member_cases, member_here, member_later, no_member}
@@ -58,10 +58,13 @@ placed_different answers (c ∷ cs) different names = go (placed_different answe
   where
     go : AreDifferent (map (λ (x : PlacedCell). x.at) (placed_cells (place_of answers) cs)) → (o : Option BlockNo) → place_of answers c.id ≡ o → AreDifferent (map (λ (x : PlacedCell). x.at) (placed_at c o ++ placed_cells (place_of answers) cs))
     go rest None none = rest
-    go rest (Some a) some = ((λ again.
-        let other = placed_from (place_of answers) cs a.0 again in
-        let name : c.id ≡ other.0.id = one_name answers c.id other.0.id a other.2.0 different some other.2.1 other.2.2 in
-        names.0 (subst (Contains (map (λ (x : CellSeen). x.id) cs)) (sym name) (in_map (λ (x : CellSeen). x.id) cs other.0 other.1))), rest)
+    go rest (Some a) some = (
+      (λ again.
+          let other = placed_from (place_of answers) cs a.0 again in
+          let name : c.id ≡ other.0.id = one_name answers c.id other.0.id a other.2.0 different some other.2.1 other.2.2 in
+          names.0 (subst (Contains (map (λ (x : CellSeen). x.id) cs)) (sym name) (in_map (λ (x : CellSeen). x.id) cs other.0 other.1))),
+      rest,
+    )
 
 -- ---- the cells that keep their blocks
 

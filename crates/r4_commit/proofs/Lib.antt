@@ -7,3 +7,4 @@ pub mod Differing
 pub mod Safety
 pub mod NewImage
 pub mod Bounds
+pub mod KeptVolumes

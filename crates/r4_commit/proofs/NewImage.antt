@@ -1,6 +1,6 @@
 -- The image with an atom's cells: its superblock, its bitmaps, and what they mark.
-use Rattle.std.proofs.Common.{◌≡◌, ◌≢◌, ◌⊎◌, inl, inr, ⊎_elim, ℕ, zero, suc, ◌+◌, ◌*◌, ◌/◌, ◌%◌, ◌^◌, ◌≤◌, ◌<◌, Bool, true, false, not, ◌||◌, ◌&&◌, cond, List, [], ◌∷◌, ◌++◌, length, map, get_or, Option, Some, None, Ok, refl, sym, ap, ◌∙◌, subst, arith}
-use Rattle.std.specs.Prelude.{Contains, All, nat_le}
+use Rattle.std.proofs.Common.{◌≡◌, inl, inr, ⊎_elim, ℕ, zero, suc, ◌+◌, ◌*◌, ◌/◌, ◌%◌, ◌<◌, Bool, true, false, ◌||◌, cond, List, [], ◌∷◌, length, map, get_or, Option, Some, None, Ok, refl, sym, ap, ◌∙◌, subst, arith}
+use Rattle.std.specs.Prelude.{Contains, nat_le}
 use Rattle.std.specs.Option.{option_or}
 use Rattle.std.proofs.lemmas.Bool.{eqb-true}
 use Rattle.std.proofs.lemmas.Bool.Decides.{nat_tests}
@@ -22,7 +22,7 @@ use Rattle.r4_space.specs.Bitmaps.{AreBitmapsOf, bitmaps_fault, first_unheld_of,
 use Rattle.r4_space.specs.Space.{Space, is_marked_after, is_marked_by}
 use Rattle.r4_space.proofs.BitmapLaws.{same_fault}
 use Rattle.r4_place.specs.declared.placed.Placed.{Placed}
-use Rattle.r4_wander.specs.Torn.{Write, put_writes, targets}
+use Rattle.r4_wander.specs.Torn.{Write, put_writes}
 use Rattle.r4_wander.specs.LogPlan.{news, placed_writes}
 use Rattle.r4_wander.specs.Safe.{is_scratch, with_atom}
 use Rattle.r4_wander.specs.declared.plan.LogPlan.{LogPlan}

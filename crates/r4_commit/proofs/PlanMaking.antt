@@ -92,9 +92,10 @@ module _ (s : Space) (atom : AtomNo) (cells : List CellSeen) (answers : List Pla
       records = all_from (λ (b : ℕ). b < s.block_count) p.records (λ b h. in_blocks b (Contains-append_right (map (λ (w : Copy). w.copy) p.wandered) (p.records ++ p.head.0 ∷ []) b (Contains-append_left p.records (p.head.0 ∷ []) b h)));
       placed = all_from (λ (x : PlacedCell). x.at < s.block_count) p.placed (λ x h. All-contains (λ (b : ℕ). b < s.block_count) (fresh_blocks answers) x.at fresh
           (placed_fresh answers cells x.at (subst (λ (l : List PlacedCell). Contains (map (λ (y : PlacedCell). y.at) l) x.at) is_plan.placed (in_map (λ (y : PlacedCell). y.at) p.placed x h))));
-      wandered = all_from (λ (w : Copy). (w.original < s.block_count) × (w.copy < s.block_count)) p.wandered (λ w h.
-          ((original w.original (in_map (λ (x : Copy). x.original) p.wandered w h)).1,
-          in_blocks w.copy (Contains-append_left (map (λ (x : Copy). x.copy) p.wandered) (p.records ++ p.head.0 ∷ []) w.copy (in_map (λ (x : Copy). x.copy) p.wandered w h))));
+      wandered = all_from (λ (w : Copy). (w.original < s.block_count) × (w.copy < s.block_count)) p.wandered (λ w h. (
+        (original w.original (in_map (λ (x : Copy). x.original) p.wandered w h)).1,
+        in_blocks w.copy (Contains-append_left (map (λ (x : Copy). x.copy) p.wandered) (p.records ++ p.head.0 ∷ []) w.copy (in_map (λ (x : Copy). x.copy) p.wandered w h)),
+      ));
     }
 
     few_blocks_in : length (blocks_of p) ≤ s.block_count

@@ -1,32 +1,31 @@
 -- A plan is safe.
-use Rattle.std.proofs.Common.{◌≡◌, ◌≢◌, ◌⊎◌, inl, inr, ⊎_elim, ℕ, zero, suc, ◌+◌, ◌*◌, ◌/◌, ◌%◌, ◌≤◌, ◌<◌, Bool, true, false, not, ◌||◌, ◌&&◌, List, [], ◌∷◌, ◌++◌, length, map, get_or, refl, sym, ap, ◌∙◌, subst, arith}
+use Rattle.std.proofs.Common.{◌≡◌, ◌≢◌, ◌⊎◌, inl, inr, ⊎_elim, ℕ, zero, suc, ◌+◌, ◌*◌, ◌%◌, ◌≤◌, ◌<◌, Bool, true, false, ◌||◌, List, [], ◌∷◌, ◌++◌, length, map, get_or, refl, sym, ap, ◌∙◌, subst, arith}
 use Rattle.std.specs.Prelude.{Contains, All}
 use Rattle.std.specs.List.{range_with_len}
-use Rattle.std.proofs.lemmas.Bool.{eqb-true, ne_eqb, cases_lt, ltb-true}
+use Rattle.std.proofs.lemmas.Bool.{cases_lt}
 use Rattle.std.proofs.lemmas.Bool.Decides.{nat_tests}
 use Rattle.std.proofs.lemmas.List.{ext_get_or, get_or-map, length-map, map-append}
 use Rattle.std.proofs.lemmas.List.FromFn.{get_or-range_with_len, length-range_with_len}
-use Rattle.std.proofs.lemmas.List.Elements.{All-contains, Contains-append_cases, Contains-append_left, Contains-append_right, Contains-get_or}
+use Rattle.std.proofs.lemmas.List.Elements.{All-contains, Contains-append_cases, Contains-get_or}
 use Rattle.std.proofs.lemmas.Simd.{map-map}
 use Rattle.r4_base.specs.Image.{AreDifferent, Image}
 use Rattle.r4_base.specs.Bitmap.{bitmap_block, bitmap_count, is_fixed}
-use Rattle.r4_base.specs.Chain.{InRange, IsOriginalNumber, Txn, HasLog, committed, flushed, kept_blocks, originals}
+use Rattle.r4_base.specs.Chain.{IsOriginalNumber, Txn, flushed, kept_blocks}
 use Rattle.r4_base.specs.declared.superblock.Super40.{Super40}
 use Rattle.r4_base.specs.declared.things.AtomNo.{AtomNo}
 use Rattle.r4_base.specs.declared.things.BlockNo.{BlockNo}
-use Rattle.r4_base.proofs.Members.{member_cases, member_here, no_member}
 use Rattle.r4_cell.specs.Seen.{CellSeen}
 use Rattle.r4_space.specs.Space.{Space, is_claimed, is_taken, is_taken_by}
 use Rattle.r4_place.specs.Chosen.{fresh_blocks}
 use Rattle.r4_place.specs.declared.placed.Placed.{Placed}
 use Rattle.r4_wander.specs.Seen.{Copy, Placed as PlacedCell}
 use Rattle.r4_wander.specs.Torn.{Write, targets, IsTarget}
-use Rattle.r4_wander.specs.LogPlan.{copies, first, head_write, news, originals_of, placed_writes, record_write, record_writes, scratch}
+use Rattle.r4_wander.specs.LogPlan.{copies, first, head_write, originals_of, placed_writes, record_write, record_writes, scratch}
 use Rattle.r4_wander.specs.Safe.{IsSafe}
 use Rattle.r4_wander.specs.declared.plan.LogPlan.{LogPlan}
 use Rattle.r4_wander.proofs.Encoding.{news_are}
-use Rattle.r4_commit.specs.Places.{overwritten, overwritten_blocks, place_of, placed_cells}
-use Rattle.r4_commit.specs.Planned.{IsPlanFor, IsUnused, bitmap_writes, blocks_of, new_homes, new_super}
+use Rattle.r4_commit.specs.Places.{overwritten, overwritten_blocks, place_of}
+use Rattle.r4_commit.specs.Planned.{IsPlanFor, IsUnused, bitmap_writes, blocks_of, new_super}
 use Rattle.r4_commit.specs.Plannable.{IsPlannable, is_marked_in, is_spoken_for}
 use Rattle.r4_commit.proofs.PlanFacts.{bitmap_target, bitmap_within, home_cases, later_bitmap, length-new_homes, placed_fresh}
 use Rattle.r4_commit.proofs.Differing.{different-append, kept_different, placed_different}
@@ -193,13 +192,14 @@ module _ (n : ℕ) (base : Image) (chain : List Txn) (s : Space) (atom : AtomNo)
       other (suc k) b is also = let at = later_bitmap k in absurd (omega (arith, is, also, at))
 
   pub originals_differ : AreDifferent (originals_of p)
-  originals_differ = subst AreDifferent (sym originals_are)
-      ((λ again. ⊎_elim
-      (λ bitmap. (bitmap_fixed 17 bitmap).0 refl)
-      (λ cell. clash (is_fixed s.block_count 17) (fixed_low s.block_count 17 (omega arith)) (overwritten_block 17 cell).1)
-      (Contains-append_cases (targets (bitmap_writes 0 f.bitmaps)) (overwritten_blocks answers cells) 17 again)),
-      different-append (targets (bitmap_writes 0 f.bitmaps)) (overwritten_blocks answers cells) (bitmaps_different 0 f.bitmaps) (kept_different (place_of answers) cells h.names)
-      (λ b bitmap cell. clash (is_fixed s.block_count b) (bitmap_fixed b bitmap).1 (overwritten_block b cell).1))
+  originals_differ = subst AreDifferent (sym originals_are) (
+    (λ again. ⊎_elim
+        (λ bitmap. (bitmap_fixed 17 bitmap).0 refl)
+        (λ cell. clash (is_fixed s.block_count 17) (fixed_low s.block_count 17 (omega arith)) (overwritten_block 17 cell).1)
+        (Contains-append_cases (targets (bitmap_writes 0 f.bitmaps)) (overwritten_blocks answers cells) 17 again)),
+    different-append (targets (bitmap_writes 0 f.bitmaps)) (overwritten_blocks answers cells) (bitmaps_different 0 f.bitmaps) (kept_different (place_of answers) cells h.names)
+        (λ b bitmap cell. clash (is_fixed s.block_count b) (bitmap_fixed b bitmap).1 (overwritten_block b cell).1),
+  )
 
   original_apart : (b : ℕ) → Contains (originals_of p) b → Contains (kept_blocks chain) b → ⊥
   original_apart b one keeps =

@@ -1,10 +1,19 @@
 //! A commit under way.
 
-ghost use Rattle.std.specs.Prelude.{ℕ, ◌≡◌, ◌≢◌, ◌+◌, ◌^◌, ◌<◌, ◌≤◌, OnOk, IfOk, List};
+ghost use Rattle.std.specs.Prelude.{ℕ, ◌≡◌, ◌≢◌, ◌+◌, ◌^◌, ◌<◌, ◌≤◌, OnOk, IfOk, List, true};
 ghost use Rattle.r4_base.specs.Image.{Image};
 ghost use Rattle.r4_base.specs.Chain.{Txn};
 ghost use Rattle.r4_base.specs.Value.{Content};
 ghost use Rattle.r4_base.specs.Volume.{HasVolume, Needs};
+ghost use Rattle.r4_base.specs.declared.superblock.Super40.{Super40};
+ghost use Rattle.r4_base.specs.declared.things.AtomNo.{AtomNo};
+ghost use Rattle.r4_base.specs.declared.things.BlockNo.{BlockNo};
+ghost use Rattle.r4_cell.specs.Seen.{CellSeen};
+ghost use Rattle.r4_space.specs.Space.{Space};
+ghost use Rattle.r4_place.specs.declared.placed.Placed.{Placed};
+ghost use Rattle.r4_commit.specs.Planned.{IsPlanFor};
+ghost use Rattle.r4_commit.specs.Plannable.{IsPlannable, is_spoken_for};
+ghost use Rattle.r4_commit.specs.Volumes.{VolumeByPart};
 ghost use Rattle.r4_outside.specs.Device.{Goes, HasCause, Spares, LeavesOnly, Rose};
 ghost use Rattle.r4_wander.specs.Torn.{IsTarget};
 ghost use Rattle.r4_wander.specs.LogPlan.{first};
@@ -64,6 +73,11 @@ pub fn step<D: Device>(plan: &mut CommitPlan, dev: &mut D) -> Result<Stage, Fail
     // A crash at any moment leaves what settles as without the commit or as with it, by the part.
     ensures settles { (n : ℕ) (base : Image) (chain : List Txn) (p : LogPlan) → Commits plan.old n base chain p → Stands plan.old base (D.state dev.old)
         → LeavesOnly (D.state dev.old) (D.state dev.new) (ByPart n base chain p plan.old.part) }
+
+    // In words of volumes: what a crash leaves has the old one or the new one, where each block that the old one needs is spoken for.
+    ensures volumes { (n : ℕ) (base : Image) (chain : List Txn) (s : Space) (atom : AtomNo) (cells : List CellSeen) (answers : List Placed) (next : Super40) (last : BlockNo) (p : LogPlan) (m : Content) (v : HasVolume n base m)
+        → IsPlanFor s atom cells answers next last p → IsPlannable n base chain s cells answers next last → ((b : ℕ) → Needs v b → is_spoken_for s b ≡ true)
+        → Commits plan.old n base chain p → Stands plan.old base (D.state dev.old) → LeavesOnly (D.state dev.old) (D.state dev.new) (VolumeByPart n base chain p m plan.old.part) }
 
     // But for the homes, no write falls on a block that an image needs which a crash may leave, where the first part's blocks were needed by none.
     ensures needed { (n : ℕ) (base : Image) (chain : List Txn) (p : LogPlan) (m : Content) (v : HasVolume n base m) → Commits plan.old n base chain p → Stands plan.old base (D.state dev.old)

@@ -15,12 +15,13 @@ ghost use Rattle.r4_space.specs.Space.{Space};
 ghost use Rattle.r4_place.specs.declared.placed.Placed.{Placed};
 ghost use Rattle.r4_wander.specs.LogPlan.{first, parts_of};
 ghost use Rattle.r4_wander.specs.Parts.{Parts, IsOrderOf};
-ghost use Rattle.r4_wander.specs.Progress.{calls_from};
-ghost use Rattle.r4_wander.specs.Safe.{IsSafe, is_scratch, with_atom};
+ghost use Rattle.r4_wander.specs.Progress.{Commits, Progress, calls_from};
+ghost use Rattle.r4_wander.specs.Safe.{ByPart, IsEncoded, IsSafe, is_scratch, with_atom};
 ghost use Rattle.r4_wander.specs.Torn.{IsTarget};
 ghost use Rattle.r4_wander.specs.declared.plan.LogPlan.{LogPlan};
 ghost use Rattle.r4_commit.specs.Planned.{IsPlanFor};
 ghost use Rattle.r4_commit.specs.Plannable.{IsPlannable, is_spoken_for};
+ghost use Rattle.r4_commit.specs.Volumes.{VolumeByPart};
 
 /// A plan is safe on an image on which it may be made, where its head is not the one that the journal footer names; where
 /// nothing is unflushed it never is (docs/commit.md, "Plans").
@@ -63,4 +64,16 @@ pub fn commits_are_bounded()
     ensures { (s : Space) (atom : AtomNo) (cells : List CellSeen) (answers : List Placed) (next : Super40) (last : BlockNo) (p : LogPlan) (plan : Parts)
         → IsPlanFor s atom cells answers next last p → IsOrderOf (parts_of p) plan
         → calls_from plan 0 ≤ 2 * (length cells + bitmap_count s.block_count + 1) + (length cells + bitmap_count s.block_count + 1 + 253) / 254 + 7 }
+{}
+
+/// A plan that was made for an image commits, as the clauses of `step` ask for, where nothing is unflushed (`commits`).
+/// What settles by the part that is under way has the old volume or the new one, where each block that the old volume
+/// needs is marked, held or deferred (`image`). So does whatever a crash leaves at any moment of a step: the clause
+/// `volumes` of `step` (docs/commit.md, "Plans").
+pub fn commit_settles_by_plan()
+    ensures commits { (w : Progress) (n : ℕ) (base : Image) (s : Space) (atom : AtomNo) (cells : List CellSeen) (answers : List Placed) (next : Super40) (last : BlockNo) (p : LogPlan)
+        → IsPlanFor s atom cells answers next last p → IsPlannable n base [] s cells answers next last → IsEncoded p → IsOrderOf (parts_of p) w.plan → Commits w n base [] p }
+    ensures image { (i n : ℕ) (base image : Image) (chain : List Txn) (s : Space) (atom : AtomNo) (cells : List CellSeen) (answers : List Placed) (next : Super40) (last : BlockNo) (p : LogPlan) (m : Content) (v : HasVolume n base m)
+        → IsPlanFor s atom cells answers next last p → IsPlannable n base chain s cells answers next last → p.head.0 ≢ flushed base → ((b : ℕ) → Needs v b → is_spoken_for s b ≡ true)
+        → IsImage n image → ByPart n base chain p i image → VolumeByPart n base chain p m i image }
 {}

@@ -10,7 +10,7 @@ mod planning;
 
 pub use commit_plan::{CommitPlan, step};
 pub use laws::{
-    commits_are_bounded, new_bitmaps_are_sound, plans_are_safe, plans_keep_off_the_new_tree,
-    plans_spare_the_volume,
+    commit_settles_by_plan, commits_are_bounded, new_bitmaps_are_sound, plans_are_safe,
+    plans_keep_off_the_new_tree, plans_spare_the_volume,
 };
 pub use planning::plan;

@@ -27,7 +27,7 @@ loop-held-preserved c =
     let more = c.in_ok-push.ensures.items in
     let b : BlockNo = c.hold_block.result in
     let numbers : map (λ (x : BlockNo). x.0) c.push.new.self.items ≡ map (λ (x : BlockNo). x.0) c.loop-held.blocks.items ++ b.0 ∷ [] =
-        ap (map (λ (x : BlockNo). x.0)) more ∙ map-append (λ (x : BlockNo). x.0) c.loop-held.blocks.items (b ∷ []) in
+    ap (map (λ (x : BlockNo). x.0)) more ∙ map-append (λ (x : BlockNo). x.0) c.loop-held.blocks.items (b ∷ []) in
     let spare = c.loop-held.invariant.holding.spare in
     let some : 1 ≤ c.loop-held.space.spare = omega (arith, spare, length-map c.loop-held.blocks.items (λ (x : BlockNo). x.0), c.loop-held.invariant.counted, c.loop-held-test.true, c.requires.room) in
     record {

@@ -48,6 +48,6 @@ returns-clause-head c = λ is.
     let long = c.in_ok-blocks.ensures.count in
     let within : last < length bs = omega (arith, long) in
     let first : IsUnused c.args.space.now c.args.prev.0 → get_or (map number bs) 0 0 ≡ c.args.prev.0 =
-        subst (λ (t : Space). IsUnused t c.args.prev.0 → get_or (map number bs) 0 0 ≡ c.args.prev.0) c.in_ok-room.ensures.ok c.in_ok-blocks.ensures.first in
+    subst (λ (t : Space). IsUnused t c.args.prev.0 → get_or (map number bs) 0 0 ≡ c.args.prev.0) c.in_ok-room.ensures.ok c.in_ok-blocks.ensures.first in
     head_other c.args.space.now (map number bs) last c.args.prev.0 c.in_ok-blocks.ensures.different (were_unused c) first (omega (arith, c.requires.some)) (omega (arith, within, length-map bs number))
-        (number_at bs last c.index-head.result.now within c.index-head.ensures ∙ ap number is)
+    (number_at bs last c.index-head.result.now within c.index-head.ensures ∙ ap number is)
