@@ -11,6 +11,7 @@ ghost use Rattle.r4_place.specs.Chosen.{fresh_blocks};
 ghost use Rattle.r4_commit.specs.Places.{overwritten, overwritten_blocks, place_of};
 ghost use Rattle.r4_commit.specs.Planned.{IsPlanFor, IsPlanned, blocks_of, with_all_held};
 ghost use Rattle.r4_wander.specs.LogPlan.{CanBeWritten, IsBelow};
+ghost use Rattle.r4_wander.specs.Progress.{FitOn};
 
 use crate::commit_plan::CommitPlan;
 use crate::holding::{hold_log, lay_out};
@@ -29,10 +30,10 @@ use std::sync::Arc;
 /// all bitmaps, changed or not. `next` is the superblock with the new root, height, next object id and number of files,
 /// and with the old `free_blocks` and `flushes`: `plan` makes `flushes` one more, modulo 2^64, and `free_blocks` the
 /// number of 0 bits of the new bitmaps. `prev` is the head that the journal header names; the new head is another block.
-/// The blocks of the log are held for the atom from then on. The only error is want of memory, and then the space is as
-/// before. Condition: as many blocks are unused as the price's formula gives for the cells that are overwritten; each of
-/// these has a block below the block count, which is not block 0; the blocks in `placed` are below it too; and `next`
-/// counts the blocks of the space (docs/commit.md, "Plans").
+/// The blocks of the log are held for the atom from then on. Every block that is written is below the block count. The
+/// only error is want of memory, and then the space is as before. Condition: as many blocks are unused as the price's
+/// formula gives for the cells that are overwritten; each of these has a block below the block count, which is not
+/// block 0; the blocks in `placed` are below it too; and `next` counts the blocks of the space (docs/commit.md, "Plans").
 pub fn plan(
     alloc: Global,
     atom: AtomNo,
@@ -47,8 +48,10 @@ pub fn plan(
     requires placed { All (λ b. b < space.old.block_count) (fresh_blocks placed.now) }
     requires blocks { next.now.block_count ≡ space.old.block_count }
     ensures planned { IfOk result (IsPlanned space.old space.new atom (map (λ cell. arc_value cell) cells.now) placed.now next.now prev) }
+    ensures fits { IfOk result (λ plan. FitOn space.old.block_count plan.plan) }
     ensures err { OnErr result (space.new ≡ space.old) }
 {
+    space.lawful();
     let mut held = space.copy(alloc)?;
     let plan = make_plan(alloc, atom, cells, placed, next, prev, &mut held)?;
     let writer = Writer::new(alloc, plan)?;
