@@ -1,11 +1,10 @@
 //! Commits of atoms: an overwritten leaf, cells that get blocks, and 300 cells.
 
-ghost use Rattle.std.specs.Prelude.{◌≡◌, ◌≢◌, ◌<◌, ◌≤◌, ℕ, length, map, All, IfOk};
+ghost use Rattle.std.specs.Prelude.{◌≡◌, ◌≢◌, ◌<◌, ◌≤◌, ℕ, length, map, All, IfOk, OnOk};
 ghost use Rattle.std.specs.Arc.{arc_value};
 ghost use Rattle.r4_outside.specs.Device.{Goes, TellsCrashes};
 ghost use Rattle.r4_outside.specs.Memory.{memory_state};
 ghost use Rattle.r4_wander.specs.Progress.{FitOn};
-ghost use Rattle.r4_base.specs.Bitmap.{bitmap_count};
 ghost use Rattle.r4_space.specs.Accounts.{price_formula};
 ghost use Rattle.r4_space.specs.Space.{unused_count};
 ghost use Rattle.r4_place.specs.Chosen.{fresh_blocks};
@@ -34,13 +33,16 @@ fn volume<X: Abort + Threads + Wait + Sync>(
     alloc: Global,
     blocks: u64,
 ) -> Result<MemoryDevice, Fail>
-    ensures { IfOk result (λ d. TellsCrashes (memory_state d)) }
+    ensures tells { IfOk result (λ d. TellsCrashes (memory_state d)) }
+    ensures blocks { IfOk result (λ d. (memory_state d).blocks ≡ blocks) }
 {
     let mut dev = MemoryDevice::new(alloc, blocks)?;
     let mut out = MemorySink::new(alloc, 100)?;
     let code = call(rt, alloc, &["mkfs", "image"], &mut dev, &mut out)?;
     same(rt, &code, &0, "made");
-    Ok(dev.crash(alloc, dev.clock(), 0)?)
+    let mut made = dev.crash(alloc, dev.clock(), 0)?;
+    assert_eq!(rt; made.blocks()?, blocks);
+    Ok(made)
 }
 
 // The superblock of a device.
@@ -61,8 +63,6 @@ fn super_of<X: Abort>(rt: &X, alloc: Global, dev: &mut MemoryDevice) -> Result<S
 fn space_of(alloc: Global, dev: &mut MemoryDevice, free: u64) -> Result<SpaceMap, Fail>
     ensures goes { Goes (memory_state dev.old) (memory_state dev.new) }
     ensures blocks { IfOk result (λ s. s.block_count ≡ (memory_state dev.old).blocks) }
-    ensures least { IfOk result (λ s. 64 ≤ s.block_count) }
-    ensures one { IfOk result (λ s. bitmap_count s.block_count ≡ 1) }
 {
     let blocks = dev.blocks()?;
     if blocks < 64 || blocks > 32_736 {
@@ -101,21 +101,24 @@ fn has_room<X: Abort>(rt: &X, cells: &[Arc<Cell>], space: &SpaceMap)
     assert!(rt; space.free() >= copies + copies.div_ceil(254) + 1);
 }
 
-// Commits atom 1.
+// Commits atom 1 of a volume of so many blocks.
 fn commit<X: Abort>(
     rt: &X,
     alloc: Global,
+    blocks: u64,
     dev: &mut MemoryDevice,
     cells: &[Arc<Cell>],
     placed: &[Placed],
     space: &mut SpaceMap,
 ) -> Result<(), Fail>
-    requires cells { All (λ c. (c.id ≢ 0) × (c.id < space.old.block_count)) (map (λ cell. arc_value cell) cells.now) }
-    requires placed { All (λ b. b < space.old.block_count) (fresh_blocks placed.now) }
-    requires blocks { space.old.block_count ≡ (memory_state dev.old).blocks }
-    requires one { bitmap_count space.old.block_count ≡ 1 }
-    requires least { 64 ≤ space.old.block_count }
-    ensures { Goes (memory_state dev.old) (memory_state dev.new) }
+    requires least { 64 ≤ blocks }
+    requires most { blocks ≤ 32736 }
+    requires cells { All (λ c. (c.id ≢ 0) × (c.id < blocks)) (map (λ cell. arc_value cell) cells.now) }
+    requires placed { All (λ b. b < blocks) (fresh_blocks placed.now) }
+    requires space { space.old.block_count ≡ blocks }
+    requires device { (memory_state dev.old).blocks ≡ blocks }
+    ensures goes { Goes (memory_state dev.old) (memory_state dev.new) }
+    ensures space { OnOk result (space.new.block_count ≡ blocks) }
 {
     let next = super_of(rt, alloc, dev)?;
     let header = read(alloc, dev, 19)?;
@@ -145,22 +148,6 @@ fn leaf<X: Abort>(rt: &X, alloc: Global, dev: &mut MemoryDevice) -> Result<Arc<C
 const BEFORE: &[u8] = b"d 0755 2 0 0 0 /\n";
 const AFTER: &[u8] = b"d 0755 2 7 0 0 /\n";
 
-// Looks at what is printed of the root directory: one of these texts.
-fn is_listed<X: Abort>(
-    rt: &X,
-    alloc: Global,
-    dev: &mut MemoryDevice,
-    texts: &[&[u8]],
-    row: usize,
-) -> Result<(), Fail> {
-    let mut out = MemorySink::new(alloc, 100)?;
-    let got = list(alloc, dev, b"/", &mut out);
-    same_in(rt, &got, &Ok(()), row);
-    let told = texts.contains(&out.written());
-    same_in(rt, &told, &true, row);
-    Ok(())
-}
-
 // The texts after a crash at a moment: the header is written by call 7.
 fn texts_at(moment: u64) -> [&'static [u8]; 2] {
     match moment {
@@ -168,6 +155,23 @@ fn texts_at(moment: u64) -> [&'static [u8]; 2] {
         0..=6 => [BEFORE, BEFORE],
         _ => [AFTER, AFTER],
     }
+}
+
+// Looks at what is printed of the root directory after a crash at a moment.
+fn is_listed<X: Abort>(
+    rt: &X,
+    alloc: Global,
+    left: &mut MemoryDevice,
+    moment: u64,
+) -> Result<(), Fail> {
+    let mut out = MemorySink::new(alloc, 100)?;
+    let got = list(alloc, left, b"/", &mut out);
+    let row = moment as usize;
+    same_in(rt, &got, &Ok(()), row);
+    let texts = texts_at(moment);
+    let told = texts.contains(&out.written());
+    same_in(rt, &told, &true, row);
+    Ok(())
 }
 
 // Lets the machine stop at each moment of the commit of the leaf; what it leaves is listed as it is, and after a replay.
@@ -181,12 +185,11 @@ fn look_at_crashes<X: Abort + Threads + Wait + Sync>(
     for moment in 0..15 {
         for pick in 1..3 {
             let mut left = dev.crash(alloc, moment, pick)?;
-            let texts = texts_at(moment);
-            is_listed(rt, alloc, &mut left, &texts, moment as usize)?;
+            is_listed(rt, alloc, &mut left, moment)?;
             let mut out = MemorySink::new(alloc, 100)?;
             let status = call(rt, alloc, &REPLAY, &mut left, &mut out)?;
             same_in(rt, &status, &0, moment as usize);
-            is_listed(rt, alloc, &mut left, &texts, moment as usize)?;
+            is_listed(rt, alloc, &mut left, moment)?;
         }
     }
     Ok(())
@@ -216,13 +219,13 @@ fn a_leaf_is_committed(rt: HostRuntime) -> Result<(), Fail> {
         node: NodeId(23),
         how: How::Overwrite,
     };
-    commit(&rt, alloc, &mut dev, &cells, &[placed], &mut space)?;
+    commit(&rt, alloc, 64, &mut dev, &cells, &[placed], &mut space)?;
     same(&rt, &dev.clock(), &14, "writes and syncs");
+    look_at_crashes(&rt, alloc, &dev)?;
     for (row, &(at, byte, wanted)) in NUMBERS.iter().enumerate() {
         let block = read(alloc, &mut dev, at)?;
         same_in(&rt, &number(&block, byte), &wanted, row);
     }
-    look_at_crashes(&rt, alloc, &dev)?;
     // The log's blocks are held until the atom settles.
     same(&rt, &space.free(), &35, "free blocks");
     settle(&rt, alloc, &mut dev, &mut space, 40)
@@ -261,7 +264,10 @@ fn settle<X: Abort>(
     dev: &mut MemoryDevice,
     space: &mut SpaceMap,
     free: u64,
-) -> Result<(), Fail> {
+) -> Result<(), Fail>
+    ensures goes { Goes (memory_state dev.old) (memory_state dev.new) }
+    ensures space { space.new.block_count ≡ space.old.block_count }
+{
     space.seal(AtomNo(1));
     space.settle(AtomNo(1));
     same(rt, &space.free(), &free, "free blocks");
@@ -285,19 +291,29 @@ fn commits_follow_each_other(rt: HostRuntime) -> Result<(), Fail> {
         node: NodeId(40),
         how: How::Fresh(block),
     };
-    commit(&rt, alloc, &mut dev, &cells, &[placed], &mut space)?;
+    commit(&rt, alloc, 64, &mut dev, &cells, &[placed], &mut space)?;
     same(&rt, &dev.clock(), &13, "writes and syncs");
-    is_filled(&rt, alloc, &mut dev, 24, 9)?;
     settle(&rt, alloc, &mut dev, &mut space, 39)?;
 
     // The first copy of the next commit stands on the last head, which the header names until it names the new one.
-    commit(&rt, alloc, &mut dev, &[], &[], &mut space)?;
+    commit(&rt, alloc, 64, &mut dev, &[], &[], &mut space)?;
     for (row, (at, wanted)) in [(19, 31), (20, 31), (31, 2)].iter().enumerate() {
         let block = read(alloc, &mut dev, *at)?;
         let byte = if *at == 31 { 8 } else { 0 };
         same_in(&rt, &number(&block, byte), wanted, row);
     }
+    is_filled(&rt, alloc, &mut dev, 24, 9)?;
     settle(&rt, alloc, &mut dev, &mut space, 39)
+}
+
+// Places 600 blocks.
+fn fill<X: Abort>(rt: &X, space: &mut SpaceMap)
+    ensures { space.new.block_count ≡ space.old.block_count }
+{
+    for _block in 0..600u64 {
+        let placed = space.place(BlockNo(22));
+        same(rt, &placed.is_some(), &true, "placed");
+    }
 }
 
 // Data blocks 300 to 599.
@@ -329,19 +345,17 @@ fn many_cells_are_committed(rt: HostRuntime) -> Result<(), Fail> {
     let alloc = rt.alloc();
     let mut dev = volume(&rt, alloc, 1024)?;
     let mut space = space_of(alloc, &mut dev, 1000)?;
-    for _block in 0..600 {
-        same(&rt, &space.place(BlockNo(22)).is_some(), &true, "placed");
-    }
+    fill(&rt, &mut space);
     let cells = many(alloc)?;
-    commit(&rt, alloc, &mut dev, &cells, &[], &mut space)?;
+    commit(&rt, alloc, 1024, &mut dev, &cells, &[], &mut space)?;
     // 302 copies, 2 records, the head, header, footer and 302 homes, and 4 syncs.
     same(&rt, &dev.clock(), &613, "writes and syncs");
-    are_filled(&rt, alloc, &mut dev, 9)?;
     // The header is synced by call 308.
     for (moment, line, byte) in [(200, "replayed 0\n", 0), (308, "replayed 1\n", 9)] {
         let mut left = dev.crash(alloc, moment, 1)?;
         replays(&rt, alloc, &mut left, 0, line)?;
         are_filled(&rt, alloc, &mut left, byte)?;
     }
+    are_filled(&rt, alloc, &mut dev, 9)?;
     settle(&rt, alloc, &mut dev, &mut space, 400)
 }
