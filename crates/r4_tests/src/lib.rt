@@ -28,6 +28,8 @@ mod patches;
 #[cfg(test)]
 mod places;
 #[cfg(test)]
+mod plans;
+#[cfg(test)]
 mod replays;
 #[cfg(test)]
 mod same;
