@@ -25,7 +25,6 @@ bound calls f w r k b c is wandered records both = omega (arith, is, wandered, r
 pub bounded : (s : Space) (atom : AtomNo) (cells : List CellSeen) (answers : List Placed) (next : Super40) (last : BlockNo) (p : LogPlan) (plan : Parts) → IsPlanFor s atom cells answers next last p → IsOrderOf (parts_of p) plan
     → calls_from plan 0 ≤ 2 * (length cells + bitmap_count s.block_count + 1) + (length cells + bitmap_count s.block_count + 1 + 253) / 254 + 7
 bounded s atom cells answers next last p plan f order =
-    let place = place_of answers in
     let copies : length p.wandered ≡ length (overwritten (place_of answers) cells) + bitmap_count s.block_count + 1 =
     sym (length-map p.wandered (λ (w : Copy). (w.original, w.block))) ∙ ap (λ (l : List Write). length l) f.homes ∙ length-new_homes (new_super next f.bitmaps) f.bitmaps (overwritten (place_of answers) cells)
     ∙ ap (λ (b : ℕ). length (overwritten (place_of answers) cells) + b + 1) f.are_new.count in

@@ -8,3 +8,4 @@ pub mod Safety
 pub mod NewImage
 pub mod Bounds
 pub mod KeptVolumes
+pub mod Instance

@@ -77,9 +77,6 @@ counts (Some b) t e = absurd cc
 
 module _ (n : ℕ) (base : Image) (chain : List Txn) (s : Space) (atom : AtomNo) (cells : List CellSeen) (answers : List Placed) (next : Super40) (last : BlockNo) (p : LogPlan)
     (f : IsPlanFor s atom cells answers next last p) (h : IsPlannable n base chain s cells answers next last) where
-  before : Image
-  before = put_writes (placed_writes p) (put_pairs (chain_pairs chain) base)
-
   long : length (put_writes (placed_writes p) (put_pairs (chain_pairs chain) base)) ≡ n
   long = length-put_writes (placed_writes p) (put_pairs (chain_pairs chain) base) ∙ length-put_pairs (chain_pairs chain) base ∙ h.image.blocks
 
@@ -108,6 +105,9 @@ module _ (n : ℕ) (base : Image) (chain : List Txn) (s : Space) (atom : AtomNo)
       let place : b % 32736 < 32736 = omega arith in
       let whole : k * 32736 + b % 32736 ≡ b = omega arith in
       ap (λ (x : List ℕ). is_used x (b % 32736)) (bitmap_new k inside) ∙ (f.are_new.each k inside).bits (b % 32736) place ∙ ap (is_marked_by s atom) whole
+
+  pub volume_marks : (b : ℕ) → b < s.block_count → is_marked (with_atom base chain p) b ≡ is_marked_by s atom b
+  volume_marks b lt = marks_new b (omega (arith, lt))
 
   -- ---- the superblock and the bitmaps are not refused
 

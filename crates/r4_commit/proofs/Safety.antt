@@ -114,9 +114,6 @@ in_scratch p b h = subst (λ (l : List ℕ). Contains l b) (scratch_are p) h
 
 module _ (n : ℕ) (base : Image) (chain : List Txn) (s : Space) (atom : AtomNo) (cells : List CellSeen) (answers : List Placed) (next : Super40) (last : BlockNo) (p : LogPlan)
     (f : IsPlanFor s atom cells answers next last p) (h : IsPlannable n base chain s cells answers next last) where
-  kept : List CellSeen
-  kept = overwritten (place_of answers) cells
-
   pub log_block : (b : ℕ) → Contains (blocks_of p) b → IsUnused s b
   log_block b one = All-contains (IsUnused s) (blocks_of p) b f.unused one
 

@@ -26,7 +26,7 @@ pub(crate) struct LogBlocks {
 }
 
 /// Holds the blocks of a log of so many copies: one for each of them, one for each record, and the head's, which is
-/// another one than `prev`.
+/// another one than `prev`. After an error some of them may be held.
 pub(crate) fn hold_log(
     alloc: Global,
     atom: AtomNo,
@@ -80,7 +80,7 @@ pub(crate) fn lay_out(
 }
 
 /// Holds so many blocks for the log of an atom's commit. Each is looked for from `prev` on, so that where `prev` is
-/// unused, it is the first of them.
+/// unused, it is the first of them. After an error some of them may be held.
 fn hold_blocks(
     alloc: Global,
     atom: AtomNo,

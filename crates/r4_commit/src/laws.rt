@@ -1,7 +1,7 @@
 //! Laws of plans. Each is the contract of a function that does nothing.
 
-ghost use Rattle.std.specs.Prelude.{◌≡◌, ◌≢◌, ℕ, ◌+◌, ◌*◌, ◌/◌, ◌≤◌, List, [], true, length, Ok, None};
-ghost use Rattle.r4_base.specs.Bitmap.{bitmap_count, bitmap_fault};
+ghost use Rattle.std.specs.Prelude.{◌≡◌, ◌≢◌, ℕ, ◌+◌, ◌*◌, ◌/◌, ◌<◌, ◌≤◌, List, [], true, length, Ok, None};
+ghost use Rattle.r4_base.specs.Bitmap.{bitmap_count, bitmap_fault, is_marked};
 ghost use Rattle.r4_base.specs.Chain.{Txn, flushed};
 ghost use Rattle.r4_base.specs.Image.{Image, IsImage, block_at};
 ghost use Rattle.r4_base.specs.Layout.{IsLawfulSuper, super_of};
@@ -11,7 +11,7 @@ ghost use Rattle.r4_base.specs.declared.superblock.Super40.{Super40};
 ghost use Rattle.r4_base.specs.declared.things.AtomNo.{AtomNo};
 ghost use Rattle.r4_base.specs.declared.things.BlockNo.{BlockNo};
 ghost use Rattle.r4_cell.specs.Seen.{CellSeen};
-ghost use Rattle.r4_space.specs.Space.{Space};
+ghost use Rattle.r4_space.specs.Space.{Space, is_marked_by};
 ghost use Rattle.r4_place.specs.declared.placed.Placed.{Placed};
 ghost use Rattle.r4_wander.specs.LogPlan.{first, parts_of};
 ghost use Rattle.r4_wander.specs.Parts.{Parts, IsOrderOf};
@@ -48,14 +48,16 @@ pub fn plans_keep_off_the_new_tree()
 {}
 
 /// The superblock and the bitmaps of the image with the atom's cells are not refused, where the other fields of the
-/// superblock are lawful: they are those that the plan has, and as many bits are 0 as `free_blocks` says
-/// (docs/commit.md, "Plans").
+/// superblock are lawful: they are those that the plan has, and as many bits are 0 as `free_blocks` says. What the
+/// bitmaps mark is what the space says of the atom's commit (docs/commit.md, "Plans").
 pub fn new_bitmaps_are_sound()
     ensures super40 { (n : ℕ) (base : Image) (chain : List Txn) (s : Space) (atom : AtomNo) (cells : List CellSeen) (answers : List Placed) (next : Super40) (last : BlockNo) (p : LogPlan)
         → IsPlanFor s atom cells answers next last p → IsPlannable n base chain s cells answers next last → IsLawfulSuper n next
         → super_of n (block_at (with_atom base chain p) 17) ≡ Ok (record next { free_blocks = p.free_blocks; flushes = p.id }) }
     ensures bitmaps { (n : ℕ) (base : Image) (chain : List Txn) (s : Space) (atom : AtomNo) (cells : List CellSeen) (answers : List Placed) (next : Super40) (last : BlockNo) (p : LogPlan)
         → IsPlanFor s atom cells answers next last p → IsPlannable n base chain s cells answers next last → bitmap_fault s.block_count p.free_blocks (with_atom base chain p) ≡ None }
+    ensures marks { (n : ℕ) (base : Image) (chain : List Txn) (s : Space) (atom : AtomNo) (cells : List CellSeen) (answers : List Placed) (next : Super40) (last : BlockNo) (p : LogPlan)
+        → IsPlanFor s atom cells answers next last p → IsPlannable n base chain s cells answers next last → (b : ℕ) → b < s.block_count → is_marked (with_atom base chain p) b ≡ is_marked_by s atom b }
 {}
 
 /// How many writes and syncs the commit of so many cells makes at most, on a volume of so many bitmaps

@@ -59,7 +59,8 @@ pub fn plan(
     Ok(CommitPlan { writer })
 }
 
-/// What the commit writes, where the blocks of its log are held. The condition is that of `plan`.
+/// What the commit writes, where the blocks of its log are held; after an error some of them may be. The condition is
+/// that of `plan`.
 fn make_plan(
     alloc: Global,
     atom: AtomNo,

@@ -146,6 +146,7 @@ fn leaf<X: Abort>(rt: &X, alloc: Global, dev: &mut MemoryDevice) -> Result<Arc<C
 
 // What is printed of the root directory.
 const BEFORE: &[u8] = b"d 0755 2 0 0 0 /\n";
+
 const AFTER: &[u8] = b"d 0755 2 7 0 0 /\n";
 
 // The texts after a crash at a moment: the header is written by call 7.
