@@ -1,6 +1,6 @@
 -- Cells for which a plan may be made.
-use Rattle.std.proofs.Common.{◌≡◌, ◌≢◌, ℕ, ◌+◌, ◌/◌, ◌≤◌, ◌<◌, List, length, map, get_or, arith}
-use Rattle.std.specs.Prelude.{All, Contains}
+use Rattle.std.proofs.Common.{◌≡◌, ◌≢◌, ℕ, ◌+◌, ◌/◌, ◌≤◌, ◌<◌, List, length, map, get_or, sym, subst, arith}
+use Rattle.std.specs.Prelude.{All}
 use Rattle.std.proofs.lemmas.List.{length-map}
 use Rattle.std.proofs.lemmas.List.Elements.{All-contains, All-map, Contains-get_or}
 use Rattle.r4_cell.specs.Seen.{CellSeen}
@@ -19,7 +19,7 @@ room_for answers cells b n unused one counted enough =
     let both = length-both (place_of answers) cells in
     let kept = length-map (overwritten (place_of answers) cells) (λ (c : CellSeen). c.id) in
     let enough_now = less (length (overwritten_blocks answers cells)) n unused (omega (arith, both, kept, counted)) enough in
-    Rattle.std.proofs.Common.subst (λ (k : ℕ). price_formula (length (overwritten_blocks answers cells)) k ≤ unused) (Rattle.std.proofs.Common.sym one) enough_now
+    subst (λ (k : ℕ). price_formula (length (overwritten_blocks answers cells)) k ≤ unused) (sym one) enough_now
 
 -- what is overwritten is a cell
 pub kept_all : (answers : List Placed) (cells : List CellSeen) (n : ℕ) → All (λ c. (c.id ≢ 0) × (c.id < n)) cells → All (λ b. (b ≢ 0) × (b < n)) (overwritten_blocks answers cells)
