@@ -1,0 +1,4 @@
+pub mod Members
+pub mod Rising
+pub mod OnPath
+pub mod PathPatch
