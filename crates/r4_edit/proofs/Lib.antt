@@ -1,4 +1,11 @@
+pub mod Appended
+pub mod CellNodes
+pub mod Filling
+pub mod Grown
+pub mod Lying
 pub mod Members
 pub mod Rising
 pub mod OnPath
 pub mod PathPatch
+pub mod PointerNodes
+pub mod Pointers

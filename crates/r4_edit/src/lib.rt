@@ -1,6 +1,11 @@
 //! Edits of a tree, each as a patch of the cells of a path (docs/volume.md, "Edits").
 #![tactic(auto)]
 
+mod appending;
+mod growing;
 mod laws;
+mod numbers;
+mod pointing;
 
+pub use growing::grow;
 pub use laws::path_changes_are_patches;
