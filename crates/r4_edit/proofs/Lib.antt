@@ -1,10 +1,16 @@
 pub mod Appended
 pub mod CellNodes
+pub mod CutRows
+pub mod Cuts
 pub mod Filling
 pub mod Grown
 pub mod Lying
 pub mod Members
+pub mod Putting
+pub mod Replacing
 pub mod Rising
+pub mod RowPlaces
+pub mod Rows
 pub mod OnPath
 pub mod PathPatch
 pub mod PointerNodes

@@ -10,6 +10,7 @@ use Rattle.r4_cell.specs.Patch.{IsChange, IsNewRoot, IsPatch, Meets, Names, Name
 use Rattle.r4_cell.specs.Seen.{CellSeen, node_of}
 use Rattle.r4_patch.specs.Joining.{ids_of}
 use Rattle.r4_patch.specs.Part.{IsPart, MeetsPart}
+use Rattle.r4_patch.proofs.PartCells.{named_once}
 use Rattle.r4_edit.specs.Steps.{Climbs, Ends, Follow, IsNameOf, IsNamedAfter, IsPathChange, IsRootOver, IsStep, Step, fresh_ids, name_of, news, olds, root_pair}
 use Rattle.r4_edit.proofs.Members.{Found, absent, cases, found, have_names, here, none, there}
 use Rattle.r4_edit.proofs.OnPath.{IsHighest, Stands, StandsIn, above_or_highest, below_stands, distinct_news, distinct_olds, highest, new_id, new_stands, old_stands, one_step, only_below, over_new, same_step, some_step, stands_in, stands_new, stands_old, stands_step, up_one}
@@ -207,7 +208,14 @@ module _ (t : Store Value) (r : Root) (from : ℕ) (steps : List Step) (over : O
 
   named_after : (b : Option Step) (s : Step) (n : Name) → Stands None steps b s → IsNamedAfter b s.old n → ((d : Node Value) × (p.new n.id ≡ Some d) × Fits n d) ⊎ ((p.old n.id ≡ None) × Names p.old n)
   named_after None s n st member = inr (not_old n.id (λ c u su e. none-some u (only_below t r is.part steps None c s u n is.path st su member (sym e))), (s.old.id, node_of s.old, has_old None s st, member))
-  named_after (Some b) s n st (inl (member, other)) = inr (not_old n.id (λ c u su e. let one = some_step b u (only_below t r is.part steps (Some b) c s u n is.path st su member (sym e)) in other (sym e ∙ sym (ap (λ (z : Step). z.old.id) one))), (s.old.id, node_of s.old, has_old (Some b) s st, member))
+  named_after (Some b) s n st (inl (member, other)) =
+      let (a, sb) = stands_below b s st in
+      let low = sit a b sb in
+      let high = sit (Some b) s st in
+      inr (not_old n.id (λ c u su e.
+        let one = some_step b u (only_below t r is.part steps (Some b) c s u n is.path st su member (sym e)) in
+        other (named_once t r is.part s.old.id s.old.id b.old.id (node_of s.old) (node_of s.old) (node_of b.old) n (name_of b.old) high.there high.there member high.leads low.there (sym e ∙ sym (ap (λ (z : Step). z.old.id) one)) refl).1
+      ), (s.old.id, node_of s.old, has_old (Some b) s st, member))
   named_after (Some b) s n st (inr h) = let (a, sb) = stands_below b s st in inl (names_piece a b n sb h)
 
   named : (n : Name) → Names p.new n → ((d : Node Value) × (p.new n.id ≡ Some d) × Fits n d) ⊎ ((p.old n.id ≡ None) × Names p.old n)
@@ -223,7 +231,7 @@ module _ (t : Store Value) (r : Root) (from : ℕ) (steps : List Step) (over : O
 
   kept_after : (b : Option Step) (s : Step) (n : Name) → Stands None steps b s → Contains (node_of s.old).names n → p.old n.id ≡ None → IsNamedAfter b s.old n
   kept_after None s n st member gone = member
-  kept_after (Some b) s n st member gone = let (a, sb) = stands_below b s st in inl (member, λ e. none-some (node_of b.old) (sym gone ∙ subst (λ i. p.old i ≡ Some (node_of b.old)) (sym e) (has_old a b sb)))
+  kept_after (Some b) s n st member gone = let (a, sb) = stands_below b s st in inl (member, λ e. none-some (node_of b.old) (sym gone ∙ subst (λ i. p.old i ≡ Some (node_of b.old)) (sym (ap (λ (m : Name). m.id) e)) (has_old a b sb)))
 
   kept : (n : Name) → Names p.old n → p.old n.id ≡ None → Names p.new n
   kept n (i, c, e, member) gone =

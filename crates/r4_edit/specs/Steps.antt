@@ -52,7 +52,7 @@ IsNameOf cells n = (c : CellSeen) × Contains cells c × (n ≡ name_of c)
 -- What is named afterwards: what the old cell named, but that the new cells of the level below stand for the old one there.
 abbrev pub IsNamedAfter : (below : Option Step) → (old : CellSeen) → Name → Type 0
 IsNamedAfter None old n = Contains (node_of old).names n
-IsNamedAfter (Some b) old n = (Contains (node_of old).names n × (n.id ≢ b.old.id)) ⊎ IsNameOf b.new n
+IsNamedAfter (Some b) old n = (Contains (node_of old).names n × (n ≢ name_of b.old)) ⊎ IsNameOf b.new n
 
 -- The new cells share out the old one's range, what it named and its extents; the first of them has its name.
 pub record IsStep (below : Option Step) (s : Step) : Type 0 where

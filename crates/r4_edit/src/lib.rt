@@ -6,6 +6,7 @@ mod growing;
 mod laws;
 mod numbers;
 mod pointing;
+mod row;
 
 pub use growing::grow;
 pub use laws::path_changes_are_patches;
