@@ -8,9 +8,11 @@ pub mod Lying
 pub mod Members
 pub mod Putting
 pub mod Replacing
+pub mod Results
 pub mod Rising
 pub mod RowPlaces
 pub mod Rows
+pub mod Shared
 pub mod OnPath
 pub mod PathPatch
 pub mod PointerNodes

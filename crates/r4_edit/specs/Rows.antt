@@ -39,7 +39,7 @@ pub record IsRow (w : Row) : Type 0 where
   pub level : (1 ≤ row_level w) × (row_level w ≤ 8)
   pub rise : KeysRise (row_items w)
   pub fit : PluginsFit (row_level w) (row_items w)
-  pub bodies : (k : ℕ) (x : Item) → slice_get (row_items w) k ≡ Some x → (1 ≤ length x.body) × (length x.body ≤ 4096)
+  pub bodies : (k : ℕ) (x : Item) → slice_get (row_items w) k ≡ Some x → (1 ≤ length x.body) × (length x.body ≤ 4030)
 
 -- What the node has fits into it, few pointers come, and above level 2 all items are pointers.
 pub record IsNarrow (w : Row) : Type 0 where

@@ -7,6 +7,7 @@ mod laws;
 mod numbers;
 mod pointing;
 mod row;
+mod sharing;
 
 pub use growing::grow;
 pub use laws::path_changes_are_patches;

@@ -7,7 +7,7 @@ ghost use Rattle.r4_edit.specs.Nodes.{IsNodeOf, pointer_item, weight, weight_of}
 
 use crate::appending::append;
 use crate::pointing::{POINTER, pointer_body};
-use r4_base::{Block, Memory};
+use r4_base::{Block, Key, Memory};
 use r4_cell::Cell;
 use r4_node40::{ItemView, NodeMut, NodeView};
 use std::alloc::Global;
@@ -17,7 +17,7 @@ use std::sync::Arc;
 const POINTER_ROOM: u32 = 46;
 
 /// How many bytes of a node are for items.
-const ROOM: u32 = 4068;
+pub(crate) const ROOM: u32 = 4068;
 
 /// The bytes of an item's header.
 const HEADER: u32 = 38;
@@ -63,6 +63,18 @@ impl<'a> Row<'a> {
             None => RowItem::Stays(self.node.item(i - self.more.len() as u16)),
         }
     }
+    /// The key of item `i`.
+    pub(crate) fn key(&self, i: u16) -> Key
+        requires row { IsRow self.now }
+        requires within { i < length (row_items self.now) }
+        ensures { IfSome (slice_get (row_items self.now) i) (λ it. result ≡ it.key) }
+    {
+        match self.item(i) {
+            RowItem::Stays(item) => item.key,
+            RowItem::Comes(cell) => cell.lo(),
+        }
+    }
+
     /// Puts item `i` behind those from `from` on.
     fn put(&self, from: u16, i: u16, node: &mut NodeMut<'_>)
         requires row { IsRow self.now }
@@ -130,7 +142,7 @@ impl<'a> Row<'a> {
     fn weight_of(&self, i: u16) -> u32
         requires row { IsRow self.now }
         requires within { i < length (row_items self.now) }
-        ensures small { result ≤ 4134 }
+        ensures small { result ≤ 4068 }
         ensures weighs { IfSome (slice_get (row_items self.now) i) (λ it. result ≡ weight_of it) }
     {
         match self.item(i) {
