@@ -3,6 +3,7 @@ pub mod CellNodes
 pub mod CutRows
 pub mod Cuts
 pub mod Filling
+pub mod Finding
 pub mod Grown
 pub mod Lying
 pub mod Members
@@ -13,7 +14,9 @@ pub mod Rising
 pub mod RowPlaces
 pub mod Rows
 pub mod Shared
+pub mod Stepping
 pub mod OnPath
+pub mod Parenting
 pub mod PathPatch
 pub mod PointerNodes
 pub mod Pointers

@@ -102,7 +102,7 @@ unfolding names_in
 names_first level hi p items = refl
 
 module _ (level l lo hi : ℕ) (before : List Item) (p : Item) (behind : List Item) (b first : CellSeen) (more : List CellSeen) (is : IsReplaced level l lo hi before p behind b first more) where
-  pub row : List Item
+  abbrev pub row : List Item
   row = before ++ p ∷ (map pointer_item more ++ behind)
 
   first_next : next_key hi (map pointer_item more ++ behind) ≡ rank first.hi
@@ -118,7 +118,6 @@ module _ (level l lo hi : ℕ) (before : List Item) (p : Item) (behind : List It
       names_append level hi before (p ∷ behind) ∙ ap (λ ns. names_in level (rank p.key) before ++ ns) one
 
   pub new_names : names_in level hi row ≡ names_in level (rank p.key) before ++ (map name_of (first ∷ more) ++ names_in level hi behind)
-  unfolding row
   new_names =
       let at : rank first.lo ≡ rank b.lo = is.follow.1 in
       let one : names_in level hi (p ∷ (map pointer_item more ++ behind)) ≡ map name_of (first ∷ more) ++ names_in level hi behind =
@@ -129,7 +128,6 @@ module _ (level l lo hi : ℕ) (before : List Item) (p : Item) (behind : List It
       names_append level hi before (p ∷ (map pointer_item more ++ behind)) ∙ ap (λ ns. names_in level (rank p.key) before ++ ns) one
 
   pub same_spans : spans_in hi row ≡ spans_in hi (before ++ p ∷ behind)
-  unfolding row
   same_spans =
       spans_append hi before (p ∷ (map pointer_item more ++ behind))
       ∙ (ap (λ ss. spans_in (rank p.key) before ++ ss) (no_span hi p (map pointer_item more ++ behind) is.plugin ∙ (pointers_spanned hi more behind ∙ sym (no_span hi p behind is.plugin)))
@@ -138,7 +136,6 @@ module _ (level l lo hi : ℕ) (before : List Item) (p : Item) (behind : List It
   -- ---- the row may stand in a node
 
   pub row_between : Between lo hi row
-  unfolding row
   row_between =
       let left = between_left lo hi before p behind is.between in
       let right = between_right lo hi before p behind is.between in
@@ -154,7 +151,6 @@ module _ (level l lo hi : ℕ) (before : List Item) (p : Item) (behind : List It
       behind_from (x ∷ xs) h next = (omega (arith, next), h.1)
 
   pub row_fit : PluginsFit level row
-  unfolding row
   row_fit =
       let old = fit_right level before (p ∷ behind) is.fit in
       let up = is.up in
@@ -166,7 +162,6 @@ module _ (level l lo hi : ℕ) (before : List Item) (p : Item) (behind : List It
       with_first q items one rest (suc k) x e = rest k x e
 
   pub row_good : Good level lo hi 0 row
-  unfolding row
   row_good = go before 0 (between_order_start is.between) is.between is.good
     where
       between_order_start : Between lo hi (before ++ p ∷ behind) → lo ≤ hi

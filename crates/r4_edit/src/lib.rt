@@ -4,6 +4,7 @@
 mod appending;
 mod growing;
 mod laws;
+mod level;
 mod numbers;
 mod pointing;
 mod row;
