@@ -3,10 +3,12 @@ use Rattle.std.proofs.Common.{◌≡◌, ◌≢◌, ◌⊎◌, inl, inr, ℕ, ze
 use Rattle.std.specs.Prelude.{All, Contains, Option, Some, None, ◌↔◌, slice_get}
 use Rattle.std.proofs.lemmas.List.{length-append}
 use Rattle.std.proofs.lemmas.Option.{same_Some, slice_get_within}
-use Rattle.r4_base.specs.Cell.{names_in, spans_in}
+use Rattle.r4_base.specs.Cell.{cell_fault, names_in, spans_in}
 use Rattle.r4_base.specs.Key.{rank}
 use Rattle.r4_base.specs.Node.{Item, KeysRise, PluginsFit, count_of, items_of, level_of}
 use Rattle.r4_base.specs.Tree.{Name, Span}
+use Rattle.r4_base.specs.declared.key.Key.{Key}
+use Rattle.r4_cell.specs.declared.change.Fresh.{Fresh}
 use Rattle.r4_base.proofs.Numbers.{length-number_bytes}
 use Rattle.r4_cell.specs.Seen.{CellSeen, node_of}
 use Rattle.r4_cell.proofs.NodesAt.{IsNodeAt, plugins_at}
@@ -14,10 +16,10 @@ use Rattle.r4_node40.specs.Laid.{IsNode}
 use Rattle.r4_node40.specs.View.{view_block, view_items}
 use Rattle.r4_node40.proofs.Accepted.{good}
 use Rattle.r4_patch.specs.Joining.{ids_of}
-use Rattle.r4_edit.specs.Levels.{IsUnder}
+use Rattle.r4_edit.specs.Levels.{IsStepOver, IsUnder}
 use Rattle.r4_edit.specs.Nodes.{IsPointable, pointer_item, weight, weight_of}
 use Rattle.r4_edit.specs.Rows.{IsNarrow, IsRow, row_items, row_level, row_more, with_pointers}
-use Rattle.r4_edit.specs.Sharing.{HasItems, IsRowOf, IsSound, items_of_cells}
+use Rattle.r4_edit.specs.Sharing.{HasItems, IsRowOf, IsSound, Shares, items_of_cells}
 use Rattle.r4_edit.specs.Steps.{AreNaming, AreSpanning, Follow, IsNameOf, IsNamedAfter, IsStep, Step, name_of}
 use Rattle.r4_edit.specs.declared.row.Row.{Row}
 use Rattle.r4_edit.proofs.CellNodes.{long_pointers, names_are, spans_are}
@@ -203,3 +205,59 @@ module _ (parent : CellSeen) (b : Step) (first : CellSeen) (rest : List CellSeen
       where
         all_spans : (node_of parent).spans ≡ spans_in (rank parent.hi) (items_of_cells cells)
         all_spans = spans_are parent b.old.level under.up ∙ (ap (spans_in (rank parent.hi)) f.parts ∙ (sym (same_spans parent.level b.old.level (rank parent.lo) (rank parent.hi) f.before f.p f.behind b.old first rest replaced) ∙ ap (spans_in (rank parent.hi)) (sym all_items)))
+
+pub some_new : (cells : List CellSeen) (x : ℕ) (xs : List ℕ) → ids_of cells ≡ x ∷ xs → (first : CellSeen) × (rest : List CellSeen) × (cells ≡ first ∷ rest)
+some_new [] x xs e = absurd cc
+some_new (c ∷ cells) x xs e = (c, cells, refl)
+
+pub long_new : (cells : List CellSeen) (x : ℕ) (xs : List ℕ) → ids_of cells ≡ x ∷ xs → 1 ≤ length cells
+long_new [] x xs e = absurd cc
+long_new (c ∷ cells) x xs e = omega arith
+
+-- ---- as the code has it: the parent was lent, and a key is the cell's
+
+pub record Looks (parent : CellSeen) (b : Step) (p q : CellSeen) (w : Row) (key : Key) : Type 0 where
+  pub under : IsUnder b parent
+  pub p_is : p ≡ parent
+  pub q_is : q ≡ parent
+  pub key_is : key ≡ b.old.lo
+  pub view : (view_block w.node).now ≡ p.block
+  pub whole : length p.block ≡ 4096
+  pub accepted : cell_fault true (2 ^ 64) p.level (rank p.lo) (rank p.hi) p.block ≡ None
+  pub more : row_more w ≡ drop 1 b.new
+  pub below : (k : ℕ) (x : Item) → k < w.at → slice_get (view_items w.node) k ≡ Some x → rank x.key < rank key
+  pub here_at : (x : Item) → slice_get (view_items w.node) w.at ≡ Some x → rank key ≤ rank x.key
+
+module _ (parent : CellSeen) (b : Step) (p q : CellSeen) (w : Row) (key : Key) (looks : Looks parent b p q w key) where
+  sound_parent : IsSound parent
+  sound_parent = subst IsSound looks.p_is (record { whole = looks.whole; accepted = looks.accepted })
+
+  view_parent : (view_block w.node).now ≡ parent.block
+  view_parent = looks.view ∙ ap (λ (c : CellSeen). c.block) looks.p_is
+
+  key_below : (k : ℕ) (x : Item) → k < w.at → slice_get (view_items w.node) k ≡ Some x → rank x.key < rank b.old.lo
+  key_below k x lt e = subst (λ y. rank x.key < rank y) looks.key_is (looks.below k x lt e)
+
+  key_here : (x : Item) → slice_get (view_items w.node) w.at ≡ Some x → rank b.old.lo ≤ rank x.key
+  key_here x e = subst (λ y. rank y ≤ rank x.key) looks.key_is (looks.here_at x e)
+
+  pub over_row : IsRowOf q w
+  over_row =
+      let (first, rest, new) = some_new b.new b.old.id (ids_of (drop 1 b.new)) looks.under.first in
+      subst (λ x. IsRowOf x w) (sym looks.q_is) (parent_row parent b first rest w looks.under sound_parent new view_parent looks.more key_below key_here)
+
+  pub over_step : (f g : Fresh) (old : CellSeen) (cells : List CellSeen) → old ≡ parent → Shares q (row_items w) f g cells → IsStepOver b parent f g (record { old = old; new = cells })
+  over_step f g old cells same shares =
+      let (first, rest, new) = some_new b.new b.old.id (ids_of (drop 1 b.new)) looks.under.first in
+      let has : HasItems parent (row_items w) f.next cells = subst (λ x. HasItems x (row_items w) f.next cells) looks.q_is shares.has in
+      let weighs = row_weighs parent b first rest w looks.under sound_parent new view_parent looks.more key_below key_here in
+      let n = ap (λ (xs : List CellSeen). length (drop 1 xs)) new in
+      record {
+        old = same;
+        step = subst (λ x. IsStep (Some b) (record { old = x; new = cells })) (sym same) (parent_step parent b first rest w looks.under sound_parent new view_parent looks.more key_below key_here f.next cells has);
+        sound = has.sound;
+        counts = has.fresh;
+        number = shares.number;
+        one = λ fits. shares.few.0 (omega (arith, weighs, n, fits));
+        two = λ over. shares.few.1 (omega (arith, weighs, n, over));
+      }

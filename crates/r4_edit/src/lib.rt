@@ -2,6 +2,7 @@
 #![tactic(auto)]
 
 mod appending;
+mod climbing;
 mod growing;
 mod laws;
 mod level;
