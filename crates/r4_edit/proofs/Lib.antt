@@ -15,6 +15,7 @@ pub mod RowPlaces
 pub mod Rows
 pub mod Shared
 pub mod Stepping
+pub mod Upwards
 pub mod OnPath
 pub mod Parenting
 pub mod PathPatch

@@ -1,14 +1,15 @@
 -- A change that climbs a path, level by level (docs/volume.md, "Edits").
-use Rattle.std.specs.Prelude.{◌≡◌, ℕ, suc, ◌+◌, ◌*◌, ◌<◌, ◌≤◌, List, ◌∷◌, All, Contains, drop, length, map, Some}
+use Rattle.std.specs.Prelude.{◌≡◌, ◌⊎◌, ℕ, suc, ◌+◌, ◌*◌, ◌^◌, ◌<◌, ◌≤◌, List, [], ◌∷◌, ◌++◌, All, Contains, drop, length, map, take, Option, None, Some}
 use Rattle.std.specs.Arc.{arc_value}
-use Rattle.r4_base.specs.Key.{rank}
+use Rattle.r4_base.specs.Key.{least, rank, top}
 use Rattle.r4_base.specs.Node.{items_of}
+use Rattle.r4_base.specs.Tree.{IsNode, Root}
 use Rattle.r4_cell.specs.Seen.{CellSeen, node_of}
 use Rattle.r4_cell.specs.declared.change.Fresh.{Fresh}
 use Rattle.r4_patch.specs.Joining.{ids_of}
 use Rattle.r4_edit.specs.Nodes.{IsPointable, weight}
 use Rattle.r4_edit.specs.Sharing.{IsSound}
-use Rattle.r4_edit.specs.Steps.{CountUp, Follow, IsStep, Step, name_of}
+use Rattle.r4_edit.specs.Steps.{Climbs, CountUp, Ends, Follow, IsStep, Step, fresh_ids, name_of, news, olds}
 use Rattle.r4_edit.specs.declared.level.Level.{Level}
 
 -- what contracts see of a level
@@ -36,3 +37,45 @@ pub record IsStepOver (b : Step) (parent : CellSeen) (before after : Fresh) (s :
   pub number : after ≡ record before { next = before.next + length (drop 1 s.new) }
   pub one : weight (items_of parent.block) + 46 * length (drop 1 b.new) ≤ 4068 → length s.new ≡ 1
   pub two : 4068 < weight (items_of parent.block) + 46 * length (drop 1 b.new) → length s.new ≡ 2
+
+-- ---- up a path, from the lowest cell on
+
+-- each cell names the one before it, one level below
+abbrev pub Leads : CellSeen → List CellSeen → Type 0
+Leads b [] = Unit {0}
+Leads b (c ∷ cells) = Contains (node_of c).names (name_of b) × (c.level ≡ suc b.level) × (rank c.lo < rank c.hi) × Leads c cells
+
+-- The cell is parted in two. The next one has room for a pointer more, or is parted too; where there is none, the cell is a root below level 8.
+abbrev pub Suffices : CellSeen → List CellSeen → Type 0
+Suffices c [] = (rank c.lo ≡ least) × (rank c.hi ≡ top) × (c.level < 8) × IsPointable c.id
+Suffices c (d ∷ cells) = (weight (items_of d.block) + 46 ≤ 4068) ⊎ Suffices d cells
+
+-- The same, where the last of the cells is known by the name of the root.
+abbrev pub IsLongEnough : Root → CellSeen → List CellSeen → Type 0
+IsLongEnough r c [] = (c.id ≡ r.id) × (c.level < 8)
+IsLongEnough r c (d ∷ cells) = (weight (items_of d.block) + 46 ≤ 4068) ⊎ IsLongEnough r d cells
+
+-- The cells in the place of one, with the cells above it, up to where the change may end, and numbers for what is to come.
+pub record CanClimb (s : Step) (ups : List CellSeen) (fresh : Fresh) : Type 0 where
+  pub low : 1 ≤ s.old.level
+  pub first : ids_of s.new ≡ s.old.id ∷ ids_of (drop 1 s.new)
+  pub ranges : Follow s.old.level (rank s.old.lo) (rank s.old.hi) s.new
+  pub able : All (λ c. IsPointable c.id) (drop 1 s.new)
+  pub few : length s.new ≤ 2
+  pub leads : Leads s.old ups
+  pub enough : (length s.new ≡ 1) ⊎ Suffices s.old ups
+  pub unplaced : 2 ^ 63 ≤ fresh.next
+  pub numbers : fresh.next + length ups < fresh.end
+  pub end : fresh.end < 2 ^ 64
+
+-- The steps above a step, and the new root where there is one.
+pub record Climbed (s : Step) (ups : List CellSeen) (before after : Fresh) (were are : List Step) (over : Option CellSeen) : Type 0 where
+  pub more : List Step
+  pub steps : are ≡ were ++ s ∷ more
+  pub climbs : Climbs (Some s) more
+  pub olds_are : olds more ≡ take (length more) ups
+  pub sound : (c : CellSeen) → Contains (news more None) c → IsSound c
+  pub root_node : (c : CellSeen) → over ≡ Some c → IsNode (node_of c)
+  pub counts : CountUp before.next (fresh_ids more over)
+  pub number : after ≡ record before { next = before.next + length (fresh_ids more over) }
+  pub ends : (r : Root) → (length s.new ≡ 1) ⊎ IsLongEnough r s.old ups → Ends r (s ∷ more) over

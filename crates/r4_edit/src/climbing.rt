@@ -1,12 +1,13 @@
 //! From the new cells of a level to those of the level above (docs/volume.md, "Edits").
 
-ghost use Rattle.std.specs.Prelude.{◌≡◌, ℕ, ◌<◌, ◌≤◌, drop, length, map, slice_get, Some, IfOk};
+ghost use Rattle.std.specs.Prelude.{◌≡◌, ℕ, ◌<◌, ◌≤◌, drop, length, map, option_map, reverse, slice_get, Some, IfOk};
 ghost use Rattle.std.specs.Arc.{arc_value};
 ghost use Rattle.r4_base.specs.Key.{rank};
 ghost use Rattle.r4_base.specs.Node.{Item};
 ghost use Rattle.r4_node40.specs.View.{view_items};
-ghost use Rattle.r4_edit.specs.Levels.{IsStepOver, IsUnder, step_of};
+ghost use Rattle.r4_edit.specs.Levels.{CanClimb, Climbed, IsStepOver, IsUnder, step_of};
 
+use crate::growing::root_over;
 use crate::level::Level;
 use crate::row::Row;
 use crate::sharing::share;
@@ -15,6 +16,33 @@ use r4_cell::{Cell, Cells, Fresh};
 use r4_node40::NodeView;
 use std::alloc::Global;
 use std::sync::Arc;
+
+/// The levels of a change from one on, where the cells above it are those of a path, given from the top down. They are put
+/// behind the levels that there are. Answers the new root, where there is one: over a root that is parted in two.
+pub(crate) fn climb(
+    alloc: Global,
+    above: &[Arc<Cell>],
+    level: Level,
+    fresh: &mut Fresh,
+    levels: &mut Vec<Level>,
+) -> Result<Option<Arc<Cell>>, Memory>
+    requires { CanClimb (step_of level) (reverse (map (λ c. arc_value c) above.now)) fresh.old }
+    ensures { IfOk result (λ over. Climbed (step_of level) (reverse (map (λ c. arc_value c) above.now)) fresh.old fresh.new (map step_of levels.old.items) (map step_of levels.new.items) (option_map (λ c. arc_value c) over)) }
+{
+    if level.new.as_slice().len() == 1 {
+        levels.push(level)?;
+        return Ok(None);
+    }
+    let count = above.len();
+    if count == 0 {
+        let root = root_over(alloc, level.new.as_slice(), level.old.level(), fresh)?;
+        levels.push(level)?;
+        return Ok(Some(root));
+    }
+    let next = over(alloc, &above[count - 1], &level, fresh)?;
+    levels.push(level)?;
+    climb(alloc, &above[..count - 1], next, fresh, levels)
+}
 
 /// The cells in the place of a parent, where new cells stand below it in the place of one that it names.
 pub(crate) fn over(
