@@ -3,9 +3,9 @@ use Rattle.std.proofs.Common.{◌≡◌, ◌≢◌, ◌⊎◌, inl, inr, ℕ, ze
 use Rattle.std.specs.Prelude.{All, Contains, reverse, Option, Some, None, nat_le, nat_lt}
 use Rattle.std.proofs.lemmas.Bool.{cases_lt}
 use Rattle.std.proofs.lemmas.Bool.Decides.{nat_tests}
-use Rattle.std.proofs.lemmas.List.{append_assoc, length-append, length-drop, map-append, reverse-append}
+use Rattle.std.proofs.lemmas.List.{append_assoc, append-nil, length-append, length-drop, map-append, reverse-append}
 use Rattle.std.proofs.lemmas.List.Elements.{All-cons, All-nil, Contains-append_cases}
-use Rattle.std.proofs.lemmas.Option.{none-some, same_Some}
+use Rattle.std.proofs.lemmas.Option.{none-some, same_Some, slice_get_read}
 use Rattle.r4_base.specs.Bitmap.{is_fixed}
 use Rattle.r4_base.specs.Cell.{names_block}
 use Rattle.r4_base.specs.Key.{least, rank, top}
@@ -18,6 +18,7 @@ use Rattle.r4_edit.specs.Levels.{CanClimb, Climbed, IsLongEnough, IsStepOver, Is
 use Rattle.r4_edit.specs.Nodes.{IsPointable, IsPointingTo, weight}
 use Rattle.r4_edit.specs.Sharing.{IsSound}
 use Rattle.r4_edit.specs.Steps.{Climbs, CountUp, Ends, Follow, IsRootOver, IsStep, Step, fresh_ids, name_of, news, olds}
+use Rattle.r4_edit.proofs.Filling.{take_more}
 use Rattle.r4_edit.proofs.Grown.{map_names, names_map}
 use Rattle.r4_edit.proofs.Members.{cases, none}
 use Rattle.r4_edit.proofs.Rising.{count_within, id_member}
@@ -250,3 +251,18 @@ none_above f (x ∷ xs) e = absurd (omega (arith, e))
 
 pub pushed : {A : Type 0} (f : A → Step) (xs ys : List A) (x : A) → ys ≡ xs ++ x ∷ [] → map f ys ≡ map f xs ++ f x ∷ []
 pushed f xs ys x e = ap (map f) e ∙ map-append f xs (x ∷ [])
+
+-- ---- the new cells of all steps
+
+pub news_append : (xs : List Step) (s : Step) → news (xs ++ s ∷ []) None ≡ news xs None ++ s.new
+news_append [] s = append-nil s.new
+news_append (x ∷ xs) s = ap (λ zs. x.new ++ zs) (news_append xs s) ∙ sym (append_assoc x.new (news xs None) s.new)
+
+pub news_over : (xs : List Step) (c : CellSeen) → news xs (Some c) ≡ news xs None ++ c ∷ []
+news_over [] c = refl
+news_over (x ∷ xs) c = ap (λ zs. x.new ++ zs) (news_over xs c) ∙ sym (append_assoc x.new (news xs None) (c ∷ []))
+
+pub news_more : {A : Type 0} (f : A → Step) (xs : List A) (n : ℕ) (x : A) → n < length xs → x ≡ get_or xs n x → news (map f (take (n + 1) xs)) None ≡ news (map f (take n xs)) None ++ (f x).new
+news_more f xs n x lt is =
+    ap (λ zs. news (map f zs) None) (take_more n xs x (slice_get_read xs (length xs) n x refl lt is))
+    ∙ (ap (λ zs. news zs None) (map-append f (take n xs) (x ∷ [])) ∙ news_append (map f (take n xs)) (f x))

@@ -5,11 +5,12 @@ use Rattle.r4_base.specs.Key.{least, rank, top}
 use Rattle.r4_base.specs.Node.{items_of}
 use Rattle.r4_base.specs.Tree.{IsNode, Root}
 use Rattle.r4_cell.specs.Seen.{CellSeen, node_of}
+use Rattle.r4_cell.specs.declared.change.Change.{Change}
 use Rattle.r4_cell.specs.declared.change.Fresh.{Fresh}
 use Rattle.r4_patch.specs.Joining.{ids_of}
 use Rattle.r4_edit.specs.Nodes.{IsPointable, weight}
 use Rattle.r4_edit.specs.Sharing.{IsSound}
-use Rattle.r4_edit.specs.Steps.{Climbs, CountUp, Ends, Follow, IsStep, Step, fresh_ids, name_of, news, olds}
+use Rattle.r4_edit.specs.Steps.{Climbs, CountUp, Ends, Follow, IsStep, Step, fresh_ids, name_of, news, olds, root_pair}
 use Rattle.r4_edit.specs.declared.level.Level.{Level}
 
 -- what contracts see of a level
@@ -79,3 +80,9 @@ pub record Climbed (s : Step) (ups : List CellSeen) (before after : Fresh) (were
   pub counts : CountUp before.next (fresh_ids more over)
   pub number : after ≡ record before { next = before.next + length (fresh_ids more over) }
   pub ends : (r : Root) → (length s.new ≡ 1) ⊎ IsLongEnough r s.old ups → Ends r (s ∷ more) over
+
+-- The change has the cells of these steps, and the new root where there is one.
+pub record HasLevels (steps : List Step) (over : Option CellSeen) (c : Change) : Type 0 where
+  pub old : c.old ≡ olds steps
+  pub new : c.new ≡ news steps over
+  pub pair : c.root ≡ root_pair over

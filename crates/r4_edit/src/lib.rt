@@ -3,6 +3,7 @@
 
 mod appending;
 mod climbing;
+mod gathering;
 mod growing;
 mod laws;
 mod level;
