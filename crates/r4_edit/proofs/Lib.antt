@@ -18,6 +18,8 @@ pub mod Stepping
 pub mod Upwards
 pub mod OnPath
 pub mod Parenting
+pub mod Parting
 pub mod PathPatch
+pub mod Parted
 pub mod PointerNodes
 pub mod Pointers

@@ -3,7 +3,7 @@ use Rattle.std.proofs.Common.{◌≡◌, ◌≢◌, ◌⊎◌, inl, inr, ℕ, ze
 use Rattle.std.specs.Prelude.{All, Contains, reverse, Option, Some, None, nat_le, nat_lt}
 use Rattle.std.proofs.lemmas.Bool.{cases_lt}
 use Rattle.std.proofs.lemmas.Bool.Decides.{nat_tests}
-use Rattle.std.proofs.lemmas.List.{append_assoc, append-nil, length-append, length-drop, map-append, reverse-append}
+use Rattle.std.proofs.lemmas.List.{append_assoc, append-nil, length-append, length-drop, length-reverse, map-append, reverse-append}
 use Rattle.std.proofs.lemmas.List.Elements.{All-cons, All-nil, Contains-append_cases}
 use Rattle.std.proofs.lemmas.Option.{none-some, same_Some, slice_get_read}
 use Rattle.r4_base.specs.Bitmap.{is_fixed}
@@ -18,7 +18,8 @@ use Rattle.r4_edit.specs.Levels.{CanClimb, Climbed, IsLongEnough, IsStepOver, Is
 use Rattle.r4_edit.specs.Nodes.{IsPointable, IsPointingTo, weight}
 use Rattle.r4_edit.specs.Sharing.{IsSound}
 use Rattle.r4_edit.specs.Steps.{Climbs, CountUp, Ends, Follow, IsRootOver, IsStep, Step, fresh_ids, name_of, news, olds}
-use Rattle.r4_edit.proofs.Filling.{take_more}
+use Rattle.r4_edit.proofs.CellNodes.{long_map}
+use Rattle.r4_edit.proofs.Filling.{long_take, take_more}
 use Rattle.r4_edit.proofs.Grown.{map_names, names_map}
 use Rattle.r4_edit.proofs.Members.{cases, none}
 use Rattle.r4_edit.proofs.Rising.{count_within, id_member}
@@ -60,8 +61,8 @@ one_alone (c ∷ (d ∷ cells)) e = absurd (omega (arith, e))
 
 -- ---- the change ends at one new cell
 
-pub ends_alone : (s : Step) (ups : List CellSeen) (f : Fresh) (were are : List Step) → length s.new ≡ 1 → are ≡ were ++ s ∷ [] → Climbed s ups f f were are None
-ends_alone s ups f were are one steps = record {
+pub ends_alone : (s : Step) (ups : List CellSeen) (f : Fresh) (were are : List Step) → f.next ≤ f.end → length s.new ≡ 1 → are ≡ were ++ s ∷ [] → Climbed s ups f f were are None
+ends_alone s ups f were are room one steps = record {
   more = [];
   steps = steps;
   climbs = tt;
@@ -70,6 +71,7 @@ ends_alone s ups f were are one steps = record {
   root_node = λ c e. absurd (none-some c e);
   counts = tt;
   number = same_next f f.next (f.next + 0) (omega arith);
+  within = room;
   ends = λ r h. one_alone s.new one;
 }
 
@@ -111,6 +113,7 @@ module _ (s : Step) (f : Fresh) (can : CanClimb s [] f) (two : length s.new ≢ 
     root_node = λ d e. subst (λ x. IsNode (node_of x)) (same_Some c d e) points.node;
     counts = (points.number, tt);
     number = took;
+    within = let n = can.numbers in let a = ap (λ (x : Fresh). x.next) took in let b = ap (λ (x : Fresh). x.end) took in omega (arith, n, a, b);
     ends = λ r h. elim h [
       | inl one ↦ absurd (two one)
       | inr enough ↦ record {
@@ -220,6 +223,7 @@ module _ (s : Step) (parent : CellSeen) (ups : List CellSeen) (f : Fresh) (can :
       number = rest.number ∙ (ap (λ (x : Fresh). record x { next = g.next + length (fresh_ids rest.more over) }) step.number
           ∙ same_next f (g.next + length (fresh_ids rest.more over)) (f.next + length (ids_of (drop 1 u.new) ++ fresh_ids rest.more over))
             (let long = long_ids (drop 1 u.new) in let n = next_is in let sum = length-append (ids_of (drop 1 u.new)) (fresh_ids rest.more over) in omega (arith, long, n, sum)));
+      within = rest.within;
       ends = λ r h. elim h [
         | inl one ↦ absurd (two one)
         | inr more ↦ elim more [
@@ -266,3 +270,11 @@ pub news_more : {A : Type 0} (f : A → Step) (xs : List A) (n : ℕ) (x : A) �
 news_more f xs n x lt is =
     ap (λ zs. news (map f zs) None) (take_more n xs x (slice_get_read xs (length xs) n x refl lt is))
     ∙ (ap (λ zs. news zs None) (map-append f (take n xs) (x ∷ [])) ∙ news_append (map f (take n xs)) (f x))
+
+pub long_above : {A : Type 0} (f : A → CellSeen) (xs : List A) → length xs ≢ 0 → 1 + length (reverse (map f (take (length xs - 1) xs))) ≡ length xs
+long_above f [] some = absurd (some refl)
+long_above f (x ∷ xs) some =
+    let a = length-reverse (map f (take (length (x ∷ xs) - 1) (x ∷ xs))) in
+    let b = long_map f (take (length (x ∷ xs) - 1) (x ∷ xs)) in
+    let d = long_take (length (x ∷ xs) - 1) (x ∷ xs) (omega arith) in
+    omega (arith, a, b, d)

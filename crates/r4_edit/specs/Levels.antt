@@ -1,15 +1,17 @@
 -- A change that climbs a path, level by level (docs/volume.md, "Edits").
-use Rattle.std.specs.Prelude.{◌≡◌, ◌⊎◌, ℕ, suc, ◌+◌, ◌*◌, ◌^◌, ◌<◌, ◌≤◌, List, [], ◌∷◌, ◌++◌, All, Contains, drop, length, map, take, Option, None, Some}
+use Rattle.std.specs.Prelude.{◌≡◌, ◌⊎◌, ℕ, suc, ◌+◌, ◌*◌, ◌^◌, ◌<◌, ◌≤◌, List, [], ◌∷◌, ◌++◌, All, Contains, drop, length, map, reverse, take, Option, None, Some}
 use Rattle.std.specs.Arc.{arc_value}
 use Rattle.r4_base.specs.Key.{least, rank, top}
 use Rattle.r4_base.specs.Node.{items_of}
-use Rattle.r4_base.specs.Tree.{IsNode, Root}
+use Rattle.r4_base.specs.Tree.{IsNode, Root, Store}
+use Rattle.r4_base.specs.Value.{Value}
 use Rattle.r4_cell.specs.Seen.{CellSeen, node_of}
 use Rattle.r4_cell.specs.declared.change.Change.{Change}
 use Rattle.r4_cell.specs.declared.change.Fresh.{Fresh}
 use Rattle.r4_patch.specs.Joining.{ids_of}
+use Rattle.r4_edit.specs.Growing.{IsPathIn}
 use Rattle.r4_edit.specs.Nodes.{IsPointable, weight}
-use Rattle.r4_edit.specs.Sharing.{IsSound}
+use Rattle.r4_edit.specs.Sharing.{HasItems, IsSound}
 use Rattle.r4_edit.specs.Steps.{Climbs, CountUp, Ends, Follow, IsStep, Step, fresh_ids, name_of, news, olds, root_pair}
 use Rattle.r4_edit.specs.declared.level.Level.{Level}
 
@@ -79,6 +81,7 @@ pub record Climbed (s : Step) (ups : List CellSeen) (before after : Fresh) (were
   pub root_node : (c : CellSeen) → over ≡ Some c → IsNode (node_of c)
   pub counts : CountUp before.next (fresh_ids more over)
   pub number : after ≡ record before { next = before.next + length (fresh_ids more over) }
+  pub within : after.next ≤ after.end
   pub ends : (r : Root) → (length s.new ≡ 1) ⊎ IsLongEnough r s.old ups → Ends r (s ∷ more) over
 
 -- The change has the cells of these steps, and the new root where there is one.
@@ -86,3 +89,54 @@ pub record HasLevels (steps : List Step) (over : Option CellSeen) (c : Change) :
   pub old : c.old ≡ olds steps
   pub new : c.new ≡ news steps over
   pub pair : c.root ≡ root_pair over
+
+-- ---- a node parted in two
+
+-- the units of all the cells, one after the other
+abbrev pub units_of_cells : List CellSeen → List (ℕ × Value)
+units_of_cells [] = []
+units_of_cells (c ∷ cells) = (node_of c).units ++ units_of_cells cells
+
+-- The cell has two items or more, and is the lowest of a path of this part of a tree, with the cells above it that a new pointer may ask for.
+pub record IsPartedIn (t : Store Value) (r : Root) (c : CellSeen) (ups : List CellSeen) (fresh : Fresh) : Type 0 where
+  pub path : IsPathIn t r (c ∷ ups) fresh
+  pub enough : IsLongEnough r c ups
+  pub items : 2 ≤ length (items_of c.block)
+
+-- The lowest step parts the cell in two, with all its units in their order; the steps go up the path, with the next numbers.
+pub record Parts (c : CellSeen) (ups : List CellSeen) (before after : Fresh) (change : Change) : Type 0 where
+  pub lowest : Step
+  pub more : List Step
+  pub over : Option CellSeen
+  pub levels : HasLevels (lowest ∷ more) over change
+  pub old : lowest.old ≡ c
+  pub ups_are : olds more ≡ take (length more) ups
+  pub two : length lowest.new ≡ 2
+  pub units : units_of_cells lowest.new ≡ (node_of c).units
+  pub counts : CountUp before.next (fresh_ids (lowest ∷ more) over)
+  pub number : after ≡ record before { next = before.next + length (fresh_ids (lowest ∷ more) over) }
+
+-- The cell is parted in two, with all its units in their order.
+pub record IsParted (c : CellSeen) (before after : Fresh) (s : Step) : Type 0 where
+  pub old : s.old ≡ c
+  pub has : HasItems c (items_of c.block) before.next s.new
+  pub two : length s.new ≡ 2
+  pub took : after ≡ record before { next = before.next + 1 }
+  pub step : IsStep None s
+  pub units : units_of_cells s.new ≡ (node_of c).units
+
+-- ---- the same of a path that is given from the top down
+
+abbrev pub IsPartedUp : Store Value → Root → Fresh → List CellSeen → Type 0
+IsPartedUp t r fresh [] = ⊥
+IsPartedUp t r fresh (c ∷ ups) = IsPartedIn t r c ups fresh
+
+abbrev pub IsSplitIn : Store Value → Root → (path : List CellSeen) → Fresh → Type 0
+IsSplitIn t r path fresh = IsPartedUp t r fresh (reverse path)
+
+abbrev pub PartsUp : (before after : Fresh) → Change → List CellSeen → Type 0
+PartsUp before after change [] = ⊥
+PartsUp before after change (c ∷ ups) = Parts c ups before after change
+
+abbrev pub Splits : (path : List CellSeen) → (before after : Fresh) → Change → Type 0
+Splits path before after change = PartsUp before after change (reverse path)

@@ -40,7 +40,7 @@ pub record IsRowOf (old : CellSeen) (w : Row) : Type 0 where
   pub row : IsRow w
   pub narrow : IsNarrow w
   pub level : old.level ≡ row_level w
-  pub branch : 2 ≤ old.level
+  pub branch : 1 ≤ old.level
   pub range : rank old.lo < rank old.hi
   pub some : 1 ≤ length (row_items w)
   pub good : items_in_fault true (2 ^ 64) old.level (rank old.lo) (rank old.hi) 0 (row_items w) ≡ None

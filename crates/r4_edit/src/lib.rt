@@ -11,6 +11,8 @@ mod numbers;
 mod pointing;
 mod row;
 mod sharing;
+mod splitting;
 
 pub use growing::grow;
 pub use laws::path_changes_are_patches;
+pub use splitting::split;
