@@ -1,5 +1,6 @@
 pub mod Appended
 pub mod CellNodes
+pub mod CellUnits
 pub mod CutRows
 pub mod Cuts
 pub mod Filling

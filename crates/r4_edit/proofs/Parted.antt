@@ -156,6 +156,8 @@ module _ (c : CellSeen) (ups : List CellSeen) (f g after : Fresh) (items : List 
       ups_are = up.olds_are;
       two = two;
       units = units;
+      keep = up.keep;
+      root_units = up.root_units;
       counts = all_counts;
       number = all_number;
     }

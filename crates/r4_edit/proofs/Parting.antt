@@ -28,7 +28,7 @@ use Rattle.r4_edit.specs.Rows.{IsNarrow, IsRow, row_items, row_level, row_more, 
 use Rattle.r4_edit.specs.Sharing.{HasItems, IsRowOf, IsSound, items_of_cells}
 use Rattle.r4_edit.specs.Steps.{AreNaming, AreSpanning, Ascends, Climbs, CountUp, Follow, IsFree, IsNamedBy, IsPathChange, IsStep, Step, fresh_ids, name_of, news, olds, root_pair}
 use Rattle.r4_edit.specs.declared.row.Row.{Row}
-use Rattle.r4_edit.proofs.CellNodes.{units_are}
+use Rattle.r4_edit.proofs.CellUnits.{own_units as units_of_items, units_parts}
 use Rattle.r4_edit.proofs.Cuts.{both_parts}
 use Rattle.r4_edit.proofs.Finding.{bodied, node_weighs, weighs_length}
 use Rattle.r4_edit.proofs.Lying.{Good}
@@ -56,18 +56,6 @@ new_node o x cells node one follow sound member =
     let lo = lo_is o in
     let hi = hi_is o in
     cell_node true (2 ^ 64) x.level (rank x.lo) (rank x.hi) x.block sound.whole (omega (arith, level, one)) (omega (arith, from, low, lo)) w.nonempty (omega (arith, to, high, hi)) sound.accepted
-
--- ---- the units of the cells
-
-units_none : units_in [] ≡ []
-unfolding units_in
-units_none = refl
-
-units_parts : (level lo hi : ℕ) (cells : List CellSeen) → 1 ≤ level → Follow level lo hi cells → units_of_cells cells ≡ units_in (items_of_cells cells)
-units_parts level lo hi [] one follow = sym units_none
-units_parts zero lo hi (c ∷ cells) one follow = absurd (omega (arith, one))
-units_parts (suc l) lo hi (c ∷ cells) one follow =
-    (λ i. units_are c l follow.0 i ++ units_parts (suc l) (rank c.hi) hi cells one follow.3 i) ∙ sym (units_append (items_of c.block) (items_of_cells cells))
 
 -- ---- the row of a node as it is
 
@@ -165,11 +153,7 @@ module _ (c : CellSeen) (w : Row) (s : IsSound c) (one : 1 ≤ c.level) (range :
         by_level (suc (suc l)) e some = branch_step (suc l) (omega arith) e
 
     pub own_units : units_of_cells cells ≡ (node_of c).units
-    own_units = units_parts c.level (rank c.lo) (rank c.hi) cells one has.ranges ∙ (ap units_in all_items ∙ sym (by_level c.level refl one))
-      where
-        by_level : (k : ℕ) → c.level ≡ k → 1 ≤ k → (node_of c).units ≡ units_in (items_of c.block)
-        by_level zero e some = absurd (omega (arith, some))
-        by_level (suc l) e some = units_are c l e
+    own_units = units_parts c.level (rank c.lo) (rank c.hi) cells one has.ranges ∙ (ap units_in all_items ∙ sym (units_of_items c one))
 
 -- ---- as the code has it: the cell was lent
 

@@ -9,9 +9,9 @@ use Rattle.r4_base.specs.Node.{Item, items_of}
 use Rattle.r4_base.specs.declared.key.Key.{Key}
 use Rattle.r4_cell.specs.Seen.{CellSeen}
 use Rattle.r4_edit.specs.Nodes.{IsNodeOf, weight, weight_of}
-use Rattle.r4_edit.specs.Rows.{row_items, row_level, row_part}
+use Rattle.r4_edit.specs.Rows.{IsCut, row_items, row_level, row_part}
 use Rattle.r4_cell.specs.declared.change.Fresh.{Fresh}
-use Rattle.r4_edit.specs.Sharing.{HasItems, IsRowOf, IsSound, Shares, items_of_cells}
+use Rattle.r4_edit.specs.Sharing.{AreFilled, HasItems, IsRowOf, IsSound, Shares, items_of_cells}
 use Rattle.r4_edit.specs.declared.row.Row.{Row}
 use Rattle.r4_edit.proofs.Cuts.{both_parts, cut_parts, take_whole}
 use Rattle.r4_edit.proofs.Filling.{weight_one}
@@ -162,6 +162,21 @@ module _ (o : CellSeen) (w : Row) (is : IsRowOf o w) where
           fresh = (bi, tt);
         }
 
+-- above level 2 neither of two nodes is small
+pub two_filled : (o : CellSeen) (w : Row) → IsRowOf o w → (cut : ℕ) → IsCut w cut → (a b : CellSeen) → IsNodeOf (row_level w) (row_part w 0 cut) a.block → IsNodeOf (row_level w) (row_part w cut (length (row_items w))) b.block → 3 ≤ o.level → 4068 < weight (row_items w) → AreFilled (a ∷ (b ∷ []))
+two_filled o w is cut at a b left right high over x member =
+    let level = is.level in
+    let (l, r) = at.filled (omega (arith, high, level)) over in
+    let lw = ap weight left.items_are in
+    let rw' = ap weight right.items_are in
+    elim (cases a x (b ∷ []) member) [
+      | inl e ↦ subst (λ (y : CellSeen). 1024 ≤ weight (items_of y.block)) (sym e) (omega (arith, l, lw))
+      | inr more ↦ elim (cases b x [] more) [
+        | inl e ↦ subst (λ (y : CellSeen). 1024 ≤ weight (items_of y.block)) (sym e) (omega (arith, r, rw'))
+        | inr past ↦ absurd (none x past)
+      ]
+    ]
+
 -- ---- one cell or two
 
 next_more : (f : Fresh) (n : ℕ) → n ≡ 0 → f ≡ record f { next = f.next + n }
@@ -172,13 +187,15 @@ shares_one o items f cells has one fits = record {
   has = has;
   number = next_more f (length (drop 1 cells)) (let d = length-drop 1 cells in omega (arith, d, one));
   few = (λ _. one, λ over. absurd (omega (arith, over, fits)));
+  filled = λ high two. absurd (omega (arith, one, two));
 }
 
-pub shares_two : (o : CellSeen) (items : List Item) (f g : Fresh) (cells : List CellSeen) → HasItems o items f.next cells → length cells ≡ 2 → 4068 < weight items → g ≡ record f { next = f.next + 1 } → Shares o items f g cells
-shares_two o items f g cells has two over took = record {
+pub shares_two : (o : CellSeen) (items : List Item) (f g : Fresh) (cells : List CellSeen) → HasItems o items f.next cells → length cells ≡ 2 → 4068 < weight items → g ≡ record f { next = f.next + 1 } → (3 ≤ o.level → 4068 < weight items → AreFilled cells) → Shares o items f g cells
+shares_two o items f g cells has two over took filled = record {
   has = has;
   number = took ∙ (λ i. record f { next = (let same : f.next + 1 ≡ f.next + length (drop 1 cells) = (let d = length-drop 1 cells in omega (arith, d, two)) in same) i });
   few = (λ fits. absurd (omega (arith, over, fits)), λ _. two);
+  filled = λ high _. filled high over;
 }
 
 pub weigh_all : (o : CellSeen) (w : Row) → IsRowOf o w → (n : ℕ) → n ≡ length (row_items w) → weight (row_part w 0 n) ≡ weight (row_items w)

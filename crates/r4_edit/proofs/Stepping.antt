@@ -1,9 +1,10 @@
 -- A parent over new cells: its row may stand in its place, and the cells that have it are a step of the change.
 use Rattle.std.proofs.Common.{◌≡◌, ◌≢◌, ◌⊎◌, inl, inr, ℕ, zero, suc, ◌+◌, ◌-◌, ◌*◌, ◌^◌, ◌<◌, ◌≤◌, true, false, List, [], ◌∷◌, ◌++◌, length, map, take, drop, refl, sym, ap, subst, ◌∙◌, arith}
 use Rattle.std.specs.Prelude.{All, Contains, Option, Some, None, ◌↔◌, slice_get}
+use Rattle.std.proofs.lemmas.Bool.{cases_lt}
 use Rattle.std.proofs.lemmas.List.{length-append}
 use Rattle.std.proofs.lemmas.Option.{same_Some, slice_get_within}
-use Rattle.r4_base.specs.Cell.{cell_fault, names_in, spans_in}
+use Rattle.r4_base.specs.Cell.{cell_fault, names_in, spans_in, units_in}
 use Rattle.r4_base.specs.Key.{rank}
 use Rattle.r4_base.specs.Node.{Item, KeysRise, PluginsFit, count_of, items_of, level_of}
 use Rattle.r4_base.specs.Tree.{Name, Span}
@@ -16,21 +17,23 @@ use Rattle.r4_node40.specs.Laid.{IsNode}
 use Rattle.r4_node40.specs.View.{view_block, view_items}
 use Rattle.r4_node40.proofs.Accepted.{good}
 use Rattle.r4_patch.specs.Joining.{ids_of}
-use Rattle.r4_edit.specs.Levels.{IsStepOver, IsUnder}
+use Rattle.r4_edit.specs.Levels.{IsStepOver, IsUnder, units_of_cells}
 use Rattle.r4_edit.specs.Nodes.{IsPointable, pointer_item, weight, weight_of}
 use Rattle.r4_edit.specs.Rows.{IsNarrow, IsRow, row_items, row_level, row_more, with_pointers}
-use Rattle.r4_edit.specs.Sharing.{HasItems, IsRowOf, IsSound, Shares, items_of_cells}
+use Rattle.r4_edit.specs.Sharing.{AreFilled, HasItems, IsRowOf, IsSound, Shares, items_of_cells}
 use Rattle.r4_edit.specs.Steps.{AreNaming, AreSpanning, Follow, IsNameOf, IsNamedAfter, IsStep, Step, name_of}
 use Rattle.r4_edit.specs.declared.row.Row.{Row}
 use Rattle.r4_edit.proofs.CellNodes.{long_pointers, names_are, spans_are}
-use Rattle.r4_edit.proofs.Cuts.{beside}
+use Rattle.r4_edit.proofs.CellUnits.{own_units, units_parts}
+use Rattle.r4_edit.proofs.Cuts.{beside, both_parts}
+use Rattle.r4_edit.proofs.PointerNodes.{pointers_unit}
 use Rattle.r4_edit.proofs.Filling.{in_take}
 use Rattle.r4_edit.proofs.Finding.{Found, bodied, find, node_weighs, placed, put_behind, weighs_length}
 use Rattle.r4_edit.proofs.Lying.{Good}
 use Rattle.r4_edit.proofs.Parenting.{alike, in_naming, in_spanning, naming_in, sound_node, spanning_in}
 use Rattle.r4_edit.proofs.Replacing.{IsReplaced, named_now, named_then, row, row_between, row_fit, row_good, same_spans}
 use Rattle.r4_edit.proofs.RowPlaces.{get_drop, row_length}
-use Rattle.r4_edit.proofs.Rows.{Between, between_rise, rise_between}
+use Rattle.r4_edit.proofs.Rows.{Between, between_rise, rise_between, units_append}
 
 -- ---- bodies that may stand in a node
 
@@ -214,6 +217,17 @@ pub long_new : (cells : List CellSeen) (x : ℕ) (xs : List ℕ) → ids_of cell
 long_new [] x xs e = absurd cc
 long_new (c ∷ cells) x xs e = omega arith
 
+-- ---- pointers that come bring no units
+
+pub row_units : (items : List Item) (at : ℕ) (cells : List CellSeen) → units_in (with_pointers items at cells) ≡ units_in items
+row_units items at cells =
+    units_append (take (at + 1) items) (map pointer_item cells ++ drop (at + 1) items)
+    ∙ (ap (λ us. units_in (take (at + 1) items) ++ us) (units_append (map pointer_item cells) (drop (at + 1) items) ∙ ap (λ us. us ++ units_in (drop (at + 1) items)) (pointers_unit cells))
+    ∙ (sym (units_append (take (at + 1) items) (drop (at + 1) items)) ∙ ap units_in (sym (both_parts (at + 1) items))))
+
+pub shared_units : (o : CellSeen) (items : List Item) (next : ℕ) (cells : List CellSeen) → 1 ≤ o.level → HasItems o items next cells → units_in items ≡ units_in (items_of o.block) → units_of_cells cells ≡ (node_of o).units
+shared_units o items next cells one has same = units_parts o.level (rank o.lo) (rank o.hi) cells one has.ranges ∙ (ap units_in has.items_are ∙ (same ∙ sym (own_units o one)))
+
 -- ---- as the code has it: the parent was lent, and a key is the cell's
 
 pub record Looks (parent : CellSeen) (b : Step) (p q : CellSeen) (w : Row) (key : Key) : Type 0 where
@@ -246,6 +260,12 @@ module _ (parent : CellSeen) (b : Step) (p q : CellSeen) (w : Row) (key : Key) (
       let (first, rest, new) = some_new b.new b.old.id (ids_of (drop 1 b.new)) looks.under.first in
       subst (λ x. IsRowOf x w) (sym looks.q_is) (parent_row parent b first rest w looks.under sound_parent new view_parent looks.more key_below key_here)
 
+  few_of : (n : ℕ) → (weight (row_items w) ≤ 4068 → n ≡ 1) → (4068 < weight (row_items w) → n ≡ 2) → n ≤ 2
+  few_of n one two = elim (cases_lt 4068 (weight (row_items w))) [
+    | inl over ↦ let e = two over in omega (arith, e)
+    | inr fits ↦ let e = one fits in omega (arith, e)
+  ]
+
   pub over_step : (f g : Fresh) (old : CellSeen) (cells : List CellSeen) → old ≡ parent → Shares q (row_items w) f g cells → IsStepOver b parent f g (record { old = old; new = cells })
   over_step f g old cells same shares =
       let (first, rest, new) = some_new b.new b.old.id (ids_of (drop 1 b.new)) looks.under.first in
@@ -260,4 +280,9 @@ module _ (parent : CellSeen) (b : Step) (p q : CellSeen) (w : Row) (key : Key) (
         number = shares.number;
         one = λ fits. shares.few.0 (omega (arith, weighs, n, fits));
         two = λ over. shares.few.1 (omega (arith, weighs, n, over));
+        keeps = record {
+          few = few_of (length cells) (λ fits. shares.few.0 fits) (λ over. shares.few.1 over);
+          units = subst (λ x. units_of_cells cells ≡ (node_of x).units) (sym same) (shared_units parent (row_items w) f.next cells (let up = looks.under.up in omega (arith, up)) has (row_units (view_items w.node) w.at (row_more w) ∙ ap (λ bytes. units_in (items_of bytes)) view_parent));
+          filled = λ high. subst (λ l. 3 ≤ l → length cells ≡ 2 → AreFilled cells) (ap (λ (x : CellSeen). x.level) (looks.q_is ∙ sym same)) shares.filled high;
+        };
       }

@@ -14,7 +14,7 @@ use Rattle.r4_base.specs.Tree.{IsNode, Name, Root, Span}
 use Rattle.r4_cell.specs.Seen.{CellSeen, node_of}
 use Rattle.r4_cell.specs.declared.change.Fresh.{Fresh}
 use Rattle.r4_patch.specs.Joining.{ids_of}
-use Rattle.r4_edit.specs.Levels.{CanClimb, Climbed, IsLongEnough, IsStepOver, IsUnder, Leads, Suffices}
+use Rattle.r4_edit.specs.Levels.{CanClimb, Climbed, IsLongEnough, IsStepOver, IsUnder, Keeps, Leads, Suffices}
 use Rattle.r4_edit.specs.Nodes.{IsPointable, IsPointingTo, weight}
 use Rattle.r4_edit.specs.Sharing.{IsSound}
 use Rattle.r4_edit.specs.Steps.{Climbs, CountUp, Ends, Follow, IsRootOver, IsStep, Step, fresh_ids, name_of, news, olds}
@@ -68,6 +68,8 @@ ends_alone s ups f were are room one steps = record {
   climbs = tt;
   olds_are = refl;
   sound = λ c member. absurd (none c member);
+  keep = λ u member. absurd (none u member);
+  root_units = λ c e. absurd (none-some c e);
   root_node = λ c e. absurd (none-some c e);
   counts = tt;
   number = same_next f f.next (f.next + 0) (omega arith);
@@ -110,6 +112,8 @@ module _ (s : Step) (f : Fresh) (can : CanClimb s [] f) (two : length s.new ≢ 
     climbs = tt;
     olds_are = refl;
     sound = λ d member. absurd (none d member);
+    keep = λ u member. absurd (none u member);
+    root_units = λ d e. subst (λ x. (node_of x).units ≡ []) (same_Some c d e) points.units;
     root_node = λ d e. subst (λ x. IsNode (node_of x)) (same_Some c d e) points.node;
     counts = (points.number, tt);
     number = took;
@@ -215,6 +219,11 @@ module _ (s : Step) (parent : CellSeen) (ups : List CellSeen) (f : Fresh) (can :
         | inl mine ↦ step.sound c mine
         | inr others ↦ rest.sound c others
       ];
+      keep = λ v member. elim (cases u v rest.more member) [
+        | inl e ↦ subst Keeps (sym e) step.keeps
+        | inr others ↦ rest.keep v others
+      ];
+      root_units = rest.root_units;
       root_node = rest.root_node;
       counts =
           let long = long_ids (drop 1 u.new) in

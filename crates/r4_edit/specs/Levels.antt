@@ -11,13 +11,24 @@ use Rattle.r4_cell.specs.declared.change.Fresh.{Fresh}
 use Rattle.r4_patch.specs.Joining.{ids_of}
 use Rattle.r4_edit.specs.Growing.{IsPathIn}
 use Rattle.r4_edit.specs.Nodes.{IsPointable, weight}
-use Rattle.r4_edit.specs.Sharing.{HasItems, IsSound}
+use Rattle.r4_edit.specs.Sharing.{AreFilled, HasItems, IsSound}
 use Rattle.r4_edit.specs.Steps.{Climbs, CountUp, Ends, Follow, IsStep, Step, fresh_ids, name_of, news, olds, root_pair}
 use Rattle.r4_edit.specs.declared.level.Level.{Level}
 
 -- what contracts see of a level
 abbrev pub step_of : Level → Step
 step_of l = record { old = arc_value l.old; new = l.new }
+
+-- the units of all the cells, one after the other
+abbrev pub units_of_cells : List CellSeen → List (ℕ × Value)
+units_of_cells [] = []
+units_of_cells (c ∷ cells) = (node_of c).units ++ units_of_cells cells
+
+-- The new cells are one or two, with the old one's own units in their order. Above level 2, of two each has items of 1024 bytes or more.
+pub record Keeps (s : Step) : Type 0 where
+  pub few : length s.new ≤ 2
+  pub units : units_of_cells s.new ≡ (node_of s.old).units
+  pub filled : 3 ≤ s.old.level → length s.new ≡ 2 → AreFilled s.new
 
 -- The parent names the old cell, and may name the few new cells in its place.
 pub record IsUnder (b : Step) (parent : CellSeen) : Type 0 where
@@ -40,6 +51,7 @@ pub record IsStepOver (b : Step) (parent : CellSeen) (before after : Fresh) (s :
   pub number : after ≡ record before { next = before.next + length (drop 1 s.new) }
   pub one : weight (items_of parent.block) + 46 * length (drop 1 b.new) ≤ 4068 → length s.new ≡ 1
   pub two : 4068 < weight (items_of parent.block) + 46 * length (drop 1 b.new) → length s.new ≡ 2
+  pub keeps : Keeps s
 
 -- ---- up a path, from the lowest cell on
 
@@ -78,6 +90,8 @@ pub record Climbed (s : Step) (ups : List CellSeen) (before after : Fresh) (were
   pub climbs : Climbs (Some s) more
   pub olds_are : olds more ≡ take (length more) ups
   pub sound : (c : CellSeen) → Contains (news more None) c → IsSound c
+  pub keep : (u : Step) → Contains more u → Keeps u
+  pub root_units : (c : CellSeen) → over ≡ Some c → (node_of c).units ≡ []
   pub root_node : (c : CellSeen) → over ≡ Some c → IsNode (node_of c)
   pub counts : CountUp before.next (fresh_ids more over)
   pub number : after ≡ record before { next = before.next + length (fresh_ids more over) }
@@ -91,11 +105,6 @@ pub record HasLevels (steps : List Step) (over : Option CellSeen) (c : Change) :
   pub pair : c.root ≡ root_pair over
 
 -- ---- a node parted in two
-
--- the units of all the cells, one after the other
-abbrev pub units_of_cells : List CellSeen → List (ℕ × Value)
-units_of_cells [] = []
-units_of_cells (c ∷ cells) = (node_of c).units ++ units_of_cells cells
 
 -- The cell has two items or more, and is the lowest of a path of this part of a tree, with the cells above it that a new pointer may ask for.
 pub record IsPartedIn (t : Store Value) (r : Root) (c : CellSeen) (ups : List CellSeen) (fresh : Fresh) : Type 0 where
@@ -113,6 +122,8 @@ pub record Parts (c : CellSeen) (ups : List CellSeen) (before after : Fresh) (ch
   pub ups_are : olds more ≡ take (length more) ups
   pub two : length lowest.new ≡ 2
   pub units : units_of_cells lowest.new ≡ (node_of c).units
+  pub keep : (u : Step) → Contains more u → Keeps u
+  pub root_units : (d : CellSeen) → over ≡ Some d → (node_of d).units ≡ []
   pub counts : CountUp before.next (fresh_ids (lowest ∷ more) over)
   pub number : after ≡ record before { next = before.next + length (fresh_ids (lowest ∷ more) over) }
 

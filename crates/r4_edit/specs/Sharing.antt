@@ -29,11 +29,16 @@ pub record HasItems (old : CellSeen) (items : List Item) (next : ℕ) (cells : L
   pub sound : (c : CellSeen) → Contains cells c → IsSound c
   pub fresh : CountUp next (ids_of (drop 1 cells))
 
--- One cell has the items, or two, where they do not fit into one; then a number was taken.
+-- each of the cells has items of 1024 bytes or more
+abbrev pub AreFilled : List CellSeen → Type 0
+AreFilled cells = (c : CellSeen) → Contains cells c → 1024 ≤ weight (items_of c.block)
+
+-- One cell has the items, or two, where they do not fit into one; then a number was taken, and above level 2 neither is small.
 pub record Shares (old : CellSeen) (items : List Item) (before after : Fresh) (cells : List CellSeen) : Type 0 where
   pub has : HasItems old items before.next cells
   pub number : after ≡ record before { next = before.next + length (drop 1 cells) }
   pub few : (weight items ≤ 4068 → length cells ≡ 1) × (4068 < weight items → length cells ≡ 2)
+  pub filled : 3 ≤ old.level → length cells ≡ 2 → AreFilled cells
 
 -- The items may stand in the place of the cell's, room apart.
 pub record IsRowOf (old : CellSeen) (w : Row) : Type 0 where

@@ -1,7 +1,7 @@
 use Rattle.std.proofs.Common.{◌≡◌, ◌∙◌, ◌+◌, ◌<◌, ◌≤◌, ap, sym, subst, refl, arith, length}
 use Rattle.std.proofs.lemmas.Result.{IfOk-weaker}
 use Rattle.r4_edit.specs.Rows.{row_items}
-use Rattle.r4_edit.proofs.Results.{both_ok}
+use Rattle.r4_edit.proofs.Results.{and_ok, both_ok}
 use Rattle.r4_edit.proofs.Shared.{shares_one, shares_two, two_at_least, weigh_all}
 use Rattle.r4_edit.proofs.sharing.share.Goals as goal
 
@@ -24,4 +24,4 @@ returns c =
     let same = weigh_all c.args.old.now c.args.row.now c.requires.row c.len.result c.len.ensures in
     let weighs = c.weight.ensures in
     let over = c.if-weight-le-ROOM.false in
-    both_ok c.two.result _ _ (λ cells h took. shares_two c.args.old.now (row_items c.args.row.now) c.args.fresh.now c.two.new.fresh cells h.0 h.1 (omega (arith, same, weighs, over)) took) c.two.ensures.cells c.two.ensures.fresh
+    both_ok c.two.result _ _ (λ cells h took. shares_two c.args.old.now (row_items c.args.row.now) c.args.fresh.now c.two.new.fresh cells h.0.0 h.0.1 (omega (arith, same, weighs, over)) took h.1) (and_ok c.two.result _ _ c.two.ensures.cells c.two.ensures.filled) c.two.ensures.fresh

@@ -4,8 +4,8 @@ use Rattle.std.specs.Arc.{arc_value}
 use Rattle.r4_cell.specs.Seen.{CellSeen}
 use Rattle.r4_edit.specs.Nodes.{IsNodeOf}
 use Rattle.r4_edit.specs.Rows.{row_items, row_level, row_part}
-use Rattle.r4_edit.specs.Sharing.{HasItems}
-use Rattle.r4_edit.proofs.Shared.{left_sound, right_sound, two_has}
+use Rattle.r4_edit.specs.Sharing.{AreFilled, HasItems}
+use Rattle.r4_edit.proofs.Shared.{left_sound, right_sound, two_filled, two_has}
 use Rattle.r4_edit.proofs.sharing.two.Goals as goal
 
 pub new_cell-requires : goal.new_cell-requires
@@ -32,3 +32,14 @@ returns-clause-cells c =
         (subst (IsNodeOf (row_level c.args.row.now) (row_part c.args.row.now c.cut-cut.result (length (row_items c.args.row.now)))) (sym (ap (λ (s : CellSeen). s.block) b))
           (subst (λ n. IsNodeOf (row_level c.args.row.now) (row_part c.args.row.now c.cut-cut.result n) c.in_ok-right.right) c.len.ensures c.in_ok-right.ensures))
       , refl)) c.pair.ensures
+
+pub returns-clause-filled : goal.returns-clause-filled
+returns-clause-filled c =
+    let a = c.in_ok-left-2.ensures in
+    let b = c.in_ok-right-2.ensures in
+    IfOk-weaker c.pair.result _ _ (λ cells is high over.
+      subst AreFilled (sym is)
+      (two_filled c.args.old.now c.args.row.now c.requires.row c.cut-cut.result c.cut-cut.ensures (arc_value c.in_ok-left-2.left) (arc_value c.in_ok-right-2.right)
+        (subst (IsNodeOf (row_level c.args.row.now) (row_part c.args.row.now 0 c.cut-cut.result)) (sym (ap (λ (s : CellSeen). s.block) a)) c.in_ok-left.ensures)
+        (subst (IsNodeOf (row_level c.args.row.now) (row_part c.args.row.now c.cut-cut.result (length (row_items c.args.row.now)))) (sym (ap (λ (s : CellSeen). s.block) b))
+          (subst (λ n. IsNodeOf (row_level c.args.row.now) (row_part c.args.row.now c.cut-cut.result n) c.in_ok-right.right) c.len.ensures c.in_ok-right.ensures)) high over)) c.pair.ensures
