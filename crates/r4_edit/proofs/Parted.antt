@@ -38,12 +38,12 @@ module _ (t : Store Value) (r : Root) (part : IsPart t r) where
       let hi = hi_is d in
       (named, sym (level_is d) ∙ one_above (node_of d) (name_of c) node named low, omega (arith, some, lo, hi), leads_of d ups level rest)
 
-  pub suffices_of : (below : Option CellSeen) (c : CellSeen) (ups : List CellSeen) → IsPointable r.id → Ascends t below (c ∷ ups) → IsLongEnough r c ups → Suffices c ups
-  suffices_of below c [] able (at, level, named, rest) (is_root, low) =
+  pub suffices_of : (below : Option CellSeen) (come : ℕ) (c : CellSeen) (ups : List CellSeen) → IsPointable r.id → Ascends t below (c ∷ ups) → IsLongEnough r come c ups → Suffices come c ups
+  suffices_of below come c [] able (at, level, named, rest) (is_root, low) =
       let same : node_of c ≡ part.root_node = same_Some (node_of c) part.root_node (sym (subst (λ i. t i ≡ Some (node_of c)) is_root at) ∙ part.root_is) in
       (sym (lo_is c) ∙ (ap (λ (d : Node Value). d.lo) same ∙ part.root_lo), sym (hi_is c) ∙ (ap (λ (d : Node Value). d.hi) same ∙ part.root_hi), low, subst IsPointable (sym is_root) able)
-  suffices_of below c (d ∷ ups) able (at, level, named, rest) (inl room) = inl room
-  suffices_of below c (d ∷ ups) able (at, level, named, rest) (inr more) = inr (suffices_of (Some c) d ups able rest more)
+  suffices_of below come c (d ∷ ups) able (at, level, named, rest) (inl room) = inl room
+  suffices_of below come c (d ∷ ups) able (at, level, named, rest) (inr more) = inr (suffices_of (Some c) 1 d ups able rest more)
 
 pub ascends_take : (t : Store Value) (below : Option CellSeen) (n : ℕ) (cells : List CellSeen) → Ascends t below cells → Ascends t below (take n cells)
 ascends_take t below zero cells h = tt
@@ -63,6 +63,9 @@ module _ (t : Store Value) (r : Root) (c : CellSeen) (ups : List CellSeen) (f g 
   one_new : length (ids_of (drop 1 cells)) ≡ 1
   one_new = let a = long_ids (drop 1 cells) in let d = length-drop 1 cells in omega (arith, a, d, two)
 
+  one_comes : length (drop 1 cells) ≡ 1
+  one_comes = let d = length-drop 1 cells in omega (arith, d, two)
+
   pub starts : CanClimb (record { old = c; new = cells }) ups g
   starts = record {
     low = is.path.ascends.1;
@@ -71,7 +74,7 @@ module _ (t : Store Value) (r : Root) (c : CellSeen) (ups : List CellSeen) (f g 
     able = let one = one_new in all_numbered f.next (f.next + length (ids_of (drop 1 cells))) (drop 1 cells) unplaced (omega (arith, numbers, end, one)) (λ i member. count_within f.next (ids_of (drop 1 cells)) i has.fresh member);
     few = omega (arith, two);
     leads = leads_of t r is.path.part c ups is.path.ascends.1 is.path.ascends.3;
-    enough = inr (suffices_of t r is.path.part None c ups is.path.root_number is.path.ascends is.enough);
+    enough = inr (subst (λ n. Suffices n c ups) (sym one_comes) (suffices_of t r is.path.part None 1 c ups is.path.root_number is.path.ascends is.enough));
     unplaced = let n = next_is in omega (arith, n, unplaced);
     numbers = let n = next_is in let e = end_is in omega (arith, n, e, numbers);
     end = subst (λ k. k < 2 ^ 64) (sym end_is) end;
@@ -118,7 +121,7 @@ module _ (c : CellSeen) (ups : List CellSeen) (f g after : Fresh) (items : List 
       part = is.path.part;
       path = path;
       climbs = climbs;
-      ends = up.ends r (inr is.enough);
+      ends = up.ends r (inr (subst (λ n. IsLongEnough r n c ups) (sym (let d = length-drop 1 cells in let one : length (drop 1 cells) ≡ 1 = omega (arith, d, two) in one)) is.enough));
       nodes = λ x member. elim (new_stands None (first ∷ up.more) over x member) [
         | inl h ↦
             let (b, s, st, in_s) = h in

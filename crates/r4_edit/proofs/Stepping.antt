@@ -128,7 +128,7 @@ module _ (parent : CellSeen) (b : Step) (first : CellSeen) (rest : List CellSeen
   fits : weight (items_of parent.block) ≤ 4068
   fits = node_weighs parent.block node.laid
 
-  few : length (row_more w) ≤ 1
+  few : length (row_more w) ≤ 44
   few = let n = under.few in let a = ap length (more ∙ rest_is) in let d = ap length new in omega (arith, n, a, d)
 
   fit_row : PluginsFit (row_level w) (row_items w)

@@ -80,7 +80,7 @@ ends_alone s ups f were are room one steps = record {
 -- ---- or at a new root
 
 module _ (s : Step) (f : Fresh) (can : CanClimb s [] f) (two : length s.new ≢ 1) where
-  root_facts : Suffices s.old []
+  root_facts : Suffices (length (drop 1 s.new)) s.old []
   root_facts = elim can.enough [ inl one ↦ absurd (two one) | inr h ↦ h ]
 
   pub root_level : (1 ≤ s.old.level) × (s.old.level < 8)
@@ -149,24 +149,19 @@ module _ (s : Step) (parent : CellSeen) (ups : List CellSeen) (f : Fresh) (can :
   pub has_number : f.next < f.end
   has_number = let n = can.numbers in omega (arith, n)
 
-  exactly : length s.new ≡ 2
-  exactly = let n = can.few in let a = long_ids s.new in let b = ap length can.first in two_of (length s.new) n (omega (arith, a, b)) two
-    where
-      two_of : (n : ℕ) → n ≤ 2 → 1 ≤ n → n ≢ 1 → n ≡ 2
-      two_of zero le ge ne = absurd (omega (arith, ge))
-      two_of (suc zero) le ge ne = absurd (ne refl)
-      two_of (suc (suc zero)) le ge ne = refl
-      two_of (suc (suc (suc n))) le ge ne = absurd (omega (arith, le))
-
-  one_more : length (drop 1 s.new) ≡ 1
-  one_more = let d = length-drop 1 s.new in let e = exactly in omega (arith, d, e)
-
   module _ (g : Fresh) (u : Step) (step : IsStepOver s parent f g u) where
-    room_means_one : weight (items_of parent.block) + 46 ≤ 4068 → length u.new ≡ 1
-    room_means_one room = let m = one_more in step.one (omega (arith, room, m))
+    -- one cell stands there now, or two
+    one_or_two : (length u.new ≡ 1) ⊎ (length u.new ≡ 2)
+    one_or_two = elim (cases_lt 4068 (weight (items_of parent.block) + 46 * length (drop 1 s.new))) [
+      | inl over ↦ inr (step.two over)
+      | inr fits ↦ inl (step.one fits)
+    ]
+
+    one_come : length u.new ≡ 2 → length (drop 1 u.new) ≡ 1
+    one_come e = let d = length-drop 1 u.new in omega (arith, d, e)
 
     few_new : length u.new ≤ 2
-    few_new = let m = one_more in elim (cases_lt 4068 (weight (items_of parent.block) + 46 * length (drop 1 s.new))) [
+    few_new = elim (cases_lt 4068 (weight (items_of parent.block) + 46 * length (drop 1 s.new))) [
       | inl over ↦ let e = step.two over in omega (arith, e)
       | inr fits ↦ let e = step.one fits in omega (arith, e)
     ]
@@ -195,13 +190,16 @@ module _ (s : Step) (parent : CellSeen) (ups : List CellSeen) (f : Fresh) (can :
           let few = few_numbers in
           let long = long_ids (drop 1 u.new) in
           all_numbered f.next (f.next + length (ids_of (drop 1 u.new))) (drop 1 u.new) low (omega (arith, n, high, few, long)) (λ i member. count_within f.next (ids_of (drop 1 u.new)) i step.counts member);
-      few = few_new;
+      few = let n = few_new in omega (arith, n);
       leads = subst (λ (c : CellSeen). Leads c ups) (sym step.old) can.leads.3;
       enough = elim can.enough [
         | inl one ↦ absurd (two one)
         | inr more ↦ elim more [
-          | inl room ↦ inl (room_means_one room)
-          | inr suffices ↦ inr (subst (λ (c : CellSeen). Suffices c ups) (sym step.old) suffices)
+          | inl room ↦ inl (step.one room)
+          | inr suffices ↦ elim one_or_two [
+            | inl one ↦ inl one
+            | inr e ↦ inr (subst (λ n. Suffices n u.old ups) (sym (one_come e)) (subst (λ (c : CellSeen). Suffices 1 c ups) (sym step.old) suffices))
+          ]
         ]
       ];
       unplaced = let n = next_is in let low = can.unplaced in omega (arith, n, low);
@@ -236,8 +234,11 @@ module _ (s : Step) (parent : CellSeen) (ups : List CellSeen) (f : Fresh) (can :
       ends = λ r h. elim h [
         | inl one ↦ absurd (two one)
         | inr more ↦ elim more [
-          | inl room ↦ rest.ends r (inl (room_means_one room))
-          | inr enough ↦ rest.ends r (inr (subst (λ (c : CellSeen). IsLongEnough r c ups) (sym step.old) enough))
+          | inl room ↦ rest.ends r (inl (step.one room))
+          | inr enough ↦ elim one_or_two [
+            | inl one ↦ rest.ends r (inl one)
+            | inr e ↦ rest.ends r (inr (subst (λ n. IsLongEnough r n u.old ups) (sym (one_come e)) (subst (λ (c : CellSeen). IsLongEnough r 1 c ups) (sym step.old) enough)))
+          ]
         ]
       ];
     }

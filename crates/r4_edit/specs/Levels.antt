@@ -39,7 +39,7 @@ pub record IsUnder (b : Step) (parent : CellSeen) : Type 0 where
   pub first : ids_of b.new ≡ b.old.id ∷ ids_of (drop 1 b.new)
   pub ranges : Follow b.old.level (rank b.old.lo) (rank b.old.hi) b.new
   pub able : All (λ c. IsPointable c.id) (drop 1 b.new)
-  pub few : length b.new ≤ 2
+  pub few : length b.new ≤ 45
 
 -- A step over another one: the cells in the place of the parent, with numbers that were taken. There is one where the new pointers fit into
 -- the parent, and else there are two.
@@ -60,15 +60,16 @@ abbrev pub Leads : CellSeen → List CellSeen → Type 0
 Leads b [] = Unit {0}
 Leads b (c ∷ cells) = Contains (node_of c).names (name_of b) × (c.level ≡ suc b.level) × (rank c.lo < rank c.hi) × Leads c cells
 
--- The cell is parted in two. The next one has room for a pointer more, or is parted too; where there is none, the cell is a root below level 8.
-abbrev pub Suffices : CellSeen → List CellSeen → Type 0
-Suffices c [] = (rank c.lo ≡ least) × (rank c.hi ≡ top) × (c.level < 8) × IsPointable c.id
-Suffices c (d ∷ cells) = (weight (items_of d.block) + 46 ≤ 4068) ⊎ Suffices d cells
+-- So many cells come beside the one that has this one's name. The next one has room for pointers to them, or is parted in two; where there is
+-- none, the cell is a root below level 8.
+abbrev pub Suffices : (come : ℕ) → CellSeen → List CellSeen → Type 0
+Suffices come c [] = (rank c.lo ≡ least) × (rank c.hi ≡ top) × (c.level < 8) × IsPointable c.id
+Suffices come c (d ∷ cells) = (weight (items_of d.block) + 46 * come ≤ 4068) ⊎ Suffices 1 d cells
 
 -- The same, where the last of the cells is known by the name of the root.
-abbrev pub IsLongEnough : Root → CellSeen → List CellSeen → Type 0
-IsLongEnough r c [] = (c.id ≡ r.id) × (c.level < 8)
-IsLongEnough r c (d ∷ cells) = (weight (items_of d.block) + 46 ≤ 4068) ⊎ IsLongEnough r d cells
+abbrev pub IsLongEnough : Root → (come : ℕ) → CellSeen → List CellSeen → Type 0
+IsLongEnough r come c [] = (c.id ≡ r.id) × (c.level < 8)
+IsLongEnough r come c (d ∷ cells) = (weight (items_of d.block) + 46 * come ≤ 4068) ⊎ IsLongEnough r 1 d cells
 
 -- The cells in the place of one, with the cells above it, up to where the change may end, and numbers for what is to come.
 pub record CanClimb (s : Step) (ups : List CellSeen) (fresh : Fresh) : Type 0 where
@@ -76,9 +77,9 @@ pub record CanClimb (s : Step) (ups : List CellSeen) (fresh : Fresh) : Type 0 wh
   pub first : ids_of s.new ≡ s.old.id ∷ ids_of (drop 1 s.new)
   pub ranges : Follow s.old.level (rank s.old.lo) (rank s.old.hi) s.new
   pub able : All (λ c. IsPointable c.id) (drop 1 s.new)
-  pub few : length s.new ≤ 2
+  pub few : length s.new ≤ 45
   pub leads : Leads s.old ups
-  pub enough : (length s.new ≡ 1) ⊎ Suffices s.old ups
+  pub enough : (length s.new ≡ 1) ⊎ Suffices (length (drop 1 s.new)) s.old ups
   pub unplaced : 2 ^ 63 ≤ fresh.next
   pub numbers : fresh.next + length ups < fresh.end
   pub end : fresh.end < 2 ^ 64
@@ -96,7 +97,7 @@ pub record Climbed (s : Step) (ups : List CellSeen) (before after : Fresh) (were
   pub counts : CountUp before.next (fresh_ids more over)
   pub number : after ≡ record before { next = before.next + length (fresh_ids more over) }
   pub within : after.next ≤ after.end
-  pub ends : (r : Root) → (length s.new ≡ 1) ⊎ IsLongEnough r s.old ups → Ends r (s ∷ more) over
+  pub ends : (r : Root) → (length s.new ≡ 1) ⊎ IsLongEnough r (length (drop 1 s.new)) s.old ups → Ends r (s ∷ more) over
 
 -- The change has the cells of these steps, and the new root where there is one.
 pub record HasLevels (steps : List Step) (over : Option CellSeen) (c : Change) : Type 0 where
@@ -109,7 +110,7 @@ pub record HasLevels (steps : List Step) (over : Option CellSeen) (c : Change) :
 -- The cell has two items or more, and is the lowest of a path of this part of a tree, with the cells above it that a new pointer may ask for.
 pub record IsPartedIn (t : Store Value) (r : Root) (c : CellSeen) (ups : List CellSeen) (fresh : Fresh) : Type 0 where
   pub path : IsPathIn t r (c ∷ ups) fresh
-  pub enough : IsLongEnough r c ups
+  pub enough : IsLongEnough r 1 c ups
   pub items : 2 ≤ length (items_of c.block)
 
 -- The lowest step parts the cell in two, with all its units in their order; the steps go up the path, with the next numbers.
