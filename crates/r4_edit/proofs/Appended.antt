@@ -1,8 +1,8 @@
 -- An item put behind those of a node, and its body then written.
-use Rattle.std.proofs.Common.{◌≡◌, ℕ, zero, suc, ◌+◌, ◌-◌, ◌<◌, ◌≤◌, true, false, List, [], ◌∷◌, ◌++◌, length, replicate, get_or, set, refl, sym, ap, subst, ◌∙◌, arith}
+use Rattle.std.proofs.Common.{◌≡◌, ℕ, ◌+◌, ◌-◌, ◌<◌, ◌≤◌, true, false, List, [], ◌∷◌, ◌++◌, length, replicate, get_or, set, refl, sym, ap, ◌∙◌, arith}
 use Rattle.std.specs.Prelude.{slice_get, slice_set, Some, Result, OnOk, IsOk, Ok, Err}
 use Rattle.std.specs.List.{insert}
-use Rattle.std.proofs.lemmas.List.{length-replicate, length-append, set-append_right}
+use Rattle.std.proofs.lemmas.List.{length-replicate, set-append_right}
 use Rattle.std.proofs.lemmas.List.Edits.{insert_end}
 use Rattle.r4_base.specs.Lending.{written}
 use Rattle.r4_base.specs.Node.{Item, count_of, fits_level, item_at, items_of, key_at, level_of, offset_at, plugin_at}

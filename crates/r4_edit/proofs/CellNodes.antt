@@ -1,15 +1,14 @@
 -- What the node of a cell names and has, by its items.
-use Rattle.std.proofs.Common.{◌≡◌, ℕ, zero, suc, ◌+◌, ◌-◌, ◌^◌, ◌<◌, ◌≤◌, true, List, [], ◌∷◌, length, map, refl, sym, ap, subst, ◌∙◌, arith}
+use Rattle.std.proofs.Common.{◌≡◌, ℕ, zero, suc, ◌^◌, ◌≤◌, true, List, [], ◌∷◌, length, map, refl, sym, ap, subst, ◌∙◌, arith}
 use Rattle.std.specs.Prelude.{All, None}
 use Rattle.r4_base.specs.Cell.{cell_fault, cell_of, names_in, spans_in, units_in}
 use Rattle.r4_base.specs.Key.{least, rank, top}
-use Rattle.r4_base.specs.Node.{Item, items_of}
-use Rattle.r4_base.specs.Tree.{IsNode as IsTreeNode}
+use Rattle.r4_base.specs.Node.{items_of}
 use Rattle.r4_base.proofs.FreshTree.{least_below}
 use Rattle.r4_cell.proofs.Nodes.{cell_node}
 use Rattle.r4_cell.specs.Seen.{CellSeen, node_of}
 use Rattle.r4_edit.specs.Nodes.{IsNodeOf, IsPointable, IsPointingTo, pointer_item}
-use Rattle.r4_edit.specs.Steps.{Follow, name_of}
+use Rattle.r4_edit.specs.Steps.{Follow}
 use Rattle.r4_edit.proofs.Lying.{Good, sound}
 use Rattle.r4_edit.proofs.PointerNodes.{pointers_good, pointers_name, pointers_span, pointers_unit}
 
@@ -55,7 +54,7 @@ module _ (l : ℕ) (cells : List CellSeen) (follow : Follow l least top cells) (
   pub root_sound : (level lo hi : ℕ) (b : List ℕ) → level ≡ suc l → lo ≡ least → hi ≡ top → IsNodeOf level (map pointer_item cells) b → cell_fault true (2 ^ 64) level lo hi b ≡ None
   root_sound level lo hi b up from to node =
       sound level lo hi (map pointer_item cells) b (omega (arith, up)) node (λ two. let h = long_pointers cells in omega (arith, h, some))
-        (subst (λ x. Good level x hi 0 (map pointer_item cells)) (sym from) (subst (λ x. Good level least x 0 (map pointer_item cells)) (sym to) (pointers_good level least top 0 least l cells follow able (omega arith) (λ e. refl))))
+      (subst (λ x. Good level x hi 0 (map pointer_item cells)) (sym from) (subst (λ x. Good level least x 0 (map pointer_item cells)) (sym to) (pointers_good level least top 0 least l cells follow able (omega arith) (λ e. refl))))
 
   pub root_is : (level id : ℕ) (x : CellSeen) → level ≡ suc l → x.id ≡ id → x.level ≡ level → rank x.lo ≡ least → rank x.hi ≡ top → length x.block ≡ 4096 → IsNodeOf level (map pointer_item cells) x.block → IsPointingTo cells level id x
   root_is level id x up xi xl from to whole node =

@@ -1,8 +1,7 @@
 -- Where a row is cut.
-use Rattle.std.proofs.Common.{◌≡◌, ℕ, ◌+◌, ◌-◌, ◌*◌, ◌/◌, ◌<◌, ◌≤◌, Bool, true, false, List, [], ◌∷◌, length, map, take, drop, refl, sym, ap, subst, ◌∙◌, arith}
+use Rattle.std.proofs.Common.{◌≡◌, ℕ, ◌+◌, ◌*◌, ◌/◌, ◌<◌, ◌≤◌, false, List, [], ◌∷◌, length, take, drop, refl, ap, arith}
 use Rattle.std.specs.Prelude.{nat_le}
 use Rattle.std.specs.Arc.{arc_value}
-use Rattle.std.proofs.lemmas.Bool.{leb-true}
 use Rattle.std.proofs.lemmas.Bool.Decides.{nat_tests}
 use Rattle.std.proofs.lemmas.List.{length-drop}
 use Rattle.r4_base.specs.Node.{Item}
@@ -70,6 +69,7 @@ module _ (w : Row) (row : IsRow w) (narrow : IsNarrow w) where
           let few = narrow.few in
           let zero_left : 0 ≡ weight (drop (w.at + 1) (view_items w.node)) = ap weight e in
           omega (arith, after, few, zero_left, over)
+
       grind_left : (rest : List Item) → rest ≡ drop (w.at + 1) (view_items w.node) → w.at + 1 + length (row_more w) < length (row_items w)
       grind_left [] e = absurd (none_left e)
       grind_left (x ∷ xs) e =
@@ -77,6 +77,7 @@ module _ (w : Row) (row : IsRow w) (narrow : IsNarrow w) where
           let n = ap length e in
           let l = long in
           omega (arith, d, n, l)
+
       some_left : w.at + 1 + length (row_more w) < length (row_items w)
       some_left = grind_left (drop (w.at + 1) (view_items w.node)) refl
 

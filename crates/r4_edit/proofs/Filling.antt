@@ -1,12 +1,12 @@
 -- A node that is filled with the items of a list, one after the other.
-use Rattle.std.proofs.Common.{◌≡◌, ℕ, zero, suc, ◌+◌, ◌-◌, ◌<◌, ◌≤◌, true, List, [], ◌∷◌, ◌++◌, length, take, refl, sym, ap, subst, ◌∙◌, arith}
-use Rattle.std.specs.Prelude.{slice_get, sum_by, Some}
+use Rattle.std.proofs.Common.{◌≡◌, ℕ, zero, suc, ◌+◌, ◌<◌, ◌≤◌, true, List, [], ◌∷◌, ◌++◌, length, take, refl, sym, ap, subst, ◌∙◌, arith}
+use Rattle.std.specs.Prelude.{slice_get, Some}
 use Rattle.std.proofs.lemmas.List.Sums.{sum_by-append}
 use Rattle.std.proofs.lemmas.Option.{slice_get_within, same_Some}
 use Rattle.r4_base.specs.Key.{IsBelow}
 use Rattle.r4_base.specs.Node.{Item, KeysRise, PluginsFit, count_of, fits_level, items_of, level_of}
 use Rattle.r4_node40.specs.Edits.{GoesBetween}
-use Rattle.r4_node40.specs.Laid.{IsFresh, IsNode, room_of}
+use Rattle.r4_node40.specs.Laid.{IsFresh, room_of}
 use Rattle.r4_node40.proofs.Accepted.{space}
 use Rattle.r4_node40.proofs.Laid.{length-items_of}
 use Rattle.r4_edit.specs.Nodes.{IsAppended, IsNodeOf, weight, weight_of}

@@ -1,9 +1,9 @@
 -- A new root over the root of a part is a change along a path.
-use Rattle.std.proofs.Common.{◌≡◌, ◌⊎◌, inl, inr, ℕ, zero, suc, ◌+◌, ◌<◌, ◌≤◌, List, [], ◌∷◌, length, map, refl, sym, ap, subst, ◌∙◌, arith}
-use Rattle.std.specs.Prelude.{Contains, None, Some, ◌↔◌}
+use Rattle.std.proofs.Common.{◌≡◌, inl, inr, ℕ, ◌+◌, ◌<◌, List, [], ◌∷◌, map, refl, sym, ap, subst, ◌∙◌, arith}
+use Rattle.std.specs.Prelude.{Contains, Some}
 use Rattle.std.proofs.lemmas.Option.{same_Some}
 use Rattle.r4_base.specs.Key.{least, rank, top}
-use Rattle.r4_base.specs.Tree.{IsNode, Name, Node, Root, Span, Store}
+use Rattle.r4_base.specs.Tree.{IsNode, Name, Node, Root, Store}
 use Rattle.r4_base.specs.Value.{Value}
 use Rattle.r4_cell.specs.Seen.{CellSeen, node_of}
 use Rattle.r4_cell.specs.declared.change.Fresh.{Fresh}
@@ -11,9 +11,9 @@ use Rattle.r4_cell.specs.Patch.{IsChange, patch_of}
 use Rattle.r4_cell.specs.declared.change.Change.{Change}
 use Rattle.r4_patch.specs.Joining.{patch_of_change}
 use Rattle.r4_patch.specs.Part.{MeetsPart}
-use Rattle.r4_edit.specs.Growing.{Grows, HasNewRoot, IsPathIn, IsRootIn}
+use Rattle.r4_edit.specs.Growing.{Grows, HasNewRoot, IsRootIn}
 use Rattle.r4_edit.specs.Nodes.{IsPointingTo}
-use Rattle.r4_edit.specs.Steps.{AreNaming, AreSpanning, Follow, IsFree, IsNameOf, IsPathChange, Step, name_of, root_pair}
+use Rattle.r4_edit.specs.Steps.{IsNameOf, IsPathChange, Step, name_of, root_pair}
 use Rattle.r4_edit.proofs.Members.{cases, here, later, none}
 use Rattle.r4_edit.proofs.PathPatch.{change_is, part_meets}
 use Rattle.r4_edit.proofs.Rising.{hi_is, lo_is}
@@ -62,12 +62,15 @@ module _ (t : Store Value) (r : Root) (c over : CellSeen) (fresh : Fresh) (is : 
   growth = record {
     part = is.path.part;
     path = is.path.ascends;
-    climbs = (record {
-      first = refl;
-      ranges = (refl, refl, nonempty, refl);
-      names = λ n. ((λ h. let (x, member, named) = h in subst (λ y. Contains (node_of y).names n) (only c x member) named), (λ h. (c, here c [], h)));
-      spans = λ v. ((λ h. let (x, member, spanned) = h in subst (λ y. Contains (node_of y).spans v) (only c x member) spanned), (λ h. (c, here c [], h)));
-    }, tt);
+    climbs = (
+      record {
+        first = refl;
+        ranges = (refl, refl, nonempty, refl);
+        names = λ n. ((λ h. let (x, member, named) = h in subst (λ y. Contains (node_of y).names n) (only c x member) named), (λ h. (c, here c [], h)));
+        spans = λ v. ((λ h. let (x, member, spanned) = h in subst (λ y. Contains (node_of y).spans v) (only c x member) spanned), (λ h. (c, here c [], h)));
+      },
+      tt,
+    );
     ends = record {
       was = is.root;
       level = let l = points.level_is in omega (arith, l);

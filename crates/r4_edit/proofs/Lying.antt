@@ -1,15 +1,12 @@
 -- Items that may stand in a cell, one after the other, in memory on a volume of any size.
-use Rattle.std.proofs.Common.{◌≡◌, ◌⊎◌, inl, inr, ℕ, zero, suc, ◌+◌, ◌-◌, ◌*◌, ◌^◌, ◌<◌, ◌≤◌, Bool, true, false, not, ◌&&◌, ◌||◌, List, [], ◌∷◌, ◌++◌, length, map, cond, refl, sym, ap, subst, ◌∙◌, arith}
-use Rattle.std.specs.Prelude.{Option, Some, None, ◌==◌, nat_le, nat_lt, if◌then◌else◌}
-use Rattle.std.specs.Option.{option_map, option_or}
-use Rattle.std.proofs.lemmas.Bool.{leb-true, ltb-true, le-leb, lt-ltb, eqb-true, eq-eqb}
+use Rattle.std.proofs.Common.{◌≡◌, ℕ, zero, suc, ◌+◌, ◌^◌, ◌<◌, ◌≤◌, Bool, true, false, not, ◌&&◌, ◌||◌, List, [], ◌∷◌, length, cond, refl, sym, ap, ◌∙◌, arith}
+use Rattle.std.specs.Prelude.{Some, None, ◌==◌, nat_le, nat_lt, if◌then◌else◌}
+use Rattle.std.proofs.lemmas.Bool.{leb-true, ltb-true, le-leb, lt-ltb, eq-eqb}
 use Rattle.std.proofs.lemmas.Bool.Decides.{nat_tests}
-use Rattle.r4_base.specs.Cell.{cell_fault, cell_of, item_body_fault, item_end, items_in_fault, names_in, next_key, offsets_fit, range_is_good, spans_in, units_in}
+use Rattle.r4_base.specs.Cell.{cell_fault, item_body_fault, item_end, items_in_fault, next_key, offsets_fit, range_is_good}
 use Rattle.r4_base.specs.Key.{rank}
 use Rattle.r4_base.specs.Node.{Item, count_of, is_empty_branch, items_of, level_of, node_fault}
-use Rattle.r4_base.specs.declared.items.CellFault.{CellFault}
-use Rattle.r4_base.specs.declared.items.CellFault.TheVariants.{Level, Node, Range}
-use Rattle.r4_base.specs.declared.node.NodeFault.{NodeFault}
+use Rattle.r4_base.specs.declared.items.CellFault.TheVariants.{Range}
 use Rattle.r4_base.specs.declared.node.NodeFault.TheVariants.{Empty}
 use Rattle.r4_node40.proofs.Accepted.{accepted}
 use Rattle.r4_node40.proofs.Faults.{and_true}

@@ -1,18 +1,16 @@
 -- The steps of a change along a path: each with the one below it.
-use Rattle.std.proofs.Common.{◌≡◌, ◌≢◌, ◌⊎◌, inl, inr, ℕ, zero, suc, ◌+◌, ◌<◌, ◌≤◌, List, [], ◌∷◌, ◌++◌, length, map, drop, refl, sym, ap, subst, ◌∙◌, arith}
-use Rattle.std.specs.Prelude.{Contains, Option, None, Some, ◌↔◌}
+use Rattle.std.proofs.Common.{◌≡◌, ◌⊎◌, inl, inr, ℕ, suc, ◌+◌, ◌<◌, ◌≤◌, List, [], ◌∷◌, ◌++◌, length, drop, refl, sym, ap, subst, ◌∙◌, arith}
+use Rattle.std.specs.Prelude.{Contains, Option, None, Some}
 use Rattle.std.proofs.lemmas.List.Elements.{Contains-append_cases, Contains-append_left, Contains-append_right}
 use Rattle.std.proofs.lemmas.List.{length-append}
 use Rattle.std.proofs.lemmas.Option.{none-some, same_Some}
-use Rattle.r4_base.specs.Key.{rank}
-use Rattle.r4_base.specs.Tree.{IsNode, Name, Node, Root, Span, Store}
+use Rattle.r4_base.specs.Tree.{Name, Node, Root, Store}
 use Rattle.r4_base.specs.Value.{Value}
-use Rattle.r4_cell.specs.Patch.{NamesId}
 use Rattle.r4_cell.specs.Seen.{CellSeen, node_of}
 use Rattle.r4_patch.specs.Joining.{ids_of}
 use Rattle.r4_patch.specs.Part.{IsPart}
-use Rattle.r4_patch.proofs.PartCells.{one_above, root_unnamed}
-use Rattle.r4_edit.specs.Steps.{Ascends, Climbs, CountUp, Ends, Follow, IsFree, IsNamedBy, IsRootOver, IsStep, Step, fresh_ids, name_of, news, olds}
+use Rattle.r4_patch.proofs.PartCells.{one_above}
+use Rattle.r4_edit.specs.Steps.{Ascends, Climbs, CountUp, Ends, IsFree, IsNamedBy, IsStep, Step, fresh_ids, name_of, news, olds}
 use Rattle.r4_edit.proofs.Members.{Distinct, cases, distinct_append, here, later, none}
 use Rattle.r4_edit.proofs.Rising.{count_distinct, count_split, count_within, id_member, level_is}
 

@@ -1,12 +1,11 @@
 -- The row of a parent over new cells, and the step that it makes.
-use Rattle.std.proofs.Common.{◌≡◌, ◌≢◌, ◌⊎◌, inl, inr, ℕ, zero, suc, ◌+◌, ◌-◌, ◌*◌, ◌^◌, ◌<◌, ◌≤◌, Bool, true, false, not, ◌&&◌, ◌||◌, List, [], ◌∷◌, ◌++◌, length, map, take, drop, refl, sym, ap, subst, ◌∙◌, arith}
-use Rattle.std.specs.Prelude.{All, Contains, Option, Some, None, ◌==◌, ◌↔◌, nat_le, nat_lt, slice_get, if◌then◌else◌}
+use Rattle.std.proofs.Common.{◌≡◌, inl, inr, ℕ, suc, ◌+◌, ◌^◌, ◌<◌, ◌≤◌, Bool, true, false, not, ◌||◌, List, [], ◌∷◌, ◌++◌, length, refl, sym, ap, subst, ◌∙◌, arith}
+use Rattle.std.specs.Prelude.{All, Contains, Option, Some, None, ◌==◌, nat_le, if◌then◌else◌}
 use Rattle.std.proofs.lemmas.Bool.{eqb-true}
 use Rattle.std.proofs.lemmas.Bool.Decides.{nat_tests}
-use Rattle.std.proofs.lemmas.List.{length-append, length-drop}
 use Rattle.std.proofs.lemmas.List.Elements.{All-cons, All-nil, Contains-append_cases, Contains-append_left, Contains-append_right}
 use Rattle.std.proofs.lemmas.Option.{none-some}
-use Rattle.r4_base.specs.Cell.{cell_fault, item_body_fault, names_block, names_in, next_key, spans_in}
+use Rattle.r4_base.specs.Cell.{item_body_fault, names_block, names_in, next_key, spans_in}
 use Rattle.r4_base.specs.Extents.{pointer_of}
 use Rattle.r4_base.specs.Key.{rank}
 use Rattle.r4_base.specs.Node.{Item, PluginsFit, count_of, fits_level, is_empty_branch, items_of, level_of}
@@ -15,25 +14,16 @@ use Rattle.r4_base.specs.declared.items.CellFault.TheVariants.{Pointer}
 use Rattle.r4_cell.specs.Seen.{CellSeen, node_of}
 use Rattle.r4_cell.proofs.Items.{chosen}
 use Rattle.r4_cell.proofs.NodesAt.{IsNodeAt, node_at}
-use Rattle.r4_node40.specs.Laid.{IsNode}
-use Rattle.r4_node40.specs.View.{view_block, view_items}
 use Rattle.r4_node40.proofs.Accepted.{good}
 use Rattle.r4_node40.proofs.Faults.{and_true}
 use Rattle.r4_node40.proofs.Laid.{length-items_of}
-use Rattle.r4_patch.specs.Joining.{ids_of}
-use Rattle.r4_edit.specs.Levels.{IsUnder}
-use Rattle.r4_edit.specs.Nodes.{IsPointable, pointer_item, weight, weight_of}
-use Rattle.r4_edit.specs.Rows.{IsNarrow, IsRow, row_items, row_level, row_more}
-use Rattle.r4_edit.specs.Sharing.{HasItems, IsRowOf, IsSound, items_of_cells}
-use Rattle.r4_edit.specs.Steps.{AreNaming, AreSpanning, Follow, IsNamedAfter, IsStep, Step, name_of}
-use Rattle.r4_edit.specs.declared.row.Row.{Row}
-use Rattle.r4_base.proofs.Numbers.{length-number_bytes}
-use Rattle.r4_edit.proofs.CellNodes.{long_pointers, names_are, spans_are}
-use Rattle.r4_edit.proofs.Finding.{Found, bodied, find, node_weighs, placed, put_behind, weighs_length}
+use Rattle.r4_edit.specs.Nodes.{weight_of}
+use Rattle.r4_edit.specs.Sharing.{IsSound, items_of_cells}
+use Rattle.r4_edit.specs.Steps.{AreNaming, AreSpanning, Follow}
+use Rattle.r4_edit.proofs.CellNodes.{names_are, spans_are}
 use Rattle.r4_edit.proofs.Lying.{Good, good_parts}
 use Rattle.r4_edit.proofs.Members.{cases, here, later, none}
-use Rattle.r4_edit.proofs.Replacing.{IsReplaced, named_now, named_then, row_between, row_fit, row_good, same_spans}
-use Rattle.r4_edit.proofs.Rows.{Between, between_order, between_rise, names_append, rise_between, spans_append}
+use Rattle.r4_edit.proofs.Rows.{names_append, spans_append}
 
 -- ---- a cell that may stand above leaf level begins with its first item
 

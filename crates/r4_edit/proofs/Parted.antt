@@ -1,12 +1,11 @@
 -- The change that parts a node in two, along its path.
-use Rattle.std.proofs.Common.{◌≡◌, ◌≢◌, ◌⊎◌, inl, inr, ℕ, zero, suc, ◌+◌, ◌-◌, ◌*◌, ◌^◌, ◌<◌, ◌≤◌, true, false, List, [], ◌∷◌, ◌++◌, length, map, take, drop, refl, sym, ap, subst, ◌∙◌, arith}
-use Rattle.std.specs.Prelude.{All, Contains, reverse, Option, Some, None}
-use Rattle.std.proofs.lemmas.List.{append_assoc, length-append, length-drop}
+use Rattle.std.proofs.Common.{◌≡◌, ◌≢◌, inl, inr, ℕ, zero, suc, ◌+◌, ◌^◌, ◌<◌, ◌≤◌, List, [], ◌∷◌, length, map, take, drop, refl, sym, ap, subst, ◌∙◌, arith}
+use Rattle.std.specs.Prelude.{Contains, reverse, Option, Some, None}
+use Rattle.std.proofs.lemmas.List.{length-append, length-drop}
 use Rattle.std.proofs.lemmas.List.Elements.{Contains-append_cases}
-use Rattle.std.proofs.lemmas.Option.{none-some, same_Some}
-use Rattle.r4_base.specs.Key.{least, rank, top}
+use Rattle.std.proofs.lemmas.Option.{same_Some}
 use Rattle.r4_base.specs.Node.{Item, items_of}
-use Rattle.r4_base.specs.Tree.{IsNode, Node, Root, Store}
+use Rattle.r4_base.specs.Tree.{Node, Root, Store}
 use Rattle.r4_base.specs.Value.{Value}
 use Rattle.r4_cell.specs.Seen.{CellSeen, node_of}
 use Rattle.r4_cell.specs.Patch.{IsChange, patch_of}
@@ -15,14 +14,11 @@ use Rattle.r4_cell.specs.declared.change.Fresh.{Fresh}
 use Rattle.r4_patch.specs.Joining.{ids_of, patch_of_change}
 use Rattle.r4_patch.specs.Part.{IsPart, MeetsPart}
 use Rattle.r4_patch.proofs.PartCells.{one_above}
-use Rattle.r4_edit.specs.Growing.{IsPathIn}
 use Rattle.r4_edit.specs.Levels.{CanClimb, Climbed, HasLevels, IsLongEnough, IsParted, IsPartedIn, IsPartedUp, Leads, Parts, Suffices, units_of_cells}
 use Rattle.r4_edit.specs.Nodes.{IsPointable}
-use Rattle.r4_edit.specs.Rows.{row_items}
 use Rattle.r4_edit.specs.Sharing.{HasItems, IsSound}
-use Rattle.r4_edit.specs.Steps.{Ascends, Climbs, CountUp, Ends, IsFree, IsNamedBy, IsPathChange, IsStep, Step, fresh_ids, name_of, news, olds, root_pair}
-use Rattle.r4_edit.specs.declared.row.Row.{Row}
-use Rattle.r4_edit.proofs.OnPath.{Stands, StandsIn, new_stands, stands_in, stands_new, stands_step}
+use Rattle.r4_edit.specs.Steps.{Ascends, Climbs, CountUp, IsPathChange, IsStep, Step, fresh_ids, name_of, news, olds}
+use Rattle.r4_edit.proofs.OnPath.{new_stands, stands_in, stands_new, stands_step}
 use Rattle.r4_edit.proofs.Parting.{new_node}
 use Rattle.r4_edit.proofs.PathPatch.{change_is, part_meets}
 use Rattle.r4_edit.proofs.Rising.{count_within, hi_is, level_is, lo_is}

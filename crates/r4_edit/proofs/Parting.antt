@@ -1,47 +1,31 @@
 -- A node parted in two, and the change that climbs from there.
-use Rattle.std.proofs.Common.{◌≡◌, ◌≢◌, ◌⊎◌, inl, inr, ℕ, zero, suc, ◌+◌, ◌-◌, ◌*◌, ◌^◌, ◌<◌, ◌≤◌, true, false, List, [], ◌∷◌, ◌++◌, length, map, take, drop, refl, sym, ap, subst, ◌∙◌, arith}
-use Rattle.std.specs.Prelude.{All, Contains, Option, Some, None, ◌↔◌, slice_get}
-use Rattle.std.proofs.lemmas.List.{append_assoc, length-append, length-drop}
-use Rattle.std.proofs.lemmas.List.Elements.{Contains-append_cases}
-use Rattle.std.proofs.lemmas.Option.{none-some, same_Some}
+use Rattle.std.proofs.Common.{◌≡◌, inl, inr, ℕ, zero, suc, ◌+◌, ◌^◌, ◌<◌, ◌≤◌, true, List, [], length, refl, sym, ap, subst, ◌∙◌, arith}
+use Rattle.std.specs.Prelude.{All, Contains, Some, None, slice_get}
 use Rattle.r4_base.specs.Cell.{cell_fault, names_in, spans_in, units_in}
-use Rattle.r4_base.specs.Key.{least, rank, top}
-use Rattle.r4_base.specs.Node.{Item, KeysRise, PluginsFit, items_of, level_of}
-use Rattle.r4_base.specs.Tree.{IsNode as IsTreeNode, Name, Node, Root, Span, Store}
-use Rattle.r4_base.specs.Value.{Value}
+use Rattle.r4_base.specs.Key.{rank}
+use Rattle.r4_base.specs.Node.{KeysRise, PluginsFit, items_of, level_of}
+use Rattle.r4_base.specs.Tree.{IsNode as IsTreeNode, Name, Span}
 use Rattle.r4_cell.specs.Seen.{CellSeen, node_of}
-use Rattle.r4_cell.specs.Patch.{IsChange, patch_of}
-use Rattle.r4_cell.specs.declared.change.Change.{Change}
 use Rattle.r4_cell.specs.declared.change.Fresh.{Fresh}
 use Rattle.r4_cell.proofs.Nodes.{cell_node}
 use Rattle.r4_cell.proofs.NodesAt.{IsNodeAt, plugins_at}
 use Rattle.r4_node40.specs.Laid.{IsNode}
 use Rattle.r4_node40.specs.View.{view_block, view_items}
 use Rattle.r4_node40.proofs.Accepted.{good}
-use Rattle.r4_patch.specs.Joining.{ids_of, patch_of_change}
-use Rattle.r4_patch.specs.Part.{IsPart, MeetsPart}
-use Rattle.r4_patch.proofs.PartCells.{one_above}
-use Rattle.r4_edit.specs.Growing.{IsPathIn}
 use Rattle.r4_edit.specs.Levels.{IsParted, units_of_cells}
-use Rattle.r4_edit.specs.Nodes.{IsPointable, weight, weight_of}
-use Rattle.r4_edit.specs.Rows.{IsNarrow, IsRow, row_items, row_level, row_more, with_pointers}
+use Rattle.r4_edit.specs.Nodes.{weight, weight_of}
+use Rattle.r4_edit.specs.Rows.{row_items, row_level, row_more, with_pointers}
 use Rattle.r4_edit.specs.Sharing.{HasItems, IsRowOf, IsSound, items_of_cells}
-use Rattle.r4_edit.specs.Steps.{AreNaming, AreSpanning, Ascends, Climbs, CountUp, Follow, IsFree, IsNamedBy, IsPathChange, IsStep, Step, fresh_ids, name_of, news, olds, root_pair}
+use Rattle.r4_edit.specs.Steps.{Follow, IsStep}
 use Rattle.r4_edit.specs.declared.row.Row.{Row}
 use Rattle.r4_edit.proofs.CellUnits.{own_units as units_of_items, units_parts}
 use Rattle.r4_edit.proofs.Cuts.{both_parts}
 use Rattle.r4_edit.proofs.Finding.{bodied, node_weighs, weighs_length}
 use Rattle.r4_edit.proofs.Lying.{Good}
-use Rattle.r4_edit.proofs.Members.{cases, none}
-use Rattle.r4_edit.proofs.OnPath.{Stands, StandsIn, new_stands, stands_in, stands_new, stands_step}
 use Rattle.r4_edit.proofs.Parenting.{alike, in_naming, in_spanning, naming_in, sound_node, spanning_in}
-use Rattle.r4_edit.proofs.PathPatch.{change_is, part_meets}
-use Rattle.r4_edit.proofs.Rising.{Within, count_within, follow_within, hi_is, level_is, lo_is}
-use Rattle.r4_edit.proofs.RowPlaces.{row_length}
-use Rattle.r4_edit.proofs.Rows.{units_append}
+use Rattle.r4_edit.proofs.Rising.{follow_within, hi_is, level_is, lo_is}
 use Rattle.r4_edit.proofs.Stepping.{bodied_row}
 use Rattle.r4_edit.proofs.CellNodes.{names_are, spans_are}
-use Rattle.r4_edit.proofs.Upwards.{all_numbered, count_join, long_ids}
 
 -- ---- a new cell is a node by itself
 

@@ -1,20 +1,20 @@
 -- A change along a path is a patch, which its part meets.
-use Rattle.std.proofs.Common.{◌≡◌, ◌≢◌, ◌⊎◌, inl, inr, ℕ, zero, suc, ◌+◌, ◌<◌, ◌≤◌, List, [], ◌∷◌, ◌++◌, length, map, drop, refl, sym, ap, subst, ◌∙◌, arith}
-use Rattle.std.specs.Prelude.{Contains, IsSome, Option, None, Some, ◌↔◌}
+use Rattle.std.proofs.Common.{◌≡◌, ◌≢◌, ◌⊎◌, inl, inr, ℕ, ◌<◌, ◌≤◌, List, [], ◌∷◌, drop, refl, sym, ap, subst, ◌∙◌, arith}
+use Rattle.std.specs.Prelude.{Contains, IsSome, Option, None, Some}
 use Rattle.std.specs.Option.{option_map}
 use Rattle.std.proofs.lemmas.Option.{none-some, same_Some}
-use Rattle.r4_base.specs.Key.{least, rank, top}
-use Rattle.r4_base.specs.Tree.{Covers, CoversLeaf, Fits, InNode, InSpan, IsNode, Name, Node, Root, Span, Store}
+use Rattle.r4_base.specs.Key.{rank}
+use Rattle.r4_base.specs.Tree.{Covers, CoversLeaf, Fits, InNode, IsNode, Name, Node, Root, Store}
 use Rattle.r4_base.specs.Value.{Value}
-use Rattle.r4_cell.specs.Patch.{IsChange, IsNewRoot, IsPatch, Meets, Names, NamesId, NeedsName, Patch, SameRange, by_name, patch_of, root_of_pair}
+use Rattle.r4_cell.specs.Patch.{IsChange, IsNewRoot, Names, NamesId, NeedsName, Patch, SameRange, patch_of, root_of_pair}
 use Rattle.r4_cell.specs.Seen.{CellSeen, node_of}
 use Rattle.r4_patch.specs.Joining.{ids_of}
-use Rattle.r4_patch.specs.Part.{IsPart, MeetsPart}
+use Rattle.r4_patch.specs.Part.{MeetsPart}
 use Rattle.r4_patch.proofs.PartCells.{named_once}
-use Rattle.r4_edit.specs.Steps.{Climbs, Ends, Follow, IsNameOf, IsNamedAfter, IsPathChange, IsRootOver, IsStep, Step, fresh_ids, name_of, news, olds, root_pair}
-use Rattle.r4_edit.proofs.Members.{Found, absent, cases, found, have_names, here, none, there}
-use Rattle.r4_edit.proofs.OnPath.{IsHighest, Stands, StandsIn, above_or_highest, below_stands, distinct_news, distinct_olds, highest, new_id, new_stands, old_stands, one_step, only_below, over_new, same_step, some_step, stands_in, stands_new, stands_old, stands_step, up_one}
-use Rattle.r4_edit.proofs.Rising.{InCell, Within, count_within, follow_apart, follow_covers, follow_within, hi_is, in_cell, in_node, level_is, lo_is}
+use Rattle.r4_edit.specs.Steps.{Ends, Follow, IsNameOf, IsNamedAfter, IsPathChange, IsRootOver, IsStep, Step, fresh_ids, name_of, news, olds, root_pair}
+use Rattle.r4_edit.proofs.Members.{absent, cases, found, have_names, here, none, there}
+use Rattle.r4_edit.proofs.OnPath.{IsHighest, Stands, StandsIn, above_or_highest, below_stands, distinct_news, distinct_olds, highest, new_id, new_stands, old_stands, one_step, only_below, over_new, some_step, stands_in, stands_new, stands_old, stands_step, up_one}
+use Rattle.r4_edit.proofs.Rising.{Within, count_within, follow_apart, follow_covers, follow_within, hi_is, in_cell, in_node, level_is, lo_is}
 
 none_or_some : (o : Option CellSeen) → (o ≡ None) ⊎ ((c : CellSeen) × (o ≡ Some c))
 none_or_some None = inl refl
@@ -212,10 +212,13 @@ module _ (t : Store Value) (r : Root) (from : ℕ) (steps : List Step) (over : O
       let (a, sb) = stands_below b s st in
       let low = sit a b sb in
       let high = sit (Some b) s st in
-      inr (not_old n.id (λ c u su e.
-        let one = some_step b u (only_below t r is.part steps (Some b) c s u n is.path st su member (sym e)) in
-        other (named_once t r is.part s.old.id s.old.id b.old.id (node_of s.old) (node_of s.old) (node_of b.old) n (name_of b.old) high.there high.there member high.leads low.there (sym e ∙ sym (ap (λ (z : Step). z.old.id) one)) refl).1
-      ), (s.old.id, node_of s.old, has_old (Some b) s st, member))
+      inr (
+        not_old n.id (λ c u su e.
+            let one = some_step b u (only_below t r is.part steps (Some b) c s u n is.path st su member (sym e)) in
+            other (named_once t r is.part s.old.id s.old.id b.old.id (node_of s.old) (node_of s.old) (node_of b.old) n (name_of b.old) high.there high.there member high.leads low.there (sym e ∙ sym (ap (λ (z : Step). z.old.id) one)) refl).1
+            ),
+        (s.old.id, node_of s.old, has_old (Some b) s st, member),
+      )
   named_after (Some b) s n st (inr h) = let (a, sb) = stands_below b s st in inl (names_piece a b n sb h)
 
   named : (n : Name) → Names p.new n → ((d : Node Value) × (p.new n.id ≡ Some d) × Fits n d) ⊎ ((p.old n.id ≡ None) × Names p.old n)

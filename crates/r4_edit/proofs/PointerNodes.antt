@@ -1,18 +1,17 @@
 -- A node of pointers to cells whose ranges follow each other.
-use Rattle.std.proofs.Common.{◌≡◌, ◌⊎◌, inl, inr, ℕ, zero, suc, ◌+◌, ◌-◌, ◌*◌, ◌^◌, ◌<◌, ◌≤◌, Bool, true, false, not, ◌&&◌, ◌||◌, List, [], ◌∷◌, ◌++◌, length, map, refl, sym, ap, subst, ◌∙◌, arith}
-use Rattle.std.specs.Prelude.{All, Contains, Option, Some, None, ◌==◌, nat_le, nat_lt, slice_get, if◌then◌else◌}
-use Rattle.std.proofs.lemmas.Bool.{le-leb, eq-eqb}
+use Rattle.std.proofs.Common.{◌≡◌, ℕ, zero, suc, ◌+◌, ◌-◌, ◌^◌, ◌<◌, ◌≤◌, true, not, ◌&&◌, ◌||◌, List, [], ◌∷◌, map, refl, sym, ap, subst, ◌∙◌, arith}
+use Rattle.std.specs.Prelude.{All, Some, None, ◌==◌, nat_le, nat_lt, slice_get}
+use Rattle.std.proofs.lemmas.Bool.{le-leb}
 use Rattle.std.proofs.lemmas.Bool.Decides.{nat_tests}
 use Rattle.std.proofs.lemmas.List.{append-nil}
 use Rattle.std.proofs.lemmas.List.Elements.{All-head, All-tail}
 use Rattle.std.proofs.lemmas.Option.{same_Some}
 use Rattle.r4_base.specs.Bitmap.{is_fixed}
 use Rattle.r4_base.specs.Bytes.{number_at, number_bytes}
-use Rattle.r4_base.specs.Cell.{item_body_fault, item_end, item_names, item_units, names_in, next_key, offsets_fit, spans_in, units_in}
+use Rattle.r4_base.specs.Cell.{item_body_fault, item_end, item_names, item_units, names_in, next_key, spans_in, units_in}
 use Rattle.r4_base.specs.Extents.{pointer_of}
-use Rattle.r4_base.specs.Key.{IsBelow, rank}
+use Rattle.r4_base.specs.Key.{rank}
 use Rattle.r4_base.specs.Node.{Item, KeysRise}
-use Rattle.r4_base.specs.Tree.{Name}
 use Rattle.r4_base.proofs.Numbers.{length-number_bytes, number_at-bytes}
 use Rattle.r4_cell.specs.Seen.{CellSeen}
 use Rattle.r4_edit.specs.Nodes.{IsPointable, pointer_item}
@@ -66,8 +65,8 @@ pointers_good level lo hi i from l (c ∷ cells) (cl, at, lt, rest) able low fir
     let next = next_follow l (rank c.hi) hi cells rest in
     let most = follow_most l (rank c.hi) hi cells rest in
     good_cons level lo hi i (pointer_item c) (map pointer_item cells)
-      (pointer_lies level lo hi (next_key hi (map pointer_item cells)) i c (All-head (λ (x : CellSeen). IsPointable x.id) c cells able) (omega (arith, low, at)) (omega (arith, at, lt, next)) (omega (arith, next, most)) (λ zeroth. at ∙ first zeroth))
-      (pointers_good level lo hi (i + 1) (rank c.hi) l cells rest (All-tail (λ (x : CellSeen). IsPointable x.id) c cells able) (omega (arith, low, lt)) (λ none. absurd (omega (arith, none))))
+    (pointer_lies level lo hi (next_key hi (map pointer_item cells)) i c (All-head (λ (x : CellSeen). IsPointable x.id) c cells able) (omega (arith, low, at)) (omega (arith, at, lt, next)) (omega (arith, next, most)) (λ zeroth. at ∙ first zeroth))
+    (pointers_good level lo hi (i + 1) (rank c.hi) l cells rest (All-tail (λ (x : CellSeen). IsPointable x.id) c cells able) (omega (arith, low, lt)) (λ none. absurd (omega (arith, none))))
 
 pub pointer_names : (l next : ℕ) (c : CellSeen) → IsPointable c.id → c.level ≡ l → rank c.hi ≡ next → item_names (suc l) next (pointer_item c) ≡ name_of c ∷ []
 unfolding item_names

@@ -1,6 +1,6 @@
 -- Items that point to cells.
-use Rattle.std.proofs.Common.{◌≡◌, ℕ, zero, suc, ◌+◌, ◌*◌, ◌<◌, ◌≤◌, true, List, [], ◌∷◌, length, map, take, get_or, refl, sym, ap, subst, ◌∙◌, arith}
-use Rattle.std.specs.Prelude.{slice_get, option_map, Some, Option}
+use Rattle.std.proofs.Common.{◌≡◌, ℕ, zero, suc, ◌*◌, ◌<◌, ◌≤◌, true, List, [], ◌∷◌, length, map, get_or, refl, ap, subst, ◌∙◌, arith}
+use Rattle.std.specs.Prelude.{slice_get, option_map, Some}
 use Rattle.std.proofs.lemmas.Bool.Decides.{nat_tests}
 use Rattle.std.proofs.lemmas.Option.{same_Some, slice_get-map, slice_get_read}
 use Rattle.r4_base.specs.Bytes.{number_bytes}
@@ -8,7 +8,7 @@ use Rattle.r4_base.specs.Node.{Item, PluginsFit, fits_level}
 use Rattle.r4_base.specs.declared.key.Key.{Key}
 use Rattle.r4_base.proofs.Numbers.{length-number_bytes}
 use Rattle.r4_cell.specs.Seen.{CellSeen}
-use Rattle.r4_edit.specs.Nodes.{pointer_item, weight, weight_of}
+use Rattle.r4_edit.specs.Nodes.{pointer_item, weight}
 use Rattle.r4_edit.proofs.Filling.{weight_cons}
 
 pub at_map : {A : Type 0} (f : A → Item) (xs : List A) (n : ℕ) (x : A) → n < length xs → x ≡ get_or xs n x → slice_get (map f xs) n ≡ Some (f x)

@@ -1,24 +1,23 @@
 -- The items of a node above leaf level in which pointers to several cells stand in the place of one pointer.
-use Rattle.std.proofs.Common.{◌≡◌, ◌≢◌, ◌⊎◌, inl, inr, ℕ, zero, suc, ◌+◌, ◌-◌, ◌^◌, ◌<◌, ◌≤◌, Bool, true, false, List, [], ◌∷◌, ◌++◌, length, map, refl, sym, ap, subst, ◌∙◌, arith}
-use Rattle.std.specs.Prelude.{All, Contains, Option, Some, None, ◌==◌, ◌↔◌, nat_le, nat_lt, slice_get, if◌then◌else◌}
-use Rattle.std.proofs.lemmas.List.{append-nil, append_assoc}
+use Rattle.std.proofs.Common.{◌≡◌, ◌≢◌, ◌⊎◌, inl, inr, ℕ, zero, suc, ◌+◌, ◌-◌, ◌^◌, ◌<◌, ◌≤◌, true, false, List, [], ◌∷◌, ◌++◌, map, refl, sym, ap, subst, ◌∙◌, arith}
+use Rattle.std.specs.Prelude.{All, Contains, Some, ◌==◌}
 use Rattle.std.proofs.lemmas.List.Elements.{All-head, All-tail, Contains-append_cases, Contains-append_left, Contains-append_right}
 use Rattle.std.proofs.lemmas.Option.{same_Some}
-use Rattle.r4_base.specs.Cell.{item_end, item_names, names_in, next_key, spans_in, units_in, item_units}
+use Rattle.r4_base.specs.Cell.{item_end, item_names, names_in, next_key, spans_in}
 use Rattle.r4_base.specs.Extents.{pointer_of}
 use Rattle.r4_base.specs.Key.{rank}
-use Rattle.r4_base.specs.Node.{Item, KeysRise, PluginsFit, fits_level}
+use Rattle.r4_base.specs.Node.{Item, PluginsFit, fits_level}
 use Rattle.r4_base.specs.Tree.{Name}
 use Rattle.r4_cell.specs.Seen.{CellSeen}
 use Rattle.r4_cell.proofs.Items.{items_part}
 use Rattle.r4_edit.specs.Nodes.{IsPointable, pointer_item}
 use Rattle.r4_edit.specs.Steps.{Follow, IsNameOf, name_of}
 use Rattle.r4_edit.proofs.Grown.{map_names, names_map}
-use Rattle.r4_edit.proofs.Lying.{Good, Lies, good_cons, good_nil, good_parts}
-use Rattle.r4_edit.proofs.Members.{cases, here, later}
+use Rattle.r4_edit.proofs.Lying.{Good, Lies, good_cons, good_parts}
+use Rattle.r4_edit.proofs.Members.{cases, later}
 use Rattle.r4_edit.proofs.PointerNodes.{pointer_lies, pointer_names}
 use Rattle.r4_edit.proofs.Pointers.{pointers_fit}
-use Rattle.r4_edit.proofs.Rows.{Between, between_append, between_left, between_lower, between_order, between_right, fit_append, fit_left, fit_right, good_behind, good_left, names_append, next_append, spans_append, units_append}
+use Rattle.r4_edit.proofs.Rows.{Between, between_append, between_left, between_lower, between_order, between_right, fit_append, fit_left, fit_right, good_behind, good_left, names_append, spans_append}
 
 -- ---- pointers before other items
 
@@ -38,8 +37,8 @@ pointers_before l level lo hi i from to (c ∷ cells) items (cl, at, lt, more) a
     let behind = pointers_next l hi (rank c.hi) to cells items more next in
     let end = follow_most l (rank c.hi) to cells more in
     good_cons level lo hi i (pointer_item c) (map pointer_item cells ++ items)
-      (pointer_lies level lo hi (next_key hi (map pointer_item cells ++ items)) i c (All-head (λ (x : CellSeen). IsPointable x.id) c cells able) (omega (arith, low, at)) (omega (arith, at, lt, behind)) (omega (arith, behind, end, most)) (λ none. absurd (omega (arith, none, late))))
-      (pointers_before l level lo hi (i + 1) (rank c.hi) to cells items more (All-tail (λ (x : CellSeen). IsPointable x.id) c cells able) next most (omega (arith, low, lt)) (omega arith) rest)
+    (pointer_lies level lo hi (next_key hi (map pointer_item cells ++ items)) i c (All-head (λ (x : CellSeen). IsPointable x.id) c cells able) (omega (arith, low, at)) (omega (arith, at, lt, behind)) (omega (arith, behind, end, most)) (λ none. absurd (omega (arith, none, late))))
+    (pointers_before l level lo hi (i + 1) (rank c.hi) to cells items more (All-tail (λ (x : CellSeen). IsPointable x.id) c cells able) next most (omega (arith, low, lt)) (omega arith) rest)
 
 pointers_named : (l hi from to : ℕ) (cells : List CellSeen) (items : List Item) → Follow l from to cells → All (λ c. IsPointable c.id) cells → next_key hi items ≡ to → names_in (suc l) hi (map pointer_item cells ++ items) ≡ map name_of cells ++ names_in (suc l) hi items
 unfolding names_in
@@ -113,18 +112,18 @@ module _ (level l lo hi : ℕ) (before : List Item) (p : Item) (behind : List It
   pub old_names : names_in level hi (before ++ p ∷ behind) ≡ names_in level (rank p.key) before ++ (name_of b ∷ names_in level hi behind)
   old_names =
       let one : names_in level hi (p ∷ behind) ≡ name_of b ∷ names_in level hi behind =
-            subst (λ k. names_in k hi (p ∷ behind) ≡ name_of b ∷ names_in k hi behind) (sym is.up)
-            (names_first (suc l) hi p behind ∙ ap (λ ns. ns ++ names_in (suc l) hi behind) (one_name l (next_key hi behind) p b is.plugin is.to is.below is.key (sym is.next))) in
+      subst (λ k. names_in k hi (p ∷ behind) ≡ name_of b ∷ names_in k hi behind) (sym is.up)
+      (names_first (suc l) hi p behind ∙ ap (λ ns. ns ++ names_in (suc l) hi behind) (one_name l (next_key hi behind) p b is.plugin is.to is.below is.key (sym is.next))) in
       names_append level hi before (p ∷ behind) ∙ ap (λ ns. names_in level (rank p.key) before ++ ns) one
 
   pub new_names : names_in level hi row ≡ names_in level (rank p.key) before ++ (map name_of (first ∷ more) ++ names_in level hi behind)
   new_names =
       let at : rank first.lo ≡ rank b.lo = is.follow.1 in
       let one : names_in level hi (p ∷ (map pointer_item more ++ behind)) ≡ map name_of (first ∷ more) ++ names_in level hi behind =
-            subst (λ k. names_in k hi (p ∷ (map pointer_item more ++ behind)) ≡ map name_of (first ∷ more) ++ names_in k hi behind) (sym is.up)
-            (names_first (suc l) hi p (map pointer_item more ++ behind)
-            ∙ (ap (λ ns. ns ++ names_in (suc l) hi (map pointer_item more ++ behind)) (one_name l (next_key hi (map pointer_item more ++ behind)) p first is.plugin (is.to ∙ ap Some (sym is.first_id)) is.follow.0 (is.key ∙ sym at) (sym first_next))
-            ∙ ap (λ ns. name_of first ∷ ns) (pointers_named l hi (rank first.hi) (rank b.hi) more behind is.follow.3 is.able is.next))) in
+      subst (λ k. names_in k hi (p ∷ (map pointer_item more ++ behind)) ≡ map name_of (first ∷ more) ++ names_in k hi behind) (sym is.up)
+      (names_first (suc l) hi p (map pointer_item more ++ behind)
+      ∙ (ap (λ ns. ns ++ names_in (suc l) hi (map pointer_item more ++ behind)) (one_name l (next_key hi (map pointer_item more ++ behind)) p first is.plugin (is.to ∙ ap Some (sym is.first_id)) is.follow.0 (is.key ∙ sym at) (sym first_next))
+      ∙ ap (λ ns. name_of first ∷ ns) (pointers_named l hi (rank first.hi) (rank b.hi) more behind is.follow.3 is.able is.next))) in
       names_append level hi before (p ∷ (map pointer_item more ++ behind)) ∙ ap (λ ns. names_in level (rank p.key) before ++ ns) one
 
   pub same_spans : spans_in hi row ≡ spans_in hi (before ++ p ∷ behind)
@@ -144,7 +143,7 @@ module _ (level l lo hi : ℕ) (before : List Item) (p : Item) (behind : List It
       let lt = is.follow.2 in
       let tail : Between (rank b.hi) hi behind = behind_from behind right.1 is.next in
       between_append lo (rank p.key) hi before (p ∷ (map pointer_item more ++ behind)) left
-        (omega arith, between_lower (rank first.hi) (rank p.key + 1) hi (map pointer_item more ++ behind) (omega (arith, key, lt)) (pointers_between l (rank first.hi) (rank b.hi) hi more behind is.follow.3 tail))
+      (omega arith, between_lower (rank first.hi) (rank p.key + 1) hi (map pointer_item more ++ behind) (omega (arith, key, lt)) (pointers_between l (rank first.hi) (rank b.hi) hi more behind is.follow.3 tail))
     where
       behind_from : (items : List Item) → Between (rank p.key + 1) hi items → next_key hi items ≡ rank b.hi → Between (rank b.hi) hi items
       behind_from [] h next = omega (arith, next)
@@ -166,9 +165,11 @@ module _ (level l lo hi : ℕ) (before : List Item) (p : Item) (behind : List It
     where
       between_order_start : Between lo hi (before ++ p ∷ behind) → lo ≤ hi
       between_order_start h = between_order lo hi (before ++ p ∷ behind) h
+
       next_at : (items : List Item) → Between (rank p.key + 1) hi items → next_key hi items ≤ hi
       next_at [] h = omega arith
       next_at (y ∷ ys) h = let most = between_order (rank y.key + 1) hi ys h.1 in omega (arith, most)
+
       go : (xs : List Item) (i : ℕ) → lo ≤ hi → Between lo hi (xs ++ p ∷ behind) → Good level lo hi i (xs ++ p ∷ behind) → Good level lo hi i (xs ++ p ∷ (map pointer_item more ++ behind))
       go [] i le between good =
           let (at, rest) = good_parts level lo hi i p behind good in
@@ -181,15 +182,15 @@ module _ (level l lo hi : ℕ) (before : List Item) (p : Item) (behind : List It
           let next = is.next in
           let high = next_at behind between.1 in
           good_cons level lo hi i p (map pointer_item more ++ behind)
-            (record { body = at.body; from = at.from; below = at.below; fits = at.fits; end = at.end; before = omega (arith, end, key, lt, start); first = at.first })
-            (pointers_before l level lo hi (i + 1) (rank first.hi) (rank b.hi) more behind is.follow.3 is.able is.next (omega (arith, next, high)) (omega (arith, from, key, lt)) (omega arith)
-              (λ j late. good_behind level lo lo hi (i + 1) j behind late (between_lower (rank p.key + 1) lo hi behind (omega (arith, from)) between.1) rest))
+          (record { body = at.body; from = at.from; below = at.below; fits = at.fits; end = at.end; before = omega (arith, end, key, lt, start); first = at.first })
+          (pointers_before l level lo hi (i + 1) (rank first.hi) (rank b.hi) more behind is.follow.3 is.able is.next (omega (arith, next, high)) (omega (arith, from, key, lt)) (omega arith)
+          (λ j late. good_behind level lo lo hi (i + 1) j behind late (between_lower (rank p.key + 1) lo hi behind (omega (arith, from)) between.1) rest))
       go (x ∷ xs) i le between good =
           let (at, rest) = good_parts level lo hi i x (xs ++ p ∷ behind) good in
           let low = between.0 in
           good_cons level lo hi i x (xs ++ p ∷ (map pointer_item more ++ behind))
-            (subst (λ k. Lies level lo hi k i x) (next_same hi xs p behind (map pointer_item more ++ behind)) at)
-            (go xs (i + 1) le (between_lower (rank x.key + 1) lo hi (xs ++ p ∷ behind) (omega (arith, low)) between.1) rest)
+          (subst (λ k. Lies level lo hi k i x) (next_same hi xs p behind (map pointer_item more ++ behind)) at)
+          (go xs (i + 1) le (between_lower (rank x.key + 1) lo hi (xs ++ p ∷ behind) (omega (arith, low)) between.1) rest)
 
   -- ---- what is named afterwards
 

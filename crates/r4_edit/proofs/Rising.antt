@@ -1,12 +1,10 @@
 -- Cells whose ranges follow each other, and numbers that count up.
-use Rattle.std.proofs.Common.{◌≡◌, ◌≢◌, ◌⊎◌, inl, inr, ℕ, zero, suc, ◌+◌, ◌<◌, ◌≤◌, List, [], ◌∷◌, ◌++◌, length, map, drop, refl, sym, ap, subst, ◌∙◌, arith}
+use Rattle.std.proofs.Common.{◌≡◌, inl, inr, ℕ, zero, suc, ◌+◌, ◌<◌, ◌≤◌, List, [], ◌∷◌, ◌++◌, length, refl, sym, ap, subst, ◌∙◌, arith}
 use Rattle.std.specs.Prelude.{Contains}
 use Rattle.std.proofs.lemmas.Bool.{cases_lt}
-use Rattle.std.proofs.lemmas.List.{length-append}
 use Rattle.r4_base.specs.Cell.{cell_of}
 use Rattle.r4_base.specs.Key.{rank}
-use Rattle.r4_base.specs.Tree.{InNode, Node}
-use Rattle.r4_base.specs.Value.{Value}
+use Rattle.r4_base.specs.Tree.{InNode}
 use Rattle.r4_cell.specs.Seen.{CellSeen, node_of}
 use Rattle.r4_patch.specs.Joining.{ids_of}
 use Rattle.r4_edit.specs.Steps.{CountUp, Follow}

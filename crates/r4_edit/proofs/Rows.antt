@@ -1,15 +1,13 @@
 -- Lists of items of a node: keys that rise, two lists one after the other, and a list cut in two.
-use Rattle.std.proofs.Common.{◌≡◌, ◌⊎◌, inl, inr, ℕ, zero, suc, ◌+◌, ◌-◌, ◌*◌, ◌^◌, ◌<◌, ◌≤◌, Bool, true, false, not, ◌&&◌, ◌||◌, List, [], ◌∷◌, ◌++◌, length, map, refl, sym, ap, subst, ◌∙◌, arith}
-use Rattle.std.specs.Prelude.{All, Contains, Option, Some, None, ◌==◌, nat_le, nat_lt, slice_get, if◌then◌else◌}
-use Rattle.std.proofs.lemmas.Bool.{le-leb, eq-eqb}
+use Rattle.std.proofs.Common.{◌≡◌, ℕ, zero, suc, ◌+◌, ◌≤◌, true, not, ◌||◌, List, [], ◌∷◌, ◌++◌, refl, sym, ap, subst, arith}
+use Rattle.std.specs.Prelude.{Some, ◌==◌, nat_le, slice_get, if◌then◌else◌}
 use Rattle.std.proofs.lemmas.Bool.Decides.{nat_tests}
-use Rattle.std.proofs.lemmas.List.{append-nil, append_assoc}
+use Rattle.std.proofs.lemmas.List.{append_assoc}
 use Rattle.std.proofs.lemmas.Option.{same_Some}
-use Rattle.r4_base.specs.Cell.{item_body_fault, item_end, item_names, item_units, names_in, next_key, offsets_fit, spans_in, units_in}
-use Rattle.r4_base.specs.Key.{IsBelow, rank}
-use Rattle.r4_base.specs.Node.{Item, KeysRise, PluginsFit, fits_level}
-use Rattle.r4_base.specs.Tree.{Name, Span}
-use Rattle.r4_edit.proofs.Lying.{Good, Lies, good_cons, good_nil, good_parts}
+use Rattle.r4_base.specs.Cell.{item_names, item_units, names_in, next_key, spans_in, units_in}
+use Rattle.r4_base.specs.Key.{rank}
+use Rattle.r4_base.specs.Node.{Item, KeysRise, PluginsFit}
+use Rattle.r4_edit.proofs.Lying.{Good, good_cons, good_nil, good_parts}
 
 -- ---- keys that rise from one to another
 
@@ -114,15 +112,15 @@ good_behind level lo low hi i j [] one between good = good_nil level low hi j
 good_behind level lo low hi i j (x ∷ xs) one (from, rest) good =
     let (l, more) = good_parts level lo hi i x xs good in
     good_cons level low hi j x xs
-      (record { body = l.body; from = from; below = l.below; fits = l.fits; end = l.end; before = l.before; first = place_late level j (rank x.key) low one })
-      (good_behind level lo low hi (i + 1) (j + 1) xs (omega arith) (between_lower (rank x.key + 1) low hi xs (omega (arith, from)) rest) more)
+    (record { body = l.body; from = from; below = l.below; fits = l.fits; end = l.end; before = l.before; first = place_late level j (rank x.key) low one })
+    (good_behind level lo low hi (i + 1) (j + 1) xs (omega arith) (between_lower (rank x.key + 1) low hi xs (omega (arith, from)) rest) more)
 
 pub good_right : (level lo hi i : ℕ) (xs : List Item) (y : Item) (ys : List Item) → Between lo hi (xs ++ y ∷ ys) → Good level lo hi i (xs ++ y ∷ ys) → Good level (rank y.key) hi 0 (y ∷ ys)
 good_right level lo hi i [] y ys between good =
     let (l, more) = good_parts level lo hi i y ys good in
     good_cons level (rank y.key) hi 0 y ys
-      (record { body = l.body; from = omega arith; below = l.below; fits = l.fits; end = l.end; before = l.before; first = place_first level 0 (rank y.key) (rank y.key) refl })
-      (good_behind level lo (rank y.key) hi (i + 1) 1 ys (omega arith) (between_lower (rank y.key + 1) (rank y.key) hi ys (omega arith) between.1) more)
+    (record { body = l.body; from = omega arith; below = l.below; fits = l.fits; end = l.end; before = l.before; first = place_first level 0 (rank y.key) (rank y.key) refl })
+    (good_behind level lo (rank y.key) hi (i + 1) 1 ys (omega arith) (between_lower (rank y.key + 1) (rank y.key) hi ys (omega arith) between.1) more)
 good_right level lo hi i (x ∷ xs) y ys between good = good_right level lo hi (i + 1) xs y ys (between_lower (rank x.key + 1) lo hi (xs ++ y ∷ ys) (let low = between.0 in omega (arith, low)) between.1) (good_parts level lo hi i x (xs ++ y ∷ ys) good).1
 
 next_before : (from to : ℕ) (xs : List Item) → Between from to xs → next_key to xs ≤ to
@@ -140,5 +138,5 @@ good_left level lo hi i (x ∷ xs) y ys between good =
     let most = next_before (rank x.key + 1) (rank y.key) xs rest in
     let over = between_order (rank x.key + 1) (rank y.key) xs rest in
     good_cons level lo (rank y.key) i x xs
-      (record { body = l.body; from = l.from; below = omega (arith, over); fits = l.fits; end = omega (arith, before, next, most); before = omega (arith, before, next); first = l.first })
-      (good_left level lo hi (i + 1) xs y ys (between_lower (rank x.key + 1) lo hi (xs ++ y ∷ ys) (omega (arith, low)) between.1) more)
+    (record { body = l.body; from = l.from; below = omega (arith, over); fits = l.fits; end = omega (arith, before, next, most); before = omega (arith, before, next); first = l.first })
+    (good_left level lo hi (i + 1) xs y ys (between_lower (rank x.key + 1) lo hi (xs ++ y ∷ ys) (omega (arith, low)) between.1) more)

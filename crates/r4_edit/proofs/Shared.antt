@@ -1,6 +1,6 @@
 -- The cells that have the items of a row.
-use Rattle.std.proofs.Common.{◌≡◌, ℕ, zero, suc, ◌+◌, ◌-◌, ◌^◌, ◌<◌, ◌≤◌, true, List, [], ◌∷◌, ◌++◌, length, take, drop, refl, sym, ap, subst, ◌∙◌, arith, inl, inr}
-use Rattle.std.specs.Prelude.{Contains, None, Some, slice_get, IfSome}
+use Rattle.std.proofs.Common.{◌≡◌, ℕ, zero, suc, ◌+◌, ◌^◌, ◌<◌, ◌≤◌, true, List, [], ◌∷◌, ◌++◌, length, take, drop, refl, sym, ap, subst, ◌∙◌, arith, inl, inr}
+use Rattle.std.specs.Prelude.{None, Some, slice_get, IfSome}
 use Rattle.std.proofs.lemmas.List.{append-nil, length-drop}
 use Rattle.std.proofs.lemmas.Option.{same_Some}
 use Rattle.r4_base.specs.Cell.{cell_fault}
@@ -8,10 +8,10 @@ use Rattle.r4_base.specs.Key.{rank}
 use Rattle.r4_base.specs.Node.{Item, items_of}
 use Rattle.r4_base.specs.declared.key.Key.{Key}
 use Rattle.r4_cell.specs.Seen.{CellSeen}
-use Rattle.r4_edit.specs.Nodes.{IsNodeOf, weight, weight_of}
+use Rattle.r4_edit.specs.Nodes.{IsNodeOf, weight}
 use Rattle.r4_edit.specs.Rows.{IsCut, row_items, row_level, row_part}
 use Rattle.r4_cell.specs.declared.change.Fresh.{Fresh}
-use Rattle.r4_edit.specs.Sharing.{AreFilled, HasItems, IsRowOf, IsSound, Shares, items_of_cells}
+use Rattle.r4_edit.specs.Sharing.{AreFilled, HasItems, IsRowOf, IsSound, Shares}
 use Rattle.r4_edit.specs.declared.row.Row.{Row}
 use Rattle.r4_edit.proofs.Cuts.{both_parts, cut_parts, take_whole}
 use Rattle.r4_edit.proofs.Filling.{weight_one}

@@ -1,13 +1,12 @@
 -- A parent over new cells: its row may stand in its place, and the cells that have it are a step of the change.
-use Rattle.std.proofs.Common.{◌≡◌, ◌≢◌, ◌⊎◌, inl, inr, ℕ, zero, suc, ◌+◌, ◌-◌, ◌*◌, ◌^◌, ◌<◌, ◌≤◌, true, false, List, [], ◌∷◌, ◌++◌, length, map, take, drop, refl, sym, ap, subst, ◌∙◌, arith}
-use Rattle.std.specs.Prelude.{All, Contains, Option, Some, None, ◌↔◌, slice_get}
+use Rattle.std.proofs.Common.{◌≡◌, inl, inr, ℕ, zero, suc, ◌+◌, ◌*◌, ◌^◌, ◌<◌, ◌≤◌, true, List, [], ◌∷◌, ◌++◌, length, map, take, drop, refl, sym, ap, subst, ◌∙◌, arith}
+use Rattle.std.specs.Prelude.{All, Contains, Some, None, slice_get}
 use Rattle.std.proofs.lemmas.Bool.{cases_lt}
 use Rattle.std.proofs.lemmas.List.{length-append}
-use Rattle.std.proofs.lemmas.Option.{same_Some, slice_get_within}
+use Rattle.std.proofs.lemmas.Option.{same_Some}
 use Rattle.r4_base.specs.Cell.{cell_fault, names_in, spans_in, units_in}
 use Rattle.r4_base.specs.Key.{rank}
-use Rattle.r4_base.specs.Node.{Item, KeysRise, PluginsFit, count_of, items_of, level_of}
-use Rattle.r4_base.specs.Tree.{Name, Span}
+use Rattle.r4_base.specs.Node.{Item, KeysRise, PluginsFit, items_of, level_of}
 use Rattle.r4_base.specs.declared.key.Key.{Key}
 use Rattle.r4_cell.specs.declared.change.Fresh.{Fresh}
 use Rattle.r4_base.proofs.Numbers.{length-number_bytes}
@@ -19,11 +18,11 @@ use Rattle.r4_node40.proofs.Accepted.{good}
 use Rattle.r4_patch.specs.Joining.{ids_of}
 use Rattle.r4_edit.specs.Levels.{IsStepOver, IsUnder, units_of_cells}
 use Rattle.r4_edit.specs.Nodes.{IsPointable, pointer_item, weight, weight_of}
-use Rattle.r4_edit.specs.Rows.{IsNarrow, IsRow, row_items, row_level, row_more, with_pointers}
+use Rattle.r4_edit.specs.Rows.{row_items, row_level, row_more, with_pointers}
 use Rattle.r4_edit.specs.Sharing.{AreFilled, HasItems, IsRowOf, IsSound, Shares, items_of_cells}
-use Rattle.r4_edit.specs.Steps.{AreNaming, AreSpanning, Follow, IsNameOf, IsNamedAfter, IsStep, Step, name_of}
+use Rattle.r4_edit.specs.Steps.{Follow, IsNameOf, IsStep, Step, name_of}
 use Rattle.r4_edit.specs.declared.row.Row.{Row}
-use Rattle.r4_edit.proofs.CellNodes.{long_pointers, names_are, spans_are}
+use Rattle.r4_edit.proofs.CellNodes.{names_are, spans_are}
 use Rattle.r4_edit.proofs.CellUnits.{own_units, units_parts}
 use Rattle.r4_edit.proofs.Cuts.{beside, both_parts}
 use Rattle.r4_edit.proofs.PointerNodes.{pointers_unit}
@@ -31,7 +30,7 @@ use Rattle.r4_edit.proofs.Filling.{in_take}
 use Rattle.r4_edit.proofs.Finding.{Found, bodied, find, node_weighs, placed, put_behind, weighs_length}
 use Rattle.r4_edit.proofs.Lying.{Good}
 use Rattle.r4_edit.proofs.Parenting.{alike, in_naming, in_spanning, naming_in, sound_node, spanning_in}
-use Rattle.r4_edit.proofs.Replacing.{IsReplaced, named_now, named_then, row, row_between, row_fit, row_good, same_spans}
+use Rattle.r4_edit.proofs.Replacing.{IsReplaced, named_now, named_then, row_between, row_fit, row_good, same_spans}
 use Rattle.r4_edit.proofs.RowPlaces.{get_drop, row_length}
 use Rattle.r4_edit.proofs.Rows.{Between, between_rise, rise_between, units_append}
 
@@ -197,13 +196,15 @@ module _ (parent : CellSeen) (b : Step) (first : CellSeen) (rest : List CellSeen
           | inr mine ↦ inr (subst (λ xs. IsNameOf xs n) (sym new) mine)
         ]),
         (λ h. in_naming b.old.level under.low (rank parent.lo) (rank parent.hi) cells follow has.sound n (subst (λ ns. Contains ns n) (sym new_named)
-          (named_then parent.level b.old.level (rank parent.lo) (rank parent.hi) f.before f.p f.behind b.old first rest replaced n (elim h [
-            | inl old ↦ inl (subst (λ ns. Contains ns n) old_named old.0, old.1)
-            | inr mine ↦ inr (subst (λ xs. IsNameOf xs n) new mine)
-          ])))));
+            (named_then parent.level b.old.level (rank parent.lo) (rank parent.hi) f.before f.p f.behind b.old first rest replaced n (elim h [
+              | inl old ↦ inl (subst (λ ns. Contains ns n) old_named old.0, old.1)
+              | inr mine ↦ inr (subst (λ xs. IsNameOf xs n) new mine)
+            ])))),
+      );
       spans = λ v. (
         (λ h. subst (λ ss. Contains ss v) (sym all_spans) (spanning_in b.old.level under.low (rank parent.lo) (rank parent.hi) cells follow has.sound v h)),
-        (λ h. in_spanning b.old.level under.low (rank parent.lo) (rank parent.hi) cells follow has.sound v (subst (λ ss. Contains ss v) all_spans h)));
+        (λ h. in_spanning b.old.level under.low (rank parent.lo) (rank parent.hi) cells follow has.sound v (subst (λ ss. Contains ss v) all_spans h)),
+      );
     }
       where
         all_spans : (node_of parent).spans ≡ spans_in (rank parent.hi) (items_of_cells cells)

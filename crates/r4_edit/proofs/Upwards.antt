@@ -1,5 +1,5 @@
 -- A change climbs a path, level by level.
-use Rattle.std.proofs.Common.{◌≡◌, ◌≢◌, ◌⊎◌, inl, inr, ℕ, zero, suc, ◌+◌, ◌-◌, ◌*◌, ◌^◌, ◌<◌, ◌≤◌, Bool, true, false, not, ◌&&◌, ◌||◌, List, [], ◌∷◌, ◌++◌, length, map, take, drop, get_or, refl, sym, ap, subst, ◌∙◌, arith}
+use Rattle.std.proofs.Common.{◌≡◌, ◌≢◌, ◌⊎◌, inl, inr, ℕ, zero, suc, ◌+◌, ◌-◌, ◌*◌, ◌^◌, ◌<◌, ◌≤◌, true, not, ◌&&◌, ◌||◌, List, [], ◌∷◌, ◌++◌, length, map, take, drop, get_or, refl, sym, ap, subst, ◌∙◌, arith}
 use Rattle.std.specs.Prelude.{All, Contains, reverse, Option, Some, None, nat_le, nat_lt}
 use Rattle.std.proofs.lemmas.Bool.{cases_lt}
 use Rattle.std.proofs.lemmas.Bool.Decides.{nat_tests}
@@ -7,22 +7,20 @@ use Rattle.std.proofs.lemmas.List.{append_assoc, append-nil, length-append, leng
 use Rattle.std.proofs.lemmas.List.Elements.{All-cons, All-nil, Contains-append_cases}
 use Rattle.std.proofs.lemmas.Option.{none-some, same_Some, slice_get_read}
 use Rattle.r4_base.specs.Bitmap.{is_fixed}
-use Rattle.r4_base.specs.Cell.{names_block}
 use Rattle.r4_base.specs.Key.{least, rank, top}
 use Rattle.r4_base.specs.Node.{items_of}
-use Rattle.r4_base.specs.Tree.{IsNode, Name, Root, Span}
+use Rattle.r4_base.specs.Tree.{IsNode}
 use Rattle.r4_cell.specs.Seen.{CellSeen, node_of}
 use Rattle.r4_cell.specs.declared.change.Fresh.{Fresh}
 use Rattle.r4_patch.specs.Joining.{ids_of}
 use Rattle.r4_edit.specs.Levels.{CanClimb, Climbed, IsLongEnough, IsStepOver, IsUnder, Keeps, Leads, Suffices}
 use Rattle.r4_edit.specs.Nodes.{IsPointable, IsPointingTo, weight}
-use Rattle.r4_edit.specs.Sharing.{IsSound}
-use Rattle.r4_edit.specs.Steps.{Climbs, CountUp, Ends, Follow, IsRootOver, IsStep, Step, fresh_ids, name_of, news, olds}
+use Rattle.r4_edit.specs.Steps.{CountUp, Follow, Step, fresh_ids, news}
 use Rattle.r4_edit.proofs.CellNodes.{long_map}
 use Rattle.r4_edit.proofs.Filling.{long_take, take_more}
 use Rattle.r4_edit.proofs.Grown.{map_names, names_map}
 use Rattle.r4_edit.proofs.Members.{cases, none}
-use Rattle.r4_edit.proofs.Rising.{count_within, id_member}
+use Rattle.r4_edit.proofs.Rising.{count_within}
 
 -- ---- numbers
 
@@ -40,6 +38,7 @@ all_numbered from to (c ∷ cells) low high within =
   where
     here_id : (x : CellSeen) (xs : List CellSeen) → Contains (ids_of (x ∷ xs)) x.id
     here_id x xs = (zero, omega arith, refl)
+
     later_id : (x : CellSeen) (i : ℕ) (xs : List CellSeen) → Contains (ids_of xs) i → Contains (ids_of (x ∷ xs)) i
     later_id x i xs (k, l, e) = (suc k, omega (arith, l), e)
 
@@ -121,13 +120,13 @@ module _ (s : Step) (f : Fresh) (can : CanClimb s [] f) (two : length s.new ≢ 
     ends = λ r h. elim h [
       | inl one ↦ absurd (two one)
       | inr enough ↦ record {
-          was = enough.0;
-          level = let l = points.level_is in omega (arith, l);
-          lo = points.lo;
-          hi = points.hi;
-          names = λ n. ((λ g. names_map s.new n (subst (λ ns. Contains ns n) points.names g)), (λ g. subst (λ ns. Contains ns n) (sym points.names) (map_names s.new n g)));
-          spans = λ v g. none v (subst (λ vs. Contains vs v) points.spans g);
-        }
+        was = enough.0;
+        level = let l = points.level_is in omega (arith, l);
+        lo = points.lo;
+        hi = points.hi;
+        names = λ n. ((λ g. names_map s.new n (subst (λ ns. Contains ns n) points.names g)), (λ g. subst (λ ns. Contains ns n) (sym points.names) (map_names s.new n g)));
+        spans = λ v g. none v (subst (λ vs. Contains vs v) points.spans g);
+      }
     ];
   }
 
@@ -229,7 +228,7 @@ module _ (s : Step) (parent : CellSeen) (ups : List CellSeen) (f : Fresh) (can :
           count_join f.next (ids_of (drop 1 u.new)) (fresh_ids rest.more over) step.counts (subst (λ k. CountUp k (fresh_ids rest.more over)) (omega (arith, long, n)) rest.counts);
       number = rest.number ∙ (ap (λ (x : Fresh). record x { next = g.next + length (fresh_ids rest.more over) }) step.number
           ∙ same_next f (g.next + length (fresh_ids rest.more over)) (f.next + length (ids_of (drop 1 u.new) ++ fresh_ids rest.more over))
-            (let long = long_ids (drop 1 u.new) in let n = next_is in let sum = length-append (ids_of (drop 1 u.new)) (fresh_ids rest.more over) in omega (arith, long, n, sum)));
+          (let long = long_ids (drop 1 u.new) in let n = next_is in let sum = length-append (ids_of (drop 1 u.new)) (fresh_ids rest.more over) in omega (arith, long, n, sum)));
       within = rest.within;
       ends = λ r h. elim h [
         | inl one ↦ absurd (two one)

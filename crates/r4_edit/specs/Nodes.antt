@@ -1,5 +1,5 @@
 -- Nodes that are filled item by item (docs/layout.md, "Nodes"), and nodes of pointers.
-use Rattle.std.specs.Prelude.{◌≡◌, ℕ, ◌+◌, ◌*◌, ◌^◌, ◌<◌, List, [], ◌∷◌, ◌++◌, length, map, sum_by, true, Some}
+use Rattle.std.specs.Prelude.{◌≡◌, ℕ, ◌+◌, ◌^◌, ◌<◌, List, [], ◌∷◌, ◌++◌, length, map, sum_by, true, Some}
 use Rattle.r4_base.specs.Bytes.{number_bytes}
 use Rattle.r4_base.specs.Cell.{names_block}
 use Rattle.r4_base.specs.Key.{least, rank, top}

@@ -34,6 +34,12 @@ pub(crate) fn fill_pointers(block: &mut Block, level: u8, mkfs_id: u32, cells: &
 {
     let mut node = NodeMut::format(block, level, mkfs_id);
     for (i, cell) in cells.iter().enumerate() {
-        append(&mut node, i as u16, cell.lo(), POINTER, &pointer_body(cell.id()));
+        append(
+            &mut node,
+            i as u16,
+            cell.lo(),
+            POINTER,
+            &pointer_body(cell.id()),
+        );
     }
 }

@@ -1,7 +1,6 @@
-use Rattle.std.proofs.Common.{arith, rules, sym, ap, ◌∙◌, length, subst, List, ℕ}
+use Rattle.std.proofs.Common.{arith, sym, ap, ◌∙◌, length, subst, List, ℕ}
 use Rattle.r4_base.specs.Lending.{written}
 use Rattle.r4_base.specs.Node.{offset_at}
-use Rattle.r4_node40.specs.Laid.{room_of}
 use Rattle.r4_node40.specs.Loan.{bytes_of}
 use Rattle.r4_edit.specs.Nodes.{IsAppended}
 use Rattle.r4_edit.proofs.Appended.{appended, room_small, same_length, went_well}

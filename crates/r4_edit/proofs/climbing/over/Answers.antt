@@ -1,8 +1,8 @@
-use Rattle.std.proofs.Common.{◌≡◌, ◌∙◌, ap}
+use Rattle.std.proofs.Common.{◌∙◌, ap}
 use Rattle.std.specs.Arc.{arc_value}
 use Rattle.r4_cell.specs.Seen.{CellSeen}
 use Rattle.r4_edit.specs.Levels.{step_of}
-use Rattle.r4_edit.proofs.Stepping.{long_new, over_row, over_step}
+use Rattle.r4_edit.proofs.Stepping.{over_row, over_step}
 use Rattle.r4_edit.proofs.climbing.over.Goals as goal
 
 pub share-requires-clause-row : goal.share-requires-clause-row

@@ -1,4 +1,4 @@
-use Rattle.std.proofs.Common.{◌≡◌, ◌∙◌, ◌++◌, ap, sym, map, take, None}
+use Rattle.std.proofs.Common.{◌∙◌, ◌++◌, ap, sym, map, take, None}
 use Rattle.std.specs.Arc.{arc_value}
 use Rattle.r4_edit.specs.Levels.{step_of}
 use Rattle.r4_edit.specs.Steps.{news}

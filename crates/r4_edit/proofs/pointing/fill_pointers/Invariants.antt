@@ -1,4 +1,4 @@
-use Rattle.std.proofs.Common.{◌≡◌, length, map, take}
+use Rattle.std.proofs.Common.{◌≡◌, map, take}
 use Rattle.std.specs.Arc.{arc_value}
 use Rattle.r4_node40.specs.Loan.{bytes_of, with_bytes}
 use Rattle.r4_edit.specs.Nodes.{IsNodeOf, pointer_item}

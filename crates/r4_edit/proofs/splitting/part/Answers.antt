@@ -1,4 +1,4 @@
-use Rattle.std.proofs.Common.{◌≡◌, ◌∙◌, ap, map, refl}
+use Rattle.std.proofs.Common.{ap, map, refl}
 use Rattle.std.specs.Arc.{arc_value}
 use Rattle.r4_edit.proofs.Parting.{lent_parted, lent_row, lent_two}
 use Rattle.r4_edit.proofs.splitting.part.Goals as goal

@@ -1,6 +1,6 @@
-use Rattle.std.proofs.Common.{◌≡◌, ◌∙◌, ◌+◌, ◌<◌, ◌≤◌, ap, sym, subst, arith, length}
+use Rattle.std.proofs.Common.{◌∙◌, ◌+◌, ◌<◌, sym, subst}
 use Rattle.r4_edit.specs.Nodes.{weight}
-use Rattle.r4_edit.specs.Rows.{IsCut, row_items, row_more, row_part}
+use Rattle.r4_edit.specs.Rows.{IsCut, row_part}
 use Rattle.r4_edit.proofs.CutRows.{cut_behind, more_long, not_le}
 use Rattle.r4_edit.proofs.row.Row.beside.Goals as goal
 

@@ -1,5 +1,4 @@
-use Rattle.std.proofs.Common.{◌≡◌, ◌∙◌, ◌/◌, ap, sym, subst, arith, length}
-use Rattle.std.proofs.lemmas.Bool.{ltb-true}
+use Rattle.std.proofs.Common.{◌∙◌, ◌/◌, sym, subst, arith}
 use Rattle.r4_edit.specs.Nodes.{weight}
 use Rattle.r4_edit.specs.Rows.{IsCut, row_items, row_part}
 use Rattle.r4_edit.proofs.CutRows.{cut_half, not_le}

@@ -1,4 +1,4 @@
-use Rattle.std.proofs.Common.{◌≡◌, ◌∙◌, ◌+◌, ◌-◌, drop, arith}
+use Rattle.std.proofs.Common.{◌+◌, ◌-◌, drop, arith}
 use Rattle.r4_edit.specs.Rows.{row_items}
 use Rattle.r4_edit.proofs.Putting.{part_less}
 use Rattle.r4_edit.proofs.row.Row.fill.Goals as goal

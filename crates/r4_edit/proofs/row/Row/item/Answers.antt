@@ -1,4 +1,4 @@
-use Rattle.std.proofs.Common.{◌≡◌, ◌∙◌, ◌+◌, ◌-◌, ◌<◌, ap, sym, refl, arith, length, map}
+use Rattle.std.proofs.Common.{◌∙◌, ◌-◌, ap, refl, arith, length}
 use Rattle.std.specs.Prelude.{option_map, slice_get}
 use Rattle.std.specs.Arc.{arc_value}
 use Rattle.std.proofs.lemmas.Option.{slice_get-map, slice_get_read}
@@ -6,7 +6,7 @@ use Rattle.r4_node40.specs.View.{view_items}
 use Rattle.r4_edit.specs.Nodes.{pointer_item}
 use Rattle.r4_edit.specs.Rows.{row_more}
 use Rattle.r4_edit.proofs.CellNodes.{long_map}
-use Rattle.r4_edit.proofs.RowPlaces.{row_comes, row_high, row_low}
+use Rattle.r4_edit.proofs.RowPlaces.{row_comes, row_high}
 use Rattle.r4_edit.proofs.row.Row.item.Goals as goal
 
 pub returns-in-Some : goal.returns-in-Some

@@ -1,4 +1,4 @@
-use Rattle.std.proofs.Common.{◌≡◌, ◌∙◌, ◌+◌, ◌-◌, ap, sym, subst, arith, length}
+use Rattle.std.proofs.Common.{◌∙◌, ◌-◌, ap, sym, subst, arith, length}
 use Rattle.r4_base.specs.Bytes.{number_bytes}
 use Rattle.r4_base.specs.Node.{items_of}
 use Rattle.r4_base.proofs.Numbers.{length-number_bytes}

@@ -1,6 +1,5 @@
-use Rattle.std.proofs.Common.{◌≡◌, ◌∙◌, ◌+◌, ◌<◌, ap, sym, subst, arith, length, get_or}
-use Rattle.std.specs.Prelude.{IfSome, Some, slice_get}
-use Rattle.r4_base.specs.Node.{Item}
+use Rattle.std.proofs.Common.{◌≡◌, subst, arith}
+use Rattle.std.specs.Prelude.{IfSome}
 use Rattle.r4_edit.specs.Nodes.{weight_of}
 use Rattle.r4_edit.specs.Rows.{row_items}
 use Rattle.r4_edit.proofs.Putting.{item_there, weight_more}
