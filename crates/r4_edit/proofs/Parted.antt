@@ -156,6 +156,7 @@ module _ (c : CellSeen) (ups : List CellSeen) (f g after : Fresh) (items : List 
       two = two;
       units = units;
       keep = up.keep;
+      needed = up.needed;
       root_units = up.root_units;
       counts = all_counts;
       number = all_number;

@@ -226,8 +226,8 @@ row_units items at cells =
     ∙ (ap (λ us. units_in (take (at + 1) items) ++ us) (units_append (map pointer_item cells) (drop (at + 1) items) ∙ ap (λ us. us ++ units_in (drop (at + 1) items)) (pointers_unit cells))
     ∙ (sym (units_append (take (at + 1) items) (drop (at + 1) items)) ∙ ap units_in (sym (both_parts (at + 1) items))))
 
-pub shared_units : (o : CellSeen) (items : List Item) (next : ℕ) (cells : List CellSeen) → 1 ≤ o.level → HasItems o items next cells → units_in items ≡ units_in (items_of o.block) → units_of_cells cells ≡ (node_of o).units
-shared_units o items next cells one has same = units_parts o.level (rank o.lo) (rank o.hi) cells one has.ranges ∙ (ap units_in has.items_are ∙ (same ∙ sym (own_units o one)))
+pub shared_units : (o : CellSeen) (its : List Item) (next : ℕ) (cells : List CellSeen) → 1 ≤ o.level → HasItems o its next cells → units_in its ≡ units_in (items_of o.block) → units_of_cells cells ≡ (node_of o).units
+shared_units o its next cells one has same = units_parts o.level (rank o.lo) (rank o.hi) cells one has.ranges ∙ (ap units_in has.items_are ∙ (same ∙ sym (own_units o one)))
 
 -- ---- as the code has it: the parent was lent, and a key is the cell's
 

@@ -65,6 +65,7 @@ ends_alone s ups f were are room one steps = record {
   more = [];
   steps = steps;
   climbs = tt;
+  needed = tt;
   olds_are = refl;
   sound = λ c member. absurd (none c member);
   keep = λ u member. absurd (none u member);
@@ -109,6 +110,7 @@ module _ (s : Step) (f : Fresh) (can : CanClimb s [] f) (two : length s.new ≢ 
     more = [];
     steps = steps;
     climbs = tt;
+    needed = tt;
     olds_are = refl;
     sound = λ d member. absurd (none d member);
     keep = λ u member. absurd (none u member);
@@ -211,6 +213,7 @@ module _ (s : Step) (parent : CellSeen) (ups : List CellSeen) (f : Fresh) (can :
       more = u ∷ rest.more;
       steps = rest.steps ∙ append_assoc were (s ∷ []) (u ∷ rest.more);
       climbs = (step.step, rest.climbs);
+      needed = (two, (λ room. step.one (subst (λ (c : CellSeen). weight (items_of c.block) + 46 * length (drop 1 s.new) ≤ 4068) step.old room)), rest.needed);
       olds_are = (λ i. step.old i ∷ rest.olds_are i);
       sound = λ c member. elim (Contains-append_cases u.new (news rest.more None) c member) [
         | inl mine ↦ step.sound c mine

@@ -1,5 +1,5 @@
 -- A change that climbs a path, level by level (docs/volume.md, "Edits").
-use Rattle.std.specs.Prelude.{◌≡◌, ◌⊎◌, ℕ, suc, ◌+◌, ◌*◌, ◌^◌, ◌<◌, ◌≤◌, List, [], ◌∷◌, ◌++◌, All, Contains, drop, length, reverse, take, Option, None, Some}
+use Rattle.std.specs.Prelude.{◌≡◌, ◌≢◌, ◌⊎◌, ℕ, suc, ◌+◌, ◌*◌, ◌^◌, ◌<◌, ◌≤◌, List, [], ◌∷◌, ◌++◌, All, Contains, drop, length, reverse, take, Option, None, Some}
 use Rattle.std.specs.Arc.{arc_value}
 use Rattle.r4_base.specs.Key.{least, rank, top}
 use Rattle.r4_base.specs.Node.{items_of}
@@ -24,11 +24,19 @@ abbrev pub units_of_cells : List CellSeen → List (ℕ × Value)
 units_of_cells [] = []
 units_of_cells (c ∷ cells) = (node_of c).units ++ units_of_cells cells
 
--- The new cells are one or two, with the old one's own units in their order. Above level 2, of two each has items of 1024 bytes or more.
+-- The new cells are one or two, with the old one's own units in their order. Above level 2, of two each has items of 1024
+-- bytes or more.
 pub record Keeps (s : Step) : Type 0 where
   pub few : length s.new ≤ 2
   pub units : units_of_cells s.new ≡ (node_of s.old).units
   pub filled : 3 ≤ s.old.level → length s.new ≡ 2 → AreFilled s.new
+
+-- Over a step there is another one only where several cells came. The cell of that one is parted only where it has no room for
+-- pointers to them.
+abbrev pub AreNeeded : List Step → Type 0
+AreNeeded [] = Unit {0}
+AreNeeded (s ∷ []) = Unit {0}
+AreNeeded (s ∷ (u ∷ us)) = (length s.new ≢ 1) × (weight (items_of u.old.block) + 46 * length (drop 1 s.new) ≤ 4068 → length u.new ≡ 1) × AreNeeded (u ∷ us)
 
 -- The parent names the old cell, and may name the few new cells in its place.
 pub record IsUnder (b : Step) (parent : CellSeen) : Type 0 where
@@ -41,7 +49,8 @@ pub record IsUnder (b : Step) (parent : CellSeen) : Type 0 where
   pub able : All (λ c. IsPointable c.id) (drop 1 b.new)
   pub few : length b.new ≤ 45
 
--- A step over another one: the cells in the place of the parent, with numbers that were taken. There is one where the new pointers fit into
+-- A step over another one: the cells in the place of the parent, with numbers that were taken. There is one where the new
+-- pointers fit into
 -- the parent, and else there are two.
 pub record IsStepOver (b : Step) (parent : CellSeen) (before after : Fresh) (s : Step) : Type 0 where
   pub old : s.old ≡ parent
@@ -60,7 +69,8 @@ abbrev pub Leads : CellSeen → List CellSeen → Type 0
 Leads b [] = Unit {0}
 Leads b (c ∷ cells) = Contains (node_of c).names (name_of b) × (c.level ≡ suc b.level) × (rank c.lo < rank c.hi) × Leads c cells
 
--- So many cells come beside the one that has this one's name. The next one has room for pointers to them, or is parted in two; where there is
+-- So many cells come beside the one that has this one's name. The next one has room for pointers to them, or is parted in two;
+-- where there is
 -- none, the cell is a root below level 8.
 abbrev pub Suffices : (come : ℕ) → CellSeen → List CellSeen → Type 0
 Suffices come c [] = (rank c.lo ≡ least) × (rank c.hi ≡ top) × (c.level < 8) × IsPointable c.id
@@ -89,6 +99,7 @@ pub record Climbed (s : Step) (ups : List CellSeen) (before after : Fresh) (were
   pub more : List Step
   pub steps : are ≡ were ++ s ∷ more
   pub climbs : Climbs (Some s) more
+  pub needed : AreNeeded (s ∷ more)
   pub olds_are : olds more ≡ take (length more) ups
   pub sound : (c : CellSeen) → Contains (news more None) c → IsSound c
   pub keep : (u : Step) → Contains more u → Keeps u
@@ -107,7 +118,8 @@ pub record HasLevels (steps : List Step) (over : Option CellSeen) (c : Change) :
 
 -- ---- a node parted in two
 
--- The cell has two items or more, and is the lowest of a path of this part of a tree, with the cells above it that a new pointer may ask for.
+-- The cell has two items or more, and is the lowest of a path of this part of a tree, with the cells above it that a new
+-- pointer may ask for.
 pub record IsPartedIn (t : Store Value) (r : Root) (c : CellSeen) (ups : List CellSeen) (fresh : Fresh) : Type 0 where
   pub path : IsPathIn t r (c ∷ ups) fresh
   pub enough : IsLongEnough r 1 c ups
@@ -124,6 +136,7 @@ pub record Parts (c : CellSeen) (ups : List CellSeen) (before after : Fresh) (ch
   pub two : length lowest.new ≡ 2
   pub units : units_of_cells lowest.new ≡ (node_of c).units
   pub keep : (u : Step) → Contains more u → Keeps u
+  pub needed : AreNeeded (lowest ∷ more)
   pub root_units : (d : CellSeen) → over ≡ Some d → (node_of d).units ≡ []
   pub counts : CountUp before.next (fresh_ids (lowest ∷ more) over)
   pub number : after ≡ record before { next = before.next + length (fresh_ids (lowest ∷ more) over) }

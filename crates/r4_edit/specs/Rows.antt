@@ -47,7 +47,8 @@ pub record IsNarrow (w : Row) : Type 0 where
   pub few : length (row_more w) ≤ 44
   pub alike : 3 ≤ row_level w → All (λ x. weight_of x ≡ 46) (row_items w)
 
--- The items may be parted there: either part fits into a node, and above level 2 neither is small where they do not fit into one.
+-- The items may be parted there: either part fits into a node, and above level 2 neither is small where they do not fit into
+-- one.
 pub record IsCut (w : Row) (cut : ℕ) : Type 0 where
   pub some : 1 ≤ cut
   pub below : cut < length (row_items w)
