@@ -50,8 +50,7 @@ pub record IsUnder (b : Step) (parent : CellSeen) : Type 0 where
   pub few : length b.new ≤ 45
 
 -- A step over another one: the cells in the place of the parent, with numbers that were taken. There is one where the new
--- pointers fit into
--- the parent, and else there are two.
+-- pointers fit into the parent, and else there are two.
 pub record IsStepOver (b : Step) (parent : CellSeen) (before after : Fresh) (s : Step) : Type 0 where
   pub old : s.old ≡ parent
   pub step : IsStep (Some b) s
@@ -70,8 +69,7 @@ Leads b [] = Unit {0}
 Leads b (c ∷ cells) = Contains (node_of c).names (name_of b) × (c.level ≡ suc b.level) × (rank c.lo < rank c.hi) × Leads c cells
 
 -- So many cells come beside the one that has this one's name. The next one has room for pointers to them, or is parted in two;
--- where there is
--- none, the cell is a root below level 8.
+-- where there is none, the cell is a root below level 8.
 abbrev pub Suffices : (come : ℕ) → CellSeen → List CellSeen → Type 0
 Suffices come c [] = (rank c.lo ≡ least) × (rank c.hi ≡ top) × (c.level < 8) × IsPointable c.id
 Suffices come c (d ∷ cells) = (weight (items_of d.block) + 46 * come ≤ 4068) ⊎ Suffices 1 d cells
