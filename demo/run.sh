@@ -38,6 +38,9 @@ does mkfs volume.img "made 64 blocks 40 free"
 blocks volume.img 16 1
 echo "Block 16, the master superblock, begins with: $(head -c 8 "$work/part")"
 echo
+echo "Its listing is the root directory alone."
+does list volume.img "d 0755 2 0 0 0 /"
+echo
 echo "Its log holds nothing, and nothing is written."
 cp -- "$work/volume.img" "$work/before.img"
 does replay volume.img "replayed 0"

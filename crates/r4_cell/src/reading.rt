@@ -142,7 +142,8 @@ pub fn read_cell(
     }
 }
 
-/// The cell that a block made in memory is: it may stand there at its level and range. Nothing is looked at.
+/// The cell that a block made in memory is: it may stand there at its level and range, as do the items of any cell. Nothing
+/// is looked at.
 pub fn new_cell(
     alloc: Global,
     id: NodeId,
@@ -151,7 +152,7 @@ pub fn new_cell(
     hi: Key,
     block: Block,
 ) -> Result<Arc<Cell>, Memory>
-    requires { cell_fault true (2 ^ 63) level (rank lo) (rank hi) block ≡ None }
+    requires { cell_fault true (2 ^ 64) level (rank lo) (rank hi) block ≡ None }
     ensures { IfOk result (λ c. arc_value c ≡ record { id = id.0; level = level; lo = lo; hi = hi; block = block }) }
 {
     match Arc::new(

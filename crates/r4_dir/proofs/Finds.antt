@@ -1,6 +1,6 @@
 -- What is found at a key of what was seen.
-use Rattle.std.proofs.Common.{◌≡◌, ◌≢◌, ◌<◌, ◌≤◌, ◌+◌, ℕ, Bool, true, false, cond, List, [], ◌∷◌, ◌++◌, refl, sym, ◌∙◌, ap, subst, arith, is_lt}
-use Rattle.std.specs.Prelude.{◌==◌, ◌&&◌, Option, Some, None, T}
+use Rattle.std.proofs.Common.{◌≡◌, ◌≢◌, ◌+◌, ℕ, Bool, true, false, cond, List, [], ◌∷◌, ◌++◌, refl, sym, ◌∙◌, ap, subst, arith}
+use Rattle.std.specs.Prelude.{◌==◌, Option, Some, None}
 use Rattle.std.specs.List.{flat_map}
 use Rattle.std.specs.FinMap.{find, is_sorted}
 use Rattle.std.specs.FinMap.Entries.{below_all}
@@ -13,13 +13,12 @@ use Rattle.r4_content.specs.Held.{part_pairs, run_pairs}
 use Rattle.r4_content.specs.Objects.{byte_pairs}
 use Rattle.r4_content.specs.Seen.{Rises}
 use Rattle.r4_content.specs.Walk.{attr_in}
-use Rattle.r4_content.specs.Ways.{Named, entry_in}
+use Rattle.r4_content.specs.Ways.{entry_in}
 use Rattle.r4_content.specs.declared.seen.SeenPart.{SeenPart}
 use Rattle.r4_content.specs.declared.seen.SeenPart.TheVariants.{One, Run}
-use Rattle.r4_base.specs.declared.items.Attr.{Attr}
 use Rattle.r4_dir.specs.Finding.{IsNoneOrByte, one_at}
 use Rattle.std.specs.Cmp.{unsigned_tied}
-use Rattle.std.proofs.lemmas.Bool.{eqb-true, ne_eqb}
+use Rattle.std.proofs.lemmas.Bool.{ne_eqb}
 use Rattle.std.proofs.lemmas.Bool.Decides.{nat_tests}
 use Rattle.r4_content.proofs.Counting.{first_holds, none_below, second_holds}
 

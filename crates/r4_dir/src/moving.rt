@@ -131,12 +131,7 @@ fn with_parents(changes: Changes, ends: &Ends) -> Result<Changes, Memory>
 }
 
 // The entry leaves one directory and comes to the other, too.
-fn with_move(
-    changes: Changes,
-    ends: &Ends,
-    name: &Name,
-    new_name: &Name,
-) -> Result<Changes, Memory>
+fn with_move(changes: Changes, ends: &Ends, name: &Name, new_name: &Name) -> Result<Changes, Memory>
     requires key { ends.now.key ≡ key_of_name ends.now.dir.target.oid.0 name.now }
     requires new_key { ends.now.new_key ≡ key_of_name ends.now.new_dir.target.oid.0 new_name.now }
     requires small { IsSmall ends.now.dir × IsSmall ends.now.new_dir }
@@ -243,12 +238,7 @@ fn plan_move(
 }
 
 /// What `rename` changes.
-pub fn plan_rename(
-    alloc: Global,
-    from: &[Name],
-    to: &[Name],
-    seen: &Seen,
-) -> Result<Edits, Memory>
+pub fn plan_rename(alloc: Global, from: &[Name], to: &[Name], seen: &Seen) -> Result<Edits, Memory>
     requires { Rises (pairs_of seen.now) }
     ensures { IfOk result (λ e. ending_of e ≡ ending (named from.now (named to.now (rename from.now to.now))) (of_seen (pairs_of seen.now))) }
 {
@@ -259,13 +249,7 @@ pub fn plan_rename(
         return Ok(answer(alloc, Reply::Loop));
     }
     match ends_of(alloc, seen, from, to)? {
-        Ok(ends) => plan_move(
-            alloc,
-            seen,
-            &ends,
-            &from[from.len() - 1],
-            &to[to.len() - 1],
-        ),
+        Ok(ends) => plan_move(alloc, seen, &ends, &from[from.len() - 1], &to[to.len() - 1]),
         Err(reply) => Ok(answer(alloc, reply)),
     }
 }

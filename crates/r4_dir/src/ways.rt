@@ -198,7 +198,11 @@ fn taken(entry: &SeenEntry<'_>, name: &Name) -> Result<Reply, Memory>
 
 // The place above the last name of a path; or the reply where there is none.
 #[tactic(auto, unfolding(r4_content::specs::Ways::to_parent))]
-pub(crate) fn parent_of(alloc: Global, seen: &Seen, path: &[Name]) -> Result<Result<Place, Reply>, Memory>
+pub(crate) fn parent_of(
+    alloc: Global,
+    seen: &Seen,
+    path: &[Name],
+) -> Result<Result<Place, Reply>, Memory>
     requires rises { Rises (pairs_of seen.now) }
     requires legal { AreNames path.now }
     requires some { 0 < length path.now }

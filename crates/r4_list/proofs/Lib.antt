@@ -35,3 +35,4 @@ pub mod BelowSteps
 pub mod BelowBegins
 pub mod Listings
 pub mod ListingText
+pub mod Refusals

@@ -123,7 +123,7 @@ all_images (x ∷ image) whole =
     let rest = all_images image (λ b lt. whole (suc b) (omega (arith, lt))) in
     rw (first, rest) refl
 
-tells_image : (n : ℕ) (image : Image) → IsImage n image → is_image n image ≡ true
+pub tells_image : (n : ℕ) (image : Image) → IsImage n image → is_image n image ≡ true
 tells_image n image is =
     let size : (length image == n) ≡ true = eq-eqb _ _ is.blocks in
     let blocks = is.blocks in
@@ -132,23 +132,20 @@ tells_image n image is =
 
 -- ---- a fresh pool over a device, and what is answered where printing ended
 
+pub settled_is : (d : State) (homes : BTreeMap ℕ ℕ) → is_image d.blocks d.seen ≡ true → (i : ℕ) → settled_block d homes i ≡ Some (block_at d.seen (home_in homes i))
+settled_is d homes whole i = rw (whole) refl
+
 pub fresh_over : {n : ℕ} {image : Image} {m : Content} (c : HasContent n image m) (d : State) (homes : BTreeMap ℕ ℕ) (blocks : ℕ) (kept : BTreeMap ℕ Shared) (root : Root) → TellsReads d → n ≡ d.blocks → IsSettledBy d homes image
     → IsLawfulSuper d.blocks c.super → blocks ≡ c.super.block_count → root.id.0 ≡ c.super.root_block → root.height ≡ c.super.tree_height → ((i : ℕ) → kept_in kept i ≡ None) → IsOver c root (nodes_state d homes blocks kept)
 fresh_over {n} {image} {m} c d homes blocks kept root tells same settled lawful count at high empty = record {
   blocks = count;
   root_is = cc (at, high);
-  meant = λ i node is.
-      let below = (c.places i node is).0 in
-      let within = lawful.blocks.2 in
-      settled_is d homes (tells_image d.blocks d.seen tells) i ∙ ap (λ (b : List ℕ). Some b) (sym (settled i (omega (arith, below, within))));
+  meant = λ i node is. settled_is d homes (tells_image d.blocks d.seen tells) i ∙ ap (λ (b : List ℕ). Some b) (sym (settled i));
   kept = λ i k is. absurd (none_kept (empty i) is);
 }
   where
     none_kept : {k : CellSeen} {o : Option CellSeen} → o ≡ None → o ≡ Some k → ⊥
     none_kept {k} {o} a b = cc
-
-    settled_is : (d : State) (homes : BTreeMap ℕ ℕ) → is_image d.blocks d.seen ≡ true → (i : ℕ) → settled_block d homes i ≡ Some (block_at d.seen (home_in homes i))
-    settled_is d homes whole i = rw (whole) refl
 
 ok_err : {T : Type 0} (v : T) (e : ListFault) → Ok v ≡ Err e → ⊥
 ok_err {T} v e h = cc

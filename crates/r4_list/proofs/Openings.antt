@@ -53,7 +53,7 @@ bitmap_within blocks (suc n) more lt = grind (arith, nat_tests, more, lt)
 pub are_bitmaps : (old : State) (homes : BTreeMap ℕ ℕ) (blocks : ℕ) (image : Image) (bitmaps : List (List ℕ)) → 64 ≤ blocks → blocks ≤ old.blocks → TellsReads old → IsSettledBy old homes image → AreRead old homes (bitmap_count blocks) bitmaps → AreBitmapsOf blocks image bitmaps
 are_bitmaps old homes blocks image bitmaps more within tells settled r = record {
   count = r.count_is;
-  each = λ n lt. let low = bitmap_within blocks n more lt in r.each tells n lt ∙ sym (settled (bitmap_block n) (omega (arith, low, within)));
+  each = λ n lt. r.each tells n lt ∙ sym (settled (bitmap_block n));
 }
 
 pub layout_is : (n k : ℕ) (image : Image) (m : Master) (s : Super40) → n ≡ k → master_of (block_at image 16) ≡ Ok m → super_of n (block_at image 17) ≡ Ok s → layout_misfit k image ≡ bitmaps_misfit (bitmap_fault s.block_count s.free_blocks image)
@@ -64,7 +64,7 @@ layout_is n k image m s same master format =
 -- a block that was read from its home is that of the settled image
 pub read_is : {X : Type 0} (old : State) (homes : BTreeMap ℕ ℕ) (image : Image) (b h : ℕ) (got bytes : List ℕ) (f : List ℕ → X) (r x : X) → IsSettledBy old homes image → b < old.blocks → got ≡ block_at old.seen h → h ≡ home_in homes b → bytes ≡ got → r ≡ f bytes → r ≡ x → f (block_at image b) ≡ x
 read_is {X} old homes image b h got bytes f r x settled lt read home same is end =
-    ap f (settled b lt ∙ sym (ap (block_at old.seen) home) ∙ sym read ∙ sym same) ∙ sym is ∙ end
+    ap f (settled b ∙ sym (ap (block_at old.seen) home) ∙ sym read ∙ sym same) ∙ sym is ∙ end
 
 -- what is found of the bitmaps that were read is so of the settled image
 pub bitmaps_found : (old : State) (homes : BTreeMap ℕ ℕ) (image : Image) (s : Super40) (bitmaps seen : List (List ℕ)) (o r : Option ℕ) → 64 ≤ s.block_count → s.block_count ≤ old.blocks → TellsReads old → IsSettledBy old homes image

@@ -1,16 +1,25 @@
 -- What a listing answers (docs/program.md, "Listing").
-use Rattle.std.specs.Prelude.{◌≡◌, ◌⊎◌, ◌↔◌, ℕ, ◌<◌, ◌≤◌, List, ◌++◌, Some, None, Result, Err, IfOk, IfErr, OnOk}
+use Rattle.std.specs.Prelude.{◌≡◌, ◌⊎◌, ℕ, ◌<◌, List, ◌++◌, false, Contains, Some, None, Result, Ok, Err, IfOk, IfErr, OnOk}
+use Rattle.std.specs.BTreeMap.{BTreeMap}
+use Rattle.r4_base.specs.Cell.{cell_fault}
 use Rattle.r4_base.specs.Chain.{Settles}
-use Rattle.r4_base.specs.Image.{Image, IsLawful}
+use Rattle.r4_base.specs.Image.{Image, IsLawful, block_at}
+use Rattle.r4_base.specs.Key.{least, top}
+use Rattle.r4_base.specs.Layout.{super_of}
 use Rattle.r4_base.specs.Refusal.{IsRefused}
+use Rattle.r4_base.specs.Tree.{Name}
 use Rattle.r4_base.specs.Value.{Content}
 use Rattle.r4_base.specs.Volume.{HasVolume}
+use Rattle.r4_base.specs.declared.items.CellFault.{CellFault}
+use Rattle.r4_base.specs.declared.superblock.Super40.{Super40}
 use Rattle.r4_outside.specs.Device.{State, TellsReads, Rose}
 use Rattle.r4_outside.specs.Sink.{SinkState, AppendsPart}
+use Rattle.r4_cell.specs.Seen.{CellSeen, IsReadFrom, node_of}
 use Rattle.r4_cell.specs.declared.refused.ImageFault.TheVariants.{Layout, Cell}
+use Rattle.r4_search.specs.Pool.{place_fault}
 use Rattle.r4_search.specs.declared.pool.FetchFault.TheVariants.{Read, Damaged, Memory as NoRoom}
 use Rattle.r4_list.specs.Listing.{IsListing}
-use Rattle.r4_list.specs.Opening.{layout_misfit, misfit}
+use Rattle.r4_list.specs.Opening.{IsSettledBy, layout_misfit, misfit}
 use Rattle.r4_list.specs.Printing.{Prints}
 use Rattle.r4_replay.specs.declared.fault.ReplayFault.{ReplayFault}
 use Rattle.r4_replay.specs.declared.fault.ReplayFault.TheVariants.{Log as LogRefused, Device as DeviceFailed, Size as BadSize, Memory as NoRoomForLog}
@@ -47,25 +56,40 @@ pub record IsOpened (d : State) : Type 0 where
   pub lawful : IsLawful d.blocks
   pub opened : TellsReads d → (image : Image) × Settles d.blocks d.seen image × (layout_misfit d.blocks image ≡ None)
 
--- why printing stopped on a device; that a node is refused is not said of the image yet
-abbrev pub IsPrintCause : State → SinkState → Stop → State → SinkState → Type 0
-IsPrintCause d k (Fetch (Read at faults)) d' k' = Rose d.faults d'.faults
-IsPrintCause d k (Fetch (Damaged at fault)) d' k' = Unit {0}
-IsPrintCause d k (Fetch NoRoom) d' k' = Unit {0}
-IsPrintCause d k SinkFailed d' k' = Rose k.faults k'.faults
-IsPrintCause d k NoMemory d' k' = Unit {0}
+-- the root as the superblock names it
+abbrev pub root_name_of : Super40 → Name
+root_name_of s = record { id = s.root_block; level = s.tree_height; lo = least; hi = top }
+
+-- A block is refused at the level and range at which it is named: it has the fault there, or it was taken at another level or range
+-- before. The root is named by the superblock, and every other one by a node of the image.
+pub record IsNodeRefused (s : Super40) (image : Image) (at : ℕ) (fault : CellFault) : Type 0 where
+  pub name : Name
+  pub block : at ≡ name.id
+  pub named : (name ≡ root_name_of s) ⊎ ((c : CellSeen) × IsReadFrom s.block_count image c × Contains (node_of c).names name)
+  pub why : (cell_fault false s.block_count name.level name.lo name.hi (block_at image at) ≡ Some fault)
+      ⊎ ((c : CellSeen) × (c.id ≡ at) × IsReadFrom s.block_count image c × (place_fault name c ≡ Some fault))
+
+-- why printing stopped on a device of these homes and this superblock
+abbrev pub IsPrintCause : BTreeMap ℕ ℕ → Super40 → State → SinkState → Stop → State → SinkState → Type 0
+IsPrintCause homes s d k (Fetch (Read at faults)) d' k' = Rose d.faults d'.faults
+IsPrintCause homes s d k (Fetch (Damaged at fault)) d' k' = TellsReads d → (image : Image) → IsSettledBy d homes image → IsNodeRefused s image at.0 fault
+IsPrintCause homes s d k (Fetch NoRoom) d' k' = Unit {0}
+IsPrintCause homes s d k SinkFailed d' k' = Rose k.faults k'.faults
+IsPrintCause homes s d k NoMemory d' k' = Unit {0}
 
 -- what is answered where printing stopped on a device
-abbrev pub IsStopFault : State → SinkState → ListFault → State → SinkState → Type 0
-IsStopFault d k e d' k' = (stop : Stop) × IsPrintCause d k stop d' k' × (e ≡ stop_fault_of stop d'.clock d'.faults k'.faults)
+abbrev pub IsStopFault : BTreeMap ℕ ℕ → Super40 → State → SinkState → ListFault → State → SinkState → Type 0
+IsStopFault homes s d k e d' k' = (stop : Stop) × IsPrintCause homes s d k stop d' k' × (e ≡ stop_fault_of stop d'.clock d'.faults k'.faults)
 
--- The log is refused so, or the superblocks and the bitmaps of the image that it settles to; or the device or the sink failed.
+-- The log is refused so, or the superblocks and the bitmaps of the image that it settles to, and then nothing is printed; or a node there is;
+-- or the device or the sink failed.
 abbrev pub IsListFault : State → SinkState → ListFault → State → SinkState → Type 0
-IsListFault d k (Log block fault) d' k' = IsLawful d.blocks × (TellsReads d → IsRefused d.blocks d.seen (record { block = block.0; fault = fault }))
-IsListFault d k (Refused block (Layout f)) d' k' = IsLawful d.blocks × (TellsReads d → (image : Image) → Settles d.blocks d.seen image → layout_misfit d.blocks image ≡ misfit block.0 f)
-IsListFault d k (Refused block (Cell f)) d' k' = IsOpened d
+IsListFault d k (Log block fault) d' k' = IsLawful d.blocks × (TellsReads d → IsRefused d.blocks d.seen (record { block = block.0; fault = fault })) × (k' ≡ k)
+IsListFault d k (Refused block (Layout f)) d' k' = IsLawful d.blocks × (TellsReads d → (image : Image) → Settles d.blocks d.seen image → layout_misfit d.blocks image ≡ misfit block.0 f) × (k' ≡ k)
+IsListFault d k (Refused block (Cell f)) d' k' = IsOpened d × (TellsReads d → (image : Image) → Settles d.blocks d.seen image
+    → (s : Super40) × (super_of d.blocks (block_at image 17) ≡ Ok s) × IsNodeRefused s image block.0 f)
 IsListFault d k (Device clock faults) d' k' = Rose d.faults d'.faults × (clock ≡ d'.clock) × (faults ≡ d'.faults)
-IsListFault d k (Size blocks) d' k' = (blocks ≡ d.blocks) × ((d.blocks < 64) ⊎ (1048576 < d.blocks))
+IsListFault d k (Size blocks) d' k' = (blocks ≡ d.blocks) × ((d.blocks < 64) ⊎ (1048576 < d.blocks)) × (k' ≡ k)
 IsListFault d k (Sink faults) d' k' = IsOpened d × Rose k.faults k'.faults × (faults ≡ k'.faults)
 IsListFault d k Memory d' k' = IsLawful d.blocks
 

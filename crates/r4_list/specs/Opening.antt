@@ -37,9 +37,9 @@ master_misfit n image (Ok m) = format_misfit image (super_of n (block_at image 1
 abbrev pub layout_misfit : (n : ℕ) → Image → Option Misfit
 layout_misfit n image = master_misfit n image (master_of (block_at image 16))
 
--- the image has each block from its home
+-- the image has each block from its home; behind the last block neither has any
 abbrev pub IsSettledBy : State → BTreeMap ℕ ℕ → Image → Type 0
-IsSettledBy d homes image = (b : ℕ) → b < d.blocks → block_at image b ≡ block_at d.seen (home_in homes b)
+IsSettledBy d homes image = (b : ℕ) → block_at image b ≡ block_at d.seen (home_in homes b)
 
 -- What opening answers of the image that a device settles to.
 abbrev pub Opens : State → BTreeMap ℕ ℕ → Result Super40 Unopened → State → Type 0

@@ -88,7 +88,7 @@ fn print_settled<E: Device, K: Sink>(
     requires homes { StaysWithin (E.state dev).blocks log }
     ensures device { LeavesDevice (E.state dev) (E.state result.dev) }
     ensures prints { Prints (K.state out.old) (K.state out.new) }
-    ensures cause { IfErr result.printed (λ e. IsStopFault (E.state dev) (K.state out.old) e (E.state result.dev) (K.state out.new)) }
+    ensures cause { IfErr result.printed (λ e. IsStopFault log.homes found.now (E.state dev) (K.state out.old) e (E.state result.dev) (K.state out.new)) }
     ensures text { (n : ℕ) (image : Image) (m : Content) (c : HasContent n image m) → TellsReads (E.state dev) → n ≡ (E.state dev).blocks → IsSettledBy (E.state dev) log.homes image → c.super ≡ found.now
         → (text : List ℕ) → IsListing m path.now text → PrintsText text (K.state out.old) result.printed (K.state out.new) }
 {

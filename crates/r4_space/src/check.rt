@@ -65,7 +65,7 @@ fn count_bit(block: &[u8], i: u64) -> u64
 }
 
 /// The number of 0 bits of all bitmaps.
-fn count_all_free(bitmaps: &[Block]) -> u64
+pub fn count_all_free(bitmaps: &[Block]) -> u64
     requires { length bitmaps.now ≤ 64 }
     ensures { result ≡ free_bits bitmaps.now }
 {

@@ -12,7 +12,7 @@ mod taken;
 mod things;
 mod words;
 
-pub use check::find_fault;
+pub use check::{count_all_free, find_fault};
 pub use cost::price;
 pub use laws::{bitmaps_law, settled_law, used_law};
 pub use space_map::SpaceMap;

@@ -1,3 +1,4 @@
 mod Sums
 mod EntryTests
 mod CommitTests
+mod PlanTests

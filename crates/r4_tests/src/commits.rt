@@ -19,8 +19,8 @@ use std::sync::{Arc, Wait};
 use std::test::Fail;
 use std::thread::Threads;
 
-// A block of this byte.
-fn filled(alloc: Global, byte: u8) -> Result<Block, Fail> {
+/// A block of this byte.
+pub fn filled(alloc: Global, byte: u8) -> Result<Block, Fail> {
     let mut block = Block::zeroed(alloc)?;
     block.bytes_mut().fill(byte);
     Ok(block)
@@ -136,8 +136,10 @@ fn make_steps<X: Abort>(
     Ok(())
 }
 
-// A block of a device.
-fn read<D: Device>(alloc: Global, dev: &mut D, at: u64) -> Result<Block, Fail> {
+/// A block of a device.
+pub fn read<D: Device>(alloc: Global, dev: &mut D, at: u64) -> Result<Block, Fail>
+    ensures { Goes (D.state dev.old) (D.state dev.new) }
+{
     let mut block = Block::zeroed(alloc)?;
     let Ok(count) = dev.blocks() else {
         return Err(Fail::from("blocks are not counted"));
@@ -148,8 +150,8 @@ fn read<D: Device>(alloc: Global, dev: &mut D, at: u64) -> Result<Block, Fail> {
     Ok(block)
 }
 
-// The number of eight bytes at a byte, or 0 where there is none.
-fn number(block: &Block, at: usize) -> u64 {
+/// The number of eight bytes at a byte, or 0 where there is none.
+pub fn number(block: &Block, at: usize) -> u64 {
     let bytes = block.bytes();
     if at <= 4088 { get64(bytes, at) } else { 0 }
 }

@@ -16,6 +16,8 @@ mod entries;
 #[cfg(test)]
 mod items;
 #[cfg(test)]
+mod listed;
+#[cfg(test)]
 mod listings;
 #[cfg(test)]
 mod logs;
@@ -26,6 +28,8 @@ mod patches;
 #[cfg(test)]
 mod places;
 #[cfg(test)]
+mod plans;
+#[cfg(test)]
 mod replays;
 #[cfg(test)]
 mod same;
@@ -35,5 +39,7 @@ mod spaces;
 mod tables;
 #[cfg(test)]
 mod tests;
+#[cfg(test)]
+mod trees;
 #[cfg(test)]
 mod volumes;

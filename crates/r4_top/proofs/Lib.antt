@@ -1,3 +1,4 @@
 mod Texts
 mod Telling
 pub mod MkfsTold
+pub mod Listed

@@ -1,9 +1,10 @@
 -- Writes one after the other.
-use Rattle.std.proofs.Common.{◌≡◌, inl, inr, ℕ, List, ◌++◌, subst, Result, Ok, Err, IsErr}
+use Rattle.std.proofs.Common.{◌≡◌, inl, inr, ℕ, List, ◌++◌, ap, subst, Result, Ok, Err, IsErr}
 use Rattle.r4_outside.specs.Sink.{SinkState, Appends}
 use Rattle.r4_outside.proofs.Texts.{appends_both as both, appends_stopped as stopped}
 use Rattle.r4_outside.specs.declared.device.Failed.{Failed}
 use Rattle.r4_top.specs.Answers.{Prints}
+use Rattle.r4_top.specs.Lines.{image_line}
 
 -- what a write gives back
 abbrev pub Written : Type 0
@@ -29,3 +30,7 @@ printed text s t (Err e) f = inr (record { told = f.told; faults = f.faults; cau
 -- the same text
 pub same_text : (a b : List ℕ) (s t : SinkState) (r : Written) → a ≡ b → Adds a s r t → Adds b s r t
 same_text a b s t r is f = subst (λ (l : List ℕ). Adds l s r t) is f
+
+-- an image's line whose words are these
+pub printed_image : (block : ℕ) (what words : List ℕ) (s t : SinkState) (r : Written) → what ≡ words → Adds (image_line block what) s r t → Prints (image_line block words) s t
+printed_image block what words s t r is f = printed (image_line block words) s t r (same_text (image_line block what) (image_line block words) s t r (ap (image_line block) is) f)

@@ -1,23 +1,26 @@
 -- What the words of a command line ask for (docs/program.md, "Words").
-use Rattle.std.specs.Prelude.{ℕ, Bool, false, not, nat_eq, nat_le, ◌&&◌, if◌then◌else◌, List, [], ◌∷◌, codes, bytes_eq, drop, length, Option, Some, None}
+use Rattle.std.specs.Prelude.{ℕ, ◌≤◌, Bool, false, not, nat_eq, nat_le, ◌&&◌, if◌then◌else◌, List, [], ◌∷◌, codes, bytes_eq, drop, length, Option, Some, None}
 use Rattle.std.specs.List.{list_all, starts_with}
 use Rattle.r4_mkfs.specs.Mkfs.{IsLabel}
 use Rattle.r4_top.specs.declared.words.Command.{Command}
-use Rattle.r4_top.specs.declared.words.Command.TheVariants.{Replay, Mkfs}
+use Rattle.r4_top.specs.declared.words.Command.TheVariants.{Replay, Mkfs, List as ListCommand}
 
--- What is asked for; `mkfs` has a label, which is empty where none was given.
+-- What is asked for; `mkfs` has a label, which is empty where none was given, and `list` a path.
 pub data Asked : Type 0 where
   AsksReplay : Asked
   AsksMkfs : (label : List ℕ) → Asked
+  AsksList : (path : List ℕ) → Asked
 
 abbrev pub asked_by : Command → Asked
 asked_by Replay = AsksReplay
 asked_by (Mkfs label) = AsksMkfs label.now
+asked_by (ListCommand path) = AsksList path.now
 
--- a label that `mkfs` takes
-abbrev pub HasLabel : Command → Type 0
-HasLabel Replay = Unit {0}
-HasLabel (Mkfs label) = IsLabel label.now
+-- a command that can be done: `mkfs` has a label that it takes, and the path of `list` is not empty
+abbrev pub CanBeDone : Command → Type 0
+CanBeDone Replay = Unit {0}
+CanBeDone (Mkfs label) = IsLabel label.now
+CanBeDone (ListCommand path) = 1 ≤ length path.now
 
 -- whether a word begins with '-'
 abbrev pub is_option : List ℕ → Bool
@@ -51,6 +54,24 @@ abbrev pub mkfs_of : Option (List ℕ) → Option Asked
 mkfs_of None = None
 mkfs_of (Some label) = Some (AsksMkfs label)
 
+-- A PATH begins with a slash.
+abbrev pub is_path : List ℕ → Bool
+is_path [] = false
+is_path (byte ∷ rest) = nat_eq byte 47
+
+abbrev pub as_path : List ℕ → Option (List ℕ)
+as_path word = if is_path word then Some word else None
+
+-- The words behind the IMAGE of `list`: none, for the path of the slash alone, or a PATH.
+abbrev pub path_of : List (List ℕ) → Option (List ℕ)
+path_of [] = Some (codes "/")
+path_of (word ∷ []) = as_path word
+path_of (word ∷ more ∷ words) = None
+
+abbrev pub list_of : Option (List ℕ) → Option Asked
+list_of None = None
+list_of (Some path) = Some (AsksList path)
+
 -- no word follows the IMAGE
 abbrev pub replay_of : List (List ℕ) → Option Asked
 replay_of [] = Some AsksReplay
@@ -64,4 +85,5 @@ asked_of (name ∷ image ∷ words) =
     if not (is_image image) then None else
     if bytes_eq name (codes "replay") then replay_of words else
     if bytes_eq name (codes "mkfs") then mkfs_of (label_of words) else
+    if bytes_eq name (codes "list") then list_of (path_of words) else
     None

@@ -2,6 +2,7 @@
 #![tactic(auto)]
 
 mod lines;
+mod listing;
 mod making;
 mod replaying;
 mod top;

@@ -2,12 +2,12 @@
 
 ghost use Rattle.std.specs.Prelude.{◌≡◌, ◌++◌, decimal};
 ghost use Rattle.r4_outside.specs.Sink.{Appends};
-ghost use Rattle.r4_top.specs.Lines.{usage_line, device_line, size_line, image_line, made_line, memory_line, replayed_line, word_of};
+ghost use Rattle.r4_top.specs.Lines.{usage_line, device_line, size_line, image_line, made_line, memory_line, replayed_line, cell_word_of, image_word_of, layout_word_of, word_of};
 
 use itoa::Buffer;
-use r4_base::BlockNo;
+use r4_base::{BlockNo, CellFault, LayoutFault, LogFault};
+use r4_cell::ImageFault;
 use r4_outside::{Failed, Sink};
-use r4_replay::LogFault;
 
 /// Writes how the words are to be.
 pub fn write_usage<K: Sink>(out: &mut K) -> Result<(), Failed>
@@ -31,12 +31,12 @@ pub fn write_size<K: Sink>(out: &mut K, blocks: u64) -> Result<(), Failed>
     write_number(out, b"size: ", blocks, b" blocks\n")
 }
 
-/// Writes why an image is refused.
-pub fn write_image<K: Sink>(out: &mut K, block: BlockNo, fault: LogFault) -> Result<(), Failed>
-    ensures { Appends (image_line block.0 fault) (K.state out.old) result (K.state out.new) }
+/// Writes which block of an image is refused, and what is wrong with it.
+pub fn write_image<K: Sink>(out: &mut K, block: BlockNo, what: &str) -> Result<(), Failed>
+    ensures { Appends (image_line block.0 what.now) (K.state out.old) result (K.state out.new) }
 {
     write_number(out, b"image: block ", block.0, b": ")?;
-    out.write(word(fault).as_bytes())?;
+    out.write(what.as_bytes())?;
     out.write(b"\n")
 }
 
@@ -77,8 +77,8 @@ fn write_number<K: Sink>(
     out.write(after)
 }
 
-// The words for a fault.
-fn word(fault: LogFault) -> &'static str
+/// The words for what is wrong with a log.
+pub fn log_word(fault: LogFault) -> &'static str
     ensures { result.now ≡ word_of fault }
 {
     match fault {
@@ -92,5 +92,45 @@ fn word(fault: LogFault) -> &'static str
         LogFault::Pairs => "pairs",
         LogFault::Circle => "circle",
         LogFault::Overlap => "overlap",
+    }
+}
+
+/// The words for what is wrong with an image but for its log.
+pub fn image_word(fault: ImageFault) -> &'static str
+    ensures { result.now ≡ image_word_of fault }
+{
+    match fault {
+        ImageFault::Layout(fault) => layout_word(fault),
+        ImageFault::Cell(fault) => cell_word(fault),
+    }
+}
+
+// The words for what is wrong with superblocks and bitmaps.
+fn layout_word(fault: LayoutFault) -> &'static str
+    ensures { result.now ≡ layout_word_of fault }
+{
+    match fault {
+        LayoutFault::Magic => "magic",
+        LayoutFault::BlockSize => "block size",
+        LayoutFault::Profile => "profile",
+        LayoutFault::Height => "height",
+        LayoutFault::Count => "count",
+        LayoutFault::Bitmap => "bitmap",
+    }
+}
+
+// The words for what is wrong with a cell.
+fn cell_word(fault: CellFault) -> &'static str
+    ensures { result.now ≡ cell_word_of fault }
+{
+    match fault {
+        CellFault::Node(_) => "node",
+        CellFault::Stat(_) => "stat",
+        CellFault::Dir(_) => "dir",
+        CellFault::Extent(_) => "extent",
+        CellFault::Tail => "tail",
+        CellFault::Pointer => "pointer",
+        CellFault::Level => "level",
+        CellFault::Range { .. } => "key range",
     }
 }

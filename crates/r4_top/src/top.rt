@@ -2,11 +2,12 @@
 
 ghost use Rattle.std.specs.Prelude.{◌≡◌, Some, map, string_bytes};
 ghost use Rattle.r4_outside.specs.Device.{Goes, IsQuiet};
-ghost use Rattle.r4_top.specs.Words.{HasLabel, asked_by, asked_of};
+ghost use Rattle.r4_top.specs.Words.{CanBeDone, asked_by, asked_of};
 ghost use Rattle.r4_top.specs.Answers.{Answers, HasMoments, Prints};
 ghost use Rattle.r4_top.specs.Lines.{usage_line};
 
 use crate::lines::write_usage;
+use crate::listing::print_listing;
 use crate::making::make_volume;
 use crate::replaying::replay_image;
 use crate::words::{Command, read_words};
@@ -21,7 +22,7 @@ pub struct Status {
     pub code: u8,
 }
 
-/// Does what the words say, on a device, and prints one line. The words leave out the program's own name.
+/// Does what the words say, on a device, and prints a listing or one line. The words leave out the program's own name.
 pub fn r4_main<D: Device, S: Source, K: Sink, G: Gate, R: Run, X: Threads + Wait + Sync>(
     rt: &X,
     alloc: Global,
@@ -60,7 +61,7 @@ fn refuse_words<K: Sink>(out: &mut K) -> Status
 
 // Does a command.
 fn obey<D: Device, K: Sink>(alloc: Global, command: Command<'_>, dev: &mut D, out: &mut K) -> Status
-    requires { HasLabel command }
+    requires { CanBeDone command }
     ensures goes { Goes (D.state dev.old) (D.state dev.new) }
     ensures answers { Answers (Some (asked_by command.entry)) (D.state dev.old) (K.state out.old) result.code (D.state dev.new) (K.state out.new) }
     ensures any_moment { IsQuiet (D.state dev.old) → HasMoments (Some (asked_by command.entry)) (D.state dev.old) (D.state dev.new) }
@@ -68,5 +69,6 @@ fn obey<D: Device, K: Sink>(alloc: Global, command: Command<'_>, dev: &mut D, ou
     match command {
         Command::Replay => replay_image(alloc, dev, out),
         Command::Mkfs { label } => make_volume(alloc, label, dev, out),
+        Command::List { path } => print_listing(alloc, path, dev, out),
     }
 }

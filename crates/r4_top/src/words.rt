@@ -1,9 +1,9 @@
 //! The words of the command line (docs/program.md, "Words").
 
-ghost use Rattle.std.specs.Prelude.{◌≡◌, map, option_map, string_bytes, IfSome, IsTrue, All, ◌≢◌, not, nat_eq};
+ghost use Rattle.std.specs.Prelude.{◌≡◌, ◌≤◌, length, map, option_map, string_bytes, IfSome, IsTrue, All, ◌≢◌, not, nat_eq};
 ghost use Rattle.std.specs.List.{list_all};
 ghost use Rattle.r4_mkfs.specs.Mkfs.{IsLabel};
-ghost use Rattle.r4_top.specs.Words.{HasLabel, as_label, asked_by, asked_of, is_image as is_image_name, is_label as is_label_word, is_option as is_option_word, label_in, label_of};
+ghost use Rattle.r4_top.specs.Words.{CanBeDone, as_label, as_path, asked_by, asked_of, is_image as is_image_name, is_label as is_label_word, is_option as is_option_word, is_path as is_path_word, label_in, label_of, path_of};
 
 /// What is to be done.
 #[derive(Clone, Copy, Debug)]
@@ -12,12 +12,14 @@ pub enum Command<'a> {
     Replay,
     /// `mkfs`, with a label of at most 16 bytes, which is empty where none was given.
     Mkfs { label: &'a [u8] },
+    /// `list`, with a path that begins with a slash, and is that alone where none was given.
+    List { path: &'a [u8] },
 }
 
 /// The command that the words spell, or none where they are faulty.
 pub fn read_words(words: &[String]) -> Option<Command<'_>>
     ensures asked { option_map asked_by result ≡ asked_of (map string_bytes words.now) }
-    ensures label { IfSome result HasLabel }
+    ensures can { IfSome result CanBeDone }
 {
     let [name, image, options @ ..] = words else {
         return None;
@@ -28,6 +30,7 @@ pub fn read_words(words: &[String]) -> Option<Command<'_>>
     match name.as_str() {
         "replay" if options.is_empty() => Some(Command::Replay),
         "mkfs" => read_label(options).map(|label| Command::Mkfs { label }),
+        "list" => read_path(options).map(|path| Command::List { path }),
         _ => None,
     }
 }
@@ -39,6 +42,38 @@ fn is_image(word: &str) -> bool
     match word.as_bytes().first() {
         None => false,
         Some(&byte) => byte != b'-',
+    }
+}
+
+// The path in the words behind an IMAGE; the slash alone where there are none.
+fn read_path(options: &[String]) -> Option<&[u8]>
+    ensures some { IfSome result (λ path. 1 ≤ length path.now) }
+    ensures found { option_map (λ path. path.now) result ≡ path_of (map string_bytes options.now) }
+{
+    match options {
+        [] => Some(b"/"),
+        [word] => as_path(word.as_str()),
+        _ => None,
+    }
+}
+
+// The word as a path, where it may be one.
+fn as_path(word: &str) -> Option<&[u8]>
+    ensures some { IfSome result (λ path. 1 ≤ length path.now) }
+    ensures found { option_map (λ path. path.now) result ≡ as_path word.now }
+{
+    let path = word.as_bytes();
+    is_path(path).then_some(path)
+}
+
+// Does the word begin with a slash?
+fn is_path(word: &[u8]) -> bool
+    ensures test { result ≡ is_path_word word.now }
+    ensures some { IsTrue result → 1 ≤ length word.now }
+{
+    match word.first() {
+        None => false,
+        Some(&byte) => byte == b'/',
     }
 }
 

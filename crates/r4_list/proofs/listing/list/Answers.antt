@@ -1,6 +1,7 @@
-use Rattle.std.proofs.Common.{ℕ, List, refl, sym, subst, ◌∙◌, arith}
+use Rattle.std.proofs.Common.{◌≡◌, ℕ, List, refl, sym, subst, ◌∙◌, arith, Ok}
 use Rattle.r4_base.specs.Chain.{Settles, chain_pairs}
-use Rattle.r4_base.specs.Image.{put_pairs}
+use Rattle.r4_base.specs.Image.{block_at, put_pairs}
+use Rattle.r4_base.specs.Layout.{super_of}
 use Rattle.r4_base.specs.Value.{Content}
 use Rattle.r4_base.specs.Volume.{HasVolume}
 use Rattle.r4_outside.specs.Device.{TellsReads}
@@ -10,7 +11,7 @@ use Rattle.r4_outside.proofs.Moments.{goes_both}
 use Rattle.r4_search.specs.Pool.{LeavesDevice}
 use Rattle.r4_list.specs.Lists.{Answers, IsListFault, PrintsText}
 use Rattle.r4_list.proofs.Stages.{prints_same}
-use Rattle.r4_list.proofs.Listings.{image_opened, lent_answers, lent_stays, log_answer, log_text, open_answer, open_text, same_super, settled_by, stays_both}
+use Rattle.r4_list.proofs.Listings.{SettlesBy, image_opened, lent_answers, lent_stays, log_answer, log_text, open_answer, open_text, same_super, settled_by, stays_both}
 use Rattle.r4_list.proofs.listing.list.Goals as goal
 
 pub returns-in-Err-clause-answers : goal.returns-in-Err-clause-answers
@@ -59,6 +60,10 @@ returns-clause-answers g c =
     let goes = goes_both _ _ _ read.idles.goes c.blocks-2.ensures.goes in
     let seen = c.blocks-2.ensures.seen ∙ read.idles.seen in
     let later = goes_both _ _ _ goes c.in-Ok-open_image.ensures.device.goes in
+    let by_image : SettlesBy c.in-Ok.log.homes c.in-Ok-open_image.found first at = λ told image settles.
+    let before = settled_by first _ _ goes seen read.reads.0 read.reads.1 image told settles in
+    let super = (c.in-Ok-open_image.ensures.opens (goes.reads.1 told) image before).1 in
+    (later.reads.1 told, settled_by first at _ later (c.in-Ok-open_image.ensures.device.idle.seen ∙ seen) read.reads.0 read.reads.1 image told settles, subst (λ (n : ℕ). super_of n (block_at image 17) ≡ Ok c.in-Ok-open_image.found) goes.blocks super) in
     let text : (m : Content) (text : List ℕ) → TellsReads first → HasVolume first.blocks first.seen m → IsListing m c.args.path.now text → PrintsText text (k c.args.out.now) ended.result.printed (k ended.new.out) = λ m text told v listing.
     let image = put_pairs (chain_pairs v.chain) first.seen in
     let settles : Settles first.blocks first.seen image = record { chain = v.chain; has = v.log; is = refl } in
@@ -67,4 +72,4 @@ returns-clause-answers g c =
     let by = settled_by first at _ later (c.in-Ok-open_image.ensures.device.idle.seen ∙ seen) read.reads.0 read.reads.1 image told settles in
     ended.ensures.text first.blocks image m v.content (later.reads.1 told) (sym later.blocks) by super text listing in
     subst (λ x. Answers c.args.path.now first (k c.args.out.now) ended.result.printed (d x) (k ended.new.out)) (sym (c.dev-1.given.1 (sym (lent_name ended.ensures.device.goes.lender))))
-    (lent_answers c.args.path.now c.print_settled-arg-1.given ended.result.dev.ghost_name first at (d ended.result.dev.now) _ _ _ (omega (arith, one, two, three)) opened ended.ensures.prints text ended.ensures.cause)
+    (lent_answers c.in-Ok.log.homes c.in-Ok-open_image.found c.args.path.now c.print_settled-arg-1.given ended.result.dev.ghost_name first at (d ended.result.dev.now) _ _ _ (omega (arith, one, two, three)) opened by_image ended.ensures.prints text ended.ensures.cause)

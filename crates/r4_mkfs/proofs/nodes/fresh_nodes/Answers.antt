@@ -7,10 +7,10 @@ use Rattle.r4_cell.proofs.Faults.{cell_still}
 use Rattle.r4_mkfs.proofs.nodes.fresh_nodes.Goals as goal
 
 -- a node of the whole range that may stand on 64 blocks may stand in memory
-stands : (level lo hi : ℕ) (b : List ℕ) → lo ≡ least → hi ≡ top → cell_fault false 64 level least top b ≡ None → cell_fault true (2 ^ 63) level lo hi b ≡ None
+stands : (level lo hi : ℕ) (b : List ℕ) → lo ≡ least → hi ≡ top → cell_fault false 64 level least top b ≡ None → cell_fault true (2 ^ 64) level lo hi b ≡ None
 stands level lo hi b el eh sound =
-    subst (λ (x : ℕ). cell_fault true (2 ^ 63) level x hi b ≡ None) (sym el)
-    (subst (λ (x : ℕ). cell_fault true (2 ^ 63) level least x b ≡ None) (sym eh) (cell_still false 64 (2 ^ 63) level least top b (omega arith) sound))
+    subst (λ (x : ℕ). cell_fault true (2 ^ 64) level x hi b ≡ None) (sym el)
+    (subst (λ (x : ℕ). cell_fault true (2 ^ 64) level least x b ≡ None) (sym eh) (cell_still false 64 (2 ^ 64) level least top b (omega arith) sound))
 
 pub new_cell-requires : goal.new_cell-requires
 new_cell-requires c = stands 2 _ _ _ c.least.ensures c.top.ensures (twig_sound 64 _ (omega arith) c.fill_twig.ensures)

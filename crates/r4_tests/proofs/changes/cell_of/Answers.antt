@@ -16,5 +16,5 @@ pub new_cell-requires-2 : goal.new_cell-requires-2
 new_cell-requires-2 c =
     let made = c.args.made.now in
     let is = c.in_ok-block-2.ensures ∙ c.block.ensures ∙ ap (λ (x : CellSeen). x.block) (c.deref.ensures ∙ c.in-Ok.ensures.cell) in
-    subst (λ (b : List ℕ). cell_fault true (2 ^ 63) made.level (rank made.lo) (rank made.hi) b ≡ None) (sym is)
-    (cell_still false 64 (2 ^ 63) made.level (rank made.lo) (rank made.hi) _ (omega arith) c.in-Ok.ensures.sound)
+    subst (λ (b : List ℕ). cell_fault true (2 ^ 64) made.level (rank made.lo) (rank made.hi) b ≡ None) (sym is)
+    (cell_still false 64 (2 ^ 64) made.level (rank made.lo) (rank made.hi) _ (omega arith) c.in-Ok.ensures.sound)

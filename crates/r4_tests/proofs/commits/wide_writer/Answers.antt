@@ -1,4 +1,4 @@
-use Rattle.std.proofs.Common.{◌≡◌, ◌<◌, refl, arith}
+use Rattle.std.proofs.Common.{arith}
 use Rattle.r4_wander.proofs.Fitting.{fits}
 use Rattle.r4_tests.proofs.commits.wide_writer.Goals as goal
 

@@ -1,0 +1,53 @@
+#!/bin/sh
+# The speed of a listing: sh bench/list.sh [ROUNDS], after ./r4 has built the program; python3 makes the image.
+# A volume of 20 directories with 100 files each is listed, and `ls -lR` lists as many files in a directory of the file
+# system. Both read what the page cache holds. The fastest round of each is printed.
+set -eu
+
+rounds=${1:-15}
+here=$(CDPATH='' cd -- "$(dirname -- "$0")" && pwd)
+tool=$here/../out/r4_tool
+work=$(mktemp -d "$here/work.XXXXXX")
+trap 'rm -rf -- "$work"' EXIT
+
+if [ ! -x "$tool" ]; then
+    echo "bench: there is no $tool: run ./r4 demo first" >&2
+    exit 1
+fi
+
+# Runs a command, and prints its nanoseconds.
+nanoseconds() {
+    before=$(date +%s%N)
+    "$@" >"$work/printed"
+    after=$(date +%s%N)
+    echo "$((after - before))"
+}
+
+# The same files in a directory.
+make_files() {
+    directory=0
+    while [ "$directory" -lt 20 ]; do
+        name=$(printf '%s/files/d%03d' "$work" "$directory")
+        mkdir -p -- "$name"
+        file=0
+        while [ "$file" -lt 100 ]; do
+            file_name=$(printf 'f%05d' "$file")
+            printf 'the bytes of %s\n' "$file_name" >"$name/$file_name"
+            file=$((file + 1))
+        done
+        directory=$((directory + 1))
+    done
+}
+
+python3 "$here/make_files.py" "$work/files.img" 20 100
+make_files
+round=0
+while [ "$round" -lt "$rounds" ]; do
+    nanoseconds "$tool" list "$work/files.img" >>"$work/list.times"
+    [ "$(wc -l <"$work/printed")" -eq 2021 ]
+    nanoseconds ls -lR "$work/files" >>"$work/ls.times"
+    round=$((round + 1))
+done
+awk 'FNR == 1 { file++ } FNR == 1 || $1 < least[file] { least[file] = $1 }
+    END { printf "list 2021 objects: %.1f ms, ls -lR: %.1f ms, ratio %.2f\n", least[1] / 1e6, least[2] / 1e6, least[1] / least[2] }' \
+    "$work/list.times" "$work/ls.times"

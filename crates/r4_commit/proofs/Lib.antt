@@ -1,0 +1,11 @@
+pub mod CellPlaces
+pub mod HeldBlocks
+pub mod NewHomes
+pub mod PlanFacts
+pub mod PlanMaking
+pub mod Differing
+pub mod Safety
+pub mod NewImage
+pub mod Bounds
+pub mod KeptVolumes
+pub mod Instance

@@ -1,0 +1,5 @@
+pub mod Places
+pub mod Planned
+pub mod Plannable
+pub mod Held
+pub mod Volumes

@@ -1,0 +1,87 @@
+//! A commit under way.
+
+ghost use Rattle.std.specs.Prelude.{ℕ, ◌≡◌, ◌≢◌, ◌+◌, ◌^◌, ◌<◌, ◌≤◌, OnOk, IfOk, List, true};
+ghost use Rattle.r4_base.specs.Image.{Image};
+ghost use Rattle.r4_base.specs.Chain.{Txn};
+ghost use Rattle.r4_base.specs.Value.{Content};
+ghost use Rattle.r4_base.specs.Volume.{HasVolume, Needs};
+ghost use Rattle.r4_base.specs.declared.superblock.Super40.{Super40};
+ghost use Rattle.r4_base.specs.declared.things.AtomNo.{AtomNo};
+ghost use Rattle.r4_base.specs.declared.things.BlockNo.{BlockNo};
+ghost use Rattle.r4_cell.specs.Seen.{CellSeen};
+ghost use Rattle.r4_space.specs.Space.{Space};
+ghost use Rattle.r4_place.specs.declared.placed.Placed.{Placed};
+ghost use Rattle.r4_commit.specs.Planned.{IsPlanFor};
+ghost use Rattle.r4_commit.specs.Plannable.{IsPlannable, is_spoken_for};
+ghost use Rattle.r4_commit.specs.Volumes.{VolumeByPart};
+ghost use Rattle.r4_outside.specs.Device.{Goes, HasCause, Spares, LeavesOnly, Rose};
+ghost use Rattle.r4_wander.specs.Torn.{IsTarget};
+ghost use Rattle.r4_wander.specs.LogPlan.{first};
+ghost use Rattle.r4_wander.specs.Needed.{SparesNeeded};
+ghost use Rattle.r4_wander.specs.Safe.{ByPart};
+ghost use Rattle.r4_wander.specs.Progress.{under_way, FitOn, IsNext, stage_at, calls_left, Stands, Commits};
+ghost use Rattle.r4_wander.specs.declared.plan.LogPlan.{LogPlan};
+
+use r4_outside::{Device, Failed};
+use r4_wander::{Stage, Writer};
+use std::marker::Model;
+
+/// The commit of an atom under way, which contracts see as its writer's progress: what is written in each of its four
+/// parts, the part that is under way, and how many of its writes are made (docs/commit.md, "Steps").
+#[derive(Drop)]
+pub struct CommitPlan {
+    pub(crate) writer: Writer,
+}
+
+impl Model for CommitPlan {
+    ghost use Rattle.r4_wander.specs.Progress.{Progress};
+
+    ghost Value = { Progress };
+
+    ghost view = { λ p. p.writer };
+}
+
+/// Makes from one to four writes and syncs, and no other device call: up to four writes of the part that is under way
+/// and, where all its writes are made within fewer than four calls, its sync, with which the step ends. It takes no
+/// memory. `Ok` says how far the commit is; a stage may be answered by several steps. `Failed` comes only where the
+/// device's count of faults rose in this step, and the plan is of no use afterwards. Condition: no step has answered
+/// `Footed` or `Failed`; the device has at least 64 blocks, and every block that the plan writes is below their number
+/// (docs/commit.md, "Steps").
+pub fn step<D: Device>(plan: &mut CommitPlan, dev: &mut D) -> Result<Stage, Failed>
+    requires not_footed { plan.old.part < 4 }
+    requires fits { FitOn (D.state dev.old).blocks plan.old.plan }
+    ensures goes { Goes (D.state dev.old) (D.state dev.new) }
+    ensures cause { HasCause (D.state dev.old) result (D.state dev.new) }
+    ensures plan { plan.new.plan ≡ plan.old.plan }
+
+    // It makes four writes of its part, or those that are left of it and the sync.
+    ensures next { OnOk result (IsNext plan.old plan.new) }
+    ensures stage { IfOk result (λ stage. stage ≡ stage_at plan.new.part plan.new.done) }
+    ensures some { Rose (D.state dev.old).clock (D.state dev.new).clock }
+    ensures clock { OnOk result (((D.state dev.old).clock + 1 ≤ (D.state dev.new).clock) × ((D.state dev.new).clock ≤ (D.state dev.old).clock + 4) × ((D.state dev.new).clock < 2 ^ 64)) }
+    ensures few { (D.state dev.new).clock ≤ (D.state dev.old).clock + 4 }
+
+    // Each call of the commit is made once.
+    ensures calls { OnOk result ((D.state dev.new).clock + calls_left plan.new ≡ (D.state dev.old).clock + calls_left plan.old) }
+
+    // No write falls on another block than those of the part.
+    ensures spares { Spares (IsTarget (under_way plan.old)) (D.state dev.old) (D.state dev.new) }
+
+    // Where the device stands as the plan says, it does so afterwards.
+    ensures stands { (base : Image) → Stands plan.old base (D.state dev.old) → OnOk result (Stands plan.new base (D.state dev.new)) }
+
+    // A crash at any moment leaves what settles as without the commit or as with it, by the part.
+    ensures settles { (n : ℕ) (base : Image) (chain : List Txn) (p : LogPlan) → Commits plan.old n base chain p → Stands plan.old base (D.state dev.old)
+        → LeavesOnly (D.state dev.old) (D.state dev.new) (ByPart n base chain p plan.old.part) }
+
+    // In words of volumes: what a crash leaves has the old one or the new one, where each block that the old one needs is spoken for.
+    ensures volumes { (n : ℕ) (base : Image) (chain : List Txn) (s : Space) (atom : AtomNo) (cells : List CellSeen) (answers : List Placed) (next : Super40) (last : BlockNo) (p : LogPlan) (m : Content) (v : HasVolume n base m)
+        → IsPlanFor s atom cells answers next last p → IsPlannable n base chain s cells answers next last → ((b : ℕ) → Needs v b → is_spoken_for s b ≡ true)
+        → Commits plan.old n base chain p → Stands plan.old base (D.state dev.old) → LeavesOnly (D.state dev.old) (D.state dev.new) (VolumeByPart n base chain p m plan.old.part) }
+
+    // But for the homes, no write falls on a block that an image needs which a crash may leave, where the first part's blocks were needed by none.
+    ensures needed { (n : ℕ) (base : Image) (chain : List Txn) (p : LogPlan) (m : Content) (v : HasVolume n base m) → Commits plan.old n base chain p → Stands plan.old base (D.state dev.old)
+        → plan.old.part ≢ 2 → ((b : ℕ) → IsTarget (first p) b → Needs v b → ⊥) → SparesNeeded (D.state dev.old) (D.state dev.new) }
+{
+    plan.writer.step(dev)
+}

@@ -1,0 +1,18 @@
+//! Edits of a tree, each as a patch of the cells of a path (docs/volume.md, "Edits").
+#![tactic(auto)]
+
+mod appending;
+mod climbing;
+mod gathering;
+mod growing;
+mod laws;
+mod level;
+mod numbers;
+mod pointing;
+mod row;
+mod sharing;
+mod splitting;
+
+pub use growing::grow;
+pub use laws::path_changes_are_patches;
+pub use splitting::split;
