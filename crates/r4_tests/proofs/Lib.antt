@@ -2,3 +2,4 @@ mod Sums
 mod EntryTests
 mod CommitTests
 mod PlanTests
+mod RisingTests
