@@ -2,4 +2,3 @@ mod Sums
 mod EntryTests
 mod CommitTests
 mod PlanTests
-mod RisingTests

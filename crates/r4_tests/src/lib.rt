@@ -8,11 +8,7 @@ mod cells;
 #[cfg(test)]
 mod changes;
 #[cfg(test)]
-mod commands;
-#[cfg(test)]
 mod commits;
-#[cfg(test)]
-mod contents;
 #[cfg(test)]
 mod counting;
 #[cfg(test)]
