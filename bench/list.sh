@@ -6,22 +6,7 @@ set -eu
 
 rounds=${1:-15}
 here=$(CDPATH='' cd -- "$(dirname -- "$0")" && pwd)
-tool=$here/../out/r4_tool
-work=$(mktemp -d "$here/work.XXXXXX")
-trap 'rm -rf -- "$work"' EXIT
-
-if [ ! -x "$tool" ]; then
-    echo "bench: there is no $tool: run ./r4 demo first" >&2
-    exit 1
-fi
-
-# Runs a command, and prints its nanoseconds.
-nanoseconds() {
-    before=$(date +%s%N)
-    "$@" >"$work/printed"
-    after=$(date +%s%N)
-    echo "$((after - before))"
-}
+. "$here/common.sh"
 
 # The same files in a directory.
 make_files() {
@@ -48,6 +33,4 @@ while [ "$round" -lt "$rounds" ]; do
     nanoseconds ls -lR "$work/files" >>"$work/ls.times"
     round=$((round + 1))
 done
-awk 'FNR == 1 { file++ } FNR == 1 || $1 < least[file] { least[file] = $1 }
-    END { printf "list 2021 objects: %.1f ms, ls -lR: %.1f ms, ratio %.2f\n", least[1] / 1e6, least[2] / 1e6, least[1] / least[2] }' \
-    "$work/list.times" "$work/ls.times"
+fastest "list 2021 objects" "ls -lR" "$work/list.times" "$work/ls.times"

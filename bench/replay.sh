@@ -6,14 +6,7 @@ set -eu
 
 rounds=${1:-15}
 here=$(CDPATH='' cd -- "$(dirname -- "$0")" && pwd)
-tool=$here/../out/r4_tool
-work=$(mktemp -d "$here/work.XXXXXX")
-trap 'rm -rf -- "$work"' EXIT
-
-if [ ! -x "$tool" ]; then
-    echo "bench: there is no $tool: run ./r4 demo first" >&2
-    exit 1
-fi
+. "$here/common.sh"
 
 # A fresh copy of the image, of which nothing is left to be written.
 fresh() {
@@ -28,14 +21,6 @@ copies() {
     dd if="$work/dd.img" of="$work/dd.img" bs=4096 skip=20 seek=20 count=1 conv=notrunc,fsync 2>/dev/null
 }
 
-# Runs a command, and prints its nanoseconds.
-nanoseconds() {
-    before=$(date +%s%N)
-    "$@" >"$work/printed"
-    after=$(date +%s%N)
-    echo "$((after - before))"
-}
-
 sh "$here/../demo/make_image.sh" "$work/full.img" full
 round=0
 while [ "$round" -lt "$rounds" ]; do
@@ -46,6 +31,4 @@ while [ "$round" -lt "$rounds" ]; do
     nanoseconds copies >>"$work/dd.times"
     round=$((round + 1))
 done
-awk 'FNR == 1 { file++ } FNR == 1 || $1 < least[file] { least[file] = $1 }
-    END { printf "replay 254 pairs: %.1f ms, dd: %.1f ms, ratio %.2f\n", least[1] / 1e6, least[2] / 1e6, least[1] / least[2] }' \
-    "$work/replay.times" "$work/dd.times"
+fastest "replay 254 pairs" "dd" "$work/replay.times" "$work/dd.times"
