@@ -38,19 +38,19 @@ module _ {A : Type 0} where
 
 -- the items between two places
 abbrev pub part : List Item → (from to : ℕ) → List Item
-part items from to = take (to - from) (drop from items)
+part list from to = take (to - from) (drop from list)
 
-module _ (items xs ys : List Item) (cut : ℕ) (is : items ≡ xs ++ ys) (at : cut ≡ length xs) where
-  pub left_part : part items 0 cut ≡ xs
+module _ (list xs ys : List Item) (cut : ℕ) (is : list ≡ xs ++ ys) (at : cut ≡ length xs) where
+  pub left_part : part list 0 cut ≡ xs
   left_part = ap (λ r. take (cut - 0) r) is ∙ take_front xs ys (cut - 0) (omega (arith, at))
 
-  long : length items ≡ length xs + length ys
+  long : length list ≡ length xs + length ys
   long = ap length is ∙ length-append xs ys
 
-  pub right_part : part items cut (length items) ≡ ys
-  right_part = ap (λ r. take (length items - cut) (drop cut r)) is ∙ (ap (take (length items - cut)) (drop_front xs ys cut at) ∙ take_whole ys (length items - cut) (omega (arith, long, at)))
+  pub right_part : part list cut (length list) ≡ ys
+  right_part = ap (λ r. take (length list - cut) (drop cut r)) is ∙ (ap (take (length list - cut)) (drop_front xs ys cut at) ∙ take_whole ys (length list - cut) (omega (arith, long, at)))
 
-  pub parts_weigh : weight items ≡ weight xs + weight ys
+  pub parts_weigh : weight list ≡ weight xs + weight ys
   parts_weigh = ap weight is ∙ sum_by-append weight_of xs ys
 
 pub alike_weigh : (xs : List Item) → All (λ x. weight_of x ≡ 46) xs → weight xs ≡ 46 * length xs
@@ -61,27 +61,27 @@ alike_weigh (x ∷ xs) all =
     let sum = weight_cons x xs in
     omega (arith, one, rest, sum)
 
-pub cut_parts : (items : List Item) (cut : ℕ) → cut ≤ length items → (part items 0 cut ≡ take cut items) × (part items cut (length items) ≡ drop cut items)
-cut_parts items cut le =
-    let long : length (take cut items) ≡ cut = long_take cut items le in
-    (left_part items (take cut items) (drop cut items) cut (both_parts cut items) (sym long), right_part items (take cut items) (drop cut items) cut (both_parts cut items) (sym long))
+pub cut_parts : (list : List Item) (cut : ℕ) → cut ≤ length list → (part list 0 cut ≡ take cut list) × (part list cut (length list) ≡ drop cut list)
+cut_parts list cut le =
+    let long : length (take cut list) ≡ cut = long_take cut list le in
+    (left_part list (take cut list) (drop cut list) cut (both_parts cut list) (sym long), right_part list (take cut list) (drop cut list) cut (both_parts cut list) (sym long))
 
 -- half of pointers alike
-pub record IsHalved (items : List Item) (cut : ℕ) : Type 0 where
-  pub left : weight (part items 0 cut) ≡ 46 * cut
-  pub right : weight (part items cut (length items)) + 46 * cut ≡ 46 * length items
-  pub whole : weight items ≡ 46 * length items
+pub record IsHalved (list : List Item) (cut : ℕ) : Type 0 where
+  pub left : weight (part list 0 cut) ≡ 46 * cut
+  pub right : weight (part list cut (length list)) + 46 * cut ≡ 46 * length list
+  pub whole : weight list ≡ 46 * length list
 
-pub halved : (items : List Item) (cut : ℕ) → cut ≤ length items → All (λ x. weight_of x ≡ 46) items → IsHalved items cut
-halved items cut le all =
-    let (l, r) = cut_parts items cut le in
-    let long = long_take cut items le in
-    let rest = length-drop cut items in
-    let a = alike_weigh (take cut items) (All-take (λ (y : Item). weight_of y ≡ 46) cut items all) in
-    let b = alike_weigh (drop cut items) (All-drop (λ (y : Item). weight_of y ≡ 46) cut items all) in
+pub halved : (list : List Item) (cut : ℕ) → cut ≤ length list → All (λ x. weight_of x ≡ 46) list → IsHalved list cut
+halved list cut le all =
+    let (l, r) = cut_parts list cut le in
+    let long = long_take cut list le in
+    let rest = length-drop cut list in
+    let a = alike_weigh (take cut list) (All-take (λ (y : Item). weight_of y ≡ 46) cut list all) in
+    let b = alike_weigh (drop cut list) (All-drop (λ (y : Item). weight_of y ≡ 46) cut list all) in
     let lw = ap weight l in
     let rw' = ap weight r in
-    record { left = omega (arith, lw, a, long); right = omega (arith, rw', b, rest, le); whole = alike_weigh items all }
+    record { left = omega (arith, lw, a, long); right = omega (arith, rw', b, rest, le); whole = alike_weigh list all }
 
 -- beside the pointers that come
 module _ (items : List Item) (at : ℕ) (cells : List CellSeen) (within : at < length items) where
@@ -101,25 +101,25 @@ module _ (items : List Item) (at : ℕ) (cells : List CellSeen) (within : at < l
 
   pub beside : Beside
   beside =
-      let items = with_pointers items at cells in
+      let list = with_pointers items at cells in
       let xs = take (at + 1) items in
       let ys = drop (at + 1) items in
       let ps = map pointer_item cells in
       let ends : at + 1 + length cells ≡ length (xs ++ ps) = let a = length-append xs ps in let m = long_pointers cells in omega (arith, a, m, front) in
-      let behind : items ≡ (xs ++ ps) ++ ys = sym (append_assoc xs ps ys) in
+      let behind : list ≡ (xs ++ ps) ++ ys = sym (append_assoc xs ps ys) in
       let sum = sum_by-append weight_of xs ps in
       let rest = sum_by-append weight_of ps ys in
       record {
-        before = ap weight (left_part items xs (ps ++ ys) (at + 1) refl (sym front));
-        after = ap weight (right_part items xs (ps ++ ys) (at + 1) refl (sym front)) ∙ (rest ∙ ap (λ k. k + weight ys) come);
-        before_behind = ap weight (left_part items (xs ++ ps) ys (at + 1 + length cells) behind ends) ∙ (sum ∙ ap (λ k. weight xs + k) come);
-        after_behind = ap weight (right_part items (xs ++ ps) ys (at + 1 + length cells) behind ends);
+        before = ap weight (left_part list xs (ps ++ ys) (at + 1) refl (sym front));
+        after = ap weight (right_part list xs (ps ++ ys) (at + 1) refl (sym front)) ∙ (rest ∙ ap (λ k. k + weight ys) come);
+        before_behind = ap weight (left_part list (xs ++ ps) ys (at + 1 + length cells) behind ends) ∙ (sum ∙ ap (λ k. weight xs + k) come);
+        after_behind = ap weight (right_part list (xs ++ ps) ys (at + 1 + length cells) behind ends);
         items_weigh = ap weight (both_parts (at + 1) items) ∙ sum_by-append weight_of xs ys;
         whole = sum_by-append weight_of xs (ps ++ ys) ∙ ap (λ k. weight xs + k) (rest ∙ ap (λ k. k + weight ys) come);
       }
 
-pub part_lighter : (items : List Item) (from to : ℕ) → weight (part items from to) ≤ weight items
-part_lighter items from to =
-    let a = weight_take (to - from) (drop from items) in
-    let b = sum_by-take-drop weight_of items from in
+pub part_lighter : (list : List Item) (from to : ℕ) → weight (part list from to) ≤ weight list
+part_lighter list from to =
+    let a = weight_take (to - from) (drop from list) in
+    let b = sum_by-take-drop weight_of list from in
     omega (arith, a, b)
