@@ -158,24 +158,63 @@ fn texts_at(moment: u64) -> [&'static [u8]; 2] {
     }
 }
 
+// What is left of a torn write: each bit is a sector.
+const MASKS: [u8; 5] = [0, 1, 85, 254, 255];
+
+// The texts after a crash within the call before a moment, of which these sectors are left: the header's first sector
+// tells which log it is.
+fn texts_torn(moment: u64, mask: u8) -> [&'static [u8]; 2] {
+    match moment {
+        7 if mask & 1 == 1 => [AFTER, AFTER],
+        7 => [BEFORE, BEFORE],
+        _ => texts_at(moment),
+    }
+}
+
+// The pick with which these sectors are left of the write before a moment: the numbers of the calls are followed back.
+fn pick_of(moment: u64, mask: u8) -> u64 {
+    let mut number = u64::from(mask) << 56;
+    for _ in 0..moment {
+        // What is undone: times 6364136223846793005, plus 1442695040888963407.
+        let product = number.wrapping_sub(1_442_695_040_888_963_407);
+        number = product.wrapping_mul(13_877_824_140_714_322_085);
+    }
+    number
+}
+
 // Looks at what is printed of the root directory after a crash at a moment.
 fn is_listed<X: Abort>(
     rt: &X,
     alloc: Global,
     left: &mut MemoryDevice,
     moment: u64,
+    texts: &[&[u8]; 2],
 ) -> Result<(), Fail> {
     let mut out = MemorySink::new(alloc, 100)?;
     let got = list(alloc, left, b"/", &mut out);
     let row = moment as usize;
     same_in(rt, &got, &Ok(()), row);
-    let texts = texts_at(moment);
     let told = texts.contains(&out.written());
     same_in(rt, &told, &true, row);
     Ok(())
 }
 
-// Lets the machine stop at each moment of the commit of the leaf; what it leaves is listed as it is, and after a replay.
+// Looks at what a crash leaves, as it is, and after a replay.
+fn is_whole<X: Abort + Threads + Wait + Sync>(
+    rt: &X,
+    alloc: Global,
+    left: &mut MemoryDevice,
+    moment: u64,
+    texts: &[&[u8]; 2],
+) -> Result<(), Fail> {
+    is_listed(rt, alloc, left, moment, texts)?;
+    let mut out = MemorySink::new(alloc, 100)?;
+    let status = call(rt, alloc, &REPLAY, left, &mut out)?;
+    same_in(rt, &status, &0, moment as usize);
+    is_listed(rt, alloc, left, moment, texts)
+}
+
+// Lets the machine stop at each moment of the commit of the leaf.
 fn look_at_crashes<X: Abort + Threads + Wait + Sync>(
     rt: &X,
     alloc: Global,
@@ -186,11 +225,24 @@ fn look_at_crashes<X: Abort + Threads + Wait + Sync>(
     for moment in 0..15 {
         for pick in 1..3 {
             let mut left = dev.crash(alloc, moment, pick)?;
-            is_listed(rt, alloc, &mut left, moment)?;
-            let mut out = MemorySink::new(alloc, 100)?;
-            let status = call(rt, alloc, &REPLAY, &mut left, &mut out)?;
-            same_in(rt, &status, &0, moment as usize);
-            is_listed(rt, alloc, &mut left, moment)?;
+            is_whole(rt, alloc, &mut left, moment, &texts_at(moment))?;
+        }
+    }
+    Ok(())
+}
+
+// Lets the machine stop within each call of the commit of the leaf.
+fn look_at_torn_writes<X: Abort + Threads + Wait + Sync>(
+    rt: &X,
+    alloc: Global,
+    dev: &MemoryDevice,
+) -> Result<(), Fail>
+    requires { TellsCrashes (memory_state dev.now) }
+{
+    for moment in 1..15 {
+        for mask in MASKS {
+            let mut left = dev.crash(alloc, moment, pick_of(moment, mask))?;
+            is_whole(rt, alloc, &mut left, moment, &texts_torn(moment, mask))?;
         }
     }
     Ok(())
@@ -223,6 +275,7 @@ fn a_leaf_is_committed(rt: HostRuntime) -> Result<(), Fail> {
     commit(&rt, alloc, 64, &mut dev, &cells, &[placed], &mut space)?;
     same(&rt, &dev.clock(), &14, "writes and syncs");
     look_at_crashes(&rt, alloc, &dev)?;
+    look_at_torn_writes(&rt, alloc, &dev)?;
     for (row, &(at, byte, wanted)) in NUMBERS.iter().enumerate() {
         let block = read(alloc, &mut dev, at)?;
         same_in(&rt, &number(&block, byte), &wanted, row);
