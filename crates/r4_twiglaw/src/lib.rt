@@ -1,0 +1,6 @@
+//! The law of changes below a twig (docs/volume.md, "Edits").
+#![tactic(auto)]
+
+mod laws;
+
+pub use laws::twig_changes_are_patches;
