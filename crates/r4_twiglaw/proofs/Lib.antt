@@ -1,3 +1,4 @@
 mod Ordered
+mod Reordered
 mod TwigNames
 mod TwigPatch

@@ -1,17 +1,27 @@
 //! Laws of changes below a twig. Each is the contract of a function that does nothing.
 
-ghost use Rattle.std.specs.Prelude.{◌++◌, ◌∷◌, List, Option};
+ghost use Rattle.std.specs.Prelude.{◌≡◌, ◌++◌, ◌∷◌, List, Option};
 ghost use Rattle.r4_base.specs.Tree.{Root, Store};
 ghost use Rattle.r4_base.specs.Value.{Value};
-ghost use Rattle.r4_cell.specs.Patch.{IsChange, patch_of};
+ghost use Rattle.r4_cell.specs.Patch.{IsChange, Meets, patch_of};
 ghost use Rattle.r4_cell.specs.Seen.{CellSeen};
+ghost use Rattle.r4_cell.specs.declared.change.Root.{Root as RootPair};
 ghost use Rattle.r4_patch.specs.Part.{MeetsPart};
 ghost use Rattle.r4_edit.specs.Steps.{Step, news, olds, root_pair};
-ghost use Rattle.r4_twiglaw.specs.Twigs.{Below, IsTwigChange};
+ghost use Rattle.r4_twiglaw.specs.Twigs.{Below, IsReordered, IsTwigChange};
 
 /// A change of a twig, of the leaves and data blocks below it and of the nodes above it is a patch, and each part of a tree
 /// that has the cells meets it (docs/volume.md, "Edits").
 pub fn twig_changes_are_patches()
     ensures change { (t : Store Value) (r : Root) (b : Below) (s : Step) (more : List Step) (over : Option CellSeen) → IsTwigChange t r b s more over → IsChange (b.old ++ olds (s ∷ more)) (b.new ++ news (s ∷ more) over) (root_pair over) }
     ensures meets { (t : Store Value) (r : Root) (b : Below) (s : Step) (more : List Step) (over : Option CellSeen) → IsTwigChange t r b s more over → MeetsPart (patch_of (b.old ++ olds (s ∷ more)) (b.new ++ news (s ∷ more) over) (root_pair over)) t r }
+{}
+
+/// The cells of a change may stand in any order: with the same old and the same new cells in another order, no two of one
+/// name, it is the same patch, and so it is a change too and is met where that one is.
+pub fn order_says_nothing()
+    ensures patch { (old new others come : List CellSeen) (root : Option RootPair) → IsChange old new root → IsReordered old others → IsReordered new come → patch_of old new root ≡ patch_of others come root }
+    ensures change { (old new others come : List CellSeen) (root : Option RootPair) → IsChange old new root → IsReordered old others → IsReordered new come → IsChange others come root }
+    ensures meets { (old new others come : List CellSeen) (root : Option RootPair) → IsChange old new root → IsReordered old others → IsReordered new come → (t : Store Value) (r : Root) → Meets (patch_of old new root) t r → Meets (patch_of others come root) t r }
+    ensures part { (old new others come : List CellSeen) (root : Option RootPair) → IsChange old new root → IsReordered old others → IsReordered new come → (t : Store Value) (r : Root) → MeetsPart (patch_of old new root) t r → MeetsPart (patch_of others come root) t r }
 {}

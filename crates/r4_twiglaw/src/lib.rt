@@ -3,4 +3,4 @@
 
 mod laws;
 
-pub use laws::twig_changes_are_patches;
+pub use laws::{order_says_nothing, twig_changes_are_patches};
