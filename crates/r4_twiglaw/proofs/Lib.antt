@@ -1,3 +1,5 @@
+mod ExtentChange
+mod Instance
 mod Ordered
 mod Reordered
 mod TwigNames

@@ -1,1 +1,2 @@
+pub mod ExtentPut
 pub mod Twigs

@@ -1,13 +1,16 @@
 //! Laws of changes below a twig. Each is the contract of a function that does nothing.
 
-ghost use Rattle.std.specs.Prelude.{◌≡◌, ◌++◌, ◌∷◌, List, Option};
+ghost use Rattle.std.specs.Prelude.{◌≡◌, ◌++◌, ◌∷◌, [], Contains, List, None, Option};
 ghost use Rattle.r4_base.specs.Tree.{Root, Store};
 ghost use Rattle.r4_base.specs.Value.{Value};
 ghost use Rattle.r4_cell.specs.Patch.{IsChange, Meets, patch_of};
 ghost use Rattle.r4_cell.specs.Seen.{CellSeen};
 ghost use Rattle.r4_cell.specs.declared.change.Root.{Root as RootPair};
 ghost use Rattle.r4_patch.specs.Part.{MeetsPart};
+ghost use Rattle.r4_patch.specs.SecondRoot.{small_root};
+ghost use Rattle.r4_edit.specs.Sharing.{IsSound};
 ghost use Rattle.r4_edit.specs.Steps.{Step, news, olds, root_pair};
+ghost use Rattle.r4_twiglaw.specs.ExtentPut.{extent_below, extent_step, extent_tree};
 ghost use Rattle.r4_twiglaw.specs.Twigs.{Below, IsReordered, IsTwigChange};
 
 /// A change of a twig, of the leaves and data blocks below it and of the nodes above it is a patch, and each part of a tree
@@ -24,4 +27,11 @@ pub fn order_says_nothing()
     ensures change { (old new others come : List CellSeen) (root : Option RootPair) → IsChange old new root → IsReordered old others → IsReordered new come → IsChange others come root }
     ensures meets { (old new others come : List CellSeen) (root : Option RootPair) → IsChange old new root → IsReordered old others → IsReordered new come → (t : Store Value) (r : Root) → Meets (patch_of old new root) t r → Meets (patch_of others come root) t r }
     ensures part { (old new others come : List CellSeen) (root : Option RootPair) → IsChange old new root → IsReordered old others → IsReordered new come → (t : Store Value) (r : Root) → MeetsPart (patch_of old new root) t r → MeetsPart (patch_of others come root) t r }
+{}
+
+/// There are such changes: in a fresh volume's tree an extent of two blocks is put behind the leaf's one item. The leaf
+/// comes again with less range, and each cell may stand at its level and for its range.
+pub fn an_extent_behind_a_leaf()
+    ensures change { IsTwigChange extent_tree small_root extent_below extent_step [] None }
+    ensures sound { (c : CellSeen) → Contains (extent_below.old ++ (extent_step.old ∷ (extent_below.new ++ extent_step.new))) c → IsSound c }
 {}

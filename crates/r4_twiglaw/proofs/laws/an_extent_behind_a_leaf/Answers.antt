@@ -1,0 +1,5 @@
+use Rattle.r4_twiglaw.proofs.ExtentChange.{all_sound, small_change}
+use Rattle.r4_twiglaw.proofs.laws.an_extent_behind_a_leaf.Goals as goal
+
+pub returns : goal.returns
+returns c = record { change = small_change; sound = all_sound }
