@@ -2,12 +2,11 @@
 use Rattle.std.proofs.Common.{◌≡◌, ◌≢◌, ◌⊎◌, ◌↔◌, inl, inr, ℕ, ◌+◌, ◌<◌, ◌≤◌, ◌*◌, ◌^◌, List, [], ◌∷◌, refl, sym, ap, subst, ◌∙◌, arith}
 use Rattle.std.specs.Prelude.{Contains, None, Some, true}
 use Rattle.std.proofs.Math.Dec.{lit<}
-use Rattle.std.proofs.lemmas.Bool.{cases_lt}
 use Rattle.std.proofs.lemmas.Option.{none-some}
 use Rattle.r4_base.specs.Cell.{cell_of}
 use Rattle.r4_base.specs.Fresh.{root_key}
 use Rattle.r4_base.specs.Key.{least, rank, top}
-use Rattle.r4_base.specs.Tree.{InNode, InSpan, IsNode, Name, Node, Span}
+use Rattle.r4_base.specs.Tree.{IsNode, Name, Node}
 use Rattle.r4_base.specs.Value.{Value}
 use Rattle.r4_cell.specs.Seen.{CellSeen, node_of}
 use Rattle.r4_cell.proofs.Nodes.{cell_node, data_node}
@@ -17,10 +16,9 @@ use Rattle.r4_patch.proofs.SecondRoot.{small_is_tree}
 use Rattle.r4_edit.specs.Sharing.{IsSound}
 use Rattle.r4_edit.specs.Steps.{AreNaming, IsNameOf, fresh_ids, name_of}
 use Rattle.r4_edit.proofs.Members.{cases, have_names, here, later, none}
-use Rattle.r4_edit.proofs.Rising.{in_cell, in_node}
 use Rattle.r4_twiglaw.specs.ExtentPut.{data_cell, extent_below, extent_block, extent_step, extent_tree, file_key, last_key, leaf_cell, pointer_block, stat_block, twig_cell}
-use Rattle.r4_twiglaw.specs.Twigs.{CoversBelow, HaveNumbers, IsTwigChange, IsTwigStep, IsUnused}
-use Rattle.r4_twiglaw.proofs.Instance.{data_sound, leaf_sound, new_names, new_spans, old_leaf, old_leaf_sound, old_twig, twig_sound, was_sound}
+use Rattle.r4_twiglaw.specs.Twigs.{HaveNumbers, IsTwigChange, IsTwigStep, IsUnused}
+use Rattle.r4_twiglaw.proofs.Instance.{data_sound, leaf_sound, new_names, old_leaf, old_leaf_sound, old_twig, twig_sound, was_sound}
 
 -- ---- members of short lists
 
@@ -139,38 +137,6 @@ names n = (
   ],
 )
 
--- ---- what is covered
-
-abbrev extent : Span
-extent = record { lo = rank (file_key 0); hi = rank last_key }
-
-goes_covered : (k : ℕ) → CoversBelow (twig_cell pointer_block ∷ []) extent_below.old k → CoversBelow (twig ∷ []) extent_below.new k
-goes_covered k (inl (c, at, one, in_c)) =
-    let inside = in_cell (leaf_cell last_key) k (subst (λ (x : CellSeen). InNode (node_of x) k) (only (leaf_cell last_key) c at) in_c) in
-    elim (cases_lt k (rank (file_key 0))) [
-      | inl low ↦ inl (leaf, here leaf (data_cell 0 ∷ (data_cell 1 ∷ [])), refl, in_node leaf k (inside.0, low))
-      | inr high ↦ inr (extent, (twig, here twig [], subst (λ (l : List Span). Contains l extent) (sym new_spans) (here extent [])), (high, inside.1))
-    ]
-goes_covered k (inr (x, (c, at, member), in_x)) = absurd (none x (subst (λ (d : Node Value). Contains d.spans x) old_twig (subst (λ (y : CellSeen). Contains (node_of y).spans x) (only (twig_cell pointer_block) c at) member)))
-
-comes_covered : (k : ℕ) → CoversBelow (twig ∷ []) extent_below.new k → CoversBelow (twig_cell pointer_block ∷ []) extent_below.old k
-comes_covered k (inl (c, at, one, in_c)) = elim (new_cell c at) [
-  | inl is ↦
-      let inside = in_cell leaf k (subst (λ (x : CellSeen). InNode (node_of x) k) is in_c) in
-      whole (omega (arith, inside)) (omega (arith, inside, file_top, to_top))
-  | inr more ↦ absurd (elim more [
-    | inl is ↦ let low = ap (λ (x : CellSeen). x.level) is in omega (arith, low, one)
-    | inr is ↦ let low = ap (λ (x : CellSeen). x.level) is in omega (arith, low, one)
-  ])
-]
-  where
-    whole : rank root_key ≤ k → k < rank last_key → CoversBelow (twig_cell pointer_block ∷ []) extent_below.old k
-    whole from to = inl (leaf_cell last_key, here (leaf_cell last_key) [], refl, in_node (leaf_cell last_key) k (from, to))
-comes_covered k (inr (x, (c, at, member), in_x)) =
-    let is = only extent x (subst (λ (l : List Span). Contains l x) new_spans (subst (λ (y : CellSeen). Contains (node_of y).spans x) (only twig c at) member)) in
-    let inside : InSpan extent k = subst (λ (y : Span). InSpan y k) is in_x in
-    inl (leaf_cell last_key, here (leaf_cell last_key) [], refl, in_node (leaf_cell last_key) k (omega (arith, inside, from_least, least_file), inside.1))
-
 -- ---- numbers
 
 unused : (i : ℕ) → extent_tree i ≡ None → IsUnused extent_tree i
@@ -217,21 +183,13 @@ step = record {
   ranges = (refl, refl, omega (arith, from_least, to_top, least_file, file_top), refl);
   goes = λ c at. subst (λ (x : CellSeen). Contains (node_of (twig_cell pointer_block)).names (name_of x)) (sym (only (leaf_cell last_key) c at)) goes_name;
   names = names;
-  covers = λ k. (goes_covered k, comes_covered k);
 }
 
 pub small_change : IsTwigChange extent_tree small_root extent_below extent_step [] None
 small_change = record {
   part = tree_is_part extent_tree small_root (small_is_tree pointer_block stat_block);
   path = (ap Some (sym old_twig), omega arith, tt, tt);
-  gone = λ c at. subst (λ (x : CellSeen). (extent_tree x.id ≡ Some (node_of x)) × (x.level ≤ 1)) (sym (only (leaf_cell last_key) c at)) (ap Some (sym old_leaf), omega arith);
-  come = λ c at. elim (new_cell c at) [
-    | inl is ↦ let level = ap (λ (x : CellSeen). x.level) is in omega (arith, level)
-    | inr more ↦ elim more [
-      | inl is ↦ let level = ap (λ (x : CellSeen). x.level) is in omega (arith, level)
-      | inr is ↦ let level = ap (λ (x : CellSeen). x.level) is in omega (arith, level)
-    ]
-  ];
+  gone = λ c at. subst (λ (x : CellSeen). extent_tree x.id ≡ Some (node_of x)) (sym (only (leaf_cell last_key) c at)) (ap Some (sym old_leaf));
   step = step;
   climbs = tt;
   ends = (twig, refl);

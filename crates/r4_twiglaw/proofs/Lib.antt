@@ -2,5 +2,6 @@ mod ExtentChange
 mod Instance
 mod Ordered
 mod Reordered
+mod TwigBelow
 mod TwigNames
 mod TwigPatch

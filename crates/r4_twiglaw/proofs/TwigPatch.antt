@@ -1,5 +1,5 @@
 -- A change of a twig and of what stands below it is a patch, which its part meets.
-use Rattle.std.proofs.Common.{◌≡◌, ◌≢◌, ◌⊎◌, inl, inr, ℕ, ◌<◌, ◌≤◌, List, [], ◌∷◌, ◌++◌, drop, refl, sym, ap, subst, ◌∙◌, arith}
+use Rattle.std.proofs.Common.{◌≡◌, ◌≢◌, ◌⊎◌, ◌↔◌, inl, inr, ℕ, ◌<◌, ◌≤◌, List, [], ◌∷◌, ◌++◌, drop, refl, sym, ap, subst, ◌∙◌, arith}
 use Rattle.std.specs.Prelude.{Contains, IsSome, Option, None, Some}
 use Rattle.std.specs.Option.{option_map}
 use Rattle.std.proofs.lemmas.List.Elements.{Contains-append_cases, Contains-append_left, Contains-append_right}
@@ -18,6 +18,7 @@ use Rattle.r4_edit.proofs.OnPath.{IsHighest, Stands, StandsIn, above_or_highest,
 use Rattle.r4_edit.proofs.Rising.{Within, follow_apart, follow_covers, follow_within, hi_is, in_cell, in_node, level_is, lo_is}
 use Rattle.r4_twiglaw.specs.Twigs.{Below, CoversBelow, IsTwigChange}
 use Rattle.r4_twiglaw.proofs.Ordered.{distinct, once}
+use Rattle.r4_twiglaw.proofs.TwigBelow.{covered, gone_id, id_cell, low_new, low_old}
 use Rattle.r4_twiglaw.proofs.TwigNames.{AreFirst, IsFirst, climbs_first, distinct_new, has_below, higher, id_from}
 
 none_or_some : (o : Option CellSeen) → (o ≡ None) ⊎ ((c : CellSeen) × (o ≡ Some c))
@@ -66,22 +67,21 @@ low_names c n ok low member =
     let same = level_is c in
     elim (ok.below n member) [ inl h ↦ omega (arith, h, low, same) | inr h ↦ omega (arith, h, low, same) ]
 
-id_cell : (cells : List CellSeen) (i : ℕ) → Contains (ids_of cells) i → (c : CellSeen) × Contains cells c × (c.id ≡ i)
-id_cell [] i at = absurd (none i at)
-id_cell (c ∷ cells) i at = elim (cases c.id i (ids_of cells) at) [
-  | inl is ↦ (c, here c cells, sym is)
-  | inr more ↦ let (x, member, is) = id_cell cells i more in (x, later_in c x cells member, is)
-]
-  where
-    later_in : (y x : CellSeen) (xs : List CellSeen) → Contains xs x → Contains (y ∷ xs) x
-    later_in y x xs member = Contains-append_right (y ∷ []) xs x member
-
 module _ (t : Store Value) (r : Root) (b : Below) (s : Step) (more : List Step) (over : Option CellSeen) (is : IsTwigChange t r b s more over) where
   abbrev steps : List Step
   steps = s ∷ more
 
   abbrev p : Patch Value
   p = patch_of (b.old ++ olds (s ∷ more)) (b.new ++ news (s ∷ more) over) (root_pair over)
+
+  low_below : (x : CellSeen) → Contains b.old x → x.level ≤ 1
+  low_below x member = low_old t r b s more over is x member
+
+  low_come : (x : CellSeen) → Contains b.new x → x.level ≤ 1
+  low_come x member = low_new t r b s more over is x member
+
+  is_covered : (k : ℕ) → CoversBelow (s.old ∷ []) b.old k ↔ CoversBelow s.new b.new k
+  is_covered k = covered t r b s more over is k
 
   -- ---- the steps
 
@@ -144,7 +144,8 @@ module _ (t : Store Value) (r : Root) (b : Below) (s : Step) (more : List Step) 
   -- what goes below has no name of a step
   below_step : (x : CellSeen) (a : Option Step) (u : Step) → Contains b.old x → Stands None steps a u → x.id ≡ u.old.id → ⊥
   below_step x a u in_b st same =
-      let (tx, low) = is.gone x in_b in
+      let tx = is.gone x in_b in
+      let low = low_below x in_b in
       let high = two a u st in
       let level = same_level x u.old tx (sit a u st).there same in
       omega (arith, low, high, level)
@@ -162,7 +163,7 @@ module _ (t : Store Value) (r : Root) (b : Below) (s : Step) (more : List Step) 
         let (o, in_o, same_o) = id_cell b.old x.id again in
         elim (id_from None steps over y firsts in_y) [
           | inl h ↦ let (a, u, st, ey) = h in below_step o a u in_o st (same_o ∙ (same ∙ ey))
-          | inr h ↦ none-some (node_of o) (sym (is.numbers.unused y.id h).0 ∙ subst (λ i. t i ≡ Some (node_of o)) (same_o ∙ same) (is.gone o in_o).0)
+          | inr h ↦ none-some (node_of o) (sym (is.numbers.unused y.id h).0 ∙ subst (λ i. t i ≡ Some (node_of o)) (same_o ∙ same) (is.gone o in_o))
         ]
     | inr new ↦
         let (unused, apart) = new in
@@ -261,7 +262,7 @@ module _ (t : Store Value) (r : Root) (b : Below) (s : Step) (more : List Step) 
   covers_old l k high (i, c, e, cl, at) = elim (old_at i c e) [
     | inl h ↦
         let (x, in_b, id, says) = h in
-        let low = (is.gone x in_b).1 in
+        let low = low_below x in_b in
         let cx = level_as c x says in
         absurd (omega (arith, high, low, cx, cl))
     | inr h ↦ let (a, u, st, id, says) = h in step_covers l k a u c st says cl at
@@ -280,7 +281,7 @@ module _ (t : Store Value) (r : Root) (b : Below) (s : Step) (more : List Step) 
   under_top x top_is i c e = elim (old_at i c e) [
     | inl h ↦
         let (y, in_b, id, says) = h in
-        let low = (is.gone y in_b).1 in
+        let low = low_below y in_b in
         let cy = level_as c y says in
         let up = top_three x top_is in
         omega (arith, low, cy, up)
@@ -296,7 +297,7 @@ module _ (t : Store Value) (r : Root) (b : Below) (s : Step) (more : List Step) 
       let (x, kind_x, id, says) = new_at i c e in
       let cx = level_as c x says in
       elim kind_x [
-        | inl in_b ↦ let low = is.come x in_b in absurd (omega (arith, low, cx, cl, high))
+        | inl in_b ↦ let low = low_come x in_b in absurd (omega (arith, low, cx, cl, high))
         | inr up ↦ elim up [
           | inl h ↦
               let (a, u, st, in_u) = h in
@@ -324,7 +325,7 @@ module _ (t : Store Value) (r : Root) (b : Below) (s : Step) (more : List Step) 
             let dl = level_as d x says in
             elim kind_x [
               | inl in_b ↦
-                  let low = is.come x in_b in
+                  let low = low_come x in_b in
                   let up = top_three c top_is in
                   omega (arith, low, up, dl, qh)
               | inr up ↦ elim up [
@@ -382,10 +383,10 @@ module _ (t : Store Value) (r : Root) (b : Below) (s : Step) (more : List Step) 
 
   new_apart : (x y : CellSeen) (k : ℕ) → NewOf x → NewOf y → x.level ≡ y.level → 1 ≤ x.level → InNode (node_of x) k → InNode (node_of y) k → x.id ≡ y.id
   new_apart x y k (inl in_x) (inl in_y) same one at_x at_y =
-      let low = is.come x in_x in
+      let low = low_come x in_x in
       leaves_apart x y k in_x in_y (omega (arith, low, one)) (omega (arith, low, one, same)) at_x at_y
-  new_apart x y k (inl in_x) (inr up_y) same one at_x at_y = let low = is.come x in_x in let high = up_high y up_y in absurd (omega (arith, low, high, same))
-  new_apart x y k (inr up_x) (inl in_y) same one at_x at_y = let low = is.come y in_y in let high = up_high x up_x in absurd (omega (arith, low, high, same))
+  new_apart x y k (inl in_x) (inr up_y) same one at_x at_y = let low = low_come x in_x in let high = up_high y up_y in absurd (omega (arith, low, high, same))
+  new_apart x y k (inr up_x) (inl in_y) same one at_x at_y = let low = low_come y in_y in let high = up_high x up_x in absurd (omega (arith, low, high, same))
   new_apart x y k (inr up_x) (inr up_y) same one at_x at_y = ap (λ (z : CellSeen). z.id) (ups_apart x y k up_x up_y same at_x at_y)
 
   apart : (i j : ℕ) (c d : Node Value) (k : ℕ) → p.new i ≡ Some c → p.new j ≡ Some d → c.level ≡ d.level → 1 ≤ c.level → InNode c k → InNode d k → i ≡ j
@@ -419,7 +420,7 @@ module _ (t : Store Value) (r : Root) (b : Below) (s : Step) (more : List Step) 
   twig_keeps n member stays =
       let at = (sit None s lowest).there in (
         not_old n.id
-            (λ x in_b e. stays (x, in_b, (named_once t r is.part s.old.id s.old.id x.id (node_of s.old) (node_of s.old) (node_of x) n (name_of x) at at member (is.step.goes x in_b) (is.gone x in_b).0 (sym e) refl).1))
+            (λ x in_b e. stays (x, in_b, gone_id t r b s more over is x n in_b member (sym e)))
             (λ c u su e. none-some u (only_below t r is.part steps None c s u n is.path lowest su member (sym e))),
         (s.old.id, node_of s.old, has_old None s lowest, member),
       )
@@ -432,7 +433,8 @@ module _ (t : Store Value) (r : Root) (b : Below) (s : Step) (more : List Step) 
       let high = sit (Some a) u st in (
         not_old n.id
             (λ x in_b e.
-            let (tx, is_low) = is.gone x in_b in
+            let tx = is.gone x in_b in
+            let is_low = low_below x in_b in
             let fits = (is.part.named u.old.id (node_of u.old) (node_of x) n high.there member (subst (λ i. t i ≡ Some (node_of x)) e tx)).level in
             let ups = three a u st in
             let lx = level_is x in
@@ -464,7 +466,7 @@ module _ (t : Store Value) (r : Root) (b : Below) (s : Step) (more : List Step) 
       let (x, kind_x, id, says) = new_at i c e in
       let in_x = subst (λ (d : Node Value). Contains d.names n) says member in
       elim kind_x [
-        | inl in_b ↦ absurd (low_names x n (node_low x in_b) (is.come x in_b) in_x)
+        | inl in_b ↦ absurd (low_names x n (node_low x in_b) (low_come x in_b) in_x)
         | inr up ↦ elim up [
           | inl h ↦
               let (a, u, st, in_u) = h in
@@ -479,7 +481,8 @@ module _ (t : Store Value) (r : Root) (b : Below) (s : Step) (more : List Step) 
       ]
 
   old_low_names : (x : CellSeen) (n : Name) → Contains b.old x → Contains (node_of x).names n → ⊥
-  old_low_names x n in_b member = let (tx, low) = is.gone x in_b in low_names x n (is.part.nodes x.id (node_of x) tx) low member
+  old_low_names x n in_b member = let tx = is.gone x in_b in
+      let low = low_below x in_b in low_names x n (is.part.nodes x.id (node_of x) tx) low member
 
   kept_twig : (n : Name) → Contains (node_of s.old).names n → p.old n.id ≡ None → Names p.new n
   kept_twig n member gone =
@@ -517,7 +520,7 @@ module _ (t : Store Value) (r : Root) (b : Below) (s : Step) (more : List Step) 
   most_level u a st high j d f = elim (old_at j d f) [
     | inl h ↦
         let (x, in_b, id, says) = h in
-        let low = (is.gone x in_b).1 in
+        let low = low_below x in_b in
         let dx = level_as d x says in
         let up = two a u st in
         omega (arith, low, dx, up)
@@ -646,7 +649,8 @@ module _ (t : Store Value) (r : Root) (b : Below) (s : Step) (more : List Step) 
   old_below k (inr (i, c, v, e, member, at)) = elim (old_at i c e) [
     | inl h ↦
         let (x, in_b, id, says) = h in
-        let (tx, low) = is.gone x in_b in
+        let tx = is.gone x in_b in
+        let low = low_below x in_b in
         let twig = spans_twig x v (is.part.nodes x.id (node_of x) tx) (subst (λ (d : Node Value). Contains d.spans v) says member) in
         absurd (omega (arith, twig, low))
     | inr h ↦
@@ -686,7 +690,7 @@ module _ (t : Store Value) (r : Root) (b : Below) (s : Step) (more : List Step) 
       let in_x = subst (λ (d : Node Value). Contains d.spans v) says member in
       elim kind_x [
         | inl in_b ↦
-            let low = is.come x in_b in
+            let low = low_come x in_b in
             let twig = spans_twig x v (node_low x in_b) in_x in
             absurd (omega (arith, twig, low))
         | inr up ↦ elim up [
@@ -713,8 +717,8 @@ module _ (t : Store Value) (r : Root) (b : Below) (s : Step) (more : List Step) 
       kept = kept;
       replaced = replaced;
       reached = reached;
-      leaves_old = λ k h. below_new k ((is.step.covers k).0 (old_below k h));
-      leaves_new = λ k h. below_old k ((is.step.covers k).1 (new_below k h));
+      leaves_old = λ k h. below_new k ((is_covered k).0 (old_below k h));
+      leaves_new = λ k h. below_old k ((is_covered k).1 (new_below k h));
     };
   }
 
@@ -747,7 +751,7 @@ module _ (t : Store Value) (r : Root) (b : Below) (s : Step) (more : List Step) 
 
   old_there : (i : ℕ) (c : Node Value) → p.old i ≡ Some c → t i ≡ Some c
   old_there i c e = elim (old_at i c e) [
-    | inl h ↦ let (x, in_b, id, says) = h in subst (λ j. t j ≡ Some c) id (subst (λ (d : Node Value). t x.id ≡ Some d) (sym says) (is.gone x in_b).0)
+    | inl h ↦ let (x, in_b, id, says) = h in subst (λ j. t j ≡ Some c) id (subst (λ (d : Node Value). t x.id ≡ Some d) (sym says) (is.gone x in_b))
     | inr h ↦ let (a, u, st, id, says) = h in subst (λ j. t j ≡ Some c) id (subst (λ (d : Node Value). t u.old.id ≡ Some d) (sym says) (sit a u st).there)
   ]
 

@@ -1,5 +1,5 @@
 -- Changes of a twig, and of the leaves and data blocks below it (docs/volume.md, "Edits").
-use Rattle.std.specs.Prelude.{◌≡◌, ◌≢◌, ◌↔◌, ◌⊎◌, ℕ, ◌≤◌, List, [], ◌∷◌, ◌++◌, drop, AllPairs, Contains, Option, None, Some}
+use Rattle.std.specs.Prelude.{◌≡◌, ◌≢◌, ◌↔◌, ◌⊎◌, ℕ, List, ◌∷◌, ◌++◌, drop, AllPairs, Contains, Option, None, Some}
 use Rattle.r4_base.specs.Key.{rank}
 use Rattle.r4_base.specs.Tree.{InNode, InSpan, IsNode, Name, Root, Span, Store}
 use Rattle.r4_base.specs.Value.{Value}
@@ -19,14 +19,13 @@ abbrev pub CoversBelow : (twigs below : List CellSeen) → ℕ → Type 0
 CoversBelow twigs below k = ((c : CellSeen) × Contains below c × (c.level ≡ 1) × InNode (node_of c) k) ⊎ ((x : Span) × AreSpanning twigs x × InSpan x k)
 
 -- The new twigs share out the old one's range, and the first has its name. They name what it named, but for what goes, and
--- what comes. Their extents with the leaves that come cover the keys that its extents and the leaves that go covered.
+-- what comes.
 pub record IsTwigStep (b : Below) (s : Step) : Type 0 where
   pub level : s.old.level ≡ 2
   pub first : ids_of s.new ≡ s.old.id ∷ ids_of (drop 1 s.new)
   pub ranges : Follow s.old.level (rank s.old.lo) (rank s.old.hi) s.new
   pub goes : (c : CellSeen) → Contains b.old c → Contains (node_of s.old).names (name_of c)
   pub names : (n : Name) → AreNaming s.new n ↔ ((Contains (node_of s.old).names n × (IsNameOf b.old n → ⊥)) ⊎ IsNameOf b.new n)
-  pub covers : (k : ℕ) → CoversBelow (s.old ∷ []) b.old k ↔ CoversBelow s.new b.new k
 
 -- no cell has the number, and none names one
 abbrev pub IsUnused : Store Value → ℕ → Type 0
@@ -45,8 +44,7 @@ pub record HaveNumbers (t : Store Value) (b : Below) (taken : List ℕ) : Type 0
 pub record IsTwigChange (t : Store Value) (r : Root) (b : Below) (s : Step) (more : List Step) (over : Option CellSeen) : Type 0 where
   pub part : IsPart t r
   pub path : Ascends t None (olds (s ∷ more))
-  pub gone : (c : CellSeen) → Contains b.old c → (t c.id ≡ Some (node_of c)) × (c.level ≤ 1)
-  pub come : (c : CellSeen) → Contains b.new c → c.level ≤ 1
+  pub gone : (c : CellSeen) → Contains b.old c → t c.id ≡ Some (node_of c)
   pub step : IsTwigStep b s
   pub climbs : Climbs (Some s) more
   pub ends : Ends r (s ∷ more) over
