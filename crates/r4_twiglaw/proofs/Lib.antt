@@ -1,3 +1,4 @@
+mod Counted
 mod ExtentChange
 mod Instance
 mod Ordered

@@ -1,5 +1,5 @@
 -- Changes of a twig, and of the leaves and data blocks below it (docs/volume.md, "Edits").
-use Rattle.std.specs.Prelude.{◌≡◌, ◌≢◌, ◌↔◌, ◌⊎◌, ℕ, List, ◌∷◌, ◌++◌, drop, AllPairs, Contains, Option, None, Some}
+use Rattle.std.specs.Prelude.{◌≡◌, ◌≢◌, ◌↔◌, ◌⊎◌, ℕ, ◌+◌, ◌≤◌, List, ◌∷◌, ◌++◌, drop, length, AllPairs, Contains, Option, None, Some}
 use Rattle.r4_base.specs.Key.{rank}
 use Rattle.r4_base.specs.Tree.{InNode, InSpan, IsNode, Name, Root, Span, Store}
 use Rattle.r4_base.specs.Value.{Value}
@@ -7,7 +7,7 @@ use Rattle.r4_cell.specs.Patch.{HaveNames, NamesId}
 use Rattle.r4_cell.specs.Seen.{CellSeen, node_of}
 use Rattle.r4_patch.specs.Joining.{ids_of}
 use Rattle.r4_patch.specs.Part.{IsPart}
-use Rattle.r4_edit.specs.Steps.{AreNaming, AreSpanning, Ascends, Climbs, Ends, Follow, IsNameOf, Step, fresh_ids, name_of, news, olds}
+use Rattle.r4_edit.specs.Steps.{AreNaming, AreSpanning, Ascends, Climbs, CountUp, Ends, Follow, IsFree, IsNameOf, Step, fresh_ids, name_of, news, olds}
 
 -- What goes and what comes below a twig: leaves and data blocks.
 pub record Below : Type 0 where
@@ -39,6 +39,21 @@ pub record HaveNumbers (t : Store Value) (b : Below) (taken : List ℕ) : Type 0
   pub each : (c : CellSeen) → Contains b.new c → Contains (ids_of b.old) c.id ⊎ (IsUnused t c.id × (Contains taken c.id → ⊥))
   pub once : AllPairs (λ (i j : ℕ). i ≢ j) taken
   pub unused : (i : ℕ) → Contains taken i → IsUnused t i
+
+-- The numbers of what comes below, but for those of cells that go, count up, and so do the others that are taken. They lie
+-- between numbers that are free, these before those or behind them.
+pub record AreCounted (t : Store Value) (b : Below) (from to : ℕ) (mine taken : List ℕ) : Type 0 where
+  pub free : IsFree from to t
+  pub each : (c : CellSeen) → Contains b.new c → Contains (ids_of b.old) c.id ⊎ Contains mine c.id
+  pub first : ℕ
+  pub next : ℕ
+  pub counts_mine : CountUp first mine
+  pub counts_taken : CountUp next taken
+  pub from_mine : from ≤ first
+  pub to_mine : first + length mine ≤ to
+  pub from_taken : from ≤ next
+  pub to_taken : next + length taken ≤ to
+  pub apart : (first + length mine ≤ next) ⊎ (next + length taken ≤ first)
 
 -- A change of a twig of a part of a tree, of what goes and comes below it, and of the nodes above it along a path.
 pub record IsTwigChange (t : Store Value) (r : Root) (b : Below) (s : Step) (more : List Step) (over : Option CellSeen) : Type 0 where

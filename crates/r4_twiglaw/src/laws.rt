@@ -3,7 +3,7 @@
 ghost use Rattle.std.specs.Prelude.{◌≡◌, ◌≤◌, ◌↔◌, ◌++◌, ◌∷◌, [], ℕ, Contains, List, None, Option};
 ghost use Rattle.r4_base.specs.Tree.{Root, Store};
 ghost use Rattle.r4_base.specs.Value.{Value};
-ghost use Rattle.r4_cell.specs.Patch.{IsChange, Meets, patch_of};
+ghost use Rattle.r4_cell.specs.Patch.{HaveNames, IsChange, Meets, patch_of};
 ghost use Rattle.r4_cell.specs.Seen.{CellSeen};
 ghost use Rattle.r4_cell.specs.declared.change.Root.{Root as RootPair};
 ghost use Rattle.r4_patch.specs.Part.{MeetsPart};
@@ -11,7 +11,7 @@ ghost use Rattle.r4_patch.specs.SecondRoot.{small_root};
 ghost use Rattle.r4_edit.specs.Sharing.{IsSound};
 ghost use Rattle.r4_edit.specs.Steps.{Step, news, olds, root_pair};
 ghost use Rattle.r4_twiglaw.specs.ExtentPut.{extent_below, extent_step, extent_tree};
-ghost use Rattle.r4_twiglaw.specs.Twigs.{Below, CoversBelow, IsReordered, IsTwigChange};
+ghost use Rattle.r4_twiglaw.specs.Twigs.{AreCounted, Below, CoversBelow, HaveNumbers, IsReordered, IsTwigChange};
 
 /// A change of a twig, of what stands below it and of the nodes above it is a patch, and each part of a tree that has the
 /// cells meets it. Below go and come leaves and data blocks alone; the leaves that come and the extents of the new twigs
@@ -21,6 +21,11 @@ pub fn twig_changes_are_patches()
     ensures meets { (t : Store Value) (r : Root) (b : Below) (s : Step) (more : List Step) (over : Option CellSeen) → IsTwigChange t r b s more over → MeetsPart (patch_of (b.old ++ olds (s ∷ more)) (b.new ++ news (s ∷ more) over) (root_pair over)) t r }
     ensures levels { (t : Store Value) (r : Root) (b : Below) (s : Step) (more : List Step) (over : Option CellSeen) → IsTwigChange t r b s more over → (c : CellSeen) → Contains (b.old ++ b.new) c → c.level ≤ 1 }
     ensures covers { (t : Store Value) (r : Root) (b : Below) (s : Step) (more : List Step) (over : Option CellSeen) → IsTwigChange t r b s more over → (k : ℕ) → CoversBelow (s.old ∷ []) b.old k ↔ CoversBelow s.new b.new k }
+{}
+
+/// Numbers that count up from a free one serve such a change.
+pub fn counted_numbers_serve()
+    ensures { (t : Store Value) (b : Below) (from to : ℕ) (mine taken : List ℕ) → HaveNames b.old → HaveNames b.new → AreCounted t b from to mine taken → HaveNumbers t b taken }
 {}
 
 /// The cells of a change may stand in any order: with the same old and the same new cells in another order, no two of one

@@ -3,4 +3,6 @@
 
 mod laws;
 
-pub use laws::{an_extent_behind_a_leaf, order_says_nothing, twig_changes_are_patches};
+pub use laws::{
+    an_extent_behind_a_leaf, counted_numbers_serve, order_says_nothing, twig_changes_are_patches,
+};
