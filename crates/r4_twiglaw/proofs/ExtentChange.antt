@@ -62,20 +62,26 @@ data_lo nth = omega arith
 
 -- ---- nodes
 
-sound_node : (c : CellSeen) → IsSound c → 1 ≤ c.level → least ≤ rank c.lo → rank c.lo < rank c.hi → rank c.hi ≤ top → IsNode (node_of c)
-sound_node c ok one from some to = cell_node true (2 ^ 64) c.level (rank c.lo) (rank c.hi) c.block ok.whole one from some to ok.accepted
+sound_node : (c : CellSeen) → IsSound c → 1 ≤ c.level → least ≤ rank c.lo → rank c.lo < rank c.hi → rank c.hi ≤ top
+    → IsNode (node_of c)
+sound_node c ok one from some to = cell_node true (2 ^ 64) c.level (rank c.lo)
+    (rank c.hi) c.block ok.whole one from some to ok.accepted
 
 twig_node : IsNode (node_of (twig_cell extent_block))
-twig_node = sound_node (twig_cell extent_block) twig_sound (omega arith) (omega (arith, from_least)) (omega (arith, from_least, to_top, least_file, file_top)) (omega (arith, to_top))
+twig_node = sound_node (twig_cell extent_block) twig_sound (omega arith) (omega (arith, from_least))
+    (omega (arith, from_least, to_top, least_file, file_top)) (omega (arith, to_top))
 
 leaf_node : IsNode (node_of (leaf_cell (file_key 0)))
-leaf_node = sound_node (leaf_cell (file_key 0)) leaf_sound (omega arith) (omega (arith, from_least)) (omega (arith, from_least, least_file)) (omega (arith, file_top))
+leaf_node = sound_node (leaf_cell (file_key 0)) leaf_sound (omega arith) (omega (arith, from_least))
+    (omega (arith, from_least, least_file)) (omega (arith, file_top))
 
 block_node : (nth : ℕ) → nth < 2 → IsNode (node_of (data_cell nth))
 block_node nth less =
     let lo = data_lo nth in
     let hi = data_hi nth in
-    subst (λ (h : ℕ). IsNode (cell_of 0 (rank (data_cell nth).lo) h (data_cell nth).block)) (sym hi) (data_node (rank (data_cell nth).lo) (data_cell nth).block refl (omega (arith, lo, least_file)) (omega (arith, lo, less, file_top)))
+    subst (λ (h : ℕ). IsNode (cell_of 0 (rank (data_cell nth).lo) h (data_cell nth).block)) (sym hi)
+    (data_node (rank (data_cell nth).lo) (data_cell nth).block refl (omega (arith, lo, least_file))
+    (omega (arith, lo, less, file_top)))
 
 abbrev leaf : CellSeen
 leaf = leaf_cell (file_key 0)
@@ -83,7 +89,8 @@ leaf = leaf_cell (file_key 0)
 abbrev twig : CellSeen
 twig = twig_cell extent_block
 
-new_cell : (c : CellSeen) → Contains (leaf ∷ (data_cell 0 ∷ (data_cell 1 ∷ []))) c → (c ≡ leaf) ⊎ ((c ≡ data_cell 0) ⊎ (c ≡ data_cell 1))
+new_cell : (c : CellSeen) → Contains (leaf ∷ (data_cell 0 ∷ (data_cell 1 ∷ []))) c
+    → (c ≡ leaf) ⊎ ((c ≡ data_cell 0) ⊎ (c ≡ data_cell 1))
 new_cell c at = three leaf (data_cell 0) (data_cell 1) c at
 
 nodes : (c : CellSeen) → Contains (leaf ∷ (data_cell 0 ∷ (data_cell 1 ∷ (twig ∷ [])))) c → IsNode (node_of c)
@@ -106,31 +113,50 @@ old_name n at = only (name_of (leaf_cell last_key)) n (subst (λ (d : Node Value
 
 goes_name : Contains (node_of (twig_cell pointer_block)).names (name_of (leaf_cell last_key))
 unfolding rank least top
-goes_name = subst (λ (d : Node Value). Contains d.names (name_of (leaf_cell last_key))) (sym old_twig) (here (name_of (leaf_cell last_key)) [])
+goes_name = subst (λ (d : Node Value). Contains d.names (name_of (leaf_cell last_key))) (sym old_twig)
+    (here (name_of (leaf_cell last_key)) [])
 
 abbrev come_names : List Name
 come_names = name_of leaf ∷ (name_of (data_cell 0) ∷ (name_of (data_cell 1) ∷ []))
 
 names_to : (n : Name) → Contains (node_of twig).names n → IsNameOf extent_below.new n
-names_to n at = elim (three (name_of leaf) (name_of (data_cell 0)) (name_of (data_cell 1)) n (subst (λ (l : List Name). Contains l n) new_names at)) [
-  | inl is ↦ (leaf, here leaf (data_cell 0 ∷ (data_cell 1 ∷ [])), is)
-  | inr more ↦ elim more [
-    | inl is ↦ (data_cell 0, later leaf (data_cell 0) (data_cell 0 ∷ (data_cell 1 ∷ [])) (here (data_cell 0) (data_cell 1 ∷ [])), is)
-    | inr is ↦ (data_cell 1, later leaf (data_cell 1) (data_cell 0 ∷ (data_cell 1 ∷ [])) (later (data_cell 0) (data_cell 1) (data_cell 1 ∷ []) (here (data_cell 1) [])), is)
-  ]
-]
+names_to n at = elim (three (name_of leaf) (name_of (data_cell 0)) (name_of (data_cell 1)) n
+    (subst (λ (l : List Name). Contains l n) new_names at)) [
+      | inl is ↦ (leaf, here leaf (data_cell 0 ∷ (data_cell 1 ∷ [])), is)
+      | inr more ↦ elim more [
+        | inl is ↦ (
+          data_cell 0,
+          later leaf (data_cell 0) (data_cell 0 ∷ (data_cell 1 ∷ [])) (here (data_cell 0) (data_cell 1 ∷ [])),
+          is,
+        )
+        | inr is ↦ (
+          data_cell 1,
+          later leaf (data_cell 1) (data_cell 0 ∷ (data_cell 1 ∷ []))
+              (later (data_cell 0) (data_cell 1) (data_cell 1 ∷ []) (here (data_cell 1) [])),
+          is,
+        )
+      ]
+    ]
 
 names_from : (n : Name) → IsNameOf extent_below.new n → Contains (node_of twig).names n
-names_from n (c, at, e) = subst (λ (l : List Name). Contains l n) (sym new_names) (subst (Contains come_names) (sym e) (among (new_cell c at)))
+names_from n (c, at, e) = subst (λ (l : List Name). Contains l n) (sym new_names)
+    (subst (Contains come_names) (sym e) (among (new_cell c at)))
   where
     among : (c ≡ leaf) ⊎ ((c ≡ data_cell 0) ⊎ (c ≡ data_cell 1)) → Contains come_names (name_of c)
-    among (inl is) = subst (λ (x : CellSeen). Contains come_names (name_of x)) (sym is) (here (name_of leaf) (name_of (data_cell 0) ∷ (name_of (data_cell 1) ∷ [])))
-    among (inr (inl is)) = subst (λ (x : CellSeen). Contains come_names (name_of x)) (sym is) (later (name_of leaf) (name_of (data_cell 0)) (name_of (data_cell 0) ∷ (name_of (data_cell 1) ∷ [])) (here (name_of (data_cell 0)) (name_of (data_cell 1) ∷ [])))
-    among (inr (inr is)) = subst (λ (x : CellSeen). Contains come_names (name_of x)) (sym is) (later (name_of leaf) (name_of (data_cell 1)) (name_of (data_cell 0) ∷ (name_of (data_cell 1) ∷ [])) (later (name_of (data_cell 0)) (name_of (data_cell 1)) (name_of (data_cell 1) ∷ []) (here (name_of (data_cell 1)) [])))
+    among (inl is) = subst (λ (x : CellSeen). Contains come_names (name_of x)) (sym is)
+        (here (name_of leaf) (name_of (data_cell 0) ∷ (name_of (data_cell 1) ∷ [])))
+    among (inr (inl is)) = subst (λ (x : CellSeen). Contains come_names (name_of x)) (sym is)
+        (later (name_of leaf) (name_of (data_cell 0)) (name_of (data_cell 0) ∷ (name_of (data_cell 1) ∷ []))
+        (here (name_of (data_cell 0)) (name_of (data_cell 1) ∷ [])))
+    among (inr (inr is)) = subst (λ (x : CellSeen). Contains come_names (name_of x)) (sym is)
+        (later (name_of leaf) (name_of (data_cell 1)) (name_of (data_cell 0) ∷ (name_of (data_cell 1) ∷ []))
+        (later (name_of (data_cell 0)) (name_of (data_cell 1)) (name_of (data_cell 1) ∷ []) (here (name_of (data_cell 1)) [])))
 
-names : (n : Name) → AreNaming (twig ∷ []) n ↔ ((Contains (node_of (twig_cell pointer_block)).names n × (IsNameOf extent_below.old n → ⊥)) ⊎ IsNameOf extent_below.new n)
+names : (n : Name) → AreNaming (twig ∷ []) n ↔ ((Contains (node_of (twig_cell pointer_block)).names n ×
+    (IsNameOf extent_below.old n → ⊥)) ⊎ IsNameOf extent_below.new n)
 names n = (
-  λ h. let (c, at, member) = h in inr (names_to n (subst (λ (x : CellSeen). Contains (node_of x).names n) (only twig c at) member)),
+  λ h. let (c, at, member) = h in inr (names_to n (subst (λ (x : CellSeen). Contains (node_of x).names n)
+      (only twig c at) member)),
   λ h. elim h [
     | inl stays ↦ absurd (stays.1 (leaf_cell last_key, here (leaf_cell last_key) [], old_name n stays.0))
     | inr comes ↦ (twig, here twig [], names_from n comes)
@@ -181,7 +207,8 @@ step = record {
   level = refl;
   first = refl;
   ranges = (refl, refl, omega (arith, from_least, to_top, least_file, file_top), refl);
-  goes = λ c at. subst (λ (x : CellSeen). Contains (node_of (twig_cell pointer_block)).names (name_of x)) (sym (only (leaf_cell last_key) c at)) goes_name;
+  goes = λ c at. subst (λ (x : CellSeen). Contains (node_of (twig_cell pointer_block)).names (name_of x))
+      (sym (only (leaf_cell last_key) c at)) goes_name;
   names = names;
 }
 
@@ -189,7 +216,8 @@ pub small_change : IsTwigChange extent_tree small_root extent_below extent_step 
 small_change = record {
   part = tree_is_part extent_tree small_root (small_is_tree pointer_block stat_block);
   path = (ap Some (sym old_twig), omega arith, tt, tt);
-  gone = λ c at. subst (λ (x : CellSeen). extent_tree x.id ≡ Some (node_of x)) (sym (only (leaf_cell last_key) c at)) (ap Some (sym old_leaf));
+  gone = λ c at. subst (λ (x : CellSeen). extent_tree x.id ≡ Some (node_of x)) (sym (only (leaf_cell last_key) c at))
+      (ap Some (sym old_leaf));
   step = step;
   climbs = tt;
   ends = (twig, refl);
@@ -197,17 +225,19 @@ small_change = record {
   numbers = numbers;
 }
 
-pub all_sound : (c : CellSeen) → Contains (leaf_cell last_key ∷ (twig_cell pointer_block ∷ (leaf ∷ (data_cell 0 ∷ (data_cell 1 ∷ (twig ∷ [])))))) c → IsSound c
-all_sound c at = elim (cases (leaf_cell last_key) c (twig_cell pointer_block ∷ (leaf ∷ (data_cell 0 ∷ (data_cell 1 ∷ (twig ∷ []))))) at) [
-  | inl is ↦ subst IsSound (sym is) old_leaf_sound
-  | inr a ↦ elim (cases (twig_cell pointer_block) c (leaf ∷ (data_cell 0 ∷ (data_cell 1 ∷ (twig ∷ [])))) a) [
-    | inl is ↦ subst IsSound (sym is) was_sound
-    | inr b ↦ elim (cases leaf c (data_cell 0 ∷ (data_cell 1 ∷ (twig ∷ []))) b) [
-      | inl is ↦ subst IsSound (sym is) leaf_sound
-      | inr d ↦ elim (three (data_cell 0) (data_cell 1) twig c d) [
-        | inl is ↦ subst IsSound (sym is) (data_sound 0)
-        | inr e ↦ elim e [ inl is ↦ subst IsSound (sym is) (data_sound 1) | inr is ↦ subst IsSound (sym is) twig_sound ]
+pub all_sound : (c : CellSeen) → Contains (leaf_cell last_key ∷
+    (twig_cell pointer_block ∷ (leaf ∷ (data_cell 0 ∷ (data_cell 1 ∷ (twig ∷ [])))))) c → IsSound c
+all_sound c at = elim (cases (leaf_cell last_key) c (twig_cell pointer_block ∷
+    (leaf ∷ (data_cell 0 ∷ (data_cell 1 ∷ (twig ∷ []))))) at) [
+      | inl is ↦ subst IsSound (sym is) old_leaf_sound
+      | inr a ↦ elim (cases (twig_cell pointer_block) c (leaf ∷ (data_cell 0 ∷ (data_cell 1 ∷ (twig ∷ [])))) a) [
+        | inl is ↦ subst IsSound (sym is) was_sound
+        | inr b ↦ elim (cases leaf c (data_cell 0 ∷ (data_cell 1 ∷ (twig ∷ []))) b) [
+          | inl is ↦ subst IsSound (sym is) leaf_sound
+          | inr d ↦ elim (three (data_cell 0) (data_cell 1) twig c d) [
+            | inl is ↦ subst IsSound (sym is) (data_sound 0)
+            | inr e ↦ elim e [ inl is ↦ subst IsSound (sym is) (data_sound 1) | inr is ↦ subst IsSound (sym is) twig_sound ]
+          ]
+        ]
       ]
     ]
-  ]
-]

@@ -20,7 +20,8 @@ pub old_leaf : node_of (leaf_cell last_key) ≡ whole_leaf stat_block
 unfolding cell_of names_in spans_in units_in item_names item_units items_of items_from item_at key_at offset_at plugin_at edge_at number_at number_bytes rank least top attr_of stat_body
 old_leaf = refl
 
-pub new_names : (node_of (twig_cell extent_block)).names ≡ name_of (leaf_cell (file_key 0)) ∷ name_of (data_cell 0) ∷ name_of (data_cell 1) ∷ []
+pub new_names : (node_of (twig_cell extent_block)).names ≡ name_of (leaf_cell (file_key 0)) ∷ name_of (data_cell 0) ∷ name_of
+    (data_cell 1) ∷ []
 unfolding cell_of names_in item_names items_of items_from item_at key_at offset_at plugin_at edge_at number_at number_bytes rank pointer_of units_of units_from
 new_names = refl
 

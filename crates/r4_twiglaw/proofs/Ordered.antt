@@ -18,7 +18,10 @@ pairs_tail R x xs h i j d a b = h (suc i) (suc j) d (omega (arith, a)) (omega (a
 
 pub distinct : (cells : List CellSeen) → HaveNames cells → Distinct cells
 distinct [] h = tt
-distinct (c ∷ cells) h = (pairs_head (λ (x y : CellSeen). x.id ≢ y.id) c cells h, distinct cells (pairs_tail (λ (x y : CellSeen). x.id ≢ y.id) c cells h))
+distinct (c ∷ cells) h = (
+  pairs_head (λ (x y : CellSeen). x.id ≢ y.id) c cells h,
+  distinct cells (pairs_tail (λ (x y : CellSeen). x.id ≢ y.id) c cells h),
+)
 
 -- ---- numbers
 
@@ -48,4 +51,7 @@ once_apart (x ∷ xs) ys i (first, rest) in_xs in_ys = elim (cases x i xs in_xs)
 
 pub once_distinct : (cells : List CellSeen) → Once (ids_of cells) → Distinct cells
 once_distinct [] h = tt
-once_distinct (c ∷ cells) (first, rest) = (λ y at same. first (subst (Contains (ids_of cells)) (sym same) (id_member cells y at)), once_distinct cells rest)
+once_distinct (c ∷ cells) (first, rest) = (
+  λ y at same. first (subst (Contains (ids_of cells)) (sym same) (id_member cells y at)),
+  once_distinct cells rest,
+)

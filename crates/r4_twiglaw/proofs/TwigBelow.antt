@@ -35,7 +35,8 @@ only x y at = elim (cases x y [] at) [ inl is ↦ is | inr more ↦ absurd (none
 low_name : (c : Node Value) (n : Name) → IsNode c → c.level ≡ 2 → Contains c.names n → n.level ≤ 1
 low_name c n ok twig member = elim (ok.below n member) [ inl h ↦ omega (arith, h, twig) | inr h ↦ omega (arith, h) ]
 
-module _ (t : Store Value) (r : Root) (b : Below) (s : Step) (more : List Step) (over : Option CellSeen) (is : IsTwigChange t r b s more over) where
+module _ (t : Store Value) (r : Root) (b : Below) (s : Step) (more : List Step) (over : Option CellSeen)
+    (is : IsTwigChange t r b s more over) where
   pub twig_there : t s.old.id ≡ Some (node_of s.old)
   twig_there = let (at, level, leads, rest) = is.path in at
 
@@ -43,7 +44,8 @@ module _ (t : Store Value) (r : Root) (b : Below) (s : Step) (more : List Step) 
   twig_node = is.part.nodes s.old.id (node_of s.old) twig_there
 
   new_node : (u : CellSeen) → Contains s.new u → IsNode (node_of u)
-  new_node u member = is.nodes u (Contains-append_right b.new (news (s ∷ more) over) u (Contains-append_left s.new (news more over) u member))
+  new_node u member = is.nodes u (Contains-append_right b.new (news (s ∷ more) over) u
+      (Contains-append_left s.new (news more over) u member))
 
   old_level : (node_of s.old).level ≡ 2
   old_level = level_is s.old ∙ is.step.level
@@ -60,16 +62,19 @@ module _ (t : Store Value) (r : Root) (b : Below) (s : Step) (more : List Step) 
   low_old c member = low_name (node_of s.old) (name_of c) twig_node old_level (is.step.goes c member)
 
   pub low_new : (c : CellSeen) → Contains b.new c → c.level ≤ 1
-  low_new c member = let (u, in_u, names) = (is.step.names (name_of c)).1 (inr (c, member, refl)) in low_name (node_of u) (name_of c) (new_node u in_u) (new_level u in_u) names
+  low_new c member = let (u, in_u, names) = (is.step.names (name_of c)).1 (inr (c, member, refl)) in low_name (node_of u)
+      (name_of c) (new_node u in_u) (new_level u in_u) names
 
   pub low_below : (c : CellSeen) → Contains (b.old ++ b.new) c → c.level ≤ 1
-  low_below c member = elim (Contains-append_cases b.old b.new c member) [ inl goes ↦ low_old c goes | inr comes ↦ low_new c comes ]
+  low_below c member = elim (Contains-append_cases b.old b.new c member)
+      [ inl goes ↦ low_old c goes | inr comes ↦ low_new c comes ]
 
   -- ---- what goes, and what stays
 
   -- what has the number of a cell that goes is its name
   pub gone_id : (c : CellSeen) (n : Name) → Contains b.old c → Contains (node_of s.old).names n → n.id ≡ c.id → n ≡ name_of c
-  gone_id c n in_b member same = (named_once t r is.part s.old.id s.old.id c.id (node_of s.old) (node_of s.old) (node_of c) n (name_of c) twig_there twig_there member (is.step.goes c in_b) (is.gone c in_b) same refl).1
+  gone_id c n in_b member same = (named_once t r is.part s.old.id s.old.id c.id (node_of s.old) (node_of s.old) (node_of c) n
+      (name_of c) twig_there twig_there member (is.step.goes c in_b) (is.gone c in_b) same refl).1
 
   goes_or_stays : (n : Name) → Contains (node_of s.old).names n → IsNameOf b.old n ⊎ (IsNameOf b.old n → ⊥)
   goes_or_stays n member = elim (none_or_some (by_name b.old n.id)) [
@@ -79,7 +84,8 @@ module _ (t : Store Value) (r : Root) (b : Below) (s : Step) (more : List Step) 
         inl (c, in_b, gone_id c n in_b member (sym id))
     | inl gone ↦ inr (λ goes.
         let (c, in_b, e) = goes in
-        none-some (node_of c) (sym gone ∙ subst (λ i. by_name b.old i ≡ Some (node_of c)) (sym (ap (λ (m : Name). m.id) e)) (there b.old c (distinct b.old is.numbers.old) in_b)))
+        none-some (node_of c) (sym gone ∙ subst (λ i. by_name b.old i ≡ Some (node_of c)) (sym (ap (λ (m : Name). m.id) e))
+        (there b.old c (distinct b.old is.numbers.old) in_b)))
   ]
 
   -- ---- keys
@@ -103,39 +109,48 @@ module _ (t : Store Value) (r : Root) (b : Below) (s : Step) (more : List Step) 
       let high = (new_node u in_u).name_to n member in
       in_cell u k (omega (arith, low, at), omega (arith, high, at))
 
-  under_span : (u : CellSeen) (x : Span) (k : ℕ) → Contains s.new u → Contains (node_of u).spans x → (x.lo ≤ k) × (k < x.hi) → InCell u k
+  under_span : (u : CellSeen) (x : Span) (k : ℕ) → Contains s.new u → Contains (node_of u).spans x → (x.lo ≤ k) × (k < x.hi)
+      → InCell u k
   under_span u x k in_u member at =
       let low = (new_node u in_u).span_from x member in
       let high = (new_node u in_u).span_to x member in
       in_cell u k (omega (arith, low, at), omega (arith, high, at))
 
   one_twig : (u v : CellSeen) (k : ℕ) → Contains s.new u → Contains s.new v → InCell u k → InCell v k → u ≡ v
-  one_twig u v k in_u in_v at_u at_v = follow_apart s.old.level (rank s.old.lo) (rank s.old.hi) s.new u v k is.step.ranges in_u in_v at_u at_v
+  one_twig u v k in_u in_v at_u at_v = follow_apart s.old.level (rank s.old.lo)
+      (rank s.old.hi) s.new u v k is.step.ranges in_u in_v at_u at_v
 
   -- no key of what goes lies under a leaf that stays
-  old_apart : (k : ℕ) (n : Name) → CoversBelow (s.old ∷ []) b.old k → Contains (node_of s.old).names n → (IsNameOf b.old n → ⊥) → n.level ≡ 1 → InName n k → ⊥
-  old_apart k n (inl (c, in_b, leaf, at)) member stays one under = stays (c, in_b, twig_node.names_apart n (name_of c) k member (is.step.goes c in_b) (one ∙ sym leaf) under (in_cell c k at))
+  old_apart : (k : ℕ) (n : Name) → CoversBelow (s.old ∷ []) b.old k → Contains (node_of s.old).names n → (IsNameOf b.old n → ⊥)
+      → n.level ≡ 1 → InName n k → ⊥
+  old_apart k n (inl (c, in_b, leaf, at)) member stays one under = stays
+      (c, in_b, twig_node.names_apart n (name_of c) k member (is.step.goes c in_b) (one ∙ sym leaf) under (in_cell c k at))
   old_apart k n (inr (x, (d, in_d, has), at)) member stays one under =
-      let data_block = twig_node.spans_apart n x k member (subst (λ (c : CellSeen). Contains (node_of c).spans x) (only s.old d in_d) has) under at in
+      let data_block = twig_node.spans_apart n x k member (subst (λ (c : CellSeen). Contains (node_of c).spans x)
+      (only s.old d in_d) has) under at in
       omega (arith, data_block, one)
 
   -- nor does one of what comes
-  new_apart : (k : ℕ) (n : Name) → CoversBelow s.new b.new k → Contains (node_of s.old).names n → (IsNameOf b.old n → ⊥) → n.level ≡ 1 → InName n k → ⊥
+  new_apart : (k : ℕ) (n : Name) → CoversBelow s.new b.new k → Contains (node_of s.old).names n → (IsNameOf b.old n → ⊥)
+      → n.level ≡ 1 → InName n k → ⊥
   new_apart k n (inl (c, in_b, leaf, at)) member stays one under =
       let (v, in_v, has_n) = (is.step.names n).1 (inl (member, stays)) in
       let (u, in_u, has_c) = (is.step.names (name_of c)).1 (inr (c, in_b, refl)) in
       let at_c = in_cell c k at in
       let uv = one_twig u v k in_u in_v (under_name u (name_of c) k in_u has_c at_c) (under_name v n k in_v has_n under) in
-      let same = (new_node v in_v).names_apart n (name_of c) k has_n (subst (λ (z : CellSeen). Contains (node_of z).names (name_of c)) uv has_c) (one ∙ sym leaf) under at_c in
+      let same = (new_node v in_v).names_apart n (name_of c) k has_n
+      (subst (λ (z : CellSeen). Contains (node_of z).names (name_of c)) uv has_c) (one ∙ sym leaf) under at_c in
       let id = ap (λ (m : Name). m.id) same in
       elim (is.numbers.each c in_b) [
-        | inl again ↦ let (o, in_o, same_o) = id_cell b.old c.id again in stays (o, in_o, gone_id o n in_o member (id ∙ sym same_o))
+        | inl again ↦ let (o, in_o, same_o) = id_cell b.old c.id again in stays
+            (o, in_o, gone_id o n in_o member (id ∙ sym same_o))
         | inr new ↦ new.0.1 (n, (s.old.id, node_of s.old, twig_there, member), id)
       ]
   new_apart k n (inr (x, (u, in_u, has), at)) member stays one under =
       let (v, in_v, has_n) = (is.step.names n).1 (inl (member, stays)) in
       let uv = one_twig u v k in_u in_v (under_span u x k in_u has at) (under_name v n k in_v has_n under) in
-      let data_block = (new_node v in_v).spans_apart n x k has_n (subst (λ (z : CellSeen). Contains (node_of z).spans x) uv has) under at in
+      let data_block = (new_node v in_v).spans_apart n x k has_n
+      (subst (λ (z : CellSeen). Contains (node_of z).spans x) uv has) under at in
       omega (arith, data_block, one)
 
   pub goes_covered : (k : ℕ) → CoversBelow (s.old ∷ []) b.old k → CoversBelow s.new b.new k
@@ -149,7 +164,12 @@ module _ (t : Store Value) (r : Root) (b : Below) (s : Step) (more : List Step) 
             let (n, member, up, under) = named in
             elim ((is.step.names n).0 (u, in_u, member)) [
               | inl stays ↦ absurd (old_apart k n h stays.0 stays.1 (omega (arith, up, level)) under)
-              | inr comes ↦ let (c, in_b, e) = comes in inl (c, in_b, leaf_level n c e (omega (arith, up, level)), in_leaf n c k e under)
+              | inr comes ↦ let (c, in_b, e) = comes in inl (
+                c,
+                in_b,
+                leaf_level n c e (omega (arith, up, level)),
+                in_leaf n c k e under,
+              )
             ]
       ]
     where
@@ -179,7 +199,12 @@ module _ (t : Store Value) (r : Root) (b : Below) (s : Step) (more : List Step) 
         let (n, member, up, under) = named in
         let one : n.level ≡ 1 = omega (arith, up, old_level) in
         elim (goes_or_stays n member) [
-          | inl goes ↦ let (c, in_b, e) = goes in inl (c, in_b, sym (ap (λ (m : Name). m.level) e) ∙ one, in_node c k (subst (λ (m : Name). InName m k) e under))
+          | inl goes ↦ let (c, in_b, e) = goes in inl (
+            c,
+            in_b,
+            sym (ap (λ (m : Name). m.level) e) ∙ one,
+            in_node c k (subst (λ (m : Name). InName m k) e under),
+          )
           | inr stays ↦ absurd (new_apart k n h member stays one under)
         ]
   ]

@@ -27,10 +27,12 @@ climbs_first below [] climbs = tt
 climbs_first below (s ∷ steps) (step, rest) = (step.first, climbs_first (Some s) steps rest)
 
 step_id : (s : Step) (x : CellSeen) → IsFirst s → Contains s.new x → (x.id ≡ s.old.id) ⊎ Contains (ids_of (drop 1 s.new)) x.id
-step_id s x first member = cases s.old.id x.id (ids_of (drop 1 s.new)) (subst (λ ids. Contains ids x.id) first (id_member s.new x member))
+step_id s x first member = cases s.old.id x.id (ids_of (drop 1 s.new))
+    (subst (λ ids. Contains ids x.id) first (id_member s.new x member))
 
 -- a new cell has the name of an old one of the steps, or a new name
-pub id_from : (below : Option Step) (steps : List Step) (over : Option CellSeen) (x : CellSeen) → AreFirst steps → Contains (news steps over) x
+pub id_from : (below : Option Step) (steps : List Step) (over : Option CellSeen) (x : CellSeen) → AreFirst steps
+    → Contains (news steps over) x
     → ((b : Option Step) × (s : Step) × Stands below steps b s × (x.id ≡ s.old.id)) ⊎ Contains (fresh_ids steps over) x.id
 id_from below [] None x firsts at = absurd (none x at)
 id_from below [] (Some c) x firsts at = elim (cases c x [] at) [
@@ -56,7 +58,8 @@ has_below u (v ∷ vs) s (inr h) = has_below v vs s h
 
 module _ (t : Store Value) (r : Root) (part : IsPart t r) where
   -- a step is higher than the one below all
-  pub higher : (u : Step) (steps : List Step) (b : Option Step) (s : Step) → 1 ≤ u.old.level → Ascends t (Some u.old) (olds steps) → Stands (Some u) steps b s → u.old.level < s.old.level
+  pub higher : (u : Step) (steps : List Step) (b : Option Step) (s : Step) → 1 ≤ u.old.level
+      → Ascends t (Some u.old) (olds steps) → Stands (Some u) steps b s → u.old.level < s.old.level
   higher u [] b s low path h = absurd h
   higher u (v ∷ vs) b s low (at, level, leads, rest) (inl (eb, es)) =
       let up = up_one t r part u v (record { there = at; level = level; leads = leads }) low in
@@ -68,7 +71,9 @@ module _ (t : Store Value) (r : Root) (part : IsPart t r) where
       omega (arith, up, more)
 
   -- no two new cells of the steps have one name
-  pub distinct_new : (below : Option Step) (steps : List Step) (over : Option CellSeen) → Ascends t (old_below below) (olds steps) → AreFirst steps → Once (fresh_ids steps over) → ((i : ℕ) → Contains (fresh_ids steps over) i → t i ≡ None) → Distinct (news steps over)
+  pub distinct_new : (below : Option Step) (steps : List Step) (over : Option CellSeen)
+      → Ascends t (old_below below) (olds steps) → AreFirst steps → Once (fresh_ids steps over)
+      → ((i : ℕ) → Contains (fresh_ids steps over) i → t i ≡ None) → Distinct (news steps over)
   distinct_new below [] None path firsts numbers free = tt
   distinct_new below [] (Some c) path firsts numbers free = (λ y member. absurd (none y member), tt)
   distinct_new below (u ∷ us) over path firsts numbers free =
@@ -78,7 +83,10 @@ module _ (t : Store Value) (r : Root) (part : IsPart t r) where
       let others = fresh_ids us over in
       let free_here : (i : ℕ) → Contains mine i → t i ≡ None = λ i is. free i (Contains-append_left mine others i is) in
       let free_more : (i : ℕ) → Contains others i → t i ≡ None = λ i is. free i (Contains-append_right mine others i is) in
-      let mine_once : Once (u.old.id ∷ mine) = (λ is. none-some (node_of u.old) (sym (free_here u.old.id is) ∙ at), once_left mine others numbers) in
+      let mine_once : Once (u.old.id ∷ mine) = (
+        λ is. none-some (node_of u.old) (sym (free_here u.old.id is) ∙ at),
+        once_left mine others numbers,
+      ) in
       distinct_append u.new (news us over)
       (once_distinct u.new (subst Once (sym first) mine_once))
       (distinct_new (Some u) us over rest more (once_right mine others numbers) free_more)
@@ -87,12 +95,14 @@ module _ (t : Store Value) (r : Root) (part : IsPart t r) where
           | inl h ↦
               let (b, s, st, ey) = h in
               (distinct_olds t r part below (u ∷ us) path).0 s.old (stands_old (Some u) us b s st) (sym ex ∙ (same ∙ ey))
-          | inr h ↦ none-some (node_of u.old) (sym (free_more y.id h) ∙ subst (λ i. t i ≡ Some (node_of u.old)) (sym ex ∙ same) at)
+          | inr h ↦ none-some (node_of u.old) (sym (free_more y.id h) ∙ subst (λ i. t i ≡ Some (node_of u.old))
+              (sym ex ∙ same) at)
         ]
         | inr fx ↦ elim (id_from (Some u) us over y more in_y) [
           | inl h ↦
               let (b, s, st, ey) = h in
-              none-some (node_of s.old) (sym (free_here x.id fx) ∙ subst (λ i. t i ≡ Some (node_of s.old)) (sym (same ∙ ey)) (stands_in t (Some u) us b s rest st).there)
+              none-some (node_of s.old) (sym (free_here x.id fx) ∙ subst (λ i. t i ≡ Some (node_of s.old)) (sym (same ∙ ey))
+              (stands_in t (Some u) us b s rest st).there)
           | inr h ↦ once_apart mine others y.id numbers (subst (Contains mine) same fx) h
         ]
       ])

@@ -32,7 +32,8 @@ root_some : (o : Option CellSeen) → IsSome (option_map root_of_pair (root_pair
 root_some None h = absurd cc
 root_some (Some c) h = (c, refl)
 
-root_is : (o : Option CellSeen) (q : Root) → option_map root_of_pair (root_pair o) ≡ Some q → (c : CellSeen) × (o ≡ Some c) × (q.id ≡ c.id) × (q.height ≡ c.level)
+root_is : (o : Option CellSeen) (q : Root) → option_map root_of_pair (root_pair o) ≡ Some q
+    → (c : CellSeen) × (o ≡ Some c) × (q.id ≡ c.id) × (q.height ≡ c.level)
 root_is None q h = absurd (none-some q h)
 root_is (Some c) q h =
     let e : q ≡ record { id = c.id; height = c.level } = same_Some q (record { id = c.id; height = c.level }) (sym h) in
@@ -54,10 +55,13 @@ record Replaces (o c : CellSeen) : Type 0 where
   lo : rank c.lo ≡ rank o.lo
   hi : rank c.hi ≡ rank o.hi
 
-replaces : (s : Step) (c : CellSeen) → IsFirst s → Follow s.old.level (rank s.old.lo) (rank s.old.hi) s.new → s.new ≡ c ∷ [] → Replaces s.old c
+replaces : (s : Step) (c : CellSeen) → IsFirst s → Follow s.old.level (rank s.old.lo) (rank s.old.hi) s.new → s.new ≡ c ∷ []
+    → Replaces s.old c
 replaces s c is_first ranges e =
-    let follow : Follow s.old.level (rank s.old.lo) (rank s.old.hi) (c ∷ []) = subst (Follow s.old.level (rank s.old.lo) (rank s.old.hi)) e ranges in
-    let first : ids_of (c ∷ []) ≡ s.old.id ∷ ids_of (drop 1 (c ∷ [])) = subst (λ (cells : List CellSeen). ids_of cells ≡ s.old.id ∷ ids_of (drop 1 cells)) e is_first in
+    let follow : Follow s.old.level (rank s.old.lo) (rank s.old.hi) (c ∷ []) = subst
+    (Follow s.old.level (rank s.old.lo) (rank s.old.hi)) e ranges in
+    let first : ids_of (c ∷ []) ≡ s.old.id ∷ ids_of (drop 1 (c ∷ [])) = subst
+    (λ (cells : List CellSeen). ids_of cells ≡ s.old.id ∷ ids_of (drop 1 cells)) e is_first in
     let same : c.id ≡ s.old.id = cc in
     record { id = same; level = follow.0; lo = follow.1; hi = follow.3 }
 
@@ -67,7 +71,8 @@ low_names c n ok low member =
     let same = level_is c in
     elim (ok.below n member) [ inl h ↦ omega (arith, h, low, same) | inr h ↦ omega (arith, h, low, same) ]
 
-module _ (t : Store Value) (r : Root) (b : Below) (s : Step) (more : List Step) (over : Option CellSeen) (is : IsTwigChange t r b s more over) where
+module _ (t : Store Value) (r : Root) (b : Below) (s : Step) (more : List Step) (over : Option CellSeen)
+    (is : IsTwigChange t r b s more over) where
   abbrev steps : List Step
   steps = s ∷ more
 
@@ -133,13 +138,15 @@ module _ (t : Store Value) (r : Root) (b : Below) (s : Step) (more : List Step) 
       let up = higher t r is.part s more (Some a) u level rest h in
       omega (arith, twig, up)
 
-  piece : (a : Option Step) (u : Step) (x : CellSeen) → Stands None steps a u → Contains u.new x → Within u.old.level (rank u.old.lo) (rank u.old.hi) x
+  piece : (a : Option Step) (u : Step) (x : CellSeen) → Stands None steps a u → Contains u.new x
+      → Within u.old.level (rank u.old.lo) (rank u.old.hi) x
   piece a u x st member = follow_within u.old.level (rank u.old.lo) (rank u.old.hi) u.new x (ranges a u st) member
 
   -- ---- no name twice
 
   same_level : (x y : CellSeen) → t x.id ≡ Some (node_of x) → t y.id ≡ Some (node_of y) → x.id ≡ y.id → x.level ≡ y.level
-  same_level x y tx ty same = sym (level_is x) ∙ (ap (λ (d : Node Value). d.level) (same_Some (node_of x) (node_of y) (sym (subst (λ i. t i ≡ Some (node_of x)) same tx) ∙ ty)) ∙ level_is y)
+  same_level x y tx ty same = sym (level_is x) ∙ (ap (λ (d : Node Value). d.level)
+      (same_Some (node_of x) (node_of y) (sym (subst (λ i. t i ≡ Some (node_of x)) same tx) ∙ ty)) ∙ level_is y)
 
   -- what goes below has no name of a step
   below_step : (x : CellSeen) (a : Option Step) (u : Step) → Contains b.old x → Stands None steps a u → x.id ≡ u.old.id → ⊥
@@ -151,47 +158,56 @@ module _ (t : Store Value) (r : Root) (b : Below) (s : Step) (more : List Step) 
       omega (arith, low, high, level)
 
   distinct_old : Distinct (b.old ++ olds steps)
-  distinct_old = distinct_append b.old (olds steps) (distinct b.old is.numbers.old) (distinct_olds t r is.part None steps is.path)
-      (λ x y in_x in_y same. let (a, u, st, ey) = old_stands None steps y in_y in below_step x a u in_x st (same ∙ ap (λ (z : CellSeen). z.id) ey))
+  distinct_old = distinct_append b.old (olds steps) (distinct b.old is.numbers.old)
+      (distinct_olds t r is.part None steps is.path)
+      (λ x y in_x in_y same. let (a, u, st, ey) = old_stands None steps y in_y in below_step x a u in_x st
+      (same ∙ ap (λ (z : CellSeen). z.id) ey))
 
   distinct_ups : Distinct (news steps over)
-  distinct_ups = distinct_new t r is.part None steps over is.path firsts (once (fresh_ids steps over) is.numbers.once) (λ i at. (is.numbers.unused i at).0)
+  distinct_ups = distinct_new t r is.part None steps over is.path firsts (once (fresh_ids steps over) is.numbers.once)
+      (λ i at. (is.numbers.unused i at).0)
 
   distinct_all : Distinct (b.new ++ news steps over)
-  distinct_all = distinct_append b.new (news steps over) (distinct b.new is.numbers.new) distinct_ups (λ x y in_x in_y same. elim (is.numbers.each x in_x) [
-    | inl again ↦
-        let (o, in_o, same_o) = id_cell b.old x.id again in
-        elim (id_from None steps over y firsts in_y) [
-          | inl h ↦ let (a, u, st, ey) = h in below_step o a u in_o st (same_o ∙ (same ∙ ey))
-          | inr h ↦ none-some (node_of o) (sym (is.numbers.unused y.id h).0 ∙ subst (λ i. t i ≡ Some (node_of o)) (same_o ∙ same) (is.gone o in_o))
-        ]
-    | inr new ↦
-        let (unused, apart) = new in
-        elim (id_from None steps over y firsts in_y) [
-          | inl h ↦ let (a, u, st, ey) = h in none-some (node_of u.old) (sym unused.0 ∙ subst (λ i. t i ≡ Some (node_of u.old)) (sym (same ∙ ey)) (sit a u st).there)
-          | inr h ↦ apart (subst (Contains (fresh_ids steps over)) (sym same) h)
-        ]
-  ])
+  distinct_all = distinct_append b.new (news steps over) (distinct b.new is.numbers.new) distinct_ups
+      (λ x y in_x in_y same. elim (is.numbers.each x in_x) [
+        | inl again ↦
+            let (o, in_o, same_o) = id_cell b.old x.id again in
+            elim (id_from None steps over y firsts in_y) [
+              | inl h ↦ let (a, u, st, ey) = h in below_step o a u in_o st (same_o ∙ (same ∙ ey))
+              | inr h ↦ none-some (node_of o) (sym (is.numbers.unused y.id h).0 ∙ subst (λ i. t i ≡ Some (node_of o))
+                  (same_o ∙ same) (is.gone o in_o))
+            ]
+        | inr new ↦
+            let (unused, apart) = new in
+            elim (id_from None steps over y firsts in_y) [
+              | inl h ↦ let (a, u, st, ey) = h in none-some (node_of u.old)
+                  (sym unused.0 ∙ subst (λ i. t i ≡ Some (node_of u.old)) (sym (same ∙ ey)) (sit a u st).there)
+              | inr h ↦ apart (subst (Contains (fresh_ids steps over)) (sym same) h)
+            ]
+      ])
 
   -- ---- what stands under a name
 
   -- an old cell is below, or of a step
   abbrev OldAt : ℕ → Node Value → Type 0
-  OldAt i c = ((x : CellSeen) × Contains b.old x × (x.id ≡ i) × (c ≡ node_of x)) ⊎ ((a : Option Step) × (u : Step) × Stands None steps a u × (u.old.id ≡ i) × (c ≡ node_of u.old))
+  OldAt i c = ((x : CellSeen) × Contains b.old x × (x.id ≡ i) × (c ≡ node_of x)) ⊎
+      ((a : Option Step) × (u : Step) × Stands None steps a u × (u.old.id ≡ i) × (c ≡ node_of u.old))
 
   old_at : (i : ℕ) (c : Node Value) → p.old i ≡ Some c → OldAt i c
   old_at i c e =
       let (x, member, id, says) = found (b.old ++ olds steps) i c e in
       elim (Contains-append_cases b.old (olds steps) x member) [
         | inl low ↦ inl (x, low, id, says)
-        | inr high ↦ let (a, u, st, xs) = old_stands None steps x high in inr (a, u, st, sym (ap (λ (y : CellSeen). y.id) xs) ∙ id, says ∙ ap node_of xs)
+        | inr high ↦ let (a, u, st, xs) = old_stands None steps x high in inr
+            (a, u, st, sym (ap (λ (y : CellSeen). y.id) xs) ∙ id, says ∙ ap node_of xs)
       ]
 
   has_low : (x : CellSeen) → Contains b.old x → p.old x.id ≡ Some (node_of x)
   has_low x member = there (b.old ++ olds steps) x distinct_old (Contains-append_left b.old (olds steps) x member)
 
   has_old : (a : Option Step) (u : Step) → Stands None steps a u → p.old u.old.id ≡ Some (node_of u.old)
-  has_old a u st = there (b.old ++ olds steps) u.old distinct_old (Contains-append_right b.old (olds steps) u.old (stands_old None steps a u st))
+  has_old a u st = there (b.old ++ olds steps) u.old distinct_old
+      (Contains-append_right b.old (olds steps) u.old (stands_old None steps a u st))
 
   -- a new cell is below, of a step, or the new root
   abbrev NewOf : CellSeen → Type 0
@@ -215,23 +231,29 @@ module _ (t : Store Value) (r : Root) (b : Below) (s : Step) (more : List Step) 
   new_low : (x : CellSeen) → Contains b.new x → p.new x.id ≡ Some (node_of x)
   new_low x member = has_new x (Contains-append_left b.new (news steps over) x member)
 
-  of_step : (a : Option Step) (u : Step) (x : CellSeen) → Stands None steps a u → Contains u.new x → p.new x.id ≡ Some (node_of x)
-  of_step a u x st member = has_new x (Contains-append_right b.new (news steps over) x (stands_new None steps over a u x st member))
+  of_step : (a : Option Step) (u : Step) (x : CellSeen) → Stands None steps a u → Contains u.new x
+      → p.new x.id ≡ Some (node_of x)
+  of_step a u x st member = has_new x (Contains-append_right b.new (news steps over) x
+      (stands_new None steps over a u x st member))
 
   root_new : (c : CellSeen) → over ≡ Some c → Contains (b.new ++ news steps over) c
-  root_new c e = Contains-append_right b.new (news steps over) c (subst (λ (o : Option CellSeen). Contains (news steps o) c) (sym e) (over_new steps c))
+  root_new c e = Contains-append_right b.new (news steps over) c
+      (subst (λ (o : Option CellSeen). Contains (news steps o) c) (sym e) (over_new steps c))
 
   node_low : (x : CellSeen) → Contains b.new x → IsNode (node_of x)
   node_low x member = is.nodes x (Contains-append_left b.new (news steps over) x member)
 
   node_step : (a : Option Step) (u : Step) (x : CellSeen) → Stands None steps a u → Contains u.new x → IsNode (node_of x)
-  node_step a u x st member = is.nodes x (Contains-append_right b.new (news steps over) x (stands_new None steps over a u x st member))
+  node_step a u x st member = is.nodes x (Contains-append_right b.new (news steps over) x
+      (stands_new None steps over a u x st member))
 
-  not_old : (i : ℕ) → ((x : CellSeen) → Contains b.old x → x.id ≢ i) → ((a : Option Step) (u : Step) → Stands None steps a u → u.old.id ≢ i) → p.old i ≡ None
-  not_old i none_low none_is = absent (b.old ++ olds steps) i (λ x member id. elim (Contains-append_cases b.old (olds steps) x member) [
-    | inl low ↦ none_low x low id
-    | inr high ↦ let (a, u, st, xs) = old_stands None steps x high in none_is a u st (sym (ap (λ (y : CellSeen). y.id) xs) ∙ id)
-  ])
+  not_old : (i : ℕ) → ((x : CellSeen) → Contains b.old x → x.id ≢ i)
+      → ((a : Option Step) (u : Step) → Stands None steps a u → u.old.id ≢ i) → p.old i ≡ None
+  not_old i none_low none_is = absent (b.old ++ olds steps) i
+      (λ x member id. elim (Contains-append_cases b.old (olds steps) x member) [
+        | inl low ↦ none_low x low id
+        | inr high ↦ let (a, u, st, xs) = old_stands None steps x high in none_is a u st (sym (ap (λ (y : CellSeen). y.id) xs) ∙ id)
+      ])
 
   new_root_over : (u : Step) (c : CellSeen) → IsHighest t r is.part over None steps u → over ≡ Some c → IsRootOver r u c
   new_root_over u c high e = let ends : Ends r (u ∷ []) (Some c) = subst (Ends r (u ∷ [])) e high.ends in ends
@@ -251,12 +273,19 @@ module _ (t : Store Value) (r : Root) (b : Below) (s : Step) (more : List Step) 
   top_three : (c : CellSeen) → over ≡ Some c → 3 ≤ c.level
   top_three c e = let up = top_level c e None s lowest in let twig = is.step.level in omega (arith, up, twig)
 
-  step_covers : (l k : ℕ) (a : Option Step) (u : Step) (c : Node Value) → Stands None steps a u → c ≡ node_of u.old → c.level ≡ l → InNode c k → Covers p.new l k
+  step_covers : (l k : ℕ) (a : Option Step) (u : Step) (c : Node Value) → Stands None steps a u → c ≡ node_of u.old
+      → c.level ≡ l → InNode c k → Covers p.new l k
   step_covers l k a u c st says cl at =
       let inside = in_cell u.old k (subst (λ (d : Node Value). InNode d k) says at) in
-      let (x, member, in_x) = follow_covers u.old.level (rank u.old.lo) (rank u.old.hi) u.new k (ranges a u st) inside.0 inside.1 in
-      let w = piece a u x st member in
-      (x.id, node_of x, of_step a u x st member, level_is x ∙ (w.level_as ∙ (sym (level_as c u.old says) ∙ cl)), in_node x k in_x)
+      let (x, member, in_x) = follow_covers u.old.level (rank u.old.lo) (rank u.old.hi) u.new k
+      (ranges a u st) inside.0 inside.1 in
+      let w = piece a u x st member in (
+        x.id,
+        node_of x,
+        of_step a u x st member,
+        level_is x ∙ (w.level_as ∙ (sym (level_as c u.old says) ∙ cl)),
+        in_node x k in_x,
+      )
 
   covers_old : (l k : ℕ) → 2 ≤ l → Covers p.old l k → Covers p.new l k
   covers_old l k high (i, c, e, cl, at) = elim (old_at i c e) [
@@ -268,13 +297,19 @@ module _ (t : Store Value) (r : Root) (b : Below) (s : Step) (more : List Step) 
     | inr h ↦ let (a, u, st, id, says) = h in step_covers l k a u c st says cl at
   ]
 
-  piece_covers : (l k : ℕ) (a : Option Step) (u : Step) (x : CellSeen) → Stands None steps a u → Contains u.new x → (node_of x).level ≡ l → InNode (node_of x) k → Covers p.old l k
+  piece_covers : (l k : ℕ) (a : Option Step) (u : Step) (x : CellSeen) → Stands None steps a u → Contains u.new x
+      → (node_of x).level ≡ l → InNode (node_of x) k → Covers p.old l k
   piece_covers l k a u x st member xl at =
       let w = piece a u x st member in
       let inside = in_cell x k at in
       let low = w.from in
-      let high = w.to in
-      (u.old.id, node_of u.old, has_old a u st, level_is u.old ∙ (sym w.level_as ∙ (sym (level_is x) ∙ xl)), in_node u.old k (omega (arith, low, inside), omega (arith, high, inside)))
+      let high = w.to in (
+        u.old.id,
+        node_of u.old,
+        has_old a u st,
+        level_is u.old ∙ (sym w.level_as ∙ (sym (level_is x) ∙ xl)),
+        in_node u.old k (omega (arith, low, inside), omega (arith, high, inside)),
+      )
 
   -- all old cells are lower than the new root
   under_top : (x : CellSeen) → over ≡ Some x → (i : ℕ) (c : Node Value) → p.old i ≡ Some c → c.level < x.level
@@ -292,7 +327,8 @@ module _ (t : Store Value) (r : Root) (b : Below) (s : Step) (more : List Step) 
         omega (arith, cu, up)
   ]
 
-  covers_new : (l k : ℕ) → 2 ≤ l → Covers p.new l k → Covers p.old l k ⊎ (IsSome p.root × ((i : ℕ) (c : Node Value) → p.old i ≡ Some c → c.level < l))
+  covers_new : (l k : ℕ) → 2 ≤ l → Covers p.new l k → Covers p.old l k ⊎
+      (IsSome p.root × ((i : ℕ) (c : Node Value) → p.old i ≡ Some c → c.level < l))
   covers_new l k high (i, c, e, cl, at) =
       let (x, kind_x, id, says) = new_at i c e in
       let cx = level_as c x says in
@@ -301,13 +337,18 @@ module _ (t : Store Value) (r : Root) (b : Below) (s : Step) (more : List Step) 
         | inr up ↦ elim up [
           | inl h ↦
               let (a, u, st, in_u) = h in
-              inl (piece_covers l k a u x st in_u (sym (ap (λ (d : Node Value). d.level) says) ∙ cl) (subst (λ (d : Node Value). InNode d k) says at))
-          | inr top_is ↦ inr (some_root over x top_is, λ j d f. let low = under_top x top_is j d f in omega (arith, low, cx, cl))
+              inl (piece_covers l k a u x st in_u (sym (ap (λ (d : Node Value). d.level) says) ∙ cl)
+              (subst (λ (d : Node Value). InNode d k) says at))
+          | inr top_is ↦ inr (
+            some_root over x top_is,
+            λ j d f. let low = under_top x top_is j d f in omega (arith, low, cx, cl),
+          )
         ]
       ]
 
   nodes : (i : ℕ) (c : Node Value) → p.new i ≡ Some c → IsNode c
-  nodes i c e = let (x, member, id, says) = found (b.new ++ news steps over) i c e in subst IsNode (sym says) (is.nodes x member)
+  nodes i c e = let (x, member, id, says) = found (b.new ++ news steps over) i c e in subst IsNode (sym says)
+      (is.nodes x member)
 
   new_root : (q : Root) → p.root ≡ Some q → IsNewRoot p.new q
   new_root q e =
@@ -344,7 +385,8 @@ module _ (t : Store Value) (r : Root) (b : Below) (s : Step) (more : List Step) 
   -- ---- new cells do not meet
 
   -- two leaves that come
-  leaves_apart : (x y : CellSeen) (k : ℕ) → Contains b.new x → Contains b.new y → x.level ≡ 1 → y.level ≡ 1 → InNode (node_of x) k → InNode (node_of y) k → x.id ≡ y.id
+  leaves_apart : (x y : CellSeen) (k : ℕ) → Contains b.new x → Contains b.new y → x.level ≡ 1 → y.level ≡ 1
+      → InNode (node_of x) k → InNode (node_of y) k → x.id ≡ y.id
   leaves_apart x y k in_x in_y lx ly at_x at_y =
       let (u, in_u, names_x) = (is.step.names (name_of x)).1 (inr (x, in_x, refl)) in
       let (v, in_v, names_y) = (is.step.names (name_of y)).1 (inr (y, in_y, refl)) in
@@ -352,25 +394,36 @@ module _ (t : Store Value) (r : Root) (b : Below) (s : Step) (more : List Step) 
       let nv = node_step None s v lowest in_v in
       let cx = in_cell x k at_x in
       let cy = in_cell y k at_y in
-      let at_u = in_cell u k (omega (arith, nu.name_from (name_of x) names_x, cx), omega (arith, nu.name_to (name_of x) names_x, cx)) in
-      let at_v = in_cell v k (omega (arith, nv.name_from (name_of y) names_y, cy), omega (arith, nv.name_to (name_of y) names_y, cy)) in
-      let one : u ≡ v = follow_apart s.old.level (rank s.old.lo) (rank s.old.hi) s.new u v k is.step.ranges in_u in_v at_u at_v in
+      let at_u = in_cell u k (
+        omega (arith, nu.name_from (name_of x) names_x, cx),
+        omega (arith, nu.name_to (name_of x) names_x, cx),
+      ) in
+      let at_v = in_cell v k (
+        omega (arith, nv.name_from (name_of y) names_y, cy),
+        omega (arith, nv.name_to (name_of y) names_y, cy),
+      ) in
+      let one : u ≡ v = follow_apart s.old.level (rank s.old.lo)
+      (rank s.old.hi) s.new u v k is.step.ranges in_u in_v at_u at_v in
       let both = subst (λ (z : CellSeen). Contains (node_of z).names (name_of x)) one names_x in
       ap (λ (n : Name). n.id) (nv.names_apart (name_of x) (name_of y) k both names_y (lx ∙ sym ly) cx cy)
 
   step_high : (a : Option Step) (u : Step) (x : CellSeen) → Stands None steps a u → Contains u.new x → 2 ≤ x.level
   step_high a u x st member = let w = (piece a u x st member).level_as in let high = two a u st in omega (arith, w, high)
 
-  up_high : (x : CellSeen) → ((a : Option Step) × (u : Step) × Stands None steps a u × Contains u.new x) ⊎ (over ≡ Some x) → 2 ≤ x.level
+  up_high : (x : CellSeen) → ((a : Option Step) × (u : Step) × Stands None steps a u × Contains u.new x) ⊎ (over ≡ Some x)
+      → 2 ≤ x.level
   up_high x (inl (a, u, st, member)) = step_high a u x st member
   up_high x (inr top_is) = let high = top_three x top_is in omega (arith, high)
 
-  ups_apart : (x y : CellSeen) (k : ℕ) → ((a : Option Step) × (u : Step) × Stands None steps a u × Contains u.new x) ⊎ (over ≡ Some x) → ((a : Option Step) × (u : Step) × Stands None steps a u × Contains u.new y) ⊎ (over ≡ Some y) → x.level ≡ y.level → InNode (node_of x) k → InNode (node_of y) k → x ≡ y
+  ups_apart : (x y : CellSeen) (k : ℕ) → ((a : Option Step) × (u : Step) × Stands None steps a u × Contains u.new x) ⊎
+      (over ≡ Some x) → ((a : Option Step) × (u : Step) × Stands None steps a u × Contains u.new y) ⊎ (over ≡ Some y)
+      → x.level ≡ y.level → InNode (node_of x) k → InNode (node_of y) k → x ≡ y
   ups_apart x y k (inl (a, u, su, in_u)) (inl (c, v, sv, in_v)) same at_x at_y =
       let wx = (piece a u x su in_u).level_as in
       let wy = (piece c v y sv in_v).level_as in
       let one : u ≡ v = one_step t r is.part None steps a c u v is.path su sv (omega (arith, wx, wy, same)) in
-      follow_apart u.old.level (rank u.old.lo) (rank u.old.hi) u.new x y k (ranges a u su) in_u (subst (λ (z : Step). Contains z.new y) (sym one) in_v) (in_cell x k at_x) (in_cell y k at_y)
+      follow_apart u.old.level (rank u.old.lo) (rank u.old.hi) u.new x y k (ranges a u su) in_u
+      (subst (λ (z : Step). Contains z.new y) (sym one) in_v) (in_cell x k at_x) (in_cell y k at_y)
   ups_apart x y k (inl (a, u, su, in_u)) (inr top_y) same at_x at_y =
       let wx = (piece a u x su in_u).level_as in
       let low = top_level y top_y a u su in
@@ -381,21 +434,27 @@ module _ (t : Store Value) (r : Root) (b : Below) (s : Step) (more : List Step) 
       absurd (omega (arith, low, wy, same))
   ups_apart x y k (inr top_x) (inr top_y) same at_x at_y = same_Some x y (sym top_x ∙ top_y)
 
-  new_apart : (x y : CellSeen) (k : ℕ) → NewOf x → NewOf y → x.level ≡ y.level → 1 ≤ x.level → InNode (node_of x) k → InNode (node_of y) k → x.id ≡ y.id
+  new_apart : (x y : CellSeen) (k : ℕ) → NewOf x → NewOf y → x.level ≡ y.level → 1 ≤ x.level → InNode (node_of x) k
+      → InNode (node_of y) k → x.id ≡ y.id
   new_apart x y k (inl in_x) (inl in_y) same one at_x at_y =
       let low = low_come x in_x in
       leaves_apart x y k in_x in_y (omega (arith, low, one)) (omega (arith, low, one, same)) at_x at_y
-  new_apart x y k (inl in_x) (inr up_y) same one at_x at_y = let low = low_come x in_x in let high = up_high y up_y in absurd (omega (arith, low, high, same))
-  new_apart x y k (inr up_x) (inl in_y) same one at_x at_y = let low = low_come y in_y in let high = up_high x up_x in absurd (omega (arith, low, high, same))
-  new_apart x y k (inr up_x) (inr up_y) same one at_x at_y = ap (λ (z : CellSeen). z.id) (ups_apart x y k up_x up_y same at_x at_y)
+  new_apart x y k (inl in_x) (inr up_y) same one at_x at_y = let low = low_come x in_x in let high = up_high y up_y in absurd
+      (omega (arith, low, high, same))
+  new_apart x y k (inr up_x) (inl in_y) same one at_x at_y = let low = low_come y in_y in let high = up_high x up_x in absurd
+      (omega (arith, low, high, same))
+  new_apart x y k (inr up_x) (inr up_y) same one at_x at_y = ap (λ (z : CellSeen). z.id)
+      (ups_apart x y k up_x up_y same at_x at_y)
 
-  apart : (i j : ℕ) (c d : Node Value) (k : ℕ) → p.new i ≡ Some c → p.new j ≡ Some d → c.level ≡ d.level → 1 ≤ c.level → InNode c k → InNode d k → i ≡ j
+  apart : (i j : ℕ) (c d : Node Value) (k : ℕ) → p.new i ≡ Some c → p.new j ≡ Some d → c.level ≡ d.level → 1 ≤ c.level
+      → InNode c k → InNode d k → i ≡ j
   apart i j c d k ei ej same one at_c at_d =
       let (x, kind_x, ix, sx) = new_at i c ei in
       let (y, kind_y, iy, sy) = new_at j d ej in
       let lx = level_as c x sx in
       let ly = level_as d y sy in
-      let xy = new_apart x y k kind_x kind_y (omega (arith, lx, ly, same)) (omega (arith, lx, one)) (subst (λ (z : Node Value). InNode z k) sx at_c) (subst (λ (z : Node Value). InNode z k) sy at_d) in
+      let xy = new_apart x y k kind_x kind_y (omega (arith, lx, ly, same)) (omega (arith, lx, one))
+      (subst (λ (z : Node Value). InNode z k) sx at_c) (subst (λ (z : Node Value). InNode z k) sy at_d) in
       sym ix ∙ (xy ∙ iy)
 
   -- ---- what is named
@@ -407,7 +466,12 @@ module _ (t : Store Value) (r : Root) (b : Below) (s : Step) (more : List Step) 
   IsNamedOld n = (p.old n.id ≡ None) × Names p.old n
 
   new_cell_named : (x : CellSeen) (n : Name) → p.new x.id ≡ Some (node_of x) → n ≡ name_of x → IsNamedNew n
-  new_cell_named x n at e = (node_of x, subst (λ (m : Name). p.new m.id ≡ Some (node_of x)) (sym e) at, subst (λ (m : Name). Fits m (node_of x)) (sym e) (fits_name x))
+  new_cell_named x n at e = (
+    node_of x,
+    subst (λ (m : Name). p.new m.id ≡ Some (node_of x)) (sym e) at,
+    subst
+        (λ (m : Name). Fits m (node_of x)) (sym e) (fits_name x),
+  )
 
   names_piece : (a : Option Step) (u : Step) (n : Name) → Stands None steps a u → IsNameOf u.new n → IsNamedNew n
   names_piece a u n st (x, member, e) = new_cell_named x n (of_step a u x st member) e
@@ -426,7 +490,8 @@ module _ (t : Store Value) (r : Root) (b : Below) (s : Step) (more : List Step) 
       )
 
   -- what an old cell above named and what does not go
-  step_keeps : (a u : Step) (n : Name) → Stands None steps (Some a) u → Contains (node_of u.old).names n → n ≢ name_of a.old → IsNamedOld n
+  step_keeps : (a u : Step) (n : Name) → Stands None steps (Some a) u → Contains (node_of u.old).names n → n ≢ name_of a.old
+      → IsNamedOld n
   step_keeps a u n st member other =
       let (c, sa) = stands_below a u st in
       let low = sit c a sa in
@@ -435,7 +500,8 @@ module _ (t : Store Value) (r : Root) (b : Below) (s : Step) (more : List Step) 
             (λ x in_b e.
             let tx = is.gone x in_b in
             let is_low = low_below x in_b in
-            let fits = (is.part.named u.old.id (node_of u.old) (node_of x) n high.there member (subst (λ i. t i ≡ Some (node_of x)) e tx)).level in
+            let fits = (is.part.named u.old.id (node_of u.old) (node_of x) n high.there member
+            (subst (λ i. t i ≡ Some (node_of x)) e tx)).level in
             let ups = three a u st in
             let lx = level_is x in
             let lu = level_is u.old in
@@ -445,7 +511,9 @@ module _ (t : Store Value) (r : Root) (b : Below) (s : Step) (more : List Step) 
             ])
             (λ d v sv e.
             let one = some_step a v (only_below t r is.part steps (Some a) d u v n is.path st sv member (sym e)) in
-            other (named_once t r is.part u.old.id u.old.id a.old.id (node_of u.old) (node_of u.old) (node_of a.old) n (name_of a.old) high.there high.there member high.leads low.there (sym e ∙ sym (ap (λ (z : Step). z.old.id) one)) refl).1),
+            other (named_once t r is.part u.old.id u.old.id a.old.id (node_of u.old) (node_of u.old) (node_of a.old) n
+            (name_of a.old) high.there high.there member high.leads low.there
+            (sym e ∙ sym (ap (λ (z : Step). z.old.id) one)) refl).1),
         (u.old.id, node_of u.old, has_old (Some a) u st, member),
       )
 
@@ -455,7 +523,8 @@ module _ (t : Store Value) (r : Root) (b : Below) (s : Step) (more : List Step) 
     | inr comes ↦ let (y, in_b, e) = comes in inl (new_cell_named y n (new_low y in_b) e)
   ]
 
-  over_named : (a u : Step) (n : Name) (x : CellSeen) → Stands None steps (Some a) u → Contains u.new x → Contains (node_of x).names n → IsNamedNew n ⊎ IsNamedOld n
+  over_named : (a u : Step) (n : Name) (x : CellSeen) → Stands None steps (Some a) u → Contains u.new x
+      → Contains (node_of x).names n → IsNamedNew n ⊎ IsNamedOld n
   over_named a u n x st in_u member = elim (((step_over a u st).names n).0 (x, in_u, member)) [
     | inl stays ↦ inr (step_keeps a u n st stays.0 stays.1)
     | inr comes ↦ let (c, sa) = stands_below a u st in inl (names_piece c a n sa comes)
@@ -486,18 +555,28 @@ module _ (t : Store Value) (r : Root) (b : Below) (s : Step) (more : List Step) 
 
   kept_twig : (n : Name) → Contains (node_of s.old).names n → p.old n.id ≡ None → Names p.new n
   kept_twig n member gone =
-      let (x, in_s, in_x) = (is.step.names n).1 (inl (member, λ goes. let (y, in_b, e) = goes in none-some (node_of y) (sym gone ∙ subst (λ i. p.old i ≡ Some (node_of y)) (sym (ap (λ (m : Name). m.id) e)) (has_low y in_b)))) in
+      let (x, in_s, in_x) = (is.step.names n).1 (inl (
+        member,
+        λ goes. let (y, in_b, e) = goes in none-some (node_of y)
+            (sym gone ∙ subst (λ i. p.old i ≡ Some (node_of y)) (sym (ap (λ (m : Name). m.id) e)) (has_low y in_b)),
+      )) in
       (x.id, node_of x, of_step None s x lowest in_s, in_x)
 
-  kept_over : (a u : Step) (n : Name) → Stands None steps (Some a) u → Contains (node_of u.old).names n → p.old n.id ≡ None → Names p.new n
+  kept_over : (a u : Step) (n : Name) → Stands None steps (Some a) u → Contains (node_of u.old).names n → p.old n.id ≡ None
+      → Names p.new n
   kept_over a u n st member gone =
       let (c, sa) = stands_below a u st in
-      let (x, in_u, in_x) = ((step_over a u st).names n).1 (inl (member, λ e. none-some (node_of a.old) (sym gone ∙ subst (λ i. p.old i ≡ Some (node_of a.old)) (sym (ap (λ (m : Name). m.id) e)) (has_old c a sa)))) in
+      let (x, in_u, in_x) = ((step_over a u st).names n).1 (inl (
+        member,
+        λ e. none-some (node_of a.old) (sym gone ∙ subst (λ i. p.old i ≡ Some (node_of a.old))
+            (sym (ap (λ (m : Name). m.id) e)) (has_old c a sa)),
+      )) in
       (x.id, node_of x, of_step (Some a) u x st in_u, in_x)
 
   kept : (n : Name) → Names p.old n → p.old n.id ≡ None → Names p.new n
   kept n (i, c, e, member) gone = elim (old_at i c e) [
-    | inl h ↦ let (x, in_b, id, says) = h in absurd (old_low_names x n in_b (subst (λ (d : Node Value). Contains d.names n) says member))
+    | inl h ↦ let (x, in_b, id, says) = h in absurd (old_low_names x n in_b
+        (subst (λ (d : Node Value). Contains d.names n) says member))
     | inr h ↦
         let (a, u, st, id, says) = h in
         let in_u = subst (λ (d : Node Value). Contains d.names n) says member in
@@ -510,13 +589,18 @@ module _ (t : Store Value) (r : Root) (b : Below) (s : Step) (more : List Step) 
   -- ---- each cell has its place
 
   same_range : (o c : CellSeen) → Replaces o c → SameRange (node_of c) (node_of o)
-  same_range o c h = (level_is c ∙ (h.level ∙ sym (level_is o)), lo_is c ∙ (h.lo ∙ sym (lo_is o)), hi_is c ∙ (h.hi ∙ sym (hi_is o)))
+  same_range o c h = (
+    level_is c ∙ (h.level ∙ sym (level_is o)),
+    lo_is c ∙ (h.lo ∙ sym (lo_is o)),
+    hi_is c ∙ (h.hi ∙ sym (hi_is o)),
+  )
 
   none_over : (u : Step) → IsHighest t r is.part over None steps u → over ≡ None → (c : CellSeen) × (u.new ≡ c ∷ [])
   none_over u high e = let ends : Ends r (u ∷ []) None = subst (Ends r (u ∷ [])) e high.ends in ends
 
   -- no old cell is higher than the highest step
-  most_level : (u : Step) → (a : Option Step) → Stands None steps a u → IsHighest t r is.part over None steps u → (j : ℕ) (d : Node Value) → p.old j ≡ Some d → d.level ≤ u.old.level
+  most_level : (u : Step) → (a : Option Step) → Stands None steps a u → IsHighest t r is.part over None steps u
+      → (j : ℕ) (d : Node Value) → p.old j ≡ Some d → d.level ≤ u.old.level
   most_level u a st high j d f = elim (old_at j d f) [
     | inl h ↦
         let (x, in_b, id, says) = h in
@@ -531,13 +615,18 @@ module _ (t : Store Value) (r : Root) (b : Below) (s : Step) (more : List Step) 
         omega (arith, most, dv)
   ]
 
-  replaced : (i : ℕ) (c : Node Value) → p.old i ≡ Some c → ¬ (NamesId p.old i) → ((d : Node Value) × (p.new i ≡ Some d) × SameRange d c) ⊎ (IsSome p.root × ((j : ℕ) (d : Node Value) → p.old j ≡ Some d → d.level ≤ c.level))
+  replaced : (i : ℕ) (c : Node Value) → p.old i ≡ Some c → ¬ (NamesId p.old i)
+      → ((d : Node Value) × (p.new i ≡ Some d) × SameRange d c) ⊎
+      (IsSome p.root × ((j : ℕ) (d : Node Value) → p.old j ≡ Some d → d.level ≤ c.level))
   replaced i c e unnamed = elim (old_at i c e) [
-    | inl h ↦ let (x, in_b, id, says) = h in absurd (unnamed (name_of x, (s.old.id, node_of s.old, has_old None s lowest, is.step.goes x in_b), id))
+    | inl h ↦ let (x, in_b, id, says) = h in absurd (unnamed
+        (name_of x, (s.old.id, node_of s.old, has_old None s lowest, is.step.goes x in_b), id))
     | inr h ↦ let (a, u, st, id, says) = h in step_replaced a u st id says
   ]
     where
-      step_replaced : (a : Option Step) (u : Step) → Stands None steps a u → u.old.id ≡ i → c ≡ node_of u.old → ((d : Node Value) × (p.new i ≡ Some d) × SameRange d c) ⊎ (IsSome p.root × ((j : ℕ) (d : Node Value) → p.old j ≡ Some d → d.level ≤ c.level))
+      step_replaced : (a : Option Step) (u : Step) → Stands None steps a u → u.old.id ≡ i → c ≡ node_of u.old
+          → ((d : Node Value) × (p.new i ≡ Some d) × SameRange d c) ⊎
+          (IsSome p.root × ((j : ℕ) (d : Node Value) → p.old j ≡ Some d → d.level ≤ c.level))
       step_replaced a u st id says = elim (above_or_highest t r is.part over None steps a u is.path is.ends st) [
         | inl above ↦
             let (v, sv) = above in
@@ -546,7 +635,13 @@ module _ (t : Store Value) (r : Root) (b : Below) (s : Step) (more : List Step) 
           | inl bare ↦
               let (x, one) = none_over u high bare in
               let same = replaces u x (first a u st) (ranges a u st) one in
-              inl (node_of x, subst (λ j. p.new j ≡ Some (node_of x)) (same.id ∙ id) (of_step a u x st (subst (λ (cells : List CellSeen). Contains cells x) (sym one) (here x []))), subst (λ (d : Node Value). SameRange (node_of x) d) (sym says) (same_range u.old x same))
+              inl (
+                node_of x,
+                subst (λ j. p.new j ≡ Some (node_of x)) (same.id ∙ id)
+                    (of_step a u x st (subst (λ (cells : List CellSeen). Contains cells x) (sym one) (here x []))),
+                subst
+                    (λ (d : Node Value). SameRange (node_of x) d) (sym says) (same_range u.old x same),
+              )
           | inr top_is ↦ inr (
             some_root over top_is.0 top_is.1,
             λ j d f.
@@ -558,12 +653,14 @@ module _ (t : Store Value) (r : Root) (b : Below) (s : Step) (more : List Step) 
       ]
 
   -- the highest old cell is not named by an old one
-  top_unnamed : (a : Option Step) (u : Step) → Stands None steps a u → IsHighest t r is.part over None steps u → NamesId p.old u.old.id → ⊥
+  top_unnamed : (a : Option Step) (u : Step) → Stands None steps a u → IsHighest t r is.part over None steps u
+      → NamesId p.old u.old.id → ⊥
   top_unnamed a u st high (n, (j, d, e, member), same) = elim (old_at j d e) [
     | inl h ↦ let (x, in_b, id, says) = h in old_low_names x n in_b (subst (λ (z : Node Value). Contains z.names n) says member)
     | inr h ↦
         let (c, v, sv, id, says) = h in
-        let under = only_below t r is.part steps c a v u n is.path sv st (subst (λ (z : Node Value). Contains z.names n) says member) same in
+        let under = only_below t r is.part steps c a v u n is.path sv st
+        (subst (λ (z : Node Value). Contains z.names n) says member) same in
         let lower = stands_higher c v sv under in
         let most = high.most c v sv in
         omega (arith, lower, most)
@@ -575,7 +672,8 @@ module _ (t : Store Value) (r : Root) (b : Below) (s : Step) (more : List Step) 
           let up = up_one t r is.part u v (sit (Some u) v over_u) (sit a u st).level in
           omega (arith, up)
 
-  not_needed : (i : ℕ) (c : Node Value) (a : Option Step) (u : Step) (x : CellSeen) → NeedsName p i c → Stands None steps a u → IsHighest t r is.part over None steps u → u.old.id ≡ i → c ≡ node_of x → Replaces u.old x → ⊥
+  not_needed : (i : ℕ) (c : Node Value) (a : Option Step) (u : Step) (x : CellSeen) → NeedsName p i c → Stands None steps a u
+      → IsHighest t r is.part over None steps u → u.old.id ≡ i → c ≡ node_of x → Replaces u.old x → ⊥
   not_needed i c a u x needs st high ui says same =
       let was : p.old i ≡ Some (node_of u.old) = subst (λ j. p.old j ≡ Some (node_of u.old)) ui (has_old a u st) in
       elim needs [
@@ -591,7 +689,8 @@ module _ (t : Store Value) (r : Root) (b : Below) (s : Step) (more : List Step) 
         ]
       ]
 
-  step_reached : (i : ℕ) (c : Node Value) (a : Option Step) (u : Step) (x : CellSeen) → NeedsName p i c → Stands None steps a u → Contains u.new x → x.id ≡ i → c ≡ node_of x → NamesId p.new i
+  step_reached : (i : ℕ) (c : Node Value) (a : Option Step) (u : Step) (x : CellSeen) → NeedsName p i c → Stands None steps a u
+      → Contains u.new x → x.id ≡ i → c ≡ node_of x → NamesId p.new i
   step_reached i c a u x needs st in_u id says = elim (above_or_highest t r is.part over None steps a u is.path is.ends st) [
     | inl above ↦
         let (v, sv) = above in
@@ -605,12 +704,21 @@ module _ (t : Store Value) (r : Root) (b : Below) (s : Step) (more : List Step) 
           let ui : u.old.id ≡ i = sym same.id ∙ (sym (ap (λ (v : CellSeen). v.id) zx) ∙ id) in
           absurd (not_needed i c a u x needs st high ui says (subst (Replaces u.old) (sym zx) same))
       | inr top_is ↦
-          let (d, is_d) = top_is in
-          (name_of x, (d.id, node_of d, has_new d (root_new d is_d), ((new_root_over u d high is_d).names (name_of x)).1 (x, in_u, refl)), id)
+          let (d, is_d) = top_is in (
+            name_of x,
+            (
+              d.id,
+              node_of d,
+              has_new d (root_new d is_d),
+              ((new_root_over u d high is_d).names (name_of x)).1 (x, in_u, refl),
+            ),
+            id,
+          )
     ]
   ]
 
-  reached : (i : ℕ) (c : Node Value) → p.new i ≡ Some c → NeedsName p i c → NamesId p.new i ⊎ ((q : Root) × (p.root ≡ Some q) × (q.id ≡ i))
+  reached : (i : ℕ) (c : Node Value) → p.new i ≡ Some c → NeedsName p i c
+      → NamesId p.new i ⊎ ((q : Root) × (p.root ≡ Some q) × (q.id ≡ i))
   reached i c e needs =
       let (x, kind_x, id, says) = new_at i c e in
       elim kind_x [
@@ -619,7 +727,12 @@ module _ (t : Store Value) (r : Root) (b : Below) (s : Step) (more : List Step) 
             inl (name_of x, (y.id, node_of y, of_step None s y lowest in_s, in_y), id)
         | inr up ↦ elim up [
           | inl h ↦ let (a, u, st, in_u) = h in inl (step_reached i c a u x needs st in_u id says)
-          | inr top_is ↦ inr (record { id = x.id; height = x.level }, ap (λ (o : Option CellSeen). option_map root_of_pair (root_pair o)) top_is, id)
+          | inr top_is ↦ inr (
+            record { id = x.id; height = x.level },
+            ap
+                (λ (o : Option CellSeen). option_map root_of_pair (root_pair o)) top_is,
+            id,
+          )
         ]
       ]
 
@@ -651,7 +764,8 @@ module _ (t : Store Value) (r : Root) (b : Below) (s : Step) (more : List Step) 
         let (x, in_b, id, says) = h in
         let tx = is.gone x in_b in
         let low = low_below x in_b in
-        let twig = spans_twig x v (is.part.nodes x.id (node_of x) tx) (subst (λ (d : Node Value). Contains d.spans v) says member) in
+        let twig = spans_twig x v (is.part.nodes x.id (node_of x) tx)
+        (subst (λ (d : Node Value). Contains d.spans v) says member) in
         absurd (omega (arith, twig, low))
     | inr h ↦
         let (a, u, st, id, says) = h in
@@ -663,7 +777,15 @@ module _ (t : Store Value) (r : Root) (b : Below) (s : Step) (more : List Step) 
   below_old : (k : ℕ) → CoversBelow (s.old ∷ []) b.old k → CoversLeaf p.old k
   below_old k (inl (x, in_b, leaf, at)) = inl (x.id, node_of x, has_low x in_b, level_is x ∙ leaf, at)
   below_old k (inr (v, (x, in_s, member), at)) = elim (cases s.old x [] in_s) [
-    | inl eq ↦ inr (s.old.id, node_of s.old, v, has_old None s lowest, subst (λ (z : CellSeen). Contains (node_of z).spans v) eq member, at)
+    | inl eq ↦ inr (
+      s.old.id,
+      node_of s.old,
+      v,
+      has_old None s lowest,
+      subst
+          (λ (z : CellSeen). Contains (node_of z).spans v) eq member,
+      at,
+    )
     | inr none_is ↦ absurd (none x none_is)
   ]
 
@@ -671,7 +793,8 @@ module _ (t : Store Value) (r : Root) (b : Below) (s : Step) (more : List Step) 
   below_new k (inl (x, in_b, leaf, at)) = inl (x.id, node_of x, new_low x in_b, level_is x ∙ leaf, at)
   below_new k (inr (v, (x, in_s, member), at)) = inr (x.id, node_of x, v, of_step None s x lowest in_s, member, at)
 
-  step_spans : (a : Option Step) (u : Step) (x : CellSeen) (v : Span) → Stands None steps a u → Contains u.new x → Contains (node_of x).spans v → AreSpanning s.new v
+  step_spans : (a : Option Step) (u : Step) (x : CellSeen) (v : Span) → Stands None steps a u → Contains u.new x
+      → Contains (node_of x).spans v → AreSpanning s.new v
   step_spans a u x v st in_u member =
       let twig = spans_twig x v (node_step a u x st in_u) member in
       let eq = twig_is_lowest a u st (sym (piece a u x st in_u).level_as ∙ twig) in
@@ -751,8 +874,10 @@ module _ (t : Store Value) (r : Root) (b : Below) (s : Step) (more : List Step) 
 
   old_there : (i : ℕ) (c : Node Value) → p.old i ≡ Some c → t i ≡ Some c
   old_there i c e = elim (old_at i c e) [
-    | inl h ↦ let (x, in_b, id, says) = h in subst (λ j. t j ≡ Some c) id (subst (λ (d : Node Value). t x.id ≡ Some d) (sym says) (is.gone x in_b))
-    | inr h ↦ let (a, u, st, id, says) = h in subst (λ j. t j ≡ Some c) id (subst (λ (d : Node Value). t u.old.id ≡ Some d) (sym says) (sit a u st).there)
+    | inl h ↦ let (x, in_b, id, says) = h in subst (λ j. t j ≡ Some c) id
+        (subst (λ (d : Node Value). t x.id ≡ Some d) (sym says) (is.gone x in_b))
+    | inr h ↦ let (a, u, st, id, says) = h in subst (λ j. t j ≡ Some c) id
+        (subst (λ (d : Node Value). t u.old.id ≡ Some d) (sym says) (sit a u st).there)
   ]
 
   pub part_meets : MeetsPart p t r
@@ -762,8 +887,10 @@ module _ (t : Store Value) (r : Root) (b : Below) (s : Step) (more : List Step) 
       free = λ i c e gone. (unused i c e gone).0;
       root_old = λ some.
           let (c, top_is) = root_some over some in
-          let (a0, s0, st0, high) = highest t r is.part over None steps is.path is.ends in
-          (node_of s0.old, subst (λ j. p.old j ≡ Some (node_of s0.old)) (new_root_over s0 c high top_is).was (has_old a0 s0 st0));
+          let (a0, s0, st0, high) = highest t r is.part over None steps is.path is.ends in (
+            node_of s0.old,
+            subst (λ j. p.old j ≡ Some (node_of s0.old)) (new_root_over s0 c high top_is).was (has_old a0 s0 st0),
+          );
     };
     unnamed = λ i c e gone. (unused i c e gone).1;
   }

@@ -1,4 +1,4 @@
--- A small change of a twig: behind the one item of a fresh volume's leaf comes an extent of two blocks (docs/volume.md, "Edits").
+-- A small change of a twig: behind the item of a fresh volume's leaf comes an extent (docs/volume.md, "Edits").
 use Rattle.std.specs.Prelude.{ℕ, ◌+◌, ◌*◌, ◌^◌, ◌-◌, List, [], ◌∷◌, ◌++◌, length, replicate}
 use Rattle.r4_base.specs.Bytes.{fields_bytes, number_bytes}
 use Rattle.r4_base.specs.Fresh.{root_key}
@@ -14,11 +14,15 @@ use Rattle.r4_patch.specs.SecondRoot.{small_tree}
 use Rattle.r4_edit.specs.Steps.{Step}
 use Rattle.r4_twiglaw.specs.Twigs.{Below}
 
+-- the fields of a node's head
+abbrev pub head_fields : (level count free start : ℕ) → List (ℕ × ℕ)
+head_fields level count free start =
+    (2, 0) ∷ (2, count) ∷ (2, free) ∷ (2, start) ∷ (4, 0x52344653) ∷ (4, 1) ∷ (8, 0) ∷ (2, 0) ∷ (1, level) ∷ (1, 0) ∷ []
+
 -- a node of a level: its head, the bodies of its items, free space, and the item headers, the last one's first
 abbrev pub node_block : (level count free : ℕ) → (bodies headers : List ℕ) → List ℕ
 node_block level count free bodies headers =
-    fields_bytes ((2, 0) ∷ (2, count) ∷ (2, free) ∷ (2, 28 + length bodies) ∷ (4, 0x52344653) ∷ (4, 1) ∷ (8, 0) ∷ (2, 0) ∷ (1, level) ∷ (1, 0) ∷ [])
-    ++ (bodies ++ (replicate free 0 ++ headers))
+    fields_bytes (head_fields level count free (28 + length bodies)) ++ (bodies ++ (replicate free 0 ++ headers))
 
 abbrev pub header_of : Key → (offset plugin : ℕ) → List ℕ
 header_of key offset plugin = fields_bytes (header_fields key offset plugin)
@@ -35,7 +39,8 @@ abbrev pub pointer_block : List ℕ
 pointer_block = node_block 2 1 4022 (number_bytes 8 23) (header_of root_key 28 3)
 
 abbrev pub extent_block : List ℕ
-extent_block = node_block 2 2 3968 (number_bytes 8 23 ++ fields_bytes ((8, 24) ∷ (8, 2) ∷ [])) (header_of (file_key 0) 36 5 ++ header_of root_key 28 3)
+extent_block = node_block 2 2 3968 (number_bytes 8 23 ++ fields_bytes ((8, 24) ∷ (8, 2) ∷ []))
+    (header_of (file_key 0) 36 5 ++ header_of root_key 28 3)
 
 -- the root directory's stat data alone
 abbrev pub stat_block : List ℕ
@@ -49,7 +54,13 @@ leaf_cell hi = record { id = 23; level = 1; lo = root_key; hi = hi; block = stat
 
 -- one of the file's blocks, a zero each byte
 abbrev pub data_cell : (nth : ℕ) → CellSeen
-data_cell nth = record { id = 24 + nth; level = 0; lo = file_key (4096 * nth); hi = file_key (4096 * nth + 4096); block = replicate 4096 0 }
+data_cell nth = record {
+  id = 24 + nth;
+  level = 0;
+  lo = file_key (4096 * nth);
+  hi = file_key (4096 * nth + 4096);
+  block = replicate 4096 0;
+}
 
 -- The leaf goes, and comes again with less range; two blocks come.
 abbrev pub extent_below : Below

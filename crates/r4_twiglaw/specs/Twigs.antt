@@ -16,7 +16,8 @@ pub record Below : Type 0 where
 
 -- the key lies in one of these leaves or in an extent of these twigs
 abbrev pub CoversBelow : (twigs below : List CellSeen) → ℕ → Type 0
-CoversBelow twigs below k = ((c : CellSeen) × Contains below c × (c.level ≡ 1) × InNode (node_of c) k) ⊎ ((x : Span) × AreSpanning twigs x × InSpan x k)
+CoversBelow twigs below k = ((c : CellSeen) × Contains below c × (c.level ≡ 1) × InNode (node_of c) k) ⊎
+    ((x : Span) × AreSpanning twigs x × InSpan x k)
 
 -- The new twigs share out the old one's range, and the first has its name. They name what it named, but for what goes, and
 -- what comes.
@@ -56,7 +57,8 @@ pub record AreCounted (t : Store Value) (b : Below) (from to : ℕ) (mine taken 
   pub apart : (first + length mine ≤ next) ⊎ (next + length taken ≤ first)
 
 -- A change of a twig of a part of a tree, of what goes and comes below it, and of the nodes above it along a path.
-pub record IsTwigChange (t : Store Value) (r : Root) (b : Below) (s : Step) (more : List Step) (over : Option CellSeen) : Type 0 where
+pub record IsTwigChange (t : Store Value) (r : Root) (b : Below) (s : Step) (more : List Step)
+    (over : Option CellSeen) : Type 0 where
   pub part : IsPart t r
   pub path : Ascends t None (olds (s ∷ more))
   pub gone : (c : CellSeen) → Contains b.old c → t c.id ≡ Some (node_of c)
