@@ -22,7 +22,7 @@ use Rattle.r4_twiglaw.proofs.Instance.{data_sound, leaf_sound, new_names, old_le
 
 -- ---- members of short lists
 
-only : {A : Type 0} (x y : A) → Contains (x ∷ []) y → y ≡ x
+pub only : {A : Type 0} (x y : A) → Contains (x ∷ []) y → y ≡ x
 only x y at = elim (cases x y [] at) [ inl is ↦ is | inr more ↦ absurd (none y more) ]
 
 three : {A : Type 0} (x y z u : A) → Contains (x ∷ (y ∷ (z ∷ []))) u → (u ≡ x) ⊎ ((u ≡ y) ⊎ (u ≡ z))
@@ -36,19 +36,19 @@ three x y z u at = elim (cases x u (y ∷ (z ∷ [])) at) [
 
 -- ---- ranks
 
-from_least : rank root_key ≡ least
+pub from_least : rank root_key ≡ least
 unfolding rank least
 from_least = refl
 
-to_top : rank last_key ≡ top
+pub to_top : rank last_key ≡ top
 unfolding rank top
 to_top = refl
 
-least_file : least < rank (file_key 0)
+pub least_file : least < rank (file_key 0)
 unfolding rank least
 least_file = lit< tt
 
-file_top : rank (file_key 0) + 8192 < top
+pub file_top : rank (file_key 0) + 8192 < top
 unfolding rank top
 file_top = lit< tt
 
@@ -62,7 +62,7 @@ data_lo nth = omega arith
 
 -- ---- nodes
 
-sound_node : (c : CellSeen) → IsSound c → 1 ≤ c.level → least ≤ rank c.lo → rank c.lo < rank c.hi → rank c.hi ≤ top
+pub sound_node : (c : CellSeen) → IsSound c → 1 ≤ c.level → least ≤ rank c.lo → rank c.lo < rank c.hi → rank c.hi ≤ top
     → IsNode (node_of c)
 sound_node c ok one from some to = cell_node true (2 ^ 64) c.level (rank c.lo)
     (rank c.hi) c.block ok.whole one from some to ok.accepted
@@ -89,7 +89,7 @@ leaf = leaf_cell (file_key 0)
 abbrev twig : CellSeen
 twig = twig_cell extent_block
 
-new_cell : (c : CellSeen) → Contains (leaf ∷ (data_cell 0 ∷ (data_cell 1 ∷ []))) c
+pub new_cell : (c : CellSeen) → Contains (leaf ∷ (data_cell 0 ∷ (data_cell 1 ∷ []))) c
     → (c ≡ leaf) ⊎ ((c ≡ data_cell 0) ⊎ (c ≡ data_cell 1))
 new_cell c at = three leaf (data_cell 0) (data_cell 1) c at
 
@@ -107,11 +107,11 @@ nodes c at = elim (cases leaf c (data_cell 0 ∷ (data_cell 1 ∷ (twig ∷ []))
 
 -- ---- what is named
 
-old_name : (n : Name) → Contains (node_of (twig_cell pointer_block)).names n → n ≡ name_of (leaf_cell last_key)
+pub old_name : (n : Name) → Contains (node_of (twig_cell pointer_block)).names n → n ≡ name_of (leaf_cell last_key)
 unfolding rank least top
 old_name n at = only (name_of (leaf_cell last_key)) n (subst (λ (d : Node Value). Contains d.names n) old_twig at)
 
-goes_name : Contains (node_of (twig_cell pointer_block)).names (name_of (leaf_cell last_key))
+pub goes_name : Contains (node_of (twig_cell pointer_block)).names (name_of (leaf_cell last_key))
 unfolding rank least top
 goes_name = subst (λ (d : Node Value). Contains d.names (name_of (leaf_cell last_key))) (sym old_twig)
     (here (name_of (leaf_cell last_key)) [])
@@ -119,7 +119,7 @@ goes_name = subst (λ (d : Node Value). Contains d.names (name_of (leaf_cell las
 abbrev come_names : List Name
 come_names = name_of leaf ∷ (name_of (data_cell 0) ∷ (name_of (data_cell 1) ∷ []))
 
-names_to : (n : Name) → Contains (node_of twig).names n → IsNameOf extent_below.new n
+pub names_to : (n : Name) → Contains (node_of twig).names n → IsNameOf extent_below.new n
 names_to n at = elim (three (name_of leaf) (name_of (data_cell 0)) (name_of (data_cell 1)) n
     (subst (λ (l : List Name). Contains l n) new_names at)) [
       | inl is ↦ (leaf, here leaf (data_cell 0 ∷ (data_cell 1 ∷ [])), is)
@@ -138,7 +138,7 @@ names_to n at = elim (three (name_of leaf) (name_of (data_cell 0)) (name_of (dat
       ]
     ]
 
-names_from : (n : Name) → IsNameOf extent_below.new n → Contains (node_of twig).names n
+pub names_from : (n : Name) → IsNameOf extent_below.new n → Contains (node_of twig).names n
 names_from n (c, at, e) = subst (λ (l : List Name). Contains l n) (sym new_names)
     (subst (Contains come_names) (sym e) (among (new_cell c at)))
   where
@@ -176,7 +176,7 @@ unused i gone = (
 none_taken : (i : ℕ) → Contains (fresh_ids (extent_step ∷ []) None) i → ⊥
 none_taken i at = none i at
 
-numbers : HaveNumbers extent_tree extent_below (fresh_ids (extent_step ∷ []) None)
+pub numbers : HaveNumbers extent_tree extent_below (fresh_ids (extent_step ∷ []) None)
 numbers = record {
   old = have_names (leaf_cell last_key ∷ []) (λ y at. absurd (none y at), tt);
   new = have_names (leaf ∷ (data_cell 0 ∷ (data_cell 1 ∷ []))) (apart_leaf, (apart_block, (λ y at. absurd (none y at), tt)));

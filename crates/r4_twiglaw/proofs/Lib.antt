@@ -1,4 +1,5 @@
 mod Counted
+mod ExtentBack
 mod ExtentChange
 mod Instance
 mod Ordered

@@ -1,5 +1,5 @@
 -- A small change of a twig: behind the item of a fresh volume's leaf comes an extent (docs/volume.md, "Edits").
-use Rattle.std.specs.Prelude.{ℕ, ◌+◌, ◌*◌, ◌^◌, ◌-◌, List, [], ◌∷◌, ◌++◌, length, replicate}
+use Rattle.std.specs.Prelude.{ℕ, ◌+◌, ◌*◌, ◌^◌, ◌-◌, List, [], ◌∷◌, ◌++◌, length, replicate, None}
 use Rattle.r4_base.specs.Bytes.{fields_bytes, number_bytes}
 use Rattle.r4_base.specs.Fresh.{root_key}
 use Rattle.r4_base.specs.Key.{body_key}
@@ -8,6 +8,7 @@ use Rattle.r4_base.specs.Tree.{Store}
 use Rattle.r4_base.specs.Value.{Value}
 use Rattle.r4_base.specs.Volume.{root_attr}
 use Rattle.r4_base.specs.declared.key.Key.{Key}
+use Rattle.r4_cell.specs.Patch.{patch_of, place}
 use Rattle.r4_cell.specs.Seen.{CellSeen}
 use Rattle.r4_node40.specs.Edits.{header_fields}
 use Rattle.r4_patch.specs.SecondRoot.{small_tree}
@@ -71,3 +72,14 @@ extent_step = record { old = twig_cell pointer_block; new = twig_cell extent_blo
 
 abbrev pub extent_tree : Store Value
 extent_tree = small_tree pointer_block stat_block
+
+-- The tree with the change in place, and the way back: the extent and its blocks go, and the leaf has all keys again.
+abbrev pub back_tree : Store Value
+back_tree =
+    place (patch_of (extent_below.old ++ extent_step.old ∷ []) (extent_below.new ++ extent_step.new) None) extent_tree
+
+abbrev pub back_below : Below
+back_below = record { old = extent_below.new; new = extent_below.old }
+
+abbrev pub back_step : Step
+back_step = record { old = twig_cell extent_block; new = twig_cell pointer_block ∷ [] }

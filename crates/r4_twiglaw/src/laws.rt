@@ -10,7 +10,7 @@ ghost use Rattle.r4_patch.specs.Part.{MeetsPart};
 ghost use Rattle.r4_patch.specs.SecondRoot.{small_root};
 ghost use Rattle.r4_edit.specs.Sharing.{IsSound};
 ghost use Rattle.r4_edit.specs.Steps.{Step, news, olds, root_pair};
-ghost use Rattle.r4_twiglaw.specs.ExtentPut.{extent_below, extent_step, extent_tree};
+ghost use Rattle.r4_twiglaw.specs.ExtentPut.{back_below, back_step, back_tree, extent_below, extent_step, extent_tree};
 ghost use Rattle.r4_twiglaw.specs.Twigs.{AreCounted, Below, CoversBelow, HaveNumbers, IsReordered, IsTwigChange};
 
 /// A change of a twig, of what stands below it and of the nodes above it is a patch, and each part of a tree that has the
@@ -49,10 +49,11 @@ pub fn order_says_nothing()
         → (t : Store Value) (r : Root) → MeetsPart (patch_of old new root) t r → MeetsPart (patch_of others come root) t r }
 {}
 
-/// There are such changes: in a fresh volume's tree an extent of two blocks is put behind the leaf's one item. The leaf
-/// comes again with less range, and each cell may stand at its level and for its range.
+/// There are such changes: in a fresh volume's tree an extent of two blocks is put behind the leaf's one item, and is taken
+/// away again. The leaf comes with less range, and with all keys again. Each cell may stand at its level and for its range.
 pub fn an_extent_behind_a_leaf()
     ensures change { IsTwigChange extent_tree small_root extent_below extent_step [] None }
+    ensures back { IsTwigChange back_tree small_root back_below back_step [] None }
     ensures sound { (c : CellSeen)
         → Contains (extent_below.old ++ (extent_step.old ∷ (extent_below.new ++ extent_step.new))) c → IsSound c }
 {}
