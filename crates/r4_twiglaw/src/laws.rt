@@ -18,7 +18,8 @@ ghost use Rattle.r4_twiglaw.specs.Twigs.{AreCounted, Below, CoversBelow, HaveNum
 /// cover the keys that the leaves that go and the old twig's extents covered (docs/volume.md, "Edits").
 pub fn twig_changes_are_patches()
     ensures change { (t : Store Value) (r : Root) (b : Below) (s : Step) (more : List Step) (over : Option CellSeen)
-        → IsTwigChange t r b s more over → IsChange (b.old ++ olds (s ∷ more)) (b.new ++ news (s ∷ more) over) (root_pair over) }
+        → IsTwigChange t r b s more over
+        → IsChange (b.old ++ olds (s ∷ more)) (b.new ++ news (s ∷ more) over) (root_pair over) }
     ensures meets { (t : Store Value) (r : Root) (b : Below) (s : Step) (more : List Step) (over : Option CellSeen)
         → IsTwigChange t r b s more over
         → MeetsPart (patch_of (b.old ++ olds (s ∷ more)) (b.new ++ news (s ∷ more) over) (root_pair over)) t r }
@@ -38,7 +39,8 @@ pub fn counted_numbers_serve()
 /// name, it is the same patch, and so it is a change too and is met where that one is.
 pub fn order_says_nothing()
     ensures patch { (old new others come : List CellSeen) (root : Option RootPair)
-        → IsChange old new root → IsReordered old others → IsReordered new come → patch_of old new root ≡ patch_of others come root }
+        → IsChange old new root → IsReordered old others → IsReordered new come
+        → patch_of old new root ≡ patch_of others come root }
     ensures change { (old new others come : List CellSeen) (root : Option RootPair)
         → IsChange old new root → IsReordered old others → IsReordered new come → IsChange others come root }
     ensures meets { (old new others come : List CellSeen) (root : Option RootPair)
