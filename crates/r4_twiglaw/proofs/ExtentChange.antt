@@ -1,5 +1,6 @@
 -- The small change is a change of a twig.
-use Rattle.std.proofs.Common.{◌≡◌, ◌≢◌, ◌⊎◌, ◌↔◌, inl, inr, ℕ, ◌+◌, ◌<◌, ◌≤◌, ◌*◌, ◌^◌, List, [], ◌∷◌, refl, sym, ap, subst, ◌∙◌, arith}
+use Rattle.std.proofs.Common.{◌≡◌, ◌≢◌, ◌⊎◌, ◌↔◌, inl, inr, ℕ, ◌+◌, ◌<◌, ◌≤◌, ◌*◌, ◌^◌, List, [], ◌∷◌, refl, sym, ap, subst}
+use Rattle.std.proofs.Common.{◌∙◌, arith}
 use Rattle.std.specs.Prelude.{Contains, None, Some, true}
 use Rattle.std.proofs.Math.Dec.{lit<}
 use Rattle.std.proofs.lemmas.Option.{none-some}
@@ -16,9 +17,11 @@ use Rattle.r4_patch.proofs.SecondRoot.{small_is_tree}
 use Rattle.r4_edit.specs.Sharing.{IsSound}
 use Rattle.r4_edit.specs.Steps.{AreNaming, IsNameOf, fresh_ids, name_of}
 use Rattle.r4_edit.proofs.Members.{cases, have_names, here, later, none}
-use Rattle.r4_twiglaw.specs.ExtentPut.{data_cell, extent_below, extent_block, extent_step, extent_tree, file_key, last_key, leaf_cell, pointer_block, stat_block, twig_cell}
+use Rattle.r4_twiglaw.specs.ExtentPut.{data_cell, extent_below, extent_block, extent_step, extent_tree, file_key, last_key}
+use Rattle.r4_twiglaw.specs.ExtentPut.{leaf_cell, pointer_block, stat_block, twig_cell}
 use Rattle.r4_twiglaw.specs.Twigs.{HaveNumbers, IsTwigChange, IsTwigStep, IsUnused}
-use Rattle.r4_twiglaw.proofs.Instance.{data_sound, leaf_sound, new_names, old_leaf, old_leaf_sound, old_twig, twig_sound, was_sound}
+use Rattle.r4_twiglaw.proofs.Instance.{data_sound, leaf_sound, new_names, old_leaf, old_leaf_sound, old_twig, twig_sound}
+use Rattle.r4_twiglaw.proofs.Instance.{was_sound}
 
 -- ---- members of short lists
 

@@ -1,5 +1,6 @@
 -- A change of a twig and of what stands below it is a patch, which its part meets.
-use Rattle.std.proofs.Common.{◌≡◌, ◌≢◌, ◌⊎◌, ◌↔◌, inl, inr, ℕ, ◌<◌, ◌≤◌, List, [], ◌∷◌, ◌++◌, drop, refl, sym, ap, subst, ◌∙◌, arith}
+use Rattle.std.proofs.Common.{◌≡◌, ◌≢◌, ◌⊎◌, ◌↔◌, inl, inr, ℕ, ◌<◌, ◌≤◌, List, [], ◌∷◌, ◌++◌, drop, refl, sym, ap, subst, ◌∙◌}
+use Rattle.std.proofs.Common.{arith}
 use Rattle.std.specs.Prelude.{Contains, IsSome, Option, None, Some}
 use Rattle.std.specs.Option.{option_map}
 use Rattle.std.proofs.lemmas.List.Elements.{Contains-append_cases, Contains-append_left, Contains-append_right}
@@ -12,9 +13,12 @@ use Rattle.r4_cell.specs.Seen.{CellSeen, node_of}
 use Rattle.r4_patch.specs.Joining.{ids_of}
 use Rattle.r4_patch.specs.Part.{MeetsPart}
 use Rattle.r4_patch.proofs.PartCells.{named_once}
-use Rattle.r4_edit.specs.Steps.{AreSpanning, Ends, Follow, IsNameOf, IsRootOver, IsStep, Step, fresh_ids, name_of, news, olds, root_pair}
+use Rattle.r4_edit.specs.Steps.{AreSpanning, Ends, Follow, IsNameOf, IsRootOver, IsStep, Step, fresh_ids, name_of, news, olds}
+use Rattle.r4_edit.specs.Steps.{root_pair}
 use Rattle.r4_edit.proofs.Members.{absent, cases, distinct_append, Distinct, found, have_names, here, none, there}
-use Rattle.r4_edit.proofs.OnPath.{IsHighest, Stands, StandsIn, above_or_highest, below_stands, distinct_olds, highest, new_stands, old_stands, one_step, only_below, over_new, some_step, stands_in, stands_new, stands_old, stands_step, up_one}
+use Rattle.r4_edit.proofs.OnPath.{IsHighest, Stands, StandsIn, above_or_highest, below_stands, distinct_olds, highest}
+use Rattle.r4_edit.proofs.OnPath.{new_stands, old_stands, one_step, only_below, over_new, some_step, stands_in, stands_new}
+use Rattle.r4_edit.proofs.OnPath.{stands_old, stands_step, up_one}
 use Rattle.r4_edit.proofs.Rising.{Within, follow_apart, follow_covers, follow_within, hi_is, in_cell, in_node, level_is, lo_is}
 use Rattle.r4_twiglaw.specs.Twigs.{Below, CoversBelow, IsTwigChange}
 use Rattle.r4_twiglaw.proofs.Ordered.{distinct, once}
@@ -252,7 +256,9 @@ module _ (t : Store Value) (r : Root) (b : Below) (s : Step) (more : List Step) 
   not_old i none_low none_is = absent (b.old ++ olds steps) i
       (λ x member id. elim (Contains-append_cases b.old (olds steps) x member) [
         | inl low ↦ none_low x low id
-        | inr high ↦ let (a, u, st, xs) = old_stands None steps x high in none_is a u st (sym (ap (λ (y : CellSeen). y.id) xs) ∙ id)
+        | inr high ↦
+            let (a, u, st, xs) = old_stands None steps x high in
+            none_is a u st (sym (ap (λ (y : CellSeen). y.id) xs) ∙ id)
       ])
 
   new_root_over : (u : Step) (c : CellSeen) → IsHighest t r is.part over None steps u → over ≡ Some c → IsRootOver r u c

@@ -1,5 +1,6 @@
 -- Changes of a twig, and of the leaves and data blocks below it (docs/volume.md, "Edits").
-use Rattle.std.specs.Prelude.{◌≡◌, ◌≢◌, ◌↔◌, ◌⊎◌, ℕ, ◌+◌, ◌≤◌, List, ◌∷◌, ◌++◌, drop, length, AllPairs, Contains, Option, None, Some}
+use Rattle.std.specs.Prelude.{◌≡◌, ◌≢◌, ◌↔◌, ◌⊎◌, ℕ, ◌+◌, ◌≤◌, List, ◌∷◌, ◌++◌, drop, length, AllPairs, Contains, Option, None}
+use Rattle.std.specs.Prelude.{Some}
 use Rattle.r4_base.specs.Key.{rank}
 use Rattle.r4_base.specs.Tree.{InNode, InSpan, IsNode, Name, Root, Span, Store}
 use Rattle.r4_base.specs.Value.{Value}
@@ -7,7 +8,8 @@ use Rattle.r4_cell.specs.Patch.{HaveNames, NamesId}
 use Rattle.r4_cell.specs.Seen.{CellSeen, node_of}
 use Rattle.r4_patch.specs.Joining.{ids_of}
 use Rattle.r4_patch.specs.Part.{IsPart}
-use Rattle.r4_edit.specs.Steps.{AreNaming, AreSpanning, Ascends, Climbs, CountUp, Ends, Follow, IsFree, IsNameOf, Step, fresh_ids, name_of, news, olds}
+use Rattle.r4_edit.specs.Steps.{AreNaming, AreSpanning, Ascends, Climbs, CountUp, Ends, Follow, IsFree, IsNameOf, Step}
+use Rattle.r4_edit.specs.Steps.{fresh_ids, name_of, news, olds}
 
 -- What goes and what comes below a twig: leaves and data blocks.
 pub record Below : Type 0 where
