@@ -1,0 +1,9 @@
+mod Counted
+mod ExtentBack
+mod ExtentChange
+mod Instance
+mod Ordered
+mod Reordered
+mod TwigBelow
+mod TwigNames
+mod TwigPatch

@@ -1,0 +1,2 @@
+pub mod ExtentPut
+pub mod Twigs
