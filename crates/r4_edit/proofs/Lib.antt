@@ -24,3 +24,12 @@ pub mod PathPatch
 pub mod Parted
 pub mod PointerNodes
 pub mod Pointers
+mod Counted
+mod ExtentBack
+mod ExtentChange
+mod Instance
+mod Ordered
+mod Reordered
+mod TwigBelow
+mod TwigNames
+mod TwigPatch

@@ -12,7 +12,11 @@ mod pointing;
 mod row;
 mod sharing;
 mod splitting;
+mod twig_laws;
 
 pub use growing::grow;
 pub use laws::path_changes_are_patches;
 pub use splitting::split;
+pub use twig_laws::{
+    an_extent_behind_a_leaf, counted_numbers_serve, order_says_nothing, twig_changes_are_patches,
+};

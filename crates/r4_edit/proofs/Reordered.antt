@@ -10,8 +10,8 @@ use Rattle.r4_cell.specs.Seen.{CellSeen}
 use Rattle.r4_cell.specs.declared.change.Root.{Root as RootPair}
 use Rattle.r4_patch.specs.Part.{MeetsPart}
 use Rattle.r4_edit.proofs.Members.{Distinct, found, there}
-use Rattle.r4_twiglaw.specs.Twigs.{IsReordered}
-use Rattle.r4_twiglaw.proofs.Ordered.{distinct}
+use Rattle.r4_edit.specs.Twigs.{IsReordered}
+use Rattle.r4_edit.proofs.Ordered.{distinct}
 
 none_or_some : (o : Option (Node Value)) → (o ≡ None) ⊎ ((c : Node Value) × (o ≡ Some c))
 none_or_some None = inl refl

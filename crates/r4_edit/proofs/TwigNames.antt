@@ -12,7 +12,7 @@ use Rattle.r4_edit.specs.Steps.{Ascends, Climbs, Step, fresh_ids, news, olds}
 use Rattle.r4_edit.proofs.Members.{Distinct, cases, distinct_append, here, none}
 use Rattle.r4_edit.proofs.OnPath.{Stands, distinct_olds, old_below, stands_in, stands_old, up_one}
 use Rattle.r4_edit.proofs.Rising.{id_member}
-use Rattle.r4_twiglaw.proofs.Ordered.{Once, once_apart, once_distinct, once_left, once_right}
+use Rattle.r4_edit.proofs.Ordered.{Once, once_apart, once_distinct, once_left, once_right}
 
 -- the first new cell has the name of the old one
 abbrev pub IsFirst : Step → Type 0

@@ -14,13 +14,13 @@ use Rattle.r4_patch.proofs.Placed.{placed_part}
 use Rattle.r4_patch.proofs.SecondRoot.{small_is_tree}
 use Rattle.r4_edit.specs.Steps.{AreNaming, IsNameOf, fresh_ids, name_of}
 use Rattle.r4_edit.proofs.Members.{cases, here, none}
-use Rattle.r4_twiglaw.specs.ExtentPut.{back_below, back_step, back_tree, extent_below, extent_block, extent_step, extent_tree}
-use Rattle.r4_twiglaw.specs.ExtentPut.{last_key, leaf_cell, pointer_block, stat_block, twig_cell}
-use Rattle.r4_twiglaw.specs.Twigs.{HaveNumbers, IsTwigChange, IsTwigStep}
-use Rattle.r4_twiglaw.proofs.ExtentChange.{file_top, from_least, goes_name, least_file, names_from, names_to, new_cell, numbers}
-use Rattle.r4_twiglaw.proofs.ExtentChange.{old_name, only, small_change, sound_node, to_top}
-use Rattle.r4_twiglaw.proofs.Instance.{old_leaf_sound, was_sound}
-use Rattle.r4_twiglaw.proofs.TwigPatch.{change_is, part_meets}
+use Rattle.r4_edit.specs.ExtentPut.{back_below, back_step, back_tree, extent_below, extent_block, extent_step, extent_tree}
+use Rattle.r4_edit.specs.ExtentPut.{last_key, leaf_cell, pointer_block, stat_block, twig_cell}
+use Rattle.r4_edit.specs.Twigs.{HaveNumbers, IsTwigChange, IsTwigStep}
+use Rattle.r4_edit.proofs.ExtentChange.{file_top, from_least, goes_name, least_file, names_from, names_to, new_cell, numbers}
+use Rattle.r4_edit.proofs.ExtentChange.{old_name, only, small_change, sound_node, to_top}
+use Rattle.r4_edit.proofs.Instance.{old_leaf_sound, was_sound}
+use Rattle.r4_edit.proofs.TwigPatch.{change_is, part_meets}
 
 abbrev first : Patch Value
 first = patch_of (extent_below.old ++ extent_step.old ∷ []) (extent_below.new ++ extent_step.new) None

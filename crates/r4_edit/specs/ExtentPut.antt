@@ -13,7 +13,7 @@ use Rattle.r4_cell.specs.Seen.{CellSeen}
 use Rattle.r4_node40.specs.Edits.{header_fields}
 use Rattle.r4_patch.specs.SecondRoot.{small_tree}
 use Rattle.r4_edit.specs.Steps.{Step}
-use Rattle.r4_twiglaw.specs.Twigs.{Below}
+use Rattle.r4_edit.specs.Twigs.{Below}
 
 -- the fields of a node's head
 abbrev pub head_fields : (level count free start : ℕ) → List (ℕ × ℕ)

@@ -10,8 +10,8 @@ ghost use Rattle.r4_patch.specs.Part.{MeetsPart};
 ghost use Rattle.r4_patch.specs.SecondRoot.{small_root};
 ghost use Rattle.r4_edit.specs.Sharing.{IsSound};
 ghost use Rattle.r4_edit.specs.Steps.{Step, news, olds, root_pair};
-ghost use Rattle.r4_twiglaw.specs.ExtentPut.{back_below, back_step, back_tree, extent_below, extent_step, extent_tree};
-ghost use Rattle.r4_twiglaw.specs.Twigs.{AreCounted, Below, CoversBelow, HaveNumbers, IsReordered, IsTwigChange};
+ghost use Rattle.r4_edit.specs.ExtentPut.{back_below, back_step, back_tree, extent_below, extent_step, extent_tree};
+ghost use Rattle.r4_edit.specs.Twigs.{AreCounted, Below, CoversBelow, HaveNumbers, IsReordered, IsTwigChange};
 
 /// A change of a twig, of what stands below it and of the nodes above it is a patch, and each part of a tree that has the
 /// cells meets it. Below go and come leaves and data blocks alone; the leaves that come and the extents of the new twigs

@@ -12,8 +12,8 @@ use Rattle.r4_cell.specs.Seen.{node_of}
 use Rattle.r4_patch.specs.SecondRoot.{whole_leaf, whole_twig}
 use Rattle.r4_edit.specs.Sharing.{IsSound}
 use Rattle.r4_edit.specs.Steps.{name_of}
-use Rattle.r4_twiglaw.specs.ExtentPut.{data_cell, extent_block, file_key, last_key, leaf_cell, pointer_block, stat_block}
-use Rattle.r4_twiglaw.specs.ExtentPut.{twig_cell}
+use Rattle.r4_edit.specs.ExtentPut.{data_cell, extent_block, file_key, last_key, leaf_cell, pointer_block, stat_block}
+use Rattle.r4_edit.specs.ExtentPut.{twig_cell}
 
 pub old_twig : node_of (twig_cell pointer_block) ≡ whole_twig pointer_block
 unfolding cell_of names_in spans_in units_in item_names item_units items_of items_from item_at key_at offset_at plugin_at

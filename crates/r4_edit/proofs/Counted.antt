@@ -9,7 +9,7 @@ use Rattle.r4_cell.specs.Patch.{HaveNames}
 use Rattle.r4_edit.specs.Steps.{CountUp, IsFree}
 use Rattle.r4_edit.proofs.Members.{here, later}
 use Rattle.r4_edit.proofs.Rising.{count_within}
-use Rattle.r4_twiglaw.specs.Twigs.{AreCounted, Below, HaveNumbers, IsUnused}
+use Rattle.r4_edit.specs.Twigs.{AreCounted, Below, HaveNumbers, IsUnused}
 
 index : (xs : List ℕ) (k d : ℕ) → k < length xs → Contains xs (slice_index_or xs k d)
 index [] k d less = absurd (omega (arith, less))

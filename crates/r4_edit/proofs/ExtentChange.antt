@@ -17,11 +17,11 @@ use Rattle.r4_patch.proofs.SecondRoot.{small_is_tree}
 use Rattle.r4_edit.specs.Sharing.{IsSound}
 use Rattle.r4_edit.specs.Steps.{AreNaming, IsNameOf, fresh_ids, name_of}
 use Rattle.r4_edit.proofs.Members.{cases, have_names, here, later, none}
-use Rattle.r4_twiglaw.specs.ExtentPut.{data_cell, extent_below, extent_block, extent_step, extent_tree, file_key, last_key}
-use Rattle.r4_twiglaw.specs.ExtentPut.{leaf_cell, pointer_block, stat_block, twig_cell}
-use Rattle.r4_twiglaw.specs.Twigs.{HaveNumbers, IsTwigChange, IsTwigStep, IsUnused}
-use Rattle.r4_twiglaw.proofs.Instance.{data_sound, leaf_sound, new_names, old_leaf, old_leaf_sound, old_twig, twig_sound}
-use Rattle.r4_twiglaw.proofs.Instance.{was_sound}
+use Rattle.r4_edit.specs.ExtentPut.{data_cell, extent_below, extent_block, extent_step, extent_tree, file_key, last_key}
+use Rattle.r4_edit.specs.ExtentPut.{leaf_cell, pointer_block, stat_block, twig_cell}
+use Rattle.r4_edit.specs.Twigs.{HaveNumbers, IsTwigChange, IsTwigStep, IsUnused}
+use Rattle.r4_edit.proofs.Instance.{data_sound, leaf_sound, new_names, old_leaf, old_leaf_sound, old_twig, twig_sound}
+use Rattle.r4_edit.proofs.Instance.{was_sound}
 
 -- ---- members of short lists
 

@@ -20,10 +20,10 @@ use Rattle.r4_edit.proofs.OnPath.{IsHighest, Stands, StandsIn, above_or_highest,
 use Rattle.r4_edit.proofs.OnPath.{new_stands, old_stands, one_step, only_below, over_new, some_step, stands_in, stands_new}
 use Rattle.r4_edit.proofs.OnPath.{stands_old, stands_step, up_one}
 use Rattle.r4_edit.proofs.Rising.{Within, follow_apart, follow_covers, follow_within, hi_is, in_cell, in_node, level_is, lo_is}
-use Rattle.r4_twiglaw.specs.Twigs.{Below, CoversBelow, IsTwigChange}
-use Rattle.r4_twiglaw.proofs.Ordered.{distinct, once}
-use Rattle.r4_twiglaw.proofs.TwigBelow.{covered, gone_id, id_cell, low_new, low_old}
-use Rattle.r4_twiglaw.proofs.TwigNames.{AreFirst, IsFirst, climbs_first, distinct_new, has_below, higher, id_from}
+use Rattle.r4_edit.specs.Twigs.{Below, CoversBelow, IsTwigChange}
+use Rattle.r4_edit.proofs.Ordered.{distinct, once}
+use Rattle.r4_edit.proofs.TwigBelow.{covered, gone_id, id_cell, low_new, low_old}
+use Rattle.r4_edit.proofs.TwigNames.{AreFirst, IsFirst, climbs_first, distinct_new, has_below, higher, id_from}
 
 none_or_some : (o : Option CellSeen) → (o ≡ None) ⊎ ((c : CellSeen) × (o ≡ Some c))
 none_or_some None = inl refl

@@ -1,9 +1,0 @@
-mod Counted
-mod ExtentBack
-mod ExtentChange
-mod Instance
-mod Ordered
-mod Reordered
-mod TwigBelow
-mod TwigNames
-mod TwigPatch

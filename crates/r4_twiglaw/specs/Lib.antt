@@ -1,2 +1,0 @@
-pub mod ExtentPut
-pub mod Twigs
