@@ -1,13 +1,12 @@
 -- A node parted in two, and the change that climbs from there.
-use Rattle.std.proofs.Common.{◌≡◌, inl, inr, ℕ, zero, suc, ◌+◌, ◌^◌, ◌<◌, ◌≤◌, true, List, [], length, refl, sym, ap, subst, ◌∙◌, arith}
+use Rattle.std.proofs.Common.{◌≡◌, ℕ, zero, suc, ◌+◌, ◌^◌, ◌<◌, ◌≤◌, true, List, [], length, refl, sym, ap, subst, ◌∙◌, arith}
 use Rattle.std.specs.Prelude.{All, Contains, Some, None, slice_get}
 use Rattle.r4_base.specs.Cell.{cell_fault, names_in, spans_in, units_in}
 use Rattle.r4_base.specs.Key.{rank}
 use Rattle.r4_base.specs.Node.{KeysRise, PluginsFit, items_of, level_of}
-use Rattle.r4_base.specs.Tree.{IsNode as IsTreeNode, Name, Span}
+use Rattle.r4_base.specs.Tree.{IsNode as IsTreeNode}
 use Rattle.r4_cell.specs.Seen.{CellSeen, node_of}
 use Rattle.r4_cell.specs.declared.change.Fresh.{Fresh}
-use Rattle.r4_cell.proofs.Nodes.{cell_node}
 use Rattle.r4_cell.proofs.NodesAt.{IsNodeAt, plugins_at}
 use Rattle.r4_node40.specs.Laid.{IsNode}
 use Rattle.r4_node40.specs.View.{view_block, view_items}
@@ -23,23 +22,10 @@ use Rattle.r4_edit.proofs.Cuts.{both_parts}
 use Rattle.r4_edit.proofs.Finding.{bodied, node_weighs, weighs_length}
 use Rattle.r4_edit.proofs.Lying.{Good}
 use Rattle.r4_edit.proofs.Parenting.{alike, in_naming, in_spanning, naming_in, sound_node, spanning_in}
-use Rattle.r4_edit.proofs.Rising.{follow_within, hi_is, level_is, lo_is}
+use Rattle.r4_edit.proofs.NewNodes.{leaf_step as step_of_leaves}
+use Rattle.r4_edit.proofs.Rising.{hi_is, lo_is}
 use Rattle.r4_edit.proofs.Stepping.{bodied_row}
 use Rattle.r4_edit.proofs.CellNodes.{names_are, spans_are}
-
--- ---- a new cell is a node by itself
-
-pub new_node : (o x : CellSeen) (cells : List CellSeen) → IsTreeNode (node_of o) → 1 ≤ o.level → Follow o.level (rank o.lo) (rank o.hi) cells → IsSound x → Contains cells x → IsTreeNode (node_of x)
-new_node o x cells node one follow sound member =
-    let w = follow_within o.level (rank o.lo) (rank o.hi) cells x follow member in
-    let level = w.level_as in
-    let from = w.from in
-    let to = w.to in
-    let low = node.from_least in
-    let high = node.to_top in
-    let lo = lo_is o in
-    let hi = hi_is o in
-    cell_node true (2 ^ 64) x.level (rank x.lo) (rank x.hi) x.block sound.whole (omega (arith, level, one)) (omega (arith, from, low, lo)) w.nonempty (omega (arith, to, high, hi)) sound.accepted
 
 -- ---- the row of a node as it is
 
@@ -96,25 +82,8 @@ module _ (c : CellSeen) (w : Row) (s : IsSound c) (one : 1 ≤ c.level) (range :
     all_items : items_of_cells cells ≡ items_of c.block
     all_items = has.items_are ∙ same_row
 
-    no_leaf_names : (x : CellSeen) → IsTreeNode (node_of x) → x.level ≡ 1 → (n : Name) → Contains (node_of x).names n → ⊥
-    no_leaf_names x is level n h = let l = level_is x in elim (is.below n h) [ inl b ↦ omega (arith, b, l, level) | inr b ↦ omega (arith, b, l, level) ]
-
-    no_leaf_spans : (x : CellSeen) → IsTreeNode (node_of x) → x.level ≡ 1 → (v : Span) → Contains (node_of x).spans v → ⊥
-    no_leaf_spans x is level v h = let l = level_is x in let t = is.spans_in_twigs v h in omega (arith, t, l, level)
-
-    node_in : (x : CellSeen) → Contains cells x → IsTreeNode (node_of x)
-    node_in x member = new_node c x cells tree_node one has.ranges (has.sound x member) member
-
-    level_in : (x : CellSeen) → Contains cells x → x.level ≡ c.level
-    level_in x member = (follow_within c.level (rank c.lo) (rank c.hi) cells x has.ranges member).level_as
-
     leaf_step : c.level ≡ 1 → IsStep None (record { old = c; new = cells })
-    leaf_step leaf = record {
-      first = has.first;
-      ranges = has.ranges;
-      names = λ n. ((λ h. let (x, member, named) = h in absurd (no_leaf_names x (node_in x member) (level_in x member ∙ leaf) n named)), (λ h. absurd (no_leaf_names c tree_node leaf n h)));
-      spans = λ v. ((λ h. let (x, member, spanned) = h in absurd (no_leaf_spans x (node_in x member) (level_in x member ∙ leaf) v spanned)), (λ h. absurd (no_leaf_spans c tree_node leaf v h)));
-    }
+    leaf_step leaf = step_of_leaves c cells tree_node leaf has.ranges has.sound has.first
 
     branch_step : (l : ℕ) → 1 ≤ l → c.level ≡ suc l → IsStep None (record { old = c; new = cells })
     branch_step l low up =

@@ -114,6 +114,13 @@ pub record HasLevels (steps : List Step) (over : Option CellSeen) (c : Change) :
   pub new : c.new ≡ news steps over
   pub pair : c.root ≡ root_pair over
 
+-- The change has this lowest step, and those above it that it asks for.
+pub record Rises (s : Step) (ups : List CellSeen) (before after : Fresh) (c : Change) : Type 0 where
+  pub steps : List Step
+  pub over : Option CellSeen
+  pub climbed : Climbed s ups before after [] steps over
+  pub levels : HasLevels steps over c
+
 -- ---- a node parted in two
 
 -- The cell has two items or more, and is the lowest of a path of this part of a tree, with the cells above it that a new

@@ -2,10 +2,13 @@
 #![tactic(auto)]
 
 mod appending;
+mod ascent;
 mod climbing;
+mod editing;
 mod gathering;
 mod growing;
 mod laws;
+mod leaves;
 mod level;
 mod numbers;
 mod pointing;
@@ -13,6 +16,7 @@ mod row;
 mod sharing;
 mod splitting;
 
+pub use editing::{cut, insert};
 pub use growing::grow;
 pub use laws::path_changes_are_patches;
 pub use splitting::split;

@@ -21,8 +21,8 @@ share-requires-clause-row c =
       here_at = c.place_of-at.ensures.at;
     })
 
-pub returns : goal.returns
-returns c =
+pub returns-clause-step : goal.returns-clause-step
+returns-clause-step c =
     over_step (arc_value c.args.parent.now) (step_of c.args.below.now) c.deref.result.now c.deref-4.result.now (record { node = c.node-node.result; mkfs_id = c.get32.result; at = c.place_of-at.result; more = c.further.result }) c.lo.result
     (record {
       under = c.requires.under;
@@ -36,4 +36,4 @@ returns c =
       below = c.place_of-at.ensures.below;
       here_at = c.place_of-at.ensures.at;
     })
-    c.args.fresh.now c.share.new.fresh (arc_value c.in_ok-try_clone.field-0) c.in_ok-new.new c.in_ok-try_clone.ensures c.in_ok-new.ensures
+    c.args.fresh.now c.share.new.fresh (arc_value c.in_ok-try_clone.field-0) c.in_ok-new.new c.in_ok-try_clone.ensures c.in_ok-new.ensures.shares

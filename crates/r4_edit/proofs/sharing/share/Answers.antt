@@ -5,8 +5,8 @@ use Rattle.r4_edit.proofs.Results.{and_ok, both_ok}
 use Rattle.r4_edit.proofs.Shared.{shares_one, shares_two, two_at_least, weigh_all}
 use Rattle.r4_edit.proofs.sharing.share.Goals as goal
 
-pub returns-then-weight-le-ROOM : goal.returns-then-weight-le-ROOM
-returns-then-weight-le-ROOM c =
+pub returns-then-weight-le-ROOM-clause-shares : goal.returns-then-weight-le-ROOM-clause-shares
+returns-then-weight-le-ROOM-clause-shares c =
     let same = weigh_all c.args.old.now c.args.row.now c.requires.row c.len.result c.len.ensures in
     let weighs = c.weight.ensures in
     let few = c.if-weight-le-ROOM.true in
@@ -19,8 +19,8 @@ two-requires-clause-two c =
     let over = c.if-weight-le-ROOM.false in
     two_at_least (row_items c.args.row.now) c.requires.row.row.bodies (omega (arith, same, weighs, over))
 
-pub returns : goal.returns
-returns c =
+pub returns-clause-shares : goal.returns-clause-shares
+returns-clause-shares c =
     let same = weigh_all c.args.old.now c.args.row.now c.requires.row c.len.result c.len.ensures in
     let weighs = c.weight.ensures in
     let over = c.if-weight-le-ROOM.false in

@@ -31,8 +31,8 @@ two-requires-clause-two c = lent_two (arc_value c.args.cell.now) c.deref.result.
   two = c.requires.two;
 })
 
-pub returns : goal.returns
-returns c = lent_parted (arc_value c.args.cell.now) c.deref.result.now c.deref-3.result.now (record { node = c.node.result; mkfs_id = c.get32.result; at = 0; more = c.no_cells.result }) (record {
+pub returns-clause-parted : goal.returns-clause-parted
+returns-clause-parted c = lent_parted (arc_value c.args.cell.now) c.deref.result.now c.deref-3.result.now (record { node = c.node.result; mkfs_id = c.get32.result; at = 0; more = c.no_cells.result }) (record {
   p_is = c.deref.ensures;
   q_is = c.deref-3.ensures;
   view = c.node.ensures.block;
