@@ -1,6 +1,7 @@
 -- The change that puts leaves in the place of one, along its path.
 use Rattle.std.proofs.Common.{◌≢◌, inl, inr, ℕ, ◌+◌, ◌-◌, ◌*◌, ◌/◌, ◌^◌, ◌<◌, ◌≤◌, List, [], ◌∷◌, length, map, drop, refl, ◌∙◌, arith}
-use Rattle.std.specs.Prelude.{reverse}
+use Rattle.std.specs.Prelude.{min, reverse}
+use Rattle.std.proofs.Math.Nat.{min-eq_left, min-eq_right}
 use Rattle.std.proofs.lemmas.Bool.{cases_lt}
 use Rattle.std.proofs.lemmas.List.{length-drop}
 use Rattle.r4_base.specs.Tree.{Root, Store}
@@ -29,11 +30,23 @@ part_of : (bytes n : ℕ) → 4068 < bytes → 1024 * n + 2020 < bytes → n ≤
 part_of bytes n over more = omega (arith, over, more)
 
 -- the leaves are not more than were foreseen
-pub few_leaves : (us : List LeafUnit) (leaves : List Leaf) → AreFew us leaves → length leaves ≤ 1 + extra_cells us
+few_leaves : (us : List LeafUnit) (leaves : List Leaf) → AreFew us leaves → length leaves ≤ 1 + extra_cells us
 few_leaves us leaves few = elim (cases_lt 4068 (leaf_bytes us)) [
   | inl over ↦ part_of (leaf_bytes us) (length leaves) over (few.more over)
   | inr fits ↦ let one = few.one fits in omega (arith, one)
 ]
+
+within : (n m : ℕ) → n ≤ 1 + m → n ≤ 16 → n ≤ 1 + min 15 m
+within n m le few = elim (cases_lt m 15) [
+  | inl below ↦ let e = min-eq_right (le-of-lt below) in omega (arith, e, le)
+  | inr past ↦ let e = min-eq_left past in omega (arith, e, few)
+]
+  where
+    le-of-lt : {a b : ℕ} → a < b → a ≤ b
+    le-of-lt h = omega (arith, h)
+
+pub numbered_leaves : (us : List LeafUnit) (leaves : List Leaf) → AreFew us leaves → length leaves ≤ 1 + min 15 (extra_cells us)
+numbered_leaves us leaves few = within (length leaves) (extra_cells us) (few_leaves us leaves few) few.few
 
 module _ (leaf : CellSeen) (ups : List CellSeen) (us : List LeafUnit) (leaves : List Leaf) (f g : Fresh) (s : Step) (is : IsLeafStep leaf us (length leaves) f g s) (few : AreFew us leaves) where
   begun : Begun leaf f g s
@@ -57,7 +70,7 @@ module _ (leaf : CellSeen) (ups : List CellSeen) (us : List LeafUnit) (leaves : 
 
   pub edit_starts : (t : Store Value) (r : Root) → IsReplacedIn t r us leaves leaf ups f → 2 ^ 63 ≤ f.next → f.end < 2 ^ 64 → CanClimb s ups g
   edit_starts t r at unplaced end =
-      begun_climbs leaf ups f g s begun t r at.edited.path (enough t r at.edited) unplaced (let n = at.numbers in let c = come in omega (arith, n, c)) end
+      begun_climbs leaf ups f g s begun t r at.edited.path (enough t r at.edited) unplaced (let n = at.numbers in let c = numbered_leaves us leaves few in let d = length-drop 1 s.new in let many = is.many in omega (arith, n, c, d, many)) end
 
   module _ (after : Fresh) (d : Change) (rises : Rises s ups g after d) where
     pub edit_change : (t : Store Value) (r : Root) → IsEditedIn t r us leaf ups f → IsChange d.old d.new d.root

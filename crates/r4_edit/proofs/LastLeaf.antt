@@ -1,6 +1,6 @@
 -- The leaf of a path that is given from the top down, in whose place leaves come.
 use Rattle.std.proofs.Common.{◌≡◌, ◌≢◌, ◌+◌, ◌-◌, ◌<◌, List, [], ◌∷◌, length, map, take, get_or, sym, subst, arith}
-use Rattle.std.specs.Prelude.{reverse}
+use Rattle.std.specs.Prelude.{min, reverse}
 use Rattle.r4_base.specs.Node.{Item}
 use Rattle.r4_base.specs.Tree.{Root, Store}
 use Rattle.r4_base.specs.Value.{Value}
@@ -45,7 +45,7 @@ module _ {A : Type 0} (h : A → CellSeen) (path : List A) (x : A) (last : x ≡
         → AreLeavesOf seen (after seen) leaves → f.next + length path + extra_for after (map h path) < f.end → IsReplacedUp t r (after (h x)) leaves f (reverse (map h path))
     replaced t r leaves seen same edited are numbers =
         let up = last_first h path x some last in
-        let extra = subst (λ cells. f.next + length path + extra_up after cells < f.end) up numbers in
+        let extra = subst (λ cells. f.next + length path + min 15 (extra_up after cells) < f.end) up numbers in
         let long = long_above h path some in
         subst (IsReplacedUp t r (after (h x)) leaves f) (sym up) (record {
           edited = edited;

@@ -1,5 +1,5 @@
 -- A leaf whose units change, and the path above it (docs/volume.md, "Edits").
-use Rattle.std.specs.Prelude.{◌≡◌, ◌⊎◌, ℕ, ◌+◌, ◌-◌, ◌/◌, ◌<◌, ◌≤◌, List, [], ◌∷◌, Contains, drop, length, reverse, take, Option, None, Some}
+use Rattle.std.specs.Prelude.{◌≡◌, ◌⊎◌, ℕ, ◌+◌, ◌-◌, ◌/◌, ◌<◌, ◌≤◌, List, [], ◌∷◌, Contains, drop, length, min, reverse, take, Option, None, Some}
 use Rattle.r4_base.specs.Cell.{item_end, item_units}
 use Rattle.r4_base.specs.Key.{rank}
 use Rattle.r4_base.specs.Node.{Item}
@@ -63,7 +63,7 @@ pub record AreLeavesOf (leaf : CellSeen) (us : List LeafUnit) (leaves : List Lea
 pub record IsReplacedIn (t : Store Value) (r : Root) (us : List LeafUnit) (leaves : List Leaf) (leaf : CellSeen) (ups : List CellSeen) (fresh : Fresh) : Type 0 where
   pub edited : IsEditedIn t r us leaf ups fresh
   pub leaves_are : AreLeavesOf leaf us leaves
-  pub numbers : fresh.next + (1 + length ups) + extra_cells us < fresh.end
+  pub numbers : fresh.next + (1 + length ups) + min 15 (extra_cells us) < fresh.end
 
 -- The lowest step puts one cell in the leaf's place, or more, where its units do not fit into one; these have the units in
 -- their order. The steps go up the path, with the next numbers.
@@ -116,9 +116,9 @@ abbrev pub extra_up : (after : CellSeen → List LeafUnit) → List CellSeen →
 extra_up after [] = 0
 extra_up after (leaf ∷ ups) = extra_cells (after leaf)
 
--- how many cells come beside the path's leaf at most, where it has other units afterwards
+-- How many cells come beside the path's leaf at most, where it has other units afterwards; there are never more than 15.
 abbrev pub extra_for : (after : CellSeen → List LeafUnit) → (path : List CellSeen) → ℕ
-extra_for after path = extra_up after (reverse path)
+extra_for after path = min 15 (extra_up after (reverse path))
 
 abbrev pub EditsUp : (after : CellSeen → List LeafUnit) → (before now : Fresh) → Change → List CellSeen → Type 0
 EditsUp after before now change [] = ⊥

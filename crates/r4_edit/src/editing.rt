@@ -26,8 +26,9 @@ use std::sync::Arc;
 /// Puts an item into the leaf of a path: stat data, entries of a directory or bytes of a tail, of 1 to 4030 bytes, which
 /// belongs to the leaf. The path goes from the top down. Where the leaf's units then need more than 4068 bytes, more leaves
 /// come, at most one for each 1024 bytes that are too many or a part of these; the path has the cells above that their
-/// pointers may ask for, as for `split`. It takes a fresh number for each cell that comes, and there is one for each of these
-/// leaves and for each cell of the path. On `Memory` numbers may have been taken (docs/volume.md, "Edits").
+/// pointers may ask for, as for `split`. It takes a fresh number for each cell that comes, and there is one for each leaf
+/// that may come (never more than 15), one for each cell of the path and one more. On `Memory` numbers may have been taken
+/// (docs/volume.md, "Edits").
 pub fn insert(
     alloc: Global,
     path: &[Arc<Cell>],

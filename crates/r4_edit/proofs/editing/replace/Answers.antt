@@ -4,7 +4,7 @@ use Rattle.std.specs.Prelude.{reverse}
 use Rattle.std.specs.Arc.{arc_value}
 use Rattle.r4_edit.specs.Editing.{EditsUp, IsReplacedUp}
 use Rattle.r4_edit.specs.Levels.{step_of}
-use Rattle.r4_edit.proofs.Edited.{edit_change, edit_edits, edit_meets, edit_starts, few_leaves, some_replaced}
+use Rattle.r4_edit.proofs.Edited.{edit_change, edit_edits, edit_meets, edit_starts, numbered_leaves, some_replaced}
 use Rattle.r4_edit.proofs.Upwards.{last_first}
 use Rattle.r4_edit.proofs.editing.replace.Goals as goal
 
@@ -18,7 +18,7 @@ leaf_level-requires c =
       level = at.edited.level;
       node = at.edited.path.part.nodes _ _ at.edited.path.ascends.0;
       packed = (us, at.leaves_are.packs);
-      numbers = let n = at.numbers in let few = few_leaves us c.args.leaves.items at.leaves_are.few in omega (arith, n, few);
+      numbers = let n = at.numbers in let few = numbered_leaves us c.args.leaves.items at.leaves_are.few in omega (arith, n, few);
     }
 
 pub rise-requires : goal.rise-requires
