@@ -21,6 +21,7 @@ pub mod Rising
 pub mod RowPlaces
 pub mod Rows
 pub mod Shared
+pub mod ShortPath
 pub mod Stepping
 pub mod Upwards
 pub mod OnPath
@@ -30,3 +31,4 @@ pub mod PathPatch
 pub mod Parted
 pub mod PointerNodes
 pub mod Pointers
+pub mod Trying

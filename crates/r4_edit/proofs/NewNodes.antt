@@ -24,7 +24,7 @@ new_node o x cells node one follow sound member =
 
 -- ---- leaves name nothing, and have no extents
 
-no_names : (x : CellSeen) → IsNode (node_of x) → x.level ≡ 1 → (n : Name) → Contains (node_of x).names n → ⊥
+pub no_names : (x : CellSeen) → IsNode (node_of x) → x.level ≡ 1 → (n : Name) → Contains (node_of x).names n → ⊥
 no_names x is level n h = let l = level_is x in elim (is.below n h) [ inl b ↦ omega (arith, b, l, level) | inr b ↦ omega (arith, b, l, level) ]
 
 no_spans : (x : CellSeen) → IsNode (node_of x) → x.level ≡ 1 → (v : Span) → Contains (node_of x).spans v → ⊥

@@ -24,7 +24,7 @@ use Rattle.r4_edit.proofs.Rising.{count_within}
 
 -- ---- numbers
 
-numbered : (id : ℕ) → 2 ^ 63 ≤ id → id < 2 ^ 64 → IsPointable id
+pub numbered : (id : ℕ) → 2 ^ 63 ≤ id → id < 2 ^ 64 → IsPointable id
 numbered id low high = (high, fits id low)
   where
     fits : (x : ℕ) → 2 ^ 63 ≤ x → (nat_le (2 ^ 63) x || nat_lt x (2 ^ 64) && not (is_fixed (2 ^ 64) x)) ≡ true

@@ -15,6 +15,10 @@ mod pointing;
 mod row;
 mod sharing;
 mod splitting;
+#[cfg(test)]
+mod tests;
+#[cfg(test)]
+mod trials;
 
 pub use editing::{cut, insert};
 pub use growing::grow;
