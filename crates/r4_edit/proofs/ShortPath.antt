@@ -170,12 +170,15 @@ insert_here (leaf ∷ rest) path f it are may over =
       enough = inr (inr (refl, (let l = over.level in omega (arith, l))));
     } in (
       by_name path,
-      (low_root over.twig, subst (λ (p : List CellSeen). IsInsertedUp (by_name path) (low_root over.twig) it f (reverse p)) (sym over.cells) (record {
-        edited = edited;
-        from = may.from;
-        to = may.to;
-        apart = may.apart;
-      })),
+      (
+        low_root over.twig,
+        subst (λ (p : List CellSeen). IsInsertedUp (by_name path) (low_root over.twig) it f (reverse p)) (sym over.cells) (record {
+          edited = edited;
+          from = may.from;
+          to = may.to;
+          apart = may.apart;
+        }),
+      ),
     )
 
 pub cut_here : (cells path : List CellSeen) (f : Fresh) (from to : Key) (leaf : CellSeen) (rest : List CellSeen) → cells ≡ leaf ∷ rest → AreLeaves cells → (rank from < rank to) × (rank leaf.lo ≤ rank from) × (rank to ≤ rank leaf.hi) → IsPathOver cells f path
@@ -188,10 +191,13 @@ cut_here cells path f from to leaf rest e are keys over' =
       enough = inr (inr (refl, (let l = over.level in omega (arith, l))));
     } in (
       by_name path,
-      (low_root over.twig, subst (λ (p : List CellSeen). IsCutOutUp (by_name path) (low_root over.twig) from to f (reverse p)) (sym over.cells) (record {
-        edited = edited;
-        order = keys.0;
-        low = keys.1;
-        high = keys.2;
-      })),
+      (
+        low_root over.twig,
+        subst (λ (p : List CellSeen). IsCutOutUp (by_name path) (low_root over.twig) from to f (reverse p)) (sym over.cells) (record {
+          edited = edited;
+          order = keys.0;
+          low = keys.1;
+          high = keys.2;
+        }),
+      ),
     )

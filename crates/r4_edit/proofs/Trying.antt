@@ -59,9 +59,9 @@ alone key hi b it same from to items plugin short stands =
       below = l.below;
       end = l.end;
       above = λ k v member.
-        let w = units_between key hi b stands from to k v (subst (λ us. Contains us (k, v)) (sym (ap units_in items ∙ one_item it)) member) in
-        let e = ap rank same in
-        omega (arith, w, e);
+          let w = units_between key hi b stands from to k v (subst (λ us. Contains us (k, v)) (sym (ap units_in items ∙ one_item it)) member) in
+          let e = ap rank same in
+          omega (arith, w, e);
     }
 
 pub ends : (leaf : CellSeen) (lo key : Key) (b : List ℕ) → leaf.level ≡ 1 → rank lo ≡ least → rank key ≤ top → b ≡ leaf.block → MayStand (rank lo) (rank key) b → (k : ℕ) (v : Value) → Contains (node_of leaf).units (k, v) → k < rank key

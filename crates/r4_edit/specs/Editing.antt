@@ -1,5 +1,6 @@
 -- A leaf whose units change, and the path above it (docs/volume.md, "Edits").
-use Rattle.std.specs.Prelude.{◌≡◌, ◌⊎◌, ℕ, ◌+◌, ◌-◌, ◌/◌, ◌<◌, ◌≤◌, List, [], ◌∷◌, Contains, drop, length, min, reverse, take, Option, None, Some}
+use Rattle.std.specs.Prelude.{◌≡◌, ◌⊎◌, ℕ, ◌+◌, ◌-◌, ◌/◌, ◌<◌, ◌≤◌, List, [], ◌∷◌, Contains, drop, length, min, reverse, take}
+use Rattle.std.specs.Prelude.{Option, None, Some}
 use Rattle.r4_base.specs.Cell.{item_end, item_units}
 use Rattle.r4_base.specs.Key.{rank}
 use Rattle.r4_base.specs.Node.{Item}
@@ -25,7 +26,8 @@ use Rattle.r4_edit.specs.Steps.{Climbs, CountUp, IsStep, Step, fresh_ids, olds}
 abbrev pub leaf_cells : (id next : ℕ) → (hi : Key) → List Leaf → List CellSeen
 leaf_cells id next hi [] = []
 leaf_cells id next hi (x ∷ []) = record { id = id; level = 1; lo = x.lo; hi = hi; block = x.block } ∷ []
-leaf_cells id next hi (x ∷ (y ∷ more)) = record { id = id; level = 1; lo = x.lo; hi = y.lo; block = x.block } ∷ leaf_cells next (next + 1) hi (y ∷ more)
+leaf_cells id next hi (x ∷ (y ∷ more)) =
+    record { id = id; level = 1; lo = x.lo; hi = y.lo; block = x.block } ∷ leaf_cells next (next + 1) hi (y ∷ more)
 
 -- Some units are shared out to the leaves, for this range.
 abbrev pub ArePacked : (lo hi : ℕ) → List Leaf → Type 0
@@ -49,7 +51,8 @@ extra_cells us = (leaf_bytes us - 4068 + 1023) / 1024
 
 -- The leaf is the lowest of a path of this part of a tree, with the cells above it that pointers to further leaves may ask
 -- for, where it is to have these units.
-pub record IsEditedIn (t : Store Value) (r : Root) (us : List LeafUnit) (leaf : CellSeen) (ups : List CellSeen) (fresh : Fresh) : Type 0 where
+pub record IsEditedIn (t : Store Value) (r : Root) (us : List LeafUnit) (leaf : CellSeen) (ups : List CellSeen)
+    (fresh : Fresh) : Type 0 where
   pub path : IsPathIn t r (leaf ∷ ups) fresh
   pub level : leaf.level ≡ 1
   pub enough : (leaf_bytes us ≤ 4068) ⊎ IsLongEnough r (extra_cells us) leaf ups
@@ -60,14 +63,16 @@ pub record AreLeavesOf (leaf : CellSeen) (us : List LeafUnit) (leaves : List Lea
   pub few : AreFew us leaves
 
 -- These leaves come in the place of the path's, and there are numbers for all that may come.
-pub record IsReplacedIn (t : Store Value) (r : Root) (us : List LeafUnit) (leaves : List Leaf) (leaf : CellSeen) (ups : List CellSeen) (fresh : Fresh) : Type 0 where
+pub record IsReplacedIn (t : Store Value) (r : Root) (us : List LeafUnit) (leaves : List Leaf) (leaf : CellSeen)
+    (ups : List CellSeen) (fresh : Fresh) : Type 0 where
   pub edited : IsEditedIn t r us leaf ups fresh
   pub leaves_are : AreLeavesOf leaf us leaves
   pub numbers : fresh.next + (1 + length ups) + min 15 (extra_cells us) < fresh.end
 
 -- The lowest step puts one cell in the leaf's place, or more, where its units do not fit into one; these have the units in
 -- their order. The steps go up the path, with the next numbers.
-pub record Edits (leaf : CellSeen) (ups : List CellSeen) (us : List LeafUnit) (before after : Fresh) (change : Change) : Type 0 where
+pub record Edits (leaf : CellSeen) (ups : List CellSeen) (us : List LeafUnit) (before after : Fresh)
+    (change : Change) : Type 0 where
   pub lowest : Step
   pub more : List Step
   pub over : Option CellSeen
@@ -86,12 +91,17 @@ pub record Edits (leaf : CellSeen) (ups : List CellSeen) (us : List LeafUnit) (b
 
 -- ---- an item that is put in
 
+-- an item by its parts
+abbrev pub given_item : Key → (plugin : ℕ) → (body : List ℕ) → Item
+given_item key plugin body = record { key = key; plugin = plugin; body = body }
+
 -- the leaf's units with those of the item
 abbrev pub after_insert : Item → CellSeen → List LeafUnit
 after_insert it leaf = put_units (item_units it) (node_of leaf).units
 
 -- The item belongs to the leaf, which has no unit of a key of its units.
-pub record IsInsertedIn (t : Store Value) (r : Root) (it : Item) (leaf : CellSeen) (ups : List CellSeen) (fresh : Fresh) : Type 0 where
+pub record IsInsertedIn (t : Store Value) (r : Root) (it : Item) (leaf : CellSeen) (ups : List CellSeen)
+    (fresh : Fresh) : Type 0 where
   pub edited : IsEditedIn t r (after_insert it leaf) leaf ups fresh
   pub from : rank leaf.lo ≤ rank it.key
   pub to : item_end it ≤ rank leaf.hi
@@ -104,7 +114,8 @@ abbrev pub after_cut : (from to : Key) → CellSeen → List LeafUnit
 after_cut from to leaf = cut_units (rank from) (rank to) (node_of leaf).units
 
 -- The keys from one on and below the other belong to the leaf.
-pub record IsCutOutIn (t : Store Value) (r : Root) (from to : Key) (leaf : CellSeen) (ups : List CellSeen) (fresh : Fresh) : Type 0 where
+pub record IsCutOutIn (t : Store Value) (r : Root) (from to : Key) (leaf : CellSeen) (ups : List CellSeen)
+    (fresh : Fresh) : Type 0 where
   pub edited : IsEditedIn t r (after_cut from to leaf) leaf ups fresh
   pub order : rank from < rank to
   pub low : rank leaf.lo ≤ rank from

@@ -22,7 +22,8 @@ pub(crate) fn rise(
     fresh: &mut Fresh,
 ) -> Result<Change, Memory>
     requires { CanClimb (step_of lowest) (reverse (map (λ c. arc_value c) above.now)) fresh.old }
-    ensures rises { IfOk result (λ c. Rises (step_of lowest) (reverse (map (λ x. arc_value x) above.now)) fresh.old fresh.new c) }
+    ensures rises { IfOk result (λ c.
+        Rises (step_of lowest) (reverse (map (λ x. arc_value x) above.now)) fresh.old fresh.new c) }
     ensures numbers { OnlyTakes fresh.old fresh.new }
 {
     let mut levels = Vec::new(alloc);

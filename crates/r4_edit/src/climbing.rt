@@ -28,7 +28,8 @@ pub(crate) fn climb(
     levels: &mut Vec<Level>,
 ) -> Result<Option<Arc<Cell>>, Memory>
     requires { CanClimb (step_of level) (reverse (map (λ c. arc_value c) above.now)) fresh.old }
-    ensures climbed { IfOk result (λ over. Climbed (step_of level) (reverse (map (λ c. arc_value c) above.now)) fresh.old fresh.new
+    ensures climbed { IfOk result (λ over.
+        Climbed (step_of level) (reverse (map (λ c. arc_value c) above.now)) fresh.old fresh.new
         (map step_of levels.old.items) (map step_of levels.new.items) (option_map (λ c. arc_value c) over)) }
     ensures numbers { OnlyTakes fresh.old fresh.new }
 {

@@ -12,7 +12,8 @@ ghost use Rattle.r4_leaf.specs.Leaves.{AreApart, IsGiven};
 ghost use Rattle.r4_leaf.specs.Units.{LeafUnit};
 ghost use Rattle.r4_patch.specs.Joining.{patch_of_change};
 ghost use Rattle.r4_patch.specs.Part.{MeetsPart};
-ghost use Rattle.r4_edit.specs.Editing.{AreLeavesOf, Cuts, EditsUp, Inserts, IsCutIn, IsInsertIn, IsReplacedUp, after_cut, after_insert, extra_for};
+ghost use Rattle.r4_edit.specs.Editing.{AreLeavesOf, Cuts, EditsUp, Inserts, IsCutIn, IsInsertIn, IsReplacedUp, after_cut};
+ghost use Rattle.r4_edit.specs.Editing.{after_insert, extra_for, given_item};
 ghost use Rattle.r4_edit.specs.Steps.{OnlyTakes};
 
 use crate::ascent::rise;
@@ -37,14 +38,18 @@ pub fn insert(
     body: &[u8],
     fresh: &mut Fresh,
 ) -> Result<Change, Memory>
-    requires item { IsGiven (record { key = key.now; plugin = plugin; body = body.now }) }
-    requires path { (t : Store Value) × ((r : TreeRoot) × IsInsertIn t r (map (λ c. arc_value c) path.now) (record { key = key.now; plugin = plugin; body = body.now }) fresh.old) }
+    requires item { IsGiven (given_item key.now plugin body.now) }
+    requires path { (t : Store Value) × ((r : TreeRoot)
+        × IsInsertIn t r (map (λ c. arc_value c) path.now) (given_item key.now plugin body.now) fresh.old) }
     requires numbers { (2 ^ 63 ≤ fresh.old.next)
-        × (fresh.old.next + length path.now + extra_for (after_insert (record { key = key.now; plugin = plugin; body = body.now })) (map (λ c. arc_value c) path.now) < fresh.old.end) }
+        × (fresh.old.next + length path.now + extra_for (after_insert (given_item key.now plugin body.now))
+        (map (λ c. arc_value c) path.now) < fresh.old.end) }
     ensures change { IfOk result (λ c. IsChange c.old c.new c.root) }
     ensures meets { IfOk result (λ c. (t : Store Value) (r : TreeRoot)
-        → IsInsertIn t r (map (λ x. arc_value x) path.now) (record { key = key.now; plugin = plugin; body = body.now }) fresh.old → MeetsPart (patch_of_change c) t r) }
-    ensures inserts { IfOk result (λ c. Inserts (map (λ x. arc_value x) path.now) (record { key = key.now; plugin = plugin; body = body.now }) fresh.old fresh.new c) }
+        → IsInsertIn t r (map (λ x. arc_value x) path.now) (given_item key.now plugin body.now) fresh.old
+        → MeetsPart (patch_of_change c) t r) }
+    ensures inserts { IfOk result (λ c. Inserts (map (λ x. arc_value x) path.now)
+        (given_item key.now plugin body.now) fresh.old fresh.new c) }
     ensures numbers { OnlyTakes fresh.old fresh.new }
 {
     let count = path.len() - 1;
@@ -63,11 +68,14 @@ pub fn cut(
     to: &Key,
     fresh: &mut Fresh,
 ) -> Result<Change, Memory>
-    requires path { (t : Store Value) × ((r : TreeRoot) × IsCutIn t r (map (λ c. arc_value c) path.now) from.now to.now fresh.old) }
+    requires path { (t : Store Value) × ((r : TreeRoot)
+        × IsCutIn t r (map (λ c. arc_value c) path.now) from.now to.now fresh.old) }
     requires numbers { (2 ^ 63 ≤ fresh.old.next)
-        × (fresh.old.next + length path.now + extra_for (after_cut from.now to.now) (map (λ c. arc_value c) path.now) < fresh.old.end) }
+        × (fresh.old.next + length path.now + extra_for (after_cut from.now to.now) (map (λ c. arc_value c) path.now)
+        < fresh.old.end) }
     ensures change { IfOk result (λ c. IsChange c.old c.new c.root) }
-    ensures meets { IfOk result (λ c. (t : Store Value) (r : TreeRoot) → IsCutIn t r (map (λ x. arc_value x) path.now) from.now to.now fresh.old → MeetsPart (patch_of_change c) t r) }
+    ensures meets { IfOk result (λ c. (t : Store Value) (r : TreeRoot)
+        → IsCutIn t r (map (λ x. arc_value x) path.now) from.now to.now fresh.old → MeetsPart (patch_of_change c) t r) }
     ensures cuts { IfOk result (λ c. Cuts (map (λ x. arc_value x) path.now) from.now to.now fresh.old fresh.new c) }
     ensures numbers { OnlyTakes fresh.old fresh.new }
 {
@@ -85,11 +93,11 @@ fn leaves_with(
     body: &[u8],
 ) -> Result<Vec<Leaf>, Memory>
     requires level { leaf.now.level ≡ 1 }
-    requires given { IsGiven (record { key = key.now; plugin = plugin; body = body.now }) }
+    requires given { IsGiven (given_item key.now plugin body.now) }
     requires from { rank leaf.now.lo ≤ rank key.now }
-    requires to { item_end (record { key = key.now; plugin = plugin; body = body.now }) ≤ rank leaf.now.hi }
-    requires apart { AreApart (node_of leaf.now).units (item_units (record { key = key.now; plugin = plugin; body = body.now })) }
-    ensures { IfOk result (λ v. AreLeavesOf leaf.now (after_insert (record { key = key.now; plugin = plugin; body = body.now }) leaf.now) v.items) }
+    requires to { item_end (given_item key.now plugin body.now) ≤ rank leaf.now.hi }
+    requires apart { AreApart (node_of leaf.now).units (item_units (given_item key.now plugin body.now)) }
+    ensures { IfOk result (λ v. AreLeavesOf leaf.now (after_insert (given_item key.now plugin body.now) leaf.now) v.items) }
 {
     let mkfs_id = get32(leaf.block().bytes(), 12);
     put_in(alloc, &leaf.node(), leaf.lo(), mkfs_id, key, plugin, body)
@@ -111,11 +119,13 @@ fn replace(
     leaves: Vec<Leaf>,
     fresh: &mut Fresh,
 ) -> Result<Change, Memory>
-    requires path { (t : Store Value) × ((r : TreeRoot) × ((us : List LeafUnit) × IsReplacedUp t r us leaves.items fresh.old (reverse (map (λ c. arc_value c) path.now)))) }
+    requires path { (t : Store Value) × ((r : TreeRoot) × ((us : List LeafUnit)
+        × IsReplacedUp t r us leaves.items fresh.old (reverse (map (λ c. arc_value c) path.now)))) }
     requires numbers { 2 ^ 63 ≤ fresh.old.next }
     ensures change { IfOk result (λ c. IsChange c.old c.new c.root) }
     ensures meets { IfOk result (λ c. (t : Store Value) (r : TreeRoot) (us : List LeafUnit)
-        → IsReplacedUp t r us leaves.items fresh.old (reverse (map (λ x. arc_value x) path.now)) → MeetsPart (patch_of_change c) t r) }
+        → IsReplacedUp t r us leaves.items fresh.old (reverse (map (λ x. arc_value x) path.now))
+        → MeetsPart (patch_of_change c) t r) }
     ensures edits { IfOk result (λ c. (t : Store Value) (r : TreeRoot) (us : List LeafUnit)
         → IsReplacedUp t r us leaves.items fresh.old (reverse (map (λ x. arc_value x) path.now))
         → EditsUp (λ leaf. us) fresh.old fresh.new c (reverse (map (λ x. arc_value x) path.now))) }

@@ -27,7 +27,8 @@ pub fn grow(alloc: Global, root: &Arc<Cell>, fresh: &mut Fresh) -> Result<Change
     requires low { (arc_value root.now).level < 8 }
     requires number { (2 ^ 63 ≤ fresh.old.next) × (fresh.old.next < fresh.old.end) }
     ensures change { IfOk result (λ c. IsChange c.old c.new c.root) }
-    ensures meets { IfOk result (λ c. (t : Store Value) (r : TreeRoot) → IsRootIn t r (arc_value root.now) fresh.old → MeetsPart (patch_of_change c) t r) }
+    ensures meets { IfOk result (λ c. (t : Store Value) (r : TreeRoot) → IsRootIn t r (arc_value root.now) fresh.old
+        → MeetsPart (patch_of_change c) t r) }
     ensures grows { IfOk result (λ c. Grows (arc_value root.now) fresh.old.next c) }
     ensures fresh { OnOk result (fresh.new ≡ record fresh.old { next = fresh.old.next + 1 }) }
     ensures numbers { OnlyTakes fresh.old fresh.new }

@@ -33,7 +33,8 @@ pub(crate) fn leaf_level(
     requires node { IsNode (node_of (arc_value leaf.now)) }
     requires packed { ArePacked (rank (arc_value leaf.now).lo) (rank (arc_value leaf.now).hi) leaves.items }
     requires numbers { fresh.old.next + length leaves.items ≤ fresh.old.end }
-    ensures step { IfOk result (λ l. (us : List LeafUnit) → Packs (rank (arc_value leaf.now).lo) (rank (arc_value leaf.now).hi) us leaves.items
+    ensures step { IfOk result (λ l. (us : List LeafUnit)
+        → Packs (rank (arc_value leaf.now).lo) (rank (arc_value leaf.now).hi) us leaves.items
         → IsLeafStep (arc_value leaf.now) us (length leaves.items) fresh.old fresh.new (step_of l)) }
     ensures numbers { OnlyTakes fresh.old fresh.new }
 {
@@ -61,7 +62,8 @@ fn add(
 ) -> Result<(), Memory>
     requires packed { ArePacked (rank leaf.lo) (rank hi) (leaf ∷ into_iter_items more) }
     requires numbers { fresh.old.next + length (into_iter_items more) ≤ fresh.old.end }
-    ensures cells { OnOk result (map (λ c. arc_value c) cells.new.items ≡ map (λ c. arc_value c) cells.old.items ++ leaf_cells id.0 fresh.old.next hi (leaf ∷ into_iter_items more)) }
+    ensures cells { OnOk result (map (λ c. arc_value c) cells.new.items
+        ≡ map (λ c. arc_value c) cells.old.items ++ leaf_cells id.0 fresh.old.next hi (leaf ∷ into_iter_items more)) }
     ensures fresh { OnOk result (fresh.new ≡ record fresh.old { next = fresh.old.next + length (into_iter_items more) }) }
     ensures numbers { OnlyTakes fresh.old fresh.new }
 {

@@ -29,7 +29,8 @@ pub fn split(alloc: Global, path: &[Arc<Cell>], fresh: &mut Fresh) -> Result<Cha
     requires path { (t : Store Value) × ((r : TreeRoot) × IsSplitIn t r (map (λ c. arc_value c) path.now) fresh.old) }
     requires numbers { (2 ^ 63 ≤ fresh.old.next) × (fresh.old.next + length path.now < fresh.old.end) }
     ensures change { IfOk result (λ c. IsChange c.old c.new c.root) }
-    ensures meets { IfOk result (λ c. (t : Store Value) (r : TreeRoot) → IsSplitIn t r (map (λ x. arc_value x) path.now) fresh.old → MeetsPart (patch_of_change c) t r) }
+    ensures meets { IfOk result (λ c. (t : Store Value) (r : TreeRoot)
+        → IsSplitIn t r (map (λ x. arc_value x) path.now) fresh.old → MeetsPart (patch_of_change c) t r) }
     ensures splits { IfOk result (λ c. Splits (map (λ x. arc_value x) path.now) fresh.old fresh.new c) }
     ensures numbers { OnlyTakes fresh.old fresh.new }
 {

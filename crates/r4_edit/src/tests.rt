@@ -124,11 +124,20 @@ fn tails_are_joined_and_cut(rt: HostRuntime) -> Result<(), Fail> {
     let one = first(&with(alloc, &[leaf], byte(0), TAIL, &ZEROS[..100])?)?;
     let one_leaf = [Arc::try_clone(&one)?];
     let joined = with(alloc, &one_leaf, byte(100), TAIL, &ZEROS[..50])?;
-    assert_eq!(rt; rows(alloc, &joined)?.as_slice(), [(LEAF, 2, 3798)].as_slice());
+    assert_eq!(rt;
+        rows(alloc, &joined)?.as_slice(),
+        [(LEAF, 2, 3798)].as_slice()
+    );
     let parted = without(alloc, &one, byte(40), byte(60))?;
-    assert_eq!(rt; rows(alloc, &parted)?.as_slice(), [(LEAF, 3, 3830)].as_slice());
+    assert_eq!(rt;
+        rows(alloc, &parted)?.as_slice(),
+        [(LEAF, 3, 3830)].as_slice()
+    );
     let none = without(alloc, &one, least(), top())?;
-    assert_eq!(rt; rows(alloc, &none)?.as_slice(), [(LEAF, 0, 4068)].as_slice());
+    assert_eq!(rt;
+        rows(alloc, &none)?.as_slice(),
+        [(LEAF, 0, 4068)].as_slice()
+    );
     Ok(())
 }
 

@@ -76,7 +76,8 @@ fn numbers() -> Fresh
 
 // Whether all these keys belong to the cell.
 fn has_keys(leaf: &Cell, from: &Key, to: &Key) -> bool
-    ensures { IsTrue result → (rank from.now < rank to.now) × (rank leaf.now.lo ≤ rank from.now) × (rank to.now ≤ rank leaf.now.hi) }
+    ensures { IsTrue result → (rank from.now < rank to.now) × (rank leaf.now.lo ≤ rank from.now)
+        × (rank to.now ≤ rank leaf.now.hi) }
 {
     from.is_below(*to) && !from.is_below(leaf.lo()) && !leaf.hi().is_below(*to)
 }
@@ -94,7 +95,8 @@ fn are_leaves(cells: &[Arc<Cell>]) -> bool
 // Whether the cells are leaves from one key up to the end of all keys, with numbers from one on.
 fn follow(cells: &[Arc<Cell>], id: u64, lo: Key) -> bool
     requires { id + length cells.now < 2 ^ 64 }
-    ensures { IsTrue result → Follow 1 (rank lo) top (map (λ c. arc_value c) cells.now) × CountUp id (ids_of (map (λ c. arc_value c) cells.now)) }
+    ensures { IsTrue result → Follow 1 (rank lo) top (map (λ c. arc_value c) cells.now)
+        × CountUp id (ids_of (map (λ c. arc_value c) cells.now)) }
 {
     if cells.is_empty() {
         return lo.is_same(r4_cell::top());
@@ -107,12 +109,10 @@ fn follow(cells: &[Arc<Cell>], id: u64, lo: Key) -> bool
 
 // Whether the cell is a leaf of this number from this key on.
 fn comes_next(cell: &Cell, id: u64, lo: Key) -> bool
-    ensures { IsTrue result → (cell.now.level ≡ 1) × (cell.now.id ≡ id) × (rank cell.now.lo ≡ rank lo) × (rank lo < rank cell.now.hi) }
+    ensures { IsTrue result → (cell.now.level ≡ 1) × (cell.now.id ≡ id) × (rank cell.now.lo ≡ rank lo)
+        × (rank lo < rank cell.now.hi) }
 {
-    cell.level() == 1
-        && cell.id().0 == id
-        && cell.lo().is_same(lo)
-        && lo.is_below(cell.hi())
+    cell.level() == 1 && cell.id().0 == id && cell.lo().is_same(lo) && lo.is_below(cell.hi())
 }
 
 // The root over leaves, and the first of them.
@@ -124,7 +124,8 @@ fn path_over(
     requires leaves { AreLeaves (map (λ c. arc_value c) leaves.now) }
     requires next { fresh.old.next ≡ 2 ^ 63 + 1000 }
     requires end { fresh.old.end ≡ 2 ^ 64 - 1 }
-    ensures path { IfOk result (λ path. IsPathOver (map (λ c. arc_value c) leaves.now) fresh.new (map (λ c. arc_value c) path.items)) }
+    ensures path { IfOk result (λ path. IsPathOver (map (λ c. arc_value c) leaves.now) fresh.new (map
+        (λ c. arc_value c) path.items)) }
     ensures next { IfOk result (λ path. (fresh.new.next ≡ 2 ^ 63 + 1001) × (fresh.new.end ≡ 2 ^ 64 - 1)) }
 {
     let leaf = &leaves[0];
@@ -145,7 +146,8 @@ fn may_come(
     body: &[u8],
 ) -> Result<bool, Memory>
     requires { AreLeaves (map (λ c. arc_value c) leaves.now) }
-    ensures { IfOk result (λ b. IsTrue b → FirstMayTake (map (λ c. arc_value c) leaves.now) (record { key = key.now; plugin = plugin; body = body.now })) }
+    ensures { IfOk result (λ b. IsTrue b
+        → FirstMayTake (map (λ c. arc_value c) leaves.now) (record { key = key.now; plugin = plugin; body = body.now })) }
 {
     let leaf = &leaves[0];
     if key.is_below(least()) || !is_item(plugin, body) {
@@ -159,19 +161,14 @@ fn may_come(
 
 // Whether it is stat data, entries or a tail, and fits into a leaf.
 fn is_item(plugin: u16, body: &[u8]) -> bool
-    ensures { IsTrue result → (1 ≤ length body.now) × (length body.now ≤ 4030) × ((plugin ≡ 0) ⊎ ((plugin ≡ 2) ⊎ (plugin ≡ 6))) }
+    ensures { IsTrue result → (1 ≤ length body.now) × (length body.now ≤ 4030)
+        × ((plugin ≡ 0) ⊎ ((plugin ≡ 2) ⊎ (plugin ≡ 6))) }
 {
     !body.is_empty() && body.len() <= 4030 && (plugin == 0 || plugin == 2 || plugin == 6)
 }
 
 // Whether the item may stand in a leaf alone, up to a key.
-fn stands_alone(
-    alloc: Global,
-    key: &Key,
-    hi: Key,
-    plugin: u16,
-    body: &[u8],
-) -> Result<bool, Memory>
+fn stands_alone(alloc: Global, key: &Key, hi: Key, plugin: u16, body: &[u8]) -> Result<bool, Memory>
     requires least { least ≤ rank key.now }
     requires top { rank hi ≤ top }
     requires item { (1 ≤ length body.now) × (length body.now ≤ 4030) × ((plugin ≡ 0) ⊎ ((plugin ≡ 2) ⊎ (plugin ≡ 6))) }

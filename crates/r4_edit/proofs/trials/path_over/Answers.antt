@@ -29,10 +29,10 @@ returns-clause-path c =
     let leaf = arc_value c.index-leaves-0.result in
     let twig = arc_value c.in_ok-twig.twig in
     let cells : map arc_value c.push-2.new.self.items ≡ twig ∷ (leaf ∷ []) =
-        ap (map arc_value) (c.in_ok-push-2.ensures.items ∙ ap (λ xs. xs ++ c.in_ok-try_clone.field-0 ∷ []) (c.in_ok-push.ensures.items ∙ ap (λ xs. xs ++ c.in_ok-twig.twig ∷ []) c.in_ok-path.ensures.items))
-        ∙ (λ i. twig ∷ (c.in_ok-try_clone.ensures i ∷ [])) in
+    ap (map arc_value) (c.in_ok-push-2.ensures.items ∙ ap (λ xs. xs ++ c.in_ok-try_clone.field-0 ∷ []) (c.in_ok-push.ensures.items ∙ ap (λ xs. xs ++ c.in_ok-twig.twig ∷ []) c.in_ok-path.ensures.items))
+    ∙ (λ i. twig ∷ (c.in_ok-try_clone.ensures i ∷ [])) in
     let points : IsPointingTo (leaf ∷ rest) 2 (2 ^ 63 + 1000) twig =
-        subst (λ n. IsPointingTo (leaf ∷ rest) 2 n twig) c.requires.next (subst (λ (cs : List CellSeen). IsPointingTo cs 2 c.args.fresh.now.next twig) e c.in_ok-twig.ensures.root) in
+    subst (λ n. IsPointingTo (leaf ∷ rest) 2 n twig) c.requires.next (subst (λ (cs : List CellSeen). IsPointingTo cs 2 c.args.fresh.now.next twig) e c.in_ok-twig.ensures.root) in
     let stands = subst (λ (x : CellSeen). cell_fault true (2 ^ 64) x.level (rank x.lo) (rank x.hi) x.block ≡ None) c.deref.ensures c.node-node.ensures.stands in
     let whole = subst (λ (x : CellSeen). length x.block ≡ 4096) c.deref.ensures c.node-node.ensures.whole in
     let took = ap (λ (f : Fresh). f.next) c.in_ok-twig.ensures.fresh in
