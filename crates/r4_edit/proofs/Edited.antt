@@ -1,5 +1,6 @@
 -- The change that puts leaves in the place of one, along its path.
-use Rattle.std.proofs.Common.{◌≢◌, inl, inr, ℕ, ◌+◌, ◌-◌, ◌*◌, ◌/◌, ◌^◌, ◌<◌, ◌≤◌, List, [], ◌∷◌, length, map, drop, refl, ◌∙◌, arith}
+use Rattle.std.proofs.Common.{◌≢◌, inl, inr, ℕ, ◌+◌, ◌-◌, ◌*◌, ◌/◌, ◌^◌, ◌<◌, ◌≤◌, List, [], ◌∷◌, length, map, drop, refl, ◌∙◌}
+use Rattle.std.proofs.Common.{arith}
 use Rattle.std.specs.Prelude.{min, reverse}
 use Rattle.std.proofs.Math.Nat.{min-eq_left, min-eq_right}
 use Rattle.std.proofs.lemmas.Bool.{cases_lt}
@@ -21,7 +22,8 @@ use Rattle.r4_edit.specs.Steps.{Step}
 use Rattle.r4_edit.proofs.Begun.{Begun, Enough, begun_change, begun_climbs, begun_meets, begun_rose}
 
 -- fewer cells ask for no more room
-fewer : (r : Root) (less come : ℕ) (c : CellSeen) (ups : List CellSeen) → less ≤ come → IsLongEnough r come c ups → IsLongEnough r less c ups
+fewer : (r : Root) (less come : ℕ) (c : CellSeen) (ups : List CellSeen) → less ≤ come → IsLongEnough r come c ups
+    → IsLongEnough r less c ups
 fewer r less come c [] le h = h
 fewer r less come c (d ∷ ups) le (inl room) = inl (omega (arith, room, le))
 fewer r less come c (d ∷ ups) le (inr more) = inr more
@@ -48,7 +50,8 @@ within n m le few = elim (cases_lt m 15) [
 pub numbered_leaves : (us : List LeafUnit) (leaves : List Leaf) → AreFew us leaves → length leaves ≤ 1 + min 15 (extra_cells us)
 numbered_leaves us leaves few = within (length leaves) (extra_cells us) (few_leaves us leaves few) few.few
 
-module _ (leaf : CellSeen) (ups : List CellSeen) (us : List LeafUnit) (leaves : List Leaf) (f g : Fresh) (s : Step) (is : IsLeafStep leaf us (length leaves) f g s) (few : AreFew us leaves) where
+module _ (leaf : CellSeen) (ups : List CellSeen) (us : List LeafUnit) (leaves : List Leaf) (f g : Fresh) (s : Step)
+    (is : IsLeafStep leaf us (length leaves) f g s) (few : AreFew us leaves) where
   begun : Begun leaf f g s
   begun = record {
     old = is.old;
@@ -68,9 +71,12 @@ module _ (leaf : CellSeen) (ups : List CellSeen) (us : List LeafUnit) (leaves : 
     | inr long ↦ inr (fewer r (length (drop 1 s.new)) (extra_cells us) leaf ups come long)
   ]
 
-  pub edit_starts : (t : Store Value) (r : Root) → IsReplacedIn t r us leaves leaf ups f → 2 ^ 63 ≤ f.next → f.end < 2 ^ 64 → CanClimb s ups g
+  pub edit_starts : (t : Store Value) (r : Root) → IsReplacedIn t r us leaves leaf ups f → 2 ^ 63 ≤ f.next → f.end < 2 ^ 64
+      → CanClimb s ups g
   edit_starts t r at unplaced end =
-      begun_climbs leaf ups f g s begun t r at.edited.path (enough t r at.edited) unplaced (let n = at.numbers in let c = numbered_leaves us leaves few in let d = length-drop 1 s.new in let many = is.many in omega (arith, n, c, d, many)) end
+      begun_climbs leaf ups f g s begun t r at.edited.path (enough t r at.edited) unplaced
+      (let n = at.numbers in let c = numbered_leaves us leaves few in let d = length-drop 1 s.new in let many = is.many in
+      omega (arith, n, c, d, many)) end
 
   module _ (after : Fresh) (d : Change) (rises : Rises s ups g after d) where
     pub edit_change : (t : Store Value) (r : Root) → IsEditedIn t r us leaf ups f → IsChange d.old d.new d.root
@@ -91,7 +97,8 @@ module _ (leaf : CellSeen) (ups : List CellSeen) (us : List LeafUnit) (leaves : 
           ups_are = rose.ups_are;
           units = is.units;
           one = λ fits. is.many ∙ few.one fits;
-          several = λ over. let many = is.many in let two = few.several over in let n = few_leaves us leaves few in (omega (arith, many, two), omega (arith, many, n));
+          several = λ over. let many = is.many in let two = few.several over in let n = few_leaves us leaves few in
+              (omega (arith, many, two), omega (arith, many, n));
           climbs = rose.climbs;
           keep = rose.keep;
           needed = rose.needed;
@@ -100,6 +107,7 @@ module _ (leaf : CellSeen) (ups : List CellSeen) (us : List LeafUnit) (leaves : 
           number = rose.number;
         }
 
-pub some_replaced : {A : Type 0} (t : Store Value) (r : Root) (us : List LeafUnit) (leaves : List Leaf) (f : Fresh) (h : A → CellSeen) (xs : List A) → IsReplacedUp t r us leaves f (reverse (map h xs)) → length xs ≢ 0
+pub some_replaced : {A : Type 0} (t : Store Value) (r : Root) (us : List LeafUnit) (leaves : List Leaf) (f : Fresh)
+    (h : A → CellSeen) (xs : List A) → IsReplacedUp t r us leaves f (reverse (map h xs)) → length xs ≢ 0
 some_replaced t r us leaves f h [] is e = is
 some_replaced t r us leaves f h (x ∷ xs) is e = omega (arith, e)

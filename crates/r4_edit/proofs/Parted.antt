@@ -31,8 +31,10 @@ module _ (c : CellSeen) (ups : List CellSeen) (f g : Fresh) (s : Step) (p : IsPa
   enough : (t : Store Value) (r : Root) → IsPartedIn t r c ups f → Enough r s c ups
   enough t r is = inr (subst (λ n. IsLongEnough r n c ups) (sym one_comes) is.enough)
 
-  pub step_starts : (t : Store Value) (r : Root) → IsPartedIn t r c ups f → 2 ^ 63 ≤ f.next → f.next + (1 + length ups) < f.end → f.end < 2 ^ 64 → CanClimb s ups g
-  step_starts t r is unplaced numbers end = begun_climbs c ups f g s begun t r is.path (enough t r is) unplaced (let one = one_comes in omega (arith, numbers, one)) end
+  pub step_starts : (t : Store Value) (r : Root) → IsPartedIn t r c ups f → 2 ^ 63 ≤ f.next
+      → f.next + (1 + length ups) < f.end → f.end < 2 ^ 64 → CanClimb s ups g
+  step_starts t r is unplaced numbers end = begun_climbs c ups f g s begun t r is.path (enough t r is) unplaced
+      (let one = one_comes in omega (arith, numbers, one)) end
 
   module _ (after : Fresh) (d : Change) (rises : Rises s ups g after d) where
     pub final_change : (t : Store Value) (r : Root) → IsPartedIn t r c ups f → IsChange d.old d.new d.root
@@ -60,6 +62,7 @@ module _ (c : CellSeen) (ups : List CellSeen) (f g : Fresh) (s : Step) (p : IsPa
           number = rose.number;
         }
 
-pub some_path : {A : Type 0} (t : Store Value) (r : Root) (f : Fresh) (h : A → CellSeen) (xs : List A) → IsPartedUp t r f (reverse (map h xs)) → length xs ≢ 0
+pub some_path : {A : Type 0} (t : Store Value) (r : Root) (f : Fresh) (h : A → CellSeen) (xs : List A)
+    → IsPartedUp t r f (reverse (map h xs)) → length xs ≢ 0
 some_path t r f h [] is e = is
 some_path t r f h (x ∷ xs) is e = omega (arith, e)

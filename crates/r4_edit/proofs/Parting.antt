@@ -29,7 +29,9 @@ use Rattle.r4_edit.proofs.CellNodes.{names_are, spans_are}
 
 -- ---- the row of a node as it is
 
-module _ (c : CellSeen) (w : Row) (s : IsSound c) (one : 1 ≤ c.level) (range : rank c.lo < rank c.hi) (view : (view_block w.node).now ≡ c.block) (at_zero : w.at ≡ 0) (none_come : row_more w ≡ []) (two : 2 ≤ length (items_of c.block)) where
+module _ (c : CellSeen) (w : Row) (s : IsSound c) (one : 1 ≤ c.level) (range : rank c.lo < rank c.hi)
+    (view : (view_block w.node).now ≡ c.block) (at_zero : w.at ≡ 0) (none_come : row_more w ≡ [])
+    (two : 2 ≤ length (items_of c.block)) where
   at : IsNodeAt true (2 ^ 64) c.level (rank c.lo) (rank c.hi) c.block
   at = sound_node c one s
 
@@ -55,16 +57,20 @@ module _ (c : CellSeen) (w : Row) (s : IsSound c) (one : 1 ≤ c.level) (range :
   own_row = record {
     row = record {
       within = within;
-      few = let a = ap length items in let d = weighs_length (items_of c.block) in let m = node_weighs c.block node.laid in let n = ap length none_come in omega (arith, a, d, m, n);
+      few = let a = ap length items in let d = weighs_length (items_of c.block) in let m = node_weighs c.block node.laid in
+          let n = ap length none_come in omega (arith, a, d, m, n);
       level = let head = node.head.level in let a = ap level_of view in (omega (arith, head, a), omega (arith, head, a));
       rise = subst KeysRise (sym same_row) node.keys;
       fit = subst (PluginsFit (row_level w)) (sym same_row) (subst (λ l. PluginsFit l (items_of c.block)) (sym level_same) fit);
-      bodies = bodied_row (view_items w.node) w.at (row_more w) (λ k x e. bodied c.block node.laid k x (subst (λ xs. slice_get xs k ≡ Some x) items e));
+      bodies = bodied_row (view_items w.node) w.at (row_more w)
+          (λ k x e. bodied c.block node.laid k x (subst (λ xs. slice_get xs k ≡ Some x) items e));
     };
     narrow = record {
       fits = let m = node_weighs c.block node.laid in let a = ap weight items in omega (arith, m, a);
       few = let n = ap length none_come in omega (arith, n);
-      alike = λ high. subst (All (λ x. weight_of x ≡ 46)) (sym same_row) (alike c.level (rank c.lo) (rank c.hi) 0 (items_of c.block) (let l = level_same in omega (arith, high, l)) fit at.items);
+      alike = λ high. subst (All (λ x. weight_of x ≡ 46)) (sym same_row)
+          (alike c.level (rank c.lo) (rank c.hi) 0 (items_of c.block)
+          (let l = level_same in omega (arith, high, l)) fit at.items);
     };
     level = sym level_same;
     branch = one;
@@ -78,7 +84,8 @@ module _ (c : CellSeen) (w : Row) (s : IsSound c) (one : 1 ≤ c.level) (range :
 
   -- ---- the step
 
-  module _ (next : ℕ) (cells : List CellSeen) (has : HasItems c (row_items w) next cells) (tree_node : IsTreeNode (node_of c)) where
+  module _ (next : ℕ) (cells : List CellSeen) (has : HasItems c (row_items w) next cells)
+      (tree_node : IsTreeNode (node_of c)) where
     all_items : items_of_cells cells ≡ items_of c.block
     all_items = has.items_are ∙ same_row
 
@@ -87,14 +94,25 @@ module _ (c : CellSeen) (w : Row) (s : IsSound c) (one : 1 ≤ c.level) (range :
 
     branch_step : (l : ℕ) → 1 ≤ l → c.level ≡ suc l → IsStep None (record { old = c; new = cells })
     branch_step l low up =
-        let follow : Follow (suc l) (rank c.lo) (rank c.hi) cells = subst (λ k. Follow k (rank c.lo) (rank c.hi) cells) up has.ranges in
-        let names : (node_of c).names ≡ names_in (suc l) (rank c.hi) (items_of_cells cells) = names_are c l up ∙ ap (names_in (suc l) (rank c.hi)) (sym all_items) in
-        let spans : (node_of c).spans ≡ spans_in (rank c.hi) (items_of_cells cells) = spans_are c l up ∙ ap (spans_in (rank c.hi)) (sym all_items) in
+        let follow : Follow (suc l) (rank c.lo) (rank c.hi) cells = subst
+        (λ k. Follow k (rank c.lo) (rank c.hi) cells) up has.ranges in
+        let names : (node_of c).names ≡ names_in (suc l) (rank c.hi) (items_of_cells cells) = names_are c l up
+        ∙ ap (names_in (suc l) (rank c.hi)) (sym all_items) in
+        let spans : (node_of c).spans ≡ spans_in (rank c.hi) (items_of_cells cells) = spans_are c l up
+        ∙ ap (spans_in (rank c.hi)) (sym all_items) in
         record {
           first = has.first;
           ranges = has.ranges;
-          names = λ n. ((λ h. subst (λ ns. Contains ns n) (sym names) (naming_in l low (rank c.lo) (rank c.hi) cells follow has.sound n h)), (λ h. in_naming l low (rank c.lo) (rank c.hi) cells follow has.sound n (subst (λ ns. Contains ns n) names h)));
-          spans = λ v. ((λ h. subst (λ vs. Contains vs v) (sym spans) (spanning_in l low (rank c.lo) (rank c.hi) cells follow has.sound v h)), (λ h. in_spanning l low (rank c.lo) (rank c.hi) cells follow has.sound v (subst (λ vs. Contains vs v) spans h)));
+          names = λ n. (
+            (λ h. subst (λ ns. Contains ns n) (sym names)
+                (naming_in l low (rank c.lo) (rank c.hi) cells follow has.sound n h)),
+            (λ h. in_naming l low (rank c.lo) (rank c.hi) cells follow has.sound n (subst (λ ns. Contains ns n) names h)),
+          );
+          spans = λ v. (
+            (λ h. subst (λ vs. Contains vs v) (sym spans)
+                (spanning_in l low (rank c.lo) (rank c.hi) cells follow has.sound v h)),
+            (λ h. in_spanning l low (rank c.lo) (rank c.hi) cells follow has.sound v (subst (λ vs. Contains vs v) spans h)),
+          );
         }
 
     pub own_step : IsStep None (record { old = c; new = cells })
@@ -106,7 +124,8 @@ module _ (c : CellSeen) (w : Row) (s : IsSound c) (one : 1 ≤ c.level) (range :
         by_level (suc (suc l)) e some = branch_step (suc l) (omega arith) e
 
     pub own_units : units_of_cells cells ≡ (node_of c).units
-    own_units = units_parts c.level (rank c.lo) (rank c.hi) cells one has.ranges ∙ (ap units_in all_items ∙ sym (units_of_items c one))
+    own_units = units_parts c.level (rank c.lo) (rank c.hi) cells one has.ranges
+        ∙ (ap units_in all_items ∙ sym (units_of_items c one))
 
 -- ---- as the code has it: the cell was lent
 
@@ -133,19 +152,23 @@ module _ (c p q : CellSeen) (w : Row) (lent : Lent c p q w) where
   wide = let n = lent.tree_node.nonempty in let lo = lo_is c in let hi = hi_is c in omega (arith, n, lo, hi)
 
   pub lent_row : IsRowOf q w
-  lent_row = subst (λ x. IsRowOf x w) (sym lent.q_is) (own_row c w sound_cell lent.low wide view_cell lent.at_zero lent.none_come lent.two)
+  lent_row = subst (λ x. IsRowOf x w) (sym lent.q_is)
+      (own_row c w sound_cell lent.low wide view_cell lent.at_zero lent.none_come lent.two)
 
   pub lent_two : 2 ≤ length (row_items w)
   lent_two = own_two c w sound_cell lent.low wide view_cell lent.at_zero lent.none_come lent.two
 
-  pub lent_parted : (f g : Fresh) (old : CellSeen) (cells : List CellSeen) → old ≡ c → HasItems q (row_items w) f.next cells → length cells ≡ 2 → g ≡ record f { next = f.next + 1 } → IsParted c f g (record { old = old; new = cells })
+  pub lent_parted : (f g : Fresh) (old : CellSeen) (cells : List CellSeen) → old ≡ c → HasItems q (row_items w) f.next cells
+      → length cells ≡ 2 → g ≡ record f { next = f.next + 1 } → IsParted c f g (record { old = old; new = cells })
   lent_parted f g old cells same has two took =
       let mine : HasItems c (row_items w) f.next cells = subst (λ x. HasItems x (row_items w) f.next cells) lent.q_is has in
       record {
         old = same;
-        has = subst (λ items. HasItems c items f.next cells) (same_row c w sound_cell lent.low wide view_cell lent.at_zero lent.none_come lent.two) mine;
+        has = subst (λ items. HasItems c items f.next cells)
+            (same_row c w sound_cell lent.low wide view_cell lent.at_zero lent.none_come lent.two) mine;
         two = two;
         took = took;
-        step = subst (λ x. IsStep None (record { old = x; new = cells })) (sym same) (own_step c w sound_cell lent.low wide view_cell lent.at_zero lent.none_come lent.two f.next cells mine lent.tree_node);
+        step = subst (λ x. IsStep None (record { old = x; new = cells })) (sym same)
+            (own_step c w sound_cell lent.low wide view_cell lent.at_zero lent.none_come lent.two f.next cells mine lent.tree_node);
         units = own_units c w sound_cell lent.low wide view_cell lent.at_zero lent.none_come lent.two f.next cells mine lent.tree_node;
       }

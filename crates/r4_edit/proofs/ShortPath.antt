@@ -1,5 +1,6 @@
 -- A root and the first of the leaves below it are a part of a tree, and a path of it.
-use Rattle.std.proofs.Common.{◌≡◌, ◌≢◌, ◌⊎◌, inl, inr, ℕ, ◌+◌, ◌-◌, ◌^◌, ◌<◌, ◌≤◌, true, List, [], ◌∷◌, length, map, refl, sym, ap, subst, ◌∙◌, arith}
+use Rattle.std.proofs.Common.{◌≡◌, ◌≢◌, ◌⊎◌, inl, inr, ℕ, ◌+◌, ◌-◌, ◌^◌, ◌<◌, ◌≤◌, true, List, [], ◌∷◌, length, map, refl, sym}
+use Rattle.std.proofs.Common.{ap, subst, ◌∙◌, arith}
 use Rattle.std.specs.Prelude.{Contains, reverse, None, Some}
 use Rattle.std.proofs.lemmas.Option.{same_Some}
 use Rattle.r4_base.specs.Cell.{cell_fault}
@@ -29,7 +30,9 @@ use Rattle.r4_edit.proofs.Upwards.{long_ids, numbered}
 own_name : (c : CellSeen) → Fits (name_of c) (node_of c)
 own_name c = record { level = level_is c; lo = lo_is c; hi = hi_is c }
 
-module _ (leaf twig : CellSeen) (rest : List CellSeen) (are : AreLeaves (leaf ∷ rest)) (f : Fresh) (stands : cell_fault true (2 ^ 64) leaf.level (rank leaf.lo) (rank leaf.hi) leaf.block ≡ None) (whole : length leaf.block ≡ 4096) (points : IsPointingTo (leaf ∷ rest) 2 (2 ^ 63 + 1000) twig)
+module _ (leaf twig : CellSeen) (rest : List CellSeen) (are : AreLeaves (leaf ∷ rest)) (f : Fresh)
+    (stands : cell_fault true (2 ^ 64) leaf.level (rank leaf.lo) (rank leaf.hi) leaf.block ≡ None)
+    (whole : length leaf.block ≡ 4096) (points : IsPointingTo (leaf ∷ rest) 2 (2 ^ 63 + 1000) twig)
     (next : f.next ≡ 2 ^ 63 + 1001) where
   t : Store Value
   t = by_name (twig ∷ (leaf ∷ []))
@@ -49,7 +52,8 @@ module _ (leaf twig : CellSeen) (rest : List CellSeen) (are : AreLeaves (leaf �
       let lo = are.follow.1 in
       let range = are.follow.2 in
       let hi = follow_order 1 (rank leaf.hi) top rest are.follow.3 in
-      cell_node true (2 ^ 64) leaf.level (rank leaf.lo) (rank leaf.hi) leaf.block whole (omega (arith, level)) (omega (arith, lo)) (omega (arith, lo, range)) hi stands
+      cell_node true (2 ^ 64) leaf.level (rank leaf.lo) (rank leaf.hi) leaf.block whole (omega (arith, level))
+      (omega (arith, lo)) (omega (arith, lo, range)) hi stands
 
   twig_there : t twig.id ≡ Some (node_of twig)
   unfolding t
@@ -59,7 +63,8 @@ module _ (leaf twig : CellSeen) (rest : List CellSeen) (are : AreLeaves (leaf �
   unfolding t
   leaf_there = later_named twig (leaf ∷ []) leaf.id other ∙ here_named leaf [] leaf.id refl
 
-  cell_is : (i : ℕ) (c : Node Value) → t i ≡ Some c → ((i ≡ twig.id) × (c ≡ node_of twig)) ⊎ ((i ≡ leaf.id) × (c ≡ node_of leaf))
+  cell_is : (i : ℕ) (c : Node Value) → t i ≡ Some c → ((i ≡ twig.id) × (c ≡ node_of twig))
+      ⊎ ((i ≡ leaf.id) × (c ≡ node_of leaf))
   unfolding t
   cell_is i c e =
       let (x, member, is, says) = found (twig ∷ (leaf ∷ [])) i c e in
@@ -97,19 +102,26 @@ module _ (leaf twig : CellSeen) (rest : List CellSeen) (are : AreLeaves (leaf �
       let (x, member, is) = named_by n h in
       let id : n.id ≡ x.id = ap (λ (m : Name). m.id) is in
       elim (cell_is n.id d there) [
-        | inl root ↦ let at = root.0 in let few = few_ids x member in let root_id = twig_id in absurd (omega (arith, at, id, few, root_id))
-        | inr low ↦ subst (λ m. Fits m d) (sym (is ∙ ap name_of (only_leaf x member (sym id ∙ low.0)))) (subst (Fits (name_of leaf)) (sym low.1) (own_name leaf))
+        | inl root ↦ let at = root.0 in let few = few_ids x member in let root_id = twig_id in
+            absurd (omega (arith, at, id, few, root_id))
+        | inr low ↦ subst (λ m. Fits m d) (sym (is ∙ ap name_of (only_leaf x member (sym id ∙ low.0))))
+            (subst (Fits (name_of leaf)) (sym low.1) (own_name leaf))
       ]
 
   leaf_named : Contains (node_of twig).names (name_of leaf)
-  leaf_named = subst (λ ns. Contains ns (name_of leaf)) (sym points.names) (map_names (leaf ∷ rest) (name_of leaf) (leaf, here leaf rest, refl))
+  leaf_named = subst (λ ns. Contains ns (name_of leaf)) (sym points.names)
+      (map_names (leaf ∷ rest) (name_of leaf) (leaf, here leaf rest, refl))
 
   leaf_names_none : (c : Node Value) (n : Name) → c ≡ node_of leaf → Contains c.names n → ⊥
   leaf_names_none c n same h = no_names leaf leaf_node are.follow.0 n (subst (λ (d : Node Value). Contains d.names n) same h)
 
   part : IsPart t (low_root twig)
   part = record {
-    nodes = λ i c e. elim (cell_is i c e) [ inl root ↦ subst IsNode (sym root.1) points.node | inr low ↦ subst IsNode (sym low.1) leaf_node ];
+    nodes = λ i c e. elim (cell_is i c e) [
+      | inl root ↦ subst IsNode (sym root.1) points.node
+      | inr low ↦ subst IsNode
+          (sym low.1) leaf_node
+    ];
     root_node = node_of twig;
     root_is = twig_there;
     root_level = level_is twig ∙ points.level_is;
@@ -117,8 +129,10 @@ module _ (leaf twig : CellSeen) (rest : List CellSeen) (are : AreLeaves (leaf �
     root_hi = hi_is twig ∙ points.hi;
     height = omega arith;
     none_above = λ i c e. elim (cell_is i c e) [
-      | inl root ↦ let l = ap (λ (d : Node Value). d.level) root.1 in let a = level_is twig in let b = points.level_is in omega (arith, l, a, b)
-      | inr low ↦ let l = ap (λ (d : Node Value). d.level) low.1 in let a = level_is leaf in let b = are.follow.0 in omega (arith, l, a, b)
+      | inl root ↦ let l = ap (λ (d : Node Value). d.level) root.1 in let a = level_is twig in let b = points.level_is in
+          omega (arith, l, a, b)
+      | inr low ↦ let l = ap (λ (d : Node Value). d.level) low.1 in let a = level_is leaf in let b = are.follow.0 in
+          omega (arith, l, a, b)
     ];
     named = λ i c d n e h there. elim (cell_is i c e) [
       | inl root ↦ fits_leaf n d (subst (λ (m : Node Value). Contains m.names n) root.1 h) there
@@ -154,14 +168,20 @@ module _ (leaf twig : CellSeen) (rest : List CellSeen) (are : AreLeaves (leaf �
   unfolding t
   short_path = record {
     part = part;
-    ascends = (leaf_there, (let l = are.follow.0 in omega (arith, l)), tt, (twig_there, (let l = points.level_is in omega (arith, l)), leaf_named, tt));
+    ascends = (
+      leaf_there,
+      (let l = are.follow.0 in omega (arith, l)),
+      tt,
+      (twig_there, (let l = points.level_is in omega (arith, l)), leaf_named, tt),
+    );
     free = record { cells = λ i from to. no_cell i from; names = λ i from to. no_name i from };
     root_number = let a = twig_id in numbered twig.id (omega (arith, a)) (omega (arith, a));
   }
 
 -- ---- what may be done with the leaf
 
-pub insert_here : (cells path : List CellSeen) (f : Fresh) (it : Item) → AreLeaves cells → FirstMayTake cells it → IsPathOver cells f path → (t : Store Value) × ((r : Root) × IsInsertIn t r path it f)
+pub insert_here : (cells path : List CellSeen) (f : Fresh) (it : Item) → AreLeaves cells → FirstMayTake cells it
+    → IsPathOver cells f path → (t : Store Value) × ((r : Root) × IsInsertIn t r path it f)
 insert_here [] path f it are may over = absurd may
 insert_here (leaf ∷ rest) path f it are may over =
     let edited : IsEditedIn (by_name path) (low_root over.twig) (after_insert it leaf) leaf (over.twig ∷ []) f = record {
@@ -172,16 +192,19 @@ insert_here (leaf ∷ rest) path f it are may over =
       by_name path,
       (
         low_root over.twig,
-        subst (λ (p : List CellSeen). IsInsertedUp (by_name path) (low_root over.twig) it f (reverse p)) (sym over.cells) (record {
-          edited = edited;
-          from = may.from;
-          to = may.to;
-          apart = may.apart;
-        }),
+        subst (λ (p : List CellSeen). IsInsertedUp (by_name path) (low_root over.twig) it f (reverse p)) (sym over.cells)
+            (record {
+              edited = edited;
+              from = may.from;
+              to = may.to;
+              apart = may.apart;
+            }),
       ),
     )
 
-pub cut_here : (cells path : List CellSeen) (f : Fresh) (from to : Key) (leaf : CellSeen) (rest : List CellSeen) → cells ≡ leaf ∷ rest → AreLeaves cells → (rank from < rank to) × (rank leaf.lo ≤ rank from) × (rank to ≤ rank leaf.hi) → IsPathOver cells f path
+pub cut_here : (cells path : List CellSeen) (f : Fresh) (from to : Key) (leaf : CellSeen) (rest : List CellSeen) → cells
+    ≡ leaf ∷ rest → AreLeaves cells → (rank from < rank to) × (rank leaf.lo ≤ rank from) × (rank to ≤ rank leaf.hi)
+    → IsPathOver cells f path
     → (t : Store Value) × ((r : Root) × IsCutIn t r path from to f)
 cut_here cells path f from to leaf rest e are keys over' =
     let over : IsShortPath leaf f path = subst (λ cs. IsPathOver cs f path) e over' in
@@ -193,11 +216,12 @@ cut_here cells path f from to leaf rest e are keys over' =
       by_name path,
       (
         low_root over.twig,
-        subst (λ (p : List CellSeen). IsCutOutUp (by_name path) (low_root over.twig) from to f (reverse p)) (sym over.cells) (record {
-          edited = edited;
-          order = keys.0;
-          low = keys.1;
-          high = keys.2;
-        }),
+        subst (λ (p : List CellSeen). IsCutOutUp (by_name path) (low_root over.twig) from to f (reverse p)) (sym over.cells)
+            (record {
+              edited = edited;
+              order = keys.0;
+              low = keys.1;
+              high = keys.2;
+            }),
       ),
     )

@@ -1,5 +1,6 @@
 -- Trees of two levels for tests: what was tried out on blocks, and their paths.
-use Rattle.std.proofs.Common.{◌≡◌, ◌≢◌, ◌⊎◌, inl, inr, ℕ, zero, suc, ◌+◌, ◌*◌, ◌^◌, ◌<◌, ◌≤◌, true, List, [], ◌∷◌, length, map, get_or, refl, sym, ap, subst, ◌∙◌, arith}
+use Rattle.std.proofs.Common.{◌≡◌, ◌≢◌, ◌⊎◌, inl, inr, ℕ, zero, suc, ◌+◌, ◌*◌, ◌^◌, ◌<◌, ◌≤◌, true, List, [], ◌∷◌, length, map}
+use Rattle.std.proofs.Common.{get_or, refl, sym, ap, subst, ◌∙◌, arith}
 use Rattle.std.specs.Prelude.{Contains, None, Some, slice_get}
 use Rattle.std.proofs.lemmas.List.{append-nil}
 use Rattle.r4_base.specs.Cell.{item_end, item_units, units_in}
@@ -36,7 +37,8 @@ module _ (lo hi : Key) (b : List ℕ) (stands : MayStand (rank lo) (rank hi) b) 
   seen : CellSeen
   seen = record { id = 0; level = 1; lo = lo; hi = hi; block = b }
 
-  pub units_between : least ≤ rank lo → rank hi ≤ top → (k : ℕ) (v : Value) → Contains (units_in (items_of b)) (k, v) → (rank lo ≤ k) × (k < rank hi)
+  pub units_between : least ≤ rank lo → rank hi ≤ top → (k : ℕ) (v : Value) → Contains (units_in (items_of b)) (k, v)
+      → (rank lo ≤ k) × (k < rank hi)
   unfolding seen
   units_between from to k v member = go (items_of b) refl
     where
@@ -46,39 +48,50 @@ module _ (lo hi : Key) (b : List ℕ) (stands : MayStand (rank lo) (rank hi) b) 
           let l = (good_parts 1 (rank lo) (rank hi) 0 it items (subst (Good 1 (rank lo) (rank hi) 0) e good)).0 in
           let low = l.from in
           let high = l.below in
-          let node = cell_node true (2 ^ 64) 1 (rank lo) (rank hi) b stands.0 (omega arith) from (omega (arith, low, high)) to stands.1 in
+          let node = cell_node true (2 ^ 64) 1 (rank lo) (rank hi) b stands.0 (omega arith) from
+          (omega (arith, low, high)) to stands.1 in
           in_cell seen k (node.unit_in k v (subst (λ us. Contains us (k, v)) (sym (units_are seen 0 refl)) member))
 
 -- ---- an item alone
 
-pub alone : (key hi : Key) (b : List ℕ) (it : Item) → it.key ≡ key → least ≤ rank key → rank hi ≤ top → items_of b ≡ it ∷ [] → ((it.plugin ≡ 0) ⊎ ((it.plugin ≡ 2) ⊎ (it.plugin ≡ 6))) → length it.body ≤ 4030 → MayStand (rank key) (rank hi) b → StandsAlone it (rank hi)
+pub alone : (key hi : Key) (b : List ℕ) (it : Item) → it.key ≡ key → least ≤ rank key → rank hi ≤ top → items_of b ≡ it ∷ []
+    → ((it.plugin ≡ 0) ⊎ ((it.plugin ≡ 2) ⊎ (it.plugin ≡ 6))) → length it.body ≤ 4030 → MayStand (rank key) (rank hi) b
+    → StandsAlone it (rank hi)
 alone key hi b it same from to items plugin short stands =
-    let l : Lies 1 (rank key) (rank hi) (rank hi) 0 it = (good_parts 1 (rank key) (rank hi) 0 it [] (subst (Good 1 (rank key) (rank hi) 0) items (good key hi b stands))).0 in
+    let l : Lies 1 (rank key) (rank hi)
+    (rank hi) 0 it = (good_parts 1 (rank key) (rank hi) 0 it []
+    (subst (Good 1 (rank key) (rank hi) 0) items (good key hi b stands))).0 in
     record {
       given = record { plugin = plugin; sound = l.body; short = short };
       below = l.below;
       end = l.end;
       above = λ k v member.
-          let w = units_between key hi b stands from to k v (subst (λ us. Contains us (k, v)) (sym (ap units_in items ∙ one_item it)) member) in
+          let w = units_between key hi b stands from to k v
+          (subst (λ us. Contains us (k, v)) (sym (ap units_in items ∙ one_item it)) member) in
           let e = ap rank same in
           omega (arith, w, e);
     }
 
-pub ends : (leaf : CellSeen) (lo key : Key) (b : List ℕ) → leaf.level ≡ 1 → rank lo ≡ least → rank key ≤ top → b ≡ leaf.block → MayStand (rank lo) (rank key) b → (k : ℕ) (v : Value) → Contains (node_of leaf).units (k, v) → k < rank key
+pub ends : (leaf : CellSeen) (lo key : Key) (b : List ℕ) → leaf.level ≡ 1 → rank lo ≡ least → rank key ≤ top → b ≡ leaf.block
+    → MayStand (rank lo) (rank key) b → (k : ℕ) (v : Value) → Contains (node_of leaf).units (k, v) → k < rank key
 ends leaf lo key b level low to same stands k v member =
-    (units_between lo key b stands (omega (arith, low)) to k v (subst (λ us. Contains us (k, v)) (units_are leaf 0 level ∙ ap (λ c. units_in (items_of c)) (sym same)) member)).1
+    (units_between lo key b stands (omega (arith, low)) to k v
+    (subst (λ us. Contains us (k, v)) (units_are leaf 0 level ∙ ap (λ c. units_in (items_of c)) (sym same)) member)).1
 
 -- ---- the first of the leaves
 
-pub first_level : (cells : List CellSeen) (leaf : CellSeen) (rest : List CellSeen) → cells ≡ leaf ∷ rest → AreLeaves cells → (leaf.level ≡ 1) × (rank leaf.lo ≡ least) × (rank leaf.hi ≤ top)
+pub first_level : (cells : List CellSeen) (leaf : CellSeen) (rest : List CellSeen) → cells ≡ leaf ∷ rest → AreLeaves cells
+    → (leaf.level ≡ 1) × (rank leaf.lo ≡ least) × (rank leaf.hi ≤ top)
 first_level cells leaf rest e are =
     let f = (subst AreLeaves e are).follow in (f.0, f.1, follow_order 1 (rank leaf.hi) top rest f.3)
 
-pub first_of : {A : Type 0} (h : A → CellSeen) (xs : List A) (x : A) → 1 ≤ length (map h xs) → x ≡ get_or xs 0 x → (rest : List CellSeen) × (map h xs ≡ h x ∷ rest)
+pub first_of : {A : Type 0} (h : A → CellSeen) (xs : List A) (x : A) → 1 ≤ length (map h xs) → x ≡ get_or xs 0 x
+    → (rest : List CellSeen) × (map h xs ≡ h x ∷ rest)
 first_of h [] x some e = absurd (omega (arith, some))
 first_of h (y ∷ ys) x some e = (map h ys, ap (λ z. h z ∷ map h ys) (sym e))
 
-pub may_take : (cells : List CellSeen) (leaf : CellSeen) (rest : List CellSeen) (it : Item) → cells ≡ leaf ∷ rest → AreLeaves cells → least ≤ rank it.key → StandsAlone it (rank leaf.hi)
+pub may_take : (cells : List CellSeen) (leaf : CellSeen) (rest : List CellSeen) (it : Item) → cells ≡ leaf ∷ rest
+    → AreLeaves cells → least ≤ rank it.key → StandsAlone it (rank leaf.hi)
     → ((k : ℕ) (v : Value) → Contains (node_of leaf).units (k, v) → k < rank it.key) → FirstMayTake cells it
 may_take cells leaf rest it e are from alone below =
     let f = first_level cells leaf rest e are in

@@ -12,6 +12,9 @@ returns-clause-rises c =
     IfOk-weaker c.gather.result _ _ (λ d levels. record {
       steps = map step_of c.climb.new.levels.items;
       over = over;
-      climbed = subst (λ (were : List Step). Climbed (step_of c.args.lowest) (reverse (map arc_value c.args.above.now)) c.args.fresh.now c.climb.new.fresh were (map step_of c.climb.new.levels.items) over) (ap (map step_of) c.new-levels.ensures.items) c.in_ok-over.ensures.climbed;
+      climbed = subst (λ (were : List Step). Climbed (step_of c.args.lowest)
+          (reverse (map arc_value c.args.above.now)) c.args.fresh.now c.climb.new.fresh were
+          (map step_of c.climb.new.levels.items) over)
+          (ap (map step_of) c.new-levels.ensures.items) c.in_ok-over.ensures.climbed;
       levels = subst (λ (steps : List Step). HasLevels steps over d) (ap (map step_of) c.as_slice.ensures.value) levels;
     }) c.gather.ensures

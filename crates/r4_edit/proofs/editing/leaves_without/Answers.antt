@@ -9,6 +9,8 @@ use Rattle.r4_edit.proofs.editing.leaves_without.Goals as goal
 pub returns : goal.returns
 returns c =
     IfOk-weaker c.cut_out.result _ _ (λ v h.
-    lent_leaves c.args.leaf.now c.requires.level (cut_units (rank c.args.from.now) (rank c.args.to.now)) (view_items c.node.result) c.lo.result v.items c.node.ensures.items c.lo.ensures
-    (h.0 (rank c.args.leaf.now.hi) (lent_stands c.args.leaf.now c.requires.level (view_block c.node.result).now c.lo.result c.node.ensures.block c.lo.ensures c.node.ensures.whole c.node.ensures.stands)) h.1)
+    lent_leaves c.args.leaf.now c.requires.level (cut_units (rank c.args.from.now) (rank c.args.to.now))
+    (view_items c.node.result) c.lo.result v.items c.node.ensures.items c.lo.ensures
+    (h.0 (rank c.args.leaf.now.hi) (lent_stands c.args.leaf.now c.requires.level
+    (view_block c.node.result).now c.lo.result c.node.ensures.block c.lo.ensures c.node.ensures.whole c.node.ensures.stands)) h.1)
     (and_ok c.cut_out.result _ _ c.cut_out.ensures.packs c.cut_out.ensures.few)

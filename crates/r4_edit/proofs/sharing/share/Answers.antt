@@ -10,7 +10,9 @@ returns-then-weight-le-ROOM-clause-shares c =
     let same = weigh_all c.args.old.now c.args.row.now c.requires.row c.len.result c.len.ensures in
     let weighs = c.weight.ensures in
     let few = c.if-weight-le-ROOM.true in
-    IfOk-weaker c.one.result _ _ (λ cells h. let (has, one) = h c.args.fresh.now.next in shares_one c.args.old.now (row_items c.args.row.now) c.args.fresh.now cells has one (omega (arith, same, weighs, few))) c.one.ensures
+    IfOk-weaker c.one.result _ _ (λ cells h. let (has, one) = h c.args.fresh.now.next in
+    shares_one c.args.old.now (row_items c.args.row.now) c.args.fresh.now cells has one
+    (omega (arith, same, weighs, few))) c.one.ensures
 
 pub two-requires-clause-two : goal.two-requires-clause-two
 two-requires-clause-two c =
@@ -24,4 +26,7 @@ returns-clause-shares c =
     let same = weigh_all c.args.old.now c.args.row.now c.requires.row c.len.result c.len.ensures in
     let weighs = c.weight.ensures in
     let over = c.if-weight-le-ROOM.false in
-    both_ok c.two.result _ _ (λ cells h took. shares_two c.args.old.now (row_items c.args.row.now) c.args.fresh.now c.two.new.fresh cells h.0.0 h.0.1 (omega (arith, same, weighs, over)) took h.1) (and_ok c.two.result _ _ c.two.ensures.cells c.two.ensures.filled) c.two.ensures.fresh
+    both_ok c.two.result _ _ (λ cells h took. shares_two c.args.old.now
+    (row_items c.args.row.now) c.args.fresh.now c.two.new.fresh cells h.0.0 h.0.1
+    (omega (arith, same, weighs, over)) took h.1)
+    (and_ok c.two.result _ _ c.two.ensures.cells c.two.ensures.filled) c.two.ensures.fresh

@@ -11,7 +11,8 @@ pub part-requires-clause-node : goal.part-requires-clause-node
 part-requires-clause-node c =
     let (t, (r, is)) = c.requires.path in
     let path = c.args.path.now in
-    let up = last_first arc_value path c.index-path-count.result (some_path t r c.args.fresh.now arc_value path is) c.index-path-count.is in
+    let up = last_first arc_value path c.index-path-count.result
+    (some_path t r c.args.fresh.now arc_value path is) c.index-path-count.is in
     let parted = subst (IsPartedUp t r c.args.fresh.now) up is in
     parted.path.part.nodes _ _ parted.path.ascends.0
 
@@ -24,7 +25,9 @@ rise-requires c =
     let parted = subst (IsPartedUp t r c.args.fresh.now) up is in
     let long = long_above arc_value path some in
     let n = c.requires.numbers in
-    step_starts (arc_value c.index-path-count.result) (reverse (map arc_value (take (length path - 1) path))) c.args.fresh.now c.part.new.fresh (step_of c.in_ok-first.first) c.in_ok-first.ensures.parted
+    step_starts (arc_value c.index-path-count.result)
+    (reverse (map arc_value (take (length path - 1) path))) c.args.fresh.now c.part.new.fresh
+    (step_of c.in_ok-first.first) c.in_ok-first.ensures.parted
     t r parted n.0 (omega (arith, n, long)) (omega arith)
 
 pub returns-clause-change : goal.returns-clause-change
@@ -35,7 +38,9 @@ returns-clause-change c =
     let up = last_first arc_value path c.index-path-count.result some c.index-path-count.is in
     let parted = subst (IsPartedUp t r c.args.fresh.now) up is in
     IfOk-weaker c.rise.result _ _ (λ d rises.
-    final_change (arc_value c.index-path-count.result) (reverse (map arc_value (take (length path - 1) path))) c.args.fresh.now c.part.new.fresh (step_of c.in_ok-first.first) c.in_ok-first.ensures.parted
+    final_change (arc_value c.index-path-count.result)
+    (reverse (map arc_value (take (length path - 1) path))) c.args.fresh.now c.part.new.fresh
+    (step_of c.in_ok-first.first) c.in_ok-first.ensures.parted
     c.rise.new.fresh d rises t r parted) c.rise.ensures.rises
 
 pub returns-clause-meets : goal.returns-clause-meets
@@ -45,7 +50,9 @@ returns-clause-meets c =
     let some = some_path t r c.args.fresh.now arc_value path is in
     let up = last_first arc_value path c.index-path-count.result some c.index-path-count.is in
     IfOk-weaker c.rise.result _ _ (λ d rises t2 r2 is2.
-    final_meets (arc_value c.index-path-count.result) (reverse (map arc_value (take (length path - 1) path))) c.args.fresh.now c.part.new.fresh (step_of c.in_ok-first.first) c.in_ok-first.ensures.parted
+    final_meets (arc_value c.index-path-count.result)
+    (reverse (map arc_value (take (length path - 1) path))) c.args.fresh.now c.part.new.fresh
+    (step_of c.in_ok-first.first) c.in_ok-first.ensures.parted
     c.rise.new.fresh d rises t2 r2 (subst (IsPartedUp t2 r2 c.args.fresh.now) up is2)) c.rise.ensures.rises
 
 pub returns-clause-splits : goal.returns-clause-splits
@@ -56,5 +63,7 @@ returns-clause-splits c =
     let up = last_first arc_value path c.index-path-count.result some c.index-path-count.is in
     IfOk-weaker c.rise.result _ _ (λ d rises.
     subst (PartsUp c.args.fresh.now c.rise.new.fresh d) (sym up)
-    (final_parts (arc_value c.index-path-count.result) (reverse (map arc_value (take (length path - 1) path))) c.args.fresh.now c.part.new.fresh (step_of c.in_ok-first.first) c.in_ok-first.ensures.parted
+    (final_parts (arc_value c.index-path-count.result)
+    (reverse (map arc_value (take (length path - 1) path))) c.args.fresh.now c.part.new.fresh
+    (step_of c.in_ok-first.first) c.in_ok-first.ensures.parted
     c.rise.new.fresh d rises)) c.rise.ensures.rises

@@ -37,6 +37,10 @@ returns c =
     let (rest, e) = first_of arc_value c.args.leaves.now c.index-leaves-0.result c.requires.some c.index-leaves-0.is in
     let from : least ≤ rank c.args.key.now = search rules in
     IfOk-weaker c.ends_below.result _ _ (λ b below yes.
-    may_take _ (arc_value c.index-leaves-0.result) rest (record { key = c.args.key.now; plugin = c.args.plugin; body = c.args.body.now }) e c.requires from
-    (subst (StandsAlone (record { key = c.args.key.now; plugin = c.args.plugin; body = c.args.body.now })) (ap rank c.hi.ensures ∙ ap (λ (x : CellSeen). rank x.hi) c.deref.ensures) (c.in_ok-stands_alone.ensures c.if-not-branch.false))
-    (subst (λ (x : CellSeen). (k : ℕ) (v : Value) → Contains (node_of x).units (k, v) → k < rank c.args.key.now) c.deref-2.ensures (below yes))) c.ends_below.ensures
+    may_take _ (arc_value c.index-leaves-0.result) rest
+    (record { key = c.args.key.now; plugin = c.args.plugin; body = c.args.body.now }) e c.requires from
+    (subst (StandsAlone (record { key = c.args.key.now; plugin = c.args.plugin; body = c.args.body.now }))
+    (ap rank c.hi.ensures ∙ ap (λ (x : CellSeen). rank x.hi) c.deref.ensures)
+    (c.in_ok-stands_alone.ensures c.if-not-branch.false))
+    (subst (λ (x : CellSeen). (k : ℕ) (v : Value) → Contains (node_of x).units (k, v)
+    → k < rank c.args.key.now) c.deref-2.ensures (below yes))) c.ends_below.ensures
