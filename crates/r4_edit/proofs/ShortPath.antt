@@ -1,10 +1,9 @@
 -- A root and the first of the leaves below it are a part of a tree, and a path of it.
-use Rattle.std.proofs.Common.{◌≡◌, ◌≢◌, ◌⊎◌, inl, inr, ℕ, ◌+◌, ◌-◌, ◌^◌, ◌<◌, ◌≤◌, true, List, [], ◌∷◌, length, map, refl, sym}
+use Rattle.std.proofs.Common.{◌≡◌, ◌≢◌, ◌⊎◌, inl, inr, ℕ, ◌+◌, ◌^◌, ◌<◌, ◌≤◌, true, List, [], ◌∷◌, length, refl, sym}
 use Rattle.std.proofs.Common.{ap, subst, ◌∙◌, arith}
 use Rattle.std.specs.Prelude.{Contains, reverse, None, Some}
-use Rattle.std.proofs.lemmas.Option.{same_Some}
 use Rattle.r4_base.specs.Cell.{cell_fault}
-use Rattle.r4_base.specs.Key.{least, rank, top}
+use Rattle.r4_base.specs.Key.{rank, top}
 use Rattle.r4_base.specs.Node.{Item}
 use Rattle.r4_base.specs.Tree.{Fits, IsNode, Name, Node, Root, Store}
 use Rattle.r4_base.specs.declared.key.Key.{Key}
@@ -13,7 +12,6 @@ use Rattle.r4_cell.proofs.Nodes.{cell_node}
 use Rattle.r4_cell.specs.Patch.{NamesId, by_name}
 use Rattle.r4_cell.specs.Seen.{CellSeen, node_of}
 use Rattle.r4_cell.specs.declared.change.Fresh.{Fresh}
-use Rattle.r4_leaf.specs.Leaves.{MayStand}
 use Rattle.r4_patch.specs.Joining.{ids_of}
 use Rattle.r4_patch.specs.Part.{IsPart}
 use Rattle.r4_edit.specs.Growing.{IsPathIn}

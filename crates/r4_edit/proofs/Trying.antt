@@ -1,20 +1,18 @@
 -- Trees of two levels for tests: what was tried out on blocks, and their paths.
-use Rattle.std.proofs.Common.{◌≡◌, ◌≢◌, ◌⊎◌, inl, inr, ℕ, zero, suc, ◌+◌, ◌*◌, ◌^◌, ◌<◌, ◌≤◌, true, List, [], ◌∷◌, length, map}
+use Rattle.std.proofs.Common.{◌≡◌, ◌⊎◌, ℕ, ◌^◌, ◌<◌, ◌≤◌, true, List, [], ◌∷◌, length, map}
 use Rattle.std.proofs.Common.{get_or, refl, sym, ap, subst, ◌∙◌, arith}
-use Rattle.std.specs.Prelude.{Contains, None, Some, slice_get}
+use Rattle.std.specs.Prelude.{Contains}
 use Rattle.std.proofs.lemmas.List.{append-nil}
-use Rattle.r4_base.specs.Cell.{item_end, item_units, units_in}
+use Rattle.r4_base.specs.Cell.{item_units, units_in}
 use Rattle.r4_base.specs.Key.{least, rank, top}
 use Rattle.r4_base.specs.Node.{Item, items_of}
-use Rattle.r4_base.specs.Tree.{IsNode, Name, Node, Root, Store}
 use Rattle.r4_base.specs.Value.{Value}
 use Rattle.r4_base.specs.declared.key.Key.{Key}
 use Rattle.r4_cell.proofs.Nodes.{cell_node}
 use Rattle.r4_cell.proofs.NodesAt.{node_at}
 use Rattle.r4_cell.specs.Seen.{CellSeen, node_of}
-use Rattle.r4_cell.specs.declared.change.Fresh.{Fresh}
 use Rattle.r4_leaf.specs.Leaves.{MayStand}
-use Rattle.r4_edit.specs.Trials.{AreLeaves, FirstMayTake, MayCome, StandsAlone}
+use Rattle.r4_edit.specs.Trials.{AreLeaves, FirstMayTake, StandsAlone}
 use Rattle.r4_edit.proofs.CellNodes.{units_are}
 use Rattle.r4_edit.proofs.Lying.{Good, Lies, good_parts}
 use Rattle.r4_edit.proofs.Members.{none}

@@ -65,8 +65,8 @@ fn first(change: &Change) -> Result<Arc<Cell>, Fail> {
     }
 }
 
-// The leaf up to a key with the stat data of the root.
-fn root_leaf(alloc: Global, hi: Key) -> Result<Arc<Cell>, Fail> {
+// The leaf of all keys with the stat data of the root.
+fn root_leaf(alloc: Global) -> Result<Arc<Cell>, Fail> {
     let mut stat = [0; 44];
     write_stat(
         &mut stat,
@@ -82,7 +82,7 @@ fn root_leaf(alloc: Global, hi: Key) -> Result<Arc<Cell>, Fail> {
             bytes: 0,
         },
     );
-    let leaf = empty_leaf(alloc, LEAF, least(), hi)?;
+    let leaf = empty_leaf(alloc, LEAF, least(), top())?;
     first(&with(alloc, &[leaf], least(), STAT, &stat)?)
 }
 
@@ -104,7 +104,7 @@ static TAILS: [(usize, &[Row]); 2] = [
 
 #[test]
 fn a_leaf_is_filled_before_another_comes(rt: HostRuntime) -> Result<(), Fail> {
-    let leaf = root_leaf(rt.alloc(), top())?;
+    let leaf = root_leaf(rt.alloc())?;
     for (bytes, want) in TAILS {
         let leaves = [Arc::try_clone(&leaf)?];
         if bytes > 4030 {
@@ -120,7 +120,7 @@ fn a_leaf_is_filled_before_another_comes(rt: HostRuntime) -> Result<(), Fail> {
 #[test]
 fn tails_are_joined_and_cut(rt: HostRuntime) -> Result<(), Fail> {
     let alloc = rt.alloc();
-    let leaf = root_leaf(alloc, top())?;
+    let leaf = root_leaf(alloc)?;
     let one = first(&with(alloc, &[leaf], byte(0), TAIL, &ZEROS[..100])?)?;
     let one_leaf = [Arc::try_clone(&one)?];
     let joined = with(alloc, &one_leaf, byte(100), TAIL, &ZEROS[..50])?;
@@ -141,12 +141,11 @@ fn tails_are_joined_and_cut(rt: HostRuntime) -> Result<(), Fail> {
     Ok(())
 }
 
-#[test]
-fn a_full_root_is_parted(rt: HostRuntime) -> Result<(), Fail> {
-    let alloc = rt.alloc();
+// A leaf with those that fill up its root: 88 in all.
+fn beside(alloc: Global, first: Arc<Cell>) -> Result<Vec<Arc<Cell>>, Fail> {
     let mut leaves = Vec::new(alloc);
-    let mut lo = Key::body(41, 0, Oid(43), 0);
-    leaves.push(root_leaf(alloc, lo)?)?;
+    let mut lo = first.hi();
+    leaves.push(first)?;
     for i in 1..88u64 {
         let hi = if i == 87 {
             top()
@@ -156,7 +155,17 @@ fn a_full_root_is_parted(rt: HostRuntime) -> Result<(), Fail> {
         leaves.push(empty_leaf(alloc, LEAF + i, lo, hi)?)?;
         lo = hi;
     }
-    let change = with(alloc, leaves.as_slice(), byte(0), TAIL, &ZEROS[..4000])?;
+    Ok(leaves)
+}
+
+#[test]
+fn a_full_root_is_parted(rt: HostRuntime) -> Result<(), Fail> {
+    let alloc = rt.alloc();
+    let hi = Key::body(41, 0, Oid(43), 0);
+    let leaves = beside(alloc, empty_leaf(alloc, LEAF, least(), hi)?)?;
+    let filled = first(&with(alloc, leaves.as_slice(), byte(0), TAIL, &ZEROS[..4000])?)?;
+    let leaves = beside(alloc, filled)?;
+    let change = with(alloc, leaves.as_slice(), byte(4000), TAIL, &ZEROS[..4000])?;
     assert_eq!(rt; change.new.as_slice().len(), 5);
     assert_eq!(rt; change.root.map(|root| root.height), Some(3));
     Ok(())
