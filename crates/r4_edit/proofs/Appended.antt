@@ -1,5 +1,6 @@
 -- An item put behind those of a node, and its body then written.
-use Rattle.std.proofs.Common.{◌≡◌, ℕ, ◌+◌, ◌-◌, ◌<◌, ◌≤◌, true, false, List, [], ◌∷◌, ◌++◌, length, replicate, get_or, set, refl, sym, ap, ◌∙◌, arith}
+use Rattle.std.proofs.Common.{◌≡◌, ℕ, ◌+◌, ◌-◌, ◌<◌, ◌≤◌, true, false, List, [], ◌∷◌, ◌++◌, length, replicate, get_or, set}
+use Rattle.std.proofs.Common.{refl, sym, ap, ◌∙◌, arith}
 use Rattle.std.specs.Prelude.{slice_get, slice_set, Some, Result, OnOk, IsOk, Ok, Err}
 use Rattle.std.specs.List.{insert}
 use Rattle.std.proofs.lemmas.List.{length-replicate, set-append_right}
@@ -30,7 +31,8 @@ get_end : (xs : List Item) (x d : Item) → get_or (xs ++ x ∷ []) (length xs) 
 get_end [] x d = refl
 get_end (y ∷ xs) x d = get_end xs x d
 
-module _ (b0 b1 body : List ℕ) (n plugin : ℕ) (key : Key) (counted : n ≡ count_of b0) (node : IsNode b0) (fits : fits_level (level_of b0) plugin ≡ true) (between : GoesBetween (items_of b0) n key) (some : 1 ≤ length body)
+module _ (b0 b1 body : List ℕ) (n plugin : ℕ) (key : Key) (counted : n ≡ count_of b0) (node : IsNode b0)
+    (fits : fits_level (level_of b0) plugin ≡ true) (between : GoesBetween (items_of b0) n key) (some : 1 ≤ length body)
     (put : InsertsItem b0 n key plugin (length body) b1) where
   node1 : IsNode b1
   node1 = node_inserted b0 b1 n plugin (length body) key node (omega (arith, counted)) fits between put
@@ -49,10 +51,14 @@ module _ (b0 b1 body : List ℕ) (n plugin : ℕ) (key : Key) (counted : n ≡ c
 
   items : items_of b1 ≡ items_of b0 ++ blank ∷ []
   unfolding blank
-  items = put.items ∙ (ap (λ k. insert (items_of b0) k (record { key = key; plugin = plugin; body = replicate (length body) 0 })) (sym long) ∙ insert_end (items_of b0) (record { key = key; plugin = plugin; body = replicate (length body) 0 }))
+  items = put.items ∙ (ap (λ k. insert (items_of b0) k
+      (record { key = key; plugin = plugin; body = replicate (length body) 0 })) (sym long)
+      ∙ insert_end (items_of b0) (record { key = key; plugin = plugin; body = replicate (length body) 0 }))
 
   shown : item_at (n + 1) b1 n ≡ blank
-  shown = sym (get_or-items_of b1 (n + 1) n blank count (omega arith)) ∙ (ap (λ (l : List Item). get_or l n blank) items ∙ (ap (λ k. get_or (items_of b0 ++ blank ∷ []) k blank) (sym long) ∙ get_end (items_of b0) blank blank))
+  shown = sym (get_or-items_of b1 (n + 1) n blank count (omega arith))
+      ∙ (ap (λ (l : List Item). get_or l n blank) items
+      ∙ (ap (λ k. get_or (items_of b0 ++ blank ∷ []) k blank) (sym long) ∙ get_end (items_of b0) blank blank))
 
   span : span_at b1 n n ≡ replicate (length body) 0
   unfolding item_at blank
@@ -65,13 +71,15 @@ module _ (b0 b1 body : List ℕ) (n plugin : ℕ) (key : Key) (counted : n ≡ c
   wrote = body_lent b1 body n put.laid below (sym same_length)
 
   set_end : (y : Item) → slice_set (items_of b0 ++ blank ∷ []) n y ≡ items_of b0 ++ y ∷ []
-  set_end y = set-append_right (items_of b0) (blank ∷ []) n n y long (omega arith) ∙ ap (λ k. items_of b0 ++ set (blank ∷ []) k y) (let e : n - n ≡ 0 = omega arith in e)
+  set_end y = set-append_right (items_of b0) (blank ∷ []) n n y long (omega arith)
+      ∙ ap (λ k. items_of b0 ++ set (blank ∷ []) k y) (let e : n - n ≡ 0 = omega arith in e)
 
   pub appended : IsAppended b0 (record { key = key; plugin = plugin; body = body }) (written b1 (offset_at b1 n) body)
   unfolding item_at blank
   appended = record {
     node = node_written b1 body (written b1 (offset_at b1 n) body) n node1 below wrote;
-    items = wrote.items ∙ (ap (λ (l : List Item). slice_set l n (record { key = key_at b1 n; plugin = plugin_at b1 n; body = body })) items
+    items = wrote.items ∙ (ap (λ (l : List Item). slice_set l n
+        (record { key = key_at b1 n; plugin = plugin_at b1 n; body = body })) items
         ∙ (set_end (record { key = key_at b1 n; plugin = plugin_at b1 n; body = body })
         ∙ (λ i. items_of b0 ++ record { key = (shown i).key; plugin = (shown i).plugin; body = body } ∷ [])));
     level = wrote.head.level ∙ put.head.level;

@@ -50,13 +50,19 @@ long_pointers (c ∷ cells) = let h = long_pointers cells in omega (arith, h)
 
 -- ---- a root over cells
 
-module _ (l : ℕ) (cells : List CellSeen) (follow : Follow l least top cells) (able : All (λ c. IsPointable c.id) cells) (some : 1 ≤ length cells) where
-  pub root_sound : (level lo hi : ℕ) (b : List ℕ) → level ≡ suc l → lo ≡ least → hi ≡ top → IsNodeOf level (map pointer_item cells) b → cell_fault true (2 ^ 64) level lo hi b ≡ None
+module _ (l : ℕ) (cells : List CellSeen) (follow : Follow l least top cells) (able : All (λ c. IsPointable c.id) cells)
+    (some : 1 ≤ length cells) where
+  pub root_sound : (level lo hi : ℕ) (b : List ℕ) → level ≡ suc l → lo ≡ least → hi ≡ top
+      → IsNodeOf level (map pointer_item cells) b → cell_fault true (2 ^ 64) level lo hi b ≡ None
   root_sound level lo hi b up from to node =
-      sound level lo hi (map pointer_item cells) b (omega (arith, up)) node (λ two. let h = long_pointers cells in omega (arith, h, some))
-      (subst (λ x. Good level x hi 0 (map pointer_item cells)) (sym from) (subst (λ x. Good level least x 0 (map pointer_item cells)) (sym to) (pointers_good level least top 0 least l cells follow able (omega arith) (λ e. refl))))
+      sound level lo hi (map pointer_item cells) b (omega (arith, up)) node
+      (λ two. let h = long_pointers cells in omega (arith, h, some))
+      (subst (λ x. Good level x hi 0 (map pointer_item cells)) (sym from)
+      (subst (λ x. Good level least x 0 (map pointer_item cells)) (sym to)
+      (pointers_good level least top 0 least l cells follow able (omega arith) (λ e. refl))))
 
-  pub root_is : (level id : ℕ) (x : CellSeen) → level ≡ suc l → x.id ≡ id → x.level ≡ level → rank x.lo ≡ least → rank x.hi ≡ top → length x.block ≡ 4096 → IsNodeOf level (map pointer_item cells) x.block → IsPointingTo cells level id x
+  pub root_is : (level id : ℕ) (x : CellSeen) → level ≡ suc l → x.id ≡ id → x.level ≡ level → rank x.lo ≡ least → rank x.hi
+      ≡ top → length x.block ≡ 4096 → IsNodeOf level (map pointer_item cells) x.block → IsPointingTo cells level id x
   root_is level id x up xi xl from to whole node =
       let level_is : x.level ≡ suc l = xl ∙ up in
       record {
@@ -64,9 +70,14 @@ module _ (l : ℕ) (cells : List CellSeen) (follow : Follow l least top cells) (
         level_is = xl;
         lo = from;
         hi = to;
-        names = names_are x l level_is ∙ (ap (λ h. names_in (suc l) h (items_of x.block)) to ∙ (ap (λ items. names_in (suc l) top items) node.items_are ∙ pointers_name l least top cells follow able));
-        spans = spans_are x l level_is ∙ (ap (λ items. spans_in (rank x.hi) items) node.items_are ∙ pointers_span (rank x.hi) cells);
+        names = names_are x l level_is ∙
+            (ap (λ h. names_in (suc l) h (items_of x.block)) to
+            ∙ (ap (λ items. names_in (suc l) top items) node.items_are ∙ pointers_name l least top cells follow able));
+        spans = spans_are x l level_is ∙
+            (ap (λ items. spans_in (rank x.hi) items) node.items_are ∙ pointers_span (rank x.hi) cells);
         units = units_are x l level_is ∙ (ap units_in node.items_are ∙ pointers_unit cells);
-        node = cell_node true (2 ^ 64) x.level (rank x.lo) (rank x.hi) x.block whole (omega (arith, level_is)) (omega (arith, from)) (let low = least_below in omega (arith, low, from, to)) (omega (arith, to))
-            (root_sound x.level (rank x.lo) (rank x.hi) x.block level_is from to (subst (λ k. IsNodeOf k (map pointer_item cells) x.block) (sym xl) node));
+        node = cell_node true (2 ^ 64) x.level (rank x.lo) (rank x.hi) x.block whole (omega (arith, level_is))
+            (omega (arith, from)) (let low = least_below in omega (arith, low, from, to)) (omega (arith, to))
+            (root_sound x.level (rank x.lo) (rank x.hi) x.block level_is from to
+            (subst (λ k. IsNodeOf k (map pointer_item cells) x.block) (sym xl) node));
       }

@@ -14,11 +14,13 @@ units_none : units_in [] ≡ []
 unfolding units_in
 units_none = refl
 
-pub units_parts : (level lo hi : ℕ) (cells : List CellSeen) → 1 ≤ level → Follow level lo hi cells → units_of_cells cells ≡ units_in (items_of_cells cells)
+pub units_parts : (level lo hi : ℕ) (cells : List CellSeen) → 1 ≤ level → Follow level lo hi cells → units_of_cells cells
+    ≡ units_in (items_of_cells cells)
 units_parts level lo hi [] one follow = sym units_none
 units_parts zero lo hi (c ∷ cells) one follow = absurd (omega (arith, one))
 units_parts (suc l) lo hi (c ∷ cells) one follow =
-    (λ i. units_are c l follow.0 i ++ units_parts (suc l) (rank c.hi) hi cells one follow.3 i) ∙ sym (units_append (items_of c.block) (items_of_cells cells))
+    (λ i. units_are c l follow.0 i ++ units_parts (suc l) (rank c.hi) hi cells one follow.3 i)
+    ∙ sym (units_append (items_of c.block) (items_of_cells cells))
 
 pub own_units : (c : CellSeen) → 1 ≤ c.level → (node_of c).units ≡ units_in (items_of c.block)
 own_units c one = by_level c.level refl one

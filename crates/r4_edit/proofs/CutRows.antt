@@ -23,7 +23,8 @@ module _ (w : Row) (row : IsRow w) (narrow : IsNarrow w) where
   pub more_long : length (row_more w) ≡ length w.more.now
   more_long = long_map arc_value w.more.now
 
-  pub cut_before : row_level w ≤ 2 → 4068 < weight (row_items w) → weight (row_part w (w.at + 1) (length (row_items w))) ≤ 4068 → IsCut w (w.at + 1)
+  pub cut_before : row_level w ≤ 2 → 4068 < weight (row_items w)
+      → weight (row_part w (w.at + 1) (length (row_items w))) ≤ 4068 → IsCut w (w.at + 1)
   cut_before low over fits =
       let b = beside (view_items w.node) w.at (row_more w) row.within in
       let before = b.before in
@@ -34,17 +35,23 @@ module _ (w : Row) (row : IsRow w) (narrow : IsNarrow w) where
       let l = long in
       record {
         some = omega arith;
-        below = some_come (w.at + 1) (length (view_items w.node)) (length (row_more w)) (omega (arith, within)) whole sum most over l;
+        below = some_come (w.at + 1) (length (view_items w.node)) (length (row_more w))
+            (omega (arith, within)) whole sum most over l;
         left = omega (arith, before, sum, most);
         right = fits;
         filled = λ high. absurd (omega (arith, high, low));
       }
     where
-      some_come : (k n m : ℕ) → k ≤ n → weight (row_items w) ≡ weight (take (w.at + 1) (view_items w.node)) + (46 * length (row_more w) + weight (drop (w.at + 1) (view_items w.node))) → weight (view_items w.node) ≡ weight (take (w.at + 1) (view_items w.node)) + weight (drop (w.at + 1) (view_items w.node)) → weight (view_items w.node) ≤ 4068 → 4068 < weight (row_items w)
+      some_come : (k n m : ℕ) → k ≤ n → weight (row_items w)
+          ≡ weight (take (w.at + 1) (view_items w.node)) +
+          (46 * length (row_more w) + weight (drop (w.at + 1) (view_items w.node))) → weight (view_items w.node)
+          ≡ weight (take (w.at + 1) (view_items w.node)) + weight (drop (w.at + 1) (view_items w.node))
+          → weight (view_items w.node) ≤ 4068 → 4068 < weight (row_items w)
           → length (row_items w) ≡ n + length (row_more w) → k < length (row_items w)
       some_come k n m le whole sum most over total = omega (arith, le, whole, sum, most, over, total)
 
-  pub cut_behind : row_level w ≤ 2 → 4068 < weight (row_part w (w.at + 1) (length (row_items w))) → IsCut w (w.at + 1 + length (row_more w))
+  pub cut_behind : row_level w ≤ 2 → 4068 < weight (row_part w (w.at + 1) (length (row_items w)))
+      → IsCut w (w.at + 1 + length (row_more w))
   cut_behind low over =
       let b = beside (view_items w.node) w.at (row_more w) row.within in
       let after = b.after in
@@ -70,7 +77,8 @@ module _ (w : Row) (row : IsRow w) (narrow : IsNarrow w) where
           let zero_left : 0 ≡ weight (drop (w.at + 1) (view_items w.node)) = ap weight e in
           omega (arith, after, few, zero_left, over)
 
-      grind_left : (rest : List Item) → rest ≡ drop (w.at + 1) (view_items w.node) → w.at + 1 + length (row_more w) < length (row_items w)
+      grind_left : (rest : List Item) → rest ≡ drop (w.at + 1) (view_items w.node)
+          → w.at + 1 + length (row_more w) < length (row_items w)
       grind_left [] e = absurd (none_left e)
       grind_left (x ∷ xs) e =
           let d = length-drop (w.at + 1) (view_items w.node) in

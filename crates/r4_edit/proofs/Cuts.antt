@@ -1,5 +1,6 @@
 -- A list of items cut in two.
-use Rattle.std.proofs.Common.{◌≡◌, ℕ, zero, suc, ◌+◌, ◌-◌, ◌*◌, ◌<◌, ◌≤◌, List, [], ◌∷◌, ◌++◌, length, map, take, drop, refl, sym, ap, ◌∙◌, arith}
+use Rattle.std.proofs.Common.{◌≡◌, ℕ, zero, suc, ◌+◌, ◌-◌, ◌*◌, ◌<◌, ◌≤◌, List, [], ◌∷◌, ◌++◌, length, map, take, drop, refl}
+use Rattle.std.proofs.Common.{sym, ap, ◌∙◌, arith}
 use Rattle.std.specs.Prelude.{All}
 use Rattle.std.proofs.lemmas.List.{append_assoc, length-append, length-drop}
 use Rattle.std.proofs.lemmas.List.Elements.{All-head, All-tail, All-take, All-drop}
@@ -48,7 +49,8 @@ module _ (list xs ys : List Item) (cut : ℕ) (is : list ≡ xs ++ ys) (at : cut
   long = ap length is ∙ length-append xs ys
 
   pub right_part : part list cut (length list) ≡ ys
-  right_part = ap (λ r. take (length list - cut) (drop cut r)) is ∙ (ap (take (length list - cut)) (drop_front xs ys cut at) ∙ take_whole ys (length list - cut) (omega (arith, long, at)))
+  right_part = ap (λ r. take (length list - cut) (drop cut r)) is
+      ∙ (ap (take (length list - cut)) (drop_front xs ys cut at) ∙ take_whole ys (length list - cut) (omega (arith, long, at)))
 
   pub parts_weigh : weight list ≡ weight xs + weight ys
   parts_weigh = ap weight is ∙ sum_by-append weight_of xs ys
@@ -61,10 +63,14 @@ alike_weigh (x ∷ xs) all =
     let sum = weight_cons x xs in
     omega (arith, one, rest, sum)
 
-pub cut_parts : (list : List Item) (cut : ℕ) → cut ≤ length list → (part list 0 cut ≡ take cut list) × (part list cut (length list) ≡ drop cut list)
+pub cut_parts : (list : List Item) (cut : ℕ) → cut ≤ length list → (part list 0 cut ≡ take cut list)
+    × (part list cut (length list) ≡ drop cut list)
 cut_parts list cut le =
-    let long : length (take cut list) ≡ cut = long_take cut list le in
-    (left_part list (take cut list) (drop cut list) cut (both_parts cut list) (sym long), right_part list (take cut list) (drop cut list) cut (both_parts cut list) (sym long))
+    let long : length (take cut list) ≡ cut = long_take cut list le in (
+      left_part list (take cut list) (drop cut list) cut (both_parts cut list) (sym long),
+      right_part list (take cut list)
+          (drop cut list) cut (both_parts cut list) (sym long),
+    )
 
 -- half of pointers alike
 pub record IsHalved (list : List Item) (cut : ℕ) : Type 0 where
@@ -93,11 +99,15 @@ module _ (items : List Item) (at : ℕ) (cells : List CellSeen) (within : at < l
 
   pub record Beside : Type 0 where
     pub before : weight (part (with_pointers items at cells) 0 (at + 1)) ≡ weight (take (at + 1) items)
-    pub after : weight (part (with_pointers items at cells) (at + 1) (length (with_pointers items at cells))) ≡ 46 * length cells + weight (drop (at + 1) items)
-    pub before_behind : weight (part (with_pointers items at cells) 0 (at + 1 + length cells)) ≡ weight (take (at + 1) items) + 46 * length cells
-    pub after_behind : weight (part (with_pointers items at cells) (at + 1 + length cells) (length (with_pointers items at cells))) ≡ weight (drop (at + 1) items)
+    pub after : weight (part (with_pointers items at cells) (at + 1) (length (with_pointers items at cells)))
+        ≡ 46 * length cells + weight (drop (at + 1) items)
+    pub before_behind : weight (part (with_pointers items at cells) 0 (at + 1 + length cells))
+        ≡ weight (take (at + 1) items) + 46 * length cells
+    pub after_behind : weight (part (with_pointers items at cells) (at + 1 + length cells)
+        (length (with_pointers items at cells))) ≡ weight (drop (at + 1) items)
     pub items_weigh : weight items ≡ weight (take (at + 1) items) + weight (drop (at + 1) items)
-    pub whole : weight (with_pointers items at cells) ≡ weight (take (at + 1) items) + (46 * length cells + weight (drop (at + 1) items))
+    pub whole : weight (with_pointers items at cells)
+        ≡ weight (take (at + 1) items) + (46 * length cells + weight (drop (at + 1) items))
 
   pub beside : Beside
   beside =
@@ -105,14 +115,16 @@ module _ (items : List Item) (at : ℕ) (cells : List CellSeen) (within : at < l
       let xs = take (at + 1) items in
       let ys = drop (at + 1) items in
       let ps = map pointer_item cells in
-      let ends : at + 1 + length cells ≡ length (xs ++ ps) = let a = length-append xs ps in let m = long_pointers cells in omega (arith, a, m, front) in
+      let ends : at + 1 + length cells ≡ length (xs ++ ps) = let a = length-append xs ps in let m = long_pointers cells in
+      omega (arith, a, m, front) in
       let behind : list ≡ (xs ++ ps) ++ ys = sym (append_assoc xs ps ys) in
       let sum = sum_by-append weight_of xs ps in
       let rest = sum_by-append weight_of ps ys in
       record {
         before = ap weight (left_part list xs (ps ++ ys) (at + 1) refl (sym front));
         after = ap weight (right_part list xs (ps ++ ys) (at + 1) refl (sym front)) ∙ (rest ∙ ap (λ k. k + weight ys) come);
-        before_behind = ap weight (left_part list (xs ++ ps) ys (at + 1 + length cells) behind ends) ∙ (sum ∙ ap (λ k. weight xs + k) come);
+        before_behind = ap weight (left_part list (xs ++ ps) ys (at + 1 + length cells) behind ends)
+            ∙ (sum ∙ ap (λ k. weight xs + k) come);
         after_behind = ap weight (right_part list (xs ++ ps) ys (at + 1 + length cells) behind ends);
         items_weigh = ap weight (both_parts (at + 1) items) ∙ sum_by-append weight_of xs ys;
         whole = sum_by-append weight_of xs (ps ++ ys) ∙ ap (λ k. weight xs + k) (rest ∙ ap (λ k. k + weight ys) come);

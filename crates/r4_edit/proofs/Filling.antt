@@ -1,5 +1,6 @@
 -- A node that is filled with the items of a list, one after the other.
-use Rattle.std.proofs.Common.{◌≡◌, ℕ, zero, suc, ◌+◌, ◌<◌, ◌≤◌, true, List, [], ◌∷◌, ◌++◌, length, take, refl, sym, ap, subst, ◌∙◌, arith}
+use Rattle.std.proofs.Common.{◌≡◌, ℕ, zero, suc, ◌+◌, ◌<◌, ◌≤◌, true, List, [], ◌∷◌, ◌++◌, length, take, refl, sym, ap, subst}
+use Rattle.std.proofs.Common.{◌∙◌, arith}
 use Rattle.std.specs.Prelude.{slice_get, Some}
 use Rattle.std.proofs.lemmas.List.Sums.{sum_by-append}
 use Rattle.std.proofs.lemmas.Option.{slice_get_within, same_Some}
@@ -17,7 +18,8 @@ module _ {A : Type 0} where
   take_more zero [] x e = absurd cc
   take_more (suc n) [] x e = absurd cc
   take_more zero (y ∷ ys) x e = ap (λ z. z ∷ []) (same_Some y x e)
-  take_more (suc n) (y ∷ ys) x e = let step : suc n + 1 ≡ suc (n + 1) = omega arith in ap (λ k. take k (y ∷ ys)) step ∙ ap (λ zs. y ∷ zs) (take_more n ys x e)
+  take_more (suc n) (y ∷ ys) x e = let step : suc n + 1 ≡ suc (n + 1) = omega arith in
+      ap (λ k. take k (y ∷ ys)) step ∙ ap (λ zs. y ∷ zs) (take_more n ys x e)
 
   pub in_take : (n : ℕ) (xs : List A) (k : ℕ) (x : A) → slice_get (take n xs) k ≡ Some x → slice_get xs k ≡ Some x
   in_take zero xs k x e = absurd cc
@@ -41,7 +43,8 @@ weight_cons x xs = let h = sum_by-append weight_of (x ∷ []) xs in let one = we
 pub weight_take : (n : ℕ) (items : List Item) → weight (take n items) ≤ weight items
 weight_take zero items = omega arith
 weight_take (suc n) [] = omega arith
-weight_take (suc n) (x ∷ xs) = let h = weight_take n xs in let a = weight_cons x (take n xs) in let b = weight_cons x xs in omega (arith, h, a, b)
+weight_take (suc n) (x ∷ xs) = let h = weight_take n xs in let a = weight_cons x (take n xs) in let b = weight_cons x xs in
+    omega (arith, h, a, b)
 
 -- ---- filling
 
@@ -58,7 +61,8 @@ begun level mkfs_id b fresh = record {
   items_are = fresh.items;
 }
 
-module _ (part : List Item) (level n : ℕ) (b : List ℕ) (it : Item) (rise : KeysRise part) (fit : PluginsFit level part) (at : slice_get part n ≡ Some it) (filled : IsNodeOf level (take n part) b) where
+module _ (part : List Item) (level n : ℕ) (b : List ℕ) (it : Item) (rise : KeysRise part) (fit : PluginsFit level part)
+    (at : slice_get part n ≡ Some it) (filled : IsNodeOf level (take n part) b) where
   pub within : n < length part
   within = slice_get_within part n it at
 
@@ -74,14 +78,16 @@ module _ (part : List Item) (level n : ℕ) (b : List ℕ) (it : Item) (rise : K
   pub above : GoesBetween (items_of b) n it.key
   above = record {
     above = λ k x next is. last_below k x next (in_take n part k x (subst (λ xs. slice_get xs k ≡ Some x) filled.items_are is));
-    below = λ y is. let past = slice_get_within (items_of b) n y is in let c = counted in let long = length-items_of b in absurd (omega (arith, past, c, long));
+    below = λ y is. let past = slice_get_within (items_of b) n y is in let c = counted in let long = length-items_of b in
+        absurd (omega (arith, past, c, long));
   }
 
   pub room : weight (take (n + 1) part) ≤ 4068 → length it.body + 38 ≤ room_of b
   room few =
       let sum : room_of b + weight (items_of b) ≡ 4068 = space b filled.node.laid in
       let same : weight (items_of b) ≡ weight (take n part) = ap weight filled.items_are in
-      let more : weight (take (n + 1) part) ≡ weight (take n part) + weight (it ∷ []) = ap weight (take_more n part it at) ∙ sum_by-append weight_of (take n part) (it ∷ []) in
+      let more : weight (take (n + 1) part) ≡ weight (take n part) + weight (it ∷ []) = ap weight (take_more n part it at)
+      ∙ sum_by-append weight_of (take n part) (it ∷ []) in
       let one = weight_one it in
       omega (arith, sum, same, more, one, few)
 

@@ -44,14 +44,20 @@ pub root_keys : (t : Store Value) (r : Root) (c : CellSeen) (fresh : Fresh) → 
 root_keys t r c fresh h =
     let part = h.path.part in
     let at = h.path.ascends.0 in
-    let same : node_of c ≡ part.root_node = same_Some (node_of c) part.root_node (sym (subst (λ i. t i ≡ Some (node_of c)) h.root at) ∙ part.root_is) in
-    record { lo = sym (lo_is c) ∙ (ap (λ (d : Node Value). d.lo) same ∙ part.root_lo); hi = sym (hi_is c) ∙ (ap (λ (d : Node Value). d.hi) same ∙ part.root_hi) }
+    let same : node_of c ≡ part.root_node = same_Some (node_of c) part.root_node
+    (sym (subst (λ i. t i ≡ Some (node_of c)) h.root at) ∙ part.root_is) in
+    record {
+      lo = sym (lo_is c) ∙ (ap (λ (d : Node Value). d.lo) same ∙ part.root_lo);
+      hi = sym (hi_is c)
+          ∙ (ap (λ (d : Node Value). d.hi) same ∙ part.root_hi);
+    }
 
 -- the old root in its own place
 abbrev pub grown : CellSeen → Step
 grown c = record { old = c; new = c ∷ [] }
 
-module _ (t : Store Value) (r : Root) (c over : CellSeen) (fresh : Fresh) (is : IsRootIn t r c fresh) (more : fresh.next < fresh.end) (points : IsPointingTo (c ∷ []) (c.level + 1) fresh.next over) where
+module _ (t : Store Value) (r : Root) (c over : CellSeen) (fresh : Fresh) (is : IsRootIn t r c fresh)
+    (more : fresh.next < fresh.end) (points : IsPointingTo (c ∷ []) (c.level + 1) fresh.next over) where
   node : IsNode (node_of c)
   node = is.path.part.nodes c.id (node_of c) is.path.ascends.0
 
@@ -66,8 +72,15 @@ module _ (t : Store Value) (r : Root) (c over : CellSeen) (fresh : Fresh) (is : 
       record {
         first = refl;
         ranges = (refl, refl, nonempty, refl);
-        names = λ n. ((λ h. let (x, member, named) = h in subst (λ y. Contains (node_of y).names n) (only c x member) named), (λ h. (c, here c [], h)));
-        spans = λ v. ((λ h. let (x, member, spanned) = h in subst (λ y. Contains (node_of y).spans v) (only c x member) spanned), (λ h. (c, here c [], h)));
+        names = λ n. (
+          (λ h. let (x, member, named) = h in subst (λ y. Contains (node_of y).names n) (only c x member) named),
+          (λ h. (c, here c [], h)),
+        );
+        spans = λ v. (
+          (λ h. let (x, member, spanned) = h in
+              subst (λ y. Contains (node_of y).spans v) (only c x member) spanned),
+          (λ h. (c, here c [], h)),
+        );
       },
       tt,
     );
@@ -76,7 +89,10 @@ module _ (t : Store Value) (r : Root) (c over : CellSeen) (fresh : Fresh) (is : 
       level = let l = points.level_is in omega (arith, l);
       lo = points.lo;
       hi = points.hi;
-      names = λ n. ((λ h. names_map (c ∷ []) n (subst (λ ns. Contains ns n) points.names h)), (λ h. subst (λ ns. Contains ns n) (sym points.names) (map_names (c ∷ []) n h)));
+      names = λ n. (
+        (λ h. names_map (c ∷ []) n (subst (λ ns. Contains ns n) points.names h)),
+        (λ h. subst (λ ns. Contains ns n) (sym points.names) (map_names (c ∷ []) n h)),
+      );
       spans = λ v h. none v (subst (λ vs. Contains vs v) points.spans h);
     };
     nodes = λ x member. elim (cases c x (over ∷ []) member) [
@@ -84,20 +100,31 @@ module _ (t : Store Value) (r : Root) (c over : CellSeen) (fresh : Fresh) (is : 
       | inr last ↦ subst (λ y. IsNode (node_of y)) (sym (only over x last)) points.node
     ];
     counts = (points.number, tt);
-    free = record { cells = λ i low high. is.path.free.cells i low (omega (arith, high, more)); names = λ i low high. is.path.free.names i low (omega (arith, high, more)) };
+    free = record {
+      cells = λ i low high. is.path.free.cells i low
+          (omega (arith, high, more));
+      names = λ i low high. is.path.free.names i low (omega (arith, high, more));
+    };
   }
 
   pub grown_change : (d : Change) → HasNewRoot c over d → IsChange d.old d.new d.root
-  grown_change d h = subst (λ x. IsChange x d.new d.root) (sym h.old) (subst (λ x. IsChange (c ∷ []) x d.root) (sym h.new) (subst (λ x. IsChange (c ∷ []) (c ∷ (over ∷ [])) x) (sym h.pair) (change_is t r fresh.next (grown c ∷ []) (Some over) growth)))
+  grown_change d h = subst (λ x. IsChange x d.new d.root) (sym h.old)
+      (subst (λ x. IsChange (c ∷ []) x d.root) (sym h.new)
+      (subst (λ x. IsChange (c ∷ []) (c ∷ (over ∷ [])) x) (sym h.pair)
+      (change_is t r fresh.next (grown c ∷ []) (Some over) growth)))
 
-  as_patch : (d : Change) → HasNewRoot c over d → patch_of (c ∷ []) (c ∷ (over ∷ [])) (root_pair (Some over)) ≡ patch_of_change d
+  as_patch : (d : Change) → HasNewRoot c over d → patch_of (c ∷ []) (c ∷ (over ∷ [])) (root_pair (Some over))
+      ≡ patch_of_change d
   as_patch d h = λ i. patch_of (sym h.old i) (sym h.new i) (sym h.pair i)
 
   pub grown_meets : (d : Change) → HasNewRoot c over d → MeetsPart (patch_of_change d) t r
   grown_meets d h = subst (λ p. MeetsPart p t r) (as_patch d h) (part_meets t r fresh.next (grown c ∷ []) (Some over) growth)
 
-pub grows_of : (c over : CellSeen) (next : ℕ) (d : Change) → IsPointingTo (c ∷ []) (c.level + 1) next over → HasNewRoot c over d → Grows c next d
+pub grows_of : (c over : CellSeen) (next : ℕ) (d : Change) → IsPointingTo (c ∷ []) (c.level + 1) next over
+    → HasNewRoot c over d → Grows c next d
 grows_of c over next d points h = record { over = over; cells = h; number = points.number; level = points.level_is; names = points.names; units = points.units }
 
-pub points_at : (c d over : CellSeen) (l next : ℕ) → d ≡ c → l ≡ c.level → IsPointingTo (d ∷ []) (l + 1) next over → IsPointingTo (c ∷ []) (c.level + 1) next over
-points_at c d over l next same level points = subst (λ x. IsPointingTo (x ∷ []) (c.level + 1) next over) same (subst (λ k. IsPointingTo (d ∷ []) (k + 1) next over) level points)
+pub points_at : (c d over : CellSeen) (l next : ℕ) → d ≡ c → l ≡ c.level → IsPointingTo (d ∷ []) (l + 1) next over
+    → IsPointingTo (c ∷ []) (c.level + 1) next over
+points_at c d over l next same level points = subst (λ x. IsPointingTo (x ∷ []) (c.level + 1) next over) same
+    (subst (λ k. IsPointingTo (d ∷ []) (k + 1) next over) level points)

@@ -1,5 +1,6 @@
 -- Items that may stand in a cell, one after the other, in memory on a volume of any size.
-use Rattle.std.proofs.Common.{◌≡◌, ℕ, zero, suc, ◌+◌, ◌^◌, ◌<◌, ◌≤◌, Bool, true, false, not, ◌&&◌, ◌||◌, List, [], ◌∷◌, length, cond, refl, sym, ap, ◌∙◌, arith}
+use Rattle.std.proofs.Common.{◌≡◌, ℕ, zero, suc, ◌+◌, ◌^◌, ◌<◌, ◌≤◌, Bool, true, false, not, ◌&&◌, ◌||◌, List, [], ◌∷◌, length}
+use Rattle.std.proofs.Common.{cond, refl, sym, ap, ◌∙◌, arith}
 use Rattle.std.specs.Prelude.{Some, None, ◌==◌, nat_le, nat_lt, if◌then◌else◌}
 use Rattle.std.proofs.lemmas.Bool.{leb-true, ltb-true, le-leb, lt-ltb, eq-eqb}
 use Rattle.std.proofs.lemmas.Bool.Decides.{nat_tests}
@@ -35,17 +36,22 @@ both false b p q = absurd cc
 
 range_good : (level lo hi next i : ℕ) (it : Item) → Lies level lo hi next i it → range_is_good level lo hi next i it ≡ true
 range_good level lo hi next i it l =
-    both _ _ (both _ _ (both _ _ (both _ _ (both _ _ (le-leb lo (rank it.key) l.from) (lt-ltb (rank it.key) hi l.below)) l.fits) (le-leb (item_end it) hi l.end)) (le-leb (item_end it) next l.before)) l.first
+    both _ _ (both _ _ (both _ _ (both _ _
+    (both _ _ (le-leb lo (rank it.key) l.from) (lt-ltb (rank it.key) hi l.below)) l.fits) (le-leb (item_end it) hi l.end))
+    (le-leb (item_end it) next l.before)) l.first
 
-pub good_cons : (level lo hi i : ℕ) (it : Item) (items : List Item) → Lies level lo hi (next_key hi items) i it → Good level lo hi (i + 1) items → Good level lo hi i (it ∷ items)
+pub good_cons : (level lo hi i : ℕ) (it : Item) (items : List Item) → Lies level lo hi (next_key hi items) i it
+    → Good level lo hi (i + 1) items → Good level lo hi i (it ∷ items)
 unfolding items_in_fault
-good_cons level lo hi i it items l rest = let good = range_good level lo hi (next_key hi items) i it l in let body = l.body in rw (body, good) rest
+good_cons level lo hi i it items l rest = let good = range_good level lo hi (next_key hi items) i it l in let body = l.body in
+    rw (body, good) rest
 
 pub good_nil : (level lo hi i : ℕ) → Good level lo hi i []
 unfolding items_in_fault
 good_nil level lo hi i = refl
 
-pub good_parts : (level lo hi i : ℕ) (it : Item) (items : List Item) → Good level lo hi i (it ∷ items) → Lies level lo hi (next_key hi items) i it × Good level lo hi (i + 1) items
+pub good_parts : (level lo hi i : ℕ) (it : Item) (items : List Item) → Good level lo hi i (it ∷ items)
+    → Lies level lo hi (next_key hi items) i it × Good level lo hi (i + 1) items
 unfolding items_in_fault
 good_parts level lo hi i it items h =
     let outer = or_none (item_body_fault true (2 ^ 64) it) _ h in
@@ -63,14 +69,17 @@ good_parts level lo hi i it items h =
 no_fault : (b : List ℕ) → (2 ≤ level_of b → 0 < count_of b) → is_empty_branch b ≡ false
 no_fault b some = grind (arith, nat_tests, some)
 
-pub sound : (level lo hi : ℕ) (items : List Item) (b : List ℕ) → 1 ≤ level → IsNodeOf level items b → (2 ≤ level → 0 < length items) → Good level lo hi 0 items → cell_fault true (2 ^ 64) level lo hi b ≡ None
+pub sound : (level lo hi : ℕ) (items : List Item) (b : List ℕ) → 1 ≤ level → IsNodeOf level items b
+    → (2 ≤ level → 0 < length items) → Good level lo hi 0 items → cell_fault true (2 ^ 64) level lo hi b ≡ None
 unfolding cell_fault
 sound zero lo hi items b one node some good = absurd (omega (arith, one))
 sound (suc l) lo hi items b one node some good =
     let level = node.level_is in
     let long : length items ≡ count_of b = sym (ap length node.items_are) ∙ length-items_of b in
-    let full : is_empty_branch b ≡ false = no_fault b (λ two. let h = some (omega (arith, two, level)) in omega (arith, h, long)) in
+    let full : is_empty_branch b ≡ false = no_fault b
+    (λ two. let h = some (omega (arith, two, level)) in omega (arith, h, long)) in
     let none : node_fault b ≡ None = accepted b node.node ∙ ap (λ (e : Bool). cond e (Some Empty) None) full in
     let same : (level_of b == suc l) ≡ true = eq-eqb _ _ level in
-    let lie : items_in_fault true (2 ^ 64) (suc l) lo hi 0 (items_of b) ≡ None = ap (λ (xs : List Item). items_in_fault true (2 ^ 64) (suc l) lo hi 0 xs) node.items_are ∙ good in
+    let lie : items_in_fault true (2 ^ 64) (suc l) lo hi 0 (items_of b)
+    ≡ None = ap (λ (xs : List Item). items_in_fault true (2 ^ 64) (suc l) lo hi 0 xs) node.items_are ∙ good in
     rw (none, same) lie

@@ -1,5 +1,6 @@
 -- Members of lists, and cells by their names.
-use Rattle.std.proofs.Common.{◌≡◌, ◌≢◌, ◌⊎◌, inl, inr, ℕ, zero, suc, ◌<◌, Bool, true, false, List, [], ◌∷◌, ◌++◌, length, refl, sym, subst, ◌∙◌, arith}
+use Rattle.std.proofs.Common.{◌≡◌, ◌≢◌, ◌⊎◌, inl, inr, ℕ, zero, suc, ◌<◌, Bool, true, false, List, [], ◌∷◌, ◌++◌, length, refl}
+use Rattle.std.proofs.Common.{sym, subst, ◌∙◌, arith}
 use Rattle.std.specs.Prelude.{Contains, Option, None, Some, ◌==◌, if◌then◌else◌}
 use Rattle.std.proofs.lemmas.Bool.{cases_eq, eq-eqb, ne_eqb}
 use Rattle.std.proofs.lemmas.List.Kept.{AllPairs-cons}
@@ -63,7 +64,8 @@ at_index (x ∷ xs) (suc k) d l = later x (slice_index_or xs k d) xs (at_index x
 
 pub have_names : (cells : List CellSeen) → Distinct cells → HaveNames cells
 have_names [] h = λ i j d less l. absurd (omega (arith, l))
-have_names (x ∷ xs) (first, rest) = AllPairs-cons (λ (c d : CellSeen). c.id ≢ d.id) x xs (λ k d l. first (slice_index_or xs k d) (at_index xs k d l)) (have_names xs rest)
+have_names (x ∷ xs) (first, rest) = AllPairs-cons (λ (c d : CellSeen). c.id ≢ d.id) x xs
+    (λ k d l. first (slice_index_or xs k d) (at_index xs k d l)) (have_names xs rest)
 
 pub there : (cells : List CellSeen) (x : CellSeen) → Distinct cells → Contains cells x → by_name cells x.id ≡ Some (node_of x)
 there [] x h at = absurd (none x at)
@@ -76,7 +78,8 @@ pub absent : (cells : List CellSeen) (i : ℕ) → ((x : CellSeen) → Contains 
 absent [] i h = refl
 absent (y ∷ ys) i h = later_named y ys i (h y (here y ys)) ∙ absent ys i (λ x at. h x (later y x ys at))
 
-pub distinct_append : (xs ys : List CellSeen) → Distinct xs → Distinct ys → ((x y : CellSeen) → Contains xs x → Contains ys y → x.id ≢ y.id) → Distinct (xs ++ ys)
+pub distinct_append : (xs ys : List CellSeen) → Distinct xs → Distinct ys
+    → ((x y : CellSeen) → Contains xs x → Contains ys y → x.id ≢ y.id) → Distinct (xs ++ ys)
 distinct_append [] ys dx dy apart = dy
 distinct_append (x ∷ xs) ys (first, rest) dy apart = (
   λ y at. elim (append_cases xs ys y at) [

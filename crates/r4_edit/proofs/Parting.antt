@@ -1,13 +1,12 @@
 -- A node parted in two, and the change that climbs from there.
-use Rattle.std.proofs.Common.{◌≡◌, inl, inr, ℕ, zero, suc, ◌+◌, ◌^◌, ◌<◌, ◌≤◌, true, List, [], length, refl, sym, ap, subst, ◌∙◌, arith}
+use Rattle.std.proofs.Common.{◌≡◌, ℕ, zero, suc, ◌+◌, ◌^◌, ◌<◌, ◌≤◌, true, List, [], length, refl, sym, ap, subst, ◌∙◌, arith}
 use Rattle.std.specs.Prelude.{All, Contains, Some, None, slice_get}
 use Rattle.r4_base.specs.Cell.{cell_fault, names_in, spans_in, units_in}
 use Rattle.r4_base.specs.Key.{rank}
 use Rattle.r4_base.specs.Node.{KeysRise, PluginsFit, items_of, level_of}
-use Rattle.r4_base.specs.Tree.{IsNode as IsTreeNode, Name, Span}
+use Rattle.r4_base.specs.Tree.{IsNode as IsTreeNode}
 use Rattle.r4_cell.specs.Seen.{CellSeen, node_of}
 use Rattle.r4_cell.specs.declared.change.Fresh.{Fresh}
-use Rattle.r4_cell.proofs.Nodes.{cell_node}
 use Rattle.r4_cell.proofs.NodesAt.{IsNodeAt, plugins_at}
 use Rattle.r4_node40.specs.Laid.{IsNode}
 use Rattle.r4_node40.specs.View.{view_block, view_items}
@@ -23,27 +22,16 @@ use Rattle.r4_edit.proofs.Cuts.{both_parts}
 use Rattle.r4_edit.proofs.Finding.{bodied, node_weighs, weighs_length}
 use Rattle.r4_edit.proofs.Lying.{Good}
 use Rattle.r4_edit.proofs.Parenting.{alike, in_naming, in_spanning, naming_in, sound_node, spanning_in}
-use Rattle.r4_edit.proofs.Rising.{follow_within, hi_is, level_is, lo_is}
+use Rattle.r4_edit.proofs.NewNodes.{leaf_step as step_of_leaves}
+use Rattle.r4_edit.proofs.Rising.{hi_is, lo_is}
 use Rattle.r4_edit.proofs.Stepping.{bodied_row}
 use Rattle.r4_edit.proofs.CellNodes.{names_are, spans_are}
 
--- ---- a new cell is a node by itself
-
-pub new_node : (o x : CellSeen) (cells : List CellSeen) → IsTreeNode (node_of o) → 1 ≤ o.level → Follow o.level (rank o.lo) (rank o.hi) cells → IsSound x → Contains cells x → IsTreeNode (node_of x)
-new_node o x cells node one follow sound member =
-    let w = follow_within o.level (rank o.lo) (rank o.hi) cells x follow member in
-    let level = w.level_as in
-    let from = w.from in
-    let to = w.to in
-    let low = node.from_least in
-    let high = node.to_top in
-    let lo = lo_is o in
-    let hi = hi_is o in
-    cell_node true (2 ^ 64) x.level (rank x.lo) (rank x.hi) x.block sound.whole (omega (arith, level, one)) (omega (arith, from, low, lo)) w.nonempty (omega (arith, to, high, hi)) sound.accepted
-
 -- ---- the row of a node as it is
 
-module _ (c : CellSeen) (w : Row) (s : IsSound c) (one : 1 ≤ c.level) (range : rank c.lo < rank c.hi) (view : (view_block w.node).now ≡ c.block) (at_zero : w.at ≡ 0) (none_come : row_more w ≡ []) (two : 2 ≤ length (items_of c.block)) where
+module _ (c : CellSeen) (w : Row) (s : IsSound c) (one : 1 ≤ c.level) (range : rank c.lo < rank c.hi)
+    (view : (view_block w.node).now ≡ c.block) (at_zero : w.at ≡ 0) (none_come : row_more w ≡ [])
+    (two : 2 ≤ length (items_of c.block)) where
   at : IsNodeAt true (2 ^ 64) c.level (rank c.lo) (rank c.hi) c.block
   at = sound_node c one s
 
@@ -69,16 +57,20 @@ module _ (c : CellSeen) (w : Row) (s : IsSound c) (one : 1 ≤ c.level) (range :
   own_row = record {
     row = record {
       within = within;
-      few = let a = ap length items in let d = weighs_length (items_of c.block) in let m = node_weighs c.block node.laid in let n = ap length none_come in omega (arith, a, d, m, n);
+      few = let a = ap length items in let d = weighs_length (items_of c.block) in let m = node_weighs c.block node.laid in
+          let n = ap length none_come in omega (arith, a, d, m, n);
       level = let head = node.head.level in let a = ap level_of view in (omega (arith, head, a), omega (arith, head, a));
       rise = subst KeysRise (sym same_row) node.keys;
       fit = subst (PluginsFit (row_level w)) (sym same_row) (subst (λ l. PluginsFit l (items_of c.block)) (sym level_same) fit);
-      bodies = bodied_row (view_items w.node) w.at (row_more w) (λ k x e. bodied c.block node.laid k x (subst (λ xs. slice_get xs k ≡ Some x) items e));
+      bodies = bodied_row (view_items w.node) w.at (row_more w)
+          (λ k x e. bodied c.block node.laid k x (subst (λ xs. slice_get xs k ≡ Some x) items e));
     };
     narrow = record {
       fits = let m = node_weighs c.block node.laid in let a = ap weight items in omega (arith, m, a);
       few = let n = ap length none_come in omega (arith, n);
-      alike = λ high. subst (All (λ x. weight_of x ≡ 46)) (sym same_row) (alike c.level (rank c.lo) (rank c.hi) 0 (items_of c.block) (let l = level_same in omega (arith, high, l)) fit at.items);
+      alike = λ high. subst (All (λ x. weight_of x ≡ 46)) (sym same_row)
+          (alike c.level (rank c.lo) (rank c.hi) 0 (items_of c.block)
+          (let l = level_same in omega (arith, high, l)) fit at.items);
     };
     level = sym level_same;
     branch = one;
@@ -92,40 +84,35 @@ module _ (c : CellSeen) (w : Row) (s : IsSound c) (one : 1 ≤ c.level) (range :
 
   -- ---- the step
 
-  module _ (next : ℕ) (cells : List CellSeen) (has : HasItems c (row_items w) next cells) (tree_node : IsTreeNode (node_of c)) where
+  module _ (next : ℕ) (cells : List CellSeen) (has : HasItems c (row_items w) next cells)
+      (tree_node : IsTreeNode (node_of c)) where
     all_items : items_of_cells cells ≡ items_of c.block
     all_items = has.items_are ∙ same_row
 
-    no_leaf_names : (x : CellSeen) → IsTreeNode (node_of x) → x.level ≡ 1 → (n : Name) → Contains (node_of x).names n → ⊥
-    no_leaf_names x is level n h = let l = level_is x in elim (is.below n h) [ inl b ↦ omega (arith, b, l, level) | inr b ↦ omega (arith, b, l, level) ]
-
-    no_leaf_spans : (x : CellSeen) → IsTreeNode (node_of x) → x.level ≡ 1 → (v : Span) → Contains (node_of x).spans v → ⊥
-    no_leaf_spans x is level v h = let l = level_is x in let t = is.spans_in_twigs v h in omega (arith, t, l, level)
-
-    node_in : (x : CellSeen) → Contains cells x → IsTreeNode (node_of x)
-    node_in x member = new_node c x cells tree_node one has.ranges (has.sound x member) member
-
-    level_in : (x : CellSeen) → Contains cells x → x.level ≡ c.level
-    level_in x member = (follow_within c.level (rank c.lo) (rank c.hi) cells x has.ranges member).level_as
-
     leaf_step : c.level ≡ 1 → IsStep None (record { old = c; new = cells })
-    leaf_step leaf = record {
-      first = has.first;
-      ranges = has.ranges;
-      names = λ n. ((λ h. let (x, member, named) = h in absurd (no_leaf_names x (node_in x member) (level_in x member ∙ leaf) n named)), (λ h. absurd (no_leaf_names c tree_node leaf n h)));
-      spans = λ v. ((λ h. let (x, member, spanned) = h in absurd (no_leaf_spans x (node_in x member) (level_in x member ∙ leaf) v spanned)), (λ h. absurd (no_leaf_spans c tree_node leaf v h)));
-    }
+    leaf_step leaf = step_of_leaves c cells tree_node leaf has.ranges has.sound has.first
 
     branch_step : (l : ℕ) → 1 ≤ l → c.level ≡ suc l → IsStep None (record { old = c; new = cells })
     branch_step l low up =
-        let follow : Follow (suc l) (rank c.lo) (rank c.hi) cells = subst (λ k. Follow k (rank c.lo) (rank c.hi) cells) up has.ranges in
-        let names : (node_of c).names ≡ names_in (suc l) (rank c.hi) (items_of_cells cells) = names_are c l up ∙ ap (names_in (suc l) (rank c.hi)) (sym all_items) in
-        let spans : (node_of c).spans ≡ spans_in (rank c.hi) (items_of_cells cells) = spans_are c l up ∙ ap (spans_in (rank c.hi)) (sym all_items) in
+        let follow : Follow (suc l) (rank c.lo) (rank c.hi) cells = subst
+        (λ k. Follow k (rank c.lo) (rank c.hi) cells) up has.ranges in
+        let names : (node_of c).names ≡ names_in (suc l) (rank c.hi) (items_of_cells cells) = names_are c l up
+        ∙ ap (names_in (suc l) (rank c.hi)) (sym all_items) in
+        let spans : (node_of c).spans ≡ spans_in (rank c.hi) (items_of_cells cells) = spans_are c l up
+        ∙ ap (spans_in (rank c.hi)) (sym all_items) in
         record {
           first = has.first;
           ranges = has.ranges;
-          names = λ n. ((λ h. subst (λ ns. Contains ns n) (sym names) (naming_in l low (rank c.lo) (rank c.hi) cells follow has.sound n h)), (λ h. in_naming l low (rank c.lo) (rank c.hi) cells follow has.sound n (subst (λ ns. Contains ns n) names h)));
-          spans = λ v. ((λ h. subst (λ vs. Contains vs v) (sym spans) (spanning_in l low (rank c.lo) (rank c.hi) cells follow has.sound v h)), (λ h. in_spanning l low (rank c.lo) (rank c.hi) cells follow has.sound v (subst (λ vs. Contains vs v) spans h)));
+          names = λ n. (
+            (λ h. subst (λ ns. Contains ns n) (sym names)
+                (naming_in l low (rank c.lo) (rank c.hi) cells follow has.sound n h)),
+            (λ h. in_naming l low (rank c.lo) (rank c.hi) cells follow has.sound n (subst (λ ns. Contains ns n) names h)),
+          );
+          spans = λ v. (
+            (λ h. subst (λ vs. Contains vs v) (sym spans)
+                (spanning_in l low (rank c.lo) (rank c.hi) cells follow has.sound v h)),
+            (λ h. in_spanning l low (rank c.lo) (rank c.hi) cells follow has.sound v (subst (λ vs. Contains vs v) spans h)),
+          );
         }
 
     pub own_step : IsStep None (record { old = c; new = cells })
@@ -137,7 +124,8 @@ module _ (c : CellSeen) (w : Row) (s : IsSound c) (one : 1 ≤ c.level) (range :
         by_level (suc (suc l)) e some = branch_step (suc l) (omega arith) e
 
     pub own_units : units_of_cells cells ≡ (node_of c).units
-    own_units = units_parts c.level (rank c.lo) (rank c.hi) cells one has.ranges ∙ (ap units_in all_items ∙ sym (units_of_items c one))
+    own_units = units_parts c.level (rank c.lo) (rank c.hi) cells one has.ranges
+        ∙ (ap units_in all_items ∙ sym (units_of_items c one))
 
 -- ---- as the code has it: the cell was lent
 
@@ -164,19 +152,23 @@ module _ (c p q : CellSeen) (w : Row) (lent : Lent c p q w) where
   wide = let n = lent.tree_node.nonempty in let lo = lo_is c in let hi = hi_is c in omega (arith, n, lo, hi)
 
   pub lent_row : IsRowOf q w
-  lent_row = subst (λ x. IsRowOf x w) (sym lent.q_is) (own_row c w sound_cell lent.low wide view_cell lent.at_zero lent.none_come lent.two)
+  lent_row = subst (λ x. IsRowOf x w) (sym lent.q_is)
+      (own_row c w sound_cell lent.low wide view_cell lent.at_zero lent.none_come lent.two)
 
   pub lent_two : 2 ≤ length (row_items w)
   lent_two = own_two c w sound_cell lent.low wide view_cell lent.at_zero lent.none_come lent.two
 
-  pub lent_parted : (f g : Fresh) (old : CellSeen) (cells : List CellSeen) → old ≡ c → HasItems q (row_items w) f.next cells → length cells ≡ 2 → g ≡ record f { next = f.next + 1 } → IsParted c f g (record { old = old; new = cells })
+  pub lent_parted : (f g : Fresh) (old : CellSeen) (cells : List CellSeen) → old ≡ c → HasItems q (row_items w) f.next cells
+      → length cells ≡ 2 → g ≡ record f { next = f.next + 1 } → IsParted c f g (record { old = old; new = cells })
   lent_parted f g old cells same has two took =
       let mine : HasItems c (row_items w) f.next cells = subst (λ x. HasItems x (row_items w) f.next cells) lent.q_is has in
       record {
         old = same;
-        has = subst (λ items. HasItems c items f.next cells) (same_row c w sound_cell lent.low wide view_cell lent.at_zero lent.none_come lent.two) mine;
+        has = subst (λ items. HasItems c items f.next cells)
+            (same_row c w sound_cell lent.low wide view_cell lent.at_zero lent.none_come lent.two) mine;
         two = two;
         took = took;
-        step = subst (λ x. IsStep None (record { old = x; new = cells })) (sym same) (own_step c w sound_cell lent.low wide view_cell lent.at_zero lent.none_come lent.two f.next cells mine lent.tree_node);
+        step = subst (λ x. IsStep None (record { old = x; new = cells })) (sym same)
+            (own_step c w sound_cell lent.low wide view_cell lent.at_zero lent.none_come lent.two f.next cells mine lent.tree_node);
         units = own_units c w sound_cell lent.low wide view_cell lent.at_zero lent.none_come lent.two f.next cells mine lent.tree_node;
       }

@@ -1,5 +1,6 @@
 -- The cells that have the items of a row.
-use Rattle.std.proofs.Common.{◌≡◌, ℕ, zero, suc, ◌+◌, ◌^◌, ◌<◌, ◌≤◌, true, List, [], ◌∷◌, ◌++◌, length, take, drop, refl, sym, ap, subst, ◌∙◌, arith, inl, inr}
+use Rattle.std.proofs.Common.{◌≡◌, ℕ, zero, suc, ◌+◌, ◌^◌, ◌<◌, ◌≤◌, true, List, [], ◌∷◌, ◌++◌, length, take, drop, refl, sym}
+use Rattle.std.proofs.Common.{ap, subst, ◌∙◌, arith, inl, inr}
 use Rattle.std.specs.Prelude.{None, Some, slice_get, IfSome}
 use Rattle.std.proofs.lemmas.List.{append-nil, length-drop}
 use Rattle.std.proofs.lemmas.Option.{same_Some}
@@ -22,7 +23,8 @@ use Rattle.r4_edit.proofs.Rows.{Between, between_left, between_order, between_ri
 drop_at : (xs : List Item) (n : ℕ) (y : Item) → slice_get xs n ≡ Some y → drop n xs ≡ y ∷ drop (n + 1) xs
 drop_at [] n y e = absurd cc
 drop_at (x ∷ xs) zero y e = ap (λ z. z ∷ xs) (same_Some x y e)
-drop_at (x ∷ xs) (suc n) y e = drop_at xs n y e ∙ ap (λ k. y ∷ drop k (x ∷ xs)) (let step : suc (n + 1) ≡ suc n + 1 = omega arith in step)
+drop_at (x ∷ xs) (suc n) y e = drop_at xs n y e
+    ∙ ap (λ k. y ∷ drop k (x ∷ xs)) (let step : suc (n + 1) ≡ suc n + 1 = omega arith in step)
 
 some_item : (xs : List Item) (n : ℕ) → n < length xs → (y : Item) × (slice_get xs n ≡ Some y)
 some_item [] n lt = absurd (omega (arith, lt))
@@ -30,14 +32,17 @@ some_item (x ∷ xs) zero lt = (x, refl)
 some_item (x ∷ xs) (suc n) lt = some_item xs n (omega (arith, lt))
 
 -- one item fits into a node
-pub two_at_least : (xs : List Item) → ((k : ℕ) (x : Item) → slice_get xs k ≡ Some x → (1 ≤ length x.body) × (length x.body ≤ 4030)) → 4068 < weight xs → 2 ≤ length xs
+pub two_at_least : (xs : List Item)
+    → ((k : ℕ) (x : Item) → slice_get xs k ≡ Some x → (1 ≤ length x.body) × (length x.body ≤ 4030)) → 4068 < weight xs
+    → 2 ≤ length xs
 two_at_least [] bodies over = absurd (omega (arith, over))
 two_at_least (x ∷ []) bodies over = let b = bodies 0 x refl in let one = weight_one x in absurd (omega (arith, b, one, over))
 two_at_least (x ∷ (y ∷ xs)) bodies over = omega arith
 
 module _ (o : CellSeen) (w : Row) (is : IsRowOf o w) where
   pub between : Between (rank o.lo) (rank o.hi) (row_items w)
-  between = let range = is.range in rise_between o.level (rank o.lo) (rank o.hi) 0 (row_items w) (omega (arith, range)) is.row.rise is.good
+  between = let range = is.range in
+      rise_between o.level (rank o.lo) (rank o.hi) 0 (row_items w) (omega (arith, range)) is.row.rise is.good
 
   at_level : (items : List Item) (b : List ℕ) → IsNodeOf (row_level w) items b → IsNodeOf o.level items b
   at_level items b node = subst (λ l. IsNodeOf l items b) (sym is.level) node
@@ -45,16 +50,22 @@ module _ (o : CellSeen) (w : Row) (is : IsRowOf o w) where
   -- ---- one node
 
   pub whole_part : row_part w 0 (length (row_items w)) ≡ row_items w
-  whole_part = (cut_parts (row_items w) (length (row_items w)) (omega arith)).0 ∙ take_whole (row_items w) (length (row_items w)) (omega arith)
+  whole_part = (cut_parts (row_items w) (length (row_items w)) (omega arith)).0
+      ∙ take_whole (row_items w) (length (row_items w)) (omega arith)
 
-  pub one_sound : (level : ℕ) (lo hi : Key) (b : List ℕ) → level ≡ o.level → lo ≡ o.lo → hi ≡ o.hi → IsNodeOf (row_level w) (row_items w) b → cell_fault true (2 ^ 64) level (rank lo) (rank hi) b ≡ None
+  pub one_sound : (level : ℕ) (lo hi : Key) (b : List ℕ) → level ≡ o.level → lo ≡ o.lo → hi ≡ o.hi
+      → IsNodeOf (row_level w) (row_items w) b → cell_fault true (2 ^ 64) level (rank lo) (rank hi) b ≡ None
   one_sound level lo hi b el elo ehi node =
       let branch = is.branch in
       let some = is.some in
-      subst (λ l. cell_fault true (2 ^ 64) l (rank lo) (rank hi) b ≡ None) (sym el) (subst (λ k. cell_fault true (2 ^ 64) o.level (rank k) (rank hi) b ≡ None) (sym elo) (subst (λ k. cell_fault true (2 ^ 64) o.level (rank o.lo) (rank k) b ≡ None) (sym ehi)
-      (sound o.level (rank o.lo) (rank o.hi) (row_items w) b (omega (arith, branch)) (at_level (row_items w) b node) (λ two. omega (arith, some)) is.good)))
+      subst (λ l. cell_fault true (2 ^ 64) l (rank lo) (rank hi) b ≡ None) (sym el)
+      (subst (λ k. cell_fault true (2 ^ 64) o.level (rank k) (rank hi) b ≡ None) (sym elo)
+      (subst (λ k. cell_fault true (2 ^ 64) o.level (rank o.lo) (rank k) b ≡ None) (sym ehi)
+      (sound o.level (rank o.lo) (rank o.hi) (row_items w) b (omega (arith, branch)) (at_level (row_items w) b node)
+      (λ two. omega (arith, some)) is.good)))
 
-  pub one_has : (c : CellSeen) → c.id ≡ o.id → c.level ≡ o.level → c.lo ≡ o.lo → c.hi ≡ o.hi → IsNodeOf (row_level w) (row_items w) c.block → (next : ℕ) → HasItems o (row_items w) next (c ∷ [])
+  pub one_has : (c : CellSeen) → c.id ≡ o.id → c.level ≡ o.level → c.lo ≡ o.lo → c.hi ≡ o.hi
+      → IsNodeOf (row_level w) (row_items w) c.block → (next : ℕ) → HasItems o (row_items w) next (c ∷ [])
   one_has c id level lo hi node next =
       let range = is.range in
       let at = ap rank lo in
@@ -63,7 +74,8 @@ module _ (o : CellSeen) (w : Row) (is : IsRowOf o w) where
         ranges = (level, at, omega (arith, range, ap rank hi), ap rank hi);
         items_are = append-nil (items_of c.block) ∙ node.items_are;
         sound = λ x member. elim (cases c x [] member) [
-          | inl e ↦ subst IsSound (sym e) (record { whole = node.node.laid.whole; accepted = one_sound c.level c.lo c.hi c.block level lo hi node })
+          | inl e ↦ subst IsSound (sym e)
+              (record { whole = node.node.laid.whole; accepted = one_sound c.level c.lo c.hi c.block level lo hi node })
           | inr more ↦ absurd (none x more)
         ];
         fresh = tt;
@@ -71,7 +83,8 @@ module _ (o : CellSeen) (w : Row) (is : IsRowOf o w) where
 
   -- ---- two nodes
 
-  module _ (cut : ℕ) (key : Key) (some : 1 ≤ cut) (below : cut < length (row_items w)) (is_key : IfSome (slice_get (row_items w) cut) (λ it. key ≡ it.key)) where
+  module _ (cut : ℕ) (key : Key) (some : 1 ≤ cut) (below : cut < length (row_items w))
+      (is_key : IfSome (slice_get (row_items w) cut) (λ it. key ≡ it.key)) where
     y : Item
     y = (some_item (row_items w) cut below).0
 
@@ -109,25 +122,38 @@ module _ (o : CellSeen) (w : Row) (is : IsRowOf o w) where
 
     left_node : (b : List ℕ) → IsNodeOf (row_level w) (row_part w 0 cut) b → IsNodeOf o.level xs b
     unfolding xs
-    left_node b node = at_level (take cut (row_items w)) b (subst (λ items. IsNodeOf (row_level w) items b) (cut_parts (row_items w) cut (let lt = below in omega (arith, lt))).0 node)
+    left_node b node = at_level (take cut (row_items w)) b
+        (subst (λ items. IsNodeOf (row_level w) items b)
+        (cut_parts (row_items w) cut (let lt = below in omega (arith, lt))).0 node)
 
     right_node : (b : List ℕ) → IsNodeOf (row_level w) (row_part w cut (length (row_items w))) b → IsNodeOf o.level (y ∷ ys) b
     unfolding ys
-    right_node b node = at_level (y ∷ drop (cut + 1) (row_items w)) b (subst (λ items. IsNodeOf (row_level w) items b) ((cut_parts (row_items w) cut (let lt = below in omega (arith, lt))).1 ∙ drop_at (row_items w) cut y at) node)
+    right_node b node = at_level (y ∷ drop (cut + 1) (row_items w)) b
+        (subst (λ items. IsNodeOf (row_level w) items b)
+        ((cut_parts (row_items w) cut (let lt = below in omega (arith, lt))).1 ∙ drop_at (row_items w) cut y at) node)
 
-    pub left_sound : (level : ℕ) (lo : Key) (b : List ℕ) → level ≡ o.level → lo ≡ o.lo → IsNodeOf (row_level w) (row_part w 0 cut) b → cell_fault true (2 ^ 64) level (rank lo) (rank key) b ≡ None
+    pub left_sound : (level : ℕ) (lo : Key) (b : List ℕ) → level ≡ o.level → lo ≡ o.lo
+        → IsNodeOf (row_level w) (row_part w 0 cut) b → cell_fault true (2 ^ 64) level (rank lo) (rank key) b ≡ None
     left_sound level lo b el elo node =
         let branch = is.branch in
         let n = long in
         let one = some in
-        subst (λ l. cell_fault true (2 ^ 64) l (rank lo) (rank key) b ≡ None) (sym el) (subst (λ k. cell_fault true (2 ^ 64) o.level (rank k) (rank key) b ≡ None) (sym elo) (subst (λ k. cell_fault true (2 ^ 64) o.level (rank o.lo) (rank k) b ≡ None) (sym key_y)
-        (sound o.level (rank o.lo) (rank y.key) xs b (omega (arith, branch)) (left_node b node) (λ two. omega (arith, n, one)) (good_left o.level (rank o.lo) (rank o.hi) 0 xs y ys rising good))))
+        subst (λ l. cell_fault true (2 ^ 64) l (rank lo) (rank key) b ≡ None) (sym el)
+        (subst (λ k. cell_fault true (2 ^ 64) o.level (rank k) (rank key) b ≡ None) (sym elo)
+        (subst (λ k. cell_fault true (2 ^ 64) o.level (rank o.lo) (rank k) b ≡ None) (sym key_y)
+        (sound o.level (rank o.lo) (rank y.key) xs b (omega (arith, branch)) (left_node b node) (λ two. omega (arith, n, one))
+        (good_left o.level (rank o.lo) (rank o.hi) 0 xs y ys rising good))))
 
-    pub right_sound : (level : ℕ) (hi : Key) (b : List ℕ) → level ≡ o.level → hi ≡ o.hi → IsNodeOf (row_level w) (row_part w cut (length (row_items w))) b → cell_fault true (2 ^ 64) level (rank key) (rank hi) b ≡ None
+    pub right_sound : (level : ℕ) (hi : Key) (b : List ℕ) → level ≡ o.level → hi ≡ o.hi
+        → IsNodeOf (row_level w) (row_part w cut (length (row_items w))) b
+        → cell_fault true (2 ^ 64) level (rank key) (rank hi) b ≡ None
     right_sound level hi b el ehi node =
         let branch = is.branch in
-        subst (λ l. cell_fault true (2 ^ 64) l (rank key) (rank hi) b ≡ None) (sym el) (subst (λ k. cell_fault true (2 ^ 64) o.level (rank key) (rank k) b ≡ None) (sym ehi) (subst (λ k. cell_fault true (2 ^ 64) o.level (rank k) (rank o.hi) b ≡ None) (sym key_y)
-        (sound o.level (rank y.key) (rank o.hi) (y ∷ ys) b (omega (arith, branch)) (right_node b node) (λ two. omega arith) (good_right o.level (rank o.lo) (rank o.hi) 0 xs y ys rising good))))
+        subst (λ l. cell_fault true (2 ^ 64) l (rank key) (rank hi) b ≡ None) (sym el)
+        (subst (λ k. cell_fault true (2 ^ 64) o.level (rank key) (rank k) b ≡ None) (sym ehi)
+        (subst (λ k. cell_fault true (2 ^ 64) o.level (rank k) (rank o.hi) b ≡ None) (sym key_y)
+        (sound o.level (rank y.key) (rank o.hi) (y ∷ ys) b (omega (arith, branch)) (right_node b node) (λ two. omega arith)
+        (good_right o.level (rank o.lo) (rank o.hi) 0 xs y ys rising good))))
 
     low_below : rank o.lo < rank y.key
     low_below =
@@ -137,10 +163,14 @@ module _ (o : CellSeen) (w : Row) (is : IsRowOf o w) where
       where
         first_below : (zs : List Item) → Between (rank o.lo) (rank y.key) zs → 1 ≤ length zs → rank o.lo < rank y.key
         first_below [] h one = absurd (omega (arith, one))
-        first_below (z ∷ zs) h one = let low = h.0 in let rest = between_order (rank z.key + 1) (rank y.key) zs h.1 in omega (arith, low, rest)
+        first_below (z ∷ zs) h one = let low = h.0 in let rest = between_order (rank z.key + 1) (rank y.key) zs h.1 in
+            omega (arith, low, rest)
 
-    pub two_has : (next : ℕ) (a b : CellSeen) → a.id ≡ o.id → b.id ≡ next → a.level ≡ o.level → b.level ≡ o.level → a.lo ≡ o.lo → a.hi ≡ key → b.lo ≡ key → b.hi ≡ o.hi
-        → IsNodeOf (row_level w) (row_part w 0 cut) a.block → IsNodeOf (row_level w) (row_part w cut (length (row_items w))) b.block → HasItems o (row_items w) next (a ∷ (b ∷ []))
+    pub two_has : (next : ℕ) (a b : CellSeen) → a.id ≡ o.id → b.id ≡ next → a.level ≡ o.level → b.level ≡ o.level → a.lo
+        ≡ o.lo → a.hi ≡ key → b.lo ≡ key → b.hi ≡ o.hi
+        → IsNodeOf (row_level w) (row_part w 0 cut) a.block
+        → IsNodeOf (row_level w) (row_part w cut (length (row_items w))) b.block
+        → HasItems o (row_items w) next (a ∷ (b ∷ []))
     two_has next a b ai bi al bl alo ahi blo bhi left right =
         let low = low_below in
         let at_key = ap rank (ahi ∙ key_y) in
@@ -150,12 +180,30 @@ module _ (o : CellSeen) (w : Row) (is : IsRowOf o w) where
         let top = between_order (rank y.key + 1) (rank o.hi) ys (between_right (rank o.lo) (rank o.hi) xs y ys rising).1 in
         record {
           first = ap (λ i. i ∷ (b.id ∷ [])) ai;
-          ranges = (al, start, omega (arith, low, at_key), (bl, omega (arith, from_key, at_key), omega (arith, at_key, end, top), end));
-          items_are = ap (λ zs. zs ++ (items_of b.block ++ [])) (left_node a.block left).items_are ∙ (ap (λ zs. xs ++ zs) (append-nil (items_of b.block) ∙ (right_node b.block right).items_are) ∙ sym parts);
+          ranges = (
+            al,
+            start,
+            omega (arith, low, at_key),
+            (bl, omega (arith, from_key, at_key), omega (arith, at_key, end, top), end),
+          );
+          items_are = ap (λ zs. zs ++ (items_of b.block ++ [])) (left_node a.block left).items_are
+              ∙ (ap (λ zs. xs ++ zs) (append-nil (items_of b.block) ∙ (right_node b.block right).items_are) ∙ sym parts);
           sound = λ x member. elim (cases a x (b ∷ []) member) [
-            | inl e ↦ subst IsSound (sym e) (record { whole = left.node.laid.whole; accepted = subst (λ k. cell_fault true (2 ^ 64) a.level (rank a.lo) (rank k) a.block ≡ None) (sym ahi) (left_sound a.level a.lo a.block al alo left) })
+            | inl e ↦ subst IsSound (sym e)
+                (record {
+                  whole = left.node.laid.whole;
+                  accepted = subst
+                      (λ k. cell_fault true (2 ^ 64) a.level (rank a.lo) (rank k) a.block ≡ None) (sym ahi)
+                      (left_sound a.level a.lo a.block al alo left);
+                })
             | inr more ↦ elim (cases b x [] more) [
-              | inl e ↦ subst IsSound (sym e) (record { whole = right.node.laid.whole; accepted = subst (λ k. cell_fault true (2 ^ 64) b.level (rank k) (rank b.hi) b.block ≡ None) (sym blo) (right_sound b.level b.hi b.block bl bhi right) })
+              | inl e ↦ subst IsSound (sym e)
+                  (record {
+                    whole = right.node.laid.whole;
+                    accepted = subst
+                        (λ k. cell_fault true (2 ^ 64) b.level (rank k) (rank b.hi) b.block ≡ None) (sym blo)
+                        (right_sound b.level b.hi b.block bl bhi right);
+                  })
               | inr past ↦ absurd (none x past)
             ]
           ];
@@ -163,7 +211,10 @@ module _ (o : CellSeen) (w : Row) (is : IsRowOf o w) where
         }
 
 -- above level 2 neither of two nodes is small
-pub two_filled : (o : CellSeen) (w : Row) → IsRowOf o w → (cut : ℕ) → IsCut w cut → (a b : CellSeen) → IsNodeOf (row_level w) (row_part w 0 cut) a.block → IsNodeOf (row_level w) (row_part w cut (length (row_items w))) b.block → 3 ≤ o.level → 4068 < weight (row_items w) → AreFilled (a ∷ (b ∷ []))
+pub two_filled : (o : CellSeen) (w : Row) → IsRowOf o w → (cut : ℕ) → IsCut w cut → (a b : CellSeen)
+    → IsNodeOf (row_level w) (row_part w 0 cut) a.block
+    → IsNodeOf (row_level w) (row_part w cut (length (row_items w))) b.block → 3 ≤ o.level → 4068 < weight (row_items w)
+    → AreFilled (a ∷ (b ∷ []))
 two_filled o w is cut at a b left right high over x member =
     let level = is.level in
     let (l, r) = at.filled (omega (arith, high, level)) over in
@@ -182,7 +233,8 @@ two_filled o w is cut at a b left right high over x member =
 next_more : (f : Fresh) (n : ℕ) → n ≡ 0 → f ≡ record f { next = f.next + n }
 next_more f n e = λ i. record f { next = (let same : f.next ≡ f.next + n = omega (arith, e) in same) i }
 
-pub shares_one : (o : CellSeen) (items : List Item) (f : Fresh) (cells : List CellSeen) → HasItems o items f.next cells → length cells ≡ 1 → weight items ≤ 4068 → Shares o items f f cells
+pub shares_one : (o : CellSeen) (items : List Item) (f : Fresh) (cells : List CellSeen) → HasItems o items f.next cells
+    → length cells ≡ 1 → weight items ≤ 4068 → Shares o items f f cells
 shares_one o items f cells has one fits = record {
   has = has;
   number = next_more f (length (drop 1 cells)) (let d = length-drop 1 cells in omega (arith, d, one));
@@ -190,13 +242,19 @@ shares_one o items f cells has one fits = record {
   filled = λ high two. absurd (omega (arith, one, two));
 }
 
-pub shares_two : (o : CellSeen) (items : List Item) (f g : Fresh) (cells : List CellSeen) → HasItems o items f.next cells → length cells ≡ 2 → 4068 < weight items → g ≡ record f { next = f.next + 1 } → (3 ≤ o.level → 4068 < weight items → AreFilled cells) → Shares o items f g cells
+pub shares_two : (o : CellSeen) (items : List Item) (f g : Fresh) (cells : List CellSeen) → HasItems o items f.next cells
+    → length cells ≡ 2 → 4068 < weight items → g ≡ record f { next = f.next + 1 }
+    → (3 ≤ o.level → 4068 < weight items → AreFilled cells) → Shares o items f g cells
 shares_two o items f g cells has two over took filled = record {
   has = has;
-  number = took ∙ (λ i. record f { next = (let same : f.next + 1 ≡ f.next + length (drop 1 cells) = (let d = length-drop 1 cells in omega (arith, d, two)) in same) i });
+  number = took ∙ (λ i. record f {
+    next = (let same : f.next + 1
+        ≡ f.next + length (drop 1 cells) = (let d = length-drop 1 cells in omega (arith, d, two)) in same) i;
+  });
   few = (λ fits. absurd (omega (arith, over, fits)), λ _. two);
   filled = λ high _. filled high over;
 }
 
-pub weigh_all : (o : CellSeen) (w : Row) → IsRowOf o w → (n : ℕ) → n ≡ length (row_items w) → weight (row_part w 0 n) ≡ weight (row_items w)
+pub weigh_all : (o : CellSeen) (w : Row) → IsRowOf o w → (n : ℕ) → n ≡ length (row_items w) → weight (row_part w 0 n)
+    ≡ weight (row_items w)
 weigh_all o w is n e = ap (λ k. weight (row_part w 0 k)) e ∙ ap weight (whole_part o w is)

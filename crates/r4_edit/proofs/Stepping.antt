@@ -1,5 +1,6 @@
 -- A parent over new cells: its row may stand in its place, and the cells that have it are a step of the change.
-use Rattle.std.proofs.Common.{◌≡◌, inl, inr, ℕ, zero, suc, ◌+◌, ◌*◌, ◌^◌, ◌<◌, ◌≤◌, true, List, [], ◌∷◌, ◌++◌, length, map, take, drop, refl, sym, ap, subst, ◌∙◌, arith}
+use Rattle.std.proofs.Common.{◌≡◌, inl, inr, ℕ, zero, suc, ◌+◌, ◌*◌, ◌^◌, ◌<◌, ◌≤◌, true, List, [], ◌∷◌, ◌++◌, length, map}
+use Rattle.std.proofs.Common.{take, drop, refl, sym, ap, subst, ◌∙◌, arith}
 use Rattle.std.specs.Prelude.{All, Contains, Some, None, slice_get}
 use Rattle.std.proofs.lemmas.Bool.{cases_lt}
 use Rattle.std.proofs.lemmas.List.{length-append}
@@ -46,17 +47,24 @@ bodied_append (z ∷ zs) ys hx hy (suc k) x e = bodied_append zs ys (λ j. hx (s
 
 bodied_pointers : (cells : List CellSeen) → AreBodied (map pointer_item cells)
 bodied_pointers [] k x e = absurd cc
-bodied_pointers (c ∷ cells) zero x e = let long = length-number_bytes 8 c.id in let same = ap (λ (y : Item). length y.body) (same_Some (pointer_item c) x e) in (omega (arith, long, same), omega (arith, long, same))
+bodied_pointers (c ∷ cells) zero x e = let long = length-number_bytes 8 c.id in
+    let same = ap (λ (y : Item). length y.body) (same_Some (pointer_item c) x e) in
+    (omega (arith, long, same), omega (arith, long, same))
 bodied_pointers (c ∷ cells) (suc k) x e = bodied_pointers cells k x e
 
-pub bodied_row : (items : List Item) (at : ℕ) (cells : List CellSeen) → AreBodied items → AreBodied (with_pointers items at cells)
+pub bodied_row : (items : List Item) (at : ℕ) (cells : List CellSeen) → AreBodied items
+    → AreBodied (with_pointers items at cells)
 bodied_row items at cells h =
-    bodied_append (take (at + 1) items) (map pointer_item cells ++ drop (at + 1) items) (λ k x e. h k x (in_take (at + 1) items k x e))
-    (bodied_append (map pointer_item cells) (drop (at + 1) items) (bodied_pointers cells) (λ k x e. h (at + 1 + k) x (sym (get_drop (at + 1) items k) ∙ e)))
+    bodied_append (take (at + 1) items) (map pointer_item cells ++ drop (at + 1) items)
+    (λ k x e. h k x (in_take (at + 1) items k x e))
+    (bodied_append (map pointer_item cells) (drop (at + 1) items) (bodied_pointers cells)
+    (λ k x e. h (at + 1 + k) x (sym (get_drop (at + 1) items k) ∙ e)))
 
 -- ---- the parent
 
-module _ (parent : CellSeen) (b : Step) (first : CellSeen) (rest : List CellSeen) (w : Row) (under : IsUnder b parent) (s : IsSound parent) (new : b.new ≡ first ∷ rest) (view : (view_block w.node).now ≡ parent.block) (more : row_more w ≡ drop 1 b.new)
+module _ (parent : CellSeen) (b : Step) (first : CellSeen) (rest : List CellSeen) (w : Row) (under : IsUnder b parent)
+    (s : IsSound parent) (new : b.new ≡ first ∷ rest) (view : (view_block w.node).now ≡ parent.block)
+    (more : row_more w ≡ drop 1 b.new)
     (below : (k : ℕ) (x : Item) → k < w.at → slice_get (view_items w.node) k ≡ Some x → rank x.key < rank b.old.lo)
     (here_at : (x : Item) → slice_get (view_items w.node) w.at ≡ Some x → rank b.old.lo ≤ rank x.key) where
   one : 1 ≤ parent.level
@@ -75,10 +83,13 @@ module _ (parent : CellSeen) (b : Step) (first : CellSeen) (rest : List CellSeen
   names = names_are parent b.old.level under.up
 
   f : Found (rank parent.hi) (name_of b.old) (items_of parent.block)
-  f = find (suc b.old.level) (rank parent.hi) (items_of parent.block) (name_of b.old) under.low (subst (λ ns. Contains ns (name_of b.old)) names under.named)
+  f = find (suc b.old.level) (rank parent.hi) (items_of parent.block) (name_of b.old) under.low
+      (subst (λ ns. Contains ns (name_of b.old)) names under.named)
 
   between : Between (rank parent.lo) (rank parent.hi) (items_of parent.block)
-  between = let range = under.range in rise_between parent.level (rank parent.lo) (rank parent.hi) 0 (items_of parent.block) (omega (arith, range)) node.keys at.items
+  between = let range = under.range in
+      rise_between parent.level (rank parent.lo) (rank parent.hi) 0 (items_of parent.block)
+      (omega (arith, range)) node.keys at.items
 
   fit : PluginsFit parent.level (items_of parent.block)
   fit = plugins_at true (2 ^ 64) parent.level (rank parent.lo) (rank parent.hi) parent.block s.whole at
@@ -87,7 +98,8 @@ module _ (parent : CellSeen) (b : Step) (first : CellSeen) (rest : List CellSeen
   rest_is = ap (drop 1) new
 
   first_is : first.id ≡ b.old.id
-  first_is = let e : ids_of (first ∷ rest) ≡ b.old.id ∷ ids_of (drop 1 b.new) = subst (λ xs. ids_of xs ≡ b.old.id ∷ ids_of (drop 1 b.new)) new under.first in cc
+  first_is = let e : ids_of (first ∷ rest)
+      ≡ b.old.id ∷ ids_of (drop 1 b.new) = subst (λ xs. ids_of xs ≡ b.old.id ∷ ids_of (drop 1 b.new)) new under.first in cc
 
   replaced : IsReplaced parent.level b.old.level (rank parent.lo) (rank parent.hi) f.before f.p f.behind b.old first rest
   replaced = record {
@@ -116,7 +128,8 @@ module _ (parent : CellSeen) (b : Step) (first : CellSeen) (rest : List CellSeen
   the_row = f.before ++ f.p ∷ (map pointer_item rest ++ f.behind)
 
   row_is : row_items w ≡ the_row
-  row_is = ap (λ cells. with_pointers (view_items w.node) w.at cells) (more ∙ rest_is) ∙ put_behind (view_items w.node) f.before f.p f.behind w.at rest (items ∙ f.parts) place
+  row_is = ap (λ cells. with_pointers (view_items w.node) w.at cells) (more ∙ rest_is)
+      ∙ put_behind (view_items w.node) f.before f.p f.behind w.at rest (items ∙ f.parts) place
 
   good_row : Good parent.level (rank parent.lo) (rank parent.hi) 0 the_row
   good_row = row_good parent.level b.old.level (rank parent.lo) (rank parent.hi) f.before f.p f.behind b.old first rest replaced
@@ -131,25 +144,36 @@ module _ (parent : CellSeen) (b : Step) (first : CellSeen) (rest : List CellSeen
   few = let n = under.few in let a = ap length (more ∙ rest_is) in let d = ap length new in omega (arith, n, a, d)
 
   fit_row : PluginsFit (row_level w) (row_items w)
-  fit_row = subst (PluginsFit (row_level w)) (sym row_is) (subst (λ l. PluginsFit l the_row) (sym level_is) (row_fit parent.level b.old.level (rank parent.lo) (rank parent.hi) f.before f.p f.behind b.old first rest replaced))
+  fit_row = subst (PluginsFit (row_level w)) (sym row_is)
+      (subst (λ l. PluginsFit l the_row) (sym level_is)
+      (row_fit parent.level b.old.level (rank parent.lo) (rank parent.hi) f.before f.p f.behind b.old first rest replaced))
 
   within : w.at < length (view_items w.node)
-  within = let a = ap length (items ∙ f.parts) in let d = length-append f.before (f.p ∷ f.behind) in let p = place in omega (arith, a, d, p)
+  within = let a = ap length (items ∙ f.parts) in let d = length-append f.before (f.p ∷ f.behind) in let p = place in
+      omega (arith, a, d, p)
 
   pub parent_row : IsRowOf parent w
   parent_row = record {
     row = record {
       within = within;
-      few = let n = few in let a = ap length items in let d = weighs_length (items_of parent.block) in let m = fits in omega (arith, n, a, d, m);
+      few = let n = few in let a = ap length items in let d = weighs_length (items_of parent.block) in let m = fits in
+          omega (arith, n, a, d, m);
       level = let head = node.head.level in let a = ap level_of view in (omega (arith, head, a), omega (arith, head, a));
-      rise = subst KeysRise (sym row_is) (between_rise (rank parent.lo) (rank parent.hi) the_row (row_between parent.level b.old.level (rank parent.lo) (rank parent.hi) f.before f.p f.behind b.old first rest replaced));
+      rise = subst KeysRise (sym row_is)
+          (between_rise (rank parent.lo) (rank parent.hi) the_row
+          (row_between parent.level b.old.level (rank parent.lo)
+          (rank parent.hi) f.before f.p f.behind b.old first rest replaced));
       fit = fit_row;
-      bodies = bodied_row (view_items w.node) w.at (row_more w) (λ k x e. bodied parent.block node.laid k x (subst (λ xs. slice_get xs k ≡ Some x) items e));
+      bodies = bodied_row (view_items w.node) w.at (row_more w)
+          (λ k x e. bodied parent.block node.laid k x (subst (λ xs. slice_get xs k ≡ Some x) items e));
     };
     narrow = record {
       fits = let m = fits in let a = ap weight items in omega (arith, m, a);
       few = let n = few in omega (arith, n);
-      alike = λ high. subst (All (λ x. weight_of x ≡ 46)) (sym row_is) (alike parent.level (rank parent.lo) (rank parent.hi) 0 the_row (let l = level_is in omega (arith, high, l)) (row_fit parent.level b.old.level (rank parent.lo) (rank parent.hi) f.before f.p f.behind b.old first rest replaced) good_row);
+      alike = λ high. subst (All (λ x. weight_of x ≡ 46)) (sym row_is)
+          (alike parent.level (rank parent.lo) (rank parent.hi) 0 the_row (let l = level_is in omega (arith, high, l))
+          (row_fit parent.level b.old.level (rank parent.lo)
+          (rank parent.hi) f.before f.p f.behind b.old first rest replaced) good_row);
     };
     level = sym level_is;
     branch = let up = under.up in let low = under.low in omega (arith, up, low);
@@ -183,7 +207,8 @@ module _ (parent : CellSeen) (b : Step) (first : CellSeen) (rest : List CellSeen
     old_named : (node_of parent).names ≡ names_in parent.level (rank parent.hi) (f.before ++ f.p ∷ f.behind)
     old_named = names ∙ (level_names (items_of parent.block) ∙ ap (names_in parent.level (rank parent.hi)) f.parts)
 
-    new_named : names_in (suc b.old.level) (rank parent.hi) (items_of_cells cells) ≡ names_in parent.level (rank parent.hi) the_row
+    new_named : names_in (suc b.old.level) (rank parent.hi) (items_of_cells cells)
+        ≡ names_in parent.level (rank parent.hi) the_row
     new_named = level_names (items_of_cells cells) ∙ ap (names_in parent.level (rank parent.hi)) all_items
 
     pub parent_step : IsStep (Some b) (record { old = parent; new = cells })
@@ -191,26 +216,37 @@ module _ (parent : CellSeen) (b : Step) (first : CellSeen) (rest : List CellSeen
       first = has.first;
       ranges = has.ranges;
       names = λ n. (
-        (λ h. elim (named_now parent.level b.old.level (rank parent.lo) (rank parent.hi) f.before f.p f.behind b.old first rest replaced n (subst (λ ns. Contains ns n) new_named (naming_in b.old.level under.low (rank parent.lo) (rank parent.hi) cells follow has.sound n h))) [
-          | inl old ↦ inl (subst (λ ns. Contains ns n) (sym old_named) old.0, old.1)
-          | inr mine ↦ inr (subst (λ xs. IsNameOf xs n) (sym new) mine)
-        ]),
-        (λ h. in_naming b.old.level under.low (rank parent.lo) (rank parent.hi) cells follow has.sound n (subst (λ ns. Contains ns n) (sym new_named)
-            (named_then parent.level b.old.level (rank parent.lo) (rank parent.hi) f.before f.p f.behind b.old first rest replaced n (elim h [
+        (λ h. elim (named_now parent.level b.old.level (rank parent.lo)
+            (rank parent.hi) f.before f.p f.behind b.old first rest replaced n
+            (subst (λ ns. Contains ns n) new_named
+            (naming_in b.old.level under.low (rank parent.lo) (rank parent.hi) cells follow has.sound n h))) [
+              | inl old ↦ inl (subst (λ ns. Contains ns n) (sym old_named) old.0, old.1)
+              | inr mine ↦ inr (subst (λ xs. IsNameOf xs n) (sym new) mine)
+            ]),
+        (λ h. in_naming b.old.level under.low (rank parent.lo) (rank parent.hi) cells follow has.sound n
+            (subst (λ ns. Contains ns n) (sym new_named)
+            (named_then parent.level b.old.level (rank parent.lo)
+            (rank parent.hi) f.before f.p f.behind b.old first rest replaced n (elim h [
               | inl old ↦ inl (subst (λ ns. Contains ns n) old_named old.0, old.1)
               | inr mine ↦ inr (subst (λ xs. IsNameOf xs n) new mine)
             ])))),
       );
       spans = λ v. (
-        (λ h. subst (λ ss. Contains ss v) (sym all_spans) (spanning_in b.old.level under.low (rank parent.lo) (rank parent.hi) cells follow has.sound v h)),
-        (λ h. in_spanning b.old.level under.low (rank parent.lo) (rank parent.hi) cells follow has.sound v (subst (λ ss. Contains ss v) all_spans h)),
+        (λ h. subst (λ ss. Contains ss v) (sym all_spans)
+            (spanning_in b.old.level under.low (rank parent.lo) (rank parent.hi) cells follow has.sound v h)),
+        (λ h. in_spanning b.old.level under.low (rank parent.lo) (rank parent.hi) cells follow has.sound v
+            (subst (λ ss. Contains ss v) all_spans h)),
       );
     }
       where
         all_spans : (node_of parent).spans ≡ spans_in (rank parent.hi) (items_of_cells cells)
-        all_spans = spans_are parent b.old.level under.up ∙ (ap (spans_in (rank parent.hi)) f.parts ∙ (sym (same_spans parent.level b.old.level (rank parent.lo) (rank parent.hi) f.before f.p f.behind b.old first rest replaced) ∙ ap (spans_in (rank parent.hi)) (sym all_items)))
+        all_spans = spans_are parent b.old.level under.up
+            ∙ (ap (spans_in (rank parent.hi)) f.parts
+            ∙ (sym (same_spans parent.level b.old.level (rank parent.lo)
+            (rank parent.hi) f.before f.p f.behind b.old first rest replaced) ∙ ap (spans_in (rank parent.hi)) (sym all_items)))
 
-pub some_new : (cells : List CellSeen) (x : ℕ) (xs : List ℕ) → ids_of cells ≡ x ∷ xs → (first : CellSeen) × (rest : List CellSeen) × (cells ≡ first ∷ rest)
+pub some_new : (cells : List CellSeen) (x : ℕ) (xs : List ℕ) → ids_of cells ≡ x ∷ xs → (first : CellSeen)
+    × (rest : List CellSeen) × (cells ≡ first ∷ rest)
 some_new [] x xs e = absurd cc
 some_new (c ∷ cells) x xs e = (c, cells, refl)
 
@@ -223,11 +259,15 @@ long_new (c ∷ cells) x xs e = omega arith
 pub row_units : (items : List Item) (at : ℕ) (cells : List CellSeen) → units_in (with_pointers items at cells) ≡ units_in items
 row_units items at cells =
     units_append (take (at + 1) items) (map pointer_item cells ++ drop (at + 1) items)
-    ∙ (ap (λ us. units_in (take (at + 1) items) ++ us) (units_append (map pointer_item cells) (drop (at + 1) items) ∙ ap (λ us. us ++ units_in (drop (at + 1) items)) (pointers_unit cells))
+    ∙ (ap (λ us. units_in (take (at + 1) items) ++ us)
+    (units_append (map pointer_item cells) (drop (at + 1) items)
+    ∙ ap (λ us. us ++ units_in (drop (at + 1) items)) (pointers_unit cells))
     ∙ (sym (units_append (take (at + 1) items) (drop (at + 1) items)) ∙ ap units_in (sym (both_parts (at + 1) items))))
 
-pub shared_units : (o : CellSeen) (its : List Item) (next : ℕ) (cells : List CellSeen) → 1 ≤ o.level → HasItems o its next cells → units_in its ≡ units_in (items_of o.block) → units_of_cells cells ≡ (node_of o).units
-shared_units o its next cells one has same = units_parts o.level (rank o.lo) (rank o.hi) cells one has.ranges ∙ (ap units_in has.items_are ∙ (same ∙ sym (own_units o one)))
+pub shared_units : (o : CellSeen) (its : List Item) (next : ℕ) (cells : List CellSeen) → 1 ≤ o.level
+    → HasItems o its next cells → units_in its ≡ units_in (items_of o.block) → units_of_cells cells ≡ (node_of o).units
+shared_units o its next cells one has same = units_parts o.level (rank o.lo) (rank o.hi) cells one has.ranges
+    ∙ (ap units_in has.items_are ∙ (same ∙ sym (own_units o one)))
 
 -- ---- as the code has it: the parent was lent, and a key is the cell's
 
@@ -259,7 +299,8 @@ module _ (parent : CellSeen) (b : Step) (p q : CellSeen) (w : Row) (key : Key) (
   pub over_row : IsRowOf q w
   over_row =
       let (first, rest, new) = some_new b.new b.old.id (ids_of (drop 1 b.new)) looks.under.first in
-      subst (λ x. IsRowOf x w) (sym looks.q_is) (parent_row parent b first rest w looks.under sound_parent new view_parent looks.more key_below key_here)
+      subst (λ x. IsRowOf x w) (sym looks.q_is)
+      (parent_row parent b first rest w looks.under sound_parent new view_parent looks.more key_below key_here)
 
   few_of : (n : ℕ) → (weight (row_items w) ≤ 4068 → n ≡ 1) → (4068 < weight (row_items w) → n ≡ 2) → n ≤ 2
   few_of n one two = elim (cases_lt 4068 (weight (row_items w))) [
@@ -267,15 +308,18 @@ module _ (parent : CellSeen) (b : Step) (p q : CellSeen) (w : Row) (key : Key) (
     | inr fits ↦ let e = one fits in omega (arith, e)
   ]
 
-  pub over_step : (f g : Fresh) (old : CellSeen) (cells : List CellSeen) → old ≡ parent → Shares q (row_items w) f g cells → IsStepOver b parent f g (record { old = old; new = cells })
+  pub over_step : (f g : Fresh) (old : CellSeen) (cells : List CellSeen) → old ≡ parent → Shares q (row_items w) f g cells
+      → IsStepOver b parent f g (record { old = old; new = cells })
   over_step f g old cells same shares =
       let (first, rest, new) = some_new b.new b.old.id (ids_of (drop 1 b.new)) looks.under.first in
-      let has : HasItems parent (row_items w) f.next cells = subst (λ x. HasItems x (row_items w) f.next cells) looks.q_is shares.has in
+      let has : HasItems parent (row_items w) f.next cells = subst
+      (λ x. HasItems x (row_items w) f.next cells) looks.q_is shares.has in
       let weighs = row_weighs parent b first rest w looks.under sound_parent new view_parent looks.more key_below key_here in
       let n = ap (λ (xs : List CellSeen). length (drop 1 xs)) new in
       record {
         old = same;
-        step = subst (λ x. IsStep (Some b) (record { old = x; new = cells })) (sym same) (parent_step parent b first rest w looks.under sound_parent new view_parent looks.more key_below key_here f.next cells has);
+        step = subst (λ x. IsStep (Some b) (record { old = x; new = cells })) (sym same)
+            (parent_step parent b first rest w looks.under sound_parent new view_parent looks.more key_below key_here f.next cells has);
         sound = has.sound;
         counts = has.fresh;
         number = shares.number;
@@ -283,7 +327,10 @@ module _ (parent : CellSeen) (b : Step) (p q : CellSeen) (w : Row) (key : Key) (
         two = λ over. shares.few.1 (omega (arith, weighs, n, over));
         keeps = record {
           few = few_of (length cells) (λ fits. shares.few.0 fits) (λ over. shares.few.1 over);
-          units = subst (λ x. units_of_cells cells ≡ (node_of x).units) (sym same) (shared_units parent (row_items w) f.next cells (let up = looks.under.up in omega (arith, up)) has (row_units (view_items w.node) w.at (row_more w) ∙ ap (λ bytes. units_in (items_of bytes)) view_parent));
-          filled = λ high. subst (λ l. 3 ≤ l → length cells ≡ 2 → AreFilled cells) (ap (λ (x : CellSeen). x.level) (looks.q_is ∙ sym same)) shares.filled high;
+          units = subst (λ x. units_of_cells cells ≡ (node_of x).units) (sym same)
+              (shared_units parent (row_items w) f.next cells (let up = looks.under.up in omega (arith, up)) has
+              (row_units (view_items w.node) w.at (row_more w) ∙ ap (λ bytes. units_in (items_of bytes)) view_parent));
+          filled = λ high. subst (λ l. 3 ≤ l → length cells ≡ 2 → AreFilled cells)
+              (ap (λ (x : CellSeen). x.level) (looks.q_is ∙ sym same)) shares.filled high;
         };
       }

@@ -1,9 +1,11 @@
 -- A change climbs a path, level by level.
-use Rattle.std.proofs.Common.{◌≡◌, ◌≢◌, ◌⊎◌, inl, inr, ℕ, zero, suc, ◌+◌, ◌-◌, ◌*◌, ◌^◌, ◌<◌, ◌≤◌, true, not, ◌&&◌, ◌||◌, List, [], ◌∷◌, ◌++◌, length, map, take, drop, get_or, refl, sym, ap, subst, ◌∙◌, arith}
+use Rattle.std.proofs.Common.{◌≡◌, ◌≢◌, ◌⊎◌, inl, inr, ℕ, zero, suc, ◌+◌, ◌-◌, ◌*◌, ◌^◌, ◌<◌, ◌≤◌, true, not, ◌&&◌, ◌||◌, List}
+use Rattle.std.proofs.Common.{[], ◌∷◌, ◌++◌, length, map, take, drop, get_or, refl, sym, ap, subst, ◌∙◌, arith}
 use Rattle.std.specs.Prelude.{All, Contains, reverse, Option, Some, None, nat_le, nat_lt}
 use Rattle.std.proofs.lemmas.Bool.{cases_lt}
 use Rattle.std.proofs.lemmas.Bool.Decides.{nat_tests}
-use Rattle.std.proofs.lemmas.List.{append_assoc, append-nil, length-append, length-drop, length-reverse, map-append, reverse-append}
+use Rattle.std.proofs.lemmas.List.{append_assoc, append-nil, length-append, length-drop, length-reverse, map-append}
+use Rattle.std.proofs.lemmas.List.{reverse-append}
 use Rattle.std.proofs.lemmas.List.Elements.{All-cons, All-nil, Contains-append_cases}
 use Rattle.std.proofs.lemmas.Option.{none-some, same_Some, slice_get_read}
 use Rattle.r4_base.specs.Bitmap.{is_fixed}
@@ -24,17 +26,19 @@ use Rattle.r4_edit.proofs.Rising.{count_within}
 
 -- ---- numbers
 
-numbered : (id : ℕ) → 2 ^ 63 ≤ id → id < 2 ^ 64 → IsPointable id
+pub numbered : (id : ℕ) → 2 ^ 63 ≤ id → id < 2 ^ 64 → IsPointable id
 numbered id low high = (high, fits id low)
   where
     fits : (x : ℕ) → 2 ^ 63 ≤ x → (nat_le (2 ^ 63) x || nat_lt x (2 ^ 64) && not (is_fixed (2 ^ 64) x)) ≡ true
     fits x low = grind (arith, nat_tests, low)
 
-pub all_numbered : (from to : ℕ) (cells : List CellSeen) → 2 ^ 63 ≤ from → to ≤ 2 ^ 64 → ((i : ℕ) → Contains (ids_of cells) i → (from ≤ i) × (i < to)) → All (λ c. IsPointable c.id) cells
+pub all_numbered : (from to : ℕ) (cells : List CellSeen) → 2 ^ 63 ≤ from → to ≤ 2 ^ 64
+    → ((i : ℕ) → Contains (ids_of cells) i → (from ≤ i) × (i < to)) → All (λ c. IsPointable c.id) cells
 all_numbered from to [] low high within = All-nil (λ (c : CellSeen). IsPointable c.id)
 all_numbered from to (c ∷ cells) low high within =
     let w = within c.id (here_id c cells) in
-    All-cons (λ (x : CellSeen). IsPointable x.id) c cells (numbered c.id (omega (arith, low, w)) (omega (arith, high, w))) (all_numbered from to cells low high (λ i member. within i (later_id c i cells member)))
+    All-cons (λ (x : CellSeen). IsPointable x.id) c cells (numbered c.id (omega (arith, low, w)) (omega (arith, high, w)))
+    (all_numbered from to cells low high (λ i member. within i (later_id c i cells member)))
   where
     here_id : (x : CellSeen) (xs : List CellSeen) → Contains (ids_of (x ∷ xs)) x.id
     here_id x xs = (zero, omega arith, refl)
@@ -44,7 +48,11 @@ all_numbered from to (c ∷ cells) low high within =
 
 pub count_join : (n : ℕ) (xs ys : List ℕ) → CountUp n xs → CountUp (n + length xs) ys → CountUp n (xs ++ ys)
 count_join n [] ys h g = subst (λ m. CountUp m ys) (let e : n + length {A = ℕ} [] ≡ n = omega arith in e) g
-count_join n (x ∷ xs) ys (is, rest) g = (is, count_join (n + 1) xs ys rest (subst (λ m. CountUp m ys) (let e : n + length (x ∷ xs) ≡ n + 1 + length xs = omega arith in e) g))
+count_join n (x ∷ xs) ys (is, rest) g = (
+  is,
+  count_join (n + 1) xs ys rest
+      (subst (λ m. CountUp m ys) (let e : n + length (x ∷ xs) ≡ n + 1 + length xs = omega arith in e) g),
+)
 
 pub long_ids : (cells : List CellSeen) → length (ids_of cells) ≡ length cells
 long_ids [] = refl
@@ -60,7 +68,8 @@ one_alone (c ∷ (d ∷ cells)) e = absurd (omega (arith, e))
 
 -- ---- the change ends at one new cell
 
-pub ends_alone : (s : Step) (ups : List CellSeen) (f : Fresh) (were are : List Step) → f.next ≤ f.end → length s.new ≡ 1 → are ≡ were ++ s ∷ [] → Climbed s ups f f were are None
+pub ends_alone : (s : Step) (ups : List CellSeen) (f : Fresh) (were are : List Step) → f.next ≤ f.end → length s.new ≡ 1 → are
+    ≡ were ++ s ∷ [] → Climbed s ups f f were are None
 ends_alone s ups f were are room one steps = record {
   more = [];
   steps = steps;
@@ -93,19 +102,23 @@ module _ (s : Step) (f : Fresh) (can : CanClimb s [] f) (two : length s.new ≢ 
   root_few = let n = can.few in omega (arith, n)
 
   pub root_follow : Follow s.old.level least top s.new
-  root_follow = subst (λ lo. Follow s.old.level lo top s.new) root_facts.0 (subst (λ hi. Follow s.old.level (rank s.old.lo) hi s.new) root_facts.1 can.ranges)
+  root_follow = subst (λ lo. Follow s.old.level lo top s.new) root_facts.0
+      (subst (λ hi. Follow s.old.level (rank s.old.lo) hi s.new) root_facts.1 can.ranges)
 
   pub root_able : All (λ c. IsPointable c.id) s.new
   root_able = go s.new can.first can.able
     where
-      go : (cells : List CellSeen) → ids_of cells ≡ s.old.id ∷ ids_of (drop 1 cells) → All (λ c. IsPointable c.id) (drop 1 cells) → All (λ c. IsPointable c.id) cells
+      go : (cells : List CellSeen) → ids_of cells ≡ s.old.id ∷ ids_of (drop 1 cells)
+          → All (λ c. IsPointable c.id) (drop 1 cells) → All (λ c. IsPointable c.id) cells
       go [] e able = absurd cc
-      go (c ∷ cells) e able = All-cons (λ (x : CellSeen). IsPointable x.id) c cells (subst IsPointable (let same : s.old.id ≡ c.id = cc in same) root_facts.3) able
+      go (c ∷ cells) e able = All-cons (λ (x : CellSeen). IsPointable x.id) c cells
+          (subst IsPointable (let same : s.old.id ≡ c.id = cc in same) root_facts.3) able
 
   pub root_number : f.next < f.end
   root_number = let n = can.numbers in omega (arith, n)
 
-  pub ends_root : (g : Fresh) (were are : List Step) (c : CellSeen) → IsPointingTo s.new (s.old.level + 1) f.next c → g ≡ record f { next = f.next + 1 } → are ≡ were ++ s ∷ [] → Climbed s [] f g were are (Some c)
+  pub ends_root : (g : Fresh) (were are : List Step) (c : CellSeen) → IsPointingTo s.new (s.old.level + 1) f.next c → g
+      ≡ record f { next = f.next + 1 } → are ≡ were ++ s ∷ [] → Climbed s [] f g were are (Some c)
   ends_root g were are c points took steps = record {
     more = [];
     steps = steps;
@@ -118,7 +131,8 @@ module _ (s : Step) (f : Fresh) (can : CanClimb s [] f) (two : length s.new ≢ 
     root_node = λ d e. subst (λ x. IsNode (node_of x)) (same_Some c d e) points.node;
     counts = (points.number, tt);
     number = took;
-    within = let n = can.numbers in let a = ap (λ (x : Fresh). x.next) took in let b = ap (λ (x : Fresh). x.end) took in omega (arith, n, a, b);
+    within = let n = can.numbers in let a = ap (λ (x : Fresh). x.next) took in let b = ap (λ (x : Fresh). x.end) took in
+        omega (arith, n, a, b);
     ends = λ r h. elim h [
       | inl one ↦ absurd (two one)
       | inr enough ↦ record {
@@ -126,7 +140,10 @@ module _ (s : Step) (f : Fresh) (can : CanClimb s [] f) (two : length s.new ≢ 
         level = let l = points.level_is in omega (arith, l);
         lo = points.lo;
         hi = points.hi;
-        names = λ n. ((λ g. names_map s.new n (subst (λ ns. Contains ns n) points.names g)), (λ g. subst (λ ns. Contains ns n) (sym points.names) (map_names s.new n g)));
+        names = λ n. (
+          (λ g. names_map s.new n (subst (λ ns. Contains ns n) points.names g)),
+          (λ g. subst (λ ns. Contains ns n) (sym points.names) (map_names s.new n g)),
+        );
         spans = λ v g. none v (subst (λ vs. Contains vs v) points.spans g);
       }
     ];
@@ -134,7 +151,8 @@ module _ (s : Step) (f : Fresh) (can : CanClimb s [] f) (two : length s.new ≢ 
 
 -- ---- or it goes on at the parent
 
-module _ (s : Step) (parent : CellSeen) (ups : List CellSeen) (f : Fresh) (can : CanClimb s (parent ∷ ups) f) (two : length s.new ≢ 1) where
+module _ (s : Step) (parent : CellSeen) (ups : List CellSeen) (f : Fresh) (can : CanClimb s (parent ∷ ups) f)
+    (two : length s.new ≢ 1) where
   pub under : IsUnder s parent
   under = record {
     named = can.leads.0;
@@ -190,7 +208,8 @@ module _ (s : Step) (parent : CellSeen) (ups : List CellSeen) (f : Fresh) (can :
           let high = can.end in
           let few = few_numbers in
           let long = long_ids (drop 1 u.new) in
-          all_numbered f.next (f.next + length (ids_of (drop 1 u.new))) (drop 1 u.new) low (omega (arith, n, high, few, long)) (λ i member. count_within f.next (ids_of (drop 1 u.new)) i step.counts member);
+          all_numbered f.next (f.next + length (ids_of (drop 1 u.new))) (drop 1 u.new) low (omega (arith, n, high, few, long))
+          (λ i member. count_within f.next (ids_of (drop 1 u.new)) i step.counts member);
       few = let n = few_new in omega (arith, n);
       leads = subst (λ (c : CellSeen). Leads c ups) (sym step.old) can.leads.3;
       enough = elim can.enough [
@@ -199,21 +218,30 @@ module _ (s : Step) (parent : CellSeen) (ups : List CellSeen) (f : Fresh) (can :
           | inl room ↦ inl (step.one room)
           | inr suffices ↦ elim one_or_two [
             | inl one ↦ inl one
-            | inr e ↦ inr (subst (λ n. Suffices n u.old ups) (sym (one_come e)) (subst (λ (c : CellSeen). Suffices 1 c ups) (sym step.old) suffices))
+            | inr e ↦ inr (subst (λ n. Suffices n u.old ups) (sym (one_come e))
+                (subst (λ (c : CellSeen). Suffices 1 c ups) (sym step.old) suffices))
           ]
         ]
       ];
       unplaced = let n = next_is in let low = can.unplaced in omega (arith, n, low);
-      numbers = let n = next_is in let e = end_is in let few = few_numbers in let m = can.numbers in omega (arith, n, e, few, m);
+      numbers = let n = next_is in let e = end_is in let few = few_numbers in let m = can.numbers in
+          omega (arith, n, e, few, m);
       end = subst (λ k. k < 2 ^ 64) (sym end_is) can.end;
     }
 
-    pub went_on : (after : Fresh) (were are : List Step) (over : Option CellSeen) → Climbed u ups g after (were ++ s ∷ []) are over → Climbed s (parent ∷ ups) f after were are over
+    pub went_on : (after : Fresh) (were are : List Step) (over : Option CellSeen)
+        → Climbed u ups g after (were ++ s ∷ []) are over → Climbed s (parent ∷ ups) f after were are over
     went_on after were are over rest = record {
       more = u ∷ rest.more;
       steps = rest.steps ∙ append_assoc were (s ∷ []) (u ∷ rest.more);
       climbs = (step.step, rest.climbs);
-      needed = (two, (λ room. step.one (subst (λ (c : CellSeen). weight (items_of c.block) + 46 * length (drop 1 s.new) ≤ 4068) step.old room)), rest.needed);
+      needed = (
+        two,
+        (λ room. step.one
+            (subst (λ (c : CellSeen). weight (items_of c.block) + 46 * length
+            (drop 1 s.new) ≤ 4068) step.old room)),
+        rest.needed,
+      );
       olds_are = (λ i. step.old i ∷ rest.olds_are i);
       sound = λ c member. elim (Contains-append_cases u.new (news rest.more None) c member) [
         | inl mine ↦ step.sound c mine
@@ -228,10 +256,13 @@ module _ (s : Step) (parent : CellSeen) (ups : List CellSeen) (f : Fresh) (can :
       counts =
           let long = long_ids (drop 1 u.new) in
           let n = next_is in
-          count_join f.next (ids_of (drop 1 u.new)) (fresh_ids rest.more over) step.counts (subst (λ k. CountUp k (fresh_ids rest.more over)) (omega (arith, long, n)) rest.counts);
+          count_join f.next (ids_of (drop 1 u.new)) (fresh_ids rest.more over) step.counts
+          (subst (λ k. CountUp k (fresh_ids rest.more over)) (omega (arith, long, n)) rest.counts);
       number = rest.number ∙ (ap (λ (x : Fresh). record x { next = g.next + length (fresh_ids rest.more over) }) step.number
-          ∙ same_next f (g.next + length (fresh_ids rest.more over)) (f.next + length (ids_of (drop 1 u.new) ++ fresh_ids rest.more over))
-          (let long = long_ids (drop 1 u.new) in let n = next_is in let sum = length-append (ids_of (drop 1 u.new)) (fresh_ids rest.more over) in omega (arith, long, n, sum)));
+          ∙ same_next f (g.next + length (fresh_ids rest.more over))
+          (f.next + length (ids_of (drop 1 u.new) ++ fresh_ids rest.more over))
+          (let long = long_ids (drop 1 u.new) in let n = next_is in
+          let sum = length-append (ids_of (drop 1 u.new)) (fresh_ids rest.more over) in omega (arith, long, n, sum)));
       within = rest.within;
       ends = λ r h. elim h [
         | inl one ↦ absurd (two one)
@@ -239,7 +270,8 @@ module _ (s : Step) (parent : CellSeen) (ups : List CellSeen) (f : Fresh) (can :
           | inl room ↦ rest.ends r (inl (step.one room))
           | inr enough ↦ elim one_or_two [
             | inl one ↦ rest.ends r (inl one)
-            | inr e ↦ rest.ends r (inr (subst (λ n. IsLongEnough r n u.old ups) (sym (one_come e)) (subst (λ (c : CellSeen). IsLongEnough r 1 c ups) (sym step.old) enough)))
+            | inr e ↦ rest.ends r (inr (subst (λ n. IsLongEnough r n u.old ups) (sym (one_come e))
+                (subst (λ (c : CellSeen). IsLongEnough r 1 c ups) (sym step.old) enough)))
           ]
         ]
       ];
@@ -248,7 +280,8 @@ module _ (s : Step) (parent : CellSeen) (ups : List CellSeen) (f : Fresh) (can :
 -- ---- the last cell of a path that is given from the top down
 
 module _ {A : Type 0} where
-  all_but_last : (xs : List A) (x : A) → length xs ≢ 0 → x ≡ get_or xs (length xs - 1) x → xs ≡ take (length xs - 1) xs ++ x ∷ []
+  all_but_last : (xs : List A) (x : A) → length xs ≢ 0 → x ≡ get_or xs (length xs - 1) x → xs ≡ take (length xs - 1) xs
+      ++ x ∷ []
   all_but_last [] x some e = absurd (some refl)
   all_but_last (y ∷ []) x some e = ap (λ z. z ∷ []) (sym e)
   all_but_last (y ∷ (z ∷ zs)) x some e =
@@ -256,10 +289,12 @@ module _ {A : Type 0} where
       let rest = all_but_last (z ∷ zs) x (λ none. absurd (omega (arith, none))) (e ∙ ap (λ k. get_or (y ∷ (z ∷ zs)) k x) n) in
       ap (λ ws. y ∷ ws) rest ∙ ap (λ k. take k (y ∷ (z ∷ zs)) ++ x ∷ []) (sym n)
 
-  pub last_first : (f : A → CellSeen) (xs : List A) (x : A) → length xs ≢ 0 → x ≡ get_or xs (length xs - 1) x → reverse (map f xs) ≡ f x ∷ reverse (map f (take (length xs - 1) xs))
+  pub last_first : (f : A → CellSeen) (xs : List A) (x : A) → length xs ≢ 0 → x ≡ get_or xs (length xs - 1) x
+      → reverse (map f xs) ≡ f x ∷ reverse (map f (take (length xs - 1) xs))
   last_first f xs x some e =
       ap (λ ws. reverse (map f ws)) (all_but_last xs x some e)
-      ∙ (ap reverse (map-append f (take (length xs - 1) xs) (x ∷ [])) ∙ reverse-append (map f (take (length xs - 1) xs)) (f x ∷ []))
+      ∙ (ap reverse (map-append f (take (length xs - 1) xs) (x ∷ []))
+      ∙ reverse-append (map f (take (length xs - 1) xs)) (f x ∷ []))
 
 pub none_above : {A : Type 0} (f : A → CellSeen) (xs : List A) → length xs ≡ 0 → reverse (map f xs) ≡ []
 none_above f [] e = refl
@@ -278,12 +313,14 @@ pub news_over : (xs : List Step) (c : CellSeen) → news xs (Some c) ≡ news xs
 news_over [] c = refl
 news_over (x ∷ xs) c = ap (λ zs. x.new ++ zs) (news_over xs c) ∙ sym (append_assoc x.new (news xs None) (c ∷ []))
 
-pub news_more : {A : Type 0} (f : A → Step) (xs : List A) (n : ℕ) (x : A) → n < length xs → x ≡ get_or xs n x → news (map f (take (n + 1) xs)) None ≡ news (map f (take n xs)) None ++ (f x).new
+pub news_more : {A : Type 0} (f : A → Step) (xs : List A) (n : ℕ) (x : A) → n < length xs → x ≡ get_or xs n x
+    → news (map f (take (n + 1) xs)) None ≡ news (map f (take n xs)) None ++ (f x).new
 news_more f xs n x lt is =
     ap (λ zs. news (map f zs) None) (take_more n xs x (slice_get_read xs (length xs) n x refl lt is))
     ∙ (ap (λ zs. news zs None) (map-append f (take n xs) (x ∷ [])) ∙ news_append (map f (take n xs)) (f x))
 
-pub long_above : {A : Type 0} (f : A → CellSeen) (xs : List A) → length xs ≢ 0 → 1 + length (reverse (map f (take (length xs - 1) xs))) ≡ length xs
+pub long_above : {A : Type 0} (f : A → CellSeen) (xs : List A) → length xs ≢ 0
+    → 1 + length (reverse (map f (take (length xs - 1) xs))) ≡ length xs
 long_above f [] some = absurd (some refl)
 long_above f (x ∷ xs) some =
     let a = length-reverse (map f (take (length (x ∷ xs) - 1) (x ∷ xs))) in

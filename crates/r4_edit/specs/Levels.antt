@@ -1,5 +1,6 @@
 -- A change that climbs a path, level by level (docs/volume.md, "Edits").
-use Rattle.std.specs.Prelude.{◌≡◌, ◌≢◌, ◌⊎◌, ℕ, suc, ◌+◌, ◌*◌, ◌^◌, ◌<◌, ◌≤◌, List, [], ◌∷◌, ◌++◌, All, Contains, drop, length, reverse, take, Option, None, Some}
+use Rattle.std.specs.Prelude.{◌≡◌, ◌≢◌, ◌⊎◌, ℕ, suc, ◌+◌, ◌*◌, ◌^◌, ◌<◌, ◌≤◌, List, [], ◌∷◌, ◌++◌, All, Contains, drop, length}
+use Rattle.std.specs.Prelude.{reverse, take, Option, None, Some}
 use Rattle.std.specs.Arc.{arc_value}
 use Rattle.r4_base.specs.Key.{least, rank, top}
 use Rattle.r4_base.specs.Node.{items_of}
@@ -36,7 +37,10 @@ pub record Keeps (s : Step) : Type 0 where
 abbrev pub AreNeeded : List Step → Type 0
 AreNeeded [] = Unit {0}
 AreNeeded (s ∷ []) = Unit {0}
-AreNeeded (s ∷ (u ∷ us)) = (length s.new ≢ 1) × (weight (items_of u.old.block) + 46 * length (drop 1 s.new) ≤ 4068 → length u.new ≡ 1) × AreNeeded (u ∷ us)
+AreNeeded (s ∷ (u ∷ us)) =
+    (length s.new ≢ 1)
+    × (weight (items_of u.old.block) + 46 * length (drop 1 s.new) ≤ 4068 → length u.new ≡ 1)
+    × AreNeeded (u ∷ us)
 
 -- The parent names the old cell, and may name the few new cells in its place.
 pub record IsUnder (b : Step) (parent : CellSeen) : Type 0 where
@@ -93,7 +97,8 @@ pub record CanClimb (s : Step) (ups : List CellSeen) (fresh : Fresh) : Type 0 wh
   pub end : fresh.end < 2 ^ 64
 
 -- The steps above a step, and the new root where there is one.
-pub record Climbed (s : Step) (ups : List CellSeen) (before after : Fresh) (were are : List Step) (over : Option CellSeen) : Type 0 where
+pub record Climbed (s : Step) (ups : List CellSeen) (before after : Fresh) (were are : List Step)
+    (over : Option CellSeen) : Type 0 where
   pub more : List Step
   pub steps : are ≡ were ++ s ∷ more
   pub climbs : Climbs (Some s) more
@@ -113,6 +118,13 @@ pub record HasLevels (steps : List Step) (over : Option CellSeen) (c : Change) :
   pub old : c.old ≡ olds steps
   pub new : c.new ≡ news steps over
   pub pair : c.root ≡ root_pair over
+
+-- The change has this lowest step, and those above it that it asks for.
+pub record Rises (s : Step) (ups : List CellSeen) (before after : Fresh) (c : Change) : Type 0 where
+  pub steps : List Step
+  pub over : Option CellSeen
+  pub climbed : Climbed s ups before after [] steps over
+  pub levels : HasLevels steps over c
 
 -- ---- a node parted in two
 

@@ -54,4 +54,5 @@ pub record IsCut (w : Row) (cut : ℕ) : Type 0 where
   pub below : cut < length (row_items w)
   pub left : weight (row_part w 0 cut) ≤ 4068
   pub right : weight (row_part w cut (length (row_items w))) ≤ 4068
-  pub filled : 3 ≤ row_level w → 4068 < weight (row_items w) → (1024 ≤ weight (row_part w 0 cut)) × (1024 ≤ weight (row_part w cut (length (row_items w))))
+  pub filled : 3 ≤ row_level w → 4068 < weight (row_items w) → (1024 ≤ weight (row_part w 0 cut))
+      × (1024 ≤ weight (row_part w cut (length (row_items w))))

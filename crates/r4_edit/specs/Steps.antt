@@ -1,11 +1,13 @@
 -- Changes along a path of a tree, level by level (docs/volume.md, "Edits").
-use Rattle.std.specs.Prelude.{◌≡◌, ◌≢◌, ◌↔◌, ◌⊎◌, ℕ, suc, ◌+◌, ◌<◌, ◌≤◌, List, [], ◌∷◌, ◌++◌, map, drop, length, Contains, Option, None, Some}
+use Rattle.std.specs.Prelude.{◌≡◌, ◌≢◌, ◌↔◌, ◌⊎◌, ℕ, suc, ◌+◌, ◌<◌, ◌≤◌, List, [], ◌∷◌, ◌++◌, map, drop, length, Contains}
+use Rattle.std.specs.Prelude.{Option, None, Some}
 use Rattle.std.specs.Option.{option_map}
 use Rattle.r4_base.specs.Key.{least, rank, top}
 use Rattle.r4_base.specs.Tree.{IsNode, Name, Root, Span, Store}
 use Rattle.r4_base.specs.Value.{Value}
 use Rattle.r4_cell.specs.Patch.{NamesId}
 use Rattle.r4_cell.specs.Seen.{CellSeen, node_of}
+use Rattle.r4_cell.specs.declared.change.Fresh.{Fresh}
 use Rattle.r4_cell.specs.declared.change.Root.{Root as RootPair}
 use Rattle.r4_patch.specs.Joining.{ids_of}
 use Rattle.r4_patch.specs.Part.{IsPart}
@@ -107,6 +109,10 @@ fresh_ids (s ∷ steps) over = ids_of (drop 1 s.new) ++ fresh_ids steps over
 abbrev pub CountUp : (n : ℕ) → List ℕ → Type 0
 CountUp n [] = Unit {0}
 CountUp n (i ∷ ids) = (i ≡ n) × CountUp (n + 1) ids
+
+-- Numbers were taken, or none; there are no others than before.
+abbrev pub OnlyTakes : (before after : Fresh) → Type 0
+OnlyTakes before after = (before.next ≤ after.next) × (after.next ≤ after.end) × (after.end ≡ before.end)
 
 -- No cell has a number from one up to another, and none names one.
 pub record IsFree {V : Type 0} (from to : ℕ) (t : Store V) : Type 0 where

@@ -19,7 +19,8 @@ pub(crate) fn append(node: &mut NodeMut<'_>, count: u16, key: Key, plugin: u16, 
     requires some { 1 ≤ length body.now }
     requires room { length body.now + 38 ≤ room_of (bytes_of node.old) }
     ensures block { node.new ≡ with_bytes node.old (bytes_of node.new) }
-    ensures appended { IsAppended (bytes_of node.old) (record { key = key; plugin = plugin; body = body.now }) (bytes_of node.new) }
+    ensures appended { IsAppended (bytes_of node.old) (record { key = key; plugin = plugin; body = body.now })
+        (bytes_of node.new) }
 {
     let _ = node.insert(count, key, plugin, body.len() as u16);
     node.body_mut(count).copy_from_slice(body);

@@ -6,6 +6,7 @@ ghost use Rattle.r4_base.specs.Key.{rank};
 ghost use Rattle.r4_base.specs.Node.{Item};
 ghost use Rattle.r4_node40.specs.View.{view_items};
 ghost use Rattle.r4_edit.specs.Levels.{CanClimb, Climbed, IsStepOver, IsUnder, step_of};
+ghost use Rattle.r4_edit.specs.Steps.{OnlyTakes};
 
 use crate::growing::root_over;
 use crate::level::Level;
@@ -27,7 +28,10 @@ pub(crate) fn climb(
     levels: &mut Vec<Level>,
 ) -> Result<Option<Arc<Cell>>, Memory>
     requires { CanClimb (step_of level) (reverse (map (λ c. arc_value c) above.now)) fresh.old }
-    ensures { IfOk result (λ over. Climbed (step_of level) (reverse (map (λ c. arc_value c) above.now)) fresh.old fresh.new (map step_of levels.old.items) (map step_of levels.new.items) (option_map (λ c. arc_value c) over)) }
+    ensures climbed { IfOk result (λ over.
+        Climbed (step_of level) (reverse (map (λ c. arc_value c) above.now)) fresh.old fresh.new
+        (map step_of levels.old.items) (map step_of levels.new.items) (option_map (λ c. arc_value c) over)) }
+    ensures numbers { OnlyTakes fresh.old fresh.new }
 {
     if level.new.as_slice().len() == 1 {
         levels.push(level)?;
@@ -53,7 +57,8 @@ pub(crate) fn over(
 ) -> Result<Level, Memory>
     requires under { IsUnder (step_of below.now) (arc_value parent.now) }
     requires number { fresh.old.next < fresh.old.end }
-    ensures { IfOk result (λ l. IsStepOver (step_of below.now) (arc_value parent.now) fresh.old fresh.new (step_of l)) }
+    ensures step { IfOk result (λ l. IsStepOver (step_of below.now) (arc_value parent.now) fresh.old fresh.new (step_of l)) }
+    ensures numbers { OnlyTakes fresh.old fresh.new }
 {
     let node = parent.node();
     let at = place_of(&node, below.old.lo());

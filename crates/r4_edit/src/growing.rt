@@ -10,7 +10,7 @@ ghost use Rattle.r4_patch.specs.Joining.{patch_of_change};
 ghost use Rattle.r4_patch.specs.Part.{MeetsPart};
 ghost use Rattle.r4_edit.specs.Growing.{Grows, HasNewRoot, IsRootIn};
 ghost use Rattle.r4_edit.specs.Nodes.{IsPointable, IsPointingTo};
-ghost use Rattle.r4_edit.specs.Steps.{Follow};
+ghost use Rattle.r4_edit.specs.Steps.{Follow, OnlyTakes};
 
 use crate::numbers::take_number;
 use crate::pointing::fill_pointers;
@@ -20,16 +20,18 @@ use std::alloc::Global;
 use std::sync::Arc;
 
 /// A new root over the root of a tree that is lower than 8 levels: the change has the old root among its old and among its
-/// new cells, as it was, and a new cell that names it alone. It takes one fresh number. On `Memory` the numbers may have
-/// been taken (docs/volume.md, "Edits").
+/// new cells, as it was, and a new cell that names it alone. It takes one fresh number. On `Memory` it may have been
+/// taken (docs/volume.md, "Edits").
 pub fn grow(alloc: Global, root: &Arc<Cell>, fresh: &mut Fresh) -> Result<Change, Memory>
     requires root { (t : Store Value) × ((r : TreeRoot) × IsRootIn t r (arc_value root.now) fresh.old) }
     requires low { (arc_value root.now).level < 8 }
     requires number { (2 ^ 63 ≤ fresh.old.next) × (fresh.old.next < fresh.old.end) }
     ensures change { IfOk result (λ c. IsChange c.old c.new c.root) }
-    ensures meets { IfOk result (λ c. (t : Store Value) (r : TreeRoot) → IsRootIn t r (arc_value root.now) fresh.old → MeetsPart (patch_of_change c) t r) }
+    ensures meets { IfOk result (λ c. (t : Store Value) (r : TreeRoot) → IsRootIn t r (arc_value root.now) fresh.old
+        → MeetsPart (patch_of_change c) t r) }
     ensures grows { IfOk result (λ c. Grows (arc_value root.now) fresh.old.next c) }
     ensures fresh { OnOk result (fresh.new ≡ record fresh.old { next = fresh.old.next + 1 }) }
+    ensures numbers { OnlyTakes fresh.old fresh.new }
 {
     let below = [Arc::try_clone(root)?];
     let over = root_over(alloc, &below, root.level(), fresh)?;
@@ -71,6 +73,7 @@ pub(crate) fn root_over(
     requires number { fresh.old.next < fresh.old.end }
     ensures root { IfOk result (λ c. IsPointingTo (map (λ d. arc_value d) cells.now) (level + 1) fresh.old.next (arc_value c)) }
     ensures fresh { OnOk result (fresh.new ≡ record fresh.old { next = fresh.old.next + 1 }) }
+    ensures numbers { OnlyTakes fresh.old fresh.new }
 {
     let mut block = Block::zeroed(alloc)?;
     let mkfs_id = get32(cells[0].block().bytes(), 12);

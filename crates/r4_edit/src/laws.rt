@@ -11,6 +11,8 @@ ghost use Rattle.r4_edit.specs.Steps.{IsPathChange, Step, news, olds, root_pair}
 /// A change along a path of a part of a tree, in which the cells of each level share out the old one's range and what it
 /// named, is a patch, and that part meets it (docs/volume.md, "Edits").
 pub fn path_changes_are_patches()
-    ensures change { (t : Store Value) (r : Root) (from : ℕ) (steps : List Step) (over : Option CellSeen) → IsPathChange t r from steps over → IsChange (olds steps) (news steps over) (root_pair over) }
-    ensures meets { (t : Store Value) (r : Root) (from : ℕ) (steps : List Step) (over : Option CellSeen) → IsPathChange t r from steps over → MeetsPart (patch_of (olds steps) (news steps over) (root_pair over)) t r }
+    ensures change { (t : Store Value) (r : Root) (from : ℕ) (steps : List Step) (over : Option CellSeen)
+        → IsPathChange t r from steps over → IsChange (olds steps) (news steps over) (root_pair over) }
+    ensures meets { (t : Store Value) (r : Root) (from : ℕ) (steps : List Step) (over : Option CellSeen)
+        → IsPathChange t r from steps over → MeetsPart (patch_of (olds steps) (news steps over) (root_pair over)) t r }
 {}

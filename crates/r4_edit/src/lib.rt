@@ -2,18 +2,26 @@
 #![tactic(auto)]
 
 mod appending;
+mod ascent;
 mod climbing;
+mod editing;
 mod gathering;
 mod growing;
 mod laws;
+mod leaves;
 mod level;
 mod numbers;
 mod pointing;
 mod row;
 mod sharing;
 mod splitting;
+#[cfg(test)]
+mod tests;
+#[cfg(test)]
+mod trials;
 mod twig_laws;
 
+pub use editing::{cut, insert};
 pub use growing::grow;
 pub use laws::path_changes_are_patches;
 pub use splitting::split;

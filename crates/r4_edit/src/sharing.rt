@@ -5,6 +5,7 @@ ghost use Rattle.std.specs.Arc.{arc_value};
 ghost use Rattle.r4_edit.specs.Nodes.{weight};
 ghost use Rattle.r4_edit.specs.Rows.{row_items};
 ghost use Rattle.r4_edit.specs.Sharing.{AreFilled, HasItems, IsRowOf, Shares};
+ghost use Rattle.r4_edit.specs.Steps.{OnlyTakes};
 
 use crate::numbers::take_number;
 use crate::row::{ROOM, Row};
@@ -23,7 +24,8 @@ pub(crate) fn share(
 ) -> Result<Cells, Memory>
     requires row { IsRowOf old.now row.now }
     requires number { fresh.old.next < fresh.old.end }
-    ensures { IfOk result (λ cells. Shares old.now (row_items row.now) fresh.old fresh.new cells) }
+    ensures shares { IfOk result (λ cells. Shares old.now (row_items row.now) fresh.old fresh.new cells) }
+    ensures numbers { OnlyTakes fresh.old fresh.new }
 {
     if row.weight(0, row.len()) <= ROOM {
         return one(alloc, row, old);
@@ -55,6 +57,7 @@ pub(crate) fn two(
     ensures cells { IfOk result (λ cells. HasItems old.now (row_items row.now) fresh.old.next cells × (length cells ≡ 2)) }
     ensures filled { IfOk result (λ cells. 3 ≤ old.now.level → 4068 < weight (row_items row.now) → AreFilled cells) }
     ensures fresh { OnOk result (fresh.new ≡ record fresh.old { next = fresh.old.next + 1 }) }
+    ensures numbers { OnlyTakes fresh.old fresh.new }
 {
     let cut = row.cut();
     let key = row.key(cut);

@@ -10,9 +10,9 @@ ghost use Rattle.r4_cell.specs.Patch.{IsChange};
 ghost use Rattle.r4_patch.specs.Joining.{patch_of_change};
 ghost use Rattle.r4_patch.specs.Part.{MeetsPart};
 ghost use Rattle.r4_edit.specs.Levels.{IsParted, IsSplitIn, Splits, step_of};
+ghost use Rattle.r4_edit.specs.Steps.{OnlyTakes};
 
-use crate::climbing::climb;
-use crate::gathering::gather;
+use crate::ascent::rise;
 use crate::level::Level;
 use crate::row::Row;
 use crate::sharing::two;
@@ -29,15 +29,15 @@ pub fn split(alloc: Global, path: &[Arc<Cell>], fresh: &mut Fresh) -> Result<Cha
     requires path { (t : Store Value) × ((r : TreeRoot) × IsSplitIn t r (map (λ c. arc_value c) path.now) fresh.old) }
     requires numbers { (2 ^ 63 ≤ fresh.old.next) × (fresh.old.next + length path.now < fresh.old.end) }
     ensures change { IfOk result (λ c. IsChange c.old c.new c.root) }
-    ensures meets { IfOk result (λ c. (t : Store Value) (r : TreeRoot) → IsSplitIn t r (map (λ x. arc_value x) path.now) fresh.old → MeetsPart (patch_of_change c) t r) }
+    ensures meets { IfOk result (λ c. (t : Store Value) (r : TreeRoot)
+        → IsSplitIn t r (map (λ x. arc_value x) path.now) fresh.old → MeetsPart (patch_of_change c) t r) }
     ensures splits { IfOk result (λ c. Splits (map (λ x. arc_value x) path.now) fresh.old fresh.new c) }
+    ensures numbers { OnlyTakes fresh.old fresh.new }
 {
     let count = path.len() - 1;
     prove!(fresh.next < fresh.end);
     let first = part(alloc, &path[count], fresh)?;
-    let mut levels = Vec::new(alloc);
-    let over = climb(alloc, &path[..count], first, fresh, &mut levels)?;
-    gather(alloc, levels.as_slice(), over)
+    rise(alloc, &path[..count], first, fresh)
 }
 
 /// The two cells in the place of one.
@@ -46,7 +46,8 @@ fn part(alloc: Global, cell: &Arc<Cell>, fresh: &mut Fresh) -> Result<Level, Mem
     requires low { 1 ≤ (arc_value cell.now).level }
     requires two { 2 ≤ length (items_of (arc_value cell.now).block) }
     requires number { fresh.old.next < fresh.old.end }
-    ensures { IfOk result (λ l. IsParted (arc_value cell.now) fresh.old fresh.new (step_of l)) }
+    ensures parted { IfOk result (λ l. IsParted (arc_value cell.now) fresh.old fresh.new (step_of l)) }
+    ensures numbers { OnlyTakes fresh.old fresh.new }
 {
     let row = Row {
         node: cell.node(),

@@ -16,10 +16,15 @@ pub copy_from_slice-requires : goal.copy_from_slice-requires
 copy_from_slice-requires c =
     let put = went_well c.insert.result _ (c.insert.ensures.fits.1 c.requires.room) c.insert.ensures.ok in
     ap length c.body_mut.ensures.value
-    ∙ same_length (bytes_of c.args.node.now) (bytes_of c.insert.new.self) c.args.body.now c.args.count c.args.plugin c.args.key c.requires.counted c.requires.node c.requires.plugin c.requires.above c.requires.some put
+    ∙ same_length (bytes_of c.args.node.now)
+    (bytes_of c.insert.new.self) c.args.body.now c.args.count c.args.plugin c.args.key c.requires.counted c.requires.node c.requires.plugin c.requires.above c.requires.some put
 
 pub returns-clause-appended : goal.returns-clause-appended
 returns-clause-appended c =
     let put = went_well c.insert.result _ (c.insert.ensures.fits.1 c.requires.room) c.insert.ensures.ok in
-    subst (λ (w : List ℕ). IsAppended (bytes_of c.args.node.now) (record { key = c.args.key; plugin = c.args.plugin; body = c.args.body.now }) (written (bytes_of c.insert.new.self) (offset_at (bytes_of c.insert.new.self) c.args.count) w)) (sym c.copy_from_slice.ensures.after)
-    (appended (bytes_of c.args.node.now) (bytes_of c.insert.new.self) c.args.body.now c.args.count c.args.plugin c.args.key c.requires.counted c.requires.node c.requires.plugin c.requires.above c.requires.some put)
+    subst (λ (w : List ℕ). IsAppended (bytes_of c.args.node.now)
+    (record { key = c.args.key; plugin = c.args.plugin; body = c.args.body.now })
+    (written (bytes_of c.insert.new.self) (offset_at (bytes_of c.insert.new.self) c.args.count) w))
+    (sym c.copy_from_slice.ensures.after)
+    (appended (bytes_of c.args.node.now)
+    (bytes_of c.insert.new.self) c.args.body.now c.args.count c.args.plugin c.args.key c.requires.counted c.requires.node c.requires.plugin c.requires.above c.requires.some put)

@@ -7,7 +7,8 @@ use Rattle.r4_edit.proofs.climbing.over.Goals as goal
 
 pub share-requires-clause-row : goal.share-requires-clause-row
 share-requires-clause-row c =
-    over_row (arc_value c.args.parent.now) (step_of c.args.below.now) c.deref.result.now c.deref-4.result.now (record { node = c.node-node.result; mkfs_id = c.get32.result; at = c.place_of-at.result; more = c.further.result }) c.lo.result
+    over_row (arc_value c.args.parent.now) (step_of c.args.below.now) c.deref.result.now c.deref-4.result.now
+    (record { node = c.node-node.result; mkfs_id = c.get32.result; at = c.place_of-at.result; more = c.further.result }) c.lo.result
     (record {
       under = c.requires.under;
       p_is = c.deref.ensures;
@@ -21,9 +22,10 @@ share-requires-clause-row c =
       here_at = c.place_of-at.ensures.at;
     })
 
-pub returns : goal.returns
-returns c =
-    over_step (arc_value c.args.parent.now) (step_of c.args.below.now) c.deref.result.now c.deref-4.result.now (record { node = c.node-node.result; mkfs_id = c.get32.result; at = c.place_of-at.result; more = c.further.result }) c.lo.result
+pub returns-clause-step : goal.returns-clause-step
+returns-clause-step c =
+    over_step (arc_value c.args.parent.now) (step_of c.args.below.now) c.deref.result.now c.deref-4.result.now
+    (record { node = c.node-node.result; mkfs_id = c.get32.result; at = c.place_of-at.result; more = c.further.result }) c.lo.result
     (record {
       under = c.requires.under;
       p_is = c.deref.ensures;
@@ -36,4 +38,5 @@ returns c =
       below = c.place_of-at.ensures.below;
       here_at = c.place_of-at.ensures.at;
     })
-    c.args.fresh.now c.share.new.fresh (arc_value c.in_ok-try_clone.field-0) c.in_ok-new.new c.in_ok-try_clone.ensures c.in_ok-new.ensures
+    c.args.fresh.now c.share.new.fresh
+    (arc_value c.in_ok-try_clone.field-0) c.in_ok-new.new c.in_ok-try_clone.ensures c.in_ok-new.ensures.shares

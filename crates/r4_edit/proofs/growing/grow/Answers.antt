@@ -21,10 +21,23 @@ root_over-requires-clause-follow c =
 pub returns-clause-change : goal.returns-clause-change
 returns-clause-change c =
     let (t, (r, is)) = c.requires.root in
-    IfOk-weaker c.grown.result _ _ (grown_change t r (arc_value c.args.root.now) (arc_value c.in_ok-over.over) c.args.fresh.now is c.requires.number.1 (points_at (arc_value c.args.root.now) (arc_value c.in_ok-try_clone.field-0) (arc_value c.in_ok-over.over) c.level.result c.args.fresh.now.next c.in_ok-try_clone.ensures (c.level.ensures ∙ ap (λ (x : CellSeen). x.level) c.deref.ensures) c.in_ok-over.ensures.root)) c.grown.ensures
+    IfOk-weaker c.grown.result _ _ (grown_change t r (arc_value c.args.root.now)
+    (arc_value c.in_ok-over.over) c.args.fresh.now is c.requires.number.1
+    (points_at (arc_value c.args.root.now) (arc_value c.in_ok-try_clone.field-0)
+    (arc_value c.in_ok-over.over) c.level.result c.args.fresh.now.next c.in_ok-try_clone.ensures
+    (c.level.ensures ∙ ap (λ (x : CellSeen). x.level) c.deref.ensures) c.in_ok-over.ensures.root)) c.grown.ensures
 
 pub returns-clause-meets : goal.returns-clause-meets
-returns-clause-meets c = IfOk-weaker c.grown.result _ _ (λ d h t r is. grown_meets t r (arc_value c.args.root.now) (arc_value c.in_ok-over.over) c.args.fresh.now is c.requires.number.1 (points_at (arc_value c.args.root.now) (arc_value c.in_ok-try_clone.field-0) (arc_value c.in_ok-over.over) c.level.result c.args.fresh.now.next c.in_ok-try_clone.ensures (c.level.ensures ∙ ap (λ (x : CellSeen). x.level) c.deref.ensures) c.in_ok-over.ensures.root) d h) c.grown.ensures
+returns-clause-meets c = IfOk-weaker c.grown.result _ _
+    (λ d h t r is. grown_meets t r (arc_value c.args.root.now)
+    (arc_value c.in_ok-over.over) c.args.fresh.now is c.requires.number.1
+    (points_at (arc_value c.args.root.now) (arc_value c.in_ok-try_clone.field-0)
+    (arc_value c.in_ok-over.over) c.level.result c.args.fresh.now.next c.in_ok-try_clone.ensures
+    (c.level.ensures ∙ ap (λ (x : CellSeen). x.level) c.deref.ensures) c.in_ok-over.ensures.root) d h) c.grown.ensures
 
 pub returns-clause-grows : goal.returns-clause-grows
-returns-clause-grows c = IfOk-weaker c.grown.result _ _ (λ d h. grows_of (arc_value c.args.root.now) (arc_value c.in_ok-over.over) c.args.fresh.now.next d (points_at (arc_value c.args.root.now) (arc_value c.in_ok-try_clone.field-0) (arc_value c.in_ok-over.over) c.level.result c.args.fresh.now.next c.in_ok-try_clone.ensures (c.level.ensures ∙ ap (λ (x : CellSeen). x.level) c.deref.ensures) c.in_ok-over.ensures.root) h) c.grown.ensures
+returns-clause-grows c = IfOk-weaker c.grown.result _ _
+    (λ d h. grows_of (arc_value c.args.root.now) (arc_value c.in_ok-over.over) c.args.fresh.now.next d
+    (points_at (arc_value c.args.root.now) (arc_value c.in_ok-try_clone.field-0)
+    (arc_value c.in_ok-over.over) c.level.result c.args.fresh.now.next c.in_ok-try_clone.ensures
+    (c.level.ensures ∙ ap (λ (x : CellSeen). x.level) c.deref.ensures) c.in_ok-over.ensures.root) h) c.grown.ensures

@@ -10,23 +10,31 @@ use Rattle.r4_edit.proofs.PointerNodes.{pointers_rise}
 use Rattle.r4_edit.proofs.growing.root_over.Goals as goal
 
 pub fill_pointers-requires-clause-rising : goal.fill_pointers-requires-clause-rising
-fill_pointers-requires-clause-rising c = subst KeysRise (sym (map_twice arc_value c.args.cells.now)) (pointers_rise c.args.level least top (map arc_value c.args.cells.now) c.requires.follow)
+fill_pointers-requires-clause-rising c = subst KeysRise (sym (map_twice arc_value c.args.cells.now))
+    (pointers_rise c.args.level least top (map arc_value c.args.cells.now) c.requires.follow)
 
 pub new_cell-requires : goal.new_cell-requires
 new_cell-requires c =
     let long = long_map arc_value c.args.cells.now in
     let some = c.requires.some in
-    root_sound c.args.level (map arc_value c.args.cells.now) c.requires.follow c.requires.able (omega (arith, long, some)) (c.args.level + 1) (rank c.least.result) (rank c.top.result) c.fill_pointers.new.block (omega arith) c.least.ensures c.top.ensures
-    (subst (λ (items : List Item). IsNodeOf (c.args.level + 1) items c.fill_pointers.new.block) (map_twice arc_value c.args.cells.now) c.fill_pointers.ensures)
+    root_sound c.args.level (map arc_value c.args.cells.now) c.requires.follow c.requires.able (omega (arith, long, some))
+    (c.args.level + 1) (rank c.least.result) (rank c.top.result) c.fill_pointers.new.block
+    (omega arith) c.least.ensures c.top.ensures
+    (subst (λ (items : List Item). IsNodeOf (c.args.level + 1) items c.fill_pointers.new.block)
+    (map_twice arc_value c.args.cells.now) c.fill_pointers.ensures)
 
 pub returns-clause-root : goal.returns-clause-root
 returns-clause-root c =
     let long = long_map arc_value c.args.cells.now in
     let some = c.requires.some in
     IfOk-weaker c.new_cell.result _ _ (λ x is.
-    root_is c.args.level (map arc_value c.args.cells.now) c.requires.follow c.requires.able (omega (arith, long, some)) (c.args.level + 1) c.args.fresh.now.next (arc_value x) (omega arith)
-    (ap (λ (s : CellSeen). s.id) is ∙ c.take_number.ensures.number) (ap (λ (s : CellSeen). s.level) is) (ap (λ (s : CellSeen). rank s.lo) is ∙ c.least.ensures) (ap (λ (s : CellSeen). rank s.hi) is ∙ c.top.ensures)
+    root_is c.args.level (map arc_value c.args.cells.now) c.requires.follow c.requires.able (omega (arith, long, some))
+    (c.args.level + 1) c.args.fresh.now.next (arc_value x) (omega arith)
+    (ap (λ (s : CellSeen). s.id) is ∙ c.take_number.ensures.number) (ap (λ (s : CellSeen). s.level) is)
+    (ap (λ (s : CellSeen). rank s.lo) is ∙ c.least.ensures) (ap (λ (s : CellSeen). rank s.hi) is ∙ c.top.ensures)
     (ap (λ (s : CellSeen). length s.block) is ∙ c.fill_pointers.ensures.node.laid.whole)
-    (subst (λ (b : List ℕ). IsNodeOf (c.args.level + 1) (map pointer_item (map arc_value c.args.cells.now)) b) (sym (ap (λ (s : CellSeen). s.block) is))
-    (subst (λ (items : List Item). IsNodeOf (c.args.level + 1) items c.fill_pointers.new.block) (map_twice arc_value c.args.cells.now) c.fill_pointers.ensures)))
+    (subst (λ (b : List ℕ). IsNodeOf (c.args.level + 1) (map pointer_item (map arc_value c.args.cells.now)) b)
+    (sym (ap (λ (s : CellSeen). s.block) is))
+    (subst (λ (items : List Item). IsNodeOf (c.args.level + 1) items c.fill_pointers.new.block)
+    (map_twice arc_value c.args.cells.now) c.fill_pointers.ensures)))
     c.new_cell.ensures

@@ -5,4 +5,5 @@ use Rattle.r4_edit.specs.Nodes.{IsNodeOf, pointer_item}
 use Rattle.r4_edit.proofs.pointing.fill_pointers.Given as goal
 
 abbrev pub invariant-loop-i : goal.invariant-loop-i
-invariant-loop-i l = (l.node ≡ with_bytes l.initial.node (bytes_of l.node)) × IsNodeOf l.level (take l.i (map (λ c. pointer_item (arc_value c)) l.cells)) (bytes_of l.node)
+invariant-loop-i l = (l.node ≡ with_bytes l.initial.node (bytes_of l.node))
+    × IsNodeOf l.level (take l.i (map (λ c. pointer_item (arc_value c)) l.cells)) (bytes_of l.node)

@@ -14,7 +14,8 @@ new_cell-requires c = left_sound c.args.old.now c.args.row.now c.requires.row c.
 pub new_cell-requires-2 : goal.new_cell-requires-2
 new_cell-requires-2 c =
     right_sound c.args.old.now c.args.row.now c.requires.row c.cut-cut.result c.key-key.result c.cut-cut.ensures.some c.cut-cut.ensures.below c.key-key.ensures c.level-2.result c.hi.result c.in_ok-right.right c.level-2.ensures c.hi.ensures
-    (subst (λ n. IsNodeOf (row_level c.args.row.now) (row_part c.args.row.now c.cut-cut.result n) c.in_ok-right.right) c.len.ensures c.in_ok-right.ensures)
+    (subst (λ n. IsNodeOf (row_level c.args.row.now)
+    (row_part c.args.row.now c.cut-cut.result n) c.in_ok-right.right) c.len.ensures c.in_ok-right.ensures)
 
 pub returns-clause-cells : goal.returns-clause-cells
 returns-clause-cells c =
@@ -23,14 +24,20 @@ returns-clause-cells c =
     let left = arc_value c.in_ok-left-2.left in
     let right = arc_value c.in_ok-right-2.right in
     IfOk-weaker c.pair.result _ _ (λ cells is.
-    subst (λ (xs : List CellSeen). HasItems c.args.old.now (row_items c.args.row.now) c.args.fresh.now.next xs × (length xs ≡ 2)) (sym is) (
+    subst (λ (xs : List CellSeen). HasItems c.args.old.now (row_items c.args.row.now) c.args.fresh.now.next xs
+    × (length xs ≡ 2)) (sym is) (
       two_has c.args.old.now c.args.row.now c.requires.row c.cut-cut.result c.key-key.result c.cut-cut.ensures.some c.cut-cut.ensures.below c.key-key.ensures c.args.fresh.now.next left right
           (ap (λ (s : CellSeen). s.id) a ∙ c.id.ensures) (ap (λ (s : CellSeen). s.id) b ∙ c.take_number.ensures.number)
           (ap (λ (s : CellSeen). s.level) a ∙ c.level.ensures) (ap (λ (s : CellSeen). s.level) b ∙ c.level-2.ensures)
-          (ap (λ (s : CellSeen). s.lo) a ∙ c.lo.ensures) (ap (λ (s : CellSeen). s.hi) a) (ap (λ (s : CellSeen). s.lo) b) (ap (λ (s : CellSeen). s.hi) b ∙ c.hi.ensures)
-          (subst (IsNodeOf (row_level c.args.row.now) (row_part c.args.row.now 0 c.cut-cut.result)) (sym (ap (λ (s : CellSeen). s.block) a)) c.in_ok-left.ensures)
-          (subst (IsNodeOf (row_level c.args.row.now) (row_part c.args.row.now c.cut-cut.result (length (row_items c.args.row.now)))) (sym (ap (λ (s : CellSeen). s.block) b))
-          (subst (λ n. IsNodeOf (row_level c.args.row.now) (row_part c.args.row.now c.cut-cut.result n) c.in_ok-right.right) c.len.ensures c.in_ok-right.ensures)),
+          (ap (λ (s : CellSeen). s.lo) a ∙ c.lo.ensures) (ap (λ (s : CellSeen). s.hi) a) (ap (λ (s : CellSeen). s.lo) b)
+          (ap (λ (s : CellSeen). s.hi) b ∙ c.hi.ensures)
+          (subst (IsNodeOf (row_level c.args.row.now) (row_part c.args.row.now 0 c.cut-cut.result))
+          (sym (ap (λ (s : CellSeen). s.block) a)) c.in_ok-left.ensures)
+          (subst (IsNodeOf (row_level c.args.row.now)
+          (row_part c.args.row.now c.cut-cut.result (length (row_items c.args.row.now))))
+          (sym (ap (λ (s : CellSeen). s.block) b))
+          (subst (λ n. IsNodeOf (row_level c.args.row.now)
+          (row_part c.args.row.now c.cut-cut.result n) c.in_ok-right.right) c.len.ensures c.in_ok-right.ensures)),
       refl,
     )) c.pair.ensures
 
@@ -40,7 +47,11 @@ returns-clause-filled c =
     let b = c.in_ok-right-2.ensures in
     IfOk-weaker c.pair.result _ _ (λ cells is high over.
     subst AreFilled (sym is)
-    (two_filled c.args.old.now c.args.row.now c.requires.row c.cut-cut.result c.cut-cut.ensures (arc_value c.in_ok-left-2.left) (arc_value c.in_ok-right-2.right)
-    (subst (IsNodeOf (row_level c.args.row.now) (row_part c.args.row.now 0 c.cut-cut.result)) (sym (ap (λ (s : CellSeen). s.block) a)) c.in_ok-left.ensures)
-    (subst (IsNodeOf (row_level c.args.row.now) (row_part c.args.row.now c.cut-cut.result (length (row_items c.args.row.now)))) (sym (ap (λ (s : CellSeen). s.block) b))
-    (subst (λ n. IsNodeOf (row_level c.args.row.now) (row_part c.args.row.now c.cut-cut.result n) c.in_ok-right.right) c.len.ensures c.in_ok-right.ensures)) high over)) c.pair.ensures
+    (two_filled c.args.old.now c.args.row.now c.requires.row c.cut-cut.result c.cut-cut.ensures
+    (arc_value c.in_ok-left-2.left) (arc_value c.in_ok-right-2.right)
+    (subst (IsNodeOf (row_level c.args.row.now) (row_part c.args.row.now 0 c.cut-cut.result))
+    (sym (ap (λ (s : CellSeen). s.block) a)) c.in_ok-left.ensures)
+    (subst (IsNodeOf (row_level c.args.row.now)
+    (row_part c.args.row.now c.cut-cut.result (length (row_items c.args.row.now)))) (sym (ap (λ (s : CellSeen). s.block) b))
+    (subst (λ n. IsNodeOf (row_level c.args.row.now)
+    (row_part c.args.row.now c.cut-cut.result n) c.in_ok-right.right) c.len.ensures c.in_ok-right.ensures)) high over)) c.pair.ensures

@@ -9,4 +9,5 @@ returns c =
     let self = c.args.self.now in
     let over = not_le (weight (row_part self (self.at + 1) c.len.result)) 4068 (sym c.if-fits.false ∙ c.fits.ensures) in
     subst (λ k. IsCut self (self.at + 1 + k)) (more_long self c.requires.row c.requires.narrow)
-    (cut_behind self c.requires.row c.requires.narrow c.requires.low (subst (λ n. 4068 < weight (row_part self (self.at + 1) n)) c.len.ensures over))
+    (cut_behind self c.requires.row c.requires.narrow c.requires.low
+    (subst (λ n. 4068 < weight (row_part self (self.at + 1) n)) c.len.ensures over))

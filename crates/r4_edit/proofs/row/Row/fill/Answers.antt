@@ -6,6 +6,7 @@ use Rattle.r4_edit.proofs.row.Row.fill.Goals as goal
 pub put-requires-clause-room : goal.put-requires-clause-room
 put-requires-clause-room c =
     let lt = c.loop-i-test.true in
-    let less = part_less (c.loop-i.i + 1 - c.args.from) (c.args.to - c.args.from) (drop c.args.from (row_items c.args.self.now)) (omega (arith, lt)) in
+    let less = part_less (c.loop-i.i + 1 - c.args.from) (c.args.to - c.args.from)
+    (drop c.args.from (row_items c.args.self.now)) (omega (arith, lt)) in
     let room = c.requires.room in
     omega (arith, less, room)

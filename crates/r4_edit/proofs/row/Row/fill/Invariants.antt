@@ -5,4 +5,5 @@ use Rattle.r4_edit.specs.Rows.{row_level, row_part}
 use Rattle.r4_edit.proofs.row.Row.fill.Given as goal
 
 abbrev pub invariant-loop-i : goal.invariant-loop-i
-invariant-loop-i l = (l.node ≡ with_bytes l.initial.node (bytes_of l.node)) × IsNodeOf (row_level l.self) (row_part l.self l.from l.i) (bytes_of l.node)
+invariant-loop-i l = (l.node ≡ with_bytes l.initial.node (bytes_of l.node))
+    × IsNodeOf (row_level l.self) (row_part l.self l.from l.i) (bytes_of l.node)

@@ -15,8 +15,12 @@ returns-in-Some c =
     let past = c.if-i-self.false in
     let lt = c.in-Some.ensures.lookup.3.0 in
     let m = long_map arc_value self.more.now in
-    row_comes (view_items self.node) self.at (row_more self) c.requires.row.within c.args.i (omega (arith, past)) (omega (arith, lt, m))
-    ∙ ap (option_map pointer_item) (slice_get-map arc_value self.more.now (c.args.i - self.at - 1) ∙ ap (option_map arc_value) (slice_get_read self.more.now (length self.more.now) (c.args.i - self.at - 1) c.in-Some.cell.now refl lt c.in-Some.ensures.lookup.1))
+    row_comes (view_items self.node) self.at (row_more self) c.requires.row.within c.args.i (omega (arith, past))
+    (omega (arith, lt, m))
+    ∙ ap (option_map pointer_item) (slice_get-map arc_value self.more.now (c.args.i - self.at - 1)
+    ∙ ap (option_map arc_value)
+    (slice_get_read self.more.now (length self.more.now)
+    (c.args.i - self.at - 1) c.in-Some.cell.now refl lt c.in-Some.ensures.lookup.1))
 
 pub returns-in-None : goal.returns-in-None
 returns-in-None c =

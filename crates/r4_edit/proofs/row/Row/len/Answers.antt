@@ -7,7 +7,8 @@ use Rattle.r4_edit.proofs.RowPlaces.{row_length}
 use Rattle.r4_edit.proofs.row.Row.len.Goals as goal
 
 pub overflow_add-result : goal.overflow_add-result
-overflow_add-result c = let few = c.requires.few in let m = long_map arc_value c.args.self.now.more.now in let n = c.len.ensures in omega (arith, few, m, n)
+overflow_add-result c = let few = c.requires.few in let m = long_map arc_value c.args.self.now.more.now in
+    let n = c.len.ensures in omega (arith, few, m, n)
 
 pub returns : goal.returns
 returns c =

@@ -1,0 +1,54 @@
+-- Trees of two levels for tests: a root over leaves, of which the first is changed.
+use Rattle.std.specs.Prelude.{◌≡◌, ℕ, ◌^◌, ◌<◌, ◌≤◌, List, [], ◌∷◌, Contains, length}
+use Rattle.r4_base.specs.Cell.{item_end, item_units}
+use Rattle.r4_base.specs.Key.{least, rank, top}
+use Rattle.r4_base.specs.Node.{Item}
+use Rattle.r4_base.specs.Tree.{Root}
+use Rattle.r4_base.specs.Value.{Value}
+use Rattle.r4_cell.specs.Patch.{by_name}
+use Rattle.r4_cell.specs.Seen.{CellSeen, node_of}
+use Rattle.r4_cell.specs.declared.change.Fresh.{Fresh}
+use Rattle.r4_leaf.specs.Leaves.{AreApart, IsGiven}
+use Rattle.r4_patch.specs.Joining.{ids_of}
+use Rattle.r4_edit.specs.Growing.{IsPathIn}
+use Rattle.r4_edit.specs.Steps.{CountUp, Follow}
+
+-- The cells are leaves that share out all keys, with the first numbers; one root has room for them.
+pub record AreLeaves (cells : List CellSeen) : Type 0 where
+  pub some : 1 ≤ length cells
+  pub few : length cells ≤ 88
+  pub follow : Follow 1 least top cells
+  pub counts : CountUp (2 ^ 63) (ids_of cells)
+
+-- The item may stand in a leaf alone, up to a key.
+pub record StandsAlone (it : Item) (hi : ℕ) : Type 0 where
+  pub given : IsGiven it
+  pub below : rank it.key < hi
+  pub end : item_end it ≤ hi
+  pub above : (k : ℕ) (v : Value) → Contains (item_units it) (k, v) → rank it.key ≤ k
+
+-- The item may be put into the leaf.
+pub record MayCome (leaf : CellSeen) (it : Item) : Type 0 where
+  pub given : IsGiven it
+  pub from : rank leaf.lo ≤ rank it.key
+  pub to : item_end it ≤ rank leaf.hi
+  pub apart : AreApart (node_of leaf).units (item_units it)
+
+abbrev pub FirstMayTake : List CellSeen → Item → Type 0
+FirstMayTake [] it = ⊥
+FirstMayTake (leaf ∷ rest) it = MayCome leaf it
+
+-- The root has this name, in a tree of two levels.
+abbrev pub low_root : CellSeen → Root
+low_root twig = record { id = twig.id; height = 2 }
+
+-- The path has a root and the leaf below it.
+pub record IsShortPath (leaf : CellSeen) (fresh : Fresh) (path : List CellSeen) : Type 0 where
+  pub twig : CellSeen
+  pub cells : path ≡ twig ∷ (leaf ∷ [])
+  pub level : twig.level ≡ 2
+  pub leads : IsPathIn (by_name path) (low_root twig) (leaf ∷ (twig ∷ [])) fresh
+
+abbrev pub IsPathOver : (leaves : List CellSeen) → Fresh → (path : List CellSeen) → Type 0
+IsPathOver [] fresh path = ⊥
+IsPathOver (leaf ∷ rest) fresh path = IsShortPath leaf fresh path

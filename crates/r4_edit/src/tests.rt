@@ -1,0 +1,172 @@
+//! Edits of a leaf below a root: which cells come, and how many items and free bytes they have.
+
+use crate::trials::{LEAF, ROOT, put, take_out};
+use r4_base::{Attr, Block, Key, NodeId, Oid, get16};
+use r4_cell::{Cell, Change, least, read_cell, top};
+use r4_meta::write_stat;
+use r4_node40::NodeMut;
+use std::alloc::Global;
+use std::sync::Arc;
+use std::test::Fail;
+
+const STAT: u16 = 0;
+
+const TAIL: u16 = 6;
+
+/// A number, how many items, and how many free bytes.
+type Row = (u64, u16, u16);
+
+static ZEROS: [u8; 4030] = [0; 4030];
+
+// The key of a byte of a file.
+fn byte(offset: u64) -> Key {
+    Key::body(41, 0, Oid(42), offset)
+}
+
+// A leaf without items.
+fn empty_leaf(alloc: Global, id: u64, lo: Key, hi: Key) -> Result<Arc<Cell>, Fail> {
+    let mut block = Block::zeroed(alloc)?;
+    let _ = NodeMut::format(&mut block, 1, 1);
+    let Ok(cell) = read_cell(alloc, NodeId(id), 1, lo, hi, 64, block) else {
+        return Err(Fail::from("an empty leaf is refused"));
+    };
+    Ok(cell)
+}
+
+// What comes in the place of the first leaf where an item is put into it.
+fn with(
+    alloc: Global,
+    leaves: &[Arc<Cell>],
+    key: Key,
+    plugin: u16,
+    body: &[u8],
+) -> Result<Change, Fail> {
+    match put(alloc, leaves, &key, plugin, body) {
+        Ok(Some(change)) => Ok(change),
+        Ok(None) => Err(Fail::from("it may not be put there")),
+        Err(_) => Err(Fail::from("there is no memory")),
+    }
+}
+
+// What comes in the place of a leaf without some of its units.
+fn without(alloc: Global, leaf: &Arc<Cell>, from: Key, to: Key) -> Result<Change, Fail> {
+    match take_out(alloc, &[Arc::try_clone(leaf)?], &from, &to) {
+        Ok(Some(change)) => Ok(change),
+        Ok(None) => Err(Fail::from("the keys are not the leaf's")),
+        Err(_) => Err(Fail::from("there is no memory")),
+    }
+}
+
+// The first new cell.
+fn first(change: &Change) -> Result<Arc<Cell>, Fail> {
+    match change.new.as_slice().first() {
+        Some(cell) => Ok(Arc::try_clone(cell)?),
+        None => Err(Fail::from("no cell comes")),
+    }
+}
+
+// The leaf of all keys with the stat data of the root.
+fn root_leaf(alloc: Global) -> Result<Arc<Cell>, Fail> {
+    let mut stat = [0; 44];
+    write_stat(
+        &mut stat,
+        &Attr {
+            mode: 0o40755,
+            nlink: 2,
+            size: 0,
+            uid: 0,
+            gid: 0,
+            atime: 0,
+            mtime: 0,
+            ctime: 0,
+            bytes: 0,
+        },
+    );
+    let leaf = empty_leaf(alloc, LEAF, least(), top())?;
+    first(&with(alloc, &[leaf], least(), STAT, &stat)?)
+}
+
+// The new cells, the lowest first.
+fn rows(alloc: Global, change: &Change) -> Result<Vec<Row>, Fail> {
+    let mut rows = Vec::new(alloc);
+    for cell in change.new.as_slice() {
+        let bytes = cell.block().bytes();
+        rows.push((cell.id().0, get16(bytes, 2), get16(bytes, 4)))?;
+    }
+    Ok(rows)
+}
+
+// How many bytes of a tail come into the leaf of a fresh volume, and the cells that come.
+static TAILS: [(usize, &[Row]); 2] = [
+    (3948, &[(LEAF, 2, 0)]),
+    (3949, &[(LEAF, 2, 0), (ROOT + 1, 1, 4029), (ROOT, 2, 3976)]),
+];
+
+#[test]
+fn a_leaf_is_filled_before_another_comes(rt: HostRuntime) -> Result<(), Fail> {
+    let leaf = root_leaf(rt.alloc())?;
+    for (bytes, want) in TAILS {
+        let leaves = [Arc::try_clone(&leaf)?];
+        if bytes > 4030 {
+            return Err(Fail::from("no item has so many bytes"));
+        }
+        let change = with(rt.alloc(), &leaves, byte(0), TAIL, &ZEROS[..bytes])?;
+        assert_eq!(rt; rows(rt.alloc(), &change)?.as_slice(), want);
+        assert!(rt; change.root.is_none());
+    }
+    Ok(())
+}
+
+#[test]
+fn tails_are_joined_and_cut(rt: HostRuntime) -> Result<(), Fail> {
+    let alloc = rt.alloc();
+    let leaf = root_leaf(alloc)?;
+    let one = first(&with(alloc, &[leaf], byte(0), TAIL, &ZEROS[..100])?)?;
+    let one_leaf = [Arc::try_clone(&one)?];
+    let joined = with(alloc, &one_leaf, byte(100), TAIL, &ZEROS[..50])?;
+    assert_eq!(rt;
+        rows(alloc, &joined)?.as_slice(),
+        [(LEAF, 2, 3798)].as_slice()
+    );
+    let parted = without(alloc, &one, byte(40), byte(60))?;
+    assert_eq!(rt;
+        rows(alloc, &parted)?.as_slice(),
+        [(LEAF, 3, 3830)].as_slice()
+    );
+    let none = without(alloc, &one, least(), top())?;
+    assert_eq!(rt;
+        rows(alloc, &none)?.as_slice(),
+        [(LEAF, 0, 4068)].as_slice()
+    );
+    Ok(())
+}
+
+// A leaf with those that fill up its root: 88 in all.
+fn beside(alloc: Global, first: Arc<Cell>) -> Result<Vec<Arc<Cell>>, Fail> {
+    let mut leaves = Vec::new(alloc);
+    let mut lo = first.hi();
+    leaves.push(first)?;
+    for i in 1..88u64 {
+        let hi = if i == 87 {
+            top()
+        } else {
+            Key::body(41, 0, Oid(43 + i), 0)
+        };
+        leaves.push(empty_leaf(alloc, LEAF + i, lo, hi)?)?;
+        lo = hi;
+    }
+    Ok(leaves)
+}
+
+#[test]
+fn a_full_root_is_parted(rt: HostRuntime) -> Result<(), Fail> {
+    let alloc = rt.alloc();
+    let hi = Key::body(41, 0, Oid(43), 0);
+    let leaves = beside(alloc, empty_leaf(alloc, LEAF, least(), hi)?)?;
+    let filled = first(&with(alloc, leaves.as_slice(), byte(0), TAIL, &ZEROS[..4000])?)?;
+    let leaves = beside(alloc, filled)?;
+    let change = with(alloc, leaves.as_slice(), byte(4000), TAIL, &ZEROS[..4000])?;
+    assert_eq!(rt; change.new.as_slice().len(), 5);
+    assert_eq!(rt; change.root.map(|root| root.height), Some(3));
+    Ok(())
+}

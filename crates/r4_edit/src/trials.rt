@@ -1,0 +1,212 @@
+//! Trees of two levels for tests: a root over leaves, of which the first is changed.
+
+ghost use Rattle.std.specs.Prelude.{◌≡◌, ℕ, [], ◌∷◌, ◌-◌, ◌+◌, ◌^◌, ◌<◌, ◌≤◌, ◌⊎◌, length, map, Contains, IsTrue, IfOk};
+ghost use Rattle.std.specs.Arc.{arc_value};
+ghost use Rattle.r4_base.specs.Key.{least, rank, top};
+ghost use Rattle.r4_base.specs.Node.{items_of};
+ghost use Rattle.r4_base.specs.Value.{Value};
+ghost use Rattle.r4_cell.specs.Seen.{node_of};
+ghost use Rattle.r4_leaf.specs.Leaves.{MayStand};
+ghost use Rattle.r4_patch.specs.Joining.{ids_of};
+ghost use Rattle.r4_edit.specs.Steps.{CountUp, Follow};
+ghost use Rattle.r4_edit.specs.Trials.{AreLeaves, FirstMayTake, IsPathOver, StandsAlone};
+
+use crate::appending::append;
+use crate::editing::{cut, insert};
+use crate::growing::root_over;
+use r4_base::{Block, Key, Memory, NodeId};
+use r4_cell::{Cell, Change, Fresh, least, read_cell};
+use r4_node40::NodeMut;
+use std::alloc::Global;
+use std::sync::Arc;
+
+/// The number of the first leaf. The others have the next ones.
+pub(crate) const LEAF: u64 = 1 << 63;
+
+/// The number of the root.
+pub(crate) const ROOT: u64 = LEAF + 1000;
+
+/// How many blocks there are.
+const BLOCKS: u64 = 1 << 60;
+
+/// Puts an item into the first of some leaves, all below one root; `None` where they are none, or it may not be put there.
+pub(crate) fn put(
+    alloc: Global,
+    leaves: &[Arc<Cell>],
+    key: &Key,
+    plugin: u16,
+    body: &[u8],
+) -> Result<Option<Change>, Memory> {
+    if !are_leaves(leaves) || !may_come(alloc, leaves, key, plugin, body)? {
+        return Ok(None);
+    }
+    let mut fresh = numbers();
+    let path = path_over(alloc, leaves, &mut fresh)?;
+    let change = insert(alloc, path.as_slice(), key, plugin, body, &mut fresh)?;
+    Ok(Some(change))
+}
+
+/// Cuts the units from one key up to another out of the first of some leaves, all below one root; `None` where they are none,
+/// or the keys are not the leaf's.
+pub(crate) fn take_out(
+    alloc: Global,
+    leaves: &[Arc<Cell>],
+    from: &Key,
+    to: &Key,
+) -> Result<Option<Change>, Memory> {
+    if !are_leaves(leaves) || !has_keys(&leaves[0], from, to) {
+        return Ok(None);
+    }
+    let mut fresh = numbers();
+    let path = path_over(alloc, leaves, &mut fresh)?;
+    let change = cut(alloc, path.as_slice(), from, to, &mut fresh)?;
+    Ok(Some(change))
+}
+
+// The numbers for the root and what comes.
+fn numbers() -> Fresh
+    ensures next { result.next ≡ 2 ^ 63 + 1000 }
+    ensures end { result.end ≡ 2 ^ 64 - 1 }
+{
+    Fresh {
+        next: ROOT,
+        end: u64::MAX,
+    }
+}
+
+// Whether all these keys belong to the cell.
+fn has_keys(leaf: &Cell, from: &Key, to: &Key) -> bool
+    ensures { IsTrue result → (rank from.now < rank to.now) × (rank leaf.now.lo ≤ rank from.now)
+        × (rank to.now ≤ rank leaf.now.hi) }
+{
+    from.is_below(*to) && !from.is_below(leaf.lo()) && !leaf.hi().is_below(*to)
+}
+
+// Whether the cells are leaves below one root.
+fn are_leaves(cells: &[Arc<Cell>]) -> bool
+    ensures { IsTrue result → AreLeaves (map (λ c. arc_value c) cells.now) }
+{
+    if cells.is_empty() || cells.len() > 88 {
+        return false;
+    }
+    follow(cells, LEAF, least())
+}
+
+// Whether the cells are leaves from one key up to the end of all keys, with numbers from one on.
+fn follow(cells: &[Arc<Cell>], id: u64, lo: Key) -> bool
+    requires { id + length cells.now < 2 ^ 64 }
+    ensures { IsTrue result → Follow 1 (rank lo) top (map (λ c. arc_value c) cells.now)
+        × CountUp id (ids_of (map (λ c. arc_value c) cells.now)) }
+{
+    if cells.is_empty() {
+        return lo.is_same(r4_cell::top());
+    }
+    if !comes_next(&cells[0], id, lo) {
+        return false;
+    }
+    follow(&cells[1..], id + 1, cells[0].hi())
+}
+
+// Whether the cell is a leaf of this number from this key on.
+fn comes_next(cell: &Cell, id: u64, lo: Key) -> bool
+    ensures { IsTrue result → (cell.now.level ≡ 1) × (cell.now.id ≡ id) × (rank cell.now.lo ≡ rank lo)
+        × (rank lo < rank cell.now.hi) }
+{
+    cell.level() == 1 && cell.id().0 == id && cell.lo().is_same(lo) && lo.is_below(cell.hi())
+}
+
+// The root over leaves, and the first of them.
+fn path_over(
+    alloc: Global,
+    leaves: &[Arc<Cell>],
+    fresh: &mut Fresh,
+) -> Result<Vec<Arc<Cell>>, Memory>
+    requires leaves { AreLeaves (map (λ c. arc_value c) leaves.now) }
+    requires next { fresh.old.next ≡ 2 ^ 63 + 1000 }
+    requires end { fresh.old.end ≡ 2 ^ 64 - 1 }
+    ensures path { IfOk result (λ path. IsPathOver (map (λ c. arc_value c) leaves.now) fresh.new (map
+        (λ c. arc_value c) path.items)) }
+    ensures next { IfOk result (λ path. (fresh.new.next ≡ 2 ^ 63 + 1001) × (fresh.new.end ≡ 2 ^ 64 - 1)) }
+{
+    let leaf = &leaves[0];
+    let _node = leaf.node();
+    let twig = root_over(alloc, leaves, 1, fresh)?;
+    let mut path = Vec::with_capacity(alloc, 2)?;
+    path.push(twig)?;
+    path.push(Arc::try_clone(leaf)?)?;
+    Ok(path)
+}
+
+// Whether the item may be put into the first of the leaves: it stands behind all that the leaf has.
+fn may_come(
+    alloc: Global,
+    leaves: &[Arc<Cell>],
+    key: &Key,
+    plugin: u16,
+    body: &[u8],
+) -> Result<bool, Memory>
+    requires { AreLeaves (map (λ c. arc_value c) leaves.now) }
+    ensures { IfOk result (λ b. IsTrue b
+        → FirstMayTake (map (λ c. arc_value c) leaves.now) (record { key = key.now; plugin = plugin; body = body.now })) }
+{
+    let leaf = &leaves[0];
+    if key.is_below(least()) || !is_item(plugin, body) {
+        return Ok(false);
+    }
+    if !stands_alone(alloc, key, leaf.hi(), plugin, body)? {
+        return Ok(false);
+    }
+    ends_below(alloc, leaf, *key)
+}
+
+// Whether it is stat data, entries or a tail, and fits into a leaf.
+fn is_item(plugin: u16, body: &[u8]) -> bool
+    ensures { IsTrue result → (1 ≤ length body.now) × (length body.now ≤ 4030)
+        × ((plugin ≡ 0) ⊎ ((plugin ≡ 2) ⊎ (plugin ≡ 6))) }
+{
+    !body.is_empty() && body.len() <= 4030 && (plugin == 0 || plugin == 2 || plugin == 6)
+}
+
+// Whether the item may stand in a leaf alone, up to a key.
+fn stands_alone(alloc: Global, key: &Key, hi: Key, plugin: u16, body: &[u8]) -> Result<bool, Memory>
+    requires least { least ≤ rank key.now }
+    requires top { rank hi ≤ top }
+    requires item { (1 ≤ length body.now) × (length body.now ≤ 4030) × ((plugin ≡ 0) ⊎ ((plugin ≡ 2) ⊎ (plugin ≡ 6))) }
+    ensures { IfOk result (λ b. IsTrue b → StandsAlone (record { key = key.now; plugin = plugin; body = body.now }) (rank hi)) }
+{
+    let mut block = Block::zeroed(alloc)?;
+    lay(&mut block, key, plugin, body);
+    Ok(stands(alloc, *key, hi, block))
+}
+
+// Makes the block a leaf with this item alone.
+fn lay(block: &mut Block, key: &Key, plugin: u16, body: &[u8])
+    requires item { (1 ≤ length body.now) × (length body.now ≤ 4030) × ((plugin ≡ 0) ⊎ ((plugin ≡ 2) ⊎ (plugin ≡ 6))) }
+    ensures { items_of block.new ≡ record { key = key.now; plugin = plugin; body = body.now } ∷ [] }
+{
+    let mut node = NodeMut::format(block, 1, 1);
+    append(&mut node, 0, *key, plugin, body);
+}
+
+// Whether all units of the leaf have keys below this one.
+fn ends_below(alloc: Global, leaf: &Cell, key: Key) -> Result<bool, Memory>
+    requires level { leaf.now.level ≡ 1 }
+    requires top { rank key ≤ top }
+    ensures { IfOk result (λ b. IsTrue b → (k : ℕ) (v : Value) → Contains (node_of leaf.now).units (k, v) → k < rank key) }
+{
+    let block = leaf.block().copy(alloc)?;
+    Ok(stands(alloc, least(), key, block))
+}
+
+// Whether the block may stand as a leaf for these keys.
+fn stands(alloc: Global, lo: Key, hi: Key, block: Block) -> bool
+    ensures { IsTrue result → MayStand (rank lo) (rank hi) block }
+{
+    match read_cell(alloc, NodeId(LEAF), 1, lo, hi, BLOCKS, block) {
+        Ok(cell) => {
+            let _node = cell.node();
+            true
+        }
+        Err(_) => false,
+    }
+}

@@ -1,0 +1,8 @@
+//! Leaves whose units change: what is put in, and what is cut out (docs/volume.md, "Leaves").
+#![tactic(auto)]
+
+mod edits;
+mod leaf;
+
+pub use edits::{cut_out, put_in};
+pub use leaf::Leaf;
