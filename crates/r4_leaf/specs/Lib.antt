@@ -1,2 +1,4 @@
 pub mod Units
 pub mod Leaves
+pub mod Pieces
+pub mod Items

@@ -3,6 +3,8 @@
 
 mod edits;
 mod leaf;
+mod piece;
+mod reading;
 
 pub use edits::{cut_out, put_in};
 pub use leaf::Leaf;

@@ -1,0 +1,5 @@
+pub mod SoundItems
+pub mod Following
+pub mod EntryPieces
+pub mod ItemPieces
+pub mod Lying
