@@ -3,3 +3,5 @@ pub mod Following
 pub mod EntryPieces
 pub mod ItemPieces
 pub mod Lying
+pub mod Rising
+pub mod CutPieces

@@ -3,6 +3,7 @@
 
 mod edits;
 mod leaf;
+mod cutting;
 mod piece;
 mod reading;
 
