@@ -5,3 +5,4 @@ pub mod ItemPieces
 pub mod Lying
 pub mod Rising
 pub mod CutPieces
+pub mod Merged

@@ -1,5 +1,5 @@
 -- The pieces of which a leaf is built anew (docs/volume.md, "Leaves").
-use Rattle.std.specs.Prelude.{◌≡◌, ℕ, ◌+◌, ◌≤◌, List, [], ◌∷◌, ◌++◌, length, reverse, None}
+use Rattle.std.specs.Prelude.{◌≡◌, ℕ, ◌+◌, ◌<◌, ◌≤◌, List, [], ◌∷◌, ◌++◌, length, reverse, None}
 use Rattle.r4_base.specs.Cell.{bytes_from, entry_unit, fault_in}
 use Rattle.r4_base.specs.Entries.{IsLawfulEntry}
 use Rattle.r4_base.specs.Key.{IsKey, offset_of, rank}
@@ -52,3 +52,22 @@ pub record Adds (old : List Piece) (from to : ℕ) (us : List LeafUnit) (new : L
 pub record Leads (old : List Piece) (from to : ℕ) (us : List LeafUnit) (new : List Piece) : Type 0 where
   pub units : units_of (reverse new) ≡ us ++ units_of (reverse old)
   pub follow : (hi : ℕ) → Follow to hi (reverse old) → Follow from hi (reverse new)
+
+-- the last of the pieces, if there is one, has a key below this one
+abbrev pub LastBelow : ℕ → List Piece → Type 0
+LastBelow k [] = Unit {0}
+LastBelow k (p ∷ []) = rank (piece_key p) < k
+LastBelow k (p ∷ (q ∷ ps)) = LastBelow k (q ∷ ps)
+
+-- the first of the pieces, if there is one, has this key or one above it
+abbrev pub FirstAbove : ℕ → List Piece → Type 0
+FirstAbove k [] = Unit {0}
+FirstAbove k (p ∷ ps) = k ≤ rank (piece_key p)
+
+-- The pieces behind the last one with a key below this key are moved before those that were moved, the last one first.
+pub record Moves (k : ℕ) (pieces merged left new : List Piece) : Type 0 where
+  pub moved : List Piece
+  pub from : pieces ≡ left ++ moved
+  pub to : reverse new ≡ moved ++ reverse merged
+  pub above : FirstAbove k moved
+  pub below : LastBelow k left

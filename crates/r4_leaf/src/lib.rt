@@ -3,6 +3,7 @@
 
 mod edits;
 mod leaf;
+mod merging;
 mod cutting;
 mod piece;
 mod reading;
