@@ -2,3 +2,4 @@ pub mod Units
 pub mod Leaves
 pub mod Pieces
 pub mod Items
+pub mod Filling

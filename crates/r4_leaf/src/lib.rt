@@ -5,6 +5,7 @@ mod edits;
 mod leaf;
 mod merging;
 mod cutting;
+mod opening;
 mod piece;
 mod reading;
 

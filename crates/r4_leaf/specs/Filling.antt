@@ -1,0 +1,58 @@
+-- A leaf that is filled piece by piece (docs/volume.md, "Leaves").
+use Rattle.std.specs.Prelude.{◌≡◌, ◌⊎◌, ℕ, ◌+◌, ◌-◌, ◌<◌, ◌≤◌, List, [], ◌∷◌, ◌++◌, length, take, slice_get, Option, Some, Bool, true, false, ◌==◌, ◌&&◌, if◌then◌else◌}
+use Rattle.r4_base.specs.Cell.{units_in}
+use Rattle.r4_base.specs.Key.{rank}
+use Rattle.r4_base.specs.Node.{Item, count_of, items_of, level_of}
+use Rattle.r4_node40.specs.Edits.{GoesBetween}
+use Rattle.r4_node40.specs.Laid.{IsLaid, IsNode, WritesBody, room_of, span_at}
+use Rattle.r4_leaf.specs.Items.{Lie}
+use Rattle.r4_leaf.specs.Units.{LeafUnit, leaf_bytes, unit_bytes}
+
+-- The leaf has these units, from one key up to another, and so much room is left.
+pub record IsFilled (lo to : ℕ) (us : List LeafUnit) (b : List ℕ) : Type 0 where
+  pub node : IsNode b
+  pub level : level_of b ≡ 1
+  pub lie : Lie lo to (items_of b)
+  pub units : units_in (items_of b) ≡ us
+  pub room : room_of b + leaf_bytes us ≡ 4068
+
+-- the last unit, if there is one
+abbrev pub last_of : List LeafUnit → Option LeafUnit
+last_of us = slice_get us (length us - 1)
+
+-- The units are put behind those that the leaf has.
+pub record Puts (from to : ℕ) (vs : List LeafUnit) (old new : List ℕ) : Type 0 where
+  pub filled : (lo mid : ℕ) (us : List LeafUnit) → IsFilled lo mid us old → mid ≤ from → IsFilled lo to (us ++ vs) new
+
+-- The leaf has no room for the unit.
+pub record IsFullFor (u : LeafUnit) (b : List ℕ) : Type 0 where
+  pub full : (lo mid : ℕ) (us : List LeafUnit) → IsFilled lo mid us b → 4068 < leaf_bytes us + unit_bytes (last_of us) u
+
+-- ---- the item that takes a piece: the last one, or one more
+
+-- The item stands last at its place; one without a body is yet to be put in there.
+pub record IsPlace (b : List ℕ) (i : ℕ) (it : Item) : Type 0 where
+  pub node : IsNode b
+  pub level : level_of b ≡ 1
+  pub plugin : (it.plugin ≡ 0) ⊎ ((it.plugin ≡ 2) ⊎ (it.plugin ≡ 6))
+  pub new : length it.body ≡ 0 → (i ≡ count_of b) × GoesBetween (items_of b) i it.key
+  pub old : 1 ≤ length it.body → (i + 1 ≡ count_of b) × (slice_get (items_of b) i ≡ Some it)
+
+-- how many bytes an item needs where so many come behind its body
+abbrev pub need : Item → ℕ → ℕ
+need it more = more + (if length it.body == 0 then 38 else 0)
+
+-- The last item has this body, and the other items are as before.
+pub record Holds (old : List ℕ) (i : ℕ) (it : Item) (ws new : List ℕ) : Type 0 where
+  pub node : IsNode new
+  pub level : level_of new ≡ 1
+  pub items : items_of new ≡ take i (items_of old) ++ (record { key = it.key; plugin = it.plugin; body = ws }) ∷ []
+  pub room : room_of new + need it (length ws) ≡ room_of old + length it.body
+
+-- The body of the last item has been made longer by so many bytes, which are to be written.
+pub record Opens (old : List ℕ) (i : ℕ) (it : Item) (more : ℕ) (new : List ℕ) : Type 0 where
+  pub laid : IsLaid new
+  pub within : i < count_of new
+  pub long : length (span_at new i i) ≡ length it.body + more
+  pub keeps : take (length it.body) (span_at new i i) ≡ it.body
+  pub written : (ws c : List ℕ) → length ws ≡ length it.body + more → WritesBody new ws i c → Holds old i it ws c
