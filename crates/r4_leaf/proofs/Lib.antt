@@ -6,3 +6,4 @@ pub mod Lying
 pub mod Rising
 pub mod CutPieces
 pub mod Merged
+pub mod Opened

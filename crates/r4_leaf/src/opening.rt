@@ -6,7 +6,7 @@ ghost use Rattle.r4_node40.specs.Laid.{room_of};
 ghost use Rattle.r4_node40.specs.Loan.{bytes_of, with_bytes};
 ghost use Rattle.r4_leaf.specs.Filling.{Holds, IsPlace, Opens, need};
 
-use r4_base::{Block, Key};
+use r4_base::Key;
 use r4_node40::NodeMut;
 
 /// The place of an item, and how many bytes its body has: none where the item is yet to be put in.
@@ -40,14 +40,19 @@ fn write_behind(body: &mut [u8], used: u16, bytes: &[u8])
 }
 
 /// Puts bytes behind those of the item at the place.
-pub(crate) fn put_bytes_at(block: &mut Block, place: Place, key: &Key, plugin: u16, bytes: &[u8])
-    requires place { (it : Item) × IsPlace block.old place.item it × (length it.body ≡ place.used) × (it.plugin ≡ plugin) × (place.used ≡ 0 → it.key ≡ key.now) × (need it (length bytes.now) ≤ room_of block.old) }
+pub(crate) fn put_bytes_at(
+    node: &mut NodeMut<'_>,
+    place: Place,
+    key: &Key,
+    plugin: u16,
+    bytes: &[u8],
+)
+    requires place { (it : Item) × IsPlace (bytes_of node.old) place.item it × (length it.body ≡ place.used) × (it.plugin ≡ plugin) × (place.used ≡ 0 → it.key ≡ key.now) × (need it (length bytes.now) ≤ room_of (bytes_of node.old)) }
     requires some { 1 ≤ length bytes.now }
-    ensures { (it : Item) → IsPlace block.old place.item it → length it.body ≡ place.used → it.plugin ≡ plugin → (place.used ≡ 0 → it.key ≡ key.now) → need it (length bytes.now) ≤ room_of block.old
-        → Holds block.old place.item it (it.body ++ bytes.now) block.new }
+    ensures block { node.new ≡ with_bytes node.old (bytes_of node.new) }
+    ensures holds { (it : Item) → IsPlace (bytes_of node.old) place.item it → length it.body ≡ place.used → it.plugin ≡ plugin → (place.used ≡ 0 → it.key ≡ key.now) → need it (length bytes.now) ≤ room_of (bytes_of node.old)
+        → Holds (bytes_of node.old) place.item it (it.body ++ bytes.now) (bytes_of node.new) }
 {
-    if let Ok(mut node) = NodeMut::read(block) {
-        open(&mut node, place, key, plugin, bytes.len() as u16);
-        write_behind(node.body_mut(place.item), place.used, bytes);
-    }
+    open(node, place, key, plugin, bytes.len() as u16);
+    write_behind(node.body_mut(place.item), place.used, bytes);
 }
