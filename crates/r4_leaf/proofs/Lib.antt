@@ -7,3 +7,4 @@ pub mod Rising
 pub mod CutPieces
 pub mod Merged
 pub mod Opened
+pub mod Bodied

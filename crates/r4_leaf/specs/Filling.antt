@@ -1,8 +1,9 @@
 -- A leaf that is filled piece by piece (docs/volume.md, "Leaves").
-use Rattle.std.specs.Prelude.{◌≡◌, ◌⊎◌, ℕ, ◌+◌, ◌-◌, ◌<◌, ◌≤◌, List, [], ◌∷◌, ◌++◌, length, take, slice_get, Option, Some, Bool, true, false, ◌==◌, ◌&&◌, if◌then◌else◌}
+use Rattle.std.specs.Prelude.{◌≡◌, ◌⊎◌, ℕ, ◌+◌, ◌-◌, ◌<◌, ◌≤◌, List, [], ◌∷◌, ◌++◌, length, take, slice_get, slice_index, Option, Some, Bool, true, false, ◌==◌, ◌&&◌, if◌then◌else◌}
 use Rattle.r4_base.specs.Cell.{units_in}
 use Rattle.r4_base.specs.Key.{rank}
 use Rattle.r4_base.specs.Node.{Item, count_of, items_of, level_of}
+use Rattle.r4_base.specs.declared.key.Key.{Key}
 use Rattle.r4_node40.specs.Edits.{GoesBetween}
 use Rattle.r4_node40.specs.Laid.{IsLaid, IsNode, WritesBody, room_of, span_at}
 use Rattle.r4_leaf.specs.Items.{Lie}
@@ -56,3 +57,18 @@ pub record Opens (old : List ℕ) (i : ℕ) (it : Item) (more : ℕ) (new : List
   pub long : length (span_at new i i) ≡ length it.body + more
   pub keeps : take (length it.body) (span_at new i i) ≡ it.body
   pub written : (ws c : List ℕ) → length ws ≡ length it.body + more → WritesBody new ws i c → Holds old i it ws c
+
+-- ---- where a piece goes
+
+-- a piece at the key goes behind what the item has: the next byte of a tail, or an entry of the same directory
+abbrev pub continues_item : Item → Key → (plugin : ℕ) → Bool
+continues_item it key plugin =
+    if it.plugin == plugin then
+    (if plugin == 6 then rank it.key + length it.body == rank key else
+    (if plugin == 2 then slice_index it.key.el 0 == slice_index key.el 0 else false)) else
+    false
+
+-- The place for a piece: at the last item, if the piece goes behind what that one has, and else behind it.
+pub record IsPlaceFor (b : List ℕ) (key : Key) (plugin item used : ℕ) : Type 0 where
+  pub new : used ≡ 0 → (item ≡ count_of b) × ((it : Item) → slice_get (items_of b) (count_of b - 1) ≡ Some it → continues_item it key plugin ≡ false)
+  pub old : 1 ≤ used → (it : Item) × (item + 1 ≡ count_of b) × (slice_get (items_of b) item ≡ Some it) × (length it.body ≡ used) × (continues_item it key plugin ≡ true)

@@ -7,6 +7,7 @@ mod merging;
 mod cutting;
 mod opening;
 mod piece;
+mod placing;
 mod reading;
 
 pub use edits::{cut_out, put_in};
