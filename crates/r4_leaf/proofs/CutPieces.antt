@@ -149,10 +149,10 @@ module _ (from to k : ℕ) (bs : List ℕ) (first end : ℕ) (f : first ≤ leng
 
 -- ---- how far a key is from another of the same file
 
-upper : Key → ℕ
+pub upper : Key → ℕ
 upper k = slice_index k.el 0 * 2 ^ 128 + (slice_index k.el 1 * 2 ^ 64 + slice_index k.el 2)
 
-rank_is : (k : Key) → rank k ≡ upper k * 2 ^ 64 + offset_of k
+pub rank_is : (k : Key) → rank k ≡ upper k * 2 ^ 64 + offset_of k
 unfolding rank upper
 rank_is k = omega arith
 

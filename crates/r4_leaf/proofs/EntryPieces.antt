@@ -6,6 +6,7 @@ use Rattle.std.proofs.lemmas.List.{append_assoc, append-nil, take_all}
 use Rattle.r4_base.specs.Cell.{entry_unit, item_end, item_units}
 use Rattle.r4_base.specs.Dir.{dir_fault, entries_of, entry_at, entry_count, entry_key_at}
 use Rattle.r4_base.specs.Key.{IsKey, rank}
+use Rattle.r4_base.specs.Node.{Item}
 use Rattle.r4_base.specs.declared.key.Key.{Key}
 use Rattle.r4_base.proofs.Dirs.{accepted, entry_key_fits, keys_apart, keys_rise, length-entries_of}
 use Rattle.r4_base.proofs.EntryLists.{entries_lawful, entry_of}
@@ -90,3 +91,9 @@ module _ (key : Key) (body : List ℕ) (sound : IsSoundItem (record { key = key;
         units = a.units ∙ ap (λ us. units_of old ++ us) (ap (λ es. map entry_unit es) (take_all i (entries_of key body) (omega (arith, all))) ∙ sym it.units);
         follow = λ lo h. a.follow lo _ h (λ k lt. let b = below_last k (omega (arith, lt, all, n)) in omega (arith, b, end)) (omega (arith, first, start, end));
       }
+
+pub some_entries : (it : Item) → it.plugin ≡ 2 → IsSoundItem it → 1 ≤ length (entries_of it.key it.body)
+some_entries it is s =
+    let some = (accepted it.key it.body (entries_item it is s).body).some in
+    let n = length-entries_of it.key it.body in
+    omega (arith, some, n)

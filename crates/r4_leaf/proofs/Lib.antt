@@ -8,3 +8,6 @@ pub mod CutPieces
 pub mod Merged
 pub mod Opened
 pub mod Bodied
+pub mod Weighed
+pub mod Filled
+pub mod TailFilled

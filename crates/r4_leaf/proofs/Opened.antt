@@ -40,7 +40,7 @@ get_end (y ∷ xs) x d = get_end xs x d
 set_end : (xs : List Item) (x y : Item) (i : ℕ) → i ≡ length xs → slice_set (xs ++ x ∷ []) i y ≡ xs ++ y ∷ []
 set_end xs x y i is = set-append_right xs (x ∷ []) i i y (sym is) (omega arith) ∙ ap (λ k. xs ++ set (x ∷ []) k y) (let e : i - i ≡ 0 = omega arith in e)
 
-split_last : (i : ℕ) (xs : List Item) (x : Item) → i + 1 ≡ length xs → slice_get xs i ≡ Some x → xs ≡ take i xs ++ x ∷ []
+pub split_last : (i : ℕ) (xs : List Item) (x : Item) → i + 1 ≡ length xs → slice_get xs i ≡ Some x → xs ≡ take i xs ++ x ∷ []
 split_last i [] x long at = absurd cc
 split_last zero (y ∷ []) x long at = ap (λ z. z ∷ []) (same_Some y x at)
 split_last zero (y ∷ (z ∷ zs)) x long at = absurd (omega (arith, long))
@@ -83,7 +83,7 @@ module _ (b : List ℕ) (before : List Item) (x : Item) (i : ℕ) (node : IsNode
 
 -- ---- the item is put in
 
-nothing : (xs : List ℕ) → length xs ≡ 0 → xs ≡ []
+pub nothing : (xs : List ℕ) → length xs ≡ 0 → xs ≡ []
 nothing [] e = refl
 nothing (x ∷ xs) e = absurd (omega (arith, e))
 

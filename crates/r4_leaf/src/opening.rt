@@ -1,6 +1,6 @@
 //! The item of a leaf that takes a piece (docs/volume.md, "Leaves").
 
-ghost use Rattle.std.specs.Prelude.{◌≡◌, ℕ, ◌+◌, ◌≤◌, ◌++◌, length, take};
+ghost use Rattle.std.specs.Prelude.{◌≡◌, ℕ, ◌+◌, ◌≤◌, ◌++◌, ◌==◌, length, take, if◌then◌else◌};
 ghost use Rattle.r4_base.specs.Node.{Item};
 ghost use Rattle.r4_node40.specs.Laid.{room_of};
 ghost use Rattle.r4_node40.specs.Loan.{bytes_of, with_bytes};
@@ -14,6 +14,15 @@ use r4_node40::NodeMut;
 pub(crate) struct Place {
     pub(crate) item: u16,
     pub(crate) used: u16,
+}
+
+impl Place {
+    /// How many bytes a header takes where the item is yet to be put in.
+    pub(crate) fn header(self) -> u16
+        ensures { result ≡ (if self.used == 0 then 38 else 0) }
+    {
+        if self.used == 0 { 38 } else { 0 }
+    }
 }
 
 /// Makes the body of the item at the place longer by so many bytes, for which there is room.

@@ -1,0 +1,56 @@
+//! Pieces that are put into a leaf while there is room (docs/volume.md, "Leaves").
+
+ghost use Rattle.std.specs.Prelude.{◌≡◌, ◌⊎◌, ℕ, ◌+◌, ◌-◌, ◌<◌, ◌≤◌, ◌++◌, List, [], ◌∷◌, length, take, slice_index, true, false, None};
+ghost use Rattle.r4_base.specs.Cell.{bytes_from, fault_in};
+ghost use Rattle.r4_base.specs.Key.{offset_of, rank};
+ghost use Rattle.r4_base.specs.Stat.{attr_of, stat_of};
+ghost use Rattle.r4_base.specs.Value.{Byte, Stat};
+ghost use Rattle.r4_node40.specs.Loan.{bytes_of, with_bytes};
+ghost use Rattle.r4_leaf.specs.Filling.{IsFilled, IsFullFor, Puts};
+ghost use Rattle.r4_leaf.specs.Units.{LeafUnit};
+
+use crate::opening::put_bytes_at;
+use crate::placing::place_for;
+use crate::reading::{STAT, TAIL};
+use r4_base::Key;
+use r4_node40::NodeMut;
+
+/// The bytes of an item's header.
+const HEADER: u16 = 38;
+
+/// Puts stat data behind what the leaf has, and answers whether there was room.
+fn put_stat(node: &mut NodeMut<'_>, key: Key, body: &[u8]) -> bool
+    requires filled { (lo : ℕ) × (mid : ℕ) × (us : List LeafUnit) × IsFilled lo mid us (bytes_of node.old) × (mid ≤ rank key) }
+    requires sound { fault_in (stat_of body.now) ≡ None }
+    ensures block { node.new ≡ with_bytes node.old (bytes_of node.new) }
+    ensures puts { result ≡ true → Puts (rank key) (rank key + 1) ((rank key, Stat (attr_of body.now)) ∷ []) (bytes_of node.old) (bytes_of node.new) }
+    ensures same { result ≡ false → bytes_of node.new ≡ bytes_of node.old }
+    ensures full { result ≡ false → IsFullFor (rank key, Stat (attr_of body.now)) (bytes_of node.new) }
+{
+    let place = place_for(node, &key, STAT);
+    if usize::from(node.room()) < body.len() + usize::from(HEADER) {
+        return false;
+    }
+    put_bytes_at(node, place, &key, STAT, body);
+    true
+}
+
+/// Puts bytes behind what the leaf has, as many as there is room for, and answers how many.
+fn put_run(node: &mut NodeMut<'_>, key: Key, bytes: &[u8]) -> usize
+    requires filled { (lo : ℕ) × (mid : ℕ) × (us : List LeafUnit) × IsFilled lo mid us (bytes_of node.old) × (mid ≤ rank key) }
+    requires some { 1 ≤ length bytes.now }
+    requires short { offset_of key + length bytes.now ≤ 16384 }
+    ensures block { node.new ≡ with_bytes node.old (bytes_of node.new) }
+    ensures within { result ≤ length bytes.now }
+    ensures puts { Puts (rank key) (rank key + result) (bytes_from (rank key) (take result bytes.now)) (bytes_of node.old) (bytes_of node.new) }
+    ensures full { result < length bytes.now → IsFullFor (rank key + result, Byte (slice_index bytes.now result)) (bytes_of node.new) }
+{
+    let place = place_for(node, &key, TAIL);
+    let room = usize::from(node.room().saturating_sub(place.header()));
+    if room == 0 {
+        return 0;
+    }
+    let count = room.min(bytes.len());
+    put_bytes_at(node, place, &key, TAIL, &bytes[..count]);
+    count
+}
