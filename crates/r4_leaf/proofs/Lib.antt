@@ -11,3 +11,4 @@ pub mod Bodied
 pub mod Weighed
 pub mod Filled
 pub mod TailFilled
+pub mod EntryWritten

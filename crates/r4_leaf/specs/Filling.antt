@@ -1,13 +1,15 @@
 -- A leaf that is filled piece by piece (docs/volume.md, "Leaves").
-use Rattle.std.specs.Prelude.{◌≡◌, ◌⊎◌, ℕ, ◌+◌, ◌-◌, ◌<◌, ◌≤◌, List, [], ◌∷◌, ◌++◌, length, take, slice_get, slice_index, Option, Some, Bool, true, false, ◌==◌, ◌&&◌, if◌then◌else◌}
+use Rattle.std.specs.Prelude.{◌≡◌, ◌⊎◌, ℕ, ◌+◌, ◌-◌, ◌<◌, ◌≤◌, List, [], ◌∷◌, ◌++◌, length, take, slice_get, slice_index, Option, Some, None, Bool, true, false, ◌==◌, ◌&&◌, if◌then◌else◌}
 use Rattle.r4_base.specs.Cell.{units_in}
-use Rattle.r4_base.specs.Key.{rank}
+use Rattle.r4_base.specs.Dir.{Entry as DirEntry, dir_fault, entries_of}
+use Rattle.r4_base.specs.Key.{IsBelow, IsKey, rank}
+use Rattle.r4_base.specs.Name.{is_long_name}
 use Rattle.r4_base.specs.Node.{Item, count_of, items_of, level_of}
 use Rattle.r4_base.specs.declared.key.Key.{Key}
 use Rattle.r4_node40.specs.Edits.{GoesBetween}
 use Rattle.r4_node40.specs.Laid.{IsLaid, IsNode, WritesBody, room_of, span_at}
 use Rattle.r4_leaf.specs.Items.{Lie}
-use Rattle.r4_leaf.specs.Units.{LeafUnit, leaf_bytes, unit_bytes}
+use Rattle.r4_leaf.specs.Units.{LeafUnit, entry_bytes, leaf_bytes, unit_bytes}
 
 -- The leaf has these units, from one key up to another, and so much room is left.
 pub record IsFilled (lo to : ℕ) (us : List LeafUnit) (b : List ℕ) : Type 0 where
@@ -72,3 +74,35 @@ continues_item it key plugin =
 pub record IsPlaceFor (b : List ℕ) (key : Key) (plugin item used : ℕ) : Type 0 where
   pub new : used ≡ 0 → (item ≡ count_of b) × ((it : Item) → slice_get (items_of b) (count_of b - 1) ≡ Some it → continues_item it key plugin ≡ false)
   pub old : 1 ≤ used → (it : Item) × (item + 1 ≡ count_of b) × (slice_get (items_of b) item ≡ Some it) × (length it.body ≡ used) × (continues_item it key plugin ≡ true)
+
+-- ---- entries
+
+-- a long name, as bytes of an entry's body
+abbrev pub long_of : List ℕ → Option (List ℕ)
+long_of s = if is_long_name s then Some s else None
+
+-- by how much an item's body grows where an entry comes: its header and body, and for the first one a count
+abbrev pub entry_need : (used : ℕ) → DirEntry → ℕ
+entry_need used e = (if used == 0 then 2 else 0) + (26 + entry_bytes e.name)
+
+-- The item may have the entry as its last one, behind `at` others.
+pub record Receives (it : Item) (used at : ℕ) (e : DirEntry) : Type 0 where
+  pub long : length it.body ≡ used
+  pub new : used ≡ 0 → it.key ≡ e.key
+  pub key : IsKey it.key
+  pub same : slice_index it.key.el 0 ≡ slice_index e.key.el 0
+  pub good : 1 ≤ used → dir_fault it.key it.body ≡ None
+  pub count : at ≡ length (entries_of it.key it.body)
+  pub above : (k : ℕ) (x : DirEntry) → k + 1 ≡ at → slice_get (entries_of it.key it.body) k ≡ Some x → IsBelow x.key e.key
+
+-- The same of an item at its place.
+pub record TakesEntry (b : List ℕ) (i used at : ℕ) (it : Item) (e : DirEntry) : Type 0 where
+  pub place : IsPlace b i it
+  pub plugin : it.plugin ≡ 2
+  pub receives : Receives it used at e
+
+-- The body has the item's entries and this one behind them.
+pub record HasEntry (it : Item) (e : DirEntry) (ws : List ℕ) : Type 0 where
+  pub good : dir_fault it.key ws ≡ None
+  pub entries : entries_of it.key ws ≡ entries_of it.key it.body ++ e ∷ []
+  pub long : length ws ≡ length it.body + entry_need (length it.body) e

@@ -2,6 +2,7 @@
 #![tactic(auto)]
 
 mod edits;
+mod entries;
 mod filling;
 mod leaf;
 mod merging;

@@ -26,7 +26,7 @@ impl Place {
 }
 
 /// Makes the body of the item at the place longer by so many bytes, for which there is room.
-fn open(node: &mut NodeMut<'_>, place: Place, key: &Key, plugin: u16, more: u16)
+pub(crate) fn open(node: &mut NodeMut<'_>, place: Place, key: &Key, plugin: u16, more: u16)
     requires place { (it : Item) × IsPlace (bytes_of node.old) place.item it × (length it.body ≡ place.used) × (it.plugin ≡ plugin) × (place.used ≡ 0 → it.key ≡ key.now) × (need it more ≤ room_of (bytes_of node.old)) }
     requires some { 1 ≤ more }
     ensures block { node.new ≡ with_bytes node.old (bytes_of node.new) }
