@@ -64,7 +64,7 @@ module _ (e : Entry) (lawful : IsLawfulEntry e) (bytes : AreBytes e.name) where
 
 -- ---- before it is written
 
-no_count : entry_count [] ≡ 0
+pub no_count : entry_count [] ≡ 0
 unfolding number_at
 no_count = refl
 

@@ -12,3 +12,4 @@ pub mod Weighed
 pub mod Filled
 pub mod TailFilled
 pub mod EntryWritten
+pub mod EntryFilled

@@ -97,7 +97,7 @@ module _ (lo mid : ℕ) (us : List LeafUnit) (b : List ℕ) (key : Key) (i used 
 
 -- ---- the place of a run of bytes, and what becomes of the item there
 
-both_tests : (a c : Bool) → (if a then c else false) ≡ true → (a ≡ true) × (c ≡ true)
+pub both_tests : (a c : Bool) → (if a then c else false) ≡ true → (a ≡ true) × (c ≡ true)
 both_tests true c h = (refl, h)
 both_tests false c h = absurd cc
 

@@ -1,16 +1,18 @@
 //! Entries that are put behind those of a leaf's item (docs/volume.md, "Leaves").
 
-ghost use Rattle.std.specs.Prelude.{◌≡◌, ◌⊎◌, ℕ, ◌+◌, ◌-◌, ◌<◌, ◌≤◌, List, length, slice_index, take, Some, None, ◌==◌, if◌then◌else◌};
+ghost use Rattle.std.specs.Prelude.{◌≡◌, ◌⊎◌, ℕ, ◌+◌, ◌-◌, ◌<◌, ◌≤◌, List, length, slice_get, slice_index, take, Some, None, ◌==◌, if◌then◌else◌};
 ghost use Rattle.std.specs.Option.{option_copied};
 ghost use Rattle.r4_base.specs.Entries.{IsLawfulEntry};
-ghost use Rattle.r4_base.specs.Node.{Item};
+ghost use Rattle.r4_base.specs.Dir.{entry_count};
+ghost use Rattle.r4_base.specs.Node.{Item, items_of};
 ghost use Rattle.r4_cde.specs.Shown.{entry_shown, name_bytes};
-ghost use Rattle.r4_node40.specs.Laid.{room_of};
+ghost use Rattle.r4_node40.specs.Laid.{IsLaid, room_of};
 ghost use Rattle.r4_node40.specs.Loan.{bytes_of, with_bytes};
 ghost use Rattle.r4_leaf.specs.Filling.{HasEntry, Holds, Receives, TakesEntry, entry_need, long_of, need};
 
 use crate::opening::{Place, open};
 use crate::reading::ENTRIES;
+use r4_base::get16;
 use r4_cde::{EntryRef, NameRef, insert};
 use r4_node40::NodeMut;
 
@@ -44,7 +46,8 @@ fn count_need(used: u16) -> u16
 /// By how many bytes an item's body grows where an entry comes.
 pub(crate) fn need_of(entry: &EntryRef<'_>, used: u16) -> u16
     requires { IsLawfulEntry (entry_shown entry.now) }
-    ensures { result ≡ entry_need used (entry_shown entry.now) }
+    ensures need { result ≡ entry_need used (entry_shown entry.now) }
+    ensures small { result ≤ 308 }
 {
     let count = count_need(used);
     match long_name(&entry.name) {
@@ -75,4 +78,18 @@ fn write_entry(body: &mut [u8], used: u16, at: u16, entry: &EntryRef<'_>)
 {
     let long = long_name(&entry.name);
     let _ = insert(body, usize::from(used), at, &entry.key, &entry.target, long);
+}
+
+/// How many entries the item at the place has.
+pub(crate) fn entries_at(node: &NodeMut<'_>, place: Place) -> u16
+    requires laid { IsLaid (bytes_of node.now) }
+    requires item { 1 ≤ place.used → (it : Item) × (slice_get (items_of (bytes_of node.now)) place.item ≡ Some it) × (2 ≤ length it.body) }
+    ensures none { place.used ≡ 0 → result ≡ 0 }
+    ensures some { 1 ≤ place.used → (it : Item) → slice_get (items_of (bytes_of node.now)) place.item ≡ Some it → result ≡ entry_count it.body }
+{
+    if place.used == 0 {
+        return 0;
+    }
+    let leaf = node.view();
+    get16(leaf.item(place.item).body, 0)
 }

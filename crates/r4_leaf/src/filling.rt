@@ -1,18 +1,22 @@
 //! Pieces that are put into a leaf while there is room (docs/volume.md, "Leaves").
 
 ghost use Rattle.std.specs.Prelude.{◌≡◌, ◌⊎◌, ℕ, ◌+◌, ◌-◌, ◌<◌, ◌≤◌, ◌++◌, List, [], ◌∷◌, length, take, slice_index, true, false, None};
-ghost use Rattle.r4_base.specs.Cell.{bytes_from, fault_in};
-ghost use Rattle.r4_base.specs.Key.{offset_of, rank};
+ghost use Rattle.r4_base.specs.Cell.{bytes_from, entry_unit, fault_in};
+ghost use Rattle.r4_base.specs.Key.{IsKey, offset_of, rank};
+ghost use Rattle.r4_base.specs.Entries.{IsLawfulEntry};
+ghost use Rattle.r4_cde.specs.Shown.{entry_shown};
 ghost use Rattle.r4_base.specs.Stat.{attr_of, stat_of};
 ghost use Rattle.r4_base.specs.Value.{Byte, Stat};
 ghost use Rattle.r4_node40.specs.Loan.{bytes_of, with_bytes};
 ghost use Rattle.r4_leaf.specs.Filling.{IsFilled, IsFullFor, Puts};
 ghost use Rattle.r4_leaf.specs.Units.{LeafUnit};
 
+use crate::entries::{entries_at, need_of, put_entry_at};
 use crate::opening::put_bytes_at;
 use crate::placing::place_for;
-use crate::reading::{STAT, TAIL};
+use crate::reading::{ENTRIES, STAT, TAIL};
 use r4_base::Key;
+use r4_cde::EntryRef;
 use r4_node40::NodeMut;
 
 /// The bytes of an item's header.
@@ -53,4 +57,23 @@ fn put_run(node: &mut NodeMut<'_>, key: Key, bytes: &[u8]) -> usize
     let count = room.min(bytes.len());
     put_bytes_at(node, place, &key, TAIL, &bytes[..count]);
     count
+}
+
+/// Puts an entry behind what the leaf has, and answers whether there was room.
+fn put_entry(node: &mut NodeMut<'_>, entry: &EntryRef<'_>) -> bool
+    requires filled { (lo : ℕ) × (mid : ℕ) × (us : List LeafUnit) × IsFilled lo mid us (bytes_of node.old) × (mid ≤ rank entry.now.key) }
+    requires lawful { IsLawfulEntry (entry_shown entry.now) }
+    requires key { IsKey entry.now.key }
+    ensures block { node.new ≡ with_bytes node.old (bytes_of node.new) }
+    ensures puts { result ≡ true → Puts (rank entry.now.key) (rank entry.now.key + 1) (entry_unit (entry_shown entry.now) ∷ []) (bytes_of node.old) (bytes_of node.new) }
+    ensures same { result ≡ false → bytes_of node.new ≡ bytes_of node.old }
+    ensures full { result ≡ false → IsFullFor (entry_unit (entry_shown entry.now)) (bytes_of node.new) }
+{
+    let place = place_for(node, &entry.key, ENTRIES);
+    if node.room() < need_of(entry, place.used) + place.header() {
+        return false;
+    }
+    let at = entries_at(node, place);
+    put_entry_at(node, place, at, entry);
+    true
 }

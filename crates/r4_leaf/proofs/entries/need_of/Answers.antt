@@ -22,3 +22,6 @@ overflow_add-result-in-Some-2 c = let h = few_bytes _ c.in-Some.bytes.now (is_na
 
 pub overflow_add-result-in-Some-3 : goal.overflow_add-result-in-Some-3
 overflow_add-result-in-Some-3 c = let h = few_bytes _ c.in-Some.bytes.now (is_name _ c.requires.legal).few c.in-Some.ensures.long in let s = c.count_need-count.ensures.small in omega (arith, h, s)
+
+pub returns-in-Some-clause-small : goal.returns-in-Some-clause-small
+returns-in-Some-clause-small c = let h = few_bytes _ c.in-Some.bytes.now (is_name _ c.requires.legal).few c.in-Some.ensures.long in let s = c.count_need-count.ensures.small in omega (arith, h, s)

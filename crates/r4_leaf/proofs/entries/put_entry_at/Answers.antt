@@ -24,6 +24,6 @@ kept old mid body i used more it long o value = ap (take used) value ∙ (ap (λ
 
 pub returns-clause-holds : goal.returns-clause-holds
 returns-clause-holds c = λ it t room.
-    let o = c.open.ensures.opens it t.place t.receives.long t.plugin t.receives.new (open_need it c.args.place.used c.need_of.result (entry_need c.args.place.used (entry_shown c.args.entry.now)) _ c.need_of.ensures room) in
+    let o = c.open.ensures.opens it t.place t.receives.long t.plugin t.receives.new (open_need it c.args.place.used c.need_of.result (entry_need c.args.place.used (entry_shown c.args.entry.now)) _ c.need_of.ensures.need room) in
     let h = c.write_entry.ensures it t.receives (kept (bytes_of c.args.node.now) (bytes_of c.open.new.node) c.body_mut.result.now c.args.place.item c.args.place.used c.need_of.result it t.receives.long o c.body_mut.ensures.value) in
-    (c.write_entry.new.body, h, held (bytes_of c.args.node.now) (bytes_of c.open.new.node) c.args.place.item c.args.place.used c.args.at c.need_of.result it (entry_shown c.args.entry.now) c.write_entry.new.body t.receives.long c.need_of.ensures o h)
+    (c.write_entry.new.body, h, held (bytes_of c.args.node.now) (bytes_of c.open.new.node) c.args.place.item c.args.place.used c.args.at c.need_of.result it (entry_shown c.args.entry.now) c.write_entry.new.body t.receives.long c.need_of.ensures.need o h)
