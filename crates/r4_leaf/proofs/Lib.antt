@@ -13,3 +13,4 @@ pub mod Filled
 pub mod TailFilled
 pub mod EntryWritten
 pub mod EntryFilled
+pub mod LeftOver

@@ -3,3 +3,4 @@ pub mod Leaves
 pub mod Pieces
 pub mod Items
 pub mod Filling
+pub mod Packing

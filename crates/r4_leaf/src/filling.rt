@@ -9,10 +9,14 @@ ghost use Rattle.r4_base.specs.Stat.{attr_of, stat_of};
 ghost use Rattle.r4_base.specs.Value.{Byte, Stat};
 ghost use Rattle.r4_node40.specs.Loan.{bytes_of, with_bytes};
 ghost use Rattle.r4_leaf.specs.Filling.{IsFilled, IsFullFor, Puts};
+ghost use Rattle.r4_leaf.specs.Packing.{TakesPiece};
+ghost use Rattle.r4_leaf.specs.Pieces.{IsSound, piece_key};
 ghost use Rattle.r4_leaf.specs.Units.{LeafUnit};
 
+use crate::cutting::behind;
 use crate::entries::{entries_at, need_of, put_entry_at};
 use crate::opening::put_bytes_at;
+use crate::piece::Piece;
 use crate::placing::place_for;
 use crate::reading::{ENTRIES, STAT, TAIL};
 use r4_base::Key;
@@ -21,6 +25,36 @@ use r4_node40::NodeMut;
 
 /// The bytes of an item's header.
 const HEADER: u16 = 38;
+
+/// Puts a piece behind what the leaf has, as far as there is room, and answers what is left of it.
+pub(crate) fn put<'a>(node: &mut NodeMut<'_>, piece: Piece<'a>) -> Option<Piece<'a>>
+    requires filled { (lo : ℕ) × (mid : ℕ) × (us : List LeafUnit) × IsFilled lo mid us (bytes_of node.old) × (mid ≤ rank (piece_key piece)) }
+    requires sound { IsSound piece }
+    ensures block { node.new ≡ with_bytes node.old (bytes_of node.new) }
+    ensures takes { TakesPiece piece.entry result (bytes_of node.old) (bytes_of node.new) }
+{
+    match piece {
+        Piece::Stat(key, body) => {
+            if put_stat(node, key, body) {
+                return None;
+            }
+            Some(Piece::Stat(key, body))
+        }
+        Piece::Entry(entry) => {
+            if put_entry(node, &entry) {
+                return None;
+            }
+            Some(Piece::Entry(entry))
+        }
+        Piece::Bytes(key, bytes) => {
+            let count = put_run(node, key, bytes);
+            if count == bytes.len() {
+                return None;
+            }
+            Some(Piece::Bytes(behind(&key, count), &bytes[count..]))
+        }
+    }
+}
 
 /// Puts stat data behind what the leaf has, and answers whether there was room.
 fn put_stat(node: &mut NodeMut<'_>, key: Key, body: &[u8]) -> bool
