@@ -14,3 +14,4 @@ pub mod TailFilled
 pub mod EntryWritten
 pub mod EntryFilled
 pub mod LeftOver
+pub mod Packed

@@ -84,3 +84,7 @@ first_number k is =
     let b = is.small 2 in
     let c = is.small 3 in
     omega arith
+
+pub no_weight : bytes_behind None [] ≡ 0
+unfolding bytes_behind
+no_weight = refl

@@ -8,6 +8,7 @@ mod leaf;
 mod merging;
 mod cutting;
 mod opening;
+mod packing;
 mod piece;
 mod placing;
 mod reading;
