@@ -3,7 +3,8 @@ use Rattle.std.proofs.Common.{◌≡◌, ◌⊎◌, ℕ, zero, suc, ◌+◌, ◌
 use Rattle.std.specs.Prelude.{slice_get, Option, Some, None, ◌==◌, nat_le, nat_lt, reverse, if◌then◌else◌}
 use Rattle.std.proofs.lemmas.Bool.{cases_lt, eq-eqb, le-leb, lt-ltb}
 use Rattle.std.proofs.lemmas.Bool.Decides.{nat_tests}
-use Rattle.std.proofs.lemmas.List.{append_assoc, append-nil, reverse-append}
+use Rattle.std.proofs.lemmas.List.{append_assoc, append-nil, length-append, reverse-append}
+use Rattle.std.proofs.lemmas.Option.{same_Some}
 use Rattle.r4_base.specs.Cell.{bytes_from, cell_fault, entry_unit, item_body_fault, item_end, items_in_fault, next_key, offsets_fit, range_is_good, units_in}
 use Rattle.r4_base.specs.Dir.{Entry as DirEntry}
 use Rattle.r4_base.specs.Entries.{IsLawfulEntry}
@@ -219,3 +220,62 @@ module _ (lo0 lo : ℕ) (pieces0 pieces left : List Piece) (leaves : List Leaf) 
 
     stop_of : {hi : ℕ} → FillsUp lo hi pieces left x.block → Stops left x.block
     stop_of f = elim f.stops [ inl none ↦ absurd (some_left none) | inr s ↦ s ]
+
+    some_items : (from to : ℕ) (xs : List Item) → Lie from to xs → 1 ≤ length (units_in xs) → from < to
+    unfolding units_in
+    some_items from to [] h some = absurd (omega (arith, some))
+    some_items from to (y ∷ xs) h some = let low = h.0 in let own = item_has_end y h.1 in let order = lie_order (item_end y) to xs h.2 in omega (arith, low, own, order)
+
+    pub pack_more : (hi : ℕ) (made : List Leaf) → Follow lo0 hi (reverse pieces0) → Packs (rank (piece_key q)) hi (units_of (reverse left)) made → Packs lo0 hi (units_of (reverse pieces0)) ((leaves ++ x ∷ []) ++ made)
+    pack_more hi [] h m = absurd m
+    pack_more hi (y ∷ ys) h m =
+        let up = fills hi (p.follow hi h) in
+        let f = up.fills in
+        let s = stop_of up in
+        let same : s.q ≡ q = same_last s.before before s.q q (sym s.is ∙ is) in
+        let key : s.next.0 ≡ rank (piece_key q) = s.key ∙ ap (λ (z : Piece). rank (piece_key z)) same in
+        let rest = s.more ++ units_of (reverse before) in
+        let units : units_of (reverse left) ≡ s.next ∷ rest = ap units_of stack_left ∙ ap (λ us. us ++ units_of (reverse before)) (ap piece_units (sym same) ∙ s.first) in
+        let full = s.full.full lo f.to f.us f.filled in
+        let behind_all : Follow f.to hi (q ∷ reverse before) = subst (λ ps. Follow f.to hi ps) stack_left f.follow in
+        let small = first_small s.q s.next s.more (subst IsSound (sym same) behind_all.1) s.first in
+        let some = leaf_some f.us s.next small full in
+        let le = behind_all.0 in
+        let below = some_items lo f.to (items_of x.block) f.filled.lie (subst (λ us. 1 ≤ length us) (sym f.filled.units) some) in
+        let packed : Packs s.next.0 hi (s.next ∷ rest) (y ∷ ys) = subst (λ k. Packs k hi (s.next ∷ rest) (y ∷ ys)) (sym key) (subst (λ us. Packs (rank (piece_key q)) hi us (y ∷ ys)) units m) in
+        subst (λ ls. Packs lo0 hi (units_of (reverse pieces0)) ls) (sym (append_assoc leaves (x ∷ []) (y ∷ ys)))
+        (p.packs hi (x ∷ (y ∷ ys)) h
+            (f.us, s.next, rest, f.units ∙ ap (λ us. f.us ++ us) units, packs_lo s.next.0 hi (s.next ∷ rest) y ys packed, omega (arith, below, le, key),
+            record { from = from; stands = may_stand lo f.to s.next.0 f.us x.block f.filled (omega (arith, le, key)); units = f.filled.units },
+            record { some = some; full = full },
+            packed))
+
+    pub packing_more : Packing lo0 pieces0 (rank (piece_key q)) left (leaves ++ x ∷ [])
+    packing_more = record { follow = pack_follow; packs = pack_more }
+
+    pub fewer : (hi : ℕ) → Follow lo0 hi (reverse pieces0) → length (units_of (reverse left)) < length (units_of (reverse pieces))
+    fewer hi h =
+        let up = fills hi (p.follow hi h) in
+        let f = up.fills in
+        let s = stop_of up in
+        let same : s.q ≡ q = same_last s.before before s.q q (sym s.is ∙ is) in
+        let behind_all : Follow f.to hi (q ∷ reverse before) = subst (λ ps. Follow f.to hi ps) stack_left f.follow in
+        let small = first_small s.q s.next s.more (subst IsSound (sym same) behind_all.1) s.first in
+        let some = leaf_some f.us s.next small (s.full.full lo f.to f.us f.filled) in
+        let all = ap length f.units in
+        let both = length-append f.us (units_of (reverse left)) in
+        omega (arith, all, both, some)
+
+pub last_split : (left : List Piece) (q : Piece) → slice_get left (length left - 1) ≡ Some q → (before : List Piece) × (left ≡ before ++ q ∷ [])
+last_split [] q at = absurd cc
+last_split (x ∷ []) q at = ([], ap (λ z. z ∷ []) (same_Some x q at))
+last_split (x ∷ (y ∷ ys)) q at =
+    let r = last_split (y ∷ ys) q (subst (λ n. slice_get (x ∷ (y ∷ ys)) n ≡ Some q) (let e : length (x ∷ (y ∷ ys)) - 1 ≡ suc (length (y ∷ ys) - 1) = omega arith in e) at) in
+    (x ∷ r.0, ap (λ zs. x ∷ zs) r.1)
+
+pub none_left : (left : List Piece) → slice_get left (length left - 1) ≡ None → left ≡ []
+none_left [] at = refl
+none_left (x ∷ []) at = absurd cc
+none_left (x ∷ (y ∷ ys)) at =
+    let rest = none_left (y ∷ ys) (subst (λ n. slice_get (x ∷ (y ∷ ys)) n ≡ None) (let e : length (x ∷ (y ∷ ys)) - 1 ≡ suc (length (y ∷ ys) - 1) = omega arith in e) at) in
+    absurd cc
