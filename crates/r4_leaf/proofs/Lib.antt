@@ -15,3 +15,4 @@ pub mod EntryWritten
 pub mod EntryFilled
 pub mod LeftOver
 pub mod Packed
+pub mod Standing

@@ -6,6 +6,7 @@ mod entries;
 mod filling;
 mod leaf;
 mod merging;
+mod building;
 mod cutting;
 mod opening;
 mod packing;
