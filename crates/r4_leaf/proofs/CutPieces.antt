@@ -1,5 +1,5 @@
 -- Pieces that are kept where units are cut out.
-use Rattle.std.proofs.Common.{◌≡◌, ◌⊎◌, ℕ, zero, suc, ◌+◌, ◌-◌, ◌*◌, ◌^◌, ◌<◌, ◌≤◌, Bool, true, false, List, [], ◌∷◌, ◌++◌, length, take, drop, inl, inr, refl, sym, ap, subst, ◌∙◌, arith}
+use Rattle.std.proofs.Common.{◌≡◌, ◌⊎◌, ℕ, zero, suc, ◌+◌, ◌-◌, ◌*◌, ◌^◌, ◌<◌, ◌≤◌, List, [], ◌∷◌, ◌++◌, length, take, drop, inl, inr, refl, sym, ap, subst, ◌∙◌, arith}
 use Rattle.std.specs.Prelude.{OnOk, Result, Ok, Err, reverse, slice_index}
 use Rattle.std.specs.Borrow.{Bor}
 use Rattle.std.proofs.lemmas.Bool.{cases_lt}
@@ -9,10 +9,10 @@ use Rattle.r4_base.specs.Cell.{bytes_from}
 use Rattle.r4_base.specs.Key.{IsKey, offset_of, rank}
 use Rattle.r4_base.specs.declared.key.Key.{Key}
 use Rattle.r4_leaf.specs.Pieces.{Follow, IsSound, Leads, piece_end, piece_key, piece_units, units_of}
-use Rattle.r4_leaf.specs.Units.{LeafUnit, cut_units, is_between}
+use Rattle.r4_leaf.specs.Units.{LeafUnit, cut_units}
 use Rattle.r4_leaf.specs.declared.piece.Piece.{Piece}
 use Rattle.r4_leaf.specs.declared.piece.Piece.TheVariants.{Stat, Entry, Bytes}
-use Rattle.r4_leaf.proofs.Following.{follow_wider, units_more}
+use Rattle.r4_leaf.proofs.Following.{units_more}
 use Rattle.r4_leaf.proofs.Rising.{Rise, bytes_append, bytes_rise, cut_all, cut_high, cut_low}
 
 -- ---- parts of a list of pieces that follow one another
@@ -94,7 +94,6 @@ unit_gone from to (Bytes k bytes) one le lt = absurd (one tt)
 module _ (from to k : ℕ) (bs : List ℕ) (first end : ℕ) (f : first ≤ length bs) (e : end ≤ length bs)
     (low : (j : ℕ) → j < first → k + j < from) (not_low : (j : ℕ) → first ≤ j → j < length bs → from ≤ k + j)
     (not_high : (j : ℕ) → j < end → k + j < to) (high : (j : ℕ) → end ≤ j → j < length bs → to ≤ k + j) where
-
   head_kept : (n : ℕ) → n ≤ first → cut_units from to (bytes_from k (take n bs)) ≡ bytes_from k (take n bs)
   head_kept zero le = refl
   head_kept (suc n) le =
@@ -139,10 +138,10 @@ module _ (from to k : ℕ) (bs : List ℕ) (first end : ℕ) (f : first ≤ leng
       let one = length-take (end - first) (drop first bs) in
       let two = length-drop first bs in
       let split : bytes_from (k + first) (drop first bs) ≡ bytes_from (k + first) middle ++ bytes_from (k + end) (drop end bs) =
-          ap (bytes_from (k + first)) (sym (take-append-drop (end - first) (drop first bs)))
-          ∙ (bytes_append (k + first) middle (drop (end - first) (drop first bs))
-          ∙ ((λ i. bytes_from (k + first) middle ++ bytes_from (k + first + length middle) (behind_middle lt i))
-          ∙ ap (λ n. bytes_from (k + first) middle ++ bytes_from n (drop end bs)) (let same : k + first + length middle ≡ k + end = omega (arith, one, two, lt, e) in same))) in
+      ap (bytes_from (k + first)) (sym (take-append-drop (end - first) (drop first bs)))
+      ∙ (bytes_append (k + first) middle (drop (end - first) (drop first bs))
+      ∙ ((λ i. bytes_from (k + first) middle ++ bytes_from (k + first + length middle) (behind_middle lt i))
+      ∙ ap (λ n. bytes_from (k + first) middle ++ bytes_from n (drop end bs)) (let same : k + first + length middle ≡ k + end = omega (arith, one, two, lt, e) in same))) in
       ap (cut_units from to) (parted first f ∙ ap (λ us. bytes_from k (take first bs) ++ us) split)
       ∙ (filter-append _ (bytes_from k (take first bs)) (bytes_from (k + first) middle ++ bytes_from (k + end) (drop end bs))
       ∙ (λ i. head_kept first (omega arith) i ++ (filter-append _ (bytes_from (k + first) middle) (bytes_from (k + end) (drop end bs)) ∙ (λ j. middle_gone lt j ++ tail_kept end (omega arith) e j)) i))
@@ -190,9 +189,10 @@ cut_more from to first ps qs left new p is leads c = record {
 }
 
 pub cut_ended : (from to : ℕ) (first ps left : List Piece) → ps ≡ [] → IsCutTo from to first ps left → (units_of (reverse left) ≡ cut_units from to (units_of first)) × ((lo hi : ℕ) → Follow lo hi first → Follow lo hi (reverse left))
-cut_ended from to first ps left none c =
-    (ap (λ xs. cut_units from to (units_of xs) ++ units_of (reverse left)) (sym none) ∙ c.units,
-    λ lo hi h. let f = c.follow lo hi h in follow_lower f.0 lo hi (reverse left) (subst (λ xs. Follow lo f.0 xs) none f.1) f.2)
+cut_ended from to first ps left none c = (
+  ap (λ xs. cut_units from to (units_of xs) ++ units_of (reverse left)) (sym none) ∙ c.units,
+  λ lo hi h. let f = c.follow lo hi h in follow_lower f.0 lo hi (reverse left) (subst (λ xs. Follow lo f.0 xs) none f.1) f.2,
+)
 
 pub no_pieces : (ps : List Piece) → length ps ≡ 0 → ps ≡ []
 no_pieces [] e = refl
@@ -212,7 +212,6 @@ leads_empty old k (b ∷ bs) none = absurd (omega (arith, none))
 module _ (key : Key) (bytes : Bor (List ℕ)) (from to first end : ℕ) (f : first ≤ length bytes.now) (e : end ≤ length bytes.now)
     (low : (j : ℕ) → j < first → rank key + j < from) (not_low : (j : ℕ) → first ≤ j → j < length bytes.now → from ≤ rank key + j)
     (not_high : (j : ℕ) → j < end → rank key + j < to) (high : (j : ℕ) → end ≤ j → j < length bytes.now → to ≤ rank key + j) where
-
   pub whole_run : end ≤ first → bytes_from (rank key) bytes.now ≡ cut_units from to (piece_units (Bytes key bytes))
   unfolding piece_units
   whole_run le = sym (run_kept from to (rank key) bytes.now first end f e low not_low not_high high le)
@@ -229,6 +228,6 @@ module _ (key : Key) (bytes : Bor (List ℕ)) (from to first end : ℕ) (f : fir
       let behind : Leads old (rank next) (rank next + length (drop end bytes.now)) (bytes_from (rank next) (drop end bytes.now)) mid = subst (λ xs. Leads old (rank next) (rank next + length xs) (bytes_from (rank next) xs) mid) all one in
       let both = leads_both old mid new (rank key) (rank key + length (take first bytes.now)) (rank next) (rank next + length (drop end bytes.now)) (bytes_from (rank key) (take first bytes.now)) (bytes_from (rank next) (drop end bytes.now)) (omega (arith, long, is, lt)) behind two in
       let units : bytes_from (rank key) (take first bytes.now) ++ bytes_from (rank next) (drop end bytes.now) ≡ cut_units from to (bytes_from (rank key) bytes.now) =
-          ap (λ k. bytes_from (rank key) (take first bytes.now) ++ bytes_from k (drop end bytes.now)) is ∙ sym (run_parted from to (rank key) bytes.now first end f e low not_low not_high high lt) in
+      ap (λ k. bytes_from (rank key) (take first bytes.now) ++ bytes_from k (drop end bytes.now)) is ∙ sym (run_parted from to (rank key) bytes.now first end f e low not_low not_high high lt) in
       subst (λ us. Leads old (rank key) (rank key + length bytes.now) us new) units
       (subst (λ t. Leads old (rank key) t (bytes_from (rank key) (take first bytes.now) ++ bytes_from (rank next) (drop end bytes.now)) new) (omega (arith, rest, is, e)) both)

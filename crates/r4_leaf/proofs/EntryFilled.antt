@@ -1,29 +1,28 @@
 -- A leaf that takes an entry.
-use Rattle.std.proofs.Common.{◌≡◌, ◌⊎◌, ℕ, zero, suc, ◌+◌, ◌-◌, ◌*◌, ◌/◌, ◌^◌, ◌<◌, ◌≤◌, Bool, true, false, List, [], ◌∷◌, ◌++◌, length, map, take, inl, inr, refl, sym, ap, subst, ◌∙◌, arith}
+use Rattle.std.proofs.Common.{◌≡◌, ◌⊎◌, ℕ, ◌+◌, ◌-◌, ◌/◌, ◌^◌, ◌<◌, ◌≤◌, Bool, true, false, List, [], ◌∷◌, ◌++◌, length, map, take, inl, inr, refl, sym, ap, subst, ◌∙◌, arith}
 use Rattle.std.specs.Prelude.{slice_get, slice_index, Option, Some, None, ◌==◌, if◌then◌else◌}
 use Rattle.std.proofs.lemmas.Bool.Decides.{nat_tests}
 use Rattle.std.proofs.lemmas.Bool.{cases_lt, eqb-true}
-use Rattle.std.proofs.lemmas.List.{append-nil, length-append}
+use Rattle.std.proofs.lemmas.List.{length-append}
 use Rattle.std.proofs.lemmas.Option.{same_Some}
-use Rattle.r4_base.specs.Cell.{entry_unit, item_body_fault, item_end, item_units, offsets_fit, units_in}
-use Rattle.r4_base.specs.Dir.{Entry as DirEntry, dir_fault, entries_from, entries_of, entry_at, entry_count, entry_key_at}
-use Rattle.r4_base.specs.Key.{IsBelow, IsKey, rank}
+use Rattle.r4_base.specs.Cell.{entry_unit, item_body_fault, item_units, units_in}
+use Rattle.r4_base.specs.Dir.{Entry as DirEntry, entries_from, entries_of, entry_at, entry_count, entry_key_at}
+use Rattle.r4_base.specs.Key.{IsKey, rank}
 use Rattle.r4_base.specs.Node.{Item, count_of, items_of}
-use Rattle.r4_base.specs.Value.{Value, Stat, Entry, Byte}
 use Rattle.r4_base.specs.declared.key.Key.{Key}
-use Rattle.r4_base.proofs.Dirs.{accepted, entry_key_fits, get-entries_of, length-entries_of}
+use Rattle.r4_base.proofs.Dirs.{entry_key_fits, get-entries_of, length-entries_of}
 use Rattle.r4_base.proofs.EntryLists.{entry_of}
 use Rattle.r4_node40.specs.Edits.{GoesBetween}
 use Rattle.r4_node40.specs.Laid.{room_of}
 use Rattle.r4_node40.proofs.Laid.{length-items_of}
-use Rattle.r4_leaf.specs.Filling.{HasEntry, Holds, IsFilled, IsFullFor, IsPlace, IsPlaceFor, Puts, Receives, TakesEntry, continues_item, entry_need, last_of, need}
+use Rattle.r4_leaf.specs.Filling.{HasEntry, Holds, IsFilled, IsFullFor, IsPlaceFor, Puts, TakesEntry, continues_item, entry_need, last_of, need}
 use Rattle.r4_leaf.specs.Items.{IsSoundItem, Lie}
-use Rattle.r4_leaf.specs.Units.{LeafUnit, bytes_behind, continues_entries, entry_bytes, leaf_bytes, unit_bytes}
+use Rattle.r4_leaf.specs.Units.{LeafUnit, bytes_behind, continues_entries, unit_bytes}
 use Rattle.r4_leaf.proofs.EntryPieces.{some_entries}
 use Rattle.r4_leaf.proofs.EntryWritten.{no_count}
 use Rattle.r4_leaf.proofs.Filled.{Grows, filled_more, goes_last, last_item, lie_last, no_tip, tip}
 use Rattle.r4_leaf.proofs.Lying.{lie_sound}
-use Rattle.r4_leaf.proofs.Opened.{need_new, need_old, nothing, split_last}
+use Rattle.r4_leaf.proofs.Opened.{nothing, split_last}
 use Rattle.r4_leaf.proofs.SoundItems.{entries_item, stat_item, tail_item}
 use Rattle.r4_leaf.proofs.TailFilled.{both_tests, need_is}
 use Rattle.r4_leaf.proofs.Weighed.{behind_one, first_number, last_byte, last_entry, last_or}
@@ -103,13 +102,19 @@ module _ (lo mid : ℕ) (us : List LeafUnit) (b : List ℕ) (e : DirEntry) (i us
   takes_first : used ≡ 0 → TakesEntry b i used at (record { key = e.key; plugin = 2; body = [] }) e
   takes_first zero_used = record {
     place = record {
-      node = f.node; level = f.level; plugin = inr (inl refl);
+      node = f.node;
+      level = f.level;
+      plugin = inr (inl refl);
       new = λ x. ((p.new zero_used).0, subst (λ k. GoesBetween (items_of b) k e.key) (sym (p.new zero_used).0) (goes_last lo mid us b e.key f low));
       old = λ some. absurd (omega (arith, some));
     };
     plugin = refl;
     receives = record {
-      long = sym zero_used; new = λ x. refl; key = is_key; same = refl; good = λ some. absurd (omega (arith, some, zero_used));
+      long = sym zero_used;
+      new = λ x. refl;
+      key = is_key;
+      same = refl;
+      good = λ some. absurd (omega (arith, some, zero_used));
       count = none zero_used ∙ sym (ap length (no_entries e.key));
       above = λ k x next is. let a = none zero_used in absurd (omega (arith, next, a));
     };
@@ -129,13 +134,19 @@ module _ (lo mid : ℕ) (us : List LeafUnit) (b : List ℕ) (e : DirEntry) (i us
       let end = own.end in
       record {
         place = record {
-          node = f.node; level = f.level; plugin = inr (inl plugin);
+          node = f.node;
+          level = f.level;
+          plugin = inr (inl plugin);
           new = λ x. absurd (omega (arith, x, long, some));
           old = λ x. (o.1, o.2);
         };
         plugin = plugin;
         receives = record {
-          long = o.3; new = λ x. absurd (omega (arith, x, some)); key = sound.key; same = eqb-true _ _ t.1; good = λ x. own.body;
+          long = o.3;
+          new = λ x. absurd (omega (arith, x, some));
+          key = sound.key;
+          same = eqb-true _ _ t.1;
+          good = λ x. own.body;
           count = count some o.0 o.2 ∙ sym n;
           above = λ k x next is.
               let same : x.key ≡ entry_key_at o.0.key o.0.body k = own_key o.0 x k is in
@@ -229,25 +240,29 @@ module _ (lo mid : ℕ) (us : List LeafUnit) (b : List ℕ) (e : DirEntry) (i us
 module _ (b : List ℕ) (e : DirEntry) (i used : ℕ) (is_key : IsKey e.key) (p : IsPlaceFor b e.key 2 i used) where
   pub entry_puts : (c : List ℕ) (at : ℕ) → (used ≡ 0 → at ≡ 0) → (1 ≤ used → (it : Item) → slice_get (items_of b) i ≡ Some it → at ≡ entry_count it.body) → entry_need used e + (if used == 0 then 38 else 0) ≤ room_of b
       → ((it : Item) → TakesEntry b i used at it e → need it (entry_need used e) ≤ room_of b → (ws : List ℕ) × HasEntry it e ws × Holds b i it ws c) → Puts (rank e.key) (rank e.key + 1) (entry_unit e ∷ []) b c
-  entry_puts c at none count room holds = record { filled = λ lo mid us f le.
-      let t = takes_entry lo mid us b e i used at is_key f le p none count in
-      let n = need_is t.0 used (entry_need used e) t.1.receives.long in
-      let h = holds t.0 t.1 (omega (arith, n, room)) in
-      filled_more lo mid us b i t.0 h.0 c (entry_unit e ∷ []) (rank e.key) (rank e.key + 1) f t.1.place h.2 le (entry_grows lo mid us b e i used at is_key f le p none count t.0 t.1 h.0 h.1) }
+  entry_puts c at none count room holds = record {
+    filled = λ lo mid us f le.
+        let t = takes_entry lo mid us b e i used at is_key f le p none count in
+        let n = need_is t.0 used (entry_need used e) t.1.receives.long in
+        let h = holds t.0 t.1 (omega (arith, n, room)) in
+        filled_more lo mid us b i t.0 h.0 c (entry_unit e ∷ []) (rank e.key) (rank e.key + 1) f t.1.place h.2 le (entry_grows lo mid us b e i used at is_key f le p none count t.0 t.1 h.0 h.1);
+  }
 
   pub full_for_entry : room_of b < entry_need used e + (if used == 0 then 38 else 0) → IsFullFor (entry_unit e) b
   unfolding unit_bytes
-  full_for_entry low = record { full = λ lo mid us f. elim (cases_lt 0 used) [
-    | inl more ↦
-        let r = f.room in
-        let go = ap {B = ℕ} (λ (x : Bool). if x then 0 else 40) (entries_old lo mid us b e.key i used is_key f p more) in
-        let z = old_zero used more in
-        let w = old_two used more in
-        omega (arith, r, go, z, w, low)
-    | inr past ↦
-        let r = f.room in
-        let go = ap {B = ℕ} (λ (x : Bool). if x then 0 else 40) (entries_new lo mid us b e.key i used is_key f p (omega (arith, past))) in
-        let z = new_zero used past in
-        let w = new_two used past in
-        omega (arith, r, go, z, w, low)
-  ] }
+  full_for_entry low = record {
+    full = λ lo mid us f. elim (cases_lt 0 used) [
+      | inl more ↦
+          let r = f.room in
+          let go = ap {B = ℕ} (λ (x : Bool). if x then 0 else 40) (entries_old lo mid us b e.key i used is_key f p more) in
+          let z = old_zero used more in
+          let w = old_two used more in
+          omega (arith, r, go, z, w, low)
+      | inr past ↦
+          let r = f.room in
+          let go = ap {B = ℕ} (λ (x : Bool). if x then 0 else 40) (entries_new lo mid us b e.key i used is_key f p (omega (arith, past))) in
+          let z = new_zero used past in
+          let w = new_two used past in
+          omega (arith, r, go, z, w, low)
+    ];
+  }

@@ -1,21 +1,17 @@
 -- An entry that is written behind those of an item.
-use Rattle.std.proofs.Common.{◌≡◌, ◌⊎◌, ℕ, zero, suc, ◌+◌, ◌-◌, ◌<◌, ◌≤◌, Bool, true, false, List, [], ◌∷◌, ◌++◌, length, take, inl, inr, refl, sym, ap, subst, ◌∙◌, arith}
-use Rattle.std.specs.Prelude.{slice_get, slice_index, Option, Some, None, ◌==◌, nat_lt, if◌then◌else◌}
+use Rattle.std.proofs.Common.{◌≡◌, ◌⊎◌, ℕ, ◌+◌, ◌≤◌, Bool, true, false, List, [], ◌∷◌, ◌++◌, length, inl, inr, refl, sym, ap, subst, ◌∙◌, arith}
+use Rattle.std.specs.Prelude.{slice_get, Option, Some, None, ◌==◌, if◌then◌else◌}
 use Rattle.std.specs.List.{insert}
 use Rattle.std.specs.Option.{is_some}
-use Rattle.std.proofs.lemmas.Bool.{cases_lt, eqb-true, ltb-true, ltb-false}
-use Rattle.std.proofs.lemmas.Bool.Decides.{nat_tests}
-use Rattle.std.proofs.lemmas.List.{length-append, take_all}
+use Rattle.std.proofs.lemmas.Bool.{cases_lt, eqb-true, ltb-false}
+use Rattle.std.proofs.lemmas.List.{length-append}
 use Rattle.std.proofs.lemmas.List.Edits.{insert_end}
 use Rattle.std.proofs.lemmas.Option.{same_Some, slice_get_within}
 use Rattle.r4_base.specs.Bytes.{number_at}
-use Rattle.r4_base.specs.Dir.{Entry, dir_fault, entries_of, entry_at, entry_count, entry_key_at}
+use Rattle.r4_base.specs.Dir.{Entry, dir_fault, entries_of, entry_at, entry_count}
 use Rattle.r4_base.specs.Entries.{IsLawfulEntry, first_key}
-use Rattle.r4_base.specs.Key.{IsKey, rank}
-use Rattle.r4_base.specs.Name.{dir_of_key, is_long_key, is_long_name, key_of_name, name_fault, short_name_in}
+use Rattle.r4_base.specs.Name.{dir_of_key, is_long_key, is_long_name, short_name_in}
 use Rattle.r4_base.specs.Node.{Item}
-use Rattle.r4_base.specs.declared.items.Target.{Target}
-use Rattle.r4_base.specs.declared.key.Key.{Key}
 use Rattle.r4_base.proofs.Dirs.{accepted, get-entries_of, length-entries_of}
 use Rattle.r4_base.proofs.EntryLists.{first_is, long_key, same_entries}
 use Rattle.r4_base.proofs.Names.{is_name, key_spells}

@@ -1,28 +1,21 @@
 -- A leaf that has more units than before: its last item is new, or longer.
-use Rattle.std.proofs.Common.{◌≡◌, ◌⊎◌, ℕ, zero, suc, ◌+◌, ◌-◌, ◌*◌, ◌/◌, ◌^◌, ◌<◌, ◌≤◌, Bool, true, false, not, ◌&&◌, List, [], ◌∷◌, ◌++◌, length, map, take, inl, inr, refl, sym, ap, subst, ◌∙◌, arith}
-use Rattle.std.specs.Prelude.{slice_get, slice_index, Option, Some, None, ◌==◌, nat_le, if◌then◌else◌}
-use Rattle.std.proofs.lemmas.Bool.Decides.{nat_tests}
-use Rattle.std.proofs.lemmas.Bool.{cases_lt, eqb-true, le-leb}
-use Rattle.std.proofs.lemmas.List.{append_assoc, append-nil, length-append, take_all}
+use Rattle.std.proofs.Common.{◌≡◌, ℕ, zero, suc, ◌+◌, ◌-◌, ◌<◌, ◌≤◌, List, [], ◌∷◌, ◌++◌, length, take, inl, inr, refl, sym, ap, subst, ◌∙◌, arith}
+use Rattle.std.specs.Prelude.{slice_get, Some, None}
+use Rattle.std.proofs.lemmas.Bool.{cases_lt}
+use Rattle.std.proofs.lemmas.List.{append_assoc, append-nil, take_all}
 use Rattle.std.proofs.lemmas.Option.{same_Some, slice_get_within}
-use Rattle.r4_base.specs.Cell.{body_bytes, bytes_from, fault_in, is_short_tail, item_body_fault, item_end, item_units, offsets_fit, units_in}
-use Rattle.r4_base.specs.Key.{IsBelow, IsKey, offset_of, rank}
+use Rattle.r4_base.specs.Cell.{item_end, item_units, units_in}
+use Rattle.r4_base.specs.Key.{IsBelow, rank}
 use Rattle.r4_base.specs.Node.{Item, count_of, item_at, items_of}
-use Rattle.r4_base.specs.Stat.{attr_of, stat_of}
-use Rattle.r4_base.specs.Value.{Value, Stat, Entry, Byte}
 use Rattle.r4_base.specs.declared.key.Key.{Key}
 use Rattle.r4_node40.specs.Edits.{GoesBetween}
-use Rattle.r4_node40.specs.Laid.{IsNode, room_of}
 use Rattle.r4_node40.proofs.Laid.{get-items_of, length-items_of}
-use Rattle.r4_leaf.specs.Filling.{Holds, IsFilled, IsPlace, IsPlaceFor, continues_item, last_of, need}
+use Rattle.r4_leaf.specs.Filling.{Holds, IsFilled, IsPlace, last_of, need}
 use Rattle.r4_leaf.specs.Items.{IsSoundItem, Lie}
-use Rattle.r4_leaf.specs.Units.{LeafUnit, bytes_behind, continues_tail, leaf_bytes, unit_bytes}
-use Rattle.r4_leaf.proofs.Bodied.{bodied}
-use Rattle.r4_leaf.proofs.Lying.{lie_sound}
-use Rattle.r4_leaf.proofs.Opened.{need_new, need_old, split_last}
-use Rattle.r4_leaf.proofs.Rising.{bytes_append}
-use Rattle.r4_leaf.proofs.SoundItems.{item_has_end, stat_item, tail_item}
-use Rattle.r4_leaf.proofs.Weighed.{behind_append, last_append, last_byte, last_is, last_or, run_cost}
+use Rattle.r4_leaf.specs.Units.{LeafUnit, bytes_behind}
+use Rattle.r4_leaf.proofs.Opened.{split_last}
+use Rattle.r4_leaf.proofs.SoundItems.{item_has_end}
+use Rattle.r4_leaf.proofs.Weighed.{behind_append, last_append, last_is, last_or}
 
 -- ---- items that lie one after the other
 
@@ -123,9 +116,10 @@ module _ (lo mid : ℕ) (us : List LeafUnit) (b : List ℕ) (i : ℕ) (it : Item
 pub tip : (lo mid : ℕ) (us : List LeafUnit) (b : List ℕ) (it : Item) → IsFilled lo mid us b → 1 ≤ count_of b → slice_get (items_of b) (count_of b - 1) ≡ Some it → (before : List Item) × (last_of us ≡ last_or (last_or None (units_in before)) (item_units it))
 tip lo mid us b it f some at =
     let n = length-items_of b in
-    let split = split_last (count_of b - 1) (items_of b) it (omega (arith, n, some)) at in
-    (take (count_of b - 1) (items_of b),
-    last_is us ∙ (ap (last_or None) (sym f.units ∙ (ap units_in split ∙ items_more (take (count_of b - 1) (items_of b)) it)) ∙ last_append None (units_in (take (count_of b - 1) (items_of b))) (item_units it)))
+    let split = split_last (count_of b - 1) (items_of b) it (omega (arith, n, some)) at in (
+      take (count_of b - 1) (items_of b),
+      last_is us ∙ (ap (last_or None) (sym f.units ∙ (ap units_in split ∙ items_more (take (count_of b - 1) (items_of b)) it)) ∙ last_append None (units_in (take (count_of b - 1) (items_of b))) (item_units it)),
+    )
 
 no_items : (b : List ℕ) → count_of b ≡ 0 → items_of b ≡ []
 no_items b none = nothing (items_of b) (length-items_of b ∙ none)
@@ -147,9 +141,11 @@ goes_last lo mid us b key f le = record {
   where
     item_ends : (x : Item) → IsSoundItem x → rank x.key < item_end x
     item_ends x s = item_has_end x s
+
     ends : (from to : ℕ) (xs : List Item) → Lie from to xs → from ≤ to
     ends from to [] h = h
     ends from to (x ∷ xs) h = let e = ends (item_end x) to xs h.2 in let low = h.0 in let own = item_ends x h.1 in omega (arith, e, low, own)
+
     above_all : (from to : ℕ) (xs : List Item) (k : ℕ) (x : Item) → Lie from to xs → slice_get xs k ≡ Some x → to ≤ rank key → IsBelow x.key key
     above_all from to [] k x h at high = absurd cc
     above_all from to (y ∷ ys) zero x h at high = let e = ends (item_end y) to ys h.2 in let own = item_ends y h.1 in let same = ap (λ (z : Item). rank z.key) (same_Some y x at) in omega (arith, e, own, same, high)

@@ -1,11 +1,10 @@
 -- Pieces that follow one another, and their units.
-use Rattle.std.proofs.Common.{◌≡◌, ℕ, zero, suc, ◌+◌, ◌<◌, ◌≤◌, List, [], ◌∷◌, ◌++◌, length, map, take, refl, sym, ap, subst, ◌∙◌, arith}
+use Rattle.std.proofs.Common.{◌≡◌, ℕ, zero, suc, ◌+◌, ◌≤◌, List, [], ◌∷◌, ◌++◌, map, take, refl, sym, ap, ◌∙◌, arith}
 use Rattle.std.specs.Prelude.{slice_get, Some}
 use Rattle.std.proofs.lemmas.List.{append_assoc, append-nil}
 use Rattle.std.proofs.lemmas.Option.{same_Some}
 use Rattle.r4_base.specs.Key.{rank}
 use Rattle.r4_leaf.specs.Pieces.{Adds, Follow, IsSound, piece_end, piece_key, piece_units, units_of}
-use Rattle.r4_leaf.specs.Units.{LeafUnit}
 use Rattle.r4_leaf.specs.declared.piece.Piece.{Piece}
 
 pub units_append : (ps qs : List Piece) → units_of (ps ++ qs) ≡ units_of ps ++ units_of qs

@@ -1,11 +1,11 @@
 -- Stat data and tails as pieces.
-use Rattle.std.proofs.Common.{◌≡◌, ◌⊎◌, ℕ, List, refl, arith, subst, sym, ap, ◌∙◌, inl, inr, ◌+◌, ◌++◌, ◌∷◌, [], length}
+use Rattle.std.proofs.Common.{◌≡◌, ◌⊎◌, ℕ, List, arith, sym, ap, ◌∙◌, inl, inr, ◌+◌, ◌++◌, ◌∷◌, [], length}
 use Rattle.std.specs.Borrow.{Bor}
 use Rattle.r4_base.specs.Cell.{item_end, item_units}
 use Rattle.r4_base.specs.Key.{rank}
 use Rattle.r4_base.specs.declared.key.Key.{Key}
 use Rattle.r4_leaf.specs.Items.{IsSoundItem}
-use Rattle.r4_leaf.specs.Pieces.{Adds, piece_end, piece_units, units_of}
+use Rattle.r4_leaf.specs.Pieces.{Adds, piece_units, units_of}
 use Rattle.r4_leaf.specs.declared.piece.Piece.{Piece}
 use Rattle.r4_leaf.specs.declared.piece.Piece.TheVariants.{Stat, Bytes}
 use Rattle.r4_leaf.proofs.Following.{adds_one, follow_wider}

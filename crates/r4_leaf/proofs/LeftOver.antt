@@ -1,17 +1,17 @@
 -- A piece that is put in, and what is left of it.
-use Rattle.std.proofs.Common.{◌≡◌, ℕ, zero, suc, ◌+◌, ◌-◌, ◌<◌, ◌≤◌, List, [], ◌∷◌, ◌++◌, length, take, drop, get_or, refl, sym, ap, subst, ◌∙◌, arith}
-use Rattle.std.specs.Prelude.{slice_index, None}
+use Rattle.std.proofs.Common.{◌≡◌, ℕ, zero, suc, ◌+◌, ◌-◌, ◌<◌, ◌≤◌, List, [], ◌∷◌, ◌++◌, length, take, drop, refl, sym, ap, subst, ◌∙◌, arith}
+use Rattle.std.specs.Prelude.{slice_index}
 use Rattle.std.specs.Borrow.{Bor}
 use Rattle.std.proofs.lemmas.List.{length-drop, length-take, take_all, take-append-drop}
-use Rattle.r4_base.specs.Cell.{bytes_from, entry_unit, fault_in}
+use Rattle.r4_base.specs.Cell.{bytes_from, entry_unit}
 use Rattle.r4_base.specs.Key.{offset_of, rank}
-use Rattle.r4_base.specs.Stat.{attr_of, stat_of}
-use Rattle.r4_base.specs.Value.{Value, Byte, Stat as StatValue}
+use Rattle.r4_base.specs.Stat.{attr_of}
+use Rattle.r4_base.specs.Value.{Byte, Stat as StatValue}
 use Rattle.r4_base.specs.declared.key.Key.{Key}
 use Rattle.r4_cde.specs.Shown.{entry_shown}
 use Rattle.r4_cde.specs.declared.view.EntryRef.{EntryRef}
 use Rattle.r4_leaf.specs.Filling.{IsFullFor, Puts}
-use Rattle.r4_leaf.specs.Packing.{IsLeft, TakesPiece}
+use Rattle.r4_leaf.specs.Packing.{IsLeft}
 use Rattle.r4_leaf.specs.Pieces.{IsSound, piece_end, piece_key, piece_units}
 use Rattle.r4_leaf.specs.Units.{LeafUnit}
 use Rattle.r4_leaf.specs.declared.piece.Piece.{Piece}
@@ -24,8 +24,17 @@ puts_nothing from b c same = subst (λ x. Puts from from [] b x) (sym same) (sub
 
 left_whole : (p : Piece) (u : LeafUnit) (b c : List ℕ) → piece_units p ≡ u ∷ [] → u.0 ≡ rank (piece_key p) → IsSound p → c ≡ b → IsFullFor u c → IsLeft p p b c
 left_whole p u b c one key sound same full = record {
-  done = []; next = u; more = []; units = refl; first = one; key = key; sound = sound; end = refl; low = omega arith;
-  puts = puts_nothing (rank (piece_key p)) b c same; full = full;
+  done = [];
+  next = u;
+  more = [];
+  units = refl;
+  first = one;
+  key = key;
+  sound = sound;
+  end = refl;
+  low = omega arith;
+  puts = puts_nothing (rank (piece_key p)) b c same;
+  full = full;
 }
 
 pub left_stat : (p : Piece) (k : Key) (body : Bor (List ℕ)) (b c : List ℕ) → p ≡ Stat k body → IsSound p → c ≡ b → IsFullFor (rank k, StatValue (attr_of body.now)) c → IsLeft p (Stat k body) b c
@@ -68,8 +77,8 @@ module _ (p : Piece) (k : Key) (bytes : Bor (List ℕ)) (b c : List ℕ) (is : p
       let first = first_byte (rank next) rest.now (omega (arith, long, dropped, lt)) in
       let short = own.1 in
       let split : bytes_from (rank k) bytes.now ≡ bytes_from (rank k) (take n bytes.now) ++ bytes_from (rank next) rest.now =
-          ap (bytes_from (rank k)) (sym (take-append-drop n bytes.now)) ∙ (bytes_append (rank k) (take n bytes.now) (drop n bytes.now)
-          ∙ (λ i. bytes_from (rank k) (take n bytes.now) ++ bytes_from (let e : rank k + length (take n bytes.now) ≡ rank next = omega (arith, taken, rank_is, within) in e i) (sym now i))) in
+      ap (bytes_from (rank k)) (sym (take-append-drop n bytes.now)) ∙ (bytes_append (rank k) (take n bytes.now) (drop n bytes.now)
+      ∙ (λ i. bytes_from (rank k) (take n bytes.now) ++ bytes_from (let e : rank k + length (take n bytes.now) ≡ rank next = omega (arith, taken, rank_is, within) in e i) (sym now i))) in
       let head : slice_index rest.now 0 ≡ slice_index bytes.now n = ap (λ bs. slice_index bs 0) now ∙ index_drop n bytes.now in
       subst (λ (x : Piece). IsLeft x (Bytes next rest) b c) (sym is) (record {
         done = bytes_from (rank k) (take n bytes.now);

@@ -1,5 +1,5 @@
 -- Pieces that are put among others.
-use Rattle.std.proofs.Common.{◌≡◌, ℕ, zero, suc, ◌+◌, ◌<◌, ◌≤◌, List, [], ◌∷◌, ◌++◌, length, inl, inr, refl, sym, ap, subst, ◌∙◌, arith}
+use Rattle.std.proofs.Common.{◌≡◌, ℕ, ◌+◌, ◌<◌, ◌≤◌, List, [], ◌∷◌, ◌++◌, length, inl, inr, refl, sym, ap, subst, ◌∙◌, arith}
 use Rattle.std.specs.Prelude.{Contains, reverse}
 use Rattle.std.proofs.lemmas.Bool.{cases_lt}
 use Rattle.std.proofs.lemmas.List.{append_assoc, append-nil, reverse-append}
@@ -15,7 +15,7 @@ use Rattle.r4_leaf.specs.Units.{LeafUnit, put_units}
 use Rattle.r4_leaf.specs.declared.piece.Piece.{Piece}
 use Rattle.r4_leaf.specs.declared.piece.Piece.TheVariants.{Stat, Entry, Bytes}
 use Rattle.r4_leaf.proofs.CutPieces.{Ends, follow_last, follow_lower, some_units}
-use Rattle.r4_leaf.proofs.Following.{follow_wider, units_append, units_more}
+use Rattle.r4_leaf.proofs.Following.{units_append, units_more}
 use Rattle.r4_leaf.proofs.Rising.{Rise, bytes_rise, put_append, put_low, put_run, rise_append, rise_lower, rise_order}
 
 -- ---- a piece's units
@@ -115,7 +115,6 @@ merge_begins given pieces apart = record { units = append-nil (put_units (units_
 
 module _ (given0 pieces0 given pieces merged gs left moved_on new : List Piece) (g : Piece) (is : given ≡ gs ++ g ∷ []) (m : IsMerged given0 pieces0 given pieces merged)
     (moves : Moves (rank (piece_key g)) pieces merged left moved_on) (pushed : new ≡ moved_on ++ g ∷ []) where
-
   units_split : units_of pieces ≡ units_of left ++ units_of moves.moved
   units_split = ap units_of moves.from ∙ units_append left moves.moved
 
@@ -164,7 +163,7 @@ module _ (given0 pieces0 given pieces merged gs left moved_on new : List Piece) 
         ∙ (put_append (units_of gs) (piece_units g) (units_of left ++ units_of moves.moved)
         ∙ (ap (put_units (units_of gs)) (put_run lo (rank (piece_key g)) (piece_end g) mid (piece_units g) (units_of left) (units_of moves.moved) rise_left (piece_rise g) rise_moved)
         ∙ put_low lo (rank (piece_key g)) mid (units_of gs) (units_of left) (piece_units g ++ units_of moves.moved) (pieces_rise lo (rank (piece_key g)) gs ends.before)
-            (rise_append (rank (piece_key g)) (piece_end g) mid (piece_units g) (units_of moves.moved) (piece_rise g) rise_moved)))
+        (rise_append (rank (piece_key g)) (piece_end g) mid (piece_units g) (units_of moves.moved) (piece_rise g) rise_moved)))
 
   pub merge_more : (lo hi : ℕ) → Follow lo hi pieces0 → Follow lo hi given0 → IsMerged given0 pieces0 gs left new
   merge_more lo0 hi0 h0 g0 = record {
@@ -177,17 +176,21 @@ module _ (given0 pieces0 given pieces merged gs left moved_on new : List Piece) 
         ∙ (ap (λ us. us ++ units_of (reverse merged)) (sym (units_put lo0 f.0 f.1 f.2)) ∙ m.units))));
     follow = λ lo hi h gh.
         let f = m.follow lo hi h gh in
-        let e = ends lo f.0 f.1 f.2 in
-        (rank (piece_key g), left_to lo f.0 f.1 f.2, e.before,
-        subst (λ ps. Follow (rank (piece_key g)) hi ps) (sym turned) (omega arith, e.sound, follow_append (piece_end g) f.0 hi moves.moved (reverse merged) (moved_from lo f.0 f.1 f.2) f.3));
+        let e = ends lo f.0 f.1 f.2 in (
+          rank (piece_key g),
+          left_to lo f.0 f.1 f.2,
+          e.before,
+          subst (λ ps. Follow (rank (piece_key g)) hi ps) (sym turned) (omega arith, e.sound, follow_append (piece_end g) f.0 hi moves.moved (reverse merged) (moved_from lo f.0 f.1 f.2) f.3),
+        );
     apart = apart_gs (units_of left) (apart_left (units_of left) (units_of moves.moved) (units_of gs ++ piece_units g) apart_all);
   }
 
 pub merge_ended : (given0 pieces0 given pieces merged new : List Piece) → given ≡ [] → reverse new ≡ pieces ++ reverse merged → IsMerged given0 pieces0 given pieces merged
     → (units_of (reverse new) ≡ put_units (units_of given0) (units_of pieces0)) × ((lo hi : ℕ) → Follow lo hi pieces0 → Follow lo hi given0 → Follow lo hi (reverse new))
-merge_ended given0 pieces0 given pieces merged new none is m =
-    (ap units_of is ∙ (units_append pieces (reverse merged) ∙ (ap (λ ps. put_units (units_of ps) (units_of pieces) ++ units_of (reverse merged)) (sym none) ∙ m.units)),
-    λ lo hi h g. let f = m.follow lo hi h g in subst (λ ps. Follow lo hi ps) (sym is) (follow_append lo f.0 hi pieces (reverse merged) f.1 f.3))
+merge_ended given0 pieces0 given pieces merged new none is m = (
+  ap units_of is ∙ (units_append pieces (reverse merged) ∙ (ap (λ ps. put_units (units_of ps) (units_of pieces) ++ units_of (reverse merged)) (sym none) ∙ m.units)),
+  λ lo hi h g. let f = m.follow lo hi h g in subst (λ ps. Follow lo hi ps) (sym is) (follow_append lo f.0 hi pieces (reverse merged) f.1 f.3),
+)
 
 -- ---- pieces that are moved
 

@@ -1,21 +1,18 @@
 -- The last item of a node, put in or made longer, and its body then written.
-use Rattle.std.proofs.Common.{◌≡◌, ◌⊎◌, ℕ, zero, suc, ◌+◌, ◌-◌, ◌<◌, ◌≤◌, true, false, List, [], ◌∷◌, ◌++◌, length, replicate, take, get_or, set, inl, inr, refl, sym, ap, subst, ◌∙◌, arith}
+use Rattle.std.proofs.Common.{◌≡◌, ◌⊎◌, ℕ, zero, suc, ◌+◌, ◌-◌, ◌<◌, ◌≤◌, true, false, List, [], ◌∷◌, ◌++◌, length, replicate, take, get_or, set, inl, inr, refl, sym, ap, ◌∙◌, arith}
 use Rattle.std.specs.Prelude.{slice_get, slice_set, Some, None, Result, OnOk, IsOk, Ok, Err, ◌==◌, if◌then◌else◌}
 use Rattle.std.specs.List.{insert, sum_by}
-use Rattle.std.proofs.lemmas.Bool.{cases_lt}
 use Rattle.std.proofs.lemmas.Bool.Decides.{nat_tests}
 use Rattle.std.proofs.lemmas.List.{length-append, length-replicate, length-take, set-append_right, take_all, take-append-le}
 use Rattle.std.proofs.lemmas.List.Edits.{insert_end}
 use Rattle.std.proofs.lemmas.List.Sums.{sum_by-append}
 use Rattle.std.proofs.lemmas.Option.{same_Some}
-use Rattle.r4_base.specs.Lending.{written}
 use Rattle.r4_base.specs.Node.{Item, count_of, end_at, fits_level, item_at, items_of, key_at, level_of, offset_at, plugin_at}
-use Rattle.r4_base.specs.declared.key.Key.{Key}
-use Rattle.r4_node40.specs.Edits.{GoesBetween, InsertsItem, ResizesItem, growth, resized}
+use Rattle.r4_node40.specs.Edits.{InsertsItem, ResizesItem, growth, resized}
 use Rattle.r4_node40.specs.Laid.{IsLaid, IsNode, WritesBody, room_of, span_at}
 use Rattle.r4_node40.proofs.Accepted.{space}
 use Rattle.r4_node40.proofs.Kept.{node_inserted, node_resized, node_written}
-use Rattle.r4_node40.proofs.Laid.{get-items_of, get_or-items_of, length-items_of}
+use Rattle.r4_node40.proofs.Laid.{get_or-items_of, length-items_of}
 use Rattle.r4_leaf.specs.Filling.{Holds, IsPlace, Opens, need}
 
 -- where a call went well, what it promises then
@@ -76,10 +73,12 @@ module _ (b : List ℕ) (before : List Item) (x : Item) (i : ℕ) (node : IsNode
   last_plugin = ap (λ (y : Item). y.plugin) shown
 
   pub last_written : (ws c : List ℕ) → WritesBody b ws i c → IsNode c × (items_of c ≡ before ++ (record { key = x.key; plugin = x.plugin; body = ws }) ∷ [])
-  last_written ws c w = (node_written b ws c i node last_within w,
-      w.items ∙ (ap (λ (l : List Item). slice_set l i (record { key = key_at b i; plugin = plugin_at b i; body = ws })) items
-      ∙ (set_end before x (record { key = key_at b i; plugin = plugin_at b i; body = ws }) i place
-      ∙ (λ j. before ++ (record { key = last_key j; plugin = last_plugin j; body = ws }) ∷ []))))
+  last_written ws c w = (
+    node_written b ws c i node last_within w,
+    w.items ∙ (ap (λ (l : List Item). slice_set l i (record { key = key_at b i; plugin = plugin_at b i; body = ws })) items
+        ∙ (set_end before x (record { key = key_at b i; plugin = plugin_at b i; body = ws }) i place
+        ∙ (λ j. before ++ (record { key = last_key j; plugin = last_plugin j; body = ws }) ∷ []))),
+  )
 
 -- ---- the item is put in
 
@@ -101,24 +100,34 @@ need_old it n e = grind (arith, nat_tests, e)
 holds : (old : List ℕ) (i : ℕ) (it : Item) (ws c : List ℕ) → IsNode old → IsNode c → level_of c ≡ 1 → items_of c ≡ take i (items_of old) ++ (record { key = it.key; plugin = it.plugin; body = ws }) ∷ []
     → ((length it.body ≡ 0) × (take i (items_of old) ≡ items_of old)) ⊎ ((1 ≤ length it.body) × (items_of old ≡ take i (items_of old) ++ it ∷ [])) → Holds old i it ws c
 unfolding weight
-holds old i it ws c node_old node_new level items (inl h) = record { node = node_new; level = level; items = items; room =
-    let a : room_of c + weight (items_of c) ≡ 4068 = space c node_new.laid in
-    let b : room_of old + weight (items_of old) ≡ 4068 = space old node_old.laid in
-    let same = ap weight items in
-    let one = weight_last (take i (items_of old)) (record { key = it.key; plugin = it.plugin; body = ws }) in
-    let before = ap weight h.1 in
-    let n = need_new it (length ws) h.0 in
-    let none = h.0 in
-    omega (arith, a, b, same, one, before, n, none) }
-holds old i it ws c node_old node_new level items (inr h) = record { node = node_new; level = level; items = items; room =
-    let a : room_of c + weight (items_of c) ≡ 4068 = space c node_new.laid in
-    let b : room_of old + weight (items_of old) ≡ 4068 = space old node_old.laid in
-    let same = ap weight items in
-    let one = weight_last (take i (items_of old)) (record { key = it.key; plugin = it.plugin; body = ws }) in
-    let two = weight_last (take i (items_of old)) it in
-    let was = ap weight h.1 in
-    let n = need_old it (length ws) h.0 in
-    omega (arith, a, b, same, one, two, was, n) }
+holds old i it ws c node_old node_new level items (inl h) = record {
+  node = node_new;
+  level = level;
+  items = items;
+  room =
+      let a : room_of c + weight (items_of c) ≡ 4068 = space c node_new.laid in
+      let b : room_of old + weight (items_of old) ≡ 4068 = space old node_old.laid in
+      let same = ap weight items in
+      let one = weight_last (take i (items_of old)) (record { key = it.key; plugin = it.plugin; body = ws }) in
+      let before = ap weight h.1 in
+      let n = need_new it (length ws) h.0 in
+      let none = h.0 in
+      omega (arith, a, b, same, one, before, n, none);
+}
+holds old i it ws c node_old node_new level items (inr h) = record {
+  node = node_new;
+  level = level;
+  items = items;
+  room =
+      let a : room_of c + weight (items_of c) ≡ 4068 = space c node_new.laid in
+      let b : room_of old + weight (items_of old) ≡ 4068 = space old node_old.laid in
+      let same = ap weight items in
+      let one = weight_last (take i (items_of old)) (record { key = it.key; plugin = it.plugin; body = ws }) in
+      let two = weight_last (take i (items_of old)) it in
+      let was = ap weight h.1 in
+      let n = need_old it (length ws) h.0 in
+      omega (arith, a, b, same, one, two, was, n);
+}
 
 module _ (b0 b1 : List ℕ) (i more : ℕ) (it : Item) (place : IsPlace b0 i it) (none : length it.body ≡ 0) (put : InsertsItem b0 i it.key it.plugin more b1) where
   node1 : IsNode b1

@@ -1,11 +1,10 @@
 -- Leaves that are filled one after the other.
-use Rattle.std.proofs.Common.{◌≡◌, ◌⊎◌, ℕ, zero, suc, ◌+◌, ◌-◌, ◌^◌, ◌<◌, ◌≤◌, Bool, true, false, not, ◌&&◌, ◌||◌, List, [], ◌∷◌, ◌++◌, length, cond, inl, inr, refl, sym, ap, subst, ◌∙◌, arith}
-use Rattle.std.specs.Prelude.{slice_get, Option, Some, None, ◌==◌, nat_le, nat_lt, reverse, if◌then◌else◌}
-use Rattle.std.proofs.lemmas.Bool.{cases_lt, eq-eqb, le-leb, lt-ltb}
-use Rattle.std.proofs.lemmas.Bool.Decides.{nat_tests}
+use Rattle.std.proofs.Common.{◌≡◌, ℕ, suc, ◌+◌, ◌-◌, ◌^◌, ◌<◌, ◌≤◌, Bool, true, false, ◌&&◌, List, [], ◌∷◌, ◌++◌, length, cond, inl, inr, refl, sym, ap, subst, ◌∙◌, arith}
+use Rattle.std.specs.Prelude.{slice_get, Some, None, ◌==◌, nat_le, nat_lt, reverse, if◌then◌else◌}
+use Rattle.std.proofs.lemmas.Bool.{eq-eqb, le-leb, lt-ltb}
 use Rattle.std.proofs.lemmas.List.{append_assoc, append-nil, length-append, reverse-append}
 use Rattle.std.proofs.lemmas.Option.{same_Some}
-use Rattle.r4_base.specs.Cell.{bytes_from, cell_fault, entry_unit, item_body_fault, item_end, items_in_fault, next_key, offsets_fit, range_is_good, units_in}
+use Rattle.r4_base.specs.Cell.{bytes_from, cell_fault, entry_unit, item_end, items_in_fault, next_key, range_is_good, units_in}
 use Rattle.r4_base.specs.Dir.{Entry as DirEntry}
 use Rattle.r4_base.specs.Entries.{IsLawfulEntry}
 use Rattle.r4_base.specs.Key.{rank}
@@ -14,15 +13,15 @@ use Rattle.r4_base.specs.Stat.{attr_of}
 use Rattle.r4_base.specs.declared.items.Attr.{Attr}
 use Rattle.r4_cde.specs.Shown.{entry_shown}
 use Rattle.r4_base.specs.Node.{Item, KeysRise, PluginsFit, count_of, is_empty_branch, items_of, level_of, node_fault}
-use Rattle.r4_base.specs.Value.{Value, Stat as StatValue, Entry as EntryValue, Byte}
+use Rattle.r4_base.specs.Value.{Stat as StatValue, Byte}
 use Rattle.r4_base.specs.declared.node.NodeFault.TheVariants.{Empty}
 use Rattle.r4_base.proofs.Names.{is_name}
-use Rattle.r4_node40.specs.Laid.{IsFresh, room_of}
+use Rattle.r4_node40.specs.Laid.{IsFresh}
 use Rattle.r4_node40.proofs.Accepted.{accepted}
-use Rattle.r4_leaf.specs.Filling.{IsFilled, IsFullFor, last_of}
-use Rattle.r4_leaf.specs.Items.{IsSoundItem, Lie}
-use Rattle.r4_leaf.specs.Leaves.{IsFull, IsLeaf, MayStand, Packs}
-use Rattle.r4_leaf.specs.Packing.{Fills, FillsUp, IsLeft, Stops, TakesPiece}
+use Rattle.r4_leaf.specs.Filling.{IsFilled, last_of}
+use Rattle.r4_leaf.specs.Items.{Lie}
+use Rattle.r4_leaf.specs.Leaves.{MayStand, Packs}
+use Rattle.r4_leaf.specs.Packing.{Fills, FillsUp, IsLeft, Stops}
 use Rattle.r4_leaf.specs.Pieces.{Follow, IsSound, piece_end, piece_key, piece_units, units_of}
 use Rattle.r4_leaf.specs.Filling.{Puts}
 use Rattle.r4_leaf.specs.Units.{LeafUnit, entry_bytes, leaf_bytes, unit_bytes}
@@ -190,7 +189,6 @@ packs_lo lo hi us y (z ∷ more) p = p.6.from
 
 module _ (lo0 lo : ℕ) (pieces0 pieces left : List Piece) (leaves : List Leaf) (x : Leaf) (from : rank x.lo ≡ lo) (p : Packing lo0 pieces0 lo pieces leaves)
     (fills : (hi : ℕ) → Follow lo hi (reverse pieces) → FillsUp lo hi pieces left x.block) where
-
   -- the last leaf
   pub pack_ends : left ≡ [] → (hi : ℕ) → Follow lo0 hi (reverse pieces0) → Packs lo0 hi (units_of (reverse pieces0)) (leaves ++ x ∷ [])
   pack_ends none hi h =
@@ -244,11 +242,17 @@ module _ (lo0 lo : ℕ) (pieces0 pieces left : List Piece) (leaves : List Leaf) 
         let below = some_items lo f.to (items_of x.block) f.filled.lie (subst (λ us. 1 ≤ length us) (sym f.filled.units) some) in
         let packed : Packs s.next.0 hi (s.next ∷ rest) (y ∷ ys) = subst (λ k. Packs k hi (s.next ∷ rest) (y ∷ ys)) (sym key) (subst (λ us. Packs (rank (piece_key q)) hi us (y ∷ ys)) units m) in
         subst (λ ls. Packs lo0 hi (units_of (reverse pieces0)) ls) (sym (append_assoc leaves (x ∷ []) (y ∷ ys)))
-        (p.packs hi (x ∷ (y ∷ ys)) h
-            (f.us, s.next, rest, f.units ∙ ap (λ us. f.us ++ us) units, packs_lo s.next.0 hi (s.next ∷ rest) y ys packed, omega (arith, below, le, key),
-            record { from = from; stands = may_stand lo f.to s.next.0 f.us x.block f.filled (omega (arith, le, key)); units = f.filled.units },
-            record { some = some; full = full },
-            packed))
+        (p.packs hi (x ∷ (y ∷ ys)) h (
+          f.us,
+          s.next,
+          rest,
+          f.units ∙ ap (λ us. f.us ++ us) units,
+          packs_lo s.next.0 hi (s.next ∷ rest) y ys packed,
+          omega (arith, below, le, key),
+          record { from = from; stands = may_stand lo f.to s.next.0 f.us x.block f.filled (omega (arith, le, key)); units = f.filled.units },
+          record { some = some; full = full },
+          packed,
+        ))
 
     pub packing_more : Packing lo0 pieces0 (rank (piece_key q)) left (leaves ++ x ∷ [])
     packing_more = record { follow = pack_follow; packs = pack_more }

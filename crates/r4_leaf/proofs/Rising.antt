@@ -1,11 +1,9 @@
 -- Units whose keys rise, and what edits make of them.
-use Rattle.std.proofs.Common.{◌≡◌, ℕ, zero, suc, ◌+◌, ◌-◌, ◌<◌, ◌≤◌, Bool, true, false, not, ◌&&◌, List, [], ◌∷◌, ◌++◌, length, take, drop, refl, sym, ap, subst, ◌∙◌, arith}
-use Rattle.std.specs.Prelude.{nat_lt, nat_le, if◌then◌else◌}
-use Rattle.std.specs.List.{filter}
+use Rattle.std.proofs.Common.{◌≡◌, ℕ, ◌+◌, ◌<◌, ◌≤◌, Bool, true, false, not, List, [], ◌∷◌, ◌++◌, length, refl, ap, subst, ◌∙◌, arith}
+use Rattle.std.specs.Prelude.{nat_lt, if◌then◌else◌}
 use Rattle.std.proofs.lemmas.Bool.Decides.{nat_tests}
-use Rattle.std.proofs.lemmas.List.{append_assoc, append-nil}
 use Rattle.r4_base.specs.Cell.{bytes_from}
-use Rattle.r4_base.specs.Value.{Value, Byte}
+use Rattle.r4_base.specs.Value.{Byte}
 use Rattle.r4_leaf.specs.Units.{LeafUnit, cut_units, is_between, put_unit, put_units}
 
 -- Units from one key up to another, each behind the one before it.

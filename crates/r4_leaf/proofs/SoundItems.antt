@@ -1,9 +1,9 @@
 -- What is said of an item of a leaf that has no fault, by its plugin.
-use Rattle.std.proofs.Common.{◌≡◌, ◌⊎◌, ℕ, ◌+◌, ◌-◌, ◌^◌, ◌<◌, ◌≤◌, Bool, true, false, not, ◌&&◌, List, [], ◌∷◌, length, map, inl, inr, refl, sym, ap, subst, ◌∙◌, arith}
+use Rattle.std.proofs.Common.{◌≡◌, ◌⊎◌, ℕ, ◌+◌, ◌-◌, ◌<◌, ◌≤◌, Bool, true, false, not, List, [], ◌∷◌, length, map, inl, inr, refl, sym, ap, arith}
 use Rattle.std.specs.Prelude.{Option, Some, None, Ok, Err, ◌==◌, nat_le, if◌then◌else◌}
 use Rattle.std.specs.Option.{option_map}
-use Rattle.std.proofs.lemmas.Bool.{eq-eqb, eqb-true, le-leb, leb-true}
-use Rattle.r4_base.specs.Cell.{bytes_from, entry_unit, fault_in, is_short_tail, item_body_fault, item_end, item_units, last_entry_key}
+use Rattle.std.proofs.lemmas.Bool.{eq-eqb, eqb-true, leb-true}
+use Rattle.r4_base.specs.Cell.{bytes_from, entry_unit, fault_in, is_short_tail, item_body_fault, item_end, item_units}
 use Rattle.r4_base.specs.Dir.{dir_fault, entries_of, entry_count, entry_key_at}
 use Rattle.r4_base.specs.Key.{offset_of, rank}
 use Rattle.r4_base.specs.Node.{Item}
@@ -11,8 +11,6 @@ use Rattle.r4_base.specs.Stat.{attr_of, kind_is_good, mask_is_good, stat_of}
 use Rattle.r4_base.specs.Value.{Stat as StatValue}
 use Rattle.r4_base.specs.declared.items.CellFault.{CellFault}
 use Rattle.r4_base.specs.declared.items.CellFault.TheVariants.{Stat, Dir, Tail}
-use Rattle.r4_base.specs.declared.items.DirFault.{DirFault}
-use Rattle.r4_base.specs.declared.items.StatFault.{StatFault}
 use Rattle.r4_base.specs.declared.items.StatFault.TheVariants.{Mask, Length, Kind}
 use Rattle.r4_base.proofs.Dirs.{accepted, keys_rise}
 use Rattle.r4_node40.proofs.Faults.{and_true}

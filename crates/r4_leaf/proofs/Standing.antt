@@ -1,21 +1,21 @@
 -- A block that may stand as a leaf, and its items.
-use Rattle.std.proofs.Common.{◌≡◌, ◌⊎◌, ℕ, zero, suc, ◌+◌, ◌^◌, ◌<◌, ◌≤◌, Bool, true, false, ◌&&◌, ◌||◌, List, [], ◌∷◌, length, inl, inr, refl, sym, ap, subst, ◌∙◌, arith}
+use Rattle.std.proofs.Common.{◌≡◌, ◌⊎◌, ℕ, suc, ◌+◌, ◌^◌, ◌≤◌, Bool, true, false, ◌||◌, List, [], ◌∷◌, length, inl, inr, refl, sym, ap, subst, ◌∙◌, arith}
 use Rattle.std.specs.Prelude.{slice_get, Option, Some, None, ◌==◌, nat_le, nat_lt, if◌then◌else◌}
 use Rattle.std.specs.Option.{option_map, option_or}
-use Rattle.std.proofs.lemmas.Bool.{eqb-true, leb-true}
+use Rattle.std.proofs.lemmas.Bool.{eqb-true, le-leb, leb-true}
 use Rattle.std.proofs.lemmas.Option.{same_Some, slice_get_within}
 use Rattle.r4_base.specs.Cell.{cell_fault, item_body_fault, item_end, items_in_fault, next_key, offsets_fit, range_is_good}
-use Rattle.r4_base.specs.Key.{IsKey, rank}
+use Rattle.r4_base.specs.Key.{IsKey, offset_of, rank}
 use Rattle.r4_base.specs.Node.{Item, count_of, fits_level, item_at, items_of, level_of, node_fault}
 use Rattle.r4_base.specs.declared.items.CellFault.{CellFault}
-use Rattle.r4_base.specs.declared.items.CellFault.TheVariants.{Node, Level, Range}
+use Rattle.r4_base.specs.declared.items.CellFault.TheVariants.{Node, Level, Range, Tail}
 use Rattle.r4_base.specs.declared.node.NodeFault.{NodeFault}
 use Rattle.r4_node40.specs.Laid.{IsNode}
 use Rattle.r4_node40.proofs.Accepted.{good}
 use Rattle.r4_node40.proofs.Faults.{and_true}
 use Rattle.r4_node40.proofs.Laid.{get-items_of, key_fits, length-items_of}
 use Rattle.r4_leaf.specs.Items.{IsSoundItem, Lie}
-use Rattle.r4_leaf.specs.Leaves.{MayStand}
+use Rattle.r4_leaf.specs.Leaves.{IsGiven, MayStand}
 
 or_none : (a b : Option CellFault) → option_or a b ≡ None → (a ≡ None) × (b ≡ None)
 or_none None b h = (refl, h)
@@ -96,3 +96,35 @@ module _ (lo hi : ℕ) (b : List ℕ) (stand : MayStand lo hi b) where
       from_le [] leaf h = le
       from_le (x ∷ xs) leaf h = good_lie lo lo hi 0 (x ∷ xs) leaf (first_from lo hi 0 (x ∷ xs) (omega arith) h) h
   stand_lie (inr some) = good_lie lo lo hi 0 (items_of b) of_leaf (first_from lo hi 0 (items_of b) some parts.2) parts.2
+
+-- a given item is sound
+pub given_sound : (it : Item) → IsGiven it → IsKey it.key → IsSoundItem it
+unfolding item_body_fault
+given_sound it g key = record { plugin = g.plugin; body = g.sound; fits = fits_of g.plugin; key = key }
+  where
+    fits_of : (it.plugin ≡ 0) ⊎ ((it.plugin ≡ 2) ⊎ (it.plugin ≡ 6)) → offsets_fit it ≡ true
+    fits_of (inl is) = let a : (it.plugin == 0) ≡ true = ap (λ (x : ℕ). x == 0) is in rw a refl
+    fits_of (inr (inl is)) =
+        let a : (it.plugin == 0) ≡ false = ap (λ (x : ℕ). x == 0) is in
+        let b : (it.plugin == 2) ≡ true = ap (λ (x : ℕ). x == 2) is in
+        let d : (it.plugin == 3) ≡ false = ap (λ (x : ℕ). x == 3) is in
+        rw (a, d, b) refl
+    fits_of (inr (inr is)) =
+        let a : (it.plugin == 0) ≡ false = ap (λ (x : ℕ). x == 0) is in
+        let b : (it.plugin == 2) ≡ false = ap (λ (x : ℕ). x == 2) is in
+        let d : (it.plugin == 3) ≡ false = ap (λ (x : ℕ). x == 3) is in
+        let e : (it.plugin == 5) ≡ false = ap (λ (x : ℕ). x == 5) is in
+        let body = g.sound in
+        let short = chosen _ Tail (rw (a, b, d, e) at body) in
+        let t = and_true _ (nat_le (offset_of it.key + length it.body) 16384) short in
+        let low = leb-true _ _ t.1 in
+        let far : nat_le (offset_of it.key + length it.body) (2 ^ 64) ≡ true = le-leb _ _ (omega (arith, low)) in
+        rw (a, d, b, e) far
+
+-- a range of the items, which may be empty
+pub some_range : (lo hi : ℕ) (b : List ℕ) → MayStand lo hi b → (h : ℕ) × Lie lo h (items_of b)
+some_range lo hi b stand = by_items (items_of b) refl
+  where
+    by_items : (xs : List Item) → xs ≡ items_of b → (h : ℕ) × Lie lo h (items_of b)
+    by_items [] is = (lo, subst (λ ys. Lie lo lo ys) is (omega arith))
+    by_items (x ∷ xs) is = let n = ap length is in (hi, stand_lie lo hi b stand (inr (omega (arith, n))))

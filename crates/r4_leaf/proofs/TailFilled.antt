@@ -1,23 +1,20 @@
 -- A leaf that takes bytes of a tail, or stat data.
-use Rattle.std.proofs.Common.{◌≡◌, ◌⊎◌, ℕ, zero, suc, ◌+◌, ◌-◌, ◌*◌, ◌/◌, ◌^◌, ◌<◌, ◌≤◌, Bool, true, false, not, ◌&&◌, List, [], ◌∷◌, ◌++◌, length, map, take, inl, inr, refl, sym, ap, subst, ◌∙◌, arith}
-use Rattle.std.specs.Prelude.{slice_get, slice_index, Option, Some, None, ◌==◌, nat_le, if◌then◌else◌}
-use Rattle.std.specs.Option.{option_map}
+use Rattle.std.proofs.Common.{◌≡◌, ◌⊎◌, ℕ, ◌+◌, ◌-◌, ◌*◌, ◌^◌, ◌<◌, ◌≤◌, Bool, true, false, List, [], ◌∷◌, ◌++◌, length, inl, inr, refl, sym, ap, subst, ◌∙◌, arith}
+use Rattle.std.specs.Prelude.{slice_get, Option, Some, None, ◌==◌, nat_le, if◌then◌else◌}
 use Rattle.std.proofs.lemmas.Bool.Decides.{nat_tests}
-use Rattle.std.proofs.lemmas.Bool.{cases_lt, eqb-true, eq-eqb, le-leb}
+use Rattle.std.proofs.lemmas.Bool.{cases_lt, eqb-true, le-leb}
 use Rattle.std.proofs.lemmas.List.{append-nil, length-append}
-use Rattle.r4_base.specs.Cell.{bytes_from, fault_in, is_short_tail, item_body_fault, item_end, item_units, offsets_fit, units_in}
+use Rattle.r4_base.specs.Cell.{bytes_from, fault_in, item_body_fault, item_units, units_in}
 use Rattle.r4_base.specs.Dir.{entries_of}
 use Rattle.r4_base.specs.Key.{IsKey, offset_of, rank}
 use Rattle.r4_base.specs.Node.{Item, count_of, items_of}
 use Rattle.r4_base.specs.Stat.{attr_of, stat_of}
-use Rattle.r4_base.specs.Value.{Value, Stat, Entry, Byte}
+use Rattle.r4_base.specs.Value.{Stat, Byte}
 use Rattle.r4_base.specs.declared.key.Key.{Key}
-use Rattle.r4_base.specs.declared.items.CellFault.TheVariants.{Stat as StatFault, Tail}
 use Rattle.r4_node40.specs.Laid.{room_of}
 use Rattle.r4_leaf.specs.Filling.{Holds, IsFilled, IsPlace, IsFullFor, IsPlaceFor, Puts, continues_item, last_of, need}
-use Rattle.r4_leaf.specs.Items.{IsSoundItem, Lie}
-use Rattle.r4_leaf.specs.Units.{LeafUnit, bytes_behind, continues_entries, continues_tail, leaf_bytes, unit_bytes}
-use Rattle.r4_leaf.proofs.Bodied.{bodied}
+use Rattle.r4_leaf.specs.Items.{IsSoundItem}
+use Rattle.r4_leaf.specs.Units.{LeafUnit, continues_tail, leaf_bytes, unit_bytes}
 use Rattle.r4_node40.specs.Edits.{GoesBetween}
 use Rattle.r4_leaf.proofs.CutPieces.{rank_is, upper}
 use Rattle.r4_leaf.proofs.EntryPieces.{some_entries}
@@ -121,11 +118,17 @@ module _ (lo mid : ℕ) (us : List LeafUnit) (b : List ℕ) (key : Key) (i used 
   takes_new : used ≡ 0 → TakesBytes b key i used (record { key = key; plugin = 6; body = [] })
   takes_new none = record {
     place = record {
-      node = f.node; level = f.level; plugin = inr (inr refl);
+      node = f.node;
+      level = f.level;
+      plugin = inr (inr refl);
       new = λ e. ((p.new none).0, subst (λ k. GoesBetween (items_of b) k key) (sym (p.new none).0) (goes_last lo mid us b key f low));
       old = λ some. absurd (omega (arith, some));
     };
-    long = sym none; plugin = refl; new = λ e. refl; next = λ some. absurd (omega (arith, some, none)); sound = λ some. absurd (omega (arith, some, none));
+    long = sym none;
+    plugin = refl;
+    new = λ e. refl;
+    next = λ some. absurd (omega (arith, some, none));
+    sound = λ some. absurd (omega (arith, some, none));
   }
 
   takes_old : (some : 1 ≤ used) → TakesBytes b key i used (p.old some).0
@@ -136,11 +139,17 @@ module _ (lo mid : ℕ) (us : List LeafUnit) (b : List ℕ) (key : Key) (i used 
       let long = o.3 in
       record {
         place = record {
-          node = f.node; level = f.level; plugin = inr (inr (eqb-true _ _ t.0));
+          node = f.node;
+          level = f.level;
+          plugin = inr (inr (eqb-true _ _ t.0));
           new = λ none. absurd (omega (arith, none, long, some));
           old = λ e. (o.1, o.2);
         };
-        long = o.3; plugin = eqb-true _ _ t.0; new = λ none. absurd (omega (arith, none, some)); next = λ e. omega (arith, next, long); sound = λ e. lie_sound lo mid (items_of b) i o.0 f.lie o.2;
+        long = o.3;
+        plugin = eqb-true _ _ t.0;
+        new = λ none. absurd (omega (arith, none, some));
+        next = λ e. omega (arith, next, long);
+        sound = λ e. lie_sound lo mid (items_of b) i o.0 f.lie o.2;
       }
 
   pub takes_bytes : (it : Item) × TakesBytes b key i used it
@@ -218,7 +227,9 @@ module _ (lo mid : ℕ) (us : List LeafUnit) (b : List ℕ) (key : Key) (i used 
 
   pub stat_place : IsPlace b i (record { key = key; plugin = 0; body = [] })
   stat_place = record {
-    node = f.node; level = f.level; plugin = inl refl;
+    node = f.node;
+    level = f.level;
+    plugin = inl refl;
     new = λ e. ((p.new stat_alone).0, subst (λ k. GoesBetween (items_of b) k key) (sym (p.new stat_alone).0) (goes_last lo mid us b key f low));
     old = λ some. absurd (omega (arith, some));
   }
@@ -256,9 +267,11 @@ module _ (b c : List ℕ) (key : Key) (i used : ℕ) (p : IsPlaceFor b key 6 i u
   held it t = let n = need_is it used (length bytes) t.long in holds it t.place t.long t.plugin t.new (omega (arith, n, room))
 
   pub run_puts : Puts (rank key) (rank key + length bytes) (bytes_from (rank key) bytes) b c
-  run_puts = record { filled = λ lo mid us f le.
-      let t = takes_bytes lo mid us b key i used f le p in
-      filled_more lo mid us b i t.0 (t.0.body ++ bytes) c (bytes_from (rank key) bytes) (rank key) (rank key + length bytes) f t.1.place (held t.0 t.1) le (tail_grows lo mid us b key i used f le p t.0 t.1 is_key bytes some short) }
+  run_puts = record {
+    filled = λ lo mid us f le.
+        let t = takes_bytes lo mid us b key i used f le p in
+        filled_more lo mid us b i t.0 (t.0.body ++ bytes) c (bytes_from (rank key) bytes) (rank key) (rank key + length bytes) f t.1.place (held t.0 t.1) le (tail_grows lo mid us b key i used f le p t.0 t.1 is_key bytes some short);
+  }
 
   pub room_left : (lo mid : ℕ) (us : List LeafUnit) → IsFilled lo mid us b → mid ≤ rank key → room_of c + (length bytes + (if used == 0 then 38 else 0)) ≡ room_of b
   room_left lo mid us f le =
@@ -278,25 +291,29 @@ new_header : (used : ℕ) → used ≤ 0 → (let h : ℕ = if used == 0 then 38
 new_header used past = grind (arith, nat_tests, past)
 
 pub full_at_once : (b : List ℕ) (key : Key) (i used x : ℕ) → IsPlaceFor b key 6 i used → room_of b ≤ (if used == 0 then 38 else 0) → IsFullFor (rank key + 0, Byte x) b
-full_at_once b key i used x p low = record { full = λ lo mid us f. elim (cases_lt 0 used) [
-  | inl more ↦
-      let r = f.room in
-      let c = byte_cost (last_of us) (rank key + 0) x in
-      let none = old_header used more in
-      omega (arith, r, c, low, none)
-  | inr past ↦
-      let r = f.room in
-      let c = byte_cost (last_of us) (rank key + 0) x in
-      let at : rank key + 0 ≡ rank key = omega arith in
-      let go = ap {B = ℕ} (λ (t : Bool). if t then 0 else 38) (ap (continues_tail (last_of us)) at ∙ tail_new lo mid us b key i used f p (omega (arith, past))) in
-      let all = new_header used past in
-      omega (arith, r, c, low, go, all)
-] }
+full_at_once b key i used x p low = record {
+  full = λ lo mid us f. elim (cases_lt 0 used) [
+    | inl more ↦
+        let r = f.room in
+        let c = byte_cost (last_of us) (rank key + 0) x in
+        let none = old_header used more in
+        omega (arith, r, c, low, none)
+    | inr past ↦
+        let r = f.room in
+        let c = byte_cost (last_of us) (rank key + 0) x in
+        let at : rank key + 0 ≡ rank key = omega arith in
+        let go = ap {B = ℕ} (λ (t : Bool). if t then 0 else 38) (ap (continues_tail (last_of us)) at ∙ tail_new lo mid us b key i used f p (omega (arith, past))) in
+        let all = new_header used past in
+        omega (arith, r, c, low, go, all)
+  ];
+}
 
 module _ (b c : List ℕ) (key : Key) (i used : ℕ) (p : IsPlaceFor b key 0 i used) (is_key : IsKey key) (body : List ℕ) (good : fault_in (stat_of body) ≡ None) where
   pub stat_puts : Holds b i (record { key = key; plugin = 0; body = [] }) body c → Puts (rank key) (rank key + 1) ((rank key, Stat (attr_of body)) ∷ []) b c
-  stat_puts h = record { filled = λ lo mid us f le.
-      filled_more lo mid us b i (record { key = key; plugin = 0; body = [] }) body c ((rank key, Stat (attr_of body)) ∷ []) (rank key) (rank key + 1) f (stat_place lo mid us b key i used f le p) h le (stat_grows lo mid us b key i used f le p is_key body good) }
+  stat_puts h = record {
+    filled = λ lo mid us f le.
+        filled_more lo mid us b i (record { key = key; plugin = 0; body = [] }) body c ((rank key, Stat (attr_of body)) ∷ []) (rank key) (rank key + 1) f (stat_place lo mid us b key i used f le p) h le (stat_grows lo mid us b key i used f le p is_key body good);
+  }
 
 pub full_for_stat : (k : ℕ) (b body : List ℕ) → fault_in (stat_of body) ≡ None → room_of b < length body + 38 → IsFullFor (k, Stat (attr_of body)) b
 unfolding unit_bytes

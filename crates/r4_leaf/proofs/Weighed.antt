@@ -1,17 +1,14 @@
 -- The bytes that units take up behind others.
-use Rattle.std.proofs.Common.{◌≡◌, ◌⊎◌, ℕ, zero, suc, ◌+◌, ◌-◌, ◌*◌, ◌/◌, ◌^◌, ◌<◌, ◌≤◌, Bool, true, false, List, [], ◌∷◌, ◌++◌, length, map, inl, inr, refl, sym, ap, subst, ◌∙◌, arith}
+use Rattle.std.proofs.Common.{◌≡◌, ℕ, suc, ◌+◌, ◌-◌, ◌/◌, ◌^◌, ◌≤◌, Bool, true, List, [], ◌∷◌, ◌++◌, length, map, refl, sym, ap, ◌∙◌, arith}
 use Rattle.std.specs.Prelude.{slice_get, slice_index, Option, Some, None, ◌==◌, if◌then◌else◌}
 use Rattle.std.proofs.lemmas.Bool.Decides.{nat_tests}
-use Rattle.r4_base.specs.Cell.{bytes_from, entry_unit, item_units, units_in}
-use Rattle.r4_base.specs.Dir.{Entry as DirEntry, entries_of}
+use Rattle.r4_base.specs.Cell.{bytes_from, entry_unit}
+use Rattle.r4_base.specs.Dir.{Entry as DirEntry}
 use Rattle.r4_base.specs.Key.{IsKey, rank}
-use Rattle.r4_base.specs.Node.{Item}
-use Rattle.r4_base.specs.Value.{Value, Stat, Entry, Byte}
+use Rattle.r4_base.specs.Value.{Byte}
 use Rattle.r4_base.specs.declared.key.Key.{Key}
-use Rattle.r4_leaf.specs.Filling.{continues_item, last_of}
-use Rattle.r4_leaf.specs.Items.{IsSoundItem}
-use Rattle.r4_leaf.specs.Units.{LeafUnit, bytes_behind, continues_entries, continues_tail, unit_bytes}
-use Rattle.r4_leaf.proofs.SoundItems.{stat_item, tail_item}
+use Rattle.r4_leaf.specs.Filling.{last_of}
+use Rattle.r4_leaf.specs.Units.{LeafUnit, bytes_behind, continues_tail, unit_bytes}
 
 -- the last of the units, or what stood before them
 abbrev pub last_or : Option LeafUnit → List LeafUnit → Option LeafUnit

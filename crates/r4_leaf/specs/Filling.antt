@@ -1,5 +1,5 @@
 -- A leaf that is filled piece by piece (docs/volume.md, "Leaves").
-use Rattle.std.specs.Prelude.{◌≡◌, ◌⊎◌, ℕ, ◌+◌, ◌-◌, ◌<◌, ◌≤◌, List, [], ◌∷◌, ◌++◌, length, take, slice_get, slice_index, Option, Some, None, Bool, true, false, ◌==◌, ◌&&◌, if◌then◌else◌}
+use Rattle.std.specs.Prelude.{◌≡◌, ◌⊎◌, ℕ, ◌+◌, ◌-◌, ◌<◌, ◌≤◌, List, [], ◌∷◌, ◌++◌, length, take, slice_get, slice_index, Option, Some, None, Bool, true, false, ◌==◌, if◌then◌else◌}
 use Rattle.r4_base.specs.Cell.{units_in}
 use Rattle.r4_base.specs.Dir.{Entry as DirEntry, dir_fault, entries_of}
 use Rattle.r4_base.specs.Key.{IsBelow, IsKey, rank}

@@ -1,5 +1,5 @@
 -- Leaves that are filled one after the other (docs/volume.md, "Leaves").
-use Rattle.std.specs.Prelude.{◌≡◌, ◌⊎◌, ℕ, ◌<◌, ◌≤◌, List, [], ◌∷◌, ◌++◌, reverse, Option, Some, None}
+use Rattle.std.specs.Prelude.{◌≡◌, ◌⊎◌, ℕ, ◌≤◌, List, [], ◌∷◌, ◌++◌, reverse, Option, Some, None}
 use Rattle.r4_base.specs.Key.{rank}
 use Rattle.r4_leaf.specs.Filling.{IsFilled, IsFullFor, Puts}
 use Rattle.r4_leaf.specs.Pieces.{Follow, IsSound, piece_end, piece_key, piece_units, units_of}

@@ -1,11 +1,11 @@
 //! Leaves that are built anew of pieces (docs/volume.md, "Leaves").
 
-ghost use Rattle.std.specs.Prelude.{◌≡◌, ℕ, ◌≤◌, IfOk};
+ghost use Rattle.std.specs.Prelude.{◌≡◌, ℕ, ◌<◌, ◌≤◌, IfOk};
 ghost use Rattle.r4_base.specs.Cell.{item_end, item_units, units_in};
 ghost use Rattle.r4_base.specs.Key.{rank};
 ghost use Rattle.r4_node40.specs.View.{view_block, view_items};
-ghost use Rattle.r4_leaf.specs.Items.{IsSoundItem, Lie};
-ghost use Rattle.r4_leaf.specs.Leaves.{AreApart, Packs};
+ghost use Rattle.r4_leaf.specs.Items.{Lie};
+ghost use Rattle.r4_leaf.specs.Leaves.{AreApart, IsGiven, Packs};
 ghost use Rattle.r4_leaf.specs.Units.{cut_units, put_units};
 
 use crate::cutting::cut_pieces;
@@ -23,20 +23,21 @@ pub(crate) fn with_item<'a>(
     leaf: &NodeView<'a>,
     lo: Key,
     mkfs_id: u32,
-    key: &Key,
+    key: Key,
     plugin: u16,
     body: &'a [u8],
 ) -> Result<Vec<Leaf>, Memory>
     requires leaf { (hi : ℕ) × Lie (rank lo) hi (view_items leaf.now) }
-    requires given { IsSoundItem (record { key = key.now; plugin = plugin; body = body.now }) }
-    requires from { rank lo ≤ rank key.now }
-    requires apart { AreApart (units_in (view_items leaf.now)) (item_units (record { key = key.now; plugin = plugin; body = body.now })) }
-    ensures { IfOk result (λ v. (hi : ℕ) → Lie (rank lo) hi (view_items leaf.now) → item_end (record { key = key.now; plugin = plugin; body = body.now }) ≤ hi
-        → Packs (rank lo) hi (put_units (item_units (record { key = key.now; plugin = plugin; body = body.now })) (units_in (view_items leaf.now))) v.items) }
+    requires given { IsGiven (record { key = key; plugin = plugin; body = body.now }) }
+    requires from { rank lo ≤ rank key }
+    requires apart { AreApart (units_in (view_items leaf.now)) (item_units (record { key = key; plugin = plugin; body = body.now })) }
+    ensures packs { IfOk result (λ v. (hi : ℕ) → Lie (rank lo) hi (view_items leaf.now) → item_end (record { key = key; plugin = plugin; body = body.now }) ≤ hi
+        → Packs (rank lo) hi (put_units (item_units (record { key = key; plugin = plugin; body = body.now })) (units_in (view_items leaf.now))) v.items) }
+    ensures some { IfOk result (λ v. rank key < item_end (record { key = key; plugin = plugin; body = body.now })) }
 {
     let pieces = pieces_of(alloc, leaf)?;
     let mut given = Vec::new(alloc);
-    add_item(&mut given, *key, plugin, body)?;
+    add_item(&mut given, key, plugin, body)?;
     let all = put_pieces(alloc, pieces, given)?;
     pack(alloc, lo, mkfs_id, all)
 }

@@ -1,13 +1,13 @@
 //! Leaves whose units change: what is put in, and what is cut out (docs/volume.md, "Leaves").
 #![tactic(auto)]
 
+mod building;
+mod cutting;
 mod edits;
 mod entries;
 mod filling;
 mod leaf;
 mod merging;
-mod building;
-mod cutting;
 mod opening;
 mod packing;
 mod piece;

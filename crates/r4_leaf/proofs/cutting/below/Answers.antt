@@ -1,6 +1,6 @@
-use Rattle.std.proofs.Common.{◌≡◌, ℕ, ◌+◌, ◌-◌, ◌*◌, ◌<◌, ◌≤◌, arith, sym, rules}
-use Rattle.std.proofs.lemmas.Bool.{ltb-true, ltb-false}
-use Rattle.r4_base.specs.Key.{IsKey, offset_of, rank}
+use Rattle.std.proofs.Common.{◌≡◌, ◌+◌, ◌≤◌, arith, sym, rules}
+use Rattle.std.proofs.lemmas.Bool.{ltb-true}
+use Rattle.r4_base.specs.Key.{offset_of, rank}
 use Rattle.r4_base.proofs.Keys.{is_key}
 use Rattle.r4_leaf.proofs.CutPieces.{apart_by}
 use Rattle.r4_leaf.proofs.cutting.below.Goals as goal

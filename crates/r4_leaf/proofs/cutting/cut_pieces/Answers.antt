@@ -1,4 +1,4 @@
-use Rattle.std.proofs.Common.{◌≡◌, ℕ, ◌≤◌, List, [], length, sym, subst, arith}
+use Rattle.std.proofs.Common.{List, sym, subst, arith}
 use Rattle.r4_base.specs.Key.{rank}
 use Rattle.r4_leaf.specs.declared.piece.Piece.{Piece}
 use Rattle.r4_leaf.specs.Pieces.{Follow}

@@ -1,11 +1,10 @@
-use Rattle.std.proofs.Common.{◌≡◌, ◌⊎◌, ℕ, ◌<◌, ◌≤◌, List, true, false, inl, inr, sym, ap, ◌∙◌, subst, arith}
+use Rattle.std.proofs.Common.{◌≡◌, ◌⊎◌, ℕ, ◌<◌, ◌≤◌, List, true, false, inl, inr, sym, ap, subst, arith}
 use Rattle.std.specs.Prelude.{nat_lt}
 use Rattle.std.proofs.lemmas.Bool.{ltb-true, ltb-false}
 use Rattle.r4_base.specs.Key.{rank}
 use Rattle.r4_leaf.specs.Pieces.{Leads, piece_end, piece_key, piece_units}
 use Rattle.r4_leaf.specs.Units.{cut_units}
 use Rattle.r4_leaf.specs.declared.piece.Piece.{Piece}
-use Rattle.r4_leaf.specs.declared.piece.Piece.TheVariants.{Bytes}
 use Rattle.r4_leaf.proofs.CutPieces.{leads_as, leads_none, leads_one, no_run, some_units, unit_gone, unit_kept}
 use Rattle.r4_leaf.proofs.cutting.keep.Goals as goal
 use Rattle.r4_leaf.proofs.cutting.keep.Goals.{then-is_below-via-then-is_below, then-is_below-via-else-is_below+then-not-is_below}

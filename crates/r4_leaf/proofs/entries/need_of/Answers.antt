@@ -1,9 +1,8 @@
-use Rattle.std.proofs.Common.{◌≡◌, ℕ, ◌≤◌, Bool, true, false, List, length, ap, sym, ◌∙◌, arith}
-use Rattle.std.specs.Prelude.{Option, Some, None, if◌then◌else◌}
+use Rattle.std.proofs.Common.{◌≡◌, ℕ, ◌≤◌, Bool, true, false, List, length, ap, arith}
+use Rattle.std.specs.Prelude.{Some, None, if◌then◌else◌}
 use Rattle.std.proofs.lemmas.Option.{same_Some}
 use Rattle.r4_base.specs.Name.{is_long_name}
 use Rattle.r4_base.proofs.Names.{is_name}
-use Rattle.r4_cde.specs.Shown.{entry_shown}
 use Rattle.r4_leaf.specs.Filling.{long_of}
 use Rattle.r4_leaf.proofs.entries.need_of.Goals as goal
 

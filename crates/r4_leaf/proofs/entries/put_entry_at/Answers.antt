@@ -1,12 +1,12 @@
-use Rattle.std.proofs.Common.{◌≡◌, ℕ, List, ◌+◌, ◌-◌, ◌≤◌, ◌++◌, length, take, sym, ap, subst, ◌∙◌, arith}
+use Rattle.std.proofs.Common.{◌≡◌, ℕ, List, ◌≤◌, length, take, sym, ap, ◌∙◌, arith}
 use Rattle.r4_base.specs.Lending.{written}
 use Rattle.r4_base.specs.Dir.{Entry}
 use Rattle.r4_base.specs.Node.{Item, offset_at}
-use Rattle.r4_node40.specs.Laid.{room_of, span_at}
+use Rattle.r4_node40.specs.Laid.{span_at}
 use Rattle.r4_node40.specs.Loan.{bytes_of}
 use Rattle.r4_node40.proofs.Bodies.{body_lent}
 use Rattle.r4_cde.specs.Shown.{entry_shown}
-use Rattle.r4_leaf.specs.Filling.{HasEntry, Holds, IsPlace, Opens, Receives, TakesEntry, entry_need, need}
+use Rattle.r4_leaf.specs.Filling.{HasEntry, Holds, Opens, entry_need, need}
 use Rattle.r4_leaf.proofs.entries.put_entry_at.Goals as goal
 
 held : (old mid : List ℕ) (i used at more : ℕ) (it : Item) (e : Entry) (ws : List ℕ) → length it.body ≡ used → more ≡ entry_need used e → Opens old i it more mid → HasEntry it e ws → Holds old i it ws (written mid (offset_at mid i) ws)

@@ -1,4 +1,4 @@
-use Rattle.std.proofs.Common.{◌≡◌, ◌⊎◌, ℕ, ◌+◌, ◌-◌, ◌≤◌, ◌<◌, ◌++◌, List, length, take, refl, sym, ap, subst, ◌∙◌, arith}
+use Rattle.std.proofs.Common.{◌≡◌, ◌⊎◌, ℕ, ◌+◌, List, length, take, sym, ap, subst, ◌∙◌, arith}
 use Rattle.std.specs.Prelude.{None, Option}
 use Rattle.std.specs.List.{insert}
 use Rattle.std.specs.Option.{is_some, option_copied}
@@ -39,7 +39,6 @@ insert-requires-clause-within c =
 pub insert-requires-clause-form : goal.insert-requires-clause-form
 insert-requires-clause-form c = form (entry_shown c.args.entry.now) c.requires.lawful c.long_name-long.ensures.bytes ∙ ap (λ (o : Option (List ℕ)). is_some o) (sym c.long_name-long.ensures.long)
 
-
 pub insert-requires-clause-entry : goal.insert-requires-clause-entry
 insert-requires-clause-entry c =
     let same = ap (given_entry c.args.entry.now.key c.args.entry.now.target) c.long_name-long.ensures.long ∙ given (entry_shown c.args.entry.now) c.requires.lawful c.long_name-long.ensures.bytes in
@@ -64,7 +63,7 @@ returns c = λ it r is.
     let body : take c.from.result c.args.body.now ≡ it.body = ap (λ n. take n c.args.body.now) c.from.ensures ∙ is in
     let same : given_entry c.args.entry.now.key c.args.entry.now.target (option_copied c.long_name-long.result) ≡ entry_shown c.args.entry.now = ap (given_entry c.args.entry.now.key c.args.entry.now.target) c.long_name-long.ensures.long ∙ given (entry_shown c.args.entry.now) c.requires.lawful c.long_name-long.ensures.bytes in
     let entries : entries_of c.args.entry.now.key c.insert.new.body ≡ insert (entries_of c.args.entry.now.key it.body) c.args.at (entry_shown c.args.entry.now) =
-        ap (entries_of c.args.entry.now.key) (sym whole) ∙ (c.insert.ensures.entries ∙ (λ i. insert (entries_of c.args.entry.now.key (body i)) c.args.at (same i))) in
+    ap (entries_of c.args.entry.now.key) (sym whole) ∙ (c.insert.ensures.entries ∙ (λ i. insert (entries_of c.args.entry.now.key (body i)) c.args.at (same i))) in
     let lawful : dir_fault (first_key c.args.entry.now.key c.insert.new.body) c.insert.new.body ≡ None = subst (λ (b : List ℕ). dir_fault (first_key c.args.entry.now.key b) b ≡ None) whole c.insert.ensures.lawful in
     let long = c.requires.long in let kept = c.insert.auto.body in let own = r.long in let more = ap (λ n. entry_need n (entry_shown c.args.entry.now)) own in
     has_entry it c.args.used c.args.at (entry_shown c.args.entry.now) r c.insert.new.body entries lawful (omega (arith, long, kept, own, more))

@@ -1,4 +1,4 @@
-use Rattle.std.proofs.Common.{◌≡◌, ℕ, ◌+◌, ◌-◌, ◌≤◌, ◌<◌, List, length, take, drop, refl, sym, ap, subst, ◌∙◌, arith}
+use Rattle.std.proofs.Common.{◌<◌, length, refl, sym, subst, arith}
 use Rattle.r4_base.specs.Key.{rank}
 use Rattle.r4_node40.specs.Loan.{bytes_of}
 use Rattle.r4_leaf.specs.Filling.{Puts}
@@ -29,4 +29,4 @@ returns-else-count-bytes-clause-takes c =
     let within = c.put_run-count.ensures.within in let other = c.if-count-bytes.false in
     let lt : c.put_run-count.result < length c.in-Bytes.bytes.now = omega (arith, within, other) in
     left_bytes c.args.piece c.in-Bytes.key c.in-Bytes.bytes (bytes_of c.args.node.now) (bytes_of c.put_run-count.new.node) c.in-Bytes.is c.requires.sound c.put_run-count.result c.put_run-count.ensures.within c.put_run-count.ensures.puts
-        c.behind.result _ lt refl c.behind.ensures.rank c.behind.ensures.offset (c.put_run-count.ensures.full lt)
+    c.behind.result _ lt refl c.behind.ensures.rank c.behind.ensures.offset (c.put_run-count.ensures.full lt)

@@ -1,13 +1,11 @@
-use Rattle.std.proofs.Common.{◌≡◌, ℕ, ◌+◌, ◌≤◌, ◌<◌, List, length, sym, ap, subst, ◌∙◌, arith}
-use Rattle.std.specs.Prelude.{◌==◌, if◌then◌else◌, slice_get, Some}
+use Rattle.std.proofs.Common.{◌≡◌, ℕ, ◌≤◌, List, length, arith}
+use Rattle.std.specs.Prelude.{◌==◌, slice_get, Some}
 use Rattle.std.proofs.lemmas.Bool.{eqb-true}
-use Rattle.r4_base.specs.Key.{rank}
 use Rattle.r4_base.specs.Node.{Item, items_of}
 use Rattle.r4_base.proofs.Dirs.{accepted}
 use Rattle.r4_cde.specs.Shown.{entry_shown}
-use Rattle.r4_node40.specs.Laid.{room_of}
 use Rattle.r4_node40.specs.Loan.{bytes_of}
-use Rattle.r4_leaf.specs.Filling.{IsFilled, IsPlaceFor, TakesEntry, entry_need, need}
+use Rattle.r4_leaf.specs.Filling.{IsFilled, IsPlaceFor, entry_need}
 use Rattle.r4_leaf.specs.Units.{LeafUnit}
 use Rattle.r4_base.specs.declared.key.Key.{Key}
 use Rattle.r4_leaf.proofs.EntryFilled.{entry_puts, full_for_entry, takes_entry}

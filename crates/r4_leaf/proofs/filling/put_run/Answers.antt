@@ -1,12 +1,11 @@
-use Rattle.std.proofs.Common.{◌≡◌, ℕ, ◌+◌, ◌-◌, ◌≤◌, ◌<◌, ◌++◌, List, length, take, min, sym, ap, subst, ◌∙◌, arith, rules}
-use Rattle.std.specs.Prelude.{◌==◌, if◌then◌else◌, slice_index}
+use Rattle.std.proofs.Common.{◌≡◌, ◌+◌, length, take, subst, arith, rules}
+use Rattle.std.specs.Prelude.{slice_index}
 use Rattle.std.proofs.lemmas.List.{length-take}
 use Rattle.r4_base.specs.Cell.{bytes_from}
-use Rattle.r4_base.specs.Key.{IsKey, offset_of, rank}
+use Rattle.r4_base.specs.Key.{rank}
 use Rattle.r4_base.proofs.Keys.{is_key}
-use Rattle.r4_node40.specs.Laid.{room_of}
 use Rattle.r4_node40.specs.Loan.{bytes_of}
-use Rattle.r4_leaf.specs.Filling.{Puts, need}
+use Rattle.r4_leaf.specs.Filling.{Puts}
 use Rattle.r4_leaf.proofs.TailFilled.{full_at_once, full_without_room, need_is, puts_none, room_left, run_puts, takes_bytes}
 use Rattle.r4_leaf.proofs.filling.put_run.Goals as goal
 
@@ -36,7 +35,7 @@ returns-clause-puts c =
     let taken : length (take c.min-count.result c.args.bytes.now) ≡ c.min-count.result = omega (arith, long, m) in
     subst (λ n. Puts (rank c.args.key) (rank c.args.key + n) (bytes_from (rank c.args.key) (take c.min-count.result c.args.bytes.now)) (bytes_of c.args.node.now) (bytes_of c.put_bytes_at.new.node)) taken
     (run_puts (bytes_of c.args.node.now) (bytes_of c.put_bytes_at.new.node) c.args.key c.place_for-place.result.item c.place_for-place.result.used c.place_for-place.ensures (is_key c.args.key (search rules) (search rules) (search rules) (search rules) (search rules)) (take c.min-count.result c.args.bytes.now)
-        (omega (arith, taken, m, z, some)) (omega (arith, taken, m, short)) (omega (arith, taken, m, r, s, g, z, h)) c.put_bytes_at.ensures.holds)
+    (omega (arith, taken, m, z, some)) (omega (arith, taken, m, short)) (omega (arith, taken, m, r, s, g, z, h)) c.put_bytes_at.ensures.holds)
 
 pub returns-clause-full : goal.returns-clause-full
 returns-clause-full c = λ lt.
@@ -46,5 +45,5 @@ returns-clause-full c = λ lt.
     let taken : length (take c.min-count.result c.args.bytes.now) ≡ c.min-count.result = omega (arith, long, m) in
     let f = c.requires.filled in
     let left = room_left (bytes_of c.args.node.now) (bytes_of c.put_bytes_at.new.node) c.args.key c.place_for-place.result.item c.place_for-place.result.used c.place_for-place.ensures (is_key c.args.key (search rules) (search rules) (search rules) (search rules) (search rules)) (take c.min-count.result c.args.bytes.now)
-        (omega (arith, taken, m, z, some)) (omega (arith, taken, m, short)) (omega (arith, taken, m, r, s, g, z, h)) c.put_bytes_at.ensures.holds f.0 f.1 f.2 f.3 f.4 in
+    (omega (arith, taken, m, z, some)) (omega (arith, taken, m, short)) (omega (arith, taken, m, r, s, g, z, h)) c.put_bytes_at.ensures.holds f.0 f.1 f.2 f.3 f.4 in
     full_without_room (rank c.args.key + c.min-count.result) (slice_index c.args.bytes.now c.min-count.result) (bytes_of c.put_bytes_at.new.node) (omega (arith, left, taken, m, r, s, g, z, h, lt))

@@ -1,5 +1,4 @@
-use Rattle.std.proofs.Common.{◌≡◌, ℕ, ◌+◌, ◌≤◌, ◌<◌, ◌++◌, List, [], length, refl, sym, ap, subst, arith, rules}
-use Rattle.std.specs.Prelude.{◌==◌, if◌then◌else◌}
+use Rattle.std.proofs.Common.{[], length, refl, sym, arith, rules}
 use Rattle.r4_base.specs.Key.{rank}
 use Rattle.r4_base.specs.Node.{Item}
 use Rattle.r4_base.proofs.Keys.{is_key}
@@ -35,4 +34,4 @@ returns-clause-puts c = λ yes.
     let alone = stat_alone f.0 f.1 f.2 (bytes_of c.args.node.now) c.args.key c.place_for-place.result.item c.place_for-place.result.used f.3 f.4 c.place_for-place.ensures in
     let place = stat_place f.0 f.1 f.2 (bytes_of c.args.node.now) c.args.key c.place_for-place.result.item c.place_for-place.result.used f.3 f.4 c.place_for-place.ensures in
     stat_puts (bytes_of c.args.node.now) (bytes_of c.put_bytes_at.new.node) c.args.key c.place_for-place.result.item c.place_for-place.result.used c.place_for-place.ensures (is_key c.args.key (search rules) (search rules) (search rules) (search rules) (search rules)) c.args.body.now c.requires.sound
-        (c.put_bytes_at.ensures.holds it place (sym alone) refl (λ e. refl) (omega (arith, n, r, a, b, g)))
+    (c.put_bytes_at.ensures.holds it place (sym alone) refl (λ e. refl) (omega (arith, n, r, a, b, g)))

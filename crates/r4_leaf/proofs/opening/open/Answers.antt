@@ -1,11 +1,11 @@
-use Rattle.std.proofs.Common.{◌≡◌, ℕ, List, ◌+◌, ◌-◌, ◌≤◌, length, take, sym, ap, subst, ◌∙◌, arith}
+use Rattle.std.proofs.Common.{◌≡◌, ℕ, List, ◌+◌, ◌≤◌, length, sym, subst, ◌∙◌, arith}
 use Rattle.r4_base.specs.Node.{Item}
 use Rattle.r4_base.specs.declared.key.Key.{Key}
 use Rattle.r4_node40.specs.Edits.{InsertsItem}
 use Rattle.r4_node40.specs.Laid.{room_of}
 use Rattle.r4_node40.specs.Loan.{bytes_of}
 use Rattle.r4_leaf.specs.Filling.{IsPlace, need}
-use Rattle.r4_leaf.proofs.Opened.{grows, need_new, need_old, old_within, opened_longer, opened_new, room_small, together, went_well}
+use Rattle.r4_leaf.proofs.Opened.{grows, need_new, need_old, opened_longer, opened_new, room_small, together, went_well}
 use Rattle.r4_leaf.proofs.opening.open.Goals as goal
 
 -- so much fits into a node
@@ -43,8 +43,8 @@ returns-then-place-eq0-clause-opens c = λ it place used plugin key room.
     let n = need_new it c.args.more none in
     let put = went_well c.insert.result _ (c.insert.ensures.fits.1 (omega (arith, n, room))) c.insert.ensures.ok in
     opened_new (bytes_of c.args.node.now) (bytes_of c.insert.new.self) c.args.place.item c.args.more it place none
-        (subst (λ (k : Key). InsertsItem (bytes_of c.args.node.now) c.args.place.item k it.plugin c.args.more (bytes_of c.insert.new.self)) (sym (key c.if-place-eq0.true))
-        (subst (λ p. InsertsItem (bytes_of c.args.node.now) c.args.place.item c.args.key.now p c.args.more (bytes_of c.insert.new.self)) (sym plugin) put))
+    (subst (λ (k : Key). InsertsItem (bytes_of c.args.node.now) c.args.place.item k it.plugin c.args.more (bytes_of c.insert.new.self)) (sym (key c.if-place-eq0.true))
+    (subst (λ p. InsertsItem (bytes_of c.args.node.now) c.args.place.item c.args.key.now p c.args.more (bytes_of c.insert.new.self)) (sym plugin) put))
 
 pub returns-else-place-eq0-clause-opens : goal.returns-else-place-eq0-clause-opens
 returns-else-place-eq0-clause-opens c = λ it place used plugin key room.

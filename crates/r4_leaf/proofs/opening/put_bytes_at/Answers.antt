@@ -1,11 +1,11 @@
-use Rattle.std.proofs.Common.{◌≡◌, ℕ, List, ◌+◌, ◌-◌, ◌≤◌, ◌++◌, length, take, sym, ap, subst, ◌∙◌, arith}
+use Rattle.std.proofs.Common.{◌≡◌, ℕ, List, ◌+◌, ◌++◌, length, take, sym, ap, subst, ◌∙◌, arith}
 use Rattle.std.proofs.lemmas.List.{length-append}
 use Rattle.r4_base.specs.Lending.{written}
 use Rattle.r4_base.specs.Node.{Item, offset_at}
-use Rattle.r4_node40.specs.Laid.{room_of, span_at}
+use Rattle.r4_node40.specs.Laid.{span_at}
 use Rattle.r4_node40.specs.Loan.{bytes_of}
 use Rattle.r4_node40.proofs.Bodies.{body_lent}
-use Rattle.r4_leaf.specs.Filling.{Holds, IsPlace, Opens, need}
+use Rattle.r4_leaf.specs.Filling.{Holds, Opens}
 use Rattle.r4_leaf.proofs.Opened.{need_least, room_small}
 use Rattle.r4_leaf.proofs.opening.put_bytes_at.Goals as goal
 
@@ -36,4 +36,4 @@ held old mid i used it bytes body is o e =
 pub returns-clause-holds : goal.returns-clause-holds
 returns-clause-holds c = λ it place used plugin key room.
     held (bytes_of c.args.node.now) (bytes_of c.open.new.node) c.args.place.item c.args.place.used it c.args.bytes.now c.write_behind.new.body used (c.open.ensures.opens it place used plugin key room)
-        (c.write_behind.ensures ∙ ap (λ xs. take c.args.place.used xs ++ c.args.bytes.now) c.body_mut.ensures.value)
+    (c.write_behind.ensures ∙ ap (λ xs. take c.args.place.used xs ++ c.args.bytes.now) c.body_mut.ensures.value)

@@ -1,8 +1,6 @@
-use Rattle.std.proofs.Common.{◌≡◌, ◌⊎◌, ℕ, ◌≤◌, List, [], length, inl, refl, sym, ap, subst, ◌∙◌, arith}
+use Rattle.std.proofs.Common.{refl, ap, ◌∙◌}
 use Rattle.r4_node40.specs.Loan.{bytes_of, with_bytes}
 use Rattle.r4_node40.specs.declared.node_mut.NodeMut.{NodeMut}
-use Rattle.r4_leaf.specs.Packing.{IsLeft, TakesPiece}
-use Rattle.r4_leaf.proofs.CutPieces.{no_pieces}
 use Rattle.r4_leaf.proofs.Packed.{behind, fill_begins, fill_more, fill_stops}
 use Rattle.r4_leaf.proofs.packing.fill.Goals as goal
 

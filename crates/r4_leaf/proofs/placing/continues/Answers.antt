@@ -1,4 +1,4 @@
-use Rattle.std.proofs.Common.{◌≡◌, ◌∙◌}
+use Rattle.std.proofs.Common.{◌∙◌}
 use Rattle.r4_node40.specs.View.{item_shown}
 use Rattle.r4_leaf.proofs.SoundItems.{tail_item}
 use Rattle.r4_leaf.proofs.placing.continues.Goals as goal

@@ -1,12 +1,11 @@
-use Rattle.std.proofs.Common.{◌≡◌, ℕ, ◌+◌, ◌-◌, ◌<◌, ◌≤◌, List, length, true, false, refl, sym, ap, subst, ◌∙◌, arith}
+use Rattle.std.proofs.Common.{◌≡◌, ℕ, ◌-◌, List, length, false, refl, sym, ap, subst, ◌∙◌, arith}
 use Rattle.std.specs.Prelude.{slice_get, Some}
 use Rattle.std.proofs.lemmas.Option.{same_Some, slice_get_within}
 use Rattle.r4_base.specs.Node.{Item, count_of, items_of}
 use Rattle.r4_node40.specs.Loan.{bytes_of}
-use Rattle.r4_node40.specs.View.{item_shown, view_items}
+use Rattle.r4_node40.specs.View.{item_shown}
 use Rattle.r4_node40.proofs.Laid.{length-items_of}
-use Rattle.r4_leaf.specs.Filling.{IsPlaceFor, continues_item}
-use Rattle.r4_leaf.specs.Items.{IsSoundItem}
+use Rattle.r4_leaf.specs.Filling.{continues_item}
 use Rattle.r4_leaf.proofs.Lying.{lie_sound}
 use Rattle.r4_leaf.proofs.Bodied.{bodied}
 use Rattle.r4_leaf.proofs.placing.place_for.Goals as goal

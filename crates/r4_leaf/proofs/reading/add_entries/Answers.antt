@@ -1,4 +1,4 @@
-use Rattle.std.proofs.Common.{◌≡◌, List, ℕ, refl, arith, subst, sym, ap, ◌∙◌, length, ◌+◌, ◌++◌, ◌∷◌, []}
+use Rattle.std.proofs.Common.{◌≡◌, List, refl, arith, subst, sym, ap, ◌∙◌, length, ◌+◌}
 use Rattle.std.specs.Prelude.{slice_get, Some}
 use Rattle.r4_base.specs.Dir.{entries_of}
 use Rattle.r4_cde.specs.Shown.{entry_shown, view_entries}

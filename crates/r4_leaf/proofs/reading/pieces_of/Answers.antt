@@ -1,4 +1,4 @@
-use Rattle.std.proofs.Common.{◌≡◌, ℕ, ◌+◌, ◌≤◌, List, [], length, refl, sym, subst, arith, rules}
+use Rattle.std.proofs.Common.{List, sym, subst, arith}
 use Rattle.r4_node40.specs.View.{item_shown, view_items}
 use Rattle.r4_leaf.specs.declared.piece.Piece.{Piece}
 use Rattle.r4_leaf.proofs.Lying.{HasRead, lie_sound, read_follow, read_more, read_none, read_units}
