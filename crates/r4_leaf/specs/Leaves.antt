@@ -1,6 +1,6 @@
 -- Leaves that share out units, and items that may be put in (docs/volume.md, "Leaves").
-use Rattle.std.specs.Prelude.{◌≡◌, ◌⊎◌, ℕ, ◌+◌, ◌-◌, ◌*◌, ◌^◌, ◌<◌, ◌≤◌, List, [], ◌∷◌, ◌++◌, length, slice_get, Contains, true, Some, None}
-use Rattle.r4_base.specs.Cell.{cell_fault, item_body_fault, item_units, units_in}
+use Rattle.std.specs.Prelude.{◌≡◌, ◌⊎◌, ℕ, ◌+◌, ◌-◌, ◌*◌, ◌^◌, ◌<◌, ◌≤◌, List, [], ◌∷◌, ◌++◌, length, slice_get, Contains, true, None}
+use Rattle.r4_base.specs.Cell.{cell_fault, item_body_fault, units_in}
 use Rattle.r4_base.specs.Key.{rank}
 use Rattle.r4_base.specs.Node.{Item, items_of}
 use Rattle.r4_base.specs.Value.{Value}

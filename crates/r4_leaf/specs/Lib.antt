@@ -1,2 +1,6 @@
 pub mod Units
 pub mod Leaves
+pub mod Pieces
+pub mod Items
+pub mod Filling
+pub mod Packing

@@ -1,8 +1,18 @@
 //! Leaves whose units change: what is put in, and what is cut out (docs/volume.md, "Leaves").
 #![tactic(auto)]
 
+mod building;
+mod cutting;
 mod edits;
+mod entries;
+mod filling;
 mod leaf;
+mod merging;
+mod opening;
+mod packing;
+mod piece;
+mod placing;
+mod reading;
 
 pub use edits::{cut_out, put_in};
 pub use leaf::Leaf;

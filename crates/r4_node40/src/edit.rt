@@ -161,7 +161,7 @@ pub(crate) fn resize_item(b: &mut [u8], i: u16, len: u16) -> Result<(), Full>
 
 /// The room for headers and bodies.
 #[tactic(auto, unfolding(crate::specs::Laid::room_of))]
-fn room_in(b: &[u8]) -> u16
+pub(crate) fn room_in(b: &[u8]) -> u16
     requires { length b.now ≡ 4096 }
     ensures { result ≡ room_of b.now }
 {

@@ -10,7 +10,7 @@ ghost use Rattle.r4_node40.specs.Laid.{IsLaid, IsFresh, fresh_node, room_of, spa
 ghost use Rattle.r4_node40.specs.Edits.{InsertsItem, RemovesItem, ResizesItem, growth};
 ghost use mir.Syntax.{named};
 
-use crate::edit::{Full, format_block, insert_item, remove_item, resize_item};
+use crate::edit::{Full, format_block, insert_item, remove_item, resize_item, room_in};
 use crate::view::{NodeView, place_of};
 use r4_base::{Block, Key, NodeFault, get16};
 
@@ -23,6 +23,7 @@ pub struct NodeMut<'a> {
 
 impl<'a> NodeMut<'a> {
     ghost use Rattle.r4_node40.specs.Loan.{loan, lent_as, bytes_of, with_bytes, loan_name};
+    ghost use Rattle.r4_node40.specs.View.{view_block};
 
     /// The node that the block spells, or its first fault (docs/layout.md, "Nodes").
     pub fn read(block: &'a mut Block) -> Result<NodeMut<'a>, NodeFault>
@@ -45,6 +46,21 @@ impl<'a> NodeMut<'a> {
         let bytes = block.bytes_mut();
         format_block(bytes, level, mkfs_id);
         NodeMut { block }
+    }
+
+    /// The node as it stands, to be read.
+    pub fn view(&self) -> NodeView<'_>
+        requires { IsLaid (bytes_of self.now) }
+        ensures { (view_block result).now ≡ bytes_of self.now }
+    {
+        NodeView::of_laid(self.block.bytes())
+    }
+
+    /// How many bytes there are room for, of headers and bodies: 4068 in a node without items.
+    pub fn room(&self) -> u16
+        ensures { result ≡ room_of (bytes_of self.now) }
+    {
+        room_in(self.block.bytes())
     }
 
     /// Puts an item in as item `i`, counted from 0 and at most the number of items, before the one that stood there. Its

@@ -60,6 +60,15 @@ impl<'a> NodeView<'a> {
         NodeView { block, count }
     }
 
+    /// The node that a block lays out which is written.
+    pub(crate) fn of_laid(block: &'a [u8]) -> NodeView<'a>
+        requires { IsLaid block.now }
+        ensures { view_block result ≡ block.entry }
+    {
+        let count = get16(block, 2);
+        NodeView { block, count }
+    }
+
     /// How many items the node has: at most 107, and none only in a leaf.
     pub fn len(&self) -> u16
         ensures { result ≡ length (view_items self.now) }
