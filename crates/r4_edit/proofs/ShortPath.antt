@@ -4,7 +4,7 @@ use Rattle.std.proofs.Common.{ap, subst, ◌∙◌, arith}
 use Rattle.std.specs.Prelude.{Contains, reverse, None, Some}
 use Rattle.r4_base.specs.Cell.{cell_fault}
 use Rattle.r4_base.specs.Key.{rank, top}
-use Rattle.r4_base.specs.Node.{Item}
+use Rattle.r4_base.specs.Node.{Item, items_of}
 use Rattle.r4_base.specs.Tree.{Fits, IsNode, Name, Node, Root, Store}
 use Rattle.r4_base.specs.declared.key.Key.{Key}
 use Rattle.r4_base.specs.Value.{Value}
@@ -14,7 +14,8 @@ use Rattle.r4_cell.specs.Seen.{CellSeen, node_of}
 use Rattle.r4_cell.specs.declared.change.Fresh.{Fresh}
 use Rattle.r4_patch.specs.Joining.{ids_of}
 use Rattle.r4_patch.specs.Part.{IsPart}
-use Rattle.r4_edit.specs.Growing.{IsPathIn}
+use Rattle.r4_edit.specs.Growing.{IsPathIn, IsRootIn}
+use Rattle.r4_edit.specs.Levels.{IsPartedUp, IsSplitIn}
 use Rattle.r4_edit.specs.Nodes.{IsPointingTo}
 use Rattle.r4_edit.specs.Steps.{name_of}
 use Rattle.r4_edit.specs.Editing.{IsCutIn, IsCutOutUp, IsEditedIn, IsInsertIn, IsInsertedUp, after_cut, after_insert}
@@ -222,4 +223,48 @@ cut_here cells path f from to leaf rest e are keys over' =
               high = keys.2;
             }),
       ),
+    )
+
+pub split_here : (cells path : List CellSeen) (f : Fresh) (leaf : CellSeen) (rest : List CellSeen) → cells ≡ leaf ∷ rest
+    → 2 ≤ length (items_of leaf.block) → IsPathOver cells f path → (t : Store Value) × ((r : Root) × IsSplitIn t r path f)
+split_here cells path f leaf rest e two over' =
+    let over : IsShortPath leaf f path = subst (λ cs. IsPathOver cs f path) e over' in
+    (
+      by_name path,
+      (
+        low_root over.twig,
+        subst (λ (p : List CellSeen). IsPartedUp (by_name path) (low_root over.twig) f (reverse p)) (sym over.cells)
+            (record {
+              path = over.leads;
+              enough = inr (refl, (let l = over.level in omega (arith, l)));
+              items = two;
+            }),
+      ),
+    )
+
+-- ---- what may be done with the root
+
+first_cell : (x y : CellSeen) (xs ys : List CellSeen) → x ∷ xs ≡ y ∷ ys → x ≡ y
+first_cell x y xs ys e = cc
+
+pub grow_here : (cells path : List CellSeen) (f : Fresh) (leaf root : CellSeen) (rest tail : List CellSeen) → cells ≡ leaf ∷ rest
+    → path ≡ root ∷ tail → IsPathOver cells f path
+    → ((t : Store Value) × ((r : Root) × IsRootIn t r root f)) × (root.level ≡ 2)
+grow_here cells path f leaf root rest tail e is over' =
+    let over : IsShortPath leaf f path = subst (λ cs. IsPathOver cs f path) e over' in
+    let same : over.twig ≡ root = first_cell over.twig root (leaf ∷ []) tail (sym over.cells ∙ is) in
+    let up = over.leads.ascends.3 in
+    (
+      subst (λ (x : CellSeen). (t : Store Value) × ((r : Root) × IsRootIn t r x f)) same
+          (
+            by_name path,
+            (
+              low_root over.twig,
+              record {
+                path = record { part = over.leads.part; ascends = (up.0, up.1, tt, tt); free = over.leads.free; root_number = over.leads.root_number };
+                root = refl;
+              },
+            ),
+          ),
+      subst (λ (x : CellSeen). x.level ≡ 2) same over.level,
     )

@@ -1,6 +1,6 @@
 //! Edits of a leaf below a root: which cells come, and how many items and free bytes they have.
 
-use crate::trials::{LEAF, ROOT, put, take_out};
+use crate::trials::{LEAF, ROOT, halve, put, raise, take_out};
 use r4_base::{Attr, Block, Key, NodeId, Oid, get16};
 use r4_cell::{Cell, Change, least, read_cell, top};
 use r4_meta::write_stat;
@@ -168,5 +168,28 @@ fn a_full_root_is_parted(rt: HostRuntime) -> Result<(), Fail> {
     let change = with(alloc, leaves.as_slice(), byte(4000), TAIL, &ZEROS[..4000])?;
     assert_eq!(rt; change.new.as_slice().len(), 5);
     assert_eq!(rt; change.root.map(|root| root.height), Some(3));
+    Ok(())
+}
+
+#[test]
+fn a_leaf_is_parted_and_a_root_goes_below_another(rt: HostRuntime) -> Result<(), Fail> {
+    let alloc = rt.alloc();
+    let bare = [root_leaf(alloc)?];
+    let leaf = first(&with(alloc, &bare, byte(0), TAIL, &ZEROS[..100])?)?;
+    let Some(parted) = halve(alloc, &[leaf])? else {
+        return Err(Fail::from("the leaf has no two items"));
+    };
+    assert_eq!(rt;
+        rows(alloc, &parted)?.as_slice(),
+        [(LEAF, 1, 3986), (ROOT + 1, 1, 3930), (ROOT, 2, 3976)].as_slice()
+    );
+    let Some(grown) = raise(alloc, &bare)? else {
+        return Err(Fail::from("it is no leaf of all keys"));
+    };
+    assert_eq!(rt;
+        rows(alloc, &grown)?.as_slice(),
+        [(ROOT, 1, 4022), (ROOT + 1, 1, 4022)].as_slice()
+    );
+    assert_eq!(rt; grown.root.map(|root| root.height), Some(3));
     Ok(())
 }

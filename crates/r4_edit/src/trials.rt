@@ -13,7 +13,8 @@ ghost use Rattle.r4_edit.specs.Trials.{AreLeaves, FirstMayTake, IsPathOver, Stan
 
 use crate::appending::append;
 use crate::editing::{cut, insert};
-use crate::growing::root_over;
+use crate::growing::{grow, root_over};
+use crate::splitting::split;
 use r4_base::{Block, Key, Memory, NodeId};
 use r4_cell::{Cell, Change, Fresh, least, read_cell};
 use r4_node40::NodeMut;
@@ -60,6 +61,28 @@ pub(crate) fn take_out(
     let mut fresh = numbers();
     let path = path_over(alloc, leaves, &mut fresh)?;
     let change = cut(alloc, path.as_slice(), from, to, &mut fresh)?;
+    Ok(Some(change))
+}
+
+/// Parts the first of some leaves, all below one root; `None` where they are none, or it has no two items.
+pub(crate) fn halve(alloc: Global, leaves: &[Arc<Cell>]) -> Result<Option<Change>, Memory> {
+    if !are_leaves(leaves) || leaves[0].node().len() < 2 {
+        return Ok(None);
+    }
+    let mut fresh = numbers();
+    let path = path_over(alloc, leaves, &mut fresh)?;
+    let change = split(alloc, path.as_slice(), &mut fresh)?;
+    Ok(Some(change))
+}
+
+/// Puts a root over that of some leaves; `None` where they are none.
+pub(crate) fn raise(alloc: Global, leaves: &[Arc<Cell>]) -> Result<Option<Change>, Memory> {
+    if !are_leaves(leaves) {
+        return Ok(None);
+    }
+    let mut fresh = numbers();
+    let path = path_over(alloc, leaves, &mut fresh)?;
+    let change = grow(alloc, &path.as_slice()[0], &mut fresh)?;
     Ok(Some(change))
 }
 
