@@ -15,7 +15,10 @@ use Rattle.r4_node40.proofs.Accepted.{good}
 use Rattle.r4_node40.proofs.Faults.{and_true}
 use Rattle.r4_node40.proofs.Laid.{get-items_of, key_fits, length-items_of}
 use Rattle.r4_leaf.specs.Items.{IsSoundItem, Lie}
-use Rattle.r4_leaf.specs.Leaves.{IsGiven, MayStand}
+use Rattle.r4_leaf.specs.Leaves.{IsGiven, MayStand, Packs}
+use Rattle.r4_leaf.specs.Units.{cut_units}
+use Rattle.r4_leaf.specs.declared.leaf.Leaf.{Leaf}
+use Rattle.r4_base.specs.Cell.{units_in}
 
 or_none : (a b : Option CellFault) → option_or a b ≡ None → (a ≡ None) × (b ≡ None)
 or_none None b h = (refl, h)
@@ -128,3 +131,12 @@ some_range lo hi b stand = by_items (items_of b) refl
     by_items : (xs : List Item) → xs ≡ items_of b → (h : ℕ) × Lie lo h (items_of b)
     by_items [] is = (lo, subst (λ ys. Lie lo lo ys) is (omega arith))
     by_items (x ∷ xs) is = let n = ap length is in (hi, stand_lie lo hi b stand (inr (omega (arith, n))))
+
+-- ---- a leaf without units may stand for every range
+
+pub empty_packs : (lo hi from to : ℕ) (b : List ℕ) (leaves : List Leaf) → MayStand lo hi b → ((h : ℕ) → Lie lo h (items_of b) → Packs lo h (cut_units from to (units_in (items_of b))) leaves) → Packs lo hi (cut_units from to (units_in (items_of b))) leaves
+empty_packs lo hi from to b leaves stand p = by_items (items_of b) refl
+  where
+    by_items : (xs : List Item) → xs ≡ items_of b → Packs lo hi (cut_units from to (units_in (items_of b))) leaves
+    by_items (x ∷ xs) is = let n = ap length is in p hi (stand_lie lo hi b stand (inr (omega (arith, n))))
+    by_items [] is = ?

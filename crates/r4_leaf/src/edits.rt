@@ -7,6 +7,7 @@ ghost use Rattle.r4_node40.specs.View.{view_block, view_items};
 ghost use Rattle.r4_leaf.specs.Leaves.{AreApart, AreFew, IsGiven, MayStand, Packs};
 ghost use Rattle.r4_leaf.specs.Units.{cut_units, put_units};
 
+use crate::building::{with_item, without};
 use crate::leaf::Leaf;
 use r4_base::{Key, Memory};
 use r4_node40::NodeView;
@@ -33,7 +34,7 @@ pub fn put_in(
         → Packs (rank lo) hi (put_units (item_units (record { key = key.now; plugin = plugin; body = body.now })) (units_in (view_items leaf.now))) v.items) }
     ensures few { IfOk result (λ v. AreFew (put_units (item_units (record { key = key.now; plugin = plugin; body = body.now })) (units_in (view_items leaf.now))) v.items) }
 {
-    Err(Memory)
+    with_item(alloc, leaf, lo, mkfs_id, *key, plugin, body)
 }
 
 /// The leaves that a leaf becomes without its units from one key up to another, for the range of the leaf, which begins at
@@ -52,5 +53,5 @@ pub fn cut_out(
         → Packs (rank lo) hi (cut_units (rank from.now) (rank to.now) (units_in (view_items leaf.now))) v.items) }
     ensures few { IfOk result (λ v. AreFew (cut_units (rank from.now) (rank to.now) (units_in (view_items leaf.now))) v.items) }
 {
-    Err(Memory)
+    without(alloc, leaf, lo, mkfs_id, from, to)
 }
