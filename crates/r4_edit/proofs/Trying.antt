@@ -1,8 +1,11 @@
 -- Trees of two levels for tests: what was tried out on blocks, and their paths.
-use Rattle.std.proofs.Common.{◌≡◌, ◌⊎◌, ℕ, ◌^◌, ◌<◌, ◌≤◌, true, List, [], ◌∷◌, length, map}
+use Rattle.std.proofs.Common.{◌≡◌, ◌≢◌, ◌⊎◌, inl, inr, Bool, true, false, nat_eq, ℕ, ◌^◌, ◌<◌, ◌≤◌, List, [], ◌∷◌, length, map}
 use Rattle.std.proofs.Common.{get_or, refl, sym, ap, subst, ◌∙◌, arith}
-use Rattle.std.specs.Prelude.{Contains}
+use Rattle.std.specs.Prelude.{Contains, IsTrue, MatchBool, not}
+use Rattle.std.specs.Cmp.Lexicographic.{told_text, pointwise}
+use Rattle.std.proofs.lemmas.Grind.{common_steps}
 use Rattle.std.proofs.lemmas.List.{append-nil}
+use Rattle.std.proofs.lemmas.List.Elements.{All-contains, filter_passes}
 use Rattle.r4_base.specs.Cell.{item_units, units_in}
 use Rattle.r4_base.specs.Key.{least, rank, top}
 use Rattle.r4_base.specs.Node.{Item, items_of}
@@ -11,7 +14,9 @@ use Rattle.r4_base.specs.declared.key.Key.{Key}
 use Rattle.r4_cell.proofs.Nodes.{cell_node}
 use Rattle.r4_cell.proofs.NodesAt.{node_at}
 use Rattle.r4_cell.specs.Seen.{CellSeen, node_of}
-use Rattle.r4_leaf.specs.Leaves.{MayStand}
+use Rattle.r4_leaf.specs.Leaves.{MayStand, Packs}
+use Rattle.r4_leaf.specs.Units.{LeafUnit, cut_units, is_between}
+use Rattle.r4_leaf.specs.declared.leaf.Leaf.{Leaf}
 use Rattle.r4_edit.specs.Trials.{AreLeaves, FirstMayTake, StandsAlone}
 use Rattle.r4_edit.proofs.CellNodes.{units_are}
 use Rattle.r4_edit.proofs.Lying.{Good, Lies, good_parts}
@@ -68,13 +73,36 @@ alone key hi b it same from to items plugin short stands =
           (subst (λ us. Contains us (k, v)) (sym (ap units_in items ∙ one_item it)) member) in
           let e = ap rank same in
           omega (arith, w, e);
+      inside = λ k v member. (units_between key hi b stands from to k v
+          (subst (λ us. Contains us (k, v)) (sym (ap units_in items ∙ one_item it)) member)).1;
     }
 
-pub ends : (leaf : CellSeen) (lo key : Key) (b : List ℕ) → leaf.level ≡ 1 → rank lo ≡ least → rank key ≤ top → b ≡ leaf.block
-    → MayStand (rank lo) (rank key) b → (k : ℕ) (v : Value) → Contains (node_of leaf).units (k, v) → k < rank key
-ends leaf lo key b level low to same stands k v member =
-    (units_between lo key b stands (omega (arith, low)) to k v
-    (subst (λ us. Contains us (k, v)) (units_are leaf 0 level ∙ ap (λ c. units_in (items_of c)) (sym same)) member)).1
+-- ---- a leaf that is the same without some keys
+
+pub same_bytes : (a b : List ℕ) (r : Bool) → r ≡ pointwise nat_eq a b → IsTrue r → a ≡ b
+same_bytes a b r e is = told a b r is (told_text a b r e)
+  where
+    told : (a b : List ℕ) (r : Bool) → IsTrue r → MatchBool r (a ≡ b) (a ≢ b) → a ≡ b
+    told a b true is h = h
+    told a b false is h = absurd cc
+
+pub one_leaf : (xs : List Leaf) (x : Leaf) → length xs ≡ 1 → x ≡ get_or xs 0 x → xs ≡ x ∷ []
+one_leaf [] x long is = absurd (omega (arith, long))
+one_leaf (y ∷ []) x long is = ap (λ (z : Leaf). z ∷ []) (sym is)
+one_leaf (y ∷ (z ∷ zs)) x long is = absurd (omega (arith, long))
+
+is_out : (from to k : ℕ) → not (is_between from to k) ≡ true → (k < from) ⊎ (to ≤ k)
+is_out from to k h = grind (arith, common_steps)
+
+pub clear : (leaf : CellSeen) (from to : ℕ) (one : Leaf) → leaf.level ≡ 1
+    → Packs (rank leaf.lo) (rank leaf.hi) (cut_units from to (node_of leaf).units) (one ∷ []) → one.block ≡ leaf.block
+    → (k : ℕ) (v : Value) → Contains (node_of leaf).units (k, v) → (k < from) ⊎ (to ≤ k)
+clear leaf from to one level packs same k v member =
+    let units : (node_of leaf).units ≡ cut_units from to (node_of leaf).units =
+        units_are leaf 0 level ∙ (ap (λ b. units_in (items_of b)) (sym same) ∙ packs.units) in
+    is_out from to k (All-contains (λ (u : LeafUnit). not (is_between from to u.0) ≡ true) (cut_units from to (node_of leaf).units) (k, v)
+    (filter_passes (λ (u : LeafUnit). not (is_between from to u.0)) (node_of leaf).units)
+    (subst (λ us. Contains us (k, v)) units member))
 
 -- ---- the first of the leaves
 
@@ -88,14 +116,17 @@ pub first_of : {A : Type 0} (h : A → CellSeen) (xs : List A) (x : A) → 1 ≤
 first_of h [] x some e = absurd (omega (arith, some))
 first_of h (y ∷ ys) x some e = (map h ys, ap (λ z. h z ∷ map h ys) (sym e))
 
-pub may_take : (cells : List CellSeen) (leaf : CellSeen) (rest : List CellSeen) (it : Item) → cells ≡ leaf ∷ rest
-    → AreLeaves cells → least ≤ rank it.key → StandsAlone it (rank leaf.hi)
-    → ((k : ℕ) (v : Value) → Contains (node_of leaf).units (k, v) → k < rank it.key) → FirstMayTake cells it
-may_take cells leaf rest it e are from alone below =
+pub may_take : (cells : List CellSeen) (leaf : CellSeen) (rest : List CellSeen) (it : Item) (end : ℕ) → cells ≡ leaf ∷ rest
+    → AreLeaves cells → least ≤ rank it.key → StandsAlone it end → end ≤ rank leaf.hi
+    → ((k : ℕ) (v : Value) → Contains (node_of leaf).units (k, v) → (k < rank it.key) ⊎ (end ≤ k)) → FirstMayTake cells it
+may_take cells leaf rest it end e are from alone within clear =
     let f = first_level cells leaf rest e are in
     subst (λ cs. FirstMayTake cs it) (sym e) (record {
       given = alone.given;
       from = let lo = f.1 in omega (arith, lo, from);
-      to = alone.end;
-      apart = λ k v w mine its. let b = below k v mine in let a = alone.above k w its in omega (arith, a, b);
+      to = let to = alone.end in omega (arith, to, within);
+      apart = λ k v w mine its.
+          let a = alone.above k w its in
+          let b = alone.inside k w its in
+          elim (clear k v mine) [ inl low ↦ omega (arith, a, low) | inr high ↦ omega (arith, b, high) ];
     })

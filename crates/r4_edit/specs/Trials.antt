@@ -26,6 +26,7 @@ pub record StandsAlone (it : Item) (hi : ℕ) : Type 0 where
   pub below : rank it.key < hi
   pub end : item_end it ≤ hi
   pub above : (k : ℕ) (v : Value) → Contains (item_units it) (k, v) → rank it.key ≤ k
+  pub inside : (k : ℕ) (v : Value) → Contains (item_units it) (k, v) → k < hi
 
 -- The item may be put into the leaf.
 pub record MayCome (leaf : CellSeen) (it : Item) : Type 0 where

@@ -33,7 +33,7 @@ fn empty_leaf(alloc: Global, id: u64, lo: Key, hi: Key) -> Result<Arc<Cell>, Fai
     Ok(cell)
 }
 
-// What comes in the place of the first leaf where an item is put into it.
+// What comes in the place of the first leaf where an item is put behind all that it has.
 fn with(
     alloc: Global,
     leaves: &[Arc<Cell>],
@@ -41,7 +41,22 @@ fn with(
     plugin: u16,
     body: &[u8],
 ) -> Result<Change, Fail> {
-    match put(alloc, leaves, &key, plugin, body) {
+    match leaves.first() {
+        Some(leaf) => with_between(alloc, leaves, key, leaf.hi(), plugin, body),
+        None => Err(Fail::from("there is no leaf")),
+    }
+}
+
+// What comes where an item is put between those of the first leaf, up to a key.
+fn with_between(
+    alloc: Global,
+    leaves: &[Arc<Cell>],
+    key: Key,
+    end: Key,
+    plugin: u16,
+    body: &[u8],
+) -> Result<Change, Fail> {
+    match put(alloc, leaves, &key, &end, plugin, body) {
         Ok(Some(change)) => Ok(change),
         Ok(None) => Err(Fail::from("it may not be put there")),
         Err(_) => Err(Fail::from("there is no memory")),
@@ -114,6 +129,19 @@ fn a_leaf_is_filled_before_another_comes(rt: HostRuntime) -> Result<(), Fail> {
         assert_eq!(rt; rows(rt.alloc(), &change)?.as_slice(), want);
         assert!(rt; change.root.is_none());
     }
+    Ok(())
+}
+
+// Bytes between two others of their file, so many that three leaves come.
+#[test]
+fn a_leaf_becomes_three(rt: HostRuntime) -> Result<(), Fail> {
+    let alloc = rt.alloc();
+    let bare = [empty_leaf(alloc, LEAF, least(), top())?];
+    let low = [first(&with(alloc, &bare, byte(0), TAIL, &ZEROS[..2000])?)?];
+    let both = [first(&with(alloc, &low, byte(8000), TAIL, &ZEROS[..1992])?)?];
+    let change = with_between(alloc, &both, byte(3000), byte(7500), TAIL, &ZEROS)?;
+    let want = [(LEAF, 2, 0), (ROOT + 1, 2, 0), (ROOT + 2, 1, 3992), (ROOT, 3, 3930)];
+    assert_eq!(rt; rows(alloc, &change)?.as_slice(), want.as_slice());
     Ok(())
 }
 

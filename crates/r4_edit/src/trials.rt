@@ -12,7 +12,7 @@ ghost use Rattle.r4_edit.specs.Steps.{CountUp, Follow};
 ghost use Rattle.r4_edit.specs.Trials.{AreLeaves, FirstMayTake, IsPathOver, StandsAlone};
 
 use crate::appending::append;
-use crate::editing::{cut, insert};
+use crate::editing::{cut, insert, leaves_without};
 use crate::growing::{grow, root_over};
 use crate::splitting::split;
 use r4_base::{Block, Key, Memory, NodeId};
@@ -30,15 +30,17 @@ pub(crate) const ROOT: u64 = LEAF + 1000;
 /// How many blocks there are.
 const BLOCKS: u64 = 1 << 60;
 
-/// Puts an item into the first of some leaves, all below one root; `None` where they are none, or it may not be put there.
+/// Puts an item into the first of some leaves, all below one root; `None` where they are none, or it may not be put there: it
+/// ends where `end` says or before, and the leaf has no unit from its key up to there.
 pub(crate) fn put(
     alloc: Global,
     leaves: &[Arc<Cell>],
     key: &Key,
+    end: &Key,
     plugin: u16,
     body: &[u8],
 ) -> Result<Option<Change>, Memory> {
-    if !are_leaves(leaves) || !may_come(alloc, leaves, key, plugin, body)? {
+    if !are_leaves(leaves) || !may_come(alloc, leaves, key, end, plugin, body)? {
         return Ok(None);
     }
     let mut fresh = numbers();
@@ -160,11 +162,12 @@ fn path_over(
     Ok(path)
 }
 
-// Whether the item may be put into the first of the leaves: it stands behind all that the leaf has.
+// Whether the item may be put into the first of the leaves, which has no unit from its key up to its end.
 fn may_come(
     alloc: Global,
     leaves: &[Arc<Cell>],
     key: &Key,
+    end: &Key,
     plugin: u16,
     body: &[u8],
 ) -> Result<bool, Memory>
@@ -173,13 +176,13 @@ fn may_come(
         → FirstMayTake (map (λ c. arc_value c) leaves.now) (record { key = key.now; plugin = plugin; body = body.now })) }
 {
     let leaf = &leaves[0];
-    if key.is_below(least()) || !is_item(plugin, body) {
+    if key.is_below(least()) || leaf.hi().is_below(*end) || !is_item(plugin, body) {
         return Ok(false);
     }
-    if !stands_alone(alloc, key, leaf.hi(), plugin, body)? {
+    if !stands_alone(alloc, key, *end, plugin, body)? {
         return Ok(false);
     }
-    ends_below(alloc, leaf, *key)
+    is_clear(alloc, leaf, key, end)
 }
 
 // Whether it is stat data, entries or a tail, and fits into a leaf.
@@ -211,14 +214,17 @@ fn lay(block: &mut Block, key: &Key, plugin: u16, body: &[u8])
     append(&mut node, 0, *key, plugin, body);
 }
 
-// Whether all units of the leaf have keys below this one.
-fn ends_below(alloc: Global, leaf: &Cell, key: Key) -> Result<bool, Memory>
+// Whether the leaf has no unit from one key up to another: without those it is the same.
+fn is_clear(alloc: Global, leaf: &Cell, from: &Key, to: &Key) -> Result<bool, Memory>
     requires level { leaf.now.level ≡ 1 }
-    requires top { rank key ≤ top }
-    ensures { IfOk result (λ b. IsTrue b → (k : ℕ) (v : Value) → Contains (node_of leaf.now).units (k, v) → k < rank key) }
+    ensures { IfOk result (λ b. IsTrue b → (k : ℕ) (v : Value) → Contains (node_of leaf.now).units (k, v)
+        → (k < rank from.now) ⊎ (rank to.now ≤ k)) }
 {
-    let block = leaf.block().copy(alloc)?;
-    Ok(stands(alloc, least(), key, block))
+    let leaves = leaves_without(alloc, leaf, from, to)?;
+    let [one] = leaves.as_slice() else {
+        return Ok(false);
+    };
+    Ok(one.block.bytes() == leaf.block().bytes())
 }
 
 // Whether the block may stand as a leaf for these keys.
