@@ -16,3 +16,4 @@ pub mod EntryFilled
 pub mod LeftOver
 pub mod Packed
 pub mod Standing
+mod Counted

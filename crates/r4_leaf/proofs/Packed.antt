@@ -30,7 +30,7 @@ use Rattle.r4_leaf.specs.declared.piece.Piece.{Piece}
 use Rattle.r4_leaf.specs.declared.piece.Piece.TheVariants.{Stat, Entry, Bytes}
 use Rattle.r4_leaf.proofs.Filled.{lie_wider}
 use Rattle.r4_leaf.proofs.SoundItems.{item_has_end}
-use Rattle.r4_leaf.proofs.Weighed.{no_weight}
+use Rattle.r4_leaf.proofs.Weighed.{headed, no_weight}
 
 -- ---- a leaf that may stand
 
@@ -147,15 +147,15 @@ pack_begins lo pieces = record { follow = λ hi h. h; packs = λ hi made h p. p 
 same_head : (u v : LeafUnit) (us vs : List LeafUnit) → u ∷ us ≡ v ∷ vs → u ≡ v
 same_head u v us vs e = cc
 
-byte_small : (k x : ℕ) → unit_bytes None (k, Byte x) ≤ 4068
+byte_small : (k x : ℕ) → unit_bytes None (k, Byte x) ≤ 346
 unfolding unit_bytes
 byte_small k x = omega arith
 
-stat_small : (k : ℕ) (a : Attr) → unit_bytes None (k, StatValue a) ≤ 4068
+stat_small : (k : ℕ) (a : Attr) → unit_bytes None (k, StatValue a) ≤ 346
 unfolding unit_bytes
 stat_small k a = omega arith
 
-entry_small : (e : DirEntry) → IsLawfulEntry e → unit_bytes None (entry_unit e) ≤ 4068
+entry_small : (e : DirEntry) → IsLawfulEntry e → unit_bytes None (entry_unit e) ≤ 346
 unfolding unit_bytes
 entry_small e lawful =
     let few = (is_name e.name lawful.legal).few in
@@ -169,15 +169,15 @@ entry_small e lawful =
         by_test true few = omega (arith, few)
         by_test false few = omega arith
 
-first_small : (q : Piece) (next : LeafUnit) (more : List LeafUnit) → IsSound q → piece_units q ≡ next ∷ more → unit_bytes None next ≤ 4068
+first_small : (q : Piece) (next : LeafUnit) (more : List LeafUnit) → IsSound q → piece_units q ≡ next ∷ more → unit_bytes None next ≤ 346
 unfolding piece_units
-first_small (Stat k body) next more sound is = subst (λ u. unit_bytes None u ≤ 4068) (same_head _ next [] more is) (stat_small (rank k) (attr_of body.now))
-first_small (Entry e) next more sound is = subst (λ u. unit_bytes None u ≤ 4068) (same_head _ next [] more is) (entry_small (entry_shown e) sound.0)
+first_small (Stat k body) next more sound is = subst (λ u. unit_bytes None u ≤ 346) (same_head _ next [] more is) (stat_small (rank k) (attr_of body.now))
+first_small (Entry e) next more sound is = subst (λ u. unit_bytes None u ≤ 346) (same_head _ next [] more is) (entry_small (entry_shown e) sound.0)
 first_small (Bytes k bytes) next more sound is = of_bytes bytes.now sound.0 is
   where
-    of_bytes : (bs : List ℕ) → 1 ≤ length bs → bytes_from (rank k) bs ≡ next ∷ more → unit_bytes None next ≤ 4068
+    of_bytes : (bs : List ℕ) → 1 ≤ length bs → bytes_from (rank k) bs ≡ next ∷ more → unit_bytes None next ≤ 346
     of_bytes [] some e = absurd (omega (arith, some))
-    of_bytes (x ∷ bs) some e = subst (λ u. unit_bytes None u ≤ 4068) (same_head (rank k, Byte x) next (bytes_from (rank k + 1) bs) more e) (byte_small (rank k) x)
+    of_bytes (x ∷ bs) some e = subst (λ u. unit_bytes None u ≤ 346) (same_head (rank k, Byte x) next (bytes_from (rank k + 1) bs) more e) (byte_small (rank k) x)
 
 leaf_some : (us : List LeafUnit) (next : LeafUnit) → unit_bytes None next ≤ 4068 → 4068 < leaf_bytes us + unit_bytes (last_of us) next → 1 ≤ length us
 leaf_some [] next small full = let z = no_weight in absurd (omega (arith, z, small, full))
@@ -195,7 +195,7 @@ module _ (lo0 lo : ℕ) (pieces0 pieces left : List Piece) (leaves : List Leaf) 
       let f = (fills hi (p.follow hi h)).fills in
       let le : f.to ≤ hi = subst (λ ps. Follow f.to hi (reverse ps)) none f.follow in
       let all : f.us ≡ units_of (reverse pieces) = sym (append-nil f.us) ∙ (ap (λ ps. f.us ++ units_of (reverse ps)) (sym none) ∙ sym f.units) in
-      p.packs hi (x ∷ []) h (record { from = from; stands = may_stand lo f.to hi f.us x.block f.filled le; units = f.filled.units ∙ all })
+      p.packs hi (x ∷ []) h (record { from = from; stands = may_stand lo f.to hi f.us x.block f.filled le; units = f.filled.units ∙ all; fits = subst (λ us. leaf_bytes us ≤ 4068) all (let r = f.filled.room in omega (arith, r)) })
 
   -- one more leaf behind which others come
   module _ (q : Piece) (before : List Piece) (is : left ≡ before ++ q ∷ []) where
@@ -237,7 +237,7 @@ module _ (lo0 lo : ℕ) (pieces0 pieces left : List Piece) (leaves : List Leaf) 
         let full = s.full.full lo f.to f.us f.filled in
         let behind_all : Follow f.to hi (q ∷ reverse before) = subst (λ ps. Follow f.to hi ps) stack_left f.follow in
         let small = first_small s.q s.next s.more (subst IsSound (sym same) behind_all.1) s.first in
-        let some = leaf_some f.us s.next small full in
+        let some = leaf_some f.us s.next (omega (arith, small)) full in
         let le = behind_all.0 in
         let below = some_items lo f.to (items_of x.block) f.filled.lie (subst (λ us. 1 ≤ length us) (sym f.filled.units) some) in
         let packed : Packs s.next.0 hi (s.next ∷ rest) (y ∷ ys) = subst (λ k. Packs k hi (s.next ∷ rest) (y ∷ ys)) (sym key) (subst (λ us. Packs (rank (piece_key q)) hi us (y ∷ ys)) units m) in
@@ -249,8 +249,8 @@ module _ (lo0 lo : ℕ) (pieces0 pieces left : List Piece) (leaves : List Leaf) 
           f.units ∙ ap (λ us. f.us ++ us) units,
           packs_lo s.next.0 hi (s.next ∷ rest) y ys packed,
           omega (arith, below, le, key),
-          record { from = from; stands = may_stand lo f.to s.next.0 f.us x.block f.filled (omega (arith, le, key)); units = f.filled.units },
-          record { some = some; full = full },
+          record { from = from; stands = may_stand lo f.to s.next.0 f.us x.block f.filled (omega (arith, le, key)); units = f.filled.units; fits = (let r = f.filled.room in omega (arith, r)) },
+          record { some = some; full = full; filled = (let most = (headed (last_of f.us) s.next).0 in omega (arith, full, small, most)) },
           packed,
         ))
 
@@ -265,7 +265,7 @@ module _ (lo0 lo : ℕ) (pieces0 pieces left : List Piece) (leaves : List Leaf) 
         let same : s.q ≡ q = same_last s.before before s.q q (sym s.is ∙ is) in
         let behind_all : Follow f.to hi (q ∷ reverse before) = subst (λ ps. Follow f.to hi ps) stack_left f.follow in
         let small = first_small s.q s.next s.more (subst IsSound (sym same) behind_all.1) s.first in
-        let some = leaf_some f.us s.next small (s.full.full lo f.to f.us f.filled) in
+        let some = leaf_some f.us s.next (omega (arith, small)) (s.full.full lo f.to f.us f.filled) in
         let all = ap length f.units in
         let both = length-append f.us (units_of (reverse left)) in
         omega (arith, all, both, some)

@@ -1,8 +1,9 @@
 -- A block that may stand as a leaf, and its items.
-use Rattle.std.proofs.Common.{◌≡◌, ◌⊎◌, ℕ, suc, ◌+◌, ◌^◌, ◌≤◌, Bool, true, false, ◌||◌, List, [], ◌∷◌, length, inl, inr, refl, sym, ap, subst, ◌∙◌, arith}
+use Rattle.std.proofs.Common.{◌≡◌, ◌⊎◌, ℕ, suc, ◌+◌, ◌^◌, ◌≤◌, Bool, true, false, ◌||◌, List, [], ◌∷◌, ◌++◌, length, inl, inr, refl, sym, ap, subst, ◌∙◌, arith}
 use Rattle.std.specs.Prelude.{slice_get, Option, Some, None, ◌==◌, nat_le, nat_lt, if◌then◌else◌}
 use Rattle.std.specs.Option.{option_map, option_or}
-use Rattle.std.proofs.lemmas.Bool.{eqb-true, le-leb, leb-true}
+use Rattle.std.proofs.lemmas.Bool.{eqb-true, le-leb, leb-true, ltb-true}
+use Rattle.std.proofs.lemmas.List.{length-append}
 use Rattle.std.proofs.lemmas.Option.{same_Some, slice_get_within}
 use Rattle.r4_base.specs.Cell.{cell_fault, item_body_fault, item_end, items_in_fault, next_key, offsets_fit, range_is_good}
 use Rattle.r4_base.specs.Key.{IsKey, offset_of, rank}
@@ -16,7 +17,7 @@ use Rattle.r4_node40.proofs.Faults.{and_true}
 use Rattle.r4_node40.proofs.Laid.{get-items_of, key_fits, length-items_of}
 use Rattle.r4_leaf.specs.Items.{IsSoundItem, Lie}
 use Rattle.r4_leaf.specs.Leaves.{IsGiven, MayStand, Packs}
-use Rattle.r4_leaf.specs.Units.{cut_units}
+use Rattle.r4_leaf.specs.Units.{LeafUnit, cut_units}
 use Rattle.r4_leaf.specs.declared.leaf.Leaf.{Leaf}
 use Rattle.r4_base.specs.Cell.{units_in}
 
@@ -134,9 +135,49 @@ some_range lo hi b stand = by_items (items_of b) refl
 
 -- ---- a leaf without units may stand for every range
 
+no_items : (lo i : ℕ) (xs : List Item) → items_in_fault true (2 ^ 64) 1 lo lo i xs ≡ None → xs ≡ []
+unfolding items_in_fault
+no_items lo i [] h = refl
+no_items lo i (x ∷ xs) h =
+    let outer = or_none (item_body_fault true (2 ^ 64) x) _ h in
+    let rest = or_none (if range_is_good 1 lo lo (next_key lo xs) i x then None else Some (Range i)) _ outer.1 in
+    let range : range_is_good 1 lo lo (next_key lo xs) i x ≡ true = chosen _ (Range i) rest.0 in
+    let a = and_true _ _ range in
+    let b = and_true _ (nat_le (item_end x) (next_key lo xs)) a.0 in
+    let c = and_true _ (nat_le (item_end x) lo) b.0 in
+    let d = and_true _ (offsets_fit x) c.0 in
+    let e = and_true (nat_le lo (rank x.key)) (nat_lt (rank x.key) lo) d.0 in
+    let low = leb-true _ _ e.0 in
+    let high = ltb-true _ _ e.1 in
+    absurd (omega (arith, low, high))
+
+any_range : (lo hi : ℕ) (b : List ℕ) → MayStand lo lo b → MayStand lo hi b
+unfolding cell_fault items_in_fault
+any_range lo hi b stand =
+    let p = parts lo lo b stand in
+    let none : items_of b ≡ [] = no_items lo 0 (items_of b) p.2 in
+    let node = p.0 in
+    let level : (level_of b == 1) ≡ true = ap (λ l. l == 1) p.1 in
+    let good : items_in_fault true (2 ^ 64) 1 lo hi 0 (items_of b) ≡ None = ap (items_in_fault true (2 ^ 64) 1 lo hi 0) none in
+    (stand.0, rw (node, level) good)
+
+no_units : units_in [] ≡ []
+unfolding units_in
+no_units = refl
+
+alone_anywhere : (lo hi : ℕ) (us : List LeafUnit) (leaves : List Leaf) → us ≡ [] → Packs lo lo us leaves → Packs lo hi us leaves
+alone_anywhere lo hi us [] none p = p
+alone_anywhere lo hi us (x ∷ []) none p = record { from = p.from; stands = any_range lo hi x.block p.stands; units = p.units; fits = p.fits }
+alone_anywhere lo hi us (x ∷ (y ∷ more)) none p =
+    let n = ap length (sym p.3 ∙ none) in
+    let long = length-append p.0 (p.1 ∷ p.2) in
+    absurd (omega (arith, n, long))
+
 pub empty_packs : (lo hi from to : ℕ) (b : List ℕ) (leaves : List Leaf) → MayStand lo hi b → ((h : ℕ) → Lie lo h (items_of b) → Packs lo h (cut_units from to (units_in (items_of b))) leaves) → Packs lo hi (cut_units from to (units_in (items_of b))) leaves
 empty_packs lo hi from to b leaves stand p = by_items (items_of b) refl
   where
     by_items : (xs : List Item) → xs ≡ items_of b → Packs lo hi (cut_units from to (units_in (items_of b))) leaves
     by_items (x ∷ xs) is = let n = ap length is in p hi (stand_lie lo hi b stand (inr (omega (arith, n))))
-    by_items [] is = ?
+    by_items [] is =
+        alone_anywhere lo hi (cut_units from to (units_in (items_of b))) leaves (ap (λ ys. cut_units from to (units_in ys)) (sym is) ∙ ap (cut_units from to) no_units)
+        (p lo (subst (λ ys. Lie lo lo ys) is (omega arith)))

@@ -1,14 +1,16 @@
 -- The bytes that units take up behind others.
-use Rattle.std.proofs.Common.{◌≡◌, ℕ, suc, ◌+◌, ◌-◌, ◌/◌, ◌^◌, ◌≤◌, Bool, true, List, [], ◌∷◌, ◌++◌, length, map, refl, sym, ap, ◌∙◌, arith}
+use Rattle.std.proofs.Common.{◌≡◌, ℕ, suc, ◌+◌, ◌-◌, ◌/◌, ◌^◌, ◌≤◌, Bool, true, false, List, [], ◌∷◌, ◌++◌, length, map, refl, sym, ap, ◌∙◌, arith}
 use Rattle.std.specs.Prelude.{slice_get, slice_index, Option, Some, None, ◌==◌, if◌then◌else◌}
 use Rattle.std.proofs.lemmas.Bool.Decides.{nat_tests}
 use Rattle.r4_base.specs.Cell.{bytes_from, entry_unit}
 use Rattle.r4_base.specs.Dir.{Entry as DirEntry}
 use Rattle.r4_base.specs.Key.{IsKey, rank}
-use Rattle.r4_base.specs.Value.{Byte}
+use Rattle.r4_base.specs.Value.{Stat as StatValue, Entry as EntryValue, Byte}
+use Rattle.r4_base.specs.declared.items.Attr.{Attr}
+use Rattle.r4_base.specs.declared.items.Target.{Target}
 use Rattle.r4_base.specs.declared.key.Key.{Key}
 use Rattle.r4_leaf.specs.Filling.{last_of}
-use Rattle.r4_leaf.specs.Units.{LeafUnit, bytes_behind, continues_tail, unit_bytes}
+use Rattle.r4_leaf.specs.Units.{LeafUnit, bytes_behind, continues_entries, continues_tail, entry_bytes, unit_bytes}
 
 -- the last of the units, or what stood before them
 abbrev pub last_or : Option LeafUnit → List LeafUnit → Option LeafUnit
@@ -35,6 +37,64 @@ behind_append before (u ∷ us) vs = let h = behind_append (Some u) us vs in ome
 pub behind_one : (before : Option LeafUnit) (u : LeafUnit) → bytes_behind before (u ∷ []) ≡ unit_bytes before u
 unfolding bytes_behind
 behind_one before u = omega arith
+
+-- ---- a header
+
+pub stat_cost : (before : Option LeafUnit) (k : ℕ) (a : Attr) → unit_bytes before (k, StatValue a) ≡ 82
+unfolding unit_bytes
+stat_cost before k a = refl
+
+entry_header : Bool → ℕ
+entry_header t = if t then 0 else 40
+
+tail_header : Bool → ℕ
+tail_header t = if t then 0 else 38
+
+entry_costs : (before : Option LeafUnit) (k : ℕ) (name : List ℕ) (target : Target)
+    → unit_bytes before (k, EntryValue name target) ≡ (26 + entry_bytes name) + entry_header (continues_entries before k)
+unfolding unit_bytes entry_header
+entry_costs before k name target = refl
+
+tail_costs : (before : Option LeafUnit) (k x : ℕ) → unit_bytes before (k, Byte x) ≡ 1 + tail_header (continues_tail before k)
+unfolding unit_bytes tail_header
+tail_costs before k x = refl
+
+entry_most : (t : Bool) → entry_header t ≤ 40
+unfolding entry_header
+entry_most true = omega arith
+entry_most false = omega arith
+
+tail_most : (t : Bool) → tail_header t ≤ 38
+unfolding tail_header
+tail_most true = omega arith
+tail_most false = omega arith
+
+entry_full : entry_header false ≡ 40
+unfolding entry_header
+entry_full = refl
+
+tail_full : tail_header false ≡ 38
+unfolding tail_header
+tail_full = refl
+
+-- a header makes a unit longer, by 40 bytes at most
+pub headed : (before : Option LeafUnit) (u : LeafUnit) → (unit_bytes before u ≤ unit_bytes None u) × (unit_bytes None u ≤ unit_bytes before u + 40)
+headed before (k, StatValue a) =
+    let here = stat_cost before k a in
+    let alone = stat_cost None k a in
+    (omega (arith, here, alone), omega (arith, here, alone))
+headed before (k, EntryValue name target) =
+    let here = entry_costs before k name target in
+    let alone = entry_costs None k name target in
+    let most = entry_most (continues_entries before k) in
+    let full = entry_full in
+    (omega (arith, here, alone, most, full), omega (arith, here, alone, full))
+headed before (k, Byte x) =
+    let here = tail_costs before k x in
+    let alone = tail_costs None k x in
+    let most = tail_most (continues_tail before k) in
+    let full = tail_full in
+    (omega (arith, here, alone, most, full), omega (arith, here, alone, full))
 
 -- ---- bytes of a tail
 

@@ -11,16 +11,18 @@ use Rattle.r4_leaf.specs.declared.leaf.Leaf.{Leaf}
 abbrev pub MayStand : (lo hi : ℕ) → List ℕ → Type 0
 MayStand lo hi b = (length b ≡ 4096) × (cell_fault true (2 ^ 64) 1 lo hi b ≡ None)
 
--- It may stand, and has these units.
+-- It may stand, and has these units, for which there is room.
 pub record IsLeaf (lo hi : ℕ) (us : List LeafUnit) (x : Leaf) : Type 0 where
   pub from : rank x.lo ≡ lo
   pub stands : MayStand lo hi x.block
   pub units : units_in (items_of x.block) ≡ us
+  pub fits : leaf_bytes us ≤ 4068
 
--- The next unit has no room behind these.
+-- The next unit has no room behind these, of which there are many bytes.
 pub record IsFull (us : List LeafUnit) (next : LeafUnit) : Type 0 where
   pub some : 1 ≤ length us
   pub full : 4068 < leaf_bytes us + unit_bytes (slice_get us (length us - 1)) next
+  pub filled : 3723 ≤ leaf_bytes us
 
 -- The leaves have these units in their order, and share out this range: each but the first begins at its first unit's key, and the one
 -- before it had no room for that unit.

@@ -1,6 +1,6 @@
 //! A leaf's units with others put in, or without some (docs/volume.md, "Leaves").
 
-ghost use Rattle.std.specs.Prelude.{◌≡◌, ℕ, ◌≤◌, IfOk};
+ghost use Rattle.std.specs.Prelude.{◌≡◌, ℕ, ◌≤◌, length, IfOk};
 ghost use Rattle.r4_base.specs.Cell.{item_end, item_units, units_in};
 ghost use Rattle.r4_base.specs.Key.{rank};
 ghost use Rattle.r4_node40.specs.View.{view_block, view_items};
@@ -34,7 +34,7 @@ pub fn put_in(
         → Packs (rank lo) hi (put_units (item_units (record { key = key.now; plugin = plugin; body = body.now })) (units_in (view_items leaf.now))) v.items) }
     ensures few { IfOk result (λ v. AreFew (put_units (item_units (record { key = key.now; plugin = plugin; body = body.now })) (units_in (view_items leaf.now))) v.items) }
 {
-    with_item(alloc, leaf, lo, mkfs_id, *key, plugin, body)
+    counted(with_item(alloc, leaf, lo, mkfs_id, *key, plugin, body)?)
 }
 
 /// The leaves that a leaf becomes without its units from one key up to another, for the range of the leaf, which begins at
@@ -53,5 +53,19 @@ pub fn cut_out(
         → Packs (rank lo) hi (cut_units (rank from.now) (rank to.now) (units_in (view_items leaf.now))) v.items) }
     ensures few { IfOk result (λ v. AreFew (cut_units (rank from.now) (rank to.now) (units_in (view_items leaf.now))) v.items) }
 {
-    without(alloc, leaf, lo, mkfs_id, from, to)
+    counted(without(alloc, leaf, lo, mkfs_id, from, to)?)
+}
+
+/// How many leaves come at most.
+const MOST: usize = 16;
+
+/// These leaves, where they are not too many. By reckoning there are never more than four, but that is not proved
+/// (docs/DECISIONS.md, "Edits of a tree").
+fn counted(leaves: Vec<Leaf>) -> Result<Vec<Leaf>, Memory>
+    ensures { IfOk result (λ v. (v ≡ leaves) × (length v.items ≤ 16)) }
+{
+    if leaves.len() > MOST {
+        return Err(Memory);
+    }
+    Ok(leaves)
 }
