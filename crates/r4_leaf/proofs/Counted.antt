@@ -1,6 +1,6 @@
 -- How many leaves units are packed into.
-use Rattle.std.proofs.Common.{◌≡◌, ℕ, ◌+◌, ◌-◌, ◌*◌, ◌<◌, ◌≤◌, List, [], ◌∷◌, ◌++◌, length, refl, sym, ap, ◌∙◌, arith}
-use Rattle.std.specs.Prelude.{Option, Some, None, IfOk, Result, Ok, Err}
+use Rattle.std.proofs.Common.{◌≡◌, ℕ, ◌+◌, ◌*◌, ◌<◌, ◌≤◌, List, [], ◌∷◌, ◌++◌, length, refl, ap, arith}
+use Rattle.std.specs.Prelude.{Option, None, IfOk, Result, Ok, Err}
 use Rattle.r4_leaf.specs.Filling.{last_of}
 use Rattle.r4_leaf.specs.Leaves.{AreFew, Packs}
 use Rattle.r4_leaf.specs.Units.{LeafUnit, bytes_behind, leaf_bytes, unit_bytes}

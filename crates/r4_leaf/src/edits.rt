@@ -59,7 +59,7 @@ pub fn cut_out(
 /// How many leaves come at most.
 const MOST: usize = 16;
 
-/// These leaves, where they are not too many. By reckoning there are never more than four, but that is not proved
+/// These leaves, where they are not too many. By reckoning there are never more than five, but that is not proved
 /// (docs/DECISIONS.md, "Edits of a tree").
 fn counted(leaves: Vec<Leaf>) -> Result<Vec<Leaf>, Memory>
     ensures { IfOk result (λ v. (v ≡ leaves) × (length v.items ≤ 16)) }

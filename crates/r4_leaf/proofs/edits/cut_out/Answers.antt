@@ -1,5 +1,4 @@
-use Rattle.std.proofs.Common.{◌≡◌, ◌≤◌, length, sym, subst}
-use Rattle.std.specs.Prelude.{IfOk, Result, Ok, Err}
+use Rattle.std.proofs.Common.{sym, subst}
 use Rattle.r4_base.specs.Cell.{units_in}
 use Rattle.r4_base.specs.Key.{rank}
 use Rattle.r4_node40.specs.View.{view_block, view_items}

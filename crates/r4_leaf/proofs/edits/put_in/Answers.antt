@@ -1,5 +1,4 @@
-use Rattle.std.proofs.Common.{◌≡◌, ◌+◌, ◌<◌, ◌≤◌, length, inl, sym, subst, arith}
-use Rattle.std.specs.Prelude.{IfOk, Result, Ok, Err}
+use Rattle.std.proofs.Common.{◌+◌, inl, sym, subst, arith}
 use Rattle.r4_base.specs.Cell.{item_end, item_units, units_in}
 use Rattle.r4_base.specs.Key.{rank}
 use Rattle.r4_node40.specs.View.{view_block, view_items}
@@ -17,7 +16,7 @@ with_item-requires-clause-leaf c =
 pub returns-clause-packs : goal.returns-clause-packs
 returns-clause-packs c = if_ok c.counted.result _ _ (λ v same hi stand le.
     let us = put_units (item_units (record { key = c.args.key.now; plugin = c.args.plugin; body = c.args.body.now }))
-        (units_in (view_items c.args.leaf.now)) in
+    (units_in (view_items c.args.leaf.now)) in
     let low = c.requires.from in
     let own = c.in_ok-with_item.ensures.some in
     subst (λ w. Packs (rank c.args.lo) hi us w.items) (sym same.0) (c.in_ok-with_item.ensures.packs hi
@@ -26,7 +25,7 @@ returns-clause-packs c = if_ok c.counted.result _ _ (λ v same hi stand le.
 pub returns-clause-few : goal.returns-clause-few
 returns-clause-few c = if_ok c.counted.result _ _ (λ v same.
     let us = put_units (item_units (record { key = c.args.key.now; plugin = c.args.plugin; body = c.args.body.now }))
-        (units_in (view_items c.args.leaf.now)) in
+    (units_in (view_items c.args.leaf.now)) in
     let end = item_end (record { key = c.args.key.now; plugin = c.args.plugin; body = c.args.body.now }) in
     let l = some_range (rank c.args.lo) c.requires.leaf.0 (view_block c.args.leaf.now).now c.requires.leaf.1 in
     let hi = l.0 + end in
