@@ -228,8 +228,7 @@ cut_here cells path f from to leaf rest e are keys over' =
 pub split_here : (cells path : List CellSeen) (f : Fresh) (leaf : CellSeen) (rest : List CellSeen) → cells ≡ leaf ∷ rest
     → 2 ≤ length (items_of leaf.block) → IsPathOver cells f path → (t : Store Value) × ((r : Root) × IsSplitIn t r path f)
 split_here cells path f leaf rest e two over' =
-    let over : IsShortPath leaf f path = subst (λ cs. IsPathOver cs f path) e over' in
-    (
+    let over : IsShortPath leaf f path = subst (λ cs. IsPathOver cs f path) e over' in (
       by_name path,
       (
         low_root over.twig,
@@ -253,18 +252,16 @@ pub grow_here : (cells path : List CellSeen) (f : Fresh) (leaf root : CellSeen) 
 grow_here cells path f leaf root rest tail e is over' =
     let over : IsShortPath leaf f path = subst (λ cs. IsPathOver cs f path) e over' in
     let same : over.twig ≡ root = first_cell over.twig root (leaf ∷ []) tail (sym over.cells ∙ is) in
-    let up = over.leads.ascends.3 in
-    (
-      subst (λ (x : CellSeen). (t : Store Value) × ((r : Root) × IsRootIn t r x f)) same
-          (
-            by_name path,
-            (
-              low_root over.twig,
-              record {
-                path = record { part = over.leads.part; ascends = (up.0, up.1, tt, tt); free = over.leads.free; root_number = over.leads.root_number };
-                root = refl;
-              },
-            ),
-          ),
+    let up = over.leads.ascends.3 in (
+      subst (λ (x : CellSeen). (t : Store Value) × ((r : Root) × IsRootIn t r x f)) same (
+        by_name path,
+        (
+          low_root over.twig,
+          record {
+            path = record { part = over.leads.part; ascends = (up.0, up.1, tt, tt); free = over.leads.free; root_number = over.leads.root_number };
+            root = refl;
+          },
+        ),
+      ),
       subst (λ (x : CellSeen). x.level ≡ 2) same over.level,
     )

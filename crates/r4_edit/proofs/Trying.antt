@@ -99,7 +99,7 @@ pub clear : (leaf : CellSeen) (from to : ℕ) (one : Leaf) → leaf.level ≡ 1
     → (k : ℕ) (v : Value) → Contains (node_of leaf).units (k, v) → (k < from) ⊎ (to ≤ k)
 clear leaf from to one level packs same k v member =
     let units : (node_of leaf).units ≡ cut_units from to (node_of leaf).units =
-        units_are leaf 0 level ∙ (ap (λ b. units_in (items_of b)) (sym same) ∙ packs.units) in
+    units_are leaf 0 level ∙ (ap (λ b. units_in (items_of b)) (sym same) ∙ packs.units) in
     is_out from to k (All-contains (λ (u : LeafUnit). not (is_between from to u.0) ≡ true) (cut_units from to (node_of leaf).units) (k, v)
     (filter_passes (λ (u : LeafUnit). not (is_between from to u.0)) (node_of leaf).units)
     (subst (λ us. Contains us (k, v)) units member))

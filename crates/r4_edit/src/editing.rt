@@ -104,7 +104,12 @@ fn leaves_with(
 }
 
 /// The leaves that a leaf becomes without its units from one key up to another.
-pub(crate) fn leaves_without(alloc: Global, leaf: &Cell, from: &Key, to: &Key) -> Result<Vec<Leaf>, Memory>
+pub(crate) fn leaves_without(
+    alloc: Global,
+    leaf: &Cell,
+    from: &Key,
+    to: &Key,
+) -> Result<Vec<Leaf>, Memory>
     requires level { leaf.now.level ≡ 1 }
     ensures { IfOk result (λ v. AreLeavesOf leaf.now (after_cut from.now to.now leaf.now) v.items) }
 {

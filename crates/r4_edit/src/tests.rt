@@ -140,7 +140,12 @@ fn a_leaf_becomes_three(rt: HostRuntime) -> Result<(), Fail> {
     let low = [first(&with(alloc, &bare, byte(0), TAIL, &ZEROS[..2000])?)?];
     let both = [first(&with(alloc, &low, byte(8000), TAIL, &ZEROS[..1992])?)?];
     let change = with_between(alloc, &both, byte(3000), byte(7500), TAIL, &ZEROS)?;
-    let want = [(LEAF, 2, 0), (ROOT + 1, 2, 0), (ROOT + 2, 1, 3992), (ROOT, 3, 3930)];
+    let want = [
+        (LEAF, 2, 0),
+        (ROOT + 1, 2, 0),
+        (ROOT + 2, 1, 3992),
+        (ROOT, 3, 3930),
+    ];
     assert_eq!(rt; rows(alloc, &change)?.as_slice(), want.as_slice());
     Ok(())
 }

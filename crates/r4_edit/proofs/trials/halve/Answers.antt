@@ -12,7 +12,7 @@ split-requires-clause-path c =
     let are = c.are_leaves.ensures c.if-not-are_leaves.false in
     let (rest, e) = first_of arc_value c.args.leaves.now c.index-leaves-0.result are.some c.index-leaves-0.is in
     let n = c.len.ensures
-        ∙ ap length (c.node.ensures.items ∙ ap (λ (x : CellSeen). items_of x.block) c.deref.ensures) in
+    ∙ ap length (c.node.ensures.items ∙ ap (λ (x : CellSeen). items_of x.block) c.deref.ensures) in
     let few = c.if-len-lt2.false in
     split_here (map arc_value c.args.leaves.now)
     (map arc_value c.as_slice.result.now) c.path_over.new.fresh

@@ -1,4 +1,4 @@
-use Rattle.std.proofs.Common.{◌≡◌, ◌∙◌, List, [], ◌∷◌, length, ap, sym, subst, arith}
+use Rattle.std.proofs.Common.{◌≡◌, ◌∙◌, List, [], ◌∷◌, sym, subst, arith}
 use Rattle.r4_base.specs.Key.{rank}
 use Rattle.r4_cell.specs.Seen.{node_of}
 use Rattle.r4_leaf.specs.Leaves.{Packs}
@@ -14,7 +14,7 @@ returns c same k v =
     let low = c.in-len1.len_at_least in
     let high = c.in-len1.len_below in
     let alone : c.in_ok-leaves.leaves.items ≡ c.one-item.result ∷ [] = sym c.as_slice.ensures.value
-        ∙ one_leaf c.as_slice.result.now c.one-item.result (omega (arith, low, high)) c.one-item.is in
+    ∙ one_leaf c.as_slice.result.now c.one-item.result (omega (arith, low, high)) c.one-item.is in
     clear c.args.leaf.now from to c.one-item.result c.requires.level
     (subst (λ (ls : List Leaf). Packs (rank c.args.leaf.now.lo) (rank c.args.leaf.now.hi) (cut_units from to (node_of c.args.leaf.now).units) ls)
     alone c.in_ok-leaves.ensures.packs)

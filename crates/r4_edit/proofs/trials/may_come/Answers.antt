@@ -1,8 +1,8 @@
-use Rattle.std.proofs.Common.{◌≡◌, ◌⊎◌, ℕ, ◌≤◌, ◌<◌, ap, sym, subst, arith, rules}
+use Rattle.std.proofs.Common.{◌⊎◌, ℕ, ◌≤◌, ◌<◌, ap, subst, arith, rules}
 use Rattle.std.specs.Prelude.{Contains}
 use Rattle.std.proofs.lemmas.Result.{IfOk-weaker}
 use Rattle.std.specs.Arc.{arc_value}
-use Rattle.r4_base.specs.Key.{least, rank, top}
+use Rattle.r4_base.specs.Key.{least, rank}
 use Rattle.r4_base.specs.Value.{Value}
 use Rattle.r4_cell.specs.Seen.{CellSeen, node_of}
 use Rattle.r4_edit.proofs.Trying.{first_level, first_of, may_take}
