@@ -1,0 +1,5 @@
+pub mod Following
+pub mod SoundItems
+pub mod UnitPieces
+pub mod Lying
+pub mod Standing
