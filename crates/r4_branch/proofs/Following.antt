@@ -3,7 +3,7 @@ use Rattle.std.proofs.Common.{◌≡◌, ℕ, ◌+◌, ◌≤◌, List, [], ◌�
 use Rattle.std.specs.Prelude.{Option, None}
 use Rattle.std.proofs.lemmas.List.{append_assoc, append-nil}
 use Rattle.r4_base.specs.Key.{rank}
-use Rattle.r4_branch.specs.Pieces.{Follow, IsSound, bytes_behind, names_of, next_of, open_end, part_bytes, part_names, part_units, piece_end, twig_bytes, units_of}
+use Rattle.r4_branch.specs.Pieces.{Follow, IsSound, bytes_behind, last_end, names_of, next_of, open_end, part_bytes, part_names, part_units, piece_end, twig_bytes, units_of}
 use Rattle.r4_branch.specs.declared.piece.TwigPiece.{TwigPiece}
 
 pub units_more : (ps : List TwigPiece) (p : TwigPiece) → units_of (ps ++ p ∷ []) ≡ units_of ps ++ part_units (rank p.key) p.part
@@ -34,11 +34,6 @@ follow_wider from mid to (p ∷ ps) le h = (h.0, h.1, follow_wider (piece_end p)
 pub follow_more : (from mid to : ℕ) (ps : List TwigPiece) (p : TwigPiece) → Follow from mid ps → mid ≤ rank p.key → IsSound p → piece_end p ≤ to → Follow from to (ps ++ p ∷ [])
 follow_more from mid to [] p h le sound end = (omega (arith, h, le), sound, end)
 follow_more from mid to (q ∷ ps) p h le sound end = (h.0, h.1, follow_more (piece_end q) mid to ps p h.2 le sound end)
-
--- where the last piece's unit ends, or what stood before them
-abbrev pub last_end : Option ℕ → List TwigPiece → Option ℕ
-last_end before [] = before
-last_end before (p ∷ ps) = last_end (open_end p) ps
 
 pub last_more : (before : Option ℕ) (ps : List TwigPiece) (p : TwigPiece) → last_end before (ps ++ p ∷ []) ≡ open_end p
 last_more before [] p = refl

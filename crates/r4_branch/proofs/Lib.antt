@@ -3,3 +3,5 @@ pub mod SoundItems
 pub mod UnitPieces
 pub mod Lying
 pub mod Standing
+pub mod Opened
+pub mod Bodied

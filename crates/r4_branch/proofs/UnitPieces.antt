@@ -1,7 +1,7 @@
 -- The units of an extent as pieces.
-use Rattle.std.proofs.Common.{◌≡◌, ◌⊎◌, inl, inr, ℕ, zero, suc, ◌+◌, ◌*◌, ◌^◌, ◌≤◌, Bool, true, false, List, [], ◌∷◌, ◌++◌, length, take, refl, sym, ap, subst, ◌∙◌, arith}
-use Rattle.std.specs.Prelude.{slice_get, Some, None, if◌then◌else◌}
-use Rattle.std.proofs.lemmas.Bool.{eq-eqb}
+use Rattle.std.proofs.Common.{◌≡◌, ◌⊎◌, inl, inr, ℕ, zero, suc, ◌+◌, ◌*◌, ◌^◌, ◌<◌, ◌≤◌, Bool, true, false, List, [], ◌∷◌, ◌++◌, length, take, refl, sym, ap, subst, ◌∙◌, arith}
+use Rattle.std.specs.Prelude.{nat_lt, slice_get, Some, None, if◌then◌else◌}
+use Rattle.std.proofs.lemmas.Bool.{eq-eqb, lt-ltb}
 use Rattle.std.proofs.lemmas.List.{append_assoc, append-nil, take_all}
 use Rattle.std.proofs.lemmas.Option.{same_Some}
 use Rattle.r4_base.specs.Cell.{block_names, hole_bytes}
@@ -14,10 +14,10 @@ use Rattle.r4_twig.proofs.Faults.{body_lawful}
 use Rattle.r4_twig.proofs.Places.{length-units_of}
 use Rattle.r4_branch.specs.Items.{AddsItem, IsSoundItem}
 use Rattle.r4_branch.proofs.SoundItems.{extent_item}
-use Rattle.r4_branch.specs.Pieces.{Follow, IsSound, is_at, names_of, next_of, part_names, part_units, twig_bytes, units_of}
+use Rattle.r4_branch.specs.Pieces.{Follow, IsSound, is_at, last_end, names_of, next_of, part_names, part_units, twig_bytes, units_of}
 use Rattle.r4_branch.specs.declared.piece.TwigPart.TheVariants.{Blocks}
 use Rattle.r4_branch.specs.declared.piece.TwigPiece.{TwigPiece}
-use Rattle.r4_branch.proofs.Following.{bytes_more, first_more, follow_more, follow_wider, last_end, last_more, names_more, units_more}
+use Rattle.r4_branch.proofs.Following.{bytes_more, first_more, follow_more, follow_wider, last_more, names_more, units_more}
 
 -- ---- one unit more
 
@@ -75,8 +75,9 @@ some_width u (inr (inr h)) = let w = h.width in omega (arith, w)
 -- ---- so many of the units stand behind the old pieces
 
 -- and what they take up: one header, and 16 bytes each
-abbrev pub Weighs : (end i : ℕ) → (old new : List TwigPiece) → Type 0
-Weighs end i old new = ((i ≡ 0) × (twig_bytes new ≡ twig_bytes old)) ⊎ ((twig_bytes new ≤ twig_bytes old + (38 + 16 * i)) × (last_end None new ≡ Some end))
+abbrev pub Weighs : Key → (blocks i : ℕ) → (old new : List TwigPiece) → Type 0
+Weighs key blocks i old new = ((i ≡ 0) × (twig_bytes new ≡ twig_bytes old))
+    ⊎ ((twig_bytes new ≤ twig_bytes old + (38 + 16 * i)) × (offset_of key + 4096 * blocks < 2 ^ 64 → last_end None new ≡ Some (rank key + 4096 * blocks)))
 
 pub record Added (key : Key) (us : List ExtentUnit) (i blocks : ℕ) (old new : List TwigPiece) : Type 0 where
   pub at : blocks ≡ blocks_in (take i us)
@@ -84,7 +85,7 @@ pub record Added (key : Key) (us : List ExtentUnit) (i blocks : ℕ) (old new : 
   pub units : units_of new ≡ units_of old ++ hole_bytes (rank key) (take i us)
   pub follow : (lo : ℕ) → Follow lo (rank key) old → Follow lo (rank key + 4096 * blocks) new
   pub first : (hi : ℕ) → (i ≡ 0 → hi ≡ rank key) → next_of hi new ≡ next_of (rank key) old
-  pub bytes : Weighs (rank key + 4096 * blocks) i old new
+  pub bytes : Weighs key blocks i old new
 
 pub added_none : (key : Key) (us : List ExtentUnit) (old : List TwigPiece) → Added key us 0 0 old old
 added_none key us old = record {
@@ -114,15 +115,28 @@ module _ (key : Key) (us : List ExtentUnit) (i blocks : ℕ) (old new : List Twi
       let none : blocks_in (take i us) ≡ 0 = ap (λ (n : ℕ). blocks_in (take n us)) z in
       omega (arith, b, none, at)
 
-  weighs : Weighs (rank key + 4096 * blocks) i old new → Weighs (rank key + 4096 * (blocks + u.width)) (i + 1) old (new ++ p ∷ [])
+  weighs : Weighs key blocks i old new → Weighs key (blocks + u.width) (i + 1) old (new ++ p ∷ [])
   unfolding p cost
-  weighs w = inr (by_weight w, last_more None new (record { key = k; part = Blocks u }) ∙ ap (λ (n : ℕ). Some n) (let e : rank k + 4096 * u.width ≡ rank key + 4096 * (blocks + u.width) = omega (arith, at) in e))
+  weighs w = inr (by_weight w, ends)
     where
+      ends : offset_of key + 4096 * (blocks + u.width) < 2 ^ 64 → last_end None (new ++ (record { key = k; part = Blocks u }) ∷ []) ≡ Some (rank key + 4096 * (blocks + u.width))
+      ends low =
+          let test : nat_lt (offset_of k + 4096 * u.width) (2 ^ 64) ≡ true = lt-ltb _ _ (omega (arith, low, offset)) in
+          let e : rank k + 4096 * u.width ≡ rank key + 4096 * (blocks + u.width) = omega (arith, at) in
+          last_more None new (record { key = k; part = Blocks u }) ∙ rw test (ap (λ (n : ℕ). Some n) e)
+
+      below : offset_of key + 4096 * blocks < 2 ^ 64
+      below =
+          let width = some_width u (lawful_at i us u shown lawful) in
+          let w = blocks_within i us u shown in
+          let b = a.at in
+          omega (arith, width, w, b, fits)
+
       most : (t : Bool) → cost t ≤ 54
       most true = omega arith
       most false = omega arith
 
-      by_weight : Weighs (rank key + 4096 * blocks) i old new → twig_bytes (new ++ (record { key = k; part = Blocks u }) ∷ []) ≤ twig_bytes old + (38 + 16 * (i + 1))
+      by_weight : Weighs key blocks i old new → twig_bytes (new ++ (record { key = k; part = Blocks u }) ∷ []) ≤ twig_bytes old + (38 + 16 * (i + 1))
       by_weight (inl h) =
           let one = bytes_more new (record { key = k; part = Blocks u }) in
           let m = most (is_at (last_end None new) (rank k)) in
@@ -131,7 +145,7 @@ module _ (key : Key) (us : List ExtentUnit) (i blocks : ℕ) (old new : List Twi
           omega (arith, one, m, z, same)
       by_weight (inr h) =
           let one = bytes_more new (record { key = k; part = Blocks u }) in
-          let test : is_at (last_end None new) (rank k) ≡ true = ap (λ o. is_at o (rank k)) h.1 ∙ eq-eqb (rank key + 4096 * blocks) (rank k) (sym at) in
+          let test : is_at (last_end None new) (rank k) ≡ true = ap (λ o. is_at o (rank k)) (h.1 below) ∙ eq-eqb (rank key + 4096 * blocks) (rank k) (sym at) in
           let small : cost (is_at (last_end None new) (rank k)) ≡ 16 = ap cost test in
           let before = h.0 in
           omega (arith, one, small, before)
@@ -179,6 +193,6 @@ added_all key body i blocks old new all sound a =
       bytes = weight a.bytes;
     }
   where
-    weight : Weighs (rank key + 4096 * blocks) i old new → twig_bytes new ≤ twig_bytes old + (38 + length body)
+    weight : Weighs key blocks i old new → twig_bytes new ≤ twig_bytes old + (38 + length body)
     weight (inl h) = let same = h.1 in omega (arith, same)
     weight (inr h) = let n = length-units_of body in let w = h.0 in omega (arith, w, all, n)

@@ -1,5 +1,5 @@
 -- The pieces of which a twig is made: what they name, the units that they have, and the bytes that they take up (docs/volume.md, "Cells").
-use Rattle.std.specs.Prelude.{◌≡◌, ℕ, ◌+◌, ◌*◌, ◌^◌, ◌≤◌, ◌==◌, List, [], ◌∷◌, ◌++◌, length, Bool, true, false, Option, Some, None, if◌then◌else◌}
+use Rattle.std.specs.Prelude.{◌≡◌, ℕ, ◌+◌, ◌*◌, ◌^◌, ◌≤◌, ◌==◌, List, [], ◌∷◌, ◌++◌, length, Bool, true, false, Option, Some, None, nat_lt, if◌then◌else◌}
 use Rattle.r4_base.specs.Cell.{cell_fault, names_block, run_names, zeros_from}
 use Rattle.r4_base.specs.Extents.{IsLawfulUnit, is_hole}
 use Rattle.r4_base.specs.Key.{IsKey, offset_of, rank}
@@ -50,13 +50,13 @@ units_of (p ∷ ps) = part_units (rank p.key) p.part ++ units_of ps
 
 -- ---- the bytes that pieces take up in a twig
 
--- where a unit ends, so that another one may continue it
+-- where a unit ends, so that another one may continue it: none goes on behind offset 2^64, where the next key is another object's
 abbrev pub open_end : TwigPiece → Option ℕ
 open_end p = by_part p.part
   where
     by_part : TwigPart → Option ℕ
     by_part (Pointer to) = None
-    by_part (Blocks u) = Some (rank p.key + 4096 * u.width)
+    by_part (Blocks u) = if nat_lt (offset_of p.key + 4096 * u.width) (2 ^ 64) then Some (rank p.key + 4096 * u.width) else None
 
 -- the unit before ends at the key
 abbrev pub is_at : Option ℕ → ℕ → Bool
@@ -75,6 +75,11 @@ bytes_behind before (p ∷ ps) = part_bytes before (rank p.key) p.part + bytes_b
 -- the bytes of a twig's items and headers; a twig has room for 4068
 abbrev pub twig_bytes : List TwigPiece → ℕ
 twig_bytes ps = bytes_behind None ps
+
+-- where the last piece's unit ends, or what stood before them
+abbrev pub last_end : Option ℕ → List TwigPiece → Option ℕ
+last_end before [] = before
+last_end before (p ∷ ps) = last_end (open_end p) ps
 
 -- ---- pieces that may make a twig
 

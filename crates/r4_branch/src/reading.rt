@@ -16,6 +16,9 @@ use std::alloc::Global;
 /// The plugin of a pointer.
 const POINTER: u16 = 3;
 
+/// The plugin of an extent.
+pub(crate) const EXTENT: u16 = 5;
+
 /// The bytes of a block.
 const BLOCK: u64 = 4096;
 
@@ -72,7 +75,7 @@ fn add_extent(pieces: &mut Vec<TwigPiece>, key: &Key, body: &[u8]) -> Result<(),
 
 /// The key so many blocks behind another.
 #[tactic(auto, unfolding(r4_base::specs::Key::rank))]
-fn behind(key: &Key, blocks: u64) -> Key
+pub(crate) fn behind(key: &Key, blocks: u64) -> Key
     requires { offset_of key.now + 4096 * blocks < 2 ^ 64 }
     ensures key { IsKey result }
     ensures rank { rank result ≡ rank key.now + 4096 * blocks }
