@@ -5,3 +5,4 @@ pub mod Lying
 pub mod Standing
 pub mod Opened
 pub mod Bodied
+pub mod Filled
