@@ -1,8 +1,0 @@
-pub mod Following
-pub mod SoundItems
-pub mod UnitPieces
-pub mod Lying
-pub mod Standing
-pub mod Opened
-pub mod Bodied
-pub mod Filled
