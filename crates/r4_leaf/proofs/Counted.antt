@@ -54,9 +54,17 @@ module _ (lo hi : ℕ) (us : List LeafUnit) where
   more (x ∷ (y ∷ [])) p many = omega (arith, many)
   more (x ∷ (y ∷ (z ∷ ls))) p many = let h = take_many lo hi us None x (y ∷ (z ∷ ls)) p in omega (arith, h)
 
-  pub are_few : (leaves : List Leaf) → Packs lo hi us leaves → length leaves ≤ 16 → AreFew us leaves
-  are_few leaves p few = record { one = one leaves p; several = several leaves p; more = more leaves p; few = few }
+  few : (leaves : List Leaf) → Packs lo hi us leaves → leaf_bytes us < 58912 → length leaves ≤ 16
+  few [] p small = absurd p
+  few (x ∷ ls) p small = let h = take_many lo hi us None x ls p in omega (arith, h, small)
+
+  pub are_few : (leaves : List Leaf) → Packs lo hi us leaves → leaf_bytes us < 58912 → AreFew us leaves
+  are_few leaves p small = record { one = one leaves p; several = several leaves p; more = more leaves p; few = few leaves p small }
 
 pub if_ok : {T E : Type 0} (r : Result T E) (P Q : T → Type 0) → ((v : T) → P v → Q v) → IfOk r P → IfOk r Q
 if_ok (Ok v) P Q f p = f v p
 if_ok (Err e) P Q f p = p
+
+pub if_ok2 : {T E : Type 0} (r : Result T E) (P Q R : T → Type 0) → ((v : T) → P v → Q v → R v) → IfOk r P → IfOk r Q → IfOk r R
+if_ok2 (Ok v) P Q R f p q = f v p q
+if_ok2 (Err e) P Q R f p q = p

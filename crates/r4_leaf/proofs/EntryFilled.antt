@@ -246,6 +246,10 @@ module _ (b : List ℕ) (e : DirEntry) (i used : ℕ) (is_key : IsKey e.key) (p 
         let n = need_is t.0 used (entry_need used e) t.1.receives.long in
         let h = holds t.0 t.1 (omega (arith, n, room)) in
         filled_more lo mid us b i t.0 h.0 c (entry_unit e ∷ []) (rank e.key) (rank e.key + 1) f t.1.place h.2 le (entry_grows lo mid us b e i used at is_key f le p none count t.0 t.1 h.0 h.1);
+    mkfs_id = λ lo mid us f le.
+        let t = takes_entry lo mid us b e i used at is_key f le p none count in
+        let n = need_is t.0 used (entry_need used e) t.1.receives.long in
+        (holds t.0 t.1 (omega (arith, n, room))).2.mkfs_id;
   }
 
   pub full_for_entry : room_of b < entry_need used e + (if used == 0 then 38 else 0) → IsFullFor (entry_unit e) b

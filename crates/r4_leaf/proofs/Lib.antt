@@ -16,4 +16,5 @@ pub mod EntryFilled
 pub mod LeftOver
 pub mod Packed
 pub mod Standing
+mod Bounded
 mod Counted

@@ -30,11 +30,11 @@ pub record HasRead (items : List Item) (i : ℕ) (ps : List Piece) : Type 0 wher
 pub read_none : (items : List Item) → HasRead items 0 []
 read_none items = record { units = refl; follow = λ lo hi h. (lo, omega arith, h) }
 
-units_cons : (x : Item) (xs : List Item) → units_in (x ∷ xs) ≡ item_units x ++ units_in xs
+pub units_cons : (x : Item) (xs : List Item) → units_in (x ∷ xs) ≡ item_units x ++ units_in xs
 unfolding units_in
 units_cons x xs = refl
 
-units_nil : units_in [] ≡ []
+pub units_nil : units_in [] ≡ []
 unfolding units_in
 units_nil = refl
 

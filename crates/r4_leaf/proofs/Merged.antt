@@ -20,10 +20,10 @@ use Rattle.r4_leaf.proofs.Rising.{Rise, bytes_rise, put_append, put_low, put_run
 
 -- ---- a piece's units
 
-first_in : (u v : LeafUnit) (us : List LeafUnit) → u ≡ v → Contains (u ∷ us) v
+pub first_in : (u v : LeafUnit) (us : List LeafUnit) → u ≡ v → Contains (u ∷ us) v
 first_in u v us e = (0, omega arith, e)
 
-byte_at : (k : ℕ) (bs : List ℕ) (j : ℕ) → k ≤ j → j < k + length bs → (v : Value) × Contains (bytes_from k bs) (j, v)
+pub byte_at : (k : ℕ) (bs : List ℕ) (j : ℕ) → k ≤ j → j < k + length bs → (v : Value) × Contains (bytes_from k bs) (j, v)
 byte_at k [] j le lt = absurd (omega (arith, le, lt))
 byte_at k (b ∷ bs) j le lt = elim (cases_lt k j) [
   | inl later ↦ let h = byte_at (k + 1) bs j (omega (arith, later)) (omega (arith, lt)) in (h.0, Contains-append_right ((k, Byte b) ∷ []) (bytes_from (k + 1) bs) (j, h.0) h.1)

@@ -7,7 +7,7 @@ use Rattle.std.proofs.lemmas.List.{length-append, length-replicate, length-take,
 use Rattle.std.proofs.lemmas.List.Edits.{insert_end}
 use Rattle.std.proofs.lemmas.List.Sums.{sum_by-append}
 use Rattle.std.proofs.lemmas.Option.{same_Some}
-use Rattle.r4_base.specs.Node.{Item, count_of, end_at, fits_level, item_at, items_of, key_at, level_of, offset_at, plugin_at}
+use Rattle.r4_base.specs.Node.{Item, count_of, end_at, fits_level, item_at, items_of, key_at, level_of, mkfs_id_of, offset_at, plugin_at}
 use Rattle.r4_node40.specs.Edits.{InsertsItem, ResizesItem, growth, resized}
 use Rattle.r4_node40.specs.Laid.{IsLaid, IsNode, WritesBody, room_of, span_at}
 use Rattle.r4_node40.proofs.Accepted.{space}
@@ -97,13 +97,14 @@ need_new it n e = grind (arith, nat_tests, e)
 pub need_old : (it : Item) (n : ℕ) → 1 ≤ length it.body → need it n ≡ n
 need_old it n e = grind (arith, nat_tests, e)
 
-holds : (old : List ℕ) (i : ℕ) (it : Item) (ws c : List ℕ) → IsNode old → IsNode c → level_of c ≡ 1 → items_of c ≡ take i (items_of old) ++ (record { key = it.key; plugin = it.plugin; body = ws }) ∷ []
+holds : (old : List ℕ) (i : ℕ) (it : Item) (ws c : List ℕ) → IsNode old → IsNode c → level_of c ≡ 1 → mkfs_id_of c ≡ mkfs_id_of old → items_of c ≡ take i (items_of old) ++ (record { key = it.key; plugin = it.plugin; body = ws }) ∷ []
     → ((length it.body ≡ 0) × (take i (items_of old) ≡ items_of old)) ⊎ ((1 ≤ length it.body) × (items_of old ≡ take i (items_of old) ++ it ∷ [])) → Holds old i it ws c
 unfolding weight
-holds old i it ws c node_old node_new level items (inl h) = record {
+holds old i it ws c node_old node_new level mkfs_id items (inl h) = record {
   node = node_new;
   level = level;
   items = items;
+  mkfs_id = mkfs_id;
   room =
       let a : room_of c + weight (items_of c) ≡ 4068 = space c node_new.laid in
       let b : room_of old + weight (items_of old) ≡ 4068 = space old node_old.laid in
@@ -114,10 +115,11 @@ holds old i it ws c node_old node_new level items (inl h) = record {
       let none = h.0 in
       omega (arith, a, b, same, one, before, n, none);
 }
-holds old i it ws c node_old node_new level items (inr h) = record {
+holds old i it ws c node_old node_new level mkfs_id items (inr h) = record {
   node = node_new;
   level = level;
   items = items;
+  mkfs_id = mkfs_id;
   room =
       let a : room_of c + weight (items_of c) ≡ 4068 = space c node_new.laid in
       let b : room_of old + weight (items_of old) ≡ 4068 = space old node_old.laid in
@@ -157,7 +159,7 @@ module _ (b0 b1 : List ℕ) (i more : ℕ) (it : Item) (place : IsPlace b0 i it)
     keeps = ap (λ n. take n (span_at b1 i i)) none ∙ sym (nothing it.body none);
     written = λ ws c long w.
         let r = last_written b1 (items_of b0) blank i node1 items1 (sym whole) ws c w in
-        holds b0 i it ws c place.node r.0 (w.head.level ∙ (put.head.level ∙ place.level)) (r.1 ∙ ap (λ l. l ++ (record { key = it.key; plugin = it.plugin; body = ws }) ∷ []) (sym all)) (inl (none, all));
+        holds b0 i it ws c place.node r.0 (w.head.level ∙ (put.head.level ∙ place.level)) (w.head.mkfs_id ∙ put.head.mkfs_id) (r.1 ∙ ap (λ l. l ++ (record { key = it.key; plugin = it.plugin; body = ws }) ∷ []) (sym all)) (inl (none, all));
   }
 
 -- ---- the item is made longer
@@ -223,7 +225,7 @@ module _ (b0 b1 : List ℕ) (i more len : ℕ) (it : Item) (place : IsPlace b0 i
       keeps = ap (take (length it.body)) (last_span b1 (take i (items_of b0)) longer i node_longer items_longer before_long) ∙ (take-append-le (length it.body) it.body (replicate more 0) (omega arith) ∙ take_all (length it.body) it.body (omega arith));
       written = λ ws c long w.
           let r = last_written b1 (take i (items_of b0)) longer i node_longer items_longer before_long ws c w in
-          holds b0 i it ws c place.node r.0 (w.head.level ∙ (put.head.level ∙ place.level)) r.1 (inr (some, old_items));
+          holds b0 i it ws c place.node r.0 (w.head.level ∙ (put.head.level ∙ place.level)) (w.head.mkfs_id ∙ put.head.mkfs_id) r.1 (inr (some, old_items));
     }
 
 pub need_least : (it : Item) (n : ℕ) → n ≤ need it n

@@ -1,6 +1,6 @@
 -- Leaves that are filled one after the other.
 use Rattle.std.proofs.Common.{◌≡◌, ℕ, suc, ◌+◌, ◌-◌, ◌^◌, ◌<◌, ◌≤◌, Bool, true, false, ◌&&◌, List, [], ◌∷◌, ◌++◌, length, cond, inl, inr, refl, sym, ap, subst, ◌∙◌, arith}
-use Rattle.std.specs.Prelude.{slice_get, Some, None, ◌==◌, nat_le, nat_lt, reverse, if◌then◌else◌}
+use Rattle.std.specs.Prelude.{slice_get, Option, Some, None, ◌==◌, nat_le, nat_lt, reverse, if◌then◌else◌}
 use Rattle.std.proofs.lemmas.Bool.{eq-eqb, le-leb, lt-ltb}
 use Rattle.std.proofs.lemmas.List.{append_assoc, append-nil, length-append, reverse-append}
 use Rattle.std.proofs.lemmas.Option.{same_Some}
@@ -12,7 +12,7 @@ use Rattle.r4_base.specs.Name.{is_long_name}
 use Rattle.r4_base.specs.Stat.{attr_of}
 use Rattle.r4_base.specs.declared.items.Attr.{Attr}
 use Rattle.r4_cde.specs.Shown.{entry_shown}
-use Rattle.r4_base.specs.Node.{Item, KeysRise, PluginsFit, count_of, is_empty_branch, items_of, level_of, node_fault}
+use Rattle.r4_base.specs.Node.{Item, KeysRise, PluginsFit, count_of, is_empty_branch, items_of, level_of, mkfs_id_of, node_fault}
 use Rattle.r4_base.specs.Value.{Stat as StatValue, Byte}
 use Rattle.r4_base.specs.declared.node.NodeFault.TheVariants.{Empty}
 use Rattle.r4_base.proofs.Names.{is_name}
@@ -21,7 +21,7 @@ use Rattle.r4_node40.proofs.Accepted.{accepted}
 use Rattle.r4_leaf.specs.Filling.{IsFilled, last_of}
 use Rattle.r4_leaf.specs.Items.{Lie}
 use Rattle.r4_leaf.specs.Leaves.{MayStand, Packs}
-use Rattle.r4_leaf.specs.Packing.{Fills, FillsUp, IsLeft, Stops}
+use Rattle.r4_leaf.specs.Packing.{Fills, FillsUp, IsLeft, Stops, TakesPiece}
 use Rattle.r4_leaf.specs.Pieces.{Follow, IsSound, piece_end, piece_key, piece_units, units_of}
 use Rattle.r4_leaf.specs.Filling.{Puts}
 use Rattle.r4_leaf.specs.Units.{LeafUnit, entry_bytes, leaf_bytes, unit_bytes}
@@ -120,6 +120,11 @@ module _ (lo hi : ℕ) (pieces ps qs : List Piece) (p : Piece) (b c : List ℕ) 
     filled = puts.filled lo f.to f.us f.filled behind.0;
     follow = behind.2;
   }
+
+  -- the mkfs_id stays
+  pub takes_kept : (left : Option Piece) → TakesPiece p left b c → mkfs_id_of c ≡ mkfs_id_of b
+  takes_kept None puts = puts.mkfs_id lo f.to f.us f.filled behind.0
+  takes_kept (Some q) l = l.puts.mkfs_id lo f.to f.us f.filled behind.0
 
   pub fill_stops : (q : Piece) (new : List Piece) → new ≡ qs ++ q ∷ [] → IsLeft p q b c → FillsUp lo hi pieces new c
   fill_stops q new pushed l = record {

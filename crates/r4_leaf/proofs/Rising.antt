@@ -37,13 +37,13 @@ bytes_append k (x ∷ xs) ys = ap (λ us. (k, Byte x) ∷ us) (bytes_append (k +
 
 -- ---- what is cut out
 
-below_kept : (from to k : ℕ) → k < from → not (is_between from to k) ≡ true
+pub below_kept : (from to k : ℕ) → k < from → not (is_between from to k) ≡ true
 below_kept from to k lt = grind (arith, nat_tests, lt)
 
-above_kept : (from to k : ℕ) → to ≤ k → not (is_between from to k) ≡ true
+pub above_kept : (from to k : ℕ) → to ≤ k → not (is_between from to k) ≡ true
 above_kept from to k le = grind (arith, nat_tests, le)
 
-between_cut : (from to k : ℕ) → from ≤ k → k < to → not (is_between from to k) ≡ false
+pub between_cut : (from to k : ℕ) → from ≤ k → k < to → not (is_between from to k) ≡ false
 between_cut from to k le lt = grind (arith, nat_tests, le, lt)
 
 pub cut_low : (from to a b : ℕ) (us : List LeafUnit) → b ≤ from → Rise a b us → cut_units from to us ≡ us
@@ -73,7 +73,7 @@ cut_all from to a b (u ∷ us) le end h =
 
 -- ---- what is put in
 
-put_behind : (u : LeafUnit) (a : ℕ) (us ws : List LeafUnit) → Rise a u.0 us → put_unit u (us ++ ws) ≡ us ++ put_unit u ws
+pub put_behind : (u : LeafUnit) (a : ℕ) (us ws : List LeafUnit) → Rise a u.0 us → put_unit u (us ++ ws) ≡ us ++ put_unit u ws
 put_behind u a [] ws h = refl
 put_behind u a (x ∷ us) ws h =
     let order = rise_order (x.0 + 1) u.0 us h.1 in

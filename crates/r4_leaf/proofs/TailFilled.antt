@@ -258,7 +258,7 @@ pub need_is : (it : Item) (used n : ℕ) → length it.body ≡ used → need it
 need_is it used n is = ap (λ (m : ℕ). n + (if m == 0 then 38 else 0)) is
 
 pub puts_none : (from : ℕ) (b : List ℕ) → Puts from (from + 0) [] b b
-puts_none from b = record { filled = λ lo mid us f le. record { node = f.node; level = f.level; lie = lie_wider lo mid (from + 0) (items_of b) (omega (arith, le)) f.lie; units = f.units ∙ sym (append-nil us); room = ap (λ vs. room_of b + leaf_bytes vs) (append-nil us) ∙ f.room } }
+puts_none from b = record { filled = λ lo mid us f le. record { node = f.node; level = f.level; lie = lie_wider lo mid (from + 0) (items_of b) (omega (arith, le)) f.lie; units = f.units ∙ sym (append-nil us); room = ap (λ vs. room_of b + leaf_bytes vs) (append-nil us) ∙ f.room }; mkfs_id = λ lo mid us f le. refl }
 
 module _ (b c : List ℕ) (key : Key) (i used : ℕ) (p : IsPlaceFor b key 6 i used) (is_key : IsKey key) (bytes : List ℕ) (some : 1 ≤ length bytes) (short : offset_of key + length bytes ≤ 16384)
     (room : length bytes + (if used == 0 then 38 else 0) ≤ room_of b)
@@ -271,6 +271,7 @@ module _ (b c : List ℕ) (key : Key) (i used : ℕ) (p : IsPlaceFor b key 6 i u
     filled = λ lo mid us f le.
         let t = takes_bytes lo mid us b key i used f le p in
         filled_more lo mid us b i t.0 (t.0.body ++ bytes) c (bytes_from (rank key) bytes) (rank key) (rank key + length bytes) f t.1.place (held t.0 t.1) le (tail_grows lo mid us b key i used f le p t.0 t.1 is_key bytes some short);
+    mkfs_id = λ lo mid us f le. let t = takes_bytes lo mid us b key i used f le p in (held t.0 t.1).mkfs_id;
   }
 
   pub room_left : (lo mid : ℕ) (us : List LeafUnit) → IsFilled lo mid us b → mid ≤ rank key → room_of c + (length bytes + (if used == 0 then 38 else 0)) ≡ room_of b
@@ -313,6 +314,7 @@ module _ (b c : List ℕ) (key : Key) (i used : ℕ) (p : IsPlaceFor b key 0 i u
   stat_puts h = record {
     filled = λ lo mid us f le.
         filled_more lo mid us b i (record { key = key; plugin = 0; body = [] }) body c ((rank key, Stat (attr_of body)) ∷ []) (rank key) (rank key + 1) f (stat_place lo mid us b key i used f le p) h le (stat_grows lo mid us b key i used f le p is_key body good);
+    mkfs_id = λ lo mid us f le. h.mkfs_id;
   }
 
 pub full_for_stat : (k : ℕ) (b body : List ℕ) → fault_in (stat_of body) ≡ None → room_of b < length body + 38 → IsFullFor (k, Stat (attr_of body)) b

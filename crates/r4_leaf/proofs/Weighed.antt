@@ -5,6 +5,7 @@ use Rattle.std.proofs.lemmas.Bool.Decides.{nat_tests}
 use Rattle.r4_base.specs.Cell.{bytes_from, entry_unit}
 use Rattle.r4_base.specs.Dir.{Entry as DirEntry}
 use Rattle.r4_base.specs.Key.{IsKey, rank}
+use Rattle.r4_base.specs.Name.{is_long_name}
 use Rattle.r4_base.specs.Value.{Stat as StatValue, Entry as EntryValue, Byte}
 use Rattle.r4_base.specs.declared.items.Attr.{Attr}
 use Rattle.r4_base.specs.declared.items.Target.{Target}
@@ -68,6 +69,20 @@ tail_most : (t : Bool) → tail_header t ≤ 38
 unfolding tail_header
 tail_most true = omega arith
 tail_most false = omega arith
+
+-- an entry and a byte of a tail weigh at most so much
+pub entry_weighs : (before : Option LeafUnit) (k : ℕ) (name : List ℕ) (target : Target) → (unit_bytes before (k, EntryValue name target) ≤ 66 + entry_bytes name) × (24 ≤ entry_bytes name)
+entry_weighs before k name target =
+    let cost = entry_costs before k name target in
+    let most = entry_most (continues_entries before k) in
+    (omega (arith, cost, most), by_test (is_long_name name))
+  where
+    by_test : (t : Bool) → 24 ≤ (if t then 24 + (length name + 1) else 24)
+    by_test true = omega arith
+    by_test false = omega arith
+
+pub tail_weighs : (before : Option LeafUnit) (k x : ℕ) → unit_bytes before (k, Byte x) ≤ 39
+tail_weighs before k x = let cost = tail_costs before k x in let most = tail_most (continues_tail before k) in omega (arith, cost, most)
 
 entry_full : entry_header false ≡ 40
 unfolding entry_header

@@ -4,7 +4,7 @@ use Rattle.r4_base.specs.Cell.{units_in}
 use Rattle.r4_base.specs.Dir.{Entry as DirEntry, dir_fault, entries_of}
 use Rattle.r4_base.specs.Key.{IsBelow, IsKey, rank}
 use Rattle.r4_base.specs.Name.{is_long_name}
-use Rattle.r4_base.specs.Node.{Item, count_of, items_of, level_of}
+use Rattle.r4_base.specs.Node.{Item, count_of, items_of, level_of, mkfs_id_of}
 use Rattle.r4_base.specs.declared.key.Key.{Key}
 use Rattle.r4_node40.specs.Edits.{GoesBetween}
 use Rattle.r4_node40.specs.Laid.{IsLaid, IsNode, WritesBody, room_of, span_at}
@@ -23,9 +23,10 @@ pub record IsFilled (lo to : ℕ) (us : List LeafUnit) (b : List ℕ) : Type 0 w
 abbrev pub last_of : List LeafUnit → Option LeafUnit
 last_of us = slice_get us (length us - 1)
 
--- The units are put behind those that the leaf has.
+-- The units are put behind those that the leaf has, and its mkfs_id stays.
 pub record Puts (from to : ℕ) (vs : List LeafUnit) (old new : List ℕ) : Type 0 where
   pub filled : (lo mid : ℕ) (us : List LeafUnit) → IsFilled lo mid us old → mid ≤ from → IsFilled lo to (us ++ vs) new
+  pub mkfs_id : (lo mid : ℕ) (us : List LeafUnit) → IsFilled lo mid us old → mid ≤ from → mkfs_id_of new ≡ mkfs_id_of old
 
 -- The leaf has no room for the unit.
 pub record IsFullFor (u : LeafUnit) (b : List ℕ) : Type 0 where
@@ -45,12 +46,13 @@ pub record IsPlace (b : List ℕ) (i : ℕ) (it : Item) : Type 0 where
 abbrev pub need : Item → ℕ → ℕ
 need it more = more + (if length it.body == 0 then 38 else 0)
 
--- The last item has this body, and the other items are as before.
+-- The last item has this body, and the other items and the mkfs_id are as before.
 pub record Holds (old : List ℕ) (i : ℕ) (it : Item) (ws new : List ℕ) : Type 0 where
   pub node : IsNode new
   pub level : level_of new ≡ 1
   pub items : items_of new ≡ take i (items_of old) ++ (record { key = it.key; plugin = it.plugin; body = ws }) ∷ []
   pub room : room_of new + need it (length ws) ≡ room_of old + length it.body
+  pub mkfs_id : mkfs_id_of new ≡ mkfs_id_of old
 
 -- The body of the last item has been made longer by so many bytes, which are to be written.
 pub record Opens (old : List ℕ) (i : ℕ) (it : Item) (more : ℕ) (new : List ℕ) : Type 0 where

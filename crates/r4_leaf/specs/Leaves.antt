@@ -1,8 +1,8 @@
 -- Leaves that share out units, and items that may be put in (docs/volume.md, "Leaves").
-use Rattle.std.specs.Prelude.{◌≡◌, ◌⊎◌, ℕ, ◌+◌, ◌-◌, ◌*◌, ◌^◌, ◌<◌, ◌≤◌, List, [], ◌∷◌, ◌++◌, length, slice_get, Contains, true, None}
+use Rattle.std.specs.Prelude.{◌≡◌, ◌⊎◌, ℕ, ◌+◌, ◌-◌, ◌*◌, ◌^◌, ◌<◌, ◌≤◌, List, [], ◌∷◌, ◌++◌, length, slice_get, All, Contains, true, None}
 use Rattle.r4_base.specs.Cell.{cell_fault, item_body_fault, units_in}
 use Rattle.r4_base.specs.Key.{rank}
-use Rattle.r4_base.specs.Node.{Item, items_of}
+use Rattle.r4_base.specs.Node.{Item, items_of, mkfs_id_of}
 use Rattle.r4_base.specs.Value.{Value}
 use Rattle.r4_leaf.specs.Units.{LeafUnit, leaf_bytes, unit_bytes}
 use Rattle.r4_leaf.specs.declared.leaf.Leaf.{Leaf}
@@ -31,6 +31,10 @@ Packs lo hi us [] = ⊥
 Packs lo hi us (x ∷ []) = IsLeaf lo hi us x
 Packs lo hi us (x ∷ (y ∷ more)) = (first : List LeafUnit) × (next : LeafUnit) × (rest : List LeafUnit) × (us ≡ first ++ next ∷ rest) × (rank y.lo ≡ next.0)
     × (lo < next.0) × IsLeaf lo next.0 first x × IsFull first next × Packs next.0 hi (next ∷ rest) (y ∷ more)
+
+-- Each of the leaves has this mkfs_id.
+abbrev pub HaveMkfsId : ℕ → List Leaf → Type 0
+HaveMkfsId id leaves = All (λ (x : Leaf). mkfs_id_of x.block ≡ id) leaves
 
 -- Units that need at most 4068 bytes are in one leaf; and others are in at most one more for each 1024 bytes that are too many, or a part of
 -- these.

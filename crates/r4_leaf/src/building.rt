@@ -1,11 +1,11 @@
 //! Leaves that are built anew of pieces (docs/volume.md, "Leaves").
 
-ghost use Rattle.std.specs.Prelude.{◌≡◌, ℕ, ◌<◌, ◌≤◌, IfOk};
+ghost use Rattle.std.specs.Prelude.{◌≡◌, ℕ, ◌≤◌, IfOk};
 ghost use Rattle.r4_base.specs.Cell.{item_end, item_units, units_in};
 ghost use Rattle.r4_base.specs.Key.{rank};
 ghost use Rattle.r4_node40.specs.View.{view_block, view_items};
-ghost use Rattle.r4_leaf.specs.Items.{Lie};
-ghost use Rattle.r4_leaf.specs.Leaves.{AreApart, IsGiven, Packs};
+ghost use Rattle.r4_leaf.specs.Items.{IsSoundItem, Lie};
+ghost use Rattle.r4_leaf.specs.Leaves.{AreApart, HaveMkfsId, IsGiven, Packs};
 ghost use Rattle.r4_leaf.specs.Units.{cut_units, put_units};
 
 use crate::cutting::cut_pieces;
@@ -33,7 +33,8 @@ pub(crate) fn with_item<'a>(
     requires apart { AreApart (units_in (view_items leaf.now)) (item_units (record { key = key; plugin = plugin; body = body.now })) }
     ensures packs { IfOk result (λ v. (hi : ℕ) → Lie (rank lo) hi (view_items leaf.now) → item_end (record { key = key; plugin = plugin; body = body.now }) ≤ hi
         → Packs (rank lo) hi (put_units (item_units (record { key = key; plugin = plugin; body = body.now })) (units_in (view_items leaf.now))) v.items) }
-    ensures some { IfOk result (λ v. rank key < item_end (record { key = key; plugin = plugin; body = body.now })) }
+    ensures mkfs_id { IfOk result (λ v. HaveMkfsId mkfs_id v.items) }
+    ensures sound { IfOk result (λ v. IsSoundItem (record { key = key; plugin = plugin; body = body.now })) }
 {
     let pieces = pieces_of(alloc, leaf)?;
     let mut given = Vec::new(alloc);
@@ -52,8 +53,9 @@ pub(crate) fn without(
     to: &Key,
 ) -> Result<Vec<Leaf>, Memory>
     requires { (hi : ℕ) × Lie (rank lo) hi (view_items leaf.now) }
-    ensures { IfOk result (λ v. (hi : ℕ) → Lie (rank lo) hi (view_items leaf.now)
+    ensures packs { IfOk result (λ v. (hi : ℕ) → Lie (rank lo) hi (view_items leaf.now)
         → Packs (rank lo) hi (cut_units (rank from.now) (rank to.now) (units_in (view_items leaf.now))) v.items) }
+    ensures mkfs_id { IfOk result (λ v. HaveMkfsId mkfs_id v.items) }
 {
     let pieces = pieces_of(alloc, leaf)?;
     let left = cut_pieces(alloc, pieces, from, to)?;

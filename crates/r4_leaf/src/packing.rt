@@ -2,9 +2,10 @@
 
 ghost use Rattle.std.specs.Prelude.{◌≡◌, ℕ, ◌+◌, ◌<◌, [], reverse, OnOk, IfOk};
 ghost use Rattle.r4_base.specs.Key.{rank};
+ghost use Rattle.r4_base.specs.Node.{mkfs_id_of};
 ghost use Rattle.r4_node40.specs.Loan.{bytes_of, with_bytes};
 ghost use Rattle.r4_leaf.specs.Filling.{IsFilled};
-ghost use Rattle.r4_leaf.specs.Leaves.{Packs};
+ghost use Rattle.r4_leaf.specs.Leaves.{HaveMkfsId, Packs};
 ghost use Rattle.r4_leaf.specs.Packing.{FillsUp};
 ghost use Rattle.r4_leaf.specs.Pieces.{Follow, units_of};
 
@@ -16,7 +17,7 @@ use r4_node40::NodeMut;
 use std::alloc::Global;
 
 /// Leaves of pieces, of which the last one comes first, for a range that begins at `lo`. A leaf is filled before the next one
-/// is begun.
+/// is begun. All have the given mkfs_id.
 pub(crate) fn pack(
     alloc: Global,
     lo: Key,
@@ -24,7 +25,8 @@ pub(crate) fn pack(
     mut pieces: Vec<Piece<'_>>,
 ) -> Result<Vec<Leaf>, Memory>
     requires { (hi : ℕ) × Follow (rank lo) hi (reverse pieces.items) }
-    ensures { IfOk result (λ v. (hi : ℕ) → Follow (rank lo) hi (reverse pieces.entry.items) → Packs (rank lo) hi (units_of (reverse pieces.entry.items)) v.items) }
+    ensures packs { IfOk result (λ v. (hi : ℕ) → Follow (rank lo) hi (reverse pieces.entry.items) → Packs (rank lo) hi (units_of (reverse pieces.entry.items)) v.items) }
+    ensures mkfs_id { IfOk result (λ v. HaveMkfsId mkfs_id v.items) }
 {
     let mut leaves = Vec::new(alloc);
     let mut from = lo;
@@ -42,7 +44,8 @@ pub(crate) fn pack(
 /// Makes the block a leaf of the first pieces, as many as there is room for, and leaves the others.
 fn fill_block(block: &mut Block, mkfs_id: u32, pieces: &mut Vec<Piece<'_>>) -> Result<(), Memory>
     requires { (lo : ℕ) × (hi : ℕ) × Follow lo hi (reverse pieces.old.items) }
-    ensures { OnOk result ((lo hi : ℕ) → Follow lo hi (reverse pieces.old.items) → FillsUp lo hi pieces.old.items pieces.new.items block.new) }
+    ensures fills { OnOk result ((lo hi : ℕ) → Follow lo hi (reverse pieces.old.items) → FillsUp lo hi pieces.old.items pieces.new.items block.new) }
+    ensures mkfs_id { OnOk result (mkfs_id_of block.new ≡ mkfs_id) }
 {
     let mut node = NodeMut::format(block, 1, mkfs_id);
     fill(&mut node, pieces)
@@ -54,6 +57,7 @@ fn fill(node: &mut NodeMut<'_>, pieces: &mut Vec<Piece<'_>>) -> Result<(), Memor
     requires follow { (lo : ℕ) × (hi : ℕ) × Follow lo hi (reverse pieces.old.items) }
     ensures block { node.new ≡ with_bytes node.old (bytes_of node.new) }
     ensures fills { OnOk result ((lo hi : ℕ) → Follow lo hi (reverse pieces.old.items) → FillsUp lo hi pieces.old.items pieces.new.items (bytes_of node.new)) }
+    ensures mkfs_id { OnOk result (mkfs_id_of (bytes_of node.new) ≡ mkfs_id_of (bytes_of node.old)) }
 {
     while let Some(piece) = pieces.pop() {
         if let Some(left) = put(node, piece) {

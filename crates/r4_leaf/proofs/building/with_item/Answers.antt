@@ -9,7 +9,6 @@ use Rattle.r4_leaf.specs.Leaves.{AreApart, Packs}
 use Rattle.r4_leaf.specs.Pieces.{Adds, Follow, units_of}
 use Rattle.r4_leaf.specs.Units.{LeafUnit, put_units}
 use Rattle.r4_leaf.specs.declared.piece.Piece.{Piece}
-use Rattle.r4_leaf.proofs.SoundItems.{item_has_end}
 use Rattle.r4_leaf.proofs.Standing.{given_sound}
 use Rattle.r4_leaf.proofs.Filled.{lie_wider}
 use Rattle.r4_leaf.proofs.Following.{follow_wider}
@@ -54,12 +53,12 @@ returns-clause-packs c =
     if_ok c.pack.result _ _ (λ v p hi h le.
     subst (λ (ws : List LeafUnit). Packs (rank c.args.lo) hi ws v.items) (c.in_ok-all.ensures.units ∙ (λ i. put_units (us i) (c.in_ok-pieces.ensures.units i)))
     (p hi (c.in_ok-all.ensures.follow (rank c.args.lo) hi (c.in_ok-pieces.ensures.follow (rank c.args.lo) hi h)
-    (follow_given c.new-given.result.items c.add_item.new.pieces.items (rank c.args.lo) (rank c.args.key) end hi _ c.new-given.ensures.items c.in_ok-add_item.ensures c.requires.from le)))) c.pack.ensures
+    (follow_given c.new-given.result.items c.add_item.new.pieces.items (rank c.args.lo) (rank c.args.key) end hi _ c.new-given.ensures.items c.in_ok-add_item.ensures c.requires.from le)))) c.pack.ensures.packs
 
 pub add_item-requires : goal.add_item-requires
 add_item-requires c = given_sound (record { key = c.args.key; plugin = c.args.plugin; body = c.args.body.now }) c.requires.given (is_key c.args.key (search rules) (search rules) (search rules) (search rules) (search rules))
 
-pub returns-clause-some : goal.returns-clause-some
-returns-clause-some c =
+pub returns-clause-sound : goal.returns-clause-sound
+returns-clause-sound c =
     let it : Item = record { key = c.args.key; plugin = c.args.plugin; body = c.args.body.now } in
-    if_ok c.pack.result _ _ (λ v p. item_has_end it (given_sound it c.requires.given (is_key c.args.key (search rules) (search rules) (search rules) (search rules) (search rules)))) c.pack.ensures
+    if_ok c.pack.result _ _ (λ v p. given_sound it c.requires.given (is_key c.args.key (search rules) (search rules) (search rules) (search rules) (search rules))) c.pack.ensures.packs
