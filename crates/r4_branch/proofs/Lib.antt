@@ -1,0 +1,15 @@
+pub mod Following
+pub mod SoundItems
+pub mod UnitPieces
+pub mod Lying
+pub mod Standing
+pub mod Opened
+pub mod Bodied
+pub mod Filled
+pub mod Joined
+pub mod Spelled
+pub mod Growing
+pub mod Putting
+pub mod Packed
+pub mod Counted
+pub mod ItemPieces
