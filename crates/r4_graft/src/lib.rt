@@ -1,0 +1,8 @@
+//! Pieces of a twig that are put among others, parted, or taken away (docs/volume.md, "Twigs").
+#![tactic(auto)]
+
+mod parting;
+mod splicing;
+
+pub use parting::part_at;
+pub use splicing::{place_of, splice};
