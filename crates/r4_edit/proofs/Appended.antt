@@ -84,4 +84,5 @@ module _ (b0 b1 body : List ℕ) (n plugin : ℕ) (key : Key) (counted : n ≡ c
         ∙ (λ i. items_of b0 ++ record { key = (shown i).key; plugin = (shown i).plugin; body = body } ∷ [])));
     level = wrote.head.level ∙ put.head.level;
     room = ap (λ k. k + length body + 38) wrote.room ∙ put.room;
+    mkfs_id = wrote.head.mkfs_id ∙ put.head.mkfs_id;
   }

@@ -15,7 +15,8 @@ use Rattle.r4_patch.specs.Joining.{ids_of, patch_of_change}
 use Rattle.r4_patch.specs.Part.{IsPart, MeetsPart}
 use Rattle.r4_patch.proofs.PartCells.{one_above}
 use Rattle.r4_edit.specs.Growing.{IsPathIn}
-use Rattle.r4_edit.specs.Levels.{AreNeeded, CanClimb, Climbed, HasLevels, IsLongEnough, Keeps, Leads, Rises, Suffices}
+use Rattle.r4_edit.specs.Levels.{AreNeeded, CanClimb, Climbed, HasLevels, HaveMkfsIdOf, IsLongEnough, KeepMkfsIds, Keeps, Leads}
+use Rattle.r4_edit.specs.Levels.{Rises, Suffices}
 use Rattle.r4_edit.specs.Nodes.{IsPointable}
 use Rattle.r4_edit.specs.Sharing.{IsSound}
 use Rattle.r4_edit.specs.Steps.{Ascends, Climbs, CountUp, IsPathChange, IsStep, Step, fresh_ids, name_of, news, olds}
@@ -33,6 +34,7 @@ pub record Begun (c : CellSeen) (f g : Fresh) (s : Step) : Type 0 where
   pub counts : CountUp f.next (ids_of (drop 1 s.new))
   pub number : g ≡ record f { next = f.next + length (drop 1 s.new) }
   pub few : length s.new ≤ 45
+  pub mkfs_id : HaveMkfsIdOf c s.new
 
 -- The change has these steps, from the lowest on.
 pub record Rose (c : CellSeen) (ups : List CellSeen) (f after : Fresh) (d : Change) (cells : List CellSeen) : Type 0 where
@@ -43,6 +45,7 @@ pub record Rose (c : CellSeen) (ups : List CellSeen) (f after : Fresh) (d : Chan
   pub climbs : Climbs None (record { old = c; new = cells } ∷ more)
   pub keep : (u : Step) → Contains more u → Keeps u
   pub needed : AreNeeded (record { old = c; new = cells } ∷ more)
+  pub mkfs_ids : KeepMkfsIds (record { old = c; new = cells } ∷ more) over
   pub root_units : (x : CellSeen) → over ≡ Some x → (node_of x).units ≡ []
   pub counts : CountUp f.next (fresh_ids (record { old = c; new = cells } ∷ more) over)
   pub number : after ≡ record f { next = f.next + length (fresh_ids (record { old = c; new = cells } ∷ more) over) }
@@ -165,6 +168,7 @@ module _ (c : CellSeen) (ups : List CellSeen) (f g : Fresh) (cells : List CellSe
       climbs = climbs;
       keep = up.keep;
       needed = up.needed;
+      mkfs_ids = up.mkfs_ids b.mkfs_id;
       root_units = up.root_units;
       counts = all_counts;
       number = all_number;

@@ -1,9 +1,9 @@
 -- What the node of a cell names and has, by its items.
 use Rattle.std.proofs.Common.{◌≡◌, ℕ, zero, suc, ◌^◌, ◌≤◌, true, List, [], ◌∷◌, length, map, refl, sym, ap, subst, ◌∙◌, arith}
-use Rattle.std.specs.Prelude.{All, None}
+use Rattle.std.specs.Prelude.{All, None, Some, slice_get}
 use Rattle.r4_base.specs.Cell.{cell_fault, cell_of, names_in, spans_in, units_in}
 use Rattle.r4_base.specs.Key.{least, rank, top}
-use Rattle.r4_base.specs.Node.{items_of}
+use Rattle.r4_base.specs.Node.{items_of, mkfs_id_of}
 use Rattle.r4_base.proofs.FreshTree.{least_below}
 use Rattle.r4_cell.proofs.Nodes.{cell_node}
 use Rattle.r4_cell.specs.Seen.{CellSeen, node_of}
@@ -62,8 +62,10 @@ module _ (l : ℕ) (cells : List CellSeen) (follow : Follow l least top cells) (
       (pointers_good level least top 0 least l cells follow able (omega arith) (λ e. refl))))
 
   pub root_is : (level id : ℕ) (x : CellSeen) → level ≡ suc l → x.id ≡ id → x.level ≡ level → rank x.lo ≡ least → rank x.hi
-      ≡ top → length x.block ≡ 4096 → IsNodeOf level (map pointer_item cells) x.block → IsPointingTo cells level id x
-  root_is level id x up xi xl from to whole node =
+      ≡ top → length x.block ≡ 4096 → IsNodeOf level (map pointer_item cells) x.block
+      → ((first : CellSeen) → slice_get cells 0 ≡ Some first → mkfs_id_of x.block ≡ mkfs_id_of first.block)
+      → IsPointingTo cells level id x
+  root_is level id x up xi xl from to whole node mkfs_id =
       let level_is : x.level ≡ suc l = xl ∙ up in
       record {
         number = xi;
@@ -80,4 +82,5 @@ module _ (l : ℕ) (cells : List CellSeen) (follow : Follow l least top cells) (
             (omega (arith, from)) (let low = least_below in omega (arith, low, from, to)) (omega (arith, to))
             (root_sound x.level (rank x.lo) (rank x.hi) x.block level_is from to
             (subst (λ k. IsNodeOf k (map pointer_item cells) x.block) (sym xl) node));
+        mkfs_id = mkfs_id;
       }

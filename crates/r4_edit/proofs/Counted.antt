@@ -16,7 +16,7 @@ index [] k d less = absurd (omega (arith, less))
 index (x ∷ xs) zero d less = here x xs
 index (x ∷ xs) (suc k) d less = later x (slice_index_or xs k d) xs (index xs k d (omega (arith, less)))
 
-count_once : (n : ℕ) (ids : List ℕ) → CountUp n ids → AllPairs (λ (i j : ℕ). i ≢ j) ids
+pub count_once : (n : ℕ) (ids : List ℕ) → CountUp n ids → AllPairs (λ (i j : ℕ). i ≢ j) ids
 count_once n [] counts = λ i j d a b. absurd (omega (arith, b))
 count_once n (i ∷ ids) (is, rest) = AllPairs-cons (λ (x y : ℕ). x ≢ y) i ids
     (λ k d less same. let w = count_within (n + 1) ids (slice_index_or ids k d) rest (index ids k d less) in omega
@@ -24,7 +24,7 @@ count_once n (i ∷ ids) (is, rest) = AllPairs-cons (λ (x y : ℕ). x ≢ y) i 
     (count_once (n + 1) ids rest)
 
 module _ (t : Store Value) (from to : ℕ) (free : IsFree from to t) where
-  unused : (n : ℕ) (ids : List ℕ) (i : ℕ) → CountUp n ids → from ≤ n → n + length ids ≤ to → Contains ids i → IsUnused t i
+  pub unused : (n : ℕ) (ids : List ℕ) (i : ℕ) → CountUp n ids → from ≤ n → n + length ids ≤ to → Contains ids i → IsUnused t i
   unused n ids i counts low high at =
       let w = count_within n ids i counts at in (
         free.cells i (omega (arith, w, low)) (omega (arith, w, high)),

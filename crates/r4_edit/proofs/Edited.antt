@@ -22,13 +22,13 @@ use Rattle.r4_edit.specs.Steps.{Step}
 use Rattle.r4_edit.proofs.Begun.{Begun, Enough, begun_change, begun_climbs, begun_meets, begun_rose}
 
 -- fewer cells ask for no more room
-fewer : (r : Root) (less come : ℕ) (c : CellSeen) (ups : List CellSeen) → less ≤ come → IsLongEnough r come c ups
+pub fewer : (r : Root) (less come : ℕ) (c : CellSeen) (ups : List CellSeen) → less ≤ come → IsLongEnough r come c ups
     → IsLongEnough r less c ups
 fewer r less come c [] le h = h
 fewer r less come c (d ∷ ups) le (inl room) = inl (omega (arith, room, le))
 fewer r less come c (d ∷ ups) le (inr more) = inr more
 
-part_of : (bytes n : ℕ) → 4068 < bytes → 1024 * n + 2020 < bytes → n ≤ 1 + (bytes - 4068 + 1023) / 1024
+pub part_of : (bytes n : ℕ) → 4068 < bytes → 1024 * n + 2020 < bytes → n ≤ 1 + (bytes - 4068 + 1023) / 1024
 part_of bytes n over more = omega (arith, over, more)
 
 -- the leaves are not more than were foreseen
@@ -60,6 +60,7 @@ module _ (leaf : CellSeen) (ups : List CellSeen) (us : List LeafUnit) (leaves : 
     counts = is.counts;
     number = is.number;
     few = let n = few.few in let many = is.many in omega (arith, n, many);
+    mkfs_id = is.mkfs_id;
   }
 
   come : length (drop 1 s.new) ≤ extra_cells us
@@ -102,6 +103,7 @@ module _ (leaf : CellSeen) (ups : List CellSeen) (us : List LeafUnit) (leaves : 
           climbs = rose.climbs;
           keep = rose.keep;
           needed = rose.needed;
+          mkfs_ids = rose.mkfs_ids;
           root_units = rose.root_units;
           counts = rose.counts;
           number = rose.number;

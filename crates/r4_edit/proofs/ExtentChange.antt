@@ -168,7 +168,7 @@ names n = (
 
 -- ---- numbers
 
-unused : (i : ℕ) → extent_tree i ≡ None → IsUnused extent_tree i
+pub unused : (i : ℕ) → extent_tree i ≡ None → IsUnused extent_tree i
 unused i gone = (
   gone,
   λ named. let (n, (j, c, there, member), same) = named in

@@ -122,7 +122,15 @@ module _ (t : Store Value) (r : Root) (c over : CellSeen) (fresh : Fresh) (is : 
 
 pub grows_of : (c over : CellSeen) (next : ℕ) (d : Change) → IsPointingTo (c ∷ []) (c.level + 1) next over
     → HasNewRoot c over d → Grows c next d
-grows_of c over next d points h = record { over = over; cells = h; number = points.number; level = points.level_is; names = points.names; units = points.units }
+grows_of c over next d points h = record {
+  over = over;
+  cells = h;
+  number = points.number;
+  level = points.level_is;
+  names = points.names;
+  units = points.units;
+  mkfs_id = points.mkfs_id c refl;
+}
 
 pub points_at : (c d over : CellSeen) (l next : ℕ) → d ≡ c → l ≡ c.level → IsPointingTo (d ∷ []) (l + 1) next over
     → IsPointingTo (c ∷ []) (c.level + 1) next over

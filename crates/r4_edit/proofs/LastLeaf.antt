@@ -1,13 +1,14 @@
 -- The leaf of a path that is given from the top down, in whose place leaves come.
 use Rattle.std.proofs.Common.{◌≡◌, ◌≢◌, ◌+◌, ◌-◌, ◌<◌, List, [], ◌∷◌, length, map, take, get_or, sym, subst, arith}
 use Rattle.std.specs.Prelude.{min, reverse}
-use Rattle.r4_base.specs.Node.{Item}
+use Rattle.r4_base.specs.Node.{Item, mkfs_id_of}
 use Rattle.r4_base.specs.Tree.{Root, Store}
 use Rattle.r4_base.specs.Value.{Value}
 use Rattle.r4_base.specs.declared.key.Key.{Key}
 use Rattle.r4_cell.specs.Seen.{CellSeen}
 use Rattle.r4_cell.specs.declared.change.Change.{Change}
 use Rattle.r4_cell.specs.declared.change.Fresh.{Fresh}
+use Rattle.r4_leaf.specs.Leaves.{HaveMkfsId}
 use Rattle.r4_leaf.specs.Units.{LeafUnit}
 use Rattle.r4_leaf.specs.declared.leaf.Leaf.{Leaf}
 use Rattle.r4_edit.specs.Editing.{AreLeavesOf, EditsUp, IsCutIn, IsCutOutIn, IsCutOutUp, IsEditedIn, IsInsertIn, IsInsertedIn}
@@ -46,15 +47,17 @@ module _ {A : Type 0} (h : A → CellSeen) (path : List A) (x : A) (last : x ≡
   module _ (after : CellSeen → List LeafUnit) (some : length path ≢ 0) where
     pub replaced : (t : Store Value) (r : Root) (leaves : List Leaf) (seen : CellSeen) → seen ≡ h x
         → IsEditedIn t r (after (h x)) (h x) (reverse (map h (take (length path - 1) path))) f
-        → AreLeavesOf seen (after seen) leaves → f.next + length path + extra_for after (map h path) < f.end
+        → AreLeavesOf seen (after seen) leaves → HaveMkfsId (mkfs_id_of seen.block) leaves
+        → f.next + length path + extra_for after (map h path) < f.end
         → IsReplacedUp t r (after (h x)) leaves f (reverse (map h path))
-    replaced t r leaves seen same edited are numbers =
+    replaced t r leaves seen same edited are ids numbers =
         let up = last_first h path x some last in
         let extra = subst (λ cells. f.next + length path + min 15 (extra_up after cells) < f.end) up numbers in
         let long = long_above h path some in
         subst (IsReplacedUp t r (after (h x)) leaves f) (sym up) (record {
           edited = edited;
           leaves_are = subst (λ c. AreLeavesOf c (after c) leaves) same are;
+          mkfs_id = subst (λ c. HaveMkfsId (mkfs_id_of c.block) leaves) same ids;
           numbers = omega (arith, extra, long);
         })
 

@@ -3,15 +3,16 @@ use Rattle.std.proofs.Common.{◌≡◌, inl, inr, ℕ, ◌+◌, ◌^◌, ◌<�
 use Rattle.std.proofs.Common.{arith}
 use Rattle.std.specs.Prelude.{Contains, drop, None}
 use Rattle.std.proofs.lemmas.List.{append-nil, length-drop}
+use Rattle.std.proofs.lemmas.List.Elements.{All-contains}
 use Rattle.r4_base.specs.Cell.{cell_fault, units_in}
 use Rattle.r4_base.specs.Key.{rank}
-use Rattle.r4_base.specs.Node.{Item, items_of}
+use Rattle.r4_base.specs.Node.{Item, items_of, mkfs_id_of}
 use Rattle.r4_base.specs.Tree.{IsNode}
 use Rattle.r4_base.specs.declared.key.Key.{Key}
 use Rattle.r4_cell.proofs.NodesAt.{node_at}
 use Rattle.r4_cell.specs.Seen.{CellSeen, node_of}
 use Rattle.r4_cell.specs.declared.change.Fresh.{Fresh}
-use Rattle.r4_leaf.specs.Leaves.{IsLeaf, Packs}
+use Rattle.r4_leaf.specs.Leaves.{HaveMkfsId, IsLeaf, Packs}
 use Rattle.r4_leaf.specs.Units.{LeafUnit}
 use Rattle.r4_leaf.specs.declared.leaf.Leaf.{Leaf}
 use Rattle.r4_patch.specs.Joining.{ids_of}
@@ -21,7 +22,7 @@ use Rattle.r4_edit.specs.Sharing.{IsSound}
 use Rattle.r4_edit.specs.Steps.{CountUp, Follow, IsStep, Step}
 use Rattle.r4_edit.proofs.CellNodes.{units_are}
 use Rattle.r4_edit.proofs.Lying.{Good, good_parts}
-use Rattle.r4_edit.proofs.Members.{cases, none}
+use Rattle.r4_edit.proofs.Members.{cases, here, later, none}
 use Rattle.r4_edit.proofs.NewNodes.{leaf_step}
 use Rattle.r4_edit.proofs.Rising.{hi_is, lo_is}
 
@@ -73,7 +74,7 @@ module _ (x : Leaf) (id : ℕ) (hi : Key) where
   cell_units : (lo hi' : ℕ) (us : List LeafUnit) → IsLeaf lo hi' us x → (node_of cell).units ≡ us
   cell_units lo hi' us leaf = units_are cell 0 refl ∙ leaf.units
 
-counts_next : (next : ℕ) (cells : List CellSeen) → ids_of cells ≡ next ∷ ids_of (drop 1 cells)
+pub counts_next : (next : ℕ) (cells : List CellSeen) → ids_of cells ≡ next ∷ ids_of (drop 1 cells)
     → CountUp (next + 1) (ids_of (drop 1 cells)) → CountUp next (ids_of cells)
 counts_next next cells first counts = subst (CountUp next) (sym first) (refl, counts)
 
@@ -112,14 +113,30 @@ packed lo hi id next us (x ∷ (y ∷ more)) range (first, u, rest, same, from, 
       many = let h = others.many in omega (arith, h);
     }
 
+-- ---- the mkfs_id of the leaves is that of the cells
+
+leaf_ids : (m id next : ℕ) (hi : Key) (leaves : List Leaf) → ((x : Leaf) → Contains leaves x → mkfs_id_of x.block ≡ m)
+    → (c : CellSeen) → Contains (leaf_cells id next hi leaves) c → mkfs_id_of c.block ≡ m
+leaf_ids m id next hi [] h c member = absurd (none c member)
+leaf_ids m id next hi (x ∷ []) h c member = elim (cases (cell x id hi) c [] member) [
+  | inl is ↦ ap (λ (d : CellSeen). mkfs_id_of d.block) is ∙ h x (here x [])
+  | inr more ↦ absurd (none c more)
+]
+leaf_ids m id next hi (x ∷ (y ∷ more)) h c member =
+    elim (cases (cell x id y.lo) c (leaf_cells next (next + 1) hi (y ∷ more)) member) [
+      | inl is ↦ ap (λ (d : CellSeen). mkfs_id_of d.block) is ∙ h x (here x (y ∷ more))
+      | inr rest ↦ leaf_ids m next (next + 1) hi (y ∷ more) (λ z at. h z (later x z (y ∷ more) at)) c rest
+    ]
+
 -- ---- the lowest step
 
 pub leaves_step : (leaf : CellSeen) (us : List LeafUnit) (leaves : List Leaf) (x : Leaf) (more : List Leaf) (f g : Fresh)
     (s : Step) → IsNode (node_of leaf) → leaf.level ≡ 1
     → leaves ≡ x ∷ more → Packs (rank leaf.lo) (rank leaf.hi) us leaves → s.old ≡ leaf → s.new
     ≡ leaf_cells leaf.id f.next leaf.hi (x ∷ more) → g ≡ record f { next = f.next + length more }
+    → HaveMkfsId (mkfs_id_of leaf.block) leaves
     → IsLeafStep leaf us (length leaves) f g s
-leaves_step leaf us leaves x more f g s node level parts p old new took =
+leaves_step leaf us leaves x more f g s node level parts p old new took ids =
     let some = node.nonempty in
     let lo = lo_is leaf in
     let hi = hi_is leaf in
@@ -139,6 +156,9 @@ leaves_step leaf us leaves x more f g s node level parts p old new took =
       });
       units = is.units;
       many = is.many;
+      mkfs_id = λ c member. leaf_ids (mkfs_id_of leaf.block) leaf.id f.next leaf.hi leaves
+          (λ y. All-contains (λ (z : Leaf). mkfs_id_of z.block ≡ mkfs_id_of leaf.block) leaves y ids) c
+          (subst (λ cs. Contains cs c) cells member);
     }
 
 pub no_leaves : (lo hi : ℕ) (us : List LeafUnit) (leaves : List Leaf) → length leaves ≡ 0 → Packs lo hi us leaves → ⊥

@@ -7,6 +7,10 @@ pub mod Cuts
 pub mod Edited
 pub mod Filling
 pub mod Finding
+pub mod Grafted
+pub mod GraftBelow
+mod GraftLaw
+mod GraftNumbers
 pub mod Grown
 pub mod Lying
 pub mod LastLeaf
@@ -22,6 +26,7 @@ pub mod RowPlaces
 pub mod Rows
 pub mod Shared
 pub mod ShortPath
+pub mod ShortOver
 pub mod Stepping
 pub mod Upwards
 pub mod OnPath
@@ -34,10 +39,36 @@ pub mod Pointers
 mod Counted
 mod ExtentBack
 mod ExtentChange
+mod ExtentPieces
 mod Instance
 mod Ordered
 mod Reordered
 mod TwigBelow
+pub mod TwigCells
 mod TwigNames
 mod TwigPatch
 pub mod Trying
+pub mod Gaps
+pub mod Spread
+pub mod PutUnits
+pub mod TwigLent
+pub mod LastCell
+pub mod OverPieces
+pub mod CutEnds
+pub mod CutPointers
+pub mod CutParts
+pub mod CutNames
+pub mod CutTaken
+pub mod CutOut
+pub mod CutGraft
+pub mod CutPath
+pub mod LeafItems
+pub mod SidesOfKey
+pub mod PartedLeaf
+pub mod NewLeaves
+pub mod OverLeaf
+pub mod OverPath
+pub mod OverUnits
+pub mod LeafAmong
+pub mod PutKinds
+pub mod CutKinds

@@ -26,6 +26,7 @@ module _ (c : CellSeen) (ups : List CellSeen) (f g : Fresh) (s : Step) (p : IsPa
     counts = p.has.fresh;
     number = p.took ∙ (λ i. record f { next = f.next + sym one_comes i });
     few = let two = p.two in omega (arith, two);
+    mkfs_id = p.has.mkfs_id;
   }
 
   enough : (t : Store Value) (r : Root) → IsPartedIn t r c ups f → Enough r s c ups
@@ -57,6 +58,7 @@ module _ (c : CellSeen) (ups : List CellSeen) (f g : Fresh) (s : Step) (p : IsPa
           units = p.units;
           keep = rose.keep;
           needed = rose.needed;
+          mkfs_ids = rose.mkfs_ids;
           root_units = rose.root_units;
           counts = rose.counts;
           number = rose.number;

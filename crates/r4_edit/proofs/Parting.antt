@@ -3,7 +3,7 @@ use Rattle.std.proofs.Common.{◌≡◌, ℕ, zero, suc, ◌+◌, ◌^◌, ◌<�
 use Rattle.std.specs.Prelude.{All, Contains, Some, None, slice_get}
 use Rattle.r4_base.specs.Cell.{cell_fault, names_in, spans_in, units_in}
 use Rattle.r4_base.specs.Key.{rank}
-use Rattle.r4_base.specs.Node.{KeysRise, PluginsFit, items_of, level_of}
+use Rattle.r4_base.specs.Node.{KeysRise, PluginsFit, items_of, level_of, mkfs_id_of}
 use Rattle.r4_base.specs.Tree.{IsNode as IsTreeNode}
 use Rattle.r4_cell.specs.Seen.{CellSeen, node_of}
 use Rattle.r4_cell.specs.declared.change.Fresh.{Fresh}
@@ -53,8 +53,8 @@ module _ (c : CellSeen) (w : Row) (s : IsSound c) (one : 1 ≤ c.level) (range :
   within : w.at < length (view_items w.node)
   within = let a = ap length items in let z = at_zero in let n = two in omega (arith, a, z, n)
 
-  pub own_row : IsRowOf c w
-  own_row = record {
+  pub own_row : w.mkfs_id ≡ mkfs_id_of c.block → IsRowOf c w
+  own_row mkfs_id = record {
     row = record {
       within = within;
       few = let a = ap length items in let d = weighs_length (items_of c.block) in let m = node_weighs c.block node.laid in
@@ -77,6 +77,7 @@ module _ (c : CellSeen) (w : Row) (s : IsSound c) (one : 1 ≤ c.level) (range :
     range = range;
     some = let a = ap length same_row in let n = two in omega (arith, a, n);
     good = subst (Good c.level (rank c.lo) (rank c.hi) 0) (sym same_row) at.items;
+    mkfs_id = mkfs_id;
   }
 
   pub own_two : 2 ≤ length (row_items w)
@@ -135,6 +136,7 @@ pub record Lent (c p q : CellSeen) (w : Row) : Type 0 where
   pub view : (view_block w.node).now ≡ p.block
   pub whole : length p.block ≡ 4096
   pub accepted : cell_fault true (2 ^ 64) p.level (rank p.lo) (rank p.hi) p.block ≡ None
+  pub mkfs_id : w.mkfs_id ≡ mkfs_id_of p.block
   pub at_zero : w.at ≡ 0
   pub none_come : row_more w ≡ []
   pub tree_node : IsTreeNode (node_of c)
@@ -153,7 +155,8 @@ module _ (c p q : CellSeen) (w : Row) (lent : Lent c p q w) where
 
   pub lent_row : IsRowOf q w
   lent_row = subst (λ x. IsRowOf x w) (sym lent.q_is)
-      (own_row c w sound_cell lent.low wide view_cell lent.at_zero lent.none_come lent.two)
+      (own_row c w sound_cell lent.low wide view_cell lent.at_zero lent.none_come lent.two
+      (lent.mkfs_id ∙ ap (λ (x : CellSeen). mkfs_id_of x.block) lent.p_is))
 
   pub lent_two : 2 ≤ length (row_items w)
   lent_two = own_two c w sound_cell lent.low wide view_cell lent.at_zero lent.none_come lent.two

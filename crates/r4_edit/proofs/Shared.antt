@@ -6,7 +6,7 @@ use Rattle.std.proofs.lemmas.List.{append-nil, length-drop}
 use Rattle.std.proofs.lemmas.Option.{same_Some}
 use Rattle.r4_base.specs.Cell.{cell_fault}
 use Rattle.r4_base.specs.Key.{rank}
-use Rattle.r4_base.specs.Node.{Item, items_of}
+use Rattle.r4_base.specs.Node.{Item, items_of, mkfs_id_of}
 use Rattle.r4_base.specs.declared.key.Key.{Key}
 use Rattle.r4_cell.specs.Seen.{CellSeen}
 use Rattle.r4_edit.specs.Nodes.{IsNodeOf, weight}
@@ -65,8 +65,9 @@ module _ (o : CellSeen) (w : Row) (is : IsRowOf o w) where
       (λ two. omega (arith, some)) is.good)))
 
   pub one_has : (c : CellSeen) → c.id ≡ o.id → c.level ≡ o.level → c.lo ≡ o.lo → c.hi ≡ o.hi
-      → IsNodeOf (row_level w) (row_items w) c.block → (next : ℕ) → HasItems o (row_items w) next (c ∷ [])
-  one_has c id level lo hi node next =
+      → IsNodeOf (row_level w) (row_items w) c.block → mkfs_id_of c.block ≡ w.mkfs_id → (next : ℕ)
+      → HasItems o (row_items w) next (c ∷ [])
+  one_has c id level lo hi node mkfs_id next =
       let range = is.range in
       let at = ap rank lo in
       record {
@@ -79,6 +80,10 @@ module _ (o : CellSeen) (w : Row) (is : IsRowOf o w) where
           | inr more ↦ absurd (none x more)
         ];
         fresh = tt;
+        mkfs_id = λ x member. elim (cases c x [] member) [
+          | inl e ↦ subst (λ (y : CellSeen). mkfs_id_of y.block ≡ mkfs_id_of o.block) (sym e) (mkfs_id ∙ is.mkfs_id)
+          | inr more ↦ absurd (none x more)
+        ];
       }
 
   -- ---- two nodes
@@ -169,9 +174,9 @@ module _ (o : CellSeen) (w : Row) (is : IsRowOf o w) where
     pub two_has : (next : ℕ) (a b : CellSeen) → a.id ≡ o.id → b.id ≡ next → a.level ≡ o.level → b.level ≡ o.level → a.lo
         ≡ o.lo → a.hi ≡ key → b.lo ≡ key → b.hi ≡ o.hi
         → IsNodeOf (row_level w) (row_part w 0 cut) a.block
-        → IsNodeOf (row_level w) (row_part w cut (length (row_items w))) b.block
-        → HasItems o (row_items w) next (a ∷ (b ∷ []))
-    two_has next a b ai bi al bl alo ahi blo bhi left right =
+        → IsNodeOf (row_level w) (row_part w cut (length (row_items w))) b.block → mkfs_id_of a.block ≡ w.mkfs_id
+        → mkfs_id_of b.block ≡ w.mkfs_id → HasItems o (row_items w) next (a ∷ (b ∷ []))
+    two_has next a b ai bi al bl alo ahi blo bhi left right am bm =
         let low = low_below in
         let at_key = ap rank (ahi ∙ key_y) in
         let from_key = ap rank (blo ∙ key_y) in
@@ -208,6 +213,13 @@ module _ (o : CellSeen) (w : Row) (is : IsRowOf o w) where
             ]
           ];
           fresh = (bi, tt);
+          mkfs_id = λ x member. elim (cases a x (b ∷ []) member) [
+            | inl e ↦ subst (λ (y : CellSeen). mkfs_id_of y.block ≡ mkfs_id_of o.block) (sym e) (am ∙ is.mkfs_id)
+            | inr more ↦ elim (cases b x [] more) [
+              | inl e ↦ subst (λ (y : CellSeen). mkfs_id_of y.block ≡ mkfs_id_of o.block) (sym e) (bm ∙ is.mkfs_id)
+              | inr past ↦ absurd (none x past)
+            ]
+          ];
         }
 
 -- above level 2 neither of two nodes is small

@@ -1,7 +1,8 @@
 -- A root and the first of the leaves below it are a part of a tree, and a path of it.
-use Rattle.std.proofs.Common.{◌≡◌, ◌≢◌, ◌⊎◌, inl, inr, ℕ, ◌+◌, ◌^◌, ◌<◌, ◌≤◌, true, List, [], ◌∷◌, length, refl, sym}
+use Rattle.std.proofs.Common.{◌≡◌, ◌≢◌, ◌⊎◌, inl, inr, ℕ, ◌+◌, ◌-◌, ◌^◌, ◌<◌, ◌≤◌, true, List, [], ◌∷◌, length, refl, sym}
 use Rattle.std.proofs.Common.{ap, subst, ◌∙◌, arith}
 use Rattle.std.specs.Prelude.{Contains, reverse, None, Some}
+use Rattle.std.proofs.Math.Nat.{min-le_left}
 use Rattle.r4_base.specs.Cell.{cell_fault}
 use Rattle.r4_base.specs.Key.{rank, top}
 use Rattle.r4_base.specs.Node.{Item, items_of}
@@ -18,7 +19,9 @@ use Rattle.r4_edit.specs.Growing.{IsPathIn, IsRootIn}
 use Rattle.r4_edit.specs.Levels.{IsPartedUp, IsSplitIn}
 use Rattle.r4_edit.specs.Nodes.{IsPointingTo}
 use Rattle.r4_edit.specs.Steps.{name_of}
-use Rattle.r4_edit.specs.Editing.{IsCutIn, IsCutOutUp, IsEditedIn, IsInsertIn, IsInsertedUp, after_cut, after_insert}
+use Rattle.r4_edit.specs.Editing.{IsCutOutUp, IsEditedIn, IsInsertedUp, after_cut, after_insert, extra_up}
+use Rattle.r4_edit.specs.CutBlocks.{IsTakenOutIn}
+use Rattle.r4_edit.specs.Extents.{IsPutIn}
 use Rattle.r4_edit.specs.Trials.{AreLeaves, FirstMayTake, IsPathOver, IsShortPath, low_root}
 use Rattle.r4_edit.proofs.Grown.{map_names, names_map}
 use Rattle.r4_edit.proofs.Members.{absent, cases, found, here, here_named, later_named, none}
@@ -180,9 +183,10 @@ module _ (leaf twig : CellSeen) (rest : List CellSeen) (are : AreLeaves (leaf �
 -- ---- what may be done with the leaf
 
 pub insert_here : (cells path : List CellSeen) (f : Fresh) (it : Item) → AreLeaves cells → FirstMayTake cells it
-    → IsPathOver cells f path → (t : Store Value) × ((r : Root) × IsInsertIn t r path it f)
-insert_here [] path f it are may over = absurd may
-insert_here (leaf ∷ rest) path f it are may over =
+    → IsPathOver cells f path → (f.next ≡ 2 ^ 63 + 1001) × (f.end ≡ 2 ^ 64 - 1)
+    → (t : Store Value) × ((r : Root) × IsPutIn t r path it f)
+insert_here [] path f it are may over numbers = absurd may
+insert_here (leaf ∷ rest) path f it are may over numbers =
     let edited : IsEditedIn (by_name path) (low_root over.twig) (after_insert it leaf) leaf (over.twig ∷ []) f = record {
       path = over.leads;
       level = are.follow.0;
@@ -191,21 +195,26 @@ insert_here (leaf ∷ rest) path f it are may over =
       by_name path,
       (
         low_root over.twig,
-        subst (λ (p : List CellSeen). IsInsertedUp (by_name path) (low_root over.twig) it f (reverse p)) (sym over.cells)
-            (record {
-              edited = edited;
-              from = may.from;
-              to = may.to;
-              apart = may.apart;
-            }),
+        inl (record {
+          given = may.given;
+          inserts = subst (λ (p : List CellSeen). IsInsertedUp (by_name path) (low_root over.twig) it f (reverse p)) (sym over.cells)
+              (record {
+                edited = edited;
+                from = may.from;
+                to = may.to;
+                apart = may.apart;
+              });
+          numbers = let long = ap length over.cells in let few = min-le_left 15 (extra_up (after_insert it) (reverse path)) in
+              omega (arith, long, few, numbers);
+        }),
       ),
     )
 
 pub cut_here : (cells path : List CellSeen) (f : Fresh) (from to : Key) (leaf : CellSeen) (rest : List CellSeen) → cells
     ≡ leaf ∷ rest → AreLeaves cells → (rank from < rank to) × (rank leaf.lo ≤ rank from) × (rank to ≤ rank leaf.hi)
-    → IsPathOver cells f path
-    → (t : Store Value) × ((r : Root) × IsCutIn t r path from to f)
-cut_here cells path f from to leaf rest e are keys over' =
+    → IsPathOver cells f path → (f.next ≡ 2 ^ 63 + 1001) × (f.end ≡ 2 ^ 64 - 1)
+    → (t : Store Value) × ((r : Root) × IsTakenOutIn t r path from to f)
+cut_here cells path f from to leaf rest e are keys over' numbers =
     let over : IsShortPath leaf f path = subst (λ cs. IsPathOver cs f path) e over' in
     let edited : IsEditedIn (by_name path) (low_root over.twig) (after_cut from to leaf) leaf (over.twig ∷ []) f = record {
       path = over.leads;
@@ -215,13 +224,17 @@ cut_here cells path f from to leaf rest e are keys over' =
       by_name path,
       (
         low_root over.twig,
-        subst (λ (p : List CellSeen). IsCutOutUp (by_name path) (low_root over.twig) from to f (reverse p)) (sym over.cells)
-            (record {
-              edited = edited;
-              order = keys.0;
-              low = keys.1;
-              high = keys.2;
-            }),
+        inl (record {
+          cuts = subst (λ (p : List CellSeen). IsCutOutUp (by_name path) (low_root over.twig) from to f (reverse p)) (sym over.cells)
+              (record {
+                edited = edited;
+                order = keys.0;
+                low = keys.1;
+                high = keys.2;
+              });
+          numbers = let long = ap length over.cells in let few = min-le_left 15 (extra_up (after_cut from to) (reverse path)) in
+              omega (arith, long, few, numbers);
+        }),
       ),
     )
 

@@ -7,7 +7,7 @@ use Rattle.std.proofs.lemmas.List.{length-append}
 use Rattle.std.proofs.lemmas.Option.{same_Some}
 use Rattle.r4_base.specs.Cell.{cell_fault, names_in, spans_in, units_in}
 use Rattle.r4_base.specs.Key.{rank}
-use Rattle.r4_base.specs.Node.{Item, KeysRise, PluginsFit, items_of, level_of}
+use Rattle.r4_base.specs.Node.{Item, KeysRise, PluginsFit, items_of, level_of, mkfs_id_of}
 use Rattle.r4_base.specs.declared.key.Key.{Key}
 use Rattle.r4_cell.specs.declared.change.Fresh.{Fresh}
 use Rattle.r4_base.proofs.Numbers.{length-number_bytes}
@@ -17,7 +17,7 @@ use Rattle.r4_node40.specs.Laid.{IsNode}
 use Rattle.r4_node40.specs.View.{view_block, view_items}
 use Rattle.r4_node40.proofs.Accepted.{good}
 use Rattle.r4_patch.specs.Joining.{ids_of}
-use Rattle.r4_edit.specs.Levels.{IsStepOver, IsUnder, units_of_cells}
+use Rattle.r4_edit.specs.Levels.{HaveMkfsIdOf, IsStepOver, IsUnder, units_of_cells}
 use Rattle.r4_edit.specs.Nodes.{IsPointable, pointer_item, weight, weight_of}
 use Rattle.r4_edit.specs.Rows.{row_items, row_level, row_more, with_pointers}
 use Rattle.r4_edit.specs.Sharing.{AreFilled, HasItems, IsRowOf, IsSound, Shares, items_of_cells}
@@ -152,8 +152,8 @@ module _ (parent : CellSeen) (b : Step) (first : CellSeen) (rest : List CellSeen
   within = let a = ap length (items ∙ f.parts) in let d = length-append f.before (f.p ∷ f.behind) in let p = place in
       omega (arith, a, d, p)
 
-  pub parent_row : IsRowOf parent w
-  parent_row = record {
+  pub parent_row : w.mkfs_id ≡ mkfs_id_of parent.block → IsRowOf parent w
+  parent_row mkfs_id = record {
     row = record {
       within = within;
       few = let n = few in let a = ap length items in let d = weighs_length (items_of parent.block) in let m = fits in
@@ -180,6 +180,7 @@ module _ (parent : CellSeen) (b : Step) (first : CellSeen) (rest : List CellSeen
     range = under.range;
     some = let a = row_length (view_items w.node) w.at (row_more w) within in let n = within in omega (arith, a, n);
     good = subst (Good parent.level (rank parent.lo) (rank parent.hi) 0) (sym row_is) good_row;
+    mkfs_id = mkfs_id;
   }
 
   -- what the row weighs
@@ -279,6 +280,7 @@ pub record Looks (parent : CellSeen) (b : Step) (p q : CellSeen) (w : Row) (key 
   pub view : (view_block w.node).now ≡ p.block
   pub whole : length p.block ≡ 4096
   pub accepted : cell_fault true (2 ^ 64) p.level (rank p.lo) (rank p.hi) p.block ≡ None
+  pub mkfs_id : w.mkfs_id ≡ mkfs_id_of p.block
   pub more : row_more w ≡ drop 1 b.new
   pub below : (k : ℕ) (x : Item) → k < w.at → slice_get (view_items w.node) k ≡ Some x → rank x.key < rank key
   pub here_at : (x : Item) → slice_get (view_items w.node) w.at ≡ Some x → rank key ≤ rank x.key
@@ -300,7 +302,8 @@ module _ (parent : CellSeen) (b : Step) (p q : CellSeen) (w : Row) (key : Key) (
   over_row =
       let (first, rest, new) = some_new b.new b.old.id (ids_of (drop 1 b.new)) looks.under.first in
       subst (λ x. IsRowOf x w) (sym looks.q_is)
-      (parent_row parent b first rest w looks.under sound_parent new view_parent looks.more key_below key_here)
+      (parent_row parent b first rest w looks.under sound_parent new view_parent looks.more key_below key_here
+      (looks.mkfs_id ∙ ap (λ (c : CellSeen). mkfs_id_of c.block) looks.p_is))
 
   few_of : (n : ℕ) → (weight (row_items w) ≤ 4068 → n ≡ 1) → (4068 < weight (row_items w) → n ≡ 2) → n ≤ 2
   few_of n one two = elim (cases_lt 4068 (weight (row_items w))) [
@@ -333,4 +336,5 @@ module _ (parent : CellSeen) (b : Step) (p q : CellSeen) (w : Row) (key : Key) (
           filled = λ high. subst (λ l. 3 ≤ l → length cells ≡ 2 → AreFilled cells)
               (ap (λ (x : CellSeen). x.level) (looks.q_is ∙ sym same)) shares.filled high;
         };
+        mkfs_id = subst (λ x. HaveMkfsIdOf x cells) (sym same) has.mkfs_id;
       }

@@ -1,7 +1,7 @@
 -- A change climbs a path, level by level.
 use Rattle.std.proofs.Common.{◌≡◌, ◌≢◌, ◌⊎◌, inl, inr, ℕ, zero, suc, ◌+◌, ◌-◌, ◌*◌, ◌^◌, ◌<◌, ◌≤◌, true, not, ◌&&◌, ◌||◌, List}
 use Rattle.std.proofs.Common.{[], ◌∷◌, ◌++◌, length, map, take, drop, get_or, refl, sym, ap, subst, ◌∙◌, arith}
-use Rattle.std.specs.Prelude.{All, Contains, reverse, Option, Some, None, nat_le, nat_lt}
+use Rattle.std.specs.Prelude.{All, Contains, reverse, slice_get, Option, Some, None, nat_le, nat_lt}
 use Rattle.std.proofs.lemmas.Bool.{cases_lt}
 use Rattle.std.proofs.lemmas.Bool.Decides.{nat_tests}
 use Rattle.std.proofs.lemmas.List.{append_assoc, append-nil, length-append, length-drop, length-reverse, map-append}
@@ -10,18 +10,19 @@ use Rattle.std.proofs.lemmas.List.Elements.{All-cons, All-nil, Contains-append_c
 use Rattle.std.proofs.lemmas.Option.{none-some, same_Some, slice_get_read}
 use Rattle.r4_base.specs.Bitmap.{is_fixed}
 use Rattle.r4_base.specs.Key.{least, rank, top}
-use Rattle.r4_base.specs.Node.{items_of}
+use Rattle.r4_base.specs.Node.{items_of, mkfs_id_of}
 use Rattle.r4_base.specs.Tree.{IsNode}
 use Rattle.r4_cell.specs.Seen.{CellSeen, node_of}
 use Rattle.r4_cell.specs.declared.change.Fresh.{Fresh}
 use Rattle.r4_patch.specs.Joining.{ids_of}
-use Rattle.r4_edit.specs.Levels.{CanClimb, Climbed, IsLongEnough, IsStepOver, IsUnder, Keeps, Leads, Suffices}
+use Rattle.r4_edit.specs.Levels.{CanClimb, Climbed, HaveMkfsIdOf, IsLongEnough, IsStepOver, IsUnder, Keeps, Leads}
+use Rattle.r4_edit.specs.Levels.{Suffices}
 use Rattle.r4_edit.specs.Nodes.{IsPointable, IsPointingTo, weight}
 use Rattle.r4_edit.specs.Steps.{CountUp, Follow, Step, fresh_ids, news}
 use Rattle.r4_edit.proofs.CellNodes.{long_map}
 use Rattle.r4_edit.proofs.Filling.{long_take, take_more}
 use Rattle.r4_edit.proofs.Grown.{map_names, names_map}
-use Rattle.r4_edit.proofs.Members.{cases, none}
+use Rattle.r4_edit.proofs.Members.{cases, here, none}
 use Rattle.r4_edit.proofs.Rising.{count_within}
 
 -- ---- numbers
@@ -78,6 +79,7 @@ ends_alone s ups f were are room one steps = record {
   olds_are = refl;
   sound = λ c member. absurd (none c member);
   keep = λ u member. absurd (none u member);
+  mkfs_ids = λ h. h;
   root_units = λ c e. absurd (none-some c e);
   root_node = λ c e. absurd (none-some c e);
   counts = tt;
@@ -87,6 +89,13 @@ ends_alone s ups f were are room one steps = record {
 }
 
 -- ---- or at a new root
+
+-- the root has the mkfs_id of the first of the cells below it, which is that of the old cell
+root_keeps : (old c : CellSeen) (cells : List CellSeen) → 1 ≤ length cells
+    → ((first : CellSeen) → slice_get cells 0 ≡ Some first → mkfs_id_of c.block ≡ mkfs_id_of first.block)
+    → HaveMkfsIdOf old cells → mkfs_id_of c.block ≡ mkfs_id_of old.block
+root_keeps old c [] some is h = absurd (omega (arith, some))
+root_keeps old c (x ∷ cells) some is h = is x refl ∙ h x (here x cells)
 
 module _ (s : Step) (f : Fresh) (can : CanClimb s [] f) (two : length s.new ≢ 1) where
   root_facts : Suffices (length (drop 1 s.new)) s.old []
@@ -127,6 +136,7 @@ module _ (s : Step) (f : Fresh) (can : CanClimb s [] f) (two : length s.new ≢ 
     olds_are = refl;
     sound = λ d member. absurd (none d member);
     keep = λ u member. absurd (none u member);
+    mkfs_ids = λ h. (h, root_keeps s.old c s.new root_some points.mkfs_id h);
     root_units = λ d e. subst (λ x. (node_of x).units ≡ []) (same_Some c d e) points.units;
     root_node = λ d e. subst (λ x. IsNode (node_of x)) (same_Some c d e) points.node;
     counts = (points.number, tt);
@@ -251,6 +261,7 @@ module _ (s : Step) (parent : CellSeen) (ups : List CellSeen) (f : Fresh) (can :
         | inl e ↦ subst Keeps (sym e) step.keeps
         | inr others ↦ rest.keep v others
       ];
+      mkfs_ids = λ h. (h, rest.mkfs_ids step.mkfs_id);
       root_units = rest.root_units;
       root_node = rest.root_node;
       counts =

@@ -3,19 +3,20 @@ use Rattle.std.specs.Prelude.{◌≡◌, ◌⊎◌, ℕ, ◌+◌, ◌-◌, ◌/�
 use Rattle.std.specs.Prelude.{Option, None, Some}
 use Rattle.r4_base.specs.Cell.{item_end, item_units}
 use Rattle.r4_base.specs.Key.{rank}
-use Rattle.r4_base.specs.Node.{Item}
+use Rattle.r4_base.specs.Node.{Item, mkfs_id_of}
 use Rattle.r4_base.specs.Tree.{Root, Store}
 use Rattle.r4_base.specs.Value.{Value}
 use Rattle.r4_base.specs.declared.key.Key.{Key}
 use Rattle.r4_cell.specs.Seen.{CellSeen, node_of}
 use Rattle.r4_cell.specs.declared.change.Change.{Change}
 use Rattle.r4_cell.specs.declared.change.Fresh.{Fresh}
-use Rattle.r4_leaf.specs.Leaves.{AreApart, AreFew, Packs}
+use Rattle.r4_leaf.specs.Leaves.{AreApart, AreFew, HaveMkfsId, Packs}
 use Rattle.r4_leaf.specs.Units.{LeafUnit, cut_units, leaf_bytes, put_units}
 use Rattle.r4_leaf.specs.declared.leaf.Leaf.{Leaf}
 use Rattle.r4_patch.specs.Joining.{ids_of}
 use Rattle.r4_edit.specs.Growing.{IsPathIn}
-use Rattle.r4_edit.specs.Levels.{AreNeeded, HasLevels, IsLongEnough, Keeps, units_of_cells}
+use Rattle.r4_edit.specs.Levels.{AreNeeded, HasLevels, HaveMkfsIdOf, IsLongEnough, KeepMkfsIds, Keeps}
+use Rattle.r4_edit.specs.Levels.{units_of_cells}
 use Rattle.r4_edit.specs.Sharing.{IsSound}
 use Rattle.r4_edit.specs.Steps.{Climbs, CountUp, IsStep, Step, fresh_ids, olds}
 
@@ -33,7 +34,7 @@ leaf_cells id next hi (x ∷ (y ∷ more)) =
 abbrev pub ArePacked : (lo hi : ℕ) → List Leaf → Type 0
 ArePacked lo hi leaves = (us : List LeafUnit) × Packs lo hi us leaves
 
--- The lowest step of a change puts cells in the place of a leaf, with numbers that were taken.
+-- The lowest step of a change puts cells in the place of a leaf, with numbers that were taken and its mkfs_id.
 pub record IsLeafStep (leaf : CellSeen) (us : List LeafUnit) (count : ℕ) (before after : Fresh) (s : Step) : Type 0 where
   pub old : s.old ≡ leaf
   pub step : IsStep None s
@@ -42,6 +43,7 @@ pub record IsLeafStep (leaf : CellSeen) (us : List LeafUnit) (count : ℕ) (befo
   pub number : after ≡ record before { next = before.next + length (drop 1 s.new) }
   pub units : units_of_cells s.new ≡ us
   pub many : length s.new ≡ count
+  pub mkfs_id : HaveMkfsIdOf leaf s.new
 
 -- ---- a leaf that is to have other units
 
@@ -62,15 +64,16 @@ pub record AreLeavesOf (leaf : CellSeen) (us : List LeafUnit) (leaves : List Lea
   pub packs : Packs (rank leaf.lo) (rank leaf.hi) us leaves
   pub few : AreFew us leaves
 
--- These leaves come in the place of the path's, and there are numbers for all that may come.
+-- These leaves come in the place of the path's, with its mkfs_id, and there are numbers for all that may come.
 pub record IsReplacedIn (t : Store Value) (r : Root) (us : List LeafUnit) (leaves : List Leaf) (leaf : CellSeen)
     (ups : List CellSeen) (fresh : Fresh) : Type 0 where
   pub edited : IsEditedIn t r us leaf ups fresh
   pub leaves_are : AreLeavesOf leaf us leaves
+  pub mkfs_id : HaveMkfsId (mkfs_id_of leaf.block) leaves
   pub numbers : fresh.next + (1 + length ups) + min 15 (extra_cells us) < fresh.end
 
 -- The lowest step puts one cell in the leaf's place, or more, where its units do not fit into one; these have the units in
--- their order. The steps go up the path, with the next numbers.
+-- their order. The steps go up the path, with the next numbers. The mkfs_ids are kept.
 pub record Edits (leaf : CellSeen) (ups : List CellSeen) (us : List LeafUnit) (before after : Fresh)
     (change : Change) : Type 0 where
   pub lowest : Step
@@ -85,6 +88,7 @@ pub record Edits (leaf : CellSeen) (ups : List CellSeen) (us : List LeafUnit) (b
   pub climbs : Climbs None (lowest ∷ more)
   pub keep : (u : Step) → Contains more u → Keeps u
   pub needed : AreNeeded (lowest ∷ more)
+  pub mkfs_ids : KeepMkfsIds (lowest ∷ more) over
   pub root_units : (d : CellSeen) → over ≡ Some d → (node_of d).units ≡ []
   pub counts : CountUp before.next (fresh_ids (lowest ∷ more) over)
   pub number : after ≡ record before { next = before.next + length (fresh_ids (lowest ∷ more) over) }

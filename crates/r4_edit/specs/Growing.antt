@@ -1,5 +1,6 @@
 -- A tree that becomes one level higher (docs/volume.md, "Edits").
 use Rattle.std.specs.Prelude.{◌≡◌, ℕ, ◌+◌, List, [], ◌∷◌, None, Some}
+use Rattle.r4_base.specs.Node.{mkfs_id_of}
 use Rattle.r4_base.specs.Tree.{Root, Store}
 use Rattle.r4_base.specs.Value.{Value}
 use Rattle.r4_cell.specs.Seen.{CellSeen, node_of}
@@ -27,7 +28,8 @@ pub record HasNewRoot (root over : CellSeen) (c : Change) : Type 0 where
   pub new : c.new ≡ root ∷ (over ∷ [])
   pub pair : c.root ≡ Some (record { id = record { 0 = over.id }; height = over.level })
 
--- The old root stands among the new cells, as it was, and below a new root that names it alone and has no units.
+-- The old root stands among the new cells, as it was, and below a new root that names it alone and has no units. The new root
+-- has its mkfs_id.
 pub record Grows (root : CellSeen) (next : ℕ) (c : Change) : Type 0 where
   pub over : CellSeen
   pub cells : HasNewRoot root over c
@@ -35,3 +37,4 @@ pub record Grows (root : CellSeen) (next : ℕ) (c : Change) : Type 0 where
   pub level : over.level ≡ root.level + 1
   pub names : (node_of over).names ≡ name_of root ∷ []
   pub units : (node_of over).units ≡ []
+  pub mkfs_id : mkfs_id_of over.block ≡ mkfs_id_of root.block

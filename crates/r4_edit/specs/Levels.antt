@@ -3,7 +3,7 @@ use Rattle.std.specs.Prelude.{◌≡◌, ◌≢◌, ◌⊎◌, ℕ, suc, ◌+◌
 use Rattle.std.specs.Prelude.{reverse, take, Option, None, Some}
 use Rattle.std.specs.Arc.{arc_value}
 use Rattle.r4_base.specs.Key.{least, rank, top}
-use Rattle.r4_base.specs.Node.{items_of}
+use Rattle.r4_base.specs.Node.{items_of, mkfs_id_of}
 use Rattle.r4_base.specs.Tree.{IsNode, Root, Store}
 use Rattle.r4_base.specs.Value.{Value}
 use Rattle.r4_cell.specs.Seen.{CellSeen, node_of}
@@ -31,6 +31,17 @@ pub record Keeps (s : Step) : Type 0 where
   pub few : length s.new ≤ 2
   pub units : units_of_cells s.new ≡ (node_of s.old).units
   pub filled : 3 ≤ s.old.level → length s.new ≡ 2 → AreFilled s.new
+
+-- the cells have the mkfs_id of the one in whose place they stand
+abbrev pub HaveMkfsIdOf : (old : CellSeen) → (cells : List CellSeen) → Type 0
+HaveMkfsIdOf old cells = (c : CellSeen) → Contains cells c → mkfs_id_of c.block ≡ mkfs_id_of old.block
+
+-- Each new cell has the mkfs_id of the one in whose place it stands, and a new root that of the highest old cell.
+abbrev pub KeepMkfsIds : List Step → (over : Option CellSeen) → Type 0
+KeepMkfsIds [] over = ⊥
+KeepMkfsIds (s ∷ []) None = HaveMkfsIdOf s.old s.new
+KeepMkfsIds (s ∷ []) (Some c) = HaveMkfsIdOf s.old s.new × (mkfs_id_of c.block ≡ mkfs_id_of s.old.block)
+KeepMkfsIds (s ∷ (u ∷ us)) over = HaveMkfsIdOf s.old s.new × KeepMkfsIds (u ∷ us) over
 
 -- Over a step there is another one only where several cells came. The cell of that one is parted only where it has no room for
 -- pointers to them.
@@ -64,6 +75,7 @@ pub record IsStepOver (b : Step) (parent : CellSeen) (before after : Fresh) (s :
   pub one : weight (items_of parent.block) + 46 * length (drop 1 b.new) ≤ 4068 → length s.new ≡ 1
   pub two : 4068 < weight (items_of parent.block) + 46 * length (drop 1 b.new) → length s.new ≡ 2
   pub keeps : Keeps s
+  pub mkfs_id : HaveMkfsIdOf s.old s.new
 
 -- ---- up a path, from the lowest cell on
 
@@ -96,7 +108,7 @@ pub record CanClimb (s : Step) (ups : List CellSeen) (fresh : Fresh) : Type 0 wh
   pub numbers : fresh.next + length ups < fresh.end
   pub end : fresh.end < 2 ^ 64
 
--- The steps above a step, and the new root where there is one.
+-- The steps above a step, and the new root where there is one. All keep the mkfs_ids where the step itself does.
 pub record Climbed (s : Step) (ups : List CellSeen) (before after : Fresh) (were are : List Step)
     (over : Option CellSeen) : Type 0 where
   pub more : List Step
@@ -106,6 +118,7 @@ pub record Climbed (s : Step) (ups : List CellSeen) (before after : Fresh) (were
   pub olds_are : olds more ≡ take (length more) ups
   pub sound : (c : CellSeen) → Contains (news more None) c → IsSound c
   pub keep : (u : Step) → Contains more u → Keeps u
+  pub mkfs_ids : HaveMkfsIdOf s.old s.new → KeepMkfsIds (s ∷ more) over
   pub root_units : (c : CellSeen) → over ≡ Some c → (node_of c).units ≡ []
   pub root_node : (c : CellSeen) → over ≡ Some c → IsNode (node_of c)
   pub counts : CountUp before.next (fresh_ids more over)
@@ -136,6 +149,7 @@ pub record IsPartedIn (t : Store Value) (r : Root) (c : CellSeen) (ups : List Ce
   pub items : 2 ≤ length (items_of c.block)
 
 -- The lowest step parts the cell in two, with all its units in their order; the steps go up the path, with the next numbers.
+-- The mkfs_ids are kept.
 pub record Parts (c : CellSeen) (ups : List CellSeen) (before after : Fresh) (change : Change) : Type 0 where
   pub lowest : Step
   pub more : List Step
@@ -147,6 +161,7 @@ pub record Parts (c : CellSeen) (ups : List CellSeen) (before after : Fresh) (ch
   pub units : units_of_cells lowest.new ≡ (node_of c).units
   pub keep : (u : Step) → Contains more u → Keeps u
   pub needed : AreNeeded (lowest ∷ more)
+  pub mkfs_ids : KeepMkfsIds (lowest ∷ more) over
   pub root_units : (d : CellSeen) → over ≡ Some d → (node_of d).units ≡ []
   pub counts : CountUp before.next (fresh_ids (lowest ∷ more) over)
   pub number : after ≡ record before { next = before.next + length (fresh_ids (lowest ∷ more) over) }

@@ -1,20 +1,21 @@
 -- Nodes that are filled item by item (docs/layout.md, "Nodes"), and nodes of pointers.
-use Rattle.std.specs.Prelude.{◌≡◌, ℕ, ◌+◌, ◌^◌, ◌<◌, List, [], ◌∷◌, ◌++◌, length, map, sum_by, true, Some}
+use Rattle.std.specs.Prelude.{◌≡◌, ℕ, ◌+◌, ◌^◌, ◌<◌, List, [], ◌∷◌, ◌++◌, length, map, slice_get, sum_by, true, Some}
 use Rattle.r4_base.specs.Bytes.{number_bytes}
 use Rattle.r4_base.specs.Cell.{names_block}
 use Rattle.r4_base.specs.Key.{least, rank, top}
-use Rattle.r4_base.specs.Node.{Item, items_of, level_of}
+use Rattle.r4_base.specs.Node.{Item, items_of, level_of, mkfs_id_of}
 use Rattle.r4_base.specs.Tree.{IsNode as IsTreeNode}
 use Rattle.r4_cell.specs.Seen.{CellSeen, node_of}
 use Rattle.r4_node40.specs.Laid.{IsNode, room_of}
 use Rattle.r4_edit.specs.Steps.{name_of}
 
--- The node has one item more, the last.
+-- The node has one item more, the last, and its mkfs_id stays.
 pub record IsAppended (old : List ℕ) (it : Item) (new : List ℕ) : Type 0 where
   pub node : IsNode new
   pub items : items_of new ≡ items_of old ++ it ∷ []
   pub level : level_of new ≡ level_of old
   pub room : room_of new + length it.body + 38 ≡ room_of old
+  pub mkfs_id : mkfs_id_of new ≡ mkfs_id_of old
 
 -- The block is a node of a level with these items; above leaf level it may have none.
 pub record IsNodeOf (level : ℕ) (items : List Item) (b : List ℕ) : Type 0 where
@@ -37,7 +38,7 @@ IsPointable id = (id < 2 ^ 64) × (names_block true (2 ^ 64) (Some id) ≡ true)
 abbrev pub pointer_item : CellSeen → Item
 pointer_item c = record { key = c.lo; plugin = 3; body = number_bytes 8 c.id }
 
--- The cell is a root that names these cells, and has no extents and no units.
+-- The cell is a root that names these cells, has the mkfs_id of the first of them, and no extents and no units.
 pub record IsPointingTo (cells : List CellSeen) (level id : ℕ) (c : CellSeen) : Type 0 where
   pub number : c.id ≡ id
   pub level_is : c.level ≡ level
@@ -47,3 +48,4 @@ pub record IsPointingTo (cells : List CellSeen) (level id : ℕ) (c : CellSeen) 
   pub spans : (node_of c).spans ≡ []
   pub units : (node_of c).units ≡ []
   pub node : IsTreeNode (node_of c)
+  pub mkfs_id : (first : CellSeen) → slice_get cells 0 ≡ Some first → mkfs_id_of c.block ≡ mkfs_id_of first.block

@@ -1,10 +1,12 @@
 -- Trees of two levels for tests: a root over leaves, of which the first is changed.
-use Rattle.std.specs.Prelude.{◌≡◌, ℕ, ◌^◌, ◌<◌, ◌≤◌, List, [], ◌∷◌, Contains, length}
+use Rattle.std.specs.Prelude.{◌≡◌, ◌⊎◌, ℕ, ◌+◌, ◌^◌, ◌<◌, ◌≤◌, List, [], ◌∷◌, Contains, length}
 use Rattle.r4_base.specs.Cell.{item_end, item_units}
-use Rattle.r4_base.specs.Key.{least, rank, top}
+use Rattle.r4_base.specs.Extents.{units_of}
+use Rattle.r4_base.specs.Key.{IsKey, least, offset_of, rank, top}
 use Rattle.r4_base.specs.Node.{Item}
 use Rattle.r4_base.specs.Tree.{Root}
 use Rattle.r4_base.specs.Value.{Value}
+use Rattle.r4_base.specs.declared.items.Unit.{Unit as ExtentUnit}
 use Rattle.r4_cell.specs.Patch.{by_name}
 use Rattle.r4_cell.specs.Seen.{CellSeen, node_of}
 use Rattle.r4_cell.specs.declared.change.Fresh.{Fresh}
@@ -38,6 +40,24 @@ pub record MayCome (leaf : CellSeen) (it : Item) : Type 0 where
 abbrev pub FirstMayTake : List CellSeen → Item → Type 0
 FirstMayTake [] it = ⊥
 FirstMayTake (leaf ∷ rest) it = MayCome leaf it
+
+-- two blocks that have no place yet, with the numbers behind those that a change may take
+abbrev pub new_units : List ExtentUnit
+new_units = record { start = 2 ^ 63 + 2000; width = 1 } ∷ (record { start = 2 ^ 63 + 2001; width = 1 } ∷ [])
+
+-- The extent is that of these two blocks, and may be put over a part of the leaf's range, which has no unit of its keys.
+pub record MayLieOver (leaf : CellSeen) (it : Item) : Type 0 where
+  pub long : length it.body ≡ 32
+  pub blocks : units_of it.body ≡ new_units
+  pub key : IsKey it.key
+  pub fits : offset_of it.key + 8192 < 2 ^ 64
+  pub from : rank leaf.lo ≤ rank it.key
+  pub to : rank it.key + 8192 ≤ rank leaf.hi
+  pub apart : (k : ℕ) (v : Value) → Contains (node_of leaf).units (k, v) → (k < rank it.key) ⊎ (rank it.key + 8192 ≤ k)
+
+abbrev pub FirstMayLie : List CellSeen → Item → Type 0
+FirstMayLie [] it = ⊥
+FirstMayLie (leaf ∷ rest) it = MayLieOver leaf it
 
 -- The root has this name, in a tree of two levels.
 abbrev pub low_root : CellSeen → Root

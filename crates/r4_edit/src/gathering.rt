@@ -63,7 +63,7 @@ fn new_cells(alloc: Global, levels: &[Level]) -> Result<Vec<Arc<Cell>>, Memory>
 }
 
 /// Puts these cells behind the others, as further owners of them.
-fn add(cells: &mut Vec<Arc<Cell>>, more: &[Arc<Cell>]) -> Result<(), Memory>
+pub(crate) fn add(cells: &mut Vec<Arc<Cell>>, more: &[Arc<Cell>]) -> Result<(), Memory>
     ensures { OnOk result (map (λ x. arc_value x) cells.new.items
         ≡ map (λ x. arc_value x) cells.old.items ++ map (λ x. arc_value x) more.now) }
 {

@@ -4,9 +4,10 @@ ghost use Rattle.std.specs.Prelude.{◌≡◌, ◌+◌, ◌≤◌, ◌∷◌, �
 ghost use Rattle.std.specs.Arc.{arc_value};
 ghost use Rattle.std.specs.Vec.Iter.{into_iter_items};
 ghost use Rattle.r4_base.specs.Key.{rank};
+ghost use Rattle.r4_base.specs.Node.{mkfs_id_of};
 ghost use Rattle.r4_base.specs.Tree.{IsNode};
 ghost use Rattle.r4_cell.specs.Seen.{node_of};
-ghost use Rattle.r4_leaf.specs.Leaves.{Packs};
+ghost use Rattle.r4_leaf.specs.Leaves.{HaveMkfsId, Packs};
 ghost use Rattle.r4_leaf.specs.Units.{LeafUnit};
 ghost use Rattle.r4_edit.specs.Editing.{ArePacked, IsLeafStep, leaf_cells};
 ghost use Rattle.r4_edit.specs.Levels.{step_of};
@@ -35,6 +36,7 @@ pub(crate) fn leaf_level(
     requires numbers { fresh.old.next + length leaves.items ≤ fresh.old.end }
     ensures step { IfOk result (λ l. (us : List LeafUnit)
         → Packs (rank (arc_value leaf.now).lo) (rank (arc_value leaf.now).hi) us leaves.items
+        → HaveMkfsId (mkfs_id_of (arc_value leaf.now).block) leaves.items
         → IsLeafStep (arc_value leaf.now) us (length leaves.items) fresh.old fresh.new (step_of l)) }
     ensures numbers { OnlyTakes fresh.old fresh.new }
 {

@@ -3,7 +3,7 @@
 ghost use Rattle.std.specs.Prelude.{◌≡◌, ◌*◌, ◌≤◌, length, map};
 ghost use Rattle.std.specs.Arc.{arc_value};
 ghost use Rattle.r4_base.specs.Bytes.{number_bytes};
-ghost use Rattle.r4_base.specs.Node.{KeysRise};
+ghost use Rattle.r4_base.specs.Node.{KeysRise, mkfs_id_of};
 ghost use Rattle.r4_edit.specs.Nodes.{IsNodeOf, pointer_item};
 
 use crate::appending::append;
@@ -30,7 +30,8 @@ pub(crate) fn fill_pointers(block: &mut Block, level: u8, mkfs_id: u32, cells: &
     requires level { (2 ≤ level) × (level ≤ 8) }
     requires few { 46 * length cells.now ≤ 4068 }
     requires rising { KeysRise (map (λ c. pointer_item (arc_value c)) cells.now) }
-    ensures { IsNodeOf level (map (λ c. pointer_item (arc_value c)) cells.now) block.new }
+    ensures node { IsNodeOf level (map (λ c. pointer_item (arc_value c)) cells.now) block.new }
+    ensures mkfs_id { mkfs_id_of block.new ≡ mkfs_id }
 {
     let mut node = NodeMut::format(block, level, mkfs_id);
     for (i, cell) in cells.iter().enumerate() {

@@ -2,6 +2,7 @@
 
 ghost use Rattle.std.specs.Prelude.{◌≡◌, ◌+◌, ◌<◌, ◌≤◌, length, nat_le, slice_get, Some, IfOk, IfSome};
 ghost use Rattle.std.specs.Arc.{arc_value};
+ghost use Rattle.r4_base.specs.Node.{mkfs_id_of};
 ghost use Rattle.r4_node40.specs.Loan.{bytes_of, with_bytes};
 ghost use Rattle.r4_edit.specs.Nodes.{IsNodeOf, pointer_item, weight, weight_of};
 
@@ -29,7 +30,8 @@ pub(crate) enum RowItem<'a> {
     Comes(&'a Arc<Cell>),
 }
 
-/// The items that a node is to have: those that it has, and behind the one at a place pointers to further cells.
+/// The items that a node is to have, with its mkfs_id: those that it has, and behind the one at a place pointers to further
+/// cells.
 #[derive(Drop)]
 pub(crate) struct Row<'a> {
     pub(crate) node: NodeView<'a>,
@@ -84,6 +86,7 @@ impl<'a> Row<'a> {
         requires node { IsNodeOf (row_level self.now) (row_part self.now from i) (bytes_of node.old) }
         ensures block { node.new ≡ with_bytes node.old (bytes_of node.new) }
         ensures node { IsNodeOf (row_level self.now) (row_part self.now from (i + 1)) (bytes_of node.new) }
+        ensures mkfs_id { mkfs_id_of (bytes_of node.new) ≡ mkfs_id_of (bytes_of node.old) }
     {
         match self.item(i) {
             RowItem::Stays(item) => append(node, i - from, item.key, item.plugin, item.body),
@@ -103,7 +106,8 @@ impl<'a> Row<'a> {
         requires order { from ≤ to }
         requires within { to ≤ length (row_items self.now) }
         requires room { weight (row_part self.now from to) ≤ 4068 }
-        ensures { IsNodeOf (row_level self.now) (row_part self.now from to) block.new }
+        ensures node { IsNodeOf (row_level self.now) (row_part self.now from to) block.new }
+        ensures mkfs_id { mkfs_id_of block.new ≡ self.now.mkfs_id }
     {
         let mut node = NodeMut::format(block, self.node.level(), self.mkfs_id);
         for i in from..to {
@@ -117,7 +121,8 @@ impl<'a> Row<'a> {
         requires order { from ≤ to }
         requires within { to ≤ length (row_items self.now) }
         requires room { weight (row_part self.now from to) ≤ 4068 }
-        ensures { IfOk result (λ b. IsNodeOf (row_level self.now) (row_part self.now from to) b) }
+        ensures node { IfOk result (λ b. IsNodeOf (row_level self.now) (row_part self.now from to) b) }
+        ensures mkfs_id { IfOk result (λ b. mkfs_id_of b ≡ self.now.mkfs_id) }
     {
         let mut block = Block::zeroed(alloc)?;
         self.fill(from, to, &mut block);

@@ -1,7 +1,7 @@
 //! Edits of a leaf below a root: which cells come, and how many items and free bytes they have.
 
-use crate::trials::{LEAF, ROOT, halve, put, raise, take_out};
-use r4_base::{Attr, Block, Key, NodeId, Oid, get16};
+use crate::trials::{LEAF, ROOT, UNPLACED, halve, put, put_blocks, raise, repack, take_out};
+use r4_base::{Attr, Block, Key, NodeId, Oid, get16, put64};
 use r4_cell::{Cell, Change, least, read_cell, top};
 use r4_meta::write_stat;
 use r4_node40::NodeMut;
@@ -224,5 +224,85 @@ fn a_leaf_is_parted_and_a_root_goes_below_another(rt: HostRuntime) -> Result<(),
         [(ROOT, 1, 4022), (ROOT + 1, 1, 4022)].as_slice()
     );
     assert_eq!(rt; grown.root.map(|root| root.height), Some(3));
+    Ok(())
+}
+
+// The root over 88 leaves is full.
+#[test]
+fn a_twig_is_packed_anew(rt: HostRuntime) -> Result<(), Fail> {
+    let alloc = rt.alloc();
+    let hi = Key::body(41, 0, Oid(43), 0);
+    let leaves = beside(alloc, empty_leaf(alloc, LEAF, least(), hi)?)?;
+    let Some(change) = repack(alloc, leaves.as_slice())? else {
+        return Err(Fail::from("they are no leaves"));
+    };
+    assert_eq!(rt;
+        rows(alloc, &change)?.as_slice(),
+        [(ROOT, 88, 20)].as_slice()
+    );
+    Ok(())
+}
+
+// What comes where an extent of two blocks without a place is put into the range of a leaf, which has all keys.
+fn over(alloc: Global, leaf: &Arc<Cell>, key: Key) -> Result<Change, Fail> {
+    let mut body = [0; 32];
+    put64(&mut body, 0, UNPLACED);
+    put64(&mut body, 8, 1);
+    put64(&mut body, 16, UNPLACED + 1);
+    put64(&mut body, 24, 1);
+    match put_blocks(alloc, &[Arc::try_clone(leaf)?], &key, &body) {
+        Ok(Some(change)) => Ok(change),
+        Ok(None) => Err(Fail::from("the blocks may not be put there")),
+        Err(_) => Err(Fail::from("there is no memory")),
+    }
+}
+
+// The stat data stays in the leaf, which ends where the extent begins.
+#[test]
+fn an_extent_is_put_behind_a_leaf(rt: HostRuntime) -> Result<(), Fail> {
+    let alloc = rt.alloc();
+    let change = over(alloc, &root_leaf(alloc)?, byte(0))?;
+    assert_eq!(rt;
+        rows(alloc, &change)?.as_slice(),
+        [(LEAF, 1, 3986), (ROOT, 2, 3952)].as_slice()
+    );
+    assert!(rt; first(&change)?.hi().is_same(byte(0)));
+    assert!(rt; change.root.is_none());
+    Ok(())
+}
+
+// A tail right of the extent comes into a leaf of its own.
+#[test]
+fn an_extent_is_put_between_two_leaves(rt: HostRuntime) -> Result<(), Fail> {
+    let alloc = rt.alloc();
+    let bare = [root_leaf(alloc)?];
+    let leaf = first(&with(alloc, &bare, byte(8192), TAIL, &ZEROS[..100])?)?;
+    let change = over(alloc, &leaf, byte(0))?;
+    assert_eq!(rt;
+        rows(alloc, &change)?.as_slice(),
+        [(LEAF, 1, 3986), (ROOT + 1, 1, 3930), (ROOT, 3, 3906)].as_slice()
+    );
+    assert!(rt; first(&change)?.hi().is_same(byte(0)));
+    assert!(rt; change.root.is_none());
+    Ok(())
+}
+
+// Where the extent begins at the leaf's first key the leaf goes, and what is right of the extent has its name.
+#[test]
+fn an_extent_is_put_before_a_leaf(rt: HostRuntime) -> Result<(), Fail> {
+    let alloc = rt.alloc();
+    let bare = [empty_leaf(alloc, LEAF, least(), top())?];
+    let alone = over(alloc, &bare[0], least())?;
+    assert_eq!(rt;
+        rows(alloc, &alone)?.as_slice(),
+        [(ROOT, 1, 3998)].as_slice()
+    );
+    let leaf = first(&with(alloc, &bare, byte(8192), TAIL, &ZEROS[..100])?)?;
+    let before = over(alloc, &leaf, least())?;
+    assert_eq!(rt;
+        rows(alloc, &before)?.as_slice(),
+        [(LEAF, 1, 3930), (ROOT, 2, 3952)].as_slice()
+    );
+    assert!(rt; first(&before)?.lo().is_same(byte(8192)));
     Ok(())
 }

@@ -2,22 +2,30 @@
 
 ghost use Rattle.std.specs.Prelude.{◌≡◌, ℕ, [], ◌∷◌, ◌-◌, ◌+◌, ◌^◌, ◌<◌, ◌≤◌, ◌⊎◌, length, map, Contains, IsTrue, IfOk};
 ghost use Rattle.std.specs.Arc.{arc_value};
-ghost use Rattle.r4_base.specs.Key.{least, rank, top};
+ghost use Rattle.r4_base.specs.Extents.{units_of};
+ghost use Rattle.r4_base.specs.Key.{IsKey, least, offset_of, rank, top};
 ghost use Rattle.r4_base.specs.Node.{items_of};
+ghost use Rattle.r4_base.specs.Tree.{Root as TreeRoot, Store};
 ghost use Rattle.r4_base.specs.Value.{Value};
 ghost use Rattle.r4_cell.specs.Seen.{node_of};
 ghost use Rattle.r4_leaf.specs.Leaves.{MayStand};
 ghost use Rattle.r4_patch.specs.Joining.{ids_of};
+ghost use Rattle.r4_edit.specs.Editing.{given_item};
+ghost use Rattle.r4_edit.specs.Growing.{IsRootIn};
 ghost use Rattle.r4_edit.specs.Steps.{CountUp, Follow};
-ghost use Rattle.r4_edit.specs.Trials.{AreLeaves, FirstMayTake, IsPathOver, StandsAlone};
+ghost use Rattle.r4_edit.specs.Trials.{AreLeaves, FirstMayLie, FirstMayTake, IsPathOver, StandsAlone, new_units};
 
 use crate::appending::append;
 use crate::editing::{cut, insert, leaves_without};
+use crate::grafting::graft;
 use crate::growing::{grow, root_over};
+use crate::pieces::pieces_of_cell;
 use crate::splitting::split;
-use r4_base::{Block, Key, Memory, NodeId};
+use r4_base::{Block, Key, Memory, NodeId, Unit};
+use r4_branch::pieces_of;
 use r4_cell::{Cell, Change, Fresh, least, read_cell};
 use r4_node40::NodeMut;
+use r4_twig::ExtentView;
 use std::alloc::Global;
 use std::sync::Arc;
 
@@ -26,6 +34,12 @@ pub(crate) const LEAF: u64 = 1 << 63;
 
 /// The number of the root.
 pub(crate) const ROOT: u64 = LEAF + 1000;
+
+/// The number behind those that may be taken where an extent is put in. Its blocks have this one and the next.
+pub(crate) const UNPLACED: u64 = ROOT + 1000;
+
+/// The bytes of two blocks.
+const TWO_BLOCKS: u64 = 8192;
 
 /// How many blocks there are.
 const BLOCKS: u64 = 1 << 60;
@@ -46,6 +60,28 @@ pub(crate) fn put(
     let mut fresh = numbers();
     let path = path_over(alloc, leaves, &mut fresh)?;
     let change = insert(alloc, path.as_slice(), key, plugin, body, &mut fresh)?;
+    Ok(Some(change))
+}
+
+/// Puts an extent of two blocks that have no place yet into the range of the first of some leaves, all below one root; `None`
+/// where they are none, or it is another extent, or the leaf has not its keys or has a unit of one of them.
+pub(crate) fn put_blocks(
+    alloc: Global,
+    leaves: &[Arc<Cell>],
+    key: &Key,
+    body: &[u8],
+) -> Result<Option<Change>, Memory> {
+    if !are_leaves(leaves) || !may_lie(alloc, leaves, key, body)? {
+        return Ok(None);
+    }
+    let mut fresh = numbers();
+    let path = path_over(alloc, leaves, &mut fresh)?;
+    let _pieces = pieces_of_cell(alloc, &path.as_slice()[0])?;
+    let mut few = Fresh {
+        next: fresh.next,
+        end: UNPLACED,
+    };
+    let change = insert(alloc, path.as_slice(), key, 5, body, &mut few)?;
     Ok(Some(change))
 }
 
@@ -86,6 +122,28 @@ pub(crate) fn raise(alloc: Global, leaves: &[Arc<Cell>]) -> Result<Option<Change
     let path = path_over(alloc, leaves, &mut fresh)?;
     let change = grow(alloc, &path.as_slice()[0], &mut fresh)?;
     Ok(Some(change))
+}
+
+/// Packs the root over some leaves anew, of its own pieces; `None` where they are none.
+pub(crate) fn repack(alloc: Global, leaves: &[Arc<Cell>]) -> Result<Option<Change>, Memory> {
+    if !are_leaves(leaves) {
+        return Ok(None);
+    }
+    let mut fresh = numbers();
+    let path = path_over(alloc, leaves, &mut fresh)?;
+    let change = anew(alloc, &path.as_slice()[0], &mut fresh)?;
+    Ok(Some(change))
+}
+
+// Packs a root that is a twig anew, of its own pieces.
+fn anew(alloc: Global, root: &Arc<Cell>, fresh: &mut Fresh) -> Result<Change, Memory>
+    requires root { (t : Store Value) × ((r : TreeRoot) × IsRootIn t r (arc_value root.now) fresh.old) }
+    requires level { (arc_value root.now).level ≡ 2 }
+    requires numbers { (2 ^ 63 ≤ fresh.old.next) × (fresh.old.next + 1 < fresh.old.end) }
+{
+    let pieces = pieces_of(alloc, &root.node())?;
+    let path = [Arc::try_clone(root)?];
+    graft(alloc, &path, pieces.as_slice(), fresh)
 }
 
 // The numbers for the root and what comes.
@@ -183,6 +241,60 @@ fn may_come(
         return Ok(false);
     }
     is_clear(alloc, leaf, key, end)
+}
+
+// Whether the item is the extent of two blocks that have no place yet, and the first of the leaves has its keys, and no unit
+// of one of them.
+fn may_lie(alloc: Global, leaves: &[Arc<Cell>], key: &Key, body: &[u8]) -> Result<bool, Memory>
+    requires { AreLeaves (map (λ c. arc_value c) leaves.now) }
+    ensures { IfOk result (λ b. IsTrue b
+        → FirstMayLie (map (λ c. arc_value c) leaves.now) (given_item key.now 5 body.now)) }
+{
+    let leaf = &leaves[0];
+    let Some(end) = two_blocks_behind(key) else {
+        return Ok(false);
+    };
+    if key.is_below(least()) || leaf.hi().is_below(end) || !are_new_blocks(body) {
+        return Ok(false);
+    }
+    is_clear(alloc, leaf, key, &end)
+}
+
+// The key two blocks behind another, of the same object.
+fn two_blocks_behind(key: &Key) -> Option<Key>
+    ensures { (k : Key) → result ≡ Some k → IsKey key.now × (offset_of key.now + 8192 < 2 ^ 64)
+        × (rank k ≡ rank key.now + 8192) }
+{
+    if key.el[3] >= u64::MAX - TWO_BLOCKS {
+        return None;
+    }
+    Some(Key {
+        el: [key.el[0], key.el[1], key.el[2], key.el[3] + TWO_BLOCKS],
+    })
+}
+
+// Whether the extent has two blocks that have no place yet, the first two numbers behind those that may be taken.
+fn are_new_blocks(body: &[u8]) -> bool
+    ensures { IsTrue result → (length body.now ≡ 32) × (units_of body.now ≡ new_units) }
+{
+    if body.len() > 4030 {
+        return false;
+    }
+    let Ok(extent) = ExtentView::in_memory(body, BLOCKS) else {
+        return false;
+    };
+    if extent.len() != 2 {
+        return false;
+    }
+    let first = Unit {
+        start: UNPLACED,
+        width: 1,
+    };
+    let second = Unit {
+        start: UNPLACED + 1,
+        width: 1,
+    };
+    extent.unit(0) == first && extent.unit(1) == second
 }
 
 // Whether it is stat data, entries or a tail, and fits into a leaf.

@@ -1,5 +1,6 @@
-use Rattle.std.proofs.Common.{◌∙◌, ap}
+use Rattle.std.proofs.Common.{◌∙◌, ap, sym}
 use Rattle.std.specs.Arc.{arc_value}
+use Rattle.r4_base.specs.Node.{mkfs_id_of}
 use Rattle.r4_cell.specs.Seen.{CellSeen}
 use Rattle.r4_edit.specs.Levels.{step_of}
 use Rattle.r4_edit.proofs.Stepping.{over_row, over_step}
@@ -17,6 +18,7 @@ share-requires-clause-row c =
       view = c.node-node.ensures.block;
       whole = c.node-node.ensures.whole;
       accepted = c.node-node.ensures.stands;
+      mkfs_id = c.get32.ensures ∙ ap mkfs_id_of (c.bytes.ensures.value ∙ (c.block.ensures ∙ ap (λ (x : CellSeen). x.block) (c.deref-3.ensures ∙ sym c.deref.ensures)));
       more = c.further.ensures;
       below = c.place_of-at.ensures.below;
       here_at = c.place_of-at.ensures.at;
@@ -34,6 +36,7 @@ returns-clause-step c =
       view = c.node-node.ensures.block;
       whole = c.node-node.ensures.whole;
       accepted = c.node-node.ensures.stands;
+      mkfs_id = c.get32.ensures ∙ ap mkfs_id_of (c.bytes.ensures.value ∙ (c.block.ensures ∙ ap (λ (x : CellSeen). x.block) (c.deref-3.ensures ∙ sym c.deref.ensures)));
       more = c.further.ensures;
       below = c.place_of-at.ensures.below;
       here_at = c.place_of-at.ensures.at;

@@ -14,8 +14,8 @@ put_in-requires-clause-apart c =
     subst (λ us. AreApart us (item_units (record { key = c.args.key.now; plugin = c.args.plugin; body = c.args.body.now })))
     (sym (lent_units c.args.leaf.now c.requires.level (view_items c.node.result) c.node.ensures.items)) c.requires.apart
 
-pub returns : goal.returns
-returns c =
+pub returns-clause-leaves : goal.returns-clause-leaves
+returns-clause-leaves c =
     IfOk-weaker c.put_in.result _ _ (λ v h.
     lent_leaves c.args.leaf.now c.requires.level
     (put_units (item_units (record { key = c.args.key.now; plugin = c.args.plugin; body = c.args.body.now })))

@@ -6,8 +6,8 @@ use Rattle.r4_edit.proofs.LeafLent.{lent_leaves, lent_stands}
 use Rattle.r4_edit.proofs.Results.{and_ok}
 use Rattle.r4_edit.proofs.editing.leaves_without.Goals as goal
 
-pub returns : goal.returns
-returns c =
+pub returns-clause-leaves : goal.returns-clause-leaves
+returns-clause-leaves c =
     IfOk-weaker c.cut_out.result _ _ (λ v h.
     lent_leaves c.args.leaf.now c.requires.level (cut_units (rank c.args.from.now) (rank c.args.to.now))
     (view_items c.node.result) c.lo.result v.items c.node.ensures.items c.lo.ensures

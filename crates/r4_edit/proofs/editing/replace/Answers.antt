@@ -33,7 +33,7 @@ rise-requires c =
     edit_starts (arc_value c.index-path-count.result)
     (reverse (map arc_value (take (length path - 1) path))) us c.args.leaves.items c.args.fresh.now c.leaf_level.new.fresh
     (step_of c.in_ok-lowest.lowest)
-    (c.in_ok-lowest.ensures.step us at.leaves_are.packs) at.leaves_are.few t r at c.requires.numbers (omega arith)
+    (c.in_ok-lowest.ensures.step us at.leaves_are.packs at.mkfs_id) at.leaves_are.few t r at c.requires.numbers (omega arith)
 
 pub returns-clause-change : goal.returns-clause-change
 returns-clause-change c =
@@ -45,7 +45,7 @@ returns-clause-change c =
     IfOk-weaker c.rise.result _ _ (λ d rises. edit_change (arc_value c.index-path-count.result)
     (reverse (map arc_value (take (length path - 1) path))) us c.args.leaves.items c.args.fresh.now c.leaf_level.new.fresh
     (step_of c.in_ok-lowest.lowest)
-    (c.in_ok-lowest.ensures.step us at.leaves_are.packs) at.leaves_are.few c.rise.new.fresh d rises t r at.edited) c.rise.ensures.rises
+    (c.in_ok-lowest.ensures.step us at.leaves_are.packs at.mkfs_id) at.leaves_are.few c.rise.new.fresh d rises t r at.edited) c.rise.ensures.rises
 
 pub returns-clause-meets : goal.returns-clause-meets
 returns-clause-meets c =
@@ -57,7 +57,7 @@ returns-clause-meets c =
     edit_meets (arc_value c.index-path-count.result)
     (reverse (map arc_value (take (length path - 1) path))) us c.args.leaves.items c.args.fresh.now c.leaf_level.new.fresh
     (step_of c.in_ok-lowest.lowest)
-    (c.in_ok-lowest.ensures.step us at.leaves_are.packs) at.leaves_are.few c.rise.new.fresh d rises t r at.edited) c.rise.ensures.rises
+    (c.in_ok-lowest.ensures.step us at.leaves_are.packs at.mkfs_id) at.leaves_are.few c.rise.new.fresh d rises t r at.edited) c.rise.ensures.rises
 
 pub returns-clause-edits : goal.returns-clause-edits
 returns-clause-edits c =
@@ -70,4 +70,4 @@ returns-clause-edits c =
     (edit_edits (arc_value c.index-path-count.result)
     (reverse (map arc_value (take (length path - 1) path))) us c.args.leaves.items c.args.fresh.now c.leaf_level.new.fresh
     (step_of c.in_ok-lowest.lowest)
-    (c.in_ok-lowest.ensures.step us at.leaves_are.packs) at.leaves_are.few c.rise.new.fresh d rises)) c.rise.ensures.rises
+    (c.in_ok-lowest.ensures.step us at.leaves_are.packs at.mkfs_id) at.leaves_are.few c.rise.new.fresh d rises)) c.rise.ensures.rises

@@ -52,4 +52,5 @@ loop-i-preserved c =
           (at_map (λ x. pointer_item (arc_value x)) c.args.cells.now c.loop-i.i c.index-cells-i.result c.loop-i-test.true c.index-cells-i.is) c.loop-i.invariant.1
           (bytes_of c.append.new.node) (subst
           (λ x. IsAppended (bytes_of c.loop-i.node) x (bytes_of c.append.new.node)) it c.append.ensures.appended),
+      c.append.ensures.appended.mkfs_id ∙ c.loop-i.invariant.2,
     )

@@ -1,6 +1,7 @@
 use Rattle.std.proofs.Common.{◌≡◌, ◌∙◌, ap, sym, subst, refl, length, List}
 use Rattle.std.proofs.lemmas.Result.{IfOk-weaker}
 use Rattle.std.specs.Arc.{arc_value}
+use Rattle.r4_base.specs.Node.{mkfs_id_of}
 use Rattle.r4_cell.specs.Seen.{CellSeen}
 use Rattle.r4_edit.specs.Nodes.{IsNodeOf}
 use Rattle.r4_edit.specs.Rows.{row_items, row_level, row_part}
@@ -9,13 +10,13 @@ use Rattle.r4_edit.proofs.Shared.{left_sound, right_sound, two_filled, two_has}
 use Rattle.r4_edit.proofs.sharing.two.Goals as goal
 
 pub new_cell-requires : goal.new_cell-requires
-new_cell-requires c = left_sound c.args.old.now c.args.row.now c.requires.row c.cut-cut.result c.key-key.result c.cut-cut.ensures.some c.cut-cut.ensures.below c.key-key.ensures c.level.result c.lo.result c.in_ok-left.left c.level.ensures c.lo.ensures c.in_ok-left.ensures
+new_cell-requires c = left_sound c.args.old.now c.args.row.now c.requires.row c.cut-cut.result c.key-key.result c.cut-cut.ensures.some c.cut-cut.ensures.below c.key-key.ensures c.level.result c.lo.result c.in_ok-left.left c.level.ensures c.lo.ensures c.in_ok-left.ensures.node
 
 pub new_cell-requires-2 : goal.new_cell-requires-2
 new_cell-requires-2 c =
     right_sound c.args.old.now c.args.row.now c.requires.row c.cut-cut.result c.key-key.result c.cut-cut.ensures.some c.cut-cut.ensures.below c.key-key.ensures c.level-2.result c.hi.result c.in_ok-right.right c.level-2.ensures c.hi.ensures
     (subst (λ n. IsNodeOf (row_level c.args.row.now)
-    (row_part c.args.row.now c.cut-cut.result n) c.in_ok-right.right) c.len.ensures c.in_ok-right.ensures)
+    (row_part c.args.row.now c.cut-cut.result n) c.in_ok-right.right) c.len.ensures c.in_ok-right.ensures.node)
 
 pub returns-clause-cells : goal.returns-clause-cells
 returns-clause-cells c =
@@ -32,12 +33,14 @@ returns-clause-cells c =
           (ap (λ (s : CellSeen). s.lo) a ∙ c.lo.ensures) (ap (λ (s : CellSeen). s.hi) a) (ap (λ (s : CellSeen). s.lo) b)
           (ap (λ (s : CellSeen). s.hi) b ∙ c.hi.ensures)
           (subst (IsNodeOf (row_level c.args.row.now) (row_part c.args.row.now 0 c.cut-cut.result))
-          (sym (ap (λ (s : CellSeen). s.block) a)) c.in_ok-left.ensures)
+          (sym (ap (λ (s : CellSeen). s.block) a)) c.in_ok-left.ensures.node)
           (subst (IsNodeOf (row_level c.args.row.now)
           (row_part c.args.row.now c.cut-cut.result (length (row_items c.args.row.now))))
           (sym (ap (λ (s : CellSeen). s.block) b))
           (subst (λ n. IsNodeOf (row_level c.args.row.now)
-          (row_part c.args.row.now c.cut-cut.result n) c.in_ok-right.right) c.len.ensures c.in_ok-right.ensures)),
+          (row_part c.args.row.now c.cut-cut.result n) c.in_ok-right.right) c.len.ensures c.in_ok-right.ensures.node))
+          (ap (λ (s : CellSeen). mkfs_id_of s.block) a ∙ c.in_ok-left.ensures.mkfs_id)
+          (ap (λ (s : CellSeen). mkfs_id_of s.block) b ∙ c.in_ok-right.ensures.mkfs_id),
       refl,
     )) c.pair.ensures
 
@@ -50,8 +53,8 @@ returns-clause-filled c =
     (two_filled c.args.old.now c.args.row.now c.requires.row c.cut-cut.result c.cut-cut.ensures
     (arc_value c.in_ok-left-2.left) (arc_value c.in_ok-right-2.right)
     (subst (IsNodeOf (row_level c.args.row.now) (row_part c.args.row.now 0 c.cut-cut.result))
-    (sym (ap (λ (s : CellSeen). s.block) a)) c.in_ok-left.ensures)
+    (sym (ap (λ (s : CellSeen). s.block) a)) c.in_ok-left.ensures.node)
     (subst (IsNodeOf (row_level c.args.row.now)
     (row_part c.args.row.now c.cut-cut.result (length (row_items c.args.row.now)))) (sym (ap (λ (s : CellSeen). s.block) b))
     (subst (λ n. IsNodeOf (row_level c.args.row.now)
-    (row_part c.args.row.now c.cut-cut.result n) c.in_ok-right.right) c.len.ensures c.in_ok-right.ensures)) high over)) c.pair.ensures
+    (row_part c.args.row.now c.cut-cut.result n) c.in_ok-right.right) c.len.ensures c.in_ok-right.ensures.node)) high over)) c.pair.ensures

@@ -1,5 +1,7 @@
-use Rattle.std.proofs.Common.{ap, map, refl}
+use Rattle.std.proofs.Common.{◌∙◌, ap, map, refl, sym}
 use Rattle.std.specs.Arc.{arc_value}
+use Rattle.r4_base.specs.Node.{mkfs_id_of}
+use Rattle.r4_cell.specs.Seen.{CellSeen}
 use Rattle.r4_edit.proofs.Parting.{lent_parted, lent_row, lent_two}
 use Rattle.r4_edit.proofs.splitting.part.Goals as goal
 
@@ -11,6 +13,7 @@ two-requires-clause-row c = lent_row (arc_value c.args.cell.now) c.deref.result.
       view = c.node.ensures.block;
       whole = c.node.ensures.whole;
       accepted = c.node.ensures.stands;
+      mkfs_id = c.get32.ensures ∙ ap mkfs_id_of (c.bytes.ensures.value ∙ (c.block.ensures ∙ ap (λ (x : CellSeen). x.block) (c.deref-2.ensures ∙ sym c.deref.ensures)));
       at_zero = refl;
       none_come = ap (λ xs. map arc_value xs) c.no_cells.ensures;
       tree_node = c.requires.node;
@@ -26,6 +29,7 @@ two-requires-clause-two c = lent_two (arc_value c.args.cell.now) c.deref.result.
       view = c.node.ensures.block;
       whole = c.node.ensures.whole;
       accepted = c.node.ensures.stands;
+      mkfs_id = c.get32.ensures ∙ ap mkfs_id_of (c.bytes.ensures.value ∙ (c.block.ensures ∙ ap (λ (x : CellSeen). x.block) (c.deref-2.ensures ∙ sym c.deref.ensures)));
       at_zero = refl;
       none_come = ap (λ xs. map arc_value xs) c.no_cells.ensures;
       tree_node = c.requires.node;
@@ -41,6 +45,7 @@ returns-clause-parted c = lent_parted (arc_value c.args.cell.now) c.deref.result
       view = c.node.ensures.block;
       whole = c.node.ensures.whole;
       accepted = c.node.ensures.stands;
+      mkfs_id = c.get32.ensures ∙ ap mkfs_id_of (c.bytes.ensures.value ∙ (c.block.ensures ∙ ap (λ (x : CellSeen). x.block) (c.deref-2.ensures ∙ sym c.deref.ensures)));
       at_zero = refl;
       none_come = ap (λ xs. map arc_value xs) c.no_cells.ensures;
       tree_node = c.requires.node;

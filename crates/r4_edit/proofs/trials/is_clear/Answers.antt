@@ -17,6 +17,6 @@ returns c same k v =
     ∙ one_leaf c.as_slice.result.now c.one-item.result (omega (arith, low, high)) c.one-item.is in
     clear c.args.leaf.now from to c.one-item.result c.requires.level
     (subst (λ (ls : List Leaf). Packs (rank c.args.leaf.now.lo) (rank c.args.leaf.now.hi) (cut_units from to (node_of c.args.leaf.now).units) ls)
-    alone c.in_ok-leaves.ensures.packs)
+    alone c.in_ok-leaves.ensures.leaves.packs)
     (sym c.bytes.ensures.value ∙ (same_bytes c.bytes.result.now c.bytes-2.result.now c.eq.result c.eq.ensures same
     ∙ (c.bytes-2.ensures.value ∙ c.block.ensures))) k v

@@ -13,3 +13,4 @@ insert-requires-clause-path c =
     (c.in_ok-may_come.ensures c.if-not-branch.false)
     (subst (λ (p : List CellSeen). IsPathOver (map arc_value c.args.leaves.now) c.path_over.new.fresh p)
     (ap (map arc_value) (sym c.as_slice.ensures.value)) c.in_ok-path.ensures.path)
+    c.in_ok-path.ensures.next

@@ -17,4 +17,4 @@ cut-requires-clause-path c =
     (subst (λ (x : CellSeen). (rank c.args.from.now < rank c.args.to.now) × (rank x.lo ≤ rank c.args.from.now)
     × (rank c.args.to.now ≤ rank x.hi)) c.deref.ensures (c.has_keys.ensures c.if-not-has_keys.false))
     (subst (λ (p : List CellSeen). IsPathOver (map arc_value c.args.leaves.now) c.path_over.new.fresh p)
-    (ap (map arc_value) (sym c.as_slice.ensures.value)) c.in_ok-path.ensures.path)
+    (ap (map arc_value) (sym c.as_slice.ensures.value)) c.in_ok-path.ensures.path) c.in_ok-path.ensures.next

@@ -79,3 +79,9 @@ returns-in-Comes-clause-node c =
     (bytes_of c.args.node.now) c.requires.row.rise c.requires.row.fit c.requires.node (bytes_of c.append-in-Comes.new.node)
     (subst (λ x. IsAppended (bytes_of c.args.node.now) x
     (bytes_of c.append-in-Comes.new.node)) it c.append-in-Comes.ensures.appended)
+
+pub returns-in-Stays-clause-mkfs_id : goal.returns-in-Stays-clause-mkfs_id
+returns-in-Stays-clause-mkfs_id c = c.append.ensures.appended.mkfs_id
+
+pub returns-in-Comes-clause-mkfs_id : goal.returns-in-Comes-clause-mkfs_id
+returns-in-Comes-clause-mkfs_id c = c.append-in-Comes.ensures.appended.mkfs_id
