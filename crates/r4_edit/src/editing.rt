@@ -1,4 +1,4 @@
-//! Units put into a leaf or cut out of it (docs/volume.md, "Edits").
+//! Items that are put into a tree, and units that are cut out of it (docs/volume.md, "Edits").
 
 ghost use Rattle.std.specs.Prelude.{◌≡◌, ◌+◌, ◌++◌, ◌^◌, ◌<◌, ◌≤◌, List, length, map, reverse, IfOk};
 ghost use Rattle.std.specs.Arc.{arc_value};
