@@ -18,3 +18,4 @@ pub mod Packed
 pub mod Standing
 mod Bounded
 mod Counted
+mod Halved

@@ -1,8 +1,10 @@
 -- The units of a leaf in their order, what edits make of them, and the bytes that they take up (docs/volume.md, "Leaves").
-use Rattle.std.specs.Prelude.{ℕ, ◌+◌, ◌/◌, ◌^◌, ◌==◌, List, [], ◌∷◌, length, Bool, false, not, ◌&&◌, Option, Some, None, nat_le, nat_lt, if◌then◌else◌}
+use Rattle.std.specs.Prelude.{◌≡◌, ℕ, ◌+◌, ◌/◌, ◌^◌, ◌==◌, List, [], ◌∷◌, length, Bool, false, not, ◌&&◌, Option, Some, None, slice_get, nat_le, nat_lt, if◌then◌else◌}
 use Rattle.std.specs.List.{filter}
+use Rattle.r4_base.specs.Key.{IsKey, rank}
 use Rattle.r4_base.specs.Name.{is_long_name}
 use Rattle.r4_base.specs.Value.{Value, Stat, Entry, Byte}
+use Rattle.r4_base.specs.declared.key.Key.{Key}
 
 -- a key, by its rank, with its value
 abbrev pub LeafUnit : Type 0
@@ -27,6 +29,14 @@ is_between from to k = nat_le from k && nat_lt k to
 -- the units but those whose keys are from one on and below another
 abbrev pub cut_units : (from to : ℕ) → List LeafUnit → List LeafUnit
 cut_units from to us = filter (λ u. not (is_between from to u.0)) us
+
+-- ---- where a list is parted
+
+-- The key is that of the unit before which are half of all, rounded down.
+pub record IsMiddle (us : List LeafUnit) (k : Key) : Type 0 where
+  pub key : IsKey k
+  pub value : Value
+  pub unit : slice_get us (length us / 2) ≡ Some (rank k, value)
 
 -- ---- the bytes that units take up in a leaf
 

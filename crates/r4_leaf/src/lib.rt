@@ -8,6 +8,7 @@ mod entries;
 mod filling;
 mod leaf;
 mod merging;
+mod middle;
 mod opening;
 mod packing;
 mod piece;
@@ -16,3 +17,4 @@ mod reading;
 
 pub use edits::{cut_out, put_in};
 pub use leaf::Leaf;
+pub use middle::middle_key;
