@@ -11,6 +11,7 @@ use Rattle.r4_cell.specs.declared.change.Fresh.{Fresh}
 use Rattle.r4_patch.specs.Part.{MeetsPart}
 use Rattle.r4_edit.specs.Grafts.{Grafts, GraftsAt, GraftsUp, HasBelow, IsGraft, IsGraftBelowUp, IsGraftIn, IsGraftedIn, IsGraftedUp}
 use Rattle.r4_edit.specs.Growing.{IsPathIn}
+use Rattle.r4_edit.specs.Steps.{fresh_ids}
 use Rattle.r4_edit.specs.Twigs.{Below}
 use Rattle.r4_edit.proofs.Grafted.{some_grafted}
 use Rattle.r4_edit.proofs.GraftLaw.{graft_change, graft_meets}
@@ -31,7 +32,8 @@ module _ (t : Store Value) (r : Root) (qs : List TwigPiece) (b : Below) (blocks 
       grafts = grafts;
       of = below.of;
       blocks_are = below.blocks_are;
-      numbers = serve twig ups qs f g d grafts t b below.data_names below.of first below.counted;
+      numbers = serve f g (fresh_ids (grafts.lowest ∷ grafts.more) grafts.over) grafts.counts grafts.number grafts.within t
+          twig qs b below.data_names below.of first below.counted;
     },
   )
 

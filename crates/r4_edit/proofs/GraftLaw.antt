@@ -1,7 +1,7 @@
 -- A twig that is packed anew, with what goes and comes below it, is a change of the twig.
 use Rattle.std.proofs.Common.{◌≡◌, ◌≢◌, ◌⊎◌, inl, inr, ℕ, zero, suc, ◌+◌, ◌≤◌, Bool, true, false, List, [], ◌∷◌}
 use Rattle.std.proofs.Common.{◌++◌, length, sym, ap, subst, ◌∙◌, arith}
-use Rattle.std.specs.Prelude.{Contains, None, Some, if◌then◌else◌}
+use Rattle.std.specs.Prelude.{Contains, Option, None, Some, if◌then◌else◌}
 use Rattle.std.proofs.lemmas.List.Elements.{Contains-append_cases, Contains-append_left, Contains-append_right}
 use Rattle.r4_base.specs.Cell.{cell_of, run_names}
 use Rattle.r4_base.specs.Extents.{is_hole}
@@ -18,8 +18,9 @@ use Rattle.r4_cell.specs.Seen.{CellSeen, node_of}
 use Rattle.r4_cell.specs.declared.change.Change.{Change}
 use Rattle.r4_cell.specs.declared.change.Fresh.{Fresh}
 use Rattle.r4_patch.specs.Part.{MeetsPart}
-use Rattle.r4_edit.specs.Grafts.{Grafts, HasBelow, IsGraft, IsTwigGraft}
-use Rattle.r4_edit.specs.Steps.{Ascends, Follow, IsNameOf, Step, name_of, news, olds, root_pair}
+use Rattle.r4_edit.specs.Grafts.{AreBlocksOf, Grafts, HasBelow, HaveGraftNumbers, IsGraft, IsGraftOf, IsTwigGraft}
+use Rattle.r4_edit.specs.Growing.{IsPathIn}
+use Rattle.r4_edit.specs.Steps.{Ascends, Ends, Follow, IsNameOf, Step, fresh_ids, name_of, news, olds, root_pair}
 use Rattle.r4_edit.specs.Twigs.{Below, IsReordered, IsTwigChange, IsTwigStep}
 use Rattle.r4_edit.proofs.Begun.{ascends_take}
 use Rattle.r4_edit.proofs.GraftNumbers.{block_name, have}
@@ -30,6 +31,7 @@ use Rattle.r4_edit.proofs.OnPath.{new_stands, stands_in, stands_new, stands_step
 use Rattle.r4_edit.proofs.Ordered.{distinct}
 use Rattle.r4_edit.proofs.Reordered.{change_again, part_again}
 use Rattle.r4_edit.proofs.TwigPatch.{change_is, part_meets}
+use Rattle.r4_edit.proofs.TwigRose.{TwigRose}
 
 -- ---- the names of data blocks
 
@@ -125,6 +127,124 @@ behind xs ys zs h = record {
 
 -- ---- the change
 
+module _ (t : Store Value) (r : Root) (twig : CellSeen) (ups : List CellSeen) (qs : List TwigPiece) (f after : Fresh)
+    (s : Step) (more : List Step) (over : Option CellSeen) (d : Change) (rose : TwigRose twig ups qs f after s more over d)
+    (path : IsPathIn t r (twig ∷ ups) f) (level : twig.level ≡ 2) (ends : Ends r (s ∷ more) over) (b : Below)
+    (data_names : List Name) (blocks : List CellSeen) (of : IsGraftOf t twig qs b data_names)
+    (blocks_are : AreBlocksOf data_names blocks) (numbers : HaveGraftNumbers t b data_names f.next after.next) where
+  abbrev all : Below
+  all = record { old = b.old; new = b.new ++ blocks }
+
+  abbrev taken : List ℕ
+  taken = fresh_ids (s ∷ more) over
+
+  twig_there : t twig.id ≡ Some (node_of twig)
+  twig_there = path.ascends.0
+
+  twig_node : IsNode (node_of twig)
+  twig_node = path.part.nodes twig.id (node_of twig) twig_there
+
+  -- ---- the path
+
+  ascends : Ascends t None (olds (s ∷ more))
+  ascends = subst (λ (o : CellSeen). Ascends t None (o ∷ olds more)) (sym rose.row.old)
+      (subst (λ cells. Ascends t None (twig ∷ cells)) (sym rose.ups_are)
+      (ascends_take t None (suc (length more)) (twig ∷ ups) path.ascends))
+
+  -- ---- the twig
+
+  forth_names : (n : Name) → Contains (names_of (rank twig.hi) qs) n
+      → (Contains (node_of twig).names n × (IsNameOf b.old n → ⊥)) ⊎ IsNameOf (b.new ++ blocks) n
+  forth_names n at = elim ((of.names n).0 at) [
+    | inl stays ↦ inl stays
+    | inr comes ↦ elim comes [
+      | inl cell ↦ inr (name_left b.new blocks n cell)
+      | inr block ↦ inr (name_right b.new blocks n
+          (names_map blocks n (subst (λ ns. Contains ns n) (sym blocks_are.names) block)))
+    ]
+  ]
+
+  back_names : (n : Name) → (Contains (node_of twig).names n × (IsNameOf b.old n → ⊥)) ⊎ IsNameOf (b.new ++ blocks) n
+      → Contains (names_of (rank twig.hi) qs) n
+  back_names n (inl stays) = (of.names n).1 (inl stays)
+  back_names n (inr comes) = elim (name_cases b.new blocks n comes) [
+    | inl cell ↦ (of.names n).1 (inr (inl cell))
+    | inr block ↦ (of.names n).1
+        (inr (inr (subst (λ ns. Contains ns n) blocks_are.names (map_names blocks n block))))
+  ]
+
+  same : s ≡ record { old = twig; new = s.new }
+  same = λ i. record { old = rose.row.old i; new = s.new }
+
+  step : IsTwigStep all s
+  step = subst (IsTwigStep all) (sym same) (record {
+    level = level;
+    first = rose.row.first;
+    ranges = subst (λ l. Follow l (rank twig.lo) (rank twig.hi) s.new) (sym level) rose.row.ranges;
+    goes = of.goes;
+    names = λ n. (
+      (λ h. forth_names n ((rose.row.names n).0 h)),
+      (λ h. (rose.row.names n).1 (back_names n h)),
+    );
+  })
+
+  -- ---- nodes
+
+  twig_cell : (x : CellSeen) → Contains s.new x → IsNode (node_of x)
+  twig_cell x member = new_node twig x s.new twig_node (omega (arith, level))
+      (subst (λ l. Follow l (rank twig.lo) (rank twig.hi) s.new) (sym level) rose.row.ranges) (rose.row.sound x member) member
+
+  up_cell : (x : CellSeen) → Contains (news more over) x → IsNode (node_of x)
+  up_cell x member = elim (new_stands (Some s) more over x member) [
+    | inl h ↦
+        let (below, u, st, in_u) = h in
+        let sit = stands_in t (Some s) more below u ascends.3 st in
+        new_node u.old x u.new (path.part.nodes u.old.id (node_of u.old) sit.there) sit.level
+        (stands_step (Some s) more below u rose.climbs st).ranges
+        (rose.sound x (Contains-append_right s.new (news more None) x (stands_new (Some s) more None below u x st in_u))) in_u
+    | inr root ↦ rose.root_node x root
+  ]
+
+  block_cell : (c : CellSeen) → Contains blocks c → IsNode (node_of c)
+  block_cell c member =
+      let named = block_name f after taken rose.counts rose.number rose.within t b data_names blocks blocks_are numbers
+      path.free c member in
+      let low = of.blocks (name_of c) named in
+      let in_qs = (of.names (name_of c)).1 (inr (inr named)) in
+      let wide = block_wide (rank twig.hi) qs (name_of c) in_qs low in
+      let (u, in_u, in_names) = (rose.row.names (name_of c)).1 in_qs in
+      let node = twig_cell u in_u in
+      let from = node.name_from (name_of c) in_names in
+      let to = node.name_to (name_of c) in_names in
+      let least_u = node.from_least in
+      let top_u = node.to_top in
+      data_cell c c.level (rank c.hi) low wide (blocks_are.whole c member) (omega (arith, from, least_u))
+      (omega (arith, wide, to, top_u))
+
+  nodes : (c : CellSeen) → Contains ((b.new ++ blocks) ++ news (s ∷ more) over) c → IsNode (node_of c)
+  nodes c at = elim (Contains-append_cases (b.new ++ blocks) (news (s ∷ more) over) c at) [
+    | inl under ↦ elim (Contains-append_cases b.new blocks c under) [
+      | inl cell ↦ of.nodes c cell
+      | inr block ↦ block_cell c block
+    ]
+    | inr high ↦ elim (Contains-append_cases s.new (news more over) c high) [
+      | inl mine ↦ twig_cell c mine
+      | inr rest ↦ up_cell c rest
+    ]
+  ]
+
+  pub twig_change : IsTwigChange t r all s more over
+  twig_change = record {
+    part = path.part;
+    path = ascends;
+    gone = of.gone;
+    step = step;
+    climbs = rose.climbs;
+    ends = ends;
+    nodes = nodes;
+    numbers = have f after taken rose.counts rose.number rose.within t b data_names blocks blocks_are numbers path.free;
+  }
+
 module _ (t : Store Value) (r : Root) (twig : CellSeen) (ups : List CellSeen) (qs : List TwigPiece) (b : Below)
     (blocks : List CellSeen) (f after : Fresh) (d : Change) (graft : IsGraft t r twig ups qs b blocks f after d) where
   abbrev g : Grafts twig ups qs f after d
@@ -133,118 +253,26 @@ module _ (t : Store Value) (r : Root) (twig : CellSeen) (ups : List CellSeen) (q
   abbrev s : Step
   s = g.lowest
 
-  abbrev all : Below
-  all = record { old = b.old; new = b.new ++ blocks }
-
-  twig_there : t twig.id ≡ Some (node_of twig)
-  twig_there = graft.grafted.path.ascends.0
-
-  twig_node : IsNode (node_of twig)
-  twig_node = graft.grafted.path.part.nodes twig.id (node_of twig) twig_there
-
-  -- ---- the path
-
-  ascends : Ascends t None (olds (s ∷ g.more))
-  ascends = subst (λ (o : CellSeen). Ascends t None (o ∷ olds g.more)) (sym g.level.old)
-      (subst (λ cells. Ascends t None (twig ∷ cells)) (sym g.ups_are)
-      (ascends_take t None (suc (length g.more)) (twig ∷ ups) graft.grafted.path.ascends))
-
-  -- ---- the twig
-
-  forth_names : (n : Name) → Contains (names_of (rank twig.hi) qs) n
-      → (Contains (node_of twig).names n × (IsNameOf b.old n → ⊥)) ⊎ IsNameOf (b.new ++ blocks) n
-  forth_names n at = elim ((graft.of.names n).0 at) [
-    | inl stays ↦ inl stays
-    | inr comes ↦ elim comes [
-      | inl cell ↦ inr (name_left b.new blocks n cell)
-      | inr block ↦ inr (name_right b.new blocks n
-          (names_map blocks n (subst (λ ns. Contains ns n) (sym graft.blocks_are.names) block)))
-    ]
-  ]
-
-  back_names : (n : Name) → (Contains (node_of twig).names n × (IsNameOf b.old n → ⊥)) ⊎ IsNameOf (b.new ++ blocks) n
-      → Contains (names_of (rank twig.hi) qs) n
-  back_names n (inl stays) = (graft.of.names n).1 (inl stays)
-  back_names n (inr comes) = elim (name_cases b.new blocks n comes) [
-    | inl cell ↦ (graft.of.names n).1 (inr (inl cell))
-    | inr block ↦ (graft.of.names n).1
-        (inr (inr (subst (λ ns. Contains ns n) graft.blocks_are.names (map_names blocks n block))))
-  ]
-
-  same : s ≡ record { old = twig; new = s.new }
-  same = λ i. record { old = g.level.old i; new = s.new }
-
-  step : IsTwigStep all s
-  step = subst (IsTwigStep all) (sym same) (record {
-    level = graft.grafted.level;
-    first = g.level.first;
-    ranges = subst (λ l. Follow l (rank twig.lo) (rank twig.hi) s.new) (sym graft.grafted.level) g.level.ranges;
-    goes = graft.of.goes;
-    names = λ n. (
-      (λ h. forth_names n ((g.level.names n).0 h)),
-      (λ h. (g.level.names n).1 (back_names n h)),
-    );
-  })
-
-  -- ---- nodes
-
-  twig_cell : (x : CellSeen) → Contains s.new x → IsNode (node_of x)
-  twig_cell x member = new_node twig x s.new twig_node (let level = graft.grafted.level in omega (arith, level))
-      (subst (λ l. Follow l (rank twig.lo) (rank twig.hi) s.new) (sym graft.grafted.level) g.level.ranges) (g.level.sound x member) member
-
-  up_cell : (x : CellSeen) → Contains (news g.more g.over) x → IsNode (node_of x)
-  up_cell x member = elim (new_stands (Some s) g.more g.over x member) [
-    | inl h ↦
-        let (below, u, st, in_u) = h in
-        let sit = stands_in t (Some s) g.more below u ascends.3 st in
-        new_node u.old x u.new (graft.grafted.path.part.nodes u.old.id (node_of u.old) sit.there) sit.level
-        (stands_step (Some s) g.more below u g.climbs st).ranges
-        (g.sound x (Contains-append_right s.new (news g.more None) x (stands_new (Some s) g.more None below u x st in_u))) in_u
-    | inr root ↦ g.root_node x root
-  ]
-
-  block_cell : (c : CellSeen) → Contains blocks c → IsNode (node_of c)
-  block_cell c member =
-      let named = block_name twig ups qs f after d g t b graft.data_names blocks graft.blocks_are graft.numbers
-      graft.grafted.path.free c member in
-      let low = graft.of.blocks (name_of c) named in
-      let in_qs = (graft.of.names (name_of c)).1 (inr (inr named)) in
-      let wide = block_wide (rank twig.hi) qs (name_of c) in_qs low in
-      let (u, in_u, in_names) = (g.level.names (name_of c)).1 in_qs in
-      let node = twig_cell u in_u in
-      let from = node.name_from (name_of c) in_names in
-      let to = node.name_to (name_of c) in_names in
-      let least_u = node.from_least in
-      let top_u = node.to_top in
-      data_cell c c.level (rank c.hi) low wide (graft.blocks_are.whole c member) (omega (arith, from, least_u))
-      (omega (arith, wide, to, top_u))
-
-  nodes : (c : CellSeen) → Contains ((b.new ++ blocks) ++ news (s ∷ g.more) g.over) c → IsNode (node_of c)
-  nodes c at = elim (Contains-append_cases (b.new ++ blocks) (news (s ∷ g.more) g.over) c at) [
-    | inl under ↦ elim (Contains-append_cases b.new blocks c under) [
-      | inl cell ↦ graft.of.nodes c cell
-      | inr block ↦ block_cell c block
-    ]
-    | inr high ↦ elim (Contains-append_cases s.new (news g.more g.over) c high) [
-      | inl mine ↦ twig_cell c mine
-      | inr rest ↦ up_cell c rest
-    ]
-  ]
-
-  twig_change : IsTwigChange t r all s g.more g.over
-  twig_change = record {
-    part = graft.grafted.path.part;
-    path = ascends;
-    gone = graft.of.gone;
-    step = step;
+  rose : TwigRose twig ups qs f after s g.more g.over d
+  rose = record {
+    middle = g.middle;
+    row = g.level.row;
+    levels = g.levels;
+    ups_are = g.ups_are;
     climbs = g.climbs;
-    ends = g.ends r graft.grafted.enough;
-    nodes = nodes;
-    numbers = have twig ups qs f after d g t b graft.data_names blocks graft.blocks_are graft.numbers graft.grafted.path.free;
+    sound = g.sound;
+    root_node = g.root_node;
+    counts = g.counts;
+    number = g.number;
+    within = g.within;
   }
 
+  change_of_twig : IsTwigChange t r (record { old = b.old; new = b.new ++ blocks }) s g.more g.over
+  change_of_twig = twig_change t r twig ups qs f after s g.more g.over d rose graft.grafted.path graft.grafted.level
+      (g.ends r graft.grafted.enough) b graft.data_names blocks graft.of graft.blocks_are graft.numbers
+
   pub twig_graft : IsTwigGraft t r b blocks d
-  twig_graft = record { lowest = s; more = g.more; over = g.over; levels = g.levels; is = twig_change }
+  twig_graft = record { lowest = s; more = g.more; over = g.over; levels = g.levels; is = change_of_twig }
 
   -- ---- with the data blocks behind all others
 
@@ -255,7 +283,7 @@ module _ (t : Store Value) (r : Root) (twig : CellSeen) (ups : List CellSeen) (q
   up_news = news (s ∷ g.more) g.over
 
   changes : IsChange (b.old ++ up_olds) ((b.new ++ blocks) ++ up_news) (root_pair g.over)
-  changes = change_is t r all s g.more g.over twig_change
+  changes = change_is t r (record { old = b.old; new = b.new ++ blocks }) s g.more g.over change_of_twig
 
   same_old : IsReordered (b.old ++ up_olds) (b.old ++ up_olds)
   same_old = record { same = λ c. ((λ h. h), (λ h. h)); names = changes.old_names }
@@ -283,4 +311,4 @@ module _ (t : Store Value) (r : Root) (twig : CellSeen) (ups : List CellSeen) (q
     pub graft_meets : MeetsPart (patch_of c.old (c.new ++ blocks) c.root) t r
     graft_meets = subst (λ p. MeetsPart p t r) (λ i. patch_of (old_is i) (new_is i) (root_is i))
         (part_again (b.old ++ up_olds) ((b.new ++ blocks) ++ up_news) (b.old ++ up_olds) ((b.new ++ up_news) ++ blocks)
-        (root_pair g.over) changes same_old other_new t r (part_meets t r all s g.more g.over twig_change))
+        (root_pair g.over) changes same_old other_new t r (part_meets t r (record { old = b.old; new = b.new ++ blocks }) s g.more g.over change_of_twig))

@@ -9,11 +9,10 @@ use Rattle.r4_base.specs.Value.{Value}
 use Rattle.r4_branch.specs.declared.piece.TwigPiece.{TwigPiece}
 use Rattle.r4_cell.specs.Patch.{HaveNames}
 use Rattle.r4_cell.specs.Seen.{CellSeen, node_of}
-use Rattle.r4_cell.specs.declared.change.Change.{Change}
 use Rattle.r4_cell.specs.declared.change.Fresh.{Fresh}
 use Rattle.r4_patch.specs.Joining.{ids_of}
-use Rattle.r4_edit.specs.Grafts.{AreBlocksOf, AreCountedBelow, Grafts, HaveGraftNumbers, IsGraftOf, IsUnusedBeside}
-use Rattle.r4_edit.specs.Steps.{IsFree, fresh_ids, name_of}
+use Rattle.r4_edit.specs.Grafts.{AreBlocksOf, AreCountedBelow, HaveGraftNumbers, IsGraftOf, IsUnusedBeside}
+use Rattle.r4_edit.specs.Steps.{CountUp, IsFree, name_of}
 use Rattle.r4_edit.specs.Twigs.{Below, HaveNumbers, IsUnused}
 use Rattle.r4_edit.proofs.Counted.{count_once, unused}
 use Rattle.r4_edit.proofs.Grown.{map_names}
@@ -22,25 +21,23 @@ use Rattle.r4_edit.proofs.Ordered.{distinct, once, once_distinct}
 use Rattle.r4_edit.proofs.Rising.{count_within}
 use Rattle.r4_edit.proofs.TwigBelow.{id_cell}
 
-module _ (twig : CellSeen) (ups : List CellSeen) (qs : List TwigPiece) (f after : Fresh) (d : Change)
-    (grafts : Grafts twig ups qs f after d) where
-  abbrev taken : List ℕ
-  taken = fresh_ids (grafts.lowest ∷ grafts.more) grafts.over
-
+module _ (f after : Fresh) (taken : List ℕ) (counts : CountUp f.next taken)
+    (number : after ≡ record f { next = f.next + length taken }) (within : after.next ≤ after.end) where
   next_is : after.next ≡ f.next + length taken
-  next_is = ap (λ (x : Fresh). x.next) grafts.number
+  next_is = ap (λ (x : Fresh). x.next) number
 
   pub next_in : after.next ≤ f.end
-  next_in = let e = ap (λ (x : Fresh). x.end) grafts.number in let w = grafts.within in omega (arith, e, w)
+  next_in = let e = ap (λ (x : Fresh). x.end) number in let w = within in omega (arith, e, w)
 
   not_taken : (i : ℕ) → (i < f.next) ⊎ (after.next ≤ i) → Contains taken i → ⊥
-  not_taken i (inl before) at = let w = count_within f.next taken i grafts.counts at in omega (arith, w, before)
-  not_taken i (inr behind) at = let w = count_within f.next taken i grafts.counts at in let n = next_is in
+  not_taken i (inl before) at = let w = count_within f.next taken i counts at in omega (arith, w, before)
+  not_taken i (inr behind) at = let w = count_within f.next taken i counts at in let n = next_is in
       omega (arith, w, behind, n)
 
   -- ---- numbers that count up
 
-  module _ (t : Store Value) (b : Below) (data_names : List Name) (of : IsGraftOf t twig qs b data_names) where
+  module _ (t : Store Value) (twig : CellSeen) (qs : List TwigPiece) (b : Below) (data_names : List Name)
+      (of : IsGraftOf t twig qs b data_names) where
     pub serve : (first : ℕ) → AreCountedBelow t b data_names first f → HaveGraftNumbers t b data_names f.next after.next
     serve first are = record {
       old = are.old;
@@ -118,7 +115,7 @@ module _ (twig : CellSeen) (ups : List CellSeen) (qs : List TwigPiece) (f after 
         | inl mine ↦ elim (numbers.each c mine) [ inl again ↦ inl again | inr new ↦ inr (fresh_number c.id new) ]
         | inr block ↦ inr (fresh_number c.id (numbers.blocks (name_of c) (block_name c block)))
       ];
-      once = count_once f.next taken grafts.counts;
-      unused = λ i at. unused t f.next f.end free f.next taken i grafts.counts (omega arith)
+      once = count_once f.next taken counts;
+      unused = λ i at. unused t f.next f.end free f.next taken i counts (omega arith)
           (let n = next_is in let k = next_in in omega (arith, n, k)) at;
     }

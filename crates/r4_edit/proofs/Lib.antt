@@ -7,6 +7,7 @@ pub mod Cuts
 pub mod Edited
 pub mod Filling
 pub mod Finding
+pub mod TwigRose
 pub mod Grafted
 pub mod GraftBelow
 mod GraftLaw
@@ -33,6 +34,7 @@ pub mod OnPath
 pub mod Parenting
 pub mod Parting
 pub mod PathPatch
+pub mod PiecesParted
 pub mod Parted
 pub mod PointerNodes
 pub mod Pointers
@@ -72,3 +74,6 @@ pub mod OverUnits
 pub mod LeafAmong
 pub mod PutKinds
 pub mod CutKinds
+pub mod HalvedTwig
+pub mod HalvedLeaf
+pub mod TwoUnits

@@ -1,5 +1,5 @@
 -- The change that parts a node in two, along its path.
-use Rattle.std.proofs.Common.{◌≡◌, ◌≢◌, inr, ◌+◌, ◌^◌, ◌<◌, ◌≤◌, List, [], ◌∷◌, length, map, drop, refl, sym, subst, ◌∙◌, arith}
+use Rattle.std.proofs.Common.{◌≡◌, ◌≢◌, inl, inr, ◌+◌, ◌^◌, ◌<◌, ◌≤◌, List, [], ◌∷◌, length, map, drop, refl, sym, subst, arith}
 use Rattle.std.specs.Prelude.{reverse}
 use Rattle.std.proofs.lemmas.List.{length-drop}
 use Rattle.r4_base.specs.Tree.{Root, Store}
@@ -10,59 +10,84 @@ use Rattle.r4_cell.specs.declared.change.Change.{Change}
 use Rattle.r4_cell.specs.declared.change.Fresh.{Fresh}
 use Rattle.r4_patch.specs.Joining.{patch_of_change}
 use Rattle.r4_patch.specs.Part.{MeetsPart}
-use Rattle.r4_edit.specs.Levels.{CanClimb, IsLongEnough, IsParted, IsPartedIn, IsPartedUp, Parts, Rises}
+use Rattle.r4_edit.specs.Levels.{CanClimb, IsLongEnough, Rises}
+use Rattle.r4_edit.specs.Splitting.{IsParted, IsPartedIn, IsPartedUp, IsSharedOut, Parts}
 use Rattle.r4_edit.specs.Steps.{Step}
 use Rattle.r4_edit.proofs.Begun.{Begun, Enough, begun_change, begun_climbs, begun_meets, begun_rose}
+use Rattle.r4_edit.proofs.PiecesParted.{pieces_change, pieces_meet, pieces_parts, pieces_start}
 
-module _ (c : CellSeen) (ups : List CellSeen) (f g : Fresh) (s : Step) (p : IsParted c f g s) where
+-- ---- cells that share out what one named
+
+module _ (c : CellSeen) (ups : List CellSeen) (f g : Fresh) (s : Step) (two : length s.new ≡ 2) (p : IsSharedOut c f g s) where
   one_comes : length (drop 1 s.new) ≡ 1
-  one_comes = let d = length-drop 1 s.new in let two = p.two in omega (arith, d, two)
+  one_comes = let d = length-drop 1 s.new in omega (arith, d, two)
 
   begun : Begun c f g s
   begun = record {
     old = p.old;
     step = p.step;
-    sound = p.has.sound;
-    counts = p.has.fresh;
-    number = p.took ∙ (λ i. record f { next = f.next + sym one_comes i });
-    few = let two = p.two in omega (arith, two);
-    mkfs_id = p.has.mkfs_id;
+    sound = p.sound;
+    counts = p.counts;
+    number = p.number;
+    few = omega (arith, two);
+    mkfs_id = p.mkfs_id;
   }
 
   enough : (t : Store Value) (r : Root) → IsPartedIn t r c ups f → Enough r s c ups
   enough t r is = inr (subst (λ n. IsLongEnough r n c ups) (sym one_comes) is.enough)
 
+  shared_starts : (t : Store Value) (r : Root) → IsPartedIn t r c ups f → 2 ^ 63 ≤ f.next
+      → f.next + (1 + length ups) < f.end → f.end < 2 ^ 64 → CanClimb s ups g
+  shared_starts t r is unplaced numbers end = begun_climbs c ups f g s begun t r is.path (enough t r is) unplaced
+      (let one = one_comes in omega (arith, numbers, one)) end
+
+-- ---- either way
+
+module _ (c : CellSeen) (ups : List CellSeen) (f g : Fresh) (s : Step) (p : IsParted c f g s) where
   pub step_starts : (t : Store Value) (r : Root) → IsPartedIn t r c ups f → 2 ^ 63 ≤ f.next
       → f.next + (1 + length ups) < f.end → f.end < 2 ^ 64 → CanClimb s ups g
-  step_starts t r is unplaced numbers end = begun_climbs c ups f g s begun t r is.path (enough t r is) unplaced
-      (let one = one_comes in omega (arith, numbers, one)) end
+  step_starts t r is unplaced numbers end = elim p.parts [
+    | inl shared ↦ shared_starts c ups f g s p.two shared t r is unplaced numbers end
+    | inr pieces ↦ pieces_start c ups f g s p.two pieces t r is unplaced numbers end
+  ]
 
   module _ (after : Fresh) (d : Change) (rises : Rises s ups g after d) where
     pub final_change : (t : Store Value) (r : Root) → IsPartedIn t r c ups f → IsChange d.old d.new d.root
-    final_change t r is = begun_change c ups f g s begun after d rises t r is.path (enough t r is)
+    final_change t r is = elim p.parts [
+      | inl shared ↦ begun_change c ups f g s (begun c ups f g s p.two shared) after d rises t r is.path
+          (enough c ups f g s p.two shared t r is)
+      | inr pieces ↦ pieces_change c ups f g s p.two pieces after d rises t r is
+    ]
 
     pub final_meets : (t : Store Value) (r : Root) → IsPartedIn t r c ups f → MeetsPart (patch_of_change d) t r
-    final_meets t r is = begun_meets c ups f g s begun after d rises t r is.path (enough t r is)
+    final_meets t r is = elim p.parts [
+      | inl shared ↦ begun_meets c ups f g s (begun c ups f g s p.two shared) after d rises t r is.path
+          (enough c ups f g s p.two shared t r is)
+      | inr pieces ↦ pieces_meet c ups f g s p.two pieces after d rises t r is
+    ]
 
     pub final_parts : Parts c ups f after d
-    final_parts =
-        let rose = begun_rose c ups f g s begun after d rises in
-        record {
-          lowest = record { old = c; new = s.new };
-          more = rose.more;
-          over = rose.over;
-          levels = rose.levels;
-          old = refl;
-          ups_are = rose.ups_are;
-          two = p.two;
-          units = p.units;
-          keep = rose.keep;
-          needed = rose.needed;
-          mkfs_ids = rose.mkfs_ids;
-          root_units = rose.root_units;
-          counts = rose.counts;
-          number = rose.number;
-        }
+    final_parts = elim p.parts [
+      | inl shared ↦
+          let rose = begun_rose c ups f g s (begun c ups f g s p.two shared) after d rises in
+          record {
+            lowest = record { old = c; new = s.new };
+            more = rose.more;
+            over = rose.over;
+            levels = rose.levels;
+            old = refl;
+            ups_are = rose.ups_are;
+            two = p.two;
+            units = p.units;
+            keep = rose.keep;
+            needed = rose.needed;
+            mkfs_ids = rose.mkfs_ids;
+            root_units = rose.root_units;
+            counts = rose.counts;
+            number = rose.number;
+          }
+      | inr pieces ↦ pieces_parts c ups f g s p.two pieces after d rises p.units
+    ]
 
 pub some_path : {A : Type 0} (t : Store Value) (r : Root) (f : Fresh) (h : A → CellSeen) (xs : List A)
     → IsPartedUp t r f (reverse (map h xs)) → length xs ≢ 0

@@ -1,6 +1,7 @@
 -- A node parted in two, and the change that climbs from there.
-use Rattle.std.proofs.Common.{◌≡◌, ℕ, zero, suc, ◌+◌, ◌^◌, ◌<◌, ◌≤◌, true, List, [], length, refl, sym, ap, subst, ◌∙◌, arith}
+use Rattle.std.proofs.Common.{◌≡◌, inl, ℕ, zero, suc, ◌+◌, ◌^◌, ◌<◌, ◌≤◌, true, List, [], length, drop, refl, sym, ap, subst, ◌∙◌, arith}
 use Rattle.std.specs.Prelude.{All, Contains, Some, None, slice_get}
+use Rattle.std.proofs.lemmas.List.{length-drop}
 use Rattle.r4_base.specs.Cell.{cell_fault, names_in, spans_in, units_in}
 use Rattle.r4_base.specs.Key.{rank}
 use Rattle.r4_base.specs.Node.{KeysRise, PluginsFit, items_of, level_of, mkfs_id_of}
@@ -11,7 +12,8 @@ use Rattle.r4_cell.proofs.NodesAt.{IsNodeAt, plugins_at}
 use Rattle.r4_node40.specs.Laid.{IsNode}
 use Rattle.r4_node40.specs.View.{view_block, view_items}
 use Rattle.r4_node40.proofs.Accepted.{good}
-use Rattle.r4_edit.specs.Levels.{IsParted, units_of_cells}
+use Rattle.r4_edit.specs.Levels.{units_of_cells}
+use Rattle.r4_edit.specs.Splitting.{IsParted}
 use Rattle.r4_edit.specs.Nodes.{weight, weight_of}
 use Rattle.r4_edit.specs.Rows.{row_items, row_level, row_more, with_pointers}
 use Rattle.r4_edit.specs.Sharing.{HasItems, IsRowOf, IsSound, items_of_cells}
@@ -165,13 +167,21 @@ module _ (c p q : CellSeen) (w : Row) (lent : Lent c p q w) where
       → length cells ≡ 2 → g ≡ record f { next = f.next + 1 } → IsParted c f g (record { old = old; new = cells })
   lent_parted f g old cells same has two took =
       let mine : HasItems c (row_items w) f.next cells = subst (λ x. HasItems x (row_items w) f.next cells) lent.q_is has in
+      let all = same_row c w sound_cell lent.low wide view_cell lent.at_zero lent.none_come lent.two in
+      let own : HasItems c (items_of c.block) f.next cells = subst (λ items. HasItems c items f.next cells) all mine in
       record {
-        old = same;
-        has = subst (λ items. HasItems c items f.next cells)
-            (same_row c w sound_cell lent.low wide view_cell lent.at_zero lent.none_come lent.two) mine;
         two = two;
-        took = took;
-        step = subst (λ x. IsStep None (record { old = x; new = cells })) (sym same)
-            (own_step c w sound_cell lent.low wide view_cell lent.at_zero lent.none_come lent.two f.next cells mine lent.tree_node);
         units = own_units c w sound_cell lent.low wide view_cell lent.at_zero lent.none_come lent.two f.next cells mine lent.tree_node;
+        parts = inl (record {
+          old = same;
+          step = subst (λ x. IsStep None (record { old = x; new = cells })) (sym same)
+              (own_step c w sound_cell lent.low wide view_cell lent.at_zero lent.none_come lent.two f.next cells mine lent.tree_node);
+          sound = own.sound;
+          counts = own.fresh;
+          number = took ∙ (λ i. record f {
+            next = (let d = length-drop 1 cells in
+                let one : f.next + 1 ≡ f.next + length (drop 1 cells) = omega (arith, d, two) in one) i;
+          });
+          mkfs_id = own.mkfs_id;
+        });
       }

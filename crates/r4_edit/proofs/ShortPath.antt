@@ -1,11 +1,11 @@
 -- A root and the first of the leaves below it are a part of a tree, and a path of it.
 use Rattle.std.proofs.Common.{◌≡◌, ◌≢◌, ◌⊎◌, inl, inr, ℕ, ◌+◌, ◌-◌, ◌^◌, ◌<◌, ◌≤◌, true, List, [], ◌∷◌, length, refl, sym}
-use Rattle.std.proofs.Common.{ap, subst, ◌∙◌, arith}
+use Rattle.std.proofs.Common.{ap, eq-eqb, subst, ◌∙◌, arith}
 use Rattle.std.specs.Prelude.{Contains, reverse, None, Some}
 use Rattle.std.proofs.Math.Nat.{min-le_left}
 use Rattle.r4_base.specs.Cell.{cell_fault}
 use Rattle.r4_base.specs.Key.{rank, top}
-use Rattle.r4_base.specs.Node.{Item, items_of}
+use Rattle.r4_base.specs.Node.{Item}
 use Rattle.r4_base.specs.Tree.{Fits, IsNode, Name, Node, Root, Store}
 use Rattle.r4_base.specs.declared.key.Key.{Key}
 use Rattle.r4_base.specs.Value.{Value}
@@ -16,7 +16,7 @@ use Rattle.r4_cell.specs.declared.change.Fresh.{Fresh}
 use Rattle.r4_patch.specs.Joining.{ids_of}
 use Rattle.r4_patch.specs.Part.{IsPart}
 use Rattle.r4_edit.specs.Growing.{IsPathIn, IsRootIn}
-use Rattle.r4_edit.specs.Levels.{IsPartedUp, IsSplitIn}
+use Rattle.r4_edit.specs.Splitting.{IsPartedUp, IsSplitIn, unit_count}
 use Rattle.r4_edit.specs.Nodes.{IsPointingTo}
 use Rattle.r4_edit.specs.Steps.{name_of}
 use Rattle.r4_edit.specs.Editing.{IsCutOutUp, IsEditedIn, IsInsertedUp, after_cut, after_insert, extra_up}
@@ -239,8 +239,9 @@ cut_here cells path f from to leaf rest e are keys over' numbers =
     )
 
 pub split_here : (cells path : List CellSeen) (f : Fresh) (leaf : CellSeen) (rest : List CellSeen) → cells ≡ leaf ∷ rest
-    → 2 ≤ length (items_of leaf.block) → IsPathOver cells f path → (t : Store Value) × ((r : Root) × IsSplitIn t r path f)
-split_here cells path f leaf rest e two over' =
+    → leaf.level ≡ 1 → 2 ≤ length (node_of leaf).units → IsPathOver cells f path
+    → (t : Store Value) × ((r : Root) × IsSplitIn t r path f)
+split_here cells path f leaf rest e level two over' =
     let over : IsShortPath leaf f path = subst (λ cs. IsPathOver cs f path) e over' in (
       by_name path,
       (
@@ -249,7 +250,9 @@ split_here cells path f leaf rest e two over' =
             (record {
               path = over.leads;
               enough = inr (refl, (let l = over.level in omega (arith, l)));
-              items = two;
+              units = let is = eq-eqb leaf.level 1 level in
+                  let same : unit_count leaf ≡ length (node_of leaf).units = rw is refl in
+                  subst (λ n. 2 ≤ n) (sym same) two;
             }),
       ),
     )

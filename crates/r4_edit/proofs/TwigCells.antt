@@ -43,7 +43,7 @@ items_wide lo hi (it ∷ items) some at =
     let below = l.below in
     omega (arith, from, below)
 
-twig_wide : (lo hi : ℕ) (b : List ℕ) → MayStand lo hi b → lo < hi
+pub twig_wide : (lo hi : ℕ) (b : List ℕ) → MayStand lo hi b → lo < hi
 twig_wide lo hi b stands =
     let at = node_at true (2 ^ 64) 2 lo hi b (omega arith) stands.1 in
     let level = at.level_is in
@@ -80,7 +80,7 @@ abbrev names_of_cells : List CellSeen → List Name
 names_of_cells [] = []
 names_of_cells (c ∷ cells) = (node_of c).names ++ names_of_cells cells
 
-naming_in : (cells : List CellSeen) (n : Name) → AreNaming cells n → Contains (names_of_cells cells) n
+pub naming_in : (cells : List CellSeen) (n : Name) → AreNaming cells n → Contains (names_of_cells cells) n
 naming_in [] n (x, member, named) = absurd (none x member)
 naming_in (c ∷ cells) n (x, member, named) = elim (cases c x cells member) [
   | inl is ↦ Contains-append_left (node_of c).names (names_of_cells cells) n
@@ -88,7 +88,7 @@ naming_in (c ∷ cells) n (x, member, named) = elim (cases c x cells member) [
   | inr more ↦ Contains-append_right (node_of c).names (names_of_cells cells) n (naming_in cells n (x, more, named))
 ]
 
-in_naming : (cells : List CellSeen) (n : Name) → Contains (names_of_cells cells) n → AreNaming cells n
+pub in_naming : (cells : List CellSeen) (n : Name) → Contains (names_of_cells cells) n → AreNaming cells n
 in_naming [] n at = absurd (none n at)
 in_naming (c ∷ cells) n at = elim (Contains-append_cases (node_of c).names (names_of_cells cells) n at) [
   | inl mine ↦ (c, here c cells, mine)
@@ -188,26 +188,28 @@ twigs_step twig qs twigs x more f g s parts p few old new took ids =
     let is = subst (ArePacked (rank twig.lo) (rank twig.hi) twig.id f.next qs (length twigs)) (sym cells)
     (packed (rank twig.lo) twig.hi twig.id f.next qs twigs p) in
     record {
-      old = old;
-      first = is.first;
-      ranges = is.follow;
-      names = λ n. (
-        (λ h. subst (λ ns. Contains ns n) is.names (naming_in s.new n h)),
-        (λ h. in_naming s.new n (subst (λ ns. Contains ns n) (sym is.names) h)),
-      );
-      units = is.units;
-      sound = is.sound;
-      counts = is.counts;
-      number = took ∙ (λ i. record f {
-        next = (let many = is.many in let n = ap length parts in let d = length-drop 1 s.new in
-            let same : f.next + length more ≡ f.next + length (drop 1 s.new) = omega (arith, many, n, d) in same) i;
-      });
+      row = record {
+        old = old;
+        first = is.first;
+        ranges = is.follow;
+        names = λ n. (
+          (λ h. subst (λ ns. Contains ns n) is.names (naming_in s.new n h)),
+          (λ h. in_naming s.new n (subst (λ ns. Contains ns n) (sym is.names) h)),
+        );
+        units = is.units;
+        sound = is.sound;
+        counts = is.counts;
+        number = took ∙ (λ i. record f {
+          next = (let many = is.many in let n = ap length parts in let d = length-drop 1 s.new in
+              let same : f.next + length more ≡ f.next + length (drop 1 s.new) = omega (arith, many, n, d) in same) i;
+        });
+        mkfs_id = λ c member. twig_ids (mkfs_id_of twig.block) twig.id f.next twig.hi twigs ids c
+            (subst (λ cs. Contains cs c) cells member);
+      };
       one = λ fits. is.many ∙ few.one fits;
       several = λ over. let many = is.many in let two = few.several over in
           let n = part_of (twig_bytes qs) (length twigs) over (few.more over) in
           (omega (arith, many, two), omega (arith, many, n));
-      mkfs_id = λ c member. twig_ids (mkfs_id_of twig.block) twig.id f.next twig.hi twigs ids c
-          (subst (λ cs. Contains cs c) cells member);
     }
 
 pub no_twigs : (lo hi : ℕ) (qs : List TwigPiece) (twigs : List Twig) → length twigs ≡ 0 → PacksTwigs lo hi qs twigs → ⊥

@@ -53,7 +53,7 @@ abbrev pub extra_twigs : List TwigPiece → ℕ
 extra_twigs qs = (twig_bytes qs - 4068 + 1023) / 1024
 
 -- Twigs of these pieces come in the place of a twig, with numbers that were taken and its mkfs_id.
-pub record IsTwigLevel (twig : CellSeen) (qs : List TwigPiece) (before after : Fresh) (s : Step) : Type 0 where
+pub record IsTwigRow (twig : CellSeen) (qs : List TwigPiece) (before after : Fresh) (s : Step) : Type 0 where
   pub old : s.old ≡ twig
   pub first : ids_of s.new ≡ twig.id ∷ ids_of (drop 1 s.new)
   pub ranges : Follow 2 (rank twig.lo) (rank twig.hi) s.new
@@ -62,9 +62,13 @@ pub record IsTwigLevel (twig : CellSeen) (qs : List TwigPiece) (before after : F
   pub sound : (c : CellSeen) → Contains s.new c → IsSound c
   pub counts : CountUp before.next (ids_of (drop 1 s.new))
   pub number : after ≡ record before { next = before.next + length (drop 1 s.new) }
+  pub mkfs_id : HaveMkfsIdOf twig s.new
+
+-- The same, and they are no more than are needed.
+pub record IsTwigLevel (twig : CellSeen) (qs : List TwigPiece) (before after : Fresh) (s : Step) : Type 0 where
+  pub row : IsTwigRow twig qs before after s
   pub one : twig_bytes qs ≤ 4068 → length s.new ≡ 1
   pub several : 4068 < twig_bytes qs → (2 ≤ length s.new) × (length s.new ≤ 1 + extra_twigs qs)
-  pub mkfs_id : HaveMkfsIdOf twig s.new
 
 -- ---- a twig that is to have other pieces
 

@@ -1,18 +1,17 @@
 -- A change that climbs a path, level by level (docs/volume.md, "Edits").
 use Rattle.std.specs.Prelude.{◌≡◌, ◌≢◌, ◌⊎◌, ℕ, suc, ◌+◌, ◌*◌, ◌^◌, ◌<◌, ◌≤◌, List, [], ◌∷◌, ◌++◌, All, Contains, drop, length}
-use Rattle.std.specs.Prelude.{reverse, take, Option, None, Some}
+use Rattle.std.specs.Prelude.{take, Option, None, Some}
 use Rattle.std.specs.Arc.{arc_value}
 use Rattle.r4_base.specs.Key.{least, rank, top}
 use Rattle.r4_base.specs.Node.{items_of, mkfs_id_of}
-use Rattle.r4_base.specs.Tree.{IsNode, Root, Store}
+use Rattle.r4_base.specs.Tree.{IsNode, Root}
 use Rattle.r4_base.specs.Value.{Value}
 use Rattle.r4_cell.specs.Seen.{CellSeen, node_of}
 use Rattle.r4_cell.specs.declared.change.Change.{Change}
 use Rattle.r4_cell.specs.declared.change.Fresh.{Fresh}
 use Rattle.r4_patch.specs.Joining.{ids_of}
-use Rattle.r4_edit.specs.Growing.{IsPathIn}
 use Rattle.r4_edit.specs.Nodes.{IsPointable, weight}
-use Rattle.r4_edit.specs.Sharing.{AreFilled, HasItems, IsSound}
+use Rattle.r4_edit.specs.Sharing.{AreFilled, IsSound}
 use Rattle.r4_edit.specs.Steps.{Climbs, CountUp, Ends, Follow, IsStep, Step, fresh_ids, name_of, news, olds, root_pair}
 use Rattle.r4_edit.specs.declared.level.Level.{Level}
 
@@ -138,55 +137,3 @@ pub record Rises (s : Step) (ups : List CellSeen) (before after : Fresh) (c : Ch
   pub over : Option CellSeen
   pub climbed : Climbed s ups before after [] steps over
   pub levels : HasLevels steps over c
-
--- ---- a node parted in two
-
--- The cell has two items or more, and is the lowest of a path of this part of a tree, with the cells above it that a new
--- pointer may ask for.
-pub record IsPartedIn (t : Store Value) (r : Root) (c : CellSeen) (ups : List CellSeen) (fresh : Fresh) : Type 0 where
-  pub path : IsPathIn t r (c ∷ ups) fresh
-  pub enough : IsLongEnough r 1 c ups
-  pub items : 2 ≤ length (items_of c.block)
-
--- The lowest step parts the cell in two, with all its units in their order; the steps go up the path, with the next numbers.
--- The mkfs_ids are kept.
-pub record Parts (c : CellSeen) (ups : List CellSeen) (before after : Fresh) (change : Change) : Type 0 where
-  pub lowest : Step
-  pub more : List Step
-  pub over : Option CellSeen
-  pub levels : HasLevels (lowest ∷ more) over change
-  pub old : lowest.old ≡ c
-  pub ups_are : olds more ≡ take (length more) ups
-  pub two : length lowest.new ≡ 2
-  pub units : units_of_cells lowest.new ≡ (node_of c).units
-  pub keep : (u : Step) → Contains more u → Keeps u
-  pub needed : AreNeeded (lowest ∷ more)
-  pub mkfs_ids : KeepMkfsIds (lowest ∷ more) over
-  pub root_units : (d : CellSeen) → over ≡ Some d → (node_of d).units ≡ []
-  pub counts : CountUp before.next (fresh_ids (lowest ∷ more) over)
-  pub number : after ≡ record before { next = before.next + length (fresh_ids (lowest ∷ more) over) }
-
--- The cell is parted in two, with all its units in their order.
-pub record IsParted (c : CellSeen) (before after : Fresh) (s : Step) : Type 0 where
-  pub old : s.old ≡ c
-  pub has : HasItems c (items_of c.block) before.next s.new
-  pub two : length s.new ≡ 2
-  pub took : after ≡ record before { next = before.next + 1 }
-  pub step : IsStep None s
-  pub units : units_of_cells s.new ≡ (node_of c).units
-
--- ---- the same of a path that is given from the top down
-
-abbrev pub IsPartedUp : Store Value → Root → Fresh → List CellSeen → Type 0
-IsPartedUp t r fresh [] = ⊥
-IsPartedUp t r fresh (c ∷ ups) = IsPartedIn t r c ups fresh
-
-abbrev pub IsSplitIn : Store Value → Root → (path : List CellSeen) → Fresh → Type 0
-IsSplitIn t r path fresh = IsPartedUp t r fresh (reverse path)
-
-abbrev pub PartsUp : (before after : Fresh) → Change → List CellSeen → Type 0
-PartsUp before after change [] = ⊥
-PartsUp before after change (c ∷ ups) = Parts c ups before after change
-
-abbrev pub Splits : (path : List CellSeen) → (before after : Fresh) → Change → Type 0
-Splits path before after change = PartsUp before after change (reverse path)

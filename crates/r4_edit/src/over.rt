@@ -107,7 +107,7 @@ fn one(alloc: Global, cell: &Arc<Cell>) -> Result<Vec<Arc<Cell>>, Memory>
 }
 
 /// The parts of a leaf that there are.
-fn cells_of(alloc: Global, parts: LeafParts) -> Result<Vec<Arc<Cell>>, Memory>
+pub(crate) fn cells_of(alloc: Global, parts: LeafParts) -> Result<Vec<Arc<Cell>>, Memory>
     ensures { IfOk result (λ v. map (λ c. arc_value c) v.items
         ≡ given_cells (option_map (λ c. arc_value c) parts.left) ++ given_cells (option_map (λ c. arc_value c) parts.right)) }
 {

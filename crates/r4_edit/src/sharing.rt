@@ -78,7 +78,7 @@ fn single(alloc: Global, cell: Arc<Cell>) -> Result<Cells, Memory>
 }
 
 /// The two cells.
-fn pair(alloc: Global, left: Arc<Cell>, right: Arc<Cell>) -> Result<Cells, Memory>
+pub(crate) fn pair(alloc: Global, left: Arc<Cell>, right: Arc<Cell>) -> Result<Cells, Memory>
     ensures { IfOk result (λ cells. cells ≡ arc_value left ∷ (arc_value right ∷ [])) }
 {
     let mut cells = Vec::with_capacity(alloc, 2)?;

@@ -1,30 +1,42 @@
 //! A node parted in two (docs/volume.md, "Edits").
 
-ghost use Rattle.std.specs.Prelude.{◌≡◌, [], ◌+◌, ◌^◌, ◌<◌, ◌≤◌, length, map, IfOk};
+ghost use Rattle.std.specs.Prelude.{◌≡◌, [], ◌+◌, ◌^◌, ◌<◌, ◌≤◌, length, map, ℕ, IfOk};
 ghost use Rattle.std.specs.Arc.{arc_value};
-ghost use Rattle.r4_base.specs.Node.{items_of};
+ghost use Rattle.r4_base.specs.Key.{rank};
+ghost use Rattle.r4_base.specs.Node.{items_of, mkfs_id_of};
 ghost use Rattle.r4_base.specs.Tree.{IsNode, Root as TreeRoot, Store};
 ghost use Rattle.r4_base.specs.Value.{Value};
+ghost use Rattle.r4_branch.specs.Pieces.{AreTwigPieces, twig_bytes};
+ghost use Rattle.r4_branch.specs.Twigs.{IsTwig};
 ghost use Rattle.r4_cell.specs.Seen.{node_of};
 ghost use Rattle.r4_cell.specs.Patch.{IsChange};
 ghost use Rattle.r4_patch.specs.Joining.{patch_of_change};
 ghost use Rattle.r4_patch.specs.Part.{MeetsPart};
-ghost use Rattle.r4_edit.specs.Levels.{IsParted, IsSplitIn, Splits, step_of};
+ghost use Rattle.r4_edit.specs.Extents.{twig_pieces};
+ghost use Rattle.r4_edit.specs.Levels.{step_of};
+ghost use Rattle.r4_edit.specs.Splitting.{IsParted, IsSplitIn, Splits, unit_count};
 ghost use Rattle.r4_edit.specs.Steps.{OnlyTakes};
 
 use crate::ascent::rise;
+use crate::leaf_parts::part_leaf;
 use crate::level::Level;
+use crate::numbers::take_number;
+use crate::over::cells_of;
+use crate::pieces::pieces_of_cell;
 use crate::row::Row;
-use crate::sharing::two;
-use r4_base::{Memory, get32};
-use r4_cell::{Cell, Change, Fresh};
+use crate::sharing::{pair, two};
+use r4_base::{Block, Key, Memory, get32};
+use r4_branch::{TwigPiece, pack_twigs};
+use r4_cell::{Cell, Cells, Change, Fresh, new_cell};
+use r4_leaf::middle_key;
 use std::alloc::Global;
 use std::sync::Arc;
 
-/// Parts the last node of a path in two, between two of its items, of which there are two at least. The path goes from the
-/// top down. It has the cell above where there is one, and as many more as are full: each of these is parted too, and over
-/// a root that is parted, below level 8, stands a new one. It takes a fresh number for each cell that comes, and there is
-/// one for each cell of the path and one more. On `Memory` the numbers may have been taken (docs/volume.md, "Edits").
+/// Parts the last node of a path in two, between two of its units, of which there are two at least: between two items where
+/// there are two, and else within the one item, before its middle unit. The path goes from the top down. It has the cell
+/// above where there is one, and as many more as are full: each of these is parted too, and over a root that is parted,
+/// below level 8, stands a new one. It takes a fresh number for each cell that comes, and there is one for each cell of the
+/// path and one more. On `Memory` the numbers may have been taken (docs/volume.md, "Edits").
 pub fn split(alloc: Global, path: &[Arc<Cell>], fresh: &mut Fresh) -> Result<Change, Memory>
     requires path { (t : Store Value) × ((r : TreeRoot) × IsSplitIn t r (map (λ c. arc_value c) path.now) fresh.old) }
     requires numbers { (2 ^ 63 ≤ fresh.old.next) × (fresh.old.next + length path.now < fresh.old.end) }
@@ -40,8 +52,26 @@ pub fn split(alloc: Global, path: &[Arc<Cell>], fresh: &mut Fresh) -> Result<Cha
     rise(alloc, &path[..count], first, fresh)
 }
 
-/// The two cells in the place of one.
+/// The two cells in the place of one, which has two units or more.
 fn part(alloc: Global, cell: &Arc<Cell>, fresh: &mut Fresh) -> Result<Level, Memory>
+    requires node { IsNode (node_of (arc_value cell.now)) }
+    requires low { 1 ≤ (arc_value cell.now).level }
+    requires two { 2 ≤ unit_count (arc_value cell.now) }
+    requires number { fresh.old.next < fresh.old.end }
+    ensures parted { IfOk result (λ l. IsParted (arc_value cell.now) fresh.old fresh.new (step_of l)) }
+    ensures numbers { OnlyTakes fresh.old fresh.new }
+{
+    if cell.node().len() >= 2 {
+        return part_items(alloc, cell, fresh);
+    }
+    if cell.level() == 1 {
+        return part_item(alloc, cell, fresh);
+    }
+    part_extent(alloc, cell, fresh)
+}
+
+/// The two cells in the place of one, between two of its items.
+fn part_items(alloc: Global, cell: &Arc<Cell>, fresh: &mut Fresh) -> Result<Level, Memory>
     requires node { IsNode (node_of (arc_value cell.now)) }
     requires low { 1 ≤ (arc_value cell.now).level }
     requires two { 2 ≤ length (items_of (arc_value cell.now).block) }
@@ -60,6 +90,60 @@ fn part(alloc: Global, cell: &Arc<Cell>, fresh: &mut Fresh) -> Result<Level, Mem
         old: Arc::try_clone(cell)?,
         new,
     })
+}
+
+/// The two leaves in the place of one with one item, which is parted before its middle unit.
+fn part_item(alloc: Global, leaf: &Arc<Cell>, fresh: &mut Fresh) -> Result<Level, Memory>
+    requires node { IsNode (node_of (arc_value leaf.now)) }
+    requires level { (arc_value leaf.now).level ≡ 1 }
+    requires one { length (items_of (arc_value leaf.now).block) ≡ 1 }
+    requires two { 2 ≤ length (node_of (arc_value leaf.now)).units }
+    requires number { fresh.old.next < fresh.old.end }
+    ensures parted { IfOk result (λ l. IsParted (arc_value leaf.now) fresh.old fresh.new (step_of l)) }
+    ensures numbers { OnlyTakes fresh.old fresh.new }
+{
+    let key = middle_key(&leaf.node());
+    let parts = part_leaf(alloc, leaf, &key, fresh)?;
+    let new = cells_of(alloc, parts)?;
+    Ok(Level {
+        old: Arc::try_clone(leaf)?,
+        new: Cells::from_vec(new),
+    })
+}
+
+/// The two twigs in the place of one, whose pieces are shared out, half of them each.
+fn part_extent(alloc: Global, twig: &Arc<Cell>, fresh: &mut Fresh) -> Result<Level, Memory>
+    requires level { (arc_value twig.now).level ≡ 2 }
+    requires two { 2 ≤ length (twig_pieces (arc_value twig.now)) }
+    requires number { fresh.old.next < fresh.old.end }
+    ensures parted { IfOk result (λ l. IsParted (arc_value twig.now) fresh.old fresh.new (step_of l)) }
+    ensures numbers { OnlyTakes fresh.old fresh.new }
+{
+    let mkfs_id = get32(twig.block().bytes(), 12);
+    let pieces = pieces_of_cell(alloc, twig)?;
+    let (left, right) = pieces.as_slice().split_at(pieces.len() / 2);
+    let key = right[0].key;
+    let left = one_twig(alloc, twig.lo(), mkfs_id, left)?;
+    let right = one_twig(alloc, key, mkfs_id, right)?;
+    let left = new_cell(alloc, twig.id(), 2, twig.lo(), key, left)?;
+    let right = new_cell(alloc, take_number(fresh), 2, key, twig.hi(), right)?;
+    let new = pair(alloc, left, right)?;
+    Ok(Level {
+        old: Arc::try_clone(twig)?,
+        new,
+    })
+}
+
+/// The block of the one twig that these pieces need, for a range that begins at `lo`.
+fn one_twig(alloc: Global, lo: Key, mkfs_id: u32, pieces: &[TwigPiece]) -> Result<Block, Memory>
+    requires pieces { (hi : ℕ) × AreTwigPieces (rank lo) hi pieces.now }
+    requires fits { twig_bytes pieces.now ≤ 4068 }
+    ensures twig { IfOk result (λ b. (hi : ℕ) → AreTwigPieces (rank lo) hi pieces.now
+        → IsTwig (rank lo) hi pieces.now (record { lo = lo; block = b })) }
+    ensures mkfs_id { IfOk result (λ b. mkfs_id_of b ≡ mkfs_id) }
+{
+    let mut twigs = pack_twigs(alloc, lo, mkfs_id, pieces)?;
+    Ok(twigs.remove(0).block)
 }
 
 /// No further cells.

@@ -204,6 +204,23 @@ fn a_full_root_is_parted(rt: HostRuntime) -> Result<(), Fail> {
     Ok(())
 }
 
+// A leaf with one tail is parted before the middle one of its bytes.
+#[test]
+fn a_tail_is_parted(rt: HostRuntime) -> Result<(), Fail> {
+    let alloc = rt.alloc();
+    let bare = [empty_leaf(alloc, LEAF, least(), top())?];
+    let leaf = first(&with(alloc, &bare, byte(7), TAIL, &ZEROS[..101])?)?;
+    let Some(parted) = halve(alloc, &[leaf])? else {
+        return Err(Fail::from("the leaf has no two units"));
+    };
+    assert_eq!(rt;
+        rows(alloc, &parted)?.as_slice(),
+        [(LEAF, 1, 3980), (ROOT + 1, 1, 3979), (ROOT, 2, 3976)].as_slice()
+    );
+    assert!(rt; first(&parted)?.hi().is_same(byte(57)));
+    Ok(())
+}
+
 #[test]
 fn a_leaf_is_parted_and_a_root_goes_below_another(rt: HostRuntime) -> Result<(), Fail> {
     let alloc = rt.alloc();

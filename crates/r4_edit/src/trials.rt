@@ -102,9 +102,10 @@ pub(crate) fn take_out(
     Ok(Some(change))
 }
 
-/// Parts the first of some leaves, all below one root; `None` where they are none, or it has no two items.
+/// Parts the first of some leaves, all below one root; `None` where they are none, or it has neither two items nor a tail of
+/// two bytes.
 pub(crate) fn halve(alloc: Global, leaves: &[Arc<Cell>]) -> Result<Option<Change>, Memory> {
-    if !are_leaves(leaves) || leaves[0].node().len() < 2 {
+    if !are_leaves(leaves) || !has_two_units(&leaves[0]) {
         return Ok(None);
     }
     let mut fresh = numbers();
@@ -163,6 +164,20 @@ fn has_keys(leaf: &Cell, from: &Key, to: &Key) -> bool
         × (rank to.now ≤ rank leaf.now.hi) }
 {
     from.is_below(*to) && !from.is_below(leaf.lo()) && !leaf.hi().is_below(*to)
+}
+
+// Whether the leaf has two items, or begins with a tail of two bytes.
+fn has_two_units(leaf: &Cell) -> bool
+    requires level { leaf.now.level ≡ 1 }
+    requires range { rank leaf.now.lo < rank leaf.now.hi }
+    ensures { IsTrue result → 2 ≤ length (node_of leaf.now).units }
+{
+    let node = leaf.node();
+    if node.len() != 1 {
+        return node.len() >= 2;
+    }
+    let item = node.item(0);
+    item.plugin == 6 && item.body.len() >= 2
 }
 
 // Whether the cells are leaves below one root.
