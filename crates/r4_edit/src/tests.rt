@@ -2,6 +2,7 @@
 
 use crate::trials::{LEAF, ROOT, UNPLACED, halve, put, put_blocks, raise, repack, take_out};
 use r4_base::{Attr, Block, Key, NodeId, Oid, get16, put64};
+use r4_cde::entry_key;
 use r4_cell::{Cell, Change, least, read_cell, top};
 use r4_meta::write_stat;
 use r4_node40::NodeMut;
@@ -11,12 +12,17 @@ use std::test::Fail;
 
 const STAT: u16 = 0;
 
+const ENTRIES: u16 = 2;
+
 const TAIL: u16 = 6;
 
 /// A number, how many items, and how many free bytes.
 type Row = (u64, u16, u16);
 
 static ZEROS: [u8; 4030] = [0; 4030];
+
+// Letters whose names rise.
+static LETTERS: [u8; 40] = *b"0123456789ABCDEFGHIJKLMNOPQRSTUVWXYZabcd";
 
 // The key of a byte of a file.
 fn byte(offset: u64) -> Key {
@@ -171,6 +177,81 @@ fn tails_are_joined_and_cut(rt: HostRuntime) -> Result<(), Fail> {
         rows(alloc, &none)?.as_slice(),
         [(LEAF, 0, 4068)].as_slice()
     );
+    Ok(())
+}
+
+// The key of a name in a directory: a letter, so many times.
+fn name_key(dir: Oid, letter: u8, times: u8) -> Result<Key, Fail> {
+    if dir.0 >= 1 << 60 {
+        return Err(Fail::from("no directory has this number"));
+    }
+    let name = [letter; 255];
+    match entry_key(dir, &name[..usize::from(times)]) {
+        Ok(key) => Ok(key),
+        Err(_) => Err(Fail::from("this is no name")),
+    }
+}
+
+// Puts the body of an entry behind others: what it names, and its name, where that is a long one.
+fn add_entry(bodies: &mut Vec<u8>, letter: u8, times: u8) -> Result<(), Fail> {
+    bodies.extend_from_slice(&[0; 24])?;
+    if times > 23 {
+        let name = [letter; 255];
+        bodies.extend_from_slice(&name[..usize::from(times)])?;
+        bodies.push(0)?;
+    }
+    Ok(())
+}
+
+// The body of an item of entries, whose names are these letters, each so many times (docs/layout.md, "Items").
+fn entries(alloc: Global, dir: Oid, letters: &[u8], times: u8) -> Result<Vec<u8>, Fail> {
+    let Ok(count) = u8::try_from(letters.len()) else {
+        return Err(Fail::from("these are too many entries"));
+    };
+    let room = if times > 23 {
+        25 + u16::from(times)
+    } else {
+        24
+    };
+    let mut at = 2 + 26 * u16::from(count);
+    let mut body = Vec::new(alloc);
+    let mut bodies = Vec::new(alloc);
+    body.extend_from_slice(&u16::from(count).to_le_bytes())?;
+    for letter in letters {
+        let key = name_key(dir, *letter, times)?;
+        body.extend_from_slice(&key.el[1].to_le_bytes())?;
+        body.extend_from_slice(&key.el[2].to_le_bytes())?;
+        body.extend_from_slice(&key.el[3].to_le_bytes())?;
+        body.extend_from_slice(&at.to_le_bytes())?;
+        add_entry(&mut bodies, *letter, times)?;
+        at = at.wrapping_add(room);
+    }
+    body.extend_from_slice(bodies.as_slice())?;
+    Ok(body)
+}
+
+// Long names between the short ones of two other directories: the first of them come behind those of the one, and the others
+// before some of those of the other.
+#[test]
+fn a_leaf_of_entries_becomes_three(rt: HostRuntime) -> Result<(), Fail> {
+    let alloc = rt.alloc();
+    let bare = [empty_leaf(alloc, LEAF, least(), top())?];
+    let low = entries(alloc, Oid(42), &LETTERS[..39], 1)?;
+    let from = name_key(Oid(42), LETTERS[0], 1)?;
+    let some = [first(&with(alloc, &bare, from, ENTRIES, low.as_slice())?)?];
+    let high = entries(alloc, Oid(44), &LETTERS, 1)?;
+    let end = name_key(Oid(44), LETTERS[0], 1)?;
+    let full = [first(&with(alloc, &some, end, ENTRIES, high.as_slice())?)?];
+    let long = entries(alloc, Oid(43), &LETTERS[..13], 255)?;
+    let key = name_key(Oid(43), LETTERS[0], 255)?;
+    let change = with_between(alloc, &full, key, end, ENTRIES, long.as_slice())?;
+    let want = [
+        (LEAF, 2, 202),
+        (ROOT + 1, 2, 46),
+        (ROOT + 2, 1, 3828),
+        (ROOT, 3, 3930),
+    ];
+    assert_eq!(rt; rows(alloc, &change)?.as_slice(), want.as_slice());
     Ok(())
 }
 
