@@ -72,3 +72,6 @@ pub mod OverUnits
 pub mod LeafAmong
 pub mod PutKinds
 pub mod CutKinds
+pub mod RootPart
+pub mod RunTwig
+pub mod RunCuts
