@@ -74,6 +74,10 @@ pub mod OverUnits
 pub mod LeafAmong
 pub mod PutKinds
 pub mod CutKinds
+pub mod RootPart
+pub mod RunTwig
+pub mod RunCuts
 pub mod HalvedTwig
 pub mod HalvedLeaf
 pub mod TwoUnits
+pub mod HoleTwig

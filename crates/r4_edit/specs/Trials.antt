@@ -1,17 +1,22 @@
 -- Trees of two levels for tests: a root over leaves, of which the first is changed.
-use Rattle.std.specs.Prelude.{◌≡◌, ◌⊎◌, ℕ, ◌+◌, ◌^◌, ◌<◌, ◌≤◌, List, [], ◌∷◌, Contains, length}
+use Rattle.std.specs.Prelude.{◌≡◌, ◌⊎◌, ℕ, ◌+◌, ◌*◌, ◌^◌, ◌<◌, ◌≤◌, List, [], ◌∷◌, Contains, length}
 use Rattle.r4_base.specs.Cell.{item_end, item_units}
 use Rattle.r4_base.specs.Extents.{units_of}
-use Rattle.r4_base.specs.Key.{IsKey, least, offset_of, rank, top}
+use Rattle.r4_base.specs.Key.{IsKey, body_key, least, offset_of, rank, stat_key, top}
 use Rattle.r4_base.specs.Node.{Item}
-use Rattle.r4_base.specs.Tree.{Root}
+use Rattle.r4_base.specs.Tree.{IsNode, Root}
 use Rattle.r4_base.specs.Value.{Value}
 use Rattle.r4_base.specs.declared.items.Unit.{Unit as ExtentUnit}
+use Rattle.r4_base.specs.declared.key.Key.{Key}
+use Rattle.r4_branch.specs.Pieces.{names_of}
+use Rattle.r4_branch.specs.declared.piece.TwigPart.TheVariants.{Blocks, Pointer}
+use Rattle.r4_branch.specs.declared.piece.TwigPiece.{TwigPiece}
 use Rattle.r4_cell.specs.Patch.{by_name}
 use Rattle.r4_cell.specs.Seen.{CellSeen, node_of}
 use Rattle.r4_cell.specs.declared.change.Fresh.{Fresh}
 use Rattle.r4_leaf.specs.Leaves.{AreApart, IsGiven}
 use Rattle.r4_patch.specs.Joining.{ids_of}
+use Rattle.r4_edit.specs.Extents.{ArePiecesOf, twig_pieces}
 use Rattle.r4_edit.specs.Growing.{IsPathIn}
 use Rattle.r4_edit.specs.Steps.{CountUp, Follow}
 
@@ -73,3 +78,61 @@ pub record IsShortPath (leaf : CellSeen) (fresh : Fresh) (path : List CellSeen) 
 abbrev pub IsPathOver : (leaves : List CellSeen) → Fresh → (path : List CellSeen) → Type 0
 IsPathOver [] fresh path = ⊥
 IsPathOver (leaf ∷ rest) fresh path = IsShortPath leaf fresh path
+
+-- ---- a root over a leaf and an extent
+
+-- the key of a byte of the one file
+abbrev pub byte_key : (offset : ℕ) → Key
+byte_key offset = body_key 41 0 (record { 0 = 42 }) offset
+
+-- a pointer to the leaf, number 23, and the run of four blocks from number 24 on
+abbrev pub leaf_piece : TwigPiece
+leaf_piece = record { key = stat_key 41 0 (record { 0 = 42 }); part = Pointer (record { 0 = 23 }) }
+
+abbrev pub run_piece : TwigPiece
+run_piece = record { key = byte_key 0; part = Blocks (record { start = 24; width = 4 }) }
+
+abbrev pub run_pieces : List TwigPiece
+run_pieces = leaf_piece ∷ (run_piece ∷ [])
+
+-- The cell is the root, and has these pieces.
+pub record IsRunTwig (twig : CellSeen) : Type 0 where
+  pub id : twig.id ≡ 22
+  pub level : twig.level ≡ 2
+  pub lo : rank twig.lo ≡ least
+  pub hi : rank twig.hi ≡ top
+  pub pieces : ArePiecesOf twig run_pieces
+  pub node : IsNode (node_of twig)
+
+-- The cell is the leaf before the run.
+pub record IsRunLeaf (leaf : CellSeen) : Type 0 where
+  pub id : leaf.id ≡ 23
+  pub level : leaf.level ≡ 1
+  pub lo : rank leaf.lo ≡ least
+  pub hi : rank leaf.hi ≡ rank (byte_key 0)
+  pub node : IsNode (node_of leaf)
+
+-- The cell is one of the run's blocks.
+pub record IsRunBlock (nth : ℕ) (block : CellSeen) : Type 0 where
+  pub id : block.id ≡ 24 + nth
+  pub level : block.level ≡ 0
+  pub lo : rank block.lo ≡ rank (byte_key (4096 * nth))
+  pub hi : rank block.hi ≡ rank (byte_key (4096 * nth + 4096))
+  pub whole : length block.block ≡ 4096
+
+-- ---- a root that is a twig of two holes
+
+-- The cell is the root, and has two pieces, which name nothing.
+pub record IsTwigOfHoles (twig : CellSeen) : Type 0 where
+  pub id : twig.id ≡ 22
+  pub level : twig.level ≡ 2
+  pub lo : rank twig.lo ≡ least
+  pub hi : rank twig.hi ≡ top
+  pub two : length (twig_pieces twig) ≡ 2
+  pub names : (node_of twig).names ≡ []
+  pub node : IsNode (node_of twig)
+
+-- The pieces are two, and name nothing.
+pub record AreTwoHoles (ps : List TwigPiece) : Type 0 where
+  pub two : length ps ≡ 2
+  pub names : (hi : ℕ) → names_of hi ps ≡ []

@@ -12,6 +12,8 @@ mod gathering;
 mod graft_laws;
 mod grafting;
 mod growing;
+#[cfg(test)]
+mod holes;
 mod laws;
 mod leaf_parts;
 mod leaves;

@@ -1,6 +1,10 @@
 //! Edits of a leaf below a root: which cells come, and how many items and free bytes they have.
 
-use crate::trials::{LEAF, ROOT, UNPLACED, halve, put, put_blocks, raise, repack, take_out};
+use crate::holes::{halve_holes, twig_of_holes};
+use crate::trials::{
+    LEAF, ROOT, TWIG, UNPLACED, halve, put, put_blocks, raise, repack, run_twig, take_first,
+    take_later, take_out,
+};
 use r4_base::{Attr, Block, Key, NodeId, Oid, get16, put64};
 use r4_cde::entry_key;
 use r4_cell::{Cell, Change, least, read_cell, top};
@@ -302,6 +306,24 @@ fn a_tail_is_parted(rt: HostRuntime) -> Result<(), Fail> {
     Ok(())
 }
 
+// A twig with one extent is parted before the middle one of its units.
+#[test]
+fn an_extent_is_parted(rt: HostRuntime) -> Result<(), Fail> {
+    let alloc = rt.alloc();
+    let Some(twig) = twig_of_holes(alloc)? else {
+        return Err(Fail::from("a twig of holes is refused"));
+    };
+    let Some(parted) = halve_holes(alloc, &twig)? else {
+        return Err(Fail::from("it is no twig of two holes"));
+    };
+    assert_eq!(rt;
+        rows(alloc, &parted)?.as_slice(),
+        [(TWIG, 1, 4014), (ROOT, 1, 4014), (ROOT + 1, 2, 3976)].as_slice()
+    );
+    assert_eq!(rt; parted.root.map(|root| root.height), Some(3));
+    Ok(())
+}
+
 #[test]
 fn a_leaf_is_parted_and_a_root_goes_below_another(rt: HostRuntime) -> Result<(), Fail> {
     let alloc = rt.alloc();
@@ -402,5 +424,62 @@ fn an_extent_is_put_before_a_leaf(rt: HostRuntime) -> Result<(), Fail> {
         [(LEAF, 1, 3930), (ROOT, 2, 3952)].as_slice()
     );
     assert!(rt; first(&before)?.lo().is_same(byte(8192)));
+    Ok(())
+}
+
+// The root of a leaf and an extent of four blocks.
+fn twig_of_run(alloc: Global) -> Result<Arc<Cell>, Fail> {
+    match run_twig(alloc)? {
+        Some(twig) => Ok(twig),
+        None => Err(Fail::from("the twig is refused")),
+    }
+}
+
+// One of the four blocks.
+fn block_of_run(alloc: Global, nth: u8) -> Result<Arc<Cell>, Fail> {
+    let id = NodeId(TWIG + 2 + u64::from(nth));
+    let lo = byte(4096 * u64::from(nth));
+    let hi = byte(4096 * u64::from(nth) + 4096);
+    match read_cell(alloc, id, 0, lo, hi, 64, Block::zeroed(alloc)?) {
+        Ok(cell) => Ok(cell),
+        Err(_) => Err(Fail::from("a block is refused")),
+    }
+}
+
+// What comes where one of the four blocks is cut out.
+fn without_block(alloc: Global, nth: u8) -> Result<Change, Fail> {
+    let twig = twig_of_run(alloc)?;
+    let block = block_of_run(alloc, nth)?;
+    let leaf = empty_leaf(alloc, TWIG + 1, least(), byte(0))?;
+    let cut = if nth == 0 {
+        take_first(alloc, &twig, &leaf, &block)?
+    } else {
+        take_later(alloc, &twig, &block, u64::from(nth))?
+    };
+    match cut {
+        Some(change) => Ok(change),
+        None => Err(Fail::from("the cells are others")),
+    }
+}
+
+// Which block is cut out, and the cells that come: the leaf has the first one's range afterwards; the extent has that of the
+// others.
+static CUTS: [(u8, &[Row]); 3] = [
+    (0, &[(TWIG + 1, 0, 4068), (TWIG, 2, 3968)]),
+    (1, &[(TWIG, 3, 3914)]),
+    (3, &[(TWIG, 2, 3968)]),
+];
+
+#[test]
+fn blocks_are_cut_out_of_an_extent(rt: HostRuntime) -> Result<(), Fail> {
+    let alloc = rt.alloc();
+    for (nth, want) in CUTS {
+        let change = without_block(alloc, nth)?;
+        assert_eq!(rt; rows(alloc, &change)?.as_slice(), want);
+        assert!(rt; change.root.is_none());
+        if nth == 0 {
+            assert!(rt; first(&change)?.hi().is_same(byte(4096)));
+        }
+    }
     Ok(())
 }

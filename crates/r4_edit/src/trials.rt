@@ -13,7 +13,8 @@ ghost use Rattle.r4_patch.specs.Joining.{ids_of};
 ghost use Rattle.r4_edit.specs.Editing.{given_item};
 ghost use Rattle.r4_edit.specs.Growing.{IsRootIn};
 ghost use Rattle.r4_edit.specs.Steps.{CountUp, Follow};
-ghost use Rattle.r4_edit.specs.Trials.{AreLeaves, FirstMayLie, FirstMayTake, IsPathOver, StandsAlone, new_units};
+ghost use Rattle.r4_edit.specs.Trials.{AreLeaves, FirstMayLie, FirstMayTake, IsPathOver, IsRunBlock, IsRunLeaf, IsRunTwig, StandsAlone};
+ghost use Rattle.r4_edit.specs.Trials.{byte_key, leaf_piece, new_units, run_piece, run_pieces};
 
 use crate::appending::append;
 use crate::editing::{cut, insert, leaves_without};
@@ -21,8 +22,8 @@ use crate::grafting::graft;
 use crate::growing::{grow, root_over};
 use crate::pieces::pieces_of_cell;
 use crate::splitting::split;
-use r4_base::{Block, Key, Memory, NodeId, Unit};
-use r4_branch::pieces_of;
+use r4_base::{Block, Key, Memory, NodeId, Oid, Unit, put64};
+use r4_branch::{TwigPart, TwigPiece, pieces_of};
 use r4_cell::{Cell, Change, Fresh, least, read_cell};
 use r4_node40::NodeMut;
 use r4_twig::ExtentView;
@@ -37,6 +38,9 @@ pub(crate) const ROOT: u64 = LEAF + 1000;
 
 /// The number behind those that may be taken where an extent is put in. Its blocks have this one and the next.
 pub(crate) const UNPLACED: u64 = ROOT + 1000;
+
+/// The number of a root that has a leaf and behind it an extent of four blocks. Theirs are the next ones.
+pub(crate) const TWIG: u64 = 22;
 
 /// The bytes of two blocks.
 const TWO_BLOCKS: u64 = 8192;
@@ -136,6 +140,156 @@ pub(crate) fn repack(alloc: Global, leaves: &[Arc<Cell>]) -> Result<Option<Chang
     Ok(Some(change))
 }
 
+/// The root of a leaf and an extent of four blocks; `None` where it is refused.
+pub(crate) fn run_twig(alloc: Global) -> Result<Option<Arc<Cell>>, Memory> {
+    let mut block = Block::zeroed(alloc)?;
+    lay_run(&mut block);
+    match read_cell(alloc, NodeId(TWIG), 2, least(), r4_cell::top(), 64, block) {
+        Ok(cell) => Ok(Some(cell)),
+        Err(_) => Ok(None),
+    }
+}
+
+/// Cuts the first of the four blocks out of an extent, which has a leaf before it, below a root; `None` where the cells are
+/// others.
+pub(crate) fn take_first(
+    alloc: Global,
+    twig: &Arc<Cell>,
+    leaf: &Arc<Cell>,
+    block: &Arc<Cell>,
+) -> Result<Option<Change>, Memory> {
+    if !is_run_leaf(leaf) || !is_run_block(block, 0) || !is_run_twig(alloc, twig)? {
+        return Ok(None);
+    }
+    let mut path = Vec::with_capacity(alloc, 3)?;
+    path.push(Arc::try_clone(twig)?)?;
+    path.push(Arc::try_clone(leaf)?)?;
+    path.push(Arc::try_clone(block)?)?;
+    let mut fresh = numbers();
+    let change = cut(
+        alloc,
+        path.as_slice(),
+        &key_of(0),
+        &key_of(4096),
+        &mut fresh,
+    )?;
+    Ok(Some(change))
+}
+
+/// Cuts another one of the four blocks out of an extent below a root, the second or the last; `None` where the cells are
+/// others.
+pub(crate) fn take_later(
+    alloc: Global,
+    twig: &Arc<Cell>,
+    block: &Arc<Cell>,
+    nth: u64,
+) -> Result<Option<Change>, Memory> {
+    if !is_second_or_last(nth) || !is_run_block(block, nth) || !is_run_twig(alloc, twig)? {
+        return Ok(None);
+    }
+    let mut path = Vec::with_capacity(alloc, 2)?;
+    path.push(Arc::try_clone(twig)?)?;
+    path.push(Arc::try_clone(block)?)?;
+    let from = key_of(4096 * nth);
+    let to = key_of(4096 * nth + 4096);
+    let mut fresh = numbers();
+    let change = cut(alloc, path.as_slice(), &from, &to, &mut fresh)?;
+    Ok(Some(change))
+}
+
+// The key of a byte of the one file.
+fn key_of(offset: u64) -> Key
+    ensures { result ≡ byte_key offset }
+{
+    Key::body(41, 0, Oid(42), offset)
+}
+
+// Makes the block the root of a leaf and an extent of four blocks.
+fn lay_run(block: &mut Block) {
+    let mut extent = [0; 16];
+    put64(&mut extent, 0, TWIG + 2);
+    put64(&mut extent, 8, 4);
+    let mut pointer = [0; 8];
+    put64(&mut pointer, 0, TWIG + 1);
+    let mut node = NodeMut::format(block, 2, 1);
+    append(&mut node, 0, Key::stat(41, 0, Oid(42)), 3, &pointer);
+    append(&mut node, 1, key_of(0), 5, &extent);
+}
+
+// Whether the cell is the root of a leaf and an extent of four blocks.
+fn is_run_twig(alloc: Global, twig: &Cell) -> Result<bool, Memory>
+    ensures { IfOk result (λ b. IsTrue b → IsRunTwig twig.now) }
+{
+    if twig.id().0 != TWIG || twig.level() != 2 {
+        return Ok(false);
+    }
+    if !twig.lo().is_same(least()) || !twig.hi().is_same(r4_cell::top()) {
+        return Ok(false);
+    }
+    let _node = twig.node();
+    let pieces = pieces_of_cell(alloc, twig)?;
+    Ok(are_run(pieces.as_slice()))
+}
+
+// Whether the pieces are a pointer to the leaf, and a run of four blocks.
+fn are_run(pieces: &[TwigPiece]) -> bool
+    ensures { IsTrue result → pieces.now ≡ run_pieces }
+{
+    let [first, second] = pieces else {
+        return false;
+    };
+    points_to_leaf(first) && is_run(second)
+}
+
+// Whether the piece is the pointer to the leaf.
+fn points_to_leaf(piece: &TwigPiece) -> bool
+    ensures { IsTrue result → piece.now ≡ leaf_piece }
+{
+    let TwigPart::Pointer(leaf) = piece.part else {
+        return false;
+    };
+    leaf.0 == TWIG + 1 && piece.key.is_same(Key::stat(41, 0, Oid(42)))
+}
+
+// Whether the piece is the run of four blocks.
+fn is_run(piece: &TwigPiece) -> bool
+    ensures { IsTrue result → piece.now ≡ run_piece }
+{
+    let TwigPart::Blocks(unit) = piece.part else {
+        return false;
+    };
+    unit.start == TWIG + 2 && unit.width == 4 && piece.key.is_same(key_of(0))
+}
+
+// Whether the cell is the leaf before the run.
+fn is_run_leaf(leaf: &Cell) -> bool
+    ensures { IsTrue result → IsRunLeaf leaf.now }
+{
+    if leaf.id().0 != TWIG + 1 || leaf.level() != 1 {
+        return false;
+    }
+    let _node = leaf.node();
+    leaf.lo().is_same(least()) && leaf.hi().is_same(key_of(0))
+}
+
+// Whether it is the place of the second block or of the last one.
+fn is_second_or_last(nth: u64) -> bool
+    ensures { IsTrue result → (nth ≡ 1) ⊎ (nth ≡ 3) }
+{
+    nth == 1 || nth == 3
+}
+
+// Whether the cell is one of the run's blocks.
+fn is_run_block(block: &Cell, nth: u64) -> bool
+    ensures { IsTrue result → IsRunBlock nth block.now }
+{
+    if nth >= 4 || block.id().0 != TWIG + 2 + nth || block.level() != 0 {
+        return false;
+    }
+    let _bytes = block.block().bytes();
+    block.lo().is_same(key_of(4096 * nth)) && block.hi().is_same(key_of(4096 * nth + 4096))
+}
+
 // Packs a root that is a twig anew, of its own pieces.
 fn anew(alloc: Global, root: &Arc<Cell>, fresh: &mut Fresh) -> Result<Change, Memory>
     requires root { (t : Store Value) × ((r : TreeRoot) × IsRootIn t r (arc_value root.now) fresh.old) }
@@ -148,7 +302,7 @@ fn anew(alloc: Global, root: &Arc<Cell>, fresh: &mut Fresh) -> Result<Change, Me
 }
 
 // The numbers for the root and what comes.
-fn numbers() -> Fresh
+pub(crate) fn numbers() -> Fresh
     ensures next { result.next ≡ 2 ^ 63 + 1000 }
     ensures end { result.end ≡ 2 ^ 64 - 1 }
 {

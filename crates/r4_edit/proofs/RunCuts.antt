@@ -1,0 +1,276 @@
+-- A block may be cut out of the extent of four blocks below a root.
+use Rattle.std.proofs.Common.{◌≡◌, ◌⊎◌, inl, inr, ℕ, ◌+◌, ◌*◌, ◌-◌, ◌^◌, ◌<◌, ◌≤◌, List, [], ◌∷◌, ◌++◌, refl, sym, ap, subst, ◌∙◌, arith}
+use Rattle.std.specs.Prelude.{Contains, Option, None, Some}
+use Rattle.std.proofs.lemmas.Option.{same_Some}
+use Rattle.r4_base.specs.Key.{rank}
+use Rattle.r4_base.specs.Tree.{IsNode, Name, Root, Store}
+use Rattle.r4_base.specs.Value.{Value}
+use Rattle.r4_base.specs.declared.key.Key.{Key}
+use Rattle.r4_branch.specs.Pieces.{bytes_behind, piece_end, twig_bytes}
+use Rattle.r4_branch.specs.declared.piece.TwigPiece.{TwigPiece}
+use Rattle.r4_cell.specs.Patch.{by_name}
+use Rattle.r4_cell.specs.Seen.{CellSeen, node_of}
+use Rattle.r4_cell.specs.declared.change.Fresh.{Fresh}
+use Rattle.r4_graft.specs.Splices.{IsBorder}
+use Rattle.r4_edit.specs.CutBlocks.{BeginsAt, IsCutIn, IsCutUp, IsLeftOf, IsTakenOutIn, cut_pieces}
+use Rattle.r4_edit.specs.CutBlocks.{parted_twice, pieces_between, pieces_without}
+use Rattle.r4_edit.specs.Extents.{given_cells, twig_pieces}
+use Rattle.r4_edit.specs.Steps.{IsNameOf, name_of}
+use Rattle.r4_edit.specs.Trials.{IsRunBlock, IsRunLeaf, IsRunTwig, byte_key, leaf_piece, low_root, run_piece}
+use Rattle.r4_edit.proofs.ExtentChange.{only}
+use Rattle.r4_edit.proofs.Members.{cases, have_names, here, here_named, later_named, none}
+use Rattle.r4_edit.proofs.RunTwig.{block_name, block_named, block_node, byte_at, byte_top, first_key, has_block, has_leaf}
+use Rattle.r4_edit.proofs.RunTwig.{leaf_named, least_byte, name_is, path_of}
+
+-- where the block begins, and the next one
+abbrev from_key : (nth : ℕ) → ℕ
+from_key nth = rank (byte_key (4096 * nth))
+
+abbrev to_key : (nth : ℕ) → ℕ
+to_key nth = rank (byte_key (4096 * nth + 4096))
+
+-- the pieces that go
+abbrev going : (nth : ℕ) → List TwigPiece → List TwigPiece
+going nth ps = pieces_between (from_key nth) (to_key nth) (parted_twice (from_key nth) (to_key nth) ps)
+
+module _ (twig : CellSeen) (is : IsRunTwig twig) where
+  border : (n : ℕ) → IsBorder (rank (byte_key (4096 * n))) (twig_pieces twig)
+  border n p at low high =
+      let k = byte_at (4096 * n) in
+      elim (cases leaf_piece p (run_piece ∷ []) (subst (λ ps. Contains ps p) (sym is.pieces.is) at)) [
+        | inl same ↦
+            let end : rank (byte_key (4096 * n)) < rank leaf_piece.key + 1 =
+            subst (λ (q : TwigPiece). rank (byte_key (4096 * n)) < piece_end q) same high in
+            absurd (omega (arith, k, end, first_key, least_byte))
+        | inr more ↦
+            let key = ap (λ (q : TwigPiece). rank q.key) (only run_piece p more) in
+            (n, omega (arith, k, key))
+      ]
+
+  clear : (from to : ℕ) → rank (byte_key 0) ≤ from → (n : Name) → Contains (node_of twig).names n → n.level ≡ 1
+      → (n.hi ≤ from) ⊎ (to ≤ n.lo)
+  clear from to low n at level = elim (name_is twig is n at) [
+    | inl leaf ↦ let hi = ap (λ (m : Name). m.hi) leaf in inl (omega (arith, hi, low))
+    | inr block ↦ let (j, less, e) = block in let l = ap (λ (m : Name). m.level) e in absurd (omega (arith, l, level))
+  ]
+
+  -- the one leaf ends where the extent begins
+  leaf_ends : (n : Name) → Contains (node_of twig).names n → n.level ≡ 1 → n.hi ≡ rank (byte_key 0)
+  leaf_ends n at level = elim (name_is twig is n at) [
+    | inl leaf ↦ ap (λ (m : Name). m.hi) leaf
+    | inr block ↦ let (j, less, e) = block in let l = ap (λ (m : Name). m.level) e in absurd (omega (arith, l, level))
+  ]
+
+  module _ (nth : ℕ) (block : CellSeen) (less : nth < 4) (mine : IsRunBlock nth block) where
+    begins : from_key nth ≡ rank (byte_key 0) + 4096 * nth
+    begins = byte_at (4096 * nth)
+
+    stops : to_key nth ≡ rank (byte_key 0) + (4096 * nth + 4096)
+    stops = byte_at (4096 * nth + 4096)
+
+    goes_to : (n : Name) → IsNameOf (block ∷ []) n
+        → Contains (node_of twig).names n × ((n.level ≡ 0) × ((from_key nth ≤ n.lo) × (n.lo < to_key nth)))
+    goes_to n (c, at, e) =
+        let named : n ≡ block_name nth = e ∙ (ap name_of (only block c at) ∙ block_named nth block mine) in
+        let lo = ap (λ (m : Name). m.lo) named in (
+          subst (Contains (node_of twig).names) (sym named) (has_block twig is nth less),
+          (
+            ap (λ (m : Name). m.level) named,
+            (omega (arith, lo, begins), omega (arith, lo, stops)),
+          ),
+        )
+
+    goes_from : (n : Name)
+        → Contains (node_of twig).names n × ((n.level ≡ 0) × ((from_key nth ≤ n.lo) × (n.lo < to_key nth)))
+        → IsNameOf (block ∷ []) n
+    goes_from n (at, (level, (low, high))) = elim (name_is twig is n at) [
+      | inl leaf ↦ let l = ap (λ (m : Name). m.level) leaf in absurd (omega (arith, l, level))
+      | inr more ↦
+          let (j, few, e) = more in
+          let lo = ap (λ (m : Name). m.lo) e in
+          let index : j ≡ nth = omega (arith, lo, low, high, begins, stops) in
+          (block, here block [], e ∙ (ap block_name index ∙ sym (block_named nth block mine)))
+    ]
+
+    module _ (leaf : Option CellSeen) (is_leaf : (c : CellSeen) → leaf ≡ Some c → IsRunLeaf c) (f : Fresh)
+        (next : f.next ≡ 2 ^ 63 + 1000) (end : f.end ≡ 2 ^ 64 - 1) where
+      member : (c : CellSeen) → Contains (given_cells leaf ++ block ∷ []) c → IsRunLeaf c ⊎ (c ≡ block)
+      member c at = go leaf is_leaf at
+        where
+          go : (o : Option CellSeen) → ((c : CellSeen) → o ≡ Some c → IsRunLeaf c) → Contains (given_cells o ++ block ∷ []) c
+              → IsRunLeaf c ⊎ (c ≡ block)
+          go None h at = inr (only block c at)
+          go (Some d) h at = elim (cases d c (block ∷ []) at) [
+            | inl same ↦ inl (subst IsRunLeaf (sym same) (h d refl))
+            | inr more ↦ inr (only block c more)
+          ]
+
+      nodes : (c : CellSeen) → Contains (given_cells leaf ++ block ∷ []) c → IsNode (node_of c)
+      nodes c at = elim (member c at) [
+        | inl low ↦ low.node
+        | inr same ↦ subst (λ (x : CellSeen). IsNode (node_of x)) (sym same) (block_node nth block less mine)
+      ]
+
+      low : (c : CellSeen) → Contains (given_cells leaf ++ block ∷ []) c → c.level ≤ 1
+      low c at = elim (member c at) [
+        | inl is ↦ let l = is.level in omega (arith, l)
+        | inr same ↦ let e = ap (λ (x : CellSeen). x.level) same in let l = mine.level in omega (arith, e, l)
+      ]
+
+      named : (c : CellSeen) → Contains (given_cells leaf ++ block ∷ []) c → Contains (node_of twig).names (name_of c)
+      named c at = elim (member c at) [
+        | inl low ↦ subst (Contains (node_of twig).names) (sym (leaf_named c low)) (has_leaf twig is)
+        | inr same ↦ subst (Contains (node_of twig).names) (sym (ap name_of same ∙ block_named nth block mine))
+            (has_block twig is nth less)
+      ]
+
+      abbrev t : Store Value
+      t = by_name (twig ∷ (given_cells leaf ++ block ∷ []))
+
+      block_there : t block.id ≡ Some (node_of block)
+      block_there =
+          let a = is.id in
+          let b = mine.id in
+          later_named twig (given_cells leaf ++ block ∷ []) block.id (λ e. omega (arith, a, b, e)) ∙ go leaf is_leaf
+        where
+          go : (o : Option CellSeen) → ((c : CellSeen) → o ≡ Some c → IsRunLeaf c)
+              → by_name (given_cells o ++ block ∷ []) block.id ≡ Some (node_of block)
+          go None h = here_named block [] block.id refl
+          go (Some d) h =
+              let a = (h d refl).id in
+              let b = mine.id in
+              later_named d (block ∷ []) block.id (λ e. omega (arith, a, b, e)) ∙ here_named block [] block.id refl
+
+      pub cut_in : ((id : ℕ) → twig_bytes (cut_pieces (from_key nth) (to_key nth) id leaf twig) ≤ 4068)
+          → IsLeftOf t twig (going nth (twig_pieces twig)) leaf
+          → IsCutIn t (low_root twig) leaf (block ∷ []) (from_key nth) (to_key nth) f twig []
+      cut_in few left = record {
+        room = λ id. record {
+          path = path_of twig is (given_cells leaf ++ block ∷ []) nodes low named f (omega (arith, next));
+          level = is.level;
+          enough = inl (few id);
+          numbers = let b = few id in omega (arith, b, next, end);
+        };
+        low = let lo = is.lo in omega (arith, lo, begins, least_byte);
+        some = omega (arith, begins, stops);
+        high = let hi = is.hi in omega (arith, hi, stops, byte_top, less);
+        first_border = border nth;
+        second_border =
+            let next : 4096 * (nth + 1) ≡ 4096 * nth + 4096 = omega arith in
+            subst (λ (n : ℕ). IsBorder (rank (byte_key n)) (twig_pieces twig)) next (border (nth + 1));
+        clear = clear (from_key nth) (to_key nth) (omega (arith, begins));
+        goes = λ n. (goes_to n, goes_from n);
+        stand = λ c at. subst (λ (x : CellSeen). t x.id ≡ Some (node_of x)) (sym (only block c at)) block_there;
+        once = have_names (block ∷ []) (λ y at. absurd (none y at), tt);
+        left = left;
+      }
+
+      -- the same of keys that are given, and of the path
+      pub out_of : ((id : ℕ) → twig_bytes (cut_pieces (from_key nth) (to_key nth) id leaf twig) ≤ 4068)
+          → IsLeftOf t twig (going nth (twig_pieces twig)) leaf → (from to : Key) → from ≡ byte_key (4096 * nth)
+          → to ≡ byte_key (4096 * nth + 4096) → ((c : CellSeen) → leaf ≡ Some c → rank c.hi ≤ from_key nth)
+          → IsTakenOutIn t (low_root twig) (twig ∷ (given_cells leaf ++ block ∷ [])) from to f
+      out_of few left from to first last ends = inr (record {
+        above = twig ∷ [];
+        leaf = leaf;
+        blocks = block ∷ [];
+        is = refl;
+        branches = λ c at. let e = ap (λ (x : CellSeen). x.level) (only twig c at) in let l = is.level in omega (arith, e, l);
+        leaf_ends = λ c e. let to = ends c e in let k = ap rank first in omega (arith, to, k);
+        cuts = subst (λ (k : Key). IsCutUp t (low_root twig) leaf (block ∷ []) (rank k) (rank to) f (twig ∷ [])) (sym first)
+            (subst (λ (k : Key). IsCutUp t (low_root twig) leaf (block ∷ []) (from_key nth) (rank k) f (twig ∷ [])) (sym last)
+            (cut_in few left));
+      })
+
+-- ---- the first block
+
+first_bytes : (twig : CellSeen) (is : IsRunTwig twig) (leaf : CellSeen) (id : ℕ)
+    → twig_bytes (cut_pieces (from_key 0) (to_key 0) id (Some leaf) twig) ≤ 4068
+unfolding rank bytes_behind
+first_bytes twig is leaf id =
+    subst (λ ps. twig_bytes (pieces_without (from_key 0) (to_key 0) id (Some leaf) (parted_twice (from_key 0) (to_key 0) ps))
+    ≤ 4068) is.pieces.is (omega arith)
+
+first_begins : (twig : CellSeen) (is : IsRunTwig twig) (k : ℕ) → k ≡ rank (byte_key 0) → BeginsAt k (going 0 (twig_pieces twig))
+unfolding rank
+first_begins twig is k e = subst (λ ps. BeginsAt k (going 0 ps)) is.pieces.is (sym e)
+
+pub first_out : (twig leaf block : CellSeen) → IsRunTwig twig → IsRunLeaf leaf → IsRunBlock 0 block → (f : Fresh)
+    → f.next ≡ 2 ^ 63 + 1000 → f.end ≡ 2 ^ 64 - 1 → (from to : Key) → from ≡ byte_key 0 → to ≡ byte_key 4096
+    → (t : Store Value) × ((r : Root) × IsTakenOutIn t r (twig ∷ (leaf ∷ (block ∷ []))) from to f)
+first_out twig leaf block is before mine f next end from to first last = (
+  by_name (twig ∷ (leaf ∷ (block ∷ []))),
+  (
+    low_root twig,
+    out_of twig is 0 block (omega arith) mine (Some leaf) (λ c e. subst IsRunLeaf (same_Some leaf c e) before) f next end
+        (first_bytes twig is leaf)
+        (record {
+          named = subst (Contains (node_of twig).names) (sym (leaf_named leaf before)) (has_leaf twig is);
+          stands =
+              let a = is.id in
+              let b = before.id in
+              later_named twig (leaf ∷ (block ∷ [])) leaf.id (λ e. omega (arith, a, b, e)) ∙ here_named leaf (block ∷ []) leaf.id refl;
+          level_is = before.level;
+          ends = first_begins twig is (rank leaf.hi) before.hi;
+        })
+        from to first last
+        (λ c e. let hi = ap (λ (x : CellSeen). rank x.hi) (same_Some leaf c e) in let to = before.hi in omega (arith, hi, to)),
+  ),
+)
+
+-- ---- the second and the last one
+
+abbrev HasFew : (nth : ℕ) → CellSeen → Type 0
+HasFew nth twig = (id : ℕ) → twig_bytes (cut_pieces (from_key nth) (to_key nth) id None twig) ≤ 4068
+
+second_bytes : (twig : CellSeen) (is : IsRunTwig twig) → HasFew 1 twig
+unfolding rank bytes_behind
+second_bytes twig is id =
+    subst (λ ps. twig_bytes (pieces_without (from_key 1) (to_key 1) id None (parted_twice (from_key 1) (to_key 1) ps)) ≤ 4068)
+    is.pieces.is (omega arith)
+
+last_bytes : (twig : CellSeen) (is : IsRunTwig twig) → HasFew 3 twig
+unfolding rank bytes_behind
+last_bytes twig is id =
+    subst (λ ps. twig_bytes (pieces_without (from_key 3) (to_key 3) id None (parted_twice (from_key 3) (to_key 3) ps)) ≤ 4068)
+    is.pieces.is (omega arith)
+
+second_begins : (twig : CellSeen) (is : IsRunTwig twig) (k : ℕ) → BeginsAt k (going 1 (twig_pieces twig)) → from_key 1 ≡ k
+unfolding rank
+second_begins twig is k h = subst (λ ps. BeginsAt k (going 1 ps)) (sym is.pieces.is) h
+
+last_begins : (twig : CellSeen) (is : IsRunTwig twig) (k : ℕ) → BeginsAt k (going 3 (twig_pieces twig)) → from_key 3 ≡ k
+unfolding rank
+last_begins twig is k h = subst (λ ps. BeginsAt k (going 3 ps)) (sym is.pieces.is) h
+
+module _ (twig block : CellSeen) (is : IsRunTwig twig) (f : Fresh) (next : f.next ≡ 2 ^ 63 + 1000)
+    (end : f.end ≡ 2 ^ 64 - 1) (from to : Key) where
+  one_out : (nth : ℕ) → 1 ≤ nth → nth < 4 → HasFew nth twig
+      → ((k : ℕ) → BeginsAt k (going nth (twig_pieces twig)) → from_key nth ≡ k) → IsRunBlock nth block
+      → from ≡ byte_key (4096 * nth) → to ≡ byte_key (4096 * nth + 4096)
+      → IsTakenOutIn (by_name (twig ∷ (block ∷ []))) (low_root twig) (twig ∷ (block ∷ [])) from to f
+  one_out nth some less few begin mine first last =
+      out_of twig is nth block less mine None (λ c e. absurd cc) f next end few
+      (λ n at level h.
+      let hi = leaf_ends twig is n at level in
+      let k = begin n.hi h in
+      let b = byte_at (4096 * nth) in
+      omega (arith, hi, k, b, some)) from to first last (λ c e. absurd cc)
+
+  pub later_out : (nth : ℕ) → (nth ≡ 1) ⊎ (nth ≡ 3) → IsRunBlock nth block → from ≡ byte_key (4096 * nth)
+      → to ≡ byte_key (4096 * nth + 4096)
+      → (t : Store Value) × ((r : Root) × IsTakenOutIn t r (twig ∷ (block ∷ [])) from to f)
+  later_out nth which mine first last = (
+    by_name (twig ∷ (block ∷ [])),
+    (
+      low_root twig,
+      elim which [
+        | inl e ↦ one_out nth (omega (arith, e)) (omega (arith, e)) (subst (λ n. HasFew n twig) (sym e) (second_bytes twig is))
+            (subst (λ (n : ℕ). (k : ℕ) → BeginsAt k (going n (twig_pieces twig)) → from_key n ≡ k) (sym e) (second_begins twig is))
+            mine first last
+        | inr e ↦ one_out nth (omega (arith, e)) (omega (arith, e)) (subst (λ n. HasFew n twig) (sym e) (last_bytes twig is))
+            (subst (λ (n : ℕ). (k : ℕ) → BeginsAt k (going n (twig_pieces twig)) → from_key n ≡ k) (sym e) (last_begins twig is))
+            mine first last
+      ],
+    ),
+  )
