@@ -75,3 +75,4 @@ pub mod CutKinds
 pub mod RootPart
 pub mod RunTwig
 pub mod RunCuts
+pub mod RunPuts

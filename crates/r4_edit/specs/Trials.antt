@@ -49,12 +49,16 @@ FirstMayTake (leaf ∷ rest) it = MayCome leaf it
 abbrev pub new_units : List ExtentUnit
 new_units = record { start = 2 ^ 63 + 2000; width = 1 } ∷ (record { start = 2 ^ 63 + 2001; width = 1 } ∷ [])
 
--- The extent is that of these two blocks, and may be put over a part of the leaf's range, which has no unit of its keys.
-pub record MayLieOver (leaf : CellSeen) (it : Item) : Type 0 where
+-- The extent is that of these two blocks, and its bytes have offsets below 2^64.
+pub record IsNewExtent (it : Item) : Type 0 where
   pub long : length it.body ≡ 32
   pub blocks : units_of it.body ≡ new_units
   pub key : IsKey it.key
   pub fits : offset_of it.key + 8192 < 2 ^ 64
+
+-- The extent is that of these two blocks, and may be put over a part of the leaf's range, which has no unit of its keys.
+pub record MayLieOver (leaf : CellSeen) (it : Item) : Type 0 where
+  pub extent : IsNewExtent it
   pub from : rank leaf.lo ≤ rank it.key
   pub to : rank it.key + 8192 ≤ rank leaf.hi
   pub apart : (k : ℕ) (v : Value) → Contains (node_of leaf).units (k, v) → (k < rank it.key) ⊎ (rank it.key + 8192 ≤ k)

@@ -1,8 +1,10 @@
 //! Edits of a leaf below a root: which cells come, and how many items and free bytes they have.
 
+ghost use Rattle.std.specs.Prelude.{◌≡◌, length};
+
 use crate::trials::{
-    LEAF, ROOT, TWIG, UNPLACED, halve, put, put_blocks, raise, repack, run_twig, take_first,
-    take_later, take_out,
+    LEAF, ROOT, TWIG, UNPLACED, halve, put, put_apart, put_behind, put_blocks, raise, repack,
+    run_twig, take_first, take_later, take_out,
 };
 use r4_base::{Attr, Block, Key, NodeId, Oid, get16, put64};
 use r4_cde::entry_key;
@@ -26,6 +28,19 @@ static ZEROS: [u8; 4030] = [0; 4030];
 
 // Letters whose names rise.
 static LETTERS: [u8; 40] = *b"0123456789ABCDEFGHIJKLMNOPQRSTUVWXYZabcd";
+
+/// What the root directory has.
+const DIRECTORY: Attr = Attr {
+    mode: 0o40755,
+    nlink: 2,
+    size: 0,
+    uid: 0,
+    gid: 0,
+    atime: 0,
+    mtime: 0,
+    ctime: 0,
+    bytes: 0,
+};
 
 // The key of a byte of a file.
 fn byte(offset: u64) -> Key {
@@ -92,20 +107,7 @@ fn first(change: &Change) -> Result<Arc<Cell>, Fail> {
 // The leaf of all keys with the stat data of the root.
 fn root_leaf(alloc: Global) -> Result<Arc<Cell>, Fail> {
     let mut stat = [0; 44];
-    write_stat(
-        &mut stat,
-        &Attr {
-            mode: 0o40755,
-            nlink: 2,
-            size: 0,
-            uid: 0,
-            gid: 0,
-            atime: 0,
-            mtime: 0,
-            ctime: 0,
-            bytes: 0,
-        },
-    );
+    write_stat(&mut stat, &DIRECTORY);
     let leaf = empty_leaf(alloc, LEAF, least(), top())?;
     first(&with(alloc, &[leaf], least(), STAT, &stat)?)
 }
@@ -327,13 +329,20 @@ fn a_twig_is_packed_anew(rt: HostRuntime) -> Result<(), Fail> {
     Ok(())
 }
 
+// Spells the extent of two blocks that have no place.
+fn spell_new_blocks(body: &mut [u8])
+    requires { length body.old ≡ 32 }
+{
+    put64(body, 0, UNPLACED);
+    put64(body, 8, 1);
+    put64(body, 16, UNPLACED + 1);
+    put64(body, 24, 1);
+}
+
 // What comes where an extent of two blocks without a place is put into the range of a leaf, which has all keys.
 fn over(alloc: Global, leaf: &Arc<Cell>, key: Key) -> Result<Change, Fail> {
     let mut body = [0; 32];
-    put64(&mut body, 0, UNPLACED);
-    put64(&mut body, 8, 1);
-    put64(&mut body, 16, UNPLACED + 1);
-    put64(&mut body, 24, 1);
+    spell_new_blocks(&mut body);
     match put_blocks(alloc, &[Arc::try_clone(leaf)?], &key, &body) {
         Ok(Some(change)) => Ok(change),
         Ok(None) => Err(Fail::from("the blocks may not be put there")),
@@ -445,5 +454,45 @@ fn blocks_are_cut_out_of_an_extent(rt: HostRuntime) -> Result<(), Fail> {
             assert!(rt; first(&change)?.hi().is_same(byte(4096)));
         }
     }
+    Ok(())
+}
+
+// From which byte on an extent of two blocks is put behind the four, and the cell that comes: its units stand in the item of
+// these only where they continue them.
+static SPREADS: [(u64, &[Row]); 2] = [(16384, &[(TWIG, 2, 3936)]), (32768, &[(TWIG, 3, 3898)])];
+
+#[test]
+fn an_extent_is_put_behind_another(rt: HostRuntime) -> Result<(), Fail> {
+    let alloc = rt.alloc();
+    let twig = twig_of_run(alloc)?;
+    let mut body = [0; 32];
+    spell_new_blocks(&mut body);
+    for (offset, want) in SPREADS {
+        let Some(change) = put_behind(alloc, &twig, offset, &body)? else {
+            return Err(Fail::from("the blocks may not be put there"));
+        };
+        assert_eq!(rt; rows(alloc, &change)?.as_slice(), want);
+        assert!(rt; change.root.is_none());
+    }
+    Ok(())
+}
+
+// The stat data of another object comes into a leaf of its own, up to the end of the twig's range.
+#[test]
+fn an_item_is_put_behind_an_extent(rt: HostRuntime) -> Result<(), Fail> {
+    let alloc = rt.alloc();
+    let twig = twig_of_run(alloc)?;
+    let mut stat = [0; 44];
+    write_stat(&mut stat, &DIRECTORY);
+    let key = Key::stat(42, 0, Oid(43));
+    let Some(change) = put_apart(alloc, &twig, &key, STAT, &stat)? else {
+        return Err(Fail::from("it may not be put there"));
+    };
+    assert_eq!(rt;
+        rows(alloc, &change)?.as_slice(),
+        [(ROOT, 1, 3986), (TWIG, 3, 3922)].as_slice()
+    );
+    assert!(rt; first(&change)?.lo().is_same(key));
+    assert!(rt; first(&change)?.hi().is_same(top()));
     Ok(())
 }

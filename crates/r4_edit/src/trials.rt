@@ -42,6 +42,9 @@ pub(crate) const UNPLACED: u64 = ROOT + 1000;
 /// The number of a root that has a leaf and behind it an extent of four blocks. Theirs are the next ones.
 pub(crate) const TWIG: u64 = 22;
 
+/// The bytes of the four blocks.
+const BEHIND: u64 = 16384;
+
 /// The bytes of two blocks.
 const TWO_BLOCKS: u64 = 8192;
 
@@ -194,6 +197,64 @@ pub(crate) fn take_later(
     let mut fresh = numbers();
     let change = cut(alloc, path.as_slice(), &from, &to, &mut fresh)?;
     Ok(Some(change))
+}
+
+/// Puts an extent of two blocks that have no place yet behind the four of an extent, from a byte of their file on, below a
+/// root; `None` where it is another extent or byte, or another root.
+pub(crate) fn put_behind(
+    alloc: Global,
+    twig: &Arc<Cell>,
+    offset: u64,
+    body: &[u8],
+) -> Result<Option<Change>, Memory> {
+    if !is_behind(offset) || !are_new_blocks(body) || !is_run_twig(alloc, twig)? {
+        return Ok(None);
+    }
+    let mut path = Vec::with_capacity(alloc, 1)?;
+    path.push(Arc::try_clone(twig)?)?;
+    let mut few = Fresh {
+        next: ROOT,
+        end: UNPLACED,
+    };
+    let change = insert(alloc, path.as_slice(), &key_of(offset), 5, body, &mut few)?;
+    Ok(Some(change))
+}
+
+/// Puts an item of a leaf behind the four blocks of an extent, below a root; `None` where it may not stand there alone, or
+/// it is another root.
+pub(crate) fn put_apart(
+    alloc: Global,
+    twig: &Arc<Cell>,
+    key: &Key,
+    plugin: u16,
+    body: &[u8],
+) -> Result<Option<Change>, Memory> {
+    if !goes_apart(alloc, *key, plugin, body)? || !is_run_twig(alloc, twig)? {
+        return Ok(None);
+    }
+    let mut path = Vec::with_capacity(alloc, 1)?;
+    path.push(Arc::try_clone(twig)?)?;
+    let mut fresh = numbers();
+    let change = insert(alloc, path.as_slice(), key, plugin, body, &mut fresh)?;
+    Ok(Some(change))
+}
+
+// Whether the item may stand in a leaf alone, behind the four blocks.
+fn goes_apart(alloc: Global, key: Key, plugin: u16, body: &[u8]) -> Result<bool, Memory>
+    ensures { IfOk result (λ b. IsTrue b → IsKey key × (rank (byte_key 16384) ≤ rank key)
+        × StandsAlone (given_item key plugin body.now) top) }
+{
+    if key.is_below(key_of(BEHIND)) || !is_item(plugin, body) {
+        return Ok(false);
+    }
+    stands_alone(alloc, &key, r4_cell::top(), plugin, body)
+}
+
+// Whether the byte lies behind the four blocks, and not too far.
+fn is_behind(offset: u64) -> bool
+    ensures { IsTrue result → (16384 ≤ offset) × (offset < 2 ^ 32) }
+{
+    offset >= BEHIND && offset < 1 << 32
 }
 
 // The key of a byte of the one file.
