@@ -1,5 +1,5 @@
 -- An extent, or an item of a leaf, may be put behind the four blocks below a root, among the root's extents.
-use Rattle.std.proofs.Common.{◌≡◌, ◌⊎◌, inl, inr, ℕ, ◌+◌, ◌-◌, ◌*◌, ◌^◌, ◌<◌, ◌≤◌, List, [], ◌∷◌, length, refl, sym, ap, subst, ◌∙◌, arith}
+use Rattle.std.proofs.Common.{◌≡◌, inl, inr, ℕ, ◌+◌, ◌-◌, ◌^◌, ◌<◌, ◌≤◌, List, [], ◌∷◌, length, refl, sym, ap, subst, ◌∙◌, true, arith}
 use Rattle.std.specs.Prelude.{Contains}
 use Rattle.std.proofs.Math.Dec.{lit<}
 use Rattle.r4_base.specs.Cell.{item_end}
@@ -11,9 +11,8 @@ use Rattle.r4_base.specs.Value.{Value}
 use Rattle.r4_base.specs.declared.key.Key.{Key}
 use Rattle.r4_base.proofs.Keys.{is_key}
 use Rattle.r4_branch.specs.Pieces.{bytes_behind, twig_bytes, units_of}
-use Rattle.r4_branch.specs.declared.piece.TwigPiece.{TwigPiece}
 use Rattle.r4_cell.specs.Patch.{by_name}
-use Rattle.r4_cell.specs.Seen.{CellSeen, node_of}
+use Rattle.r4_cell.specs.Seen.{CellSeen}
 use Rattle.r4_cell.specs.declared.change.Fresh.{Fresh}
 use Rattle.r4_graft.specs.Splices.{place}
 use Rattle.r4_leaf.proofs.SoundItems.{item_has_end}
@@ -23,10 +22,10 @@ use Rattle.r4_edit.specs.Extents.{AreAmongExtents, IsPutIn, new_pointer, twig_pi
 use Rattle.r4_edit.specs.Growing.{IsPathIn}
 use Rattle.r4_edit.specs.Trials.{IsNewExtent, IsRunTwig, StandsAlone, byte_key, low_root, new_units, run_pieces}
 use Rattle.r4_edit.proofs.Members.{none}
-use Rattle.r4_edit.proofs.RunTwig.{byte_at, byte_top, least_byte, name_is, path_of}
+use Rattle.r4_edit.proofs.RunTwig.{byte_at, byte_top, first_of, least_byte, name_is, path_of}
 use Rattle.r4_edit.proofs.ShortOver.{ends, few_bytes, given, new_blocks, put_few}
 
-no_holes : units_of run_pieces ≡ []
+no_holes : units_of (run_pieces true) ≡ []
 unfolding units_of
 no_holes = refl
 
@@ -37,7 +36,7 @@ pointer_bytes key id = omega arith
 byte_is_key : (n : ℕ) → n < 2 ^ 32 → IsKey (byte_key n)
 byte_is_key n few = is_key (byte_key n) refl (lit< tt) (lit< tt) (lit< tt) (omega (arith, few))
 
-module _ (twig : CellSeen) (is : IsRunTwig twig) where
+module _ (twig : CellSeen) (is : IsRunTwig true twig) where
   among : (from to : ℕ) → rank (byte_key 16384) ≤ from → from < to → to ≤ top → AreAmongExtents twig from to
   among from to behind some within =
       let k = byte_at 16384 in
@@ -48,8 +47,8 @@ module _ (twig : CellSeen) (is : IsRunTwig twig) where
         some = some;
         high = omega (arith, hi, within);
         clear = record {
-          named = λ n at. elim (name_is twig is n at) [
-            | inl leaf ↦ let e = ap (λ (m : Name). m.hi) leaf in inl (omega (arith, e, k, behind))
+          named = λ n at. elim (name_is true twig is n at) [
+            | inl same ↦ let high = (first_of true twig is n same).high in inl (omega (arith, high, k, behind))
             | inr block ↦ let (j, less, same) = block in let e = ap (λ (m : Name). m.hi) same in
                 inl (omega (arith, e, k, behind, less))
           ];
@@ -62,7 +61,7 @@ module _ (twig : CellSeen) (is : IsRunTwig twig) where
   few = subst (λ ps. twig_bytes ps ≤ 4068) is.pieces.is is.pieces.fits
 
   path : (f : Fresh) → 28 ≤ f.next → IsPathIn (by_name (twig ∷ [])) (low_root twig) (twig ∷ []) f
-  path f next = path_of twig is [] (λ c at. absurd (none c at)) (λ c at. absurd (none c at)) (λ c at. absurd (none c at)) f next
+  path f next = path_of true twig is [] (λ c at. absurd (none c at)) (λ c at. absurd (none c at)) (λ c at. absurd (none c at)) f next
 
   pub spread_here : (it : Item) → it.plugin ≡ 5 → IsNewExtent it → rank (byte_key 16384) ≤ rank it.key
       → rank it.key + 8192 ≤ top → (f : Fresh) → f.next ≡ 2 ^ 63 + 1000 → f.end ≡ 2 ^ 63 + 2000

@@ -1,10 +1,11 @@
-//! Edits of a leaf below a root: which cells come, and how many items and free bytes they have.
+//! Edits of a leaf below a root, and of a root that has an extent: which cells come, and how many items and free bytes they
+//! have.
 
 ghost use Rattle.std.specs.Prelude.{◌≡◌, length};
 
 use crate::trials::{
     LEAF, ROOT, TWIG, UNPLACED, halve, put, put_apart, put_behind, put_blocks, raise, repack,
-    run_twig, take_first, take_later, take_out,
+    run_twig, take_first, take_one, take_out,
 };
 use r4_base::{Attr, Block, Key, NodeId, Oid, get16, put64};
 use r4_cde::entry_key;
@@ -400,9 +401,9 @@ fn an_extent_is_put_before_a_leaf(rt: HostRuntime) -> Result<(), Fail> {
     Ok(())
 }
 
-// The root of a leaf and an extent of four blocks.
-fn twig_of_run(alloc: Global) -> Result<Arc<Cell>, Fail> {
-    match run_twig(alloc)? {
+// The root of an extent of four blocks, with a leaf before it, or another object's extent.
+fn twig_of_run(alloc: Global, leaf: bool) -> Result<Arc<Cell>, Fail> {
+    match run_twig(alloc, leaf)? {
         Some(twig) => Ok(twig),
         None => Err(Fail::from("the twig is refused")),
     }
@@ -420,14 +421,14 @@ fn block_of_run(alloc: Global, nth: u8) -> Result<Arc<Cell>, Fail> {
 }
 
 // What comes where one of the four blocks is cut out.
-fn without_block(alloc: Global, nth: u8) -> Result<Change, Fail> {
-    let twig = twig_of_run(alloc)?;
+fn without_block(alloc: Global, has_leaf: bool, nth: u8) -> Result<Change, Fail> {
+    let twig = twig_of_run(alloc, has_leaf)?;
     let block = block_of_run(alloc, nth)?;
     let leaf = empty_leaf(alloc, TWIG + 1, least(), byte(0))?;
-    let cut = if nth == 0 {
+    let cut = if has_leaf && nth == 0 {
         take_first(alloc, &twig, &leaf, &block)?
     } else {
-        take_later(alloc, &twig, &block, u64::from(nth))?
+        take_one(alloc, &twig, has_leaf, &block, u64::from(nth))?
     };
     match cut {
         Some(change) => Ok(change),
@@ -435,19 +436,20 @@ fn without_block(alloc: Global, nth: u8) -> Result<Change, Fail> {
     }
 }
 
-// Which block is cut out, and the cells that come: the leaf has the first one's range afterwards; the extent has that of the
-// others.
-static CUTS: [(u8, &[Row]); 3] = [
-    (0, &[(TWIG + 1, 0, 4068), (TWIG, 2, 3968)]),
-    (1, &[(TWIG, 3, 3914)]),
-    (3, &[(TWIG, 2, 3968)]),
+// Whether a leaf stands before the extent, or another one; which block is cut out; and the cells that come. The first one's
+// range then is the leaf's, or a new one's; that of the others is the extent's.
+static CUTS: [(bool, u8, &[Row]); 4] = [
+    (true, 0, &[(TWIG + 1, 0, 4068), (TWIG, 2, 3968)]),
+    (false, 0, &[(ROOT, 0, 4068), (TWIG, 3, 3914)]),
+    (true, 1, &[(TWIG, 3, 3914)]),
+    (true, 3, &[(TWIG, 2, 3968)]),
 ];
 
 #[test]
 fn blocks_are_cut_out_of_an_extent(rt: HostRuntime) -> Result<(), Fail> {
     let alloc = rt.alloc();
-    for (nth, want) in CUTS {
-        let change = without_block(alloc, nth)?;
+    for (has_leaf, nth, want) in CUTS {
+        let change = without_block(alloc, has_leaf, nth)?;
         assert_eq!(rt; rows(alloc, &change)?.as_slice(), want);
         assert!(rt; change.root.is_none());
         if nth == 0 {
@@ -464,7 +466,7 @@ static SPREADS: [(u64, &[Row]); 2] = [(16384, &[(TWIG, 2, 3936)]), (32768, &[(TW
 #[test]
 fn an_extent_is_put_behind_another(rt: HostRuntime) -> Result<(), Fail> {
     let alloc = rt.alloc();
-    let twig = twig_of_run(alloc)?;
+    let twig = twig_of_run(alloc, true)?;
     let mut body = [0; 32];
     spell_new_blocks(&mut body);
     for (offset, want) in SPREADS {
@@ -481,7 +483,7 @@ fn an_extent_is_put_behind_another(rt: HostRuntime) -> Result<(), Fail> {
 #[test]
 fn an_item_is_put_behind_an_extent(rt: HostRuntime) -> Result<(), Fail> {
     let alloc = rt.alloc();
-    let twig = twig_of_run(alloc)?;
+    let twig = twig_of_run(alloc, true)?;
     let mut stat = [0; 44];
     write_stat(&mut stat, &DIRECTORY);
     let key = Key::stat(42, 0, Oid(43));

@@ -1,8 +1,8 @@
-use Rattle.std.proofs.Common.{◌≡◌, ◌≤◌, ap, subst, arith, rules}
+use Rattle.std.proofs.Common.{◌≤◌, ap, subst, arith, rules}
 use Rattle.std.proofs.lemmas.Result.{IfOk-weaker}
 use Rattle.r4_base.specs.Key.{IsKey, rank}
 use Rattle.r4_edit.specs.Editing.{given_item}
-use Rattle.r4_edit.specs.Trials.{StandsAlone, byte_key}
+use Rattle.r4_edit.specs.Trials.{StandsAlone}
 use Rattle.r4_edit.proofs.RunTwig.{byte_at, least_byte}
 use Rattle.r4_edit.proofs.trials.goes_apart.Goals as goal
 

@@ -1,4 +1,4 @@
-use Rattle.std.proofs.Common.{◌≡◌, ◌∙◌, ◌++◌, [], ◌∷◌, List, map, ap, sym, subst}
+use Rattle.std.proofs.Common.{true, ◌≡◌, ◌∙◌, ◌++◌, [], ◌∷◌, List, map, ap, sym, subst}
 use Rattle.std.specs.Arc.{arc_value}
 use Rattle.r4_base.specs.Tree.{Root, Store}
 use Rattle.r4_base.specs.Value.{Value}
@@ -19,6 +19,6 @@ insert-requires-clause-path c =
     let (whole, behind, alone) = c.in_ok-goes_apart.ensures c.if-not-branch.false in
     subst (λ (p : List CellSeen). (t : Store Value) × ((r : Root) × IsPutIn t r p
     (given_item c.args.key.now c.args.plugin c.args.body.now) c.numbers-fresh.result)) (sym cells)
-    (apart_here twig (subst IsRunTwig c.deref.ensures (c.in_ok-is_run_twig.ensures c.if-not-branch-2.false))
+    (apart_here twig (subst (IsRunTwig true) c.deref.ensures (c.in_ok-is_run_twig.ensures c.if-not-branch-2.false))
     (given_item c.args.key.now c.args.plugin c.args.body.now) whole behind alone
     c.numbers-fresh.result c.numbers-fresh.ensures.next c.numbers-fresh.ensures.end)

@@ -1,4 +1,4 @@
-use Rattle.std.proofs.Common.{◌≡◌, ◌∙◌, ◌++◌, [], ◌∷◌, List, map, refl, ap, sym, subst}
+use Rattle.std.proofs.Common.{true, ◌≡◌, ◌∙◌, ◌++◌, [], ◌∷◌, List, map, refl, ap, sym, subst}
 use Rattle.std.specs.Arc.{arc_value}
 use Rattle.r4_base.specs.Tree.{Root, Store}
 use Rattle.r4_base.specs.Value.{Value}
@@ -18,7 +18,7 @@ insert-requires-clause-path c =
     ∙ (λ i. c.in_ok-try_clone.ensures i ∷ []) in
     subst (λ (p : List CellSeen). (t : Store Value) × ((r : Root) × IsPutIn t r p
     (given_item c.key_of.result 5 c.args.body.now) (record { next = 9223372036854776808; end = 9223372036854777808 }))) (sym cells)
-    (spread_at twig (subst IsRunTwig c.deref.ensures (c.in_ok-is_run_twig.ensures c.if-not-branch.false)) c.args.offset
+    (spread_at twig (subst (IsRunTwig true) c.deref.ensures (c.in_ok-is_run_twig.ensures c.if-not-branch.false)) c.args.offset
     (c.is_behind.ensures c.if-not-is_behind.false) c.key_of.result c.key_of.ensures c.args.body.now
     (c.are_new_blocks.ensures c.if-not-are_new_blocks.false)
     (record { next = 9223372036854776808; end = 9223372036854777808 }) refl refl)
