@@ -81,3 +81,4 @@ pub mod HalvedTwig
 pub mod HalvedLeaf
 pub mod TwoUnits
 pub mod HoleTwig
+pub mod RunPuts

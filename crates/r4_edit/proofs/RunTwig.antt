@@ -1,5 +1,5 @@
--- Below a root stand a leaf and an extent of four blocks: what the root names, and that it is a path.
-use Rattle.std.proofs.Common.{◌≡◌, ◌⊎◌, inl, inr, ℕ, zero, suc, ◌+◌, ◌*◌, ◌^◌, ◌<◌, ◌≤◌, List, [], ◌∷◌, ◌++◌, length, refl, sym, ap, subst, ◌∙◌, arith}
+-- Below a root stand an extent of four blocks, and before it a leaf or another extent: what the root names, and its paths.
+use Rattle.std.proofs.Common.{◌≡◌, ◌⊎◌, inl, inr, ℕ, zero, suc, ◌+◌, ◌*◌, ◌^◌, ◌<◌, ◌≤◌, Bool, true, false, List, [], ◌∷◌, ◌++◌, length, refl, sym, ap, subst, ◌∙◌, arith}
 use Rattle.std.specs.Prelude.{Contains, slice_get, Some}
 use Rattle.std.proofs.Math.Dec.{lit<}
 use Rattle.std.proofs.lemmas.Option.{same_Some, slice_get_within}
@@ -18,19 +18,23 @@ use Rattle.r4_cell.proofs.Nodes.{data_node}
 use Rattle.r4_edit.specs.Growing.{IsPathIn}
 use Rattle.r4_edit.specs.Nodes.{IsPointable}
 use Rattle.r4_edit.specs.Steps.{name_of}
-use Rattle.r4_edit.specs.Trials.{IsRunBlock, IsRunLeaf, IsRunTwig, byte_key, leaf_piece, low_root, run_pieces}
+use Rattle.r4_edit.specs.Trials.{IsRunBlock, IsRunLeaf, IsRunTwig, byte_key, first_piece, low_root, run_pieces}
 use Rattle.r4_edit.proofs.Members.{cases, here, later, none}
 use Rattle.r4_edit.proofs.RootPart.{root_path}
 
 -- ---- keys
 
-pub first_key : rank leaf_piece.key ≡ least
+pub first_key : (leaf : Bool) → rank (first_piece leaf).key ≡ least
 unfolding rank least
-first_key = refl
+first_key leaf = refl
 
 pub least_byte : least < rank (byte_key 0)
 unfolding rank least
 least_byte = lit< tt
+
+pub block_before : least + 4096 < rank (byte_key 0)
+unfolding rank least
+block_before = lit< tt
 
 pub byte_top : rank (byte_key 0) + 2 ^ 60 < top
 unfolding rank top
@@ -78,19 +82,38 @@ of_run k s (suc m) (suc j) less =
 
 -- ---- the names of the root
 
-abbrev pub leaf_name : Name
-leaf_name = record { id = 23; level = 1; lo = rank leaf_piece.key; hi = rank (byte_key 0) }
+-- the first piece's name: that of the leaf, or of the block
+abbrev pub first_name : (leaf : Bool) → Name
+first_name true = record { id = 23; level = 1; lo = rank (first_piece true).key; hi = rank (byte_key 0) }
+first_name false = record { id = 23; level = 0; lo = rank (first_piece false).key; hi = rank (first_piece false).key + 4096 }
 
 abbrev pub block_name : (nth : ℕ) → Name
 block_name nth = run_name (rank (byte_key 0)) 24 nth
 
-names_of_run : (hi : ℕ) → names_of hi run_pieces ≡ leaf_name ∷ run_names (rank (byte_key 0)) 24 4
-unfolding names_of
-names_of_run hi = refl
+-- It lies before the run, and a leaf ends there.
+pub record IsFirst (n : Name) : Type 0 where
+  pub id : n.id ≡ 23
+  pub low : n.lo < rank (byte_key 0)
+  pub high : n.hi ≤ rank (byte_key 0)
+  pub ends : n.level ≡ 1 → n.hi ≡ rank (byte_key 0)
 
-pub leaf_named : (leaf : CellSeen) → IsRunLeaf leaf → name_of leaf ≡ leaf_name
+first_is : (leaf : Bool) → IsFirst (first_name leaf)
+first_is true = record { id = refl; low = omega (arith, first_key true, least_byte); high = omega arith; ends = λ _. refl }
+first_is false = record {
+  id = refl;
+  low = omega (arith, first_key false, least_byte);
+  high = omega (arith, first_key false, block_before);
+  ends = λ level. absurd (omega (arith, level));
+}
+
+names_of_run : (leaf : Bool) (hi : ℕ) → names_of hi (run_pieces leaf) ≡ first_name leaf ∷ run_names (rank (byte_key 0)) 24 4
+unfolding names_of
+names_of_run true hi = refl
+names_of_run false hi = refl
+
+pub leaf_named : (leaf : CellSeen) → IsRunLeaf leaf → name_of leaf ≡ first_name true
 leaf_named leaf is =
-    let lo = is.lo ∙ sym first_key in
+    let lo = is.lo ∙ sym (first_key true) in
     (λ p. record { id = is.id p; level = is.level p; lo = lo p; hi = is.hi p })
 
 pub block_named : (nth : ℕ) (block : CellSeen) → IsRunBlock nth block → name_of block ≡ block_name nth
@@ -112,27 +135,30 @@ block_node nth block less is =
     (subst (λ (h : ℕ). IsNode (cell_of 0 (rank block.lo) h block.block)) (sym hi)
     (data_node (rank block.lo) block.block is.whole (omega (arith, lo, least_byte)) (omega (arith, lo, less, byte_top))))
 
-module _ (twig : CellSeen) (is : IsRunTwig twig) where
-  names : (node_of twig).names ≡ leaf_name ∷ run_names (rank (byte_key 0)) 24 4
-  names = sym is.pieces.names ∙ names_of_run (rank twig.hi)
+module _ (leaf : Bool) (twig : CellSeen) (is : IsRunTwig leaf twig) where
+  names : (node_of twig).names ≡ first_name leaf ∷ run_names (rank (byte_key 0)) 24 4
+  names = sym is.pieces.names ∙ names_of_run leaf (rank twig.hi)
 
-  pub has_leaf : Contains (node_of twig).names leaf_name
-  has_leaf = subst (λ ns. Contains ns leaf_name) (sym names) (here leaf_name (run_names (rank (byte_key 0)) 24 4))
+  pub has_first : Contains (node_of twig).names (first_name leaf)
+  has_first = subst (λ ns. Contains ns (first_name leaf)) (sym names) (here (first_name leaf) (run_names (rank (byte_key 0)) 24 4))
 
   pub has_block : (j : ℕ) → j < 4 → Contains (node_of twig).names (block_name j)
   has_block j less = subst (λ ns. Contains ns (block_name j)) (sym names)
-      (later leaf_name (block_name j) (run_names (rank (byte_key 0)) 24 4) (of_run (rank (byte_key 0)) 24 4 j less))
+      (later (first_name leaf) (block_name j) (run_names (rank (byte_key 0)) 24 4) (of_run (rank (byte_key 0)) 24 4 j less))
 
   pub name_is : (n : Name) → Contains (node_of twig).names n
-      → (n ≡ leaf_name) ⊎ ((j : ℕ) × (j < 4) × (n ≡ block_name j))
-  name_is n at = elim (cases leaf_name n (run_names (rank (byte_key 0)) 24 4) (subst (λ ns. Contains ns n) names at)) [
-    | inl leaf ↦ inl leaf
+      → (n ≡ first_name leaf) ⊎ ((j : ℕ) × (j < 4) × (n ≡ block_name j))
+  name_is n at = elim (cases (first_name leaf) n (run_names (rank (byte_key 0)) 24 4) (subst (λ ns. Contains ns n) names at)) [
+    | inl first ↦ inl first
     | inr more ↦ inr (in_run (rank (byte_key 0)) 24 4 n more)
   ]
 
   id_is : (n : Name) → Contains (node_of twig).names n → (23 ≤ n.id) × (n.id < 28)
   id_is n at = elim (name_is n at) [
-    | inl leaf ↦ let id = ap (λ (m : Name). m.id) leaf in (omega (arith, id), omega (arith, id))
+    | inl first ↦
+        let id = ap (λ (m : Name). m.id) first in
+        let at = (first_is leaf).id in
+        (omega (arith, id, at), omega (arith, id, at))
     | inr block ↦
         let (j, less, e) = block in
         let id = ap (λ (m : Name). m.id) e in
@@ -147,13 +173,17 @@ module _ (twig : CellSeen) (is : IsRunTwig twig) where
           let (j, less, e) = block in
           let one = ap (λ (k : Name). k.id) x in
           let two = ap (λ (k : Name). k.id) e in
-          absurd (omega (arith, one, two, same))
+          let at = (first_is leaf).id in
+          absurd (omega (arith, one, two, same, at))
     ]
     | inr first ↦
         let (i, few, d) = first in
         let one = ap (λ (k : Name). k.id) d in
         elim (name_is m b) [
-          | inl y ↦ let two = ap (λ (k : Name). k.id) y in absurd (omega (arith, one, two, same))
+          | inl y ↦
+              let two = ap (λ (k : Name). k.id) y in
+              let at = (first_is leaf).id in
+              absurd (omega (arith, one, two, same, at))
           | inr block ↦
               let (j, less, e) = block in
               let two = ap (λ (k : Name). k.id) e in
@@ -161,6 +191,9 @@ module _ (twig : CellSeen) (is : IsRunTwig twig) where
               d ∙ (ap block_name index ∙ sym e)
         ]
   ]
+
+  pub first_of : (n : Name) → n ≡ first_name leaf → IsFirst n
+  first_of n e = subst IsFirst (sym e) (first_is leaf)
 
   pub path_of : (below : List CellSeen) → ((c : CellSeen) → Contains below c → IsNode (node_of c))
       → ((c : CellSeen) → Contains below c → c.level ≤ 1)

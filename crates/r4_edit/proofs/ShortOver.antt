@@ -26,13 +26,13 @@ use Rattle.r4_cell.specs.Seen.{CellSeen, node_of}
 use Rattle.r4_cell.specs.declared.change.Fresh.{Fresh}
 use Rattle.r4_edit.specs.Extents.{AreNewBlocks, ArePiecesOf, IsGivenExtent, IsOverIn, IsOverUp, IsPutIn, item_blocks, over_pieces, pointer_to, twig_pieces}
 use Rattle.r4_edit.specs.Steps.{CountUp, IsFree}
-use Rattle.r4_edit.specs.Trials.{AreLeaves, FirstMayLie, IsPathOver, MayLieOver, low_root, new_units}
+use Rattle.r4_edit.specs.Trials.{AreLeaves, FirstMayLie, IsNewExtent, IsPathOver, low_root, new_units}
 use Rattle.r4_edit.proofs.Counted.{count_once}
 use Rattle.r4_edit.proofs.Members.{cases, here, later, none}
 use Rattle.r4_edit.proofs.Rising.{count_within}
 use Rattle.r4_edit.proofs.Trying.{first_level}
 
-few_bytes : (a b : ℕ) (ps ns : List TwigPiece) → twig_bytes ps ≤ 4068 → twig_bytes ns ≤ 200
+pub few_bytes : (a b : ℕ) (ps ns : List TwigPiece) → twig_bytes ps ≤ 4068 → twig_bytes ns ≤ 200
     → twig_bytes (spliced a b ns ps) ≤ 9000
 few_bytes a b ps ns old new =
     let x = bytes_join None (take a ps) (ns ++ drop b ps) in
@@ -70,35 +70,35 @@ id_in (m ∷ ns) n at = elim (cases m n ns at) [
   | inr more ↦ later m.id n.id (map (λ (y : Name). y.id) ns) (id_in ns n more)
 ]
 
-module _ (leaf : CellSeen) (it : Item) (five : it.plugin ≡ 5) (may : MayLieOver leaf it) where
+module _ (it : Item) (five : it.plugin ≡ 5) (new : IsNewExtent it) where
   two : blocks_in (units_of it.body) ≡ 2
-  two = ap blocks_in may.blocks
+  two = ap blocks_in new.blocks
 
-  given : IsGivenExtent it
+  pub given : IsGivenExtent it
   given = record {
     plugin = five;
-    sound = extent_sound it.key it.plugin it.body five may.key
+    sound = extent_sound it.key it.plugin it.body five new.key
         (body_none true (2 ^ 64) it.body (
-          (let long = may.long in omega (arith, long)),
-          ap (λ n. n % 16) may.long,
-          subst (AreLawfulUnits true (2 ^ 64)) (sym may.blocks) are_lawful,
+          (let long = new.long in omega (arith, long)),
+          ap (λ n. n % 16) new.long,
+          subst (AreLawfulUnits true (2 ^ 64)) (sym new.blocks) are_lawful,
         ))
-        (let fits = may.fits in omega (arith, two, fits)) (let long = may.long in omega (arith, long));
-    short = let long = may.long in omega (arith, long);
+        (let fits = new.fits in omega (arith, two, fits)) (let long = new.long in omega (arith, long));
+    short = let long = new.long in omega (arith, long);
   }
 
-  ends : item_end it ≡ rank it.key + 8192
+  pub ends : item_end it ≡ rank it.key + 8192
   ends = let end = (extent_item it five given.sound).end in omega (arith, end, two)
 
   ids : map (λ (n : Name). n.id) (item_blocks it) ≡ mine
   ids = ap (map (λ (n : Name). n.id))
-      ((extent_item it five given.sound).names 0 ∙ ap (block_names (rank it.key)) may.blocks) ∙ ids_are (rank it.key)
+      ((extent_item it five given.sound).names 0 ∙ ap (block_names (rank it.key)) new.blocks) ∙ ids_are (rank it.key)
 
   within : (n : Name) → Contains (item_blocks it) n → (2 ^ 63 + 2000 ≤ n.id) × (n.id < 2 ^ 63 + 2000 + 2)
   within n at = count_within (2 ^ 63 + 2000) mine n.id mine_count
       (subst (λ is. Contains is n.id) ids (id_in (item_blocks it) n at))
 
-  new_blocks : (t : Store Value) (f g : Fresh) → IsFree f.next f.end t → f.end ≡ 2 ^ 64 - 1 → f.next ≡ 2 ^ 63 + 1001
+  pub new_blocks : (t : Store Value) (f g : Fresh) → IsFree f.next f.end t → f.end ≡ 2 ^ 64 - 1 → f.next ≤ 2 ^ 63 + 2000
       → g.end ≡ 2 ^ 63 + 2000 → AreNewBlocks t (item_blocks it) g
   new_blocks t f g free end next few = record {
     unplaced = λ n at. let w = within n at in omega (arith, w);
@@ -112,18 +112,23 @@ module _ (leaf : CellSeen) (it : Item) (five : it.plugin ≡ 5) (may : MayLieOve
     once = subst (AllPairs (λ (i j : ℕ). i ≢ j)) (sym ids) (count_once (2 ^ 63 + 2000) mine mine_count);
   }
 
-  over_few : (right : Option CellSeen) (ps : List TwigPiece) → twig_bytes ps ≤ 4068
+  few_units : twig_bytes (item_pieces it) ≤ 70
+  few_units = let z = bytes_of_item it given.sound in let long = new.long in omega (arith, z, long)
+
+  pub put_few : (at : ℕ) (ps : List TwigPiece) → twig_bytes ps ≤ 4068 → twig_bytes (spliced at at (item_pieces it) ps) ≤ 9000
+  put_few at ps old = few_bytes at at ps (item_pieces it) old (let few = few_units in omega (arith, few))
+
+  over_few : (leaf : CellSeen) (right : Option CellSeen) (ps : List TwigPiece) → twig_bytes ps ≤ 4068
       → twig_bytes (over_pieces it leaf right ps) ≤ 9000
-  over_few right ps old =
+  over_few leaf right ps old =
       let comes = item_pieces it ++ pointer_to right in
       let at = place (rank leaf.lo) ps in
       few_bytes (at + (if rank it.key == rank leaf.lo then 0 else 1)) (at + 1) ps comes old (
       let x = bytes_join None (item_pieces it) (pointer_to right) in
       let y = bytes_most (last_end None (item_pieces it)) (pointer_to right) in
-      let z = bytes_of_item it given.sound in
+      let z = few_units in
       let w = pointer_few right in
-      let long = may.long in
-      omega (arith, x, y, z, w, long)
+      omega (arith, x, y, z, w)
       )
 
 pub over_here : (cells path : List CellSeen) (f g : Fresh) (it : Item) → it.plugin ≡ 5 → AreLeaves cells
@@ -150,19 +155,19 @@ over_here (leaf ∷ rest) path f g it five are may over numbers next few fits =
       number = omega (arith, numbers, next, few);
       room = λ id right has. record {
         enough = inr (refl, omega (arith, low));
-        numbers = let b = over_few leaf it five may right (twig_pieces over.twig) fit in omega (arith, b, numbers, next, few);
+        numbers = let b = over_few it five may.extent leaf right (twig_pieces over.twig) fit in omega (arith, b, numbers, next, few);
       };
       named = up.2;
       leaf_is = over.leads.ascends.0;
       leaf_level = are.follow.0;
       from = may.from;
-      to = let end = ends leaf it five may in let to = may.to in omega (arith, end, to);
+      to = let end = ends it five may.extent in let to = may.to in omega (arith, end, to);
       apart = λ k v at. elim (may.apart k v at) [
         | inl below ↦ inl below
-        | inr above ↦ inr (let end = ends leaf it five may in omega (arith, end, above))
+        | inr above ↦ inr (let end = ends it five may.extent in omega (arith, end, above))
       ];
-      given = given leaf it five may;
-      blocks = new_blocks leaf it five may (by_name path) f g over.leads.free numbers.1 numbers.0 few;
+      given = given it five may.extent;
+      blocks = new_blocks it five may.extent (by_name path) f g over.leads.free numbers.1 (omega (arith, numbers)) few;
     } in (
       by_name path,
       (
@@ -202,10 +207,7 @@ pub first_may_lie : (cells : List CellSeen) (leaf : CellSeen) (rest : List CellS
 first_may_lie cells leaf rest it end e are low blocks key within clear =
     let f = first_level cells leaf rest e are in
     subst (λ cs. FirstMayLie cs it) (sym e) (record {
-      long = blocks.0;
-      blocks = blocks.1;
-      key = key.0;
-      fits = key.1;
+      extent = record { long = blocks.0; blocks = blocks.1; key = key.0; fits = key.1 };
       from = let lo = f.1 in omega (arith, lo, low);
       to = let same = key.2 in omega (arith, same, within);
       apart = λ k v at. elim (clear k v at) [

@@ -1,5 +1,5 @@
--- Trees of two levels for tests: a root over leaves, of which the first is changed.
-use Rattle.std.specs.Prelude.{◌≡◌, ◌⊎◌, ℕ, ◌+◌, ◌*◌, ◌^◌, ◌<◌, ◌≤◌, List, [], ◌∷◌, Contains, length}
+-- Trees of two levels for tests: a root over leaves, of which the first is changed, or over an extent of four blocks.
+use Rattle.std.specs.Prelude.{◌≡◌, ◌⊎◌, ℕ, ◌+◌, ◌*◌, ◌^◌, ◌<◌, ◌≤◌, List, [], ◌∷◌, Bool, true, false, Contains, length}
 use Rattle.r4_base.specs.Cell.{item_end, item_units}
 use Rattle.r4_base.specs.Extents.{units_of}
 use Rattle.r4_base.specs.Key.{IsKey, body_key, least, offset_of, rank, stat_key, top}
@@ -9,6 +9,7 @@ use Rattle.r4_base.specs.Value.{Value}
 use Rattle.r4_base.specs.declared.items.Unit.{Unit as ExtentUnit}
 use Rattle.r4_base.specs.declared.key.Key.{Key}
 use Rattle.r4_branch.specs.Pieces.{names_of}
+use Rattle.r4_branch.specs.declared.piece.TwigPart.{TwigPart}
 use Rattle.r4_branch.specs.declared.piece.TwigPart.TheVariants.{Blocks, Pointer}
 use Rattle.r4_branch.specs.declared.piece.TwigPiece.{TwigPiece}
 use Rattle.r4_cell.specs.Patch.{by_name}
@@ -50,12 +51,16 @@ FirstMayTake (leaf ∷ rest) it = MayCome leaf it
 abbrev pub new_units : List ExtentUnit
 new_units = record { start = 2 ^ 63 + 2000; width = 1 } ∷ (record { start = 2 ^ 63 + 2001; width = 1 } ∷ [])
 
--- The extent is that of these two blocks, and may be put over a part of the leaf's range, which has no unit of its keys.
-pub record MayLieOver (leaf : CellSeen) (it : Item) : Type 0 where
+-- The extent is that of these two blocks, and its bytes have offsets below 2^64.
+pub record IsNewExtent (it : Item) : Type 0 where
   pub long : length it.body ≡ 32
   pub blocks : units_of it.body ≡ new_units
   pub key : IsKey it.key
   pub fits : offset_of it.key + 8192 < 2 ^ 64
+
+-- The extent is that of these two blocks, and may be put over a part of the leaf's range, which has no unit of its keys.
+pub record MayLieOver (leaf : CellSeen) (it : Item) : Type 0 where
+  pub extent : IsNewExtent it
   pub from : rank leaf.lo ≤ rank it.key
   pub to : rank it.key + 8192 ≤ rank leaf.hi
   pub apart : (k : ℕ) (v : Value) → Contains (node_of leaf).units (k, v) → (k < rank it.key) ⊎ (rank it.key + 8192 ≤ k)
@@ -79,29 +84,34 @@ abbrev pub IsPathOver : (leaves : List CellSeen) → Fresh → (path : List Cell
 IsPathOver [] fresh path = ⊥
 IsPathOver (leaf ∷ rest) fresh path = IsShortPath leaf fresh path
 
--- ---- a root over a leaf and an extent
+-- ---- a root over an extent of four blocks, which has a leaf or another object's extent before it
 
 -- the key of a byte of the one file
 abbrev pub byte_key : (offset : ℕ) → Key
 byte_key offset = body_key 41 0 (record { 0 = 42 }) offset
 
--- a pointer to the leaf, number 23, and the run of four blocks from number 24 on
-abbrev pub leaf_piece : TwigPiece
-leaf_piece = record { key = stat_key 41 0 (record { 0 = 42 }); part = Pointer (record { 0 = 23 }) }
+-- a pointer to the leaf, number 23, or that block alone
+abbrev pub first_part : (leaf : Bool) → TwigPart
+first_part true = Pointer (record { 0 = 23 })
+first_part false = Blocks (record { start = 23; width = 1 })
 
+abbrev pub first_piece : (leaf : Bool) → TwigPiece
+first_piece leaf = record { key = stat_key 41 0 (record { 0 = 42 }); part = first_part leaf }
+
+-- the run of four blocks from number 24 on
 abbrev pub run_piece : TwigPiece
 run_piece = record { key = byte_key 0; part = Blocks (record { start = 24; width = 4 }) }
 
-abbrev pub run_pieces : List TwigPiece
-run_pieces = leaf_piece ∷ (run_piece ∷ [])
+abbrev pub run_pieces : (leaf : Bool) → List TwigPiece
+run_pieces leaf = first_piece leaf ∷ (run_piece ∷ [])
 
 -- The cell is the root, and has these pieces.
-pub record IsRunTwig (twig : CellSeen) : Type 0 where
+pub record IsRunTwig (leaf : Bool) (twig : CellSeen) : Type 0 where
   pub id : twig.id ≡ 22
   pub level : twig.level ≡ 2
   pub lo : rank twig.lo ≡ least
   pub hi : rank twig.hi ≡ top
-  pub pieces : ArePiecesOf twig run_pieces
+  pub pieces : ArePiecesOf twig (run_pieces leaf)
   pub node : IsNode (node_of twig)
 
 -- The cell is the leaf before the run.

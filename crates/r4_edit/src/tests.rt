@@ -1,9 +1,12 @@
-//! Edits of a leaf below a root: which cells come, and how many items and free bytes they have.
+//! Edits of a leaf below a root, and of a root that has an extent: which cells come, and how many items and free bytes they
+//! have.
+
+ghost use Rattle.std.specs.Prelude.{◌≡◌, length};
 
 use crate::holes::{halve_holes, twig_of_holes};
 use crate::trials::{
-    LEAF, ROOT, TWIG, UNPLACED, halve, put, put_blocks, raise, repack, run_twig, take_first,
-    take_later, take_out,
+    LEAF, ROOT, TWIG, UNPLACED, halve, put, put_apart, put_behind, put_blocks, raise, repack,
+    run_twig, take_first, take_one, take_out,
 };
 use r4_base::{Attr, Block, Key, NodeId, Oid, get16, put64};
 use r4_cde::entry_key;
@@ -27,6 +30,19 @@ static ZEROS: [u8; 4030] = [0; 4030];
 
 // Letters whose names rise.
 static LETTERS: [u8; 40] = *b"0123456789ABCDEFGHIJKLMNOPQRSTUVWXYZabcd";
+
+/// What the root directory has.
+const DIRECTORY: Attr = Attr {
+    mode: 0o40755,
+    nlink: 2,
+    size: 0,
+    uid: 0,
+    gid: 0,
+    atime: 0,
+    mtime: 0,
+    ctime: 0,
+    bytes: 0,
+};
 
 // The key of a byte of a file.
 fn byte(offset: u64) -> Key {
@@ -93,20 +109,7 @@ fn first(change: &Change) -> Result<Arc<Cell>, Fail> {
 // The leaf of all keys with the stat data of the root.
 fn root_leaf(alloc: Global) -> Result<Arc<Cell>, Fail> {
     let mut stat = [0; 44];
-    write_stat(
-        &mut stat,
-        &Attr {
-            mode: 0o40755,
-            nlink: 2,
-            size: 0,
-            uid: 0,
-            gid: 0,
-            atime: 0,
-            mtime: 0,
-            ctime: 0,
-            bytes: 0,
-        },
-    );
+    write_stat(&mut stat, &DIRECTORY);
     let leaf = empty_leaf(alloc, LEAF, least(), top())?;
     first(&with(alloc, &[leaf], least(), STAT, &stat)?)
 }
@@ -363,13 +366,20 @@ fn a_twig_is_packed_anew(rt: HostRuntime) -> Result<(), Fail> {
     Ok(())
 }
 
+// Spells the extent of two blocks that have no place.
+fn spell_new_blocks(body: &mut [u8])
+    requires { length body.old ≡ 32 }
+{
+    put64(body, 0, UNPLACED);
+    put64(body, 8, 1);
+    put64(body, 16, UNPLACED + 1);
+    put64(body, 24, 1);
+}
+
 // What comes where an extent of two blocks without a place is put into the range of a leaf, which has all keys.
 fn over(alloc: Global, leaf: &Arc<Cell>, key: Key) -> Result<Change, Fail> {
     let mut body = [0; 32];
-    put64(&mut body, 0, UNPLACED);
-    put64(&mut body, 8, 1);
-    put64(&mut body, 16, UNPLACED + 1);
-    put64(&mut body, 24, 1);
+    spell_new_blocks(&mut body);
     match put_blocks(alloc, &[Arc::try_clone(leaf)?], &key, &body) {
         Ok(Some(change)) => Ok(change),
         Ok(None) => Err(Fail::from("the blocks may not be put there")),
@@ -427,9 +437,9 @@ fn an_extent_is_put_before_a_leaf(rt: HostRuntime) -> Result<(), Fail> {
     Ok(())
 }
 
-// The root of a leaf and an extent of four blocks.
-fn twig_of_run(alloc: Global) -> Result<Arc<Cell>, Fail> {
-    match run_twig(alloc)? {
+// The root of an extent of four blocks, with a leaf before it, or another object's extent.
+fn twig_of_run(alloc: Global, leaf: bool) -> Result<Arc<Cell>, Fail> {
+    match run_twig(alloc, leaf)? {
         Some(twig) => Ok(twig),
         None => Err(Fail::from("the twig is refused")),
     }
@@ -447,14 +457,14 @@ fn block_of_run(alloc: Global, nth: u8) -> Result<Arc<Cell>, Fail> {
 }
 
 // What comes where one of the four blocks is cut out.
-fn without_block(alloc: Global, nth: u8) -> Result<Change, Fail> {
-    let twig = twig_of_run(alloc)?;
+fn without_block(alloc: Global, has_leaf: bool, nth: u8) -> Result<Change, Fail> {
+    let twig = twig_of_run(alloc, has_leaf)?;
     let block = block_of_run(alloc, nth)?;
     let leaf = empty_leaf(alloc, TWIG + 1, least(), byte(0))?;
-    let cut = if nth == 0 {
+    let cut = if has_leaf && nth == 0 {
         take_first(alloc, &twig, &leaf, &block)?
     } else {
-        take_later(alloc, &twig, &block, u64::from(nth))?
+        take_one(alloc, &twig, has_leaf, &block, u64::from(nth))?
     };
     match cut {
         Some(change) => Ok(change),
@@ -462,24 +472,65 @@ fn without_block(alloc: Global, nth: u8) -> Result<Change, Fail> {
     }
 }
 
-// Which block is cut out, and the cells that come: the leaf has the first one's range afterwards; the extent has that of the
-// others.
-static CUTS: [(u8, &[Row]); 3] = [
-    (0, &[(TWIG + 1, 0, 4068), (TWIG, 2, 3968)]),
-    (1, &[(TWIG, 3, 3914)]),
-    (3, &[(TWIG, 2, 3968)]),
+// Whether a leaf stands before the extent, or another one; which block is cut out; and the cells that come. The first one's
+// range then is the leaf's, or a new one's; that of the others is the extent's.
+static CUTS: [(bool, u8, &[Row]); 4] = [
+    (true, 0, &[(TWIG + 1, 0, 4068), (TWIG, 2, 3968)]),
+    (false, 0, &[(ROOT, 0, 4068), (TWIG, 3, 3914)]),
+    (true, 1, &[(TWIG, 3, 3914)]),
+    (true, 3, &[(TWIG, 2, 3968)]),
 ];
 
 #[test]
 fn blocks_are_cut_out_of_an_extent(rt: HostRuntime) -> Result<(), Fail> {
     let alloc = rt.alloc();
-    for (nth, want) in CUTS {
-        let change = without_block(alloc, nth)?;
+    for (has_leaf, nth, want) in CUTS {
+        let change = without_block(alloc, has_leaf, nth)?;
         assert_eq!(rt; rows(alloc, &change)?.as_slice(), want);
         assert!(rt; change.root.is_none());
         if nth == 0 {
             assert!(rt; first(&change)?.hi().is_same(byte(4096)));
         }
     }
+    Ok(())
+}
+
+// From which byte on an extent of two blocks is put behind the four, and the cell that comes: its units stand in the item of
+// these only where they continue them.
+static SPREADS: [(u64, &[Row]); 2] = [(16384, &[(TWIG, 2, 3936)]), (32768, &[(TWIG, 3, 3898)])];
+
+#[test]
+fn an_extent_is_put_behind_another(rt: HostRuntime) -> Result<(), Fail> {
+    let alloc = rt.alloc();
+    let twig = twig_of_run(alloc, true)?;
+    let mut body = [0; 32];
+    spell_new_blocks(&mut body);
+    for (offset, want) in SPREADS {
+        let Some(change) = put_behind(alloc, &twig, offset, &body)? else {
+            return Err(Fail::from("the blocks may not be put there"));
+        };
+        assert_eq!(rt; rows(alloc, &change)?.as_slice(), want);
+        assert!(rt; change.root.is_none());
+    }
+    Ok(())
+}
+
+// The stat data of another object comes into a leaf of its own, up to the end of the twig's range.
+#[test]
+fn an_item_is_put_behind_an_extent(rt: HostRuntime) -> Result<(), Fail> {
+    let alloc = rt.alloc();
+    let twig = twig_of_run(alloc, true)?;
+    let mut stat = [0; 44];
+    write_stat(&mut stat, &DIRECTORY);
+    let key = Key::stat(42, 0, Oid(43));
+    let Some(change) = put_apart(alloc, &twig, &key, STAT, &stat)? else {
+        return Err(Fail::from("it may not be put there"));
+    };
+    assert_eq!(rt;
+        rows(alloc, &change)?.as_slice(),
+        [(ROOT, 1, 3986), (TWIG, 3, 3922)].as_slice()
+    );
+    assert!(rt; first(&change)?.lo().is_same(key));
+    assert!(rt; first(&change)?.hi().is_same(top()));
     Ok(())
 }

@@ -1,10 +1,10 @@
-//! Trees of two levels for tests: a root over leaves, of which the first is changed.
+//! Trees of two levels for tests: a root over leaves, of which the first is changed, or over an extent of four blocks.
 
-ghost use Rattle.std.specs.Prelude.{◌≡◌, ℕ, [], ◌∷◌, ◌-◌, ◌+◌, ◌^◌, ◌<◌, ◌≤◌, ◌⊎◌, length, map, Contains, IsTrue, IfOk};
+ghost use Rattle.std.specs.Prelude.{◌≡◌, ℕ, true, false, [], ◌∷◌, ◌-◌, ◌+◌, ◌^◌, ◌<◌, ◌≤◌, ◌⊎◌, length, map, Contains, IsTrue, IfOk};
 ghost use Rattle.std.specs.Arc.{arc_value};
 ghost use Rattle.r4_base.specs.Extents.{units_of};
 ghost use Rattle.r4_base.specs.Key.{IsKey, least, offset_of, rank, top};
-ghost use Rattle.r4_base.specs.Node.{items_of};
+ghost use Rattle.r4_base.specs.Node.{fits_level, items_of};
 ghost use Rattle.r4_base.specs.Tree.{Root as TreeRoot, Store};
 ghost use Rattle.r4_base.specs.Value.{Value};
 ghost use Rattle.r4_cell.specs.Seen.{node_of};
@@ -14,7 +14,7 @@ ghost use Rattle.r4_edit.specs.Editing.{given_item};
 ghost use Rattle.r4_edit.specs.Growing.{IsRootIn};
 ghost use Rattle.r4_edit.specs.Steps.{CountUp, Follow};
 ghost use Rattle.r4_edit.specs.Trials.{AreLeaves, FirstMayLie, FirstMayTake, IsPathOver, IsRunBlock, IsRunLeaf, IsRunTwig, StandsAlone};
-ghost use Rattle.r4_edit.specs.Trials.{byte_key, leaf_piece, new_units, run_piece, run_pieces};
+ghost use Rattle.r4_edit.specs.Trials.{byte_key, first_part, first_piece, new_units, run_piece, run_pieces};
 
 use crate::appending::append;
 use crate::editing::{cut, insert, leaves_without};
@@ -41,6 +41,9 @@ pub(crate) const UNPLACED: u64 = ROOT + 1000;
 
 /// The number of a root that has a leaf and behind it an extent of four blocks. Theirs are the next ones.
 pub(crate) const TWIG: u64 = 22;
+
+/// The bytes of the four blocks.
+const BEHIND: u64 = 16384;
 
 /// The bytes of two blocks.
 const TWO_BLOCKS: u64 = 8192;
@@ -140,10 +143,18 @@ pub(crate) fn repack(alloc: Global, leaves: &[Arc<Cell>]) -> Result<Option<Chang
     Ok(Some(change))
 }
 
-/// The root of a leaf and an extent of four blocks; `None` where it is refused.
-pub(crate) fn run_twig(alloc: Global) -> Result<Option<Arc<Cell>>, Memory> {
+/// The root of an extent of four blocks, which has a leaf before it, or else another object's extent; `None` where it is
+/// refused.
+pub(crate) fn run_twig(alloc: Global, leaf: bool) -> Result<Option<Arc<Cell>>, Memory> {
+    let mut first = [0; 16];
+    put64(&mut first, 0, TWIG + 1);
+    put64(&mut first, 8, 1);
     let mut block = Block::zeroed(alloc)?;
-    lay_run(&mut block);
+    if leaf {
+        lay_run(&mut block, 3, &first[..8]);
+    } else {
+        lay_run(&mut block, 5, &first);
+    }
     match read_cell(alloc, NodeId(TWIG), 2, least(), r4_cell::top(), 64, block) {
         Ok(cell) => Ok(Some(cell)),
         Err(_) => Ok(None),
@@ -158,7 +169,7 @@ pub(crate) fn take_first(
     leaf: &Arc<Cell>,
     block: &Arc<Cell>,
 ) -> Result<Option<Change>, Memory> {
-    if !is_run_leaf(leaf) || !is_run_block(block, 0) || !is_run_twig(alloc, twig)? {
+    if !is_run_leaf(leaf) || !is_run_block(block, 0) || !is_run_twig(alloc, twig, true)? {
         return Ok(None);
     }
     let mut path = Vec::with_capacity(alloc, 3)?;
@@ -176,15 +187,16 @@ pub(crate) fn take_first(
     Ok(Some(change))
 }
 
-/// Cuts another one of the four blocks out of an extent below a root, the second or the last; `None` where the cells are
-/// others.
-pub(crate) fn take_later(
+/// Cuts one of the four blocks out of an extent, below a root: the second or the last behind a leaf, or the first behind
+/// another object's extent; `None` where the cells are others.
+pub(crate) fn take_one(
     alloc: Global,
     twig: &Arc<Cell>,
+    leaf: bool,
     block: &Arc<Cell>,
     nth: u64,
 ) -> Result<Option<Change>, Memory> {
-    if !is_second_or_last(nth) || !is_run_block(block, nth) || !is_run_twig(alloc, twig)? {
+    if !is_one(leaf, nth) || !is_run_block(block, nth) || !is_run_twig(alloc, twig, leaf)? {
         return Ok(None);
     }
     let mut path = Vec::with_capacity(alloc, 2)?;
@@ -197,6 +209,64 @@ pub(crate) fn take_later(
     Ok(Some(change))
 }
 
+/// Puts an extent of two blocks that have no place yet behind the four of an extent, from a byte of their file on, below a
+/// root; `None` where it is another extent or byte, or another root.
+pub(crate) fn put_behind(
+    alloc: Global,
+    twig: &Arc<Cell>,
+    offset: u64,
+    body: &[u8],
+) -> Result<Option<Change>, Memory> {
+    if !is_behind(offset) || !are_new_blocks(body) || !is_run_twig(alloc, twig, true)? {
+        return Ok(None);
+    }
+    let mut path = Vec::with_capacity(alloc, 1)?;
+    path.push(Arc::try_clone(twig)?)?;
+    let mut few = Fresh {
+        next: ROOT,
+        end: UNPLACED,
+    };
+    let change = insert(alloc, path.as_slice(), &key_of(offset), 5, body, &mut few)?;
+    Ok(Some(change))
+}
+
+/// Puts an item of a leaf behind the four blocks of an extent, below a root; `None` where it may not stand there alone, or
+/// it is another root.
+pub(crate) fn put_apart(
+    alloc: Global,
+    twig: &Arc<Cell>,
+    key: &Key,
+    plugin: u16,
+    body: &[u8],
+) -> Result<Option<Change>, Memory> {
+    if !goes_apart(alloc, *key, plugin, body)? || !is_run_twig(alloc, twig, true)? {
+        return Ok(None);
+    }
+    let mut path = Vec::with_capacity(alloc, 1)?;
+    path.push(Arc::try_clone(twig)?)?;
+    let mut fresh = numbers();
+    let change = insert(alloc, path.as_slice(), key, plugin, body, &mut fresh)?;
+    Ok(Some(change))
+}
+
+// Whether the item may stand in a leaf alone, behind the four blocks.
+fn goes_apart(alloc: Global, key: Key, plugin: u16, body: &[u8]) -> Result<bool, Memory>
+    ensures { IfOk result (λ b. IsTrue b → IsKey key × (rank (byte_key 16384) ≤ rank key)
+        × StandsAlone (given_item key plugin body.now) top) }
+{
+    if key.is_below(key_of(BEHIND)) || !is_item(plugin, body) {
+        return Ok(false);
+    }
+    stands_alone(alloc, &key, r4_cell::top(), plugin, body)
+}
+
+// Whether the byte lies behind the four blocks, and not too far.
+fn is_behind(offset: u64) -> bool
+    ensures { IsTrue result → (16384 ≤ offset) × (offset < 2 ^ 32) }
+{
+    offset >= BEHIND && offset < 1 << 32
+}
+
 // The key of a byte of the one file.
 fn key_of(offset: u64) -> Key
     ensures { result ≡ byte_key offset }
@@ -204,21 +274,23 @@ fn key_of(offset: u64) -> Key
     Key::body(41, 0, Oid(42), offset)
 }
 
-// Makes the block the root of a leaf and an extent of four blocks.
-fn lay_run(block: &mut Block) {
-    let mut extent = [0; 16];
-    put64(&mut extent, 0, TWIG + 2);
-    put64(&mut extent, 8, 4);
-    let mut pointer = [0; 8];
-    put64(&mut pointer, 0, TWIG + 1);
+// Makes the block a twig of an item and an extent of four blocks.
+fn lay_run(block: &mut Block, plugin: u16, first: &[u8])
+    requires plugin { fits_level 2 plugin ≡ true }
+    requires some { 1 ≤ length first.now }
+    requires few { length first.now ≤ 16 }
+{
+    let mut run = [0; 16];
+    put64(&mut run, 0, TWIG + 2);
+    put64(&mut run, 8, 4);
     let mut node = NodeMut::format(block, 2, 1);
-    append(&mut node, 0, Key::stat(41, 0, Oid(42)), 3, &pointer);
-    append(&mut node, 1, key_of(0), 5, &extent);
+    append(&mut node, 0, Key::stat(41, 0, Oid(42)), plugin, first);
+    append(&mut node, 1, key_of(0), 5, &run);
 }
 
-// Whether the cell is the root of a leaf and an extent of four blocks.
-fn is_run_twig(alloc: Global, twig: &Cell) -> Result<bool, Memory>
-    ensures { IfOk result (λ b. IsTrue b → IsRunTwig twig.now) }
+// Whether the cell is the root of an extent of four blocks, which has a leaf before it, or else another object's extent.
+fn is_run_twig(alloc: Global, twig: &Cell, leaf: bool) -> Result<bool, Memory>
+    ensures { IfOk result (λ b. IsTrue b → IsRunTwig leaf twig.now) }
 {
     if twig.id().0 != TWIG || twig.level() != 2 {
         return Ok(false);
@@ -228,27 +300,34 @@ fn is_run_twig(alloc: Global, twig: &Cell) -> Result<bool, Memory>
     }
     let _node = twig.node();
     let pieces = pieces_of_cell(alloc, twig)?;
-    Ok(are_run(pieces.as_slice()))
+    Ok(are_run(pieces.as_slice(), leaf))
 }
 
-// Whether the pieces are a pointer to the leaf, and a run of four blocks.
-fn are_run(pieces: &[TwigPiece]) -> bool
-    ensures { IsTrue result → pieces.now ≡ run_pieces }
+// Whether the pieces are the first one, and a run of four blocks.
+fn are_run(pieces: &[TwigPiece], leaf: bool) -> bool
+    ensures { IsTrue result → pieces.now ≡ run_pieces leaf }
 {
     let [first, second] = pieces else {
         return false;
     };
-    points_to_leaf(first) && is_run(second)
+    is_first(first, leaf) && is_run(second)
 }
 
-// Whether the piece is the pointer to the leaf.
-fn points_to_leaf(piece: &TwigPiece) -> bool
-    ensures { IsTrue result → piece.now ≡ leaf_piece }
+// Whether the piece is the pointer to the leaf, or else the one block of another object.
+fn is_first(piece: &TwigPiece, leaf: bool) -> bool
+    ensures { IsTrue result → piece.now ≡ first_piece leaf }
 {
-    let TwigPart::Pointer(leaf) = piece.part else {
-        return false;
-    };
-    leaf.0 == TWIG + 1 && piece.key.is_same(Key::stat(41, 0, Oid(42)))
+    is_first_part(&piece.part, leaf) && piece.key.is_same(Key::stat(41, 0, Oid(42)))
+}
+
+// Whether it is the part of that piece.
+fn is_first_part(part: &TwigPart, leaf: bool) -> bool
+    ensures { IsTrue result → part.now ≡ first_part leaf }
+{
+    match part {
+        TwigPart::Pointer(id) => leaf && id.0 == TWIG + 1,
+        TwigPart::Blocks(unit) => !leaf && unit.start == TWIG + 1 && unit.width == 1,
+    }
 }
 
 // Whether the piece is the run of four blocks.
@@ -272,11 +351,14 @@ fn is_run_leaf(leaf: &Cell) -> bool
     leaf.lo().is_same(least()) && leaf.hi().is_same(key_of(0))
 }
 
-// Whether it is the place of the second block or of the last one.
-fn is_second_or_last(nth: u64) -> bool
-    ensures { IsTrue result → (nth ≡ 1) ⊎ (nth ≡ 3) }
+// Whether it is the place of the second block or of the last one; or of the first, where there is no leaf.
+fn is_one(leaf: bool, nth: u64) -> bool
+    ensures { IsTrue result → ((leaf ≡ true) × ((nth ≡ 1) ⊎ (nth ≡ 3))) ⊎ ((leaf ≡ false) × (nth ≡ 0)) }
 {
-    nth == 1 || nth == 3
+    if leaf {
+        return nth == 1 || nth == 3;
+    }
+    nth == 0
 }
 
 // Whether the cell is one of the run's blocks.

@@ -1,4 +1,4 @@
-use Rattle.std.proofs.Common.{ap, arith}
+use Rattle.std.proofs.Common.{true, ap, arith}
 use Rattle.r4_base.specs.Key.{rank}
 use Rattle.r4_base.specs.Node.{items_of}
 use Rattle.r4_node40.specs.Loan.{bytes_of}
@@ -15,4 +15,4 @@ append-requires-2-clause-above c =
     let low = ap rank c.stat.ensures in
     let high = ap rank c.key_of.ensures in
     above_one (items_of (bytes_of c.append.new.node)) (items_of (bytes_of c.format-node.result)) _ c.key_of.result
-    c.format-node.ensures.fresh.items c.append.ensures.appended.items (omega (arith, low, high, first_key, least_byte))
+    c.format-node.ensures.fresh.items c.append.ensures.appended.items (omega (arith, low, high, first_key true, least_byte))

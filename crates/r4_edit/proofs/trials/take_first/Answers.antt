@@ -1,4 +1,4 @@
-use Rattle.std.proofs.Common.{◌≡◌, ◌∙◌, ◌++◌, [], ◌∷◌, List, map, ap, sym, subst}
+use Rattle.std.proofs.Common.{true, ◌≡◌, ◌∙◌, ◌++◌, [], ◌∷◌, List, map, ap, sym, subst}
 use Rattle.std.specs.Arc.{arc_value}
 use Rattle.r4_base.specs.Tree.{Root, Store}
 use Rattle.r4_base.specs.Value.{Value}
@@ -22,7 +22,7 @@ cut-requires-clause-path c =
     subst (λ (p : List CellSeen). (t : Store Value) × ((r : Root)
     × IsTakenOutIn t r p c.key_of.result c.key_of-2.result c.numbers-fresh.result)) (sym cells)
     (first_out twig leaf block
-    (subst IsRunTwig c.deref-else-not-is_run_block.ensures (c.in_ok-is_run_twig.ensures c.if-not-branch.false))
+    (subst (IsRunTwig true) c.deref-else-not-is_run_block.ensures (c.in_ok-is_run_twig.ensures c.if-not-branch.false))
     (subst IsRunLeaf c.deref.ensures (c.is_run_leaf.ensures c.if-not-is_run_leaf.false))
     (subst (IsRunBlock 0) c.deref-else-not-is_run_leaf.ensures (c.is_run_block.ensures c.if-not-is_run_block.false))
     c.numbers-fresh.result c.numbers-fresh.ensures.next c.numbers-fresh.ensures.end c.key_of.result c.key_of-2.result

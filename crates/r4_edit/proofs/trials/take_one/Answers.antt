@@ -5,8 +5,8 @@ use Rattle.r4_base.specs.Value.{Value}
 use Rattle.r4_cell.specs.Seen.{CellSeen}
 use Rattle.r4_edit.specs.CutBlocks.{IsTakenOutIn}
 use Rattle.r4_edit.specs.Trials.{IsRunBlock, IsRunTwig}
-use Rattle.r4_edit.proofs.RunCuts.{later_out}
-use Rattle.r4_edit.proofs.trials.take_later.Goals as goal
+use Rattle.r4_edit.proofs.RunCuts.{one_out}
+use Rattle.r4_edit.proofs.trials.take_one.Goals as goal
 
 pub cut-requires-clause-path : goal.cut-requires-clause-path
 cut-requires-clause-path c =
@@ -19,9 +19,8 @@ cut-requires-clause-path c =
     ∙ (λ i. c.in_ok-try_clone.ensures i ∷ (c.in_ok-try_clone-2.ensures i ∷ [])) in
     subst (λ (p : List CellSeen). (t : Store Value) × ((r : Root)
     × IsTakenOutIn t r p c.key_of-from.result c.key_of-to.result c.numbers-fresh.result)) (sym cells)
-    (later_out twig block
-    (subst IsRunTwig c.deref-else-not-is_run_block.ensures (c.in_ok-is_run_twig.ensures c.if-not-branch.false))
-    c.numbers-fresh.result c.numbers-fresh.ensures.next c.numbers-fresh.ensures.end c.key_of-from.result c.key_of-to.result
-    c.args.nth (c.is_second_or_last.ensures c.if-not-is_second_or_last.false)
+    (one_out twig block c.numbers-fresh.result c.numbers-fresh.ensures.next c.numbers-fresh.ensures.end c.key_of-from.result
+    c.key_of-to.result c.args.leaf c.args.nth (c.is_one.ensures c.if-not-is_one.false)
+    (subst (IsRunTwig c.args.leaf) c.deref-else-not-is_run_block.ensures (c.in_ok-is_run_twig.ensures c.if-not-branch.false))
     (subst (IsRunBlock c.args.nth) c.deref.ensures (c.is_run_block.ensures c.if-not-is_run_block.false))
     c.key_of-from.ensures c.key_of-to.ensures)
