@@ -1,5 +1,5 @@
 -- Which way units are cut out: by what stands behind the twigs of the path.
-use Rattle.std.proofs.Common.{map, true, false, ◌≡◌, inl, inr, ℕ, zero, suc, ◌+◌, ◌<◌, ◌≤◌, List, [], ◌∷◌, ◌++◌, length, take, drop, refl, sym, ap, subst, ◌∙◌, arith}
+use Rattle.std.proofs.Common.{map, true, false, ◌≡◌, inl, inr, ℕ, zero, suc, ◌+◌, ◌-◌, ◌<◌, ◌≤◌, List, [], ◌∷◌, ◌++◌, length, take, drop, refl, sym, ap, subst, ◌∙◌, arith}
 use Rattle.std.specs.Prelude.{Contains, Option, None, Some, reverse}
 use Rattle.std.proofs.Math.Seq.{drop-append_seam, take-append_seam}
 use Rattle.std.proofs.lemmas.Bool.{cases_lt, eq-eqb, le-leb, le-ltb, lt-leb, lt-ltb, ne_eqb}
@@ -10,20 +10,49 @@ use Rattle.r4_base.specs.Key.{rank}
 use Rattle.r4_base.specs.Tree.{Root, Store}
 use Rattle.r4_base.specs.Value.{Value}
 use Rattle.r4_base.specs.declared.key.Key.{Key}
-use Rattle.r4_cell.specs.Seen.{CellSeen}
+use Rattle.r4_cell.specs.Seen.{CellSeen, node_of}
 use Rattle.r4_branch.specs.declared.piece.TwigPiece.{TwigPiece}
 use Rattle.r4_cell.specs.declared.change.Change.{Change}
 use Rattle.r4_cell.specs.declared.change.Fresh.{Fresh}
-use Rattle.r4_graft.proofs.Placed.{first_member, first_or_later, later_member, not_in_none}
-use Rattle.r4_edit.specs.CutBlocks.{IsCutUp, IsLeftOf, IsOutOfExtentsIn, IsOutOfLeafIn, IsTakenOutIn, is_in_range, leaf_first, rest_behind, trunk, CutsUp}
+use Rattle.r4_graft.specs.Splices.{place}
+use Rattle.r4_graft.proofs.Placed.{first_member, first_or_later, later_member, not_in_none, place_none, place_some}
+use Rattle.r4_edit.specs.CutBlocks.{BeginsAt, IsCutUp, IsLeftOf, IsOutOfExtentsIn, IsOutOfLeafIn, IsTakenOutIn, is_in_range, leaf_first, parted_twice, pieces_between, rest_behind, trunk, CutsUp}
 use Rattle.r4_edit.specs.Editing.{IsCutOutUp}
-use Rattle.r4_edit.specs.Extents.{given_cells}
+use Rattle.r4_edit.specs.Extents.{given_cells, twig_pieces}
 use Rattle.r4_edit.specs.Levels.{Leads}
 use Rattle.r4_edit.specs.Steps.{name_of}
 use Rattle.r4_edit.proofs.Begun.{leads_of}
 
 true_not_false : true ≡ false → ⊥
 true_not_false e = absurd cc
+
+-- ---- what goes begins below the second key
+
+begins_below : (from to k : ℕ) (ps : List TwigPiece) → from < to → BeginsAt k (pieces_between from to ps) → k < to
+begins_below from to k [] less at = absurd at
+begins_below from to k (p ∷ ps) less at = elim (cases_lt (rank p.key) from) [
+  | inl lt ↦
+      let a = place_some from p ps lt in
+      let b = place_some to p ps (omega (arith, lt, less)) in
+      let less_one : suc (place to ps) - suc (place from ps) ≡ place to ps - place from ps = omega arith in
+      let same : pieces_between from to (p ∷ ps) ≡ pieces_between from to ps =
+      rw (a, b) (ap (λ n. take n (drop (place from ps) ps)) less_one) in
+      begins_below from to k ps less (subst (BeginsAt k) same at)
+  | inr ge ↦
+      let a = place_none from p ps ge in
+      elim (cases_lt (rank p.key) to) [
+        | inl lt ↦
+            let b = place_some to p ps lt in
+            let all : suc (place to ps) - 0 ≡ suc (place to ps) = omega arith in
+            let same : pieces_between from to (p ∷ ps) ≡ p ∷ take (place to ps) ps = rw (a, b) (ap (λ n. take n (p ∷ ps)) all) in
+            let is : rank p.key ≡ k = subst (BeginsAt k) same at in
+            omega (arith, is, lt)
+        | inr past ↦
+            let b = place_none to p ps past in
+            let same : pieces_between from to (p ∷ ps) ≡ [] = rw (a, b) refl in
+            absurd (subst (BeginsAt k) same at)
+      ]
+]
 
 -- ---- the cells above leaf level, and those below
 
@@ -149,8 +178,26 @@ module _ (t : Store Value) (r : Root) (path : List CellSeen) (from to : Key) (fr
     unfolding Levels
     blocks_are = sym (ap rest_behind parted_path.below_is ∙ (first_is is.leaf is.blocks levels.0 levels.1).1)
 
+    -- the leaf ends where what goes begins, or before
+    leaf_ends : (cells : List CellSeen) → IsCutUp t r is.leaf is.blocks (rank from) (rank to) fresh cells → (c : CellSeen)
+        → is.leaf ≡ Some c → rank c.hi ≤ rank from
+    leaf_ends [] e c same = absurd e
+    leaf_ends (twig ∷ ups) e c same =
+        let left = subst (IsLeftOf t twig (pieces_between (rank from) (rank to) (parted_twice (rank from) (rank to) (twig_pieces twig))))
+        same e.left in
+        elim (e.clear (name_of c) left.named left.level_is) [
+          | inl before ↦ before
+          | inr past ↦
+              let path = (e.room 0).path in
+              let node = path.part.nodes twig.id (node_of twig) path.ascends.0 in
+              let wide = node.name_nonempty (name_of c) left.named in
+              let below = begins_below (rank from) (rank to) (rank c.hi)
+              (parted_twice (rank from) (rank to) (twig_pieces twig)) e.some left.ends in
+              absurd (omega (arith, past, wide, below))
+        ]
+
     extent_range : is_in_range (leaf_first below) (rank from) ≡ false
-    extent_range = subst (λ o. is_in_range o (rank from) ≡ false) leaf_is (by_leaf is.leaf is.leaf_ends)
+    extent_range = subst (λ o. is_in_range o (rank from) ≡ false) leaf_is (by_leaf is.leaf (leaf_ends (reverse is.above) is.cuts))
       where
         by_leaf : (o : Option CellSeen) → ((c : CellSeen) → o ≡ Some c → rank c.hi ≤ rank from) → is_in_range o (rank from) ≡ false
         by_leaf None ends = refl

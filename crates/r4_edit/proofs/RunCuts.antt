@@ -173,15 +173,13 @@ module _ (lead : Bool) (twig : CellSeen) (is : IsRunTwig lead twig) where
       -- the same of keys that are given, and of the path
       pub out_of : ((id : ℕ) → twig_bytes (cut_pieces (from_key nth) (to_key nth) id leaf twig) ≤ 4068)
           → IsLeftOf t twig (going nth (twig_pieces twig)) leaf → (from to : Key) → from ≡ byte_key (4096 * nth)
-          → to ≡ byte_key (4096 * nth + 4096) → ((c : CellSeen) → leaf ≡ Some c → rank c.hi ≤ from_key nth)
-          → IsTakenOutIn t (low_root twig) (twig ∷ (given_cells leaf ++ block ∷ [])) from to f
-      out_of few left from to first last ends = inr (record {
+          → to ≡ byte_key (4096 * nth + 4096) → IsTakenOutIn t (low_root twig) (twig ∷ (given_cells leaf ++ block ∷ [])) from to f
+      out_of few left from to first last = inr (record {
         above = twig ∷ [];
         leaf = leaf;
         blocks = block ∷ [];
         is = refl;
         branches = λ c at. let e = ap (λ (x : CellSeen). x.level) (only twig c at) in let l = is.level in omega (arith, e, l);
-        leaf_ends = λ c e. let to = ends c e in let k = ap rank first in omega (arith, to, k);
         cuts = subst (λ (k : Key). IsCutUp t (low_root twig) leaf (block ∷ []) (rank k) (rank to) f (twig ∷ [])) (sym first)
             (subst (λ (k : Key). IsCutUp t (low_root twig) leaf (block ∷ []) (from_key nth) (rank k) f (twig ∷ [])) (sym last)
             (cut_in few left));
@@ -219,8 +217,7 @@ first_out twig leaf block is before mine f next end from to first last = (
           level_is = before.level;
           ends = first_begins twig is (rank leaf.hi) before.hi;
         })
-        from to first last
-        (λ c e. let hi = ap (λ (x : CellSeen). rank x.hi) (same_Some leaf c e) in let to = before.hi in omega (arith, hi, to)),
+        from to first last,
   ),
 )
 
@@ -276,7 +273,7 @@ module _ (twig block : CellSeen) (f : Fresh) (next : f.next ≡ 2 ^ 63 + 1000) (
       let hi = leaf_ends true twig is n at level in
       let k = begin n.hi h in
       let b = byte_at (4096 * nth) in
-      omega (arith, hi, k, b, some)) from to first last (λ c e. absurd cc)
+      omega (arith, hi, k, b, some)) from to first last
 
   second_or_last : (is : IsRunTwig true twig) (nth : ℕ) → (nth ≡ 1) ⊎ (nth ≡ 3) → IsRunBlock nth block
       → from ≡ byte_key (4096 * nth) → to ≡ byte_key (4096 * nth + 4096)
@@ -296,7 +293,6 @@ module _ (twig block : CellSeen) (f : Fresh) (next : f.next ≡ 2 ^ 63 + 1000) (
   behind_extent is nth e mine first last =
       out_of false twig is nth block (omega (arith, e)) mine None (λ c d. absurd cc) f next end
       (subst (λ n. HasFew n twig) (sym e) (fresh_bytes twig is)) (λ n at level h. no_leaf twig is n at level) from to first last
-      (λ c d. absurd cc)
 
   pub one_out : (lead : Bool) (nth : ℕ) → ((lead ≡ true) × ((nth ≡ 1) ⊎ (nth ≡ 3))) ⊎ ((lead ≡ false) × (nth ≡ 0))
       → IsRunTwig lead twig → IsRunBlock nth block → from ≡ byte_key (4096 * nth) → to ≡ byte_key (4096 * nth + 4096)

@@ -176,7 +176,6 @@ pub record IsOutOfExtentsIn (t : Store Value) (r : Root) (path : List CellSeen) 
   pub blocks : List CellSeen
   pub is : path ≡ above ++ (given_cells leaf ++ blocks)
   pub branches : (c : CellSeen) → Contains above c → 2 ≤ c.level
-  pub leaf_ends : (c : CellSeen) → leaf ≡ Some c → rank c.hi ≤ rank from
   pub cuts : IsCutUp t r leaf blocks (rank from) (rank to) fresh (reverse above)
 
 abbrev pub IsTakenOutIn : Store Value → Root → (path : List CellSeen) → (from to : Key) → Fresh → Type 0
