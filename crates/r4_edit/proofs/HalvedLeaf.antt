@@ -1,7 +1,7 @@
 -- A leaf with one item, parted between two of its units.
 use Rattle.std.proofs.Common.{◌≡◌, inl, inr, ℕ, zero, suc, false, ◌+◌, ◌/◌, ◌^◌, ◌<◌, ◌≤◌, true, List, [], ◌∷◌, ◌++◌, length, refl, sym, ap, subst, ◌∙◌, arith}
 use Rattle.std.specs.Prelude.{◌==◌, Contains, Option, None, Some, slice_get}
-use Rattle.std.proofs.lemmas.Bool.{eq-eqb, le-leb, lt-leb, ne_eqb}
+use Rattle.std.proofs.lemmas.Bool.{eq-eqb, le-leb, lt-leb, lt-ltb, ne_eqb}
 use Rattle.std.proofs.lemmas.List.{append-nil}
 use Rattle.std.proofs.lemmas.Option.{none-some, same_Some}
 use Rattle.r4_base.specs.Cell.{cell_fault, units_in}
@@ -15,7 +15,7 @@ use Rattle.r4_leaf.specs.Leaves.{MayStand}
 use Rattle.r4_leaf.specs.Units.{IsMiddle, LeafUnit}
 use Rattle.r4_leaf.proofs.Rising.{Rise, rise_order}
 use Rattle.r4_edit.specs.Extents.{given_cells}
-use Rattle.r4_edit.specs.LeafParts.{HasLeft, HasRight, IsLeftPart, IsRightPart, PartsLeaf, first_from, right_id, right_takes}
+use Rattle.r4_edit.specs.LeafParts.{HasLeft, HasRight, IsLeftPart, IsRightPart, PartsLeaf, first_from, right_id, right_takes, units_below, units_from}
 use Rattle.r4_edit.specs.Sharing.{IsSound}
 use Rattle.r4_edit.specs.Splitting.{IsParted, unit_count}
 use Rattle.r4_edit.specs.Steps.{Follow}
@@ -24,7 +24,7 @@ use Rattle.r4_edit.proofs.Members.{cases, none}
 use Rattle.r4_edit.proofs.NewNodes.{leaf_step}
 use Rattle.r4_edit.proofs.PartedLeaf.{units_rise}
 use Rattle.r4_edit.proofs.Rising.{hi_is, lo_is}
-use Rattle.r4_edit.proofs.SidesOfKey.{sides}
+use Rattle.r4_edit.proofs.SidesOfKey.{none_from, sides}
 
 -- ---- a unit at a place
 
@@ -54,6 +54,32 @@ first_at a b (v ∷ us) (suc i) u h is =
     let rest = first_at (v.0 + 1) b us i u h.1 is in
     rw test rest
 
+-- units stand below it and from it on
+below_some : (a b : ℕ) (us : List LeafUnit) (i : ℕ) (u : LeafUnit) → Rise a b us → slice_get us i ≡ Some u → 1 ≤ i
+    → 1 ≤ length (units_below u.0 us)
+below_some a b [] i u h is some = absurd (none-some u is)
+below_some a b (v ∷ us) zero u h is some = absurd (omega (arith, some))
+below_some a b (v ∷ us) (suc i) u h is some =
+    let low : v.0 + 1 + i ≤ u.0 = (unit_at (v.0 + 1) b us i u h.1 is).0 in
+    let test = lt-ltb v.0 u.0 (omega (arith, low)) in
+    rw test (omega arith)
+
+no_items : (items : List Item) → 1 ≤ length (units_in items) → 1 ≤ length items
+unfolding units_in
+no_items [] some = absurd (omega (arith, some))
+no_items (x ∷ xs) some = omega arith
+
+-- a leaf with a unit is not empty
+leaf_some : (c : CellSeen) → c.level ≡ 1 → 1 ≤ length (node_of c).units → 1 ≤ length (items_of c.block)
+leaf_some c level some = no_items (items_of c.block) (subst (λ us. 1 ≤ length us) (units_are c 0 level) some)
+
+from_some : (k n : ℕ) (us : List LeafUnit) → first_from k us ≡ Some n → 1 ≤ length (units_from k us)
+from_some k n us is = by_length (units_from k us) refl
+  where
+    by_length : (vs : List LeafUnit) → units_from k us ≡ vs → 1 ≤ length vs
+    by_length [] none = absurd (none-some n (sym (none_from k us none) ∙ is))
+    by_length (v ∷ vs) e = omega arith
+
 -- ---- the key within the leaf
 
 module _ (leaf : CellSeen) (level : leaf.level ≡ 1) (node : IsTreeNode (node_of leaf))
@@ -79,6 +105,10 @@ module _ (leaf : CellSeen) (level : leaf.level ≡ 1) (node : IsTreeNode (node_o
 
   first : first_from (rank key) us ≡ Some (rank key)
   first = first_at (rank leaf.lo) (rank leaf.hi) us (length us / 2) (rank key, middle.value) rise middle.unit
+
+  low_some : 1 ≤ length (units_below (rank key) us)
+  low_some = below_some (rank leaf.lo) (rank leaf.hi) us (length us / 2) (rank key, middle.value) rise middle.unit
+      (omega (arith, two))
 
   not_first : (rank key == rank leaf.lo) ≡ false
   not_first = let behind = key_behind in ne_eqb (rank key) (rank leaf.lo) (λ e. omega (arith, e, behind))
@@ -117,6 +147,10 @@ module _ (leaf : CellSeen) (level : leaf.level ≡ 1) (node : IsTreeNode (node_o
     both_parted : IsParted leaf f g (record { old = leaf; new = cells })
     both_parted = record {
       two = refl;
+      some = each (λ d. 1 ≤ length (items_of d.block))
+          (leaf_some l left.level_is (subst (λ vs. 1 ≤ length vs) (sym left.units) low_some))
+          (leaf_some r right.level_is (subst (λ vs. 1 ≤ length vs) (sym right.units)
+          (from_some (rank key) (rank key) us first)));
       units = units;
       parts = inl (record {
         old = refl;
@@ -162,16 +196,11 @@ pub lent_units : (c p : CellSeen) (items : List Item) → p ≡ c → c.level �
 lent_units c p items is level same =
     ap units_in (same ∙ ap (λ (x : CellSeen). items_of x.block) is) ∙ sym (units_are c 0 level)
 
-no_units : (items : List Item) → 2 ≤ length (units_in items) → 1 ≤ length items
-unfolding units_in
-no_units [] two = absurd (omega (arith, two))
-no_units (x ∷ xs) two = omega arith
-
 -- a leaf with two units and fewer than two items has one
 pub one_item : (c : CellSeen) → c.level ≡ 1 → 2 ≤ length (node_of c).units → length (items_of c.block) < 2
     → length (items_of c.block) ≡ 1
 one_item c level two few =
-    let some = no_units (items_of c.block) (subst (λ us. 2 ≤ length us) (units_are c 0 level) two) in
+    let some = leaf_some c level (omega (arith, two)) in
     omega (arith, some, few)
 
 pub unit_count_leaf : (c : CellSeen) → c.level ≡ 1 → 2 ≤ unit_count c → 2 ≤ length (node_of c).units

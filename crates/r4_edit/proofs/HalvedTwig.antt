@@ -4,7 +4,7 @@ use Rattle.std.proofs.Common.{refl, sym, ap, subst, ◌∙◌, arith}
 use Rattle.std.specs.Prelude.{Contains, None}
 use Rattle.std.proofs.lemmas.List.{append-nil, take-append-drop, length-take, length-drop}
 use Rattle.r4_base.specs.Key.{rank}
-use Rattle.r4_base.specs.Node.{mkfs_id_of}
+use Rattle.r4_base.specs.Node.{items_of, mkfs_id_of}
 use Rattle.r4_base.specs.declared.key.Key.{Key}
 use Rattle.r4_branch.specs.Pieces.{AreTwigPieces, Follow as FollowPieces, last_end, names_of, next_of, part_bytes, twig_bytes, units_of}
 use Rattle.r4_branch.specs.Pieces.{bytes_behind}
@@ -22,7 +22,7 @@ use Rattle.r4_edit.specs.Sharing.{IsSound}
 use Rattle.r4_edit.specs.Splitting.{IsParted}
 use Rattle.r4_edit.proofs.CellNodes.{names_are, units_are}
 use Rattle.r4_edit.proofs.Members.{cases, none}
-use Rattle.r4_edit.proofs.TwigCells.{in_naming, naming_in, twig_wide}
+use Rattle.r4_edit.proofs.TwigCells.{has_items, in_naming, naming_in, twig_wide}
 
 -- ---- pieces in two parts, each of which has one
 
@@ -165,6 +165,8 @@ module _ (c : CellSeen) (level : c.level ≡ 2) (ps left right : List TwigPiece)
   parted_cells : (old : CellSeen) → old ≡ c → IsParted c f g (record { old = old; new = cells })
   parted_cells old same = record {
     two = refl;
+    some = each (λ d. 1 ≤ length (items_of d.block)) (has_items (rank c.lo) (rank key) x low.stands)
+        (has_items (rank key) (rank c.hi) y high.stands);
     units = all_units ∙ of.units;
     parts = inr (record {
       level = level;

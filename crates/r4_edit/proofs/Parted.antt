@@ -78,6 +78,7 @@ module _ (c : CellSeen) (ups : List CellSeen) (f g : Fresh) (s : Step) (p : IsPa
             old = refl;
             ups_are = rose.ups_are;
             two = p.two;
+            some = p.some;
             units = p.units;
             keep = rose.keep;
             needed = rose.needed;
@@ -86,7 +87,7 @@ module _ (c : CellSeen) (ups : List CellSeen) (f g : Fresh) (s : Step) (p : IsPa
             counts = rose.counts;
             number = rose.number;
           }
-      | inr pieces ↦ pieces_parts c ups f g s p.two pieces after d rises p.units
+      | inr pieces ↦ pieces_parts c ups f g s p.two pieces after d rises p.some p.units
     ]
 
 pub some_path : {A : Type 0} (t : Store Value) (r : Root) (f : Fresh) (h : A → CellSeen) (xs : List A)

@@ -16,7 +16,7 @@ use Rattle.r4_edit.specs.Levels.{units_of_cells}
 use Rattle.r4_edit.specs.Splitting.{IsParted}
 use Rattle.r4_edit.specs.Nodes.{weight, weight_of}
 use Rattle.r4_edit.specs.Rows.{row_items, row_level, row_more, with_pointers}
-use Rattle.r4_edit.specs.Sharing.{HasItems, IsRowOf, IsSound, items_of_cells}
+use Rattle.r4_edit.specs.Sharing.{AreSome, HasItems, IsRowOf, IsSound, items_of_cells}
 use Rattle.r4_edit.specs.Steps.{Follow, IsStep}
 use Rattle.r4_edit.specs.declared.row.Row.{Row}
 use Rattle.r4_edit.proofs.CellUnits.{own_units as units_of_items, units_parts}
@@ -164,13 +164,15 @@ module _ (c p q : CellSeen) (w : Row) (lent : Lent c p q w) where
   lent_two = own_two c w sound_cell lent.low wide view_cell lent.at_zero lent.none_come lent.two
 
   pub lent_parted : (f g : Fresh) (old : CellSeen) (cells : List CellSeen) → old ≡ c → HasItems q (row_items w) f.next cells
-      → length cells ≡ 2 → g ≡ record f { next = f.next + 1 } → IsParted c f g (record { old = old; new = cells })
-  lent_parted f g old cells same has two took =
+      → length cells ≡ 2 → AreSome cells → g ≡ record f { next = f.next + 1 }
+      → IsParted c f g (record { old = old; new = cells })
+  lent_parted f g old cells same has two some took =
       let mine : HasItems c (row_items w) f.next cells = subst (λ x. HasItems x (row_items w) f.next cells) lent.q_is has in
       let all = same_row c w sound_cell lent.low wide view_cell lent.at_zero lent.none_come lent.two in
       let own : HasItems c (items_of c.block) f.next cells = subst (λ items. HasItems c items f.next cells) all mine in
       record {
         two = two;
+        some = some;
         units = own_units c w sound_cell lent.low wide view_cell lent.at_zero lent.none_come lent.two f.next cells mine lent.tree_node;
         parts = inl (record {
           old = same;

@@ -15,6 +15,7 @@ use Rattle.r4_patch.specs.Joining.{patch_of_change}
 use Rattle.r4_patch.specs.Part.{MeetsPart}
 use Rattle.r4_edit.specs.Grafts.{HaveGraftNumbers, IsGraftOf}
 use Rattle.r4_edit.specs.Levels.{CanClimb, IsLongEnough, Rises, units_of_cells}
+use Rattle.r4_edit.specs.Sharing.{AreSome}
 use Rattle.r4_edit.specs.Splitting.{ArePiecesShared, IsPartedIn, Parts}
 use Rattle.r4_edit.specs.Steps.{Step, news, olds}
 use Rattle.r4_edit.specs.Twigs.{Below, IsTwigChange}
@@ -93,8 +94,8 @@ module _ (c : CellSeen) (ups : List CellSeen) (f g : Fresh) (s : Step) (two : le
         (λ i. patch_of (sym rose.levels.old i) (sym rose.levels.new i) (sym rose.levels.pair i))
         (part_meets t r nothing s more rises.over (is_change t r is))
 
-    pub pieces_parts : units_of_cells s.new ≡ (node_of c).units → Parts c ups f after d
-    pieces_parts units = record {
+    pub pieces_parts : AreSome s.new → units_of_cells s.new ≡ (node_of c).units → Parts c ups f after d
+    pieces_parts some units = record {
       lowest = s;
       more = more;
       over = rises.over;
@@ -102,6 +103,7 @@ module _ (c : CellSeen) (ups : List CellSeen) (f g : Fresh) (s : Step) (two : le
       old = p.row.old;
       ups_are = rose.ups_are;
       two = two;
+      some = some;
       units = units;
       keep = rises.climbed.keep;
       needed = rises.climbed.needed;

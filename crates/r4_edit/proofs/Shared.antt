@@ -1,8 +1,8 @@
 -- The cells that have the items of a row.
-use Rattle.std.proofs.Common.{◌≡◌, ℕ, zero, suc, ◌+◌, ◌^◌, ◌<◌, ◌≤◌, true, List, [], ◌∷◌, ◌++◌, length, take, drop, refl, sym}
+use Rattle.std.proofs.Common.{◌≡◌, ℕ, zero, suc, ◌+◌, ◌-◌, ◌^◌, ◌<◌, ◌≤◌, true, List, [], ◌∷◌, ◌++◌, length, take, drop, refl, sym}
 use Rattle.std.proofs.Common.{ap, subst, ◌∙◌, arith, inl, inr}
 use Rattle.std.specs.Prelude.{None, Some, slice_get, IfSome}
-use Rattle.std.proofs.lemmas.List.{append-nil, length-drop}
+use Rattle.std.proofs.lemmas.List.{append-nil, length-drop, length-take}
 use Rattle.std.proofs.lemmas.Option.{same_Some}
 use Rattle.r4_base.specs.Cell.{cell_fault}
 use Rattle.r4_base.specs.Key.{rank}
@@ -12,7 +12,7 @@ use Rattle.r4_cell.specs.Seen.{CellSeen}
 use Rattle.r4_edit.specs.Nodes.{IsNodeOf, weight}
 use Rattle.r4_edit.specs.Rows.{IsCut, row_items, row_level, row_part}
 use Rattle.r4_cell.specs.declared.change.Fresh.{Fresh}
-use Rattle.r4_edit.specs.Sharing.{AreFilled, HasItems, IsRowOf, IsSound, Shares}
+use Rattle.r4_edit.specs.Sharing.{AreFilled, AreSome, HasItems, IsRowOf, IsSound, Shares}
 use Rattle.r4_edit.specs.declared.row.Row.{Row}
 use Rattle.r4_edit.proofs.Cuts.{both_parts, cut_parts, take_whole}
 use Rattle.r4_edit.proofs.Filling.{weight_one}
@@ -223,6 +223,32 @@ module _ (o : CellSeen) (w : Row) (is : IsRowOf o w) where
         }
 
 -- above level 2 neither of two nodes is small
+-- neither node is empty
+pub two_some : (w : Row) (cut : ℕ) → 1 ≤ cut → cut < length (row_items w) → (a b : CellSeen)
+    → IsNodeOf (row_level w) (row_part w 0 cut) a.block
+    → IsNodeOf (row_level w) (row_part w cut (length (row_items w))) b.block → AreSome (a ∷ (b ∷ []))
+two_some w cut some below a b left right x member =
+    elim (cases a x (b ∷ []) member) [
+      | inl is ↦ subst (λ (y : CellSeen). 1 ≤ length (items_of y.block)) (sym is) first
+      | inr rest ↦ elim (cases b x [] rest) [
+        | inl is ↦ subst (λ (y : CellSeen). 1 ≤ length (items_of y.block)) (sym is) second
+        | inr more ↦ absurd (none x more)
+      ]
+    ]
+  where
+    first : 1 ≤ length (items_of a.block)
+    first =
+        let all = ap length left.items_are in
+        let part = length-take (cut - 0) (row_items w) in
+        omega (arith, all, part, some, below)
+
+    second : 1 ≤ length (items_of b.block)
+    second =
+        let all = ap length right.items_are in
+        let part = length-take (length (row_items w) - cut) (drop cut (row_items w)) in
+        let rest = length-drop cut (row_items w) in
+        omega (arith, all, part, rest, below)
+
 pub two_filled : (o : CellSeen) (w : Row) → IsRowOf o w → (cut : ℕ) → IsCut w cut → (a b : CellSeen)
     → IsNodeOf (row_level w) (row_part w 0 cut) a.block
     → IsNodeOf (row_level w) (row_part w cut (length (row_items w))) b.block → 3 ≤ o.level → 4068 < weight (row_items w)

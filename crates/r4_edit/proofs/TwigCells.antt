@@ -43,13 +43,17 @@ items_wide lo hi (it ∷ items) some at =
     let below = l.below in
     omega (arith, from, below)
 
-pub twig_wide : (lo hi : ℕ) (b : List ℕ) → MayStand lo hi b → lo < hi
-twig_wide lo hi b stands =
+pub has_items : (lo hi : ℕ) (b : List ℕ) → MayStand lo hi b → 1 ≤ length (items_of b)
+has_items lo hi b stands =
     let at = node_at true (2 ^ 64) 2 lo hi b (omega arith) stands.1 in
     let level = at.level_is in
     let count = some_items (level_of b) (count_of b) (good b stands.0 at.accepted).1 (omega (arith, level)) in
     let long = length-items_of b in
-    items_wide lo hi (items_of b) (omega (arith, count, long)) at.items
+    omega (arith, count, long)
+
+pub twig_wide : (lo hi : ℕ) (b : List ℕ) → MayStand lo hi b → lo < hi
+twig_wide lo hi b stands = items_wide lo hi (items_of b) (has_items lo hi b stands)
+    (node_at true (2 ^ 64) 2 lo hi b (omega arith) stands.1).items
 
 -- ---- pieces in two parts
 

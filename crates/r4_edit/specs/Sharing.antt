@@ -35,6 +35,10 @@ pub record HasItems (old : CellSeen) (items : List Item) (next : ℕ) (cells : L
 abbrev pub AreFilled : List CellSeen → Type 0
 AreFilled cells = (c : CellSeen) → Contains cells c → 1024 ≤ weight (items_of c.block)
 
+-- none of the cells is without items
+abbrev pub AreSome : List CellSeen → Type 0
+AreSome cells = (c : CellSeen) → Contains cells c → 1 ≤ length (items_of c.block)
+
 -- One cell has the items, or two, where they do not fit into one; then a number was taken, and above level 2 neither is small.
 pub record Shares (old : CellSeen) (items : List Item) (before after : Fresh) (cells : List CellSeen) : Type 0 where
   pub has : HasItems old items before.next cells

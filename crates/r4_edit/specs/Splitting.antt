@@ -13,7 +13,7 @@ use Rattle.r4_patch.specs.Joining.{ids_of}
 use Rattle.r4_edit.specs.Grafts.{IsTwigRow}
 use Rattle.r4_edit.specs.Growing.{IsPathIn}
 use Rattle.r4_edit.specs.Levels.{AreNeeded, HasLevels, HaveMkfsIdOf, IsLongEnough, KeepMkfsIds, Keeps, units_of_cells}
-use Rattle.r4_edit.specs.Sharing.{IsSound}
+use Rattle.r4_edit.specs.Sharing.{AreSome, IsSound}
 use Rattle.r4_edit.specs.Steps.{CountUp, IsStep, Step, fresh_ids, olds}
 
 -- How many units the cell may be parted between: of a leaf its stat data, entries and bytes, of a twig its pointers and the
@@ -30,8 +30,8 @@ pub record IsPartedIn (t : Store Value) (r : Root) (c : CellSeen) (ups : List Ce
   pub enough : IsLongEnough r 1 c ups
   pub units : 2 ≤ unit_count c
 
--- The lowest step parts the cell in two, with all its units in their order; the steps go up the path, with the next numbers.
--- The mkfs_ids are kept.
+-- The lowest step parts the cell in two, of which neither is empty, with all its units in their order; the steps go up the
+-- path, with the next numbers. The mkfs_ids are kept.
 pub record Parts (c : CellSeen) (ups : List CellSeen) (before after : Fresh) (change : Change) : Type 0 where
   pub lowest : Step
   pub more : List Step
@@ -40,6 +40,7 @@ pub record Parts (c : CellSeen) (ups : List CellSeen) (before after : Fresh) (ch
   pub old : lowest.old ≡ c
   pub ups_are : olds more ≡ take (length more) ups
   pub two : length lowest.new ≡ 2
+  pub some : AreSome lowest.new
   pub units : units_of_cells lowest.new ≡ (node_of c).units
   pub keep : (u : Step) → Contains more u → Keeps u
   pub needed : AreNeeded (lowest ∷ more)
@@ -63,9 +64,11 @@ pub record ArePiecesShared (c : CellSeen) (before after : Fresh) (s : Step) : Ty
   pub names : names_of (rank c.hi) (pieces_in (items_of c.block)) ≡ (node_of c).names
   pub row : IsTwigRow c (pieces_in (items_of c.block)) before after s
 
--- The cell is parted in two, with all its units in their order: between items or within one of a leaf, or within an extent.
+-- The cell is parted in two, of which neither is empty, with all its units in their order: between items or within one of a
+-- leaf, or within an extent.
 pub record IsParted (c : CellSeen) (before after : Fresh) (s : Step) : Type 0 where
   pub two : length s.new ≡ 2
+  pub some : AreSome s.new
   pub units : units_of_cells s.new ≡ (node_of c).units
   pub parts : IsSharedOut c before after s ⊎ ArePiecesShared c before after s
 

@@ -4,7 +4,7 @@ ghost use Rattle.std.specs.Prelude.{◌≡◌, ℕ, ◌+◌, ◌<◌, ◌≤◌,
 ghost use Rattle.std.specs.Arc.{arc_value};
 ghost use Rattle.r4_edit.specs.Nodes.{weight};
 ghost use Rattle.r4_edit.specs.Rows.{row_items};
-ghost use Rattle.r4_edit.specs.Sharing.{AreFilled, HasItems, IsRowOf, Shares};
+ghost use Rattle.r4_edit.specs.Sharing.{AreFilled, AreSome, HasItems, IsRowOf, Shares};
 ghost use Rattle.r4_edit.specs.Steps.{OnlyTakes};
 
 use crate::numbers::take_number;
@@ -55,6 +55,7 @@ pub(crate) fn two(
     requires two { 2 ≤ length (row_items row.now) }
     requires number { fresh.old.next < fresh.old.end }
     ensures cells { IfOk result (λ cells. HasItems old.now (row_items row.now) fresh.old.next cells × (length cells ≡ 2)) }
+    ensures some { IfOk result (λ cells. AreSome cells) }
     ensures filled { IfOk result (λ cells. 3 ≤ old.now.level → 4068 < weight (row_items row.now) → AreFilled cells) }
     ensures fresh { OnOk result (fresh.new ≡ record fresh.old { next = fresh.old.next + 1 }) }
     ensures numbers { OnlyTakes fresh.old fresh.new }

@@ -5,8 +5,8 @@ use Rattle.r4_base.specs.Node.{mkfs_id_of}
 use Rattle.r4_cell.specs.Seen.{CellSeen}
 use Rattle.r4_edit.specs.Nodes.{IsNodeOf}
 use Rattle.r4_edit.specs.Rows.{row_items, row_level, row_part}
-use Rattle.r4_edit.specs.Sharing.{AreFilled, HasItems}
-use Rattle.r4_edit.proofs.Shared.{left_sound, right_sound, two_filled, two_has}
+use Rattle.r4_edit.specs.Sharing.{AreFilled, AreSome, HasItems}
+use Rattle.r4_edit.proofs.Shared.{left_sound, right_sound, two_filled, two_has, two_some}
 use Rattle.r4_edit.proofs.sharing.two.Goals as goal
 
 pub new_cell-requires : goal.new_cell-requires
@@ -58,3 +58,18 @@ returns-clause-filled c =
     (row_part c.args.row.now c.cut-cut.result (length (row_items c.args.row.now)))) (sym (ap (λ (s : CellSeen). s.block) b))
     (subst (λ n. IsNodeOf (row_level c.args.row.now)
     (row_part c.args.row.now c.cut-cut.result n) c.in_ok-right.right) c.len.ensures c.in_ok-right.ensures.node)) high over)) c.pair.ensures
+
+pub returns-clause-some : goal.returns-clause-some
+returns-clause-some c =
+    let a = c.in_ok-left-2.ensures in
+    let b = c.in_ok-right-2.ensures in
+    IfOk-weaker c.pair.result _ _ (λ cells is.
+    subst AreSome (sym is)
+    (two_some c.args.row.now c.cut-cut.result c.cut-cut.ensures.some c.cut-cut.ensures.below
+    (arc_value c.in_ok-left-2.left) (arc_value c.in_ok-right-2.right)
+    (subst (IsNodeOf (row_level c.args.row.now) (row_part c.args.row.now 0 c.cut-cut.result))
+    (sym (ap (λ (s : CellSeen). s.block) a)) c.in_ok-left.ensures.node)
+    (subst (IsNodeOf (row_level c.args.row.now)
+    (row_part c.args.row.now c.cut-cut.result (length (row_items c.args.row.now)))) (sym (ap (λ (s : CellSeen). s.block) b))
+    (subst (λ n. IsNodeOf (row_level c.args.row.now)
+    (row_part c.args.row.now c.cut-cut.result n) c.in_ok-right.right) c.len.ensures c.in_ok-right.ensures.node)))) c.pair.ensures

@@ -52,4 +52,5 @@ returns-clause-parted c = lent_parted (arc_value c.args.cell.now) c.deref.result
       low = c.requires.low;
       two = c.requires.two;
     }) c.args.fresh.now c.two.new.fresh
-    (arc_value c.in_ok-try_clone.field-0) c.in_ok-new.new c.in_ok-try_clone.ensures c.in_ok-new.ensures.cells.0 c.in_ok-new.ensures.cells.1 c.in_ok-new.ensures.fresh
+    (arc_value c.in_ok-try_clone.field-0) c.in_ok-new.new c.in_ok-try_clone.ensures c.in_ok-new.ensures.cells.0 c.in_ok-new.ensures.cells.1 c.in_ok-new.ensures.some
+    c.in_ok-new.ensures.fresh
