@@ -11,7 +11,7 @@ use Rattle.r4_cell.specs.declared.change.Fresh.{Fresh}
 use Rattle.r4_leaf.specs.Leaves.{HaveMkfsId}
 use Rattle.r4_leaf.specs.Units.{LeafUnit}
 use Rattle.r4_leaf.specs.declared.leaf.Leaf.{Leaf}
-use Rattle.r4_edit.specs.Editing.{AreLeavesOf, EditsUp, IsCutIn, IsCutOutIn, IsCutOutUp, IsEditedIn, IsInsertIn, IsInsertedIn}
+use Rattle.r4_edit.specs.Editing.{AreLeavesOf, EditsUp, IsCutOfLeafIn, IsCutOutIn, IsCutOutUp, IsEditedIn, IsInsertIn, IsInsertedIn}
 use Rattle.r4_edit.specs.Editing.{IsInsertedUp, IsReplacedUp, extra_for, extra_up}
 use Rattle.r4_edit.proofs.Upwards.{last_first, long_above}
 
@@ -31,15 +31,15 @@ module _ {A : Type 0} (h : A → CellSeen) (path : List A) (x : A) (last : x ≡
 
   -- ---- units that are cut out
 
-  some_cut : (t : Store Value) (r : Root) (from to : Key) (xs : List A) → IsCutIn t r (map h xs) from to f → length xs ≢ 0
+  some_cut : (t : Store Value) (r : Root) (from to : Key) (xs : List A) → IsCutOfLeafIn t r (map h xs) from to f → length xs ≢ 0
   some_cut t r from to [] is e = is
   some_cut t r from to (y ∷ ys) is e = omega (arith, e)
 
-  pub cut_out : (t : Store Value) (r : Root) (from to : Key) → IsCutIn t r (map h path) from to f
+  pub cut_out : (t : Store Value) (r : Root) (from to : Key) → IsCutOfLeafIn t r (map h path) from to f
       → IsCutOutIn t r from to (h x) (reverse (map h (take (length path - 1) path))) f
   cut_out t r from to is = subst (IsCutOutUp t r from to f) (last_first h path x (some_cut t r from to path is) last) is
 
-  pub cut_some : (t : Store Value) (r : Root) (from to : Key) → IsCutIn t r (map h path) from to f → length path ≢ 0
+  pub cut_some : (t : Store Value) (r : Root) (from to : Key) → IsCutOfLeafIn t r (map h path) from to f → length path ≢ 0
   cut_some t r from to is = some_cut t r from to path is
 
   -- ---- what comes in its place

@@ -15,7 +15,7 @@ use Rattle.r4_cell.specs.Seen.{CellSeen, node_of}
 use Rattle.r4_cell.specs.declared.change.Fresh.{Fresh}
 use Rattle.r4_graft.specs.Splices.{place}
 use Rattle.r4_graft.proofs.Placed.{first_member, first_or_later, follow_end, has_end, not_in_none}
-use Rattle.r4_edit.specs.Extents.{AreAmongExtents, ArePiecesOf, IsLeafPutIn, IsLeafPutUp, new_pointer, put_pieces, twig_pieces}
+use Rattle.r4_edit.specs.Extents.{AreAmongExtents, ArePiecesOf, IsLeafPutIn, IsLeafPutUp, leaf_pointer, put_pieces, twig_pieces}
 use Rattle.r4_edit.specs.Grafts.{AreBlocksOf, AreCountedBelow, IsGraftBelow, IsGraftBelowIn, IsGraftBelowUp, IsGraftIn, IsGraftOf, IsGraftedIn, IsGraftedUp}
 use Rattle.r4_edit.specs.LeafParts.{IsLeafOf}
 use Rattle.r4_edit.specs.Steps.{IsFree, OnlyTakes, name_of}
@@ -32,7 +32,7 @@ next_upper : (from hi : ℕ) (ys : List TwigPiece) → Follow from hi ys → nex
 next_upper from hi [] f = omega arith
 next_upper from hi (y ∷ ys) f = let e = has_end y f.1 in let rest = follow_end (piece_end y) hi ys f.2 in omega (arith, e, rest)
 
-pointer_bytes : (key : Key) (id : ℕ) → twig_bytes (new_pointer key id) ≡ 46
+pointer_bytes : (key : Key) (id : ℕ) → twig_bytes (leaf_pointer key id) ≡ 46
 unfolding bytes_behind
 pointer_bytes key id = refl
 
@@ -53,7 +53,7 @@ module _ (t : Store Value) (r : Root) (it : Item) (twig : CellSeen) (ups : List 
   ps = twig_pieces twig
 
   abbrev us : List TwigPiece
-  us = new_pointer it.key fresh.next
+  us = leaf_pointer it.key fresh.next
 
   pub follows : Follow (rank it.key) (item_end it) us
   follows =
@@ -185,7 +185,7 @@ module _ {A : Type 0} (h : A → CellSeen) (path : List A) (x : A) (last : x ≡
       (hi : Key) (mkfs_id : ℕ) (leaf_is : IsLeafOf it fresh.next hi mkfs_id leaf)
       (end : rank hi ≡ next_of (rank (h x).hi) (drop (place (rank it.key) (twig_pieces (h x))) (twig_pieces (h x))))
       (are : ArePiecesOf (h x) (twig_pieces (h x))) (qs : List TwigPiece)
-      (packed : qs ≡ put_pieces it.key (new_pointer it.key fresh.next) (twig_pieces (h x))) where
+      (packed : qs ≡ put_pieces it.key (leaf_pointer it.key fresh.next) (twig_pieces (h x))) where
     pub packed_in : IsGraftIn t r (map h path) qs after
     packed_in = subst (λ ps. IsGraftIn t r (map h path) ps after) (sym packed)
         (leaf_graft_in _ after (leaf_grafted t r it (h x) leaf_ups fresh after are leaf_put_in unplaced took leaf hi mkfs_id leaf_is end))
@@ -193,5 +193,5 @@ module _ {A : Type 0} (h : A → CellSeen) (path : List A) (x : A) (last : x ≡
     pub packed_below : (olds news : List CellSeen) → olds ≡ [] → news ≡ leaf ∷ [] → IsGraftBelowIn t r (map h path) qs (record { old = olds; new = news }) [] fresh.next after
     packed_below olds news none one =
         subst (λ ps. IsGraftBelowIn t r (map h path) ps (record { old = olds; new = news }) [] fresh.next after) (sym packed)
-        (subst (λ (b : Below). IsGraftBelowIn t r (map h path) (put_pieces it.key (new_pointer it.key fresh.next) (twig_pieces (h x))) b [] fresh.next after) (λ i. record { old = sym none i; new = sym one i })
+        (subst (λ (b : Below). IsGraftBelowIn t r (map h path) (put_pieces it.key (leaf_pointer it.key fresh.next) (twig_pieces (h x))) b [] fresh.next after) (λ i. record { old = sym none i; new = sym one i })
         (leaf_below_in _ after (record { old = []; new = leaf ∷ [] }) [] fresh.next (leaf_below t r it (h x) leaf_ups fresh after are leaf_put_in unplaced took leaf hi mkfs_id leaf_is end)))

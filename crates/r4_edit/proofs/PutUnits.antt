@@ -17,7 +17,7 @@ use Rattle.r4_graft.specs.Splices.{place}
 use Rattle.r4_graft.proofs.Joined.{units_join}
 use Rattle.r4_leaf.specs.Units.{put_units}
 use Rattle.r4_leaf.proofs.Rising.{put_run}
-use Rattle.r4_edit.specs.Extents.{AreAmongExtents, ArePiecesOf, IsLeafPutIn, IsLeafPutUp, IsSpreadIn, IsSpreadUp, PutsLeafUp, SpreadsUp, new_pointer, put_pieces, twig_pieces}
+use Rattle.r4_edit.specs.Extents.{AreAmongExtents, ArePiecesOf, IsLeafPutIn, IsLeafPutUp, IsSpreadIn, IsSpreadUp, PutsLeafUp, SpreadsUp, leaf_pointer, put_pieces, twig_pieces}
 use Rattle.r4_edit.specs.Grafts.{GraftsBelow}
 use Rattle.r4_edit.specs.LeafParts.{IsLeafOf}
 use Rattle.r4_edit.specs.Twigs.{Below}
@@ -67,7 +67,7 @@ module _ {A : Type 0} (h : A → CellSeen) (path : List A) (x : A) (last : x ≡
 
 -- ---- an item of a leaf
 
-pointer_units : (key : Key) (id : ℕ) → units_of (new_pointer key id) ≡ []
+pointer_units : (key : Key) (id : ℕ) → units_of (leaf_pointer key id) ≡ []
 unfolding units_of
 pointer_units key id = refl
 
@@ -76,9 +76,9 @@ module _ (t : Store Value) (r : Root) (it : Item) (twig : CellSeen) (ups : List 
     (took : after ≡ record fresh { next = fresh.next + 1 }) (leaf : CellSeen) (hi : Key) (mkfs_id : ℕ)
     (leaf_is : IsLeafOf it fresh.next hi mkfs_id leaf)
     (end : rank hi ≡ next_of (rank twig.hi) (drop (place (rank it.key) (twig_pieces twig)) (twig_pieces twig))) where
-  pub leaf_units : units_of (put_pieces it.key (new_pointer it.key fresh.next) (twig_pieces twig)) ≡ (node_of twig).units
+  pub leaf_units : units_of (put_pieces it.key (leaf_pointer it.key fresh.next) (twig_pieces twig)) ≡ (node_of twig).units
   leaf_units =
-      spread_units twig (twig_pieces twig) are (rank it.key) (item_end it) is.keys (new_pointer it.key fresh.next)
+      spread_units twig (twig_pieces twig) are (rank it.key) (item_end it) is.keys (leaf_pointer it.key fresh.next)
       (follows t r it twig ups fresh after are is unplaced took leaf hi mkfs_id leaf_is end)
       ∙ ap (λ us. put_units us (node_of twig).units) (pointer_units it.key fresh.next)
 
@@ -88,7 +88,7 @@ module _ {A : Type 0} (h : A → CellSeen) (path : List A) (x : A) (last : x ≡
     (hi : Key) (mkfs_id : ℕ) (leaf_is : IsLeafOf it fresh.next hi mkfs_id leaf)
     (end : rank hi ≡ next_of (rank (h x).hi) (drop (place (rank it.key) (twig_pieces (h x))) (twig_pieces (h x))))
     (are : ArePiecesOf (h x) (twig_pieces (h x))) (qs : List TwigPiece)
-    (packed : qs ≡ put_pieces it.key (new_pointer it.key fresh.next) (twig_pieces (h x)))
+    (packed : qs ≡ put_pieces it.key (leaf_pointer it.key fresh.next) (twig_pieces (h x)))
     (same : mkfs_id ≡ mkfs_id_of (h x).block) where
   pub puts_leaf_up : (olds news : List CellSeen) → olds ≡ [] → news ≡ leaf ∷ [] → (after : Fresh) (c : Change)
       → GraftsBelow (map h path) qs (record { old = olds; new = news }) mid after c
@@ -99,8 +99,8 @@ module _ {A : Type 0} (h : A → CellSeen) (path : List A) (x : A) (last : x ≡
         ends = end;
         leaf = leaf;
         leaf_is = subst (λ (n : ℕ). IsLeafOf it fresh.next hi n leaf) same leaf_is;
-        grafts = subst (λ (f : Fresh). GraftsBelow (map h path) (put_pieces it.key (new_pointer it.key fresh.next) (twig_pieces (h x))) (record { old = []; new = leaf ∷ [] }) f after c) took
-            (subst (λ (b : Below). GraftsBelow (map h path) (put_pieces it.key (new_pointer it.key fresh.next) (twig_pieces (h x))) b mid after c) (λ i. record { old = none i; new = one i })
+        grafts = subst (λ (f : Fresh). GraftsBelow (map h path) (put_pieces it.key (leaf_pointer it.key fresh.next) (twig_pieces (h x))) (record { old = []; new = leaf ∷ [] }) f after c) took
+            (subst (λ (b : Below). GraftsBelow (map h path) (put_pieces it.key (leaf_pointer it.key fresh.next) (twig_pieces (h x))) b mid after c) (λ i. record { old = none i; new = one i })
             (subst (λ ps. GraftsBelow (map h path) ps (record { old = olds; new = news }) mid after c) packed grafts));
         units = leaf_units t r it (h x) (reverse (map h (take (length path - 1) path))) fresh mid are
             (up_last h (IsLeafPutUp t r it fresh) (λ e. e) path x last is) unplaced took leaf hi mkfs_id leaf_is end;

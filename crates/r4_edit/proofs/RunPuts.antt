@@ -18,7 +18,7 @@ use Rattle.r4_graft.specs.Splices.{place}
 use Rattle.r4_leaf.proofs.SoundItems.{item_has_end}
 use Rattle.r4_leaf.proofs.Standing.{given_sound}
 use Rattle.r4_edit.specs.Editing.{given_item}
-use Rattle.r4_edit.specs.Extents.{AreAmongExtents, IsPutIn, new_pointer, twig_pieces}
+use Rattle.r4_edit.specs.Extents.{AreAmongExtents, IsPutIn, leaf_pointer, twig_pieces}
 use Rattle.r4_edit.specs.Growing.{IsPathIn}
 use Rattle.r4_edit.specs.Trials.{IsNewExtent, IsRunTwig, StandsAlone, byte_key, low_root, new_units, run_pieces}
 use Rattle.r4_edit.proofs.Members.{none}
@@ -29,7 +29,7 @@ no_holes : units_of (run_pieces true) ≡ []
 unfolding units_of
 no_holes = refl
 
-pointer_bytes : (key : Key) (id : ℕ) → twig_bytes (new_pointer key id) ≤ 200
+pointer_bytes : (key : Key) (id : ℕ) → twig_bytes (leaf_pointer key id) ≤ 200
 unfolding bytes_behind
 pointer_bytes key id = omega arith
 
@@ -111,7 +111,7 @@ module _ (twig : CellSeen) (is : IsRunTwig true twig) where
           enough = inr (refl, let l = is.level in omega (arith, l));
           numbers =
               let at = place (rank it.key) (twig_pieces twig) in
-              let b = few_bytes at at (twig_pieces twig) (new_pointer it.key id) few (pointer_bytes it.key id) in
+              let b = few_bytes at at (twig_pieces twig) (leaf_pointer it.key id) few (pointer_bytes it.key id) in
               omega (arith, b, next, end);
         };
         keys = among (rank it.key) (item_end it) behind (item_has_end it (given_sound it alone.given whole)) alone.end;

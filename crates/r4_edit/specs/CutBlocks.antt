@@ -14,7 +14,7 @@ use Rattle.r4_cell.specs.declared.change.Change.{Change}
 use Rattle.r4_cell.specs.declared.change.Fresh.{Fresh}
 use Rattle.r4_graft.specs.Splices.{IsBorder, parted, place, spliced}
 use Rattle.r4_leaf.specs.Units.{cut_units}
-use Rattle.r4_edit.specs.Editing.{IsCutIn as IsCutOfLeafIn, after_cut, extra_for}
+use Rattle.r4_edit.specs.Editing.{IsCutOfLeafIn, after_cut, extra_for}
 use Rattle.r4_edit.specs.Extents.{HasRoomFor, given_cells, twig_pieces}
 use Rattle.r4_edit.specs.Grafts.{GraftsBelow}
 use Rattle.r4_edit.specs.LeafParts.{IsEmptyLeaf, IsWidened}

@@ -157,8 +157,8 @@ abbrev pub IsCutOutUp : Store Value → Root → (from to : Key) → Fresh → L
 IsCutOutUp t r from to fresh [] = ⊥
 IsCutOutUp t r from to fresh (leaf ∷ ups) = IsCutOutIn t r from to leaf ups fresh
 
-abbrev pub IsCutIn : Store Value → Root → (path : List CellSeen) → (from to : Key) → Fresh → Type 0
-IsCutIn t r path from to fresh = IsCutOutUp t r from to fresh (reverse path)
+abbrev pub IsCutOfLeafIn : Store Value → Root → (path : List CellSeen) → (from to : Key) → Fresh → Type 0
+IsCutOfLeafIn t r path from to fresh = IsCutOutUp t r from to fresh (reverse path)
 
 abbrev pub Cuts : (path : List CellSeen) → (from to : Key) → (before after : Fresh) → Change → Type 0
 Cuts path from to before after change = EditsUp (after_cut from to) before after change (reverse path)

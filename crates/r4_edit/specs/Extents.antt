@@ -138,15 +138,15 @@ IsOverUp t r it fresh (leaf ∷ (twig ∷ ups)) = IsOverIn t r it leaf twig ups 
 -- ---- an item of a leaf among extents
 
 -- the pointer to a new leaf at a key
-abbrev pub new_pointer : Key → (id : ℕ) → List TwigPiece
-new_pointer key id = record { key = key; part = Pointer (record { 0 = id }) } ∷ []
+abbrev pub leaf_pointer : Key → (id : ℕ) → List TwigPiece
+leaf_pointer key id = record { key = key; part = Pointer (record { 0 = id }) } ∷ []
 
 -- An item of a leaf may be put among the twig's extents, in a leaf of its own.
 pub record IsLeafPutIn (t : Store Value) (r : Root) (it : Item) (twig : CellSeen) (ups : List CellSeen)
     (fresh : Fresh) : Type 0 where
   pub path : IsPathIn t r (twig ∷ ups) fresh
   pub level : twig.level ≡ 2
-  pub room : (id : ℕ) → AreEnough r (put_pieces it.key (new_pointer it.key id) (twig_pieces twig)) twig ups fresh
+  pub room : (id : ℕ) → AreEnough r (put_pieces it.key (leaf_pointer it.key id) (twig_pieces twig)) twig ups fresh
   pub keys : AreAmongExtents twig (rank it.key) (item_end it)
   pub whole_key : IsKey it.key
   pub given : IsGiven it
@@ -187,9 +187,9 @@ pub record PutsLeafIn (path : List CellSeen) (it : Item) (before after : Fresh) 
   pub ends : rank hi ≡ next_of (rank twig.hi) (drop (place (rank it.key) (twig_pieces twig)) (twig_pieces twig))
   pub leaf : CellSeen
   pub leaf_is : IsLeafOf it before.next hi (mkfs_id_of twig.block) leaf
-  pub grafts : GraftsBelow path (put_pieces it.key (new_pointer it.key before.next) (twig_pieces twig))
+  pub grafts : GraftsBelow path (put_pieces it.key (leaf_pointer it.key before.next) (twig_pieces twig))
       (record { old = []; new = leaf ∷ [] }) (record before { next = before.next + 1 }) after c
-  pub units : units_of (put_pieces it.key (new_pointer it.key before.next) (twig_pieces twig)) ≡ (node_of twig).units
+  pub units : units_of (put_pieces it.key (leaf_pointer it.key before.next) (twig_pieces twig)) ≡ (node_of twig).units
 
 abbrev pub PutsLeafUp : (path : List CellSeen) → Item → (before after : Fresh) → Change → List CellSeen → Type 0
 PutsLeafUp path it before after c [] = ⊥

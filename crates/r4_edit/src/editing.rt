@@ -16,7 +16,7 @@ ghost use Rattle.r4_patch.specs.Joining.{patch_of_change};
 ghost use Rattle.r4_patch.specs.Part.{MeetsPart};
 ghost use Rattle.r4_edit.specs.CutBlocks.{CutsUp, IsOutOfExtentsIn, IsOutOfLeafIn, IsTakenOutIn, is_in_range, leaf_first, rest_behind};
 ghost use Rattle.r4_edit.specs.CutBlocks.{trunk};
-ghost use Rattle.r4_edit.specs.Editing.{AreLeavesOf, Cuts, EditsUp, Inserts, IsCutIn, IsInsertIn, IsReplacedUp, after_cut};
+ghost use Rattle.r4_edit.specs.Editing.{AreLeavesOf, Cuts, EditsUp, Inserts, IsCutOfLeafIn, IsInsertIn, IsReplacedUp, after_cut};
 ghost use Rattle.r4_edit.specs.Editing.{after_insert, extra_for, given_item};
 ghost use Rattle.r4_edit.specs.Extents.{IsIntoLeafIn, IsLeafPutUp, IsOverUp, IsPutIn, IsSpreadUp, PutsLeafUp, PutsOverUp, SpreadsUp, item_blocks};
 ghost use Rattle.r4_edit.specs.Grafts.{AreBlocksOf};
@@ -220,13 +220,13 @@ pub(crate) fn cut_leaf(
     fresh: &mut Fresh,
 ) -> Result<Change, Memory>
     requires path { (t : Store Value) × ((r : TreeRoot)
-        × IsCutIn t r (map (λ c. arc_value c) path.now) from.now to.now fresh.old) }
+        × IsCutOfLeafIn t r (map (λ c. arc_value c) path.now) from.now to.now fresh.old) }
     requires numbers { (2 ^ 63 ≤ fresh.old.next)
         × (fresh.old.next + length path.now + extra_for (after_cut from.now to.now) (map (λ c. arc_value c) path.now)
         < fresh.old.end) }
     ensures change { IfOk result (λ c. IsChange c.old c.new c.root) }
     ensures meets { IfOk result (λ c. (t : Store Value) (r : TreeRoot)
-        → IsCutIn t r (map (λ x. arc_value x) path.now) from.now to.now fresh.old → MeetsPart (patch_of_change c) t r) }
+        → IsCutOfLeafIn t r (map (λ x. arc_value x) path.now) from.now to.now fresh.old → MeetsPart (patch_of_change c) t r) }
     ensures cuts { IfOk result (λ c. Cuts (map (λ x. arc_value x) path.now) from.now to.now fresh.old fresh.new c) }
     ensures numbers { OnlyTakes fresh.old fresh.new }
 {

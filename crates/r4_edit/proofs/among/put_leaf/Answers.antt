@@ -13,7 +13,7 @@ use Rattle.r4_cell.specs.Patch.{IsChange, patch_of}
 use Rattle.r4_patch.specs.Part.{MeetsPart}
 use Rattle.r4_cell.specs.Seen.{CellSeen}
 use Rattle.r4_edit.specs.Editing.{given_item}
-use Rattle.r4_edit.specs.Extents.{ArePiecesOf, IsLeafPutUp, new_pointer, put_pieces, twig_pieces}
+use Rattle.r4_edit.specs.Extents.{ArePiecesOf, IsLeafPutUp, leaf_pointer, put_pieces, twig_pieces}
 use Rattle.r4_edit.specs.Grafts.{IsGraftBelowIn, IsGraftIn}
 use Rattle.r4_edit.specs.LeafParts.{IsLeafOf}
 use Rattle.r4_edit.proofs.LeafAmong.{item_fits, leaf_number, leaf_put_in, packed_below, packed_in, took_one}
@@ -64,10 +64,10 @@ module _ (c : goal.After-graft_below-arg-1) where
   slice : c.as_slice.result.now ≡ twig_pieces twig
   slice = c.as_slice.ensures.value ∙ (c.in_ok-old.ensures.is ∙ ap twig_pieces c.deref.ensures)
 
-  packed : c.as_slice-3.result.now ≡ put_pieces c.args.key.now (new_pointer c.args.key.now c.args.fresh.now.next) (twig_pieces twig)
+  packed : c.as_slice-3.result.now ≡ put_pieces c.args.key.now (leaf_pointer c.args.key.now c.args.fresh.now.next) (twig_pieces twig)
   packed =
       c.as_slice-3.ensures.value ∙ (c.in_ok-pieces.ensures
-      ∙ (λ i. put_pieces c.args.key.now (new_pointer c.args.key.now (c.take_number-id.ensures.number i)) ((c.as_slice-2.ensures.value ∙ (c.in_ok-old.ensures.is ∙ ap twig_pieces c.deref.ensures)) i)))
+      ∙ (λ i. put_pieces c.args.key.now (leaf_pointer c.args.key.now (c.take_number-id.ensures.number i)) ((c.as_slice-2.ensures.value ∙ (c.in_ok-old.ensures.is ∙ ap twig_pieces c.deref.ensures)) i)))
 
   end : rank c.end_behind-hi.result ≡ next_of (rank twig.hi) (drop (place (rank c.args.key.now) (twig_pieces twig)) (twig_pieces twig))
   end = c.end_behind-hi.ensures ∙ (λ i. next_of (rank ((c.hi.ensures ∙ ap (λ (x : CellSeen). x.hi) c.deref-2.ensures) i)) (drop (place (rank c.args.key.now) (slice i)) (slice i)))
@@ -99,10 +99,10 @@ module _ (c : goal.After-drop-old-2) where
   then_slice : c.as_slice.result.now ≡ twig_pieces then_twig
   then_slice = c.as_slice.ensures.value ∙ (c.in_ok-old.ensures.is ∙ ap twig_pieces c.deref.ensures)
 
-  then_packed : c.as_slice-3.result.now ≡ put_pieces c.args.key.now (new_pointer c.args.key.now c.args.fresh.now.next) (twig_pieces then_twig)
+  then_packed : c.as_slice-3.result.now ≡ put_pieces c.args.key.now (leaf_pointer c.args.key.now c.args.fresh.now.next) (twig_pieces then_twig)
   then_packed =
       c.as_slice-3.ensures.value ∙ (c.in_ok-pieces.ensures
-      ∙ (λ i. put_pieces c.args.key.now (new_pointer c.args.key.now (c.take_number-id.ensures.number i)) ((c.as_slice-2.ensures.value ∙ (c.in_ok-old.ensures.is ∙ ap twig_pieces c.deref.ensures)) i)))
+      ∙ (λ i. put_pieces c.args.key.now (leaf_pointer c.args.key.now (c.take_number-id.ensures.number i)) ((c.as_slice-2.ensures.value ∙ (c.in_ok-old.ensures.is ∙ ap twig_pieces c.deref.ensures)) i)))
 
   then_end : rank c.end_behind-hi.result ≡ next_of (rank then_twig.hi) (drop (place (rank c.args.key.now) (twig_pieces then_twig)) (twig_pieces then_twig))
   then_end = c.end_behind-hi.ensures ∙ (λ i. next_of (rank ((c.hi.ensures ∙ ap (λ (x : CellSeen). x.hi) c.deref-2.ensures) i)) (drop (place (rank c.args.key.now) (then_slice i)) (then_slice i)))
