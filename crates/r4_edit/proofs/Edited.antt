@@ -5,13 +5,14 @@ use Rattle.std.specs.Prelude.{min, reverse}
 use Rattle.std.proofs.Math.Nat.{min-eq_left, min-eq_right}
 use Rattle.std.proofs.lemmas.Bool.{cases_lt}
 use Rattle.std.proofs.lemmas.List.{length-drop}
+use Rattle.r4_base.specs.Key.{rank}
 use Rattle.r4_base.specs.Tree.{Root, Store}
 use Rattle.r4_base.specs.Value.{Value}
 use Rattle.r4_cell.specs.Seen.{CellSeen}
 use Rattle.r4_cell.specs.Patch.{IsChange}
 use Rattle.r4_cell.specs.declared.change.Change.{Change}
 use Rattle.r4_cell.specs.declared.change.Fresh.{Fresh}
-use Rattle.r4_leaf.specs.Leaves.{AreFew}
+use Rattle.r4_leaf.specs.Leaves.{AreFew, Packs}
 use Rattle.r4_leaf.specs.Units.{LeafUnit, leaf_bytes}
 use Rattle.r4_leaf.specs.declared.leaf.Leaf.{Leaf}
 use Rattle.r4_patch.specs.Joining.{patch_of_change}
@@ -51,7 +52,7 @@ pub numbered_leaves : (us : List LeafUnit) (leaves : List Leaf) → AreFew us le
 numbered_leaves us leaves few = within (length leaves) (extra_cells us) (few_leaves us leaves few) few.few
 
 module _ (leaf : CellSeen) (ups : List CellSeen) (us : List LeafUnit) (leaves : List Leaf) (f g : Fresh) (s : Step)
-    (is : IsLeafStep leaf us (length leaves) f g s) (few : AreFew us leaves) where
+    (is : IsLeafStep leaf us leaves f g s) (few : AreFew us leaves) where
   begun : Begun leaf f g s
   begun = record {
     old = is.old;
@@ -86,8 +87,8 @@ module _ (leaf : CellSeen) (ups : List CellSeen) (us : List LeafUnit) (leaves : 
     pub edit_meets : (t : Store Value) (r : Root) → IsEditedIn t r us leaf ups f → MeetsPart (patch_of_change d) t r
     edit_meets t r edited = begun_meets leaf ups f g s begun after d rises t r edited.path (enough t r edited)
 
-    pub edit_edits : Edits leaf ups us f after d
-    edit_edits =
+    pub edit_edits : Packs (rank leaf.lo) (rank leaf.hi) us leaves → Edits leaf ups us f after d
+    edit_edits packs =
         let rose = begun_rose leaf ups f g s begun after d rises in
         record {
           lowest = record { old = leaf; new = s.new };
@@ -95,6 +96,9 @@ module _ (leaf : CellSeen) (ups : List CellSeen) (us : List LeafUnit) (leaves : 
           over = rose.over;
           levels = rose.levels;
           old = refl;
+          leaves = leaves;
+          packs = packs;
+          cells = is.cells;
           ups_are = rose.ups_are;
           units = is.units;
           one = λ fits. is.many ∙ few.one fits;

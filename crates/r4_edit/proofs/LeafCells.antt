@@ -135,7 +135,7 @@ pub leaves_step : (leaf : CellSeen) (us : List LeafUnit) (leaves : List Leaf) (x
     → leaves ≡ x ∷ more → Packs (rank leaf.lo) (rank leaf.hi) us leaves → s.old ≡ leaf → s.new
     ≡ leaf_cells leaf.id f.next leaf.hi (x ∷ more) → g ≡ record f { next = f.next + length more }
     → HaveMkfsId (mkfs_id_of leaf.block) leaves
-    → IsLeafStep leaf us (length leaves) f g s
+    → IsLeafStep leaf us leaves f g s
 leaves_step leaf us leaves x more f g s node level parts p old new took ids =
     let some = node.nonempty in
     let lo = lo_is leaf in
@@ -145,6 +145,7 @@ leaves_step leaf us leaves x more f g s node level parts p old new took ids =
     (packed (rank leaf.lo) leaf.hi leaf.id f.next us leaves (omega (arith, some, lo, hi)) p) in
     record {
       old = old;
+      cells = cells;
       step = subst (λ (o : CellSeen). IsStep None (record { old = o; new = s.new })) (sym old)
           (leaf_step leaf s.new node level
           (subst (λ l. Follow l (rank leaf.lo) (rank leaf.hi) s.new) (sym level) is.follow) is.sound is.first);

@@ -210,6 +210,9 @@ twigs_step twig qs twigs x more f g s parts p few old new took ids =
         mkfs_id = λ c member. twig_ids (mkfs_id_of twig.block) twig.id f.next twig.hi twigs ids c
             (subst (λ cs. Contains cs c) cells member);
       };
+      twigs = twigs;
+      packs = p;
+      cells = cells;
       one = λ fits. is.many ∙ few.one fits;
       several = λ over. let many = is.many in let two = few.several over in
           let n = part_of (twig_bytes qs) (length twigs) over (few.more over) in

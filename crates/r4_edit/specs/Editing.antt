@@ -34,15 +34,18 @@ leaf_cells id next hi (x ∷ (y ∷ more)) =
 abbrev pub ArePacked : (lo hi : ℕ) → List Leaf → Type 0
 ArePacked lo hi leaves = (us : List LeafUnit) × Packs lo hi us leaves
 
--- The lowest step of a change puts cells in the place of a leaf, with numbers that were taken and its mkfs_id.
-pub record IsLeafStep (leaf : CellSeen) (us : List LeafUnit) (count : ℕ) (before after : Fresh) (s : Step) : Type 0 where
+-- The lowest step of a change puts the cells of these leaves in the place of a leaf, with numbers that were taken and its
+-- mkfs_id.
+pub record IsLeafStep (leaf : CellSeen) (us : List LeafUnit) (leaves : List Leaf) (before after : Fresh)
+    (s : Step) : Type 0 where
   pub old : s.old ≡ leaf
+  pub cells : s.new ≡ leaf_cells leaf.id before.next leaf.hi leaves
   pub step : IsStep None s
   pub sound : (c : CellSeen) → Contains s.new c → IsSound c
   pub counts : CountUp before.next (ids_of (drop 1 s.new))
   pub number : after ≡ record before { next = before.next + length (drop 1 s.new) }
   pub units : units_of_cells s.new ≡ us
-  pub many : length s.new ≡ count
+  pub many : length s.new ≡ length leaves
   pub mkfs_id : HaveMkfsIdOf leaf s.new
 
 -- ---- a leaf that is to have other units
@@ -73,7 +76,8 @@ pub record IsReplacedIn (t : Store Value) (r : Root) (us : List LeafUnit) (leave
   pub numbers : fresh.next + (1 + length ups) + min 15 (extra_cells us) < fresh.end
 
 -- The lowest step puts one cell in the leaf's place, or more, where its units do not fit into one; these have the units in
--- their order. The steps go up the path, with the next numbers. The mkfs_ids are kept.
+-- their order, and each but the last had no room for the next one's first. The steps go up the path, with the next numbers.
+-- The mkfs_ids are kept.
 pub record Edits (leaf : CellSeen) (ups : List CellSeen) (us : List LeafUnit) (before after : Fresh)
     (change : Change) : Type 0 where
   pub lowest : Step
@@ -81,6 +85,9 @@ pub record Edits (leaf : CellSeen) (ups : List CellSeen) (us : List LeafUnit) (b
   pub over : Option CellSeen
   pub levels : HasLevels (lowest ∷ more) over change
   pub old : lowest.old ≡ leaf
+  pub leaves : List Leaf
+  pub packs : Packs (rank leaf.lo) (rank leaf.hi) us leaves
+  pub cells : lowest.new ≡ leaf_cells leaf.id before.next leaf.hi leaves
   pub ups_are : olds more ≡ take (length more) ups
   pub units : units_of_cells lowest.new ≡ us
   pub one : leaf_bytes us ≤ 4068 → length lowest.new ≡ 1

@@ -64,9 +64,12 @@ pub record IsTwigRow (twig : CellSeen) (qs : List TwigPiece) (before after : Fre
   pub number : after ≡ record before { next = before.next + length (drop 1 s.new) }
   pub mkfs_id : HaveMkfsIdOf twig s.new
 
--- The same, and they are no more than are needed.
+-- The same, and they are no more than are needed: each but the last had no room for the next one's first piece.
 pub record IsTwigLevel (twig : CellSeen) (qs : List TwigPiece) (before after : Fresh) (s : Step) : Type 0 where
   pub row : IsTwigRow twig qs before after s
+  pub twigs : List Twig
+  pub packs : PacksTwigs (rank twig.lo) (rank twig.hi) qs twigs
+  pub cells : s.new ≡ twig_cells twig.id before.next twig.hi twigs
   pub one : twig_bytes qs ≤ 4068 → length s.new ≡ 1
   pub several : 4068 < twig_bytes qs → (2 ≤ length s.new) × (length s.new ≤ 1 + extra_twigs qs)
 

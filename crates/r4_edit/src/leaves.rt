@@ -37,7 +37,7 @@ pub(crate) fn leaf_level(
     ensures step { IfOk result (λ l. (us : List LeafUnit)
         → Packs (rank (arc_value leaf.now).lo) (rank (arc_value leaf.now).hi) us leaves.items
         → HaveMkfsId (mkfs_id_of (arc_value leaf.now).block) leaves.items
-        → IsLeafStep (arc_value leaf.now) us (length leaves.items) fresh.old fresh.new (step_of l)) }
+        → IsLeafStep (arc_value leaf.now) us leaves.items fresh.old fresh.new (step_of l)) }
     ensures numbers { OnlyTakes fresh.old fresh.new }
 {
     let mut cells = Vec::with_capacity(alloc, leaves.len())?;

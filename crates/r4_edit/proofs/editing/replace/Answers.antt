@@ -70,4 +70,4 @@ returns-clause-edits c =
     (edit_edits (arc_value c.index-path-count.result)
     (reverse (map arc_value (take (length path - 1) path))) us c.args.leaves.items c.args.fresh.now c.leaf_level.new.fresh
     (step_of c.in_ok-lowest.lowest)
-    (c.in_ok-lowest.ensures.step us at.leaves_are.packs at.mkfs_id) at.leaves_are.few c.rise.new.fresh d rises)) c.rise.ensures.rises
+    (c.in_ok-lowest.ensures.step us at.leaves_are.packs at.mkfs_id) at.leaves_are.few c.rise.new.fresh d rises at.leaves_are.packs)) c.rise.ensures.rises
