@@ -82,3 +82,4 @@ pub mod HalvedLeaf
 pub mod TwoUnits
 pub mod HoleTwig
 pub mod RunPuts
+pub mod AmongExtents

@@ -1,11 +1,11 @@
 //! Laws of twigs that are packed anew. Each is the contract of a function that does nothing.
 
-ghost use Rattle.std.specs.Prelude.{◌++◌, ◌^◌, [], ℕ, List};
-ghost use Rattle.r4_base.specs.Tree.{Name, Root, Store};
+ghost use Rattle.std.specs.Prelude.{◌++◌, ◌^◌, ◌<◌, ◌≤◌, ◌⊎◌, [], ℕ, List, Contains};
+ghost use Rattle.r4_base.specs.Tree.{IsData, IsNode, Name, Root, Span, Store};
 ghost use Rattle.r4_base.specs.Value.{Value};
 ghost use Rattle.r4_branch.specs.declared.piece.TwigPiece.{TwigPiece};
 ghost use Rattle.r4_cell.specs.Patch.{IsChange, patch_of};
-ghost use Rattle.r4_cell.specs.Seen.{CellSeen};
+ghost use Rattle.r4_cell.specs.Seen.{CellSeen, node_of};
 ghost use Rattle.r4_cell.specs.declared.change.Change.{Change};
 ghost use Rattle.r4_cell.specs.declared.change.Fresh.{Fresh};
 ghost use Rattle.r4_patch.specs.Part.{MeetsPart};
@@ -13,6 +13,7 @@ ghost use Rattle.r4_patch.specs.SecondRoot.{small_root};
 ghost use Rattle.r4_edit.specs.Grafts.{AreCountedBelow, Grafts, HasBelow, HaveGraftNumbers, IsGraft, IsGraftBelow, IsGraftOf};
 ghost use Rattle.r4_edit.specs.Grafts.{IsTwigGraft};
 ghost use Rattle.r4_edit.specs.ExtentGraft.{all_fresh, put_below, put_blocks, put_pieces};
+ghost use Rattle.r4_edit.specs.Extents.{AreAmongExtents};
 ghost use Rattle.r4_edit.specs.ExtentPut.{extent_tree, pointer_block, twig_cell};
 ghost use Rattle.r4_edit.specs.Twigs.{Below};
 
@@ -45,4 +46,14 @@ pub fn numbers_serve_below()
 /// with less range; the twig's pieces are the pointer to it and the run.
 pub fn an_extent_by_pieces()
     ensures { IsGraftBelow extent_tree small_root put_pieces put_below put_blocks (2 ^ 63) all_fresh (twig_cell pointer_block) [] }
+{}
+
+/// Keys that lie in the range of one extent are among extents, where no block of the twig and none of its units has one of
+/// them: no leaf has one then. So whoever looked for the path to a key, and for what stands there, may put an item in.
+pub fn keys_of_an_extent_are_among_extents()
+    ensures { (twig : CellSeen) (s : Span) (from to : ℕ) → IsNode (node_of twig) → Contains (node_of twig).spans s
+        → s.lo ≤ from → from < to → to ≤ s.hi
+        → ((n : Name) → Contains (node_of twig).names n → IsData n → (n.hi ≤ from) ⊎ (to ≤ n.lo))
+        → ((k : ℕ) (v : Value) → Contains (node_of twig).units (k, v) → (k < from) ⊎ (to ≤ k))
+        → AreAmongExtents twig from to }
 {}

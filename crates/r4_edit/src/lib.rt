@@ -33,7 +33,10 @@ mod twig_laws;
 mod twigs;
 
 pub use editing::{cut, insert};
-pub use graft_laws::{an_extent_by_pieces, grafts_are_patches, numbers_serve_below};
+pub use graft_laws::{
+    an_extent_by_pieces, grafts_are_patches, keys_of_an_extent_are_among_extents,
+    numbers_serve_below,
+};
 pub use growing::grow;
 pub use laws::path_changes_are_patches;
 pub use splitting::split;
