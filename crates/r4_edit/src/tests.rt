@@ -292,20 +292,36 @@ fn a_full_root_is_parted(rt: HostRuntime) -> Result<(), Fail> {
     Ok(())
 }
 
-// A leaf with one tail is parted before the middle one of its bytes.
+// What comes where a leaf is parted.
+fn parts(alloc: Global, leaf: Arc<Cell>) -> Result<Change, Fail> {
+    match halve(alloc, &[leaf])? {
+        Some(change) => Ok(change),
+        None => Err(Fail::from("the leaf has no two units")),
+    }
+}
+
+// A leaf with one item is parted before the middle one of its bytes or entries.
 #[test]
-fn a_tail_is_parted(rt: HostRuntime) -> Result<(), Fail> {
+fn an_item_of_a_leaf_is_parted(rt: HostRuntime) -> Result<(), Fail> {
     let alloc = rt.alloc();
     let bare = [empty_leaf(alloc, LEAF, least(), top())?];
-    let leaf = first(&with(alloc, &bare, byte(7), TAIL, &ZEROS[..101])?)?;
-    let Some(parted) = halve(alloc, &[leaf])? else {
-        return Err(Fail::from("the leaf has no two units"));
-    };
+    let tail = first(&with(alloc, &bare, byte(7), TAIL, &ZEROS[..101])?)?;
+    let parted = parts(alloc, tail)?;
     assert_eq!(rt;
         rows(alloc, &parted)?.as_slice(),
         [(LEAF, 1, 3980), (ROOT + 1, 1, 3979), (ROOT, 2, 3976)].as_slice()
     );
     assert!(rt; first(&parted)?.hi().is_same(byte(57)));
+    let names = entries(alloc, Oid(42), &LETTERS[..39], 1)?;
+    let from = name_key(Oid(42), LETTERS[0], 1)?;
+    let dir = first(&with(alloc, &bare, from, ENTRIES, names.as_slice())?)?;
+    let parted = parts(alloc, dir)?;
+    assert_eq!(rt;
+        rows(alloc, &parted)?.as_slice(),
+        [(LEAF, 1, 3078), (ROOT + 1, 1, 3028), (ROOT, 2, 3976)].as_slice()
+    );
+    let middle = name_key(Oid(42), LETTERS[19], 1)?;
+    assert!(rt; first(&parted)?.hi().is_same(middle));
     Ok(())
 }
 
@@ -332,9 +348,7 @@ fn a_leaf_is_parted_and_a_root_goes_below_another(rt: HostRuntime) -> Result<(),
     let alloc = rt.alloc();
     let bare = [root_leaf(alloc)?];
     let leaf = first(&with(alloc, &bare, byte(0), TAIL, &ZEROS[..100])?)?;
-    let Some(parted) = halve(alloc, &[leaf])? else {
-        return Err(Fail::from("the leaf has no two items"));
-    };
+    let parted = parts(alloc, leaf)?;
     assert_eq!(rt;
         rows(alloc, &parted)?.as_slice(),
         [(LEAF, 1, 3986), (ROOT + 1, 1, 3930), (ROOT, 2, 3976)].as_slice()

@@ -1,7 +1,8 @@
 //! Trees of two levels for tests: a root over leaves, of which the first is changed, or over an extent of four blocks.
 
-ghost use Rattle.std.specs.Prelude.{◌≡◌, ℕ, true, false, [], ◌∷◌, ◌-◌, ◌+◌, ◌^◌, ◌<◌, ◌≤◌, ◌⊎◌, length, map, Contains, IsTrue, IfOk};
+ghost use Rattle.std.specs.Prelude.{◌≡◌, ℕ, true, false, None, [], ◌∷◌, ◌-◌, ◌+◌, ◌^◌, ◌<◌, ◌≤◌, ◌⊎◌, length, map, Contains, IsTrue, IfOk};
 ghost use Rattle.std.specs.Arc.{arc_value};
+ghost use Rattle.r4_base.specs.Dir.{dir_fault, entries_of};
 ghost use Rattle.r4_base.specs.Extents.{units_of};
 ghost use Rattle.r4_base.specs.Key.{IsKey, least, offset_of, rank, top};
 ghost use Rattle.r4_base.specs.Node.{fits_level, items_of};
@@ -24,6 +25,7 @@ use crate::pieces::pieces_of_cell;
 use crate::splitting::split;
 use r4_base::{Block, Key, Memory, NodeId, Oid, Unit, put64};
 use r4_branch::{TwigPart, TwigPiece, pieces_of};
+use r4_cde::DirView;
 use r4_cell::{Cell, Change, Fresh, least, read_cell};
 use r4_node40::NodeMut;
 use r4_twig::ExtentView;
@@ -110,7 +112,7 @@ pub(crate) fn take_out(
 }
 
 /// Parts the first of some leaves, all below one root; `None` where they are none, or it has neither two items nor a tail of
-/// two bytes.
+/// two bytes nor two entries.
 pub(crate) fn halve(alloc: Global, leaves: &[Arc<Cell>]) -> Result<Option<Change>, Memory> {
     if !are_leaves(leaves) || !has_two_units(&leaves[0]) {
         return Ok(None);
@@ -402,7 +404,7 @@ fn has_keys(leaf: &Cell, from: &Key, to: &Key) -> bool
     from.is_below(*to) && !from.is_below(leaf.lo()) && !leaf.hi().is_below(*to)
 }
 
-// Whether the leaf has two items, or begins with a tail of two bytes.
+// Whether the leaf has two items, or one tail of two bytes, or one item of two entries.
 fn has_two_units(leaf: &Cell) -> bool
     requires level { leaf.now.level ≡ 1 }
     requires range { rank leaf.now.lo < rank leaf.now.hi }
@@ -413,7 +415,18 @@ fn has_two_units(leaf: &Cell) -> bool
         return node.len() >= 2;
     }
     let item = node.item(0);
+    if item.plugin == 2 {
+        return has_two_entries(&item.key, item.body);
+    }
     item.plugin == 6 && item.body.len() >= 2
+}
+
+// Whether an item has two entries.
+fn has_two_entries(key: &Key, body: &[u8]) -> bool
+    requires { dir_fault key.now body.now ≡ None }
+    ensures { IsTrue result → 2 ≤ length (entries_of key.now body.now) }
+{
+    DirView::of_item(key, body).len() >= 2
 }
 
 // Whether the cells are leaves below one root.
