@@ -33,6 +33,13 @@ minor_of k = slice_index k.el 0 % 16
 abbrev pub offset_of : Key → ℕ
 offset_of k = slice_index k.el 3
 
+-- the key with another offset, and the key so many bytes behind it
+abbrev pub with_offset : Key → (offset : ℕ) → Key
+with_offset k offset = record { el = slice_index k.el 0 ∷ slice_index k.el 1 ∷ slice_index k.el 2 ∷ offset ∷ [] }
+
+abbrev pub later : Key → (bytes : ℕ) → Key
+later k bytes = with_offset k (offset_of k + bytes)
+
 -- the rank of the least key of all, (657, 0, 42, 0), and that of the four greatest numbers, which no item has
 unfoldable pub least : ℕ
 least = 657 * 2 ^ 192 + 42 * 2 ^ 64

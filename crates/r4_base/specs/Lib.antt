@@ -19,3 +19,4 @@ pub mod Volume
 pub mod Fresh
 pub mod Small
 pub mod Entries
+pub mod Words

@@ -1,5 +1,7 @@
 //! What the bodies of items say, and why one is refused (docs/layout.md, "Items").
 
+ghost use Rattle.std.specs.Prelude.{◌≡◌};
+
 use crate::node::NodeFault;
 use crate::things::Oid;
 
@@ -18,6 +20,17 @@ pub struct Attr {
     pub mtime: u32,
     pub ctime: u32,
     pub bytes: u64,
+}
+
+impl Attr {
+    ghost use Rattle.r4_base.specs.Volume.{is_directory};
+
+    /// Whether its object is a directory, by the type in the mode; else it is a file.
+    pub fn is_directory(self) -> bool
+        ensures { result ≡ is_directory self }
+    {
+        self.mode / 4096 == 4
+    }
 }
 
 /// Why a body is no stat data, in the order in which the faults are looked for: `Mask`, where the mask is not 3 or the body
@@ -98,4 +111,24 @@ pub enum CellFault {
     Pointer,
     Level,
     Range { item: u16 },
+}
+
+impl CellFault {
+    ghost use Rattle.r4_base.specs.Words.{cell_word_of};
+
+    /// Its words, as they are printed (docs/program.md, "Lines and statuses").
+    pub fn word(self) -> &'static str
+        ensures { result.now ≡ cell_word_of self }
+    {
+        match self {
+            CellFault::Node(_) => "node",
+            CellFault::Stat(_) => "stat",
+            CellFault::Dir(_) => "dir",
+            CellFault::Extent(_) => "extent",
+            CellFault::Tail => "tail",
+            CellFault::Pointer => "pointer",
+            CellFault::Level => "level",
+            CellFault::Range { .. } => "key range",
+        }
+    }
 }

@@ -1,5 +1,7 @@
 //! What the blocks of the log spell, and why a log is refused (docs/layout.md, "The log").
 
+ghost use Rattle.std.specs.Prelude.{◌≡◌};
+
 /// The journal header, block 19: the head of the newest committed transaction.
 #[derive(Clone, Copy, Debug, PartialEq, Eq)]
 pub struct Header {
@@ -40,4 +42,26 @@ pub enum LogFault {
     Pairs,
     Circle,
     Overlap,
+}
+
+impl LogFault {
+    ghost use Rattle.r4_base.specs.Words.{log_word_of};
+
+    /// Its words, as they are printed (docs/program.md, "Lines and statuses").
+    pub fn word(self) -> &'static str
+        ensures { result.now ≡ log_word_of self }
+    {
+        match self {
+            LogFault::Range => "range",
+            LogFault::HeadMagic => "head magic",
+            LogFault::Total => "total",
+            LogFault::Long => "long",
+            LogFault::RecordMagic => "record magic",
+            LogFault::Id => "id",
+            LogFault::Serial => "serial",
+            LogFault::Pairs => "pairs",
+            LogFault::Circle => "circle",
+            LogFault::Overlap => "overlap",
+        }
+    }
 }

@@ -1,9 +1,9 @@
 //! The keys of items (docs/layout.md, "Keys").
 
-ghost use Rattle.std.specs.Prelude.{◌≡◌, ◌==◌, ◌↔◌, ◌<◌, ◌^◌, IsTrue, nat_lt};
+ghost use Rattle.std.specs.Prelude.{◌≡◌, ◌==◌, ◌↔◌, ◌+◌, ◌<◌, ◌^◌, IsTrue, nat_lt};
 ghost use Rattle.std.specs.Ordering.{nat_cmp, is_lt};
 ghost use Rattle.std.specs.Cmp.Lexicographic.{slice_cmp};
-ghost use Rattle.r4_base.specs.Key.{IsKey, IsBelow, rank, stat_key, body_key};
+ghost use Rattle.r4_base.specs.Key.{IsKey, IsBelow, rank, stat_key, body_key, later, offset_of, with_offset};
 
 use crate::things::Oid;
 
@@ -36,6 +36,24 @@ impl Key {
         }
     }
 
+    /// The key with another offset.
+    pub fn with_offset(self, offset: u64) -> Key
+        ensures { result ≡ with_offset self offset }
+    {
+        let [locality, ordering, oid, _] = self.el;
+        Key {
+            el: [locality, ordering, oid, offset],
+        }
+    }
+
+    /// The key so many bytes behind this one, whose offset is below 2^64.
+    pub fn behind(self, bytes: u64) -> Key
+        requires { offset_of self + bytes < 2 ^ 64 }
+        ensures { result ≡ later self bytes }
+    {
+        self.with_offset(self.el[3] + bytes)
+    }
+
     /// Whether this key comes before another one (docs/layout.md, "Keys").
     pub fn is_below(self, other: Key) -> bool
         ensures { result ≡ nat_lt (rank self) (rank other) }
@@ -43,7 +61,7 @@ impl Key {
         self.cmp(&other).is_lt()
     }
 
-    /// Whether this is another key (docs/layout.md, "Keys").
+    /// Whether this is the same key as another (docs/layout.md, "Keys").
     pub fn is_same(self, other: Key) -> bool
         ensures ranks { result ≡ (rank self == rank other) }
         ensures keys { IsTrue result → self ≡ other }

@@ -1,5 +1,7 @@
 //! What the two superblocks say, and why a volume is not opened (docs/layout.md, "Superblocks").
 
+ghost use Rattle.std.specs.Prelude.{◌≡◌};
+
 /// The master superblock, block 16: the volume's label, of any 16 bytes. Its uuid and its diskmap are not read.
 #[derive(Clone, Copy, Debug, PartialEq, Eq)]
 pub struct Master {
@@ -36,4 +38,22 @@ pub enum LayoutFault {
     Height,
     Count,
     Bitmap,
+}
+
+impl LayoutFault {
+    ghost use Rattle.r4_base.specs.Words.{layout_word_of};
+
+    /// Its words, as they are printed (docs/program.md, "Lines and statuses").
+    pub fn word(self) -> &'static str
+        ensures { result.now ≡ layout_word_of self }
+    {
+        match self {
+            LayoutFault::Magic => "magic",
+            LayoutFault::BlockSize => "block size",
+            LayoutFault::Profile => "profile",
+            LayoutFault::Height => "height",
+            LayoutFault::Count => "count",
+            LayoutFault::Bitmap => "bitmap",
+        }
+    }
 }
