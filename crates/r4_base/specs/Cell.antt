@@ -14,20 +14,22 @@ use Rattle.r4_base.specs.declared.items.Unit.{Unit as ExtentUnit}
 use Rattle.r4_base.specs.declared.items.StatFault.{StatFault}
 use Rattle.r4_base.specs.declared.items.CellFault.{CellFault}
 use Rattle.r4_base.specs.declared.items.CellFault.TheVariants.{Node, Stat as StatData, Dir, Extent, Tail, Pointer, Level, Range}
+use Rattle.r4_base.specs.declared.limits.TheConstants.{TAIL_END, UNPLACED}
+use Rattle.r4_base.specs.declared.plugin.TheConstants.{ENTRIES, EXTENT, POINTER, STAT}
 
--- ---- the item plugins: 0 stat data, 2 a directory, 3 a pointer, 5 an extent, 6 a tail
+-- ---- the item plugins; what is none of these is a tail
 
 abbrev pub is_stat : Item → Bool
-is_stat it = it.plugin == 0
+is_stat it = it.plugin == STAT
 
 abbrev pub is_dir : Item → Bool
-is_dir it = it.plugin == 2
+is_dir it = it.plugin == ENTRIES
 
 abbrev pub is_pointer : Item → Bool
-is_pointer it = it.plugin == 3
+is_pointer it = it.plugin == POINTER
 
 abbrev pub is_extent : Item → Bool
-is_extent it = it.plugin == 5
+is_extent it = it.plugin == EXTENT
 
 -- ---- the units of an item
 
@@ -113,11 +115,11 @@ fault_in (Err e) = Some e
 
 abbrev pub names_block : (in_memory : Bool) → (blocks : ℕ) → Option ℕ → Bool
 names_block in_memory blocks None = false
-names_block in_memory blocks (Some to) = in_memory && nat_le (2 ^ 63) to || nat_lt to blocks && not (is_fixed blocks to)
+names_block in_memory blocks (Some to) = in_memory && nat_le UNPLACED to || nat_lt to blocks && not (is_fixed blocks to)
 
 -- a tail has a byte at least, and none from byte 16384 of its file on
 abbrev pub is_short_tail : Item → Bool
-is_short_tail it = nat_le 1 (length it.body) && nat_le (offset_of it.key + length it.body) 16384
+is_short_tail it = nat_le 1 (length it.body) && nat_le (offset_of it.key + length it.body) TAIL_END
 
 unfoldable pub item_body_fault : (in_memory : Bool) → (blocks : ℕ) → Item → Option CellFault
 item_body_fault in_memory blocks it =

@@ -3,21 +3,22 @@ use Rattle.std.specs.Prelude.{◌≡◌, ◌≢◌, ◌⊎◌, ℕ, ◌+◌, ◌
 use Rattle.r4_base.specs.Image.{Image, block_at, put_pairs, AgreesOutside}
 use Rattle.r4_base.specs.Log.{Record, header_of, footer_of, head_of, record_of}
 use Rattle.r4_base.specs.declared.journal.TxHead.{TxHead}
+use Rattle.r4_base.specs.declared.limits.TheConstants.{FIRST_BITMAP, FIRST_PLACE, FOOTER_BLOCK, HEADER_BLOCK, MOST_HEADS, SUPER_BLOCK}
 
 -- the head that the journal header names, and the one that the journal footer names
 abbrev pub committed : Image → ℕ
-committed image = (header_of (block_at image 19)).last
+committed image = (header_of (block_at image HEADER_BLOCK.0)).last
 
 abbrev pub flushed : Image → ℕ
-flushed image = (footer_of (block_at image 20)).last
+flushed image = (footer_of (block_at image FOOTER_BLOCK.0)).last
 
 -- A log block's number, and a wandered block's, is at least 22 and below the number of blocks n.
 abbrev pub InRange : ℕ → ℕ → Type 0
-InRange n b = (22 ≤ b) × (b < n)
+InRange n b = (FIRST_PLACE ≤ b) × (b < n)
 
 -- An original is block 17, block 18 or a log block's number.
 abbrev pub IsOriginalNumber : ℕ → ℕ → Type 0
-IsOriginalNumber n b = (b ≡ 17) ⊎ (b ≡ 18) ⊎ InRange n b
+IsOriginalNumber n b = (b ≡ SUPER_BLOCK.0) ⊎ (b ≡ FIRST_BITMAP.0) ⊎ InRange n b
 
 abbrev pub PairInRange : ℕ → ℕ × ℕ → Type 0
 PairInRange n p = IsOriginalNumber n p.0 × InRange n p.1
@@ -74,7 +75,7 @@ kept_blocks chain = wandered chain ++ log_blocks chain
 -- The unflushed transactions of an image of n blocks, the newest first.
 pub record HasLog (n : ℕ) (image : Image) (chain : List Txn) : Type 0 where
   pub txns : HasTxns n image (flushed image) (committed image) chain
-  pub few : length chain ≤ 8
+  pub few : length chain ≤ MOST_HEADS
   pub apart : (b : ℕ) → Contains (originals chain) b → Contains (kept_blocks chain) b → ⊥
 
 -- The settled image: all pairs put in place, the oldest transaction's first. No image where the log is refused.
@@ -98,4 +99,4 @@ pub record SettlesTo (n : ℕ) (W : ℕ → Type 0) (target image : Image) : Typ
   pub agrees : AgreesOutside W target settled
 
 abbrev pub is_footer : ℕ → Type 0
-is_footer b = b ≡ 20
+is_footer b = b ≡ FOOTER_BLOCK.0

@@ -6,6 +6,7 @@ use Rattle.r4_base.specs.Bitmap.{is_fixed}
 use Rattle.r4_base.specs.declared.items.Unit.{Unit as ExtentUnit}
 use Rattle.r4_base.specs.declared.items.ExtentFault.{ExtentFault}
 use Rattle.r4_base.specs.declared.items.ExtentFault.TheVariants.{Length, Start, Width, Range}
+use Rattle.r4_base.specs.declared.limits.TheConstants.{FIRST_PLACE, UNPLACED}
 
 -- ---- the units of a body: 16 bytes each, the start and the width
 
@@ -32,7 +33,7 @@ is_hole u = u.start == 0
 
 -- a start that stands for a block that is not placed yet
 abbrev pub is_unplaced : ExtentUnit → Bool
-is_unplaced u = nat_le (2 ^ 63) u.start
+is_unplaced u = nat_le UNPLACED u.start
 
 -- whether one of the blocks of a run is fixed
 unfoldable pub holds_fixed : (blocks start width : ℕ) → Bool
@@ -49,7 +50,7 @@ is_out_of_range blocks u = nat_lt blocks (u.start + u.width) || holds_fixed bloc
 unfoldable pub unit_fault : (in_memory : Bool) → (blocks i : ℕ) → ExtentUnit → Option ExtentFault
 unit_fault in_memory blocks i u =
     if in_memory && is_unplaced u && u.width == 1 then None else
-    if not (is_hole u) && nat_lt u.start 22 then Some (Start i) else
+    if not (is_hole u) && nat_lt u.start FIRST_PLACE then Some (Start i) else
     if u.width == 0 then Some (Width i) else
     if not (is_hole u) && is_out_of_range blocks u then Some (Range i) else
     None
@@ -72,13 +73,13 @@ memory_fault blocks b = body_fault true blocks b
 
 -- A unit that has no fault: a block that is not placed yet, in memory only; a hole; or a run.
 abbrev pub IsUnplaced : (in_memory : Bool) → ExtentUnit → Type 0
-IsUnplaced in_memory u = (in_memory ≡ true) × (2 ^ 63 ≤ u.start) × (u.width ≡ 1)
+IsUnplaced in_memory u = (in_memory ≡ true) × (UNPLACED ≤ u.start) × (u.width ≡ 1)
 
 abbrev pub IsHole : ExtentUnit → Type 0
 IsHole u = (u.start ≡ 0) × (0 < u.width)
 
 pub record IsRun (blocks : ℕ) (u : ExtentUnit) : Type 0 where
-  pub start : 22 ≤ u.start
+  pub start : FIRST_PLACE ≤ u.start
   pub width : 0 < u.width
   pub within : u.start + u.width ≤ blocks
   pub spares_fixed : holds_fixed blocks u.start u.width ≡ false
@@ -150,4 +151,4 @@ WidthsFit (u ∷ us) = (u.width < 2 ^ 64) × WidthsFit us
 
 -- the block that a pointer names: none where the body has not 8 bytes, or names one of blocks 0 to 21
 unfoldable pub pointer_of : List ℕ → Option ℕ
-pointer_of b = if length b == 8 && nat_le 22 (number_at 8 0 b) then Some (number_at 8 0 b) else None
+pointer_of b = if length b == 8 && nat_le FIRST_PLACE (number_at 8 0 b) then Some (number_at 8 0 b) else None

@@ -1,5 +1,6 @@
 -- An image: a list of blocks, each a list of 4096 bytes.
 use Rattle.std.specs.Prelude.{◌≡◌, ℕ, ◌*◌, ◌<◌, ◌≤◌, List, [], ◌∷◌, length, take, drop, slice_index_or, slice_set, Contains}
+use Rattle.r4_base.specs.declared.limits.TheConstants.{LEAST_BLOCKS, MOST_BLOCKS}
 
 abbrev pub Image : Type 0
 Image = List (List ℕ)
@@ -16,7 +17,7 @@ sector block s = take 512 (drop (512 * s) block)
 
 -- how many blocks a volume may have
 abbrev pub IsLawful : (blocks : ℕ) → Type 0
-IsLawful blocks = (64 ≤ blocks) × (blocks ≤ 1048576)
+IsLawful blocks = (LEAST_BLOCKS ≤ blocks) × (blocks ≤ MOST_BLOCKS)
 
 -- An image of n blocks.
 pub record IsImage (n : ℕ) (image : Image) : Type 0 where

@@ -7,6 +7,7 @@ use Rattle.r4_base.specs.declared.superblock.Master.{Master}
 use Rattle.r4_base.specs.declared.superblock.Super40.{Super40}
 use Rattle.r4_base.specs.declared.superblock.LayoutFault.{LayoutFault}
 use Rattle.r4_base.specs.declared.superblock.LayoutFault.TheVariants.{Magic, BlockSize, Profile, Height, Count}
+use Rattle.r4_base.specs.declared.limits.TheConstants.{FIRST_OBJECT, FIRST_PLACE, LEAST_BLOCKS, MOST_BLOCKS, MOST_LEVELS, OBJECT_END, TWIG}
 
 -- whether these bytes stand in a block from a place on
 abbrev pub stands_at : ℕ → List ℕ → List ℕ → Bool
@@ -56,18 +57,18 @@ abbrev pub profile_is_good : List ℕ → Super40 → Bool
 profile_is_good b s = stands_at 88 profile_mark b && s.flags == 1 && s.node_pid == 0
 
 abbrev pub height_is_good : Super40 → Bool
-height_is_good s = nat_le 2 s.tree_height && nat_le s.tree_height 8
+height_is_good s = nat_le TWIG s.tree_height && nat_le s.tree_height MOST_LEVELS
 
 -- 64 to 1,048,576 blocks, as far as the device has them
 abbrev pub block_count_is_good : (device_blocks : ℕ) → Super40 → Bool
-block_count_is_good device_blocks s = nat_le 64 s.block_count && nat_le s.block_count 1048576 && nat_le s.block_count device_blocks
+block_count_is_good device_blocks s = nat_le LEAST_BLOCKS s.block_count && nat_le s.block_count MOST_BLOCKS && nat_le s.block_count device_blocks
 
 -- the root is a block of the volume that is not fixed
 abbrev pub root_is_good : Super40 → Bool
-root_is_good s = nat_le 22 s.root_block && nat_lt s.root_block s.block_count && not (is_fixed s.block_count s.root_block)
+root_is_good s = nat_le FIRST_PLACE s.root_block && nat_lt s.root_block s.block_count && not (is_fixed s.block_count s.root_block)
 
 abbrev pub oid_is_good : Super40 → Bool
-oid_is_good s = nat_le 65536 s.oid && nat_lt s.oid (2 ^ 60)
+oid_is_good s = nat_le FIRST_OBJECT s.oid && nat_lt s.oid OBJECT_END
 
 abbrev pub counts_are_good : (device_blocks : ℕ) → Super40 → Bool
 counts_are_good device_blocks s = block_count_is_good device_blocks s && root_is_good s && oid_is_good s
@@ -85,11 +86,11 @@ super_of device_blocks b =
 pub record IsLawfulSuper (device_blocks : ℕ) (s : Super40) : Type 0 where
   pub large_keys : s.flags ≡ 1
   pub nodes : s.node_pid ≡ 0
-  pub height : (2 ≤ s.tree_height) × (s.tree_height ≤ 8)
-  pub blocks : (64 ≤ s.block_count) × (s.block_count ≤ 1048576) × (s.block_count ≤ device_blocks)
-  pub root : (22 ≤ s.root_block) × (s.root_block < s.block_count)
+  pub height : (TWIG ≤ s.tree_height) × (s.tree_height ≤ MOST_LEVELS)
+  pub blocks : (LEAST_BLOCKS ≤ s.block_count) × (s.block_count ≤ MOST_BLOCKS) × (s.block_count ≤ device_blocks)
+  pub root : (FIRST_PLACE ≤ s.root_block) × (s.root_block < s.block_count)
   pub root_not_fixed : is_fixed s.block_count s.root_block ≡ false
-  pub next_id : (65536 ≤ s.oid) × (s.oid < 2 ^ 60)
+  pub next_id : (FIRST_OBJECT ≤ s.oid) × (s.oid < OBJECT_END)
 
 -- the fields before the magic, and those between the magic and the mark, each with its width
 abbrev pub fields_before_magic : Super40 → List (ℕ × ℕ)

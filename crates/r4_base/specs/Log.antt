@@ -5,6 +5,7 @@ use Rattle.r4_base.specs.Bytes.{number_at, fields_bytes}
 use Rattle.r4_base.specs.declared.journal.Header.{Header}
 use Rattle.r4_base.specs.declared.journal.Footer.{Footer}
 use Rattle.r4_base.specs.declared.journal.TxHead.{TxHead}
+use Rattle.r4_base.specs.declared.limits.TheConstants.{RECORD_PAIRS}
 
 -- ---- the journal header and the journal footer
 
@@ -59,7 +60,7 @@ pairs_from zero i b = []
 pairs_from (suc n) i b = if (pair_at b i).0 == 0 then [] else (pair_at b i ∷ pairs_from n (i + 1) b)
 
 unfoldable pub pairs_of : List ℕ → List (ℕ × ℕ)
-pairs_of b = pairs_from 254 0 b
+pairs_of b = pairs_from RECORD_PAIRS 0 b
 
 -- the record that a block spells; none exactly at a false magic
 unfoldable pub record_of : List ℕ → Option Record

@@ -5,6 +5,8 @@ use Rattle.r4_base.specs.Key.{rank, IsBelow}
 use Rattle.r4_base.specs.declared.key.Key.{Key}
 use Rattle.r4_base.specs.declared.node.NodeFault.{NodeFault}
 use Rattle.r4_base.specs.declared.node.NodeFault.TheVariants.{Magic, Level, Empty, Space, Offset, Plugin, Order}
+use Rattle.r4_base.specs.declared.limits.TheConstants.{ITEM_HEADER, LEAF, MOST_LEVELS, NODE_HEAD, TWIG}
+use Rattle.r4_base.specs.declared.plugin.TheConstants.{ENTRIES, EXTENT, POINTER, STAT, TAIL}
 
 -- ---- the header of a node
 
@@ -44,7 +46,7 @@ pad_of b = slice_index b 27
 -- ---- the header of item i
 
 abbrev pub header : ℕ → ℕ
-header i = 4096 - 38 * (i + 1)
+header i = 4096 - ITEM_HEADER * (i + 1)
 
 unfoldable pub key_at : List ℕ → ℕ → Key
 key_at b i = record { el = number_at 8 (header i) b ∷ number_at 8 (header i + 8) b ∷ number_at 8 (header i + 16) b ∷ number_at 8 (header i + 24) b ∷ [] }
@@ -91,13 +93,13 @@ abbrev pub magic_is_good : List ℕ → Bool
 magic_is_good b = magic_of b == 0x52344653 && plugin_of b == 0
 
 abbrev pub level_is_good : List ℕ → Bool
-level_is_good b = nat_le 1 (level_of b) && nat_le (level_of b) 8
+level_is_good b = nat_le LEAF (level_of b) && nat_le (level_of b) MOST_LEVELS
 
 abbrev pub is_empty_branch : List ℕ → Bool
-is_empty_branch b = nat_lt 1 (level_of b) && count_of b == 0
+is_empty_branch b = nat_lt LEAF (level_of b) && count_of b == 0
 
 abbrev pub space_is_good : List ℕ → Bool
-space_is_good b = nat_le 28 (start_of b) && start_of b + free_of b + 38 * count_of b == 4096
+space_is_good b = nat_le NODE_HEAD (start_of b) && start_of b + free_of b + ITEM_HEADER * count_of b == 4096
 
 unfoldable pub header_fault : List ℕ → Option NodeFault
 header_fault b =
@@ -107,12 +109,15 @@ header_fault b =
     if not (space_is_good b) then Some Space else
     None
 
--- the plugins of a level: 1 is a leaf, 2 a twig
+-- the plugins of a level
 abbrev pub fits_level : (level plugin : ℕ) → Bool
-fits_level level plugin = if level == 1 then plugin == 0 || plugin == 2 || plugin == 6 else if level == 2 then plugin == 3 || plugin == 5 else (plugin == 3)
+fits_level level plugin = 
+    if level == LEAF then plugin == STAT || plugin == ENTRIES || plugin == TAIL else
+    if level == TWIG then plugin == POINTER || plugin == EXTENT else
+    (plugin == POINTER)
 
 abbrev pub offset_is_good : List ℕ → ℕ → Bool
-offset_is_good b i = (if i == 0 then offset_at b i == 28 else nat_lt (offset_at b (i - 1)) (offset_at b i)) && nat_lt (offset_at b i) (start_of b)
+offset_is_good b i = (if i == 0 then offset_at b i == NODE_HEAD else nat_lt (offset_at b (i - 1)) (offset_at b i)) && nat_lt (offset_at b i) (start_of b)
 
 abbrev pub order_is_good : List ℕ → ℕ → Bool
 order_is_good b i = i == 0 || nat_lt (rank (key_at b (i - 1))) (rank (key_at b i))

@@ -7,6 +7,7 @@ use Rattle.r4_base.specs.Chain.{Txn, committed, flushed, originals, kept_blocks}
 use Rattle.r4_base.specs.declared.journal.TxHead.{TxHead}
 use Rattle.r4_base.specs.declared.journal.LogFault.{LogFault}
 use Rattle.r4_base.specs.declared.journal.LogFault.TheVariants.{Range, HeadMagic, Total, Long, RecordMagic, Id, Serial, Pairs, Circle, Overlap}
+use Rattle.r4_base.specs.declared.limits.TheConstants.{FIRST_BITMAP, FIRST_PLACE, HEADER_BLOCK, MOST_HEADS, SUPER_BLOCK}
 
 -- a fault, and the block that it names
 pub record Refusal : Type 0 where
@@ -17,10 +18,10 @@ abbrev pub refuse : {X : Type 0} → ℕ → LogFault → Result X Refusal
 refuse b f = Err (record { block = b; fault = f })
 
 abbrev pub is_log_block : ℕ → ℕ → Bool
-is_log_block n b = nat_le 22 b && nat_lt b n
+is_log_block n b = nat_le FIRST_PLACE b && nat_lt b n
 
 abbrev pub is_original_number : ℕ → ℕ → Bool
-is_original_number n b = b == 17 || (b == 18 || is_log_block n b)
+is_original_number n b = b == SUPER_BLOCK.0 || (b == FIRST_BITMAP.0 || is_log_block n b)
 
 abbrev pub pair_is_in_range : ℕ → ℕ × ℕ → Bool
 pair_is_in_range n p = is_original_number n p.0 && is_log_block n p.1
@@ -88,7 +89,7 @@ txns_at n image [] = Ok []
 txns_at n image (h ∷ older) = then_with (txns_at n image older) (λ ts. then_with (txn_at n image h) (λ t. Ok (t ∷ ts)))
 
 unfoldable pub log_of : ℕ → Image → Result (List Txn) Refusal
-log_of n image = then_with (heads_from 8 n image (flushed image) 19 (committed image)) (txns_at n image)
+log_of n image = then_with (heads_from MOST_HEADS n image (flushed image) HEADER_BLOCK.0 (committed image)) (txns_at n image)
 
 -- An original that is also a head, a record or a wandered block, and the smallest such one.
 pub record IsOverlap (chain : List Txn) (b : ℕ) : Type 0 where

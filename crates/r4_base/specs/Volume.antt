@@ -15,6 +15,7 @@ use Rattle.r4_base.specs.declared.items.Attr.{Attr}
 use Rattle.r4_base.specs.declared.items.Target.{Target}
 use Rattle.r4_base.specs.declared.superblock.Master.{Master}
 use Rattle.r4_base.specs.declared.superblock.Super40.{Super40}
+use Rattle.r4_base.specs.declared.limits.TheConstants.{GREATEST_SIZE, MASTER_BLOCK, OBJECT_END, ROOT_OBJECT, SUPER_BLOCK}
 
 -- ---- objects. An object is named as an entry names it: by the locality, ordering and object id of its stat key
 
@@ -31,7 +32,7 @@ object_of k = record { locality = slice_index k.el 0 / 16; ordering = slice_inde
 
 -- a target that can be an object
 abbrev pub IsObject : Target → Type 0
-IsObject o = (o.locality < 2 ^ 60) × (o.ordering < 2 ^ 64) × (o.oid.0 < 2 ^ 64)
+IsObject o = (o.locality < OBJECT_END) × (o.ordering < 2 ^ 64) × (o.oid.0 < 2 ^ 64)
 
 -- there is an object, with these attributes
 abbrev pub HasStat : Content → Target → Attr → Type 0
@@ -42,7 +43,7 @@ is_directory a = a.mode / 4096 == 4
 
 -- the root directory
 abbrev pub root_object : Target
-root_object = record { locality = 41; ordering = 0; oid = record { 0 = 42 } }
+root_object = ROOT_OBJECT
 
 -- ---- the units of a tree
 
@@ -82,7 +83,7 @@ KeyFits r k (Byte x) = (minor_of k ≡ 4) × ((a : Attr) × HasStat r (object_of
 -- What is asked of keys and of the bodies of files, which have at most 2^30 bytes. `bytes` is the size for every object.
 pub record HasFiles (t : Store Value) (r : Content) : Type 0 where
   pub keys : (k : ℕ) (v : Value) → at_key r k ≡ Some v → KeyFits r (key_of_rank k) v
-  pub bodies : (o : Target) (a : Attr) → HasStat r o a → is_directory a ≡ false → (a.size ≤ 2 ^ 30) × (HasTails t o a.size ⊎ HasExtents t o a.size)
+  pub bodies : (o : Target) (a : Attr) → HasStat r o a → is_directory a ≡ false → (a.size ≤ GREATEST_SIZE) × (HasTails t o a.size ⊎ HasExtents t o a.size)
   pub bytes : (o : Target) (a : Attr) → HasStat r o a → a.bytes ≡ a.size
 
 -- ---- directories
@@ -178,8 +179,8 @@ IsVisible raw m = (k : ℕ) (v : Value) → (at_key m k ≡ Some v) ↔ ((at_key
 
 -- The superblocks and the bitmaps of an image on a device of n blocks are not refused.
 pub record HasLayout (n : ℕ) (image : Image) (super : Super40) : Type 0 where
-  pub master : (m : Master) × (master_of (block_at image 16) ≡ Ok m)
-  pub format : super_of n (block_at image 17) ≡ Ok super
+  pub master : (m : Master) × (master_of (block_at image MASTER_BLOCK.0) ≡ Ok m)
+  pub format : super_of n (block_at image SUPER_BLOCK.0) ≡ Ok super
   pub bitmaps : bitmap_fault super.block_count super.free_blocks image ≡ None
 
 -- A block of the volume that is not fixed, and marked as used.
@@ -225,7 +226,7 @@ IsLost {n} {image} {m} c b = (b < c.super.block_count) × (is_marked image b ≡
 
 -- a block of which a content is made: a superblock, a bitmap, a cell
 abbrev pub IsMadeOf : {n : ℕ} {image : Image} {m : Content} → HasContent n image m → ℕ → Type 0
-IsMadeOf {n} {image} {m} c b = (b ≡ 16) ⊎ (b ≡ 17) ⊎ ((k : ℕ) × (k < bitmap_count c.super.block_count) × (b ≡ bitmap_block k)) ⊎ ((d : Node Value) × (c.store b ≡ Some d))
+IsMadeOf {n} {image} {m} c b = (b ≡ MASTER_BLOCK.0) ⊎ (b ≡ SUPER_BLOCK.0) ⊎ ((k : ℕ) × (k < bitmap_count c.super.block_count) × (b ≡ bitmap_block k)) ⊎ ((d : Node Value) × (c.store b ≡ Some d))
 
 -- The log needs its heads, records and wandered blocks; the tree needs each block from which the settled image takes a block that its content
 -- is made of. Blocks 19 and 20, which say where the log is, are needed by neither.

@@ -4,7 +4,7 @@ use crate::things::{BlockNo, Oid};
 use crate::items::Target;
 
 /// How many bytes a block has.
-pub const BLOCK_BYTES: usize = 4096;
+pub const BLOCK_BYTES: u64 = 4096;
 
 /// The fewest blocks that a volume has (docs/layout.md, "Superblocks").
 pub const LEAST_BLOCKS: u64 = 64;
