@@ -13,6 +13,7 @@ pub mod Trees
 pub mod Contents
 pub mod Images
 pub mod Spare
+pub mod Needed
 pub mod Visible
 pub mod Twice
 pub mod FreshBits

@@ -76,6 +76,14 @@ module _ (n : ℕ) (image other : Image) (m : Content) (c : HasContent n image m
     visible = c.visible;
   }
 
+  pub same_super : same_content.super ≡ c.super
+  unfolding same_content
+  same_super = refl
+
+  pub same_store : same_content.store ≡ c.store
+  unfolding same_content
+  same_store = refl
+
 -- ---- the same volume
 
 module _ (n : ℕ) (image other : Image) (m : Content) (v : HasVolume n image m) (whole : IsImage n other) (header : block_at other 19 ≡ block_at image 19) (footer : block_at other 20 ≡ block_at image 20)
