@@ -16,8 +16,7 @@ use Rattle.r4_base.proofs.Spare.{same_content}
 module _ (n : ℕ) (image : Image) (m o : Content) (c : HasContent n image m) (d : HasContent n image o) (b : ℕ) where
   pub lost_alike : IsLost c b → IsLost d b
   lost_alike lost =
-      let s = one_super n image m o c d in
-      (
+      let s = one_super n image m o c d in (
         subst (λ (x : Super40). b < x.block_count) s lost.0,
         lost.1,
         subst (λ (x : Super40). is_fixed x.block_count b ≡ false) s lost.2,

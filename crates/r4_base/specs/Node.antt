@@ -111,7 +111,7 @@ header_fault b =
 
 -- the plugins of a level
 abbrev pub fits_level : (level plugin : ℕ) → Bool
-fits_level level plugin = 
+fits_level level plugin =
     if level == LEAF then plugin == STAT || plugin == ENTRIES || plugin == TAIL else
     if level == TWIG then plugin == POINTER || plugin == EXTENT else
     (plugin == POINTER)

@@ -1,7 +1,7 @@
 //! The numbers of the format, each of which is said here and nowhere else (docs/layout.md).
 
-use crate::things::{BlockNo, Oid};
 use crate::items::Target;
+use crate::things::{BlockNo, Oid};
 
 /// How many bytes a block has.
 pub const BLOCK_BYTES: u64 = 4096;

@@ -1,6 +1,6 @@
 //! A device in memory, with a record of its writes and good syncs or without.
 
-ghost use Rattle.std.specs.Prelude.{◌≡◌, ◌<◌, ◌≤◌, List, [], ℕ, Bool, true, false, reverse, cond, length, replicate, vec_len, slice_set, ◌∷◌, ◌++◌, IfOk, OnOk, OnErr};
+ghost use Rattle.std.specs.Prelude.{◌≡◌, ◌<◌, ◌≤◌, List, [], ℕ, Bool, IsTrue, true, false, reverse, cond, length, replicate, vec_len, slice_set, ◌∷◌, ◌++◌, IfOk, OnOk, OnErr};
 ghost use Rattle.r4_base.specs.Image.{Image, IsBlock, block_at};
 ghost use Rattle.r4_outside.specs.Device.{HasSectors, IsQuiet, TellsReads, TellsCrashes, Leaves, IsAs};
 ghost use Rattle.r4_outside.specs.Crash.{IsPicked, IsRedone, mask_of, next_number, number_after};
@@ -50,7 +50,7 @@ pub struct MemoryDevice {
 }
 
 impl MemoryDevice {
-    ghost use Rattle.r4_outside.specs.Memory.{memory_image, memory_state, memory_picked, memory_fails, memory_calls, IsFresh};
+    ghost use Rattle.r4_outside.specs.Memory.{memory_image, memory_state, memory_picked, memory_fails, memory_calls, memory_keeps, IsFresh};
 
     /// A device of that many blocks of zeros that keeps a record of all calls and tells everything. A `write` or a
     /// `sync` that finds no memory for the record fails, and leaves no sector of its own. The only error is want of
@@ -58,6 +58,7 @@ impl MemoryDevice {
     pub fn new(alloc: Global, blocks: u64) -> Result<MemoryDevice, Memory>
         ensures zeros { IfOk result (λ d. memory_image d ≡ replicate blocks (replicate 4096 0)) }
         ensures fresh { IfOk result IsFresh }
+        ensures keeps { IfOk result (λ d. memory_keeps d ≡ true) }
         ensures quiet { IfOk result (λ d. IsQuiet (memory_state d)) }
     {
         Ok(MemoryDevice {
@@ -78,7 +79,9 @@ impl MemoryDevice {
     pub fn plain(alloc: Global, blocks: u64) -> Result<MemoryDevice, Memory>
         ensures zeros { IfOk result (λ d. memory_image d ≡ replicate blocks (replicate 4096 0)) }
         ensures fresh { IfOk result IsFresh }
+        ensures keeps { IfOk result (λ d. memory_keeps d ≡ false) }
         ensures tells { IfOk result (λ d. TellsReads (memory_state d)) }
+        ensures silent { IfOk result (λ d. (m b s : ℕ) (x : List ℕ) → (memory_state d).may_hold m b s x → ⊥) }
     {
         Ok(MemoryDevice {
             alloc,
@@ -98,6 +101,7 @@ impl MemoryDevice {
     pub fn fail(&mut self, alloc: Global, call: u64) -> Result<(), Memory>
         ensures same { IsAs (memory_state self.old) (memory_state self.new) }
         ensures noted { OnOk result (memory_fails self.new ≡ memory_fails self.old ++ call ∷ []) }
+        ensures keeps { memory_keeps self.new ≡ memory_keeps self.old }
         ensures calls { memory_calls self.new ≡ memory_calls self.old }
         ensures err { OnErr result (memory_fails self.new ≡ memory_fails self.old) }
     {
@@ -117,6 +121,7 @@ impl MemoryDevice {
         ensures leaves { IfOk result (λ d. Leaves (memory_state self.now) moment (memory_image d)) }
         ensures picked { IfOk result (λ d. HasSectors (length (memory_image self.now)) (memory_picked self.now moment pick) (memory_image d)) }
         ensures fresh { IfOk result IsFresh }
+        ensures keeps { IfOk result (λ d. memory_keeps d ≡ true) }
         ensures quiet { IfOk result (λ d. IsQuiet (memory_state d)) }
     {
         let blocks = crashed(alloc, &self.start, &self.calls, moment, pick)?;
@@ -254,21 +259,28 @@ fn put_block(blocks: &mut Vec<Block>, at: usize, from: &Block)
 }
 
 impl Device for MemoryDevice {
-    ghost use Rattle.std.specs.Prelude.{◌↔◌, ◌⊎◌, ◌≡◌, ◌<◌, Contains, IsErr, OnErr};
-    ghost use Rattle.r4_outside.specs.Device.{Reads, Writes, Syncs, next};
-    ghost use Rattle.r4_outside.specs.Memory.{memory_state, memory_fails, memory_calls, IsIdle};
+    ghost use Rattle.std.specs.Prelude.{◌↔◌, ◌⊎◌, ◌≡◌, ◌<◌, Contains, IsErr, IsOk, OnErr};
+    ghost use Rattle.r4_outside.specs.Device.{Counts, Reads, Writes, Syncs, next};
+    ghost use Rattle.r4_outside.specs.Memory.{memory_state, memory_calls, IsIdle, IsPlanned, IsStarved, KeepsPlan, MakesWrite};
 
     ghost state = { memory_state };
 
-    fn blocks(&mut self) -> Result<u64, Failed> {
+    // It fails never, and counts as no call.
+    fn blocks(&mut self) -> Result<u64, Failed>
+        ensures counts { Counts (memory_state self.old) result (memory_state self.new) }
+        ensures ok { IsOk result }
+        ensures same { IsAs (memory_state self.old) (memory_state self.new) }
+        ensures plan { KeepsPlan self.old self.new }
+        ensures calls { memory_calls self.new ≡ memory_calls self.old }
+    {
         Ok(self.blocks.len() as u64)
     }
 
     fn read(&mut self, at: BlockNo, into: &mut Block) -> Result<(), Failed>
         requires { at.0 < (memory_state self.old).blocks }
         ensures reads { Reads at.0 into.new (memory_state self.old) result (memory_state self.new) }
-        ensures fails { IsErr result ↔ Contains (memory_fails self.old) (next (memory_calls self.old)) }
-        ensures plan { memory_fails self.new ≡ memory_fails self.old }
+        ensures fails { IsErr result ↔ IsPlanned self.old }
+        ensures plan { KeepsPlan self.old self.new }
         ensures calls { memory_calls self.new ≡ next (memory_calls self.old) }
     {
         if counted(&self.fails, &mut self.made) {
@@ -281,9 +293,13 @@ impl Device for MemoryDevice {
     fn write(&mut self, at: BlockNo, from: &Block) -> Result<(), Failed>
         requires { at.0 < (memory_state self.old).blocks }
         ensures writes { Writes at.0 from.now (memory_state self.old) result (memory_state self.new) }
-        ensures fails { Contains (memory_fails self.old) (next (memory_calls self.old)) → IsErr result }
-        ensures idle { OnErr result (Contains (memory_fails self.old) (next (memory_calls self.old)) ⊎ IsIdle (memory_state self.old) (memory_state self.new)) }
-        ensures plan { memory_fails self.new ≡ memory_fails self.old }
+        ensures fails { IsPlanned self.old → IsErr result }
+
+        // A write that was to fail is made all the same; else one that fails leaves nothing.
+        ensures why { OnErr result (IsPlanned self.old ⊎ (IsStarved self.old × IsIdle (memory_state self.old) (memory_state self.new))) }
+        ensures made { OnErr result (MakesWrite at.0 from.now self.old self.new
+            ⊎ (IsStarved self.old × IsIdle (memory_state self.old) (memory_state self.new))) }
+        ensures plan { KeepsPlan self.old self.new }
         ensures calls { memory_calls self.new ≡ next (memory_calls self.old) }
     {
         let failing = counted(&self.fails, &mut self.made);
@@ -311,8 +327,9 @@ impl Device for MemoryDevice {
 
     fn sync(&mut self) -> Result<(), Failed>
         ensures syncs { Syncs (memory_state self.old) result (memory_state self.new) }
-        ensures fails { Contains (memory_fails self.old) (next (memory_calls self.old)) → IsErr result }
-        ensures plan { memory_fails self.new ≡ memory_fails self.old }
+        ensures fails { IsPlanned self.old → IsErr result }
+        ensures why { OnErr result (IsPlanned self.old ⊎ IsStarved self.old) }
+        ensures plan { KeepsPlan self.old self.new }
         ensures calls { memory_calls self.new ≡ next (memory_calls self.old) }
     {
         let lost = counted(&self.fails, &mut self.made);
@@ -353,6 +370,7 @@ fn put(
     ensures whole { OnOk result (IsBlock from.now) }
     ensures noted { OnOk result (reverse calls.new.items ≡ cond keeps (Call.Wrote moment at from.now ∷ reverse calls.old.items) (reverse calls.old.items)) }
     ensures err { OnErr result ((blocks.new.items ≡ blocks.old.items) × (calls.new.items ≡ calls.old.items)) }
+    ensures only { OnErr result (IsTrue keeps) }
 {
     if keeps {
         note_write(alloc, calls, moment, at, from)?;
@@ -381,6 +399,7 @@ fn note_write(
 fn note_sync(keeps: bool, calls: &mut Vec<Call>, moment: u64) -> Result<(), Memory>
     ensures noted { OnOk result (reverse calls.new.items ≡ cond keeps (Call.Synced moment ∷ reverse calls.old.items) (reverse calls.old.items)) }
     ensures err { OnErr result (calls.new.items ≡ calls.old.items) }
+    ensures only { OnErr result (IsTrue keeps) }
 {
     if keeps {
         calls.push(Call::Synced { moment })?;
