@@ -130,11 +130,11 @@ module _ (n : ℕ) (label : List ℕ) (image : Image) (long : length label ≡ 1
 
   the_twig : IsCellOf n a (fresh_twig a)
   unfolding fresh_twig a
-  the_twig = record { sound = twig_sound n a low f.rest.twig; says = twig_says a f.rest.twig }
+  the_twig = record { sound = twig_sound n a low f.rest.twig.item; says = twig_says a f.rest.twig.item }
 
   the_leaf : IsCellOf n b (fresh_leaf b)
   unfolding fresh_leaf b
-  the_leaf = record { sound = leaf_sound n b f.rest.leaf; says = leaf_says b f.rest.leaf }
+  the_leaf = record { sound = leaf_sound n b f.rest.leaf.item; says = leaf_says b f.rest.leaf.item }
 
   cells : (i : ℕ) (c : Cell Value) → fresh_store a b i ≡ Some c → IsCellOf n (block_at image i) c
   unfolding a b

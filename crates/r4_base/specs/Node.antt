@@ -57,6 +57,10 @@ offset_at b i = number_at 2 (header i + 32) b
 unfoldable pub plugin_at : List ℕ → ℕ → ℕ
 plugin_at b i = number_at 2 (header i + 36) b
 
+-- the flags of item i, which nobody reads
+unfoldable pub item_flags_at : List ℕ → ℕ → ℕ
+item_flags_at b i = number_at 2 (header i + 34) b
+
 -- where the body of item i begins, of n items, and where the bodies end at i = n
 unfoldable pub edge_at : ℕ → List ℕ → ℕ → ℕ
 edge_at n b i = if i == n then start_of b else offset_at b i

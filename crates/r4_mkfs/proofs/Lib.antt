@@ -4,3 +4,4 @@ pub mod Labels
 pub mod Writing
 pub mod Ordering
 pub mod Idling
+pub mod Sparing

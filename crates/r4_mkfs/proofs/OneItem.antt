@@ -6,7 +6,7 @@ use Rattle.std.proofs.lemmas.List.{length-replicate}
 use Rattle.r4_base.specs.Lending.{written}
 use Rattle.r4_base.specs.Node.{Item, PluginsFit, KeysRise, count_of, fits_level, is_empty_branch, item_at, items_of, key_at, level_of, offset_at, plugin_at}
 use Rattle.r4_base.specs.declared.node.NodeFault.TheVariants.{Empty}
-use Rattle.r4_base.specs.Fresh.{HasOneItem, root_key}
+use Rattle.r4_base.specs.Fresh.{HasOneItem, IsFreshNode, root_key}
 use Rattle.r4_node40.specs.Laid.{IsFresh, IsNode, WritesBody, span_at}
 use Rattle.r4_node40.specs.Edits.{GoesBetween, InsertsItem}
 use Rattle.r4_node40.proofs.Accepted.{accepted}
@@ -78,3 +78,19 @@ module _ (b0 b1 body : List ℕ) (level plugin : ℕ) (fresh : IsFresh b0 level 
     where
       not_empty : is_empty_branch (written b1 (offset_at b1 0) body) ≡ false
       not_empty = let n : count_of (written b1 (offset_at b1 0) body) ≡ 1 = wrote.count ∙ one in let test : (count_of (written b1 (offset_at b1 0) body) == 0) ≡ false = rw n refl in and_false _ _ test
+
+  pub fresh_node : IsFreshNode (written b1 (offset_at b1 0) body) level plugin body
+  fresh_node = record {
+    item = filled;
+    mkfs_id = wrote.head.mkfs_id ∙ put.head.mkfs_id ∙ fresh.mkfs_id_is;
+    flush_id = wrote.head.flush_id ∙ put.head.flush_id ∙ fresh.flush_id_is;
+    flags = wrote.head.flags ∙ put.head.flags ∙ fresh.flags_is;
+    pad = wrote.head.pad ∙ put.head.pad ∙ fresh.pad_is;
+    item_flags = wrote.flags 0 (let n = one in omega (arith, n)) ∙ put.flags;
+    free = λ p ge lt.
+        let count : count_of (written b1 (offset_at b1 0) body) ≡ 1 = wrote.count ∙ one in
+        let n = one in
+        let start = wrote.start in
+        let low = put.laid.low in
+        wrote.free p ge (omega (arith, lt, count)) ∙ put.free p (omega (arith, ge, start)) (omega (arith, lt, n)) ∙ fresh.blank p (omega (arith, ge, start, low));
+  }

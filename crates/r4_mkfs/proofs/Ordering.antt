@@ -4,15 +4,15 @@ use Rattle.std.specs.Prelude.{Result, Ok, take}
 use Rattle.std.proofs.lemmas.Bool.{cases_eq}
 use Rattle.r4_base.specs.Image.{Image, IsImage, IsLawful, block_at}
 use Rattle.r4_base.specs.Bitmap.{is_used}
-use Rattle.r4_base.specs.Fresh.{HasOneItem, IsFreshBut16, IsFreshImage}
+use Rattle.r4_base.specs.Fresh.{IsFreshNode, IsFreshBut16, IsFreshImage}
 use Rattle.r4_base.specs.Layout.{master_block}
 use Rattle.r4_base.specs.Bytes.{number_bytes}
 use Rattle.r4_base.specs.Stat.{stat_body}
 use Rattle.r4_base.specs.Volume.{root_attr}
 use Rattle.r4_outside.specs.Device.{State, Sectors, HasSectors, Goes, Writes, Syncs, Spares, IsQuiet, IsTorn, only}
 use Rattle.r4_outside.proofs.Images.{same_sectors, read_written, read_other}
-use Rattle.r4_outside.proofs.Moments.{Run, run_sync, run_synced, run_write, torn_one, or_torn}
-use Rattle.r4_mkfs.specs.Mkfs.{full_label, is_other_than_16}
+use Rattle.r4_outside.proofs.Moments.{Run, run_sync, run_synced, run_write, torn_one, or_torn, spares_more}
+use Rattle.r4_mkfs.specs.Mkfs.{IsRest, full_label}
 use Rattle.r4_mkfs.proofs.Writing.{block_below, not_16}
 
 -- another image with the same blocks but for the 16th
@@ -27,8 +27,8 @@ fresh_elsewhere n base image lawful whole same f =
       header = here 19 (omega arith) (λ e. omega (arith, e)) ∙ f.header;
       footer = here 20 (omega arith) (λ e. omega (arith, e)) ∙ f.footer;
       status = here 21 (omega arith) (λ e. omega (arith, e)) ∙ f.status;
-      twig = subst (λ (x : List ℕ). HasOneItem x 2 3 (number_bytes 8 23)) (sym (here 22 (omega arith) (λ e. omega (arith, e)))) f.twig;
-      leaf = subst (λ (x : List ℕ). HasOneItem x 1 0 (stat_body root_attr)) (sym (here 23 (omega arith) (λ e. omega (arith, e)))) f.leaf;
+      twig = subst (λ (x : List ℕ). IsFreshNode x 2 3 (number_bytes 8 23)) (sym (here 22 (omega arith) (λ e. omega (arith, e)))) f.twig;
+      leaf = subst (λ (x : List ℕ). IsFreshNode x 1 0 (stat_body root_attr)) (sym (here 23 (omega arith) (λ e. omega (arith, e)))) f.leaf;
     }
 
 -- with the master superblock in place the volume is whole
@@ -42,15 +42,21 @@ module _ (s0 : State) (n : ℕ) (blocks : n ≡ s0.blocks) (lawful : IsLawful n)
   abbrev P : Image → Type 0
   P image = (block_at image 16 ≡ block_at s0.seen 16) ⊎ IsFreshBut16 s0.blocks image
 
+  abbrev Other : ℕ → Type 0
+  Other b = b ≢ 16
+
   -- anything but in block 16, and there what was there
   abbrev Q : Sectors
-  Q b s x = is_other_than_16 b ⊎ only s0.seen b s x
+  Q b s x = Other b ⊎ only s0.seen b s x
 
   before : (image : Image) → HasSectors s0.blocks Q image → P image
   before image h = inl (same_sectors (block_at image 16) (block_at s0.seen 16) (h.whole 16 (omega (arith, blocks, lawful.0))) (quiet.tells.whole 16 (omega (arith, blocks, lawful.0)))
       (λ s ls. ⊎_elim (λ other. absurd (other refl)) (λ same. same) (h.sectors 16 s (omega (arith, blocks, lawful.0)) ls)))
 
-  module _ (s1 : State) (goes : Goes s0 s1) (spares : Spares is_other_than_16 s0 s1) where
+  module _ (s1 : State) (goes : Goes s0 s1) (rest : Spares (IsRest n) s0 s1) where
+    spares : Spares Other s0 s1
+    spares = spares_more (IsRest n) Other s0 s1 (λ b is. is.1) rest
+
     spared : (m b s : ℕ) (x : List ℕ) → s0.clock ≤ m → m ≤ s1.clock → b < s0.blocks → s < 8 → s1.may_hold m b s x → Q b s x
     spared m b s x lo hi lb ls may = elim (cases_eq b 16) [
       | inl is ↦ inr (quiet.within.each b s x lb ls (spares.each m b s x lo hi ls (λ other. other is) may))
@@ -75,7 +81,7 @@ module _ (s0 : State) (n : ℕ) (blocks : n ≡ s0.blocks) (lawful : IsLawful n)
     written_synced s2 r2 y = run_sync s0 s1 s2 Q P written r2 y
 
     -- after a good sync
-    module _ {T E : Type 0} (rest : IsFreshBut16 n s1.seen) (master : List ℕ) (s2 : State) (v : T) (y : Syncs {E = E} s1 (Ok v) s2) where
+    module _ {T E : Type 0} (fresh : IsFreshBut16 n s1.seen) (master : List ℕ) (s2 : State) (v : T) (y : Syncs {E = E} s1 (Ok v) s2) where
       settled : Run s0 s2 (only s2.seen) P
       settled = run_synced s0 s1 s2 Q P written v y quiet.tells
 
@@ -85,7 +91,7 @@ module _ (s0 : State) (n : ℕ) (blocks : n ≡ s0.blocks) (lawful : IsLawful n)
           let long : length s2.seen ≡ n = t_long h t in
           inr (subst (λ (k : ℕ). IsFreshBut16 k image) blocks
           (fresh_elsewhere n s1.seen image lawful (record { blocks = h.blocks ∙ sym blocks; whole = λ b lt. h.whole b (omega (arith, lt, blocks)) })
-          (λ b lt other. t.others b (omega (arith, lt, long)) other ∙ ap (λ (i : Image). block_at i b) y.seen) rest))
+          (λ b lt other. t.others b (omega (arith, lt, long)) other ∙ ap (λ (i : Image). block_at i b) y.seen) fresh))
         where
           t_long : HasSectors s0.blocks (or_torn (only s2.seen) 16 master) image → IsTorn 16 master s2.seen image → length s2.seen ≡ n
           t_long h t = sym t.blocks ∙ h.blocks ∙ sym blocks

@@ -1,19 +1,19 @@
 -- What the writes of a fresh volume leave.
-use Rattle.std.proofs.Common.{◌≡◌, ◌≢◌, inl, inr, ℕ, zero, suc, ◌+◌, ◌*◌, ◌<◌, false, List, length, take, replicate, slice_set, refl, sym, ap, subst, ◌∙◌, arith}
+use Rattle.std.proofs.Common.{◌≡◌, ◌≢◌, inl, inr, ℕ, zero, suc, ◌+◌, ◌*◌, ◌<◌, ◌≤◌, false, List, length, take, replicate, slice_set, refl, sym, ap, subst, ◌∙◌, arith}
 use Rattle.std.specs.Prelude.{◌==◌, Result, Ok, Err, OnOk}
 use Rattle.std.proofs.lemmas.Bool.{cases_eq}
 use Rattle.std.proofs.lemmas.Bool.Decides.{nat_tests}
 use Rattle.std.proofs.lemmas.List.{length-set}
-use Rattle.r4_base.specs.Image.{Image, IsImage, IsLawful, block_at}
+use Rattle.r4_base.specs.Image.{AgreesOutside, Image, IsImage, IsLawful, block_at}
 use Rattle.r4_base.specs.Bitmap.{bitmap_block, bitmap_count, is_used}
 use Rattle.r4_base.specs.Layout.{super_block}
 use Rattle.r4_base.specs.Bytes.{number_bytes}
 use Rattle.r4_base.specs.Stat.{stat_body}
 use Rattle.r4_base.specs.Volume.{root_attr}
-use Rattle.r4_base.specs.Fresh.{HasOneItem, IsFreshBut16, fresh_super, is_taken}
+use Rattle.r4_base.specs.Fresh.{IsFreshNode, IsFreshBut16, fresh_super, is_taken}
 use Rattle.r4_outside.specs.Device.{State, TellsReads}
 use Rattle.r4_outside.proofs.Images.{read_written, read_other}
-use Rattle.r4_mkfs.specs.Mkfs.{HasBitmaps, with_zeros}
+use Rattle.r4_mkfs.specs.Mkfs.{HasBitmaps, IsRest, with_zeros}
 
 -- ---- where bitmaps stand
 
@@ -178,7 +178,7 @@ module _ (n : ℕ) (i1 i5 : Image) (twig leaf : List ℕ) (whole : IsImage n i1)
       (kept_bitmaps n c 19 i2 a zeros refl (omega arith) (λ e. omega (arith, e))
       (kept_bitmaps n c 17 i1 i2 super refl (omega arith) (λ e. omega (arith, e)) h)))))
 
-  pub rest_is : HasBitmaps n (bitmap_count n) i1 → HasOneItem twig 2 3 (number_bytes 8 23) → HasOneItem leaf 1 0 (stat_body root_attr) → IsFreshBut16 n i5
+  pub rest_is : HasBitmaps n (bitmap_count n) i1 → IsFreshNode twig 2 3 (number_bytes 8 23) → IsFreshNode leaf 1 0 (stat_body root_attr) → IsFreshBut16 n i5
   unfolding super zeros
   rest_is h t l = let m = bitmaps5 h in record {
     whole = whole5;
@@ -188,17 +188,37 @@ module _ (n : ℕ) (i1 i5 : Image) (twig leaf : List ℕ) (whole : IsImage n i1)
     header = at_19;
     footer = at_20;
     status = at_21;
-    twig = subst (λ (x : List ℕ). HasOneItem x 2 3 (number_bytes 8 23)) (sym at_22) t;
-    leaf = subst (λ (x : List ℕ). HasOneItem x 1 0 (stat_body root_attr)) (sym at_23) l;
+    twig = subst (λ (x : List ℕ). IsFreshNode x 2 3 (number_bytes 8 23)) (sym at_22) t;
+    leaf = subst (λ (x : List ℕ). IsFreshNode x 1 0 (stat_body root_attr)) (sym at_23) l;
   }
 
 -- the same, of the states of a device
 pub rest_written : (n : ℕ) (s1 s2 s3 s4 s5 : State) (super twig leaf : List ℕ) → n ≡ s1.blocks → s5.blocks ≡ n → IsLawful n → TellsReads s1 → TellsReads s5 → super ≡ super_block (fresh_super n)
     → s2.seen ≡ slice_set s1.seen 17 super → s3.seen ≡ with_zeros s2.seen → s4.seen ≡ slice_set s3.seen 22 twig → s5.seen ≡ slice_set s4.seen 23 leaf
-    → HasBitmaps n (bitmap_count n) s1.seen → HasOneItem twig 2 3 (number_bytes 8 23) → HasOneItem leaf 1 0 (stat_body root_attr) → IsFreshBut16 n s5.seen
+    → HasBitmaps n (bitmap_count n) s1.seen → IsFreshNode twig 2 3 (number_bytes 8 23) → IsFreshNode leaf 1 0 (stat_body root_attr) → IsFreshBut16 n s5.seen
 rest_written n s1 s2 s3 s4 s5 super twig leaf blocks blocks5 lawful told told5 is_super a b c d h t l =
     rest_is n s1.seen s5.seen twig leaf (subst (λ (k : ℕ). IsImage k s1.seen) (sym blocks) told) (omega (arith, lawful.0)) (subst (λ (k : ℕ). IsImage k s5.seen) blocks5 told5)
     (d ∙ ap (λ (i : Image). slice_set i 23 leaf) (c ∙ ap (λ (i : Image). slice_set i 22 twig) (b ∙ ap with_zeros (a ∙ ap (λ (x : List ℕ). slice_set s1.seen 17 x) is_super)))) h t l
+
+-- ---- which blocks are written
+
+pub rest_at : (n b : ℕ) → 17 ≤ b → b ≤ 23 → IsRest n b
+rest_at n b low high = (inl (omega (arith, low), omega (arith, high)), λ e. omega (arith, e, low))
+
+pub rest_bitmap : (n k : ℕ) → k < bitmap_count n → IsRest n (bitmap_block k)
+rest_bitmap n k lt = (inr (k, lt, refl), not_16 k)
+
+pub agrees_same : (W : ℕ → Type 0) (image : Image) → AgreesOutside W image image
+agrees_same W image = record { blocks = refl; others = λ b out. refl }
+
+pub agrees_set : (W : ℕ → Type 0) (base old new : Image) (at : ℕ) (block : List ℕ) → W at → new ≡ slice_set old at block → AgreesOutside W base old → AgreesOutside W base new
+agrees_set W base old new at block inside is a = record {
+  blocks = ap length is ∙ length-set old at block ∙ a.blocks;
+  others = λ b out. ap (λ (i : Image). block_at i b) is ∙ read_other old at b block (λ e. out (subst W (sym e) inside)) ∙ a.others b out;
+}
+
+pub agrees_more : (V W : ℕ → Type 0) (base image : Image) → ((b : ℕ) → V b → W b) → AgreesOutside V base image → AgreesOutside W base image
+agrees_more V W base image more a = record { blocks = a.blocks; others = λ b out. a.others b (λ v. out (more b v)) }
 
 -- what follows where a call went well
 pub on_ok : {T E : Type 0} (r : Result T E) (P Q : Type 0) → (P → Q) → OnOk r P → OnOk r Q

@@ -5,8 +5,7 @@ ghost use Rattle.r4_base.specs.Image.{IsLawful};
 ghost use Rattle.r4_base.specs.Bitmap.{bitmap_count, bits_of, is_used};
 ghost use Rattle.r4_base.specs.Fresh.{is_taken};
 
-use crate::superblocks::BITS;
-use r4_base::{Block, blank};
+use r4_base::{BITMAP_BITS, Block, FRESH_LEAF, blank};
 use r4_bitmap::BitmapMut;
 
 /// Makes the block bitmap `n` of a fresh volume: it marks the fixed blocks, the root, the leaf, and all past the volume's
@@ -29,17 +28,17 @@ fn fill_bits(bytes: &mut [u8], blocks: u64, n: u64)
     ensures bits { (i : ℕ) → i < 32736 → is_used bytes.new i ≡ is_taken blocks (n * 32736 + i) }
     ensures front { take 4 bytes.new ≡ replicate 4 0 }
 {
-    let end = BITS.min(blocks - n * BITS);
+    let end = BITMAP_BITS.min(blocks - n * BITMAP_BITS);
     blank(bytes);
     mark(bytes, 0, first_free(n));
-    mark(bytes, end, BITS);
+    mark(bytes, end, BITMAP_BITS);
 }
 
 /// The first bit of bitmap `n` that is not for a fixed block, the root or the leaf.
 fn first_free(n: u64) -> u64
     ensures { result ≡ (if n == 0 then 24 else 1) }
 {
-    if n == 0 { 24 } else { 1 }
+    if n == 0 { FRESH_LEAF.0 + 1 } else { 1 }
 }
 
 /// Makes the bits from `from` up to `to` 1.

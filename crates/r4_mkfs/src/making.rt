@@ -1,40 +1,26 @@
 //! The writes that make a volume, in their order.
 
-ghost use Rattle.std.specs.Prelude.{◌≡◌, ◌<◌, OnOk, replicate};
+ghost use Rattle.std.specs.Prelude.{◌≡◌, ◌+◌, ◌<◌, ℕ, OnOk, replicate};
 ghost use Rattle.std.specs.Arc.{arc_value};
-ghost use Rattle.r4_base.specs.Image.{IsLawful};
-ghost use Rattle.r4_base.specs.Bitmap.{bitmap_block, bitmap_count};
+ghost use Rattle.r4_base.specs.Image.{AgreesOutside, IsLawful};
+ghost use Rattle.r4_base.specs.Bitmap.{bitmap_count};
 ghost use Rattle.r4_base.specs.Bytes.{number_bytes};
-ghost use Rattle.r4_base.specs.Fresh.{HasOneItem, IsFreshBut16, IsFreshImage};
+ghost use Rattle.r4_base.specs.Fresh.{IsFreshBut16, IsFreshImage, IsFreshNode};
 ghost use Rattle.r4_base.specs.Stat.{stat_body};
 ghost use Rattle.r4_base.specs.Volume.{root_attr};
 ghost use Rattle.r4_outside.specs.Device.{Goes, HasCause, IsQuiet, Spares, TellsCrashes, TellsReads, Untouched};
-ghost use Rattle.r4_mkfs.specs.Mkfs.{Answers, CountsBlocks, HasBitmaps, IsDeviceFault, IsLabel, MakesInOrder, full_label, is_other_than_16, with_zeros};
+ghost use Rattle.r4_mkfs.specs.Mkfs.{Answers, CountsBlocks, HasBitmaps, IsDeviceFault, IsLabel, IsRest, IsWritten, MakesInOrder, TakesCalls, calls_of, full_label, with_zeros};
 
 use crate::bitmaps::fill_bitmap;
 use crate::fault::MkfsFault;
-use crate::nodes::{LEAF, Nodes, TWIG, fresh_nodes};
-use crate::superblocks::{BITS, bitmap_count, fill_master, fill_super, free_blocks};
-use r4_base::{Block, BlockNo, blank};
+use crate::nodes::{Nodes, fresh_nodes};
+use crate::superblocks::{fill_master, fill_super, free_blocks};
+use r4_base::{
+    Block, FOOTER_BLOCK, FRESH_LEAF, FRESH_TWIG, HEADER_BLOCK, LEAST_BLOCKS, MASTER_BLOCK,
+    MOST_BLOCKS, STATUS_BLOCK, SUPER_BLOCK, bitmap_block, bitmap_count, blank,
+};
 use r4_outside::{Device, Failed};
 use std::alloc::Global;
-
-const FEWEST_BLOCKS: u64 = 64;
-
-const MOST_BLOCKS: u64 = 1_048_576;
-
-const MASTER: BlockNo = BlockNo(16);
-
-const SUPER: BlockNo = BlockNo(17);
-
-/// Where the first bitmap stands.
-const BITMAP: u64 = 18;
-
-const HEADER: BlockNo = BlockNo(19);
-
-const FOOTER: BlockNo = BlockNo(20);
-
-const STATUS: BlockNo = BlockNo(21);
 
 /// How many blocks a volume has that was made, and how many of them are free.
 #[derive(Clone, Copy, Debug, PartialEq, Eq)]
@@ -51,6 +37,11 @@ pub fn mkfs<D: Device>(alloc: Global, dev: &mut D, label: &[u8]) -> Result<Made,
     requires { IsLabel label.now }
     ensures goes { Goes (D.state dev.old) (D.state dev.new) }
     ensures answers { Answers label.now (D.state dev.old) result (D.state dev.new) }
+
+    // It writes those blocks, each once, and no others; nor does a crash leave anything else in others.
+    ensures others { OnOk result (AgreesOutside (IsWritten (D.state dev.old).blocks) (D.state dev.old).seen (D.state dev.new).seen) }
+    ensures spares { Spares (IsWritten (D.state dev.old).blocks) (D.state dev.old) (D.state dev.new) }
+    ensures once { OnOk result (TakesCalls (calls_of (D.state dev.old).blocks) (D.state dev.old) (D.state dev.new)) }
 
     // At each moment of the call, whatever a crash leaves.
     ensures any_moment { IsQuiet (D.state dev.old) → MakesInOrder (D.state dev.old) (D.state dev.new) }
@@ -83,7 +74,7 @@ fn lawful_blocks<D: Device>(dev: &mut D) -> Result<u64, MkfsFault>
     let Ok(blocks) = dev.blocks() else {
         return Err(device_fault(dev));
     };
-    if blocks < FEWEST_BLOCKS {
+    if blocks < LEAST_BLOCKS {
         return Err(MkfsFault::Small { blocks });
     }
     if blocks > MOST_BLOCKS {
@@ -112,18 +103,21 @@ fn write_volume<D: Device>(
     requires blocks { blocks ≡ (D.state dev.old).blocks }
     requires lawful { IsLawful blocks }
     requires label { IsLabel label.now }
-    requires twig { HasOneItem (arc_value nodes.now.twig).block 2 3 (number_bytes 8 23) }
-    requires leaf { HasOneItem (arc_value nodes.now.leaf).block 1 0 (stat_body root_attr) }
+    requires twig { IsFreshNode (arc_value nodes.now.twig).block 2 3 (number_bytes 8 23) }
+    requires leaf { IsFreshNode (arc_value nodes.now.leaf).block 1 0 (stat_body root_attr) }
     ensures goes { Goes (D.state dev.old) (D.state dev.new) }
     ensures cause { HasCause (D.state dev.old) result (D.state dev.new) }
     ensures made { TellsReads (D.state dev.old) → OnOk result (IsFreshImage blocks (full_label label.now) (D.state dev.new).seen) }
     ensures any_moment { IsQuiet (D.state dev.old) → MakesInOrder (D.state dev.old) (D.state dev.new) }
     ensures quiet { TellsCrashes (D.state dev.old) → OnOk result (IsQuiet (D.state dev.new)) }
+    ensures others { OnOk result (AgreesOutside (IsWritten blocks) (D.state dev.old).seen (D.state dev.new).seen) }
+    ensures spares { Spares (IsWritten blocks) (D.state dev.old) (D.state dev.new) }
+    ensures once { OnOk result (TakesCalls (calls_of blocks) (D.state dev.old) (D.state dev.new)) }
 {
     write_rest(dev, blocks, nodes, buffer)?;
     dev.sync()?;
     fill_master(buffer, label);
-    dev.write(MASTER, buffer)?;
+    dev.write(MASTER_BLOCK, buffer)?;
     dev.sync()
 }
 
@@ -136,19 +130,21 @@ fn write_rest<D: Device>(
 ) -> Result<(), Failed>
     requires blocks { blocks ≡ (D.state dev.old).blocks }
     requires lawful { IsLawful blocks }
-    requires twig { HasOneItem (arc_value nodes.now.twig).block 2 3 (number_bytes 8 23) }
-    requires leaf { HasOneItem (arc_value nodes.now.leaf).block 1 0 (stat_body root_attr) }
+    requires twig { IsFreshNode (arc_value nodes.now.twig).block 2 3 (number_bytes 8 23) }
+    requires leaf { IsFreshNode (arc_value nodes.now.leaf).block 1 0 (stat_body root_attr) }
     ensures goes { Goes (D.state dev.old) (D.state dev.new) }
     ensures cause { HasCause (D.state dev.old) result (D.state dev.new) }
     ensures rest { TellsReads (D.state dev.old) → OnOk result (IsFreshBut16 blocks (D.state dev.new).seen) }
-    ensures spares { Spares is_other_than_16 (D.state dev.old) (D.state dev.new) }
+    ensures others { OnOk result (AgreesOutside (IsRest blocks) (D.state dev.old).seen (D.state dev.new).seen) }
+    ensures spares { Spares (IsRest blocks) (D.state dev.old) (D.state dev.new) }
+    ensures once { OnOk result (TakesCalls (bitmap_count blocks + 6) (D.state dev.old) (D.state dev.new)) }
 {
     write_bitmaps(dev, blocks, buffer)?;
     fill_super(buffer, blocks);
-    dev.write(SUPER, buffer)?;
+    dev.write(SUPER_BLOCK, buffer)?;
     write_zeros(dev, buffer)?;
-    dev.write(TWIG, nodes.twig.block())?;
-    dev.write(LEAF, nodes.leaf.block())
+    dev.write(FRESH_TWIG, nodes.twig.block())?;
+    dev.write(FRESH_LEAF, nodes.leaf.block())
 }
 
 // Writes zeros as the journal header, the journal footer and the status block.
@@ -157,12 +153,13 @@ fn write_zeros<D: Device>(dev: &mut D, buffer: &mut Block) -> Result<(), Failed>
     ensures goes { Goes (D.state dev.old) (D.state dev.new) }
     ensures cause { HasCause (D.state dev.old) result (D.state dev.new) }
     ensures zeros { OnOk result ((D.state dev.new).seen ≡ with_zeros (D.state dev.old).seen) }
-    ensures spares { Spares is_other_than_16 (D.state dev.old) (D.state dev.new) }
+    ensures spares { (n : ℕ) → Spares (IsRest n) (D.state dev.old) (D.state dev.new) }
+    ensures once { OnOk result (TakesCalls 3 (D.state dev.old) (D.state dev.new)) }
 {
     fill_zeros(buffer);
-    dev.write(HEADER, buffer)?;
-    dev.write(FOOTER, buffer)?;
-    dev.write(STATUS, buffer)
+    dev.write(HEADER_BLOCK, buffer)?;
+    dev.write(FOOTER_BLOCK, buffer)?;
+    dev.write(STATUS_BLOCK, buffer)
 }
 
 // Makes the block zero.
@@ -180,19 +177,13 @@ fn write_bitmaps<D: Device>(dev: &mut D, blocks: u64, buffer: &mut Block) -> Res
     ensures goes { Goes (D.state dev.old) (D.state dev.new) }
     ensures cause { HasCause (D.state dev.old) result (D.state dev.new) }
     ensures bitmaps { TellsReads (D.state dev.old) → OnOk result (HasBitmaps blocks (bitmap_count blocks) (D.state dev.new).seen) }
-    ensures spares { Spares is_other_than_16 (D.state dev.old) (D.state dev.new) }
+    ensures others { OnOk result (AgreesOutside (IsRest blocks) (D.state dev.old).seen (D.state dev.new).seen) }
+    ensures spares { Spares (IsRest blocks) (D.state dev.old) (D.state dev.new) }
+    ensures once { OnOk result (TakesCalls (bitmap_count blocks) (D.state dev.old) (D.state dev.new)) }
 {
     for n in 0..bitmap_count(blocks) {
         fill_bitmap(buffer, blocks, n);
         dev.write(bitmap_block(n), buffer)?;
     }
     Ok(())
-}
-
-// Where bitmap `n` stands.
-fn bitmap_block(n: u64) -> BlockNo
-    requires { n < 64 }
-    ensures { result.0 ≡ bitmap_block n }
-{
-    BlockNo(if n == 0 { BITMAP } else { n * BITS })
 }

@@ -6,9 +6,12 @@ ghost use Rattle.r4_base.specs.Bytes.{number_bytes};
 ghost use Rattle.r4_base.specs.Node.{fits_level};
 ghost use Rattle.r4_base.specs.Stat.{stat_body};
 ghost use Rattle.r4_base.specs.Volume.{root_attr};
-ghost use Rattle.r4_base.specs.Fresh.{HasOneItem};
+ghost use Rattle.r4_base.specs.Fresh.{IsFreshNode, root_key};
 
-use r4_base::{Attr, Block, BlockNo, Key, Memory, NodeId, Oid};
+use r4_base::{
+    Attr, Block, FRESH_LEAF, FRESH_TWIG, Key, LEAF, Memory, NodeId, POINTER, ROOT_OBJECT, STAT,
+    TWIG,
+};
 use r4_cell::{Cell, least, new_cell, top};
 use r4_meta::write_stat;
 use r4_node40::NodeMut;
@@ -18,16 +21,6 @@ use std::sync::Arc;
 
 /// What nodes and the superblock say of the mkfs that made them.
 pub const MKFS_ID: u32 = 1;
-
-/// Where the root stands.
-pub const TWIG: BlockNo = BlockNo(22);
-
-/// Where the leaf stands.
-pub const LEAF: BlockNo = BlockNo(23);
-
-const STAT_DATA: u16 = 0;
-
-const POINTER: u16 = 3;
 
 /// The attributes of an empty root directory.
 const ROOT: Attr = Attr {
@@ -51,35 +44,35 @@ pub struct Nodes {
 
 /// Makes the two nodes, in memory.
 pub fn fresh_nodes(alloc: Global) -> Result<Nodes, Memory>
-    ensures twig { IfOk result (λ n. HasOneItem (arc_value n.twig).block 2 3 (number_bytes 8 23)) }
-    ensures leaf { IfOk result (λ n. HasOneItem (arc_value n.leaf).block 1 0 (stat_body root_attr)) }
+    ensures twig { IfOk result (λ n. IsFreshNode (arc_value n.twig).block 2 3 (number_bytes 8 23)) }
+    ensures leaf { IfOk result (λ n. IsFreshNode (arc_value n.leaf).block 1 0 (stat_body root_attr)) }
 {
     let mut twig = Block::zeroed(alloc)?;
     fill_twig(&mut twig);
     let mut leaf = Block::zeroed(alloc)?;
     fill_leaf(&mut leaf);
     Ok(Nodes {
-        twig: new_cell(alloc, NodeId(TWIG.0), 2, least(), top(), twig)?,
-        leaf: new_cell(alloc, NodeId(LEAF.0), 1, least(), top(), leaf)?,
+        twig: new_cell(alloc, NodeId(FRESH_TWIG.0), TWIG, least(), top(), twig)?,
+        leaf: new_cell(alloc, NodeId(FRESH_LEAF.0), LEAF, least(), top(), leaf)?,
     })
 }
 
 /// Makes the block the root: a twig that points to the leaf.
 fn fill_twig(block: &mut Block)
-    ensures { HasOneItem block.new 2 3 (number_bytes 8 23) }
+    ensures { IsFreshNode block.new 2 3 (number_bytes 8 23) }
 {
     let mut body = [0; 8];
-    put_pointer(&mut body, LEAF);
-    fill_node(block, 2, POINTER, &body);
+    put_pointer(&mut body, FRESH_LEAF);
+    fill_node(block, TWIG, POINTER, &body);
 }
 
 /// Makes the block the leaf: it has the root directory's stat data.
 fn fill_leaf(block: &mut Block)
-    ensures { HasOneItem block.new 1 0 (stat_body root_attr) }
+    ensures { IsFreshNode block.new 1 0 (stat_body root_attr) }
 {
     let mut body = [0; 44];
     write_stat(&mut body, &ROOT);
-    fill_node(block, 1, STAT_DATA, &body);
+    fill_node(block, LEAF, STAT, &body);
 }
 
 /// Makes the block a node of one item, which has the least key.
@@ -88,9 +81,16 @@ fn fill_node(block: &mut Block, level: u8, plugin: u16, body: &[u8])
     requires plugin { fits_level level plugin ≡ true }
     requires some { 1 ≤ length body.now }
     requires short { length body.now ≤ 4030 }
-    ensures { HasOneItem block.new level plugin body.now }
+    ensures { IsFreshNode block.new level plugin body.now }
 {
     let mut node = NodeMut::format(block, level, MKFS_ID);
-    let _ = node.insert(0, Key::stat(41, 0, Oid(42)), plugin, body.len() as u16);
+    let _ = node.insert(0, root_key(), plugin, body.len() as u16);
     node.body_mut(0).copy_from_slice(body);
+}
+
+/// The key of the root directory's stat data, the least of all.
+fn root_key() -> Key
+    ensures { result ≡ root_key }
+{
+    Key::stat(ROOT_OBJECT.locality, ROOT_OBJECT.ordering, ROOT_OBJECT.oid)
 }

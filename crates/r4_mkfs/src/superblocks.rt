@@ -2,32 +2,20 @@
 
 ghost use Rattle.std.specs.Prelude.{◌≡◌};
 ghost use Rattle.r4_base.specs.Image.{IsLawful};
-ghost use Rattle.r4_base.specs.Bitmap.{bitmap_count};
 ghost use Rattle.r4_base.specs.Layout.{master_block, super_block};
 ghost use Rattle.r4_base.specs.Fresh.{fresh_free, fresh_super};
 ghost use Rattle.r4_mkfs.specs.Mkfs.{IsLabel, full_label};
 
 use crate::nodes::MKFS_ID;
-use r4_base::{Block, Master, Super40};
+use r4_base::{Block, FIRST_OBJECT, FRESH_LEAF, FRESH_TWIG, Master, Super40, TWIG, bitmap_count};
 use r4_layout::{write_master, write_super};
-
-/// For how many blocks a bitmap has bits.
-pub const BITS: u64 = 32_736;
-
-/// How many bitmaps a volume has.
-pub fn bitmap_count(blocks: u64) -> u64
-    requires { IsLawful blocks }
-    ensures { result ≡ bitmap_count blocks }
-{
-    blocks.div_ceil(BITS)
-}
 
 /// How many blocks of a fresh volume are free: all but the fixed ones, the root and the leaf.
 pub fn free_blocks(blocks: u64) -> u64
     requires { IsLawful blocks }
     ensures { result ≡ fresh_free blocks }
 {
-    blocks - (23 + bitmap_count(blocks))
+    blocks - (FRESH_LEAF.0 + bitmap_count(blocks))
 }
 
 /// Makes the block the format superblock of a fresh volume.
@@ -39,12 +27,12 @@ pub fn fill_super(block: &mut Block, blocks: u64)
     let says = Super40 {
         block_count: blocks,
         free_blocks: free_blocks(blocks),
-        root_block: 22,
-        oid: 65_536,
+        root_block: FRESH_TWIG.0,
+        oid: FIRST_OBJECT,
         file_count: 1,
         flushes: 0,
         mkfs_id: MKFS_ID,
-        tree_height: 2,
+        tree_height: u16::from(TWIG),
         formatting_policy: 0,
         flags: 1,
         version: 0,

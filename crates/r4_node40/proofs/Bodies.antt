@@ -171,6 +171,9 @@ span_written b ws n i j f =
       after = λ k gt lt. get-items_of new n k now (omega arith) ∙ ap (λ (x : Item). Some x) (high_item b ws n i j k f gt (omega arith)) ∙ sym (get-items_of b n k is (omega arith));
       head = k'.head;
       room = room_same b new k'.count_is k'.free_is;
+      flags = λ k lt. (k'.headers k (omega arith)).flags;
+      start = k'.start_is;
+      free = λ p ge lt. k'.above p (omega (arith, (edge_stands b n (j + 1) f.laid f.counted (omega (arith, f.within))).high, k'.start_is));
     }
 
 whole_range : (ws : List ℕ) (a e : ℕ) → a ≡ 0 → e ≡ length ws → slice_range ws a e ≡ ws
@@ -202,6 +205,9 @@ body_written b ws n i f =
           ]);
       head = k'.head;
       room = room_same b new k'.count_is k'.free_is;
+      flags = λ k lt. (k'.headers k (omega arith)).flags;
+      start = k'.start_is;
+      free = λ p ge lt. k'.above p (omega (arith, (edge_stands b n (i + 1) f.laid f.counted (omega (arith, f.within))).high, k'.start_is));
     }
 
 pub span_lent : (b ws : List ℕ) (i j : ℕ) → IsLaid b → i ≤ j → j < count_of b → length ws ≡ length (span_at b i j) → WritesSpan b ws i j (written b (offset_at b i) ws)

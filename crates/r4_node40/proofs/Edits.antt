@@ -8,8 +8,8 @@ use Rattle.std.specs.List.{insert}
 use Rattle.r4_base.specs.Bytes.{overwrite}
 use Rattle.r4_base.specs.declared.key.Key.{Key}
 use Rattle.r4_base.proofs.Numbers.{length-overwrite, get_or-overwrite_below, get_or-overwrite_inside, get_or-overwrite_above, length-slice_range, get_or-slice_range, slice_range-same, number_at-same}
-use Rattle.r4_base.specs.Node.{count_of, start_of, free_of, key_at, plugin_at, offset_at, edge_at, item_at, items_of}
-use Rattle.r4_node40.specs.Laid.{IsLaid, SameHeader, SameHead, room_of}
+use Rattle.r4_base.specs.Node.{count_of, start_of, free_of, key_at, plugin_at, offset_at, item_flags_at, edge_at, item_at, items_of}
+use Rattle.r4_node40.specs.Laid.{IsLaid, KeepsFree, SameHeader, SameHead, room_of}
 use Rattle.r4_node40.specs.Edits.{resized}
 use Rattle.r4_node40.specs.Splice.{CanSplice, IsSpliced, IsSettled, ShiftedHeader}
 use Rattle.r4_node40.specs.declared.edit.Splice.{Splice}
@@ -37,6 +37,7 @@ pub record Edited (s : Splice) (b c : List ℕ) (n m : ℕ) : Type 0 where
   pub front : (p : ℕ) → p < 2 → get_or c p 0 ≡ get_or b p 0
   pub low : (p : ℕ) → 8 ≤ p → p < s.from → get_or c p 0 ≡ get_or b p 0
   pub high : (q : ℕ) → s.from ≤ q → q + s.old < start_of b → get_or c (q + s.new) 0 ≡ get_or b (q + s.old) 0
+  pub middle : KeepsFree b c
   pub place : s.come ≡ 1 → offset_at c s.at ≡ s.from
   pub filled : s.come ≡ 1 → 1 ≤ s.new
   pub empty : s.come ≡ 0 → s.new ≡ 0
@@ -76,14 +77,15 @@ edited s b mid c n can is settled sp whole low between high place filled empty =
       before = λ k below.
           let h = same_header c mid k k (λ r small. high (4096 - 38 * (k + 1) + r) (omega arith)) in
           let g = sp.before k (omega arith) in
-          record { key = h.key ∙ g.key; plugin = h.plugin ∙ g.plugin; offset = h.offset ∙ g.offset };
+          record { key = h.key ∙ g.key; plugin = h.plugin ∙ g.plugin; offset = h.offset ∙ g.offset; flags = h.flags ∙ g.flags };
       after = λ k above below.
           let h = same_header c mid (k + s.come) (k + s.come) (λ r small. between (4096 - 38 * (k + s.come + 1) + r) (omega arith) (omega arith)) in
           let g = sp.after k above (omega arith) in
-          record { key = h.key ∙ g.key; plugin = h.plugin ∙ g.plugin; offset = rw h.offset g.offset };
+          record { key = h.key ∙ g.key; plugin = h.plugin ∙ g.plugin; offset = rw h.offset g.offset; flags = h.flags ∙ g.flags };
       front = λ p lt. low p (omega arith) ∙ sp.front p lt;
       low = λ p ge lt. low p lt ∙ sp.low p ge (omega arith);
       high = λ q ge lt. between (q + s.new) (omega arith) (omega arith) ∙ sp.high q ge lt;
+      middle = λ p ge lt. between p (omega arith) (omega arith) ∙ sp.middle p (omega arith) (omega arith);
       place = place;
       filled = filled;
       empty = empty;
@@ -363,6 +365,7 @@ pub record Filled (mid h c : List ℕ) (i from len : ℕ) (key : Key) (plugin : 
   pub key_is : key_at h i ≡ key
   pub offset_is : offset_at h i ≡ from
   pub plugin_is : plugin_at h i ≡ plugin
+  pub flags_is : item_flags_at h i ≡ 0
   pub zeros : c ≡ overwrite from (replicate len 0) h
 
 -- the bytes before and behind what was written
@@ -432,6 +435,13 @@ new_item b mid h c n i from len plugin key can is sp f e =
     get_or-slice_range c (offset_at c i) (edge_at (n + 1 - 0) c (i + 1)) q (omega arith) ∙ o.body (offset_at c i + q) (omega arith) (omega arith) ∙ sym (get_or-replicate len q 0 0 (omega arith))) in
     rw (says.key ∙ f.key_is, says.plugin ∙ f.plugin_is, body) refl
 
+-- its flags are zero
+pub new_flags : (b mid h c : List ℕ) (n i from len plugin : ℕ) (key : Key) → CanSplice (insertion i from len) b → n ≡ count_of b → IsSpliced (insertion i from len) b mid → Filled mid h c i from len key plugin → item_flags_at c i ≡ 0
+new_flags b mid h c n i from len plugin key can is sp f =
+    let room = insert_room b mid n i from len can is sp in
+    let o = outside mid h c i from len plugin key sp.whole room f in
+    (same_header c h i i (λ r small. o.header (4096 - 38 * (i + 1) + r) (omega arith))).flags ∙ f.flags_is
+
 -- ---- an item gets a body of another length
 
 abbrev pub resizing : (i from to len : ℕ) → Splice
@@ -489,7 +499,7 @@ resized_header b mid c i from to len sp g =
     let fits = g.fits in
     let h = same_header c mid i i (λ r small. g.high (4096 - 38 * (i + 1) + r) (omega arith)) in
     let k = sp.before i (omega arith) in
-    record { key = h.key ∙ k.key; plugin = h.plugin ∙ k.plugin; offset = h.offset ∙ k.offset }
+    record { key = h.key ∙ k.key; plugin = h.plugin ∙ k.plugin; offset = h.offset ∙ k.offset; flags = h.flags ∙ k.flags }
 
 pub resized_edit : (b mid c : List ℕ) (n i from to len : ℕ) → CanSplice (resizing i from to len) b → n ≡ count_of b → i < n → 1 ≤ len → from ≡ offset_at b i → IsSpliced (resizing i from to len) b mid → Grown b mid c i from to len → Edited (resizing i from to len) b c n (n + 1 - 1)
 resized_edit b mid c n i from to len can is lt some here sp g =
@@ -529,3 +539,18 @@ resized_item b mid c n i from to len can is lt order here there sp g e =
       | inr above ↦ g.zeros (offset_at c i + q) (omega arith) (omega arith) ∙ sym (get_or-resized_high old len q (omega arith) above)
     ]) in
     rw (h.key, h.plugin, body) refl
+
+-- and all flags are those that were there
+pub resized_flags : (b mid c : List ℕ) (n i from to len : ℕ) → n ≡ count_of b → IsSpliced (resizing i from to len) b mid → Grown b mid c i from to len → Edited (resizing i from to len) b c n (n + 1 - 1)
+    → (k : ℕ) → k < count_of b → item_flags_at c k ≡ item_flags_at b k
+resized_flags b mid c n i from to len is sp g e k lt = elim (cases_eq k i) [
+  | inl here ↦ rw here (resized_header b mid c i from to len sp g).flags
+  | inr other ↦
+      elim (cases_lt k i) [
+        | inl below ↦ (e.before k below).flags
+        | inr above ↦
+            let j : ℕ = k - 1 in
+            let back : j + 1 ≡ k = omega arith in
+            ap (item_flags_at c) (sym back) ∙ (e.after j (omega arith) (omega arith)).flags ∙ ap (item_flags_at b) back
+      ]
+]

@@ -1,10 +1,10 @@
 -- A block that was made a node without items.
-use Rattle.std.proofs.Common.{◌≡◌, ℕ, zero, suc, ◌+◌, ◌^◌, ◌<◌, ◌≤◌, List, [], length, get_or, set, replicate, refl, ◌∙◌, arith}
+use Rattle.std.proofs.Common.{◌≡◌, ◌≢◌, sym, ℕ, zero, suc, ◌+◌, ◌^◌, ◌<◌, ◌≤◌, List, [], length, get_or, set, replicate, refl, ◌∙◌, arith}
 use Rattle.std.proofs.lemmas.List.{same_lists, length-set, get_or-set_same, get_or-set_other, length-replicate, get_or-replicate}
 use Rattle.std.proofs.lemmas.Bool.{eq-eqb}
 use Rattle.r4_base.specs.Bytes.{number_at, number_bytes, overwrite}
 use Rattle.r4_base.specs.Node.{count_of, start_of, free_of, items_of}
-use Rattle.r4_base.proofs.Numbers.{length-overwrite, length-number_bytes, number_at-same, number_at-overwrite, number_at-overwrite_after}
+use Rattle.r4_base.proofs.Numbers.{length-overwrite, length-number_bytes, number_at-same, number_at-overwrite, number_at-overwrite_after, get_or-overwrite_above}
 use Rattle.r4_node40.proofs.Laid.{length-items_of}
 use Rattle.r4_node40.specs.Laid.{IsFresh, fresh_node, room_of}
 
@@ -16,6 +16,12 @@ number_at-zeros (suc n) at m fit =
     let here : get_or zeros at 0 ≡ 0 = get_or-replicate m at 0 0 (omega arith) in
     let rest = number_at-zeros n (suc at) m (omega arith) in
     rw (here, rest) refl
+
+-- a list of zeros has nothing else, nor behind its end
+get_zeros : (m p : ℕ) → let zeros : List ℕ = replicate m 0 in get_or zeros p 0 ≡ 0
+get_zeros zero p = refl
+get_zeros (suc m) zero = refl
+get_zeros (suc m) (suc p) = get_zeros m p
 
 pub fresh : (level mkfs_id : ℕ) → 1 ≤ level → level ≤ 8 → mkfs_id < 2 ^ 32 → IsFresh (fresh_node level mkfs_id) level mkfs_id
 unfolding fresh_node room_of
@@ -45,6 +51,10 @@ fresh level mkfs_id low high small =
     let count : count_of b5 ≡ 0 = low_field 2 2 (omega arith) in
     let free : free_of b5 ≡ 4068 = s5 2 4 (omega arith) ∙ s4 2 4 (omega arith) ∙ s3 2 4 (omega arith) ∙ s2 2 4 (omega arith) ∙ number_at-overwrite 2 4 4068 b0 (omega arith) (omega arith) in
     let start : start_of b5 ≡ 28 = s5 2 6 (omega arith) ∙ s4 2 6 (omega arith) ∙ s3 2 6 (omega arith) ∙ number_at-overwrite 2 6 28 b1 (omega arith) (omega arith) in
+    let still = λ (p : ℕ) (ge : 16 ≤ p) (other : p ≢ 26).
+    get_or-set_other b4 26 p level 0 other ∙ get_or-overwrite_above 12 (number_bytes 4 mkfs_id) b3 p 0 (omega arith) (omega arith) ∙ get_or-overwrite_above 8 (number_bytes 4 0x52344653) b2 p 0 (omega arith) (omega arith)
+    ∙ get_or-overwrite_above 6 (number_bytes 2 28) b1 p 0 (omega arith) (omega arith) ∙ get_or-overwrite_above 4 (number_bytes 2 4068) b0 p 0 (omega arith) (omega arith) ∙ get_zeros 4096 p in
+    let zero_field = λ (n i : ℕ) (ge : 16 ≤ i) (le : i + n ≤ 26). number_at-same n i b5 b0 (λ k lo hi. still k (omega arith) (λ e. omega (arith, e)) ∙ sym (get_zeros 4096 k)) ∙ number_at-zeros n i 4096 (omega arith) in
     let at_level : get_or b5 26 0 ≡ level = get_or-set_same b4 26 level 0 (omega arith) in
     record {
       laid = record { whole = w5; low = omega arith; sum = omega arith; placed = λ k lt. absurd (omega arith) };
@@ -58,4 +68,8 @@ fresh level mkfs_id low high small =
       room = let t = eq-eqb (count_of b5) 0 count in rw t refl;
       level_is = at_level;
       mkfs_id_is = s5 4 12 (omega arith) ∙ number_at-overwrite 4 12 mkfs_id b3 (omega arith) (omega (arith, small));
+      flush_id_is = zero_field 8 16 (omega arith) (omega arith);
+      flags_is = zero_field 2 24 (omega arith) (omega arith);
+      pad_is = still 27 (omega arith) (λ e. omega (arith, e));
+      blank = λ p ge. still p (omega arith) (λ e. omega (arith, e));
     }

@@ -1,7 +1,7 @@
 -- Headers with the same bytes say the same.
 use Rattle.std.proofs.Common.{◌≡◌, ℕ, ◌+◌, ◌<◌, ◌≤◌, List, get_or, refl, sym, ap, ◌∙◌, arith}
 use Rattle.r4_base.specs.Bytes.{number_at}
-use Rattle.r4_base.specs.Node.{header, key_at, plugin_at, offset_at, count_of, free_of}
+use Rattle.r4_base.specs.Node.{header, key_at, plugin_at, offset_at, item_flags_at, count_of, free_of}
 use Rattle.r4_base.proofs.Numbers.{number_at-moved, number_at-same}
 use Rattle.r4_node40.specs.Laid.{SameHeader, SameHead, room_of}
 
@@ -16,7 +16,7 @@ first_same : (n : ℕ) (xs ys : List ℕ) (h g : ℕ) → n ≤ 38 → ((r : ℕ
 first_same n xs ys h g fit same = number_at-moved n h g xs ys (λ r lt. same r (omega arith))
 
 pub same_header : (xs ys : List ℕ) (k m : ℕ) → ((r : ℕ) → r < 38 → get_or xs (header k + r) 0 ≡ get_or ys (header m + r) 0) → SameHeader xs ys k m
-unfolding key_at plugin_at offset_at
+unfolding key_at plugin_at offset_at item_flags_at
 same_header xs ys k m same =
     let a = first_same 8 xs ys (header k) (header m) (omega arith) same in
     let b = field_same 8 8 xs ys (header k) (header m) (omega arith) same in
@@ -26,6 +26,7 @@ same_header xs ys k m same =
       key = rw (a, b, c, d) refl;
       plugin = field_same 2 36 xs ys (header k) (header m) (omega arith) same;
       offset = field_same 2 32 xs ys (header k) (header m) (omega arith) same;
+      flags = field_same 2 34 xs ys (header k) (header m) (omega arith) same;
     }
 
 -- the head, by its bytes before the count and behind the start of free space

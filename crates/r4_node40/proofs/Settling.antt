@@ -36,4 +36,6 @@ anew b b1 c laid none e1 e2 =
       items = same_lists (items_of c) (items_of b) (omega arith) (λ k d lt. absurd (omega arith));
       head = same_head b c (λ p lt. low p (omega arith)) (λ p ge lt. high p ge);
       room = room_of_none c (count ∙ none) ∙ sym (room_of_none b none);
+      headers = λ k lt. absurd (omega arith);
+      behind = λ p ge. high p ge;
     }

@@ -3,7 +3,7 @@ use Rattle.std.proofs.Common.{◌≡◌, ℕ, ◌+◌, ◌-◌, ◌*◌, ◌^◌
 use Rattle.std.proofs.lemmas.Bool.{cases_eq, cases_lt}
 use Rattle.std.specs.Prelude.{slice_range}
 use Rattle.r4_base.specs.Bytes.{number_at, number_bytes, overwrite}
-use Rattle.r4_base.specs.Node.{count_of, start_of, free_of, key_at, plugin_at, offset_at, edge_at}
+use Rattle.r4_base.specs.Node.{count_of, start_of, free_of, key_at, plugin_at, offset_at, item_flags_at, edge_at}
 use Rattle.r4_base.proofs.Numbers.{length-overwrite, length-number_bytes, length-slice_range, get_or-slice_range, get_or-overwrite_below, get_or-overwrite_inside, get_or-overwrite_above, number_at-overwrite, number_at-overwrite_before, number_at-overwrite_after}
 use Rattle.r4_node40.specs.Laid.{SameHeader}
 use Rattle.r4_node40.specs.Splice.{CanSplice, IsSpliced, ShiftedHeader, ShiftsOffsets}
@@ -18,6 +18,7 @@ pub record OffsetWritten (i v : ℕ) (old new : List ℕ) : Type 0 where
   pub elsewhere : (k : ℕ) → (k ≡ i → ⊥) → 38 * (k + 1) ≤ 4096 → offset_at new k ≡ offset_at old k
   pub keys : (k : ℕ) → 38 * (k + 1) ≤ 4096 → key_at new k ≡ key_at old k
   pub plugins : (k : ℕ) → 38 * (k + 1) ≤ 4096 → plugin_at new k ≡ plugin_at old k
+  pub flags : (k : ℕ) → 38 * (k + 1) ≤ 4096 → item_flags_at new k ≡ item_flags_at old k
   pub bytes : (p : ℕ) → p + 38 * (i + 1) < 4096 → get_or new p 0 ≡ get_or old p 0
 
 apart : (n q i k : ℕ) (old ys : List ℕ) → length ys ≡ 2 → length old ≡ 4096 → 38 * (i + 1) ≤ 4096 → 38 * (k + 1) ≤ 4096 → q + n ≤ 38 → (k ≡ i → (q + n ≤ 32) ⊎ (34 ≤ q))
@@ -38,7 +39,7 @@ apart n q i k old ys two whole room room' fit off =
     ]
 
 pub offset_written : (i v : ℕ) (old new : List ℕ) → length old ≡ 4096 → 38 * (i + 1) ≤ 4096 → v < 2 ^ 16 → new ≡ overwrite (4096 - 38 * (i + 1) + 32) (number_bytes 2 v) old → OffsetWritten i v old new
-unfolding key_at plugin_at offset_at
+unfolding key_at plugin_at offset_at item_flags_at
 offset_written i v old new whole room small e =
     let two : length (number_bytes 2 v) ≡ 2 = length-number_bytes 2 v in
     let within : 4096 - 38 * (i + 1) + 32 + length (number_bytes 2 v) ≤ length old = omega arith in
@@ -54,6 +55,7 @@ offset_written i v old new whole room small e =
           let d = apart 8 24 i k old (number_bytes 2 v) two whole room r (omega arith) (λ _. inl (omega arith)) in
           rw (e, a, b, c, d) refl;
       plugins = λ k r. rw e (apart 2 36 i k old (number_bytes 2 v) two whole room r (omega arith) (λ _. inr (omega arith)));
+      flags = λ k r. rw e (apart 2 34 i k old (number_bytes 2 v) two whole room r (omega arith) (λ _. inr (omega arith)));
       bytes = λ p lt. rw e (get_or-overwrite_below (4096 - 38 * (i + 1) + 32) (number_bytes 2 v) old p 0 within (omega arith));
     }
 
@@ -66,7 +68,7 @@ pub record Shifted (first count old new j : ℕ) (b c : List ℕ) : Type 0 where
   pub bytes : (p : ℕ) → p + 38 * count < 4096 → get_or c p 0 ≡ get_or b p 0
 
 unmoved : (b : List ℕ) (k : ℕ) → SameHeader b b k k
-unmoved b k = record { key = refl; plugin = refl; offset = refl }
+unmoved b k = record { key = refl; plugin = refl; offset = refl; flags = refl }
 
 pub shifted_none : (first count old new : ℕ) (b : List ℕ) → Shifted first count old new first b b
 shifted_none first count old new b = record {
@@ -83,7 +85,7 @@ shifted_more first count old new j v b c d so_far le lt enough small room whole 
     let w = offset_written j (v + new - old) c d whole (omega arith) (omega arith) e in
     let here = w.here in
     let still = λ (k : ℕ) (h : SameHeader c b k k) (ne : k ≡ j → ⊥) (within : k < count).
-    let r : SameHeader d b k k = record { key = w.keys k (omega arith) ∙ h.key; plugin = w.plugins k (omega arith) ∙ h.plugin; offset = w.elsewhere k ne (omega arith) ∙ h.offset } in
+    let r : SameHeader d b k k = record { key = w.keys k (omega arith) ∙ h.key; plugin = w.plugins k (omega arith) ∙ h.plugin; offset = w.elsewhere k ne (omega arith) ∙ h.offset; flags = w.flags k (omega arith) ∙ h.flags } in
     r in
     record {
       before = λ k below within. still k (so_far.before k below within) (λ x. omega (arith, x)) within;
@@ -92,10 +94,10 @@ shifted_more first count old new j v b c d so_far le lt enough small room whole 
             let h = so_far.todo k (omega arith) within in
             let here' : offset_at d k ≡ v + new - old = ap (offset_at d) same ∙ here in
             let was : offset_at b k ≡ offset_at b j = ap (offset_at b) same in
-            record { key = w.keys k (omega arith) ∙ h.key; plugin = w.plugins k (omega arith) ∙ h.plugin; offset = omega arith }
+            record { key = w.keys k (omega arith) ∙ h.key; plugin = w.plugins k (omega arith) ∙ h.plugin; offset = omega arith; flags = w.flags k (omega arith) ∙ h.flags }
         | inr other ↦
             let h = so_far.done k from (omega arith) within in
-            record { key = w.keys k (omega arith) ∙ h.key; plugin = w.plugins k (omega arith) ∙ h.plugin; offset = rw (w.elsewhere k other (omega arith)) h.offset }
+            record { key = w.keys k (omega arith) ∙ h.key; plugin = w.plugins k (omega arith) ∙ h.plugin; offset = rw (w.elsewhere k other (omega arith)) h.offset; flags = w.flags k (omega arith) ∙ h.flags }
       ];
       todo = λ k above within. still k (so_far.todo k (omega arith) within) (λ x. omega (arith, x)) within;
       bytes = λ p below. w.bytes p (omega arith) ∙ so_far.bytes p below;
@@ -112,6 +114,7 @@ pub record Moved (b c : List ℕ) (n at gone come from old new : ℕ) : Type 0 w
   pub shifted : (k : ℕ) → at ≤ k → k + gone < n → SameHeader c b (k + come) (k + gone)
   pub low : (p : ℕ) → p < from + new → get_or c p 0 ≡ get_or b p 0
   pub high : (q : ℕ) → from ≤ q → q + old < start_of b → get_or c (q + new) 0 ≡ get_or b (q + old) 0
+  pub middle : (p : ℕ) → start_of b + new ≤ p + old → p + 38 * n + 38 * come < 4096 + 38 * gone → get_or c p 0 ≡ get_or b p 0
 
 pub moved : (b b1 b2 : List ℕ) (n m at gone come from old new start : ℕ) → length b ≡ 4096 → start ≡ start_of b → m + gone ≡ n + come → at + gone ≤ n → from + old ≤ start → start + 38 * n ≤ 4096
     → start + new + 38 * m ≤ 4096 + old → start + new + 38 * n ≤ 4096 + old
@@ -143,6 +146,7 @@ moved b b1 b2 n m at gone come from old new start whole is count within inside r
           second_mid (4096 - 38 * (k + come + 1) + r) (4096 - 38 * (k + gone + 1) + r) (omega arith) (omega arith) (omega arith) ∙ first_high (4096 - 38 * (k + gone + 1) + r) (omega arith));
       low = λ p h. second_low p (omega arith) ∙ first_low p h;
       high = λ q ge h. second_low (q + new) (omega arith) ∙ first_mid q ge (omega arith);
+      middle = λ p ge h. second_low p (omega arith) ∙ first_high p (omega arith);
     }
 
 -- ---- the numbers of the header
@@ -246,13 +250,14 @@ spliced s b b2 b3 b4 n m free start can is count free_is start_is mv sh h =
           let x = headers k (omega arith) in
           let y = sh.before k below (omega arith) in
           let z = mv.kept k below in
-          record { key = x.key ∙ y.key ∙ z.key; plugin = x.plugin ∙ y.plugin ∙ z.plugin; offset = x.offset ∙ y.offset ∙ z.offset };
+          record { key = x.key ∙ y.key ∙ z.key; plugin = x.plugin ∙ y.plugin ∙ z.plugin; offset = x.offset ∙ y.offset ∙ z.offset; flags = x.flags ∙ y.flags ∙ z.flags };
       after = λ k above below.
           let x = headers (k + s.come) (omega arith) in
           let y = sh.after (k + s.come) (omega arith) (omega arith) in
           let z = mv.shifted k above (omega arith) in
-          record { key = x.key ∙ y.key ∙ z.key; plugin = x.plugin ∙ y.plugin ∙ z.plugin; offset = rw (x.offset, y.offset, z.offset) refl };
+          record { key = x.key ∙ y.key ∙ z.key; plugin = x.plugin ∙ y.plugin ∙ z.plugin; offset = rw (x.offset, y.offset, z.offset) refl; flags = x.flags ∙ y.flags ∙ z.flags };
       front = λ p lt. h.front p lt ∙ sh.bytes p (omega arith) ∙ mv.low p (omega arith);
       low = λ p ge below. h.bytes p ge ∙ sh.bytes p (omega arith) ∙ mv.low p below;
       high = λ q ge below. h.bytes (q + s.new) (omega arith) ∙ sh.bytes (q + s.new) (omega arith) ∙ mv.high q ge below;
+      middle = λ p ge below. h.bytes p (omega arith) ∙ sh.bytes p (omega arith) ∙ mv.middle p (omega arith) (omega arith);
     }

@@ -5,7 +5,7 @@ use Rattle.r4_base.specs.Bytes.{number_at, number_bytes, overwrite, fields_bytes
 use Rattle.r4_base.proofs.Numbers.{length-overwrite, length-number_bytes, length-fields_bytes, fields_read}
 use Rattle.r4_base.specs.Key.{IsKey}
 use Rattle.r4_base.specs.declared.key.Key.{Key}
-use Rattle.r4_base.specs.Node.{key_at, plugin_at, offset_at}
+use Rattle.r4_base.specs.Node.{key_at, plugin_at, offset_at, item_flags_at}
 use Rattle.r4_node40.specs.Edits.{header_fields}
 
 same_place : (at k : ℕ) (ys zs xs : List ℕ) → at + length ys + length zs ≤ length xs → get_or (overwrite (at + length ys) zs (overwrite at ys xs)) k 0 ≡ get_or (overwrite at (ys ++ zs) xs) k 0
@@ -63,9 +63,10 @@ pub record HeaderSays (b : List ℕ) (i : ℕ) (k : Key) (offset plugin : ℕ) :
   pub key : key_at b i ≡ k
   pub offset_is : offset_at b i ≡ offset
   pub plugin_is : plugin_at b i ≡ plugin
+  pub flags_is : item_flags_at b i ≡ 0
 
 pub header_says : (k : Key) (i offset plugin : ℕ) (b c : List ℕ) → IsKey k → offset < 2 ^ 16 → plugin < 2 ^ 16 → length b ≡ 4096 → 38 * (i + 1) ≤ 4096 → c ≡ overwrite (4096 - 38 * (i + 1)) (fields_bytes (header_fields k offset plugin)) b → HeaderSays c i k offset plugin
-unfolding overwrite key_at offset_at plugin_at
+unfolding overwrite key_at offset_at plugin_at item_flags_at
 header_says k i offset plugin b c good o p whole fit e =
     let at : ℕ = 4096 - 38 * (i + 1) in
     let fs = header_fields k offset plugin in
@@ -78,9 +79,11 @@ header_says k i offset plugin b c good o p whole fit e =
     let p2 : at + 8 + 8 ≡ at + 16 = omega arith in
     let p3 : at + 8 + 8 + 8 ≡ at + 24 = omega arith in
     let p4 : at + 8 + 8 + 8 + 8 ≡ at + 32 = omega arith in
+    let p5 : at + 8 + 8 + 8 + 8 + 2 ≡ at + 34 = omega arith in
     let p6 : at + 8 + 8 + 8 + 8 + 2 + 2 ≡ at + 36 = omega arith in
     record {
       key = key_is k _ _ _ _ good.four f.0 f.1.0 (ap (λ (x : ℕ). number_at 8 x c) (sym p2) ∙ f.1.1.0) (ap (λ (x : ℕ). number_at 8 x c) (sym p3) ∙ f.1.1.1.0);
       offset_is = ap (λ (x : ℕ). number_at 2 x c) (sym p4) ∙ f.1.1.1.1.0;
+      flags_is = ap (λ (x : ℕ). number_at 2 x c) (sym p5) ∙ f.1.1.1.1.1.0;
       plugin_is = ap (λ (x : ℕ). number_at 2 x c) (sym p6) ∙ f.1.1.1.1.1.1.0;
     }

@@ -1,7 +1,8 @@
 -- How a block lays out its items, whatever their keys and plugins are, and what an edit leaves of its head.
-use Rattle.std.specs.Prelude.{◌≡◌, ℕ, ◌+◌, ◌-◌, ◌*◌, ◌<◌, ◌≤◌, List, [], ◌∷◌, length, replicate, slice_get, slice_range, slice_set, Some, ◌==◌, if◌then◌else◌}
+use Rattle.std.specs.Prelude.{◌≡◌, ℕ, ◌+◌, ◌-◌, ◌*◌, ◌<◌, ◌≤◌, List, [], ◌∷◌, length, replicate, slice_get, slice_index, slice_range, slice_set, Some, ◌==◌, if◌then◌else◌}
 use Rattle.r4_base.specs.Bytes.{put_all}
-use Rattle.r4_base.specs.Node.{PluginsFit, KeysRise, plugin_of, count_of, start_of, free_of, magic_of, mkfs_id_of, flush_id_of, flags_of, level_of, pad_of, key_at, plugin_at, offset_at, end_at, items_of}
+use Rattle.r4_base.specs.Node.{PluginsFit, KeysRise, plugin_of, count_of, start_of, free_of, magic_of, mkfs_id_of, flush_id_of, flags_of, level_of, pad_of, key_at, plugin_at, offset_at, item_flags_at, end_at, items_of}
+use Rattle.r4_base.specs.declared.limits.TheConstants.{ITEM_HEADER, NODE_HEAD}
 
 -- The place of the body of item i.
 pub record IsPlaced (b : List ℕ) (i : ℕ) : Type 0 where
@@ -56,12 +57,22 @@ pub record IsFresh (b : List ℕ) (level mkfs_id : ℕ) : Type 0 where
   pub room : room_of b ≡ 4068
   pub level_is : level_of b ≡ level
   pub mkfs_id_is : mkfs_id_of b ≡ mkfs_id
+  -- all else is zero
+  pub flush_id_is : flush_id_of b ≡ 0
+  pub flags_is : flags_of b ≡ 0
+  pub pad_is : pad_of b ≡ 0
+  pub blank : (p : ℕ) → NODE_HEAD ≤ p → slice_index b p ≡ 0
 
 -- Item header k of one block is header m of another.
 pub record SameHeader (xs ys : List ℕ) (k m : ℕ) : Type 0 where
   pub key : key_at xs k ≡ key_at ys m
   pub plugin : plugin_at xs k ≡ plugin_at ys m
   pub offset : offset_at xs k ≡ offset_at ys m
+  pub flags : item_flags_at xs k ≡ item_flags_at ys m
+
+-- The bytes of free space below the item headers are what they were.
+abbrev pub KeepsFree : (old new : List ℕ) → Type 0
+KeepsFree old new = (p : ℕ) → start_of new ≤ p → p + ITEM_HEADER * count_of new < 4096 → slice_index new p ≡ slice_index old p
 
 -- the bytes from the first of body i to the last of body j
 abbrev pub span_at : List ℕ → (i j : ℕ) → List ℕ
@@ -74,6 +85,9 @@ pub record WritesBody (b ws : List ℕ) (i : ℕ) (new : List ℕ) : Type 0 wher
   pub items : items_of new ≡ slice_set (items_of b) i (record { key = key_at b i; plugin = plugin_at b i; body = ws })
   pub head : SameHead b new
   pub room : room_of new ≡ room_of b
+  pub flags : (k : ℕ) → k < count_of b → item_flags_at new k ≡ item_flags_at b k
+  pub start : start_of new ≡ start_of b
+  pub free : KeepsFree b new
 
 -- What a block is after the bodies of the items from i to j were written, as one.
 pub record WritesSpan (b ws : List ℕ) (i j : ℕ) (new : List ℕ) : Type 0 where
@@ -85,3 +99,6 @@ pub record WritesSpan (b ws : List ℕ) (i j : ℕ) (new : List ℕ) : Type 0 wh
   pub after : (k : ℕ) → j < k → k < count_of b → slice_get (items_of new) k ≡ slice_get (items_of b) k
   pub head : SameHead b new
   pub room : room_of new ≡ room_of b
+  pub flags : (k : ℕ) → k < count_of b → item_flags_at new k ≡ item_flags_at b k
+  pub start : start_of new ≡ start_of b
+  pub free : KeepsFree b new

@@ -1,7 +1,7 @@
 -- What an edit that puts items in the place of others leaves of the rest of a block.
 use Rattle.std.specs.Prelude.{◌≡◌, ℕ, ◌+◌, ◌*◌, ◌<◌, ◌≤◌, List, length, slice_index}
-use Rattle.r4_base.specs.Node.{count_of, start_of, free_of, key_at, plugin_at, offset_at, edge_at, items_of}
-use Rattle.r4_node40.specs.Laid.{IsLaid, SameHeader, SameHead, room_of}
+use Rattle.r4_base.specs.Node.{count_of, start_of, free_of, key_at, plugin_at, offset_at, item_flags_at, edge_at, items_of}
+use Rattle.r4_node40.specs.Laid.{IsLaid, KeepsFree, SameHeader, SameHead, room_of}
 use Rattle.r4_node40.specs.declared.edit.Splice.{Splice}
 
 -- The items and bytes that go stand in the block, and there is room for those that come.
@@ -20,6 +20,7 @@ pub record ShiftedHeader (old new : ℕ) (xs ys : List ℕ) (k m : ℕ) : Type 0
   pub key : key_at xs k ≡ key_at ys m
   pub plugin : plugin_at xs k ≡ plugin_at ys m
   pub offset : offset_at xs k + old ≡ offset_at ys m + new
+  pub flags : item_flags_at xs k ≡ item_flags_at ys m
 
 -- The first count item headers but for their offsets, which are shifted from `first` on, and all bytes below them.
 pub record ShiftsOffsets (first count old new : ℕ) (b c : List ℕ) : Type 0 where
@@ -38,6 +39,7 @@ pub record IsSpliced (s : Splice) (b c : List ℕ) : Type 0 where
   pub front : (p : ℕ) → p < 2 → slice_index c p ≡ slice_index b p
   pub low : (p : ℕ) → 8 ≤ p → p < s.from + s.new → slice_index c p ≡ slice_index b p
   pub high : (q : ℕ) → s.from ≤ q → q + s.old < start_of b → slice_index c (q + s.new) ≡ slice_index b (q + s.old)
+  pub middle : KeepsFree b c
 
 -- The bodies begin at 28, also where there is none.
 abbrev pub IsSettled : List ℕ → Type 0
@@ -51,3 +53,5 @@ pub record Settles (b c : List ℕ) : Type 0 where
   pub items : items_of c ≡ items_of b
   pub head : SameHead b c
   pub room : room_of c ≡ room_of b
+  pub headers : (k : ℕ) → k < count_of b → SameHeader c b k k
+  pub behind : (p : ℕ) → 8 ≤ p → slice_index c p ≡ slice_index b p

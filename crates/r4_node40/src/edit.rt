@@ -2,7 +2,7 @@
 
 ghost use Rattle.std.specs.Prelude.{◌≡◌, ◌↔◌, ℕ, ◌+◌, ◌-◌, ◌*◌, ◌^◌, ◌<◌, ◌≤◌, length, replicate, IsOk, IfErr, OnOk, OnErr};
 ghost use Rattle.r4_base.specs.Bytes.{fields_bytes, overwrite};
-ghost use Rattle.r4_base.specs.Node.{count_of, header, key_at, offset_at, plugin_at};
+ghost use Rattle.r4_base.specs.Node.{count_of, header, item_flags_at, key_at, offset_at, plugin_at};
 ghost use Rattle.r4_node40.specs.Laid.{fresh_node, room_of, IsLaid};
 ghost use Rattle.r4_node40.specs.Edits.{RemovesItem, InsertsItem, ResizesItem, header_fields, growth};
 ghost use Rattle.r4_node40.specs.Splice.{ShiftsOffsets, Settles};
@@ -187,6 +187,7 @@ fn put_header(b: &mut [u8], i: u16, key: &Key, offset: u16, plugin: u16)
     ensures key { key_at b.new i ≡ key.now }
     ensures offset { offset_at b.new i ≡ offset }
     ensures plugin { plugin_at b.new i ≡ plugin }
+    ensures flags { item_flags_at b.new i ≡ 0 }
 {
     let at = header_of(i);
     put64(b, at, key.el[0]);

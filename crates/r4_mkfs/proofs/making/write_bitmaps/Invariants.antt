@@ -1,5 +1,6 @@
+use Rattle.r4_base.specs.Image.{AgreesOutside}
 use Rattle.r4_outside.specs.Device.{Goes, Spares, TellsReads}
-use Rattle.r4_mkfs.specs.Mkfs.{HasBitmaps, is_other_than_16}
+use Rattle.r4_mkfs.specs.Mkfs.{HasBitmaps, IsRest, TakesCalls}
 use Rattle.r4_mkfs.proofs.making.write_bitmaps.Given as goal
 
 abbrev pub invariant-loop-n : goal.invariant-loop-n
@@ -9,5 +10,7 @@ invariant-loop-n g l =
     record {
       goes : Goes old now;
       bitmaps : TellsReads old → HasBitmaps l.blocks l.n now.seen;
-      spares : Spares is_other_than_16 old now;
+      others : AgreesOutside (IsRest l.blocks) old.seen now.seen;
+      spares : Spares (IsRest l.blocks) old now;
+      once : TakesCalls l.n old now;
     }

@@ -13,7 +13,7 @@ stands level lo hi b el eh sound =
     (subst (λ (x : ℕ). cell_fault true (2 ^ 64) level least x b ≡ None) (sym eh) (cell_still false 64 (2 ^ 64) level least top b (omega arith) sound))
 
 pub new_cell-requires : goal.new_cell-requires
-new_cell-requires c = stands 2 _ _ _ c.least.ensures c.top.ensures (twig_sound 64 _ (omega arith) c.fill_twig.ensures)
+new_cell-requires c = stands 2 _ _ _ c.least.ensures c.top.ensures (twig_sound 64 _ (omega arith) c.fill_twig.ensures.item)
 
 pub new_cell-requires-2 : goal.new_cell-requires-2
-new_cell-requires-2 c = stands 1 _ _ _ c.least-2.ensures c.top-2.ensures (leaf_sound 64 _ c.fill_leaf.ensures)
+new_cell-requires-2 c = stands 1 _ _ _ c.least-2.ensures c.top-2.ensures (leaf_sound 64 _ c.fill_leaf.ensures.item)

@@ -1,5 +1,5 @@
-use Rattle.std.proofs.Common.{◌≡◌, ℕ, ◌+◌, ◌-◌, refl, ap, arith}
-use Rattle.r4_base.specs.Node.{count_of, edge_at}
+use Rattle.std.proofs.Common.{◌≡◌, ℕ, ◌+◌, ◌-◌, refl, sym, ap, ◌∙◌, arith}
+use Rattle.r4_base.specs.Node.{count_of, edge_at, item_flags_at}
 use Rattle.r4_node40.proofs.Edits.{removal, can_remove, removed, edited_laid, edited_head, edited_room, edited_remove}
 use Rattle.r4_node40.proofs.edit.remove_item.Goals as goal
 
@@ -17,4 +17,6 @@ returns c =
       items = edited_remove (removal c.args.i c.place_of-from.result.0 c.place_of-from.result.1) c.args.b.now c.apply.new.b c.get16-count.result (c.get16-count.result + 0 - 1) e refl refl;
       head = edited_head (removal c.args.i c.place_of-from.result.0 c.place_of-from.result.1) c.args.b.now c.apply.new.b c.get16-count.result (c.get16-count.result + 0 - 1) e;
       room = omega (arith, c.place_of-from.ensures.order, c.place_of-from.ensures.from, c.place_of-from.ensures.to);
+      flags_before = λ k lt. (e.before k lt).flags;
+      flags_behind = λ k ge lt. let z : k + 0 ≡ k = omega arith in ap (item_flags_at c.apply.new.b) (sym z) ∙ (e.after k ge (omega arith)).flags;
     }

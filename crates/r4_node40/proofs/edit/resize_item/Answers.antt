@@ -3,7 +3,7 @@ use Rattle.std.specs.Prelude.{slice_range}
 use Rattle.r4_base.specs.Bytes.{overwrite}
 use Rattle.r4_base.specs.Node.{Item, count_of, offset_at, key_at, plugin_at, edge_at, items_of}
 use Rattle.r4_node40.specs.Edits.{resized}
-use Rattle.r4_node40.proofs.Edits.{resizing, can_resize, grown, resized_edit, resized_item, start_room, edited_laid, edited_head, edited_room, edited_set}
+use Rattle.r4_node40.proofs.Edits.{resizing, can_resize, grown, resized_edit, resized_flags, resized_item, start_room, edited_laid, edited_head, edited_room, edited_set}
 use Rattle.r4_node40.proofs.edit.resize_item.Goals as goal
 
 pub apply-requires : goal.apply-requires
@@ -33,4 +33,5 @@ returns-clause-ok c =
       items = edited_set (resizing c.args.i c.place_of-from.result.0 c.place_of-from.result.1 c.args.len) c.args.b.now c.zero.new.b c.get16.result (c.get16.result + 1 - 1) e refl refl ∙ ap (λ (x : Item). set (items_of c.args.b.now) c.args.i x) item ∙ ap (λ (to : ℕ). set (items_of c.args.b.now) c.args.i (record { key = key_at c.args.b.now c.args.i; plugin = plugin_at c.args.b.now c.args.i; body = resized (slice_range c.args.b.now (offset_at c.args.b.now c.args.i) to) c.args.len })) same;
       head = edited_head (resizing c.args.i c.place_of-from.result.0 c.place_of-from.result.1 c.args.len) c.args.b.now c.zero.new.b c.get16.result (c.get16.result + 1 - 1) e;
       room = omega (arith, c.place_of-from.ensures.order, c.place_of-from.ensures.from, c.place_of-from.ensures.to);
+      flags = resized_flags c.args.b.now c.apply.new.b c.zero.new.b c.get16.result c.args.i c.place_of-from.result.0 c.place_of-from.result.1 c.args.len c.get16.ensures c.apply.ensures g e;
     }
