@@ -1,12 +1,12 @@
 -- A walk down from the root: what is known of the cells so far and of the pool, and how it goes on.
-use Rattle.std.proofs.Common.{◌≡◌, inl, inr, ℕ, zero, suc, ◌+◌, ◌<◌, ◌≤◌, false, List, [], ◌∷◌, ◌++◌, map, refl, sym, ap, subst, ◌∙◌, arith}
+use Rattle.std.proofs.Common.{◌≡◌, inl, inr, ⊎_elim, ℕ, zero, suc, ◌+◌, ◌<◌, ◌≤◌, false, List, [], ◌∷◌, ◌++◌, map, refl, sym, ap, subst, ◌∙◌, arith}
 use Rattle.std.specs.Result.{IsErrAnd}
-use Rattle.std.specs.Prelude.{Option, Some, None, IfSome, IfNone, Result, Ok, Err, IfErr, Contains, All, ◌==◌, if◌then◌else◌}
+use Rattle.std.specs.Prelude.{Option, Some, None, IsSome, IfSome, IfNone, Result, Ok, Err, IfErr, Contains, All, ◌==◌, if◌then◌else◌}
 use Rattle.std.specs.Option.{option_map}
 use Rattle.std.proofs.lemmas.Bool.{eqb-true, ne_eqb}
 use Rattle.std.proofs.lemmas.Option.{same_Some}
 use Rattle.std.proofs.lemmas.List.{map-append}
-use Rattle.std.proofs.lemmas.List.Elements.{All-nil, All-push, Contains-append_left, Contains-push, Contains-push_cases}
+use Rattle.std.proofs.lemmas.List.Elements.{All-cons, All-head, All-nil, All-push, All-tail, Contains-append_left, Contains-push, Contains-push_cases}
 use Rattle.r4_base.specs.Key.{rank, least, top}
 use Rattle.r4_base.specs.Cell.{cell_fault}
 use Rattle.r4_base.specs.Node.{level_of, node_fault}
@@ -16,10 +16,10 @@ use Rattle.r4_base.specs.declared.items.CellFault.TheVariants.{Level, Node}
 use Rattle.r4_base.proofs.FreshTree.{nothing}
 use Rattle.r4_outside.specs.Device.{State}
 use Rattle.r4_outside.proofs.Moments.{goes_both as device_both, goes_same as device_same}
-use Rattle.r4_cell.specs.Seen.{CellSeen}
+use Rattle.r4_cell.specs.Seen.{CellSeen, node_of}
 use Rattle.r4_cell.specs.declared.change.Root.{Root}
 use Rattle.r4_cell.proofs.Items.{chosen}
-use Rattle.r4_search.specs.Pool.{PoolState, IsKnown, IsNamed, IsOf, IsRead, IsKeptOrRead, IsAnswer, IsRefused, KnowsNames, LeavesDevice, FaultIs, place_fault, Goes}
+use Rattle.r4_search.specs.Pool.{PoolState, HangsTogether, IsFrom, IsKnown, IsNamed, IsNamedFrom, IsOf, IsRead, IsKeptOrRead, IsAnswer, IsRefused, KnowsNames, LeavesDevice, FaultIs, place_fault, Goes}
 use Rattle.r4_search.specs.Path.{Follows, Descends, LeadsTo, EndsAt, IsPath, KeepsOnly, KnowsOn, StopsOn, StopsShort, Stops, last_of, root_name}
 use Rattle.r4_search.specs.Place.{child_name}
 use Rattle.r4_search.specs.declared.inside.Child.{Child}
@@ -29,7 +29,7 @@ use Rattle.r4_search.proofs.Places.{or_none, none_of_node}
 
 -- what comes next, if anything does
 abbrev pub GoesOn : Root → (key : ℕ) → PoolState → (before : Option CellSeen) → Option Name → Type 0
-GoesOn root key mid before (Some n) = Follows root key before n × IsKnown mid n.id × (1 ≤ n.level) × InName n key
+GoesOn root key mid before (Some n) = Follows root key before n × IsKnown mid n × (1 ≤ n.level) × InName n key
 GoesOn root key mid before None = (c : CellSeen) × (before ≡ Some c) × EndsAt c key × KnowsNames mid c
 
 -- the level of what comes next
@@ -73,7 +73,55 @@ last_more before (x ∷ cells) c = last_more (Some x) cells c
 -- ---- states of the pool
 
 pub goes_same : (p : PoolState) → Goes p p
-goes_same p = record { blocks = refl; faults = omega arith; meant = λ i. refl; kept = λ i c h. h; added = λ i c h none. absurd cc }
+goes_same p = record {
+  root = refl;
+  blocks = refl;
+  faults = omega arith;
+  meant = λ i. refl;
+  kept = λ i c h. h;
+  added = λ i c h none. absurd cc;
+  known = λ n h. h;
+  hangs = λ h. h;
+}
+
+-- cells of one kind are cells of another
+pub named_more : (root : Name) (P Q : CellSeen → Type 0) (n : Name) → ((c : CellSeen) → P c → Q c) → IsNamedFrom root P n → IsNamedFrom root Q n
+named_more root P Q n more h = record { cells = h.cells; all = all_more h.cells h.all; lead = h.lead }
+  where
+    all_more : (cells : List CellSeen) → All P cells → All Q cells
+    all_more [] all = All-nil Q
+    all_more (c ∷ cells) all = All-cons Q c cells (more c (All-head P c cells all)) (all_more cells (All-tail P c cells all))
+
+-- what a cell names that is named itself
+pub named_below : (root : Name) (P : CellSeen → Type 0) (n m : Name) (c : CellSeen) → IsNamedFrom root P n → IsNamed n c → P c → Contains (node_of c).names m → IsNamedFrom root P m
+named_below root P n m c h is p has = record { cells = c ∷ h.cells; all = All-cons P c h.cells p h.all; lead = (has, (n, is, h.lead)) }
+
+-- ---- a pool that keeps more
+
+module _ (a b : PoolState) (root : b.root ≡ a.root) (blocks : b.blocks ≡ a.blocks) (meant : (i : ℕ) → b.meant i ≡ a.meant i) (kept : (i : ℕ) (c : CellSeen) → a.kept i ≡ Some c → b.kept i ≡ Some c) where
+  pub from_on : (c : CellSeen) → IsFrom a c → IsFrom b c
+  from_on c (inl is) = inl (kept c.id c is)
+  from_on c (inr read) = inr (subst (λ (n : ℕ). IsRead n (b.meant c.id) c) (sym blocks) (subst (λ (m : Option (List ℕ)). IsRead a.blocks m c) (sym (meant c.id)) read))
+
+  pub named_on : (n : Name) → IsNamedFrom a.root (IsFrom a) n → IsNamedFrom b.root (IsFrom b) n
+  named_on n h = subst (λ (r : Name). IsNamedFrom r (IsFrom b) n) (sym root) (named_more a.root (IsFrom a) (IsFrom b) n from_on h)
+
+  stands_on : (n : Name) (o : Option CellSeen) → a.kept n.id ≡ o → IsSome o → IsSome (b.kept n.id)
+  stands_on n (Some c) e some = subst (λ (x : Option CellSeen). IsSome x) (sym (kept n.id c e)) some
+  stands_on n None e some = absurd cc
+
+  pub known_on : (n : Name) → IsKnown a n → IsKnown b n
+  known_on n h = record { stands = ⊎_elim (λ some. inl (stands_on n (a.kept n.id) refl some)) (λ below. inr (omega (arith, below, blocks))) h.stands; named = named_on n h.named }
+
+  pub hangs_on : ((i : ℕ) (c : CellSeen) → b.kept i ≡ Some c → a.kept i ≡ None → (n : Name) × IsNamed n c × IsNamedFrom a.root (IsFrom a) n) → HangsTogether a → HangsTogether b
+  hangs_on added hangs i c is = by (a.kept i) refl
+    where
+      by : (o : Option CellSeen) → a.kept i ≡ o → (n : Name) × IsNamed n c × IsNamedFrom b.root (IsFrom b) n
+      by None none = let (n, named, from) = added i c is none in (n, named, named_on n from)
+      by (Some k) some =
+          let same : k ≡ c = same_Some k c (sym (kept i k some) ∙ is) in
+          let (n, named, from) = hangs i c (some ∙ ap Some same) in
+          (n, named, named_on n from)
 
 module _ (a b c : PoolState) (f : Goes a b) (g : Goes b c) where
   added_both : (i : ℕ) (k : CellSeen) → c.kept i ≡ Some k → a.kept i ≡ None → (o : Option CellSeen) → b.kept i ≡ o → (k.id ≡ i) × IsRead a.blocks (a.meant i) k
@@ -89,11 +137,14 @@ module _ (a b c : PoolState) (f : Goes a b) (g : Goes b c) where
       let x = f.faults in
       let y = g.faults in
       record {
+        root = g.root ∙ f.root;
         blocks = g.blocks ∙ f.blocks;
         faults = omega (arith, x, y);
         meant = λ i. g.meant i ∙ f.meant i;
         kept = λ i k h. g.kept i k (f.kept i k h);
         added = λ i k h none. added_both i k h none (b.kept i) refl;
+        known = λ n h. g.known n (f.known n h);
+        hangs = λ h. g.hangs (f.hangs h);
       }
 
 of_before : (old mid : PoolState) (c : CellSeen) → Goes old mid → (o m : Option CellSeen) → old.kept c.id ≡ o → mid.kept c.id ≡ m → IsKeptOrRead mid.blocks m (mid.meant c.id) c → IsKeptOrRead old.blocks o (old.meant c.id) c
@@ -110,7 +161,7 @@ is_of_before old mid c g h = of_before old mid c g (old.kept c.id) (mid.kept c.i
 
 -- ---- the walk
 
-pub begun : (root : Root) (key : ℕ) (p : PoolState) (next : Name) → next ≡ root_name root → IsKnown p root.id.0 → 2 ≤ root.height → least ≤ key → key < top → Reached root key p p [] (Some next)
+pub begun : (root : Root) (key : ℕ) (p : PoolState) (next : Name) → next ≡ root_name root → IsKnown p (root_name root) → 2 ≤ root.height → least ≤ key → key < top → Reached root key p p [] (Some next)
 begun root key p next is known high from below =
     let on : GoesOn root key p None (Some (root_name root)) = (refl, known, omega (arith, high), (from, below)) in
     record {
@@ -224,6 +275,7 @@ module _ (root : Root) (key : ℕ) (old mid : PoolState) (cells : List CellSeen)
       only = λ i k h was. only_still i k h was (mid.kept i) refl;
       at = n;
       follows = r.on.0;
+      known = goes.known n r.on.1;
       refused = refused_before e new h;
     }
 

@@ -4,7 +4,7 @@ use Rattle.r4_base.specs.Key.{least, top}
 use Rattle.r4_base.specs.Tree.{Name, Span, InName, InSpan}
 use Rattle.r4_cell.specs.Seen.{CellSeen, node_of}
 use Rattle.r4_cell.specs.declared.change.Root.{Root}
-use Rattle.r4_search.specs.Pool.{PoolState, IsNamed, IsOf, IsRefused, KnowsNames}
+use Rattle.r4_search.specs.Pool.{PoolState, IsKnown, IsNamed, IsOf, IsRefused, KnowsNames}
 use Rattle.r4_search.specs.declared.pool.FetchFault.{FetchFault}
 use Rattle.r4_search.specs.declared.pool.FetchFault.TheVariants.{Read, Damaged, Memory}
 
@@ -59,6 +59,7 @@ pub record StopsOn (root : Root) (key : ℕ) (old : PoolState) (e : FetchFault) 
   pub only : KeepsOnly old new cells
   pub at : Name
   pub follows : Follows root key (last_of None cells) at
+  pub known : IsKnown new at
   pub refused : IsRefused at old e new
 
 -- The cells of the pool lead down so far.

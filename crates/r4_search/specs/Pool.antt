@@ -1,5 +1,5 @@
 -- What a pool of cells tells, and what its calls do to that (docs/volume.md, "The tree"). A key is its rank.
-use Rattle.std.specs.Prelude.{◌≡◌, ◌⊎◌, ℕ, ◌+◌, ◌-◌, ◌^◌, ◌<◌, ◌≤◌, ◌==◌, ◌&&◌, not, if◌then◌else◌, min, List, true, false, Contains, Option, Some, None, IsSome, Result, Ok, Err, IfOk, IfErr}
+use Rattle.std.specs.Prelude.{◌≡◌, ◌⊎◌, ℕ, ◌+◌, ◌-◌, ◌^◌, ◌<◌, ◌≤◌, ◌==◌, ◌&&◌, not, if◌then◌else◌, min, List, [], ◌∷◌, true, false, All, Contains, Option, Some, None, IsSome, Result, Ok, Err, IfOk, IfErr}
 use Rattle.r4_base.specs.Key.{rank}
 use Rattle.r4_base.specs.Cell.{cell_fault}
 use Rattle.r4_base.specs.Tree.{Name}
@@ -13,6 +13,8 @@ use Rattle.r4_search.specs.declared.pool.FetchFault.TheVariants.{Read, Damaged, 
 
 -- What a pool tells of itself.
 pub record PoolState : Type 0 where
+  -- the root of its tree, as it is asked for
+  pub root : Name
   -- the number of blocks
   pub blocks : ℕ
   -- the number of failed calls of its device
@@ -27,20 +29,9 @@ pub record LeavesDevice (old new : State) : Type 0 where
   pub goes : DeviceGoes old new
   pub idle : Untouched old new
 
--- the name can be asked for
-abbrev pub IsKnown : PoolState → ℕ → Type 0
-IsKnown p i = IsSome (p.kept i) ⊎ (i < p.blocks)
-
 -- one that is asked for, as a cell names it
 abbrev pub called : (id level : ℕ) → Key → Key → Name
 called id level lo hi = record { id = id; level = level; lo = rank lo; hi = rank hi }
-
--- the cell has this name, level and range
-pub record IsNamed (n : Name) (c : CellSeen) : Type 0 where
-  pub id : c.id ≡ n.id
-  pub level : c.level ≡ n.level
-  pub lo : rank c.lo ≡ n.lo
-  pub hi : rank c.hi ≡ n.hi
 
 -- why a kept cell is not the one that is asked for
 abbrev pub place_fault : Name → CellSeen → Option CellFault
@@ -60,6 +51,37 @@ abbrev pub IsRead : (blocks : ℕ) → (meant : Option (List ℕ)) → CellSeen 
 IsRead blocks None c = Unit {0}
 IsRead blocks (Some b) c = (c.block ≡ b) × (cell_fault false blocks c.level (rank c.lo) (rank c.hi) b ≡ None)
 
+-- the cell has this name, level and range
+pub record IsNamed (n : Name) (c : CellSeen) : Type 0 where
+  pub id : c.id ≡ n.id
+  pub level : c.level ≡ n.level
+  pub lo : rank c.lo ≡ n.lo
+  pub hi : rank c.hi ≡ n.hi
+
+-- The pool keeps the cell, or its block is the one that its name means.
+abbrev pub IsFrom : PoolState → CellSeen → Type 0
+IsFrom p c = (p.kept c.id ≡ Some c) ⊎ IsRead p.blocks (p.meant c.id) c
+
+-- Cells lead from the root down to a name, the lowest first: it names what is asked for, and the one behind it names it, with its level and range.
+abbrev pub LeadTo : (root : Name) → List CellSeen → Name → Type 0
+LeadTo root [] n = n ≡ root
+LeadTo root (c ∷ above) n = Contains (node_of c).names n × ((m : Name) × IsNamed m c × LeadTo root above m)
+
+-- The name is the root's, or cells of this kind lead to it from there.
+pub record IsNamedFrom (root : Name) (P : CellSeen → Type 0) (n : Name) : Type 0 where
+  pub cells : List CellSeen
+  pub all : All P cells
+  pub lead : LeadTo root cells n
+
+-- The name can be asked for: its block stands, and cells of the pool lead to it from the root.
+pub record IsKnown (p : PoolState) (n : Name) : Type 0 where
+  pub stands : IsSome (p.kept n.id) ⊎ (n.id < p.blocks)
+  pub named : IsNamedFrom p.root (IsFrom p) n
+
+-- Cells of the pool lead to each that it keeps.
+abbrev pub HangsTogether : PoolState → Type 0
+HangsTogether p = (i : ℕ) (c : CellSeen) → p.kept i ≡ Some c → (n : Name) × IsNamed n c × IsNamedFrom p.root (IsFrom p) n
+
 abbrev pub IsKeptOrRead : (blocks : ℕ) → (kept : Option CellSeen) → (meant : Option (List ℕ)) → CellSeen → Type 0
 IsKeptOrRead blocks (Some k) meant c = c ≡ k
 IsKeptOrRead blocks None meant c = IsRead blocks meant c
@@ -72,17 +94,21 @@ IsOf p c = IsKeptOrRead p.blocks (p.kept c.id) (p.meant c.id) c
 abbrev pub Rose : ℕ → ℕ → Type 0
 Rose before now = min (before + 1) (2 ^ 64 - 1) ≤ now
 
--- What every call keeps: what each name means, and the cells that are kept. What is kept from then on is what its name meant.
+-- What every call keeps: what each name means, the cells that are kept, and what can be asked for. What is kept from then on is what its name
+-- meant, and hangs together with the rest.
 pub record Goes (old new : PoolState) : Type 0 where
+  pub root : new.root ≡ old.root
   pub blocks : new.blocks ≡ old.blocks
   pub faults : old.faults ≤ new.faults
   pub meant : (i : ℕ) → new.meant i ≡ old.meant i
   pub kept : (i : ℕ) (c : CellSeen) → old.kept i ≡ Some c → new.kept i ≡ Some c
   pub added : (i : ℕ) (c : CellSeen) → new.kept i ≡ Some c → old.kept i ≡ None → (c.id ≡ i) × IsRead old.blocks (old.meant i) c
+  pub known : (n : Name) → IsKnown old n → IsKnown new n
+  pub hangs : HangsTogether old → HangsTogether new
 
 -- what the cell names can be asked for
 abbrev pub KnowsNames : PoolState → CellSeen → Type 0
-KnowsNames p c = (m : Name) → Contains (node_of c).names m → IsKnown p m.id
+KnowsNames p c = (m : Name) → Contains (node_of c).names m → IsKnown p m
 
 -- The cell that was asked for. What it names can be asked for.
 pub record IsAnswer (n : Name) (old : PoolState) (c : CellSeen) (new : PoolState) : Type 0 where

@@ -26,7 +26,7 @@ pub fn cover<P: Pool>(
     key: &Key,
 ) -> Result<Vec<Arc<Cell>>, FetchFault>
     requires some { 1 ≤ root.now.height }
-    requires known { IsKnown (P.state pool.old) root.now.id.0 }
+    requires known { IsKnown (P.state pool.old) (root_name root.now) }
     requires from { least ≤ rank key.now }
     requires below { rank key.now < top }
     ensures goes { Goes (P.state pool.old) (P.state pool.new) }

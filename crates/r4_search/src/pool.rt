@@ -45,7 +45,7 @@ impl<T: Drop> From<AllocFailed<T>> for FetchFault {
 
 /// Cells by their names: those that it keeps, and those that it reads as they are asked for (docs/volume.md, "The tree").
 ///
-/// It has a number of blocks. Each name that it does not keep and that is below this number means the block of a device,
+/// It has a root, and a number of blocks, and is asked only for the root and for what cells name that it answered. Each name that it does not keep and that is below this number means the block of a device,
 /// which no call changes, where the pool tells it.
 pub trait Pool {
     /// What the pool tells of itself.
@@ -72,7 +72,7 @@ pub trait Pool {
         lo: Key,
         hi: Key,
     ) -> Result<Arc<Cell>, FetchFault>
-        requires { IsKnown (state self.old) id.0 }
+        requires { IsKnown (state self.old) (called id.0 level lo hi) }
         ensures fetches { Fetches (λ cell. arc_value cell) (called id.0 level lo hi) (state self.old) result (state self.new) }
         ensures device { LeavesDevice (device self.old) (device self.new) };
 }
