@@ -7,7 +7,9 @@ use Rattle.r4_outside.specs.Device.{State}
 use Rattle.r4_outside.specs.Sink.{SinkState, Appends}
 use Rattle.r4_cell.specs.Seen.{CellSeen, node_of}
 use Rattle.r4_cell.specs.declared.change.Root.{Root}
-use Rattle.r4_search.specs.Pool.{PoolState, Goes, IsOf, IsRefused, LeavesDevice}
+use Rattle.r4_search.specs.Path.{root_name}
+use Rattle.r4_search.specs.Pool.{PoolState, Goes, IsKnown, IsOf, IsRefused, LeavesDevice}
+use Rattle.r4_list.proofs.Lookups.{named_there}
 use Rattle.r4_search.specs.declared.pool.FetchFault.{FetchFault}
 use Rattle.r4_search.specs.declared.pool.FetchFault.TheVariants.{Read, Damaged, Memory as NoRoom}
 use Rattle.r4_search.proofs.Walks.{goes_both, goes_same, leaves_both, leaves_same}
@@ -25,19 +27,19 @@ pub went_named : {T : Type 0} (root : Root) (names : List Name) (p q : PoolState
 went_named {T} root names p q r a b k l f = record { goes = f.goes; device = f.device; prints = f.prints }
 
 -- a block that a cell names is not fetched
-pub block_cause : (root : Root) (first old new : PoolState) (c : CellSeen) (n : Name) (e : FetchFault) → Goes first old → IsOf first c → Contains (node_of c).names n → IsRefused n old e new → IsFetchCause root first e new
-block_cause root first old new c n (Read at faults) g is has h = let rose = h.2 in let before = g.faults in omega (arith, rose, before)
-block_cause root first old new c n (Damaged at fault) g is has h = record {
-  before = first;
-  came = goes_same first;
+pub block_cause : (root : Root) (first old new : PoolState) (n : Name) (e : FetchFault) → Goes first old → old.root ≡ root_name root → IsKnown old n → IsRefused n old e new → IsFetchCause root first e new
+block_cause root first old new n (Read at faults) g is known h = let rose = h.2 in let before = g.faults in omega (arith, rose, before)
+block_cause root first old new n (Damaged at fault) g is known h = record {
   now = old;
-  goes = g;
+  came = g;
+  later = old;
+  goes = goes_same old;
   name = n;
-  named = inr (c, is, has);
+  named = named_there root old n is known;
   block = h.0;
   has = h.1;
 }
-block_cause root first old new c n NoRoom g is has h = tt
+block_cause root first old new n NoRoom g is known h = tt
 
 module _ {T : Type 0} (root : Root) (names : List Name) (old mid : PoolState) (a b : State) (k l : SinkState) (w : Went old mid a b k l) where
   pub named_well : (x : T) → PrintsNamed root names old a k (Ok x) mid b l
@@ -80,12 +82,12 @@ module _ {T : Type 0} (root : Root) (names : List Name) (old mid : PoolState) (a
       ends first (Err e) h = cause_on root first first new k l m e (goes_same first) w.prints h
 
   -- a block was not fetched
-  pub named_fetching : (n : Name) (new : PoolState) (c : State) (r : Result T Stop) (e : FetchFault) → Contains names n → Goes mid new → LeavesDevice b c → IsRefused n mid e new → IsErrAnd r (λ y. y ≡ Fetch e) → PrintsNamed root names old a k r new c l
-  named_fetching n new c r e named g d h is = record {
+  pub named_fetching : (n : Name) (new : PoolState) (c : State) (r : Result T Stop) (e : FetchFault) → mid.root ≡ root_name root → IsKnown mid n → Goes mid new → LeavesDevice b c → IsRefused n mid e new → IsErrAnd r (λ y. y ≡ Fetch e) → PrintsNamed root names old a k r new c l
+  named_fetching n new c r e begins known g d h is = record {
     goes = goes_both old mid new w.goes g;
     device = leaves_both a b c w.device d;
     prints = w.prints;
-    cause = λ first s goes of_first has. handed_on (λ y. IsCause root first k y new l) r (Fetch e) is (block_cause root first mid new s n e (goes_both first old mid goes w.goes) of_first (has n named) h);
+    cause = λ first s goes of_first has. handed_on (λ y. IsCause root first k y new l) r (Fetch e) is (block_cause root first mid new n e (goes_both first old mid goes w.goes) begins known h);
   }
 
 -- nothing is fetched

@@ -5,6 +5,7 @@ use Rattle.std.specs.Result.{IsErrAnd}
 use Rattle.std.specs.List.{list_all}
 use Rattle.std.proofs.lemmas.Bool.{eq-eqb}
 use Rattle.r4_base.specs.Image.{Image, IsImage}
+use Rattle.r4_base.specs.Tree.{Name}
 use Rattle.r4_base.specs.Value.{Content}
 use Rattle.r4_base.specs.Volume.{HasContent, HasStat, IsReached, is_directory}
 use Rattle.r4_base.specs.declared.items.Attr.{Attr}
@@ -135,9 +136,9 @@ tells_image n image is =
 pub settled_is : (d : State) (homes : BTreeMap ℕ ℕ) → is_image d.blocks d.seen ≡ true → (i : ℕ) → settled_block d homes i ≡ Some (block_at d.seen (home_in homes i))
 settled_is d homes whole i = rw (whole) refl
 
-pub fresh_over : {n : ℕ} {image : Image} {m : Content} (c : HasContent n image m) (d : State) (homes : BTreeMap ℕ ℕ) (blocks : ℕ) (kept : BTreeMap ℕ Shared) (root : Root) → TellsReads d → n ≡ d.blocks → IsSettledBy d homes image
-    → IsLawfulSuper d.blocks c.super → blocks ≡ c.super.block_count → root.id.0 ≡ c.super.root_block → root.height ≡ c.super.tree_height → ((i : ℕ) → kept_in kept i ≡ None) → IsOver c root (nodes_state d homes blocks kept)
-fresh_over {n} {image} {m} c d homes blocks kept root tells same settled lawful count at high empty = record {
+pub fresh_over : {n : ℕ} {image : Image} {m : Content} (c : HasContent n image m) (d : State) (homes : BTreeMap ℕ ℕ) (blocks : ℕ) (kept : BTreeMap ℕ Shared) (first : Name) (root : Root) → TellsReads d → n ≡ d.blocks → IsSettledBy d homes image
+    → IsLawfulSuper d.blocks c.super → blocks ≡ c.super.block_count → root.id.0 ≡ c.super.root_block → root.height ≡ c.super.tree_height → ((i : ℕ) → kept_in kept i ≡ None) → IsOver c root (nodes_state first d homes blocks kept)
+fresh_over {n} {image} {m} c d homes blocks kept first root tells same settled lawful count at high empty = record {
   blocks = count;
   root_is = cc (at, high);
   meant = λ i node is. settled_is d homes (tells_image d.blocks d.seen tells) i ∙ ap (λ (b : List ℕ). Some b) (sym (settled i));

@@ -118,10 +118,14 @@ module _ (first d : State) (log : Log) (goes : Goes first d) (seen : d.seen ≡ 
   pub image_refused : (b : BlockNo) (f : LayoutFault) (now : State) → Opens d log.homes (Err (Layout b f)) now → TellsReads first → (image : Image) → Settles first.blocks first.seen image → layout_misfit first.blocks image ≡ misfit b.0 f
   image_refused b f now opens told image settles = subst (λ (n : ℕ). layout_misfit n image ≡ misfit b.0 f) goes.blocks (opens (goes.reads.1 told) image (settled_by image told settles))
 
+  -- the image that the device settles to
+  settled_image : TellsReads first → (image : Image) × Settles first.blocks first.seen image
+  settled_image told = let h = tells told in (put_pairs (chain_pairs h.chain) first.seen, record { chain = h.chain; has = h.has; is = refl })
+
   -- what is answered where the image was not opened
   pub open_answer : (now : State) (k : SinkState) (e : Unopened) → Opens d log.homes (Err e) now → IsListFault first k (open_fault_of e now.clock now.faults) now k
   open_answer now k Failed opens = let before = goes.faults in (omega (arith, before, opens), refl, refl)
-  open_answer now k (Layout b f) opens = (lawful, image_refused b f now opens, refl)
+  open_answer now k (Layout b f) opens = (lawful, (λ told. let i = settled_image told in (i.0, i.1, image_refused b f now opens told i.0 i.1)), refl)
   open_answer now k NoBuffer opens = lawful
 
   -- an image with a volume is opened
@@ -164,7 +168,7 @@ stop_answer homes s first d now k l e low is by (stop, c, same) = subst (λ (x :
   where
     by_stop : (stop : Stop) → IsPrintCause homes s d k stop now l → IsListFault first k (stop_fault_of stop now.clock now.faults l.faults) now l
     by_stop (Fetch (Read at faults)) c = (omega (arith, low, c), refl, refl)
-    by_stop (Fetch (Damaged at fault)) c = (is, λ told image settles. let f = by told image settles in (s, f.2, c f.0 image f.1))
+    by_stop (Fetch (Damaged at fault)) c = (is, λ told. let i = is.opened told in let f = by told i.0 i.1 in (i.0, i.1, (s, f.2, c f.0 i.0 f.1)))
     by_stop (Fetch NoRoom) c = is.lawful
     by_stop Sink c = (is, c, refl)
     by_stop Memory c = is.lawful

@@ -12,7 +12,7 @@ use Rattle.r4_base.specs.declared.key.Key.{Key}
 use Rattle.r4_outside.specs.Device.{State}
 use Rattle.r4_cell.specs.Seen.{CellSeen, node_of}
 use Rattle.r4_cell.specs.declared.change.Root.{Root}
-use Rattle.r4_search.specs.Pool.{PoolState, Goes, IsOf, KnowsNames, IsNamed, LeavesDevice}
+use Rattle.r4_search.specs.Pool.{PoolState, Goes, IsFrom, IsKnown, IsNamedFrom, IsOf, KnowsNames, IsNamed, LeavesDevice}
 use Rattle.r4_search.specs.Path.{Follows, Descends, EndsAt, IsPath, KnowsOn, Stops, last_of, root_name}
 use Rattle.r4_search.specs.declared.pool.FetchFault.{FetchFault}
 use Rattle.r4_search.specs.declared.pool.FetchFault.TheVariants.{Read, Damaged, Memory}
@@ -77,27 +77,23 @@ no_path root key cells e p = none p.end (sym (ap (last_of None) e) ∙ p.is_last
 
 -- ---- why a path ends early
 
-damaged_by : (root : Root) (key : ℕ) (old : PoolState) (at : Name) (cells : List CellSeen) → All (IsOf old) cells → Follows root key (last_of None cells) at → (at ≡ root_name root) ⊎ ((c : CellSeen) × IsOf old c × Contains (node_of c).names at)
-damaged_by root key old at [] all f = inl f
-damaged_by root key old at (x ∷ cells) all f = some (last_of (Some x) cells) refl f
-  where
-    some : (o : Option CellSeen) → last_of (Some x) cells ≡ o → Follows root key o at → (at ≡ root_name root) ⊎ ((c : CellSeen) × IsOf old c × Contains (node_of c).names at)
-    some None e g = inl g
-    some (Some c) e g = inr (c, All-contains (IsOf old) (x ∷ cells) c all (last_in x cells c e), g.named)
+-- what can be asked for is named from the root
+pub named_there : (root : Root) (p : PoolState) (n : Name) → p.root ≡ root_name root → IsKnown p n → IsNamedFrom (root_name root) (IsFrom p) n
+named_there root p n is known = subst (λ (r : Name). IsNamedFrom r (IsFrom p) n) is known.named
 
-pub fetch_cause : (root : Root) (key : ℕ) (old new : PoolState) (e : FetchFault) → Stops root key old e new → IsFetchCause root old e new
-fetch_cause root key old new (Read at faults) s = s.refused.2
-fetch_cause root key old new (Damaged at fault) s = record {
-  before = old;
-  came = goes_same old;
+pub fetch_cause : (root : Root) (key : ℕ) (old new : PoolState) (e : FetchFault) → old.root ≡ root_name root → Goes old new → Stops root key old e new → IsFetchCause root old e new
+fetch_cause root key old new (Read at faults) is g s = s.refused.2
+fetch_cause root key old new (Damaged at fault) is g s = record {
   now = old;
-  goes = goes_same old;
+  came = goes_same old;
+  later = new;
+  goes = g;
   name = s.at;
-  named = damaged_by root key old s.at s.cells s.are_of s.follows;
+  named = named_there root new s.at (g.root ∙ is) s.known;
   block = s.refused.0;
   has = s.refused.1;
 }
-fetch_cause root key old new Memory s = tt
+fetch_cause root key old new Memory is g s = tt
 
 -- an error that a `?` hands on
 pub handed : {T : Type 0} (P : FetchFault → Type 0) (r : Result T FetchFault) (e : FetchFault) → IsErrAnd r (λ y. y ≡ e) → P e → IfErr r P
@@ -121,7 +117,7 @@ first_of_entry dir name = refl
 
 pub cause_before : (root : Root) (old mid new : PoolState) (e : FetchFault) → Goes old mid → IsFetchCause root mid e new → IsFetchCause root old e new
 cause_before root old mid new (Read at faults) g h = let before = g.faults in omega (arith, before, h)
-cause_before root old mid new (Damaged at fault) g h = record { before = h.before; came = goes_both old mid h.before g h.came; now = h.now; goes = h.goes; name = h.name; named = h.named; block = h.block; has = h.has }
+cause_before root old mid new (Damaged at fault) g h = record { now = h.now; came = goes_both old mid h.now g h.came; later = h.later; goes = h.goes; name = h.name; named = h.named; block = h.block; has = h.has }
 cause_before root old mid new Memory g h = tt
 
 pub causes_before : {T : Type 0} (root : Root) (old mid new : PoolState) (r : Result T FetchFault) → Goes old mid → IfErr r (λ e. IsFetchCause root mid e new) → IfErr r (λ e. IsFetchCause root old e new)

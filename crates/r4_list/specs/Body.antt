@@ -38,7 +38,7 @@ unit_names u lo = if u.start == 0 then [] else (block_name u.start lo ∷ [])
 
 -- all of these can be asked for
 abbrev pub AreKnown : PoolState → List Name → Type 0
-AreKnown p names = (n : Name) → Contains names n → IsKnown p n.id
+AreKnown p names = (n : Name) → Contains names n → IsKnown p n
 
 -- What a call does that prints, and fetches blocks of these names. A block that is refused is named by a cell that has all of them,
 -- and that the pool had when it was fetched.

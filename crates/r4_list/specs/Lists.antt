@@ -1,5 +1,5 @@
 -- What a listing answers (docs/program.md, "Listing").
-use Rattle.std.specs.Prelude.{◌≡◌, ◌⊎◌, ℕ, ◌<◌, List, ◌++◌, false, Contains, Some, None, Result, Ok, Err, IfOk, IfErr, OnOk}
+use Rattle.std.specs.Prelude.{◌≡◌, ◌⊎◌, ℕ, ◌<◌, List, ◌++◌, false, Some, None, Result, Ok, Err, IfOk, IfErr, OnOk}
 use Rattle.std.specs.BTreeMap.{BTreeMap}
 use Rattle.r4_base.specs.Cell.{cell_fault}
 use Rattle.r4_base.specs.Chain.{Settles}
@@ -14,9 +14,10 @@ use Rattle.r4_base.specs.declared.items.CellFault.{CellFault}
 use Rattle.r4_base.specs.declared.superblock.Super40.{Super40}
 use Rattle.r4_outside.specs.Device.{State, TellsReads, Rose}
 use Rattle.r4_outside.specs.Sink.{SinkState, AppendsPart}
-use Rattle.r4_cell.specs.Seen.{CellSeen, IsReadFrom, node_of}
+use Rattle.r4_cell.specs.Seen.{CellSeen, IsReadFrom}
 use Rattle.r4_cell.specs.declared.refused.ImageFault.TheVariants.{Layout, Cell}
-use Rattle.r4_search.specs.Pool.{place_fault}
+use Rattle.r4_search.specs.Pool.{IsNamed, IsNamedFrom, place_fault}
+use Rattle.r4_base.specs.declared.limits.TheConstants.{LEAST_BLOCKS, MOST_BLOCKS, SUPER_BLOCK}
 use Rattle.r4_search.specs.declared.pool.FetchFault.TheVariants.{Read, Damaged, Memory as NoRoom}
 use Rattle.r4_list.specs.Listing.{IsListing}
 use Rattle.r4_list.specs.Opening.{IsSettledBy, layout_misfit, misfit}
@@ -51,23 +52,35 @@ open_fault_of Failed clock faults = Device clock faults
 open_fault_of (Misfit block fault) clock faults = Refused block (Layout fault)
 open_fault_of NoBuffer clock faults = Memory
 
+-- Where the device tells what reading gives, its image settles to one of which this holds.
+abbrev pub OfSettled : State → (Image → Type 0) → Type 0
+OfSettled d P = TellsReads d → (image : Image) × Settles d.blocks d.seen image × P image
+
 -- The log is not refused, and neither the superblocks nor the bitmaps of the image that it settles to are.
 pub record IsOpened (d : State) : Type 0 where
   pub lawful : IsLawful d.blocks
-  pub opened : TellsReads d → (image : Image) × Settles d.blocks d.seen image × (layout_misfit d.blocks image ≡ None)
+  pub opened : OfSettled d (λ image. layout_misfit d.blocks image ≡ None)
 
 -- the root as the superblock names it
 abbrev pub root_name_of : Super40 → Name
 root_name_of s = record { id = s.root_block; level = s.tree_height; lo = least; hi = top }
 
--- A block is refused at the level and range at which it is named: it has the fault there, or it was taken at another level or range
--- before. The root is named by the superblock, and every other one by a node of the image.
+-- Nodes of the image lead to this name from the root, each accepted at the level and range at which the one above names it.
+abbrev pub IsReached : Super40 → Image → Name → Type 0
+IsReached s image n = IsNamedFrom (root_name_of s) (IsReadFrom s.block_count image) n
+
+-- A block that is reached at a level and range is refused: it has the fault there; or it is reached at another level or range too, is accepted
+-- there, and this tells the two apart.
 pub record IsNodeRefused (s : Super40) (image : Image) (at : ℕ) (fault : CellFault) : Type 0 where
   pub name : Name
   pub block : at ≡ name.id
-  pub named : (name ≡ root_name_of s) ⊎ ((c : CellSeen) × IsReadFrom s.block_count image c × Contains (node_of c).names name)
+  pub reached : IsReached s image name
   pub why : (cell_fault false s.block_count name.level name.lo name.hi (block_at image at) ≡ Some fault)
-      ⊎ ((c : CellSeen) × (c.id ≡ at) × IsReadFrom s.block_count image c × (place_fault name c ≡ Some fault))
+      ⊎ ((c : CellSeen) × (other : Name) × (c.id ≡ at) × IsReadFrom s.block_count image c × IsNamed other c × IsReached s image other × (place_fault name c ≡ Some fault))
+
+-- A node of the tree that the image's superblock names is refused.
+abbrev pub HasRefusedNode : (blocks : ℕ) → Image → (at : ℕ) → CellFault → Type 0
+HasRefusedNode blocks image at fault = (s : Super40) × (super_of blocks (block_at image SUPER_BLOCK.0) ≡ Ok s) × IsNodeRefused s image at fault
 
 -- why printing stopped on a device of these homes and this superblock
 abbrev pub IsPrintCause : BTreeMap ℕ ℕ → Super40 → State → SinkState → Stop → State → SinkState → Type 0
@@ -85,11 +98,10 @@ IsStopFault homes s d k e d' k' = (stop : Stop) × IsPrintCause homes s d k stop
 -- or the device or the sink failed.
 abbrev pub IsListFault : State → SinkState → ListFault → State → SinkState → Type 0
 IsListFault d k (Log block fault) d' k' = IsLawful d.blocks × (TellsReads d → IsRefused d.blocks d.seen (record { block = block.0; fault = fault })) × (k' ≡ k)
-IsListFault d k (Refused block (Layout f)) d' k' = IsLawful d.blocks × (TellsReads d → (image : Image) → Settles d.blocks d.seen image → layout_misfit d.blocks image ≡ misfit block.0 f) × (k' ≡ k)
-IsListFault d k (Refused block (Cell f)) d' k' = IsOpened d × (TellsReads d → (image : Image) → Settles d.blocks d.seen image
-    → (s : Super40) × (super_of d.blocks (block_at image 17) ≡ Ok s) × IsNodeRefused s image block.0 f)
+IsListFault d k (Refused block (Layout f)) d' k' = IsLawful d.blocks × OfSettled d (λ image. layout_misfit d.blocks image ≡ misfit block.0 f) × (k' ≡ k)
+IsListFault d k (Refused block (Cell f)) d' k' = IsOpened d × OfSettled d (λ image. HasRefusedNode d.blocks image block.0 f)
 IsListFault d k (Device clock faults) d' k' = Rose d.faults d'.faults × (clock ≡ d'.clock) × (faults ≡ d'.faults)
-IsListFault d k (Size blocks) d' k' = (blocks ≡ d.blocks) × ((d.blocks < 64) ⊎ (1048576 < d.blocks)) × (k' ≡ k)
+IsListFault d k (Size blocks) d' k' = (blocks ≡ d.blocks) × ((d.blocks < LEAST_BLOCKS) ⊎ (MOST_BLOCKS < d.blocks)) × (k' ≡ k)
 IsListFault d k (Sink faults) d' k' = IsOpened d × Rose k.faults k'.faults × (faults ≡ k'.faults)
 IsListFault d k Memory d' k' = IsLawful d.blocks
 

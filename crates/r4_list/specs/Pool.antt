@@ -36,8 +36,8 @@ Shared = arc_declared.Arc CellSeen Global
 abbrev pub kept_in : BTreeMap ℕ Shared → ℕ → Option CellSeen
 kept_in kept i = option_map (λ cell. arc_value cell) (get nat_cmp kept i)
 
-abbrev pub nodes_state : State → BTreeMap ℕ ℕ → (blocks : ℕ) → BTreeMap ℕ Shared → PoolState
-nodes_state d homes blocks kept = record { blocks = blocks; faults = d.faults; kept = kept_in kept; meant = settled_block d homes }
+abbrev pub nodes_state : (root : Name) → State → BTreeMap ℕ ℕ → (blocks : ℕ) → BTreeMap ℕ Shared → PoolState
+nodes_state root d homes blocks kept = record { root = root; blocks = blocks; faults = d.faults; kept = kept_in kept; meant = settled_block d homes }
 
 -- Each cell that is kept has its name, is a node, and is one that was read on a volume of so many blocks.
 pub record IsSound (blocks i : ℕ) (c : CellSeen) : Type 0 where

@@ -1,12 +1,11 @@
 -- What is printed over a pool, and why printing stops (docs/program.md, "Listing"). A key is its rank.
-use Rattle.std.specs.Prelude.{◌≡◌, ◌⊎◌, ◌↔◌, ℕ, ◌≤◌, List, ◌++◌, Contains, Some, IsSome, Result, IfErr}
+use Rattle.std.specs.Prelude.{◌≡◌, ◌↔◌, ℕ, ◌≤◌, List, ◌++◌, Some, IsSome, Result, IfErr}
 use Rattle.r4_base.specs.Tree.{Name}
 use Rattle.r4_base.specs.declared.items.CellFault.{CellFault}
 use Rattle.r4_outside.specs.Device.{Rose, State}
 use Rattle.r4_outside.specs.Sink.{SinkState}
-use Rattle.r4_cell.specs.Seen.{CellSeen, node_of}
 use Rattle.r4_cell.specs.declared.change.Root.{Root}
-use Rattle.r4_search.specs.Pool.{PoolState, Goes, HasFault, IsOf, LeavesDevice}
+use Rattle.r4_search.specs.Pool.{PoolState, Goes, HasFault, IsFrom, IsNamedFrom, LeavesDevice}
 use Rattle.r4_search.specs.Path.{root_name}
 use Rattle.r4_search.specs.declared.pool.FetchFault.{FetchFault}
 use Rattle.r4_search.specs.declared.pool.FetchFault.TheVariants.{Read, Damaged, Memory as NoRoom}
@@ -19,14 +18,14 @@ pub record Prints (old new : SinkState) : Type 0 where
   pub faults : old.faults ≤ new.faults
   pub some : (before : List ℕ) → old.written ≡ Some before → (text : List ℕ) × (new.written ≡ Some (before ++ text))
 
--- A block is refused at the level and range at which the root names it, or a node that the pool had: it came to `before`, and then to `now`.
+-- A block is refused at the level and range at which cells of the pool lead to it from the root: the pool came to `now`, and then to `later`.
 pub record IsDamaged (root : Root) (old : PoolState) (at : ℕ) (fault : CellFault) : Type 0 where
-  pub before : PoolState
-  pub came : Goes old before
   pub now : PoolState
-  pub goes : Goes before now
+  pub came : Goes old now
+  pub later : PoolState
+  pub goes : Goes now later
   pub name : Name
-  pub named : (name ≡ root_name root) ⊎ ((c : CellSeen) × IsOf before c × Contains (node_of c).names name)
+  pub named : IsNamedFrom (root_name root) (IsFrom later) name
   pub block : at ≡ name.id
   pub has : HasFault now name (Some fault)
 
@@ -41,12 +40,6 @@ abbrev pub IsCause : Root → (old : PoolState) → SinkState → Stop → (new 
 IsCause root old k (Fetch e) new k' = IsFetchCause root old e new
 IsCause root old k Sink new k' = Rose k.faults k'.faults
 IsCause root old k Memory new k' = Unit {0}
-
--- why printing stopped that fetches nothing
-abbrev pub IsSinkCause : SinkState → Stop → SinkState → Type 0
-IsSinkCause k (Fetch e) k' = ⊥
-IsSinkCause k Sink k' = Rose k.faults k'.faults
-IsSinkCause k Memory k' = Unit {0}
 
 -- why printing stopped that prints nothing
 abbrev pub IsPoolCause : Root → (old : PoolState) → Stop → (new : PoolState) → Type 0

@@ -10,6 +10,7 @@ ghost use Rattle.r4_base.specs.declared.items.Attr.{Attr as Attributes};
 ghost use Rattle.r4_base.specs.declared.items.Target.{Target as Named};
 ghost use Rattle.r4_cde.specs.Shown.{name_bytes};
 ghost use Rattle.r4_content.specs.Walk.{attr_at};
+ghost use Rattle.r4_search.specs.Path.{root_name};
 ghost use Rattle.r4_search.specs.Pool.{Goes, IsKnown, LeavesDevice};
 ghost use Rattle.r4_list.specs.Below.{GoesDown, GoesOn, IsFrameOf, IsHeld, IsPushed, PrintsOne, left_in, printed_in, weight};
 ghost use Rattle.r4_list.specs.Listing.{lines_of};
@@ -55,7 +56,8 @@ pub fn print_object<P: Pool, K: Sink>(
     path: &[u8],
 ) -> Result<(), Stop>
     requires some { 1 ≤ root.now.height }
-    requires known { IsKnown (P.state pool.old) root.now.id.0 }
+    requires known { IsKnown (P.state pool.old) (root_name root.now) }
+    requires root { (P.state pool.old).root ≡ root_name root.now }
     requires small { object.now.oid.0 < 2 ^ 60 }
     ensures printed { Printed root.now (P.state pool.old) (K.state out.old) result (P.state pool.new) (K.state out.new) (P.device pool.old) (P.device pool.new) }
     ensures over { (n : ℕ) (image : Image) (m : Content) (c : HasContent n image m) → IsOver c root.now (P.state pool.old)
@@ -87,7 +89,8 @@ impl Below {
         attr: &Attr,
     ) -> Result<(), Stop>
         requires some { 1 ≤ root.now.height }
-        requires known { IsKnown (P.state pool.old) root.now.id.0 }
+        requires known { IsKnown (P.state pool.old) (root_name root.now) }
+        requires root { (P.state pool.old).root ≡ root_name root.now }
         requires small { object.now.oid.0 < 2 ^ 60 }
         ensures printed { Printed root.now (P.state pool.old) (K.state out.old) result (P.state pool.new) (K.state out.new) (P.device pool.old) (P.device pool.new) }
         ensures smaller { OnOk result (left_in self.new ≤ left_in self.old) }
@@ -122,7 +125,8 @@ impl Below {
         frame: Frame,
     ) -> Result<(), Stop>
         requires some { 1 ≤ root.now.height }
-        requires known { IsKnown (P.state pool.old) root.now.id.0 }
+        requires known { IsKnown (P.state pool.old) (root_name root.now) }
+        requires root { (P.state pool.old).root ≡ root_name root.now }
         ensures printed { Printed root.now (P.state pool.old) (K.state out.old) result (P.state pool.new) (K.state out.new) (P.device pool.old) (P.device pool.new) }
         ensures smaller { OnOk result (left_in self.new < left_in self.old + weight frame) }
         ensures over { (n : ℕ) (image : Image) (m : Content) (c : HasContent n image m) → IsOver c root.now (P.state pool.old)
@@ -166,7 +170,8 @@ impl Below {
         object: &Target,
     ) -> Result<(), Stop>
         requires some { 1 ≤ root.now.height }
-        requires known { IsKnown (P.state pool.old) root.now.id.0 }
+        requires known { IsKnown (P.state pool.old) (root_name root.now) }
+        requires root { (P.state pool.old).root ≡ root_name root.now }
         ensures printed { Printed root.now (P.state pool.old) (K.state out.old) result (P.state pool.new) (K.state out.new) (P.device pool.old) (P.device pool.new) }
         ensures smaller { OnOk result (left_in self.new ≤ left_in self.old) }
         ensures over { (n : ℕ) (image : Image) (m : Content) (c : HasContent n image m) → IsOver c root.now (P.state pool.old) → (a : Attributes) → attr_at m object.now ≡ Some a
@@ -199,7 +204,8 @@ impl Below {
         frame: Frame,
     ) -> Result<(), Stop>
         requires some { 1 ≤ root.now.height }
-        requires known { IsKnown (P.state pool.old) root.now.id.0 }
+        requires known { IsKnown (P.state pool.old) (root_name root.now) }
+        requires root { (P.state pool.old).root ≡ root_name root.now }
         ensures goes { Goes (P.state pool.old) (P.state pool.new) }
         ensures device { LeavesDevice (P.device pool.old) (P.device pool.new) }
         ensures cause { IfErr result (λ e. IsPoolCause root.now (P.state pool.old) e (P.state pool.new)) }

@@ -14,6 +14,7 @@ ghost use Rattle.r4_search.specs.Path.{EndsAt};
 ghost use Rattle.r4_cell.specs.Seen.{node_of};
 ghost use Rattle.r4_outside.specs.Sink.{Appends};
 ghost use Rattle.r4_twig.specs.View.{view_units};
+ghost use Rattle.r4_search.specs.Path.{root_name};
 ghost use Rattle.r4_search.specs.Pool.{IsKnown};
 ghost use Rattle.r4_list.specs.Leaf.{AreUpTo};
 ghost use Rattle.r4_list.specs.Over.{IsOver};
@@ -56,7 +57,8 @@ pub fn print_body<P: Pool, K: Sink>(
     size: u64,
 ) -> Result<(), Stop>
     requires some { 1 ≤ root.now.height }
-    requires known { IsKnown (P.state pool.old) root.now.id.0 }
+    requires known { IsKnown (P.state pool.old) (root_name root.now) }
+    requires root { (P.state pool.old).root ≡ root_name root.now }
     requires file { file.now.locality < 2 ^ 60 }
     requires from { least ≤ rank (body_key file.now.locality file.now.ordering file.now.oid 0) }
     ensures printed { Printed root.now (P.state pool.old) (K.state out.old) result (P.state pool.new) (K.state out.new) (P.device pool.old) (P.device pool.new) }
@@ -83,7 +85,8 @@ fn print_part<P: Pool, K: Sink>(
     end: u64,
 ) -> Result<u64, Stop>
     requires some { 1 ≤ root.now.height }
-    requires known { IsKnown (P.state pool.old) root.now.id.0 }
+    requires known { IsKnown (P.state pool.old) (root_name root.now) }
+    requires root { (P.state pool.old).root ≡ root_name root.now }
     requires from { least ≤ rank key }
     requires first { slice_index key.el 0 + 1 < 2 ^ 64 }
     requires below { slice_index key.el 3 < end }
@@ -109,6 +112,7 @@ fn print_in_cell<P: Pool, K: Sink>(
 ) -> Result<u64, Stop>
     requires level { 1 ≤ cell.now.level }
     requires known { AreKnown (P.state pool.old) (node_of cell.now).names }
+    requires root { (P.state pool.old).root ≡ root_name root.now }
     requires inside { rank key < rank cell.now.hi }
     requires below { slice_index key.el 3 < end }
     requires small { end ≤ 2 ^ 30 }
@@ -142,6 +146,7 @@ fn print_item<P: Pool, K: Sink>(
 ) -> Result<u64, Stop>
     requires level { 1 ≤ cell.now.level }
     requires known { AreKnown (P.state pool.old) (node_of cell.now).names }
+    requires root { (P.state pool.old).root ≡ root_name root.now }
     requires place { place < length (items_of cell.now.block) }
     requires from { (it : Item) → slice_get (items_of cell.now.block) place ≡ Some it → rank it.key ≤ rank key }
     requires below { slice_index key.el 3 < end }
@@ -201,6 +206,7 @@ fn print_extent<P: Pool, K: Sink>(
     requires few { length item.now.body.now < 16 * 65536 }
     requires good { body_fault true (2 ^ 64) item.now.body.now ≡ None }
     requires known { AreKnown (P.state pool.old) (block_names (rank item.now.key) (units_of item.now.body.now)) }
+    requires root { (P.state pool.old).root ≡ root_name root.now }
     requires object { IsTrue (slice_index item.now.key.el 0 == slice_index key.el 0 && slice_index item.now.key.el 1 == slice_index key.el 1 && slice_index item.now.key.el 2 == slice_index key.el 2) }
     requires from { slice_index item.now.key.el 3 ≤ slice_index key.el 3 }
     requires below { slice_index key.el 3 < end }
@@ -286,6 +292,7 @@ fn print_bytes<P: Pool, K: Sink>(
     to: u64,
 ) -> Result<(), Stop>
     requires known { AreKnown (P.state pool.old) (unit_names unit (rank lo)) }
+    requires root { (P.state pool.old).root ≡ root_name root.now }
     requires order { from ≤ to }
     requires within { to ≤ 4096 }
     requires small { slice_index lo.el 3 < 2 ^ 30 }

@@ -8,6 +8,7 @@ ghost use Rattle.r4_base.specs.Value.{Content};
 ghost use Rattle.r4_base.specs.Volume.{HasContent};
 ghost use Rattle.r4_base.specs.Tree.{InSpan, Span};
 ghost use Rattle.r4_cell.specs.Seen.{node_of};
+ghost use Rattle.r4_search.specs.Path.{root_name};
 ghost use Rattle.r4_search.specs.Pool.{IsKnown};
 ghost use Rattle.r4_search.specs.Path.{EndsAt};
 ghost use Rattle.r4_list.specs.Frame.{GoesFurther, IsNextLeaf, IsOpenAt, NoEntries, StandsAt, dir_number};
@@ -140,7 +141,8 @@ pub fn first_frame<P: Pool>(
     path: usize,
 ) -> Result<Option<Frame>, FetchFault>
     requires some { 1 ≤ root.now.height }
-    requires known { IsKnown (P.state pool.old) root.now.id.0 }
+    requires known { IsKnown (P.state pool.old) (root_name root.now) }
+    requires root { (P.state pool.old).root ≡ root_name root.now }
     requires small { dir.0 < 2 ^ 60 }
     ensures fetched { Fetched root.now (P.state pool.old) result (P.state pool.new) (P.device pool.old) (P.device pool.new) }
     ensures over { (n : ℕ) (image : Image) (m : Content) (c : HasContent n image m) → IsOver c root.now (P.state pool.old) → (f : OpenDir) → f.dir.oid.0 ≡ dir.0 → f.from ≡ 0
@@ -171,7 +173,8 @@ pub fn next_frame<P: Pool>(
     frame: &Frame,
 ) -> Result<Option<Frame>, FetchFault>
     requires some { 1 ≤ root.now.height }
-    requires known { IsKnown (P.state pool.old) root.now.id.0 }
+    requires known { IsKnown (P.state pool.old) (root_name root.now) }
+    requires root { (P.state pool.old).root ≡ root_name root.now }
     ensures fetched { Fetched root.now (P.state pool.old) result (P.state pool.new) (P.device pool.old) (P.device pool.new) }
     ensures more { IfOk result (λ o. IfSome o (λ next. rank (arc_value frame.now.leaf).hi < rank (arc_value next.leaf).hi)) }
     ensures within { IfOk result (λ o. IfSome o (λ _. rank (arc_value frame.now.leaf).hi < 2 ^ 256)) }
@@ -205,7 +208,8 @@ fn leaf_from<P: Pool>(
     key: Key,
 ) -> Result<Option<Arc<Cell>>, FetchFault>
     requires some { 1 ≤ root.now.height }
-    requires known { IsKnown (P.state pool.old) root.now.id.0 }
+    requires known { IsKnown (P.state pool.old) (root_name root.now) }
+    requires root { (P.state pool.old).root ≡ root_name root.now }
     ensures fetched { Fetched root.now (P.state pool.old) result (P.state pool.new) (P.device pool.old) (P.device pool.new) }
     ensures level { IfOk result (λ o. IfSome o (λ leaf. (arc_value leaf).level ≡ 1)) }
     ensures more { IfOk result (λ o. IfSome o (λ leaf. rank key < rank (arc_value leaf).hi)) }

@@ -9,6 +9,7 @@ ghost use Rattle.r4_outside.specs.Device.{TellsReads};
 ghost use Rattle.r4_outside.specs.Sink.{Appends};
 ghost use Rattle.r4_base.specs.Layout.{IsLawfulSuper};
 ghost use Rattle.r4_replay.specs.Homes.{StaysWithin};
+ghost use Rattle.r4_search.specs.Path.{root_name};
 ghost use Rattle.r4_search.specs.Pool.{IsKnown, LeavesDevice};
 ghost use Rattle.r4_list.specs.Lists.{Answers, IsStopFault, PrintsText, log_fault_of, open_fault_of, stop_fault_of};
 ghost use Rattle.r4_list.specs.OverWalks.{IsLookedUp};
@@ -96,7 +97,7 @@ fn print_settled<E: Device, K: Sink>(
         id: NodeId(found.root_block),
         height: found.tree_height as u8,
     };
-    let mut nodes = Nodes::new(alloc, dev, log, found.block_count);
+    let mut nodes = Nodes::new(alloc, dev, log, root, found.block_count);
     let printed = print_path(alloc, &mut nodes, &root, out, path);
     let dev = nodes.into_device();
     if let Err(stop) = printed {
@@ -122,7 +123,8 @@ fn print_path<P: Pool, K: Sink>(
 ) -> Result<(), Stop>
     requires path { 1 ≤ length path.now }
     requires some { 1 ≤ root.now.height }
-    requires known { IsKnown (P.state pool.old) root.now.id.0 }
+    requires known { IsKnown (P.state pool.old) (root_name root.now) }
+    requires root { (P.state pool.old).root ≡ root_name root.now }
     ensures printed { Printed root.now (P.state pool.old) (K.state out.old) result (P.state pool.new) (K.state out.new) (P.device pool.old) (P.device pool.new) }
     ensures over { (n : ℕ) (image : Image) (m : Content) (c : HasContent n image m) → IsOver c root.now (P.state pool.old)
         → (text : List ℕ) → IsListing m path.now text → PrintsOver c root.now text (K.state out.old) result (P.state pool.new) (K.state out.new) }
@@ -155,7 +157,8 @@ fn print_found<P: Pool, K: Sink>(
     path: &[u8],
 ) -> Result<(), Stop>
     requires some { 1 ≤ root.now.height }
-    requires known { IsKnown (P.state pool.old) root.now.id.0 }
+    requires known { IsKnown (P.state pool.old) (root_name root.now) }
+    requires root { (P.state pool.old).root ≡ root_name root.now }
     requires reached { IsLookedUp object.now }
     ensures printed { Printed root.now (P.state pool.old) (K.state out.old) result (P.state pool.new) (K.state out.new) (P.device pool.old) (P.device pool.new) }
     ensures over { (n : ℕ) (image : Image) (m : Content) (c : HasContent n image m) → IsOver c root.now (P.state pool.old)

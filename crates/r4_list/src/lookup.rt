@@ -9,6 +9,7 @@ ghost use Rattle.r4_base.specs.Volume.{HasContent};
 ghost use Rattle.r4_base.specs.Name.{name_fault};
 ghost use Rattle.r4_content.specs.Walk.{attr_at, target_at};
 ghost use Rattle.r4_cell.specs.Seen.{CellSeen, node_of};
+ghost use Rattle.r4_search.specs.Path.{root_name};
 ghost use Rattle.r4_search.specs.Pool.{IsKnown, IsOf, KnowsNames};
 ghost use Rattle.r4_search.specs.Path.{EndsAt};
 ghost use Rattle.r4_list.specs.Over.{FindsOver, IsOver};
@@ -46,7 +47,8 @@ pub fn cell_of<P: Pool>(
     key: Key,
 ) -> Result<Arc<Cell>, FetchFault>
     requires some { 1 ≤ root.now.height }
-    requires known { IsKnown (P.state pool.old) root.now.id.0 }
+    requires known { IsKnown (P.state pool.old) (root_name root.now) }
+    requires root { (P.state pool.old).root ≡ root_name root.now }
     requires from { least ≤ rank key }
     requires below { rank key < top }
     ensures fetched { Fetched root.now (P.state pool.old) result (P.state pool.new) (P.device pool.old) (P.device pool.new) }
@@ -74,7 +76,8 @@ pub fn attr_of<P: Pool>(
     object: &Target,
 ) -> Result<Option<Attr>, FetchFault>
     requires some { 1 ≤ root.now.height }
-    requires known { IsKnown (P.state pool.old) root.now.id.0 }
+    requires known { IsKnown (P.state pool.old) (root_name root.now) }
+    requires root { (P.state pool.old).root ≡ root_name root.now }
     ensures fetched { Fetched root.now (P.state pool.old) result (P.state pool.new) (P.device pool.old) (P.device pool.new) }
     ensures over { (n : ℕ) (image : Image) (m : Content) (c : HasContent n image m) → IsOver c root.now (P.state pool.old)
         → FindsOver c root.now result (P.state pool.new) (λ a. a ≡ attr_at m object.now) }
@@ -107,7 +110,8 @@ pub fn target_of<P: Pool>(
     name: &[u8],
 ) -> Result<Option<Target>, FetchFault>
     requires some { 1 ≤ root.now.height }
-    requires known { IsKnown (P.state pool.old) root.now.id.0 }
+    requires known { IsKnown (P.state pool.old) (root_name root.now) }
+    requires root { (P.state pool.old).root ≡ root_name root.now }
     ensures fetched { Fetched root.now (P.state pool.old) result (P.state pool.new) (P.device pool.old) (P.device pool.new) }
     ensures over { (n : ℕ) (image : Image) (m : Content) (c : HasContent n image m) → name_fault name.now ≡ None → IsOver c root.now (P.state pool.old)
         → FindsOver c root.now result (P.state pool.new) (λ t. t ≡ target_at m dir.0 name.now) }

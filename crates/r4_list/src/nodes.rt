@@ -8,7 +8,7 @@ ghost use Rattle.r4_search.specs.Pool.{called, place_fault};
 ghost use Rattle.r4_list.specs.Pool.{AreSound, IsAgain, Keeps, kept_in, refused_as};
 
 use r4_base::{Block, BlockNo, CellFault, Key, NodeId};
-use r4_cell::{Cell, CellRefused, read_cell};
+use r4_cell::{Cell, CellRefused, Root, read_cell};
 use r4_outside::Device;
 use r4_replay::Log;
 use r4_search::{FetchFault, Pool};
@@ -16,12 +16,13 @@ use std::alloc::Global;
 use std::collections::BTreeMap;
 use std::sync::Arc;
 
-/// A pool over the settled image of a device: it keeps each node that was read, and no data block. The volume has
-/// `blocks` blocks.
+/// A pool over the settled image of a device, of the tree with this root: it keeps each node that was read, and no data
+/// block. The volume has `blocks` blocks.
 #[derive(Drop)]
 pub struct Nodes<D: Device> {
     dev: D,
     log: Log,
+    root: Root,
     blocks: u64,
     kept: BTreeMap<u64, Arc<Cell>>,
     ghost small: { blocks < 2 ^ 64 },
@@ -32,17 +33,19 @@ pub struct Nodes<D: Device> {
 
 impl<D: Device> Nodes<D> {
     /// No node is kept. The device has at least as many blocks as the volume.
-    pub fn new(alloc: Global, dev: D, log: Log, blocks: u64) -> Nodes<D>
+    pub fn new(alloc: Global, dev: D, log: Log, root: Root, blocks: u64) -> Nodes<D>
         requires within { blocks ≤ (D.state dev).blocks }
         requires homes { StaysWithin (D.state dev).blocks log }
         ensures device { result.dev ≡ dev }
         ensures log { result.log ≡ log }
+        ensures root { result.root ≡ root }
         ensures blocks { result.blocks ≡ blocks }
         ensures empty { (i : ℕ) → kept_in result.kept i ≡ None }
     {
         Nodes {
             dev,
             log,
+            root,
             blocks,
             kept: BTreeMap::new(alloc),
         }
@@ -57,9 +60,10 @@ impl<D: Device> Nodes<D> {
 }
 
 impl<D: Device> Pool for Nodes<D> {
+    ghost use Rattle.r4_search.specs.Path.{root_name};
     ghost use Rattle.r4_list.specs.Pool.{nodes_state};
 
-    ghost state = { λ nodes. nodes_state (D.state nodes.dev) nodes.log.homes nodes.blocks nodes.kept };
+    ghost state = { λ nodes. nodes_state (root_name nodes.root) (D.state nodes.dev) nodes.log.homes nodes.blocks nodes.kept };
 
     ghost device = { λ nodes. D.state nodes.dev };
 

@@ -8,6 +8,7 @@ ghost use Rattle.r4_base.specs.Name.{name_fault};
 ghost use Rattle.r4_base.specs.Value.{Content};
 ghost use Rattle.r4_base.specs.Volume.{HasContent, is_directory};
 ghost use Rattle.r4_content.specs.Walk.{names_in, pieces_of, walk};
+ghost use Rattle.r4_search.specs.Path.{root_name};
 ghost use Rattle.r4_search.specs.Pool.{IsKnown};
 ghost use Rattle.r4_list.specs.Over.{FindsOver, IsOver};
 ghost use Rattle.r4_list.specs.OverWalks.{EndsLookedUp, IsLookedUp, IsStep, pieces_from, walked_of};
@@ -54,7 +55,8 @@ pub fn walk<P: Pool>(
 ) -> Result<Walked, FetchFault>
     requires path { 1 ≤ length path.now }
     requires some { 1 ≤ root.now.height }
-    requires known { IsKnown (P.state pool.old) root.now.id.0 }
+    requires known { IsKnown (P.state pool.old) (root_name root.now) }
+    requires root { (P.state pool.old).root ≡ root_name root.now }
     ensures fetched { Fetched root.now (P.state pool.old) result (P.state pool.new) (P.device pool.old) (P.device pool.new) }
     ensures over { (n : ℕ) (image : Image) (m : Content) (c : HasContent n image m) → IsOver c root.now (P.state pool.old)
         → FindsOver c root.now result (P.state pool.new) (λ w. walked_of w ≡ walk m (names_in path.now)) }
@@ -99,7 +101,8 @@ fn step<P: Pool>(
     name: &[u8],
 ) -> Result<Option<Object>, FetchFault>
     requires some { 1 ≤ root.now.height }
-    requires known { IsKnown (P.state pool.old) root.now.id.0 }
+    requires known { IsKnown (P.state pool.old) (root_name root.now) }
+    requires root { (P.state pool.old).root ≡ root_name root.now }
     ensures fetched { Fetched root.now (P.state pool.old) result (P.state pool.new) (P.device pool.old) (P.device pool.new) }
     ensures over { (n : ℕ) (image : Image) (m : Content) (c : HasContent n image m) → name_fault name.now ≡ None → IsOver c root.now (P.state pool.old)
         → FindsOver c root.now result (P.state pool.new) (IsStep m dir.0 name.now) }

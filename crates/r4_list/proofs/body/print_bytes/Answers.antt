@@ -18,14 +18,17 @@ pub returns-then-unit-eq0-clause-printed : goal.returns-then-unit-eq0-clause-pri
 returns-then-unit-eq0-clause-printed g c = named_well c.args.root.now (unit_names c.args.unit (rank c.args.lo)) _ _ _ _ _ _ (went_written _ _ _ _ _ _ c.in_ok-write.ensures) tt
 
 pub fetch-requires : goal.fetch-requires
-fetch-requires g c = c.requires.known (block_name c.args.unit.start (rank c.args.lo)) (unit_in c.args.unit (rank c.args.lo) c.if-unit-eq0.false)
+fetch-requires g c =
+    let high = rank_behind c.args.lo c.with_offset-hi.result c.with_offset-hi.ensures in
+    let here = unit_in c.args.unit (rank c.args.lo) c.if-unit-eq0.false in
+    c.requires.known _ (subst (λ (hi : ℕ). Contains (unit_names c.args.unit (rank c.args.lo)) (record { id = c.args.unit.start; level = 0; lo = rank c.args.lo; hi = hi })) (sym high) here)
 
 pub returns-in_err-block-clause-printed : goal.returns-in_err-block-clause-printed
 returns-in_err-block-clause-printed g c =
     let high = rank_behind c.args.lo c.with_offset-hi.result c.with_offset-hi.ensures in
     let here = unit_in c.args.unit (rank c.args.lo) c.if-unit-eq0.false in
     let named : Contains (unit_names c.args.unit (rank c.args.lo)) (called c.args.unit.start 0 c.args.lo c.with_offset-hi.result) = subst (λ (hi : ℕ). Contains (unit_names c.args.unit (rank c.args.lo)) (record { id = c.args.unit.start; level = 0; lo = rank c.args.lo; hi = hi })) (sym high) here in
-    named_fetching c.args.root.now (unit_names c.args.unit (rank c.args.lo)) _ _ _ _ _ _ (went_same _ _ _) (called c.args.unit.start 0 c.args.lo c.with_offset-hi.result) _ _ c.from_residual-in_err-block.result c.in_err-block.field-0.0 named c.in_err-block.ensures.fetches.goes c.in_err-block.ensures.device c.in_err-block.ensures.fetches.err c.from_residual-in_err-block.ensures.1
+    named_fetching c.args.root.now (unit_names c.args.unit (rank c.args.lo)) _ _ _ _ _ _ (went_same _ _ _) (called c.args.unit.start 0 c.args.lo c.with_offset-hi.result) _ _ c.from_residual-in_err-block.result c.in_err-block.field-0.0 c.requires.root (c.requires.known _ named) c.in_err-block.ensures.fetches.goes c.in_err-block.ensures.device c.in_err-block.ensures.fetches.err c.from_residual-in_err-block.ensures.1
 
 pub returns-in_err-write-2-clause-printed : goal.returns-in_err-write-2-clause-printed
 returns-in_err-write-2-clause-printed g c = named_writing c.args.root.now (unit_names c.args.unit (rank c.args.lo)) _ _ _ _ _ _ (record { goes = c.fetch.ensures.fetches.goes; device = c.fetch.ensures.device; prints = prints_same _ }) _ _ c.from_residual-in_err-write-2.result c.in_err-write-2.field-0.0 c.in_err-write-2.ensures c.from_residual-in_err-write-2.ensures.1

@@ -11,7 +11,7 @@ pub returns-in_err-path-clause-fetched : goal.returns-in_err-path-clause-fetched
 returns-in_err-path-clause-fetched g c = record {
   goes = c.in_err-path.ensures.goes;
   device = c.in_err-path.ensures.device;
-  cause = handed _ c.from_residual.result c.in_err-path.field-0.0 c.from_residual.ensures.1 (fetch_cause c.args.root.now (rank c.args.key) _ _ c.in_err-path.field-0.0 c.in_err-path.ensures.err);
+  cause = handed _ c.from_residual.result c.in_err-path.field-0.0 c.from_residual.ensures.1 (fetch_cause c.args.root.now (rank c.args.key) _ _ c.in_err-path.field-0.0 c.requires.root c.cover.ensures.goes c.in_err-path.ensures.err);
 }
 
 pub returns-clause-from : goal.returns-clause-from
