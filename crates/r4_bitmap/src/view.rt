@@ -4,10 +4,7 @@ ghost use Rattle.std.specs.Prelude.{◌≡◌, ◌<◌, ◌+◌, ◌*◌, ◌≤
 ghost use Rattle.r4_base.specs.Bitmap.{is_used, IsFirstFree, IsFullFrom};
 ghost use Rattle.r4_bitmap.specs.Words.{IsSeenFrom};
 
-use r4_base::get64;
-
-/// How many bits a bitmap block has.
-const BITS: u64 = 32_736;
+use r4_base::{BITMAP_BITS, get64};
 
 /// A bitmap block that is read where it stands: 32736 bits, of which 1 means used (docs/layout.md, "Bitmaps").
 #[derive(Drop)]
@@ -40,7 +37,7 @@ impl<'a> BitmapView<'a> {
     pub fn first_free(&self, from: u64) -> Option<u64>
         ensures { MatchOption result (IsFullFrom (view_bytes self.now) from) (λ j. IsFirstFree (view_bytes self.now) from j) }
     {
-        if from >= BITS {
+        if from >= BITMAP_BITS {
             return None;
         }
         first_zero(self.block, from)

@@ -5,11 +5,11 @@ use Rattle.std.proofs.lemmas.Bool.{eq-eqb, lt-ltb}
 use Rattle.std.proofs.lemmas.Option.{same_Some}
 use Rattle.r4_base.specs.Cell.{block_names, hole_bytes}
 use Rattle.r4_base.specs.Extents.{AreLawfulUnits, IsLawfulUnit, blocks_in}
-use Rattle.r4_base.specs.Key.{IsKey, offset_of, rank}
+use Rattle.r4_base.specs.Key.{IsKey, offset_of, rank, later}
 use Rattle.r4_base.specs.declared.items.Unit.{Unit as ExtentUnit}
 use Rattle.r4_base.specs.declared.key.Key.{Key}
 use Rattle.r4_base.proofs.Keys.{is_key}
-use Rattle.r4_branch.specs.Pieces.{Follow, bytes_behind, is_at, later, names_of, open_end, part_names, part_units, twig_bytes, unit_pieces, units_of}
+use Rattle.r4_branch.specs.Pieces.{Follow, bytes_behind, is_at, names_of, open_end, part_names, part_units, twig_bytes, unit_pieces, units_of}
 use Rattle.r4_branch.specs.declared.piece.TwigPart.TheVariants.{Blocks}
 
 -- ---- one unit more

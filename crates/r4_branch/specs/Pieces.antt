@@ -3,7 +3,7 @@ use Rattle.std.specs.Prelude.{◌≡◌, ℕ, ◌+◌, ◌*◌, ◌^◌, ◌≤�
 use Rattle.r4_base.specs.Cell.{cell_fault, names_block, run_names, zeros_from}
 use Rattle.r4_base.specs.Bytes.{number_at}
 use Rattle.r4_base.specs.Extents.{IsLawfulUnit, is_hole, units_of as units_of_body}
-use Rattle.r4_base.specs.Key.{IsKey, offset_of, rank}
+use Rattle.r4_base.specs.Key.{IsKey, offset_of, rank, later}
 use Rattle.r4_base.specs.Node.{Item}
 use Rattle.r4_base.specs.Tree.{Name}
 use Rattle.r4_base.specs.Value.{Value}
@@ -18,12 +18,6 @@ abbrev pub MayStand : (lo hi : ℕ) → List ℕ → Type 0
 MayStand lo hi b = (length b ≡ 4096) × (cell_fault true (2 ^ 64) 2 lo hi b ≡ None)
 
 -- ---- the pieces of items
-
--- the key so many bytes behind another, of the same object
-abbrev pub later : Key → (bytes : ℕ) → Key
-later k n = record {
-  el = slice_index k.el 0 ∷ (slice_index k.el 1 ∷ (slice_index k.el 2 ∷ ((slice_index k.el 3 + n) ∷ [])));
-}
 
 -- units one behind the other, the first so many blocks behind a key
 abbrev pub unit_pieces : Key → (blocks : ℕ) → List Unit → List TwigPiece

@@ -11,8 +11,8 @@ ghost use Rattle.r4_branch.specs.declared.piece.TwigPiece.{TwigPiece as PieceSee
 use crate::opening::put_bytes_at;
 use crate::piece::{TwigPart, TwigPiece};
 use crate::placing::place_for;
-use crate::reading::{EXTENT, POINTER};
 use crate::spelling::{spell_pointer, spell_unit};
+use r4_base::{EXTENT, POINTER};
 use r4_node40::NodeMut;
 
 /// Puts a piece behind what the twig has, and answers whether there was room.

@@ -13,7 +13,7 @@ ghost use Rattle.r4_branch.specs.declared.twig.Twig.{Twig as TwigSeen};
 use crate::filling::put;
 use crate::piece::TwigPiece;
 use crate::twig::Twig;
-use r4_base::{Block, Key, Memory};
+use r4_base::{Block, Key, Memory, TWIG};
 use r4_node40::NodeMut;
 use std::alloc::Global;
 
@@ -54,7 +54,7 @@ fn fill_block(block: &mut Block, mkfs_id: u32, pieces: &[TwigPiece]) -> usize
     ensures fills { (lo hi : ℕ) → Follow lo hi pieces.now → FillsUp lo hi pieces.now result block.new }
     ensures id { mkfs_id_of block.new ≡ mkfs_id }
 {
-    let mut node = NodeMut::format(block, 2, mkfs_id);
+    let mut node = NodeMut::format(block, TWIG, mkfs_id);
     fill(&mut node, pieces)
 }
 

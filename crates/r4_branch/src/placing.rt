@@ -9,9 +9,8 @@ ghost use Rattle.r4_branch.specs.Filling.{IsPlaceFor, continues_item};
 ghost use Rattle.r4_branch.specs.Items.{IsSoundItem, Lie};
 
 use crate::opening::Place;
-use crate::reading::EXTENT;
 use crate::spelling::key_behind;
-use r4_base::Key;
+use r4_base::{EXTENT, Key};
 use r4_node40::{ItemView, NodeMut};
 
 /// Where a piece at the key goes: behind what the last item has, if it continues that, and else into an item of its own.

@@ -3,25 +3,16 @@
 ghost use Rattle.std.specs.Prelude.{◌≡◌, ℕ, ◌+◌, ◌*◌, ◌^◌, ◌<◌, ◌≤◌, ◌++◌, OnOk, IfOk};
 ghost use Rattle.r4_base.specs.Cell.{names_in, units_in};
 ghost use Rattle.r4_base.specs.Extents.{units_of as units_of_body};
-ghost use Rattle.r4_base.specs.Key.{IsKey, offset_of, rank};
+ghost use Rattle.r4_base.specs.Key.{IsKey, offset_of, rank, later};
 ghost use Rattle.r4_node40.specs.View.{view_block, view_items};
-ghost use Rattle.r4_branch.specs.Pieces.{AreTwigPieces, MayStand, item_pieces, later, names_of, pieces_in, twig_bytes, unit_pieces, units_of};
+ghost use Rattle.r4_branch.specs.Pieces.{AreTwigPieces, MayStand, item_pieces, names_of, pieces_in, twig_bytes, unit_pieces, units_of};
 ghost use Rattle.r4_branch.specs.Items.{IsSoundItem};
 
 use crate::piece::{TwigPart, TwigPiece};
-use r4_base::{Key, Memory, NodeId, get64};
+use r4_base::{BLOCK_BYTES, Key, Memory, NodeId, POINTER, get64};
 use r4_node40::NodeView;
 use r4_twig::ExtentView;
 use std::alloc::Global;
-
-/// The plugin of a pointer.
-pub(crate) const POINTER: u16 = 3;
-
-/// The plugin of an extent.
-pub(crate) const EXTENT: u16 = 5;
-
-/// The bytes of a block.
-const BLOCK: u64 = 4096;
 
 /// The pieces of a twig that may stand, in their order: its pointers and the units of its extents. They name what the twig
 /// names and have its units, and need at most the room that a twig has (docs/volume.md, "Twigs").
@@ -95,7 +86,5 @@ pub(crate) fn behind(key: &Key, blocks: u64) -> Key
     ensures rank { rank result ≡ rank key.now + 4096 * blocks }
     ensures offset { offset_of result ≡ offset_of key.now + 4096 * blocks }
 {
-    Key {
-        el: [key.el[0], key.el[1], key.el[2], key.el[3] + BLOCK * blocks],
-    }
+    key.behind(BLOCK_BYTES * blocks)
 }

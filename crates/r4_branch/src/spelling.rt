@@ -6,7 +6,7 @@ ghost use Rattle.r4_base.specs.Key.{offset_of, rank};
 ghost use Rattle.r4_branch.specs.Items.{IsSoundItem};
 
 use crate::reading::behind;
-use r4_base::{BlockNo, Key, NodeId, Unit};
+use r4_base::{BLOCK_BYTES, BlockNo, Key, NodeId, Unit};
 use r4_twig::{ExtentView, put_pointer, replace};
 
 /// The body of a pointer to a node.
@@ -36,7 +36,7 @@ pub(crate) fn key_behind(key: &Key, body: &[u8]) -> Option<Key>
     ensures { option_map rank result ≡ (if nat_lt (offset_of key.now + 4096 * blocks_in (units_of body.now)) (2 ^ 64) then Some (rank key.now + 4096 * blocks_in (units_of body.now)) else None) }
 {
     let blocks = blocks_of(body);
-    let bytes = blocks.checked_mul(4096)?;
+    let bytes = blocks.checked_mul(BLOCK_BYTES)?;
     key.el[3].checked_add(bytes)?;
     Some(behind(key, blocks))
 }

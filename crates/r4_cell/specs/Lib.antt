@@ -1,3 +1,4 @@
 pub mod Seen
 pub mod Patch
 pub mod Ends
+mod Words

@@ -7,25 +7,11 @@ ghost use Rattle.r4_node40.specs.View.{item_shown};
 ghost use Rattle.r4_twig.specs.View.{view_units};
 ghost use Rattle.r4_cell.specs.Ends.{FindsEnd, IsLastByte};
 
-use r4_base::{BlockNo, CellFault, Key, is_fixed};
+use r4_base::{BLOCK_BYTES, BlockNo, CellFault, ENTRIES, EXTENT, Key, POINTER, STAT, TAIL_END, is_fixed};
 use r4_cde::DirView;
 use r4_meta::read_stat;
 use r4_node40::ItemView;
 use r4_twig::{ExtentView, pointer};
-
-const STAT_DATA: u16 = 0;
-
-const DIRECTORY: u16 = 2;
-
-const POINTER: u16 = 3;
-
-const EXTENT: u16 = 5;
-
-/// How many bytes a block has.
-const BLOCK: u128 = 4096;
-
-/// Where the bytes of a tail end at most.
-const TAIL_END: u64 = 16_384;
 
 /// The key of the last unit of an item, or why its body is refused on a volume of `blocks` blocks. There is no key where
 /// the last unit has an offset of 2^64 or more. A pointer counts as one unit.
@@ -34,8 +20,8 @@ pub fn last_key(item: &ItemView<'_>, blocks: u64) -> Result<Option<Key>, CellFau
     ensures { FindsEnd blocks (item_shown item.now) result }
 {
     match item.plugin {
-        STAT_DATA => last_of_stat(item),
-        DIRECTORY => last_of_directory(item),
+        STAT => last_of_stat(item),
+        ENTRIES => last_of_directory(item),
         POINTER => last_of_pointer(item, blocks),
         EXTENT => last_of_extent(item, blocks),
         _ => last_of_tail(item),
@@ -92,7 +78,7 @@ fn last_of_extent(item: &ItemView<'_>, blocks: u64) -> Result<Option<Key>, CellF
     ensures { FindsEnd blocks (item_shown item.now) result }
 {
     match ExtentView::read(item.body, blocks) {
-        Ok(extent) => Ok(last_byte(&item.key, BLOCK * blocks_of(&extent))),
+        Ok(extent) => Ok(last_byte(&item.key, BLOCK_BYTES as u128 * blocks_of(&extent))),
         Err(fault) => Err(CellFault::Extent(fault)),
     }
 }
@@ -139,7 +125,5 @@ fn last_byte(key: &Key, bytes: u128) -> Option<Key>
     if end > 1 << 64 {
         return None;
     }
-    Some(Key {
-        el: [key.el[0], key.el[1], key.el[2], (end - 1) as u64],
-    })
+    Some(key.with_offset((end - 1) as u64))
 }

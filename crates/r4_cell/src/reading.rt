@@ -12,7 +12,7 @@ ghost use Rattle.r4_cell.specs.Ends.{EndsAt, RefusedAs, is_last_below};
 use crate::body::last_key;
 use crate::cell::Cell;
 use crate::refused::CellRefused;
-use r4_base::{Block, CellFault, Key, Memory, NodeId};
+use r4_base::{Block, CellFault, Key, LEAF, Memory, NodeId};
 use r4_node40::{ItemView, NodeView};
 use std::alloc::Global;
 use std::sync::Arc;
@@ -88,7 +88,7 @@ fn is_in_range(item: &ItemView<'_>, last: Option<Key>, next: Key, i: u16, place:
     ensures { result ≡ range_is_good place.now.level (rank place.now.lo) (rank place.now.hi) (rank next) i (item_shown item.now) }
 {
     let begins = !item.key.is_below(place.lo) && item.key.is_below(place.hi);
-    let first = place.level <= 1 || i != 0 || !place.lo.is_below(item.key);
+    let first = place.level <= LEAF || i != 0 || !place.lo.is_below(item.key);
     begins && first && ends_below(last, place.hi, next)
 }
 

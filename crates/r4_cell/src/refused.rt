@@ -15,3 +15,18 @@ pub enum ImageFault {
     Layout(LayoutFault),
     Cell(CellFault),
 }
+
+impl ImageFault {
+    ghost use Rattle.std.specs.Prelude.{◌≡◌};
+    ghost use Rattle.r4_cell.specs.Words.{image_word_of};
+
+    /// Its words, as they are printed (docs/program.md, "Lines and statuses").
+    pub fn word(self) -> &'static str
+        ensures { result.now ≡ image_word_of self }
+    {
+        match self {
+            ImageFault::Layout(fault) => fault.word(),
+            ImageFault::Cell(fault) => fault.word(),
+        }
+    }
+}

@@ -47,7 +47,7 @@ fn reply_to(alloc: Global, seen: &mut Seen, text: &str, oid: Oid) -> Result<Repl
     let [command] = script.commands.as_slice() else {
         return Err(Fail::from("no command"));
     };
-    perform(alloc, seen, command, oid)
+    perform(alloc, seen, &command.copy(alloc)?, oid)
 }
 
 // Does the command of a row, and looks at the line that tells its reply.
@@ -64,7 +64,7 @@ fn answers<X: Abort>(
         script: ScriptNo(1),
         index: 1,
         command: Command::Commit,
-        reply: reply_to(alloc, seen, text, oid)?,
+        reply: reply_to(alloc, seen, text, oid)?.share()?,
     };
     let mut got = Vec::new(alloc);
     line(alloc, &entry, &mut got)?;
@@ -228,5 +228,14 @@ fn numbers_end(rt: HostRuntime) -> Result<(), Fail> {
         assert_eq!(&rt; matches!(reply, Reply::Oids), word == "oids");
     }
     assert_eq!(&rt; seen.parts.len(), 3);
+    Ok(())
+}
+
+#[test]
+fn commands_without_a_path_are_copied(rt: HostRuntime) -> Result<(), Fail> {
+    let alloc = rt.alloc();
+    assert!(&rt; matches!(Command::Begin.copy(alloc)?, Command::Begin));
+    assert!(&rt; matches!(Command::End.copy(alloc)?, Command::End));
+    assert!(&rt; matches!(Command::Commit.copy(alloc)?, Command::Commit));
     Ok(())
 }

@@ -9,13 +9,10 @@ ghost use Rattle.r4_commit.specs.Held.{blocks_in};
 ghost use Rattle.r4_commit.specs.Planned.{IsUnused, with_all_held};
 
 use crate::homes::Home;
-use r4_base::{AtomNo, BlockNo, Memory};
+use r4_base::{AtomNo, BlockNo, Memory, RECORD_PAIRS};
 use r4_space::SpaceMap;
 use r4_wander::WanderedCopy;
 use std::alloc::Global;
-
-/// How many pairs a record of the log has at most.
-const PAIRS: usize = 254;
 
 /// The blocks of the copies, in the order of the copies, those of the records, and the head's.
 #[derive(Drop)]
@@ -44,7 +41,7 @@ pub(crate) fn hold_log(
     ensures head { IfOk result (λ log. log.head ≢ prev) }
 {
     space.lawful();
-    let records = copies.div_ceil(PAIRS);
+    let records = copies.div_ceil(RECORD_PAIRS);
     let count = copies + records + 1;
     space.room(alloc, count as u64)?;
     let mut blocks = hold_blocks(alloc, atom, prev, count, space)?;

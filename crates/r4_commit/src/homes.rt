@@ -10,16 +10,13 @@ ghost use Rattle.r4_commit.specs.Places.{overwritten};
 ghost use Rattle.r4_commit.specs.Planned.{AreNewBitmaps, bitmap_writes, new_homes, new_super};
 
 use crate::places::{Places, place_of};
-use r4_base::{AtomNo, Block, BlockNo, Memory, Super40};
+use r4_base::{AtomNo, Block, BlockNo, Memory, SUPER_BLOCK, Super40, bitmap_block, bitmap_count};
 use r4_cell::Cell;
 use r4_layout::write_super;
 use r4_space::{SpaceMap, count_all_free};
 use std::alloc::Global;
 use std::marker::Model;
 use std::sync::Arc;
-
-/// How many blocks a bitmap stands for.
-const BITS: u64 = 32_736;
 
 /// A block that is overwritten, and its new content.
 #[derive(Drop)]
@@ -46,7 +43,7 @@ pub(crate) fn make_bitmaps(
     requires { blocks ≡ space.now.block_count }
     ensures { IfOk result (λ v. AreNewBitmaps space.now atom v.items) }
 {
-    let count = blocks.div_ceil(BITS);
+    let count = bitmap_count(blocks);
     let mut bitmaps = Vec::new(alloc);
     for n in 0..count {
         let mut bitmap = Block::zeroed(alloc)?;
@@ -77,21 +74,9 @@ fn super_home(alloc: Global, super40: &Super40) -> Result<Home, Memory>
     let mut block = Block::zeroed(alloc)?;
     write_super(block.bytes_mut(), super40);
     Ok(Home {
-        original: BlockNo(17),
+        original: SUPER_BLOCK,
         block,
     })
-}
-
-/// Where bitmap `n` stands.
-fn bitmap_block(n: u64) -> BlockNo
-    requires { n < 4294967296 }
-    ensures { result.0 ≡ bitmap_block n }
-{
-    if n == 0 {
-        BlockNo(18)
-    } else {
-        BlockNo(n * BITS)
-    }
 }
 
 /// Puts the bitmaps, each at its block, behind these.

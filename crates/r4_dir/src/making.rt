@@ -13,12 +13,12 @@ use crate::attributes::link_more;
 use crate::editing::{answer, name_in};
 use crate::object::Object;
 use crate::ways::{free_in, is_dir, is_full, is_legal, walk_to};
-use r4_base::{Attr, Memory, Name, Oid, Target};
+use r4_base::{Attr, Memory, Name, OBJECT_END, Oid, Target};
 use r4_content::{Edits, Reply, Seen};
 use std::alloc::Global;
 
 /// From this id on no object is made.
-const NO_ID: u64 = (1 << 60) - 1;
+const FIRST_UNGIVEN_ID: u64 = OBJECT_END - 1;
 
 /// The attributes of an object that is made.
 fn newborn(mode: u16, nlink: u32) -> Attr
@@ -47,7 +47,7 @@ pub fn plan_create(alloc: Global, path: &[Name], oid: Oid, seen: &Seen) -> Resul
     }
     match free_in(alloc, seen, path)? {
         Ok(free) => {
-            if oid.0 >= NO_ID {
+            if oid.0 >= FIRST_UNGIVEN_ID {
                 return Ok(answer(alloc, Reply::Oids));
             }
             let target = Target {
@@ -78,7 +78,7 @@ pub fn plan_mkdir(alloc: Global, path: &[Name], oid: Oid, seen: &Seen) -> Result
             if is_full(&free.dir) {
                 return Ok(answer(alloc, Reply::Links));
             }
-            if oid.0 >= NO_ID {
+            if oid.0 >= FIRST_UNGIVEN_ID {
                 return Ok(answer(alloc, Reply::Oids));
             }
             let target = Target {

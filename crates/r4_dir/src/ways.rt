@@ -20,26 +20,16 @@ ghost use Rattle.r4_dir.specs.Found.{place_found, root_reply};
 
 use crate::finding::{SeenEntry, attr_at, entry_at};
 use crate::object::{Object, Place};
-use r4_base::{Key, Memory, Name, Oid, Target};
+use r4_base::{Key, Memory, Name, OBJECT_END, Oid, ROOT_OBJECT, Target};
 use r4_cde::entry_key;
 use r4_content::{Path, Reply, Seen};
 use std::alloc::Global;
-
-/// The root directory.
-const ROOT: Target = Target {
-    locality: 41,
-    ordering: 0,
-    oid: Oid(42),
-};
-
-/// Object ids and localities of objects are below this number.
-const NO_ID: u64 = 1 << 60;
 
 /// Whether an object is a directory.
 pub fn is_dir(object: &Object) -> bool
     ensures { result ≡ is_directory object.now.attr }
 {
-    object.attr.mode / 4096 == 4
+    object.attr.is_directory()
 }
 
 /// Whether an object may get no more links: it has 65,535 or more.
@@ -55,7 +45,7 @@ pub fn object_at(seen: &Seen, target: Target) -> Option<Object>
     ensures small { IfSome result IsSmall }
     ensures comes { MatchOption result (Stops (object_at target) (pairs_of seen.now) Absent) (λ o. Comes (object_at target) (pairs_of seen.now) (object_of o)) }
 {
-    if target.locality >= NO_ID || target.oid.0 >= NO_ID {
+    if target.locality >= OBJECT_END || target.oid.0 >= OBJECT_END {
         return None;
     }
     let key = Key::stat(target.locality, target.ordering, target.oid);
@@ -134,10 +124,10 @@ pub fn walk_to(alloc: Global, seen: &Seen, path: &[Name]) -> Result<Result<Place
     ensures small { IfOk result (λ r. IfOk r (λ p. IsSmall p.here)) }
     ensures comes { IfOk result (λ r. MatchResult r (λ p. Comes (to_object path.now) (pairs_of seen.now) (place_of p)) (λ e. Stops (to_object path.now) (pairs_of seen.now) e)) }
 {
-    let Some(attr) = attr_at(seen, Key::stat(ROOT.locality, ROOT.ordering, ROOT.oid)) else {
+    let Some(attr) = attr_at(seen, Key::stat(ROOT_OBJECT.locality, ROOT_OBJECT.ordering, ROOT_OBJECT.oid)) else {
         return Ok(Err(Reply::Notdir));
     };
-    let mut here = Object { target: ROOT, attr };
+    let mut here = Object { target: ROOT_OBJECT, attr };
     let mut above = Vec::new(alloc);
     for name in path {
         match step_to(seen, &here, name) {

@@ -5,8 +5,8 @@ use Rattle.std.proofs.Math.Seq.{take-add}
 use Rattle.std.proofs.lemmas.Bool.{cases_lt}
 use Rattle.std.proofs.lemmas.List.{drop-drop, take-append-drop}
 use Rattle.std.proofs.lemmas.List.Elements.{Contains-append_cases, Contains-append_left, Contains-append_right}
-use Rattle.r4_base.specs.Key.{rank}
-use Rattle.r4_branch.specs.Pieces.{Follow, IsSound, later, names_of, next_of, part_end, piece_end, twig_bytes, units_of}
+use Rattle.r4_base.specs.Key.{rank, later}
+use Rattle.r4_branch.specs.Pieces.{Follow, IsSound, names_of, next_of, part_end, piece_end, twig_bytes, units_of}
 use Rattle.r4_branch.specs.declared.piece.TwigPiece.{TwigPiece}
 use Rattle.r4_graft.specs.Splices.{IsBorder, blocks_past, first_blocks, parted, parted_piece, place}
 use Rattle.r4_graft.proofs.Halves.{later_rank}

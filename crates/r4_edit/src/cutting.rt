@@ -22,15 +22,12 @@ use crate::grafting::graft_below;
 use crate::leaf_parts::{empty_leaf, widened};
 use crate::numbers::take_number;
 use crate::pieces::pieces_of_cell;
-use r4_base::{Key, Memory, NodeId, get32};
+use r4_base::{BLOCK_BYTES, Key, Memory, NodeId, get32};
 use r4_branch::{TwigPart, TwigPiece};
 use r4_cell::{Cell, Change, Fresh};
 use r4_graft::{part_at, place_of, splice};
 use std::alloc::Global;
 use std::sync::Arc;
-
-/// The bytes of a block.
-const BLOCK: u64 = 4096;
 
 /// Whether the piece's unit ends at a key, so that the unit from there on continues it.
 fn ends_at(piece: &TwigPiece, key: &Key) -> bool
@@ -40,7 +37,7 @@ fn ends_at(piece: &TwigPiece, key: &Key) -> bool
         return false;
     };
     let room = u64::MAX - piece.key.el[3];
-    if unit.width > room / BLOCK {
+    if unit.width > room / BLOCK_BYTES {
         return false;
     }
     let end = Key {
@@ -48,7 +45,7 @@ fn ends_at(piece: &TwigPiece, key: &Key) -> bool
             piece.key.el[0],
             piece.key.el[1],
             piece.key.el[2],
-            piece.key.el[3] + BLOCK * unit.width,
+            piece.key.el[3] + BLOCK_BYTES * unit.width,
         ],
     };
     end.is_same(*key)

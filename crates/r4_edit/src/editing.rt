@@ -27,14 +27,11 @@ use crate::ascent::rise;
 use crate::cutting::cut_blocks;
 use crate::leaves::leaf_level;
 use crate::over::put_over;
-use r4_base::{Key, Memory, get32};
+use r4_base::{EXTENT, Key, LEAF, Memory, TWIG, get32};
 use r4_cell::{Cell, Change, Fresh};
 use r4_leaf::{Leaf, cut_out, put_in};
 use std::alloc::Global;
 use std::sync::Arc;
-
-/// The plugin of an extent.
-const EXTENT: u16 = 5;
 
 /// Puts an item where it belongs: stat data (plugin 0), entries of a directory (2), bytes of a tail (6) or units of an extent
 /// (5), with a body of 1 to 4030 bytes. The path goes from the top down to the cell that has the item's keys: a leaf, or a
@@ -83,7 +80,7 @@ pub fn insert(
         (reverse (map (λ x. arc_value x) path.now))) }
     ensures numbers { OnlyTakes fresh.old fresh.new }
 {
-    let of_leaf = path[path.len() - 1].level() == 1;
+    let of_leaf = path[path.len() - 1].level() == LEAF;
     if plugin == EXTENT {
         if of_leaf {
             return put_over(alloc, path, key, body, fresh);
@@ -174,7 +171,7 @@ fn trunk_of(path: &[Arc<Cell>]) -> usize
     ensures { result ≡ trunk (map (λ c. arc_value c) path.now) }
 {
     let mut count = 0;
-    while count < path.len() && path[count].level() >= 2 {
+    while count < path.len() && path[count].level() >= TWIG {
         count += 1;
     }
     count
@@ -185,7 +182,7 @@ fn first_leaf<'a>(below: &'a [Arc<Cell>]) -> Option<&'a Arc<Cell>>
     ensures { option_map (λ c. arc_value c) (option_copied result) ≡ leaf_first (map (λ c. arc_value c) below.now) }
 {
     let cell = below.first()?;
-    if cell.level() == 1 { Some(cell) } else { None }
+    if cell.level() == LEAF { Some(cell) } else { None }
 }
 
 /// The cells below a path's twigs but the leaf with which they begin, if they do.
@@ -193,7 +190,7 @@ fn behind_leaf<'a>(below: &'a [Arc<Cell>]) -> &'a [Arc<Cell>]
     ensures { map (λ c. arc_value c) result.now ≡ rest_behind (map (λ c. arc_value c) below.now) }
 {
     match below.split_first() {
-        Some((cell, rest)) if cell.level() == 1 => rest,
+        Some((cell, rest)) if cell.level() == LEAF => rest,
         _ => below,
     }
 }

@@ -16,7 +16,7 @@ ghost use Rattle.r4_edit.specs.Steps.{OnlyTakes};
 
 use crate::appending::append;
 use crate::numbers::take_number;
-use r4_base::{Block, Key, Memory, NodeId, get32};
+use r4_base::{Block, Key, LEAF, Memory, NodeId, get32};
 use r4_cell::{Cell, Fresh, new_cell};
 use r4_leaf::{Leaf, cut_out};
 use r4_node40::{NodeMut, NodeView};
@@ -63,7 +63,7 @@ fn left_part(alloc: Global, leaf: &Cell, key: &Key) -> Result<Option<Arc<Cell>>,
         return Ok(None);
     }
     let block = block_below(alloc, leaf, key)?;
-    let cell = new_cell(alloc, leaf.id(), 1, leaf.lo(), *key, block)?;
+    let cell = new_cell(alloc, leaf.id(), LEAF, leaf.lo(), *key, block)?;
     Ok(Some(cell))
 }
 
@@ -89,7 +89,7 @@ fn right_part(
         return Ok(None);
     };
     let id = number_of_right(leaf, key, fresh);
-    let cell = new_cell(alloc, id, 1, lo, leaf.hi(), block)?;
+    let cell = new_cell(alloc, id, LEAF, lo, leaf.hi(), block)?;
     Ok(Some(cell))
 }
 
@@ -154,7 +154,7 @@ pub(crate) fn leaf_of(
     let mut block = Block::zeroed(alloc)?;
     let lo = *key;
     fill_leaf(&mut block, mkfs_id, lo, plugin, body);
-    new_cell(alloc, id, 1, lo, hi, block)
+    new_cell(alloc, id, LEAF, lo, hi, block)
 }
 
 /// Makes the block a leaf with this item alone.
@@ -163,7 +163,7 @@ fn fill_leaf(block: &mut Block, mkfs_id: u32, key: Key, plugin: u16, body: &[u8]
     ensures node { IsNodeOf 1 (given_item key plugin body.now ∷ []) block.new }
     ensures mkfs_id { mkfs_id_of block.new ≡ mkfs_id }
 {
-    let mut node = NodeMut::format(block, 1, mkfs_id);
+    let mut node = NodeMut::format(block, LEAF, mkfs_id);
     append(&mut node, 0, key, plugin, body);
 }
 
@@ -190,7 +190,7 @@ pub(crate) fn empty_leaf(
 {
     let mut block = Block::zeroed(alloc)?;
     format_leaf(&mut block, mkfs_id);
-    new_cell(alloc, id, 1, lo, hi, block)
+    new_cell(alloc, id, LEAF, lo, hi, block)
 }
 
 /// Makes the block a leaf without items.
@@ -198,7 +198,7 @@ fn format_leaf(block: &mut Block, mkfs_id: u32)
     ensures node { IsNodeOf 1 [] block.new }
     ensures mkfs_id { mkfs_id_of block.new ≡ mkfs_id }
 {
-    let _ = NodeMut::format(block, 1, mkfs_id);
+    let _ = NodeMut::format(block, LEAF, mkfs_id);
 }
 
 /// The key of a node's first item.

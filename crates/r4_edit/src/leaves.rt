@@ -15,7 +15,7 @@ ghost use Rattle.r4_edit.specs.Steps.{OnlyTakes};
 
 use crate::level::Level;
 use crate::numbers::take_number;
-use r4_base::{Key, Memory, NodeId};
+use r4_base::{Key, LEAF, Memory, NodeId};
 use r4_cell::{Cell, Cells, Fresh, new_cell};
 use r4_leaf::Leaf;
 use std::alloc::Global;
@@ -70,10 +70,10 @@ fn add(
     ensures numbers { OnlyTakes fresh.old fresh.new }
 {
     let Some(next) = more.next() else {
-        cells.push(new_cell(alloc, id, 1, leaf.lo, hi, leaf.block)?)?;
+        cells.push(new_cell(alloc, id, LEAF, leaf.lo, hi, leaf.block)?)?;
         return Ok(());
     };
-    cells.push(new_cell(alloc, id, 1, leaf.lo, next.lo, leaf.block)?)?;
+    cells.push(new_cell(alloc, id, LEAF, leaf.lo, next.lo, leaf.block)?)?;
     let id = take_number(fresh);
     add(alloc, id, next, more, hi, fresh, cells)
 }

@@ -7,14 +7,11 @@ ghost use Rattle.r4_base.specs.Node.{KeysRise, mkfs_id_of};
 ghost use Rattle.r4_edit.specs.Nodes.{IsNodeOf, pointer_item};
 
 use crate::appending::append;
-use r4_base::{Block, BlockNo, NodeId};
+use r4_base::{Block, BlockNo, NodeId, POINTER};
 use r4_cell::Cell;
 use r4_node40::NodeMut;
 use r4_twig::put_pointer;
 use std::sync::Arc;
-
-/// The plugin of a pointer.
-pub(crate) const POINTER: u16 = 3;
 
 /// The body of a pointer to a node.
 pub(crate) fn pointer_body(to: NodeId) -> [u8; 8]

@@ -7,8 +7,8 @@ ghost use Rattle.r4_node40.specs.Loan.{bytes_of, with_bytes};
 ghost use Rattle.r4_edit.specs.Nodes.{IsNodeOf, pointer_item, weight, weight_of};
 
 use crate::appending::append;
-use crate::pointing::{POINTER, pointer_body};
-use r4_base::{Block, Key, Memory};
+use crate::pointing::pointer_body;
+use r4_base::{Block, ITEM_HEADER, Key, Memory, NODE_ROOM, POINTER, TWIG};
 use r4_cell::Cell;
 use r4_node40::{ItemView, NodeMut, NodeView};
 use std::alloc::Global;
@@ -16,12 +16,6 @@ use std::sync::Arc;
 
 /// The bytes of a pointer with its header.
 const POINTER_ROOM: u32 = 46;
-
-/// How many bytes of a node are for items.
-pub(crate) const ROOM: u32 = 4068;
-
-/// The bytes of an item's header.
-const HEADER: u32 = 38;
 
 /// An item of a node that is filled: one that another node has, or a pointer to a cell.
 #[derive(Drop)]
@@ -151,7 +145,7 @@ impl<'a> Row<'a> {
         ensures weighs { IfSome (slice_get (row_items self.now) i) (λ it. result ≡ weight_of it) }
     {
         match self.item(i) {
-            RowItem::Stays(item) => HEADER + item.body.len() as u32,
+            RowItem::Stays(item) => u32::from(ITEM_HEADER) + item.body.len() as u32,
             RowItem::Comes(_) => POINTER_ROOM,
         }
     }
@@ -164,7 +158,7 @@ impl<'a> Row<'a> {
         requires two { 2 ≤ length (row_items self.now) }
         ensures { IsCut self.now result }
     {
-        if self.node.level() > 2 {
+        if self.node.level() > TWIG {
             return self.len() / 2;
         }
         let middle = self.middle();
@@ -200,7 +194,7 @@ impl<'a> Row<'a> {
         requires within { to ≤ length (row_items self.now) }
         ensures { result ≡ nat_le (weight (row_part self.now from to)) 4068 }
     {
-        self.weight(from, to) <= ROOM
+        self.weight(from, to) <= u32::from(NODE_ROOM)
     }
 
     /// The place before the pointers that come, where what then follows fits into a node, or else the one behind them.

@@ -8,8 +8,8 @@ ghost use Rattle.r4_edit.specs.Sharing.{AreFilled, AreSome, HasItems, IsRowOf, S
 ghost use Rattle.r4_edit.specs.Steps.{OnlyTakes};
 
 use crate::numbers::take_number;
-use crate::row::{ROOM, Row};
-use r4_base::Memory;
+use crate::row::Row;
+use r4_base::{Memory, NODE_ROOM};
 use r4_cell::{Cell, Cells, Fresh, new_cell};
 use std::alloc::Global;
 use std::sync::Arc;
@@ -27,7 +27,7 @@ pub(crate) fn share(
     ensures shares { IfOk result (λ cells. Shares old.now (row_items row.now) fresh.old fresh.new cells) }
     ensures numbers { OnlyTakes fresh.old fresh.new }
 {
-    if row.weight(0, row.len()) <= ROOM {
+    if row.weight(0, row.len()) <= u32::from(NODE_ROOM) {
         return one(alloc, row, old);
     }
     two(alloc, row, old, fresh)

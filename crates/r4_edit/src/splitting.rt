@@ -25,7 +25,7 @@ use crate::over::cells_of;
 use crate::pieces::pieces_of_cell;
 use crate::row::Row;
 use crate::sharing::{pair, two};
-use r4_base::{Block, Key, Memory, get32};
+use r4_base::{Block, Key, LEAF, Memory, TWIG, get32};
 use r4_branch::{TwigPiece, pack_twigs};
 use r4_cell::{Cell, Cells, Change, Fresh, new_cell};
 use r4_leaf::middle_key;
@@ -64,7 +64,7 @@ fn part(alloc: Global, cell: &Arc<Cell>, fresh: &mut Fresh) -> Result<Level, Mem
     if cell.node().len() >= 2 {
         return part_items(alloc, cell, fresh);
     }
-    if cell.level() == 1 {
+    if cell.level() == LEAF {
         return part_item(alloc, cell, fresh);
     }
     part_extent(alloc, cell, fresh)
@@ -125,8 +125,8 @@ fn part_extent(alloc: Global, twig: &Arc<Cell>, fresh: &mut Fresh) -> Result<Lev
     let key = right[0].key;
     let left = one_twig(alloc, twig.lo(), mkfs_id, left)?;
     let right = one_twig(alloc, key, mkfs_id, right)?;
-    let left = new_cell(alloc, twig.id(), 2, twig.lo(), key, left)?;
-    let right = new_cell(alloc, take_number(fresh), 2, key, twig.hi(), right)?;
+    let left = new_cell(alloc, twig.id(), TWIG, twig.lo(), key, left)?;
+    let right = new_cell(alloc, take_number(fresh), TWIG, key, twig.hi(), right)?;
     let new = pair(alloc, left, right)?;
     Ok(Level {
         old: Arc::try_clone(twig)?,

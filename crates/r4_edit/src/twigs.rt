@@ -13,7 +13,7 @@ ghost use Rattle.r4_edit.specs.Steps.{OnlyTakes};
 
 use crate::level::Level;
 use crate::numbers::take_number;
-use r4_base::{Key, Memory, NodeId};
+use r4_base::{Key, Memory, NodeId, TWIG};
 use r4_branch::Twig;
 use r4_cell::{Cell, Cells, Fresh, new_cell};
 use std::alloc::Global;
@@ -66,10 +66,10 @@ fn add(
     ensures numbers { OnlyTakes fresh.old fresh.new }
 {
     let Some(next) = more.next() else {
-        cells.push(new_cell(alloc, id, 2, twig.lo, hi, twig.block)?)?;
+        cells.push(new_cell(alloc, id, TWIG, twig.lo, hi, twig.block)?)?;
         return Ok(());
     };
-    cells.push(new_cell(alloc, id, 2, twig.lo, next.lo, twig.block)?)?;
+    cells.push(new_cell(alloc, id, TWIG, twig.lo, next.lo, twig.block)?)?;
     let id = take_number(fresh);
     add(alloc, id, next, more, hi, fresh, cells)
 }

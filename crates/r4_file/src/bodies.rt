@@ -12,13 +12,10 @@ ghost use Rattle.r4_content.specs.declared.reply.Reply.TheVariants.{Okay};
 ghost use Rattle.r4_dir.specs.Coming.{AreNames, IsSmall, object_of};
 ghost use Rattle.r4_file.specs.Coming.{ComesToFile, StopsAtFile};
 
-use r4_base::{Attr, Bytes, Key, Memory, Name, Value};
+use r4_base::{Attr, Bytes, GREATEST_SIZE, Key, Memory, Name, Value};
 use r4_content::{ByteRun, Edits, FilledInterval, Interval, Reply, Seen};
 use r4_dir::{Object, answer, is_dir, is_legal, stat_key, walk_to};
 use std::alloc::Global;
-
-/// The most bytes that a file may have.
-pub const GREATEST_SIZE: u64 = 1 << 30;
 
 /// The file at a path; or the reply where there is no way to one.
 #[tactic(auto, unfolding(r4_content::specs::Ways::to_file))]

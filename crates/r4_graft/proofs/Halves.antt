@@ -5,12 +5,12 @@ use Rattle.std.proofs.lemmas.Bool.{ne_eqb}
 use Rattle.std.proofs.lemmas.Option.{same_Some}
 use Rattle.r4_base.specs.Cell.{run_names, zeros_from}
 use Rattle.r4_base.specs.Extents.{is_hole, unit_past}
-use Rattle.r4_base.specs.Key.{IsKey, offset_of, rank}
+use Rattle.r4_base.specs.Key.{IsKey, offset_of, rank, later}
 use Rattle.r4_base.specs.Tree.{Name}
 use Rattle.r4_base.specs.declared.items.Unit.{Unit as ExtentUnit}
 use Rattle.r4_base.specs.declared.key.Key.{Key}
 use Rattle.r4_twig.proofs.Cuts.{lawful-cut_at}
-use Rattle.r4_branch.specs.Pieces.{IsSoundPart, later, part_names, part_units}
+use Rattle.r4_branch.specs.Pieces.{IsSoundPart, part_names, part_units}
 use Rattle.r4_branch.specs.declared.piece.TwigPart.TheVariants.{Blocks}
 
 -- ---- the key of the second part

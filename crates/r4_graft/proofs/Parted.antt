@@ -4,9 +4,9 @@ use Rattle.std.specs.Prelude.{◌==◌, Option, Some, None, Contains, nat_lt, if
 use Rattle.std.proofs.lemmas.Bool.{cases_lt, eq-eqb, lt-ltb, le-ltb}
 use Rattle.std.proofs.lemmas.List.{append-nil}
 use Rattle.std.proofs.lemmas.List.Elements.{Contains-append_cases}
-use Rattle.r4_base.specs.Key.{offset_of, rank}
+use Rattle.r4_base.specs.Key.{offset_of, rank, later}
 use Rattle.r4_base.specs.declared.items.Unit.{Unit as ExtentUnit}
-use Rattle.r4_branch.specs.Pieces.{Follow, IsSound, IsSoundPart, bytes_behind, later, names_of, next_of, open_end, part_bytes, part_end, part_names, part_units, piece_end, units_of}
+use Rattle.r4_branch.specs.Pieces.{Follow, IsSound, IsSoundPart, bytes_behind, names_of, next_of, open_end, part_bytes, part_end, part_names, part_units, piece_end, units_of}
 use Rattle.r4_branch.specs.declared.piece.TwigPart.{TwigPart}
 use Rattle.r4_branch.specs.declared.piece.TwigPart.TheVariants.{Pointer, Blocks}
 use Rattle.r4_branch.specs.declared.piece.TwigPiece.{TwigPiece}

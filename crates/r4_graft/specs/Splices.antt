@@ -1,8 +1,8 @@
 -- Pieces of a twig with others in the place of some, and pieces parted at a key (docs/volume.md, "Twigs").
 use Rattle.std.specs.Prelude.{◌≡◌, ℕ, ◌+◌, ◌-◌, ◌*◌, ◌/◌, ◌<◌, List, [], ◌∷◌, ◌++◌, take, drop, Contains, Bool, ◌&&◌, nat_lt, if◌then◌else◌}
 use Rattle.r4_base.specs.Extents.{unit_past}
-use Rattle.r4_base.specs.Key.{rank}
-use Rattle.r4_branch.specs.Pieces.{later, piece_end}
+use Rattle.r4_base.specs.Key.{rank, later}
+use Rattle.r4_branch.specs.Pieces.{piece_end}
 use Rattle.r4_branch.specs.declared.piece.TwigPart.{TwigPart}
 use Rattle.r4_branch.specs.declared.piece.TwigPart.TheVariants.{Pointer, Blocks}
 use Rattle.r4_branch.specs.declared.piece.TwigPiece.{TwigPiece}

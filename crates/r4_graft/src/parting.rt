@@ -2,16 +2,13 @@
 
 ghost use Rattle.std.specs.Prelude.{◌≡◌, ℕ, ◌+◌, ◌-◌, ◌*◌, ◌/◌, ◌^◌, ◌<◌, ◌≤◌, ◌++◌, ◌&&◌, nat_lt, None, Some, if◌then◌else◌, IfOk, OnOk};
 ghost use Rattle.r4_base.specs.Extents.{unit_past};
-ghost use Rattle.r4_base.specs.Key.{offset_of, rank};
-ghost use Rattle.r4_branch.specs.Pieces.{Follow, IsSound, later};
+ghost use Rattle.r4_base.specs.Key.{offset_of, rank, later};
+ghost use Rattle.r4_branch.specs.Pieces.{Follow, IsSound};
 ghost use Rattle.r4_graft.specs.Splices.{parted, parted_piece};
 
-use r4_base::{Key, Memory, Unit};
+use r4_base::{BLOCK_BYTES, Key, Memory, Unit};
 use r4_branch::{TwigPart, TwigPiece};
 use std::alloc::Global;
-
-/// The bytes of a block.
-const BLOCK: u64 = 4096;
 
 /// A twig's pieces, of which one is parted in two where the key lies within its blocks.
 pub fn part_at(alloc: Global, pieces: &[TwigPiece], key: &Key) -> Result<Vec<TwigPiece>, Memory>
@@ -47,7 +44,7 @@ fn add_parts(parts: &mut Vec<TwigPiece>, piece: TwigPiece, key: &Key) -> Result<
         part: TwigPart::Blocks(first),
     })?;
     parts.push(TwigPiece {
-        key: behind(&piece.key, blocks),
+        key: piece.key.behind(BLOCK_BYTES * blocks),
         part: TwigPart::Blocks(past(&unit, blocks)),
     })?;
     Ok(())
@@ -60,8 +57,8 @@ fn blocks_before(key: &Key, width: u64, end: &Key) -> Option<u64>
         then Some ((rank end.now - rank key.now) / 4096) else None) }
 {
     let bytes = bytes_before(key, end)?;
-    if bytes / BLOCK < width {
-        Some(bytes / BLOCK)
+    if bytes / BLOCK_BYTES < width {
+        Some(bytes / BLOCK_BYTES)
     } else {
         None
     }
@@ -81,16 +78,6 @@ fn bytes_before(key: &Key, end: &Key) -> Option<u64>
         return None;
     }
     Some(end.el[3] - key.el[3])
-}
-
-/// The key so many blocks behind another, of the same object.
-fn behind(key: &Key, blocks: u64) -> Key
-    requires { offset_of key.now + 4096 * blocks < 2 ^ 64 }
-    ensures { result ≡ later key.now (4096 * blocks) }
-{
-    Key {
-        el: [key.el[0], key.el[1], key.el[2], key.el[3] + BLOCK * blocks],
-    }
 }
 
 /// A unit's blocks from the one at a place on; what is left of a hole is a hole.

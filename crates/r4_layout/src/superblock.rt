@@ -6,9 +6,7 @@ ghost use Rattle.r4_base.specs.Bytes.{FieldsFit, put_all};
 ghost use Rattle.r4_base.specs.Layout.{counts_are_good, super_fields, super_of, super_block, IsLawfulSuper, fields_before_magic, fields_behind_magic};
 
 use crate::field::stands_at;
-use r4_base::{
-    LayoutFault, Super40, blank, get16, get32, get64, is_fixed, put_bytes, put16, put32, put64,
-};
+use r4_base::{FIRST_OBJECT, FIRST_PLACE, LEAST_BLOCKS, LayoutFault, MOST_BLOCKS, MOST_LEVELS, OBJECT_END, Super40, TWIG, blank, get16, get32, get64, is_fixed, put16, put32, put64, put_bytes};
 
 const MAGIC: [u8; 16] = *b"ReIsEr40FoRmAt\0\0";
 
@@ -30,7 +28,7 @@ pub fn read_super(block: &[u8], device_blocks: u64) -> Result<Super40, LayoutFau
     if !stands_at(block, 88, &MARK) || s.flags != 1 || s.node_pid != 0 {
         return Err(LayoutFault::Profile);
     }
-    if s.tree_height < 2 || s.tree_height > 8 {
+    if s.tree_height < u16::from(TWIG) || s.tree_height > u16::from(MOST_LEVELS) {
         return Err(LayoutFault::Height);
     }
     if !counts_are_good(&s, device_blocks) {
@@ -66,10 +64,10 @@ fn counts_are_good(s: &Super40, device_blocks: u64) -> bool
     ensures { result ≡ counts_are_good device_blocks s.now }
 {
     let blocks = s.block_count;
-    let are_blocks = blocks >= 64 && blocks <= 1_048_576 && blocks <= device_blocks;
+    let are_blocks = blocks >= LEAST_BLOCKS && blocks <= MOST_BLOCKS && blocks <= device_blocks;
     let root = s.root_block;
-    let is_root = root >= 22 && root < blocks && !is_fixed(blocks, root);
-    are_blocks && is_root && s.oid >= 65_536 && s.oid < 1 << 60
+    let is_root = root >= FIRST_PLACE && root < blocks && !is_fixed(blocks, root);
+    are_blocks && is_root && s.oid >= FIRST_OBJECT && s.oid < OBJECT_END
 }
 
 /// Makes a block of 4096 bytes the spelling of a format superblock: all past the mark is zero. What is read again is

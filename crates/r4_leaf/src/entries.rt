@@ -11,8 +11,7 @@ ghost use Rattle.r4_node40.specs.Loan.{bytes_of, with_bytes};
 ghost use Rattle.r4_leaf.specs.Filling.{HasEntry, Holds, Receives, TakesEntry, entry_need, long_of, need};
 
 use crate::opening::{Place, open};
-use crate::reading::ENTRIES;
-use r4_base::get16;
+use r4_base::{ENTRIES, get16};
 use r4_cde::{EntryRef, NameRef, insert};
 use r4_node40::NodeMut;
 

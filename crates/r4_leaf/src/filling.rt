@@ -18,13 +18,9 @@ use crate::entries::{entries_at, need_of, put_entry_at};
 use crate::opening::put_bytes_at;
 use crate::piece::Piece;
 use crate::placing::place_for;
-use crate::reading::{ENTRIES, STAT, TAIL};
-use r4_base::Key;
+use r4_base::{ENTRIES, ITEM_HEADER, Key, STAT, TAIL};
 use r4_cde::EntryRef;
 use r4_node40::NodeMut;
-
-/// The bytes of an item's header.
-const HEADER: u16 = 38;
 
 /// Puts a piece behind what the leaf has, as far as there is room, and answers what is left of it.
 pub(crate) fn put<'a>(node: &mut NodeMut<'_>, piece: Piece<'a>) -> Option<Piece<'a>>
@@ -66,7 +62,7 @@ fn put_stat(node: &mut NodeMut<'_>, key: Key, body: &[u8]) -> bool
     ensures full { result ≡ false → IsFullFor (rank key, Stat (attr_of body.now)) (bytes_of node.new) }
 {
     let place = place_for(node, &key, STAT);
-    if usize::from(node.room()) < body.len() + usize::from(HEADER) {
+    if usize::from(node.room()) < body.len() + usize::from(ITEM_HEADER) {
         return false;
     }
     put_bytes_at(node, place, &key, STAT, body);

@@ -8,8 +8,7 @@ ghost use Rattle.r4_leaf.specs.Leaves.{MayStand};
 ghost use Rattle.r4_leaf.specs.Units.{IsMiddle};
 
 use crate::cutting::behind;
-use crate::reading::ENTRIES;
-use r4_base::Key;
+use r4_base::{ENTRIES, Key};
 use r4_cde::DirView;
 use r4_node40::NodeView;
 

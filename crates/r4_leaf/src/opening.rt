@@ -6,7 +6,7 @@ ghost use Rattle.r4_node40.specs.Laid.{room_of};
 ghost use Rattle.r4_node40.specs.Loan.{bytes_of, with_bytes};
 ghost use Rattle.r4_leaf.specs.Filling.{Holds, IsPlace, Opens, need};
 
-use r4_base::Key;
+use r4_base::{ITEM_HEADER, Key};
 use r4_node40::NodeMut;
 
 /// The place of an item, and how many bytes its body has: none where the item is yet to be put in.
@@ -21,7 +21,7 @@ impl Place {
     pub(crate) fn header(self) -> u16
         ensures { result ≡ (if self.used == 0 then 38 else 0) }
     {
-        if self.used == 0 { 38 } else { 0 }
+        if self.used == 0 { ITEM_HEADER } else { 0 }
     }
 }
 

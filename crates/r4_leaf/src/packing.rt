@@ -12,7 +12,7 @@ ghost use Rattle.r4_leaf.specs.Pieces.{Follow, units_of};
 use crate::filling::put;
 use crate::leaf::Leaf;
 use crate::piece::Piece;
-use r4_base::{Block, Key, Memory};
+use r4_base::{Block, Key, LEAF, Memory};
 use r4_node40::NodeMut;
 use std::alloc::Global;
 
@@ -47,7 +47,7 @@ fn fill_block(block: &mut Block, mkfs_id: u32, pieces: &mut Vec<Piece<'_>>) -> R
     ensures fills { OnOk result ((lo hi : ℕ) → Follow lo hi (reverse pieces.old.items) → FillsUp lo hi pieces.old.items pieces.new.items block.new) }
     ensures mkfs_id { OnOk result (mkfs_id_of block.new ≡ mkfs_id) }
 {
-    let mut node = NodeMut::format(block, 1, mkfs_id);
+    let mut node = NodeMut::format(block, LEAF, mkfs_id);
     fill(&mut node, pieces)
 }
 

@@ -11,8 +11,7 @@ ghost use Rattle.r4_leaf.specs.Items.{IsSoundItem, Lie};
 
 use crate::cutting::behind;
 use crate::opening::Place;
-use crate::reading::{ENTRIES, TAIL};
-use r4_base::Key;
+use r4_base::{ENTRIES, Key, TAIL};
 use r4_node40::{ItemView, NodeMut};
 
 /// Where a piece at the key goes: behind what the last item has, if it continues that, and else into an item of its own.

@@ -9,19 +9,10 @@ ghost use Rattle.r4_leaf.specs.Items.{IsSoundItem, Lie};
 ghost use Rattle.r4_leaf.specs.Pieces.{Adds, Follow, units_of};
 
 use crate::piece::Piece;
-use r4_base::{Key, Memory};
+use r4_base::{ENTRIES, Key, Memory, STAT};
 use r4_cde::DirView;
 use r4_node40::NodeView;
 use std::alloc::Global;
-
-/// The plugin of stat data.
-pub(crate) const STAT: u16 = 0;
-
-/// The plugin of a directory's entries.
-pub(crate) const ENTRIES: u16 = 2;
-
-/// The plugin of a tail.
-pub(crate) const TAIL: u16 = 6;
 
 /// The pieces of a leaf's items, in their order.
 pub(crate) fn pieces_of<'a>(alloc: Global, leaf: &NodeView<'a>) -> Result<Vec<Piece<'a>>, Memory>

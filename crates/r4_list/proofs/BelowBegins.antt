@@ -23,16 +23,11 @@ use Rattle.r4_list.specs.Printed.{PrintsOver}
 use Rattle.r4_list.specs.Walking.{OpenDir, rest_of, IsDirectoryAt, IsWalking, PrintsToo}
 use Rattle.r4_list.specs.declared.below.Below.{Below}
 use Rattle.r4_list.specs.declared.fault.Stop.{Stop}
-use Rattle.r4_list.specs.declared.fault.Stop.TheVariants.{Sink}
 use Rattle.r4_list.specs.declared.frame.Frame.{Frame}
 use Rattle.r4_list.proofs.BelowSteps.{dir_on, file_on, part_longer, stopped_so}
 use Rattle.r4_list.proofs.BelowWalk.{none_open, popped, walks_same}
 use Rattle.r4_list.proofs.LinesLeft.{begun, file_lines, nothing_open}
 use Rattle.r4_list.proofs.WalkSteps.{begun_walk}
-
-abbrev stop_in : {T : Type 0} → Result T Stop → Stop
-stop_in {T} (Ok x) = Sink
-stop_in {T} (Err e) = e
 
 -- no element
 pub none_in : {X : Type 0} (xs : List X) (n : ℕ) → n ≡ length xs → n ≡ 0 → xs ≡ []
@@ -90,7 +85,7 @@ module _ {n : ℕ} {image : Image} {m : Content} (c : HasContent n image m) (roo
       record {
         over = one.prints.over;
         whole = λ before w. tt;
-        part = λ before w h. part_longer (line_of a b.path.items) rest _ before k'.written lines (one.prints.part before w (ap (λ (z : Stop). Err z) (sym same ∙ ap stop_in h)));
+        part = λ before w. part_longer (line_of a b.path.items) rest _ before k'.written lines (one.prints.part before w);
         undamaged = stopped_so {T = T} (Err y) e same one.prints.undamaged;
       }
 
@@ -144,7 +139,7 @@ module _ {n : ℕ} {image : Image} {m : Content} (c : HasContent n image m) (sta
     goes_no_further {T} e (Err y) same g = record {
       over = g.over;
       whole = λ before w. tt;
-      part = λ before w h. part_later t.done _ text before k2.written t.is (g.part (before ++ t.done) (t.written before w) (ap (λ (z : Stop). Err z) (sym same ∙ ap stop_in h)));
+      part = λ before w. part_later t.done _ text before k2.written t.is (g.part (before ++ t.done) (t.written before w));
       undamaged = stopped_so {T = T} (Err y) e same g.undamaged;
     }
 
@@ -157,9 +152,6 @@ module _ {n : ℕ} {image : Image} {m : Content} (c : HasContent n image m) (sta
       record {
         over = over;
         whole = λ before w. on.written before w ∙ ap (λ (q : List ℕ). Some (before ++ q)) (sym all);
-        part = λ before w h. absurd (differ h);
+        part = λ before w. tt;
         undamaged = tt;
       }
-    where
-      differ : Ok v ≡ Err Sink → ⊥
-      differ h = cc

@@ -1,6 +1,6 @@
 -- What each step of a walk prints, and what is left after it.
 use Rattle.std.proofs.Common.{◌≡◌, inl, inr, ℕ, ◌+◌, ◌*◌, ◌^◌, ◌≤◌, Bool, true, false, List, [], ◌∷◌, ◌++◌, length, take, Some, None, refl, sym, ap, subst, ◌∙◌, append_assoc, append-nil}
-use Rattle.std.specs.Prelude.{Option, Result, Ok, Err, OnOk, IfErr, IfNone}
+use Rattle.std.specs.Prelude.{Option, Result, Ok, Err, OnOk, OnErr, IfErr, IfNone}
 use Rattle.std.specs.Arc.{arc_value}
 use Rattle.std.specs.Result.{IsErrAnd}
 use Rattle.std.proofs.lemmas.Bool.{cases_Bool}
@@ -26,9 +26,9 @@ use Rattle.r4_list.specs.Printed.{IsUndamagedStop, PrintsOver}
 use Rattle.r4_list.specs.Walking.{OpenDir, open_dir, open_from, rest_of, IsEnough, IsLeftAt, IsWalking, NoneBefore, PrintsToo}
 use Rattle.r4_list.specs.declared.below.Below.{Below}
 use Rattle.r4_list.specs.declared.fault.Stop.{Stop}
-use Rattle.r4_list.specs.declared.fault.Stop.TheVariants.{Sink}
 use Rattle.r4_list.specs.declared.frame.Frame.{Frame}
 use Rattle.r4_list.specs.declared.frame.Place.TheVariants.{Entry, ItemEnd, LeafEnd, DirEnd}
+use Rattle.r4_list.proofs.BodyOver.{nothing_part, on_err}
 use Rattle.r4_list.proofs.BelowWalk.{begun_same, begun_take, pushed_of, settled, walks_same}
 use Rattle.r4_list.proofs.FramePlaces.{here_is_left, none_before_here, none_in_leaf, none_left, past_here, past_item}
 use Rattle.r4_list.proofs.LinesLeft.{met_dir, met_file, moved}
@@ -55,11 +55,12 @@ pub none_there : {X : Type 0} {A : Type 0} (o : Option X) → o ≡ None → IfN
 none_there {X} {A} None is a = a
 none_there {X} {A} (Some x) is a = absurd cc
 
-not_err : {T : Type 0} (v : T) (e : Stop) → Ok v ≡ Err e → ⊥
-not_err {T} v e h = cc
-
 pub part_longer : (a rest text before : List ℕ) (after : Option (List ℕ)) → text ≡ a ++ rest → AppendsPart a before after → AppendsPart text before after
 part_longer a rest text before after e p = record { part = p.part; rest = p.rest ++ rest; splits = e ∙ (ap (λ (t : List ℕ). t ++ rest) p.splits ∙ append_assoc p.part p.rest rest); written = p.written }
+
+longer_part : {T : Type 0} (r : Result T Stop) (a rest text before : List ℕ) (after : Option (List ℕ)) → text ≡ a ++ rest → OnErr r (AppendsPart a before after) → OnErr r (AppendsPart text before after)
+longer_part {T} (Ok v) a rest text before after is p = tt
+longer_part {T} (Err e) a rest text before after is p = part_longer a rest text before after is p
 
 pub some_more : (before : List ℕ) → Some before ≡ Some (before ++ [])
 some_more before = sym (ap (λ (t : List ℕ). Some t) (append-nil before))
@@ -173,7 +174,7 @@ module _ {n : ℕ} {image : Image} {m : Content} (c : HasContent n image m) wher
                 over = one.prints.over;
                 onward = file_on root start steps e.target a (open_from f (rank e.key + 1) ∷ fs) mid b' k k' p (rest_of m steps (f ∷ fs)) r one file stack_mid
                     (file_passed m start f fs (printed_in mid) w_mid (rank e.key) (name_bytes e.name) e.target is_left) lines;
-                part = λ before h s. part_longer (line_of a mid.path.items) _ _ before k'.written lines (one.prints.part before h s);
+                part = λ before h. longer_part r (line_of a mid.path.items) _ _ before k'.written lines (one.prints.part before h);
                 undamaged = one.prints.undamaged;
               }
 
@@ -187,7 +188,7 @@ module _ {n : ℕ} {image : Image} {m : Content} (c : HasContent n image m) wher
                 onward = dir_on root start steps e.target a (open_from f (rank e.key + 1) ∷ fs) mid b' k k' p (rest_of m steps (f ∷ fs)) r one dir
                     (new_dir m start f fs (printed_in mid) w_mid n image c (rank e.key) (name_bytes e.name) e.target a is_left is dir) stack_mid
                     (λ next too. opened m start f fs (printed_in mid) w_mid n image c (rank e.key) (name_bytes e.name) e.target a is_left is dir mid.path.items next too) lines;
-                part = λ before h s. part_longer (line_of a mid.path.items) _ _ before k'.written lines (one.prints.part before h s);
+                part = λ before h. longer_part r (line_of a mid.path.items) _ _ before k'.written lines (one.prints.part before h);
                 undamaged = one.prints.undamaged;
               }
 
@@ -206,7 +207,7 @@ module _ {n : ℕ} {image : Image} {m : Content} (c : HasContent n image m) wher
       still {T} v k p b' over gs stack walks is = record {
         over = over;
         onward = record { fs = gs; done = []; stack = stack; walks = walks; is = is; written = λ before h. h ∙ some_more before };
-        part = λ before h s. absurd (not_err v Sink s);
+        part = λ before h. tt;
         undamaged = tt;
       }
 
@@ -244,6 +245,6 @@ module _ {n : ℕ} {image : Image} {m : Content} (c : HasContent n image m) wher
           record {
             over = g.over;
             onward = down r k p b' to (moved m steps f fs to le none) (passed m start f fs (printed_in b) to le w) g;
-            part = λ before h s. record { part = []; rest = rest_of m steps (f ∷ fs); splits = refl; written = h ∙ some_more before };
+            part = λ before h. on_err r _ (nothing_part (rest_of m steps (f ∷ fs)) before k.written h);
             undamaged = g.undamaged;
           }

@@ -1,8 +1,9 @@
 -- What is fetched and printed over a pool that reads the tree of a content.
-use Rattle.std.proofs.Common.{◌≡◌, ℕ, zero, suc, false, List, ◌++◌, refl, sym, ap, subst, ◌∙◌}
-use Rattle.std.specs.Prelude.{Option, Some, None, Result, Ok, Err, IfErr, OnOk}
+use Rattle.std.proofs.Common.{◌≡◌, ℕ, zero, suc, false, List, [], ◌++◌, refl, sym, ap, subst, ◌∙◌}
+use Rattle.std.specs.Prelude.{Option, Some, None, Result, Ok, Err, IfErr, OnOk, OnErr}
 use Rattle.std.specs.Result.{IsErrAnd}
 use Rattle.std.proofs.lemmas.Bool.{eq-eqb}
+use Rattle.std.proofs.lemmas.List.{append-nil}
 use Rattle.std.proofs.lemmas.Option.{none-some, same_Some}
 use Rattle.r4_base.specs.Cell.{cell_of, cell_fault}
 use Rattle.r4_base.specs.Image.{Image, block_at}
@@ -84,16 +85,20 @@ pub not_well : {T : Type 0} (r : Result T Stop) (e : Stop) (P : Type 0) → IsEr
 not_well {T} (Ok x) e P h = absurd h
 not_well {T} (Err y) e P h = tt
 
-another : {T : Type 0} (r : Result T Stop) (e : Stop) → IsErrAnd r (λ y. y ≡ e) → r ≡ Err Sink → e ≡ Sink
-another {T} (Ok x) e h is = absurd h
-another {T} (Err y) e h is = let same : y ≡ Sink = cc in sym h ∙ same
+pub on_err : {T E : Type 0} (r : Result T E) (P : Type 0) → P → OnErr r P
+on_err {T} {E} (Ok x) P h = tt
+on_err {T} {E} (Err e) P h = h
+
+-- nothing was appended
+pub nothing_part : (text before : List ℕ) (after : Option (List ℕ)) → after ≡ Some before → AppendsPart text before after
+nothing_part text before after w = record { part = []; rest = text; splits = refl; written = w ∙ sym (ap (λ (t : List ℕ). Some t) (append-nil before)) }
 
 module _ {n : ℕ} {image : Image} {m : Content} (c : HasContent n image m) (root : Root) (p : PoolState) (over : IsOver c root p) {T : Type 0} (text : List ℕ) (k : SinkState) where
   pub over_written : {X E : Type 0} (l : SinkState) (x : X) (y : T) (bytes : List ℕ) → bytes ≡ text → Appends {E = E} bytes k (Ok x) l → PrintsOver c root text k (Ok y) p l
   over_written {X} {E} l x y bytes is a = record {
     over = over;
     whole = λ before e. subst (λ (t : List ℕ). l.written ≡ Some (before ++ t)) is (a.whole before e);
-    part = λ before e bad. absurd cc;
+    part = λ before e. tt;
     undamaged = tt;
   }
 
@@ -101,7 +106,7 @@ module _ {n : ℕ} {image : Image} {m : Content} (c : HasContent n image m) (roo
   over_writing {X} {E} l r x bytes is a h = record {
     over = over;
     whole = λ before e. not_well r Sink _ h;
-    part = λ before e bad. subst (λ (t : List ℕ). AppendsPart t before l.written) is (a.part before e);
+    part = λ before e. on_err r _ (subst (λ (t : List ℕ). AppendsPart t before l.written) is (a.part before e));
     undamaged = handed_stop IsUndamagedStop r Sink h tt;
   }
 
@@ -109,7 +114,7 @@ module _ {n : ℕ} {image : Image} {m : Content} (c : HasContent n image m) (roo
   over_fetching r e good h = record {
     over = over;
     whole = λ before is. not_well r (Fetch e) _ h;
-    part = λ before is bad. let same = another r (Fetch e) h bad in absurd cc;
+    part = λ before is. on_err r _ (nothing_part text before k.written is);
     undamaged = handed_stop IsUndamagedStop r (Fetch e) h good;
   }
 
@@ -117,6 +122,6 @@ module _ {n : ℕ} {image : Image} {m : Content} (c : HasContent n image m) (roo
   over_without r h = record {
     over = over;
     whole = λ before is. not_well r Memory _ h;
-    part = λ before is bad. let same = another r Memory h bad in absurd cc;
+    part = λ before is. on_err r _ (nothing_part text before k.written is);
     undamaged = handed_stop IsUndamagedStop r Memory h tt;
   }

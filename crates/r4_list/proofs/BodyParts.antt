@@ -30,7 +30,7 @@ use Rattle.r4_list.specs.declared.fault.Stop.{Stop}
 use Rattle.r4_list.specs.declared.fault.Stop.TheVariants.{Fetch, Sink}
 use Rattle.r4_list.proofs.OverLeaves.{node_units}
 use Rattle.r4_list.proofs.OverUnits.{item_unit}
-use Rattle.r4_list.proofs.BodyOver.{not_well}
+use Rattle.r4_list.proofs.BodyOver.{not_well, nothing_part, on_err}
 use Rattle.r4_list.proofs.BodyText.{Spells, spelled, bytes_split, byte_unit, hole_unit}
 use Rattle.r4_list.proofs.BodyUnits.{AreOneBody, ranks_apart, unit_named}
 
@@ -169,7 +169,7 @@ module _ {n : ℕ} {image : Image} {m : Content} (c : HasContent n image m) (roo
   part_none p over = record {
     over = over;
     whole = λ before e. e ∙ ap (λ (t : List ℕ). Some t) (sym (append-nil before));
-    part = λ before e bad. absurd cc;
+    part = λ before e. tt;
     undamaged = tt;
   }
 
@@ -179,13 +179,13 @@ module _ {n : ℕ} {image : Image} {m : Content} (c : HasContent n image m) (roo
     part_written p l (Ok len) over a sink is = record {
       over = over;
       whole = λ before e. a.whole before e ∙ ap (λ (t : List ℕ). Some (before ++ t)) (sym (spelled m o from s h) ∙ ap (λ (j : ℕ). bytes_from m o j from) (sym (is len refl)));
-      part = λ before e bad. absurd cc;
+      part = λ before e. tt;
       undamaged = tt;
     }
     part_written p l (Err e) over a sink is = record {
       over = over;
       whole = λ before w. tt;
-      part = λ before w bad. longer m o from most s before l.written h le (a.part before w);
+      part = λ before w. longer m o from most s before l.written h le (a.part before w);
       undamaged = subst IsUndamagedStop (sym sink) tt;
     }
 
@@ -194,7 +194,7 @@ module _ {n : ℕ} {image : Image} {m : Content} (c : HasContent n image m) (roo
     part_printed {T} p l x len same f = record {
       over = f.over;
       whole = λ before e. f.whole before e ∙ ap (λ (t : List ℕ). Some (before ++ t)) (sym (spelled m o from s h) ∙ ap (λ (j : ℕ). bytes_from m o j from) same);
-      part = λ before e bad. absurd cc;
+      part = λ before e. tt;
       undamaged = tt;
     }
 
@@ -202,7 +202,7 @@ module _ {n : ℕ} {image : Image} {m : Content} (c : HasContent n image m) (roo
     part_stopped {T} p l e r f is = record {
       over = f.over;
       whole = λ before w. no_len _ r is;
-      part = λ before w bad. longer m o from most s before l.written h le (f.part before w (ap (λ (y : Stop). let q : Result T Stop = Err y in q) (same r is bad)));
+      part = λ before w. on_err r _ (longer m o from most s before l.written h le (f.part before w));
       undamaged = handed_stop IsUndamagedStop r e is f.undamaged;
     }
       where
@@ -210,25 +210,17 @@ module _ {n : ℕ} {image : Image} {m : Content} (c : HasContent n image m) (roo
         no_len P (Ok x) i = absurd i
         no_len P (Err y) i = tt
 
-        same : (q : Result ℕ Stop) → IsErrAnd q (λ y. y ≡ e) → q ≡ Err Sink → e ≡ Sink
-        same (Ok x) i bad = absurd i
-        same (Err y) i bad = let f : y ≡ Sink = cc in sym i ∙ f
-
 module _ {n : ℕ} {image : Image} {m : Content} (c : HasContent n image m) (root : Root) (o : Target) (from most : ℕ) (k : SinkState) where
   no_len : (P : ℕ → Type 0) (q : Result ℕ Stop) (e : Stop) → IsErrAnd q (λ y. y ≡ e) → IfOk q P
   no_len P (Ok x) e i = absurd i
   no_len P (Err y) e i = tt
-
-  its_stop : (q : Result ℕ Stop) (e : Stop) → IsErrAnd q (λ y. y ≡ e) → q ≡ Err Sink → e ≡ Sink
-  its_stop (Ok x) e i bad = absurd i
-  its_stop (Err y) e i bad = let f : y ≡ Sink = cc in sym i ∙ f
 
   -- an error that a `?` hands on
   pub part_handed : (p : PoolState) (l : SinkState) (e : Stop) (r : Result ℕ Stop) → PrintsPart c root o from most k (Err e) p l → IsErrAnd r (λ y. y ≡ e) → PrintsPart c root o from most k r p l
   part_handed p l e r f is = record {
     over = f.over;
     whole = λ before w. no_len _ r e is;
-    part = λ before w bad. f.part before w (ap (λ (y : Stop). let q : Result ℕ Stop = Err y in q) (its_stop r e is bad));
+    part = λ before w. on_err r _ (f.part before w);
     undamaged = handed_stop IsUndamagedStop r e is f.undamaged;
   }
 
@@ -236,7 +228,7 @@ module _ {n : ℕ} {image : Image} {m : Content} (c : HasContent n image m) (roo
   part_unfetched p e r over good is = record {
     over = over;
     whole = λ before w. no_len _ r (Fetch e) is;
-    part = λ before w bad. let same = its_stop r (Fetch e) is bad in absurd cc;
+    part = λ before w. on_err r _ (nothing_part _ before k.written w);
     undamaged = handed_stop IsUndamagedStop r (Fetch e) is good;
   }
 
@@ -267,22 +259,18 @@ module _ {n : ℕ} {image : Image} {m : Content} (c : HasContent n image m) (roo
     so_far_stopped {T} offset from most p q l j e r same left le s h is = let f : PrintsPart c root o offset (end - offset) l (Err e) q j = subst (λ (i : ℕ). PrintsPart c root o i (end - offset) l (Err e) q j) same (subst (λ (i : ℕ). PrintsPart c root o from i l (Err e) q j) left h) in record {
       over = f.over;
       whole = λ before w. not_well r e _ is;
-      part = λ before w bad.
-          let a = f.part (before ++ bytes_from m o offset 0) (s.printed before w) (ap (λ (y : Stop). let z : Result ℕ Stop = Err y in z) (its r is bad)) in
-          record {
+      part = λ before w.
+          let a = f.part (before ++ bytes_from m o offset 0) (s.printed before w) in
+          on_err r _ (record {
             part = bytes_from m o offset 0 ++ a.part;
             rest = a.rest ++ tail;
             splits = ap (λ (t : List ℕ). t ++ tail) (all ∙ ap (λ (t : List ℕ). bytes_from m o offset 0 ++ t) a.splits)
                 ∙ (append_assoc (bytes_from m o offset 0) (a.part ++ a.rest) tail ∙ (ap (λ (t : List ℕ). bytes_from m o offset 0 ++ t) (append_assoc a.part a.rest tail) ∙ sym (append_assoc (bytes_from m o offset 0) a.part (a.rest ++ tail))));
             written = a.written ∙ ap (λ (t : List ℕ). Some t) (append_assoc before (bytes_from m o offset 0) a.part);
-          };
+          });
       undamaged = handed_stop IsUndamagedStop r e is f.undamaged;
     }
       where
-        its : (z : Result T Stop) → IsErrAnd z (λ y. y ≡ e) → z ≡ Err Sink → e ≡ Sink
-        its (Ok x) i bad = absurd i
-        its (Err y) i bad = let g : y ≡ Sink = cc in sym i ∙ g
-
         all : bytes_from m o end 0 ≡ bytes_from m o offset 0 ++ bytes_from m o (end - offset) offset
         all = let a : offset + (end - offset) ≡ end = omega (arith, le) in let b : 0 + offset ≡ offset = omega arith in sym (ap (λ (i : ℕ). bytes_from m o i 0) a) ∙ (bytes_split m o offset (end - offset) 0 ∙ ap (λ (i : ℕ). bytes_from m o offset 0 ++ bytes_from m o (end - offset) i) b)
 
@@ -291,7 +279,7 @@ module _ {n : ℕ} {image : Image} {m : Content} (c : HasContent n image m) (roo
     so_far_written {X} {E} {T} offset p l j x y same h a = let s : SoFar c root o end k p l = subst (λ (i : ℕ). SoFar c root o i k p l) same h in record {
       over = s.over;
       whole = λ before w. a.whole (before ++ bytes_from m o end 0) (s.printed before w) ∙ ap (λ (t : List ℕ). Some t) (append_assoc before (bytes_from m o end 0) tail);
-      part = λ before w bad. absurd cc;
+      part = λ before w. tt;
       undamaged = tt;
     }
 
@@ -299,13 +287,13 @@ module _ {n : ℕ} {image : Image} {m : Content} (c : HasContent n image m) (roo
     so_far_writing {X} {E} {T} offset p l j x r same h a is = let s : SoFar c root o end k p l = subst (λ (i : ℕ). SoFar c root o i k p l) same h in record {
       over = s.over;
       whole = λ before w. not_well r Sink _ is;
-      part = λ before w bad.
+      part = λ before w.
           let b = a.part (before ++ bytes_from m o end 0) (s.printed before w) in
-          record {
+          on_err r _ (record {
             part = bytes_from m o end 0 ++ b.part;
             rest = b.rest;
             splits = ap (λ (t : List ℕ). bytes_from m o end 0 ++ t) b.splits ∙ sym (append_assoc (bytes_from m o end 0) b.part b.rest);
             written = b.written ∙ ap (λ (t : List ℕ). Some t) (append_assoc before (bytes_from m o end 0) b.part);
-          };
+          });
       undamaged = handed_stop IsUndamagedStop r Sink is tt;
     }

@@ -1,6 +1,6 @@
 -- The text of a listing, put together from its parts.
 use Rattle.std.proofs.Common.{◌≡◌, ◌≢◌, ℕ, suc, ◌+◌, ◌<◌, List, [], ◌∷◌, ◌++◌, length, true, false, refl, sym, ap, subst, ◌∙◌, arith, append_assoc, append-nil}
-use Rattle.std.specs.Prelude.{Option, Some, None, Result, Ok, Err, IfErr, OnOk, codes, min, ◌^◌, ◌==◌}
+use Rattle.std.specs.Prelude.{Option, Some, None, Result, Ok, Err, IfErr, OnOk, OnErr, codes, min, ◌^◌, ◌==◌}
 use Rattle.std.specs.Result.{IsErrAnd}
 use Rattle.std.specs.List.{list_all}
 use Rattle.std.proofs.lemmas.Bool.{eq-eqb}
@@ -11,7 +11,7 @@ use Rattle.r4_base.specs.Volume.{HasContent, HasStat, IsReached, is_directory}
 use Rattle.r4_base.specs.declared.items.Attr.{Attr}
 use Rattle.r4_base.specs.declared.items.Target.{Target}
 use Rattle.r4_content.specs.Walk.{Walked, At, attr_at, names_in, walk}
-use Rattle.r4_outside.specs.Sink.{SinkState, Appends}
+use Rattle.r4_outside.specs.Sink.{SinkState, Appends, AppendsPart}
 use Rattle.r4_cell.specs.declared.change.Root.{Root}
 use Rattle.r4_search.specs.Pool.{PoolState}
 use Rattle.r4_list.specs.Listing.{IsListing, file_text, lines_of, shown_path, text_at, bytes_from}
@@ -26,12 +26,11 @@ use Rattle.r4_list.specs.Lists.{IsUnrefused, PrintsText, stop_fault_of}
 use Rattle.r4_list.specs.Opening.{IsSettledBy}
 use Rattle.r4_list.specs.Pool.{Shared, is_image, kept_in, nodes_state, settled_block}
 use Rattle.r4_list.specs.declared.fault.ListFault.{ListFault}
-use Rattle.r4_list.specs.declared.fault.ListFault.TheVariants.{Sink as SinkFault, Memory as NoRoom}
 use Rattle.r4_list.specs.Printed.{IsUndamagedStop, PrintsOver}
 use Rattle.r4_list.specs.Walking.{IsEnough}
 use Rattle.r4_list.specs.declared.fault.Stop.{Stop}
 use Rattle.r4_list.specs.declared.fault.Stop.TheVariants.{Fetch, Sink, Memory}
-use Rattle.r4_list.proofs.BelowPrints.{printed_whole, same_appends, same_stop, stopped_writing}
+use Rattle.r4_list.proofs.BelowPrints.{printed_whole, same_appends, stopped_writing}
 use Rattle.r4_list.proofs.BelowSteps.{part_longer}
 use Rattle.r4_list.proofs.BelowBegins.{part_later}
 use Rattle.r4_list.proofs.DepthBound.{some_enough}
@@ -54,9 +53,6 @@ shown_whole (x ∷ (y ∷ xs)) more = refl
 
 -- ---- two texts, one printed after the other
 
-err_is : {X : Type 0} (r : Result X Stop) (e : Stop) → r ≡ Err e → e ≡ Sink → r ≡ Err Sink
-err_is {X} r e a b = a ∙ ap (λ (s : Stop). Err s) b
-
 pub same_listing : {T : Type 0} {n : ℕ} {image : Image} {m : Content} (c : HasContent n image m) (root : Root) (a b : List ℕ) (k l : SinkState) (p : PoolState) (r : Result T Stop) → a ≡ b → PrintsOver c root a k r p l → PrintsOver c root b k r p l
 same_listing {T} c root a b k l p r is f = subst (λ (t : List ℕ). PrintsOver c root t k r p l) is f
 
@@ -65,11 +61,15 @@ module _ {n : ℕ} {image : Image} {m : Content} (c : HasContent n image m) (roo
   whole_on (Ok x) before k' e = e ∙ ap (λ (t : List ℕ). Some t) (append_assoc before a b ∙ ap (λ (t : List ℕ). before ++ t) (sym is))
   whole_on (Err e) before k' h = tt
 
+  part_on : {T : Type 0} (r : Result T Stop) (before : List ℕ) (after : Option (List ℕ)) → OnErr r (AppendsPart b (before ++ a) after) → OnErr r (AppendsPart text before after)
+  part_on (Ok x) before after h = tt
+  part_on (Err e) before after h = part_later a b text before after is h
+
   pub printed_on : {X T : Type 0} (x : X) (p q : PoolState) (k' : SinkState) (r : Result T Stop) → PrintsOver {T = X} c root a k (Ok x) p l → PrintsOver c root b l r q k' → PrintsOver c root text k r q k'
   printed_on x p q k' r f s = record {
     over = s.over;
     whole = λ before w. whole_on r before k' (s.whole (before ++ a) (f.whole before w));
-    part = λ before w bad. part_later a b text before k'.written is (s.part (before ++ a) (f.whole before w) bad);
+    part = λ before w. part_on r before k'.written (s.part (before ++ a) (f.whole before w));
     undamaged = s.undamaged;
   }
 
@@ -78,7 +78,7 @@ module _ {n : ℕ} {image : Image} {m : Content} (c : HasContent n image m) (roo
   printed_first {X} {T} e p (Err y) same f = record {
     over = f.over;
     whole = λ before w. tt;
-    part = λ before w bad. part_longer a b text before l.written is (f.part before w (err_is (Err e) e refl (sym same ∙ same_stop y (Err y) refl bad)));
+    part = λ before w. part_longer a b text before l.written is (f.part before w);
     undamaged = subst IsUndamagedStop (sym same) f.undamaged;
   }
 
@@ -148,24 +148,9 @@ fresh_over {n} {image} {m} c d homes blocks kept first root tells same settled l
     none_kept : {k : CellSeen} {o : Option CellSeen} → o ≡ None → o ≡ Some k → ⊥
     none_kept {k} {o} a b = cc
 
-ok_err : {T : Type 0} (v : T) (e : ListFault) → Ok v ≡ Err e → ⊥
-ok_err {T} v e h = cc
-
 -- what was printed over the tree of a content is the text of what is answered
 pub text_well : {n : ℕ} {image : Image} {m : Content} (c : HasContent n image m) (root : Root) (text : List ℕ) (k l : SinkState) (p : PoolState) {X T : Type 0} (x : X) (v : T) → PrintsOver {T = X} c root text k (Ok x) p l → PrintsText text k (Ok v) l
-text_well c root text k l p {X} {T} x v f = record { whole = f.whole; part = λ before faults w bad. absurd (ok_err v (SinkFault faults) bad); unrefused = tt }
-
-abbrev fault_of : {T : Type 0} → Result T ListFault → ListFault
-fault_of {T} (Ok x) = NoRoom
-fault_of {T} (Err e) = e
-
--- where it is the sink's fault, printing stopped at the sink
-sink_stop : (stop : Stop) (clock faults sink told : ℕ) → stop_fault_of stop clock faults sink ≡ SinkFault told → stop ≡ Sink
-sink_stop (Fetch (Read at f)) clock faults sink told h = absurd cc
-sink_stop (Fetch (Damaged at f)) clock faults sink told h = absurd cc
-sink_stop (Fetch NoCell) clock faults sink told h = absurd cc
-sink_stop Sink clock faults sink told h = refl
-sink_stop Memory clock faults sink told h = absurd cc
+text_well c root text k l p {X} {T} x v f = record { whole = f.whole; part = λ before w. tt; unrefused = tt }
 
 stop_unrefused : (stop : Stop) (clock faults sink : ℕ) → IsUndamagedStop stop → IsUnrefused (stop_fault_of stop clock faults sink)
 stop_unrefused (Fetch (Read at f)) clock faults sink u = tt
@@ -177,6 +162,6 @@ stop_unrefused Memory clock faults sink u = tt
 pub text_stopped : {n : ℕ} {image : Image} {m : Content} (c : HasContent n image m) (root : Root) (text : List ℕ) (k l : SinkState) (p : PoolState) {X T : Type 0} (stop : Stop) (clock faults : ℕ) (e : ListFault) (r : Result T ListFault) → r ≡ Err e → e ≡ stop_fault_of stop clock faults l.faults → PrintsOver {T = X} c root text k (Err stop) p l → PrintsText text k r l
 text_stopped c root text k l p {X} {T} stop clock faults e r is same f = subst (λ (z : Result T ListFault). PrintsText text k z l) (sym is) (record {
   whole = λ before w. tt;
-  part = λ before told w bad. f.part before w (err_is (Err stop) stop refl (sink_stop stop clock faults l.faults told (sym same ∙ ap fault_of bad)));
+  part = λ before w. f.part before w;
   unrefused = subst IsUnrefused (sym same) (stop_unrefused stop clock faults l.faults f.undamaged);
 })

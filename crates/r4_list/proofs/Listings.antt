@@ -16,10 +16,11 @@ use Rattle.r4_base.specs.Layout.{super_of}
 use Rattle.r4_base.specs.Value.{Content}
 use Rattle.r4_base.specs.Volume.{HasContent, HasVolume}
 use Rattle.r4_base.proofs.Logs.{not_refused, one_log}
+use Rattle.r4_list.proofs.BodyOver.{nothing_part}
 use Rattle.r4_list.proofs.Openings.{layout_is}
 use Rattle.r4_list.proofs.Stages.{prints_same}
 use Rattle.r4_list.specs.Listing.{IsListing}
-use Rattle.r4_list.specs.declared.fault.ListFault.TheVariants.{Device, Size, Sink as SinkFault, Memory as NoMemory}
+use Rattle.r4_list.specs.declared.fault.ListFault.TheVariants.{Device, Size, Memory as NoMemory}
 use Rattle.std.specs.BTreeMap.{BTreeMap}
 use Rattle.std.specs.Borrow.{GName}
 use Rattle.r4_outside.proofs.Lent.{goes_lent}
@@ -46,17 +47,13 @@ use Rattle.r4_list.specs.declared.opening.Unopened.TheVariants.{Failed, Layout, 
 
 -- ---- where nothing was printed
 
--- a text of which nothing was printed, where neither an image is refused nor the sink failed
-text_without : (text : List ℕ) (k : SinkState) (x e : ListFault) → x ≡ e → IsUnrefused e → ((f : ℕ) → e ≡ SinkFault f → ⊥) → PrintsText {T = Unit {0}} text k (Err x) k
-text_without text k x e is u other = record {
+-- a text of which nothing was printed, where no image is refused
+text_without : (text : List ℕ) (k : SinkState) (x e : ListFault) → x ≡ e → IsUnrefused e → PrintsText {T = Unit {0}} text k (Err x) k
+text_without text k x e is u = record {
   whole = λ before w. tt;
-  part = λ before f w bad. absurd (other f (sym is ∙ ap told_fault bad));
+  part = λ before w. nothing_part text before k.written w;
   unrefused = subst IsUnrefused (sym is) u;
 }
-  where
-    told_fault : Result (Unit {0}) ListFault → ListFault
-    told_fault (Ok x) = NoMemory
-    told_fault (Err e) = e
 
 no_misfit : (b : ℕ) (f : LayoutFault) → misfit b f ≡ None → ⊥
 no_misfit b f h = cc
@@ -70,9 +67,9 @@ same_super n k b s t same e f = cc (same, e, f)
 -- a log of an image with a volume is not refused
 pub log_text : (first now : State) (k : SinkState) (e : ReplayFault) (x : ListFault) (m : Content) (text : List ℕ) → x ≡ log_fault_of e → Faulted first e now → TellsReads first → HasVolume first.blocks first.seen m → PrintsText {T = Unit {0}} text k (Err x) k
 log_text first now k (LogRefused block fault) x m text is f told v = absurd (not_refused _ _ _ _ v.log (f.2 told))
-log_text first now k (DeviceFailed clock faults) x m text is f told v = text_without text k x (Device clock faults) is tt (λ g h. cc)
-log_text first now k (BadSize blocks) x m text is f told v = text_without text k x (Size blocks) is tt (λ g h. cc)
-log_text first now k NoRoomForLog x m text is f told v = text_without text k x NoMemory is tt (λ g h. cc)
+log_text first now k (DeviceFailed clock faults) x m text is f told v = text_without text k x (Device clock faults) is tt
+log_text first now k (BadSize blocks) x m text is f told v = text_without text k x (Size blocks) is tt
+log_text first now k NoRoomForLog x m text is f told v = text_without text k x NoMemory is tt
 
 -- ---- blocks behind the last one are no originals
 
@@ -130,11 +127,11 @@ module _ (first d : State) (log : Log) (goes : Goes first d) (seen : d.seen ≡ 
 
   -- an image with a volume is opened
   pub open_text : (now : State) (k : SinkState) (e : Unopened) (x : ListFault) (m : Content) (text : List ℕ) → x ≡ open_fault_of e now.clock now.faults → Opens d log.homes (Err e) now → TellsReads first → HasVolume first.blocks first.seen m → PrintsText {T = Unit {0}} text k (Err x) k
-  open_text now k Failed x m text is opens told v = text_without text k x (Device now.clock now.faults) is tt (λ f h. cc)
+  open_text now k Failed x m text is opens told v = text_without text k x (Device now.clock now.faults) is tt
   open_text now k (Layout b f) x m text is opens told v =
       let refused = image_refused b f now opens told (put_pairs (chain_pairs v.chain) first.seen) (record { chain = v.chain; has = v.log; is = refl }) in
       absurd (no_misfit _ _ (sym refused ∙ layout_none v.content))
-  open_text now k NoBuffer x m text is opens told v = text_without text k x NoMemory is tt (λ f h. cc)
+  open_text now k NoBuffer x m text is opens told v = text_without text k x NoMemory is tt
 
 -- Nothing was written.
 pub stays_both : (a b c : State) → LeavesDevice a b → LeavesDevice b c → LeavesDevice a c
@@ -211,7 +208,7 @@ print_causes homes s root old new d now k l (Err e) same is well c = print_cause
 pub device_answer : (path : List ℕ) (first d now : State) (k : SinkState) (x : ListFault) → x ≡ Device now.clock now.faults → first.faults ≤ d.faults → Rose d.faults now.faults → Answers {T = Unit {0}} path first k (Err x) now k
 device_answer path first d now k x is low rose = record {
   printed = prints_same k;
-  text = λ m text told v listing. text_without text k x (Device now.clock now.faults) is tt (λ f h. cc);
+  text = λ m text told v listing. text_without text k x (Device now.clock now.faults) is tt;
   ok = tt;
   err = subst (λ (y : ListFault). IsListFault first k y now k) (sym is) (omega (arith, low, rose), refl, refl);
 }

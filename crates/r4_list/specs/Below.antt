@@ -1,5 +1,5 @@
 -- A listing that is being printed (docs/program.md, "Listing"): a number that falls with each step, and the directories that are open.
-use Rattle.std.specs.Prelude.{◌≡◌, ◌⊎◌, ℕ, ◌+◌, ◌*◌, ◌-◌, ◌^◌, Bool, true, false, List, [], ◌∷◌, ◌++◌, length, Some, Result, Err, IfErr, OnOk}
+use Rattle.std.specs.Prelude.{◌≡◌, ◌⊎◌, ℕ, ◌+◌, ◌*◌, ◌-◌, ◌^◌, Bool, true, false, List, [], ◌∷◌, ◌++◌, length, Some, Result, IfErr, OnOk, OnErr}
 use Rattle.std.specs.List.{sum_by}
 use Rattle.std.specs.Arc.{arc_value}
 use Rattle.std.specs.Ordering.{nat_cmp}
@@ -19,7 +19,6 @@ use Rattle.r4_list.specs.Over.{IsOver}
 use Rattle.r4_list.specs.Printed.{IsUndamagedStop, PrintsOver}
 use Rattle.r4_list.specs.Walking.{IsWalking, NoneLeft, OpenDir, PrintsToo, open_dir, rest_of}
 use Rattle.r4_list.specs.declared.fault.Stop.{Stop}
-use Rattle.r4_list.specs.declared.fault.Stop.TheVariants.{Sink}
 use Rattle.r4_list.specs.declared.frame.Frame.{Frame}
 use Rattle.r4_list.specs.declared.below.Below.{Below}
 
@@ -97,9 +96,9 @@ pub record IsOnward {n : ℕ} {image : Image} {m : Content} (c : HasContent n im
   pub is : text ≡ done ++ rest_of m steps fs
   pub written : (before : List ℕ) → k.written ≡ Some before → k'.written ≡ Some (before ++ done)
 
--- What a step of a walk does whose text is left to be printed: a part of it is, or where the sink failed a prefix.
+-- What a step of a walk does whose text is left to be printed: a part of it is, and a prefix where it stops.
 pub record GoesOn {T : Type 0} {n : ℕ} {image : Image} {m : Content} (c : HasContent n image m) (root : Root) (start : Target) (steps : ℕ) (text : List ℕ) (k : SinkState) (result : Result T Stop) (new : PoolState) (b : Below) (k' : SinkState) : Type 0 where
   pub over : IsOver c root new
   pub onward : OnOk result (IsOnward c start steps text k b k')
-  pub part : (before : List ℕ) → k.written ≡ Some before → result ≡ Err Sink → AppendsPart text before k'.written
+  pub part : (before : List ℕ) → k.written ≡ Some before → OnErr result (AppendsPart text before k'.written)
   pub undamaged : IfErr result IsUndamagedStop

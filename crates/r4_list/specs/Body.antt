@@ -1,5 +1,5 @@
 -- The bytes of a file's body, as items have them (docs/program.md, "Listing"). A key is its rank.
-use Rattle.std.specs.Prelude.{◌≡◌, ℕ, ◌⊎◌, ◌+◌, ◌-◌, ◌/◌, ◌<◌, ◌≤◌, false, length, List, [], ◌∷◌, ◌++◌, Contains, Some, None, Result, Err, IfOk, IfErr, replicate, slice_index, if◌then◌else◌, ◌==◌}
+use Rattle.std.specs.Prelude.{◌≡◌, ℕ, ◌⊎◌, ◌+◌, ◌-◌, ◌/◌, ◌<◌, ◌≤◌, false, length, List, [], ◌∷◌, ◌++◌, Contains, Some, None, Result, IfOk, IfErr, OnErr, replicate, slice_index, if◌then◌else◌, ◌==◌}
 use Rattle.r4_base.specs.Extents.{block_of, blocks_in, units_of}
 use Rattle.r4_base.specs.Image.{Image, block_at}
 use Rattle.r4_base.specs.Node.{Item}
@@ -21,7 +21,6 @@ use Rattle.r4_list.specs.Over.{IsOver}
 use Rattle.r4_list.specs.Printed.{IsUndamagedStop}
 use Rattle.r4_list.specs.Printing.{IsCause, Prints}
 use Rattle.r4_list.specs.declared.fault.Stop.{Stop}
-use Rattle.r4_list.specs.declared.fault.Stop.TheVariants.{Sink}
 
 -- a block of an extent as a unit of one block: what is at so many blocks behind the beginning
 pub record IsUnitAt (us : List ExtentUnit) (block : ℕ) (u : ExtentUnit) : Type 0 where
@@ -71,12 +70,12 @@ pub record IsFileTo (m : Content) (o : Target) (to : ℕ) : Type 0 where
 abbrev pub IsKeyOf : Target → Key → Type 0
 IsKeyOf o key = key ≡ body_key o.locality o.ordering o.oid (slice_index key.el 3)
 
--- What a call prints of a file's bytes from an offset on, over a pool that reads the tree of the content: as many as it says, or where the
--- sink failed a prefix of at most so many.
+-- What a call prints of a file's bytes from an offset on, over a pool that reads the tree of the content: as many as it says, or a prefix
+-- of at most so many where it stops.
 pub record PrintsPart {n : ℕ} {image : Image} {m : Content} (c : HasContent n image m) (root : Root) (o : Target) (from most : ℕ) (k : SinkState) (result : Result ℕ Stop) (new : PoolState) (k' : SinkState) : Type 0 where
   pub over : IsOver c root new
   pub whole : (before : List ℕ) → k.written ≡ Some before → IfOk result (λ len. k'.written ≡ Some (before ++ bytes_from m o len from))
-  pub part : (before : List ℕ) → k.written ≡ Some before → result ≡ Err Sink → AppendsPart (bytes_from m o most from) before k'.written
+  pub part : (before : List ℕ) → k.written ≡ Some before → OnErr result (AppendsPart (bytes_from m o most from) before k'.written)
   pub undamaged : IfErr result IsUndamagedStop
 
 -- The item has the byte of a file at this key: a tail, or an extent.

@@ -1,5 +1,5 @@
 -- What a listing answers (docs/program.md, "Listing").
-use Rattle.std.specs.Prelude.{◌≡◌, ◌⊎◌, ℕ, ◌<◌, List, ◌++◌, false, Some, None, Result, Ok, Err, IfOk, IfErr, OnOk}
+use Rattle.std.specs.Prelude.{◌≡◌, ◌⊎◌, ℕ, ◌<◌, List, ◌++◌, false, Some, None, Result, Ok, Err, IfOk, IfErr, OnOk, OnErr}
 use Rattle.std.specs.BTreeMap.{BTreeMap}
 use Rattle.r4_base.specs.Cell.{cell_fault}
 use Rattle.r4_base.specs.Chain.{Settles}
@@ -114,10 +114,10 @@ IsUnrefused (Size blocks) = Unit {0}
 IsUnrefused (Sink faults) = Unit {0}
 IsUnrefused Memory = Unit {0}
 
--- All of a text was appended, or where the sink failed a prefix of it; and nothing is refused.
+-- All of a text was appended, or a prefix of it where it stops, whatever it stops at; and nothing is refused.
 pub record PrintsText {T : Type 0} (text : List ℕ) (k : SinkState) (result : Result T ListFault) (k' : SinkState) : Type 0 where
   pub whole : (before : List ℕ) → k.written ≡ Some before → OnOk result (k'.written ≡ Some (before ++ text))
-  pub part : (before : List ℕ) (faults : ℕ) → k.written ≡ Some before → result ≡ Err (Sink faults) → AppendsPart text before k'.written
+  pub part : (before : List ℕ) → k.written ≡ Some before → OnErr result (AppendsPart text before k'.written)
   pub unrefused : IfErr result IsUnrefused
 
 -- `list`

@@ -1,5 +1,5 @@
 -- What is printed over a pool that reads the tree of a content (docs/program.md, "Listing").
-use Rattle.std.specs.Prelude.{◌≡◌, ℕ, List, ◌++◌, Some, Result, Err, IfErr, OnOk}
+use Rattle.std.specs.Prelude.{◌≡◌, ℕ, List, ◌++◌, Some, Result, Err, IfErr, OnOk, OnErr}
 use Rattle.r4_base.specs.Image.{Image}
 use Rattle.r4_base.specs.Value.{Content}
 use Rattle.r4_base.specs.Volume.{HasContent}
@@ -16,9 +16,9 @@ IsUndamagedStop (Fetch e) = IsUndamaged e
 IsUndamagedStop Sink = Unit {0}
 IsUndamagedStop Memory = Unit {0}
 
--- What a call prints of a content whose tree the pool reads: the text, or where the sink failed a prefix of it.
+-- What a call prints of a content whose tree the pool reads: the text, or a prefix of it where it stops, whatever it stops at.
 pub record PrintsOver {T : Type 0} {n : ℕ} {image : Image} {m : Content} (c : HasContent n image m) (root : Root) (text : List ℕ) (k : SinkState) (result : Result T Stop) (new : PoolState) (k' : SinkState) : Type 0 where
   pub over : IsOver c root new
   pub whole : (before : List ℕ) → k.written ≡ Some before → OnOk result (k'.written ≡ Some (before ++ text))
-  pub part : (before : List ℕ) → k.written ≡ Some before → result ≡ Err Sink → AppendsPart text before k'.written
+  pub part : (before : List ℕ) → k.written ≡ Some before → OnErr result (AppendsPart text before k'.written)
   pub undamaged : IfErr result IsUndamagedStop

@@ -24,7 +24,6 @@ use crate::frame::{Frame, Place, first_frame, next_frame, place_in};
 use crate::leaf::name_bytes;
 use crate::line::push_line;
 use crate::lookup::attr_of;
-use crate::walk::is_directory;
 use r4_base::{Attr, Memory, Oid, Target};
 use r4_cde::NameRef;
 use r4_cell::Root;
@@ -100,7 +99,7 @@ impl Below {
         self.line.clear();
         push_line(&mut self.line, attr, &self.path)?;
         out.write(&self.line)?;
-        if !is_directory(attr) {
+        if !attr.is_directory() {
             return Ok(());
         }
         let before = self.printed.len();

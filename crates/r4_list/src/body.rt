@@ -26,7 +26,7 @@ ghost use Rattle.r4_list.specs.Body.{AreKnown, AreStored, AreUnits, HasByte, IsF
 use crate::fault::Stop;
 use crate::leaf::items_up_to;
 use crate::lookup::cell_of;
-use r4_base::{Block, Key, NodeId, Target, Unit};
+use r4_base::{BLOCK_BYTES, Block, EXTENT, GREATEST_SIZE, Key, NodeId, TAIL, Target, Unit};
 use r4_cell::{Cell, Root};
 use r4_meta::tail_part;
 use r4_node40::ItemView;
@@ -34,18 +34,6 @@ use r4_outside::Sink;
 use r4_search::Pool;
 use r4_twig::ExtentView;
 use std::alloc::Global;
-
-/// The plugin of an extent.
-const EXTENT: u16 = 5;
-
-/// The plugin of a tail.
-const TAIL: u16 = 6;
-
-/// How many bytes a block has.
-const BLOCK: u64 = 4096;
-
-/// How many bytes of a file are printed at most.
-const MOST_BYTES: u64 = 1 << 30;
 
 /// Prints the bytes of a file, and then a newline.
 pub fn print_body<P: Pool, K: Sink>(
@@ -65,7 +53,7 @@ pub fn print_body<P: Pool, K: Sink>(
     ensures over { (n : ℕ) (image : Image) (m : Content) (c : HasContent n image m) (a : Attr) → IsOver c root.now (P.state pool.old) → HasStat m file.now a → is_directory a ≡ false → a.size ≡ size
         → PrintsOver c root.now (bytes_from m file.now (min size (2 ^ 30)) 0 ++ codes "\n") (K.state out.old) result (P.state pool.new) (K.state out.new) }
 {
-    let end = size.min(MOST_BYTES);
+    let end = size.min(GREATEST_SIZE);
     let mut offset = 0;
     while offset < end {
         let key = Key::body(file.locality, file.ordering, file.oid, offset);
@@ -219,12 +207,12 @@ fn print_extent<P: Pool, K: Sink>(
         → PrintsPart c root.now o (slice_index key.el 3) (end - slice_index key.el 3) (K.state out.old) result (P.state pool.new) (K.state out.new) }
 {
     let from = key.el[3] - item.key.el[3];
-    let Some(unit) = unit_of(item, from / BLOCK) else {
+    let Some(unit) = unit_of(item, from / BLOCK_BYTES) else {
         return Ok(0);
     };
-    let place = from % BLOCK;
-    let lo = with_offset(key, key.el[3] - place);
-    let to = BLOCK.min(end - lo.el[3]);
+    let place = from % BLOCK_BYTES;
+    let lo = key.with_offset(key.el[3] - place);
+    let to = BLOCK_BYTES.min(end - lo.el[3]);
     print_bytes(alloc, pool, root, out, unit, lo, place, to)?;
     Ok(to - place)
 }
@@ -271,15 +259,6 @@ fn one_block(unit: Unit, block: u64) -> Unit
     }
 }
 
-// A key with another offset.
-fn with_offset(key: Key, offset: u64) -> Key
-    ensures { result.el ≡ slice_index key.el 0 ∷ slice_index key.el 1 ∷ slice_index key.el 2 ∷ offset ∷ [] }
-{
-    Key {
-        el: [key.el[0], key.el[1], key.el[2], offset],
-    }
-}
-
 // Prints a part of a block, whose first byte has this key: zeros for a hole.
 fn print_bytes<P: Pool, K: Sink>(
     alloc: Global,
@@ -307,7 +286,7 @@ fn print_bytes<P: Pool, K: Sink>(
         out.write(&zeros.bytes()[from as usize..to as usize])?;
         return Ok(());
     }
-    let hi = with_offset(lo, lo.el[3] + BLOCK);
+    let hi = lo.behind(BLOCK_BYTES);
     let block = pool.fetch(alloc, NodeId(unit.start), 0, lo, hi)?;
     out.write(&block.block().bytes()[from as usize..to as usize])?;
     Ok(())

@@ -17,9 +17,9 @@ ghost use Rattle.r4_list.specs.Over.{FindsOver, IsOver};
 ghost use Rattle.r4_list.specs.Walking.{NoneLeft, OpenDir};
 ghost use Rattle.r4_list.specs.Printing.{Fetched};
 
-use crate::leaf::{DIRECTORY, items_up_to};
+use crate::leaf::items_up_to;
 use crate::lookup::{cell_of, is_in_tree};
-use r4_base::{Key, Oid};
+use r4_base::{ENTRIES, Key, LEAF, Oid};
 use r4_cde::{DirView, EntryRef};
 use r4_cell::{Cell, Root};
 use r4_search::{FetchFault, Pool};
@@ -122,7 +122,7 @@ pub fn place_in(leaf: &Cell, dir: Oid, item: u16, entry: u16) -> Place<'_>
     if item.key.el[0] != first_number(dir) {
         return Place::DirEnd;
     }
-    if item.plugin != DIRECTORY {
+    if item.plugin != ENTRIES {
         return Place::ItemEnd;
     }
     let entries = DirView::of_item(&item.key, item.body);
@@ -223,7 +223,7 @@ fn leaf_from<P: Pool>(
             return Ok(None);
         }
         let cell = cell_of(alloc, pool, root, at)?;
-        if cell.level() == 1 {
+        if cell.level() == LEAF {
             return Ok(Some(cell));
         }
         at = behind(&cell, at);

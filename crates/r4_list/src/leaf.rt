@@ -11,17 +11,11 @@ ghost use Rattle.r4_cde.specs.Shown.{name_bytes};
 ghost use Rattle.r4_cell.specs.Seen.{CellSeen, node_of};
 ghost use Rattle.r4_list.specs.Leaf.{AreUpTo};
 
-use r4_base::{Attr, Key, Target};
+use r4_base::{Attr, ENTRIES, Key, STAT, Target};
 use r4_cde::{DirView, NameRef};
 use r4_cell::Cell;
 use r4_meta::read_stat;
 use r4_node40::{ItemView, NodeView};
-
-/// The plugin of stat data.
-const STAT_DATA: u16 = 0;
-
-/// The plugin of a directory item.
-pub const DIRECTORY: u16 = 2;
 
 /// How many items have a key that is not above this one: those that stand before the rest.
 pub fn items_up_to(node: &NodeView<'_>, key: Key) -> u16
@@ -63,7 +57,7 @@ pub fn attr_in(leaf: &Cell, key: Key) -> Option<Attr>
 {
     let node = leaf.node();
     let item = last_item(&node, key)?;
-    if item.plugin != STAT_DATA {
+    if item.plugin != STAT {
         return None;
     }
     if !item.key.is_same(key) {
@@ -84,7 +78,7 @@ pub fn target_in(leaf: &Cell, key: Key, name: &[u8]) -> Option<Target>
 {
     let node = leaf.node();
     let item = last_item(&node, key)?;
-    if item.plugin != DIRECTORY {
+    if item.plugin != ENTRIES {
         return None;
     }
     let entries = DirView::of_item(&item.key, item.body);

@@ -3,7 +3,6 @@
 ghost use Rattle.std.specs.Prelude.{◌≡◌, ◌++◌, ◌%◌, ◌/◌, ◌∷◌, [], codes, decimal, OnOk};
 ghost use Rattle.r4_list.specs.Listing.{digit, kind_text, line_of, path_text};
 
-use crate::walk::is_directory;
 use itoa::Buffer;
 use r4_base::{Attr, Memory};
 
@@ -26,7 +25,7 @@ pub fn push_line(line: &mut Vec<u8>, attr: &Attr, path: &[u8]) -> Result<(), Mem
 fn kind(attr: &Attr) -> &'static [u8]
     ensures { result.now ≡ kind_text attr.now ++ codes " " }
 {
-    if is_directory(attr) { b"d " } else { b"f " }
+    if attr.is_directory() { b"d " } else { b"f " }
 }
 
 // The path that a line shows: a slash for none.

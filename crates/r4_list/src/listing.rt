@@ -27,7 +27,7 @@ use crate::body::print_body;
 use crate::fault::{ListFault, Stop};
 use crate::nodes::Nodes;
 use crate::opening::{Unopened, open_image};
-use crate::walk::{Walked, is_directory, walk};
+use crate::walk::{Walked, walk};
 use r4_base::{Attr, NodeId, Super40, Target};
 use r4_cell::{ImageFault, Root};
 use r4_outside::{Device, Sink};
@@ -166,7 +166,7 @@ fn print_found<P: Pool, K: Sink>(
         → PrintsOver c root.now (lines_of m (suc steps) object.now (shown_path path.now) ++ file_text m object.now attr.now) (K.state out.old) result (P.state pool.new) (K.state out.new) }
 {
     print_object(alloc, pool, root, out, object, attr, shown(path))?;
-    if is_directory(attr) {
+    if attr.is_directory() {
         return Ok(());
     }
     print_body(alloc, pool, root, out, object, attr.size)

@@ -17,15 +17,12 @@ ghost use Rattle.r4_list.specs.OverWalks.{IsLookedUp};
 ghost use Rattle.r4_list.specs.Printing.{Fetched};
 
 use crate::leaf::{attr_in, target_in};
-use r4_base::{Attr, Key, Oid, Target};
+use r4_base::{Attr, Key, LEAF, OBJECT_END, Oid, Target};
 use r4_cde::entry_key;
 use r4_cell::{Cell, Root};
 use r4_search::{FetchFault, Pool, cover, least};
 use std::alloc::Global;
 use std::sync::Arc;
-
-/// No object has a locality or an object id from this number on.
-const OBJECTS: u64 = 1 << 60;
 
 /// Whether a key is from the least one on, and its first number is not the greatest one: then it is below the end of all keys
 /// (docs/layout.md, "Keys").
@@ -83,10 +80,10 @@ pub fn attr_of<P: Pool>(
         → FindsOver c root.now result (P.state pool.new) (λ a. a ≡ attr_at m object.now) }
     ensures reached { IfOk result (λ a. IfSome a (λ x. IsLookedUp object.now)) }
 {
-    if object.locality >= OBJECTS {
+    if object.locality >= OBJECT_END {
         return Ok(None);
     }
-    if object.oid.0 >= OBJECTS {
+    if object.oid.0 >= OBJECT_END {
         return Ok(None);
     }
     let key = Key::stat(object.locality, object.ordering, object.oid);
@@ -94,7 +91,7 @@ pub fn attr_of<P: Pool>(
         return Ok(None);
     }
     let cell = cell_of(alloc, pool, root, key)?;
-    if cell.level() != 1 {
+    if cell.level() != LEAF {
         return Ok(None);
     }
     Ok(attr_in(&cell, key))
@@ -116,7 +113,7 @@ pub fn target_of<P: Pool>(
     ensures over { (n : ℕ) (image : Image) (m : Content) (c : HasContent n image m) → name_fault name.now ≡ None → IsOver c root.now (P.state pool.old)
         → FindsOver c root.now result (P.state pool.new) (λ t. t ≡ target_at m dir.0 name.now) }
 {
-    if dir.0 >= OBJECTS {
+    if dir.0 >= OBJECT_END {
         return Ok(None);
     }
     let Ok(key) = entry_key(dir, name) else {
@@ -126,7 +123,7 @@ pub fn target_of<P: Pool>(
         return Ok(None);
     }
     let cell = cell_of(alloc, pool, root, key)?;
-    if cell.level() != 1 {
+    if cell.level() != LEAF {
         return Ok(None);
     }
     Ok(target_in(&cell, key, name))

@@ -9,7 +9,7 @@ ghost use Rattle.r4_search.specs.Pool.{LeavesDevice};
 ghost use Rattle.r4_list.specs.declared.opening.Unopened.TheVariants.{Layout as Refused};
 ghost use Rattle.r4_list.specs.Opening.{AreRead, IsReadCause, Opens};
 
-use r4_base::{Block, BlockNo, LayoutFault, Memory, Super40};
+use r4_base::{Block, BlockNo, LayoutFault, MASTER_BLOCK, Memory, SUPER_BLOCK, Super40, bitmap_block, bitmap_count};
 use r4_layout::{read_master, read_super};
 use r4_outside::{Device, Failed};
 use r4_replay::Log;
@@ -57,9 +57,6 @@ impl<T: Drop> From<AllocFailed<T>> for Unopened {
     }
 }
 
-/// How many bits a bitmap has.
-const BITS: u64 = 32_736;
-
 /// The format superblock of a settled image on a device of `device_blocks` blocks, where it, the master superblock and
 /// the bitmaps have no fault.
 pub fn open_image<D: Device>(
@@ -76,29 +73,26 @@ pub fn open_image<D: Device>(
     ensures lawful { IfOk result (λ s. IsLawfulSuper device_blocks s) }
 {
     let mut buffer = Block::zeroed(alloc)?;
-    dev.read(log.home(BlockNo(16)), &mut buffer)?;
+    dev.read(log.home(MASTER_BLOCK), &mut buffer)?;
     if let Err(fault) = read_master(buffer.bytes()) {
-        return Err(refused(16, fault));
+        return Err(refused(MASTER_BLOCK, fault));
     }
-    dev.read(log.home(BlockNo(17)), &mut buffer)?;
+    dev.read(log.home(SUPER_BLOCK), &mut buffer)?;
     let found = match read_super(buffer.bytes(), device_blocks) {
         Ok(found) => found,
-        Err(fault) => return Err(refused(17, fault)),
+        Err(fault) => return Err(refused(SUPER_BLOCK, fault)),
     };
     let bitmaps = read_bitmaps(alloc, dev, log, found.block_count)?;
     match find_fault(&bitmaps, found.block_count, found.free_blocks) {
-        Some(block) => Err(refused(block, LayoutFault::Bitmap)),
+        Some(block) => Err(refused(BlockNo(block), LayoutFault::Bitmap)),
         None => Ok(found),
     }
 }
 
-fn refused(block: u64, fault: LayoutFault) -> Unopened
-    ensures { result ≡ Refused (record { 0 = block }) fault }
+fn refused(block: BlockNo, fault: LayoutFault) -> Unopened
+    ensures { result ≡ Refused block fault }
 {
-    Unopened::Layout {
-        block: BlockNo(block),
-        fault,
-    }
+    Unopened::Layout { block, fault }
 }
 
 // The bitmaps of a volume of so many blocks.
@@ -117,18 +111,10 @@ fn read_bitmaps<D: Device>(
     ensures cause { IfErr result (λ e. IsReadCause (D.state dev.old) e (D.state dev.new)) }
 {
     let mut bitmaps = Vec::new(alloc);
-    for n in 0..(blocks + BITS - 1) / BITS {
+    for n in 0..bitmap_count(blocks) {
         let mut bitmap = Block::zeroed(alloc)?;
-        dev.read(log.home(BlockNo(bitmap_block(n))), &mut bitmap)?;
+        dev.read(log.home(bitmap_block(n)), &mut bitmap)?;
         bitmaps.push(bitmap)?;
     }
     Ok(bitmaps)
-}
-
-// Where a bitmap stands.
-fn bitmap_block(n: u64) -> u64
-    requires { n < 64 }
-    ensures { result ≡ bitmap_block n }
-{
-    if n == 0 { 18 } else { n * BITS }
 }

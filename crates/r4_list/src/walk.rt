@@ -15,18 +15,11 @@ ghost use Rattle.r4_list.specs.OverWalks.{EndsLookedUp, IsLookedUp, IsStep, piec
 ghost use Rattle.r4_list.specs.Printing.{Fetched};
 
 use crate::lookup::{attr_of, target_of};
-use r4_base::{Attr, Oid, Target};
+use r4_base::{Attr, Oid, ROOT_OBJECT, Target};
 use r4_cde::entry_key;
 use r4_cell::Root;
 use r4_search::{FetchFault, Pool};
 use std::alloc::Global;
-
-/// The root directory.
-pub const ROOT: Target = Target {
-    locality: 41,
-    ordering: 0,
-    oid: Oid(42),
-};
 
 /// Where a walk ends: at an object, or why at none: a part of the path is no name, a step begins at no directory, or a
 /// name has no entry.
@@ -36,13 +29,6 @@ pub enum Walked {
     NoName,
     NoDirectory,
     NoEntry,
-}
-
-/// Whether an object is a directory.
-pub fn is_directory(attr: &Attr) -> bool
-    ensures { result ≡ is_directory attr.now }
-{
-    attr.mode >> 12 == 0o04
 }
 
 /// Where a path leads that begins with a slash, which is not looked at: over the tree of a content where that says, and no
@@ -65,13 +51,13 @@ pub fn walk<P: Pool>(
     if !has_names(path) {
         return Ok(Walked::NoName);
     }
-    let mut object = ROOT;
+    let mut object = ROOT_OBJECT;
     let Some(mut attr) = attr_of(alloc, pool, root, &object)? else {
         return Ok(Walked::NoDirectory);
     };
     let mut from = 1;
     while from < path.len() {
-        if !is_directory(&attr) {
+        if !attr.is_directory() {
             return Ok(Walked::NoDirectory);
         }
         let end = piece_end(path, from);

@@ -5,7 +5,7 @@ ghost use Rattle.r4_base.specs.Log.{pairs_of, record_of};
 ghost use Rattle.r4_logfmt.specs.View.{view_block, view_record};
 
 use crate::record::LogRecord;
-use r4_base::{get32, get64};
+use r4_base::{RECORD_PAIRS, get32, get64};
 
 /// The magic of a record.
 pub(crate) const MAGIC: [u8; 8] = *b"LogMagc4";
@@ -35,10 +35,10 @@ fn count_pairs(b: &[u8]) -> usize
     requires { length b.now ≡ 4096 }
     ensures { result ≡ length (pairs_of b.now) }
 {
-    for i in 0..254 {
+    for i in 0..RECORD_PAIRS {
         if get64(b, 32 + 16 * i) == 0 {
             return i;
         }
     }
-    254
+    RECORD_PAIRS
 }

@@ -9,7 +9,7 @@ ghost use Rattle.r4_node40.specs.Splice.{ShiftsOffsets, Settles};
 
 use crate::fields::{edge_of, header_of, offset_of};
 use crate::view::{MAGIC, place_of};
-use r4_base::{Key, blank, get16, move_bytes, put16, put32, put64};
+use r4_base::{ITEM_HEADER, Key, NODE_HEAD, NODE_ROOM, blank, get16, move_bytes, put16, put32, put64};
 
 /// An edit has no room: it needs `need` bytes, and only `free` bytes are free, of 4068 in a node without items. An insert
 /// needs its body's bytes and 38 more, a resize the bytes by which the body grows (docs/layout.md, "Nodes").
@@ -46,13 +46,13 @@ impl Splice {
         let left = count + self.come - self.gone;
         let behind = (self.from + self.old) as usize;
         move_bytes(b, behind, start as usize, (self.from + self.new) as usize);
-        let headers = 4096 - 38 * count as usize;
-        let end = 4096 - 38 * (self.at + self.gone) as usize;
-        move_bytes(b, headers, end, 4096 - 38 * left as usize);
+        let headers = 4096 - ITEM_HEADER as usize * count as usize;
+        let end = 4096 - ITEM_HEADER as usize * (self.at + self.gone) as usize;
+        move_bytes(b, headers, end, 4096 - ITEM_HEADER as usize * left as usize);
         shift_offsets(b, self.at + self.come, left, self.old, self.new);
         put16(b, 2, left);
-        let room = free + self.old + 38 * self.gone;
-        put16(b, 4, room - self.new - 38 * self.come);
+        let room = free + self.old + ITEM_HEADER * self.gone;
+        put16(b, 4, room - self.new - ITEM_HEADER * self.come);
         put16(b, 6, start + self.new - self.old);
     }
 }
@@ -107,7 +107,7 @@ pub(crate) fn insert_item(
     ensures ok { OnOk result (InsertsItem b.old i key.now plugin len b.new) }
     ensures err { OnErr result (b.new ≡ b.old) }
 {
-    let need = len + 38;
+    let need = len + ITEM_HEADER;
     let free = room_in(b);
     if need > free {
         return Err(Full { need, free });
@@ -165,7 +165,7 @@ pub(crate) fn room_in(b: &[u8]) -> u16
     requires { length b.now ≡ 4096 }
     ensures { result ≡ room_of b.now }
 {
-    if get16(b, 2) == 0 { 4068 } else { get16(b, 4) }
+    if get16(b, 2) == 0 { NODE_ROOM } else { get16(b, 4) }
 }
 
 /// Sets the start of free space anew where there are no items.
@@ -174,8 +174,8 @@ fn settle(b: &mut [u8])
     ensures { Settles b.old b.new }
 {
     if get16(b, 2) == 0 {
-        put16(b, 4, 4068);
-        put16(b, 6, 28);
+        put16(b, 4, NODE_ROOM);
+        put16(b, 6, NODE_HEAD);
     }
 }
 
@@ -216,8 +216,8 @@ pub(crate) fn format_block(b: &mut [u8], level: u8, mkfs_id: u32)
     ensures bytes { b.new ≡ fresh_node level mkfs_id }
 {
     blank(b);
-    put16(b, 4, 4068);
-    put16(b, 6, 28);
+    put16(b, 4, NODE_ROOM);
+    put16(b, 6, NODE_HEAD);
     put32(b, 8, MAGIC);
     put32(b, 12, mkfs_id);
     b[26] = level;

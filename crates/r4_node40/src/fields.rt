@@ -3,14 +3,14 @@
 ghost use Rattle.std.specs.Prelude.{◌≡◌, ◌+◌, ◌*◌, ◌≤◌, length};
 ghost use Rattle.r4_base.specs.Node.{header, key_at, offset_at, plugin_at, edge_at};
 
-use r4_base::{Key, get16, get64};
+use r4_base::{ITEM_HEADER, Key, get16, get64};
 
 /// Where the header of item `i` begins: header 0 ends the block, and each ends where the one before it begins.
 pub(crate) fn header_of(i: u16) -> usize
     requires { 38 * (i + 1) ≤ 4096 }
     ensures { result ≡ header i }
 {
-    4096 - 38 * (i as usize + 1)
+    4096 - ITEM_HEADER as usize * (i as usize + 1)
 }
 
 /// The key of item `i`.

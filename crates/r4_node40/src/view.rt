@@ -7,7 +7,7 @@ ghost use Rattle.r4_base.specs.Node.{header_fault, item_fault, items_fault, node
 ghost use Rattle.r4_node40.specs.Laid.{IsLaid};
 
 use crate::fields::{edge_of, key_of, offset_of, plugin_of};
-use r4_base::{Key, NodeFault, get16, get32};
+use r4_base::{ENTRIES, EXTENT, ITEM_HEADER, Key, LEAF, MOST_LEVELS, NODE_HEAD, NodeFault, POINTER, STAT, TAIL, TWIG, get16, get32};
 
 /// The magic of a node.
 pub(crate) const MAGIC: u32 = 0x5234_4653;
@@ -118,15 +118,15 @@ fn fault_of_header(b: &[u8]) -> Option<NodeFault>
         return Some(NodeFault::Magic);
     }
     let level = b[26];
-    if level < 1 || level > 8 {
+    if level < LEAF || level > MOST_LEVELS {
         return Some(NodeFault::Level);
     }
     let count = get16(b, 2) as u32;
-    if level > 1 && count == 0 {
+    if level > LEAF && count == 0 {
         return Some(NodeFault::Empty);
     }
     let start = get16(b, 6) as u32;
-    if start < 28 || start + get16(b, 4) as u32 + 38 * count != 4096 {
+    if start < NODE_HEAD as u32 || start + get16(b, 4) as u32 + ITEM_HEADER as u32 * count != 4096 {
         return Some(NodeFault::Space);
     }
     None
@@ -154,7 +154,7 @@ fn fault_of_item(b: &[u8], i: u16) -> Option<NodeFault>
 {
     let offset = offset_of(b, i);
     let is_in_place = if i == 0 {
-        offset == 28
+        offset == NODE_HEAD
     } else {
         offset_of(b, i - 1) < offset
     };
@@ -175,9 +175,9 @@ fn fits(level: u8, plugin: u16) -> bool
     ensures { result ≡ fits_level level plugin }
 {
     match level {
-        1 => plugin == 0 || plugin == 2 || plugin == 6,
-        2 => plugin == 3 || plugin == 5,
-        _ => plugin == 3,
+        LEAF => plugin == STAT || plugin == ENTRIES || plugin == TAIL,
+        TWIG => plugin == POINTER || plugin == EXTENT,
+        _ => plugin == POINTER,
     }
 }
 

@@ -8,14 +8,11 @@ ghost use Rattle.r4_space.specs.Words.{IsNextClear};
 ghost use Rattle.r4_place.specs.Chosen.{behind, placed_in, IsChosen, AreChosen, fresh_blocks, placed_all};
 
 use crate::placed::{How, Placed};
-use r4_base::{AtomNo, BlockNo, Memory};
+use r4_base::{AtomNo, BlockNo, FIRST_PLACE, Memory};
 use r4_cell::Cell;
 use r4_space::SpaceMap;
 use std::alloc::Global;
 use std::sync::Arc;
-
-/// The first block in which a root may stand.
-const FIRST: BlockNo = BlockNo(22);
 
 /// What is done with each cell of a slum, in the slum's order. A cell without a block, whose name is at least 2^63, gets
 /// the first unused block behind the last one that was placed, for the first cell from block 22 on, and where there is
@@ -49,7 +46,7 @@ pub fn choose(
     let _ = (atom, threshold, parent_free);
     space.lawful();
     let mut all = Vec::with_capacity(alloc, slum.len())?;
-    let mut near = FIRST;
+    let mut near = BlockNo(FIRST_PLACE);
     for cell in slum {
         let how = choose_how(cell, near, space);
         near = look_behind(near, how);

@@ -12,16 +12,10 @@ use crate::fault::Stop;
 use crate::heads::{Head, read_heads};
 use crate::overlap::smallest_overlap;
 use crate::txn::{Txn, read_txn};
-use r4_base::{Block, BlockNo, LogFault};
+use r4_base::{Block, BlockNo, FOOTER_BLOCK, HEADER_BLOCK, LogFault};
 use r4_logfmt::{read_footer, read_header};
 use r4_outside::Device;
 use std::alloc::Global;
-
-/// The journal header's block.
-const HEADER: BlockNo = BlockNo(19);
-
-/// The journal footer's block.
-pub const FOOTER: BlockNo = BlockNo(20);
 
 /// The transactions of the log, the oldest first. `footer` holds the footer's block then.
 pub fn read_whole<D: Device>(
@@ -38,9 +32,9 @@ pub fn read_whole<D: Device>(
     ensures footer { OnOk result (TellsReads (D.state dev.old) → footer.new ≡ block_at (D.state dev.old).seen 20) }
     ensures in_range { IfOk result (λ txns. InRangeAll blocks txns.items) }
 {
-    dev.read(HEADER, buffer)?;
+    dev.read(HEADER_BLOCK, buffer)?;
     let header = read_header(buffer.bytes()).last;
-    dev.read(FOOTER, footer)?;
+    dev.read(FOOTER_BLOCK, footer)?;
     let flushed = read_footer(footer.bytes()).last;
     read_chain(alloc, dev, blocks, header, flushed, buffer)
 }

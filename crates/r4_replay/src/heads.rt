@@ -7,13 +7,10 @@ ghost use Rattle.r4_base.specs.Refusal.{is_log_block, checked_head, head_at, hea
 ghost use Rattle.r4_replay.specs.Reading.{Idles, Finds, as_stop};
 
 use crate::fault::Stop;
-use r4_base::{Block, BlockNo, LogFault, TxHead};
+use r4_base::{Block, BlockNo, FIRST_PLACE, HEADER_BLOCK, LogFault, MOST_HEADS, TxHead};
 use r4_logfmt::read_head;
 use r4_outside::Device;
 use std::alloc::Global;
-
-/// How many transactions a log may hold.
-pub const MOST_HEADS: usize = 8;
 
 /// A transaction's head: its block, and what it says.
 #[derive(Clone, Copy, Debug, PartialEq, Eq)]
@@ -26,7 +23,7 @@ pub struct Head {
 pub fn is_in_log(blocks: u64, at: u64) -> bool
     ensures { result ≡ is_log_block blocks at }
 {
-    at >= 22 && at < blocks
+    at >= FIRST_PLACE && at < blocks
 }
 
 ghost use Rattle.r4_replay.specs.Heads.{heads_shown};
@@ -45,7 +42,7 @@ pub fn read_heads<D: Device>(
     ensures finds { Finds heads_shown (D.state dev.old) (heads_from 8 blocks (D.state dev.old).seen footer 19 header) result (D.state dev.new) }
 {
     let mut heads = Vec::new(alloc);
-    let mut holder = 19;
+    let mut holder = HEADER_BLOCK.0;
     let mut at = header;
     for _ in 0..MOST_HEADS {
         if at == footer {

@@ -11,9 +11,8 @@ ghost use Rattle.r4_replay.specs.Chains.{InRangeAll};
 ghost use Rattle.r4_replay.specs.Replay.{footer_naming};
 ghost use Rattle.r4_replay.specs.Placing.{IsOriginalOf, LeftByPut, IsPlaced};
 
-use crate::chain::FOOTER;
 use crate::txn::Txn;
-use r4_base::{Block, BlockNo, Footer};
+use r4_base::{Block, BlockNo, FOOTER_BLOCK, Footer};
 use r4_logfmt::write_footer;
 use r4_outside::{Device, Failed};
 
@@ -64,7 +63,7 @@ fn put_txn<D: Device>(
     name_in(footer, txn);
     copy_pairs(dev, &txn.pairs, buffer)?;
     dev.sync()?;
-    dev.write(FOOTER, footer)?;
+    dev.write(FOOTER_BLOCK, footer)?;
     dev.sync()
 }
 

@@ -5,12 +5,8 @@ ghost use Rattle.r4_replay.specs.Replay.{IsDeviceFault, CountsBlocks};
 ghost use Rattle.r4_replay.specs.Reading.{Idles, fault_by};
 
 use crate::fault::{ReplayFault, Stop};
-use r4_base::BlockNo;
+use r4_base::{BlockNo, is_lawful_count};
 use r4_outside::Device;
-
-const FEWEST_BLOCKS: u64 = 64;
-
-const MOST_BLOCKS: u64 = 1_048_576;
 
 /// The number of blocks of a device, where a volume may have as many.
 pub fn lawful_blocks<D: Device>(dev: &mut D) -> Result<u64, ReplayFault>
@@ -20,7 +16,7 @@ pub fn lawful_blocks<D: Device>(dev: &mut D) -> Result<u64, ReplayFault>
     let Ok(blocks) = dev.blocks() else {
         return Err(device_fault(dev));
     };
-    if blocks < FEWEST_BLOCKS || blocks > MOST_BLOCKS {
+    if !is_lawful_count(blocks) {
         return Err(ReplayFault::Size { blocks });
     }
     Ok(blocks)

@@ -11,7 +11,7 @@ ghost use Rattle.r4_replay.specs.Txns.{txn_shown, TakesPairs, JudgesRecord, Find
 
 use crate::fault::Stop;
 use crate::heads::{Head, is_in_log};
-use r4_base::{Block, BlockNo, LogFault};
+use r4_base::{Block, BlockNo, FIRST_BITMAP, LogFault, SUPER_BLOCK};
 use r4_logfmt::{LogRecord, read_record};
 use r4_outside::Device;
 use std::alloc::Global;
@@ -161,5 +161,5 @@ fn take_pairs(
 fn is_original(blocks: u64, at: u64) -> bool
     ensures { result ≡ is_original_number blocks at }
 {
-    at == 17 || at == 18 || is_in_log(blocks, at)
+    at == SUPER_BLOCK.0 || at == FIRST_BITMAP.0 || is_in_log(blocks, at)
 }

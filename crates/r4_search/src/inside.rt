@@ -8,13 +8,10 @@ ghost use Rattle.r4_node40.specs.View.{item_shown, view_items};
 ghost use Rattle.r4_search.specs.Path.{LeadsTo, EndsAt};
 ghost use Rattle.r4_search.specs.Place.{IsPlace, child_name};
 
-use r4_base::{BlockNo, Key, NodeId};
+use r4_base::{BlockNo, Key, LEAF, NodeId, POINTER};
 use r4_cell::Cell;
 use r4_node40::NodeView;
 use r4_twig::pointer;
-
-/// The plugin of a pointer.
-const POINTER: u16 = 3;
 
 /// A node as a pointer names it (docs/volume.md, "The tree").
 #[derive(Clone, Copy, Debug)]
@@ -36,7 +33,7 @@ pub fn child_of(cell: &Cell, key: &Key) -> Option<Child>
     ensures level { IfSome result (λ child. child.level + 1 ≡ cell.now.level) }
     ensures end { IfNone result (EndsAt cell.now (rank key.now)) }
 {
-    if cell.level() == 1 {
+    if cell.level() == LEAF {
         return None;
     }
     child_in(&cell.node(), cell, key)

@@ -5,12 +5,9 @@ ghost use Rattle.std.specs.List.{range_with_len};
 ghost use Rattle.r4_base.specs.Bitmap.{are_held, bits_of, bitmap_block, bitmap_count, is_always_used, is_used};
 ghost use Rattle.r4_space.specs.Bitmaps.{bitmaps_fault, first_unheld_of, free_bits, marks};
 
-use r4_base::{Block, BlockNo, Memory, is_fixed};
+use r4_base::{BITMAP_BITS, Block, BlockNo, FIRST_BITMAP, Memory, bitmap_block, is_fixed};
 use r4_bitmap::BitmapView;
 use std::alloc::Global;
-
-/// How many bits a bitmap block has.
-const BITS: u64 = 32_736;
 
 /// Whether bit `i` of a bitmap is 1.
 fn is_used(block: &[u8], i: u64) -> bool
@@ -33,7 +30,7 @@ fn is_held(block: &[u8], blocks: u64, first: u64) -> bool
     requires few { first < 4294967296 }
     ensures { result ≡ are_held blocks first (bits_of block.now) }
 {
-    for i in 0..BITS {
+    for i in 0..BITMAP_BITS {
         if !is_used(block, i) && is_always_used(blocks, first + i) {
             return false;
         }
@@ -48,7 +45,7 @@ fn count_free(block: &[u8]) -> u64
     ensures most { result ≤ 32736 }
 {
     let mut count = 0;
-    for i in 0..BITS {
+    for i in 0..BITMAP_BITS {
         count += count_bit(block, i);
     }
     count
@@ -76,22 +73,14 @@ pub fn count_all_free(bitmaps: &[Block]) -> u64
     count
 }
 
-/// Where bitmap `n` stands.
-fn bitmap_block(n: u64) -> u64
-    requires { n < 4294967296 }
-    ensures { result ≡ bitmap_block n }
-{
-    if n == 0 { 18 } else { n * BITS }
-}
-
 /// The block of the first bitmap with a 0 for a block that is always used.
 fn find_unheld(bitmaps: &[Block], blocks: u64) -> Option<u64>
     requires { length bitmaps.now ≤ 64 }
     ensures { result ≡ first_unheld_of blocks 0 bitmaps.now }
 {
     for (n, bitmap) in bitmaps.iter().enumerate() {
-        if !is_held(bitmap.bytes(), blocks, n as u64 * BITS) {
-            return Some(bitmap_block(n as u64));
+        if !is_held(bitmap.bytes(), blocks, n as u64 * BITMAP_BITS) {
+            return Some(bitmap_block(n as u64).0);
         }
     }
     None
@@ -110,7 +99,7 @@ pub fn find_fault(bitmaps: &[Block], blocks: u64, free_blocks: u64) -> Option<u6
     if count_all_free(bitmaps) == free_blocks {
         None
     } else {
-        Some(18)
+        Some(FIRST_BITMAP.0)
     }
 }
 
@@ -121,8 +110,8 @@ pub fn read_marks(alloc: Global, bitmaps: &[Block], blocks: u64) -> Result<Vec<b
 {
     let mut marked = Vec::with_capacity(alloc, blocks as usize)?;
     for b in 0..blocks {
-        let bitmap = &bitmaps[(b / BITS) as usize];
-        marked.push(is_used(bitmap.bytes(), b % BITS))?;
+        let bitmap = &bitmaps[(b / BITMAP_BITS) as usize];
+        marked.push(is_used(bitmap.bytes(), b % BITMAP_BITS))?;
     }
     Ok(marked)
 }

@@ -7,11 +7,8 @@ ghost use Rattle.r4_space.specs.Kept.{AreWithin};
 ghost use Rattle.r4_space.specs.Space.{freed_by, is_claimed, is_marked_after, up_to};
 
 use crate::things::Claim;
-use r4_base::{AtomNo, blank, is_fixed};
+use r4_base::{AtomNo, BITMAP_BITS, blank, is_fixed};
 use r4_bitmap::BitmapMut;
-
-/// How many bits a bitmap block has.
-const BITS: u64 = 32_736;
 
 /// Makes bit `i` 1.
 fn set_used(block: &mut [u8], i: u64)
@@ -53,7 +50,7 @@ fn free_bit(block: &mut [u8], first: u64, b: u64, freed: bool)
     ensures bits { (k : ℕ) → k < 32736 → is_used block.new k ≡ (is_used block.old k && not (freed && b == first + k)) }
     ensures front { take 4 block.new ≡ take 4 block.old }
 {
-    if freed && b >= first && b - first < BITS {
+    if freed && b >= first && b - first < BITMAP_BITS {
         set_free(block, b - first);
     }
 }
@@ -98,7 +95,7 @@ fn write_marks(block: &mut [u8], first: u64, marked: &[bool], placed: &[bool])
     ensures front { take 4 block.new ≡ replicate 4 0 }
 {
     blank(block);
-    for i in 0..BITS {
+    for i in 0..BITMAP_BITS {
         use_bit(block, i, is_kept(marked, placed, first + i));
     }
 }
@@ -144,7 +141,7 @@ pub fn write_bitmap(
     ensures bits { (i : ℕ) → i < 32736 → is_used block.new i ≡ (nat_le (length marked.now) (n * 32736 + i) || is_marked_after (length marked.now) marked.now placed.now (freed_by (up_to sealed.now atom) deferred.now) (n * 32736 + i)) }
     ensures front { take 4 block.new ≡ replicate 4 0 }
 {
-    let first = n * BITS;
+    let first = n * BITMAP_BITS;
     let blocks = marked.len() as u64;
     write_marks(block, first, marked, placed);
     free_claims(block, first, blocks, deferred, sealed, atom);

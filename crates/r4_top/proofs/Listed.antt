@@ -1,9 +1,9 @@
 -- What is answered, by what a listing answers.
-use Rattle.std.proofs.Common.{◌≡◌, inl, inr, ⊎_elim, ℕ, List, refl, sym, subst, arith, Ok, Err}
+use Rattle.std.proofs.Common.{◌≡◌, inl, inr, ⊎_elim, ℕ, List, refl, sym, subst, arith, Some, Ok, Err}
 use Rattle.r4_base.specs.Value.{Content}
 use Rattle.r4_base.specs.Volume.{HasVolume}
 use Rattle.r4_outside.specs.Device.{Rose, State, TellsReads}
-use Rattle.r4_outside.specs.Sink.{SinkState}
+use Rattle.r4_outside.specs.Sink.{SinkState, AppendsPart}
 use Rattle.r4_cell.specs.declared.refused.ImageFault.TheVariants.{Layout, Cell}
 use Rattle.r4_search.specs.Pool.{LeavesDevice}
 use Rattle.r4_list.proofs.LinesOfPath.{some_listing}
@@ -11,8 +11,9 @@ use Rattle.r4_list.specs.Lists.{Answers as ListAnswers, IsUnrefused, PrintsText}
 use Rattle.r4_list.specs.Printing.{Prints as PrintsSome}
 use Rattle.r4_list.specs.declared.fault.ListFault.{ListFault}
 use Rattle.r4_list.specs.declared.fault.ListFault.TheVariants.{Log, Image, Device, Size, Sink, Memory}
-use Rattle.r4_top.specs.Answers.{Gets, GetsPart, Lists, Prints, TellsListFault}
-use Rattle.r4_top.specs.Lines.{cell_word_of, device_line, image_line, layout_word_of, size_line, word_of}
+use Rattle.r4_top.specs.Answers.{Gets, GetsPart, Lists, OfListing, Prints, TellsListFault}
+use Rattle.r4_base.specs.Words.{cell_word_of, layout_word_of, log_word_of}
+use Rattle.r4_top.specs.Lines.{device_line, image_line, size_line}
 
 module _ (path : List ℕ) (d d' : State) (k mid k' : SinkState) (leaves : LeavesDevice d d') where
   -- all of the text was printed
@@ -21,7 +22,7 @@ module _ (path : List ℕ) (d d' : State) (k mid k' : SinkState) (leaves : Leave
 
   -- the sink failed, and got a prefix of the text
   got_part : (faults : ℕ) → PrintsSome k mid → Rose k.faults mid.faults → (text : List ℕ) → PrintsText {T = Unit {0}} text k (Err (Sink faults)) mid → GetsPart text k mid
-  got_part faults some rose text t = record { told = some.told; faults = some.faults; cause = rose; whole = λ before is. tt; part = λ before is. t.part before faults is refl }
+  got_part faults some rose text t = record { told = some.told; faults = some.faults; cause = rose; whole = λ before is. tt; part = λ before is. t.part before is }
 
   pub listed_done : (v : Unit {0}) → ListAnswers path d k (Ok v) d' mid → Lists path d k 0 d' mid
   listed_done v was = record {
@@ -37,6 +38,10 @@ module _ (path : List ℕ) (d d' : State) (k mid k' : SinkState) (leaves : Leave
     complete = λ within m tells volume dev out. inl refl;
   }
 
+  -- of a text that was not printed to its end, a prefix was
+  part_of : (fault : ListFault) → ListAnswers {T = Unit {0}} path d k (Err fault) d' mid → OfListing d path (λ text. (before : List ℕ) → k.written ≡ Some before → AppendsPart text before mid.written)
+  part_of fault was = λ m text tells volume listing before is. (was.text m text tells volume listing).part before is
+
   -- an image with a volume is not refused
   unrefused : (fault : ListFault) → ListAnswers {T = Unit {0}} path d k (Err fault) d' mid → (m : Content) → TellsReads d → HasVolume d.blocks d.seen m → IsUnrefused fault
   unrefused fault was m tells volume =
@@ -50,7 +55,7 @@ module _ (path : List ℕ) (d d' : State) (k mid k' : SinkState) (leaves : Leave
     done = λ is. absurd (omega (arith, is, told.0));
     sink = λ is. absurd (omega (arith, is, told.0));
     device = λ is. absurd (omega (arith, is, told.0));
-    image = λ is. (was.err.0, (block.0, word_of fault, inl (inl (fault, refl, was.err.1), subst (λ (s : SinkState). Prints (image_line block.0 (word_of fault)) s k') was.err.2 told.1)));
+    image = λ is. (was.err.0, (block.0, log_word_of fault, inl (inl (fault, refl, was.err.1), subst (λ (s : SinkState). Prints (image_line block.0 (log_word_of fault)) s k') was.err.2 told.1)));
     size = λ is. absurd (omega (arith, is, told.0));
     size_only = λ out. let lawful = was.err.0 in absurd (⊎_elim (λ few. omega (arith, few, lawful.0)) (λ many. omega (arith, many, lawful.1)) out);
     memory = λ is. absurd (omega (arith, is, told.0));
@@ -74,7 +79,7 @@ module _ (path : List ℕ) (d d' : State) (k mid k' : SinkState) (leaves : Leave
     done = λ is. absurd (omega (arith, is, told.0));
     sink = λ is. absurd (omega (arith, is, told.0));
     device = λ is. absurd (omega (arith, is, told.0));
-    image = λ is. (was.err.0.lawful, (block.0, cell_word_of fault, inr ((fault, refl, was.err.1), record { listed = mid; some = was.printed; then_line = told.1 })));
+    image = λ is. (was.err.0.lawful, (block.0, cell_word_of fault, inr ((fault, refl, was.err.1), record { listed = mid; some = was.printed; part = part_of _ was; then_line = told.1 })));
     size = λ is. absurd (omega (arith, is, told.0));
     size_only = λ out. let lawful = was.err.0.lawful in absurd (⊎_elim (λ few. omega (arith, few, lawful.0)) (λ many. omega (arith, many, lawful.1)) out);
     memory = λ is. absurd (omega (arith, is, told.0));
@@ -85,7 +90,7 @@ module _ (path : List ℕ) (d d' : State) (k mid k' : SinkState) (leaves : Leave
     idle = leaves.idle;
     done = λ is. absurd (omega (arith, is, told.0));
     sink = λ is. absurd (omega (arith, is, told.0));
-    device = λ is. (was.err.0, record { listed = mid; some = was.printed; then_line = subst (λ (f : ℕ). Prints (device_line d'.clock f) mid k') was.err.2 (subst (λ (c : ℕ). Prints (device_line c faults) mid k') was.err.1 told.1) });
+    device = λ is. (was.err.0, record { listed = mid; some = was.printed; part = part_of _ was; then_line = subst (λ (f : ℕ). Prints (device_line d'.clock f) mid k') was.err.2 (subst (λ (c : ℕ). Prints (device_line c faults) mid k') was.err.1 told.1) });
     image = λ is. absurd (omega (arith, is, told.0));
     size = λ is. absurd (omega (arith, is, told.0));
     size_only = λ out. inr told.0;
@@ -125,7 +130,7 @@ module _ (path : List ℕ) (d d' : State) (k mid k' : SinkState) (leaves : Leave
     image = λ is. absurd (omega (arith, is, told.0));
     size = λ is. absurd (omega (arith, is, told.0));
     size_only = λ out. let lawful = was.err in absurd (⊎_elim (λ few. omega (arith, few, lawful.0)) (λ many. omega (arith, many, lawful.1)) out);
-    memory = λ is. record { listed = mid; some = was.printed; then_line = told.1 };
+    memory = λ is. record { listed = mid; some = was.printed; part = part_of _ was; then_line = told.1 };
     complete = λ within m tells volume dev out. inr told.0;
   }
 

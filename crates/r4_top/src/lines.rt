@@ -2,11 +2,10 @@
 
 ghost use Rattle.std.specs.Prelude.{◌≡◌, ◌++◌, decimal};
 ghost use Rattle.r4_outside.specs.Sink.{Appends};
-ghost use Rattle.r4_top.specs.Lines.{usage_line, device_line, size_line, image_line, made_line, memory_line, replayed_line, cell_word_of, image_word_of, layout_word_of, word_of};
+ghost use Rattle.r4_top.specs.Lines.{usage_line, device_line, size_line, image_line, made_line, memory_line, replayed_line};
 
 use itoa::Buffer;
-use r4_base::{BlockNo, CellFault, LayoutFault, LogFault};
-use r4_cell::ImageFault;
+use r4_base::BlockNo;
 use r4_outside::{Failed, Sink};
 
 /// Writes how the words are to be.
@@ -75,62 +74,4 @@ fn write_number<K: Sink>(
     out.write(before)?;
     out.write(digits.format(number).as_bytes())?;
     out.write(after)
-}
-
-/// The words for what is wrong with a log.
-pub fn log_word(fault: LogFault) -> &'static str
-    ensures { result.now ≡ word_of fault }
-{
-    match fault {
-        LogFault::Range => "range",
-        LogFault::HeadMagic => "head magic",
-        LogFault::Total => "total",
-        LogFault::Long => "long",
-        LogFault::RecordMagic => "record magic",
-        LogFault::Id => "id",
-        LogFault::Serial => "serial",
-        LogFault::Pairs => "pairs",
-        LogFault::Circle => "circle",
-        LogFault::Overlap => "overlap",
-    }
-}
-
-/// The words for what is wrong with an image but for its log.
-pub fn image_word(fault: ImageFault) -> &'static str
-    ensures { result.now ≡ image_word_of fault }
-{
-    match fault {
-        ImageFault::Layout(fault) => layout_word(fault),
-        ImageFault::Cell(fault) => cell_word(fault),
-    }
-}
-
-// The words for what is wrong with superblocks and bitmaps.
-fn layout_word(fault: LayoutFault) -> &'static str
-    ensures { result.now ≡ layout_word_of fault }
-{
-    match fault {
-        LayoutFault::Magic => "magic",
-        LayoutFault::BlockSize => "block size",
-        LayoutFault::Profile => "profile",
-        LayoutFault::Height => "height",
-        LayoutFault::Count => "count",
-        LayoutFault::Bitmap => "bitmap",
-    }
-}
-
-// The words for what is wrong with a cell.
-fn cell_word(fault: CellFault) -> &'static str
-    ensures { result.now ≡ cell_word_of fault }
-{
-    match fault {
-        CellFault::Node(_) => "node",
-        CellFault::Stat(_) => "stat",
-        CellFault::Dir(_) => "dir",
-        CellFault::Extent(_) => "extent",
-        CellFault::Tail => "tail",
-        CellFault::Pointer => "pointer",
-        CellFault::Level => "level",
-        CellFault::Range { .. } => "key range",
-    }
 }

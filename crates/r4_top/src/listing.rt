@@ -5,7 +5,7 @@ ghost use Rattle.r4_outside.specs.Device.{Goes, IsQuiet};
 ghost use Rattle.r4_replay.specs.Replay.{SettlesAlways};
 ghost use Rattle.r4_top.specs.Answers.{Lists, TellsListFault};
 
-use crate::lines::{image_word, log_word, write_device, write_image, write_memory, write_size};
+use crate::lines::{write_device, write_image, write_memory, write_size};
 use crate::top::Status;
 use r4_list::{ListFault, list};
 use r4_outside::{Device, Sink};
@@ -35,11 +35,11 @@ fn tell_fault<K: Sink>(out: &mut K, fault: ListFault) -> Status
 {
     match fault {
         ListFault::Log { block, fault } => {
-            let _ = write_image(out, block, log_word(fault));
+            let _ = write_image(out, block, fault.word());
             Status { code: 7 }
         }
         ListFault::Image { block, fault } => {
-            let _ = write_image(out, block, image_word(fault));
+            let _ = write_image(out, block, fault.word());
             Status { code: 7 }
         }
         ListFault::Device { clock, faults } => {

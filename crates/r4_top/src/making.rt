@@ -1,8 +1,8 @@
 //! The command `mkfs` (docs/program.md).
 
 ghost use Rattle.std.specs.Prelude.{◌≡◌};
-ghost use Rattle.r4_outside.specs.Device.{Goes, IsQuiet};
-ghost use Rattle.r4_mkfs.specs.Mkfs.{IsLabel, MakesInOrder};
+ghost use Rattle.r4_outside.specs.Device.{Goes, IsQuiet, Spares};
+ghost use Rattle.r4_mkfs.specs.Mkfs.{IsLabel, IsWritten, MakesInOrder};
 ghost use Rattle.r4_top.specs.Answers.{Makes, TellsMkfsFault};
 
 use crate::lines::{write_device, write_made, write_memory, write_size};
@@ -21,6 +21,7 @@ pub fn make_volume<D: Device, K: Sink>(
     requires { IsLabel label.now }
     ensures goes { Goes (D.state dev.old) (D.state dev.new) }
     ensures makes { Makes label.now (D.state dev.old) (K.state out.old) result.code (D.state dev.new) (K.state out.new) }
+    ensures spares { Spares (IsWritten (D.state dev.old).blocks) (D.state dev.old) (D.state dev.new) }
     ensures any_moment { IsQuiet (D.state dev.old) → MakesInOrder (D.state dev.old) (D.state dev.new) }
 {
     match mkfs(alloc, dev, label) {

@@ -5,7 +5,7 @@ ghost use Rattle.r4_outside.specs.Device.{Goes, IsQuiet};
 ghost use Rattle.r4_replay.specs.Replay.{SettlesAlways};
 ghost use Rattle.r4_top.specs.Answers.{Replays, TellsFault};
 
-use crate::lines::{log_word, write_device, write_image, write_memory, write_replayed, write_size};
+use crate::lines::{write_device, write_image, write_memory, write_replayed, write_size};
 use crate::top::Status;
 use r4_outside::{Device, Failed, Sink};
 use r4_replay::{ReplayFault, replay};
@@ -36,7 +36,7 @@ fn tell_fault<K: Sink>(out: &mut K, fault: ReplayFault) -> Status
             Status { code: 6 }
         }
         ReplayFault::Log { block, fault } => {
-            let _ = write_image(out, block, log_word(fault));
+            let _ = write_image(out, block, fault.word());
             Status { code: 7 }
         }
         ReplayFault::Size { blocks } => {

@@ -3,14 +3,8 @@
 ghost use Rattle.std.specs.Prelude.{◌≡◌, ◌*◌, ◌<◌, ◌≤◌, length, not};
 ghost use Rattle.r4_base.specs.Extents.{body_fault, is_out_of_range, unit_fault};
 
-use crate::units::{UNIT, UNPLACED, unit_in};
-use r4_base::{ExtentFault, Unit};
-
-/// The smallest block that a unit may name.
-const FIRST_BLOCK: u64 = 22;
-
-/// How many blocks a bitmap stands for: each multiple of it is a bitmap's block, and so fixed.
-const BITMAP_BLOCKS: u64 = 32_736;
+use crate::units::{UNIT, unit_in};
+use r4_base::{BITMAP_BITS, ExtentFault, FIRST_PLACE, UNPLACED, Unit};
 
 /// The first fault of a body, on a volume of `blocks` blocks.
 #[tactic(auto, unfolding(r4_base::specs::Extents::body_fault))]
@@ -38,7 +32,7 @@ fn fault_of_unit(unit: &Unit, i: u16, blocks: u64, in_memory: bool) -> Option<Ex
     if in_memory && unit.start >= UNPLACED && unit.width == 1 {
         return None;
     }
-    if unit.start != 0 && unit.start < FIRST_BLOCK {
+    if unit.start != 0 && unit.start < FIRST_PLACE {
         return Some(ExtentFault::Start(i));
     }
     if unit.width == 0 {
@@ -61,5 +55,5 @@ fn is_in_range(run: &Unit, blocks: u64) -> bool
         return false;
     }
     let last = run.start + run.width - 1;
-    (run.start - 1) / BITMAP_BLOCKS == last / BITMAP_BLOCKS
+    (run.start - 1) / BITMAP_BITS == last / BITMAP_BITS
 }

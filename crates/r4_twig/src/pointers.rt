@@ -4,10 +4,7 @@ ghost use Rattle.std.specs.Prelude.{◌≡◌, ◌≤◌, length, Some, IfSome, 
 ghost use Rattle.r4_base.specs.Bytes.{number_bytes};
 ghost use Rattle.r4_base.specs.Extents.{pointer_of};
 
-use r4_base::{BlockNo, get64, put64};
-
-/// The smallest block that a pointer may name.
-const FIRST_BLOCK: u64 = 22;
+use r4_base::{BlockNo, FIRST_PLACE, get64, put64};
 
 /// The block that a pointer names, and `None` exactly where the body has not 8 bytes or names one of blocks 0 to 21
 /// (docs/layout.md, "Items").
@@ -20,7 +17,7 @@ pub fn pointer(body: &[u8]) -> Option<BlockNo>
         return None;
     }
     let to = get64(body, 0);
-    (to >= FIRST_BLOCK).then_some(BlockNo(to))
+    (to >= FIRST_PLACE).then_some(BlockNo(to))
 }
 
 /// Makes a body of 8 bytes a pointer to a block (docs/layout.md, "Items").

@@ -3,13 +3,10 @@
 ghost use Rattle.std.specs.Prelude.{◌≡◌, ◌+◌, ◌*◌, ◌^◌, ◌<◌, ◌≤◌, length};
 ghost use Rattle.r4_base.specs.Extents.{continues, unit_at, unit_past};
 
-use r4_base::{Unit, get64};
+use r4_base::{UNPLACED, Unit, get64};
 
 /// How many bytes a unit has.
 pub(crate) const UNIT: usize = 16;
-
-/// The smallest start that stands for a block that is not placed yet.
-pub(crate) const UNPLACED: u64 = 1 << 63;
 
 /// Unit `i` of a body.
 pub(crate) fn unit_in(body: &[u8], i: usize) -> Unit

@@ -8,7 +8,7 @@ ghost use Rattle.r4_wander.specs.LogPlan.{pairs, originals_of, placed_writes, nu
 
 use crate::entry::Entry;
 use crate::plan::{LogPlan, WanderedCopies};
-use r4_base::{Block, BlockNo, Footer, Header, Memory, TxHead};
+use r4_base::{Block, BlockNo, Footer, Header, Memory, RECORD_PAIRS, TxHead};
 use r4_logfmt::{write_footer, write_head, write_header, write_record};
 use std::alloc::Global;
 use std::marker::Model;
@@ -123,10 +123,10 @@ pub(crate) fn make_head(alloc: Global, plan: &LogPlan) -> Result<Block, Memory>
 /// The pairs of record `k`, counted from 0: the next 254 of them, or those that are left.
 fn next_pairs(all: &[(u64, u64)], k: usize) -> &[(u64, u64)]
     requires { k < 4294967295 }
-    ensures { result.now ≡ take 254 (drop (254 * k) all.now) }
+    ensures { result.now ≡ take 254 (drop (RECORD_PAIRS * k) all.now) }
 {
-    let from = (254 * k).min(all.len());
-    let to = (from + 254).min(all.len());
+    let from = (RECORD_PAIRS * k).min(all.len());
+    let to = (from + RECORD_PAIRS).min(all.len());
     &all[from..to]
 }
 

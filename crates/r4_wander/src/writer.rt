@@ -20,7 +20,7 @@ use crate::making::{
 };
 use crate::plan::LogPlan;
 use crate::stage::Stage;
-use r4_base::{Block, BlockNo, Memory};
+use r4_base::{Block, BlockNo, FOOTER_BLOCK, HEADER_BLOCK, Memory};
 use r4_outside::{Device, Failed};
 use std::alloc::Global;
 use std::marker::Model;
@@ -170,9 +170,9 @@ impl Writer {
     {
         match self.part {
             0 => self.first[self.done].write(dev),
-            1 => dev.write(BlockNo(19), &self.header),
+            1 => dev.write(HEADER_BLOCK, &self.header),
             2 => self.homes[self.done].write(dev),
-            _ => dev.write(BlockNo(20), &self.footer),
+            _ => dev.write(FOOTER_BLOCK, &self.footer),
         }
     }
 

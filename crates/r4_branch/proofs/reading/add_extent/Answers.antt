@@ -5,7 +5,8 @@ use Rattle.r4_base.specs.Extents.{blocks_in, units_of as units_in_body}
 use Rattle.r4_base.specs.declared.items.Unit.{Unit as ExtentUnit}
 use Rattle.r4_base.specs.declared.key.Key.{Key}
 use Rattle.r4_twig.proofs.Faults.{body_lawful}
-use Rattle.r4_branch.specs.Pieces.{later, unit_pieces}
+use Rattle.r4_base.specs.Key.{later}
+use Rattle.r4_branch.specs.Pieces.{unit_pieces}
 use Rattle.r4_branch.specs.declared.piece.TwigPart.TheVariants.{Blocks}
 use Rattle.r4_branch.specs.declared.piece.TwigPiece.{TwigPiece}
 use Rattle.r4_branch.proofs.SoundItems.{extent_item}

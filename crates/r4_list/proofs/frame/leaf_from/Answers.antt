@@ -14,8 +14,8 @@ use Rattle.r4_list.proofs.frame.leaf_from.Goals as goal
 pub returns-in_err-cell-clause-fetched : goal.returns-in_err-cell-clause-fetched
 returns-in_err-cell-clause-fetched g c = handed_on c.args.root.now _ _ _ c.from_residual.result c.in_err-cell.field-0.0 _ _ _ c.loop-at.invariant.0.goes c.loop-at.invariant.0.device c.cell_of.ensures.fetched.goes c.cell_of.ensures.fetched.device c.from_residual.ensures.1 c.in_err-cell.ensures.fetched.cause
 
-pub returns-then-level-eq1-clause-fetched : goal.returns-then-level-eq1-clause-fetched
-returns-then-level-eq1-clause-fetched g c = record { goes = goes_both _ _ _ c.loop-at.invariant.0.goes c.cell_of.ensures.fetched.goes; device = leaves_both _ _ _ c.loop-at.invariant.0.device c.cell_of.ensures.fetched.device; cause = tt }
+pub returns-then-level-eq-LEAF-clause-fetched : goal.returns-then-level-eq-LEAF-clause-fetched
+returns-then-level-eq-LEAF-clause-fetched g c = record { goes = goes_both _ _ _ c.loop-at.invariant.0.goes c.cell_of.ensures.fetched.goes; device = leaves_both _ _ _ c.loop-at.invariant.0.device c.cell_of.ensures.fetched.device; cause = tt }
 
 pub behind-at-requires-clause-level : goal.behind-at-requires-clause-level
 behind-at-requires-clause-level g c = subst (λ (x : CellSeen). 1 ≤ x.level) (sym c.deref-in-loop-at.ensures) (ends_level (arc_value c.in_ok-cell.cell) _ c.in_ok-cell.ensures.ends)
@@ -36,7 +36,7 @@ loop-at-preserved g c =
           let (before, none) = overs n image m has over in
           let f = c.in_ok-cell.ensures.over n image m has before in
           let x = arc_value {X = CellSeen} c.in_ok-cell.cell in
-          let other : x.level ≢ 1 = λ h. c.if-level-eq1.false (c.level.ensures ∙ (ap (λ (y : CellSeen). y.level) c.deref.ensures ∙ h)) in
+          let other : x.level ≢ 1 = λ h. c.if-level-eq-LEAF.false (c.level.ensures ∙ (ap (λ (y : CellSeen). y.level) c.deref.ensures ∙ h)) in
           let ends = subst (λ (y : CellSeen). (s : Span) → Contains (node_of y).spans s → InSpan s (rank c.loop-at.at) → rank c.behind-at.result ≤ s.hi) c.deref-in-loop-at.ensures c.behind-at.ensures.within in
           (f.over, none_both m (rank c.args.key) (rank c.loop-at.at) (rank c.behind-at.result) none (none_behind has x (rank c.loop-at.at) (rank c.behind-at.result) f.found other c.in_ok-cell.ensures.ends ends)),
       is_key c.behind-at.result (search rules) (search rules) (search rules) (search rules) (search rules),
@@ -46,8 +46,8 @@ pub returns-in_err-cell-clause-over : goal.returns-in_err-cell-clause-over
 returns-in_err-cell-clause-over g c = λ n image m has over dir first.
     over_handed has c.args.root.now _ _ _ c.in_err-cell.field-0.0 c.from_residual.result (c.in_err-cell.ensures.over n image m has (c.loop-at.invariant.2 n image m has over).0) c.from_residual.ensures.1
 
-pub returns-then-level-eq1-clause-over : goal.returns-then-level-eq1-clause-over
-returns-then-level-eq1-clause-over g c = λ n image m has over dir first.
+pub returns-then-level-eq-LEAF-clause-over : goal.returns-then-level-eq-LEAF-clause-over
+returns-then-level-eq-LEAF-clause-over g c = λ n image m has over dir first.
     let (before, none) = c.loop-at.invariant.2 n image m has over in
     let f = c.in_ok-cell.ensures.over n image m has before in
     let low = c.in_ok-cell.ensures.from in
@@ -57,8 +57,8 @@ returns-then-level-eq1-clause-over g c = λ n image m has over dir first.
       undamaged = tt;
     }
 
-pub returns-then-level-eq1-clause-within : goal.returns-then-level-eq1-clause-within
-returns-then-level-eq1-clause-within g c = rank_small c.args.key (is_key c.args.key (search rules) (search rules) (search rules) (search rules) (search rules))
+pub returns-then-level-eq-LEAF-clause-within : goal.returns-then-level-eq-LEAF-clause-within
+returns-then-level-eq-LEAF-clause-within g c = rank_small c.args.key (is_key c.args.key (search rules) (search rules) (search rules) (search rules) (search rules))
 
 pub returns-then-not-is_in_tree-clause-over : goal.returns-then-not-is_in_tree-clause-over
 returns-then-not-is_in_tree-clause-over g c = λ n image m has over dir first.

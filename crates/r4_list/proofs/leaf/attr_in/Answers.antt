@@ -19,12 +19,12 @@ returns-in_err-item-clause-none c =
     let up = subst (λ (items : List Item). AreUpTo items (rank c.args.key) 0) c.node-node.ensures.items c.in_err-item.ensures.none in
     if_none c.from_residual.result (no_stat c.args.leaf.now c.node-node.ensures.whole c.requires c.node-node.ensures.stands (rank c.args.key) 0 up (λ i it e _ _ _. absurd (omega (arith, e))))
 
-pub returns-then-item-ne-STAT_DATA-clause-none : goal.returns-then-item-ne-STAT_DATA-clause-none
-returns-then-item-ne-STAT_DATA-clause-none c =
+pub returns-then-item-ne-STAT-clause-none : goal.returns-then-item-ne-STAT-clause-none
+returns-then-item-ne-STAT-clause-none c =
     let (i, up, is) = subst (λ (items : List Item). (i : ℕ) × AreUpTo items (rank c.args.key) (i + 1) × (slice_get items i ≡ Some (item_shown c.in_ok-item.item))) c.node-node.ensures.items c.in_ok-item.ensures.some in
     no_stat c.args.leaf.now c.node-node.ensures.whole c.requires c.node-node.ensures.stands (rank c.args.key) (i + 1) up (λ j it e at plugin same.
     let one = same_item _ i j (item_shown c.in_ok-item.item) it is at e in
-    c.if-item-ne-STAT_DATA.true (ap (λ (x : Item). x.plugin) one ∙ plugin))
+    c.if-item-ne-STAT.true (ap (λ (x : Item). x.plugin) one ∙ plugin))
 
 pub returns-then-not-is_same-clause-none : goal.returns-then-not-is_same-clause-none
 returns-then-not-is_same-clause-none c =
@@ -38,9 +38,9 @@ pub returns-in-Ok-clause-some : goal.returns-in-Ok-clause-some
 returns-in-Ok-clause-some c =
     let (i, up, is) = subst (λ (items : List Item). (i : ℕ) × AreUpTo items (rank c.args.key) (i + 1) × (slice_get items i ≡ Some (item_shown c.in_ok-item.item))) c.node-node.ensures.items c.in_ok-item.ensures.some in
     let same = eqb-true (rank c.in_ok-item.item.key) (rank c.args.key) (sym c.is_same.ensures.ranks ∙ c.if-not-is_same.false) in
-    stat_read_some c.args.leaf.now c.node-node.ensures.whole c.requires c.node-node.ensures.stands (rank c.args.key) i (item_shown c.in_ok-item.item) c.read_stat.result is c.if-item-ne-STAT_DATA.false same c.read_stat.ensures.value c.in-Ok.attr c.in-Ok.is
+    stat_read_some c.args.leaf.now c.node-node.ensures.whole c.requires c.node-node.ensures.stands (rank c.args.key) i (item_shown c.in_ok-item.item) c.read_stat.result is c.if-item-ne-STAT.false same c.read_stat.ensures.value c.in-Ok.attr c.in-Ok.is
 
 pub returns-in-Err-clause-none : goal.returns-in-Err-clause-none
 returns-in-Err-clause-none c =
     let (i, up, is) = subst (λ (items : List Item). (i : ℕ) × AreUpTo items (rank c.args.key) (i + 1) × (slice_get items i ≡ Some (item_shown c.in_ok-item.item))) c.node-node.ensures.items c.in_ok-item.ensures.some in
-    absurd (stat_read_none c.args.leaf.now c.node-node.ensures.whole c.requires c.node-node.ensures.stands i (item_shown c.in_ok-item.item) c.read_stat.result is c.if-item-ne-STAT_DATA.false c.read_stat.ensures.value c.in-Err.field-0 c.in-Err.is)
+    absurd (stat_read_none c.args.leaf.now c.node-node.ensures.whole c.requires c.node-node.ensures.stands i (item_shown c.in_ok-item.item) c.read_stat.result is c.if-item-ne-STAT.false c.read_stat.ensures.value c.in-Err.field-0 c.in-Err.is)

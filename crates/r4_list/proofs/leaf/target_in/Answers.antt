@@ -25,7 +25,7 @@ of_item-entries-requires c =
     let level = c.requires in
     let at = c.in_ok-item.ensures.some in
     let is = subst (λ (items : List Item). slice_get items at.0 ≡ Some (item_shown c.in_ok-item.item)) c.node-node.ensures.items at.2 in
-    dir_good (item_shown c.in_ok-item.item) c.if-item-ne-DIRECTORY.false (body_of c.args.leaf.now at.0 _ (omega (arith, level)) c.node-node.ensures.stands is)
+    dir_good (item_shown c.in_ok-item.item) c.if-item-ne-ENTRIES.false (body_of c.args.leaf.now at.0 _ (omega (arith, level)) c.node-node.ensures.stands is)
 
 pub entry-entry-requires : goal.entry-entry-requires
 entry-entry-requires c = found_within (view_entries c.of_item-entries.result) c.in_ok-find.field-0 _ c.in_ok-find.ensures.some
@@ -35,12 +35,12 @@ returns-in_err-item-clause-none c =
     let up = subst (λ (items : List Item). AreUpTo items (rank c.args.key) 0) c.node-node.ensures.items c.in_err-item.ensures.none in
     if_none c.from_residual.result (no_entry c.args.leaf.now c.node-node.ensures.whole c.requires c.node-node.ensures.stands (rank c.args.key) 0 c.args.name.now up (λ i j it e last _ _ _ _ _. absurd (omega (arith, last))))
 
-pub returns-then-item-ne-DIRECTORY-clause-none : goal.returns-then-item-ne-DIRECTORY-clause-none
-returns-then-item-ne-DIRECTORY-clause-none c =
+pub returns-then-item-ne-ENTRIES-clause-none : goal.returns-then-item-ne-ENTRIES-clause-none
+returns-then-item-ne-ENTRIES-clause-none c =
     let (i, up, is) = subst (λ (items : List Item). (i : ℕ) × AreUpTo items (rank c.args.key) (i + 1) × (slice_get items i ≡ Some (item_shown c.in_ok-item.item))) c.node-node.ensures.items c.in_ok-item.ensures.some in
     no_entry c.args.leaf.now c.node-node.ensures.whole c.requires c.node-node.ensures.stands (rank c.args.key) (i + 1) c.args.name.now up (λ j g it e last at plugin _ _ _.
     let one = same_item _ i j (item_shown c.in_ok-item.item) it is at last in
-    c.if-item-ne-DIRECTORY.true (ap (λ (x : Item). x.plugin) one ∙ plugin))
+    c.if-item-ne-ENTRIES.true (ap (λ (x : Item). x.plugin) one ∙ plugin))
 
 pub returns-in_err-find-clause-none : goal.returns-in_err-find-clause-none
 returns-in_err-find-clause-none c =
@@ -61,7 +61,7 @@ returns-then-not-is_spelled-clause-none c =
     let entries = entries_same c.of_item-entries.result item.key item.body c.of_item-entries.ensures.lent c.of_item-entries.ensures.key in
     let at = subst (λ (es : List Entry). slice_get es c.in_ok-find.field-0 ≡ Some (entry_shown c.entry-entry.result)) entries c.entry-entry.ensures.shown in
     let key = found_key (view_entries c.of_item-entries.result) c.in_ok-find.field-0 (entry_shown c.entry-entry.result) c.args.key c.entry-entry.ensures.shown c.in_ok-find.ensures.some in
-    no_other_entry c.args.leaf.now c.node-node.ensures.whole c.requires c.node-node.ensures.stands (rank c.args.key) i c.in_ok-find.field-0 c.args.name.now (item_shown item) (entry_shown c.entry-entry.result) up is c.if-item-ne-DIRECTORY.false at (ap rank key)
+    no_other_entry c.args.leaf.now c.node-node.ensures.whole c.requires c.node-node.ensures.stands (rank c.args.key) i c.in_ok-find.field-0 c.args.name.now (item_shown item) (entry_shown c.entry-entry.result) up is c.if-item-ne-ENTRIES.false at (ap rank key)
     (λ named. true≢false (sym (c.is_spelled.ensures.1 (c.name_bytes.ensures ∙ named)) ∙ c.if-not-is_spelled.true))
 
 pub returns-clause-some : goal.returns-clause-some
@@ -73,4 +73,4 @@ returns-clause-some c =
     let key = found_key (view_entries c.of_item-entries.result) c.in_ok-find.field-0 (entry_shown c.entry-entry.result) c.args.key c.entry-entry.ensures.shown c.in_ok-find.ensures.some in
     let named = sym c.name_bytes.ensures ∙ c.is_spelled.ensures.0 c.if-not-is_spelled.false in
     subst (λ (s : List ℕ). Contains (node_of c.args.leaf.now).units (rank c.args.key, NamedEntry s c.entry-entry.result.target)) named
-    (entry_found c.args.leaf.now c.node-node.ensures.whole c.requires c.node-node.ensures.stands (rank c.args.key) i c.in_ok-find.field-0 (item_shown item) (entry_shown c.entry-entry.result) is c.if-item-ne-DIRECTORY.false at (ap rank key))
+    (entry_found c.args.leaf.now c.node-node.ensures.whole c.requires c.node-node.ensures.stands (rank c.args.key) i c.in_ok-find.field-0 (item_shown item) (entry_shown c.entry-entry.result) is c.if-item-ne-ENTRIES.false at (ap rank key))

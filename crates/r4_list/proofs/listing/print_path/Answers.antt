@@ -1,7 +1,8 @@
 use Rattle.std.proofs.Common.{◌∙◌, sym, ap, refl}
 use Rattle.r4_content.specs.Walk.{NoName, NoDirectory, NoEntry, names_in}
 use Rattle.r4_list.specs.OverWalks.{walked_of}
-use Rattle.r4_list.proofs.BelowPrints.{stopped_fetching}
+use Rattle.r4_list.proofs.BelowPrints.{stopped_other}
+use Rattle.r4_list.proofs.BodyOver.{nothing_part}
 use Rattle.r4_list.proofs.ListingText.{listed_object, listed_word, same_listing, word_ended, word_printed}
 use Rattle.r4_list.proofs.Stages.{ended_by, went_fetched}
 use Rattle.r4_list.proofs.WalkPaths.{walk_reached}
@@ -10,7 +11,7 @@ use Rattle.r4_list.proofs.listing.print_path.Goals as goal
 pub returns-in_err-object-clause-over : goal.returns-in_err-object-clause-over
 returns-in_err-object-clause-over g c = λ n image m has over text listing.
     let f = c.in_err-object.ensures.over n image m has over in
-    stopped_fetching has c.args.root.now text _ _ _ f.over c.from_residual.result c.in_err-object.field-0.0 c.from_residual.ensures.1 f.undamaged
+    stopped_other has c.args.root.now text _ _ _ f.over c.from_residual.result _ c.from_residual.ensures.1 f.undamaged (λ before w. nothing_part _ before _ w)
 
 pub returns-in-At-clause-printed : goal.returns-in-At-clause-printed
 returns-in-At-clause-printed g c = ended_by _ _ _ _ _ _ _ (went_fetched _ _ _ _ _ _ _ c.in_ok-object.ensures.fetched) _ _ _ _ c.print_found.ensures.printed

@@ -17,7 +17,7 @@ pub returns-then-not-is_in_tree-clause-over : goal.returns-then-not-is_in_tree-c
 returns-then-not-is_in_tree-clause-over g c = λ n image m has over.
     let key = c.stat-key.ensures in
     let first = ap (λ (k : Key). slice_index k.el 0) key in
-    let small = c.if-object-ge-OBJECTS.false in
+    let small = c.if-object-ge-OBJECT_END.false in
     let below = c.is_in_tree.ensures.outside c.if-not-is_in_tree.true (omega (arith, first, small)) in
     let same = ap rank key in
     record {
@@ -29,12 +29,12 @@ returns-then-not-is_in_tree-clause-over g c = λ n image m has over.
 pub returns-in_err-cell-clause-over : goal.returns-in_err-cell-clause-over
 returns-in_err-cell-clause-over g c = λ n image m has over. over_handed has c.args.root.now _ _ _ c.in_err-cell.field-0.0 c.from_residual.result (c.in_err-cell.ensures.over n image m has over) c.from_residual.ensures.1
 
-pub returns-then-level-ne1-clause-over : goal.returns-then-level-ne1-clause-over
-returns-then-level-ne1-clause-over g c = λ n image m has over.
+pub returns-then-level-ne-LEAF-clause-over : goal.returns-then-level-ne-LEAF-clause-over
+returns-then-level-ne-LEAF-clause-over g c = λ n image m has over.
     let f = c.in_ok-cell.ensures.over n image m has over in
     let x = arc_value c.in_ok-cell.cell in
     let ends = subst (λ (k : ℕ). EndsAt x k) (ap rank c.stat-key.ensures) c.in_ok-cell.ensures.ends in
-    let other : x.level ≢ 1 = λ h. c.if-level-ne1.true (c.level.ensures ∙ (ap (λ (y : CellSeen). y.level) c.deref.ensures ∙ h)) in
+    let other : x.level ≢ 1 = λ h. c.if-level-ne-LEAF.true (c.level.ensures ∙ (ap (λ (y : CellSeen). y.level) c.deref.ensures ∙ h)) in
     record {
       over = f.over;
       found = attr_none has c.args.object.now (λ a e. none_at has x f.found (stat_rank c.args.object.now) (Stat a) tt ends other e);
@@ -47,12 +47,12 @@ returns-clause-over g c = λ n image m has over.
     let x = arc_value c.in_ok-cell.cell in
     let same = ap rank c.stat-key.ensures in
     let r = c.attr_in.result in
-    let one = sym (ap (λ (y : CellSeen). y.level) c.deref.ensures) ∙ (sym c.level.ensures ∙ c.if-level-ne1.false) in
+    let one = sym (ap (λ (y : CellSeen). y.level) c.deref.ensures) ∙ (sym c.level.ensures ∙ c.if-level-ne-LEAF.false) in
     let from = subst (λ (k : ℕ). rank x.lo ≤ k) same c.in_ok-cell.ensures.from in
     let to = subst (λ (k : ℕ). k < rank x.hi) same c.in_ok-cell.ensures.inside in
     let some = subst (λ (k : ℕ). IfSome r (λ a. Contains (node_of x).units (k, Stat a))) same (subst (λ (y : CellSeen). IfSome r (λ a. Contains (node_of y).units (rank c.stat-key.result, Stat a))) c.deref-2.ensures c.attr_in.ensures.some) in
     let none = subst (λ (k : ℕ). IfNone r ((a : Attr) → Contains (node_of x).units (k, Stat a) → ⊥)) same (subst (λ (y : CellSeen). IfNone r ((a : Attr) → Contains (node_of y).units (rank c.stat-key.result, Stat a) → ⊥)) c.deref-2.ensures c.attr_in.ensures.none) in
-    let locality = lt-ltb c.args.object.now.locality (2 ^ 60) c.if-object-ge-OBJECTS.false in
-    let oid = lt-ltb c.args.object.now.oid.0 (2 ^ 60) c.if-object-ge-OBJECTS-2.false in
+    let locality = lt-ltb c.args.object.now.locality (2 ^ 60) c.if-object-ge-OBJECT_END.false in
+    let oid = lt-ltb c.args.object.now.oid.0 (2 ^ 60) c.if-object-ge-OBJECT_END-2.false in
     let may : may_be_object c.args.object.now ≡ true = rw (locality, oid) refl in
     record { over = f.over; found = attr_read has x f.found one c.args.object.now r may from to some none; undamaged = tt }

@@ -1,15 +1,16 @@
 use Rattle.std.proofs.Common.{refl}
 use Rattle.r4_list.specs.declared.fault.ListFault.TheVariants.{Log, Image, Device, Size, Memory}
-use Rattle.r4_top.specs.Lines.{image_word_of, word_of}
+use Rattle.r4_base.specs.Words.{log_word_of}
+use Rattle.r4_cell.specs.Words.{image_word_of}
 use Rattle.r4_top.proofs.Texts.{printed, printed_image}
 use Rattle.r4_top.proofs.Listed.{tells_same}
 use Rattle.r4_top.proofs.listing.tell_fault.Goals as goal
 
 pub returns-in-Log : goal.returns-in-Log
-returns-in-Log g c = tells_same _ (Log c.in-Log.block c.in-Log.fault) 7 _ _ c.in-Log.is (refl, printed_image c.in-Log.block.0 c.log_word.result.now (word_of c.in-Log.fault) _ _ c.write_image.result c.log_word.ensures c.write_image.ensures)
+returns-in-Log g c = tells_same _ (Log c.in-Log.block c.in-Log.fault) 7 _ _ c.in-Log.is (refl, printed_image c.in-Log.block.0 c.word.result.now (log_word_of c.in-Log.fault) _ _ c.write_image.result c.word.ensures c.write_image.ensures)
 
 pub returns-in-Image : goal.returns-in-Image
-returns-in-Image g c = tells_same _ (Image c.in-Image.block c.in-Image.fault) 7 _ _ c.in-Image.is (refl, printed_image c.in-Image.block.0 c.image_word.result.now (image_word_of c.in-Image.fault) _ _ c.write_image-in-Image.result c.image_word.ensures c.write_image-in-Image.ensures)
+returns-in-Image g c = tells_same _ (Image c.in-Image.block c.in-Image.fault) 7 _ _ c.in-Image.is (refl, printed_image c.in-Image.block.0 c.word-in-Image.result.now (image_word_of c.in-Image.fault) _ _ c.write_image-in-Image.result c.word-in-Image.ensures c.write_image-in-Image.ensures)
 
 pub returns-in-Device : goal.returns-in-Device
 returns-in-Device g c = tells_same _ (Device c.in-Device.clock c.in-Device.faults) 6 _ _ c.in-Device.is (refl, printed _ _ _ c.write_device.result c.write_device.ensures)

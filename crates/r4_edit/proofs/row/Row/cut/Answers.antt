@@ -6,10 +6,10 @@ use Rattle.r4_edit.proofs.Cuts.{part_lighter}
 use Rattle.r4_edit.proofs.row.Row.cut.Goals as goal
 use Rattle.r4_edit.proofs.row.Row.cut.Goals.{else-fits-via-then-fits+else-fits-2, else-fits-via-else-fits}
 
-pub returns-then-level-gt2 : goal.returns-then-level-gt2
-returns-then-level-gt2 c =
+pub returns-then-level-gt-TWIG : goal.returns-then-level-gt-TWIG
+returns-then-level-gt-TWIG c =
     let self = c.args.self.now in
-    let high = c.if-level-gt2.true in
+    let high = c.if-level-gt-TWIG.true in
     let level = c.level.ensures in
     subst (λ n. IsCut self (n / 2)) (sym c.len.ensures)
     (cut_half self c.requires.row c.requires.narrow c.requires.two (omega (arith, high, level)))

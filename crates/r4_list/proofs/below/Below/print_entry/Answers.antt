@@ -4,7 +4,8 @@ use Rattle.r4_base.specs.declared.items.Attr.{Attr}
 use Rattle.r4_list.specs.Below.{PrintsOne}
 use Rattle.r4_list.specs.Listing.{line_of}
 use Rattle.r4_list.specs.declared.fault.Stop.TheVariants.{Fetch}
-use Rattle.r4_list.proofs.BelowPrints.{stopped_fetching}
+use Rattle.r4_list.proofs.BelowPrints.{stopped_other}
+use Rattle.r4_list.proofs.BodyOver.{nothing_part}
 use Rattle.r4_list.proofs.BelowSteps.{none_or_some, one_stopped}
 use Rattle.r4_list.proofs.Stages.{ended_by, ended_well, went_fetched}
 use Rattle.r4_list.proofs.below.Below.print_entry.Goals as goal
@@ -19,7 +20,7 @@ pub returns-in_err-attr-clause-over : goal.returns-in_err-attr-clause-over
 returns-in_err-attr-clause-over g c = λ n image m has over a at.
     let h = c.in_err-attr.ensures.over n image m has over in
     one_stopped has c.args.root.now c.args.object.now a c.args.self.now c.args.self.now _ _ _ c.from_residual.result (Fetch c.in_err-attr.field-0.0) c.from_residual.ensures.1
-    (stopped_fetching has c.args.root.now (line_of a c.args.self.now.path.items) _ _ _ h.over c.from_residual.result c.in_err-attr.field-0.0 c.from_residual.ensures.1 h.undamaged)
+    (stopped_other has c.args.root.now (line_of a c.args.self.now.path.items) _ _ _ h.over c.from_residual.result _ c.from_residual.ensures.1 h.undamaged (λ before w. nothing_part _ before _ w))
 
 pub returns-in-Some-clause-over : goal.returns-in-Some-clause-over
 returns-in-Some-clause-over g c = λ n image m has over a at.

@@ -9,7 +9,7 @@ use Rattle.r4_list.proofs.BelowSteps.{none_there, one_dir, one_stopped}
 use Rattle.r4_list.specs.Listing.{line_of}
 use Rattle.r4_list.specs.Walking.{open_dir}
 use Rattle.r4_list.specs.declared.fault.Stop.TheVariants.{Fetch, Memory}
-use Rattle.r4_list.proofs.BelowPrints.{printed_whole, stopped_fetching, stopped_memory, same_appends}
+use Rattle.r4_list.proofs.BelowPrints.{printed_whole, same_appends, stopped_other, whole_part}
 use Rattle.r4_list.proofs.Stages.{went_same, went_both, went_written, went_fetched, ended_well, ended_writing, ended_without}
 use Rattle.r4_list.proofs.below.Below.print_one.Goals as goal
 
@@ -29,7 +29,7 @@ pub returns-in_err-frame-clause-over : goal.returns-in_err-frame-clause-over
 returns-in_err-frame-clause-over g c = λ n image m has over.
     let h = c.in_err-frame.ensures.over n image m has over (open_dir c.args.object.now c.args.self.now.path.items 0) refl refl in
     one_stopped has c.args.root.now c.args.object.now c.args.attr.now c.args.self.now _ _ _ _ c.from_residual-in_err-frame.result (Fetch c.in_err-frame.field-0.0) c.from_residual-in_err-frame.ensures.1
-    (stopped_fetching has c.args.root.now (line_of c.args.attr.now c.args.self.now.path.items) _ _ _ h.over c.from_residual-in_err-frame.result c.in_err-frame.field-0.0 c.from_residual-in_err-frame.ensures.1 h.undamaged)
+    (stopped_other has c.args.root.now (line_of c.args.attr.now c.args.self.now.path.items) _ _ _ h.over c.from_residual-in_err-frame.result _ c.from_residual-in_err-frame.ensures.1 h.undamaged (whole_part _ _ _ c.in_ok-write.field-0 (same_appends _ _ _ _ _ (c.deref-2.ensures.value ∙ (c.in_ok-push_line.ensures ∙ (ap (λ (t : List ℕ). t ++ line_of c.args.attr.now c.deref.result.now) c.clear.ensures.items ∙ ap (line_of c.args.attr.now) c.deref.ensures.value))) c.in_ok-write.ensures)))
 
 pub returns-in_default-clause-over : goal.returns-in_default-clause-over
 returns-in_default-clause-over g c = λ n image m has over.
@@ -43,7 +43,7 @@ pub returns-in_err-push-clause-over : goal.returns-in_err-push-clause-over
 returns-in_err-push-clause-over g c = λ n image m has over.
     let h = c.in_ok-frame.ensures.over n image m has over (open_dir c.args.object.now c.args.self.now.path.items 0) refl refl in
     one_stopped has c.args.root.now c.args.object.now c.args.attr.now c.args.self.now _ _ _ _ c.from_residual-in_err-push.result Memory c.from_residual-in_err-push.ensures.1
-    (stopped_memory has c.args.root.now (line_of c.args.attr.now c.args.self.now.path.items) _ _ _ h.over c.from_residual-in_err-push.result c.from_residual-in_err-push.ensures.1)
+    (stopped_other has c.args.root.now (line_of c.args.attr.now c.args.self.now.path.items) _ _ _ h.over c.from_residual-in_err-push.result _ c.from_residual-in_err-push.ensures.1 tt (whole_part _ _ _ c.in_ok-write.field-0 (same_appends _ _ _ _ _ (c.deref-2.ensures.value ∙ (c.in_ok-push_line.ensures ∙ (ap (λ (t : List ℕ). t ++ line_of c.args.attr.now c.deref.result.now) c.clear.ensures.items ∙ ap (line_of c.args.attr.now) c.deref.ensures.value))) c.in_ok-write.ensures)))
 
 pub returns-clause-over : goal.returns-clause-over
 returns-clause-over g c = λ n image m has over.

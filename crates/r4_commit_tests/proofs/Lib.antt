@@ -1,0 +1,2 @@
+mod CommitTests
+mod PlanTests

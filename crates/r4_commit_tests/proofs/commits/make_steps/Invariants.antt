@@ -1,0 +1,12 @@
+use Rattle.std.proofs.Common.{◌<◌}
+use Rattle.r4_outside.specs.Device.{Goes}
+use Rattle.r4_outside.specs.Memory.{memory_state}
+use Rattle.r4_wander.specs.Progress.{FitOn}
+use Rattle.r4_commit_tests.proofs.commits.make_steps.Given as goal
+
+abbrev pub invariant-loop-row : goal.invariant-loop-row
+invariant-loop-row g l = record {
+  at : l.writer.part < 4;
+  fits : FitOn (memory_state l.dev).blocks l.writer.plan;
+  goes : Goes (memory_state l.fn.dev) (memory_state l.dev);
+}

@@ -1,0 +1,11 @@
+//! Tests of space, of places and of commits, through the program's call.
+#![tactic(auto)]
+
+#[cfg(test)]
+mod commits;
+#[cfg(test)]
+mod places;
+#[cfg(test)]
+mod plans;
+#[cfg(test)]
+mod spaces;

@@ -1,0 +1,122 @@
+//! Which blocks the cells of a slum get.
+
+ghost use Rattle.std.specs.Prelude.{◌≡◌, ◌^◌, ◌<◌, IfOk, length, map, All};
+ghost use Rattle.std.specs.Arc.{arc_value};
+
+use r4_base::{AtomNo, Block, BlockNo, Key, NodeId, Oid};
+use r4_cell::{Cell, read_cell};
+use r4_place::{How, choose};
+use r4_space::SpaceMap;
+use r4_testing::{same, same_in};
+use std::alloc::Global;
+use std::process::Abort;
+use std::sync::Arc;
+use std::test::Fail;
+
+// A bitmap of 64 blocks: the first 24 are used, and of the others those that these bytes tell.
+fn bitmap(alloc: Global, told: [u8; 5]) -> Result<Block, Fail> {
+    let mut block = Block::zeroed(alloc)?;
+    for (i, byte) in block.bytes_mut().iter_mut().enumerate() {
+        if (4..7).contains(&i) || i >= 12 {
+            *byte = 0xff;
+        }
+        if (7..12).contains(&i) {
+            *byte = told[i - 7];
+        }
+    }
+    Ok(block)
+}
+
+// The space of 64 blocks of which these are used.
+fn space(alloc: Global, told: [u8; 5], free: u64) -> Result<SpaceMap, Fail>
+    ensures { IfOk result (λ s. s.block_count ≡ 64) }
+{
+    let bitmaps = Vec::from_array(alloc, [bitmap(alloc, told)?])?;
+    let Ok(space) = SpaceMap::read(alloc, &bitmaps, 64, free) else {
+        return Err(Fail::from("a space is refused"));
+    };
+    Ok(space)
+}
+
+// A data block of this name.
+fn cell(alloc: Global, id: u64) -> Result<Arc<Cell>, Fail>
+    ensures { IfOk result (λ c. (arc_value c).id ≡ id) }
+{
+    let lo = Key::body(41, 0, Oid(42), 0);
+    let hi = Key::body(41, 0, Oid(42), 4096);
+    let Ok(cell) = read_cell(alloc, NodeId(id), 0, lo, hi, 64, Block::zeroed(alloc)?) else {
+        return Err(Fail::from("a data block is refused"));
+    };
+    Ok(cell)
+}
+
+const NEW: u64 = 0x8000_0000_0000_0000;
+
+// Two cells without a block, a third one of this name, and one more without.
+fn slum(alloc: Global, third: u64) -> Result<Vec<Arc<Cell>>, Fail>
+    requires within { third < 2 ^ 63 → third < 64 }
+    ensures within { IfOk result (λ v. All (λ c. c.id < 2 ^ 63 → c.id < 64) (map (λ cell. arc_value cell) v.items)) }
+    ensures four { IfOk result (λ v. length v.items ≡ 4) }
+{
+    let one = cell(alloc, NEW)?;
+    let two = cell(alloc, NEW + 1)?;
+    let three = cell(alloc, third)?;
+    let four = cell(alloc, NEW + 2)?;
+    Ok(Vec::from_array(alloc, [one, two, three, four])?)
+}
+
+// Looks at what is done with the cells of a slum, and at how many blocks are free afterwards.
+fn look<X: Abort>(
+    rt: &X,
+    alloc: Global,
+    space: &mut SpaceMap,
+    slum: &[Arc<Cell>],
+    wanted: &[How],
+    free: u64,
+) -> Result<(), Fail>
+    requires within { All (λ c. c.id < 2 ^ 63 → c.id < space.old.block_count) (map (λ cell. arc_value cell) slum.now) }
+{
+    assert!(rt; space.free() >= slum.len() as u64);
+    let placed = choose(alloc, AtomNo(1), slum, 64, true, space)?;
+    same(rt, &placed.len(), &wanted.len(), "cells");
+    for (row, (got, how)) in placed.iter().zip(wanted).enumerate() {
+        same_in(rt, &got.how, how, row);
+    }
+    for (row, (got, cell)) in placed.iter().zip(slum).enumerate() {
+        same_in(rt, &got.node, &cell.id(), row);
+    }
+    same(rt, &space.free(), &free, "free blocks");
+    Ok(())
+}
+
+#[test]
+fn cells_without_a_block_get_the_next_ones(rt: HostRuntime) -> Result<(), Fail> {
+    let alloc = rt.alloc();
+    let mut roomy = space(alloc, [4, 0, 0, 0, 0], 39)?;
+    let wanted = [
+        How::Fresh(BlockNo(24)),
+        How::Fresh(BlockNo(25)),
+        How::Overwrite,
+        How::Fresh(BlockNo(27)),
+    ];
+    look(&rt, alloc, &mut roomy, &slum(alloc, 23)?, &wanted, 36)?;
+
+    let mut sufficient = space(alloc, [0xf6, 0xff, 0xff, 0xff, 0x3f], 4)?;
+    let wanted = [
+        How::Fresh(BlockNo(24)),
+        How::Fresh(BlockNo(27)),
+        How::Fresh(BlockNo(62)),
+        How::Fresh(BlockNo(63)),
+    ];
+    look(
+        &rt,
+        alloc,
+        &mut sufficient,
+        &slum(alloc, NEW + 3)?,
+        &wanted,
+        0,
+    )?;
+
+    // Nothing is left, and nothing is wanted.
+    look(&rt, alloc, &mut sufficient, &[], &[], 0)
+}

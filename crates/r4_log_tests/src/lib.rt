@@ -1,0 +1,13 @@
+//! Tests of logs and devices, through the program's call.
+#![tactic(auto)]
+
+#[cfg(test)]
+mod counting;
+#[cfg(test)]
+mod logs;
+#[cfg(test)]
+mod replays;
+#[cfg(test)]
+mod tables;
+#[cfg(test)]
+mod tests;

@@ -1,4 +1,0 @@
-mod Sums
-mod EntryTests
-mod CommitTests
-mod PlanTests
