@@ -2,16 +2,11 @@
 use Rattle.std.proofs.Common.{◌≡◌, ℕ, zero, suc, ◌+◌, ◌*◌, ◌/◌, ◌%◌, ◌<◌, ◌≤◌, Bool, true, false, not, ◌&&◌, ◌||◌, cond, eqb, List, [], ◌∷◌, length, get_or, set, Some, None, refl, sym, ap, ◌∙◌, arith, inl, inr}
 use Rattle.std.specs.Prelude.{Option, count_by}
 use Rattle.std.specs.Option.{option_or}
-use Rattle.std.proofs.lemmas.Bool.{eqb-true, eq-eqb, cases_eq}
+use Rattle.std.proofs.lemmas.Bool.{and_parts, cases_eq, eq-eqb, eqb-true}
 use Rattle.std.proofs.lemmas.List.Sums.{sum_by-set}
 use Rattle.r4_base.specs.Image.{Image, block_at}
 use Rattle.r4_base.specs.Bitmap.{is_used, bits_of, bitmap_count, bitmap_block, is_marked, bitmap_bits, free_below, free_in, is_always_used, are_held, first_unheld, bitmap_fault}
 use Rattle.r4_base.proofs.Bits.{length-bits_of, get_or-bits_of}
-
-both : (p q : Bool) → (p && q) ≡ true → (p ≡ true) × (q ≡ true)
-both true true e = (refl, refl)
-both true false e = absurd cc
-both false q e = absurd cc
 
 used_there : (used always : Bool) → (used || not always) ≡ true → always ≡ true → used ≡ true
 used_there true always e h = refl
@@ -28,11 +23,11 @@ passes false false h = refl
 pub held_at : (block_count b i : ℕ) (d : Bool) (bits : List Bool) → are_held block_count b bits ≡ true → i < length bits → is_always_used block_count (b + i) ≡ true → get_or bits i d ≡ true
 held_at block_count b i d [] held lt always = absurd (omega arith)
 held_at block_count b zero d (used ∷ bits) held lt always =
-    let here = both (used || not (is_always_used block_count b)) (are_held block_count (b + 1) bits) held in
+    let here = and_parts (used || not (is_always_used block_count b)) (are_held block_count (b + 1) bits) held in
     let e : b + 0 ≡ b = omega arith in
     used_there used (is_always_used block_count b) here.0 (ap (is_always_used block_count) (sym e) ∙ always)
 held_at block_count b (suc i) d (used ∷ bits) held lt always =
-    let here = both (used || not (is_always_used block_count b)) (are_held block_count (b + 1) bits) held in
+    let here = and_parts (used || not (is_always_used block_count b)) (are_held block_count (b + 1) bits) held in
     let e : b + 1 + i ≡ b + suc i = omega arith in
     held_at block_count (b + 1) i d bits here.1 (omega arith) (ap (is_always_used block_count) e ∙ always)
 

@@ -1,6 +1,6 @@
 -- Directory items: their lists of entries, and what it says that a body is accepted.
 use Rattle.std.proofs.Common.{◌≡◌, ℕ, zero, suc, ◌+◌, ◌-◌, ◌*◌, ◌<◌, ◌≤◌, Bool, true, false, cond, not, eqb, ltb, leb, ◌&&◌, List, length, get_or, Option, Some, None, refl, sym, ap, ◌∙◌, arith, inl, inr}
-use Rattle.std.proofs.lemmas.Bool.{cases_eq, eqb-true, ltb-true, leb-true, eq-eqb, ne_eqb, lt-ltb, le-leb}
+use Rattle.std.proofs.lemmas.Bool.{and_parts, cases_eq, eq-eqb, eqb-true, le-leb, leb-true, lt-ltb, ltb-true, ne_eqb}
 use Rattle.std.specs.Option.{option_or}
 use Rattle.std.specs.Prelude.{slice_get}
 use Rattle.r4_base.specs.declared.key.Key.{Key}
@@ -10,8 +10,8 @@ use Rattle.r4_base.specs.Key.{IsKey, rank}
 use Rattle.r4_base.specs.Dir.{Entry, entry_count, entry_header, entry_key_at, entry_offset, entry_edge, entry_body, entry_at, entries_from, entries_of, entry_count_is_good, entry_offset_is_good, entry_order_is_good, entry_name_is_good, entry_fault, entries_fault, dir_fault}
 use Rattle.r4_base.specs.Entries.{IsLaid}
 use Rattle.r4_base.proofs.Keys.{is_key}
-use Rattle.r4_base.proofs.Names.{both}
 use Rattle.r4_base.proofs.Numbers.{number_at-lt}
+use Rattle.r4_base.proofs.Choices.{if_true}
 
 -- ---- the list of entries
 
@@ -117,10 +117,6 @@ keys_apart item b k m a lt within =
 
 -- ---- tests in a row
 
-not_false : (p : Bool) → not p ≡ false → p ≡ true
-not_false true e = refl
-not_false false e = absurd cc
-
 past : {X : Type 0} (p : Bool) (f : X) (o : Option X) → cond (not p) (Some f) o ≡ None → (p ≡ true) × (o ≡ None)
 past true f o e = (refl, e)
 past false f o e = absurd cc
@@ -128,10 +124,6 @@ past false f o e = absurd cc
 neither : {X : Type 0} (x y : Option X) → option_or x y ≡ None → (x ≡ None) × (y ≡ None)
 neither None y e = (refl, e)
 neither (Some x) y e = absurd cc
-
-if_true : (p x y : Bool) → p ≡ true → cond p x y ≡ true → x ≡ true
-if_true true x y e h = h
-if_true false x y e h = absurd cc
 
 if_false : (p x y : Bool) → p ≡ false → cond p x y ≡ true → y ≡ true
 if_false true x y e h = absurd cc
@@ -153,8 +145,8 @@ entry_is_good item b i e =
     let two = past (entry_order_is_good item b i) (Order i) _ one.1 in
     let three = past (entry_name_is_good (entry_key_at item b i) (entry_body b i)) (Name i) None two.1 in
     let at0 : Bool = eqb (entry_offset b 0) (entry_header (entry_count b)) in
-    let ends = both (cond (eqb i 0) at0 true && leb (entry_edge b (i + 1)) (length b)) (leb (entry_offset b i + 24) (entry_edge b (i + 1))) one.0 in
-    let begins = both (cond (eqb i 0) at0 true) (leb (entry_edge b (i + 1)) (length b)) ends.0 in
+    let ends = and_parts (cond (eqb i 0) at0 true && leb (entry_edge b (i + 1)) (length b)) (leb (entry_offset b i + 24) (entry_edge b (i + 1))) one.0 in
+    let begins = and_parts (cond (eqb i 0) at0 true) (leb (entry_edge b (i + 1)) (length b)) ends.0 in
     let same : Bool = eqb (rank (entry_key_at item b 0)) (rank item) in
     let up : Bool = ltb (rank (entry_key_at item b (i - 1))) (rank (entry_key_at item b i)) in
     record {
@@ -209,8 +201,8 @@ pub record CountIsGood (b : List ℕ) : Type 0 where
 
 pub count_is_good : (b : List ℕ) → entry_count_is_good b ≡ true → CountIsGood b
 count_is_good b e =
-    let one = both (leb 2 (length b) && leb 1 (entry_count b)) (leb (entry_header (entry_count b)) (length b)) e in
-    let two = both (leb 2 (length b)) (leb 1 (entry_count b)) one.0 in
+    let one = and_parts (leb 2 (length b) && leb 1 (entry_count b)) (leb (entry_header (entry_count b)) (length b)) e in
+    let two = and_parts (leb 2 (length b)) (leb 1 (entry_count b)) one.0 in
     record { two = leb-true _ _ two.0; some = leb-true _ _ two.1; headers = leb-true _ _ one.1 }
 
 pub accepted : (item : Key) (b : List ℕ) → dir_fault item b ≡ None → IsAccepted item b

@@ -1,6 +1,6 @@
 -- The entries of a body that is accepted, as a list.
 use Rattle.std.proofs.Common.{◌≡◌, ◌⊎◌, inl, inr, ℕ, zero, suc, ◌+◌, ◌-◌, ◌*◌, ◌/◌, ◌^◌, ◌<◌, ◌≤◌, Bool, true, false, cond, not, eqb, leb, ◌&&◌, List, [], ◌∷◌, ◌++◌, length, get_or, take, drop, Some, None, refl, sym, ap, subst, ◌∙◌, arith}
-use Rattle.std.proofs.lemmas.Bool.{cases_lt, eqb-true, eq-eqb, ne_eqb, leb-true, le-ltb, lt-ltb}
+use Rattle.std.proofs.lemmas.Bool.{and_parts, cases_lt, eq-eqb, eqb-true, le-ltb, leb-true, lt-ltb, ne_eqb}
 use Rattle.std.proofs.lemmas.List.{length-append, length-take, get_or-take, get_or_past}
 use Rattle.std.proofs.lemmas.List.Sums.{sum_by-cons}
 use Rattle.std.proofs.lemmas.Option.{slice_get_past}
@@ -14,7 +14,7 @@ use Rattle.r4_base.specs.Name.{dir_of_key, is_long_key, is_long_name, key_of_nam
 use Rattle.r4_base.specs.Dir.{Entry, dir_fault, entry_at, entry_body, entry_count, entry_edge, entry_header, entry_key_at, entry_offset, entry_name_is_good, entries_from, entries_of, name_of}
 use Rattle.r4_base.specs.Entries.{AreIn, AreLawful, EntriesRise, IsLawfulEntry, body_room, entries_room, first_key}
 use Rattle.r4_base.proofs.Keys.{equal}
-use Rattle.r4_base.proofs.Names.{both, dir_is, is_none_none, key_fits, ordering_long, ordering_short}
+use Rattle.r4_base.proofs.Names.{dir_is, is_none_none, key_fits, ordering_long, ordering_short}
 use Rattle.r4_base.proofs.Numbers.{AreBytes, length-slice_range, get_or-slice_range}
 use Rattle.r4_base.proofs.Dirs.{IsAccepted, accepted, edge_last, edge_next, edge_stands, edges_rise, entry_key_fits, get-entries_of, length-entries_of}
 
@@ -123,8 +123,8 @@ pub has_form : (k : Key) (body : List ℕ) → entry_name_is_good k body ≡ tru
 has_form k body e =
     let name = name_of k body in
     let long : Bool = is_long_name name && leb 25 (length body) && eqb (get_or body (length body - 1) 0) 0 in
-    let one = both (is_none (name_fault name) && eqb (rank (key_of_name (dir_of_key k) name)) (rank k)) (cond (is_long_key k) long (eqb (length body) 24)) e in
-    let two = both (is_none (name_fault name)) (eqb (rank (key_of_name (dir_of_key k) name)) (rank k)) one.0 in
+    let one = and_parts (is_none (name_fault name) && eqb (rank (key_of_name (dir_of_key k) name)) (rank k)) (cond (is_long_key k) long (eqb (length body) 24)) e in
+    let two = and_parts (is_none (name_fault name)) (eqb (rank (key_of_name (dir_of_key k) name)) (rank k)) one.0 in
     record { legal = is_none_none (name_fault name) two.0; key = eqb-true _ _ two.1; form = split (is_long_key k) refl one.1 }
   where
     parts : (p q r : Bool) → (p && q && r) ≡ true → (p ≡ true) × (q ≡ true)

@@ -22,13 +22,11 @@ use Rattle.r4_base.specs.Cell.{cell_fault, cell_of, items_in_fault, item_body_fa
 use Rattle.r4_base.specs.Volume.{HasUnits, empty_volume, root_attr}
 use Rattle.r4_base.specs.Fresh.{HasOneItem, root_key}
 use Rattle.r4_base.proofs.Stats.{stat_again, attr_again}
+use Rattle.r4_base.proofs.Choices.{nothing_in}
 
 pub least_below : least < top
 unfolding least top
 least_below = lit< tt
-
-pub nothing : {A : Type 0} (x : A) → Contains [] x → ⊥
-nothing x h = omega (arith, h.1)
 
 pub only : {A : Type 0} (x y : A) → Contains (x ∷ []) y → y ≡ x
 only x y (zero, l, e) = sym e
@@ -121,16 +119,16 @@ module _ (a b : List ℕ) where
     name_from = λ n h. let e = only down n h in omega (arith, ap (λ x. x.lo) e);
     name_to = λ n h. let e = only down n h in omega (arith, ap (λ x. x.hi) e);
     names_apart = λ n m k x y _ _ _. only down n x ∙ sym (only down m y);
-    spans_apart = λ n s k _ y _ _. absurd (nothing s y);
-    span_from = λ s h. absurd (nothing s h);
-    span_to = λ s h. absurd (nothing s h);
-    spans_in_twigs = λ s h. absurd (nothing s h);
+    spans_apart = λ n s k _ y _ _. absurd (nothing_in s y);
+    span_from = λ s h. absurd (nothing_in s h);
+    span_to = λ s h. absurd (nothing_in s h);
+    spans_in_twigs = λ s h. absurd (nothing_in s h);
     covered = λ k _ at. inl (down, (zero, omega arith, refl), refl, at);
     data_in_span = λ n h low. let e = only down n h in absurd (omega (arith, ap (λ x. x.level) e, low));
-    unit_in = λ k v h. absurd (nothing (k, v) h);
-    unit_low = λ k v h. absurd (nothing (k, v) h);
-    unit_in_hole = λ n k v _ _ h _. nothing (k, v) h;
-    one_unit = λ k v w h _. absurd (nothing (k, v) h);
+    unit_in = λ k v h. absurd (nothing_in (k, v) h);
+    unit_low = λ k v h. absurd (nothing_in (k, v) h);
+    unit_in_hole = λ n k v _ _ h _. nothing_in (k, v) h;
+    one_unit = λ k v w h _. absurd (nothing_in (k, v) h);
   }
 
   leaf_node : IsNode (fresh_leaf b)
@@ -139,20 +137,20 @@ module _ (a b : List ℕ) where
     from_least = le_refl least;
     nonempty = least_below;
     to_top = le_refl top;
-    below = λ n h. absurd (nothing n h);
-    name_nonempty = λ n h. absurd (nothing n h);
-    name_from = λ n h. absurd (nothing n h);
-    name_to = λ n h. absurd (nothing n h);
-    names_apart = λ n m k x y _ _ _. absurd (nothing n x);
-    spans_apart = λ n s k x _ _ _. absurd (nothing n x);
-    span_from = λ s h. absurd (nothing s h);
-    span_to = λ s h. absurd (nothing s h);
-    spans_in_twigs = λ s h. absurd (nothing s h);
+    below = λ n h. absurd (nothing_in n h);
+    name_nonempty = λ n h. absurd (nothing_in n h);
+    name_from = λ n h. absurd (nothing_in n h);
+    name_to = λ n h. absurd (nothing_in n h);
+    names_apart = λ n m k x y _ _ _. absurd (nothing_in n x);
+    spans_apart = λ n s k x _ _ _. absurd (nothing_in n x);
+    span_from = λ s h. absurd (nothing_in s h);
+    span_to = λ s h. absurd (nothing_in s h);
+    spans_in_twigs = λ s h. absurd (nothing_in s h);
     covered = λ k two _. absurd (omega (arith, two));
-    data_in_span = λ n h _. absurd (nothing n h);
+    data_in_span = λ n h _. absurd (nothing_in n h);
     unit_in = λ k v h. let e = only (least, Stat root_attr) (k, v) h in let at : k ≡ least = ap (λ x. x.0) e in let full = least_below in (omega (arith, at), omega (arith, at, full));
     unit_low = λ k v h. inl (le_refl 1);
-    unit_in_hole = λ n k v x _ _ _. nothing n x;
+    unit_in_hole = λ n k v x _ _ _. nothing_in n x;
     one_unit = λ k v w x y. ap (λ z. z.1) (only (least, Stat root_attr) (k, v) x) ∙ sym (ap (λ z. z.1) (only (least, Stat root_attr) (k, w) y));
   }
 
@@ -166,14 +164,14 @@ module _ (a b : List ℕ) where
   no_span : (i : ℕ) (c : Cell Value) (s : Span) → fresh_store a b i ≡ Some c → Contains c.spans s → ⊥
   unfolding fresh_twig fresh_leaf
   no_span i c s e h = elim (fresh_cell i c e) [
-    | inl g ↦ nothing s (subst (λ x. Contains x.spans s) g.1 h)
-    | inr g ↦ nothing s (subst (λ x. Contains x.spans s) g.1 h)
+    | inl g ↦ nothing_in s (subst (λ x. Contains x.spans s) g.1 h)
+    | inr g ↦ nothing_in s (subst (λ x. Contains x.spans s) g.1 h)
   ]
 
   fresh_named : (i : ℕ) (c : Cell Value) (n : Name) → fresh_store a b i ≡ Some c → Contains c.names n → (d : Cell Value) × (fresh_store a b n.id ≡ Some d) × Fits n d
   unfolding down fresh_twig fresh_leaf
   fresh_named i c n e h = elim (fresh_cell i c e) [
-    | inr g ↦ absurd (nothing n (subst (λ x. Contains x.names n) g.1 h))
+    | inr g ↦ absurd (nothing_in n (subst (λ x. Contains x.names n) g.1 h))
     | inl g ↦
         let is : n ≡ down = only down n (subst (λ x. Contains x.names n) g.1 h) in
         (fresh_leaf b, subst (λ x. fresh_store a b x.id ≡ Some (fresh_leaf b)) (sym is) leaf_there, record { level = ap (λ x. x.level) (sym is); lo = ap (λ x. x.lo) (sym is); hi = ap (λ x. x.hi) (sym is) })
@@ -221,7 +219,7 @@ fresh_units a b k v = (
   λ u.
       let (i, c, tc, has) = u in
       elim (fresh_cell a b i c tc) [
-        | inl h ↦ absurd (nothing (k, v) (subst (λ x. Contains x.units (k, v)) h.1 has))
+        | inl h ↦ absurd (nothing_in (k, v) (subst (λ x. Contains x.units (k, v)) h.1 has))
         | inr h ↦
             let e = only (least, Stat root_attr) (k, v) (subst (λ x. Contains x.units (k, v)) h.1 has) in
             let at : k ≡ least = ap (λ x. x.0) e in

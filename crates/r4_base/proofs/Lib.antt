@@ -1,4 +1,5 @@
 pub mod Numbers
+pub mod Choices
 pub mod Lent
 pub mod Logs
 pub mod Members

@@ -2,7 +2,7 @@
 use Rattle.std.proofs.Common.{◌≡◌, ◌≢◌, ◌⊎◌, inl, inr, ⊎_elim, ℕ, zero, suc, ◌+◌, ◌-◌, ◌≤◌, Bool, true, false, cond, eqb, leb, ltb, List, [], ◌∷◌, ◌++◌, length, Option, Some, None, Result, Ok, Err, refl, sym, ap, subst, ◌∙◌, arith, length-append}
 use Rattle.std.specs.Prelude.{All, Contains, MatchResult, ◌&&◌, not}
 use Rattle.std.specs.List.{list_all}
-use Rattle.std.proofs.lemmas.Bool.{cases_eq, leb-true, le-leb, eqb-true, eq-eqb, ltb-false}
+use Rattle.std.proofs.lemmas.Bool.{and_from, and_parts, cases_eq, eq-eqb, eqb-true, le-leb, leb-true, ltb-false, not-false}
 use Rattle.std.proofs.lemmas.List.Elements.{All-weaker}
 use Rattle.std.proofs.lemmas.List.Sums.{AllPass-from_list_all, list_all-from_AllPass}
 use Rattle.std.proofs.lemmas.Bool.Decides.{nat_tests}
@@ -35,18 +35,11 @@ in_original n b (inl is) = grind (arith, nat_tests)
 in_original n b (inr (inl is)) = grind (arith, nat_tests)
 in_original n b (inr (inr within)) = grind (arith, nat_tests)
 
-and_both : (a b : Bool) → (a && b) ≡ true → (a ≡ true) × (b ≡ true)
-and_both true b e = (refl, e)
-and_both false b e = absurd (let no : false ≡ true = e in cc)
-
-both_and : (a b : Bool) → a ≡ true → b ≡ true → (a && b) ≡ true
-both_and a b e f = rw (e, f) refl
-
 pub pair_in : (n : ℕ) (p : ℕ × ℕ) → pair_is_in_range n p ≡ true → PairInRange n p
-pair_in n p e = let both = and_both (is_original_number n p.0) (is_log_block n p.1) e in (original_in n p.0 both.0, log_block_in n p.1 both.1)
+pair_in n p e = let both = and_parts (is_original_number n p.0) (is_log_block n p.1) e in (original_in n p.0 both.0, log_block_in n p.1 both.1)
 
 pub in_pair : (n : ℕ) (p : ℕ × ℕ) → PairInRange n p → pair_is_in_range n p ≡ true
-in_pair n p h = both_and (is_original_number n p.0) (is_log_block n p.1) (in_original n p.0 h.0) (in_log_block n p.1 h.1)
+in_pair n p h = and_from (is_original_number n p.0) (is_log_block n p.1) (in_original n p.0 h.0) (in_log_block n p.1 h.1)
 
 -- ---- what an Ok tells
 
@@ -62,10 +55,6 @@ test_ok false r f y e = absurd (cc)
 test_no : {X : Type 0} (t : Bool) (r : Result X Refusal) (f : Refusal) (y : X) → cond t (Err f) r ≡ Ok y → (t ≡ false) × (r ≡ Ok y)
 test_no true r f y e = absurd (cc)
 test_no false r f y e = (refl, e)
-
-not_no : (t : Bool) → not t ≡ false → t ≡ true
-not_no true e = refl
-not_no false e = absurd (cc)
 
 apart_by : (a b : ℕ) → eqb a b ≡ false → a ≢ b
 apart_by a b e is = let same : eqb a b ≡ true = eq-eqb a b is in absurd (cc)
@@ -83,7 +72,7 @@ checked_head_ok n at None h e = absurd (cc)
 checked_head_ok n at (Some g) h e =
     let t = test_ok (leb 2 g.total && leb g.total n) (Ok g) _ h e in
     let same : g ≡ h = cc (t.1) in
-    let both = and_both (leb 2 g.total) (leb g.total n) t.0 in
+    let both = and_parts (leb 2 g.total) (leb g.total n) t.0 in
     (ap Some same, subst (λ (x : TxHead). 2 ≤ x.total) same (leb-true 2 g.total both.0), subst (λ (x : TxHead). x.total ≤ n) same (leb-true g.total n both.1))
 
 pub head_at_ok : (n : ℕ) (image : Image) (holder at : ℕ) (h : TxHead) → head_at n image holder at ≡ Ok h → IsHeadAt n image at h
@@ -96,7 +85,7 @@ head_at_ok n image holder at h e =
 pub head_at_all : (n : ℕ) (image : Image) (holder at : ℕ) (h : TxHead) → IsHeadAt n image at h → head_at n image holder at ≡ Ok h
 unfolding head_at
 head_at_all n image holder at h is =
-    rw (in_log_block n at is.in_range, is.says, both_and (leb 2 h.total) (leb h.total n) (le-leb 2 h.total is.some) (le-leb h.total n is.fits)) refl
+    rw (in_log_block n at is.in_range, is.says, and_from (leb 2 h.total) (leb h.total n) (le-leb 2 h.total is.some) (le-leb h.total n is.fits)) refl
 
 -- the heads of a chain
 abbrev pub HasHeads : ℕ → Image → (footer at : ℕ) → List Head → Type 0
@@ -169,9 +158,9 @@ record_at_ok n image id serial before holder at r e =
           record {
             in_range = range;
             says = is;
-            same = eqb-true s.id id (not_no _ a.0);
-            in_order = eqb-true s.serial serial (not_no _ b.0);
-            pairs = all_in n s.pairs (not_no _ c.0);
+            same = eqb-true s.id id (not-false _ a.0);
+            in_order = eqb-true s.serial serial (not-false _ b.0);
+            pairs = all_in n s.pairs (not-false _ c.0);
           },
           ltb-false n (before + length s.pairs) d.0,
         )

@@ -1,6 +1,6 @@
 -- Names and the numbers of their keys: what a key spells, and that names of one key are equal.
 use Rattle.std.proofs.Common.{◌≡◌, ◌≢◌, ℕ, zero, suc, ◌+◌, ◌-◌, ◌*◌, ◌/◌, ◌%◌, ◌^◌, ◌<◌, ◌≤◌, Bool, true, false, not, cond, eqb, ltb, ◌&&◌, ◌||◌, List, [], ◌∷◌, ◌++◌, length, get_or, drop, Option, Some, None, refl, sym, ap, subst, ◌∙◌, arith, inl, inr}
-use Rattle.std.proofs.lemmas.Bool.{cases_lt, eqb-false, ltb-false, le-ltb, lt-ltb, eq-eqb, ne_eqb}
+use Rattle.std.proofs.lemmas.Bool.{and_parts, cases_lt, eq-eqb, eqb-false, le-ltb, lt-ltb, ltb-false, ne_eqb}
 use Rattle.std.proofs.lemmas.List.{get_or_past, drop-drop, drop_all, get_or-drop}
 use Rattle.std.proofs.lemmas.List.Sums.{take_while-cons}
 use Rattle.std.proofs.lemmas.Nat.{div-mul-add, mul-mod_first}
@@ -112,11 +112,6 @@ padded_23 s =
 
 -- ---- the bytes of a name
 
-pub both : (p q : Bool) → (p && q) ≡ true → (p ≡ true) × (q ≡ true)
-both true true e = (refl, refl)
-both true false e = absurd cc
-both false q e = absurd cc
-
 bytes_drop : (i : ℕ) (s : List ℕ) → AreBytes s → AreBytes (drop i s)
 bytes_drop i s h k = rw (get_or-drop i s k 0) (h (i + k))
 
@@ -129,7 +124,7 @@ none_bad i x s e = split (is_name_byte x) refl
     split false is = let bad : Some i ≡ None = rw is at e in absurd cc
 
 no_zero : (x : ℕ) → is_name_byte x ≡ true → not (eqb x 0) ≡ true
-no_zero x e = (both (not (eqb x 0)) (not (eqb x 47)) e).0
+no_zero x e = (and_parts (not (eqb x 0)) (not (eqb x 47)) e).0
 
 -- what a name and zeros behind it say up to the first zero
 taken : (n i : ℕ) (s : List ℕ) → length s ≤ n → bad_byte i s ≡ None → take_while (λ x. not (eqb x 0)) (padded n s) ≡ s

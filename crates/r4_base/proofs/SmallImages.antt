@@ -4,7 +4,7 @@ use mathlib.Core.Path.{refl, sym, ap, subst, ◌∙◌}
 use mathlib.Core.Logic.{inl, inr}
 use native.Mathlib.Omega.{arith}
 use Rattle.std.proofs.Math.Nat.{le_refl}
-use Rattle.std.proofs.lemmas.Bool.{cases_lt, eqb-true, ltb-true, le-leb}
+use Rattle.std.proofs.lemmas.Bool.{and_parts, cases_lt, eqb-true, le-leb, ltb-true, not-true}
 use Rattle.std.proofs.lemmas.Bool.Decides.{nat_tests}
 use Rattle.std.proofs.lemmas.List.{append-nil}
 use Rattle.std.specs.Option.{option_map, option_or}
@@ -35,9 +35,10 @@ use Rattle.r4_base.proofs.Images.{same_Ok}
 use Rattle.r4_base.proofs.Numbers.{number_at-bytes, length-number_bytes}
 use Rattle.r4_base.proofs.Stats.{attr_again}
 use Rattle.r4_base.proofs.Trees.{one_cell, has_parent}
-use Rattle.r4_base.proofs.FreshTree.{nothing, only}
+use Rattle.r4_base.proofs.FreshTree.{only}
 use Rattle.r4_base.proofs.FreshVolume.{none_in_empty, root_rank, same_attr}
 use Rattle.r4_base.proofs.Contents.{decided}
+use Rattle.r4_base.proofs.Choices.{nothing_in}
 
 first_none : {F : Type 0} (o p : Option F) → option_or o p ≡ None → o ≡ None
 first_none None p e = refl
@@ -46,15 +47,6 @@ first_none (Some f) p e = e
 passed : {F : Type 0} (t : Bool) (f : F) → ◌≡◌ {A = Option F} (if t then None else Some f) None → t ≡ true
 passed true f e = refl
 passed false f e = absurd cc
-
-both_true : (p q : Bool) → (p && q) ≡ true → (p ≡ true) × (q ≡ true)
-both_true true true e = (refl, refl)
-both_true true false e = absurd cc
-both_true false q e = absurd cc
-
-not_true : (p : Bool) → not p ≡ true → p ≡ false
-not_true false e = refl
-not_true true e = absurd cc
 
 unmapped : {E : Type 0} (f : E → CellFault) (o : Option E) → option_map f o ≡ None → o ≡ None
 unmapped f None e = refl
@@ -152,7 +144,7 @@ module _ (n : ℕ) (image : Image) (m : Content) (super : Super40) (to : ℕ) (c
   ]
 
   within : (nat_lt to c.super.block_count ≡ true) × (is_fixed c.super.block_count to ≡ false)
-  within = let b = both_true (nat_lt to c.super.block_count) (not (is_fixed c.super.block_count to)) (ap (names_block false c.super.block_count) (sym (pointer_is to h.fits high)) ∙ named) in (b.0, not_true _ b.1)
+  within = let b = and_parts (nat_lt to c.super.block_count) (not (is_fixed c.super.block_count to)) (ap (names_block false c.super.block_count) (sym (pointer_is to h.fits high)) ∙ named) in (b.0, not-true _ b.1)
 
   -- a pointer past the block count, or to a fixed block
   pub below_count : to < super.block_count
@@ -203,7 +195,7 @@ module _ (n : ℕ) (image : Image) (m : Content) (super : Super40) (to : ℕ) (c
     root_names x has = only (down_to to) x (subst (λ (l : List Name). Contains l x) (ap (λ (y : Cell Value). y.names) says ∙ twig_names to (block_at image 22) h.fits high h.twig) has)
 
     no_units : (u : ℕ × Value) → Contains r.units u → ⊥
-    no_units u has = nothing u (subst (λ (l : List (ℕ × Value)). Contains l u) (ap (λ (y : Cell Value). y.units) says ∙ twig_units to (block_at image 22) h.twig) has)
+    no_units u has = nothing_in u (subst (λ (l : List (ℕ × Value)). Contains l u) (ap (λ (y : Cell Value). y.units) says ∙ twig_units to (block_at image 22) h.twig) has)
 
     -- above the leaves there is the root alone
     one_twig : (i : ℕ) (d : Cell Value) → c.store i ≡ Some d → 2 ≤ d.level → d ≡ r

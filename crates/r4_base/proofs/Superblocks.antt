@@ -1,7 +1,7 @@
 -- The superblocks: what is spelled is read, and what is read without a fault is lawful.
 use Rattle.std.proofs.Common.{◌≡◌, ℕ, ◌+◌, ◌-◌, ◌^◌, ◌≤◌, Bool, true, false, not, ◌&&◌, cond, eqb, ltb, leb, List, [], ◌∷◌, ◌++◌, length, take, drop, replicate, Ok, Err, refl, sym, ap, ◌∙◌, arith}
 use Rattle.std.specs.Prelude.{slice_range}
-use Rattle.std.proofs.lemmas.Bool.{le-leb, lt-ltb, eq-eqb, leb-true, ltb-true, eqb-true}
+use Rattle.std.proofs.lemmas.Bool.{and_from, and_parts, eq-eqb, eqb-true, le-leb, leb-true, lt-ltb, ltb-true, not-true, not_from_false}
 use Rattle.std.proofs.lemmas.List.{append_assoc, length-append, length-replicate, drop_at, take_at, replicate-append-replicate}
 use Rattle.r4_base.specs.Bytes.{overwrite, fields_bytes, FieldsFit, HasFields, put_all}
 use Rattle.r4_base.proofs.Numbers.{fields_read, overwrite_next, put_all-blank, length-fields_bytes}
@@ -125,23 +125,17 @@ length-super_block s =
 lawful_height : (n : ℕ) (s : Super40) → IsLawfulSuper n s → height_is_good s ≡ true
 lawful_height n s l = rw (le-leb _ _ l.height.0, le-leb _ _ l.height.1) refl
 
-both_true : (p q : Bool) → p ≡ true → q ≡ true → (p && q) ≡ true
-both_true p q e f = rw (e, f) refl
-
-not_true : (p : Bool) → p ≡ false → not p ≡ true
-not_true p e = rw e refl
-
 lawful_blocks : (n : ℕ) (s : Super40) → IsLawfulSuper n s → block_count_is_good n s ≡ true
 lawful_blocks n s l = rw (le-leb _ _ l.blocks.0, le-leb _ _ l.blocks.1, le-leb _ _ l.blocks.2) refl
 
 lawful_root : (n : ℕ) (s : Super40) → IsLawfulSuper n s → root_is_good s ≡ true
-lawful_root n s l = both_true (leb 22 s.root_block && ltb s.root_block s.block_count) (not (is_fixed s.block_count s.root_block)) (both_true _ _ (le-leb _ _ l.root.0) (lt-ltb _ _ l.root.1)) (not_true _ l.root_not_fixed)
+lawful_root n s l = and_from (leb 22 s.root_block && ltb s.root_block s.block_count) (not (is_fixed s.block_count s.root_block)) (and_from _ _ (le-leb _ _ l.root.0) (lt-ltb _ _ l.root.1)) (not_from_false _ l.root_not_fixed)
 
 lawful_oid : (n : ℕ) (s : Super40) → IsLawfulSuper n s → oid_is_good s ≡ true
 lawful_oid n s l = rw (le-leb _ _ l.next_id.0, lt-ltb _ _ l.next_id.1) refl
 
 lawful_counts : (n : ℕ) (s : Super40) → IsLawfulSuper n s → counts_are_good n s ≡ true
-lawful_counts n s l = both_true (block_count_is_good n s && root_is_good s) (oid_is_good s) (both_true _ _ (lawful_blocks n s l) (lawful_root n s l)) (lawful_oid n s l)
+lawful_counts n s l = and_from (block_count_is_good n s && root_is_good s) (oid_is_good s) (and_from _ _ (lawful_blocks n s l) (lawful_root n s l)) (lawful_oid n s l)
 
 -- a block with the magic, the mark and lawful fields is read
 pub lawful_read : (n : ℕ) (s : Super40) (b : List ℕ) → super_fields b ≡ s → stands_at 52 super_magic b ≡ true → stands_at 88 profile_mark b ≡ true → IsLawfulSuper n s → super_of n b ≡ Ok s
@@ -156,15 +150,6 @@ super_again n s fit l = lawful_read n s (super_block s) (fields_again s fit) (ma
 
 -- ---- what is read without a fault
 
-both : (p q : Bool) → (p && q) ≡ true → (p ≡ true) × (q ≡ true)
-both true true e = (refl, refl)
-both true false e = absurd cc
-both false q e = absurd cc
-
-is_false : (p : Bool) → not p ≡ true → p ≡ false
-is_false true e = absurd cc
-is_false false e = refl
-
 passed : (p q r t : Bool) (s s' : Super40) → cond (not p) (Err Magic) (cond (not q) (Err Profile) (cond (not r) (Err Height) (cond (not t) (Err Count) (Ok s)))) ≡ Ok s' → (p ≡ true) × (q ≡ true) × (r ≡ true) × (t ≡ true) × (s ≡ s')
 passed false q r t s s' e = absurd cc
 passed true false r t s s' e = absurd cc
@@ -174,23 +159,23 @@ passed true true true true s s' e = (refl, refl, refl, refl, (cc))
 
 tests_lawful : (n : ℕ) (s : Super40) (mark : Bool) → (mark && eqb s.flags 1 && eqb s.node_pid 0) ≡ true → height_is_good s ≡ true → counts_are_good n s ≡ true → IsLawfulSuper n s
 tests_lawful n s mark profile height counts =
-    let p = both (mark && eqb s.flags 1) (eqb s.node_pid 0) profile in
-    let flags = both mark (eqb s.flags 1) p.0 in
-    let h = both (leb 2 s.tree_height) (leb s.tree_height 8) height in
-    let c = both (block_count_is_good n s && root_is_good s) (oid_is_good s) counts in
-    let c' = both (block_count_is_good n s) (root_is_good s) c.0 in
-    let b = both (leb 64 s.block_count && leb s.block_count 1048576) (leb s.block_count n) c'.0 in
-    let b' = both (leb 64 s.block_count) (leb s.block_count 1048576) b.0 in
-    let r = both (leb 22 s.root_block && ltb s.root_block s.block_count) (not (is_fixed s.block_count s.root_block)) c'.1 in
-    let r' = both (leb 22 s.root_block) (ltb s.root_block s.block_count) r.0 in
-    let o = both (leb 65536 s.oid) (ltb s.oid (2 ^ 60)) c.1 in
+    let p = and_parts (mark && eqb s.flags 1) (eqb s.node_pid 0) profile in
+    let flags = and_parts mark (eqb s.flags 1) p.0 in
+    let h = and_parts (leb 2 s.tree_height) (leb s.tree_height 8) height in
+    let c = and_parts (block_count_is_good n s && root_is_good s) (oid_is_good s) counts in
+    let c' = and_parts (block_count_is_good n s) (root_is_good s) c.0 in
+    let b = and_parts (leb 64 s.block_count && leb s.block_count 1048576) (leb s.block_count n) c'.0 in
+    let b' = and_parts (leb 64 s.block_count) (leb s.block_count 1048576) b.0 in
+    let r = and_parts (leb 22 s.root_block && ltb s.root_block s.block_count) (not (is_fixed s.block_count s.root_block)) c'.1 in
+    let r' = and_parts (leb 22 s.root_block) (ltb s.root_block s.block_count) r.0 in
+    let o = and_parts (leb 65536 s.oid) (ltb s.oid (2 ^ 60)) c.1 in
     record {
       large_keys = eqb-true _ _ flags.1;
       nodes = eqb-true _ _ p.1;
       height = (leb-true _ _ h.0, leb-true _ _ h.1);
       blocks = (leb-true _ _ b'.0, leb-true _ _ b'.1, leb-true _ _ b.1);
       root = (leb-true _ _ r'.0, ltb-true _ _ r'.1);
-      root_not_fixed = is_false _ r.1;
+      root_not_fixed = not-true _ r.1;
       next_id = (leb-true _ _ o.0, ltb-true _ _ o.1);
     }
 

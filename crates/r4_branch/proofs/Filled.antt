@@ -1,12 +1,13 @@
 -- A twig that is filled: an empty one, and one that may stand.
 use Rattle.std.proofs.Common.{◌≡◌, ◌⊎◌, inl, inr, ℕ, zero, suc, ◌+◌, ◌^◌, ◌<◌, ◌≤◌, Bool, true, false, ◌&&◌, List, [], ◌∷◌, cond, refl, sym, ap, subst, ◌∙◌, arith}
 use Rattle.std.specs.Prelude.{slice_get, Some, None, ◌==◌, nat_le, nat_lt, not, ◌||◌}
-use Rattle.std.proofs.lemmas.Bool.{eq-eqb, le-leb, lt-ltb, ne_eqb}
+use Rattle.std.proofs.lemmas.Bool.{and_from, eq-eqb, le-leb, lt-ltb, ne_eqb}
 use Rattle.r4_base.specs.Cell.{cell_fault, item_end, items_in_fault, names_in, next_key, range_is_good, units_in}
 use Rattle.r4_base.specs.Extents.{units_of as units_in_body}
 use Rattle.r4_base.specs.Key.{rank}
 use Rattle.r4_base.specs.Node.{Item, KeysRise, PluginsFit, count_of, is_empty_branch, items_of, level_of, node_fault}
 use Rattle.r4_base.specs.declared.node.NodeFault.TheVariants.{Empty}
+use Rattle.r4_base.proofs.Choices.{none_at}
 use Rattle.r4_node40.specs.Laid.{IsFresh}
 use Rattle.r4_node40.proofs.Accepted.{accepted}
 use Rattle.r4_twig.proofs.Faults.{body_lawful}
@@ -34,10 +35,6 @@ item_has_end x s = by_plugin s.plugin
         let blocks = some_blocks (units_in_body x.body) (omega (arith, long, even, n)) lawful.2 in
         omega (arith, end, blocks)
 
-both : (a b : Bool) → a ≡ true → b ≡ true → (a && b) ≡ true
-both true b p q = q
-both false b p q = absurd cc
-
 pub lie_order : (from to : ℕ) (xs : List Item) → Lie from to xs → from ≤ to
 lie_order from to [] h = h
 lie_order from to (x ∷ xs) h = let r = lie_order (item_end x) to xs h.2 in let own = item_has_end x h.1 in let low = h.0 in omega (arith, r, own, low)
@@ -64,7 +61,7 @@ lie_good from lo hi i (x ∷ xs) le first h =
     let b : nat_lt (rank x.key) hi ≡ true = lt-ltb _ _ (omega (arith, own, order)) in
     let d : nat_le (item_end x) hi ≡ true = le-leb _ _ order in
     let e : nat_le (item_end x) (next_key hi xs) ≡ true = le-leb _ _ next in
-    let good : range_is_good 2 lo hi (next_key hi xs) i x ≡ true = both _ _ (both _ _ (both _ _ (both _ _ (both _ _ a b) h.1.fits) d) e) (begins i first) in
+    let good : range_is_good 2 lo hi (next_key hi xs) i x ≡ true = and_from _ _ (and_from _ _ (and_from _ _ (and_from _ _ (and_from _ _ a b) h.1.fits) d) e) (begins i first) in
     let rest = lie_good (item_end x) lo hi (i + 1) xs (omega (arith, le, low, own)) (λ z. absurd (omega (arith, z))) h.2 in
     rw (body, good) rest
   where
@@ -85,9 +82,6 @@ may_stand lo to hi ps b f some first le =
     never : (t : Bool) → (t && false) ≡ false
     never true = refl
     never false = refl
-
-none_at : (k : ℕ) (x : Item) → slice_get [] k ≡ Some x → ⊥
-none_at k x e = absurd cc
 
 -- a fresh twig has no piece
 pub fresh_filled : (lo mkfs_id : ℕ) (b : List ℕ) → IsFresh b 2 mkfs_id → IsFilled lo lo [] b

@@ -117,7 +117,7 @@ names_append hi (p ∷ ps) qs =
     (λ j. part_names (rank p.key) (next_append hi ps qs j) p.part ++ names_append hi ps qs j)
     ∙ sym (append_assoc (part_names (rank p.key) (next_of (next_of hi qs) ps) p.part) (names_of (next_of hi qs) ps) (names_of hi qs))
 
-units_append : (ps qs : List TwigPiece) → units_of (ps ++ qs) ≡ units_of ps ++ units_of qs
+pub units_append : (ps qs : List TwigPiece) → units_of (ps ++ qs) ≡ units_of ps ++ units_of qs
 unfolding units_of
 units_append [] qs = refl
 units_append (p ∷ ps) qs = ap (λ us. part_units (rank p.key) p.part ++ us) (units_append ps qs) ∙ sym (append_assoc (part_units (rank p.key) p.part) (units_of ps) (units_of qs))

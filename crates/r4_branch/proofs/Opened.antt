@@ -8,6 +8,7 @@ use Rattle.std.proofs.lemmas.List.Edits.{insert_end}
 use Rattle.std.proofs.lemmas.List.Sums.{sum_by-append}
 use Rattle.std.proofs.lemmas.Option.{same_Some}
 use Rattle.r4_base.specs.Node.{Item, count_of, end_at, fits_level, item_at, items_of, key_at, level_of, mkfs_id_of, offset_at, plugin_at}
+use Rattle.r4_base.proofs.Choices.{get_end}
 use Rattle.r4_node40.specs.Edits.{InsertsItem, ResizesItem, growth, resized}
 use Rattle.r4_node40.specs.Laid.{IsLaid, IsNode, WritesBody, room_of, span_at}
 use Rattle.r4_node40.proofs.Accepted.{space}
@@ -15,24 +16,12 @@ use Rattle.r4_node40.proofs.Kept.{node_inserted, node_resized, node_written}
 use Rattle.r4_node40.proofs.Laid.{get_or-items_of, length-items_of}
 use Rattle.r4_branch.specs.Filling.{Holds, IsPlace, Opens, need}
 
--- where a call went well, what it promises then
-pub went_well : {T E : Type 0} (r : Result T E) (P : Type 0) → IsOk r → OnOk r P → P
-went_well (Ok v) P ok p = p
-went_well (Err e) P ok p = let no_value : false ≡ true = ok in absurd cc
-
-pub room_small : (b : List ℕ) → IsLaid b → room_of b ≤ 4068
-room_small b laid = let s = space b laid in omega (arith, s)
-
 weight : List Item → ℕ
 weight items = sum_by (λ (x : Item). 38 + length x.body) items
 
 weight_last : (before : List Item) (x : Item) → weight (before ++ x ∷ []) ≡ weight before + 38 + length x.body
 unfolding weight
 weight_last before x = let h = sum_by-append (λ (y : Item). 38 + length y.body) before (x ∷ []) in omega (arith, h)
-
-get_end : (xs : List Item) (x d : Item) → get_or (xs ++ x ∷ []) (length xs) d ≡ x
-get_end [] x d = refl
-get_end (y ∷ xs) x d = get_end xs x d
 
 set_end : (xs : List Item) (x y : Item) (i : ℕ) → i ≡ length xs → slice_set (xs ++ x ∷ []) i y ≡ xs ++ y ∷ []
 set_end xs x y i is = set-append_right xs (x ∷ []) i i y (sym is) (omega arith) ∙ ap (λ k. xs ++ set (x ∷ []) k y) (let e : i - i ≡ 0 = omega arith in e)

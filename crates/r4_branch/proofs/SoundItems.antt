@@ -2,7 +2,7 @@
 use Rattle.std.proofs.Common.{◌≡◌, ◌⊎◌, inl, inr, ℕ, ◌+◌, ◌*◌, ◌^◌, ◌≤◌, Bool, true, false, List, [], ◌∷◌, length, refl, sym, ap}
 use Rattle.std.specs.Prelude.{Option, Some, None, ◌==◌, ◌&&◌, nat_le, if◌then◌else◌}
 use Rattle.std.specs.Option.{option_map}
-use Rattle.std.proofs.lemmas.Bool.{eqb-true, leb-true}
+use Rattle.std.proofs.lemmas.Bool.{and_parts, eqb-true, leb-true}
 use Rattle.r4_base.specs.Bytes.{number_at}
 use Rattle.r4_base.specs.Cell.{block_names, hole_bytes, item_body_fault, item_end, item_names, item_units, names_block}
 use Rattle.r4_base.specs.Extents.{blocks_in, body_fault, pointer_of, units_of}
@@ -10,16 +10,8 @@ use Rattle.r4_base.specs.Key.{offset_of, rank}
 use Rattle.r4_base.specs.Node.{Item}
 use Rattle.r4_base.specs.declared.items.CellFault.{CellFault}
 use Rattle.r4_base.specs.declared.items.CellFault.TheVariants.{Extent, Pointer}
-use Rattle.r4_node40.proofs.Faults.{and_true}
+use Rattle.r4_base.proofs.Choices.{chosen, none_under}
 use Rattle.r4_branch.specs.Items.{IsSoundItem}
-
-none_under : {A B : Type 0} (f : A → B) (o : Option A) → option_map f o ≡ None → o ≡ None
-none_under f None e = refl
-none_under f (Some x) e = absurd cc
-
-chosen : (t : Bool) (f : CellFault) → (if t then None else Some f) ≡ None → t ≡ true
-chosen true f h = refl
-chosen false f h = absurd cc
 
 pub record IsExtentItem (it : Item) : Type 0 where
   pub body : body_fault true (2 ^ 64) it.body ≡ None
@@ -58,7 +50,7 @@ read_pointer s e = by_test (length s == 8 && nat_le 22 (number_at 8 0 s)) refl e
   where
     by_test : (t : Bool) → t ≡ (length s == 8 && nat_le 22 (number_at 8 0 s)) → names_block true (2 ^ 64) (if t then Some (number_at 8 0 s) else None) ≡ true
         → (length s ≡ 8) × ((if t then Some (number_at 8 0 s) else None) ≡ Some (number_at 8 0 s))
-    by_test true is h = let both = and_true (length s == 8) (nat_le 22 (number_at 8 0 s)) (sym is) in (eqb-true _ _ both.0, refl)
+    by_test true is h = let both = and_parts (length s == 8) (nat_le 22 (number_at 8 0 s)) (sym is) in (eqb-true _ _ both.0, refl)
     by_test false is h = absurd cc
 
 pub pointer_item : (it : Item) → it.plugin ≡ 3 → IsSoundItem it → IsPointerItem it

@@ -3,7 +3,7 @@ use Rattle.std.proofs.Common.{◌≡◌, ◌⊎◌, ℕ, zero, suc, ◌+◌, ◌
 use Rattle.std.specs.Prelude.{slice_get, Option, Some, None, ◌==◌, ◌&&◌, nat_le, nat_lt, if◌then◌else◌}
 use Rattle.std.specs.List.{sum_by}
 use Rattle.std.specs.Option.{option_map, option_or}
-use Rattle.std.proofs.lemmas.Bool.{eqb-true, eqb-false, leb-true}
+use Rattle.std.proofs.lemmas.Bool.{and_parts, eqb-false, eqb-true, leb-true}
 use Rattle.std.proofs.lemmas.List.Sums.{sum_by-cons}
 use Rattle.std.proofs.lemmas.Option.{same_Some, slice_get_within}
 use Rattle.r4_base.specs.Cell.{cell_fault, item_body_fault, item_end, items_in_fault, next_key, offsets_fit, range_is_good}
@@ -12,24 +12,12 @@ use Rattle.r4_base.specs.Node.{Item, count_of, fits_level, item_at, items_of, le
 use Rattle.r4_base.specs.declared.items.CellFault.{CellFault}
 use Rattle.r4_base.specs.declared.items.CellFault.TheVariants.{Node, Level, Range}
 use Rattle.r4_base.specs.declared.node.NodeFault.{NodeFault}
+use Rattle.r4_base.proofs.Choices.{chosen, none_of_node, or_none}
 use Rattle.r4_node40.specs.Laid.{IsNode}
 use Rattle.r4_node40.proofs.Accepted.{good, space, takes}
-use Rattle.r4_node40.proofs.Faults.{and_true}
 use Rattle.r4_node40.proofs.Laid.{get-items_of, key_fits, length-items_of}
 use Rattle.r4_branch.specs.Items.{Lie}
 use Rattle.r4_branch.specs.Pieces.{MayStand}
-
-or_none : (a b : Option CellFault) → option_or a b ≡ None → (a ≡ None) × (b ≡ None)
-or_none None b h = (refl, h)
-or_none (Some f) b h = absurd cc
-
-chosen : (t : Bool) (f : CellFault) → (if t then None else Some f) ≡ None → t ≡ true
-chosen true f h = refl
-chosen false f h = absurd cc
-
-none_under : (o : Option NodeFault) → option_map Node o ≡ None → o ≡ None
-none_under None h = refl
-none_under (Some f) h = absurd cc
 
 plugin_of : (p : ℕ) → (p == 3 || p == 5) ≡ true → (p ≡ 3) ⊎ (p ≡ 5)
 plugin_of p h = by_test (p == 3) refl h
@@ -51,10 +39,10 @@ good_lie lo bound hi i (x ∷ xs) twig le h =
     let outer = or_none (item_body_fault true (2 ^ 64) x) _ h in
     let rest = or_none (if range_is_good 2 lo hi (next_key hi xs) i x then None else Some (Range i)) _ outer.1 in
     let range : range_is_good 2 lo hi (next_key hi xs) i x ≡ true = chosen _ (Range i) rest.0 in
-    let a = and_true _ _ range in
-    let b = and_true _ (nat_le (item_end x) (next_key hi xs)) a.0 in
-    let c = and_true _ (nat_le (item_end x) hi) b.0 in
-    let d = and_true _ (offsets_fit x) c.0 in
+    let a = and_parts _ _ range in
+    let b = and_parts _ (nat_le (item_end x) (next_key hi xs)) a.0 in
+    let c = and_parts _ (nat_le (item_end x) hi) b.0 in
+    let d = and_parts _ (offsets_fit x) c.0 in
     let own = twig 0 x refl in
     (le, record { plugin = own.plugin; body = outer.0; fits = d.1; key = own.key; short = own.short }, good_lie lo (item_end x) hi (i + 1) xs (λ k. twig (suc k)) (leb-true _ _ b.1) rest.1)
 
@@ -65,7 +53,7 @@ first_is lo hi (x ∷ xs) some h =
     let outer = or_none (item_body_fault true (2 ^ 64) x) _ h in
     let rest = or_none (if range_is_good 2 lo hi (next_key hi xs) 0 x then None else Some (Range 0)) _ outer.1 in
     let range : range_is_good 2 lo hi (next_key hi xs) 0 x ≡ true = chosen _ (Range 0) rest.0 in
-    let a = and_true _ _ range in
+    let a = and_parts _ _ range in
     eqb-true (rank x.key) lo a.1
 
 part_of : (xs : List Item) (k : ℕ) (x : Item) → slice_get xs k ≡ Some x → takes x ≤ sum_by takes xs
@@ -80,7 +68,7 @@ module _ (lo hi : ℕ) (b : List ℕ) (stand : MayStand lo hi b) where
   parts =
       let node = or_none (option_map Node (node_fault b)) _ stand.1 in
       let level = or_none (if level_of b == 2 then None else Some Level) _ node.1 in
-      (none_under (node_fault b) node.0, eqb-true _ _ (chosen _ Level level.0), level.1)
+      (none_of_node (node_fault b) node.0, eqb-true _ _ (chosen _ Level level.0), level.1)
 
   pub is_node : IsNode b
   is_node = (good b stand.0 parts.0).0

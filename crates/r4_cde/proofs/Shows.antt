@@ -1,6 +1,6 @@
 -- What a view of a directory item shows.
 use Rattle.std.proofs.Common.{◌≡◌, ℕ, ◌+◌, ◌-◌, ◌<◌, ◌≤◌, Bool, true, false, cond, eqb, leb, ◌&&◌, List, length, get_or, Some, refl, sym, ap, ◌∙◌, arith}
-use Rattle.std.proofs.lemmas.Bool.{leb-true}
+use Rattle.std.proofs.lemmas.Bool.{and_parts, leb-true}
 use Rattle.std.specs.Option.{is_none}
 use Rattle.std.specs.Prelude.{slice_get, slice_range}
 use Rattle.r4_base.specs.declared.key.Key.{Key}
@@ -9,8 +9,9 @@ use Rattle.r4_base.specs.Key.{rank}
 use Rattle.r4_base.specs.Name.{is_long_key, is_long_name, name_fault, key_of_name, dir_of_key}
 use Rattle.r4_base.specs.Dir.{dir_fault, name_of, target_of, entry_at, entry_body, entry_count, entry_edge, entry_header, entry_key_at, entry_name_is_good, entry_offset, entries_of}
 use Rattle.r4_base.proofs.Dirs.{IsAccepted, accepted, edge_stands, get-entries_of}
-use Rattle.r4_base.proofs.Names.{both, is_none_none}
+use Rattle.r4_base.proofs.Names.{is_none_none}
 use Rattle.r4_base.proofs.Numbers.{length-slice_range, get_or-slice_range, slice_range-same}
+use Rattle.r4_base.proofs.Choices.{if_true}
 
 -- ---- a name, and an entry
 
@@ -25,16 +26,12 @@ pub long_name_is : (k : Key) (b : List ℕ) (from to : ℕ) → is_long_key k �
 unfolding name_of
 long_name_is k b from to long room inside = rw long (sym (range_of_range b from to room inside))
 
-if_long : (p x y : Bool) → p ≡ true → cond p x y ≡ true → x ≡ true
-if_long true x y e h = h
-if_long false x y e h = absurd cc
-
 pub named_room : (k : Key) (body : List ℕ) → entry_name_is_good k body ≡ true → is_long_key k ≡ true → 25 ≤ length body
 named_room k body e long =
-    let form = both (is_none (name_fault (name_of k body)) && eqb (rank (key_of_name (dir_of_key k) (name_of k body))) (rank k)) _ e in
-    let parts = if_long (is_long_key k) (is_long_name (name_of k body) && leb 25 (length body) && eqb (get_or body (length body - 1) 0) 0) (eqb (length body) 24) long form.1 in
-    let two = both (is_long_name (name_of k body) && leb 25 (length body)) (eqb (get_or body (length body - 1) 0) 0) parts in
-    leb-true _ _ (both (is_long_name (name_of k body)) (leb 25 (length body)) two.0).1
+    let form = and_parts (is_none (name_fault (name_of k body)) && eqb (rank (key_of_name (dir_of_key k) (name_of k body))) (rank k)) _ e in
+    let parts = if_true (is_long_key k) (is_long_name (name_of k body) && leb 25 (length body) && eqb (get_or body (length body - 1) 0) 0) (eqb (length body) 24) long form.1 in
+    let two = and_parts (is_long_name (name_of k body) && leb 25 (length body)) (eqb (get_or body (length body - 1) 0) 0) parts in
+    leb-true _ _ (and_parts (is_long_name (name_of k body)) (leb 25 (length body)) two.0).1
 
 pub good : (item : Key) (b : List ℕ) → is_none (dir_fault item b) ≡ true → IsAccepted item b
 good item b e = accepted item b (is_none_none (dir_fault item b) e)

@@ -15,6 +15,7 @@ use Rattle.r4_base.specs.declared.items.ExtentFault.{ExtentFault}
 use Rattle.r4_base.specs.declared.node.NodeFault.{NodeFault}
 use Rattle.r4_base.specs.declared.items.CellFault.{CellFault}
 use Rattle.r4_base.specs.declared.items.CellFault.TheVariants.{Node, Level, Range, Pointer, Extent}
+use Rattle.r4_base.proofs.Choices.{or_none}
 use Rattle.r4_node40.proofs.Laid.{get-items_of, length-items_of}
 use Rattle.r4_twig.proofs.Faults.{body_larger}
 
@@ -93,10 +94,6 @@ body_still in_memory blocks more it le h =
     (names_still in_memory blocks more (pointer_of it.body) le)
     (λ (e : option_map Extent (body_fault in_memory blocks it.body) ≡ None). ap (option_map Extent) (body_larger in_memory blocks more it.body le (named_extent _ e)))
     h
-
-pub or_none : (a b : Option CellFault) → option_or a b ≡ None → (a ≡ None) × (b ≡ None)
-or_none None b h = (refl, h)
-or_none (Some f) b h = absurd cc
 
 items_still : (in_memory : Bool) (blocks more level lo hi i : ℕ) (items : List Item) → blocks ≤ more → items_in_fault in_memory blocks level lo hi i items ≡ None → items_in_fault true more level lo hi i items ≡ None
 unfolding items_in_fault

@@ -10,7 +10,8 @@ use Rattle.r4_base.specs.Extents.{blocks_in, is_hole}
 use Rattle.r4_base.specs.Key.{rank}
 use Rattle.r4_base.specs.Tree.{Name, IsData}
 use Rattle.r4_base.proofs.Dirs.{accepted}
-use Rattle.r4_base.proofs.FreshTree.{nothing, only}
+use Rattle.r4_base.proofs.FreshTree.{only}
+use Rattle.r4_base.proofs.Choices.{nothing_in}
 use Rattle.r4_cell.proofs.Rows.{IsRow, row_append, row_name, row_none, row_unit, row_wider, row_zeros}
 
 -- ---- directories
@@ -69,18 +70,18 @@ extent_row k (u ∷ us) =
     row_append k mid (k + 4096 * (u.width + blocks_in us)) _ (block_names mid us) _ (hole_bytes mid us) (unit_row k u.start u.width (is_hole u)) rest
 
 run_data : (k start n : ℕ) (x : Name) → Contains (run_names k start n) x → IsData x
-run_data k start zero x h = absurd (nothing x h)
+run_data k start zero x h = absurd (nothing_in x h)
 run_data k start (suc n) x h = elim (Contains-append_cases (record { id = start; level = 0; lo = k; hi = k + 4096 } ∷ []) (run_names (k + 4096) (start + 1) n) x h) [
   | inl y ↦ ap (λ (m : Name). m.level) (only (record { id = start; level = 0; lo = k; hi = k + 4096 }) x y)
   | inr y ↦ run_data (k + 4096) (start + 1) n x y
 ]
 
 unit_data : (k start width : ℕ) (hole : Bool) (x : Name) → Contains (if hole then [] else run_names k start width) x → IsData x
-unit_data k start width true x h = absurd (nothing x h)
+unit_data k start width true x h = absurd (nothing_in x h)
 unit_data k start width false x h = run_data k start width x h
 
 pub extent_data : (k : ℕ) (us : List ExtentUnit) (x : Name) → Contains (block_names k us) x → IsData x
-extent_data k [] x h = absurd (nothing x h)
+extent_data k [] x h = absurd (nothing_in x h)
 extent_data k (u ∷ us) x h = elim (Contains-append_cases (if is_hole u then [] else run_names k u.start u.width) (block_names (k + 4096 * u.width) us) x h) [
   | inl y ↦ unit_data k u.start u.width (is_hole u) x y
   | inr y ↦ extent_data (k + 4096 * u.width) us x y

@@ -2,7 +2,7 @@
 use Rattle.std.proofs.Common.{◌≡◌, ◌⊎◌, inl, inr, ℕ, suc, ◌+◌, ◌*◌, ◌≤◌, Bool, true, false, not, ◌||◌, List, [], ◌∷◌, length, map, refl, sym, ap, subst, ◌∙◌, arith}
 use Rattle.std.specs.Prelude.{Option, Some, None, ◌==◌, nat_le, nat_lt, if◌then◌else◌}
 use Rattle.std.specs.Option.{option_map}
-use Rattle.std.proofs.lemmas.Bool.{leb-true}
+use Rattle.std.proofs.lemmas.Bool.{and_parts, leb-true}
 use Rattle.std.proofs.lemmas.Bool.Decides.{nat_tests}
 use Rattle.r4_base.specs.Cell.{block_names, bytes_from, entry_unit, hole_bytes, item_body_fault, item_end, item_names, item_units, items_in_fault, last_entry_key, names_block, names_in, next_key, offsets_fit, range_is_good, spans_in, units_in}
 use Rattle.r4_base.specs.Dir.{dir_fault, entries_of}
@@ -15,8 +15,7 @@ use Rattle.r4_base.specs.Value.{Value, Stat}
 use Rattle.r4_base.specs.declared.items.CellFault.{CellFault}
 use Rattle.r4_base.specs.declared.items.CellFault.TheVariants.{Dir, Pointer, Range}
 use Rattle.r4_base.specs.declared.items.DirFault.{DirFault}
-use Rattle.r4_node40.proofs.Faults.{and_true}
-use Rattle.r4_cell.proofs.Faults.{or_none}
+use Rattle.r4_base.proofs.Choices.{chosen, or_none}
 use Rattle.r4_cell.proofs.Rows.{row_bytes, row_unit, row_wider}
 use Rattle.r4_cell.proofs.Parts.{IsPart, part_append, part_extent, part_leaf, part_none, part_pointer}
 use Rattle.r4_cell.proofs.ItemRows.{dir_row, extent_data, extent_row}
@@ -130,18 +129,14 @@ first_is level lo i key h two is = grind (arith, nat_tests)
 
 has_range : (level lo hi next i : ℕ) (it : Item) → range_is_good level lo hi next i it ≡ true → HasRange level lo hi next i it
 has_range level lo hi next i it good =
-    let a = and_true _ (nat_le level 1 || not (i == 0) || rank it.key == lo) good in
-    let b = and_true _ (nat_le (item_end it) next) a.0 in
-    let c = and_true _ (nat_le (item_end it) hi) b.0 in
-    let d = and_true _ (offsets_fit it) c.0 in
-    let e = and_true (nat_le lo (rank it.key)) (nat_lt (rank it.key) hi) d.0 in
+    let a = and_parts _ (nat_le level 1 || not (i == 0) || rank it.key == lo) good in
+    let b = and_parts _ (nat_le (item_end it) next) a.0 in
+    let c = and_parts _ (nat_le (item_end it) hi) b.0 in
+    let d = and_parts _ (offsets_fit it) c.0 in
+    let e = and_parts (nat_le lo (rank it.key)) (nat_lt (rank it.key) hi) d.0 in
     record { low = leb-true _ _ e.0; end = leb-true _ _ b.1; first = first_is level lo i (rank it.key) a.1 }
 
 -- ---- items
-
-pub chosen : (t : Bool) (f : CellFault) → (if t then None else Some f) ≡ None → t ≡ true
-chosen true f h = refl
-chosen false f h = absurd cc
 
 pub record IsGoodItem (in_memory : Bool) (blocks level lo hi i : ℕ) (it : Item) (items : List Item) : Type 0 where
   pub body : item_body_fault in_memory blocks it ≡ None

@@ -2,7 +2,7 @@
 use Rattle.std.proofs.Common.{◌≡◌, ◌≢◌, inl, inr, ℕ, zero, suc, ◌+◌, ◌*◌, ◌<◌, ◌≤◌, Bool, true, false, not, ◌&&◌, List, [], ◌∷◌, ◌++◌, length, refl, sym, ap, subst, ◌∙◌, arith}
 use Rattle.std.specs.Prelude.{Option, Some, None, Contains, ◌==◌, nat_lt, if◌then◌else◌}
 use Rattle.std.specs.Option.{option_map}
-use Rattle.std.proofs.lemmas.Bool.{ltb-true, eqb-true, ne_eqb}
+use Rattle.std.proofs.lemmas.Bool.{and_parts, eqb-true, ltb-true, ne_eqb}
 use Rattle.std.proofs.lemmas.List.Elements.{Contains-append_cases}
 use Rattle.r4_base.specs.Bitmap.{is_fixed}
 use Rattle.r4_base.specs.Cell.{block_names, cell_fault, cell_of, item_body_fault, item_names, items_in_fault, names_block, names_in, next_key, pointer_names, run_names}
@@ -14,21 +14,21 @@ use Rattle.r4_base.specs.declared.items.Unit.{Unit as ExtentUnit}
 use Rattle.r4_base.specs.declared.items.ExtentFault.{ExtentFault}
 use Rattle.r4_base.specs.declared.items.CellFault.{CellFault}
 use Rattle.r4_base.specs.declared.items.CellFault.TheVariants.{Extent, Pointer}
-use Rattle.r4_base.proofs.FreshTree.{nothing, only}
-use Rattle.r4_node40.proofs.Faults.{and_true}
+use Rattle.r4_base.proofs.FreshTree.{only}
+use Rattle.r4_base.proofs.Choices.{nothing_in}
 use Rattle.r4_twig.proofs.Faults.{body_lawful}
 use Rattle.r4_cell.proofs.Items.{good_item}
 use Rattle.r4_cell.proofs.NodesAt.{node_at}
 
 run_below : (blocks k start width : ℕ) (x : Name) → start + width ≤ blocks → Contains (run_names k start width) x → x.id < blocks
-run_below blocks k start zero x le h = absurd (nothing x h)
+run_below blocks k start zero x le h = absurd (nothing_in x h)
 run_below blocks k start (suc width) x le h = elim (Contains-append_cases (record { id = start; level = 0; lo = k; hi = k + 4096 } ∷ []) (run_names (k + 4096) (start + 1) width) x h) [
   | inl y ↦ let is = ap (λ (m : Name). m.id) (only (record { id = start; level = 0; lo = k; hi = k + 4096 }) x y) in omega (arith, is, le)
   | inr y ↦ run_below blocks (k + 4096) (start + 1) width x (omega (arith, le)) y
 ]
 
 unit_below : (blocks k : ℕ) (u : ExtentUnit) (hole : Bool) (x : Name) → is_hole u ≡ hole → IsLawfulUnit false blocks u → Contains (if hole then [] else run_names k u.start u.width) x → x.id < blocks
-unit_below blocks k u true x is lawful h = absurd (nothing x h)
+unit_below blocks k u true x is lawful h = absurd (nothing_in x h)
 unit_below blocks k u false x is (inl unplaced) h = absurd (no_memory unplaced.0)
   where
     no_memory : false ≡ true → ⊥
@@ -41,17 +41,17 @@ unit_below blocks k u false x is (inr (inl hole)) h = absurd (no_hole u.start ho
 unit_below blocks k u false x is (inr (inr run)) h = run_below blocks k u.start u.width x run.within h
 
 units_below : (blocks k : ℕ) (us : List ExtentUnit) (x : Name) → AreLawfulUnits false blocks us → Contains (block_names k us) x → x.id < blocks
-units_below blocks k [] x lawful h = absurd (nothing x h)
+units_below blocks k [] x lawful h = absurd (nothing_in x h)
 units_below blocks k (u ∷ us) x lawful h = elim (Contains-append_cases (if is_hole u then [] else run_names k u.start u.width) (block_names (k + 4096 * u.width) us) x h) [
   | inl y ↦ unit_below blocks k u (is_hole u) x refl lawful.0 y
   | inr y ↦ units_below blocks (k + 4096 * u.width) us x lawful.1 y
 ]
 
 pointer_below : (blocks level key next : ℕ) (o : Option ℕ) (x : Name) → (if names_block false blocks o then None else Some Pointer) ≡ None → Contains (pointer_names level key next o) x → x.id < blocks
-pointer_below blocks level key next None x good h = absurd (nothing x h)
+pointer_below blocks level key next None x good h = absurd (nothing_in x h)
 pointer_below blocks level key next (Some to) x good h =
     let is = ap (λ (m : Name). m.id) (only _ x h) in
-    let low = ltb-true _ _ (and_true (nat_lt to blocks) (not (is_fixed blocks to)) (chosen (nat_lt to blocks && not (is_fixed blocks to)) good)).0 in
+    let low = ltb-true _ _ (and_parts (nat_lt to blocks) (not (is_fixed blocks to)) (chosen (nat_lt to blocks && not (is_fixed blocks to)) good)).0 in
     omega (arith, is, low)
   where
     chosen : (t : Bool) → (if t then None else Some Pointer) ≡ None → t ≡ true
@@ -68,7 +68,7 @@ by_plugin : (blocks : ℕ) (stat dir to ext : Bool) (a b p e t : Option CellFaul
     → (if stat then a else if dir then b else if to then p else if ext then e else t) ≡ None → Contains (if to then n else if ext then m else []) x → x.id < blocks
 by_plugin blocks stat dir true ext a b p e t n m x ts td es ed point run good h = point (sym (rw (ts refl, td refl) refl) ∙ good) h
 by_plugin blocks stat dir false true a b p e t n m x ts td es ed point run good h = run (sym (rw (es refl, ed refl) refl) ∙ good) h
-by_plugin blocks stat dir false false a b p e t n m x ts td es ed point run good h = absurd (nothing x h)
+by_plugin blocks stat dir false false a b p e t n m x ts td es ed point run good h = absurd (nothing_in x h)
 
 is_other : (n i j : ℕ) → i ≢ j → (n == i) ≡ true → (n == j) ≡ false
 is_other n i j other is = subst (λ (k : ℕ). (k == j) ≡ false) (sym (eqb-true n i is)) (apart i j other)
@@ -87,7 +87,7 @@ item_below blocks level next it x good h =
 
 items_below : (blocks level lo hi i : ℕ) (items : List Item) (x : Name) → items_in_fault false blocks level lo hi i items ≡ None → Contains (names_in level hi items) x → x.id < blocks
 unfolding names_in
-items_below blocks level lo hi i [] x good h = absurd (nothing x h)
+items_below blocks level lo hi i [] x good h = absurd (nothing_in x h)
 items_below blocks level lo hi i (it ∷ items) x good h =
     let g = good_item false blocks level lo hi i it items good in
     elim (Contains-append_cases (item_names level (next_key hi items) it) (names_in level hi items) x h) [
@@ -97,5 +97,5 @@ items_below blocks level lo hi i (it ∷ items) x good h =
 
 pub names_below : (blocks level lo hi : ℕ) (b : List ℕ) (x : Name) → cell_fault false blocks level lo hi b ≡ None → Contains (cell_of level lo hi b).names x → x.id < blocks
 unfolding cell_of
-names_below blocks zero lo hi b x good h = absurd (nothing x h)
+names_below blocks zero lo hi b x good h = absurd (nothing_in x h)
 names_below blocks (suc level) lo hi b x good h = items_below blocks (suc level) lo hi 0 (items_of b) x (node_at false blocks (suc level) lo hi b (omega arith) good).items h

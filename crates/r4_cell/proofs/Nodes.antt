@@ -13,11 +13,10 @@ use Rattle.r4_base.specs.declared.items.CellFault.TheVariants.{Level, Node}
 use Rattle.r4_base.specs.declared.node.NodeFault.{NodeFault}
 use Rattle.r4_node40.proofs.Accepted.{good}
 use Rattle.r4_node40.proofs.Laid.{length-items_of}
-use Rattle.r4_base.proofs.FreshTree.{nothing}
+use Rattle.r4_base.proofs.Choices.{chosen, none_of_node, nothing_in, or_none, some_items}
 use Rattle.r4_cell.proofs.Rows.{IsRow, row_bytes}
 use Rattle.r4_cell.proofs.Parts.{IsPart, part_wider}
-use Rattle.r4_cell.proofs.Faults.{or_none}
-use Rattle.r4_cell.proofs.Items.{good_item, items_part, chosen}
+use Rattle.r4_cell.proofs.Items.{good_item, items_part}
 
 pub data_node : (lo : ℕ) (b : List ℕ) → length b ≡ 4096 → least ≤ lo → lo + 4096 ≤ top → IsNode (cell_of 0 lo (lo + 4096) b)
 unfolding cell_of
@@ -27,20 +26,20 @@ data_node lo b whole low high =
       from_least = low;
       nonempty = omega arith;
       to_top = high;
-      below = λ n h. absurd (nothing n h);
-      name_nonempty = λ n h. absurd (nothing n h);
-      name_from = λ n h. absurd (nothing n h);
-      name_to = λ n h. absurd (nothing n h);
-      names_apart = λ n m k x _ _ _ _. absurd (nothing n x);
-      spans_apart = λ n s k x _ _ _. absurd (nothing n x);
-      span_from = λ s h. absurd (nothing s h);
-      span_to = λ s h. absurd (nothing s h);
-      spans_in_twigs = λ s h. absurd (nothing s h);
+      below = λ n h. absurd (nothing_in n h);
+      name_nonempty = λ n h. absurd (nothing_in n h);
+      name_from = λ n h. absurd (nothing_in n h);
+      name_to = λ n h. absurd (nothing_in n h);
+      names_apart = λ n m k x _ _ _ _. absurd (nothing_in n x);
+      spans_apart = λ n s k x _ _ _. absurd (nothing_in n x);
+      span_from = λ s h. absurd (nothing_in s h);
+      span_to = λ s h. absurd (nothing_in s h);
+      spans_in_twigs = λ s h. absurd (nothing_in s h);
       covered = λ k two _. absurd (omega (arith, two));
-      data_in_span = λ n h _. absurd (nothing n h);
+      data_in_span = λ n h _. absurd (nothing_in n h);
       unit_in = r.unit_in;
       unit_low = λ k v h. inl (omega arith);
-      unit_in_hole = λ n k v x _ _ _. nothing n x;
+      unit_in_hole = λ n k v x _ _ _. nothing_in n x;
       one_unit = r.one_unit;
     }
 
@@ -74,13 +73,6 @@ first_key : (in_memory : Bool) (blocks level lo hi : ℕ) (items : List Item) �
     → (lo ≤ next_key hi items) × (2 ≤ level → next_key hi items ≡ lo)
 first_key in_memory blocks level lo hi [] lt some h = (omega (arith, lt), λ two. absurd (omega (arith, some two)))
 first_key in_memory blocks level lo hi (it ∷ items) lt some h = let g = good_item in_memory blocks level lo hi 0 it items h in (g.range.low, λ two. g.range.first two refl)
-
-some_items : (level count : ℕ) → (nat_lt 1 level && count == 0) ≡ false → 2 ≤ level → 0 < count
-some_items level count h two = grind (arith, nat_tests)
-
-none_of_node : (f : Option NodeFault) → option_map Node f ≡ None → f ≡ None
-none_of_node None h = refl
-none_of_node (Some f) h = absurd cc
 
 pub cell_node : (in_memory : Bool) (blocks level lo hi : ℕ) (b : List ℕ) → length b ≡ 4096 → 1 ≤ level → least ≤ lo → lo < hi → hi ≤ top → cell_fault in_memory blocks level lo hi b ≡ None → IsNode (cell_of level lo hi b)
 unfolding cell_fault cell_of

@@ -9,16 +9,8 @@ use Rattle.r4_base.specs.Node.{PluginsFit, items_of, level_of, node_fault}
 use Rattle.r4_base.specs.declared.node.NodeFault.{NodeFault}
 use Rattle.r4_base.specs.declared.items.CellFault.{CellFault}
 use Rattle.r4_base.specs.declared.items.CellFault.TheVariants.{Level, Node}
+use Rattle.r4_base.proofs.Choices.{chosen, none_of_node, or_none}
 use Rattle.r4_node40.proofs.Accepted.{good}
-use Rattle.r4_cell.proofs.Items.{chosen}
-
-pub none_of_node : (f : Option NodeFault) → option_map Node f ≡ None → f ≡ None
-none_of_node None h = refl
-none_of_node (Some f) h = absurd cc
-
-pub or_none : (a b : Option CellFault) → option_or a b ≡ None → (a ≡ None) × (b ≡ None)
-or_none None b h = (refl, h)
-or_none (Some f) b h = absurd cc
 
 pub no_fault : (f : Option CellFault) → IsTrue (is_none f) → f ≡ None
 no_fault None h = refl

@@ -5,7 +5,8 @@ use Rattle.std.proofs.lemmas.Bool.{cases_lt}
 use Rattle.std.proofs.lemmas.List.Elements.{Contains-append_left, Contains-append_right, Contains-append_cases}
 use Rattle.r4_base.specs.Tree.{Name, Span, InName, InSpan, IsData}
 use Rattle.r4_base.specs.Value.{Value}
-use Rattle.r4_base.proofs.FreshTree.{nothing, only}
+use Rattle.r4_base.proofs.FreshTree.{only}
+use Rattle.r4_base.proofs.Choices.{nothing_in}
 use Rattle.r4_cell.proofs.Rows.{IsRow, row_append, row_name, row_none, row_wider, name_below, name_above}
 
 abbrev pub IsBelowLevel : ℕ → Name → Type 0
@@ -35,26 +36,26 @@ pub record IsPart (level lo hi : ℕ) (names : List Name) (spans : List Span) (u
 pub part_none : (level hi : ℕ) → IsPart level hi hi [] [] []
 part_none level hi = record {
   row = row_none hi hi (omega arith);
-  below = λ n h. absurd (nothing n h);
-  spans_apart = λ n s k x _ _ _. absurd (nothing n x);
-  span_from = λ s h. absurd (nothing s h);
-  span_to = λ s h. absurd (nothing s h);
-  in_twigs = λ s h. absurd (nothing s h);
+  below = λ n h. absurd (nothing_in n h);
+  spans_apart = λ n s k x _ _ _. absurd (nothing_in n x);
+  span_from = λ s h. absurd (nothing_in s h);
+  span_to = λ s h. absurd (nothing_in s h);
+  in_twigs = λ s h. absurd (nothing_in s h);
   covered = λ k two low high. absurd (omega (arith, low, high));
-  data_in_span = λ n h _. absurd (nothing n h);
-  unit_low = λ k v h. absurd (nothing (k, v) h);
+  data_in_span = λ n h _. absurd (nothing_in n h);
+  unit_low = λ k v h. absurd (nothing_in (k, v) h);
 }
 
 pub part_leaf : (level lo hi : ℕ) (units : List (ℕ × Value)) → level ≡ 1 → IsRow lo hi [] units → IsPart level lo hi [] [] units
 part_leaf level lo hi units one r = record {
   row = r;
-  below = λ n h. absurd (nothing n h);
-  spans_apart = λ n s k x _ _ _. absurd (nothing n x);
-  span_from = λ s h. absurd (nothing s h);
-  span_to = λ s h. absurd (nothing s h);
-  in_twigs = λ s h. absurd (nothing s h);
+  below = λ n h. absurd (nothing_in n h);
+  spans_apart = λ n s k x _ _ _. absurd (nothing_in n x);
+  span_from = λ s h. absurd (nothing_in s h);
+  span_to = λ s h. absurd (nothing_in s h);
+  in_twigs = λ s h. absurd (nothing_in s h);
   covered = λ k two low high. absurd (omega (arith, two, one));
-  data_in_span = λ n h _. absurd (nothing n h);
+  data_in_span = λ n h _. absurd (nothing_in n h);
   unit_low = λ k v h. inl (omega (arith, one));
 }
 
@@ -64,13 +65,13 @@ part_pointer level lo hi to two lt =
     record {
       row = row_name a lt;
       below = λ n h. let e : n.level ≡ level - 1 = ap (λ (x : Name). x.level) (only a n h) in inl (omega (arith, e, two), omega (arith, e, two));
-      spans_apart = λ n s k _ y _ _. absurd (nothing s y);
-      span_from = λ s h. absurd (nothing s h);
-      span_to = λ s h. absurd (nothing s h);
-      in_twigs = λ s h. absurd (nothing s h);
+      spans_apart = λ n s k _ y _ _. absurd (nothing_in s y);
+      span_from = λ s h. absurd (nothing_in s h);
+      span_to = λ s h. absurd (nothing_in s h);
+      in_twigs = λ s h. absurd (nothing_in s h);
       covered = λ k _ low high. inl (a, (zero, omega arith, refl), omega (arith, two), (low, high));
       data_in_span = λ n h zero_level. let e : n.level ≡ level - 1 = ap (λ (x : Name). x.level) (only a n h) in absurd (omega (arith, e, two, zero_level));
-      unit_low = λ k v h. absurd (nothing (k, v) h);
+      unit_low = λ k v h. absurd (nothing_in (k, v) h);
     }
 
 pub part_extent : (level lo end hi : ℕ) (names : List Name) (units : List (ℕ × Value)) → level ≡ 2 → end ≤ hi → ((n : Name) → Contains names n → IsData n) → IsRow lo end names units

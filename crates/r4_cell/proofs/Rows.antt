@@ -5,7 +5,8 @@ use Rattle.std.proofs.lemmas.List.Elements.{Contains-append_cases}
 use Rattle.r4_base.specs.Tree.{Name, InName}
 use Rattle.r4_base.specs.Value.{Value, Byte}
 use Rattle.r4_base.specs.Cell.{bytes_from, zeros_from}
-use Rattle.r4_base.proofs.FreshTree.{nothing, only}
+use Rattle.r4_base.proofs.FreshTree.{only}
+use Rattle.r4_base.proofs.Choices.{nothing_in}
 
 -- Names and units of a range of keys: no key lies under two of the names, nor has a unit and lies under one.
 pub record IsRow (lo hi : ℕ) (names : List Name) (units : List (ℕ × Value)) : Type 0 where
@@ -21,24 +22,24 @@ pub record IsRow (lo hi : ℕ) (names : List Name) (units : List (ℕ × Value))
 pub row_none : (lo hi : ℕ) → lo ≤ hi → IsRow lo hi [] []
 row_none lo hi le = record {
   order = le;
-  nonempty = λ n h. absurd (nothing n h);
-  from = λ n h. absurd (nothing n h);
-  to = λ n h. absurd (nothing n h);
-  apart = λ n m k x y _ _. absurd (nothing n x);
-  unit_in = λ k v h. absurd (nothing (k, v) h);
-  hole = λ n k v x _ _. nothing n x;
-  one_unit = λ k v w h _. absurd (nothing (k, v) h);
+  nonempty = λ n h. absurd (nothing_in n h);
+  from = λ n h. absurd (nothing_in n h);
+  to = λ n h. absurd (nothing_in n h);
+  apart = λ n m k x y _ _. absurd (nothing_in n x);
+  unit_in = λ k v h. absurd (nothing_in (k, v) h);
+  hole = λ n k v x _ _. nothing_in n x;
+  one_unit = λ k v w h _. absurd (nothing_in (k, v) h);
 }
 
 pub row_unit : (k : ℕ) (v : Value) → IsRow k (k + 1) [] ((k, v) ∷ [])
 row_unit l u = record {
   order = omega arith;
-  nonempty = λ n h. absurd (nothing n h);
-  from = λ n h. absurd (nothing n h);
-  to = λ n h. absurd (nothing n h);
-  apart = λ n m k x y _ _. absurd (nothing n x);
+  nonempty = λ n h. absurd (nothing_in n h);
+  from = λ n h. absurd (nothing_in n h);
+  to = λ n h. absurd (nothing_in n h);
+  apart = λ n m k x y _ _. absurd (nothing_in n x);
   unit_in = λ k v h. let e : k ≡ l = ap (λ (x : ℕ × Value). x.0) (only (l, u) (k, v) h) in (omega (arith, e), omega (arith, e));
-  hole = λ n k v x _ _. nothing n x;
+  hole = λ n k v x _ _. nothing_in n x;
   one_unit = λ k v w x y. ap (λ (z : ℕ × Value). z.1) (only (l, u) (k, v) x) ∙ sym (ap (λ (z : ℕ × Value). z.1) (only (l, u) (k, w) y));
 }
 
@@ -49,9 +50,9 @@ row_name a lt = record {
   from = λ n h. let e : n.lo ≡ a.lo = ap (λ (x : Name). x.lo) (only a n h) in omega (arith, e);
   to = λ n h. let e : n.hi ≡ a.hi = ap (λ (x : Name). x.hi) (only a n h) in omega (arith, e);
   apart = λ n m k x y _ _. only a n x ∙ sym (only a m y);
-  unit_in = λ k v h. absurd (nothing (k, v) h);
-  hole = λ n k v _ h _. nothing (k, v) h;
-  one_unit = λ k v w h _. absurd (nothing (k, v) h);
+  unit_in = λ k v h. absurd (nothing_in (k, v) h);
+  hole = λ n k v _ h _. nothing_in (k, v) h;
+  one_unit = λ k v w h _. absurd (nothing_in (k, v) h);
 }
 
 pub row_wider : (lo hi from to : ℕ) (names : List Name) (units : List (ℕ × Value)) → from ≤ lo → hi ≤ to → IsRow lo hi names units → IsRow from to names units

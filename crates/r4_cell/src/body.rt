@@ -7,7 +7,9 @@ ghost use Rattle.r4_node40.specs.View.{item_shown};
 ghost use Rattle.r4_twig.specs.View.{view_units};
 ghost use Rattle.r4_cell.specs.Ends.{FindsEnd, IsLastByte};
 
-use r4_base::{BLOCK_BYTES, BlockNo, CellFault, ENTRIES, EXTENT, Key, POINTER, STAT, TAIL_END, is_fixed};
+use r4_base::{
+    BLOCK_BYTES, BlockNo, CellFault, ENTRIES, EXTENT, Key, POINTER, STAT, TAIL_END, is_fixed,
+};
 use r4_cde::DirView;
 use r4_meta::read_stat;
 use r4_node40::ItemView;

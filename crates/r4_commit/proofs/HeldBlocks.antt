@@ -2,7 +2,7 @@
 use Rattle.std.proofs.Common.{◌≡◌, ◌≢◌, ◌⊎◌, inl, inr, ⊎_elim, ℕ, zero, suc, ◌+◌, ◌-◌, ◌≤◌, ◌<◌, Bool, true, false, not, ◌||◌, List, [], ◌∷◌, ◌++◌, length, map, take, drop, get_or, refl, sym, ap, ◌∙◌, subst, append_assoc, length-append, length-drop, arith}
 use Rattle.std.specs.Prelude.{Contains, All}
 use Rattle.std.specs.List.{range_with_len}
-use Rattle.std.proofs.lemmas.Bool.{cases_eq, cases_Bool, eq-eqb}
+use Rattle.std.proofs.lemmas.Bool.{cases_Bool, cases_eq, eq-eqb, or_left, or_parts}
 use Rattle.std.proofs.lemmas.List.{map-append, take_more, take_all}
 use Rattle.std.proofs.lemmas.List.FromFn.{length-range_with_len}
 use Rattle.std.proofs.lemmas.List.Sums.{count_by-le-length}
@@ -33,9 +33,6 @@ or_one false false e = absurd cc
 open_now : (accounts : List Account) (atom : AtomNo) → is_open (accounts ++ no_account atom ∷ []) atom ≡ true
 open_now accounts atom = list_any-append (is_account_of atom) accounts (no_account atom ∷ []) ∙ or_one (is_open accounts atom) (is_account_of atom (no_account atom)) (eq-eqb _ _ refl)
 
-or_left : (a b : Bool) → a ≡ true → (a || b) ≡ true
-or_left a b e = rw e refl
-
 opened_once : (accounts : List Account) (sealed : List AtomNo) (atom : AtomNo) → with_atom (with_atom accounts sealed atom) sealed atom ≡ with_atom accounts sealed atom
 opened_once accounts sealed atom = elim (cases_Bool (is_open accounts atom || is_sealed sealed atom)) [
   | inl there ↦ rw (there, there) refl
@@ -51,15 +48,10 @@ four_false false true c d e = absurd cc
 four_false false false true d e = absurd cc
 four_false false false false true e = absurd cc
 
-or_both : (a b : Bool) → (a || b) ≡ false → (a ≡ false) × (b ≡ false)
-or_both false false e = (refl, refl)
-or_both true b e = absurd cc
-or_both false true e = absurd cc
-
 claimed_member : (atom : AtomNo) (bs : List ℕ) (k : ℕ) → is_claimed (map (claim atom) bs) k ≡ false → Contains bs k → ⊥
 claimed_member atom [] k clear h = no_member k h
 claimed_member atom (b ∷ bs) k clear h =
-    let both = or_both (is_block k (claim atom b)) (is_claimed (map (claim atom) bs) k) clear in
+    let both = or_parts (is_block k (claim atom b)) (is_claimed (map (claim atom) bs) k) clear in
     ⊎_elim (λ is. absurd (cc (sym (eq-eqb b k (sym is)) ∙ both.0))) (λ later. claimed_member atom bs k both.1 later) (member_cases b bs k h)
 
 -- The space from which blocks were held, and how it stands with these held.
@@ -104,7 +96,7 @@ clear_now : (s now : Space) (atom : AtomNo) (prev : ℕ) (blocks : List ℕ) (b 
 unfolding is_taken_by
 clear_now s now atom prev blocks b h clear =
     let four = four_false (get_or now.marked b false) (get_or now.placed b false) (is_claimed now.held b) (is_claimed now.deferred b) clear in
-    let split = or_both (is_claimed s.held b) (is_claimed (map (claim atom) blocks) b) (sym (list_any-append (is_block b) s.held (map (claim atom) blocks)) ∙ ap (λ (l : List Claim). is_claimed l b) (sym h.held) ∙ four.2) in
+    let split = or_parts (is_claimed s.held b) (is_claimed (map (claim atom) blocks) b) (sym (list_any-append (is_block b) s.held (map (claim atom) blocks)) ∙ ap (λ (l : List Claim). is_claimed l b) (sym h.held) ∙ four.2) in
     let marked : get_or s.marked b false ≡ false = ap (λ (l : List Bool). get_or l b false) (sym h.marked) ∙ four.0 in
     let placed : get_or s.placed b false ≡ false = ap (λ (l : List Bool). get_or l b false) (sym h.placed) ∙ four.1 in
     let deferred : is_claimed s.deferred b ≡ false = ap (λ (l : List Claim). is_claimed l b) (sym h.deferred) ∙ four.3 in

@@ -7,6 +7,7 @@ use Rattle.r4_base.specs.Volume.{HasVolume, Needs}
 use Rattle.r4_base.specs.declared.superblock.Super40.{Super40}
 use Rattle.r4_base.specs.declared.things.AtomNo.{AtomNo}
 use Rattle.r4_base.specs.declared.things.BlockNo.{BlockNo}
+use Rattle.r4_base.proofs.Choices.{never_both}
 use Rattle.r4_cell.specs.Seen.{CellSeen}
 use Rattle.r4_outside.specs.Device.{Goes, State, LeavesOnly}
 use Rattle.r4_space.specs.Space.{Space}
@@ -23,7 +24,7 @@ use Rattle.r4_commit.specs.Planned.{IsPlanFor}
 use Rattle.r4_commit.specs.Plannable.{IsPlannable, is_spoken_for}
 use Rattle.r4_commit.specs.Volumes.{HasNewVolume, VolumeByPart}
 use Rattle.r4_commit.proofs.NewImage.{keeps_off}
-use Rattle.r4_commit.proofs.Safety.{clash, first_free, is_safe, is_safe_alone}
+use Rattle.r4_commit.proofs.Safety.{first_free, is_safe, is_safe_alone}
 
 pub commits : (w : Progress) (n : ℕ) (base : Image) (s : Space) (atom : AtomNo) (cells : List CellSeen) (answers : List Placed) (next : Super40) (last : BlockNo) (p : LogPlan)
     → IsPlanFor s atom cells answers next last p → IsPlannable n base [] s cells answers next last → IsEncoded p → IsOrderOf (parts_of p) w.plan → Commits w n base [] p
@@ -33,7 +34,7 @@ module _ (n : ℕ) (base : Image) (chain : List Txn) (s : Space) (atom : AtomNo)
     (f : IsPlanFor s atom cells answers next last p) (h : IsPlannable n base chain s cells answers next last) (fresh : p.head.0 ≢ flushed base) (spoken : (b : ℕ) → Needs v b → is_spoken_for s b ≡ true) where
   old : (image : Image) → IsImage n image → WithoutAtom n base chain p image → HasVolume n image m
   old image whole to = volume_without n base image chain p m v (is_safe n base chain s atom cells answers next last p f h fresh)
-      (λ b one needs. clash (is_spoken_for s b) (spoken b needs) (first_free n base chain s atom cells answers next last p f h b one)) whole to
+      (λ b one needs. never_both (is_spoken_for s b) (spoken b needs) (first_free n base chain s atom cells answers next last p f h b one)) whole to
 
   new : (image : Image) → IsImage n image → WithAtom n base chain p image → HasNewVolume n base chain p image
   new image whole to = λ o c. volume_with n base image chain p o c (keeps_off n base chain s atom cells answers next last p f h o c) whole to

@@ -17,6 +17,7 @@ use Rattle.r4_base.specs.declared.things.BlockNo.{BlockNo}
 use Rattle.r4_base.proofs.Bitmaps.{IsMarkedWhole, without_fault}
 use Rattle.r4_base.proofs.Frame.{length-put_pairs}
 use Rattle.r4_base.proofs.Superblocks.{lawful_read, magic_stands, mark_stands, read_lawful}
+use Rattle.r4_base.proofs.Choices.{never_both}
 use Rattle.r4_cell.specs.Seen.{CellSeen}
 use Rattle.r4_space.specs.Bitmaps.{AreBitmapsOf, bitmaps_fault, first_unheld_of, free_bits}
 use Rattle.r4_space.specs.Space.{Space, is_marked_after, is_marked_by}
@@ -35,7 +36,7 @@ use Rattle.r4_commit.specs.Places.{overwritten, place_of}
 use Rattle.r4_commit.specs.Planned.{IsPlanFor, IsUnused, bitmap_writes, blocks_of, new_super}
 use Rattle.r4_commit.specs.Plannable.{IsPlannable, is_marked_in}
 use Rattle.r4_commit.proofs.PlanFacts.{bitmap_within}
-use Rattle.r4_commit.proofs.Safety.{clash, fixed_bitmap, fixed_low, in_scratch, log_block, not_taken, originals_differ}
+use Rattle.r4_commit.proofs.Safety.{fixed_bitmap, fixed_low, in_scratch, log_block, not_taken, originals_differ}
 
 -- ---- bitmaps among what is written
 
@@ -147,18 +148,18 @@ module _ (n : ℕ) (base : Image) (chain : List Txn) (s : Space) (atom : AtomNo)
         go free made
       where
         low : IsUnused s b → b < 22 → ⊥
-        low free lt = clash (is_fixed s.block_count b) (fixed_low s.block_count b lt) free.2
+        low free lt = never_both (is_fixed s.block_count b) (fixed_low s.block_count b lt) free.2
 
         go : IsUnused s b → IsMadeOf c b → ⊥
         go free (inl is) = low free (omega (arith, is))
         go free (inr (inl is)) = low free (omega (arith, is))
         go free (inr (inr (inl (k, lt, is)))) =
             let inside : k < bitmap_count s.block_count = subst (λ (j : ℕ). k < bitmap_count j) same_count lt in
-            clash (is_fixed s.block_count b) (subst (λ (j : ℕ). is_fixed s.block_count j ≡ true) (sym is) (fixed_bitmap s.block_count k h.lawful.least inside)) free.2
+            never_both (is_fixed s.block_count b) (subst (λ (j : ℕ). is_fixed s.block_count j ≡ true) (sym is) (fixed_bitmap s.block_count k h.lawful.least inside)) free.2
         go free (inr (inr (inr (d, is)))) =
             let marked : is_marked (with_atom base chain p) b ≡ true = (c.places b d is).2 in
             let inside : b < bitmap_count s.block_count * 32736 = omega (arith, free.0) in
-            clash (is_marked_by s atom b) (sym (marks_new b inside) ∙ marked) (unmarked s atom b free (or_first (is_marked_in s b) _ (not_taken s b free.1).1))
+            never_both (is_marked_by s atom b) (sym (marks_new b inside) ∙ marked) (unmarked s atom b free (or_first (is_marked_in s b) _ (not_taken s b free.1).1))
 
     pub keeps_off : (b : ℕ) → is_scratch p b → IsMadeOf c b → ⊥
     keeps_off b which made = ⊎_elim (λ log. log_made b (in_scratch p b log) made) (λ number. not_made n (with_atom base chain p) m c b number made) which

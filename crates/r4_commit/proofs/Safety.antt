@@ -2,7 +2,7 @@
 use Rattle.std.proofs.Common.{◌≡◌, ◌≢◌, ◌⊎◌, inl, inr, ⊎_elim, ℕ, zero, suc, ◌+◌, ◌*◌, ◌%◌, ◌≤◌, ◌<◌, Bool, true, false, ◌||◌, List, [], ◌∷◌, ◌++◌, length, map, get_or, refl, sym, ap, ◌∙◌, subst, arith}
 use Rattle.std.specs.Prelude.{Contains, All}
 use Rattle.std.specs.List.{range_with_len}
-use Rattle.std.proofs.lemmas.Bool.{cases_lt}
+use Rattle.std.proofs.lemmas.Bool.{cases_lt, or_left, or_parts}
 use Rattle.std.proofs.lemmas.Bool.Decides.{nat_tests}
 use Rattle.std.proofs.lemmas.List.{ext_get_or, get_or-map, length-map, map-append}
 use Rattle.std.proofs.lemmas.List.FromFn.{get_or-range_with_len, length-range_with_len}
@@ -14,6 +14,7 @@ use Rattle.r4_base.specs.Chain.{IsOriginalNumber, Txn, flushed, kept_blocks}
 use Rattle.r4_base.specs.declared.superblock.Super40.{Super40}
 use Rattle.r4_base.specs.declared.things.AtomNo.{AtomNo}
 use Rattle.r4_base.specs.declared.things.BlockNo.{BlockNo}
+use Rattle.r4_base.proofs.Choices.{never_both}
 use Rattle.r4_cell.specs.Seen.{CellSeen}
 use Rattle.r4_space.specs.Space.{Space, is_claimed, is_taken, is_taken_by}
 use Rattle.r4_place.specs.Chosen.{fresh_blocks}
@@ -32,22 +33,11 @@ use Rattle.r4_commit.proofs.Differing.{different-append, kept_different, placed_
 
 -- ---- words of the space
 
-or_false : (a b : Bool) → (a || b) ≡ false → (a ≡ false) × (b ≡ false)
-or_false false false e = (refl, refl)
-or_false true b e = absurd cc
-or_false false true e = absurd cc
-
-or_left : (a b : Bool) → a ≡ true → (a || b) ≡ true
-or_left a b e = rw e refl
-
-pub clash : (t : Bool) → t ≡ true → t ≡ false → ⊥
-clash t one other = absurd (cc (sym one ∙ other))
-
 pub not_taken : (s : Space) (b : ℕ) → is_taken s b ≡ false → (get_or s.placed b false ≡ false) × (is_spoken_for s b ≡ false)
 unfolding is_taken_by
 not_taken s b clear =
-    let marked = or_false (get_or s.marked b false) (get_or s.placed b false || (is_claimed s.held b || is_claimed s.deferred b)) clear in
-    let placed = or_false (get_or s.placed b false) (is_claimed s.held b || is_claimed s.deferred b) marked.1 in
+    let marked = or_parts (get_or s.marked b false) (get_or s.placed b false || (is_claimed s.held b || is_claimed s.deferred b)) clear in
+    let placed = or_parts (get_or s.placed b false) (is_claimed s.held b || is_claimed s.deferred b) marked.1 in
     (placed.0, rw (marked.0, placed.1) refl)
 
 pub marked_spoken : (s : Space) (b : ℕ) → is_marked_in s b ≡ true → is_spoken_for s b ≡ true
@@ -136,7 +126,7 @@ module _ (n : ℕ) (base : Image) (chain : List Txn) (s : Space) (atom : AtomNo)
 
   first_range : (b : ℕ) → IsTarget (first p) b → 22 ≤ b
   first_range b one = elim (cases_lt b 22) [
-    | inl low ↦ absurd (clash (is_spoken_for s b) (fixed_spoken b (first_within b one) (fixed_low s.block_count b low)) (first_free b one))
+    | inl low ↦ absurd (never_both (is_spoken_for s b) (fixed_spoken b (first_within b one) (fixed_low s.block_count b low)) (first_free b one))
     | inr ge ↦ ge
   ]
 
@@ -192,19 +182,19 @@ module _ (n : ℕ) (base : Image) (chain : List Txn) (s : Space) (atom : AtomNo)
   originals_differ = subst AreDifferent (sym originals_are) (
     (λ again. ⊎_elim
         (λ bitmap. (bitmap_fixed 17 bitmap).0 refl)
-        (λ cell. clash (is_fixed s.block_count 17) (fixed_low s.block_count 17 (omega arith)) (overwritten_block 17 cell).1)
+        (λ cell. never_both (is_fixed s.block_count 17) (fixed_low s.block_count 17 (omega arith)) (overwritten_block 17 cell).1)
         (Contains-append_cases (targets (bitmap_writes 0 f.bitmaps)) (overwritten_blocks answers cells) 17 again)),
     different-append (targets (bitmap_writes 0 f.bitmaps)) (overwritten_blocks answers cells) (bitmaps_different 0 f.bitmaps) (kept_different (place_of answers) cells h.names)
-        (λ b bitmap cell. clash (is_fixed s.block_count b) (bitmap_fixed b bitmap).1 (overwritten_block b cell).1),
+        (λ b bitmap cell. never_both (is_fixed s.block_count b) (bitmap_fixed b bitmap).1 (overwritten_block b cell).1),
   )
 
   original_apart : (b : ℕ) → Contains (originals_of p) b → Contains (kept_blocks chain) b → ⊥
   original_apart b one keeps =
       let k = h.kept b keeps in
       ⊎_elim
-      (λ is. clash (is_fixed s.block_count b) (fixed_low s.block_count b (omega (arith, is))) k.1)
+      (λ is. never_both (is_fixed s.block_count b) (fixed_low s.block_count b (omega (arith, is))) k.1)
       (λ more. ⊎_elim
-      (λ r. clash (is_fixed s.block_count b) (subst (λ (j : ℕ). is_fixed s.block_count j ≡ true) (sym r.2) (fixed_bitmap s.block_count r.0 h.lawful.least r.1)) k.1)
+      (λ r. never_both (is_fixed s.block_count b) (subst (λ (j : ℕ). is_fixed s.block_count j ≡ true) (sym r.2) (fixed_bitmap s.block_count r.0 h.lawful.least r.1)) k.1)
       (λ cell. k.2 cell)
       more)
       (original_cases b one)
@@ -214,7 +204,7 @@ module _ (n : ℕ) (base : Image) (chain : List Txn) (s : Space) (atom : AtomNo)
   first_differ : AreDifferent (targets (first p))
   first_differ = subst AreDifferent (sym (first_are p)) (different-append (map (λ (x : PlacedCell). x.at) p.placed) (blocks_of p)
       (subst (λ (l : List PlacedCell). AreDifferent (map (λ (x : PlacedCell). x.at) l)) (sym f.placed) (placed_different answers cells h.different h.names)) f.different
-      (λ b placed log. clash (get_or s.placed b false) (placed_block b placed).0 (not_taken s b (log_block b log).1).0))
+      (λ b placed log. never_both (get_or s.placed b false) (placed_block b placed).0 (not_taken s b (log_block b log).1).0))
 
   counted : length p.wandered ≡ length (overwritten (place_of answers) cells) + length f.bitmaps + 1
   counted = sym (length-map p.wandered (λ (w : Copy). (w.original, w.block))) ∙ ap (λ (l : List Write). length l) f.homes ∙ length-new_homes (new_super next f.bitmaps) f.bitmaps (overwritten (place_of answers) cells)
@@ -230,9 +220,9 @@ module _ (n : ℕ) (base : Image) (chain : List Txn) (s : Space) (atom : AtomNo)
     fresh = fresh;
     in_range = λ b one. (first_range b one, omega (arith, first_within b one, h.within));
     different = first_differ;
-    no_original = λ b one original. clash (is_spoken_for s b) (original_spoken b original) (first_free b one);
-    not_kept = λ b one keeps. clash (is_spoken_for s b) (h.kept b keeps).0 (first_free b one);
-    no_home = λ b one home. clash (is_spoken_for s b) (h.in_place b home) (first_free b one);
+    no_original = λ b one original. never_both (is_spoken_for s b) (original_spoken b original) (first_free b one);
+    not_kept = λ b one keeps. never_both (is_spoken_for s b) (h.kept b keeps).0 (first_free b one);
+    no_home = λ b one home. never_both (is_spoken_for s b) (h.in_place b home) (first_free b one);
     originals_range = all_from (IsOriginalNumber n) (originals_of p) original_range;
     originals_differ = originals_differ;
     originals_apart = original_apart;

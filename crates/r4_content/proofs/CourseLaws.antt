@@ -2,6 +2,7 @@
 use Rattle.std.specs.Prelude.{◌≡◌, ℕ, ◌+◌, ◌∷◌, Bool, true, false, ◌||◌}
 use Rattle.std.proofs.Common.{arith, refl, ap, ◌∙◌}
 use Rattle.std.proofs.lemmas.Grind.{common_steps}
+use Rattle.std.proofs.lemmas.Bool.{or_left, or_right}
 use Rattle.r4_base.specs.Value.{Content, at_key}
 use Rattle.r4_content.specs.Course.{Course, Ask, Scan, Answer, Change, of_content, ending, asked}
 use Rattle.r4_content.specs.Edited.{Intervals, is_between, is_in, pairs_between, edited, changed}
@@ -11,14 +12,6 @@ use Rattle.r4_content.proofs.EditLaws.{same_pairs, edited_on, edited_off}
 
 pub at_itself : (k : ℕ) → is_between k (k + 1) k ≡ true
 at_itself k = grind (arith, common_steps)
-
-pub or_left : (a b : Bool) → a ≡ true → (a || b) ≡ true
-or_left true b h = refl
-or_left false b h = grind (arith, h)
-
-pub or_right : (a b : Bool) → b ≡ true → (a || b) ≡ true
-or_right true b h = refl
-or_right false b h = h
 
 abbrev pub AgreeOn : Intervals → Content → Content → Type 0
 AgreeOn rs m n = (k : ℕ) → is_in rs k ≡ true → at_key m k ≡ at_key n k

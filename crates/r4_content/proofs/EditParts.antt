@@ -1,20 +1,13 @@
 -- Edits that are made of others: what stands at a key is what the part says that changes it.
 use Rattle.std.specs.Prelude.{◌≡◌, ℕ, ◌+◌, [], ◌∷◌, ◌++◌, Bool, true, false, ◌||◌, cond, Option, Some, None}
 use Rattle.std.proofs.Common.{refl, sym, ap, ◌∙◌}
+use Rattle.std.proofs.lemmas.Bool.{or_from, or_parts}
 use Rattle.r4_base.specs.Value.{Value, Byte, Content, at_key}
 use Rattle.r4_content.specs.Edited.{Pairs, Intervals, Edits, and_also, changed, edited, is_in, put_keys}
 use Rattle.r4_content.proofs.EditLaws.{at_edited, in_append, in_changed, last_put, put_off, put_on}
 
 pub true_not_false : true ≡ false → ⊥
 true_not_false e = cc
-
-pub or_false : (a b : Bool) → (a || b) ≡ false → (a ≡ false) × (b ≡ false)
-or_false false b e = (refl, e)
-or_false true b e = absurd cc
-
-pub neither : (a b : Bool) → a ≡ false → b ≡ false → (a || b) ≡ false
-neither false b e h = h
-neither true b e h = absurd cc
 
 -- a key that edits do not change
 pub record IsOff (e : Edits) (k : ℕ) : Type 0 where
@@ -24,12 +17,12 @@ pub record IsOff (e : Edits) (k : ℕ) : Type 0 where
 
 pub off_is : (e : Edits) (k : ℕ) → is_in (changed e) k ≡ false → IsOff e k
 off_is e k h =
-    let all = or_false (is_in (put_keys e.puts) k) (is_in e.zeros k || is_in e.cuts k) (sym (in_changed e k) ∙ h) in
-    let rest = or_false (is_in e.zeros k) (is_in e.cuts k) all.1 in
+    let all = or_parts (is_in (put_keys e.puts) k) (is_in e.zeros k || is_in e.cuts k) (sym (in_changed e k) ∙ h) in
+    let rest = or_parts (is_in e.zeros k) (is_in e.cuts k) all.1 in
     record { puts = all.0; zeros = rest.0; cuts = rest.1 }
 
 pub is_off : (e : Edits) (k : ℕ) → IsOff e k → is_in (changed e) k ≡ false
-is_off e k h = in_changed e k ∙ neither _ _ h.puts (neither _ _ h.zeros h.cuts)
+is_off e k h = in_changed e k ∙ or_from _ _ h.puts (or_from _ _ h.zeros h.cuts)
 
 put_keys_append : (xs ys : Pairs) → put_keys (xs ++ ys) ≡ put_keys xs ++ put_keys ys
 put_keys_append [] ys = refl
@@ -37,16 +30,16 @@ put_keys_append (x ∷ xs) ys = ap (λ (rs : Intervals). (x.0, x.0 + 1) ∷ rs) 
 
 pub off_both : (e f : Edits) (k : ℕ) → IsOff e k → IsOff f k → IsOff (and_also e f) k
 off_both e f k h g = record {
-  puts = ap (λ (rs : Intervals). is_in rs k) (put_keys_append e.puts f.puts) ∙ in_append (put_keys e.puts) (put_keys f.puts) k ∙ neither _ _ h.puts g.puts;
-  zeros = in_append e.zeros f.zeros k ∙ neither _ _ h.zeros g.zeros;
-  cuts = in_append e.cuts f.cuts k ∙ neither _ _ h.cuts g.cuts;
+  puts = ap (λ (rs : Intervals). is_in rs k) (put_keys_append e.puts f.puts) ∙ in_append (put_keys e.puts) (put_keys f.puts) k ∙ or_from _ _ h.puts g.puts;
+  zeros = in_append e.zeros f.zeros k ∙ or_from _ _ h.zeros g.zeros;
+  cuts = in_append e.cuts f.cuts k ∙ or_from _ _ h.cuts g.cuts;
 }
 
 pub off_left : (e f : Edits) (k : ℕ) → IsOff (and_also e f) k → IsOff e k
 off_left e f k h = record {
-  puts = (or_false _ _ (sym (ap (λ (rs : Intervals). is_in rs k) (put_keys_append e.puts f.puts) ∙ in_append (put_keys e.puts) (put_keys f.puts) k) ∙ h.puts)).0;
-  zeros = (or_false _ _ (sym (in_append e.zeros f.zeros k) ∙ h.zeros)).0;
-  cuts = (or_false _ _ (sym (in_append e.cuts f.cuts k) ∙ h.cuts)).0;
+  puts = (or_parts _ _ (sym (ap (λ (rs : Intervals). is_in rs k) (put_keys_append e.puts f.puts) ∙ in_append (put_keys e.puts) (put_keys f.puts) k) ∙ h.puts)).0;
+  zeros = (or_parts _ _ (sym (in_append e.zeros f.zeros k) ∙ h.zeros)).0;
+  cuts = (or_parts _ _ (sym (in_append e.cuts f.cuts k) ∙ h.cuts)).0;
 }
 
 last_put_append : (xs ys : Pairs) (k : ℕ) (v : Option Value) → last_put (xs ++ ys) k v ≡ last_put ys k (last_put xs k v)

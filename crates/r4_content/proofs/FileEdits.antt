@@ -1,7 +1,7 @@
 -- Edits of a file: they change its stat data and its bytes alone, so the way to it stays.
 use Rattle.std.specs.Prelude.{◌≡◌, ◌≢◌, ℕ, ◌+◌, ◌^◌, ◌<◌, ◌≤◌, List, Bool, true, false, ◌==◌, cond, nat_lt, All, Some, None, length, if◌then◌else◌}
 use Rattle.std.proofs.Common.{arith, refl, sym, ap, ◌∙◌}
-use Rattle.std.proofs.lemmas.Bool.{eq-eqb, eqb-true, ne_eqb}
+use Rattle.std.proofs.lemmas.Bool.{eq-eqb, eqb-true, ne_eqb, or_from}
 use Rattle.std.proofs.lemmas.Option.{same_Some}
 use Rattle.std.specs.FinMap.{insert}
 use Rattle.r4_base.specs.Value.{Value, Stat, Content, at_key}
@@ -16,14 +16,14 @@ use Rattle.r4_content.specs.Walk.{attr_at, attr_in, may_be_object, target_in}
 use Rattle.r4_content.specs.Ways.{Place}
 use Rattle.r4_content.proofs.BytePairs.{keys_in}
 use Rattle.r4_content.proofs.EditLaws.{at_insert, edited_off, one_key}
-use Rattle.r4_content.proofs.EditParts.{IsOff, is_off, neither, true_not_false}
+use Rattle.r4_content.proofs.EditParts.{IsOff, is_off, true_not_false}
 use Rattle.r4_content.proofs.Found.{There, found, stat_there}
 use Rattle.r4_content.proofs.Ranks.{byte_after, entry_not_byte, entry_not_stat, in_body, same_itself, same_stat, stat_not_byte, told_same}
 use Rattle.r4_content.proofs.SameWay.{IsThere, found_again, place_with}
 
 -- ---- which keys the parts leave
 
--- a key that is neither of the object's stat data nor of one of its bytes
+-- a key that is or_from of the object's stat data nor of one of its bytes
 pub record IsElsewhere (t : Target) (k : ℕ) : Type 0 where
   pub stat : k ≢ stat_rank t
   pub bytes : (x : ℕ) → x < 2 ^ 64 → k ≢ byte_rank t x
@@ -32,7 +32,7 @@ pub off_nothing : (k : ℕ) → IsOff no_edits k
 off_nothing k = record { puts = refl; zeros = refl; cuts = refl }
 
 pub off_attr : (o : Object) (a : Attr) (k : ℕ) → k ≢ stat_rank o.target → IsOff (set_attr o a) k
-off_attr o a k ne = record { puts = neither _ false (one_key k (stat_rank o.target) ∙ ne_eqb k (stat_rank o.target) ne) refl; zeros = refl; cuts = refl }
+off_attr o a k ne = record { puts = or_from _ false (one_key k (stat_rank o.target) ∙ ne_eqb k (stat_rank o.target) ne) refl; zeros = refl; cuts = refl }
 
 pub off_resize : (o : Object) (n k : ℕ) → k ≢ stat_rank o.target → IsOff (resize o n) k
 off_resize o n k ne = by_size (o.attr.size == n)
@@ -49,10 +49,10 @@ not_in_body t from to k le ne = told (is_between (byte_rank t from) (byte_rank t
     told true e = let (x, is, low, high) = in_body t from to k e in absurd (ne x (omega arith) is)
 
 pub off_zeros : (o : Object) (from to k : ℕ) → to ≤ 2 ^ 64 → ((x : ℕ) → x < 2 ^ 64 → k ≢ byte_rank o.target x) → IsOff (zero_body o from to) k
-off_zeros o from to k le ne = record { puts = refl; zeros = neither _ false (not_in_body o.target from to k le ne) refl; cuts = refl }
+off_zeros o from to k le ne = record { puts = refl; zeros = or_from _ false (not_in_body o.target from to k le ne) refl; cuts = refl }
 
 pub off_cuts : (o : Object) (from to k : ℕ) → to ≤ 2 ^ 64 → ((x : ℕ) → x < 2 ^ 64 → k ≢ byte_rank o.target x) → IsOff (cut_body o from to) k
-off_cuts o from to k le ne = record { puts = refl; zeros = refl; cuts = neither _ false (not_in_body o.target from to k le ne) refl }
+off_cuts o from to k le ne = record { puts = refl; zeros = refl; cuts = or_from _ false (not_in_body o.target from to k le ne) refl }
 
 pub off_gap : (o : Object) (to k : ℕ) → to ≤ 2 ^ 64 → ((x : ℕ) → x < 2 ^ 64 → k ≢ byte_rank o.target x) → IsOff (fill_gap o to) k
 off_gap o to k le ne = by_size (nat_lt o.attr.size to)

@@ -1,9 +1,8 @@
 -- Where a way leads in a content: a command goes on from there, or is answered why not. It is where the walk along the path ends.
 use Rattle.std.specs.Prelude.{◌≡◌, ◌↔◌, ℕ, ◌^◌, ◌<◌, List, [], ◌∷◌, ◌++◌, Bool, true, false, nat_lt, Option, Some, None, if◌then◌else◌}
 use Rattle.std.proofs.Common.{lit<, refl, sym, ap, ◌∙◌}
-use Rattle.std.proofs.lemmas.Bool.{lt-ltb, ltb-true}
+use Rattle.std.proofs.lemmas.Bool.{and_parts, lt-ltb, ltb-true}
 use Rattle.std.proofs.lemmas.Option.{same_Some}
-use Rattle.r4_base.proofs.Names.{both}
 use Rattle.r4_base.specs.Value.{Value, Stat, Entry, Byte, Content, at_key}
 use Rattle.r4_base.specs.Volume.{is_directory, root_object, stat_rank}
 use Rattle.r4_base.specs.declared.items.Attr.{Attr}
@@ -105,7 +104,7 @@ walked NotDirectory = NoDirectory
 walked NotThere = NoEntry
 
 pub small_object : (t : Target) → may_be_object t ≡ true → (t.locality < 2 ^ 60) × (t.oid.0 < 2 ^ 60)
-small_object t e = let h = both (nat_lt t.locality (2 ^ 60)) (nat_lt t.oid.0 (2 ^ 60)) e in (ltb-true _ _ h.0, ltb-true _ _ h.1)
+small_object t e = let h = and_parts (nat_lt t.locality (2 ^ 60)) (nat_lt t.oid.0 (2 ^ 60)) e in (ltb-true _ _ h.0, ltb-true _ _ h.1)
 
 -- attributes are those of stat data, of a target that may be an object
 pub stat_there : (m : Content) (t : Target) (a : Attr) → attr_at m t ≡ Some a → (may_be_object t ≡ true) × (at_key m (stat_rank t) ≡ Some (Stat a))

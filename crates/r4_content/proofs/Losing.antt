@@ -1,7 +1,7 @@
 -- Commands by which an object loses a name: the objects of a lawful content stay lawful.
 use Rattle.std.specs.Prelude.{◌≡◌, ◌≢◌, ◌⊎◌, ℕ, zero, suc, ◌+◌, ◌-◌, ◌^◌, ◌<◌, ◌≤◌, List, Bool, true, false, ◌&&◌, ◌==◌, cond, nat_le, nat_lt, All, Option, Some, None, if◌then◌else◌}
 use Rattle.std.proofs.Common.{arith, inl, inr, refl, sym, ap, subst, ◌∙◌}
-use Rattle.std.proofs.lemmas.Bool.{and_from, eq-eqb, eqb-true, le-leb, leb-true, lt-ltb, ne_eqb}
+use Rattle.std.proofs.lemmas.Bool.{and_from, eq-eqb, eqb-true, le-leb, leb-true, lt-ltb, ne_eqb, or_left}
 use Rattle.std.proofs.lemmas.Grind.{common_steps}
 use Rattle.std.proofs.lemmas.Option.{same_Some}
 use Rattle.r4_base.specs.Key.{key_of_rank}
@@ -17,7 +17,7 @@ use Rattle.r4_content.specs.Lawful.{HasBodies}
 use Rattle.r4_content.specs.Objects.{Object, cut_body, cut_key, entry_less, entry_rank, is_dir, is_same_target, link_less, set_attr, unnamed}
 use Rattle.r4_content.specs.Ways.{Named, entry_in}
 use Rattle.r4_content.proofs.Counting.{count, here, here_no, here_yes, not_same, once, one_there}
-use Rattle.r4_content.proofs.CourseLaws.{at_itself, or_left}
+use Rattle.r4_content.proofs.CourseLaws.{at_itself}
 use Rattle.r4_content.proofs.EditLaws.{at_edited, edited_off}
 use Rattle.r4_content.proofs.EditParts.{IsOff, edited_first, edited_second, is_off, off_both, true_not_false}
 use Rattle.r4_content.proofs.FileEdits.{IsElsewhere, off_attr, off_cuts, other_stat, put_itself}

@@ -1,9 +1,8 @@
 -- What stands where after an entry moved.
 use Rattle.std.specs.Prelude.{◌≡◌, ◌≢◌, ◌⊎◌, ℕ, ◌-◌, ◌^◌, ◌<◌, ◌≤◌, List, Bool, true, false, ◌&&◌, ◌==◌, All, Option, Some, None, if◌then◌else◌}
 use Rattle.std.proofs.Common.{arith, inl, inr, refl, sym, ap, subst, ◌∙◌}
-use Rattle.std.proofs.lemmas.Bool.{eq-eqb, eqb-true}
+use Rattle.std.proofs.lemmas.Bool.{and_parts, eq-eqb, eqb-true}
 use Rattle.std.proofs.lemmas.Option.{same_Some}
-use Rattle.r4_base.proofs.Names.{both}
 use Rattle.r4_base.specs.Key.{key_of_rank, minor_of}
 use Rattle.r4_base.specs.Name.{dir_of_key}
 use Rattle.r4_base.specs.Value.{Value, Stat, Entry, Byte, Content, at_key}
@@ -304,7 +303,7 @@ module _ (limit : ℕ) (m : Content) (dir o new : Object) (name new_name : List 
     where
       by_test : (c : Bool) → (over && is_same_target t old.target) ≡ c → (if c then rest_of old else Some (parent dir.target new.target over (is_dir o) t a)) ≡ Some b → at_key after (stat_rank t) ≡ Some (Stat b)
       by_test true is same =
-          let (yes_over, here) = both over (is_same_target t old.target) is in
+          let (yes_over, here) = and_parts over (is_same_target t old.target) is in
           ap (λ (u : Target). at_key after (stat_rank u)) (told_same t old.target here) ∙ old_now yes_over ∙ ap stat_value same
       by_test false is same = parent_now t a there (not_old t is) ∙ ap stat_value same
 
@@ -328,7 +327,7 @@ module _ (limit : ℕ) (m : Content) (dir o new : Object) (name new_name : List 
 
       by_test : (c : Bool) → (over && is_same_target t old.target) ≡ c → (a : Attr) × HasStat m t a × (becomes dir.target new.target over (is_dir o) old t a ≡ Some b)
       by_test true is =
-          let (yes_over, here) = both over (is_same_target t old.target) is in
+          let (yes_over, here) = and_parts over (is_same_target t old.target) is in
           let same = told_same t old.target here in
           let stat = (h.onto yes_over).stat in (
             old.attr,
@@ -482,7 +481,7 @@ module _ (limit : ℕ) (m : Content) (dir o new : Object) (name new_name : List 
     where
       by_test : (c : Bool) → (over && is_same_target t old.target) ≡ c
           → ((over ≡ true) × (t ≡ old.target)) ⊎ ((over ≡ true → t ≢ old.target) × ((a : Attr) → becomes dir.target new.target over (is_dir o) old t a ≡ Some (parent dir.target new.target over (is_dir o) t a)))
-      by_test true is = let (yes_over, same) = both over (is_same_target t old.target) is in inl (yes_over, told_same t old.target same)
+      by_test true is = let (yes_over, same) = and_parts over (is_same_target t old.target) is in inl (yes_over, told_same t old.target same)
       by_test false is = inr (not_old t is, λ a. ap (λ (x : Bool). if x then rest_of old else Some (parent dir.target new.target over (is_dir o) t a)) is)
 
   move_alive : (t : Target) (a : Attr) (x y : ℕ) → HasStat m t a → is_directory a ≡ false → x < 2 ^ 64 → at_key after (byte_rank t x) ≡ Some (Byte y) → (b : Attr) × HasStat after t b × (is_directory b ≡ false)

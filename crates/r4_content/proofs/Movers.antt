@@ -1,7 +1,7 @@
 -- rename leaves the objects of a lawful content lawful.
 use Rattle.std.specs.Prelude.{◌≡◌, ◌≢◌, ℕ, suc, ◌-◌, ◌^◌, ◌<◌, ◌≤◌, List, [], ◌∷◌, ◌++◌, Bool, true, false, not, ◌&&◌, ◌||◌, ◌==◌, bytes_eq, nat_le, length, take, slice_index_or, All, Option, Some, None, if◌then◌else◌}
 use Rattle.std.proofs.Common.{arith, refl, sym, ap, subst, ◌∙◌}
-use Rattle.std.proofs.lemmas.Bool.{eq-eqb}
+use Rattle.std.proofs.lemmas.Bool.{eq-eqb, or_parts}
 use Rattle.std.proofs.lemmas.Grind.{common_steps}
 use Rattle.std.proofs.lemmas.List.Elements.{All-head, All-tail, All-take}
 use Rattle.std.proofs.lemmas.Slice.Eq.{bytes_eq-Decides}
@@ -23,7 +23,7 @@ use Rattle.r4_content.specs.Ways.{Named, Place, entry_in, object_at, to_ends, to
 use Rattle.r4_content.specs.declared.command.Command.TheVariants.{Rename}
 use Rattle.r4_content.specs.declared.reply.Reply.TheVariants.{Okay, Absent, Clash, Isdir, Links, Loop, Notdir}
 use Rattle.r4_content.proofs.Counting.{one_there}
-use Rattle.r4_content.proofs.EditParts.{or_false, true_not_false}
+use Rattle.r4_content.proofs.EditParts.{true_not_false}
 use Rattle.r4_content.proofs.Found.{There, down, found, found_from, small_object, stat_there, start}
 use Rattle.r4_content.proofs.Keeping.{Stays}
 use Rattle.r4_content.proofs.Losing.{stat_one}
@@ -41,9 +41,9 @@ use Rattle.r4_content.proofs.Writing.{named_ends, okay_named}
 -- ---- objects on the way
 
 among_append : (o : Object) (xs : List Object) (p : Object) → is_among o (xs ++ p ∷ []) ≡ false → (is_among o xs ≡ false) × (is_same o p ≡ false)
-among_append o [] p e = (refl, (or_false (is_same o p) false e).0)
+among_append o [] p e = (refl, (or_parts (is_same o p) false e).0)
 among_append o (x ∷ xs) p e =
-    let h = or_false (is_same o x) (is_among o (xs ++ p ∷ [])) e in
+    let h = or_parts (is_same o x) (is_among o (xs ++ p ∷ [])) e in
     let rest = among_append o xs p h.1 in
     (neither_of (is_same o x) (is_among o xs) h.0 rest.0, rest.1)
   where
@@ -310,6 +310,6 @@ rename_lawful limit from to m lt lawful from_bytes to_bytes = by_done limit (Ren
           entry = c.entry;
           way = d.at;
           path_bytes = All-take (λ x. All (λ y. y < 256) x) (length to - 1) to to_bytes;
-          outside = λ yes_dir. or_false (is_among p.here q.above) (is_same p.here q.here) (out yes_dir);
+          outside = λ yes_dir. or_parts (is_among p.here q.above) (is_same p.here q.here) (out yes_dir);
         } in
         subst (λ (x : Ending). Stays limit (edited x.edits m)) (sym (fifth ∙ goes)) (move_lawful limit m dir p.here c.name new_name q (take (length to - 1) to) lawful numbers e)

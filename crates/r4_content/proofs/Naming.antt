@@ -1,7 +1,7 @@
 -- What is made under a name is found there, and what is unlinked is not.
 use Rattle.std.specs.Prelude.{◌≡◌, ◌≢◌, ℕ, suc, ◌-◌, ◌^◌, ◌<◌, List, [], ◌∷◌, ◌++◌, Bool, true, false, ◌==◌, nat_le, nat_lt, bytes_eq, All, Option, Some, None, length, take, drop, slice_index_or, if◌then◌else◌}
 use Rattle.std.proofs.Common.{arith, get_or, refl, sym, ap, subst, ◌∙◌, drop-cons}
-use Rattle.std.proofs.lemmas.Bool.{and_from, lt-ltb, ne_eqb}
+use Rattle.std.proofs.lemmas.Bool.{and_from, lt-ltb, ne_eqb, or_from}
 use Rattle.std.proofs.lemmas.Grind.{common_steps}
 use Rattle.std.proofs.lemmas.List.{drop_all, take-append-drop}
 use Rattle.std.proofs.lemmas.List.Elements.{All-drop, All-head, All-take}
@@ -23,7 +23,7 @@ use Rattle.r4_content.specs.declared.command.Command.TheVariants.{Create, Mkdir,
 use Rattle.r4_content.specs.declared.reply.Reply.{Reply}
 use Rattle.r4_content.specs.declared.reply.Reply.TheVariants.{Okay, Exists, Clash, Oids, Links, Notdir, Attr as AttrReply}
 use Rattle.r4_content.proofs.EditLaws.{edited_off, one_key}
-use Rattle.r4_content.proofs.EditParts.{IsOff, edited_first, edited_second, is_off, neither, off_both}
+use Rattle.r4_content.proofs.EditParts.{IsOff, edited_first, edited_second, is_off, off_both}
 use Rattle.r4_content.proofs.FileEdits.{attr_of, off_attr, other_stat, put_itself}
 use Rattle.r4_content.proofs.Found.{There, NotDirectory, down, ends_at, found, found_from, go_attr, small_object, start, stat_there, way_ends}
 use Rattle.r4_content.proofs.Ranks.{entry_not_stat, name_fits, same_stat, told_same}
@@ -92,10 +92,10 @@ last_bytes path e bytes =
 -- ---- an object gets a name
 
 pub off_entry : (dir : Object) (n : List ℕ) (t : Target) (k : ℕ) → k ≢ entry_rank dir.target n → IsOff (set_entry dir n t) k
-off_entry dir n t k ne = record { puts = neither _ false (one_key k (entry_rank dir.target n) ∙ ne_eqb k (entry_rank dir.target n) ne) refl; zeros = refl; cuts = refl }
+off_entry dir n t k ne = record { puts = or_from _ false (one_key k (entry_rank dir.target n) ∙ ne_eqb k (entry_rank dir.target n) ne) refl; zeros = refl; cuts = refl }
 
 pub off_key : (key k : ℕ) → k ≢ key → IsOff (cut_key key) k
-off_key key k ne = record { puts = refl; zeros = refl; cuts = neither _ false (one_key k key ∙ ne_eqb k key ne) refl }
+off_key key k ne = record { puts = refl; zeros = refl; cuts = or_from _ false (one_key k key ∙ ne_eqb k key ne) refl }
 
 not_none : (e : Named) → Some e ≡ None → ⊥
 not_none e same = cc

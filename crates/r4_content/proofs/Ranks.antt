@@ -1,7 +1,7 @@
 -- Keys of stat data, of bodies and of entries are told apart by their ranks.
 use Rattle.std.specs.Prelude.{◌≡◌, ℕ, ◌+◌, ◌-◌, ◌*◌, ◌^◌, ◌<◌, ◌≤◌, List, Bool, true, false, ◌&&◌, ◌==◌, nat_le, nat_lt, slice_index, All}
 use Rattle.std.proofs.Common.{arith, lit<, refl, sym, ap, ◌∙◌}
-use Rattle.std.proofs.lemmas.Bool.{and_from, eq-eqb, eqb-true, leb-true, ltb-true}
+use Rattle.std.proofs.lemmas.Bool.{and_from, and_parts, eq-eqb, eqb-true, leb-true, ltb-true}
 use Rattle.r4_base.specs.Key.{IsKey, body_key, rank, stat_key}
 use Rattle.r4_base.specs.Name.{key_of_name}
 use Rattle.r4_base.specs.Volume.{IsObject, byte_rank, root_object, stat_rank}
@@ -9,7 +9,7 @@ use Rattle.r4_base.specs.declared.key.Key.{Key}
 use Rattle.r4_base.specs.declared.items.Target.{Target}
 use Rattle.r4_base.specs.declared.things.Oid.{Oid}
 use Rattle.r4_base.proofs.Keys.{equal, is_key}
-use Rattle.r4_base.proofs.Names.{both, bytes_of, key_fits}
+use Rattle.r4_base.proofs.Names.{bytes_of, key_fits}
 use Rattle.r4_content.specs.Edited.{is_between}
 use Rattle.r4_content.specs.Objects.{entry_rank, is_same_target}
 
@@ -54,8 +54,8 @@ same_target t u a b c i = record { locality = a i; ordering = b i; oid = same_oi
 
 pub told_same : (t u : Target) → is_same_target t u ≡ true → t ≡ u
 told_same t u e =
-    let h = both (t.locality == u.locality && t.ordering == u.ordering) (t.oid.0 == u.oid.0) e in
-    let g = both (t.locality == u.locality) (t.ordering == u.ordering) h.0 in
+    let h = and_parts (t.locality == u.locality && t.ordering == u.ordering) (t.oid.0 == u.oid.0) e in
+    let g = and_parts (t.locality == u.locality) (t.ordering == u.ordering) h.0 in
     same_target t u (eqb-true _ _ g.0) (eqb-true _ _ g.1) (eqb-true _ _ h.1)
 
 pub same_itself : (t : Target) → is_same_target t t ≡ true
@@ -81,7 +81,7 @@ unfolding rank
 byte_after t x y = omega arith
 
 pub between_is : (from to k : ℕ) → is_between from to k ≡ true → (from ≤ k) × (k < to)
-between_is from to k e = let h = both (nat_le from k) (nat_lt k to) e in (leb-true _ _ h.0, ltb-true _ _ h.1)
+between_is from to k e = let h = and_parts (nat_le from k) (nat_lt k to) e in (leb-true _ _ h.0, ltb-true _ _ h.1)
 
 -- a key between two of them is one of them
 pub in_body : (t : Target) (from to k : ℕ) → is_between (byte_rank t from) (byte_rank t to) k ≡ true → (x : ℕ) × (k ≡ byte_rank t x) × (from ≤ x) × (x < to)

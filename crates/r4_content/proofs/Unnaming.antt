@@ -3,6 +3,7 @@ use Rattle.std.specs.Prelude.{◌≡◌, ◌≢◌, ℕ, ◌+◌, ◌-◌, ◌^�
 use Rattle.std.proofs.Common.{arith, refl, sym, ap, subst, ◌∙◌}
 use Rattle.std.proofs.lemmas.List.Elements.{All-take}
 use Rattle.std.proofs.lemmas.Option.{same_Some}
+use Rattle.std.proofs.lemmas.Bool.{or_left}
 use Rattle.r4_base.specs.Value.{Value, Stat, Entry, Content, at_key}
 use Rattle.r4_base.specs.Volume.{IsObject, byte_rank, is_directory, stat_rank}
 use Rattle.r4_base.specs.declared.items.Attr.{Attr}
@@ -17,7 +18,7 @@ use Rattle.r4_content.specs.Walk.{attr_at, target_in}
 use Rattle.r4_content.specs.Ways.{Place, step, to_entry, to_object}
 use Rattle.r4_content.specs.declared.command.Command.TheVariants.{Unlink, Stat as StatCommand}
 use Rattle.r4_content.specs.declared.reply.Reply.TheVariants.{Okay, Isdir, Absent, Attr as AttrReply}
-use Rattle.r4_content.proofs.CourseLaws.{at_itself, or_left}
+use Rattle.r4_content.proofs.CourseLaws.{at_itself}
 use Rattle.r4_content.proofs.EditLaws.{at_edited, edited_off}
 use Rattle.r4_content.proofs.EditParts.{IsOff, edited_first, edited_second, is_off, off_both, true_not_false}
 use Rattle.r4_content.proofs.FileEdits.{attr_of, off_attr, off_cuts, other_stat, put_itself}

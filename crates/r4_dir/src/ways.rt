@@ -124,10 +124,16 @@ pub fn walk_to(alloc: Global, seen: &Seen, path: &[Name]) -> Result<Result<Place
     ensures small { IfOk result (λ r. IfOk r (λ p. IsSmall p.here)) }
     ensures comes { IfOk result (λ r. MatchResult r (λ p. Comes (to_object path.now) (pairs_of seen.now) (place_of p)) (λ e. Stops (to_object path.now) (pairs_of seen.now) e)) }
 {
-    let Some(attr) = attr_at(seen, Key::stat(ROOT_OBJECT.locality, ROOT_OBJECT.ordering, ROOT_OBJECT.oid)) else {
+    let Some(attr) = attr_at(
+        seen,
+        Key::stat(ROOT_OBJECT.locality, ROOT_OBJECT.ordering, ROOT_OBJECT.oid),
+    ) else {
         return Ok(Err(Reply::Notdir));
     };
-    let mut here = Object { target: ROOT_OBJECT, attr };
+    let mut here = Object {
+        target: ROOT_OBJECT,
+        attr,
+    };
     let mut above = Vec::new(alloc);
     for name in path {
         match step_to(seen, &here, name) {

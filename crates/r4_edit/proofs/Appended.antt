@@ -8,6 +8,7 @@ use Rattle.std.proofs.lemmas.List.Edits.{insert_end}
 use Rattle.r4_base.specs.Lending.{written}
 use Rattle.r4_base.specs.Node.{Item, count_of, fits_level, item_at, items_of, key_at, level_of, offset_at, plugin_at}
 use Rattle.r4_base.specs.declared.key.Key.{Key}
+use Rattle.r4_base.proofs.Choices.{get_end}
 use Rattle.r4_node40.specs.Edits.{GoesBetween, InsertsItem}
 use Rattle.r4_node40.specs.Laid.{IsLaid, IsNode, WritesBody, room_of, span_at}
 use Rattle.r4_node40.proofs.Accepted.{space}
@@ -15,21 +16,6 @@ use Rattle.r4_node40.proofs.Bodies.{body_lent}
 use Rattle.r4_node40.proofs.Kept.{node_inserted, node_written}
 use Rattle.r4_node40.proofs.Laid.{get_or-items_of, length-items_of}
 use Rattle.r4_edit.specs.Nodes.{IsAppended}
-
--- where a call went well, what it promises then
-pub went_well : {T E : Type 0} (r : Result T E) (P : Type 0) → IsOk r → OnOk r P → P
-went_well (Ok v) P ok p = p
-went_well (Err e) P ok p = let no_value : false ≡ true = ok in absurd cc
-
-pub room_small : (b : List ℕ) → IsLaid b → room_of b ≤ 4068
-room_small b laid = let s = space b laid in omega (arith, s)
-
-pub none_at : (k : ℕ) (x : Item) → slice_get [] k ≡ Some x → ⊥
-none_at k x e = absurd cc
-
-get_end : (xs : List Item) (x d : Item) → get_or (xs ++ x ∷ []) (length xs) d ≡ x
-get_end [] x d = refl
-get_end (y ∷ xs) x d = get_end xs x d
 
 module _ (b0 b1 body : List ℕ) (n plugin : ℕ) (key : Key) (counted : n ≡ count_of b0) (node : IsNode b0)
     (fits : fits_level (level_of b0) plugin ≡ true) (between : GoesBetween (items_of b0) n key) (some : 1 ≤ length body)

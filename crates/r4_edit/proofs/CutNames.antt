@@ -6,12 +6,13 @@ use Rattle.r4_base.specs.Cell.{run_names, zeros_from}
 use Rattle.r4_base.specs.Extents.{is_hole}
 use Rattle.r4_base.specs.Key.{rank}
 use Rattle.r4_base.specs.Tree.{Name}
+use Rattle.r4_branch.proofs.ItemPieces.{units_append}
 use Rattle.r4_branch.specs.Pieces.{Follow, names_of, next_of, part_end, part_names, part_units, piece_end, units_of}
 use Rattle.r4_branch.specs.declared.piece.TwigPart.{TwigPart}
 use Rattle.r4_branch.specs.declared.piece.TwigPart.TheVariants.{Pointer, Blocks}
 use Rattle.r4_branch.specs.declared.piece.TwigPiece.{TwigPiece}
 use Rattle.r4_graft.proofs.FoundPlaces.{next_lower, runs_level}
-use Rattle.r4_graft.proofs.Joined.{names_join, next_join, units_join}
+use Rattle.r4_graft.proofs.Joined.{names_join, next_join}
 use Rattle.r4_graft.proofs.Placed.{first_or_later, follow_above, follow_end, has_end, first_member, not_in_none}
 use Rattle.r4_graft.proofs.SplicedNames.{names_begin}
 use Rattle.r4_leaf.specs.Units.{cut_units}
@@ -175,8 +176,8 @@ module _ (lo hi from to : ℕ) (ps xs ms ys ns : List TwigPiece) (s : AreSplit l
   -- The units of what stays are those of all but those between the keys.
   pub units_without : units_of (xs ++ (ns ++ ys)) ≡ cut_units from to (units_of ps)
   units_without =
-      units_join xs (ns ++ ys) ∙ (ap (λ us. units_of xs ++ us) (units_join ns ys ∙ ap (λ us. us ++ units_of ys) none)
-      ∙ sym (ap (cut_units from to) (ap units_of s.is ∙ (units_join xs (ms ++ ys) ∙ ap (λ us. units_of xs ++ us) (units_join ms ys)))
+      units_append xs (ns ++ ys) ∙ (ap (λ us. units_of xs ++ us) (units_append ns ys ∙ ap (λ us. us ++ units_of ys) none)
+      ∙ sym (ap (cut_units from to) (ap units_of s.is ∙ (units_append xs (ms ++ ys) ∙ ap (λ us. units_of xs ++ us) (units_append ms ys)))
       ∙ (filter-append _ (units_of xs) (units_of ms ++ units_of ys)
       ∙ (ap (λ us. cut_units from to (units_of xs) ++ us) (filter-append _ (units_of ms) (units_of ys))
       ∙ (λ i. cut_low from to lo from (units_of xs) (omega arith) (units_rise lo from xs s.left) i

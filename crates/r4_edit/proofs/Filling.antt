@@ -6,12 +6,12 @@ use Rattle.std.proofs.lemmas.List.Sums.{sum_by-append}
 use Rattle.std.proofs.lemmas.Option.{slice_get_within, same_Some}
 use Rattle.r4_base.specs.Key.{IsBelow}
 use Rattle.r4_base.specs.Node.{Item, KeysRise, PluginsFit, count_of, fits_level, items_of, level_of}
+use Rattle.r4_base.proofs.Choices.{none_at}
 use Rattle.r4_node40.specs.Edits.{GoesBetween}
 use Rattle.r4_node40.specs.Laid.{IsFresh, room_of}
 use Rattle.r4_node40.proofs.Accepted.{space}
 use Rattle.r4_node40.proofs.Laid.{length-items_of}
 use Rattle.r4_edit.specs.Nodes.{IsAppended, IsNodeOf, weight, weight_of}
-use Rattle.r4_edit.proofs.Appended.{none_at}
 
 module _ {A : Type 0} where
   pub take_more : (n : ℕ) (xs : List A) (x : A) → slice_get xs n ≡ Some x → take (n + 1) xs ≡ take n xs ++ x ∷ []

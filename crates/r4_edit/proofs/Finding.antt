@@ -12,6 +12,7 @@ use Rattle.r4_base.specs.Key.{rank}
 use Rattle.r4_base.specs.Node.{Item, count_of, edge_at, item_at, items_of, offset_at}
 use Rattle.r4_base.specs.Tree.{Name}
 use Rattle.r4_base.proofs.Numbers.{length-slice_range}
+use Rattle.r4_node40.proofs.LaidItems.{item_bodied}
 use Rattle.r4_cell.specs.Seen.{CellSeen}
 use Rattle.r4_cell.proofs.ItemRows.{extent_data}
 use Rattle.r4_node40.specs.Laid.{IsLaid}
@@ -149,16 +150,6 @@ put_behind items before p behind at cells is here =
     ∙ append_assoc before (p ∷ []) (map pointer_item cells ++ behind))))
 
 -- ---- the bodies of a node's items
-
-item_bodied : (b : List ℕ) (n i : ℕ) → IsLaid b → n ≡ count_of b → i < n → 1 ≤ length (item_at n b i).body
-unfolding item_at
-item_bodied b n i laid is lt =
-    let here = edge_next n i b lt in
-    let order = edge_step b n i laid is lt in
-    let s = edge_stands b n (i + 1) laid is (omega arith) in
-    let long = length-slice_range b (offset_at b i) (edge_at n b (i + 1)) (omega arith)
-    (omega (arith, s.high, s.start, laid.whole)) in
-    omega arith
 
 weighs_most : (xs : List Item) (k : ℕ) (x : Item) → slice_get xs k ≡ Some x → weight_of x ≤ weight xs
 weighs_most [] k x e = absurd cc

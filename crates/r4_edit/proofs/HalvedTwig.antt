@@ -6,6 +6,7 @@ use Rattle.std.proofs.lemmas.List.{append-nil, take-append-drop, length-take, le
 use Rattle.r4_base.specs.Key.{rank}
 use Rattle.r4_base.specs.Node.{items_of, mkfs_id_of}
 use Rattle.r4_base.specs.declared.key.Key.{Key}
+use Rattle.r4_branch.proofs.ItemPieces.{units_append}
 use Rattle.r4_branch.specs.Pieces.{AreTwigPieces, Follow as FollowPieces, last_end, names_of, next_of, part_bytes, twig_bytes, units_of}
 use Rattle.r4_branch.specs.Pieces.{bytes_behind}
 use Rattle.r4_branch.specs.Twigs.{IsTwig}
@@ -15,7 +16,7 @@ use Rattle.r4_branch.specs.declared.piece.TwigPiece.{TwigPiece}
 use Rattle.r4_branch.proofs.Following.{follow_wider}
 use Rattle.r4_cell.specs.Seen.{CellSeen, node_of}
 use Rattle.r4_cell.specs.declared.change.Fresh.{Fresh}
-use Rattle.r4_graft.proofs.Joined.{bytes_any, bytes_join, end_of, follow_parts, names_join, units_join}
+use Rattle.r4_graft.proofs.Joined.{bytes_any, bytes_join, end_of, follow_parts, names_join}
 use Rattle.r4_edit.specs.Extents.{ArePiecesOf, twig_pieces}
 use Rattle.r4_edit.specs.Grafts.{IsTwigRow}
 use Rattle.r4_edit.specs.Sharing.{IsSound}
@@ -121,7 +122,7 @@ module _ (lo hi : ℕ) (ps left right : List TwigPiece) (key : Key) (are : AreHa
       ∙ (names_join hi left right ∙ ap (λ k. names_of k left ++ names_of hi right) (are.next hi))
 
   pub units_halves : units_of ps ≡ units_of left ++ units_of right
-  units_halves = ap units_of are.same ∙ units_join left right
+  units_halves = ap units_of are.same ∙ units_append left right
 
 -- ---- the two cells
 

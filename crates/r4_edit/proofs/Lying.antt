@@ -2,18 +2,16 @@
 use Rattle.std.proofs.Common.{◌≡◌, ℕ, zero, suc, ◌+◌, ◌^◌, ◌<◌, ◌≤◌, Bool, true, false, not, ◌&&◌, ◌||◌, List, [], ◌∷◌, length}
 use Rattle.std.proofs.Common.{cond, refl, sym, ap, ◌∙◌, arith}
 use Rattle.std.specs.Prelude.{Some, None, ◌==◌, nat_le, nat_lt, if◌then◌else◌}
-use Rattle.std.proofs.lemmas.Bool.{leb-true, ltb-true, le-leb, lt-ltb, eq-eqb}
+use Rattle.std.proofs.lemmas.Bool.{and_from, and_parts, eq-eqb, le-leb, leb-true, lt-ltb, ltb-true}
 use Rattle.std.proofs.lemmas.Bool.Decides.{nat_tests}
 use Rattle.r4_base.specs.Cell.{cell_fault, item_body_fault, item_end, items_in_fault, next_key, offsets_fit, range_is_good}
 use Rattle.r4_base.specs.Key.{rank}
 use Rattle.r4_base.specs.Node.{Item, count_of, is_empty_branch, items_of, level_of, node_fault}
 use Rattle.r4_base.specs.declared.items.CellFault.TheVariants.{Range}
 use Rattle.r4_base.specs.declared.node.NodeFault.TheVariants.{Empty}
+use Rattle.r4_base.proofs.Choices.{chosen, or_none}
 use Rattle.r4_node40.proofs.Accepted.{accepted}
-use Rattle.r4_node40.proofs.Faults.{and_true}
 use Rattle.r4_node40.proofs.Laid.{length-items_of}
-use Rattle.r4_cell.proofs.Faults.{or_none}
-use Rattle.r4_cell.proofs.Items.{chosen}
 use Rattle.r4_edit.specs.Nodes.{IsNodeOf}
 
 -- the items may stand in a cell of this level and range, from place i on
@@ -30,14 +28,10 @@ pub record Lies (level lo hi next i : ℕ) (it : Item) : Type 0 where
   pub before : item_end it ≤ next
   pub first : (nat_le level 1 || not (i == 0) || rank it.key == lo) ≡ true
 
-both : (a b : Bool) → a ≡ true → b ≡ true → (a && b) ≡ true
-both true b p q = q
-both false b p q = absurd cc
-
 range_good : (level lo hi next i : ℕ) (it : Item) → Lies level lo hi next i it → range_is_good level lo hi next i it ≡ true
 range_good level lo hi next i it l =
-    both _ _ (both _ _ (both _ _ (both _ _
-    (both _ _ (le-leb lo (rank it.key) l.from) (lt-ltb (rank it.key) hi l.below)) l.fits) (le-leb (item_end it) hi l.end))
+    and_from _ _ (and_from _ _ (and_from _ _ (and_from _ _
+    (and_from _ _ (le-leb lo (rank it.key) l.from) (lt-ltb (rank it.key) hi l.below)) l.fits) (le-leb (item_end it) hi l.end))
     (le-leb (item_end it) next l.before)) l.first
 
 pub good_cons : (level lo hi i : ℕ) (it : Item) (items : List Item) → Lies level lo hi (next_key hi items) i it
@@ -57,11 +51,11 @@ good_parts level lo hi i it items h =
     let outer = or_none (item_body_fault true (2 ^ 64) it) _ h in
     let rest = or_none (if range_is_good level lo hi (next_key hi items) i it then None else Some (Range i)) _ outer.1 in
     let good : range_is_good level lo hi (next_key hi items) i it ≡ true = chosen _ (Range i) rest.0 in
-    let a = and_true _ (nat_le level 1 || not (i == 0) || rank it.key == lo) good in
-    let b = and_true _ (nat_le (item_end it) (next_key hi items)) a.0 in
-    let c = and_true _ (nat_le (item_end it) hi) b.0 in
-    let d = and_true _ (offsets_fit it) c.0 in
-    let e = and_true (nat_le lo (rank it.key)) (nat_lt (rank it.key) hi) d.0 in
+    let a = and_parts _ (nat_le level 1 || not (i == 0) || rank it.key == lo) good in
+    let b = and_parts _ (nat_le (item_end it) (next_key hi items)) a.0 in
+    let c = and_parts _ (nat_le (item_end it) hi) b.0 in
+    let d = and_parts _ (offsets_fit it) c.0 in
+    let e = and_parts (nat_le lo (rank it.key)) (nat_lt (rank it.key) hi) d.0 in
     (record { body = outer.0; from = leb-true _ _ e.0; below = ltb-true _ _ e.1; fits = d.1; end = leb-true _ _ c.1; before = leb-true _ _ b.1; first = a.1 }, rest.1)
 
 -- ---- a node of such items

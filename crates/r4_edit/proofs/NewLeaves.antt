@@ -2,7 +2,7 @@
 use Rattle.std.proofs.Common.{◌≡◌, ◌⊎◌, inl, inr, ℕ, ◌+◌, ◌^◌, ◌<◌, ◌≤◌, Bool, true, false, List, [], ◌∷◌, ◌++◌, length, refl, sym, ap, subst, ◌∙◌, arith}
 use Rattle.std.specs.Prelude.{slice_get, Contains, Option, Some, None, ◌==◌, nat_le, if◌then◌else◌}
 use Rattle.std.specs.Option.{option_map}
-use Rattle.std.proofs.lemmas.Bool.{leb-true}
+use Rattle.std.proofs.lemmas.Bool.{and_parts, leb-true}
 use Rattle.std.proofs.lemmas.List.{append-nil}
 use Rattle.std.proofs.lemmas.Option.{same_Some}
 use Rattle.r4_base.specs.Cell.{cell_fault, fault_in, item_body_fault, item_end, item_units, units_in}
@@ -15,8 +15,8 @@ use Rattle.r4_base.specs.Value.{Value}
 use Rattle.r4_base.specs.declared.items.CellFault.TheVariants.{Dir, Stat, Tail}
 use Rattle.r4_base.specs.declared.key.Key.{Key}
 use Rattle.r4_base.proofs.Dirs.{accepted}
+use Rattle.r4_base.proofs.Choices.{chosen, none_under}
 use Rattle.r4_cell.specs.Seen.{CellSeen, node_of}
-use Rattle.r4_cell.proofs.Items.{chosen}
 use Rattle.r4_cell.proofs.Nodes.{cell_node}
 use Rattle.r4_leaf.specs.Leaves.{IsGiven, MayStand}
 use Rattle.r4_leaf.specs.Units.{LeafUnit}
@@ -24,7 +24,6 @@ use Rattle.r4_leaf.proofs.Lying.{units_cons, units_nil}
 use Rattle.r4_leaf.proofs.Packed.{lie_good}
 use Rattle.r4_leaf.proofs.SoundItems.{stat_long}
 use Rattle.r4_leaf.proofs.Standing.{given_sound}
-use Rattle.r4_node40.proofs.Faults.{and_true}
 use Rattle.r4_node40.proofs.Laid.{get-items_of, key_fits, length-items_of}
 use Rattle.r4_edit.specs.LeafParts.{IsLeftPart, IsNewLeaf, IsRightPart, IsWidened, first_from}
 use Rattle.r4_edit.specs.Nodes.{IsNodeOf}
@@ -37,10 +36,6 @@ use Rattle.r4_edit.proofs.PartedLeaf.{stands_level, stands_wider}
 use Rattle.r4_edit.proofs.Rising.{hi_is, lo_is}
 
 -- ---- a given item has a body
-
-none_under : {A B : Type 0} (f : A → B) (o : Option A) → option_map f o ≡ None → o ≡ None
-none_under f None e = refl
-none_under f (Some x) e = absurd cc
 
 pub given_some : (it : Item) → IsGiven it → 1 ≤ length it.body
 unfolding item_body_fault
@@ -64,7 +59,7 @@ given_some it g = by_plugin g.plugin
         let d : (it.plugin == 3) ≡ false = ap (λ (x : ℕ). x == 3) is in
         let e : (it.plugin == 5) ≡ false = ap (λ (x : ℕ). x == 5) is in
         let body = g.sound in
-        let t = and_true (nat_le 1 (length it.body)) (nat_le (offset_of it.key + length it.body) 16384) (chosen _ Tail (rw (a, b, d, e) at body)) in
+        let t = and_parts (nat_le 1 (length it.body)) (nat_le (offset_of it.key + length it.body) 16384) (chosen _ Tail (rw (a, b, d, e) at body)) in
         leb-true _ _ t.0
 
 -- ---- a block of one item

@@ -9,11 +9,11 @@ use Rattle.r4_base.specs.Tree.{Root, Store}
 use Rattle.r4_base.specs.Value.{Value}
 use Rattle.r4_branch.specs.Pieces.{item_pieces, part_units, units_of}
 use Rattle.r4_branch.specs.declared.piece.TwigPiece.{TwigPiece}
-use Rattle.r4_branch.proofs.ItemPieces.{follow_item, units_of_item}
+use Rattle.r4_branch.proofs.ItemPieces.{follow_item, units_append, units_of_item}
 use Rattle.r4_cell.specs.Seen.{CellSeen, node_of}
 use Rattle.r4_cell.specs.declared.change.Change.{Change}
 use Rattle.r4_cell.specs.declared.change.Fresh.{Fresh}
-use Rattle.r4_graft.proofs.Joined.{end_of, units_join}
+use Rattle.r4_graft.proofs.Joined.{end_of}
 use Rattle.r4_leaf.specs.Units.{put_units}
 use Rattle.r4_leaf.proofs.Rising.{Rise, put_run, rise_lower, rise_wider}
 use Rattle.r4_edit.specs.Extents.{ArePiecesOf, IsGivenExtent, IsOverIn, IsOverUp, PutsOverUp, given_cells, over_pieces, pointer_to, twig_pieces}
@@ -55,14 +55,14 @@ module _ (twig leaf : CellSeen) (ps : List TwigPiece) (are : ArePiecesOf twig ps
 
   come_units : units_of (comes twig leaf ps are named leaf_level it right given from after) ≡ item_units it
   come_units =
-      units_join (stays twig leaf ps are named leaf_level it right given from after) (item_pieces it ++ pointer_to right)
-      ∙ ((λ i. kept_none (rank it.key == rank leaf.lo) i ++ units_join (item_pieces it) (pointer_to right) i)
+      units_append (stays twig leaf ps are named leaf_level it right given from after) (item_pieces it ++ pointer_to right)
+      ∙ ((λ i. kept_none (rank it.key == rank leaf.lo) i ++ units_append (item_pieces it) (pointer_to right) i)
       ∙ ((λ i. units_of_item it given.sound i ++ pointer_none right i) ∙ append-nil (item_units it)))
 
   were_units : units_of ps ≡ units_of before_it ++ units_of behind_it
   were_units =
       ap units_of (place_of_leaf twig leaf ps are named leaf_level it right given from after).is
-      ∙ (units_join before_it (pointer ∷ behind_it) ∙ ap (λ us. units_of before_it ++ us) pointed_none)
+      ∙ (units_append before_it (pointer ∷ behind_it) ∙ ap (λ us. units_of before_it ++ us) pointed_none)
 
   before_rise : Rise (rank twig.lo) (rank it.key) (units_of before_it)
   before_rise =
@@ -83,8 +83,8 @@ module _ (twig leaf : CellSeen) (ps : List TwigPiece) (are : ArePiecesOf twig ps
   pub over_units : units_of (over_pieces it leaf right ps) ≡ put_units (item_units it) (node_of twig).units
   over_units =
       ap units_of (over_is twig leaf ps are named leaf_level it right)
-      ∙ (units_join before_it (comes twig leaf ps are named leaf_level it right given from after ++ behind_it)
-      ∙ (ap (λ us. units_of before_it ++ us) (units_join (comes twig leaf ps are named leaf_level it right given from after) behind_it)
+      ∙ (units_append before_it (comes twig leaf ps are named leaf_level it right given from after ++ behind_it)
+      ∙ (ap (λ us. units_of before_it ++ us) (units_append (comes twig leaf ps are named leaf_level it right given from after) behind_it)
       ∙ (ap (λ us. units_of before_it ++ (us ++ units_of behind_it)) come_units
       ∙ (sym (put_run (rank twig.lo) (rank it.key) (item_end it) (rank twig.hi) (item_units it) (units_of before_it) (units_of behind_it) before_rise item_rise behind_rise)
       ∙ ap (put_units (item_units it)) (sym were_units ∙ are.units)))))

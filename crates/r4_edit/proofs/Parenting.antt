@@ -2,7 +2,7 @@
 use Rattle.std.proofs.Common.{◌≡◌, inl, inr, ℕ, suc, ◌+◌, ◌^◌, ◌<◌, ◌≤◌, Bool, true, false, not, ◌||◌, List, [], ◌∷◌, ◌++◌}
 use Rattle.std.proofs.Common.{length, refl, sym, ap, subst, ◌∙◌, arith}
 use Rattle.std.specs.Prelude.{All, Contains, Option, Some, None, ◌==◌, nat_le, if◌then◌else◌}
-use Rattle.std.proofs.lemmas.Bool.{eqb-true}
+use Rattle.std.proofs.lemmas.Bool.{and_parts, eqb-true}
 use Rattle.std.proofs.lemmas.Bool.Decides.{nat_tests}
 use Rattle.std.proofs.lemmas.List.Elements.{All-cons, All-nil, Contains-append_cases, Contains-append_left}
 use Rattle.std.proofs.lemmas.List.Elements.{Contains-append_right}
@@ -13,11 +13,10 @@ use Rattle.r4_base.specs.Key.{rank}
 use Rattle.r4_base.specs.Node.{Item, PluginsFit, count_of, fits_level, is_empty_branch, items_of, level_of}
 use Rattle.r4_base.specs.Tree.{Name, Span}
 use Rattle.r4_base.specs.declared.items.CellFault.TheVariants.{Pointer}
+use Rattle.r4_base.proofs.Choices.{chosen}
 use Rattle.r4_cell.specs.Seen.{CellSeen, node_of}
-use Rattle.r4_cell.proofs.Items.{chosen}
 use Rattle.r4_cell.proofs.NodesAt.{IsNodeAt, node_at}
 use Rattle.r4_node40.proofs.Accepted.{good}
-use Rattle.r4_node40.proofs.Faults.{and_true}
 use Rattle.r4_node40.proofs.Laid.{length-items_of}
 use Rattle.r4_edit.specs.Nodes.{weight_of}
 use Rattle.r4_edit.specs.Sharing.{IsSound, items_of_cells}
@@ -146,7 +145,7 @@ pointer_long : (b : List ℕ) → names_block true (2 ^ 64) (pointer_of b) ≡ t
 unfolding pointer_of
 pointer_long b h =
     let (to, is) = some_pointer _ h in
-    eqb-true (length b) 8 (and_true (length b == 8) _ (eight _ to _ is)).0
+    eqb-true (length b) 8 (and_parts (length b == 8) _ (eight _ to _ is)).0
 
 accepted_pointer : (it : Item) → it.plugin ≡ 3 → item_body_fault true (2 ^ 64) it ≡ None
     → names_block true (2 ^ 64) (pointer_of it.body) ≡ true

@@ -11,9 +11,8 @@ use Rattle.r4_base.specs.Node.{Item, items_of, level_of, mkfs_id_of, node_fault}
 use Rattle.r4_base.specs.declared.items.CellFault.TheVariants.{Node, Level}
 use Rattle.r4_base.specs.declared.key.Key.{Key}
 use Rattle.r4_base.specs.declared.node.NodeFault.{NodeFault}
+use Rattle.r4_base.proofs.Choices.{chosen, none_of_node, or_none}
 use Rattle.r4_cell.specs.Seen.{CellSeen, node_of}
-use Rattle.r4_cell.proofs.Faults.{or_none}
-use Rattle.r4_cell.proofs.Items.{chosen}
 use Rattle.r4_leaf.specs.Items.{Lie}
 use Rattle.r4_leaf.specs.Leaves.{HaveMkfsId, MayStand}
 use Rattle.r4_leaf.specs.Units.{LeafUnit, cut_units, leaf_bytes}
@@ -34,16 +33,12 @@ use Rattle.r4_edit.proofs.SidesOfKey.{below_fits, below_twice, cut_before, cut_b
 
 -- ---- a block that may stand as a leaf
 
-none_under : (o : Option NodeFault) → option_map Node o ≡ None → o ≡ None
-none_under None h = refl
-none_under (Some f) h = absurd cc
-
 stands_parts : (lo hi : ℕ) (b : List ℕ) → MayStand lo hi b → (node_fault b ≡ None) × (level_of b ≡ 1) × Good 1 lo hi 0 (items_of b)
 unfolding cell_fault
 stands_parts lo hi b stand =
     let node = or_none (option_map Node (node_fault b)) _ stand.1 in
     let level = or_none (if level_of b == 1 then None else Some Level) _ node.1 in
-    (none_under (node_fault b) node.0, eqb-true _ _ (chosen _ Level level.0), level.1)
+    (none_of_node (node_fault b) node.0, eqb-true _ _ (chosen _ Level level.0), level.1)
 
 pub stands_level : (lo hi : ℕ) (b : List ℕ) → MayStand lo hi b → (node_fault b ≡ None) × (level_of b ≡ 1)
 stands_level lo hi b stand = let is = stands_parts lo hi b stand in (is.0, is.1)

@@ -9,12 +9,11 @@ use Rattle.r4_base.specs.Value.{Value}
 use Rattle.r4_base.specs.declared.key.Key.{Key}
 use Rattle.r4_branch.specs.Pieces.{Follow, item_pieces, next_of, units_of}
 use Rattle.r4_branch.specs.declared.piece.TwigPiece.{TwigPiece}
-use Rattle.r4_branch.proofs.ItemPieces.{follow_item, units_of_item}
+use Rattle.r4_branch.proofs.ItemPieces.{follow_item, units_append, units_of_item}
 use Rattle.r4_cell.specs.Seen.{CellSeen, node_of}
 use Rattle.r4_cell.specs.declared.change.Change.{Change}
 use Rattle.r4_cell.specs.declared.change.Fresh.{Fresh}
 use Rattle.r4_graft.specs.Splices.{place}
-use Rattle.r4_graft.proofs.Joined.{units_join}
 use Rattle.r4_leaf.specs.Units.{put_units}
 use Rattle.r4_leaf.proofs.Rising.{put_run}
 use Rattle.r4_edit.specs.Extents.{AreAmongExtents, ArePiecesOf, IsLeafPutIn, IsLeafPutUp, IsSpreadIn, IsSpreadUp, PutsLeafUp, SpreadsUp, leaf_pointer, put_pieces, twig_pieces}
@@ -31,9 +30,9 @@ use Rattle.r4_edit.proofs.Spread.{nothing}
 pub units_among : (lo from to hi : ℕ) (xs us ys : List TwigPiece) → Follow lo from xs → Follow from to us → Follow to hi ys
     → units_of (xs ++ (us ++ ys)) ≡ put_units (units_of us) (units_of (xs ++ ys))
 units_among lo from to hi xs us ys fx fu fy =
-    units_join xs (us ++ ys) ∙ (ap (λ vs. units_of xs ++ vs) (units_join us ys)
+    units_append xs (us ++ ys) ∙ (ap (λ vs. units_of xs ++ vs) (units_append us ys)
     ∙ (sym (put_run lo from to hi (units_of us) (units_of xs) (units_of ys) (units_rise lo from xs fx) (units_rise from to us fu) (units_rise to hi ys fy))
-    ∙ ap (put_units (units_of us)) (sym (units_join xs ys))))
+    ∙ ap (put_units (units_of us)) (sym (units_append xs ys))))
 
 module _ (twig : CellSeen) (ps : List TwigPiece) (are : ArePiecesOf twig ps) (from to : ℕ)
     (keys : AreAmongExtents twig from to) (us : List TwigPiece) (f : Follow from to us) where

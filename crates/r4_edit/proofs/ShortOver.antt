@@ -2,7 +2,7 @@
 use Rattle.std.proofs.Common.{◌≡◌, ◌≢◌, ◌⊎◌, inl, inr, ℕ, ◌+◌, ◌-◌, ◌%◌, ◌^◌, ◌<◌, ◌≤◌, true, List, [], ◌∷◌, ◌++◌, length, map, take, drop, refl, sym}
 use Rattle.std.proofs.Common.{ap, get_or, subst, ◌∙◌, arith}
 use Rattle.std.specs.Prelude.{AllPairs, Contains, reverse, slice_get, Option, None, Some, ◌==◌, ◌&&◌, if◌then◌else◌}
-use Rattle.std.proofs.lemmas.Bool.{eqb-true}
+use Rattle.std.proofs.lemmas.Bool.{and_parts, eqb-true}
 use Rattle.std.proofs.lemmas.List.{take-append-drop}
 use Rattle.std.proofs.lemmas.Option.{same_Some}
 use Rattle.r4_base.specs.Cell.{block_names, item_end}
@@ -12,7 +12,6 @@ use Rattle.r4_base.specs.Node.{Item}
 use Rattle.r4_base.specs.Tree.{Name, Root, Store}
 use Rattle.r4_base.specs.Value.{Value}
 use Rattle.r4_base.specs.declared.items.Unit.{Unit as ExtentUnit}
-use Rattle.r4_node40.proofs.Faults.{and_true}
 use Rattle.r4_twig.proofs.Faults.{body_none}
 use Rattle.r4_branch.specs.Pieces.{bytes_behind, item_pieces, last_end, twig_bytes}
 use Rattle.r4_branch.specs.declared.piece.TwigPiece.{TwigPiece}
@@ -218,5 +217,5 @@ first_may_lie cells leaf rest it end e are low blocks key within clear =
 
 pub unit_is : (u : ExtentUnit) (n : ℕ) → (u.start == n && u.width == 1) ≡ true → u ≡ record { start = n; width = 1 }
 unit_is u n h =
-    let p = and_true (u.start == n) (u.width == 1) h in
+    let p = and_parts (u.start == n) (u.width == 1) h in
     (λ i. record { start = eqb-true u.start n p.0 i; width = eqb-true u.width 1 p.1 i })

@@ -10,6 +10,8 @@ use Rattle.r4_base.specs.Key.{rank}
 use Rattle.r4_base.specs.Node.{Item, count_of, items_of, level_of, mkfs_id_of}
 use Rattle.r4_base.specs.Tree.{Name}
 use Rattle.r4_base.specs.declared.key.Key.{Key}
+use Rattle.r4_base.proofs.Choices.{some_items}
+use Rattle.r4_branch.proofs.ItemPieces.{units_append}
 use Rattle.r4_branch.specs.Pieces.{MayStand, names_of, next_of, part_names, part_units, twig_bytes, units_of}
 use Rattle.r4_branch.specs.Twigs.{AreFewTwigs, IsTwig, PacksTwigs}
 use Rattle.r4_branch.specs.declared.piece.TwigPiece.{TwigPiece}
@@ -32,9 +34,6 @@ use Rattle.r4_edit.proofs.Members.{cases, here, later, none}
 
 -- ---- a twig has a range
 
-some_items : (level count : ℕ) → (nat_lt 1 level && count == 0) ≡ false → 2 ≤ level → 0 < count
-some_items level count h two = grind (arith, nat_tests)
-
 items_wide : (lo hi : ℕ) (items : List Item) → 1 ≤ length items → Good 2 lo hi 0 items → lo < hi
 items_wide lo hi [] some at = absurd (omega (arith, some))
 items_wide lo hi (it ∷ items) some at =
@@ -56,12 +55,6 @@ twig_wide lo hi b stands = items_wide lo hi (items_of b) (has_items lo hi b stan
     (node_at true (2 ^ 64) 2 lo hi b (omega arith) stands.1).items
 
 -- ---- pieces in two parts
-
-units_append : (ps qs : List TwigPiece) → units_of (ps ++ qs) ≡ units_of ps ++ units_of qs
-unfolding units_of
-units_append [] qs = refl
-units_append (p ∷ ps) qs = ap (λ us. part_units (rank p.key) p.part ++ us) (units_append ps qs)
-    ∙ sym (append_assoc (part_units (rank p.key) p.part) (units_of ps) (units_of qs))
 
 next_append : (hi : ℕ) (ps : List TwigPiece) (q : TwigPiece) (qs : List TwigPiece)
     → next_of hi (ps ++ q ∷ qs) ≡ next_of (rank q.key) ps

@@ -182,7 +182,11 @@ fn first_leaf<'a>(below: &'a [Arc<Cell>]) -> Option<&'a Arc<Cell>>
     ensures { option_map (λ c. arc_value c) (option_copied result) ≡ leaf_first (map (λ c. arc_value c) below.now) }
 {
     let cell = below.first()?;
-    if cell.level() == LEAF { Some(cell) } else { None }
+    if cell.level() == LEAF {
+        Some(cell)
+    } else {
+        None
+    }
 }
 
 /// The cells below a path's twigs but the leaf with which they begin, if they do.

@@ -20,11 +20,6 @@ names_join hi (x ∷ xs) ys =
     ∙ (ap (λ ns. part_names (rank x.key) (next_of (next_of hi ys) xs) x.part ++ ns) (names_join hi xs ys)
     ∙ sym (append_assoc (part_names (rank x.key) (next_of (next_of hi ys) xs) x.part) (names_of (next_of hi ys) xs) (names_of hi ys)))
 
-pub units_join : (xs ys : List TwigPiece) → units_of (xs ++ ys) ≡ units_of xs ++ units_of ys
-unfolding units_of
-units_join [] ys = refl
-units_join (x ∷ xs) ys = ap (λ us. part_units (rank x.key) x.part ++ us) (units_join xs ys) ∙ sym (append_assoc (part_units (rank x.key) x.part) (units_of xs) (units_of ys))
-
 -- ---- order
 
 pub follow_join : (from mid to : ℕ) (xs ys : List TwigPiece) → Follow from mid xs → Follow mid to ys → Follow from to (xs ++ ys)

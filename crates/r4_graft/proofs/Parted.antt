@@ -6,13 +6,14 @@ use Rattle.std.proofs.lemmas.List.{append-nil}
 use Rattle.std.proofs.lemmas.List.Elements.{Contains-append_cases}
 use Rattle.r4_base.specs.Key.{offset_of, rank, later}
 use Rattle.r4_base.specs.declared.items.Unit.{Unit as ExtentUnit}
+use Rattle.r4_branch.proofs.ItemPieces.{units_append}
 use Rattle.r4_branch.specs.Pieces.{Follow, IsSound, IsSoundPart, bytes_behind, names_of, next_of, open_end, part_bytes, part_end, part_names, part_units, piece_end, units_of}
 use Rattle.r4_branch.specs.declared.piece.TwigPart.{TwigPart}
 use Rattle.r4_branch.specs.declared.piece.TwigPart.TheVariants.{Pointer, Blocks}
 use Rattle.r4_branch.specs.declared.piece.TwigPiece.{TwigPiece}
 use Rattle.r4_graft.specs.Splices.{IsBorder, blocks_past, first_blocks, halves, is_within, parted, parted_piece}
 use Rattle.r4_graft.proofs.Halves.{half_names, half_sound, half_units, later_key, later_rank}
-use Rattle.r4_graft.proofs.Joined.{follow_join, names_join, units_join}
+use Rattle.r4_graft.proofs.Joined.{follow_join, names_join}
 use Rattle.r4_graft.proofs.Placed.{first_member, first_or_later, later_member, has_end, not_in_none}
 
 -- ---- one piece
@@ -221,7 +222,7 @@ module _ (k : ℕ) where
   unfolding units_of
   parted_units from to [] f b = refl
   parted_units from to (p ∷ ps) f b =
-      units_join (parted_piece k p) (parted k ps)
+      units_append (parted_piece k p) (parted k ps)
       ∙ (λ i. first_units p f.1 (border_first k p ps b) i ++ parted_units (piece_end p) to ps f.2 (border_more k p ps b) i)
 
   first_follow : (p : TwigPiece) (from : ℕ) → from ≤ rank p.key → IsSound p → (rank p.key < k → k < piece_end p → (n : ℕ) × (k ≡ rank p.key + 4096 * n)) → Follow from (piece_end p) (parted_piece k p)

@@ -6,7 +6,10 @@ ghost use Rattle.r4_base.specs.Bytes.{FieldsFit, put_all};
 ghost use Rattle.r4_base.specs.Layout.{counts_are_good, super_fields, super_of, super_block, IsLawfulSuper, fields_before_magic, fields_behind_magic};
 
 use crate::field::stands_at;
-use r4_base::{FIRST_OBJECT, FIRST_PLACE, LEAST_BLOCKS, LayoutFault, MOST_BLOCKS, MOST_LEVELS, OBJECT_END, Super40, TWIG, blank, get16, get32, get64, is_fixed, put16, put32, put64, put_bytes};
+use r4_base::{
+    FIRST_OBJECT, FIRST_PLACE, LEAST_BLOCKS, LayoutFault, MOST_BLOCKS, MOST_LEVELS, OBJECT_END,
+    Super40, TWIG, blank, get16, get32, get64, is_fixed, put_bytes, put16, put32, put64,
+};
 
 const MAGIC: [u8; 16] = *b"ReIsEr40FoRmAt\0\0";
 

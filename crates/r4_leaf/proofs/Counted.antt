@@ -61,10 +61,6 @@ module _ (lo hi : ℕ) (us : List LeafUnit) where
   pub are_few : (leaves : List Leaf) → Packs lo hi us leaves → leaf_bytes us < 58912 → AreFew us leaves
   are_few leaves p small = record { one = one leaves p; several = several leaves p; more = more leaves p; few = few leaves p small }
 
-pub if_ok : {T E : Type 0} (r : Result T E) (P Q : T → Type 0) → ((v : T) → P v → Q v) → IfOk r P → IfOk r Q
-if_ok (Ok v) P Q f p = f v p
-if_ok (Err e) P Q f p = p
-
 pub if_ok2 : {T E : Type 0} (r : Result T E) (P Q R : T → Type 0) → ((v : T) → P v → Q v → R v) → IfOk r P → IfOk r Q → IfOk r R
 if_ok2 (Ok v) P Q R f p q = f v p q
 if_ok2 (Err e) P Q R f p q = p

@@ -1,7 +1,7 @@
 -- Leaves that are filled one after the other.
 use Rattle.std.proofs.Common.{◌≡◌, ℕ, suc, ◌+◌, ◌-◌, ◌^◌, ◌<◌, ◌≤◌, Bool, true, false, ◌&&◌, List, [], ◌∷◌, ◌++◌, length, cond, inl, inr, refl, sym, ap, subst, ◌∙◌, arith}
 use Rattle.std.specs.Prelude.{slice_get, Option, Some, None, ◌==◌, nat_le, nat_lt, reverse, if◌then◌else◌}
-use Rattle.std.proofs.lemmas.Bool.{eq-eqb, le-leb, lt-ltb}
+use Rattle.std.proofs.lemmas.Bool.{and_from, eq-eqb, le-leb, lt-ltb}
 use Rattle.std.proofs.lemmas.List.{append_assoc, append-nil, length-append, reverse-append}
 use Rattle.std.proofs.lemmas.Option.{same_Some}
 use Rattle.r4_base.specs.Cell.{bytes_from, cell_fault, entry_unit, item_end, items_in_fault, next_key, range_is_good, units_in}
@@ -16,6 +16,7 @@ use Rattle.r4_base.specs.Node.{Item, KeysRise, PluginsFit, count_of, is_empty_br
 use Rattle.r4_base.specs.Value.{Stat as StatValue, Byte}
 use Rattle.r4_base.specs.declared.node.NodeFault.TheVariants.{Empty}
 use Rattle.r4_base.proofs.Names.{is_name}
+use Rattle.r4_base.proofs.Choices.{none_at}
 use Rattle.r4_node40.specs.Laid.{IsFresh}
 use Rattle.r4_node40.proofs.Accepted.{accepted}
 use Rattle.r4_leaf.specs.Filling.{IsFilled, last_of}
@@ -33,10 +34,6 @@ use Rattle.r4_leaf.proofs.SoundItems.{item_has_end}
 use Rattle.r4_leaf.proofs.Weighed.{headed, no_weight}
 
 -- ---- a leaf that may stand
-
-both : (a b : Bool) → a ≡ true → b ≡ true → (a && b) ≡ true
-both true b p q = q
-both false b p q = absurd cc
 
 pub lie_order : (from to : ℕ) (xs : List Item) → Lie from to xs → from ≤ to
 lie_order from to [] h = h
@@ -59,7 +56,7 @@ lie_good from lo hi i (x ∷ xs) le h =
     let b : nat_lt (rank x.key) hi ≡ true = lt-ltb _ _ (omega (arith, own, order)) in
     let d : nat_le (item_end x) hi ≡ true = le-leb _ _ order in
     let e : nat_le (item_end x) (next_key hi xs) ≡ true = le-leb _ _ next in
-    let good : range_is_good 1 lo hi (next_key hi xs) i x ≡ true = both _ _ (both _ _ (both _ _ (both _ _ (both _ _ a b) h.1.fits) d) e) refl in
+    let good : range_is_good 1 lo hi (next_key hi xs) i x ≡ true = and_from _ _ (and_from _ _ (and_from _ _ (and_from _ _ (and_from _ _ a b) h.1.fits) d) e) refl in
     let rest = lie_good (item_end x) lo hi (i + 1) xs (omega (arith, le, low, own)) h.2 in
     rw (body, good) rest
 
@@ -72,9 +69,6 @@ may_stand lo to hi us b f le =
     let same : (level_of b == 1) ≡ true = eq-eqb _ _ f.level in
     let good = lie_good lo lo hi 0 (items_of b) (omega arith) (lie_wider lo to hi (items_of b) le f.lie) in
     (f.node.laid.whole, rw (none, same) good)
-
-none_at : (k : ℕ) (x : Item) → slice_get [] k ≡ Some x → ⊥
-none_at k x e = absurd cc
 
 pub fresh_filled : (lo mkfs_id : ℕ) (b : List ℕ) → IsFresh b 1 mkfs_id → IsFilled lo lo [] b
 unfolding units_in
@@ -272,8 +266,8 @@ module _ (lo0 lo : ℕ) (pieces0 pieces left : List Piece) (leaves : List Leaf) 
         let small = first_small s.q s.next s.more (subst IsSound (sym same) behind_all.1) s.first in
         let some = leaf_some f.us s.next (omega (arith, small)) (s.full.full lo f.to f.us f.filled) in
         let all = ap length f.units in
-        let both = length-append f.us (units_of (reverse left)) in
-        omega (arith, all, both, some)
+        let and_from = length-append f.us (units_of (reverse left)) in
+        omega (arith, all, and_from, some)
 
 pub last_split : (left : List Piece) (q : Piece) → slice_get left (length left - 1) ≡ Some q → (before : List Piece) × (left ≡ before ++ q ∷ [])
 last_split [] q at = absurd cc

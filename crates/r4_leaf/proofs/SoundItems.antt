@@ -2,7 +2,7 @@
 use Rattle.std.proofs.Common.{◌≡◌, ◌⊎◌, ℕ, ◌+◌, ◌-◌, ◌<◌, ◌≤◌, Bool, true, false, not, List, [], ◌∷◌, length, map, inl, inr, refl, sym, ap, arith}
 use Rattle.std.specs.Prelude.{Option, Some, None, Ok, Err, ◌==◌, nat_le, if◌then◌else◌}
 use Rattle.std.specs.Option.{option_map}
-use Rattle.std.proofs.lemmas.Bool.{eq-eqb, eqb-true, leb-true}
+use Rattle.std.proofs.lemmas.Bool.{and_parts, eq-eqb, eqb-true, leb-true}
 use Rattle.r4_base.specs.Cell.{bytes_from, entry_unit, fault_in, is_short_tail, item_body_fault, item_end, item_units}
 use Rattle.r4_base.specs.Dir.{dir_fault, entries_of, entry_count, entry_key_at}
 use Rattle.r4_base.specs.Key.{offset_of, rank}
@@ -13,12 +13,8 @@ use Rattle.r4_base.specs.declared.items.CellFault.{CellFault}
 use Rattle.r4_base.specs.declared.items.CellFault.TheVariants.{Stat, Dir, Tail}
 use Rattle.r4_base.specs.declared.items.StatFault.TheVariants.{Mask, Length, Kind}
 use Rattle.r4_base.proofs.Dirs.{accepted, keys_rise}
-use Rattle.r4_node40.proofs.Faults.{and_true}
+use Rattle.r4_base.proofs.Choices.{none_under}
 use Rattle.r4_leaf.specs.Items.{IsSoundItem}
-
-none_under : {A B : Type 0} (f : A → B) (o : Option A) → option_map f o ≡ None → o ≡ None
-none_under f None e = refl
-none_under f (Some x) e = absurd cc
 
 pub record IsStatItem (it : Item) : Type 0 where
   pub body : fault_in (stat_of it.body) ≡ None
@@ -68,7 +64,7 @@ tail_item it is s =
     let e : (it.plugin == 5) ≡ false = ap (λ (x : ℕ). x == 5) is in
     let body = s.body in
     let test = tail_test it Tail (rw (a, b, d, e) at body) in
-    let parts = and_true (nat_le 1 (length it.body)) (nat_le (offset_of it.key + length it.body) 16384) test in
+    let parts = and_parts (nat_le 1 (length it.body)) (nat_le (offset_of it.key + length it.body) 16384) test in
     record { some = leb-true _ _ parts.0; short = leb-true _ _ parts.1; units = rw (a, b, d, e) refl; end = rw (a, d, b, e) refl }
 
 -- an item's first unit has its key

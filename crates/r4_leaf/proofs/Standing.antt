@@ -2,7 +2,7 @@
 use Rattle.std.proofs.Common.{◌≡◌, ◌⊎◌, ℕ, suc, ◌+◌, ◌^◌, ◌≤◌, Bool, true, false, ◌||◌, List, [], ◌∷◌, length, inl, inr, refl, sym, ap, subst, ◌∙◌, arith}
 use Rattle.std.specs.Prelude.{slice_get, Option, Some, None, ◌==◌, nat_le, nat_lt, if◌then◌else◌}
 use Rattle.std.specs.Option.{option_map, option_or}
-use Rattle.std.proofs.lemmas.Bool.{eqb-true, le-leb, leb-true, ltb-true}
+use Rattle.std.proofs.lemmas.Bool.{and_parts, eqb-true, le-leb, leb-true, ltb-true}
 use Rattle.std.proofs.lemmas.List.{length-append}
 use Rattle.std.proofs.lemmas.Option.{same_Some, slice_get_within}
 use Rattle.r4_base.specs.Cell.{cell_fault, item_body_fault, item_end, items_in_fault, next_key, offsets_fit, range_is_good}
@@ -13,25 +13,13 @@ use Rattle.r4_base.specs.declared.items.CellFault.TheVariants.{Node, Level, Rang
 use Rattle.r4_base.specs.declared.node.NodeFault.{NodeFault}
 use Rattle.r4_node40.specs.Laid.{IsNode}
 use Rattle.r4_node40.proofs.Accepted.{good}
-use Rattle.r4_node40.proofs.Faults.{and_true}
 use Rattle.r4_node40.proofs.Laid.{get-items_of, key_fits, length-items_of}
 use Rattle.r4_leaf.specs.Items.{IsSoundItem, Lie}
 use Rattle.r4_leaf.specs.Leaves.{IsGiven, MayStand, Packs}
 use Rattle.r4_leaf.specs.Units.{LeafUnit, cut_units}
 use Rattle.r4_leaf.specs.declared.leaf.Leaf.{Leaf}
 use Rattle.r4_base.specs.Cell.{units_in}
-
-or_none : (a b : Option CellFault) → option_or a b ≡ None → (a ≡ None) × (b ≡ None)
-or_none None b h = (refl, h)
-or_none (Some f) b h = absurd cc
-
-chosen : (t : Bool) (f : CellFault) → (if t then None else Some f) ≡ None → t ≡ true
-chosen true f h = refl
-chosen false f h = absurd cc
-
-none_under : (o : Option NodeFault) → option_map Node o ≡ None → o ≡ None
-none_under None h = refl
-none_under (Some f) h = absurd cc
+use Rattle.r4_base.proofs.Choices.{chosen, none_of_node, or_none}
 
 plugin_of : (p : ℕ) → (p == 0 || p == 2 || p == 6) ≡ true → (p ≡ 0) ⊎ ((p ≡ 2) ⊎ (p ≡ 6))
 plugin_of p h = by_tests (p == 0) (p == 2) refl refl h
@@ -52,10 +40,10 @@ good_lie lo bound hi i (x ∷ xs) leaf le h =
     let outer = or_none (item_body_fault true (2 ^ 64) x) _ h in
     let rest = or_none (if range_is_good 1 lo hi (next_key hi xs) i x then None else Some (Range i)) _ outer.1 in
     let range : range_is_good 1 lo hi (next_key hi xs) i x ≡ true = chosen _ (Range i) rest.0 in
-    let a = and_true _ _ range in
-    let b = and_true _ (nat_le (item_end x) (next_key hi xs)) a.0 in
-    let c = and_true _ (nat_le (item_end x) hi) b.0 in
-    let d = and_true _ (offsets_fit x) c.0 in
+    let a = and_parts _ _ range in
+    let b = and_parts _ (nat_le (item_end x) (next_key hi xs)) a.0 in
+    let c = and_parts _ (nat_le (item_end x) hi) b.0 in
+    let d = and_parts _ (offsets_fit x) c.0 in
     let own = leaf 0 x refl in
     (le, record { plugin = own.0; body = outer.0; fits = d.1; key = own.1 }, good_lie lo (item_end x) hi (i + 1) xs (λ k. leaf (suc k)) (leb-true _ _ b.1) rest.1)
 
@@ -66,11 +54,11 @@ first_from lo hi i (x ∷ xs) some h =
     let outer = or_none (item_body_fault true (2 ^ 64) x) _ h in
     let rest = or_none (if range_is_good 1 lo hi (next_key hi xs) i x then None else Some (Range i)) _ outer.1 in
     let range : range_is_good 1 lo hi (next_key hi xs) i x ≡ true = chosen _ (Range i) rest.0 in
-    let a = and_true _ _ range in
-    let b = and_true _ (nat_le (item_end x) (next_key hi xs)) a.0 in
-    let c = and_true _ (nat_le (item_end x) hi) b.0 in
-    let d = and_true _ (offsets_fit x) c.0 in
-    let e = and_true (nat_le lo (rank x.key)) (nat_lt (rank x.key) hi) d.0 in
+    let a = and_parts _ _ range in
+    let b = and_parts _ (nat_le (item_end x) (next_key hi xs)) a.0 in
+    let c = and_parts _ (nat_le (item_end x) hi) b.0 in
+    let d = and_parts _ (offsets_fit x) c.0 in
+    let e = and_parts (nat_le lo (rank x.key)) (nat_lt (rank x.key) hi) d.0 in
     leb-true _ _ e.0
 
 module _ (lo hi : ℕ) (b : List ℕ) (stand : MayStand lo hi b) where
@@ -79,7 +67,7 @@ module _ (lo hi : ℕ) (b : List ℕ) (stand : MayStand lo hi b) where
   parts =
       let node = or_none (option_map Node (node_fault b)) _ stand.1 in
       let level = or_none (if level_of b == 1 then None else Some Level) _ node.1 in
-      (none_under (node_fault b) node.0, eqb-true _ _ (chosen _ Level level.0), level.1)
+      (none_of_node (node_fault b) node.0, eqb-true _ _ (chosen _ Level level.0), level.1)
 
   pub is_node : IsNode b
   is_node = (good b stand.0 parts.0).0
@@ -120,7 +108,7 @@ given_sound it g key = record { plugin = g.plugin; body = g.sound; fits = fits_o
         let e : (it.plugin == 5) ≡ false = ap (λ (x : ℕ). x == 5) is in
         let body = g.sound in
         let short = chosen _ Tail (rw (a, b, d, e) at body) in
-        let t = and_true _ (nat_le (offset_of it.key + length it.body) 16384) short in
+        let t = and_parts _ (nat_le (offset_of it.key + length it.body) 16384) short in
         let low = leb-true _ _ t.1 in
         let far : nat_le (offset_of it.key + length it.body) (2 ^ 64) ≡ true = le-leb _ _ (omega (arith, low)) in
         rw (a, d, b, e) far
@@ -142,11 +130,11 @@ no_items lo i (x ∷ xs) h =
     let outer = or_none (item_body_fault true (2 ^ 64) x) _ h in
     let rest = or_none (if range_is_good 1 lo lo (next_key lo xs) i x then None else Some (Range i)) _ outer.1 in
     let range : range_is_good 1 lo lo (next_key lo xs) i x ≡ true = chosen _ (Range i) rest.0 in
-    let a = and_true _ _ range in
-    let b = and_true _ (nat_le (item_end x) (next_key lo xs)) a.0 in
-    let c = and_true _ (nat_le (item_end x) lo) b.0 in
-    let d = and_true _ (offsets_fit x) c.0 in
-    let e = and_true (nat_le lo (rank x.key)) (nat_lt (rank x.key) lo) d.0 in
+    let a = and_parts _ _ range in
+    let b = and_parts _ (nat_le (item_end x) (next_key lo xs)) a.0 in
+    let c = and_parts _ (nat_le (item_end x) lo) b.0 in
+    let d = and_parts _ (offsets_fit x) c.0 in
+    let e = and_parts (nat_le lo (rank x.key)) (nat_lt (rank x.key) lo) d.0 in
     let low = leb-true _ _ e.0 in
     let high = ltb-true _ _ e.1 in
     absurd (omega (arith, low, high))

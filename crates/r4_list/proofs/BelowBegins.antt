@@ -5,7 +5,7 @@ use Rattle.std.specs.BTreeMap.{is_at}
 use Rattle.std.specs.List.{list_any}
 use Rattle.std.specs.Ordering.{nat_cmp}
 use Rattle.std.specs.Result.{IsErrAnd}
-use Rattle.std.proofs.lemmas.Bool.{cases_Bool}
+use Rattle.std.proofs.lemmas.Bool.{both_ways, cases_Bool}
 use Rattle.std.proofs.lemmas.List.Elements.{All-nil}
 use Rattle.r4_base.specs.Image.{Image}
 use Rattle.r4_base.specs.Value.{Content}
@@ -39,12 +39,6 @@ none_in {X} (x ∷ xs) n is zero_is = absurd (omega (arith, is, zero_is))
 nothing_printed : (b : Below) → b.printed.keys ≡ [] → (id : ℕ) → printed_in b id ≡ false
 nothing_printed b none id = ap (λ (ks : List ℕ). list_any (is_at (nat_cmp id)) ks) none
 
-not_both : (x : Bool) → x ≡ false → x ≡ true → ⊥
-not_both x a b = differ (sym a ∙ b)
-  where
-    differ : false ≡ true → ⊥
-    differ e = cc
-
 -- the text of an object begins with its line
 line_first : (m : Content) (steps : ℕ) (o : Target) (path : List ℕ) (a : Attr) → attr_at m o ≡ Some a → (rest : List ℕ) × (lines_of m (suc steps) o path ≡ line_of a path ++ rest)
 unfolding lines_of
@@ -60,11 +54,11 @@ module _ {n : ℕ} {image : Image} {m : Content} (c : HasContent n image m) (roo
     dirs = All-nil (λ (f : OpenDir). IsDirectoryAt m f.dir);
     on = All-nil (λ (f : OpenDir). printed_in b f.dir.oid.0 ≡ true);
     apart = λ i j d lt within. absurd (omega arith);
-    named = λ id on. absurd (not_both (printed_in b id) (none id) on);
+    named = λ id on. absurd (both_ways (printed_in b id) (none id) on);
   }
 
   only_this : ((id : ℕ) → printed_in b id ≡ false) → (next : ℕ → Bool) → PrintsToo (printed_in b) o.oid.0 next → (d : ℕ) → (next d ≡ true) ↔ (d ≡ o.oid.0)
-  only_this none next too d = ((λ on. ⊎_elim (λ before. absurd (not_both (printed_in b d) (none d) before)) (λ same. same) ((too d).0 on)), (λ same. (too d).1 (inr same)))
+  only_this none next too d = ((λ on. ⊎_elim (λ before. absurd (both_ways (printed_in b d) (none d) before)) (λ same. same) ((too d).0 on)), (λ same. (too d).1 (inr same)))
 
   -- the line of the object was printed
   pub begins : {T : Type 0} (v : T) (b' : Below) → b.frames.items ≡ [] → b.printed.keys ≡ [] → PrintsOne c root o a b k (Ok v) p b' k' → IsOnward c o steps (lines_of m (suc steps) o b.path.items) k b' k'

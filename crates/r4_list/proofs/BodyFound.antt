@@ -3,7 +3,7 @@ use Rattle.std.proofs.Common.{◌≡◌, inl, inr, ℕ, zero, suc, ◌+◌, ◌-
 use Rattle.std.specs.Prelude.{Option, Some, None, Contains, ◌==◌, ◌||◌, ◌⊎◌, not, nat_le, if◌then◌else◌, slice_get, slice_index}
 use Rattle.std.proofs.Math.Decide.{dec_le}
 use Rattle.std.proofs.Math.Nat.{lt_of_not-le}
-use Rattle.std.proofs.lemmas.Bool.{eqb-true, leb-true}
+use Rattle.std.proofs.lemmas.Bool.{and_parts, eqb-true, leb-true}
 use Rattle.std.proofs.lemmas.Bool.Decides.{nat_tests}
 use Rattle.std.proofs.lemmas.List.Elements.{Contains-append_cases}
 use Rattle.std.proofs.lemmas.Option.{same_Some}
@@ -20,14 +20,13 @@ use Rattle.r4_base.specs.Volume.{HasContent, byte_rank, root_of}
 use Rattle.r4_base.specs.declared.items.CellFault.TheVariants.{Range}
 use Rattle.r4_base.specs.declared.items.Target.{Target}
 use Rattle.r4_base.specs.declared.key.Key.{Key}
-use Rattle.r4_base.proofs.FreshTree.{nothing, only}
+use Rattle.r4_base.proofs.FreshTree.{only}
 use Rattle.r4_base.proofs.Trees.{block_twig, leaf_holds, one_cell}
 use Rattle.r4_base.proofs.Visible.{whole_file}
-use Rattle.r4_node40.proofs.Faults.{and_true}
+use Rattle.r4_base.proofs.Choices.{chosen, nothing_in, or_none}
 use Rattle.r4_cell.specs.Seen.{CellSeen, node_of}
-use Rattle.r4_cell.proofs.Faults.{or_none}
 use Rattle.r4_cell.proofs.ItemRows.{extent_row}
-use Rattle.r4_cell.proofs.Items.{chosen, good_item}
+use Rattle.r4_cell.proofs.Items.{good_item}
 use Rattle.r4_cell.proofs.NodesAt.{node_at, plugins_at}
 use Rattle.r4_cell.proofs.Rows.{row_bytes}
 use Rattle.r4_search.specs.Path.{EndsAt}
@@ -70,7 +69,7 @@ byte_item level it k y fits h = tested (it.plugin == 0) (it.plugin == 2) (it.plu
         → Contains (if a then (rank it.key, Stat (attr_of it.body)) ∷ [] else if b then map entry_unit (entries_of it.key it.body) else if c then [] else if d then hole_bytes (rank it.key) (units_of it.body) else bytes_from (rank it.key) it.body) (k, Byte y) → HasAt it k
     tested true b c d e0 e2 e3 e5 u = absurd (stat_byte (rank it.key) (Stat (attr_of it.body)) k y (λ x e. absurd cc) u)
     tested false true c d e0 e2 e3 e5 u = absurd (entry_byte (entries_of it.key it.body) k y u)
-    tested false false true d e0 e2 e3 e5 u = absurd (nothing (k, Byte y) u)
+    tested false false true d e0 e2 e3 e5 u = absurd (nothing_in (k, Byte y) u)
     tested false false false true e0 e2 e3 e5 u =
         let five : it.plugin ≡ 5 = eqb-true _ _ e5 in
         let within = (extent_row (rank it.key) (units_of it.body)).unit_in k (Byte y) u in
@@ -88,7 +87,7 @@ unfolding item_names
 data_item level next it n k two low at h = tested (it.plugin == 3) (it.plugin == 5) refl refl h
   where
     pointer : (o : Option ℕ) → Contains (pointer_names level (rank it.key) next o) n → ⊥
-    pointer None u = nothing n u
+    pointer None u = nothing_in n u
     pointer (Some to) u = let e = ap (λ (x : Name). x.level) (only (record { id = to; level = level - 1; lo = rank it.key; hi = next }) n u) in absurd (omega (arith, e, low, two))
 
     tested : (a b : Bool) → (it.plugin == 3) ≡ a → (it.plugin == 5) ≡ b → Contains (if a then pointer_names level (rank it.key) next (pointer_of it.body) else if b then block_names (rank it.key) (units_of it.body) else []) n → HasAt it k
@@ -100,11 +99,11 @@ data_item level next it n k two low at h = tested (it.plugin == 3) (it.plugin ==
         let to = row.to n u in
         let size = extent_bytes it five in
         record { kind = inr five; from = omega (arith, from, at); to = omega (arith, to, at, size) }
-    tested false false e3 e5 u = absurd (nothing n u)
+    tested false false e3 e5 u = absurd (nothing_in n u)
 
 name_item : (level hi : ℕ) (items : List Item) (n : Name) → Contains (names_in level hi items) n → (i : ℕ) × (it : Item) × (next : ℕ) × (slice_get items i ≡ Some it) × Contains (item_names level next it) n
 unfolding names_in
-name_item level hi [] n h = absurd (nothing n h)
+name_item level hi [] n h = absurd (nothing_in n h)
 name_item level hi (it ∷ items) n h = elim (Contains-append_cases (item_names level (next_key hi items) it) (names_in level hi items) n h) [
   | inl here ↦ (0, it, next_key hi items, refl, here)
   | inr later ↦ let (i, x, next, e, g) = name_item level hi items n later in (suc i, x, next, e, g)
@@ -119,10 +118,10 @@ range_at level lo hi from (x ∷ items) zero it h is =
     let first = or_none _ _ h in
     let rest = or_none (if range_is_good level lo hi (next_key hi items) from x then None else Some (Range from)) _ first.1 in
     let good : range_is_good level lo hi (next_key hi items) from x ≡ true = chosen _ (Range from) rest.0 in
-    let a = and_true _ (nat_le level 1 || not (from == 0) || rank x.key == lo) good in
-    let b = and_true _ (nat_le (item_end x) (next_key hi items)) a.0 in
-    let c = and_true _ (nat_le (item_end x) hi) b.0 in
-    let d = and_true _ (offsets_fit x) c.0 in
+    let a = and_parts _ (nat_le level 1 || not (from == 0) || rank x.key == lo) good in
+    let b = and_parts _ (nat_le (item_end x) (next_key hi items)) a.0 in
+    let c = and_parts _ (nat_le (item_end x) hi) b.0 in
+    let d = and_parts _ (offsets_fit x) c.0 in
     subst (λ (y : Item). offsets_fit y ≡ true) (same_Some x it is) d.1
 range_at level lo hi from (x ∷ items) (suc i) it h is = range_at level lo hi (from + 1) items i it (good_item true (2 ^ 64) level lo hi from x items h).rest is
 

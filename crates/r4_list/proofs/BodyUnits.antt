@@ -1,7 +1,7 @@
 -- The blocks of an extent, one by one, and the names of them.
 use Rattle.std.proofs.Common.{◌≡◌, ◌≢◌, inl, inr, ℕ, zero, suc, ◌+◌, ◌-◌, ◌*◌, ◌/◌, ◌%◌, ◌^◌, ◌<◌, ◌≤◌, Bool, true, false, List, [], ◌∷◌, ◌++◌, length, drop, refl, sym, ap, subst, ◌∙◌, arith}
 use Rattle.std.specs.Prelude.{Some, None, Contains, ◌==◌, ◌&&◌, if◌then◌else◌, slice_get, slice_index}
-use Rattle.std.proofs.lemmas.Bool.{eqb-true, lt-ltb, le-ltb, cases_lt}
+use Rattle.std.proofs.lemmas.Bool.{and_parts, cases_lt, eqb-true, le-ltb, lt-ltb}
 use Rattle.std.proofs.lemmas.Bool.Decides.{nat_tests}
 use Rattle.std.proofs.lemmas.List.Elements.{Contains-append_left, Contains-append_right}
 use Rattle.r4_base.specs.Cell.{block_names, cell_of, item_names, names_in, next_key, run_names}
@@ -13,7 +13,6 @@ use Rattle.r4_base.specs.Tree.{Name}
 use Rattle.r4_base.specs.declared.items.Unit.{Unit as ExtentUnit}
 use Rattle.r4_base.specs.declared.key.Key.{Key}
 use Rattle.r4_node40.proofs.Following.{item_first}
-use Rattle.r4_node40.proofs.Faults.{and_true}
 use Rattle.r4_cell.specs.Seen.{CellSeen, node_of}
 use Rattle.r4_search.proofs.Places.{names_at}
 use Rattle.r4_list.specs.Body.{IsUnitAt, block_name, unit_block, unit_names}
@@ -27,8 +26,8 @@ pub record AreOneBody (a b : Key) : Type 0 where
 
 pub one_body : (a b : Key) → (slice_index a.el 0 == slice_index b.el 0 && slice_index a.el 1 == slice_index b.el 1 && slice_index a.el 2 == slice_index b.el 2) ≡ true → AreOneBody a b
 one_body a b h =
-    let x = and_true _ (slice_index a.el 2 == slice_index b.el 2) h in
-    let y = and_true (slice_index a.el 0 == slice_index b.el 0) (slice_index a.el 1 == slice_index b.el 1) x.0 in
+    let x = and_parts _ (slice_index a.el 2 == slice_index b.el 2) h in
+    let y = and_parts (slice_index a.el 0 == slice_index b.el 0) (slice_index a.el 1 == slice_index b.el 1) x.0 in
     record { first = eqb-true _ _ y.0; second = eqb-true _ _ y.1; third = eqb-true _ _ x.1 }
 
 -- the offsets tell how far the ranks are apart

@@ -9,9 +9,10 @@ use Rattle.r4_base.specs.Volume.{HasContent, HasStat, IsObject, IsReached, KeyFi
 use Rattle.r4_base.specs.declared.items.Attr.{Attr}
 use Rattle.r4_base.specs.declared.items.Target.{Target}
 use Rattle.r4_base.proofs.Visible.{in_cell}
+use Rattle.r4_base.proofs.Choices.{nothing_in}
 use Rattle.r4_content.specs.Walk.{attr_at}
 use Rattle.r4_list.specs.Walking.{OpenDir, IsDirectoryAt, IsEnough, IsWalking}
-use Rattle.r4_list.proofs.WalkEntries.{entry_at, entry_there, here, later, member_cases, none_there}
+use Rattle.r4_list.proofs.WalkEntries.{entry_at, entry_there, here, later, member_cases}
 use Rattle.r4_list.proofs.WalkObjects.{attr_stat, one_depth, reached_raw, reached_stat, same_object, raw_at}
 
 -- ---- the object of a stat key
@@ -84,7 +85,7 @@ module _ (n : ℕ) (image : Image) (m : Content) (c : HasContent n image m) wher
   )
 
   deepest : (es : List (ℕ × Value)) → ((k : ℕ) (v : Value) → Contains es (k, v) → at_key m k ≡ Some v) → (deep : ℕ) × IsBound es deep
-  deepest [] all = (0, λ s o a g dir q there. absurd (none_there (stat_rank o, Stat a) there))
+  deepest [] all = (0, λ s o a g dir q there. absurd (nothing_in (stat_rank o, Stat a) there))
   deepest (e ∷ es) all =
       let (deep, bound) = deepest es (λ k v there. all k v (later e (k, v) es there)) in
       let (more, is) = one_more e.0 e.1 es deep (all e.0 e.1 (here e es)) bound in

@@ -1,22 +1,21 @@
 -- The entries of a leaf of a tree, and what is left of a directory from a place of it on.
 use Rattle.std.proofs.Common.{◌≡◌, ◌≢◌, inl, inr, ℕ, zero, suc, ◌+◌, ◌*◌, ◌/◌, ◌%◌, ◌^◌, ◌<◌, ◌≤◌, Bool, true, List, [], ◌∷◌, length, sym, ap, subst, ◌∙◌, arith}
 use Rattle.std.specs.Prelude.{Some, None, slice_get, slice_index, not, ◌||◌, nat_le, nat_lt, ◌==◌, if◌then◌else◌}
-use Rattle.std.proofs.lemmas.Bool.{ltb-true}
+use Rattle.std.proofs.lemmas.Bool.{and_parts, ltb-true}
 use Rattle.std.proofs.Math.Decide.{dec_le, ℕ_discrete}
 use Rattle.std.proofs.Math.Nat.{lt_of_not-le}
 use Rattle.std.proofs.lemmas.Option.{same_Some, slice_get_within}
 use Rattle.r4_base.specs.Cell.{item_body_fault, item_end, items_in_fault, next_key, offsets_fit, range_is_good}
 use Rattle.r4_base.specs.declared.items.CellFault.TheVariants.{Range}
-use Rattle.r4_node40.proofs.Faults.{and_true}
-use Rattle.r4_cell.proofs.Faults.{or_none}
 use Rattle.r4_base.specs.Dir.{Entry as DirEntry, dir_fault, entries_of, entry_at, entry_key_at}
 use Rattle.r4_base.specs.Key.{IsKey, rank, key_of_rank, minor_of}
 use Rattle.r4_base.specs.Name.{dir_of_key}
 use Rattle.r4_base.specs.Node.{Item, KeysRise, items_of}
 use Rattle.r4_base.specs.declared.key.Key.{Key}
 use Rattle.r4_base.proofs.Dirs.{accepted, get-entries_of, length-entries_of, keys_apart}
+use Rattle.r4_base.proofs.Choices.{chosen, or_none}
 use Rattle.r4_cell.specs.Seen.{CellSeen}
-use Rattle.r4_cell.proofs.Items.{chosen, good_item}
+use Rattle.r4_cell.proofs.Items.{good_item}
 use Rattle.r4_cell.proofs.NodesAt.{node_at}
 use Rattle.r4_search.proofs.Places.{item_in}
 use Rattle.r4_list.specs.Leaf.{Stands}
@@ -104,11 +103,11 @@ items_from in_memory blocks level lo hi from (x ∷ items) (suc i) it h is = ite
 
 key_below : (level lo hi next i : ℕ) (it : Item) → range_is_good level lo hi next i it ≡ true → rank it.key < hi
 key_below level lo hi next i it good =
-    let a = and_true _ (nat_le level 1 || not (i == 0) || rank it.key == lo) good in
-    let b = and_true _ (nat_le (item_end it) next) a.0 in
-    let c = and_true _ (nat_le (item_end it) hi) b.0 in
-    let d = and_true _ (offsets_fit it) c.0 in
-    ltb-true _ _ (and_true (nat_le lo (rank it.key)) (nat_lt (rank it.key) hi) d.0).1
+    let a = and_parts _ (nat_le level 1 || not (i == 0) || rank it.key == lo) good in
+    let b = and_parts _ (nat_le (item_end it) next) a.0 in
+    let c = and_parts _ (nat_le (item_end it) hi) b.0 in
+    let d = and_parts _ (offsets_fit it) c.0 in
+    ltb-true _ _ (and_parts (nat_le lo (rank it.key)) (nat_lt (rank it.key) hi) d.0).1
 
 items_below : (level lo hi from : ℕ) (items : List Item) (i : ℕ) (it : Item) → items_in_fault true (2 ^ 64) level lo hi from items ≡ None → slice_get items i ≡ Some it → rank it.key < hi
 unfolding items_in_fault

@@ -14,7 +14,8 @@ use Rattle.r4_base.specs.Tree.{Span, InSpan}
 use Rattle.r4_base.specs.Value.{Content, Entry}
 use Rattle.r4_base.specs.Volume.{HasContent}
 use Rattle.r4_base.specs.declared.key.Key.{Key}
-use Rattle.r4_base.proofs.FreshTree.{nothing, only}
+use Rattle.r4_base.proofs.FreshTree.{only}
+use Rattle.r4_base.proofs.Choices.{nothing_in}
 use Rattle.r4_cell.specs.Seen.{CellSeen, node_of}
 use Rattle.r4_search.specs.Path.{EndsAt}
 use Rattle.r4_search.proofs.Places.{item_in}
@@ -39,7 +40,7 @@ abbrev pub extent_of : (hi : ℕ) → (b : Bool) → Item → List Item → List
 extent_of hi b x items = if b then record { lo = rank x.key; hi = next_key hi items } ∷ [] else []
 
 first_span : (hi : ℕ) (b : Bool) (x : Item) (items : List Item) (s : Span) → Contains (extent_of hi b x items) s → SpanAt hi (x ∷ items) s
-first_span hi false x items s h = absurd (nothing s h)
+first_span hi false x items s h = absurd (nothing_in s h)
 first_span hi true x [] s h =
     let is = only (record { lo = rank x.key; hi = hi }) s h in
     record { i = 0; item = x; is = refl; lo = ap (λ (t : Span). t.lo) is; next = λ y e. absurd cc; end = λ le. ap (λ (t : Span). t.hi) is }
@@ -59,7 +60,7 @@ first_span hi true x (z ∷ items) s h =
 
 pub span_at : (hi : ℕ) (items : List Item) (s : Span) → Contains (spans_in hi items) s → SpanAt hi items s
 unfolding spans_in
-span_at hi [] s h = absurd (nothing s h)
+span_at hi [] s h = absurd (nothing_in s h)
 span_at hi (x ∷ items) s h = elim (Contains-append_cases (extent_of hi (is_extent x) x items) (spans_in hi items) s h) [
   | inl here ↦ first_span hi (is_extent x) x items s here
   | inr later ↦

@@ -9,6 +9,7 @@ use Rattle.r4_base.specs.Name.{key_of_name}
 use Rattle.r4_base.specs.Cell.{cell_of}
 use Rattle.r4_base.specs.Tree.{Name, Span}
 use Rattle.r4_base.specs.declared.key.Key.{Key}
+use Rattle.r4_base.proofs.Choices.{nothing_in}
 use Rattle.r4_outside.specs.Device.{State}
 use Rattle.r4_cell.specs.Seen.{CellSeen, node_of}
 use Rattle.r4_cell.specs.declared.change.Root.{Root}
@@ -16,7 +17,6 @@ use Rattle.r4_search.specs.Pool.{PoolState, Goes, IsFrom, IsKnown, IsNamedFrom, 
 use Rattle.r4_search.specs.Path.{Follows, Descends, EndsAt, IsPath, KnowsOn, Stops, last_of, root_name}
 use Rattle.r4_search.specs.declared.pool.FetchFault.{FetchFault}
 use Rattle.r4_search.specs.declared.pool.FetchFault.TheVariants.{Read, Damaged, Memory}
-use Rattle.r4_base.proofs.FreshTree.{nothing}
 use Rattle.r4_search.proofs.Walks.{goes_both, goes_same, leaves_both}
 use Rattle.r4_list.specs.Printing.{IsFetchCause, Fetched}
 
@@ -139,7 +139,7 @@ handed_on {T} root old mid new r e a b c g d h i is cause = record {
 
 no_spans : (level lo hi : ℕ) (b : List ℕ) (s : Span) → Contains (cell_of level lo hi b).spans s → 1 ≤ level
 unfolding cell_of
-no_spans zero lo hi b s h = absurd (nothing s h)
+no_spans zero lo hi b s h = absurd (nothing_in s h)
 no_spans (suc level) lo hi b s h = omega arith
 
 pub ends_level : (c : CellSeen) (key : ℕ) → EndsAt c key → 1 ≤ c.level

@@ -12,7 +12,8 @@ use Rattle.r4_base.specs.Tree.{Name, Node, Store, Fits}
 use Rattle.r4_base.specs.Value.{Content, Value}
 use Rattle.r4_base.specs.Volume.{HasContent}
 use Rattle.r4_base.specs.declared.items.CellFault.{CellFault}
-use Rattle.r4_base.proofs.FreshTree.{nothing, only}
+use Rattle.r4_base.proofs.FreshTree.{only}
+use Rattle.r4_base.proofs.Choices.{nothing_in}
 use Rattle.r4_cell.specs.Seen.{CellSeen, node_of}
 use Rattle.r4_cell.specs.declared.change.Root.{Root}
 use Rattle.r4_search.specs.Pool.{PoolState, FaultIs, Goes, IsKeptOrRead, IsNamed, IsOf, IsRead, place_fault}
@@ -99,7 +100,7 @@ module _ {n : ℕ} {image : Image} {m : Content} (c : HasContent n image m) (roo
   stored_next key (Some y) at h f = c.tree.named y.id (node_of y) at (h y refl) f.named
 
   all_stored : (key : ℕ) (before : Option CellSeen) (cells : List CellSeen) → ((y : CellSeen) → before ≡ Some y → IsStored c.store y) → Descends root key before cells → ((x : CellSeen) → Contains cells x → IsOf p x) → (x : CellSeen) → Contains cells x → IsStored c.store x
-  all_stored key before [] h d of x has = absurd (nothing x has)
+  all_stored key before [] h d of x has = absurd (nothing_in x has)
   all_stored key before (y ∷ cells) h d of x has =
       let (at, f, named) = d.0 in
       let here = stored_of at y (stored_next key before at h f) named (of y (Contains-append_left (y ∷ []) cells y (Contains-push [] y))) in
@@ -167,7 +168,7 @@ module _ {n : ℕ} {image : Image} {m : Content} (c : HasContent n image m) (roo
   over_stop key new (Damaged at fault) goes s = over_path key new s.cells goes s.descends s.are_of s.only
   over_stop key new Memory goes s = over_path key new s.cells goes s.descends s.are_of s.only
 
--- nothing is found where an error is handed on
+-- nothing_in is found where an error is handed on
 pub found_none : {T : Type 0} (P : T → Type 0) (r : Result T FetchFault) (e : FetchFault) → IsErrAnd r (λ y. y ≡ e) → IfOk r P
 found_none {T} P (Ok x) e h = absurd h
 found_none {T} P (Err y) e h = tt

@@ -5,7 +5,7 @@ use Rattle.std.specs.List.{list_all}
 use Rattle.std.specs.Option.{is_none}
 use Rattle.std.proofs.Math.Decide.{dec_le, ℕ_discrete}
 use Rattle.std.proofs.Math.Nat.{lt_of_not-le}
-use Rattle.std.proofs.lemmas.Bool.{le-leb, lt-leb, lt-ltb, le-ltb, eq-eqb, ne_eqb}
+use Rattle.std.proofs.lemmas.Bool.{and_parts, eq-eqb, le-leb, le-ltb, lt-leb, lt-ltb, ne_eqb}
 use Rattle.std.proofs.lemmas.List.{length-drop, get_or-drop, drop-drop, drop_all}
 use Rattle.r4_base.specs.Name.{name_fault}
 use Rattle.r4_base.specs.Value.{Content}
@@ -13,7 +13,6 @@ use Rattle.r4_base.specs.Volume.{is_directory, root_object}
 use Rattle.r4_base.specs.declared.items.Attr.{Attr}
 use Rattle.r4_base.specs.declared.items.Target.{Target}
 use Rattle.r4_base.proofs.Names.{is_none_none}
-use Rattle.r4_node40.proofs.Faults.{and_true}
 use Rattle.r4_content.specs.Walk.{At, NoName, NoDirectory, NoEntry, attr_at, before_first, names_in, pieces_of, target_at, walk, walk_from, walk_on, walk_root}
 use Rattle.r4_list.specs.OverWalks.{IsStep, pieces_from}
 
@@ -161,7 +160,7 @@ pieces_left path from legal = elim (dec_le (length path) from) [
 -- ---- what is left of a list of names that are legal
 
 pub legal_first : (s : List ℕ) (names : List (List ℕ)) → list_all is_legal (s ∷ names) ≡ true → (is_legal s ≡ true) × (list_all is_legal names ≡ true)
-legal_first s names h = and_true (is_legal s) (list_all is_legal names) h
+legal_first s names h = and_parts (is_legal s) (list_all is_legal names) h
 
 pub legal_both : (s : List ℕ) (names : List (List ℕ)) → is_legal s ≡ true → list_all is_legal names ≡ list_all is_legal (s ∷ names)
 legal_both s names h = rw h refl

@@ -21,7 +21,8 @@ use Rattle.r4_base.proofs.Dirs.{accepted, entry_key_fits, get-entries_of, length
 use Rattle.r4_base.proofs.Keys.{is_key}
 use Rattle.r4_base.proofs.Numbers.{number_at-lt}
 use Rattle.r4_node40.proofs.Laid.{get-items_of, length-items_of}
-use Rattle.r4_base.proofs.FreshTree.{nothing, only}
+use Rattle.r4_base.proofs.FreshTree.{only}
+use Rattle.r4_base.proofs.Choices.{nothing_in}
 use Rattle.r4_cell.proofs.Items.{good_item}
 use Rattle.r4_cell.proofs.ItemRows.{dir_row}
 use Rattle.r4_search.proofs.Places.{item_in}
@@ -30,7 +31,7 @@ use Rattle.r4_list.specs.Leaf.{AreUpTo}
 -- ---- elements and their places
 
 pub place_of : {A : Type 0} (xs : List A) (x : A) → Contains xs x → (i : ℕ) × (slice_get xs i ≡ Some x)
-place_of {A} [] x h = absurd (nothing x h)
+place_of {A} [] x h = absurd (nothing_in x h)
 place_of {A} (y ∷ ys) x h = elim (Contains-append_cases (y ∷ []) ys x h) [
   | inl is ↦ (0, ap (λ (z : A). Some z) (sym (only y x is)))
   | inr later ↦ let (i, e) = place_of ys x later in (suc i, e)
@@ -42,7 +43,7 @@ at_place {A} (y ∷ ys) zero x e = subst (Contains (y ∷ ys)) (same_Some y x e)
 at_place {A} (y ∷ ys) (suc i) x e = Contains-append_right (y ∷ []) ys x (at_place ys i x e)
 
 pub mapped_place : {A B : Type 0} (f : A → B) (xs : List A) (y : B) → Contains (map f xs) y → (i : ℕ) × (x : A) × (slice_get xs i ≡ Some x) × (f x ≡ y)
-mapped_place {A} {B} f [] y h = absurd (nothing y h)
+mapped_place {A} {B} f [] y h = absurd (nothing_in y h)
 mapped_place {A} {B} f (x ∷ xs) y h = elim (Contains-append_cases (f x ∷ []) (map f xs) y h) [
   | inl is ↦ (0, x, refl, sym (only (f x) y is))
   | inr later ↦ let (i, z, e, g) = mapped_place f xs y later in (suc i, z, e, g)
@@ -57,7 +58,7 @@ at_mapped {A} {B} f (y ∷ ys) (suc i) x e = Contains-append_right (f y ∷ []) 
 
 pub unit_item : (items : List Item) (u : ℕ × Value) → Contains (units_in items) u → (i : ℕ) × (it : Item) × (slice_get items i ≡ Some it) × Contains (item_units it) u
 unfolding units_in
-unit_item [] u h = absurd (nothing u h)
+unit_item [] u h = absurd (nothing_in u h)
 unit_item (it ∷ items) u h = elim (Contains-append_cases (item_units it) (units_in items) u h) [
   | inl here ↦ (0, it, refl, here)
   | inr later ↦ let (i, x, e, g) = unit_item items u later in (suc i, x, e, g)
@@ -77,14 +78,14 @@ IsByte (Entry n o) = ⊥
 IsByte (Byte x) = Unit {0}
 
 pub bytes_are : (k : ℕ) (s : List ℕ) (u : ℕ × Value) → Contains (bytes_from k s) u → IsByte u.1
-bytes_are k [] u h = absurd (nothing u h)
+bytes_are k [] u h = absurd (nothing_in u h)
 bytes_are k (x ∷ s) u h = elim (Contains-append_cases ((k, Byte x) ∷ []) (bytes_from (k + 1) s) u h) [
   | inl is ↦ subst (λ (v : ℕ × Value). IsByte v.1) (sym (only (k, Byte x) u is)) tt
   | inr later ↦ bytes_are (k + 1) s u later
 ]
 
 zeros_are : (k n : ℕ) (u : ℕ × Value) → Contains (zeros_from k n) u → IsByte u.1
-zeros_are k zero u h = absurd (nothing u h)
+zeros_are k zero u h = absurd (nothing_in u h)
 zeros_are k (suc n) u h = elim (Contains-append_cases ((k, Byte 0) ∷ []) (zeros_from (k + 1) n) u h) [
   | inl is ↦ subst (λ (v : ℕ × Value). IsByte v.1) (sym (only (k, Byte 0) u is)) tt
   | inr later ↦ zeros_are (k + 1) n u later
@@ -92,10 +93,10 @@ zeros_are k (suc n) u h = elim (Contains-append_cases ((k, Byte 0) ∷ []) (zero
 
 hole_are : (k n : ℕ) (b : Bool) (u : ℕ × Value) → Contains (if b then zeros_from k n else []) u → IsByte u.1
 hole_are k n true u h = zeros_are k n u h
-hole_are k n false u h = absurd (nothing u h)
+hole_are k n false u h = absurd (nothing_in u h)
 
 holes_are : (k : ℕ) (us : List ExtentUnit) (u : ℕ × Value) → Contains (hole_bytes k us) u → IsByte u.1
-holes_are k [] u h = absurd (nothing u h)
+holes_are k [] u h = absurd (nothing_in u h)
 holes_are k (x ∷ us) u h = elim (Contains-append_cases (if is_hole x then zeros_from k (4096 * x.width) else []) (hole_bytes (k + 4096 * x.width) us) u h) [
   | inl here ↦ hole_are k (4096 * x.width) (is_hole x) u here
   | inr later ↦ holes_are (k + 4096 * x.width) us u later
@@ -168,7 +169,7 @@ stat_by it k a true d p e is h =
 stat_by it k a false true p e is h =
     let (i, x, _, same) = mapped_place entry_unit (entries_of it.key it.body) (k, Stat a) h in
     absurd (subst (λ (u : ℕ × Value). IsEntry u.1) same tt)
-stat_by it k a false false true e is h = absurd (nothing (k, Stat a) h)
+stat_by it k a false false true e is h = absurd (nothing_in (k, Stat a) h)
 stat_by it k a false false false true is h = absurd (holes_are (rank it.key) (units_of it.body) (k, Stat a) h)
 stat_by it k a false false false false is h = absurd (bytes_are (rank it.key) it.body (k, Stat a) h)
 
@@ -191,7 +192,7 @@ entry_by it k name target false true p e is h =
       named = ap (λ (u : ℕ × Value). name_in u.1) same;
       targets = ap (λ (u : ℕ × Value). target_in u.1 target) same;
     }
-entry_by it k name target false false true e is h = absurd (nothing (k, Entry name target) h)
+entry_by it k name target false false true e is h = absurd (nothing_in (k, Entry name target) h)
 entry_by it k name target false false false true is h = absurd (holes_are (rank it.key) (units_of it.body) (k, Entry name target) h)
 entry_by it k name target false false false false is h = absurd (bytes_are (rank it.key) it.body (k, Entry name target) h)
 

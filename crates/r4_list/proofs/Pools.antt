@@ -7,7 +7,7 @@ use Rattle.std.specs.BTreeMap.{BTreeMap, get}
 use Rattle.std.specs.Option.{option_map}
 use Rattle.std.specs.Ordering.{nat_cmp}
 use Rattle.std.specs.Result.{is_err}
-use Rattle.std.proofs.lemmas.Bool.{eqb-true, ltb-true}
+use Rattle.std.proofs.lemmas.Bool.{and_parts, eqb-true, ltb-true}
 use Rattle.std.proofs.lemmas.Option.{none-some, same_Some}
 use Rattle.r4_base.specs.Cell.{cell_fault}
 use Rattle.r4_base.specs.Image.{Image, IsImage, block_at}
@@ -16,7 +16,6 @@ use Rattle.r4_base.specs.Tree.{Name}
 use Rattle.r4_base.specs.declared.items.CellFault.{CellFault}
 use Rattle.r4_base.specs.declared.items.CellFault.TheVariants.{Level, Range}
 use Rattle.r4_base.specs.declared.things.BlockNo.{BlockNo}
-use Rattle.r4_node40.proofs.Faults.{and_true}
 use Rattle.r4_outside.specs.Device.{State, TellsReads, Goes as DeviceGoes}
 use Rattle.r4_replay.specs.Homes.{home_in}
 use Rattle.r4_cell.specs.Ends.{RefusedAs}
@@ -35,12 +34,12 @@ use Rattle.r4_list.specs.Pool.{AreSound, IsAgain, IsSound, Keeps, Shared, is_ima
 
 all_whole : (image : Image) → list_all (λ (b : List ℕ). length b == 4096) image ≡ true → (b : ℕ) → b < length image → length (block_at image b) ≡ 4096
 all_whole [] all b lt = absurd (omega (arith, lt))
-all_whole (x ∷ image) all zero lt = eqb-true _ _ (and_true (length x == 4096) (list_all (λ (b : List ℕ). length b == 4096) image) all).0
-all_whole (x ∷ image) all (suc b) lt = all_whole image (and_true (length x == 4096) (list_all (λ (b : List ℕ). length b == 4096) image) all).1 b (omega (arith, lt))
+all_whole (x ∷ image) all zero lt = eqb-true _ _ (and_parts (length x == 4096) (list_all (λ (b : List ℕ). length b == 4096) image) all).0
+all_whole (x ∷ image) all (suc b) lt = all_whole image (and_parts (length x == 4096) (list_all (λ (b : List ℕ). length b == 4096) image) all).1 b (omega (arith, lt))
 
 pub is_whole : (n : ℕ) (image : Image) → is_image n image ≡ true → IsImage n image
 is_whole n image h =
-    let both = and_true (length image == n) (list_all (λ (b : List ℕ). length b == 4096) image) h in
+    let both = and_parts (length image == n) (list_all (λ (b : List ℕ). length b == 4096) image) h in
     let blocks : length image ≡ n = eqb-true _ _ both.0 in
     record { blocks = blocks; whole = λ b lt. all_whole image both.1 b (omega (arith, lt, blocks)) }
 
@@ -69,9 +68,9 @@ module _ {T : Type 0} (seen : T → CellSeen) (p : PoolState) (n : Name) (small 
     is_of = subst (λ (o : Option CellSeen). IsKeptOrRead p.blocks o (p.meant k.id) k) (sym (ap p.kept s.id ∙ is)) refl;
     stands = cell_still false p.blocks (2 ^ 64) k.level (rank k.lo) (rank k.hi) k.block small s.fault;
     knows = λ m named. record {
-        stands = inr (names_below p.blocks k.level (rank k.lo) (rank k.hi) k.block m s.fault named);
-        named = named_below p.root (IsFrom p) n m k known.named (sound_named k s h) (inl (ap p.kept s.id ∙ is)) named;
-      };
+      stands = inr (names_below p.blocks k.level (rank k.lo) (rank k.hi) k.block m s.fault named);
+      named = named_below p.root (IsFrom p) n m k known.named (sound_named k s h) (inl (ap p.kept s.id ∙ is)) named;
+    };
   }
 
   again_refused : (k : CellSeen) (e : FetchFault) → p.kept n.id ≡ Some k → IsAgain n k e → IsRefused n p e p
@@ -198,10 +197,10 @@ module _ (root : Name) (d e : State) (homes : BTreeMap ℕ ℕ) (blocks : ℕ) (
             (subst (λ (j : ℕ). IsRead blocks (settled_block d homes j) x) (sym named) (is_read x same sound (settled_block d homes id) refl));
         stands = cell_still false blocks (2 ^ 64) x.level (rank x.lo) (rank x.hi) x.block small sound;
         knows = λ m at_m. record {
-            stands = inr (names_below blocks x.level (rank x.lo) (rank x.hi) x.block m sound at_m);
-            named = named_below root (IsFrom new) n m x (named_on old new refl refl same_meant same_kept n known.named) is
-                (from_on old new refl refl same_meant same_kept x (inr (is_read_there (settled_block d homes x.id) refl))) at_m;
-          };
+          stands = inr (names_below blocks x.level (rank x.lo) (rank x.hi) x.block m sound at_m);
+          named = named_below root (IsFrom new) n m x (named_on old new refl refl same_meant same_kept n known.named) is
+              (from_on old new refl refl same_meant same_kept x (inr (is_read_there (settled_block d homes x.id) refl))) at_m;
+        };
       }
 
 module _ {T : Type 0} (view : T → CellSeen) (root : Name) (d e' : State) (homes : BTreeMap ℕ ℕ) (blocks : ℕ) (kept more : BTreeMap ℕ Shared) (n : Name) (got : List ℕ) (goes : DeviceGoes d e') (seen : e'.seen ≡ d.seen) (none : kept_in kept n.id ≡ None)
@@ -210,7 +209,7 @@ module _ {T : Type 0} (view : T → CellSeen) (root : Name) (d e' : State) (home
   pub read_fetched : (x : CellSeen) (r : Result T FetchFault) → x.id ≡ n.id → x.level ≡ n.level → rank x.lo ≡ n.lo → rank x.hi ≡ n.hi → x.block ≡ got → cell_fault false blocks x.level (rank x.lo) (rank x.hi) x.block ≡ None → blocks ≤ 2 ^ 64
       → IfOk r (λ y. view y ≡ x) → Keeps kept x r more → Fetches view n (nodes_state root d homes blocks kept) r (nodes_state root e' homes blocks more)
   read_fetched x (Ok y) id level lo hi same sound small ok keeps =
-      let at : (i : ℕ) → (nat_lt 0 x.level && i == x.id) ≡ true → i ≡ n.id = λ i h. eqb-true _ _ (and_true (nat_lt 0 x.level) (i == x.id) h).1 ∙ id in
+      let at : (i : ℕ) → (nat_lt 0 x.level && i == x.id) ≡ true → i ≡ n.id = λ i h. eqb-true _ _ (and_parts (nat_lt 0 x.level) (i == x.id) h).1 ∙ id in
       let t : ℕ → Bool = λ i. nat_lt 0 x.level && i == x.id in
       record {
         goes = goes_on root d e' homes blocks kept n.id got goes seen none content more x id same sound t at keeps n (record { id = id; level = level; lo = lo; hi = hi }) known.named;
@@ -268,7 +267,7 @@ sound_more blocks kept more x {T} (Ok y) all sound keeps i c h = one (nat_lt 0 x
   where
     one : (t : Bool) → (nat_lt 0 x.level && i == x.id) ≡ t → kept_with t x (kept_in kept i) ≡ Some c → IsSound blocks i c
     one true is e =
-        let both = and_true (nat_lt 0 x.level) (i == x.id) is in
+        let both = and_parts (nat_lt 0 x.level) (i == x.id) is in
         let low = ltb-true _ _ both.0 in
         let id : i ≡ x.id = eqb-true _ _ both.1 in
         subst (IsSound blocks i) (same_Some x c e) (record { id = sym id; node = omega (arith, low); fault = sound })

@@ -8,6 +8,7 @@ use Rattle.std.proofs.lemmas.Bool.Decides.{nat_tests}
 use Rattle.std.proofs.lemmas.List.Sums.{sum_by-cons}
 use Rattle.std.proofs.lemmas.Option.{same_Some}
 use Rattle.r4_base.specs.Value.{Value, Content, at_key}
+use Rattle.r4_base.proofs.Choices.{nothing_in}
 
 -- ---- members of a list
 
@@ -20,9 +21,6 @@ later x y xs (k, lt, is) = (suc k, omega arith, is)
 pub member_cases : {X : Type 0} (x y : X) (xs : List X) → Contains (x ∷ xs) y → (x ≡ y) ⊎ Contains xs y
 member_cases x y xs (zero, lt, is) = inl is
 member_cases x y xs (suc k, lt, is) = inr (k, omega arith, is)
-
-pub none_there : {X : Type 0} (y : X) → Contains [] y → ⊥
-none_there y (k, lt, is) = absurd (omega arith)
 
 -- ---- what a test finds in a list
 
@@ -50,7 +48,7 @@ module _ {X : Type 0} where
   count_cons p x xs = sum_by-cons (λ y. cond (p y) 1 0) x xs
 
   pub one_counted : (p : X → Bool) (xs : List X) (x : X) → Contains xs x → p x ≡ true → 1 ≤ count_by p xs
-  one_counted p [] x c e = absurd (none_there x c)
+  one_counted p [] x c e = absurd (nothing_in x c)
   one_counted p (y ∷ xs) x c e =
       let all = count_cons p y xs in
       elim (member_cases y x xs c) [
@@ -60,7 +58,7 @@ module _ {X : Type 0} where
 
   -- what a test finds once at most is one member
   pub counted_once : (p : X → Bool) (xs : List X) (x y : X) → count_by p xs ≤ 1 → Contains xs x → Contains xs y → p x ≡ true → p y ≡ true → x ≡ y
-  counted_once p [] x y few c d e f = absurd (none_there x c)
+  counted_once p [] x y few c d e f = absurd (nothing_in x c)
   counted_once p (z ∷ xs) x y few c d e f =
       let all = count_cons p z xs in
       elim (member_cases z x xs c) [
@@ -109,7 +107,7 @@ two false b h = absurd h
 
 module _ {X : Type 0} where
   all_above : (x : ℕ) (es : List (ℕ × X)) (u : ℕ × X) → T (below_all nat_cmp x es) → Contains es u → x < u.0
-  all_above x [] u h c = absurd (none_there u c)
+  all_above x [] u h c = absurd (nothing_in u c)
   all_above x (e ∷ es) u h c =
       let parts = two (is_lt (nat_cmp x e.0)) (below_all nat_cmp x es) h in
       elim (member_cases e u es c) [
@@ -118,7 +116,7 @@ module _ {X : Type 0} where
       ]
 
   found : (es : List (ℕ × X)) (u : ℕ × X) → T (is_sorted nat_cmp es) → Contains es u → find nat_cmp u.0 es ≡ Some u.1
-  found [] u h c = absurd (none_there u c)
+  found [] u h c = absurd (nothing_in u c)
   found (e ∷ es) u h c =
       let parts = two (below_all nat_cmp e.0 es) (is_sorted nat_cmp es) h in
       elim (member_cases e u es c) [
@@ -142,7 +140,7 @@ module _ {X : Type 0} where
   pub filter_first : (p q : ℕ × X → Bool) (x : ℕ × X) (es : List (ℕ × X)) → T (is_sorted nat_cmp es) → Contains es x → p x ≡ true → q x ≡ false
       → ((u : ℕ × X) → Contains es u → u.0 < x.0 → (p u ≡ false) × (q u ≡ false)) → ((u : ℕ × X) → Contains es u → x.0 < u.0 → p u ≡ q u)
       → filter p es ≡ x ∷ filter q es
-  filter_first p q x [] h c first second before behind = absurd (none_there x c)
+  filter_first p q x [] h c first second before behind = absurd (nothing_in x c)
   filter_first p q x (e ∷ es) h c first second before behind =
       let parts = two (below_all nat_cmp e.0 es) (is_sorted nat_cmp es) h in
       elim (member_cases e x es c) [

@@ -9,7 +9,10 @@ ghost use Rattle.r4_search.specs.Pool.{LeavesDevice};
 ghost use Rattle.r4_list.specs.declared.opening.Unopened.TheVariants.{Layout as Refused};
 ghost use Rattle.r4_list.specs.Opening.{AreRead, IsReadCause, Opens};
 
-use r4_base::{Block, BlockNo, LayoutFault, MASTER_BLOCK, Memory, SUPER_BLOCK, Super40, bitmap_block, bitmap_count};
+use r4_base::{
+    Block, BlockNo, LayoutFault, MASTER_BLOCK, Memory, SUPER_BLOCK, Super40, bitmap_block,
+    bitmap_count,
+};
 use r4_layout::{read_master, read_super};
 use r4_outside::{Device, Failed};
 use r4_replay::Log;

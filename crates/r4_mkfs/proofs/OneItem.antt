@@ -3,10 +3,12 @@ use Rattle.std.proofs.Common.{◌≡◌, ℕ, ◌≤◌, Bool, true, false, ◌&
 use Rattle.std.specs.Prelude.{Some, None, ◌==◌, Result, OnOk, IsOk, Ok, Err}
 use Rattle.std.specs.List.{insert}
 use Rattle.std.proofs.lemmas.List.{length-replicate}
+use Rattle.std.proofs.lemmas.Bool.{and_right}
 use Rattle.r4_base.specs.Lending.{written}
 use Rattle.r4_base.specs.Node.{Item, PluginsFit, KeysRise, count_of, fits_level, is_empty_branch, item_at, items_of, key_at, level_of, offset_at, plugin_at}
 use Rattle.r4_base.specs.declared.node.NodeFault.TheVariants.{Empty}
 use Rattle.r4_base.specs.Fresh.{HasOneItem, IsFreshNode, root_key}
+use Rattle.r4_base.proofs.Choices.{none_at}
 use Rattle.r4_node40.specs.Laid.{IsFresh, IsNode, WritesBody, span_at}
 use Rattle.r4_node40.specs.Edits.{GoesBetween, InsertsItem}
 use Rattle.r4_node40.proofs.Accepted.{accepted}
@@ -14,31 +16,19 @@ use Rattle.r4_node40.proofs.Bodies.{body_lent}
 use Rattle.r4_node40.proofs.Kept.{node_inserted, node_written}
 use Rattle.r4_node40.proofs.Laid.{get_or-items_of}
 
--- where a call went well, what it promises then
-pub went_well : {T E : Type 0} (r : Result T E) (P : Type 0) → IsOk r → OnOk r P → P
-went_well (Ok v) P ok p = p
-went_well (Err e) P ok p = let no_value : false ≡ true = ok in absurd cc
-
-and_false : (p q : Bool) → q ≡ false → (p && q) ≡ false
-and_false true q e = e
-and_false false q e = refl
-
-none : (k : ℕ) (x : Item) → slice_get [] k ≡ Some x → ⊥
-none k x e = absurd cc
-
 module _ (b0 b1 body : List ℕ) (level plugin : ℕ) (fresh : IsFresh b0 level 1) (fits : fits_level level plugin ≡ true) (some : 1 ≤ length body) (put : InsertsItem b0 0 root_key plugin (length body) b1) where
   node0 : IsNode b0
   node0 = record {
     laid = fresh.laid;
     head = fresh.head;
-    plugins = subst (λ (l : List Item). PluginsFit (level_of b0) l) (sym fresh.items) (λ k x e. absurd (none k x e));
-    keys = subst KeysRise (sym fresh.items) (λ k x y e g. absurd (none k x e));
+    plugins = subst (λ (l : List Item). PluginsFit (level_of b0) l) (sym fresh.items) (λ k x e. absurd (none_at k x e));
+    keys = subst KeysRise (sym fresh.items) (λ k x y e g. absurd (none_at k x e));
   }
 
   between : GoesBetween (items_of b0) 0 root_key
   between = record {
     above = λ k x e is. absurd (omega (arith, e));
-    below = λ y is. absurd (none 0 y (subst (λ (l : List Item). slice_get l 0 ≡ Some y) fresh.items is));
+    below = λ y is. absurd (none_at 0 y (subst (λ (l : List Item). slice_get l 0 ≡ Some y) fresh.items is));
   }
 
   node1 : IsNode b1
@@ -77,7 +67,7 @@ module _ (b0 b1 body : List ℕ) (level plugin : ℕ) (fresh : IsFresh b0 level 
   }
     where
       not_empty : is_empty_branch (written b1 (offset_at b1 0) body) ≡ false
-      not_empty = let n : count_of (written b1 (offset_at b1 0) body) ≡ 1 = wrote.count ∙ one in let test : (count_of (written b1 (offset_at b1 0) body) == 0) ≡ false = rw n refl in and_false _ _ test
+      not_empty = let n : count_of (written b1 (offset_at b1 0) body) ≡ 1 = wrote.count ∙ one in let test : (count_of (written b1 (offset_at b1 0) body) == 0) ≡ false = rw n refl in and_right _ _ test
 
   pub fresh_node : IsFreshNode (written b1 (offset_at b1 0) body) level plugin body
   fresh_node = record {

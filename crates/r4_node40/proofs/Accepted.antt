@@ -1,6 +1,6 @@
 -- Which blocks the reader accepts, in words of their lists of items.
 use Rattle.std.proofs.Common.{◌≡◌, ℕ, zero, suc, ◌+◌, ◌-◌, ◌*◌, ◌<◌, ◌≤◌, Bool, true, false, cond, ◌||◌, not, eqb, List, length, Option, Some, None, refl, sym, ap, subst, ◌∙◌, arith, inl, inr}
-use Rattle.std.proofs.lemmas.Bool.{cases_eq, eq-eqb, eqb-true, lt-ltb, ltb-true, le-leb, leb-true}
+use Rattle.std.proofs.lemmas.Bool.{and_parts, cases_eq, eq-eqb, eqb-true, le-leb, leb-true, lt-ltb, ltb-true, ne_eqb, not-false}
 use Rattle.std.proofs.lemmas.Option.{slice_get_within}
 use Rattle.std.proofs.lemmas.List.Sums.{sum_by-cons}
 use Rattle.std.specs.Prelude.{nat_lt, nat_le, slice_get, sum_by}
@@ -10,7 +10,7 @@ use Rattle.r4_base.specs.declared.node.NodeFault.{NodeFault}
 use Rattle.r4_base.specs.Key.{rank}
 use Rattle.r4_base.specs.Node.{Item, PluginsFit, KeysRise, count_of, start_of, free_of, magic_of, plugin_of, level_of, key_at, plugin_at, offset_at, edge_at, item_at, items_from, items_of, then_fault, header_fault, item_fault, items_fault, node_fault, magic_is_good, level_is_good, is_empty_branch, space_is_good, offset_is_good, fits_level, order_is_good}
 use Rattle.r4_node40.specs.Laid.{IsPlaced, IsLaid, IsNode, HasGoodHead, room_of}
-use Rattle.r4_node40.proofs.Faults.{chosen_none, and_true, not_false, neq-eqb, node_parts, each_good, laid_from_good}
+use Rattle.r4_node40.proofs.Faults.{chosen_none, node_parts, each_good, laid_from_good}
 use Rattle.r4_node40.proofs.Laid.{edge_next, edge_last, edge_first, edge_step, edge_stands, get-items_of, length-items_of}
 
 -- ---- a good block is accepted
@@ -31,13 +31,13 @@ offset_good b i p =
     let below = lt-ltb (offset_at b i) (start_of b) p.below in
     elim (cases_eq i 0) [
       | inl z ↦ let t = eq-eqb i 0 z in let e = eq-eqb (offset_at b i) 28 (p.first z) in rw (t, e, below) refl
-      | inr pos ↦ let t = neq-eqb i 0 pos in let e = lt-ltb (offset_at b (i - 1)) (offset_at b i) (p.later (omega arith)) in rw (t, e, below) refl
+      | inr pos ↦ let t = ne_eqb i 0 pos in let e = lt-ltb (offset_at b (i - 1)) (offset_at b i) (p.later (omega arith)) in rw (t, e, below) refl
     ]
 
 order_good : (b : List ℕ) (i : ℕ) → (0 < i → rank (key_at b (i - 1)) < rank (key_at b i)) → order_is_good b i ≡ true
 order_good b i up = elim (cases_eq i 0) [
   | inl z ↦ let t = eq-eqb i 0 z in rw t refl
-  | inr pos ↦ let t = neq-eqb i 0 pos in let e = lt-ltb (rank (key_at b (i - 1))) (rank (key_at b i)) (up (omega arith)) in rw (t, e) refl
+  | inr pos ↦ let t = ne_eqb i 0 pos in let e = lt-ltb (rank (key_at b (i - 1))) (rank (key_at b i)) (up (omega arith)) in rw (t, e) refl
 ]
 
 no_item_fault : (b : List ℕ) (i : ℕ) → offset_is_good b i ≡ true → fits_level (level_of b) (plugin_at b i) ≡ true → order_is_good b i ≡ true → item_fault b i ≡ None
@@ -100,12 +100,12 @@ good_tests b e =
     let first = chosen_none (not (magic_is_good b)) Magic level e in
     let second = chosen_none (not (level_is_good b)) Level empty first.1 in
     let third = chosen_none (is_empty_branch b) Empty space second.1 in
-    record { magic = not_false _ first.0; level = not_false _ second.0; full = third.0 }
+    record { magic = not-false _ first.0; level = not-false _ second.0; full = third.0 }
 
 good_head : (b : List ℕ) → GoodTests b → HasGoodHead b
 good_head b t =
-    let m = and_true (eqb (magic_of b) 0x52344653) (eqb (plugin_of b) 0) t.magic in
-    let l = and_true (nat_le 1 (level_of b)) (nat_le (level_of b) 8) t.level in
+    let m = and_parts (eqb (magic_of b) 0x52344653) (eqb (plugin_of b) 0) t.magic in
+    let l = and_parts (nat_le 1 (level_of b)) (nat_le (level_of b) 8) t.level in
     record { magic = eqb-true _ _ m.0; plugin = eqb-true _ _ m.1; level = (leb-true _ _ l.0, leb-true _ _ l.1) }
 
 pub record GoodItem (b : List ℕ) (i : ℕ) : Type 0 where
@@ -120,11 +120,11 @@ good_item b i e =
     let first = chosen_none (not (offset_is_good b i)) (Offset i) plugin e in
     let second = chosen_none (not (fits_level (level_of b) (plugin_at b i))) (Plugin i) order first.1 in
     let third = chosen_none (not (order_is_good b i)) (Order i) None second.1 in
-    record { plugin = not_false _ second.0; order = not_false _ third.0 }
+    record { plugin = not-false _ second.0; order = not-false _ third.0 }
 
 is_below : (b : List ℕ) (i : ℕ) → order_is_good b (i + 1) ≡ true → rank (key_at b i) < rank (key_at b (i + 1))
 is_below b i good =
-    let t = neq-eqb (i + 1) 0 (λ e. omega (arith, e)) in
+    let t = ne_eqb (i + 1) 0 (λ e. omega (arith, e)) in
     let same : i + 1 - 1 ≡ i = omega arith in
     let test = when_none (eqb (i + 1) 0) (nat_lt (rank (key_at b (i + 1 - 1))) (rank (key_at b (i + 1)))) t good in
     subst (λ (j : ℕ). rank (key_at b j) < rank (key_at b (i + 1))) same (ltb-true _ _ test)
@@ -195,7 +195,7 @@ space b laid = elim (cases_eq (count_of b) 0) [
       let zero_sum : sum_by takes (items_from (count_of b) (count_of b) 0 b) ≡ 0 = omega arith in
       rw (t, zero_sum) refl
   | inr some ↦
-      let t = neq-eqb (count_of b) 0 some in
+      let t = ne_eqb (count_of b) 0 some in
       let first = edge_first b (count_of b) laid refl (omega arith) in
       let all = take_up b (count_of b) (count_of b) 0 laid refl (omega arith) in
       let sum = laid.sum in

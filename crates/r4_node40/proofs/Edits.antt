@@ -1,6 +1,6 @@
 -- What an edit of a block does to its items: items give way to others at a place, and the rest is moved.
 use Rattle.std.proofs.Common.{◌≡◌, ℕ, ◌+◌, ◌-◌, ◌*◌, ◌<◌, ◌≤◌, List, length, get_or, set, take, replicate, refl, sym, ap, ◌∙◌, arith, inl, inr}
-use Rattle.std.proofs.lemmas.Bool.{cases_eq, cases_lt, eq-eqb}
+use Rattle.std.proofs.lemmas.Bool.{cases_eq, cases_lt, eq-eqb, ne_eqb}
 use Rattle.std.proofs.lemmas.List.{places, length-append, length-take, ext_get_or, length-replicate, get_or-replicate, same_lists, length-set, get_or-set_same, get_or-set_other}
 use Rattle.std.proofs.lemmas.List.Edits.{length-remove, get_or-remove_below, get_or-remove_above, length-insert, get_or-insert_below, get_or-insert_at, get_or-insert_above}
 use Rattle.std.specs.Prelude.{slice_range, remove}
@@ -13,7 +13,6 @@ use Rattle.r4_node40.specs.Laid.{IsLaid, KeepsFree, SameHeader, SameHead, room_o
 use Rattle.r4_node40.specs.Edits.{resized}
 use Rattle.r4_node40.specs.Splice.{CanSplice, IsSpliced, IsSettled, ShiftedHeader}
 use Rattle.r4_node40.specs.declared.edit.Splice.{Splice}
-use Rattle.r4_node40.proofs.Faults.{neq-eqb}
 use Rattle.r4_node40.proofs.Laid.{edge_next, edge_last, edge_first, edge_step, edges_apart, edge_stands, laid_by_edges, length-items_of, get_or-items_of}
 use Rattle.r4_node40.proofs.Splices.{started}
 use Rattle.r4_node40.proofs.Headers.{same_head, same_header}
@@ -188,7 +187,7 @@ pub settled_room : (b : List ℕ) → IsLaid b → IsSettled b → room_of b ≡
 unfolding room_of
 settled_room b laid settled = elim (cases_eq (count_of b) 0) [
   | inl none ↦ let t = eq-eqb (count_of b) 0 none in let start = settled none in let sum = laid.sum in let free : 4068 ≡ free_of b = omega arith in rw t free
-  | inr some ↦ let t = neq-eqb (count_of b) 0 some in rw t refl
+  | inr some ↦ let t = ne_eqb (count_of b) 0 some in rw t refl
 ]
 
 pub edited_room : (s : Splice) (b c : List ℕ) (n m : ℕ) → Edited s b c n m → room_of c + s.new + 38 * s.come ≡ room_of b + s.old + 38 * s.gone
@@ -450,7 +449,7 @@ resizing i from to len = record { at = i; gone = 1; come = 1; from = from; old =
 -- a block with an item has its free space as its room
 pub room_of_some : (b : List ℕ) (i : ℕ) → i < count_of b → room_of b ≡ free_of b
 unfolding room_of
-room_of_some b i lt = let t = neq-eqb (count_of b) 0 (λ e. omega (arith, e)) in rw t refl
+room_of_some b i lt = let t = ne_eqb (count_of b) 0 (λ e. omega (arith, e)) in rw t refl
 
 pub can_resize : (b : List ℕ) (n i from to len : ℕ) → IsLaid b → n ≡ count_of b → i < n → from ≡ offset_at b i → to ≡ edge_at n b (i + 1) → from < to → len - (to - from) ≤ room_of b → CanSplice (resizing i from to len) b
 can_resize b n i from to len laid is lt here there order room =

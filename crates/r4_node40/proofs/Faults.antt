@@ -1,27 +1,16 @@
 -- What it says that a node has no fault, and what the reader answers.
 use Rattle.std.proofs.Common.{◌≡◌, ℕ, zero, suc, ◌+◌, ◌-◌, ◌*◌, ◌<◌, ◌≤◌, Bool, true, false, cond, ◌&&◌, ◌||◌, not, eqb, List, length, Option, Some, None, refl, sym, ◌∙◌, arith, inl, inr}
-use Rattle.std.proofs.lemmas.Bool.{cases_eq, eqb-true, eq-eqb, ltb-true, leb-true}
+use Rattle.std.proofs.lemmas.Bool.{and_parts, cases_eq, eq-eqb, eqb-true, leb-true, ltb-true, ne_eqb, not-false}
 use Rattle.std.specs.Prelude.{nat_lt, nat_le}
 use Rattle.r4_base.specs.declared.node.NodeFault.TheVariants.{Magic, Level, Empty, Space}
 use Rattle.r4_base.specs.declared.node.NodeFault.{NodeFault}
 use Rattle.r4_node40.specs.Laid.{IsPlaced, IsLaid}
 use Rattle.r4_base.specs.Node.{count_of, start_of, free_of, then_fault, header_fault, item_fault, items_fault, node_fault, offset_at, offset_is_good, magic_is_good, level_is_good, is_empty_branch, space_is_good}
+use Rattle.r4_base.proofs.Choices.{if_true}
 
 pub chosen_none : (t : Bool) (f : NodeFault) (r : Option NodeFault) → cond t (Some f) r ≡ None → (t ≡ false) × (r ≡ None)
 chosen_none true f r e = absurd cc
 chosen_none false f r e = (refl, e)
-
-or_false : (a b : Bool) → (a || b) ≡ false → (a ≡ false) × (b ≡ false)
-or_false true b e = absurd cc
-or_false false b e = (refl, e)
-
-pub not_false : (a : Bool) → not a ≡ false → a ≡ true
-not_false true e = refl
-not_false false e = absurd cc
-
-pub and_true : (a b : Bool) → (a && b) ≡ true → (a ≡ true) × (b ≡ true)
-and_true true b e = (refl, e)
-and_true false b e = absurd cc
 
 then_none : (f g : Option NodeFault) → then_fault f g ≡ None → (f ≡ None) × (g ≡ None)
 then_none None g e = (refl, e)
@@ -41,7 +30,7 @@ header_is_good b e =
     let second = chosen_none (not (level_is_good b)) Level empty first.1 in
     let third = chosen_none (is_empty_branch b) Empty space second.1 in
     let fourth = chosen_none (not (space_is_good b)) Space None third.1 in
-    let both = and_true (nat_le 28 (start_of b)) (eqb (start_of b + free_of b + 38 * count_of b) 4096) (not_false (space_is_good b) fourth.0) in
+    let both = and_parts (nat_le 28 (start_of b)) (eqb (start_of b + free_of b + 38 * count_of b) 4096) (not-false (space_is_good b) fourth.0) in
     record { low = leb-true _ _ both.0; sum = eqb-true _ _ both.1 }
 
 -- ---- a loop over the items
@@ -85,11 +74,7 @@ each_good b (suc n) i k e le lt =
 
 pub offset_good : (b : List ℕ) (i : ℕ) → item_fault b i ≡ None → offset_is_good b i ≡ true
 unfolding item_fault
-offset_good b i e = not_false _ (chosen_none _ _ _ e).0
-
-when_true : (t x y : Bool) → t ≡ true → cond t x y ≡ true → x ≡ true
-when_true true x y e h = h
-when_true false x y e h = absurd cc
+offset_good b i e = not-false _ (chosen_none _ _ _ e).0
 
 when_false : (t x y : Bool) → t ≡ false → cond t x y ≡ true → y ≡ true
 when_false true x y e h = absurd cc
@@ -99,17 +84,14 @@ neq_by : (t : Bool) (m n : ℕ) → t ≡ eqb m n → (m ≡ n → ⊥) → t �
 neq_by true m n e ne = absurd (ne (eqb-true m n (sym e)))
 neq_by false m n e ne = refl
 
-pub neq-eqb : (m n : ℕ) → (m ≡ n → ⊥) → eqb m n ≡ false
-neq-eqb m n ne = neq_by (eqb m n) m n refl ne
-
 pub is_placed : (b : List ℕ) (i : ℕ) → item_fault b i ≡ None → IsPlaced b i
 is_placed b i e =
     let start : Bool = eqb (offset_at b i) 28 in
     let next : Bool = nat_lt (offset_at b (i - 1)) (offset_at b i) in
-    let good = and_true (cond (eqb i 0) start next) (nat_lt (offset_at b i) (start_of b)) (offset_good b i e) in
+    let good = and_parts (cond (eqb i 0) start next) (nat_lt (offset_at b i) (start_of b)) (offset_good b i e) in
     record {
-      first = λ z. eqb-true _ _ (when_true (eqb i 0) start next (eq-eqb i 0 z) good.0);
-      later = λ pos. ltb-true _ _ (when_false (eqb i 0) start next (neq-eqb i 0 (λ z. omega (arith, z))) good.0);
+      first = λ z. eqb-true _ _ (if_true (eqb i 0) start next (eq-eqb i 0 z) good.0);
+      later = λ pos. ltb-true _ _ (when_false (eqb i 0) start next (ne_eqb i 0 (λ z. omega (arith, z))) good.0);
       below = ltb-true _ _ good.1;
     }
 

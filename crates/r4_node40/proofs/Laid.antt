@@ -1,6 +1,6 @@
 -- Where the bodies of a block begin and end, and its list of items.
 use Rattle.std.proofs.Common.{◌≡◌, ℕ, zero, suc, ◌+◌, ◌-◌, ◌*◌, ◌<◌, ◌≤◌, List, length, get_or, Some, refl, sym, ap, ◌∙◌, arith, inl, inr}
-use Rattle.std.proofs.lemmas.Bool.{cases_eq, eq-eqb}
+use Rattle.std.proofs.lemmas.Bool.{cases_eq, eq-eqb, ne_eqb}
 use Rattle.std.specs.Prelude.{slice_get, slice_range}
 use Rattle.r4_base.specs.declared.key.Key.{Key}
 use Rattle.r4_base.specs.Key.{IsKey}
@@ -8,13 +8,12 @@ use Rattle.r4_base.proofs.Keys.{is_key}
 use Rattle.r4_base.proofs.Numbers.{number_at-lt}
 use Rattle.r4_base.specs.Node.{Item, header, count_of, start_of, free_of, key_at, plugin_at, offset_at, edge_at, end_at, item_at, items_from, items_of}
 use Rattle.r4_node40.specs.Laid.{IsLaid}
-use Rattle.r4_node40.proofs.Faults.{neq-eqb}
 
 -- ---- edges: where bodies begin, and where they end
 
 pub edge_next : (n i : ℕ) (b : List ℕ) → i < n → edge_at n b i ≡ offset_at b i
 unfolding edge_at
-edge_next n i b lt = let t = neq-eqb i n (λ e. omega (arith, e)) in rw t refl
+edge_next n i b lt = let t = ne_eqb i n (λ e. omega (arith, e)) in rw t refl
 
 pub edge_last : (n i : ℕ) (b : List ℕ) → i ≡ n → edge_at n b i ≡ start_of b
 unfolding edge_at

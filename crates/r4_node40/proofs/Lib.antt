@@ -10,3 +10,4 @@ pub mod Settling
 pub mod Accepted
 pub mod Kept
 pub mod Following
+pub mod LaidItems

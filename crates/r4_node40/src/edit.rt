@@ -9,7 +9,9 @@ ghost use Rattle.r4_node40.specs.Splice.{ShiftsOffsets, Settles};
 
 use crate::fields::{edge_of, header_of, offset_of};
 use crate::view::{MAGIC, place_of};
-use r4_base::{ITEM_HEADER, Key, NODE_HEAD, NODE_ROOM, blank, get16, move_bytes, put16, put32, put64};
+use r4_base::{
+    ITEM_HEADER, Key, NODE_HEAD, NODE_ROOM, blank, get16, move_bytes, put16, put32, put64,
+};
 
 /// An edit has no room: it needs `need` bytes, and only `free` bytes are free, of 4068 in a node without items. An insert
 /// needs its body's bytes and 38 more, a resize the bytes by which the body grows (docs/layout.md, "Nodes").
@@ -165,7 +167,11 @@ pub(crate) fn room_in(b: &[u8]) -> u16
     requires { length b.now ≡ 4096 }
     ensures { result ≡ room_of b.now }
 {
-    if get16(b, 2) == 0 { NODE_ROOM } else { get16(b, 4) }
+    if get16(b, 2) == 0 {
+        NODE_ROOM
+    } else {
+        get16(b, 4)
+    }
 }
 
 /// Sets the start of free space anew where there are no items.

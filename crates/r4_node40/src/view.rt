@@ -7,7 +7,10 @@ ghost use Rattle.r4_base.specs.Node.{header_fault, item_fault, items_fault, node
 ghost use Rattle.r4_node40.specs.Laid.{IsLaid};
 
 use crate::fields::{edge_of, key_of, offset_of, plugin_of};
-use r4_base::{ENTRIES, EXTENT, ITEM_HEADER, Key, LEAF, MOST_LEVELS, NODE_HEAD, NodeFault, POINTER, STAT, TAIL, TWIG, get16, get32};
+use r4_base::{
+    ENTRIES, EXTENT, ITEM_HEADER, Key, LEAF, MOST_LEVELS, NODE_HEAD, NodeFault, POINTER, STAT,
+    TAIL, TWIG, get16, get32,
+};
 
 /// The magic of a node.
 pub(crate) const MAGIC: u32 = 0x5234_4653;

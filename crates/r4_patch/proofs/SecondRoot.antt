@@ -10,7 +10,8 @@ use Rattle.std.proofs.lemmas.Grind.{common_steps}
 use Rattle.r4_base.specs.Key.{least}
 use Rattle.r4_base.specs.Tree.{Name, Node, Root, Store, InNode, IsNode, IsTree}
 use Rattle.r4_base.specs.Value.{Value}
-use Rattle.r4_base.proofs.FreshTree.{down, fresh_cell, fresh_is_tree, fresh_leaf, fresh_root, fresh_store, fresh_twig, least_below, leaf_there, nothing, only, twig_there}
+use Rattle.r4_base.proofs.FreshTree.{down, fresh_cell, fresh_is_tree, fresh_leaf, fresh_root, fresh_store, fresh_twig, least_below, leaf_there, only, twig_there}
+use Rattle.r4_base.proofs.Choices.{nothing_in}
 use Rattle.r4_cell.specs.Patch.{place, Names, IsNewRoot, IsPatch}
 use Rattle.r4_patch.specs.SecondRoot.{second_root, small_root, small_tree, whole_leaf, whole_twig}
 use Rattle.r4_patch.proofs.Placed.{some_or_none}
@@ -68,13 +69,13 @@ module _ (twig leaf : List ℕ) where
       neither b = grind (arith, common_steps, b, e)
 
   old_names : (n : Name) → Names (second_root twig leaf).old n → ⊥
-  old_names n (i, c, e, h) = nothing n (subst (λ x. Contains x.names n) (old_cell i c e).1 h)
+  old_names n (i, c, e, h) = nothing_in n (subst (λ x. Contains x.names n) (old_cell i c e).1 h)
 
   new_names : (n : Name) → Names (second_root twig leaf).new n → n ≡ down
   unfolding down
   new_names n (i, c, e, h) = elim (new_cell i c e) [
     | inl g ↦ only down n (subst (λ x. Contains x.names n) g.1 h)
-    | inr g ↦ absurd (nothing n (subst (λ x. Contains x.names n) g.1 h))
+    | inr g ↦ absurd (nothing_in n (subst (λ x. Contains x.names n) g.1 h))
   ]
 
   new_level : (i : ℕ) (c : Node Value) → (second_root twig leaf).new i ≡ Some c → ((i ≡ 24) × (c.level ≡ 2)) ⊎ ((i ≡ 23) × (c.level ≡ 1))
@@ -117,7 +118,7 @@ module _ (twig leaf : List ℕ) where
           let (i, c, e, cl, at) = h in
           let (is, same) = old_cell i c e in
           inl (23, (whole_leaf leaf), refl, refl, subst (λ x. InNode x k) same at)
-      | inr h ↦ let (i, c, s, e, cs, _) = h in absurd (nothing s (subst (λ x. Contains x.spans s) (old_cell i c e).1 cs))
+      | inr h ↦ let (i, c, s, e, cs, _) = h in absurd (nothing_in s (subst (λ x. Contains x.spans s) (old_cell i c e).1 cs))
     ];
     leaves_new = λ k u. elim u [
       | inl h ↦
@@ -129,8 +130,8 @@ module _ (twig leaf : List ℕ) where
       | inr h ↦
           let (i, c, s, e, cs, _) = h in
           elim (new_cell i c e) [
-            | inl g ↦ absurd (nothing s (subst (λ x. Contains x.spans s) g.1 cs))
-            | inr g ↦ absurd (nothing s (subst (λ x. Contains x.spans s) g.1 cs))
+            | inl g ↦ absurd (nothing_in s (subst (λ x. Contains x.spans s) g.1 cs))
+            | inr g ↦ absurd (nothing_in s (subst (λ x. Contains x.spans s) g.1 cs))
           ]
     ];
   }

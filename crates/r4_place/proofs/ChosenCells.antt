@@ -16,6 +16,7 @@ use Rattle.r4_place.specs.declared.placed.How.{How}
 use Rattle.r4_place.specs.declared.placed.How.TheVariants.{Fresh, Relocate, Overwrite}
 use Rattle.r4_place.specs.declared.placed.Placed.{Placed}
 use Rattle.r4_base.specs.Image.{AreDifferent}
+use Rattle.r4_base.proofs.Choices.{never_both}
 use Rattle.r4_place.specs.Chosen.{behind, placed_in, IsChosen, AreChosen, behind_all, placed_all, block_of, fresh_blocks}
 
 -- ---- a full space has no unused block
@@ -47,12 +48,9 @@ taken_other : (s : Space) (a b : ℕ) → b ≢ a → is_taken (with_placed s a)
 unfolding is_taken_by
 taken_other s a b other = ap (λ (p : Bool). get_or s.marked b false || (p || (is_claimed s.held b || is_claimed s.deferred b))) (get_or-set_other s.placed a b true false other)
 
-not_both : (t : Bool) → t ≡ true → t ≡ false → ⊥
-not_both t one other = absurd (cc (sym one ∙ other))
-
 clear_before : (s : Space) (a b : ℕ) → a < length s.placed → is_taken (with_placed s a) b ≡ false → (is_taken s b ≡ false) × (b ≢ a)
 clear_before s a b lt clear = elim (cases_eq b a) [
-  | inl is ↦ absurd (not_both (is_taken (with_placed s a) a) (taken_here s a lt) (subst (λ (k : ℕ). is_taken (with_placed s a) k ≡ false) is clear))
+  | inl is ↦ absurd (never_both (is_taken (with_placed s a) a) (taken_here s a lt) (subst (λ (k : ℕ). is_taken (with_placed s a) k ≡ false) is clear))
   | inr other ↦ (sym (taken_other s a b other) ∙ clear, other)
 ]
 
@@ -83,7 +81,7 @@ fresh_different near s (c ∷ cs) (p ∷ ps) size h = go p.how (λ near' s' long
         let lt : a.0 < length s.placed = omega (arith, one.1.within, size) in
         let long : length (set s.placed a.0 true) ≡ s.block_count = length-set s.placed a.0 true ∙ size in
         let later = fresh_unused (a.0 + 1) (with_placed s a.0) cs ps long rest in
-        ((λ again. let one_more = later again.0 a.0 again.1 in not_both (is_taken (with_placed s a.0) a.0) (taken_here s a.0 lt) (subst (λ (k : ℕ). is_taken (with_placed s a.0) k ≡ false) again.2 one_more.1)), ih (a.0 + 1) (with_placed s a.0) long rest)
+        ((λ again. let one_more = later again.0 a.0 again.1 in never_both (is_taken (with_placed s a.0) a.0) (taken_here s a.0 lt) (subst (λ (k : ℕ). is_taken (with_placed s a.0) k ≡ false) again.2 one_more.1)), ih (a.0 + 1) (with_placed s a.0) long rest)
     go (Relocate a) ih one rest = absurd one
     go Overwrite ih one rest = ih near s size rest
 

@@ -254,6 +254,3 @@ pair_skipped set ps i before now next lt lacks e so_far = rw (e, more_at (λ (p 
 
 pub pair_taken : (set : BTreeSet ℕ) (ps : List (ℕ × ℕ)) (i r : ℕ) (before now next : Option ℕ) → i < length ps → Has set (get_or ps i (0, 0)).0 → next ≡ Some r → MatchOption now (r ≡ (get_or ps i (0, 0)).0) (λ f. r ≡ min f (get_or ps i (0, 0)).0) → IsSmallestIn set (take i (firsts ps)) before now → IsSmallestIn set (take (i + 1) (firsts ps)) before next
 pair_taken set ps i r before now next lt has e small so_far = rw (e, more_at (λ (p : ℕ × ℕ). p.0) ps i (0, 0) lt) (smallest_take set (take i (firsts ps)) (get_or ps i (0, 0)).0 before now r has so_far small)
-
-pub never_both : (b : Bool) → b ≡ true → b ≡ false → ⊥
-never_both b yes_is no_is = cc

@@ -3,6 +3,7 @@ use Rattle.std.proofs.Common.{◌≡◌, inl, inr, ℕ, ◌<◌, ◌≤◌, Bool
 use Rattle.std.specs.List.{AllByRecursion}
 use Rattle.std.proofs.lemmas.Bool.Decides.{eqb_tells}
 use Rattle.std.proofs.lemmas.List.{length-append}
+use Rattle.std.proofs.lemmas.Bool.{and_parts}
 use Rattle.r4_content.specs.declared.command.Command.{Command}
 use Rattle.r4_content.specs.declared.command.Command.TheVariants as commands
 use Rattle.r4_script.specs.declared.fault.ParseFault.{ParseFault}
@@ -14,7 +15,6 @@ use Rattle.r4_script.specs.Spelling.{is_one_line, AreNames, IsCommand, AreInOrde
 use Rattle.r4_script.specs.Split.{onto_first, split}
 use Rattle.r4_script.specs.Text.{job_of, Answers}
 use Rattle.r4_script.proofs.Jobs.{job_is}
-use Rattle.r4_script.proofs.Numbers.{both}
 
 -- ---- a command
 
@@ -24,7 +24,7 @@ names_are a (name ∷ names) h = record { bytes = h.1; some = h.2 }
 
 one_tail : (a b : List ℕ) → is_one_line (a ++ b) ≡ true → is_one_line b ≡ true
 one_tail [] b h = h
-one_tail (x ∷ a) b h = one_tail a b (both (not (nat_eq x 10)) (is_one_line (a ++ b)) h).1
+one_tail (x ∷ a) b h = one_tail a b (and_parts (not (nat_eq x 10)) (is_one_line (a ++ b)) h).1
 
 command_keeps : (c : Command) (line : List ℕ) → is_one_line line ≡ true → Spells line c → IsCommand c
 command_keeps commands.Begin line o h = tt

@@ -2,7 +2,7 @@
 use Rattle.std.proofs.Common.{◌≡◌, ◌≢◌, inl, inr, ℕ, ◌+◌, ◌-◌, ◌*◌, ◌≤◌, Bool, true, false, cond, ◌&&◌, nat_eq, nat_lt, nat_le, List, [], ◌∷◌, ◌++◌, length, drop, Option, Some, None, refl, ap, ◌∙◌, sym, subst, arith, option_map, not, leb-true, le-leb, eq-eqb}
 use Rattle.std.specs.Prelude.{flat_map}
 use Rattle.std.specs.List.{AllByRecursion, list_all}
-use Rattle.std.proofs.lemmas.Bool.{lt-ltb, ltb-true, ne_eqb, eqb-true}
+use Rattle.std.proofs.lemmas.Bool.{and_parts, eqb-true, lt-ltb, ltb-true, ne_eqb}
 use Rattle.std.proofs.lemmas.Bool.Decides.{eqb_tells}
 use Rattle.r4_script.specs.Field.{digits_from, up_to, number_of, is_path_byte, components, behind_root, path_of}
 use Rattle.r4_script.specs.Grammar.{IsNumber, IsNameByte, IsPath}
@@ -15,10 +15,6 @@ use Rattle.r4_script.proofs.Lines.{first_part}
 pub chosen : {A : Type 0} (b : Bool) (x : Option A) (n : A) → cond b x None ≡ Some n → (b ≡ true) × (x ≡ Some n)
 chosen true x n e = (refl, e)
 chosen false x n e = absurd cc
-
-pub both : (a b : Bool) → (a && b) ≡ true → (a ≡ true) × (b ≡ true)
-both true b e = (refl, e)
-both false b e = absurd cc
 
 -- ---- numbers
 
@@ -33,7 +29,7 @@ pub no_blank_digits : (base so_far : ℕ) (ds : List ℕ) (n : ℕ) → digits_f
 no_blank_digits base so_far [] n e = tt
 no_blank_digits base so_far (d ∷ ds) n e =
     let c = chosen (nat_le 48 d && nat_lt d (48 + base)) (digits_from base (so_far * base + (d - 48)) ds) n e in
-    let t = both (nat_le 48 d) (nat_lt d (48 + base)) c.0 in
+    let t = and_parts (nat_le 48 d) (nat_lt d (48 + base)) c.0 in
     let low : 48 ≤ d = leb-true 48 d t.0 in
     ((λ same. absurd (omega (arith, low, same))), no_blank_digits base (so_far * base + (d - 48)) ds n c.1)
 
@@ -41,7 +37,7 @@ pub number_is : (base count most : ℕ) (text : List ℕ) (n : ℕ) → number_o
 unfolding number_of
 number_is base count most text n e =
     let c = chosen (nat_lt 0 (length text) && nat_le (length text) count) (up_to most (digits_from base 0 text)) n e in
-    let t = both (nat_lt 0 (length text)) (nat_le (length text) count) c.0 in
+    let t = and_parts (nat_lt 0 (length text)) (nat_le (length text) count) c.0 in
     let u = up_to_is most (digits_from base 0 text) n c.1 in
     record { some = ltb-true 0 (length text) t.0; few = leb-true (length text) count t.1; value = u.0; below = u.1 }
 
@@ -70,8 +66,8 @@ split_spells (b ∷ bs) = elim (eqb_tells b 47) [
 split_names : (xs : List ℕ) → list_all is_path_byte xs ≡ true → AllByRecursion (AllByRecursion IsNameByte) (split 47 xs)
 split_names [] e = (tt, tt)
 split_names (b ∷ bs) e =
-    let t = both (is_path_byte b) (list_all is_path_byte bs) e in
-    let u = both (nat_lt 32 b) (not (nat_eq b 127)) t.0 in
+    let t = and_parts (is_path_byte b) (list_all is_path_byte bs) e in
+    let u = and_parts (nat_lt 32 b) (not (nat_eq b 127)) t.0 in
     let rest = split_names bs t.1 in
     elim (eqb_tells b 47) [
       | inl p ↦ subst (λ (v : Bool). AllByRecursion (AllByRecursion IsNameByte) (cond v ([] ∷ split 47 bs) (onto_first b (split 47 bs)))) (sym p.0) (tt, rest)
@@ -95,7 +91,7 @@ unfolding path_of
 path_is [] p e = absurd cc
 path_is (b ∷ bytes) p e =
     let r = rooted (nat_eq b 47 && list_all is_path_byte bytes) bytes p e in
-    let t = both (nat_eq b 47) (list_all is_path_byte bytes) r.0 in
+    let t = and_parts (nat_eq b 47) (list_all is_path_byte bytes) r.0 in
     let slash : b ≡ 47 = eqb-true b 47 t.0 in
     subst (λ (n : ℕ). IsPath (n ∷ bytes) p) (sym slash) (subst (IsPath (47 ∷ bytes)) r.1 (named bytes t.1))
   where

@@ -6,7 +6,7 @@ use Rattle.std.specs.List.{AllByRecursion}
 use Rattle.std.specs.Char.{digit_value}
 use Rattle.std.specs.Str.Parse.{AllDigits, digits_value_after}
 use Rattle.std.proofs.lemmas.List.{length-append}
-use Rattle.std.proofs.lemmas.Bool.{lt-ltb, ne_eqb}
+use Rattle.std.proofs.lemmas.Bool.{and_parts, lt-ltb, ne_eqb}
 use Rattle.std.proofs.lemmas.Fmt.{decimal_is_IsNumeral, length-decimal-le, decimal_nonempty}
 use Rattle.r4_content.specs.declared.command.Command.{Command}
 use Rattle.r4_content.specs.declared.command.Command.TheVariants as commands
@@ -17,7 +17,7 @@ use Rattle.r4_script.specs.Grammar.{Decimal, Octal, IsNameByte, IsPath, joined, 
 use Rattle.r4_script.specs.Progress.{Read, nothing, all_scripts}
 use Rattle.r4_script.specs.Spelling.{path_text, octal, command_text, scripts_lines, job_text, is_one_line, AreNames, IsCommand, AreInOrder, IsScript, IsJob}
 use Rattle.r4_script.specs.Split.{onto_first, split}
-use Rattle.r4_script.proofs.Numbers.{chosen, both}
+use Rattle.r4_script.proofs.Numbers.{chosen}
 
 -- ---- fields
 
@@ -71,14 +71,14 @@ digits_one : (base so_far : ℕ) (ds : List ℕ) (n : ℕ) → digits_from base 
 digits_one base so_far [] n e = refl
 digits_one base so_far (d ∷ ds) n e =
     let c = chosen (nat_le 48 d && nat_lt d (48 + base)) (digits_from base (so_far * base + (d - 48)) ds) n e in
-    let t = both (nat_le 48 d) (nat_lt d (48 + base)) c.0 in
+    let t = and_parts (nat_le 48 d) (nat_lt d (48 + base)) c.0 in
     let low : 48 ≤ d = leb-true 48 d t.0 in
     ap (λ (v : Bool). not v && is_one_line ds) (ne_eqb d 10 (λ same. absurd (omega (arith, low, same)))) ∙ digits_one base (so_far * base + (d - 48)) ds n c.1
 
 pub one_append : (a b : List ℕ) → is_one_line a ≡ true → is_one_line b ≡ true → is_one_line (a ++ b) ≡ true
 one_append [] b h k = k
 one_append (x ∷ a) b h k =
-    let t = both (not (nat_eq x 10)) (is_one_line a) h in
+    let t = and_parts (not (nat_eq x 10)) (is_one_line a) h in
     ap (λ (v : Bool). v && is_one_line (a ++ b)) t.0 ∙ one_append a b t.1 k
 
 name_one : (name : List ℕ) → AllByRecursion IsNameByte name → is_one_line name ≡ true
@@ -148,7 +148,7 @@ command_one (commands.Times p atime mtime ctime) h = joined_one (codes "times" �
 line_split : (line rest : List ℕ) → is_one_line line ≡ true → split 10 ((line ++ (10 ∷ [])) ++ rest) ≡ line ∷ split 10 rest
 line_split [] rest h = refl
 line_split (b ∷ line) rest h =
-    let t = both (not (nat_eq b 10)) (is_one_line line) h in
+    let t = and_parts (not (nat_eq b 10)) (is_one_line line) h in
     ap (λ (v : Bool). cond v ([] ∷ split 10 ((line ++ (10 ∷ [])) ++ rest)) (onto_first b (split 10 ((line ++ (10 ∷ [])) ++ rest)))) (not_true (nat_eq b 10) t.0)
     ∙ ap (onto_first b) (line_split line rest t.1)
   where

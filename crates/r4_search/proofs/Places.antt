@@ -15,13 +15,14 @@ use Rattle.r4_base.specs.Extents.{pointer_of}
 use Rattle.r4_base.specs.declared.node.NodeFault.{NodeFault}
 use Rattle.r4_base.specs.declared.items.CellFault.{CellFault}
 use Rattle.r4_base.specs.declared.items.CellFault.TheVariants.{Level, Node, Pointer}
+use Rattle.r4_base.proofs.Choices.{chosen, or_none, some_items}
 use Rattle.r4_node40.proofs.Accepted.{good}
 use Rattle.r4_node40.proofs.Following.{item_first}
 use Rattle.r4_node40.proofs.Laid.{length-items_of}
 use Rattle.r4_cell.specs.Seen.{CellSeen}
 use Rattle.r4_search.specs.Path.{LeadsTo, EndsAt}
 use Rattle.r4_search.specs.Place.{IsPlace}
-use Rattle.r4_cell.proofs.Items.{good_item, chosen}
+use Rattle.r4_cell.proofs.Items.{good_item}
 
 pub next_end : (hi : ℕ) (items : List Item) (i : ℕ) → i ≡ length items → next_key hi (drop i items) ≡ hi
 next_end hi items i is = ap (next_key hi) (drop_all i items (omega (arith, is)))
@@ -77,16 +78,9 @@ pub none_of_node : {F : Type 0} (f : Option F) (v : F → CellFault) → option_
 none_of_node {F} None v h = refl
 none_of_node {F} (Some f) v h = absurd cc
 
-pub or_none : (a b : Option CellFault) → option_or a b ≡ None → (a ≡ None) × (b ≡ None)
-or_none None b h = (refl, h)
-or_none (Some f) b h = absurd cc
-
 first_key : (in_memory : Bool) (blocks level lo hi : ℕ) (items : List Item) → 2 ≤ level → 0 < length items → items_in_fault in_memory blocks level lo hi 0 items ≡ None → next_key hi items ≡ lo
 first_key in_memory blocks level lo hi [] two some h = absurd (omega (arith, some))
 first_key in_memory blocks level lo hi (it ∷ items) two some h = (good_item in_memory blocks level lo hi 0 it items h).range.first two refl
-
-some_items : (level count : ℕ) → (nat_lt 1 level && count == 0) ≡ false → 2 ≤ level → 0 < count
-some_items level count h two = grind (arith, nat_tests)
 
 pub branch : (level lo hi : ℕ) (b : List ℕ) → length b ≡ 4096 → 2 ≤ level → cell_fault true (2 ^ 64) level lo hi b ≡ None → IsBranch level lo hi b
 unfolding cell_fault

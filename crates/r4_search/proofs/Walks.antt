@@ -13,19 +13,18 @@ use Rattle.r4_base.specs.Node.{level_of, node_fault}
 use Rattle.r4_base.specs.Tree.{Name, InName}
 use Rattle.r4_base.specs.declared.items.CellFault.{CellFault}
 use Rattle.r4_base.specs.declared.items.CellFault.TheVariants.{Level, Node}
-use Rattle.r4_base.proofs.FreshTree.{nothing}
+use Rattle.r4_base.proofs.Choices.{chosen, nothing_in, or_none}
 use Rattle.r4_outside.specs.Device.{State}
 use Rattle.r4_outside.proofs.Moments.{goes_both as device_both, goes_same as device_same}
 use Rattle.r4_cell.specs.Seen.{CellSeen, node_of}
 use Rattle.r4_cell.specs.declared.change.Root.{Root}
-use Rattle.r4_cell.proofs.Items.{chosen}
 use Rattle.r4_search.specs.Pool.{PoolState, HangsTogether, IsFrom, IsKnown, IsNamed, IsNamedFrom, IsOf, IsRead, IsKeptOrRead, IsAnswer, IsRefused, KnowsNames, LeavesDevice, FaultIs, place_fault, Goes}
 use Rattle.r4_search.specs.Path.{Follows, Descends, LeadsTo, EndsAt, IsPath, KeepsOnly, KnowsOn, StopsOn, StopsShort, Stops, last_of, root_name}
 use Rattle.r4_search.specs.Place.{child_name}
 use Rattle.r4_search.specs.declared.inside.Child.{Child}
 use Rattle.r4_search.specs.declared.pool.FetchFault.{FetchFault}
 use Rattle.r4_search.specs.declared.pool.FetchFault.TheVariants.{Read, Damaged, Memory}
-use Rattle.r4_search.proofs.Places.{or_none, none_of_node}
+use Rattle.r4_search.proofs.Places.{none_of_node}
 
 -- what comes next, if anything does
 abbrev pub GoesOn : Root → (key : ℕ) → PoolState → (before : Option CellSeen) → Option Name → Type 0
@@ -45,7 +44,7 @@ pub record Reached (root : Root) (key : ℕ) (old mid : PoolState) (cells : List
   pub above : (c : CellSeen) → Contains cells c → left next < c.level
   pub on : GoesOn root key mid (last_of None cells) next
 
--- the same, and nothing was written to the device
+-- the same, and nothing_in was written to the device
 pub record Walking (root : Root) (key : ℕ) (old mid : PoolState) (cells : List CellSeen) (next : Option Name) (before now : State) : Type 0 where
   pub walk : Reached root key old mid cells next
   pub device : LeavesDevice before now
@@ -169,7 +168,7 @@ begun root key p next is known high from below =
       descends = tt;
       are_of = All-nil (IsOf p);
       only = λ i k h none. absurd (some_none k (sym h ∙ none));
-      above = λ c h. absurd (nothing c h);
+      above = λ c h. absurd (nothing_in c h);
       on = subst (λ (n : Name). GoesOn root key p None (Some n)) (sym is) on;
     }
   where

@@ -2,7 +2,7 @@
 use Rattle.std.proofs.Common.{◌≡◌, ℕ, zero, suc, ◌+◌, ◌*◌, ◌/◌, ◌%◌, ◌<◌, ◌≤◌, Bool, true, false, not, ◌||◌, cond, List, [], ◌∷◌, length, get_or, take, drop, Some, None, refl, sym, ap, ◌∙◌, arith, inl, inr}
 use Rattle.std.specs.Prelude.{Option, count_by, sum_by}
 use Rattle.std.specs.Option.{option_or}
-use Rattle.std.proofs.lemmas.Bool.{cases_Bool, false_from_ne_true}
+use Rattle.std.proofs.lemmas.Bool.{cases_Bool, false_from_ne_true, or_left}
 use Rattle.std.proofs.lemmas.List.{take_more, take_all}
 use Rattle.std.proofs.lemmas.List.Sums.{sum_by_push}
 use Rattle.std.proofs.Math.Seq.{drop-cons}
@@ -123,9 +123,6 @@ each_held blocks n (suc m) (b ∷ rest) none lt =
     let e : n + suc m ≡ n + 1 + m = omega arith in
     ap (λ (k : ℕ). are_held blocks (k * 32736) (bits_of (get_or rest m []))) e ∙ each_held blocks (n + 1) m rest here.1 (omega arith)
 
-left_of : (m x : Bool) → m ≡ true → (m || x) ≡ true
-left_of m x e = rw e refl
-
 pub fixed_marked : (blocks free b : ℕ) (bitmaps : List (List ℕ)) → bitmaps_fault blocks free bitmaps ≡ None → length bitmaps ≡ bitmap_count blocks → b < blocks → is_fixed blocks b ≡ true → marks bitmaps b ≡ true
 fixed_marked blocks free b bitmaps none size lt fixed =
     let unheld = first_of (first_unheld_of blocks 0 bitmaps) _ none in
@@ -133,4 +130,4 @@ fixed_marked blocks free b bitmaps none size lt fixed =
     let held : are_held blocks (b / 32736 * 32736) (bits_of (get_or bitmaps (b / 32736) [])) ≡ true =
     ap (λ (k : ℕ). are_held blocks (k * 32736) (bits_of (get_or bitmaps (b / 32736) []))) (sym plain) ∙ each_held blocks 0 (b / 32736) bitmaps unheld (omega arith) in
     let whole : b / 32736 * 32736 + b % 32736 ≡ b = omega arith in
-    bitmap_held blocks (b / 32736) (b % 32736) (get_or bitmaps (b / 32736) []) held (omega arith) (ap (is_always_used blocks) whole ∙ left_of (is_fixed blocks b) _ fixed)
+    bitmap_held blocks (b / 32736) (b % 32736) (get_or bitmaps (b / 32736) []) held (omega arith) (ap (is_always_used blocks) whole ∙ or_left (is_fixed blocks b) _ fixed)

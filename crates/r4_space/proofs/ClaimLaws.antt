@@ -2,7 +2,7 @@
 use Rattle.std.proofs.Common.{◌≡◌, ◌≢◌, ℕ, zero, suc, ◌+◌, ◌<◌, Bool, true, false, not, ◌||◌, ◌&&◌, cond, eqb, List, [], ◌∷◌, ◌++◌, length, get_or, set, refl, sym, ap, ◌∙◌, arith, inl, inr}
 use Rattle.std.specs.Prelude.{map, replicate, count_by}
 use Rattle.std.specs.List.{range_with_len}
-use Rattle.std.proofs.lemmas.Bool.{cases_Bool, cases_eq, eq-eqb, ne_eqb}
+use Rattle.std.proofs.lemmas.Bool.{cases_Bool, cases_eq, eq-eqb, ne_eqb, or_left}
 use Rattle.std.proofs.lemmas.List.{same_lists, length-map, length-set, get_or-set_same, get_or-set_other, get_or-map, get_or-replicate}
 use Rattle.std.proofs.lemmas.List.FromFn.{fill_by_all}
 use Rattle.std.proofs.lemmas.List.Folds.{list_any-append}
@@ -178,16 +178,13 @@ marks_alike true false c h = refl
 marks_alike false true c h = let e = h refl in absurd cc
 marks_alike false false c h = refl
 
-left_true : (a b : Bool) → a ≡ true → (a || b) ≡ true
-left_true a b e = rw e refl
-
 pub marks_settled : (n : ℕ) (marked placed new : List Bool) (freed : List Claim) → length marked ≡ n → length new ≡ n → ((b : ℕ) → b < n → is_fixed n b ≡ true → get_or marked b false ≡ true)
     → ((b : ℕ) → get_or new b false ≡ ((get_or marked b false || get_or placed b false) && (is_fixed n b || not (is_claimed freed b))))
     → new ≡ map (is_marked_after n marked placed freed) (range_with_len 0 n)
 unfolding is_marked_after
 marks_settled n marked placed new freed size size_new fixed each =
     fill_by_all (is_marked_after n marked placed freed) new n false size_new (λ k lt.
-    each k ∙ marks_alike (get_or marked k false || get_or placed k false) (is_fixed n k) (is_claimed freed k) (λ f. left_true (get_or marked k false) (get_or placed k false) (fixed k lt f)))
+    each k ∙ marks_alike (get_or marked k false || get_or placed k false) (is_fixed n k) (is_claimed freed k) (λ f. or_left (get_or marked k false) (get_or placed k false) (fixed k lt f)))
 
 regroup : (m h d : Bool) → (((false || m) || h) || d) ≡ (m || (false || (h || d)))
 regroup true h d = refl

@@ -3,7 +3,7 @@ use Rattle.std.proofs.Common.{◌≡◌, ℕ, ◌+◌, ◌-◌, ◌<◌, ◌≤�
 use Rattle.std.specs.Prelude.{map, replicate, count_by, nat_le, None, Vec}
 use Rattle.std.specs.Vec.{with_items}
 use Rattle.std.specs.List.{range_with_len}
-use Rattle.std.proofs.lemmas.Bool.{false_from_ne_true}
+use Rattle.std.proofs.lemmas.Bool.{false_from_ne_true, or_left}
 use Rattle.std.proofs.lemmas.List.{length-replicate, get_or-replicate, with_items_is}
 use Rattle.std.proofs.lemmas.List.FromFn.{length-map-range_with_len, get_or-map-range_with_len}
 use Rattle.std.proofs.lemmas.List.Sums.{length-filter, count_by-le-length}
@@ -28,13 +28,10 @@ free_is n marked placed held deferred taken bitmaps spare room_held room_deferre
 
 -- ---- an unused block is no fixed one
 
-left_of : (m x : Bool) → m ≡ true → (m || x) ≡ true
-left_of m x e = rw e refl
-
 pub unused_free : (n b : ℕ) (marked placed taken : List Bool) (held deferred : List Claim) → AreBlocks n marked placed held deferred taken → b < n → get_or taken b true ≡ false → is_fixed n b ≡ false
 unfolding is_taken_by
 unused_free n b marked placed taken held deferred is lt clear = false_from_ne_true (is_fixed n b) (λ f.
-    let on : get_or taken b true ≡ true = is.tells b lt ∙ left_of (get_or marked b false) _ (is.fixed b lt f) in
+    let on : get_or taken b true ≡ true = is.tells b lt ∙ or_left (get_or marked b false) _ (is.fixed b lt f) in
     cc)
 
 -- ---- room
@@ -51,7 +48,7 @@ space_blocks n marked placed marked' placed' held deferred held' deferred' taken
 
 unfixed : (n b : ℕ) (marked placed : List Bool) (freed : List Claim) → is_fixed n b ≡ true → is_marked_after n marked placed freed b ≡ true
 unfolding is_marked_after
-unfixed n b marked placed freed f = left_of (is_fixed n b) _ f
+unfixed n b marked placed freed f = or_left (is_fixed n b) _ f
 
 pub blocks_settled : (n : ℕ) (marked placed new placed' taken taken' : List Bool) (held deferred : List Claim) (atom : AtomNo) → AreBlocks n marked placed held deferred taken
     → new ≡ map (is_marked_after n marked placed (claims_of atom deferred)) (range_with_len 0 n) → placed' ≡ replicate n false → length taken' ≡ n

@@ -2,7 +2,7 @@
 
 ghost use Rattle.r4_outside.specs.Device.{Goes};
 
-use crate::same::same;
+use crate::comparing::same;
 use r4_outside::{Device, MemorySink, MemorySource, OpenGate, Unnamed};
 use r4_top::r4_main;
 use std::alloc::Global;

@@ -2,7 +2,7 @@
 #![tactic(auto)]
 
 mod calls;
-mod same;
+mod comparing;
 
 pub use calls::{LIST, REPLAY, call, prints, replays};
-pub use same::{same, same_in};
+pub use comparing::{same, same_in};

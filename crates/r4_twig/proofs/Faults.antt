@@ -2,7 +2,7 @@
 use Rattle.std.proofs.Common.{◌≡◌, ◌≢◌, ◌⊎◌, inl, inr, ℕ, zero, suc, ◌+◌, ◌-◌, ◌/◌, ◌%◌, ◌^◌, ◌<◌, ◌≤◌, Bool, true, false, not, ◌&&◌, ◌||◌, cond, eqb, ltb, leb, List, [], ◌∷◌, length, set, Some, None, refl, ap, sym, subst, ◌∙◌, arith}
 use Rattle.std.specs.Prelude.{Option}
 use Rattle.std.specs.Option.{option_or}
-use Rattle.std.proofs.lemmas.Bool.{eq-eqb, ne_eqb, lt-ltb, le-ltb, cases_eq, eqb-true, eqb-false, leb-true, ltb-false, le-leb}
+use Rattle.std.proofs.lemmas.Bool.{and_parts, cases_eq, eq-eqb, eqb-false, eqb-true, le-leb, le-ltb, leb-true, lt-ltb, ltb-false, ne_eqb, or_parts}
 use Rattle.r4_base.specs.Bitmap.{is_fixed}
 use Rattle.r4_base.specs.declared.items.Unit.{Unit as ExtentUnit}
 use Rattle.r4_base.specs.declared.items.ExtentFault.{ExtentFault}
@@ -106,16 +106,6 @@ lawful_none in_memory blocks i u (inr (inr h)) =
     let run : u.start ≢ 0 = λ e. omega arith in
     rw (ne_eqb u.start 0 run, le-ltb u.start 22 high, ne_eqb u.width 0 ne, le-ltb blocks (u.start + u.width) h.within, h.spares_fixed) (same_either (in_memory && leb (2 ^ 63) u.start && eqb u.width 1) None)
 
-both : (p q : Bool) → (p && q) ≡ true → (p ≡ true) × (q ≡ true)
-both true true e = (refl, refl)
-both true false e = absurd cc
-both false q e = absurd cc
-
-neither : (p q : Bool) → (p || q) ≡ false → (p ≡ false) × (q ≡ false)
-neither false false e = (refl, refl)
-neither false true e = absurd cc
-neither true q e = absurd cc
-
 passed : (p hole low none out : Bool) (s w r : ExtentFault) → cond p None (cond (not hole && low) (Some s) (cond none (Some w) (cond (not hole && out) (Some r) None))) ≡ None
     → (p ≡ true) ⊎ ((none ≡ false) × ((hole ≡ true) ⊎ ((hole ≡ false) × (low ≡ false) × (out ≡ false))))
 passed true hole low none out s w r e = inl refl
@@ -132,8 +122,8 @@ unfolding unit_fault
 none_lawful in_memory blocks i u e =
     elim (passed (in_memory && leb (2 ^ 63) u.start && eqb u.width 1) (eqb u.start 0) (ltb u.start 22) (eqb u.width 0) (is_out_of_range blocks u) (Start i) (Width i) (Range i) e) [
       | inl placed ↦
-          let one = both (in_memory && leb (2 ^ 63) u.start) (eqb u.width 1) placed in
-          let two = both in_memory (leb (2 ^ 63) u.start) one.0 in
+          let one = and_parts (in_memory && leb (2 ^ 63) u.start) (eqb u.width 1) placed in
+          let two = and_parts in_memory (leb (2 ^ 63) u.start) one.0 in
           inl (two.0, leb-true _ _ two.1, eqb-true _ _ one.1)
       | inr rest ↦
           let ne = eqb-false u.width 0 rest.0 in
@@ -141,7 +131,7 @@ none_lawful in_memory blocks i u e =
           elim rest.1 [
             | inl hole ↦ inr (inl (eqb-true _ _ hole, some))
             | inr run ↦
-                let out = neither (ltb blocks (u.start + u.width)) (holds_fixed blocks u.start u.width) run.2 in
+                let out = or_parts (ltb blocks (u.start + u.width)) (holds_fixed blocks u.start u.width) run.2 in
                 inr (inr (record { start = ltb-false _ _ run.1; width = some; within = ltb-false _ _ out.0; spares_fixed = out.1 }))
           ]
     ]

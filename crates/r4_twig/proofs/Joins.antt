@@ -1,6 +1,6 @@
 -- Units made one: which block holds a byte, and what is accepted again.
 use Rattle.std.proofs.Common.{◌≡◌, ◌≢◌, ◌⊎◌, inl, inr, ℕ, suc, ◌+◌, ◌-◌, ◌^◌, ◌<◌, ◌≤◌, Bool, true, false, not, ◌&&◌, cond, eqb, leb, List, [], ◌∷◌, length, Some, None, refl, sym, ap, ◌∙◌, arith}
-use Rattle.std.proofs.lemmas.Bool.{eq-eqb, ne_eqb, lt-ltb, le-ltb, cases_eq, cases_lt, cases_Bool, eqb-true, leb-false}
+use Rattle.std.proofs.lemmas.Bool.{and_parts, cases_Bool, cases_eq, cases_lt, eq-eqb, eqb-true, le-ltb, leb-false, lt-ltb, ne_eqb, not-true}
 use Rattle.r4_base.specs.declared.items.Unit.{Unit as ExtentUnit}
 use Rattle.r4_base.specs.Extents.{holds_fixed, block_of, blocks_in, continues, joined_to, joined, AreApart, WidthsFit, IsLawfulUnit, AreLawfulUnits}
 use Rattle.r4_twig.proofs.Cuts.{holds_fixed-parts}
@@ -16,16 +16,7 @@ joined_more u v us e = rw e refl
 pub joined_next : (u v : ExtentUnit) (us : List ExtentUnit) → continues u v ≡ false → joined_to u (v ∷ us) ≡ u ∷ joined_to v us
 joined_next u v us e = rw e refl
 
-both : (p q : Bool) → (p && q) ≡ true → (p ≡ true) × (q ≡ true)
-both true true e = (refl, refl)
-both true false e = absurd cc
-both false q e = absurd cc
-
-is_false : (p : Bool) → not p ≡ true → p ≡ false
-is_false true e = absurd cc
-is_false false e = refl
-
--- A unit goes on where the one before it ends: both are holes, or both are runs.
+-- A unit goes on where the one before it ends: and_parts are holes, or and_parts are runs.
 pub record RunsOn (u v : ExtentUnit) : Type 0 where
   pub run : u.start ≢ 0
   pub low : u.start < 2 ^ 63
@@ -39,9 +30,9 @@ goes_on u v e = elim (cases_eq u.start 0) [
       inl (hole, eqb-true v.start 0 second)
   | inr run ↦
       let tests : (not (leb (2 ^ 63) u.start) && not (leb (2 ^ 63) v.start) && eqb v.start (u.start + u.width)) ≡ true = sym (ap (λ (p : Bool). cond p (eqb v.start 0) (not (leb (2 ^ 63) u.start) && not (leb (2 ^ 63) v.start) && eqb v.start (u.start + u.width))) (ne_eqb u.start 0 run)) ∙ e in
-      let one = both (not (leb (2 ^ 63) u.start) && not (leb (2 ^ 63) v.start)) (eqb v.start (u.start + u.width)) tests in
-      let two = both (not (leb (2 ^ 63) u.start)) (not (leb (2 ^ 63) v.start)) one.0 in
-      inr (record { run = run; low = leb-false _ _ (is_false _ two.0); next_low = leb-false _ _ (is_false _ two.1); meets = eqb-true _ _ one.1 })
+      let one = and_parts (not (leb (2 ^ 63) u.start) && not (leb (2 ^ 63) v.start)) (eqb v.start (u.start + u.width)) tests in
+      let two = and_parts (not (leb (2 ^ 63) u.start)) (not (leb (2 ^ 63) v.start)) one.0 in
+      inr (record { run = run; low = leb-false _ _ (not-true _ two.0); next_low = leb-false _ _ (not-true _ two.1); meets = eqb-true _ _ one.1 })
 ]
 
 -- ---- which block

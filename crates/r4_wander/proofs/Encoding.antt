@@ -13,13 +13,14 @@ use Rattle.r4_base.specs.Log.{head_of, record_of, record_block}
 use Rattle.r4_base.specs.Chain.{Txn, InRange, IsOriginalNumber, PairInRange, HasRecords, HasTxn, chain_pairs, wandered, log_blocks, kept_blocks, home, home_from}
 use Rattle.r4_base.proofs.Frame.{length-put_pairs, past, settled_at, home_cases, log_in_range, chain_in_range, second_in_range, first_in_range, original_apart}
 use Rattle.r4_base.proofs.Members.{member_or_not}
+use Rattle.r4_base.proofs.Choices.{nothing_in}
 use Rattle.r4_wander.specs.Torn.{Write, put_writes, targets, IsTarget}
 use Rattle.r4_wander.specs.Parts.{IsCommit, HasHomes, With, MayLeave}
 use Rattle.r4_wander.specs.Seen.{Copy}
 use Rattle.r4_wander.specs.declared.plan.LogPlan.{LogPlan}
 use Rattle.r4_wander.specs.LogPlan.{pairs, originals_of, placed_writes, copies, news, number_after, head_says, record_says, record_write, record_writes, head_write, header_bytes, scratch, first, parts_of, txn_of}
 use Rattle.r4_wander.specs.Safe.{IsEncoded, IsSafe, with_atom, is_scratch, WithAtom, ByPart}
-use Rattle.r4_wander.proofs.Members.{any_cases, any_here, any_later, no_any, from_map, in_map, original_cases, original_new, kept_cases}
+use Rattle.r4_wander.proofs.Members.{any_cases, any_here, any_later, from_map, in_map, original_cases, original_new, kept_cases}
 use Rattle.r4_wander.proofs.Order.{put_at, image_put, few_blocks}
 use Rattle.r4_wander.proofs.Settling.{length-put_writes, put_writes_other, log2, long2, image2}
 
@@ -219,7 +220,7 @@ module _ (n : ℕ) (base : Image) (chain : List Txn) (p : LogPlan) (safe : IsSaf
   original_number b h = original_apart n b (all_of_originals (originals_of p) safe.originals_range h)
     where
       all_of_originals : (bs : List ℕ) → All (IsOriginalNumber n) bs → Contains bs b → IsOriginalNumber n b
-      all_of_originals [] all h = absurd (no_any b h)
+      all_of_originals [] all h = absurd (nothing_in b h)
       all_of_originals (c ∷ cs) all h = ⊎_elim (λ is. subst (IsOriginalNumber n) (sym is) (All-head (IsOriginalNumber n) c cs all)) (λ later. all_of_originals cs (All-tail (IsOriginalNumber n) c cs all) later) (any_cases c cs b h)
 
   pub is_commit : IsCommit n base chain (txn_of p) (parts_of p)

@@ -5,6 +5,7 @@ use Rattle.std.specs.List.{range_with_len}
 use Rattle.std.proofs.lemmas.List.Elements.{All-get_or, Contains-get_or}
 use Rattle.std.proofs.lemmas.List.FromFn.{get_or-range_with_len, length-range_with_len}
 use Rattle.std.proofs.lemmas.Simd.{map-map}
+use Rattle.r4_base.proofs.Choices.{nothing_in}
 use Rattle.r4_wander.specs.Seen.{Copy, Placed}
 use Rattle.r4_wander.specs.Torn.{Write, targets, IsTarget}
 use Rattle.r4_wander.specs.Parts.{Parts, IsOrderOf}
@@ -12,7 +13,7 @@ use Rattle.r4_wander.specs.declared.plan.LogPlan.{LogPlan}
 use Rattle.r4_wander.specs.LogPlan.{placed_writes, copies, news, record_write, record_writes, head_write, scratch, first, parts_of}
 use Rattle.r4_wander.specs.Progress.{FitOn}
 use Rattle.r4_wander.specs.LogPlan.{IsBelow}
-use Rattle.r4_wander.proofs.Members.{any_cases, no_any, from_map}
+use Rattle.r4_wander.proofs.Members.{any_cases, from_map}
 use Rattle.r4_wander.proofs.Order.{all_of, part_target}
 use Rattle.r4_wander.proofs.Encoding.{target_cases, news_are}
 
@@ -51,7 +52,7 @@ module _ (n : ℕ) (p : LogPlan) (below : IsBelow n p) where
   first_below_all b h = ⊎_elim (placed_below b)
       (λ s. ⊎_elim (copy_below b)
       (λ l. ⊎_elim (record_below b)
-      (λ e. ⊎_elim (λ is. omega (arith, is, below.head)) (λ no. absurd (no_any b no)) (any_cases p.head.0 [] b e))
+      (λ e. ⊎_elim (λ is. omega (arith, is, below.head)) (λ no. absurd (nothing_in b no)) (any_cases p.head.0 [] b e))
       (target_cases (record_writes p) (head_write p ∷ []) b l))
       (target_cases (copies p) (record_writes p ++ head_write p ∷ []) b s))
       (target_cases (placed_writes p) (scratch p) b h)

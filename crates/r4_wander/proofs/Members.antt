@@ -5,6 +5,7 @@ use Rattle.std.proofs.lemmas.List.{map-append}
 use Rattle.std.proofs.lemmas.List.Elements.{Contains-append_left, Contains-append_right, Contains-append_cases}
 use Rattle.r4_base.specs.Chain.{Txn, chain_pairs, originals, wandered, log_blocks, kept_blocks}
 use Rattle.r4_base.proofs.Members.{member_cases, member_later}
+use Rattle.r4_base.proofs.Choices.{nothing_in}
 
 pub any_cases : {X : Type 0} (x : X) (xs : List X) (b : X) → Contains (x ∷ xs) b → (b ≡ x) ⊎ Contains xs b
 any_cases x xs b (zero, lt, is) = inl (sym is)
@@ -16,19 +17,16 @@ any_here x xs b is = (0, omega arith, sym is)
 pub any_later : {X : Type 0} (x : X) (xs : List X) (b : X) → Contains xs b → Contains (x ∷ xs) b
 any_later x xs b (k, lt, is) = (suc k, omega arith, is)
 
-pub no_any : {X : Type 0} (b : X) → Contains [] b → ⊥
-no_any b (k, lt, is) = absurd (omega arith)
-
 -- a member of a mapped list comes from a member
 pub from_map : {X : Type 0} (f : X → ℕ) (xs : List X) (b : ℕ) → Contains (map f xs) b → (x : X) × Contains xs x × (b ≡ f x)
-from_map f [] b h = absurd (no_any b h)
+from_map f [] b h = absurd (nothing_in b h)
 from_map f (x ∷ xs) b h = ⊎_elim
     (λ is. (x, any_here x xs x refl, is))
     (λ later. let r = from_map f xs b later in (r.0, any_later x xs r.0 r.1, r.2))
     (any_cases (f x) (map f xs) b h)
 
 pub in_map : {X Y : Type 0} (f : X → Y) (xs : List X) (x : X) → Contains xs x → Contains (map f xs) (f x)
-in_map f [] x h = absurd (no_any x h)
+in_map f [] x h = absurd (nothing_in x h)
 in_map f (y ∷ ys) x h = ⊎_elim
     (λ is. any_here (f y) (map f ys) (f x) (ap f is))
     (λ later. any_later (f y) (map f ys) (f x) (in_map f ys x later))

@@ -18,6 +18,7 @@ use Rattle.r4_base.proofs.Members.{member_or_not}
 use Rattle.r4_base.specs.Layout.{super_of}
 use Rattle.r4_base.specs.Cell.{IsCellOf}
 use Rattle.r4_base.proofs.Frame.{home_cases, framed_log, framed_at, log_in_range, chain_in_range, second_in_range}
+use Rattle.r4_base.proofs.Choices.{never_both, nothing_in}
 use Rattle.r4_outside.specs.Device.{State, Spares}
 use Rattle.r4_wander.specs.Torn.{IsTarget, IsTornBy}
 use Rattle.r4_wander.specs.Parts.{Parts, part, base_of, IsCommit, is_log_number}
@@ -26,7 +27,6 @@ use Rattle.r4_wander.specs.declared.plan.LogPlan.{LogPlan}
 use Rattle.r4_wander.specs.Progress.{Progress, under_way, Stands, Commits}
 use Rattle.r4_wander.specs.Needed.{SparesNeeded}
 use Rattle.r4_wander.proofs.Settling.{torn_outside, one_target, length-put_writes}
-use Rattle.r4_wander.proofs.Members.{no_any}
 use Rattle.r4_wander.proofs.Order.{torn_order, part_target}
 use Rattle.r4_wander.proofs.Encoding.{is_commit, home_other}
 use Rattle.r4_wander.proofs.Standing.{left_start, homes_differ}
@@ -68,9 +68,6 @@ volume_over n image m v chain same = subst
 low_fixed : (blocks b : ℕ) → b < 22 → is_fixed blocks b ≡ true
 low_fixed blocks b lt = let test : nat_lt b 22 ≡ true = grind (arith, nat_tests, lt) in ap (λ (t : Bool). t || (nat_lt 0 b && b % 32736 == 0 && nat_lt b blocks)) test
 
-not_both : (t : Bool) → t ≡ true → t ≡ false → ⊥
-not_both t one other = absurd (cc (sym one ∙ other))
-
 bitmap_apart : (k b : ℕ) → (b ≡ 19) ⊎ (b ≡ 20) → b ≡ bitmap_block k → ⊥
 bitmap_apart k b which is = elim (cases_eq k 0) [
   | inl eq ↦ let e : bitmap_block k ≡ 18 = ap bitmap_block eq in ⊎_elim (λ f. absurd (omega (arith, f, e, is))) (λ f. absurd (omega (arith, f, e, is))) which
@@ -87,7 +84,7 @@ pub not_made : (n : ℕ) (image : Image) (m : Content) (c : HasContent n image m
 not_made n image m c b which (inl is) = ⊎_elim (λ e. absurd (omega (arith, e, is))) (λ e. absurd (omega (arith, e, is))) which
 not_made n image m c b which (inr (inl is)) = ⊎_elim (λ e. absurd (omega (arith, e, is))) (λ e. absurd (omega (arith, e, is))) which
 not_made n image m c b which (inr (inr (inl (k, lt, is)))) = bitmap_apart k b which is
-not_made n image m c b which (inr (inr (inr (d, is)))) = not_both (is_fixed c.super.block_count b) (low_fixed c.super.block_count b (log_low b which)) (c.places b d is).1
+not_made n image m c b which (inr (inr (inr (d, is)))) = never_both (is_fixed c.super.block_count b) (low_fixed c.super.block_count b (log_low b which)) (c.places b d is).1
 
 module _ (n : ℕ) (image : Image) (m : Content) (v : HasVolume n image m) (b : ℕ) (which : is_log_number b) where
   kept_high : Contains (kept_blocks v.chain) b → ⊥
@@ -129,7 +126,7 @@ module _ (n : ℕ) (base : Image) (chain : List Txn) (txn : Txn) (plan : Parts) 
   part_free (suc zero) image b m v other torn target need = log_numbers_free n image m v b (inl (one_target (19, plan.header) b target)) need
   part_free (suc (suc zero)) image b m v other torn target need = absurd (other refl)
   part_free (suc (suc (suc zero))) image b m v other torn target need = log_numbers_free n image m v b (inr (one_target (20, plan.footer) b target)) need
-  part_free (suc (suc (suc (suc i)))) image b m v other torn target need = no_any b target
+  part_free (suc (suc (suc (suc i)))) image b m v other torn target need = nothing_in b target
 
 length-base_of : (plan : Parts) (base : Image) (i : ℕ) → length (base_of plan base i) ≡ length base
 length-base_of plan base zero = refl

@@ -11,14 +11,15 @@ use Rattle.std.proofs.lemmas.List.Sorted.{Contains-permutation, IsPermutation-sy
 use Rattle.std.proofs.lemmas.Map.Steps.{length-le_from_distinct_below}
 use Rattle.r4_base.specs.Image.{AreDifferent, Image, IsBlock, IsImage, block_at}
 use Rattle.r4_base.proofs.Members.{member_or_not, member_here, member_later}
+use Rattle.r4_base.proofs.Choices.{nothing_in}
 use Rattle.r4_wander.specs.Torn.{Write, put_writes, targets, IsTarget, IsTornBy}
 use Rattle.r4_wander.specs.Parts.{Parts, part, base_of, IsOrderOf}
-use Rattle.r4_wander.proofs.Members.{any_cases, any_here, any_later, no_any, from_map, in_map}
+use Rattle.r4_wander.proofs.Members.{any_cases, any_here, any_later, from_map, in_map}
 use Rattle.r4_wander.proofs.Settling.{length-put_writes, put_writes_other}
 
 -- where all writes of a block write the same, that stands there
 pub put_member : (ws : List Write) (base : Image) (b : ℕ) (x : List ℕ) → ((w : Write) → Contains ws w → w.0 ≡ b → w.1 ≡ x) → IsTarget ws b → b < length base → block_at (put_writes ws base) b ≡ x
-put_member [] base b x each h lt = absurd (no_any b h)
+put_member [] base b x each h lt = absurd (nothing_in b h)
 put_member (v ∷ vs) base b x each h lt =
     let next : Image = slice_set base v.0 v.1 in
     let long : b < length next = omega (arith, lt, length-set base v.0 v.1) in
@@ -31,7 +32,7 @@ put_member (v ∷ vs) base b x each h lt =
     (member_or_not (targets vs) b)
 
 pub one_write : (ws : List Write) → AreDifferent (targets ws) → (w v : Write) → Contains ws w → Contains ws v → w.0 ≡ v.0 → w.1 ≡ v.1
-one_write [] different w v one two same = absurd (no_any w one)
+one_write [] different w v one two same = absurd (nothing_in w one)
 one_write (x ∷ xs) different w v one two same = ⊎_elim
     (λ is. ⊎_elim
     (λ also. ap (λ (u : Write). u.1) (is ∙ sym also))
@@ -64,7 +65,7 @@ put_order ws vs base different p = ext_get_or [] (put_writes vs base) (put_write
 -- ---- whole blocks stay whole
 
 pub all_of : {X : Type 0} (P : X → Type 0) (xs : List X) (x : X) → All P xs → Contains xs x → P x
-all_of P [] x all h = absurd (no_any x h)
+all_of P [] x all h = absurd (nothing_in x h)
 all_of P (y ∷ ys) x all h = ⊎_elim (λ is. subst P (sym is) (All-head P y ys all)) (λ later. all_of P ys x (All-tail P y ys all) later) (any_cases y ys x h)
 
 pub image_put : (n : ℕ) (ws : List Write) (base : Image) → All (λ (w : Write). IsBlock w.1) ws → IsImage n base → IsImage n (put_writes ws base)

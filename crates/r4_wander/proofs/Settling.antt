@@ -9,10 +9,11 @@ use Rattle.r4_base.specs.Chain.{Txn, HasTxn, HasTxns, HasLog, chain_pairs, origi
 use Rattle.r4_base.proofs.Numbers.{number_at-same}
 use Rattle.r4_base.proofs.Members.{member_here, no_member}
 use Rattle.r4_base.proofs.Frame.{past, length-put_pairs, same_txn, same_txns, settled_at, framed}
+use Rattle.r4_base.proofs.Choices.{nothing_in}
 use Rattle.r4_outside.proofs.Images.{same_sectors}
 use Rattle.r4_wander.specs.Torn.{Write, put_writes, targets, IsTarget, IsWritten, IsTornBy}
 use Rattle.r4_wander.specs.Parts.{Parts, part, base_of, is_log_number, IsCommit, HasHomes, Without, With, MayLeave}
-use Rattle.r4_wander.proofs.Members.{any_cases, any_here, any_later, no_any, in_map, log_older, log_record, log_kept, kept_older}
+use Rattle.r4_wander.proofs.Members.{any_cases, any_here, any_later, in_map, log_older, log_record, log_kept, kept_older}
 
 -- ---- a number at the head of a block lies in one sector
 
@@ -45,10 +46,10 @@ written_target ws b s x h = subst (IsTarget ws) (sym h.2) (in_map (λ (w : Write
 
 -- one write
 pub one_target : (w : Write) (b : ℕ) → IsTarget (w ∷ []) b → b ≡ w.0
-one_target w b h = ⊎_elim (λ is. is) (λ no. absurd (no_any b no)) (any_cases w.0 [] b h)
+one_target w b h = ⊎_elim (λ is. is) (λ no. absurd (nothing_in b no)) (any_cases w.0 [] b h)
 
 pub one_written : (w : Write) (b s : ℕ) (x : List ℕ) → IsWritten (w ∷ []) b s x → x ≡ sector w.1 s
-one_written w b s x h = ⊎_elim (λ is. h.3 ∙ ap (λ (v : Write). sector v.1 s) is) (λ no. absurd (no_any h.0 no)) (any_cases w [] h.0 h.1)
+one_written w b s x h = ⊎_elim (λ is. h.3 ∙ ap (λ (v : Write). sector v.1 s) is) (λ no. absurd (nothing_in h.0 no)) (any_cases w [] h.0 h.1)
 
 pub torn_outside : (n : ℕ) (ws : List Write) (base image : Image) → IsImage n base → IsTornBy ws base image → AgreesOutside (IsTarget ws) base image
 torn_outside n ws base image shape t = record {
@@ -220,7 +221,7 @@ module _ (n : ℕ) (base : Image) (chain : List Txn) (txn : Txn) (plan : Parts) 
           ⊎_elim (λ same. elim (cases_eq b 20) [
             | inl is ↦ inr ((20, plan.footer), any_here (20, plan.footer) [] (20, plan.footer) refl, is, same ∙ ap (λ (k : ℕ). sector (block_at (base_of plan base 4) k) s) is ∙ ap (λ (l : List ℕ). sector l s) (get_or-set_same base3 20 plan.footer [] (omega (arith, ok.more, long3))))
             | inr other ↦ inl (same ∙ ap (λ (l : List ℕ). sector l s) (get_or-set_other base3 20 b plan.footer [] other))
-          ]) (λ no. absurd (no_any no.0 no.1)) (t.sectors b s in_it ls);
+          ]) (λ no. absurd (nothing_in no.0 no.1)) (t.sectors b s in_it ls);
     })
 
   -- In each part, what a crash leaves of its writes settles as the part says.

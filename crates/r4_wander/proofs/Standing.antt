@@ -7,6 +7,7 @@ use Rattle.std.proofs.lemmas.List.Elements.{Contains-get_or, Contains-append_lef
 use Rattle.std.proofs.Math.ListN.{get_or-map}
 use Rattle.r4_base.specs.Image.{AreDifferent, Image, IsImage, block_at, sector}
 use Rattle.r4_base.specs.Chain.{Txn}
+use Rattle.r4_base.proofs.Choices.{nothing_in}
 use Rattle.r4_outside.specs.Device.{State, Sectors, Goes, Writes, Syncs, HasSectors, LeavesOnly, TellsCrashes, IsQuiet, Spares}
 use Rattle.r4_outside.proofs.Moments.{Run, run_start, run_write, run_sync, spares_same, spares_write, spares_sync, goes_same, left_before}
 use Rattle.r4_wander.specs.Torn.{Write, put_writes, targets, IsTarget, IsWritten, IsTornBy}
@@ -15,7 +16,7 @@ use Rattle.r4_wander.specs.declared.plan.LogPlan.{LogPlan}
 use Rattle.r4_wander.specs.LogPlan.{news, parts_of, txn_of}
 use Rattle.r4_wander.specs.Safe.{IsSafe, IsEncoded, ByPart}
 use Rattle.r4_wander.specs.Progress.{Progress, under_way, write_at, HasMade, FitOn, Stands, Commits}
-use Rattle.r4_wander.proofs.Members.{any_here, no_any}
+use Rattle.r4_wander.proofs.Members.{any_here}
 use Rattle.r4_wander.proofs.Settling.{settles_by_part}
 use Rattle.r4_wander.proofs.Order.{torn_order}
 use Rattle.r4_wander.proofs.Encoding.{is_commit, has_homes, by_part, news_are}
@@ -121,7 +122,7 @@ begins ws d quiet = record {
 pub is_quiet : (ws : List Write) (base : Image) (d : State) → HasMade ws base 0 d → IsQuiet d
 is_quiet ws base d made = record {
   tells = made.tells;
-  within = record { each = λ b s x lb ls may. ⊎_elim (λ same. same ∙ ap (λ (i : Image). sector (block_at i b) s) (sym made.seen)) (λ w. absurd (no_any w.0 w.1)) (made.within b s x lb ls may) };
+  within = record { each = λ b s x lb ls may. ⊎_elim (λ same. same ∙ ap (λ (i : Image). sector (block_at i b) s) (sym made.seen)) (λ w. absurd (nothing_in w.0 w.1)) (made.within b s x lb ls may) };
 }
 
 -- the homes are different blocks, as the originals are

@@ -1,9 +1,11 @@
 use Rattle.std.proofs.Common.{arith, sym, ap, ◌∙◌, length, subst, List, ℕ}
 use Rattle.r4_base.specs.Lending.{written}
 use Rattle.r4_base.specs.Node.{offset_at}
+use Rattle.r4_base.proofs.Choices.{went_well}
+use Rattle.r4_node40.proofs.LaidItems.{room_small}
 use Rattle.r4_node40.specs.Loan.{bytes_of}
 use Rattle.r4_edit.specs.Nodes.{IsAppended}
-use Rattle.r4_edit.proofs.Appended.{appended, room_small, same_length, went_well}
+use Rattle.r4_edit.proofs.Appended.{appended, same_length}
 use Rattle.r4_edit.proofs.appending.append.Goals as goal
 
 pub overflow_cast-body : goal.overflow_cast-body

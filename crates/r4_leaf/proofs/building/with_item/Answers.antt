@@ -1,5 +1,6 @@
 use Rattle.std.proofs.Common.{◌≡◌, ℕ, ◌+◌, ◌≤◌, ◌++◌, List, [], sym, ap, subst, ◌∙◌, arith, rules}
 use Rattle.std.specs.Prelude.{IfOk, Result, Ok, Err}
+use Rattle.std.proofs.lemmas.Result.{IfOk-weaker}
 use Rattle.r4_base.specs.Cell.{item_end, item_units}
 use Rattle.r4_base.specs.Key.{rank}
 use Rattle.r4_base.specs.Node.{Item}
@@ -13,10 +14,6 @@ use Rattle.r4_leaf.proofs.Standing.{given_sound}
 use Rattle.r4_leaf.proofs.Filled.{lie_wider}
 use Rattle.r4_leaf.proofs.Following.{follow_wider}
 use Rattle.r4_leaf.proofs.building.with_item.Goals as goal
-
-if_ok : {T E : Type 0} (r : Result T E) (P Q : T → Type 0) → ((v : T) → P v → Q v) → IfOk r P → IfOk r Q
-if_ok (Ok v) P Q f p = f v p
-if_ok (Err e) P Q f p = p
 
 units_given : (old new : List Piece) (from to : ℕ) (us : List LeafUnit) → old ≡ [] → Adds old from to us new → units_of new ≡ us
 units_given old new from to us none a = a.units ∙ ap (λ ps. units_of ps ++ us) none
@@ -50,7 +47,7 @@ pub returns-clause-packs : goal.returns-clause-packs
 returns-clause-packs c =
     let end = item_end (record { key = c.args.key; plugin = c.args.plugin; body = c.args.body.now }) in
     let us = units_given c.new-given.result.items c.add_item.new.pieces.items _ _ _ c.new-given.ensures.items c.in_ok-add_item.ensures in
-    if_ok c.pack.result _ _ (λ v p hi h le.
+    IfOk-weaker c.pack.result _ _ (λ v p hi h le.
     subst (λ (ws : List LeafUnit). Packs (rank c.args.lo) hi ws v.items) (c.in_ok-all.ensures.units ∙ (λ i. put_units (us i) (c.in_ok-pieces.ensures.units i)))
     (p hi (c.in_ok-all.ensures.follow (rank c.args.lo) hi (c.in_ok-pieces.ensures.follow (rank c.args.lo) hi h)
     (follow_given c.new-given.result.items c.add_item.new.pieces.items (rank c.args.lo) (rank c.args.key) end hi _ c.new-given.ensures.items c.in_ok-add_item.ensures c.requires.from le)))) c.pack.ensures.packs
@@ -61,4 +58,4 @@ add_item-requires c = given_sound (record { key = c.args.key; plugin = c.args.pl
 pub returns-clause-sound : goal.returns-clause-sound
 returns-clause-sound c =
     let it : Item = record { key = c.args.key; plugin = c.args.plugin; body = c.args.body.now } in
-    if_ok c.pack.result _ _ (λ v p. given_sound it c.requires.given (is_key c.args.key (search rules) (search rules) (search rules) (search rules) (search rules))) c.pack.ensures.packs
+    IfOk-weaker c.pack.result _ _ (λ v p. given_sound it c.requires.given (is_key c.args.key (search rules) (search rules) (search rules) (search rules) (search rules))) c.pack.ensures.packs

@@ -1,11 +1,13 @@
 use Rattle.std.proofs.Common.{◌≡◌, ℕ, List, ◌+◌, ◌≤◌, length, sym, subst, ◌∙◌, arith}
 use Rattle.r4_base.specs.Node.{Item}
 use Rattle.r4_base.specs.declared.key.Key.{Key}
+use Rattle.r4_base.proofs.Choices.{went_well}
+use Rattle.r4_node40.proofs.LaidItems.{room_small}
 use Rattle.r4_node40.specs.Edits.{InsertsItem}
 use Rattle.r4_node40.specs.Laid.{room_of}
 use Rattle.r4_node40.specs.Loan.{bytes_of}
 use Rattle.r4_leaf.specs.Filling.{IsPlace, need}
-use Rattle.r4_leaf.proofs.Opened.{grows, need_new, need_old, opened_longer, opened_new, room_small, together, went_well}
+use Rattle.r4_leaf.proofs.Opened.{grows, need_new, need_old, opened_longer, opened_new, together}
 use Rattle.r4_leaf.proofs.opening.open.Goals as goal
 
 -- so much fits into a node

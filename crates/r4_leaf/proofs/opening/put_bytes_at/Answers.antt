@@ -2,11 +2,12 @@ use Rattle.std.proofs.Common.{◌≡◌, ℕ, List, ◌+◌, ◌++◌, length, t
 use Rattle.std.proofs.lemmas.List.{length-append}
 use Rattle.r4_base.specs.Lending.{written}
 use Rattle.r4_base.specs.Node.{Item, offset_at}
+use Rattle.r4_node40.proofs.LaidItems.{room_small}
 use Rattle.r4_node40.specs.Laid.{span_at}
 use Rattle.r4_node40.specs.Loan.{bytes_of}
 use Rattle.r4_node40.proofs.Bodies.{body_lent}
 use Rattle.r4_leaf.specs.Filling.{Holds, Opens}
-use Rattle.r4_leaf.proofs.Opened.{need_least, room_small}
+use Rattle.r4_leaf.proofs.Opened.{need_least}
 use Rattle.r4_leaf.proofs.opening.put_bytes_at.Goals as goal
 
 pub overflow_cast-bytes : goal.overflow_cast-bytes

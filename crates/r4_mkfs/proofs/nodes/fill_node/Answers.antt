@@ -3,8 +3,9 @@ use Rattle.r4_base.specs.Fresh.{IsFreshNode}
 use Rattle.r4_base.specs.Lending.{written}
 use Rattle.r4_base.specs.Node.{offset_at}
 use Rattle.r4_base.specs.declared.key.Key.{Key}
+use Rattle.r4_base.proofs.Choices.{went_well}
 use Rattle.r4_node40.specs.Edits.{InsertsItem}
-use Rattle.r4_mkfs.proofs.OneItem.{went_well, long, fresh_node}
+use Rattle.r4_mkfs.proofs.OneItem.{long, fresh_node}
 use Rattle.r4_mkfs.proofs.nodes.fill_node.Goals as goal
 
 pub copy_from_slice-requires : goal.copy_from_slice-requires

@@ -1,5 +1,6 @@
 use Rattle.std.proofs.Common.{sym, ◌∙◌}
-use Rattle.r4_replay.proofs.Overlaps.{pair_skipped, pair_taken, never_both}
+use Rattle.r4_base.proofs.Choices.{never_both}
+use Rattle.r4_replay.proofs.Overlaps.{pair_skipped, pair_taken}
 use Rattle.r4_replay.proofs.overlap.smallest_in.Goals as goal
 use Rattle.r4_replay.proofs.overlap.smallest_in.Goals.{then-contains, else-contains}
 
