@@ -11,3 +11,6 @@ pub use laws::order_law;
 pub use out::{Nodes, Numbers, Out};
 pub use turn::{Open, Pending};
 pub use turns::Turns;
+
+#[cfg(test)]
+mod tests;
