@@ -21,7 +21,7 @@ use Rattle.r4_locks.proofs.HoldLaws.{eq_cases}
 
 -- ---- the smallest holder
 
-abbrev as_task : ℕ → TaskId
+abbrev pub as_task : ℕ → TaskId
 as_task k = record { 0 = k }
 
 pub smallest_none : (t : LocksSeen) (mine : Option TaskId) (wanted : Mode) (node : ℕ) → position (λ task. conflicts wanted (mode_in task node)) (others mine t.tasks) ≡ None → smallest_holder t mine wanted node ≡ None
@@ -118,11 +118,11 @@ distinct_rest key keys apart = apart.1
 
 -- ---- no conflict
 
-no_place : (o : Option ℕ) → option_map as_task o ≡ None → o ≡ None
+pub no_place : (o : Option ℕ) → option_map as_task o ≡ None → o ≡ None
 no_place None e = refl
 no_place (Some k) e = cc
 
-no_pair : (x : NodeId) (o : Option TaskId) (rest : Option (NodeId × TaskId)) → option_or (option_map (λ holder. (x, holder)) o) rest ≡ None → (o ≡ None) × (rest ≡ None)
+pub no_pair : (x : NodeId) (o : Option TaskId) (rest : Option (NodeId × TaskId)) → option_or (option_map (λ holder. (x, holder)) o) rest ≡ None → (o ≡ None) × (rest ≡ None)
 no_pair x None rest e = (refl, e)
 no_pair x (Some holder) rest e = cc
 
@@ -130,7 +130,7 @@ pub neither : (a b : Option (NodeId × TaskId)) → option_or a b ≡ None → (
 neither None b e = (refl, e)
 neither (Some x) b e = cc
 
-clear_at : (t : LocksSeen) (who : TaskId) (wanted : Mode) (node : ℕ) → smallest_holder t (Some who) wanted node ≡ None → IsClear t who.0 wanted node
+pub clear_at : (t : LocksSeen) (who : TaskId) (wanted : Mode) (node : ℕ) → smallest_holder t (Some who) wanted node ≡ None → IsClear t who.0 wanted node
 clear_at t who wanted node none k ne =
     let place : position (λ task. conflicts wanted (mode_in task node)) (set t.tasks who.0 None) ≡ None = no_place _ none in
     let here = none_from_position (λ task. conflicts wanted (mode_in task node)) None refl (set t.tasks who.0 None) place k in

@@ -1,5 +1,5 @@
 -- Which tasks stand, and which nodes each of them holds.
-use Rattle.std.specs.Prelude.{◌≡◌, ◌≢◌, ℕ, ◌<◌, ◌≤◌, min, List, [], ◌∷◌, slice_index_or, slice_set, count_by, Option, Some, None, is_some, IsSome, Result, Ok, Err, Bool, true, false, nat_eq, if◌then◌else◌}
+use Rattle.std.specs.Prelude.{◌≡◌, ◌≢◌, ℕ, ◌<◌, ◌≤◌, min, List, All, [], ◌∷◌, ◌++◌, slice_index_or, slice_set, count_by, Option, Some, None, is_some, IsSome, Result, Ok, Err, Bool, true, false, nat_eq, if◌then◌else◌}
 use Rattle.std.specs.List.{position, list_any}
 use Rattle.std.specs.Map.{lookup}
 use Rattle.std.specs.Option.{option_map, option_or, unwrap_or}
@@ -82,6 +82,28 @@ first_conflict t mine wanted (node ∷ rest) =
 -- the nodes that are to be written come before those that are to be read
 abbrev pub conflict_of : LocksSeen → (mine : Option TaskId) → (reads writes : List NodeId) → Option (NodeId × TaskId)
 conflict_of t mine reads writes = option_or (first_conflict t mine Writes writes) (first_conflict t mine Reads reads)
+
+-- Another task than this one holds a node in a mode that conflicts.
+pub record Conflicts (t : LocksSeen) (mine : Option TaskId) (wanted : Mode) (node : ℕ) (holder : TaskId) : Type 0 where
+  pub another : mine ≢ Some holder
+  pub holds : conflicts wanted (mode_of t holder.0 node) ≡ true
+
+-- It is the smallest such task.
+pub record IsSmallestHolder (t : LocksSeen) (mine : Option TaskId) (wanted : Mode) (node : ℕ) (holder : TaskId) : Type 0 where
+  pub holds : Conflicts t mine wanted node holder
+  pub smallest : (other : TaskId) → Conflicts t mine wanted node other → holder.0 ≤ other.0
+
+-- No other task holds the node in a mode that conflicts.
+abbrev pub IsFree : LocksSeen → Option TaskId → (wanted : Mode) → (node : ℕ) → Type 0
+IsFree t mine wanted node = (holder : TaskId) → Conflicts t mine wanted node holder → ⊥
+
+-- The node is the first of the names that is not free, and the task is the smallest one that holds it so.
+pub record IsFirstConflict (t : LocksSeen) (mine : Option TaskId) (wanted : Mode) (names : List NodeId) (node : NodeId) (holder : TaskId) : Type 0 where
+  pub before : List NodeId
+  pub after : List NodeId
+  pub place : names ≡ before ++ node ∷ after
+  pub free : All (λ name. IsFree t mine wanted name.0) before
+  pub holds : IsSmallestHolder t mine wanted node.0 holder
 
 -- No other task holds a node in a mode that conflicts.
 abbrev pub IsClear : LocksSeen → (who : ℕ) → (wanted : Mode) → (node : ℕ) → Type 0

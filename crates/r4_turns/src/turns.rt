@@ -64,6 +64,13 @@ impl Turns {
         self.turns.len() as u32
     }
 
+    /// No more commands of a script are answered than it has.
+    pub fn lawful(&self)
+        ensures { (s : ℕ) → answered_at self.now s ≤ length (commands_at self.now s) }
+    {
+        let _ = &self.turns;
+    }
+
     /// The first script that stands behind this one, or the first of all, in the order of fewest answered commands and then
     /// smallest number. Every script counts, whatever is answered or out. No memory.
     pub fn next_behind(&self, last: Option<ScriptNo>) -> Option<ScriptNo>
