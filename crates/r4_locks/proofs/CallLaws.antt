@@ -1,7 +1,7 @@
 -- What the calls name, and what a loop over names leaves.
-use Rattle.std.proofs.Common.{◌≡◌, ◌≢◌, ℕ, ◌+◌, ◌<◌, ◌≤◌, suc, zero, Bool, true, false, cond, ◌||◌, List, [], ◌∷◌, length, get_or, take, drop, refl, sym, ap, ◌∙◌, ◌⊎◌, inl, inr, arith}
+use Rattle.std.proofs.Common.{◌≡◌, ℕ, ◌+◌, ◌<◌, ◌≤◌, suc, zero, Bool, true, false, cond, ◌||◌, List, [], ◌∷◌, length, get_or, take, drop, refl, sym, ap, ◌∙◌, ◌⊎◌, inl, inr, arith}
 use Rattle.std.specs.Prelude.{Option, Some, None, nat_eq}
-use Rattle.std.specs.List.{position, list_any, IsDistinct, AllByRecursion}
+use Rattle.std.specs.List.{position, IsDistinct, AllByRecursion}
 use Rattle.std.specs.Map.{keys_of, lookup}
 use Rattle.std.specs.Option.{option_map, option_or}
 use Rattle.std.proofs.lemmas.List.{get_or-set_other, length-set}
@@ -55,18 +55,6 @@ pub first_beyond : (t : LocksSeen) (mine : Option TaskId) (wanted : Mode) (names
 first_beyond t mine wanted [] i d lt none = absurd (omega arith)
 first_beyond t mine wanted (x ∷ xs) zero d lt none = rw none refl
 first_beyond t mine wanted (x ∷ xs) (suc i) d lt none = first_beyond t mine wanted xs i d (omega arith) none
-
-pub first_here : (t : LocksSeen) (mine : Option TaskId) (wanted : Mode) (names : List NodeId) (i : ℕ) (d : NodeId) (holder : TaskId) → i < length names → smallest_holder t mine wanted (get_or names i d).0 ≡ Some holder
-    → first_conflict t mine wanted (drop i names) ≡ Some (get_or names i d, holder)
-first_here t mine wanted [] i d holder lt found = absurd (omega arith)
-first_here t mine wanted (x ∷ xs) zero d holder lt found = rw found refl
-first_here t mine wanted (x ∷ xs) (suc i) d holder lt found = first_here t mine wanted xs i d holder (omega arith) found
-
-pub first_end : (t : LocksSeen) (mine : Option TaskId) (wanted : Mode) (names : List NodeId) (i : ℕ) → length names ≤ i → first_conflict t mine wanted (drop i names) ≡ None
-first_end t mine wanted [] zero le = refl
-first_end t mine wanted [] (suc i) le = refl
-first_end t mine wanted (x ∷ xs) zero le = absurd (omega arith)
-first_end t mine wanted (x ∷ xs) (suc i) le = first_end t mine wanted xs i (omega arith)
 
 -- ---- names that are taken
 

@@ -1,6 +1,6 @@
 -- What a conflict is, in words that name no search.
-use Rattle.std.proofs.Common.{◌≡◌, ◌≢◌, ℕ, ◌+◌, ◌<◌, ◌≤◌, suc, zero, Bool, true, false, cond, List, All, [], ◌∷◌, ◌++◌, length, get_or, refl, sym, ap, ◌∙◌, ◌⊎◌, inl, inr, arith}
-use Rattle.std.specs.Prelude.{Option, Some, None, nat_eq}
+use Rattle.std.proofs.Common.{◌≡◌, ◌≢◌, ℕ, ◌<◌, ◌≤◌, suc, zero, true, false, List, All, [], ◌∷◌, get_or, refl, sym, ap, ◌∙◌, ◌⊎◌, inl, inr, arith}
+use Rattle.std.specs.Prelude.{Option, Some, None}
 use Rattle.std.specs.List.{position}
 use Rattle.std.specs.Option.{option_map, option_or}
 use Rattle.std.proofs.lemmas.List.{get_or-set_other, length-set}
@@ -12,10 +12,9 @@ use Rattle.r4_base.specs.declared.things.TaskId.{TaskId}
 use Rattle.r4_locks.specs.declared.things.Mode.{Mode}
 use Rattle.r4_locks.specs.declared.things.Mode.TheVariants.{Reads, Writes}
 use Rattle.r4_locks.specs.Modes.{conflicts}
-use Rattle.r4_locks.specs.Locks.{Conflicts, IsFirstConflict, IsFree, IsSmallestHolder, LocksSeen, TaskSeen, conflict_of, first_conflict, mode_in, mode_of, others, smallest_holder}
+use Rattle.r4_locks.specs.Locks.{IsFirstConflict, IsFree, IsSmallestHolder, LocksSeen, TaskSeen, conflict_of, first_conflict, mode_in, mode_of, others, smallest_holder}
 use Rattle.r4_locks.proofs.Counts.{none_from_position}
 use Rattle.r4_locks.proofs.CallLaws.{as_task, no_pair, no_place}
-use Rattle.r4_locks.proofs.HoldLaws.{eq_cases}
 
 abbrev number_of : Option TaskId → ℕ
 number_of None = 0

@@ -1,18 +1,15 @@
 -- Who holds a node, as tasks come, take, let go and are gone.
-use Rattle.std.proofs.Common.{◌≡◌, ◌≢◌, ℕ, suc, zero, ◌+◌, ◌-◌, ◌<◌, ◌≤◌, Bool, true, false, cond, List, [], ◌∷◌, length, get_or, refl, sym, ap, ◌∙◌, ◌⊎◌, inl, inr, arith, subst}
-use Rattle.std.specs.Prelude.{count_by, Option, Some, None, is_some, IsSome, nat_eq, nat_lt}
+use Rattle.std.proofs.Common.{◌≡◌, ◌≢◌, ℕ, suc, zero, ◌+◌, ◌-◌, ◌<◌, ◌≤◌, Bool, true, false, cond, List, [], ◌∷◌, length, get_or, refl, sym, ap, ◌∙◌, ◌⊎◌, inl, inr, arith}
+use Rattle.std.specs.Prelude.{count_by, Option, Some, None, IsSome, nat_eq, nat_lt}
 use Rattle.std.specs.List.{position}
-use Rattle.std.specs.Map.{lookup}
-use Rattle.std.specs.Option.{unwrap_or, option_map}
 use Rattle.std.proofs.Math.ListN.{set}
 use Rattle.std.proofs.lemmas.List.{get_or-set_same, get_or-set_other}
-use Rattle.std.proofs.lemmas.Grind.{common_steps}
 use Rattle.r4_base.specs.declared.things.TaskId.{TaskId}
 use Rattle.r4_locks.specs.declared.things.Mode.{Mode}
 use Rattle.r4_locks.specs.declared.things.Mode.TheVariants.{Reads, Writes}
 use Rattle.r4_locks.specs.declared.things.Held.{Held}
 use Rattle.r4_locks.specs.declared.things.Held.TheVariants.{Free, Read, Write}
-use Rattle.r4_locks.specs.Modes.{conflicts, freed, held_with, is_reading, is_writing, joined, left_of, IsCountable}
+use Rattle.r4_locks.specs.Modes.{conflicts, freed, held_with, is_reading, is_writing, joined, IsCountable}
 use Rattle.r4_locks.specs.Locks.{TaskSeen, IsHeldBy, mode_in, others, readers, writers}
 use Rattle.r4_locks.specs.Kept.{IsKept, held_in}
 use Rattle.r4_locks.proofs.Counts.{bit, count-set, count_none, count_same, count_below, count_at, count_less, position_none, within}

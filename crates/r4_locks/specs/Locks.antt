@@ -2,7 +2,7 @@
 use Rattle.std.specs.Prelude.{◌≡◌, ◌≢◌, ℕ, ◌<◌, ◌≤◌, min, List, All, [], ◌∷◌, ◌++◌, slice_index_or, slice_set, count_by, Option, Some, None, is_some, IsSome, Result, Ok, Err, Bool, true, false, nat_eq, if◌then◌else◌}
 use Rattle.std.specs.List.{position, list_any}
 use Rattle.std.specs.Map.{lookup}
-use Rattle.std.specs.Option.{option_map, option_or, unwrap_or}
+use Rattle.std.specs.Option.{option_map, option_or}
 use Rattle.r4_base.specs.declared.things.NodeId.{NodeId}
 use Rattle.r4_base.specs.declared.things.TaskId.{TaskId}
 use Rattle.r4_locks.specs.declared.things.Mode.{Mode}

@@ -1,5 +1,5 @@
 -- Modes of holds, and how a hold that comes or goes changes who holds a node.
-use Rattle.std.specs.Prelude.{ℕ, ◌+◌, ◌-◌, ◌<◌, nat_lt, Option, Some, None, Bool, true, false, if◌then◌else◌}
+use Rattle.std.specs.Prelude.{◌+◌, ◌-◌, ◌<◌, nat_lt, Option, Some, None, Bool, true, false, if◌then◌else◌}
 use Rattle.r4_base.specs.declared.things.TaskId.{TaskId}
 use Rattle.r4_locks.specs.declared.things.Mode.{Mode}
 use Rattle.r4_locks.specs.declared.things.Mode.TheVariants.{Reads, Writes}

@@ -1,9 +1,7 @@
 //! The table of holds.
 
-ghost use Rattle.std.specs.Prelude.{◌≡◌, ◌≢◌, ℕ, ◌+◌, ◌<◌, ◌≤◌, List, [], ◌∷◌, length, slice_index_or, Option, None, Some, is_some, IsSome, IsOk, IfOk, OnOk, OnErr, IsTrue, nat_eq, true, false, if◌then◌else◌};
-ghost use Rattle.std.specs.List.{position};
+ghost use Rattle.std.specs.Prelude.{◌≡◌, ◌≢◌, ℕ, ◌+◌, ◌<◌, ◌≤◌, List, [], length, slice_index_or, Option, None, Some, is_some, IsSome, IsOk, IfOk, OnOk, OnErr, IsTrue, nat_eq, true, false, if◌then◌else◌};
 ghost use Rattle.std.specs.Map.{lookup};
-ghost use Rattle.std.specs.Option.{option_map};
 ghost use Rattle.r4_locks.specs.Modes.{conflicts, freed, joined};
 ghost use Rattle.r4_locks.specs.Locks.{task_at, IsTask, mode_in, mode_of, mode_with, is_named, room_of, IsHeld, IsClear, AreHolds, AsBefore, others, smallest_holder, first_conflict, conflict_of, busy_of};
 ghost use Rattle.r4_locks.specs.Kept.{held_in};

@@ -1,6 +1,6 @@
 //! Who holds each node.
 
-ghost use Rattle.std.specs.Prelude.{◌≡◌, ℕ, ◌+◌, ◌<◌, ◌≤◌, ◌≢◌, [], Some, nat_eq, if◌then◌else◌, IsOk, OnOk};
+ghost use Rattle.std.specs.Prelude.{◌≡◌, ℕ, ◌+◌, ◌<◌, ◌≤◌, [], Some, nat_eq, if◌then◌else◌, IsOk, OnOk};
 ghost use Rattle.r4_locks.specs.Modes.{left_of};
 ghost use Rattle.r4_locks.specs.Kept.{held_in};
 

@@ -1,6 +1,6 @@
 //! The turns of a job's scripts.
 
-ghost use Rattle.std.specs.Prelude.{◌≡◌, ◌≢◌, ℕ, ◌+◌, ◌-◌, ◌<◌, ◌≤◌, List, length, slice_get, Option, None, Some, IsSome, IfOk, OnOk, OnErr, IfSome, IsTrue, ◌↔◌, true, false, ◌⊎◌};
+ghost use Rattle.std.specs.Prelude.{◌≡◌, ℕ, ◌+◌, ◌-◌, ◌<◌, ◌≤◌, List, length, slice_get, Option, None, Some, IsSome, IfOk, OnOk, OnErr, IfSome, IsTrue, ◌↔◌, true, false};
 ghost use Rattle.std.specs.List.{position};
 ghost use Rattle.std.specs.Option.{option_copied};
 ghost use Rattle.r4_turns.specs.declared.turn.Turn.{Turn};

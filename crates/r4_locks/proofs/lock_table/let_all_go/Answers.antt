@@ -1,5 +1,4 @@
-use Rattle.std.proofs.Common.{◌≡◌, ℕ, List, ap, refl, sym, ◌∙◌, arith}
-use Rattle.r4_locks.specs.declared.things.Mode.{Mode}
+use Rattle.std.proofs.Common.{ap, refl, arith}
 use Rattle.r4_locks.specs.Locks.{TaskSeen}
 use Rattle.r4_locks.proofs.CallLaws.{distinct_rest, freed_more}
 use Rattle.r4_locks.proofs.lock_table.let_all_go.Goals as goal

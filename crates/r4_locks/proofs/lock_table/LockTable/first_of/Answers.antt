@@ -1,5 +1,5 @@
-use Rattle.std.proofs.Common.{◌≡◌, sym, ◌∙◌, add-one}
-use Rattle.r4_locks.proofs.CallLaws.{first_beyond, first_end, first_here}
+use Rattle.std.proofs.Common.{sym, ◌∙◌, add-one}
+use Rattle.r4_locks.proofs.CallLaws.{first_beyond}
 use Rattle.r4_locks.proofs.lock_table.LockTable.first_of.Goals as goal
 
 pub loop-node-preserved : goal.loop-node-preserved

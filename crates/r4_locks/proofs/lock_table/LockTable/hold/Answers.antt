@@ -1,4 +1,4 @@
-use Rattle.std.proofs.Common.{◌≡◌, ◌<◌, length, get_or, ap, refl, sym, ◌∙◌}
+use Rattle.std.proofs.Common.{◌≡◌, get_or, refl, sym}
 use Rattle.std.specs.Prelude.{Some, None, IsSome}
 use Rattle.r4_locks.specs.Locks.{mode_in}
 use Rattle.r4_locks.proofs.HoldLaws.{countable, kept_hold, lt_from_some}

@@ -1,5 +1,4 @@
-use Rattle.std.proofs.Common.{◌≡◌, ◌∙◌, sym, arith}
-use Rattle.std.proofs.lemmas.Grind.{common_steps}
+use Rattle.std.proofs.Common.{◌∙◌, sym, arith}
 use Rattle.r4_locks.proofs.CallLaws.{mode_with_more}
 use Rattle.r4_locks.proofs.lock_table.LockTable.hold_all.Goals as goal
 

@@ -1,5 +1,4 @@
-use Rattle.std.proofs.Common.{◌≡◌, ◌≤◌, length, ap, sym, arith, rules}
-use Rattle.std.proofs.lemmas.Grind.{common_steps}
+use Rattle.std.proofs.Common.{◌≤◌, length, ap, sym, arith}
 use Rattle.r4_locks.specs.Locks.{LocksSeen}
 use Rattle.r4_locks.proofs.CallLaws.{smallest_is, smallest_none_up_to}
 use Rattle.r4_locks.proofs.lock_table.LockTable.holder.Goals as goal

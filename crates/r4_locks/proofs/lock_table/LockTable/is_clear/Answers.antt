@@ -1,6 +1,6 @@
-use Rattle.r4_locks.specs.Locks.{IsHeld, smallest_holder}
-use Rattle.std.proofs.Common.{◌≡◌, refl, sym, ◌∙◌}
-use Rattle.std.specs.Prelude.{Some, None}
+use Rattle.r4_locks.specs.Locks.{IsHeld}
+use Rattle.std.proofs.Common.{◌≡◌, refl, ◌∙◌}
+use Rattle.std.specs.Prelude.{Some}
 use Rattle.r4_locks.specs.declared.things.Held.TheVariants.{Free, Read, Write}
 use Rattle.r4_locks.specs.declared.things.Mode.TheVariants.{Reads}
 use Rattle.r4_locks.proofs.CallLaws.{smallest_none}

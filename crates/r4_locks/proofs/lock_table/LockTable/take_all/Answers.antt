@@ -1,6 +1,4 @@
-use Rattle.std.proofs.Common.{◌≡◌, ap, sym, ◌∙◌}
-use Rattle.std.specs.Prelude.{Option}
-use Rattle.r4_locks.specs.Locks.{TaskSeen, mode_in}
+use Rattle.std.proofs.Common.{sym, ◌∙◌}
 use Rattle.r4_locks.proofs.CallLaws.{clear_reads, clear_writes}
 use Rattle.r4_locks.proofs.lock_table.LockTable.take_all.Goals as goal
 
