@@ -1,5 +1,5 @@
 -- Which tasks stand, and which nodes each of them holds.
-use Rattle.std.specs.Prelude.{◌≡◌, ◌≢◌, ℕ, ◌<◌, ◌≤◌, min, List, All, [], ◌∷◌, ◌++◌, slice_index_or, slice_set, count_by, Option, Some, None, is_some, IsSome, Result, Ok, Err, Bool, true, false, nat_eq, if◌then◌else◌}
+use Rattle.std.specs.Prelude.{◌≡◌, ◌≢◌, ℕ, ◌+◌, ◌<◌, ◌≤◌, min, length, List, All, [], ◌∷◌, ◌++◌, slice_index_or, slice_set, count_by, Option, Some, None, is_some, IsSome, Result, Ok, Err, Bool, true, false, nat_eq, if◌then◌else◌}
 use Rattle.std.specs.List.{position, list_any}
 use Rattle.std.specs.Map.{lookup}
 use Rattle.std.specs.Option.{option_map, option_or}
@@ -125,6 +125,28 @@ room_in (Some task) = task.room
 
 abbrev pub room_of : LocksSeen → (task : ℕ) → ℕ
 room_of t task = min t.spare (room_in (task_at t task))
+
+-- There is room for these names.
+abbrev pub HasRoom : LocksSeen → (task : ℕ) → (reads writes : List NodeId) → Type 0
+HasRoom t task reads writes = length reads + length writes ≤ room_of t task
+
+-- The room of each task has become smaller by so many names at most.
+abbrev pub UsesRoom : (old new : LocksSeen) → (names : ℕ) → Type 0
+UsesRoom old new names = (task : ℕ) → room_of old task ≤ room_of new task + names
+
+-- The task holds what it held and these nodes.
+abbrev pub Takes : (old new : LocksSeen) → (task : ℕ) → (reads writes : List NodeId) → Type 0
+Takes old new task reads writes =
+    (node : ℕ) → mode_of new task node ≡ mode_with Reads reads node (mode_with Writes writes node (mode_of old task node))
+
+-- The task stands and holds nothing.
+pub record IsNew (t : LocksSeen) (task : ℕ) : Type 0 where
+  pub stands : IsTask t task
+  pub empty : (node : ℕ) → mode_of t task node ≡ None
+
+-- All other tasks are as before.
+abbrev pub OthersAsBefore : (old new : LocksSeen) → (task : ℕ) → Type 0
+OthersAsBefore old new task = (k : ℕ) → k ≢ task → task_at new k ≡ task_at old k
 
 -- Each task stands with the same holds.
 abbrev pub AsBefore : (old new : LocksSeen) → Type 0

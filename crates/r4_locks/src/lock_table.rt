@@ -3,7 +3,7 @@
 ghost use Rattle.std.specs.Prelude.{◌≡◌, ◌≢◌, ℕ, ◌+◌, ◌<◌, ◌≤◌, List, [], length, slice_index_or, Option, None, Some, is_some, IsSome, IsOk, IfOk, OnOk, OnErr, IsTrue, nat_eq, true, false, if◌then◌else◌};
 ghost use Rattle.std.specs.Map.{lookup};
 ghost use Rattle.r4_locks.specs.Modes.{conflicts, freed, joined};
-ghost use Rattle.r4_locks.specs.Locks.{task_at, IsTask, mode_in, mode_of, mode_with, is_named, room_of, IsHeld, IsClear, AreHolds, AsBefore, others, smallest_holder, first_conflict, conflict_of, busy_of};
+ghost use Rattle.r4_locks.specs.Locks.{task_at, HasRoom, IsNew, IsTask, OthersAsBefore, Takes, UsesRoom, mode_in, mode_of, mode_with, is_named, room_of, IsHeld, IsClear, AreHolds, AsBefore, others, smallest_holder, first_conflict, conflict_of, busy_of};
 ghost use Rattle.r4_locks.specs.Kept.{held_in};
 ghost use Rattle.r4_locks.specs.declared.things.TakeFault.TheVariants.{Memory as no_memory};
 ghost use Rattle.r4_locks.specs.declared.things.Mode.TheVariants.{Reads, Writes};
@@ -49,10 +49,9 @@ impl LockTable {
     /// A new task, which holds nothing. Its number, below 2^32 - 1, is one that no task has; one of a task that was released
     /// is given again. `Memory` comes where there is not enough, and where each of these numbers has a task.
     pub fn task(&mut self, alloc: Global) -> Result<TaskId, Memory>
-        ensures new { IfOk result (λ who. task_at self.old who.0 ≡ None) }
-        ensures stands { IfOk result (λ who. IsTask self.new who.0) }
-        ensures empty { IfOk result (λ who. (node : ℕ) → mode_of self.new who.0 node ≡ None) }
-        ensures others { IfOk result (λ who. (k : ℕ) → k ≢ who.0 → task_at self.new k ≡ task_at self.old k) }
+        ensures number { IfOk result (λ who. task_at self.old who.0 ≡ None) }
+        ensures holds { IfOk result (λ who. IsNew self.new who.0) }
+        ensures others { IfOk result (λ who. OthersAsBefore self.old self.new who.0) }
         ensures spare { self.new.spare ≡ self.old.spare }
         ensures err { OnErr result (self.new ≡ self.old) }
     {
@@ -70,10 +69,10 @@ impl LockTable {
     pub fn room(&mut self, _alloc: Global, who: TaskId, names: u64) -> Result<(), Memory>
         requires { IsTask self.old who.0 }
         ensures holds { AsBefore self.old self.new }
-        ensures others { (k : ℕ) → k ≢ who.0 → task_at self.new k ≡ task_at self.old k }
+        ensures others { OthersAsBefore self.old self.new who.0 }
         ensures ok { OnOk result (names ≤ room_of self.new who.0) }
         ensures enough { names ≤ room_of self.old who.0 → IsOk result }
-        ensures room { (k : ℕ) → room_of self.old k ≤ room_of self.new k }
+        ensures room { UsesRoom self.old self.new 0 }
     {
         self.nodes.room(names as usize)?;
         let Some(task) = self.tasks.get_mut(who.0 as usize) else {
@@ -116,14 +115,14 @@ impl LockTable {
 
         // When it is refused.
         ensures busy { busy_of result ≡ conflict_of self.old (Some who) reads.now writes.now }
-        ensures enough { length reads.now + length writes.now ≤ room_of self.old who.0 → result ≢ Err no_memory }
+        ensures enough { HasRoom self.old who.0 reads.now writes.now → result ≢ Err no_memory }
 
         // What is held afterwards.
-        ensures ok { OnOk result ((node : ℕ) → mode_of self.new who.0 node ≡ mode_with Reads reads.now node (mode_with Writes writes.now node (mode_of self.old who.0 node))) }
+        ensures ok { OnOk result (Takes self.old self.new who.0 reads.now writes.now) }
         ensures err { OnErr result (AsBefore self.old self.new) }
         ensures stands { IsTask self.new who.0 }
-        ensures others { (k : ℕ) → k ≢ who.0 → task_at self.new k ≡ task_at self.old k }
-        ensures room { (k : ℕ) → room_of self.old k ≤ room_of self.new k + (length reads.now + length writes.now) }
+        ensures others { OthersAsBefore self.old self.new who.0 }
+        ensures room { UsesRoom self.old self.new (length reads.now + length writes.now) }
     {
         if let Some((node, holder)) = self.first_of_all(Some(who), reads, writes) {
             return Err(TakeFault::Busy { node, holder });
@@ -138,7 +137,7 @@ impl LockTable {
     pub fn release(&mut self, who: TaskId)
         requires { IsTask self.old who.0 }
         ensures gone { task_at self.new who.0 ≡ None }
-        ensures others { (k : ℕ) → k ≢ who.0 → task_at self.new k ≡ task_at self.old k }
+        ensures others { OthersAsBefore self.old self.new who.0 }
         ensures spare { self.old.spare ≤ self.new.spare }
     {
         if let Some(task) = self.tasks.try_remove(who.0 as usize) {
@@ -239,8 +238,8 @@ impl LockTable {
         requires clear { (n : ℕ) → is_named names.now n ≡ true → IsClear self.old who.0 wanted n }
         ensures mine { (n : ℕ) → mode_of self.new who.0 n ≡ mode_with wanted names.now n (mode_of self.old who.0 n) }
         ensures stands { IsTask self.new who.0 }
-        ensures others { (k : ℕ) → k ≢ who.0 → task_at self.new k ≡ task_at self.old k }
-        ensures room { (k : ℕ) → room_of self.old k ≤ room_of self.new k + length names.now }
+        ensures others { OthersAsBefore self.old self.new who.0 }
+        ensures room { UsesRoom self.old self.new (length names.now) }
     {
         for node in names {
             self.hold(who, *node, wanted);
@@ -254,8 +253,8 @@ impl LockTable {
         requires clear { IsClear self.old who.0 wanted node.0 }
         ensures mine { (n : ℕ) → mode_of self.new who.0 n ≡ if nat_eq node.0 n then Some (joined (mode_of self.old who.0 n) wanted) else mode_of self.old who.0 n }
         ensures stands { IsTask self.new who.0 }
-        ensures others { (k : ℕ) → k ≢ who.0 → task_at self.new k ≡ task_at self.old k }
-        ensures room { (k : ℕ) → room_of self.old k ≤ room_of self.new k + 1 }
+        ensures others { OthersAsBefore self.old self.new who.0 }
+        ensures room { UsesRoom self.old self.new 1 }
     {
         let held = self.nodes.held(node);
         let Some(task) = self.tasks.get_mut(who.0 as usize) else {

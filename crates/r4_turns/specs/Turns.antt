@@ -7,7 +7,9 @@ use Rattle.r4_base.specs.declared.things.TaskId.{TaskId}
 use Rattle.r4_content.specs.declared.command.Command.{Command}
 use Rattle.r4_script.specs.declared.job.Job.{Job}
 use Rattle.r4_script.specs.declared.job.Script.{Script}
+use Rattle.r4_turns.specs.declared.out.Numbers.{Numbers}
 use Rattle.r4_turns.specs.declared.out.Out.{Out}
+use Rattle.r4_turns.specs.declared.turn.Open.{Open}
 use Rattle.r4_turns.specs.declared.turn.Turn.{Turn}
 use Rattle.r4_turns.specs.declared.turn.Pending.{Pending}
 use Rattle.r4_turns.specs.declared.turn.Pending.TheVariants.{Nothing, Next, Out as Waiting}
@@ -44,6 +46,26 @@ answered_at t script = (turn_at t script).answered
 abbrev pub with_turn : TurnsSeen → (script : ℕ) → Turn → TurnsSeen
 with_turn t script turn = record t { turns = slice_set t.turns (script - 1) turn }
 
+abbrev pub entered : TurnsSeen → (script : ℕ) → Open → TurnsSeen
+entered t script transaction = with_turn t script (record (turn_at t script) { transaction = Some transaction })
+
+abbrev pub left : TurnsSeen → (script : ℕ) → TurnsSeen
+left t script = with_turn t script (record (turn_at t script) { transaction = None })
+
+-- The next command is answered; the numbers kept for it are kept no more.
+abbrev pub answered_one : TurnsSeen → (script : ℕ) → TurnsSeen
+answered_one t script = with_turn t script (record (turn_at t script) { answered = answered_at t script + 1; numbers = None })
+
+abbrev pub gone_out : TurnsSeen → (script : ℕ) → Out → TurnsSeen
+gone_out t script out = with_turn t script (record (turn_at t script) { out = Some out })
+
+abbrev pub dropped : TurnsSeen → (script : ℕ) → TurnsSeen
+dropped t script = with_turn t script (record (turn_at t script) { out = None })
+
+-- No task is out any more; these numbers are kept for the next command.
+abbrev pub given_back : TurnsSeen → (script : ℕ) → Numbers → TurnsSeen
+given_back t script numbers = with_turn t script (record (turn_at t script) { out = None; numbers = Some numbers })
+
 -- One script has a command more, its last.
 abbrev pub with_command : TurnsSeen → (script : ℕ) → Command → TurnsSeen
 with_command t script command =
@@ -60,6 +82,9 @@ task_pending (Some out) = Waiting out.task
 -- how the next of so many commands stands
 abbrev pub pending_in : Turn → (commands : ℕ) → Pending
 pending_in turn commands = if turn.answered == commands then Nothing else task_pending turn.out
+
+abbrev pub with_last : List Script → (i : ℕ) → Command → List Script
+with_last scripts i command = slice_set scripts i (record { commands = (slice_index_or scripts i no_script).commands ++ command ∷ [] })
 
 -- ---- the order in which scripts are served
 

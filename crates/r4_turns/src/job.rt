@@ -1,7 +1,7 @@
 //! A job that grows.
 
-ghost use Rattle.std.specs.Prelude.{◌≡◌, ◌<◌, ◌∷◌, ◌++◌, [], length, slice_index_or, slice_set, OnOk, OnErr, IsTrue, ℕ};
-ghost use Rattle.r4_turns.specs.Turns.{no_script};
+ghost use Rattle.std.specs.Prelude.{◌≡◌, ◌<◌, ◌∷◌, ◌++◌, [], length, slice_index_or, OnOk, OnErr, IsTrue, ℕ};
+ghost use Rattle.r4_turns.specs.Turns.{no_script, with_last};
 
 use r4_base::Memory;
 use r4_content::Command;
@@ -17,7 +17,7 @@ pub(crate) fn add_command(
     command: Command,
 ) -> Result<(), Memory>
     requires { i < length job.old.scripts }
-    ensures ok { OnOk result (job.new.scripts ≡ slice_set job.old.scripts i (record { commands = (slice_index_or job.old.scripts i no_script).commands ++ command ∷ [] })) }
+    ensures ok { OnOk result (job.new.scripts ≡ with_last job.old.scripts i command) }
     ensures err { OnErr result (job.new ≡ job.old) }
 {
     let mut scripts = mem::replace(&mut job.scripts, Scripts::from_vec(Vec::new(alloc))).into_vec();

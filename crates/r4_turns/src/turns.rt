@@ -4,7 +4,7 @@ ghost use Rattle.std.specs.Prelude.{◌≡◌, ℕ, ◌+◌, ◌-◌, ◌<◌, �
 ghost use Rattle.std.specs.List.{position};
 ghost use Rattle.std.specs.Option.{option_copied};
 ghost use Rattle.r4_turns.specs.declared.turn.Turn.{Turn};
-ghost use Rattle.r4_turns.specs.Turns.{IsScript, turn_at, commands_at, answered_at, with_turn, with_command, HasNext, pending_in, started, IsBefore, IsBehind, IsNext, script_of, is_task};
+ghost use Rattle.r4_turns.specs.Turns.{IsScript, turn_at, commands_at, answered_at, with_command, entered, left, answered_one, gone_out, dropped, given_back, HasNext, pending_in, started, IsBefore, IsBehind, IsNext, script_of, is_task};
 ghost use Rattle.r4_turns.specs.Kept.{IsFirstUpTo};
 
 use crate::job::{add_command, is_small};
@@ -123,7 +123,7 @@ impl Turns {
     pub fn enter(&mut self, s: ScriptNo, txn: TxnNo, single: bool)
         requires script { IsScript self.old s.0 }
         requires closed { (turn_at self.old s.0).transaction ≡ None }
-        ensures { self.new ≡ with_turn self.old s.0 (record (turn_at self.old s.0) { transaction = Some (record { txn = txn; single = single }) }) }
+        ensures { self.new ≡ entered self.old s.0 (record { txn = txn; single = single }) }
     {
         let turn = &mut self.turns[s.0 as usize - 1];
         turn.transaction = Some(Open { txn, single });
@@ -133,7 +133,7 @@ impl Turns {
     pub fn leave(&mut self, s: ScriptNo)
         requires script { IsScript self.old s.0 }
         requires inside { IsSome (turn_at self.old s.0).transaction }
-        ensures { self.new ≡ with_turn self.old s.0 (record (turn_at self.old s.0) { transaction = None }) }
+        ensures { self.new ≡ left self.old s.0 }
     {
         let turn = &mut self.turns[s.0 as usize - 1];
         turn.transaction = None;
@@ -142,8 +142,8 @@ impl Turns {
     /// The next command of a script is answered, and the numbers that were kept for it are kept no more. No memory.
     pub fn answer(&mut self, s: ScriptNo)
         requires script { IsScript self.old s.0 }
-        requires left { HasNext self.old s.0 }
-        ensures { self.new ≡ with_turn self.old s.0 (record (turn_at self.old s.0) { answered = answered_at self.old s.0 + 1; numbers = None }) }
+        requires some_left { HasNext self.old s.0 }
+        ensures { self.new ≡ answered_one self.old s.0 }
     {
         let turn = &mut self.turns[s.0 as usize - 1];
         turn.answered += 1;
@@ -154,8 +154,8 @@ impl Turns {
     pub fn take_out(&mut self, s: ScriptNo, out: Out)
         requires script { IsScript self.old s.0 }
         requires stays { (turn_at self.old s.0).out ≡ None }
-        requires left { HasNext self.old s.0 }
-        ensures { self.new ≡ with_turn self.old s.0 (record (turn_at self.old s.0) { out = Some out }) }
+        requires some_left { HasNext self.old s.0 }
+        ensures { self.new ≡ gone_out self.old s.0 out }
     {
         let turn = &mut self.turns[s.0 as usize - 1];
         turn.out = Some(out);
@@ -174,7 +174,7 @@ impl Turns {
         requires script { IsScript self.old s.0 }
         requires is_out { IsSome (turn_at self.old s.0).out }
         ensures task { (turn_at self.old s.0).out ≡ Some result }
-        ensures turn { self.new ≡ with_turn self.old s.0 (record (turn_at self.old s.0) { out = None }) }
+        ensures turn { self.new ≡ dropped self.old s.0 }
     {
         let turn = &mut self.turns[s.0 as usize - 1];
         turn.out.take().unwrap()
@@ -185,7 +185,7 @@ impl Turns {
         requires script { IsScript self.old s.0 }
         requires is_out { IsSome (turn_at self.old s.0).out }
         ensures task { (turn_at self.old s.0).out ≡ Some result }
-        ensures turn { self.new ≡ with_turn self.old s.0 (record (turn_at self.old s.0) { out = None; numbers = Some result.numbers }) }
+        ensures turn { self.new ≡ given_back self.old s.0 result.numbers }
     {
         let turn = &mut self.turns[s.0 as usize - 1];
         let out = turn.out.take().unwrap();
