@@ -1,6 +1,6 @@
 //! The table of holds.
 
-ghost use Rattle.std.specs.Prelude.{◌≡◌, ◌≢◌, ℕ, ◌+◌, ◌<◌, ◌≤◌, List, [], length, slice_index_or, Option, None, Some, is_some, IsSome, IsOk, IfOk, OnOk, OnErr, IsTrue, nat_eq, true, false, if◌then◌else◌};
+ghost use Rattle.std.specs.Prelude.{◌≡◌, ◌≢◌, ℕ, ◌+◌, ◌<◌, ◌≤◌, [], length, slice_index_or, Option, None, Some, is_some, IsSome, IsOk, IfOk, OnOk, OnErr, IsTrue, nat_eq, true, false, if◌then◌else◌};
 ghost use Rattle.std.specs.Map.{lookup};
 ghost use Rattle.r4_locks.specs.Modes.{conflicts, freed, joined};
 ghost use Rattle.r4_locks.specs.Locks.{task_at, HasRoom, IsNew, IsTask, OthersAsBefore, Takes, UsesRoom, mode_in, mode_of, mode_with, is_named, room_of, IsHeld, IsClear, AreHolds, AsBefore, others, smallest_holder, first_conflict, conflict_of, busy_of};
@@ -205,7 +205,8 @@ impl LockTable {
 
     // Whether this task holds a node.
     fn is_held_by(&self, mine: Option<TaskId>, node: NodeId) -> bool
-        ensures { IsTrue result → (who : TaskId) × (mine ≡ Some who) × IsSome (mode_of self.now who.0 node.0) }
+        ensures { IsTrue result →
+            (who : TaskId) × (mine ≡ Some who) × IsSome (mode_of self.now who.0 node.0) }
     {
         match mine {
             Some(who) => match self.tasks.get(who.0 as usize) {
@@ -218,7 +219,8 @@ impl LockTable {
 
     // Whether the task of this number is another one that holds a node in the way.
     fn is_in_the_way(&self, mine: Option<TaskId>, key: usize, node: NodeId, wanted: Mode) -> bool
-        ensures way { result ≡ conflicts wanted (mode_in (slice_index_or (others mine self.now.tasks) key None) node.0) }
+        ensures way { result ≡
+            conflicts wanted (mode_in (slice_index_or (others mine self.now.tasks) key None) node.0) }
         ensures small { IsTrue result → key < 4294967295 }
     {
         let is_other = match mine {
@@ -236,7 +238,8 @@ impl LockTable {
         requires stands { IsTask self.old who.0 }
         requires room { length names.now ≤ room_of self.old who.0 }
         requires clear { (n : ℕ) → is_named names.now n ≡ true → IsClear self.old who.0 wanted n }
-        ensures mine { (n : ℕ) → mode_of self.new who.0 n ≡ mode_with wanted names.now n (mode_of self.old who.0 n) }
+        ensures mine { (n : ℕ) →
+            mode_of self.new who.0 n ≡ mode_with wanted names.now n (mode_of self.old who.0 n) }
         ensures stands { IsTask self.new who.0 }
         ensures others { OthersAsBefore self.old self.new who.0 }
         ensures room { UsesRoom self.old self.new (length names.now) }
@@ -251,7 +254,9 @@ impl LockTable {
         requires stands { IsTask self.old who.0 }
         requires room { 0 < room_of self.old who.0 }
         requires clear { IsClear self.old who.0 wanted node.0 }
-        ensures mine { (n : ℕ) → mode_of self.new who.0 n ≡ if nat_eq node.0 n then Some (joined (mode_of self.old who.0 n) wanted) else mode_of self.old who.0 n }
+        ensures mine { (n : ℕ) →
+            mode_of self.new who.0 n ≡ if nat_eq node.0 n then Some (joined (mode_of self.old who.0 n) wanted) else
+            mode_of self.old who.0 n }
         ensures stands { IsTask self.new who.0 }
         ensures others { OthersAsBefore self.old self.new who.0 }
         ensures room { UsesRoom self.old self.new 1 }
@@ -268,7 +273,8 @@ impl LockTable {
 
 // A task that is gone lets go of all that it held.
 fn let_all_go(nodes: &mut NodeHolds, task: TaskHolds)
-    ensures held { (n : ℕ) → held_in nodes.new.holders n ≡ freed (lookup (nat_eq n) task.holds) (held_in nodes.old.holders n) }
+    ensures held { (n : ℕ) →
+        held_in nodes.new.holders n ≡ freed (lookup (nat_eq n) task.holds) (held_in nodes.old.holders n) }
     ensures room { nodes.old.room ≤ nodes.new.room }
 {
     for (node, mode) in task.modes {

@@ -51,7 +51,8 @@ impl NodeHolds {
 
     pub(crate) fn put(&mut self, node: NodeId, held: Held)
         requires { 0 < self.old.room }
-        ensures held { (n : ℕ) → held_in self.new.holders n ≡ if nat_eq node.0 n then held else held_in self.old.holders n }
+        ensures held { (n : ℕ) →
+            held_in self.new.holders n ≡ if nat_eq node.0 n then held else held_in self.old.holders n }
         ensures room { self.old.room ≤ self.new.room + 1 }
     {
         let _ = self.holders.insert(node.0, held);
@@ -59,7 +60,8 @@ impl NodeHolds {
 
     // A task lets a node go that it held in this mode.
     pub(crate) fn let_go(&mut self, node: NodeId, mode: Mode)
-        ensures held { (n : ℕ) → held_in self.new.holders n ≡ if nat_eq node.0 n then left_of mode (held_in self.old.holders n) else held_in self.old.holders n }
+        ensures held { (n : ℕ) → held_in self.new.holders n ≡
+            if nat_eq node.0 n then left_of mode (held_in self.old.holders n) else held_in self.old.holders n }
         ensures room { self.old.room ≤ self.new.room }
     {
         match left_of(mode, self.held(node)) {

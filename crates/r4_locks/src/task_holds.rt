@@ -40,7 +40,8 @@ impl TaskHolds {
     }
 
     pub(crate) fn room(&mut self, names: usize) -> Result<(), Memory>
-        ensures holds { (n : ℕ) → lookup (nat_eq n) self.new.holds ≡ lookup (nat_eq n) self.old.holds }
+        ensures holds { (n : ℕ) →
+            lookup (nat_eq n) self.new.holds ≡ lookup (nat_eq n) self.old.holds }
         ensures ok { OnOk result (names ≤ self.new.room) }
         ensures succeeds { names ≤ self.old.room → IsOk result }
         ensures room { self.old.room ≤ self.new.room }
@@ -50,7 +51,8 @@ impl TaskHolds {
 
     pub(crate) fn put(&mut self, node: NodeId, mode: Mode)
         requires { 0 < self.old.room }
-        ensures holds { (n : ℕ) → lookup (nat_eq n) self.new.holds ≡ if nat_eq node.0 n then Some mode else lookup (nat_eq n) self.old.holds }
+        ensures holds { (n : ℕ) →
+            lookup (nat_eq n) self.new.holds ≡ if nat_eq node.0 n then Some mode else lookup (nat_eq n) self.old.holds }
         ensures room { self.old.room ≤ self.new.room + 1 }
     {
         let _ = self.modes.insert(node.0, mode);

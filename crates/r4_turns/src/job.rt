@@ -28,7 +28,8 @@ pub(crate) fn add_command(
 
 // Adds a command at the end of a script.
 fn add(script: &mut Script, alloc: Global, command: Command) -> Result<(), Memory>
-    ensures ok { OnOk result (script.new ≡ record { commands = script.old.commands ++ command ∷ [] }) }
+    ensures ok { OnOk result
+        (script.new ≡ record { commands = script.old.commands ++ command ∷ [] }) }
     ensures err { OnErr result (script.new ≡ script.old) }
 {
     let mut commands = mem::replace(
@@ -46,7 +47,8 @@ fn add(script: &mut Script, alloc: Global, command: Command) -> Result<(), Memor
 // Whether the scripts of a job, and the commands of each, are fewer than 2^32.
 pub(crate) fn is_small(job: &Job) -> bool
     ensures few { IsTrue result → length job.now.scripts < 4294967296 }
-    ensures small { IsTrue result → (i : ℕ) → length (slice_index_or job.now.scripts i no_script).commands < 4294967296 }
+    ensures small { IsTrue result → (i : ℕ) →
+        length (slice_index_or job.now.scripts i no_script).commands < 4294967296 }
 {
     let scripts = job.scripts.as_slice();
     for script in scripts {

@@ -97,7 +97,8 @@ impl Turns {
     /// The next command of a script; `None` where each is answered. No memory.
     pub fn command(&self, s: ScriptNo) -> Option<&Command>
         requires { IsScript self.now s.0 }
-        ensures { option_copied result ≡ slice_get (commands_at self.now s.0) (answered_at self.now s.0) }
+        ensures { option_copied result ≡
+            slice_get (commands_at self.now s.0) (answered_at self.now s.0) }
     {
         let at = self.answered(s) as usize;
         self.commands(s).get(at)
