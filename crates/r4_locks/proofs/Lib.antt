@@ -1,0 +1,4 @@
+pub mod Counts
+pub mod HoldLaws
+pub mod CallLaws
+pub mod ConflictLaws

@@ -1,0 +1,59 @@
+//! A task that is out.
+
+ghost use Rattle.std.specs.Prelude.{◌≡◌};
+
+use r4_base::{NodeId, Oid, TaskId, TxnNo};
+use r4_cell::{Cells, Fresh};
+use std::marker::Model;
+
+/// Nodes in their order, which contracts see as their list.
+#[derive(Drop)]
+pub struct Nodes {
+    items: Vec<NodeId>,
+}
+
+impl Model for Nodes {
+    ghost use Rattle.std.specs.Prelude.{List};
+    ghost use Rattle.r4_base.specs.declared.things.NodeId.{NodeId};
+
+    ghost Value = { List NodeId };
+
+    ghost view = { λ n. n.items.items };
+}
+
+impl Nodes {
+    /// These nodes, which are moved and not copied.
+    pub fn from_vec(items: Vec<NodeId>) -> Nodes
+        ensures { result ≡ items.items }
+    {
+        Nodes { items }
+    }
+
+    /// The nodes, to be read.
+    pub fn as_slice(&self) -> &[NodeId]
+        ensures { result.now ≡ self.now }
+    {
+        self.items.as_slice()
+    }
+}
+
+/// The numbers that are drawn for a command: that of the object that it makes, and those of its new nodes.
+#[derive(Clone, Copy, Debug, PartialEq, Eq)]
+pub struct Numbers {
+    pub oid: Oid,
+    pub fresh: Fresh,
+}
+
+/// A command that is out as a task: its transaction, the cells that it was given to read and to write, the nodes that are
+/// kept for it, its numbers, and for how many cells and claims on blocks there is room for it.
+#[derive(Drop)]
+pub struct Out {
+    pub task: TaskId,
+    pub txn: TxnNo,
+    pub reads: Cells,
+    pub writes: Cells,
+    pub pins: Nodes,
+    pub numbers: Numbers,
+    pub cells: u64,
+    pub claims: u64,
+}

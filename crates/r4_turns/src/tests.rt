@@ -1,0 +1,132 @@
+//! Tests of the turns.
+
+use crate::{Nodes, Numbers, Out, Pending, Turns};
+use r4_base::{Memory, Oid, ScriptNo, TaskId, TxnNo};
+use r4_cell::{Cells, Fresh};
+use r4_content::Command;
+use r4_script::{Commands, Job, Script, Scripts};
+use std::alloc::Global;
+use std::process::Abort;
+use std::test::Fail;
+
+// So many scripts of so many commands each.
+fn job_of(alloc: Global, scripts: u32, commands: u32) -> Result<Job, Memory> {
+    let mut all = Vec::new(alloc);
+    for _ in 0..scripts {
+        let mut items = Vec::new(alloc);
+        for _ in 0..commands {
+            items.push(Command::Commit)?;
+        }
+        all.push(Script {
+            commands: Commands::from_vec(items),
+        })?;
+    }
+    Ok(Job {
+        scripts: Scripts::from_vec(all),
+    })
+}
+
+// Answers the next command of a script that has one.
+fn answer_next(turns: &mut Turns, s: ScriptNo) {
+    if s.0 == 0 || s.0 > turns.count() || turns.is_answered_whole(s) {
+        return;
+    }
+    let _answered = turns.answered(s);
+    turns.answer(s);
+}
+
+// The script behind one of the job's.
+fn behind(turns: &Turns, last: Option<ScriptNo>) -> Option<ScriptNo> {
+    match last {
+        None => turns.next_behind(None),
+        Some(s) => {
+            if s.0 == 0 || s.0 > turns.count() {
+                return None;
+            }
+            turns.next_behind(Some(s))
+        }
+    }
+}
+
+// How many commands of a script are answered in the table below.
+fn progress(script: u32) -> u32 {
+    (script % 64) * 7 % 5
+}
+
+#[test]
+fn order_of_serving(rt: HostRuntime) -> Result<(), Fail> {
+    let mut turns = Turns::new(rt.alloc(), job_of(rt.alloc(), 64, 4)?)?;
+    for script in 1..65u32 {
+        for _ in 0..progress(script) {
+            answer_next(&mut turns, ScriptNo(script));
+        }
+    }
+    let mut last = None;
+    for answered in 0..5u32 {
+        for script in 1..65u32 {
+            if progress(script) == answered {
+                last = behind(&turns, last);
+                assert_eq!(rt; last.map(|s| s.0), Some(script));
+            }
+        }
+    }
+    assert_eq!(rt; behind(&turns, last).map(|s| s.0), None);
+    Ok(())
+}
+
+// A task that is out.
+fn out_of(alloc: Global, task: u32) -> Out {
+    Out {
+        task: TaskId(task),
+        txn: TxnNo(1),
+        reads: Cells::new(alloc),
+        writes: Cells::new(alloc),
+        pins: Nodes::from_vec(Vec::new(alloc)),
+        numbers: Numbers {
+            oid: Oid(42),
+            fresh: Fresh {
+                next: 9223372036854775808,
+                end: 9223372036854775809,
+            },
+        },
+        cells: 0,
+        claims: 0,
+    }
+}
+
+// The next command of a script goes out, comes back, goes out again and is answered.
+fn out_and_back(rt: &impl Abort, alloc: Global, turns: &mut Turns, s: ScriptNo) {
+    assert!(rt; s.0 > 0 && s.0 <= turns.count());
+    assert!(rt; turns.out(s).is_none());
+    assert!(rt; !turns.is_answered_whole(s));
+    let answered = turns.answered(s);
+    turns.take_out(s, out_of(alloc, 7));
+    assert_eq!(rt; turns.pending(s), Pending::Out { task: TaskId(7) });
+    assert_eq!(rt; turns.find(TaskId(7)).map(|found| found.0), Some(s.0));
+    let back = turns.give_back(s);
+    assert_eq!(rt;
+        turns.numbers(s).map(|kept| kept.oid.0),
+        Some(back.numbers.oid.0)
+    );
+    assert_eq!(rt; turns.pending(s), Pending::Next);
+    turns.take_out(s, back);
+    let _out = turns.drop_out(s);
+    turns.answer(s);
+    assert_eq!(rt; turns.answered(s), answered + 1);
+    assert!(rt; turns.numbers(s).is_none());
+    assert_eq!(rt; turns.pending(s), Pending::Nothing);
+}
+
+#[test]
+fn a_pushed_command(rt: HostRuntime) -> Result<(), Fail> {
+    let mut turns = Turns::new(rt.alloc(), job_of(rt.alloc(), 2, 0)?)?;
+    let second = ScriptNo(2);
+    assert_eq!(rt; turns.count(), 2);
+    assert_eq!(rt; turns.pending(second), Pending::Nothing);
+    turns.push(rt.alloc(), second, Command::Commit)?;
+    assert_eq!(rt; turns.pending(second), Pending::Next);
+    turns.enter(second, TxnNo(1), true);
+    assert_eq!(rt; turns.open(second).map(|open| open.txn.0), Some(1));
+    out_and_back(&rt, rt.alloc(), &mut turns, second);
+    Ok(())
+}
