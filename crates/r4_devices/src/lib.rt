@@ -9,3 +9,6 @@ mod stop;
 mod torn;
 
 pub use stop::{StopDevice, Unmade};
+
+#[cfg(test)]
+mod tests;
