@@ -1,16 +1,16 @@
 -- A device and its stop.
-use Rattle.std.proofs.Common.{◌≡◌, ◌⊎◌, inl, inr, ⊎_elim, ◌↔◌, ℕ, ◌+◌, ◌-◌, ◌^◌, ◌<◌, ◌≤◌, min, List, [], All, slice_set, take, drop, ◌∷◌, true, false, Bool, Option, None, Some, refl, sym, ◌∙◌, ap, subst, arith, Result, Ok, Err, OnOk, OnErr}
+use Rattle.std.proofs.Common.{◌≡◌, ◌⊎◌, inl, inr, ⊎_elim, ◌↔◌, ℕ, ◌+◌, ◌-◌, ◌^◌, ◌<◌, ◌≤◌, min, List, [], length, All, slice_set, take, drop, ◌∷◌, true, false, Bool, Option, None, Some, refl, sym, ◌∙◌, ap, subst, arith, Result, Ok, Err, OnOk, OnErr}
 use Rattle.std.proofs.lemmas.Bool.{cases_eq, cases_lt, cases_Bool}
 use Rattle.std.proofs.lemmas.List.Elements.{All-append, All-take, All-drop, All-cons}
 use Rattle.std.specs.Prelude.{insert, is_some}
-use Rattle.r4_base.specs.Image.{Image, block_at, sector}
-use Rattle.r4_outside.specs.Device.{State, TellsCrashes, TellsReads, Leaves, Goes, Counts, Reads, Writes, Syncs, Rose, next}
+use Rattle.r4_base.specs.Image.{Image, IsBlock, block_at, sector}
+use Rattle.r4_outside.specs.Device.{State, IsQuiet, TellsCrashes, TellsReads, Leaves, Goes, Counts, Reads, Writes, Syncs, Rose, next}
 use Rattle.r4_outside.proofs.Moments.{goes_same, goes_both}
 use Rattle.r4_devices.specs.declared.torn.Stop.{Stop}
 use Rattle.r4_devices.specs.declared.torn.Held.{Held}
 use Rattle.r4_outside.specs.Mix.{is_marked, IsMix}
 use Rattle.r4_devices.specs.Picks.{Parts, Changes, put_over, put_back, left_by}
-use Rattle.r4_devices.specs.Stop.{stop_state, HeldAt, Idles, Keeps, Tears, IsStopped, Halts, IsKept, IsHeldFirst, Holds, is_held, is_wanted, after_fault, after_miss, stop_here}
+use Rattle.r4_devices.specs.Stop.{stop_state, Begins, HeldAt, Idles, Keeps, Tears, IsStopped, Halts, IsKept, IsHeldFirst, Holds, is_held, is_wanted, after_fault, after_miss, stop_here}
 use Rattle.r4_devices.proofs.Changing.{torn_by_none, changes_none, changes_both}
 
 -- The stopped device tells what a crash leaves exactly where the device does.
@@ -433,3 +433,30 @@ halts_if tear at block None held old mid new stop t c b cut clock before faults 
     halts tear at block None held old mid new stop t b.keeps (changes_both (put_over (is_marked tear) at block) (λ p. p) old mid new t.goes b.keeps.goes c b.changes) cut clock before faults fits
 halts_if tear at block (Some pick) held old mid new stop t c b cut clock before faults fits =
     halts tear at block (Some pick) held old mid new stop t b.keeps (changes_both (put_over (is_marked tear) at block) (put_back at tear pick held) old mid new t.goes b.keeps.goes c b.changes) cut clock before faults fits
+
+-- ---- at the end
+
+pub tells_both : (d : State) (stop : Option Stop) (until left : ℕ) (starved : Bool) (held : List Held) → IsKept d stop until left starved held → TellsCrashes (stop_state until stop d) ↔ TellsCrashes d
+tells_both d None until left starved held k = (tells_in until None d, tells_before until d)
+tells_both d (Some s) until left starved held k = (tells_in until (Some s) d, tells_after until d s (k.stopped s refl))
+
+-- ---- at the making
+
+module _ (d over : State) (b : Begins d over) where
+  pub begins_tells : TellsCrashes d → TellsCrashes over
+  begins_tells t = record {
+    blocks = subst (λ (i : Image). length i ≡ over.blocks) (sym b.seen) (t.blocks ∙ sym b.blocks);
+    whole = λ k lk. subst (λ (i : Image). IsBlock (block_at i k)) (sym b.seen) (t.whole k (omega (arith, lk, b.blocks)));
+    sectors = λ k s lk ls. subst (λ (i : Image). over.may_hold over.clock k s (sector (block_at i k) s)) (sym b.seen)
+        ((b.may_hold t over.clock k s _).1 (subst (λ (n : ℕ). d.may_hold n k s (sector (block_at d.seen k) s)) (sym b.clock) (t.sectors k s (omega (arith, lk, b.blocks)) ls)));
+  }
+
+  pub begins_quiet : IsQuiet d → IsQuiet over
+  begins_quiet q = record {
+    tells = begins_tells q.tells;
+    within = record {
+      each = λ k s x lk ls h.
+          subst (λ (i : Image). x ≡ sector (block_at i k) s) (sym b.seen)
+          (q.within.each k s x (omega (arith, lk, b.blocks)) ls (subst (λ (n : ℕ). d.may_hold n k s x) b.clock ((b.may_hold q.tells over.clock k s x).0 h)));
+    };
+  }

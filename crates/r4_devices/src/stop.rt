@@ -1,7 +1,7 @@
 //! A device that stops.
 
-ghost use Rattle.std.specs.Prelude.{◌≡◌, ◌≤◌, ◌<◌, ◌+◌, ◌-◌, ◌^◌, [], min, true, false, if◌then◌else◌, None, Some, Err, is_ok, IsSome, IsErr, IfOk, IfErr};
-ghost use Rattle.r4_outside.specs.Device.{State, Counts, Reads, Writes, Syncs};
+ghost use Rattle.std.specs.Prelude.{◌≡◌, ◌↔◌, ◌≤◌, ◌<◌, ◌+◌, ◌-◌, ◌^◌, [], min, true, false, if◌then◌else◌, None, Some, Err, is_ok, IsSome, IsErr, IfOk, IfErr};
+ghost use Rattle.r4_outside.specs.Device.{State, TellsCrashes, Counts, Reads, Writes, Syncs};
 ghost use Rattle.r4_devices.specs.Stop.{StopView, stop_state, told, Begins, IsCovered, Refuses, Passes, Starves, Stops, after_fault, after_miss};
 
 use crate::held::hold;
@@ -83,6 +83,7 @@ impl<D: Device> StopDevice<D> {
     /// The device below. What a crash of it leaves is among what the calls of this one may leave.
     pub fn into_inner(self) -> D
         ensures device { result ≡ self.dev }
+        ensures tells { TellsCrashes (told D.state self) ↔ TellsCrashes (D.state self.dev) }
         ensures covered { IsCovered (D.state self.dev) (told D.state self) }
         ensures reached { IsSome self.stop → self.starved ≡ false → self.until ≤ (D.state self.dev).clock }
     {

@@ -1,7 +1,7 @@
 //! The blocks of a device, for a test.
 
-ghost use Rattle.std.specs.Prelude.{◌≡◌, ◌<◌, length};
-ghost use Rattle.r4_outside.specs.Device.{Goes};
+ghost use Rattle.std.specs.Prelude.{◌≡◌, ◌<◌, length, IfOk};
+ghost use Rattle.r4_outside.specs.Device.{Goes, TellsCrashes};
 ghost use Rattle.r4_outside.specs.Memory.{memory_state};
 
 use r4_base::{Block, BlockNo, Footer, Header, TxHead, get64, put64};
@@ -70,12 +70,22 @@ impl Image {
         Ok(())
     }
 
-    /// A device of these blocks.
+    /// A device of these blocks, which keeps no record.
     pub fn device(&self) -> Result<MemoryDevice, Fail> {
         let mut dev = MemoryDevice::plain(self.alloc, self.blocks.len() as u64)?;
         write_all(&mut dev, &self.blocks)?;
         dev.sync()?;
         Ok(dev)
+    }
+
+    /// The same device, which keeps a record and of which no call was made.
+    pub fn recorded(&self) -> Result<MemoryDevice, Fail>
+        ensures { IfOk result (λ d. TellsCrashes (memory_state d)) }
+    {
+        let mut dev = MemoryDevice::new(self.alloc, self.blocks.len() as u64)?;
+        write_all(&mut dev, &self.blocks)?;
+        dev.sync()?;
+        Ok(dev.crash(self.alloc, dev.clock(), 0)?)
     }
 
     /// The first block in which a device differs, if there is one.

@@ -183,6 +183,49 @@ fn all_stops<X: Abort>(rt: &X, alloc: Global, session: Session, writes: u64) -> 
     Ok(())
 }
 
+// Stops a replay. What it leaves, and what a crash then leaves of that, is replayed again, and ends as a whole replay.
+fn settles<X: Abort>(
+    rt: &X,
+    alloc: Global,
+    start: &Image,
+    whole: &Image,
+    stop: u64,
+    tear: u8,
+    pick: Option<u64>,
+) -> Result<(), Fail> {
+    let row = [stop, tear as u64, pick.unwrap_or(0)];
+    let Ok(mut dev) = StopDevice::new(alloc, start.recorded()?, stop, tear, pick) else {
+        return Err(Fail::from("no memory for the torn write"));
+    };
+    run(alloc, Session::Replay, &mut dev);
+    let mut dev = dev.into_inner();
+    for crash in 0..2u64 {
+        let mut crashed = dev.crash(alloc, dev.clock(), crash)?;
+        same(rt, &run(alloc, Session::Replay, &mut crashed), &true, &row);
+        same(rt, &whole.first_difference(&mut crashed)?, &None, &row);
+    }
+    same(rt, &run(alloc, Session::Replay, &mut dev), &true, &row);
+    same(rt, &whole.first_difference(&mut dev)?, &None, &row);
+    Ok(())
+}
+
+#[test]
+fn what_a_stopped_replay_leaves_settles(rt: HostRuntime) -> Result<(), Fail> {
+    let alloc = rt.alloc();
+    let start = logged(alloc)?;
+    let mut tape = Tape::new(alloc, start.device()?);
+    same(&rt, &run(alloc, Session::Replay, &mut tape), &true, &[]);
+    let whole = left(alloc, &start, &tape.into_calls(), 100, 0, None)?;
+    for stop in 0..9 {
+        for tear in &MASKS {
+            for pick in &PICKS {
+                settles(&rt, alloc, &start, &whole, stop, *tear, *pick)?;
+            }
+        }
+    }
+    Ok(())
+}
+
 #[test]
 fn mkfs_is_stopped_at_each_write(rt: HostRuntime) -> Result<(), Fail> {
     all_stops(&rt, rt.alloc(), Session::Mkfs, 8)
