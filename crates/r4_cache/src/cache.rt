@@ -65,7 +65,7 @@ impl Cache {
         ensures value { option_map (λ c. arc_value c) (option_copied result) ≡ cell_named id.0 self.old.entries }
     {
         self.use_now(id);
-        self.cells.peek(&id.0)
+        self.peek(id)
     }
 
     /// Sets a cell in front, in place of an entry of its name, and drops the last entry where more than `cap` stand. On
@@ -75,10 +75,8 @@ impl Cache {
         ensures err { OnErr result (self.new ≡ self.old) }
     {
         let _ = alloc;
-        // The list is within its bounds.
-        let _ = self.cells.len();
-        self.cells.put(cell.id().0, cell)?;
-        Ok(())
+        let id = cell.id();
+        self.set(id, cell)
     }
 
     /// Takes the entry of this name out, where there is one. It takes no memory.
@@ -88,10 +86,30 @@ impl Cache {
         self.cells.pop(&id.0);
     }
 
-    // Brings the entry of this name to the front.
+    // Brings the entry of this name to the front. It is found there as before.
     fn use_now(&mut self, id: NodeId)
-        ensures { self.new ≡ record self.old { entries = in_front id.0 self.old.entries } }
+        ensures front { self.new ≡ record self.old { entries = in_front id.0 self.old.entries } }
+        ensures found { cell_named id.0 self.new.entries ≡ cell_named id.0 self.old.entries }
     {
         self.cells.promote(&id.0);
+    }
+
+    // The cell of this name.
+    fn peek(&self, id: NodeId) -> Option<&Arc<Cell>>
+        ensures { option_map (λ c. arc_value c) (option_copied result) ≡ cell_named id.0 self.now.entries }
+    {
+        self.cells.peek(&id.0)
+    }
+
+    // Sets a cell in front, under its name.
+    fn set(&mut self, id: NodeId, cell: Arc<Cell>) -> Result<(), Memory>
+        requires { (arc_value cell).id ≡ id.0 }
+        ensures entries { OnOk result (self.new ≡ record self.old { entries = put_in self.old.cap (arc_value cell) self.old.entries }) }
+        ensures err { OnErr result (self.new ≡ self.old) }
+    {
+        // The list is within its bounds.
+        let _ = self.cells.len();
+        self.cells.put(id.0, cell)?;
+        Ok(())
     }
 }
