@@ -50,6 +50,19 @@ pub record StopView (D : Type 0) : Type 0 where
   -- the first moment at which the stop may come
   pub until : ℕ
 
+-- a device that was just made: so many writes pass
+abbrev pub stopped_after : {D : Type 0} → D → (clock stop tear : ℕ) → Option ℕ → StopView D
+stopped_after dev clock stop tear pick = record {
+  dev = dev;
+  left = stop;
+  tear = tear;
+  pick = pick;
+  held = [];
+  starved = false;
+  stop = None;
+  until = min (clock + stop) (2 ^ 64 - 1);
+}
+
 -- ---- what a stopped device keeps
 
 -- Each sector that is held back is possible now.
@@ -178,6 +191,11 @@ pub record Stops {D T E : Type 0} (state : D → State) (at : ℕ) (block : List
 -- what a stopped device tells
 abbrev pub told : {D : Type 0} → (D → State) → StopView D → State
 told state view = stop_state view.until view.stop (state view.dev)
+
+-- what is held back after a sync
+abbrev pub held_after : {T E : Type 0} → Result T E → List Held → List Held
+held_after (Ok v) held = []
+held_after (Err e) held = held
 
 -- Each image that a crash of the device may leave is one that a crash of the stopped device may leave, at the same moment or at its last one.
 pub record IsCovered (d over : State) : Type 0 where

@@ -35,7 +35,8 @@ pub fn hold<D: Calls>(
     requires held { All (HeldAt (D.state dev.old)) held.old.items }
     ensures idles { Idles (D.state dev.old) (D.state dev.new) }
     ensures held { All (HeldAt (D.state dev.new)) held.new.items }
-    ensures holds { Holds (is_wanted pick at.0 held.old.items) at.0 (D.state dev.old) held.old.items result held.new.items (D.state dev.new) }
+    ensures holds { let wanted = is_wanted pick at.0 held.old.items in
+        Holds wanted at.0 (D.state dev.old) held.old.items result held.new.items (D.state dev.new) }
 {
     if pick.is_none() || has(held, at.0) {
         return Ok(true);

@@ -24,7 +24,8 @@ pub fn skip_of(at: u64, tear: u8, other: u64) -> u8
 // One sector more: the mask of those that go back, and the number.
 fn pick(mask: u8, number: u64, skip: u8, s: u32) -> (u8, u64)
     requires { s < 8 }
-    ensures { (first : ℕ) → IsPickedTo s skip first mask number → IsPickedTo (s + 1) skip first result.0 result.1 }
+    ensures { (first : ℕ) → IsPickedTo s skip first mask number
+        → IsPickedTo (s + 1) skip first result.0 result.1 }
 {
     if (skip >> s) & 1 == 1 {
         return (mask, number);

@@ -1,8 +1,8 @@
 //! A device that stops.
 
-ghost use Rattle.std.specs.Prelude.{◌≡◌, ◌↔◌, ◌≤◌, ◌<◌, ◌+◌, ◌-◌, ◌^◌, [], min, true, false, if◌then◌else◌, None, Some, Err, is_ok, IsSome, IsErr, IfOk, IfErr};
+ghost use Rattle.std.specs.Prelude.{◌≡◌, ◌↔◌, ◌≤◌, ◌<◌, false, None, Some, IsSome, IfOk, IfErr};
 ghost use Rattle.r4_outside.specs.Device.{State, TellsCrashes, Counts, Reads, Writes, Syncs};
-ghost use Rattle.r4_devices.specs.Stop.{StopView, stop_state, told, Begins, IsCovered, Refuses, Passes, Starves, Stops, after_fault, after_miss};
+ghost use Rattle.r4_devices.specs.Stop.{StopView, stopped_after, held_after, told, Begins, IsCovered, Refuses, Passes, Starves, Stops, after_fault, after_miss};
 
 use crate::held::hold;
 use crate::torn::{Held, Stop, halt, stop_now};
@@ -43,7 +43,16 @@ impl<D: Device> Model for StopDevice<D> {
 
     ghost Value = { StopView D };
 
-    ghost view = { λ d. record { dev = d.dev; left = d.left; tear = d.tear; pick = d.pick; held = d.held.items; starved = d.starved; stop = d.stop; until = d.until } };
+    ghost view = { λ d. record {
+      dev = d.dev;
+      left = d.left;
+      tear = d.tear;
+      pick = d.pick;
+      held = d.held.items;
+      starved = d.starved;
+      stop = d.stop;
+      until = d.until;
+    } };
 
     ghost invariant = { λ d. IsKept (D.state d.dev) d.stop d.until d.left d.starved d.held.items };
 }
@@ -58,7 +67,7 @@ impl<D: Device> StopDevice<D> {
         tear: u8,
         pick: Option<u64>,
     ) -> Result<StopDevice<D>, Unmade<D>>
-        ensures made { IfOk result (λ d. d ≡ record { dev = dev; left = stop; tear = tear; pick = pick; held = []; starved = false; stop = None; until = min ((D.state dev).clock + stop) (2 ^ 64 - 1) }) }
+        ensures made { IfOk result (λ d. d ≡ stopped_after dev (D.state dev).clock stop tear pick) }
         ensures begins { IfOk result (λ d. Begins (D.state dev) (told D.state d)) }
         ensures back { IfErr result (λ e. e.dev ≡ dev) }
     {
@@ -129,7 +138,8 @@ impl<D: Device> Device for StopDevice<D> {
     fn read(&mut self, at: BlockNo, into: &mut Block) -> Result<(), Failed>
         requires { at.0 < (told D.state self.old).blocks }
         ensures reads { Reads at.0 into.new (told D.state self.old) result (told D.state self.new) }
-        ensures passes { self.old.stop ≡ None → Reads at.0 into.new (D.state self.old.dev) result (D.state self.new.dev) }
+        ensures passes { self.old.stop ≡ None
+            → Reads at.0 into.new (D.state self.old.dev) result (D.state self.new.dev) }
         ensures passed { self.old.stop ≡ None → self.new ≡ record self.old { dev = self.new.dev } }
         ensures stopped { (s : Stop) → self.old.stop ≡ Some s → Refuses (after_fault s) self.old result self.new }
     {
@@ -144,9 +154,12 @@ impl<D: Device> Device for StopDevice<D> {
         requires { at.0 < (told D.state self.old).blocks }
         ensures writes { Writes at.0 from.now (told D.state self.old) result (told D.state self.new) }
         ensures stopped { (s : Stop) → self.old.stop ≡ Some s → Refuses (after_miss s) self.old result self.new }
-        ensures passes { self.old.stop ≡ None → 0 < self.old.left → self.new.stop ≡ None → Passes D.state at.0 from.now self.old result self.new }
-        ensures starves { self.old.stop ≡ None → 0 < self.old.left → IsSome self.new.stop → Starves D.state at.0 self.old result self.new }
-        ensures stops { self.old.stop ≡ None → self.old.left ≡ 0 → Stops D.state at.0 from.now self.old result self.new }
+        ensures passes { self.old.stop ≡ None → 0 < self.old.left → self.new.stop ≡ None
+            → Passes D.state at.0 from.now self.old result self.new }
+        ensures starves { self.old.stop ≡ None → 0 < self.old.left → IsSome self.new.stop
+            → Starves D.state at.0 self.old result self.new }
+        ensures stops { self.old.stop ≡ None → self.old.left ≡ 0
+            → Stops D.state at.0 from.now self.old result self.new }
     {
         if let Some(stop) = self.stop {
             self.stop = Some(missed(stop));
@@ -178,7 +191,8 @@ impl<D: Device> Device for StopDevice<D> {
     fn sync(&mut self) -> Result<(), Failed>
         ensures syncs { Syncs (told D.state self.old) result (told D.state self.new) }
         ensures passes { self.old.stop ≡ None → Syncs (D.state self.old.dev) result (D.state self.new.dev) }
-        ensures passed { self.old.stop ≡ None → self.new ≡ record self.old { dev = self.new.dev; held = if is_ok result then [] else self.old.held } }
+        ensures passed { self.old.stop ≡ None
+            → self.new ≡ record self.old { dev = self.new.dev; held = held_after result self.old.held } }
         ensures stopped { (s : Stop) → self.old.stop ≡ Some s → Refuses (after_miss s) self.old result self.new }
     {
         if let Some(stop) = self.stop {

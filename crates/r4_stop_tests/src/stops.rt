@@ -16,6 +16,13 @@ use std::test::Fail;
 
 static MASKS: [u8; 5] = [0, 1, 85, 254, 255];
 
+// No session of these has so many writes.
+const WHOLE: Row = Row {
+    stop: 100,
+    tear: 0,
+    pick: None,
+};
+
 static PICKS: [Option<u64>; 3] = [None, Some(1), Some(2)];
 
 // What is stopped.
@@ -23,6 +30,14 @@ static PICKS: [Option<u64>; 3] = [None, Some(1), Some(2)];
 enum Session {
     Mkfs,
     Replay,
+}
+
+// Where it is stopped, and how.
+#[derive(Clone, Copy, Debug)]
+struct Row {
+    stop: u64,
+    tear: u8,
+    pick: Option<u64>,
 }
 
 // Runs it. Did it go well?
@@ -76,14 +91,14 @@ impl Course {
     }
 
     // Tears a write, and lets sectors go back.
-    fn stop(&mut self, at: u64, block: &Block, tear: u8, pick: Option<u64>) -> Result<(), Fail> {
-        let mut number = pick.unwrap_or(0);
+    fn stop(&mut self, at: u64, block: &Block, row: Row) -> Result<(), Fail> {
+        let mut number = row.pick.unwrap_or(0);
         for other in 0..64u64 {
             for s in 0..8u32 {
-                let torn = other == at && (tear >> s) & 1 == 1;
+                let torn = other == at && (row.tear >> s) & 1 == 1;
                 if torn {
                     self.now.put_sector(at, s as usize, block)?;
-                } else if pick.is_some() && self.written.contains(&other) {
+                } else if row.pick.is_some() && self.written.contains(&other) {
                     number = behind(number);
                     if number < 1 << 63 {
                         self.now
@@ -102,22 +117,23 @@ fn behind(number: u64) -> u64 {
         .wrapping_add(1442695040888963407)
 }
 
+// How many of the calls are writes.
+fn writes_of(calls: &[Call]) -> u64 {
+    calls
+        .iter()
+        .filter(|call| matches!(call, Call::Wrote(_, _)))
+        .count() as u64
+}
+
 // What these calls leave with a stop.
-fn left(
-    alloc: Global,
-    start: &Image,
-    calls: &[Call],
-    stop: u64,
-    tear: u8,
-    pick: Option<u64>,
-) -> Result<Image, Fail> {
+fn left(alloc: Global, start: &Image, calls: &[Call], row: Row) -> Result<Image, Fail> {
     let mut course = Course::new(alloc, start)?;
-    let mut passes = stop;
+    let mut passes = row.stop;
     for call in calls {
         match call {
             Call::Synced => course.sync()?,
             Call::Wrote(at, block) if passes == 0 => {
-                course.stop(*at, block, tear, pick)?;
+                course.stop(*at, block, row)?;
                 return Ok(course.now);
             }
             Call::Wrote(at, block) => {
@@ -130,7 +146,7 @@ fn left(
 }
 
 // An assertion is proved at each place where it stands, so there is one for all of them.
-fn same<T: PartialEq + Debug, X: Abort>(rt: &X, got: &T, wanted: &T, row: &[u64]) {
+fn same<T: PartialEq + Debug, X: Abort>(rt: &X, got: &T, wanted: &T, row: Row) {
     assert_eq!(rt; *got, *wanted, "{row:?}");
 }
 
@@ -141,24 +157,18 @@ fn is_stopped<X: Abort>(
     session: Session,
     start: &Image,
     calls: &[Call],
-    stop: u64,
-    tear: u8,
-    pick: Option<u64>,
+    row: Row,
 ) -> Result<(), Fail> {
-    let row = [stop, tear as u64, pick.unwrap_or(0)];
-    let Ok(mut dev) = StopDevice::new(alloc, start.device()?, stop, tear, pick) else {
+    let below = start.device()?;
+    let Ok(mut dev) = StopDevice::new(alloc, below, row.stop, row.tear, row.pick) else {
         return Err(Fail::from("no memory for the torn write"));
     };
-    let ends = calls
-        .iter()
-        .filter(|call| matches!(call, Call::Wrote(_, _)))
-        .count() as u64
-        <= stop;
-    same(rt, &run(alloc, session, &mut dev), &ends, &row);
-    same(rt, &dev.starved(), &false, &row);
-    let wanted = left(alloc, start, calls, stop, tear, pick)?;
+    let ends = writes_of(calls) <= row.stop;
+    same(rt, &run(alloc, session, &mut dev), &ends, row);
+    same(rt, &dev.starved(), &false, row);
+    let wanted = left(alloc, start, calls, row)?;
     let mut dev = dev.into_inner();
-    same(rt, &wanted.first_difference(&mut dev)?, &None, &row);
+    same(rt, &wanted.first_difference(&mut dev)?, &None, row);
     Ok(())
 }
 
@@ -166,17 +176,15 @@ fn is_stopped<X: Abort>(
 fn all_stops<X: Abort>(rt: &X, alloc: Global, session: Session, writes: u64) -> Result<(), Fail> {
     let start = logged(alloc)?;
     let mut tape = Tape::new(alloc, start.device()?);
-    same(rt, &run(alloc, session, &mut tape), &true, &[]);
+    same(rt, &run(alloc, session, &mut tape), &true, WHOLE);
     let calls = tape.into_calls();
-    let count = calls
-        .iter()
-        .filter(|call| matches!(call, Call::Wrote(_, _)))
-        .count() as u64;
-    same(rt, &count, &writes, &[]);
+    same(rt, &writes_of(&calls), &writes, WHOLE);
     for stop in 0..=writes {
         for tear in &MASKS {
             for pick in &PICKS {
-                is_stopped(rt, alloc, session, &start, &calls, stop, *tear, *pick)?;
+                let (tear, pick) = (*tear, *pick);
+                let row = Row { stop, tear, pick };
+                is_stopped(rt, alloc, session, &start, &calls, row)?;
             }
         }
     }
@@ -189,23 +197,21 @@ fn settles<X: Abort>(
     alloc: Global,
     start: &Image,
     whole: &Image,
-    stop: u64,
-    tear: u8,
-    pick: Option<u64>,
+    row: Row,
 ) -> Result<(), Fail> {
-    let row = [stop, tear as u64, pick.unwrap_or(0)];
-    let Ok(mut dev) = StopDevice::new(alloc, start.recorded()?, stop, tear, pick) else {
+    let below = start.recorded()?;
+    let Ok(mut dev) = StopDevice::new(alloc, below, row.stop, row.tear, row.pick) else {
         return Err(Fail::from("no memory for the torn write"));
     };
     run(alloc, Session::Replay, &mut dev);
     let mut dev = dev.into_inner();
     for crash in 0..2u64 {
         let mut crashed = dev.crash(alloc, dev.clock(), crash)?;
-        same(rt, &run(alloc, Session::Replay, &mut crashed), &true, &row);
-        same(rt, &whole.first_difference(&mut crashed)?, &None, &row);
+        same(rt, &run(alloc, Session::Replay, &mut crashed), &true, row);
+        same(rt, &whole.first_difference(&mut crashed)?, &None, row);
     }
-    same(rt, &run(alloc, Session::Replay, &mut dev), &true, &row);
-    same(rt, &whole.first_difference(&mut dev)?, &None, &row);
+    same(rt, &run(alloc, Session::Replay, &mut dev), &true, row);
+    same(rt, &whole.first_difference(&mut dev)?, &None, row);
     Ok(())
 }
 
@@ -214,12 +220,13 @@ fn what_a_stopped_replay_leaves_settles(rt: HostRuntime) -> Result<(), Fail> {
     let alloc = rt.alloc();
     let start = logged(alloc)?;
     let mut tape = Tape::new(alloc, start.device()?);
-    same(&rt, &run(alloc, Session::Replay, &mut tape), &true, &[]);
-    let whole = left(alloc, &start, &tape.into_calls(), 100, 0, None)?;
+    same(&rt, &run(alloc, Session::Replay, &mut tape), &true, WHOLE);
+    let whole = left(alloc, &start, &tape.into_calls(), WHOLE)?;
     for stop in 0..9 {
         for tear in &MASKS {
             for pick in &PICKS {
-                settles(&rt, alloc, &start, &whole, stop, *tear, *pick)?;
+                let (tear, pick) = (*tear, *pick);
+                settles(&rt, alloc, &start, &whole, Row { stop, tear, pick })?;
             }
         }
     }
