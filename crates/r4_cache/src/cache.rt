@@ -62,9 +62,7 @@ impl Cache {
     /// list stays as it is. It takes no memory.
     pub fn get(&mut self, id: NodeId) -> Option<&Arc<Cell>>
         ensures* front { sem 𝓛 (ends_as self.entry (in_front id.0 self.old.entries)) }
-        ensures value {
-            option_map (λ c. arc_value c) (option_copied result) ≡ cell_named id.0 self.old.entries
-        }
+        ensures value { option_map (λ c. arc_value c) (option_copied result) ≡ cell_named id.0 self.old.entries }
     {
         self.use_now(id);
         self.peek(id)
@@ -73,10 +71,8 @@ impl Cache {
     /// Sets a cell in front, in place of an entry of its name, and drops the last entry where more than `cap` stand. On
     /// `Memory` the list is as before.
     pub fn put(&mut self, alloc: Global, cell: Arc<Cell>) -> Result<(), Memory>
-        ensures entries {
-            let entries = put_in self.old.cap (arc_value cell) self.old.entries in
-            OnOk result (self.new ≡ record self.old { entries = entries })
-        }
+        ensures entries { let entries = put_in self.old.cap (arc_value cell) self.old.entries in
+            OnOk result (self.new ≡ record self.old { entries = entries }) }
         ensures err { OnErr result (self.new ≡ self.old) }
     {
         let _ = alloc;
@@ -101,9 +97,7 @@ impl Cache {
 
     // The cell of this name.
     fn peek(&self, id: NodeId) -> Option<&Arc<Cell>>
-        ensures {
-            option_map (λ c. arc_value c) (option_copied result) ≡ cell_named id.0 self.now.entries
-        }
+        ensures { option_map (λ c. arc_value c) (option_copied result) ≡ cell_named id.0 self.now.entries }
     {
         self.cells.peek(&id.0)
     }
@@ -111,10 +105,8 @@ impl Cache {
     // Sets a cell in front, under its name.
     fn set(&mut self, id: NodeId, cell: Arc<Cell>) -> Result<(), Memory>
         requires { (arc_value cell).id ≡ id.0 }
-        ensures entries {
-            let entries = put_in self.old.cap (arc_value cell) self.old.entries in
-            OnOk result (self.new ≡ record self.old { entries = entries })
-        }
+        ensures entries { let entries = put_in self.old.cap (arc_value cell) self.old.entries in
+            OnOk result (self.new ≡ record self.old { entries = entries }) }
         ensures err { OnErr result (self.new ≡ self.old) }
     {
         // The list is within its bounds.
