@@ -1,16 +1,16 @@
 -- Cells under their names.
-use Rattle.std.proofs.Common.{◌≡◌, inl, inr, ℕ, zero, suc, ◌+◌, ◌-◌, ◌<◌, ◌≤◌, Bool, true, false, cond, eqb, List, [], ◌∷◌, map, length, take, Option, None, Some, refl, sym, ◌∙◌, ap, subst, arith}
+use Rattle.std.proofs.Common.{◌≡◌, inl, inr, ℕ, zero, suc, ◌+◌, ◌-◌, ◌<◌, ◌≤◌, true, cond, eqb, List, [], ◌∷◌, map, length, take, Option, None, Some, refl, sym, ◌∙◌, ap, subst, arith}
 use Rattle.std.specs.Arc.{arc_value}
 use Rattle.std.specs.declared.sync.Arc.{Arc}
 use Rattle.std.specs.declared.alloc.Global.{Global}
-use Rattle.std.specs.List.{IsDistinct, find}
+use Rattle.std.specs.List.{IsDistinct}
 use Rattle.std.specs.Option.{option_map, option_map_or}
 use Rattle.std.specs.Map.{keys_of, lookup, lookup_entry, remove_entry}
 use Rattle.std.proofs.lemmas.Bool.{cases_Bool, eqb-true}
 use Rattle.std.proofs.lemmas.List.{take_all, take-map}
 use Rattle.lru.specs.LruCache.{LruCache, IsValid, promoted, put_entries}
 use Rattle.r4_cell.specs.Seen.{CellSeen}
-use Rattle.r4_cache.specs.Cached.{CacheSeen, Entry, cells_of, IsNamed, IsLawful, cell_named, without, front_or_all, in_front, put_in}
+use Rattle.r4_cache.specs.Cached.{Entry, cells_of, IsNamed, IsLawful, cell_named, without, front_or_all, in_front, put_in}
 
 -- ---- look-ups
 

@@ -4,7 +4,7 @@ ghost use Rattle.std.specs.Prelude.{◌≡◌};
 ghost use Rattle.r4_cache.specs.Cached.{in_front};
 
 use crate::Cache;
-use r4_base::{Block, NodeId};
+use r4_base::{Block, Memory, NodeId};
 use r4_cell::{Cell, least, read_cell, top};
 use std::alloc::Global;
 use std::process::Abort;
@@ -27,6 +27,16 @@ fn has(cache: &mut Cache, id: u64) -> bool
     cache.get(NodeId(id)).is_some()
 }
 
+// A further owner of the cell of this name, as a caller takes one out.
+fn share(cache: &mut Cache, id: u64) -> Result<Option<Arc<Cell>>, Memory>
+    ensures { cache.new ≡ record cache.old { entries = in_front id cache.old.entries } }
+{
+    match cache.get(NodeId(id)) {
+        Some(cell) => Ok(Some(Arc::try_clone(cell)?)),
+        None => Ok(None),
+    }
+}
+
 // The names of the entries that are there, of these.
 fn named<X: Abort>(rt: &X, cache: &mut Cache, names: &[u64], row: &[bool]) {
     for (name, there) in names.iter().zip(row) {
@@ -46,9 +56,11 @@ fn the_one_used_longest_ago_goes(rt: HostRuntime) -> Result<(), Fail> {
     cache.put(alloc, cell(alloc, 30)?)?;
     cache.put(alloc, cell(alloc, 33)?)?;
     named(&rt, &mut cache, &[32, 30, 33], &[false, true, true]);
+    let shared = share(&mut cache, 30)?;
     cache.drop_node(NodeId(30));
     named(&rt, &mut cache, &[30, 33], &[false, true]);
     same_len(&rt, &cache, 1);
+    assert_eq!(rt; shared.map(|cell| cell.id().0), Some(30));
     Ok(())
 }
 

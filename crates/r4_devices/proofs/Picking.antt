@@ -1,5 +1,5 @@
 -- The sectors of a block that go back.
-use Rattle.std.proofs.Common.{◌≡◌, ◌≢◌, inl, inr, ℕ, suc, ◌+◌, ◌*◌, ◌/◌, ◌%◌, ◌^◌, ◌<◌, ◌≤◌, max, Bool, true, false, not, ◌&&◌, eqb, ltb, refl, sym, ◌∙◌, ap, arith, add-one}
+use Rattle.std.proofs.Common.{◌≡◌, ◌≢◌, inl, inr, ℕ, ◌+◌, ◌*◌, ◌/◌, ◌%◌, ◌^◌, ◌<◌, ◌≤◌, true, false, eqb, refl, sym, ◌∙◌, ap, arith, add-one}
 use Rattle.std.specs.Prelude.{bit_and, bit_or}
 use Rattle.std.specs.Int.{bit_at}
 use Rattle.std.proofs.lemmas.Bool.{cases_eq, eq-eqb, ne_eqb, lt-ltb, le-ltb}
@@ -8,7 +8,7 @@ use Rattle.std.proofs.Math.Nat.{mod-eq_of_lt}
 use Rattle.std.proofs.Math.Pow.{pow-lt}
 use Rattle.r4_outside.specs.Crash.{next_number, number_after}
 use Rattle.r4_outside.specs.Mix.{is_marked}
-use Rattle.r4_devices.specs.Picks.{looked, goes_back, IsPickedTo}
+use Rattle.r4_devices.specs.Picks.{looked, IsPickedTo}
 
 pub none_picked : (skip first : ℕ) → IsPickedTo 0 skip first 0 first
 unfolding looked number_after

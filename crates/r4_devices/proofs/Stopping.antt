@@ -4,7 +4,7 @@ use Rattle.std.proofs.lemmas.Bool.{cases_eq, cases_lt, cases_Bool}
 use Rattle.std.proofs.lemmas.List.Elements.{All-append, All-take, All-drop, All-cons}
 use Rattle.std.specs.Prelude.{insert, is_some}
 use Rattle.r4_base.specs.Image.{Image, IsBlock, block_at, sector}
-use Rattle.r4_outside.specs.Device.{State, IsQuiet, TellsCrashes, TellsReads, Leaves, Goes, Counts, Reads, Writes, Syncs, Rose, next}
+use Rattle.r4_outside.specs.Device.{State, IsQuiet, TellsCrashes, Goes, Counts, Reads, Writes, Syncs, Rose, next}
 use Rattle.r4_outside.proofs.Moments.{goes_same, goes_both}
 use Rattle.r4_devices.specs.declared.torn.Stop.{Stop}
 use Rattle.r4_devices.specs.declared.torn.Held.{Held}

@@ -1,5 +1,5 @@
 -- What the stop's call leaves of the blocks, sector by sector.
-use Rattle.std.specs.Prelude.{◌≡◌, ◌⊎◌, ℕ, zero, suc, ◌+◌, ◌^◌, ◌<◌, ◌≤◌, Bool, true, false, not, ◌&&◌, ◌==◌, nat_lt, if◌then◌else◌, List, [], ◌∷◌, Option, None, Some}
+use Rattle.std.specs.Prelude.{◌≡◌, ◌⊎◌, ℕ, zero, suc, ◌+◌, ◌^◌, ◌<◌, ◌≤◌, Bool, false, not, ◌&&◌, ◌==◌, nat_lt, if◌then◌else◌, List, [], ◌∷◌, Option, None, Some}
 use Rattle.r4_base.specs.Image.{Image, block_at, sector}
 use Rattle.r4_outside.specs.Crash.{number_after}
 use Rattle.r4_outside.specs.Device.{State, HasSectors, Rose}

@@ -1,4 +1,4 @@
-use Rattle.std.proofs.Common.{◌∙◌, ap, sym, arith}
+use Rattle.std.proofs.Common.{◌∙◌, ap, sym}
 use Rattle.r4_devices.proofs.Stopping.{not_wanted, no_pick, held_already, held_more}
 use Rattle.r4_devices.specs.Stop.{is_held}
 use Rattle.r4_devices.proofs.held.hold.Goals as goal

@@ -1,4 +1,3 @@
-use Rattle.std.proofs.Common.{arith}
 use Rattle.r4_devices.proofs.Picking.{none_picked}
 use Rattle.r4_devices.proofs.picks.picks.Goals as goal
 

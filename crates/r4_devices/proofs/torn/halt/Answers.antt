@@ -1,5 +1,5 @@
-use Rattle.std.proofs.Common.{◌≡◌, Option, None, Some, sym, subst, arith}
-use Rattle.r4_devices.proofs.Stopping.{halts_if, PutsBack, nothing_back, some_back}
+use Rattle.std.proofs.Common.{arith}
+use Rattle.r4_devices.proofs.Stopping.{halts_if, nothing_back, some_back}
 use Rattle.r4_devices.proofs.torn.halt.Goals as goal
 use Rattle.r4_devices.proofs.torn.halt.Goals.{in-Some, in_default}
 

@@ -2,7 +2,7 @@ use Rattle.std.proofs.Common.{◌≡◌, ◌+◌, ◌∷◌, drop, sym, ◌∙�
 use Rattle.std.proofs.lemmas.List.{drop_more, drop_all}
 use Rattle.r4_devices.specs.declared.torn.Held.{Held}
 use Rattle.r4_devices.proofs.Changing.{none_back, one_back, all_back}
-use Rattle.r4_devices.proofs.Stopping.{keeps_same, keeps_both, held_on}
+use Rattle.r4_devices.proofs.Stopping.{keeps_same, keeps_both}
 use Rattle.r4_devices.proofs.torn.put_all_back.Goals as goal
 
 pub loop-block-init : goal.loop-block-init

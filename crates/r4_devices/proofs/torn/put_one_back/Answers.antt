@@ -1,7 +1,3 @@
-use Rattle.std.proofs.Common.{subst, sym}
-use Rattle.r4_outside.specs.Device.{State}
-use Rattle.r4_outside.specs.Mix.{is_marked}
-use Rattle.r4_devices.specs.Picks.{Changes, put_over}
 use Rattle.r4_devices.proofs.Changing.{torn_by_none, changes_write, changes_rose}
 use Rattle.r4_devices.proofs.Stopping.{keeps_same, keeps_idle, keeps_write, idles_read}
 use Rattle.r4_devices.proofs.torn.put_one_back.Goals as goal

@@ -1,5 +1,5 @@
 use Rattle.std.proofs.Common.{◌∙◌, ap}
-use Rattle.r4_cache.specs.Cached.{CacheSeen, cell_named, cells_of}
+use Rattle.r4_cache.specs.Cached.{cell_named, cells_of}
 use Rattle.r4_cache.proofs.Caching.{front, named_front, still_found}
 use Rattle.r4_cache.proofs.cache.Cache.use_now.Goals as goal
 

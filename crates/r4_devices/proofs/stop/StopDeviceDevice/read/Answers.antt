@@ -1,4 +1,4 @@
-use Rattle.std.proofs.Common.{◌≡◌, ◌<◌, refl, sym, subst, arith}
+use Rattle.std.proofs.Common.{◌<◌, sym, subst}
 use Rattle.r4_devices.specs.Stop.{StopView}
 use Rattle.r4_devices.proofs.Stopping.{pass_reads, kept_pass, idles_read, none_of}
 use Rattle.r4_devices.proofs.stop.StopDeviceDevice.read.Goals as goal

@@ -1,7 +1,6 @@
-use Rattle.std.proofs.Common.{◌≡◌, ◌<◌, refl, inl, inr, sym, subst, None, Option, Some, arith}
+use Rattle.std.proofs.Common.{◌≡◌, ◌<◌, refl, inl, inr, sym, subst, None, arith}
 use Rattle.std.specs.declared.alloc.AllocError.{AllocError}
 use Rattle.r4_outside.specs.declared.device.Failed.{Failed}
-use Rattle.r4_devices.specs.declared.torn.Stop.{Stop}
 use Rattle.r4_devices.specs.Stop.{StopView}
 use Rattle.r4_devices.proofs.Stopping.{halt_writes_as, idles_same, none_of, pass_writes_as, idle_writes, fail_writes, holds_kept, holds_unread}
 use Rattle.r4_devices.proofs.stop.StopDeviceDevice.write.Goals as goal
