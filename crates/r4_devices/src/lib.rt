@@ -1,13 +1,14 @@
-//! Devices that stand over others.
+//! A device that stops, over any other, and a file as a device.
 #![tactic(auto)]
 
 mod calls;
+mod file;
 mod held;
-mod mix;
 mod picks;
 mod stop;
 mod torn;
 
+pub use file::FileDevice;
 pub use stop::{StopDevice, Unmade};
 
 #[cfg(test)]

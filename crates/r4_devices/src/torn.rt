@@ -5,9 +5,9 @@ ghost use Rattle.r4_outside.specs.Mix.{is_marked};
 ghost use Rattle.r4_devices.specs.Picks.{Changes, put_over, put_back};
 
 use crate::calls::Calls;
-use crate::mix::mix;
 use crate::picks::{picks, skip_of};
 use r4_base::{Block, BlockNo};
+use r4_outside::mix;
 
 /// The device's clock right after the torn write, and what the stopped device counts from then on.
 #[derive(Clone, Copy)]

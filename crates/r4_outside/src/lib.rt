@@ -6,15 +6,17 @@ mod failing;
 mod gate;
 mod memory;
 mod memory_text;
-mod mix;
 mod run;
+mod sectors;
 mod sink;
 mod source;
 
 pub use device::{Device, Failed};
+pub use failing::missed;
 pub use gate::{Gate, OpenGate};
 pub use memory::MemoryDevice;
 pub use memory_text::{MemorySink, MemorySource};
 pub use run::{Named, NamedNew, Run, Unnamed};
+pub use sectors::mix;
 pub use sink::Sink;
 pub use source::Source;

@@ -7,7 +7,7 @@ ghost use Rattle.r4_outside.specs.Crash.{IsPicked, IsRedone, mask_of, next_numbe
 ghost use Rattle.r4_outside.specs.Record.{IsWhole, image_after, is_till};
 
 use crate::failing::{counted, missed};
-use crate::mix::mix;
+use crate::sectors::mix;
 use crate::{Device, Failed};
 use r4_base::{Block, BlockNo, Memory};
 use std::alloc::Global;

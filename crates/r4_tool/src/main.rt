@@ -1,13 +1,11 @@
 //! `r4_tool`: the storage core's program (docs/program.md).
 #![tactic(auto)]
 
-mod counts;
-mod file;
 mod streams;
 #[cfg(test)]
 mod tests;
 
-use file::FileDevice;
+use r4_devices::FileDevice;
 use r4_outside::{OpenGate, Sink, Unnamed};
 use r4_top::{Status, r4_main};
 use std::process::ExitCode;

@@ -2,8 +2,7 @@
 
 ghost use Rattle.std.specs.Prelude.{◌≡◌};
 
-use crate::counts::missed;
-use r4_outside::{Failed, Sink, Source};
+use r4_outside::{Failed, Sink, Source, missed};
 use std::io::Read;
 
 /// What a reader gives.

@@ -1,7 +1,7 @@
 //! A file as a device.
 
-use crate::file::FileDevice;
 use r4_base::{Block, BlockNo};
+use r4_devices::FileDevice;
 use r4_outside::{Device, Failed};
 use std::test::Fail;
 use std::{fs, process};

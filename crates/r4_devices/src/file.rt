@@ -1,10 +1,10 @@
 //! An image in a file: the edge where what is proved meets the system.
 
-ghost use Rattle.std.specs.Prelude.{◌*◌, ◌<◌, ◌^◌, ◌≡◌, ◌≤◌, ◌-◌, IsTrue, min, ◌+◌};
+ghost use Rattle.std.specs.Prelude.{◌*◌, ◌<◌, ◌^◌, ◌≡◌, ◌≤◌, ◌-◌, false};
+ghost use Rattle.r4_outside.specs.Device.{next};
 
-use crate::counts::{missed, tick};
-use r4_base::{Block, BlockNo};
-use r4_outside::{Device, Failed};
+use r4_base::{BLOCK_BYTES, Block, BlockNo};
+use r4_outside::{Device, Failed, missed};
 use std::fs::{OpenFile, OpenOptions};
 use std::io;
 use std::io::{Read, Seek, SeekFrom, Write};
@@ -22,12 +22,14 @@ pub struct FileDevice<F: Read + Write + Seek + OpenFile + Drop> {
 }
 
 impl<F: Read + Write + Seek + OpenFile + Drop> FileDevice<F> {
-    /// The file of that name, for reading and writing. It is not made where there is none.
-    pub fn open<X: Files<File = F>>(rt: &X, name: &str) -> FileDevice<F> {
+    /// The file of that name, for reading and writing. It is not made where there is none. No call is counted yet.
+    pub fn open<X: Files<File = F>>(rt: &X, name: &str) -> FileDevice<F>
+        ensures { (result.clock ≡ 0) × (result.faults ≡ 0) }
+    {
         match opened(rt, name) {
             Ok((file, bytes)) => FileDevice {
                 file: Some(file),
-                blocks: bytes / 4096,
+                blocks: bytes / BLOCK_BYTES,
                 clock: 0,
                 faults: 0,
             },
@@ -48,22 +50,35 @@ fn opened<X: Files>(rt: &X, name: &str) -> io::Result<(X::File, u64)> {
     Ok((file, bytes))
 }
 
+// Lets the clock rise by one. At its end it stands, and `false` says that nothing may be touched.
+fn tick(clock: &mut u64) -> bool
+    ensures next { clock.new ≡ next clock.old }
+    ensures no_less { clock.old ≤ clock.new }
+    ensures over { clock.old ≡ 2 ^ 64 - 1 → result ≡ false }
+{
+    if *clock == u64::MAX {
+        return false;
+    }
+    *clock += 1;
+    true
+}
+
 fn read_block<F: Read + Seek>(file: &mut F, at: BlockNo, into: &mut Block) -> io::Result<()>
     requires { at.0 * 4096 < 2 ^ 64 }
 {
-    file.seek(SeekFrom::Start(at.0 * 4096))?;
+    file.seek(SeekFrom::Start(at.0 * BLOCK_BYTES))?;
     file.read_exact(into.bytes_mut())
 }
 
 fn write_block<F: Write + Seek>(file: &mut F, at: BlockNo, from: &Block) -> io::Result<()>
     requires { at.0 * 4096 < 2 ^ 64 }
 {
-    file.seek(SeekFrom::Start(at.0 * 4096))?;
+    file.seek(SeekFrom::Start(at.0 * BLOCK_BYTES))?;
     file.write_all(from.bytes())
 }
 
 impl<F: Read + Write + Seek + OpenFile + Drop + Send> Device for FileDevice<F> {
-    ghost use Rattle.r4_tool.specs.Edge.{file_state};
+    ghost use Rattle.r4_devices.specs.File.{file_state};
 
     ghost state = { λ d. file_state d.blocks d.clock d.faults };
 

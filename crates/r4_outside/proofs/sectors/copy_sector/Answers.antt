@@ -1,6 +1,6 @@
 use Rattle.std.proofs.Common.{refl, ◌+◌, ◌*◌, ◌-◌, ℕ, take, drop, ap, ◌∙◌, arith}
 use Rattle.r4_outside.proofs.Mixing.{copies}
-use Rattle.r4_devices.proofs.mix.copy_sector.Goals as goal
+use Rattle.r4_outside.proofs.sectors.copy_sector.Goals as goal
 
 pub returns : goal.returns
 returns c =
