@@ -1,2 +1,3 @@
 pub mod ForestLaws
 pub mod OwnedLaws
+pub mod AtomLaws

@@ -58,6 +58,13 @@ impl Forest {
         self.links.len() as u32
     }
 
+    /// For how many more numbers there is room.
+    pub fn spare(&self) -> u64
+        ensures { result ≡ self.now.spare }
+    {
+        self.spare
+    }
+
     /// What holds of all names. It does nothing.
     pub fn lawful(&self)
         ensures few { length self.now.names < 2 ^ 32 }

@@ -1,6 +1,6 @@
 //! A table from nodes to labels, in which an entry is moved without memory.
 
-ghost use Rattle.std.specs.Prelude.{◌≡◌, ◌≢◌, ℕ, ◌+◌, ◌-◌, ◌^◌, ◌<◌, ◌≤◌, ◌∷◌, ◌++◌, ◌==◌, [], length, max, map, filter, not, if◌then◌else◌, IsSome, IfOk, OnOk, OnErr, vec_len, vec_capacity};
+ghost use Rattle.std.specs.Prelude.{◌≡◌, ◌≢◌, ℕ, ◌+◌, ◌-◌, ◌^◌, ◌<◌, ◌≤◌, ◌∷◌, ◌++◌, ◌==◌, [], length, max, map, filter, not, if◌then◌else◌, IsOk, IsSome, IfOk, OnOk, OnErr, vec_len, vec_capacity};
 ghost use Rattle.std.specs.Map.{keys_of};
 ghost use Rattle.r4_atoms.specs.Owned.{is_of, label_of, pair_of, pairs_of};
 
@@ -109,6 +109,7 @@ impl Owners {
     pub fn room(&mut self, nodes: u64) -> Result<(), Memory>
         ensures entries { (n : ℕ) → label_of n self.new.entries ≡ label_of n self.old.entries }
         ensures ok { OnOk result (self.new.spare ≡ max self.old.spare nodes) }
+        ensures succeeds { nodes ≤ self.old.spare → IsOk result }
         ensures err { OnErr result (self.new ≡ self.old) }
     {
         if self.spare < nodes {
