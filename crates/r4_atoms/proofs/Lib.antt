@@ -1,3 +1,4 @@
 pub mod ForestLaws
 pub mod OwnedLaws
 pub mod AtomLaws
+pub mod KeptLaws

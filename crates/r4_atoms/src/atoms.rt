@@ -207,7 +207,7 @@ impl Atoms {
     pub fn fuse(&mut self, one: AtomNo, two: AtomNo) -> AtomNo
         requires one { IsOpenAtom self.old one.0 }
         requires two { IsOpenAtom self.old two.0 }
-        requires sums { FitTogether (account_of self.old one.0) (account_of self.old two.0) }
+        requires sums { one.0 ≢ two.0 → FitTogether (account_of self.old one.0) (account_of self.old two.0) }
         ensures kept { result.0 ≡ min one.0 two.0 }
         ensures txns { self.new.txns ≡ map (renamed_txn (min one.0 two.0) (max one.0 two.0)) self.old.txns }
         ensures owners { (n : ℕ) → owner_of self.new n ≡ option_map (renamed (min one.0 two.0) (max one.0 two.0)) (owner_of self.old n) }
