@@ -6,7 +6,8 @@ use Rattle.r4_atoms.specs.declared.things.AtomState.{AtomState}
 use Rattle.r4_atoms.specs.declared.things.Row.{Row}
 use Rattle.r4_atoms.specs.Names.{AreNames, renamed}
 use Rattle.r4_atoms.specs.Owned.{label_of}
-use Rattle.r4_atoms.specs.Atoms.{AreKept, atom_of, AtomsSeen, is_open_in, IsAtom, IsBegun, new_atom, no_row, no_txn, owner_by, owner_of, row_at, state_at, state_of, txn_of, txn_seen, txns_of, TxnSeen}
+use Rattle.r4_atoms.specs.Atoms.{AreKept, atom_of, AtomsSeen, is_open_in, IsAtom, IsBegun, new_atom, no_row, no_txn, owner_by, owner_of, row_at, state_at, state_of, txn_of, txn_seen, txns_of, TxnSeen, without_owner}
+use Rattle.std.specs.Option.{option_map}
 
 pub length-txns : (rows : List Row) (names : List ℕ) → length rows ≡ length names → length (txns_of rows names) ≡ length names
 length-txns [] [] e = refl
@@ -43,8 +44,13 @@ txns-set_unseen (r ∷ rows) [] (suc i) row a b = refl
 txns-set_unseen (r ∷ rows) (n ∷ names) zero row a b = rw (a, b) refl
 txns-set_unseen (r ∷ rows) (n ∷ names) (suc i) row a b = ap (λ (ts : List TxnSeen). txn_seen r n ∷ ts) (txns-set_unseen rows names i row a b)
 
+-- the owner by the label of a node
+abbrev pub raw_owner : List ℕ → List AtomState → Option ℕ → Option ℕ
+raw_owner names states None = None
+raw_owner names states (Some t) = cond (state_at states (get_or names (t - 1) 0)).cleaned None (Some (get_or names (t - 1) 0 + 1))
+
 module _ (names : List ℕ) (rows : List Row) (states : List AtomState) (entries : List (ℕ × ℕ)) (low spare txn_spare : ℕ) (kept : AreKept names rows states entries low)
-  (s : AtomsSeen) (seen : (record { txns = txns_of rows names; atoms = states; captured = entries; spare = spare; txn_spare = txn_spare }) ≡ s) where
+    (s : AtomsSeen) (seen : (record { txns = txns_of rows names; atoms = states; captured = entries; spare = spare; txn_spare = txn_spare }) ≡ s) where
   pub length-seen : length s.txns ≡ length names
   length-seen = ap (λ (a : AtomsSeen). length a.txns) (sym seen) ∙ length-txns rows names kept.same_rows
 
@@ -75,3 +81,105 @@ module _ (names : List ℕ) (rows : List Row) (states : List AtomState) (entries
 
   pub owner_not_found : (node : ℕ) → label_of node entries ≡ None → owner_of s node ≡ None
   owner_not_found node none = ap (λ (a : AtomsSeen). owner_by s (label_of node a.captured)) (sym seen) ∙ ap (owner_by s) none
+
+  pub owner_raw : (node : ℕ) → owner_of s node ≡ raw_owner names states (label_of node entries)
+  owner_raw node = by_label (label_of node entries) refl
+    where
+      by_label : (o : Option ℕ) → label_of node entries ≡ o → owner_of s node ≡ raw_owner names states (label_of node entries)
+      by_label None none = owner_not_found node none ∙ ap (raw_owner names states) (sym none)
+      by_label (Some t) found = owner_found node t found ∙ ap (raw_owner names states) (sym found)
+
+  -- an atom that is not cleaned owns what is labelled with it
+  pub own_label : (a : ℕ) → IsAtom s a → (state_at states (a - 1)).cleaned ≡ false → raw_owner names states (Some a) ≡ Some a
+  own_label a atom clean =
+      let name = sym (atom_is a atom.begun) ∙ atom.own in
+      let some = atom.begun.some in
+      let index : get_or names (a - 1) 0 ≡ a - 1 = omega arith in
+      let not_clean : (state_at states (get_or names (a - 1) 0)).cleaned ≡ false = ap (λ (k : ℕ). (state_at states k).cleaned) index ∙ clean in
+      rw not_clean (ap (λ (k : ℕ). Some k) name)
+
+  -- the place of an atom's name is its own name
+  pub own_name : (a : ℕ) → IsAtom s a → get_or names (a - 1) 0 ≡ a - 1
+  own_name a atom = let name = sym (atom_is a atom.begun) ∙ atom.own in let some = atom.begun.some in omega arith
+
+  pub unsealed_at : (a : ℕ) → (state_of s a).sealed ≡ false → (state_at states (a - 1)).sealed ≡ false
+  unsealed_at a open_atom = ap (λ (st : AtomState). st.sealed) (sym (state_is a)) ∙ open_atom
+
+  -- an owner is an atom, and not cleaned
+  pub owner_begun : (node a : ℕ) → owner_of s node ≡ Some a → (0 < a) × (a - 1 < length names) × (get_or names (a - 1) 0 ≡ a - 1) × ((state_at states (a - 1)).cleaned ≡ false)
+  owner_begun node a owned = by_label (label_of node entries) refl
+    where
+      by_label : (o : Option ℕ) → label_of node entries ≡ o → (0 < a) × (a - 1 < length names) × (get_or names (a - 1) 0 ≡ a - 1) × ((state_at states (a - 1)).cleaned ≡ false)
+      by_label None none = let e = sym owned ∙ owner_not_found node none in absurd (cc)
+      by_label (Some t) found =
+          let e = sym owned ∙ owner_found node t found in
+          let b = kept.begun node t found in
+          let within : t - 1 < length names = omega arith in
+          let least = kept.named.least (t - 1) within in
+          let own = kept.named.own (t - 1) within in
+          elim (cases_Bool (state_at states (get_or names (t - 1) 0)).cleaned) [
+            | inl gone ↦ let bad : Some a ≡ None = rw gone at e in absurd (cc)
+            | inr stays ↦
+                let same : Some a ≡ Some (get_or names (t - 1) 0 + 1) = rw stays at e in
+                let is : a ≡ get_or names (t - 1) 0 + 1 = cc in
+                let index : a - 1 ≡ get_or names (t - 1) 0 = omega arith in
+                (omega arith, omega arith, ap (λ (k : ℕ). get_or names k 0) index ∙ own ∙ sym index, ap (λ (k : ℕ). (state_at states k).cleaned) index ∙ stays)
+          ]
+
+-- ---- owners after a change of the atoms
+
+pub raw_more : (names : List ℕ) (states : List AtomState) (n : ℕ) (o : Option ℕ) → length states ≡ length names → AreNames names → ((t : ℕ) → o ≡ Some t → (0 < t) × (t ≤ length names))
+    → raw_owner (names ++ n ∷ []) (states ++ new_atom ∷ []) o ≡ raw_owner names states o
+raw_more names states n None long named begun = refl
+raw_more names states n (Some t) long named begun =
+    let b = begun t refl in
+    let inside : t - 1 < length names = omega arith in
+    let least = named.least (t - 1) inside in
+    let name : get_or (names ++ n ∷ []) (t - 1) 0 ≡ get_or names (t - 1) 0 = get_or_append_left names _ 0 (t - 1) inside in
+    let state : state_at (states ++ new_atom ∷ []) (get_or names (t - 1) 0) ≡ state_at states (get_or names (t - 1) 0) = get_or_append_left states _ new_atom (get_or names (t - 1) 0) (omega arith) in
+    ap (λ (k : ℕ). cond (state_at (states ++ new_atom ∷ []) k).cleaned None (Some (k + 1))) name ∙ ap (λ (st : AtomState). cond st.cleaned None (Some (get_or names (t - 1) 0 + 1))) state
+
+pub raw_joined : (names : List ℕ) (states states' : List AtomState) (to from : ℕ) (o : Option ℕ) → ((i : ℕ) → (state_at states' i).cleaned ≡ (state_at states i).cleaned) → (state_at states to).cleaned ≡ false → (state_at states from).cleaned ≡ false
+    → ((t : ℕ) → o ≡ Some t → (0 < t) × (t ≤ length names)) → raw_owner (map (renamed to from) names) states' o ≡ option_map (renamed (to + 1) (from + 1)) (raw_owner names states o)
+raw_joined names states states' to from None same clean_to clean_from begun = refl
+raw_joined names states states' to from (Some t) same clean_to clean_from begun =
+    let b = begun t refl in
+    let inside : t - 1 < length names = omega arith in
+    let j : ℕ = get_or names (t - 1) 0 in
+    let name : get_or (map (renamed to from) names) (t - 1) 0 ≡ renamed to from j = get_or-map (renamed to from) names (t - 1) 0 0 inside in
+    ap (λ (k : ℕ). cond (state_at states' k).cleaned None (Some (k + 1))) name ∙ elim (cases_eq j from) [
+      | inl hit ↦
+          let r : renamed to from j ≡ to = rw (eq-eqb j from hit) refl in
+          let r' : renamed (to + 1) (from + 1) (j + 1) ≡ to + 1 = rw (eq-eqb (j + 1) (from + 1) (ap (λ (k : ℕ). k + 1) hit)) refl in
+          let clean : (state_at states' to).cleaned ≡ false = same to ∙ clean_to in
+          let clean_j : (state_at states j).cleaned ≡ false = ap (λ (k : ℕ). (state_at states k).cleaned) hit ∙ clean_from in
+          ap (λ (k : ℕ). cond (state_at states' k).cleaned None (Some (k + 1))) r ∙ ap (λ (x : Bool). cond x None (Some (to + 1))) clean
+          ∙ sym (ap (λ (x : Bool). option_map (renamed (to + 1) (from + 1)) (cond x None (Some (j + 1)))) clean_j ∙ ap (λ (k : ℕ). Some k) r')
+      | inr miss ↦
+          let r : renamed to from j ≡ j = rw (ne_eqb j from miss) refl in
+          let r' : renamed (to + 1) (from + 1) (j + 1) ≡ j + 1 = rw (ne_eqb (j + 1) (from + 1) (λ e. miss (omega arith))) refl in
+          ap (λ (k : ℕ). cond (state_at states' k).cleaned None (Some (k + 1))) r ∙ ap (λ (x : Bool). cond x None (Some (j + 1))) (same j)
+          ∙ elim (cases_Bool (state_at states j).cleaned) [
+            | inl gone ↦ ap (λ (x : Bool). cond x None (Some (j + 1))) gone ∙ sym (ap (λ (x : Bool). option_map (renamed (to + 1) (from + 1)) (cond x None (Some (j + 1)))) gone)
+            | inr stays ↦ ap (λ (x : Bool). cond x None (Some (j + 1))) stays ∙ sym (ap (λ (x : Bool). option_map (renamed (to + 1) (from + 1)) (cond x None (Some (j + 1)))) stays ∙ ap (λ (k : ℕ). Some k) r')
+          ]
+    ]
+
+pub raw_cleaned : (names : List ℕ) (states : List AtomState) (at : ℕ) (st : AtomState) (o : Option ℕ) → at < length states → st.cleaned ≡ true → raw_owner names (set states at st) o ≡ without_owner (at + 1) (raw_owner names states o)
+raw_cleaned names states at st None within clean = refl
+raw_cleaned names states at st (Some t) within clean =
+    let j : ℕ = get_or names (t - 1) 0 in
+    elim (cases_eq j at) [
+      | inl hit ↦
+          let now : (state_at (set states at st) j).cleaned ≡ true = ap (λ (k : ℕ). (state_at (set states at st) k).cleaned) hit ∙ ap (λ (x : AtomState). x.cleaned) (get_or-set_same states at st new_atom within) ∙ clean in
+          ap (λ (x : Bool). cond x None (Some (j + 1))) now ∙ sym (elim (cases_Bool (state_at states j).cleaned) [
+            | inl gone ↦ ap (λ (x : Bool). without_owner (at + 1) (cond x None (Some (j + 1)))) gone
+            | inr stays ↦ ap (λ (x : Bool). without_owner (at + 1) (cond x None (Some (j + 1)))) stays ∙ ap (λ (x : Bool). cond x None (Some (j + 1))) (eq-eqb (j + 1) (at + 1) (ap (λ (k : ℕ). k + 1) hit))
+          ])
+      | inr miss ↦
+          let now : (state_at (set states at st) j).cleaned ≡ (state_at states j).cleaned = ap (λ (x : AtomState). x.cleaned) (get_or-set_other states at j st new_atom miss) in
+          ap (λ (x : Bool). cond x None (Some (j + 1))) now ∙ sym (elim (cases_Bool (state_at states j).cleaned) [
+            | inl gone ↦ ap (λ (x : Bool). without_owner (at + 1) (cond x None (Some (j + 1)))) gone ∙ sym (ap (λ (x : Bool). cond x None (Some (j + 1))) gone)
+            | inr stays ↦ ap (λ (x : Bool). without_owner (at + 1) (cond x None (Some (j + 1)))) stays ∙ ap (λ (x : Bool). cond x None (Some (j + 1))) (ne_eqb (j + 1) (at + 1) (λ e. miss (omega arith))) ∙ sym (ap (λ (x : Bool). cond x None (Some (j + 1))) stays)
+          ])
+    ]

@@ -148,6 +148,17 @@ count_none a (t ∷ ts) others =
     let here = worth_other a t (others 0 (omega arith)) in
     omega (arith, count_cons a t ts, later, here)
 
+-- nor where none of the atom is open
+count_closed : (a : ℕ) (ts : List TxnSeen) → ((i : ℕ) → i < length ts → (get_or ts i no_txn).atom ≡ a → (get_or ts i no_txn).is_open ≡ true → ⊥) → count a ts ≡ 0
+count_closed a [] none = count_nil a
+count_closed a (t ∷ ts) none =
+    let later = count_closed a ts (λ i within. none (suc i) (omega arith)) in
+    let here : worth a t ≡ 0 = elim (cases_eq t.atom a) [
+      | inl mine ↦ elim (cases_Bool t.is_open) [ inl aye ↦ absurd (none 0 (omega arith) mine aye) | inr nay ↦ worth_ended a t nay ]
+      | inr other ↦ worth_other a t other
+    ] in
+    omega (arith, count_cons a t ts, later, here)
+
 -- ---- two atoms that become one count together
 
 moved_txn : (kept gone : ℕ) (t : TxnSeen) → t.atom ≡ gone → (renamed_txn kept gone t).atom ≡ kept
@@ -269,18 +280,18 @@ module _ (names : List ℕ) (rows : List Row) (states : List AtomState) (entries
         same_rows = length-ended rows at name ∙ kept.same_rows;
         same_states = kept.same_states;
         counted = λ i inside.
-          let was_counted = kept.counted i inside ∙ sym (count_is (i + 1) ts) in
-          let open_now : (row_at (ended rows at name) i).open_txns ≡ count (i + 1) (set ts at now) = elim (cases_eq i name) [
-            | inl here ↦
-                let less = count_ended (i + 1) ts at (omega arith) opened now refl (mine ∙ ap (λ (k : ℕ). k + 1) (sym here)) in
-                let row = ap (λ (k : ℕ). (row_at (ended rows at name) k).open_txns) here ∙ row_name ∙ ap (λ (k : ℕ). (row_at rows k).open_txns - 1) (sym here) in
-                omega (arith, less, row, was_counted)
-            | inr there ↦
-                let same = count_ended_other (i + 1) ts at (omega arith) now refl (λ e. there (let h : name + 1 ≡ i + 1 = sym mine ∙ e in omega arith)) in
-                let row = row_other i there in
-                omega (arith, same, row, was_counted)
-          ] in
-          open_now ∙ sym (ap (count (i + 1)) txns_ended) ∙ count_is (i + 1) (txns_of (ended rows at name) names);
+            let was_counted = kept.counted i inside ∙ sym (count_is (i + 1) ts) in
+            let open_now : (row_at (ended rows at name) i).open_txns ≡ count (i + 1) (set ts at now) = elim (cases_eq i name) [
+              | inl here ↦
+                  let less = count_ended (i + 1) ts at (omega arith) opened now refl (mine ∙ ap (λ (k : ℕ). k + 1) (sym here)) in
+                  let row = ap (λ (k : ℕ). (row_at (ended rows at name) k).open_txns) here ∙ row_name ∙ ap (λ (k : ℕ). (row_at rows k).open_txns - 1) (sym here) in
+                  omega (arith, less, row, was_counted)
+              | inr there ↦
+                  let same = count_ended_other (i + 1) ts at (omega arith) now refl (λ e. there (let h : name + 1 ≡ i + 1 = sym mine ∙ e in omega arith)) in
+                  let row = row_other i there in
+                  omega (arith, same, row, was_counted)
+            ] in
+            open_now ∙ sym (ap (count (i + 1)) txns_ended) ∙ count_is (i + 1) (txns_of (ended rows at name) names);
         sound = kept.sound;
         sound_clean = kept.sound_clean;
         closed = λ i inside sealed. elim (cases_eq i name) [
@@ -314,26 +325,26 @@ kept_more names rows states entries low script kept few =
       same_rows = omega (arith, kept.same_rows);
       same_states = omega (arith, kept.same_states);
       counted = λ i within.
-        let push = count_push (i + 1) ts new in
-        let whole = ap (count (i + 1)) seen in
-        let last = count_is (i + 1) (txns_of (rows ++ new_row script ∷ []) (names ++ n ∷ [])) in
-        elim (place i within) [
-          | inl old ↦
-              let row = ap (λ (r : Row). r.open_txns) (old_row i old) in
-              let was = kept.counted i old ∙ sym (count_is (i + 1) ts) in
-              let zero = worth_other (i + 1) new (λ (e : n + 1 ≡ i + 1). absurd (omega arith)) in
-              omega (arith, row, was, zero, push, whole, last)
-          | inr next ↦
-              let row : (row_at (rows ++ new_row script ∷ []) i).open_txns ≡ 1 = ap (λ (r : Row). r.open_txns) (get_or_push rows (new_row script) no_row i (omega (arith, kept.same_rows))) in
-              let long = length-txns rows names kept.same_rows in
-              let none = count_none (i + 1) ts (λ k inside e.
+          let push = count_push (i + 1) ts new in
+          let whole = ap (count (i + 1)) seen in
+          let last = count_is (i + 1) (txns_of (rows ++ new_row script ∷ []) (names ++ n ∷ [])) in
+          elim (place i within) [
+            | inl old ↦
+                let row = ap (λ (r : Row). r.open_txns) (old_row i old) in
+                let was = kept.counted i old ∙ sym (count_is (i + 1) ts) in
+                let zero = worth_other (i + 1) new (λ (e : n + 1 ≡ i + 1). absurd (omega arith)) in
+                omega (arith, row, was, zero, push, whole, last)
+            | inr next ↦
+                let row : (row_at (rows ++ new_row script ∷ []) i).open_txns ≡ 1 = ap (λ (r : Row). r.open_txns) (get_or_push rows (new_row script) no_row i (omega (arith, kept.same_rows))) in
+                let long = length-txns rows names kept.same_rows in
+                let none = count_none (i + 1) ts (λ k inside e.
                 let below : k < n = omega arith in
                 let named : get_or names k 0 + 1 ≡ i + 1 = sym (ap (λ (t : TxnSeen). t.atom) (txn_at rows names k kept.same_rows below)) ∙ e in
                 let least = kept.named.least k below in
                 absurd (omega arith)) in
-              let one = worth_this (i + 1) new (ap (λ (k : ℕ). k + 1) (sym next)) ∙ bit-true in
-              omega (arith, row, none, one, push, whole, last)
-        ];
+                let one = worth_this (i + 1) new (ap (λ (k : ℕ). k + 1) (sym next)) ∙ bit-true in
+                omega (arith, row, none, one, push, whole, last)
+          ];
       sound = λ i within yes_committed. elim (place i within) [
         | inl old ↦ rw (old_state i old) (kept.sound i old (rw (old_state i old) at yes_committed))
         | inr next ↦ let bad : false ≡ true = rw (next, next_state) at yes_committed in absurd (cc)
@@ -349,9 +360,9 @@ kept_more names rows states entries low script kept few =
       begun = λ node t found. let b = kept.begun node t found in (b.0, omega arith);
       low_within = omega (arith, kept.low_within);
       settled = λ i below.
-        let inside : i < n = omega (arith, kept.low_within) in
-        let least = kept.named.least i inside in
-        rw (get_or_append_left names _ 0 i inside, old_state (get_or names i 0) (omega arith)) (kept.settled i below);
+          let inside : i < n = omega (arith, kept.low_within) in
+          let least = kept.named.least i inside in
+          rw (get_or_append_left names _ 0 i inside, old_state (get_or names i 0) (omega arith)) (kept.settled i below);
     }
 
 -- ---- two atoms become one
@@ -368,7 +379,7 @@ txns-renamed (r ∷ rows) (n ∷ names) to from =
     ∙ ap (λ (ts : List TxnSeen). renamed_txn (to + 1) (from + 1) (txn_seen r n) ∷ ts) (txns-renamed rows names to from)
 
 module _ (names : List ℕ) (rows : List Row) (states : List AtomState) (entries : List (ℕ × ℕ)) (low : ℕ) (kept : AreKept names rows states entries low) (to from : ℕ) (less : to < from) (within : from < length names)
-  (own_to : get_or names to 0 ≡ to) (own_from : get_or names from 0 ≡ from) (open_to : (state_at states to).sealed ≡ false) (open_from : (state_at states from).sealed ≡ false) where
+    (own_to : get_or names to 0 ≡ to) (own_from : get_or names from 0 ≡ from) (open_to : (state_at states to).sealed ≡ false) (open_from : (state_at states from).sealed ≡ false) where
   to_within : to < length names
   to_within = omega arith
 
@@ -448,37 +459,77 @@ module _ (names : List ℕ) (rows : List Row) (states : List AtomState) (entries
         same_rows = length-joined_rows ∙ kept.same_rows ∙ sym long;
         same_states = length-joined ∙ kept.same_states ∙ sym long;
         counted = λ i inside.
-          let old : i < length names = omega arith in
-          let was = kept.counted i old ∙ sym (count_is (i + 1) ts) in
-          let a = kept.counted to to_within ∙ sym (count_is (to + 1) ts) in
-          let b = kept.counted from within ∙ sym (count_is (from + 1) ts) in
-          let two : to + 1 ≢ from + 1 = λ e. apart (omega arith) in
-          let now : (row_at (joined_rows rows to from) i).open_txns ≡ count (i + 1) (map (renamed_txn (to + 1) (from + 1)) ts) = elim (cases_eq i to) [
-            | inl here ↦
-                let both = count_kept (to + 1) (from + 1) two ts in
-                ap (λ (k : ℕ). (row_at (joined_rows rows to from) k).open_txns) here ∙ row_to ∙ (let sum : (row_at rows to).open_txns + (row_at rows from).open_txns ≡ count (to + 1) (map (renamed_txn (to + 1) (from + 1)) ts) = omega (arith, a, b, both) in sum)
-                ∙ ap (λ (k : ℕ). count (k + 1) (map (renamed_txn (to + 1) (from + 1)) ts)) (sym here)
-            | inr there ↦ elim (cases_eq i from) [
-              | inl at_from ↦ ap (λ (k : ℕ). (row_at (joined_rows rows to from) k).open_txns) at_from ∙ row_from ∙ sym (count_gone (to + 1) (from + 1) two ts) ∙ ap (λ (k : ℕ). count (k + 1) (map (renamed_txn (to + 1) (from + 1)) ts)) (sym at_from)
-              | inr off ↦ ap (λ (r : Row). r.open_txns) (row_apart i there off) ∙ was ∙ sym (count_other (to + 1) (from + 1) (i + 1) (λ e. there (omega arith)) (λ e. off (omega arith)) ts)
-            ]
-          ] in
-          now ∙ sym (ap (count (i + 1)) txns_joined) ∙ count_is (i + 1) (txns_of (joined_rows rows to from) (map (renamed to from) names));
+            let old : i < length names = omega arith in
+            let was = kept.counted i old ∙ sym (count_is (i + 1) ts) in
+            let a = kept.counted to to_within ∙ sym (count_is (to + 1) ts) in
+            let b = kept.counted from within ∙ sym (count_is (from + 1) ts) in
+            let two : to + 1 ≢ from + 1 = λ e. apart (omega arith) in
+            let now : (row_at (joined_rows rows to from) i).open_txns ≡ count (i + 1) (map (renamed_txn (to + 1) (from + 1)) ts) = elim (cases_eq i to) [
+              | inl here ↦
+                  let both = count_kept (to + 1) (from + 1) two ts in
+                  ap (λ (k : ℕ). (row_at (joined_rows rows to from) k).open_txns) here ∙ row_to ∙ (let sum : (row_at rows to).open_txns + (row_at rows from).open_txns ≡ count (to + 1) (map (renamed_txn (to + 1) (from + 1)) ts) = omega (arith, a, b, both) in sum)
+                  ∙ ap (λ (k : ℕ). count (k + 1) (map (renamed_txn (to + 1) (from + 1)) ts)) (sym here)
+              | inr there ↦ elim (cases_eq i from) [
+                | inl at_from ↦ ap (λ (k : ℕ). (row_at (joined_rows rows to from) k).open_txns) at_from ∙ row_from ∙ sym (count_gone (to + 1) (from + 1) two ts) ∙ ap (λ (k : ℕ). count (k + 1) (map (renamed_txn (to + 1) (from + 1)) ts)) (sym at_from)
+                | inr off ↦ ap (λ (r : Row). r.open_txns) (row_apart i there off) ∙ was ∙ sym (count_other (to + 1) (from + 1) (i + 1) (λ e. there (omega arith)) (λ e. off (omega arith)) ts)
+              ]
+            ] in
+            now ∙ sym (ap (count (i + 1)) txns_joined) ∙ count_is (i + 1) (txns_of (joined_rows rows to from) (map (renamed to from) names));
         sound = λ i inside was. (same_flags i).0 ∙ kept.sound i (omega arith) (sym (same_flags i).1 ∙ was);
         sound_clean = λ i inside was. (same_flags i).0 ∙ kept.sound_clean i (omega arith) (sym (same_flags i).2 ∙ was);
         closed = λ i inside sealed.
-          let was : (state_at states i).sealed ≡ true = sym (same_flags i).0 ∙ sealed in
-          let off_to : i ≢ to = λ e. absurd (let h = ap (λ (k : ℕ). (state_at states k).sealed) e in cc) in
-          let off_from : i ≢ from = λ e. absurd (let h = ap (λ (k : ℕ). (state_at states k).sealed) e in cc) in
-          ap (λ (r : Row). r.open_txns) (row_apart i off_to off_from) ∙ kept.closed i (omega arith) was;
+            let was : (state_at states i).sealed ≡ true = sym (same_flags i).0 ∙ sealed in
+            let off_to : i ≢ to = λ e. absurd (let h = ap (λ (k : ℕ). (state_at states k).sealed) e in cc) in
+            let off_from : i ≢ from = λ e. absurd (let h = ap (λ (k : ℕ). (state_at states k).sealed) e in cc) in
+            ap (λ (r : Row). r.open_txns) (row_apart i off_to off_from) ∙ kept.closed i (omega arith) was;
         begun = λ node t found. let b = kept.begun node t found in (b.0, omega arith);
         low_within = omega (arith, kept.low_within);
         settled = λ i below.
-          let inside : i < length names = omega (arith, kept.low_within) in
-          let done = kept.settled i below in
-          let least = kept.named.least i inside in
-          let sealed = kept.sound (get_or names i 0) (omega arith) done in
-          let stays : get_or names i 0 ≢ from = λ e. absurd (let h = ap (λ (k : ℕ). (state_at states k).sealed) e in cc) in
-          let name : get_or (map (renamed to from) names) i 0 ≡ get_or names i 0 = get_or-map (renamed to from) names i 0 0 inside ∙ rw (ne_eqb (get_or names i 0) from stays) refl in
-          ap (λ (k : ℕ). (state_at (joined states to from) k).committed) name ∙ (same_flags (get_or names i 0)).1 ∙ done;
+            let inside : i < length names = omega (arith, kept.low_within) in
+            let done = kept.settled i below in
+            let least = kept.named.least i inside in
+            let sealed = kept.sound (get_or names i 0) (omega arith) done in
+            let stays : get_or names i 0 ≢ from = λ e. absurd (let h = ap (λ (k : ℕ). (state_at states k).sealed) e in cc) in
+            let name : get_or (map (renamed to from) names) i 0 ≡ get_or names i 0 = get_or-map (renamed to from) names i 0 0 inside ∙ rw (ne_eqb (get_or names i 0) from stays) refl in
+            ap (λ (k : ℕ). (state_at (joined states to from) k).committed) name ∙ (same_flags (get_or names i 0)).1 ∙ done;
       }
+
+-- ---- an atom is sealed
+
+-- no transaction of an atom is open where none is counted
+pub none_open : (names : List ℕ) (rows : List Row) (states : List AtomState) (entries : List (ℕ × ℕ)) (low : ℕ) → AreKept names rows states entries low → (at : ℕ) → at < length names → (row_at rows at).open_txns ≡ 0
+    → (i : ℕ) → i < length names → (get_or (txns_of rows names) i no_txn).atom ≡ at + 1 → (get_or (txns_of rows names) i no_txn).is_open ≡ true → ⊥
+none_open names rows states entries low kept at within nothing i inside mine opened =
+    let long = length-txns rows names kept.same_rows in
+    let some = counts_one (at + 1) (txns_of rows names) i (omega arith) mine opened in
+    let was = kept.counted at within ∙ sym (count_is (at + 1) (txns_of rows names)) in
+    absurd (omega arith)
+
+pub kept_sealed : (names : List ℕ) (rows : List Row) (states : List AtomState) (entries : List (ℕ × ℕ)) (low : ℕ) → AreKept names rows states entries low → (at : ℕ) → at < length names
+    → ((i : ℕ) → i < length names → (get_or (txns_of rows names) i no_txn).atom ≡ at + 1 → (get_or (txns_of rows names) i no_txn).is_open ≡ true → ⊥) → (st : AtomState) → st.sealed ≡ true → st.committed ≡ (state_at states at).committed
+    → AreKept names rows (set states at st) entries low
+kept_sealed names rows states entries low kept at within none st sealed committed =
+    let ts = txns_of rows names in
+    let long = length-txns rows names kept.same_rows in
+    let inside : at < length states = omega (arith, kept.same_states) in
+    let here = get_or-set_same states at st new_atom inside in
+    let there : (i : ℕ) → i ≢ at → state_at (set states at st) i ≡ state_at states i = λ i off. get_or-set_other states at i st new_atom off in
+    kept_states names rows states (set states at st) entries low kept (length-set states at st)
+    (λ i below was. elim (cases_eq i at) [
+      | inl same ↦ ap (λ (k : ℕ). (state_at (set states at st) k).sealed) same ∙ ap (λ (x : AtomState). x.sealed) here ∙ sealed
+      | inr off ↦ rw (there i off) (kept.sound i below (rw (there i off) at was))
+    ])
+    (λ i below was. elim (cases_eq i at) [
+      | inl same ↦ ap (λ (k : ℕ). (state_at (set states at st) k).sealed) same ∙ ap (λ (x : AtomState). x.sealed) here ∙ sealed
+      | inr off ↦ rw (there i off) (kept.sound_clean i below (rw (there i off) at was))
+    ])
+    (λ i below was. elim (cases_eq i at) [
+      | inl same ↦
+          let zero = count_closed (at + 1) ts (λ j in_ts mine opened. none j (omega arith) mine opened) in
+          ap (λ (k : ℕ). (row_at rows k).open_txns) same ∙ kept.counted at within ∙ sym (count_is (at + 1) ts) ∙ zero
+      | inr off ↦ kept.closed i below (rw (there i off) at was)
+    ])
+    (λ i below. elim (cases_eq (get_or names i 0) at) [
+      | inl same ↦ ap (λ (k : ℕ). (state_at (set states at st) k).committed) same ∙ ap (λ (x : AtomState). x.committed) here ∙ committed ∙ ap (λ (k : ℕ). (state_at states k).committed) (sym same) ∙ kept.settled i below
+      | inr off ↦ rw (there (get_or names i 0) off) (kept.settled i below)
+    ])

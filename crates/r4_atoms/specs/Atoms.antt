@@ -158,7 +158,6 @@ pub record IsSmallestOpen (s : AtomsSeen) (a t : ℕ) : Type 0 where
 abbrev pub new_row : ScriptNo → Row
 new_row script = record { script = script; is_open = true; open_txns = 1 }
 
-
 abbrev pub no_row : Row
 no_row = record { script = record { 0 = 0 }; is_open = false; open_txns = 0 }
 

@@ -1,6 +1,6 @@
 //! The transactions of a run, their atoms, and the nodes that an atom owns.
 
-ghost use Rattle.std.specs.Prelude.{◌≡◌, ◌≢◌, ℕ, ◌+◌, ◌-◌, ◌^◌, ◌<◌, ◌≤◌, ◌∷◌, ◌++◌, ◌==◌, [], length, max, min, true, false, map, slice_set, if◌then◌else◌, IsOk, IfOk, IfErr, OnOk, OnErr, IsSome, MatchOption, option_map, vec_len, vec_capacity};
+ghost use Rattle.std.specs.Prelude.{◌≡◌, ◌≢◌, ℕ, ◌+◌, ◌-◌, ◌^◌, ◌<◌, ◌≤◌, ◌∷◌, ◌++◌, ◌==◌, [], length, max, min, true, false, map, slice_set, if◌then◌else◌, IsOk, IfOk, IfErr, OnOk, OnErr, IsSome, IfSome, MatchBool, MatchOption, option_map, vec_len, vec_capacity};
 ghost use Rattle.std.specs.Option.{option_or};
 ghost use Rattle.r4_atoms.specs.Names.{renamed};
 ghost use Rattle.r4_atoms.specs.Atoms.{AreKept, HaveRoom, FitTogether, IsAtom, IsBegun, IsFreeFor, IsOpenAtom, IsOpenIn, IsOtherOwner, joined, joined_rows, renamed_txn, sum_of, IsRefused, IsSmallestOpen, account_of, atom_of, ended, is_committed, is_sealed, new_atom, new_row, new_txn, owner_of, row_at, state_at, state_of, txn_of, with_state, without_owner};
@@ -87,9 +87,26 @@ impl Atoms {
         self.states[(atom.0 - 1) as usize].account
     }
 
+    /// Whether an atom is sealed.
+    pub fn is_sealed(&self, atom: AtomNo) -> bool
+        requires { IsAtom self.now atom.0 }
+        ensures { result ≡ is_sealed self.now atom.0 }
+    {
+        self.states[(atom.0 - 1) as usize].sealed
+    }
+
+    /// Whether an atom is committed.
+    pub fn is_committed(&self, atom: AtomNo) -> bool
+        requires { IsAtom self.now atom.0 }
+        ensures { result ≡ is_committed self.now atom.0 }
+    {
+        self.states[(atom.0 - 1) as usize].committed
+    }
+
     /// The atom that owns a node: none exactly where the node is clean.
     pub fn owner(&self, node: NodeId) -> Option<AtomNo>
-        ensures { option_map (λ a. a.0) result ≡ owner_of self.now node.0 }
+        ensures owner { option_map (λ a. a.0) result ≡ owner_of self.now node.0 }
+        ensures atom { IfSome result (λ a. IsAtom self.now a.0) }
     {
         match self.owners.get(node.0) {
             Some(txn) => {
@@ -196,10 +213,14 @@ impl Atoms {
     fn other_owner(&self, atom: AtomNo, node: NodeId) -> Option<AtomNo>
         ensures { MatchOption result (IsFreeFor self.now atom.0 node.0) (IsOtherOwner self.now atom.0 node.0) }
     {
-        match self.owner(node) {
-            Some(by) if by != atom && !self.states[(by.0 - 1) as usize].sealed => Some(by),
-            _ => None,
+        let by = self.owner(node)?;
+        if by.0 == atom.0 {
+            return None;
         }
+        if self.is_sealed(by) {
+            return None;
+        }
+        Some(by)
     }
 
     /// Makes one atom of two that are not sealed, and answers it: the smaller one. It has the transactions, the nodes and
@@ -273,11 +294,13 @@ impl Atoms {
         ensures still_open { IfErr result (λ e. IsSmallestOpen self.old atom.0 e.txn.0) }
         ensures err { OnErr result (self.new ≡ self.old) }
     {
-        if let Some(txn) = self.first_open(atom) {
-            return Err(StillOpen { txn });
+        match self.first_open(atom) {
+            Some(txn) => Err(StillOpen { txn }),
+            None => {
+                self.states[(atom.0 - 1) as usize].sealed = true;
+                Ok(())
+            }
         }
-        self.states[(atom.0 - 1) as usize].sealed = true;
-        Ok(())
     }
 
     // The smallest open transaction of an atom.
@@ -289,12 +312,25 @@ impl Atoms {
         if self.rows[first as usize].open_txns == 0 {
             return None;
         }
-        for at in first..self.rows.len() as u32 {
-            if self.rows[at as usize].is_open && self.forest.name(at) == first {
+        let begun = self.begun();
+        for at in first..begun {
+            if self.is_open_of(TxnNo(at + 1), atom) {
                 return Some(TxnNo(at + 1));
             }
         }
         None
+    }
+
+    // Whether a transaction is open and of this atom.
+    fn is_open_of(&self, txn: TxnNo, atom: AtomNo) -> bool
+        requires { IsBegun self.now txn.0 }
+        ensures { MatchBool result (IsOpenIn self.now atom.0 txn.0) (IsOpenIn self.now atom.0 txn.0 → ⊥) }
+    {
+        if self.is_open(txn) {
+            self.atom(txn).0 == atom.0
+        } else {
+            false
+        }
     }
 
     /// Makes the nodes of a sealed atom clean. A node that another atom captured since stays that one's.
