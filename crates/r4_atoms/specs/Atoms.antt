@@ -7,6 +7,9 @@ use Rattle.r4_atoms.specs.declared.things.AtomState.{AtomState}
 use Rattle.r4_atoms.specs.declared.things.CaptureFault.{CaptureFault}
 use Rattle.r4_atoms.specs.declared.things.CaptureFault.TheVariants.{Memory, Owned}
 use Rattle.r4_atoms.specs.declared.things.Row.{Row}
+use Rattle.r4_atoms.specs.declared.things.Uncommitted.{Uncommitted}
+use Rattle.r4_atoms.specs.declared.things.Uncommitted.TheVariants.{None as Nothing, Closed, Open}
+use mathlib.Core.Bool.{beq}
 use Rattle.r4_atoms.specs.Names.{AreNames, renamed}
 use Rattle.r4_atoms.specs.Owned.{label_of}
 
@@ -78,6 +81,59 @@ pub record IsOpenAtom (s : AtomsSeen) (a : ℕ) : Type 0 where
 abbrev pub is_open_in : ℕ → TxnSeen → Bool
 is_open_in a t = t.is_open && (t.atom == a)
 
+-- the transaction is of this atom, and open
+pub record IsOpenIn (s : AtomsSeen) (a t : ℕ) : Type 0 where
+  pub begun : IsBegun s t
+  pub atom : atom_of s t ≡ a
+  pub opened : (txn_of s t).is_open ≡ true
+
+pub record IsSmallestOpen (s : AtomsSeen) (a t : ℕ) : Type 0 where
+  pub is : IsOpenIn s a t
+  pub smallest : (other : ℕ) → IsOpenIn s a other → t ≤ other
+
+-- how many transactions of an atom are open
+abbrev pub open_count : AtomsSeen → ℕ → ℕ
+open_count s a = count_by (is_open_in a) s.txns
+
+-- an atom that was never sealed and has no open transaction
+pub record IsClosedAtom (s : AtomsSeen) (a : ℕ) : Type 0 where
+  pub unsealed : IsOpenAtom s a
+  pub none : open_count s a ≡ 0
+
+-- the smallest of these atoms
+pub record IsSmallestClosed (s : AtomsSeen) (a : ℕ) : Type 0 where
+  pub is : IsClosedAtom s a
+  pub smallest : (other : ℕ) → IsClosedAtom s other → a ≤ other
+
+-- ---- what of a script is not committed
+
+-- the transaction is of the script, and its atom is not sealed
+abbrev pub is_pending : AtomsSeen → (script : ℕ) → ℕ → Bool
+is_pending s script t = ((txn_of s t).script == script) && not (is_sealed s (atom_of s t))
+
+-- and its atom has no open transaction, or has one
+abbrev pub is_pending_as : AtomsSeen → (script : ℕ) → (closed : Bool) → ℕ → Bool
+is_pending_as s script closed t = is_pending s script t && beq closed (open_count s (atom_of s t) == 0)
+
+-- no transaction passes the test
+abbrev pub NonePasses : AtomsSeen → (ℕ → Bool) → Type 0
+NonePasses s test = (t : ℕ) → IsBegun s t → test t ≡ false
+
+-- the smallest atom of the transactions that pass the test
+pub record IsSmallestAtom (s : AtomsSeen) (test : ℕ → Bool) (a : ℕ) : Type 0 where
+  pub passes : (t : ℕ) × IsBegun s t × (test t ≡ true) × (atom_of s t ≡ a)
+  pub smallest : (t : ℕ) → IsBegun s t → test t ≡ true → a ≤ atom_of s t
+
+-- what of a script is in atoms that are not sealed
+abbrev pub IsUncommittedOf : AtomsSeen → (script : ℕ) → Uncommitted → Type 0
+IsUncommittedOf s script Nothing = NonePasses s (is_pending s script)
+IsUncommittedOf s script (Closed atom) = IsSmallestAtom s (is_pending_as s script true) atom.0
+IsUncommittedOf s script (Open atom txn) = NonePasses s (is_pending_as s script true) × IsSmallestAtom s (is_pending_as s script false) atom.0 × IsSmallestOpen s atom.0 txn.0
+
+-- each transaction of the script is in a committed atom
+abbrev pub AllCommitted : AtomsSeen → (script : ℕ) → Type 0
+AllCommitted s script = (t : ℕ) → IsBegun s t → (txn_of s t).script ≡ script → is_committed s (atom_of s t) ≡ true
+
 -- ---- owners
 
 -- the atom of a transaction, unless its nodes are clean
@@ -142,16 +198,6 @@ joined states to from =
 -- another state of an atom
 abbrev pub with_state : AtomsSeen → ℕ → AtomState → AtomsSeen
 with_state s a state = record s { atoms = slice_set s.atoms (a - 1) state }
-
--- the transaction is of this atom, and open
-pub record IsOpenIn (s : AtomsSeen) (a t : ℕ) : Type 0 where
-  pub begun : IsBegun s t
-  pub atom : atom_of s t ≡ a
-  pub opened : (txn_of s t).is_open ≡ true
-
-pub record IsSmallestOpen (s : AtomsSeen) (a t : ℕ) : Type 0 where
-  pub is : IsOpenIn s a t
-  pub smallest : (other : ℕ) → IsOpenIn s a other → t ≤ other
 
 -- ---- how they are kept
 

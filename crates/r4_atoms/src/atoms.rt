@@ -1,9 +1,9 @@
 //! The transactions of a run, their atoms, and the nodes that an atom owns.
 
-ghost use Rattle.std.specs.Prelude.{◌≡◌, ◌≢◌, ℕ, ◌+◌, ◌-◌, ◌^◌, ◌<◌, ◌≤◌, ◌∷◌, ◌++◌, ◌==◌, [], length, max, min, true, false, map, slice_set, if◌then◌else◌, IsOk, IfOk, IfErr, OnOk, OnErr, IsSome, IfSome, MatchBool, MatchOption, option_map, vec_len, vec_capacity};
+ghost use Rattle.std.specs.Prelude.{◌≡◌, ◌≢◌, ℕ, ◌+◌, ◌-◌, ◌^◌, ◌<◌, ◌≤◌, ◌∷◌, ◌++◌, ◌==◌, [], length, max, min, true, false, map, slice_set, slice_index, ◌⊎◌, if◌then◌else◌, IsOk, IfOk, IfErr, OnOk, OnErr, IsSome, IfSome, MatchBool, MatchOption, option_map, vec_len, vec_capacity};
 ghost use Rattle.std.specs.Option.{option_or};
-ghost use Rattle.r4_atoms.specs.Names.{renamed};
-ghost use Rattle.r4_atoms.specs.Atoms.{AreKept, HaveRoom, FitTogether, IsAtom, IsBegun, IsFreeFor, IsOpenAtom, IsOpenIn, IsOtherOwner, joined, joined_rows, renamed_txn, sum_of, IsRefused, IsSmallestOpen, account_of, atom_of, ended, is_committed, is_sealed, new_atom, new_row, new_txn, owner_of, row_at, state_at, state_of, txn_of, with_state, without_owner};
+ghost use Rattle.r4_atoms.specs.Names.{AreNames, renamed};
+ghost use Rattle.r4_atoms.specs.Atoms.{AreKept, HaveRoom, AllCommitted, FitTogether, IsAtom, IsClosedAtom, IsSmallestAtom, IsSmallestClosed, IsUncommittedOf, NonePasses, is_pending_as, IsBegun, IsFreeFor, IsOpenAtom, IsOpenIn, IsOtherOwner, joined, joined_rows, renamed_txn, sum_of, IsRefused, IsSmallestOpen, account_of, atom_of, ended, is_committed, is_sealed, new_atom, new_row, new_txn, owner_of, row_at, state_at, state_of, txn_of, with_state, without_owner};
 
 use crate::forest::Forest;
 use crate::owners::Owners;
@@ -333,6 +333,118 @@ impl Atoms {
         }
     }
 
+    /// Says of a sealed atom that it is committed. It owns its nodes until they are made clean.
+    pub fn commit(&mut self, atom: AtomNo)
+        requires atom { IsAtom self.old atom.0 }
+        requires sealed { is_sealed self.old atom.0 ≡ true }
+        requires once { is_committed self.old atom.0 ≡ false }
+        ensures { self.new ≡ with_state self.old atom.0 (record (state_of self.old atom.0) { committed = true }) }
+    {
+        self.states[(atom.0 - 1) as usize].committed = true;
+        self.low = first_uncommitted(&self.forest, self.states.as_slice(), self.low);
+    }
+
+    /// The smallest atom that was never sealed and has no open transaction.
+    pub fn next_closed(&self) -> Option<AtomNo>
+        ensures { MatchOption result ((a : ℕ) → IsClosedAtom self.now a → ⊥) (λ a. IsSmallestClosed self.now a.0) }
+    {
+        let begun = self.begun();
+        for at in self.low..begun {
+            if self.is_closed_atom(at) {
+                return Some(AtomNo(at + 1));
+            }
+        }
+        None
+    }
+
+    // Whether a number is an atom that was never sealed and has no open transaction.
+    fn is_closed_atom(&self, at: u32) -> bool
+        requires { at < length self.now.txns }
+        ensures { MatchBool result (IsClosedAtom self.now (at + 1)) (IsClosedAtom self.now (at + 1) → ⊥) }
+    {
+        if self.forest.name(at) != at {
+            return false;
+        }
+        if self.states[at as usize].sealed {
+            return false;
+        }
+        self.rows[at as usize].open_txns == 0
+    }
+
+    /// Whether each transaction of a script is in a committed atom.
+    pub fn all_committed(&self, script: ScriptNo) -> bool
+        ensures { MatchBool result (AllCommitted self.now script.0) (AllCommitted self.now script.0 → ⊥) }
+    {
+        let begun = self.begun();
+        for at in self.low..begun {
+            if self.is_uncommitted(TxnNo(at + 1), script) {
+                return false;
+            }
+        }
+        true
+    }
+
+    // Whether a transaction is of the script, and its atom is not committed.
+    fn is_uncommitted(&self, txn: TxnNo, script: ScriptNo) -> bool
+        requires { IsBegun self.now txn.0 }
+        ensures { MatchBool result (((txn_of self.now txn.0).script ≡ script.0) × (is_committed self.now (atom_of self.now txn.0) ≡ false)) ((txn_of self.now txn.0).script ≡ script.0 → is_committed self.now (atom_of self.now txn.0) ≡ true) }
+    {
+        if self.script(txn).0 == script.0 {
+            let name = self.forest.name(txn.0 - 1);
+            !self.states[name as usize].committed
+        } else {
+            false
+        }
+    }
+
+    /// What of a script is in atoms that are not sealed: the smallest such atom without an open transaction; where each
+    /// has one, the smallest one and its smallest open transaction.
+    pub fn uncommitted_of(&self, script: ScriptNo) -> Uncommitted
+        ensures { IsUncommittedOf self.now script.0 result }
+    {
+        if let Some(atom) = self.smallest_of(script, true) {
+            return Uncommitted::Closed(atom);
+        }
+        match self.smallest_of(script, false) {
+            None => Uncommitted::None,
+            Some(atom) => match self.first_open(atom) {
+                Some(txn) => Uncommitted::Open { atom, txn },
+                None => Uncommitted::None,
+            },
+        }
+    }
+
+    // The smallest atom that is not sealed and has a transaction of the script, of those without an open transaction or
+    // of those with one.
+    fn smallest_of(&self, script: ScriptNo, closed: bool) -> Option<AtomNo>
+        ensures { MatchOption result (NonePasses self.now (is_pending_as self.now script.0 closed)) (λ a. IsSmallestAtom self.now (is_pending_as self.now script.0 closed) a.0) }
+    {
+        let begun = self.begun();
+        let mut best = None;
+        for at in self.low..begun {
+            let txn = TxnNo(at + 1);
+            if self.is_pending(txn, script, closed) {
+                best = smaller(best, self.atom(txn));
+            }
+        }
+        best
+    }
+
+    // Whether a transaction is of the script and its atom is not sealed, and has no open transaction or has one.
+    fn is_pending(&self, txn: TxnNo, script: ScriptNo, closed: bool) -> bool
+        requires { IsBegun self.now txn.0 }
+        ensures { result ≡ is_pending_as self.now script.0 closed txn.0 }
+    {
+        if self.script(txn).0 != script.0 {
+            return false;
+        }
+        let name = self.forest.name(txn.0 - 1);
+        if self.states[name as usize].sealed {
+            return false;
+        }
+        closed == (self.rows[name as usize].open_txns == 0)
+    }
+
     /// Makes the nodes of a sealed atom clean. A node that another atom captured since stays that one's.
     pub fn clean(&mut self, atom: AtomNo)
         requires atom { IsAtom self.old atom.0 }
@@ -457,5 +569,40 @@ fn sum(one: &Account, two: &Account) -> Account
         fresh: one.fresh + two.fresh,
         born: one.born + two.born,
         gone: one.gone + two.gone,
+    }
+}
+
+// The first number from `low` on whose set's name is not committed.
+fn first_uncommitted(forest: &Forest, states: &[AtomState], low: u32) -> u32
+    requires states { length states.now ≡ length forest.now.names }
+    requires low { low ≤ length forest.now.names }
+    requires few { length forest.now.names < 2 ^ 32 }
+    requires named { AreNames forest.now.names }
+    ensures within { result ≤ length forest.now.names }
+    ensures settled { (i : ℕ) → low ≤ i → i < result → (state_at states.now (slice_index forest.now.names i)).committed ≡ true }
+{
+    let len = forest.len();
+    for at in low..len {
+        if !states[forest.name(at) as usize].committed {
+            return at;
+        }
+    }
+    len
+}
+
+// The smaller of two atoms, of which there may be one.
+fn smaller(best: Option<AtomNo>, atom: AtomNo) -> Option<AtomNo>
+    ensures least { MatchOption best (result ≡ Some atom) (λ b. IfSome result (λ a. (a.0 ≤ b.0) × (a.0 ≤ atom.0) × ((a ≡ b) ⊎ (a ≡ atom)))) }
+    ensures some { IsSome result }
+{
+    match best {
+        Some(other) => {
+            if other.0 < atom.0 {
+                Some(other)
+            } else {
+                Some(atom)
+            }
+        }
+        None => Some(atom),
     }
 }
