@@ -6,7 +6,7 @@ use Rattle.r4_atoms.specs.declared.things.AtomState.{AtomState}
 use Rattle.r4_atoms.specs.declared.things.Row.{Row}
 use Rattle.r4_atoms.specs.Names.{AreNames, renamed}
 use Rattle.r4_atoms.specs.Owned.{label_of}
-use Rattle.r4_atoms.specs.Atoms.{AreKept, atom_of, AtomsSeen, is_open_in, IsAtom, IsBegun, new_atom, no_row, no_txn, owner_by, owner_of, row_at, state_at, state_of, txn_of, txn_seen, txns_of, TxnSeen, without_owner}
+use Rattle.r4_atoms.specs.Atoms.{AreKept, atom_of, AtomsSeen, IsClosedAtom, is_committed, is_open_in, is_sealed, open_count, IsAtom, IsBegun, new_atom, no_row, no_txn, owner_by, owner_of, row_at, state_at, state_of, txn_of, txn_seen, txns_of, TxnSeen, without_owner}
 use Rattle.std.specs.Option.{option_map}
 
 pub length-txns : (rows : List Row) (names : List ℕ) → length rows ≡ length names → length (txns_of rows names) ≡ length names
@@ -125,6 +125,60 @@ module _ (names : List ℕ) (rows : List Row) (states : List AtomState) (entries
                 let index : a - 1 ≡ get_or names (t - 1) 0 = omega arith in
                 (omega arith, omega arith, ap (λ (k : ℕ). get_or names k 0) index ∙ own ∙ sym index, ap (λ (k : ℕ). (state_at states k).cleaned) index ∙ stays)
           ]
+
+  -- an atom that is not sealed and has no open transaction, in the rows
+  pub count_seen : (at : ℕ) → at < length names → open_count s (at + 1) ≡ (row_at rows at).open_txns
+  count_seen at within = ap (λ (a : AtomsSeen). open_count a (at + 1)) (sym seen) ∙ sym (kept.counted at within)
+
+  minus_one : (at : ℕ) → at + 1 - 1 ≡ at
+  minus_one at = omega arith
+
+  pub begun_at : (at : ℕ) → at < length names → IsBegun s (at + 1)
+  begun_at at within = let e = length-seen in record { some = omega arith; within = omega arith }
+
+  pub atom_at : (at : ℕ) → at < length names → atom_of s (at + 1) ≡ get_or names at 0 + 1
+  atom_at at within = atom_is (at + 1) (begun_at at within) ∙ ap (λ (x : ℕ). get_or names x 0 + 1) (minus_one at)
+
+  pub state_of_at : (at : ℕ) → state_of s (at + 1) ≡ state_at states at
+  state_of_at at = state_is (at + 1) ∙ ap (state_at states) (minus_one at)
+
+  pub is_closed : (at : ℕ) → at < length names → get_or names at 0 ≡ at → (state_at states at).sealed ≡ false → (row_at rows at).open_txns ≡ 0 → IsClosedAtom s (at + 1)
+  is_closed at within own unsealed none = record {
+    unsealed = record {
+      atom = record { begun = begun_at at within; own = atom_at at within ∙ ap (λ (x : ℕ). x + 1) own };
+      unsealed = ap (λ (x : AtomState). x.sealed) (state_of_at at) ∙ unsealed;
+    };
+    none = count_seen at within ∙ none;
+  }
+
+  pub closed_parts : (at : ℕ) → at < length names → IsClosedAtom s (at + 1) → (get_or names at 0 ≡ at) × ((state_at states at).sealed ≡ false) × ((row_at rows at).open_txns ≡ 0)
+  closed_parts at within closed = (
+    (let e = sym (atom_at at within) ∙ closed.unsealed.atom.own in omega arith),
+    ap (λ (x : AtomState). x.sealed) (sym (state_of_at at)) ∙ closed.unsealed.unsealed,
+    sym (count_seen at within) ∙ closed.none,
+  )
+
+  -- a transaction below `low` is in a committed atom, which is sealed
+  pub low_committed : (t : ℕ) → IsBegun s t → t ≤ low → (is_committed s (atom_of s t) ≡ true) × (is_sealed s (atom_of s t) ≡ true)
+  low_committed t begun below =
+      let some = begun.some in
+      let within = begun_within t begun in
+      let least = kept.named.least (t - 1) within in
+      let inside : get_or names (t - 1) 0 < length names = omega arith in
+      let settled = kept.settled (t - 1) (omega arith) in
+      let sealed = kept.sound (get_or names (t - 1) 0) inside settled in
+      let state : state_of s (atom_of s t) ≡ state_at states (get_or names (t - 1) 0) = ap (state_of s) (atom_is t begun) ∙ state_of_at (get_or names (t - 1) 0) in
+      (ap (λ (x : AtomState). x.committed) state ∙ settled, ap (λ (x : AtomState). x.sealed) state ∙ sealed)
+
+  -- the state of a transaction's atom
+  pub state_by : (t : ℕ) → IsBegun s t → state_of s (atom_of s t) ≡ state_at states (get_or names (t - 1) 0)
+  state_by t begun = ap (state_of s) (atom_is t begun) ∙ state_of_at (get_or names (t - 1) 0)
+
+  pub name_within : (t : ℕ) → IsBegun s t → get_or names (t - 1) 0 < length names
+  name_within t begun = let within = begun_within t begun in let least = kept.named.least (t - 1) within in omega arith
+
+  pub count_by_txn : (t : ℕ) → IsBegun s t → open_count s (atom_of s t) ≡ (row_at rows (get_or names (t - 1) 0)).open_txns
+  count_by_txn t begun = ap (open_count s) (atom_is t begun) ∙ count_seen (get_or names (t - 1) 0) (name_within t begun)
 
 -- ---- owners after a change of the atoms
 

@@ -149,7 +149,7 @@ count_none a (t ∷ ts) others =
     omega (arith, count_cons a t ts, later, here)
 
 -- nor where none of the atom is open
-count_closed : (a : ℕ) (ts : List TxnSeen) → ((i : ℕ) → i < length ts → (get_or ts i no_txn).atom ≡ a → (get_or ts i no_txn).is_open ≡ true → ⊥) → count a ts ≡ 0
+pub count_closed : (a : ℕ) (ts : List TxnSeen) → ((i : ℕ) → i < length ts → (get_or ts i no_txn).atom ≡ a → (get_or ts i no_txn).is_open ≡ true → ⊥) → count a ts ≡ 0
 count_closed a [] none = count_nil a
 count_closed a (t ∷ ts) none =
     let later = count_closed a ts (λ i within. none (suc i) (omega arith)) in

@@ -2,3 +2,4 @@ pub mod ForestLaws
 pub mod OwnedLaws
 pub mod AtomLaws
 pub mod KeptLaws
+pub mod ScanLaws

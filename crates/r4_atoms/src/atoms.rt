@@ -3,7 +3,7 @@
 ghost use Rattle.std.specs.Prelude.{◌≡◌, ◌≢◌, ℕ, ◌+◌, ◌-◌, ◌^◌, ◌<◌, ◌≤◌, ◌∷◌, ◌++◌, ◌==◌, [], length, max, min, true, false, map, slice_set, slice_index, ◌⊎◌, if◌then◌else◌, IsOk, IfOk, IfErr, OnOk, OnErr, IsSome, IfSome, MatchBool, MatchOption, option_map, vec_len, vec_capacity};
 ghost use Rattle.std.specs.Option.{option_or};
 ghost use Rattle.r4_atoms.specs.Names.{AreNames, renamed};
-ghost use Rattle.r4_atoms.specs.Atoms.{AreKept, HaveRoom, AllCommitted, FitTogether, IsAtom, IsClosedAtom, IsSmallestAtom, IsSmallestClosed, IsUncommittedOf, NonePasses, is_pending_as, IsBegun, IsFreeFor, IsOpenAtom, IsOpenIn, IsOtherOwner, joined, joined_rows, renamed_txn, sum_of, IsRefused, IsSmallestOpen, account_of, atom_of, ended, is_committed, is_sealed, new_atom, new_row, new_txn, owner_of, row_at, state_at, state_of, txn_of, with_state, without_owner};
+ghost use Rattle.r4_atoms.specs.Atoms.{AreKept, HaveRoom, AllCommitted, FitTogether, IsAtom, IsClosedAtom, IsSmallestAtom, IsSmallestClosed, IsUncommittedOf, NonePasses, is_pending_as, IsBegun, IsFreeFor, IsOpenAtom, IsOpenIn, IsOtherOwner, joined, joined_rows, renamed_txn, sum_of, IsRefused, IsSmallestOpen, account_of, atom_of, ended, is_cleaned, is_committed, is_sealed, new_atom, new_row, new_txn, open_count, owner_of, row_at, state_at, state_of, txn_of, with_state, without_owner};
 
 use crate::forest::Forest;
 use crate::owners::Owners;
@@ -46,6 +46,15 @@ impl Atoms {
             owners: Owners::new(alloc),
             low: 0,
         }
+    }
+
+    /// What holds of all transactions, atoms and owners. It does nothing.
+    pub fn lawful(&self)
+        ensures atoms { (t : ℕ) → IsBegun self.now t → (atom_of self.now t ≤ t) × IsAtom self.now (atom_of self.now t) }
+        ensures owners { (n a : ℕ) → owner_of self.now n ≡ Some a → IsAtom self.now a × (is_cleaned self.now a ≡ false) }
+        ensures sealed { (a : ℕ) → IsAtom self.now a → is_sealed self.now a ≡ true → open_count self.now a ≡ 0 }
+    {
+        let _ = &self.low;
     }
 
     /// The number of transactions that were begun.
@@ -402,6 +411,7 @@ impl Atoms {
     pub fn uncommitted_of(&self, script: ScriptNo) -> Uncommitted
         ensures { IsUncommittedOf self.now script.0 result }
     {
+        self.lawful();
         if let Some(atom) = self.smallest_of(script, true) {
             return Uncommitted::Closed(atom);
         }

@@ -2,6 +2,8 @@
 
 ghost use Rattle.std.specs.Prelude.{◌≡◌, ◌≢◌, ℕ, ◌+◌, ◌-◌, ◌^◌, ◌<◌, ◌≤◌, ◌∷◌, ◌++◌, ◌==◌, [], length, max, map, filter, not, if◌then◌else◌, IsOk, IsSome, IfOk, OnOk, OnErr, vec_len, vec_capacity};
 ghost use Rattle.std.specs.Map.{keys_of};
+ghost use Rattle.std.specs.List.{Contains};
+ghost use Rattle.std.specs.List.Sorted.{IsStrictlyIncreasing};
 ghost use Rattle.r4_atoms.specs.Owned.{is_of, label_of, pair_of, pairs_of};
 
 use r4_base::Memory;
@@ -64,6 +66,28 @@ impl Owners {
             Some(label) => Some(*label),
             None => label_in(self.moved.as_slice(), node),
         }
+    }
+
+    /// The nodes that have a label, rising.
+    pub fn nodes(&self, alloc: Global) -> Result<Vec<u64>, Memory>
+        ensures rising { IfOk result (λ v. IsStrictlyIncreasing v.items) }
+        ensures all { IfOk result (λ v. (n : ℕ) → IsSome (label_of n self.now.entries) → Contains v.items n) }
+    {
+        let mut nodes = self.all(alloc)?;
+        nodes.sort_unstable();
+        nodes.dedup();
+        Ok(nodes)
+    }
+
+    // The nodes that have a label.
+    fn all(&self, alloc: Global) -> Result<Vec<u64>, Memory>
+        ensures { IfOk result (λ v. v.items ≡ keys_of self.now.entries) }
+    {
+        let mut nodes: Vec<u64> = self.table.keys().copied().collect(alloc)?;
+        for one in &self.moved {
+            nodes.push(one.node)?;
+        }
+        Ok(nodes)
     }
 
     /// Gives a node a label, in place of one that it had. It takes no memory.

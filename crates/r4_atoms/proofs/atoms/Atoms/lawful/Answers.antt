@@ -1,0 +1,50 @@
+use Rattle.std.proofs.Common.{◌≡◌, ◌≢◌, ◌⊎◌, ℕ, ◌+◌, ◌-◌, ◌*◌, ◌^◌, ◌<◌, ◌≤◌, ◌++◌, ◌∷◌, ◌&&◌, [], ◌∙◌, refl, sym, ap, subst, eqb, cond, Bool, IsTrue, true, false, length, not, List, Some, None, Option, inl, inr, arith, OnOk, vec_len, vec_capacity, get_or, set, map, rules, IfSome, MatchOption, MatchBool,  count_by, min, max}
+use Rattle.std.proofs.lemmas.Bool.{and_left, and_right, and_parts, cases_Bool, cases_eq, eq-eqb, ne_eqb}
+use Rattle.std.proofs.lemmas.List.{get_or_read, get_or-map, get_or-set_same, get_or-set_other, length-set, length-append, length-map}
+use Rattle.std.specs.Option.{option_map, option_or}
+use Rattle.r4_atoms.specs.declared.things.AtomState.{AtomState}
+use Rattle.r4_atoms.specs.declared.things.Row.{Row}
+use Rattle.r4_atoms.specs.Names.{AreNames, renamed}
+use Rattle.r4_atoms.specs.Owned.{label_of}
+use Rattle.r4_atoms.specs.Atoms.{AreKept, atom_of, AtomsSeen, HaveRoom, AllCommitted, IsClosedAtom, IsSmallestAtom, IsSmallestClosed, NonePasses, is_committed, is_pending, is_pending_as, open_count, IsFreeFor, IsOpenAtom, IsOtherOwner, is_sealed, IsRefused, IsSmallestOpen, IsOpenIn, with_state, without_owner, ended, new_row, new_txn, is_open_in, IsAtom, IsBegun, joined, joined_rows, new_atom, no_row, no_txn, owner_by, owner_of, renamed_txn, row_at, state_at, state_of, txn_of, txn_seen, txns_of, TxnSeen}
+use Rattle.r4_atoms.proofs.AtomLaws.{atom_at, begun_at, closed_parts, count_by_txn, count_seen, is_closed, low_committed, name_within, state_by, atom_is, begun_within, label_begun, length-seen, length-txns, own_label, own_name, owner_begun, owner_found, owner_not_found, owner_raw, raw_cleaned, raw_joined, raw_more, raw_owner, state_is, txn_at, txn_is, txns-push, unsealed_at}
+use Rattle.r4_atoms.proofs.KeptLaws.{cleaned_joined, count, count_is, counts_one, kept_ended, kept_entries, kept_joined, kept_more, kept_sealed, kept_states, none_open, length-ended, length-joined, length-joined_rows, some_open, sum_fits, txns_ended, txns_joined}
+use Rattle.r4_atoms.proofs.ScanLaws.{none_counted, Smallest, smallest_of_all, smallest_stays, smallest_steps}
+use Rattle.r4_base.specs.declared.things.AtomNo.{AtomNo}
+use Rattle.r4_atoms.proofs.atoms.Atoms.lawful.Goals as goal
+
+pub returns-clause-atoms : goal.returns-clause-atoms
+returns-clause-atoms c t begun =
+    let k = c.self.invariant.0 in
+    let within = begun_within _ _ _ _ _ _ _ c.self.invariant.0 _ c.self.view_is t begun in
+    let least = k.named.least (t - 1) within in
+    let some = begun.some in
+    let long = length-seen _ _ _ _ _ _ _ c.self.invariant.0 _ c.self.view_is in
+    let is = atom_is _ _ _ _ _ _ _ c.self.invariant.0 _ c.self.view_is t begun in
+    let j : ℕ = get_or c.self.inside.forest.names (t - 1) 0 in
+    let inside = name_within _ _ _ _ _ _ _ c.self.invariant.0 _ c.self.view_is t begun in
+    let named : atom_of c.args.self.now (j + 1) ≡ get_or c.self.inside.forest.names j 0 + 1 = atom_at _ _ _ _ _ _ _ c.self.invariant.0 _ c.self.view_is j inside in
+    let own = k.named.own (t - 1) within in
+    (
+      omega arith,
+      subst (λ (x : ℕ). IsAtom c.args.self.now x) (sym is) record { begun = begun_at _ _ _ _ _ _ _ c.self.invariant.0 _ c.self.view_is j inside; own = named ∙ ap (λ (x : ℕ). x + 1) own },
+    )
+
+pub returns-clause-owners : goal.returns-clause-owners
+returns-clause-owners c n a owned =
+    let parts = owner_begun _ _ _ _ _ _ _ c.self.invariant.0 _ c.self.view_is n a owned in
+    let some = parts.0 in
+    let plus : a - 1 + 1 ≡ a = omega arith in
+    let named = atom_at _ _ _ _ _ _ _ c.self.invariant.0 _ c.self.view_is (a - 1) parts.1 in
+    let begun = begun_at _ _ _ _ _ _ _ c.self.invariant.0 _ c.self.view_is (a - 1) parts.1 in
+    (
+      subst (λ (x : ℕ). IsAtom c.args.self.now x) plus record { begun = begun; own = named ∙ ap (λ (x : ℕ). x + 1) parts.2 },
+      ap (λ (x : AtomState). x.cleaned) (state_is _ _ _ _ _ _ _ c.self.invariant.0 _ c.self.view_is a) ∙ parts.3,
+    )
+
+pub returns-clause-sealed : goal.returns-clause-sealed
+returns-clause-sealed c a atom sealed =
+    let some = atom.begun.some in
+    let within = begun_within _ _ _ _ _ _ _ c.self.invariant.0 _ c.self.view_is a atom.begun in
+    let plus : a - 1 + 1 ≡ a = omega arith in
+    ap (open_count c.args.self.now) (sym plus) ∙ count_seen _ _ _ _ _ _ _ c.self.invariant.0 _ c.self.view_is (a - 1) within ∙ c.self.invariant.0.closed (a - 1) within (ap (λ (x : AtomState). x.sealed) (sym (state_is _ _ _ _ _ _ _ c.self.invariant.0 _ c.self.view_is a)) ∙ sealed)
