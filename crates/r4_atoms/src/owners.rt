@@ -84,9 +84,7 @@ impl Owners {
         ensures { IfOk result (λ v. v.items ≡ keys_of self.now.entries) }
     {
         let mut nodes: Vec<u64> = self.table.keys().copied().collect(alloc)?;
-        for one in &self.moved {
-            nodes.push(one.node)?;
-        }
+        add_nodes(&mut nodes, self.moved.as_slice())?;
         Ok(nodes)
     }
 
@@ -175,4 +173,14 @@ fn add(row: &mut Vec<Label>, one: Label)
     ensures capacity { vec_capacity row.old ≤ vec_capacity row.new }
 {
     let _ = row.push(one);
+}
+
+// Adds the nodes of a row.
+fn add_nodes(nodes: &mut Vec<u64>, row: &[Label]) -> Result<(), Memory>
+    ensures { OnOk result (nodes.new.items ≡ nodes.old.items ++ keys_of (pairs_of row.now)) }
+{
+    for one in row {
+        nodes.push(one.node)?;
+    }
+    Ok(())
 }

@@ -1,7 +1,7 @@
 use Rattle.std.proofs.Common.{◌≡◌, ◌++◌, map, take}
 use Rattle.std.specs.Map.{keys_of}
 use Rattle.r4_atoms.specs.Owned.{pairs_of}
-use Rattle.r4_atoms.proofs.owners.Owners.all.Given as goal
+use Rattle.r4_atoms.proofs.owners.add_nodes.Given as goal
 
 abbrev pub invariant-loop-one : goal.invariant-loop-one
-invariant-loop-one l = l.nodes.items ≡ keys_of (l.self-inside.table.entries ++ pairs_of (take l.one-index l.self-inside.moved.items))
+invariant-loop-one l = l.nodes.items ≡ l.initial.nodes.items ++ keys_of (pairs_of (take l.one-index l.row))
