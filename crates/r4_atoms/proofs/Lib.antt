@@ -3,3 +3,4 @@ pub mod OwnedLaws
 pub mod AtomLaws
 pub mod KeptLaws
 pub mod ScanLaws
+pub mod NodeLaws

@@ -15,10 +15,13 @@ smallest_stays s test at None miss none = λ t begun below. elim (cases_eq t (at
   | inl here ↦ ap test here ∙ miss
   | inr there ↦ none t begun (omega arith)
 ]
-smallest_stays s test at (Some b) miss has = (has.0, λ t begun below hit. elim (cases_eq t (at + 1)) [
-  | inl here ↦ let e = ap test here in absurd (cc)
-  | inr there ↦ has.1 t begun (omega arith) hit
-])
+smallest_stays s test at (Some b) miss has = (
+  has.0,
+  λ t begun below hit. elim (cases_eq t (at + 1)) [
+    | inl here ↦ let e = ap test here in absurd (cc)
+    | inr there ↦ has.1 t begun (omega arith) hit
+  ],
+)
 
 pub smallest_steps : (s : AtomsSeen) (test : ℕ → Bool) (at : ℕ) (best result : Option AtomNo) (atom : AtomNo) → IsBegun s (at + 1) → test (at + 1) ≡ true → atom.0 ≡ atom_of s (at + 1)
     → MatchOption best (result ≡ Some atom) (λ b. IfSome result (λ a. (a.0 ≤ b.0) × (a.0 ≤ atom.0) × ((a ≡ b) ⊎ (a ≡ atom)))) → IsSome result → Smallest s test at best → Smallest s test (at + 1) result
@@ -52,7 +55,7 @@ smallest_of_all s test at (Some b) last has = record { passes = has.0; smallest 
 -- an atom of which no transaction is open counts none
 pub none_counted : (s : AtomsSeen) (a : ℕ) → ((t : ℕ) → IsOpenIn s a t → ⊥) → open_count s a ≡ 0
 none_counted s a none = sym (count_is a s.txns) ∙ count_closed a s.txns (λ i within mine opened.
-  let minus : i + 1 - 1 ≡ i = omega arith in
-  let same : txn_of s (i + 1) ≡ get_or s.txns i no_txn = ap (λ (x : ℕ). get_or s.txns x no_txn) minus in
-  let begun : IsBegun s (i + 1) = record { some = omega arith; within = omega arith } in
-  none (i + 1) record { begun = begun; atom = ap (λ (x : TxnSeen). x.atom) same ∙ mine; opened = ap (λ (x : TxnSeen). x.is_open) same ∙ opened })
+    let minus : i + 1 - 1 ≡ i = omega arith in
+    let same : txn_of s (i + 1) ≡ get_or s.txns i no_txn = ap (λ (x : ℕ). get_or s.txns x no_txn) minus in
+    let begun : IsBegun s (i + 1) = record { some = omega arith; within = omega arith } in
+    none (i + 1) record { begun = begun; atom = ap (λ (x : TxnSeen). x.atom) same ∙ mine; opened = ap (λ (x : TxnSeen). x.is_open) same ∙ opened })

@@ -1,7 +1,8 @@
 -- Transactions, their atoms, and the nodes that an atom owns.
-use Rattle.std.specs.Prelude.{◌≡◌, ◌≢◌, slice_set, ℕ, ◌+◌, ◌-◌, ◌<◌, ◌≤◌, ◌^◌, List, [], ◌∷◌, length, slice_index, slice_index_or, Option, Some, None, Bool, true, false, not, cond, count_by, ◌&&◌, ◌==◌, if◌then◌else◌}
+use Rattle.std.specs.Prelude.{◌≡◌, ◌≢◌, slice_set, ℕ, ◌+◌, ◌-◌, ◌<◌, ◌≤◌, ◌^◌, List, [], ◌∷◌, map, length, slice_index, slice_index_or, Option, Some, None, Bool, true, false, not, cond, count_by, ◌&&◌, ◌==◌, if◌then◌else◌}
 use Rattle.r4_base.specs.declared.things.ScriptNo.{ScriptNo}
 use Rattle.r4_base.specs.declared.things.AtomNo.{AtomNo}
+use Rattle.r4_base.specs.declared.things.NodeId.{NodeId}
 use Rattle.r4_atoms.specs.declared.things.Account.{Account}
 use Rattle.r4_atoms.specs.declared.things.AtomState.{AtomState}
 use Rattle.r4_atoms.specs.declared.things.CaptureFault.{CaptureFault}
@@ -144,6 +145,17 @@ owner_by s (Some t) = cond (is_cleaned s (atom_of s t)) None (Some (atom_of s t)
 -- the atom that owns a node
 abbrev pub owner_of : AtomsSeen → ℕ → Option ℕ
 owner_of s node = owner_by s (label_of node s.captured)
+
+abbrev pub is_atom : ℕ → Option ℕ → Bool
+is_atom atom None = false
+is_atom atom (Some by) = by == atom
+
+-- whether an atom owns a node
+abbrev pub owns : AtomsSeen → (atom node : ℕ) → Bool
+owns s atom node = is_atom atom (owner_of s node)
+
+abbrev pub numbers : List NodeId → List ℕ
+numbers nodes = map (λ (n : NodeId). n.0) nodes
 
 -- nobody owns a node any more that this atom owned
 abbrev pub without_owner : ℕ → Option ℕ → Option ℕ

@@ -1,9 +1,11 @@
 //! The transactions of a run, their atoms, and the nodes that an atom owns.
 
-ghost use Rattle.std.specs.Prelude.{◌≡◌, ◌≢◌, ℕ, ◌+◌, ◌-◌, ◌^◌, ◌<◌, ◌≤◌, ◌∷◌, ◌++◌, ◌==◌, [], length, max, min, true, false, map, slice_set, slice_index, ◌⊎◌, if◌then◌else◌, IsOk, IfOk, IfErr, OnOk, OnErr, IsSome, IfSome, MatchBool, MatchOption, option_map, vec_len, vec_capacity};
+ghost use Rattle.std.specs.Prelude.{◌≡◌, ◌≢◌, ℕ, ◌+◌, ◌-◌, ◌^◌, ◌<◌, ◌≤◌, ◌∷◌, ◌++◌, ◌==◌, [], length, max, min, true, false, map, slice_set, slice_index, ◌⊎◌, ◌↔◌, filter, if◌then◌else◌, IsOk, IfOk, IfErr, OnOk, OnErr, IsSome, IfSome, MatchBool, MatchOption, option_map, vec_len, vec_capacity};
 ghost use Rattle.std.specs.Option.{option_or};
+ghost use Rattle.std.specs.List.{Contains};
+ghost use Rattle.std.specs.List.Sorted.{IsStrictlyIncreasing};
 ghost use Rattle.r4_atoms.specs.Names.{AreNames, renamed};
-ghost use Rattle.r4_atoms.specs.Atoms.{AreKept, HaveRoom, AllCommitted, FitTogether, IsAtom, IsClosedAtom, IsSmallestAtom, IsSmallestClosed, IsUncommittedOf, NonePasses, is_pending_as, IsBegun, IsFreeFor, IsOpenAtom, IsOpenIn, IsOtherOwner, joined, joined_rows, renamed_txn, sum_of, IsRefused, IsSmallestOpen, account_of, atom_of, ended, is_cleaned, is_committed, is_sealed, new_atom, new_row, new_txn, open_count, owner_of, row_at, state_at, state_of, txn_of, with_state, without_owner};
+ghost use Rattle.r4_atoms.specs.Atoms.{AreKept, HaveRoom, AllCommitted, FitTogether, IsAtom, IsClosedAtom, IsSmallestAtom, IsSmallestClosed, IsUncommittedOf, NonePasses, is_pending_as, IsBegun, IsFreeFor, IsOpenAtom, IsOpenIn, IsOtherOwner, joined, joined_rows, renamed_txn, sum_of, IsRefused, IsSmallestOpen, account_of, atom_of, ended, is_cleaned, is_committed, is_sealed, new_atom, new_row, new_txn, numbers, open_count, owner_of, owns, row_at, state_at, state_of, txn_of, with_state, without_owner};
 
 use crate::forest::Forest;
 use crate::owners::Owners;
@@ -127,6 +129,39 @@ impl Atoms {
                 }
             }
             None => None,
+        }
+    }
+
+    /// The nodes that an atom owns, each once, rising. The only error is want of memory.
+    pub fn nodes(&self, alloc: Global, atom: AtomNo) -> Result<Vec<NodeId>, Memory>
+        requires { IsAtom self.now atom.0 }
+        ensures rising { IfOk result (λ v. IsStrictlyIncreasing (numbers v.items)) }
+        ensures owned { IfOk result (λ v. (n : ℕ) → Contains (numbers v.items) n ↔ (owner_of self.now n ≡ Some atom.0)) }
+    {
+        let all = self.owners.nodes(alloc)?;
+        self.owned_of(alloc, all.as_slice(), atom)
+    }
+
+    // Those of these nodes that an atom owns.
+    fn owned_of(&self, alloc: Global, all: &[u64], atom: AtomNo) -> Result<Vec<NodeId>, Memory>
+        ensures { IfOk result (λ v. numbers v.items ≡ filter (owns self.now atom.0) all.now) }
+    {
+        let mut nodes = Vec::new(alloc);
+        for node in all {
+            if self.is_owner(atom, NodeId(*node)) {
+                nodes.push(NodeId(*node))?;
+            }
+        }
+        Ok(nodes)
+    }
+
+    // Whether an atom owns a node.
+    fn is_owner(&self, atom: AtomNo, node: NodeId) -> bool
+        ensures { result ≡ owns self.now atom.0 node.0 }
+    {
+        match self.owner(node) {
+            Some(by) => by.0 == atom.0,
+            None => false,
         }
     }
 

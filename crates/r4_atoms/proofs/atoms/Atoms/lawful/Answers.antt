@@ -1,4 +1,4 @@
-use Rattle.std.proofs.Common.{◌≡◌, ◌≢◌, ◌⊎◌, ℕ, ◌+◌, ◌-◌, ◌*◌, ◌^◌, ◌<◌, ◌≤◌, ◌++◌, ◌∷◌, ◌&&◌, [], ◌∙◌, refl, sym, ap, subst, eqb, cond, Bool, IsTrue, true, false, length, not, List, Some, None, Option, inl, inr, arith, OnOk, vec_len, vec_capacity, get_or, set, map, rules, IfSome, MatchOption, MatchBool,  count_by, min, max}
+use Rattle.std.proofs.Common.{◌≡◌, ◌≢◌, ◌⊎◌, ℕ, ◌+◌, ◌-◌, ◌*◌, ◌^◌, ◌<◌, ◌≤◌, ◌++◌, ◌∷◌, ◌&&◌, [], ◌∙◌, refl, sym, ap, subst, eqb, cond, Bool, IsTrue, true, false, length, not, List, Some, None, Option, inl, inr, arith, OnOk, vec_len, vec_capacity, get_or, set, map, rules, IfSome, MatchOption, MatchBool, count_by, min, max}
 use Rattle.std.proofs.lemmas.Bool.{and_left, and_right, and_parts, cases_Bool, cases_eq, eq-eqb, ne_eqb}
 use Rattle.std.proofs.lemmas.List.{get_or_read, get_or-map, get_or-set_same, get_or-set_other, length-set, length-append, length-map}
 use Rattle.std.specs.Option.{option_map, option_or}
@@ -24,8 +24,7 @@ returns-clause-atoms c t begun =
     let j : ℕ = get_or c.self.inside.forest.names (t - 1) 0 in
     let inside = name_within _ _ _ _ _ _ _ c.self.invariant.0 _ c.self.view_is t begun in
     let named : atom_of c.args.self.now (j + 1) ≡ get_or c.self.inside.forest.names j 0 + 1 = atom_at _ _ _ _ _ _ _ c.self.invariant.0 _ c.self.view_is j inside in
-    let own = k.named.own (t - 1) within in
-    (
+    let own = k.named.own (t - 1) within in (
       omega arith,
       subst (λ (x : ℕ). IsAtom c.args.self.now x) (sym is) record { begun = begun_at _ _ _ _ _ _ _ c.self.invariant.0 _ c.self.view_is j inside; own = named ∙ ap (λ (x : ℕ). x + 1) own },
     )
@@ -36,8 +35,7 @@ returns-clause-owners c n a owned =
     let some = parts.0 in
     let plus : a - 1 + 1 ≡ a = omega arith in
     let named = atom_at _ _ _ _ _ _ _ c.self.invariant.0 _ c.self.view_is (a - 1) parts.1 in
-    let begun = begun_at _ _ _ _ _ _ _ c.self.invariant.0 _ c.self.view_is (a - 1) parts.1 in
-    (
+    let begun = begun_at _ _ _ _ _ _ _ c.self.invariant.0 _ c.self.view_is (a - 1) parts.1 in (
       subst (λ (x : ℕ). IsAtom c.args.self.now x) plus record { begun = begun; own = named ∙ ap (λ (x : ℕ). x + 1) parts.2 },
       ap (λ (x : AtomState). x.cleaned) (state_is _ _ _ _ _ _ _ c.self.invariant.0 _ c.self.view_is a) ∙ parts.3,
     )

@@ -1,4 +1,4 @@
-use Rattle.std.proofs.Common.{◌≡◌, ◌≢◌, ◌⊎◌, ℕ, ◌+◌, ◌-◌, ◌*◌, ◌^◌, ◌<◌, ◌≤◌, ◌++◌, ◌∷◌, ◌&&◌, [], ◌∙◌, refl, sym, ap, subst, eqb, cond, Bool, IsTrue, true, false, length, not, List, Some, None, Option, inl, inr, arith, OnOk, vec_len, vec_capacity, get_or, set, map, rules, IfSome, MatchOption, MatchBool,  count_by, min, max}
+use Rattle.std.proofs.Common.{◌≡◌, ◌≢◌, ◌⊎◌, ℕ, ◌+◌, ◌-◌, ◌*◌, ◌^◌, ◌<◌, ◌≤◌, ◌++◌, ◌∷◌, ◌&&◌, [], ◌∙◌, refl, sym, ap, subst, eqb, cond, Bool, IsTrue, true, false, length, not, List, Some, None, Option, inl, inr, arith, OnOk, vec_len, vec_capacity, get_or, set, map, rules, IfSome, MatchOption, MatchBool, count_by, min, max}
 use Rattle.std.proofs.lemmas.Bool.{and_left, and_right, and_parts, cases_Bool, cases_lt, cases_eq, eq-eqb, ne_eqb}
 use Rattle.std.proofs.lemmas.List.{get_or_read, get_or-map, get_or-set_same, get_or-set_other, length-set, length-append, length-map}
 use Rattle.std.specs.Option.{option_map, option_or}
