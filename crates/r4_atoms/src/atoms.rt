@@ -74,6 +74,19 @@ impl Atoms {
         AtomNo(self.forest.name(txn.0 - 1) + 1)
     }
 
+    /// Whether a number names an atom: the smallest of its transactions does.
+    pub fn is_atom(&self, atom: AtomNo) -> bool
+        ensures { MatchBool result (IsAtom self.now atom.0) (IsAtom self.now atom.0 → ⊥) }
+    {
+        if atom.0 == 0 {
+            return false;
+        }
+        if self.begun() < atom.0 {
+            return false;
+        }
+        self.atom(TxnNo(atom.0)).0 == atom.0
+    }
+
     /// The script of a transaction.
     pub fn script(&self, txn: TxnNo) -> ScriptNo
         requires { IsBegun self.now txn.0 }

@@ -5,6 +5,8 @@ mod atoms;
 mod forest;
 mod owners;
 mod things;
+#[cfg(test)]
+mod tests;
 
 pub use atoms::Atoms;
 pub use things::{Account, CaptureFault, StillOpen, Uncommitted};
