@@ -1,12 +1,12 @@
 -- What one sees of transactions and atoms, from the rows that keep them.
-use Rattle.std.proofs.Common.{◌≡◌, ◌≢◌, ◌⊎◌, ℕ, zero, suc, ◌+◌, ◌-◌, ◌<◌, ◌≤◌, ◌^◌, Bool, true, false, eqb, not, cond, ◌&&◌, List, [], ◌∷◌, ◌++◌, length, get_or, set, map, Option, Some, None, refl, sym, ap, ◌∙◌, subst, inl, inr, arith, count_by}
-use Rattle.std.proofs.lemmas.Bool.{cases_Bool, cases_eq, eqb-true, eq-eqb, ne_eqb}
-use Rattle.std.proofs.lemmas.List.{get_or-set_same, get_or-set_other, length-set, length-append, get_or_append_left, get_or_push, get_or-map, length-map, get_or_default, get_or_read}
+use Rattle.std.proofs.Common.{◌≡◌, ℕ, zero, suc, ◌+◌, ◌-◌, ◌<◌, ◌≤◌, Bool, true, false, cond, List, [], ◌∷◌, ◌++◌, length, get_or, set, map, Option, Some, None, refl, sym, ap, ◌∙◌, inl, inr, arith}
+use Rattle.std.proofs.lemmas.Bool.{cases_Bool, cases_eq, eq-eqb, ne_eqb}
+use Rattle.std.proofs.lemmas.List.{get_or-set_same, get_or-set_other, get_or_append_left, get_or-map}
 use Rattle.r4_atoms.specs.declared.things.AtomState.{AtomState}
 use Rattle.r4_atoms.specs.declared.things.Row.{Row}
 use Rattle.r4_atoms.specs.Names.{AreNames, renamed}
 use Rattle.r4_atoms.specs.Owned.{label_of}
-use Rattle.r4_atoms.specs.Atoms.{AreKept, atom_of, AtomsSeen, IsClosedAtom, is_committed, is_open_in, is_sealed, open_count, IsAtom, IsBegun, new_atom, no_row, no_txn, owner_by, owner_of, row_at, state_at, state_of, txn_of, txn_seen, txns_of, TxnSeen, without_owner}
+use Rattle.r4_atoms.specs.Atoms.{AreKept, atom_of, AtomsSeen, IsClosedAtom, is_committed, is_sealed, open_count, IsAtom, IsBegun, new_atom, no_txn, owner_by, owner_of, row_at, state_at, state_of, txn_of, txn_seen, txns_of, TxnSeen, without_owner}
 use Rattle.std.specs.Option.{option_map}
 
 pub length-txns : (rows : List Row) (names : List ℕ) → length rows ≡ length names → length (txns_of rows names) ≡ length names

@@ -1,14 +1,12 @@
 -- The rows of transactions and atoms stay well kept.
-use Rattle.std.proofs.Common.{◌≡◌, ◌≢◌, ◌⊎◌, ◌↔◌, ℕ, zero, suc, ◌+◌, ◌-◌, ◌<◌, ◌≤◌, ◌^◌, Bool, true, false, eqb, not, cond, ◌&&◌, List, [], ◌∷◌, ◌++◌, length, get_or, set, map, Option, Some, None, refl, sym, ap, ◌∙◌, subst, inl, inr, arith, count_by}
-use Rattle.std.proofs.lemmas.Bool.{cases_Bool, cases_eq, eqb-true, eq-eqb, ne_eqb, and_left, and_right, and_from}
-use Rattle.std.proofs.lemmas.List.{get_or-set_same, get_or-set_other, length-set, length-append, get_or_append_left, get_or_push, get_or-map, length-map, get_or_default}
+use Rattle.std.proofs.Common.{◌≡◌, ◌≢◌, ◌⊎◌, ℕ, suc, ◌+◌, ◌-◌, ◌<◌, ◌≤◌, ◌^◌, Bool, true, false, cond, List, [], ◌∷◌, ◌++◌, length, get_or, set, map, Some, refl, sym, ap, ◌∙◌, inl, inr, arith, count_by}
+use Rattle.std.proofs.lemmas.Bool.{cases_Bool, cases_eq, eq-eqb, ne_eqb}
+use Rattle.std.proofs.lemmas.List.{get_or-set_same, get_or-set_other, length-set, length-append, get_or_append_left, get_or_push, get_or-map, length-map}
 use Rattle.std.proofs.lemmas.List.Sums.{sum_by-set, sum_by_push, sum_by-cons, get_or-le-sum_by}
-use Rattle.std.specs.Option.{option_map}
 use Rattle.r4_base.specs.declared.things.ScriptNo.{ScriptNo}
-use Rattle.r4_atoms.specs.declared.things.Account.{Account}
 use Rattle.r4_atoms.specs.declared.things.AtomState.{AtomState}
 use Rattle.r4_atoms.specs.declared.things.Row.{Row}
-use Rattle.r4_atoms.specs.Names.{AreNames, renamed}
+use Rattle.r4_atoms.specs.Names.{renamed}
 use Rattle.r4_atoms.specs.Owned.{label_of}
 use Rattle.r4_atoms.specs.Atoms.{AreKept, ended, is_open_in, joined, joined_rows, new_atom, new_row, no_account, no_row, no_txn, renamed_txn, row_at, state_at, txn_seen, txns_of, TxnSeen, with_account, with_open_txns, sum_of}
 use Rattle.r4_atoms.proofs.ForestLaws.{AreNames-more, AreNames-renamed}

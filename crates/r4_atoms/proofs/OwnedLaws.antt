@@ -1,5 +1,5 @@
 -- Labels of nodes after a change of one list of entries or another.
-use Rattle.std.proofs.Common.{◌≡◌, ◌≢◌, ◌⊎◌, ℕ, zero, suc, ◌+◌, ◌-◌, ◌<◌, ◌≤◌, Bool, true, false, eqb, not, cond, List, [], ◌∷◌, ◌++◌, length, map, filter, Option, Some, None, Result, IsOk, Ok, Err, IfOk, OnOk, IsSome, is_some, refl, sym, ap, ◌∙◌, inl, inr, arith}
+use Rattle.std.proofs.Common.{◌≡◌, ◌≢◌, ◌⊎◌, ℕ, ◌+◌, ◌<◌, ◌≤◌, true, false, eqb, not, cond, List, [], ◌∷◌, ◌++◌, length, filter, Option, Some, None, Result, IsOk, Ok, Err, IfOk, OnOk, is_some, refl, sym, ap, ◌∙◌, inl, inr, arith}
 use Rattle.std.proofs.lemmas.Bool.{cases_Bool, cases_eq, eqb-true, eq-eqb, ne_eqb}
 use Rattle.std.proofs.lemmas.List.{map-append}
 use Rattle.r4_atoms.specs.declared.owners.Label.{Label}

@@ -1,9 +1,9 @@
 -- The smallest atom of the transactions that pass a test, one transaction after the other.
-use Rattle.std.proofs.Common.{◌≡◌, ◌≢◌, ◌⊎◌, ℕ, suc, ◌+◌, ◌-◌, ◌<◌, ◌≤◌, Bool, true, false, List, length, get_or, Option, Some, None, MatchOption, IfSome, IsSome, refl, sym, ap, ◌∙◌, subst, inl, inr, arith, eqb}
-use Rattle.std.proofs.lemmas.Bool.{cases_Bool, cases_eq, eq-eqb, and_parts}
+use Rattle.std.proofs.Common.{◌≡◌, ◌⊎◌, ℕ, ◌+◌, ◌-◌, ◌≤◌, Bool, true, false, length, get_or, Option, Some, None, MatchOption, IfSome, IsSome, sym, ap, ◌∙◌, inl, inr, arith}
+use Rattle.std.proofs.lemmas.Bool.{cases_eq}
 use Rattle.r4_base.specs.declared.things.AtomNo.{AtomNo}
-use Rattle.r4_atoms.specs.Atoms.{atom_of, AtomsSeen, IsAtom, IsBegun, IsOpenIn, IsSmallestAtom, NonePasses, no_txn, open_count, txn_of, TxnSeen}
-use Rattle.r4_atoms.proofs.KeptLaws.{count, count_closed, count_is}
+use Rattle.r4_atoms.specs.Atoms.{atom_of, AtomsSeen, IsBegun, IsOpenIn, IsSmallestAtom, NonePasses, no_txn, open_count, txn_of, TxnSeen}
+use Rattle.r4_atoms.proofs.KeptLaws.{count_closed, count_is}
 
 -- the smallest atom of the transactions up to this one
 abbrev pub Smallest : AtomsSeen → (ℕ → Bool) → ℕ → Option AtomNo → Type 0

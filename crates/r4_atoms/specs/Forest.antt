@@ -1,5 +1,5 @@
 -- Numbers from 0 on, each of which stands under another or is a top: the names of their sets.
-use Rattle.std.specs.Prelude.{◌≡◌, ℕ, zero, suc, ◌+◌, ◌<◌, ◌≤◌, ◌^◌, ◌∷◌, [], ◌++◌, List, length, map, true, false, cond, slice_index_or, slice_set}
+use Rattle.std.specs.Prelude.{◌≡◌, ℕ, zero, suc, ◌+◌, ◌<◌, ◌≤◌, ◌^◌, List, length, map, true, false, cond, slice_index_or, slice_set}
 use Rattle.std.specs.List.{range_with_len, sum_by}
 use Rattle.r4_atoms.specs.declared.forest.Link.{Link}
 use Rattle.r4_atoms.specs.Names.{AreNames}

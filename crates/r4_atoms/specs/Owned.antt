@@ -1,5 +1,5 @@
 -- Labels of nodes.
-use Rattle.std.specs.Prelude.{◌≡◌, ℕ, ◌+◌, ◌≤◌, List, length, map, Bool, ◌==◌, Option}
+use Rattle.std.specs.Prelude.{ℕ, ◌+◌, ◌≤◌, List, length, map, Bool, ◌==◌, Option}
 use Rattle.std.specs.Map.{lookup}
 use Rattle.r4_atoms.specs.declared.owners.Label.{Label}
 

@@ -4,9 +4,9 @@
 mod atoms;
 mod forest;
 mod owners;
-mod things;
 #[cfg(test)]
 mod tests;
+mod things;
 
 pub use atoms::Atoms;
 pub use things::{Account, CaptureFault, StillOpen, Uncommitted};

@@ -10,12 +10,7 @@ use std::process::Abort;
 use std::test::Fail;
 
 // Begins a transaction.
-fn begin(
-    rt: &impl Abort,
-    alloc: Global,
-    atoms: &mut Atoms,
-    script: u32,
-) -> Result<AtomNo, Fail> {
+fn begin(rt: &impl Abort, alloc: Global, atoms: &mut Atoms, script: u32) -> Result<AtomNo, Fail> {
     assert!(rt; atoms.begun() < 1_000_000);
     let txn = atoms.begin(alloc, ScriptNo(script))?;
     Ok(AtomNo(txn.0))
@@ -33,7 +28,6 @@ fn capture(
     assert!(rt; !atoms.is_sealed(atom));
     atoms.capture(alloc, atom, NodeId(node))
 }
-
 
 // Whether the numbers of two accounts are small.
 fn fit(one: &Account, two: &Account) -> bool

@@ -1,6 +1,6 @@
-use Rattle.std.proofs.Common.{◌≡◌, ◌≢◌, sym, arith}
+use Rattle.std.proofs.Common.{◌≢◌, sym, arith}
 use Rattle.std.proofs.lemmas.List.{get_or-set_other}
-use Rattle.r4_atoms.specs.Forest.{link_at, no_link}
+use Rattle.r4_atoms.specs.Forest.{no_link}
 use Rattle.r4_atoms.proofs.ForestLaws.{tops_together}
 use Rattle.r4_atoms.proofs.forest.put_under.Goals as goal
 

@@ -1,4 +1,4 @@
-use Rattle.std.proofs.Common.{◌≡◌, true, arith, ◌∙◌, sym}
+use Rattle.std.proofs.Common.{◌∙◌, sym}
 use Rattle.r4_atoms.specs.Forest.{IsTop}
 use Rattle.r4_atoms.proofs.ForestLaws.{root_of_up, root_of_top}
 use Rattle.r4_atoms.proofs.forest.root.Goals as goal

@@ -1,4 +1,4 @@
-use Rattle.std.proofs.Common.{◌≡◌, ◌++◌, map, take}
+use Rattle.std.proofs.Common.{◌≡◌, ◌++◌, take}
 use Rattle.std.specs.Map.{keys_of}
 use Rattle.r4_atoms.specs.Owned.{pairs_of}
 use Rattle.r4_atoms.proofs.owners.add_nodes.Given as goal

@@ -1,9 +1,9 @@
-use Rattle.std.proofs.Common.{◌≡◌, ◌≢◌, ◌<◌, ◌++◌, ◌∷◌, [], ◌∙◌, ap, sym, subst, length, arith, List, ℕ, get_or, take, drop, map, refl}
+use Rattle.std.proofs.Common.{◌≡◌, ◌<◌, ◌++◌, ◌∙◌, ap, sym, subst, length, arith, List, get_or, take, drop, map}
 use Rattle.std.proofs.lemmas.List.{take_at}
 use Rattle.r4_atoms.specs.declared.forest.Link.{Link}
 use Rattle.r4_atoms.specs.Names.{Names, renamed}
 use Rattle.r4_atoms.specs.Forest.{HasRoom, linked, names_of, root_of}
-use Rattle.r4_atoms.proofs.ForestLaws.{HasRoom-under_gone, HasRoom-under_kept, length-linked, length-names, names-under_gone, names-under_kept, tops_differ}
+use Rattle.r4_atoms.proofs.ForestLaws.{HasRoom-under_gone, HasRoom-under_kept, length-names, names-under_gone, names-under_kept, tops_differ}
 use Rattle.r4_atoms.proofs.forest.Forest.join.Goals as goal
 
 pub root-left-requires-clause-within : goal.root-left-requires-clause-within

@@ -1,4 +1,4 @@
-use Rattle.std.proofs.Common.{◌<◌, ◌^◌, ap, length, arith}
+use Rattle.std.proofs.Common.{ap, length, arith}
 use Rattle.r4_atoms.specs.Names.{Names}
 use Rattle.r4_atoms.proofs.ForestLaws.{length-names}
 use Rattle.r4_atoms.proofs.forest.Forest.lawful.Goals as goal

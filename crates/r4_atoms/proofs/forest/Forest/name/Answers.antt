@@ -2,7 +2,7 @@ use Rattle.std.proofs.Common.{◌≡◌, ◌<◌, ◌∙◌, ap, sym, length, ar
 use Rattle.std.proofs.lemmas.List.{get_or_read}
 use Rattle.r4_atoms.specs.declared.forest.Link.{Link}
 use Rattle.r4_atoms.specs.Names.{Names}
-use Rattle.r4_atoms.specs.Forest.{link_at, no_link, root_of}
+use Rattle.r4_atoms.specs.Forest.{no_link, root_of}
 use Rattle.r4_atoms.proofs.ForestLaws.{length-names, name_seen}
 use Rattle.r4_atoms.proofs.forest.Forest.name.Goals as goal
 

@@ -1,7 +1,6 @@
-use Rattle.std.proofs.Common.{◌≡◌, ◌<◌, ◌++◌, ◌∷◌, [], ◌∙◌, ap, length, arith, List, ℕ}
-use Rattle.r4_atoms.specs.declared.forest.Link.{Link}
+use Rattle.std.proofs.Common.{◌≡◌, ◌<◌, ◌++◌, ◌∷◌, [], ◌∙◌, ap, length, arith, ℕ}
 use Rattle.r4_atoms.specs.Names.{Names}
-use Rattle.r4_atoms.specs.Forest.{HasRoom, names_of, next_link}
+use Rattle.r4_atoms.specs.Forest.{names_of}
 use Rattle.r4_atoms.proofs.ForestLaws.{HasRoom-more, length-names, names_of-more}
 use Rattle.r4_atoms.proofs.forest.Forest.push.Goals as goal
 

@@ -1,10 +1,10 @@
-use Rattle.std.proofs.Common.{◌≡◌, ◌≢◌, ℕ, ◌+◌, ◌<◌, ◌≤◌, ◌++◌, ◌∷◌, [], ◌∙◌, refl, sym, ap, eqb, cond, true, false, length, filter, not, List, Some, None, Option, inl, inr, arith, OnOk, vec_len, vec_capacity, hash_map_len}
+use Rattle.std.proofs.Common.{◌≡◌, ℕ, ◌+◌, ◌≤◌, ◌++◌, ◌∷◌, [], ◌∙◌, refl, sym, ap, eqb, cond, true, length, filter, not, List, Some, None, arith, hash_map_len}
 use Rattle.std.proofs.lemmas.List.{append_assoc, length_push}
 use Rattle.std.specs.Option.{is_some}
-use Rattle.std.proofs.lemmas.Bool.{cases_Bool, eq-eqb, ne_eqb}
+use Rattle.std.proofs.lemmas.Bool.{eq-eqb}
 use Rattle.r4_atoms.specs.declared.owners.Label.{Label}
-use Rattle.r4_atoms.specs.Owned.{HasPlaces, is_of, label_of, Owned, pair_of, pairs_of}
-use Rattle.r4_atoms.proofs.OwnedLaws.{label-append_none, label-append_same, label-append_some, labels_added, labels_changed, labels_renamed, length-forgotten, grown, length-forgotten_some, labels_put, on_ok_at, places_left, pairs-append}
+use Rattle.r4_atoms.specs.Owned.{is_of, label_of, Owned, pairs_of}
+use Rattle.r4_atoms.proofs.OwnedLaws.{labels_added, labels_changed, labels_renamed, length-forgotten, grown, labels_put, on_ok_at, places_left, pairs-append}
 use Rattle.r4_atoms.proofs.owners.Owners.rename.Goals as goal
 
 pub invariant_of-self : goal.invariant_of-self

@@ -1,8 +1,6 @@
-use Rattle.std.proofs.Common.{◌≡◌, ◌≢◌, ℕ, ◌+◌, ◌<◌, ◌≤◌, ◌++◌, ◌∷◌, [], ◌∙◌, refl, sym, ap, eqb, cond, true, false, length, filter, not, List, Some, None, Option, inl, inr, arith, OnOk, vec_len, vec_capacity, hash_map_len}
-use Rattle.std.proofs.lemmas.Bool.{cases_Bool, eq-eqb, ne_eqb}
-use Rattle.r4_atoms.specs.declared.owners.Label.{Label}
-use Rattle.r4_atoms.specs.Owned.{HasPlaces, is_of, label_of, Owned, pair_of, pairs_of}
-use Rattle.r4_atoms.proofs.OwnedLaws.{label-append_none, label-append_same, label-append_some, labels_added, labels_changed, labels_renamed, length-forgotten, grown, length-forgotten_some, on_ok_at, pairs-append}
+use Rattle.std.proofs.Common.{◌∙◌, ap, eqb, cond, Some, arith}
+use Rattle.r4_atoms.specs.Owned.{label_of, Owned}
+use Rattle.r4_atoms.proofs.OwnedLaws.{labels_changed, length-forgotten, grown, on_ok_at}
 use Rattle.r4_atoms.proofs.owners.Owners.set.Goals as goal
 
 pub invariant_of-self : goal.invariant_of-self
