@@ -1,0 +1,6 @@
+pub mod ForestLaws
+pub mod OwnedLaws
+pub mod AtomLaws
+pub mod KeptLaws
+pub mod ScanLaws
+pub mod NodeLaws

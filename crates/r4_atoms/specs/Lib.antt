@@ -1,0 +1,4 @@
+pub mod Names
+pub mod Forest
+pub mod Owned
+pub mod Atoms

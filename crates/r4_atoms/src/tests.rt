@@ -1,0 +1,222 @@
+//! Runs of transactions: chains and stars of a thousand, and one atom after another that is sealed, committed and cleaned.
+
+ghost use Rattle.std.specs.Prelude.{◌≡◌, ◌<◌, IsTrue};
+ghost use Rattle.r4_atoms.specs.Atoms.{FitTogether};
+
+use crate::{Account, Atoms, CaptureFault, StillOpen, Uncommitted};
+use r4_base::{AtomNo, NodeId, ScriptNo, TxnNo};
+use std::alloc::Global;
+use std::process::Abort;
+use std::test::Fail;
+
+// Begins a transaction.
+fn begin(rt: &impl Abort, alloc: Global, atoms: &mut Atoms, script: u32) -> Result<AtomNo, Fail> {
+    assert!(rt; atoms.begun() < 1_000_000);
+    let txn = atoms.begin(alloc, ScriptNo(script))?;
+    Ok(AtomNo(txn.0))
+}
+
+// Captures a node for an atom.
+fn capture(
+    rt: &impl Abort,
+    alloc: Global,
+    atoms: &mut Atoms,
+    atom: AtomNo,
+    node: u64,
+) -> Result<(), CaptureFault> {
+    assert!(rt; atoms.is_atom(atom));
+    assert!(rt; !atoms.is_sealed(atom));
+    atoms.capture(alloc, atom, NodeId(node))
+}
+
+// Whether the numbers of two accounts are small.
+fn fit(one: &Account, two: &Account) -> bool
+    ensures { IsTrue result → FitTogether one.now two.now }
+{
+    is_small(one) && is_small(two)
+}
+
+fn is_small(account: &Account) -> bool
+    ensures { IsTrue result → (account.now.cells < 1000000) × (account.now.fresh < 1000000) × (account.now.born < 1000000) × (account.now.gone < 1000000) }
+{
+    account.cells < 1_000_000
+        && account.fresh < 1_000_000
+        && account.born < 1_000_000
+        && account.gone < 1_000_000
+}
+
+// Fuses two atoms whose accounts are small.
+fn fuse(rt: &impl Abort, atoms: &mut Atoms, one: AtomNo, two: AtomNo) -> AtomNo {
+    assert!(rt; atoms.is_atom(one));
+    assert!(rt; !atoms.is_sealed(one));
+    assert!(rt; atoms.is_atom(two));
+    assert!(rt; !atoms.is_sealed(two));
+    assert!(rt; fit(&atoms.account(one), &atoms.account(two)));
+    atoms.fuse(one, two)
+}
+
+// Ends the transaction that names an atom.
+fn close(rt: &impl Abort, atoms: &mut Atoms, txn: TxnNo) {
+    assert!(rt; 0 < txn.0);
+    assert!(rt; txn.0 <= atoms.begun());
+    assert!(rt; atoms.is_open(txn));
+    atoms.close(txn);
+}
+
+fn seal(rt: &impl Abort, atoms: &mut Atoms, atom: AtomNo) -> Result<(), StillOpen> {
+    assert!(rt; atoms.is_atom(atom));
+    assert!(rt; !atoms.is_sealed(atom));
+    atoms.seal(atom)
+}
+
+// Commits an atom that is sealed.
+fn commit(rt: &impl Abort, atoms: &mut Atoms, atom: AtomNo) {
+    assert!(rt; atoms.is_atom(atom));
+    assert!(rt; atoms.is_sealed(atom));
+    assert!(rt; !atoms.is_committed(atom));
+    atoms.commit(atom);
+}
+
+// Cleans an atom that is sealed.
+fn clean(rt: &impl Abort, atoms: &mut Atoms, atom: AtomNo) {
+    assert!(rt; atoms.is_atom(atom));
+    assert!(rt; atoms.is_sealed(atom));
+    atoms.clean(atom);
+}
+
+// The atom of a transaction.
+fn atom_of(rt: &impl Abort, atoms: &Atoms, txn: u32) -> AtomNo {
+    assert!(rt; 0 < txn);
+    assert!(rt; txn <= atoms.begun());
+    atoms.atom(TxnNo(txn))
+}
+
+// The numbers of the nodes that an atom owns.
+fn nodes(rt: &impl Abort, alloc: Global, atoms: &Atoms, atom: AtomNo) -> Result<Vec<u64>, Fail> {
+    assert!(rt; atoms.is_atom(atom));
+    let nodes = atoms.nodes(alloc, atom)?;
+    let numbers = nodes.iter().map(|n| n.0).collect(alloc)?;
+    Ok(numbers)
+}
+
+// Three transactions with a node each, of which the first and the third are one atom.
+fn three(rt: &impl Abort, alloc: Global) -> Result<Atoms, Fail> {
+    let mut atoms = Atoms::new(alloc);
+    for i in 1..4u32 {
+        let atom = begin(rt, alloc, &mut atoms, 7 + i % 2)?;
+        let _ = capture(rt, alloc, &mut atoms, atom, 10 * u64::from(i));
+    }
+    assert!(rt; fuse(rt, &mut atoms, AtomNo(3), AtomNo(1)).0 == 1);
+    Ok(atoms)
+}
+
+// The same, where the first atom is sealed.
+fn sealed(rt: &impl Abort, alloc: Global) -> Result<Atoms, Fail> {
+    let mut atoms = three(rt, alloc)?;
+    close(rt, &mut atoms, TxnNo(1));
+    close(rt, &mut atoms, TxnNo(3));
+    assert!(rt; seal(rt, &mut atoms, AtomNo(1)).is_ok());
+    Ok(atoms)
+}
+
+#[test]
+fn a_fuse_keeps_the_smaller_atom(rt: HostRuntime) -> Result<(), Fail> {
+    let atoms = three(&rt, rt.alloc())?;
+    assert!(rt; atoms.owner(NodeId(30)) == Some(AtomNo(1)));
+    assert!(rt; atoms.owner(NodeId(20)) == Some(AtomNo(2)));
+    assert!(rt; atoms.owner(NodeId(40)) == None);
+    let open = Uncommitted::Open {
+        atom: AtomNo(1),
+        txn: TxnNo(1),
+    };
+    assert!(rt; atoms.uncommitted_of(ScriptNo(8)) == open);
+    assert!(rt; atoms.next_closed() == None);
+    Ok(())
+}
+
+#[test]
+fn a_node_is_captured_once(rt: HostRuntime) -> Result<(), Fail> {
+    let mut atoms = three(&rt, rt.alloc())?;
+    let refused = capture(&rt, rt.alloc(), &mut atoms, AtomNo(2), 30);
+    assert!(rt; refused == Err(CaptureFault::Owned { by: AtomNo(1) }));
+    close(&rt, &mut atoms, TxnNo(1));
+    let open = seal(&rt, &mut atoms, AtomNo(1));
+    assert!(rt; open == Err(StillOpen { txn: TxnNo(3) }));
+    Ok(())
+}
+
+#[test]
+fn a_sealed_atom_loses_a_node(rt: HostRuntime) -> Result<(), Fail> {
+    let mut atoms = sealed(&rt, rt.alloc())?;
+    assert!(rt; capture(&rt, rt.alloc(), &mut atoms, AtomNo(2), 30).is_ok());
+    assert!(rt; !atoms.all_committed(ScriptNo(8)));
+    commit(&rt, &mut atoms, AtomNo(1));
+    assert!(rt; atoms.all_committed(ScriptNo(8)));
+    clean(&rt, &mut atoms, AtomNo(1));
+    assert!(rt; atoms.owner(NodeId(10)) == None);
+    assert!(rt; atoms.owner(NodeId(30)) == Some(AtomNo(2)));
+    Ok(())
+}
+
+#[test]
+fn a_rename_leaves_an_owner(rt: HostRuntime) -> Result<(), Fail> {
+    let mut atoms = three(&rt, rt.alloc())?;
+    atoms.rename(NodeId(30), NodeId(40));
+    atoms.rename(NodeId(20), NodeId(10));
+    let nodes = nodes(&rt, rt.alloc(), &atoms, AtomNo(1))?;
+    assert!(rt; nodes.as_slice() == [10, 40].as_slice());
+    assert!(rt; atoms.owner(NodeId(20)) == None);
+    Ok(())
+}
+
+// Charges an atom so many cells.
+fn charge(rt: &impl Abort, atoms: &mut Atoms, atom: AtomNo, cells: u64) {
+    assert!(rt; atoms.is_atom(atom));
+    let account = Account {
+        cells,
+        fresh: 3,
+        born: 2,
+        gone: 1,
+    };
+    atoms.charge(atom, account);
+}
+
+#[test]
+fn accounts_are_added(rt: HostRuntime) -> Result<(), Fail> {
+    let alloc = rt.alloc();
+    let mut atoms = Atoms::new(alloc);
+    let one = begin(&rt, alloc, &mut atoms, 1)?;
+    let two = begin(&rt, alloc, &mut atoms, 1)?;
+    charge(&rt, &mut atoms, one, 5);
+    charge(&rt, &mut atoms, two, 6);
+    assert!(rt; fuse(&rt, &mut atoms, two, one).0 == 1);
+    assert!(rt; atoms.is_atom(one));
+    let sum = Account {
+        cells: 11,
+        fresh: 6,
+        born: 4,
+        gone: 2,
+    };
+    assert!(rt; atoms.account(one) == sum);
+    Ok(())
+}
+
+#[test]
+fn a_thousand_are_fused_in_a_chain_and_in_a_star(rt: HostRuntime) -> Result<(), Fail> {
+    let alloc = rt.alloc();
+    let mut atoms = Atoms::new(alloc);
+    for i in 0..2000 {
+        let atom = begin(&rt, alloc, &mut atoms, 1)?;
+        let _ = capture(&rt, alloc, &mut atoms, atom, i);
+    }
+    for i in 1..1000u32 {
+        let _ = fuse(&rt, &mut atoms, AtomNo(1000 - i), AtomNo(1001 - i));
+    }
+    for i in 1002..2001u32 {
+        let _ = fuse(&rt, &mut atoms, AtomNo(i), AtomNo(1001));
+    }
+    assert!(rt; atom_of(&rt, &atoms, 1000).0 == 1);
+    assert!(rt; atom_of(&rt, &atoms, 2000).0 == 1001);
+    assert!(rt; nodes(&rt, alloc, &atoms, AtomNo(1001))?.len() == 1000);
+    Ok(())
+}
