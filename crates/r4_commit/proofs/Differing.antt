@@ -5,6 +5,7 @@ use Rattle.std.proofs.lemmas.List.Elements.{Contains-append_cases, Contains-appe
 use Rattle.r4_base.specs.Image.{AreDifferent}
 use Rattle.r4_base.specs.declared.things.BlockNo.{BlockNo}
 use Rattle.r4_base.proofs.Members.{member_cases, member_here, member_later, no_member}
+use Rattle.r4_base.proofs.Choices.{nothing_in}
 use Rattle.r4_cell.specs.Seen.{CellSeen}
 use Rattle.r4_place.specs.Chosen.{block_of, fresh_blocks}
 use Rattle.r4_place.specs.declared.placed.Placed.{Placed}
@@ -33,7 +34,7 @@ different_right (x ∷ xs) ys different = different_right xs ys different.1
 
 -- one block is given by one answer
 one_answer : (ps : List Placed) (p q : Placed) (b : ℕ) → AreDifferent (fresh_blocks ps) → Contains ps p → Contains ps q → Contains (block_of p.how) b → Contains (block_of q.how) b → p ≡ q
-one_answer [] p q b different one two mine his = absurd (Rattle.r4_wander.proofs.Members.no_any p one)
+one_answer [] p q b different one two mine his = absurd (nothing_in p one)
 one_answer (r ∷ rs) p q b different one two mine his = ⊎_elim
     (λ is. ⊎_elim
     (λ also. is ∙ sym also)

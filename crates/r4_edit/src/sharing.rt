@@ -14,6 +14,9 @@ use r4_cell::{Cell, Cells, Fresh, new_cell};
 use std::alloc::Global;
 use std::sync::Arc;
 
+// How many bytes the items of a node have room in.
+const ROOM: u32 = NODE_ROOM as u32;
+
 /// One or two nodes with the items of a row in the place of a node: two where they do not fit into one. Then it takes a
 /// fresh number.
 pub(crate) fn share(
@@ -27,7 +30,7 @@ pub(crate) fn share(
     ensures shares { IfOk result (λ cells. Shares old.now (row_items row.now) fresh.old fresh.new cells) }
     ensures numbers { OnlyTakes fresh.old fresh.new }
 {
-    if row.weight(0, row.len()) <= u32::from(NODE_ROOM) {
+    if row.weight(0, row.len()) <= ROOM {
         return one(alloc, row, old);
     }
     two(alloc, row, old, fresh)

@@ -65,6 +65,16 @@ longer_part {T} (Err e) a rest text before after is p = part_longer a rest text 
 pub some_more : (before : List ℕ) → Some before ≡ Some (before ++ [])
 some_more before = sym (ap (λ (t : List ℕ). Some t) (append-nil before))
 
+-- a step that stopped before anything was printed
+pub stayed : {T : Type 0} {n : ℕ} {image : Image} {m : Content} (c : HasContent n image m) (root : Root) (start : Target) (steps : ℕ) (text : List ℕ) (k : SinkState) (p : PoolState) (b' : Below) (r : Result T Stop) (e : Stop)
+    → IsErrAnd r (λ y. y ≡ e) → IsUndamagedStop e → IsOver c root p → GoesOn c root start steps text k r p b' k
+stayed {T} c root start steps text k p b' r e is u over = record {
+  over = over;
+  onward = not_ok _ e r is;
+  part = λ before h. on_err r _ (nothing_part text before k.written h);
+  undamaged = stopped_so r e is u;
+}
+
 -- ---- an object's line
 
 module _ {T : Type 0} {n : ℕ} {image : Image} {m : Content} (c : HasContent n image m) (root : Root) (o : Target) (a : Attr) (b b' : Below) (k k' : SinkState) (p : PoolState) where

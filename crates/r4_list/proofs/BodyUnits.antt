@@ -7,7 +7,7 @@ use Rattle.std.proofs.lemmas.List.Elements.{Contains-append_left, Contains-appen
 use Rattle.r4_base.specs.Cell.{block_names, cell_of, item_names, names_in, next_key, run_names}
 use Rattle.r4_base.specs.Extents.{AreLawfulUnits, IsLawfulUnit, block_of, blocks_in, is_hole, units_of}
 use Rattle.r4_base.specs.Image.{Image, block_at}
-use Rattle.r4_base.specs.Key.{rank}
+use Rattle.r4_base.specs.Key.{rank, with_offset}
 use Rattle.r4_base.specs.Node.{Item, items_of}
 use Rattle.r4_base.specs.Tree.{Name}
 use Rattle.r4_base.specs.declared.items.Unit.{Unit as ExtentUnit}
@@ -40,18 +40,18 @@ unfolding rank
 rank_from l o i offset = omega arith
 
 abbrev With : (k h : Key) (offset : ℕ) → Type 0
-With k h offset = h.el ≡ slice_index k.el 0 ∷ slice_index k.el 1 ∷ slice_index k.el 2 ∷ offset ∷ []
+With k h offset = h ≡ with_offset k offset
 
 pub with_one_body : (k h : Key) (offset : ℕ) → With k h offset → AreOneBody h k
 with_one_body k h offset e = record { first = rw e refl; second = rw e refl; third = rw e refl }
 
-pub with_offset : (k h : Key) (offset : ℕ) → With k h offset → slice_index h.el 3 ≡ offset
-with_offset k h offset e = rw e refl
+pub offset_is : (k h : Key) (offset : ℕ) → With k h offset → slice_index h.el 3 ≡ offset
+offset_is k h offset e = rw e refl
 
 pub rank_behind : (k h : Key) → With k h (slice_index k.el 3 + 4096) → rank h ≡ rank k + 4096
 rank_behind k h e =
     let apart = ranks_apart h k (with_one_body k h _ e) in
-    let offset = with_offset k h _ e in
+    let offset = offset_is k h _ e in
     omega (arith, apart, offset)
 
 -- the first byte of a block
@@ -60,7 +60,7 @@ pub rank_of_block : (it key lo : Key) → AreOneBody it key → slice_index it.e
 rank_of_block it key lo one le e =
     let a = ranks_apart it key one in
     let b = ranks_apart lo key (with_one_body key lo _ e) in
-    let offset = with_offset key lo _ e in
+    let offset = offset_is key lo _ e in
     omega (arith, a, b, offset, le)
 
 pub offsets_up_to : (a b : Key) → AreOneBody a b → rank a ≤ rank b → slice_index a.el 3 ≤ slice_index b.el 3

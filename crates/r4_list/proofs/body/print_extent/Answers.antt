@@ -5,7 +5,7 @@ use Rattle.r4_base.specs.Key.{rank}
 use Rattle.r4_list.specs.Body.{unit_block, unit_names}
 use Rattle.r4_list.proofs.Stages.{went_same}
 use Rattle.r4_list.proofs.BodyStages.{named_printing}
-use Rattle.r4_list.proofs.BodyUnits.{one_body, rank_of_block, unit_among, with_offset}
+use Rattle.r4_list.proofs.BodyUnits.{offset_is, one_body, rank_of_block, unit_among}
 use Rattle.r4_list.proofs.BodyParts.{block_units, exact_len, part_none, part_printed, part_stopped, range_len, stretch}
 use Rattle.r4_list.proofs.body.print_extent.Goals as goal
 
@@ -33,7 +33,7 @@ returns-in_err-print_bytes-clause-over g c = λ n image m content o over stored 
     let at = c.in-Some.ensures.some in
     let among = unit_among (rank c.args.item.now.key) (units_of c.args.item.now.body.now) block (rank c.with_offset-lo.result) c.in-Some.unit at lo in
     let units = block_units content (rank c.args.item.now.key) (units_of c.args.item.now.body.now) block c.in-Some.unit at stored holes in
-    let offset = with_offset c.args.key c.with_offset-lo.result _ c.with_offset-lo.ensures in
+    let offset = offset_is c.args.key c.with_offset-lo.result _ c.with_offset-lo.ensures in
     let min = c.min-to.ensures in
     let from = c.requires.from in
     let below = c.requires.below in
@@ -52,7 +52,7 @@ returns-clause-over g c = λ n image m content o over stored holes is file.
     let at = c.in-Some.ensures.some in
     let among = unit_among (rank c.args.item.now.key) (units_of c.args.item.now.body.now) block (rank c.with_offset-lo.result) c.in-Some.unit at lo in
     let units = block_units content (rank c.args.item.now.key) (units_of c.args.item.now.body.now) block c.in-Some.unit at stored holes in
-    let offset = with_offset c.args.key c.with_offset-lo.result _ c.with_offset-lo.ensures in
+    let offset = offset_is c.args.key c.with_offset-lo.result _ c.with_offset-lo.ensures in
     let min = c.min-to.ensures in
     let from = c.requires.from in
     let below = c.requires.below in

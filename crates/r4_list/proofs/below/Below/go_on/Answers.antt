@@ -1,6 +1,11 @@
 use Rattle.std.proofs.Common.{◌∙◌}
-use Rattle.r4_list.proofs.BelowSteps.{dir_step, entry_step, item_step, leaf_step}
+use Rattle.r4_list.proofs.BelowSteps.{dir_step, entry_step, item_step, leaf_step, stayed}
+use Rattle.r4_list.specs.declared.fault.Stop.TheVariants.{Memory}
 use Rattle.r4_list.proofs.below.Below.go_on.Goals as goal
+
+pub returns-in_err-go_past-in-Entry-clause-over : goal.returns-in_err-go_past-in-Entry-clause-over
+returns-in_err-go_past-in-Entry-clause-over g c = λ n image m has over start f fs held w steps enough.
+    stayed has c.args.root.now start steps _ _ _ _ c.from_residual-in_err-go_past-in-Entry.result Memory c.from_residual-in_err-go_past-in-Entry.ensures.1 tt over
 
 pub returns-in_ok-go_past-in-Entry-clause-over : goal.returns-in_ok-go_past-in-Entry-clause-over
 returns-in_ok-go_past-in-Entry-clause-over g c = λ n image m has over start f fs held w steps enough.
