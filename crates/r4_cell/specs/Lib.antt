@@ -1,4 +1,4 @@
 pub mod Seen
 pub mod Patch
 pub mod Ends
-mod Words
+pub mod Words
