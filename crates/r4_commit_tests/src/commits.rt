@@ -5,10 +5,12 @@ ghost use Rattle.r4_outside.specs.Device.{Goes, TellsCrashes};
 ghost use Rattle.r4_outside.specs.Memory.{memory_state};
 ghost use Rattle.r4_wander.specs.Progress.{FitOn};
 
+use crate::calls::replays;
+use crate::same::{same, same_in};
 use r4_base::{Block, BlockNo, Key, NodeId, Oid, get64};
 use r4_cell::{Cell, read_cell};
 use r4_outside::{Device, MemoryDevice, MemorySink};
-use r4_testing::{REPLAY, call, replays, same, same_in};
+use r4_testing::{REPLAY, call};
 use r4_wander::{
     Blocks, LogPlan, PlacedCell, PlacedCells, Stage, WanderedCopies, WanderedCopy, Writer,
 };

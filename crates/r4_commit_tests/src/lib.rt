@@ -2,10 +2,14 @@
 #![tactic(auto)]
 
 #[cfg(test)]
+mod calls;
+#[cfg(test)]
 mod commits;
 #[cfg(test)]
 mod places;
 #[cfg(test)]
 mod plans;
+#[cfg(test)]
+mod same;
 #[cfg(test)]
 mod spaces;

@@ -3,11 +3,11 @@
 ghost use Rattle.std.specs.Prelude.{◌≡◌, ◌^◌, ◌<◌, IfOk, length, map, All};
 ghost use Rattle.std.specs.Arc.{arc_value};
 
+use crate::same::{same, same_in};
 use r4_base::{AtomNo, Block, BlockNo, Key, NodeId, Oid};
 use r4_cell::{Cell, read_cell};
 use r4_place::{How, choose};
 use r4_space::SpaceMap;
-use r4_testing::{same, same_in};
 use std::alloc::Global;
 use std::process::Abort;
 use std::sync::Arc;

@@ -9,7 +9,9 @@ ghost use Rattle.r4_space.specs.Accounts.{price_formula};
 ghost use Rattle.r4_space.specs.Space.{unused_count};
 ghost use Rattle.r4_place.specs.Chosen.{fresh_blocks};
 
+use crate::calls::replays;
 use crate::commits::{filled, number, read};
+use crate::same::{same, same_in};
 use r4_base::{AtomNo, Block, BlockNo, Key, NodeId, Oid, Super40};
 use r4_cell::{Cell, read_cell};
 use r4_commit::{CommitPlan, plan, step};
@@ -18,7 +20,7 @@ use r4_list::list;
 use r4_outside::{Device, MemoryDevice, MemorySink};
 use r4_place::{How, Placed};
 use r4_space::SpaceMap;
-use r4_testing::{REPLAY, call, replays, same, same_in};
+use r4_testing::{REPLAY, call};
 use r4_wander::Stage;
 use std::alloc::Global;
 use std::process::Abort;

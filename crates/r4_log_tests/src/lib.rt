@@ -2,11 +2,15 @@
 #![tactic(auto)]
 
 #[cfg(test)]
+mod calls;
+#[cfg(test)]
 mod counting;
 #[cfg(test)]
 mod logs;
 #[cfg(test)]
 mod replays;
+#[cfg(test)]
+mod same;
 #[cfg(test)]
 mod tables;
 #[cfg(test)]

@@ -1,6 +1,8 @@
 //! The command `replay` over images with a log.
 
+use crate::calls::{prints, replays};
 use crate::logs::{Change, Field, Image, Pair, change};
+use crate::same::{same, same_in};
 use crate::tables::{
     CALLS, Damage, OF_ONE_RECORD, OF_TWO_RECORDS, OF_TWO_TRANSACTIONS, REFUSED, REPLAYED, TEN,
     THREE, TWO, UNREAD,
@@ -8,7 +10,7 @@ use crate::tables::{
 use r4_base::BlockNo;
 use r4_outside::{Device, MemoryDevice, MemorySink};
 use r4_replay::{LogFault, ReplayFault, read_log};
-use r4_testing::{LIST, REPLAY, call, prints, replays, same, same_in};
+use r4_testing::{LIST, REPLAY, call};
 use std::alloc::Global;
 use std::process::Abort;
 use std::sync::Wait;

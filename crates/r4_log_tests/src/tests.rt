@@ -1,8 +1,9 @@
 //! The program's call, status by status.
 
 use crate::counting::CountingDevice;
+use crate::same::{same, same_in};
 use r4_outside::{Device, MemoryDevice, MemorySink};
-use r4_testing::{REPLAY, call, same, same_in};
+use r4_testing::{REPLAY, call};
 use std::alloc::Global;
 use std::process::Abort;
 use std::sync::Wait;

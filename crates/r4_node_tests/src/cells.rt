@@ -2,10 +2,10 @@
 
 ghost use Rattle.std.specs.Prelude.{◌≡◌, ◌&&◌, nat_le};
 
+use crate::same::same_in;
 use r4_base::{Block, CellFault, ExtentFault, Key, NodeFault, NodeId, Oid, StatFault, put64};
 use r4_cell::{CellRefused, read_cell};
 use r4_node40::NodeMut;
-use r4_testing::same_in;
 use std::alloc::Global;
 use std::test::Fail;
 

@@ -3,11 +3,11 @@
 
 ghost use Rattle.std.specs.Prelude.{◌≡◌, ◌&&◌, nat_le};
 
+use crate::same::same_in;
 use r4_base::{Block, Key, NodeId, put64};
 use r4_cell::{Cell, Cells, Change, Root, new_cell, read_cell};
 use r4_node40::NodeMut;
 use r4_patch::{JoinFault, join};
-use r4_testing::same_in;
 use std::alloc::Global;
 use std::process::Abort;
 use std::sync::Arc;

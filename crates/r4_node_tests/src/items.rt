@@ -1,8 +1,8 @@
 //! Stat data, extents, pointers and tails, over tables of bodies.
 
+use crate::same::{same, same_in};
 use r4_base::{Attr, BlockNo, ExtentFault, StatFault, Unit, put64};
 use r4_meta::{read_stat, tail_part, write_stat};
-use r4_testing::{same, same_in};
 use r4_twig::{ExtentView, join, join_law, pointer, put_pointer, replace, split_at};
 use std::alloc::Global;
 use std::test::Fail;

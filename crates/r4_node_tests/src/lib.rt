@@ -13,3 +13,5 @@ mod items;
 mod nodes;
 #[cfg(test)]
 mod patches;
+#[cfg(test)]
+mod same;

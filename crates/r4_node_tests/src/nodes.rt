@@ -1,8 +1,8 @@
 //! Nodes: the faults of a leaf, and its edits.
 
+use crate::same::{same, same_in};
 use r4_base::{Block, Key, NodeFault, Oid, put16};
 use r4_node40::{Full, NodeMut, NodeView};
-use r4_testing::{same, same_in};
 use std::alloc::Global;
 use std::process::Abort;
 use std::test::Fail;

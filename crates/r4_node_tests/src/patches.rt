@@ -1,9 +1,9 @@
 //! Changes of a tree: which are joined, and which node two of them have in common.
 
+use crate::same::same_in;
 use r4_base::{Block, Key, NodeId, Oid};
 use r4_cell::{Cell, Cells, Change, Root, read_cell};
 use r4_patch::{JoinFault, join};
-use r4_testing::same_in;
 use std::alloc::Global;
 use std::sync::Arc;
 use std::test::Fail;

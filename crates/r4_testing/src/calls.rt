@@ -2,11 +2,9 @@
 
 ghost use Rattle.r4_outside.specs.Device.{Goes};
 
-use crate::comparing::same;
 use r4_outside::{Device, MemorySink, MemorySource, OpenGate, Unnamed};
 use r4_top::r4_main;
 use std::alloc::Global;
-use std::process::Abort;
 use std::sync::Wait;
 use std::test::Fail;
 use std::thread::Threads;
@@ -43,35 +41,4 @@ pub fn call<D: Device, X: Threads + Wait + Sync>(
         Unnamed::new(),
     );
     Ok(status.code)
-}
-
-/// Calls the program with these words, and looks at the status and at the line that is printed.
-pub fn prints<D: Device, X: Abort + Threads + Wait + Sync>(
-    rt: &X,
-    alloc: Global,
-    words: &[&str],
-    dev: &mut D,
-    status: u8,
-    line: &str,
-) -> Result<(), Fail>
-    ensures { Goes (D.state dev.old) (D.state dev.new) }
-{
-    let mut out = MemorySink::new(alloc, 100)?;
-    let code = call(rt, alloc, words, dev, &mut out)?;
-    same(rt, &out.written(), &line.as_bytes(), line);
-    same(rt, &code, &status, line);
-    Ok(())
-}
-
-/// Replays a device, and looks at the status and at the line that is printed.
-pub fn replays<D: Device, X: Abort + Threads + Wait + Sync>(
-    rt: &X,
-    alloc: Global,
-    dev: &mut D,
-    status: u8,
-    line: &str,
-) -> Result<(), Fail>
-    ensures { Goes (D.state dev.old) (D.state dev.new) }
-{
-    prints(rt, alloc, &REPLAY, dev, status, line)
 }

@@ -3,10 +3,11 @@
 ghost use Rattle.r4_outside.specs.Device.{TellsCrashes};
 ghost use Rattle.r4_outside.specs.Memory.{memory_state};
 
+use crate::same::same;
 use crate::trees::{Item, Shape, Spelling, finished, full, node, object, put, volume};
 use r4_base::{Attr, Key, Oid, Target};
 use r4_outside::{Device, MemoryDevice, MemorySink};
-use r4_testing::{call, same};
+use r4_testing::call;
 use std::alloc::Global;
 use std::process::Abort;
 use std::sync::Wait;

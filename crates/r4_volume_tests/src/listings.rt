@@ -4,10 +4,11 @@ ghost use Rattle.std.specs.Prelude.{IfOk};
 ghost use Rattle.r4_outside.specs.Device.{TellsCrashes};
 ghost use Rattle.r4_outside.specs.Memory.{memory_state};
 
+use crate::same::same;
 use r4_base::{Block, BlockNo, CellFault, LayoutFault, NodeFault};
 use r4_list::{ImageFault, ListFault, list};
 use r4_outside::{Device, MemoryDevice, MemorySink};
-use r4_testing::{call, same};
+use r4_testing::call;
 use std::alloc::Global;
 use std::process::Abort;
 use std::sync::Wait;

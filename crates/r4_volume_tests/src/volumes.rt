@@ -1,8 +1,9 @@
 //! The command `mkfs`.
 
+use crate::same::same_in;
 use r4_base::BlockNo;
 use r4_outside::{Device, MemoryDevice, MemorySink};
-use r4_testing::{call, same_in};
+use r4_testing::call;
 use std::test::Fail;
 
 static MKFS: [&str; 2] = ["mkfs", "image"];
