@@ -7,7 +7,7 @@ use Rattle.r4_base.specs.Tree.{Store}
 use Rattle.r4_base.specs.Value.{Value}
 use Rattle.r4_cell.specs.Patch.{HaveNames}
 use Rattle.r4_edit.specs.Steps.{CountUp, IsFree}
-use Rattle.r4_edit.proofs.Members.{here, later}
+use Rattle.r4_patch.proofs.Members.{here, later}
 use Rattle.r4_edit.proofs.Rising.{count_within}
 use Rattle.r4_edit.specs.Twigs.{AreCounted, Below, HaveNumbers, IsUnused}
 

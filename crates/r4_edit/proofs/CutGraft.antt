@@ -33,7 +33,7 @@ use Rattle.r4_edit.proofs.CutOut.{IsLed, cut_bytes, cut_names, cut_twigs, cut_un
 use Rattle.r4_edit.proofs.CutParts.{AreSplit, split, twice_bytes, twice_follow, twice_names, twice_next, twice_units}
 use Rattle.r4_edit.proofs.CutTaken.{AreNew, next_higher, next_is, over_few, over_new}
 use Rattle.r4_edit.proofs.GraftBelow.{path_later}
-use Rattle.r4_edit.proofs.Members.{cases, have_names, here, none}
+use Rattle.r4_patch.proofs.Members.{cases, have_names, here, none}
 use Rattle.r4_edit.proofs.Rising.{hi_is, id_member, level_is, lo_is}
 
 -- a fresh number may stand in a pointer

@@ -21,7 +21,7 @@ use Rattle.r4_edit.proofs.CutParts.{AreSplit}
 use Rattle.r4_edit.proofs.CutTaken.{name_append, over_bytes, over_follow, over_left, over_new, over_next, over_units}
 use Rattle.r4_edit.proofs.Gaps.{same_first}
 use Rattle.r4_edit.proofs.Grown.{map_names, names_map}
-use Rattle.r4_edit.proofs.Members.{cases, here, later}
+use Rattle.r4_patch.proofs.Members.{cases, here, later}
 
 exchange : {N P G C P' G' C' : Type 0} → N ↔ ((P × (G → ⊥)) ⊎ C) → P ↔ P' → G ↔ G' → C ↔ C' → N ↔ ((P' × (G' → ⊥)) ⊎ C')
 exchange all p g c = (

@@ -17,7 +17,7 @@ use Rattle.r4_edit.specs.LeafParts.{IsEmptyLeaf}
 use Rattle.r4_edit.specs.Sharing.{IsSound}
 use Rattle.r4_edit.specs.Steps.{CountUp, IsNameOf, name_of}
 use Rattle.r4_edit.proofs.CutEnds.{open_names}
-use Rattle.r4_edit.proofs.Members.{Distinct, cases, none}
+use Rattle.r4_patch.proofs.Members.{Distinct, cases, none}
 
 -- ---- names of cells
 

@@ -13,7 +13,7 @@ use Rattle.r4_patch.proofs.PartCells.{tree_is_part}
 use Rattle.r4_patch.proofs.Placed.{placed_part}
 use Rattle.r4_patch.proofs.SecondRoot.{small_is_tree}
 use Rattle.r4_edit.specs.Steps.{AreNaming, IsNameOf, fresh_ids, name_of}
-use Rattle.r4_edit.proofs.Members.{cases, here, none}
+use Rattle.r4_patch.proofs.Members.{cases, here, none}
 use Rattle.r4_edit.specs.ExtentPut.{back_below, back_step, back_tree, extent_below, extent_block, extent_step, extent_tree}
 use Rattle.r4_edit.specs.ExtentPut.{last_key, leaf_cell, pointer_block, stat_block, twig_cell}
 use Rattle.r4_edit.specs.Twigs.{HaveNumbers, IsTwigChange, IsTwigStep}

@@ -16,7 +16,7 @@ use Rattle.r4_patch.proofs.PartCells.{tree_is_part}
 use Rattle.r4_patch.proofs.SecondRoot.{small_is_tree}
 use Rattle.r4_edit.specs.Sharing.{IsSound}
 use Rattle.r4_edit.specs.Steps.{AreNaming, IsNameOf, fresh_ids, name_of}
-use Rattle.r4_edit.proofs.Members.{cases, have_names, here, later, none}
+use Rattle.r4_patch.proofs.Members.{cases, have_names, here, later, none}
 use Rattle.r4_edit.specs.ExtentPut.{data_cell, extent_below, extent_block, extent_step, extent_tree, file_key, last_key}
 use Rattle.r4_edit.specs.ExtentPut.{leaf_cell, pointer_block, stat_block, twig_cell}
 use Rattle.r4_edit.specs.Twigs.{HaveNumbers, IsTwigChange, IsTwigStep, IsUnused}

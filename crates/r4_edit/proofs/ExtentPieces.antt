@@ -22,7 +22,7 @@ use Rattle.r4_edit.specs.Steps.{IsFree, IsNameOf, name_of}
 use Rattle.r4_edit.proofs.Counted.{count_once}
 use Rattle.r4_edit.proofs.ExtentChange.{file_top, from_least, goes_name, least_file, old_name, only, sound_node, to_top, unused}
 use Rattle.r4_edit.proofs.Instance.{leaf_sound, old_leaf, old_twig}
-use Rattle.r4_edit.proofs.Members.{cases, have_names, here, later, none}
+use Rattle.r4_patch.proofs.Members.{cases, have_names, here, later, none}
 
 abbrev twig : CellSeen
 twig = twig_cell pointer_block

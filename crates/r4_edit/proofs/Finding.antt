@@ -21,7 +21,7 @@ use Rattle.r4_node40.proofs.Accepted.{space}
 use Rattle.r4_edit.specs.Nodes.{pointer_item, weight, weight_of}
 use Rattle.r4_edit.specs.Rows.{with_pointers}
 use Rattle.r4_edit.proofs.Filling.{weight_cons}
-use Rattle.r4_edit.proofs.Members.{cases, none}
+use Rattle.r4_patch.proofs.Members.{cases, none}
 use Rattle.r4_edit.proofs.Rows.{Between, between_left, between_order}
 
 -- The item p points to what is named, up to the items behind it.

@@ -25,7 +25,7 @@ use Rattle.r4_edit.specs.Twigs.{Below, IsReordered, IsTwigChange, IsTwigStep}
 use Rattle.r4_edit.proofs.Begun.{ascends_take}
 use Rattle.r4_edit.proofs.GraftNumbers.{block_name, have}
 use Rattle.r4_edit.proofs.Grown.{map_names, names_map}
-use Rattle.r4_edit.proofs.Members.{Distinct, cases, distinct_append, have_names, none}
+use Rattle.r4_patch.proofs.Members.{Distinct, cases, distinct_append, have_names, none}
 use Rattle.r4_edit.proofs.NewNodes.{new_node}
 use Rattle.r4_edit.proofs.OnPath.{new_stands, stands_in, stands_new, stands_step}
 use Rattle.r4_edit.proofs.Ordered.{distinct}

@@ -16,7 +16,7 @@ use Rattle.r4_edit.specs.Steps.{CountUp, IsFree, name_of}
 use Rattle.r4_edit.specs.Twigs.{Below, HaveNumbers, IsUnused}
 use Rattle.r4_edit.proofs.Counted.{count_once, unused}
 use Rattle.r4_edit.proofs.Grown.{map_names}
-use Rattle.r4_edit.proofs.Members.{Distinct, distinct_append, have_names}
+use Rattle.r4_patch.proofs.Members.{Distinct, distinct_append, have_names}
 use Rattle.r4_edit.proofs.Ordered.{distinct, once, once_distinct}
 use Rattle.r4_edit.proofs.Rising.{count_within}
 use Rattle.r4_edit.proofs.TwigBelow.{id_cell}

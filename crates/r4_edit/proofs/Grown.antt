@@ -14,7 +14,7 @@ use Rattle.r4_patch.specs.Part.{MeetsPart}
 use Rattle.r4_edit.specs.Growing.{Grows, HasNewRoot, IsRootIn}
 use Rattle.r4_edit.specs.Nodes.{IsPointingTo}
 use Rattle.r4_edit.specs.Steps.{IsNameOf, IsPathChange, Step, name_of, root_pair}
-use Rattle.r4_edit.proofs.Members.{cases, here, later, none}
+use Rattle.r4_patch.proofs.Members.{cases, here, later, none}
 use Rattle.r4_edit.proofs.PathPatch.{change_is, part_meets}
 use Rattle.r4_edit.proofs.Rising.{hi_is, lo_is}
 

@@ -20,7 +20,7 @@ use Rattle.r4_edit.specs.Sharing.{IsSound}
 use Rattle.r4_edit.specs.Splitting.{IsParted, unit_count}
 use Rattle.r4_edit.specs.Steps.{Follow}
 use Rattle.r4_edit.proofs.CellNodes.{units_are}
-use Rattle.r4_edit.proofs.Members.{cases, none}
+use Rattle.r4_patch.proofs.Members.{cases, none}
 use Rattle.r4_edit.proofs.NewNodes.{leaf_step}
 use Rattle.r4_edit.proofs.PartedLeaf.{units_rise}
 use Rattle.r4_edit.proofs.Rising.{hi_is, lo_is}

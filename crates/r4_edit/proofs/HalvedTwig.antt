@@ -22,7 +22,7 @@ use Rattle.r4_edit.specs.Grafts.{IsTwigRow}
 use Rattle.r4_edit.specs.Sharing.{IsSound}
 use Rattle.r4_edit.specs.Splitting.{IsParted}
 use Rattle.r4_edit.proofs.CellNodes.{names_are, units_are}
-use Rattle.r4_edit.proofs.Members.{cases, none}
+use Rattle.r4_patch.proofs.Members.{cases, none}
 use Rattle.r4_edit.proofs.TwigCells.{has_items, in_naming, naming_in, twig_wide}
 
 -- ---- pieces in two parts, each of which has one

@@ -15,7 +15,7 @@ use Rattle.r4_edit.specs.Extents.{twig_pieces}
 use Rattle.r4_edit.specs.Nodes.{IsPointable}
 use Rattle.r4_edit.specs.Splitting.{IsSplitIn, unit_count}
 use Rattle.r4_edit.specs.Trials.{AreTwoHoles, IsTwigOfHoles, low_root}
-use Rattle.r4_edit.proofs.Members.{none}
+use Rattle.r4_patch.proofs.Members.{none}
 use Rattle.r4_edit.proofs.RootPart.{root_path}
 
 -- the piece names nothing

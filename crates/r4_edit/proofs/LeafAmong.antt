@@ -24,7 +24,7 @@ use Rattle.r4_edit.proofs.GraftBelow.{path_later}
 use Rattle.r4_edit.proofs.Gaps.{gap, spread_bytes, spread_names, spread_pieces}
 use Rattle.r4_edit.proofs.Grown.{map_names, names_map}
 use Rattle.r4_edit.proofs.LastCell.{last_up, up_last, up_some}
-use Rattle.r4_edit.proofs.Members.{have_names}
+use Rattle.r4_patch.proofs.Members.{have_names}
 use Rattle.r4_edit.proofs.OverLeaf.{leaf_node}
 
 -- the next piece begins before the range ends

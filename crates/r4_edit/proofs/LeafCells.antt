@@ -22,7 +22,7 @@ use Rattle.r4_edit.specs.Sharing.{IsSound}
 use Rattle.r4_edit.specs.Steps.{CountUp, Follow, IsStep, Step}
 use Rattle.r4_edit.proofs.CellNodes.{units_are}
 use Rattle.r4_edit.proofs.Lying.{Good, good_parts}
-use Rattle.r4_edit.proofs.Members.{cases, here, later, none}
+use Rattle.r4_patch.proofs.Members.{cases, here, later, none}
 use Rattle.r4_edit.proofs.NewNodes.{leaf_step}
 use Rattle.r4_edit.proofs.Rising.{hi_is, lo_is}
 

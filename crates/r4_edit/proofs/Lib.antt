@@ -17,7 +17,6 @@ pub mod Lying
 pub mod LastLeaf
 pub mod LeafCells
 pub mod LeafLent
-pub mod Members
 pub mod NewNodes
 pub mod Putting
 pub mod Replacing

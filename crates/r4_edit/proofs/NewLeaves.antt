@@ -31,7 +31,7 @@ use Rattle.r4_edit.specs.Sharing.{IsSound}
 use Rattle.r4_edit.proofs.CellNodes.{units_are}
 use Rattle.r4_edit.proofs.LeafLent.{lent_stands}
 use Rattle.r4_edit.proofs.Lying.{Good, good_nil, sound}
-use Rattle.r4_edit.proofs.Members.{here, later}
+use Rattle.r4_patch.proofs.Members.{here, later}
 use Rattle.r4_edit.proofs.PartedLeaf.{stands_level, stands_wider}
 use Rattle.r4_edit.proofs.Rising.{hi_is, lo_is}
 

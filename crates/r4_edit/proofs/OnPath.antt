@@ -12,7 +12,7 @@ use Rattle.r4_patch.specs.Joining.{ids_of}
 use Rattle.r4_patch.specs.Part.{IsPart}
 use Rattle.r4_patch.proofs.PartCells.{one_above}
 use Rattle.r4_edit.specs.Steps.{Ascends, Climbs, CountUp, Ends, IsFree, IsNamedBy, IsStep, Step, fresh_ids, name_of, news, olds}
-use Rattle.r4_edit.proofs.Members.{Distinct, cases, distinct_append, here, later, none}
+use Rattle.r4_patch.proofs.Members.{Distinct, cases, distinct_append, here, later, none}
 use Rattle.r4_edit.proofs.Rising.{count_distinct, count_split, count_within, id_member, level_is}
 
 -- the step stands in the list, with the one below it

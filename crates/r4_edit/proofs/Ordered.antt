@@ -5,7 +5,7 @@ use Rattle.std.proofs.lemmas.List.Elements.{Contains-append_left, Contains-appen
 use Rattle.r4_cell.specs.Patch.{HaveNames}
 use Rattle.r4_cell.specs.Seen.{CellSeen}
 use Rattle.r4_patch.specs.Joining.{ids_of}
-use Rattle.r4_edit.proofs.Members.{Distinct, cases, none}
+use Rattle.r4_patch.proofs.Members.{Distinct, cases, none}
 use Rattle.r4_edit.proofs.Rising.{id_member}
 
 -- ---- cells

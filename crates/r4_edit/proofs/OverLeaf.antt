@@ -25,7 +25,7 @@ use Rattle.r4_edit.specs.Steps.{CountUp, IsFree, IsNameOf, name_of}
 use Rattle.r4_edit.specs.Twigs.{Below}
 use Rattle.r4_edit.proofs.GraftBelow.{path_later}
 use Rattle.r4_edit.proofs.Grown.{map_names, names_map}
-use Rattle.r4_edit.proofs.Members.{have_names}
+use Rattle.r4_patch.proofs.Members.{have_names}
 use Rattle.r4_edit.proofs.OverPieces.{MayStandBehind, comes, comes_names, found, leaf_pointed, over_bytes, over_names, over_twigs}
 use Rattle.r4_edit.proofs.Rising.{hi_is, lo_is}
 use Rattle.r4_edit.proofs.Spread.{extent_level}

@@ -23,7 +23,7 @@ use Rattle.r4_edit.specs.Sharing.{IsSound, items_of_cells}
 use Rattle.r4_edit.specs.Steps.{AreNaming, AreSpanning, Follow}
 use Rattle.r4_edit.proofs.CellNodes.{names_are, spans_are}
 use Rattle.r4_edit.proofs.Lying.{Good, good_parts}
-use Rattle.r4_edit.proofs.Members.{cases, here, later, none}
+use Rattle.r4_patch.proofs.Members.{cases, here, later, none}
 use Rattle.r4_edit.proofs.Rows.{names_append, spans_append}
 
 -- ---- a cell that may stand above leaf level begins with its first item

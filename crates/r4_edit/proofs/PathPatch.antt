@@ -13,7 +13,7 @@ use Rattle.r4_patch.specs.Part.{MeetsPart}
 use Rattle.r4_patch.proofs.PartCells.{named_once}
 use Rattle.r4_edit.specs.Steps.{Ends, Follow, IsNameOf, IsNamedAfter, IsPathChange, IsRootOver, IsStep, Step, fresh_ids}
 use Rattle.r4_edit.specs.Steps.{name_of, news, olds, root_pair}
-use Rattle.r4_edit.proofs.Members.{absent, cases, found, have_names, here, none, there}
+use Rattle.r4_patch.proofs.Members.{absent, cases, found, have_names, here, none, there}
 use Rattle.r4_edit.proofs.OnPath.{IsHighest, Stands, StandsIn, above_or_highest, below_stands, distinct_news, distinct_olds}
 use Rattle.r4_edit.proofs.OnPath.{highest, new_id, new_stands, old_stands, one_step, only_below, over_new, some_step, stands_in}
 use Rattle.r4_edit.proofs.OnPath.{stands_new, stands_old, stands_step, up_one}

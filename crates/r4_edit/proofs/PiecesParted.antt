@@ -20,7 +20,7 @@ use Rattle.r4_edit.specs.Splitting.{ArePiecesShared, IsPartedIn, Parts}
 use Rattle.r4_edit.specs.Steps.{Step, news, olds}
 use Rattle.r4_edit.specs.Twigs.{Below, IsTwigChange}
 use Rattle.r4_edit.proofs.GraftLaw.{twig_change}
-use Rattle.r4_edit.proofs.Members.{have_names, none}
+use Rattle.r4_patch.proofs.Members.{have_names, none}
 use Rattle.r4_edit.proofs.TwigPatch.{change_is, part_meets}
 use Rattle.r4_edit.proofs.TwigRose.{EnoughTwigs, TwigRose, twigs_end, twigs_ids, twigs_rose, twigs_start}
 

@@ -9,7 +9,7 @@ use Rattle.r4_cell.specs.Patch.{HaveNames, IsChange, IsPatch, Meets, Patch, by_n
 use Rattle.r4_cell.specs.Seen.{CellSeen}
 use Rattle.r4_cell.specs.declared.change.Root.{Root as RootPair}
 use Rattle.r4_patch.specs.Part.{MeetsPart}
-use Rattle.r4_edit.proofs.Members.{Distinct, found, there}
+use Rattle.r4_patch.proofs.Members.{Distinct, found, there}
 use Rattle.r4_edit.specs.Twigs.{IsReordered}
 use Rattle.r4_edit.proofs.Ordered.{distinct}
 

@@ -16,7 +16,7 @@ use Rattle.r4_edit.specs.Nodes.{IsPointable, pointer_item}
 use Rattle.r4_edit.specs.Steps.{Follow, IsNameOf, name_of}
 use Rattle.r4_edit.proofs.Grown.{map_names, names_map}
 use Rattle.r4_edit.proofs.Lying.{Good, Lies, good_cons, good_parts}
-use Rattle.r4_edit.proofs.Members.{cases, later}
+use Rattle.r4_patch.proofs.Members.{cases, later}
 use Rattle.r4_edit.proofs.PointerNodes.{pointer_lies, pointer_names}
 use Rattle.r4_edit.proofs.Pointers.{pointers_fit}
 use Rattle.r4_edit.proofs.Rows.{Between, between_append, between_left, between_lower, between_order, between_right, fit_append}

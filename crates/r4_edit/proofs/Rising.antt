@@ -9,7 +9,7 @@ use Rattle.r4_base.specs.Tree.{InNode}
 use Rattle.r4_cell.specs.Seen.{CellSeen, node_of}
 use Rattle.r4_patch.specs.Joining.{ids_of}
 use Rattle.r4_edit.specs.Steps.{CountUp, Follow}
-use Rattle.r4_edit.proofs.Members.{Distinct, cases, here, later, none}
+use Rattle.r4_patch.proofs.Members.{Distinct, cases, here, later, none}
 
 -- ---- what a cell says of itself
 

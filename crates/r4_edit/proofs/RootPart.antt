@@ -12,7 +12,7 @@ use Rattle.r4_edit.specs.Growing.{IsPathIn}
 use Rattle.r4_edit.specs.Nodes.{IsPointable}
 use Rattle.r4_edit.specs.Steps.{name_of}
 use Rattle.r4_edit.specs.Trials.{low_root}
-use Rattle.r4_edit.proofs.Members.{absent, cases, found, here_named}
+use Rattle.r4_patch.proofs.Members.{absent, cases, found, here_named}
 use Rattle.r4_edit.proofs.Rising.{hi_is, level_is, lo_is}
 
 own_name : (c : CellSeen) → Fits (name_of c) (node_of c)

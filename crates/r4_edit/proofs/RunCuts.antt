@@ -18,7 +18,7 @@ use Rattle.r4_edit.specs.Extents.{given_cells, twig_pieces}
 use Rattle.r4_edit.specs.Steps.{IsNameOf, name_of}
 use Rattle.r4_edit.specs.Trials.{IsRunBlock, IsRunLeaf, IsRunTwig, byte_key, first_piece, low_root, run_piece}
 use Rattle.r4_edit.proofs.ExtentChange.{only}
-use Rattle.r4_edit.proofs.Members.{cases, have_names, here, here_named, later_named, none}
+use Rattle.r4_patch.proofs.Members.{cases, have_names, here, here_named, later_named, none}
 use Rattle.r4_edit.proofs.RunTwig.{block_before, block_name, block_named, block_node, byte_at, byte_top, first_key, first_name}
 use Rattle.r4_edit.proofs.RunTwig.{first_of, has_block, has_first, leaf_named, least_byte, name_is, path_of}
 

@@ -21,7 +21,7 @@ use Rattle.r4_edit.specs.Editing.{given_item}
 use Rattle.r4_edit.specs.Extents.{AreAmongExtents, IsPutIn, leaf_pointer, twig_pieces}
 use Rattle.r4_edit.specs.Growing.{IsPathIn}
 use Rattle.r4_edit.specs.Trials.{IsNewExtent, IsRunTwig, StandsAlone, byte_key, low_root, new_units, run_pieces}
-use Rattle.r4_edit.proofs.Members.{none}
+use Rattle.r4_patch.proofs.Members.{none}
 use Rattle.r4_edit.proofs.RunTwig.{byte_at, byte_top, first_of, least_byte, name_is, path_of}
 use Rattle.r4_edit.proofs.ShortOver.{ends, few_bytes, given, new_blocks, put_few}
 

@@ -19,7 +19,7 @@ use Rattle.r4_edit.specs.Growing.{IsPathIn}
 use Rattle.r4_edit.specs.Nodes.{IsPointable}
 use Rattle.r4_edit.specs.Steps.{name_of}
 use Rattle.r4_edit.specs.Trials.{IsRunBlock, IsRunLeaf, IsRunTwig, byte_key, first_piece, low_root, run_pieces}
-use Rattle.r4_edit.proofs.Members.{cases, here, later, none}
+use Rattle.r4_patch.proofs.Members.{cases, here, later, none}
 use Rattle.r4_edit.proofs.RootPart.{root_path}
 
 -- ---- keys

@@ -17,7 +17,7 @@ use Rattle.r4_edit.specs.declared.row.Row.{Row}
 use Rattle.r4_edit.proofs.Cuts.{both_parts, cut_parts, take_whole}
 use Rattle.r4_edit.proofs.Filling.{weight_one}
 use Rattle.r4_edit.proofs.Lying.{Good, sound}
-use Rattle.r4_edit.proofs.Members.{cases, none}
+use Rattle.r4_patch.proofs.Members.{cases, none}
 use Rattle.r4_edit.proofs.Rows.{Between, between_left, between_order, between_right, good_left, good_right, rise_between}
 
 drop_at : (xs : List Item) (n : ℕ) (y : Item) → slice_get xs n ≡ Some y → drop n xs ≡ y ∷ drop (n + 1) xs

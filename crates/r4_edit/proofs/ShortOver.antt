@@ -27,7 +27,7 @@ use Rattle.r4_edit.specs.Extents.{AreNewBlocks, ArePiecesOf, IsGivenExtent, IsOv
 use Rattle.r4_edit.specs.Steps.{CountUp, IsFree}
 use Rattle.r4_edit.specs.Trials.{AreLeaves, FirstMayLie, IsNewExtent, IsPathOver, low_root, new_units}
 use Rattle.r4_edit.proofs.Counted.{count_once}
-use Rattle.r4_edit.proofs.Members.{cases, here, later, none}
+use Rattle.r4_patch.proofs.Members.{cases, here, later, none}
 use Rattle.r4_edit.proofs.Rising.{count_within}
 use Rattle.r4_edit.proofs.Trying.{first_level}
 

@@ -24,7 +24,7 @@ use Rattle.r4_edit.specs.CutBlocks.{IsTakenOutIn}
 use Rattle.r4_edit.specs.Extents.{IsPutIn}
 use Rattle.r4_edit.specs.Trials.{AreLeaves, FirstMayTake, IsPathOver, IsShortPath, low_root}
 use Rattle.r4_edit.proofs.Grown.{map_names, names_map}
-use Rattle.r4_edit.proofs.Members.{absent, cases, found, here, here_named, later_named, none}
+use Rattle.r4_patch.proofs.Members.{absent, cases, found, here, here_named, later_named, none}
 use Rattle.r4_edit.proofs.NewNodes.{no_names}
 use Rattle.r4_edit.proofs.Rising.{count_within, follow_order, hi_is, id_member, level_is, lo_is}
 use Rattle.r4_edit.proofs.Upwards.{long_ids, numbered}

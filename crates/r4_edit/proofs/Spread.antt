@@ -21,7 +21,7 @@ use Rattle.r4_edit.specs.Grafts.{AreBlocksOf, AreCountedBelow, IsGraftBelow, IsG
 use Rattle.r4_edit.specs.Steps.{IsNameOf}
 use Rattle.r4_edit.specs.Twigs.{Below}
 use Rattle.r4_edit.proofs.LastCell.{last_up, up_last, up_some}
-use Rattle.r4_edit.proofs.Members.{have_names}
+use Rattle.r4_patch.proofs.Members.{have_names}
 use Rattle.r4_edit.proofs.Gaps.{gap, spread_bytes, spread_names, spread_pieces}
 
 -- An extent's names are those of its blocks.

@@ -20,7 +20,7 @@ use Rattle.r4_leaf.specs.declared.leaf.Leaf.{Leaf}
 use Rattle.r4_edit.specs.Trials.{AreLeaves, FirstMayTake, StandsAlone}
 use Rattle.r4_edit.proofs.CellNodes.{units_are}
 use Rattle.r4_edit.proofs.Lying.{Good, Lies, good_parts}
-use Rattle.r4_edit.proofs.Members.{none}
+use Rattle.r4_patch.proofs.Members.{none}
 use Rattle.r4_edit.proofs.Rising.{follow_order, in_cell}
 
 -- ---- units of a block that may stand as a leaf

@@ -11,7 +11,7 @@ use Rattle.r4_cell.specs.Seen.{CellSeen, node_of}
 use Rattle.r4_patch.specs.Joining.{ids_of}
 use Rattle.r4_patch.proofs.PartCells.{named_once}
 use Rattle.r4_edit.specs.Steps.{IsNameOf, Step, name_of, news}
-use Rattle.r4_edit.proofs.Members.{cases, found, here, later, none, there}
+use Rattle.r4_patch.proofs.Members.{cases, found, here, later, none, there}
 use Rattle.r4_edit.proofs.Rising.{InCell, Within, follow_apart, follow_covers, follow_within, in_cell, in_node, level_is}
 use Rattle.r4_edit.specs.Twigs.{Below, CoversBelow, IsTwigChange}
 use Rattle.r4_edit.proofs.Ordered.{distinct}

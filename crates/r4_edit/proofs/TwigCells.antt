@@ -30,7 +30,7 @@ use Rattle.r4_edit.proofs.CellNodes.{names_are, units_are}
 use Rattle.r4_edit.proofs.Edited.{part_of}
 use Rattle.r4_edit.proofs.LeafCells.{counts_next}
 use Rattle.r4_edit.proofs.Lying.{Good, good_parts}
-use Rattle.r4_edit.proofs.Members.{cases, here, later, none}
+use Rattle.r4_patch.proofs.Members.{cases, here, later, none}
 
 -- ---- a twig has a range
 

@@ -9,7 +9,7 @@ use Rattle.r4_cell.specs.Seen.{CellSeen, node_of}
 use Rattle.r4_patch.specs.Joining.{ids_of}
 use Rattle.r4_patch.specs.Part.{IsPart}
 use Rattle.r4_edit.specs.Steps.{Ascends, Climbs, Step, fresh_ids, news, olds}
-use Rattle.r4_edit.proofs.Members.{Distinct, cases, distinct_append, here, none}
+use Rattle.r4_patch.proofs.Members.{Distinct, cases, distinct_append, here, none}
 use Rattle.r4_edit.proofs.OnPath.{Stands, distinct_olds, old_below, stands_in, stands_old, up_one}
 use Rattle.r4_edit.proofs.Rising.{id_member}
 use Rattle.r4_edit.proofs.Ordered.{Once, once_apart, once_distinct, once_left, once_right}

@@ -15,7 +15,7 @@ use Rattle.r4_patch.specs.Part.{MeetsPart}
 use Rattle.r4_patch.proofs.PartCells.{named_once}
 use Rattle.r4_edit.specs.Steps.{AreSpanning, Ends, Follow, IsNameOf, IsRootOver, IsStep, Step, fresh_ids, name_of, news, olds}
 use Rattle.r4_edit.specs.Steps.{root_pair}
-use Rattle.r4_edit.proofs.Members.{absent, cases, distinct_append, Distinct, found, have_names, here, none, there}
+use Rattle.r4_patch.proofs.Members.{absent, cases, distinct_append, Distinct, found, have_names, here, none, there}
 use Rattle.r4_edit.proofs.OnPath.{IsHighest, Stands, StandsIn, above_or_highest, below_stands, distinct_olds, highest}
 use Rattle.r4_edit.proofs.OnPath.{new_stands, old_stands, one_step, only_below, over_new, some_step, stands_in, stands_new}
 use Rattle.r4_edit.proofs.OnPath.{stands_old, stands_step, up_one}

@@ -22,7 +22,7 @@ use Rattle.r4_edit.specs.Steps.{CountUp, Follow, Step, fresh_ids, news}
 use Rattle.r4_edit.proofs.CellNodes.{long_map}
 use Rattle.r4_edit.proofs.Filling.{long_take, take_more}
 use Rattle.r4_edit.proofs.Grown.{map_names, names_map}
-use Rattle.r4_edit.proofs.Members.{cases, here, none}
+use Rattle.r4_patch.proofs.Members.{cases, here, none}
 use Rattle.r4_edit.proofs.Rising.{count_within}
 
 -- ---- numbers

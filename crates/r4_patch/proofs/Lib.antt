@@ -7,3 +7,9 @@ pub mod SecondRoot
 pub mod Shared
 pub mod Union
 pub mod Changes
+pub mod Members
+pub mod PatchesFollow
+pub mod Followed
+pub mod LeftOut
+pub mod Holding
+pub mod Effects

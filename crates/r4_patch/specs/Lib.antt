@@ -1,3 +1,5 @@
 pub mod SecondRoot
 pub mod Joining
 pub mod Part
+pub mod Following
+pub mod Effect

@@ -53,7 +53,7 @@ pub fn join(alloc: Global, one: &Change, two: &Change) -> Result<Change, JoinFau
 }
 
 /// The names of the cells, rising.
-fn sorted_ids(alloc: Global, cells: &Cells) -> Result<Vec<u64>, Memory>
+pub(crate) fn sorted_ids(alloc: Global, cells: &Cells) -> Result<Vec<u64>, Memory>
     ensures moved { IfOk result (λ v. IsPermutation (ids_of cells.now) v.items) }
     ensures rising { IfOk result (λ v. IsNonDecreasing v.items) }
 {
@@ -82,7 +82,7 @@ fn first_shared(ids: &[u64], others: &[u64]) -> Option<u64>
 }
 
 /// Whether a number is one of these.
-fn is_among(ids: &[u64], id: u64) -> bool
+pub(crate) fn is_among(ids: &[u64], id: u64) -> bool
     requires { IsNonDecreasing ids.now }
     ensures { IsTrue result ↔ Contains ids.now id }
 {
@@ -102,7 +102,7 @@ fn both(alloc: Global, first: &Cells, second: &Cells) -> Result<Cells, Memory>
 }
 
 /// Puts these cells behind the others, as further owners of them.
-fn share(items: &mut Vec<Arc<Cell>>, cells: &[Arc<Cell>]) -> Result<(), Memory>
+pub(crate) fn share(items: &mut Vec<Arc<Cell>>, cells: &[Arc<Cell>]) -> Result<(), Memory>
     ensures { OnOk result (map (λ cell. arc_value cell) items.new.items ≡ map (λ cell. arc_value cell) items.old.items ++ map (λ cell. arc_value cell) cells.now) }
 {
     for cell in cells {

@@ -1,7 +1,7 @@
 -- Members of lists, and cells by their names.
 use Rattle.std.proofs.Common.{◌≡◌, ◌≢◌, ◌⊎◌, inl, inr, ℕ, zero, suc, ◌<◌, Bool, true, false, List, [], ◌∷◌, ◌++◌, length, refl}
 use Rattle.std.proofs.Common.{sym, subst, ◌∙◌, arith}
-use Rattle.std.specs.Prelude.{Contains, Option, None, Some, ◌==◌, if◌then◌else◌}
+use Rattle.std.specs.Prelude.{AllPairs, Contains, Option, None, Some, ◌==◌, if◌then◌else◌}
 use Rattle.std.proofs.lemmas.Bool.{cases_eq, eq-eqb, ne_eqb}
 use Rattle.std.proofs.lemmas.List.Kept.{AllPairs-cons}
 use Rattle.std.proofs.lemmas.Option.{none-some, same_Some}
@@ -95,3 +95,18 @@ distinct_append (x ∷ xs) ys (first, rest) dy apart = (
       | inl is ↦ inl (subst (λ (z : CellSeen). Contains (u ∷ us) z) (sym is) (here u us))
       | inr more ↦ elim (append_cases us vs y more) [ inl a ↦ inl (later u y us a) | inr b ↦ inr b ]
     ]
+
+pairs_head : {A : Type 0} (R : A → A → Type 0) (x : A) (xs : List A) → AllPairs R (x ∷ xs)
+    → (y : A) → Contains xs y → R x y
+pairs_head R x xs h y (k, l, e) = subst (R x) e (h zero (suc k) y (omega arith) (omega (arith, l)))
+
+pairs_tail : {A : Type 0} (R : A → A → Type 0) (x : A) (xs : List A) → AllPairs R (x ∷ xs)
+    → AllPairs R xs
+pairs_tail R x xs h i j d a b = h (suc i) (suc j) d (omega (arith, a)) (omega (arith, b))
+
+pub distinct : (cells : List CellSeen) → HaveNames cells → Distinct cells
+distinct [] h = tt
+distinct (c ∷ cells) h = (
+  pairs_head (λ (x y : CellSeen). x.id ≢ y.id) c cells h,
+  distinct cells (pairs_tail (λ (x y : CellSeen). x.id ≢ y.id) c cells h),
+)
