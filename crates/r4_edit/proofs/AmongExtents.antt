@@ -6,7 +6,7 @@ use Rattle.r4_base.specs.Tree.{IsData, IsNode, Name, Span}
 use Rattle.r4_base.specs.Value.{Value}
 use Rattle.r4_cell.specs.Seen.{CellSeen, node_of}
 use Rattle.r4_edit.specs.Extents.{AreAmongExtents}
-use Rattle.r4_edit.proofs.Rising.{hi_is, lo_is}
+use Rattle.r4_path.proofs.Rising.{hi_is, lo_is}
 
 module _ (twig : CellSeen) (s : Span) (from to : ℕ) (node : IsNode (node_of twig)) (spans : Contains (node_of twig).spans s)
     (low : s.lo ≤ from) (some : from < to) (high : to ≤ s.hi)

@@ -23,18 +23,19 @@ use Rattle.r4_graft.proofs.Placed.{follow_end, has_end, not_in_none}
 use Rattle.r4_leaf.specs.Units.{cut_units}
 use Rattle.r4_patch.specs.Joining.{ids_of}
 use Rattle.r4_edit.specs.CutBlocks.{BeginsAt, IsCutIn, IsLeftOf, IsTakenUp, after_leaves, cut_pieces, end_key, new_pointer, numbers_for, parted_twice, pieces_behind, pieces_below, pieces_between}
-use Rattle.r4_edit.specs.Extents.{ArePiecesOf, given_cells, twig_pieces}
-use Rattle.r4_edit.specs.Grafts.{AreCountedBelow, IsGraftBelow, IsGraftOf, IsGraftedIn}
-use Rattle.r4_edit.specs.Sharing.{IsSound}
-use Rattle.r4_edit.specs.Steps.{CountUp, IsNameOf, name_of}
-use Rattle.r4_edit.specs.Twigs.{Below}
+use Rattle.r4_edit.specs.Extents.{given_cells}
+use Rattle.r4_path.specs.TwigPieces.{ArePiecesOf, twig_pieces}
+use Rattle.r4_path.specs.Grafts.{AreCountedBelow, IsGraftBelow, IsGraftOf, IsGraftedIn}
+use Rattle.r4_path.specs.Sharing.{IsSound}
+use Rattle.r4_path.specs.Steps.{CountUp, IsNameOf, name_of}
+use Rattle.r4_path.specs.Twigs.{Below}
 use Rattle.r4_edit.proofs.CutNames.{between_names}
 use Rattle.r4_edit.proofs.CutOut.{IsLed, cut_bytes, cut_names, cut_twigs, cut_units_are, led_by}
 use Rattle.r4_edit.proofs.CutParts.{AreSplit, split, twice_bytes, twice_follow, twice_names, twice_next, twice_units}
 use Rattle.r4_edit.proofs.CutTaken.{AreNew, next_higher, next_is, over_few, over_new}
-use Rattle.r4_edit.proofs.GraftBelow.{path_later}
+use Rattle.r4_path.proofs.GraftBelow.{path_later}
 use Rattle.r4_patch.proofs.Members.{cases, have_names, here, none}
-use Rattle.r4_edit.proofs.Rising.{hi_is, id_member, level_is, lo_is}
+use Rattle.r4_path.proofs.Rising.{hi_is, id_member, level_is, lo_is}
 
 -- a fresh number may stand in a pointer
 may_be_named : (id : ℕ) → 2 ^ 63 ≤ id → names_block true (2 ^ 64) (Some id) ≡ true

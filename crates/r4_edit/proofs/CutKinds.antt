@@ -18,10 +18,11 @@ use Rattle.r4_graft.specs.Splices.{place}
 use Rattle.r4_graft.proofs.Placed.{first_member, first_or_later, later_member, not_in_none, place_none, place_some}
 use Rattle.r4_edit.specs.CutBlocks.{BeginsAt, IsCutUp, IsLeftOf, IsOutOfExtentsIn, IsOutOfLeafIn, IsTakenOutIn, is_in_range, leaf_first, parted_twice, pieces_between, rest_behind, trunk, CutsUp}
 use Rattle.r4_edit.specs.Editing.{IsCutOutUp}
-use Rattle.r4_edit.specs.Extents.{given_cells, twig_pieces}
-use Rattle.r4_edit.specs.Levels.{Leads}
-use Rattle.r4_edit.specs.Steps.{name_of}
-use Rattle.r4_edit.proofs.Begun.{leads_of}
+use Rattle.r4_edit.specs.Extents.{given_cells}
+use Rattle.r4_path.specs.TwigPieces.{twig_pieces}
+use Rattle.r4_path.specs.Levels.{Leads}
+use Rattle.r4_path.specs.Steps.{name_of}
+use Rattle.r4_path.proofs.Begun.{leads_of}
 
 true_not_false : true ≡ false → ⊥
 true_not_false e = absurd cc

@@ -15,12 +15,12 @@ use Rattle.r4_graft.proofs.SplicedNames.{spliced_names}
 use Rattle.r4_leaf.specs.Units.{cut_units}
 use Rattle.r4_edit.specs.CutBlocks.{BeginsAt, IsTakenUp, pointer_for}
 use Rattle.r4_edit.specs.Extents.{given_cells}
-use Rattle.r4_edit.specs.Steps.{IsNameOf, name_of}
+use Rattle.r4_path.specs.Steps.{IsNameOf, name_of}
 use Rattle.r4_edit.proofs.CutNames.{EndsWithLeaf, ends_with_leaf, units_without}
 use Rattle.r4_edit.proofs.CutParts.{AreSplit}
 use Rattle.r4_edit.proofs.CutTaken.{name_append, over_bytes, over_follow, over_left, over_new, over_next, over_units}
 use Rattle.r4_edit.proofs.Gaps.{same_first}
-use Rattle.r4_edit.proofs.Grown.{map_names, names_map}
+use Rattle.r4_path.proofs.Grown.{map_names, names_map}
 use Rattle.r4_patch.proofs.Members.{cases, here, later}
 
 exchange : {N P G C P' G' C' : Type 0} → N ↔ ((P × (G → ⊥)) ⊎ C) → P ↔ P' → G ↔ G' → C ↔ C' → N ↔ ((P' × (G' → ⊥)) ⊎ C')

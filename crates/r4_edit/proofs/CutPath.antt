@@ -13,11 +13,12 @@ use Rattle.r4_cell.specs.declared.change.Change.{Change}
 use Rattle.r4_cell.specs.declared.change.Fresh.{Fresh}
 use Rattle.r4_patch.specs.Part.{MeetsPart}
 use Rattle.r4_edit.specs.CutBlocks.{CutsUp, IsCutIn, IsCutUp, IsTakenUp, after_leaves, cut_pieces, end_key, new_pointer, parted_twice}
-use Rattle.r4_edit.specs.Extents.{ArePiecesOf, given_cells, twig_pieces}
-use Rattle.r4_edit.specs.Grafts.{GraftsBelow, IsGraftBelowIn, IsGraftBelowUp, IsGraftIn, IsGraftedUp}
-use Rattle.r4_edit.specs.Twigs.{Below}
+use Rattle.r4_edit.specs.Extents.{given_cells}
+use Rattle.r4_path.specs.TwigPieces.{ArePiecesOf, twig_pieces}
+use Rattle.r4_path.specs.Grafts.{GraftsBelow, IsGraftBelowIn, IsGraftBelowUp, IsGraftIn, IsGraftedUp}
+use Rattle.r4_path.specs.Twigs.{Below}
 use Rattle.r4_edit.proofs.CutGraft.{cut_below, cut_grafted, cut_has_units, cut_wider}
-use Rattle.r4_edit.proofs.LastCell.{last_up, up_last, up_some}
+use Rattle.r4_path.proofs.LastCell.{last_up, up_last, up_some}
 
 module _ {A : Type 0} (h : A → CellSeen) (path : List A) (x : A) (last : x ≡ get_or path (length path - 1) x)
     (t : Store Value) (r : Root) (leaf : Option CellSeen) (blocks : List CellSeen) (from to : ℕ) (fresh : Fresh)

@@ -14,9 +14,9 @@ use Rattle.r4_graft.proofs.Placed.{follow_end, has_end}
 use Rattle.r4_patch.specs.Joining.{ids_of}
 use Rattle.r4_edit.specs.CutBlocks.{IsTakenUp, next_key, pointer_over}
 use Rattle.r4_edit.specs.LeafParts.{IsEmptyLeaf}
-use Rattle.r4_edit.specs.Sharing.{IsSound}
-use Rattle.r4_edit.specs.Steps.{CountUp, IsNameOf, name_of}
-use Rattle.r4_edit.proofs.CutEnds.{open_names}
+use Rattle.r4_path.specs.Sharing.{IsSound}
+use Rattle.r4_path.specs.Steps.{CountUp, IsNameOf, name_of}
+use Rattle.r4_path.proofs.CutEnds.{open_names}
 use Rattle.r4_patch.proofs.Members.{Distinct, cases, none}
 
 -- ---- names of cells

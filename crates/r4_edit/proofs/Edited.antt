@@ -17,20 +17,11 @@ use Rattle.r4_leaf.specs.Units.{LeafUnit, leaf_bytes}
 use Rattle.r4_leaf.specs.declared.leaf.Leaf.{Leaf}
 use Rattle.r4_patch.specs.Joining.{patch_of_change}
 use Rattle.r4_patch.specs.Part.{MeetsPart}
-use Rattle.r4_edit.specs.Editing.{Edits, IsEditedIn, IsLeafStep, IsReplacedIn, IsReplacedUp, extra_cells}
-use Rattle.r4_edit.specs.Levels.{CanClimb, IsLongEnough, Rises}
-use Rattle.r4_edit.specs.Steps.{Step}
-use Rattle.r4_edit.proofs.Begun.{Begun, Enough, begun_change, begun_climbs, begun_meets, begun_rose}
-
--- fewer cells ask for no more room
-pub fewer : (r : Root) (less come : ℕ) (c : CellSeen) (ups : List CellSeen) → less ≤ come → IsLongEnough r come c ups
-    → IsLongEnough r less c ups
-fewer r less come c [] le h = h
-fewer r less come c (d ∷ ups) le (inl room) = inl (omega (arith, room, le))
-fewer r less come c (d ∷ ups) le (inr more) = inr more
-
-pub part_of : (bytes n : ℕ) → 4068 < bytes → 1024 * n + 2020 < bytes → n ≤ 1 + (bytes - 4068 + 1023) / 1024
-part_of bytes n over more = omega (arith, over, more)
+use Rattle.r4_edit.specs.Editing.{Edits, IsEditedIn, IsReplacedIn, IsReplacedUp, extra_cells}
+use Rattle.r4_path.specs.LeafSteps.{IsLeafStep}
+use Rattle.r4_path.specs.Levels.{CanClimb, IsLongEnough, Rises}
+use Rattle.r4_path.specs.Steps.{Step}
+use Rattle.r4_path.proofs.Begun.{Begun, Enough, begun_change, begun_climbs, begun_meets, begun_rose}
 
 -- the leaves are not more than were foreseen
 few_leaves : (us : List LeafUnit) (leaves : List Leaf) → AreFew us leaves → length leaves ≤ 1 + extra_cells us

@@ -15,13 +15,13 @@ use Rattle.r4_patch.specs.SecondRoot.{small_root}
 use Rattle.r4_patch.proofs.PartCells.{tree_is_part}
 use Rattle.r4_patch.proofs.SecondRoot.{small_is_tree}
 use Rattle.r4_edit.specs.ExtentGraft.{all_fresh, put_below, put_blocks, put_pieces}
-use Rattle.r4_edit.specs.ExtentPut.{data_cell, extent_tree, file_key, last_key, leaf_cell, pointer_block, stat_block, twig_cell}
-use Rattle.r4_edit.specs.Grafts.{AreCountedBelow, IsGraftBelow, IsGraftOf, IsGraftedIn, IsUnusedBeside, extra_twigs}
-use Rattle.r4_edit.specs.Growing.{IsPathIn}
-use Rattle.r4_edit.specs.Steps.{IsFree, IsNameOf, name_of}
-use Rattle.r4_edit.proofs.Counted.{count_once}
-use Rattle.r4_edit.proofs.ExtentChange.{file_top, from_least, goes_name, least_file, old_name, only, sound_node, to_top, unused}
-use Rattle.r4_edit.proofs.Instance.{leaf_sound, old_leaf, old_twig}
+use Rattle.r4_path.specs.ExtentPut.{data_cell, extent_tree, file_key, last_key, leaf_cell, pointer_block, stat_block, twig_cell}
+use Rattle.r4_path.specs.Grafts.{AreCountedBelow, IsGraftBelow, IsGraftOf, IsGraftedIn, IsUnusedBeside, extra_twigs}
+use Rattle.r4_path.specs.Growing.{IsPathIn}
+use Rattle.r4_path.specs.Steps.{IsFree, IsNameOf, name_of}
+use Rattle.r4_path.proofs.Counted.{count_once}
+use Rattle.r4_path.proofs.ExtentChange.{file_top, from_least, goes_name, least_file, old_name, only, sound_node, to_top, unused}
+use Rattle.r4_path.proofs.Instance.{leaf_sound, old_leaf, old_twig}
 use Rattle.r4_patch.proofs.Members.{cases, have_names, here, later, none}
 
 abbrev twig : CellSeen

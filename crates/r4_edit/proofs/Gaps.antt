@@ -14,7 +14,8 @@ use Rattle.r4_graft.proofs.FoundPlaces.{find_gap}
 use Rattle.r4_graft.proofs.Joined.{follow_join, spliced_bytes}
 use Rattle.r4_graft.proofs.Placed.{not_in_none}
 use Rattle.r4_graft.proofs.SplicedNames.{spliced_names}
-use Rattle.r4_edit.specs.Extents.{AreAmongExtents, ArePiecesOf}
+use Rattle.r4_edit.specs.Extents.{AreAmongExtents}
+use Rattle.r4_path.specs.TwigPieces.{ArePiecesOf}
 
 pub same_first : (hi : ℕ) (xs ys zs : List TwigPiece) → 1 ≤ length xs → next_of hi (xs ++ ys) ≡ next_of hi (xs ++ zs)
 same_first hi [] ys zs some = absurd (omega (arith, some))

@@ -16,14 +16,14 @@ use Rattle.r4_leaf.specs.Units.{IsMiddle, LeafUnit}
 use Rattle.r4_leaf.proofs.Rising.{Rise, rise_order}
 use Rattle.r4_edit.specs.Extents.{given_cells}
 use Rattle.r4_edit.specs.LeafParts.{HasLeft, HasRight, IsLeftPart, IsRightPart, PartsLeaf, first_from, right_id, right_takes, units_below, units_from}
-use Rattle.r4_edit.specs.Sharing.{IsSound}
+use Rattle.r4_path.specs.Sharing.{IsSound}
 use Rattle.r4_edit.specs.Splitting.{IsParted, unit_count}
-use Rattle.r4_edit.specs.Steps.{Follow}
-use Rattle.r4_edit.proofs.CellNodes.{units_are}
+use Rattle.r4_path.specs.Steps.{Follow}
+use Rattle.r4_path.proofs.CellNodes.{units_are}
 use Rattle.r4_patch.proofs.Members.{cases, none}
-use Rattle.r4_edit.proofs.NewNodes.{leaf_step}
+use Rattle.r4_path.proofs.NewNodes.{leaf_step}
 use Rattle.r4_edit.proofs.PartedLeaf.{units_rise}
-use Rattle.r4_edit.proofs.Rising.{hi_is, lo_is}
+use Rattle.r4_path.proofs.Rising.{hi_is, lo_is}
 use Rattle.r4_edit.proofs.SidesOfKey.{none_from, sides}
 
 -- ---- a unit at a place

@@ -17,13 +17,13 @@ use Rattle.r4_branch.proofs.Following.{follow_wider}
 use Rattle.r4_cell.specs.Seen.{CellSeen, node_of}
 use Rattle.r4_cell.specs.declared.change.Fresh.{Fresh}
 use Rattle.r4_graft.proofs.Joined.{bytes_any, bytes_join, end_of, follow_parts, names_join}
-use Rattle.r4_edit.specs.Extents.{ArePiecesOf, twig_pieces}
-use Rattle.r4_edit.specs.Grafts.{IsTwigRow}
-use Rattle.r4_edit.specs.Sharing.{IsSound}
+use Rattle.r4_path.specs.TwigPieces.{ArePiecesOf, twig_pieces}
+use Rattle.r4_path.specs.Grafts.{IsTwigRow}
+use Rattle.r4_path.specs.Sharing.{IsSound}
 use Rattle.r4_edit.specs.Splitting.{IsParted}
-use Rattle.r4_edit.proofs.CellNodes.{names_are, units_are}
+use Rattle.r4_path.proofs.CellNodes.{names_are, units_are}
 use Rattle.r4_patch.proofs.Members.{cases, none}
-use Rattle.r4_edit.proofs.TwigCells.{has_items, in_naming, naming_in, twig_wide}
+use Rattle.r4_path.proofs.TwigCells.{has_items, in_naming, naming_in, twig_wide}
 
 -- ---- pieces in two parts, each of which has one
 

@@ -13,7 +13,7 @@ use Rattle.r4_leaf.specs.Units.{LeafUnit}
 use Rattle.r4_leaf.specs.declared.leaf.Leaf.{Leaf}
 use Rattle.r4_edit.specs.Editing.{AreLeavesOf, EditsUp, IsCutOfLeafIn, IsCutOutIn, IsCutOutUp, IsEditedIn, IsInsertIn, IsInsertedIn}
 use Rattle.r4_edit.specs.Editing.{IsInsertedUp, IsReplacedUp, extra_for, extra_up}
-use Rattle.r4_edit.proofs.Upwards.{last_first, long_above}
+use Rattle.r4_path.proofs.Upwards.{last_first, long_above}
 
 module _ {A : Type 0} (h : A → CellSeen) (path : List A) (x : A) (last : x ≡ get_or path (length path - 1) x) (f : Fresh) where
   -- ---- an item that is put in

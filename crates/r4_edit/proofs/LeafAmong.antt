@@ -15,15 +15,16 @@ use Rattle.r4_cell.specs.Seen.{CellSeen, node_of}
 use Rattle.r4_cell.specs.declared.change.Fresh.{Fresh}
 use Rattle.r4_graft.specs.Splices.{place}
 use Rattle.r4_graft.proofs.Placed.{first_member, first_or_later, follow_end, has_end, not_in_none}
-use Rattle.r4_edit.specs.Extents.{AreAmongExtents, ArePiecesOf, IsLeafPutIn, IsLeafPutUp, leaf_pointer, put_pieces, twig_pieces}
-use Rattle.r4_edit.specs.Grafts.{AreBlocksOf, AreCountedBelow, IsGraftBelow, IsGraftBelowIn, IsGraftBelowUp, IsGraftIn, IsGraftOf, IsGraftedIn, IsGraftedUp}
+use Rattle.r4_edit.specs.Extents.{AreAmongExtents, IsLeafPutIn, IsLeafPutUp, leaf_pointer}
+use Rattle.r4_path.specs.TwigPieces.{ArePiecesOf, put_pieces, twig_pieces}
+use Rattle.r4_path.specs.Grafts.{AreBlocksOf, AreCountedBelow, IsGraftBelow, IsGraftBelowIn, IsGraftBelowUp, IsGraftIn, IsGraftOf, IsGraftedIn, IsGraftedUp}
 use Rattle.r4_edit.specs.LeafParts.{IsLeafOf}
-use Rattle.r4_edit.specs.Steps.{IsFree, OnlyTakes, name_of}
-use Rattle.r4_edit.specs.Twigs.{Below}
-use Rattle.r4_edit.proofs.GraftBelow.{path_later}
+use Rattle.r4_path.specs.Steps.{IsFree, OnlyTakes, name_of}
+use Rattle.r4_path.specs.Twigs.{Below}
+use Rattle.r4_path.proofs.GraftBelow.{path_later}
 use Rattle.r4_edit.proofs.Gaps.{gap, spread_bytes, spread_names, spread_pieces}
-use Rattle.r4_edit.proofs.Grown.{map_names, names_map}
-use Rattle.r4_edit.proofs.LastCell.{last_up, up_last, up_some}
+use Rattle.r4_path.proofs.Grown.{map_names, names_map}
+use Rattle.r4_path.proofs.LastCell.{last_up, up_last, up_some}
 use Rattle.r4_patch.proofs.Members.{have_names}
 use Rattle.r4_edit.proofs.OverLeaf.{leaf_node}
 

@@ -10,7 +10,7 @@ use Rattle.r4_leaf.specs.Leaves.{AreFew, MayStand, Packs}
 use Rattle.r4_leaf.specs.Units.{LeafUnit}
 use Rattle.r4_leaf.specs.declared.leaf.Leaf.{Leaf}
 use Rattle.r4_edit.specs.Editing.{AreLeavesOf}
-use Rattle.r4_edit.proofs.CellNodes.{units_are}
+use Rattle.r4_path.proofs.CellNodes.{units_are}
 
 module _ (leaf : CellSeen) (level : leaf.level ≡ 1) where
   pub lent_stands : (b : List ℕ) (lo : Key) → b ≡ leaf.block → lo ≡ leaf.lo → length leaf.block ≡ 4096

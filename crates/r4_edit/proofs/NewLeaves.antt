@@ -26,14 +26,14 @@ use Rattle.r4_leaf.proofs.SoundItems.{stat_long}
 use Rattle.r4_leaf.proofs.Standing.{given_sound}
 use Rattle.r4_node40.proofs.Laid.{get-items_of, key_fits, length-items_of}
 use Rattle.r4_edit.specs.LeafParts.{IsLeftPart, IsNewLeaf, IsRightPart, IsWidened, first_from}
-use Rattle.r4_edit.specs.Nodes.{IsNodeOf}
-use Rattle.r4_edit.specs.Sharing.{IsSound}
-use Rattle.r4_edit.proofs.CellNodes.{units_are}
+use Rattle.r4_path.specs.Nodes.{IsNodeOf}
+use Rattle.r4_path.specs.Sharing.{IsSound}
+use Rattle.r4_path.proofs.CellNodes.{units_are}
 use Rattle.r4_edit.proofs.LeafLent.{lent_stands}
-use Rattle.r4_edit.proofs.Lying.{Good, good_nil, sound}
+use Rattle.r4_path.proofs.Lying.{Good, good_nil, sound}
 use Rattle.r4_patch.proofs.Members.{here, later}
 use Rattle.r4_edit.proofs.PartedLeaf.{stands_level, stands_wider}
-use Rattle.r4_edit.proofs.Rising.{hi_is, lo_is}
+use Rattle.r4_path.proofs.Rising.{hi_is, lo_is}
 
 -- ---- a given item has a body
 

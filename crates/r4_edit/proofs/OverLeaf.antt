@@ -17,17 +17,18 @@ use Rattle.r4_cell.proofs.Nodes.{cell_node}
 use Rattle.r4_leaf.specs.Units.{LeafUnit}
 use Rattle.r4_graft.proofs.Placed.{first_member, first_or_later, later_member, not_in_none}
 use Rattle.r4_patch.specs.Joining.{ids_of}
-use Rattle.r4_edit.specs.Extents.{ArePiecesOf, HasRoomFor, IsOverIn, given_cells, item_blocks, over_pieces, twig_pieces}
-use Rattle.r4_edit.specs.Grafts.{AreBlocksOf, AreCountedBelow, IsGraftBelow, IsGraftOf, IsGraftedIn, IsUnusedBeside}
+use Rattle.r4_edit.specs.Extents.{HasRoomFor, IsOverIn, given_cells, item_blocks, over_pieces}
+use Rattle.r4_path.specs.TwigPieces.{ArePiecesOf, twig_pieces}
+use Rattle.r4_path.specs.Grafts.{AreBlocksOf, AreCountedBelow, IsGraftBelow, IsGraftOf, IsGraftedIn, IsUnusedBeside}
 use Rattle.r4_edit.specs.LeafParts.{HasLeft, HasRight, PartsLeaf, first_from, right_id, right_takes}
-use Rattle.r4_edit.specs.Sharing.{IsSound}
-use Rattle.r4_edit.specs.Steps.{CountUp, IsFree, IsNameOf, name_of}
-use Rattle.r4_edit.specs.Twigs.{Below}
-use Rattle.r4_edit.proofs.GraftBelow.{path_later}
-use Rattle.r4_edit.proofs.Grown.{map_names, names_map}
+use Rattle.r4_path.specs.Sharing.{IsSound}
+use Rattle.r4_path.specs.Steps.{CountUp, IsFree, IsNameOf, name_of}
+use Rattle.r4_path.specs.Twigs.{Below}
+use Rattle.r4_path.proofs.GraftBelow.{path_later}
+use Rattle.r4_path.proofs.Grown.{map_names, names_map}
 use Rattle.r4_patch.proofs.Members.{have_names}
 use Rattle.r4_edit.proofs.OverPieces.{MayStandBehind, comes, comes_names, found, leaf_pointed, over_bytes, over_names, over_twigs}
-use Rattle.r4_edit.proofs.Rising.{hi_is, lo_is}
+use Rattle.r4_path.proofs.Rising.{hi_is, lo_is}
 use Rattle.r4_edit.proofs.Spread.{extent_level}
 
 -- the first unit from a key on

@@ -11,10 +11,10 @@ use Rattle.r4_branch.proofs.Filled.{item_has_end}
 use Rattle.r4_cell.specs.Seen.{CellSeen}
 use Rattle.r4_cell.specs.declared.change.Fresh.{Fresh}
 use Rattle.r4_edit.specs.Extents.{IsOverIn, IsOverUp}
-use Rattle.r4_edit.specs.Grafts.{IsGraftBelow, IsGraftBelowIn, IsGraftBelowUp, IsGraftIn, IsGraftedIn, IsGraftedUp}
-use Rattle.r4_edit.specs.Twigs.{Below}
-use Rattle.r4_edit.proofs.LastCell.{above_last, up_last}
-use Rattle.r4_edit.proofs.Upwards.{last_first}
+use Rattle.r4_path.specs.Grafts.{IsGraftBelow, IsGraftBelowIn, IsGraftBelowUp, IsGraftIn, IsGraftedIn, IsGraftedUp}
+use Rattle.r4_path.specs.Twigs.{Below}
+use Rattle.r4_path.proofs.LastCell.{above_last, up_last}
+use Rattle.r4_path.proofs.Upwards.{last_first}
 
 -- The item begins in the leaf's range, and a number is free.
 pub record BeginsIn (it : Item) (leaf : CellSeen) (fresh : Fresh) : Type 0 where

@@ -17,8 +17,9 @@ use Rattle.r4_graft.specs.Splices.{place, spliced}
 use Rattle.r4_graft.proofs.FoundPlaces.{find_pointer}
 use Rattle.r4_graft.proofs.Joined.{bytes_join, bytes_most, end_of, follow_join, follow_parts, names_join, next_join, spliced_bytes}
 use Rattle.r4_graft.proofs.SplicedNames.{spliced_names}
-use Rattle.r4_edit.specs.Extents.{ArePiecesOf, IsGivenExtent, given_cells, item_blocks, over_pieces, pointer_to}
-use Rattle.r4_edit.specs.Steps.{name_of}
+use Rattle.r4_edit.specs.Extents.{IsGivenExtent, given_cells, item_blocks, over_pieces, pointer_to}
+use Rattle.r4_path.specs.TwigPieces.{ArePiecesOf}
+use Rattle.r4_path.specs.Steps.{name_of}
 use Rattle.r4_edit.proofs.Spread.{extent_names}
 
 module _ (twig leaf : CellSeen) (ps : List TwigPiece) (are : ArePiecesOf twig ps)

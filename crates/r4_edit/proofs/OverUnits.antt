@@ -16,12 +16,13 @@ use Rattle.r4_cell.specs.declared.change.Fresh.{Fresh}
 use Rattle.r4_graft.proofs.Joined.{end_of}
 use Rattle.r4_leaf.specs.Units.{put_units}
 use Rattle.r4_leaf.proofs.Rising.{Rise, put_run, rise_lower, rise_wider}
-use Rattle.r4_edit.specs.Extents.{ArePiecesOf, IsGivenExtent, IsOverIn, IsOverUp, PutsOverUp, given_cells, over_pieces, pointer_to, twig_pieces}
-use Rattle.r4_edit.specs.Grafts.{GraftsBelow}
+use Rattle.r4_edit.specs.Extents.{IsGivenExtent, IsOverIn, IsOverUp, PutsOverUp, given_cells, over_pieces, pointer_to}
+use Rattle.r4_path.specs.TwigPieces.{ArePiecesOf, twig_pieces}
+use Rattle.r4_path.specs.Grafts.{GraftsBelow}
 use Rattle.r4_edit.specs.LeafParts.{PartsLeaf}
-use Rattle.r4_edit.specs.Steps.{name_of}
+use Rattle.r4_path.specs.Steps.{name_of}
 use Rattle.r4_edit.proofs.CutNames.{units_rise}
-use Rattle.r4_edit.proofs.LastCell.{last_up, up_some}
+use Rattle.r4_path.proofs.LastCell.{last_up, up_some}
 use Rattle.r4_edit.proofs.OverLeaf.{behind}
 use Rattle.r4_edit.proofs.OverPath.{over_in, parted, ups}
 use Rattle.r4_edit.proofs.OverPieces.{MayStandBehind, comes, over_is, parts, place_of_leaf, rest, stays}

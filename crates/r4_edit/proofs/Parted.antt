@@ -10,10 +10,10 @@ use Rattle.r4_cell.specs.declared.change.Change.{Change}
 use Rattle.r4_cell.specs.declared.change.Fresh.{Fresh}
 use Rattle.r4_patch.specs.Joining.{patch_of_change}
 use Rattle.r4_patch.specs.Part.{MeetsPart}
-use Rattle.r4_edit.specs.Levels.{CanClimb, IsLongEnough, Rises}
+use Rattle.r4_path.specs.Levels.{CanClimb, IsLongEnough, Rises}
 use Rattle.r4_edit.specs.Splitting.{IsParted, IsPartedIn, IsPartedUp, IsSharedOut, Parts}
-use Rattle.r4_edit.specs.Steps.{Step}
-use Rattle.r4_edit.proofs.Begun.{Begun, Enough, begun_change, begun_climbs, begun_meets, begun_rose}
+use Rattle.r4_path.specs.Steps.{Step}
+use Rattle.r4_path.proofs.Begun.{Begun, Enough, begun_change, begun_climbs, begun_meets, begun_rose}
 use Rattle.r4_edit.proofs.PiecesParted.{pieces_change, pieces_meet, pieces_parts, pieces_start}
 
 -- ---- cells that share out what one named

@@ -25,10 +25,10 @@ use Rattle.r4_node40.specs.Laid.{room_of}
 use Rattle.r4_node40.proofs.Accepted.{space}
 use Rattle.r4_edit.specs.Editing.{AreLeavesOf}
 use Rattle.r4_edit.specs.LeafParts.{HasUnits, IsLeftPart, IsRightPart, first_from, first_item_key, units_below, units_from}
-use Rattle.r4_edit.specs.Nodes.{weight}
-use Rattle.r4_edit.proofs.CellNodes.{units_are}
+use Rattle.r4_path.specs.Nodes.{weight}
+use Rattle.r4_path.proofs.CellNodes.{units_are}
 use Rattle.r4_edit.proofs.LeafItems.{lie_narrower, lie_rise, lie_weighs, spread}
-use Rattle.r4_edit.proofs.Lying.{Good, good_cons, good_nil, good_parts}
+use Rattle.r4_path.proofs.Lying.{Good, good_cons, good_nil, good_parts}
 use Rattle.r4_edit.proofs.SidesOfKey.{below_fits, below_twice, cut_before, cut_behind, first_is, from_fits, none_from, rise_below}
 
 -- ---- a block that may stand as a leaf

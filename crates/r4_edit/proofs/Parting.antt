@@ -12,22 +12,22 @@ use Rattle.r4_cell.proofs.NodesAt.{IsNodeAt, plugins_at}
 use Rattle.r4_node40.specs.Laid.{IsNode}
 use Rattle.r4_node40.specs.View.{view_block, view_items}
 use Rattle.r4_node40.proofs.Accepted.{good}
-use Rattle.r4_edit.specs.Levels.{units_of_cells}
+use Rattle.r4_path.specs.Levels.{units_of_cells}
 use Rattle.r4_edit.specs.Splitting.{IsParted}
-use Rattle.r4_edit.specs.Nodes.{weight, weight_of}
-use Rattle.r4_edit.specs.Rows.{row_items, row_level, row_more, with_pointers}
-use Rattle.r4_edit.specs.Sharing.{AreSome, HasItems, IsRowOf, IsSound, items_of_cells}
-use Rattle.r4_edit.specs.Steps.{Follow, IsStep}
-use Rattle.r4_edit.specs.declared.row.Row.{Row}
-use Rattle.r4_edit.proofs.CellUnits.{own_units as units_of_items, units_parts}
-use Rattle.r4_edit.proofs.Cuts.{both_parts}
-use Rattle.r4_edit.proofs.Finding.{bodied, node_weighs, weighs_length}
-use Rattle.r4_edit.proofs.Lying.{Good}
-use Rattle.r4_edit.proofs.Parenting.{alike, in_naming, in_spanning, naming_in, sound_node, spanning_in}
-use Rattle.r4_edit.proofs.NewNodes.{leaf_step as step_of_leaves}
-use Rattle.r4_edit.proofs.Rising.{hi_is, lo_is}
-use Rattle.r4_edit.proofs.Stepping.{bodied_row}
-use Rattle.r4_edit.proofs.CellNodes.{names_are, spans_are}
+use Rattle.r4_path.specs.Nodes.{weight, weight_of}
+use Rattle.r4_path.specs.Rows.{row_items, row_level, row_more, with_pointers}
+use Rattle.r4_path.specs.Sharing.{AreSome, HasItems, IsRowOf, IsSound, items_of_cells}
+use Rattle.r4_path.specs.Steps.{Follow, IsStep}
+use Rattle.r4_path.specs.declared.row.Row.{Row}
+use Rattle.r4_path.proofs.CellUnits.{own_units as units_of_items, units_parts}
+use Rattle.r4_path.proofs.Cuts.{both_parts}
+use Rattle.r4_path.proofs.Finding.{bodied, node_weighs, weighs_length}
+use Rattle.r4_path.proofs.Lying.{Good}
+use Rattle.r4_path.proofs.Parenting.{alike, in_naming, in_spanning, naming_in, sound_node, spanning_in}
+use Rattle.r4_path.proofs.NewNodes.{leaf_step as step_of_leaves}
+use Rattle.r4_path.proofs.Rising.{hi_is, lo_is}
+use Rattle.r4_path.proofs.Stepping.{bodied_row}
+use Rattle.r4_path.proofs.CellNodes.{names_are, spans_are}
 
 -- ---- the row of a node as it is
 

@@ -13,16 +13,16 @@ use Rattle.r4_cell.specs.declared.change.Change.{Change}
 use Rattle.r4_cell.specs.declared.change.Fresh.{Fresh}
 use Rattle.r4_patch.specs.Joining.{patch_of_change}
 use Rattle.r4_patch.specs.Part.{MeetsPart}
-use Rattle.r4_edit.specs.Grafts.{HaveGraftNumbers, IsGraftOf}
-use Rattle.r4_edit.specs.Levels.{CanClimb, IsLongEnough, Rises, units_of_cells}
-use Rattle.r4_edit.specs.Sharing.{AreSome}
+use Rattle.r4_path.specs.Grafts.{HaveGraftNumbers, IsGraftOf}
+use Rattle.r4_path.specs.Levels.{CanClimb, IsLongEnough, Rises, units_of_cells}
+use Rattle.r4_path.specs.Sharing.{AreSome}
 use Rattle.r4_edit.specs.Splitting.{ArePiecesShared, IsPartedIn, Parts}
-use Rattle.r4_edit.specs.Steps.{Step, news, olds}
-use Rattle.r4_edit.specs.Twigs.{Below, IsTwigChange}
-use Rattle.r4_edit.proofs.GraftLaw.{twig_change}
+use Rattle.r4_path.specs.Steps.{Step, news, olds}
+use Rattle.r4_path.specs.Twigs.{Below, IsTwigChange}
+use Rattle.r4_path.proofs.GraftLaw.{twig_change}
 use Rattle.r4_patch.proofs.Members.{have_names, none}
-use Rattle.r4_edit.proofs.TwigPatch.{change_is, part_meets}
-use Rattle.r4_edit.proofs.TwigRose.{EnoughTwigs, TwigRose, twigs_end, twigs_ids, twigs_rose, twigs_start}
+use Rattle.r4_path.proofs.TwigPatch.{change_is, part_meets}
+use Rattle.r4_path.proofs.TwigRose.{EnoughTwigs, TwigRose, twigs_end, twigs_ids, twigs_rose, twigs_start}
 
 -- nothing goes or comes below the twig
 abbrev nothing : Below

@@ -10,8 +10,8 @@ use Rattle.r4_cell.specs.declared.change.Fresh.{Fresh}
 use Rattle.r4_leaf.specs.Leaves.{IsGiven}
 use Rattle.r4_edit.specs.Editing.{IsInsertedUp}
 use Rattle.r4_edit.specs.Extents.{IsIntoLeafIn, IsLeafPutUp, IsOverUp, IsPutIn, IsSpreadUp, item_blocks}
-use Rattle.r4_edit.specs.Grafts.{AreBlocksOf}
-use Rattle.r4_edit.proofs.LastCell.{up_last, up_some}
+use Rattle.r4_path.specs.Grafts.{AreBlocksOf}
+use Rattle.r4_path.proofs.LastCell.{up_last, up_some}
 use Rattle.r4_edit.proofs.OverPath.{leaf_in}
 
 -- an item of a leaf is no extent

@@ -16,13 +16,14 @@ use Rattle.r4_cell.specs.declared.change.Fresh.{Fresh}
 use Rattle.r4_graft.specs.Splices.{place}
 use Rattle.r4_leaf.specs.Units.{put_units}
 use Rattle.r4_leaf.proofs.Rising.{put_run}
-use Rattle.r4_edit.specs.Extents.{AreAmongExtents, ArePiecesOf, IsLeafPutIn, IsLeafPutUp, IsSpreadIn, IsSpreadUp, PutsLeafUp, SpreadsUp, leaf_pointer, put_pieces, twig_pieces}
-use Rattle.r4_edit.specs.Grafts.{GraftsBelow}
+use Rattle.r4_edit.specs.Extents.{AreAmongExtents, IsLeafPutIn, IsLeafPutUp, IsSpreadIn, IsSpreadUp, PutsLeafUp, SpreadsUp, leaf_pointer}
+use Rattle.r4_path.specs.TwigPieces.{ArePiecesOf, put_pieces, twig_pieces}
+use Rattle.r4_path.specs.Grafts.{GraftsBelow}
 use Rattle.r4_edit.specs.LeafParts.{IsLeafOf}
-use Rattle.r4_edit.specs.Twigs.{Below}
+use Rattle.r4_path.specs.Twigs.{Below}
 use Rattle.r4_edit.proofs.CutNames.{units_rise}
 use Rattle.r4_edit.proofs.Gaps.{gap, spread, spread_is}
-use Rattle.r4_edit.proofs.LastCell.{last_up, up_last, up_some}
+use Rattle.r4_path.proofs.LastCell.{last_up, up_last, up_some}
 use Rattle.r4_edit.proofs.LeafAmong.{follows}
 use Rattle.r4_edit.proofs.Spread.{nothing}
 

@@ -16,11 +16,12 @@ use Rattle.r4_cell.specs.Seen.{CellSeen, node_of}
 use Rattle.r4_cell.specs.declared.change.Fresh.{Fresh}
 use Rattle.r4_graft.proofs.FoundPlaces.{runs_level}
 use Rattle.r4_graft.proofs.Placed.{not_in_none}
-use Rattle.r4_edit.specs.Extents.{ArePiecesOf, HasRoomFor, IsSpreadIn, IsSpreadUp, item_blocks, put_pieces, twig_pieces}
-use Rattle.r4_edit.specs.Grafts.{AreBlocksOf, AreCountedBelow, IsGraftBelow, IsGraftBelowIn, IsGraftBelowUp, IsGraftIn, IsGraftOf, IsGraftedIn, IsGraftedUp}
-use Rattle.r4_edit.specs.Steps.{IsNameOf}
-use Rattle.r4_edit.specs.Twigs.{Below}
-use Rattle.r4_edit.proofs.LastCell.{last_up, up_last, up_some}
+use Rattle.r4_edit.specs.Extents.{HasRoomFor, IsSpreadIn, IsSpreadUp, item_blocks}
+use Rattle.r4_path.specs.TwigPieces.{ArePiecesOf, put_pieces, twig_pieces}
+use Rattle.r4_path.specs.Grafts.{AreBlocksOf, AreCountedBelow, IsGraftBelow, IsGraftBelowIn, IsGraftBelowUp, IsGraftIn, IsGraftOf, IsGraftedIn, IsGraftedUp}
+use Rattle.r4_path.specs.Steps.{IsNameOf}
+use Rattle.r4_path.specs.Twigs.{Below}
+use Rattle.r4_path.proofs.LastCell.{last_up, up_last, up_some}
 use Rattle.r4_patch.proofs.Members.{have_names}
 use Rattle.r4_edit.proofs.Gaps.{gap, spread_bytes, spread_names, spread_pieces}
 

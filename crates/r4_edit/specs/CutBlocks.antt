@@ -15,10 +15,11 @@ use Rattle.r4_cell.specs.declared.change.Fresh.{Fresh}
 use Rattle.r4_graft.specs.Splices.{IsBorder, parted, place, spliced}
 use Rattle.r4_leaf.specs.Units.{cut_units}
 use Rattle.r4_edit.specs.Editing.{IsCutOfLeafIn, after_cut, extra_for}
-use Rattle.r4_edit.specs.Extents.{HasRoomFor, given_cells, twig_pieces}
-use Rattle.r4_edit.specs.Grafts.{GraftsBelow}
+use Rattle.r4_edit.specs.Extents.{HasRoomFor, given_cells}
+use Rattle.r4_path.specs.TwigPieces.{twig_pieces}
+use Rattle.r4_path.specs.Grafts.{GraftsBelow}
 use Rattle.r4_edit.specs.LeafParts.{IsEmptyLeaf, IsWidened}
-use Rattle.r4_edit.specs.Steps.{IsNameOf, name_of}
+use Rattle.r4_path.specs.Steps.{IsNameOf, name_of}
 
 -- ---- pieces between two keys
 

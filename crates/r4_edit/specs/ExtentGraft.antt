@@ -5,8 +5,8 @@ use Rattle.r4_branch.specs.declared.piece.TwigPart.TheVariants.{Blocks, Pointer}
 use Rattle.r4_branch.specs.declared.piece.TwigPiece.{TwigPiece}
 use Rattle.r4_cell.specs.Seen.{CellSeen}
 use Rattle.r4_cell.specs.declared.change.Fresh.{Fresh}
-use Rattle.r4_edit.specs.ExtentPut.{data_cell, file_key, last_key, leaf_cell}
-use Rattle.r4_edit.specs.Twigs.{Below}
+use Rattle.r4_path.specs.ExtentPut.{data_cell, file_key, last_key, leaf_cell}
+use Rattle.r4_path.specs.Twigs.{Below}
 
 -- the pointer to the leaf, and the run of two blocks
 abbrev pub put_pieces : List TwigPiece

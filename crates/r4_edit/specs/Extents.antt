@@ -19,24 +19,11 @@ use Rattle.r4_graft.specs.Splices.{place, spliced}
 use Rattle.r4_leaf.specs.Leaves.{IsGiven}
 use Rattle.r4_leaf.specs.Units.{put_units}
 use Rattle.r4_edit.specs.Editing.{IsInsertIn, after_insert, extra_for}
-use Rattle.r4_edit.specs.Grafts.{GraftsBelow, IsUnusedBeside, extra_twigs}
-use Rattle.r4_edit.specs.Growing.{IsPathIn}
+use Rattle.r4_path.specs.Grafts.{GraftsBelow, IsUnusedBeside, extra_twigs}
+use Rattle.r4_path.specs.Growing.{IsPathIn}
 use Rattle.r4_edit.specs.LeafParts.{HasRight, IsLeafOf, PartsLeaf}
-use Rattle.r4_edit.specs.Levels.{IsLongEnough}
-use Rattle.r4_edit.specs.Steps.{name_of}
-
--- ---- a twig's pieces
-
-abbrev pub twig_pieces : CellSeen → List TwigPiece
-twig_pieces twig = pieces_in (items_of twig.block)
-
--- They name what the twig names, and have its units.
-pub record ArePiecesOf (twig : CellSeen) (ps : List TwigPiece) : Type 0 where
-  pub is : ps ≡ twig_pieces twig
-  pub pieces : AreTwigPieces (rank twig.lo) (rank twig.hi) ps
-  pub names : names_of (rank twig.hi) ps ≡ (node_of twig).names
-  pub units : units_of ps ≡ (node_of twig).units
-  pub fits : twig_bytes ps ≤ 4068
+use Rattle.r4_path.specs.Levels.{IsLongEnough}
+use Rattle.r4_path.specs.Steps.{name_of}
 
 -- ---- an extent that is put in
 
@@ -71,10 +58,6 @@ pub record AreAmongExtents (twig : CellSeen) (from to : ℕ) : Type 0 where
   pub some : from < to
   pub high : to ≤ rank twig.hi
   pub clear : AreClear (node_of twig).names (node_of twig).units from to
-
--- other pieces where their key belongs
-abbrev pub put_pieces : Key → List TwigPiece → List TwigPiece → List TwigPiece
-put_pieces key qs ps = spliced (place (rank key) ps) (place (rank key) ps) qs ps
 
 -- An extent may be put among the twig's extents.
 pub record IsSpreadIn (t : Store Value) (r : Root) (it : Item) (twig : CellSeen) (ups : List CellSeen)

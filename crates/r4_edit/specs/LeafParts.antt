@@ -9,7 +9,7 @@ use Rattle.r4_cell.specs.Seen.{CellSeen, node_of}
 use Rattle.r4_cell.specs.declared.change.Fresh.{Fresh}
 use Rattle.r4_leaf.specs.Leaves.{MayStand}
 use Rattle.r4_leaf.specs.Units.{LeafUnit}
-use Rattle.r4_edit.specs.Sharing.{IsSound}
+use Rattle.r4_path.specs.Sharing.{IsSound}
 
 -- ---- the units of a leaf on the two sides of a key
 

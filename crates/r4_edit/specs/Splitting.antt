@@ -10,11 +10,11 @@ use Rattle.r4_cell.specs.Seen.{CellSeen, node_of}
 use Rattle.r4_cell.specs.declared.change.Change.{Change}
 use Rattle.r4_cell.specs.declared.change.Fresh.{Fresh}
 use Rattle.r4_patch.specs.Joining.{ids_of}
-use Rattle.r4_edit.specs.Grafts.{IsTwigRow}
-use Rattle.r4_edit.specs.Growing.{IsPathIn}
-use Rattle.r4_edit.specs.Levels.{AreNeeded, HasLevels, HaveMkfsIdOf, IsLongEnough, KeepMkfsIds, Keeps, units_of_cells}
-use Rattle.r4_edit.specs.Sharing.{AreSome, IsSound}
-use Rattle.r4_edit.specs.Steps.{CountUp, IsStep, Step, fresh_ids, olds}
+use Rattle.r4_path.specs.Grafts.{IsTwigRow}
+use Rattle.r4_path.specs.Growing.{IsPathIn}
+use Rattle.r4_path.specs.Levels.{AreNeeded, HasLevels, HaveMkfsIdOf, IsLongEnough, KeepMkfsIds, Keeps, units_of_cells}
+use Rattle.r4_path.specs.Sharing.{AreSome, IsSound}
+use Rattle.r4_path.specs.Steps.{CountUp, IsStep, Step, fresh_ids, olds}
 
 -- How many units the cell may be parted between: of a leaf its stat data, entries and bytes, of a twig its pointers and the
 -- units of its extents, and above it pointers alone.

@@ -10,16 +10,14 @@ ghost use Rattle.r4_cell.specs.Seen.{CellSeen};
 ghost use Rattle.r4_patch.specs.Part.{MeetsPart};
 ghost use Rattle.r4_edit.specs.Editing.{given_item};
 ghost use Rattle.r4_edit.specs.Extents.{IsLeafPutUp, IsSpreadUp, PutsLeafUp, SpreadsUp, item_blocks};
-ghost use Rattle.r4_edit.specs.Grafts.{AreBlocksOf};
-ghost use Rattle.r4_edit.specs.Steps.{OnlyTakes};
+ghost use Rattle.r4_path.specs.Grafts.{AreBlocksOf};
+ghost use Rattle.r4_path.specs.Steps.{OnlyTakes};
 
-use crate::grafting::graft_below;
 use crate::leaf_parts::leaf_of;
-use crate::numbers::take_number;
-use crate::pieces::{end_behind, pieces_of_cell, pieces_with, put_among};
 use r4_base::{Key, Memory, get32};
 use r4_branch::{TwigPart, TwigPiece, extent_pieces};
 use r4_cell::{Cell, Change, Fresh};
+use r4_path::{end_behind, graft_below, pieces_of_cell, pieces_with, put_among, take_number};
 use std::alloc::Global;
 use std::sync::Arc;
 

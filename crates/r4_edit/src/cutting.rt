@@ -14,18 +14,16 @@ ghost use Rattle.r4_graft.specs.Splices.{IsBorder, spliced};
 ghost use Rattle.r4_patch.specs.Part.{MeetsPart};
 ghost use Rattle.r4_edit.specs.CutBlocks.{CutsUp, IsCutUp, IsTakenUp, after_leaves, cut_pieces};
 ghost use Rattle.r4_edit.specs.CutBlocks.{end_key, new_pointer, next_key, numbers_for, parted_twice, pieces_behind, pieces_without, pointer_for, pointer_over};
-ghost use Rattle.r4_edit.specs.Extents.{ArePiecesOf, given_cells, twig_pieces};
-ghost use Rattle.r4_edit.specs.Steps.{OnlyTakes};
+ghost use Rattle.r4_edit.specs.Extents.{given_cells};
+ghost use Rattle.r4_path.specs.TwigPieces.{ArePiecesOf, twig_pieces};
+ghost use Rattle.r4_path.specs.Steps.{OnlyTakes};
 
-use crate::gathering::add;
-use crate::grafting::graft_below;
 use crate::leaf_parts::{empty_leaf, widened};
-use crate::numbers::take_number;
-use crate::pieces::pieces_of_cell;
 use r4_base::{BLOCK_BYTES, Key, Memory, NodeId, get32};
 use r4_branch::{TwigPart, TwigPiece};
 use r4_cell::{Cell, Change, Fresh};
 use r4_graft::{part_at, place_of, splice};
+use r4_path::{add, graft_below, pieces_of_cell, take_number};
 use std::alloc::Global;
 use std::sync::Arc;
 

@@ -19,17 +19,16 @@ ghost use Rattle.r4_edit.specs.CutBlocks.{trunk};
 ghost use Rattle.r4_edit.specs.Editing.{AreLeavesOf, Cuts, EditsUp, Inserts, IsCutOfLeafIn, IsInsertIn, IsReplacedUp, after_cut};
 ghost use Rattle.r4_edit.specs.Editing.{after_insert, extra_for, given_item};
 ghost use Rattle.r4_edit.specs.Extents.{IsIntoLeafIn, IsLeafPutUp, IsOverUp, IsPutIn, IsSpreadUp, PutsLeafUp, PutsOverUp, SpreadsUp, item_blocks};
-ghost use Rattle.r4_edit.specs.Grafts.{AreBlocksOf};
-ghost use Rattle.r4_edit.specs.Steps.{OnlyTakes};
+ghost use Rattle.r4_path.specs.Grafts.{AreBlocksOf};
+ghost use Rattle.r4_path.specs.Steps.{OnlyTakes};
 
 use crate::among::{put_extent, put_leaf};
-use crate::ascent::rise;
 use crate::cutting::cut_blocks;
-use crate::leaves::leaf_level;
 use crate::over::put_over;
 use r4_base::{EXTENT, Key, LEAF, Memory, TWIG, get32};
 use r4_cell::{Cell, Change, Fresh};
 use r4_leaf::{Leaf, cut_out, put_in};
+use r4_path::{leaf_level, rise};
 use std::alloc::Global;
 use std::sync::Arc;
 
@@ -258,12 +257,7 @@ fn leaves_with(
 }
 
 /// The leaves that a leaf becomes without its units from one key up to another, with its mkfs_id.
-pub(crate) fn leaves_without(
-    alloc: Global,
-    leaf: &Cell,
-    from: &Key,
-    to: &Key,
-) -> Result<Vec<Leaf>, Memory>
+pub fn leaves_without(alloc: Global, leaf: &Cell, from: &Key, to: &Key) -> Result<Vec<Leaf>, Memory>
     requires level { leaf.now.level ≡ 1 }
     ensures leaves { IfOk result (λ v. AreLeavesOf leaf.now (after_cut from.now to.now leaf.now) v.items) }
     ensures mkfs_id { IfOk result (λ v. HaveMkfsId (mkfs_id_of leaf.now.block) v.items) }

@@ -10,12 +10,12 @@ ghost use Rattle.r4_cell.specs.declared.change.Change.{Change};
 ghost use Rattle.r4_cell.specs.declared.change.Fresh.{Fresh};
 ghost use Rattle.r4_patch.specs.Part.{MeetsPart};
 ghost use Rattle.r4_patch.specs.SecondRoot.{small_root};
-ghost use Rattle.r4_edit.specs.Grafts.{AreCountedBelow, Grafts, HasBelow, HaveGraftNumbers, IsGraft, IsGraftBelow, IsGraftOf};
-ghost use Rattle.r4_edit.specs.Grafts.{IsTwigGraft};
+ghost use Rattle.r4_path.specs.Grafts.{AreCountedBelow, Grafts, HasBelow, HaveGraftNumbers, IsGraft, IsGraftBelow, IsGraftOf};
+ghost use Rattle.r4_path.specs.Grafts.{IsTwigGraft};
 ghost use Rattle.r4_edit.specs.ExtentGraft.{all_fresh, put_below, put_blocks, put_pieces};
 ghost use Rattle.r4_edit.specs.Extents.{AreAmongExtents};
-ghost use Rattle.r4_edit.specs.ExtentPut.{extent_tree, pointer_block, twig_cell};
-ghost use Rattle.r4_edit.specs.Twigs.{Below};
+ghost use Rattle.r4_path.specs.ExtentPut.{extent_tree, pointer_block, twig_cell};
+ghost use Rattle.r4_path.specs.Twigs.{Below};
 
 /// A twig that is packed anew, with what goes and comes below it and the nodes above it, is a change of the twig. With the
 /// data blocks behind all other new cells it is a patch, and each part of a tree that has the cells meets it

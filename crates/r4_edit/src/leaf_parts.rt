@@ -11,15 +11,14 @@ ghost use Rattle.r4_leaf.specs.Leaves.{IsGiven};
 ghost use Rattle.r4_edit.specs.Editing.{given_item};
 ghost use Rattle.r4_edit.specs.LeafParts.{HasLeft, HasRight, HasUnits, IsEmptyLeaf, IsLeafOf, IsWidened, PartsLeaf};
 ghost use Rattle.r4_edit.specs.LeafParts.{first_item_key, right_id, right_takes, units_below, units_from};
-ghost use Rattle.r4_edit.specs.Nodes.{IsNodeOf};
-ghost use Rattle.r4_edit.specs.Steps.{OnlyTakes};
+ghost use Rattle.r4_path.specs.Nodes.{IsNodeOf};
+ghost use Rattle.r4_path.specs.Steps.{OnlyTakes};
 
-use crate::appending::append;
-use crate::numbers::take_number;
 use r4_base::{Block, Key, LEAF, Memory, NodeId, get32};
 use r4_cell::{Cell, Fresh, new_cell};
 use r4_leaf::{Leaf, cut_out};
 use r4_node40::{NodeMut, NodeView};
+use r4_path::{append, take_number};
 use std::alloc::Global;
 use std::sync::Arc;
 

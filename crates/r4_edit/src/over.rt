@@ -13,17 +13,17 @@ ghost use Rattle.r4_cell.specs.Seen.{CellSeen, node_of};
 ghost use Rattle.r4_graft.specs.Splices.{place, spliced};
 ghost use Rattle.r4_patch.specs.Part.{MeetsPart};
 ghost use Rattle.r4_edit.specs.Editing.{given_item};
-ghost use Rattle.r4_edit.specs.Extents.{ArePiecesOf, IsOverUp, PutsOverUp, given_cells, item_blocks, over_pieces, pointer_to, twig_pieces};
-ghost use Rattle.r4_edit.specs.Grafts.{AreBlocksOf};
-ghost use Rattle.r4_edit.specs.Steps.{OnlyTakes, name_of};
+ghost use Rattle.r4_edit.specs.Extents.{IsOverUp, PutsOverUp, given_cells, item_blocks, over_pieces, pointer_to};
+ghost use Rattle.r4_path.specs.TwigPieces.{ArePiecesOf, twig_pieces};
+ghost use Rattle.r4_path.specs.Grafts.{AreBlocksOf};
+ghost use Rattle.r4_path.specs.Steps.{OnlyTakes, name_of};
 
-use crate::grafting::graft_below;
 use crate::leaf_parts::{LeafParts, part_leaf};
-use crate::pieces::pieces_of_cell;
 use r4_base::{Key, Memory};
 use r4_branch::{TwigPart, TwigPiece, extent_pieces};
 use r4_cell::{Cell, Change, Fresh};
 use r4_graft::{place_of, splice};
+use r4_path::{graft_below, pieces_of_cell};
 use std::alloc::Global;
 use std::sync::Arc;
 

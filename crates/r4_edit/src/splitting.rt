@@ -12,23 +12,18 @@ ghost use Rattle.r4_cell.specs.Seen.{node_of};
 ghost use Rattle.r4_cell.specs.Patch.{IsChange};
 ghost use Rattle.r4_patch.specs.Joining.{patch_of_change};
 ghost use Rattle.r4_patch.specs.Part.{MeetsPart};
-ghost use Rattle.r4_edit.specs.Extents.{twig_pieces};
-ghost use Rattle.r4_edit.specs.Levels.{step_of};
+ghost use Rattle.r4_path.specs.TwigPieces.{twig_pieces};
+ghost use Rattle.r4_path.specs.Levels.{step_of};
 ghost use Rattle.r4_edit.specs.Splitting.{IsParted, IsSplitIn, Splits, unit_count};
-ghost use Rattle.r4_edit.specs.Steps.{OnlyTakes};
+ghost use Rattle.r4_path.specs.Steps.{OnlyTakes};
 
-use crate::ascent::rise;
 use crate::leaf_parts::part_leaf;
-use crate::level::Level;
-use crate::numbers::take_number;
 use crate::over::cells_of;
-use crate::pieces::pieces_of_cell;
-use crate::row::Row;
-use crate::sharing::{pair, two};
 use r4_base::{Block, Key, LEAF, Memory, TWIG, get32};
 use r4_branch::{TwigPiece, pack_twigs};
 use r4_cell::{Cell, Cells, Change, Fresh, new_cell};
 use r4_leaf::middle_key;
+use r4_path::{Level, Row, pair, pieces_of_cell, rise, take_number, two};
 use std::alloc::Global;
 use std::sync::Arc;
 

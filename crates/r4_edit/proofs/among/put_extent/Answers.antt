@@ -7,9 +7,10 @@ use Rattle.r4_base.specs.Value.{Value}
 use Rattle.r4_branch.specs.Pieces.{item_pieces}
 use Rattle.r4_cell.specs.Seen.{CellSeen}
 use Rattle.r4_edit.specs.Editing.{given_item}
-use Rattle.r4_edit.specs.Extents.{ArePiecesOf, IsSpreadUp, item_blocks, put_pieces, twig_pieces}
-use Rattle.r4_edit.specs.Grafts.{AreBlocksOf, GraftsBelow, IsGraftBelowIn, IsGraftIn}
-use Rattle.r4_edit.specs.Twigs.{Below}
+use Rattle.r4_edit.specs.Extents.{IsSpreadUp, item_blocks}
+use Rattle.r4_path.specs.TwigPieces.{ArePiecesOf, put_pieces, twig_pieces}
+use Rattle.r4_path.specs.Grafts.{AreBlocksOf, GraftsBelow, IsGraftBelowIn, IsGraftIn}
+use Rattle.r4_path.specs.Twigs.{Below}
 use Rattle.r4_edit.proofs.PutUnits.{spreads_up}
 use Rattle.r4_edit.proofs.Spread.{nothing, spread_below_in, spread_graft_in, spread_level}
 use Rattle.r4_edit.proofs.among.put_extent.Goals as goal

@@ -13,8 +13,9 @@ use Rattle.r4_cell.specs.Patch.{IsChange, patch_of}
 use Rattle.r4_patch.specs.Part.{MeetsPart}
 use Rattle.r4_cell.specs.Seen.{CellSeen}
 use Rattle.r4_edit.specs.Editing.{given_item}
-use Rattle.r4_edit.specs.Extents.{ArePiecesOf, IsLeafPutUp, leaf_pointer, put_pieces, twig_pieces}
-use Rattle.r4_edit.specs.Grafts.{IsGraftBelowIn, IsGraftIn}
+use Rattle.r4_edit.specs.Extents.{IsLeafPutUp, leaf_pointer}
+use Rattle.r4_path.specs.TwigPieces.{ArePiecesOf, put_pieces, twig_pieces}
+use Rattle.r4_path.specs.Grafts.{IsGraftBelowIn, IsGraftIn}
 use Rattle.r4_edit.specs.LeafParts.{IsLeafOf}
 use Rattle.r4_edit.proofs.LeafAmong.{item_fits, leaf_number, leaf_put_in, packed_below, packed_in, took_one}
 use Rattle.r4_edit.proofs.PutUnits.{puts_leaf_up}

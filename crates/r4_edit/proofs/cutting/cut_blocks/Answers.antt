@@ -11,8 +11,8 @@ use Rattle.r4_cell.specs.Seen.{CellSeen}
 use Rattle.r4_cell.specs.declared.change.Fresh.{Fresh}
 use Rattle.r4_graft.specs.Splices.{IsBorder}
 use Rattle.r4_edit.specs.CutBlocks.{IsCutUp, IsTakenUp, after_leaves, cut_pieces, end_key, new_pointer, parted_twice}
-use Rattle.r4_edit.specs.Extents.{ArePiecesOf, twig_pieces}
-use Rattle.r4_edit.specs.Grafts.{IsGraftBelowIn, IsGraftIn}
+use Rattle.r4_path.specs.TwigPieces.{ArePiecesOf, twig_pieces}
+use Rattle.r4_path.specs.Grafts.{IsGraftBelowIn, IsGraftIn}
 use Rattle.r4_edit.proofs.CutPath.{change_alone, cut_graft_in, cut_last, cut_left, cut_below_as, cuts_as, meets_alone}
 use Rattle.r4_edit.proofs.cutting.cut_blocks.Goals as goal
 use Rattle.r4_edit.proofs.cutting.cut_blocks.Goals.{After-drop-pieces}

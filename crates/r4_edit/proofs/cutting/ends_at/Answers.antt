@@ -3,7 +3,7 @@ use Rattle.std.specs.Prelude.{◌==◌}
 use Rattle.r4_base.specs.Key.{rank}
 use Rattle.r4_branch.specs.Pieces.{is_at}
 use Rattle.r4_branch.proofs.UnitPieces.{rank_later}
-use Rattle.r4_edit.proofs.CutEnds.{open_within}
+use Rattle.r4_path.proofs.CutEnds.{open_within}
 use Rattle.r4_edit.proofs.cutting.ends_at.Goals as goal
 
 pub returns : goal.returns

@@ -3,7 +3,7 @@ use Rattle.r4_base.specs.Key.{rank}
 use Rattle.r4_branch.specs.Pieces.{Follow}
 use Rattle.r4_graft.specs.Splices.{parted}
 use Rattle.r4_graft.proofs.Parted.{parted_follow}
-use Rattle.r4_edit.specs.Extents.{twig_pieces}
+use Rattle.r4_path.specs.TwigPieces.{twig_pieces}
 use Rattle.r4_edit.proofs.cutting.pieces_parted.Goals as goal
 
 pub part_at-requires-2 : goal.part_at-requires-2

@@ -8,7 +8,7 @@ use Rattle.r4_cell.specs.Seen.{CellSeen}
 use Rattle.r4_patch.specs.Part.{MeetsPart}
 use Rattle.r4_edit.specs.Editing.{given_item}
 use Rattle.r4_edit.specs.Extents.{IsOverUp, IsSpreadUp, PutsOverUp, SpreadsUp, item_blocks}
-use Rattle.r4_edit.specs.Grafts.{AreBlocksOf}
+use Rattle.r4_path.specs.Grafts.{AreBlocksOf}
 use Rattle.r4_edit.proofs.PutKinds.{into_kind, into_of, leaf_given, leaf_kind, leaf_put_of, no_cells, no_item_blocks, over_kind, over_of, spread_level, spread_of}
 use Rattle.r4_edit.proofs.editing.insert.Goals as goal
 

@@ -6,7 +6,7 @@ use Rattle.r4_leaf.specs.Leaves.{AreApart}
 use Rattle.r4_leaf.specs.Units.{put_units}
 use Rattle.r4_node40.specs.View.{view_block, view_items}
 use Rattle.r4_edit.proofs.LeafLent.{lent_leaves, lent_stands, lent_units}
-use Rattle.r4_edit.proofs.Results.{and_ok}
+use Rattle.r4_path.proofs.Results.{and_ok}
 use Rattle.r4_edit.proofs.editing.leaves_with.Goals as goal
 
 pub put_in-requires-clause-apart : goal.put_in-requires-clause-apart

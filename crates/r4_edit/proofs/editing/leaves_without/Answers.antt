@@ -3,7 +3,7 @@ use Rattle.r4_base.specs.Key.{rank}
 use Rattle.r4_leaf.specs.Units.{cut_units}
 use Rattle.r4_node40.specs.View.{view_block, view_items}
 use Rattle.r4_edit.proofs.LeafLent.{lent_leaves, lent_stands}
-use Rattle.r4_edit.proofs.Results.{and_ok}
+use Rattle.r4_path.proofs.Results.{and_ok}
 use Rattle.r4_edit.proofs.editing.leaves_without.Goals as goal
 
 pub returns-clause-leaves : goal.returns-clause-leaves

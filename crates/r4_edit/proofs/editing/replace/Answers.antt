@@ -3,9 +3,9 @@ use Rattle.std.proofs.lemmas.Result.{IfOk-weaker}
 use Rattle.std.specs.Prelude.{reverse}
 use Rattle.std.specs.Arc.{arc_value}
 use Rattle.r4_edit.specs.Editing.{EditsUp, IsReplacedUp}
-use Rattle.r4_edit.specs.Levels.{step_of}
+use Rattle.r4_path.specs.Levels.{step_of}
 use Rattle.r4_edit.proofs.Edited.{edit_change, edit_edits, edit_meets, edit_starts, numbered_leaves, some_replaced}
-use Rattle.r4_edit.proofs.Upwards.{last_first}
+use Rattle.r4_path.proofs.Upwards.{last_first}
 use Rattle.r4_edit.proofs.editing.replace.Goals as goal
 
 pub leaf_level-requires : goal.leaf_level-requires

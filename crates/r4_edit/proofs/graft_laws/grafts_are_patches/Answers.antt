@@ -1,4 +1,4 @@
-use Rattle.r4_edit.proofs.GraftLaw.{graft_change, graft_meets, twig_graft}
+use Rattle.r4_path.proofs.GraftLaw.{graft_change, graft_meets, twig_graft}
 use Rattle.r4_edit.proofs.graft_laws.grafts_are_patches.Goals as goal
 
 pub returns : goal.returns

@@ -1,6 +1,6 @@
 use Rattle.std.proofs.Common.{◌∷◌}
-use Rattle.r4_edit.specs.Steps.{fresh_ids}
-use Rattle.r4_edit.proofs.GraftNumbers.{serve}
+use Rattle.r4_path.specs.Steps.{fresh_ids}
+use Rattle.r4_path.proofs.GraftNumbers.{serve}
 use Rattle.r4_edit.proofs.graft_laws.numbers_serve_below.Goals as goal
 
 pub returns : goal.returns

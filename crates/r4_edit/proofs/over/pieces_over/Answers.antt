@@ -5,7 +5,8 @@ use Rattle.std.specs.Option.{option_map}
 use Rattle.r4_base.specs.Key.{rank}
 use Rattle.r4_base.specs.declared.key.Key.{Key}
 use Rattle.r4_graft.specs.Splices.{place, spliced}
-use Rattle.r4_edit.specs.Extents.{ArePiecesOf, pointer_to}
+use Rattle.r4_edit.specs.Extents.{pointer_to}
+use Rattle.r4_path.specs.TwigPieces.{ArePiecesOf}
 use Rattle.r4_edit.proofs.OverPieces.{place_before_end}
 use Rattle.r4_edit.proofs.over.pieces_over.Goals as goal
 use Rattle.r4_edit.proofs.over.pieces_over.Goals.{else-is_same, then-is_same}

@@ -8,10 +8,11 @@ use Rattle.r4_base.specs.Tree.{Root as TreeRoot, Store}
 use Rattle.r4_base.specs.Value.{Value}
 use Rattle.r4_cell.specs.Seen.{CellSeen, node_of}
 use Rattle.r4_edit.specs.Editing.{given_item}
-use Rattle.r4_edit.specs.Extents.{ArePiecesOf, IsOverUp, given_cells, item_blocks, over_pieces, twig_pieces}
-use Rattle.r4_edit.specs.Grafts.{AreBlocksOf, GraftsBelow, IsGraftBelowIn, IsGraftIn}
-use Rattle.r4_edit.specs.Steps.{name_of}
-use Rattle.r4_edit.specs.Twigs.{Below}
+use Rattle.r4_edit.specs.Extents.{IsOverUp, given_cells, item_blocks, over_pieces}
+use Rattle.r4_path.specs.TwigPieces.{ArePiecesOf, twig_pieces}
+use Rattle.r4_path.specs.Grafts.{AreBlocksOf, GraftsBelow, IsGraftBelowIn, IsGraftIn}
+use Rattle.r4_path.specs.Steps.{name_of}
+use Rattle.r4_path.specs.Twigs.{Below}
 use Rattle.r4_edit.proofs.OverLeaf.{over_below, over_grafted}
 use Rattle.r4_edit.proofs.OverPath.{below_above, graft_above, leaf_in, over_in, ups}
 use Rattle.r4_edit.proofs.OverUnits.{puts_over_up}

@@ -2,10 +2,10 @@ use Rattle.std.proofs.Common.{◌-◌, sym, subst, arith, length, map, take}
 use Rattle.std.proofs.lemmas.Result.{IfOk-weaker}
 use Rattle.std.specs.Prelude.{reverse}
 use Rattle.std.specs.Arc.{arc_value}
-use Rattle.r4_edit.specs.Levels.{step_of}
+use Rattle.r4_path.specs.Levels.{step_of}
 use Rattle.r4_edit.specs.Splitting.{IsPartedUp, PartsUp}
 use Rattle.r4_edit.proofs.Parted.{final_change, final_meets, final_parts, some_path, step_starts}
-use Rattle.r4_edit.proofs.Upwards.{last_first, long_above}
+use Rattle.r4_path.proofs.Upwards.{last_first, long_above}
 use Rattle.r4_edit.proofs.splitting.split.Goals as goal
 
 pub part-requires-clause-node : goal.part-requires-clause-node

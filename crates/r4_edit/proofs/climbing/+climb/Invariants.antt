@@ -1,5 +1,0 @@
-use Rattle.std.proofs.Common.{length}
-use Rattle.r4_edit.proofs.climbing.+climb.Given as goal
-
-abbrev pub decreases-climb : goal.decreases-climb
-decreases-climb l = length l.above.now

@@ -1,5 +1,0 @@
-use Rattle.r4_edit.proofs.PathPatch.{change_is, part_meets}
-use Rattle.r4_edit.proofs.laws.path_changes_are_patches.Goals as goal
-
-pub returns : goal.returns
-returns c = record { change = change_is; meets = part_meets }

@@ -1,7 +1,0 @@
-use Rattle.std.proofs.Common.{◌≡◌, ◌≤◌, ◌*◌, ◌-◌}
-use Rattle.r4_edit.specs.Nodes.{weight}
-use Rattle.r4_edit.specs.Rows.{row_part}
-use Rattle.r4_edit.proofs.row.Row.weight.Given as goal
-
-abbrev pub invariant-loop-i : goal.invariant-loop-i
-invariant-loop-i l = (l.bytes ≡ weight (row_part l.self l.from l.i)) × (l.bytes ≤ 4068 * (l.i - l.from))

@@ -1,5 +1,0 @@
-use Rattle.r4_edit.proofs.Counted.{have_numbers}
-use Rattle.r4_edit.proofs.twig_laws.counted_numbers_serve.Goals as goal
-
-pub returns : goal.returns
-returns c = have_numbers

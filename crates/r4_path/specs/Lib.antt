@@ -1,0 +1,11 @@
+pub mod ExtentPut
+pub mod Grafts
+pub mod Growing
+pub mod LeafSteps
+pub mod Levels
+pub mod Nodes
+pub mod Rows
+pub mod Sharing
+pub mod Steps
+pub mod TwigPieces
+pub mod Twigs
