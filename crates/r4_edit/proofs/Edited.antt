@@ -22,6 +22,7 @@ use Rattle.r4_path.specs.LeafSteps.{IsLeafStep}
 use Rattle.r4_path.specs.Levels.{CanClimb, IsLongEnough, Rises}
 use Rattle.r4_path.specs.Steps.{Step}
 use Rattle.r4_path.proofs.Begun.{Begun, Enough, begun_change, begun_climbs, begun_meets, begun_rose}
+use Rattle.r4_path.proofs.Enough.{fewer, part_of}
 
 -- the leaves are not more than were foreseen
 few_leaves : (us : List LeafUnit) (leaves : List Leaf) → AreFew us leaves → length leaves ≤ 1 + extra_cells us

@@ -19,6 +19,7 @@ use Rattle.r4_path.specs.Levels.{AreNeeded, HasLevels, HaveMkfsIdOf, IsLongEnoug
 use Rattle.r4_path.specs.Levels.{units_of_cells}
 use Rattle.r4_path.specs.Sharing.{IsSound}
 use Rattle.r4_path.specs.Steps.{Climbs, CountUp, IsStep, Step, fresh_ids, olds}
+use Rattle.r4_path.specs.LeafSteps.{leaf_cells}
 
 -- ---- a leaf that is to have other units
 

@@ -24,6 +24,7 @@ use Rattle.r4_path.specs.Growing.{IsPathIn}
 use Rattle.r4_edit.specs.LeafParts.{HasRight, IsLeafOf, PartsLeaf}
 use Rattle.r4_path.specs.Levels.{IsLongEnough}
 use Rattle.r4_path.specs.Steps.{name_of}
+use Rattle.r4_path.specs.TwigPieces.{twig_pieces, put_pieces}
 
 -- ---- an extent that is put in
 
