@@ -99,6 +99,8 @@ module _ (leaf : CellSeen) (ups : List CellSeen) (us : List LeafUnit) (leaves : 
           climbs = rose.climbs;
           keep = rose.keep;
           needed = rose.needed;
+          root_needed = rose.root_needed;
+          root_able = rose.root_able;
           mkfs_ids = rose.mkfs_ids;
           root_units = rose.root_units;
           counts = rose.counts;

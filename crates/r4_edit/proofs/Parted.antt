@@ -82,6 +82,8 @@ module _ (c : CellSeen) (ups : List CellSeen) (f g : Fresh) (s : Step) (p : IsPa
             units = p.units;
             keep = rose.keep;
             needed = rose.needed;
+            root_needed = rose.root_needed;
+            root_able = rose.root_able;
             mkfs_ids = rose.mkfs_ids;
             root_units = rose.root_units;
             counts = rose.counts;

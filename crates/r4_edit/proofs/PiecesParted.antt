@@ -107,6 +107,8 @@ module _ (c : CellSeen) (ups : List CellSeen) (f g : Fresh) (s : Step) (two : le
       units = units;
       keep = rises.climbed.keep;
       needed = rises.climbed.needed;
+      root_needed = rises.climbed.root_needed;
+      root_able = rises.climbed.root_able;
       mkfs_ids = twigs_ids c ups qs f g s p.row after d rises;
       root_units = rises.climbed.root_units;
       counts = rose.counts;

@@ -15,11 +15,12 @@ use Rattle.r4_leaf.specs.Units.{LeafUnit, cut_units, leaf_bytes, put_units}
 use Rattle.r4_leaf.specs.declared.leaf.Leaf.{Leaf}
 use Rattle.r4_patch.specs.Joining.{ids_of}
 use Rattle.r4_path.specs.Growing.{IsPathIn}
-use Rattle.r4_path.specs.Levels.{AreNeeded, HasLevels, HaveMkfsIdOf, IsLongEnough, KeepMkfsIds, Keeps}
+use Rattle.r4_path.specs.Levels.{AreNeeded, HasLevels, HaveMkfsIdOf, IsLongEnough, IsRootNeeded, KeepMkfsIds, Keeps}
 use Rattle.r4_path.specs.Levels.{units_of_cells}
 use Rattle.r4_path.specs.Sharing.{IsSound}
 use Rattle.r4_path.specs.Steps.{Climbs, CountUp, IsStep, Step, fresh_ids, olds}
 use Rattle.r4_path.specs.LeafSteps.{leaf_cells}
+use Rattle.r4_path.specs.Nodes.{IsPointable}
 
 -- ---- a leaf that is to have other units
 
@@ -68,6 +69,8 @@ pub record Edits (leaf : CellSeen) (ups : List CellSeen) (us : List LeafUnit) (b
   pub climbs : Climbs None (lowest ∷ more)
   pub keep : (u : Step) → Contains more u → Keeps u
   pub needed : AreNeeded (lowest ∷ more)
+  pub root_needed : IsRootNeeded (lowest ∷ more) over
+  pub root_able : (d : CellSeen) → over ≡ Some d → IsPointable d.id
   pub mkfs_ids : KeepMkfsIds (lowest ∷ more) over
   pub root_units : (d : CellSeen) → over ≡ Some d → (node_of d).units ≡ []
   pub counts : CountUp before.next (fresh_ids (lowest ∷ more) over)

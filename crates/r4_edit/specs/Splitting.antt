@@ -12,9 +12,10 @@ use Rattle.r4_cell.specs.declared.change.Fresh.{Fresh}
 use Rattle.r4_patch.specs.Joining.{ids_of}
 use Rattle.r4_path.specs.Grafts.{IsTwigRow}
 use Rattle.r4_path.specs.Growing.{IsPathIn}
-use Rattle.r4_path.specs.Levels.{AreNeeded, HasLevels, HaveMkfsIdOf, IsLongEnough, KeepMkfsIds, Keeps, units_of_cells}
+use Rattle.r4_path.specs.Levels.{AreNeeded, HasLevels, HaveMkfsIdOf, IsLongEnough, IsRootNeeded, KeepMkfsIds, Keeps, units_of_cells}
 use Rattle.r4_path.specs.Sharing.{AreSome, IsSound}
 use Rattle.r4_path.specs.Steps.{CountUp, IsStep, Step, fresh_ids, olds}
+use Rattle.r4_path.specs.Nodes.{IsPointable}
 
 -- How many units the cell may be parted between: of a leaf its stat data, entries and bytes, of a twig its pointers and the
 -- units of its extents, and above it pointers alone.
@@ -44,6 +45,8 @@ pub record Parts (c : CellSeen) (ups : List CellSeen) (before after : Fresh) (ch
   pub units : units_of_cells lowest.new ≡ (node_of c).units
   pub keep : (u : Step) → Contains more u → Keeps u
   pub needed : AreNeeded (lowest ∷ more)
+  pub root_needed : IsRootNeeded (lowest ∷ more) over
+  pub root_able : (d : CellSeen) → over ≡ Some d → IsPointable d.id
   pub mkfs_ids : KeepMkfsIds (lowest ∷ more) over
   pub root_units : (d : CellSeen) → over ≡ Some d → (node_of d).units ≡ []
   pub counts : CountUp before.next (fresh_ids (lowest ∷ more) over)

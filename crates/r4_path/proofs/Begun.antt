@@ -15,7 +15,7 @@ use Rattle.r4_patch.specs.Joining.{ids_of, patch_of_change}
 use Rattle.r4_patch.specs.Part.{IsPart, MeetsPart}
 use Rattle.r4_patch.proofs.PartCells.{one_above}
 use Rattle.r4_path.specs.Growing.{IsPathIn}
-use Rattle.r4_path.specs.Levels.{AreNeeded, CanClimb, Climbed, HasLevels, HaveMkfsIdOf, IsLongEnough, KeepMkfsIds, Keeps, Leads}
+use Rattle.r4_path.specs.Levels.{AreNeeded, CanClimb, Climbed, HasLevels, HaveMkfsIdOf, IsLongEnough, IsRootNeeded, KeepMkfsIds, Keeps, Leads}
 use Rattle.r4_path.specs.Levels.{Rises, Suffices}
 use Rattle.r4_path.specs.Nodes.{IsPointable}
 use Rattle.r4_path.specs.Sharing.{IsSound}
@@ -45,6 +45,8 @@ pub record Rose (c : CellSeen) (ups : List CellSeen) (f after : Fresh) (d : Chan
   pub climbs : Climbs None (record { old = c; new = cells } ∷ more)
   pub keep : (u : Step) → Contains more u → Keeps u
   pub needed : AreNeeded (record { old = c; new = cells } ∷ more)
+  pub root_needed : IsRootNeeded (record { old = c; new = cells } ∷ more) over
+  pub root_able : (x : CellSeen) → over ≡ Some x → IsPointable x.id
   pub mkfs_ids : KeepMkfsIds (record { old = c; new = cells } ∷ more) over
   pub root_units : (x : CellSeen) → over ≡ Some x → (node_of x).units ≡ []
   pub counts : CountUp f.next (fresh_ids (record { old = c; new = cells } ∷ more) over)
@@ -168,6 +170,8 @@ module _ (c : CellSeen) (ups : List CellSeen) (f g : Fresh) (cells : List CellSe
       climbs = climbs;
       keep = up.keep;
       needed = up.needed;
+      root_needed = up.root_needed;
+      root_able = up.root_able;
       mkfs_ids = up.mkfs_ids b.mkfs_id;
       root_units = up.root_units;
       counts = all_counts;

@@ -76,6 +76,8 @@ ends_alone s ups f were are room one steps = record {
   steps = steps;
   climbs = tt;
   needed = tt;
+  root_needed = tt;
+  root_able = λ c e. absurd (none-some c e);
   olds_are = refl;
   sound = λ c member. absurd (none c member);
   keep = λ u member. absurd (none u member);
@@ -133,6 +135,9 @@ module _ (s : Step) (f : Fresh) (can : CanClimb s [] f) (two : length s.new ≢ 
     steps = steps;
     climbs = tt;
     needed = tt;
+    root_needed = two;
+    root_able = λ d e. subst (λ (x : CellSeen). IsPointable x.id) (same_Some c d e) (subst IsPointable (sym points.number)
+        (numbered f.next can.unplaced (let n = can.numbers in let end = can.end in omega (arith, n, end))));
     olds_are = refl;
     sound = λ d member. absurd (none d member);
     keep = λ u member. absurd (none u member);
@@ -252,6 +257,8 @@ module _ (s : Step) (parent : CellSeen) (ups : List CellSeen) (f : Fresh) (can :
             (drop 1 s.new) ≤ 4068) step.old room)),
         rest.needed,
       );
+      root_needed = rest.root_needed;
+      root_able = rest.root_able;
       olds_are = (λ i. step.old i ∷ rest.olds_are i);
       sound = λ c member. elim (Contains-append_cases u.new (news rest.more None) c member) [
         | inl mine ↦ step.sound c mine

@@ -16,12 +16,13 @@ use Rattle.r4_cell.specs.declared.change.Change.{Change}
 use Rattle.r4_cell.specs.declared.change.Fresh.{Fresh}
 use Rattle.r4_patch.specs.Joining.{ids_of}
 use Rattle.r4_path.specs.Growing.{IsPathIn}
-use Rattle.r4_path.specs.Levels.{AreNeeded, HasLevels, HaveMkfsIdOf, IsLongEnough, KeepMkfsIds, Keeps}
+use Rattle.r4_path.specs.Levels.{AreNeeded, HasLevels, HaveMkfsIdOf, IsLongEnough, IsRootNeeded, KeepMkfsIds, Keeps}
 use Rattle.r4_path.specs.Levels.{units_of_cells}
 use Rattle.r4_path.specs.Sharing.{IsSound}
 use Rattle.r4_path.specs.Steps.{AreNaming, Climbs, CountUp, Ends, Follow, IsFree, IsNameOf, Step, fresh_ids, name_of, news}
 use Rattle.r4_path.specs.Steps.{olds}
 use Rattle.r4_path.specs.Twigs.{Below, IsTwigChange, IsUnused}
+use Rattle.r4_path.specs.Nodes.{IsPointable}
 
 -- ---- the cells of twigs
 
@@ -101,6 +102,8 @@ pub record Grafts (twig : CellSeen) (ups : List CellSeen) (qs : List TwigPiece) 
   pub climbs : Climbs (Some lowest) more
   pub keep : (u : Step) → Contains more u → Keeps u
   pub needed : AreNeeded (lowest ∷ more)
+  pub root_needed : IsRootNeeded (lowest ∷ more) over
+  pub root_able : (d : CellSeen) → over ≡ Some d → IsPointable d.id
   pub mkfs_ids : KeepMkfsIds (lowest ∷ more) over
   pub sound : (c : CellSeen) → Contains (news (lowest ∷ more) None) c → IsSound c
   pub root_units : (d : CellSeen) → over ≡ Some d → (node_of d).units ≡ []

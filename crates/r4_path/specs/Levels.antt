@@ -52,6 +52,13 @@ AreNeeded (s ∷ (u ∷ us)) =
     × (weight (items_of u.old.block) + 46 * length (drop 1 s.new) ≤ 4068 → length u.new ≡ 1)
     × AreNeeded (u ∷ us)
 
+-- A new root stands only over a step of which several cells came.
+abbrev pub IsRootNeeded : List Step → (over : Option CellSeen) → Type 0
+IsRootNeeded [] over = over ≡ None
+IsRootNeeded (s ∷ []) None = Unit {0}
+IsRootNeeded (s ∷ []) (Some c) = length s.new ≢ 1
+IsRootNeeded (s ∷ (u ∷ us)) over = IsRootNeeded (u ∷ us) over
+
 -- The parent names the old cell, and may name the few new cells in its place.
 pub record IsUnder (b : Step) (parent : CellSeen) : Type 0 where
   pub named : Contains (node_of parent).names (name_of b.old)
@@ -114,6 +121,8 @@ pub record Climbed (s : Step) (ups : List CellSeen) (before after : Fresh) (were
   pub steps : are ≡ were ++ s ∷ more
   pub climbs : Climbs (Some s) more
   pub needed : AreNeeded (s ∷ more)
+  pub root_needed : IsRootNeeded (s ∷ more) over
+  pub root_able : (c : CellSeen) → over ≡ Some c → IsPointable c.id
   pub olds_are : olds more ≡ take (length more) ups
   pub sound : (c : CellSeen) → Contains (news more None) c → IsSound c
   pub keep : (u : Step) → Contains more u → Keeps u
