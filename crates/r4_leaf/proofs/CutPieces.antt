@@ -72,7 +72,7 @@ IsRun (Bytes k bytes) = Unit {0}
 IsRun (Stat k body) = ⊥
 IsRun (Entry e) = ⊥
 
-pub no_run : (p : Piece) → ((k : Key) (b : Bor (List ℕ)) → p ≡ Bytes k b → ⊥) → IsRun p → ⊥
+pub no_run : (p : Piece) → ((k : Key) (b : List ℕ) → p ≡ Bytes k b → ⊥) → IsRun p → ⊥
 no_run (Stat k body) other h = h
 no_run (Entry e) other h = h
 no_run (Bytes k bytes) other h = other k bytes refl
@@ -209,25 +209,38 @@ leads_empty old k (b ∷ bs) none = absurd (omega (arith, none))
 
 -- ---- the parts of a run
 
-module _ (key : Key) (bytes : Bor (List ℕ)) (from to first end : ℕ) (f : first ≤ length bytes.now) (e : end ≤ length bytes.now)
-    (low : (j : ℕ) → j < first → rank key + j < from) (not_low : (j : ℕ) → first ≤ j → j < length bytes.now → from ≤ rank key + j)
-    (not_high : (j : ℕ) → j < end → rank key + j < to) (high : (j : ℕ) → end ≤ j → j < length bytes.now → to ≤ rank key + j) where
-  pub whole_run : end ≤ first → bytes_from (rank key) bytes.now ≡ cut_units from to (piece_units (Bytes key bytes))
-  unfolding piece_units
-  whole_run le = sym (run_kept from to (rank key) bytes.now first end f e low not_low not_high high le)
+module _ (key : Key) (bytes : List ℕ) (count from to first end : ℕ) (long_is : count ≡ length bytes) (f : first ≤ count) (e : end ≤ count)
+    (low : (j : ℕ) → j < first → rank key + j < from) (not_low_of : (j : ℕ) → first ≤ j → j < count → from ≤ rank key + j)
+    (not_high : (j : ℕ) → j < end → rank key + j < to) (high_of : (j : ℕ) → end ≤ j → j < count → to ≤ rank key + j) where
+  first_within : first ≤ length bytes
+  first_within = subst (λ n. first ≤ n) long_is f
 
-  pub two_runs : (old mid new : List Piece) (next : Key) → first < end → rank next ≡ rank key + end
-      → Leads old (rank next) (rank next + length (take (length bytes.now - end) (drop end bytes.now))) (bytes_from (rank next) (take (length bytes.now - end) (drop end bytes.now))) mid
-      → Leads mid (rank key) (rank key + length (take first bytes.now)) (bytes_from (rank key) (take first bytes.now)) new
-      → Leads old (rank key) (rank key + length bytes.now) (cut_units from to (piece_units (Bytes key bytes))) new
+  end_within : end ≤ length bytes
+  end_within = subst (λ n. end ≤ n) long_is e
+
+  not_low : (j : ℕ) → first ≤ j → j < length bytes → from ≤ rank key + j
+  not_low j le lt = not_low_of j le (subst (λ n. j < n) (sym long_is) lt)
+
+  high : (j : ℕ) → end ≤ j → j < length bytes → to ≤ rank key + j
+  high j le lt = high_of j le (subst (λ n. j < n) (sym long_is) lt)
+
+  pub whole_run : end ≤ first → bytes_from (rank key) bytes ≡ cut_units from to (piece_units (Bytes key bytes))
   unfolding piece_units
-  two_runs old mid new next lt is one two =
-      let long = length-take first bytes.now in
-      let rest = length-drop end bytes.now in
-      let all : take (length bytes.now - end) (drop end bytes.now) ≡ drop end bytes.now = take_all (length bytes.now - end) (drop end bytes.now) (omega (arith, rest)) in
-      let behind : Leads old (rank next) (rank next + length (drop end bytes.now)) (bytes_from (rank next) (drop end bytes.now)) mid = subst (λ xs. Leads old (rank next) (rank next + length xs) (bytes_from (rank next) xs) mid) all one in
-      let both = leads_both old mid new (rank key) (rank key + length (take first bytes.now)) (rank next) (rank next + length (drop end bytes.now)) (bytes_from (rank key) (take first bytes.now)) (bytes_from (rank next) (drop end bytes.now)) (omega (arith, long, is, lt)) behind two in
-      let units : bytes_from (rank key) (take first bytes.now) ++ bytes_from (rank next) (drop end bytes.now) ≡ cut_units from to (bytes_from (rank key) bytes.now) =
-      ap (λ k. bytes_from (rank key) (take first bytes.now) ++ bytes_from k (drop end bytes.now)) is ∙ sym (run_parted from to (rank key) bytes.now first end f e low not_low not_high high lt) in
-      subst (λ us. Leads old (rank key) (rank key + length bytes.now) us new) units
-      (subst (λ t. Leads old (rank key) t (bytes_from (rank key) (take first bytes.now) ++ bytes_from (rank next) (drop end bytes.now)) new) (omega (arith, rest, is, e)) both)
+  whole_run le = sym (run_kept from to (rank key) bytes first end first_within end_within low not_low not_high high le)
+
+  pub two_runs : (old mid new : List Piece) (next : Key) (rest_of head_of : List ℕ) → first < end → rank next ≡ rank key + end
+      → rest_of ≡ drop end bytes → head_of ≡ take first bytes
+      → Leads old (rank next) (rank next + length rest_of) (bytes_from (rank next) rest_of) mid
+      → Leads mid (rank key) (rank key + length head_of) (bytes_from (rank key) head_of) new
+      → Leads old (rank key) (rank key + length bytes) (cut_units from to (piece_units (Bytes key bytes))) new
+  unfolding piece_units
+  two_runs old mid new next rest_of head_of lt is rest_is head_is one head =
+      let behind : Leads old (rank next) (rank next + length (drop end bytes)) (bytes_from (rank next) (drop end bytes)) mid = subst (λ (xs : List ℕ). Leads old (rank next) (rank next + length xs) (bytes_from (rank next) xs) mid) rest_is one in
+      let two : Leads mid (rank key) (rank key + length (take first bytes)) (bytes_from (rank key) (take first bytes)) new = subst (λ (xs : List ℕ). Leads mid (rank key) (rank key + length xs) (bytes_from (rank key) xs) new) head_is head in
+      let long = length-take first bytes in
+      let rest = length-drop end bytes in
+      let both = leads_both old mid new (rank key) (rank key + length (take first bytes)) (rank next) (rank next + length (drop end bytes)) (bytes_from (rank key) (take first bytes)) (bytes_from (rank next) (drop end bytes)) (let w = end_within in omega (arith, long, is, lt, w)) behind two in
+      let units : bytes_from (rank key) (take first bytes) ++ bytes_from (rank next) (drop end bytes) ≡ cut_units from to (bytes_from (rank key) bytes) =
+      ap (λ k. bytes_from (rank key) (take first bytes) ++ bytes_from k (drop end bytes)) is ∙ sym (run_parted from to (rank key) bytes first end first_within end_within low not_low not_high high lt) in
+      subst (λ us. Leads old (rank key) (rank key + length bytes) us new) units
+      (subst (λ t. Leads old (rank key) t (bytes_from (rank key) (take first bytes) ++ bytes_from (rank next) (drop end bytes)) new) (let w = end_within in omega (arith, rest, is, w)) both)

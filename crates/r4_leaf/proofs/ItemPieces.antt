@@ -20,14 +20,14 @@ adds_stat key plugin body old is sound =
     let end = it.end in
     record { units = one.units ∙ ap (λ us. units_of old ++ us) (sym it.units); follow = λ lo h. follow_wider lo (rank key + 1) _ _ (omega (arith, end)) (one.follow lo h) }
 
-pub adds_tail : (key : Key) (plugin : ℕ) (body : Bor (List ℕ)) (old : List Piece) → plugin ≡ 6 → IsSoundItem (record { key = key; plugin = plugin; body = body.now })
-    → Adds old (rank key) (item_end (record { key = key; plugin = plugin; body = body.now })) (item_units (record { key = key; plugin = plugin; body = body.now })) (old ++ Bytes key body ∷ [])
+pub adds_tail : (key : Key) (plugin : ℕ) (body : List ℕ) (old : List Piece) → plugin ≡ 6 → IsSoundItem (record { key = key; plugin = plugin; body = body })
+    → Adds old (rank key) (item_end (record { key = key; plugin = plugin; body = body })) (item_units (record { key = key; plugin = plugin; body = body })) (old ++ Bytes key body ∷ [])
 unfolding piece_units
 adds_tail key plugin body old is sound =
-    let it = tail_item (record { key = key; plugin = plugin; body = body.now }) is sound in
+    let it = tail_item (record { key = key; plugin = plugin; body = body }) is sound in
     let one = adds_one old (Bytes key body) (it.some, it.short) in
     let end = it.end in
-    record { units = one.units ∙ ap (λ us. units_of old ++ us) (sym it.units); follow = λ lo h. follow_wider lo (rank key + length body.now) _ _ (omega (arith, end)) (one.follow lo h) }
+    record { units = one.units ∙ ap (λ us. units_of old ++ us) (sym it.units); follow = λ lo h. follow_wider lo (rank key + length body) _ _ (omega (arith, end)) (one.follow lo h) }
 
 -- a plugin that is neither stat data's nor entries' is a tail's
 pub other_plugin : (plugin : ℕ) → (plugin ≡ 0) ⊎ ((plugin ≡ 2) ⊎ (plugin ≡ 6)) → (plugin ≡ 0 → ⊥) → (plugin ≡ 2 → ⊥) → plugin ≡ 6

@@ -54,35 +54,34 @@ index_drop zero bs = refl
 index_drop (suc n) [] = refl
 index_drop (suc n) (b ∷ bs) = index_drop n bs
 
-module _ (p : Piece) (k : Key) (bytes : Bor (List ℕ)) (b c : List ℕ) (is : p ≡ Bytes k bytes) (sound : IsSound p) (n : ℕ) (within : n ≤ length bytes.now)
-    (puts : Puts (rank k) (rank k + n) (bytes_from (rank k) (take n bytes.now)) b c) where
+module _ (p : Piece) (k : Key) (bytes : List ℕ) (b c : List ℕ) (is : p ≡ Bytes k bytes) (sound : IsSound p) (n : ℕ) (within : n ≤ length bytes)
+    (puts : Puts (rank k) (rank k + n) (bytes_from (rank k) (take n bytes)) b c) where
   own : IsSound (Bytes k bytes)
   own = subst IsSound is sound
 
-  pub all_bytes : n ≡ length bytes.now → Puts (rank (piece_key p)) (piece_end p) (piece_units p) b c
+  pub all_bytes : n ≡ length bytes → Puts (rank (piece_key p)) (piece_end p) (piece_units p) b c
   unfolding piece_units
   all_bytes all =
       subst (λ (x : Piece). Puts (rank (piece_key x)) (piece_end x) (piece_units x) b c) (sym is)
-      (subst (λ m. Puts (rank k) (rank k + m) (bytes_from (rank k) bytes.now) b c) all
-      (subst (λ bs. Puts (rank k) (rank k + n) (bytes_from (rank k) bs) b c) (take_all n bytes.now (omega (arith, all))) puts))
+      (subst (λ m. Puts (rank k) (rank k + m) (bytes_from (rank k) bytes) b c) all
+      (subst (λ bs. Puts (rank k) (rank k + n) (bytes_from (rank k) bs) b c) (take_all n bytes (omega (arith, all))) puts))
 
-  pub left_bytes : (next : Key) (rest : Bor (List ℕ)) → n < length bytes.now → rest.now ≡ take (length bytes.now - n) (drop n bytes.now) → rank next ≡ rank k + n → offset_of next ≡ offset_of k + n
-      → IsFullFor (rank k + n, Byte (slice_index bytes.now n)) c → IsLeft p (Bytes next rest) b c
+  pub left_bytes : (next : Key) (rest : List ℕ) → n < length bytes → rest ≡ drop n bytes → rank next ≡ rank k + n → offset_of next ≡ offset_of k + n
+      → IsFullFor (rank k + n, Byte (slice_index bytes n)) c → IsLeft p (Bytes next rest) b c
   unfolding piece_units
-  left_bytes next rest lt value rank_is offset_is full =
-      let dropped = length-drop n bytes.now in
-      let taken = length-take n bytes.now in
-      let now : rest.now ≡ drop n bytes.now = value ∙ take_all (length bytes.now - n) (drop n bytes.now) (omega (arith, dropped)) in
+  left_bytes next rest lt now rank_is offset_is full =
+      let dropped = length-drop n bytes in
+      let taken = length-take n bytes in
       let long = ap length now in
-      let first = first_byte (rank next) rest.now (omega (arith, long, dropped, lt)) in
+      let first = first_byte (rank next) rest (omega (arith, long, dropped, lt)) in
       let short = own.1 in
-      let split : bytes_from (rank k) bytes.now ≡ bytes_from (rank k) (take n bytes.now) ++ bytes_from (rank next) rest.now =
-      ap (bytes_from (rank k)) (sym (take-append-drop n bytes.now)) ∙ (bytes_append (rank k) (take n bytes.now) (drop n bytes.now)
-      ∙ (λ i. bytes_from (rank k) (take n bytes.now) ++ bytes_from (let e : rank k + length (take n bytes.now) ≡ rank next = omega (arith, taken, rank_is, within) in e i) (sym now i))) in
-      let head : slice_index rest.now 0 ≡ slice_index bytes.now n = ap (λ bs. slice_index bs 0) now ∙ index_drop n bytes.now in
+      let split : bytes_from (rank k) bytes ≡ bytes_from (rank k) (take n bytes) ++ bytes_from (rank next) rest =
+      ap (bytes_from (rank k)) (sym (take-append-drop n bytes)) ∙ (bytes_append (rank k) (take n bytes) (drop n bytes)
+      ∙ (λ i. bytes_from (rank k) (take n bytes) ++ bytes_from (let e : rank k + length (take n bytes) ≡ rank next = omega (arith, taken, rank_is, within) in e i) (sym now i))) in
+      let head : slice_index rest 0 ≡ slice_index bytes n = ap (λ bs. slice_index bs 0) now ∙ index_drop n bytes in
       subst (λ (x : Piece). IsLeft x (Bytes next rest) b c) (sym is) (record {
-        done = bytes_from (rank k) (take n bytes.now);
-        next = (rank next, Byte (slice_index rest.now 0));
+        done = bytes_from (rank k) (take n bytes);
+        next = (rank next, Byte (slice_index rest 0));
         more = first.0;
         units = split;
         first = first.1;
@@ -90,6 +89,6 @@ module _ (p : Piece) (k : Key) (bytes : Bor (List ℕ)) (b c : List ℕ) (is : p
         sound = (omega (arith, long, dropped, lt), omega (arith, long, dropped, offset_is, short, within));
         end = omega (arith, long, dropped, rank_is, within);
         low = omega (arith, rank_is);
-        puts = subst (λ t. Puts (rank k) t (bytes_from (rank k) (take n bytes.now)) b c) (sym rank_is) puts;
+        puts = subst (λ t. Puts (rank k) t (bytes_from (rank k) (take n bytes)) b c) (sym rank_is) puts;
         full = subst (λ (u : LeafUnit). IsFullFor u c) (λ i. (sym rank_is i, Byte (sym head i))) full;
       })

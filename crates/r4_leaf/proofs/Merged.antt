@@ -34,13 +34,13 @@ pub has_unit : (p : Piece) (j : ℕ) → rank (piece_key p) ≤ j → j < piece_
 unfolding piece_units
 has_unit (Stat k body) j le lt = let same : rank k ≡ j = omega (arith, le, lt) in (StatValue (attr_of body.now), first_in _ _ [] (λ i. (same i, StatValue (attr_of body.now))))
 has_unit (Entry e) j le lt = let same : rank e.key ≡ j = omega (arith, le, lt) in (EntryValue (entry_shown e).name e.target, first_in _ _ [] (λ i. (same i, EntryValue (entry_shown e).name e.target)))
-has_unit (Bytes k bytes) j le lt = byte_at (rank k) bytes.now j le lt
+has_unit (Bytes k bytes) j le lt = byte_at (rank k) bytes j le lt
 
 pub piece_rise : (p : Piece) → Rise (rank (piece_key p)) (piece_end p) (piece_units p)
 unfolding piece_units
 piece_rise (Stat k body) = (omega arith, omega arith)
 piece_rise (Entry e) = (omega arith, omega arith)
-piece_rise (Bytes k bytes) = bytes_rise (rank k) bytes.now
+piece_rise (Bytes k bytes) = bytes_rise (rank k) bytes
 
 pub pieces_rise : (from to : ℕ) (ps : List Piece) → Follow from to ps → Rise from to (units_of ps)
 pieces_rise from to [] h = h

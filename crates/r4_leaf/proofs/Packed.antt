@@ -172,7 +172,7 @@ first_small : (q : Piece) (next : LeafUnit) (more : List LeafUnit) → IsSound q
 unfolding piece_units
 first_small (Stat k body) next more sound is = subst (λ u. unit_bytes None u ≤ 346) (same_head _ next [] more is) (stat_small (rank k) (attr_of body.now))
 first_small (Entry e) next more sound is = subst (λ u. unit_bytes None u ≤ 346) (same_head _ next [] more is) (entry_small (entry_shown e) sound.0)
-first_small (Bytes k bytes) next more sound is = of_bytes bytes.now sound.0 is
+first_small (Bytes k bytes) next more sound is = of_bytes bytes sound.0 is
   where
     of_bytes : (bs : List ℕ) → 1 ≤ length bs → bytes_from (rank k) bs ≡ next ∷ more → unit_bytes None next ≤ 346
     of_bytes [] some e = absurd (omega (arith, some))

@@ -15,7 +15,7 @@ use Rattle.r4_node40.specs.Laid.{IsNode}
 use Rattle.r4_node40.proofs.Accepted.{good}
 use Rattle.r4_node40.proofs.Laid.{get-items_of, key_fits, length-items_of}
 use Rattle.r4_leaf.specs.Items.{IsSoundItem, Lie}
-use Rattle.r4_leaf.specs.Leaves.{IsGiven, MayStand, Packs}
+use Rattle.r4_leaf.specs.Leaves.{IsGiven, MayBePut, MayStand, Packs}
 use Rattle.r4_leaf.specs.Units.{LeafUnit, cut_units}
 use Rattle.r4_leaf.specs.declared.leaf.Leaf.{Leaf}
 use Rattle.r4_base.specs.Cell.{units_in}
@@ -89,10 +89,10 @@ module _ (lo hi : ℕ) (b : List ℕ) (stand : MayStand lo hi b) where
       from_le (x ∷ xs) leaf h = good_lie lo lo hi 0 (x ∷ xs) leaf (first_from lo hi 0 (x ∷ xs) (omega arith) h) h
   stand_lie (inr some) = good_lie lo lo hi 0 (items_of b) of_leaf (first_from lo hi 0 (items_of b) some parts.2) parts.2
 
--- a given item is sound
-pub given_sound : (it : Item) → IsGiven it → IsKey it.key → IsSoundItem it
+-- an item that may be put in is sound
+pub put_sound : (it : Item) → MayBePut it → IsKey it.key → IsSoundItem it
 unfolding item_body_fault
-given_sound it g key = record { plugin = g.plugin; body = g.sound; fits = fits_of g.plugin; key = key }
+put_sound it g key = record { plugin = g.plugin; body = g.sound; fits = fits_of g.plugin; key = key }
   where
     fits_of : (it.plugin ≡ 0) ⊎ ((it.plugin ≡ 2) ⊎ (it.plugin ≡ 6)) → offsets_fit it ≡ true
     fits_of (inl is) = let a : (it.plugin == 0) ≡ true = ap (λ (x : ℕ). x == 0) is in rw a refl
@@ -112,6 +112,9 @@ given_sound it g key = record { plugin = g.plugin; body = g.sound; fits = fits_o
         let low = leb-true _ _ t.1 in
         let far : nat_le (offset_of it.key + length it.body) (2 ^ 64) ≡ true = le-leb _ _ (omega (arith, low)) in
         rw (a, d, b, e) far
+
+pub given_sound : (it : Item) → IsGiven it → IsKey it.key → IsSoundItem it
+given_sound it g key = put_sound it (record { plugin = g.plugin; sound = g.sound }) key
 
 -- a range of the items, which may be empty
 pub some_range : (lo hi : ℕ) (b : List ℕ) → MayStand lo hi b → (h : ℕ) × Lie lo h (items_of b)

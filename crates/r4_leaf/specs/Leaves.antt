@@ -44,7 +44,12 @@ pub record AreFew (us : List LeafUnit) (leaves : List Leaf) : Type 0 where
   pub more : 4068 < leaf_bytes us → 1024 * length leaves + 2020 < leaf_bytes us
   pub few : length leaves ≤ 16
 
--- An item of a leaf that is put in: stat data, entries of a directory or bytes of a tail, which have no fault.
+-- An item that may be put into leaves: stat data, entries of a directory or bytes of a tail, which have no fault.
+pub record MayBePut (it : Item) : Type 0 where
+  pub plugin : (it.plugin ≡ 0) ⊎ ((it.plugin ≡ 2) ⊎ (it.plugin ≡ 6))
+  pub sound : item_body_fault true (2 ^ 64) it ≡ None
+
+-- An item of a leaf that is put in by itself: stat data, entries of a directory or bytes of a tail, which have no fault.
 pub record IsGiven (it : Item) : Type 0 where
   pub plugin : (it.plugin ≡ 0) ⊎ ((it.plugin ≡ 2) ⊎ (it.plugin ≡ 6))
   pub sound : item_body_fault true (2 ^ 64) it ≡ None

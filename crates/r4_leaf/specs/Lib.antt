@@ -4,3 +4,5 @@ pub mod Pieces
 pub mod Items
 pub mod Filling
 pub mod Packing
+pub mod Remade
+pub mod Runs

@@ -20,12 +20,12 @@ piece_key (Bytes k bytes) = k
 abbrev pub piece_end : Piece → ℕ
 piece_end (Stat k body) = rank k + 1
 piece_end (Entry e) = rank e.key + 1
-piece_end (Bytes k bytes) = rank k + length bytes.now
+piece_end (Bytes k bytes) = rank k + length bytes
 
 unfoldable pub piece_units : Piece → List LeafUnit
 piece_units (Stat k body) = (rank k, StatValue (attr_of body.now)) ∷ []
 piece_units (Entry e) = entry_unit (entry_shown e) ∷ []
-piece_units (Bytes k bytes) = bytes_from (rank k) bytes.now
+piece_units (Bytes k bytes) = bytes_from (rank k) bytes
 
 -- the units of pieces, one after the other
 abbrev pub units_of : List Piece → List LeafUnit
@@ -36,7 +36,7 @@ units_of (p ∷ ps) = piece_units p ++ units_of ps
 abbrev pub IsSound : Piece → Type 0
 IsSound (Stat k body) = fault_in (stat_of body.now) ≡ None
 IsSound (Entry e) = IsLawfulEntry (entry_shown e) × IsKey e.key
-IsSound (Bytes k bytes) = (1 ≤ length bytes.now) × (offset_of k + length bytes.now ≤ 16384)
+IsSound (Bytes k bytes) = (1 ≤ length bytes) × (offset_of k + length bytes ≤ 16384)
 
 -- Sound pieces from one key up to another, each behind the one before it.
 abbrev pub Follow : (from to : ℕ) → List Piece → Type 0

@@ -7,6 +7,7 @@ ghost use Rattle.r4_leaf.specs.Pieces.{Follow, IsSound, Leads, piece_end, piece_
 ghost use Rattle.r4_leaf.specs.Units.{cut_units};
 
 use crate::piece::Piece;
+use crate::run::Run;
 use r4_base::{Key, Memory};
 use std::alloc::Global;
 
@@ -48,26 +49,30 @@ fn keep<'a>(left: &mut Vec<Piece<'a>>, piece: Piece<'a>, from: &Key, to: &Key) -
 fn keep_bytes<'a>(
     left: &mut Vec<Piece<'a>>,
     key: Key,
-    bytes: &'a [u8],
+    bytes: Run<'a>,
     from: &Key,
     to: &Key,
 ) -> Result<(), Memory>
     requires { IsSound (Piece.Bytes key bytes) }
-    ensures { OnOk result (Leads left.old.items (rank key) (rank key + length bytes.now) (cut_units (rank from.now) (rank to.now) (piece_units (Piece.Bytes key bytes.entry))) left.new.items) }
+    ensures { OnOk result (Leads left.old.items (rank key) (rank key + length bytes.entry)
+        (cut_units (rank from.now) (rank to.now) (piece_units (Piece.Bytes key bytes.entry)))
+        left.new.items) }
 {
-    let first = below(&key, bytes.len(), from);
-    let end = below(&key, bytes.len(), to);
+    let count = bytes.len();
+    let first = below(&key, count, from);
+    let end = below(&key, count, to);
     if end <= first {
         return keep_part(left, key, bytes);
     }
-    keep_part(left, behind(&key, end), &bytes[end..])?;
-    keep_part(left, key, &bytes[..first])
+    keep_part(left, behind(&key, end), bytes.tail(end))?;
+    keep_part(left, key, bytes.head(first))
 }
 
 /// Puts a run of bytes before the pieces that are kept, if it has one.
-fn keep_part<'a>(left: &mut Vec<Piece<'a>>, key: Key, bytes: &'a [u8]) -> Result<(), Memory>
-    requires { offset_of key + length bytes.now ≤ 16384 }
-    ensures { OnOk result (Leads left.old.items (rank key) (rank key + length bytes.now) (bytes_from (rank key) bytes.now) left.new.items) }
+fn keep_part<'a>(left: &mut Vec<Piece<'a>>, key: Key, bytes: Run<'a>) -> Result<(), Memory>
+    requires { offset_of key + length bytes ≤ 16384 }
+    ensures { OnOk result (Leads left.old.items (rank key) (rank key + length bytes.entry)
+        (bytes_from (rank key) bytes.entry) left.new.items) }
 {
     if !bytes.is_empty() {
         left.push(Piece::Bytes(key, bytes))?;

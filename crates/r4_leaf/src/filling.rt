@@ -18,6 +18,7 @@ use crate::entries::{entries_at, need_of, put_entry_at};
 use crate::opening::put_bytes_at;
 use crate::piece::Piece;
 use crate::placing::place_for;
+use crate::run::Run;
 use r4_base::{ENTRIES, ITEM_HEADER, Key, STAT, TAIL};
 use r4_cde::EntryRef;
 use r4_node40::NodeMut;
@@ -43,11 +44,11 @@ pub(crate) fn put<'a>(node: &mut NodeMut<'_>, piece: Piece<'a>) -> Option<Piece<
             Some(Piece::Entry(entry))
         }
         Piece::Bytes(key, bytes) => {
-            let count = put_run(node, key, bytes);
+            let count = put_run(node, key, &bytes);
             if count == bytes.len() {
                 return None;
             }
-            Some(Piece::Bytes(behind(&key, count), &bytes[count..]))
+            Some(Piece::Bytes(behind(&key, count), bytes.tail(count)))
         }
     }
 }
@@ -65,12 +66,12 @@ fn put_stat(node: &mut NodeMut<'_>, key: Key, body: &[u8]) -> bool
     if usize::from(node.room()) < body.len() + usize::from(ITEM_HEADER) {
         return false;
     }
-    put_bytes_at(node, place, &key, STAT, body);
+    put_bytes_at(node, place, &key, STAT, &Run::lent(body));
     true
 }
 
 /// Puts bytes behind what the leaf has, as many as there is room for, and answers how many.
-fn put_run(node: &mut NodeMut<'_>, key: Key, bytes: &[u8]) -> usize
+fn put_run(node: &mut NodeMut<'_>, key: Key, bytes: &Run<'_>) -> usize
     requires filled { (lo : ℕ) × (mid : ℕ) × (us : List LeafUnit) × IsFilled lo mid us (bytes_of node.old) × (mid ≤ rank key) }
     requires some { 1 ≤ length bytes.now }
     requires short { offset_of key + length bytes.now ≤ 16384 }
@@ -85,7 +86,7 @@ fn put_run(node: &mut NodeMut<'_>, key: Key, bytes: &[u8]) -> usize
         return 0;
     }
     let count = room.min(bytes.len());
-    put_bytes_at(node, place, &key, TAIL, &bytes[..count]);
+    put_bytes_at(node, place, &key, TAIL, &bytes.head(count));
     count
 }
 

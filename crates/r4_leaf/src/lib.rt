@@ -14,7 +14,10 @@ mod packing;
 mod piece;
 mod placing;
 mod reading;
+mod remaking;
+mod run;
 
 pub use edits::{cut_out, put_in};
 pub use leaf::Leaf;
 pub use middle::middle_key;
+pub use remaking::{Given, KeyRange, remake};

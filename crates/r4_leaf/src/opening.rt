@@ -6,6 +6,7 @@ ghost use Rattle.r4_node40.specs.Laid.{room_of};
 ghost use Rattle.r4_node40.specs.Loan.{bytes_of, with_bytes};
 ghost use Rattle.r4_leaf.specs.Filling.{Holds, IsPlace, Opens, need};
 
+use crate::run::Run;
 use r4_base::{ITEM_HEADER, Key};
 use r4_node40::NodeMut;
 
@@ -41,11 +42,11 @@ pub(crate) fn open(node: &mut NodeMut<'_>, place: Place, key: &Key, plugin: u16,
 }
 
 /// Writes bytes behind the first ones of a body, up to its end.
-fn write_behind(body: &mut [u8], used: u16, bytes: &[u8])
+fn write_behind(body: &mut [u8], used: u16, bytes: &Run<'_>)
     requires { used + length bytes.now ≡ length body.old }
     ensures { body.new ≡ take used body.old ++ bytes.now }
 {
-    body[used as usize..].copy_from_slice(bytes);
+    bytes.write(&mut body[used as usize..]);
 }
 
 /// Puts bytes behind those of the item at the place.
@@ -54,7 +55,7 @@ pub(crate) fn put_bytes_at(
     place: Place,
     key: &Key,
     plugin: u16,
-    bytes: &[u8],
+    bytes: &Run<'_>,
 )
     requires place { (it : Item) × IsPlace (bytes_of node.old) place.item it × (length it.body ≡ place.used) × (it.plugin ≡ plugin) × (place.used ≡ 0 → it.key ≡ key.now) × (need it (length bytes.now) ≤ room_of (bytes_of node.old)) }
     requires some { 1 ≤ length bytes.now }

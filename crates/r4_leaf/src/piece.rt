@@ -2,16 +2,17 @@
 
 ghost use Rattle.std.specs.Prelude.{◌≡◌};
 
+use crate::run::Run;
 use r4_base::Key;
 use r4_cde::EntryRef;
 
-/// What a leaf is built of: stat data, one entry of a directory, or a run of a tail's bytes, the first at the key. All are
-/// lent.
+/// What a leaf is built of: stat data, one entry of a directory, or a run of a tail's bytes, the first at the key. None is
+/// held.
 #[derive(Drop)]
 pub(crate) enum Piece<'a> {
     Stat(Key, &'a [u8]),
     Entry(EntryRef<'a>),
-    Bytes(Key, &'a [u8]),
+    Bytes(Key, Run<'a>),
 }
 
 impl<'a> Piece<'a> {

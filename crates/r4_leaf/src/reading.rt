@@ -9,6 +9,7 @@ ghost use Rattle.r4_leaf.specs.Items.{IsSoundItem, Lie};
 ghost use Rattle.r4_leaf.specs.Pieces.{Adds, Follow, units_of};
 
 use crate::piece::Piece;
+use crate::run::Run;
 use r4_base::{ENTRIES, Key, Memory, STAT};
 use r4_cde::DirView;
 use r4_node40::NodeView;
@@ -45,7 +46,7 @@ pub(crate) fn add_item<'a>(
     if plugin == ENTRIES {
         return add_entries(pieces, &key, body);
     }
-    pieces.push(Piece::Bytes(key, body))?;
+    pieces.push(Piece::Bytes(key, Run::lent(body)))?;
     Ok(())
 }
 

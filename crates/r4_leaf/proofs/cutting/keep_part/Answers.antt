@@ -18,8 +18,8 @@ no_bytes bs test = grind (arith, nat_tests, test)
 pub returns-in_ok-push : goal.returns-in_ok-push
 unfolding piece_units
 returns-in_ok-push c =
-    subst (λ (ps : List Piece). Leads c.args.left.now.items (rank c.args.key) (rank c.args.key + length c.args.bytes.now) (bytes_from (rank c.args.key) c.args.bytes.now) ps) (sym (c.in_ok-push.ensures.items))
-    (leads_one c.args.left.now.items (Bytes c.args.key c.args.bytes) (some_bytes c.args.bytes.now c.if-not-is_empty.ensures, c.requires))
+    subst (λ (ps : List Piece). Leads c.args.left.now.items (rank c.args.key) (rank c.args.key + length c.args.bytes) (bytes_from (rank c.args.key) c.args.bytes) ps) (sym (c.in_ok-push.ensures.items))
+    (leads_one c.args.left.now.items (Bytes c.args.key c.args.bytes) (some_bytes c.args.bytes c.if-not-is_empty.ensures, c.requires))
 
 pub returns-else-not-is_empty : goal.returns-else-not-is_empty
-returns-else-not-is_empty c = leads_empty c.args.left.now.items (rank c.args.key) c.args.bytes.now (no_bytes c.args.bytes.now c.if-not-is_empty.ensures)
+returns-else-not-is_empty c = leads_empty c.args.left.now.items (rank c.args.key) c.args.bytes (no_bytes c.args.bytes c.if-not-is_empty.ensures)

@@ -1,4 +1,4 @@
-use Rattle.std.proofs.Common.{◌≡◌, ◌+◌, length, take, subst, arith, rules}
+use Rattle.std.proofs.Common.{◌≡◌, ℕ, ◌+◌, List, length, take, ap, subst, ◌∙◌, arith, rules}
 use Rattle.std.specs.Prelude.{slice_index}
 use Rattle.std.proofs.lemmas.List.{length-take}
 use Rattle.r4_base.specs.Cell.{bytes_from}
@@ -21,29 +21,33 @@ pub put_bytes_at-requires-clause-place : goal.put_bytes_at-requires-clause-place
 put_bytes_at-requires-clause-place c =
     let f = c.requires.filled in
     let t = takes_bytes f.0 f.1 f.2 (bytes_of c.args.node.now) c.args.key c.place_for-place.result.item c.place_for-place.result.used f.3 f.4 c.place_for-place.ensures in
-    let n = need_is t.0 c.place_for-place.result.used (length (take c.min-count.result c.args.bytes.now)) t.1.long in
-    let long = length-take c.min-count.result c.args.bytes.now in
+    let n = need_is t.0 c.place_for-place.result.used (length c.head.result) t.1.long in
+    let long = ap length c.head.ensures ∙ length-take c.min-count.result c.args.bytes.now in
+    let count = c.len.ensures in
     let r = c.room.ensures in let s = c.saturating_sub.ensures in let g = c.from-room.ensures in let z = c.if-room-eq0.false in let h = c.header.ensures in
     let m = c.min-count.ensures in
-    (t.0, t.1.place, t.1.long, t.1.plugin, t.1.new, omega (arith, n, long, r, s, g, z, h, m))
+    (t.0, t.1.place, t.1.long, t.1.plugin, t.1.new, omega (arith, n, long, count, r, s, g, z, h, m))
 
 pub returns-clause-puts : goal.returns-clause-puts
 returns-clause-puts c =
-    let long = length-take c.min-count.result c.args.bytes.now in
+    let long = ap length c.head.ensures ∙ length-take c.min-count.result c.args.bytes.now in
+    let count = c.len.ensures in
     let r = c.room.ensures in let s = c.saturating_sub.ensures in let g = c.from-room.ensures in let z = c.if-room-eq0.false in let h = c.header.ensures in
     let m = c.min-count.ensures in let some = c.requires.some in let short = c.requires.short in
-    let taken : length (take c.min-count.result c.args.bytes.now) ≡ c.min-count.result = omega (arith, long, m) in
-    subst (λ n. Puts (rank c.args.key) (rank c.args.key + n) (bytes_from (rank c.args.key) (take c.min-count.result c.args.bytes.now)) (bytes_of c.args.node.now) (bytes_of c.put_bytes_at.new.node)) taken
-    (run_puts (bytes_of c.args.node.now) (bytes_of c.put_bytes_at.new.node) c.args.key c.place_for-place.result.item c.place_for-place.result.used c.place_for-place.ensures (is_key c.args.key (search rules) (search rules) (search rules) (search rules) (search rules)) (take c.min-count.result c.args.bytes.now)
-    (omega (arith, taken, m, z, some)) (omega (arith, taken, m, short)) (omega (arith, taken, m, r, s, g, z, h)) c.put_bytes_at.ensures.holds)
+    let taken : length c.head.result ≡ c.min-count.result = omega (arith, long, m, count) in
+    subst (λ (bs : List ℕ). Puts (rank c.args.key) (rank c.args.key + c.min-count.result) (bytes_from (rank c.args.key) bs) (bytes_of c.args.node.now) (bytes_of c.put_bytes_at.new.node)) c.head.ensures
+    (subst (λ n. Puts (rank c.args.key) (rank c.args.key + n) (bytes_from (rank c.args.key) c.head.result) (bytes_of c.args.node.now) (bytes_of c.put_bytes_at.new.node)) taken
+    (run_puts (bytes_of c.args.node.now) (bytes_of c.put_bytes_at.new.node) c.args.key c.place_for-place.result.item c.place_for-place.result.used c.place_for-place.ensures (is_key c.args.key (search rules) (search rules) (search rules) (search rules) (search rules)) c.head.result
+    (omega (arith, taken, m, z, some, count)) (omega (arith, taken, m, short, count)) (omega (arith, taken, m, r, s, g, z, h)) c.put_bytes_at.ensures.holds))
 
 pub returns-clause-full : goal.returns-clause-full
 returns-clause-full c = λ lt.
-    let long = length-take c.min-count.result c.args.bytes.now in
+    let long = ap length c.head.ensures ∙ length-take c.min-count.result c.args.bytes.now in
+    let count = c.len.ensures in
     let r = c.room.ensures in let s = c.saturating_sub.ensures in let g = c.from-room.ensures in let z = c.if-room-eq0.false in let h = c.header.ensures in
     let m = c.min-count.ensures in let some = c.requires.some in let short = c.requires.short in
-    let taken : length (take c.min-count.result c.args.bytes.now) ≡ c.min-count.result = omega (arith, long, m) in
+    let taken : length c.head.result ≡ c.min-count.result = omega (arith, long, m, count) in
     let f = c.requires.filled in
-    let left = room_left (bytes_of c.args.node.now) (bytes_of c.put_bytes_at.new.node) c.args.key c.place_for-place.result.item c.place_for-place.result.used c.place_for-place.ensures (is_key c.args.key (search rules) (search rules) (search rules) (search rules) (search rules)) (take c.min-count.result c.args.bytes.now)
-    (omega (arith, taken, m, z, some)) (omega (arith, taken, m, short)) (omega (arith, taken, m, r, s, g, z, h)) c.put_bytes_at.ensures.holds f.0 f.1 f.2 f.3 f.4 in
-    full_without_room (rank c.args.key + c.min-count.result) (slice_index c.args.bytes.now c.min-count.result) (bytes_of c.put_bytes_at.new.node) (omega (arith, left, taken, m, r, s, g, z, h, lt))
+    let left = room_left (bytes_of c.args.node.now) (bytes_of c.put_bytes_at.new.node) c.args.key c.place_for-place.result.item c.place_for-place.result.used c.place_for-place.ensures (is_key c.args.key (search rules) (search rules) (search rules) (search rules) (search rules)) c.head.result
+    (omega (arith, taken, m, z, some, count)) (omega (arith, taken, m, short, count)) (omega (arith, taken, m, r, s, g, z, h)) c.put_bytes_at.ensures.holds f.0 f.1 f.2 f.3 f.4 in
+    full_without_room (rank c.args.key + c.min-count.result) (slice_index c.args.bytes.now c.min-count.result) (bytes_of c.put_bytes_at.new.node) (omega (arith, left, taken, m, r, s, g, z, h, lt, count))
