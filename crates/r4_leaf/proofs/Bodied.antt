@@ -1,15 +1,14 @@
 -- The bodies of a node's items.
-use Rattle.std.proofs.Common.{◌≡◌, ℕ, zero, suc, ◌+◌, ◌<◌, ◌≤◌, List, [], ◌∷◌, length, get_or, refl, sym, ap, subst, ◌∙◌, arith}
+use Rattle.std.proofs.Common.{◌≡◌, ℕ, zero, suc, ◌+◌, ◌≤◌, List, [], ◌∷◌, length, get_or, refl, sym, ap, subst, ◌∙◌, arith}
 use Rattle.std.specs.Prelude.{slice_get, Some}
 use Rattle.std.specs.List.{sum_by}
 use Rattle.std.proofs.lemmas.List.Sums.{sum_by-append}
 use Rattle.std.proofs.lemmas.Option.{get_or_from_slice_get, same_Some, slice_get_within}
-use Rattle.r4_base.specs.Node.{Item, count_of, edge_at, item_at, items_of, offset_at}
-use Rattle.r4_base.proofs.Numbers.{length-slice_range}
+use Rattle.r4_base.specs.Node.{Item, count_of, item_at, items_of}
 use Rattle.r4_node40.proofs.LaidItems.{item_bodied}
 use Rattle.r4_node40.specs.Laid.{IsLaid, room_of}
 use Rattle.r4_node40.proofs.Accepted.{space}
-use Rattle.r4_node40.proofs.Laid.{edge_next, edge_stands, edge_step, get_or-items_of, length-items_of}
+use Rattle.r4_node40.proofs.Laid.{get_or-items_of, length-items_of}
 
 weight_of : Item → ℕ
 weight_of x = 38 + length x.body

@@ -1,9 +1,8 @@
 -- Pieces that are kept where units are cut out.
 use Rattle.std.proofs.Common.{◌≡◌, ◌⊎◌, ℕ, zero, suc, ◌+◌, ◌-◌, ◌*◌, ◌^◌, ◌<◌, ◌≤◌, List, [], ◌∷◌, ◌++◌, length, take, drop, inl, inr, refl, sym, ap, subst, ◌∙◌, arith}
 use Rattle.std.specs.Prelude.{OnOk, Result, Ok, Err, reverse, slice_index}
-use Rattle.std.specs.Borrow.{Bor}
 use Rattle.std.proofs.lemmas.Bool.{cases_lt}
-use Rattle.std.proofs.lemmas.List.{append_assoc, append-nil, reverse-append, length-take, length-drop, take-append-drop, drop_all, drop-drop, take_all}
+use Rattle.std.proofs.lemmas.List.{append_assoc, append-nil, reverse-append, length-take, length-drop, take-append-drop, drop_all, drop-drop}
 use Rattle.std.proofs.lemmas.List.Elements.{filter-append}
 use Rattle.r4_base.specs.Cell.{bytes_from}
 use Rattle.r4_base.specs.Key.{IsKey, offset_of, rank}

@@ -1,5 +1,5 @@
 -- The last item of a node, put in or made longer, and its body then written.
-use Rattle.std.proofs.Common.{◌≡◌, ◌⊎◌, ℕ, zero, suc, ◌+◌, ◌-◌, ◌<◌, ◌≤◌, true, false, List, [], ◌∷◌, ◌++◌, length, replicate, take, get_or, set, inl, inr, refl, sym, ap, ◌∙◌, arith}
+use Rattle.std.proofs.Common.{◌≡◌, ◌⊎◌, ℕ, zero, suc, ◌+◌, ◌-◌, ◌<◌, ◌≤◌, true, List, [], ◌∷◌, ◌++◌, length, replicate, take, get_or, set, inl, inr, refl, sym, ap, ◌∙◌, arith}
 use Rattle.std.specs.Prelude.{slice_get, slice_set, Some, None, Result, OnOk, IsOk, Ok, Err, ◌==◌, if◌then◌else◌}
 use Rattle.std.specs.List.{insert, sum_by}
 use Rattle.std.proofs.lemmas.Bool.Decides.{nat_tests}
@@ -10,7 +10,7 @@ use Rattle.std.proofs.lemmas.Option.{same_Some}
 use Rattle.r4_base.specs.Node.{Item, count_of, end_at, fits_level, item_at, items_of, key_at, level_of, mkfs_id_of, offset_at, plugin_at}
 use Rattle.r4_base.proofs.Choices.{get_end}
 use Rattle.r4_node40.specs.Edits.{InsertsItem, ResizesItem, growth, resized}
-use Rattle.r4_node40.specs.Laid.{IsLaid, IsNode, WritesBody, room_of, span_at}
+use Rattle.r4_node40.specs.Laid.{IsNode, WritesBody, room_of, span_at}
 use Rattle.r4_node40.proofs.Accepted.{space}
 use Rattle.r4_node40.proofs.Kept.{node_inserted, node_resized, node_written}
 use Rattle.r4_node40.proofs.Laid.{get_or-items_of, length-items_of}

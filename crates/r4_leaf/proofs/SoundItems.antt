@@ -1,7 +1,6 @@
 -- What is said of an item of a leaf that has no fault, by its plugin.
 use Rattle.std.proofs.Common.{◌≡◌, ◌⊎◌, ℕ, ◌+◌, ◌-◌, ◌<◌, ◌≤◌, Bool, true, false, not, List, [], ◌∷◌, length, map, inl, inr, refl, sym, ap, arith}
-use Rattle.std.specs.Prelude.{Option, Some, None, Ok, Err, ◌==◌, nat_le, if◌then◌else◌}
-use Rattle.std.specs.Option.{option_map}
+use Rattle.std.specs.Prelude.{Some, None, Ok, Err, ◌==◌, nat_le, if◌then◌else◌}
 use Rattle.std.proofs.lemmas.Bool.{and_parts, eq-eqb, eqb-true, leb-true}
 use Rattle.r4_base.specs.Cell.{bytes_from, entry_unit, fault_in, is_short_tail, item_body_fault, item_end, item_units}
 use Rattle.r4_base.specs.Dir.{dir_fault, entries_of, entry_count, entry_key_at}

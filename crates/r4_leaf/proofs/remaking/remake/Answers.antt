@@ -1,4 +1,4 @@
-use Rattle.std.proofs.Common.{◌≡◌, ℕ, List, reverse, sym, ap, subst, ◌∙◌}
+use Rattle.std.proofs.Common.{List, reverse, sym, ap, subst, ◌∙◌}
 use Rattle.std.proofs.lemmas.List.{reverse-reverse}
 use Rattle.std.proofs.lemmas.Result.{IfOk-weaker}
 use Rattle.r4_base.specs.Key.{rank}
@@ -6,7 +6,6 @@ use Rattle.r4_leaf.specs.Leaves.{Packs}
 use Rattle.r4_leaf.specs.Pieces.{Follow, units_of}
 use Rattle.r4_leaf.specs.Remade.{CanPutAll, cut_all, put_all}
 use Rattle.r4_leaf.specs.Units.{LeafUnit}
-use Rattle.r4_leaf.specs.declared.piece.Piece.{Piece}
 use Rattle.r4_base.specs.Cell.{units_in}
 use Rattle.r4_node40.specs.View.{view_items}
 use Rattle.r4_leaf.proofs.Counted.{are_few}

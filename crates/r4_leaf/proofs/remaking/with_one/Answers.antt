@@ -1,14 +1,11 @@
-use Rattle.std.proofs.Common.{◌≡◌, ℕ, ◌≤◌, ◌++◌, List, [], reverse, sym, ap, subst, ◌∙◌, arith, rules}
-use Rattle.std.specs.Prelude.{IfOk, Result, Ok, Err}
-use Rattle.r4_base.specs.Cell.{item_end, item_units}
+use Rattle.std.proofs.Common.{◌≡◌, ℕ, ◌≤◌, ◌++◌, List, [], sym, ap, subst, ◌∙◌, arith}
+use Rattle.r4_base.specs.Cell.{item_end}
 use Rattle.r4_base.specs.Key.{rank}
-use Rattle.r4_base.proofs.Keys.{is_key}
 use Rattle.r4_leaf.specs.Leaves.{AreApart}
 use Rattle.r4_leaf.specs.Pieces.{Adds, Follow, units_of}
 use Rattle.r4_leaf.specs.Remade.{item_of}
 use Rattle.r4_leaf.specs.Units.{LeafUnit, put_units}
 use Rattle.r4_leaf.specs.declared.piece.Piece.{Piece}
-use Rattle.r4_leaf.proofs.Standing.{put_sound}
 use Rattle.r4_leaf.proofs.Following.{follow_wider}
 use Rattle.r4_leaf.proofs.remaking.with_one.Goals as goal
 
