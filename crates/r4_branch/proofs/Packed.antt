@@ -94,6 +94,7 @@ is_twig lo to hi ps x f from some first le = record {
   names = f.names hi;
   units = f.units;
   fits = let r = f.room in omega (arith, r);
+  room = f.room;
 }
 
 first_of_more : (a hi : ℕ) (xs ys : List TwigPiece) → 1 ≤ length xs → next_of a xs ≡ next_of hi (xs ++ ys)

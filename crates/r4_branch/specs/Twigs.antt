@@ -3,17 +3,20 @@ use Rattle.std.specs.Prelude.{◌≡◌, ℕ, ◌+◌, ◌*◌, ◌<◌, ◌≤�
 use Rattle.r4_base.specs.Cell.{names_in, units_in}
 use Rattle.r4_base.specs.Key.{rank}
 use Rattle.r4_base.specs.Node.{items_of}
+use Rattle.r4_node40.specs.Laid.{room_of}
 use Rattle.r4_branch.specs.Pieces.{MayStand, last_end, names_of, part_bytes, twig_bytes, units_of}
 use Rattle.r4_branch.specs.declared.piece.TwigPiece.{TwigPiece}
 use Rattle.r4_branch.specs.declared.twig.Twig.{Twig}
 
--- It may stand for this range, names what the pieces name and has their units; there is room for them.
+-- It may stand for this range, names what the pieces name and has their units; there is room for them, and they take up no
+-- more than they need.
 pub record IsTwig (lo hi : ℕ) (ps : List TwigPiece) (x : Twig) : Type 0 where
   pub from : rank x.lo ≡ lo
   pub stands : MayStand lo hi x.block
   pub names : names_in 2 hi (items_of x.block) ≡ names_of hi ps
   pub units : units_in (items_of x.block) ≡ units_of ps
   pub fits : twig_bytes ps ≤ 4068
+  pub room : room_of x.block + twig_bytes ps ≡ 4068
 
 -- The next piece has no room behind these.
 pub record IsFull (ps : List TwigPiece) (next : TwigPiece) : Type 0 where

@@ -29,3 +29,4 @@ pub mod PutKinds
 pub mod PutUnits
 pub mod SidesOfKey
 pub mod Spread
+pub mod Remade

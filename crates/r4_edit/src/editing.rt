@@ -267,7 +267,7 @@ pub fn leaves_without(alloc: Global, leaf: &Cell, from: &Key, to: &Key) -> Resul
 }
 
 /// The change that puts these leaves in the place of the last cell of a path.
-fn replace(
+pub(crate) fn replace(
     alloc: Global,
     path: &[Arc<Cell>],
     leaves: Vec<Leaf>,

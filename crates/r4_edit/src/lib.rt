@@ -7,6 +7,7 @@ mod editing;
 mod graft_laws;
 mod leaf_parts;
 mod over;
+mod remaking;
 mod splitting;
 
 pub use editing::{cut, insert, leaves_without};
@@ -14,4 +15,5 @@ pub use graft_laws::{
     an_extent_by_pieces, grafts_are_patches, keys_of_an_extent_are_among_extents,
     numbers_serve_below,
 };
+pub use remaking::change_leaf;
 pub use splitting::split;

@@ -17,7 +17,7 @@ use Rattle.r4_base.specs.Value.{Stat as StatValue, Byte}
 use Rattle.r4_base.specs.declared.node.NodeFault.TheVariants.{Empty}
 use Rattle.r4_base.proofs.Names.{is_name}
 use Rattle.r4_base.proofs.Choices.{none_at}
-use Rattle.r4_node40.specs.Laid.{IsFresh}
+use Rattle.r4_node40.specs.Laid.{IsFresh, room_of}
 use Rattle.r4_node40.proofs.Accepted.{accepted}
 use Rattle.r4_leaf.specs.Filling.{IsFilled, last_of}
 use Rattle.r4_leaf.specs.Items.{Lie}
@@ -194,7 +194,7 @@ module _ (lo0 lo : ℕ) (pieces0 pieces left : List Piece) (leaves : List Leaf) 
       let f = (fills hi (p.follow hi h)).fills in
       let le : f.to ≤ hi = subst (λ ps. Follow f.to hi (reverse ps)) none f.follow in
       let all : f.us ≡ units_of (reverse pieces) = sym (append-nil f.us) ∙ (ap (λ ps. f.us ++ units_of (reverse ps)) (sym none) ∙ sym f.units) in
-      p.packs hi (x ∷ []) h (record { from = from; stands = may_stand lo f.to hi f.us x.block f.filled le; units = f.filled.units ∙ all; fits = subst (λ us. leaf_bytes us ≤ 4068) all (let r = f.filled.room in omega (arith, r)) })
+      p.packs hi (x ∷ []) h (record { from = from; stands = may_stand lo f.to hi f.us x.block f.filled le; units = f.filled.units ∙ all; fits = subst (λ us. leaf_bytes us ≤ 4068) all (let r = f.filled.room in omega (arith, r)); room = subst (λ us. room_of x.block + leaf_bytes us ≡ 4068) all f.filled.room })
 
   -- one more leaf behind which others come
   module _ (q : Piece) (before : List Piece) (is : left ≡ before ++ q ∷ []) where
@@ -248,7 +248,7 @@ module _ (lo0 lo : ℕ) (pieces0 pieces left : List Piece) (leaves : List Leaf) 
           f.units ∙ ap (λ us. f.us ++ us) units,
           packs_lo s.next.0 hi (s.next ∷ rest) y ys packed,
           omega (arith, below, le, key),
-          record { from = from; stands = may_stand lo f.to s.next.0 f.us x.block f.filled (omega (arith, le, key)); units = f.filled.units; fits = (let r = f.filled.room in omega (arith, r)) },
+          record { from = from; stands = may_stand lo f.to s.next.0 f.us x.block f.filled (omega (arith, le, key)); units = f.filled.units; fits = (let r = f.filled.room in omega (arith, r)); room = f.filled.room },
           record { some = some; full = full; filled = (let most = (headed (last_of f.us) s.next).0 in omega (arith, full, small, most)) },
           packed,
         ))

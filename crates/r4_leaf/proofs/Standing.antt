@@ -156,7 +156,7 @@ no_units = refl
 
 alone_anywhere : (lo hi : ℕ) (us : List LeafUnit) (leaves : List Leaf) → us ≡ [] → Packs lo lo us leaves → Packs lo hi us leaves
 alone_anywhere lo hi us [] none p = p
-alone_anywhere lo hi us (x ∷ []) none p = record { from = p.from; stands = any_range lo hi x.block p.stands; units = p.units; fits = p.fits }
+alone_anywhere lo hi us (x ∷ []) none p = record { from = p.from; stands = any_range lo hi x.block p.stands; units = p.units; fits = p.fits; room = p.room }
 alone_anywhere lo hi us (x ∷ (y ∷ more)) none p =
     let n = ap length (sym p.3 ∙ none) in
     let long = length-append p.0 (p.1 ∷ p.2) in

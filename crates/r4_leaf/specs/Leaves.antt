@@ -4,6 +4,7 @@ use Rattle.r4_base.specs.Cell.{cell_fault, item_body_fault, units_in}
 use Rattle.r4_base.specs.Key.{rank}
 use Rattle.r4_base.specs.Node.{Item, items_of, mkfs_id_of}
 use Rattle.r4_base.specs.Value.{Value}
+use Rattle.r4_node40.specs.Laid.{room_of}
 use Rattle.r4_leaf.specs.Units.{LeafUnit, leaf_bytes, unit_bytes}
 use Rattle.r4_leaf.specs.declared.leaf.Leaf.{Leaf}
 
@@ -11,12 +12,14 @@ use Rattle.r4_leaf.specs.declared.leaf.Leaf.{Leaf}
 abbrev pub MayStand : (lo hi : ℕ) → List ℕ → Type 0
 MayStand lo hi b = (length b ≡ 4096) × (cell_fault true (2 ^ 64) 1 lo hi b ≡ None)
 
--- It may stand, and has these units, for which there is room.
+-- It may stand, and has these units, for which there is room. They take up no more than they need: a unit that continues the
+-- one before it stands in its item.
 pub record IsLeaf (lo hi : ℕ) (us : List LeafUnit) (x : Leaf) : Type 0 where
   pub from : rank x.lo ≡ lo
   pub stands : MayStand lo hi x.block
   pub units : units_in (items_of x.block) ≡ us
   pub fits : leaf_bytes us ≤ 4068
+  pub room : room_of x.block + leaf_bytes us ≡ 4068
 
 -- The next unit has no room behind these, of which there are many bytes.
 pub record IsFull (us : List LeafUnit) (next : LeafUnit) : Type 0 where
