@@ -20,7 +20,8 @@ use Rattle.r4_leaf.specs.Units.{LeafUnit, bytes_behind, continues_tail, unit_byt
 use Rattle.r4_leaf.proofs.Lying.{units_cons, units_nil}
 use Rattle.r4_leaf.proofs.Rising.{Rise, bytes_rise, rise_append, rise_lower}
 use Rattle.r4_leaf.proofs.SoundItems.{IsTailItem, entries_item, stat_item, stat_long, tail_item}
-use Rattle.r4_leaf.proofs.Weighed.{behind_append, behind_one, entry_weighs, first_number, last_byte, last_entry, last_or, run_cost, stat_cost}
+use Rattle.r4_leaf.specs.Measure.{last_or}
+use Rattle.r4_leaf.proofs.Weighed.{behind_append, behind_one, entry_weighs, first_number, last_byte, last_entry, run_cost, stat_cost}
 use Rattle.r4_path.specs.Nodes.{weight, weight_of}
 use Rattle.r4_path.proofs.Filling.{weight_cons}
 

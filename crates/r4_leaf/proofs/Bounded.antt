@@ -23,7 +23,8 @@ use Rattle.r4_leaf.proofs.Lying.{units_cons, units_nil}
 use Rattle.r4_leaf.proofs.Merged.{byte_at, first_in}
 use Rattle.r4_leaf.proofs.Rising.{Rise, below_kept, between_cut, bytes_rise, cut_high, put_behind, rise_lower}
 use Rattle.r4_leaf.proofs.SoundItems.{entries_item, stat_item, stat_long, tail_item}
-use Rattle.r4_leaf.proofs.Weighed.{behind_append, behind_one, byte_cost, entry_weighs, headed, last_or, run_cost, stat_cost, tail_weighs}
+use Rattle.r4_leaf.proofs.Weighed.{behind_append, behind_one, byte_cost, entry_weighs, headed, run_cost, stat_cost, tail_weighs}
+use Rattle.r4_leaf.specs.Measure.{last_or}
 
 -- the bytes of entries, each with its header
 entries_bytes : List DirEntry → ℕ

@@ -5,7 +5,8 @@ use Rattle.r4_leaf.specs.Filling.{last_of}
 use Rattle.r4_leaf.specs.Leaves.{AreFew, Packs}
 use Rattle.r4_leaf.specs.Units.{LeafUnit, bytes_behind, leaf_bytes, unit_bytes}
 use Rattle.r4_leaf.specs.declared.leaf.Leaf.{Leaf}
-use Rattle.r4_leaf.proofs.Weighed.{behind_append, headed, last_is, last_or}
+use Rattle.r4_leaf.proofs.Weighed.{behind_append, headed, last_is}
+use Rattle.r4_leaf.specs.Measure.{last_or}
 
 behind_least : (before : Option LeafUnit) (us : List LeafUnit) → leaf_bytes us ≤ bytes_behind before us + 40
 unfolding bytes_behind

@@ -25,7 +25,8 @@ use Rattle.r4_leaf.proofs.Lying.{lie_sound}
 use Rattle.r4_leaf.proofs.Opened.{nothing, split_last}
 use Rattle.r4_leaf.proofs.SoundItems.{entries_item, stat_item, tail_item}
 use Rattle.r4_leaf.proofs.TailFilled.{both_tests, need_is}
-use Rattle.r4_leaf.proofs.Weighed.{behind_one, first_number, last_byte, last_entry, last_or}
+use Rattle.r4_leaf.proofs.Weighed.{behind_one, first_number, last_byte, last_entry}
+use Rattle.r4_leaf.specs.Measure.{last_or}
 
 -- ---- whether an entry continues the last unit
 

@@ -15,7 +15,8 @@ use Rattle.r4_leaf.specs.Items.{IsSoundItem, Lie}
 use Rattle.r4_leaf.specs.Units.{LeafUnit, bytes_behind}
 use Rattle.r4_leaf.proofs.Opened.{split_last}
 use Rattle.r4_leaf.proofs.SoundItems.{item_has_end}
-use Rattle.r4_leaf.proofs.Weighed.{behind_append, last_append, last_is, last_or}
+use Rattle.r4_leaf.proofs.Weighed.{behind_append, last_append, last_is}
+use Rattle.r4_leaf.specs.Measure.{last_or}
 
 -- ---- items that lie one after the other
 

@@ -19,3 +19,4 @@ pub mod Standing
 mod Bounded
 mod Counted
 mod Halved
+pub mod Measured

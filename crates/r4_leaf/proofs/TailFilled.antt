@@ -23,7 +23,8 @@ use Rattle.r4_leaf.proofs.Lying.{lie_sound}
 use Rattle.r4_leaf.proofs.Opened.{need_new, need_old}
 use Rattle.r4_leaf.proofs.Rising.{bytes_append}
 use Rattle.r4_leaf.proofs.SoundItems.{entries_item, stat_item, stat_long, tail_item}
-use Rattle.r4_leaf.proofs.Weighed.{byte_cost, last_byte, last_entry, last_or, run_cost, behind_one}
+use Rattle.r4_leaf.proofs.Weighed.{byte_cost, last_byte, last_entry, run_cost, behind_one}
+use Rattle.r4_leaf.specs.Measure.{last_or}
 
 -- ---- items that are sound
 

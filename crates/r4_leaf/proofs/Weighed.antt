@@ -11,12 +11,8 @@ use Rattle.r4_base.specs.declared.items.Attr.{Attr}
 use Rattle.r4_base.specs.declared.items.Target.{Target}
 use Rattle.r4_base.specs.declared.key.Key.{Key}
 use Rattle.r4_leaf.specs.Filling.{last_of}
+use Rattle.r4_leaf.specs.Measure.{last_or}
 use Rattle.r4_leaf.specs.Units.{LeafUnit, bytes_behind, continues_entries, continues_tail, entry_bytes, unit_bytes}
-
--- the last of the units, or what stood before them
-abbrev pub last_or : Option LeafUnit → List LeafUnit → Option LeafUnit
-last_or before [] = before
-last_or before (u ∷ us) = last_or (Some u) us
 
 last_at : (u : LeafUnit) (us : List LeafUnit) → last_or (Some u) us ≡ slice_get (u ∷ us) (length us)
 last_at u [] = refl

@@ -6,3 +6,4 @@ pub mod Filling
 pub mod Packing
 pub mod Remade
 pub mod Runs
+pub mod Measure

@@ -1,6 +1,6 @@
 -- A leaf of which several runs of units go and to which several items come (docs/volume.md, "Leaves").
 use Rattle.std.specs.Prelude.{ℕ, ◌≤◌, List, [], ◌∷◌, replicate}
-use Rattle.r4_base.specs.Cell.{item_end, item_units}
+use Rattle.r4_base.specs.Cell.{item_end, item_units, units_in}
 use Rattle.r4_base.specs.Key.{rank}
 use Rattle.r4_base.specs.Node.{Item}
 use Rattle.r4_base.specs.declared.key.Key.{Key}
@@ -33,6 +33,10 @@ cut_all (c ∷ cs) us = cut_all cs (cut_units (rank c.from) (rank c.to) us)
 abbrev pub put_all : List Given → List LeafUnit → List LeafUnit
 put_all [] us = us
 put_all (g ∷ gs) us = put_all gs (put_units (item_units (item_of g)) us)
+
+-- the units of a leaf's items after these edits
+abbrev pub units_after : List KeyRange → List Given → List Item → List LeafUnit
+units_after cuts items leaf = put_all items (cut_all cuts (units_in leaf))
 
 -- Each item may be put in, one after another.
 abbrev pub CanPutAll : List Given → List LeafUnit → Type 0

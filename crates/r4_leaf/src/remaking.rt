@@ -1,17 +1,18 @@
 //! A leaf of which several runs of units go and to which several items come (docs/volume.md, "Leaves").
 
-ghost use Rattle.std.specs.Prelude.{◌≡◌, ◌<◌, ◌≤◌, ℕ, IfOk, OnOk};
+ghost use Rattle.std.specs.Prelude.{◌≡◌, ◌-◌, ◌^◌, ◌<◌, ◌≤◌, ℕ, min, IfOk, OnOk};
 ghost use Rattle.r4_base.specs.Cell.{item_end, item_units, units_in};
 ghost use Rattle.r4_base.specs.Key.{rank};
 ghost use Rattle.r4_node40.specs.View.{view_items};
 ghost use Rattle.r4_leaf.specs.Items.{IsSoundItem, Lie};
 ghost use Rattle.r4_leaf.specs.Leaves.{AreApart, AreFew, HaveMkfsId, MayBePut, Packs};
 ghost use Rattle.r4_leaf.specs.Pieces.{Adds, Follow, units_of};
-ghost use Rattle.r4_leaf.specs.Remade.{AddsItem, AreWithin, CanPutAll, cut_all, filled_tail, item_of, put_all};
+ghost use Rattle.r4_leaf.specs.Remade.{AddsItem, AreWithin, CanPutAll, cut_all, filled_tail, item_of, put_all, units_after};
 ghost use Rattle.r4_leaf.specs.Units.{leaf_bytes, put_units};
 
 use crate::cutting::cut_pieces;
 use crate::leaf::Leaf;
+use crate::measuring::bytes_of;
 use crate::merging::put_pieces;
 use crate::packing::pack;
 use crate::piece::Piece;
@@ -45,7 +46,8 @@ pub enum Given<'a> {
 }
 
 /// The leaves that a leaf becomes without the units of some ranges of keys, and then with some items, for the range of the
-/// leaf, which begins at `lo`. The leaf is built anew once.
+/// leaf, which begins at `lo`. The leaf is taken apart once. A leaf is filled before the next one is begun. All have the
+/// given mkfs_id (docs/volume.md, "Leaves").
 pub fn remake<'a>(
     alloc: Global,
     leaf: &NodeView<'a>,
@@ -54,20 +56,62 @@ pub fn remake<'a>(
     cuts: &[KeyRange],
     items: &[Given<'a>],
 ) -> Result<Vec<Leaf>, Memory>
-    requires leaf { (hi : ℕ) × (Lie (rank lo) hi (view_items leaf.now) × AreWithin (rank lo) hi items.now) }
+    requires leaf { (hi : ℕ) × (Lie (rank lo) hi (view_items leaf.now)
+        × AreWithin (rank lo) hi items.now) }
     requires can { CanPutAll items.now (cut_all cuts.now (units_in (view_items leaf.now))) }
-    ensures packs { IfOk result (λ v. (hi : ℕ) → Lie (rank lo) hi (view_items leaf.now) → AreWithin (rank lo) hi items.now
-        → Packs (rank lo) hi (put_all items.now (cut_all cuts.now (units_in (view_items leaf.now)))) v.items) }
-    ensures few { IfOk result (λ v. (hi : ℕ) → Lie (rank lo) hi (view_items leaf.now) → AreWithin (rank lo) hi items.now
-        → leaf_bytes (put_all items.now (cut_all cuts.now (units_in (view_items leaf.now)))) < 58912
-        → AreFew (put_all items.now (cut_all cuts.now (units_in (view_items leaf.now)))) v.items) }
+    ensures packs { IfOk result (λ v. (hi : ℕ) → Lie (rank lo) hi (view_items leaf.now)
+        → AreWithin (rank lo) hi items.now
+        → Packs (rank lo) hi (units_after cuts.now items.now (view_items leaf.now)) v.items) }
+    ensures few { IfOk result (λ v. (hi : ℕ) → Lie (rank lo) hi (view_items leaf.now)
+        → AreWithin (rank lo) hi items.now
+        → leaf_bytes (units_after cuts.now items.now (view_items leaf.now)) < 58912
+        → AreFew (units_after cuts.now items.now (view_items leaf.now)) v.items) }
     ensures mkfs_id { IfOk result (λ v. HaveMkfsId mkfs_id v.items) }
 {
+    let mut pieces = pieces_after(alloc, leaf, lo, cuts, items)?;
+    pieces.reverse();
+    pack(alloc, lo, mkfs_id, pieces)
+}
+
+/// How many bytes the units take up that a leaf is to have after these edits, headers and all: the number by which `remake`
+/// needs one leaf or more (docs/volume.md, "Leaves"). It is at most 2^64 - 1, and no leaf is made.
+pub fn bytes_after<'a>(
+    alloc: Global,
+    leaf: &NodeView<'a>,
+    lo: Key,
+    cuts: &[KeyRange],
+    items: &[Given<'a>],
+) -> Result<u64, Memory>
+    requires leaf { (hi : ℕ) × (Lie (rank lo) hi (view_items leaf.now)
+        × AreWithin (rank lo) hi items.now) }
+    requires can { CanPutAll items.now (cut_all cuts.now (units_in (view_items leaf.now))) }
+    ensures { IfOk result (λ n. n
+        ≡ min (leaf_bytes (units_after cuts.now items.now (view_items leaf.now))) (2 ^ 64 - 1)) }
+{
+    let pieces = pieces_after(alloc, leaf, lo, cuts, items)?;
+    Ok(bytes_of(&pieces))
+}
+
+// The pieces that a leaf is to have, of which it is measured and packed.
+fn pieces_after<'a>(
+    alloc: Global,
+    leaf: &NodeView<'a>,
+    lo: Key,
+    cuts: &[KeyRange],
+    items: &[Given<'a>],
+) -> Result<Vec<Piece<'a>>, Memory>
+    requires leaf { (hi : ℕ) × (Lie (rank lo) hi (view_items leaf.now)
+        × AreWithin (rank lo) hi items.now) }
+    requires can { CanPutAll items.now (cut_all cuts.now (units_in (view_items leaf.now))) }
+    ensures units { IfOk result (λ v.
+        units_of v.items ≡ units_after cuts.now items.now (view_items leaf.now)) }
+    ensures follow { IfOk result (λ v. (hi : ℕ) → Lie (rank lo) hi (view_items leaf.now)
+        → AreWithin (rank lo) hi items.now → Follow (rank lo) hi v.items) }
+{
+    let _ = lo;
     let pieces = pieces_of(alloc, leaf)?;
     let left = cut_each(alloc, pieces, cuts)?;
-    let mut all = put_each(alloc, left, items)?;
-    all.reverse();
-    pack(alloc, lo, mkfs_id, all)
+    put_each(alloc, left, items)
 }
 
 /// The pieces without the units of each of these ranges.

@@ -26,12 +26,17 @@ leaves_remade-requires c =
 pub replace-requires-clause-path : goal.replace-requires-clause-path
 replace-requires-clause-path c =
     let (t, (r, is)) = c.requires.path in
-    let at = remade arc_value c.args.path.now c.index-path-count.result c.index-path-count.is c.args.fresh.now c.args.cuts.now c.args.items.now t r is in
-    (t, (r, (
-      after_edits c.args.cuts.now c.args.items.now (arc_value c.index-path-count.result),
-      replaced arc_value c.args.path.now c.index-path-count.result c.index-path-count.is c.args.fresh.now (after_edits c.args.cuts.now c.args.items.now)
-          (remake_some arc_value c.args.path.now c.index-path-count.result c.index-path-count.is c.args.fresh.now c.args.cuts.now c.args.items.now t r is) t r c.in_ok-leaves.leaves.items c.deref.result.now c.deref.ensures at.edited c.in_ok-leaves.ensures.leaves c.in_ok-leaves.ensures.mkfs_id c.requires.numbers.1,
-    )))
+    let at = remade arc_value c.args.path.now c.index-path-count.result c.index-path-count.is c.args.fresh.now c.args.cuts.now c.args.items.now t r is in (
+      t,
+      (
+        r,
+        (
+          after_edits c.args.cuts.now c.args.items.now (arc_value c.index-path-count.result),
+          replaced arc_value c.args.path.now c.index-path-count.result c.index-path-count.is c.args.fresh.now (after_edits c.args.cuts.now c.args.items.now)
+              (remake_some arc_value c.args.path.now c.index-path-count.result c.index-path-count.is c.args.fresh.now c.args.cuts.now c.args.items.now t r is) t r c.in_ok-leaves.leaves.items c.deref.result.now c.deref.ensures at.edited c.in_ok-leaves.ensures.leaves c.in_ok-leaves.ensures.mkfs_id c.requires.numbers.1,
+        ),
+      ),
+    )
 
 pub returns-clause-meets : goal.returns-clause-meets
 returns-clause-meets c =

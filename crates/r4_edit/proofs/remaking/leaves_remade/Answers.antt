@@ -17,10 +17,13 @@ remake-requires c =
     let stands = lent_stands c.args.leaf.now c.requires.level c.args.leaf.now.block c.args.leaf.now.lo refl refl c.node.ensures.whole c.node.ensures.stands in
     let lie = stand_lie (rank c.args.leaf.now.lo) (rank c.args.leaf.now.hi) c.args.leaf.now.block stands (inl c.requires.range) in
     record {
-      leaf = (rank c.args.leaf.now.hi, (
-        subst (λ (k : Key). Lie (rank k) (rank c.args.leaf.now.hi) (view_items c.node.result)) (sym c.lo.ensures) (subst (Lie (rank c.args.leaf.now.lo) (rank c.args.leaf.now.hi)) (sym c.node.ensures.items) lie),
-        subst (λ (k : Key). AreWithin (rank k) (rank c.args.leaf.now.hi) c.args.items.now) (sym c.lo.ensures) c.requires.within,
-      ));
+      leaf = (
+        rank c.args.leaf.now.hi,
+        (
+          subst (λ (k : Key). Lie (rank k) (rank c.args.leaf.now.hi) (view_items c.node.result)) (sym c.lo.ensures) (subst (Lie (rank c.args.leaf.now.lo) (rank c.args.leaf.now.hi)) (sym c.node.ensures.items) lie),
+          subst (λ (k : Key). AreWithin (rank k) (rank c.args.leaf.now.hi) c.args.items.now) (sym c.lo.ensures) c.requires.within,
+        ),
+      );
       can = subst (λ (us : List LeafUnit). CanPutAll c.args.items.now (cut_all c.args.cuts.now us)) (sym (lent_units c.args.leaf.now c.requires.level (view_items c.node.result) c.node.ensures.items)) c.requires.can;
     }
 

@@ -4,45 +4,33 @@ use Rattle.std.proofs.lemmas.Result.{IfOk-weaker}
 use Rattle.r4_base.specs.Key.{rank}
 use Rattle.r4_leaf.specs.Leaves.{Packs}
 use Rattle.r4_leaf.specs.Pieces.{Follow, units_of}
-use Rattle.r4_leaf.specs.Remade.{CanPutAll, cut_all, put_all}
+use Rattle.r4_leaf.specs.Remade.{units_after}
 use Rattle.r4_leaf.specs.Units.{LeafUnit}
-use Rattle.r4_base.specs.Cell.{units_in}
 use Rattle.r4_node40.specs.View.{view_items}
 use Rattle.r4_leaf.proofs.Counted.{are_few}
 use Rattle.r4_leaf.proofs.remaking.remake.Goals as goal
-
-pub put_each-requires-clause-pieces : goal.put_each-requires-clause-pieces
-put_each-requires-clause-pieces c =
-    let (hi, (lie, within)) = c.requires.leaf in
-    (rank c.args.lo, hi, (c.in_ok-left.ensures.follow (rank c.args.lo) hi (c.in_ok-pieces.ensures.follow (rank c.args.lo) hi lie), within))
-
-pub put_each-requires-clause-can : goal.put_each-requires-clause-can
-put_each-requires-clause-can c =
-    subst (CanPutAll c.args.items.now) (sym (c.in_ok-left.ensures.units ∙ ap (cut_all c.args.cuts.now) c.in_ok-pieces.ensures.units)) c.requires.can
 
 pub pack-requires : goal.pack-requires
 pack-requires c =
     let (hi, (lie, within)) = c.requires.leaf in (
       hi,
-      subst (Follow (rank c.args.lo) hi) (sym (ap reverse c.reverse.ensures.items ∙ reverse-reverse c.in_ok-all.all.items))
-          (c.in_ok-all.ensures.follow (rank c.args.lo) hi (c.in_ok-left.ensures.follow (rank c.args.lo) hi (c.in_ok-pieces.ensures.follow (rank c.args.lo) hi lie)) within),
+      subst (Follow (rank c.args.lo) hi) (sym (ap reverse c.reverse.ensures.items ∙ reverse-reverse c.in_ok-pieces.pieces.items))
+          (c.in_ok-pieces.ensures.follow hi lie within),
     )
 
 pub returns-clause-packs : goal.returns-clause-packs
 returns-clause-packs c =
-    let back = ap reverse c.reverse.ensures.items ∙ reverse-reverse c.in_ok-all.all.items in
-    let us = ap units_of back ∙ (c.in_ok-all.ensures.units ∙ ap (put_all c.args.items.now) (c.in_ok-left.ensures.units ∙ ap (cut_all c.args.cuts.now) c.in_ok-pieces.ensures.units)) in
+    let back = ap reverse c.reverse.ensures.items ∙ reverse-reverse c.in_ok-pieces.pieces.items in
+    let us = ap units_of back ∙ c.in_ok-pieces.ensures.units in
     IfOk-weaker c.pack.result _ _ (λ v packs hi lie within.
     subst (λ (xs : List LeafUnit). Packs (rank c.args.lo) hi xs v.items) us
-    (packs hi (subst (Follow (rank c.args.lo) hi) (sym back)
-    (c.in_ok-all.ensures.follow (rank c.args.lo) hi (c.in_ok-left.ensures.follow (rank c.args.lo) hi (c.in_ok-pieces.ensures.follow (rank c.args.lo) hi lie)) within)))) c.pack.ensures.packs
+    (packs hi (subst (Follow (rank c.args.lo) hi) (sym back) (c.in_ok-pieces.ensures.follow hi lie within)))) c.pack.ensures.packs
 
 pub returns-clause-few : goal.returns-clause-few
 returns-clause-few c =
-    let back = ap reverse c.reverse.ensures.items ∙ reverse-reverse c.in_ok-all.all.items in
-    let us = ap units_of back ∙ (c.in_ok-all.ensures.units ∙ ap (put_all c.args.items.now) (c.in_ok-left.ensures.units ∙ ap (cut_all c.args.cuts.now) c.in_ok-pieces.ensures.units)) in
+    let back = ap reverse c.reverse.ensures.items ∙ reverse-reverse c.in_ok-pieces.pieces.items in
+    let us = ap units_of back ∙ c.in_ok-pieces.ensures.units in
     IfOk-weaker c.pack.result _ _ (λ v packs hi lie within small.
-    are_few (rank c.args.lo) hi (put_all c.args.items.now (cut_all c.args.cuts.now (units_in (view_items c.args.leaf.now)))) v.items
+    are_few (rank c.args.lo) hi (units_after c.args.cuts.now c.args.items.now (view_items c.args.leaf.now)) v.items
     (subst (λ (xs : List LeafUnit). Packs (rank c.args.lo) hi xs v.items) us
-    (packs hi (subst (Follow (rank c.args.lo) hi) (sym back)
-    (c.in_ok-all.ensures.follow (rank c.args.lo) hi (c.in_ok-left.ensures.follow (rank c.args.lo) hi (c.in_ok-pieces.ensures.follow (rank c.args.lo) hi lie)) within)))) small) c.pack.ensures.packs
+    (packs hi (subst (Follow (rank c.args.lo) hi) (sym back) (c.in_ok-pieces.ensures.follow hi lie within)))) small) c.pack.ensures.packs
