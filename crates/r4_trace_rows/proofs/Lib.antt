@@ -1,0 +1,4 @@
+mod Checked
+mod Refused
+mod Replied
+mod Shown
