@@ -13,7 +13,7 @@ pub use histories::{
     acknowledged_are_first, all_that_began, answers_may_follow, commits_are_in_order,
     finished_is_whole, first_atoms_stay, jobs_may_grow, less_may_be_named, places_tell,
 };
-pub use laws::line_law;
+pub use laws::{line_law, trace_text_grows};
 pub use safety::{Images, named_is_crash_safe, steps_stay_safe, what_a_trace_promises};
 pub use text::line;
 pub use trace::Trace;

@@ -1,7 +1,7 @@
 //! Laws of what a crash leaves (docs/traces.md). Each is the contract of a function that does
 //! nothing.
 
-ghost use Rattle.std.specs.Prelude.{◌≡◌, ◌≤◌, ◌∷◌, ℕ, true, List, Option, Some};
+ghost use Rattle.std.specs.Prelude.{◌≡◌, ◌≤◌, ◌∷◌, [], ℕ, true, List, Option, Some};
 ghost use Rattle.r4_base.specs.Image.{Image};
 ghost use Rattle.r4_base.specs.Value.{Content};
 ghost use Rattle.r4_base.specs.declared.things.AtomNo.{AtomNo};
@@ -25,12 +25,17 @@ pub trait Images {
     ghost means: { Image → Content → Type 0 };
 }
 
-/// What a crash leaves stays found: where an entry follows that makes no atom durable; where
-/// the device is called and no entry follows; where the last of these calls makes the sealed
-/// atom durable, and its Committed entry follows with the clock of then; and where such an
-/// entry follows for an atom that changed nothing. The last clause says of any step which
+/// What a crash leaves is found as a run begins, where every image that a crash then leaves has
+/// the content at the start; and it stays found: where an entry follows that makes no atom
+/// durable; where the device is called and no entry follows; where the last of these calls makes
+/// the sealed atom durable, and its Committed entry follows with the clock of then; and where such
+/// an entry follows for an atom that changed nothing. The last clause says of any step which
 /// moments are to be looked at.
 pub fn steps_stay_safe<D: Device, M: Images>(old: &D, new: &D)
+    ensures start { (w : Meaning Command Reply) (x : Content)
+        → ((image : Image) → Leaves (D.state old.now) (D.state old.now).clock image
+        → M.means image x)
+        → IsSafeFrom M.means w x (D.state old.now).clock [] (D.state old.now) }
     ensures entry { (w : Meaning Command Reply) (x : Content) (t : ℕ)
         (older : List Entry) (e : Entry) → IsOrdered (e ∷ older) → IsNoCommit e
         → IsSafeFrom M.means w x t older (D.state old.now)

@@ -52,14 +52,21 @@ is_some None a = false
 is_some (Some b) a = b == a
 
 abbrev may_follow : List Entry → Entry → Bool
-may_follow older (Begin u q) = (u.0 == begun_in older + 1) && each_begun (λ t s. not (s == q.0) || is_ended older t) older
+may_follow older (Begin u q) =
+    (u.0 == begun_in older + 1) && each_begun (λ t s. not (s == q.0) || is_ended older t) older
 may_follow older (Fuse a b n) = nat_lt a.0 b.0 && (is_unsealed older a.0 && is_unsealed older b.0)
 may_follow older (Done u q i c r) = is_open older u.0 q.0
 may_follow older (Refused u q i r) = (u.0 == 0) || is_open older u.0 q.0
 may_follow older (Ended u) = is_open older u.0 (script_of older u.0)
-may_follow older (Sealed a) = is_unsealed older a.0 && (each_begun (λ t s. is_ended older t || not (atom_in older t == a.0)) older && (sealed_in older == committed_in older))
-may_follow older (Committed a c) = is_some (last_sealed older) a.0 && ((sealed_in older == committed_in older + 1) && nat_le (latest older) c)
-may_follow older (Acked q u c) = (u.0 == last_of older q.0) && (each_begun (λ t s. not (s == q.0) || is_committed older (atom_in older t)) older && nat_le (latest older) c)
+may_follow older (Sealed a) =
+    is_unsealed older a.0 &&
+    (each_begun (λ t s. is_ended older t || not (atom_in older t == a.0)) older &&
+    (sealed_in older == committed_in older))
+may_follow older (Committed a c) =
+    is_some (last_sealed older) a.0 && ((sealed_in older == committed_in older + 1) && nat_le (latest older) c)
+may_follow older (Acked q u c) =
+    (u.0 == last_of older q.0) &&
+    (each_begun (λ t s. not (s == q.0) || is_committed older (atom_in older t)) older && nat_le (latest older) c)
 may_follow older (Broken c f) = nat_le (latest older) c
 
 abbrev is_reopen : Reply → ℕ → Bool
@@ -90,7 +97,12 @@ begun_true (e ∷ older) t s is = begun_true older t s is
 
 ended_true : (l : List Entry) (t : ℕ) → is_ended l t ≡ true → IsEnded l t
 ended_true [] t is = absurd (true≢false (sym is))
-ended_true (Ended u ∷ older) t is = elim (or_cases (t == u.0) (is_ended older t) is) [ inl h ↦ inl (eqb-true t u.0 h) | inr h ↦ inr (ended_true older t h) ]
+ended_true (Ended u ∷ older) t is =
+    elim (or_cases (t == u.0) (is_ended older t) is) [
+      | inl h ↦ inl (eqb-true t u.0 h)
+      | inr h ↦
+          inr (ended_true older t h)
+    ]
 ended_true (e ∷ older) t is = ended_true older t is
 
 true_ended : (l : List Entry) (t : ℕ) → IsEnded l t → is_ended l t ≡ true
@@ -107,13 +119,19 @@ true_sealed (e ∷ older) a h = true_sealed older a h
 
 committed_true : (l : List Entry) (a : ℕ) → is_committed l a ≡ true → IsCommitted l a
 committed_true [] a is = absurd (true≢false (sym is))
-committed_true (Committed b c ∷ older) a is = elim (or_cases (a == b.0) (is_committed older a) is) [ inl h ↦ inl (eqb-true a b.0 h) | inr h ↦ inr (committed_true older a h) ]
+committed_true (Committed b c ∷ older) a is =
+    elim (or_cases (a == b.0) (is_committed older a) is) [
+      | inl h ↦ inl (eqb-true a b.0 h)
+      | inr h ↦
+          inr (committed_true older a h)
+    ]
 committed_true (e ∷ older) a is = committed_true older a is
 
 each_true : (p : ℕ → ℕ → Bool) (l : List Entry) (t s : ℕ) → each_begun p l ≡ true → IsBegun l t s → p t s ≡ true
 each_true p [] t s is h = absurd h
 each_true p (Begin u q ∷ older) t s is (inl h) = cc (h.0, h.1, (and_parts (p u.0 q.0) (each_begun p older) is).0)
-each_true p (Begin u q ∷ older) t s is (inr h) = each_true p older t s (and_parts (p u.0 q.0) (each_begun p older) is).1 h
+each_true p (Begin u q ∷ older) t s is (inr h) =
+    each_true p older t s (and_parts (p u.0 q.0) (each_begun p older) is).1 h
 each_true p (e ∷ older) t s is h = each_true p older t s is h
 
 not_both : (b : Bool) → not b ≡ true → b ≡ true → ⊥
@@ -144,40 +162,62 @@ follow_true : (older : List Entry) (e : Entry) → may_follow older e ≡ true �
 follow_true older (Begin u q) is =
     let p = and_parts (u.0 == begun_in older + 1) (each_begun (λ t s. not (s == q.0) || is_ended older t) older) is in (
       eqb-true u.0 (begun_in older + 1) p.0,
-      λ t opn. elim (or_cases (not (q.0 == q.0)) (is_ended older t) (each_true (λ t s. not (s == q.0) || is_ended older t) older t q.0 p.1 opn.0)) [
-        | inl h ↦ not_both (q.0 == q.0) h (eq-eqb q.0 q.0 refl)
-        | inr h ↦ opn.1 (ended_true older t h)
-      ],
+      λ t opn. elim
+          (or_cases (not (q.0 == q.0)) (is_ended older t)
+          (each_true (λ t s. not (s == q.0) || is_ended older t) older t q.0 p.1 opn.0)) [
+            | inl h ↦ not_both (q.0 == q.0) h (eq-eqb q.0 q.0 refl)
+            | inr h ↦ opn.1 (ended_true older t h)
+          ],
     )
 follow_true older (Fuse a b n) is =
     let p = and_parts (nat_lt a.0 b.0) (is_unsealed older a.0 && is_unsealed older b.0) is in
     let q = and_parts (is_unsealed older a.0) (is_unsealed older b.0) p.1 in
     (ltb-true a.0 b.0 p.0, unsealed_true older a.0 q.0, unsealed_true older b.0 q.1)
 follow_true older (Done u q i c r) is = open_true older u.0 q.0 is
-follow_true older (Refused u q i r) is = elim (or_cases (u.0 == 0) (is_open older u.0 q.0) is) [ inl h ↦ inl (eqb-true u.0 0 h) | inr h ↦ inr (open_true older u.0 q.0 h) ]
+follow_true older (Refused u q i r) is =
+    elim (or_cases (u.0 == 0) (is_open older u.0 q.0) is) [
+      | inl h ↦ inl (eqb-true u.0 0 h)
+      | inr h ↦
+          inr (open_true older u.0 q.0 h)
+    ]
 follow_true older (Ended u) is = (script_of older u.0, open_true older u.0 (script_of older u.0) is)
 follow_true older (Sealed a) is =
-    let p = and_parts (is_unsealed older a.0) (each_begun (λ t s. is_ended older t || not (atom_in older t == a.0)) older && (sealed_in older == committed_in older)) is in
-    let q = and_parts (each_begun (λ t s. is_ended older t || not (atom_in older t == a.0)) older) (sealed_in older == committed_in older) p.1 in (
+    let p = and_parts (is_unsealed older a.0)
+    (each_begun (λ t s. is_ended older t || not (atom_in older t == a.0)) older &&
+    (sealed_in older == committed_in older)) is in
+    let q = and_parts (each_begun (λ t s. is_ended older t || not (atom_in older t == a.0)) older)
+    (sealed_in older == committed_in older) p.1 in (
       unsealed_true older a.0 p.0,
-      λ t s opn same. elim (or_cases (is_ended older t) (not (atom_in older t == a.0)) (each_true (λ t s. is_ended older t || not (atom_in older t == a.0)) older t s q.0 opn.0)) [
-        | inl h ↦ opn.1 (ended_true older t h)
-        | inr h ↦ not_both (atom_in older t == a.0) h (eq-eqb (atom_in older t) a.0 same)
-      ],
+      λ t s opn same. elim
+          (or_cases (is_ended older t) (not (atom_in older t == a.0))
+          (each_true (λ t s. is_ended older t || not (atom_in older t == a.0)) older t s q.0 opn.0)) [
+            | inl h ↦ opn.1 (ended_true older t h)
+            | inr h ↦ not_both (atom_in older t == a.0) h (eq-eqb (atom_in older t) a.0 same)
+          ],
       eqb-true (sealed_in older) (committed_in older) q.1,
     )
 follow_true older (Committed a c) is =
-    let p = and_parts (is_some (last_sealed older) a.0) ((sealed_in older == committed_in older + 1) && nat_le (latest older) c) is in
-    let q = and_parts (sealed_in older == committed_in older + 1) (nat_le (latest older) c) p.1 in
-    (some_true (last_sealed older) a.0 p.0, eqb-true (sealed_in older) (committed_in older + 1) q.0, leb-true (latest older) c q.1)
+    let p = and_parts (is_some (last_sealed older) a.0)
+    ((sealed_in older == committed_in older + 1) && nat_le (latest older) c) is in
+    let q = and_parts (sealed_in older == committed_in older + 1) (nat_le (latest older) c) p.1 in (
+      some_true (last_sealed older) a.0 p.0,
+      eqb-true (sealed_in older) (committed_in older + 1) q.0,
+      leb-true
+          (latest older) c q.1,
+    )
 follow_true older (Acked s u c) is =
-    let p = and_parts (u.0 == last_of older s.0) (each_begun (λ t q. not (q == s.0) || is_committed older (atom_in older t)) older && nat_le (latest older) c) is in
-    let q = and_parts (each_begun (λ t q. not (q == s.0) || is_committed older (atom_in older t)) older) (nat_le (latest older) c) p.1 in (
+    let p = and_parts (u.0 == last_of older s.0)
+    (each_begun (λ t q. not (q == s.0) || is_committed older (atom_in older t)) older && nat_le
+    (latest older) c) is in
+    let q = and_parts (each_begun (λ t q. not (q == s.0) || is_committed older (atom_in older t)) older)
+    (nat_le (latest older) c) p.1 in (
       eqb-true u.0 (last_of older s.0) p.0,
-      λ t h. elim (or_cases (not (s.0 == s.0)) (is_committed older (atom_in older t)) (each_true (λ t q. not (q == s.0) || is_committed older (atom_in older t)) older t s.0 q.0 h)) [
-        | inl n ↦ absurd (not_both (s.0 == s.0) n (eq-eqb s.0 s.0 refl))
-        | inr is ↦ committed_true older (atom_in older t) is
-      ],
+      λ t h. elim
+          (or_cases (not (s.0 == s.0)) (is_committed older (atom_in older t))
+          (each_true (λ t q. not (q == s.0) || is_committed older (atom_in older t)) older t s.0 q.0 h)) [
+            | inl n ↦ absurd (not_both (s.0 == s.0) n (eq-eqb s.0 s.0 refl))
+            | inr is ↦ committed_true older (atom_in older t) is
+          ],
       leb-true (latest older) c q.1,
     )
 follow_true older (Broken c f) is = leb-true (latest older) c is
@@ -187,7 +227,8 @@ reopen_true (Reopen d) c is = ap Reopen (eqb-true d c is)
 reopen_true r c is = absurd (true≢false (sym is))
 
 reopens_true : (c : ℕ) (e : Entry) → reopens c e ≡ true → Reopens c e
-reopens_true c (Refused u q i r) is = let p = and_parts (u.0 == 0) (is_reopen r c) is in (eqb-true u.0 0 p.0, reopen_true r c p.1)
+reopens_true c (Refused u q i r) is = let p =
+    and_parts (u.0 == 0) (is_reopen r c) is in (eqb-true u.0 0 p.0, reopen_true r c p.1)
 reopens_true c e is = absurd (true≢false (sym is))
 
 come_true : (o : Option ℕ) (e : Entry) → may_come_now o e ≡ true → MayComeNow o e

@@ -104,15 +104,14 @@ twice_answered =
 
 -- ---- replies
 
-asked_stat : List Entry
+abbrev asked_stat : List Entry
 asked_stat = ends 1 ∷ done 1 1 1 (command.Stat []) (Has new_directory) ∷ begins 1 1 ∷ []
 
 stat_replies : HasItsReplies (commands greatest_size) empty_volume everything asked_stat
-unfolding asked_stat rank key_of_name name_fault bad_byte packed r5_from to_ends to_entry to_file to_free to_object to_parent
+unfolding rank key_of_name name_fault bad_byte packed r5_from to_ends to_entry to_file to_free to_object to_parent
 stat_replies = on_fresh greatest_size asked_stat refl
 
 pub no_other_reply : HasItsReplies (commands greatest_size) empty_volume everything (reverse other_reply) → ⊥
-unfolding asked_stat
 no_other_reply h =
     let wrong : Okay ≡ reply greatest_size (command.Stat []) empty_volume = h.0 refl in
     let right : Has new_directory ≡ reply greatest_size (command.Stat []) empty_volume = stat_replies.0 refl in

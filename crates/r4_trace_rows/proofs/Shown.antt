@@ -71,36 +71,53 @@ on_fresh_volume job trace order replies ids ended answers = record {
 
 -- ---- the traces
 
+-- what an entry answers, and what the older ones do
+also : {A B : Type 0} → A → B → A × B
+also a b = (a, b)
+
 waiting_answers : IsAnswered waiting_job (reverse waiting)
-waiting_answers = ((refl, refl), (tt, (tt, ((1, (refl, inl refl)), ((refl, (tt, refl), refl), ((2, (refl, inl refl)), ((refl, (tt, refl), refl), ((refl, (tt, refl), refl), (tt, ((refl, (tt, refl), refl), ((refl, tt), ((refl, tt), tt))))))))))))
+waiting_answers =
+    also (refl, refl) (also tt (also tt (also (1, (refl, inl refl)) (also (refl, (tt, refl), refl) (
+    also (2, (refl, inl refl)) (also (refl, (tt, refl), refl) (also (refl, (tt, refl), refl) (also tt (
+    also (refl, (tt, refl), refl) (also (refl, tt) (also (refl, tt) tt)))))))))))
 
 pub waiting_legal : IsLegal (commands greatest_size) (Some fresh) (Some waiting_job) (reverse waiting)
 unfolding rank key_of_name name_fault bad_byte packed r5_from to_ends to_entry to_file to_free to_object to_parent
 waiting_legal = on_fresh_volume waiting_job (reverse waiting) refl refl refl refl waiting_answers
 
 captured_answers : IsAnswered captured_job (reverse captured)
-captured_answers = (tt, (tt, ((refl, refl), (tt, ((2, refl), ((refl, (tt, refl), refl), ((refl, tt), (tt, ((2, refl), ((refl, (tt, refl), refl), (tt, ((refl, tt), ((1, refl), ((refl, (tt, refl), refl), ((refl, tt), tt)))))))))))))))
+captured_answers =
+    also tt (also tt (also (refl, refl) (also tt (also (2, refl) (also (refl, (tt, refl), refl) (
+    also (refl, tt) (also tt (also (2, refl) (also (refl, (tt, refl), refl) (also tt (also (refl, tt) (
+    also (1, refl) (also (refl, (tt, refl), refl) (also (refl, tt) tt))))))))))))))
 
 pub captured_legal : IsLegal (commands greatest_size) (Some fresh) (Some captured_job) (reverse captured)
 unfolding rank key_of_name name_fault bad_byte packed r5_from to_ends to_entry to_file to_free to_object to_parent
 captured_legal = on_fresh_volume captured_job (reverse captured) refl refl refl refl captured_answers
 
 failing_answers : IsAnswered failing_job (reverse failing)
-failing_answers = ((refl, refl), ((refl, refl), (tt, (tt, ((1, refl), ((refl, (tt, refl), refl), ((refl, tt), tt)))))))
+failing_answers =
+    also (refl, refl) (also (refl, refl) (also tt (also tt (also (1, refl) (
+    also (refl, (tt, refl), refl) (also (refl, tt) tt))))))
 
 pub failing_legal : IsLegal (commands greatest_size) (Some fresh) (Some failing_job) (reverse failing)
 unfolding rank key_of_name name_fault bad_byte packed r5_from to_ends to_entry to_file to_free to_object to_parent
 failing_legal = on_fresh_volume failing_job (reverse failing) refl refl refl refl failing_answers
 
 usual_answers : IsAnswered usual_job (reverse usual)
-usual_answers = ((refl, refl), (tt, (tt, ((1, refl), ((refl, (tt, refl), refl), (tt, ((refl, tt), ((1, refl), ((refl, (tt, refl), refl), (tt, ((refl, tt), ((1, refl), ((refl, (tt, refl), refl), ((refl, tt), tt))))))))))))))
+usual_answers =
+    also (refl, refl) (also tt (also tt (also (1, refl) (also (refl, (tt, refl), refl) (also tt (
+    also (refl, tt) (also (1, refl) (also (refl, (tt, refl), refl) (also tt (also (refl, tt) (
+    also (1, refl) (also (refl, (tt, refl), refl) (also (refl, tt) tt)))))))))))))
 
 pub usual_legal : IsLegal (commands greatest_size) (Some fresh) (Some usual_job) (reverse usual)
 unfolding rank key_of_name name_fault bad_byte packed r5_from to_ends to_entry to_file to_free to_object to_parent
 usual_legal = on_fresh_volume usual_job (reverse usual) refl refl refl refl usual_answers
 
 inside_answers : IsAnswered inside_job (reverse inside)
-inside_answers = (tt, (tt, ((1, (refl, inr refl)), ((refl, (tt, refl), refl), (tt, ((2, refl), ((refl, (tt, refl), refl), ((refl, tt), ((refl, tt), tt)))))))))
+inside_answers =
+    also tt (also tt (also (1, (refl, inr refl)) (also (refl, (tt, refl), refl) (also tt (
+    also (2, refl) (also (refl, (tt, refl), refl) (also (refl, tt) (also (refl, tt) tt))))))))
 
 pub inside_legal : IsLegal (commands greatest_size) (Some fresh) (Some inside_job) (reverse inside)
 unfolding rank key_of_name name_fault bad_byte packed r5_from to_ends to_entry to_file to_free to_object to_parent
@@ -108,7 +125,9 @@ inside_legal = on_fresh_volume inside_job (reverse inside) refl refl refl refl i
 
 apart_answers : IsAnswered apart_job (reverse apart)
 apart_answers =
-    ((refl, refl), (tt, (tt, ((refl, refl), (tt, (tt, ((2, refl), ((refl, (tt, refl), refl), ((refl, tt), ((1, refl), ((refl, (tt, refl), refl), ((refl, tt), tt))))))))))))
+    also (refl, refl) (also tt (also tt (also (refl, refl) (also tt (also tt (also (2, refl) (
+    also (refl, (tt, refl), refl) (also (refl, tt) (also (1, refl) (also (refl, (tt, refl), refl) (
+    also (refl, tt) tt)))))))))))
 
 pub apart_legal : IsLegal (commands greatest_size) (Some with_files) (Some apart_job) (reverse apart)
 unfolding rank key_of_name name_fault bad_byte packed r5_from to_ends to_entry to_file to_free to_object to_parent
@@ -125,7 +144,9 @@ apart_legal =
     }
 
 failing_work_answers : IsAnswered failing_work_job (reverse failing_work)
-failing_work_answers = ((refl, refl), ((refl, refl), (tt, ((refl, tt), ((refl, tt), (tt, ((1, refl), ((refl, (tt, refl), refl), ((refl, tt), tt)))))))))
+failing_work_answers =
+    also (refl, refl) (also (refl, refl) (also tt (also (refl, tt) (also (refl, tt) (also tt (
+    also (1, refl) (also (refl, (tt, refl), refl) (also (refl, tt) tt))))))))
 
 single_not_answered : (s : ℕ) (n t : ℕ) (w : Within) → w ≡ Single n → w ≡ Answered t → ⊥
 single_not_answered s n t w is h = cc (is, h)
@@ -134,10 +155,17 @@ failing_work_closed : AllClosed failing_work_job (reverse failing_work)
 failing_work_closed s t is =
     let order = ordered_true (reverse failing_work) refl in
     let opn = place_open (commands_of failing_work_job s) (reverse failing_work) t s order (ap txn_in is) in
-    let at : (n : ℕ) → s ≡ n → (place (commands_of failing_work_job n) (reverse failing_work) n).within ≡ Answered t = λ n same. subst (λ (x : ℕ). (place (commands_of failing_work_job x) (reverse failing_work) x).within ≡ Answered t) same is in
-    by_case (reverse failing_work) t s opn.0 opn.1 (λ same. single_not_answered 3 3 t _ refl (at 3 same)) (λ same. single_not_answered 2 2 t _ refl (at 2 same))
+    let at : (n : ℕ) → s ≡ n
+    → (place (commands_of failing_work_job n) (reverse failing_work) n).within ≡ Answered t =
+    λ n same. subst
+    (λ (x : ℕ). (place (commands_of failing_work_job x) (reverse failing_work) x).within
+    ≡ Answered t) same is in
+    by_case (reverse failing_work) t s opn.0 opn.1 (λ same. single_not_answered 3 3 t _ refl (at 3 same))
+    (λ same. single_not_answered 2 2 t _ refl (at 2 same))
   where
-    by_case : (l : List Entry) (t s : ℕ) → (((t ≡ 3) × (s ≡ 3)) ⊎ (((t ≡ 2) × (s ≡ 2)) ⊎ (((t ≡ 1) × (s ≡ 1)) ⊎ ⊥))) → (((t ≡ 1) ⊎ ⊥) → ⊥) → (s ≡ 3 → ⊥) → (s ≡ 2 → ⊥) → ⊥
+    by_case : (l : List Entry) (t s : ℕ)
+        → (((t ≡ 3) × (s ≡ 3)) ⊎ (((t ≡ 2) × (s ≡ 2)) ⊎ (((t ≡ 1) × (s ≡ 1)) ⊎ ⊥))) → (((t ≡ 1) ⊎ ⊥) → ⊥)
+        → (s ≡ 3 → ⊥) → (s ≡ 2 → ⊥) → ⊥
     by_case l t s (inl h) un three two = three h.1
     by_case l t s (inr (inl h)) un three two = two h.1
     by_case l t s (inr (inr (inl h))) un three two = un (inl h.0)
@@ -148,6 +176,14 @@ unfolding rank key_of_name name_fault bad_byte packed r5_from to_ends to_entry t
 failing_work_legal =
     let order = ordered_true (reverse failing_work) refl in
     record {
-      so_far = record { order = order; replies = on_fresh greatest_size (reverse failing_work) refl; ids = new_ids_true fresh failing_work_job (reverse failing_work) unused refl; answers = failing_work_answers };
+      so_far =
+          record {
+            order = order;
+            replies = on_fresh greatest_size
+                (reverse failing_work) refl;
+            ids =
+                new_ids_true fresh failing_work_job (reverse failing_work) unused refl;
+            answers = failing_work_answers;
+          };
       closed = failing_work_closed;
     }

@@ -1,10 +1,12 @@
 -- Small traces and their jobs, each the oldest entry first (docs/traces.md).
-use Rattle.std.specs.Prelude.{ℕ, List, [], ◌∷◌, codes}
+use Rattle.std.specs.Prelude.{ℕ, List, [], ◌∷◌, codes, reverse, Some}
 use Rattle.std.specs.FinMap.{from_sorted}
 use Rattle.r4_base.specs.Value.{Stat, Entry as NameEntry, Byte}
 use Rattle.r4_base.specs.Volume.{byte_rank, empty_volume, root_object, stat_rank}
 use Rattle.r4_content.specs.Edited.{Pairs}
 use Rattle.r4_content.specs.Examples.{made}
+use Rattle.r4_content.specs.Locality.{commands as commands_mean}
+use Rattle.r4_content.specs.Meaning.{greatest_size}
 use Rattle.r4_content.specs.Objects.{entry_rank, new_directory, new_file, sized}
 use Rattle.r4_content.specs.declared.command.Command.{Command}
 use Rattle.r4_content.specs.declared.command.Command.TheVariants as commands
@@ -16,6 +18,7 @@ use Rattle.r4_trace.specs.Traced.{broken_at}
 use Rattle.r4_trace.specs.Order.{IsOrdered, MayComeNow, MayFollow}
 use Rattle.r4_trace.specs.Job.{Asked}
 use Rattle.r4_trace.specs.Ids.{Start}
+use Rattle.r4_trace.specs.Legal.{IsLegal, IsLegalSoFar}
 
 -- ---- entries by their numbers
 
@@ -59,6 +62,15 @@ mkdir p n = commands.Mkdir p (record { 0 = n })
 
 abbrev pub write : List (List ℕ) → ℕ → List ℕ → Command
 write p n text = commands.Write p n text
+
+-- The trace, the oldest entry first, is legal for the start and the job.
+abbrev pub IsLegalFor : Start → Asked → List Entry → Type 0
+IsLegalFor start job trace =
+    IsLegal (commands_mean greatest_size) (Some start) (Some job) (reverse trace)
+
+abbrev pub IsLegalSoFarFor : Start → Asked → List Entry → Type 0
+IsLegalSoFarFor start job trace =
+    IsLegalSoFar (commands_mean greatest_size) (Some start) (Some job) (reverse trace)
 
 -- a fresh volume, which has no object of an id from 65536 on
 abbrev pub fresh : Start
