@@ -15,9 +15,9 @@ use Rattle.r4_trace.specs.declared.entry.Entry.{Entry}
 use Rattle.r4_trace.specs.Folds.{HasItsReplies, everything}
 use Rattle.r4_trace.specs.Ids.{HasNewIds, Start}
 use Rattle.r4_trace.specs.Job.{Asked, IsAnswered}
-use Rattle.r4_trace.specs.Legal.{IsLegal, IsLegalSoFar}
+use Rattle.r4_trace.specs.Legal.{IsLegal, IsLegalSoFar, RepliesFrom}
 use Rattle.r4_trace.specs.Order.{MayFollow}
-use Rattle.r4_trace_rows.specs.Examples.{ComesTooLate, MayNotFollow, acks_early, asking_job, begins, begins_the_third, begins_twice, clock_falls, commits_another, commits_broken, does_for_another, done, draws_twice, ends, ends_twice, fresh, keeps_the_gone, keeps_the_larger, other_reply, seals_none, seals_open, seals_two, stays_open, usual_job}
+use Rattle.r4_trace_rows.specs.Examples.{ComesTooLate, MayNotFollow, acks_early, begins, begins_the_third, begins_twice, clock_falls, commits_another, commits_broken, does_for_another, done, draws_twice, ends, ends_twice, fresh, keeps_the_gone, keeps_the_larger, other_reply, seals_none, seals_open, seals_two, skips, stat_job, stays_open, two_stats_job, usual_job}
 use Rattle.r4_trace_rows.proofs.Checked.{is_ordered, ordered_true}
 use Rattle.r4_trace_rows.proofs.Replied.{on_fresh}
 use Rattle.r4_trace_rows.proofs.Shown.{ids_on_fresh, so_far_on_fresh}
@@ -96,7 +96,18 @@ pub open_so_far : IsLegalSoFar (commands greatest_size) (Some fresh) (Some usual
 unfolding rank key_of_name name_fault bad_byte packed r5_from to_ends to_entry to_file to_free to_object to_parent
 open_so_far = so_far_on_fresh usual_job (reverse stays_open) refl refl refl ((refl, (tt, refl), refl), ((refl, tt), tt))
 
+pub skips_replies : RepliesFrom (commands greatest_size) (Some fresh) (reverse skips)
+unfolding rank key_of_name name_fault bad_byte packed r5_from to_ends to_entry to_file to_free to_object to_parent
+skips_replies = on_fresh greatest_size (reverse skips) refl
+
+pub skips_ids : HasNewIds (Some fresh) (Some two_stats_job) (reverse skips)
+skips_ids = ids_on_fresh two_stats_job (reverse skips) refl
+
 -- ---- ids
+
+pub twice_replied : RepliesFrom (commands greatest_size) (Some fresh) (reverse draws_twice)
+unfolding rank key_of_name name_fault bad_byte packed r5_from to_ends to_entry to_file to_free to_object to_parent
+twice_replied = on_fresh greatest_size (reverse draws_twice) refl
 
 pub twice_answered : IsAnswered usual_job (reverse draws_twice)
 twice_answered =
@@ -118,8 +129,8 @@ no_other_reply h =
     let same : Okay ≡ Has new_directory = wrong ∙ sym right in
     absurd (cc same)
 
-pub other_answered : IsAnswered asking_job (reverse other_reply)
+pub other_answered : IsAnswered stat_job (reverse other_reply)
 other_answered = ((1, refl), ((refl, (tt, refl), refl), ((refl, tt), tt)))
 
-pub other_ids : HasNewIds (Some fresh) (Some asking_job) (reverse other_reply)
-other_ids = ids_on_fresh asking_job (reverse other_reply) refl
+pub other_ids : HasNewIds (Some fresh) (Some stat_job) (reverse other_reply)
+other_ids = ids_on_fresh stat_job (reverse other_reply) refl

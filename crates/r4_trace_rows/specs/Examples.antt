@@ -337,9 +337,15 @@ commits_broken = one_sealed (Broken 8 1 ∷ commits 1 12 ∷ [])
 
 -- ---- traces in order that are not legal for their job or their start
 
+abbrev pub stat_job : Asked
+stat_job = (commands.Stat [] ∷ []) ∷ []
+
+abbrev pub two_stats_job : Asked
+two_stats_job = (commands.Stat [] ∷ commands.Stat [] ∷ []) ∷ []
+
 -- the second command of a script is answered first
 abbrev pub skips : List Entry
-skips = begins 1 1 ∷ done 1 1 2 (write hosts 0 local) Okay ∷ ends 1 ∷ []
+skips = begins 1 1 ∷ done 1 1 2 (commands.Stat []) (Has new_directory) ∷ ends 1 ∷ []
 
 -- the transaction of a single command does not end
 abbrev pub stays_open : List Entry
@@ -357,8 +363,5 @@ draws_twice =
     ∷ []
 
 -- the reply is another one
-abbrev pub asking_job : Asked
-asking_job = (commands.Stat [] ∷ []) ∷ []
-
 abbrev pub other_reply : List Entry
 other_reply = begins 1 1 ∷ done 1 1 1 (commands.Stat []) Okay ∷ ends 1 ∷ []

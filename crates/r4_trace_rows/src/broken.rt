@@ -10,9 +10,9 @@ ghost use Rattle.r4_trace.specs.declared.entry.Entry.{Entry};
 ghost use Rattle.r4_trace.specs.Folds.{HasItsReplies, everything};
 ghost use Rattle.r4_trace.specs.Ids.{HasNewIds, Start};
 ghost use Rattle.r4_trace.specs.Job.{AllClosed, Asked, IsAnswered};
-ghost use Rattle.r4_trace.specs.Legal.{IsLegal};
+ghost use Rattle.r4_trace.specs.Legal.{IsLegal, RepliesFrom};
 ghost use Rattle.r4_trace.specs.Order.{IsOrdered};
-ghost use Rattle.r4_trace_rows.specs.Examples.{ComesTooLate, IsLegalSoFarFor, MayNotFollow, acks_early, asking_job, begins_the_third, begins_twice, clock_falls, commits_another, commits_broken, does_for_another, draws_twice, ends_twice, fresh, keeps_the_gone, keeps_the_larger, other_reply, seals_none, seals_open, seals_two, skips, stays_open, usual_job};
+ghost use Rattle.r4_trace_rows.specs.Examples.{ComesTooLate, IsLegalSoFarFor, MayNotFollow, acks_early, begins_the_third, begins_twice, clock_falls, commits_another, commits_broken, does_for_another, draws_twice, ends_twice, fresh, keeps_the_gone, keeps_the_larger, other_reply, seals_none, seals_open, seals_two, skips, stat_job, stays_open, two_stats_job, usual_job};
 
 /// Traces that are in order up to their last entry, which may not follow; so they are legal for no
 /// meaning of commands, start or job.
@@ -37,29 +37,32 @@ pub fn refused_by_order()
         → IsLegal w start job trace → ⊥ }
 {}
 
-/// Traces that are in order, and do not answer what was asked: one whose script's first command is
-/// passed over; and one that is legal so far, whose transaction of a single command has to end.
+/// Traces that are legal but for what was asked: one whose script's first command is passed over;
+/// and one that is legal so far, whose transaction of a single command has to end.
 pub fn refused_by_the_job()
-    ensures skips { IsOrdered (reverse skips) × (IsAnswered usual_job (reverse skips) → ⊥) }
+    ensures skips { IsOrdered (reverse skips)
+        × RepliesFrom (commands greatest_size) (Some fresh) (reverse skips)
+        × HasNewIds (Some fresh) (Some two_stats_job) (reverse skips)
+        × (IsAnswered two_stats_job (reverse skips) → ⊥) }
     ensures stays_open { IsLegalSoFarFor fresh usual_job stays_open
         × (AllClosed usual_job (reverse stays_open) → ⊥) }
 {}
 
-/// A trace that is in order and answers what was asked, with one id for two objects; so it is legal
-/// for no start.
+/// A trace that is legal but for its ids, since two objects have one; so it is legal for no start.
 pub fn refused_by_ids()
     ensures draws_twice { IsOrdered (reverse draws_twice)
+        × RepliesFrom (commands greatest_size) (Some fresh) (reverse draws_twice)
         × IsAnswered usual_job (reverse draws_twice)
         × ((start : Option Start) (job : Option Asked)
         → HasNewIds start job (reverse draws_twice) → ⊥) }
 {}
 
-/// A trace that is in order and answers what was asked, with another reply than the command has on
-/// the content of then.
+/// A trace that is legal but for a reply, which is another than the command has on the content of
+/// then.
 pub fn refused_by_replies()
     ensures other_reply { IsOrdered (reverse other_reply)
-        × IsAnswered asking_job (reverse other_reply)
-        × HasNewIds (Some fresh) (Some asking_job) (reverse other_reply)
+        × IsAnswered stat_job (reverse other_reply)
+        × HasNewIds (Some fresh) (Some stat_job) (reverse other_reply)
         × (HasItsReplies (commands greatest_size) empty_volume everything (reverse other_reply)
         → ⊥) }
 {}
