@@ -14,7 +14,9 @@ pub use histories::{
     finished_is_whole, first_atoms_stay, jobs_may_grow, less_may_be_named, places_tell,
 };
 pub use laws::{line_law, trace_text_grows};
-pub use safety::{Images, named_is_crash_safe, steps_stay_safe, what_a_trace_promises};
+pub use safety::{
+    Images, fresh_images_are_empty, named_is_crash_safe, steps_stay_safe, what_a_trace_promises,
+};
 pub use text::line;
 pub use trace::Trace;
 

@@ -1,9 +1,12 @@
 //! Laws of what a crash leaves (docs/traces.md). Each is the contract of a function that does
 //! nothing.
 
-ghost use Rattle.std.specs.Prelude.{◌≡◌, ◌≤◌, ◌∷◌, [], ℕ, true, List, Option, Some};
+ghost use Rattle.std.specs.Prelude.{◌≡◌, ◌≤◌, ◌∷◌, [], ℕ, true, List, length, Option, Some};
+ghost use Rattle.r4_base.specs.Fresh.{IsFreshImage};
 ghost use Rattle.r4_base.specs.Image.{Image};
 ghost use Rattle.r4_base.specs.Value.{Content};
+ghost use Rattle.r4_base.specs.Volume.{empty_volume};
+ghost use Rattle.r4_base.specs.declared.limits.TheConstants.{FIRST_OBJECT};
 ghost use Rattle.r4_base.specs.declared.things.AtomNo.{AtomNo};
 ghost use Rattle.r4_content.specs.Locality.{Meaning};
 ghost use Rattle.r4_content.specs.declared.command.Command.{Command};
@@ -13,7 +16,7 @@ ghost use Rattle.r4_trace.specs.declared.entry.Entry.{Entry};
 ghost use Rattle.r4_trace.specs.declared.entry.Entry.TheVariants.{Committed};
 ghost use Rattle.r4_trace.specs.Traced.{IsSaid, committed_in, is_first, latest, sealed_in};
 ghost use Rattle.r4_trace.specs.Order.{IsOrdered};
-ghost use Rattle.r4_trace.specs.Safe.{AddsNothing, CommitStep, HasFirst, Holds, IsCrashSafe, IsNoCommit, IsSafeFrom, Moments, Step};
+ghost use Rattle.r4_trace.specs.Safe.{AddsNothing, CommitStep, HasFirst, Holds, IsCrashSafe, IsNoCommit, IsSafeFrom, IsVolumeOf, Moments, Step};
 
 use r4_outside::Device;
 
@@ -99,3 +102,10 @@ pub fn what_a_trace_promises<D: Device, M: Images>(dev: &D)
 {
     let _ = dev;
 }
+
+/// A fresh image means the empty volume: its next id is the first one, and no block is lost.
+pub fn fresh_images_are_empty()
+    ensures { (n count : ℕ) (label : List ℕ) (image : Image) → length label ≡ 16
+        → 64 ≤ n → n ≤ 1048576 → IsFreshImage n label image
+        → IsVolumeOf n FIRST_OBJECT count (λ b. ⊥) image empty_volume }
+{}
