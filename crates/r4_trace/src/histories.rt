@@ -94,6 +94,13 @@ pub fn jobs_may_grow()
         → place (commands_of (pushed job s c) q) trace q ≡ place (commands_of job q) trace q }
 {}
 
+/// A trace that is legal so far was so before each of its entries.
+pub fn earlier_traces_are_legal()
+    ensures { (w : Meaning Command Reply) (start : Option Start) (job : Option Asked)
+        (older : List Entry) (e : Entry) → IsLegalSoFar w start job (e ∷ older)
+        → IsLegalSoFar w start job older }
+{}
+
 /// A run that names less promises less: a trace that is legal for a start and a job is legal
 /// where one of them is not named.
 pub fn less_may_be_named()
