@@ -18,7 +18,7 @@ is_ended [] t = false
 is_ended (Ended u ∷ older) t = (t == u.0) || is_ended older t
 is_ended (e ∷ older) t = is_ended older t
 
-abbrev is_sealed : List Entry → ℕ → Bool
+abbrev pub is_sealed : List Entry → ℕ → Bool
 is_sealed [] a = false
 is_sealed (Sealed b ∷ older) a = (a == b.0) || is_sealed older a
 is_sealed (e ∷ older) a = is_sealed older a
@@ -29,7 +29,7 @@ is_committed (Committed b c ∷ older) a = (a == b.0) || is_committed older a
 is_committed (e ∷ older) a = is_committed older a
 
 -- each transaction that was begun passes a test
-abbrev each_begun : (ℕ → ℕ → Bool) → List Entry → Bool
+abbrev pub each_begun : (ℕ → ℕ → Bool) → List Entry → Bool
 each_begun p [] = true
 each_begun p (Begin u q ∷ older) = p u.0 q.0 && each_begun p older
 each_begun p (e ∷ older) = each_begun p older
@@ -117,6 +117,14 @@ true_sealed (Sealed b ∷ older) a (inl is) = or_left (a == b.0) (is_sealed olde
 true_sealed (Sealed b ∷ older) a (inr h) = or_right (a == b.0) (is_sealed older a) (true_sealed older a h)
 true_sealed (e ∷ older) a h = true_sealed older a h
 
+pub sealed_true : (l : List Entry) (a : ℕ) → is_sealed l a ≡ true → IsSealed l a
+sealed_true [] a is = absurd (true≢false (sym is))
+sealed_true (Sealed b ∷ older) a is = elim (or_cases (a == b.0) (is_sealed older a) is) [
+  | inl h ↦ inl (eqb-true a b.0 h)
+  | inr h ↦ inr (sealed_true older a h)
+]
+sealed_true (e ∷ older) a is = sealed_true older a is
+
 committed_true : (l : List Entry) (a : ℕ) → is_committed l a ≡ true → IsCommitted l a
 committed_true [] a is = absurd (true≢false (sym is))
 committed_true (Committed b c ∷ older) a is =
@@ -127,7 +135,7 @@ committed_true (Committed b c ∷ older) a is =
     ]
 committed_true (e ∷ older) a is = committed_true older a is
 
-each_true : (p : ℕ → ℕ → Bool) (l : List Entry) (t s : ℕ) → each_begun p l ≡ true → IsBegun l t s → p t s ≡ true
+pub each_true : (p : ℕ → ℕ → Bool) (l : List Entry) (t s : ℕ) → each_begun p l ≡ true → IsBegun l t s → p t s ≡ true
 each_true p [] t s is h = absurd h
 each_true p (Begin u q ∷ older) t s is (inl h) = cc (h.0, h.1, (and_parts (p u.0 q.0) (each_begun p older) is).0)
 each_true p (Begin u q ∷ older) t s is (inr h) =

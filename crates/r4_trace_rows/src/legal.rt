@@ -1,5 +1,7 @@
 //! Traces that are legal.
 
+ghost use Rattle.std.specs.Prelude.{reverse};
+ghost use Rattle.r4_trace.specs.Legal.{IsWhole};
 ghost use Rattle.r4_trace_rows.specs.Examples.{IsLegalFor, apart, apart_job, captured, captured_job, failing, failing_job, failing_work, failing_work_job, fresh, inside, inside_job, usual, usual_job, waiting, waiting_job, with_files};
 
 /// Traces that are legal for their starts and jobs: two scripts that need nothing of each other;
@@ -14,4 +16,13 @@ pub fn legal_examples()
     ensures failing_work { IsLegalFor fresh failing_work_job failing_work }
     ensures usual { IsLegalFor fresh usual_job usual }
     ensures inside { IsLegalFor fresh inside_job inside }
+{}
+
+/// Those of them that no failure ends are whole.
+pub fn whole_examples()
+    ensures apart { IsWhole apart_job (reverse apart) }
+    ensures waiting { IsWhole waiting_job (reverse waiting) }
+    ensures captured { IsWhole captured_job (reverse captured) }
+    ensures usual { IsWhole usual_job (reverse usual) }
+    ensures inside { IsWhole inside_job (reverse inside) }
 {}

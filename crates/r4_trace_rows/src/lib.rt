@@ -6,4 +6,4 @@ mod broken;
 mod legal;
 
 pub use broken::{refused_by_ids, refused_by_order, refused_by_replies, refused_by_the_job};
-pub use legal::legal_examples;
+pub use legal::{legal_examples, whole_examples};
