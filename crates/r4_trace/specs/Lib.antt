@@ -1,3 +1,10 @@
+pub mod Folds
+pub mod Ids
+pub mod Job
 pub mod Kept
+pub mod Legal
+pub mod Order
+pub mod Safe
 pub mod Shown
 pub mod Text
+pub mod Traced

@@ -1,0 +1,5 @@
+mod Checked
+mod Finished
+mod Refused
+mod Replied
+mod Shown
