@@ -392,3 +392,14 @@ found_is met i x h = ap (λ (o : Option Shared). option_map (λ (y : Shared). ar
 
 pub missing_is : (met : List (ℕ × Shared)) (i : ℕ) → None ≡ lookup (nat_eq i) met → met_in met i ≡ None
 missing_is met i h = ap (λ (o : Option Shared). option_map (λ (y : Shared). arc_value y) o) (sym h)
+
+-- from no cells in memory, all is read from the device
+pub readable_empty : (d : State) (b : BufferSeen) (blocks : ℕ) → b.entries ≡ [] → IsReadable d b blocks
+readable_empty d b blocks empty = record {
+  accepted = λ i e h free. absurd (none i e h);
+  same = λ tells i e h free. absurd (none i e h);
+  names = λ i e h held. absurd (none i e h);
+}
+  where
+    none : (i : ℕ) (e : EntrySeen) → buffered b i ≡ Some e → ⊥
+    none i e h = none-some e (sym (ap (λ (es : List (ℕ × EntrySeen)). lookup (nat_eq i) es) empty) ∙ h)

@@ -10,6 +10,9 @@ use Rattle.r4_buffer.specs.declared.reading.InMemory.TheVariants.{Absent, Fits, 
 
 -- the cell of the name is refused by this, and captured
 abbrev pub IsInMemory : BufferSeen → Name → InMemory → Type 0
-IsInMemory b n (Fits cell) = (cell_at b n.id ≡ Some (arc_value cell.now)) × (place_fault n (arc_value cell.now) ≡ None)
-IsInMemory b n (Refused fault) = (is_captured b n.id ≡ true) × ((c : CellSeen) × (cell_at b n.id ≡ Some c) × (place_fault n c ≡ Some fault))
+IsInMemory b n (Fits cell) =
+    (cell_at b n.id ≡ Some (arc_value cell.now)) × (place_fault n (arc_value cell.now) ≡ None)
+IsInMemory b n (Refused fault) =
+    (is_captured b n.id ≡ true)
+    × ((c : CellSeen) × (cell_at b n.id ≡ Some c) × (place_fault n c ≡ Some fault))
 IsInMemory b n Absent = is_captured b n.id ≡ false

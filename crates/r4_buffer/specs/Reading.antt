@@ -40,8 +40,10 @@ met_in met i = option_map (λ cell. arc_value cell) (lookup (nat_eq i) met)
 abbrev pub captured_in : BufferSeen → ℕ → Option CellSeen
 captured_in b i = if is_captured b i then cell_at b i else None
 
--- What a step keeps: the cells that it met, and those that are captured. Each other name means its block of the device.
-abbrev pub reading_state : (root : Name) → State → BufferSeen → (blocks : ℕ) → List (ℕ × Shared) → PoolState
+-- What a step keeps: the cells that it met, and those that are captured. Each other name means its
+-- block of the device.
+abbrev pub reading_state :
+    (root : Name) → State → BufferSeen → (blocks : ℕ) → List (ℕ × Shared) → PoolState
 reading_state root d b blocks met = record {
   root = root;
   blocks = blocks;
@@ -50,18 +52,26 @@ reading_state root d b blocks met = record {
   meant = block_of d;
 }
 
+-- it may stand at its level and range, in memory
+abbrev pub StandsInMemory : CellSeen → Type 0
+StandsInMemory c = cell_fault true (2 ^ 64) c.level (rank c.lo) (rank c.hi) c.block ≡ None
+
 -- what a cell names is a block of the volume, or captured
 abbrev pub NamesStand : BufferSeen → (blocks : ℕ) → CellSeen → Type 0
-NamesStand b blocks c = (n : Name) → Contains (node_of c).names n → (nat_lt n.id blocks || is_captured b n.id) ≡ true
+NamesStand b blocks c = (n : Name) → Contains (node_of c).names n
+    → (nat_lt n.id blocks || is_captured b n.id) ≡ true
 
--- Cells in memory from which a step can read, on a volume of so many blocks: one that is not captured is accepted on disk,
--- and where the device tells what reading gives, it is the block of its name there; what a captured one names is a block or
--- captured.
+-- Cells in memory from which a step can read, on a volume of so many blocks: one that is not
+-- captured is accepted on disk, and where the device tells what reading gives, it is the block of
+-- its name there; what a captured one names is a block or captured.
 pub record IsReadable (d : State) (b : BufferSeen) (blocks : ℕ) : Type 0 where
   pub accepted : (i : ℕ) (e : EntrySeen) → buffered b i ≡ Some e → is_captured b i ≡ false
       → cell_fault false blocks e.cell.level (rank e.cell.lo) (rank e.cell.hi) e.cell.block ≡ None
-  pub same : TellsReads d → (i : ℕ) (e : EntrySeen) → buffered b i ≡ Some e → is_captured b i ≡ false → e.cell.block ≡ block_at d.seen i
-  pub names : (i : ℕ) (e : EntrySeen) → buffered b i ≡ Some e → is_captured b i ≡ true → NamesStand b blocks e.cell
+  pub same : TellsReads d → (i : ℕ) (e : EntrySeen)
+      → buffered b i ≡ Some e → is_captured b i ≡ false
+      → e.cell.block ≡ block_at d.seen i
+  pub names : (i : ℕ) (e : EntrySeen) → buffered b i ≡ Some e → is_captured b i ≡ true
+      → NamesStand b blocks e.cell
 
 -- each entry stands under its cell's name
 abbrev pub AreNamed : BufferSeen → Type 0
@@ -70,7 +80,7 @@ AreNamed b = (i : ℕ) (e : EntrySeen) → buffered b i ≡ Some e → e.cell.id
 -- Each cell that was met has its name, may stand there in memory, and names what stands.
 pub record IsMet (b : BufferSeen) (blocks i : ℕ) (c : CellSeen) : Type 0 where
   pub id : c.id ≡ i
-  pub stands : cell_fault true (2 ^ 64) c.level (rank c.lo) (rank c.hi) c.block ≡ None
+  pub stands : StandsInMemory c
   pub names : NamesStand b blocks c
 
 abbrev pub AreMet : BufferSeen → (blocks : ℕ) → List (ℕ × Shared) → Type 0
@@ -83,7 +93,8 @@ IsAgain n c (Damaged at fault) = (at.0 ≡ n.id) × (place_fault n c ≡ Some fa
 IsAgain n c NoRoom = Unit {0}
 
 -- the cell is among those that were met from then on; where there is no memory nothing more is
-abbrev pub Keeps : {T : Type 0} → List (ℕ × Shared) → CellSeen → Result T FetchFault → List (ℕ × Shared) → Type 0
+abbrev pub Keeps : {T : Type 0} →
+    List (ℕ × Shared) → CellSeen → Result T FetchFault → List (ℕ × Shared) → Type 0
 Keeps old c (Ok x) new = (i : ℕ) → met_in new i ≡ (if c.id == i then Some c else met_in old i)
 Keeps old c (Err (Read at faults)) new = ⊥
 Keeps old c (Err (Damaged at fault)) new = ⊥

@@ -1,5 +1,8 @@
 -- What contracts see of the cells in memory (docs/buffer.md). A key is its rank.
-use Rattle.std.specs.Prelude.{◌≡◌, ◌⊎◌, ℕ, ◌==◌, ◌&&◌, ◌||◌, not, nat_eq, nat_le, nat_lt, List, Bool, true, false, Option, Some, None, count_by}
+use Rattle.std.specs.Prelude.{◌≡◌, ◌⊎◌, ℕ, ◌==◌, ◌&&◌, ◌||◌, not, nat_eq, nat_le, nat_lt, List, Bool, true, false, Option, Some, None, count_by, map}
+use Rattle.std.specs.Arc.{arc_value}
+use Rattle.std.specs.declared.sync.Arc as arc_declared
+use Rattle.std.specs.Global.{Global}
 use Rattle.std.specs.List.{list_any, IsDistinct}
 use Rattle.std.specs.Map.{keys_of, values_of, lookup}
 use Rattle.std.specs.Option.{option_map}
@@ -20,6 +23,10 @@ pub record BufferSeen : Type 0 where
 -- the entry of a name
 abbrev pub buffered : BufferSeen → ℕ → Option EntrySeen
 buffered b i = lookup (nat_eq i) b.entries
+
+-- the cells that are shared
+abbrev pub cells_of : List (arc_declared.Arc CellSeen Global) → List CellSeen
+cells_of cells = map (λ c. arc_value c) cells
 
 abbrev pub cell_at : BufferSeen → ℕ → Option CellSeen
 cell_at b i = option_map (λ e. e.cell) (buffered b i)
@@ -42,7 +49,8 @@ idle_count b = count_by is_idle (values_of b.entries)
 
 -- a is an ancestor of c, by range: its level is higher, and its range has the least key of c
 abbrev pub is_above : (a c : CellSeen) → Bool
-is_above a c = nat_lt c.level a.level && (nat_le (rank a.lo) (rank c.lo) && nat_lt (rank c.lo) (rank a.hi))
+is_above a c =
+    nat_lt c.level a.level && (nat_le (rank a.lo) (rank c.lo) && nat_lt (rank c.lo) (rank a.hi))
 
 -- whether a cell is an ancestor of a dirty one
 abbrev pub is_above_dirty : BufferSeen → CellSeen → Bool

@@ -14,8 +14,8 @@ use std::collections::HashMap;
 use std::marker::Model;
 use std::sync::Arc;
 
-/// The cells in memory, each under its name: **dirty**, where an atom owns it; **used**, by so many tasks that are out; or
-/// neither (docs/buffer.md).
+/// The cells in memory, each under its name: **dirty**, where an atom owns it; **used**, by so many
+/// tasks that are out; or neither (docs/buffer.md).
 #[derive(Drop)]
 pub struct Buffer {
     pub(crate) entries: HashMap<u64, Entry>,

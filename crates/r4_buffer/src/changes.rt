@@ -3,7 +3,7 @@
 ghost use Rattle.std.specs.Prelude.{◌≡◌, ◌≢◌, ℕ, ◌+◌, ◌-◌, ◌<◌, ◌≤◌, ◌==◌, ◌&&◌, not, length, map, None, Some, if◌then◌else◌};
 ghost use Rattle.std.specs.Arc.{arc_value};
 ghost use Rattle.std.specs.Option.{option_map};
-ghost use Rattle.r4_buffer.specs.Seen.{EntrySeen, buffered, is_captured, is_dirty_by};
+ghost use Rattle.r4_buffer.specs.Seen.{EntrySeen, buffered, cells_of, is_captured, is_dirty_by};
 ghost use Rattle.r4_buffer.specs.Changed.{cleaned, dropped, forgotten, in_turn, laid_aside, marked, placed, renamed, replaced, taken, unused, used, uses_of};
 
 use crate::buffer::Buffer;
@@ -13,12 +13,13 @@ use r4_cell::Cell;
 use std::sync::Arc;
 
 impl Buffer {
-    /// One more task uses each of these cells, in order: an entry is made where there is none, one that nobody uses and that
-    /// is clean is replaced, and each other one is counted. It takes no memory, and room for each of these cells.
+    /// One more task uses each of these cells, in order: an entry is made where there is none, one
+    /// that nobody uses and that is clean is replaced, and each other one is counted. It takes no
+    /// memory, and room for each of these cells.
     pub fn use_all(&mut self, met: Vec<Arc<Cell>>)
         requires { length met.items ≤ self.old.spare }
         ensures buffered { (i : ℕ) → buffered self.new i ≡
-            in_turn used (map (λ c. arc_value c) met.items) i (buffered self.old i) }
+            in_turn used (cells_of met.items) i (buffered self.old i) }
         ensures spare { self.new.spare + length met.items ≡ self.old.spare }
     {
         for cell in met {
@@ -28,7 +29,8 @@ impl Buffer {
 
     fn use_one(&mut self, cell: Arc<Cell>)
         requires { 0 < self.old.spare }
-        ensures buffered { (i : ℕ) → buffered self.new i ≡ used (arc_value cell) i (buffered self.old i) }
+        ensures buffered { (i : ℕ) →
+            buffered self.new i ≡ used (arc_value cell) i (buffered self.old i) }
         ensures spare { self.new.spare + 1 ≡ self.old.spare }
     {
         let id = cell.id();
@@ -41,9 +43,11 @@ impl Buffer {
         }
     }
 
-    /// One task less uses each of these names, in order. A name that has no cell is passed over. It takes no memory.
+    /// One task less uses each of these names, in order. A name that has no cell is passed over. It
+    /// takes no memory.
     pub fn unuse(&mut self, ids: &[NodeId])
-        ensures buffered { (i : ℕ) → buffered self.new i ≡ in_turn unused ids.now i (buffered self.old i) }
+        ensures buffered { (i : ℕ) →
+            buffered self.new i ≡ in_turn unused ids.now i (buffered self.old i) }
         ensures spare { self.new.spare ≡ self.old.spare }
     {
         for id in ids {
@@ -61,7 +65,8 @@ impl Buffer {
 
     /// These names are dirty no more. It takes no memory.
     pub fn clean(&mut self, ids: &[NodeId])
-        ensures buffered { (i : ℕ) → buffered self.new i ≡ in_turn cleaned ids.now i (buffered self.old i) }
+        ensures buffered { (i : ℕ) →
+            buffered self.new i ≡ in_turn cleaned ids.now i (buffered self.old i) }
         ensures spare { self.new.spare ≡ self.old.spare }
     {
         for id in ids {
@@ -77,12 +82,13 @@ impl Buffer {
         self.mark(id, uses, false);
     }
 
-    /// Puts cells in place of others: the names of `old` that are not among the new ones go; each new cell stands dirty,
-    /// with the uses of its name. It takes no memory, and room for each new cell.
+    /// Puts cells in place of others: the names of `old` that are not among the new ones go; each
+    /// new cell stands dirty, with the uses of its name. It takes no memory, and room for each new
+    /// cell.
     pub fn put(&mut self, old: &[Arc<Cell>], new: Vec<Arc<Cell>>)
         requires { length new.items ≤ self.old.spare }
         ensures buffered { (i : ℕ) → buffered self.new i ≡
-            replaced (map (λ c. arc_value c) old.now) (map (λ c. arc_value c) new.items) i (buffered self.old i) }
+            replaced (cells_of old.now) (cells_of new.items) i (buffered self.old i) }
         ensures spare { self.new.spare + length new.items ≡ self.old.spare }
     {
         self.lay_aside(old);
@@ -93,7 +99,7 @@ impl Buffer {
     // Old cells count as clean, so that the new ones can be told from them.
     fn lay_aside(&mut self, old: &[Arc<Cell>])
         ensures buffered { (i : ℕ) → buffered self.new i ≡
-            in_turn laid_aside (map (λ c. arc_value c) old.now) i (buffered self.old i) }
+            in_turn laid_aside (cells_of old.now) i (buffered self.old i) }
         ensures spare { self.new.spare ≡ self.old.spare }
     {
         for cell in old {
@@ -102,7 +108,8 @@ impl Buffer {
     }
 
     fn lay_one(&mut self, cell: &Cell)
-        ensures buffered { (i : ℕ) → buffered self.new i ≡ laid_aside cell.now i (buffered self.old i) }
+        ensures buffered { (i : ℕ) →
+            buffered self.new i ≡ laid_aside cell.now i (buffered self.old i) }
         ensures spare { self.new.spare ≡ self.old.spare }
     {
         let (uses, _) = self.marks(cell.id());
@@ -113,7 +120,7 @@ impl Buffer {
     fn place(&mut self, new: Vec<Arc<Cell>>)
         requires { length new.items ≤ self.old.spare }
         ensures buffered { (i : ℕ) → buffered self.new i ≡
-            in_turn placed (map (λ c. arc_value c) new.items) i (buffered self.old i) }
+            in_turn placed (cells_of new.items) i (buffered self.old i) }
         ensures spare { self.new.spare + length new.items ≡ self.old.spare }
     {
         for cell in new {
@@ -123,7 +130,8 @@ impl Buffer {
 
     fn place_one(&mut self, cell: Arc<Cell>)
         requires { 0 < self.old.spare }
-        ensures buffered { (i : ℕ) → buffered self.new i ≡ placed (arc_value cell) i (buffered self.old i) }
+        ensures buffered { (i : ℕ) →
+            buffered self.new i ≡ placed (arc_value cell) i (buffered self.old i) }
         ensures spare { self.new.spare + 1 ≡ self.old.spare }
     {
         let (uses, _) = self.marks(cell.id());
@@ -133,7 +141,7 @@ impl Buffer {
     // The old cells go that are still clean.
     fn take_clean(&mut self, old: &[Arc<Cell>])
         ensures buffered { (i : ℕ) → buffered self.new i ≡
-            in_turn taken (map (λ c. arc_value c) old.now) i (buffered self.old i) }
+            in_turn taken (cells_of old.now) i (buffered self.old i) }
         ensures spare { self.new.spare ≡ self.old.spare }
     {
         for cell in old {
@@ -150,13 +158,14 @@ impl Buffer {
         }
     }
 
-    /// A cell has another name now: it comes under that, with the uses of the old name and dirty as that was. A cell that
-    /// stands under the new name stays there, and is used by the tasks of both. Where the old name has no cell, all stays.
-    /// It takes no memory, and room for one cell.
+    /// A cell has another name now: it comes under that, with the uses of the old name and dirty as
+    /// that was. A cell that stands under the new name stays there, and is used by the tasks of
+    /// both. Where the old name has no cell, all stays. It takes no memory, and room for one cell.
     pub fn rename(&mut self, from: NodeId, cell: Arc<Cell>)
         requires another { from.0 ≢ (arc_value cell).id }
         requires room { 0 < self.old.spare }
-        ensures buffered { (i : ℕ) → buffered self.new i ≡ renamed self.old from.0 (arc_value cell) i }
+        ensures buffered { (i : ℕ) →
+            buffered self.new i ≡ renamed self.old from.0 (arc_value cell) i }
         ensures spare { self.new.spare + 1 ≡ self.old.spare }
     {
         let to = cell.id();
@@ -175,7 +184,8 @@ impl Buffer {
         }
     }
 
-    /// The cell of a block goes that will be written with something else, unless it is captured. It takes no memory.
+    /// The cell of a block goes that will be written with something else, unless it is captured. It
+    /// takes no memory.
     pub fn forget(&mut self, block: BlockNo)
         ensures buffered { (i : ℕ) → buffered self.new i ≡
             if block.0 == i then forgotten self.old (buffered self.old i) else buffered self.old i }
@@ -198,7 +208,8 @@ impl Buffer {
     // Marks an entry, where there is one.
     fn mark(&mut self, id: NodeId, uses: u32, dirty: bool)
         ensures buffered { (i : ℕ) → buffered self.new i ≡
-            if id.0 == i then option_map (marked uses dirty) (buffered self.old i) else buffered self.old i }
+            if id.0 == i then option_map (marked uses dirty) (buffered self.old i) else
+            buffered self.old i }
         ensures spare { self.new.spare ≡ self.old.spare }
     {
         if let Some(entry) = self.entries.get_mut(&id.0) {

@@ -6,18 +6,23 @@ ghost use Rattle.r4_cell.specs.Seen.{CellSeen};
 ghost use Rattle.r4_buffer.specs.Seen.{BufferSeen, EntrySeen, IsCaptured, IsLawful, Stays, StandsAs, buffered, is_above_dirty, is_captured};
 ghost use Rattle.r4_buffer.specs.Changed.{cleaned, forgotten, in_turn, renamed, swept, unused, used};
 
-/// A name is captured exactly where its entry is dirty, or by level and range an ancestor of an entry that is dirty.
+/// A name is captured exactly where its entry is dirty, or by level and range an ancestor of an
+/// entry that is dirty.
 pub fn captured_law()
     ensures { (b : BufferSeen) (i : ℕ) → IsLawful b → (is_captured b i ≡ true) ↔ IsCaptured b i }
 {}
 
-/// Each ancestor of a dirty cell stays, by its level and range, through every call but `put`; through `use_all` where the
-/// cells under its name have its level and range, and through `rename` where it is not the one that is renamed.
+/// Each ancestor of a dirty cell stays, by its level and range, through every call but `put`;
+/// through `use_all` where the cells under its name have its level and range, and through `rename`
+/// where it is not the one that is renamed.
 pub fn ancestors_law()
     ensures used { (i : ℕ) (e : EntrySeen) (met : List CellSeen)
-        → ((c : CellSeen) → Contains met c → c.id ≡ i → StandsAs e.cell c) → Stays e (in_turn used met i (Some e)) }
-    ensures unused { (i : ℕ) (e : EntrySeen) (ids : List NodeId) → Stays e (in_turn unused ids i (Some e)) }
-    ensures cleaned { (i : ℕ) (e : EntrySeen) (ids : List NodeId) → Stays e (in_turn cleaned ids i (Some e)) }
+        → ((c : CellSeen) → Contains met c → c.id ≡ i → StandsAs e.cell c)
+        → Stays e (in_turn used met i (Some e)) }
+    ensures unused { (i : ℕ) (e : EntrySeen) (ids : List NodeId)
+        → Stays e (in_turn unused ids i (Some e)) }
+    ensures cleaned { (i : ℕ) (e : EntrySeen) (ids : List NodeId)
+        → Stays e (in_turn cleaned ids i (Some e)) }
     ensures renamed { (b : BufferSeen) (i from : ℕ) (e : EntrySeen) (c : CellSeen)
         → buffered b i ≡ Some e → i ≢ from → Stays e (renamed b from c i) }
     ensures forgotten { (b : BufferSeen) (e : EntrySeen)

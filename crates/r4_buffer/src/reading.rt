@@ -2,10 +2,8 @@
 
 ghost use Rattle.std.specs.Prelude.{◌≡◌, ◌≤◌, ◌<◌, ◌^◌, ℕ, ◌==◌, IfOk, IfErr, None, true};
 ghost use Rattle.std.specs.Arc.{arc_value};
-ghost use Rattle.r4_base.specs.Cell.{cell_fault};
-ghost use Rattle.r4_base.specs.Key.{rank};
 ghost use Rattle.r4_search.specs.Pool.{called, place_fault};
-ghost use Rattle.r4_buffer.specs.Reading.{AreMet, AreNamed, IsAgain, IsReadable, Keeps, met_in, refused_as};
+ghost use Rattle.r4_buffer.specs.Reading.{AreMet, AreNamed, IsAgain, IsReadable, Keeps, StandsInMemory, met_in, refused_as};
 ghost use Rattle.r4_buffer.specs.InMemory.{IsInMemory};
 
 use crate::buffer::Buffer;
@@ -17,9 +15,10 @@ use std::alloc::Global;
 use std::collections::HashMap;
 use std::sync::Arc;
 
-/// A pool for one step over the cells in memory and a device, of the tree with this root on a volume of `blocks` blocks. A
-/// cell that was met answers again; then a cell in memory that fits; a captured one that is asked for with another level or
-/// range is `Damaged`; each other name is read from the device. So each block is read once (docs/buffer.md).
+/// A pool for one step over the cells in memory and a device, of the tree with this root on a
+/// volume of `blocks` blocks. A cell that was met answers again; then a cell in memory that fits; a
+/// captured one that is asked for with another level or range is `Damaged`; each other name is read
+/// from the device. So each block is read once (docs/buffer.md).
 #[derive(Drop)]
 pub struct Reading<'a, E: Device> {
     dev: E,
@@ -35,7 +34,8 @@ pub struct Reading<'a, E: Device> {
 }
 
 impl<'a, E: Device> Reading<'a, E> {
-    /// Nothing was met. The device has at least as many blocks as the volume, and the cells in memory can be read from.
+    /// Nothing was met. The device has at least as many blocks as the volume, and the cells in
+    /// memory can be read from.
     pub fn new(alloc: Global, dev: E, buffer: &'a Buffer, root: Root, blocks: u64) -> Reading<'a, E>
         requires within { blocks ≤ (E.state dev).blocks }
         requires readable { IsReadable (E.state dev) buffer.now blocks }
@@ -67,7 +67,8 @@ impl<'a, E: Device> Pool for Reading<'a, E> {
     ghost use Rattle.r4_search.specs.Path.{root_name};
     ghost use Rattle.r4_buffer.specs.Reading.{reading_state};
 
-    ghost state = { λ r. reading_state (root_name r.root) (E.state r.dev) r.buffer.now r.blocks r.met.entries };
+    ghost state = { λ r.
+        reading_state (root_name r.root) (E.state r.dev) r.buffer.now r.blocks r.met.entries };
 
     ghost device = { λ r. E.state r.dev };
 
@@ -159,7 +160,7 @@ fn again(
 // The same cell once more. What a cell is in memory is known of it then.
 fn shared(cell: &Arc<Cell>) -> Result<Arc<Cell>, Memory>
     ensures same { IfOk result (λ c. arc_value c ≡ arc_value cell.now) }
-    ensures stands { let c = arc_value cell.now in cell_fault true (2 ^ 64) c.level (rank c.lo) (rank c.hi) c.block ≡ None }
+    ensures stands { StandsInMemory (arc_value cell.now) }
 {
     stands(cell);
     Ok(Arc::try_clone(cell)?)
@@ -167,7 +168,7 @@ fn shared(cell: &Arc<Cell>) -> Result<Arc<Cell>, Memory>
 
 // What a cell is in memory.
 fn stands(cell: &Cell)
-    ensures { let c = cell.now in cell_fault true (2 ^ 64) c.level (rank c.lo) (rank c.hi) c.block ≡ None }
+    ensures { StandsInMemory cell.now }
 {
     if cell.level() == 0 {
         return;

@@ -14,8 +14,8 @@ use r4_cell::Cell;
 use std::alloc::Global;
 
 impl Buffer {
-    /// Whether the cell of a name is captured: it is dirty, or by its level and range an ancestor of a dirty one. All
-    /// entries are looked at where it is not dirty.
+    /// Whether the cell of a name is captured: it is dirty, or by its level and range an ancestor
+    /// of a dirty one. All entries are looked at where it is not dirty.
     pub fn is_captured(&self, id: NodeId) -> bool
         ensures { result ≡ is_captured self.now id.0 }
     {
@@ -25,11 +25,12 @@ impl Buffer {
         }
     }
 
-    /// Where more than `most` cells are neither dirty nor used, those of them go that are no ancestors of dirty ones; else all
-    /// stay. The only error is want of memory, and then all stay.
+    /// Where more than `most` cells are neither dirty nor used, those of them go that are no
+    /// ancestors of dirty ones; else all stay. The only error is want of memory, and then all stay.
     pub fn sweep(&mut self, alloc: Global, most: u64) -> Result<(), Memory>
         ensures ok { OnOk result ((i : ℕ) → buffered self.new i ≡
-            if nat_lt most (idle_count self.old) then swept self.old (buffered self.old i) else buffered self.old i) }
+            if nat_lt most (idle_count self.old) then swept self.old (buffered self.old i) else
+            buffered self.old i) }
         ensures err { OnErr result (self.new ≡ self.old) }
         ensures spare { self.new.spare ≡ self.old.spare }
     {
@@ -50,7 +51,8 @@ impl Buffer {
 
     // The names of the cells that are neither used nor captured.
     fn loose(&self, alloc: Global) -> Result<Vec<u64>, Memory>
-        ensures { IfOk result (λ v. v.items ≡ keys_of (filter (λ e. is_loose self.now e.1) self.now.entries)) }
+        ensures { IfOk result (λ v.
+            v.items ≡ keys_of (filter (λ e. is_loose self.now e.1) self.now.entries)) }
     {
         self.entries
             .iter()
@@ -67,7 +69,8 @@ impl Buffer {
 
     // Takes the entries of these names away.
     fn take_all(&mut self, ids: &[u64])
-        ensures buffered { (i : ℕ) → buffered self.new i ≡ in_turn dropped ids.now i (buffered self.old i) }
+        ensures buffered { (i : ℕ) →
+            buffered self.new i ≡ in_turn dropped ids.now i (buffered self.old i) }
         ensures spare { self.new.spare ≡ self.old.spare }
     {
         for id in ids {

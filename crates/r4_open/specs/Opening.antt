@@ -1,5 +1,5 @@
--- The superblocks and the bitmaps of a settled image: what is wrong with them, and where; and what an opening answers
--- (docs/layout.md, "Superblocks" and "Bitmaps").
+-- The superblocks and the bitmaps of a settled image: what is wrong with them, and where; and what
+-- an opening answers (docs/layout.md, "Superblocks" and "Bitmaps").
 use Rattle.std.specs.Prelude.{◌≡◌, ℕ, ◌<◌, List, [], length, slice_index_or, Option, Some, None, Result, Ok, Err}
 use Rattle.std.specs.BTreeMap.{BTreeMap}
 use Rattle.r4_base.specs.Bitmap.{bitmap_block, bitmap_count, bitmap_fault}
@@ -37,8 +37,8 @@ abbrev pub master_misfit : (n : ℕ) → Image → Result Master LayoutFault →
 master_misfit n image (Err f) = misfit 16 f
 master_misfit n image (Ok m) = format_misfit image (super_of n (block_at image 17))
 
--- The first fault of a settled image on a device of n blocks: of the master superblock, of the format superblock, of the
--- bitmaps, rising.
+-- The first fault of a settled image on a device of n blocks: of the master superblock, of the
+-- format superblock, of the bitmaps, rising.
 abbrev pub layout_misfit : (n : ℕ) → Image → Option Misfit
 layout_misfit n image = master_misfit n image (master_of (block_at image 16))
 
@@ -53,8 +53,8 @@ IsSettledBy d homes image = IsSettledFrom d (home_in homes) image
 abbrev pub Keeps : (n : ℕ) → (home : ℕ → ℕ) → Type 0
 Keeps n home = (b : ℕ) → b < n → home b < n
 
--- The superblock and the bitmaps are those of the image, and have no fault; the head is the one that its journal header
--- names.
+-- The superblock and the bitmaps are those of the image, and have no fault; the head is the one
+-- that its journal header names.
 pub record IsOpening (n : ℕ) (image : Image) (o : Opened) : Type 0 where
   pub fits : layout_misfit n image ≡ None
   pub super : super_of n (block_at image 17) ≡ Ok o.super40
@@ -63,13 +63,16 @@ pub record IsOpening (n : ℕ) (image : Image) (o : Opened) : Type 0 where
 
 -- What opening answers of the image whose blocks stand in these.
 abbrev pub Opens : State → (home : ℕ → ℕ) → Result Opened Unopened → State → Type 0
-Opens old home (Ok o) new = TellsReads old → (image : Image) → IsSettledFrom old home image → IsOpening old.blocks image o
+Opens old home (Ok o) new =
+    TellsReads old → (image : Image) → IsSettledFrom old home image → IsOpening old.blocks image o
 Opens old home (Err (Layout b f)) new =
-    TellsReads old → (image : Image) → IsSettledFrom old home image → layout_misfit old.blocks image ≡ misfit b.0 f
+    TellsReads old → (image : Image) → IsSettledFrom old home image
+    → layout_misfit old.blocks image ≡ misfit b.0 f
 Opens old home (Err Failed) new = Rose old.faults new.faults
 Opens old home (Err Memory) new = Unit {0}
 
--- The bitmaps are as many as the superblock's blocks need, and have no fault, whatever the device tells.
+-- The bitmaps are as many as the superblock's blocks need, and have no fault, whatever the device
+-- tells.
 pub record AreAccepted (s : Super40) (bitmaps : List (List ℕ)) : Type 0 where
   pub count : length bitmaps ≡ bitmap_count s.block_count
   pub sound : bitmaps_fault s.block_count s.free_blocks bitmaps ≡ None
@@ -83,16 +86,19 @@ pub record HasSupers (n : ℕ) (image : Image) (s : Super40) : Type 0 where
 
 -- what reading the superblocks answers
 abbrev pub ReadsSupers : State → (home : ℕ → ℕ) → Result Super40 Unopened → State → Type 0
-ReadsSupers old home (Ok s) new = TellsReads old → (image : Image) → IsSettledFrom old home image → HasSupers old.blocks image s
+ReadsSupers old home (Ok s) new =
+    TellsReads old → (image : Image) → IsSettledFrom old home image → HasSupers old.blocks image s
 ReadsSupers old home (Err (Layout b f)) new =
-    TellsReads old → (image : Image) → IsSettledFrom old home image → layout_misfit old.blocks image ≡ misfit b.0 f
+    TellsReads old → (image : Image) → IsSettledFrom old home image
+    → layout_misfit old.blocks image ≡ misfit b.0 f
 ReadsSupers old home (Err Failed) new = Rose old.faults new.faults
 ReadsSupers old home (Err Memory) new = ⊥
 
 -- the bitmaps of a volume of so many blocks, as far as they were read
 pub record AreRead (old : State) (home : ℕ → ℕ) (count : ℕ) (bitmaps : List (List ℕ)) : Type 0 where
   pub count_is : length bitmaps ≡ count
-  pub each : TellsReads old → (n : ℕ) → n < count → slice_index_or bitmaps n [] ≡ block_at old.seen (home (bitmap_block n))
+  pub each : TellsReads old → (n : ℕ) → n < count
+      → slice_index_or bitmaps n [] ≡ block_at old.seen (home (bitmap_block n))
 
 -- why they were not read
 abbrev pub IsReadCause : State → Unopened → State → Type 0

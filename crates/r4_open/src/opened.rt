@@ -4,8 +4,8 @@ use r4_base::{Block, BlockNo, LayoutFault, Memory, Super40};
 use r4_outside::Failed;
 use std::alloc::AllocFailed;
 
-/// What opening an image found: the format superblock; the bitmaps, bitmap 0 first; and the head that the journal header
-/// names, the newest of the log (docs/layout.md).
+/// What opening an image found: the format superblock; the bitmaps, bitmap 0 first; and the head
+/// that the journal header names, the newest of the log (docs/layout.md).
 #[derive(Drop)]
 pub struct Opened {
     pub super40: Super40,

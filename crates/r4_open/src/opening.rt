@@ -22,10 +22,11 @@ use r4_replay::Log;
 use r4_space::find_fault;
 use std::alloc::Global;
 
-/// Opens the settled image of a device of `device_blocks` blocks, of which `log` says where its blocks stand. What is read
-/// is the master superblock, the format superblock, each bitmap, rising, and the journal header, each once, and nothing is
-/// written. `Layout` names the first fault in this order; `Failed` comes only where the count of faults rose, and `Memory`
-/// where a growth was refused (docs/layout.md, "Superblocks" and "Bitmaps").
+/// Opens the settled image of a device of `device_blocks` blocks, of which `log` says where its
+/// blocks stand. What is read is the master superblock, the format superblock, each bitmap, rising,
+/// and the journal header, each once, and nothing is written. `Layout` names the first fault in
+/// this order; `Failed` comes only where the count of faults rose, and `Memory` where a growth was
+/// refused (docs/layout.md, "Superblocks" and "Bitmaps").
 pub fn open_image<D: Device>(
     alloc: Global,
     dev: &mut D,
@@ -43,7 +44,8 @@ pub fn open_image<D: Device>(
     open_at(alloc, dev, log, device_blocks)
 }
 
-/// The same of the image that a device of `device_blocks` blocks has as it stands, as after a replay of its log.
+/// The same of the image that a device of `device_blocks` blocks has as it stands, as after a
+/// replay of its log.
 pub fn open_in_place<D: Device>(
     alloc: Global,
     dev: &mut D,
@@ -132,7 +134,8 @@ fn read_bitmaps<D: Device, H: Homes>(
     requires few { blocks ≤ 1048576 }
     requires homes { Keeps (D.state dev.old).blocks (H.home homes.now) }
     ensures idles { Idles (D.state dev.old) (D.state dev.new) }
-    ensures read { IfOk result (λ v. AreRead (D.state dev.old) (H.home homes.now) (bitmap_count blocks) v.items) }
+    ensures read { IfOk result (λ v.
+        AreRead (D.state dev.old) (H.home homes.now) (bitmap_count blocks) v.items) }
     ensures cause { IfErr result (λ e. IsReadCause (D.state dev.old) e (D.state dev.new)) }
 {
     let mut bitmaps = Vec::new(alloc);
