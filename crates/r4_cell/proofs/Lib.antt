@@ -8,3 +8,4 @@ pub mod NodesAt
 pub mod NamesBelow
 pub mod Nodes
 mod FromImage
+mod OnDisk

@@ -2,3 +2,4 @@ pub mod Seen
 pub mod Patch
 pub mod Ends
 pub mod Words
+pub mod OnDisk

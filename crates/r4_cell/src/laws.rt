@@ -1,6 +1,6 @@
 //! Laws of cells. Each is the contract of a function that does nothing.
 
-ghost use Rattle.std.specs.Prelude.{◌≡◌, ℕ, ◌+◌, ◌<◌, ◌≤◌, List, All, Bool, None, Some, length, slice_get};
+ghost use Rattle.std.specs.Prelude.{◌≡◌, ℕ, ◌+◌, ◌^◌, ◌<◌, ◌≤◌, List, All, Bool, None, Some, true, false, length, slice_get};
 ghost use Rattle.r4_base.specs.Cell.{IsCellOf, cell_fault, cell_of};
 ghost use Rattle.r4_base.specs.Image.{Image, IsImage, block_at};
 ghost use Rattle.r4_base.specs.Key.{least, rank, top};
@@ -11,6 +11,7 @@ ghost use Rattle.r4_base.specs.Value.{Content, Value};
 ghost use Rattle.r4_base.specs.Volume.{HasContent};
 ghost use Rattle.r4_base.specs.declared.superblock.Super40.{Super40};
 ghost use Rattle.r4_cell.specs.Patch.{by_name};
+ghost use Rattle.r4_cell.specs.OnDisk.{AreBlocks};
 ghost use Rattle.r4_cell.specs.Seen.{CellSeen, IsReadFrom};
 
 /// A block that may stand as a cell at its level and for its range is a node by itself, in memory too; a data block is one
@@ -28,4 +29,12 @@ pub fn cell_law()
 pub fn equal_keys_law()
     ensures { (n to k : ℕ) (image : Image) (m : Content) (super : Super40) (x y : Item) → IsImage n image → HasOnePointer n image super to
         → slice_get (items_of (block_at image to)) k ≡ Some x → slice_get (items_of (block_at image to)) (k + 1) ≡ Some y → rank x.key ≡ rank y.key → HasContent n image m → ⊥ }
+{}
+
+/// A cell in memory is accepted on disk too, on a volume of so many blocks, where each node and each block that it names is
+/// a block of that volume and not a fixed one (docs/volume.md, "Cells").
+pub fn on_disk_law()
+    ensures { (blocks level lo hi : ℕ) (b : List ℕ)
+        → cell_fault true (2 ^ 64) level lo hi b ≡ None → AreBlocks blocks (cell_of level lo hi b).names
+        → cell_fault false blocks level lo hi b ≡ None }
 {}

@@ -11,7 +11,7 @@ mod refused;
 
 pub use cell::Cell;
 pub use change::{Cells, Change, Fresh, Root};
-pub use laws::{cell_law, equal_keys_law};
+pub use laws::{cell_law, equal_keys_law, on_disk_law};
 pub use r4_base::{CellFault, Key, NodeId};
 pub use range::{least, top};
 pub use reading::{new_cell, read_cell};

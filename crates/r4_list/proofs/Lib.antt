@@ -9,7 +9,6 @@ pub mod OverPieces
 pub mod OverWalks
 pub mod Stages
 pub mod Pools
-pub mod Openings
 pub mod WalkEntries
 pub mod LinesLeft
 pub mod WalkObjects

@@ -23,7 +23,7 @@ use Rattle.r4_replay.specs.Homes.{home_in}
 use Rattle.r4_cell.specs.Seen.{CellSeen}
 use Rattle.r4_search.specs.declared.pool.FetchFault.TheVariants.{Read, Damaged, Memory as NoCell}
 use Rattle.r4_list.specs.Lists.{IsUnrefused, PrintsText, stop_fault_of}
-use Rattle.r4_list.specs.Opening.{IsSettledBy}
+use Rattle.r4_open.specs.Opening.{IsSettledBy}
 use Rattle.r4_list.specs.Pool.{Shared, is_image, kept_in, nodes_state, settled_block}
 use Rattle.r4_list.specs.declared.fault.ListFault.{ListFault}
 use Rattle.r4_list.specs.Printed.{IsUndamagedStop, PrintsOver}

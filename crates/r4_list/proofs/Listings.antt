@@ -17,7 +17,7 @@ use Rattle.r4_base.specs.Value.{Content}
 use Rattle.r4_base.specs.Volume.{HasContent, HasVolume}
 use Rattle.r4_base.proofs.Logs.{not_refused, one_log}
 use Rattle.r4_list.proofs.BodyOver.{nothing_part}
-use Rattle.r4_list.proofs.Openings.{layout_is}
+use Rattle.r4_open.proofs.Openings.{layout_is}
 use Rattle.r4_list.proofs.Stages.{prints_same}
 use Rattle.r4_list.specs.Listing.{IsListing}
 use Rattle.r4_list.specs.declared.fault.ListFault.TheVariants.{Device, Size, Memory as NoMemory}
@@ -29,6 +29,7 @@ use Rattle.r4_outside.specs.Device.{State, Goes, Rose, TellsReads, lent_to}
 use Rattle.r4_search.specs.Pool.{LeavesDevice}
 use Rattle.r4_outside.specs.Sink.{SinkState}
 use Rattle.r4_replay.specs.Homes.{TellsHomes, home_in}
+use Rattle.r4_replay.specs.Reading.{Idles}
 use Rattle.r4_replay.specs.Replay.{Faulted}
 use Rattle.r4_replay.specs.declared.fault.ReplayFault.{ReplayFault}
 use Rattle.r4_replay.specs.declared.fault.ReplayFault.TheVariants.{Log as LogRefused, Device as DeviceFailed, Size as BadSize, Memory as NoRoomForLog}
@@ -37,13 +38,14 @@ use Rattle.r4_cell.specs.declared.change.Root.{Root}
 use Rattle.r4_search.specs.Pool.{PoolState}
 use Rattle.r4_search.specs.declared.pool.FetchFault.TheVariants.{Read, Damaged, Memory as NoRoom}
 use Rattle.r4_list.specs.Lists.{Answers, IsListFault, IsNodeRefused, IsOpened, IsPrintCause, IsStopFault, IsUnrefused, PrintsText, log_fault_of, open_fault_of, stop_fault_of}
-use Rattle.r4_list.specs.Opening.{IsSettledBy, Opens, bitmaps_misfit, layout_misfit, misfit}
+use Rattle.r4_open.specs.Opening.{IsSettledBy, Opens, bitmaps_misfit, layout_misfit, misfit}
 use Rattle.r4_list.specs.Printing.{IsCause, IsDamaged, Prints}
 use Rattle.r4_list.specs.declared.fault.ListFault.{ListFault}
 use Rattle.r4_list.specs.declared.fault.Stop.{Stop}
 use Rattle.r4_list.specs.declared.fault.Stop.TheVariants.{Fetch, Sink, Memory}
-use Rattle.r4_list.specs.declared.opening.Unopened.{Unopened}
-use Rattle.r4_list.specs.declared.opening.Unopened.TheVariants.{Failed, Layout, Memory as NoBuffer}
+use Rattle.r4_open.specs.declared.opened.Opened.{Opened}
+use Rattle.r4_open.specs.declared.opened.Unopened.{Unopened}
+use Rattle.r4_open.specs.declared.opened.Unopened.TheVariants.{Failed, Layout, Memory as NoBuffer}
 
 -- ---- where nothing was printed
 
@@ -100,19 +102,19 @@ module _ (first d : State) (log : Log) (goes : Goes first d) (seen : d.seen ≡ 
             ∙ sym (ap (block_at first.seen) (h.homes b ∙ home_past first.blocks first.seen h.chain b h.has (let low = lawful.0 in omega (arith, low)) (omega (arith, past))) ∙ get_or_past first.seen b [] (omega (arith, past, told.blocks)))
       ]) ∙ ap (λ (i : Image). block_at i (home_in log.homes b)) (sym seen)
 
-  pub image_opened : (s : Super40) (now : State) → Opens d log.homes (Ok s) now → IsOpened first
-  image_opened s now opens = record {
+  pub image_opened : (o : Opened) (now : State) → Opens d (home_in log.homes) (Ok o) now → IsOpened first
+  image_opened o now opens = record {
     lawful = lawful;
     opened = λ told.
         let h = tells told in
         let settles : Settles first.blocks first.seen (put_pairs (chain_pairs h.chain) first.seen) = record { chain = h.chain; has = h.has; is = refl } in (
           put_pairs (chain_pairs h.chain) first.seen,
           settles,
-          subst (λ (n : ℕ). layout_misfit n (put_pairs (chain_pairs h.chain) first.seen) ≡ None) goes.blocks (opens (goes.reads.1 told) _ (settled_by _ told settles)).0,
+          subst (λ (n : ℕ). layout_misfit n (put_pairs (chain_pairs h.chain) first.seen) ≡ None) goes.blocks (opens (goes.reads.1 told) _ (settled_by _ told settles)).fits,
         );
   }
 
-  pub image_refused : (b : BlockNo) (f : LayoutFault) (now : State) → Opens d log.homes (Err (Layout b f)) now → TellsReads first → (image : Image) → Settles first.blocks first.seen image → layout_misfit first.blocks image ≡ misfit b.0 f
+  pub image_refused : (b : BlockNo) (f : LayoutFault) (now : State) → Opens d (home_in log.homes) (Err (Layout b f)) now → TellsReads first → (image : Image) → Settles first.blocks first.seen image → layout_misfit first.blocks image ≡ misfit b.0 f
   image_refused b f now opens told image settles = subst (λ (n : ℕ). layout_misfit n image ≡ misfit b.0 f) goes.blocks (opens (goes.reads.1 told) image (settled_by image told settles))
 
   -- the image that the device settles to
@@ -120,18 +122,22 @@ module _ (first d : State) (log : Log) (goes : Goes first d) (seen : d.seen ≡ 
   settled_image told = let h = tells told in (put_pairs (chain_pairs h.chain) first.seen, record { chain = h.chain; has = h.has; is = refl })
 
   -- what is answered where the image was not opened
-  pub open_answer : (now : State) (k : SinkState) (e : Unopened) → Opens d log.homes (Err e) now → IsListFault first k (open_fault_of e now.clock now.faults) now k
+  pub open_answer : (now : State) (k : SinkState) (e : Unopened) → Opens d (home_in log.homes) (Err e) now → IsListFault first k (open_fault_of e now.clock now.faults) now k
   open_answer now k Failed opens = let before = goes.faults in (omega (arith, before, opens), refl, refl)
   open_answer now k (Layout b f) opens = (lawful, (λ told. let i = settled_image told in (i.0, i.1, image_refused b f now opens told i.0 i.1)), refl)
   open_answer now k NoBuffer opens = lawful
 
   -- an image with a volume is opened
-  pub open_text : (now : State) (k : SinkState) (e : Unopened) (x : ListFault) (m : Content) (text : List ℕ) → x ≡ open_fault_of e now.clock now.faults → Opens d log.homes (Err e) now → TellsReads first → HasVolume first.blocks first.seen m → PrintsText {T = Unit {0}} text k (Err x) k
+  pub open_text : (now : State) (k : SinkState) (e : Unopened) (x : ListFault) (m : Content) (text : List ℕ) → x ≡ open_fault_of e now.clock now.faults → Opens d (home_in log.homes) (Err e) now → TellsReads first → HasVolume first.blocks first.seen m → PrintsText {T = Unit {0}} text k (Err x) k
   open_text now k Failed x m text is opens told v = text_without text k x (Device now.clock now.faults) is tt
   open_text now k (Layout b f) x m text is opens told v =
       let refused = image_refused b f now opens told (put_pairs (chain_pairs v.chain) first.seen) (record { chain = v.chain; has = v.log; is = refl }) in
       absurd (no_misfit _ _ (sym refused ∙ layout_none v.content))
   open_text now k NoBuffer x m text is opens told v = text_without text k x NoMemory is tt
+
+-- opening an image writes nothing
+pub opening_stays : (a b : State) → Idles a b → LeavesDevice a b
+opening_stays a b i = record { goes = i.goes; idle = record { seen = i.seen; clock = i.clock } }
 
 -- Nothing was written.
 pub stays_both : (a b c : State) → LeavesDevice a b → LeavesDevice b c → LeavesDevice a c

@@ -7,7 +7,6 @@ pub mod Frame
 pub mod Below
 pub mod Walking
 pub mod Over
-pub mod Opening
 pub mod Lists
 pub mod OverWalks
 pub mod Printed

@@ -20,14 +20,14 @@ use Rattle.r4_search.specs.Pool.{IsNamed, IsNamedFrom, place_fault}
 use Rattle.r4_base.specs.declared.limits.TheConstants.{LEAST_BLOCKS, MOST_BLOCKS, SUPER_BLOCK}
 use Rattle.r4_search.specs.declared.pool.FetchFault.TheVariants.{Read, Damaged, Memory as NoRoom}
 use Rattle.r4_list.specs.Listing.{IsListing}
-use Rattle.r4_list.specs.Opening.{IsSettledBy, layout_misfit, misfit}
+use Rattle.r4_open.specs.Opening.{IsSettledBy, layout_misfit, misfit}
 use Rattle.r4_list.specs.Printing.{Prints}
 use Rattle.r4_replay.specs.declared.fault.ReplayFault.{ReplayFault}
 use Rattle.r4_replay.specs.declared.fault.ReplayFault.TheVariants.{Log as LogRefused, Device as DeviceFailed, Size as BadSize, Memory as NoRoomForLog}
 use Rattle.r4_list.specs.declared.fault.ListFault.{ListFault}
 use Rattle.r4_list.specs.declared.fault.ListFault.TheVariants.{Log, Image as Refused, Device, Size, Sink, Memory}
-use Rattle.r4_list.specs.declared.opening.Unopened.{Unopened}
-use Rattle.r4_list.specs.declared.opening.Unopened.TheVariants.{Failed, Layout as Misfit, Memory as NoBuffer}
+use Rattle.r4_open.specs.declared.opened.Unopened.{Unopened}
+use Rattle.r4_open.specs.declared.opened.Unopened.TheVariants.{Failed, Layout as Misfit, Memory as NoBuffer}
 use Rattle.r4_list.specs.declared.fault.Stop.{Stop}
 use Rattle.r4_list.specs.declared.fault.Stop.TheVariants.{Fetch, Sink as SinkFailed, Memory as NoMemory}
 

@@ -11,7 +11,6 @@ mod line;
 mod listing;
 mod lookup;
 mod nodes;
-mod opening;
 mod walk;
 
 pub use fault::ListFault;

@@ -14,7 +14,7 @@ ghost use Rattle.r4_search.specs.Pool.{IsKnown, LeavesDevice};
 ghost use Rattle.r4_list.specs.Lists.{Answers, IsStopFault, PrintsText, log_fault_of, open_fault_of, stop_fault_of};
 ghost use Rattle.r4_list.specs.OverWalks.{IsLookedUp};
 ghost use Rattle.r4_list.specs.Listing.{IsListing, file_text, lines_of, shown_path};
-ghost use Rattle.r4_list.specs.Opening.{IsSettledBy};
+ghost use Rattle.r4_open.specs.Opening.{IsSettledBy};
 ghost use Rattle.r4_list.specs.Over.{IsOver};
 ghost use Rattle.r4_list.specs.Printed.{PrintsOver};
 ghost use Rattle.r4_list.specs.Walking.{IsEnough};
@@ -26,10 +26,10 @@ use crate::below::print_object;
 use crate::body::print_body;
 use crate::fault::{ListFault, Stop};
 use crate::nodes::Nodes;
-use crate::opening::{Unopened, open_image};
 use crate::walk::{Walked, walk};
 use r4_base::{Attr, NodeId, Super40, Target};
 use r4_cell::{ImageFault, Root};
+use r4_open::{Unopened, open_image};
 use r4_outside::{Device, Sink};
 use r4_replay::{Log, ReplayFault, read_log};
 use r4_search::{FetchFault, Pool};
@@ -65,7 +65,7 @@ pub fn list<D: Device, K: Sink>(
         Ok(found) => found,
         Err(unopened) => return Err(open_fault(dev, unopened)),
     };
-    let Ended { dev: _, printed } = print_settled(alloc, dev, log, &found, out, path);
+    let Ended { dev: _, printed } = print_settled(alloc, dev, log, &found.super40, out, path);
     printed
 }
 

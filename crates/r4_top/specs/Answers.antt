@@ -17,7 +17,7 @@ use Rattle.r4_replay.specs.declared.fault.ReplayFault.{ReplayFault}
 use Rattle.r4_replay.specs.declared.fault.ReplayFault.TheVariants.{Log, Device, Size, Memory}
 use Rattle.r4_list.specs.Listing.{IsListing}
 use Rattle.r4_list.specs.Lists.{HasRefusedNode, IsOpened, OfSettled}
-use Rattle.r4_list.specs.Opening.{layout_misfit, misfit}
+use Rattle.r4_open.specs.Opening.{layout_misfit, misfit}
 use Rattle.r4_list.specs.Printing.{Prints as PrintsSome}
 use Rattle.r4_list.specs.declared.fault.ListFault.{ListFault}
 use Rattle.r4_list.specs.declared.fault.ListFault.TheVariants.{Log as ListLog, Image as ListImage, Device as ListDevice, Size as ListSize, Sink as ListSink, Memory as ListMemory}

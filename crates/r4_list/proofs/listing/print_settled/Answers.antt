@@ -3,7 +3,7 @@ use Rattle.r4_base.specs.Layout.{IsLawfulSuper}
 use Rattle.r4_base.specs.declared.superblock.Super40.{Super40}
 use Rattle.r4_outside.specs.Device.{TellsReads}
 use Rattle.r4_replay.specs.declared.log.Log.{Log}
-use Rattle.r4_list.specs.Opening.{IsSettledBy}
+use Rattle.r4_open.specs.Opening.{IsSettledBy}
 use Rattle.r4_list.proofs.ListingText.{fresh_over, text_stopped, text_well}
 use Rattle.r4_cell.specs.declared.change.Root.{Root}
 use Rattle.r4_list.specs.Lists.{IsPrintCause}

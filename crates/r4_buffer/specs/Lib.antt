@@ -1,0 +1,5 @@
+pub mod Seen
+pub mod Changed
+pub mod Kept
+pub mod Reading
+pub mod InMemory

@@ -1,5 +1,0 @@
-use Rattle.r4_list.proofs.Openings.{Reading}
-use Rattle.r4_list.proofs.opening.read_bitmaps.Given as goal
-
-abbrev pub invariant-loop-n : goal.invariant-loop-n
-invariant-loop-n g l = Reading (g.D.Device.state l.fn.dev) (g.D.Device.state l.dev) l.log.homes l.n l.bitmaps.items
