@@ -28,3 +28,4 @@ pub mod Staying
 pub mod Keeping
 pub mod OneBodies
 pub mod Volumes
+pub mod StatsAsked

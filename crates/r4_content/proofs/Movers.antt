@@ -13,7 +13,7 @@ use Rattle.r4_base.specs.declared.items.Attr.{Attr}
 use Rattle.r4_base.specs.declared.items.Target.{Target}
 use Rattle.r4_content.specs.Course.{Course, Ask, Answer, Change, Ending, ending, of_content}
 use Rattle.r4_content.specs.Edited.{Edits, Pairs, and_also, edited, pairs_between}
-use Rattle.r4_content.specs.Entries.{entries_from, entries_to, if_empty, move, move_to, moved, moved_onto, rename, replace, with_entries}
+use Rattle.r4_content.specs.Entries.{entries_from, entries_to, if_empty, move, move_to, moved, moved_onto, names_in, rename, replace, with_entries}
 use Rattle.r4_content.specs.Fields.{HasBytes, HasNumbers}
 use Rattle.r4_content.specs.Lawful.{HasBodies, IsLawful}
 use Rattle.r4_content.specs.Meaning.{after, named, reply}
@@ -190,7 +190,7 @@ module _ (limit : ℕ) (m : Content) (dir o : Object) (name new_name : List ℕ)
       (done true old (can true old (λ x. absurd (true_not_false x)) (λ x. over) (λ x. omega arith)) (λ x. absurd (true_not_false x)))
 
   over_is : (old : Object) → at_key m (entry_rank r.here.target new_name) ≡ Some (Entry new_name old.target) → IsThere m old → is_same_target old.target o.target ≡ false → is_dir old ≡ is_dir o
-      → (is_dir old ≡ true → pairs_between m (entries_from old.target.oid.0) (entries_to old.target.oid.0) ≡ []) → IsOver m o r.here old new_name
+      → (is_dir old ≡ true → names_in (pairs_between m (entries_from old.target.oid.0) (entries_to old.target.oid.0)) ≡ []) → IsOver m o r.here old new_name
   over_is old at there other kind empty = record {
     stat = stat_was m old there;
     entry = at;
@@ -201,16 +201,16 @@ module _ (limit : ℕ) (m : Content) (dir o : Object) (name new_name : List ℕ)
 
   replace_lawful : (old : Object) → at_key m (entry_rank r.here.target new_name) ≡ Some (Entry new_name old.target) → IsThere m old → is_same_target old.target o.target ≡ false
       → HoldsAfter (ending (replace dir name o r.here new_name old) (of_content m)).edits
-  replace_lawful old at there other = by_kind (is_dir o) (is_dir old) (pairs_between m (entries_from old.target.oid.0) (entries_to old.target.oid.0)) refl refl refl
+  replace_lawful old at there other = by_kind (is_dir o) (is_dir old) (names_in (pairs_between m (entries_from old.target.oid.0) (entries_to old.target.oid.0))) refl refl refl
     where
-      by_kind : (p q : Bool) (es : Pairs) → is_dir o ≡ p → is_dir old ≡ q → pairs_between m (entries_from old.target.oid.0) (entries_to old.target.oid.0) ≡ es
-          → HoldsAfter (ending (if p then (if q then with_entries old (if_empty (Change (moved_onto dir name o r.here new_name old))) else Answer Notdir) else (if q then Answer Isdir else Change (moved_onto dir name o r.here new_name old))) (of_content m)).edits
-      by_kind true true es a b c = by_pairs es c
+      by_kind : (p q : Bool) (es : List (List ℕ)) → is_dir o ≡ p → is_dir old ≡ q → names_in (pairs_between m (entries_from old.target.oid.0) (entries_to old.target.oid.0)) ≡ es
+          → HoldsAfter (ending (if p then (if q then with_entries old (λ es. if_empty (Change (moved_onto dir name o r.here new_name old)) (names_in es)) else Answer Notdir) else (if q then Answer Isdir else Change (moved_onto dir name o r.here new_name old))) (of_content m)).edits
+      by_kind true true es a b c = by_names es c
         where
-          by_pairs : (xs : Pairs) → pairs_between m (entries_from old.target.oid.0) (entries_to old.target.oid.0) ≡ xs
-              → HoldsAfter (ending (if_empty (Change (moved_onto dir name o r.here new_name old)) (pairs_between m (entries_from old.target.oid.0) (entries_to old.target.oid.0))) (of_content m)).edits
-          by_pairs [] is = subst (λ (xs : Pairs). HoldsAfter (ending (if_empty (Change (moved_onto dir name o r.here new_name old)) xs) (of_content m)).edits) (sym is) (onto_lawful old (over_is old at there other (b ∙ sym a) (λ d. is)))
-          by_pairs (x ∷ xs) is = subst (λ (ys : Pairs). HoldsAfter (ending (if_empty (Change (moved_onto dir name o r.here new_name old)) ys) (of_content m)).edits) (sym is) (lawful.objects, lawful.bodies)
+          by_names : (xs : List (List ℕ)) → names_in (pairs_between m (entries_from old.target.oid.0) (entries_to old.target.oid.0)) ≡ xs
+              → HoldsAfter (ending (if_empty (Change (moved_onto dir name o r.here new_name old)) (names_in (pairs_between m (entries_from old.target.oid.0) (entries_to old.target.oid.0)))) (of_content m)).edits
+          by_names [] is = subst (λ (xs : List (List ℕ)). HoldsAfter (ending (if_empty (Change (moved_onto dir name o r.here new_name old)) xs) (of_content m)).edits) (sym is) (onto_lawful old (over_is old at there other (b ∙ sym a) (λ d. is)))
+          by_names (x ∷ xs) is = subst (λ (ys : List (List ℕ)). HoldsAfter (ending (if_empty (Change (moved_onto dir name o r.here new_name old)) ys) (of_content m)).edits) (sym is) (lawful.objects, lawful.bodies)
       by_kind true false es a b c = (lawful.objects, lawful.bodies)
       by_kind false true es a b c = (lawful.objects, lawful.bodies)
       by_kind false false es a b c = onto_lawful old (over_is old at there other (b ∙ sym a) (λ d. absurd (true_not_false (sym d ∙ b))))

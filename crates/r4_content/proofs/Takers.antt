@@ -4,6 +4,7 @@ use Rattle.std.proofs.Common.{arith, refl, sym, ap, subst, ◌∙◌}
 use Rattle.std.proofs.lemmas.Bool.{and_from, eqb-true, le-leb, lt-ltb}
 use Rattle.std.specs.FinMap.{find, get-entries, retain_keys}
 use Rattle.std.specs.Ordering.{nat_cmp}
+use Rattle.std.specs.Cmp.{unsigned_tied}
 use Rattle.r4_base.specs.Key.{key_of_rank, minor_of, rank}
 use Rattle.r4_base.specs.Name.{dir_of_key}
 use Rattle.r4_base.specs.Value.{Value, Stat, Entry, Byte, Content, at_key}
@@ -11,7 +12,7 @@ use Rattle.r4_base.specs.Volume.{entries_in, is_entry_in}
 use Rattle.r4_base.specs.declared.items.Target.{Target}
 use Rattle.r4_content.specs.Course.{Course, Answer, Change, Ending, ending, of_content}
 use Rattle.r4_content.specs.Edited.{Pairs, edited, is_between, pairs_between}
-use Rattle.r4_content.specs.Entries.{entries_from, entries_to, if_empty, unname_in, with_entries}
+use Rattle.r4_content.specs.Entries.{entries_from, entries_to, if_empty, names_in, unname_in, with_entries}
 use Rattle.r4_content.specs.Fields.{HasBytes, HasNumbers}
 use Rattle.r4_content.specs.Lawful.{HasBodies, IsLawful}
 use Rattle.r4_content.specs.Meaning.{after, named, reply}
@@ -33,22 +34,36 @@ use Rattle.r4_content.proofs.Writing.{okay_there}
 
 -- ---- an empty directory
 
--- where nothing stands in an interval, no key in it has anything
-pub nothing_between : (m : Content) (from to k : ℕ) (v : Value) → pairs_between m from to ≡ [] → at_key m k ≡ Some v → is_between from to k ≡ false
-nothing_between m from to k v none at = by_test (is_between from to k) refl
+-- where no names stand among pairs, no key among them has an entry
+no_entry_first : (b : Bool) (q : ℕ) (w : Value) (es : Pairs) (o : Option Value) (n : List ℕ) (t : Target)
+    → (o ≡ Some (Entry n t) → names_in es ≡ [] → ⊥) → cond b (Some w) o ≡ Some (Entry n t) → names_in ((q, w) ∷ es) ≡ [] → ⊥
+no_entry_first true q (Stat a) es o n t rest e f = absurd cc
+no_entry_first true q (Byte x) es o n t rest e f = absurd cc
+no_entry_first true q (Entry s u) es o n t rest e f = absurd cc
+no_entry_first false q (Stat a) es o n t rest e f = rest e f
+no_entry_first false q (Byte x) es o n t rest e f = rest e f
+no_entry_first false q (Entry s u) es o n t rest e f = absurd cc
+
+entry_named : (es : Pairs) (k : ℕ) (n : List ℕ) (t : Target) → find nat_cmp k es ≡ Some (Entry n t) → names_in es ≡ [] → ⊥
+entry_named [] k n t at none = no_value at
   where
-    not_some : (x : Option Value) → x ≡ Some v → x ≡ None → ⊥
-    not_some x e f = absurd (some_none (sym e ∙ f))
-      where
-        some_none : Some v ≡ None → ⊥
-        some_none g = cc
+    no_value : None ≡ Some (Entry n t) → ⊥
+    no_value e = cc
+entry_named ((q, v) ∷ es) k n t at none =
+    no_entry_first (k == q) q v es (find nat_cmp k es) n t (entry_named es k n t)
+    (sym (ap (λ (b : Bool). cond b (Some v) (find nat_cmp k es)) (unsigned_tied k q)) ∙ at) none
 
-    nothing : at_key (retain_keys m (is_between from to)) k ≡ None
-    nothing = get-entries (retain_keys m (is_between from to)) k ∙ ap (find nat_cmp k) none
-
+-- where no names stand in an interval, no key in it has an entry
+pub nothing_between : (m : Content) (from to k : ℕ) (n : List ℕ) (t : Target) → names_in (pairs_between m from to) ≡ []
+    → at_key m k ≡ Some (Entry n t) → is_between from to k ≡ false
+nothing_between m from to k n t none at = by_test (is_between from to k) refl
+  where
     by_test : (b : Bool) → is_between from to k ≡ b → b ≡ false
     by_test false e = refl
-    by_test true e = absurd (not_some (at_key m k) at (sym (at_retain m (is_between from to) k ∙ ap (λ (b : Bool). cond b (at_key m k) None) e) ∙ nothing))
+    by_test true e =
+        let there = sym (get-entries (retain_keys m (is_between from to)) k) ∙ at_retain m (is_between from to) k
+        ∙ ap (λ (b : Bool). cond b (at_key m k) None) e ∙ at in
+        absurd (entry_named (pairs_between m from to) k n t there none)
 
 first_number : (k : ℕ) → slice_index (key_of_rank k).el 0 ≡ k / 2 ^ 192
 unfolding key_of_rank
@@ -73,7 +88,8 @@ entry_between dir k in_dir minor =
     let c : k / 2 ^ 192 ≡ dir * 16 = omega arith in
     and_from (nat_le (entries_from dir) k) (nat_lt k (entries_to dir)) (le-leb _ _ (omega arith)) (lt-ltb _ _ (omega arith))
 
-pub is_empty : (limit : ℕ) (m : Content) (o : Target) → HasBodies limit m → pairs_between m (entries_from o.oid.0) (entries_to o.oid.0) ≡ [] → entries_in m o ≡ 0
+pub is_empty : (limit : ℕ) (m : Content) (o : Target) → HasBodies limit m
+    → names_in (pairs_between m (entries_from o.oid.0) (entries_to o.oid.0)) ≡ [] → entries_in m o ≡ 0
 is_empty limit m o bodies none = none_there (is_entry_in o.oid.0) m fails
   where
     fails : (k : ℕ) (v : Value) → at_key m k ≡ Some v → is_entry_in o.oid.0 (k, v) ≡ false
@@ -85,7 +101,7 @@ is_empty limit m o bodies none = none_there (is_entry_in o.oid.0) m fails
         by_test false e = refl
         by_test true e =
             let inside = entry_between o.oid.0 k (eqb-true _ _ e) (bodies.keys k (Entry s t) at) in
-            absurd (true_not_false (sym inside ∙ nothing_between m (entries_from o.oid.0) (entries_to o.oid.0) k (Entry s t) none at))
+            absurd (true_not_false (sym inside ∙ nothing_between m (entries_from o.oid.0) (entries_to o.oid.0) k s t none at))
 
 -- ---- the object under the last name of a path
 
@@ -162,17 +178,19 @@ unlink_lawful limit path m lt lawful bytes = by_done limit (Unlink path) m (λ x
         (loses_lawful limit m dir o c.name lawful.objects lawful.bodies loses, loses_bodies limit m dir o c.name lawful.objects lawful.bodies loses))
 
 abbrev pub rmdir_next : Object → (name : List ℕ) → Place → Course
-rmdir_next dir n p = if is_dir p.here then with_entries p.here (if_empty (Change (unname_in dir n p.here))) else Answer Notdir
+rmdir_next dir n p = if is_dir p.here then with_entries p.here (λ es. if_empty (Change (unname_in dir n p.here)) (names_in es)) else Answer Notdir
 
 pub rmdir_lawful : (limit : ℕ) (path : List (List ℕ)) (m : Content) → limit < 2 ^ 64 → IsLawful limit m → HasBytes path → Stays limit (after limit (Rmdir path) m)
 rmdir_lawful limit path m lt lawful bytes = by_done limit (Rmdir path) m (λ x. Stays limit x) (lawful.objects, lawful.bodies) done
   where
-    is_done : (dir o : Object) (n : List ℕ) (b : Bool) (es : Pairs)
-        → (ending (if b then with_entries o (if_empty (Change (unname_in dir n o))) else Answer Notdir) (of_content m)).reply ≡ Okay → pairs_between m (entries_from o.target.oid.0) (entries_to o.target.oid.0) ≡ es
-        → (es ≡ []) × (ending (if b then with_entries o (if_empty (Change (unname_in dir n o))) else Answer Notdir) (of_content m) ≡ record { edits = unname_in dir n o; reply = Okay })
-    is_done dir o n false es h e = absurd cc
-    is_done dir o n true [] h e = (refl, ap (λ (x : Pairs). ending (if_empty (Change (unname_in dir n o)) x) (of_content m)) e)
-    is_done dir o n true (x ∷ es) h e = absurd (refused (sym (ap (λ (y : Pairs). (ending (if_empty (Change (unname_in dir n o)) y) (of_content m)).reply) e) ∙ h))
+    is_done : (dir o : Object) (n : List ℕ) (b : Bool) (ns : List (List ℕ))
+        → (ending (if b then with_entries o (λ es. if_empty (Change (unname_in dir n o)) (names_in es)) else Answer Notdir) (of_content m)).reply ≡ Okay
+        → names_in (pairs_between m (entries_from o.target.oid.0) (entries_to o.target.oid.0)) ≡ ns
+        → (ns ≡ []) × (ending (if b then with_entries o (λ es. if_empty (Change (unname_in dir n o)) (names_in es)) else Answer Notdir) (of_content m)
+        ≡ record { edits = unname_in dir n o; reply = Okay })
+    is_done dir o n false ns h e = absurd cc
+    is_done dir o n true [] h e = (refl, ap (λ (x : List (List ℕ)). ending (if_empty (Change (unname_in dir n o)) x) (of_content m)) e)
+    is_done dir o n true (x ∷ ns) h e = absurd (refused (sym (ap (λ (y : List (List ℕ)). (ending (if_empty (Change (unname_in dir n o)) y) (of_content m)).reply) e) ∙ h))
       where
         refused : Notempty ≡ Okay → ⊥
         refused e = cc
@@ -183,7 +201,7 @@ rmdir_lawful limit path m lt lawful bytes = by_done limit (Rmdir path) m (λ x. 
         let c = came_to_entry m Loop path rmdir_next numbers bytes (λ e. cc) okay in
         let dir = c.above.here in
         let o = c.place.here in
-        let (none, made) = is_done dir o c.name (is_dir o) (pairs_between m (entries_from o.target.oid.0) (entries_to o.target.oid.0)) (sym (ap (λ (x : Ending). x.reply) c.ends) ∙ okay) refl in
+        let (none, made) = is_done dir o c.name (is_dir o) (names_in (pairs_between m (entries_from o.target.oid.0) (entries_to o.target.oid.0))) (sym (ap (λ (x : Ending). x.reply) c.ends) ∙ okay) refl in
         subst (λ (x : Ending). Stays limit (edited x.edits m)) (sym (c.ends ∙ made))
         (let loses = loses_name limit m dir o c.name numbers c.above_there c.above_is c.there c.bytes c.entry (λ d. is_empty limit m o.target lawful.bodies none) in
         (loses_lawful limit m dir o c.name lawful.objects lawful.bodies loses, loses_bodies limit m dir o c.name lawful.objects lawful.bodies loses))

@@ -52,9 +52,10 @@ names_in ((k, Byte x) ∷ es) = names_in es
 abbrev pub names : List (List ℕ) → Course
 names path = to_object path (λ p. if is_dir p.here then with_entries p.here (λ es. Answer (Names (names_in es))) else Answer Notdir)
 
-abbrev pub if_empty : Course → Pairs → Course
+-- a directory in which these names stand, and nothing else that counts
+abbrev pub if_empty : Course → List (List ℕ) → Course
 if_empty next [] = next
-if_empty next (e ∷ es) = Answer Notempty
+if_empty next (n ∷ ns) = Answer Notempty
 
 -- ---- an entry goes
 
@@ -66,7 +67,7 @@ abbrev pub unlink : List (List ℕ) → Course
 unlink path = to_entry Isdir path (λ dir n p. if is_dir p.here then Answer Isdir else Change (unname_in dir n p.here))
 
 abbrev pub rmdir : List (List ℕ) → Course
-rmdir path = to_entry Loop path (λ dir n p. if is_dir p.here then with_entries p.here (if_empty (Change (unname_in dir n p.here))) else Answer Notdir)
+rmdir path = to_entry Loop path (λ dir n p. if is_dir p.here then with_entries p.here (λ es. if_empty (Change (unname_in dir n p.here)) (names_in es)) else Answer Notdir)
 
 -- ---- an entry moves
 
@@ -90,7 +91,7 @@ moved_onto dir n o new_dir new_name old = and_also (unnamed old) (moved dir n o 
 -- a directory takes the place of an empty directory, and a file that of a file
 abbrev pub replace : (dir : Object) → (name : List ℕ) → Object → (new_dir : Object) → (new_name : List ℕ) → (old : Object) → Course
 replace dir n o new_dir new_name old =
-    if is_dir o then (if is_dir old then with_entries old (if_empty (Change (moved_onto dir n o new_dir new_name old))) else Answer Notdir)
+    if is_dir o then (if is_dir old then with_entries old (λ es. if_empty (Change (moved_onto dir n o new_dir new_name old)) (names_in es)) else Answer Notdir)
     else (if is_dir old then Answer Isdir else Change (moved_onto dir n o new_dir new_name old))
 
 -- what stands at the new name's key

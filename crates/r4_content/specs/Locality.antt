@@ -1,6 +1,8 @@
 -- What commands have in common, whatever they are: each does the same in contents that agree where it reads (docs/commands.md, "Reading").
 use Rattle.std.specs.Prelude.{◌≡◌, ℕ, ◌⊎◌, true, false}
+use Rattle.r4_base.specs.Key.{key_of_rank, minor_of}
 use Rattle.r4_base.specs.Value.{Content, at_key}
+use Rattle.r4_base.specs.Volume.{object_of, stat_rank}
 use Rattle.r4_content.specs.Edited.{Intervals, is_in}
 use Rattle.r4_content.specs.Meaning.{after, changes, reads, reply}
 use Rattle.r4_content.specs.declared.command.Command.{Command}
@@ -37,3 +39,8 @@ Touches w x m k = (is_in (w.reads x m) k ≡ true) ⊎ (is_in (w.changes x m) k 
 -- y changes nothing that x touches
 abbrev pub Spares : {C R : Type 0} → Meaning C R → (y x : C) → Content → Type 0
 Spares w y x m = (k : ℕ) → Touches w x m k → is_in (w.changes y m) k ≡ false
+
+-- with each key of a body that the command reads or changes, it reads the stat key of the body's object
+abbrev pub AsksForStats : (limit : ℕ) → Command → Content → Type 0
+AsksForStats limit x m = (k : ℕ) → Touches (commands limit) x m k → minor_of (key_of_rank k) ≡ 4
+    → is_in (reads limit x m) (stat_rank (object_of (key_of_rank k))) ≡ true

@@ -1,10 +1,11 @@
 -- What commands mean: what each asks a content for, the content after it, and its reply (docs/commands.md).
-use Rattle.std.specs.Prelude.{ℕ, ◌+◌, ◌*◌, ◌/◌, ◌%◌, ◌^◌, List, [], ◌∷◌, replicate, Bool, if◌then◌else◌}
+use Rattle.std.specs.Prelude.{ℕ, ◌+◌, ◌*◌, ◌/◌, ◌%◌, ◌^◌, List, [], ◌∷◌, replicate, Bool, true, false, if◌then◌else◌}
 use Rattle.std.specs.List.{list_all}
 use Rattle.std.specs.Option.{is_none}
 use Rattle.r4_base.specs.Name.{name_fault}
 use Rattle.r4_base.specs.Value.{Content}
 use Rattle.r4_base.specs.declared.items.Attr.{Attr}
+use Rattle.r4_base.specs.declared.things.Oid.{Oid}
 use Rattle.r4_content.specs.Bodies.{read, truncate, write}
 use Rattle.r4_content.specs.Course.{Course, Answer, Change, asked, ending, of_content}
 use Rattle.r4_content.specs.Edited.{Intervals, changed, edited}
@@ -92,7 +93,16 @@ replies limit (c ∷ cs) m = reply limit c m ∷ replies limit cs (after limit c
 
 -- ---- commands are compared without the ids of new objects, which a job does not name
 
+abbrev pub with_id : Oid → Command → Command
+with_id oid (Create path o) = Create path oid
+with_id oid (Mkdir path o) = Mkdir path oid
+with_id oid c = c
+
 abbrev pub without_id : Command → Command
-without_id (Create path oid) = Create path (record { 0 = 0 })
-without_id (Mkdir path oid) = Mkdir path (record { 0 = 0 })
-without_id c = c
+without_id c = with_id (record { 0 = 0 }) c
+
+-- the command names a new object
+abbrev pub makes_object : Command → Bool
+makes_object (Create path oid) = true
+makes_object (Mkdir path oid) = true
+makes_object c = false

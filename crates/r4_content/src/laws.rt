@@ -1,9 +1,10 @@
 //! Laws of commands (docs/commands.md). Each is the contract of a function that does nothing.
 
-ghost use Rattle.std.specs.FinMap.{from_sorted};
-ghost use Rattle.std.specs.Prelude.{◌≡◌, ◌≢◌, ◌↔◌, ◌<◌, ◌≤◌, ◌^◌, ℕ, List, length, replicate, false};
+ghost use Rattle.std.specs.FinMap.{find, from_sorted};
+ghost use Rattle.std.specs.Ordering.{nat_cmp};
+ghost use Rattle.std.specs.Prelude.{◌≡◌, ◌≢◌, ◌↔◌, ◌<◌, ◌≤◌, ◌^◌, ℕ, List, length, replicate, true, false};
 ghost use Rattle.r4_base.specs.Image.{Image};
-ghost use Rattle.r4_base.specs.Value.{Content};
+ghost use Rattle.r4_base.specs.Value.{Content, at_key};
 ghost use Rattle.r4_base.specs.Volume.{HasContent, HasObjects};
 ghost use Rattle.r4_base.specs.declared.items.Attr.{Attr};
 ghost use Rattle.r4_base.specs.declared.items.Target.{Target};
@@ -13,8 +14,8 @@ ghost use Rattle.r4_content.specs.Edited.{Pairs, changed, edited, is_in};
 ghost use Rattle.r4_content.specs.Fields.{HasBytePaths, HasBytes, HasNumbers, IsUnused, NamesUnused};
 ghost use Rattle.r4_content.specs.Lawful.{HasBodies, IsLawful};
 ghost use Rattle.r4_content.specs.Listed.{list_after};
-ghost use Rattle.r4_content.specs.Locality.{IsLocal, Meaning, Spares, commands};
-ghost use Rattle.r4_content.specs.Meaning.{after, changes, course, greatest_size, reply};
+ghost use Rattle.r4_content.specs.Locality.{AsksForStats, IsLocal, Meaning, Spares, commands};
+ghost use Rattle.r4_content.specs.Meaning.{after, changes, course, greatest_size, reads, reply};
 ghost use Rattle.r4_content.specs.Objects.{new_directory, new_file};
 ghost use Rattle.r4_content.specs.Reading.{OnlyReads};
 ghost use Rattle.r4_content.specs.Seen.{IsSeen, Rises, of_seen};
@@ -30,12 +31,23 @@ pub fn commands_are_local()
 {}
 
 /// What was seen where a command asks for it suffices: the edits for it, made in the content, give the content after the
-/// command, and the reply is the command's.
+/// command, and the reply is the command's. For that it is enough that what was seen agrees with the content where the
+/// command reads the content.
 pub fn seen_suffices()
     ensures content { (limit : ℕ) (c : Command) (s : Pairs) (m : Content) → IsSeen limit c s m → edited (ending (course limit c) (of_seen s)).edits m ≡ after limit c m }
     ensures reply { (limit : ℕ) (c : Command) (s : Pairs) (m : Content) → IsSeen limit c s m → (ending (course limit c) (of_seen s)).reply ≡ reply limit c m }
     ensures edits { (limit : ℕ) (c : Command) (s : Pairs) (m : Content) (k : ℕ) → IsSeen limit c s m
         → is_in (changed (ending (course limit c) (of_seen s)).edits) k ≡ is_in (changes limit c m) k }
+    ensures read { (limit : ℕ) (c : Command) (s : Pairs) (m : Content) → Rises s
+        → ((k : ℕ) → is_in (reads limit c m) k ≡ true → find nat_cmp k s ≡ at_key m k)
+        → IsSeen limit c s m }
+{}
+
+/// A command that reads or changes a key of a file's body reads the stat key of the file. So it is in each content whose
+/// numbers are of their fields' widths, for paths of bytes.
+pub fn commands_ask_for_stats()
+    ensures { (limit : ℕ) (c : Command) (m : Content) → limit ≤ 2 ^ 64 → HasNumbers m → HasBytePaths c
+        → AsksForStats limit c m }
 {}
 
 /// A command does to a content what it does to the list of its pairs.

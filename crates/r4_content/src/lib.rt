@@ -2,6 +2,7 @@
 #![tactic(auto)]
 
 mod command;
+mod comparing;
 mod edits;
 mod examples;
 mod laws;
@@ -14,9 +15,9 @@ pub use command::Command;
 pub use edits::{ByteRun, Edits, FilledInterval, Interval};
 pub use examples::{empty_volume_examples, other_contents_examples, touched_examples};
 pub use laws::{
-    apart_commands_commute, commands_are_local, lawful_contents_stay_lawful, lists_are_contents,
-    refusals_change_nothing, seen_suffices, volumes_are_lawful, walks_agree,
-    what_is_written_is_read,
+    apart_commands_commute, commands_are_local, commands_ask_for_stats,
+    lawful_contents_stay_lawful, lists_are_contents, refusals_change_nothing, seen_suffices,
+    volumes_are_lawful, walks_agree, what_is_written_is_read,
 };
 pub use names::Names;
 pub use path::Path;
