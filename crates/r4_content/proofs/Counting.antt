@@ -24,11 +24,11 @@ pub second_holds : (a b : Bool) → T (a && b) → T b
 second_holds true b h = h
 second_holds false b h = absurd h
 
-both_hold : (a b : Bool) → T a → T b → T (a && b)
+pub both_hold : (a b : Bool) → T a → T b → T (a && b)
 both_hold true b h g = g
 both_hold false b h g = h
 
-below_lt : (x y : ℕ) → T (is_lt (nat_cmp x y)) → x < y
+pub below_lt : (x y : ℕ) → T (is_lt (nat_cmp x y)) → x < y
 below_lt x y h = elim (cases_lt x y) [
   | inl lt ↦ lt
   | inr ge ↦ elim (cases_lt y x) [

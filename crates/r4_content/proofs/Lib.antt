@@ -29,3 +29,5 @@ pub mod Keeping
 pub mod OneBodies
 pub mod Volumes
 pub mod StatsAsked
+pub mod Doing
+pub mod Widths

@@ -11,11 +11,11 @@ use Rattle.r4_base.specs.Value.{Value, Stat, Entry, Byte, Content, at_key}
 use Rattle.r4_base.specs.Volume.{entries_in, is_entry_in}
 use Rattle.r4_base.specs.declared.items.Target.{Target}
 use Rattle.r4_content.specs.Course.{Course, Answer, Change, Ending, ending, of_content}
-use Rattle.r4_content.specs.Edited.{Pairs, edited, is_between, pairs_between}
+use Rattle.r4_content.specs.Edited.{Edits, Pairs, edited, is_between, no_edits, pairs_between}
 use Rattle.r4_content.specs.Entries.{entries_from, entries_to, if_empty, names_in, unname_in, with_entries}
 use Rattle.r4_content.specs.Fields.{HasBytes, HasNumbers}
 use Rattle.r4_content.specs.Lawful.{HasBodies, IsLawful}
-use Rattle.r4_content.specs.Meaning.{after, named, reply}
+use Rattle.r4_content.specs.Meaning.{after, course, named, reply}
 use Rattle.r4_content.specs.Objects.{Object, entry_rank, is_dir}
 use Rattle.r4_content.specs.Ways.{Place, step, to_entry}
 use Rattle.r4_content.specs.declared.command.Command.TheVariants.{Rmdir, Unlink}
@@ -158,30 +158,46 @@ loses_name limit m dir o n numbers there is o_there bytes entry empty =
 abbrev pub unlink_next : Object → (name : List ℕ) → Place → Course
 unlink_next dir n p = if is_dir p.here then Answer Isdir else Change (unname_in dir n p.here)
 
-pub unlink_lawful : (limit : ℕ) (path : List (List ℕ)) (m : Content) → limit < 2 ^ 64 → IsLawful limit m → HasBytes path → Stays limit (after limit (Unlink path) m)
-unlink_lawful limit path m lt lawful bytes = by_done limit (Unlink path) m (λ x. Stays limit x) (lawful.objects, lawful.bodies) done
+-- what an entry that went was
+abbrev pub LosesAll : Content → (Edits → Type 0) → Type 0
+LosesAll m P = (dir o : Object) (n : List ℕ) → Loses m dir o n → P (unname_in dir n o)
+
+pub unlink_done : (limit : ℕ) (path : List (List ℕ)) (m : Content) → limit < 2 ^ 64 → IsLawful limit m → HasBytes path → (P : Edits → Type 0) → LosesAll m P
+    → reply limit (Unlink path) m ≡ Okay → P (ending (course limit (Unlink path)) (of_content m)).edits
+unlink_done limit path m lt lawful bytes P loses okay =
+    let numbers = numbers_of limit m lt lawful in
+    let c = came_to_entry m Isdir path unlink_next numbers bytes (λ e. cc) okay in
+    let dir = c.above.here in
+    let o = c.place.here in
+    let file = is_file dir o c.name (is_dir o) (sym (ap (λ (x : Ending). x.reply) c.ends) ∙ okay) in
+    let ends = c.ends ∙ ap (λ (b : Bool). ending (if b then Answer Isdir else Change (unname_in dir c.name o)) (of_content m)) file in
+    subst (λ (x : Ending). P x.edits) (sym ends)
+    (loses dir o c.name (loses_name limit m dir o c.name numbers c.above_there c.above_is c.there c.bytes c.entry (λ d. absurd (true_not_false (sym d ∙ file)))))
   where
     is_file : (dir o : Object) (n : List ℕ) (b : Bool) → (ending (if b then Answer Isdir else Change (unname_in dir n o)) (of_content m)).reply ≡ Okay → (b ≡ false)
     is_file dir o n true h = absurd cc
     is_file dir o n false h = refl
 
-    done : reply limit (Unlink path) m ≡ Okay → Stays limit (after limit (Unlink path) m)
-    done okay =
-        let numbers = numbers_of limit m lt lawful in
-        let c = came_to_entry m Isdir path unlink_next numbers bytes (λ e. cc) okay in
-        let dir = c.above.here in
-        let o = c.place.here in
-        let file = is_file dir o c.name (is_dir o) (sym (ap (λ (x : Ending). x.reply) c.ends) ∙ okay) in
-        let ends = c.ends ∙ ap (λ (b : Bool). ending (if b then Answer Isdir else Change (unname_in dir c.name o)) (of_content m)) file in
-        subst (λ (x : Ending). Stays limit (edited x.edits m)) (sym ends)
-        (let loses = loses_name limit m dir o c.name numbers c.above_there c.above_is c.there c.bytes c.entry (λ d. absurd (true_not_false (sym d ∙ file))) in
-        (loses_lawful limit m dir o c.name lawful.objects lawful.bodies loses, loses_bodies limit m dir o c.name lawful.objects lawful.bodies loses))
+loses_all : (limit : ℕ) (m : Content) → IsLawful limit m → LosesAll m (λ x. Stays limit (edited x m))
+loses_all limit m lawful dir o n loses = (loses_lawful limit m dir o n lawful.objects lawful.bodies loses, loses_bodies limit m dir o n lawful.objects lawful.bodies loses)
+
+pub unlink_lawful : (limit : ℕ) (path : List (List ℕ)) (m : Content) → limit < 2 ^ 64 → IsLawful limit m → HasBytes path → Stays limit (after limit (Unlink path) m)
+unlink_lawful limit path m lt lawful bytes =
+    by_done limit (Unlink path) m (λ x. Stays limit x) (lawful.objects, lawful.bodies) (unlink_done limit path m lt lawful bytes (λ x. Stays limit (edited x m)) (loses_all limit m lawful))
 
 abbrev pub rmdir_next : Object → (name : List ℕ) → Place → Course
 rmdir_next dir n p = if is_dir p.here then with_entries p.here (λ es. if_empty (Change (unname_in dir n p.here)) (names_in es)) else Answer Notdir
 
-pub rmdir_lawful : (limit : ℕ) (path : List (List ℕ)) (m : Content) → limit < 2 ^ 64 → IsLawful limit m → HasBytes path → Stays limit (after limit (Rmdir path) m)
-rmdir_lawful limit path m lt lawful bytes = by_done limit (Rmdir path) m (λ x. Stays limit x) (lawful.objects, lawful.bodies) done
+pub rmdir_done : (limit : ℕ) (path : List (List ℕ)) (m : Content) → limit < 2 ^ 64 → IsLawful limit m → HasBytes path → (P : Edits → Type 0) → LosesAll m P
+    → reply limit (Rmdir path) m ≡ Okay → P (ending (course limit (Rmdir path)) (of_content m)).edits
+rmdir_done limit path m lt lawful bytes P loses okay =
+    let numbers = numbers_of limit m lt lawful in
+    let c = came_to_entry m Loop path rmdir_next numbers bytes (λ e. cc) okay in
+    let dir = c.above.here in
+    let o = c.place.here in
+    let (none, made) = is_done dir o c.name (is_dir o) (names_in (pairs_between m (entries_from o.target.oid.0) (entries_to o.target.oid.0))) (sym (ap (λ (x : Ending). x.reply) c.ends) ∙ okay) refl in
+    subst (λ (x : Ending). P x.edits) (sym (c.ends ∙ made))
+    (loses dir o c.name (loses_name limit m dir o c.name numbers c.above_there c.above_is c.there c.bytes c.entry (λ d. is_empty limit m o.target lawful.bodies none)))
   where
     is_done : (dir o : Object) (n : List ℕ) (b : Bool) (ns : List (List ℕ))
         → (ending (if b then with_entries o (λ es. if_empty (Change (unname_in dir n o)) (names_in es)) else Answer Notdir) (of_content m)).reply ≡ Okay
@@ -195,13 +211,6 @@ rmdir_lawful limit path m lt lawful bytes = by_done limit (Rmdir path) m (λ x. 
         refused : Notempty ≡ Okay → ⊥
         refused e = cc
 
-    done : reply limit (Rmdir path) m ≡ Okay → Stays limit (after limit (Rmdir path) m)
-    done okay =
-        let numbers = numbers_of limit m lt lawful in
-        let c = came_to_entry m Loop path rmdir_next numbers bytes (λ e. cc) okay in
-        let dir = c.above.here in
-        let o = c.place.here in
-        let (none, made) = is_done dir o c.name (is_dir o) (names_in (pairs_between m (entries_from o.target.oid.0) (entries_to o.target.oid.0))) (sym (ap (λ (x : Ending). x.reply) c.ends) ∙ okay) refl in
-        subst (λ (x : Ending). Stays limit (edited x.edits m)) (sym (c.ends ∙ made))
-        (let loses = loses_name limit m dir o c.name numbers c.above_there c.above_is c.there c.bytes c.entry (λ d. is_empty limit m o.target lawful.bodies none) in
-        (loses_lawful limit m dir o c.name lawful.objects lawful.bodies loses, loses_bodies limit m dir o c.name lawful.objects lawful.bodies loses))
+pub rmdir_lawful : (limit : ℕ) (path : List (List ℕ)) (m : Content) → limit < 2 ^ 64 → IsLawful limit m → HasBytes path → Stays limit (after limit (Rmdir path) m)
+rmdir_lawful limit path m lt lawful bytes =
+    by_done limit (Rmdir path) m (λ x. Stays limit x) (lawful.objects, lawful.bodies) (rmdir_done limit path m lt lawful bytes (λ x. Stays limit (edited x m)) (loses_all limit m lawful))

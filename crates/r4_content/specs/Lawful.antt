@@ -1,5 +1,5 @@
 -- What is asked of a content, wherever its bytes stand (docs/volume.md, "The content of an image").
-use Rattle.std.specs.Prelude.{◌≡◌, ◌↔◌, ℕ, ◌-◌, ◌^◌, ◌<◌, ◌≤◌, true, false, Some}
+use Rattle.std.specs.Prelude.{◌≡◌, ◌↔◌, ℕ, ◌+◌, ◌-◌, ◌^◌, ◌<◌, ◌≤◌, true, false, Some}
 use Rattle.r4_base.specs.Key.{key_of_rank}
 use Rattle.r4_base.specs.Value.{Value, Byte, Content, at_key}
 use Rattle.r4_base.specs.Volume.{HasObjects, HasStat, KeyFits, byte_rank, is_directory}
@@ -23,3 +23,7 @@ pub record IsLawful (limit : ℕ) (m : Content) : Type 0 where
   pub bodies : HasBodies limit m
   pub room : (o : Target) (a : Attr) → HasStat m o a → is_directory a ≡ true → a.size < 2 ^ 64 - 1
   pub links : (o : Target) (a : Attr) → HasStat m o a → a.nlink < 2 ^ 32
+
+-- each directory can count so many entries more
+abbrev pub RoomFor : ℕ → Content → Type 0
+RoomFor n m = (o : Target) (a : Attr) → HasStat m o a → is_directory a ≡ true → a.size + n < 2 ^ 64

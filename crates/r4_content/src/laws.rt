@@ -2,17 +2,17 @@
 
 ghost use Rattle.std.specs.FinMap.{find, from_sorted};
 ghost use Rattle.std.specs.Ordering.{nat_cmp};
-ghost use Rattle.std.specs.Prelude.{◌≡◌, ◌≢◌, ◌↔◌, ◌<◌, ◌≤◌, ◌^◌, ℕ, List, length, replicate, true, false};
+ghost use Rattle.std.specs.Prelude.{◌≡◌, ◌≢◌, ◌↔◌, ◌+◌, ◌<◌, ◌≤◌, ◌^◌, ℕ, List, length, replicate, true, false};
 ghost use Rattle.r4_base.specs.Image.{Image};
 ghost use Rattle.r4_base.specs.Value.{Content, at_key};
-ghost use Rattle.r4_base.specs.Volume.{HasContent, HasObjects};
+ghost use Rattle.r4_base.specs.Volume.{HasContent, HasObjects, HasStat};
 ghost use Rattle.r4_base.specs.declared.items.Attr.{Attr};
 ghost use Rattle.r4_base.specs.declared.items.Target.{Target};
 ghost use Rattle.r4_base.specs.declared.things.Oid.{Oid};
 ghost use Rattle.r4_content.specs.Course.{ending};
 ghost use Rattle.r4_content.specs.Edited.{Pairs, changed, edited, is_in};
 ghost use Rattle.r4_content.specs.Fields.{HasBytePaths, HasBytes, HasNumbers, IsUnused, NamesUnused};
-ghost use Rattle.r4_content.specs.Lawful.{HasBodies, IsLawful};
+ghost use Rattle.r4_content.specs.Lawful.{HasBodies, IsLawful, RoomFor};
 ghost use Rattle.r4_content.specs.Listed.{list_after};
 ghost use Rattle.r4_content.specs.Locality.{AsksForStats, IsLocal, Meaning, Spares, commands};
 ghost use Rattle.r4_content.specs.Meaning.{after, changes, course, greatest_size, reads, reply};
@@ -101,12 +101,21 @@ pub fn what_is_written_is_read()
 {}
 
 /// A content that a volume may have stays one: after each command its objects, directories and entries are again as a
-/// volume asks it, its keys fit what stands at them, and each file has just the bytes below its size (docs/volume.md, "The
-/// content of an image"). A command that makes an object must name an id that is not in use, and each directory must be
-/// able to count another entry (`IsLawful`).
+/// volume asks it, its keys fit what stands at them, each file has just the bytes below its size, and links are numbers of
+/// their field (docs/volume.md, "The content of an image"). A command that makes an object must name an id that is not in
+/// use. Each directory must be able to count another entry: one that can count so many and one more, can count so many
+/// after the command (`RoomFor`), so that for so many commands no more is asked.
 pub fn lawful_contents_stay_lawful()
-    ensures objects { (limit : ℕ) (c : Command) (m : Content) → limit < 2 ^ 64 → IsLawful limit m → HasBytePaths c → NamesUnused m c → HasObjects (after limit c m) }
-    ensures bodies { (limit : ℕ) (c : Command) (m : Content) → limit < 2 ^ 64 → IsLawful limit m → HasBytePaths c → NamesUnused m c → HasBodies limit (after limit c m) }
+    ensures objects { (limit : ℕ) (c : Command) (m : Content) → limit < 2 ^ 64 → IsLawful limit m → HasBytePaths c → NamesUnused m c
+        → HasObjects (after limit c m) }
+    ensures bodies { (limit : ℕ) (c : Command) (m : Content) → limit < 2 ^ 64 → IsLawful limit m → HasBytePaths c → NamesUnused m c
+        → HasBodies limit (after limit c m) }
+    ensures links { (limit : ℕ) (c : Command) (m : Content) → limit < 2 ^ 64 → IsLawful limit m → HasBytePaths c → NamesUnused m c
+        → (o : Target) (a : Attr) → HasStat (after limit c m) o a → a.nlink < 2 ^ 32 }
+    ensures room { (limit : ℕ) (c : Command) (m : Content) (n : ℕ) → limit < 2 ^ 64 → IsLawful limit m → HasBytePaths c → NamesUnused m c
+        → RoomFor (n + 1) m → RoomFor n (after limit c m) }
+    ensures lawful { (limit : ℕ) (c : Command) (m : Content) → limit < 2 ^ 64 → IsLawful limit m → HasBytePaths c → NamesUnused m c
+        → RoomFor 2 m → IsLawful limit (after limit c m) }
     ensures numbers { (limit : ℕ) (m : Content) → limit < 2 ^ 64 → IsLawful limit m → HasNumbers m }
 {}
 

@@ -4,7 +4,7 @@ ghost use Rattle.std.specs.Prelude.{◌≡◌, IfOk};
 ghost use Rattle.r4_base.specs.Key.{rank, stat_key};
 ghost use Rattle.r4_content.specs.Edited.{no_edits};
 ghost use Rattle.r4_content.specs.Entries.{name_in};
-ghost use Rattle.r4_content.specs.Held.{ending_of};
+ghost use Rattle.r4_content.specs.Held.{HoldsAtMost, ending_of};
 ghost use Rattle.r4_content.specs.Objects.{entry_rank, set_attr};
 ghost use Rattle.r4_content.specs.declared.reply.Reply.TheVariants.{Okay};
 ghost use Rattle.r4_dir.specs.Changes.{edits_made};
@@ -19,7 +19,8 @@ use std::alloc::Global;
 
 /// A reply, and nothing changes.
 pub fn answer(alloc: Global, reply: Reply) -> Edits
-    ensures { ending_of result ≡ record { edits = no_edits; reply = reply } }
+    ensures ending { ending_of result ≡ record { edits = no_edits; reply = reply } }
+    ensures flat { HoldsAtMost 0 0 0 result }
 {
     Edits {
         cuts: Vec::new(alloc),

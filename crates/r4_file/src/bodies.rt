@@ -4,7 +4,7 @@ ghost use Rattle.std.specs.Prelude.{◌≡◌, ◌+◌, ◌<◌, ◌≤◌, ◌^
 ghost use Rattle.r4_base.specs.Volume.{byte_rank};
 ghost use Rattle.r4_content.specs.Bodies.{fill_gap, larger, resize, truncate, truncated, write, written};
 ghost use Rattle.r4_content.specs.Course.{ending};
-ghost use Rattle.r4_content.specs.Held.{ending_of, fill_pairs, interval_of, pair_of, pairs_of};
+ghost use Rattle.r4_content.specs.Held.{HoldsAtMost, ending_of, fill_pairs, interval_of, pair_of, pairs_of};
 ghost use Rattle.r4_content.specs.Meaning.{greatest_size, named};
 ghost use Rattle.r4_content.specs.Objects.{set_body, sized};
 ghost use Rattle.r4_content.specs.Seen.{Rises, of_seen};
@@ -120,7 +120,9 @@ fn gap(alloc: Global, file: &Object, to: u64) -> Result<Vec<Interval>, Memory>
 // A file grows where bytes end past its size.
 fn grown(alloc: Global, file: &Object, end: u64) -> Result<Vec<(Key, Value)>, Memory>
     requires { IsSmall file.now }
-    ensures { IfOk result (λ v. map pair_of v.items ≡ (resize (object_of file.now) (larger file.now.attr.size end)).puts) }
+    ensures puts { IfOk result (λ v. map pair_of v.items
+        ≡ (resize (object_of file.now) (larger file.now.attr.size end)).puts) }
+    ensures flat { IfOk result (λ v. length v.items ≤ 1) }
 {
     let mut puts = Vec::new(alloc);
     if file.attr.size < end {
@@ -140,7 +142,9 @@ fn is_too_big(offset: u64, len: u64) -> bool
 fn written(alloc: Global, file: &Object, offset: u64, text: &Bytes) -> Result<Edits, Memory>
     requires small { IsSmall file.now }
     requires fits { offset + length text.now < 2 ^ 64 }
-    ensures { IfOk result (λ e. ending_of e ≡ record { edits = written (object_of file.now) offset text.now; reply = Okay }) }
+    ensures ending { IfOk result (λ e. ending_of e
+        ≡ record { edits = written (object_of file.now) offset text.now; reply = Okay }) }
+    ensures flat { IfOk result (HoldsAtMost 1 0 1) }
 {
     let zeros = gap(alloc, file, offset)?;
     let puts = grown(alloc, file, offset + text.as_slice().len() as u64)?;
@@ -160,8 +164,8 @@ fn written(alloc: Global, file: &Object, offset: u64, text: &Bytes) -> Result<Ed
     })
 }
 
-/// What `write` changes: the bytes of `text` are set from `offset` on, and a gap before them is zeros. The bytes are
-/// shared, and none is copied.
+/// What `write` changes: the bytes of `text` are set from `offset` on, as one run that shares them, and a gap before them is
+/// zeros.
 pub fn plan_write(
     alloc: Global,
     path: &[Name],
@@ -170,7 +174,9 @@ pub fn plan_write(
     seen: &Seen,
 ) -> Result<Edits, Memory>
     requires { Rises (pairs_of seen.now) }
-    ensures { IfOk result (λ e. ending_of e ≡ ending (named path.now (write greatest_size path.now offset text.now)) (of_seen (pairs_of seen.now))) }
+    ensures ending { IfOk result (λ e. ending_of e
+        ≡ ending (named path.now (write greatest_size path.now offset text.now)) (of_seen (pairs_of seen.now))) }
+    ensures flat { IfOk result (HoldsAtMost 1 0 1) }
 {
     if !is_legal(path) {
         return Ok(answer(alloc, Reply::Name));
@@ -204,7 +210,9 @@ fn filled(file: &Object, offset: u64, len: u64, byte: u8) -> FilledInterval
 fn fill(alloc: Global, file: &Object, offset: u64, len: u64, byte: u8) -> Result<Edits, Memory>
     requires small { IsSmall file.now }
     requires fits { offset + len < 2 ^ 64 }
-    ensures { IfOk result (λ e. ending_of e ≡ record { edits = written (object_of file.now) offset (replicate len byte); reply = Okay }) }
+    ensures ending { IfOk result (λ e. ending_of e
+        ≡ record { edits = written (object_of file.now) offset (replicate len byte); reply = Okay }) }
+    ensures flat { IfOk result (HoldsAtMost 0 1 1) }
 {
     let zeros = gap(alloc, file, offset)?;
     let puts = grown(alloc, file, offset + len)?;
@@ -220,8 +228,7 @@ fn fill(alloc: Global, file: &Object, offset: u64, len: u64, byte: u8) -> Result
     })
 }
 
-/// What `fill` changes: `len` bytes from `offset` on become `byte`, and a gap before them is zeros. They take no memory
-/// one by one.
+/// What `fill` changes: `len` bytes from `offset` on become `byte`, in one interval, and a gap before them is zeros.
 pub fn plan_fill(
     alloc: Global,
     path: &[Name],
@@ -231,7 +238,9 @@ pub fn plan_fill(
     seen: &Seen,
 ) -> Result<Edits, Memory>
     requires { Rises (pairs_of seen.now) }
-    ensures { IfOk result (λ e. ending_of e ≡ ending (named path.now (write greatest_size path.now offset (replicate len byte))) (of_seen (pairs_of seen.now))) }
+    ensures ending { IfOk result (λ e. ending_of e
+        ≡ ending (named path.now (write greatest_size path.now offset (replicate len byte))) (of_seen (pairs_of seen.now))) }
+    ensures flat { IfOk result (HoldsAtMost 0 1 1) }
 {
     if !is_legal(path) {
         return Ok(answer(alloc, Reply::Name));
