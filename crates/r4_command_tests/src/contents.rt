@@ -172,7 +172,11 @@ pub fn perform(alloc: Global, seen: &mut Seen, command: &Command, oid: Oid) -> R
     if !rises(seen) {
         return Err(Fail::from("the keys do not rise"));
     }
-    let command = numbered(alloc, command, oid)?;
+    let job = command;
+    let command = numbered(alloc, job, oid)?;
+    if !command.is_job(job, oid) || command.is_job(job, Oid(1)) == command.makes_object() {
+        return Err(Fail::from("the command is not the job's"));
+    }
     let Edits {
         cuts,
         zeros,

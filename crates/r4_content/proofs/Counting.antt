@@ -114,7 +114,7 @@ not_some v e = cc
 pub not_same : (k i : ℕ) → (k == i) ≡ false → k ≢ i
 not_same k i e same = true_not_false (sym (eq-eqb k i same) ∙ e)
 
-here_small : (p : ℕ × Value → Bool) (k : ℕ) (v : Option Value) → here p k v ≤ 1
+pub here_small : (p : ℕ × Value → Bool) (k : ℕ) (v : Option Value) → here p k v ≤ 1
 here_small p k v = by_test (is_some (pick p k v))
   where
     by_test : (b : Bool) → (if b then 1 else 0) ≤ 1

@@ -31,3 +31,6 @@ pub mod Volumes
 pub mod StatsAsked
 pub mod Doing
 pub mod Widths
+pub mod VolumeWidths
+pub mod ObjectCounts
+pub mod ObjectsMade

@@ -258,7 +258,7 @@ module _ (limit : ℕ) (m : Content) (dir o : Object) (n : List ℕ) (lawful : H
       ∙ edited_first set_dir (unnamed o) m (stat_rank dir.target) (off_unnamed o (stat_rank dir.target) h.size unlike (λ x lt. stat_not_byte dir.target o.target x h.dir_stat.0 h.stat.0 lt))
       ∙ put_itself m (stat_rank dir.target) (Stat (entry_less (is_dir o) dir.attr))
 
-  object_now : at_key after (stat_rank o.target) ≡ stat_value (rest_of o)
+  pub object_now : at_key after (stat_rank o.target) ≡ stat_value (rest_of o)
   object_now =
       edited_second (cut_key key) (and_also set_dir (unnamed o)) m (stat_rank o.target) (off_key key (stat_rank o.target) (λ e. entry_not_stat dir.target o.target n h.small h.bytes h.stat.0 (sym e)))
       ∙ edited_second set_dir (unnamed o) m (stat_rank o.target) (off_attr dir (entry_less (is_dir o) dir.attr) (stat_rank o.target) (λ e. unlike (sym e))) ∙ unnamed_stat m o h.stat.0 h.size

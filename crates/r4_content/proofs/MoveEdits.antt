@@ -207,7 +207,7 @@ module _ (limit : ℕ) (m : Content) (dir o new : Object) (name new_name : List 
       seen_alone (stat_rank t) (λ yes_over. let x = (h.onto yes_over).stat.0 in
       old_off yes_over (stat_rank t) (λ e. other yes_over (same_stat t old.target is x e)) (λ y lt. stat_not_byte t old.target y is x lt))
 
-  old_now : over ≡ true → at_key after (stat_rank old.target) ≡ stat_value (rest_of old)
+  pub old_now : over ≡ true → at_key after (stat_rank old.target) ≡ stat_value (rest_of old)
   old_now yes_over = by_over over refl yes_over
     where
       by_over : (b : Bool) → over ≡ b → b ≡ true → at_key (edited (if b then and_also (unnamed old) (moved dir name o (comes_to o new true) new_name) else moved dir name o (comes_to o new false) new_name) m) (stat_rank old.target) ≡ stat_value (rest_of old)

@@ -1,6 +1,7 @@
 -- Numbers of attributes stay within their fields.
 use Rattle.std.specs.Prelude.{◌≡◌, ◌⊎◌, ℕ, ◌+◌, ◌-◌, ◌*◌, ◌/◌, ◌%◌, ◌^◌, ◌<◌, ◌≤◌, List, [], ◌∷◌, ◌++◌, Bool, true, false, ◌==◌, cond, nat_lt, nat_le, length, replicate, Option, Some, None, if◌then◌else◌}
 use Rattle.std.proofs.Common.{arith, inl, inr, refl, sym, ap, subst, ◌∙◌}
+use Rattle.std.proofs.lemmas.Bool.{eqb-true}
 use Rattle.std.proofs.lemmas.Grind.{common_steps}
 use Rattle.std.proofs.lemmas.Option.{same_Some}
 use Rattle.r4_base.specs.Value.{Value, Stat, Entry, Byte, Content, at_key}
@@ -29,10 +30,10 @@ use Rattle.r4_content.proofs.SameWay.{IsThere}
 
 -- ---- what holds of all attributes that are put
 
-module _ (R : Attr → Type 0) where
+module _ (R : ℕ → Attr → Type 0) where
   abbrev pub EachStat : Pairs → Type 0
   EachStat [] = Unit {0}
-  EachStat ((k, Stat a) ∷ es) = R a × EachStat es
+  EachStat ((k, Stat a) ∷ es) = R k a × EachStat es
   EachStat ((k, Entry n t) ∷ es) = EachStat es
   EachStat ((k, Byte x) ∷ es) = EachStat es
 
@@ -46,41 +47,41 @@ module _ (R : Attr → Type 0) where
   each_byte k [] = tt
   each_byte k (x ∷ xs) = each_byte (k + 1) xs
 
-  abbrev HoldsIn : Option Value → Type 0
-  HoldsIn None = Unit {0}
-  HoldsIn (Some (Stat a)) = R a
-  HoldsIn (Some (Entry n t)) = Unit {0}
-  HoldsIn (Some (Byte x)) = Unit {0}
+  abbrev HoldsIn : ℕ → Option Value → Type 0
+  HoldsIn k None = Unit {0}
+  HoldsIn k (Some (Stat a)) = R k a
+  HoldsIn k (Some (Entry n t)) = Unit {0}
+  HoldsIn k (Some (Byte x)) = Unit {0}
 
-  holds_put : (es : Pairs) (k : ℕ) (v : Option Value) → EachStat es → HoldsIn v → HoldsIn (last_put es k v)
+  holds_put : (es : Pairs) (k : ℕ) (v : Option Value) → EachStat es → HoldsIn k v → HoldsIn k (last_put es k v)
   holds_put [] k v h g = g
-  holds_put ((q, Stat a) ∷ es) k v h g = holds_put es k (cond (k == q) (Some (Stat a)) v) h.1 (by_key (k == q))
+  holds_put ((q, Stat a) ∷ es) k v h g = holds_put es k (cond (k == q) (Some (Stat a)) v) h.1 (by_key (k == q) refl)
     where
-      by_key : (b : Bool) → HoldsIn (cond b (Some (Stat a)) v)
-      by_key true = h.0
-      by_key false = g
-  holds_put ((q, Entry n t) ∷ es) k v h g = holds_put es k (cond (k == q) (Some (Entry n t)) v) h (by_key (k == q))
+      by_key : (b : Bool) → (k == q) ≡ b → HoldsIn k (cond b (Some (Stat a)) v)
+      by_key true e = subst (λ (x : ℕ). R x a) (sym (eqb-true k q e)) h.0
+      by_key false e = g
+  holds_put ((q, Entry n t) ∷ es) k v h g = holds_put es k (cond (k == q) (Some (Entry n t)) v) h (by_key (k == q) refl)
     where
-      by_key : (b : Bool) → HoldsIn (cond b (Some (Entry n t)) v)
-      by_key true = tt
-      by_key false = g
-  holds_put ((q, Byte x) ∷ es) k v h g = holds_put es k (cond (k == q) (Some (Byte x)) v) h (by_key (k == q))
+      by_key : (b : Bool) → (k == q) ≡ b → HoldsIn k (cond b (Some (Entry n t)) v)
+      by_key true e = tt
+      by_key false e = g
+  holds_put ((q, Byte x) ∷ es) k v h g = holds_put es k (cond (k == q) (Some (Byte x)) v) h (by_key (k == q) refl)
     where
-      by_key : (b : Bool) → HoldsIn (cond b (Some (Byte x)) v)
-      by_key true = tt
-      by_key false = g
+      by_key : (b : Bool) → (k == q) ≡ b → HoldsIn k (cond b (Some (Byte x)) v)
+      by_key true e = tt
+      by_key false e = g
 
   -- what holds of all attributes, and of those that are put, holds of all after the edits
-  pub each_edited : (e : Edits) (m : Content) (k : ℕ) (a : Attr) → EachStat e.puts → ((b : Attr) → at_key m k ≡ Some (Stat b) → R b) → at_key (edited e m) k ≡ Some (Stat a) → R a
-  each_edited e m k a puts old at = subst HoldsIn (sym (at_edited e m k) ∙ at) (holds_put e.puts k _ puts (by_keys (is_in e.zeros k) (is_in e.cuts k)))
+  pub each_edited : (e : Edits) (m : Content) (k : ℕ) (a : Attr) → EachStat e.puts → ((b : Attr) → at_key m k ≡ Some (Stat b) → R k b) → at_key (edited e m) k ≡ Some (Stat a) → R k a
+  each_edited e m k a puts old at = subst (HoldsIn k) (sym (at_edited e m k) ∙ at) (holds_put e.puts k _ puts (by_keys (is_in e.zeros k) (is_in e.cuts k)))
     where
-      by_value : (v : Option Value) → at_key m k ≡ v → HoldsIn v
+      by_value : (v : Option Value) → at_key m k ≡ v → HoldsIn k v
       by_value None is = tt
       by_value (Some (Stat b)) is = old b is
       by_value (Some (Entry n t)) is = tt
       by_value (Some (Byte x)) is = tt
 
-      by_keys : (p q : Bool) → HoldsIn (cond p (Some (Byte 0)) (cond q None (at_key m k)))
+      by_keys : (p q : Bool) → HoldsIn k (cond p (Some (Byte 0)) (cond q None (at_key m k)))
       by_keys true q = tt
       by_keys false true = tt
       by_keys false false = by_value (at_key m k) refl
@@ -103,7 +104,7 @@ pub record Passes (m : Content) (R : Attr → Type 0) : Type 0 where
 
 module _ (limit : ℕ) (m : Content) (R : Attr → Type 0) (p : Passes m R) where
   abbrev P : Edits → Type 0
-  P e = EachStat R e.puts
+  P e = EachStat (λ k a. R a) e.puts
 
   p_written : (o : Object) (n : ℕ) → IsThere m o → is_dir o ≡ false → P (resize o n)
   p_written o n there file = by_size (o.attr.size == n)
@@ -129,12 +130,12 @@ module _ (limit : ℕ) (m : Content) (R : Attr → Type 0) (p : Passes m R) wher
   p_writes : (from : ℕ) (xs : List ℕ) (o : Object) → IsThere m o → is_dir o ≡ false → from + length xs ≤ limit → P (written o from xs)
   p_writes from xs o there file le =
       let n = larger o.attr.size (from + length xs) in
-      each_append R (fill_gap o from).puts (byte_pairs (byte_rank o.target from) xs ++ (resize o n).puts) (p_gap o from)
-      (each_append R (byte_pairs (byte_rank o.target from) xs) (resize o n).puts (each_byte R (byte_rank o.target from) xs) (p_written o n there file))
+      each_append (λ k a. R a) (fill_gap o from).puts (byte_pairs (byte_rank o.target from) xs ++ (resize o n).puts) (p_gap o from)
+      (each_append (λ k a. R a) (byte_pairs (byte_rank o.target from) xs) (resize o n).puts (each_byte (λ k a. R a) (byte_rank o.target from) xs) (p_written o n there file))
 
   p_cuts : (n : ℕ) (o : Object) → IsThere m o → is_dir o ≡ false → n ≤ limit → P (truncated o n)
   p_cuts n o there file le =
-      each_append R (if nat_lt n o.attr.size then cut_body o n o.attr.size else fill_gap o n).puts (resize o n).puts (p_cut o n) (p_written o n there file)
+      each_append (λ k a. R a) (if nat_lt n o.attr.size then cut_body o n o.attr.size else fill_gap o n).puts (resize o n).puts (p_cut o n) (p_written o n there file)
 
   p_unnamed : (o : Object) → HasStat m o.target o.attr → P (unnamed o)
   p_unnamed o stat = by_kind (is_dir o) (nat_le o.attr.nlink 1)
@@ -163,7 +164,7 @@ module _ (limit : ℕ) (m : Content) (R : Attr → Type 0) (p : Passes m R) wher
   p_moves : (dir o : Object) (name new_name : List ℕ) (new : Object) (over : Bool) (old : Object) → CanMove m dir o new name new_name over old → P (moving dir name o new new_name over old)
   p_moves dir o name new_name new true old h =
       let y = h.onto refl in
-      each_append R (unnamed old).puts (moved dir name o (comes_to o new true) new_name).puts (p_unnamed old y.stat)
+      each_append (λ k a. R a) (unnamed old).puts (moved dir name o (comes_to o new true) new_name).puts (p_unnamed old y.stat)
       (p_parents dir (comes_to o new true) (is_dir o) h.dir_stat h.dir_is (p.again new.target new.attr (is_dir o) (is_dir o) h.new_stat h.new_is) (p.twice new.target new.attr (is_dir o) (is_dir o) h.new_stat h.new_is))
   p_moves dir o name new_name new false old h =
       p_parents dir (comes_to o new false) (is_dir o) h.dir_stat h.dir_is (p.more new.target new.attr (is_dir o) h.new_stat h.new_is) (p.both new.target new.attr (is_dir o) h.new_stat h.new_is)
@@ -197,7 +198,7 @@ module _ (limit : ℕ) (m : Content) (R : Attr → Type 0) (p : Passes m R) wher
   pub passes_on : (c : Command) → limit < 2 ^ 64 → IsLawful limit m → HasBytePaths c → NamesUnused m c → ((t : Target) (a : Attr) → HasStat m t a → R a)
       → (t : Target) (a : Attr) → HasStat (after limit c m) t a → R a
   passes_on c lt lawful bytes unused old t a there =
-      each_edited R (ending (course limit c) (of_content m)).edits m (stat_rank t) a (holds_of limit c m lt lawful bytes unused P tt (all_pass c)) (λ b at. old t b (there.0, at)) there.1
+      each_edited (λ k a. R a) (ending (course limit c) (of_content m)).edits m (stat_rank t) a (holds_of limit c m lt lawful bytes unused P tt (all_pass c)) (λ b at. old t b (there.0, at)) there.1
 
 -- ---- links
 

@@ -16,3 +16,4 @@ pub mod Examples
 pub mod Walks
 pub mod Fields
 pub mod Lawful
+pub mod Counts

@@ -119,9 +119,13 @@ pub fn lawful_contents_stay_lawful()
     ensures numbers { (limit : ℕ) (m : Content) → limit < 2 ^ 64 → IsLawful limit m → HasNumbers m }
 {}
 
-/// The content of an image has objects, keys and bytes as this asks of them. What is asked besides is that its links are
-/// numbers of their field and that its directories can count another entry (`IsLawful`).
+/// The content of an image is lawful, and each of its directories can count 2^63 entries more: so commands can be done in it
+/// one after another as long as anyone lives.
 pub fn volumes_are_lawful()
     ensures objects { (n : ℕ) (image : Image) (m : Content) → HasContent n image m → HasObjects m }
-    ensures bodies { (n : ℕ) (image : Image) (m : Content) → HasContent n image m → HasBodies greatest_size m }
+    ensures bodies { (n : ℕ) (image : Image) (m : Content) → HasContent n image m
+        → HasBodies greatest_size m }
+    ensures lawful { (n : ℕ) (image : Image) (m : Content) → HasContent n image m
+        → IsLawful greatest_size m }
+    ensures room { (n : ℕ) (image : Image) (m : Content) → HasContent n image m → RoomFor (2 ^ 63) m }
 {}
