@@ -143,7 +143,6 @@ FewLinks dir o new over = over ≡ false → is_dir o ≡ true → is_same_targe
 module _ (limit : ℕ) (m : Content) (dir o : Object) (name new_name : List ℕ) (r : Place) (path : List (List ℕ)) (lawful : IsLawful limit m) (numbers : HasNumbers m) (e : Ends limit m dir o name new_name r path)
     (HoldsAfter : Edits → Type 0) (none : HoldsAfter no_edits)
     (moves : (over : Bool) (old : Object) → CanMove m dir o r.here name new_name over old → FewLinks dir o r.here over → HoldsAfter (moving dir name o r.here new_name over old)) where
-
   small_of : (x : Object) → IsThere m x → x.target.oid.0 < 2 ^ 60
   small_of x there = (small_object x.target (stat_there m x.target x.attr there.stat).0).1
 

@@ -75,8 +75,8 @@ some_value (Some v) e = (v, refl, e)
 no_more : (m n : Content) → ((k : ℕ) → has_stat (at_key m k) ≡ true → has_stat (at_key n k) ≡ true) → objects_in m ≤ objects_in n
 no_more m n h =
     let few = counted_few is_object (keys_of (filter is_object (entries n))) m (λ k v at e.
-      let (w, there, is) = some_value (at_key n k) (h k (ap has_stat at ∙ e)) in
-      key_in is_object (entries n) k w (sym (get-entries n k) ∙ there) is) in
+    let (w, there, is) = some_value (at_key n k) (h k (ap has_stat at ∙ e)) in
+    key_in is_object (entries n) k w (sym (get-entries n k) ∙ there) is) in
     let all = keys_length (filter is_object (entries n)) in
     let many = length-filter is_object (entries n) in
     omega (arith, few, all, many)

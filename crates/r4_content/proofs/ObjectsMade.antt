@@ -38,8 +38,8 @@ use Rattle.r4_content.proofs.Shapes.{entry_dir, stat_back}
 use Rattle.r4_content.proofs.Staying.{lawful_stays}
 use Rattle.r4_content.proofs.Widths.{EachStat, each_append, each_byte}
 
-abbrev one_if : Bool → ℕ
-one_if c = if c then 1 else 0
+abbrev pub as_number : Bool → ℕ
+as_number c = if c then 1 else 0
 
 -- ---- keys
 
@@ -58,8 +58,8 @@ stats_append [] qs = sym (omega arith)
 stats_append (r ∷ rs) qs = let rest = stats_append rs qs in omega (arith, rest)
 
 -- one interval
-stats_one : (r : ℕ × ℕ) (minor : ℕ) → minor_of (key_of_rank r.0) ≡ minor → stats_in (r ∷ []) ≡ one_if (minor == 1)
-stats_one r minor e = let same = ap (λ (x : ℕ). one_if (x == 1)) e in omega (arith, same)
+stats_one : (r : ℕ × ℕ) (minor : ℕ) → minor_of (key_of_rank r.0) ≡ minor → stats_in (r ∷ []) ≡ as_number (minor == 1)
+stats_one r minor e = let same = ap (λ (x : ℕ). as_number (x == 1)) e in omega (arith, same)
 
 -- ---- what keeps all objects but for one at most
 
@@ -166,7 +166,7 @@ entry_cut : (d : Object) (n : List ℕ) → d.target.oid.0 < 2 ^ 60 → All (λ 
 entry_cut d n small bytes = stats_one (entry_rank d.target n, entry_rank d.target n + 1) 0 (entry_dir d.target n small bytes).1
 
 abbrev some_there : Option Attr → ℕ
-some_there o = one_if (is_some o)
+some_there o = as_number (is_some o)
 
 unnamed_cut : (o : Object) → IsObject o.target → stats_in (unnamed o).cuts + some_there (rest_of o) ≡ 1
 unnamed_cut o is = by_kind (is_dir o) (nat_le o.attr.nlink 1)
@@ -178,7 +178,7 @@ unnamed_cut o is = by_kind (is_dir o) (nat_le o.attr.nlink 1)
     body = stats_one (byte_rank o.target 0, byte_rank o.target o.attr.size) 4 (byte_four o.target 0 is (lit< tt))
 
     by_kind : (d b : Bool) → stats_in (if d then cut_key (stat_rank o.target) else if b then and_also (cut_key (stat_rank o.target)) (cut_body o 0 o.attr.size) else set_attr o (link_less o.attr)).cuts
-        + one_if (is_some (if d then None else if b then None else Some (link_less o.attr))) ≡ 1
+        + as_number (is_some (if d then None else if b then None else Some (link_less o.attr))) ≡ 1
     by_kind true b = omega (arith, stat)
     by_kind false true = let all = stats_append ((stat_rank o.target, stat_rank o.target + 1) ∷ []) ((byte_rank o.target 0, byte_rank o.target o.attr.size) ∷ []) in omega (arith, stat, body, all)
     by_kind false false = refl
@@ -200,9 +200,9 @@ resize_cut o n = by_size (o.attr.size == n)
 -- ---- each edit
 
 stat_there_is : (m : Content) (t : Target) (a : Attr) → HasStat m t a → stat_here m (stat_rank t) ≡ 1
-stat_there_is m t a h = ap (λ (o : Option Value). one_if (has_stat o)) h.1
+stat_there_is m t a h = ap (λ (o : Option Value). as_number (has_stat o)) h.1
 
-rest_there : (o : Option Attr) → one_if (has_stat (stat_value o)) ≡ some_there o
+rest_there : (o : Option Attr) → as_number (has_stat (stat_value o)) ≡ some_there o
 rest_there None = refl
 rest_there (Some a) = refl
 
@@ -213,7 +213,7 @@ module _ (limit : ℕ) (m : Content) (lt : limit < 2 ^ 64) (lawful : IsLawful li
   nothing_at_zero : (n : Content) → HasBodies limit n → stat_here n 0 ≡ 0
   nothing_at_zero n bodies = by_test (has_stat (at_key n 0)) refl
     where
-      by_test : (c : Bool) → has_stat (at_key n 0) ≡ c → one_if c ≡ 0
+      by_test : (c : Bool) → has_stat (at_key n 0) ≡ c → as_number c ≡ 0
       by_test false e = refl
       by_test true e = let one = stat_minor limit n 0 bodies e in let zero = zero_minor in absurd (omega (arith, one, zero))
 
@@ -230,7 +230,7 @@ module _ (limit : ℕ) (m : Content) (lt : limit < 2 ^ 64) (lawful : IsLawful li
   one_goes e o none stat keeps now cuts bodies =
       let all = keeps_all limit m (stat_rank o.target) e lawful.bodies bodies keeps in
       let before = stat_there_is m o.target o.attr stat in
-      let later = ap (λ (v : Option Value). one_if (has_stat v)) now ∙ rest_there (rest_of o) in
+      let later = ap (λ (v : Option Value). as_number (has_stat v)) now ∙ rest_there (rest_of o) in
       omega (arith, none, cuts, all, before, later)
 
   p_sets : (o : Object) (a : Attr) → b ≡ 0 → IsThere m o → P (set_attr o a)
@@ -276,17 +276,17 @@ module _ (limit : ℕ) (m : Content) (lt : limit < 2 ^ 64) (lawful : IsLawful li
   p_makes dir n o one h new bodies =
       let s = stat_rank o.target in
       let keeps = k_both m s (set_entry dir n o.target) (and_also (set_attr o o.attr) (set_attr dir (entry_more (is_dir o) dir.attr))) (k_entry m s dir n o.target)
-          (k_both m s (set_attr o o.attr) (set_attr dir (entry_more (is_dir o) dir.attr)) (k_attr m s o o.attr (inl refl)) (k_attr m s dir (entry_more (is_dir o) dir.attr) (was_stat m s dir.target dir.attr (entry_more (is_dir o) dir.attr) h.dir_stat))) in
+      (k_both m s (set_attr o o.attr) (set_attr dir (entry_more (is_dir o) dir.attr)) (k_attr m s o o.attr (inl refl)) (k_attr m s dir (entry_more (is_dir o) dir.attr) (was_stat m s dir.target dir.attr (entry_more (is_dir o) dir.attr) h.dir_stat))) in
       let all = keeps_all limit m s (name_in dir n o) lawful.bodies bodies keeps in
       let unlike : stat_rank dir.target ≢ stat_rank o.target = λ e. new.unused dir.target dir.attr h.dir_stat (ap (λ (t : Target). t.oid.0) (same_stat dir.target o.target h.dir_stat.0 h.object e)) in
-      let now : stat_here (edited (name_in dir n o) m) s ≡ 1 = ap (λ (v : Option Value). one_if (has_stat v)) (gain_object m dir o n h.dir_stat.0 h.object h.small h.bytes unlike) in
+      let now : stat_here (edited (name_in dir n o) m) s ≡ 1 = ap (λ (v : Option Value). as_number (has_stat v)) (gain_object m dir o n h.dir_stat.0 h.object h.small h.bytes unlike) in
       let before = unused_there in
       omega (arith, one, all, now, before)
     where
       unused_there : stat_here m (stat_rank o.target) ≡ 0
       unused_there = by_value (at_key m (stat_rank o.target)) refl
         where
-          by_value : (v : Option Value) → at_key m (stat_rank o.target) ≡ v → one_if (has_stat v) ≡ 0
+          by_value : (v : Option Value) → at_key m (stat_rank o.target) ≡ v → as_number (has_stat v) ≡ 0
           by_value None at = refl
           by_value (Some (Stat a)) at = absurd (new.unused o.target a (h.object, at) refl)
           by_value (Some (Entry x t)) at = refl
@@ -320,7 +320,7 @@ module _ (limit : ℕ) (m : Content) (lt : limit < 2 ^ 64) (lawful : IsLawful li
 
 -- ---- the commands
 
-all_count : (limit : ℕ) (m : Content) (lt : limit < 2 ^ 64) (lawful : IsLawful limit m) (c : Command) → HoldsOf limit m (P limit m lt lawful (one_if (makes_object c))) c
+all_count : (limit : ℕ) (m : Content) (lt : limit < 2 ^ 64) (lawful : IsLawful limit m) (c : Command) → HoldsOf limit m (P limit m lt lawful (as_number (makes_object c))) c
 all_count limit m lt lawful (Create path oid) = λ dir n gains new. p_makes limit m lt lawful 1 dir n (made_in dir n oid new_file) refl gains new
 all_count limit m lt lawful (Mkdir path oid) = λ dir n gains new. p_makes limit m lt lawful 1 dir n (made_in dir n oid new_directory) refl gains new
 all_count limit m lt lawful (Write path from xs) = λ o there file le. p_writes limit m lt lawful 0 from xs o refl there
@@ -374,21 +374,21 @@ pub objects_after : (limit : ℕ) (c : Command) (m : Content) → limit < 2 ^ 64
     → objects_in (after limit c m) + gone limit c m ≡ objects_in m + born limit c m
 objects_after limit c m lt lawful bytes unused = by_okay (is_okay (reply limit c m)) refl
   where
-    and_true : (p q : Bool) → q ≡ true → one_if (p && q) ≡ one_if p
-    and_true true q e = ap one_if e
+    and_true : (p q : Bool) → q ≡ true → as_number (p && q) ≡ as_number p
+    and_true true q e = ap as_number e
     and_true false q e = refl
 
-    and_false : (p q : Bool) → q ≡ false → one_if (p && q) ≡ 0
-    and_false true q e = ap one_if e
+    and_false : (p q : Bool) → q ≡ false → as_number (p && q) ≡ 0
+    and_false true q e = ap as_number e
     and_false false q e = refl
 
     stays : HasBodies limit (after limit c m)
     stays = (lawful_stays limit c m lt lawful bytes unused).1
 
-    kind : (b : Bool) → makes_object c ≡ b → reply limit c m ≡ Okay → objects_in (after limit c m) + gone limit c m ≡ objects_in m + one_if (makes_object c)
-    kind true is okay = maker_counts limit c m lt lawful bytes unused is okay stays ∙ ap (λ (x : ℕ). objects_in m + x) (sym (ap one_if is))
+    kind : (b : Bool) → makes_object c ≡ b → reply limit c m ≡ Okay → objects_in (after limit c m) + gone limit c m ≡ objects_in m + as_number (makes_object c)
+    kind true is okay = maker_counts limit c m lt lawful bytes unused is okay stays ∙ ap (λ (x : ℕ). objects_in m + x) (sym (ap as_number is))
     kind false is okay =
-        holds_of limit c m lt lawful bytes unused (P limit m lt lawful (one_if (makes_object c))) (λ bodies. ap (λ (x : ℕ). objects_in m + x) (sym (ap one_if is))) (all_count limit m lt lawful c) stays
+        holds_of limit c m lt lawful bytes unused (P limit m lt lawful (as_number (makes_object c))) (λ bodies. ap (λ (x : ℕ). objects_in m + x) (sym (ap as_number is))) (all_count limit m lt lawful c) stays
 
     by_okay : (b : Bool) → is_okay (reply limit c m) ≡ b → objects_in (after limit c m) + gone limit c m ≡ objects_in m + born limit c m
     by_okay true e = kind (makes_object c) refl (okay_is (reply limit c m) e) ∙ ap (λ (x : ℕ). objects_in m + x) (sym (and_true (makes_object c) (is_okay (reply limit c m)) e))

@@ -2,12 +2,13 @@
 use Rattle.std.specs.Prelude.{◌≡◌, ℕ, ◌+◌, ◌-◌, ◌^◌, List, [], ◌∷◌, codes, map, slice_index}
 use Rattle.r4_base.specs.Name.{key_of_name}
 use Rattle.r4_base.specs.Value.{Content, Stat, Entry, Byte}
-use Rattle.r4_base.specs.Volume.{byte_rank, root_object, stat_rank}
+use Rattle.r4_base.specs.Volume.{byte_rank, objects_in, root_object, stat_rank}
 use Rattle.r4_base.specs.declared.items.Attr.{Attr}
 use Rattle.r4_base.specs.declared.items.Target.{Target}
 use Rattle.r4_base.specs.declared.things.Oid.{Oid}
+use Rattle.r4_content.specs.Counts.{born, counts, gone}
 use Rattle.r4_content.specs.Edited.{Intervals, Pairs}
-use Rattle.r4_content.specs.Meaning.{replies}
+use Rattle.r4_content.specs.Meaning.{after, greatest_size, replies}
 use Rattle.r4_content.specs.Objects.{entry_rank, new_directory, new_file, sized}
 use Rattle.r4_content.specs.declared.command.Command.{Command}
 use Rattle.r4_content.specs.declared.command.Command.TheVariants.{Create, Mkdir, Write, Fill, Truncate, Read, Stat as Ask, Names, Link, Unlink, Rmdir, Rename, Chmod, Chown, Times, Begin, End, Commit}
@@ -17,6 +18,10 @@ use Rattle.r4_content.specs.declared.reply.Reply.TheVariants.{Okay, Data, Attr a
 -- the commands, one after another, get these replies
 abbrev pub GetReplies : (limit : ℕ) → Content → List (Command × Reply) → Type 0
 GetReplies limit m run = replies limit (map (λ d. d.0) run) m ≡ map (λ d. d.1) run
+
+-- the commands, one after another, make and take away so many objects
+abbrev pub GetCounts : (limit : ℕ) → Content → List (Command × (ℕ × ℕ)) → Type 0
+GetCounts limit m run = counts limit (map (λ d. d.0) run) m ≡ map (λ d. d.1) run
 
 abbrev pub id : ℕ → Oid
 id n = record { 0 = n }
@@ -145,6 +150,34 @@ sizes_run =
     ∷ (Read (at f) 6 5, Data (0 ∷ 0 ∷ []))
     ∷ []
 
+-- objects born and gone, by each command
+abbrev pub counts_run : List (Command × (ℕ × ℕ))
+counts_run =
+    (Begin, (0, 0))
+    ∷ (Create (at f) (id 65536), (1, 0))
+    ∷ (Create (at f) (id 65537), (0, 0))
+    ∷ (Mkdir (at d) (id 65537), (1, 0))
+    ∷ (Write (at f) 2 (codes "xy"), (0, 0))
+    ∷ (Fill (at f) 1 2 7, (0, 0))
+    ∷ (Truncate (at f) 3, (0, 0))
+    ∷ (Read (at f) 0 9, (0, 0))
+    ∷ (Ask (at f), (0, 0))
+    ∷ (Names root, (0, 0))
+    ∷ (Link (at f) (at a), (0, 0))
+    ∷ (Chmod (at f) 0, (0, 0))
+    ∷ (Chown (at f) 1 2, (0, 0))
+    ∷ (Times (at f) 3 4 5, (0, 0))
+    ∷ (Unlink (at f), (0, 0))
+    ∷ (Rename (at a) (below d x), (0, 0))
+    ∷ (Create (at f) (id 65538), (1, 0))
+    ∷ (Rmdir (at d), (0, 0))
+    ∷ (Rename (below d x) (at f), (0, 1))
+    ∷ (Unlink (at f), (0, 1))
+    ∷ (Rmdir (at d), (0, 1))
+    ∷ (End, (0, 0))
+    ∷ (Commit, (0, 0))
+    ∷ []
+
 -- ---- on other contents
 
 abbrev pub made : (name : List ℕ) → (oid : ℕ) → Target
@@ -209,3 +242,35 @@ at_key_of k = (k, k + 1)
 -- what each walk to the file asks for
 abbrev pub way_to_f : Intervals
 way_to_f = at_key_of (stat_rank root_object) ∷ at_key_of (entry_rank root_object f) ∷ at_key_of (stat_rank (made f 65536)) ∷ []
+
+-- ---- where objects born and gone tell nothing
+
+-- a file that was made as f, and is named a
+abbrev pub renamed_file : Pairs
+renamed_file =
+    (stat_rank root_object, Stat (sized new_directory 1))
+    ∷ (entry_rank root_object a, Entry a (made f 65536))
+    ∷ (stat_rank (made f 65536), Stat new_file)
+    ∷ []
+
+-- stat data at the key of an entry
+abbrev pub stat_for_entry : Pairs
+stat_for_entry = (stat_rank root_object, Stat new_directory) ∷ (entry_rank root_object f, Stat new_file) ∷ []
+
+-- a name that is no list of bytes, whose key is that of the file's stat data
+abbrev pub no_bytes : List (List ℕ)
+no_bytes = (65536 ∷ []) ∷ []
+
+abbrev pub first_file : Target
+first_file = record { locality = 42; ordering = 0; oid = id 0 }
+
+abbrev pub under_no_bytes : Pairs
+under_no_bytes =
+    (stat_rank root_object, Stat (sized new_directory 1))
+    ∷ (entry_rank root_object f, Entry f first_file)
+    ∷ (stat_rank first_file, Stat new_file)
+    ∷ []
+
+-- one object is born and none goes, and yet there are as many as before
+abbrev pub Miscounts : Command → Content → Type 0
+Miscounts c m = (born greatest_size c m ≡ 1) × (gone greatest_size c m ≡ 0) × (objects_in (after greatest_size c m) ≡ objects_in m)

@@ -4,6 +4,7 @@
 ghost use Rattle.std.specs.FinMap.{from_sorted};
 ghost use Rattle.std.specs.Prelude.{◌≡◌, ◌+◌, [], ◌∷◌, ◌++◌, codes};
 ghost use Rattle.r4_base.specs.Volume.{byte_rank, empty_volume, root_object, stat_rank};
+ghost use Rattle.r4_content.specs.Examples.{GetCounts, Miscounts, counts_run, no_bytes, renamed_file, stat_for_entry, under_no_bytes};
 ghost use Rattle.r4_content.specs.Examples.{GetReplies, a, at, at_key_of, id, way_to_f, bytes_run, clash_run, d, f, full_directory_run, links_run, made, miscounted, miscounted_run, moves_run, no_object, no_object_run, no_root_run, one_entry, sizes_run, three_bytes, ties_run};
 ghost use Rattle.r4_content.specs.Meaning.{changes, greatest_size, reads};
 ghost use Rattle.r4_content.specs.Objects.{entry_rank, new_directory, new_file};
@@ -44,4 +45,13 @@ pub fn touched_examples()
     ensures exists_reads { reads greatest_size (Create (at f) (id 65537)) (from_sorted three_bytes) ≡ at_key_of (stat_rank root_object) ∷ at_key_of (entry_rank root_object f) ∷ [] }
     ensures rename_changes { changes greatest_size (Rename (at f) (at a)) (from_sorted three_bytes)
         ≡ at_key_of (entry_rank root_object a) ∷ at_key_of (stat_rank root_object) ∷ at_key_of (entry_rank root_object f) ∷ [] }
+{}
+
+/// Objects born and gone by each command; and where they do not tell the number of objects: where an id is in use, in a
+/// content that no volume has, and under a name that is no list of bytes (`objects_are_counted`).
+pub fn counts_examples()
+    ensures counts { GetCounts greatest_size empty_volume counts_run }
+    ensures used { Miscounts (Create (at f) (id 65536)) (from_sorted renamed_file) }
+    ensures unlawful { Miscounts (Create (at f) (id 65537)) (from_sorted stat_for_entry) }
+    ensures no_bytes { Miscounts (Create no_bytes (id 65537)) (from_sorted under_no_bytes) }
 {}

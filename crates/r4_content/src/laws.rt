@@ -5,16 +5,17 @@ ghost use Rattle.std.specs.Ordering.{nat_cmp};
 ghost use Rattle.std.specs.Prelude.{◌≡◌, ◌≢◌, ◌↔◌, ◌+◌, ◌<◌, ◌≤◌, ◌^◌, ℕ, List, length, replicate, true, false};
 ghost use Rattle.r4_base.specs.Image.{Image};
 ghost use Rattle.r4_base.specs.Value.{Content, at_key};
-ghost use Rattle.r4_base.specs.Volume.{HasContent, HasObjects, HasStat};
+ghost use Rattle.r4_base.specs.Volume.{HasContent, HasObjects, HasStat, objects_in};
 ghost use Rattle.r4_base.specs.declared.items.Attr.{Attr};
 ghost use Rattle.r4_base.specs.declared.items.Target.{Target};
 ghost use Rattle.r4_base.specs.declared.things.Oid.{Oid};
+ghost use Rattle.r4_content.specs.Counts.{born, gone};
 ghost use Rattle.r4_content.specs.Course.{ending};
 ghost use Rattle.r4_content.specs.Edited.{Pairs, changed, edited, is_in};
 ghost use Rattle.r4_content.specs.Fields.{HasBytePaths, HasBytes, HasNumbers, IsUnused, NamesUnused};
 ghost use Rattle.r4_content.specs.Lawful.{HasBodies, IsLawful, RoomFor};
 ghost use Rattle.r4_content.specs.Listed.{list_after};
-ghost use Rattle.r4_content.specs.Locality.{AsksForStats, IsLocal, Meaning, Spares, commands};
+ghost use Rattle.r4_content.specs.Locality.{Agree, AsksForStats, IsLocal, Meaning, Spares, commands};
 ghost use Rattle.r4_content.specs.Meaning.{after, changes, course, greatest_size, reads, reply};
 ghost use Rattle.r4_content.specs.Objects.{new_directory, new_file};
 ghost use Rattle.r4_content.specs.Reading.{OnlyReads};
@@ -117,6 +118,17 @@ pub fn lawful_contents_stay_lawful()
     ensures lawful { (limit : ℕ) (c : Command) (m : Content) → limit < 2 ^ 64 → IsLawful limit m → HasBytePaths c → NamesUnused m c
         → RoomFor 2 m → IsLawful limit (after limit c m) }
     ensures numbers { (limit : ℕ) (m : Content) → limit < 2 ^ 64 → IsLawful limit m → HasNumbers m }
+{}
+
+/// The number of objects after a command is that before it, and those that it makes, without those that it takes away. Both
+/// numbers depend on what stands where the command reads alone (docs/commands.md, "Objects born and gone").
+pub fn objects_are_counted()
+    ensures counted { (limit : ℕ) (c : Command) (m : Content) → limit < 2 ^ 64 → IsLawful limit m → HasBytePaths c → NamesUnused m c
+        → objects_in (after limit c m) + gone limit c m ≡ objects_in m + born limit c m }
+    ensures same_born { (limit : ℕ) (c : Command) (m n : Content) → Agree (commands limit) c m n
+        → born limit c m ≡ born limit c n }
+    ensures same_gone { (limit : ℕ) (c : Command) (m n : Content) → Agree (commands limit) c m n
+        → gone limit c m ≡ gone limit c n }
 {}
 
 /// The content of an image is lawful, and each of its directories can count 2^63 entries more: so commands can be done in it

@@ -13,11 +13,13 @@ mod seen;
 
 pub use command::Command;
 pub use edits::{ByteRun, Edits, FilledInterval, Interval};
-pub use examples::{empty_volume_examples, other_contents_examples, touched_examples};
+pub use examples::{
+    counts_examples, empty_volume_examples, other_contents_examples, touched_examples,
+};
 pub use laws::{
     apart_commands_commute, commands_are_local, commands_ask_for_stats,
-    lawful_contents_stay_lawful, lists_are_contents, refusals_change_nothing, seen_suffices,
-    volumes_are_lawful, walks_agree, what_is_written_is_read,
+    lawful_contents_stay_lawful, lists_are_contents, objects_are_counted, refusals_change_nothing,
+    seen_suffices, volumes_are_lawful, walks_agree, what_is_written_is_read,
 };
 pub use names::Names;
 pub use path::Path;
