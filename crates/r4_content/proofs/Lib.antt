@@ -34,3 +34,5 @@ pub mod Widths
 pub mod VolumeWidths
 pub mod ObjectCounts
 pub mod ObjectsMade
+pub mod VisibleUnits
+pub mod Refound

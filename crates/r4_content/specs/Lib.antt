@@ -17,3 +17,4 @@ pub mod Walks
 pub mod Fields
 pub mod Lawful
 pub mod Counts
+pub mod Units

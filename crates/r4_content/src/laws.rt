@@ -5,13 +5,13 @@ ghost use Rattle.std.specs.Ordering.{nat_cmp};
 ghost use Rattle.std.specs.Prelude.{◌≡◌, ◌≢◌, ◌↔◌, ◌+◌, ◌<◌, ◌≤◌, ◌^◌, ℕ, List, length, replicate, true, false};
 ghost use Rattle.r4_base.specs.Image.{Image};
 ghost use Rattle.r4_base.specs.Value.{Content, at_key};
-ghost use Rattle.r4_base.specs.Volume.{HasContent, HasObjects, HasStat, objects_in};
+ghost use Rattle.r4_base.specs.Volume.{HasContent, HasObjects, HasStat, IsVisible, objects_in};
 ghost use Rattle.r4_base.specs.declared.items.Attr.{Attr};
 ghost use Rattle.r4_base.specs.declared.items.Target.{Target};
 ghost use Rattle.r4_base.specs.declared.things.Oid.{Oid};
 ghost use Rattle.r4_content.specs.Counts.{born, gone};
-ghost use Rattle.r4_content.specs.Course.{ending};
-ghost use Rattle.r4_content.specs.Edited.{Pairs, changed, edited, is_in};
+ghost use Rattle.r4_content.specs.Course.{ending, of_content};
+ghost use Rattle.r4_content.specs.Edited.{Edits, Intervals, Pairs, changed, edited, is_in};
 ghost use Rattle.r4_content.specs.Fields.{HasBytePaths, HasBytes, HasNumbers, IsUnused, NamesUnused};
 ghost use Rattle.r4_content.specs.Lawful.{HasBodies, IsLawful, RoomFor};
 ghost use Rattle.r4_content.specs.Listed.{list_after};
@@ -20,6 +20,7 @@ ghost use Rattle.r4_content.specs.Meaning.{after, changes, course, greatest_size
 ghost use Rattle.r4_content.specs.Objects.{new_directory, new_file};
 ghost use Rattle.r4_content.specs.Reading.{OnlyReads};
 ghost use Rattle.r4_content.specs.Seen.{IsSeen, Rises, of_seen};
+ghost use Rattle.r4_content.specs.Units.{MovesUnits};
 ghost use Rattle.r4_content.specs.Walk.{At, NoDirectory, NoEntry, NoName, walk};
 ghost use Rattle.r4_content.specs.Walks.{walk_reply};
 ghost use Rattle.r4_content.specs.declared.command.Command.{Command};
@@ -129,6 +130,16 @@ pub fn objects_are_counted()
         → born limit c m ≡ born limit c n }
     ensures same_gone { (limit : ℕ) (c : Command) (m n : Content) → Agree (commands limit) c m n
         → gone limit c m ≡ gone limit c n }
+{}
+
+/// Where units are changed as the edits of a command say, what is visible of them afterwards is the content after the
+/// command: bytes that fill the last block of a file may come, stay and go with it (docs/volume.md, "Files").
+pub fn moved_units_are_visible()
+    ensures command { (limit : ℕ) (c : Command) (m raw units : Content) (moved : Intervals) → limit < 2 ^ 64 → IsLawful limit m → HasBytePaths c → NamesUnused m c
+        → MovesUnits (ending (course limit c) (of_content m)).edits m raw units moved
+        → IsVisible units (after limit c m) }
+    ensures edits { (limit : ℕ) (e : Edits) (m raw units : Content) (moved : Intervals)
+        → HasBodies limit (edited e m) → MovesUnits e m raw units moved → IsVisible units (edited e m) }
 {}
 
 /// The content of an image is lawful, and each of its directories can count 2^63 entries more: so commands can be done in it

@@ -18,8 +18,9 @@ pub use examples::{
 };
 pub use laws::{
     apart_commands_commute, commands_are_local, commands_ask_for_stats,
-    lawful_contents_stay_lawful, lists_are_contents, objects_are_counted, refusals_change_nothing,
-    seen_suffices, volumes_are_lawful, walks_agree, what_is_written_is_read,
+    lawful_contents_stay_lawful, lists_are_contents, moved_units_are_visible, objects_are_counted,
+    refusals_change_nothing, seen_suffices, volumes_are_lawful, walks_agree,
+    what_is_written_is_read,
 };
 pub use names::Names;
 pub use path::Path;
