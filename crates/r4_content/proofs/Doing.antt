@@ -43,7 +43,7 @@ HoldsOf limit m P (Names path) = Unit {0}
 HoldsOf limit m P (Link from to) = LinksAll m P
 HoldsOf limit m P (Unlink path) = LosesAll m P
 HoldsOf limit m P (Rmdir path) = LosesAll m P
-HoldsOf limit m P (Rename from to) = MovesAll limit m P
+HoldsOf limit m P (Rename from to) = MovesAll limit m from to P
 HoldsOf limit m P (Chmod path mode) = SetsAll m P (λ a. record a { mode = a.mode / 4096 * 4096 + mode % 4096 })
 HoldsOf limit m P (Chown path uid gid) = SetsAll m P (λ a. record a { uid = uid; gid = gid })
 HoldsOf limit m P (Times path atime mtime ctime) = SetsAll m P (λ a. record a { atime = atime; mtime = mtime; ctime = ctime })

@@ -36,3 +36,5 @@ pub mod ObjectCounts
 pub mod ObjectsMade
 pub mod VisibleUnits
 pub mod Refound
+pub mod FoundAfter
+pub mod RenamedFound

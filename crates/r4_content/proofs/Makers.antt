@@ -1,5 +1,5 @@
 -- create, mkdir and link leave the objects of a lawful content lawful.
-use Rattle.std.specs.Prelude.{◌≡◌, ℕ, ◌+◌, ◌-◌, ◌^◌, ◌<◌, List, [], Bool, true, false, nat_le, nat_lt, length, take, slice_index_or, All, None, if◌then◌else◌}
+use Rattle.std.specs.Prelude.{◌==◌, ◌≡◌, ℕ, ◌+◌, ◌-◌, ◌^◌, ◌<◌, List, [], Bool, true, false, nat_le, nat_lt, length, take, slice_index_or, All, None, if◌then◌else◌}
 use Rattle.std.proofs.Common.{arith, inl, inr, refl, sym, ap, subst, ◌∙◌}
 use Rattle.std.proofs.lemmas.Grind.{common_steps}
 use Rattle.r4_base.specs.Value.{Content, at_key}
@@ -11,13 +11,13 @@ use Rattle.r4_content.specs.Edited.{Edits, edited, no_edits}
 use Rattle.r4_content.specs.Entries.{is_no_id, link, linked, name_in}
 use Rattle.r4_content.specs.Fields.{HasBytes, HasNumbers, IsUnused}
 use Rattle.r4_content.specs.Lawful.{IsLawful}
-use Rattle.r4_content.specs.Meaning.{after, course, named, reply}
+use Rattle.r4_content.specs.Meaning.{after, course, is_path, named, reply}
 use Rattle.r4_content.specs.Objects.{Object, entry_rank, is_dir, is_full, made_in, new_directory, new_file}
 use Rattle.r4_content.specs.Ways.{Place, entry_in, free_here, to_free}
 use Rattle.r4_content.specs.declared.command.Command.TheVariants.{Create, Mkdir, Link}
 use Rattle.r4_content.specs.declared.reply.Reply.TheVariants.{Okay, Exists, Isdir, Links, Oids}
 use Rattle.r4_content.proofs.EditParts.{true_not_false}
-use Rattle.r4_content.proofs.Found.{ends_at, found, small_object, stat_there, way_ends}
+use Rattle.r4_content.proofs.Found.{There, ends_at, found, small_object, stat_there, way_ends}
 use Rattle.r4_content.proofs.Gaining.{Gains, IsNew, gains_bodies, gains_lawful}
 use Rattle.r4_content.proofs.Keeping.{Stays}
 use Rattle.r4_content.proofs.Naming.{came_above, directory_made, file_made, free_is, last_bytes, make_directory, make_file}
@@ -131,6 +131,16 @@ pub record Linked (m : Content) (from to : List (List ℕ)) : Type 0 where
   pub bytes : All (λ x. x < 256) name
   pub free : entry_in (at_key m (entry_rank dir.target name)) ≡ None
   pub ends : ending (named from (named to (link from to))) (of_content m) ≡ record { edits = name_in dir name (linked object); reply = Okay }
+  pub place : Place
+  pub from_at : found m from ≡ There place
+  pub from_is : place.here ≡ object
+  pub from_legal : is_path from ≡ true
+  pub above : Place
+  pub to_at : found m (take (length to - 1) to) ≡ There above
+  pub to_is : above.here ≡ dir
+  pub to_legal : is_path to ≡ true
+  pub to_some : (length to == 0) ≡ false
+  pub to_last : slice_index_or to (length to - 1) [] ≡ name
 
 pub link_done : (m : Content) (from to : List (List ℕ)) → HasNumbers m → HasBytes to → (ending (named from (named to (link from to))) (of_content m)).reply ≡ Okay → Linked m from to
 unfolding to_free
@@ -162,6 +172,16 @@ link_done m from to numbers bytes okay =
       bytes = last_bytes to c.some bytes;
       free = free;
       ends = more ∙ goes ∙ done;
+      place = p;
+      from_at = at;
+      from_is = refl;
+      from_legal = one;
+      above = c.place;
+      to_at = c.at;
+      to_is = refl;
+      to_legal = two;
+      to_some = c.some;
+      to_last = refl;
     }
   where
     is_file : (o : Object) (b : Bool) → (ending (if b then Answer Isdir else to_free to (link_on o)) (of_content m)).reply ≡ Okay → b ≡ false

@@ -16,7 +16,7 @@ use Rattle.r4_content.specs.Edited.{Edits, Pairs, and_also, edited, no_edits, pa
 use Rattle.r4_content.specs.Entries.{entries_from, entries_to, if_empty, move, move_to, moved, moved_onto, names_in, rename, replace, with_entries}
 use Rattle.r4_content.specs.Fields.{HasBytes, HasNumbers}
 use Rattle.r4_content.specs.Lawful.{HasBodies, IsLawful}
-use Rattle.r4_content.specs.Meaning.{after, course, named, reply}
+use Rattle.r4_content.specs.Meaning.{after, course, is_path, named, reply}
 use Rattle.r4_content.specs.Objects.{Object, entry_less, entry_rank, is_among, is_dir, is_full, is_same, is_same_target, unnamed}
 use Rattle.r4_content.specs.Walk.{attr_at, attr_in, may_be_object}
 use Rattle.r4_content.specs.Ways.{Named, Place, entry_in, object_at, to_ends, to_entry, to_parent, with_attr}
@@ -57,7 +57,7 @@ above_before m o (n ∷ path) q r e h =
     let s = step_is m n path q r e in
     (among_append o q.above q.here (above_before m o path (down q s.target s.attr) r s.rest h)).0
 
-on_way : (m : Content) (o : Object) (path : List (List ℕ)) (q r : Place) → found_from m path q ≡ There r → is_among o r.above ≡ false → is_same o r.here ≡ false → is_same o q.here ≡ false
+pub on_way : (m : Content) (o : Object) (path : List (List ℕ)) (q r : Place) → found_from m path q ≡ There r → is_among o r.above ≡ false → is_same o r.here ≡ false → is_same o q.here ≡ false
 on_way m o [] q r e h g = ap (λ (x : Place). is_same o x.here) (place_in q r e) ∙ g
 on_way m o (n ∷ path) q r e h g =
     let s = step_is m n path q r e in
@@ -257,12 +257,26 @@ rename_to to dir n p q new_name =
 abbrev pub rename_from : List (List ℕ) → Object → (name : List ℕ) → Place → Course
 rename_from to dir n p = to_parent Loop to (rename_to to dir n p)
 
+-- where the two paths of a rename lead
+pub record Paths (m : Content) (from to : List (List ℕ)) (dir : Object) (name : List ℕ) (r : Place) (new_name : List ℕ) (path : List (List ℕ)) : Type 0 where
+  pub from_legal : is_path from ≡ true
+  pub from_some : (length from == 0) ≡ false
+  pub above : Place
+  pub from_at : found m (take (length from - 1) from) ≡ There above
+  pub from_is : above.here ≡ dir
+  pub from_last : slice_index_or from (length from - 1) [] ≡ name
+  pub to_legal : is_path to ≡ true
+  pub to_some : (length to == 0) ≡ false
+  pub to_is : take (length to - 1) to ≡ path
+  pub to_last : slice_index_or to (length to - 1) [] ≡ new_name
+
 -- what a rename that was done moved
-abbrev pub MovesAll : (limit : ℕ) → Content → (Edits → Type 0) → Type 0
-MovesAll limit m P = (dir o : Object) (name new_name : List ℕ) (r : Place) (path : List (List ℕ)) → Ends limit m dir o name new_name r path → (over : Bool) (old : Object)
+abbrev pub MovesAll : (limit : ℕ) → Content → (from to : List (List ℕ)) → (Edits → Type 0) → Type 0
+MovesAll limit m from to P = (dir o : Object) (name new_name : List ℕ) (r : Place) (path : List (List ℕ)) → Ends limit m dir o name new_name r path
+    → Paths m from to dir name r new_name path → (over : Bool) (old : Object)
     → CanMove m dir o r.here name new_name over old → FewLinks dir o r.here over → P (moving dir name o r.here new_name over old)
 
-pub rename_done : (limit : ℕ) (from to : List (List ℕ)) (m : Content) → limit < 2 ^ 64 → IsLawful limit m → HasBytes from → HasBytes to → (P : Edits → Type 0) → P no_edits → MovesAll limit m P
+pub rename_done : (limit : ℕ) (from to : List (List ℕ)) (m : Content) → limit < 2 ^ 64 → IsLawful limit m → HasBytes from → HasBytes to → (P : Edits → Type 0) → P no_edits → MovesAll limit m from to P
     → reply limit (Rename from to) m ≡ Okay → P (ending (course limit (Rename from to)) (of_content m)).edits
 unfolding to_ends
 rename_done limit from to m lt lawful from_bytes to_bytes P none moves = done
@@ -315,12 +329,24 @@ rename_done limit from to m lt lawful from_bytes to_bytes P none moves = done
           path_bytes = All-take (λ x. All (λ y. y < 256) x) (length to - 1) to to_bytes;
           outside = λ yes_dir. or_parts (is_among p.here q.above) (is_same p.here q.here) (out yes_dir);
         } in
+        let paths : Paths m from to dir c.name q new_name (take (length to - 1) to) = record {
+          from_legal = c.legal;
+          from_some = c.some;
+          above = c.above;
+          from_at = c.at;
+          from_is = refl;
+          from_last = c.last;
+          to_legal = two;
+          to_some = d.some;
+          to_is = refl;
+          to_last = refl;
+        } in
         subst (λ (x : Ending). P x.edits) (sym (fifth ∙ goes))
-        (move_done limit m dir p.here c.name new_name q (take (length to - 1) to) lawful numbers e P none (λ over old h few. moves dir p.here c.name new_name q (take (length to - 1) to) e over old h few))
+        (move_done limit m dir p.here c.name new_name q (take (length to - 1) to) lawful numbers e P none (λ over old h few. moves dir p.here c.name new_name q (take (length to - 1) to) e paths over old h few))
 
 pub rename_lawful : (limit : ℕ) (from to : List (List ℕ)) (m : Content) → limit < 2 ^ 64 → IsLawful limit m → HasBytes from → HasBytes to → Stays limit (after limit (Rename from to) m)
 rename_lawful limit from to m lt lawful from_bytes to_bytes = by_done limit (Rename from to) m (λ x. Stays limit x) (lawful.objects, lawful.bodies)
-    (rename_done limit from to m lt lawful from_bytes to_bytes (λ x. Stays limit (edited x m)) (lawful.objects, lawful.bodies) (λ dir o name new_name r path e over old h few. (
+    (rename_done limit from to m lt lawful from_bytes to_bytes (λ x. Stays limit (edited x m)) (lawful.objects, lawful.bodies) (λ dir o name new_name r path e paths over old h few. (
       moves_lawful m (edited (moving dir name o r.here new_name over old) m) dir o r.here name new_name over old lawful.objects
           (can_move limit m dir o r.here name new_name over old lawful.objects lawful.bodies h lawful.room lawful.links few
           (λ d. let out = e.outside d in way_there limit m dir o name new_name over old lawful.objects lawful.bodies (numbers_of limit m lt lawful) r h out.0 out.1 path e.path_bytes e.way)),

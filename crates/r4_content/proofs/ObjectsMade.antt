@@ -329,7 +329,7 @@ all_count limit m lt lawful (Truncate path n) = λ o there file le. p_cuts limit
 all_count limit m lt lawful (Link from to) = λ dir o n gains stat file. p_links limit m lt lawful 0 dir o n refl gains stat
 all_count limit m lt lawful (Unlink path) = λ dir o n loses. p_loses limit m lt lawful 0 dir o n refl loses
 all_count limit m lt lawful (Rmdir path) = λ dir o n loses. p_loses limit m lt lawful 0 dir o n refl loses
-all_count limit m lt lawful (Rename from to) = λ dir o name new_name r path e over old h few. p_moves limit m lt lawful 0 dir o name new_name r.here over old refl h
+all_count limit m lt lawful (Rename from to) = λ dir o name new_name r path e paths over old h few. p_moves limit m lt lawful 0 dir o name new_name r.here over old refl h
 all_count limit m lt lawful (Chmod path mode) = λ o there. p_sets limit m lt lawful 0 o (record o.attr { mode = o.attr.mode / 4096 * 4096 + mode % 4096 }) refl there
 all_count limit m lt lawful (Chown path uid gid) = λ o there. p_sets limit m lt lawful 0 o (record o.attr { uid = uid; gid = gid }) refl there
 all_count limit m lt lawful (Times path atime mtime ctime) = λ o there. p_sets limit m lt lawful 0 o (record o.attr { atime = atime; mtime = mtime; ctime = ctime }) refl there

@@ -15,7 +15,7 @@ use Rattle.r4_content.specs.Edited.{Edits, Pairs, edited, is_between, no_edits, 
 use Rattle.r4_content.specs.Entries.{entries_from, entries_to, if_empty, names_in, unname_in, with_entries}
 use Rattle.r4_content.specs.Fields.{HasBytes, HasNumbers}
 use Rattle.r4_content.specs.Lawful.{HasBodies, IsLawful}
-use Rattle.r4_content.specs.Meaning.{after, course, named, reply}
+use Rattle.r4_content.specs.Meaning.{after, course, is_path, named, reply}
 use Rattle.r4_content.specs.Objects.{Object, entry_rank, is_dir}
 use Rattle.r4_content.specs.Ways.{Place, step, to_entry}
 use Rattle.r4_content.specs.declared.command.Command.TheVariants.{Rmdir, Unlink}
@@ -24,7 +24,7 @@ use Rattle.r4_content.specs.declared.reply.Reply.TheVariants.{Okay, Isdir, Loop,
 use Rattle.r4_content.proofs.Counting.{none_there}
 use Rattle.r4_content.proofs.EditLaws.{at_retain}
 use Rattle.r4_content.proofs.EditParts.{true_not_false}
-use Rattle.r4_content.proofs.Found.{ends_at, found_from, small_object, stat_there, steps_end}
+use Rattle.r4_content.proofs.Found.{There, ends_at, found, found_from, small_object, stat_there, steps_end}
 use Rattle.r4_content.proofs.Keeping.{Stays}
 use Rattle.r4_content.proofs.Losing.{Loses, loses_bodies, loses_lawful}
 use Rattle.r4_content.proofs.Naming.{came_above, last_bytes}
@@ -115,6 +115,10 @@ pub record NamedBy (m : Content) (path : List (List ℕ)) (whole : Course) (next
   pub bytes : All (λ x. x < 256) name
   pub entry : at_key m (entry_rank above.here.target name) ≡ Some (Entry name place.here.target)
   pub ends : ending (named path whole) (of_content m) ≡ ending (next above.here name place) (of_content m)
+  pub legal : is_path path ≡ true
+  pub some : (length path == 0) ≡ false
+  pub at : found m (take (length path - 1) path) ≡ There above
+  pub last : slice_index_or path (length path - 1) [] ≡ name
 
 pub came_to_entry : (m : Content) (r : Reply) (path : List (List ℕ)) (next : Object → (name : List ℕ) → Place → Course) → HasNumbers m → HasBytes path → r ≢ Okay
     → (ending (named path (to_entry r path next)) (of_content m)).reply ≡ Okay → NamedBy m path (to_entry r path next) next
@@ -137,6 +141,10 @@ came_to_entry m r path next numbers bytes no_okay okay =
       bytes = last_bytes path c.some bytes;
       entry = target_is n (at_key m (entry_rank p.here.target n)) s.target s.entry ∙ ap (λ (x : Place). Some (Entry n x.here.target)) is;
       ends = ends ∙ ap (ends_at m (next p.here n)) at;
+      legal = c.name;
+      some = c.some;
+      at = c.at;
+      last = refl;
     }
 
 pub loses_name : (limit : ℕ) (m : Content) (dir o : Object) (n : List ℕ) → HasNumbers m → IsThere m dir → is_dir dir ≡ true → IsThere m o → All (λ x. x < 256) n → at_key m (entry_rank dir.target n) ≡ Some (Entry n o.target)
@@ -188,28 +196,35 @@ unlink_lawful limit path m lt lawful bytes =
 abbrev pub rmdir_next : Object → (name : List ℕ) → Place → Course
 rmdir_next dir n p = if is_dir p.here then with_entries p.here (λ es. if_empty (Change (unname_in dir n p.here)) (names_in es)) else Answer Notdir
 
-pub rmdir_done : (limit : ℕ) (path : List (List ℕ)) (m : Content) → limit < 2 ^ 64 → IsLawful limit m → HasBytes path → (P : Edits → Type 0) → LosesAll m P
-    → reply limit (Rmdir path) m ≡ Okay → P (ending (course limit (Rmdir path)) (of_content m)).edits
-rmdir_done limit path m lt lawful bytes P loses okay =
+removes : (m : Content) (dir o : Object) (n : List ℕ) (b : Bool) (ns : List (List ℕ))
+    → (ending (if b then with_entries o (λ es. if_empty (Change (unname_in dir n o)) (names_in es)) else Answer Notdir) (of_content m)).reply ≡ Okay
+    → names_in (pairs_between m (entries_from o.target.oid.0) (entries_to o.target.oid.0)) ≡ ns
+    → (ns ≡ []) × (b ≡ true) × (ending (if b then with_entries o (λ es. if_empty (Change (unname_in dir n o)) (names_in es)) else Answer Notdir) (of_content m)
+    ≡ record { edits = unname_in dir n o; reply = Okay })
+removes m dir o n false ns h e = absurd cc
+removes m dir o n true [] h e = (refl, refl, ap (λ (x : List (List ℕ)). ending (if_empty (Change (unname_in dir n o)) x) (of_content m)) e)
+removes m dir o n true (x ∷ ns) h e = absurd (refused (sym (ap (λ (y : List (List ℕ)). (ending (if_empty (Change (unname_in dir n o)) y) (of_content m)).reply) e) ∙ h))
+  where
+    refused : Notempty ≡ Okay → ⊥
+    refused e = cc
+
+-- a directory that is removed: it has no entry
+pub rmdir_named : (limit : ℕ) (path : List (List ℕ)) (m : Content) → limit < 2 ^ 64 → IsLawful limit m → HasBytes path → reply limit (Rmdir path) m ≡ Okay
+    → (c : NamedBy m path (to_entry Loop path rmdir_next) rmdir_next) × Loses m c.above.here c.place.here c.name × (is_dir c.place.here ≡ true)
+    × (ending (course limit (Rmdir path)) (of_content m) ≡ record { edits = unname_in c.above.here c.name c.place.here; reply = Okay })
+rmdir_named limit path m lt lawful bytes okay =
     let numbers = numbers_of limit m lt lawful in
     let c = came_to_entry m Loop path rmdir_next numbers bytes (λ e. cc) okay in
     let dir = c.above.here in
     let o = c.place.here in
-    let (none, made) = is_done dir o c.name (is_dir o) (names_in (pairs_between m (entries_from o.target.oid.0) (entries_to o.target.oid.0))) (sym (ap (λ (x : Ending). x.reply) c.ends) ∙ okay) refl in
-    subst (λ (x : Ending). P x.edits) (sym (c.ends ∙ made))
-    (loses dir o c.name (loses_name limit m dir o c.name numbers c.above_there c.above_is c.there c.bytes c.entry (λ d. is_empty limit m o.target lawful.bodies none)))
-  where
-    is_done : (dir o : Object) (n : List ℕ) (b : Bool) (ns : List (List ℕ))
-        → (ending (if b then with_entries o (λ es. if_empty (Change (unname_in dir n o)) (names_in es)) else Answer Notdir) (of_content m)).reply ≡ Okay
-        → names_in (pairs_between m (entries_from o.target.oid.0) (entries_to o.target.oid.0)) ≡ ns
-        → (ns ≡ []) × (ending (if b then with_entries o (λ es. if_empty (Change (unname_in dir n o)) (names_in es)) else Answer Notdir) (of_content m)
-        ≡ record { edits = unname_in dir n o; reply = Okay })
-    is_done dir o n false ns h e = absurd cc
-    is_done dir o n true [] h e = (refl, ap (λ (x : List (List ℕ)). ending (if_empty (Change (unname_in dir n o)) x) (of_content m)) e)
-    is_done dir o n true (x ∷ ns) h e = absurd (refused (sym (ap (λ (y : List (List ℕ)). (ending (if_empty (Change (unname_in dir n o)) y) (of_content m)).reply) e) ∙ h))
-      where
-        refused : Notempty ≡ Okay → ⊥
-        refused e = cc
+    let (none, is, made) = removes m dir o c.name (is_dir o) (names_in (pairs_between m (entries_from o.target.oid.0) (entries_to o.target.oid.0))) (sym (ap (λ (x : Ending). x.reply) c.ends) ∙ okay) refl in
+    (c, loses_name limit m dir o c.name numbers c.above_there c.above_is c.there c.bytes c.entry (λ d. is_empty limit m o.target lawful.bodies none), is, c.ends ∙ made)
+
+pub rmdir_done : (limit : ℕ) (path : List (List ℕ)) (m : Content) → limit < 2 ^ 64 → IsLawful limit m → HasBytes path → (P : Edits → Type 0) → LosesAll m P
+    → reply limit (Rmdir path) m ≡ Okay → P (ending (course limit (Rmdir path)) (of_content m)).edits
+rmdir_done limit path m lt lawful bytes P loses okay =
+    let (c, h, is, ends) = rmdir_named limit path m lt lawful bytes okay in
+    subst (λ (x : Ending). P x.edits) (sym ends) (loses c.above.here c.place.here c.name h)
 
 pub rmdir_lawful : (limit : ℕ) (path : List (List ℕ)) (m : Content) → limit < 2 ^ 64 → IsLawful limit m → HasBytes path → Stays limit (after limit (Rmdir path) m)
 rmdir_lawful limit path m lt lawful bytes =

@@ -184,7 +184,7 @@ module _ (limit : ℕ) (m : Content) (R : Attr → Type 0) (p : Passes m R) wher
   all_pass (Link from to) = λ dir o n gains stat file. p_links dir o n gains stat file
   all_pass (Unlink path) = λ dir o n loses. p_loses dir o n loses
   all_pass (Rmdir path) = λ dir o n loses. p_loses dir o n loses
-  all_pass (Rename from to) = λ dir o name new_name r path e over old h few. p_moves dir o name new_name r.here over old h
+  all_pass (Rename from to) = λ dir o name new_name r path e paths over old h few. p_moves dir o name new_name r.here over old h
   all_pass (Chmod path mode) = λ o there. p_sets o _ there (mode_kind o.attr.mode mode) refl refl
   all_pass (Chown path uid gid) = λ o there. p_sets o _ there refl refl refl
   all_pass (Times path atime mtime ctime) = λ o there. p_sets o _ there refl refl refl

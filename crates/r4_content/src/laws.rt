@@ -2,7 +2,7 @@
 
 ghost use Rattle.std.specs.FinMap.{find, from_sorted};
 ghost use Rattle.std.specs.Ordering.{nat_cmp};
-ghost use Rattle.std.specs.Prelude.{◌≡◌, ◌≢◌, ◌↔◌, ◌+◌, ◌<◌, ◌≤◌, ◌^◌, ℕ, List, length, replicate, true, false};
+ghost use Rattle.std.specs.Prelude.{◌≡◌, ◌≢◌, ◌↔◌, ◌+◌, ◌*◌, ◌/◌, ◌%◌, ◌<◌, ◌≤◌, ◌^◌, ℕ, List, length, replicate, true, false};
 ghost use Rattle.r4_base.specs.Image.{Image};
 ghost use Rattle.r4_base.specs.Value.{Content, at_key};
 ghost use Rattle.r4_base.specs.Volume.{HasContent, HasObjects, HasStat, IsVisible, objects_in};
@@ -17,14 +17,14 @@ ghost use Rattle.r4_content.specs.Lawful.{HasBodies, IsLawful, RoomFor};
 ghost use Rattle.r4_content.specs.Listed.{list_after};
 ghost use Rattle.r4_content.specs.Locality.{Agree, AsksForStats, IsLocal, Meaning, Spares, commands};
 ghost use Rattle.r4_content.specs.Meaning.{after, changes, course, greatest_size, reads, reply};
-ghost use Rattle.r4_content.specs.Objects.{new_directory, new_file};
+ghost use Rattle.r4_content.specs.Objects.{link_more, new_directory, new_file};
 ghost use Rattle.r4_content.specs.Reading.{OnlyReads};
 ghost use Rattle.r4_content.specs.Seen.{IsSeen, Rises, of_seen};
 ghost use Rattle.r4_content.specs.Units.{MovesUnits};
 ghost use Rattle.r4_content.specs.Walk.{At, NoDirectory, NoEntry, NoName, walk};
 ghost use Rattle.r4_content.specs.Walks.{walk_reply};
 ghost use Rattle.r4_content.specs.declared.command.Command.{Command};
-ghost use Rattle.r4_content.specs.declared.command.Command.TheVariants.{Create, Fill, Mkdir, Read, Stat, Truncate, Unlink, Write};
+ghost use Rattle.r4_content.specs.declared.command.Command.TheVariants.{Chmod, Chown, Create, Fill, Link, Mkdir, Read, Rename, Rmdir, Stat, Times, Truncate, Unlink, Write};
 ghost use Rattle.r4_content.specs.declared.reply.Reply.TheVariants.{Okay, Absent, Data, Notdir, Attr as AttrReply, Name as NameReply};
 
 /// Each command does the same in contents that agree where it reads, and leaves all keys that it does not change.
@@ -100,6 +100,40 @@ pub fn what_is_written_is_read()
         → reply limit (Mkdir path oid) m ≡ Okay → reply limit (Stat path) (after limit (Mkdir path oid) m) ≡ AttrReply new_directory }
     ensures unlink { (limit : ℕ) (path : List (List ℕ)) (m : Content) → HasNumbers m → HasBytes path
         → reply limit (Unlink path) m ≡ Okay → reply limit (Stat path) (after limit (Unlink path) m) ≡ Absent }
+{}
+
+/// What is found after commands on attributes and on entries. After `chmod`, `chown` and `times` the object has the
+/// attributes that were asked for, and all others as they were. A file that gets a further name is found under both, with a
+/// link more, and a directory that was removed is absent. Where a `rename` changes something, the object is found under the
+/// new path with the attributes that it had, and is absent under the old one. (Where both paths name one object, it changes
+/// nothing.)
+pub fn what_is_changed_is_found()
+    ensures chmod { (limit : ℕ) (path : List (List ℕ)) (mode : ℕ) (m : Content) (a : Attr) → HasNumbers m
+        → HasBytes path → reply limit (Stat path) m ≡ AttrReply a
+        → reply limit (Stat path) (after limit (Chmod path mode) m)
+        ≡ AttrReply (record a { mode = a.mode / 4096 * 4096 + mode % 4096 }) }
+    ensures chown { (limit : ℕ) (path : List (List ℕ)) (uid gid : ℕ) (m : Content) (a : Attr) → HasNumbers m
+        → HasBytes path → reply limit (Stat path) m ≡ AttrReply a
+        → reply limit (Stat path) (after limit (Chown path uid gid) m)
+        ≡ AttrReply (record a { uid = uid; gid = gid }) }
+    ensures times { (limit : ℕ) (path : List (List ℕ)) (atime mtime ctime : ℕ) (m : Content) (a : Attr)
+        → HasNumbers m → HasBytes path → reply limit (Stat path) m ≡ AttrReply a
+        → reply limit (Stat path) (after limit (Times path atime mtime ctime) m)
+        ≡ AttrReply (record a { atime = atime; mtime = mtime; ctime = ctime }) }
+    ensures link { (limit : ℕ) (from to : List (List ℕ)) (m : Content) (a : Attr) → limit < 2 ^ 64
+        → IsLawful limit m → HasBytes from → HasBytes to → reply limit (Stat from) m ≡ AttrReply a
+        → reply limit (Link from to) m ≡ Okay
+        → (reply limit (Stat to) (after limit (Link from to) m) ≡ AttrReply (link_more a))
+        × (reply limit (Stat from) (after limit (Link from to) m) ≡ AttrReply (link_more a)) }
+    ensures rmdir { (limit : ℕ) (path : List (List ℕ)) (m : Content) → limit < 2 ^ 64 → IsLawful limit m
+        → HasBytes path → reply limit (Rmdir path) m ≡ Okay
+        → reply limit (Stat path) (after limit (Rmdir path) m) ≡ Absent }
+    ensures rename { (limit : ℕ) (from to : List (List ℕ)) (m : Content) (a : Attr) → limit < 2 ^ 64
+        → IsLawful limit m → HasBytes from → HasBytes to → reply limit (Stat from) m ≡ AttrReply a
+        → reply limit (Rename from to) m ≡ Okay
+        → (k : ℕ) → is_in (changes limit (Rename from to) m) k ≡ true
+        → (reply limit (Stat to) (after limit (Rename from to) m) ≡ AttrReply a)
+        × (reply limit (Stat from) (after limit (Rename from to) m) ≡ Absent) }
 {}
 
 /// A content that a volume may have stays one: after each command its objects, directories and entries are again as a
