@@ -1,5 +1,5 @@
 -- What each command that is done does to a lawful content: so what holds of the edits of each, holds of the command's.
-use Rattle.std.specs.Prelude.{◌≡◌, ◌≢◌, ℕ, ◌+◌, ◌*◌, ◌/◌, ◌%◌, ◌^◌, ◌<◌, ◌≤◌, List, Bool, true, false, length, replicate}
+use Rattle.std.specs.Prelude.{◌≡◌, ℕ, ◌+◌, ◌*◌, ◌/◌, ◌%◌, ◌^◌, ◌<◌, ◌≤◌, List, false, length, replicate}
 use Rattle.std.proofs.Common.{inl, inr, sym, subst}
 use Rattle.r4_base.specs.Value.{Content}
 use Rattle.r4_base.specs.declared.items.Attr.{Attr}

@@ -1,13 +1,13 @@
 -- What is found under the paths of a command after it.
-use Rattle.std.specs.Prelude.{◌≡◌, ◌≢◌, ℕ, zero, suc, ◌+◌, ◌-◌, ◌*◌, ◌/◌, ◌%◌, ◌^◌, ◌<◌, ◌≤◌, List, [], ◌∷◌, Bool, true, false, ◌==◌, All, Option, Some, None, length, take, slice_index_or, if◌then◌else◌}
+use Rattle.std.specs.Prelude.{◌≡◌, ◌≢◌, ℕ, ◌+◌, ◌-◌, ◌*◌, ◌/◌, ◌%◌, ◌^◌, ◌<◌, List, [], ◌∷◌, Bool, true, false, ◌==◌, All, Option, Some, None, length, take, if◌then◌else◌}
 use Rattle.std.proofs.Common.{arith, refl, sym, ap, subst, ◌∙◌}
 use Rattle.std.proofs.lemmas.Bool.{eq-eqb}
-use Rattle.std.proofs.lemmas.List.Elements.{All-head, All-tail, All-take}
+use Rattle.std.proofs.lemmas.List.Elements.{All-head, All-take}
 use Rattle.std.proofs.lemmas.Option.{same_Some}
 use Rattle.r4_base.specs.Key.{key_of_rank}
 use Rattle.r4_base.specs.Name.{dir_of_key}
 use Rattle.r4_base.specs.Value.{Value, Stat, Entry, Content, at_key}
-use Rattle.r4_base.specs.Volume.{HasObjects, HasStat, IsObject, IsReached, is_directory, is_entry_in, root_object, stat_rank}
+use Rattle.r4_base.specs.Volume.{HasObjects, HasStat, IsObject, is_directory, is_entry_in, stat_rank}
 use Rattle.r4_base.specs.declared.items.Attr.{Attr}
 use Rattle.r4_base.specs.declared.items.Target.{Target}
 use Rattle.r4_content.specs.Course.{Answer, Change, Ending, ending, of_content}
@@ -15,7 +15,7 @@ use Rattle.r4_content.specs.Edited.{Edits, edited}
 use Rattle.r4_content.specs.Entries.{linked, name_in, unname_in}
 use Rattle.r4_content.specs.Fields.{HasBytes, HasNumbers}
 use Rattle.r4_content.specs.Lawful.{IsLawful}
-use Rattle.r4_content.specs.Meaning.{after, chmod, is_path, reply, set_attrs}
+use Rattle.r4_content.specs.Meaning.{after, is_path, reply, set_attrs}
 use Rattle.r4_content.specs.Objects.{Object, entry_less, entry_more, entry_rank, is_dir, is_same_target, link_more, set_attr}
 use Rattle.r4_content.specs.Walk.{attr_at, target_in}
 use Rattle.r4_content.specs.Ways.{Named, Place, entry_in, to_object}
@@ -26,18 +26,17 @@ use Rattle.r4_content.proofs.EditLaws.{edited_off}
 use Rattle.r4_content.proofs.EditParts.{is_off, true_not_false}
 use Rattle.r4_content.proofs.FileEdits.{attr_of, off_attr, other_stat, put_itself}
 use Rattle.r4_content.proofs.Found.{Found, There, NotDirectory, NotThere, down, ends_at, found, found_from, go_attr, go_target, small_object, stat_there, way_ends}
-use Rattle.r4_content.proofs.Gaining.{Gains, WasThere, becomes, entries_same, entry_now, kept, kind, stat_same}
-use Rattle.r4_content.proofs.Keeping.{byte_key}
+use Rattle.r4_content.proofs.Gaining.{Gains, becomes, entries_same, entry_now, kept, kind}
 use Rattle.r4_content.proofs.Losing.{Loses, dir_other, dir_now, off, stat_one, entry_now as entry_gone}
-use Rattle.r4_content.proofs.Makers.{Linked, gains_link, link_done}
+use Rattle.r4_content.proofs.Makers.{gains_link, link_done}
 use Rattle.r4_content.proofs.Naming.{found_last}
 use Rattle.r4_content.proofs.OneObject.{numbers_of, stat_was}
-use Rattle.r4_content.proofs.Ranks.{entry_not_byte, entry_not_stat, root_is_object, same_itself, same_stat, stat_not_byte, told_same}
+use Rattle.r4_content.proofs.Ranks.{entry_not_byte, entry_not_stat, same_itself, same_stat, stat_not_byte, told_same}
 use Rattle.r4_content.proofs.Refound.{found_on}
 use Rattle.r4_content.proofs.Rewired.{entry_same}
 use Rattle.r4_content.proofs.SameWay.{IsThere, found_again, found_object, itself_in, place_in, place_with, step_is, steps_on, target_is}
 use Rattle.r4_content.proofs.Shapes.{entry_dir}
-use Rattle.r4_content.proofs.Takers.{NamedBy, rmdir_named}
+use Rattle.r4_content.proofs.Takers.{rmdir_named}
 use Rattle.r4_content.proofs.Unnaming.{absent_ends, less_kind, with_less}
 use Rattle.r4_content.proofs.Writing.{goes_on, stat_ends}
 

@@ -7,7 +7,7 @@ use Rattle.r4_base.specs.Volume.{HasStat, IsObject, is_directory}
 use Rattle.r4_base.specs.declared.items.Attr.{Attr}
 use Rattle.r4_base.specs.declared.things.Oid.{Oid}
 use Rattle.r4_content.specs.Course.{Course, Answer, Change, Ending, ending, of_content}
-use Rattle.r4_content.specs.Edited.{Edits, edited, no_edits}
+use Rattle.r4_content.specs.Edited.{Edits, edited}
 use Rattle.r4_content.specs.Entries.{is_no_id, link, linked, name_in}
 use Rattle.r4_content.specs.Fields.{HasBytes, HasNumbers, IsUnused}
 use Rattle.r4_content.specs.Lawful.{IsLawful}

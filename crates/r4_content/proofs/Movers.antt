@@ -12,7 +12,7 @@ use Rattle.r4_base.specs.Volume.{HasObjects, IsReached, is_directory, is_entry_i
 use Rattle.r4_base.specs.declared.items.Attr.{Attr}
 use Rattle.r4_base.specs.declared.items.Target.{Target}
 use Rattle.r4_content.specs.Course.{Course, Ask, Answer, Change, Ending, ending, of_content}
-use Rattle.r4_content.specs.Edited.{Edits, Pairs, and_also, edited, no_edits, pairs_between}
+use Rattle.r4_content.specs.Edited.{Edits, and_also, edited, no_edits, pairs_between}
 use Rattle.r4_content.specs.Entries.{entries_from, entries_to, if_empty, move, move_to, moved, moved_onto, names_in, rename, replace, with_entries}
 use Rattle.r4_content.specs.Fields.{HasBytes, HasNumbers}
 use Rattle.r4_content.specs.Lawful.{HasBodies, IsLawful}

@@ -1,30 +1,22 @@
 -- How many objects there are after a command.
-use Rattle.std.specs.Prelude.{◌≡◌, ◌≢◌, ◌⊎◌, ℕ, zero, suc, ◌+◌, ◌-◌, ◌*◌, ◌/◌, ◌%◌, ◌^◌, ◌<◌, ◌≤◌, List, [], ◌∷◌, ◌++◌, All, Bool, true, false, not, ◌&&◌, ◌||◌, ◌==◌, cond, nat_lt, nat_le, length, map, replicate, Contains, count_by, Option, Some, None, if◌then◌else◌}
-use Rattle.std.proofs.Common.{arith, inl, inr, refl, sym, ap, subst, ◌∙◌}
+use Rattle.std.specs.Prelude.{◌≡◌, ◌≢◌, ◌⊎◌, ℕ, suc, ◌+◌, ◌≤◌, List, [], ◌∷◌, Bool, true, false, ◌==◌, cond, length, Contains, Option, Some, None, if◌then◌else◌}
+use Rattle.std.proofs.Common.{arith, inl, inr, refl, sym, ap, ◌∙◌}
 use Rattle.std.specs.Cmp.{unsigned_tied}
 use Rattle.std.specs.FinMap.{entries, find, get-entries, insert}
-use Rattle.std.specs.List.{filter, sum_by}
-use Rattle.std.specs.Option.{is_some}
+use Rattle.std.specs.List.{filter}
 use Rattle.std.specs.Ordering.{nat_cmp}
-use Rattle.std.proofs.lemmas.Bool.{and_parts, eq-eqb, eqb-true, ltb-true, ne_eqb, or_cases}
+use Rattle.std.proofs.lemmas.Bool.{eq-eqb, eqb-true, ne_eqb}
 use Rattle.std.proofs.lemmas.List.Sums.{length-filter}
 use Rattle.std.proofs.lemmas.Option.{same_Some}
 use Rattle.r4_base.proofs.Members.{member_here, member_later}
-use Rattle.r4_base.proofs.Visible.{byte_back}
 use Rattle.r4_base.specs.Key.{key_of_rank, minor_of}
 use Rattle.r4_base.specs.Value.{Value, Stat, Entry, Byte, Content, at_key}
-use Rattle.r4_base.specs.Volume.{HasStat, IsObject, KeyFits, byte_rank, is_directory, is_stat_value, objects_in, stat_rank}
-use Rattle.r4_base.specs.declared.items.Attr.{Attr}
-use Rattle.r4_base.specs.declared.items.Target.{Target}
-use Rattle.r4_content.specs.Counts.{stats_in}
-use Rattle.r4_content.specs.Edited.{Edits, Intervals, Pairs, and_also, edited, is_between, is_in, no_edits}
+use Rattle.r4_base.specs.Volume.{is_stat_value, objects_in}
+use Rattle.r4_content.specs.Edited.{Edits, Pairs, edited, is_in}
 use Rattle.r4_content.specs.Lawful.{HasBodies}
-use Rattle.r4_content.specs.Objects.{Object, entry_rank}
-use Rattle.r4_content.proofs.Counting.{at_cut_key, count, cut_at, here, one_count, pick}
+use Rattle.r4_content.proofs.Counting.{at_cut_key, cut_at, here, one_count, pick}
 use Rattle.r4_content.proofs.EditLaws.{at_edited, at_insert, last_put}
 use Rattle.r4_content.proofs.EditParts.{true_not_false}
-use Rattle.r4_content.proofs.Ranks.{in_body}
-use Rattle.r4_content.proofs.Shapes.{entry_dir, stat_back}
 use Rattle.r4_content.proofs.VolumeWidths.{counted_few}
 use Rattle.r4_content.proofs.Widths.{EachStat, each_edited}
 

@@ -1,12 +1,12 @@
 -- How many objects each command makes and takes away.
-use Rattle.std.specs.Prelude.{◌≡◌, ◌≢◌, ◌⊎◌, ℕ, ◌+◌, ◌-◌, ◌*◌, ◌/◌, ◌%◌, ◌^◌, ◌<◌, ◌≤◌, List, [], ◌∷◌, ◌++◌, All, Bool, true, false, ◌&&◌, ◌||◌, ◌==◌, cond, nat_lt, nat_le, length, replicate, Option, Some, None, if◌then◌else◌}
+use Rattle.std.specs.Prelude.{◌≡◌, ◌≢◌, ◌⊎◌, ℕ, ◌+◌, ◌*◌, ◌/◌, ◌%◌, ◌^◌, ◌<◌, ◌≤◌, List, [], ◌∷◌, ◌++◌, All, Bool, true, false, ◌&&◌, ◌||◌, ◌==◌, nat_lt, nat_le, length, replicate, Option, Some, None, if◌then◌else◌}
 use Rattle.std.proofs.Common.{arith, inl, inr, lit<, refl, sym, ap, subst, ◌∙◌}
 use Rattle.std.specs.Option.{is_some}
-use Rattle.std.proofs.lemmas.Bool.{eqb-true, ltb-true, ne_eqb, eq-eqb, or_cases}
+use Rattle.std.proofs.lemmas.Bool.{eqb-true, ltb-true, or_cases}
 use Rattle.r4_base.proofs.Visible.{byte_back}
 use Rattle.r4_base.specs.Key.{key_of_rank, minor_of}
 use Rattle.r4_base.specs.Value.{Value, Stat, Entry, Byte, Content, at_key}
-use Rattle.r4_base.specs.Volume.{HasStat, IsObject, byte_rank, is_directory, objects_in, stat_rank}
+use Rattle.r4_base.specs.Volume.{HasStat, IsObject, byte_rank, objects_in, stat_rank}
 use Rattle.r4_base.specs.declared.items.Attr.{Attr}
 use Rattle.r4_base.specs.declared.items.Target.{Target}
 use Rattle.r4_content.specs.Bodies.{fill_gap, larger, resize, truncated, written}
@@ -14,7 +14,7 @@ use Rattle.r4_content.specs.Counts.{born, gone, is_okay, stats_in}
 use Rattle.r4_content.specs.Course.{ending, of_content}
 use Rattle.r4_content.specs.Edited.{Edits, Intervals, and_also, edited, is_between, is_in, no_edits}
 use Rattle.r4_content.specs.Entries.{linked, moved, name_in, set_parents, unname_in}
-use Rattle.r4_content.specs.Fields.{HasBytePaths, HasNumbers, NamesUnused}
+use Rattle.r4_content.specs.Fields.{HasBytePaths, NamesUnused}
 use Rattle.r4_content.specs.Lawful.{HasBodies, IsLawful}
 use Rattle.r4_content.specs.Meaning.{after, course, makes_object, reply}
 use Rattle.r4_content.specs.Objects.{Object, cut_body, cut_key, entry_less, entry_more, entry_rank, is_dir, is_same, link_less, made_in, new_directory, new_file, set_attr, set_body, set_entry, sized, unnamed, zero_body}
@@ -22,7 +22,7 @@ use Rattle.r4_content.specs.declared.command.Command.{Command}
 use Rattle.r4_content.specs.declared.command.Command.TheVariants.{Create, Mkdir, Write, Fill, Truncate, Read, Stat as Ask, Names, Link, Unlink, Rmdir, Rename, Chmod, Chown, Times, Begin, End, Commit}
 use Rattle.r4_content.specs.declared.reply.Reply.{Reply}
 use Rattle.r4_content.specs.declared.reply.Reply.TheVariants.{Okay}
-use Rattle.r4_content.proofs.Doing.{HoldsOf, done_by, holds_of}
+use Rattle.r4_content.proofs.Doing.{HoldsOf, holds_of}
 use Rattle.r4_content.proofs.EditLaws.{in_append, one_key}
 use Rattle.r4_content.proofs.EditParts.{true_not_false}
 use Rattle.r4_content.proofs.Gaining.{Gains, IsNew, gain_object}
@@ -36,7 +36,7 @@ use Rattle.r4_content.proofs.Refusals.{refused_edits}
 use Rattle.r4_content.proofs.SameWay.{IsThere}
 use Rattle.r4_content.proofs.Shapes.{entry_dir, stat_back}
 use Rattle.r4_content.proofs.Staying.{lawful_stays}
-use Rattle.r4_content.proofs.Widths.{EachStat, each_append, each_byte}
+use Rattle.r4_content.proofs.Widths.{each_append, each_byte}
 
 abbrev pub as_number : Bool → ℕ
 as_number c = if c then 1 else 0

@@ -1,6 +1,6 @@
 -- A path is found again after edits that leave what is on it.
-use Rattle.std.specs.Prelude.{◌≡◌, ◌≢◌, ℕ, ◌+◌, ◌-◌, ◌^◌, ◌<◌, List, [], ◌∷◌, Bool, true, false, All, Some, None, map}
-use Rattle.std.proofs.Common.{arith, lit<, refl, sym, ap, ◌∙◌}
+use Rattle.std.specs.Prelude.{◌≡◌, ℕ, ◌^◌, ◌<◌, List, [], ◌∷◌, true, All, Some}
+use Rattle.std.proofs.Common.{arith, lit<, ap, ◌∙◌}
 use Rattle.std.proofs.lemmas.List.Elements.{All-head, All-tail}
 use Rattle.r4_base.specs.Value.{Entry, Content, at_key}
 use Rattle.r4_base.specs.Volume.{IsObject, is_directory, root_object}

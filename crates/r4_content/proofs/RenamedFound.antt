@@ -1,5 +1,5 @@
 -- What is found under the paths of a rename after it.
-use Rattle.std.specs.Prelude.{◌≡◌, ◌≢◌, ℕ, zero, suc, ◌+◌, ◌-◌, ◌^◌, ◌<◌, ◌≤◌, List, [], ◌∷◌, Bool, true, false, ◌==◌, ◌&&◌, All, Option, Some, None, length, take, slice_index_or, if◌then◌else◌}
+use Rattle.std.specs.Prelude.{◌≡◌, ◌≢◌, ℕ, zero, suc, ◌-◌, ◌^◌, ◌<◌, ◌≤◌, List, [], ◌∷◌, Bool, true, false, All, Option, Some, length, take, if◌then◌else◌}
 use Rattle.std.proofs.Common.{arith, refl, sym, ap, subst, ◌∙◌}
 use Rattle.std.proofs.lemmas.List.Elements.{All-head, All-tail, All-take}
 use Rattle.r4_base.specs.Key.{key_of_rank}
@@ -8,11 +8,11 @@ use Rattle.r4_base.specs.Value.{Value, Stat, Entry, Content, at_key}
 use Rattle.r4_base.specs.Volume.{HasObjects, HasStat, IsReached, is_directory, is_entry_in, stat_rank}
 use Rattle.r4_base.specs.declared.items.Attr.{Attr}
 use Rattle.r4_base.specs.declared.items.Target.{Target}
-use Rattle.r4_content.specs.Edited.{Edits, changed, edited, is_in}
+use Rattle.r4_content.specs.Edited.{changed, edited, is_in}
 use Rattle.r4_content.specs.Fields.{HasBytes, HasNumbers}
 use Rattle.r4_content.specs.Lawful.{IsLawful}
-use Rattle.r4_content.specs.Meaning.{after, changes, is_path, reply}
-use Rattle.r4_content.specs.Objects.{Object, entry_rank, is_among, is_dir, is_same, is_same_target}
+use Rattle.r4_content.specs.Meaning.{after, changes, reply}
+use Rattle.r4_content.specs.Objects.{Object, entry_rank, is_dir, is_same_target}
 use Rattle.r4_content.specs.Walk.{attr_at, target_in}
 use Rattle.r4_content.specs.Ways.{Place, entry_in}
 use Rattle.r4_content.specs.declared.command.Command.TheVariants.{Rename, Stat as StatCommand}
@@ -20,11 +20,11 @@ use Rattle.r4_content.specs.declared.reply.Reply.TheVariants.{Okay, Absent, Attr
 use Rattle.r4_content.proofs.Counting.{once, one_there}
 use Rattle.r4_content.proofs.EditParts.{true_not_false}
 use Rattle.r4_content.proofs.FileEdits.{attr_of}
-use Rattle.r4_content.proofs.Found.{Found, There, NotDirectory, NotThere, down, found, found_from, go_attr, go_target, small_object, stat_there}
+use Rattle.r4_content.proofs.Found.{There, NotDirectory, NotThere, down, found, found_from, go_attr, go_target, small_object, stat_there}
 use Rattle.r4_content.proofs.FoundAfter.{Leaves, left_found, named_none, no_step, stat_found}
 use Rattle.r4_content.proofs.Losing.{named_no_root, not_in_itself, one_target, reached_object, stat_one}
-use Rattle.r4_content.proofs.MoveEdits.{CanMove, apart, came, gone, moving, old_not_dir, old_not_new, other_parent, others, parent_now}
-use Rattle.r4_content.proofs.Movers.{Ends, FewLinks, Paths, on_way, rename_done}
+use Rattle.r4_content.proofs.MoveEdits.{CanMove, came, gone, moving, old_not_dir, old_not_new, other_parent, others, parent_now}
+use Rattle.r4_content.proofs.Movers.{Ends, Paths, on_way, rename_done}
 use Rattle.r4_content.proofs.Moving.{parent, parent_kind}
 use Rattle.r4_content.proofs.Naming.{found_last}
 use Rattle.r4_content.proofs.OneObject.{numbers_of, stat_was}

@@ -11,7 +11,7 @@ use Rattle.r4_base.specs.Value.{Value, Stat, Entry, Byte, Content, at_key}
 use Rattle.r4_base.specs.Volume.{entries_in, is_entry_in}
 use Rattle.r4_base.specs.declared.items.Target.{Target}
 use Rattle.r4_content.specs.Course.{Course, Answer, Change, Ending, ending, of_content}
-use Rattle.r4_content.specs.Edited.{Edits, Pairs, edited, is_between, no_edits, pairs_between}
+use Rattle.r4_content.specs.Edited.{Edits, Pairs, edited, is_between, pairs_between}
 use Rattle.r4_content.specs.Entries.{entries_from, entries_to, if_empty, names_in, unname_in, with_entries}
 use Rattle.r4_content.specs.Fields.{HasBytes, HasNumbers}
 use Rattle.r4_content.specs.Lawful.{HasBodies, IsLawful}

@@ -1,11 +1,11 @@
 -- What is visible of units that were moved is the content with the edits made.
-use Rattle.std.specs.Prelude.{◌≡◌, ◌⊎◌, ◌↔◌, ℕ, ◌^◌, ◌<◌, ◌≤◌, Bool, true, false, Option, Some, None}
+use Rattle.std.specs.Prelude.{◌≡◌, ℕ, Bool, true, false, Option, Some, None}
 use Rattle.std.proofs.Common.{arith, inl, inr, refl, sym, ap, subst, ◌∙◌}
 use Rattle.std.proofs.lemmas.Bool.{cases_lt}
 use Rattle.std.proofs.lemmas.Option.{same_Some}
-use Rattle.r4_base.specs.Key.{key_of_rank, minor_of, offset_of}
+use Rattle.r4_base.specs.Key.{key_of_rank, offset_of}
 use Rattle.r4_base.specs.Value.{Value, Stat, Entry, Byte, Content, at_key}
-use Rattle.r4_base.specs.Volume.{HasStat, IsPadding, IsVisible, byte_rank, is_directory, object_of, stat_rank}
+use Rattle.r4_base.specs.Volume.{HasStat, IsPadding, IsVisible, object_of, stat_rank}
 use Rattle.r4_base.specs.declared.items.Attr.{Attr}
 use Rattle.r4_base.specs.declared.items.Target.{Target}
 use Rattle.r4_content.specs.Edited.{Edits, Intervals, changed, edited, is_in}

@@ -1,24 +1,22 @@
 -- Numbers of the attributes of a volume: links fit their field, and its directories can count many entries more.
-use Rattle.std.specs.Prelude.{◌≡◌, ◌≢◌, ◌⊎◌, ℕ, zero, suc, ◌+◌, ◌*◌, ◌^◌, ◌<◌, ◌≤◌, List, [], ◌∷◌, ◌++◌, Bool, true, false, cond, ◌==◌, length, map, Contains, Option, Some, None, if◌then◌else◌}
-use Rattle.std.proofs.Common.{arith, inl, inr, lit<, refl, sym, ap, subst, ◌∙◌}
+use Rattle.std.specs.Prelude.{◌≡◌, ◌≢◌, ◌⊎◌, ℕ, zero, suc, ◌+◌, ◌*◌, ◌^◌, ◌<◌, ◌≤◌, List, [], ◌∷◌, ◌++◌, Bool, true, false, cond, ◌==◌, length, map, Contains, Some, None, if◌then◌else◌}
+use Rattle.std.proofs.Common.{arith, inl, inr, refl, sym, ap, subst, ◌∙◌}
 use Rattle.std.proofs.lemmas.Bool.{eq-eqb, eqb-true, ne_eqb}
 use Rattle.std.proofs.lemmas.List.{length-append}
 use Rattle.std.proofs.lemmas.List.Elements.{Contains-append_cases, Contains-append_left, Contains-append_right}
-use Rattle.std.proofs.lemmas.Option.{same_Some}
 use Rattle.r4_base.proofs.Members.{member_cases, member_here, member_later, no_member}
 use Rattle.r4_base.proofs.Numbers.{number_at-lt}
 use Rattle.r4_base.proofs.Superblocks.{read_lawful}
-use Rattle.r4_base.specs.Bytes.{number_at}
-use Rattle.r4_base.specs.Cell.{IsCellOf, bytes_from, cell_of, entry_unit, hole_bytes, is_dir, is_extent, is_pointer, is_stat, item_units, units_in, zeros_from}
+use Rattle.r4_base.specs.Cell.{bytes_from, cell_of, entry_unit, hole_bytes, is_dir, is_extent, is_pointer, is_stat, item_units, units_in, zeros_from}
 use Rattle.r4_base.specs.Dir.{Entry as DirEntry, entries_from, entries_of, entry_count}
 use Rattle.r4_base.specs.Extents.{is_hole, units_of}
 use Rattle.r4_base.specs.Image.{Image, block_at}
 use Rattle.r4_base.specs.Key.{rank}
 use Rattle.r4_base.specs.Node.{Item, count_of, items_from, items_of}
 use Rattle.r4_base.specs.Stat.{attr_of}
-use Rattle.r4_base.specs.Tree.{Node, Store}
+use Rattle.r4_base.specs.Tree.{Node}
 use Rattle.r4_base.specs.Value.{Value, Stat, Entry, Byte, Content, at_key}
-use Rattle.r4_base.specs.Volume.{HasContent, HasStat, IsObject, entries_in, is_directory, is_entry_in, stat_rank}
+use Rattle.r4_base.specs.Volume.{HasContent, HasStat, entries_in, is_entry_in, stat_rank}
 use Rattle.r4_base.specs.declared.items.Attr.{Attr}
 use Rattle.r4_base.specs.declared.items.Target.{Target}
 use Rattle.r4_base.specs.declared.items.Unit.{Unit as ExtentUnit}

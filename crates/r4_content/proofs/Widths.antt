@@ -1,9 +1,8 @@
 -- Numbers of attributes stay within their fields.
-use Rattle.std.specs.Prelude.{◌≡◌, ◌⊎◌, ℕ, ◌+◌, ◌-◌, ◌*◌, ◌/◌, ◌%◌, ◌^◌, ◌<◌, ◌≤◌, List, [], ◌∷◌, ◌++◌, Bool, true, false, ◌==◌, cond, nat_lt, nat_le, length, replicate, Option, Some, None, if◌then◌else◌}
-use Rattle.std.proofs.Common.{arith, inl, inr, refl, sym, ap, subst, ◌∙◌}
+use Rattle.std.specs.Prelude.{◌≡◌, ℕ, ◌+◌, ◌-◌, ◌*◌, ◌/◌, ◌%◌, ◌^◌, ◌<◌, ◌≤◌, List, [], ◌∷◌, ◌++◌, Bool, true, false, ◌==◌, cond, nat_lt, nat_le, length, replicate, Option, Some, None, if◌then◌else◌}
+use Rattle.std.proofs.Common.{arith, refl, sym, ap, subst, ◌∙◌}
 use Rattle.std.proofs.lemmas.Bool.{eqb-true}
 use Rattle.std.proofs.lemmas.Grind.{common_steps}
-use Rattle.std.proofs.lemmas.Option.{same_Some}
 use Rattle.r4_base.specs.Value.{Value, Stat, Entry, Byte, Content, at_key}
 use Rattle.r4_base.specs.Volume.{HasStat, byte_rank, is_directory, stat_rank}
 use Rattle.r4_base.specs.declared.items.Attr.{Attr}
@@ -24,7 +23,6 @@ use Rattle.r4_content.proofs.EditParts.{true_not_false}
 use Rattle.r4_content.proofs.Gaining.{Gains}
 use Rattle.r4_content.proofs.Losing.{Loses}
 use Rattle.r4_content.proofs.MoveEdits.{CanMove, comes_to, moving}
-use Rattle.r4_content.proofs.Movers.{Ends}
 use Rattle.r4_content.proofs.OneObject.{stat_was}
 use Rattle.r4_content.proofs.SameWay.{IsThere}
 

@@ -1,4 +1,5 @@
--- How many objects a command makes, and how many it takes away (docs/commands.md, "Objects born and gone").
+-- How many objects a command makes, and how many it takes away (docs/commands.md, "Objects born
+-- and gone").
 use Rattle.std.specs.Prelude.{ℕ, ◌+◌, List, [], ◌∷◌, Bool, true, false, ◌&&◌, ◌==◌, if◌then◌else◌}
 use Rattle.r4_base.specs.Key.{key_of_rank, minor_of}
 use Rattle.r4_base.specs.Value.{Content}

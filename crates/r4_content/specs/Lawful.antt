@@ -10,14 +10,17 @@ use Rattle.r4_base.specs.declared.items.Target.{Target}
 abbrev pub HasByte : Content → Target → (offset : ℕ) → Type 0
 HasByte m o offset = (x : ℕ) × (at_key m (byte_rank o offset) ≡ Some (Byte x))
 
--- Keys fit what stands at them; a file has at most `limit` bytes, just those at the offsets below its size; `bytes` is the size for every object.
+-- Keys fit what stands at them; a file has at most `limit` bytes, just those at the offsets below
+-- its size; `bytes` is the size for every object.
 pub record HasBodies (limit : ℕ) (m : Content) : Type 0 where
   pub keys : (k : ℕ) (v : Value) → at_key m k ≡ Some v → KeyFits m (key_of_rank k) v
   pub small : (o : Target) (a : Attr) → HasStat m o a → is_directory a ≡ false → a.size ≤ limit
-  pub offsets : (o : Target) (a : Attr) → HasStat m o a → is_directory a ≡ false → (offset : ℕ) → offset < 2 ^ 64 → HasByte m o offset ↔ (offset < a.size)
+  pub offsets : (o : Target) (a : Attr) → HasStat m o a → is_directory a ≡ false → (offset : ℕ)
+      → offset < 2 ^ 64 → HasByte m o offset ↔ (offset < a.size)
   pub bytes : (o : Target) (a : Attr) → HasStat m o a → a.bytes ≡ a.size
 
--- Of a content that a volume has, whose links are numbers of their field, and in which each directory can count another entry.
+-- Of a content that a volume has, whose links are numbers of their field, and in which each
+-- directory can count another entry.
 pub record IsLawful (limit : ℕ) (m : Content) : Type 0 where
   pub objects : HasObjects m
   pub bodies : HasBodies limit m

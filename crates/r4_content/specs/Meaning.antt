@@ -1,5 +1,7 @@
--- What commands mean: what each asks a content for, the content after it, and its reply (docs/commands.md).
-use Rattle.std.specs.Prelude.{ℕ, ◌+◌, ◌*◌, ◌/◌, ◌%◌, ◌^◌, List, [], ◌∷◌, replicate, Bool, true, false, if◌then◌else◌}
+-- What commands mean: what each asks a content for, the content after it, and its reply
+-- (docs/commands.md).
+use Rattle.std.specs.Prelude.{ℕ, ◌+◌, ◌*◌, ◌/◌, ◌%◌, ◌^◌, List, [], ◌∷◌, replicate, Bool, true}
+use Rattle.std.specs.Prelude.{false, if◌then◌else◌}
 use Rattle.std.specs.List.{list_all}
 use Rattle.std.specs.Option.{is_none}
 use Rattle.r4_base.specs.Name.{name_fault}
@@ -13,9 +15,13 @@ use Rattle.r4_content.specs.Entries.{create, link, mkdir, names, rename, rmdir, 
 use Rattle.r4_content.specs.Objects.{set_attr}
 use Rattle.r4_content.specs.Ways.{to_object}
 use Rattle.r4_content.specs.declared.command.Command.{Command}
-use Rattle.r4_content.specs.declared.command.Command.TheVariants.{Create, Mkdir, Write, Fill, Truncate, Read, Stat, Names, Link, Unlink, Rmdir, Rename, Chmod, Chown, Times, Begin, End, Commit}
+use Rattle.r4_content.specs.declared.command.Command.TheVariants.{Create, Mkdir, Write, Fill}
+use Rattle.r4_content.specs.declared.command.Command.TheVariants.{Truncate, Read, Stat, Names, Link}
+use Rattle.r4_content.specs.declared.command.Command.TheVariants.{Unlink, Rmdir, Rename, Chmod}
+use Rattle.r4_content.specs.declared.command.Command.TheVariants.{Chown, Times, Begin, End, Commit}
 use Rattle.r4_content.specs.declared.reply.Reply.{Reply}
-use Rattle.r4_content.specs.declared.reply.Reply.TheVariants.{Okay, Attr as AttrReply, Name as NameReply}
+use Rattle.r4_content.specs.declared.reply.Reply.TheVariants.{Okay, Attr as AttrReply}
+use Rattle.r4_content.specs.declared.reply.Reply.TheVariants.{Name as NameReply}
 
 -- the most bytes that a file may have
 abbrev pub greatest_size : ℕ
@@ -44,9 +50,11 @@ abbrev pub chown : List (List ℕ) → (uid gid : ℕ) → Course
 chown path uid gid = set_attrs path (λ a. record a { uid = uid; gid = gid })
 
 abbrev pub times : List (List ℕ) → (atime mtime ctime : ℕ) → Course
-times path atime mtime ctime = set_attrs path (λ a. record a { atime = atime; mtime = mtime; ctime = ctime })
+times path atime mtime ctime = set_attrs path
+    (λ a. record a { atime = atime; mtime = mtime; ctime = ctime })
 
--- ---- every command, where a file may have `limit` bytes. `begin`, `end` and `commit` read and change nothing
+-- ---- every command, where a file may have `limit` bytes. `begin`, `end` and `commit` read and
+-- change nothing
 
 abbrev pub course : (limit : ℕ) → Command → Course
 course limit (Create path oid) = named path (create path oid)

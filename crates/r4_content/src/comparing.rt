@@ -3,7 +3,11 @@
 ghost use Rattle.std.specs.Prelude.{◌≡◌, ◌↔◌, ◌⊎◌, IsTrue};
 ghost use Rattle.r4_content.specs.Groups.{IsOfAttributes, IsOfBytes};
 ghost use Rattle.r4_content.specs.Meaning.{with_id};
-ghost use Rattle.r4_content.specs.declared.command.Command.TheVariants.{Create, Mkdir, Write, Fill, Truncate, Read, Stat, Names, Link, Unlink, Rmdir, Rename, Chmod, Chown, Times};
+ghost use Rattle.r4_content.specs.declared.command.Command.TheVariants.{Create, Mkdir, Write, Fill};
+ghost use Rattle.r4_content.specs.declared.command.Command.TheVariants.{Truncate, Read, Stat};
+ghost use Rattle.r4_content.specs.declared.command.Command.TheVariants.{Names, Link, Unlink, Rmdir};
+ghost use Rattle.r4_content.specs.declared.command.Command.TheVariants.{Rename, Chmod, Chown};
+ghost use Rattle.r4_content.specs.declared.command.Command.TheVariants.{Times};
 
 use crate::command::Command;
 use crate::path::Path;

@@ -10,7 +10,8 @@ use Rattle.r4_content.specs.declared.seen.SeenPart.TheVariants.{One, Run}
 -- the name of a directory's entry that a part has
 abbrev pub part_names : (dir : ℕ) → SeenPart → List (List ℕ)
 part_names dir (One key (Attr a)) = []
-part_names dir (One key (Entry n t)) = if is_between (entries_from dir) (entries_to dir) (rank key) then n ∷ [] else []
+part_names dir (One key (Entry n t)) = if is_between (entries_from dir) (entries_to dir)
+    (rank key) then n ∷ [] else []
 part_names dir (One key (Byte x)) = []
 part_names dir (Run r) = []
 

@@ -66,7 +66,8 @@ pub(crate) fn edits(alloc: Global, changes: Changes) -> Edits
 /// The key of an object's stat data.
 pub fn stat_key(object: &Object) -> Key
     requires { IsSmall object.now }
-    ensures { result ≡ stat_key object.now.target.locality object.now.target.ordering object.now.target.oid }
+    ensures { result
+        ≡ stat_key object.now.target.locality object.now.target.ordering object.now.target.oid }
 {
     let target = object.target;
     Key::stat(target.locality, target.ordering, target.oid)
@@ -75,7 +76,8 @@ pub fn stat_key(object: &Object) -> Key
 /// An object gets these attributes.
 pub fn set_attr(alloc: Global, object: &Object, attr: Attr) -> Result<Edits, Memory>
     requires { IsSmall object.now }
-    ensures { IfOk result (λ e. ending_of e ≡ record { edits = set_attr (object_of object.now) attr; reply = Okay }) }
+    ensures { IfOk result (λ e. ending_of e
+        ≡ record { edits = set_attr (object_of object.now) attr; reply = Okay }) }
 {
     let mut changes = no_changes(alloc);
     changes.puts.push((stat_key(object), Value::Attr(attr)))?;
@@ -93,7 +95,12 @@ pub(crate) fn name_in(
     requires key { rank key ≡ entry_rank dir.now.target name.now }
     requires dir { IsSmall dir.now }
     requires object { IsSmall object.now }
-    ensures { IfOk result (λ e. ending_of e ≡ record { edits = name_in (object_of dir.now) name.now (object_of object.now); reply = Okay }) }
+    ensures { IfOk result (λ e. ending_of e
+        ≡ record {
+          edits = name_in (object_of dir.now) name.now
+              (object_of object.now);
+          reply = Okay;
+        }) }
 {
     let more = entry_more(is_dir(object), dir.attr);
     let mut changes = no_changes(alloc);

@@ -19,7 +19,8 @@ use std::alloc::Global;
 pub(crate) fn has_entries(seen: &Seen, dir: Oid) -> bool
     requires { dir.0 < 2 ^ 60 }
     ensures { (next : Course)
-        → if_empty next (names_in (pairs_in (pairs_of seen.now) (entries_from dir.0) (entries_to dir.0)))
+        → if_empty next (names_in (pairs_in (pairs_of seen.now) (entries_from dir.0)
+        (entries_to dir.0)))
         ≡ (if result then Answer Notempty else next) }
 {
     is_any_entry(seen, dir)
@@ -54,7 +55,8 @@ fn is_entry_of(key: Key, dir: Oid) -> bool
 /// The names of the entries of this directory that were seen, in the order of their keys.
 pub(crate) fn names_of(alloc: Global, seen: &Seen, dir: Oid) -> Result<Vec<Name>, Memory>
     requires { dir.0 < 2 ^ 60 }
-    ensures { IfOk result (λ v. v.items ≡ names_in (pairs_in (pairs_of seen.now) (entries_from dir.0) (entries_to dir.0))) }
+    ensures { IfOk result (λ v. v.items
+        ≡ names_in (pairs_in (pairs_of seen.now) (entries_from dir.0) (entries_to dir.0))) }
 {
     collect_names(alloc, seen.parts.as_slice(), dir)
 }
@@ -76,7 +78,8 @@ fn collect_names(alloc: Global, parts: &[SeenPart], dir: Oid) -> Result<Vec<Name
 // The name of this directory's entry that a part has.
 fn name_of(part: &SeenPart, dir: Oid) -> Option<&Name>
     requires { dir.0 < 2 ^ 60 }
-    ensures { MatchOption result (part_names dir.0 part.now ≡ []) (λ n. part_names dir.0 part.now ≡ n.now ∷ []) }
+    ensures { MatchOption result (part_names dir.0 part.now ≡ []) (λ n. part_names dir.0 part.now
+        ≡ n.now ∷ []) }
 {
     match part {
         SeenPart::One {

@@ -56,8 +56,8 @@ fn value_among<'a>(parts: &'a [SeenPart], key: Key) -> Option<&'a Value>
     None
 }
 
-// The same of parts that rise: each step leaves half of them. A run of no bytes, which has no place among the others, ends
-// that.
+// The same of parts that rise: each step leaves half of them. A run of no bytes, which has no place
+// among the others, ends that.
 fn value_rising<'a>(parts: &'a [SeenPart], key: Key) -> Option<&'a Value>
     requires { Rises (flat_map part_pairs parts.now) }
     ensures some { IfSome result (λ v. one_at parts.now (rank key) ≡ Some (value_of v.now)) }
@@ -84,7 +84,8 @@ fn value_rising<'a>(parts: &'a [SeenPart], key: Key) -> Option<&'a Value>
 // What was seen at one key, where it is no byte of a run.
 fn value_at<'a>(seen: &'a Seen, key: Key) -> Option<&'a Value>
     requires { Rises (pairs_of seen.now) }
-    ensures some { IfSome result (λ v. one_at seen.now.parts.items (rank key) ≡ Some (value_of v.now)) }
+    ensures some { IfSome result (λ v. one_at seen.now.parts.items (rank key)
+        ≡ Some (value_of v.now)) }
     ensures none { IfNone result (one_at seen.now.parts.items (rank key) ≡ None) }
 {
     value_rising(seen.parts.as_slice(), key)

@@ -1,4 +1,5 @@
--- Bytes that are set stand in one run or in one fill, and take no memory one by one (docs/commands.md, "Edits").
+-- Bytes that are set stand in one run or in one fill, and take no memory one by one
+-- (docs/commands.md, "Edits").
 use Rattle.r4_content.specs.Held.{HoldsAtMost}
 use Rattle.r4_content.specs.declared.command.Command.{Command}
 use Rattle.r4_content.specs.declared.command.Command.TheVariants.{Write, Fill}

@@ -1,4 +1,3 @@
-use Rattle.std.specs.Prelude.{◌^◌, ◌<◌, ◌+◌}
 use Rattle.std.proofs.Common.{arith}
 use Rattle.r4_content.proofs.OneObject.{numbers_of}
 use Rattle.r4_content.proofs.Staying.{lawful_stays}

@@ -1,5 +1,5 @@
 use Rattle.std.proofs.Common.{ap}
-use Rattle.std.specs.Prelude.{◌&&◌, if◌then◌else◌}
+use Rattle.std.specs.Prelude.{◌&&◌}
 use Rattle.r4_content.specs.Counts.{is_okay, stats_in}
 use Rattle.r4_content.specs.Meaning.{course, makes_object}
 use Rattle.r4_content.proofs.CourseLaws.{same_course}
