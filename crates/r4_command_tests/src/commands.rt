@@ -219,6 +219,23 @@ fn links_have_a_limit(rt: HostRuntime) -> Result<(), Fail> {
     Ok(())
 }
 
+// A byte at the key of an entry of a directory, which no volume has, is no entry.
+#[test]
+fn other_values_are_no_entries(rt: HostRuntime) -> Result<(), Fail> {
+    let alloc = rt.alloc();
+    let mut seen = empty(alloc)?;
+    answers(&rt, alloc, &mut seen, 0, ("mkdir /d", "ok"))?;
+    let key = Key {
+        el: [FIRST * 16, 7, 0, 0],
+    };
+    put(&mut seen.parts, key, Value::Byte(1))?;
+    answers(&rt, alloc, &mut seen, 1, ("names /d", "names 0"))?;
+    answers(&rt, alloc, &mut seen, 2, ("mkdir /e", "ok"))?;
+    answers(&rt, alloc, &mut seen, 3, ("rename /e /d", "ok"))?;
+    answers(&rt, alloc, &mut seen, 4, ("rmdir /d", "ok"))?;
+    Ok(())
+}
+
 #[test]
 fn numbers_end(rt: HostRuntime) -> Result<(), Fail> {
     let alloc = rt.alloc();
@@ -237,5 +254,8 @@ fn commands_without_a_path_are_copied(rt: HostRuntime) -> Result<(), Fail> {
     assert!(&rt; matches!(Command::Begin.copy(alloc)?, Command::Begin));
     assert!(&rt; matches!(Command::End.copy(alloc)?, Command::End));
     assert!(&rt; matches!(Command::Commit.copy(alloc)?, Command::Commit));
+    assert!(&rt; Command::End.is_job(&Command::End, Oid(1)));
+    assert!(&rt; !Command::End.is_job(&Command::Commit, Oid(1)));
+    assert!(&rt; !Command::Begin.makes_object());
     Ok(())
 }

@@ -9,6 +9,7 @@ ghost use Rattle.r4_command_tests.specs.Rising.{is_behind, is_least, is_rising};
 
 use r4_base::{Key, Memory, Oid, Value};
 use r4_content::{ByteRun, Command, Edits, FilledInterval, Interval, Reply, Seen, SeenPart};
+use r4_file::plan;
 use std::alloc::Global;
 use std::test::Fail;
 
@@ -157,37 +158,13 @@ fn put_all(parts: &mut Vec<SeenPart>, puts: Vec<(Key, Value)>) -> Result<(), Mem
     Ok(())
 }
 
-// The command with this number for an object that it makes.
+// The command with this number for an object that it makes. Each command is copied.
 fn numbered(alloc: Global, command: &Command, oid: Oid) -> Result<Command, Memory> {
-    match *command {
-        Command::Create { ref path, .. } => Ok(Command::Create {
-            path: path.copy(alloc)?,
-            oid,
-        }),
-        Command::Mkdir { ref path, .. } => Ok(Command::Mkdir {
-            path: path.copy(alloc)?,
-            oid,
-        }),
-        _ => command.copy(alloc),
-    }
-}
-
-// What the command changes.
-fn planned(alloc: Global, command: &Command, seen: &Seen) -> Result<Edits, Memory>
-    requires { Rises (pairs_of seen.now) }
-{
-    match *command {
-        Command::Begin | Command::End | Command::Commit => Ok(r4_dir::answer(alloc, Reply::Okay)),
-        Command::Write { .. }
-        | Command::Fill { .. }
-        | Command::Read { .. }
-        | Command::Truncate { .. }
-        | Command::Stat { .. }
-        | Command::Chmod { .. }
-        | Command::Chown { .. }
-        | Command::Times { .. } => r4_file::plan(alloc, command, seen),
-        _ => r4_dir::plan(alloc, command, seen),
-    }
+    Ok(match command.copy(alloc)? {
+        Command::Create { path, .. } => Command::Create { path, oid },
+        Command::Mkdir { path, .. } => Command::Mkdir { path, oid },
+        other => other,
+    })
 }
 
 /// Does a command on all that the content has. An object that it makes gets this number.
@@ -195,7 +172,11 @@ pub fn perform(alloc: Global, seen: &mut Seen, command: &Command, oid: Oid) -> R
     if !rises(seen) {
         return Err(Fail::from("the keys do not rise"));
     }
-    let command = numbered(alloc, command, oid)?;
+    let job = command;
+    let command = numbered(alloc, job, oid)?;
+    if !command.is_job(job, oid) || command.is_job(job, Oid(1)) == command.makes_object() {
+        return Err(Fail::from("the command is not the job's"));
+    }
     let Edits {
         cuts,
         zeros,
@@ -203,7 +184,7 @@ pub fn perform(alloc: Global, seen: &mut Seen, command: &Command, oid: Oid) -> R
         runs,
         puts,
         reply,
-    } = planned(alloc, &command, seen)?;
+    } = plan(alloc, &command, seen)?;
     let parts = &mut seen.parts;
     cut_all(parts, cuts.as_slice());
     zero_all(parts, zeros.as_slice())?;

@@ -24,11 +24,11 @@ pub second_holds : (a b : Bool) → T (a && b) → T b
 second_holds true b h = h
 second_holds false b h = absurd h
 
-both_hold : (a b : Bool) → T a → T b → T (a && b)
+pub both_hold : (a b : Bool) → T a → T b → T (a && b)
 both_hold true b h g = g
 both_hold false b h g = h
 
-below_lt : (x y : ℕ) → T (is_lt (nat_cmp x y)) → x < y
+pub below_lt : (x y : ℕ) → T (is_lt (nat_cmp x y)) → x < y
 below_lt x y h = elim (cases_lt x y) [
   | inl lt ↦ lt
   | inr ge ↦ elim (cases_lt y x) [
@@ -114,7 +114,7 @@ not_some v e = cc
 pub not_same : (k i : ℕ) → (k == i) ≡ false → k ≢ i
 not_same k i e same = true_not_false (sym (eq-eqb k i same) ∙ e)
 
-here_small : (p : ℕ × Value → Bool) (k : ℕ) (v : Option Value) → here p k v ≤ 1
+pub here_small : (p : ℕ × Value → Bool) (k : ℕ) (v : Option Value) → here p k v ≤ 1
 here_small p k v = by_test (is_some (pick p k v))
   where
     by_test : (b : Bool) → (if b then 1 else 0) ≤ 1

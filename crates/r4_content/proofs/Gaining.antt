@@ -112,10 +112,10 @@ pub record Gains (m : Content) (dir o : Object) (n : List ℕ) : Type 0 where
   pub no_entry : entry_in (at_key m (stat_rank o.target)) ≡ None
 
 module _ (m : Content) (dir o : Object) (n : List ℕ) (lawful : HasObjects m) (h : Gains m dir o n) where
-  abbrev after : Content
+  abbrev pub after : Content
   after = edited (name_in dir n o) m
 
-  abbrev key : ℕ
+  abbrev pub key : ℕ
   key = entry_rank dir.target n
 
   -- no directory that was there is the object
@@ -131,7 +131,7 @@ module _ (m : Content) (dir o : Object) (n : List ℕ) (lawful : HasObjects m) (
   off : (k : ℕ) → k ≢ key → k ≢ stat_rank o.target → k ≢ stat_rank dir.target → at_key after k ≡ at_key m k
   off = gain_off m dir o n h.dir_stat.0 h.object h.small h.bytes unlike
 
-  entry_now : at_key after key ≡ Some (Entry n o.target)
+  pub entry_now : at_key after key ≡ Some (Entry n o.target)
   entry_now = gain_entry m dir o n h.dir_stat.0 h.object h.small h.bytes unlike
 
   object_now : at_key after (stat_rank o.target) ≡ Some (Stat o.attr)
@@ -140,7 +140,7 @@ module _ (m : Content) (dir o : Object) (n : List ℕ) (lawful : HasObjects m) (
   dir_now : at_key after (stat_rank dir.target) ≡ Some (Stat (entry_more (is_dir o) dir.attr))
   dir_now = gain_dir m dir o n h.dir_stat.0 h.object h.small h.bytes unlike
 
-  abbrev becomes : Target → Attr → Attr
+  abbrev pub becomes : Target → Attr → Attr
   becomes t a = if is_same_target t dir.target then entry_more (is_dir o) a else if is_same_target t o.target then o.attr else a
 
   abbrev Born : Target → Attr → Type 0
@@ -174,7 +174,7 @@ module _ (m : Content) (dir o : Object) (n : List ℕ) (lawful : HasObjects m) (
   other_now : (t : Target) → IsObject t → is_same_target t dir.target ≡ false → is_same_target t o.target ≡ false → at_key after (stat_rank t) ≡ at_key m (stat_rank t)
   other_now t is e f = off (stat_rank t) (λ s. entry_not_stat dir.target t n h.small h.bytes is (sym s)) (other_stat t o.target is h.object f) (other_stat t dir.target is h.dir_stat.0 e)
 
-  kept : (t : Target) (a : Attr) → HasStat m t a → HasStat after t (becomes t a)
+  pub kept : (t : Target) (a : Attr) → HasStat m t a → HasStat after t (becomes t a)
   kept t a there = (
     there.0,
     elim (which t) [
@@ -205,7 +205,7 @@ module _ (m : Content) (dir o : Object) (n : List ℕ) (lawful : HasObjects m) (
     ]
   ]
 
-  kind : (t : Target) (a : Attr) → HasStat m t a → is_directory (becomes t a) ≡ is_directory a
+  pub kind : (t : Target) (a : Attr) → HasStat m t a → is_directory (becomes t a) ≡ is_directory a
   kind t a there = elim (which t) [
     | inl (e, is) ↦ ap is_directory (in_dir t a e) ∙ more_kind (is_dir o) a
     | inr other ↦ elim other [
@@ -260,7 +260,7 @@ module _ (m : Content) (dir o : Object) (n : List ℕ) (lawful : HasObjects m) (
       same_oid : (x y : Oid) → x.0 ≡ y.0 → x ≡ y
       same_oid x y e i = record { 0 = e i }
 
-  entries_same : (k : ℕ) → k ≢ key → k ≢ stat_rank dir.target → entry_in (at_key m k) ≡ entry_in (at_key after k)
+  pub entries_same : (k : ℕ) → k ≢ key → k ≢ stat_rank dir.target → entry_in (at_key m k) ≡ entry_in (at_key after k)
   entries_same k one two = by_key (k == stat_rank o.target) refl
     where
       by_key : (b : Bool) → (k == stat_rank o.target) ≡ b → entry_in (at_key m k) ≡ entry_in (at_key after k)

@@ -28,3 +28,13 @@ pub mod Staying
 pub mod Keeping
 pub mod OneBodies
 pub mod Volumes
+pub mod StatsAsked
+pub mod Doing
+pub mod Widths
+pub mod VolumeWidths
+pub mod ObjectCounts
+pub mod ObjectsMade
+pub mod VisibleUnits
+pub mod Refound
+pub mod FoundAfter
+pub mod RenamedFound

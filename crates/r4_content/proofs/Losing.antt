@@ -189,7 +189,7 @@ module _ (m : Content) (lawful : HasObjects m) where
   pub one_target : (t u : Target) (a b : Attr) → HasStat m t a → HasStat m u b → t.oid.0 ≡ u.oid.0 → t ≡ u
   one_target t u a b h g e = lawful.one_id t u a b h g (same_oid t.oid u.oid e)
 
-  reached_object : (steps : ℕ) (t : Target) → IsReached m steps t → (a : Attr) × HasStat m t a
+  pub reached_object : (steps : ℕ) (t : Target) → IsReached m steps t → (a : Attr) × HasStat m t a
   reached_object zero t is = let (a, h, dir) = lawful.root in (a, subst (λ (p : Target). HasStat m p a) (sym is) h)
   reached_object (suc steps) t (p, is, (k, s, at, in_p)) = lawful.target k s t at
 
@@ -215,10 +215,10 @@ pub record Loses (m : Content) (dir o : Object) (n : List ℕ) : Type 0 where
   pub empty : is_dir o ≡ true → entries_in m o.target ≡ 0
 
 module _ (limit : ℕ) (m : Content) (dir o : Object) (n : List ℕ) (lawful : HasObjects m) (bodies : HasBodies limit m) (h : Loses m dir o n) where
-  abbrev after : Content
+  abbrev pub after : Content
   after = edited (unname_in dir n o) m
 
-  abbrev key : ℕ
+  abbrev pub key : ℕ
   key = entry_rank dir.target n
 
   abbrev set_dir : Edits
@@ -228,7 +228,7 @@ module _ (limit : ℕ) (m : Content) (dir o : Object) (n : List ℕ) (lawful : H
   key_dir = (entry_dir dir.target n h.small h.bytes).0
 
   -- the directory is another object
-  dir_other : dir.target ≢ o.target
+  pub dir_other : dir.target ≢ o.target
   dir_other e = by_kind (is_dir o) refl
     where
       by_kind : (b : Bool) → is_dir o ≡ b → ⊥
@@ -240,25 +240,25 @@ module _ (limit : ℕ) (m : Content) (dir o : Object) (n : List ℕ) (lawful : H
   unlike : stat_rank dir.target ≢ stat_rank o.target
   unlike e = dir_other (same_stat dir.target o.target h.dir_stat.0 h.stat.0 e)
 
-  off : (k : ℕ) → k ≢ key → k ≢ stat_rank dir.target → IsElsewhere o.target k → at_key after k ≡ at_key m k
+  pub off : (k : ℕ) → k ≢ key → k ≢ stat_rank dir.target → IsElsewhere o.target k → at_key after k ≡ at_key m k
   off k one two elsewhere =
       edited_off (unname_in dir n o) m k (is_off (unname_in dir n o) k (off_both (cut_key key) (and_also set_dir (unnamed o)) k (off_key key k one)
       (off_both set_dir (unnamed o) k (off_attr dir (entry_less (is_dir o) dir.attr) k two) (off_unnamed o k h.size elsewhere.stat elsewhere.bytes))))
 
-  entry_now : at_key after key ≡ None
+  pub entry_now : at_key after key ≡ None
   entry_now =
       edited_first (cut_key key) (and_also set_dir (unnamed o)) m key
       (off_both set_dir (unnamed o) key (off_attr dir (entry_less (is_dir o) dir.attr) key (entry_not_stat dir.target dir.target n h.small h.bytes h.dir_stat.0))
       (off_unnamed o key h.size (entry_not_stat dir.target o.target n h.small h.bytes h.stat.0) (λ x lt. entry_not_byte dir.target o.target n x h.small h.bytes h.stat.0 lt)))
       ∙ cut_itself m key
 
-  dir_now : at_key after (stat_rank dir.target) ≡ Some (Stat (entry_less (is_dir o) dir.attr))
+  pub dir_now : at_key after (stat_rank dir.target) ≡ Some (Stat (entry_less (is_dir o) dir.attr))
   dir_now =
       edited_second (cut_key key) (and_also set_dir (unnamed o)) m (stat_rank dir.target) (off_key key (stat_rank dir.target) (λ e. entry_not_stat dir.target dir.target n h.small h.bytes h.dir_stat.0 (sym e)))
       ∙ edited_first set_dir (unnamed o) m (stat_rank dir.target) (off_unnamed o (stat_rank dir.target) h.size unlike (λ x lt. stat_not_byte dir.target o.target x h.dir_stat.0 h.stat.0 lt))
       ∙ put_itself m (stat_rank dir.target) (Stat (entry_less (is_dir o) dir.attr))
 
-  object_now : at_key after (stat_rank o.target) ≡ stat_value (rest_of o)
+  pub object_now : at_key after (stat_rank o.target) ≡ stat_value (rest_of o)
   object_now =
       edited_second (cut_key key) (and_also set_dir (unnamed o)) m (stat_rank o.target) (off_key key (stat_rank o.target) (λ e. entry_not_stat dir.target o.target n h.small h.bytes h.stat.0 (sym e)))
       ∙ edited_second set_dir (unnamed o) m (stat_rank o.target) (off_attr dir (entry_less (is_dir o) dir.attr) (stat_rank o.target) (λ e. unlike (sym e))) ∙ unnamed_stat m o h.stat.0 h.size

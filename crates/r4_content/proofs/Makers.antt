@@ -1,24 +1,24 @@
 -- create, mkdir and link leave the objects of a lawful content lawful.
-use Rattle.std.specs.Prelude.{◌≡◌, ℕ, ◌+◌, ◌-◌, ◌^◌, ◌<◌, List, [], Bool, true, false, nat_le, nat_lt, length, take, slice_index_or, All, None, if◌then◌else◌}
+use Rattle.std.specs.Prelude.{◌==◌, ◌≡◌, ℕ, ◌+◌, ◌-◌, ◌^◌, ◌<◌, List, [], Bool, true, false, nat_le, nat_lt, length, take, slice_index_or, All, None, if◌then◌else◌}
 use Rattle.std.proofs.Common.{arith, inl, inr, refl, sym, ap, subst, ◌∙◌}
 use Rattle.std.proofs.lemmas.Grind.{common_steps}
 use Rattle.r4_base.specs.Value.{Content, at_key}
-use Rattle.r4_base.specs.Volume.{IsObject, is_directory}
+use Rattle.r4_base.specs.Volume.{HasStat, IsObject, is_directory}
 use Rattle.r4_base.specs.declared.items.Attr.{Attr}
 use Rattle.r4_base.specs.declared.things.Oid.{Oid}
 use Rattle.r4_content.specs.Course.{Course, Answer, Change, Ending, ending, of_content}
-use Rattle.r4_content.specs.Edited.{edited}
+use Rattle.r4_content.specs.Edited.{Edits, edited}
 use Rattle.r4_content.specs.Entries.{is_no_id, link, linked, name_in}
 use Rattle.r4_content.specs.Fields.{HasBytes, HasNumbers, IsUnused}
 use Rattle.r4_content.specs.Lawful.{IsLawful}
-use Rattle.r4_content.specs.Meaning.{after, named, reply}
+use Rattle.r4_content.specs.Meaning.{after, course, is_path, named, reply}
 use Rattle.r4_content.specs.Objects.{Object, entry_rank, is_dir, is_full, made_in, new_directory, new_file}
 use Rattle.r4_content.specs.Ways.{Place, entry_in, free_here, to_free}
 use Rattle.r4_content.specs.declared.command.Command.TheVariants.{Create, Mkdir, Link}
 use Rattle.r4_content.specs.declared.reply.Reply.TheVariants.{Okay, Exists, Isdir, Links, Oids}
 use Rattle.r4_content.proofs.EditParts.{true_not_false}
-use Rattle.r4_content.proofs.Found.{ends_at, found, small_object, stat_there, way_ends}
-use Rattle.r4_content.proofs.Gaining.{Gains, gains_bodies, gains_lawful}
+use Rattle.r4_content.proofs.Found.{There, ends_at, found, small_object, stat_there, way_ends}
+use Rattle.r4_content.proofs.Gaining.{Gains, IsNew, gains_bodies, gains_lawful}
 use Rattle.r4_content.proofs.Keeping.{Stays}
 use Rattle.r4_content.proofs.Naming.{came_above, directory_made, file_made, free_is, last_bytes, make_directory, make_file}
 use Rattle.r4_content.proofs.OneObject.{by_done, numbers_of, stat_was}
@@ -54,28 +54,42 @@ gains_new limit m dir n oid a lawful there is bytes free small unused size lengt
       no_entry = no_entry_stat limit m lawful.bodies (made_in dir n oid a).target object;
     }
 
-make_lawful : (limit : ℕ) (path : List (List ℕ)) (oid : Oid) (m : Content) (a : Attr) (make : Object → (name : List ℕ) → Course) → HasNumbers m → IsLawful limit m → HasBytes path → IsUnused m oid
+-- what a new object that was made gained
+abbrev pub MakesAll : Content → (Edits → Type 0) → Oid → Attr → Type 0
+MakesAll m P oid a = (dir : Object) (n : List ℕ) → Gains m dir (made_in dir n oid a) n → IsNew m (made_in dir n oid a) → P (name_in dir n (made_in dir n oid a))
+
+make_done : (limit : ℕ) (path : List (List ℕ)) (oid : Oid) (m : Content) (a : Attr) (make : Object → (name : List ℕ) → Course) → HasNumbers m → IsLawful limit m → HasBytes path → IsUnused m oid
     → a.size ≡ 0 → a.bytes ≡ 0 → (is_directory a ≡ true → a.nlink ≡ 2) × (is_directory a ≡ false → a.nlink ≡ 1)
     → ((dir : Object) (n : List ℕ) → (ending (make dir n) (of_content m)).reply ≡ Okay
     → (oid.0 < 2 ^ 60) × (ending (make dir n) (of_content m) ≡ record { edits = name_in dir n (made_in dir n oid a); reply = Okay }) × (is_directory a ≡ true → dir.attr.nlink < 2 ^ 32 - 1))
-    → (ending (named path (to_free path make)) (of_content m)).reply ≡ Okay → Stays limit (edited (ending (named path (to_free path make)) (of_content m)).edits m)
+    → (P : Edits → Type 0) → MakesAll m P oid a
+    → (ending (named path (to_free path make)) (of_content m)).reply ≡ Okay → P (ending (named path (to_free path make)) (of_content m)).edits
 unfolding to_free
-make_lawful limit path oid m a make numbers lawful bytes unused size length_too kinds made okay =
+make_done limit path oid m a make numbers lawful bytes unused size length_too kinds made P makes okay =
     let c = came_above m Exists path (free_here make) (λ e. cc) okay in
     let n = slice_index_or path (length path - 1) [] in
     let dir = c.place.here in
     let (is, free, goes) = free_is m make c.place n (sym (ap (λ (x : Ending). x.reply) c.ends) ∙ okay) in
     let (small, done, links) = made dir n (sym (ap (λ (x : Ending). x.reply) (c.ends ∙ goes)) ∙ okay) in
     let there = found_object m numbers.orderings (take (length path - 1) path) c.place c.at in
-    subst (λ (x : Ending). Stays limit (edited x.edits m)) (sym (c.ends ∙ goes ∙ done))
-    (let gains = gains_new limit m dir n oid a lawful there is (last_bytes path c.some bytes) free small unused size length_too kinds links in
-    (gains_lawful m dir (made_in dir n oid a) n lawful.objects gains, gains_bodies m dir (made_in dir n oid a) n lawful.objects gains limit lawful.bodies))
+    subst (λ (x : Ending). P x.edits) (sym (c.ends ∙ goes ∙ done))
+    (makes dir n (gains_new limit m dir n oid a lawful there is (last_bytes path c.some bytes) free small unused size length_too kinds links)
+    (record { unused = λ u b h e. unused u b h (same_oid u.oid oid e); size = size; length_too = length_too; links = kinds }))
+
+make_lawful : (limit : ℕ) (m : Content) (oid : Oid) (a : Attr) → IsLawful limit m → MakesAll m (λ x. Stays limit (edited x m)) oid a
+make_lawful limit m oid a lawful dir n gains new =
+    (gains_lawful m dir (made_in dir n oid a) n lawful.objects gains, gains_bodies m dir (made_in dir n oid a) n lawful.objects gains limit lawful.bodies)
+
+pub create_done : (limit : ℕ) (path : List (List ℕ)) (oid : Oid) (m : Content) → limit < 2 ^ 64 → IsLawful limit m → HasBytes path → IsUnused m oid → (P : Edits → Type 0) → MakesAll m P oid new_file
+    → reply limit (Create path oid) m ≡ Okay → P (ending (course limit (Create path oid)) (of_content m)).edits
+create_done limit path oid m lt lawful bytes unused P makes =
+    make_done limit path oid m new_file (make_file oid) (numbers_of limit m lt lawful) lawful bytes unused refl refl ((λ d. absurd cc), (λ f. refl))
+    (λ dir n okay. let x = file_made m dir n oid okay in (x.0, x.1, (λ d. absurd cc))) P makes
 
 pub create_lawful : (limit : ℕ) (path : List (List ℕ)) (oid : Oid) (m : Content) → limit < 2 ^ 64 → IsLawful limit m → HasBytes path → IsUnused m oid → Stays limit (after limit (Create path oid) m)
 create_lawful limit path oid m lt lawful bytes unused =
     by_done limit (Create path oid) m (λ x. Stays limit x) (lawful.objects, lawful.bodies)
-    (make_lawful limit path oid m new_file (make_file oid) (numbers_of limit m lt lawful) lawful bytes unused refl refl ((λ d. absurd cc), (λ f. refl))
-    (λ dir n okay. let x = file_made m dir n oid okay in (x.0, x.1, (λ d. absurd cc))))
+    (create_done limit path oid m lt lawful bytes unused (λ x. Stays limit (edited x m)) (make_lawful limit m oid new_file lawful))
 
 room_of : (m : Content) (oid : Oid) (dir : Object) (n : List ℕ) → (ending (make_directory oid dir n) (of_content m)).reply ≡ Okay → dir.attr.nlink < 2 ^ 32 - 1
 room_of m oid dir n okay = by_links (is_full dir) refl okay
@@ -85,11 +99,16 @@ room_of m oid dir n okay = by_links (is_full dir) refl okay
     by_links true e h = absurd cc
     by_links false e h = let few = not_full dir.attr.nlink e in omega arith
 
+pub mkdir_done : (limit : ℕ) (path : List (List ℕ)) (oid : Oid) (m : Content) → limit < 2 ^ 64 → IsLawful limit m → HasBytes path → IsUnused m oid → (P : Edits → Type 0) → MakesAll m P oid new_directory
+    → reply limit (Mkdir path oid) m ≡ Okay → P (ending (course limit (Mkdir path oid)) (of_content m)).edits
+mkdir_done limit path oid m lt lawful bytes unused P makes =
+    make_done limit path oid m new_directory (make_directory oid) (numbers_of limit m lt lawful) lawful bytes unused refl refl ((λ d. refl), (λ f. absurd cc))
+    (λ dir n okay. let x = directory_made m dir n oid okay in (x.0, x.1, (λ d. room_of m oid dir n okay))) P makes
+
 pub mkdir_lawful : (limit : ℕ) (path : List (List ℕ)) (oid : Oid) (m : Content) → limit < 2 ^ 64 → IsLawful limit m → HasBytes path → IsUnused m oid → Stays limit (after limit (Mkdir path oid) m)
 mkdir_lawful limit path oid m lt lawful bytes unused =
     by_done limit (Mkdir path oid) m (λ x. Stays limit x) (lawful.objects, lawful.bodies)
-    (make_lawful limit path oid m new_directory (make_directory oid) (numbers_of limit m lt lawful) lawful bytes unused refl refl ((λ d. refl), (λ f. absurd cc))
-    (λ dir n okay. let x = directory_made m dir n oid okay in (x.0, x.1, (λ d. room_of m oid dir n okay))))
+    (mkdir_done limit path oid m lt lawful bytes unused (λ x. Stays limit (edited x m)) (make_lawful limit m oid new_directory lawful))
 
 -- ---- link
 
@@ -112,6 +131,16 @@ pub record Linked (m : Content) (from to : List (List ℕ)) : Type 0 where
   pub bytes : All (λ x. x < 256) name
   pub free : entry_in (at_key m (entry_rank dir.target name)) ≡ None
   pub ends : ending (named from (named to (link from to))) (of_content m) ≡ record { edits = name_in dir name (linked object); reply = Okay }
+  pub place : Place
+  pub from_at : found m from ≡ There place
+  pub from_is : place.here ≡ object
+  pub from_legal : is_path from ≡ true
+  pub above : Place
+  pub to_at : found m (take (length to - 1) to) ≡ There above
+  pub to_is : above.here ≡ dir
+  pub to_legal : is_path to ≡ true
+  pub to_some : (length to == 0) ≡ false
+  pub to_last : slice_index_or to (length to - 1) [] ≡ name
 
 pub link_done : (m : Content) (from to : List (List ℕ)) → HasNumbers m → HasBytes to → (ending (named from (named to (link from to))) (of_content m)).reply ≡ Okay → Linked m from to
 unfolding to_free
@@ -143,6 +172,16 @@ link_done m from to numbers bytes okay =
       bytes = last_bytes to c.some bytes;
       free = free;
       ends = more ∙ goes ∙ done;
+      place = p;
+      from_at = at;
+      from_is = refl;
+      from_legal = one;
+      above = c.place;
+      to_at = c.at;
+      to_is = refl;
+      to_legal = two;
+      to_some = c.some;
+      to_last = refl;
     }
   where
     is_file : (o : Object) (b : Bool) → (ending (if b then Answer Isdir else to_free to (link_on o)) (of_content m)).reply ≡ Okay → b ≡ false
@@ -174,6 +213,17 @@ gains_link limit m dir o n lawful there is bytes free o_there file few =
   where
     one_more_is : (k : ℕ) → k < 2 ^ 32 - 1 → (if nat_lt k (2 ^ 32 - 1) then k + 1 else k) ≡ k + 1
     one_more_is k lt = grind (arith, common_steps)
+
+-- what a further name of a file gained
+abbrev pub LinksAll : Content → (Edits → Type 0) → Type 0
+LinksAll m P = (dir o : Object) (n : List ℕ) → Gains m dir (linked o) n → HasStat m o.target o.attr → is_dir o ≡ false → P (name_in dir n (linked o))
+
+pub links_done : (limit : ℕ) (from to : List (List ℕ)) (m : Content) → limit < 2 ^ 64 → IsLawful limit m → HasBytes to → (P : Edits → Type 0) → LinksAll m P
+    → reply limit (Link from to) m ≡ Okay → P (ending (course limit (Link from to)) (of_content m)).edits
+links_done limit from to m lt lawful bytes P links okay =
+    let d = link_done m from to (numbers_of limit m lt lawful) bytes okay in
+    subst (λ (x : Ending). P x.edits) (sym d.ends)
+    (links d.dir d.object d.name (gains_link limit m d.dir d.object d.name lawful d.dir_there d.dir_is d.bytes d.free d.there d.file d.few) (stat_was m d.object d.there) d.file)
 
 pub link_lawful : (limit : ℕ) (from to : List (List ℕ)) (m : Content) → limit < 2 ^ 64 → IsLawful limit m → HasBytes to → Stays limit (after limit (Link from to) m)
 link_lawful limit from to m lt lawful bytes = by_done limit (Link from to) m (λ x. Stays limit x) (lawful.objects, lawful.bodies) done

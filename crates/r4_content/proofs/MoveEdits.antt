@@ -124,13 +124,13 @@ same_sym t u = by_test (is_same_target t u) (is_same_target u t) refl refl
     by_test false true e f = absurd (true_not_false (sym (same_itself u) ∙ ap (λ (x : Target). is_same_target x u) (told_same u t f) ∙ e))
 
 module _ (limit : ℕ) (m : Content) (dir o new : Object) (name new_name : List ℕ) (over : Bool) (old : Object) (lawful : HasObjects m) (bodies : HasBodies limit m) (h : CanMove m dir o new name new_name over old) where
-  abbrev key : ℕ
+  abbrev pub key : ℕ
   key = entry_rank dir.target name
 
-  abbrev new_key : ℕ
+  abbrev pub new_key : ℕ
   new_key = entry_rank new.target new_name
 
-  abbrev after : Content
+  abbrev pub after : Content
   after = edited (moving dir name o new new_name over old) m
 
   abbrev alone : Bool → Content
@@ -145,7 +145,7 @@ module _ (limit : ℕ) (m : Content) (dir o new : Object) (name new_name : List 
   some_entry : (s u : List ℕ) (x y : Target) → Some (Entry s x) ≡ Some (Entry u y) → x ≡ y
   some_entry s u x y e = cc
 
-  apart : key ≢ new_key
+  pub apart : key ≢ new_key
   apart e = by_over over refl
     where
       by_over : (b : Bool) → over ≡ b → ⊥
@@ -164,7 +164,7 @@ module _ (limit : ℕ) (m : Content) (dir o new : Object) (name new_name : List 
           not_in_itself m lawful steps old.target old.attr new_key new_name x.stat d x.entry (new_key_dir ∙ ap (λ (u : Target). u.oid.0) (sym e)) reached
       by_kind false f = true_not_false (sym h.new_is ∙ ap is_directory (stat_one m lawful new.target old.target new.attr old.attr h.new_stat x.stat (sym e)) ∙ f)
 
-  old_not_dir : over ≡ true → old.target ≢ dir.target
+  pub old_not_dir : over ≡ true → old.target ≢ dir.target
   old_not_dir is e = by_kind (is_dir old) refl
     where
       x : IsOver m o new old new_name
@@ -188,12 +188,12 @@ module _ (limit : ℕ) (m : Content) (dir o new : Object) (name new_name : List 
       by_over true is = edited_second (unnamed old) (moved dir name o (comes_to o new true) new_name) m k (off is)
       by_over false is = refl
 
-  gone : at_key after key ≡ None
+  pub gone : at_key after key ≡ None
   gone =
       seen_alone key (λ is. let x = (h.onto is).stat.0 in old_off is key (entry_not_stat dir.target old.target name h.dir_small h.bytes x) (λ y lt. entry_not_byte dir.target old.target name y h.dir_small h.bytes x lt))
       ∙ move_gone m dir o (comes_to o new over) name new_name h.dir_stat.0 h.new_stat.0 h.dir_small h.new_small h.bytes h.new_bytes apart
 
-  came : at_key after new_key ≡ Some (Entry new_name o.target)
+  pub came : at_key after new_key ≡ Some (Entry new_name o.target)
   came =
       seen_alone new_key (λ is. let x = (h.onto is).stat.0 in old_off is new_key (entry_not_stat new.target old.target new_name h.new_small h.new_bytes x) (λ y lt. entry_not_byte new.target old.target new_name y h.new_small h.new_bytes x lt))
       ∙ move_came m dir o (comes_to o new over) name new_name h.dir_stat.0 h.new_stat.0 h.dir_small h.new_small h.bytes h.new_bytes apart
@@ -207,7 +207,7 @@ module _ (limit : ℕ) (m : Content) (dir o new : Object) (name new_name : List 
       seen_alone (stat_rank t) (λ yes_over. let x = (h.onto yes_over).stat.0 in
       old_off yes_over (stat_rank t) (λ e. other yes_over (same_stat t old.target is x e)) (λ y lt. stat_not_byte t old.target y is x lt))
 
-  old_now : over ≡ true → at_key after (stat_rank old.target) ≡ stat_value (rest_of old)
+  pub old_now : over ≡ true → at_key after (stat_rank old.target) ≡ stat_value (rest_of old)
   old_now yes_over = by_over over refl yes_over
     where
       by_over : (b : Bool) → over ≡ b → b ≡ true → at_key (edited (if b then and_also (unnamed old) (moved dir name o (comes_to o new true) new_name) else moved dir name o (comes_to o new false) new_name) m) (stat_rank old.target) ≡ stat_value (rest_of old)
@@ -262,7 +262,7 @@ module _ (limit : ℕ) (m : Content) (dir o new : Object) (name new_name : List 
           ap (λ (b : Bool). more_if b (is_dir o) (less_if (is_same_target dir.target dir.target) (is_dir o) (less_if (over && b) (is_dir o) dir.attr))) other
           ∙ ap (λ (b : Bool). less_if b (is_dir o) (less_if (over && false) (is_dir o) dir.attr)) (same_itself dir.target) ∙ ap (λ (b : Bool). entry_less (is_dir o) (less_if b (is_dir o) dir.attr)) (and_false over)
 
-  other_parent : (t : Target) (a : Attr) → is_same_target t dir.target ≡ false → is_same_target t new.target ≡ false → parent dir.target new.target over (is_dir o) t a ≡ a
+  pub other_parent : (t : Target) (a : Attr) → is_same_target t dir.target ≡ false → is_same_target t new.target ≡ false → parent dir.target new.target over (is_dir o) t a ≡ a
   other_parent t a e f =
       ap (λ (c : Bool). more_if c (is_dir o) (less_if (is_same_target t dir.target) (is_dir o) (less_if (over && c) (is_dir o) a))) f
       ∙ ap (λ (c : Bool). less_if c (is_dir o) (less_if (over && false) (is_dir o) a)) e ∙ by_over over
@@ -279,7 +279,7 @@ module _ (limit : ℕ) (m : Content) (dir o new : Object) (name new_name : List 
       (other_stat t dir.target is h.dir_stat.0 e) (other_stat t new.target is h.new_stat.0 f)))
 
   -- what stands at a stat key of an object that does not go
-  parent_now : (t : Target) (a : Attr) → HasStat m t a → (over ≡ true → t ≢ old.target) → at_key after (stat_rank t) ≡ Some (Stat (parent dir.target new.target over (is_dir o) t a))
+  pub parent_now : (t : Target) (a : Attr) → HasStat m t a → (over ≡ true → t ≢ old.target) → at_key after (stat_rank t) ≡ Some (Stat (parent dir.target new.target over (is_dir o) t a))
   parent_now t a there other = by_target (is_same_target t new.target) (is_same_target t dir.target) refl refl
     where
       by_target : (p q : Bool) → is_same_target t new.target ≡ p → is_same_target t dir.target ≡ q → at_key after (stat_rank t) ≡ Some (Stat (parent dir.target new.target over (is_dir o) t a))

@@ -12,11 +12,11 @@ use Rattle.r4_base.specs.Volume.{HasObjects, IsReached, is_directory, is_entry_i
 use Rattle.r4_base.specs.declared.items.Attr.{Attr}
 use Rattle.r4_base.specs.declared.items.Target.{Target}
 use Rattle.r4_content.specs.Course.{Course, Ask, Answer, Change, Ending, ending, of_content}
-use Rattle.r4_content.specs.Edited.{Edits, Pairs, and_also, edited, pairs_between}
-use Rattle.r4_content.specs.Entries.{entries_from, entries_to, if_empty, move, move_to, moved, moved_onto, rename, replace, with_entries}
+use Rattle.r4_content.specs.Edited.{Edits, and_also, edited, no_edits, pairs_between}
+use Rattle.r4_content.specs.Entries.{entries_from, entries_to, if_empty, move, move_to, moved, moved_onto, names_in, rename, replace, with_entries}
 use Rattle.r4_content.specs.Fields.{HasBytes, HasNumbers}
 use Rattle.r4_content.specs.Lawful.{HasBodies, IsLawful}
-use Rattle.r4_content.specs.Meaning.{after, named, reply}
+use Rattle.r4_content.specs.Meaning.{after, course, is_path, named, reply}
 use Rattle.r4_content.specs.Objects.{Object, entry_less, entry_rank, is_among, is_dir, is_full, is_same, is_same_target, unnamed}
 use Rattle.r4_content.specs.Walk.{attr_at, attr_in, may_be_object}
 use Rattle.r4_content.specs.Ways.{Named, Place, entry_in, object_at, to_ends, to_entry, to_parent, with_attr}
@@ -57,7 +57,7 @@ above_before m o (n ∷ path) q r e h =
     let s = step_is m n path q r e in
     (among_append o q.above q.here (above_before m o path (down q s.target s.attr) r s.rest h)).0
 
-on_way : (m : Content) (o : Object) (path : List (List ℕ)) (q r : Place) → found_from m path q ≡ There r → is_among o r.above ≡ false → is_same o r.here ≡ false → is_same o q.here ≡ false
+pub on_way : (m : Content) (o : Object) (path : List (List ℕ)) (q r : Place) → found_from m path q ≡ There r → is_among o r.above ≡ false → is_same o r.here ≡ false → is_same o q.here ≡ false
 on_way m o [] q r e h g = ap (λ (x : Place). is_same o x.here) (place_in q r e) ∙ g
 on_way m o (n ∷ path) q r e h g =
     let s = step_is m n path q r e in
@@ -136,10 +136,13 @@ pub record Ends (limit : ℕ) (m : Content) (dir o : Object) (name new_name : Li
   pub path_bytes : HasBytes path
   pub outside : is_dir o ≡ true → (is_among o r.above ≡ false) × (is_same o r.here ≡ false)
 
-module _ (limit : ℕ) (m : Content) (dir o : Object) (name new_name : List ℕ) (r : Place) (path : List (List ℕ)) (lawful : IsLawful limit m) (numbers : HasNumbers m) (e : Ends limit m dir o name new_name r path) where
-  abbrev HoldsAfter : Edits → Type 0
-  HoldsAfter x = Stays limit (edited x m)
+-- a directory that gets the link of another one has room for it
+abbrev pub FewLinks : (dir o new : Object) → (over : Bool) → Type 0
+FewLinks dir o new over = over ≡ false → is_dir o ≡ true → is_same_target new.target dir.target ≡ false → new.attr.nlink < 2 ^ 32 - 1
 
+module _ (limit : ℕ) (m : Content) (dir o : Object) (name new_name : List ℕ) (r : Place) (path : List (List ℕ)) (lawful : IsLawful limit m) (numbers : HasNumbers m) (e : Ends limit m dir o name new_name r path)
+    (HoldsAfter : Edits → Type 0) (none : HoldsAfter no_edits)
+    (moves : (over : Bool) (old : Object) → CanMove m dir o r.here name new_name over old → FewLinks dir o r.here over → HoldsAfter (moving dir name o r.here new_name over old)) where
   small_of : (x : Object) → IsThere m x → x.target.oid.0 < 2 ^ 60
   small_of x there = (small_object x.target (stat_there m x.target x.attr there.stat).0).1
 
@@ -161,20 +164,14 @@ module _ (limit : ℕ) (m : Content) (dir o : Object) (name new_name : List ℕ)
     size = size;
   }
 
-  done : (over : Bool) (old : Object) → CanMove m dir o r.here name new_name over old → (over ≡ false → is_dir o ≡ true → is_same_target r.here.target dir.target ≡ false → r.here.attr.nlink < 2 ^ 32 - 1)
-      → Stays limit (edited (moving dir name o r.here new_name over old) m)
-  done over old h few = (
-    moves_lawful m (edited (moving dir name o r.here new_name over old) m) dir o r.here name new_name over old lawful.objects
-        (can_move limit m dir o r.here name new_name over old lawful.objects lawful.bodies h lawful.room lawful.links few
-        (λ d. let out = e.outside d in way_there limit m dir o name new_name over old lawful.objects lawful.bodies numbers r h out.0 out.1 path e.path_bytes e.way)),
-    move_bodies limit m dir o r.here name new_name over old lawful.objects lawful.bodies h,
-  )
+  done : (over : Bool) (old : Object) → CanMove m dir o r.here name new_name over old → FewLinks dir o r.here over → HoldsAfter (moving dir name o r.here new_name over old)
+  done = moves
 
   free_lawful : entry_in (at_key m (entry_rank r.here.target new_name)) ≡ None → HoldsAfter (ending (move_to dir name o r.here new_name None) (of_content m)).edits
   free_lawful free = by_test (is_dir o) (is_same dir r.here) (is_full r.here) refl refl refl
     where
       by_test : (p q f : Bool) → is_dir o ≡ p → is_same dir r.here ≡ q → is_full r.here ≡ f → HoldsAfter (ending (if p && not q && f then Answer Links else Change (moved dir name o r.here new_name)) (of_content m)).edits
-      by_test true false true a b c = (lawful.objects, lawful.bodies)
+      by_test true false true a b c = none
       by_test true false false a b c =
           done false o (can false o (λ x. free) (λ x. absurd (true_not_false (sym x))) (λ x. absurd (true_not_false (sym x)))) (λ x y z. let lt = not_full r.here.attr.nlink c in omega arith)
       by_test true true f a b c =
@@ -190,7 +187,7 @@ module _ (limit : ℕ) (m : Content) (dir o : Object) (name new_name : List ℕ)
       (done true old (can true old (λ x. absurd (true_not_false x)) (λ x. over) (λ x. omega arith)) (λ x. absurd (true_not_false x)))
 
   over_is : (old : Object) → at_key m (entry_rank r.here.target new_name) ≡ Some (Entry new_name old.target) → IsThere m old → is_same_target old.target o.target ≡ false → is_dir old ≡ is_dir o
-      → (is_dir old ≡ true → pairs_between m (entries_from old.target.oid.0) (entries_to old.target.oid.0) ≡ []) → IsOver m o r.here old new_name
+      → (is_dir old ≡ true → names_in (pairs_between m (entries_from old.target.oid.0) (entries_to old.target.oid.0)) ≡ []) → IsOver m o r.here old new_name
   over_is old at there other kind empty = record {
     stat = stat_was m old there;
     entry = at;
@@ -201,18 +198,18 @@ module _ (limit : ℕ) (m : Content) (dir o : Object) (name new_name : List ℕ)
 
   replace_lawful : (old : Object) → at_key m (entry_rank r.here.target new_name) ≡ Some (Entry new_name old.target) → IsThere m old → is_same_target old.target o.target ≡ false
       → HoldsAfter (ending (replace dir name o r.here new_name old) (of_content m)).edits
-  replace_lawful old at there other = by_kind (is_dir o) (is_dir old) (pairs_between m (entries_from old.target.oid.0) (entries_to old.target.oid.0)) refl refl refl
+  replace_lawful old at there other = by_kind (is_dir o) (is_dir old) (names_in (pairs_between m (entries_from old.target.oid.0) (entries_to old.target.oid.0))) refl refl refl
     where
-      by_kind : (p q : Bool) (es : Pairs) → is_dir o ≡ p → is_dir old ≡ q → pairs_between m (entries_from old.target.oid.0) (entries_to old.target.oid.0) ≡ es
-          → HoldsAfter (ending (if p then (if q then with_entries old (if_empty (Change (moved_onto dir name o r.here new_name old))) else Answer Notdir) else (if q then Answer Isdir else Change (moved_onto dir name o r.here new_name old))) (of_content m)).edits
-      by_kind true true es a b c = by_pairs es c
+      by_kind : (p q : Bool) (es : List (List ℕ)) → is_dir o ≡ p → is_dir old ≡ q → names_in (pairs_between m (entries_from old.target.oid.0) (entries_to old.target.oid.0)) ≡ es
+          → HoldsAfter (ending (if p then (if q then with_entries old (λ es. if_empty (Change (moved_onto dir name o r.here new_name old)) (names_in es)) else Answer Notdir) else (if q then Answer Isdir else Change (moved_onto dir name o r.here new_name old))) (of_content m)).edits
+      by_kind true true es a b c = by_names es c
         where
-          by_pairs : (xs : Pairs) → pairs_between m (entries_from old.target.oid.0) (entries_to old.target.oid.0) ≡ xs
-              → HoldsAfter (ending (if_empty (Change (moved_onto dir name o r.here new_name old)) (pairs_between m (entries_from old.target.oid.0) (entries_to old.target.oid.0))) (of_content m)).edits
-          by_pairs [] is = subst (λ (xs : Pairs). HoldsAfter (ending (if_empty (Change (moved_onto dir name o r.here new_name old)) xs) (of_content m)).edits) (sym is) (onto_lawful old (over_is old at there other (b ∙ sym a) (λ d. is)))
-          by_pairs (x ∷ xs) is = subst (λ (ys : Pairs). HoldsAfter (ending (if_empty (Change (moved_onto dir name o r.here new_name old)) ys) (of_content m)).edits) (sym is) (lawful.objects, lawful.bodies)
-      by_kind true false es a b c = (lawful.objects, lawful.bodies)
-      by_kind false true es a b c = (lawful.objects, lawful.bodies)
+          by_names : (xs : List (List ℕ)) → names_in (pairs_between m (entries_from old.target.oid.0) (entries_to old.target.oid.0)) ≡ xs
+              → HoldsAfter (ending (if_empty (Change (moved_onto dir name o r.here new_name old)) (names_in (pairs_between m (entries_from old.target.oid.0) (entries_to old.target.oid.0)))) (of_content m)).edits
+          by_names [] is = subst (λ (xs : List (List ℕ)). HoldsAfter (ending (if_empty (Change (moved_onto dir name o r.here new_name old)) xs) (of_content m)).edits) (sym is) (onto_lawful old (over_is old at there other (b ∙ sym a) (λ d. is)))
+          by_names (x ∷ xs) is = subst (λ (ys : List (List ℕ)). HoldsAfter (ending (if_empty (Change (moved_onto dir name o r.here new_name old)) ys) (of_content m)).edits) (sym is) none
+      by_kind true false es a b c = none
+      by_kind false true es a b c = none
       by_kind false false es a b c = onto_lawful old (over_is old at there other (b ∙ sym a) (λ d. absurd (true_not_false (sym d ∙ b))))
 
   taken_lawful : (x : Named) → entry_in (at_key m (entry_rank r.here.target new_name)) ≡ Some x → HoldsAfter (ending (move_to dir name o r.here new_name (Some x)) (of_content m)).edits
@@ -220,12 +217,12 @@ module _ (limit : ℕ) (m : Content) (dir o : Object) (name new_name : List ℕ)
     where
       by_attr : (b : Bool) (v : Option Attr) → may_be_object x.target ≡ b → attr_in (at_key m (stat_rank x.target)) ≡ v → at_key m (entry_rank r.here.target new_name) ≡ Some (Entry new_name x.target) → is_same_target x.target o.target ≡ false
           → HoldsAfter (ending (if b then Ask (stat_rank x.target) (λ w. with_attr Absent (λ a. replace dir name o r.here new_name (record { target = x.target; attr = a })) (attr_in w)) else Answer Absent) (of_content m)).edits
-      by_attr false v may a at other = (lawful.objects, lawful.bodies)
+      by_attr false v may a at other = none
       by_attr true v may a at other = by_stat v a
         where
           by_stat : (w : Option Attr) → attr_in (at_key m (stat_rank x.target)) ≡ w
               → HoldsAfter (ending (with_attr Absent (λ a. replace dir name o r.here new_name (record { target = x.target; attr = a })) (attr_in (at_key m (stat_rank x.target)))) (of_content m)).edits
-          by_stat None g = subst (λ (w : Option Attr). HoldsAfter (ending (with_attr Absent (λ a. replace dir name o r.here new_name (record { target = x.target; attr = a })) w) (of_content m)).edits) (sym g) (lawful.objects, lawful.bodies)
+          by_stat None g = subst (λ (w : Option Attr). HoldsAfter (ending (with_attr Absent (λ a. replace dir name o r.here new_name (record { target = x.target; attr = a })) w) (of_content m)).edits) (sym g) none
           by_stat (Some c) g =
               let stat : attr_at m x.target ≡ Some c = ap (λ (y : Bool). if y then attr_in (at_key m (stat_rank x.target)) else None) may ∙ g in
               let (c2, held) = lawful.objects.target (entry_rank r.here.target new_name) new_name x.target at in
@@ -235,15 +232,15 @@ module _ (limit : ℕ) (m : Content) (dir o : Object) (name new_name : List ℕ)
 
       by_name : (p q : Bool) → bytes_eq x.name new_name ≡ p → is_same_target x.target o.target ≡ q
           → HoldsAfter (ending (if not p then Answer (Clash x.name) else if q then Answer Okay else object_at x.target (replace dir name o r.here new_name)) (of_content m)).edits
-      by_name false q a b = (lawful.objects, lawful.bodies)
-      by_name true true a b = (lawful.objects, lawful.bodies)
+      by_name false q a b = none
+      by_name true true a b = none
       by_name true false a b =
           let same = (bytes_eq-Decides x.name new_name).0 a in
           let at = entry_is (at_key m (entry_rank r.here.target new_name)) x.name x.target is ∙ ap (λ (s : List ℕ). Some (Entry s x.target)) same in
           by_attr (may_be_object x.target) (attr_in (at_key m (stat_rank x.target))) refl refl at b
 
-  pub move_lawful : Stays limit (edited (ending (move dir name o r.here new_name) (of_content m)).edits m)
-  move_lawful = by_entry (entry_in (at_key m (entry_rank r.here.target new_name))) refl
+  pub move_done : HoldsAfter (ending (move dir name o r.here new_name) (of_content m)).edits
+  move_done = by_entry (entry_in (at_key m (entry_rank r.here.target new_name))) refl
     where
       by_entry : (v : Option Named) → entry_in (at_key m (entry_rank r.here.target new_name)) ≡ v → HoldsAfter (ending (move_to dir name o r.here new_name (entry_in (at_key m (entry_rank r.here.target new_name)))) (of_content m)).edits
       by_entry None is = subst (λ (v : Option Named). HoldsAfter (ending (move_to dir name o r.here new_name v) (of_content m)).edits) (sym is) (free_lawful is)
@@ -260,9 +257,29 @@ rename_to to dir n p q new_name =
 abbrev pub rename_from : List (List ℕ) → Object → (name : List ℕ) → Place → Course
 rename_from to dir n p = to_parent Loop to (rename_to to dir n p)
 
-pub rename_lawful : (limit : ℕ) (from to : List (List ℕ)) (m : Content) → limit < 2 ^ 64 → IsLawful limit m → HasBytes from → HasBytes to → Stays limit (after limit (Rename from to) m)
+-- where the two paths of a rename lead
+pub record Paths (m : Content) (from to : List (List ℕ)) (dir : Object) (name : List ℕ) (r : Place) (new_name : List ℕ) (path : List (List ℕ)) : Type 0 where
+  pub from_legal : is_path from ≡ true
+  pub from_some : (length from == 0) ≡ false
+  pub above : Place
+  pub from_at : found m (take (length from - 1) from) ≡ There above
+  pub from_is : above.here ≡ dir
+  pub from_last : slice_index_or from (length from - 1) [] ≡ name
+  pub to_legal : is_path to ≡ true
+  pub to_some : (length to == 0) ≡ false
+  pub to_is : take (length to - 1) to ≡ path
+  pub to_last : slice_index_or to (length to - 1) [] ≡ new_name
+
+-- what a rename that was done moved
+abbrev pub MovesAll : (limit : ℕ) → Content → (from to : List (List ℕ)) → (Edits → Type 0) → Type 0
+MovesAll limit m from to P = (dir o : Object) (name new_name : List ℕ) (r : Place) (path : List (List ℕ)) → Ends limit m dir o name new_name r path
+    → Paths m from to dir name r new_name path → (over : Bool) (old : Object)
+    → CanMove m dir o r.here name new_name over old → FewLinks dir o r.here over → P (moving dir name o r.here new_name over old)
+
+pub rename_done : (limit : ℕ) (from to : List (List ℕ)) (m : Content) → limit < 2 ^ 64 → IsLawful limit m → HasBytes from → HasBytes to → (P : Edits → Type 0) → P no_edits → MovesAll limit m from to P
+    → reply limit (Rename from to) m ≡ Okay → P (ending (course limit (Rename from to)) (of_content m)).edits
 unfolding to_ends
-rename_lawful limit from to m lt lawful from_bytes to_bytes = by_done limit (Rename from to) m (λ x. Stays limit x) (lawful.objects, lawful.bodies) done
+rename_done limit from to m lt lawful from_bytes to_bytes P none moves = done
   where
     numbers : HasNumbers m
     numbers = numbers_of limit m lt lawful
@@ -281,7 +298,7 @@ rename_lawful limit from to m lt lawful from_bytes to_bytes = by_done limit (Ren
     tests dir n p q new_name true true false e f g h = (e, (λ d. g), refl)
     tests dir n p q new_name true false c e f g h = (e, (λ d. absurd (true_not_false (sym d ∙ f))), refl)
 
-    done : reply limit (Rename from to) m ≡ Okay → Stays limit (after limit (Rename from to) m)
+    done : reply limit (Rename from to) m ≡ Okay → P (ending (course limit (Rename from to)) (of_content m)).edits
     done okay =
         let one = okay_named m from (named to (rename from to)) okay in
         let first = named_ends m from (named to (rename from to)) one in
@@ -312,4 +329,26 @@ rename_lawful limit from to m lt lawful from_bytes to_bytes = by_done limit (Ren
           path_bytes = All-take (λ x. All (λ y. y < 256) x) (length to - 1) to to_bytes;
           outside = λ yes_dir. or_parts (is_among p.here q.above) (is_same p.here q.here) (out yes_dir);
         } in
-        subst (λ (x : Ending). Stays limit (edited x.edits m)) (sym (fifth ∙ goes)) (move_lawful limit m dir p.here c.name new_name q (take (length to - 1) to) lawful numbers e)
+        let paths : Paths m from to dir c.name q new_name (take (length to - 1) to) = record {
+          from_legal = c.legal;
+          from_some = c.some;
+          above = c.above;
+          from_at = c.at;
+          from_is = refl;
+          from_last = c.last;
+          to_legal = two;
+          to_some = d.some;
+          to_is = refl;
+          to_last = refl;
+        } in
+        subst (λ (x : Ending). P x.edits) (sym (fifth ∙ goes))
+        (move_done limit m dir p.here c.name new_name q (take (length to - 1) to) lawful numbers e P none (λ over old h few. moves dir p.here c.name new_name q (take (length to - 1) to) e paths over old h few))
+
+pub rename_lawful : (limit : ℕ) (from to : List (List ℕ)) (m : Content) → limit < 2 ^ 64 → IsLawful limit m → HasBytes from → HasBytes to → Stays limit (after limit (Rename from to) m)
+rename_lawful limit from to m lt lawful from_bytes to_bytes = by_done limit (Rename from to) m (λ x. Stays limit x) (lawful.objects, lawful.bodies)
+    (rename_done limit from to m lt lawful from_bytes to_bytes (λ x. Stays limit (edited x m)) (lawful.objects, lawful.bodies) (λ dir o name new_name r path e paths over old h few. (
+      moves_lawful m (edited (moving dir name o r.here new_name over old) m) dir o r.here name new_name over old lawful.objects
+          (can_move limit m dir o r.here name new_name over old lawful.objects lawful.bodies h lawful.room lawful.links few
+          (λ d. let out = e.outside d in way_there limit m dir o name new_name over old lawful.objects lawful.bodies (numbers_of limit m lt lawful) r h out.0 out.1 path e.path_bytes e.way)),
+      move_bodies limit m dir o r.here name new_name over old lawful.objects lawful.bodies h,
+    )))

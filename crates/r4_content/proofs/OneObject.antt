@@ -132,6 +132,13 @@ came_to_object m path next numbers e =
     let (p, at, okay) = okay_there m next (found m path) (sym (ap (λ (x : Ending). x.reply) way) ∙ e) in
     record { place = p; there = found_object m numbers.orderings path p at; ends = goes_on m path next p is at }
 
+-- what a command on attributes sets
+pub attrs_done : (path : List (List ℕ)) (f : Attr → Attr) (m : Content) → HasNumbers m → (P : Edits → Type 0) → ((o : Object) → IsThere m o → P (set_attr o (f o.attr)))
+    → (ending (named path (set_attrs path f)) (of_content m)).reply ≡ Okay → P (ending (named path (set_attrs path f)) (of_content m)).edits
+attrs_done path f m numbers P sets okay =
+    let c = came_to_object m path (λ p. Change (set_attr p.here (f p.here.attr))) numbers okay in
+    subst (λ (x : Ending). P x.edits) (sym c.ends) (sets c.place.here c.there)
+
 attrs_lawful : (limit : ℕ) (path : List (List ℕ)) (f : Attr → Attr) (m : Content) → HasNumbers m → IsLawful limit m
     → ((a : Attr) → (is_directory (f a) ≡ is_directory a) × ((f a).nlink ≡ a.nlink) × ((f a).size ≡ a.size) × ((f a).bytes ≡ a.bytes))
     → (ending (named path (set_attrs path f)) (of_content m)).reply ≡ Okay → Stays limit (edited (ending (named path (set_attrs path f)) (of_content m)).edits m)
@@ -170,6 +177,27 @@ resized_links n a = by_size (a.size == n)
 
 not_directory : (a : Attr) (n : ℕ) → is_directory a ≡ false → is_directory a ≡ true → n ≡ a.size
 not_directory a n file dir = absurd (true_not_false (sym dir ∙ file))
+
+-- what a command on bytes sets
+pub write_done : (limit : ℕ) (path : List (List ℕ)) (from : ℕ) (xs : List ℕ) (m : Content) → HasNumbers m → (P : Edits → Type 0) → P no_edits
+    → ((o : Object) → IsThere m o → is_dir o ≡ false → from + length xs ≤ limit → P (written o from xs))
+    → reply limit (Write path from xs) m ≡ Okay → P (ending (course limit (Write path from xs)) (of_content m)).edits
+write_done limit path from xs m numbers P none writes okay =
+    let c = came_to limit m path (from + length xs) (write_on from xs) okay in
+    let there = found_object m numbers.orderings path c.place c.at in
+    subst (λ (x : Ending). P x.edits) (sym c.ends) (by_length c.place.here (length xs == 0) (writes c.place.here there c.file c.small))
+  where
+    by_length : (o : Object) (b : Bool) → P (written o from xs) → P (ending (if b then Answer Okay else Change (written o from xs)) (of_content m)).edits
+    by_length o true h = none
+    by_length o false h = h
+
+pub truncate_done : (limit : ℕ) (path : List (List ℕ)) (n : ℕ) (m : Content) → HasNumbers m → (P : Edits → Type 0)
+    → ((o : Object) → IsThere m o → is_dir o ≡ false → n ≤ limit → P (truncated o n))
+    → reply limit (Truncate path n) m ≡ Okay → P (ending (course limit (Truncate path n)) (of_content m)).edits
+truncate_done limit path n m numbers P cuts okay =
+    let c = came_to limit m path n (λ o. Change (truncated o n)) okay in
+    let there = found_object m numbers.orderings path c.place c.at in
+    subst (λ (x : Ending). P x.edits) (sym c.ends) (cuts c.place.here there c.file c.small)
 
 pub write_lawful : (limit : ℕ) (path : List (List ℕ)) (from : ℕ) (xs : List ℕ) (m : Content) → limit < 2 ^ 64 → IsLawful limit m → Stays limit (after limit (Write path from xs) m)
 write_lawful limit path from xs m lt lawful = by_done limit (Write path from xs) m (λ x. Stays limit x) (lawful.objects, lawful.bodies) (λ okay. by_length okay (length xs == 0) refl)

@@ -30,6 +30,9 @@ refused_leaves limit c m h = elim (nothing_or_okay (course limit c) (of_content 
   | inr e ↦ absurd (h e)
 ]
 
+pub refused_edits : (limit : ℕ) (c : Command) (m : Content) → ¬ (reply limit c m ≡ Okay) → (ending (course limit c) (of_content m)).edits ≡ no_edits
+refused_edits limit c m h = elim (nothing_or_okay (course limit c) (of_content m)) [ inl e ↦ e | inr e ↦ absurd (h e) ]
+
 pub refused_changes : (limit : ℕ) (c : Command) (m : Content) (k : ℕ) → ¬ (reply limit c m ≡ Okay) → is_in (changes limit c m) k ≡ false
 refused_changes limit c m k h = elim (nothing_or_okay (course limit c) (of_content m)) [
   | inl e ↦ ap (λ x. is_in (changed x) k) e
@@ -88,6 +91,9 @@ reading_answers limit Begin h = tt
 reading_answers limit End h = tt
 reading_answers limit Commit h = tt
 reading_answers limit _ h = absurd h
+
+pub only_reads : (limit : ℕ) (c : Command) (m : Content) → OnlyReads c → (ending (course limit c) (of_content m)).edits ≡ no_edits
+only_reads limit c m h = leaves (course limit c) (of_content m) (reading_answers limit c h)
 
 pub reading_leaves : (limit : ℕ) (c : Command) (m : Content) → OnlyReads c → after limit c m ≡ m
 reading_leaves limit c m h = ap (λ x. edited x m) (leaves (course limit c) (of_content m) (reading_answers limit c h))

@@ -86,7 +86,7 @@ steps_on m n path q t a dir entry stat =
 
 -- ---- the way again
 
-down_with : (g : Target → Attr → Attr) (q : Place) (t : Target) (a : Attr) → down (place_with g q) t (g t a) ≡ place_with g (down q t a)
+pub down_with : (g : Target → Attr → Attr) (q : Place) (t : Target) (a : Attr) → down (place_with g q) t (g t a) ≡ place_with g (down q t a)
 down_with g q t a = ap (λ (xs : List Object). let p : Place = record { here = record { target = t; attr = g t a }; above = xs } in p) (sym (map-append (with_attrs g) q.above (q.here ∷ [])))
 
 module _ (m after : Content) (g : Target → Attr → Attr) (Goes : Target → Attr → Type 0)

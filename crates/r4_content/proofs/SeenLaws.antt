@@ -1,5 +1,5 @@
 -- A list that rises by key is a content: it is asked alike, and edited alike.
-use Rattle.std.specs.Prelude.{None, List, ◌≡◌, ℕ, zero, suc, ◌+◌, ◌-◌, [], ◌∷◌, Bool, not, cond}
+use Rattle.std.specs.Prelude.{None, List, ◌≡◌, true, ℕ, zero, suc, ◌+◌, ◌-◌, [], ◌∷◌, Bool, not, cond}
 use Rattle.std.proofs.Common.{refl, sym, ap, ◌∙◌}
 use Rattle.std.specs.List.{filter}
 use Rattle.std.specs.Ordering.{nat_cmp}
@@ -106,3 +106,11 @@ list_commands limit (c ∷ cs) s r =
     let one = list_command limit c s r in
     ap (λ x. x ∷ replies limit cs (after limit c (content_of s))) one.1 ∙ ap (λ t. (ending (course limit c) (of_seen s)).reply ∷ replies limit cs t) one.0
     ∙ ap (λ x. (ending (course limit c) (of_seen s)).reply ∷ x) (list_commands limit cs (list_after limit c s) one.2)
+
+-- what agrees where the command reads the content is what it has seen
+pub seen_where_read : (limit : ℕ) (c : Command) (s : Pairs) (m : Content) → Rises s
+    → ((k : ℕ) → is_in (asked (course limit c) (of_content m)) k ≡ true → find nat_cmp k s ≡ at_key m k) → IsSeen limit c s m
+seen_where_read limit c s m r h =
+    let e = same_source s r in
+    let same = (same_course (course limit c) m (content_of s) (λ k i. sym (at_content s k r ∙ h k i))).1 in
+    record { rises = r; agrees = λ k i. h k (ap (λ t. is_in t k) (same ∙ ap (asked (course limit c)) e) ∙ i) }

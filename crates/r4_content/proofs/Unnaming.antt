@@ -32,7 +32,7 @@ use Rattle.r4_content.proofs.Writing.{named_ends, okay_there}
 abbrev pub with_less : Target → Bool → Target → Attr → Attr
 with_less dir d t a = if is_same_target t dir then entry_less d a else a
 
-less_kind : (dir : Target) (d : Bool) (t : Target) (a : Attr) → is_directory (with_less dir d t a) ≡ is_directory a
+pub less_kind : (dir : Target) (d : Bool) (t : Target) (a : Attr) → is_directory (with_less dir d t a) ≡ is_directory a
 less_kind dir d t a = by_target (is_same_target t dir) d
   where
     by_target : (b d : Bool) → is_directory (if b then entry_less d a else a) ≡ is_directory a
@@ -178,7 +178,7 @@ module _ (m : Content) (path : List (List ℕ)) (numbers : HasNumbers m) (bytes 
 abbrev unlink_on : Object → (name : List ℕ) → Place → Course
 unlink_on dir n p = if is_dir p.here then Answer Isdir else Change (unname_in dir n p.here)
 
-absent_ends : (limit : ℕ) (m : Content) (path : List (List ℕ)) → is_path path ≡ true → found m path ≡ NotThere → reply limit (StatCommand path) m ≡ Absent
+pub absent_ends : (limit : ℕ) (m : Content) (path : List (List ℕ)) → is_path path ≡ true → found m path ≡ NotThere → reply limit (StatCommand path) m ≡ Absent
 absent_ends limit m path is at =
     ap (λ (x : Ending). x.reply)
     (named_ends m path (to_object path (λ p. Answer (AttrReply p.here.attr))) is ∙ way_ends m path (λ p. Answer (AttrReply p.here.attr)) ∙ ap (ends_at m (λ p. Answer (AttrReply p.here.attr))) at)

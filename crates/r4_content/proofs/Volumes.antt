@@ -15,7 +15,7 @@ use Rattle.r4_content.proofs.Ranks.{root_is_object, stat_not_byte}
 use Rattle.r4_content.proofs.Shapes.{shape_lawful, stat_back}
 
 module _ (n : ℕ) (image : Image) (m : Content) (c : HasContent n image m) where
-  raw_of : (k : ℕ) (v : Value) → at_key m k ≡ Some v → at_key c.raw k ≡ Some v
+  pub raw_of : (k : ℕ) (v : Value) → at_key m k ≡ Some v → at_key c.raw k ≡ Some v
   raw_of k v at = ((c.visible k v).0 at).0
 
   -- the same entries are seen

@@ -23,14 +23,17 @@ abbrev pub fill_gap : Object → (to : ℕ) → Edits
 fill_gap o to = if nat_lt o.attr.size to then zero_body o o.attr.size to else no_edits
 
 abbrev pub written : Object → (from : ℕ) → List ℕ → Edits
-written o from xs = and_also (fill_gap o from) (and_also (set_body o from xs) (resize o (larger o.attr.size (from + length xs))))
+written o from xs = and_also (fill_gap o from) (and_also (set_body o from xs) (resize o
+    (larger o.attr.size (from + length xs))))
 
 -- no bytes change nothing
 abbrev pub write : (limit : ℕ) → List (List ℕ) → (from : ℕ) → List ℕ → Course
-write limit path from xs = to_file limit path (from + length xs) (λ o. if length xs == 0 then Answer Okay else Change (written o from xs))
+write limit path from xs = to_file limit path (from + length xs) (λ o. if length xs == 0
+    then Answer Okay else Change (written o from xs))
 
 abbrev pub truncated : Object → (size : ℕ) → Edits
-truncated o n = and_also (if nat_lt n o.attr.size then cut_body o n o.attr.size else fill_gap o n) (resize o n)
+truncated o n = and_also (if nat_lt n o.attr.size then cut_body o n o.attr.size
+    else fill_gap o n) (resize o n)
 
 abbrev pub truncate : (limit : ℕ) → List (List ℕ) → (size : ℕ) → Course
 truncate limit path n = to_file limit path n (λ o. Change (truncated o n))
@@ -46,7 +49,9 @@ bytes_in ((k, Byte x) ∷ es) = x ∷ bytes_in es
 abbrev pub read_in : Object → (from len : ℕ) → Course
 read_in o from len =
     let to = smaller (from + len) o.attr.size in
-    if nat_lt from to then Scan (byte_rank o.target from) (byte_rank o.target to) (λ es. Answer (Data (bytes_in es))) else Answer (Data [])
+    if nat_lt from to then Scan (byte_rank o.target from) (byte_rank o.target to)
+    (λ es. Answer (Data (bytes_in es))) else Answer (Data [])
 
 abbrev pub read : List (List ℕ) → (from len : ℕ) → Course
-read path from len = to_object path (λ p. if is_dir p.here then Answer Isdir else read_in p.here from len)
+read path from len = to_object path (λ p. if is_dir p.here then Answer Isdir
+    else read_in p.here from len)

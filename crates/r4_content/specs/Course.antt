@@ -1,4 +1,5 @@
--- The course of a command: what it asks of a content, one question after another, and what comes of it (docs/commands.md, "Reading").
+-- The course of a command: what it asks of a content, one question after another, and what comes
+-- of it (docs/commands.md, "Reading").
 use Rattle.std.specs.Prelude.{ℕ, ◌+◌, [], ◌∷◌, Option}
 use Rattle.r4_base.specs.Value.{Value, Content, at_key}
 use Rattle.r4_content.specs.Edited.{Pairs, Intervals, Edits, no_edits, pairs_between}

@@ -1,5 +1,7 @@
--- Edits of contents (docs/commands.md, "Edits"). Keys stand by their ranks, so that the key behind one is the next number.
-use Rattle.std.specs.Prelude.{ℕ, zero, suc, ◌+◌, ◌-◌, List, [], ◌∷◌, ◌++◌, Bool, false, not, ◌&&◌, ◌||◌, nat_le, nat_lt}
+-- Edits of contents (docs/commands.md, "Edits"). Keys stand by their ranks, so that the key behind
+-- one is the next number.
+use Rattle.std.specs.Prelude.{ℕ, zero, suc, ◌+◌, ◌-◌, List, [], ◌∷◌, ◌++◌, Bool, false, not, ◌&&◌}
+use Rattle.std.specs.Prelude.{◌||◌, nat_le, nat_lt}
 use Rattle.std.specs.FinMap.{insert, retain_keys, entries}
 use Rattle.r4_base.specs.Value.{Value, Byte, Content}
 
@@ -23,7 +25,8 @@ is_in (r ∷ rs) k = is_between r.0 r.1 k || is_in rs k
 abbrev pub pairs_between : Content → (from to : ℕ) → Pairs
 pairs_between m from to = entries (retain_keys m (is_between from to))
 
--- First the keys of `cuts` are taken away, then each key of `zeros` gets the byte 0, then the pairs of `puts` are set, one after another.
+-- First the keys of `cuts` are taken away, then each key of `zeros` gets the byte 0, then the
+-- pairs of `puts` are set, one after another.
 pub record Edits : Type 0 where
   pub cuts : Intervals
   pub zeros : Intervals
@@ -33,7 +36,12 @@ abbrev pub no_edits : Edits
 no_edits = record { cuts = []; zeros = []; puts = [] }
 
 abbrev pub and_also : Edits → Edits → Edits
-and_also e f = record { cuts = e.cuts ++ f.cuts; zeros = e.zeros ++ f.zeros; puts = e.puts ++ f.puts }
+and_also e f = record {
+  cuts = e.cuts ++ f.cuts;
+  zeros = e.zeros ++ f.zeros;
+  puts = e.puts
+      ++ f.puts;
+}
 
 abbrev pub cut_all : Intervals → Content → Content
 cut_all [] m = m

@@ -1,4 +1,5 @@
--- What holds of each content that is stored, and of each path that is held: numbers of their fields' widths.
+-- What holds of each content that is stored, and of each path that is held: numbers of their
+-- fields' widths.
 use Rattle.std.specs.Prelude.{◌≡◌, ◌≢◌, ℕ, ◌^◌, ◌<◌, List, All, Some}
 use Rattle.r4_base.specs.Value.{Content, Entry, at_key}
 use Rattle.r4_base.specs.Volume.{HasStat}
@@ -6,11 +7,15 @@ use Rattle.r4_base.specs.declared.items.Attr.{Attr}
 use Rattle.r4_base.specs.declared.items.Target.{Target}
 use Rattle.r4_base.specs.declared.things.Oid.{Oid}
 use Rattle.r4_content.specs.declared.command.Command.{Command}
-use Rattle.r4_content.specs.declared.command.Command.TheVariants.{Create, Mkdir, Write, Fill, Truncate, Read, Stat, Names, Link, Unlink, Rmdir, Rename, Chmod, Chown, Times, Begin, End, Commit}
+use Rattle.r4_content.specs.declared.command.Command.TheVariants.{Create, Mkdir, Write, Fill}
+use Rattle.r4_content.specs.declared.command.Command.TheVariants.{Truncate, Read, Stat, Names, Link}
+use Rattle.r4_content.specs.declared.command.Command.TheVariants.{Unlink, Rmdir, Rename, Chmod}
+use Rattle.r4_content.specs.declared.command.Command.TheVariants.{Chown, Times, Begin, End, Commit}
 
 -- The orderings and sizes of a content are numbers of 64 bits.
 pub record HasNumbers (m : Content) : Type 0 where
-  pub orderings : (k : ℕ) (n : List ℕ) (o : Target) → at_key m k ≡ Some (Entry n o) → o.ordering < 2 ^ 64
+  pub orderings : (k : ℕ) (n : List ℕ) (o : Target) → at_key m k ≡ Some (Entry n o)
+      → o.ordering < 2 ^ 64
   pub sizes : (o : Target) (a : Attr) → HasStat m o a → a.size < 2 ^ 64
 
 -- the names of a path are lists of bytes

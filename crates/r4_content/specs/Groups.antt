@@ -1,7 +1,10 @@
 -- The groups in which commands are copied.
 
 use Rattle.r4_content.specs.declared.command.Command.{Command}
-use Rattle.r4_content.specs.declared.command.Command.TheVariants.{Create, Mkdir, Write, Fill, Truncate, Read, Stat, Names, Link, Unlink, Rmdir, Rename, Chmod, Chown, Times}
+use Rattle.r4_content.specs.declared.command.Command.TheVariants.{Create, Mkdir, Write, Fill}
+use Rattle.r4_content.specs.declared.command.Command.TheVariants.{Truncate, Read, Stat, Names, Link}
+use Rattle.r4_content.specs.declared.command.Command.TheVariants.{Unlink, Rmdir, Rename, Chmod}
+use Rattle.r4_content.specs.declared.command.Command.TheVariants.{Chown, Times}
 
 -- the command reads or sets bytes of a file
 abbrev pub IsOfBytes : Command → Type 0

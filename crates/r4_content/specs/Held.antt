@@ -1,5 +1,6 @@
--- Edits, and what was seen, as they are held in memory: bytes of a file stand in intervals and in runs (docs/commands.md, "Edits").
-use Rattle.std.specs.Prelude.{ℕ, ◌-◌, [], ◌∷◌, ◌++◌, map, replicate}
+-- Edits, and what was seen, as they are held in memory: bytes of a file stand in intervals and in
+-- runs (docs/commands.md, "Edits").
+use Rattle.std.specs.Prelude.{ℕ, ◌≤◌, ◌-◌, [], ◌∷◌, ◌++◌, length, map, replicate}
 use Rattle.std.specs.List.{flat_map}
 use Rattle.r4_base.specs.Key.{rank}
 use Rattle.r4_base.specs.Value.{Value, value_of}
@@ -35,12 +36,19 @@ abbrev pub edits_of : HeldEdits → Edits
 edits_of e = record {
   cuts = map interval_of e.cuts.items;
   zeros = map interval_of e.zeros.items;
-  puts = flat_map fill_pairs e.fills.items ++ (flat_map run_pairs e.runs.items ++ map pair_of e.puts.items);
+  puts = flat_map fill_pairs e.fills.items ++ (flat_map run_pairs e.runs.items
+      ++ map pair_of e.puts.items);
 }
 
 -- with the reply, how a command ends
 abbrev pub ending_of : HeldEdits → Ending
 ending_of e = record { edits = edits_of e; reply = e.reply }
+
+-- they take no more memory than for so many runs, fills and values: the bytes of a text or of a
+-- fill are none of these
+abbrev pub HoldsAtMost : (runs fills puts : ℕ) → HeldEdits → Type 0
+HoldsAtMost runs fills puts e =
+    (length e.runs.items ≤ runs) × (length e.fills.items ≤ fills) × (length e.puts.items ≤ puts)
 
 abbrev pub part_pairs : SeenPart → Pairs
 part_pairs (One k v) = (rank k, value_of v) ∷ []

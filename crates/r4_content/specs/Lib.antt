@@ -16,3 +16,5 @@ pub mod Examples
 pub mod Walks
 pub mod Fields
 pub mod Lawful
+pub mod Counts
+pub mod Units

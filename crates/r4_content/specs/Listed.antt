@@ -36,4 +36,5 @@ list_after limit c s = list_edited (ending (course limit c) (of_seen s)).edits s
 
 abbrev pub list_replies : (limit : ℕ) → List Command → Pairs → List Reply
 list_replies limit [] s = []
-list_replies limit (c ∷ cs) s = (ending (course limit c) (of_seen s)).reply ∷ list_replies limit cs (list_after limit c s)
+list_replies limit (c ∷ cs) s = (ending (course limit c) (of_seen s)).reply
+    ∷ list_replies limit cs (list_after limit c s)

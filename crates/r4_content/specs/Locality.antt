@@ -1,6 +1,9 @@
--- What commands have in common, whatever they are: each does the same in contents that agree where it reads (docs/commands.md, "Reading").
+-- What commands have in common, whatever they are: each does the same in contents that agree where
+-- it reads (docs/commands.md, "Reading").
 use Rattle.std.specs.Prelude.{◌≡◌, ℕ, ◌⊎◌, true, false}
+use Rattle.r4_base.specs.Key.{key_of_rank, minor_of}
 use Rattle.r4_base.specs.Value.{Content, at_key}
+use Rattle.r4_base.specs.Volume.{object_of, stat_rank}
 use Rattle.r4_content.specs.Edited.{Intervals, is_in}
 use Rattle.r4_content.specs.Meaning.{after, changes, reads, reply}
 use Rattle.r4_content.specs.declared.command.Command.{Command}
@@ -15,20 +18,29 @@ pub record Meaning (C R : Type 0) : Type 0 where
 
 -- those of this project
 abbrev pub commands : (limit : ℕ) → Meaning Command Reply
-commands limit = record { after = after limit; reply = reply limit; reads = reads limit; changes = changes limit }
+commands limit = record {
+  after = after limit;
+  reply = reply limit;
+  reads = reads limit;
+  changes =
+      changes limit;
+}
 
 -- the two contents agree where the command reads the first
 abbrev pub Agree : {C R : Type 0} → Meaning C R → C → Content → Content → Type 0
 Agree w x m n = (k : ℕ) → is_in (w.reads x m) k ≡ true → at_key m k ≡ at_key n k
 
--- Contents that agree where the command reads the first are read and changed at the same keys, with the same reply and the same values there. All
+-- Contents that agree where the command reads the first are read and changed at the same keys,
+-- with the same reply and the same values there. All
 -- other keys keep their values.
 pub record IsLocal {C R : Type 0} (w : Meaning C R) : Type 0 where
   pub same_reads : (x : C) (m n : Content) → Agree w x m n → w.reads x m ≡ w.reads x n
   pub same_changes : (x : C) (m n : Content) → Agree w x m n → w.changes x m ≡ w.changes x n
   pub same_reply : (x : C) (m n : Content) → Agree w x m n → w.reply x m ≡ w.reply x n
-  pub same_values : (x : C) (m n : Content) (k : ℕ) → Agree w x m n → is_in (w.changes x m) k ≡ true → at_key (w.after x m) k ≡ at_key (w.after x n) k
-  pub others : (x : C) (m : Content) (k : ℕ) → is_in (w.changes x m) k ≡ false → at_key (w.after x m) k ≡ at_key m k
+  pub same_values : (x : C) (m n : Content) (k : ℕ) → Agree w x m n → is_in (w.changes x m) k
+      ≡ true → at_key (w.after x m) k ≡ at_key (w.after x n) k
+  pub others : (x : C) (m : Content) (k : ℕ) → is_in (w.changes x m) k ≡ false
+      → at_key (w.after x m) k ≡ at_key m k
 
 -- the command reads the key, or changes it
 abbrev pub Touches : {C R : Type 0} → Meaning C R → C → Content → ℕ → Type 0
@@ -37,3 +49,9 @@ Touches w x m k = (is_in (w.reads x m) k ≡ true) ⊎ (is_in (w.changes x m) k 
 -- y changes nothing that x touches
 abbrev pub Spares : {C R : Type 0} → Meaning C R → (y x : C) → Content → Type 0
 Spares w y x m = (k : ℕ) → Touches w x m k → is_in (w.changes y m) k ≡ false
+
+-- with each key of a body that the command reads or changes, it reads the stat key of the body's
+-- object
+abbrev pub AsksForStats : (limit : ℕ) → Command → Content → Type 0
+AsksForStats limit x m = (k : ℕ) → Touches (commands limit) x m k → minor_of (key_of_rank k) ≡ 4
+    → is_in (reads limit x m) (stat_rank (object_of (key_of_rank k))) ≡ true

@@ -1,10 +1,13 @@
--- What commands mean: what each asks a content for, the content after it, and its reply (docs/commands.md).
-use Rattle.std.specs.Prelude.{ℕ, ◌+◌, ◌*◌, ◌/◌, ◌%◌, ◌^◌, List, [], ◌∷◌, replicate, Bool, if◌then◌else◌}
+-- What commands mean: what each asks a content for, the content after it, and its reply
+-- (docs/commands.md).
+use Rattle.std.specs.Prelude.{ℕ, ◌+◌, ◌*◌, ◌/◌, ◌%◌, ◌^◌, List, [], ◌∷◌, replicate, Bool, true}
+use Rattle.std.specs.Prelude.{false, if◌then◌else◌}
 use Rattle.std.specs.List.{list_all}
 use Rattle.std.specs.Option.{is_none}
 use Rattle.r4_base.specs.Name.{name_fault}
 use Rattle.r4_base.specs.Value.{Content}
 use Rattle.r4_base.specs.declared.items.Attr.{Attr}
+use Rattle.r4_base.specs.declared.things.Oid.{Oid}
 use Rattle.r4_content.specs.Bodies.{read, truncate, write}
 use Rattle.r4_content.specs.Course.{Course, Answer, Change, asked, ending, of_content}
 use Rattle.r4_content.specs.Edited.{Intervals, changed, edited}
@@ -12,9 +15,13 @@ use Rattle.r4_content.specs.Entries.{create, link, mkdir, names, rename, rmdir, 
 use Rattle.r4_content.specs.Objects.{set_attr}
 use Rattle.r4_content.specs.Ways.{to_object}
 use Rattle.r4_content.specs.declared.command.Command.{Command}
-use Rattle.r4_content.specs.declared.command.Command.TheVariants.{Create, Mkdir, Write, Fill, Truncate, Read, Stat, Names, Link, Unlink, Rmdir, Rename, Chmod, Chown, Times, Begin, End, Commit}
+use Rattle.r4_content.specs.declared.command.Command.TheVariants.{Create, Mkdir, Write, Fill}
+use Rattle.r4_content.specs.declared.command.Command.TheVariants.{Truncate, Read, Stat, Names, Link}
+use Rattle.r4_content.specs.declared.command.Command.TheVariants.{Unlink, Rmdir, Rename, Chmod}
+use Rattle.r4_content.specs.declared.command.Command.TheVariants.{Chown, Times, Begin, End, Commit}
 use Rattle.r4_content.specs.declared.reply.Reply.{Reply}
-use Rattle.r4_content.specs.declared.reply.Reply.TheVariants.{Okay, Attr as AttrReply, Name as NameReply}
+use Rattle.r4_content.specs.declared.reply.Reply.TheVariants.{Okay, Attr as AttrReply}
+use Rattle.r4_content.specs.declared.reply.Reply.TheVariants.{Name as NameReply}
 
 -- the most bytes that a file may have
 abbrev pub greatest_size : ℕ
@@ -43,9 +50,11 @@ abbrev pub chown : List (List ℕ) → (uid gid : ℕ) → Course
 chown path uid gid = set_attrs path (λ a. record a { uid = uid; gid = gid })
 
 abbrev pub times : List (List ℕ) → (atime mtime ctime : ℕ) → Course
-times path atime mtime ctime = set_attrs path (λ a. record a { atime = atime; mtime = mtime; ctime = ctime })
+times path atime mtime ctime = set_attrs path
+    (λ a. record a { atime = atime; mtime = mtime; ctime = ctime })
 
--- ---- every command, where a file may have `limit` bytes. `begin`, `end` and `commit` read and change nothing
+-- ---- every command, where a file may have `limit` bytes. `begin`, `end` and `commit` read and
+-- change nothing
 
 abbrev pub course : (limit : ℕ) → Command → Course
 course limit (Create path oid) = named path (create path oid)
@@ -92,7 +101,16 @@ replies limit (c ∷ cs) m = reply limit c m ∷ replies limit cs (after limit c
 
 -- ---- commands are compared without the ids of new objects, which a job does not name
 
+abbrev pub with_id : Oid → Command → Command
+with_id oid (Create path o) = Create path oid
+with_id oid (Mkdir path o) = Mkdir path oid
+with_id oid c = c
+
 abbrev pub without_id : Command → Command
-without_id (Create path oid) = Create path (record { 0 = 0 })
-without_id (Mkdir path oid) = Mkdir path (record { 0 = 0 })
-without_id c = c
+without_id c = with_id (record { 0 = 0 }) c
+
+-- the command names a new object
+abbrev pub makes_object : Command → Bool
+makes_object (Create path oid) = true
+makes_object (Mkdir path oid) = true
+makes_object c = false

@@ -1,5 +1,6 @@
 -- Objects, and how one of them is changed (docs/commands.md, "Numbers").
-use Rattle.std.specs.Prelude.{ℕ, ◌+◌, ◌-◌, ◌^◌, List, [], ◌∷◌, Bool, false, ◌&&◌, ◌||◌, ◌==◌, nat_le, nat_lt, slice_index, if◌then◌else◌}
+use Rattle.std.specs.Prelude.{ℕ, ◌+◌, ◌-◌, ◌^◌, List, [], ◌∷◌, Bool, false, ◌&&◌, ◌||◌, ◌==◌}
+use Rattle.std.specs.Prelude.{nat_le, nat_lt, slice_index, if◌then◌else◌}
 use Rattle.r4_base.specs.Key.{rank}
 use Rattle.r4_base.specs.Name.{key_of_name}
 use Rattle.r4_base.specs.Value.{Stat, Entry, Byte}
@@ -64,36 +65,68 @@ abbrev pub set_attr : Object → Attr → Edits
 set_attr o a = record { cuts = []; zeros = []; puts = (stat_rank o.target, Stat a) ∷ [] }
 
 abbrev pub set_entry : (dir : Object) → (name : List ℕ) → Target → Edits
-set_entry dir n t = record { cuts = []; zeros = []; puts = (entry_rank dir.target n, Entry n t) ∷ [] }
+set_entry dir n t = record {
+  cuts = [];
+  zeros = [];
+  puts = (entry_rank dir.target n, Entry n t)
+      ∷ [];
+}
 
 abbrev pub cut_key : ℕ → Edits
 cut_key k = record { cuts = (k, k + 1) ∷ []; zeros = []; puts = [] }
 
 -- the bytes of a body from an offset up to another one
 abbrev pub cut_body : Object → (from to : ℕ) → Edits
-cut_body o from to = record { cuts = (byte_rank o.target from, byte_rank o.target to) ∷ []; zeros = []; puts = [] }
+cut_body o from to = record {
+  cuts = (byte_rank o.target from, byte_rank o.target to)
+      ∷ [];
+  zeros = [];
+  puts = [];
+}
 
 abbrev pub zero_body : Object → (from to : ℕ) → Edits
-zero_body o from to = record { cuts = []; zeros = (byte_rank o.target from, byte_rank o.target to) ∷ []; puts = [] }
+zero_body o from to = record {
+  cuts = [];
+  zeros =
+      (byte_rank o.target from, byte_rank o.target to) ∷ [];
+  puts = [];
+}
 
 abbrev pub byte_pairs : (key : ℕ) → List ℕ → Pairs
 byte_pairs k [] = []
 byte_pairs k (x ∷ xs) = (k, Byte x) ∷ byte_pairs (k + 1) xs
 
 abbrev pub set_body : Object → (from : ℕ) → List ℕ → Edits
-set_body o from xs = record { cuts = []; zeros = []; puts = byte_pairs (byte_rank o.target from) xs }
+set_body o from xs = record {
+  cuts = [];
+  zeros = [];
+  puts = byte_pairs
+      (byte_rank o.target from) xs;
+}
 
--- An entry that names the object goes. A directory goes with it, and with the last one a file goes with its bytes.
+-- An entry that names the object goes. A directory goes with it, and with the last one a file goes
+-- with its bytes.
 abbrev pub unnamed : Object → Edits
 unnamed o =
     if is_dir o then cut_key (stat_rank o.target)
-    else if nat_le o.attr.nlink 1 then and_also (cut_key (stat_rank o.target)) (cut_body o 0 o.attr.size)
+    else if nat_le o.attr.nlink 1
+    then and_also (cut_key (stat_rank o.target)) (cut_body o 0 o.attr.size)
     else set_attr o (link_less o.attr)
 
 -- ---- new objects
 
 abbrev pub newborn : (mode nlink : ℕ) → Attr
-newborn mode nlink = record { mode = mode; nlink = nlink; size = 0; uid = 0; gid = 0; atime = 0; mtime = 0; ctime = 0; bytes = 0 }
+newborn mode nlink = record {
+  mode = mode;
+  nlink = nlink;
+  size = 0;
+  uid = 0;
+  gid = 0;
+  atime = 0;
+  mtime = 0;
+  ctime = 0;
+  bytes = 0;
+}
 
 abbrev pub new_file : Attr
 new_file = newborn 0o100644 1
@@ -101,6 +134,15 @@ new_file = newborn 0o100644 1
 abbrev pub new_directory : Attr
 new_directory = newborn 0o40755 2
 
--- what is made in a directory under a name: its locality is the directory's id, and its ordering that of the entry's key
+-- what is made in a directory under a name: its locality is the directory's id, and its ordering
+-- that of the entry's key
 abbrev pub made_in : (dir : Object) → (name : List ℕ) → Oid → Attr → Object
-made_in dir n oid a = record { target = record { locality = dir.target.oid.0; ordering = slice_index (key_of_name dir.target.oid.0 n).el 1; oid = oid }; attr = a }
+made_in dir n oid a = record {
+  target = record {
+    locality = dir.target.oid.0;
+    ordering =
+        slice_index (key_of_name dir.target.oid.0 n).el 1;
+    oid = oid;
+  };
+  attr = a;
+}

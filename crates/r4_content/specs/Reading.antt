@@ -1,6 +1,7 @@
 -- Commands that change nothing.
 use Rattle.r4_content.specs.declared.command.Command.{Command}
-use Rattle.r4_content.specs.declared.command.Command.TheVariants.{Read, Stat, Names, Begin, End, Commit}
+use Rattle.r4_content.specs.declared.command.Command.TheVariants.{Read, Stat, Names, Begin, End}
+use Rattle.r4_content.specs.declared.command.Command.TheVariants.{Commit}
 
 -- the command reads at most
 abbrev pub OnlyReads : Command → Type 0

@@ -1,4 +1,5 @@
--- What a command has seen of a content (docs/commands.md, "Reading"): a list of pairs that rises by key and is asked as a content is.
+-- What a command has seen of a content (docs/commands.md, "Reading"): a list of pairs that rises
+-- by key and is asked as a content is.
 use Rattle.std.specs.Prelude.{◌≡◌, ℕ, true, T}
 use Rattle.std.specs.List.{filter}
 use Rattle.std.specs.Ordering.{nat_cmp}
@@ -22,4 +23,5 @@ Rises s = T (is_sorted nat_cmp s)
 -- What was seen is what the content has, at each key that the command asks for.
 pub record IsSeen (limit : ℕ) (c : Command) (s : Pairs) (m : Content) : Type 0 where
   pub rises : Rises s
-  pub agrees : (k : ℕ) → is_in (asked (course limit c) (of_seen s)) k ≡ true → find nat_cmp k s ≡ at_key m k
+  pub agrees : (k : ℕ) → is_in (asked (course limit c) (of_seen s)) k ≡ true → find nat_cmp k s
+      ≡ at_key m k

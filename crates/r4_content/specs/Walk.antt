@@ -1,5 +1,6 @@
 -- Where a path leads (docs/volume.md, "Paths").
-use Rattle.std.specs.Prelude.{ℕ, ◌^◌, List, [], ◌∷◌, Bool, ◌&&◌, nat_eq, nat_lt, bytes_eq, Option, Some, None, if◌then◌else◌}
+use Rattle.std.specs.Prelude.{ℕ, ◌^◌, List, [], ◌∷◌, Bool, ◌&&◌, nat_eq, nat_lt, bytes_eq, Option}
+use Rattle.std.specs.Prelude.{Some, None, if◌then◌else◌}
 use Rattle.std.specs.Option.{is_none}
 use Rattle.std.specs.List.{list_all}
 use Rattle.r4_base.specs.Key.{rank}
@@ -31,7 +32,8 @@ target_in n (Some (Byte x)) = None
 
 -- what the entry of exactly this name names, in the directory of this id
 abbrev pub target_at : Content → (dir : ℕ) → (name : List ℕ) → Option Target
-target_at m dir n = if nat_lt dir (2 ^ 60) then target_in n (at_key m (rank (key_of_name dir n))) else None
+target_at m dir n = if nat_lt dir (2 ^ 60)
+    then target_in n (at_key m (rank (key_of_name dir n))) else None
 
 -- where a walk ends: at an object with its attributes, or why at none
 pub data Walked : Type 0 where
@@ -44,12 +46,14 @@ abbrev pub walk_on : (Target → Walked) → Option Target → Walked
 walk_on go None = NoEntry
 walk_on go (Some o) = go o
 
--- From an object with these attributes, if it has any, each name is a step: it needs a directory, and in it an entry of exactly that name,
+-- From an object with these attributes, if it has any, each name is a step: it needs a directory,
+-- and in it an entry of exactly that name,
 -- whose object has stat data.
 unfoldable pub walk_from : Content → List (List ℕ) → Target → Option Attr → Walked
 walk_from m names o None = NoEntry
 walk_from m [] o (Some a) = At o a
-walk_from m (n ∷ names) o (Some a) = if is_directory a then walk_on (λ p. walk_from m names p (attr_at m p)) (target_at m o.oid.0 n) else NoDirectory
+walk_from m (n ∷ names) o (Some a) = if is_directory a then walk_on
+    (λ p. walk_from m names p (attr_at m p)) (target_at m o.oid.0 n) else NoDirectory
 
 abbrev pub walk_root : Content → List (List ℕ) → Option Attr → Walked
 walk_root m names None = NoDirectory
@@ -57,9 +61,11 @@ walk_root m names (Some a) = walk_from m names root_object (Some a)
 
 -- the names are looked at first; a root without stat data is no directory
 abbrev pub walk : Content → List (List ℕ) → Walked
-walk m names = if list_all (λ n. is_none (name_fault n)) names then walk_root m names (attr_at m root_object) else NoName
+walk m names = if list_all (λ n. is_none (name_fault n)) names
+    then walk_root m names (attr_at m root_object) else NoName
 
--- ---- the names of a path that begins with a slash: what stands between the slashes behind it, and none in the slash alone
+-- ---- the names of a path that begins with a slash: what stands between the slashes behind it,
+-- and none in the slash alone
 
 abbrev pub before_first : ℕ → List (List ℕ) → List (List ℕ)
 before_first x [] = (x ∷ []) ∷ []

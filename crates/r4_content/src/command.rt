@@ -2,6 +2,7 @@
 
 ghost use Rattle.std.specs.Prelude.{◌≡◌, IfOk};
 ghost use Rattle.r4_content.specs.Groups.{IsOfBytes, IsOfAttributes, IsOfEntries};
+ghost use Rattle.r4_content.specs.Meaning.{makes_object};
 
 use crate::path::Path;
 use r4_base::{Bytes, Memory, Oid};
@@ -101,6 +102,13 @@ pub enum Command {
 }
 
 impl Command {
+    /// Whether the command makes an object where it is done, so that it is given a number for it.
+    pub fn makes_object(&self) -> bool
+        ensures { result ≡ makes_object self.now }
+    {
+        matches!(*self, Command::Create { .. } | Command::Mkdir { .. })
+    }
+
     /// An equal command. Its paths have memory of their own, and the bytes of a text are shared.
     pub fn copy(&self, alloc: Global) -> Result<Command, Memory>
         ensures { IfOk result (λ c. c ≡ self.now) }

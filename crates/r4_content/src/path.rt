@@ -1,6 +1,6 @@
 //! Paths of names.
 
-ghost use Rattle.std.specs.Prelude.{◌≡◌, IfOk};
+ghost use Rattle.std.specs.Prelude.{◌≡◌, ◌↔◌, IfOk, IsTrue};
 
 use r4_base::{Memory, Name};
 use std::alloc::Global;
@@ -35,6 +35,13 @@ impl Path {
         self.names.as_slice()
     }
 
+    /// Whether the two paths have the same names.
+    pub fn is_same(&self, other: &Path) -> bool
+        ensures { IsTrue result ↔ (self.now ≡ other.now) }
+    {
+        are_same(self.as_slice(), other.as_slice())
+    }
+
     /// The same path in memory of its own.
     pub fn copy(&self, alloc: Global) -> Result<Path, Memory>
         ensures { IfOk result (λ p. p ≡ self.now) }
@@ -45,4 +52,19 @@ impl Path {
         }
         Ok(Path { names })
     }
+}
+
+// Whether these are the same names, one after another.
+fn are_same(names: &[Name], others: &[Name]) -> bool
+    ensures { IsTrue result ↔ (names.now ≡ others.now) }
+{
+    if names.len() != others.len() {
+        return false;
+    }
+    for i in 0..names.len() {
+        if names[i].as_slice() != others[i].as_slice() {
+            return false;
+        }
+    }
+    true
 }

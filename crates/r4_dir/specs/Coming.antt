@@ -1,5 +1,6 @@
 -- Where the ways of a command lead on what was seen (docs/commands.md, "Ways").
-use Rattle.std.specs.Prelude.{◌≡◌, ◌<◌, ◌^◌, ℕ, List, [], length, ◌-◌, map, slice_index_or, All, None}
+use Rattle.std.specs.Prelude.{◌≡◌, ◌<◌, ◌^◌, ℕ, List, [], length, ◌-◌, map, slice_index_or, All}
+use Rattle.std.specs.Prelude.{None}
 use Rattle.r4_base.specs.Name.{name_fault}
 use Rattle.r4_content.specs.Course.{Course, ending}
 use Rattle.r4_content.specs.Edited.{Pairs, no_edits}
@@ -22,11 +23,13 @@ IsSmall o = (o.target.oid.0 < 2 ^ 60) × (o.target.locality < 2 ^ 60)
 
 -- the way comes to a, whatever follows
 abbrev pub Comes : {A : Type 0} → ((A → Course) → Course) → Pairs → A → Type 0
-Comes {A} way s a = (next : A → Course) → ending (way next) (of_seen s) ≡ ending (next a) (of_seen s)
+Comes {A} way s a = (next : A → Course) → ending (way next) (of_seen s)
+    ≡ ending (next a) (of_seen s)
 
 -- the way ends, and the command is refused
 abbrev pub Stops : {A : Type 0} → ((A → Course) → Course) → Pairs → Reply → Type 0
-Stops {A} way s r = (next : A → Course) → ending (way next) (of_seen s) ≡ record { edits = no_edits; reply = r }
+Stops {A} way s r = (next : A → Course) → ending (way next) (of_seen s)
+    ≡ record { edits = no_edits; reply = r }
 
 -- each is a name
 abbrev pub AreNames : List (List ℕ) → Type 0
@@ -38,28 +41,38 @@ last_of path = slice_index_or path (length path - 1) []
 
 -- the same of ways that come to a directory and a name
 abbrev pub ComesFree : List (List ℕ) → Pairs → Object → Type 0
-ComesFree path s dir = (next : Object → List ℕ → Course) → ending (to_free path next) (of_seen s) ≡ ending (next dir (last_of path)) (of_seen s)
+ComesFree path s dir = (next : Object → List ℕ → Course) → ending (to_free path next) (of_seen s)
+    ≡ ending (next dir (last_of path)) (of_seen s)
 
 abbrev pub StopsFree : List (List ℕ) → Pairs → Reply → Type 0
-StopsFree path s r = (next : Object → List ℕ → Course) → ending (to_free path next) (of_seen s) ≡ record { edits = no_edits; reply = r }
+StopsFree path s r = (next : Object → List ℕ → Course) → ending (to_free path next) (of_seen s)
+    ≡ record { edits = no_edits; reply = r }
 
 -- of ways that come to a place and a name below it
 abbrev pub ComesParent : Reply → List (List ℕ) → Pairs → Place → Type 0
-ComesParent r path s p = (next : Place → List ℕ → Course) → ending (to_parent r path next) (of_seen s) ≡ ending (next p (last_of path)) (of_seen s)
+ComesParent r path s p = (next : Place → List ℕ → Course)
+    → ending (to_parent r path next) (of_seen s) ≡ ending (next p (last_of path)) (of_seen s)
 
 abbrev pub StopsParent : Reply → List (List ℕ) → Pairs → Reply → Type 0
-StopsParent r path s e = (next : Place → List ℕ → Course) → ending (to_parent r path next) (of_seen s) ≡ record { edits = no_edits; reply = e }
+StopsParent r path s e = (next : Place → List ℕ → Course)
+    → ending (to_parent r path next) (of_seen s) ≡ record { edits = no_edits; reply = e }
 
 -- and of those that come to a directory, a name there, and the place of the object that has it
 abbrev pub ComesEntry : Reply → List (List ℕ) → Pairs → Object → Place → Type 0
-ComesEntry r path s dir p = (next : Object → List ℕ → Place → Course) → ending (to_entry r path next) (of_seen s) ≡ ending (next dir (last_of path) p) (of_seen s)
+ComesEntry r path s dir p = (next : Object → List ℕ → Place → Course)
+    → ending (to_entry r path next) (of_seen s) ≡ ending (next dir (last_of path) p) (of_seen s)
 
 abbrev pub StopsEntry : Reply → List (List ℕ) → Pairs → Reply → Type 0
-StopsEntry r path s e = (next : Object → List ℕ → Place → Course) → ending (to_entry r path next) (of_seen s) ≡ record { edits = no_edits; reply = e }
+StopsEntry r path s e = (next : Object → List ℕ → Place → Course)
+    → ending (to_entry r path next) (of_seen s) ≡ record { edits = no_edits; reply = e }
 
--- and of ways of a move: an object with its directory and its name there, and the directory that it moves to with the new name
+-- and of ways of a move: an object with its directory and its name there, and the directory that
+-- it moves to with the new name
 abbrev pub ComesEnds : (from to : List (List ℕ)) → Pairs → (dir object new_dir : Object) → Type 0
-ComesEnds from to s dir o new_dir = (next : Object → List ℕ → Object → Object → List ℕ → Course) → ending (to_ends from to next) (of_seen s) ≡ ending (next dir (last_of from) o new_dir (last_of to)) (of_seen s)
+ComesEnds from to s dir o new_dir = (next : Object → List ℕ → Object → Object → List ℕ → Course)
+    → ending (to_ends from to next) (of_seen s)
+    ≡ ending (next dir (last_of from) o new_dir (last_of to)) (of_seen s)
 
 abbrev pub StopsEnds : (from to : List (List ℕ)) → Pairs → Reply → Type 0
-StopsEnds from to s e = (next : Object → List ℕ → Object → Object → List ℕ → Course) → ending (to_ends from to next) (of_seen s) ≡ record { edits = no_edits; reply = e }
+StopsEnds from to s e = (next : Object → List ℕ → Object → Object → List ℕ → Course)
+    → ending (to_ends from to next) (of_seen s) ≡ record { edits = no_edits; reply = e }

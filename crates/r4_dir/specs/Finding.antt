@@ -1,5 +1,5 @@
 -- What was seen at one key, runs of bytes aside.
-use Rattle.std.specs.Prelude.{ℕ, List, [], ◌∷◌, ◌==◌, if◌then◌else◌, Option, Some, None}
+use Rattle.std.specs.Prelude.{ℕ, List, length, [], ◌∷◌, ◌==◌, if◌then◌else◌, Option, Some, None}
 use Rattle.r4_base.specs.Key.{rank}
 use Rattle.r4_base.specs.Value.{Value, Stat, Entry, Byte, value_of}
 use Rattle.r4_content.specs.Ways.{Named}
@@ -11,6 +11,11 @@ abbrev pub one_at : List SeenPart → (key : ℕ) → Option Value
 one_at [] k = None
 one_at (One key v ∷ parts) k = if rank key == k then Some (value_of v) else one_at parts k
 one_at (Run r ∷ parts) k = one_at parts k
+
+-- the first key of a part; a run of no bytes has none
+abbrev pub first_in : SeenPart → Option ℕ
+first_in (One key v) = Some (rank key)
+first_in (Run r) = if length r.bytes == 0 then None else Some (rank r.from)
 
 -- nothing, or a byte
 abbrev pub IsNoneOrByte : Option Value → Type 0

@@ -9,7 +9,11 @@ use Rattle.r4_dir.specs.declared.ways.OfRoot.{OfRoot}
 use Rattle.r4_dir.specs.declared.ways.OfRoot.TheVariants.{Isdir as RootIsdir, Loop as RootLoop}
 
 abbrev pub place_found : held.Found → Place
-place_found f = record { here = object_of f.object; above = map object_of f.above.items ++ object_of f.dir ∷ [] }
+place_found f = record {
+  here = object_of f.object;
+  above = map object_of f.above.items
+      ++ object_of f.dir ∷ [];
+}
 
 abbrev pub root_reply : OfRoot → Reply
 root_reply RootIsdir = Isdir

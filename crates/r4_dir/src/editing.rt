@@ -4,7 +4,7 @@ ghost use Rattle.std.specs.Prelude.{◌≡◌, IfOk};
 ghost use Rattle.r4_base.specs.Key.{rank, stat_key};
 ghost use Rattle.r4_content.specs.Edited.{no_edits};
 ghost use Rattle.r4_content.specs.Entries.{name_in};
-ghost use Rattle.r4_content.specs.Held.{ending_of};
+ghost use Rattle.r4_content.specs.Held.{HoldsAtMost, ending_of};
 ghost use Rattle.r4_content.specs.Objects.{entry_rank, set_attr};
 ghost use Rattle.r4_content.specs.declared.reply.Reply.TheVariants.{Okay};
 ghost use Rattle.r4_dir.specs.Changes.{edits_made};
@@ -19,7 +19,8 @@ use std::alloc::Global;
 
 /// A reply, and nothing changes.
 pub fn answer(alloc: Global, reply: Reply) -> Edits
-    ensures { ending_of result ≡ record { edits = no_edits; reply = reply } }
+    ensures ending { ending_of result ≡ record { edits = no_edits; reply = reply } }
+    ensures flat { HoldsAtMost 0 0 0 result }
 {
     Edits {
         cuts: Vec::new(alloc),
@@ -65,7 +66,8 @@ pub(crate) fn edits(alloc: Global, changes: Changes) -> Edits
 /// The key of an object's stat data.
 pub fn stat_key(object: &Object) -> Key
     requires { IsSmall object.now }
-    ensures { result ≡ stat_key object.now.target.locality object.now.target.ordering object.now.target.oid }
+    ensures { result
+        ≡ stat_key object.now.target.locality object.now.target.ordering object.now.target.oid }
 {
     let target = object.target;
     Key::stat(target.locality, target.ordering, target.oid)
@@ -74,7 +76,8 @@ pub fn stat_key(object: &Object) -> Key
 /// An object gets these attributes.
 pub fn set_attr(alloc: Global, object: &Object, attr: Attr) -> Result<Edits, Memory>
     requires { IsSmall object.now }
-    ensures { IfOk result (λ e. ending_of e ≡ record { edits = set_attr (object_of object.now) attr; reply = Okay }) }
+    ensures { IfOk result (λ e. ending_of e
+        ≡ record { edits = set_attr (object_of object.now) attr; reply = Okay }) }
 {
     let mut changes = no_changes(alloc);
     changes.puts.push((stat_key(object), Value::Attr(attr)))?;
@@ -92,7 +95,12 @@ pub(crate) fn name_in(
     requires key { rank key ≡ entry_rank dir.now.target name.now }
     requires dir { IsSmall dir.now }
     requires object { IsSmall object.now }
-    ensures { IfOk result (λ e. ending_of e ≡ record { edits = name_in (object_of dir.now) name.now (object_of object.now); reply = Okay }) }
+    ensures { IfOk result (λ e. ending_of e
+        ≡ record {
+          edits = name_in (object_of dir.now) name.now
+              (object_of object.now);
+          reply = Okay;
+        }) }
 {
     let more = entry_more(is_dir(object), dir.attr);
     let mut changes = no_changes(alloc);

@@ -40,7 +40,8 @@ fn newborn(mode: u16, nlink: u32) -> Attr
 /// What `create` changes.
 pub fn plan_create(alloc: Global, path: &[Name], oid: Oid, seen: &Seen) -> Result<Edits, Memory>
     requires { Rises (pairs_of seen.now) }
-    ensures { IfOk result (λ e. ending_of e ≡ ending (named path.now (create path.now oid)) (of_seen (pairs_of seen.now))) }
+    ensures { IfOk result (λ e. ending_of e
+        ≡ ending (named path.now (create path.now oid)) (of_seen (pairs_of seen.now))) }
 {
     if !is_legal(path) {
         return Ok(answer(alloc, Reply::Name));
@@ -68,7 +69,8 @@ pub fn plan_create(alloc: Global, path: &[Name], oid: Oid, seen: &Seen) -> Resul
 /// What `mkdir` changes.
 pub fn plan_mkdir(alloc: Global, path: &[Name], oid: Oid, seen: &Seen) -> Result<Edits, Memory>
     requires { Rises (pairs_of seen.now) }
-    ensures { IfOk result (λ e. ending_of e ≡ ending (named path.now (mkdir path.now oid)) (of_seen (pairs_of seen.now))) }
+    ensures { IfOk result (λ e. ending_of e
+        ≡ ending (named path.now (mkdir path.now oid)) (of_seen (pairs_of seen.now))) }
 {
     if !is_legal(path) {
         return Ok(answer(alloc, Reply::Name));
@@ -99,7 +101,9 @@ pub fn plan_mkdir(alloc: Global, path: &[Name], oid: Oid, seen: &Seen) -> Result
 /// What `link` changes.
 pub fn plan_link(alloc: Global, from: &[Name], to: &[Name], seen: &Seen) -> Result<Edits, Memory>
     requires { Rises (pairs_of seen.now) }
-    ensures { IfOk result (λ e. ending_of e ≡ ending (named from.now (named to.now (link from.now to.now))) (of_seen (pairs_of seen.now))) }
+    ensures { IfOk result (λ e. ending_of e
+        ≡ ending (named from.now (named to.now (link from.now to.now))) (of_seen
+        (pairs_of seen.now))) }
 {
     if !is_legal(from) || !is_legal(to) {
         return Ok(answer(alloc, Reply::Name));

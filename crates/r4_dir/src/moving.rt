@@ -1,6 +1,7 @@
 //! The command that moves entries (docs/commands.md, "Entries").
 
-ghost use Rattle.std.specs.Prelude.{◌≡◌, ◌<◌, Some, ◌&&◌, ◌||◌, not, length, map, IfOk, MatchResult};
+ghost use Rattle.std.specs.Prelude.{◌≡◌, ◌<◌, Some, ◌&&◌, ◌||◌, not, length, map, IfOk};
+ghost use Rattle.std.specs.Prelude.{MatchResult};
 ghost use Rattle.r4_base.specs.Name.{key_of_name, name_fault};
 ghost use Rattle.r4_base.specs.Volume.{is_directory};
 ghost use Rattle.r4_content.specs.Course.{ending};
@@ -55,7 +56,9 @@ fn is_among(object: &Object, above: &[Object]) -> bool
 
 // The object is a directory on the way to a place, or that place.
 fn is_loop(object: &Object, above: &[Object], here: &Object) -> bool
-    ensures { result ≡ (is_dir (object_of object.now) && (is_among (object_of object.now) (map object_of above.now) || is_same (object_of object.now) (object_of here.now))) }
+    ensures { result ≡ (is_dir (object_of object.now)
+        && (is_among (object_of object.now) (map object_of above.now)
+        || is_same (object_of object.now) (object_of here.now))) }
 {
     is_dir(object) && (is_among(object, above) || is_same(object, here))
 }
@@ -80,10 +83,15 @@ fn ends_of(
     requires rises { Rises (pairs_of seen.now) }
     requires legal { AreNames from.now × AreNames to.now }
     requires some { 0 < length to.now }
-    ensures small { IfOk result (λ r. IfOk r (λ e. IsSmall e.dir × IsSmall e.object × IsSmall e.new_dir × (0 < length from.now))) }
-    ensures key { IfOk result (λ r. IfOk r (λ e. e.key ≡ key_of_name e.dir.target.oid.0 (last_of from.now))) }
-    ensures new_key { IfOk result (λ r. IfOk r (λ e. e.new_key ≡ key_of_name e.new_dir.target.oid.0 (last_of to.now))) }
-    ensures comes { IfOk result (λ r. MatchResult r (λ e. ComesEnds from.now to.now (pairs_of seen.now) (object_of e.dir) (object_of e.object) (object_of e.new_dir)) (λ f. StopsEnds from.now to.now (pairs_of seen.now) f)) }
+    ensures small { IfOk result (λ r. IfOk r (λ e. IsSmall e.dir × IsSmall e.object
+        × IsSmall e.new_dir × (0 < length from.now))) }
+    ensures key { IfOk result (λ r. IfOk r (λ e. e.key
+        ≡ key_of_name e.dir.target.oid.0 (last_of from.now))) }
+    ensures new_key { IfOk result (λ r. IfOk r (λ e. e.new_key
+        ≡ key_of_name e.new_dir.target.oid.0 (last_of to.now))) }
+    ensures comes { IfOk result (λ r. MatchResult r
+        (λ e. ComesEnds from.now to.now (pairs_of seen.now) (object_of e.dir) (object_of e.object)
+        (object_of e.new_dir)) (λ f. StopsEnds from.now to.now (pairs_of seen.now) f)) }
 {
     let found = match entry_of(alloc, seen, from, OfRoot::Loop)? {
         Ok(found) => found,
@@ -112,7 +120,9 @@ fn ends_of(
 // The attributes of the two directories of a move change, too.
 fn with_parents(changes: Changes, ends: &Ends) -> Result<Changes, Memory>
     requires { IsSmall ends.now.dir × IsSmall ends.now.new_dir }
-    ensures { IfOk result (λ c. edits_made c ≡ and_also (edits_made changes) (set_parents (object_of ends.now.dir) (object_of ends.now.new_dir) (is_directory ends.now.object.attr))) }
+    ensures { IfOk result (λ c. edits_made c
+        ≡ and_also (edits_made changes) (set_parents (object_of ends.now.dir)
+        (object_of ends.now.new_dir) (is_directory ends.now.object.attr))) }
 {
     let mut changes = changes;
     let of_directory = is_dir(&ends.object);
@@ -135,7 +145,9 @@ fn with_move(changes: Changes, ends: &Ends, name: &Name, new_name: &Name) -> Res
     requires key { ends.now.key ≡ key_of_name ends.now.dir.target.oid.0 name.now }
     requires new_key { ends.now.new_key ≡ key_of_name ends.now.new_dir.target.oid.0 new_name.now }
     requires small { IsSmall ends.now.dir × IsSmall ends.now.new_dir }
-    ensures { IfOk result (λ c. edits_made c ≡ and_also (edits_made changes) (moved (object_of ends.now.dir) name.now (object_of ends.now.object) (object_of ends.now.new_dir) new_name.now)) }
+    ensures { IfOk result (λ c. edits_made c
+        ≡ and_also (edits_made changes) (moved (object_of ends.now.dir) name.now
+        (object_of ends.now.object) (object_of ends.now.new_dir) new_name.now)) }
 {
     let mut changes = changes;
     let entry = Value::Entry(new_name.share()?, ends.object.target);
@@ -146,7 +158,9 @@ fn with_move(changes: Changes, ends: &Ends, name: &Name, new_name: &Name) -> Res
 
 // A directory comes to another one that has no room for its link.
 fn is_full_move(ends: &Ends) -> bool
-    ensures { result ≡ (is_dir (object_of ends.now.object) && not (is_same (object_of ends.now.dir) (object_of ends.now.new_dir)) && is_full (object_of ends.now.new_dir)) }
+    ensures { result ≡ (is_dir (object_of ends.now.object)
+        && not (is_same (object_of ends.now.dir) (object_of ends.now.new_dir))
+        && is_full (object_of ends.now.new_dir)) }
 {
     is_dir(&ends.object) && !is_same(&ends.dir, &ends.new_dir) && is_full(&ends.new_dir)
 }
@@ -163,7 +177,10 @@ fn plan_onto(
     requires key { ends.now.key ≡ key_of_name ends.now.dir.target.oid.0 name.now }
     requires new_key { ends.now.new_key ≡ key_of_name ends.now.new_dir.target.oid.0 new_name.now }
     requires small { IsSmall ends.now.dir × IsSmall ends.now.new_dir × IsSmall old.now }
-    ensures { IfOk result (λ e. ending_of e ≡ ending (replace (object_of ends.now.dir) name.now (object_of ends.now.object) (object_of ends.now.new_dir) new_name.now (object_of old.now)) (of_seen (pairs_of seen.now))) }
+    ensures { IfOk result (λ e. ending_of e
+        ≡ ending (replace (object_of ends.now.dir) name.now (object_of ends.now.object)
+        (object_of ends.now.new_dir) new_name.now (object_of old.now)) (of_seen
+        (pairs_of seen.now))) }
 {
     let of_directory = is_dir(old);
     if is_dir(&ends.object) {
@@ -198,7 +215,10 @@ fn plan_taken(
     requires key { ends.now.key ≡ key_of_name ends.now.dir.target.oid.0 name.now }
     requires new_key { ends.now.new_key ≡ key_of_name ends.now.new_dir.target.oid.0 new_name.now }
     requires small { IsSmall ends.now.dir × IsSmall ends.now.new_dir }
-    ensures { IfOk result (λ e. ending_of e ≡ ending (move_to (object_of ends.now.dir) name.now (object_of ends.now.object) (object_of ends.now.new_dir) new_name.now (Some (named_of entry.now))) (of_seen (pairs_of seen.now))) }
+    ensures { IfOk result (λ e. ending_of e
+        ≡ ending (move_to (object_of ends.now.dir) name.now (object_of ends.now.object)
+        (object_of ends.now.new_dir) new_name.now (Some (named_of entry.now))) (of_seen
+        (pairs_of seen.now))) }
 {
     if entry.name.as_slice() != new_name.as_slice() {
         let other = entry.name.share()?;
@@ -225,7 +245,9 @@ fn plan_move(
     requires key { ends.now.key ≡ key_of_name ends.now.dir.target.oid.0 name.now }
     requires new_key { ends.now.new_key ≡ key_of_name ends.now.new_dir.target.oid.0 new_name.now }
     requires small { IsSmall ends.now.dir × IsSmall ends.now.new_dir }
-    ensures { IfOk result (λ e. ending_of e ≡ ending (move (object_of ends.now.dir) name.now (object_of ends.now.object) (object_of ends.now.new_dir) new_name.now) (of_seen (pairs_of seen.now))) }
+    ensures { IfOk result (λ e. ending_of e
+        ≡ ending (move (object_of ends.now.dir) name.now (object_of ends.now.object)
+        (object_of ends.now.new_dir) new_name.now) (of_seen (pairs_of seen.now))) }
 {
     if let Some(entry) = entry_at(seen, ends.new_key) {
         return plan_taken(alloc, seen, ends, name, new_name, &entry);
@@ -240,7 +262,9 @@ fn plan_move(
 /// What `rename` changes.
 pub fn plan_rename(alloc: Global, from: &[Name], to: &[Name], seen: &Seen) -> Result<Edits, Memory>
     requires { Rises (pairs_of seen.now) }
-    ensures { IfOk result (λ e. ending_of e ≡ ending (named from.now (named to.now (rename from.now to.now))) (of_seen (pairs_of seen.now))) }
+    ensures { IfOk result (λ e. ending_of e
+        ≡ ending (named from.now (named to.now (rename from.now to.now))) (of_seen
+        (pairs_of seen.now))) }
 {
     if !is_legal(from) || !is_legal(to) {
         return Ok(answer(alloc, Reply::Name));

@@ -17,7 +17,8 @@ use std::alloc::Global;
 /// What `names` answers.
 pub fn plan_names(alloc: Global, path: &[Name], seen: &Seen) -> Result<Edits, Memory>
     requires { Rises (pairs_of seen.now) }
-    ensures { IfOk result (λ e. ending_of e ≡ ending (named path.now (names path.now)) (of_seen (pairs_of seen.now))) }
+    ensures { IfOk result (λ e. ending_of e
+        ≡ ending (named path.now (names path.now)) (of_seen (pairs_of seen.now))) }
 {
     if !is_legal(path) {
         return Ok(answer(alloc, Reply::Name));

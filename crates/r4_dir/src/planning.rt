@@ -20,7 +20,8 @@ use std::alloc::Global;
 pub fn plan(alloc: Global, command: &Command, seen: &Seen) -> Result<Edits, Memory>
     requires rises { Rises (pairs_of seen.now) }
     requires command { IsOfEntries command.now }
-    ensures { IfOk result (λ e. ending_of e ≡ ending (course greatest_size command.now) (of_seen (pairs_of seen.now))) }
+    ensures { IfOk result (λ e. ending_of e
+        ≡ ending (course greatest_size command.now) (of_seen (pairs_of seen.now))) }
 {
     match *command {
         Command::Create { ref path, oid } => plan_create(alloc, path.as_slice(), oid, seen),

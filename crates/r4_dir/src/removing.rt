@@ -65,7 +65,12 @@ pub(crate) fn unname_in(
     requires key { key ≡ key_of_name dir.now.target.oid.0 name.now }
     requires dir { IsSmall dir.now }
     requires object { IsSmall object.now }
-    ensures { IfOk result (λ e. ending_of e ≡ record { edits = unname_in (object_of dir.now) name.now (object_of object.now); reply = Okay }) }
+    ensures { IfOk result (λ e. ending_of e
+        ≡ record {
+          edits = unname_in (object_of dir.now) name.now
+              (object_of object.now);
+          reply = Okay;
+        }) }
 {
     let less = entry_less(is_dir(object), dir.attr);
     let mut changes = no_changes(alloc);
@@ -78,7 +83,8 @@ pub(crate) fn unname_in(
 /// An entry that names the object goes: a directory goes with it, and with the last one a file goes with its bytes.
 pub(crate) fn with_unnamed(changes: Changes, object: &Object) -> Result<Changes, Memory>
     requires { IsSmall object.now }
-    ensures { IfOk result (λ c. edits_made c ≡ and_also (edits_made changes) (unnamed (object_of object.now))) }
+    ensures { IfOk result (λ c. edits_made c
+        ≡ and_also (edits_made changes) (unnamed (object_of object.now))) }
 {
     let mut changes = changes;
     let stat = stat_key(object);
@@ -97,7 +103,8 @@ pub(crate) fn with_unnamed(changes: Changes, object: &Object) -> Result<Changes,
 // The keys of a file's bytes.
 fn body_of(object: &Object) -> Interval
     requires { IsSmall object.now }
-    ensures { interval_of result ≡ (byte_rank object.now.target 0, byte_rank object.now.target object.now.attr.size) }
+    ensures { interval_of result
+        ≡ (byte_rank object.now.target 0, byte_rank object.now.target object.now.attr.size) }
 {
     let target = object.target;
     Interval {
@@ -114,7 +121,8 @@ fn body_of(object: &Object) -> Interval
 /// What `unlink` changes.
 pub fn plan_unlink(alloc: Global, path: &[Name], seen: &Seen) -> Result<Edits, Memory>
     requires { Rises (pairs_of seen.now) }
-    ensures { IfOk result (λ e. ending_of e ≡ ending (named path.now (unlink path.now)) (of_seen (pairs_of seen.now))) }
+    ensures { IfOk result (λ e. ending_of e
+        ≡ ending (named path.now (unlink path.now)) (of_seen (pairs_of seen.now))) }
 {
     if !is_legal(path) {
         return Ok(answer(alloc, Reply::Name));
@@ -134,7 +142,8 @@ pub fn plan_unlink(alloc: Global, path: &[Name], seen: &Seen) -> Result<Edits, M
 /// What `rmdir` changes.
 pub fn plan_rmdir(alloc: Global, path: &[Name], seen: &Seen) -> Result<Edits, Memory>
     requires { Rises (pairs_of seen.now) }
-    ensures { IfOk result (λ e. ending_of e ≡ ending (named path.now (rmdir path.now)) (of_seen (pairs_of seen.now))) }
+    ensures { IfOk result (λ e. ending_of e
+        ≡ ending (named path.now (rmdir path.now)) (of_seen (pairs_of seen.now))) }
 {
     if !is_legal(path) {
         return Ok(answer(alloc, Reply::Name));

@@ -3,7 +3,9 @@
 ghost use Rattle.std.specs.Option.{is_none};
 ghost use Rattle.std.specs.FinMap.{find};
 ghost use Rattle.std.specs.Ordering.{nat_cmp};
-ghost use Rattle.std.specs.Prelude.{◌≡◌, ◌<◌, ◌^◌, ◌++◌, ◌∷◌, [], List, length, bytes_eq, if◌then◌else◌, IsTrue, None, IfOk, IfSome, MatchOption, MatchResult};
+ghost use Rattle.std.specs.Prelude.{◌≡◌, ◌<◌, ◌^◌, ◌++◌, ◌∷◌, [], List, length, bytes_eq};
+ghost use Rattle.std.specs.Prelude.{if◌then◌else◌, IsTrue, None, IfOk, IfSome, MatchOption};
+ghost use Rattle.std.specs.Prelude.{MatchResult};
 ghost use Rattle.r4_base.specs.Key.{rank};
 ghost use Rattle.r4_base.specs.Name.{key_of_name, name_fault};
 ghost use Rattle.r4_content.specs.Walk.{target_in};
@@ -15,7 +17,9 @@ ghost use Rattle.r4_content.specs.Seen.{Rises};
 ghost use Rattle.r4_content.specs.Ways.{object_at, step, to_object};
 ghost use Rattle.r4_content.specs.declared.reply.Reply.{Reply as SeenReply};
 ghost use Rattle.r4_content.specs.declared.reply.Reply.TheVariants.{Absent, Clash, Exists};
-ghost use Rattle.r4_dir.specs.Coming.{AreNames, Comes, ComesEntry, ComesFree, ComesParent, IsSmall, Stops, StopsEntry, StopsFree, StopsParent, last_of, object_of, place_of};
+ghost use Rattle.r4_dir.specs.Coming.{AreNames, Comes, ComesEntry, ComesFree, ComesParent, IsSmall};
+ghost use Rattle.r4_dir.specs.Coming.{Stops, StopsEntry, StopsFree, StopsParent, last_of};
+ghost use Rattle.r4_dir.specs.Coming.{object_of, place_of};
 ghost use Rattle.r4_dir.specs.Found.{place_found, root_reply};
 
 use crate::finding::{SeenEntry, attr_at, entry_at};
@@ -43,7 +47,8 @@ pub fn is_full(object: &Object) -> bool
 pub fn object_at(seen: &Seen, target: Target) -> Option<Object>
     requires { Rises (pairs_of seen.now) }
     ensures small { IfSome result IsSmall }
-    ensures comes { MatchOption result (Stops (object_at target) (pairs_of seen.now) Absent) (λ o. Comes (object_at target) (pairs_of seen.now) (object_of o)) }
+    ensures comes { MatchOption result (Stops (object_at target) (pairs_of seen.now) Absent)
+        (λ o. Comes (object_at target) (pairs_of seen.now) (object_of o)) }
 {
     if target.locality >= OBJECT_END || target.oid.0 >= OBJECT_END {
         return None;
@@ -81,8 +86,11 @@ pub fn step_to(seen: &Seen, here: &Object, name: &Name) -> Result<Object, Reply>
     requires legal { name_fault name.now ≡ None }
     ensures small { IfOk result IsSmall }
     ensures comes { (above : List SeenObject) → MatchResult result
-        (λ o. Comes (λ next. step name.now next (record { here = object_of here.now; above = above })) (pairs_of seen.now) (record { here = object_of o; above = above ++ object_of here.now ∷ [] }))
-        (λ r. Stops (λ next. step name.now next (record { here = object_of here.now; above = above })) (pairs_of seen.now) r) }
+        (λ o. Comes (λ next. step name.now next
+        (record { here = object_of here.now; above = above })) (pairs_of seen.now)
+        (record { here = object_of o; above = above ++ object_of here.now ∷ [] }))
+        (λ r. Stops (λ next. step name.now next
+        (record { here = object_of here.now; above = above })) (pairs_of seen.now) r) }
 {
     if !is_dir(here) {
         return Err(Reply::Notdir);
@@ -122,7 +130,9 @@ pub fn walk_to(alloc: Global, seen: &Seen, path: &[Name]) -> Result<Result<Place
     requires rises { Rises (pairs_of seen.now) }
     requires legal { AreNames path.now }
     ensures small { IfOk result (λ r. IfOk r (λ p. IsSmall p.here)) }
-    ensures comes { IfOk result (λ r. MatchResult r (λ p. Comes (to_object path.now) (pairs_of seen.now) (place_of p)) (λ e. Stops (to_object path.now) (pairs_of seen.now) e)) }
+    ensures comes { IfOk result (λ r. MatchResult r
+        (λ p. Comes (to_object path.now) (pairs_of seen.now) (place_of p))
+        (λ e. Stops (to_object path.now) (pairs_of seen.now) e)) }
 {
     let Some(attr) = attr_at(
         seen,
@@ -160,8 +170,11 @@ pub fn free_in(alloc: Global, seen: &Seen, path: &[Name]) -> Result<Result<Free,
     requires rises { Rises (pairs_of seen.now) }
     requires legal { AreNames path.now }
     ensures small { IfOk result (λ r. IfOk r (λ f. IsSmall f.dir × (0 < length path.now))) }
-    ensures key { IfOk result (λ r. IfOk r (λ f. f.key ≡ key_of_name f.dir.target.oid.0 (last_of path.now))) }
-    ensures comes { IfOk result (λ r. MatchResult r (λ f. ComesFree path.now (pairs_of seen.now) (object_of f.dir)) (λ e. StopsFree path.now (pairs_of seen.now) e)) }
+    ensures key { IfOk result (λ r. IfOk r (λ f. f.key
+        ≡ key_of_name f.dir.target.oid.0 (last_of path.now))) }
+    ensures comes { IfOk result (λ r. MatchResult r
+        (λ f. ComesFree path.now (pairs_of seen.now) (object_of f.dir))
+        (λ e. StopsFree path.now (pairs_of seen.now) e)) }
 {
     if path.is_empty() {
         return Ok(Err(Reply::Exists));
@@ -183,7 +196,8 @@ pub fn free_in(alloc: Global, seen: &Seen, path: &[Name]) -> Result<Result<Free,
 
 // The reply where a name's key is taken.
 fn taken(entry: &SeenEntry<'_>, name: &Name) -> Result<Reply, Memory>
-    ensures { IfOk result (λ r. r ≡ (if bytes_eq entry.now.name.now name.now then Exists else Clash entry.now.name.now)) }
+    ensures { IfOk result (λ r. r ≡ (if bytes_eq entry.now.name.now name.now then Exists
+        else Clash entry.now.name.now)) }
 {
     if entry.name.as_slice() == name.as_slice() {
         return Ok(Reply::Exists);
@@ -203,7 +217,9 @@ pub(crate) fn parent_of(
     requires legal { AreNames path.now }
     requires some { 0 < length path.now }
     ensures small { IfOk result (λ r. IfOk r (λ p. IsSmall p.here)) }
-    ensures comes { (of_root : SeenReply) → IfOk result (λ r. MatchResult r (λ p. ComesParent of_root path.now (pairs_of seen.now) (place_of p)) (λ e. StopsParent of_root path.now (pairs_of seen.now) e)) }
+    ensures comes { (of_root : SeenReply) → IfOk result (λ r. MatchResult r
+        (λ p. ComesParent of_root path.now (pairs_of seen.now) (place_of p))
+        (λ e. StopsParent of_root path.now (pairs_of seen.now) e)) }
 {
     walk_to(alloc, seen, &path[..path.len() - 1])
 }
@@ -224,8 +240,11 @@ fn entry_named(alloc: Global, seen: &Seen, path: &[Name]) -> Result<Result<Found
     requires legal { AreNames path.now }
     requires some { 0 < length path.now }
     ensures small { IfOk result (λ r. IfOk r (λ f. IsSmall f.dir × IsSmall f.object)) }
-    ensures key { IfOk result (λ r. IfOk r (λ f. f.key ≡ key_of_name f.dir.target.oid.0 (last_of path.now))) }
-    ensures comes { (of_root : SeenReply) → IfOk result (λ r. MatchResult r (λ f. ComesEntry of_root path.now (pairs_of seen.now) (object_of f.dir) (place_found f)) (λ e. StopsEntry of_root path.now (pairs_of seen.now) e)) }
+    ensures key { IfOk result (λ r. IfOk r (λ f. f.key
+        ≡ key_of_name f.dir.target.oid.0 (last_of path.now))) }
+    ensures comes { (of_root : SeenReply) → IfOk result (λ r. MatchResult r
+        (λ f. ComesEntry of_root path.now (pairs_of seen.now) (object_of f.dir) (place_found f))
+        (λ e. StopsEntry of_root path.now (pairs_of seen.now) e)) }
 {
     let place = match parent_of(alloc, seen, path)? {
         Ok(place) => place,
@@ -261,9 +280,13 @@ pub fn entry_of(
 ) -> Result<Result<Found, Reply>, Memory>
     requires rises { Rises (pairs_of seen.now) }
     requires legal { AreNames path.now }
-    ensures small { IfOk result (λ r. IfOk r (λ f. IsSmall f.dir × IsSmall f.object × (0 < length path.now))) }
-    ensures key { IfOk result (λ r. IfOk r (λ f. f.key ≡ key_of_name f.dir.target.oid.0 (last_of path.now))) }
-    ensures comes { IfOk result (λ r. MatchResult r (λ f. ComesEntry (root_reply of_root) path.now (pairs_of seen.now) (object_of f.dir) (place_found f)) (λ e. StopsEntry (root_reply of_root) path.now (pairs_of seen.now) e)) }
+    ensures small { IfOk result (λ r. IfOk r (λ f. IsSmall f.dir × IsSmall f.object
+        × (0 < length path.now))) }
+    ensures key { IfOk result (λ r. IfOk r (λ f. f.key
+        ≡ key_of_name f.dir.target.oid.0 (last_of path.now))) }
+    ensures comes { IfOk result (λ r. MatchResult r
+        (λ f. ComesEntry (root_reply of_root) path.now (pairs_of seen.now) (object_of f.dir)
+        (place_found f)) (λ e. StopsEntry (root_reply of_root) path.now (pairs_of seen.now) e)) }
 {
     if path.is_empty() {
         return Ok(Err(reply_of_root(of_root)));

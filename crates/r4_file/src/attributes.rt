@@ -14,7 +14,8 @@ use std::alloc::Global;
 /// What `stat` answers. Nothing changes.
 pub fn plan_stat(alloc: Global, path: &[Name], seen: &Seen) -> Result<Edits, Memory>
     requires { Rises (pairs_of seen.now) }
-    ensures { IfOk result (λ e. ending_of e ≡ ending (named path.now (stat path.now)) (of_seen (pairs_of seen.now))) }
+    ensures { IfOk result (λ e. ending_of e
+        ≡ ending (named path.now (stat path.now)) (of_seen (pairs_of seen.now))) }
 {
     if !is_legal(path) {
         return Ok(answer(alloc, Reply::Name));
@@ -31,7 +32,8 @@ pub fn plan_stat(alloc: Global, path: &[Name], seen: &Seen) -> Result<Edits, Mem
 /// What `chmod` changes: the low 12 bits of the mode become those of `mode`.
 pub fn plan_chmod(alloc: Global, path: &[Name], mode: u16, seen: &Seen) -> Result<Edits, Memory>
     requires { Rises (pairs_of seen.now) }
-    ensures { IfOk result (λ e. ending_of e ≡ ending (named path.now (chmod path.now mode)) (of_seen (pairs_of seen.now))) }
+    ensures { IfOk result (λ e. ending_of e
+        ≡ ending (named path.now (chmod path.now mode)) (of_seen (pairs_of seen.now))) }
 {
     if !is_legal(path) {
         return Ok(answer(alloc, Reply::Name));
@@ -57,7 +59,8 @@ pub fn plan_chown(
     seen: &Seen,
 ) -> Result<Edits, Memory>
     requires { Rises (pairs_of seen.now) }
-    ensures { IfOk result (λ e. ending_of e ≡ ending (named path.now (chown path.now uid gid)) (of_seen (pairs_of seen.now))) }
+    ensures { IfOk result (λ e. ending_of e
+        ≡ ending (named path.now (chown path.now uid gid)) (of_seen (pairs_of seen.now))) }
 {
     if !is_legal(path) {
         return Ok(answer(alloc, Reply::Name));
@@ -85,7 +88,9 @@ pub fn plan_times(
     seen: &Seen,
 ) -> Result<Edits, Memory>
     requires { Rises (pairs_of seen.now) }
-    ensures { IfOk result (λ e. ending_of e ≡ ending (named path.now (times path.now atime mtime ctime)) (of_seen (pairs_of seen.now))) }
+    ensures { IfOk result (λ e. ending_of e
+        ≡ ending (named path.now (times path.now atime mtime ctime)) (of_seen
+        (pairs_of seen.now))) }
 {
     if !is_legal(path) {
         return Ok(answer(alloc, Reply::Name));

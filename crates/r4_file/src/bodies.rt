@@ -1,10 +1,13 @@
 //! Commands on the bytes of a file (docs/commands.md, "What each command does").
 
-ghost use Rattle.std.specs.Prelude.{◌≡◌, ◌+◌, ◌<◌, ◌≤◌, ◌^◌, IfOk, MatchResult, length, map, nat_lt, replicate};
+ghost use Rattle.std.specs.Prelude.{◌≡◌, ◌+◌, ◌<◌, ◌≤◌, ◌^◌, IfOk, MatchResult, length, map};
+ghost use Rattle.std.specs.Prelude.{nat_lt, replicate};
 ghost use Rattle.r4_base.specs.Volume.{byte_rank};
-ghost use Rattle.r4_content.specs.Bodies.{fill_gap, larger, resize, truncate, truncated, write, written};
+ghost use Rattle.r4_content.specs.Bodies.{fill_gap, larger, resize, truncate, truncated, write};
+ghost use Rattle.r4_content.specs.Bodies.{written};
 ghost use Rattle.r4_content.specs.Course.{ending};
-ghost use Rattle.r4_content.specs.Held.{ending_of, fill_pairs, interval_of, pair_of, pairs_of};
+ghost use Rattle.r4_content.specs.Held.{HoldsAtMost, ending_of, fill_pairs, interval_of, pair_of};
+ghost use Rattle.r4_content.specs.Held.{pairs_of};
 ghost use Rattle.r4_content.specs.Meaning.{greatest_size, named};
 ghost use Rattle.r4_content.specs.Objects.{set_body, sized};
 ghost use Rattle.r4_content.specs.Seen.{Rises, of_seen};
@@ -23,7 +26,9 @@ fn file_at(alloc: Global, seen: &Seen, path: &[Name]) -> Result<Result<Object, R
     requires rises { Rises (pairs_of seen.now) }
     requires legal { AreNames path.now }
     ensures small { IfOk result (λ r. IfOk r IsSmall) }
-    ensures comes { IfOk result (λ r. MatchResult r (λ o. ComesToFile path.now (pairs_of seen.now) (object_of o)) (λ e. StopsAtFile path.now (pairs_of seen.now) e)) }
+    ensures comes { IfOk result (λ r. MatchResult r
+        (λ o. ComesToFile path.now (pairs_of seen.now) (object_of o))
+        (λ e. StopsAtFile path.now (pairs_of seen.now) e)) }
 {
     match walk_to(alloc, seen, path)? {
         Ok(place) => {
@@ -62,7 +67,8 @@ fn sized(attr: Attr, size: u64) -> Attr
 // A file gets another size: its bytes from there on go, or zeros are added.
 fn truncated(alloc: Global, file: &Object, size: u64) -> Result<Edits, Memory>
     requires { IsSmall file.now }
-    ensures { IfOk result (λ e. ending_of e ≡ record { edits = truncated (object_of file.now) size; reply = Okay }) }
+    ensures { IfOk result (λ e. ending_of e
+        ≡ record { edits = truncated (object_of file.now) size; reply = Okay }) }
 {
     let mut cuts = Vec::new(alloc);
     let mut zeros = Vec::new(alloc);
@@ -89,7 +95,9 @@ fn truncated(alloc: Global, file: &Object, size: u64) -> Result<Edits, Memory>
 /// What `truncate` changes: the bytes from `size` on go, or zeros are added up to there.
 pub fn plan_truncate(alloc: Global, path: &[Name], size: u64, seen: &Seen) -> Result<Edits, Memory>
     requires { Rises (pairs_of seen.now) }
-    ensures { IfOk result (λ e. ending_of e ≡ ending (named path.now (truncate greatest_size path.now size)) (of_seen (pairs_of seen.now))) }
+    ensures { IfOk result (λ e. ending_of e
+        ≡ ending (named path.now (truncate greatest_size path.now size)) (of_seen
+        (pairs_of seen.now))) }
 {
     if !is_legal(path) {
         return Ok(answer(alloc, Reply::Name));
@@ -108,7 +116,8 @@ pub fn plan_truncate(alloc: Global, path: &[Name], size: u64, seen: &Seen) -> Re
 // A gap before an offset gets zeros.
 fn gap(alloc: Global, file: &Object, to: u64) -> Result<Vec<Interval>, Memory>
     requires { IsSmall file.now }
-    ensures { IfOk result (λ v. map interval_of v.items ≡ (fill_gap (object_of file.now) to).zeros) }
+    ensures { IfOk result (λ v. map interval_of v.items
+        ≡ (fill_gap (object_of file.now) to).zeros) }
 {
     let mut zeros = Vec::new(alloc);
     if file.attr.size < to {
@@ -120,7 +129,9 @@ fn gap(alloc: Global, file: &Object, to: u64) -> Result<Vec<Interval>, Memory>
 // A file grows where bytes end past its size.
 fn grown(alloc: Global, file: &Object, end: u64) -> Result<Vec<(Key, Value)>, Memory>
     requires { IsSmall file.now }
-    ensures { IfOk result (λ v. map pair_of v.items ≡ (resize (object_of file.now) (larger file.now.attr.size end)).puts) }
+    ensures puts { IfOk result (λ v. map pair_of v.items
+        ≡ (resize (object_of file.now) (larger file.now.attr.size end)).puts) }
+    ensures flat { IfOk result (λ v. length v.items ≤ 1) }
 {
     let mut puts = Vec::new(alloc);
     if file.attr.size < end {
@@ -140,7 +151,9 @@ fn is_too_big(offset: u64, len: u64) -> bool
 fn written(alloc: Global, file: &Object, offset: u64, text: &Bytes) -> Result<Edits, Memory>
     requires small { IsSmall file.now }
     requires fits { offset + length text.now < 2 ^ 64 }
-    ensures { IfOk result (λ e. ending_of e ≡ record { edits = written (object_of file.now) offset text.now; reply = Okay }) }
+    ensures ending { IfOk result (λ e. ending_of e
+        ≡ record { edits = written (object_of file.now) offset text.now; reply = Okay }) }
+    ensures flat { IfOk result (HoldsAtMost 1 0 1) }
 {
     let zeros = gap(alloc, file, offset)?;
     let puts = grown(alloc, file, offset + text.as_slice().len() as u64)?;
@@ -160,8 +173,8 @@ fn written(alloc: Global, file: &Object, offset: u64, text: &Bytes) -> Result<Ed
     })
 }
 
-/// What `write` changes: the bytes of `text` are set from `offset` on, and a gap before them is zeros. The bytes are
-/// shared, and none is copied.
+/// What `write` changes: the bytes of `text` are set from `offset` on, as one run that shares them, and a gap before them is
+/// zeros.
 pub fn plan_write(
     alloc: Global,
     path: &[Name],
@@ -170,7 +183,10 @@ pub fn plan_write(
     seen: &Seen,
 ) -> Result<Edits, Memory>
     requires { Rises (pairs_of seen.now) }
-    ensures { IfOk result (λ e. ending_of e ≡ ending (named path.now (write greatest_size path.now offset text.now)) (of_seen (pairs_of seen.now))) }
+    ensures ending { IfOk result (λ e. ending_of e
+        ≡ ending (named path.now (write greatest_size path.now offset text.now)) (of_seen
+        (pairs_of seen.now))) }
+    ensures flat { IfOk result (HoldsAtMost 1 0 1) }
 {
     if !is_legal(path) {
         return Ok(answer(alloc, Reply::Name));
@@ -204,7 +220,13 @@ fn filled(file: &Object, offset: u64, len: u64, byte: u8) -> FilledInterval
 fn fill(alloc: Global, file: &Object, offset: u64, len: u64, byte: u8) -> Result<Edits, Memory>
     requires small { IsSmall file.now }
     requires fits { offset + len < 2 ^ 64 }
-    ensures { IfOk result (λ e. ending_of e ≡ record { edits = written (object_of file.now) offset (replicate len byte); reply = Okay }) }
+    ensures ending { IfOk result (λ e. ending_of e
+        ≡ record {
+          edits = written (object_of file.now) offset
+              (replicate len byte);
+          reply = Okay;
+        }) }
+    ensures flat { IfOk result (HoldsAtMost 0 1 1) }
 {
     let zeros = gap(alloc, file, offset)?;
     let puts = grown(alloc, file, offset + len)?;
@@ -220,8 +242,7 @@ fn fill(alloc: Global, file: &Object, offset: u64, len: u64, byte: u8) -> Result
     })
 }
 
-/// What `fill` changes: `len` bytes from `offset` on become `byte`, and a gap before them is zeros. They take no memory
-/// one by one.
+/// What `fill` changes: `len` bytes from `offset` on become `byte`, in one interval, and a gap before them is zeros.
 pub fn plan_fill(
     alloc: Global,
     path: &[Name],
@@ -231,7 +252,10 @@ pub fn plan_fill(
     seen: &Seen,
 ) -> Result<Edits, Memory>
     requires { Rises (pairs_of seen.now) }
-    ensures { IfOk result (λ e. ending_of e ≡ ending (named path.now (write greatest_size path.now offset (replicate len byte))) (of_seen (pairs_of seen.now))) }
+    ensures ending { IfOk result (λ e. ending_of e
+        ≡ ending (named path.now (write greatest_size path.now offset (replicate len byte)))
+        (of_seen (pairs_of seen.now))) }
+    ensures flat { IfOk result (HoldsAtMost 0 1 1) }
 {
     if !is_legal(path) {
         return Ok(answer(alloc, Reply::Name));

@@ -1,4 +1,4 @@
-//! What a command on one object changes (docs/commands.md).
+//! What a command changes (docs/commands.md).
 
 ghost use Rattle.std.specs.Prelude.{◌≡◌, IfOk};
 ghost use Rattle.r4_content.specs.Course.{ending};
@@ -6,27 +6,36 @@ ghost use Rattle.r4_content.specs.Groups.{IsOfAttributes, IsOfBytes};
 ghost use Rattle.r4_content.specs.Held.{ending_of, pairs_of};
 ghost use Rattle.r4_content.specs.Meaning.{course, greatest_size};
 ghost use Rattle.r4_content.specs.Seen.{Rises, of_seen};
-ghost use Rattle.r4_file.specs.Planned.{IsOfObject};
+ghost use Rattle.r4_file.specs.Flat.{IsFlat};
 
 use crate::attributes::{plan_chmod, plan_chown, plan_stat, plan_times};
 use crate::bodies::{plan_fill, plan_truncate, plan_write};
 use crate::reading::plan_read;
 use r4_base::Memory;
-use r4_content::{Command, Edits, Seen};
+use r4_content::{Command, Edits, Reply, Seen};
+use r4_dir::answer;
 use std::alloc::Global;
 
-/// What a command on the attributes of an object or on the bytes of a file changes, and its reply, on what was seen of a
-/// content. A file has at most `GREATEST_SIZE` bytes. `Memory` where there was not enough.
+/// What a command changes, and its reply, on what was seen of a content, whatever command it is. A file has at most
+/// `GREATEST_SIZE` bytes. The bytes of a `write` are shared and those of a `fill` stand in one interval, so that neither
+/// takes memory for each byte. `Memory` where there was not enough.
 pub fn plan(alloc: Global, command: &Command, seen: &Seen) -> Result<Edits, Memory>
-    requires rises { Rises (pairs_of seen.now) }
-    requires command { IsOfObject command.now }
-    ensures { IfOk result (λ e. ending_of e ≡ ending (course greatest_size command.now) (of_seen (pairs_of seen.now))) }
+    requires { Rises (pairs_of seen.now) }
+    ensures ending { IfOk result (λ e.
+        ending_of e ≡ ending (course greatest_size command.now) (of_seen (pairs_of seen.now))) }
+    ensures flat { IfOk result (λ e. IsFlat command.now e) }
 {
     match *command {
         Command::Write { .. } | Command::Fill { .. } | Command::Read { .. } => plan_bytes(
             alloc, command, seen,
         ),
-        _ => plan_attributes(alloc, command, seen),
+        Command::Stat { .. }
+        | Command::Truncate { .. }
+        | Command::Chmod { .. }
+        | Command::Chown { .. }
+        | Command::Times { .. } => plan_attributes(alloc, command, seen),
+        Command::Begin | Command::End | Command::Commit => Ok(answer(alloc, Reply::Okay)),
+        _ => r4_dir::plan(alloc, command, seen),
     }
 }
 
@@ -34,7 +43,9 @@ pub fn plan(alloc: Global, command: &Command, seen: &Seen) -> Result<Edits, Memo
 fn plan_bytes(alloc: Global, command: &Command, seen: &Seen) -> Result<Edits, Memory>
     requires rises { Rises (pairs_of seen.now) }
     requires command { IsOfBytes command.now }
-    ensures { IfOk result (λ e. ending_of e ≡ ending (course greatest_size command.now) (of_seen (pairs_of seen.now))) }
+    ensures ending { IfOk result (λ e.
+        ending_of e ≡ ending (course greatest_size command.now) (of_seen (pairs_of seen.now))) }
+    ensures flat { IfOk result (λ e. IsFlat command.now e) }
 {
     match *command {
         Command::Write {
@@ -61,7 +72,8 @@ fn plan_bytes(alloc: Global, command: &Command, seen: &Seen) -> Result<Edits, Me
 fn plan_attributes(alloc: Global, command: &Command, seen: &Seen) -> Result<Edits, Memory>
     requires rises { Rises (pairs_of seen.now) }
     requires command { IsOfAttributes command.now }
-    ensures { IfOk result (λ e. ending_of e ≡ ending (course greatest_size command.now) (of_seen (pairs_of seen.now))) }
+    ensures { IfOk result (λ e.
+        ending_of e ≡ ending (course greatest_size command.now) (of_seen (pairs_of seen.now))) }
 {
     match *command {
         Command::Stat { ref path } => plan_stat(alloc, path.as_slice(), seen),

@@ -57,7 +57,8 @@ fn keys_between(from: Key, to: Key, most: usize) -> usize
 // Puts the bytes of a run that stand in an interval behind others.
 #[tactic(auto, using(crate::proofs::Runs::run_bytes, crate::proofs::Runs::no_bytes))]
 fn push_run(bytes: &mut Vec<u8>, run: &ByteRun, within: Interval) -> Result<(), Memory>
-    ensures { OnOk result (bytes.new.items ≡ bytes.old.items ++ bytes_in (pairs_in (run_pairs run.now) (rank within.from) (rank within.to))) }
+    ensures { OnOk result (bytes.new.items ≡ bytes.old.items
+        ++ bytes_in (pairs_in (run_pairs run.now) (rank within.from) (rank within.to))) }
 {
     let seen = run.bytes.as_slice();
     let from = keys_between(run.from, within.from, seen.len());
@@ -70,7 +71,9 @@ fn push_run(bytes: &mut Vec<u8>, run: &ByteRun, within: Interval) -> Result<(), 
 
 // Puts the byte that stands at a key behind others, where the key lies in an interval.
 fn push_one(bytes: &mut Vec<u8>, key: Key, value: &Value, within: Interval) -> Result<(), Memory>
-    ensures { OnOk result (bytes.new.items ≡ bytes.old.items ++ bytes_in (pairs_in ((rank key, value_of value.now) ∷ []) (rank within.from) (rank within.to))) }
+    ensures { OnOk result (bytes.new.items ≡ bytes.old.items
+        ++ bytes_in (pairs_in ((rank key, value_of value.now)
+        ∷ []) (rank within.from) (rank within.to))) }
 {
     match value {
         Value::Byte(byte) => {
@@ -86,7 +89,8 @@ fn push_one(bytes: &mut Vec<u8>, key: Key, value: &Value, within: Interval) -> R
 
 // Puts the bytes of a part that stand in an interval behind others.
 fn push_part(bytes: &mut Vec<u8>, part: &SeenPart, within: Interval) -> Result<(), Memory>
-    ensures { OnOk result (bytes.new.items ≡ bytes.old.items ++ bytes_in (pairs_in (part_pairs part.now) (rank within.from) (rank within.to))) }
+    ensures { OnOk result (bytes.new.items ≡ bytes.old.items
+        ++ bytes_in (pairs_in (part_pairs part.now) (rank within.from) (rank within.to))) }
 {
     match part {
         SeenPart::One { key, value } => push_one(bytes, *key, value, within),
@@ -96,7 +100,8 @@ fn push_part(bytes: &mut Vec<u8>, part: &SeenPart, within: Interval) -> Result<(
 
 // The bytes that were seen in an interval.
 fn bytes_within(alloc: Global, seen: &Seen, within: Interval) -> Result<Vec<u8>, Memory>
-    ensures { IfOk result (λ v. v.items ≡ bytes_in (pairs_in (pairs_of seen.now) (rank within.from) (rank within.to))) }
+    ensures { IfOk result (λ v. v.items
+        ≡ bytes_in (pairs_in (pairs_of seen.now) (rank within.from) (rank within.to))) }
 {
     let mut bytes = Vec::new(alloc);
     for part in seen.parts.as_slice() {
@@ -125,7 +130,9 @@ fn bytes_of(
     len: u64,
 ) -> Result<Bytes, Memory>
     requires { IsSmall file.now }
-    ensures { IfOk result (λ b. ending (read_in (object_of file.now) offset len) (of_seen (pairs_of seen.now)) ≡ record { edits = no_edits; reply = Data b }) }
+    ensures { IfOk result
+        (λ b. ending (read_in (object_of file.now) offset len) (of_seen (pairs_of seen.now))
+        ≡ record { edits = no_edits; reply = Data b }) }
 {
     let end = end_of(file, offset, len);
     if offset >= end {
@@ -144,7 +151,8 @@ pub fn plan_read(
     seen: &Seen,
 ) -> Result<Edits, Memory>
     requires { Rises (pairs_of seen.now) }
-    ensures { IfOk result (λ e. ending_of e ≡ ending (named path.now (read path.now offset len)) (of_seen (pairs_of seen.now))) }
+    ensures { IfOk result (λ e. ending_of e
+        ≡ ending (named path.now (read path.now offset len)) (of_seen (pairs_of seen.now))) }
 {
     if !is_legal(path) {
         return Ok(answer(alloc, Reply::Name));
