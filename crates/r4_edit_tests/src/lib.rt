@@ -2,8 +2,6 @@
 #![tactic(auto)]
 
 #[cfg(test)]
-mod holes;
-#[cfg(test)]
 mod tests;
 #[cfg(test)]
-mod trials;
+mod together;

@@ -3,36 +3,35 @@
 
 ghost use Rattle.std.specs.Prelude.{◌≡◌, length};
 
-use crate::holes::{halve_holes, twig_of_holes};
-use crate::trials::{
-    LEAF, ROOT, TWIG, UNPLACED, halve, put, put_apart, put_behind, put_blocks, raise, repack,
-    run_twig, take_first, take_one, take_out,
-};
 use r4_base::{Attr, Block, Key, NodeId, Oid, get16, put64};
 use r4_cde::entry_key;
 use r4_cell::{Cell, Change, least, read_cell, top};
+use r4_edit_testing::{
+    LEAF, ROOT, TWIG, UNPLACED, halve, halve_holes, put, put_apart, put_behind, put_blocks, raise,
+    repack, run_twig, take_first, take_one, take_out, twig_of_holes,
+};
 use r4_meta::write_stat;
 use r4_node40::NodeMut;
 use std::alloc::Global;
 use std::sync::Arc;
 use std::test::Fail;
 
-const STAT: u16 = 0;
+pub(crate) const STAT: u16 = 0;
 
-const ENTRIES: u16 = 2;
+pub(crate) const ENTRIES: u16 = 2;
 
-const TAIL: u16 = 6;
+pub(crate) const TAIL: u16 = 6;
 
 /// A number, how many items, and how many free bytes.
-type Row = (u64, u16, u16);
+pub(crate) type Row = (u64, u16, u16);
 
-static ZEROS: [u8; 4030] = [0; 4030];
+pub(crate) static ZEROS: [u8; 4030] = [0; 4030];
 
 // Letters whose names rise.
-static LETTERS: [u8; 40] = *b"0123456789ABCDEFGHIJKLMNOPQRSTUVWXYZabcd";
+pub(crate) static LETTERS: [u8; 40] = *b"0123456789ABCDEFGHIJKLMNOPQRSTUVWXYZabcd";
 
 /// What the root directory has.
-const DIRECTORY: Attr = Attr {
+pub(crate) const DIRECTORY: Attr = Attr {
     mode: 0o40755,
     nlink: 2,
     size: 0,
@@ -45,12 +44,12 @@ const DIRECTORY: Attr = Attr {
 };
 
 // The key of a byte of a file.
-fn byte(offset: u64) -> Key {
+pub(crate) fn byte(offset: u64) -> Key {
     Key::body(41, 0, Oid(42), offset)
 }
 
 // A leaf without items.
-fn empty_leaf(alloc: Global, id: u64, lo: Key, hi: Key) -> Result<Arc<Cell>, Fail> {
+pub(crate) fn empty_leaf(alloc: Global, id: u64, lo: Key, hi: Key) -> Result<Arc<Cell>, Fail> {
     let mut block = Block::zeroed(alloc)?;
     let _ = NodeMut::format(&mut block, 1, 1);
     let Ok(cell) = read_cell(alloc, NodeId(id), 1, lo, hi, 64, block) else {
@@ -60,7 +59,7 @@ fn empty_leaf(alloc: Global, id: u64, lo: Key, hi: Key) -> Result<Arc<Cell>, Fai
 }
 
 // What comes in the place of the first leaf where an item is put behind all that it has.
-fn with(
+pub(crate) fn with(
     alloc: Global,
     leaves: &[Arc<Cell>],
     key: Key,
@@ -99,7 +98,7 @@ fn without(alloc: Global, leaf: &Arc<Cell>, from: Key, to: Key) -> Result<Change
 }
 
 // The first new cell.
-fn first(change: &Change) -> Result<Arc<Cell>, Fail> {
+pub(crate) fn first(change: &Change) -> Result<Arc<Cell>, Fail> {
     match change.new.as_slice().first() {
         Some(cell) => Ok(Arc::try_clone(cell)?),
         None => Err(Fail::from("no cell comes")),
@@ -107,7 +106,7 @@ fn first(change: &Change) -> Result<Arc<Cell>, Fail> {
 }
 
 // The leaf of all keys with the stat data of the root.
-fn root_leaf(alloc: Global) -> Result<Arc<Cell>, Fail> {
+pub(crate) fn root_leaf(alloc: Global) -> Result<Arc<Cell>, Fail> {
     let mut stat = [0; 44];
     write_stat(&mut stat, &DIRECTORY);
     let leaf = empty_leaf(alloc, LEAF, least(), top())?;
@@ -115,7 +114,7 @@ fn root_leaf(alloc: Global) -> Result<Arc<Cell>, Fail> {
 }
 
 // The new cells, the lowest first.
-fn rows(alloc: Global, change: &Change) -> Result<Vec<Row>, Fail> {
+pub(crate) fn rows(alloc: Global, change: &Change) -> Result<Vec<Row>, Fail> {
     let mut rows = Vec::new(alloc);
     for cell in change.new.as_slice() {
         let bytes = cell.block().bytes();
@@ -188,7 +187,7 @@ fn tails_are_joined_and_cut(rt: HostRuntime) -> Result<(), Fail> {
 }
 
 // The key of a name in a directory: a letter, so many times.
-fn name_key(dir: Oid, letter: u8, times: u8) -> Result<Key, Fail> {
+pub(crate) fn name_key(dir: Oid, letter: u8, times: u8) -> Result<Key, Fail> {
     if dir.0 >= 1 << 60 {
         return Err(Fail::from("no directory has this number"));
     }
@@ -211,7 +210,7 @@ fn add_entry(bodies: &mut Vec<u8>, letter: u8, times: u8) -> Result<(), Fail> {
 }
 
 // The body of an item of entries, whose names are these letters, each so many times (docs/layout.md, "Items").
-fn entries(alloc: Global, dir: Oid, letters: &[u8], times: u8) -> Result<Vec<u8>, Fail> {
+pub(crate) fn entries(alloc: Global, dir: Oid, letters: &[u8], times: u8) -> Result<Vec<u8>, Fail> {
     let Ok(count) = u8::try_from(letters.len()) else {
         return Err(Fail::from("these are too many entries"));
     };

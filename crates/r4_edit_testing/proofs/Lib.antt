@@ -1,0 +1,10 @@
+pub mod HoleTwig
+pub mod RootPart
+pub mod RunCuts
+pub mod RunPuts
+pub mod RunTwig
+pub mod ShortOver
+pub mod ShortPath
+pub mod Trying
+pub mod TwoUnits
+pub mod Together

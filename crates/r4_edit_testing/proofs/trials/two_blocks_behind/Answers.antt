@@ -1,0 +1,11 @@
+use Rattle.std.proofs.Common.{ap, sym, ◌∙◌, arith, rules}
+use Rattle.std.proofs.lemmas.Option.{same_Some}
+use Rattle.r4_base.specs.Key.{IsKey, rank}
+use Rattle.r4_branch.proofs.UnitPieces.{rank_later}
+use Rattle.r4_edit_testing.proofs.trials.two_blocks_behind.Goals as goal
+
+pub returns : goal.returns
+returns c k e =
+    let low = c.if-key.false in
+    let whole : IsKey c.args.key.now = search rules in
+    (whole, omega (arith, low), ap rank (sym (same_Some _ k e)) ∙ rank_later c.args.key.now 8192)

@@ -1,0 +1,13 @@
+//! Trees of two levels for tests of edits: what may be done with them is tried out, and then done.
+#![tactic(auto)]
+
+mod holes;
+mod remaking;
+mod trials;
+
+pub use holes::{halve_holes, twig_of_holes};
+pub use remaking::remake;
+pub use trials::{
+    LEAF, ROOT, TWIG, UNPLACED, halve, numbers, put, put_apart, put_behind, put_blocks, raise,
+    repack, run_twig, take_first, take_one, take_out,
+};
