@@ -2,13 +2,9 @@
 #![tactic(auto)]
 
 #[cfg(test)]
-mod calls;
-#[cfg(test)]
 mod commits;
 #[cfg(test)]
 mod places;
-#[cfg(test)]
-mod plans;
 #[cfg(test)]
 mod same;
 #[cfg(test)]
