@@ -5,10 +5,10 @@ ghost use Rattle.r4_outside.specs.Device.{Goes, TellsCrashes};
 ghost use Rattle.r4_outside.specs.Memory.{memory_state};
 ghost use Rattle.r4_wander.specs.Progress.{FitOn};
 
-use crate::calls::replays;
 use crate::same::{same, same_in};
-use r4_base::{Block, BlockNo, Key, NodeId, Oid, get64};
+use r4_base::{BlockNo, Key, NodeId, Oid};
 use r4_cell::{Cell, read_cell};
+use r4_commit_testing::{filled, number, read, replays};
 use r4_outside::{Device, MemoryDevice, MemorySink};
 use r4_testing::{REPLAY, call};
 use r4_wander::{
@@ -19,13 +19,6 @@ use std::process::Abort;
 use std::sync::{Arc, Wait};
 use std::test::Fail;
 use std::thread::Threads;
-
-/// A block of this byte.
-pub fn filled(alloc: Global, byte: u8) -> Result<Block, Fail> {
-    let mut block = Block::zeroed(alloc)?;
-    block.bytes_mut().fill(byte);
-    Ok(block)
-}
 
 // A data block of nines, to be placed.
 fn cell(alloc: Global) -> Result<Arc<Cell>, Fail> {
@@ -135,26 +128,6 @@ fn make_steps<X: Abort>(
         }
     }
     Ok(())
-}
-
-/// A block of a device.
-pub fn read<D: Device>(alloc: Global, dev: &mut D, at: u64) -> Result<Block, Fail>
-    ensures { Goes (D.state dev.old) (D.state dev.new) }
-{
-    let mut block = Block::zeroed(alloc)?;
-    let Ok(count) = dev.blocks() else {
-        return Err(Fail::from("blocks are not counted"));
-    };
-    if at >= count || dev.read(BlockNo(at), &mut block).is_err() {
-        return Err(Fail::from("a block is not read"));
-    }
-    Ok(block)
-}
-
-/// The number of eight bytes at a byte, or 0 where there is none.
-pub fn number(block: &Block, at: usize) -> u64 {
-    let bytes = block.bytes();
-    if at <= 4088 { get64(bytes, at) } else { 0 }
 }
 
 // The calls of the commit in their order: the block that is written, or none for a sync.

@@ -1,15 +1,7 @@
-//! Tests of space, of places and of commits, through the program's call.
+//! Tests of commits that are written step by step, and of what a replay makes of them.
 #![tactic(auto)]
 
 #[cfg(test)]
-mod calls;
-#[cfg(test)]
 mod commits;
 #[cfg(test)]
-mod places;
-#[cfg(test)]
-mod plans;
-#[cfg(test)]
 mod same;
-#[cfg(test)]
-mod spaces;

@@ -1,5 +1,5 @@
 use Rattle.std.proofs.Common.{◌≡◌, []}
-use Rattle.r4_commit_tests.proofs.spaces.finish_placed.Given as goal
+use Rattle.r4_space_tests.proofs.spaces.finish_placed.Given as goal
 
 abbrev pub invariant-loop : goal.invariant-loop
 invariant-loop l = (l.space.sealed ≡ []) × (l.space.block_count ≡ l.initial.space.block_count)

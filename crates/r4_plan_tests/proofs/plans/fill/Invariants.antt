@@ -1,5 +1,5 @@
 use Rattle.std.proofs.Common.{◌≡◌}
-use Rattle.r4_commit_tests.proofs.plans.fill.Given as goal
+use Rattle.r4_plan_tests.proofs.plans.fill.Given as goal
 
 abbrev pub invariant-loop-block : goal.invariant-loop-block
 invariant-loop-block g l = l.space.block_count ≡ l.fn.space.block_count

@@ -2,7 +2,7 @@ use Rattle.std.proofs.Common.{◌<◌}
 use Rattle.r4_outside.specs.Device.{Goes}
 use Rattle.r4_outside.specs.Memory.{memory_state}
 use Rattle.r4_wander.specs.Progress.{FitOn}
-use Rattle.r4_commit_tests.proofs.plans.finish.Given as goal
+use Rattle.r4_commit_testing.proofs.commits.finish.Given as goal
 
 abbrev pub invariant-loop-step : goal.invariant-loop-step
 invariant-loop-step l = record {

@@ -2,17 +2,15 @@
 
 ghost use Rattle.r4_outside.specs.Device.{Goes};
 
-use crate::same::same;
 use r4_outside::{Device, MemorySink};
 use r4_testing::{REPLAY, call};
 use std::alloc::Global;
-use std::process::Abort;
 use std::sync::Wait;
 use std::test::Fail;
 use std::thread::Threads;
 
-/// Replays a device, and looks at the status and at the line that is printed.
-pub fn replays<D: Device, X: Abort + Threads + Wait + Sync>(
+/// Replays a device, and fails unless these are the status and the line that is printed.
+pub fn replays<D: Device, X: Threads + Wait + Sync>(
     rt: &X,
     alloc: Global,
     dev: &mut D,
@@ -23,7 +21,11 @@ pub fn replays<D: Device, X: Abort + Threads + Wait + Sync>(
 {
     let mut out = MemorySink::new(alloc, 100)?;
     let code = call(rt, alloc, &REPLAY, dev, &mut out)?;
-    same(rt, &out.written(), &line.as_bytes(), line);
-    same(rt, &code, &status, line);
+    if out.written() != line.as_bytes() {
+        return Err(Fail::from("another line is printed"));
+    }
+    if code != status {
+        return Err(Fail::from("another status is answered"));
+    }
     Ok(())
 }

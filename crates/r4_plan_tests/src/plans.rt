@@ -1,0 +1,338 @@
+//! Commits of atoms: an overwritten leaf, cells that get blocks, and 300 cells.
+
+ghost use Rattle.std.specs.Prelude.{◌≡◌, map, IfOk, OnOk};
+ghost use Rattle.std.specs.Arc.{arc_value};
+ghost use Rattle.r4_outside.specs.Device.{Goes, TellsCrashes};
+ghost use Rattle.r4_outside.specs.Memory.{memory_state};
+ghost use Rattle.r4_commit_testing.specs.Cells.{HaveBlocks};
+
+use crate::same::{same, same_in};
+use r4_base::{AtomNo, BlockNo, NodeId};
+use r4_cell::Cell;
+use r4_commit_testing::{commit, data, leaf, number, read, replays, space_of, super_of, volume};
+use r4_list::list;
+use r4_outside::{Device, MemoryDevice, MemorySink};
+use r4_place::{How, Placed};
+use r4_space::SpaceMap;
+use r4_testing::{REPLAY, call};
+use std::alloc::Global;
+use std::process::Abort;
+use std::sync::{Arc, Wait};
+use std::test::Fail;
+use std::thread::Threads;
+
+// What is printed of the root directory.
+const BEFORE: &[u8] = b"d 0755 2 0 0 0 /\n";
+
+const AFTER: &[u8] = b"d 0755 2 7 0 0 /\n";
+
+// The texts after a crash at a moment: the header is written by call 7.
+fn texts_at(moment: u64) -> [&'static [u8]; 2] {
+    match moment {
+        7 => [BEFORE, AFTER],
+        0..=6 => [BEFORE, BEFORE],
+        _ => [AFTER, AFTER],
+    }
+}
+
+// What is left of a torn write: each bit is a sector.
+const MASKS: [u8; 5] = [0, 1, 85, 254, 255];
+
+// The texts after a crash within the call before a moment, of which these sectors are left: the header's first sector
+// tells which log it is.
+fn texts_torn(moment: u64, mask: u8) -> [&'static [u8]; 2] {
+    match moment {
+        7 if mask & 1 == 1 => [AFTER, AFTER],
+        7 => [BEFORE, BEFORE],
+        _ => texts_at(moment),
+    }
+}
+
+// The pick with which these sectors are left of the write before a moment: the numbers of the calls are followed back.
+fn pick_of(moment: u64, mask: u8) -> u64 {
+    let mut number = u64::from(mask) << 56;
+    for _ in 0..moment {
+        // What is undone: times 6364136223846793005, plus 1442695040888963407.
+        let product = number.wrapping_sub(1_442_695_040_888_963_407);
+        number = product.wrapping_mul(13_877_824_140_714_322_085);
+    }
+    number
+}
+
+// Looks at what is printed of the root directory after a crash at a moment.
+fn is_listed<X: Abort>(
+    rt: &X,
+    alloc: Global,
+    left: &mut MemoryDevice,
+    moment: u64,
+    texts: &[&[u8]; 2],
+) -> Result<(), Fail> {
+    let mut out = MemorySink::new(alloc, 100)?;
+    let got = list(alloc, left, b"/", &mut out);
+    let row = moment as usize;
+    same_in(rt, &got, &Ok(()), row);
+    let told = texts.contains(&out.written());
+    same_in(rt, &told, &true, row);
+    Ok(())
+}
+
+// Looks at what a crash leaves, as it is, and after a replay.
+fn is_whole<X: Abort + Threads + Wait + Sync>(
+    rt: &X,
+    alloc: Global,
+    left: &mut MemoryDevice,
+    moment: u64,
+    texts: &[&[u8]; 2],
+) -> Result<(), Fail> {
+    is_listed(rt, alloc, left, moment, texts)?;
+    let mut out = MemorySink::new(alloc, 100)?;
+    let status = call(rt, alloc, &REPLAY, left, &mut out)?;
+    same_in(rt, &status, &0, moment as usize);
+    is_listed(rt, alloc, left, moment, texts)
+}
+
+// Lets the machine stop at each moment of the commit of the leaf.
+fn look_at_crashes<X: Abort + Threads + Wait + Sync>(
+    rt: &X,
+    alloc: Global,
+    dev: &MemoryDevice,
+) -> Result<(), Fail>
+    requires { TellsCrashes (memory_state dev.now) }
+{
+    for moment in 0..15 {
+        for pick in 1..3 {
+            let mut left = dev.crash(alloc, moment, pick)?;
+            is_whole(rt, alloc, &mut left, moment, &texts_at(moment))?;
+        }
+    }
+    Ok(())
+}
+
+// Lets the machine stop within each call of the commit of the leaf.
+fn look_at_torn_writes<X: Abort + Threads + Wait + Sync>(
+    rt: &X,
+    alloc: Global,
+    dev: &MemoryDevice,
+) -> Result<(), Fail>
+    requires { TellsCrashes (memory_state dev.now) }
+{
+    for moment in 1..15 {
+        for mask in MASKS {
+            let mut left = dev.crash(alloc, moment, pick_of(moment, mask))?;
+            is_whole(rt, alloc, &mut left, moment, &texts_torn(moment, mask))?;
+        }
+    }
+    Ok(())
+}
+
+// Where what number stands after the commit of the leaf: the log's blocks are 24 to 28, the head's the last.
+const NUMBERS: [(u64, usize, u64); 10] = [
+    (19, 0, 28),
+    (20, 0, 28),
+    (20, 8, 40),
+    (28, 8, 1),
+    (28, 24, 0),
+    (28, 32, 27),
+    (27, 32, 17),
+    (27, 48, 18),
+    (27, 64, 23),
+    (17, 40, 1),
+];
+
+// Commits the leaf.
+fn commit_leaf(alloc: Global, dev: &mut MemoryDevice, space: &mut SpaceMap) -> Result<(), Fail>
+    requires device { (memory_state dev.old).blocks ≡ 64 }
+    requires space { space.old.block_count ≡ 64 }
+    ensures goes { Goes (memory_state dev.old) (memory_state dev.new) }
+{
+    let cells = Vec::from_array(alloc, [leaf(alloc, dev)?])?;
+    let placed = Placed {
+        node: NodeId(23),
+        how: How::Overwrite,
+    };
+    commit(alloc, 64, dev, &cells, &[placed], space)
+}
+
+// Looks at the device of which the leaf's commit is made.
+fn look_at_leaf<X: Abort + Threads + Wait + Sync>(
+    rt: &X,
+    alloc: Global,
+    dev: &mut MemoryDevice,
+) -> Result<(), Fail>
+    requires { TellsCrashes (memory_state dev.old) }
+{
+    same(rt, &dev.clock(), &14, "writes and syncs");
+    look_at_crashes(rt, alloc, dev)?;
+    look_at_torn_writes(rt, alloc, dev)?;
+    for (row, &(at, byte, wanted)) in NUMBERS.iter().enumerate() {
+        let block = read(alloc, dev, at)?;
+        same_in(rt, &number(&block, byte), &wanted, row);
+    }
+    Ok(())
+}
+
+#[test]
+fn a_leaf_is_committed(rt: HostRuntime) -> Result<(), Fail> {
+    let alloc = rt.alloc();
+    let mut dev = volume(&rt, alloc, 64)?;
+    let mut space = space_of(alloc, &mut dev, 40)?;
+    commit_leaf(alloc, &mut dev, &mut space)?;
+    look_at_leaf(&rt, alloc, &mut dev)?;
+    // The log's blocks are held until the atom settles.
+    same(&rt, &space.free(), &35, "free blocks");
+    settle(&rt, alloc, &mut dev, &mut space, 40)
+}
+
+// Looks whether a block is all of one byte.
+fn is_filled<X: Abort>(
+    rt: &X,
+    alloc: Global,
+    dev: &mut MemoryDevice,
+    at: u64,
+    byte: u8,
+) -> Result<(), Fail> {
+    let block = read(alloc, dev, at)?;
+    let whole = block.bytes().iter().all(|x| *x == byte);
+    same_in(rt, &whole, &true, at as usize);
+    Ok(())
+}
+
+// Settles atom 1, after which so many blocks are free, and those are 0 in the bitmap of the device.
+fn settle<X: Abort>(
+    rt: &X,
+    alloc: Global,
+    dev: &mut MemoryDevice,
+    space: &mut SpaceMap,
+    free: u64,
+) -> Result<(), Fail>
+    ensures goes { Goes (memory_state dev.old) (memory_state dev.new) }
+    ensures space { space.new.block_count ≡ space.old.block_count }
+{
+    space.seal(AtomNo(1));
+    space.settle(AtomNo(1));
+    same(rt, &space.free(), &free, "free blocks");
+    let told = space_of(alloc, dev, free)?;
+    same(rt, &told.free(), &free, "free blocks");
+    let super40 = super_of(alloc, dev)?;
+    same(rt, &super40.free_blocks, &free, "free blocks");
+    Ok(())
+}
+
+// Commits a data block that gets a block.
+fn commit_data(alloc: Global, dev: &mut MemoryDevice, space: &mut SpaceMap) -> Result<(), Fail>
+    requires device { (memory_state dev.old).blocks ≡ 64 }
+    requires space { space.old.block_count ≡ 64 }
+    ensures goes { Goes (memory_state dev.old) (memory_state dev.new) }
+    ensures space { OnOk result (space.new.block_count ≡ 64) }
+{
+    let Some(block) = space.place(BlockNo(22)) else {
+        return Err(Fail::from("no block is unused"));
+    };
+    let cells = Vec::from_array(alloc, [data(alloc, 40, 9)?])?;
+    let placed = Placed {
+        node: NodeId(40),
+        how: How::Fresh(block),
+    };
+    commit(alloc, 64, dev, &cells, &[placed], space)
+}
+
+// Looks at the device of which a second commit is made.
+fn look_at_second<X: Abort>(rt: &X, alloc: Global, dev: &mut MemoryDevice) -> Result<(), Fail> {
+    for (row, (at, wanted)) in [(19, 31), (20, 31), (31, 2)].iter().enumerate() {
+        let block = read(alloc, dev, *at)?;
+        let byte = if *at == 31 { 8 } else { 0 };
+        same_in(rt, &number(&block, byte), wanted, row);
+    }
+    is_filled(rt, alloc, dev, 24, 9)
+}
+
+#[test]
+fn commits_follow_each_other(rt: HostRuntime) -> Result<(), Fail> {
+    let alloc = rt.alloc();
+    let mut dev = volume(&rt, alloc, 64)?;
+    let mut space = space_of(alloc, &mut dev, 40)?;
+    commit_data(alloc, &mut dev, &mut space)?;
+    same(&rt, &dev.clock(), &13, "writes and syncs");
+    settle(&rt, alloc, &mut dev, &mut space, 39)?;
+
+    // The first copy of the next commit stands on the last head, which the header names until it
+    // names the new one.
+    commit(alloc, 64, &mut dev, &[], &[], &mut space)?;
+    look_at_second(&rt, alloc, &mut dev)?;
+    settle(&rt, alloc, &mut dev, &mut space, 39)
+}
+
+// Places 600 blocks.
+fn fill<X: Abort>(rt: &X, space: &mut SpaceMap)
+    ensures { space.new.block_count ≡ space.old.block_count }
+{
+    for _block in 0..600u64 {
+        let placed = space.place(BlockNo(22));
+        same(rt, &placed.is_some(), &true, "placed");
+    }
+}
+
+// Data blocks 300 to 599.
+fn many(alloc: Global) -> Result<Vec<Arc<Cell>>, Fail>
+    ensures { IfOk result (λ v. HaveBlocks 1024 (map (λ cell. arc_value cell) v.items)) }
+{
+    let mut cells = Vec::new(alloc);
+    for id in 300..600 {
+        cells.push(data(alloc, id, 9)?)?;
+    }
+    Ok(cells)
+}
+
+// Looks at the data blocks.
+fn are_filled<X: Abort>(
+    rt: &X,
+    alloc: Global,
+    dev: &mut MemoryDevice,
+    byte: u8,
+) -> Result<(), Fail> {
+    for at in 300..600 {
+        is_filled(rt, alloc, dev, at, byte)?;
+    }
+    Ok(())
+}
+
+// Commits the data blocks.
+fn commit_many(alloc: Global, dev: &mut MemoryDevice, space: &mut SpaceMap) -> Result<(), Fail>
+    requires device { (memory_state dev.old).blocks ≡ 1024 }
+    requires space { space.old.block_count ≡ 1024 }
+    ensures goes { Goes (memory_state dev.old) (memory_state dev.new) }
+{
+    let cells = many(alloc)?;
+    commit(alloc, 1024, dev, &cells, &[], space)
+}
+
+// Lets the machine stop before the header is synced, and right after.
+fn look_at_stops<X: Abort + Threads + Wait + Sync>(
+    rt: &X,
+    alloc: Global,
+    dev: &MemoryDevice,
+) -> Result<(), Fail>
+    requires { TellsCrashes (memory_state dev.now) }
+{
+    // The header is synced by call 308.
+    for (moment, line, byte) in [(200, "replayed 0\n", 0), (308, "replayed 1\n", 9)] {
+        let mut left = dev.crash(alloc, moment, 1)?;
+        replays(rt, alloc, &mut left, 0, line)?;
+        are_filled(rt, alloc, &mut left, byte)?;
+    }
+    Ok(())
+}
+
+#[test]
+fn many_cells_are_committed(rt: HostRuntime) -> Result<(), Fail> {
+    let alloc = rt.alloc();
+    let mut dev = volume(&rt, alloc, 1024)?;
+    let mut space = space_of(alloc, &mut dev, 1000)?;
+    fill(&rt, &mut space);
+    commit_many(alloc, &mut dev, &mut space)?;
+    // 302 copies, 2 records, the head, header, footer and 302 homes, and 4 syncs.
+    same(&rt, &dev.clock(), &613, "writes and syncs");
+    look_at_stops(&rt, alloc, &dev)?;
+    are_filled(&rt, alloc, &mut dev, 9)?;
+    settle(&rt, alloc, &mut dev, &mut space, 400)
+}

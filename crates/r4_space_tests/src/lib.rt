@@ -1,0 +1,9 @@
+//! Tests of space, and of the places that cells get.
+#![tactic(auto)]
+
+#[cfg(test)]
+mod places;
+#[cfg(test)]
+mod same;
+#[cfg(test)]
+mod spaces;
