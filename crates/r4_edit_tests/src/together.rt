@@ -9,6 +9,7 @@ use r4_cell::{Cell, Change, least, top};
 use r4_edit_testing::{LEAF, ROOT, remake};
 use r4_leaf::{Given, KeyRange};
 use r4_meta::write_stat;
+use r4_patch::follow;
 use std::alloc::Global;
 use std::sync::Arc;
 use std::test::Fail;
@@ -210,6 +211,47 @@ fn five_entries_come_into_a_full_leaf(rt: HostRuntime) -> Result<(), Fail> {
     assert_eq!(rt;
         rows(alloc, &change)?.as_slice(),
         [(LEAF, 2, 38), (ROOT + 1, 1, 3778), (ROOT, 2, 3976)].as_slice()
+    );
+    Ok(())
+}
+
+// The names of some cells, in their order.
+fn names(alloc: Global, cells: &[Arc<Cell>]) -> Result<Vec<u64>, Fail> {
+    let mut names = Vec::new(alloc);
+    for cell in cells {
+        names.push(cell.id().0)?;
+    }
+    Ok(names)
+}
+
+// The first change fills the leaf, and the second one parts what it leaves. Of both as one, the first leaf goes and the last
+// ones come; the leaf between is in neither list.
+#[test]
+fn an_edit_follows_another(rt: HostRuntime) -> Result<(), Fail> {
+    let alloc = rt.alloc();
+    let leaf = root_leaf(alloc)?;
+    let tail = Given::Item {
+        key: byte(0),
+        plugin: TAIL,
+        body: &MANY_BYTES[..3948],
+    };
+    let one = edited(alloc, &leaf, &[], &[tail], &[bytes(0, 3948)])?;
+    let two = edited(alloc, &first(&one)?, &[bytes(100, 101)], &[], &[])?;
+    let both = follow(alloc, &one, &two)?;
+    assert_eq!(rt;
+        names(alloc, both.old.as_slice())?.as_slice(),
+        [LEAF, ROOT].as_slice()
+    );
+    assert_eq!(rt;
+        rows(alloc, &both)?.as_slice(),
+        [(LEAF, 3, 0), (ROOT + 1, 1, 3993), (ROOT, 2, 3976)].as_slice()
+    );
+    assert_eq!(rt;
+        both.old
+            .as_slice()
+            .first()
+            .map(|cell| get16(cell.block().bytes(), 2)),
+        Some(1)
     );
     Ok(())
 }
