@@ -1,0 +1,75 @@
+-- Commands and contents at which laws of commands do not hold, since one of their conditions does
+-- not (r4_content, src/laws.rt).
+use Rattle.std.specs.Prelude.{◌≡◌, ℕ, ◌+◌, ◌*◌, ◌^◌, List, [], ◌∷◌, ◌++◌, false}
+use Rattle.r4_base.specs.Key.{key_of_rank, minor_of}
+use Rattle.r4_base.specs.Value.{Content, Entry, Stat}
+use Rattle.r4_base.specs.Volume.{object_of, root_object, stat_rank}
+use Rattle.r4_base.specs.declared.items.Target.{Target}
+use Rattle.r4_content.specs.Edited.{Pairs, is_in}
+use Rattle.r4_content.specs.Examples.{a, at, below, d, e, f, id, made, one_entry, x}
+use Rattle.r4_content.specs.Locality.{Touches, commands}
+use Rattle.r4_content.specs.Meaning.{reads}
+use Rattle.r4_content.specs.Objects.{entry_rank, link_more, new_directory, new_file, sized}
+use Rattle.r4_content.specs.declared.command.Command.{Command}
+use Rattle.r4_content.specs.declared.command.Command.TheVariants.{Link, Rename, Stat as Ask}
+use Rattle.r4_content.specs.declared.reply.Reply.{Reply}
+use Rattle.r4_content.specs.declared.reply.Reply.TheVariants.{Okay, Absent, Attr as Has}
+
+-- ---- stat keys that are not read (`commands_ask_for_stats`)
+
+-- the key is one of a body, the command reads or changes it, and does not read the stat key of the
+-- body's object
+abbrev pub SkipsStat : (limit : ℕ) → Command → Content → (key : ℕ) → Type 0
+SkipsStat limit c m k = Touches (commands limit) c m k × (minor_of (key_of_rank k) ≡ 4)
+    × (is_in (reads limit c m) (stat_rank (object_of (key_of_rank k))) ≡ false)
+
+-- the root, without entries
+abbrev pub root_alone : Pairs
+root_alone = (stat_rank root_object, Stat new_directory) ∷ []
+
+-- a name that is no list of bytes, and whose key in the root is that of a byte of a file
+abbrev pub body_name : List ℕ
+body_name = 4 * 65536 ∷ []
+
+-- an object whose ordering has more than 64 bits: its stat key is that of a byte of another one
+abbrev pub far_object : Target
+far_object = record { locality = 42; ordering = 3 * 2 ^ 64; oid = id 65536 }
+
+abbrev pub far_entry : Pairs
+far_entry = (stat_rank root_object, Stat (sized new_directory 1))
+    ∷ (entry_rank root_object f, Entry f far_object) ∷ []
+
+-- ---- objects that are not found again (`what_is_changed_is_found`)
+
+-- a file whose stat data stand at the key of a name in the root
+abbrev pub hidden_file : Target
+hidden_file = record { locality = 41; ordering = 15 * 2 ^ 64 + 97 * 2 ^ 48; oid = id 0 }
+
+abbrev pub stat_at_name : Pairs
+stat_at_name =
+    (stat_rank root_object, Stat (sized new_directory 1))
+    ∷ (entry_rank root_object a, Stat new_file)
+    ∷ (entry_rank root_object f, Entry f hidden_file)
+    ∷ []
+
+-- the new name takes the key of the stat data, and they take it back
+abbrev pub lost_link_run : List (Command × Reply)
+lost_link_run =
+    (Ask (at f), Has new_file)
+    ∷ (Link (at f) (at a), Okay)
+    ∷ (Ask (at a), Absent)
+    ∷ (Ask (at f), Has (link_more new_file))
+    ∷ []
+
+-- a directory that has an entry which names the directory itself
+abbrev pub own_entry : Pairs
+own_entry = one_entry d (record (sized new_directory 1) { nlink = 3 })
+    ++ (entry_rank (made d 65536) x, Entry x (made d 65536)) ∷ []
+
+-- moved out of itself, the directory has an entry less
+abbrev pub own_entry_run : List (Command × Reply)
+own_entry_run =
+    (Ask (below d x), Has (record (sized new_directory 1) { nlink = 3 }))
+    ∷ (Rename (below d x) (at e), Okay)
+    ∷ (Ask (at e), Has new_directory)
+    ∷ []

@@ -1,0 +1,36 @@
+//! Why laws of commands have their conditions: commands and contents at which one condition does not hold, and neither does
+//! the law. Each is the contract of a function that does nothing.
+
+ghost use Rattle.std.specs.FinMap.{from_sorted};
+ghost use Rattle.std.specs.Prelude.{◌+◌, ◌^◌};
+ghost use Rattle.r4_base.specs.Volume.{byte_rank, root_object, stat_rank};
+ghost use Rattle.r4_content.specs.Examples.{GetReplies, at, f, made, one_entry};
+ghost use Rattle.r4_content.specs.Meaning.{greatest_size};
+ghost use Rattle.r4_content.specs.Objects.{entry_rank, new_file, sized};
+ghost use Rattle.r4_content.specs.declared.command.Command.TheVariants.{Read, Stat, Truncate};
+ghost use Rattle.r4_command_tests.specs.Conditions.{SkipsStat, body_name, far_entry, far_object};
+ghost use Rattle.r4_command_tests.specs.Conditions.{lost_link_run, own_entry, own_entry_run};
+ghost use Rattle.r4_command_tests.specs.Conditions.{root_alone, stat_at_name};
+
+/// A command can read or change a key of a body and not read the stat key of the body's object: where a name of its path is
+/// no list of bytes; where an ordering or a size in the content has more than 64 bits; where a file may have more than 2^64
+/// bytes (`commands_ask_for_stats`).
+pub fn unasked_stats()
+    ensures no_bytes { SkipsStat greatest_size (Stat (at body_name)) (from_sorted root_alone)
+        (entry_rank root_object body_name) }
+    ensures ordering { SkipsStat greatest_size (Stat (at f)) (from_sorted far_entry)
+        (stat_rank far_object) }
+    ensures size { SkipsStat greatest_size (Read (at f) (2 ^ 64) 1)
+        (from_sorted (one_entry f (sized new_file (2 ^ 64 + 1))))
+        (byte_rank (made f 65536) (2 ^ 64)) }
+    ensures limit { SkipsStat (2 ^ 64 + 1) (Truncate (at f) (2 ^ 64 + 1))
+        (from_sorted (one_entry f new_file)) (byte_rank (made f 65536) (2 ^ 64)) }
+{}
+
+/// In a content that is not lawful, what was changed need not be found as it was. Where the stat data of a file stand at the
+/// key of a name, the file gets this name and is absent under it. A directory that has an entry for itself is found under a
+/// new name with an entry less than it had (`what_is_changed_is_found`).
+pub fn not_found_again()
+    ensures link { GetReplies greatest_size (from_sorted stat_at_name) lost_link_run }
+    ensures rename { GetReplies greatest_size (from_sorted own_entry) own_entry_run }
+{}
