@@ -1,17 +1,21 @@
 -- Commands and contents at which laws of commands do not hold, since one of their conditions does
 -- not (r4_content, src/laws.rt).
-use Rattle.std.specs.Prelude.{◌≡◌, ℕ, ◌+◌, ◌*◌, ◌^◌, List, [], ◌∷◌, ◌++◌, false}
+use Rattle.std.specs.Prelude.{◌≡◌, ℕ, ◌+◌, ◌*◌, ◌^◌, List, [], ◌∷◌, ◌++◌, false, true}
+use Rattle.std.specs.FinMap.{from_sorted, insert}
 use Rattle.r4_base.specs.Key.{key_of_rank, minor_of}
-use Rattle.r4_base.specs.Value.{Content, Entry, Stat}
-use Rattle.r4_base.specs.Volume.{object_of, root_object, stat_rank}
+use Rattle.r4_base.specs.Value.{Byte, Content, Entry, Stat, at_key}
+use Rattle.r4_base.specs.Volume.{IsVisible, byte_rank, object_of, root_object, stat_rank}
 use Rattle.r4_base.specs.declared.items.Target.{Target}
-use Rattle.r4_content.specs.Edited.{Pairs, is_in}
+use Rattle.r4_content.specs.Course.{ending, of_content}
+use Rattle.r4_content.specs.Edited.{Edits, Intervals, Pairs, changed, edited, is_in}
 use Rattle.r4_content.specs.Examples.{a, at, below, d, e, f, id, made, one_entry, x}
 use Rattle.r4_content.specs.Locality.{Touches, commands}
-use Rattle.r4_content.specs.Meaning.{reads}
+use Rattle.r4_content.specs.Meaning.{course, greatest_size, reads}
 use Rattle.r4_content.specs.Objects.{entry_rank, link_more, new_directory, new_file, sized}
+use Rattle.r4_content.specs.Units.{IsOrPads}
 use Rattle.r4_content.specs.declared.command.Command.{Command}
-use Rattle.r4_content.specs.declared.command.Command.TheVariants.{Link, Rename, Stat as Ask}
+use Rattle.r4_content.specs.declared.command.Command.TheVariants.{Link, Rename, Unlink}
+use Rattle.r4_content.specs.declared.command.Command.TheVariants.{Stat as Ask}
 use Rattle.r4_content.specs.declared.reply.Reply.{Reply}
 use Rattle.r4_content.specs.declared.reply.Reply.TheVariants.{Okay, Absent, Attr as Has}
 
@@ -73,3 +77,24 @@ own_entry_run =
     ∷ (Rename (below d x) (at e), Okay)
     ∷ (Ask (at e), Has new_directory)
     ∷ []
+
+-- ---- a byte that is left of a file that is gone (`moved_units_are_visible`)
+
+-- units are changed as `MovesUnits` says, but for its `padding`
+abbrev pub MovesButPadding : (e : Edits) (m raw after : Content) (moved : Intervals) → Type 0
+MovesButPadding e m raw after moved = IsVisible raw m
+    × ((k : ℕ) → is_in moved k ≡ false → at_key after k ≡ at_key raw k)
+    × ((k : ℕ) → is_in moved k ≡ true → IsOrPads after (edited e m) k)
+    × ((k : ℕ) → is_in moved k ≡ false → is_in (changed e) k ≡ true → IsOrPads raw (edited e m) k)
+
+-- a file without bytes
+abbrev pub empty_file : Content
+empty_file = from_sorted (one_entry f new_file)
+
+-- a byte behind its end
+abbrev pub with_padding : Content
+with_padding = insert empty_file (byte_rank (made f 65536) 0) (Byte 0)
+
+-- the file goes
+abbrev pub unlinking : Edits
+unlinking = (ending (course greatest_size (Unlink (at f))) (of_content empty_file)).edits

@@ -3,14 +3,17 @@
 
 ghost use Rattle.std.specs.FinMap.{from_sorted};
 ghost use Rattle.std.specs.Prelude.{◌+◌, ◌^◌};
-ghost use Rattle.r4_base.specs.Volume.{byte_rank, root_object, stat_rank};
+ghost use Rattle.r4_base.specs.Volume.{IsVisible, byte_rank, root_object, stat_rank};
+ghost use Rattle.r4_content.specs.Edited.{changed, edited};
 ghost use Rattle.r4_content.specs.Examples.{GetReplies, at, f, made, one_entry};
-ghost use Rattle.r4_content.specs.Meaning.{greatest_size};
+ghost use Rattle.r4_content.specs.Meaning.{after, greatest_size};
 ghost use Rattle.r4_content.specs.Objects.{entry_rank, new_file, sized};
 ghost use Rattle.r4_content.specs.declared.command.Command.TheVariants.{Read, Stat, Truncate};
-ghost use Rattle.r4_command_tests.specs.Conditions.{SkipsStat, body_name, far_entry, far_object};
+ghost use Rattle.r4_content.specs.declared.command.Command.TheVariants.{Unlink};
+ghost use Rattle.r4_command_tests.specs.Conditions.{MovesButPadding, SkipsStat, body_name};
+ghost use Rattle.r4_command_tests.specs.Conditions.{empty_file, far_entry, far_object};
 ghost use Rattle.r4_command_tests.specs.Conditions.{lost_link_run, own_entry, own_entry_run};
-ghost use Rattle.r4_command_tests.specs.Conditions.{root_alone, stat_at_name};
+ghost use Rattle.r4_command_tests.specs.Conditions.{root_alone, stat_at_name, unlinking, with_padding};
 
 /// A command can read or change a key of a body and not read the stat key of the body's object: where a name of its path is
 /// no list of bytes; where an ordering or a size in the content has more than 64 bits; where a file may have more than 2^64
@@ -33,4 +36,13 @@ pub fn unasked_stats()
 pub fn not_found_again()
     ensures link { GetReplies greatest_size (from_sorted stat_at_name) lost_link_run }
     ensures rename { GetReplies greatest_size (from_sorted own_entry) own_entry_run }
+{}
+
+/// Where a file goes and a byte behind its end stays, this byte is visible: it belongs to no file, and the content after the
+/// command has it not (`moved_units_are_visible`).
+pub fn byte_left()
+    ensures moved { MovesButPadding unlinking empty_file with_padding
+        (edited unlinking with_padding) (changed unlinking) }
+    ensures visible { IsVisible (edited unlinking with_padding)
+        (after greatest_size (Unlink (at f)) empty_file) → ⊥ }
 {}

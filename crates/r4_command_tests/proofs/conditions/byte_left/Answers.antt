@@ -1,0 +1,5 @@
+use Rattle.r4_command_tests.proofs.Left.{moved_but_padding, not_visible}
+use Rattle.r4_command_tests.proofs.conditions.byte_left.Goals as goal
+
+pub returns : goal.returns
+returns c = record { moved = moved_but_padding; visible = not_visible }
