@@ -1,3 +1,5 @@
+mod Beyond
 mod Examples
+mod FileAlone
 mod Left
 mod Rising

@@ -9,6 +9,8 @@ use Rattle.r4_base.specs.declared.items.Target.{Target}
 use Rattle.r4_content.specs.Course.{ending, of_content}
 use Rattle.r4_content.specs.Edited.{Edits, Intervals, Pairs, changed, edited, is_in}
 use Rattle.r4_content.specs.Examples.{a, at, below, d, e, f, id, made, one_entry, x}
+use Rattle.r4_content.specs.Fields.{HasBytePaths, NamesUnused}
+use Rattle.r4_content.specs.Lawful.{IsLawful}
 use Rattle.r4_content.specs.Locality.{Touches, commands}
 use Rattle.r4_content.specs.Meaning.{course, greatest_size, reads}
 use Rattle.r4_content.specs.Objects.{entry_rank, link_more, new_directory, new_file, sized}
@@ -18,6 +20,10 @@ use Rattle.r4_content.specs.declared.command.Command.TheVariants.{Link, Rename, 
 use Rattle.r4_content.specs.declared.command.Command.TheVariants.{Stat as Ask}
 use Rattle.r4_content.specs.declared.reply.Reply.{Reply}
 use Rattle.r4_content.specs.declared.reply.Reply.TheVariants.{Okay, Absent, Attr as Has}
+
+-- what laws ask of a command and a content: all but of the limit
+abbrev pub MayBeDone : (limit : ℕ) → Command → Content → Type 0
+MayBeDone limit c m = IsLawful limit m × HasBytePaths c × NamesUnused m c
 
 -- ---- stat keys that are not read (`commands_ask_for_stats`)
 
@@ -87,7 +93,7 @@ MovesButPadding e m raw after moved = IsVisible raw m
     × ((k : ℕ) → is_in moved k ≡ true → IsOrPads after (edited e m) k)
     × ((k : ℕ) → is_in moved k ≡ false → is_in (changed e) k ≡ true → IsOrPads raw (edited e m) k)
 
--- a file without bytes
+-- the root with a file without bytes
 abbrev pub empty_file : Content
 empty_file = from_sorted (one_entry f new_file)
 

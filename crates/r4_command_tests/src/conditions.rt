@@ -6,12 +6,13 @@ ghost use Rattle.std.specs.Prelude.{◌+◌, ◌^◌};
 ghost use Rattle.r4_base.specs.Volume.{IsVisible, byte_rank, root_object, stat_rank};
 ghost use Rattle.r4_content.specs.Edited.{changed, edited};
 ghost use Rattle.r4_content.specs.Examples.{GetReplies, at, f, made, one_entry};
+ghost use Rattle.r4_content.specs.Lawful.{HasBodies};
 ghost use Rattle.r4_content.specs.Meaning.{after, greatest_size};
 ghost use Rattle.r4_content.specs.Objects.{entry_rank, new_file, sized};
 ghost use Rattle.r4_content.specs.declared.command.Command.TheVariants.{Read, Stat, Truncate};
 ghost use Rattle.r4_content.specs.declared.command.Command.TheVariants.{Unlink};
-ghost use Rattle.r4_command_tests.specs.Conditions.{MovesButPadding, SkipsStat, body_name};
-ghost use Rattle.r4_command_tests.specs.Conditions.{empty_file, far_entry, far_object};
+ghost use Rattle.r4_command_tests.specs.Conditions.{MayBeDone, MovesButPadding, SkipsStat};
+ghost use Rattle.r4_command_tests.specs.Conditions.{body_name, empty_file, far_entry, far_object};
 ghost use Rattle.r4_command_tests.specs.Conditions.{lost_link_run, own_entry, own_entry_run};
 ghost use Rattle.r4_command_tests.specs.Conditions.{root_alone, stat_at_name, unlinking, with_padding};
 
@@ -45,4 +46,12 @@ pub fn byte_left()
         (edited unlinking with_padding) (changed unlinking) }
     ensures visible { IsVisible (edited unlinking with_padding)
         (after greatest_size (Unlink (at f)) empty_file) → ⊥ }
+{}
+
+/// Where a file may have more than 2^64 bytes, a lawful content need not stay lawful: offsets have 64 bits, and behind them
+/// stands the first byte of an object that is not there (`lawful_contents_stay_lawful`).
+pub fn beyond_offsets()
+    ensures before { MayBeDone (2 ^ 64 + 1) (Truncate (at f) (2 ^ 64 + 1)) empty_file }
+    ensures bodies { HasBodies (2 ^ 64 + 1)
+        (after (2 ^ 64 + 1) (Truncate (at f) (2 ^ 64 + 1)) empty_file) → ⊥ }
 {}

@@ -7,4 +7,4 @@ mod conditions;
 #[cfg(test)]
 mod contents;
 
-pub use conditions::{byte_left, not_found_again, unasked_stats};
+pub use conditions::{beyond_offsets, byte_left, not_found_again, unasked_stats};
