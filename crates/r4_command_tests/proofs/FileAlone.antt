@@ -4,7 +4,7 @@ use Rattle.std.proofs.Common.{arith, refl, sym, ap, subst, ◌∙◌}
 use Rattle.std.proofs.lemmas.Grind.{common_steps}
 use Rattle.std.proofs.lemmas.Option.{same_Some}
 use Rattle.std.specs.Cmp.{unsigned_tied}
-use Rattle.std.specs.FinMap.{entries, entries-from_sorted}
+use Rattle.std.specs.FinMap.{entries, entries-from_sorted, from_sorted}
 use Rattle.std.specs.Ordering.{nat_cmp}
 use Rattle.r4_base.specs.Key.{key_of_rank, rank}
 use Rattle.r4_base.specs.Name.{bad_byte, key_of_name, name_fault, packed, r5_from}
@@ -13,12 +13,13 @@ use Rattle.r4_base.specs.Volume.{HasObjects, HasStat, KeyFits, is_directory, roo
 use Rattle.r4_base.specs.declared.items.Attr.{Attr}
 use Rattle.r4_base.specs.declared.items.Target.{Target}
 use Rattle.r4_content.specs.Examples.{at, f, id, one_entry}
-use Rattle.r4_content.specs.Fields.{HasBytes, IsUnused}
+use Rattle.r4_content.specs.Fields.{HasBytes, HasNumbers, IsUnused}
 use Rattle.r4_content.specs.Lawful.{HasBodies, IsLawful}
 use Rattle.r4_content.specs.Meaning.{after, greatest_size}
 use Rattle.r4_content.specs.Objects.{new_directory, new_file}
 use Rattle.r4_content.specs.Ways.{to_ends, to_entry, to_file, to_free, to_object, to_parent}
-use Rattle.r4_content.specs.declared.command.Command.TheVariants.{Create, Truncate}
+use Rattle.r4_content.specs.declared.command.Command.TheVariants.{Create, Truncate, Unlink}
+use Rattle.r4_content.proofs.OneObject.{numbers_of}
 use Rattle.r4_content.proofs.Ranks.{root_is_object, same_stat}
 use Rattle.r4_content.proofs.SeenLaws.{at_content, content_of, list_command}
 use Rattle.r4_content.proofs.Staying.{lawful_stays}
@@ -109,7 +110,7 @@ one_byte x lt zero d h zero e g = lt
 one_byte x lt zero d h (suc k) e g = absurd (omega (arith, g))
 one_byte x lt (suc k) d h j e g = absurd (omega (arith, h))
 
-f_is_bytes : HasBytes (at f)
+pub f_is_bytes : HasBytes (at f)
 f_is_bytes = one_byte 102 (omega arith)
 
 unused : IsUnused alone (id 65536)
@@ -151,3 +152,13 @@ higher low high m le lawful = record {
 
 pub lengthened : MayBeDone (2 ^ 64 + 1) (Truncate (at f) (2 ^ 64 + 1)) empty_file
 lengthened = (higher greatest_size (2 ^ 64 + 1) empty_file (omega arith) file_lawful, f_is_bytes, tt)
+
+pub unlinked : MayBeDone greatest_size (Unlink (at f)) empty_file
+unlinked = (file_lawful, f_is_bytes, tt)
+
+pub alone_numbers : HasNumbers (from_sorted root_alone)
+unfolding content_of
+alone_numbers = numbers_of greatest_size alone (omega arith) (alone_lawful greatest_size)
+
+pub file_numbers : HasNumbers empty_file
+file_numbers = numbers_of greatest_size empty_file (omega arith) file_lawful

@@ -2,4 +2,5 @@ mod Beyond
 mod Examples
 mod FileAlone
 mod Left
+mod Numbers
 mod Rising
