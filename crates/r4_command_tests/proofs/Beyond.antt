@@ -23,10 +23,10 @@ no_value : (v : Value) → None ≡ Some v → ⊥
 no_value v e = cc
 
 -- what stands at a key after a command, without a step for each byte
-abbrev now_at : Edits → (k : ℕ) → Option Value → Option Value
+abbrev pub now_at : Edits → (k : ℕ) → Option Value → Option Value
 now_at e k old = last_put e.puts k (cond (is_in e.zeros k) (Some (Byte 0)) (cond (is_in e.cuts k) None old))
 
-at_after : (limit : ℕ) (c : Command) (s : Pairs) (k : ℕ) → Rises s → at_key (after limit c (content_of s)) k ≡ now_at (ending (course limit c) (of_seen s)).edits k (at_key (content_of s) k)
+pub at_after : (limit : ℕ) (c : Command) (s : Pairs) (k : ℕ) → Rises s → at_key (after limit c (content_of s)) k ≡ now_at (ending (course limit c) (of_seen s)).edits k (at_key (content_of s) k)
 at_after limit c s k r =
     at_edited (ending (course limit c) (of_content (content_of s))).edits (content_of s) k ∙ ap (λ t. now_at (ending (course limit c) t).edits k (at_key (content_of s) k)) (same_source s r)
 

@@ -28,7 +28,7 @@ use Rattle.r4_command_tests.specs.Conditions.{MayBeDone, empty_file, root_alone}
 
 -- ---- the root alone
 
-abbrev alone : Content
+abbrev pub alone : Content
 alone = content_of root_alone
 
 is_key : (k b : ℕ) → (k == b) ≡ true → k ≡ b
@@ -44,7 +44,7 @@ found k v at = split (k == stat_rank root_object) refl (sym (at_content root_alo
 same_attr : (a b : Attr) → Stat a ≡ Stat b → a ≡ b
 same_attr a b e = cc
 
-one_object : (o : Target) (a : Attr) → HasStat alone o a → (o ≡ root_object) × (a ≡ new_directory)
+pub one_object : (o : Target) (a : Attr) → HasStat alone o a → (o ≡ root_object) × (a ≡ new_directory)
 one_object o a h =
     let is = found (stat_rank o) (Stat a) h.1 in
     (same_stat o root_object h.0 root_is_object is.0, sym (same_attr new_directory a is.1))
@@ -105,7 +105,7 @@ alone_lawful limit = record {
 abbrev making : Content
 making = after greatest_size (Create (at f) (id 65536)) alone
 
-one_byte : (x : ℕ) → x < 256 → HasBytes (at (x ∷ []))
+pub one_byte : (x : ℕ) → x < 256 → HasBytes (at (x ∷ []))
 one_byte x lt zero d h zero e g = lt
 one_byte x lt zero d h (suc k) e g = absurd (omega (arith, g))
 one_byte x lt (suc k) d h j e g = absurd (omega (arith, h))
@@ -137,7 +137,7 @@ unfolding content_of
 file_lawful = subst (IsLawful greatest_size) is_made made_lawful
 
 -- a limit that is higher is kept, too
-higher : (low high : ℕ) (m : Content) → low ≤ high → IsLawful low m → IsLawful high m
+pub higher : (low high : ℕ) (m : Content) → low ≤ high → IsLawful low m → IsLawful high m
 higher low high m le lawful = record {
   objects = lawful.objects;
   bodies = record {

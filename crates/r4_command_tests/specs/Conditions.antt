@@ -1,18 +1,21 @@
 -- Commands and contents at which laws of commands do not hold, since one of their conditions does
 -- not (r4_content, src/laws.rt).
-use Rattle.std.specs.Prelude.{◌≡◌, ℕ, ◌+◌, ◌*◌, ◌^◌, List, [], ◌∷◌, ◌++◌, false, true}
+use Rattle.std.specs.Prelude.{◌≡◌, ℕ, ◌+◌, ◌*◌, ◌^◌, List, [], ◌∷◌, ◌++◌, false, true, slice_index}
 use Rattle.std.specs.FinMap.{from_sorted, insert}
 use Rattle.r4_base.specs.Key.{key_of_rank, minor_of}
+use Rattle.r4_base.specs.Name.{key_of_name}
 use Rattle.r4_base.specs.Value.{Byte, Content, Entry, Stat, at_key}
-use Rattle.r4_base.specs.Volume.{IsVisible, byte_rank, object_of, root_object, stat_rank}
+use Rattle.r4_base.specs.Volume.{IsVisible, byte_rank, object_of, objects_in}
+use Rattle.r4_base.specs.Volume.{root_object, stat_rank}
 use Rattle.r4_base.specs.declared.items.Target.{Target}
+use Rattle.r4_content.specs.Counts.{born, gone}
 use Rattle.r4_content.specs.Course.{ending, of_content}
 use Rattle.r4_content.specs.Edited.{Edits, Intervals, Pairs, changed, edited, is_in}
 use Rattle.r4_content.specs.Examples.{a, at, below, d, e, f, id, made, one_entry, x}
 use Rattle.r4_content.specs.Fields.{HasBytePaths, NamesUnused}
 use Rattle.r4_content.specs.Lawful.{IsLawful}
 use Rattle.r4_content.specs.Locality.{Touches, commands}
-use Rattle.r4_content.specs.Meaning.{course, greatest_size, reads}
+use Rattle.r4_content.specs.Meaning.{after, course, greatest_size, reads}
 use Rattle.r4_content.specs.Objects.{entry_rank, link_more, new_directory, new_file, sized}
 use Rattle.r4_content.specs.Units.{IsOrPads}
 use Rattle.r4_content.specs.declared.command.Command.{Command}
@@ -24,6 +27,10 @@ use Rattle.r4_content.specs.declared.reply.Reply.TheVariants.{Okay, Absent, Attr
 -- what laws ask of a command and a content: all but of the limit
 abbrev pub MayBeDone : (limit : ℕ) → Command → Content → Type 0
 MayBeDone limit c m = IsLawful limit m × HasBytePaths c × NamesUnused m c
+
+-- the root with a file without bytes
+abbrev pub empty_file : Content
+empty_file = from_sorted (one_entry f new_file)
 
 -- ---- stat keys that are not read (`commands_ask_for_stats`)
 
@@ -93,10 +100,6 @@ MovesButPadding e m raw after moved = IsVisible raw m
     × ((k : ℕ) → is_in moved k ≡ true → IsOrPads after (edited e m) k)
     × ((k : ℕ) → is_in moved k ≡ false → is_in (changed e) k ≡ true → IsOrPads raw (edited e m) k)
 
--- the root with a file without bytes
-abbrev pub empty_file : Content
-empty_file = from_sorted (one_entry f new_file)
-
 -- a byte behind its end
 abbrev pub with_padding : Content
 with_padding = insert empty_file (byte_rank (made f 65536) 0) (Byte 0)
@@ -104,3 +107,30 @@ with_padding = insert empty_file (byte_rank (made f 65536) 0) (Byte 0)
 -- the file goes
 abbrev pub unlinking : Edits
 unlinking = (ending (course greatest_size (Unlink (at f))) (of_content empty_file)).edits
+
+-- ---- a file that grows over another one (`objects_are_counted`)
+
+-- the file x in the directory d
+abbrev pub lower_file : Target
+lower_file = record {
+  locality = 43;
+  ordering = slice_index (key_of_name 43 x).el 1;
+  oid = id 65537;
+}
+
+-- a directory with this file, and a file f beside it
+abbrev pub two_files : Pairs
+two_files =
+    (stat_rank root_object, Stat (record (sized new_directory 2) { nlink = 3 }))
+    ∷ (entry_rank root_object d, Entry d (made d 43))
+    ∷ (entry_rank root_object f, Entry f (made f 65536))
+    ∷ (stat_rank (made d 43), Stat (sized new_directory 1))
+    ∷ (stat_rank (made f 65536), Stat new_file)
+    ∷ (entry_rank (made d 43) x, Entry x lower_file)
+    ∷ (stat_rank lower_file, Stat new_file)
+    ∷ []
+
+-- no object is born and none goes, and yet there is one less
+abbrev pub LosesOne : (limit : ℕ) → Command → Content → Type 0
+LosesOne limit c m = (born limit c m ≡ 0) × (gone limit c m ≡ 0)
+    × (objects_in (after limit c m) + 1 ≡ objects_in m)

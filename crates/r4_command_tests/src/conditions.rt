@@ -12,10 +12,11 @@ ghost use Rattle.r4_content.specs.Meaning.{after, greatest_size};
 ghost use Rattle.r4_content.specs.Objects.{entry_rank, new_file, sized};
 ghost use Rattle.r4_content.specs.declared.command.Command.TheVariants.{Read, Stat, Truncate};
 ghost use Rattle.r4_content.specs.declared.command.Command.TheVariants.{Unlink};
-ghost use Rattle.r4_command_tests.specs.Conditions.{MayBeDone, MovesButPadding, SkipsStat};
-ghost use Rattle.r4_command_tests.specs.Conditions.{body_name, empty_file, far_entry, far_object};
-ghost use Rattle.r4_command_tests.specs.Conditions.{lost_link_run, own_entry, own_entry_run};
-ghost use Rattle.r4_command_tests.specs.Conditions.{root_alone, stat_at_name, unlinking, with_padding};
+ghost use Rattle.r4_command_tests.specs.Conditions.{LosesOne, MayBeDone, MovesButPadding};
+ghost use Rattle.r4_command_tests.specs.Conditions.{SkipsStat, body_name, empty_file, far_entry};
+ghost use Rattle.r4_command_tests.specs.Conditions.{far_object, lost_link_run, own_entry};
+ghost use Rattle.r4_command_tests.specs.Conditions.{own_entry_run, root_alone, stat_at_name};
+ghost use Rattle.r4_command_tests.specs.Conditions.{two_files, unlinking, with_padding};
 
 /// A command can read or change a key of a body and not read the stat key of the body's object: where a name of its path is
 /// no list of bytes; where an ordering or a size in the content has more than 64 bits; where a file may have more than 2^64
@@ -59,4 +60,11 @@ pub fn beyond_offsets()
     ensures before { MayBeDone (2 ^ 64 + 1) (Truncate (at f) (2 ^ 64 + 1)) empty_file }
     ensures bodies { HasBodies (2 ^ 64 + 1)
         (after (2 ^ 64 + 1) (Truncate (at f) (2 ^ 64 + 1)) empty_file) → ⊥ }
+{}
+
+/// Where a file may have many more than 2^64 bytes, it can grow over the stat data of another file: this one is lost, and the
+/// numbers of objects born and gone do not tell it (`objects_are_counted`).
+pub fn grown_over()
+    ensures before { MayBeDone (2 ^ 196) (Truncate (at f) (2 ^ 196)) (from_sorted two_files) }
+    ensures objects { LosesOne (2 ^ 196) (Truncate (at f) (2 ^ 196)) (from_sorted two_files) }
 {}

@@ -7,4 +7,4 @@ mod conditions;
 #[cfg(test)]
 mod contents;
 
-pub use conditions::{beyond_offsets, byte_left, not_found_again, unasked_stats};
+pub use conditions::{beyond_offsets, byte_left, grown_over, not_found_again, unasked_stats};
