@@ -100,11 +100,11 @@ MovesButPadding e m raw after moved = IsVisible raw m
     × ((k : ℕ) → is_in moved k ≡ true → IsOrPads after (edited e m) k)
     × ((k : ℕ) → is_in moved k ≡ false → is_in (changed e) k ≡ true → IsOrPads raw (edited e m) k)
 
--- a byte behind its end
+-- the same units, and a byte behind the file's end
 abbrev pub with_padding : Content
 with_padding = insert empty_file (byte_rank (made f 65536) 0) (Byte 0)
 
--- the file goes
+-- what the command that takes the file away changes
 abbrev pub unlinking : Edits
 unlinking = (ending (course greatest_size (Unlink (at f))) (of_content empty_file)).edits
 
