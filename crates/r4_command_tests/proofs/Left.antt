@@ -11,11 +11,12 @@ use Rattle.r4_base.specs.Value.{Byte, Content, Entry, Stat, Value, at_key}
 use Rattle.r4_base.specs.Volume.{HasStat, IsPadding, IsVisible, byte_rank, object_of, stat_rank}
 use Rattle.r4_base.specs.declared.items.Attr.{Attr}
 use Rattle.r4_content.specs.Course.{ending, of_content}
-use Rattle.r4_content.specs.Edited.{Edits, Pairs, changed, edited, is_in}
+use Rattle.r4_content.specs.Edited.{Edits, Intervals, Pairs, changed, edited, is_in}
 use Rattle.r4_content.specs.Examples.{at, f, made, one_entry}
 use Rattle.r4_content.specs.Listed.{list_after}
 use Rattle.r4_content.specs.Meaning.{after, course, greatest_size}
 use Rattle.r4_content.specs.Objects.{new_file}
+use Rattle.r4_content.specs.Units.{MovesUnits}
 use Rattle.r4_content.specs.Ways.{to_ends, to_entry, to_file, to_free, to_object, to_parent}
 use Rattle.r4_content.specs.declared.command.Command.TheVariants.{Unlink}
 use Rattle.r4_content.proofs.Computed.{changes_listed}
@@ -23,7 +24,7 @@ use Rattle.r4_content.proofs.EditLaws.{at_insert, edited_off, edited_on}
 use Rattle.r4_content.proofs.EditParts.{true_not_false}
 use Rattle.r4_content.proofs.FileEdits.{put_itself}
 use Rattle.r4_content.proofs.SeenLaws.{at_content, content_of, list_command}
-use Rattle.r4_command_tests.specs.Conditions.{MovesButPadding, empty_file, unlinking, with_padding}
+use Rattle.r4_command_tests.specs.Conditions.{KeepsPadding, MovesButPadding, empty_file, unlinking, with_padding}
 
 no_value : (v : Value) → None ≡ Some v → ⊥
 no_value v e = cc
@@ -146,3 +147,8 @@ moved_but_padding = is_moved (content_of files) past_end 0 none_past_end without
 pub not_visible : IsVisible (edited unlinking with_padding) (after greatest_size (Unlink (at f)) empty_file) → ⊥
 unfolding content_of
 not_visible = is_left (content_of files) past_end 0 none_past_end without_bytes new_file has_file nothing_below other_key removing byte_off stat_on stat_gone
+
+-- what is asked of moved units is this and that their padding is kept
+pub but_padding : (e : Edits) (m raw units : Content) (moved : Intervals) → MovesUnits e m raw units moved ↔ (MovesButPadding e m raw units moved × KeepsPadding e m raw moved)
+but_padding e m old units moved =
+    (λ h. ((h.visible, h.kept, h.made, h.spared), h.padding), λ (but, padding). record { visible = but.0; kept = but.1; made = but.2; spared = but.3; padding = padding })

@@ -1,6 +1,7 @@
 -- Commands and contents at which laws of commands do not hold, since one of their conditions does
 -- not (r4_content, src/laws.rt).
 use Rattle.std.specs.Prelude.{◌≡◌, ℕ, ◌+◌, ◌*◌, ◌^◌, List, [], ◌∷◌, ◌++◌, false, true, slice_index}
+use Rattle.std.specs.Prelude.{Some, None}
 use Rattle.std.specs.FinMap.{from_sorted, insert}
 use Rattle.r4_base.specs.Key.{key_of_rank, minor_of}
 use Rattle.r4_base.specs.Name.{key_of_name}
@@ -17,7 +18,7 @@ use Rattle.r4_content.specs.Lawful.{IsLawful}
 use Rattle.r4_content.specs.Locality.{Touches, commands}
 use Rattle.r4_content.specs.Meaning.{after, course, greatest_size, reads}
 use Rattle.r4_content.specs.Objects.{entry_rank, link_more, new_directory, new_file, sized}
-use Rattle.r4_content.specs.Units.{IsOrPads}
+use Rattle.r4_content.specs.Units.{IsOfFile, IsOrPads}
 use Rattle.r4_content.specs.declared.command.Command.{Command}
 use Rattle.r4_content.specs.declared.command.Command.TheVariants.{Link, Rename, Unlink}
 use Rattle.r4_content.specs.declared.command.Command.TheVariants.{Stat as Ask}
@@ -99,6 +100,11 @@ MovesButPadding e m raw after moved = IsVisible raw m
     × ((k : ℕ) → is_in moved k ≡ false → at_key after k ≡ at_key raw k)
     × ((k : ℕ) → is_in moved k ≡ true → IsOrPads after (edited e m) k)
     × ((k : ℕ) → is_in moved k ≡ false → is_in (changed e) k ≡ true → IsOrPads raw (edited e m) k)
+
+-- its `padding`: a byte past a file's size that is not moved is of a file that stays
+abbrev pub KeepsPadding : (e : Edits) (m raw : Content) (moved : Intervals) → Type 0
+KeepsPadding e m raw moved = (k x : ℕ) → is_in moved k ≡ false → is_in (changed e) k ≡ false
+    → at_key raw k ≡ Some (Byte x) → at_key m k ≡ None → IsOfFile (edited e m) k
 
 -- the same units, and a byte behind the file's end
 abbrev pub with_padding : Content

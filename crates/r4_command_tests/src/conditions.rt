@@ -2,21 +2,24 @@
 //! the law. Each is the contract of a function that does nothing.
 
 ghost use Rattle.std.specs.FinMap.{from_sorted};
-ghost use Rattle.std.specs.Prelude.{◌+◌, ◌^◌};
+ghost use Rattle.std.specs.Prelude.{◌↔◌, ◌+◌, ◌^◌};
+ghost use Rattle.r4_base.specs.Value.{Content};
 ghost use Rattle.r4_base.specs.Volume.{IsVisible, byte_rank, root_object, stat_rank};
-ghost use Rattle.r4_content.specs.Edited.{changed, edited};
+ghost use Rattle.r4_content.specs.Edited.{Edits, Intervals, changed, edited};
 ghost use Rattle.r4_content.specs.Examples.{GetReplies, at, f, made, one_entry};
 ghost use Rattle.r4_content.specs.Fields.{HasBytes, HasNumbers};
 ghost use Rattle.r4_content.specs.Lawful.{HasBodies};
 ghost use Rattle.r4_content.specs.Meaning.{after, greatest_size};
 ghost use Rattle.r4_content.specs.Objects.{entry_rank, new_file, sized};
+ghost use Rattle.r4_content.specs.Units.{MovesUnits};
 ghost use Rattle.r4_content.specs.declared.command.Command.TheVariants.{Read, Stat, Truncate};
 ghost use Rattle.r4_content.specs.declared.command.Command.TheVariants.{Unlink};
-ghost use Rattle.r4_command_tests.specs.Conditions.{LosesOne, MayBeDone, MovesButPadding};
-ghost use Rattle.r4_command_tests.specs.Conditions.{SkipsStat, body_name, empty_file, far_entry};
-ghost use Rattle.r4_command_tests.specs.Conditions.{far_object, lost_link_run, own_entry};
-ghost use Rattle.r4_command_tests.specs.Conditions.{own_entry_run, root_alone, stat_at_name};
-ghost use Rattle.r4_command_tests.specs.Conditions.{two_files, unlinking, with_padding};
+ghost use Rattle.r4_command_tests.specs.Conditions.{KeepsPadding, LosesOne, MayBeDone};
+ghost use Rattle.r4_command_tests.specs.Conditions.{MovesButPadding, SkipsStat, body_name};
+ghost use Rattle.r4_command_tests.specs.Conditions.{empty_file, far_entry, far_object};
+ghost use Rattle.r4_command_tests.specs.Conditions.{lost_link_run, own_entry, own_entry_run};
+ghost use Rattle.r4_command_tests.specs.Conditions.{root_alone, stat_at_name, two_files};
+ghost use Rattle.r4_command_tests.specs.Conditions.{unlinking, with_padding};
 
 /// A command can read or change a key of a body and not read the stat key of the body's object: where a name of its path is
 /// no list of bytes; where an ordering or a size in the content has more than 64 bits; where a file may have more than 2^64
@@ -45,13 +48,16 @@ pub fn not_found_again()
 {}
 
 /// Where a file goes and a byte behind its end stays, this byte is visible: it belongs to no file, and the content after the
-/// command has it not (`moved_units_are_visible`).
+/// command has it not (`moved_units_are_visible`). All but `padding` is as `MovesUnits` asks it.
 pub fn byte_left()
     ensures before { MayBeDone greatest_size (Unlink (at f)) empty_file }
     ensures moved { MovesButPadding unlinking empty_file with_padding
         (edited unlinking with_padding) (changed unlinking) }
     ensures visible { IsVisible (edited unlinking with_padding)
         (after greatest_size (Unlink (at f)) empty_file) → ⊥ }
+    ensures padding { (e : Edits) (m raw units : Content) (moved : Intervals)
+        → MovesUnits e m raw units moved
+        ↔ (MovesButPadding e m raw units moved × KeepsPadding e m raw moved) }
 {}
 
 /// Where a file may have more than 2^64 bytes, a lawful content need not stay lawful: offsets have 64 bits, and behind them
