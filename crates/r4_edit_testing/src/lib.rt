@@ -1,10 +1,14 @@
 //! Trees of two levels for tests of edits: what may be done with them is tried out, and then done.
 #![tactic(auto)]
 
+mod cells;
 mod holes;
 mod remaking;
 mod trials;
 
+pub use cells::{
+    DIRECTORY, Row, STAT, TAIL, ZEROS, byte, empty_leaf, first, root_leaf, rows, with, with_between,
+};
 pub use holes::{halve_holes, twig_of_holes};
 pub use remaking::remake;
 pub use trials::{

@@ -1,0 +1,7 @@
+//! Tests of edits of leaves: which cells come, and how many items and free bytes they have (docs/volume.md, "Edits").
+#![tactic(auto)]
+
+#[cfg(test)]
+mod leaves;
+#[cfg(test)]
+mod together;

@@ -1,0 +1,5 @@
+//! Tests of edits of twigs: which cells come, and how many items and free bytes they have (docs/volume.md, "Edits").
+#![tactic(auto)]
+
+#[cfg(test)]
+mod twigs;
