@@ -113,8 +113,8 @@ fn a_file_in_extents_is_listed(rt: HostRuntime) -> Result<(), Fail> {
     Ok(())
 }
 
-// How many blocks are read for the root: header, footer, superblocks, bitmap, and three nodes.
-const READS: u64 = 8;
+// How many blocks are read for the root: header, footer, superblocks, bitmap, header again, and three nodes.
+const READS: u64 = 9;
 
 #[test]
 fn failures_end_a_listing(rt: HostRuntime) -> Result<(), Fail> {
