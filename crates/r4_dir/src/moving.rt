@@ -26,8 +26,8 @@ use r4_base::{Key, Memory, Name, Target, Value};
 use r4_content::{Edits, Reply, Seen};
 use std::alloc::Global;
 
-// Two targets are one.
-fn is_same_target(target: Target, other: Target) -> bool
+/// Whether two targets are one.
+pub fn is_same_target(target: Target, other: Target) -> bool
     ensures { result ≡ is_same_target target other }
 {
     target.locality == other.locality
@@ -54,8 +54,8 @@ fn is_among(object: &Object, above: &[Object]) -> bool
     false
 }
 
-// The object is a directory on the way to a place, or that place.
-fn is_loop(object: &Object, above: &[Object], here: &Object) -> bool
+/// Whether an object is a directory on the way to a place, or that place.
+pub fn is_loop(object: &Object, above: &[Object], here: &Object) -> bool
     ensures { result ≡ (is_dir (object_of object.now)
         && (is_among (object_of object.now) (map object_of above.now)
         || is_same (object_of object.now) (object_of here.now))) }

@@ -41,8 +41,8 @@ fn file_at(alloc: Global, seen: &Seen, path: &[Name]) -> Result<Result<Object, R
     }
 }
 
-// The keys of a file's bytes from an offset up to another one.
-pub(crate) fn body(file: &Object, from: u64, to: u64) -> Interval
+/// The keys of a file's bytes from an offset up to another one.
+pub fn body(file: &Object, from: u64, to: u64) -> Interval
     requires { IsSmall file.now }
     ensures { interval_of result ≡ (byte_rank file.now.target from, byte_rank file.now.target to) }
 {

@@ -7,6 +7,6 @@ mod planning;
 mod reading;
 
 pub use attributes::{plan_chmod, plan_chown, plan_stat, plan_times};
-pub use bodies::{plan_fill, plan_truncate, plan_write};
+pub use bodies::{body, plan_fill, plan_truncate, plan_write};
 pub use planning::plan;
-pub use reading::plan_read;
+pub use reading::{end_of, plan_read};

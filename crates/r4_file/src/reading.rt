@@ -110,8 +110,8 @@ fn bytes_within(alloc: Global, seen: &Seen, within: Interval) -> Result<Vec<u8>,
     Ok(bytes)
 }
 
-// Where the bytes end of which at most `len` are asked for.
-fn end_of(file: &Object, offset: u64, len: u64) -> u64
+/// Where the bytes of a file end of which at most `len` are asked for from an offset on.
+pub fn end_of(file: &Object, offset: u64, len: u64) -> u64
     ensures { result ≡ smaller (offset + len) file.now.attr.size }
 {
     let size = file.attr.size;

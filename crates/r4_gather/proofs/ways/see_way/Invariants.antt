@@ -1,0 +1,11 @@
+use Rattle.std.proofs.Common.{drop, map}
+use Rattle.r4_dir.specs.Coming.{IsSmall, object_of}
+use Rattle.r4_gather.specs.Walking.{IsWalking}
+use Rattle.r4_gather.proofs.ways.see_way.Given as goal
+
+abbrev pub invariant-loop-name : goal.invariant-loop-name
+invariant-loop-name g l = record {
+  small : IsSmall l.here;
+  walk : IsWalking l.path (drop l.name-index l.path) (g.S.Sight.state l.fn.sight) (g.S.Sight.state l.sight)
+      (record { here = object_of l.here; above = map object_of l.above.items });
+}

@@ -1,0 +1,35 @@
+//! What was seen, to which more comes as it is asked for.
+
+ghost use Rattle.std.specs.Prelude.{◌≡◌, ◌+◌, ◌∷◌};
+ghost use Rattle.r4_base.specs.Key.{rank};
+ghost use Rattle.r4_content.specs.Held.{interval_of, pairs_of};
+ghost use Rattle.r4_content.specs.Seen.{Rises};
+ghost use Rattle.r4_gather.specs.Asking.{IsLater, Sighting};
+
+use r4_base::Key;
+use r4_content::{Interval, Seen};
+use r4_search::FetchFault;
+use std::alloc::Global;
+
+/// What was seen of a content, to which more comes as it is asked for (docs/commands.md, "Asking"). What was seen at a
+/// key that was asked for stays. An interval counts as asked for also where a call ended with a fault; what stands
+/// there is then not known.
+pub trait Sight {
+    /// What was seen, and what was asked for, the newest first.
+    ghost state: { Self → Sighting };
+
+    /// What was seen so far.
+    fn parts(&self) -> &Seen
+        ensures same { pairs_of result.now ≡ (state self.now).seen }
+        ensures rises { Rises (pairs_of result.now) };
+
+    /// What stands at a key is asked for.
+    fn see(&mut self, alloc: Global, key: Key) -> Result<(), FetchFault>
+        ensures later { IsLater (state self.old) (state self.new) }
+        ensures asked { (state self.new).asked ≡ (rank key, rank key + 1) ∷ (state self.old).asked };
+
+    /// All that stands in an interval of keys is asked for.
+    fn see_all(&mut self, alloc: Global, within: Interval) -> Result<(), FetchFault>
+        ensures later { IsLater (state self.old) (state self.new) }
+        ensures asked { (state self.new).asked ≡ interval_of within ∷ (state self.old).asked };
+}
