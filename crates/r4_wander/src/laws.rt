@@ -5,10 +5,10 @@ ghost use Rattle.r4_base.specs.Chain.{Txn, HasLog, originals};
 ghost use Rattle.r4_base.specs.Image.{Image, IsImage};
 ghost use Rattle.r4_base.specs.Value.{Content};
 ghost use Rattle.r4_base.specs.Volume.{HasContent, HasVolume, IsMadeOf, Needs};
-ghost use Rattle.r4_outside.specs.Device.{IsQuiet, LeavesOnly};
+ghost use Rattle.r4_outside.specs.Device.{Goes, IsQuiet, LeavesOnly, TellsReads, Untouched};
 ghost use Rattle.r4_wander.specs.LogPlan.{IsBelow, first, parts_of, txn_of};
 ghost use Rattle.r4_wander.specs.Parts.{Parts, part, base_of, IsOrderOf, HasHomes};
-ghost use Rattle.r4_wander.specs.Progress.{Progress, Stands, Commits, EndsQuiet, FitOn, calls_from};
+ghost use Rattle.r4_wander.specs.Progress.{Progress, ReadsAs, Stands, Commits, EndsQuiet, FitOn, calls_from};
 ghost use Rattle.r4_wander.specs.Safe.{IsSafe, IsEncoded, ByPart, WithoutAtom, WithAtom, with_atom, is_scratch};
 ghost use Rattle.r4_wander.specs.Torn.{IsTarget, IsTornBy};
 ghost use Rattle.r4_wander.specs.declared.plan.LogPlan.{LogPlan};
@@ -61,7 +61,9 @@ pub fn commit_fits()
 {}
 
 /// A writer at its beginning stands on a quiet device. Between two steps a crash leaves what settles by the part; where a
-/// part has just begun, the device is quiet; and at the end nothing is unflushed (docs/commit.md, "Crashes").
+/// part has just begun, the device is quiet; and at the end nothing is unflushed. On a device that
+/// tells what reading gives, and nothing of crashes, reading gives what the writer made, from the beginning to the end
+/// (docs/commit.md, "Crashes").
 pub fn commit_on_a_device<D: Device>(dev: &D)
     ensures begins { (w : Progress) → IsQuiet (D.state dev.now) → w.part ≡ 0 → w.done ≡ 0 → Stands w (D.state dev.now).seen (D.state dev.now) }
     ensures between { (w : Progress) (n : ℕ) (base : Image) (chain : List Txn) (p : LogPlan) → w.part ≤ 4 → Commits w n base chain p → Stands w base (D.state dev.now)
@@ -69,6 +71,21 @@ pub fn commit_on_a_device<D: Device>(dev: &D)
     ensures quiet { (w : Progress) (base : Image) → w.done ≡ 0 → Stands w base (D.state dev.now) → IsQuiet (D.state dev.now) }
     ensures ends { (w : Progress) (n : ℕ) (base : Image) (chain : List Txn) (p : LogPlan) → Commits w n base chain p → w.part ≡ 4 → w.done ≡ 0 → Stands w base (D.state dev.now)
         → EndsQuiet n base chain p (D.state dev.now) }
+    ensures begins_reading { (w : Progress) → TellsReads (D.state dev.now) → w.part ≡ 0 → w.done ≡ 0 → ReadsAs w (D.state dev.now).seen (D.state dev.now) }
+    ensures ends_reading { (w : Progress) (n : ℕ) (base : Image) (chain : List Txn) (p : LogPlan) → TellsReads (D.state dev.now) → Commits w n base chain p → w.part ≡ 4 → ReadsAs w base (D.state dev.now)
+        → HasLog n (D.state dev.now).seen [] × WithAtom n base chain p (D.state dev.now).seen }
 {
     let _ = dev;
+}
+
+/// Reads between two steps of a commit change nothing of where its device stands, and nothing of what reading gives
+/// (docs/commit.md, "Crashes").
+pub fn reads_between_steps<D: Device>(before: &D, after: &D)
+    ensures stands { (w : Progress) (base : Image) → Goes (D.state before.now) (D.state after.now) → Untouched (D.state before.now) (D.state after.now)
+        → Stands w base (D.state before.now) → Stands w base (D.state after.now) }
+    ensures reads { (w : Progress) (base : Image) → Goes (D.state before.now) (D.state after.now) → Untouched (D.state before.now) (D.state after.now)
+        → ReadsAs w base (D.state before.now) → ReadsAs w base (D.state after.now) }
+{
+    let _ = before;
+    let _ = after;
 }
