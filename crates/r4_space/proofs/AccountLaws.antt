@@ -1,14 +1,14 @@
 -- Accounts of atoms, each of which has one at most.
-use Rattle.std.proofs.Common.{◌≡◌, ◌≢◌, ℕ, zero, suc, ◌+◌, ◌-◌, ◌<◌, ◌≤◌, true, false, eqb, List, [], ◌∷◌, ◌++◌, length, refl, sym, ap, ◌∙◌, arith, inl, inr}
+use Rattle.std.proofs.Common.{◌≡◌, ◌≢◌, ℕ, zero, suc, ◌+◌, ◌-◌, ◌<◌, ◌≤◌, true, false, not, eqb, List, [], ◌∷◌, ◌++◌, length, refl, sym, ap, ◌∙◌, arith, inl, inr}
 use Rattle.std.specs.List.{list_any}
 use Rattle.std.proofs.lemmas.Bool.{cases_Bool, eqb-true, eq-eqb, ne_eqb}
 use Rattle.std.proofs.lemmas.List.{length-append}
-use Rattle.std.proofs.lemmas.List.Sums.{sum_by-cons, sum_by-append}
+use Rattle.std.proofs.lemmas.List.Sums.{sum_by-cons, sum_by-append, length-filter, count_by-le-length}
 use Rattle.std.proofs.lemmas.List.Folds.{list_any-append}
 use Rattle.r4_base.specs.declared.things.AtomNo.{AtomNo}
 use Rattle.r4_space.specs.declared.things.Account.{Account}
 use Rattle.r4_space.specs.Books.{IsBooks}
-use Rattle.r4_space.specs.Accounts.{account_at, due_of, dues, EachOnce, is_account_of, is_open, no_account, price_formula, price_of, sum_account, with_account, without_account}
+use Rattle.r4_space.specs.Accounts.{account_at, due_of, dues, EachOnce, is_account_of, is_open, no_account, price_formula, price_of, sum_account, with_account, without_account, without_atom, is_atom}
 
 -- ---- what an atom takes up
 
@@ -258,6 +258,15 @@ pub books_forgotten : (bitmaps owed spare room room_sealed : ℕ) (atoms : List 
 books_forgotten bitmaps owed spare room room_sealed atoms sealed rest is fewer =
     let enough_sealed = is.enough_sealed in
     record { few = is.few; once = is.once; counted = is.counted; small = is.small; enough = is.enough; enough_sealed = omega arith }
+
+-- an atom settles, with the account that it may have
+pub books_settled : (bitmaps owed spare room room_sealed : ℕ) (atoms : List Account) (sealed : List AtomNo) (atom : AtomNo) → IsBooks bitmaps atoms sealed owed spare room room_sealed
+    → IsBooks bitmaps (without_account atom atoms) (without_atom atom sealed) (owed - due_of bitmaps (account_at atoms atom)) spare room room_sealed
+books_settled bitmaps owed spare room room_sealed atoms sealed atom is =
+    let count = length-filter (λ (a : AtomNo). not (is_atom atom a)) sealed in
+    let most = count_by-le-length (λ (a : AtomNo). not (is_atom atom a)) sealed in
+    books_forgotten bitmaps (owed - due_of bitmaps (account_at atoms atom)) spare room room_sealed (without_account atom atoms) sealed (without_atom atom sealed)
+    (books_without bitmaps owed spare room room_sealed atoms sealed atom is) (omega arith)
 
 -- a charge: the new numbers take the place of the old ones
 pub books_charged : (bitmaps owed spare room room_sealed more before after need free : ℕ) (atoms : List Account) (sealed : List AtomNo) (a : Account) → IsBooks bitmaps atoms sealed owed spare room room_sealed

@@ -183,10 +183,12 @@ impl Ledger {
         add(&mut self.sealed, atom);
     }
 
-    /// Forgets a sealed atom.
+    /// Forgets an atom, be it sealed or open.
     pub fn settle(&mut self, atom: AtomNo)
-        ensures { self.new ≡ record self.old { sealed = without_atom atom self.old.sealed } }
+        ensures { self.new ≡ record self.old { atoms = without_account atom self.old.atoms; sealed = without_atom atom self.old.sealed } }
     {
+        self.owed -= due(&account_at(self.atoms.as_slice(), atom), self.bitmaps);
+        forget(&mut self.atoms, atom);
         self.sealed.retain(|a| a.0 != atom.0);
     }
 }

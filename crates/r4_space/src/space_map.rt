@@ -6,7 +6,7 @@ ghost use Rattle.r4_space.specs.Accounts.{is_sealed};
 ghost use Rattle.r4_space.specs.Bitmaps.{bitmaps_fault, told_space};
 ghost use Rattle.r4_space.specs.Lawful.{IsLawful};
 ghost use Rattle.r4_space.specs.ReadFault.{IsReadFault};
-ghost use Rattle.r4_space.specs.Words.{IsFull, IsNextClear};
+ghost use Rattle.r4_space.specs.Words.{IsFirstClear, IsFull, IsNextClear};
 ghost use Rattle.r4_space.specs.Space.{charged, free_of, is_marked_by, is_taken, merged, need_at, sealed_in, settled, used_up, with_deferred, with_held, with_placed, with_room};
 
 use crate::bits::Bits;
@@ -147,6 +147,16 @@ impl SpaceMap {
         Some(block)
     }
 
+    /// The first unused block from a number on.
+    pub fn next_unused(&self, from: BlockNo) -> Option<BlockNo>
+        ensures some { IfSome result (λ b. IsFirstClear (is_taken self.now) self.now.block_count from.0 b.0) }
+        ensures free { IfSome result (λ b. is_fixed self.now.block_count b.0 ≡ false) }
+        ensures none { IfNone result (IsFull (is_taken self.now) self.now.block_count from.0) }
+    {
+        let block = self.taken.next(from.0)?;
+        Some(BlockNo(block))
+    }
+
     /// Defers a block: it becomes unused when the atom settles.
     pub fn defer(&mut self, atom: AtomNo, block: BlockNo)
         requires within { block.0 < self.old.block_count }
@@ -179,7 +189,7 @@ impl SpaceMap {
     }
 
     /// Settles an atom: its held and its deferred blocks become unused, and the placed ones are marked. A fixed block
-    /// stays marked.
+    /// stays marked. An account that the atom has, as one that was never sealed may, goes.
     pub fn settle(&mut self, atom: AtomNo)
         ensures { self.new ≡ settled self.old atom }
     {
