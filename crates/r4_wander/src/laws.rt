@@ -1,11 +1,12 @@
 //! Laws of commits. Each is the contract of a function that does nothing.
 
 ghost use Rattle.std.specs.Prelude.{◌≡◌, ◌≢◌, ℕ, ◌+◌, ◌≤◌, List, [], ◌∷◌, length, Contains};
-ghost use Rattle.r4_base.specs.Chain.{Txn, HasLog, originals};
-ghost use Rattle.r4_base.specs.Image.{Image, IsImage};
+ghost use Rattle.r4_base.specs.Chain.{Txn, HasLog, chain_pairs, originals};
+ghost use Rattle.r4_base.specs.Image.{Image, IsImage, put_pairs};
 ghost use Rattle.r4_base.specs.Value.{Content};
 ghost use Rattle.r4_base.specs.Volume.{HasContent, HasVolume, IsMadeOf, Needs};
 ghost use Rattle.r4_outside.specs.Device.{Goes, IsQuiet, LeavesOnly, TellsReads, Untouched};
+ghost use Rattle.r4_wander.specs.Kept.{IsVolumeOf};
 ghost use Rattle.r4_wander.specs.LogPlan.{IsBelow, first, parts_of, txn_of};
 ghost use Rattle.r4_wander.specs.Parts.{Parts, part, base_of, IsOrderOf, HasHomes};
 ghost use Rattle.r4_wander.specs.Progress.{Progress, ReadsAs, Stands, Commits, EndsQuiet, FitOn, calls_from};
@@ -37,6 +38,15 @@ pub fn commit_keeps_volumes()
         → IsImage n image → WithoutAtom n base chain p image → HasVolume n image m }
     ensures with_it { (n : ℕ) (base image : Image) (chain : List Txn) (p : LogPlan) (m : Content) (c : HasContent n (with_atom base chain p) m) → ((b : ℕ) → is_scratch p b → IsMadeOf c b → ⊥)
         → IsImage n image → WithAtom n base chain p image → HasVolume n image m }
+{}
+
+/// The volume that an image then has is that of the old content, or of the new one, with its superblock, its cells and its
+/// marks: so the next object id and the lost blocks are the content's (docs/commit.md, "Crashes").
+pub fn commit_keeps_blocks()
+    ensures without { (n : ℕ) (base image : Image) (chain : List Txn) (p : LogPlan) (m : Content) (v : HasVolume n base m) → IsSafe n base chain p → ((b : ℕ) → IsTarget (first p) b → Needs v b → ⊥)
+        → IsImage n image → WithoutAtom n base chain p image → IsVolumeOf n image (put_pairs (chain_pairs v.chain) base) m v.content }
+    ensures with_it { (n : ℕ) (base image : Image) (chain : List Txn) (p : LogPlan) (m : Content) (c : HasContent n (with_atom base chain p) m) → ((b : ℕ) → is_scratch p b → IsMadeOf c b → ⊥)
+        → IsImage n image → WithAtom n base chain p image → IsVolumeOf n image (with_atom base chain p) m c }
 {}
 
 /// No write of a commit but those of the homes falls on a block that the volume of some image needs which a crash may
