@@ -1,7 +1,9 @@
-//! A large volume.
+//! Many atoms, and a large volume.
+
+ghost use Rattle.std.specs.Prelude.{◌≡◌, [], IfOk, OnOk};
 
 use crate::same::same;
-use crate::spaces::{place, read};
+use crate::spaces::{charge, place, read};
 use r4_base::{AtomNo, Block, BlockNo};
 use r4_space::SpaceMap;
 use std::alloc::Global;
@@ -24,12 +26,37 @@ fn bitmap(alloc: Global, n: u64) -> Result<Block, Fail> {
 
 // A new volume of 1,048,576 blocks.
 fn large(rt: &impl Abort, alloc: Global) -> Result<SpaceMap, Fail>
+    ensures { IfOk result (λ s. s.sealed ≡ []) }
 {
     let mut bitmaps = Vec::new(alloc);
     for n in 0..33u64 {
         bitmaps.push(bitmap(alloc, n)?)?;
     }
     read(rt, alloc, &bitmaps, 1_048_576, 1_048_520).map_err(|_| Fail::from("no space"))
+}
+
+// Charges 10,000 atoms so many cells each, one of them without a block.
+fn charge_all(alloc: Global, space: &mut SpaceMap, cells: u32) -> Result<(), Fail>
+    requires { space.old.sealed ≡ [] }
+    ensures { OnOk result (space.new.sealed ≡ []) }
+{
+    for atom in 1..10_001u32 {
+        if charge(alloc, space, atom, cells, 1)?.is_some() {
+            return Err(Fail::from("a charge is refused"));
+        }
+    }
+    Ok(())
+}
+
+#[test]
+fn ten_thousand_atoms_are_charged(rt: HostRuntime) -> Result<(), Fail> {
+    let alloc = rt.alloc();
+    let mut space = large(&rt, alloc)?;
+    charge_all(alloc, &mut space, 1)?;
+    same(&rt, &space.free(), &668_520, "one cell each");
+    charge_all(alloc, &mut space, 2)?;
+    same(&rt, &space.free(), &658_520, "two cells each");
+    Ok(())
 }
 
 #[test]
