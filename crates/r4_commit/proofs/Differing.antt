@@ -10,7 +10,7 @@ use Rattle.r4_cell.specs.Seen.{CellSeen}
 use Rattle.r4_place.specs.Chosen.{block_of, fresh_blocks}
 use Rattle.r4_place.specs.declared.placed.Placed.{Placed}
 use Rattle.r4_wander.specs.Seen.{Placed as PlacedCell}
-use Rattle.r4_wander.proofs.Members.{any_cases, from_map, in_map}
+use Rattle.r4_wander.proofs.Members.{any_cases, in_map}
 use Rattle.r4_commit.specs.Places.{place_of, placed_at, kept_at, placed_cells, overwritten}
 use Rattle.r4_commit.proofs.PlanFacts.{given_fresh, in_fresh, placed_from}
 

@@ -16,7 +16,7 @@ use Rattle.r4_base.proofs.Members.{member_cases, no_member}
 use Rattle.r4_space.specs.declared.things.Account.{Account}
 use Rattle.r4_space.specs.declared.things.Claim.{Claim}
 use Rattle.r4_space.specs.Accounts.{is_account_of, is_open, is_sealed, no_account, with_atom}
-use Rattle.r4_space.specs.Space.{Space, is_block, is_claimed, is_taken, is_taken_by, unused_count, with_held, with_room}
+use Rattle.r4_space.specs.Space.{Space, is_block, is_claimed, is_taken, is_taken_by, unused_count, with_held}
 use Rattle.r4_space.specs.Words.{IsNextClear}
 use Rattle.r4_commit.specs.Planned.{IsUnused, with_all_held}
 
@@ -220,7 +220,7 @@ head_other s (b ∷ bs) (suc k) prev different unused first some lt is =
 
 -- ---- room changes no block
 
-pub unused_room : (s : Space) (calls : ℕ) → unused_count (with_room s calls) ≡ unused_count s
+pub unused_room : (s : Space) (calls : ℕ) → unused_count (record s { spare = calls }) ≡ unused_count s
 unfolding unused_count
 unused_room s calls = refl
 

@@ -1,7 +1,7 @@
 -- What a crash leaves of a commit, in words of volumes.
 use Rattle.std.proofs.Common.{◌≡◌, ◌≢◌, inl, inr, ⊎_elim, ℕ, zero, suc, List, [], length, true, refl, sym, subst, ◌∙◌}
-use Rattle.r4_base.specs.Image.{Image, IsImage}
-use Rattle.r4_base.specs.Chain.{Txn, flushed}
+use Rattle.r4_base.specs.Image.{Image, IsImage, put_pairs}
+use Rattle.r4_base.specs.Chain.{Txn, chain_pairs, flushed}
 use Rattle.r4_base.specs.Value.{Content}
 use Rattle.r4_base.specs.Volume.{HasVolume, Needs}
 use Rattle.r4_base.specs.declared.superblock.Super40.{Super40}
@@ -12,17 +12,18 @@ use Rattle.r4_cell.specs.Seen.{CellSeen}
 use Rattle.r4_outside.specs.Device.{Goes, State, LeavesOnly}
 use Rattle.r4_space.specs.Space.{Space}
 use Rattle.r4_place.specs.declared.placed.Placed.{Placed}
+use Rattle.r4_wander.specs.Kept.{IsNewVolumeOf, IsVolumeOf}
 use Rattle.r4_wander.specs.LogPlan.{parts_of}
 use Rattle.r4_wander.specs.Parts.{Parts, IsOrderOf, base_of, part}
 use Rattle.r4_wander.specs.Progress.{Commits, Progress, Stands}
 use Rattle.r4_wander.specs.Safe.{ByPart, IsEncoded, WithAtom, WithoutAtom}
 use Rattle.r4_wander.specs.declared.plan.LogPlan.{LogPlan}
-use Rattle.r4_wander.proofs.Boundary.{volume_with, volume_without}
+use Rattle.r4_wander.proofs.Boundary.{kept_with, kept_without, volume_with, volume_without}
 use Rattle.r4_wander.proofs.Settling.{length-put_writes}
 use Rattle.r4_wander.proofs.Standing.{commits_alone}
 use Rattle.r4_commit.specs.Planned.{IsPlanFor}
 use Rattle.r4_commit.specs.Plannable.{IsPlannable, is_spoken_for}
-use Rattle.r4_commit.specs.Volumes.{HasNewVolume, VolumeByPart}
+use Rattle.r4_commit.specs.Volumes.{BlocksByPart, HasNewVolume, VolumeByPart}
 use Rattle.r4_commit.proofs.NewImage.{keeps_off}
 use Rattle.r4_commit.proofs.Safety.{first_free, is_safe, is_safe_alone}
 
@@ -44,10 +45,28 @@ module _ (n : ℕ) (base : Image) (chain : List Txn) (s : Space) (atom : AtomNo)
   by_part (suc zero) image whole to = ⊎_elim (λ without. inl (old image whole without)) (λ with_it. inr (new image whole with_it)) to
   by_part (suc (suc i)) image whole to = new image whole to
 
+  -- and its blocks
+  old_blocks : (image : Image) → IsImage n image → WithoutAtom n base chain p image → IsVolumeOf n image (put_pairs (chain_pairs v.chain) base) m v.content
+  old_blocks image whole to = kept_without n base image chain p m v (is_safe n base chain s atom cells answers next last p f h fresh)
+      (λ b one needs. never_both (is_spoken_for s b) (spoken b needs) (first_free n base chain s atom cells answers next last p f h b one)) whole to
+
+  new_blocks : (image : Image) → IsImage n image → WithAtom n base chain p image → IsNewVolumeOf n base chain p image
+  new_blocks image whole to = λ o c. kept_with n base image chain p o c (keeps_off n base chain s atom cells answers next last p f h o c) whole to
+
+  kept_by_part : (i : ℕ) (image : Image) → IsImage n image → ByPart n base chain p i image → BlocksByPart n base chain p m v i image
+  kept_by_part zero image whole to = old_blocks image whole to
+  kept_by_part (suc zero) image whole to = ⊎_elim (λ without. inl (old_blocks image whole without)) (λ with_it. inr (new_blocks image whole with_it)) to
+  kept_by_part (suc (suc i)) image whole to = new_blocks image whole to
+
 pub volume_by_part : (i n : ℕ) (base image : Image) (chain : List Txn) (s : Space) (atom : AtomNo) (cells : List CellSeen) (answers : List Placed) (next : Super40) (last : BlockNo) (p : LogPlan) (m : Content) (v : HasVolume n base m)
     → IsPlanFor s atom cells answers next last p → IsPlannable n base chain s cells answers next last → p.head.0 ≢ flushed base → ((b : ℕ) → Needs v b → is_spoken_for s b ≡ true)
     → IsImage n image → ByPart n base chain p i image → VolumeByPart n base chain p m i image
 volume_by_part i n base image chain s atom cells answers next last p m v f h fresh spoken whole to = by_part n base chain s atom cells answers next last p m v f h fresh spoken i image whole to
+
+pub blocks_by_part : (i n : ℕ) (base image : Image) (chain : List Txn) (s : Space) (atom : AtomNo) (cells : List CellSeen) (answers : List Placed) (next : Super40) (last : BlockNo) (p : LogPlan) (m : Content) (v : HasVolume n base m)
+    → IsPlanFor s atom cells answers next last p → IsPlannable n base chain s cells answers next last → p.head.0 ≢ flushed base → ((b : ℕ) → Needs v b → is_spoken_for s b ≡ true)
+    → IsImage n image → ByPart n base chain p i image → BlocksByPart n base chain p m v i image
+blocks_by_part i n base image chain s atom cells answers next last p m v f h fresh spoken whole to = kept_by_part n base chain s atom cells answers next last p m v f h fresh spoken i image whole to
 
 length-base_of : (plan : Parts) (base : Image) (i : ℕ) → length (base_of plan base i) ≡ length base
 length-base_of plan base zero = refl

@@ -85,13 +85,23 @@ pub record IsPlanFor (s : Space) (atom : AtomNo) (cells : List CellSeen) (answer
   pub unused : All (IsUnused s) (blocks_of p)
   pub head : p.head ≢ last
 
--- A commit at its beginning: the plan, which it writes in order and which reads back, and the space with its blocks held.
-pub record IsPlanned (old new : Space) (atom : AtomNo) (cells : List CellSeen) (answers : List Placed) (next : Super40) (last : BlockNo) (w : Progress) : Type 0 where
+-- What contracts see of a commit under way: how far its writer is, the head that the journal header names from the commit
+-- on, and the superblock that it writes.
+pub record CommitSeen : Type 0 where
+  pub work : Progress
+  pub head : BlockNo
+  pub super40 : Super40
+
+-- A commit at its beginning: the plan, which it writes in order and which reads back, and the space with its blocks held,
+-- with the room that it had. It tells the plan's head, and `next` with the plan's two numbers.
+pub record IsPlanned (old new : Space) (atom : AtomNo) (cells : List CellSeen) (answers : List Placed) (next : Super40) (last : BlockNo) (c : CommitSeen) : Type 0 where
   pub plan : LogPlan
   pub is_for : IsPlanFor old atom cells answers next last plan
   pub below : IsBelow old.block_count plan
-  pub held : new ≡ record (with_all_held old atom (blocks_of plan)) { spare = new.spare }
-  pub order : IsOrderOf (parts_of plan) w.plan
+  pub held : new ≡ with_all_held old atom (blocks_of plan)
+  pub order : IsOrderOf (parts_of plan) c.work.plan
   pub encoded : IsEncoded plan
-  pub part : w.part ≡ 0
-  pub done : w.done ≡ 0
+  pub part : c.work.part ≡ 0
+  pub done : c.work.done ≡ 0
+  pub head : c.head ≡ plan.head
+  pub super40 : c.super40 ≡ record next { free_blocks = plan.free_blocks; flushes = plan.id }

@@ -1,6 +1,6 @@
 //! The blocks of a commit's log.
 
-ghost use Rattle.std.specs.Prelude.{◌≡◌, ◌≢◌, ◌+◌, ◌/◌, ◌<◌, ◌≤◌, ℕ, map, length, All, false, slice_index, IfOk};
+ghost use Rattle.std.specs.Prelude.{◌≡◌, ◌≢◌, ◌+◌, ◌/◌, ◌<◌, ◌≤◌, ℕ, map, length, All, false, slice_index, IfOk, OnOk};
 ghost use Rattle.r4_base.specs.Image.{AreDifferent};
 ghost use Rattle.r4_base.specs.Bitmap.{is_fixed};
 ghost use Rattle.r4_space.specs.Space.{is_taken, unused_count, with_held};
@@ -12,7 +12,7 @@ use crate::homes::Home;
 use r4_base::{AtomNo, BlockNo, Memory, RECORD_PAIRS};
 use r4_space::SpaceMap;
 use r4_wander::WanderedCopy;
-use std::alloc::Global;
+use std::alloc::{AllocError, Global};
 
 /// The blocks of the copies, in the order of the copies, those of the records, and the head's.
 #[derive(Drop)]
@@ -23,7 +23,7 @@ pub(crate) struct LogBlocks {
 }
 
 /// Holds the blocks of a log of so many copies: one for each of them, one for each record, and the head's, which is
-/// another one than `prev`. After an error some of them may be held.
+/// another one than `prev`. The space has the same room for calls as before. After an error some of them may be held.
 pub(crate) fn hold_log(
     alloc: Global,
     atom: AtomNo,
@@ -35,7 +35,7 @@ pub(crate) fn hold_log(
     requires unused { copies + (copies + 253) / 254 + 1 ≤ unused_count space.old }
     ensures copies { IfOk result (λ log. length log.copies.items ≡ copies) }
     ensures records { IfOk result (λ log. length log.records.items ≡ (copies + 253) / 254) }
-    ensures held { IfOk result (λ log. space.new ≡ record (with_all_held space.old atom (blocks_in log)) { spare = space.new.spare }) }
+    ensures held { IfOk result (λ log. space.new ≡ with_all_held space.old atom (blocks_in log)) }
     ensures different { IfOk result (λ log. AreDifferent (blocks_in log)) }
     ensures unused { IfOk result (λ log. All (IsUnused space.old) (blocks_in log)) }
     ensures head { IfOk result (λ log. log.head ≢ prev) }
@@ -43,7 +43,7 @@ pub(crate) fn hold_log(
     space.lawful();
     let records = copies.div_ceil(RECORD_PAIRS);
     let count = copies + records + 1;
-    space.room(alloc, count as u64)?;
+    more_room(alloc, count as u64, space)?;
     let mut blocks = hold_blocks(alloc, atom, prev, count, space)?;
     let head = blocks[count - 1];
     let records = Vec::from_slice(alloc, &blocks[copies..count - 1])?;
@@ -53,6 +53,14 @@ pub(crate) fn hold_log(
         records,
         head,
     })
+}
+
+/// Makes room for so many calls besides those for which there is room.
+fn more_room(alloc: Global, calls: u64, space: &mut SpaceMap) -> Result<(), Memory>
+    ensures { OnOk result (space.new ≡ record space.old { spare = space.old.spare + calls }) }
+{
+    let all = space.spare().checked_add(calls).ok_or(AllocError)?;
+    space.room(alloc, all)
 }
 
 /// The copies: what is overwritten, each at its block of the log.
@@ -92,6 +100,7 @@ fn hold_blocks(
     ensures held { IfOk result (λ v. space.new ≡ record (with_all_held space.old atom (map (λ b. b.0) v.items)) { spare = space.new.spare }) }
     ensures different { IfOk result (λ v. AreDifferent (map (λ b. b.0) v.items)) }
     ensures unused { IfOk result (λ v. All (IsUnused space.old) (map (λ b. b.0) v.items)) }
+    ensures left { OnOk result (space.new.spare + count ≡ space.old.spare) }
     ensures first { IfOk result (λ v. IsUnused space.old prev.0 → slice_index (map (λ b. b.0) v.items) 0 ≡ prev.0) }
 {
     let mut blocks = Vec::with_capacity(alloc, count)?;

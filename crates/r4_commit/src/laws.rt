@@ -21,7 +21,7 @@ ghost use Rattle.r4_wander.specs.Torn.{IsTarget};
 ghost use Rattle.r4_wander.specs.declared.plan.LogPlan.{LogPlan};
 ghost use Rattle.r4_commit.specs.Planned.{IsPlanFor};
 ghost use Rattle.r4_commit.specs.Plannable.{IsPlannable, is_spoken_for};
-ghost use Rattle.r4_commit.specs.Volumes.{VolumeByPart};
+ghost use Rattle.r4_commit.specs.Volumes.{BlocksByPart, VolumeByPart};
 
 /// A plan is safe on an image on which it may be made, where its head is not the one that the journal footer names; where
 /// nothing is unflushed it never is (docs/commit.md, "Plans").
@@ -70,7 +70,8 @@ pub fn commits_are_bounded()
 
 /// A plan that was made for an image commits, as the clauses of `step` ask for, where nothing is unflushed (`commits`).
 /// What settles by the part that is under way has the old volume or the new one, where each block that the old volume
-/// needs is marked, held or deferred (`image`). So does whatever a crash leaves at any moment of a step: the clause
+/// needs is marked, held or deferred (`image`), and with it that volume's superblock, cells and marks (`keeps_blocks`): so
+/// its next object id and its lost blocks. So does whatever a crash leaves at any moment of a step: the clause
 /// `volumes` of `step` (docs/commit.md, "Plans").
 pub fn commit_settles_by_plan()
     ensures commits { (w : Progress) (n : ℕ) (base : Image) (s : Space) (atom : AtomNo) (cells : List CellSeen) (answers : List Placed) (next : Super40) (last : BlockNo) (p : LogPlan)
@@ -78,4 +79,7 @@ pub fn commit_settles_by_plan()
     ensures image { (i n : ℕ) (base image : Image) (chain : List Txn) (s : Space) (atom : AtomNo) (cells : List CellSeen) (answers : List Placed) (next : Super40) (last : BlockNo) (p : LogPlan) (m : Content) (v : HasVolume n base m)
         → IsPlanFor s atom cells answers next last p → IsPlannable n base chain s cells answers next last → p.head.0 ≢ flushed base → ((b : ℕ) → Needs v b → is_spoken_for s b ≡ true)
         → IsImage n image → ByPart n base chain p i image → VolumeByPart n base chain p m i image }
+    ensures keeps_blocks { (i n : ℕ) (base image : Image) (chain : List Txn) (s : Space) (atom : AtomNo) (cells : List CellSeen) (answers : List Placed) (next : Super40) (last : BlockNo) (p : LogPlan) (m : Content) (v : HasVolume n base m)
+        → IsPlanFor s atom cells answers next last p → IsPlannable n base chain s cells answers next last → p.head.0 ≢ flushed base → ((b : ℕ) → Needs v b → is_spoken_for s b ≡ true)
+        → IsImage n image → ByPart n base chain p i image → BlocksByPart n base chain p m v i image }
 {}

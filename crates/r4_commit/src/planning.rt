@@ -30,10 +30,11 @@ use std::sync::Arc;
 /// all bitmaps, changed or not. `next` is the superblock with the new root, height, next object id and number of files,
 /// and with the old `free_blocks` and `flushes`: `plan` makes `flushes` one more, modulo 2^64, and `free_blocks` the
 /// number of 0 bits of the new bitmaps. `prev` is the head that the journal header names; the new head is another block.
-/// The blocks of the log are held for the atom from then on. Every block that is written is below the block count. The
-/// only error is want of memory, and then the space is as before. Condition: as many blocks are unused as the price's
-/// formula gives for the cells that are overwritten; each of these has a block below the block count, which is not
-/// block 0; the blocks in `placed` are below it too; and `next` counts the blocks of the space (docs/commit.md, "Plans").
+/// The blocks of the log are held for the atom from then on, and the space has the room for calls that it had. Every block
+/// that is written is below the block count. The only error is want of memory, and then the space is as before. Condition:
+/// as many blocks are unused as the price's formula gives for the cells that are overwritten; each of these has a block
+/// below the block count, which is not block 0; the blocks in `placed` are below it too; and `next` counts the blocks of
+/// the space (docs/commit.md, "Plans").
 pub fn plan(
     alloc: Global,
     atom: AtomNo,
@@ -48,15 +49,27 @@ pub fn plan(
     requires placed { All (λ b. b < space.old.block_count) (fresh_blocks placed.now) }
     requires blocks { next.now.block_count ≡ space.old.block_count }
     ensures planned { IfOk result (IsPlanned space.old space.new atom (map (λ cell. arc_value cell) cells.now) placed.now next.now prev) }
-    ensures fits { IfOk result (λ plan. FitOn space.old.block_count plan.plan) }
+    ensures fits { IfOk result (λ plan. FitOn space.old.block_count plan.work.plan) }
     ensures err { OnErr result (space.new ≡ space.old) }
 {
     space.lawful();
     let mut held = space.copy(alloc)?;
-    let plan = make_plan(alloc, atom, cells, placed, next, prev, &mut held)?;
-    let writer = Writer::new(alloc, plan)?;
+    let made = make_plan(alloc, atom, cells, placed, next, prev, &mut held)?;
+    let head = made.plan.head;
+    let writer = Writer::new(alloc, made.plan)?;
     *space = held;
-    Ok(CommitPlan { writer })
+    Ok(CommitPlan {
+        writer,
+        head,
+        super40: made.super40,
+    })
+}
+
+/// A plan, and the superblock that it writes.
+#[derive(Drop)]
+struct Made {
+    plan: LogPlan,
+    super40: Super40,
 }
 
 /// What the commit writes, where the blocks of its log are held; after an error some of them may be. The condition is
@@ -69,15 +82,16 @@ fn make_plan(
     next: &Super40,
     prev: BlockNo,
     space: &mut SpaceMap,
-) -> Result<LogPlan, Memory>
+) -> Result<Made, Memory>
     requires room { price_formula (length (overwritten_blocks placed.now (map (λ cell. arc_value cell) cells.now))) (bitmap_count space.old.block_count) ≤ unused_count space.old }
     requires overwritten { All (λ b. (b ≢ 0) × (b < space.old.block_count)) (overwritten_blocks placed.now (map (λ cell. arc_value cell) cells.now)) }
     requires placed { All (λ b. b < space.old.block_count) (fresh_blocks placed.now) }
     requires blocks { next.now.block_count ≡ space.old.block_count }
-    ensures is_for { IfOk result (IsPlanFor space.old atom (map (λ cell. arc_value cell) cells.now) placed.now next.now prev) }
-    ensures below { IfOk result (IsBelow space.old.block_count) }
-    ensures written { IfOk result CanBeWritten }
-    ensures held { IfOk result (λ p. space.new ≡ record (with_all_held space.old atom (blocks_of p)) { spare = space.new.spare }) }
+    ensures is_for { IfOk result (λ m. IsPlanFor space.old atom (map (λ cell. arc_value cell) cells.now) placed.now next.now prev m.plan) }
+    ensures below { IfOk result (λ m. IsBelow space.old.block_count m.plan) }
+    ensures written { IfOk result (λ m. CanBeWritten m.plan) }
+    ensures held { IfOk result (λ m. space.new ≡ with_all_held space.old atom (blocks_of m.plan)) }
+    ensures super40 { IfOk result (λ m. m.super40 ≡ record next.now { free_blocks = m.plan.free_blocks; flushes = m.plan.id }) }
 {
     space.lawful();
     let places = read_places(alloc, placed)?;
@@ -87,7 +101,7 @@ fn make_plan(
     let homes = make_homes(alloc, &last, bitmaps, cells, &places)?;
     let log = hold_log(alloc, atom, prev, homes.len(), space)?;
     let wandered = lay_out(alloc, homes, &log.copies)?;
-    Ok(LogPlan {
+    let plan = LogPlan {
         id: last.flushes,
         prev,
         head: log.head,
@@ -97,5 +111,9 @@ fn make_plan(
         free_blocks: last.free_blocks,
         nr_files: last.file_count,
         next_oid: last.oid,
+    };
+    Ok(Made {
+        plan,
+        super40: last,
     })
 }

@@ -25,8 +25,8 @@ use std::test::Fail;
 
 // Makes all steps.
 fn finish(commit: &mut CommitPlan, dev: &mut MemoryDevice) -> Result<(), Fail>
-    requires begun { commit.old.part ≡ 0 }
-    requires fits { FitOn (memory_state dev.old).blocks commit.old.plan }
+    requires begun { commit.old.work.part ≡ 0 }
+    requires fits { FitOn (memory_state dev.old).blocks commit.old.work.plan }
     ensures { Goes (memory_state dev.old) (memory_state dev.new) }
 {
     for _step in 0..200u64 {

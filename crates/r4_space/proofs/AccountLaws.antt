@@ -1,14 +1,16 @@
 -- Accounts of atoms, each of which has one at most.
-use Rattle.std.proofs.Common.{◌≡◌, ◌≢◌, ℕ, zero, suc, ◌+◌, ◌-◌, ◌<◌, ◌≤◌, true, false, eqb, List, [], ◌∷◌, ◌++◌, length, refl, sym, ap, ◌∙◌, arith, inl, inr}
-use Rattle.std.specs.List.{list_any}
+use Rattle.std.proofs.Common.{◌≡◌, ◌≢◌, ℕ, zero, suc, get_or, set, ◌+◌, ◌-◌, ◌<◌, ◌≤◌, true, false, not, eqb, List, [], ◌∷◌, ◌++◌, length, refl, sym, ap, ◌∙◌, arith, inl, inr}
+use Rattle.std.specs.Prelude.{map}
+use Rattle.std.specs.List.{list_any, remove}
 use Rattle.std.proofs.lemmas.Bool.{cases_Bool, eqb-true, eq-eqb, ne_eqb}
-use Rattle.std.proofs.lemmas.List.{length-append}
-use Rattle.std.proofs.lemmas.List.Sums.{sum_by-cons, sum_by-append}
+use Rattle.std.proofs.lemmas.List.{length-append, length-map, get_or-map}
+use Rattle.std.proofs.lemmas.List.Elements.{All-filter, All-push}
+use Rattle.std.proofs.lemmas.List.Sums.{sum_by-cons, sum_by-append, length-filter, count_by-le-length}
 use Rattle.std.proofs.lemmas.List.Folds.{list_any-append}
 use Rattle.r4_base.specs.declared.things.AtomNo.{AtomNo}
 use Rattle.r4_space.specs.declared.things.Account.{Account}
-use Rattle.r4_space.specs.Books.{IsBooks}
-use Rattle.r4_space.specs.Accounts.{account_at, due_of, dues, EachOnce, is_account_of, is_open, no_account, price_formula, price_of, sum_account, with_account, without_account}
+use Rattle.r4_space.specs.Books.{AreUpTo, IsBooks}
+use Rattle.r4_space.specs.Accounts.{StandsAt, account_at, in_place, due_of, dues, EachOnce, is_account_of, is_open, no_account, price_formula, price_of, sum_account, with_account, without_account, without_atom, is_atom}
 
 -- ---- what an atom takes up
 
@@ -143,6 +145,140 @@ length-without_open atom (a ∷ rest) open_atom = elim (cases_Bool (is_account_o
   | inr miss ↦ let e = rw miss at open_atom in let ih = length-without_open atom rest e in rw miss (omega arith)
 ]
 
+-- ---- where an account stands
+
+pub stands_open : (accounts : List Account) (atom : AtomNo) (i : ℕ) → StandsAt accounts atom i → is_open accounts atom ≡ true
+stands_open [] atom i at = absurd (omega (arith, at.0))
+stands_open (a ∷ rest) atom zero at = rw at.1 refl
+stands_open (a ∷ rest) atom (suc i) at =
+    let ih = stands_open rest atom i (omega (arith, at.0), at.1) in
+    elim (cases_Bool (is_account_of atom a)) [ inl hit ↦ rw hit refl | inr miss ↦ rw miss ih ]
+
+pub account_is : (accounts : List Account) (atom : AtomNo) (i : ℕ) → EachOnce accounts → StandsAt accounts atom i → get_or accounts i (no_account atom) ≡ account_at accounts atom
+unfolding EachOnce
+account_is [] atom i once at = absurd (omega (arith, at.0))
+account_is (a ∷ rest) atom zero once at = rw at.1 refl
+account_is (a ∷ rest) atom (suc i) once at =
+    let later : StandsAt rest atom i = (omega (arith, at.0), at.1) in
+    elim (cases_Bool (is_account_of atom a)) [
+      | inl hit ↦
+          let none : is_open rest atom ≡ false = same_open rest atom a.atom (sym (eqb-true _ _ hit)) ∙ once.0 in
+          let some = stands_open rest atom i later in
+          absurd cc
+      | inr miss ↦ rw miss (account_is rest atom i once.1 later)
+    ]
+
+pub no_account_at : (accounts : List Account) (atom : AtomNo) → is_open accounts atom ≡ false → account_at accounts atom ≡ no_account atom
+no_account_at [] atom none = refl
+no_account_at (a ∷ rest) atom none = elim (cases_Bool (is_account_of atom a)) [
+  | inl hit ↦ let e = rw hit at none in absurd cc
+  | inr miss ↦ let e = rw miss at none in rw miss (no_account_at rest atom e)
+]
+
+pub removed : (accounts : List Account) (atom : AtomNo) (i : ℕ) → EachOnce accounts → StandsAt accounts atom i → remove accounts i ≡ without_account atom accounts
+unfolding EachOnce
+removed [] atom i once at = absurd (omega (arith, at.0))
+removed (a ∷ rest) atom zero once at =
+    let none : is_open rest atom ≡ false = same_open rest atom a.atom (sym (eqb-true _ _ at.1)) ∙ once.0 in
+    rw at.1 (sym (none_without atom rest none))
+removed (a ∷ rest) atom (suc i) once at =
+    let later : StandsAt rest atom i = (omega (arith, at.0), at.1) in
+    elim (cases_Bool (is_account_of atom a)) [
+      | inl hit ↦
+          let none : is_open rest atom ≡ false = same_open rest atom a.atom (sym (eqb-true _ _ hit)) ∙ once.0 in
+          let some = stands_open rest atom i later in
+          absurd cc
+      | inr miss ↦ rw miss (ap (λ (others : List Account). a ∷ others) (removed rest atom i once.1 later))
+    ]
+
+-- ---- an account in place of its atom's
+
+none_placed : (accounts : List Account) (a : Account) → is_open accounts a.atom ≡ false → map (in_place a) accounts ≡ accounts
+none_placed [] a none = refl
+none_placed (b ∷ rest) a none = elim (cases_Bool (is_account_of a.atom b)) [
+  | inl hit ↦ let e = rw hit at none in absurd cc
+  | inr miss ↦ let e = rw miss at none in rw miss (ap (λ (others : List Account). b ∷ others) (none_placed rest a e))
+]
+
+pub placed : (accounts : List Account) (a : Account) (i : ℕ) → EachOnce accounts → StandsAt accounts a.atom i → set accounts i a ≡ map (in_place a) accounts
+unfolding EachOnce
+placed [] a i once at = absurd (omega (arith, at.0))
+placed (b ∷ rest) a zero once at =
+    let none : is_open rest a.atom ≡ false = same_open rest a.atom b.atom (sym (eqb-true _ _ at.1)) ∙ once.0 in
+    rw at.1 (ap (λ (others : List Account). a ∷ others) (sym (none_placed rest a none)))
+placed (b ∷ rest) a (suc i) once at =
+    let later : StandsAt rest a.atom i = (omega (arith, at.0), at.1) in
+    elim (cases_Bool (is_account_of a.atom b)) [
+      | inl hit ↦
+          let none : is_open rest a.atom ≡ false = same_open rest a.atom b.atom (sym (eqb-true _ _ hit)) ∙ once.0 in
+          let some = stands_open rest a.atom i later in
+          absurd cc
+      | inr miss ↦ rw miss (ap (λ (others : List Account). b ∷ others) (placed rest a i once.1 later))
+    ]
+
+same_atom : (a b : Account) → (in_place a b).atom.0 ≡ b.atom.0
+same_atom a b = elim (cases_Bool (is_account_of a.atom b)) [ inl hit ↦ rw hit (sym (eqb-true _ _ hit)) | inr miss ↦ rw miss refl ]
+
+open_placed : (accounts : List Account) (a : Account) (atom : AtomNo) → is_open (map (in_place a) accounts) atom ≡ is_open accounts atom
+open_placed [] a atom = refl
+open_placed (b ∷ rest) a atom =
+    let here : is_account_of atom (in_place a b) ≡ is_account_of atom b = ap (λ (n : ℕ). eqb n atom.0) (same_atom a b) in
+    rw (here, open_placed rest a atom) refl
+
+once-placed : (accounts : List Account) (a : Account) → EachOnce accounts → EachOnce (map (in_place a) accounts)
+unfolding EachOnce
+once-placed [] a once = once
+once-placed (b ∷ rest) a once =
+    (open_placed rest a (in_place a b).atom ∙ same_open rest (in_place a b).atom b.atom (same_atom a b) ∙ once.0, once-placed rest a once.1)
+
+dues-placed : (bitmaps : ℕ) (accounts : List Account) (a : Account) → EachOnce accounts → is_open accounts a.atom ≡ true
+    → dues bitmaps (map (in_place a) accounts) + due_of bitmaps (account_at accounts a.atom) ≡ dues bitmaps accounts + due_of bitmaps a
+unfolding EachOnce
+dues-placed bitmaps [] a once hit = absurd cc
+dues-placed bitmaps (b ∷ rest) a once some = elim (cases_Bool (is_account_of a.atom b)) [
+  | inl hit ↦
+      let none : is_open rest a.atom ≡ false = same_open rest a.atom b.atom (sym (eqb-true _ _ hit)) ∙ once.0 in
+      let same : map (in_place a) rest ≡ rest = none_placed rest a none in
+      let all = dues-cons bitmaps b rest in
+      let new = dues-cons bitmaps a rest in
+      rw (hit, same) (omega arith)
+  | inr miss ↦
+      let e = rw miss at some in
+      let ih = dues-placed bitmaps rest a once.1 e in
+      let all = dues-cons bitmaps b rest in
+      let new = dues-cons bitmaps b (map (in_place a) rest) in
+      rw miss (omega arith)
+]
+
+-- ---- no atom above the highest
+
+pub upto_add : (highest more : ℕ) (accounts : List Account) (a : Account) → AreUpTo highest accounts → highest ≤ more → a.atom.0 ≤ more → AreUpTo more (accounts ++ a ∷ [])
+upto_add highest more accounts a are le within = All-push (λ (x : Account). x.atom.0 ≤ more) accounts a (λ k d lt. let one = are k d lt in omega arith) within
+
+pub upto_without : (highest : ℕ) (accounts : List Account) (atom : AtomNo) → AreUpTo highest accounts → AreUpTo highest (without_account atom accounts)
+upto_without highest accounts atom are = All-filter (λ (a : Account). not (is_account_of atom a)) (λ (a : Account). a.atom.0 ≤ highest) accounts are
+
+upto_placed : (highest more : ℕ) (accounts : List Account) (a : Account) → AreUpTo highest accounts → highest ≤ more → AreUpTo more (map (in_place a) accounts)
+upto_placed highest more accounts a are le = λ k d lt.
+    let size = length-map accounts (in_place a) in
+    let at : get_or (map (in_place a) accounts) k d ≡ in_place a (get_or accounts k d) = get_or-map (in_place a) accounts k d d (omega arith) in
+    let one = are k d (omega arith) in
+    let same = same_atom a (get_or accounts k d) in
+    rw at (omega arith)
+
+pub upto_with : (highest more : ℕ) (accounts : List Account) (a : Account) → AreUpTo highest accounts → highest ≤ more → a.atom.0 ≤ more → AreUpTo more (with_account accounts a)
+upto_with highest more accounts a are le within = elim (cases_Bool (is_open accounts a.atom)) [
+  | inl there ↦ rw there (upto_placed highest more accounts a are le)
+  | inr new ↦ rw new (upto_add highest more accounts a are le within)
+]
+
+pub none_above : (highest : ℕ) (accounts : List Account) (atom : AtomNo) → AreUpTo highest accounts → highest < atom.0 → is_open accounts atom ≡ false
+none_above highest [] atom are above = refl
+none_above highest (a ∷ rest) atom are above =
+    let here = are 0 a (omega arith) in
+    let miss : is_account_of atom a ≡ false = ne_eqb _ _ (omega arith) in
+    rw miss (none_above highest rest atom (λ k d lt. are (suc k) d (omega arith)) above)
+
 -- ---- the books as a whole
 
 -- what one atom takes up is a part of what all take up
@@ -216,9 +352,20 @@ books_freed bitmaps owed spare room room_sealed atoms sealed atom is open_atom =
 pub books_put : (bitmaps owed spare room room_sealed less more after : ℕ) (atoms : List Account) (sealed : List AtomNo) (a : Account) → IsBooks bitmaps atoms sealed owed spare room room_sealed
     → owed - due_of bitmaps (account_at atoms a.atom) + due_of bitmaps a ≡ after → after ≤ 1048576 → room ≤ more → less + 1 ≤ spare
     → IsBooks bitmaps (with_account atoms a) sealed after less more room_sealed
-books_put bitmaps owed spare room room_sealed less more after atoms sealed a is sum fits grows left =
-    let out = books_without bitmaps owed spare room room_sealed atoms sealed a.atom is in
-    rw (← sum) (books_with bitmaps (owed - due_of bitmaps (account_at atoms a.atom)) spare room room_sealed less more (without_account a.atom atoms) sealed a out (closed-without a.atom atoms) (omega arith) grows left)
+books_put bitmaps owed spare room room_sealed less more after atoms sealed a is sum fits grows left = elim (cases_Bool (is_open atoms a.atom)) [
+  | inl there ↦
+      let all = dues-placed bitmaps atoms a is.once there in
+      let part = (due_small bitmaps owed spare room room_sealed atoms sealed a.atom is).0 in
+      let size = length-map atoms (in_place a) in
+      let counted = is.counted in
+      let enough = is.enough in
+      let enough_sealed = is.enough_sealed in
+      rw there (record { few = is.few; once = once-placed atoms a is.once; counted = omega arith; small = fits; enough = omega arith; enough_sealed = omega arith })
+  | inr new ↦
+      let nothing : due_of bitmaps (account_at atoms a.atom) ≡ 0 = ap (due_of bitmaps) (no_account_at atoms a.atom new) in
+      let same : owed + due_of bitmaps a ≡ after = omega arith in
+      rw (new, ← same) (books_with bitmaps owed spare room room_sealed less more atoms sealed a is new (omega arith) grows left)
+]
 
 -- the account of `gone` is added to that of `kept`
 pub books_merged : (bitmaps owed spare room room_sealed more : ℕ) (atoms : List Account) (sealed : List AtomNo) (kept gone : AtomNo) → IsBooks bitmaps atoms sealed owed spare room room_sealed
@@ -258,6 +405,15 @@ pub books_forgotten : (bitmaps owed spare room room_sealed : ℕ) (atoms : List 
 books_forgotten bitmaps owed spare room room_sealed atoms sealed rest is fewer =
     let enough_sealed = is.enough_sealed in
     record { few = is.few; once = is.once; counted = is.counted; small = is.small; enough = is.enough; enough_sealed = omega arith }
+
+-- an atom settles, with the account that it may have
+pub books_settled : (bitmaps owed spare room room_sealed : ℕ) (atoms : List Account) (sealed : List AtomNo) (atom : AtomNo) → IsBooks bitmaps atoms sealed owed spare room room_sealed
+    → IsBooks bitmaps (without_account atom atoms) (without_atom atom sealed) (owed - due_of bitmaps (account_at atoms atom)) spare room room_sealed
+books_settled bitmaps owed spare room room_sealed atoms sealed atom is =
+    let count = length-filter (λ (a : AtomNo). not (is_atom atom a)) sealed in
+    let most = count_by-le-length (λ (a : AtomNo). not (is_atom atom a)) sealed in
+    books_forgotten bitmaps (owed - due_of bitmaps (account_at atoms atom)) spare room room_sealed (without_account atom atoms) sealed (without_atom atom sealed)
+    (books_without bitmaps owed spare room room_sealed atoms sealed atom is) (omega arith)
 
 -- a charge: the new numbers take the place of the old ones
 pub books_charged : (bitmaps owed spare room room_sealed more before after need free : ℕ) (atoms : List Account) (sealed : List AtomNo) (a : Account) → IsBooks bitmaps atoms sealed owed spare room room_sealed

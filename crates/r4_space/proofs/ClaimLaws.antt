@@ -141,10 +141,10 @@ blocks_deferred n marked placed taken held deferred c is lt =
 
 -- ---- the deferred blocks of one atom become another's
 
-renamed_block : (kept gone : AtomNo) (c : Claim) → (renamed kept gone c).block.0 ≡ c.block.0
+pub renamed_block : (kept gone : AtomNo) (c : Claim) → (renamed kept gone c).block.0 ≡ c.block.0
 renamed_block kept gone c = elim (cases_Bool (is_atom gone c.atom)) [ inl hit ↦ rw hit refl | inr miss ↦ rw miss refl ]
 
-claimed-renamed : (kept gone : AtomNo) (claims : List Claim) (k : ℕ) → is_claimed (map (renamed kept gone) claims) k ≡ is_claimed claims k
+pub claimed-renamed : (kept gone : AtomNo) (claims : List Claim) (k : ℕ) → is_claimed (map (renamed kept gone) claims) k ≡ is_claimed claims k
 claimed-renamed kept gone [] k = refl
 claimed-renamed kept gone (c ∷ rest) k =
     let here : is_block k (renamed kept gone c) ≡ is_block k c = ap (λ (b : ℕ). eqb b k) (renamed_block kept gone c) in

@@ -6,3 +6,6 @@ pub mod SpaceLaws
 pub mod MarkLaws
 pub mod BitmapLaws
 pub mod UsedLaws
+pub mod BitsLaws
+pub mod HalfLaws
+pub mod ClaimedLaws

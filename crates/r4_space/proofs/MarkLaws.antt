@@ -1,12 +1,11 @@
 -- The bits of a bitmap, as they are written one by one.
-use Rattle.std.proofs.Common.{◌≡◌, ℕ, zero, suc, ◌+◌, ◌-◌, ◌/◌, ◌%◌, ◌<◌, ◌≤◌, Bool, true, false, not, ◌||◌, ◌&&◌, cond, eqb, List, [], ◌∷◌, ◌++◌, get_or, set, refl, sym, ap, ◌∙◌, arith, inl, inr}
-use Rattle.std.specs.Prelude.{replicate, nat_le}
+use Rattle.std.proofs.Common.{◌≡◌, ℕ, ◌+◌, ◌-◌, ◌<◌, ◌≤◌, Bool, true, false, not, ◌||◌, ◌&&◌, cond, eqb, List, [], ◌∷◌, ◌++◌, get_or, set, refl, sym, ap, ◌∙◌, arith, inl, inr}
+use Rattle.std.specs.Prelude.{nat_le}
 use Rattle.std.specs.List.{list_any}
 use Rattle.std.proofs.lemmas.Bool.{cases_Bool, cases_eq, eq-eqb, ne_eqb, eqb-true, leb-true, leb-false}
 use Rattle.std.proofs.lemmas.List.{get_or-set_same, get_or-set_other}
 use Rattle.std.proofs.lemmas.List.Elements.{filter-append, All-filter}
 use Rattle.std.proofs.lemmas.List.Folds.{list_any-append, list_any_none}
-use Rattle.std.proofs.lemmas.Nat.Bits.{bit_at-zero}
 use Rattle.r4_base.specs.Bitmap.{bits_of, is_fixed, is_used}
 use Rattle.r4_base.specs.declared.things.AtomNo.{AtomNo}
 use Rattle.r4_base.proofs.Bits.{length-bits_of, get_or-bits_of}
@@ -19,26 +18,6 @@ use Rattle.r4_space.specs.Kept.{AreWithin}
 
 shown : (old new : List ℕ) (i k : ℕ) (v : Bool) → bits_of new ≡ set (bits_of old) i v → k < 32736 → is_used new k ≡ get_or (set (bits_of old) i v) k false
 shown old new i k v is lt = sym (get_or-bits_of k false new lt) ∙ ap (λ (bits : List Bool). get_or bits k false) is
-
-pub shows_set : (old new : List ℕ) (i k : ℕ) → bits_of new ≡ set (bits_of old) i true → i < 32736 → k < 32736 → is_used new k ≡ (is_used old k || (true && eqb k i))
-shows_set old new i k is lt within =
-    let size = length-bits_of old in
-    elim (cases_eq k i) [
-      | inl at ↦
-          let hit : eqb k i ≡ true = eq-eqb _ _ at in
-          shown old new i k true is within ∙ rw (at, get_or-set_same (bits_of old) i true false (omega arith)) (sym (or_last (is_used old i) (eqb i i) (eq-eqb i i refl)))
-      | inr other ↦
-          let miss : eqb k i ≡ false = ne_eqb _ _ other in
-          shown old new i k true is within ∙ get_or-set_other (bits_of old) i k true false other ∙ get_or-bits_of k false old within ∙ rw miss (sym (or_none (is_used old k)))
-    ]
-  where
-    or_last : (a b : Bool) → b ≡ true → (a || b) ≡ true
-    or_last true b e = refl
-    or_last false b e = e
-
-    or_none : (a : Bool) → (a || false) ≡ a
-    or_none true = refl
-    or_none false = refl
 
 pub shows_clear : (old new : List ℕ) (first b k : ℕ) → bits_of new ≡ set (bits_of old) (b - first) false → first ≤ b → b - first < 32736 → k < 32736 → is_used new k ≡ (is_used old k && not (true && eqb b (first + k)))
 shows_clear old new first b k is le lt within =
@@ -72,17 +51,6 @@ shows_other old first b k freed out within = elim (cases_Bool freed) [
     and_all : (a : Bool) → (a && true) ≡ a
     and_all true = refl
     and_all false = refl
-
--- ---- a block of zeros
-
-byte_of_zeros : (n i z : ℕ) → z ≡ 0 → get_or (replicate n z) i z ≡ z
-byte_of_zeros zero i z e = refl
-byte_of_zeros (suc n) zero z e = refl
-byte_of_zeros (suc n) (suc i) z e = byte_of_zeros n i z e
-
-pub unused_zeros : (n k : ℕ) → is_used (replicate n 0) k ≡ false
-unfolding is_used
-unused_zeros n k = rw (byte_of_zeros n (4 + k / 8) 0 refl, bit_at-zero (k % 8)) refl
 
 -- ---- one claim more
 

@@ -1,10 +1,10 @@
 -- A space as a whole.
-use Rattle.std.proofs.Common.{◌≡◌, ℕ, ◌+◌, ◌-◌, ◌<◌, ◌≤◌, Bool, true, false, not, ◌||◌, List, [], length, get_or, refl, sym, ap, ◌∙◌, arith}
+use Rattle.std.proofs.Common.{◌≡◌, ℕ, suc, ◌+◌, ◌-◌, ◌<◌, ◌≤◌, Bool, true, false, not, ◌||◌, eqb, List, [], ◌∷◌, length, get_or, refl, sym, ap, ◌∙◌, arith}
 use Rattle.std.specs.Prelude.{map, replicate, count_by, nat_le, None, Vec}
 use Rattle.std.specs.Vec.{with_items}
 use Rattle.std.specs.List.{range_with_len}
-use Rattle.std.proofs.lemmas.Bool.{false_from_ne_true, or_left}
-use Rattle.std.proofs.lemmas.List.{length-replicate, get_or-replicate, with_items_is}
+use Rattle.std.proofs.lemmas.Bool.{false_from_ne_true, or_left, ne_eqb}
+use Rattle.std.proofs.lemmas.List.{length-replicate, get_or-replicate, get_or_past, with_items_is}
 use Rattle.std.proofs.lemmas.List.FromFn.{length-map-range_with_len, get_or-map-range_with_len}
 use Rattle.std.proofs.lemmas.List.Sums.{length-filter, count_by-le-length}
 use Rattle.r4_base.specs.Bitmap.{is_fixed, bitmap_count}
@@ -12,18 +12,18 @@ use Rattle.r4_base.specs.declared.things.AtomNo.{AtomNo}
 use Rattle.r4_space.specs.declared.things.Account.{Account}
 use Rattle.r4_space.specs.declared.things.Claim.{Claim}
 use Rattle.r4_space.specs.Accounts.{dues, is_atom}
-use Rattle.r4_space.specs.Space.{claims_of, claims_without, free_of, freed_by, is_marked_after, is_marked_by, is_taken_by, unused_count, up_to}
-use Rattle.r4_space.specs.Kept.{AreBlocks, IsSpace}
+use Rattle.r4_space.specs.Space.{claims_of, claims_without, is_claimed, free_of, freed_by, is_marked_after, is_marked_by, is_taken_by, unused_count, up_to}
+use Rattle.r4_space.specs.Kept.{AreBlocks, AreClaimed, AreWithin, IsSpace}
 use Rattle.r4_space.specs.Bitmaps.{bitmaps_fault, marks}
 use Rattle.r4_space.proofs.BitmapLaws.{fixed_marked}
 use Rattle.r4_space.proofs.ClaimLaws.{within-without, unused_is}
 
 -- ---- what is free
 
-pub free_is : (n : ℕ) (marked placed : List Bool) (held deferred : List Claim) (taken : List Bool) (bitmaps spare room_held room_deferred : ℕ) (atoms : List Account) (sealed : List AtomNo) → IsSpace n marked placed held deferred taken bitmaps spare room_held room_deferred
+pub free_is : (n : ℕ) (marked placed : List Bool) (held deferred : List Claim) (claimed twice taken : List Bool) (bitmaps spare room_held room_deferred : ℕ) (atoms : List Account) (sealed : List AtomNo) → IsSpace n marked placed held deferred claimed twice taken bitmaps spare room_held room_deferred
     → count_by not taken - dues bitmaps atoms ≡ free_of (record { block_count = n; marked = marked; placed = placed; held = held; deferred = deferred; atoms = atoms; sealed = sealed; spare = spare })
 unfolding unused_count
-free_is n marked placed held deferred taken bitmaps spare room_held room_deferred atoms sealed is =
+free_is n marked placed held deferred claimed twice taken bitmaps spare room_held room_deferred atoms sealed is =
     rw (unused_is n marked placed taken held deferred is.blocks, is.bitmaps_are) refl
 
 -- ---- an unused block is no fixed one
@@ -34,15 +34,43 @@ unused_free n b marked placed taken held deferred is lt clear = false_from_ne_tr
     let on : get_or taken b true ≡ true = is.tells b lt ∙ or_left (get_or marked b false) _ (is.fixed b lt f) in
     cc)
 
+-- an unused block is not claimed
+pub unclaimed_of : (n b : ℕ) (marked placed taken : List Bool) (held deferred : List Claim) → AreBlocks n marked placed held deferred taken → b < n → get_or taken b true ≡ false → (is_claimed held b ≡ false) × (is_claimed deferred b ≡ false)
+unfolding is_taken_by
+unclaimed_of n b marked placed taken held deferred is lt clear = last_two (get_or marked b false) (get_or placed b false) (is_claimed held b) (is_claimed deferred b) (sym (is.tells b lt) ∙ clear)
+  where
+    last_two : (m p h d : Bool) → (m || (p || (h || d))) ≡ false → (h ≡ false) × (d ≡ false)
+    last_two true p h d e = absurd cc
+    last_two false true h d e = absurd cc
+    last_two false false true d e = absurd cc
+    last_two false false false d e = (refl, e)
+
+-- past the last block nothing is used
+none_past : (n b : ℕ) (claims : List Claim) → AreWithin n claims → n ≤ b → is_claimed claims b ≡ false
+none_past n b [] within le = refl
+none_past n b (c ∷ rest) within le =
+    let here : c.block.0 < n = within 0 c (omega arith) in
+    let miss : eqb c.block.0 b ≡ false = ne_eqb _ _ (omega arith) in
+    rw miss (none_past n b rest (λ k d lt. within (suc k) d (omega arith)) le)
+
+pub unused_past : (n b : ℕ) (marked placed taken : List Bool) (held deferred : List Claim) → AreBlocks n marked placed held deferred taken → n ≤ b → is_taken_by marked placed held deferred b ≡ false
+unfolding is_taken_by
+unused_past n b marked placed taken held deferred is le =
+    let m = is.marked_size in
+    let p = is.placed_size in
+    let no_mark : get_or marked b false ≡ false = get_or_past marked b false (omega arith) in
+    let no_place : get_or placed b false ≡ false = get_or_past placed b false (omega arith) in
+    rw (no_mark, no_place, none_past n b held is.held_within le, none_past n b deferred is.deferred_within le) refl
+
 -- ---- room
 
-pub space_blocks : (n : ℕ) (marked placed marked' placed' : List Bool) (held deferred held' deferred' : List Claim) (taken taken' : List Bool) (bitmaps spare less room_held room_deferred more_held more_deferred : ℕ) → IsSpace n marked placed held deferred taken bitmaps spare room_held room_deferred
-    → AreBlocks n marked' placed' held' deferred' taken' → length held' + less ≤ length held + spare → length deferred' + less ≤ length deferred + spare → room_held ≤ more_held → room_deferred ≤ more_deferred
-    → IsSpace n marked' placed' held' deferred' taken' bitmaps less more_held more_deferred
-space_blocks n marked placed marked' placed' held deferred held' deferred' taken taken' bitmaps spare less room_held room_deferred more_held more_deferred is blocks a b c d =
+pub space_blocks : (n : ℕ) (marked placed marked' placed' : List Bool) (held deferred held' deferred' : List Claim) (claimed twice claimed' twice' taken taken' : List Bool) (bitmaps spare less room_held room_deferred more_held more_deferred : ℕ) → IsSpace n marked placed held deferred claimed twice taken bitmaps spare room_held room_deferred
+    → AreBlocks n marked' placed' held' deferred' taken' → AreClaimed n held' deferred' claimed' twice' → length held' + less ≤ length held + spare → length deferred' + less ≤ length deferred + spare → room_held ≤ more_held → room_deferred ≤ more_deferred
+    → IsSpace n marked' placed' held' deferred' claimed' twice' taken' bitmaps less more_held more_deferred
+space_blocks n marked placed marked' placed' held deferred held' deferred' claimed twice claimed' twice' taken taken' bitmaps spare less room_held room_deferred more_held more_deferred is blocks claims a b c d =
     let e = is.enough_held in
     let f = is.enough_deferred in
-    record { blocks = blocks; bitmaps_are = is.bitmaps_are; enough_held = omega arith; enough_deferred = omega arith }
+    record { blocks = blocks; claims = claims; bitmaps_are = is.bitmaps_are; enough_held = omega arith; enough_deferred = omega arith }
 
 -- ---- an atom settles
 

@@ -1,12 +1,12 @@
 -- The bits of the first numbers.
-use Rattle.std.proofs.Common.{◌≡◌, ℕ, zero, suc, ◌+◌, ◌-◌, ◌*◌, ◌/◌, ◌%◌, ◌<◌, ◌≤◌, Bool, true, false, not, ◌||◌, cond, eqb, List, length, get_or, set, refl, sym, ap, ◌∙◌, arith, inl, inr}
+use Rattle.std.proofs.Common.{◌≡◌, ℕ, zero, suc, ◌+◌, ◌-◌, ◌*◌, ◌/◌, ◌%◌, ◌<◌, ◌≤◌, Bool, true, false, not, ◌||◌, ◌&&◌, cond, eqb, List, length, get_or, set, refl, sym, ap, ◌∙◌, arith, inl, inr}
 use Rattle.std.specs.Prelude.{replicate, count_by}
 use Rattle.std.proofs.lemmas.Bool.{eq-eqb, ne_eqb, cases_eq}
 use Rattle.std.proofs.lemmas.List.{same_lists, length-set, length-replicate, get_or-set_same, get_or-set_other, get_or-replicate}
 use Rattle.std.proofs.lemmas.List.FromFn.{length-map-range_with_len, get_or-map-range_with_len}
-use Rattle.std.proofs.lemmas.List.Sums.{sum_by-cons}
+use Rattle.std.proofs.lemmas.List.Sums.{sum_by-cons, count_by-le-length}
 use Rattle.std.proofs.lemmas.Nat.Bits.{bit_at-zero}
-use Rattle.r4_base.proofs.Bitmaps.{free_bits-set}
+use Rattle.r4_base.proofs.Bitmaps.{free_bits-set, free_bits-clear}
 use Rattle.r4_space.specs.Words.{is_set, first_bits, IsFirstClear, IsFull, TellsFull}
 use Rattle.r4_space.specs.TakenWords.{IsTaken}
 
@@ -47,6 +47,49 @@ count-take n i clear words new lt off bits counted =
     let a = length-first_bits n words in
     let one = free_bits-set (first_bits n words) i false (omega arith) (get_or-first_bits n i false words lt ∙ off) in
     let is : count_by not (first_bits n new) ≡ count_by not (set (first_bits n words) i true) = ap (λ (bits : List Bool). count_by not bits) (first_bits-set n i words new lt bits) in
+    (omega arith, omega arith)
+
+-- ---- one number is given back
+
+and_never : (a : Bool) → (a && false) ≡ false
+and_never true = refl
+and_never false = refl
+
+and_always : (a : Bool) → (a && true) ≡ a
+and_always true = refl
+and_always false = refl
+
+pub first_bits-clear : (n i : ℕ) (words new : List ℕ) → i < n → ((k : ℕ) → is_set new k ≡ (is_set words k && not (eqb k i))) → first_bits n new ≡ set (first_bits n words) i false
+first_bits-clear n i words new lt bits =
+    let a = length-first_bits n words in
+    let b = length-first_bits n new in
+    let c = length-set (first_bits n words) i false in
+    same_lists (first_bits n new) (set (first_bits n words) i false) (omega arith) (λ k d h.
+    let within : k < n = omega arith in
+    elim (cases_eq k i) [
+      | inl is ↦
+          let yes : eqb k i ≡ true = eq-eqb _ _ is in
+          get_or-first_bits n k d new within ∙ bits k ∙ rw yes (and_never (is_set words k)) ∙ sym (ap (λ (j : ℕ). get_or (set (first_bits n words) i false) j d) is ∙ get_or-set_same (first_bits n words) i false d (omega arith))
+      | inr other ↦
+          let no : eqb k i ≡ false = ne_eqb _ _ other in
+          get_or-first_bits n k d new within ∙ bits k ∙ rw no (and_always (is_set words k)) ∙ sym (get_or-set_other (first_bits n words) i k false d other ∙ get_or-first_bits n k d words within)
+    ])
+
+-- a bit that is clear already
+pub first_bits-clear_again : (n i : ℕ) (words : List ℕ) → i < n → is_set words i ≡ false → first_bits n words ≡ set (first_bits n words) i false
+first_bits-clear_again n i words lt off = first_bits-clear n i words words lt (λ k. elim (cases_eq k i) [
+  | inl is ↦ let yes : eqb k i ≡ true = eq-eqb _ _ is in rw yes (ap (is_set words) is ∙ off ∙ sym (and_never (is_set words k)))
+  | inr other ↦ let no : eqb k i ≡ false = ne_eqb _ _ other in rw no (sym (and_always (is_set words k)))
+])
+
+-- one number more is clear
+pub count-give : (n i clear : ℕ) (words new : List ℕ) → i < n → is_set words i ≡ true → ((k : ℕ) → is_set new k ≡ (is_set words k && not (eqb k i))) → clear ≡ count_by not (first_bits n words) → (clear + 1 ≤ n) × (clear + 1 ≡ count_by not (first_bits n new))
+count-give n i clear words new lt on bits counted =
+    let a = length-first_bits n words in
+    let b = length-first_bits n new in
+    let one = free_bits-clear (first_bits n words) i false (omega arith) (get_or-first_bits n i false words lt ∙ on) in
+    let is : count_by not (first_bits n new) ≡ count_by not (set (first_bits n words) i false) = ap (λ (bits : List Bool). count_by not bits) (first_bits-clear n i words new lt bits) in
+    let most : count_by not (first_bits n new) ≤ length (first_bits n new) = count_by-le-length not (first_bits n new) in
     (omega arith, omega arith)
 
 -- ---- words of zeros
@@ -165,4 +208,23 @@ taken_more n i clear words full fuller words' full' fuller' is lt off a b c bits
       told = told;
       told_too = told_too;
       counted = (count-take n i clear words words' lt off bits is.counted).1;
+    }
+
+-- one number fewer is taken
+pub taken_fewer : (n i clear : ℕ) (words full fuller words' full' fuller' : List ℕ) → IsTaken n words full fuller clear → i < n → is_set words i ≡ true
+    → length words' ≡ length words → length full' ≡ length full → length fuller' ≡ length fuller → ((k : ℕ) → is_set words' k ≡ (is_set words k && not (eqb k i))) → TellsFull words' full' → TellsFull full' fuller'
+    → IsTaken n words' full' fuller' (clear + 1)
+taken_fewer n i clear words full fuller words' full' fuller' is lt on a b c bits told told_too =
+    let s1 = is.small in
+    let s2 = is.small_too in
+    let s3 = is.small_three in
+    let s4 = is.covers in
+    record {
+      small = omega arith;
+      small_too = omega arith;
+      small_three = omega arith;
+      covers = omega arith;
+      told = told;
+      told_too = told_too;
+      counted = (count-give n i clear words words' lt on bits is.counted).1;
     }

@@ -1,10 +1,10 @@
 -- Bits in words of 64.
-use Rattle.std.proofs.Common.{◌≡◌, ◌≢◌, ℕ, ◌+◌, ◌-◌, ◌*◌, ◌/◌, ◌%◌, ◌^◌, ◌<◌, ◌≤◌, Bool, true, false, ◌||◌, eqb, List, length, get_or, set, refl, sym, ap, ◌∙◌, arith, inl, inr}
-use Rattle.std.specs.Prelude.{bit_or, Option, Some, None, is_some, MatchOption}
+use Rattle.std.proofs.Common.{◌≡◌, ◌≢◌, ℕ, ◌+◌, ◌-◌, ◌*◌, ◌/◌, ◌%◌, ◌^◌, ◌<◌, ◌≤◌, zero, suc, max, Bool, true, false, not, ◌||◌, ◌&&◌, eqb, List, length, get_or, set, refl, sym, ap, ◌∙◌, arith, inl, inr}
+use Rattle.std.specs.Prelude.{bit_and, bit_or, Option, Some, None, is_some, MatchOption}
 use Rattle.std.specs.Int.{w64, bit_at, trailing_ones}
 use Rattle.std.proofs.lemmas.Bool.{eq-eqb, eqb-true, cases_eq, cases_lt, ne_eqb}
-use Rattle.std.proofs.lemmas.List.{get_or-set_same, get_or-set_other}
-use Rattle.std.proofs.lemmas.Nat.Bits.{bit_at-lt, bit_at_or, bit_at_ones, bit_at_ones_above, bit_at_set_same, bit_at_set_other, bit_at-trailing_ones, same_from_bits_below}
+use Rattle.std.proofs.lemmas.List.{get_or-set_same, get_or-set_other, get_or_past}
+use Rattle.std.proofs.lemmas.Nat.Bits.{bit_at-lt, bit_at_or, bit_at_ones, bit_at_ones_above, bit_at_set_same, bit_at_set_other, bit_at_clear_same, bit_at_clear_other, bit_at_cat_low, bit_at_cat_high, bit_at-trailing_ones, same_from_bits_below}
 use Rattle.std.proofs.Math.Nat.{mod-eq_of_lt}
 use Rattle.std.proofs.Math.Pow.{pow-lt}
 use Rattle.r4_space.specs.Words.{is_set, IsFirstClear, IsFull, IsSeenFrom, TellsFull}
@@ -203,3 +203,113 @@ tells_full words new full told_new i told one two whole =
             two.bits w ∙ rw no (told.tells w (omega arith)) ∙ ap (λ (x : ℕ). eqb x 18446744073709551615) (sym (one.others w other))
       ];
     }
+
+-- ---- one bit is cleared
+
+pub clears : (words : List ℕ) (i k : ℕ) → i < 64 * length words → is_set (set words (i / 64) (bit_and (get_or words (i / 64) 0) (18446744073709551615 - 1 * 2 ^ (i % 64) % 18446744073709551616))) k ≡ (is_set words k && not (eqb k i))
+unfolding is_set
+clears words i k lt =
+    let x = bit_and (get_or words (i / 64) 0) (18446744073709551615 - 1 * 2 ^ (i % 64) % 18446744073709551616) in
+    let at : i / 64 < length words = omega arith in
+    let small : i % 64 < 64 = omega arith in
+    elim (cases_eq k i) [
+      | inl is ↦
+          let yes : eqb k i ≡ true = eq-eqb k i is in
+          let bit : bit_at (get_or (set words (i / 64) x) (k / 64) 0) (k % 64) ≡ 0 = rw (is, get_or-set_same words (i / 64) x 0 at) (bit_at_clear_same w64 (get_or words (i / 64) 0) (i % 64) small) in
+          ap (λ (n : ℕ). eqb n 1) bit ∙ rw yes (sym (never (eqb (bit_at (get_or words (k / 64) 0) (k % 64)) 1)))
+      | inr other ↦
+          let no : eqb k i ≡ false = ne_eqb k i other in
+          let same : bit_at (get_or (set words (i / 64) x) (k / 64) 0) (k % 64) ≡ bit_at (get_or words (k / 64) 0) (k % 64) = elim (cases_eq (k / 64) (i / 64)) [
+            | inl near ↦
+                let ne : k % 64 ≢ i % 64 = λ e. other (omega arith) in
+                let here : k % 64 < 64 = omega arith in
+                rw (near, get_or-set_same words (i / 64) x 0 at) (bit_at_clear_other w64 (get_or words (i / 64) 0) (i % 64) small (k % 64) here ne)
+            | inr far ↦ ap (λ (y : ℕ). bit_at y (k % 64)) (get_or-set_other words (i / 64) (k / 64) x 0 far)
+          ] in
+          ap (λ (n : ℕ). eqb n 1) same ∙ rw no (sym (always (eqb (bit_at (get_or words (k / 64) 0) (k % 64)) 1)))
+    ]
+  where
+    never : (a : Bool) → (a && false) ≡ false
+    never true = refl
+    never false = refl
+
+    always : (a : Bool) → (a && true) ≡ a
+    always true = refl
+    always false = refl
+
+-- The new words lack bit i, and otherwise have what was there.
+pub record BitCleared (old new : List ℕ) (i : ℕ) : Type 0 where
+  pub size : length new ≡ length old
+  pub bits : (k : ℕ) → is_set new k ≡ (is_set old k && not (eqb k i))
+  pub others : (w : ℕ) → w ≢ i / 64 → get_or new w 0 ≡ get_or old w 0
+
+pub cleared : (old new : List ℕ) (i : ℕ) → BitCleared old new i → is_set new i ≡ false
+cleared old new i is =
+    let yes : eqb i i ≡ true = eq-eqb i i refl in
+    is.bits i ∙ rw yes (never (is_set old i))
+  where
+    never : (a : Bool) → (a && false) ≡ false
+    never true = refl
+    never false = refl
+
+-- no word is full that has lost a bit
+pub tells_cleared : (words new full told_new : List ℕ) (i : ℕ) → TellsFull words full → BitCleared words new i → BitCleared full told_new (i / 64) → TellsFull new told_new
+tells_cleared words new full told_new i told one two =
+    let size = one.size in
+    let size_too = two.size in
+    record {
+      covers = let covers = told.covers in omega arith;
+      tells = λ w within. elim (cases_eq w (i / 64)) [
+        | inl is ↦ ap (is_set told_new) is ∙ cleared full told_new (i / 64) two ∙ sym (clear_word new i (cleared words new i one)) ∙ ap (λ (v : ℕ). eqb (get_or new v 0) 18446744073709551615) (sym is)
+        | inr other ↦
+            let no : eqb w (i / 64) ≡ false = ne_eqb _ _ other in
+            two.bits w ∙ rw no (always (is_set full w)) ∙ told.tells w (omega arith) ∙ ap (λ (x : ℕ). eqb x 18446744073709551615) (sym (one.others w other))
+      ];
+    }
+  where
+    always : (a : Bool) → (a && true) ≡ a
+    always true = refl
+    always false = refl
+
+-- ---- words are joined
+
+either_bit : (a b : ℕ) → a < 2 → b < 2 → eqb (max a b) 1 ≡ (eqb a 1 || eqb b 1)
+either_bit zero zero la lb = refl
+either_bit zero (suc zero) la lb = refl
+either_bit (suc zero) zero la lb = refl
+either_bit (suc zero) (suc zero) la lb = refl
+either_bit (suc (suc a)) b la lb = absurd (omega (arith, la))
+either_bit a (suc (suc b)) la lb = absurd (omega (arith, lb))
+
+pub or_bit : (a b j : ℕ) → eqb (bit_at (bit_or a b) j) 1 ≡ (eqb (bit_at a j) 1 || eqb (bit_at b j) 1)
+or_bit a b j = ap (λ (n : ℕ). eqb n 1) (bit_at_or a b j) ∙ either_bit (bit_at a j) (bit_at b j) (bit_at-lt a j) (bit_at-lt b j)
+
+pub joined : (old other new : List ℕ) → ((v : ℕ) → get_or new v 0 ≡ bit_or (get_or old v 0) (get_or other v 0)) → (k : ℕ) → is_set new k ≡ (is_set old k || is_set other k)
+unfolding is_set
+joined old other new each k =
+    ap (λ (x : ℕ). eqb (bit_at x (k % 64)) 1) (each (k / 64)) ∙ or_bit (get_or old (k / 64) 0) (get_or other (k / 64) 0) (k % 64)
+
+-- past the end there is nothing
+pub none_past : (words : List ℕ) (v : ℕ) → length words ≤ v → get_or words v 0 ≡ 0
+none_past words v le = get_or_past words v 0 le
+
+pub or_zeros : (a b : ℕ) → a ≡ 0 → b ≡ 0 → a ≡ bit_or a b
+or_zeros a b e f = e ∙ sym (rw (e, f) refl)
+
+-- ---- the halves of a word
+
+pub low_half : (words : List ℕ) (h j : ℕ) → j < 32 → h % 2 ≡ 0 → eqb (bit_at (get_or words (h / 2) 0 % 4294967296) j) 1 ≡ is_set words (32 * h + j)
+low_half words h j lt even =
+    let x = get_or words (h / 2) 0 in
+    let whole : x / 4294967296 * 2 ^ 32 + x % 4294967296 ≡ x = omega arith in
+    ap (λ (n : ℕ). eqb n 1) (sym (bit_at_cat_low (x / 4294967296) 32 (x % 4294967296) j lt) ∙ ap (λ (y : ℕ). bit_at y j) whole) ∙ sym (at_bit words (h / 2) j (32 * h + j) (omega arith) (omega arith))
+
+pub high_half : (words : List ℕ) (h j : ℕ) → j < 32 → h % 2 ≢ 0 → eqb (bit_at (get_or words (h / 2) 0 / 4294967296) j) 1 ≡ is_set words (32 * h + j)
+high_half words h j lt odd =
+    let x = get_or words (h / 2) 0 in
+    let whole : x / 4294967296 * 2 ^ 32 + x % 4294967296 ≡ x = omega arith in
+    let back : 32 + j - 32 ≡ j = omega arith in
+    let small : x % 4294967296 < 2 ^ 32 = omega arith in
+    let bit : bit_at (x / 4294967296) j ≡ bit_at x (32 + j) =
+    ap (bit_at (x / 4294967296)) (sym back) ∙ sym (bit_at_cat_high (x / 4294967296) 32 (x % 4294967296) (32 + j) small (omega arith)) ∙ ap (λ (y : ℕ). bit_at y (32 + j)) whole in
+    ap (λ (n : ℕ). eqb n 1) bit ∙ sym (at_bit words (h / 2) (32 + j) (32 * h + j) (omega arith) (omega arith))

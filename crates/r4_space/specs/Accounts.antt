@@ -1,5 +1,5 @@
 -- What atoms cost, and the accounts of the open ones (docs/space.md, "Price and free").
-use Rattle.std.specs.Prelude.{◌≡◌, ℕ, ◌+◌, ◌-◌, ◌/◌, List, [], ◌∷◌, ◌++◌, filter, find, sum_by, unwrap_or, Bool, false, not, ◌||◌, ◌==◌, if◌then◌else◌}
+use Rattle.std.specs.Prelude.{◌≡◌, ℕ, ◌+◌, ◌-◌, ◌/◌, ◌<◌, List, [], ◌∷◌, ◌++◌, length, map, filter, find, slice_index_or, sum_by, unwrap_or, Bool, true, false, not, ◌||◌, ◌==◌, if◌then◌else◌}
 use Rattle.std.specs.List.{list_any}
 use Rattle.r4_base.specs.declared.things.AtomNo.{AtomNo}
 use Rattle.r4_space.specs.declared.things.Account.{Account}
@@ -32,9 +32,18 @@ is_open accounts atom = list_any (is_account_of atom) accounts
 abbrev pub without_account : AtomNo → List Account → List Account
 without_account atom accounts = filter (λ a. not (is_account_of atom a)) accounts
 
--- the account in place of its atom's, if there was one
+-- the account where it is its atom's, and else the other one
+abbrev pub in_place : Account → Account → Account
+in_place account a = if is_account_of account.atom a then account else a
+
+-- the account in place of its atom's, or behind the others where there is none
 abbrev pub with_account : List Account → Account → List Account
-with_account accounts account = without_account account.atom accounts ++ account ∷ []
+with_account accounts account =
+    if is_open accounts account.atom then map (in_place account) accounts else accounts ++ account ∷ []
+
+-- account i is the atom's
+abbrev pub StandsAt : List Account → AtomNo → ℕ → Type 0
+StandsAt accounts atom i = (i < length accounts) × (is_account_of atom (slice_index_or accounts i (no_account atom)) ≡ true)
 
 -- what an atom takes up: its price, and a block for each cell without one
 abbrev pub due_of : ℕ → Account → ℕ

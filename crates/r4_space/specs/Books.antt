@@ -1,5 +1,5 @@
 -- The accounts of the open atoms, the sealed atoms, and for how many calls there is room.
-use Rattle.std.specs.Prelude.{◌≡◌, ℕ, ◌+◌, ◌≤◌, List, length}
+use Rattle.std.specs.Prelude.{◌≡◌, ℕ, ◌+◌, ◌≤◌, List, All, length}
 use Rattle.r4_base.specs.declared.things.AtomNo.{AtomNo}
 use Rattle.r4_space.specs.Accounts.{dues, EachOnce}
 use Rattle.r4_space.specs.declared.things.Account.{Account}
@@ -18,3 +18,7 @@ pub record IsBooks (bitmaps : ℕ) (atoms : List Account) (sealed : List AtomNo)
   pub small : owed ≤ 1048576
   pub enough : length atoms + spare ≤ room
   pub enough_sealed : length atoms + length sealed + spare ≤ room_sealed
+
+-- No atom has a number above this one.
+abbrev pub AreUpTo : ℕ → List Account → Type 0
+AreUpTo highest atoms = All (λ a. a.atom.0 ≤ highest) atoms

@@ -96,6 +96,7 @@ settled s atom = record s {
   placed = replicate s.block_count false;
   held = claims_without atom s.held;
   deferred = claims_without atom s.deferred;
+  atoms = without_account atom s.atoms;
   sealed = without_atom atom s.sealed;
 }
 

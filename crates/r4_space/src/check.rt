@@ -5,7 +5,9 @@ ghost use Rattle.std.specs.List.{range_with_len};
 ghost use Rattle.r4_base.specs.Bitmap.{are_held, bits_of, bitmap_block, bitmap_count, is_always_used, is_used};
 ghost use Rattle.r4_space.specs.Bitmaps.{bitmaps_fault, first_unheld_of, free_bits, marks};
 
-use r4_base::{BITMAP_BITS, Block, BlockNo, FIRST_BITMAP, Memory, bitmap_block, is_fixed};
+use crate::bits::Bits;
+use crate::marks::HALVES;
+use r4_base::{BITMAP_BITS, Block, BlockNo, FIRST_BITMAP, Memory, bitmap_block, get32, is_fixed};
 use r4_bitmap::BitmapView;
 use std::alloc::Global;
 
@@ -38,27 +40,18 @@ fn is_held(block: &[u8], blocks: u64, first: u64) -> bool
     true
 }
 
-/// The number of 0 bits of a bitmap.
+/// The number of 0 bits of a bitmap, counted 32 at a time.
 fn count_free(block: &[u8]) -> u64
     requires { length block.now ≡ 4096 }
     ensures count { result ≡ count_by not (bits_of block.now) }
     ensures most { result ≤ 32736 }
 {
     let mut count = 0;
-    for i in 0..BITMAP_BITS {
-        count += count_bit(block, i);
+    for j in 0..HALVES {
+        let half = get32(block, 4 + 4 * j as usize);
+        count += 32 - u64::from(half.count_ones());
     }
     count
-}
-
-/// 1 for a 0 bit.
-fn count_bit(block: &[u8], i: u64) -> u64
-    requires whole { length block.now ≡ 4096 }
-    requires within { i < 32736 }
-    ensures count { result ≡ (if not (is_used block.now i) then 1 else 0) }
-    ensures most { result ≤ 1 }
-{
-    if is_used(block, i) { 0 } else { 1 }
 }
 
 /// The number of 0 bits of all bitmaps.
@@ -104,14 +97,17 @@ pub fn find_fault(bitmaps: &[Block], blocks: u64, free_blocks: u64) -> Option<u6
 }
 
 /// For each block whether it is marked.
-pub fn read_marks(alloc: Global, bitmaps: &[Block], blocks: u64) -> Result<Vec<bool>, Memory>
-    requires { length bitmaps.now ≡ bitmap_count blocks }
-    ensures { IfOk result (λ v. v.items ≡ map (marks bitmaps.now) (range_with_len 0 blocks)) }
+pub fn read_marks(alloc: Global, bitmaps: &[Block], blocks: u64) -> Result<Bits, Memory>
+    requires most { blocks ≤ 1048576 }
+    requires each { length bitmaps.now ≡ bitmap_count blocks }
+    ensures { IfOk result (λ v. v ≡ map (marks bitmaps.now) (range_with_len 0 blocks)) }
 {
-    let mut marked = Vec::with_capacity(alloc, blocks as usize)?;
+    let mut marked = Bits::new(alloc, blocks)?;
     for b in 0..blocks {
         let bitmap = &bitmaps[(b / BITMAP_BITS) as usize];
-        marked.push(is_used(bitmap.bytes(), b % BITMAP_BITS))?;
+        if is_used(bitmap.bytes(), b % BITMAP_BITS) {
+            marked.put(b);
+        }
     }
     Ok(marked)
 }

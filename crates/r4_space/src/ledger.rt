@@ -1,7 +1,8 @@
 //! The accounts of the open atoms, and the atoms that are sealed.
 
-ghost use Rattle.std.specs.Prelude.{◌≡◌, ℕ, ◌+◌, ◌-◌, ◌<◌, ◌≤◌, ◌≢◌, ◌↔◌, [], ◌∷◌, ◌++◌, length, max, filter, not, IsOk, OnOk, OnErr, IfOk, IfErr, vec_len, vec_capacity};
-ghost use Rattle.r4_space.specs.Accounts.{account_at, dues, EachOnce, is_atom, is_open, is_sealed, need_of, with_account, with_atom, with_merged, with_sealed, without_account, without_atom, due_of};
+ghost use Rattle.std.specs.Prelude.{◌≡◌, ℕ, ◌+◌, ◌-◌, ◌<◌, ◌≤◌, ◌≢◌, ◌↔◌, [], ◌∷◌, ◌++◌, length, max, filter, not, false, IsOk, OnOk, OnErr, IfOk, IfErr, MatchOption, vec_len, vec_capacity};
+ghost use Rattle.r4_space.specs.Books.{AreUpTo};
+ghost use Rattle.r4_space.specs.Accounts.{StandsAt, account_at, dues, EachOnce, is_atom, is_open, is_sealed, need_of, with_account, with_atom, with_merged, with_sealed, without_account, without_atom, due_of};
 
 use crate::cost::price;
 use crate::things::{Account, Short};
@@ -10,11 +11,13 @@ use std::alloc::{AllocError, Global};
 use std::marker::Model;
 
 /// The accounts of the open atoms, the sealed atoms in the order of their sealing, and `owed`, what all open atoms
-/// take up. There is room for `spare` more of both.
+/// take up. There is room for `spare` more of both. No open atom has a number above `highest`. Atoms that are opened in
+/// the order of their numbers are found by halves.
 #[derive(Drop)]
 pub struct Ledger {
     bitmaps: u64,
     atoms: Vec<Account>,
+    highest: u32,
     sealed: Vec<AtomNo>,
     owed: u64,
     spare: u64,
@@ -22,13 +25,13 @@ pub struct Ledger {
 
 impl Model for Ledger {
     ghost use Rattle.std.specs.Prelude.{vec_capacity};
-    ghost use Rattle.r4_space.specs.Books.{Books, IsBooks};
+    ghost use Rattle.r4_space.specs.Books.{AreUpTo, Books, IsBooks};
 
     ghost Value = { Books };
 
     ghost view = { λ l. record { bitmaps = l.bitmaps; atoms = l.atoms.items; sealed = l.sealed.items; spare = l.spare } };
 
-    ghost invariant = { λ l. IsBooks l.bitmaps l.atoms.items l.sealed.items l.owed l.spare (vec_capacity l.atoms) (vec_capacity l.sealed) };
+    ghost invariant = { λ l. IsBooks l.bitmaps l.atoms.items l.sealed.items l.owed l.spare (vec_capacity l.atoms) (vec_capacity l.sealed) × AreUpTo l.highest l.atoms.items };
 }
 
 impl Ledger {
@@ -40,6 +43,7 @@ impl Ledger {
         Ledger {
             bitmaps,
             atoms: Vec::new(alloc),
+            highest: 0,
             sealed: Vec::new(alloc),
             owed: 0,
             spare: 0,
@@ -96,6 +100,7 @@ impl Ledger {
         Ok(Ledger {
             bitmaps: self.bitmaps,
             atoms: copied(alloc, self.atoms.as_slice(), self.spare)?,
+            highest: self.highest,
             sealed: copied(
                 alloc,
                 self.sealed.as_slice(),
@@ -117,7 +122,9 @@ impl Ledger {
         ensures short { IfErr result (λ e. (e.free < e.need) × (e.need ≡ need_of self.old.bitmaps self.old.atoms atom cells fresh) × (e.free ≡ unused - dues self.old.bitmaps self.old.atoms)) }
         ensures stays { OnErr result (self.new ≡ record self.old { spare = self.old.spare - 1 }) }
     {
-        let before = due(&account_at(self.atoms.as_slice(), atom), self.bitmaps);
+        let atoms = self.atoms.as_slice();
+        let at = position(atoms, self.highest, atom);
+        let before = due(&account_at(atoms, at, atom), self.bitmaps);
         let after = price(cells, self.bitmaps) + fresh;
         let need = after.saturating_sub(before);
         let free = unused.saturating_sub(self.owed);
@@ -125,7 +132,8 @@ impl Ledger {
         if need > free {
             return Err(Short { need, free });
         }
-        put(&mut self.atoms, Account { atom, cells, fresh });
+        put(&mut self.atoms, at, Account { atom, cells, fresh });
+        self.highest = self.highest.max(atom.0);
         self.owed = self.owed - before + after;
         Ok(())
     }
@@ -136,10 +144,14 @@ impl Ledger {
         ensures { self.new ≡ record self.old { atoms = with_atom self.old.atoms self.old.sealed atom; spare = self.old.spare - 1 } }
     {
         self.spare -= 1;
-        if is_open(self.atoms.as_slice(), atom) || is_sealed(self.sealed.as_slice(), atom) {
+        if is_sealed(self.sealed.as_slice(), atom) {
             return;
         }
+        let None = position(self.atoms.as_slice(), self.highest, atom) else {
+            return;
+        };
         add(&mut self.atoms, no_account(atom));
+        self.highest = self.highest.max(atom.0);
     }
 
     /// Uses up one of the calls for which there is room.
@@ -155,11 +167,13 @@ impl Ledger {
         requires { kept.0 ≢ gone.0 }
         ensures { self.new ≡ record self.old { atoms = with_merged self.old.atoms kept gone } }
     {
-        if !is_open(self.atoms.as_slice(), gone) {
+        let atoms = self.atoms.as_slice();
+        let Some(from) = position(atoms, self.highest, gone) else {
             return;
-        }
-        let had = account_at(self.atoms.as_slice(), kept);
-        let left = account_at(self.atoms.as_slice(), gone);
+        };
+        let to = position(atoms, self.highest, kept);
+        let had = account_at(atoms, to, kept);
+        let left = account_at(atoms, Some(from), gone);
         let sum = Account {
             atom: kept,
             cells: had.cells + left.cells,
@@ -167,26 +181,33 @@ impl Ledger {
         };
         self.owed = self.owed - due(&had, self.bitmaps) - due(&left, self.bitmaps)
             + due(&sum, self.bitmaps);
-        forget(&mut self.atoms, gone);
-        put(&mut self.atoms, sum);
+        forget(&mut self.atoms, Some(from), gone);
+        let at = position(self.atoms.as_slice(), self.highest, kept);
+        put(&mut self.atoms, at, sum);
+        self.highest = self.highest.max(kept.0);
     }
 
     /// Seals an open atom: its account goes.
     pub fn seal(&mut self, atom: AtomNo)
         ensures { self.new ≡ record self.old { atoms = without_account atom self.old.atoms; sealed = with_sealed self.old.atoms self.old.sealed atom } }
     {
-        if !is_open(self.atoms.as_slice(), atom) {
+        let atoms = self.atoms.as_slice();
+        let Some(at) = position(atoms, self.highest, atom) else {
             return;
-        }
-        self.owed -= due(&account_at(self.atoms.as_slice(), atom), self.bitmaps);
-        forget(&mut self.atoms, atom);
+        };
+        self.owed -= due(&account_at(atoms, Some(at), atom), self.bitmaps);
+        forget(&mut self.atoms, Some(at), atom);
         add(&mut self.sealed, atom);
     }
 
-    /// Forgets a sealed atom.
+    /// Forgets an atom, be it sealed or open.
     pub fn settle(&mut self, atom: AtomNo)
-        ensures { self.new ≡ record self.old { sealed = without_atom atom self.old.sealed } }
+        ensures { self.new ≡ record self.old { atoms = without_account atom self.old.atoms; sealed = without_atom atom self.old.sealed } }
     {
+        let atoms = self.atoms.as_slice();
+        let at = position(atoms, self.highest, atom);
+        self.owed -= due(&account_at(atoms, at, atom), self.bitmaps);
+        forget(&mut self.atoms, at, atom);
         self.sealed.retain(|a| a.0 != atom.0);
     }
 }
@@ -201,22 +222,44 @@ fn no_account(atom: AtomNo) -> Account
     }
 }
 
-/// The account of an atom; one that has none has no cells.
-fn account_at(atoms: &[Account], atom: AtomNo) -> Account
-    ensures { result ≡ account_at atoms.now atom }
+/// Where the account of an atom stands. It is looked for by halves, and one by one only where that does not find it,
+/// among atoms that were not opened in the order of their numbers.
+fn position(atoms: &[Account], highest: u32, atom: AtomNo) -> Option<usize>
+    requires { AreUpTo highest atoms.now }
+    ensures { MatchOption result (is_open atoms.now atom ≡ false) (StandsAt atoms.now atom) }
 {
-    for account in atoms {
-        if account.atom.0 == atom.0 {
-            return *account;
-        }
+    if highest < atom.0 {
+        return None;
     }
-    no_account(atom)
+    let near = atoms.partition_point(|a| a.atom.0 < atom.0);
+    if near < atoms.len() && atoms[near].atom.0 == atom.0 {
+        return Some(near);
+    }
+    among(atoms, atom)
 }
 
-fn is_open(atoms: &[Account], atom: AtomNo) -> bool
-    ensures { result ≡ is_open atoms.now atom }
+/// Where the account of an atom stands, looked for one by one.
+fn among(atoms: &[Account], atom: AtomNo) -> Option<usize>
+    ensures { MatchOption result (is_open atoms.now atom ≡ false) (StandsAt atoms.now atom) }
 {
-    atoms.iter().any(|a| a.atom.0 == atom.0)
+    for (i, account) in atoms.iter().enumerate() {
+        if account.atom.0 == atom.0 {
+            return Some(i);
+        }
+    }
+    None
+}
+
+/// The account of an atom, which stands there; one that has none has no cells.
+fn account_at(atoms: &[Account], at: Option<usize>, atom: AtomNo) -> Account
+    requires once { EachOnce atoms.now }
+    requires at { MatchOption at (is_open atoms.now atom ≡ false) (StandsAt atoms.now atom) }
+    ensures { result ≡ account_at atoms.now atom }
+{
+    match at {
+        Some(i) => atoms[i],
+        None => no_account(atom),
+    }
 }
 
 fn is_sealed(sealed: &[AtomNo], atom: AtomNo) -> bool
@@ -255,20 +298,28 @@ pub fn copied<T: Copy + Drop>(alloc: Global, items: &[T], more: u64) -> Result<V
     Ok(copy)
 }
 
-/// Takes out the account of an atom.
-fn forget(atoms: &mut Vec<Account>, atom: AtomNo)
+/// Takes out the account of an atom, which stands there.
+fn forget(atoms: &mut Vec<Account>, at: Option<usize>, atom: AtomNo)
+    requires once { EachOnce atoms.old.items }
+    requires at { MatchOption at (is_open atoms.old.items atom ≡ false) (StandsAt atoms.old.items atom) }
     ensures items { atoms.new.items ≡ without_account atom atoms.old.items }
     ensures capacity { vec_capacity atoms.new ≡ vec_capacity atoms.old }
 {
-    atoms.retain(|a| a.atom.0 != atom.0);
+    if let Some(i) = at {
+        atoms.remove(i);
+    }
 }
 
-/// Puts an account in place of its atom's.
-fn put(atoms: &mut Vec<Account>, account: Account)
-    requires { vec_len atoms.old < vec_capacity atoms.old }
+/// Puts an account in place of its atom's, which stands there, or behind the others.
+fn put(atoms: &mut Vec<Account>, at: Option<usize>, account: Account)
+    requires room { vec_len atoms.old < vec_capacity atoms.old }
+    requires once { EachOnce atoms.old.items }
+    requires at { MatchOption at (is_open atoms.old.items account.atom ≡ false) (StandsAt atoms.old.items account.atom) }
     ensures items { atoms.new.items ≡ with_account atoms.old.items account }
     ensures capacity { vec_capacity atoms.old ≤ vec_capacity atoms.new }
 {
-    forget(atoms, account.atom);
-    add(atoms, account);
+    match at {
+        Some(i) => atoms[i] = account,
+        None => add(atoms, account),
+    }
 }

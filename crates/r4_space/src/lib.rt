@@ -1,6 +1,7 @@
 //! The space of a volume: which blocks are used, and what a change costs.
 #![tactic(auto)]
 
+mod bits;
 mod check;
 mod claims;
 mod cost;

@@ -6,11 +6,14 @@ ghost use Rattle.r4_space.specs.Accounts.{is_sealed};
 ghost use Rattle.r4_space.specs.Bitmaps.{bitmaps_fault, told_space};
 ghost use Rattle.r4_space.specs.Lawful.{IsLawful};
 ghost use Rattle.r4_space.specs.ReadFault.{IsReadFault};
-ghost use Rattle.r4_space.specs.Words.{IsFull, IsNextClear};
+ghost use Rattle.r4_space.specs.Words.{IsFirstClear, IsFull, IsNextClear};
 ghost use Rattle.r4_space.specs.Space.{charged, free_of, is_marked_by, is_taken, merged, need_at, sealed_in, settled, used_up, with_deferred, with_held, with_placed, with_room};
 
+use crate::bits::Bits;
 use crate::check::{find_fault, read_marks};
-use crate::claims::{drop_claims, rename, retake, settle_marks, take_marked};
+use crate::claims::{
+    claim_again, drop_claims, give_back, rename, settle_marks, take_marked, unclaim,
+};
 use crate::ledger::{Ledger, add, copied};
 use crate::marks::write_bitmap;
 use crate::taken::Taken;
@@ -24,10 +27,12 @@ use std::marker::Model;
 #[derive(Drop)]
 pub struct SpaceMap {
     blocks: u64,
-    marked: Vec<bool>,
-    placed: Vec<bool>,
+    marked: Bits,
+    placed: Bits,
     held: Vec<Claim>,
     deferred: Vec<Claim>,
+    claimed: Bits,
+    twice: Bits,
     taken: Taken,
     ledger: Ledger,
 }
@@ -39,9 +44,9 @@ impl Model for SpaceMap {
 
     ghost Value = { Space };
 
-    ghost view = { λ s. record { block_count = s.blocks; marked = s.marked.items; placed = s.placed.items; held = s.held.items; deferred = s.deferred.items; atoms = s.ledger.atoms; sealed = s.ledger.sealed; spare = s.ledger.spare } };
+    ghost view = { λ s. record { block_count = s.blocks; marked = s.marked; placed = s.placed; held = s.held.items; deferred = s.deferred.items; atoms = s.ledger.atoms; sealed = s.ledger.sealed; spare = s.ledger.spare } };
 
-    ghost invariant = { λ s. IsSpace s.blocks s.marked.items s.placed.items s.held.items s.deferred.items s.taken s.ledger.bitmaps s.ledger.spare (vec_capacity s.held) (vec_capacity s.deferred) };
+    ghost invariant = { λ s. IsSpace s.blocks s.marked s.placed s.held.items s.deferred.items s.claimed s.twice s.taken s.ledger.bitmaps s.ledger.spare (vec_capacity s.held) (vec_capacity s.deferred) };
 }
 
 impl SpaceMap {
@@ -68,13 +73,15 @@ impl SpaceMap {
         }
         let marked = read_marks(alloc, bitmaps, blocks)?;
         let mut taken = Taken::new(alloc, blocks)?;
-        take_marked(&mut taken, marked.as_slice());
+        take_marked(&mut taken, &marked);
         Ok(SpaceMap {
             blocks,
             marked,
-            placed: none_placed(alloc, blocks)?,
+            placed: Bits::new(alloc, blocks)?,
             held: Vec::new(alloc),
             deferred: Vec::new(alloc),
+            claimed: Bits::new(alloc, blocks)?,
+            twice: Bits::new(alloc, blocks)?,
             taken,
             ledger: Ledger::new(alloc, bitmaps.len() as u64),
         })
@@ -114,7 +121,7 @@ impl SpaceMap {
         ensures stays { IfNone result (self.new ≡ self.old) }
     {
         let block = self.taken.next_around(near.0)?;
-        self.placed[block as usize] = true;
+        self.placed.put(block);
         self.taken.take(block);
         Some(BlockNo(block))
     }
@@ -134,9 +141,20 @@ impl SpaceMap {
         };
         let block = BlockNo(number);
         add(&mut self.held, Claim { atom, block });
+        self.claimed.put(number);
         self.taken.take(number);
         self.ledger.open(atom);
         Some(block)
+    }
+
+    /// The first unused block from a number on.
+    pub fn next_unused(&self, from: BlockNo) -> Option<BlockNo>
+        ensures some { IfSome result (λ b. IsFirstClear (is_taken self.now) self.now.block_count from.0 b.0) }
+        ensures free { IfSome result (λ b. is_fixed self.now.block_count b.0 ≡ false) }
+        ensures none { IfNone result (IsFull (is_taken self.now) self.now.block_count from.0) }
+    {
+        let block = self.taken.next(from.0)?;
+        Some(BlockNo(block))
     }
 
     /// Defers a block: it becomes unused when the atom settles.
@@ -146,6 +164,8 @@ impl SpaceMap {
         ensures { self.new ≡ with_deferred self.old atom block }
     {
         add(&mut self.deferred, Claim { atom, block });
+        claim_again(&self.claimed, &mut self.twice, block.0);
+        self.claimed.put(block.0);
         self.taken.take(block.0);
         self.ledger.open(atom);
     }
@@ -169,24 +189,23 @@ impl SpaceMap {
     }
 
     /// Settles an atom: its held and its deferred blocks become unused, and the placed ones are marked. A fixed block
-    /// stays marked.
+    /// stays marked. An account that the atom has, as one that was never sealed may, goes.
     pub fn settle(&mut self, atom: AtomNo)
         ensures { self.new ≡ settled self.old atom }
     {
         settle_marks(
-            self.marked.as_mut_slice(),
-            self.placed.as_mut_slice(),
+            &mut self.marked,
+            &mut self.placed,
             self.deferred.as_slice(),
             atom,
         );
+        let held = self.held.as_slice();
+        let deferred = self.deferred.as_slice();
+        unclaim(&mut self.claimed, &self.twice, held, deferred, atom);
+        give_back(&mut self.taken, &self.marked, &self.claimed, held, atom);
+        give_back(&mut self.taken, &self.marked, &self.claimed, deferred, atom);
         drop_claims(&mut self.held, atom);
         drop_claims(&mut self.deferred, atom);
-        retake(
-            &mut self.taken,
-            self.marked.as_slice(),
-            self.held.as_slice(),
-            self.deferred.as_slice(),
-        );
         self.ledger.settle(atom);
     }
 
@@ -204,8 +223,8 @@ impl SpaceMap {
         write_bitmap(
             into.bytes_mut(),
             n,
-            self.marked.as_slice(),
-            self.placed.as_slice(),
+            &self.marked,
+            &self.placed,
             self.deferred.as_slice(),
             self.ledger.sealed(),
             atom,
@@ -230,13 +249,29 @@ impl SpaceMap {
         let spare = self.ledger.spare();
         Ok(SpaceMap {
             blocks: self.blocks,
-            marked: copied(alloc, self.marked.as_slice(), 0)?,
-            placed: copied(alloc, self.placed.as_slice(), 0)?,
+            marked: self.marked.copy(alloc)?,
+            placed: self.placed.copy(alloc)?,
             held: copied(alloc, self.held.as_slice(), spare)?,
             deferred: copied(alloc, self.deferred.as_slice(), spare)?,
+            claimed: self.claimed.copy(alloc)?,
+            twice: self.twice.copy(alloc)?,
             taken: self.taken.copy(alloc)?,
             ledger: self.ledger.copy(alloc)?,
         })
+    }
+
+    /// Whether a block is used: marked, placed, held or deferred. A number past the last block is none of them.
+    pub fn is_used(&self, block: BlockNo) -> bool
+        ensures { result ≡ is_taken self.now block.0 }
+    {
+        block.0 < self.blocks && self.taken.has(block.0)
+    }
+
+    /// For how many calls of `charge`, `hold` and `defer` there is room.
+    pub fn spare(&self) -> u64
+        ensures { result ≡ self.now.spare }
+    {
+        self.ledger.spare()
     }
 
     /// How many blocks are free: the unused ones, less what the open atoms take up, and 0 where that is negative.
@@ -245,11 +280,4 @@ impl SpaceMap {
     {
         self.taken.clear().saturating_sub(self.ledger.owed())
     }
-}
-
-/// No block is placed.
-fn none_placed(alloc: Global, blocks: u64) -> Result<Vec<bool>, Memory>
-    ensures { IfOk result (λ v. v.items ≡ replicate blocks false) }
-{
-    vec![in alloc; false; blocks as usize]
 }

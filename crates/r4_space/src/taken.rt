@@ -3,7 +3,7 @@
 ghost use Rattle.std.specs.Prelude.{◌≡◌, ◌<◌, ◌≤◌, length, replicate, true, false, not, count_by, slice_set, slice_index_or, IfOk, MatchOption};
 ghost use Rattle.r4_space.specs.Words.{IsFirstClear, IsFull, IsNextClear};
 
-use crate::words::{first_clear, get_bit, take_bit, wipe};
+use crate::words::{first_clear, get_bit, give_bit, take_bit, wipe};
 use r4_base::Memory;
 use std::alloc::Global;
 use std::marker::Model;
@@ -120,6 +120,23 @@ impl Taken {
         self.clear -= 1;
     }
 
+    /// Gives number `i` back.
+    pub fn give(&mut self, i: u64)
+        requires { i < length self.old }
+        ensures { self.new ≡ slice_set self.old i false }
+    {
+        if !get_bit(self.words.as_slice(), i) {
+            return;
+        }
+        give_bit(
+            self.words.as_mut_slice(),
+            self.full.as_mut_slice(),
+            self.fuller.as_mut_slice(),
+            i,
+        );
+        self.clear += 1;
+    }
+
     /// Makes the set empty.
     pub fn wipe(&mut self)
         ensures { self.new ≡ replicate (length self.old) false }
@@ -139,7 +156,7 @@ fn copied(alloc: Global, words: &[u64]) -> Result<Vec<u64>, Memory>
 }
 
 /// So many words of 0.
-fn zeros(alloc: Global, len: usize) -> Result<Vec<u64>, Memory>
+pub fn zeros(alloc: Global, len: usize) -> Result<Vec<u64>, Memory>
     ensures { IfOk result (λ v. v.items ≡ replicate len 0) }
 {
     vec![in alloc; 0u64; len]

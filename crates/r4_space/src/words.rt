@@ -1,6 +1,7 @@
 //! Bits in words of 64, and words that tell which words are full.
 
-ghost use Rattle.std.specs.Prelude.{◌≡◌, ◌≢◌, ℕ, ◌+◌, ◌*◌, ◌/◌, ◌<◌, ◌≤◌, length, replicate, false, ◌==◌, ◌||◌, slice_index, MatchOption};
+ghost use Rattle.std.specs.Prelude.{◌≡◌, ◌≢◌, ℕ, ◌+◌, ◌*◌, ◌/◌, ◌<◌, ◌≤◌, length, replicate, false, ◌==◌, ◌||◌, ◌&&◌, not, true, slice_index, MatchOption};
+ghost use Rattle.std.specs.Int.{bit_at};
 ghost use Rattle.r4_space.specs.Words.{is_set, IsFirstClear, IsFull, IsSeenFrom, TellsFull};
 
 /// The word, with the bits before bit `from` counted as 1.
@@ -86,7 +87,7 @@ pub fn first_clear(words: &[u64], full: &[u64], fuller: &[u64], from: u64) -> Op
 }
 
 /// Makes bit `i` 1, and tells whether its word is full then.
-fn set_bit(words: &mut [u64], i: u64) -> bool
+pub fn set_bit(words: &mut [u64], i: u64) -> bool
     requires { i < 64 * length words.old }
     ensures set { (k : ℕ) → is_set words.new k ≡ (k == i || is_set words.old k) }
     ensures others { (w : ℕ) → w ≢ i / 64 → slice_index words.new w ≡ slice_index words.old w }
@@ -114,6 +115,52 @@ pub fn take_bit(words: &mut [u64], full: &mut [u64], fuller: &mut [u64], i: u64)
         return;
     }
     set_bit(fuller, i / 64 / 64);
+}
+
+/// Makes bit `i` 0.
+pub fn clear_bit(words: &mut [u64], i: u64)
+    requires { i < 64 * length words.old }
+    ensures clear { (k : ℕ) → is_set words.new k ≡ (is_set words.old k && not (k == i)) }
+    ensures others { (w : ℕ) → w ≢ i / 64 → slice_index words.new w ≡ slice_index words.old w }
+{
+    words[(i / 64) as usize] &= !(1 << (i % 64));
+}
+
+/// Makes bit `i` 0, and keeps the words that tell which words are full.
+pub fn give_bit(words: &mut [u64], full: &mut [u64], fuller: &mut [u64], i: u64)
+    requires within { i < 64 * length words.old }
+    requires told { TellsFull words.old full.old }
+    requires told_too { TellsFull full.old fuller.old }
+    ensures clear { (k : ℕ) → is_set words.new k ≡ (is_set words.old k && not (k == i)) }
+    ensures told { TellsFull words.new full.new }
+    ensures told_too { TellsFull full.new fuller.new }
+{
+    clear_bit(words, i);
+    clear_bit(full, i / 64);
+    clear_bit(fuller, i / 64 / 64);
+}
+
+/// Sets each bit that is set in the other words.
+pub fn join_words(words: &mut [u64], other: &[u64])
+    requires { length words.old ≡ length other.now }
+    ensures { (k : ℕ) → is_set words.new k ≡ (is_set words.old k || is_set other.now k) }
+{
+    for w in 0..words.len() {
+        words[w] |= other[w];
+    }
+}
+
+/// The 32 bits from bit `32 * h` on.
+pub fn half_of(words: &[u64], h: u64) -> u32
+    requires { h < 2 * length words.now }
+    ensures { (j : ℕ) → j < 32 → (bit_at result j == 1) ≡ is_set words.now (32 * h + j) }
+{
+    let word = words[(h / 2) as usize];
+    if h % 2 == 0 {
+        (word % (1 << 32)) as u32
+    } else {
+        (word / (1 << 32)) as u32
+    }
 }
 
 /// Whether bit `i` is 1.

@@ -2,6 +2,7 @@
 
 ghost use Rattle.std.specs.Prelude.{◌≡◌, ◌≤◌, [], IfOk, OnOk};
 
+use crate::same::{same, same_in};
 use r4_base::{AtomNo, Block, BlockNo};
 use r4_space::{Short, SpaceFault, SpaceMap, price};
 use std::alloc::Global;
@@ -32,7 +33,7 @@ fn bitmaps(alloc: Global, blocks: u64) -> Result<Vec<Block>, Fail> {
 }
 
 // The space that these bitmaps tell.
-fn read(
+pub fn read(
     rt: &impl Abort,
     alloc: Global,
     bitmaps: &[Block],
@@ -61,7 +62,7 @@ fn the_bitmaps_are_read(rt: HostRuntime) -> Result<(), Fail> {
         (32_737, 4, 32_720, Some(32_736)),
         (32_737, 4095, 32_720, Some(32_736)),
     ];
-    for (blocks, cleared, free, fault) in table {
+    for (row, &(blocks, cleared, free, fault)) in table.iter().enumerate() {
         let mut bitmaps = bitmaps(alloc, blocks)?;
         if let Some(last) = bitmaps.last_mut() {
             if let Some(byte) = last.bytes_mut().get_mut(cleared) {
@@ -71,10 +72,11 @@ fn the_bitmaps_are_read(rt: HostRuntime) -> Result<(), Fail> {
         let fault = fault.map(|block| SpaceFault::Bitmap {
             block: BlockNo(block),
         });
-        assert_eq!(rt;
-            read(&rt, alloc, &bitmaps, blocks, free).err(),
-            fault,
-            "{blocks} {cleared} {free}"
+        same_in(
+            &rt,
+            &read(&rt, alloc, &bitmaps, blocks, free).err(),
+            &fault,
+            row,
         );
     }
     Ok(())
@@ -94,18 +96,19 @@ fn prices_are_the_formula(rt: HostRuntime) -> Result<(), Fail> {
         (253, 1, 258),
         (1, 33, 37),
     ];
-    for (cells, bitmaps, blocks) in table {
-        assert_eq!(rt;
-            price(u64::from(cells), u64::from(bitmaps)),
-            blocks,
-            "{cells} {bitmaps}"
+    for (row, &(cells, bitmaps, blocks)) in table.iter().enumerate() {
+        same_in(
+            &rt,
+            &price(u64::from(cells), u64::from(bitmaps)),
+            &blocks,
+            row,
         );
     }
     Ok(())
 }
 
 // Charges an atom, and gives what is short.
-fn charge(
+pub fn charge(
     alloc: Global,
     space: &mut SpaceMap,
     atom: u32,
@@ -125,7 +128,7 @@ fn charge(
 }
 
 // Places a block.
-fn place(space: &mut SpaceMap, near: u64) -> Option<u64>
+pub fn place(space: &mut SpaceMap, near: u64) -> Option<u64>
     ensures open { space.new.sealed ≡ space.old.sealed }
     ensures size { space.new.block_count ≡ space.old.block_count }
 {
@@ -204,23 +207,27 @@ fn fill(rt: &impl Abort, alloc: Global, space: &mut SpaceMap) -> Result<(), Fail
     requires size { 64 ≤ space.old.block_count }
     ensures { OnOk result (space.new.sealed ≡ []) }
 {
-    assert_eq!(rt; charge(alloc, space, 1, 1, 0)?, None);
-    assert_eq!(rt;
-        charge(alloc, space, 1, 130, 128)?,
-        Some(Short {
+    same(rt, &charge(alloc, space, 1, 1, 0)?, &None, "what is short");
+    same(
+        rt,
+        &charge(alloc, space, 1, 130, 128)?,
+        &Some(Short {
             need: 257,
             free: 35
-        })
+        }),
+        "what is short",
     );
-    assert_eq!(rt; charge(alloc, space, 1, 7, 5)?, None);
-    assert_eq!(rt; space.free(), 24);
+    same(rt, &charge(alloc, space, 1, 7, 5)?, &None, "what is short");
+    same(rt, &space.free(), &24, "free");
     finish_placed(space, 5);
-    assert_eq!(rt; space.free(), 35);
-    assert_eq!(rt;
-        charge(alloc, space, 1, 22, 20)?,
-        Some(Short { need: 46, free: 35 })
+    same(rt, &space.free(), &35, "free");
+    same(
+        rt,
+        &charge(alloc, space, 1, 22, 20)?,
+        &Some(Short { need: 46, free: 35 }),
+        "what is short",
     );
-    assert_eq!(rt; charge(alloc, space, 1, 2, 0)?, None);
+    same(rt, &charge(alloc, space, 1, 2, 0)?, &None, "what is short");
     finish_freed(alloc, space, &[24, 25, 26, 27, 28])
 }
 
@@ -230,14 +237,14 @@ fn a_full_volume_is_charged(rt: HostRuntime) -> Result<(), Fail> {
     let bitmaps = bitmaps(alloc, 64)?;
     let mut space = read(&rt, alloc, &bitmaps, 64, 40).map_err(|_| Fail::from("no space"))?;
     fill(&rt, alloc, &mut space)?;
-    assert_eq!(rt; space.free(), 40);
-    assert_eq!(rt; charge(alloc, &mut space, 1, 1, 0)?, None);
-    assert_eq!(rt; charge(alloc, &mut space, 2, 2, 0)?, None);
-    assert_eq!(rt; space.free(), 29);
+    same(&rt, &space.free(), &40, "free");
+    same(&rt, &charge(alloc, &mut space, 1, 1, 0)?, &None, "what is short");
+    same(&rt, &charge(alloc, &mut space, 2, 2, 0)?, &None, "what is short");
+    same(&rt, &space.free(), &29, "free");
     merge(&mut space);
-    assert_eq!(rt; space.free(), 33);
-    assert_eq!(rt; charge(alloc, &mut space, 1, 17, 15)?, None);
-    assert_eq!(rt; space.free(), 4);
+    same(&rt, &space.free(), &33, "free");
+    same(&rt, &charge(alloc, &mut space, 1, 17, 15)?, &None, "what is short");
+    same(&rt, &space.free(), &4, "free");
     Ok(())
 }
 
@@ -256,8 +263,8 @@ fn place_around(rt: &impl Abort, space: &mut SpaceMap, last: u64)
 {
     // Where to look for a block, and which one is found.
     let table = [(0, 24), (24, 25), (last, last), (last, 26), (u64::MAX, 27)];
-    for (near, found) in table {
-        assert_eq!(rt; place(space, near), Some(found), "{near}");
+    for (row, &(near, found)) in table.iter().enumerate() {
+        same_in(rt, &place(space, near), &Some(found), row);
     }
 }
 
@@ -275,23 +282,23 @@ fn free_two(rt: &impl Abort, alloc: Global, space: &mut SpaceMap) -> Result<(), 
 {
     defer(alloc, space, 1, 24)?;
     defer(alloc, space, 2, 25)?;
-    assert_eq!(rt; hold(alloc, space, 1, 24)?, Some(28));
+    same(rt, &hold(alloc, space, 1, 24)?, &Some(28), "held");
     seal_both(space);
-    assert_eq!(rt; written(alloc, space, 1)?, 0b1110);
-    assert_eq!(rt; written(alloc, space, 2)?, 0b1100);
+    same(rt, &written(alloc, space, 1)?, &0b1110, "bits");
+    same(rt, &written(alloc, space, 2)?, &0b1100, "bits");
     Ok(())
 }
 
 // What the space is after each of these atoms settled, the first one first.
 fn settle_both(rt: &impl Abort, alloc: Global, space: &mut SpaceMap) -> Result<(), Fail> {
-    assert_eq!(rt; place(space, 24), Some(29));
+    same(rt, &place(space, 24), &Some(29), "placed");
     space.settle(AtomNo(1));
-    assert_eq!(rt; place(space, 25), Some(28));
-    assert_eq!(rt; place(space, 23), Some(24));
+    same(rt, &place(space, 25), &Some(28), "placed");
+    same(rt, &place(space, 23), &Some(24), "placed");
     let mut copy = space.copy(alloc)?;
     copy.settle(AtomNo(2));
-    assert_eq!(rt; place(&mut copy, 25), Some(25));
-    assert_eq!(rt; space.free(), copy.free());
+    same(rt, &place(&mut copy, 25), &Some(25), "placed");
+    same(rt, &space.free(), &copy.free(), "free");
     Ok(())
 }
 
@@ -304,11 +311,40 @@ fn atoms_settle_in_order(rt: HostRuntime) -> Result<(), Fail> {
             "no space",
         ))?;
         place_around(&rt, &mut space, last);
-        assert_eq!(rt; space.free(), free - 5);
+        same(&rt, &space.free(), &(free - 5), "free");
         space.settle(AtomNo(9));
         free_two(&rt, alloc, &mut space)?;
         settle_both(&rt, alloc, &mut space)?;
-        assert_eq!(rt; space.free(), free - 7);
+        same(&rt, &space.free(), &(free - 7), "free");
     }
+    Ok(())
+}
+
+// Two atoms defer a block, and settle one after the other.
+fn defer_twice(rt: &impl Abort, alloc: Global, space: &mut SpaceMap) -> Result<(), Fail>
+    requires { 64 ≤ space.old.block_count }
+{
+    defer(alloc, space, 1, 30)?;
+    same(rt, &space.free(), &39, "one");
+    defer(alloc, space, 2, 30)?;
+    same(rt, &space.free(), &39, "two");
+    space.settle(AtomNo(1));
+    same(rt, &space.is_used(BlockNo(30)), &true, "still deferred");
+    same(rt, &space.free(), &39, "one again");
+    space.settle(AtomNo(2));
+    same(rt, &space.is_used(BlockNo(30)), &false, "given back");
+    Ok(())
+}
+
+#[test]
+fn an_unmarked_block_is_deferred(rt: HostRuntime) -> Result<(), Fail> {
+    let alloc = rt.alloc();
+    let bitmaps = bitmaps(alloc, 64)?;
+    let mut space = read(&rt, alloc, &bitmaps, 64, 40).map_err(|_| Fail::from("no space"))?;
+    same(&rt, &space.is_used(BlockNo(30)), &false, "unmarked");
+    same(&rt, &space.is_used(BlockNo(23)), &true, "marked");
+    same(&rt, &space.is_used(BlockNo(64)), &false, "past the end");
+    defer_twice(&rt, alloc, &mut space)?;
+    same(&rt, &space.free(), &40, "none");
     Ok(())
 }

@@ -1,14 +1,15 @@
 -- How a commit begins and ends.
-use Rattle.std.proofs.Common.{◌≡◌, ℕ, ◌≤◌, List, [], ◌∷◌, sym, subst, arith}
-use Rattle.r4_base.specs.Image.{Image}
+use Rattle.std.proofs.Common.{◌≡◌, inl, ℕ, ◌≤◌, List, [], ◌∷◌, take, refl, sym, ◌∙◌, ap, subst, arith, length}
+use Rattle.std.proofs.lemmas.List.{take_all}
+use Rattle.r4_base.specs.Image.{Image, block_at, sector}
 use Rattle.r4_base.specs.Chain.{Txn, HasLog}
-use Rattle.r4_outside.specs.Device.{State, IsQuiet}
-use Rattle.r4_wander.specs.Torn.{IsTornBy}
+use Rattle.r4_outside.specs.Device.{State, IsQuiet, TellsReads}
+use Rattle.r4_wander.specs.Torn.{IsTornBy, Write, put_writes}
 use Rattle.r4_wander.specs.Parts.{Parts, part, base_of, IsOrderOf, HasHomes}
 use Rattle.r4_wander.specs.declared.plan.LogPlan.{LogPlan}
 use Rattle.r4_wander.specs.LogPlan.{parts_of, txn_of}
-use Rattle.r4_wander.specs.Safe.{IsSafe, IsEncoded, ByPart}
-use Rattle.r4_wander.specs.Progress.{Progress, under_way, HasMade, Stands, Commits, EndsQuiet}
+use Rattle.r4_wander.specs.Safe.{IsSafe, IsEncoded, ByPart, WithAtom}
+use Rattle.r4_wander.specs.Progress.{Progress, under_way, HasMade, ReadsAs, Stands, Commits, EndsQuiet}
 use Rattle.r4_wander.proofs.Settling.{log2, log4, settles_by_part}
 use Rattle.r4_wander.proofs.Order.{base_order, torn_order}
 use Rattle.r4_wander.proofs.Encoding.{is_commit, by_part}
@@ -50,3 +51,24 @@ ends w n base chain p d c last none made =
       log = subst (λ (i : Image). HasLog n i []) (sym here.seen) (footed n base chain p w.plan c.safe c.order c.encoded (c.homes (omega (arith, last))));
       settles = subst (λ (i : ℕ). ByPart n base chain p i d.seen) last (now.each d.clock d.seen (omega arith) (omega arith) made.tells);
     }
+
+-- ---- on a device that tells what reading gives
+
+pub reads_first : (w : Progress) (d : State) → TellsReads d → w.part ≡ 0 → w.done ≡ 0 → ReadsAs w d.seen d
+reads_first w d told first none = record {
+  image = told;
+  seen = sym (ap (λ (k : ℕ). put_writes (take k (part w.plan w.part)) (base_of w.plan d.seen w.part)) none ∙ ap (λ (i : ℕ). put_writes (take 0 (part w.plan i)) (base_of w.plan d.seen i)) first);
+}
+
+pub ends_reading : (w : Progress) (n : ℕ) (base : Image) (chain : List Txn) (p : LogPlan) (d : State) → TellsReads d → Commits w n base chain p → w.part ≡ 4 → ReadsAs w base d → HasLog n d.seen [] × WithAtom n base chain p d.seen
+ends_reading w n base chain p d told c last reads =
+    let at_end : d.seen ≡ base_of w.plan base 4 =
+    reads.seen ∙ ap (λ (i : ℕ). put_writes (take w.done (part w.plan i)) (base_of w.plan base i)) last ∙ ap (λ (ws : List Write). put_writes ws (base_of w.plan base 4)) (take_all w.done (part w.plan 4) (omega arith)) in
+    let torn : IsTornBy (part w.plan 4) (base_of w.plan base 4) d.seen = record {
+      blocks = ap (λ (i : Image). length i) at_end;
+      whole = λ b lt. told.whole b (omega (arith, lt, told.blocks, ap (λ (i : Image). length i) at_end));
+      sectors = λ b s lt ls. inl (ap (λ (i : Image). sector (block_at i b) s) at_end);
+    } in (
+      subst (λ (i : Image). HasLog n i []) (sym at_end) (footed n base chain p w.plan c.safe c.order c.encoded (c.homes (omega (arith, last)))),
+      settles_by n base chain p w.plan c.safe c.order c.encoded 4 d.seen (omega arith) (λ le. c.homes (omega (arith, last))) torn,
+    )

@@ -19,7 +19,7 @@ use Rattle.r4_base.specs.Layout.{super_of}
 use Rattle.r4_base.specs.Cell.{IsCellOf}
 use Rattle.r4_base.proofs.Frame.{home_cases, framed_log, framed_at, log_in_range, chain_in_range, second_in_range}
 use Rattle.r4_base.proofs.Choices.{never_both, nothing_in}
-use Rattle.r4_outside.specs.Device.{State, Spares}
+use Rattle.r4_outside.specs.Device.{State, Spares, LeavesOnly}
 use Rattle.r4_wander.specs.Torn.{IsTarget, IsTornBy}
 use Rattle.r4_wander.specs.Parts.{Parts, part, base_of, IsCommit, is_log_number}
 use Rattle.r4_wander.specs.LogPlan.{first, parts_of, txn_of}
@@ -29,7 +29,7 @@ use Rattle.r4_wander.specs.Needed.{SparesNeeded}
 use Rattle.r4_wander.proofs.Settling.{torn_outside, one_target, length-put_writes}
 use Rattle.r4_wander.proofs.Order.{torn_order, part_target}
 use Rattle.r4_wander.proofs.Encoding.{is_commit, home_other}
-use Rattle.r4_wander.proofs.Standing.{left_start, homes_differ}
+use Rattle.r4_wander.proofs.Standing.{homes_differ}
 
 -- ---- contents over images that agree on the blocks of which one is made are made of the same blocks
 
@@ -134,13 +134,13 @@ length-base_of plan base (suc i) = length-put_writes (part plan i) (base_of plan
 
 -- so each needed block is spared by a step, but for the homes
 pub spares_needed : (w : Progress) (n : ℕ) (base : Image) (chain : List Txn) (p : LogPlan) (m : Content) (v : HasVolume n base m) (old new : State) → Commits w n base chain p → Stands w base old
-    → w.part ≢ 2 → ((b : ℕ) → IsTarget (first p) b → Needs v b → ⊥) → Spares (IsTarget (under_way w)) old new → SparesNeeded old new
-spares_needed w n base chain p m v old new c made other free spares =
+    → w.part ≢ 2 → ((b : ℕ) → IsTarget (first p) b → Needs v b → ⊥) → Spares (IsTarget (under_way w)) old new → LeavesOnly old new (IsTornBy (under_way w) (base_of w.plan base w.part)) → SparesNeeded old new
+spares_needed w n base chain p m v old new c made other free spares left =
     let base_long : length base ≡ n = c.safe.image.blocks in
     let long : n ≡ old.blocks = sym base_long ∙ sym (length-base_of w.plan base w.part) ∙ made.image.blocks in
     record {
-      each = λ image o u b t s x left need lo hi ls may. spares.each t b s x lo hi ls (λ target.
-          let torn : IsTornBy (under_way w) (base_of w.plan base w.part) image = left_start (under_way w) (base_of w.plan base w.part) w.done old made image left in
+      each = λ k image o u b t s x from to leaves need lo hi ls may. spares.each t b s x lo hi ls (λ target.
+          let torn : IsTornBy (under_way w) (base_of w.plan base w.part) image = left.each k image from to leaves in
           subst (λ (k : ℕ). (z : HasVolume k image o) → Needs z b → ⊥) long
           (λ z needs. part_free n base chain (txn_of p) (parts_of p) (is_commit n base chain p c.safe c.encoded) m v free w.part image b o z other
           (torn_order (parts_of p) w.plan c.order c.safe.different (homes_differ n base chain p c.safe) base w.part image torn) (part_target (parts_of p) w.plan c.order w.part b target) needs)

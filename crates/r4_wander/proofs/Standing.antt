@@ -15,7 +15,7 @@ use Rattle.r4_wander.specs.Parts.{Parts, part, base_of, IsOrderOf}
 use Rattle.r4_wander.specs.declared.plan.LogPlan.{LogPlan}
 use Rattle.r4_wander.specs.LogPlan.{news, parts_of, txn_of}
 use Rattle.r4_wander.specs.Safe.{IsSafe, IsEncoded, ByPart}
-use Rattle.r4_wander.specs.Progress.{Progress, under_way, write_at, HasMade, FitOn, Stands, Commits}
+use Rattle.r4_wander.specs.Progress.{Progress, under_way, write_at, HasMade, FitOn, Stands, ReadsAs, Commits}
 use Rattle.r4_wander.proofs.Members.{any_here}
 use Rattle.r4_wander.proofs.Settling.{settles_by_part}
 use Rattle.r4_wander.proofs.Order.{torn_order}
@@ -203,4 +203,36 @@ made_read ws base k old new made goes seen clock = record {
   tells = goes.crashes.1 made.tells;
   seen = seen ∙ made.seen;
   within = λ b s x lb ls may. made.within b s x (omega (arith, lb, goes.blocks)) ls ((goes.earlier old.clock b s x (omega arith)).0 (subst (λ (m : ℕ). new.may_hold m b s x) clock may));
+}
+
+-- ---- what reading gives, also on a device that tells reading alone
+
+seen_write : {T E : Type 0} (ws : List Write) (base : Image) (k : ℕ) (old new : State) (v : T) → old.seen ≡ put_writes (take k ws) base → k < length ws
+    → Writes {E = E} (write_at ws k).0 (write_at ws k).1 old (Ok v) new → new.seen ≡ put_writes (take (k + 1) ws) base
+seen_write ws base k old new v seen lt w =
+    let more : take (k + 1) ws ≡ take k ws ++ write_at ws k ∷ [] = take_more ws k (0, []) lt in
+    w.seen ∙ ap (λ (i : Image). slice_set i (write_at ws k).0 (write_at ws k).1) seen ∙ sym (put_both (take k ws) (write_at ws k ∷ []) base) ∙ ap (λ (l : List Write). put_writes l base) (sym more)
+
+pub reads_write : {T E : Type 0} (w : Progress) (base : Image) (old new : State) (v : T) → ReadsAs w base old → w.done < length (under_way w)
+    → Writes {E = E} (write_at (under_way w) w.done).0 (write_at (under_way w) w.done).1 old (Ok v) new → ReadsAs (record w { done = w.done + 1 }) base new
+reads_write w base old new v reads lt wrote = record {
+  image = subst (λ (n : ℕ). IsImage n base) (sym wrote.goes.blocks) reads.image;
+  seen = seen_write (under_way w) (base_of w.plan base w.part) w.done old new v reads.seen lt wrote;
+}
+
+pub reads_sync : {T E : Type 0} (w : Progress) (base : Image) (old new : State) (v : T) → ReadsAs w base old → length (under_way w) ≤ w.done
+    → Syncs {E = E} old (Ok v) new → ReadsAs (record w { part = w.part + 1; done = 0 }) base new
+reads_sync w base old new v reads all synced =
+    let more : suc w.part ≡ w.part + 1 = omega arith in
+    let next : base_of w.plan base (suc w.part) ≡ base_of w.plan base (w.part + 1) = ap (base_of w.plan base) more in
+    record {
+      image = subst (λ (n : ℕ). IsImage n base) (sym synced.goes.blocks) reads.image;
+      seen = synced.seen ∙ reads.seen ∙ ap (λ (l : List Write). put_writes l (base_of w.plan base w.part)) (take_all w.done (under_way w) all) ∙ next;
+    }
+
+-- a read between two steps leaves it as it is
+pub reads_read : (w : Progress) (base : Image) (old new : State) → ReadsAs w base old → Goes old new → new.seen ≡ old.seen → ReadsAs w base new
+reads_read w base old new reads goes seen = record {
+  image = subst (λ (n : ℕ). IsImage n base) (sym goes.blocks) reads.image;
+  seen = seen ∙ reads.seen;
 }

@@ -5,7 +5,7 @@ use Rattle.r4_outside.specs.Device.{State, Goes, LeavesOnly, Spares, Rose, next}
 use Rattle.r4_outside.proofs.Moments.{goes_same, goes_both, spares_same, spares_both}
 use Rattle.r4_wander.specs.Torn.{Write, IsTarget, IsTornBy}
 use Rattle.r4_wander.specs.Parts.{Parts, part, base_of, IsOrderOf}
-use Rattle.r4_wander.specs.Progress.{Progress, under_way, FitOn, IsNextCall, IsNext, calls_from, calls_left, Stands}
+use Rattle.r4_wander.specs.Progress.{Progress, under_way, FitOn, IsNextCall, IsNext, calls_from, calls_left, Stands, ReadsAs}
 use Rattle.std.proofs.lemmas.List.{length-append, length-map}
 use Rattle.std.proofs.lemmas.List.FromFn.{length-map-range_with_len}
 use Rattle.std.proofs.lemmas.List.Sorted.{length_permutation}
@@ -25,6 +25,7 @@ pub record Ran (w0 : Progress) (d0 : State) (k : ℕ) (w : Progress) (d : State)
   pub below : 0 < k → d.clock < 2 ^ 64
   pub spares : Spares (IsTarget (under_way w0)) d0 d
   pub stands : (base : Image) → Stands w0 base d0 → Stands w base d
+  pub reads : (base : Image) → ReadsAs w0 base d0 → ReadsAs w base d
   pub left : (base : Image) → Stands w0 base d0 → LeavesOnly d0 d (IsTornBy (under_way w0) (base_of w0.plan base w0.part))
 
 pub ran_start : (w : Progress) (d : State) → Ran w d 0 w d
@@ -38,6 +39,7 @@ ran_start w d = record {
   below = λ no. absurd (omega (arith, no));
   spares = spares_same (IsTarget (under_way w)) d;
   stands = λ base s. s;
+  reads = λ base r. r;
   left = λ base s. left_now (under_way w) (base_of w.plan base w.part) w.done d s;
 }
 
@@ -92,8 +94,9 @@ module _ (w0 : Progress) (d0 : State) (k : ℕ) (w : Progress) (d : State) (ran 
 
       -- a write
       pub on_write : d1.clock ≡ next d.clock → IsNextCall false w w1 → Spares (IsTarget (under_way w)) d d1 → ((base : Image) → Stands w base d → Stands w1 base d1)
+          → ((base : Image) → ReadsAs w base d → ReadsAs w1 base d1)
           → ((base : Image) → Stands w base d → LeavesOnly d d1 (IsTornBy (under_way w) (base_of w.plan base w.part))) → Ran w0 d0 (k + 1) w1 d1
-      on_write told step spares stands left = record {
+      on_write told step spares stands reads left = record {
         plan = on_plan;
         at = step.1 ∙ ran.at;
         done = omega (arith, step.2, ran.done);
@@ -103,6 +106,7 @@ module _ (w0 : Progress) (d0 : State) (k : ℕ) (w : Progress) (d : State) (ran 
         below = λ some. omega (arith, told);
         spares = on_spares spares;
         stands = λ base s. stands base (ran.stands base s);
+        reads = λ base r. reads base (ran.reads base r);
         left = on_left left;
       }
 

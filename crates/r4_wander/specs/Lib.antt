@@ -6,3 +6,4 @@ pub mod LogPlan
 pub mod Safe
 pub mod Progress
 pub mod Needed
+pub mod Kept

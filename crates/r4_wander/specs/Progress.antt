@@ -73,6 +73,11 @@ pub record HasMade (ws : List Write) (base : Image) (k : ℕ) (d : State) : Type
 abbrev pub Stands : Progress → Image → State → Type 0
 Stands w base d = HasMade (under_way w) (base_of w.plan base w.part) w.done d
 
+-- Reading gives what the writer has made so far, in a commit that began on this image.
+pub record ReadsAs (w : Progress) (base : Image) (d : State) : Type 0 where
+  pub image : IsImage d.blocks base
+  pub seen : d.seen ≡ put_writes (take w.done (under_way w)) (base_of w.plan base w.part)
+
 -- The writer makes the commit of this plan, which is safe on this image with this chain. From the homes on they have to be those of the whole chain.
 pub record Commits (w : Progress) (n : ℕ) (base : Image) (chain : List Txn) (p : LogPlan) : Type 0 where
   pub safe : IsSafe n base chain p

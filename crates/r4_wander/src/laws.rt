@@ -1,14 +1,15 @@
 //! Laws of commits. Each is the contract of a function that does nothing.
 
 ghost use Rattle.std.specs.Prelude.{◌≡◌, ◌≢◌, ℕ, ◌+◌, ◌≤◌, List, [], ◌∷◌, length, Contains};
-ghost use Rattle.r4_base.specs.Chain.{Txn, HasLog, originals};
-ghost use Rattle.r4_base.specs.Image.{Image, IsImage};
+ghost use Rattle.r4_base.specs.Chain.{Txn, HasLog, chain_pairs, originals};
+ghost use Rattle.r4_base.specs.Image.{Image, IsImage, put_pairs};
 ghost use Rattle.r4_base.specs.Value.{Content};
 ghost use Rattle.r4_base.specs.Volume.{HasContent, HasVolume, IsMadeOf, Needs};
-ghost use Rattle.r4_outside.specs.Device.{IsQuiet, LeavesOnly};
+ghost use Rattle.r4_outside.specs.Device.{Goes, IsQuiet, LeavesOnly, TellsReads, Untouched};
+ghost use Rattle.r4_wander.specs.Kept.{IsVolumeOf};
 ghost use Rattle.r4_wander.specs.LogPlan.{IsBelow, first, parts_of, txn_of};
 ghost use Rattle.r4_wander.specs.Parts.{Parts, part, base_of, IsOrderOf, HasHomes};
-ghost use Rattle.r4_wander.specs.Progress.{Progress, Stands, Commits, EndsQuiet, FitOn, calls_from};
+ghost use Rattle.r4_wander.specs.Progress.{Progress, ReadsAs, Stands, Commits, EndsQuiet, FitOn, calls_from};
 ghost use Rattle.r4_wander.specs.Safe.{IsSafe, IsEncoded, ByPart, WithoutAtom, WithAtom, with_atom, is_scratch};
 ghost use Rattle.r4_wander.specs.Torn.{IsTarget, IsTornBy};
 ghost use Rattle.r4_wander.specs.declared.plan.LogPlan.{LogPlan};
@@ -39,6 +40,15 @@ pub fn commit_keeps_volumes()
         → IsImage n image → WithAtom n base chain p image → HasVolume n image m }
 {}
 
+/// The volume that an image then has is that of the old content, or of the new one, with its superblock, its cells and its
+/// marks: so the next object id and the lost blocks are the content's (docs/commit.md, "Crashes").
+pub fn commit_keeps_blocks()
+    ensures without { (n : ℕ) (base image : Image) (chain : List Txn) (p : LogPlan) (m : Content) (v : HasVolume n base m) → IsSafe n base chain p → ((b : ℕ) → IsTarget (first p) b → Needs v b → ⊥)
+        → IsImage n image → WithoutAtom n base chain p image → IsVolumeOf n image (put_pairs (chain_pairs v.chain) base) m v.content }
+    ensures with_it { (n : ℕ) (base image : Image) (chain : List Txn) (p : LogPlan) (m : Content) (c : HasContent n (with_atom base chain p) m) → ((b : ℕ) → is_scratch p b → IsMadeOf c b → ⊥)
+        → IsImage n image → WithAtom n base chain p image → IsVolumeOf n image (with_atom base chain p) m c }
+{}
+
 /// No write of a commit but those of the homes falls on a block that the volume of some image needs which a crash may
 /// leave while the write is made; and the homes are originals of the transaction (docs/commit.md, "Needed blocks").
 pub fn commit_spares_needed()
@@ -61,7 +71,9 @@ pub fn commit_fits()
 {}
 
 /// A writer at its beginning stands on a quiet device. Between two steps a crash leaves what settles by the part; where a
-/// part has just begun, the device is quiet; and at the end nothing is unflushed (docs/commit.md, "Crashes").
+/// part has just begun, the device is quiet; and at the end nothing is unflushed. On a device that
+/// tells what reading gives, and nothing of crashes, reading gives what the writer made, from the beginning to the end
+/// (docs/commit.md, "Crashes").
 pub fn commit_on_a_device<D: Device>(dev: &D)
     ensures begins { (w : Progress) → IsQuiet (D.state dev.now) → w.part ≡ 0 → w.done ≡ 0 → Stands w (D.state dev.now).seen (D.state dev.now) }
     ensures between { (w : Progress) (n : ℕ) (base : Image) (chain : List Txn) (p : LogPlan) → w.part ≤ 4 → Commits w n base chain p → Stands w base (D.state dev.now)
@@ -69,6 +81,21 @@ pub fn commit_on_a_device<D: Device>(dev: &D)
     ensures quiet { (w : Progress) (base : Image) → w.done ≡ 0 → Stands w base (D.state dev.now) → IsQuiet (D.state dev.now) }
     ensures ends { (w : Progress) (n : ℕ) (base : Image) (chain : List Txn) (p : LogPlan) → Commits w n base chain p → w.part ≡ 4 → w.done ≡ 0 → Stands w base (D.state dev.now)
         → EndsQuiet n base chain p (D.state dev.now) }
+    ensures begins_reading { (w : Progress) → TellsReads (D.state dev.now) → w.part ≡ 0 → w.done ≡ 0 → ReadsAs w (D.state dev.now).seen (D.state dev.now) }
+    ensures ends_reading { (w : Progress) (n : ℕ) (base : Image) (chain : List Txn) (p : LogPlan) → TellsReads (D.state dev.now) → Commits w n base chain p → w.part ≡ 4 → ReadsAs w base (D.state dev.now)
+        → HasLog n (D.state dev.now).seen [] × WithAtom n base chain p (D.state dev.now).seen }
 {
     let _ = dev;
+}
+
+/// Reads between two steps of a commit change nothing of where its device stands, and nothing of what reading gives
+/// (docs/commit.md, "Crashes").
+pub fn reads_between_steps<D: Device>(before: &D, after: &D)
+    ensures stands { (w : Progress) (base : Image) → Goes (D.state before.now) (D.state after.now) → Untouched (D.state before.now) (D.state after.now)
+        → Stands w base (D.state before.now) → Stands w base (D.state after.now) }
+    ensures reads { (w : Progress) (base : Image) → Goes (D.state before.now) (D.state after.now) → Untouched (D.state before.now) (D.state after.now)
+        → ReadsAs w base (D.state before.now) → ReadsAs w base (D.state after.now) }
+{
+    let _ = before;
+    let _ = after;
 }

@@ -9,8 +9,8 @@ mod stage;
 mod writer;
 
 pub use laws::{
-    commit_fits, commit_is_bounded, commit_keeps_volumes, commit_on_a_device, commit_settles,
-    commit_spares_needed,
+    commit_fits, commit_is_bounded, commit_keeps_blocks, commit_keeps_volumes, commit_on_a_device,
+    commit_settles, commit_spares_needed, reads_between_steps,
 };
 pub use plan::{Blocks, LogPlan, PlacedCell, PlacedCells, WanderedCopies, WanderedCopy};
 pub use stage::Stage;

@@ -11,7 +11,7 @@ ghost use Rattle.r4_wander.specs.Parts.{base_of, IsOrderOf};
 ghost use Rattle.r4_wander.specs.LogPlan.{first, parts_of, CanBeWritten};
 ghost use Rattle.r4_wander.specs.Needed.{SparesNeeded};
 ghost use Rattle.r4_wander.specs.Safe.{IsEncoded, ByPart};
-ghost use Rattle.r4_wander.specs.Progress.{under_way, write_at, FitOn, IsNextCall, IsNext, stage_at, calls_left, Stands, Commits};
+ghost use Rattle.r4_wander.specs.Progress.{under_way, write_at, FitOn, IsNextCall, IsNext, stage_at, calls_left, Stands, ReadsAs, Commits};
 ghost use Rattle.r4_wander.specs.declared.plan.LogPlan.{LogPlan};
 
 use crate::entry::Entry;
@@ -105,11 +105,15 @@ impl Writer {
         // Where the device stands as the writer says, it does so afterwards.
         ensures stands { (base : Image) → Stands self.old base (D.state dev.old) → OnOk result (Stands self.new base (D.state dev.new)) }
 
+        // Where reading gives what the writer says, it does so afterwards, also on a device that tells reading alone.
+        ensures reads { (base : Image) → ReadsAs self.old base (D.state dev.old) → OnOk result (ReadsAs self.new base (D.state dev.new)) }
+
         // A crash at any moment leaves what settles as without the commit or as with it, by the part.
         ensures settles { (n : ℕ) (base : Image) (chain : List Txn) (p : LogPlan) → Commits self.old n base chain p → Stands self.old base (D.state dev.old)
             → LeavesOnly (D.state dev.old) (D.state dev.new) (ByPart n base chain p self.old.part) }
 
-        // But for the homes, no write falls on a block that an image needs which a crash may leave, where the first part's blocks were needed by none.
+        // But for the homes, no write falls on a block that an image needs which a crash at any moment of the step may leave,
+        // where the first part's blocks were needed by none.
         ensures needed { (n : ℕ) (base : Image) (chain : List Txn) (p : LogPlan) (m : Content) (v : HasVolume n base m) → Commits self.old n base chain p → Stands self.old base (D.state dev.old)
             → self.old.part ≢ 2 → ((b : ℕ) → IsTarget (first p) b → Needs v b → ⊥) → SparesNeeded (D.state dev.old) (D.state dev.new) }
     {
@@ -135,6 +139,7 @@ impl Writer {
         ensures one { OnOk result ((D.state dev.new).clock ≡ (D.state dev.old).clock + 1) }
         ensures spares { Spares (IsTarget (under_way self.old)) (D.state dev.old) (D.state dev.new) }
         ensures stands { (base : Image) → Stands self.old base (D.state dev.old) → OnOk result (Stands self.new base (D.state dev.new)) }
+        ensures reads { (base : Image) → ReadsAs self.old base (D.state dev.old) → OnOk result (ReadsAs self.new base (D.state dev.new)) }
         ensures left { (base : Image) → Stands self.old base (D.state dev.old)
             → LeavesOnly (D.state dev.old) (D.state dev.new) (IsTornBy (under_way self.old) (base_of self.old.plan base self.old.part)) }
     {

@@ -54,3 +54,6 @@ pub returns-clause-first : goal.returns-clause-first
 returns-clause-first c = λ free.
     let some : 1 ≤ length (map (λ (x : BlockNo). x.0) c.loop-held.blocks.items) = omega (arith, length-map c.loop-held.blocks.items (λ (x : BlockNo). x.0), c.loop-held.invariant.counted, c.loop-held-test.false, c.loop-held.auto._held-end, c.requires.some) in
     c.loop-held.invariant.holding.first free some
+
+pub returns-clause-left : goal.returns-clause-left
+returns-clause-left c = omega (arith, c.loop-held.invariant.holding.spare, length-map c.loop-held.blocks.items (λ (x : BlockNo). x.0), c.loop-held.invariant.counted, c.loop-held-test.false, c.loop-held.auto._held-end)

@@ -83,4 +83,4 @@ pub returns-clause-written : goal.returns-clause-written
 returns-clause-written c = can_be_written _ _ _ _ _ _ _ _ _ _ _ (made c) c.lawful.ensures c.requires.overwritten c.requires.placed
 
 pub returns-clause-held : goal.returns-clause-held
-returns-clause-held c = c.in_ok-log.ensures.held ∙ ap (λ (l : List ℕ). record (with_all_held c.args.space.now c.args.atom l) { spare = c.hold_log.new.space.spare }) (sym (blocks_are c))
+returns-clause-held c = c.in_ok-log.ensures.held ∙ ap (with_all_held c.args.space.now c.args.atom) (sym (blocks_are c))

@@ -1,10 +1,8 @@
-use Rattle.std.proofs.Common.{◌≡◌, length, ap, arith}
-use Rattle.r4_space.proofs.AccountLaws.{length-without}
-use Rattle.r4_space.specs.Accounts.{without_account}
+use Rattle.std.proofs.Common.{◌∙◌, refl}
+use Rattle.r4_space.proofs.AccountLaws.{placed, stands_open}
 use Rattle.r4_space.proofs.ledger.put.Goals as goal
 
-pub add-requires : goal.add-requires
-add-requires c =
-    let fewer = length-without c.args.account.atom c.args.atoms.now.items in
-    let same : length c.forget.new.atoms.items ≡ length (without_account c.args.account.atom c.args.atoms.now.items) = ap length c.forget.ensures.items in
-    omega (arith, c.forget.new.atoms.ok.0, c.args.atoms.now.ok.0, c.forget.ensures.capacity)
+pub returns-in-Some-clause-items : goal.returns-in-Some-clause-items
+returns-in-Some-clause-items c =
+    let at = rw c.in-Some.is at c.requires.at in
+    placed c.args.atoms.now.items c.args.account c.in-Some.i c.requires.once at ∙ rw (stands_open c.args.atoms.now.items c.args.account.atom c.in-Some.i at) refl

@@ -11,7 +11,7 @@ returns-clause-ok c =
     let need : need_of i.ledger.bitmaps i.ledger.atoms c.args.atom c.args.cells c.args.fresh ≡ need_at c.args.self.now c.args.atom c.args.cells c.args.fresh =
     ap (λ (b : ℕ). need_of b i.ledger.atoms c.args.atom c.args.cells c.args.fresh) c.self.invariant.bitmaps_are ∙ ap (λ (s : Space). need_at s c.args.atom c.args.cells c.args.fresh) c.self.view_is in
     let free : c.clear-unused.result - dues i.ledger.bitmaps i.ledger.atoms ≡ free_of c.args.self.now =
-    rw c.clear-unused.ensures.count (free_is i.blocks i.marked.items i.placed.items i.held.items i.deferred.items i.taken i.ledger.bitmaps i.ledger.spare _ _ i.ledger.atoms i.ledger.sealed c.self.invariant) ∙ ap free_of c.self.view_is in
+    rw c.clear-unused.ensures.count (free_is i.blocks i.marked i.placed i.held.items i.deferred.items i.claimed i.twice i.taken i.ledger.bitmaps i.ledger.spare _ _ i.ledger.atoms i.ledger.sealed c.self.invariant) ∙ ap free_of c.self.view_is in
     on_ok_weaker c.charge.result (λ h. le_along _ _ _ _ need free h) c.charge.ensures.ok
 
 pub returns-clause-short : goal.returns-clause-short
@@ -20,5 +20,5 @@ returns-clause-short c =
     let need : need_of i.ledger.bitmaps i.ledger.atoms c.args.atom c.args.cells c.args.fresh ≡ need_at c.args.self.now c.args.atom c.args.cells c.args.fresh =
     ap (λ (b : ℕ). need_of b i.ledger.atoms c.args.atom c.args.cells c.args.fresh) c.self.invariant.bitmaps_are ∙ ap (λ (s : Space). need_at s c.args.atom c.args.cells c.args.fresh) c.self.view_is in
     let free : c.clear-unused.result - dues i.ledger.bitmaps i.ledger.atoms ≡ free_of c.args.self.now =
-    rw c.clear-unused.ensures.count (free_is i.blocks i.marked.items i.placed.items i.held.items i.deferred.items i.taken i.ledger.bitmaps i.ledger.spare _ _ i.ledger.atoms i.ledger.sealed c.self.invariant) ∙ ap free_of c.self.view_is in
+    rw c.clear-unused.ensures.count (free_is i.blocks i.marked i.placed i.held.items i.deferred.items i.claimed i.twice i.taken i.ledger.bitmaps i.ledger.spare _ _ i.ledger.atoms i.ledger.sealed c.self.invariant) ∙ ap free_of c.self.view_is in
     IfErr-weaker c.charge.result _ _ (λ e h. (h.0, h.1 ∙ need, h.2 ∙ free)) c.charge.ensures.short

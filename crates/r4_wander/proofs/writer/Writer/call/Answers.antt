@@ -1,7 +1,7 @@
 use Rattle.std.proofs.Common.{◌+◌, sym, subst}
 use Rattle.r4_wander.specs.Parts.{part, base_of}
-use Rattle.r4_wander.specs.Progress.{Progress, under_way, HasMade}
-use Rattle.r4_wander.proofs.Standing.{left_write, left_sync, made_write, made_sync, spares_one_write, next_base, more_writes, no_more_writes}
+use Rattle.r4_wander.specs.Progress.{Progress, under_way, HasMade, ReadsAs}
+use Rattle.r4_wander.proofs.Standing.{left_write, left_sync, made_write, made_sync, reads_write, reads_sync, spares_one_write, next_base, more_writes, no_more_writes}
 use Rattle.r4_wander.proofs.writer.Writer.call.Goals as goal
 
 pub returns-in_err-write_next-clause-spares : goal.returns-in_err-write_next-clause-spares
@@ -41,3 +41,15 @@ returns-clause-stands g c = λ base stands.
 
 pub returns-clause-left : goal.returns-clause-left
 returns-clause-left g c = λ base stands. left_sync _ _ _ _ stands _ _ c.sync.ensures
+
+pub returns-then-self-len-clause-reads : goal.returns-then-self-len-clause-reads
+returns-then-self-len-clause-reads g c = λ base reads.
+    let lt = more_writes c.args.self.now _ c.self.view_is c.len.result c.len.ensures c.if-self-len.true in
+    let read = reads_write c.args.self.now base _ _ _ reads lt c.in_ok-write_next.ensures in
+    subst (λ (u : Progress). ReadsAs (record u { done = u.done + 1 }) base (g.D.Device.state c.write_next.new.dev)) (sym c.self.view_is) read
+
+pub returns-clause-reads : goal.returns-clause-reads
+returns-clause-reads g c = λ base reads.
+    let all = no_more_writes c.args.self.now _ c.self.view_is c.len.result c.len.ensures c.if-self-len.false in
+    let read = reads_sync c.args.self.now base _ _ _ reads all c.in_ok-sync.ensures in
+    subst (λ (u : Progress). ReadsAs (record u { part = u.part + 1; done = 0 }) base (g.D.Device.state c.sync.new.self)) (sym c.self.view_is) read

@@ -1,0 +1,74 @@
+//! Many atoms, and a large volume.
+
+ghost use Rattle.std.specs.Prelude.{◌≡◌, [], IfOk, OnOk};
+
+use crate::same::same;
+use crate::spaces::{charge, place, read};
+use r4_base::{AtomNo, Block, BlockNo};
+use r4_space::SpaceMap;
+use std::alloc::Global;
+use std::process::Abort;
+use std::test::Fail;
+
+// Bitmap `n` of a new volume of 1,048,576 blocks.
+fn bitmap(alloc: Global, n: u64) -> Result<Block, Fail> {
+    let mut block = Block::zeroed(alloc)?;
+    for (i, byte) in block.bytes_mut().iter_mut().enumerate() {
+        if i == 4 {
+            *byte = 1;
+        }
+        if (n == 0 && (4..7).contains(&i)) || (n == 32 && i >= 132) {
+            *byte = 0xff;
+        }
+    }
+    Ok(block)
+}
+
+// A new volume of 1,048,576 blocks.
+fn large(rt: &impl Abort, alloc: Global) -> Result<SpaceMap, Fail>
+    ensures { IfOk result (λ s. s.sealed ≡ []) }
+{
+    let mut bitmaps = Vec::new(alloc);
+    for n in 0..33u64 {
+        bitmaps.push(bitmap(alloc, n)?)?;
+    }
+    read(rt, alloc, &bitmaps, 1_048_576, 1_048_520).map_err(|_| Fail::from("no space"))
+}
+
+// Charges 10,000 atoms so many cells each, one of them without a block.
+fn charge_all(alloc: Global, space: &mut SpaceMap, cells: u32) -> Result<(), Fail>
+    requires { space.old.sealed ≡ [] }
+    ensures { OnOk result (space.new.sealed ≡ []) }
+{
+    for atom in 1..10_001u32 {
+        if charge(alloc, space, atom, cells, 1)?.is_some() {
+            return Err(Fail::from("a charge is refused"));
+        }
+    }
+    Ok(())
+}
+
+#[test]
+fn ten_thousand_atoms_are_charged(rt: HostRuntime) -> Result<(), Fail> {
+    let alloc = rt.alloc();
+    let mut space = large(&rt, alloc)?;
+    charge_all(alloc, &mut space, 1)?;
+    same(&rt, &space.free(), &668_520, "one cell each");
+    charge_all(alloc, &mut space, 2)?;
+    same(&rt, &space.free(), &658_520, "two cells each");
+    Ok(())
+}
+
+#[test]
+fn thirty_thousand_blocks_are_placed(rt: HostRuntime) -> Result<(), Fail> {
+    let alloc = rt.alloc();
+    let mut space = large(&rt, alloc)?;
+    for _ in 0..30_000u64 {
+        place(&mut space, 22);
+    }
+    same(&rt, &space.free(), &1_018_520, "placed");
+    space.settle(AtomNo(1));
+    same(&rt, &space.free(), &1_018_520, "settled");
+    same(&rt, &space.is_used(BlockNo(30_023)), &true, "the last one");
+    Ok(())
+}
