@@ -40,7 +40,8 @@ no_patch_is = record {
   leaves_new = λ k h. h;
 }
 
-module _ (w : Meaning Command Reply) (local : IsLocal w) (c : Session) (sets : Sets w c) (txn : TxnNo) (script : ScriptNo) (index : ℕ) (x : Command) (a : Answers w c txn.0 x) where
+module _ (w : Meaning Command Reply) (local : IsLocal w) (c : Session) (sets : Sets w c) (txn : TxnNo)
+    (script : ScriptNo) (index : ℕ) (x : Command) (a : Answers w c txn.0 x) where
   now : IsTreeOf c.memory c.root (all_done w c)
   now = (memory_stands w c sets).is
 
@@ -50,7 +51,12 @@ module _ (w : Meaning Command Reply) (local : IsLocal w) (c : Session) (sets : S
   does : Does w x c.memory c.root now.raw (all_done w c) no_patch a.touched []
   does = record {
     patch = no_patch_is;
-    meets = record { has_old = λ i o e. absurd (no_cell o e); free = λ i o e gone. absurd (no_cell o e); root_old = λ h. let f : false ≡ true = h in cc };
+    meets = record {
+      has_old = λ i o e. absurd (no_cell o e);
+      free = λ i o e gone. absurd (no_cell o e);
+      root_old =
+          λ h. let f : false ≡ true = h in cc;
+    };
     after = now.raw;
     units = now.units;
     files = now.files;
@@ -75,7 +81,8 @@ module _ (w : Meaning Command Reply) (local : IsLocal w) (c : Session) (sets : S
     reach = a.reach;
   })
 
-pub opened_sets : (w : Meaning Command Reply) (t : Store Value) (root : Root) (m : Content) → IsTreeOf t root m → Sets w (opened t root m)
+pub opened_sets : (w : Meaning Command Reply) (t : Store Value) (root : Root) (m : Content) → IsTreeOf t root m
+    → Sets w (opened t root m)
 opened_sets w t root m h = record {
   clean = λ i none. refl;
   one_root = inl refl;

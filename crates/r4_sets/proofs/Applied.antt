@@ -20,10 +20,12 @@ use Rattle.r4_trace.specs.declared.entry.Entry.TheVariants.{Done}
 use Rattle.r4_trace.specs.Folds.{content_of, everything}
 use Rattle.r4_trace.specs.Traced.{atom_in, committed_in, sealed_in}
 use Rattle.r4_trace.proofs.FirstOnes.{not_first}
-use Rattle.r4_sets.specs.Session.{IsTreeOf, Session, Sets, Stands, all_done, cells, in_base, in_set, in_under, picks, root_with}
+use Rattle.r4_sets.specs.Session.{IsTreeOf, Session, Sets, Stands, all_done, cells, in_base, in_set, in_under, picks}
+use Rattle.r4_sets.specs.Session.{root_with}
 use Rattle.r4_sets.proofs.Carried.{true_or_false}
 use Rattle.r4_sets.proofs.Cells.{IsShared}
-use Rattle.r4_sets.proofs.Choosing.{pick_all, pick_free, pick_other, stands_at, stands_skips, stands_takes, touches_new, touches_old, untouched_place}
+use Rattle.r4_sets.proofs.Choosing.{pick_all, pick_free, pick_other, stands_at, stands_skips, stands_takes, touches_new}
+use Rattle.r4_sets.proofs.Choosing.{touches_old, untouched_place}
 use Rattle.r4_sets.proofs.Goes.{finds_alike, goes, one_raw, reply_alike}
 
 or_everything : (b : Bool) → (b || true) ≡ true
@@ -33,10 +35,18 @@ or_everything false = refl
 module _ (w : Meaning Command Reply) (c : Session) (sets : Sets w c) where
   -- a root of no open atom is the root under them
   pub root_clean : c.owner c.root.id ≡ None → c.root ≡ c.under.root
-  root_clean none = elim sets.one_root [ inl e ↦ e | inr h ↦ let (n, is, _) = h in absurd (none-some n (sym none ∙ is)) ]
+  root_clean none = elim sets.one_root [
+    | inl e ↦ e
+    | inr h ↦ let (n, is, _) =
+        h in absurd (none-some n (sym none ∙ is))
+  ]
 
   pub root_below : c.owner c.under.root.id ≡ None → c.root ≡ c.under.root
-  root_below none = elim sets.one_root [ inl e ↦ e | inr h ↦ let (n, _, is) = h in absurd (none-some n (sym none ∙ is)) ]
+  root_below none = elim sets.one_root [
+    | inl e ↦ e
+    | inr h ↦ let (n, _, is) =
+        h in absurd (none-some n (sym none ∙ is))
+  ]
 
   -- the tree in memory is that of all open atoms
   pub memory_cells : cells c everything ≡ c.memory
@@ -49,9 +59,11 @@ module _ (w : Meaning Command Reply) (c : Session) (sets : Sets w c) where
   every_txn j t = or_everything (in_under c t) j
 
   pub memory_stands : Stands w c.start c.trace everything c.memory c.root
-  memory_stands = stands_at w c.start c.trace (in_set c everything) everything (cells c everything) c.memory (root_with c everything) c.root every_txn memory_cells memory_root (sets.each everything)
+  memory_stands = stands_at w c.start c.trace (in_set c everything) everything (cells c everything) c.memory
+      (root_with c everything) c.root every_txn memory_cells memory_root (sets.each everything)
 
-module _ (w : Meaning Command Reply) (local : IsLocal w) (c : Session) (sets : Sets w c) (txn : TxnNo) (script : ScriptNo) (index : ℕ) (x : Command) (d : Patch Value) (a : Applies w c txn.0 x d) where
+module _ (w : Meaning Command Reply) (local : IsLocal w) (c : Session) (sets : Sets w c) (txn : TxnNo)
+    (script : ScriptNo) (index : ℕ) (x : Command) (d : Patch Value) (a : Applies w c txn.0 x d) where
   abbrev n : ℕ
   n = atom_in c.trace txn.0
 
@@ -62,7 +74,8 @@ module _ (w : Meaning Command Reply) (local : IsLocal w) (c : Session) (sets : S
   in_memory = (memory_stands w c sets).is
 
   does : Does w x c.memory c.root in_memory.raw (all_done w c) d a.touched a.changed
-  does = subst (λ r. Does w x c.memory c.root r (all_done w c) d a.touched a.changed) (one_raw c.memory a.raw in_memory.raw a.raw_is in_memory.units) a.does
+  does = subst (λ r. Does w x c.memory c.root r (all_done w c) d a.touched a.changed)
+      (one_raw c.memory a.raw in_memory.raw a.raw_is in_memory.units) a.does
 
   -- ---- a cell that the atom may touch
 
@@ -82,10 +95,12 @@ module _ (w : Meaning Command Reply) (local : IsLocal w) (c : Session) (sets : S
   meets s e = record {
     has_old = λ i o h. free_is s i e (a.own i (touches_old d i o h)) ∙ does.meets.has_old i o h;
     free = λ i o h gone. free_is s i e (a.own i (touches_new d i o h)) ∙ does.meets.free i o h gone;
-    root_old = λ h. let (o, g) = does.meets.root_old h in (o, subst (λ r. d.old r.id ≡ Some o) (sym (root_is s e (old_root h))) g);
+    root_old = λ h. let (o, g) = does.meets.root_old h in
+        (o, subst (λ r. d.old r.id ≡ Some o) (sym (root_is s e (old_root h))) g);
   }
 
-  reach : (s : ℕ → Bool) → s n ≡ true → (k : ℕ) → is_in a.touched k ≡ true → least ≤ k → k < top → IsShared (cells c s) c.memory k
+  reach : (s : ℕ → Bool) → s n ≡ true → (k : ℕ) → is_in a.touched k ≡ true → least ≤ k → k < top
+      → IsShared (cells c s) c.memory k
   reach s e k h from to =
       let (i, o, there, holds, f) = a.reach k h from to in
       (i, o, free_is s i e f ∙ there, there, holds)
@@ -100,7 +115,8 @@ module _ (w : Meaning Command Reply) (local : IsLocal w) (c : Session) (sets : S
 
   -- a cell that is not touched is as before
   cell_off : (s : ℕ → Bool) (i : ℕ) → touches d i ≡ false → cells (applied w c txn script index x d) s i ≡ cells c s i
-  cell_off s i e = ap (λ o. cond (picks s o) (place d c.memory i) (c.under.cells i)) (owner_off i e) ∙ ap (λ q. cond (picks s (c.owner i)) q (c.under.cells i)) (untouched_place d c.memory i e)
+  cell_off s i e = ap (λ o. cond (picks s o) (place d c.memory i) (c.under.cells i)) (owner_off i e)
+      ∙ ap (λ q. cond (picks s (c.owner i)) q (c.under.cells i)) (untouched_place d c.memory i e)
 
   cell_with : (s : ℕ → Bool) (i : ℕ) → s n ≡ true → cells (applied w c txn script index x d) s i ≡ place d (cells c s) i
   cell_with s i e = elim (true_or_false (touches d i)) [
@@ -143,11 +159,13 @@ module _ (w : Meaning Command Reply) (local : IsLocal w) (c : Session) (sets : S
   unfolding root_by
   root_here s = refl
 
-  root_with_it : (s : ℕ → Bool) → s n ≡ true → root_with (applied w c txn script index x d) s ≡ root_after d (root_with c s)
+  root_with_it : (s : ℕ → Bool) → s n ≡ true → root_with (applied w c txn script index x d) s
+      ≡ root_after d (root_with c s)
   root_with_it s e = root_here s ∙ elim (root_or_not d.root) [
     | inl h ↦
         let (r, is) = h in
-        ap (root_by s) (root_moves r is) ∙ root_on s r (new_root r is) ∙ ap (λ b. cond b r c.under.root) e ∙ sym (ap (λ o. unwrap_or o (root_with c s)) is)
+        ap (root_by s) (root_moves r is) ∙ root_on s r (new_root r is) ∙ ap (λ b. cond b r c.under.root) e
+        ∙ sym (ap (λ o. unwrap_or o (root_with c s)) is)
     | inr none ↦
         ap (root_by s) (root_stays none)
         ∙ elim (true_or_false (touches d c.root.id)) [
@@ -161,7 +179,8 @@ module _ (w : Meaning Command Reply) (local : IsLocal w) (c : Session) (sets : S
   root_without s e = root_here s ∙ elim (root_or_not d.root) [
     | inl h ↦
         let (r, is) = h in
-        ap (root_by s) (root_moves r is) ∙ root_on s r (new_root r is) ∙ ap (λ b. cond b r c.under.root) e ∙ sym (untouched_root (old_root (some_of d.root r is)))
+        ap (root_by s) (root_moves r is) ∙ root_on s r (new_root r is) ∙ ap (λ b. cond b r c.under.root) e
+        ∙ sym (untouched_root (old_root (some_of d.root r is)))
     | inr none ↦
         ap (root_by s) (root_stays none)
         ∙ elim (true_or_false (touches d c.root.id)) [
@@ -185,11 +204,13 @@ module _ (w : Meaning Command Reply) (local : IsLocal w) (c : Session) (sets : S
   still : (i q : ℕ) → c.owner i ≡ Some q → owned n d c.owner i ≡ Some q
   still i q is = elim (true_or_false (touches d i)) [
     | inr off ↦ owner_off i off ∙ is
-    | inl on ↦ owner_on i on ∙ ap Some (elim (a.own i on) [ inl none ↦ absurd (none-some q (sym none ∙ is)) | inr e ↦ same_Some n q (sym e ∙ is) ])
+    | inl on ↦ owner_on i on ∙ ap Some
+        (elim (a.own i on) [ inl none ↦ absurd (none-some q (sym none ∙ is)) | inr e ↦ same_Some n q (sym e ∙ is) ])
   ]
 
   abbrev OneRoot : Root → Type 0
-  OneRoot r = (r ≡ c.under.root) ⊎ ((q : ℕ) × (owned n d c.owner r.id ≡ Some q) × (owned n d c.owner c.under.root.id ≡ Some q))
+  OneRoot r = (r ≡ c.under.root)
+      ⊎ ((q : ℕ) × (owned n d c.owner r.id ≡ Some q) × (owned n d c.owner c.under.root.id ≡ Some q))
 
   one_root_at : OneRoot (root_after d c.root)
   one_root_at = elim (root_or_not d.root) [
@@ -222,20 +243,33 @@ module _ (w : Meaning Command Reply) (local : IsLocal w) (c : Session) (sets : S
   chosen_is : (s : ℕ → Bool) → in_set c s txn.0 ≡ s n
   chosen_is s = ap (λ b. b || s n) not_under
 
-  with_it : (s : ℕ → Bool) → s n ≡ true → Stands w c.start (newest ∷ c.trace) (in_set c s) (place d (cells c s)) (root_after d (root_with c s))
+  with_it : (s : ℕ → Bool) → s n ≡ true
+      → Stands w c.start (newest ∷ c.trace) (in_set c s) (place d (cells c s)) (root_after d (root_with c s))
   with_it s e =
       let h = sets.each s in
       let m = content_of w c.start (in_set c s) c.trace in
       let all = all_done w c in
-      stands_takes w c.start (in_set c s) txn script index x (w.reply x (all_done w c)) c.trace (cells c s) (place d (cells c s)) (root_with c s) (root_after d (root_with c s)) (chosen_is s ∙ e) h
-      (goes w local (cells c s) c.memory (root_with c s) c.root m all x d a.touched a.changed h.is in_memory does (meets s e) (reach s e))
-      (sym (reply_alike w local (cells c s) c.memory (root_with c s) c.root m all x d a.touched a.changed h.is in_memory does (meets s e) (reach s e)))
-      (finds_alike w local (cells c s) c.memory (root_with c s) c.root m all x d a.touched a.changed h.is in_memory does (meets s e) (reach s e))
+      stands_takes w c.start (in_set c s) txn script index x (w.reply x (all_done w c)) c.trace (cells c s)
+      (place d (cells c s)) (root_with c s) (root_after d (root_with c s)) (chosen_is s ∙ e) h
+      (goes w local (cells c s) c.memory (root_with c s) c.root m all x d a.touched a.changed h.is in_memory does
+      (meets s e) (reach s e))
+      (sym (reply_alike w local (cells c s) c.memory (root_with c s) c.root m all x d a.touched a.changed h.is
+      in_memory does (meets s e) (reach s e)))
+      (finds_alike w local (cells c s) c.memory (root_with c s) c.root m all x d a.touched a.changed h.is in_memory
+      does (meets s e) (reach s e))
 
-  each_after : (s : ℕ → Bool) → Stands w c.start (newest ∷ c.trace) (in_set c s) (cells (applied w c txn script index x d) s) (root_with (applied w c txn script index x d) s)
+  each_after : (s : ℕ → Bool) → Stands w c.start (newest ∷ c.trace) (in_set c s)
+      (cells (applied w c txn script index x d) s) (root_with (applied w c txn script index x d) s)
   each_after s = elim (true_or_false (s n)) [
-    | inl e ↦ stands_at w c.start (newest ∷ c.trace) (in_set c s) (in_set c s) (place d (cells c s)) (cells (applied w c txn script index x d) s) (root_after d (root_with c s)) (root_with (applied w c txn script index x d) s) refl (λ j i. sym (cell_with s i e) j) (sym (root_with_it s e)) (with_it s e)
-    | inr e ↦ stands_at w c.start (newest ∷ c.trace) (in_set c s) (in_set c s) (cells c s) (cells (applied w c txn script index x d) s) (root_with c s) (root_with (applied w c txn script index x d) s) refl (λ j i. sym (cell_without s i e) j) (sym (root_without s e)) (stands_skips w c.start (in_set c s) txn script index x (w.reply x (all_done w c)) c.trace (cells c s) (root_with c s) (chosen_is s ∙ e) (sets.each s))
+    | inl e ↦ stands_at w c.start (newest ∷ c.trace) (in_set c s) (in_set c s) (place d (cells c s))
+        (cells (applied w c txn script index x d) s) (root_after d (root_with c s))
+        (root_with (applied w c txn script index x d) s) refl (λ j i. sym (cell_with s i e) j) (sym (root_with_it s e))
+        (with_it s e)
+    | inr e ↦ stands_at w c.start (newest ∷ c.trace) (in_set c s) (in_set c s) (cells c s)
+        (cells (applied w c txn script index x d) s) (root_with c s) (root_with (applied w c txn script index x d) s)
+        refl (λ j i. sym (cell_without s i e) j) (sym (root_without s e))
+        (stands_skips w c.start (in_set c s) txn script index x (w.reply x (all_done w c)) c.trace (cells c s)
+        (root_with c s) (chosen_is s ∙ e) (sets.each s))
   ]
 
   pub applied_sets : Sets w (applied w c txn script index x d)
@@ -243,6 +277,7 @@ module _ (w : Meaning Command Reply) (local : IsLocal w) (c : Session) (sets : S
     clean = clean_after;
     one_root = one_root_at;
     counts = sets.counts;
-    committed = stands_skips w c.start (in_base c) txn script index x (w.reply x (all_done w c)) c.trace c.base.cells c.base.root not_base sets.committed;
+    committed = stands_skips w c.start (in_base c) txn script index x (w.reply x (all_done w c)) c.trace c.base.cells
+        c.base.root not_base sets.committed;
     each = each_after;
   }

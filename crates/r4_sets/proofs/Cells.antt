@@ -55,7 +55,8 @@ module _ (t : Store Value) (root : Root) (it : IsTree t root) where
         | inr h ↦ let (s, cs, at) = h in inr (s, cs, at, λ n cn low at_n. ic.unit_in_hole n k v cn low has at_n)
       ]
 
-  pub unit_on : (k : ℕ) (v : Placed Value) → UnitIn t k v ↔ On t k (λ c. Contains c.units (k, v.0) × ((c.level == 1) ≡ v.1))
+  pub unit_on : (k : ℕ) (v : Placed Value) → UnitIn t k v
+      ↔ On t k (λ c. Contains c.units (k, v.0) × ((c.level == 1) ≡ v.1))
   unit_on k v = (
     λ (i, c, tc, has, kind). (i, c, tc, unit_holder i c k v.0 tc has, (has, kind)),
     λ (i, c, tc, h, (has, kind)). (i, c, tc, has, kind),
@@ -83,14 +84,17 @@ module _ (t u : Store Value) (root_t root_u : Root) (tree_t : IsTree t root_t) (
       (then_iff (h (λ c. Contains c.units (k, v.0) × ((c.level == 1) ≡ v.1))) (back_iff (unit_on u root_u tree_u k v)))
 
   pub shared_units : (k : ℕ) → IsShared t u k → SameUnit t u k
-  shared_units k (i, c, tc, uc, h) = on_units k (λ q. then_iff (on_iff t root_t tree_t k q i c tc h) (back_iff (on_iff u root_u tree_u k q i c uc h)))
+  shared_units k (i, c, tc, uc, h) =
+      on_units k (λ q. then_iff (on_iff t root_t tree_t k q i c tc h) (back_iff (on_iff u root_u tree_u k q i c uc h)))
 
   pub none_units : (k : ℕ) → ((least ≤ k) × (k < top) → ⊥) → SameUnit t u k
-  none_units k out = on_units k (λ q. (λ x. absurd (out (in_range t root_t tree_t k q x)), λ x. absurd (out (in_range u root_u tree_u k q x))))
+  none_units k out = on_units k (λ q.
+      (λ x. absurd (out (in_range t root_t tree_t k q x)), λ x. absurd (out (in_range u root_u tree_u k q x))))
 
 -- ---- a patch that meets both
 
-module _ (t u : Store Value) (root_t root_u : Root) (tree_t : IsTree t root_t) (tree_u : IsTree u root_u) (p : Patch Value) (ip : IsPatch p) (mt : Meets p t root_t) (mu : Meets p u root_u) where
+module _ (t u : Store Value) (root_t root_u : Root) (tree_t : IsTree t root_t) (tree_u : IsTree u root_u)
+    (p : Patch Value) (ip : IsPatch p) (mt : Meets p t root_t) (mu : Meets p u root_u) where
   placed_t : IsTree (place p t) (root_after p root_t)
   placed_t = placed_tree p t root_t ip tree_t mt
 
@@ -98,14 +102,16 @@ module _ (t u : Store Value) (root_t root_u : Root) (tree_t : IsTree t root_t) (
   placed_u = placed_tree p u root_u ip tree_u mu
 
   -- the new holder of a key of an old cell is a new cell, in both trees
-  pub new_holder : (i : ℕ) (c : Node Value) (k : ℕ) → p.old i ≡ Some c → Holds c k → (j : ℕ) × (d : Node Value) × (p.new j ≡ Some d) × Holds d k
+  pub new_holder : (i : ℕ) (c : Node Value) (k : ℕ) → p.old i ≡ Some c → Holds c k → (j : ℕ) × (d : Node Value)
+      × (p.new j ≡ Some d) × Holds d k
   new_holder i c k oc h =
       let tc = mt.has_old i c oc in
       let at = holds_in t root_t tree_t i c k tc h in
       let ic = tree_t.nodes i c tc in
       let from = ic.from_least in
       let to = ic.to_top in
-      let (j, d, pd, hd) = holder (place p t) (root_after p root_t) placed_t k (omega (arith, at, from)) (omega (arith, at, to)) in
+      let (j, d, pd, hd) = holder (place p t) (root_after p root_t) placed_t k (omega (arith, at, from))
+      (omega (arith, at, to)) in
       elim (over_from (p.new j) (p.old j) (t j) d pd) [
         | inl nd ↦ (j, d, nd, hd)
         | inr g ↦
@@ -147,9 +153,12 @@ module _ (t u : Store Value) (root_t root_u : Root) (tree_t : IsTree t root_t) (
             | inl (o, oi) ↦
                 let oc = old_is i o c oi tc in
                 let before = shared_units t u root_t root_u tree_t tree_u k (i, c, tc, mu.has_old i c oc, h) in
-                let after = shared_units (place p t) (place p u) (root_after p root_t) (root_after p root_u) placed_t placed_u k (old_shared i c k oc h) in
-                unit_then t (place p u) (place p t) k (unit_then t u (place p u) k before stays) (unit_back (place p t) (place p u) k after)
-            | inr gone ↦ shared_units t (place p t) root_t (root_after p root_t) tree_t placed_t k (i, c, tc, kept_t i c gone tc, h)
+                let after = shared_units (place p t) (place p u) (root_after p root_t) (root_after p root_u) placed_t
+                placed_u k (old_shared i c k oc h) in
+                unit_then t (place p u) (place p t) k (unit_then t u (place p u) k before stays)
+                (unit_back (place p t) (place p u) k after)
+            | inr gone ↦ shared_units t (place p t) root_t (root_after p root_t) tree_t placed_t k
+                (i, c, tc, kept_t i c gone tc, h)
           ]
     ]
   ]

@@ -28,11 +28,13 @@ module _ {A : Type 0} where
   pick_none None a b = refl
   pick_none (Some n) a b = refl
 
-  pub pick_free : (s : ℕ → Bool) (n : ℕ) (o : Option ℕ) (a b : A) → s n ≡ true → (o ≡ None) ⊎ (o ≡ Some n) → (o ≡ None → a ≡ b) → cond (picks s o) a b ≡ a
+  pub pick_free : (s : ℕ → Bool) (n : ℕ) (o : Option ℕ) (a b : A) → s n ≡ true → (o ≡ None) ⊎ (o ≡ Some n)
+      → (o ≡ None → a ≡ b) → cond (picks s o) a b ≡ a
   pick_free s n o a b e (inl is) h = ap (λ x. cond (picks s x) a b) is ∙ sym (h is)
   pick_free s n o a b e (inr is) h = ap (λ x. cond (picks s x) a b) is ∙ ap (λ x. cond x a b) e
 
-  pub pick_other : (s : ℕ → Bool) (n : ℕ) (o : Option ℕ) (a b : A) → s n ≡ false → (o ≡ None) ⊎ (o ≡ Some n) → cond (picks s o) a b ≡ b
+  pub pick_other : (s : ℕ → Bool) (n : ℕ) (o : Option ℕ) (a b : A) → s n ≡ false → (o ≡ None) ⊎ (o ≡ Some n)
+      → cond (picks s o) a b ≡ b
   pick_other s n o a b e (inl is) = ap (λ x. cond (picks s x) a b) is
   pick_other s n o a b e (inr is) = ap (λ x. cond (picks s x) a b) is ∙ ap (λ x. cond x a b) e
 
@@ -65,15 +67,18 @@ pub touches_new : (d : Patch Value) (i : ℕ) (a : Node Value) → d.new i ≡ S
 touches_new d i a e = or_true (is_some (d.old i)) (is_some (d.new i)) (touched_by (d.new i) a e)
 
 pub untouched : (d : Patch Value) (i : ℕ) → touches d i ≡ false → Leaves d i
-untouched d i e = let (a, b) = neither (is_some (d.old i)) (is_some (d.new i)) e in (none_of (d.new i) b, none_of (d.old i) a)
+untouched d i e = let (a, b) =
+    neither (is_some (d.old i)) (is_some (d.new i)) e in (none_of (d.new i) b, none_of (d.old i) a)
 
 pub untouched_place : (d : Patch Value) (t : Store Value) (i : ℕ) → touches d i ≡ false → place d t i ≡ t i
 untouched_place d t i e = left d t i (untouched d i e)
 
 -- ---- contents of chosen transactions
 
-module _ (w : Meaning Command Reply) (start : Content) (chosen : ℕ → Bool) (txn : TxnNo) (script : ScriptNo) (index : ℕ) (x : Command) (reply : Reply) (older : List Entry) where
-  pub stands_skips : (t : Store Value) (root : Root) → chosen txn.0 ≡ false → Stands w start older chosen t root → Stands w start (Done txn script index x reply ∷ older) chosen t root
+module _ (w : Meaning Command Reply) (start : Content) (chosen : ℕ → Bool) (txn : TxnNo) (script : ScriptNo)
+    (index : ℕ) (x : Command) (reply : Reply) (older : List Entry) where
+  pub stands_skips : (t : Store Value) (root : Root) → chosen txn.0 ≡ false → Stands w start older chosen t root
+      → Stands w start (Done txn script index x reply ∷ older) chosen t root
   stands_skips t root e h =
       let m = content_of w start chosen older in
       record {
@@ -82,9 +87,11 @@ module _ (w : Meaning Command Reply) (start : Content) (chosen : ℕ → Bool) (
         alike = (λ f. let g : true ≡ false = sym f ∙ e in cc, h.alike);
       }
 
-  pub stands_takes : (t u : Store Value) (root_t root_u : Root) → chosen txn.0 ≡ true → Stands w start older chosen t root_t → IsTreeOf u root_u (w.after x (content_of w start chosen older))
+  pub stands_takes : (t u : Store Value) (root_t root_u : Root) → chosen txn.0 ≡ true
+      → Stands w start older chosen t root_t → IsTreeOf u root_u (w.after x (content_of w start chosen older))
       → reply ≡ w.reply x (content_of w start chosen older)
-      → ((k : ℕ) → Touches w x (content_of w start everything older) k → at_key (content_of w start chosen older) k ≡ at_key (content_of w start everything older) k)
+      → ((k : ℕ) → Touches w x (content_of w start everything older) k → at_key (content_of w start chosen older) k
+      ≡ at_key (content_of w start everything older) k)
       → Stands w start (Done txn script index x reply ∷ older) chosen u root_u
   stands_takes t u root_t root_u e h is same finds =
       let m = content_of w start chosen older in
@@ -94,5 +101,8 @@ module _ (w : Meaning Command Reply) (start : Content) (chosen : ℕ → Bool) (
         alike = (λ f. finds, h.alike);
       }
 
-pub stands_at : (w : Meaning Command Reply) (start : Content) (trace : List Entry) (c e : ℕ → Bool) (t u : Store Value) (q r : Root) → c ≡ e → t ≡ u → q ≡ r → Stands w start trace c t q → Stands w start trace e u r
-stands_at w start trace c e t u q r ce tu qr h = subst (λ x. Stands w start trace x u r) ce (subst (λ x. Stands w start trace c x r) tu (subst (λ x. Stands w start trace c t x) qr h))
+pub stands_at : (w : Meaning Command Reply) (start : Content) (trace : List Entry) (c e : ℕ → Bool) (t u : Store Value)
+    (q r : Root) → c ≡ e → t ≡ u → q ≡ r → Stands w start trace c t q → Stands w start trace e u r
+stands_at w start trace c e t u q r ce tu qr h =
+    subst (λ x. Stands w start trace x u r) ce
+    (subst (λ x. Stands w start trace c x r) tu (subst (λ x. Stands w start trace c t x) qr h))

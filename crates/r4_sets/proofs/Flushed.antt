@@ -22,8 +22,16 @@ use Rattle.r4_sets.proofs.Choosing.{touches_new, touches_old}
 use Rattle.r4_sets.proofs.Gathered.{under_stands}
 use Rattle.r4_sets.proofs.Goes.{same_tree_of}
 
-pub same_stands : (w : Meaning Command Reply) (start : Content) (trace : List Entry) (chosen : ℕ → Bool) (t u : Store Value) (q r : Root) → IsTree u r → ((k : ℕ) → SameUnit t u k) → Stands w start trace chosen t q → Stands w start trace chosen u r
-same_stands w start trace chosen t u q r tree same h = record { is = same_tree_of t u q r (content_of w start chosen trace) tree same h.is; replies = h.replies; alike = h.alike }
+pub same_stands : (w : Meaning Command Reply) (start : Content) (trace : List Entry) (chosen : ℕ → Bool)
+    (t u : Store Value) (q r : Root) → IsTree u r → ((k : ℕ) → SameUnit t u k) → Stands w start trace chosen t q
+    → Stands w start trace chosen u r
+same_stands w start trace chosen t u q r tree same h =
+    record {
+      is = same_tree_of t u q r (content_of w start chosen trace) tree same h.is;
+      replies = h.replies;
+      alike =
+          h.alike;
+    }
 
 pick_free : {A : Type 0} (s : ℕ → Bool) (o : Option ℕ) (x y : A) → o ≡ None → cond (picks s o) x y ≡ y
 pick_free s o x y e = ap (λ p. cond (picks s p) x y) e
@@ -55,7 +63,8 @@ module _ (w : Meaning Command Reply) (c : Session) (sets : Sets w c) (d : Patch 
   same_root e = root_below w c sets (h.clean c.under.root.id (old_root e))
 
   root_is : (s : ℕ → Bool) → IsSome d.root → root_with c s ≡ c.under.root
-  root_is s e = ap (λ r. cond (picks s (c.owner c.root.id)) r c.under.root) (same_root e) ∙ same_either (picks s (c.owner c.root.id)) c.under.root
+  root_is s e = ap (λ r. cond (picks s (c.owner c.root.id)) r c.under.root) (same_root e)
+      ∙ same_either (picks s (c.owner c.root.id)) c.under.root
 
   meets : (s : ℕ → Bool) → Meets d (cells c s) (root_with c s)
   meets s = record {
@@ -78,21 +87,27 @@ module _ (w : Meaning Command Reply) (c : Session) (sets : Sets w c) (d : Patch 
     | inl g ↦
         let (q, e) = g in
         let b = picks s (c.owner (root_after d c.root).id) in
-        ap (λ r. cond b r (root_after d c.under.root)) (moved c.root q e) ∙ ap (λ r. cond b q r) (moved c.under.root q e) ∙ same_either b q ∙ sym (moved (root_with c s) q e)
+        ap (λ r. cond b r (root_after d c.under.root)) (moved c.root q e)
+        ∙ ap (λ r. cond b q r) (moved c.under.root q e) ∙ same_either b q ∙ sym (moved (root_with c s) q e)
     | inr e ↦
         ap (λ r. cond (picks s (c.owner r.id)) r (root_after d c.under.root)) (still c.root e)
         ∙ ap (λ r. cond (picks s (c.owner c.root.id)) c.root r) (still c.under.root e)
         ∙ sym (still (root_with c s) e)
   ]
 
-  each_after : (s : ℕ → Bool) → Stands w c.start c.trace (in_set c s) (cells (flushed c d) s) (root_with (flushed c d) s)
+  each_after : (s : ℕ → Bool) → Stands w c.start c.trace (in_set c s) (cells (flushed c d) s)
+      (root_with (flushed c d) s)
   each_after s =
       let now = sets.each s in
-      let tree : IsTree (place d (cells c s)) (root_after d (root_with c s)) = placed_tree d (cells c s) (root_with c s) h.patch now.is.tree (meets s) in
-      let same : (k : ℕ) → SameUnit (cells c s) (place d (cells c s)) k = λ k. stays_too (cells c s) c.under.cells (root_with c s) c.under.root now.is.tree under_is.tree d h.patch (meets s) h.meets k (h.units k) in
+      let tree : IsTree (place d (cells c s)) (root_after d (root_with c s)) =
+      placed_tree d (cells c s) (root_with c s) h.patch now.is.tree (meets s) in
+      let same : (k : ℕ) → SameUnit (cells c s) (place d (cells c s)) k =
+      λ k. stays_too (cells c s) c.under.cells (root_with c s) c.under.root now.is.tree under_is.tree d h.patch
+      (meets s) h.meets k (h.units k) in
       subst (λ t. Stands w c.start c.trace (in_set c s) t (root_with (flushed c d) s)) (λ j i. sym (cell_after s i) j)
       (subst (Stands w c.start c.trace (in_set c s) (place d (cells c s))) (sym (root_now s))
-      (same_stands w c.start c.trace (in_set c s) (cells c s) (place d (cells c s)) (root_with c s) (root_after d (root_with c s)) tree same now))
+      (same_stands w c.start c.trace (in_set c s) (cells c s) (place d (cells c s)) (root_with c s)
+      (root_after d (root_with c s)) tree same now))
 
   pub flushed_sets : Sets w (flushed c d)
   flushed_sets = record {
@@ -102,8 +117,14 @@ module _ (w : Meaning Command Reply) (c : Session) (sets : Sets w c) (d : Patch 
       | inr g ↦
           let (n, at_root, at_under) = g in
           elim (root_or_not d.root) [
-            | inr e ↦ inr (n, subst (λ (r : Root). c.owner r.id ≡ Some n) (sym (still c.root e)) at_root, subst (λ (r : Root). c.owner r.id ≡ Some n) (sym (still c.under.root e)) at_under)
-            | inl f ↦ let (q, e) = f in absurd (none-some n (sym (h.clean c.under.root.id (old_root (some_of d.root q e))) ∙ at_under))
+            | inr e ↦ inr (
+              n,
+              subst (λ (r : Root). c.owner r.id ≡ Some n) (sym (still c.root e)) at_root,
+              subst
+                  (λ (r : Root). c.owner r.id ≡ Some n) (sym (still c.under.root e)) at_under,
+            )
+            | inl f ↦ let (q, e) = f in absurd
+                (none-some n (sym (h.clean c.under.root.id (old_root (some_of d.root q e))) ∙ at_under))
           ]
     ];
     counts = sets.counts;

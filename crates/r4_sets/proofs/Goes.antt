@@ -16,31 +16,38 @@ use Rattle.r4_content.specs.declared.reply.Reply.{Reply}
 use Rattle.r4_sets.specs.Change.{Does}
 use Rattle.r4_sets.specs.Session.{IsTreeOf}
 use Rattle.r4_sets.specs.Units.{SameUnit}
-use Rattle.r4_sets.proofs.Cells.{IsShared, back_iff, unit_back, none_units, same_unit, shared_after, shared_units, stays_too, then_iff}
+use Rattle.r4_sets.proofs.Cells.{IsShared, back_iff, unit_back, none_units, same_unit, shared_after, shared_units}
+use Rattle.r4_sets.proofs.Cells.{stays_too, then_iff}
 use Rattle.r4_sets.proofs.Bodies.{body_of_units, same_body, same_option}
 use Rattle.r4_sets.proofs.Carried.{agree, files, not_true, true_or_false, visible}
 use Rattle.r4_sets.proofs.Mixed.{at_mixed, mixed}
 
 -- a tree has one content of raw units
 pub one_raw : (t : Store Value) (r s : Content) → HasUnits t r → HasUnits t s → r ≡ s
-one_raw t r s hr hs = same_content r s (λ k. same_option (at_key r k) (at_key s k) (λ v. then_iff (hr k v) (back_iff (hs k v))))
+one_raw t r s hr hs = same_content r s
+    (λ k. same_option (at_key r k) (at_key s k) (λ v. then_iff (hr k v) (back_iff (hs k v))))
 
 -- a tree with the same units has the same content
-pub same_tree_of : (t u : Store Value) (root_t root_u : Root) (m : Content) → IsTree u root_u → ((k : ℕ) → SameUnit t u k) → IsTreeOf t root_t m → IsTreeOf u root_u m
+pub same_tree_of : (t u : Store Value) (root_t root_u : Root) (m : Content) → IsTree u root_u
+    → ((k : ℕ) → SameUnit t u k) → IsTreeOf t root_t m → IsTreeOf u root_u m
 same_tree_of t u root_t root_u m tree same h = record {
   tree = tree;
   raw = h.raw;
   units = λ k v. then_iff (h.units k v) (same_unit t u k v (same k));
   files = record {
     keys = h.files.keys;
-    bodies = λ o a stat file. let (small, body) = h.files.bodies o a stat file in (small, same_body u t o a.size (λ x lt. body_of_units u t o x (unit_back t u _ (same _))) body);
+    bodies = λ o a stat file. let (small, body) =
+        h.files.bodies o a stat file in
+        (small, same_body u t o a.size (λ x lt. body_of_units u t o x (unit_back t u _ (same _))) body);
     bytes = h.files.bytes;
   };
   visible = h.visible;
 }
 
-module _ (w : Meaning Command Reply) (local : IsLocal w) (t u : Store Value) (root_t root_u : Root) (m n : Content) (x : Command) (d : Patch Value) (touched changed : Intervals)
-    (is_t : IsTreeOf t root_t m) (is_u : IsTreeOf u root_u n) (does : Does w x u root_u is_u.raw n d touched changed) (mt : Meets d t root_t)
+module _ (w : Meaning Command Reply) (local : IsLocal w) (t u : Store Value) (root_t root_u : Root) (m n : Content)
+    (x : Command) (d : Patch Value) (touched changed : Intervals)
+    (is_t : IsTreeOf t root_t m) (is_u : IsTreeOf u root_u n) (does : Does w x u root_u is_u.raw n d touched changed)
+    (mt : Meets d t root_t)
     (reach : (k : ℕ) → is_in touched k ≡ true → least ≤ k → k < top → IsShared t u k) where
   tree_t2 : IsTree (place d t) (root_after d root_t)
   tree_t2 = placed_tree d t root_t does.patch is_t.tree mt
@@ -56,16 +63,25 @@ module _ (w : Meaning Command Reply) (local : IsLocal w) (t u : Store Value) (ro
       | yes to ↦
           let one = reach k h from to in (
             shared_units t u root_t root_u is_t.tree is_u.tree k one,
-            shared_units (place d t) (place d u) (root_after d root_t) (root_after d root_u) tree_t2 tree_u2 k (shared_after t u root_t root_u is_t.tree is_u.tree d does.patch mt does.meets k one),
+            shared_units (place d t) (place d u) (root_after d root_t) (root_after d root_u) tree_t2 tree_u2 k
+                (shared_after t u root_t root_u is_t.tree is_u.tree d does.patch mt does.meets k one),
           )
     ]
   ]
     where
       nowhere : ((least ≤ k) × (k < top) → ⊥) → SameUnit t u k × SameUnit (place d t) (place d u) k
-      nowhere out = (none_units t u root_t root_u is_t.tree is_u.tree k out, none_units (place d t) (place d u) (root_after d root_t) (root_after d root_u) tree_t2 tree_u2 k out)
+      nowhere out = (
+        none_units t u root_t root_u is_t.tree is_u.tree k out,
+        none_units (place d t) (place d u)
+            (root_after d root_t) (root_after d root_u) tree_t2 tree_u2 k out,
+      )
 
   kept : (k : ℕ) → is_in changed k ≡ false → SameUnit t (place d t) k × SameUnit u (place d u) k
-  kept k h = (stays_too t u root_t root_u is_t.tree is_u.tree d does.patch mt does.meets k (does.stays k h), does.stays k h)
+  kept k h = (
+    stays_too t u root_t root_u is_t.tree is_u.tree d does.patch mt does.meets k (does.stays k h),
+    does.stays
+        k h,
+  )
 
   -- the raw units after
   raw2 : Content
@@ -77,18 +93,24 @@ module _ (w : Meaning Command Reply) (local : IsLocal w) (t u : Store Value) (ro
 
   units2 : HasUnits (place d t) raw2
   units2 k v = elim (true_or_false (is_in changed k)) [
-    | inl on ↦ then_iff (same k v (at_raw2 k true on)) (then_iff (does.units k v) (back_iff (same_unit (place d t) (place d u) k v (shared k (does.within k on)).1)))
-    | inr off ↦ then_iff (same_old k v (at_raw2 k false off)) (then_iff (is_t.units k v) (same_unit t (place d t) k v (kept k off).0))
+    | inl on ↦ then_iff (same k v (at_raw2 k true on))
+        (then_iff (does.units k v) (back_iff (same_unit (place d t) (place d u) k v (shared k (does.within k on)).1)))
+    | inr off ↦ then_iff (same_old k v (at_raw2 k false off))
+        (then_iff (is_t.units k v) (same_unit t (place d t) k v (kept k off).0))
   ]
     where
-      same : (k : ℕ) (v : Value) → at_key raw2 k ≡ at_key does.after k → (at_key raw2 k ≡ Some v) ↔ (at_key does.after k ≡ Some v)
+      same : (k : ℕ) (v : Value) → at_key raw2 k ≡ at_key does.after k → (at_key raw2 k ≡ Some v)
+          ↔ (at_key does.after k ≡ Some v)
       same k v e = (λ y. sym e ∙ y, λ y. e ∙ y)
 
-      same_old : (k : ℕ) (v : Value) → at_key raw2 k ≡ at_key is_t.raw k → (at_key raw2 k ≡ Some v) ↔ (at_key is_t.raw k ≡ Some v)
+      same_old : (k : ℕ) (v : Value) → at_key raw2 k ≡ at_key is_t.raw k → (at_key raw2 k ≡ Some v)
+          ↔ (at_key is_t.raw k ≡ Some v)
       same_old k v e = (λ y. sym e ∙ y, λ y. e ∙ y)
 
   agrees : (k : ℕ) → is_in touched k ≡ true → at_key m k ≡ at_key n k
-  agrees k h = agree t u (place d t) (place d u) is_t.raw is_u.raw raw2 does.after touched changed is_t.units is_u.units units2 does.units is_t.files is_u.files does.files shared kept does.within does.stats does.bodies m n is_t.visible is_u.visible k h
+  agrees k h = agree t u (place d t) (place d u) is_t.raw is_u.raw raw2 does.after touched changed is_t.units
+      is_u.units units2 does.units is_t.files is_u.files does.files shared kept does.within does.stats does.bodies m n
+      is_t.visible is_u.visible k h
 
   reads_alike : Agree w x n m
   reads_alike k h = sym (agrees k (does.reads k h))
@@ -123,6 +145,10 @@ module _ (w : Meaning Command Reply) (local : IsLocal w) (t u : Store Value) (ro
     tree = tree_t2;
     raw = raw2;
     units = units2;
-    files = files t u (place d t) (place d u) is_t.raw is_u.raw raw2 does.after touched changed is_t.units is_u.units units2 does.units is_t.files is_u.files does.files shared kept does.within does.stats does.bodies m n (w.after x m) (w.after x n) is_t.visible is_u.visible does.visible same_after off_m off_n;
-    visible = visible t u (place d t) (place d u) is_t.raw is_u.raw raw2 does.after touched changed is_t.units is_u.units units2 does.units is_t.files is_u.files does.files shared kept does.within does.stats does.bodies m n (w.after x m) (w.after x n) is_t.visible is_u.visible does.visible same_after off_m off_n;
+    files = files t u (place d t) (place d u) is_t.raw is_u.raw raw2 does.after touched changed is_t.units is_u.units
+        units2 does.units is_t.files is_u.files does.files shared kept does.within does.stats does.bodies m n
+        (w.after x m) (w.after x n) is_t.visible is_u.visible does.visible same_after off_m off_n;
+    visible = visible t u (place d t) (place d u) is_t.raw is_u.raw raw2 does.after touched changed is_t.units
+        is_u.units units2 does.units is_t.files is_u.files does.files shared kept does.within does.stats does.bodies m
+        n (w.after x m) (w.after x n) is_t.visible is_u.visible does.visible same_after off_m off_n;
   }

@@ -18,12 +18,15 @@ either : Option Value → Option Value → Option Value
 either None y = y
 either (Some x) y = Some x
 
-find_both : (k : ℕ) (xs ys : List (ℕ × Value)) → find nat_cmp k (xs ++ ys) ≡ either (find nat_cmp k xs) (find nat_cmp k ys)
+find_both : (k : ℕ) (xs ys : List (ℕ × Value)) → find nat_cmp k (xs ++ ys)
+    ≡ either (find nat_cmp k xs) (find nat_cmp k ys)
 unfolding either
 find_both k [] ys = refl
 find_both k (e ∷ xs) ys = step (eq_by_cmp nat_cmp k e.0) (find_both k xs ys)
   where
-    step : (b : Bool) → find nat_cmp k (xs ++ ys) ≡ either (find nat_cmp k xs) (find nat_cmp k ys) → cond b (Some e.1) (find nat_cmp k (xs ++ ys)) ≡ either (cond b (Some e.1) (find nat_cmp k xs)) (find nat_cmp k ys)
+    step : (b : Bool) → find nat_cmp k (xs ++ ys) ≡ either (find nat_cmp k xs) (find nat_cmp k ys)
+        → cond b (Some e.1) (find nat_cmp k (xs ++ ys))
+        ≡ either (cond b (Some e.1) (find nat_cmp k xs)) (find nat_cmp k ys)
     step true h = refl
     step false h = h
 
@@ -33,7 +36,8 @@ parted true None y = refl
 parted true (Some x) y = refl
 parted false x y = refl
 
-pub at_mixed : (rs : Intervals) (new old : Content) (k : ℕ) → at_key (mixed rs new old) k ≡ cond (is_in rs k) (at_key new k) (at_key old k)
+pub at_mixed : (rs : Intervals) (new old : Content) (k : ℕ) → at_key (mixed rs new old) k
+    ≡ cond (is_in rs k) (at_key new k) (at_key old k)
 unfolding either
 at_mixed rs new old k =
     let xs = retain_keys new (is_in rs) in
@@ -41,5 +45,6 @@ at_mixed rs new old k =
     get-from_entries nat_cmp_total (entries xs ++ entries ys) k
     ∙ find_both k (entries xs) (entries ys)
     ∙ ap (λ o. either o (find nat_cmp k (entries ys))) (sym (get-entries xs k) ∙ at_retain new (is_in rs) k)
-    ∙ ap (either (cond (is_in rs k) (at_key new k) None)) (sym (get-entries ys k) ∙ at_retain old (λ q. not (is_in rs q)) k)
+    ∙ ap (either (cond (is_in rs k) (at_key new k) None)) (sym (get-entries ys k)
+    ∙ at_retain old (λ q. not (is_in rs q)) k)
     ∙ parted (is_in rs k) (at_key new k) (at_key old k)

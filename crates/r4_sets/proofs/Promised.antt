@@ -19,8 +19,10 @@ use Rattle.r4_sets.specs.Units.{SameUnit}
 use Rattle.r4_sets.proofs.Carried.{not_both_ways, not_true}
 use Rattle.r4_sets.proofs.FilesAfter.{files_after, visible_after}
 
-module _ (w : Meaning Command Reply) (local : IsLocal w) (x : Command) (u : Store Value) (root : Root) (n : Content) (is : IsTreeOf u root n) (d : Patch Value) (touched changed moved : Intervals)
-    (to : ℕ → Option (Placed Value)) (after : Content) (h : Promises w x u root is.raw n d touched changed moved to after) where
+module _ (w : Meaning Command Reply) (local : IsLocal w) (x : Command) (u : Store Value) (root : Root) (n : Content)
+    (is : IsTreeOf u root n) (d : Patch Value) (touched changed moved : Intervals)
+    (to : ℕ → Option (Placed Value)) (after : Content)
+    (h : Promises w x u root is.raw n d touched changed moved to after) where
   part : IsPart u root
   part = tree_is_part u root is.tree
 
@@ -31,7 +33,8 @@ module _ (w : Meaning Command Reply) (local : IsLocal w) (x : Command) (u : Stor
   units = content_after d u root (is_in moved) to is.raw after part meets h.effect is.units h.units
 
   stays : (k : ℕ) → is_in changed k ≡ false → SameUnit u (place d u) k
-  stays k off v = back_iff (others_after d u root part meets (is_in moved) to h.effect k v (not_true (is_in moved k) (λ e. not_both_ways (h.moves k e) off)))
+  stays k off v = back_iff (others_after d u root part meets (is_in moved) to h.effect k v
+      (not_true (is_in moved k) (λ e. not_both_ways (h.moves k e) off)))
 
   others : (k : ℕ) → is_in changed k ≡ false → at_key (w.after x n) k ≡ at_key n k
   others k off = local.others x n k (not_true (is_in (w.changes x n) k) (λ e. not_both_ways (h.changes k e) off))
@@ -42,8 +45,10 @@ module _ (w : Meaning Command Reply) (local : IsLocal w) (x : Command) (u : Stor
     meets = h.meets;
     after = after;
     units = units;
-    files = files_after u (place d u) is.raw after n (w.after x n) changed is.units units is.files is.visible stays others h.files;
-    visible = visible_after u (place d u) is.raw after n (w.after x n) changed is.units units is.files is.visible stays others h.files;
+    files = files_after u (place d u) is.raw after n (w.after x n) changed is.units units is.files is.visible stays
+        others h.files;
+    visible = visible_after u (place d u) is.raw after n (w.after x n) changed is.units units is.files is.visible stays
+        others h.files;
     reads = h.reads;
     changes = h.changes;
     within = h.within;

@@ -8,7 +8,8 @@ use Rattle.r4_base.specs.declared.things.NodeId.{NodeId}
 use Rattle.r4_cell.specs.Patch.{Patch, place, root_after, IsPatch, Meets}
 use Rattle.r4_trace.specs.Traced.{renamed_atom}
 use Rattle.r4_trace.specs.declared.entry.Entry.{Entry}
-use Rattle.r4_trace.specs.declared.entry.Entry.TheVariants.{Begin, Refused, Ended, Fuse, Sealed, Committed, Acked, Broken}
+use Rattle.r4_trace.specs.declared.entry.Entry.TheVariants.{Begin, Refused, Ended, Fuse, Sealed, Committed, Acked}
+use Rattle.r4_trace.specs.declared.entry.Entry.TheVariants.{Broken}
 use Rattle.r4_sets.specs.Change.{touches}
 use Rattle.r4_sets.specs.Session.{Session, cells, only, root_with}
 use Rattle.r4_sets.specs.Units.{SameUnit}

@@ -96,7 +96,8 @@ abbrev pub picks : (ℕ → Bool) → Option ℕ → Bool
 picks s None = false
 picks s (Some n) = s n
 
--- The cells with a set of open atoms in place: those that belong to them as they are in memory, all others as they stand
+-- The cells with a set of open atoms in place: those that belong to them as they are in memory, all others as they
+-- stand
 -- under the open atoms.
 abbrev pub cells : Session → (ℕ → Bool) → Store Value
 cells c s i = cond (picks s (c.owner i)) (c.memory i) (c.under.cells i)

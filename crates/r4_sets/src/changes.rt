@@ -1,4 +1,5 @@
-//! Laws of the changes that commands make in a tree (docs/sets.md). Each is the contract of a function that does nothing.
+//! Laws of the changes that commands make in a tree (docs/sets.md). Each is the contract of a function that does
+//! nothing.
 
 ghost use Rattle.std.specs.Prelude.{◌≡◌, ◌<◌, ◌^◌, ℕ, Option, false};
 ghost use Rattle.r4_base.specs.Tree.{Root, Store};
@@ -15,8 +16,8 @@ ghost use Rattle.r4_sets.specs.Change.{Does, FilesAfter, Promises, ShowsBodies, 
 ghost use Rattle.r4_sets.specs.Session.{IsTreeOf};
 ghost use Rattle.r4_sets.specs.Units.{SameUnit};
 
-/// A change that keeps its promises does in a tree what the command does. They are of the change, of the keys, and of the
-/// files that it touches, and never of the rest of the tree.
+/// A change that keeps its promises does in a tree what the command does. They are of the change, of the keys, and of
+/// the files that it touches, and never of the rest of the tree.
 pub fn changes_do_commands()
     ensures { (w : Meaning Command Reply) → IsLocal w → (x : Command) (u : Store Value)
         (root : Root) (n : Content) (is : IsTreeOf u root n) (d : Patch Value)
@@ -25,8 +26,8 @@ pub fn changes_do_commands()
         → Does w x u root is.raw n d touched changed }
 {}
 
-/// After a change files stand as in a volume, and what is visible is what is to be, where this is so of the files whose stat
-/// data or bodies it touches.
+/// After a change files stand as in a volume, and what is visible is what is to be, where this is so of the files
+/// whose stat data or bodies it touches.
 pub fn files_stand_after()
     ensures files { (t u : Store Value) (raw after n m : Content) (changed : Intervals)
         → HasUnits t raw → HasUnits u after → HasFiles t raw → IsVisible raw n
@@ -40,8 +41,8 @@ pub fn files_stand_after()
         → FilesAfter u raw after m changed → IsVisible after m }
 {}
 
-/// Between lawful contents a body of which no key may change stays as it is, and with it its file's size. So where a key of
-/// each body that may change is among those touched, each touched file's body stays or is shown.
+/// Between lawful contents a body of which no key may change stays as it is, and with it its file's size. So where a
+/// key of each body that may change is among those touched, each touched file's body stays or is shown.
 pub fn bodies_are_shown()
     ensures { (limit : ℕ) (touched changed : Intervals) (raw after n m : Content) → limit < 2 ^ 64
         → IsVisible raw n → IsVisible after m → HasBodies limit n → HasBodies limit m

@@ -24,10 +24,10 @@ ghost use Rattle.r4_sets.specs.Session.{in_base, in_set, in_under, nothing, only
 ghost use Rattle.r4_sets.specs.Session.{root_with};
 ghost use Rattle.r4_sets.specs.Units.{SameUnit};
 
-/// What each set of open atoms means: the cells under them with the set's in place are a tree, with the content of the
-/// commands of the committed and the sealed atom and those of the set, in which each of these has its reply. So are the
-/// committed cells alone, those with the sealed atom in place, and those in memory, which have the content of all that was
-/// done. Of transactions in which no command was done it does not matter which are chosen.
+/// What each set of open atoms means: the cells under them with the set's in place are a tree, with the content of
+/// the commands of the committed and the sealed atom and those of the set, in which each of these has its reply. So
+/// are the committed cells alone, those with the sealed atom in place, and those in memory, which have the content of
+/// all that was done. Of transactions in which no command was done it does not matter which are chosen.
 pub fn sets_stand()
     ensures set { (w : Meaning Command Reply) (c : Session) → Sets w c → (s : ℕ → Bool)
         → Stands w c.start c.trace (in_set c s) (cells c s) (root_with c s) }
@@ -42,8 +42,9 @@ pub fn sets_stand()
         → Stands w start trace s t root → Stands w start trace u t root }
 {}
 
-/// The cells of a set are those under the open atoms with the patches of its atoms in place, one after another. No two atoms
-/// have a node in common. An atom that two become has the cells of both, and one that has none changes nothing.
+/// The cells of a set are those under the open atoms with the patches of its atoms in place, one after another. No
+/// two atoms have a node in common. An atom that two become has the cells of both, and one that has none changes
+/// nothing.
 pub fn sets_are_patches()
     ensures none { (c : Session) → (cells c nothing ≡ c.under.cells)
         × (root_with c nothing ≡ c.under.root) }

@@ -1,5 +1,5 @@
-//! Any set of open atoms: the committed cells with the cells of the set in place are a tree, which has the content of its
-//! commands (docs/sets.md).
+//! Any set of open atoms: the committed cells with the cells of the set in place are a tree, which has the content of
+//! its commands (docs/sets.md).
 #![tactic(auto)]
 
 mod changes;

@@ -1,4 +1,5 @@
-use Rattle.r4_sets.proofs.Patches.{empty_sealed, fused_patch, none_placed, none_root, patches_apart, placed_patch, placed_root}
+use Rattle.r4_sets.proofs.Patches.{empty_sealed, fused_patch, none_placed, none_root, patches_apart, placed_patch}
+use Rattle.r4_sets.proofs.Patches.{placed_root}
 use Rattle.r4_sets.proofs.laws.sets_are_patches.Goals as goal
 
 pub returns : goal.returns
