@@ -1,0 +1,5 @@
+pub mod Bounded
+pub mod Counted
+pub mod Showing
+pub mod Blocks
+pub mod Volumes
