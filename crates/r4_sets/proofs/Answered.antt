@@ -4,7 +4,7 @@ use Rattle.std.proofs.Common.{arith, inl, refl, sym, subst}
 use Rattle.std.proofs.lemmas.Option.{none-some}
 use Rattle.r4_base.specs.Value.{Value, Content}
 use Rattle.r4_base.specs.Tree.{Store, Root}
-use Rattle.r4_base.specs.Volume.{IsVisible}
+use Rattle.r4_base.specs.Volume.{HasStat, IsVisible}
 use Rattle.r4_cell.specs.Patch.{IsPatch, Patch}
 use Rattle.r4_content.specs.Locality.{IsLocal, Meaning}
 use Rattle.r4_content.proofs.EditLaws.{same_content}
@@ -48,7 +48,7 @@ module _ (w : Meaning Command Reply) (local : IsLocal w) (c : Session) (sets : S
   same_after : w.after x (all_done w c) ≡ all_done w c
   same_after = same_content _ _ (λ k. local.others x (all_done w c) k (a.same k))
 
-  does : Does w x c.memory c.root now.raw (all_done w c) no_patch a.touched []
+  does : Does w x c.memory c.root (all_done w c) no_patch a.touched []
   does = record {
     patch = no_patch_is;
     meets = record {
@@ -66,14 +66,13 @@ module _ (w : Meaning Command Reply) (local : IsLocal w) (c : Session) (sets : S
     within = λ k e. let f : false ≡ true = e in cc;
     stays = λ k off v. (λ h. h, λ h. h);
     stats = a.stats;
-    bodies = λ o b stat file h. inl (b, stat, file, refl, λ x lt. refl);
+    bodies = λ o b stat file h. inl
+        (b, subst (λ (m : Content). HasStat m o b) (sym same_after) stat, file, refl, λ x lt. refl);
   }
 
   pub answered_sets : Sets w (answered w c txn script index x)
   answered_sets = applied_sets w local c sets txn script index x no_patch (record {
     unsealed = a.unsealed;
-    raw = now.raw;
-    raw_is = now.units;
     touched = a.touched;
     changed = [];
     does = does;

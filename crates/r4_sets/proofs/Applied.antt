@@ -26,7 +26,7 @@ use Rattle.r4_sets.proofs.Carried.{true_or_false}
 use Rattle.r4_sets.proofs.Cells.{IsShared}
 use Rattle.r4_sets.proofs.Choosing.{pick_all, pick_free, pick_other, stands_at, stands_skips, stands_takes, touches_new}
 use Rattle.r4_sets.proofs.Choosing.{touches_old, untouched_place}
-use Rattle.r4_sets.proofs.Goes.{finds_alike, goes, one_raw, reply_alike}
+use Rattle.r4_sets.proofs.Goes.{finds_alike, goes, reply_alike}
 
 or_everything : (b : Bool) → (b || true) ≡ true
 or_everything true = refl
@@ -73,9 +73,8 @@ module _ (w : Meaning Command Reply) (local : IsLocal w) (c : Session) (sets : S
   in_memory : IsTreeOf c.memory c.root (all_done w c)
   in_memory = (memory_stands w c sets).is
 
-  does : Does w x c.memory c.root in_memory.raw (all_done w c) d a.touched a.changed
-  does = subst (λ r. Does w x c.memory c.root r (all_done w c) d a.touched a.changed)
-      (one_raw c.memory a.raw in_memory.raw a.raw_is in_memory.units) a.does
+  does : Does w x c.memory c.root (all_done w c) d a.touched a.changed
+  does = a.does
 
   -- ---- a cell that the atom may touch
 

@@ -1,11 +1,13 @@
 -- What a command's change does in memory it does in the tree of each set that has the command's atom.
-use Rattle.std.specs.Prelude.{◌≡◌, ◌↔◌, ℕ, suc, ◌<◌, ◌≤◌, Bool, true, false, cond, Some}
+use Rattle.std.specs.Prelude.{◌≡◌, ◌⊎◌, ◌↔◌, ℕ, suc, ◌<◌, ◌≤◌, Bool, true, false, cond, Some}
 use Rattle.std.proofs.Common.{inl, inr, sym, ap, ◌∙◌}
 use Rattle.std.proofs.Math.Decide.{dec_le}
 use Rattle.r4_base.specs.Key.{least, top}
-use Rattle.r4_base.specs.Value.{Value, Content, at_key}
+use Rattle.r4_base.specs.Value.{Value, Stat, Content, at_key}
 use Rattle.r4_base.specs.Tree.{Store, Root, IsTree}
-use Rattle.r4_base.specs.Volume.{HasUnits}
+use Rattle.r4_base.specs.Volume.{HasStat, HasUnits, byte_rank, is_directory, stat_rank}
+use Rattle.r4_base.specs.declared.items.Attr.{Attr}
+use Rattle.r4_base.specs.declared.items.Target.{Target}
 use Rattle.r4_cell.specs.Patch.{Patch, place, root_after, Meets}
 use Rattle.r4_patch.proofs.Placed.{placed_tree}
 use Rattle.r4_content.specs.Edited.{Intervals, is_in}
@@ -13,13 +15,13 @@ use Rattle.r4_content.specs.Locality.{Agree, IsLocal, Meaning, Touches}
 use Rattle.r4_content.proofs.EditLaws.{same_content}
 use Rattle.r4_content.specs.declared.command.Command.{Command}
 use Rattle.r4_content.specs.declared.reply.Reply.{Reply}
-use Rattle.r4_sets.specs.Change.{Does}
+use Rattle.r4_sets.specs.Change.{BodyShown, BodyStays, Does}
 use Rattle.r4_sets.specs.Session.{IsTreeOf}
 use Rattle.r4_sets.specs.Units.{SameUnit}
 use Rattle.r4_sets.proofs.Cells.{IsShared, back_iff, unit_back, none_units, same_unit, shared_after, shared_units}
 use Rattle.r4_sets.proofs.Cells.{stays_too, then_iff}
 use Rattle.r4_sets.proofs.Bodies.{body_of_units, same_body, same_option}
-use Rattle.r4_sets.proofs.Carried.{agree, files, not_true, true_or_false, visible}
+use Rattle.r4_sets.proofs.Carried.{RawShown, agree, files, not_true, true_or_false, visible}
 use Rattle.r4_sets.proofs.Mixed.{at_mixed, mixed}
 
 -- a tree has one content of raw units
@@ -46,7 +48,7 @@ same_tree_of t u root_t root_u m tree same h = record {
 
 module _ (w : Meaning Command Reply) (local : IsLocal w) (t u : Store Value) (root_t root_u : Root) (m n : Content)
     (x : Command) (d : Patch Value) (touched changed : Intervals)
-    (is_t : IsTreeOf t root_t m) (is_u : IsTreeOf u root_u n) (does : Does w x u root_u is_u.raw n d touched changed)
+    (is_t : IsTreeOf t root_t m) (is_u : IsTreeOf u root_u n) (does : Does w x u root_u n d touched changed)
     (mt : Meets d t root_t)
     (reach : (k : ℕ) → is_in touched k ≡ true → least ≤ k → k < top → IsShared t u k) where
   tree_t2 : IsTree (place d t) (root_after d root_t)
@@ -107,9 +109,27 @@ module _ (w : Meaning Command Reply) (local : IsLocal w) (t u : Store Value) (ro
           ↔ (at_key is_t.raw k ≡ Some v)
       same_old k v e = (λ y. sym e ∙ y, λ y. e ∙ y)
 
+  -- bodies, by their units
+  bodies : (o : Target) (a : Attr) → HasStat is_u.raw o a → is_directory a ≡ false → is_in touched (stat_rank o) ≡ true
+      → BodyStays changed does.after o a ⊎ RawShown touched is_u.raw o a
+  bodies o a stat file on = elim (does.bodies o a (stat.0, (is_u.visible (stat_rank o) (Stat a)).1 (stat.1, λ p. p))
+      file on) [
+        | inl stays ↦ inl (still stays)
+        | inr shown ↦ inr (by_units shown)
+      ]
+    where
+      still : BodyStays changed (w.after x n) o a → BodyStays changed does.after o a
+      still (b, there, rest, size, off) =
+          (b, (there.0, ((does.visible (stat_rank o) (Stat b)).0 there.1).0), rest, size, off)
+
+      by_units : BodyShown touched u o a → RawShown touched is_u.raw o a
+      by_units (inl none) = inl none
+      by_units (inr (offset, v, lt, among, unit)) =
+          inr (offset, v, lt, among, (is_u.units (byte_rank o offset) v).1 unit)
+
   agrees : (k : ℕ) → is_in touched k ≡ true → at_key m k ≡ at_key n k
   agrees k h = agree t u (place d t) (place d u) is_t.raw is_u.raw raw2 does.after touched changed is_t.units
-      is_u.units units2 does.units is_t.files is_u.files does.files shared kept does.within does.stats does.bodies m n
+      is_u.units units2 does.units is_t.files is_u.files does.files shared kept does.within does.stats bodies m n
       is_t.visible is_u.visible k h
 
   reads_alike : Agree w x n m
@@ -146,9 +166,9 @@ module _ (w : Meaning Command Reply) (local : IsLocal w) (t u : Store Value) (ro
     raw = raw2;
     units = units2;
     files = files t u (place d t) (place d u) is_t.raw is_u.raw raw2 does.after touched changed is_t.units is_u.units
-        units2 does.units is_t.files is_u.files does.files shared kept does.within does.stats does.bodies m n
+        units2 does.units is_t.files is_u.files does.files shared kept does.within does.stats bodies m n
         (w.after x m) (w.after x n) is_t.visible is_u.visible does.visible same_after off_m off_n;
     visible = visible t u (place d t) (place d u) is_t.raw is_u.raw raw2 does.after touched changed is_t.units
-        is_u.units units2 does.units is_t.files is_u.files does.files shared kept does.within does.stats does.bodies m
+        is_u.units units2 does.units is_t.files is_u.files does.files shared kept does.within does.stats bodies m
         n (w.after x m) (w.after x n) is_t.visible is_u.visible does.visible same_after off_m off_n;
   }

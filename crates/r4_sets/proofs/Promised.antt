@@ -39,7 +39,7 @@ module _ (w : Meaning Command Reply) (local : IsLocal w) (x : Command) (u : Stor
   others : (k : ℕ) → is_in changed k ≡ false → at_key (w.after x n) k ≡ at_key n k
   others k off = local.others x n k (not_true (is_in (w.changes x n) k) (λ e. not_both_ways (h.changes k e) off))
 
-  pub promised : Does w x u root is.raw n d touched changed
+  pub promised : Does w x u root n d touched changed
   promised = record {
     patch = h.patch;
     meets = h.meets;

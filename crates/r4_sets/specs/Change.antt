@@ -2,7 +2,7 @@
 use Rattle.std.specs.Prelude.{◌≡◌, ◌⊎◌, ◌↔◌, ℕ, ◌^◌, ◌<◌, ◌≤◌, Bool, true, false, ◌||◌, cond, ◌∷◌, Option, Some, None}
 use Rattle.std.specs.Prelude.{is_some}
 use Rattle.r4_base.specs.Key.{key_of_rank, minor_of, offset_of, least, top}
-use Rattle.r4_base.specs.Tree.{Node, Store, Root, Holds}
+use Rattle.r4_base.specs.Tree.{Node, Store, Root, Holds, UnitAt}
 use Rattle.r4_base.specs.Value.{Value, Byte, Content, at_key}
 use Rattle.r4_base.specs.Volume.{HasExtents, HasFiles, HasStat, HasTails, HasUnits, IsPadding, IsVisible, KeyFits}
 use Rattle.r4_base.specs.Volume.{byte_rank, is_directory, object_of, stat_rank}
@@ -30,11 +30,11 @@ BodyStays changed after o a =
     × ((offset : ℕ) → offset < 2 ^ 64 → is_in changed (byte_rank o offset) ≡ false)
 
 -- A file's body is empty, or among the keys is one of its units: in a tail or in an extent, as the others are.
-abbrev pub BodyShown : (touched : Intervals) (raw : Content) → Target → Attr → Type 0
-BodyShown touched raw o a =
+abbrev pub BodyShown : (touched : Intervals) (u : Store Value) → Target → Attr → Type 0
+BodyShown touched u o a =
     (a.size ≡ 0)
     ⊎ ((offset : ℕ) × (v : Value) × (offset < 2 ^ 64) × (is_in touched (byte_rank o offset) ≡ true)
-    × (at_key raw (byte_rank o offset) ≡ Some v))
+    × UnitAt u (byte_rank o offset) v)
 
 -- with a key of a body the stat key of its object is among the keys
 abbrev pub HasStats : (touched : Intervals) → Type 0
@@ -42,18 +42,21 @@ HasStats touched =
     (k : ℕ) → is_in touched k ≡ true → minor_of (key_of_rank k) ≡ 4
     → is_in touched (stat_rank (object_of (key_of_rank k))) ≡ true
 
--- where a file's stat key is among the keys, its body stays, or one of its units is there too
-abbrev pub ShowsUnits : (touched changed : Intervals) (raw after : Content) → Type 0
-ShowsUnits touched changed raw after =
-    (o : Target) (a : Attr) → HasStat raw o a → is_directory a ≡ false → is_in touched (stat_rank o) ≡ true
-    → BodyStays changed after o a ⊎ BodyShown touched raw o a
+-- Where a file's stat key is among the keys, its body stays, or one of its units in the tree u is there too. The
+-- content
+-- is n before and m after.
+abbrev pub ShowsUnits : (touched changed : Intervals) (u : Store Value) (n m : Content) → Type 0
+ShowsUnits touched changed u n m =
+    (o : Target) (a : Attr) → HasStat n o a → is_directory a ≡ false → is_in touched (stat_rank o) ≡ true
+    → BodyStays changed m o a ⊎ BodyShown touched u o a
 
 -- ---- what a command's change does in a tree
 
--- The tree has the units of `raw`, and n is what is visible of them; after the change d it has those of `after`.
--- `changed` are the keys whose units may change, and `touched` these and those that the command reads.
+-- n is what is visible of the tree's units; after the change d it has those of `after`. `changed` are the keys whose
+-- units
+-- may change, and `touched` these and those that the command reads.
 pub record Does
-    (w : Meaning Command Reply) (x : Command) (u : Store Value) (root : Root) (raw n : Content) (d : Patch Value)
+    (w : Meaning Command Reply) (x : Command) (u : Store Value) (root : Root) (n : Content) (d : Patch Value)
     (touched changed : Intervals) : Type 0 where
   pub patch : IsPatch d
   pub meets : Meets d u root
@@ -68,7 +71,7 @@ pub record Does
   pub stays : (k : ℕ) → is_in changed k ≡ false → SameUnit u (place d u) k
   pub stats : HasStats touched
   -- and where the body of a file or its size changes, a unit shows how it stands
-  pub bodies : ShowsUnits touched changed raw after
+  pub bodies : ShowsUnits touched changed u n (w.after x n)
 
 -- ---- a change in its own words
 
@@ -112,7 +115,7 @@ pub record Promises
   pub moves : (k : ℕ) → is_in moved k ≡ true → is_in changed k ≡ true
   pub within : (k : ℕ) → is_in changed k ≡ true → is_in touched k ≡ true
   pub stats : HasStats touched
-  pub bodies : ShowsUnits touched changed raw after
+  pub bodies : ShowsUnits touched changed u n (w.after x n)
 
 -- ---- a command of an atom
 
@@ -133,12 +136,9 @@ IsReached c n touched =
 -- A command of a transaction, whose atom is open, is done by the change d.
 pub record Applies (w : Meaning Command Reply) (c : Session) (txn : ℕ) (x : Command) (d : Patch Value) : Type 0 where
   pub unsealed : IsSealed c.trace (atom_in c.trace txn) → ⊥
-  -- the units in memory
-  pub raw : Content
-  pub raw_is : HasUnits c.memory raw
   pub touched : Intervals
   pub changed : Intervals
-  pub does : Does w x c.memory c.root raw (all_done w c) d touched changed
+  pub does : Does w x c.memory c.root (all_done w c) d touched changed
   -- what it changes belongs to no other atom, and so does each cell that holds a key that it touches
   pub own : (i : ℕ) → touches d i ≡ true → IsFree c (atom_in c.trace txn) i
   pub reach : IsReached c (atom_in c.trace txn) touched

@@ -23,7 +23,7 @@ pub fn changes_do_commands()
         (root : Root) (n : Content) (is : IsTreeOf u root n) (d : Patch Value)
         (touched changed moved : Intervals) (to : ℕ → Option (Placed Value)) (after : Content)
         → Promises w x u root is.raw n d touched changed moved to after
-        → Does w x u root is.raw n d touched changed }
+        → Does w x u root n d touched changed }
 {}
 
 /// After a change files stand as in a volume, and what is visible is what is to be, where this is so of the files
@@ -44,8 +44,8 @@ pub fn files_stand_after()
 /// Between lawful contents a body of which no key may change stays as it is, and with it its file's size. So where a
 /// key of each body that may change is among those touched, each touched file's body stays or is shown.
 pub fn bodies_are_shown()
-    ensures { (limit : ℕ) (touched changed : Intervals) (raw after n m : Content) → limit < 2 ^ 64
-        → IsVisible raw n → IsVisible after m → HasBodies limit n → HasBodies limit m
+    ensures { (limit : ℕ) (touched changed : Intervals) (u : Store Value) (raw n m : Content)
+        → limit < 2 ^ 64 → HasUnits u raw → IsVisible raw n → HasBodies limit n → HasBodies limit m
         → ((k : ℕ) → is_in changed k ≡ false → at_key m k ≡ at_key n k)
-        → ShowsBodies touched changed n → ShowsUnits touched changed raw after }
+        → ShowsBodies touched changed n → ShowsUnits touched changed u n m }
 {}
