@@ -5,7 +5,7 @@ use Rattle.std.proofs.lemmas.Option.{none-some}
 use Rattle.r4_base.specs.Value.{Value, Content}
 use Rattle.r4_base.specs.Tree.{Store, Root}
 use Rattle.r4_base.specs.Volume.{HasStat, IsVisible}
-use Rattle.r4_cell.specs.Patch.{IsPatch, Patch}
+use Rattle.r4_cell.specs.Patch.{IsPatch}
 use Rattle.r4_content.specs.Locality.{IsLocal, Meaning}
 use Rattle.r4_content.proofs.EditLaws.{same_content}
 use Rattle.r4_content.specs.declared.command.Command.{Command}
@@ -13,19 +13,15 @@ use Rattle.r4_content.specs.declared.reply.Reply.{Reply}
 use Rattle.r4_base.specs.declared.things.ScriptNo.{ScriptNo}
 use Rattle.r4_base.specs.declared.things.TxnNo.{TxnNo}
 use Rattle.r4_sets.specs.Atoms.{opened}
-use Rattle.r4_sets.specs.Change.{Answers, Does, answered}
+use Rattle.r4_sets.specs.Change.{Answers, Does, answered, no_patch}
 use Rattle.r4_sets.specs.Session.{IsTreeOf, Session, Sets, all_done}
 use Rattle.r4_sets.proofs.Applied.{applied_sets, memory_stands}
 use Rattle.r4_sets.proofs.Carried.{not_both_ways}
 
--- nothing changes
-abbrev pub no_patch : Patch Value
-no_patch = record { old = λ i. None; new = λ i. None; root = None }
-
 no_cell : {A : Type 0} (x : A) → None ≡ Some x → ⊥
 no_cell x e = none-some x e
 
-no_patch_is : IsPatch no_patch
+pub no_patch_is : IsPatch no_patch
 no_patch_is = record {
   nodes = λ i c e. absurd (no_cell c e);
   covers_old = λ l k two (i, c, e, _, _). absurd (no_cell c e);

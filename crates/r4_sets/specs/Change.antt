@@ -158,6 +158,10 @@ applied w c txn script index x d = record c {
 
 -- ---- a command that changes no key
 
+-- no cell changes
+abbrev pub no_patch : Patch Value
+no_patch = record { old = λ i. None; new = λ i. None; root = None }
+
 pub record Answers (w : Meaning Command Reply) (c : Session) (txn : ℕ) (x : Command) : Type 0 where
   pub unsealed : IsSealed c.trace (atom_in c.trace txn) → ⊥
   pub touched : Intervals
