@@ -6,3 +6,6 @@ pub mod WorkedThrough
 pub mod NeedsSmall
 pub mod NeedsChanges
 pub mod InOrder
+pub mod FileTree
+pub mod FileBody
+pub mod NeedsBodies

@@ -5,7 +5,7 @@ use Rattle.std.specs.Prelude.{◌≡◌, ℕ, zero, List, [], ◌∷◌, cond, C
 use Rattle.std.specs.FinMap.{insert}
 use Rattle.std.proofs.Common.{arith, inl, inr, refl, sym, ap, subst, ◌∙◌}
 use Rattle.std.proofs.Math.Nat.{le_refl}
-use Rattle.std.proofs.lemmas.Bool.{eqb-true, ne_eqb}
+use Rattle.std.proofs.lemmas.Bool.{eqb-true, ne_eqb, eq-eqb}
 use Rattle.std.proofs.lemmas.Option.{none-some, same_Some}
 use Rattle.r4_base.specs.Key.{least, top}
 use Rattle.r4_base.specs.Tree.{IsNode, Node, Store}
@@ -40,10 +40,11 @@ use Rattle.r4_sets_rows.specs.Worked.{mode_700}
 use Rattle.r4_sets_rows.proofs.Modes.{changes_in, mode_after, reads_in}
 use Rattle.r4_sets_rows.proofs.NeedsSmall.{meets_none, no_true, one_done, one_ready, units_now, unlike}
 use Rattle.r4_sets_rows.proofs.Ready.{Ready, begun_ready}
-use Rattle.r4_sets_rows.proofs.Setting.{content_after, is_one, meets, memory_after, mode_at_leaf, no_body_key, one_of}
-use Rattle.r4_sets_rows.proofs.Setting.{patch, placed, seen_at_leaf, setting_sets, the_key}
+use Rattle.r4_sets_rows.proofs.Setting.{is_one, meets, memory_after, mode_at_leaf, no_body_key, one_of, stays}
+use Rattle.r4_sets_rows.proofs.Setting.{patch, placed, setting_sets, the_key}
 use Rattle.r4_sets_rows.proofs.SmallTree.{at_alone, leaf_there, lone_files, no_file, small_cell, small_units}
 use Rattle.r4_sets_rows.proofs.SmallTree.{small_visible}
+use Rattle.r4_sets.proofs.Applied.{memory_stands}
 
 -- ---- the bytes of a leaf that another atom has are changed
 
@@ -227,7 +228,7 @@ module _ (limit : ℕ) where
 
   stray_fails : (c : Session) → c.memory 23 ≡ Some (leaf_with [] root_attr) → c.memory 99 ≡ Some stray → Sets w c → ⊥
   stray_fails c leaf at sets =
-      let tree = (Rattle.r4_sets.proofs.Applied.memory_stands w c sets).is.tree in
+      let tree = (memory_stands w c sets).is.tree in
       let same : 23 ≡ 99 = tree.apart 23 99 (leaf_with [] root_attr) stray least leaf at refl (le_refl 1)
       (le_refl least, least_below) (le_refl least, least_below) in
       absurd (omega (arith, same))
@@ -426,7 +427,7 @@ blind_local a = record {
   where
     set_at : (m : Content) (k : ℕ) → k ≡ least → at_key (insert m least (Stat a)) k ≡ Some (Stat a)
     set_at m k e = at_insert m least (Stat a) k ∙ ap (λ q. cond (q == least) (Some (Stat a)) (at_key m k)) e
-        ∙ ap (λ b. cond b (Some (Stat a)) (at_key m k)) (Rattle.std.proofs.lemmas.Bool.eq-eqb least least refl)
+        ∙ ap (λ b. cond b (Some (Stat a)) (at_key m k)) (eq-eqb least least refl)
 
     on_it : (k : ℕ) → k ≡ least → is_in the_key k ≡ false → ⊥
     on_it k e off = let f : true ≡ false = sym is_one ∙ ap (is_in the_key) (sym e) ∙ off in cc
@@ -459,7 +460,7 @@ files_needed = record {
     reads = λ k e. absurd (no_true e);
     changes = λ k e. e;
     within = λ k e. e;
-    stays = Rattle.r4_sets_rows.proofs.Setting.stays [] [] [] root_attr bad;
+    stays = stays [] [] [] root_attr bad;
     stats = λ k e four. absurd (no_body_key k e four);
     bodies = λ o a stat file e. absurd (no_file root_attr refl o a stat file);
     own = λ i e. inl refl;

@@ -2,7 +2,7 @@
 use Rattle.std.specs.Prelude.{◌≡◌, ℕ, List, [], true, false}
 use Rattle.std.proofs.Common.{arith, inl, refl, sym, ap, subst, ◌∙◌}
 use Rattle.std.proofs.lemmas.Option.{none-some}
-use Rattle.r4_base.specs.Volume.{HasUnits, IsVisible, is_directory, root_attr, root_object}
+use Rattle.r4_base.specs.Volume.{HasUnits, IsVisible, is_directory, root_attr, HasStat}
 use Rattle.r4_base.specs.declared.items.Attr.{Attr}
 use Rattle.r4_cell.specs.Patch.{Meets}
 use Rattle.r4_content.specs.Edited.{is_in}
@@ -13,7 +13,7 @@ use Rattle.r4_content.specs.declared.reply.Reply.{Reply}
 use Rattle.r4_content.specs.declared.reply.Reply.TheVariants.{Attr as AttrReply}
 use Rattle.r4_content.proofs.CourseLaws.{local}
 use Rattle.r4_sets.specs.Atoms.{sealed}
-use Rattle.r4_sets.specs.Change.{Does, applied, no_patch, touches}
+use Rattle.r4_sets.specs.Change.{Does, applied, no_patch, IsFree}
 use Rattle.r4_sets.specs.Session.{Session, Sets, all_done, nothing, only}
 use Rattle.r4_sets.proofs.Answered.{no_patch_is}
 use Rattle.r4_sets.proofs.Gathered.{sealed_sets}
@@ -25,6 +25,7 @@ use Rattle.r4_sets_rows.proofs.Modes.{stat_reply}
 use Rattle.r4_sets_rows.proofs.Ready.{Ready, begun_ready, mode_ready}
 use Rattle.r4_sets_rows.proofs.Setting.{in_session, mode_at_leaf, no_body_key, reached, the_key, touched_is}
 use Rattle.r4_sets_rows.proofs.SmallTree.{lone_files, no_file, small_units, small_visible}
+use Rattle.r4_base.specs.declared.items.Target.{Target}
 
 -- ---- the session in which the first transaction changed the mode
 
@@ -59,10 +60,10 @@ module _ (w : Meaning Command Reply) (twig leaf : List ℕ) (r : Attr) (c : Sess
   pub units_now : HasUnits c.memory (alone r)
   units_now = subst (λ t. HasUnits t (alone r)) (sym h.memory) (small_units twig leaf r)
 
-  pub no_file_now : is_directory r ≡ true → (o : Rattle.r4_base.specs.declared.items.Target.Target) (a : Attr)
-      → Rattle.r4_base.specs.Volume.HasStat (all_done w c) o a → is_directory a ≡ false → ⊥
+  pub no_file_now : is_directory r ≡ true → (o : Target) (a : Attr)
+      → HasStat (all_done w c) o a → is_directory a ≡ false → ⊥
   no_file_now dir o a stat file =
-      no_file r dir o a (subst (λ m. Rattle.r4_base.specs.Volume.HasStat m o a) h.content stat) file
+      no_file r dir o a (subst (λ m. HasStat m o a) h.content stat) file
 
 -- ---- `stat` in a second transaction reads the leaf of the first one's atom: the reply differs in a set
 
@@ -212,7 +213,7 @@ module _ (limit : ℕ) where
       stays = again.stays;
       stats = again.stats;
       bodies = again.bodies;
-      own = λ i e. subst (λ q. Rattle.r4_sets.specs.Change.IsFree one_sealed 1 q)
+      own = λ i e. subst (λ q. IsFree one_sealed 1 q)
           (sym (touched_is [] [] [] mode_700 mode_750 i e)) (inl refl);
       reach = reached [] [] [] mode_700 mode_750 w (chmod 0o750) refl refl refl (mode_after mode_700 limit 0o750)
           (reads_in mode_700 limit 0o750) (changes_in mode_700 limit 0o750) one_sealed sealed_ready.memory

@@ -9,7 +9,8 @@ ghost use Rattle.r4_content.specs.declared.command.Command.{Command};
 ghost use Rattle.r4_content.specs.declared.reply.Reply.{Reply};
 ghost use Rattle.r4_sets.specs.Change.{Applies};
 ghost use Rattle.r4_sets.specs.Session.{Session};
-ghost use Rattle.r4_sets_rows.specs.Needed.{AppliesBut, Changes, HasItsFiles, HasItsUnits, IsItsPatch};
+ghost use Rattle.r4_sets_rows.specs.Needed.{AppliesBut, Bodies, Changes, HasItsFiles, HasItsUnits};
+ghost use Rattle.r4_sets_rows.specs.Needed.{IsItsPatch, Stats, Stays};
 ghost use Rattle.r4_sets_rows.specs.Needed.{IsNeeded, IsSeen, MeetsIt, Nothing, Own, Reach, Reads};
 ghost use Rattle.r4_sets_rows.specs.Needed.{Unsealed, Within};
 
@@ -57,4 +58,24 @@ pub fn changes_do_what_commands_do()
 pub fn keys_that_commands_change_are_told()
     ensures changes { IsNeeded Changes }
     ensures within { IsNeeded Within }
+{}
+
+/// A first atom has turned the body of a file into tails, and a second one appends a byte, behind the block of the
+/// extent that the file had. It reads no byte of the body: so in the set without the first atom the byte stands in a
+/// tail, and the body in an extent.
+pub fn bodies_are_shown_where_they_grow()
+    ensures bodies { IsNeeded Bodies }
+{}
+
+/// A first atom has made a file longer within its block, and a command of a second one looks at a byte behind the end
+/// that the file had. It does not read the stat data: so it finds a byte in memory, and none in the set without the
+/// first atom.
+pub fn stat_data_are_read_with_bytes()
+    ensures stats { IsNeeded Stats }
+{}
+
+/// A first atom has made a file longer within its block, and a second one turns the body into tails, of which no key
+/// is told: in the set without the first atom there are tails past the file's end.
+pub fn units_stay_in_their_cells()
+    ensures stays { IsNeeded Stays }
 {}
