@@ -13,3 +13,4 @@ pub mod Patches
 pub mod FilesAfter
 pub mod Promised
 pub mod Shown
+pub mod BodyKinds

@@ -1,10 +1,10 @@
 -- Changes of the cells of a session by the commands of open atoms (docs/sets.md).
-use Rattle.std.specs.Prelude.{◌≡◌, ◌⊎◌, ◌↔◌, ℕ, ◌^◌, ◌<◌, ◌≤◌, Bool, true, false, ◌||◌, cond, ◌∷◌, Option, Some, None}
+use Rattle.std.specs.Prelude.{◌≡◌, ◌⊎◌, ◌↔◌, ℕ, ◌*◌, ◌^◌, ◌<◌, ◌≤◌, Bool, true, false, ◌||◌, cond, ◌∷◌, Option, Some, None}
 use Rattle.std.specs.Prelude.{is_some}
 use Rattle.r4_base.specs.Key.{key_of_rank, minor_of, offset_of, least, top}
 use Rattle.r4_base.specs.Tree.{Node, Store, Root, Holds, UnitAt}
 use Rattle.r4_base.specs.Value.{Value, Byte, Content, at_key}
-use Rattle.r4_base.specs.Volume.{HasExtents, HasFiles, HasStat, HasTails, HasUnits, IsPadding, IsVisible, KeyFits}
+use Rattle.r4_base.specs.Volume.{HasExtents, HasFiles, HasStat, HasTails, HasUnits, IsPadding, IsVisible, KeyFits, InExtent, InTail, blocks_for}
 use Rattle.r4_base.specs.Volume.{byte_rank, is_directory, object_of, stat_rank}
 use Rattle.r4_base.specs.declared.items.Attr.{Attr}
 use Rattle.r4_base.specs.declared.items.Target.{Target}
@@ -98,6 +98,28 @@ pub record FilesAfter (u : Store Value) (raw after m : Content) (changed : Inter
   pub bodies : (o : Target) (b : Attr) → HasStat after o b → is_directory b ≡ false → IsTouched changed o
       → (b.size ≤ 2 ^ 30) × (HasTails u o b.size ⊎ HasExtents u o b.size)
   pub bytes : (o : Target) (b : Attr) → HasStat after o b → is_in changed (stat_rank o) ≡ true → b.bytes ≡ b.size
+
+-- At the changed keys of a body there stand in the tree u the units of a body of this size, in tails; or in extents.
+abbrev pub TailsThere : (u : Store Value) (changed : Intervals) → Target → (size : ℕ) → Type 0
+TailsThere u changed o size =
+    (x : ℕ) → x < 2 ^ 64 → is_in changed (byte_rank o x) ≡ true
+    → (InTail u (byte_rank o x) ↔ (x < size)) × (InExtent u (byte_rank o x) → ⊥)
+
+abbrev pub ExtentsThere : (u : Store Value) (changed : Intervals) → Target → (size : ℕ) → Type 0
+ExtentsThere u changed o size =
+    (x : ℕ) → x < 2 ^ 64 → is_in changed (byte_rank o x) ≡ true
+    → (InExtent u (byte_rank o x) ↔ (x < 4096 * blocks_for size)) × (InTail u (byte_rank o x) → ⊥)
+
+-- at its other keys the tree t has no unit, and the offset is at or past the end
+abbrev pub NoneElse : (t : Store Value) (changed : Intervals) → Target → (end : ℕ) → Type 0
+NoneElse t changed o end =
+    (x : ℕ) → x < 2 ^ 64 → is_in changed (byte_rank o x) ≡ false
+    → (InTail t (byte_rank o x) → ⊥) × (InExtent t (byte_rank o x) → ⊥) × (end ≤ x)
+
+-- at its other keys the offset is before the one end where it is before the other
+abbrev pub SameElse : (changed : Intervals) → Target → (old new : ℕ) → Type 0
+SameElse changed o old new =
+    (x : ℕ) → x < 2 ^ 64 → is_in changed (byte_rank o x) ≡ false → (x < old) ↔ (x < new)
 
 -- All that is asked of a command's change in a tree, each where it can be seen: of the change, of the files that it
 -- touches, and of the keys.
