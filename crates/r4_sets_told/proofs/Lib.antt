@@ -3,3 +3,4 @@ pub mod Counted
 pub mod Showing
 pub mod Blocks
 pub mod Volumes
+pub mod MovedFiles

@@ -7,9 +7,13 @@ ghost use Rattle.r4_base.specs.Tree.{Node, Store};
 ghost use Rattle.r4_base.specs.Value.{Content, Value};
 ghost use Rattle.r4_base.specs.Volume.{HasContent, HasIds, HasLayout, HasObjects, IsPlace, root_of};
 ghost use Rattle.r4_base.specs.declared.superblock.Super40.{Super40};
-ghost use Rattle.r4_content.specs.Locality.{commands};
+ghost use Rattle.r4_content.specs.Locality.{Meaning, commands};
+ghost use Rattle.r4_content.specs.declared.command.Command.{Command};
+ghost use Rattle.r4_content.specs.declared.reply.Reply.{Reply};
+ghost use Rattle.r4_trace.specs.Folds.{HasFirstReplies, after_first};
 ghost use Rattle.r4_trace.specs.Ids.{Start};
 ghost use Rattle.r4_trace.specs.Job.{Asked};
+ghost use Rattle.r4_trace.specs.Legal.{RepliesFrom};
 ghost use Rattle.r4_trace.specs.Safe.{HasFirst};
 ghost use Rattle.r4_trace.specs.Traced.{committed_in, sealed_in};
 ghost use Rattle.r4_sets.specs.Session.{IsTreeOf, Session, Sets, in_base, in_under};
@@ -27,6 +31,20 @@ pub fn images_and_trees()
         → IsCellOf super.block_count (block_at image i) c)
         → ((i : ℕ) (c : Node Value) → t i ≡ Some c → IsPlace super.block_count image i)
         → IsTreeOf t (root_of super) m → HasObjects m → HasIds super m → HasContent n image m }
+{}
+
+/// The committed cells are a tree with what the first k atoms made, where k are committed; with the sealed atom in
+/// place they are one with what all sealed atoms made. In both each Done has its reply; and so it has after all that
+/// was done before it.
+pub fn layers_are_told()
+    ensures alone { (w : Meaning Command Reply) (c : Session) → Sets w c
+        → IsTreeOf c.base.cells c.base.root (after_first w c.start c.trace (committed_in c.trace))
+        × HasFirstReplies w c.start c.trace (committed_in c.trace) }
+    ensures under { (w : Meaning Command Reply) (c : Session) → Sets w c
+        → IsTreeOf c.under.cells c.under.root (after_first w c.start c.trace (sealed_in c.trace))
+        × HasFirstReplies w c.start c.trace (sealed_in c.trace) }
+    ensures replies { (w : Meaning Command Reply) (c : Session) (next_id : ℕ) → Sets w c
+        → RepliesFrom w (Some (record { content = c.start; next_id = next_id })) c.trace }
 {}
 
 /// An image in whose blocks the committed cells stand has the content of the transactions of the first k atoms that

@@ -6,6 +6,6 @@ mod images;
 mod runs;
 mod touched;
 
-pub use images::{images_and_trees, layers_are_volumes};
+pub use images::{images_and_trees, layers_are_told, layers_are_volumes};
 pub use runs::{chosen_commands, chosen_commands_count, chosen_commands_stay_lawful};
-pub use touched::commands_show_bodies;
+pub use touched::{commands_show_bodies, moved_units_are_files};

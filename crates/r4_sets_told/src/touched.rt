@@ -1,12 +1,19 @@
-//! A law of the keys of commands (docs/sets.md). It is the contract of a function that does nothing.
+//! Laws of the keys that commands touch, and of the units that they move (docs/sets.md). Each is the contract of a
+//! function that does nothing.
 
-ghost use Rattle.std.specs.Prelude.{◌<◌, ◌^◌, ℕ};
-ghost use Rattle.r4_base.specs.Value.{Content};
-ghost use Rattle.r4_content.specs.Edited.{Intervals};
+ghost use Rattle.std.specs.Prelude.{◌≡◌, ◌⊎◌, ◌<◌, ◌≤◌, ◌^◌, ℕ, true, false};
+ghost use Rattle.r4_base.specs.Tree.{Store};
+ghost use Rattle.r4_base.specs.Value.{Content, Value};
+ghost use Rattle.r4_base.specs.Volume.{HasExtents, HasStat, HasTails, is_directory};
+ghost use Rattle.r4_base.specs.declared.items.Attr.{Attr};
+ghost use Rattle.r4_base.specs.declared.items.Target.{Target};
+ghost use Rattle.r4_content.specs.Edited.{Edits, Intervals, edited, is_in};
+ghost use Rattle.r4_content.specs.Edited.{changed as changed_by};
 ghost use Rattle.r4_content.specs.Fields.{HasBytePaths, NamesUnused};
-ghost use Rattle.r4_content.specs.Lawful.{IsLawful};
+ghost use Rattle.r4_content.specs.Lawful.{HasBodies, IsLawful};
+ghost use Rattle.r4_content.specs.Units.{MovesUnits};
 ghost use Rattle.r4_content.specs.declared.command.Command.{Command};
-ghost use Rattle.r4_sets.specs.Change.{HasStats, ShowsBodies};
+ghost use Rattle.r4_sets.specs.Change.{FilesAfter, HasStats, IsTouched, ShowsBodies};
 ghost use Rattle.r4_sets_told.specs.Touched.{IsTouchedBy};
 
 /// With a key of a body each command touches the stat key of the body's file. Of each body that is not empty and of
@@ -19,4 +26,17 @@ pub fn commands_show_bodies()
     ensures bodies { (limit : ℕ) (x : Command) (n : Content) (touched changed : Intervals)
         → limit < 2 ^ 64 → IsLawful limit n → HasBytePaths x → NamesUnused n x
         → IsTouchedBy limit x n touched changed → ShowsBodies touched changed n }
+{}
+
+/// Where a change moves units as a command's edits say, all is so of files that is asked after it, but for the kind
+/// of cell in which the bodies stand that it touches: each of these has to be in tails alone or in extents alone.
+pub fn moved_units_are_files()
+    ensures { (limit : ℕ) (e : Edits) (n raw after : Content) (moved changed : Intervals)
+        (u : Store Value) → limit ≤ 2 ^ 30 → HasBodies limit (edited e n)
+        → MovesUnits e n raw after moved
+        → ((k : ℕ) → is_in (changed_by e) k ≡ true → is_in changed k ≡ true)
+        → ((k : ℕ) → is_in moved k ≡ true → is_in changed k ≡ true)
+        → ((o : Target) (b : Attr) → HasStat after o b → is_directory b ≡ false
+        → IsTouched changed o → HasTails u o b.size ⊎ HasExtents u o b.size)
+        → FilesAfter u raw after (edited e n) changed }
 {}
