@@ -258,10 +258,10 @@ module _ (size j : ℕ) (few : j ≤ 4096) where
   }
 
 module _ (size : ℕ) (some : 0 < size) (fits : size ≤ 4096) where
-  none_more : 0 ≤ 4096
-  none_more = omega arith
+  no_more : 0 ≤ 4096
+  no_more = omega arith
 
-  extent_level : (i : ℕ) (c : Node Value) (k : ℕ) (v : Value) → k ≢ stat_at → IsOne false size 0 none_more i c
+  extent_level : (i : ℕ) (c : Node Value) (k : ℕ) (v : Value) → k ≢ stat_at → IsOne false size 0 no_more i c
       → Contains c.units (k, v) → c.level ≡ 0
   extent_level i c k v ne (OfTwig a b) has = absurd (nothing_in (k, v) (subst (λ x. Contains x.units (k, v)) b has))
   extent_level i c k v ne (OfLeft a b) has =
@@ -281,25 +281,25 @@ module _ (size : ℕ) (some : 0 < size) (fits : size ≤ 4096) where
   extent_body = record {
     offsets = λ x lt. (
       λ (i, c, v, tc, high, has). let at =
-          offset_in size 4096 x v lt (unit_at false size 0 none_more (byte_rank the_file x) v i c tc has) in let one =
+          offset_in size 4096 x v lt (unit_at false size 0 no_more (byte_rank the_file x) v i c tc has) in let one =
           one_block in omega (arith, at, one),
       λ below.
           let one = one_block in
           let there : at_key (file_content size 4096) (byte_rank the_file x) ≡ Some (Byte 0) =
           ap (at_key (file_content size 4096)) (byte_at x) ∙ byte_there size 4096 x (omega (arith, below, one)) in
-          let (i, c, tc, has) = (file_units false size 0 none_more (byte_rank the_file x) (Byte 0)).0 there in (
+          let (i, c, tc, has) = (file_units false size 0 no_more (byte_rank the_file x) (Byte 0)).0 there in (
             i,
             c,
             Byte 0,
             tc,
             (λ e. let zero =
-                extent_level i c (byte_rank the_file x) (Byte 0) (not_stat x lt) (one_cell false size 0 none_more i c tc)
+                extent_level i c (byte_rank the_file x) (Byte 0) (not_stat x lt) (one_cell false size 0 no_more i c tc)
                 has in absurd (omega (arith, e, zero))),
             has,
           ),
     );
     no_tails = λ x lt (i, c, v, tc, low, has). let zero =
-        extent_level i c (byte_rank the_file x) v (not_stat x lt) (one_cell false size 0 none_more i c tc) has in
+        extent_level i c (byte_rank the_file x) v (not_stat x lt) (one_cell false size 0 no_more i c tc) has in
         absurd (omega (arith, low, zero));
   }
 
