@@ -4,3 +4,4 @@ pub mod Showing
 pub mod Blocks
 pub mod Volumes
 pub mod MovedFiles
+pub mod BuiltFor
