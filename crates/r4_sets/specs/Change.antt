@@ -1,10 +1,12 @@
 -- Changes of the cells of a session by the commands of open atoms (docs/sets.md).
-use Rattle.std.specs.Prelude.{◌≡◌, ◌⊎◌, ◌↔◌, ℕ, ◌*◌, ◌^◌, ◌<◌, ◌≤◌, Bool, true, false, ◌||◌, cond, ◌∷◌, Option, Some, None}
+use Rattle.std.specs.Prelude.{◌≡◌, ◌⊎◌, ◌↔◌, ℕ, ◌*◌, ◌^◌, ◌<◌, ◌≤◌, Bool, true, false, ◌||◌, cond, ◌∷◌, Option, Some}
+use Rattle.std.specs.Prelude.{None}
 use Rattle.std.specs.Prelude.{is_some}
 use Rattle.r4_base.specs.Key.{key_of_rank, minor_of, offset_of, least, top}
 use Rattle.r4_base.specs.Tree.{Node, Store, Root, Holds, UnitAt}
 use Rattle.r4_base.specs.Value.{Value, Byte, Content, at_key}
-use Rattle.r4_base.specs.Volume.{HasExtents, HasFiles, HasStat, HasTails, HasUnits, IsPadding, IsVisible, KeyFits, InExtent, InTail, blocks_for}
+use Rattle.r4_base.specs.Volume.{HasExtents, HasFiles, HasStat, HasTails, HasUnits, IsPadding, IsVisible, KeyFits}
+use Rattle.r4_base.specs.Volume.{InExtent, InTail, blocks_for}
 use Rattle.r4_base.specs.Volume.{byte_rank, is_directory, object_of, stat_rank}
 use Rattle.r4_base.specs.declared.items.Attr.{Attr}
 use Rattle.r4_base.specs.declared.items.Target.{Target}

@@ -15,8 +15,8 @@ ghost use Rattle.r4_content.specs.Locality.{IsLocal, Meaning};
 ghost use Rattle.r4_content.specs.declared.command.Command.{Command};
 ghost use Rattle.r4_content.specs.declared.reply.Reply.{Reply};
 ghost use Rattle.r4_patch.specs.Effect.{Placed};
-ghost use Rattle.r4_sets.specs.Change.{Does, ExtentsThere, FilesAfter, NoneElse, Promises, SameElse};
-ghost use Rattle.r4_sets.specs.Change.{ShowsBodies, ShowsUnits, TailsThere};
+ghost use Rattle.r4_sets.specs.Change.{Does, ExtentsThere, FilesAfter, NoneElse, Promises};
+ghost use Rattle.r4_sets.specs.Change.{SameElse, ShowsBodies, ShowsUnits, TailsThere};
 ghost use Rattle.r4_sets.specs.Session.{IsTreeOf};
 ghost use Rattle.r4_sets.specs.Units.{SameUnit};
 

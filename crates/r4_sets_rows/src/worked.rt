@@ -15,8 +15,8 @@ ghost use Rattle.r4_sets_rows.specs.Worked.{one_committed, third_began, two_bega
 /// first one's atom has, so both atoms become one. It is sealed, and while it is written a third transaction changes
 /// the mode, by a leaf of its own. Each of the three changes is one that may be made.
 pub fn three_changes()
-    ensures first { (limit : ℕ) (b : Blocks) → Applies (commands limit) (two_began b) 1 (chmod 0o700)
-        (changing b.first b.second root_attr mode_700) }
+    ensures first { (limit : ℕ) (b : Blocks) → Applies (commands limit) (two_began b) 1
+        (chmod 0o700) (changing b.first b.second root_attr mode_700) }
     ensures second { (limit : ℕ) (b : Blocks) → Applies (commands limit) (two_fused limit b) 2
         (chmod 0o750) (changing b.second b.third mode_700 mode_750) }
     ensures third { (limit : ℕ) (b : Blocks) → Applies (commands limit) (third_began limit b) 3

@@ -45,7 +45,8 @@ module _ (limit : ℕ) (small : limit ≤ 2 ^ 30) (x : Command) (u : Store Value
     meets = h.meets;
     effect = h.effect;
     units = h.units;
-    files = moved_files limit small (ending (course limit x) (of_content n)).edits n is.raw now moved changed (place d u)
+    files = moved_files limit small (ending (course limit x) (of_content n)).edits n is.raw now moved changed
+        (place d u)
         after_bodies h.moves h.keys.changes h.moved_in h.kinds;
     reads = h.keys.reads;
     changes = h.keys.changes;

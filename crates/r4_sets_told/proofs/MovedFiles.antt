@@ -6,7 +6,8 @@ use Rattle.std.proofs.lemmas.Option.{same_Some}
 use Rattle.r4_base.specs.Key.{key_of_rank, offset_of}
 use Rattle.r4_base.specs.Tree.{Store}
 use Rattle.r4_base.specs.Value.{Value, Stat, Entry, Byte, Content, at_key}
-use Rattle.r4_base.specs.Volume.{HasExtents, HasStat, HasTails, IsPadding, IsVisible, KeyFits, is_directory, object_of, stat_rank}
+use Rattle.r4_base.specs.Volume.{HasExtents, HasStat, HasTails, IsPadding, IsVisible, KeyFits, is_directory, object_of}
+use Rattle.r4_base.specs.Volume.{stat_rank}
 use Rattle.r4_base.specs.declared.items.Attr.{Attr}
 use Rattle.r4_base.specs.declared.items.Target.{Target}
 use Rattle.r4_base.specs.declared.key.Key.{Key}
@@ -19,10 +20,13 @@ use Rattle.r4_content.proofs.VisibleUnits.{each_unit, units_visible}
 use Rattle.r4_sets.specs.Change.{FilesAfter, IsTouched}
 use Rattle.r4_sets.proofs.Bodies.{one_attr}
 
-module _ (limit : ℕ) (small : limit ≤ 2 ^ 30) (e : Edits) (n raw after : Content) (moved changed : Intervals) (u : Store Value)
+module _ (limit : ℕ) (small : limit ≤ 2 ^ 30) (e : Edits) (n raw after : Content) (moved changed : Intervals)
+    (u : Store Value)
     (lawful : HasBodies limit (edited e n)) (h : MovesUnits e n raw after moved)
-    (edits : (k : ℕ) → is_in (changed_by e) k ≡ true → is_in changed k ≡ true) (moves : (k : ℕ) → is_in moved k ≡ true → is_in changed k ≡ true)
-    (kinds : (o : Target) (b : Attr) → HasStat after o b → is_directory b ≡ false → IsTouched changed o → HasTails u o b.size ⊎ HasExtents u o b.size) where
+    (edits : (k : ℕ) → is_in (changed_by e) k ≡ true → is_in changed k ≡ true) (moves : (k : ℕ) → is_in moved k ≡ true
+    → is_in changed k ≡ true)
+    (kinds : (o : Target) (b : Attr) → HasStat after o b → is_directory b ≡ false → IsTouched changed o
+    → HasTails u o b.size ⊎ HasExtents u o b.size) where
   abbrev m : Content
   m = edited e n
 
@@ -52,10 +56,12 @@ module _ (limit : ℕ) (small : limit ≤ 2 ^ 30) (e : Edits) (n raw after : Con
   of_pads : (k : ℕ) (v : Value) → at_key after k ≡ Some v → IsOrPads after m k → KeyFits after (key_of_rank k) v
   of_pads k v at (inl same) = fits_raw (key_of_rank k) v (lawful.keys k v (sym same ∙ at))
   of_pads k v at (inr (none, (x, is), (minor, (a, stat, file)))) =
-      subst (KeyFits after (key_of_rank k)) (same_Some (Byte x) v (sym is ∙ at)) (minor, (a, stat_raw (object_of (key_of_rank k)) a stat, file))
+      subst (KeyFits after (key_of_rank k)) (same_Some (Byte x) v (sym is ∙ at))
+      (minor, (a, stat_raw (object_of (key_of_rank k)) a stat, file))
 
   -- a byte that stays is past the end of its file where it was
-  same_side : (k y : ℕ) (a b : Attr) → is_in changed k ≡ false → at_key raw k ≡ Some (Byte y) → at_key after k ≡ Some (Byte y)
+  same_side : (k y : ℕ) (a b : Attr) → is_in changed k ≡ false → at_key raw k ≡ Some (Byte y) → at_key after k
+      ≡ Some (Byte y)
       → HasStat raw (object_of (key_of_rank k)) a → HasStat after (object_of (key_of_rank k)) b
       → (a.size ≤ offset_of (key_of_rank k)) ↔ (b.size ≤ offset_of (key_of_rank k))
   same_side k y a b off at now stat_a stat_b = (to, from)
@@ -63,22 +69,28 @@ module _ (limit : ℕ) (small : limit ≤ 2 ^ 30) (e : Edits) (n raw after : Con
       same : at_key m k ≡ at_key n k
       same = edited_off e n k (off_both k off).1
 
-      no_pad : (r : Content) (c : Attr) → HasStat r (object_of (key_of_rank k)) c → (c.size ≤ offset_of (key_of_rank k) → ⊥) → IsPadding r (key_of_rank k) (Byte y) → ⊥
-      no_pad r c stat above (d, there, le) = above (subst (λ (x : Attr). x.size ≤ offset_of (key_of_rank k)) (one_attr r (object_of (key_of_rank k)) d c there stat) le)
+      no_pad : (r : Content) (c : Attr) → HasStat r (object_of (key_of_rank k)) c
+          → (c.size ≤ offset_of (key_of_rank k) → ⊥) → IsPadding r (key_of_rank k) (Byte y) → ⊥
+      no_pad r c stat above (d, there, le) =
+          above (subst (λ (x : Attr). x.size ≤ offset_of (key_of_rank k))
+          (one_attr r (object_of (key_of_rank k)) d c there stat) le)
 
       to : a.size ≤ offset_of (key_of_rank k) → b.size ≤ offset_of (key_of_rank k)
       to le = elim (dec_le b.size (offset_of (key_of_rank k))) [
         | yes past ↦ past
-        | no above ↦ absurd (((h.visible k (Byte y)).0 (sym same ∙ (seen k (Byte y)).1 (now, no_pad after b stat_b above))).1 (a, stat_a, le))
+        | no above ↦ absurd (((h.visible k (Byte y)).0 (sym same
+            ∙ (seen k (Byte y)).1 (now, no_pad after b stat_b above))).1 (a, stat_a, le))
       ]
 
       from : b.size ≤ offset_of (key_of_rank k) → a.size ≤ offset_of (key_of_rank k)
       from le = elim (dec_le a.size (offset_of (key_of_rank k))) [
         | yes past ↦ past
-        | no above ↦ absurd (((seen k (Byte y)).0 (same ∙ (h.visible k (Byte y)).1 (at, no_pad raw a stat_a above))).1 (b, stat_b, le))
+        | no above ↦ absurd (((seen k (Byte y)).0 (same ∙ (h.visible k (Byte y)).1 (at, no_pad raw a stat_a above))).1
+            (b, stat_b, le))
       ]
 
-  kept_byte : (k y : ℕ) (a : Attr) → is_in changed k ≡ false → at_key raw k ≡ Some (Byte y) → HasStat raw (object_of (key_of_rank k)) a
+  kept_byte : (k y : ℕ) (a : Attr) → is_in changed k ≡ false → at_key raw k ≡ Some (Byte y)
+      → HasStat raw (object_of (key_of_rank k)) a
       → (b : Attr) × HasStat after (object_of (key_of_rank k)) b × (is_directory b ≡ false)
       × ((a.size ≤ offset_of (key_of_rank k)) ↔ (b.size ≤ offset_of (key_of_rank k)))
   kept_byte k y a off at stat =
@@ -91,6 +103,7 @@ module _ (limit : ℕ) (small : limit ≤ 2 ^ 30) (e : Edits) (n raw after : Con
     fits = λ k v on at. of_pads k v at (each_unit e n raw after moved h k);
     seen = λ k v on. seen k v;
     kept = λ k y a off at stat file on. kept_byte k y a off at stat;
-    bodies = λ o b stat file on. let le = lawful.small o b (stat_seen o b stat) file in (omega (arith, le, small), kinds o b stat file on);
+    bodies = λ o b stat file on. let le =
+        lawful.small o b (stat_seen o b stat) file in (omega (arith, le, small), kinds o b stat file on);
     bytes = λ o b stat on. lawful.bytes o b (stat_seen o b stat);
   }

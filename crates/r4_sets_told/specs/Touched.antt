@@ -36,7 +36,8 @@ pub record IsTouchedBy (limit : ℕ) (x : Command) (n : Content) (touched change
       → is_in touched (byte_rank o (a.size - 1)) ≡ true
 
 -- What a change has to show to do a command of this project in the tree u, with the units `raw`, of which n is visible:
--- that it is a patch of the tree, its effect on units, that these are moved as the command's edits say, the keys, and in
+-- that it is a patch of the tree, its effect on units, that these are moved as the command's edits say, the keys, and
+-- in
 -- which kind of cells each body stands that it touches. After it the units are `after`.
 pub record IsBuiltFor
     (limit : ℕ) (x : Command) (u : Store Value) (root : Root) (raw n : Content) (d : Patch Value)
