@@ -1,0 +1,5 @@
+pub mod Units
+pub mod Session
+pub mod Change
+pub mod Atoms
+pub mod Renaming

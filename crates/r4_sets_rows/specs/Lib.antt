@@ -1,0 +1,4 @@
+pub mod Small
+pub mod Worked
+pub mod Needed
+pub mod OneFile
