@@ -211,16 +211,24 @@ def crates_without_rows():
             yield f"README.md has a row of {len(line)} characters: {line[:30]}"
 
 
+def has_section(page, section):
+    return re.search(rf"^#+ {re.escape(section)}$", read(f"docs/{page}"), re.M)
+
+
 def stale_rules():
     """Files that docs/changing.md names and that are not there, and names that a file does not have."""
     for line in read("docs/changing.md").split("\n"):
-        for path, names in re.findall(r"`((?:crates|docs|tools)/[\w/.-]+)`((?: `[^`]+`)*)", line):
-            if not os.path.exists(f"{ROOT}/{path}"):
+        for path, names in re.findall(r"`(r4_\w+/[\w/.-]+)`((?: `[^`]+`)*)", line):
+            if not os.path.exists(f"{ROOT}/crates/{path}"):
                 yield f"docs/changing.md names {path}, which is not there"
                 continue
             for name in re.findall(r"`([^`]+)`", names):
-                if name not in read(path):
+                if not re.search(rf"\b{re.escape(name)}\b", read(f"crates/{path}")):
                     yield f"docs/changing.md names {name} of {path}, which does not have it"
+        for page, sections in re.findall(r"([\w-]+\.md)((?:(?:, | and )\"[^\"]+\")*)", line):
+            for section in re.findall(r"\"([^\"]+)\"", sections):
+                if not has_section(page, section):
+                    yield f'docs/changing.md names "{section}" of {page}, which does not have it'
 
 
 def missing_sections():
@@ -233,7 +241,7 @@ def missing_sections():
             where = os.path.relpath(path, ROOT)
             if not os.path.exists(f"{ROOT}/{page}"):
                 yield f"{where} names {page}, which is not there"
-            elif section and not re.search(rf"^#+ {re.escape(section)}$", read(page), re.M):
+            elif section and not has_section(page[5:], section):
                 yield f'{where} names "{section}" of {page}, which does not have it'
 
 
