@@ -1,17 +1,16 @@
 #!/usr/bin/env python3
 """Builds the program for ./r4, proved, into out/ of the repository, and tells on standard error how far it is.
 
-The crates that the program stands on are proved first. Those that do not wait for each other are proved side by side,
-as many as there are processors and 4 GiB of free memory for each; of those that may begin, the one with the most work
-above it comes first. Behind out/r4_tool stands out/sources, the folders of which it was built: ./r4 looks there alone
-for what is newer. Both are as old as the beginning of the build, so that what is changed meanwhile counts as newer.
+The kit proves the crates that the program stands on, those side by side that do not wait for each other: as many at a
+time as there are processors, and 4 GiB of free memory for each. Behind out/r4_tool stands out/sources, the folders of
+which it was built: ./r4 looks there alone for what is newer. The program is as old as the beginning of its build, so
+that what is changed meanwhile counts as newer.
 """
 import os
 import shutil
 import signal
 import subprocess
 import sys
-import tempfile
 import time
 
 ROOT = os.path.dirname(os.path.dirname(os.path.abspath(__file__)))
@@ -24,33 +23,22 @@ def tell(text):
 
 
 def needs():
-    """The program and each crate of this repository below it, with the crates on which it stands itself."""
+    """The program and each crate of this repository below it, with all crates below each."""
     lines = {}
     with open(f"{ROOT}/crates.txt") as file:
         for line in file:
             name, colon, rest = line.split("#")[0].partition(":")
             if colon:
                 lines[name.split()[0]] = rest.split()
-    found, left = {}, [PROGRAM]
-    while left:
-        name = left.pop()
-        if name not in found:
-            found[name] = [low for low in lines[name] if low in lines]
-            left += found[name]
-    return found
-
-
-def heights(stands_on):
-    """How many crates, one above the other, wait for each crate."""
     found = {}
 
-    def height(name):
+    def below(name):
         if name not in found:
-            found[name] = max((1 + height(high) for high, lows in stands_on.items() if name in lows), default=0)
+            lows = [low for low in lines[name] if low in lines]
+            found[name] = set(lows).union(*(below(low) for low in lows))
         return found[name]
 
-    for name in stands_on:
-        height(name)
+    below(PROGRAM)
     return found
 
 
@@ -60,63 +48,59 @@ def side_by_side():
     return max(1, min(len(os.sched_getaffinity(0)), free // MEMORY))
 
 
-def start(name):
-    """Begins a crate, with a file for what is said of it. The program is run on its stored words, to be built."""
-    command = ["rt", "run", "--", "replay", "data/empty.img"] if name == PROGRAM else ["rt", "lib"]
-    log = tempfile.TemporaryFile()
-    folder = f"{ROOT}/crates/{name}"
-    nothing = subprocess.DEVNULL
-    return subprocess.Popen(command, cwd=folder, stdin=nothing, stdout=log, stderr=log, start_new_session=True), log
+def tell_left(below, done, most):
+    """Which crates are being proved: the kit takes those first that have the fewest below them."""
+    ready = sorted((name for name in below.keys() - done if below[name] <= done), key=lambda it: (len(below[it]), it))
+    left = len(below) - len(done)
+    if left:
+        tell(f"{left} {'crate is' if left == 1 else 'crates are'} left: proves {', '.join(ready[:most])}")
 
 
-def stop(running):
-    """Ends what is under way, with the processes that it started."""
-    for process, _ in running.values():
+def kit(command):
+    """Begins a command of the kit. It has a session of its own, so that it ends with all that it started."""
+    streams = {"stdin": subprocess.DEVNULL, "stdout": subprocess.PIPE, "stderr": subprocess.STDOUT}
+    return subprocess.Popen(command, cwd=f"{ROOT}/crates/{PROGRAM}", text=True, start_new_session=True, **streams)
+
+
+def follow(process, line_read):
+    """Reads all that a command says, and answers whether it went well; if not, the last lines are told."""
+    said = []
+    try:
+        for line in process.stdout:
+            said.append(line)
+            line_read(line)
+    except KeyboardInterrupt:
         os.killpg(process.pid, signal.SIGTERM)
         process.wait()
+        sys.exit(130)
+    if process.wait() != 0:
+        print("".join(said[-20:]), file=sys.stderr, end="")
+    return process.returncode == 0
 
 
-def ended(running):
-    """Waits until a crate ends, and takes it out."""
-    while True:
-        for name, (process, log) in running.items():
-            if process.poll() is not None:
-                del running[name]
-                return name, process.returncode, log
-        time.sleep(0.1)
+def prove(below):
+    """Proves all crates. Behind `== NAME` the kit says of a crate, when it is done, what it did."""
+    most, done = side_by_side(), set()
+    tell_left(below, done, most)
+
+    def line_read(line):
+        name = line[3:].strip() if line.startswith("== ") else None
+        if name in below:
+            done.add(name)
+            tell_left(below, done, most)
+
+    return follow(kit(["rt", "all", "check", "--jobs", str(most)]), line_read)
 
 
-def tell_failure(name, log):
-    log.seek(0)
-    lines = log.read().decode(errors="replace").splitlines()
-    print("\n".join(lines[-20:]), file=sys.stderr)
-    tell(f"{name} was not built, so the program was not")
+def link():
+    """The kit links the program where it runs it, on its stored words."""
+    return follow(kit(["rt", "run", "--", "replay", "data/empty.img"]), lambda line: None)
 
 
-def prove(stands_on, running):
-    """Proves and builds all, and answers whether that went well."""
-    height, most = heights(stands_on), side_by_side()
-    waiting, done = set(stands_on), set()
-    while len(done) < len(stands_on):
-        ready = [name for name in waiting if all(low in done for low in stands_on[name])]
-        for name in sorted(ready, key=lambda it: (-height[it], it))[: most - len(running)]:
-            waiting.remove(name)
-            running[name] = start(name)
-            tell(f"proves {name}")
-        name, status, log = ended(running)
-        if status != 0:
-            tell_failure(name, log)
-            return False
-        done.add(name)
-        left = len(stands_on) - len(done)
-        tell(f"{name} is proved, {left} {'is' if left == 1 else 'are'} left" if left else "the program is built")
-    return True
-
-
-def keep(stands_on, began):
+def keep(below, began):
     """Puts the program and the list of its sources into out/."""
     os.makedirs(f"{ROOT}/out", exist_ok=True)
-    folders = [f"crates/{name}/{part}" for name in sorted(stands_on) for part in ("src", "specs", "proofs")]
+    folders = [f"crates/{name}/{part}" for name in sorted(below) for part in ("src", "specs", "proofs")]
     with open(f"{ROOT}/out/sources", "w") as file:
         file.writelines(f"{folder}\n" for folder in folders if os.path.isdir(f"{ROOT}/{folder}"))
     new = f"{ROOT}/out/{PROGRAM}.new"
@@ -128,17 +112,13 @@ def keep(stands_on, began):
 
 def main():
     began = time.time()
-    stands_on = needs()
-    tell(f"builds the program: {len(stands_on)} crates are proved, which takes minutes the first time")
-    running = {}
-    try:
-        if not prove(stands_on, running):
-            return 70
-    except KeyboardInterrupt:
-        return 130
-    finally:
-        stop(running)
-    keep(stands_on, began)
+    below = needs()
+    tell(f"builds the program: {len(below)} crates are proved, which takes minutes the first time")
+    if not (prove(below) and link()):
+        tell("the program was not built")
+        return 70
+    keep(below, began)
+    tell("the program is built")
     return 0
 
 
