@@ -168,7 +168,6 @@ def trust_page():
             out[-1] += f" {len(new)} of them, {lines_of(new)} lines, are not in the tables above:"
         out += ["", *table(new, specs)]
         read.update(under)
-    every = len(set(specs.definitions.values()))
     out += ["", "## What is left out", ""]
     for kind, says in (
         ("types", "The types of the program, whose fields and variants the definitions name"),
@@ -182,7 +181,7 @@ def trust_page():
         "A proof says that the code does what the definitions say. That the definitions say what a reader takes them to"
         " say, no proof tells. This page lists, for each promise of the top call `r4_main` (`r4_top/src/top.rt`), the"
         " definitions on which it rests, so that they can be read and all else can be skipped: "
-        f"{len(read)} of {every}, {lines_of(read)} lines with their comments.",
+        f"{len(read)} definitions, {lines_of(read)} lines with their comments, serve all three commands.",
         "",
         "In each table the promise comes first, and then what it names. Within a file the definitions are best read in"
         " the order in which they stand. tools/pages.py makes this page; it finds the definitions by their names, so"
