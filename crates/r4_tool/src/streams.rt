@@ -1,7 +1,6 @@
 //! Standard input and output. They tell nothing of the text that goes through them.
 
-ghost use Rattle.std.specs.Prelude.{◌≡◌, ◌++◌, OnErr, OnOk};
-ghost use Rattle.circular_buffer.specs.Buffer.{keep_last};
+ghost use Rattle.std.specs.Prelude.{◌≡◌, OnErr, OnOk, IfOk};
 ghost use Rattle.r4_outside.specs.Device.{next};
 
 use circular_buffer::HeapCircularBuffer;
@@ -56,7 +55,10 @@ pub struct OutputText<W: Write + Drop> {
 
 impl<W: Write + Drop> OutputText<W> {
     /// Takes the memory of the buffer.
-    pub fn new(alloc: Global, writer: W) -> io::Result<OutputText<W>> {
+    pub fn new(alloc: Global, writer: W) -> io::Result<OutputText<W>>
+        ensures remembers { IfOk result (λ s. s.last.capacity ≡ 64) }
+        ensures faults { IfOk result (λ s. s.faults ≡ 0) }
+    {
         Ok(OutputText {
             out: BufWriter::with_capacity(alloc, GATHERED, writer)?,
             last: HeapCircularBuffer::with_capacity(alloc, REMEMBERED)?,
@@ -84,11 +86,19 @@ impl<W: Write + Drop> OutputText<W> {
 }
 
 impl<W: Write + Drop> Sink for OutputText<W> {
+    ghost use Rattle.std.specs.Prelude.{◌≡◌, ◌++◌, OnOk};
+    ghost use Rattle.circular_buffer.specs.Buffer.{keep_last};
+    ghost use Rattle.r4_outside.specs.Sink.{Appends};
     ghost use Rattle.r4_tool.specs.Edge.{output_state};
 
     ghost state = { λ s. output_state s.faults };
 
-    fn write(&mut self, bytes: &[u8]) -> Result<(), Failed> {
+    fn write(&mut self, bytes: &[u8]) -> Result<(), Failed>
+        ensures appends { Appends bytes.now (output_state self.old.faults) result (output_state self.new.faults) }
+        ensures capacity { self.new.last.capacity ≡ self.old.last.capacity }
+        ensures last { OnOk result
+            (self.new.last.items ≡ keep_last self.old.last.capacity (self.old.last.items ++ bytes.now)) }
+    {
         let Ok(()) = self.out.write_all(bytes) else {
             return Err(missed(&mut self.faults));
         };
