@@ -43,8 +43,8 @@ impl<F: Seek + FileExt + OpenFile + Drop> Model for FileDevice<F> {
 }
 
 impl<F: Seek + FileExt + OpenFile + Drop> FileDevice<F> {
-    /// The file of that name, for reading and writing where it may be written. It is not made where there is none. No call
-    /// is counted yet.
+    /// The file of that name, for reading and writing, or for reading where it may not be written. It is not made where
+    /// there is none. No call is counted yet.
     pub fn open<X: Files<File = F>>(rt: &X, name: &str) -> FileDevice<F>
         ensures counts { (result.clock ≡ 0) × (result.faults ≡ 0) }
         ensures trouble { IfSome result.trouble (λ t. t.call ≡ FileCall.Open) }
@@ -156,7 +156,10 @@ impl<F: Seek + FileExt + OpenFile + Drop> FileDevice<F> {
 
     // Counts a call that failed, and keeps it where it is the first.
     fn missed(&mut self, call: FileCall, error: io::Error) -> Failed
-        ensures faults { self.new ≡ record self.old { faults = next self.old.faults; trouble = self.new.trouble } }
+        ensures faults { self.new ≡ record self.old {
+          faults = next self.old.faults;
+          trouble = self.new.trouble;
+        } }
         ensures no_less { self.old.faults ≤ self.new.faults }
         ensures noted { IsNoted call self.old.trouble self.new.trouble }
     {
@@ -188,7 +191,8 @@ impl<F: Seek + FileExt + OpenFile + Drop + Send> Device for FileDevice<F> {
     fn read(&mut self, at: BlockNo, into: &mut Block) -> Result<(), Failed>
         requires { at.0 < self.old.blocks }
         ensures reads { Reads at.0 into.new (file_told self.old) result (file_told self.new) }
-        ensures noted { OnErr result (IsNoted (FileCall.Read at) self.old.trouble self.new.trouble) }
+        ensures noted { OnErr result
+            (IsNoted (FileCall.Read at) self.old.trouble self.new.trouble) }
         ensures kept { OnOk result (self.new.trouble ≡ self.old.trouble) }
     {
         match read_block(&self.file, at, into) {
@@ -200,7 +204,8 @@ impl<F: Seek + FileExt + OpenFile + Drop + Send> Device for FileDevice<F> {
     fn write(&mut self, at: BlockNo, from: &Block) -> Result<(), Failed>
         requires { at.0 < self.old.blocks }
         ensures writes { Writes at.0 from.now (file_told self.old) result (file_told self.new) }
-        ensures noted { OnErr result (IsNoted (FileCall.Write at) self.old.trouble self.new.trouble) }
+        ensures noted { OnErr result
+            (IsNoted (FileCall.Write at) self.old.trouble self.new.trouble) }
         ensures kept { OnOk result (self.new.trouble ≡ self.old.trouble) }
     {
         match self.write_block(at, from) {

@@ -12,4 +12,5 @@ call_text Sync = codes "sync: "
 
 -- an image of so many blocks, which are too few or too many
 abbrev pub size_text : ℕ → List ℕ
-size_text blocks = codes "it has " ++ (decimal blocks ++ codes " blocks of 4096 bytes, and a volume has from 64 to 1048576")
+size_text blocks =
+    codes "it has " ++ (decimal blocks ++ codes " blocks of 4096 bytes, and a volume has from 64 to 1048576")

@@ -15,7 +15,8 @@ const IMAGE: &str = "image: block ";
 /// Which call of the image's file failed, and what the system says of it.
 #[tactic(auto, using(crate::proofs::Starting::starts_with_front))]
 pub fn of_device(alloc: Global, trouble: Option<Trouble>) -> Result<String, Memory>
-    ensures { IfSome trouble (λ t. IfOk result (λ s. StartsWith (string_bytes s) (call_text t.call))) }
+    ensures { IfSome trouble
+        (λ t. IfOk result (λ s. StartsWith (string_bytes s) (call_text t.call))) }
 {
     let Some(Trouble { call, error }) = trouble else {
         return format!(in alloc; "the file failed");

@@ -94,7 +94,8 @@ impl<W: Write + Drop> Sink for OutputText<W> {
     ghost state = { λ s. output_state s.faults };
 
     fn write(&mut self, bytes: &[u8]) -> Result<(), Failed>
-        ensures appends { Appends bytes.now (output_state self.old.faults) result (output_state self.new.faults) }
+        ensures appends { Appends bytes.now
+            (output_state self.old.faults) result (output_state self.new.faults) }
         ensures capacity { self.new.last.capacity ≡ self.old.last.capacity }
         ensures last { OnOk result
             (self.new.last.items ≡ keep_last self.old.last.capacity (self.old.last.items ++ bytes.now)) }
