@@ -2,6 +2,9 @@
 # The speed of a listing: sh bench/list.sh [ROUNDS], after ./r4 has built the program; python3 makes the image.
 # A volume of 20 directories with 100 files each is listed, and `ls -lR` lists as many files in a directory of the file
 # system. Both read what the page cache holds. The fastest round of each is printed.
+# Calls of the system in one such listing of 58,479 bytes, by `strace -c`, all in all: 151, of which 111 are pread64 (109
+# blocks, and two of the program's start) and one is write, at most one for each 64 KiB. Before standard output was
+# gathered there were 2,279, of which 2,021 were write.
 set -eu
 
 rounds=${1:-15}

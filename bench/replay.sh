@@ -2,6 +2,9 @@
 # The speed of a replay: sh bench/replay.sh [ROUNDS], after ./r4 has built the program.
 # A transaction of 254 pairs is put in place, and dd copies as many blocks with as many syncs. Both work on fresh copies
 # of one image, which the page cache holds. The fastest round of each is printed.
+# Calls of the system in one such replay, by `strace -c`, all in all: 553, of which 260 are pread64 (258 blocks, and two of
+# the program's start), 255 pwrite64 and 2 fdatasync, so one for each block that is read or written. Before reads and
+# writes had a position there were 1,068, of which 515 were lseek.
 set -eu
 
 rounds=${1:-15}

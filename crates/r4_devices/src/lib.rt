@@ -7,9 +7,11 @@ mod held;
 mod picks;
 mod stop;
 mod torn;
+mod trouble;
 
 pub use file::FileDevice;
 pub use stop::{StopDevice, Unmade};
+pub use trouble::{FileCall, Trouble};
 
 #[cfg(test)]
 mod tests;

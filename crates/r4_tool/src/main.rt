@@ -1,26 +1,28 @@
 //! `r4_tool`: the storage core's program (docs/program.md).
 #![tactic(auto)]
 
+mod complaints;
 mod streams;
 #[cfg(test)]
 mod tests;
 
+use complaints::{of_device, of_image, of_size};
 use r4_devices::FileDevice;
-use r4_outside::{OpenGate, Sink, Unnamed};
+use r4_outside::{Device, OpenGate, Unnamed};
 use r4_top::{Status, r4_main};
+use std::fs::File;
+use std::io::Stdout;
 use std::process::ExitCode;
 use std::{env, io};
 use streams::{InputText, OutputText};
 
 fn main(rt: HostRuntime) -> ExitCode {
-    let mut script = InputText::new(rt.reader());
-    let mut out = OutputText::new(&rt);
+    let Ok(mut out) = OutputText::new(rt.alloc(), rt.stdout()) else {
+        return no_memory(&rt);
+    };
     let words = match command_words(&rt) {
         Ok(words) => words,
-        Err(fault) if fault.kind() == io::ErrorKind::OutOfMemory => {
-            let _ = out.write(b"memory\n");
-            return ExitCode::from(9);
-        }
+        Err(fault) if fault.kind() == io::ErrorKind::OutOfMemory => return no_memory(&rt),
         // Words that are not text are no command.
         Err(_) => Vec::new(rt.alloc()),
     };
@@ -34,12 +36,14 @@ fn main(rt: HostRuntime) -> ExitCode {
         rt.alloc(),
         &words,
         &mut dev,
-        &mut script,
+        &mut InputText::new(rt.reader()),
         &mut out,
         &OpenGate,
         Unnamed::new(),
     );
-    ExitCode::from(code)
+    let is_printed = out.flush().is_ok();
+    complain(&rt, name, code, &mut dev, &mut out);
+    ExitCode::from(if code == 0 && !is_printed { 5 } else { code })
 }
 
 // The words of the command line, without the program's own name.
@@ -49,4 +53,33 @@ fn command_words(rt: &HostRuntime) -> io::Result<Vec<String>> {
         words.push(word)?;
     }
     Ok(words)
+}
+
+// Where there is no memory for the words or for what is printed.
+fn no_memory(rt: &HostRuntime) -> ExitCode {
+    let _ = println!(rt; "memory");
+    let _ = eprintln!(rt; "r4: there is not enough memory");
+    ExitCode::from(9)
+}
+
+// Says on standard error why a command failed. Where that is not possible, the status is as it is.
+fn complain(
+    rt: &HostRuntime,
+    name: &str,
+    code: u8,
+    dev: &mut FileDevice<File>,
+    out: &mut OutputText<Stdout>,
+) {
+    let alloc = rt.alloc();
+    let text = match code {
+        6 => of_device(alloc, dev.trouble()),
+        7 => of_image(alloc, out.last()),
+        8 => of_size(alloc, dev.blocks().unwrap_or(0)),
+        9 => format!(in alloc; "there is not enough memory"),
+        _ => return,
+    };
+    let _ = match &text {
+        Ok(text) => eprintln!(rt; "r4: {name}: {text}"),
+        Err(_) => eprintln!(rt; "r4: {name}: there is not enough memory"),
+    };
 }

@@ -1,10 +1,12 @@
-//! A file as a device.
+//! A file as a device, what is said on standard error, and the buffer of standard output.
 
+use crate::complaints::{of_device, of_image, of_size};
+use crate::streams::OutputText;
 use r4_base::{Block, BlockNo};
-use r4_devices::FileDevice;
-use r4_outside::{Device, Failed};
+use r4_devices::{FileCall, FileDevice, Trouble};
+use r4_outside::{Device, Failed, Sink};
 use std::test::Fail;
-use std::{fs, process};
+use std::{fs, io, process};
 
 #[test]
 fn a_file_keeps_its_blocks(rt: HostRuntime) -> Result<(), Fail> {
@@ -32,5 +34,82 @@ fn a_file_keeps_its_blocks(rt: HostRuntime) -> Result<(), Fail> {
     assert_eq!(rt; none.blocks(), Err(Failed));
     assert_eq!(rt; none.sync(), Err(Failed));
     assert_eq!(rt; (none.clock(), none.faults()), (1, 2));
+    Ok(())
+}
+
+// Calls that fail with an error of the system, by its number, and what is said of them.
+static TROUBLES: [(FileCall, i32, &str); 5] = [
+    (FileCall::Open, 2, "No such file or directory"),
+    (
+        FileCall::Read(BlockNo(7)),
+        5,
+        "read of block 7: Input/output error",
+    ),
+    (
+        FileCall::Write(BlockNo(23)),
+        28,
+        "write of block 23: No space left on device",
+    ),
+    (
+        FileCall::Write(BlockNo(16)),
+        13,
+        "write of block 16: Permission denied",
+    ),
+    (FileCall::Sync, 5, "sync: Input/output error"),
+];
+
+#[test]
+fn failed_calls_are_told(rt: HostRuntime) -> Result<(), Fail> {
+    for &(call, number, wanted) in &TROUBLES {
+        let error = io::Error::from_raw_os_error(number);
+        let said = of_device(rt.alloc(), Some(Trouble { call, error }))?;
+        assert_eq!(rt; said.as_str(), wanted);
+    }
+    Ok(())
+}
+
+// What was printed last, and what is said of it.
+static REFUSED: [(&[u8], &str); 4] = [
+    (
+        b"image: block 901: record magic\n",
+        "block 901: it is not a record of the log",
+    ),
+    (
+        b"\xff/f\nimage: block 3: key range\n",
+        "block 3: it has a key outside of its range, or is named for two ranges",
+    ),
+    (
+        b"image: block 1: range\nimage: block 2: dir\n",
+        "block 2: entries of a directory in it are wrong",
+    ),
+    (b"image: block 901: ", "the image is refused"),
+];
+
+#[test]
+fn refused_images_are_told(rt: HostRuntime) -> Result<(), Fail> {
+    for &(printed, wanted) in &REFUSED {
+        let said = of_image(rt.alloc(), printed)?;
+        assert_eq!(rt; said.as_str(), wanted);
+    }
+    Ok(())
+}
+
+#[test]
+fn sizes_are_told(rt: HostRuntime) -> Result<(), Fail> {
+    let said = of_size(rt.alloc(), 63)?;
+    let wanted = "it has 63 blocks of 4096 bytes, and a volume has from 64 to 1048576";
+    assert_eq!(rt; said.as_str(), wanted);
+    Ok(())
+}
+
+// A writer with room for three bytes takes four only until they are flushed.
+#[test]
+fn text_is_gathered(rt: HostRuntime) -> Result<(), Fail> {
+    let mut room = [0u8; 3];
+    let mut out = OutputText::new(rt.alloc(), room.as_mut_slice())?;
+    assert_eq!(rt; out.write(b"memo"), Ok(()));
+    assert_eq!(rt; out.last(), b"memo".as_slice());
+    assert_eq!(rt; out.flush(), Err(Failed));
+    assert_eq!(rt; out.faults(), 1);
     Ok(())
 }
