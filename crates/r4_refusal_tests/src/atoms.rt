@@ -1,0 +1,43 @@
+//! Transactions that are begun, and nodes that their atoms capture.
+
+use crate::same::same;
+use r4_atoms::{Atoms, CaptureFault};
+use r4_base::{AtomNo, NodeId, ScriptNo};
+use std::test::Fail;
+
+#[test]
+fn atoms_stay_where_memory_is_refused(rt: HostRuntime) -> Result<(), Fail> {
+    let alloc = rt.alloc();
+    let mut atoms = Atoms::new(alloc);
+    if atoms.begin(alloc, ScriptNo(1)).is_err() {
+        same(&rt, &atoms.begun(), &0, "transactions, as before");
+        same(
+            &rt,
+            &atoms.begin(alloc, ScriptNo(1)).is_ok(),
+            &true,
+            "begun when it comes again",
+        );
+    }
+    same(&rt, &atoms.begun(), &1, "transactions");
+    let (atom, node) = (AtomNo(1), NodeId(23));
+    if !atoms.is_atom(atom) || atoms.is_sealed(atom) {
+        return Err(Fail::from("an open atom"));
+    }
+    if let Err(fault) = atoms.capture(alloc, atom, node) {
+        same(
+            &rt,
+            &fault,
+            &CaptureFault::Memory,
+            "why it was not captured",
+        );
+        same(&rt, &atoms.owner(node), &None, "the node, as before");
+        same(
+            &rt,
+            &atoms.capture(alloc, atom, node),
+            &Ok(()),
+            "captured when it comes again",
+        );
+    }
+    same(&rt, &atoms.owner(node), &Some(atom), "the node");
+    Ok(())
+}

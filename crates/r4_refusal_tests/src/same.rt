@@ -1,0 +1,9 @@
+//! An assertion is proved at each place where it stands, so there is one for all of them.
+
+use std::fmt::Debug;
+use std::process::Abort;
+
+/// Ends the test unless the two are equal. `what` says what they are.
+pub fn same<T: PartialEq + Debug, X: Abort>(rt: &X, got: &T, wanted: &T, what: &str) {
+    assert_eq!(rt; *got, *wanted, "{what}");
+}
