@@ -4,7 +4,7 @@
 # system. Both read what the page cache holds. The fastest round of each is printed.
 # Calls of the system in one such listing of 58,479 bytes, by `strace -c`, all in all: 151, of which 111 are pread64 (109
 # blocks, and two of the program's start) and one is write, at most one for each 64 KiB. Before standard output was
-# gathered there were 2,279, of which 2,021 were write.
+# gathered there were 2,279, of which 2,021 were write. The ratio was 0.34 then, and 0.22 since, each measured once.
 set -eu
 
 rounds=${1:-15}

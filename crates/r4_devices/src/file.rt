@@ -1,6 +1,6 @@
 //! An image in a file: the edge where what is proved meets the system.
 
-ghost use Rattle.std.specs.Prelude.{◌*◌, ◌<◌, ◌^◌, ◌≡◌, ◌≤◌, ◌-◌, false, IfSome, OnErr, OnOk};
+ghost use Rattle.std.specs.Prelude.{◌*◌, ◌<◌, ◌^◌, ◌≡◌, ◌≤◌, ◌-◌, IfSome, OnOk};
 ghost use Rattle.r4_outside.specs.Device.{next};
 ghost use Rattle.r4_devices.specs.File.{IsNoted};
 
