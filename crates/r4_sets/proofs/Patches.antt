@@ -19,6 +19,15 @@ use Rattle.r4_sets.specs.Atoms.{fused}
 use Rattle.r4_sets.specs.Session.{ChoosesAlike, FindsAlike, IsTreeOf, Session, Stands, also, cells, nothing, only}
 use Rattle.r4_sets.specs.Session.{patch_of, picks, root_with}
 use Rattle.r4_sets.proofs.Choosing.{pick_none}
+use Rattle.std.specs.Prelude.{◌≤◌, IsSome}
+use Rattle.std.proofs.lemmas.Bool.{ne_eqb}
+use Rattle.std.proofs.lemmas.Option.{none-some}
+use Rattle.r4_base.specs.Tree.{IsTree}
+use Rattle.r4_cell.specs.Patch.{IsPatch, Meets}
+use Rattle.r4_patch.proofs.Converse.{patch_from_trees}
+use Rattle.r4_sets.specs.Atoms.{sealed, without}
+use Rattle.r4_sets.specs.Session.{Sets}
+use Rattle.r4_sets.proofs.Gathered.{under_stands}
 
 -- ---- patches
 
@@ -165,3 +174,84 @@ fused_patch c a b node i = (
   both_olds c a.0 b.0 (c.owner i)
       (c.memory i),
 )
+
+-- ---- the patch of an atom is one of the tree under the open atoms
+
+module _ (w : Meaning Command Reply) (c : Session) (sets : Sets w c) (a : ℕ) where
+  -- by the owner
+  of_pick : {A : Type 0} (o : Option ℕ) (x : Option A) (v : A) → cond (picks (only a) o) x None ≡ Some v → (o ≡ Some a)
+      × (x ≡ Some v)
+  of_pick None x v e = absurd (none-some v e)
+  of_pick {A} (Some n) x v e = by_test (n == a) refl e
+    where
+      by_test : (q : Bool) → (n == a) ≡ q → cond q x None ≡ Some v → (◌≡◌ {A = Option ℕ} (Some n) (Some a))
+          × (x ≡ Some v)
+      by_test true is h = (ap Some (eqb-true n a is), h)
+      by_test false is h = absurd (none-some v h)
+
+  pick_own : {A : Type 0} (o : Option ℕ) (x y : A) → o ≡ Some a → cond (picks (only a) o) x y ≡ x
+  pick_own o x y e = ap (λ p. cond (picks (only a) p) x y) e ∙ ap (λ b. cond b x y) (eq-eqb a a refl)
+
+  -- where the root pair is the atom's, so is the root under it
+  under_root : c.owner c.root.id ≡ Some a → c.owner c.under.root.id ≡ Some a
+  under_root own = elim sets.one_root [
+    | inl same ↦ ap (λ (r : Root). c.owner r.id) (sym same) ∙ own
+    | inr h ↦ let (n, at_root, at_under) = h in at_under ∙ sym at_root ∙ own
+  ]
+
+  pub meets_under : Meets (patch_of c a) c.under.cells c.under.root
+  meets_under = record {
+    has_old = λ i o e. (of_pick (c.owner i) (c.under.cells i) o e).1;
+    free = λ i o e gone. let own =
+        (of_pick (c.owner i) (c.memory i) o e).0 in sym (pick_own (c.owner i) (c.under.cells i) None own) ∙ gone;
+    root_old = λ h.
+        let (r, e) = some_root (cond (picks (only a) (c.owner c.root.id)) (Some c.root) None) h in
+        let own = under_root (of_pick (c.owner c.root.id) (Some c.root) r e).0 in
+        let tree = (under_stands w c sets).is.tree in
+        (tree.root_node, pick_own (c.owner c.under.root.id) (c.under.cells c.under.root.id) None own ∙ tree.root_is);
+  }
+    where
+      some_root : (o : Option Root) → IsSome o → (r : Root) × (o ≡ Some r)
+      some_root (Some r) h = (r, refl)
+      some_root None h = absurd (let f : false ≡ true = h in cc)
+
+  pub patch_under : c.under.root.height ≤ (root_with c (only a)).height → IsPatch (patch_of c a)
+  patch_under le =
+      patch_from_trees (patch_of c a) c.under.cells c.under.root (under_stands w c sets).is.tree meets_under
+      (subst (λ t. IsTree t (root_after (patch_of c a) c.under.root)) (sym cells_are)
+      (subst (IsTree (cells c (only a))) (sym root_is) (sets.each (only a)).is.tree))
+      (subst (λ (r : Root). c.under.root.height ≤ r.height) (sym root_is) le)
+    where
+      one_more : (o : Option ℕ) (x y : Option (Node Value))
+          → over (cond (picks (only a) o) x None) (cond (picks (only a) o) y None) y ≡ cond (picks (only a) o) x y
+      one_more None x y = refl
+      one_more (Some n) x y = kept_one (n == a) x y
+        where
+          kept_one : (b : Bool) (x y : Option (Node Value)) → over (cond b x None) (cond b y None) y ≡ cond b x y
+          kept_one true (Some z) y = refl
+          kept_one true None (Some z) = refl
+          kept_one true None None = refl
+          kept_one false x y = refl
+
+      cells_are : place (patch_of c a) c.under.cells ≡ cells c (only a)
+      cells_are j i = one_more (c.owner i) (c.memory i) (c.under.cells i) j
+
+      one_root_more : (o : Option ℕ) (x y : Root) → unwrap_or (cond (picks (only a) o) (Some x) None) y
+          ≡ cond (picks (only a) o) x y
+      one_root_more None x y = refl
+      one_root_more (Some n) x y = kept_root (n == a) false x y ∙ or_no (n == a) x y
+        where
+          or_no : (b : Bool) (x y : Root) → cond (b || false) x y ≡ cond b x y
+          or_no true x y = refl
+          or_no false x y = refl
+
+      root_is : root_after (patch_of c a) c.under.root ≡ root_with c (only a)
+      root_is = one_root_more (c.owner c.root.id) c.root c.under.root
+
+-- ---- the cells of an atom that is sealed
+
+pub freed : (c : Session) (a : AtomNo) (i : ℕ) → c.owner i ≡ Some a.0 → (sealed c a).owner i ≡ None
+freed c a i own = ap (without a.0) own ∙ ap (λ b. cond b None (Some a.0)) (eq-eqb a.0 a.0 refl)
+
+pub still_owned : (c : Session) (a : AtomNo) (i n : ℕ) → n ≢ a.0 → c.owner i ≡ Some n → (sealed c a).owner i ≡ Some n
+still_owned c a i n other own = ap (without a.0) own ∙ ap (λ b. cond b None (Some n)) (ne_eqb n a.0 other)

@@ -123,23 +123,34 @@ abbrev pub SameElse : (changed : Intervals) → Target → (old new : ℕ) → T
 SameElse changed o old new =
     (x : ℕ) → x < 2 ^ 64 → is_in changed (byte_rank o x) ≡ false → (x < old) ↔ (x < new)
 
+-- A change of cells that was built: with the keys that it touches, those that it changes, and those whose units it
+-- moves;
+-- what stands at the moved keys then, and the content of units after it.
+pub record BuiltChange : Type 0 where
+  pub change : Patch Value
+  pub touched : Intervals
+  pub changed : Intervals
+  pub moved : Intervals
+  pub to : ℕ → Option (Placed Value)
+  pub after : Content
+
 -- All that is asked of a command's change in a tree, each where it can be seen: of the change, of the files that it
 -- touches, and of the keys.
 pub record Promises
-    (w : Meaning Command Reply) (x : Command) (u : Store Value) (root : Root) (raw n : Content) (d : Patch Value)
-    (touched changed moved : Intervals) (to : ℕ → Option (Placed Value)) (after : Content) : Type 0 where
-  pub patch : IsPatch d
-  pub meets : Meets d u root
+    (w : Meaning Command Reply) (x : Command) (u : Store Value) (root : Root) (raw n : Content) (b : BuiltChange)
+    : Type 0 where
+  pub patch : IsPatch b.change
+  pub meets : Meets b.change u root
   -- at the moved keys it has the units of `to`, whatever tree it is of; so the tree's become those of `after`
-  pub effect : HasEffect d (is_in moved) to
-  pub units : IsSetAt (is_in moved) to raw after
-  pub files : FilesAfter (place d u) raw after (w.after x n) changed
-  pub reads : (k : ℕ) → is_in (w.reads x n) k ≡ true → is_in touched k ≡ true
-  pub changes : (k : ℕ) → is_in (w.changes x n) k ≡ true → is_in changed k ≡ true
-  pub moves : (k : ℕ) → is_in moved k ≡ true → is_in changed k ≡ true
-  pub within : (k : ℕ) → is_in changed k ≡ true → is_in touched k ≡ true
-  pub stats : HasStats touched
-  pub bodies : ShowsUnits touched changed u n (w.after x n)
+  pub effect : HasEffect b.change (is_in b.moved) b.to
+  pub units : IsSetAt (is_in b.moved) b.to raw b.after
+  pub files : FilesAfter (place b.change u) raw b.after (w.after x n) b.changed
+  pub reads : (k : ℕ) → is_in (w.reads x n) k ≡ true → is_in b.touched k ≡ true
+  pub changes : (k : ℕ) → is_in (w.changes x n) k ≡ true → is_in b.changed k ≡ true
+  pub moves : (k : ℕ) → is_in b.moved k ≡ true → is_in b.changed k ≡ true
+  pub within : (k : ℕ) → is_in b.changed k ≡ true → is_in b.touched k ≡ true
+  pub stats : HasStats b.touched
+  pub bodies : ShowsUnits b.touched b.changed u n (w.after x n)
 
 -- ---- a command of an atom
 

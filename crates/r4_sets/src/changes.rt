@@ -15,8 +15,8 @@ ghost use Rattle.r4_content.specs.Locality.{IsLocal, Meaning};
 ghost use Rattle.r4_content.specs.declared.command.Command.{Command};
 ghost use Rattle.r4_content.specs.declared.reply.Reply.{Reply};
 ghost use Rattle.r4_patch.specs.Effect.{Placed};
-ghost use Rattle.r4_sets.specs.Change.{Does, ExtentsThere, FilesAfter, NoneElse, Promises};
-ghost use Rattle.r4_sets.specs.Change.{SameElse, ShowsBodies, ShowsUnits, TailsThere};
+ghost use Rattle.r4_sets.specs.Change.{BuiltChange, Does, ExtentsThere, FilesAfter, NoneElse};
+ghost use Rattle.r4_sets.specs.Change.{Promises, SameElse, ShowsBodies, ShowsUnits, TailsThere};
 ghost use Rattle.r4_sets.specs.Session.{IsTreeOf};
 ghost use Rattle.r4_sets.specs.Units.{SameUnit};
 
@@ -24,10 +24,8 @@ ghost use Rattle.r4_sets.specs.Units.{SameUnit};
 /// the files that it touches, and never of the rest of the tree.
 pub fn changes_do_commands()
     ensures { (w : Meaning Command Reply) → IsLocal w → (x : Command) (u : Store Value)
-        (root : Root) (n : Content) (is : IsTreeOf u root n) (d : Patch Value)
-        (touched changed moved : Intervals) (to : ℕ → Option (Placed Value)) (after : Content)
-        → Promises w x u root is.raw n d touched changed moved to after
-        → Does w x u root n d touched changed }
+        (root : Root) (n : Content) (is : IsTreeOf u root n) (b : BuiltChange)
+        → Promises w x u root is.raw n b → Does w x u root n b.change b.touched b.changed }
 {}
 
 /// After a change files stand as in a volume, and what is visible is what is to be, where this is so of the files

@@ -1,14 +1,14 @@
 //! Laws of sets of open atoms (docs/sets.md). Each is the contract of a function that does nothing.
 
 ghost use Rattle.std.specs.Option.{option_or};
-ghost use Rattle.std.specs.Prelude.{◌≡◌, ◌≢◌, ◌+◌, ℕ, List, Bool, Some};
+ghost use Rattle.std.specs.Prelude.{◌≡◌, ◌≢◌, ◌≤◌, ◌+◌, ℕ, List, Bool, Some, None};
 ghost use Rattle.r4_base.specs.Tree.{Root, Store, IsTree};
 ghost use Rattle.r4_base.specs.Value.{Content, Value};
 ghost use Rattle.r4_base.specs.declared.things.AtomNo.{AtomNo};
 ghost use Rattle.r4_base.specs.declared.things.NodeId.{NodeId};
 ghost use Rattle.r4_base.specs.declared.things.ScriptNo.{ScriptNo};
 ghost use Rattle.r4_base.specs.declared.things.TxnNo.{TxnNo};
-ghost use Rattle.r4_cell.specs.Patch.{Apart, Patch, place, root_after};
+ghost use Rattle.r4_cell.specs.Patch.{Apart, IsPatch, Meets, Patch, place, root_after};
 ghost use Rattle.r4_content.specs.Locality.{IsLocal, Meaning};
 ghost use Rattle.r4_content.specs.declared.command.Command.{Command};
 ghost use Rattle.r4_content.specs.declared.reply.Reply.{Reply};
@@ -44,7 +44,7 @@ pub fn sets_stand()
 
 /// The cells of a set are those under the open atoms with the patches of its atoms in place, one after another. No
 /// two atoms have a node in common. An atom that two become has the cells of both, and one that has none changes
-/// nothing.
+/// nothing. What an atom has is a patch of the tree under the open atoms, where it does not make it lower.
 pub fn sets_are_patches()
     ensures none { (c : Session) → (cells c nothing ≡ c.under.cells)
         × (root_with c nothing ≡ c.under.root) }
@@ -60,6 +60,10 @@ pub fn sets_are_patches()
         ≡ option_or ((patch_of c a.0).new i) ((patch_of c b.0).new i)) }
     ensures empty { (c : Session) (a : ℕ) → ((i : ℕ) → c.owner i ≡ Some a → ⊥)
         → (cells c (only a) ≡ c.under.cells) × (root_with c (only a) ≡ c.under.root) }
+    ensures meets { (w : Meaning Command Reply) (c : Session) (a : ℕ) → Sets w c
+        → Meets (patch_of c a) c.under.cells c.under.root }
+    ensures patch { (w : Meaning Command Reply) (c : Session) (a : ℕ) → Sets w c
+        → c.under.root.height ≤ (root_with c (only a)).height → IsPatch (patch_of c a) }
 {}
 
 /// A session begins on a tree whose files are as a volume has them.
@@ -96,10 +100,15 @@ pub fn atoms_fuse()
         → Sets w (fused c a b node) }
 {}
 
-/// An open atom is sealed.
+/// An open atom is sealed. Its cells belong to no open atom then, so that others may capture them; those of the
+/// others stay theirs.
 pub fn atom_is_sealed()
     ensures sets { (w : Meaning Command Reply) (c : Session) (a : AtomNo) → Sets w c
         → Sets w (sealed c a) }
+    ensures freed { (c : Session) (a : AtomNo) (i : ℕ) → c.owner i ≡ Some a.0
+        → (sealed c a).owner i ≡ None }
+    ensures others { (c : Session) (a : AtomNo) (i n : ℕ) → n ≢ a.0 → c.owner i ≡ Some n
+        → (sealed c a).owner i ≡ Some n }
 {}
 
 /// The sealed atom is committed. One is sealed and not committed.

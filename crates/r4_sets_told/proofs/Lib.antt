@@ -5,3 +5,4 @@ pub mod Blocks
 pub mod Volumes
 pub mod MovedFiles
 pub mod BuiltFor
+pub mod OneContent

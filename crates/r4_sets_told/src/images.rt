@@ -1,9 +1,9 @@
 //! Laws of the images of a session (docs/sets.md). Each is the contract of a function that does nothing.
 
-ghost use Rattle.std.specs.Prelude.{◌≡◌, ◌<◌, ◌^◌, ℕ, Option, Some};
+ghost use Rattle.std.specs.Prelude.{◌≡◌, ◌<◌, ◌+◌, ◌^◌, ℕ, Option, Some};
 ghost use Rattle.r4_base.specs.Cell.{IsCellOf};
 ghost use Rattle.r4_base.specs.Image.{Image, block_at};
-ghost use Rattle.r4_base.specs.Tree.{Node, Store};
+ghost use Rattle.r4_base.specs.Tree.{Node, Root, Store};
 ghost use Rattle.r4_base.specs.Value.{Content, Value};
 ghost use Rattle.r4_base.specs.Volume.{HasContent, HasIds, HasLayout, HasObjects, IsPlace, root_of};
 ghost use Rattle.r4_base.specs.declared.superblock.Super40.{Super40};
@@ -14,7 +14,7 @@ ghost use Rattle.r4_trace.specs.Folds.{HasFirstReplies, after_first};
 ghost use Rattle.r4_trace.specs.Ids.{Start};
 ghost use Rattle.r4_trace.specs.Job.{Asked};
 ghost use Rattle.r4_trace.specs.Legal.{RepliesFrom};
-ghost use Rattle.r4_trace.specs.Safe.{HasFirst};
+ghost use Rattle.r4_trace.specs.Safe.{AddsNothing, HasFirst};
 ghost use Rattle.r4_trace.specs.Traced.{committed_in, sealed_in};
 ghost use Rattle.r4_sets.specs.Session.{IsTreeOf, Session, Sets, in_base, in_under};
 ghost use Rattle.r4_sets_told.specs.Images.{StandsIn};
@@ -31,6 +31,8 @@ pub fn images_and_trees()
         → IsCellOf super.block_count (block_at image i) c)
         → ((i : ℕ) (c : Node Value) → t i ≡ Some c → IsPlace super.block_count image i)
         → IsTreeOf t (root_of super) m → HasObjects m → HasIds super m → HasContent n image m }
+    ensures one { (t : Store Value) (r q : Root) (m n : Content) → IsTreeOf t r m → IsTreeOf t q n
+        → m ≡ n }
 {}
 
 /// The committed cells are a tree with what the first k atoms made, where k are committed; with the sealed atom in
@@ -45,6 +47,14 @@ pub fn layers_are_told()
         × HasFirstReplies w c.start c.trace (sealed_in c.trace) }
     ensures replies { (w : Meaning Command Reply) (c : Session) (next_id : ℕ) → Sets w c
         → RepliesFrom w (Some (record { content = c.start; next_id = next_id })) c.trace }
+{}
+
+/// A sealed atom without cells leaves the committed cells as they are, and adds nothing to what the atoms before it
+/// made.
+pub fn atoms_without_cells_add_nothing()
+    ensures { (w : Meaning Command Reply) (c : Session) → Sets w c
+        → c.under.cells ≡ c.base.cells → sealed_in c.trace ≡ committed_in c.trace + 1
+        → AddsNothing w c.start c.trace }
 {}
 
 /// An image in whose blocks the committed cells stand has the content of the transactions of the first k atoms that

@@ -1,13 +1,12 @@
 //! Laws of the keys that commands touch, and of the units that they move (docs/sets.md). Each is the contract of a
 //! function that does nothing.
 
-ghost use Rattle.std.specs.Prelude.{◌≡◌, ◌⊎◌, ◌<◌, ◌≤◌, ◌^◌, ℕ, Option, true, false};
+ghost use Rattle.std.specs.Prelude.{◌≡◌, ◌⊎◌, ◌<◌, ◌≤◌, ◌^◌, ℕ, true, false};
 ghost use Rattle.r4_base.specs.Tree.{Root, Store};
 ghost use Rattle.r4_base.specs.Value.{Content, Value};
 ghost use Rattle.r4_base.specs.Volume.{HasExtents, HasStat, HasTails, is_directory};
 ghost use Rattle.r4_base.specs.declared.items.Attr.{Attr};
 ghost use Rattle.r4_base.specs.declared.items.Target.{Target};
-ghost use Rattle.r4_cell.specs.Patch.{Patch};
 ghost use Rattle.r4_content.specs.Edited.{Edits, Intervals, edited, is_in};
 ghost use Rattle.r4_content.specs.Edited.{changed as changed_by};
 ghost use Rattle.r4_content.specs.Fields.{HasBytePaths, NamesUnused};
@@ -15,8 +14,8 @@ ghost use Rattle.r4_content.specs.Lawful.{HasBodies, IsLawful};
 ghost use Rattle.r4_content.specs.Locality.{commands};
 ghost use Rattle.r4_content.specs.Units.{MovesUnits};
 ghost use Rattle.r4_content.specs.declared.command.Command.{Command};
-ghost use Rattle.r4_patch.specs.Effect.{Placed};
-ghost use Rattle.r4_sets.specs.Change.{Does, FilesAfter, HasStats, IsTouched, ShowsBodies};
+ghost use Rattle.r4_sets.specs.Change.{BuiltChange, Does, FilesAfter, HasStats, IsTouched};
+ghost use Rattle.r4_sets.specs.Change.{ShowsBodies};
 ghost use Rattle.r4_sets.specs.Session.{IsTreeOf};
 ghost use Rattle.r4_sets_told.specs.Touched.{IsBuiltFor, IsTouchedBy};
 
@@ -50,9 +49,7 @@ pub fn moved_units_are_files()
 /// in use.
 pub fn built_changes_do_commands()
     ensures { (limit : ℕ) (x : Command) (u : Store Value) (root : Root) (n : Content)
-        (is : IsTreeOf u root n) (d : Patch Value) (touched changed moved : Intervals)
-        (to : ℕ → Option (Placed Value)) (after : Content) → limit ≤ 2 ^ 30 → IsLawful limit n
-        → HasBytePaths x → NamesUnused n x
-        → IsBuiltFor limit x u root is.raw n d touched changed moved to after
-        → Does (commands limit) x u root n d touched changed }
+        (is : IsTreeOf u root n) (b : BuiltChange) → limit ≤ 2 ^ 30 → IsLawful limit n
+        → HasBytePaths x → NamesUnused n x → IsBuiltFor limit x u root is.raw n b
+        → Does (commands limit) x u root n b.change b.touched b.changed }
 {}
