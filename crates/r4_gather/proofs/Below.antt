@@ -9,7 +9,7 @@ use Rattle.r4_content.specs.declared.reply.Reply.{Reply}
 use Rattle.r4_dir.specs.Coming.{last_of}
 use Rattle.r4_gather.specs.Asking.{EndsIn, HasEnded, HasEndedEntry, HasEndedParent, IsAt, IsAtEntry, IsAtParent}
 use Rattle.r4_gather.specs.Asking.{IsLater, IsStopped, IsStoppedEntry, IsStoppedParent, Sighting, asking}
-use Rattle.r4_gather.proofs.Asked.{later_both}
+use Rattle.r4_gather.proofs.Beginning.{later_both}
 
 module _ (path : List (List ℕ)) (old now new : Sighting) (r : Reply) (p : Place) (h : IsAtParent r path old now p)
     (later : IsLater now new) (n : List ℕ) (is : n ≡ last_of path) where

@@ -1,4 +1,4 @@
-pub mod Asked
+pub mod Beginning
 pub mod Quiet
 pub mod Below
 pub mod Moved

@@ -10,7 +10,7 @@ use Rattle.r4_dir.specs.Coming.{last_of}
 use Rattle.r4_gather.specs.Asking.{EndsIn, HasEndedEnds, HasEndedEntry, HasEndedParent, IsAtEnds, IsAtEntry}
 use Rattle.r4_gather.specs.Asking.{IsAtParent, IsLater, IsStoppedEnds, IsStoppedEntry, IsStoppedParent, Sighting}
 use Rattle.r4_gather.specs.Asking.{asking}
-use Rattle.r4_gather.proofs.Asked.{later_both}
+use Rattle.r4_gather.proofs.Beginning.{later_both}
 
 -- what follows where both places are known
 below : (Object → List ℕ → Object → Object → List ℕ → Course) → Object → List ℕ → Place → Place → List ℕ → Course

@@ -1,12 +1,12 @@
 -- Courses that ask for nothing more, and what a move asks for.
-use Rattle.std.proofs.Common.{◌≡◌, ℕ, ◌+◌, ◌<◌, List, [], ◌∷◌, ◌-◌, drop, length, Bool, true, false, refl, ap, sym}
+use Rattle.std.proofs.Common.{◌≡◌, ℕ, ◌+◌, ◌<◌, List, [], ◌∷◌, ◌-◌, take, length, Bool, true, false, refl, ap, sym}
 use Rattle.std.proofs.Common.{subst, ◌∙◌, arith}
 use Rattle.std.specs.Prelude.{MatchOption, Option, None, Some, bytes_eq, if◌then◌else◌, not, ◌&&◌, ◌==◌}
 use Rattle.std.specs.FinMap.{find}
 use Rattle.std.specs.Ordering.{nat_cmp}
 use Rattle.r4_base.specs.Value.{Byte, Entry, Stat, Value}
 use Rattle.r4_base.specs.declared.items.Target.{Target}
-use Rattle.r4_content.specs.Course.{Answer, Change, Course, Source}
+use Rattle.r4_content.specs.Course.{Answer, Ask, Change, Course, Source}
 use Rattle.r4_content.specs.Edited.{Edits, Intervals}
 use Rattle.r4_content.specs.Entries.{entries_from, entries_to, if_empty, move, move_to, moved, names_in, rename}
 use Rattle.r4_content.specs.Entries.{replace, rmdir, unname_in, with_entries}
@@ -14,16 +14,18 @@ use Rattle.r4_content.specs.Meaning.{is_path, named}
 use Rattle.r4_content.specs.Objects.{Object, entry_rank, is_dir, is_full, is_same, is_same_target}
 use Rattle.r4_content.specs.Seen.{of_seen, pairs_in}
 use Rattle.r4_content.specs.Walk.{target_in}
-use Rattle.r4_content.specs.Ways.{Named, Place, entry_in, if_free, object_at, to_ends, to_entry}
+use Rattle.r4_content.specs.Ways.{Named, Place, entry_in, free_here, if_free, object_at, to_ends, to_entry, to_free}
+use Rattle.r4_content.specs.Ways.{to_object, to_parent}
 use Rattle.r4_content.specs.declared.reply.Reply.{Reply}
 use Rattle.r4_content.specs.declared.reply.Reply.TheVariants.{Clash, Exists, Links, Loop, Name as NameReply, Notdir}
 use Rattle.r4_content.specs.declared.reply.Reply.TheVariants.{Okay}
 use Rattle.r4_dir.specs.Coming.{last_of, object_of}
-use Rattle.r4_gather.specs.Asking.{EndsIn, HasAsked, HasEndedEntry, IsAtEntry, IsLater, IsQuiet, Sighting, StopsIn}
-use Rattle.r4_gather.specs.Asking.{asking, has}
+use Rattle.r4_gather.specs.Asking.{EndsIn, HasAsked, HasEndedEntry, IsAt, IsAtEntry, IsLater, IsQuiet, Sighting}
+use Rattle.r4_gather.specs.Asking.{StopsIn}
+use Rattle.r4_gather.specs.Asking.{StopsFree, asking, has}
 use Rattle.r4_gather.specs.Finding.{place_seen}
 use Rattle.r4_gather.specs.declared.entries.SeenFound.{SeenFound}
-use Rattle.r4_gather.proofs.Asked.{asking_goes, later_both}
+use Rattle.r4_gather.proofs.Beginning.{asking_on, later_both}
 
 pub free_quiet : (n : List ℕ) (c : Course) (o : Option Named) (s : Source) (g : Intervals) → IsQuiet c
     → asking (if_free n c o) s g ≡ g
@@ -52,6 +54,37 @@ pub entry_quiet : (r : Reply) (path : List (List ℕ)) (old new : Sighting) (o :
 entry_quiet r path old new None ends next q last l = ends next last l
 entry_quiet r path old new (Some f) at next q last l = at next last l
     ∙ q (object_of f.dir) (last_of path) (place_seen f) (of_seen last.seen) new.asked
+
+-- ---- a name that is to be free
+
+module _
+    (path : List (List ℕ)) (some : 0 < length path) (old mid : Sighting) (p : Place)
+    (at : IsAt (to_object (take (length path - 1) path)) old mid p) (dir : is_dir p.here ≡ true) (new : Sighting)
+    (later : IsLater mid new)
+    (stops : EndsIn new.asked
+    ((entry_rank p.here.target (last_of path), entry_rank p.here.target (last_of path) + 1) ∷ mid.asked)) where
+  at_name : (next : Object → List ℕ → Course) (last : Sighting) → IsLater new last
+      → EndsIn new.asked (asking (to_object (take (length path - 1) path) (λ q. free_here next q (last_of path)))
+      (of_seen last.seen) old.asked)
+  at_name next last l =
+      subst (λ xs. EndsIn new.asked xs)
+      (sym (at (λ q. free_here next q (last_of path)) last (later_both mid new last later l)
+      ∙ ap (λ b. asking (if b then Ask (entry_rank p.here.target (last_of path))
+      (λ v. if_free (last_of path) (next p.here (last_of path)) (entry_in v)) else Answer Notdir)
+      (of_seen last.seen) mid.asked) dir))
+      (asking_on (if_free (last_of path) (next p.here (last_of path))
+      (entry_in (find nat_cmp (entry_rank p.here.target (last_of path)) last.seen))) (of_seen last.seen) new.asked
+      ((entry_rank p.here.target (last_of path), entry_rank p.here.target (last_of path) + 1) ∷ mid.asked) stops)
+
+  pub free_stops : StopsFree path old new
+  unfolding to_free to_parent
+  free_stops next last l = by_empty (length path == 0) refl
+    where
+      by_empty : (b : Bool) → (length path == 0) ≡ b
+          → EndsIn new.asked (asking (if b then Answer Exists else to_object (take (length path - 1) path)
+          (λ q. free_here next q (last_of path))) (of_seen last.seen) old.asked)
+      by_empty true e = absurd (grind (arith, e, some))
+      by_empty false e = at_name next last l
 
 -- ---- a move
 
@@ -110,13 +143,12 @@ module _ (dir : Object) (n : List ℕ) (o nd : Object) (m : List ℕ) where
         ((entry_rank nd.target m, entry_rank nd.target m + 1) ∷ old.asked)) other
         ∙ ap (λ g. asking (object_at u (replace dir n o nd m)) (of_seen last.seen) g) (sym is)
 
-    pub move_stops : StopsIn (move dir n o nd m) old mid
-    move_stops last l =
-        subst (λ g. EndsIn g (asking (move_to dir n o nd m
-        (entry_in (find nat_cmp (entry_rank nd.target m) last.seen))) (of_seen last.seen)
-        ((entry_rank nd.target m, entry_rank nd.target m + 1) ∷ old.asked))) (sym is)
-        (asking_goes (move_to dir n o nd m (entry_in (find nat_cmp (entry_rank nd.target m) last.seen)))
-        (of_seen last.seen) ((entry_rank nd.target m, entry_rank nd.target m + 1) ∷ old.asked))
+  pub move_stops : (old mid : Sighting)
+      → EndsIn mid.asked ((entry_rank nd.target m, entry_rank nd.target m + 1) ∷ old.asked)
+      → StopsIn (move dir n o nd m) old mid
+  move_stops old mid h last l =
+      asking_on (move_to dir n o nd m (entry_in (find nat_cmp (entry_rank nd.target m) last.seen)))
+      (of_seen last.seen) mid.asked ((entry_rank nd.target m, entry_rank nd.target m + 1) ∷ old.asked) h
 
 -- ---- a directory that goes
 
@@ -151,12 +183,18 @@ module _ (path : List (List ℕ)) (old mid : Sighting) where
           (of_seen last.seen) ((entries_from p.here.target.oid.0, entries_to p.here.target.oid.0) ∷ mid.asked)
           ∙ sym all
 
--- what has been asked for is not behind what is asked for
-pub asked_stops : (c : Course) (old new : Sighting) → HasAsked c old new → StopsIn c old new
-asked_stops c old new h last l =
-    let e : length (asking c (of_seen last.seen) old.asked) - length new.asked
-    ≡ 0 = let same = ap (λ (xs : Intervals). length xs) (h last l) in omega (arith, same) in
-    ap (λ n. drop n (asking c (of_seen last.seen) old.asked)) e ∙ h last l
+    module _
+        (is : is_dir p.here ≡ true) (new : Sighting) (later : IsLater mid new)
+        (stops : EndsIn new.asked
+        ((entries_from p.here.target.oid.0, entries_to p.here.target.oid.0) ∷ mid.asked)) where
+      pub rmdir_stops : StopsIn (rmdir path) old new
+      rmdir_stops last l =
+          subst (λ xs. EndsIn new.asked xs)
+          (sym (came true is last (later_both mid new last later l)
+          ∙ empty_quiet (unname_in dir (last_of path) p.here)
+          (names_in (pairs_in last.seen (entries_from p.here.target.oid.0) (entries_to p.here.target.oid.0)))
+          (of_seen last.seen) ((entries_from p.here.target.oid.0, entries_to p.here.target.oid.0) ∷ mid.asked)))
+          stops
 
 -- ---- names of paths
 

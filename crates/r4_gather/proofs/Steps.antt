@@ -6,7 +6,7 @@ use Rattle.r4_content.specs.Seen.{of_seen}
 use Rattle.r4_content.specs.Ways.{Place, step, steps, to_object}
 use Rattle.r4_gather.specs.Asking.{EndsIn, HasEnded, IsAt, IsLater, IsStopped, Sighting, asking}
 use Rattle.r4_gather.specs.Walking.{IsWalking}
-use Rattle.r4_gather.proofs.Asked.{asking_goes, later_both}
+use Rattle.r4_gather.proofs.Beginning.{asking_goes, later_both}
 
 pub drop_item : {A : Type 0} (xs : List A) (i : ℕ) (x : A) → i < length xs → x ≡ get_or xs i x
     → drop i xs ≡ x ∷ drop (i + 1) xs

@@ -102,7 +102,7 @@ pub(crate) fn see_entry<S: Sight>(
 }
 
 // The key of a path's last name, where its directory is there.
-#[tactic(auto, unfolding(r4_content::specs::Ways::to_free, r4_content::specs::Ways::to_parent), using(crate::proofs::Asked::asking_goes, crate::proofs::Quiet::free_quiet))]
+#[tactic(auto, unfolding(r4_content::specs::Ways::to_free, r4_content::specs::Ways::to_parent), using(crate::proofs::Beginning::asking_goes, crate::proofs::Beginning::asking_on, crate::proofs::Quiet::free_quiet))]
 pub(crate) fn see_free<S: Sight>(
     alloc: Global,
     sight: &mut S,
@@ -149,7 +149,7 @@ pub(crate) fn see_for_new<S: Sight>(
 }
 
 /// What `link` asks for.
-#[tactic(auto, using(crate::proofs::Asked::asking_goes))]
+#[tactic(auto, using(crate::proofs::Beginning::asking_goes, crate::proofs::Beginning::asking_on))]
 pub(crate) fn see_for_link<S: Sight>(
     alloc: Global,
     sight: &mut S,
@@ -190,7 +190,7 @@ pub(crate) fn entries_of(dir: Oid) -> Interval
 }
 
 /// What `names` asks for: the way to the object, and the entries of a directory.
-#[tactic(auto, using(crate::proofs::Asked::asking_goes))]
+#[tactic(auto, using(crate::proofs::Beginning::asking_goes, crate::proofs::Beginning::asking_on))]
 pub(crate) fn see_for_names<S: Sight>(
     alloc: Global,
     sight: &mut S,
@@ -235,7 +235,7 @@ pub(crate) fn see_for_unlink<S: Sight>(
 }
 
 /// What `rmdir` asks for: the way to the object with its entry, and the entries of a directory.
-#[tactic(auto, using(crate::proofs::Asked::asking_goes, crate::proofs::Quiet::empty_quiet))]
+#[tactic(auto, using(crate::proofs::Beginning::asking_goes, crate::proofs::Beginning::asking_on, crate::proofs::Quiet::empty_quiet))]
 pub(crate) fn see_for_rmdir<S: Sight>(
     alloc: Global,
     sight: &mut S,

@@ -51,7 +51,7 @@ pub(crate) fn see_for_object<S: Sight>(
 }
 
 /// What `read` asks for: the way to the object, and the bytes of a file that it has in the interval.
-#[tactic(auto, using(crate::proofs::Asked::asking_goes))]
+#[tactic(auto, using(crate::proofs::Beginning::asking_goes, crate::proofs::Beginning::asking_on))]
 pub(crate) fn see_for_read<S: Sight>(
     alloc: Global,
     sight: &mut S,

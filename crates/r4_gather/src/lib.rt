@@ -9,4 +9,4 @@ mod sight;
 mod ways;
 
 pub use commands::see_for;
-pub use sight::Sight;
+pub use sight::{Asked, Sight};

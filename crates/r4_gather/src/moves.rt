@@ -63,7 +63,7 @@ fn see_ends<S: Sight>(
 }
 
 // The entries of a directory that another one comes onto.
-#[tactic(auto, using(crate::proofs::Asked::asking_goes))]
+#[tactic(auto, using(crate::proofs::Beginning::asking_goes, crate::proofs::Beginning::asking_on))]
 fn see_old<S: Sight>(
     alloc: Global,
     sight: &mut S,

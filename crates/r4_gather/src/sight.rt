@@ -1,19 +1,26 @@
 //! What was seen, to which more comes as it is asked for.
 
-ghost use Rattle.std.specs.Prelude.{◌≡◌, ◌+◌, ◌∷◌};
+ghost use Rattle.std.specs.Prelude.{◌≡◌, ◌+◌, ◌∷◌, OnErr, OnOk};
 ghost use Rattle.r4_base.specs.Key.{rank};
 ghost use Rattle.r4_content.specs.Held.{interval_of, pairs_of};
 ghost use Rattle.r4_content.specs.Seen.{Rises};
-ghost use Rattle.r4_gather.specs.Asking.{IsLater, Sighting};
+ghost use Rattle.r4_gather.specs.Asking.{EndsIn, IsLater, Sighting};
 
 use r4_base::Key;
 use r4_content::{Interval, Seen};
 use r4_search::FetchFault;
 use std::alloc::Global;
 
+/// What was asked for: what stands at a key, or all that stands in an interval of keys.
+#[derive(Clone, Copy, Debug, PartialEq, Eq)]
+pub enum Asked {
+    Key(Key),
+    Within(Interval),
+}
+
 /// What was seen of a content, to which more comes as it is asked for (docs/commands.md, "Asking"). What was seen at a
-/// key that was asked for stays. An interval counts as asked for also where a call ended with a fault; what stands
-/// there is then not known.
+/// key that was asked for stays. Where a call ends with a fault, the interval may be among those that were asked for,
+/// and what stands there is not known.
 pub trait Sight {
     /// What was seen, and what was asked for, the newest first.
     ghost state: { Self → Sighting };
@@ -26,10 +33,16 @@ pub trait Sight {
     /// What stands at a key is asked for.
     fn see(&mut self, alloc: Global, key: Key) -> Result<(), FetchFault>
         ensures later { IsLater (state self.old) (state self.new) }
-        ensures asked { (state self.new).asked ≡ (rank key, rank key + 1) ∷ (state self.old).asked };
+        ensures asked { OnOk result
+            ((state self.new).asked ≡ (rank key, rank key + 1) ∷ (state self.old).asked) }
+        ensures stops { OnErr result
+            (EndsIn (state self.new).asked ((rank key, rank key + 1) ∷ (state self.old).asked)) };
 
     /// All that stands in an interval of keys is asked for.
     fn see_all(&mut self, alloc: Global, within: Interval) -> Result<(), FetchFault>
         ensures later { IsLater (state self.old) (state self.new) }
-        ensures asked { (state self.new).asked ≡ interval_of within ∷ (state self.old).asked };
+        ensures asked { OnOk result
+            ((state self.new).asked ≡ interval_of within ∷ (state self.old).asked) }
+        ensures stops { OnErr result
+            (EndsIn (state self.new).asked (interval_of within ∷ (state self.old).asked)) };
 }

@@ -9,7 +9,7 @@ ghost use Rattle.r4_content.specs.Objects.{Object as SeenObject};
 ghost use Rattle.r4_content.specs.Walk.{target_in};
 ghost use Rattle.r4_content.specs.Ways.{object_at, step, to_object};
 ghost use Rattle.r4_dir.specs.Coming.{AreNames, IsSmall, object_of, place_of};
-ghost use Rattle.r4_gather.specs.Asking.{HasEnded, IsAt, IsLater, IsStopped};
+ghost use Rattle.r4_gather.specs.Asking.{EndsIn, HasEnded, IsAt, IsLater, IsStopped};
 
 use crate::sight::Sight;
 use r4_base::{Key, Name, OBJECT_END, ROOT_OBJECT, Target};
@@ -18,7 +18,7 @@ use r4_search::FetchFault;
 use std::alloc::Global;
 
 /// The object that an entry names; none where it has no stat data, or can be no object.
-#[tactic(auto, using(crate::proofs::Asked::asking_goes))]
+#[tactic(auto, using(crate::proofs::Beginning::asking_goes, crate::proofs::Beginning::asking_on))]
 pub fn see_object<S: Sight>(
     alloc: Global,
     sight: &mut S,
@@ -50,7 +50,10 @@ pub(crate) fn see_target<S: Sight>(
     name: &Name,
 ) -> Result<Option<Target>, FetchFault>
     ensures later { IsLater (S.state sight.old) (S.state sight.new) }
-    ensures asked { (S.state sight.new).asked ≡ (rank key, rank key + 1) ∷ (S.state sight.old).asked }
+    ensures asked { OnOk result
+        ((S.state sight.new).asked ≡ (rank key, rank key + 1) ∷ (S.state sight.old).asked) }
+    ensures stops { OnErr result
+        (EndsIn (S.state sight.new).asked ((rank key, rank key + 1) ∷ (S.state sight.old).asked)) }
     ensures target { IfOk result (λ r. r
         ≡ target_in name.now (find nat_cmp (rank key) (S.state sight.new).seen)) }
 {
@@ -62,7 +65,7 @@ pub(crate) fn see_target<S: Sight>(
 }
 
 /// One step down, to the object of a name; none where there is none.
-#[tactic(auto, using(crate::proofs::Asked::asking_goes))]
+#[tactic(auto, using(crate::proofs::Beginning::asking_goes, crate::proofs::Beginning::asking_on))]
 pub fn see_step<S: Sight>(
     alloc: Global,
     sight: &mut S,
@@ -93,7 +96,7 @@ pub fn see_step<S: Sight>(
 }
 
 /// The way along a path, from the root; none where it ends before.
-#[tactic(auto, unfolding(r4_content::specs::Ways::to_object), using(crate::proofs::Asked::asking_goes))]
+#[tactic(auto, unfolding(r4_content::specs::Ways::to_object), using(crate::proofs::Beginning::asking_goes, crate::proofs::Beginning::asking_on))]
 pub fn see_way<S: Sight>(
     alloc: Global,
     sight: &mut S,

@@ -3,7 +3,7 @@ use Rattle.std.proofs.lemmas.Result.{on_err_weaker, on_ok_weaker}
 use Rattle.r4_content.specs.Meaning.{course, greatest_size}
 use Rattle.r4_content.specs.Seen.{of_seen}
 use Rattle.r4_gather.specs.Asking.{EndsIn}
-use Rattle.r4_gather.proofs.Asked.{asking_is, later_same}
+use Rattle.r4_gather.proofs.Beginning.{asking_is, later_same}
 use Rattle.r4_gather.proofs.commands.see_for.Goals as goal
 
 pub returns-clause-asked : goal.returns-clause-asked

@@ -5,10 +5,10 @@ use Rattle.r4_content.specs.Meaning.{is_path}
 use Rattle.r4_content.specs.Objects.{is_dir}
 use Rattle.r4_content.specs.declared.reply.Reply.TheVariants.{Loop}
 use Rattle.r4_dir.specs.Coming.{object_of}
-use Rattle.r4_gather.specs.Asking.{HasAsked, StopsIn}
+use Rattle.r4_gather.specs.Asking.{EndsIn, HasAsked, StopsIn}
 use Rattle.r4_gather.specs.Finding.{place_seen}
-use Rattle.r4_gather.proofs.Asked.{always_err, always_ok}
-use Rattle.r4_gather.proofs.Quiet.{asked_stops, rmdir_asked, rmdir_ends, rmdir_file, with_names}
+use Rattle.std.proofs.lemmas.Result.{on_err_weaker, on_ok_weaker}
+use Rattle.r4_gather.proofs.Quiet.{rmdir_asked, rmdir_ends, rmdir_file, rmdir_stops, with_names}
 use Rattle.r4_gather.proofs.entries.see_for_rmdir.Goals as goal
 
 pub returns-in_default-clause-asked : goal.returns-in_default-clause-asked
@@ -41,10 +41,11 @@ returns-clause-asked g c =
     let f = c.in-Some.found in
     let legal : is_path path ≡ true = grind arith in
     let dir : is_dir (object_of f.object) ≡ true = grind (arith, common_steps) in
-    let all = subst (λ r. new.asked ≡ r ∷ mid.asked) c.entries_of.ensures c.see_all.ensures.asked in
-    always_ok c.see_all.result (subst (λ x. HasAsked x old new) (sym (with_names path (rmdir path) legal))
-    (rmdir_asked path old mid (object_of f.dir) (place_seen f) (rw c.in-Some.is at c.in_ok-found.ensures.comes Loop)
-    dir new c.see_all.ensures.later all))
+    on_ok_weaker c.see_all.result (λ all. subst (λ x. HasAsked x old new)
+    (sym (with_names path (rmdir path) legal))
+    (rmdir_asked path old mid (object_of f.dir) (place_seen f)
+    (rw c.in-Some.is at c.in_ok-found.ensures.comes Loop) dir new c.see_all.ensures.later
+    (subst (λ r. new.asked ≡ r ∷ mid.asked) c.entries_of.ensures all))) c.see_all.ensures.asked
 
 pub returns-clause-stops : goal.returns-clause-stops
 returns-clause-stops g c =
@@ -55,8 +56,8 @@ returns-clause-stops g c =
     let f = c.in-Some.found in
     let legal : is_path path ≡ true = grind arith in
     let dir : is_dir (object_of f.object) ≡ true = grind (arith, common_steps) in
-    let all = subst (λ r. new.asked ≡ r ∷ mid.asked) c.entries_of.ensures c.see_all.ensures.asked in
-    always_err c.see_all.result (subst (λ x. StopsIn x old new) (sym (with_names path (rmdir path) legal))
-    (asked_stops (rmdir path) old new
-    (rmdir_asked path old mid (object_of f.dir) (place_seen f)
-    (rw c.in-Some.is at c.in_ok-found.ensures.comes Loop) dir new c.see_all.ensures.later all)))
+    on_err_weaker c.see_all.result (λ stops. subst (λ x. StopsIn x old new)
+    (sym (with_names path (rmdir path) legal))
+    (rmdir_stops path old mid (object_of f.dir) (place_seen f)
+    (rw c.in-Some.is at c.in_ok-found.ensures.comes Loop) dir new c.see_all.ensures.later
+    (subst (λ r. EndsIn new.asked (r ∷ mid.asked)) c.entries_of.ensures stops))) c.see_all.ensures.stops

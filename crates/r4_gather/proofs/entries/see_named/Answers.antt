@@ -1,6 +1,6 @@
 use Rattle.std.proofs.Common.{map}
 use Rattle.r4_dir.specs.Coming.{object_of, place_of}
-use Rattle.r4_gather.proofs.Asked.{always_err}
+use Rattle.r4_gather.proofs.Beginning.{always_err}
 use Rattle.r4_gather.proofs.Below.{entry_at, entry_ends, entry_ends_above, entry_stops, entry_stops_above, last_is}
 use Rattle.r4_gather.proofs.entries.see_named.Goals as goal
 

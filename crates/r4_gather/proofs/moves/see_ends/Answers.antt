@@ -5,7 +5,7 @@ use Rattle.r4_content.specs.Objects.{is_among, is_dir, is_same}
 use Rattle.r4_content.specs.declared.reply.Reply.TheVariants.{Loop}
 use Rattle.r4_dir.specs.Coming.{object_of, place_of}
 use Rattle.r4_gather.specs.Finding.{place_seen}
-use Rattle.r4_gather.proofs.Asked.{always_err}
+use Rattle.r4_gather.proofs.Beginning.{always_err}
 use Rattle.r4_gather.proofs.Moved.{ends_at, ends_end, ends_end_below, ends_loop, ends_notdir, ends_stop}
 use Rattle.r4_gather.proofs.Moved.{ends_stop_below}
 use Rattle.r4_gather.proofs.moves.see_ends.Goals as goal

@@ -5,7 +5,7 @@ use Rattle.r4_content.specs.Entries.{move}
 use Rattle.r4_content.specs.Meaning.{is_path}
 use Rattle.r4_dir.specs.Coming.{last_of, object_of}
 use Rattle.r4_gather.specs.Asking.{EndsIn, HasAsked, IsAtEnds, StopsIn}
-use Rattle.r4_gather.proofs.Asked.{later_both}
+use Rattle.r4_gather.proofs.Beginning.{later_both}
 use Rattle.r4_gather.proofs.Below.{last_is}
 use Rattle.r4_gather.proofs.Quiet.{rename_is}
 use Rattle.r4_gather.proofs.moves.see_for_rename.Goals as goal

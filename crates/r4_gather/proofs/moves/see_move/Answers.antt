@@ -10,7 +10,7 @@ use Rattle.r4_content.specs.Walk.{target_in}
 use Rattle.r4_content.specs.Ways.{object_at}
 use Rattle.r4_dir.specs.Coming.{object_of}
 use Rattle.r4_gather.specs.Asking.{EndsIn, IsAt}
-use Rattle.r4_gather.proofs.Asked.{always_err, later_both}
+use Rattle.r4_gather.proofs.Beginning.{always_err, later_both}
 use Rattle.r4_gather.proofs.Quiet.{move_goes, move_stops}
 use Rattle.r4_gather.proofs.moves.see_move.Goals as goal
 
@@ -18,11 +18,10 @@ pub returns-in_err-target-clause-stops : goal.returns-in_err-target-clause-stops
 returns-in_err-target-clause-stops g c dir n =
     let old = g.S.Sight.state c.args.sight.now in
     let mid = g.S.Sight.state c.see_target.new.sight in
-    let is = subst (λ k. mid.asked ≡ (rank k, rank k + 1) ∷ old.asked) c.name_key-key.ensures
-    c.see_target.ensures.asked in
-    always_err c.from_residual.result
-    (move_stops dir n (object_of c.args.ends.now.object) (object_of c.args.ends.now.new_dir) c.args.new_name.now
-    old mid is)
+    let stops = subst (λ k. EndsIn mid.asked ((rank k, rank k + 1) ∷ old.asked)) c.name_key-key.ensures
+    c.in_err-target.ensures.stops in
+    always_err c.from_residual.result (move_stops dir n (object_of c.args.ends.now.object)
+    (object_of c.args.ends.now.new_dir) c.args.new_name.now old mid stops)
 
 pub returns-in-Some-2-clause-asked : goal.returns-in-Some-2-clause-asked
 returns-in-Some-2-clause-asked g c dir n =
@@ -35,7 +34,7 @@ returns-in-Some-2-clause-asked g c dir n =
     let m = c.args.new_name.now in
     let t = c.in-Some.target in
     let is = subst (λ k. mid.asked ≡ (rank k, rank k + 1) ∷ old.asked) c.name_key-key.ensures
-    c.see_target.ensures.asked in
+    c.in_ok-target.ensures.asked in
     let target : target_in m (find nat_cmp (entry_rank nd.target m) mid.seen) ≡ Some t =
     subst (λ k. target_in m (find nat_cmp (rank k) mid.seen)
     ≡ Some t) c.name_key-key.ensures (sym c.in_ok-target.ensures.target ∙ c.in-Some.is) in
@@ -58,7 +57,7 @@ returns-in-Some-2-clause-stops g c dir n =
     let m = c.args.new_name.now in
     let t = c.in-Some.target in
     let is = subst (λ k. mid.asked ≡ (rank k, rank k + 1) ∷ old.asked) c.name_key-key.ensures
-    c.see_target.ensures.asked in
+    c.in_ok-target.ensures.asked in
     let target : target_in m (find nat_cmp (entry_rank nd.target m) mid.seen) ≡ Some t =
     subst (λ k. target_in m (find nat_cmp (rank k) mid.seen)
     ≡ Some t) c.name_key-key.ensures (sym c.in_ok-target.ensures.target ∙ c.in-Some.is) in

@@ -5,7 +5,7 @@ use Rattle.r4_dir.specs.Coming.{object_of}
 use Rattle.r4_search.proofs.Walks.{map_push}
 use Rattle.r4_gather.specs.Asking.{HasEnded, IsAt, IsStopped}
 use Rattle.r4_gather.specs.Walking.{IsWalking}
-use Rattle.r4_gather.proofs.Asked.{always_err}
+use Rattle.r4_gather.proofs.Beginning.{always_err}
 use Rattle.r4_gather.proofs.Steps.{drop_item, walking_stops, way_ends, way_goes_on, way_stops}
 use Rattle.r4_gather.proofs.ways.see_way.Goals as goal
 

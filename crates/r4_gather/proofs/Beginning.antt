@@ -1,13 +1,13 @@
 -- What was asked for so far is the beginning of what is asked for.
 use Rattle.std.proofs.Common.{◌≡◌, ℕ, ◌+◌, [], ◌∷◌, ◌++◌, refl, ap, sym, subst, ◌∙◌, append_assoc, arith, drop}
-use Rattle.std.proofs.Common.{length, length-append, reverse}
+use Rattle.std.proofs.Common.{length, length-append, reverse, take}
 use Rattle.std.proofs.Math.Seq.{drop-append_seam}
-use Rattle.std.proofs.lemmas.List.{reverse-append}
+use Rattle.std.proofs.lemmas.List.{reverse-append, take-append-drop}
 use Rattle.std.specs.Prelude.{◌-◌, Err, Ok, OnErr, OnOk, Result}
 use Rattle.r4_content.specs.Course.{Answer, Ask, Change, Course, Scan, Source, asked}
 use Rattle.r4_content.specs.Edited.{Intervals}
 use Rattle.r4_content.specs.Seen.{of_seen}
-use Rattle.r4_gather.specs.Asking.{EndsIn, IsAt, IsLater, IsStopped, Sighting, asking}
+use Rattle.r4_gather.specs.Asking.{EndsIn, IsLater, Sighting, asking}
 
 one_more : (r : ℕ × ℕ) (xs g : Intervals) → reverse xs ++ r ∷ g ≡ reverse (r ∷ xs) ++ g
 one_more r xs g = sym (ap (λ ys. ys ++ g) (reverse-append (r ∷ []) xs) ∙ append_assoc (reverse xs) (r ∷ []) g)
@@ -31,6 +31,22 @@ ends more g =
 pub asking_goes : (c : Course) (s : Source) (g : Intervals) → EndsIn g (asking c s g)
 asking_goes c s g = let (more, is) = asks_on c s g in subst (λ xs. EndsIn g xs) (sym is) (ends more g)
 
+split : (a b : Intervals) → EndsIn a b → b ≡ take (length b - length a) b ++ a
+split a b h =
+    sym (take-append-drop (length b - length a) b) ∙ ap (λ xs. take (length b - length a) b ++ xs) h
+
+pub ends_both : (a b c : Intervals) → EndsIn a b → EndsIn b c → EndsIn a c
+ends_both a b c h g =
+    let low = take (length b - length a) b in
+    let high = take (length c - length b) c in
+    let whole : c ≡ (high ++ low) ++ a =
+    split b c g ∙ ap (λ xs. high ++ xs) (split a b h) ∙ sym (append_assoc high low a) in
+    subst (λ xs. EndsIn a xs) (sym whole) (ends (high ++ low) a)
+
+-- What is a beginning of what was asked for is one of all that is asked for.
+pub asking_on : (c : Course) (s : Source) (first g : Intervals) → EndsIn first g → EndsIn first (asking c s g)
+asking_on c s first g h = ends_both first g (asking c s g) h (asking_goes c s g)
+
 pub asking_is : (c : Course) (s : Source) (g : Intervals) → asking c s g ≡ reverse (asked c s) ++ g
 asking_is (Ask k next) s g =
     asking_is (next (s.value k)) s ((k, k + 1) ∷ g) ∙ one_more (k, k + 1) (asked (next (s.value k)) s) g
@@ -48,16 +64,6 @@ later_both a b c ab bc = record {
 pub later_same : (a : Sighting) → IsLater a a
 later_same a = record { keeps = λ r h. h; values = λ k h. refl }
 
-pub always_ok : {T E P : Type 0} (r : Result T E) → P → OnOk r P
-always_ok (Ok x) p = p
-always_ok (Err e) p = record {}
-
 pub always_err : {T E P : Type 0} (r : Result T E) → P → OnErr r P
 always_err (Ok x) p = record {}
 always_err (Err e) p = p
-
--- where a way has come to a place, it may be broken off
-pub at_stops : {A : Type 0} (way : (A → Course) → Course) (old new : Sighting) (a : A) → IsAt way old new a
-    → IsStopped way old new
-at_stops way old new a at next last l =
-    subst (λ xs. EndsIn new.asked xs) (sym (at next last l)) (asking_goes (next a) (of_seen last.seen) new.asked)
