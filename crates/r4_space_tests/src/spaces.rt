@@ -213,7 +213,7 @@ fn fill(rt: &impl Abort, alloc: Global, space: &mut SpaceMap) -> Result<(), Fail
         &charge(alloc, space, 1, 130, 128)?,
         &Some(Short {
             need: 257,
-            free: 35
+            free: 35,
         }),
         "what is short",
     );
@@ -238,12 +238,27 @@ fn a_full_volume_is_charged(rt: HostRuntime) -> Result<(), Fail> {
     let mut space = read(&rt, alloc, &bitmaps, 64, 40).map_err(|_| Fail::from("no space"))?;
     fill(&rt, alloc, &mut space)?;
     same(&rt, &space.free(), &40, "free");
-    same(&rt, &charge(alloc, &mut space, 1, 1, 0)?, &None, "what is short");
-    same(&rt, &charge(alloc, &mut space, 2, 2, 0)?, &None, "what is short");
+    same(
+        &rt,
+        &charge(alloc, &mut space, 1, 1, 0)?,
+        &None,
+        "what is short",
+    );
+    same(
+        &rt,
+        &charge(alloc, &mut space, 2, 2, 0)?,
+        &None,
+        "what is short",
+    );
     same(&rt, &space.free(), &29, "free");
     merge(&mut space);
     same(&rt, &space.free(), &33, "free");
-    same(&rt, &charge(alloc, &mut space, 1, 17, 15)?, &None, "what is short");
+    same(
+        &rt,
+        &charge(alloc, &mut space, 1, 17, 15)?,
+        &None,
+        "what is short",
+    );
     same(&rt, &space.free(), &4, "free");
     Ok(())
 }
