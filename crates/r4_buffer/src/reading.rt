@@ -1,49 +1,45 @@
-//! What one step reads, each block once.
+//! What one step reads, over the cells in memory.
 
-ghost use Rattle.std.specs.Prelude.{◌≡◌, ◌≤◌, ◌<◌, ◌^◌, ℕ, ◌==◌, IfOk, IfErr, None, true};
+ghost use Rattle.std.specs.Prelude.{◌≡◌, ◌≤◌, ◌<◌, ◌^◌, ℕ, None, IfOk};
 ghost use Rattle.std.specs.Arc.{arc_value};
-ghost use Rattle.r4_search.specs.Pool.{called, place_fault};
-ghost use Rattle.r4_buffer.specs.Reading.{AreMet, AreNamed, IsAgain, IsReadable, Keeps, StandsInMemory, met_in, refused_as};
+ghost use Rattle.r4_search.specs.Pool.{StandsInMemory, called};
+ghost use Rattle.r4_buffer.specs.Reading.{AreNamed, IsReadable};
 ghost use Rattle.r4_buffer.specs.InMemory.{IsInMemory};
 
 use crate::buffer::Buffer;
 use r4_base::{Block, BlockNo, CellFault, Key, Memory, NodeId};
-use r4_cell::{Cell, CellRefused, Root, read_cell};
+use r4_cell::{Cell, Root};
 use r4_outside::Device;
-use r4_search::{FetchFault, Pool};
+use r4_search::{FetchFault, Pool, cell_from, fault_of_place};
 use std::alloc::Global;
-use std::collections::HashMap;
 use std::sync::Arc;
 
 /// A pool for one step over the cells in memory and a device, of the tree with this root on a
-/// volume of `blocks` blocks. A cell that was met answers again; then a cell in memory that fits; a
-/// captured one that is asked for with another level or range is `Damaged`; each other name is read
-/// from the device. So each block is read once (docs/buffer.md).
+/// volume of `blocks` blocks. A cell in memory that fits is answered; a captured one that is asked
+/// for with another level or range is `Damaged`; each other name is read from the device. It keeps
+/// nothing of what it answers: under `Keeping` each block is read once (docs/buffer.md).
 #[derive(Drop)]
 pub struct Reading<'a, E: Device> {
     dev: E,
     buffer: &'a Buffer,
     root: Root,
     blocks: u64,
-    met: HashMap<u64, Arc<Cell>>,
     ghost small: { blocks < 2 ^ 64 },
     ghost within: { blocks ≤ (E.state dev).blocks },
     ghost named: { AreNamed buffer.now },
     ghost readable: { IsReadable (E.state dev) buffer.now blocks },
-    ghost sound: { AreMet buffer.now blocks met.entries },
 }
 
 impl<'a, E: Device> Reading<'a, E> {
-    /// Nothing was met. The device has at least as many blocks as the volume, and the cells in
-    /// memory can be read from.
-    pub fn new(alloc: Global, dev: E, buffer: &'a Buffer, root: Root, blocks: u64) -> Reading<'a, E>
+    /// The device has at least as many blocks as the volume, and the cells in memory can be read
+    /// from.
+    pub fn new(dev: E, buffer: &'a Buffer, root: Root, blocks: u64) -> Reading<'a, E>
         requires within { blocks ≤ (E.state dev).blocks }
         requires readable { IsReadable (E.state dev) buffer.now blocks }
         ensures device { result.dev ≡ dev }
         ensures buffer { result.buffer.now ≡ buffer.now }
         ensures root { result.root ≡ root }
         ensures blocks { result.blocks ≡ blocks }
-        ensures empty { (i : ℕ) → met_in result.met.entries i ≡ None }
     {
         buffer.lawful();
         Reading {
@@ -51,7 +47,6 @@ impl<'a, E: Device> Reading<'a, E> {
             buffer,
             root,
             blocks,
-            met: HashMap::new(alloc),
         }
     }
 
@@ -64,11 +59,12 @@ impl<'a, E: Device> Reading<'a, E> {
 }
 
 impl<'a, E: Device> Pool for Reading<'a, E> {
+    ghost use Rattle.r4_search.specs.OnDevice.{device_state};
     ghost use Rattle.r4_search.specs.Path.{root_name};
-    ghost use Rattle.r4_buffer.specs.Reading.{reading_state};
+    ghost use Rattle.r4_buffer.specs.Reading.{reading_places};
 
     ghost state = { λ r.
-        reading_state (root_name r.root) (E.state r.dev) r.buffer.now r.blocks r.met.entries };
+        device_state (reading_places (root_name r.root) r.buffer.now r.blocks) (E.state r.dev) };
 
     ghost device = { λ r. E.state r.dev };
 
@@ -85,11 +81,8 @@ impl<'a, E: Device> Pool for Reading<'a, E> {
         hi: Key,
     ) -> Result<Arc<Cell>, FetchFault> {
         let at = BlockNo(id.0);
-        if let Some(cell) = self.met.get(&id.0) {
-            return again(cell, at, level, lo, hi);
-        }
         match in_memory(self.buffer, id, level, lo, hi) {
-            InMemory::Fits(cell) => return meet(&mut self.met, shared(cell)?),
+            InMemory::Fits(cell) => return Ok(shared(cell)?),
             InMemory::Refused(fault) => return Err(FetchFault::Damaged { block: at, fault }),
             InMemory::Absent => {}
         }
@@ -98,10 +91,7 @@ impl<'a, E: Device> Pool for Reading<'a, E> {
             let faults = self.dev.faults();
             return Err(FetchFault::Read { block: at, faults });
         }
-        match read_cell(alloc, id, level, lo, hi, self.blocks, block) {
-            Ok(cell) => meet(&mut self.met, cell),
-            Err(refused) => Err(fault_of(at, refused)),
-        }
+        cell_from(alloc, id, level, lo, hi, self.blocks, block)
     }
 }
 
@@ -129,34 +119,6 @@ fn in_memory(buffer: &Buffer, id: NodeId, level: u8, lo: Key, hi: Key) -> InMemo
     }
 }
 
-// Why no cell was made of a block, as it is answered.
-fn fault_of(at: BlockNo, refused: CellRefused) -> FetchFault
-    ensures { result ≡ refused_as at refused }
-{
-    match refused {
-        CellRefused::Fault(fault) => FetchFault::Damaged { block: at, fault },
-        CellRefused::Memory => FetchFault::Memory,
-    }
-}
-
-// A cell that was met, where it is the one that is asked for.
-fn again(
-    cell: &Arc<Cell>,
-    at: BlockNo,
-    level: u8,
-    lo: Key,
-    hi: Key,
-) -> Result<Arc<Cell>, FetchFault>
-    ensures ok { IfOk result (λ c. (arc_value c ≡ arc_value cell.now)
-        × (place_fault (called at.0 level lo hi) (arc_value cell.now) ≡ None)) }
-    ensures err { IfErr result (λ e. IsAgain (called at.0 level lo hi) (arc_value cell.now) e) }
-{
-    if let Some(fault) = fault_of_place(cell, level, lo, hi) {
-        return Err(FetchFault::Damaged { block: at, fault });
-    }
-    Ok(Arc::try_clone(cell)?)
-}
-
 // The same cell once more. What a cell is in memory is known of it then.
 fn shared(cell: &Arc<Cell>) -> Result<Arc<Cell>, Memory>
     ensures same { IfOk result (λ c. arc_value c ≡ arc_value cell.now) }
@@ -174,26 +136,4 @@ fn stands(cell: &Cell)
         return;
     }
     let _ = cell.node();
-}
-
-// Why a cell is not the one of a level and a range.
-fn fault_of_place(cell: &Cell, level: u8, lo: Key, hi: Key) -> Option<CellFault>
-    ensures { (id : ℕ) → result ≡ place_fault (called id level lo hi) cell.now }
-{
-    if cell.level() != level {
-        return Some(CellFault::Level);
-    }
-    if !cell.lo().is_same(lo) || !cell.hi().is_same(hi) {
-        return Some(CellFault::Range { item: 0 });
-    }
-    None
-}
-
-// A cell was met.
-fn meet(met: &mut HashMap<u64, Arc<Cell>>, cell: Arc<Cell>) -> Result<Arc<Cell>, FetchFault>
-    ensures ok { IfOk result (λ c. arc_value c ≡ arc_value cell) }
-    ensures kept { Keeps met.old.entries (arc_value cell) result met.new.entries }
-{
-    met.insert(cell.id().0, Arc::try_clone(&cell)?)?;
-    Ok(cell)
 }

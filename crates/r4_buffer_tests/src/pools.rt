@@ -9,7 +9,7 @@ use r4_base::{Block, BlockNo, CellFault, NodeId};
 use r4_buffer::{Buffer, Reading};
 use r4_cell::{Root, least};
 use r4_outside::{Device, Failed, MemoryDevice};
-use r4_search::{FetchFault, Pool, cover};
+use r4_search::{FetchFault, Keeping, Pool, cover};
 use std::alloc::Global;
 use std::test::Fail;
 
@@ -124,9 +124,9 @@ fn each_block_is_read_once(rt: HostRuntime) -> Result<(), Fail> {
         return Err(Fail::from("no device was made"));
     }
     let buffer = Buffer::new(alloc);
-    let mut reading = Reading::new(alloc, &mut dev, &buffer, ROOT, 64);
+    let mut reading = Keeping::all(alloc, Reading::new(&mut dev, &buffer, ROOT, 64));
     let found = search_all(alloc, &mut reading, &ROOT, 100);
-    let _ = reading.into_device();
+    let _ = reading.into_pool().into_device();
     same(&rt, &found, &Ok(8), "the cells on the way");
     same(&rt, &dev.reads, &8, "reads");
     Ok(())
@@ -142,9 +142,9 @@ fn a_captured_cell_of_another_level_is_damage(rt: HostRuntime) -> Result<(), Fai
     }
     let mut buffer = Buffer::new(alloc);
     put_one(alloc, &mut buffer, &[], cell(alloc, 23, 0, 0, 4096)?)?;
-    let mut reading = Reading::new(alloc, &mut dev, &buffer, ROOT, 64);
+    let mut reading = Keeping::all(alloc, Reading::new(&mut dev, &buffer, ROOT, 64));
     let found = search_all(alloc, &mut reading, &ROOT, 2);
-    let _ = reading.into_device();
+    let _ = reading.into_pool().into_device();
     let damaged = FetchFault::Damaged {
         block: BlockNo(23),
         fault: CellFault::Level,

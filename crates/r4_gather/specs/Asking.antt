@@ -1,6 +1,6 @@
 -- What a command's course asks for, one interval of keys after another, and how far it has come
 -- (docs/commands.md, "Asking"). A key is its rank.
-use Rattle.std.specs.Prelude.{◌≡◌, ℕ, ◌+◌, ◌-◌, List, ◌∷◌, Bool, true, ◌&&◌, ◌==◌, drop, length}
+use Rattle.std.specs.Prelude.{◌≡◌, ◌⊎◌, ℕ, ◌+◌, ◌-◌, List, ◌∷◌, Bool, true, ◌&&◌, ◌==◌, drop, length, Option, Some}
 use Rattle.std.specs.List.{list_any}
 use Rattle.std.specs.FinMap.{find}
 use Rattle.std.specs.Ordering.{nat_cmp}
@@ -11,11 +11,18 @@ use Rattle.r4_content.specs.Seen.{of_seen}
 use Rattle.r4_content.specs.Ways.{Place, to_ends, to_entry, to_free, to_parent}
 use Rattle.r4_content.specs.declared.reply.Reply.{Reply}
 use Rattle.r4_dir.specs.Coming.{last_of}
+use Rattle.r4_search.specs.declared.pool.FetchFault.{FetchFault}
+use Rattle.r4_search.specs.declared.pool.FetchFault.TheVariants.{Memory}
 
--- what was seen, and what was asked for, the newest first
+-- what was seen, what was asked for, the newest first, and the fault with which a look-up ended last
 pub record Sighting : Type 0 where
   pub seen : Pairs
   pub asked : Intervals
+  pub fault : Option FetchFault
+
+-- A fault is the one with which a look-up ended, or there was no memory.
+abbrev pub IsCause : FetchFault → Sighting → Type 0
+IsCause e s = (e ≡ Memory) ⊎ (s.fault ≡ Some e)
 
 -- what was asked for, with all that the course asks for besides, the newest first
 abbrev pub asking : Course → Source → Intervals → Intervals

@@ -1,10 +1,10 @@
 //! What each command asks for (docs/commands.md, "Asking").
 
-ghost use Rattle.std.specs.Prelude.{◌≡◌, ◌++◌, OnErr, OnOk, reverse};
+ghost use Rattle.std.specs.Prelude.{◌≡◌, ◌++◌, IfErr, OnErr, OnOk, reverse};
 ghost use Rattle.r4_content.specs.Course.{asked};
 ghost use Rattle.r4_content.specs.Meaning.{course, greatest_size};
 ghost use Rattle.r4_content.specs.Seen.{of_seen};
-ghost use Rattle.r4_gather.specs.Asking.{EndsIn, HasAsked, IsLater, StopsIn};
+ghost use Rattle.r4_gather.specs.Asking.{EndsIn, HasAsked, IsCause, IsLater, StopsIn};
 
 use crate::entries::{see_for_link, see_for_names, see_for_new, see_for_rmdir, see_for_unlink};
 use crate::files::{see_for_object, see_for_read};
@@ -17,6 +17,8 @@ use std::alloc::Global;
 // What a command asks for, whatever is asked for besides.
 fn see_course<S: Sight>(alloc: Global, sight: &mut S, command: &Command) -> Result<(), FetchFault>
     ensures later { IsLater (S.state sight.old) (S.state sight.new) }
+    ensures kept { OnOk result ((S.state sight.new).fault ≡ (S.state sight.old).fault) }
+    ensures cause { IfErr result (λ e. IsCause e (S.state sight.new)) }
     ensures asked { OnOk result
         (HasAsked (course greatest_size command.now) (S.state sight.old) (S.state sight.new)) }
     ensures stops { OnErr result
@@ -61,6 +63,8 @@ fn see_course<S: Sight>(alloc: Global, sight: &mut S, command: &Command) -> Resu
 /// command asks for. `Read` and `Damaged` are those of the sight; `Memory` also where none was found for the way.
 pub fn see_for<S: Sight>(alloc: Global, sight: &mut S, command: &Command) -> Result<(), FetchFault>
     ensures later { IsLater (S.state sight.old) (S.state sight.new) }
+    ensures kept { OnOk result ((S.state sight.new).fault ≡ (S.state sight.old).fault) }
+    ensures cause { IfErr result (λ e. IsCause e (S.state sight.new)) }
     ensures asked { OnOk result ((S.state sight.new).asked
         ≡ reverse (asked (course greatest_size command.now) (of_seen (S.state sight.new).seen))
         ++ (S.state sight.old).asked) }

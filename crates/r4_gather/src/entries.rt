@@ -1,6 +1,6 @@
 //! What commands on the entries of directories ask for (docs/commands.md, "Entries").
 
-ghost use Rattle.std.specs.Prelude.{◌≡◌, ◌<◌, ◌^◌, length, IfOk, OnErr, OnOk, MatchOption};
+ghost use Rattle.std.specs.Prelude.{◌≡◌, ◌<◌, ◌^◌, length, IfErr, IfOk, OnErr, OnOk, MatchOption};
 ghost use Rattle.r4_content.specs.Entries.{create, entries_from, entries_to, link, mkdir, names, rmdir, unlink};
 ghost use Rattle.r4_content.specs.Held.{interval_of};
 ghost use Rattle.r4_content.specs.Meaning.{named};
@@ -8,7 +8,7 @@ ghost use Rattle.r4_content.specs.declared.reply.Reply.{Reply as SeenReply};
 ghost use Rattle.r4_base.specs.declared.things.Oid.{Oid as SeenOid};
 ghost use Rattle.r4_dir.specs.Coming.{AreNames, IsSmall, object_of, place_of};
 ghost use Rattle.r4_gather.specs.Asking.{HasAsked, HasAskedFree, HasEndedEntry, HasEndedParent, IsAtEntry, IsAtParent};
-ghost use Rattle.r4_gather.specs.Asking.{IsLater, IsStoppedEntry, IsStoppedParent, StopsFree, StopsIn};
+ghost use Rattle.r4_gather.specs.Asking.{IsCause, IsLater, IsStoppedEntry, IsStoppedParent, StopsFree, StopsIn};
 ghost use Rattle.r4_gather.specs.Finding.{place_seen};
 
 use crate::sight::Sight;
@@ -30,6 +30,8 @@ pub(crate) fn see_parent<S: Sight>(
     requires some { 0 < length path.now }
     ensures small { IfOk result (λ r. MatchOption r Unit (λ p. IsSmall p.here)) }
     ensures later { IsLater (S.state sight.old) (S.state sight.new) }
+    ensures kept { OnOk result ((S.state sight.new).fault ≡ (S.state sight.old).fault) }
+    ensures cause { IfErr result (λ e. IsCause e (S.state sight.new)) }
     ensures comes { (of_root : SeenReply) → IfOk result (λ r. MatchOption r
         (HasEndedParent of_root path.now (S.state sight.old) (S.state sight.new))
         (λ p. IsAtParent of_root path.now (S.state sight.old) (S.state sight.new) (place_of p))) }
@@ -57,6 +59,8 @@ fn see_named<S: Sight>(
     requires some { 0 < length path.now }
     ensures small { IfOk result (λ r. MatchOption r Unit (λ f. IsSmall f.dir × IsSmall f.object)) }
     ensures later { IsLater (S.state sight.old) (S.state sight.new) }
+    ensures kept { OnOk result ((S.state sight.new).fault ≡ (S.state sight.old).fault) }
+    ensures cause { IfErr result (λ e. IsCause e (S.state sight.new)) }
     ensures comes { (of_root : SeenReply) → IfOk result (λ r. MatchOption r
         (HasEndedEntry of_root path.now (S.state sight.old) (S.state sight.new))
         (λ f. IsAtEntry of_root path.now (S.state sight.old) (S.state sight.new)
@@ -88,6 +92,8 @@ pub(crate) fn see_entry<S: Sight>(
     requires legal { AreNames path.now }
     ensures small { IfOk result (λ r. MatchOption r Unit (λ f. IsSmall f.dir × IsSmall f.object)) }
     ensures later { IsLater (S.state sight.old) (S.state sight.new) }
+    ensures kept { OnOk result ((S.state sight.new).fault ≡ (S.state sight.old).fault) }
+    ensures cause { IfErr result (λ e. IsCause e (S.state sight.new)) }
     ensures comes { (of_root : SeenReply) → IfOk result (λ r. MatchOption r
         (HasEndedEntry of_root path.now (S.state sight.old) (S.state sight.new))
         (λ f. IsAtEntry of_root path.now (S.state sight.old) (S.state sight.new)
@@ -110,6 +116,8 @@ pub(crate) fn see_free<S: Sight>(
 ) -> Result<(), FetchFault>
     requires legal { AreNames path.now }
     ensures later { IsLater (S.state sight.old) (S.state sight.new) }
+    ensures kept { OnOk result ((S.state sight.new).fault ≡ (S.state sight.old).fault) }
+    ensures cause { IfErr result (λ e. IsCause e (S.state sight.new)) }
     ensures asked { OnOk result (HasAskedFree path.now (S.state sight.old) (S.state sight.new)) }
     ensures stops { OnErr result (StopsFree path.now (S.state sight.old) (S.state sight.new)) }
 {
@@ -133,6 +141,8 @@ pub(crate) fn see_for_new<S: Sight>(
     path: &[Name],
 ) -> Result<(), FetchFault>
     ensures later { IsLater (S.state sight.old) (S.state sight.new) }
+    ensures kept { OnOk result ((S.state sight.new).fault ≡ (S.state sight.old).fault) }
+    ensures cause { IfErr result (λ e. IsCause e (S.state sight.new)) }
     ensures create { (oid : SeenOid) → OnOk result
         (HasAsked (named path.now (create path.now oid)) (S.state sight.old) (S.state sight.new)) }
     ensures mkdir { (oid : SeenOid) → OnOk result
@@ -157,6 +167,8 @@ pub(crate) fn see_for_link<S: Sight>(
     to: &[Name],
 ) -> Result<(), FetchFault>
     ensures later { IsLater (S.state sight.old) (S.state sight.new) }
+    ensures kept { OnOk result ((S.state sight.new).fault ≡ (S.state sight.old).fault) }
+    ensures cause { IfErr result (λ e. IsCause e (S.state sight.new)) }
     ensures asked { OnOk result (HasAsked (named from.now (named to.now (link from.now to.now)))
         (S.state sight.old) (S.state sight.new)) }
     ensures stops { OnErr result (StopsIn (named from.now (named to.now (link from.now to.now)))
@@ -197,6 +209,8 @@ pub(crate) fn see_for_names<S: Sight>(
     path: &[Name],
 ) -> Result<(), FetchFault>
     ensures later { IsLater (S.state sight.old) (S.state sight.new) }
+    ensures kept { OnOk result ((S.state sight.new).fault ≡ (S.state sight.old).fault) }
+    ensures cause { IfErr result (λ e. IsCause e (S.state sight.new)) }
     ensures asked { OnOk result (HasAsked (named path.now (names path.now))
         (S.state sight.old) (S.state sight.new)) }
     ensures stops { OnErr result (StopsIn (named path.now (names path.now))
@@ -222,6 +236,8 @@ pub(crate) fn see_for_unlink<S: Sight>(
     path: &[Name],
 ) -> Result<(), FetchFault>
     ensures later { IsLater (S.state sight.old) (S.state sight.new) }
+    ensures kept { OnOk result ((S.state sight.new).fault ≡ (S.state sight.old).fault) }
+    ensures cause { IfErr result (λ e. IsCause e (S.state sight.new)) }
     ensures asked { OnOk result (HasAsked (named path.now (unlink path.now))
         (S.state sight.old) (S.state sight.new)) }
     ensures stops { OnErr result (StopsIn (named path.now (unlink path.now))
@@ -242,6 +258,8 @@ pub(crate) fn see_for_rmdir<S: Sight>(
     path: &[Name],
 ) -> Result<(), FetchFault>
     ensures later { IsLater (S.state sight.old) (S.state sight.new) }
+    ensures kept { OnOk result ((S.state sight.new).fault ≡ (S.state sight.old).fault) }
+    ensures cause { IfErr result (λ e. IsCause e (S.state sight.new)) }
     ensures asked { OnOk result (HasAsked (named path.now (rmdir path.now))
         (S.state sight.old) (S.state sight.new)) }
     ensures stops { OnErr result (StopsIn (named path.now (rmdir path.now))

@@ -1,10 +1,10 @@
 //! What commands on objects and on the bytes of files ask for (docs/commands.md, "Bytes").
 
-ghost use Rattle.std.specs.Prelude.{◌≡◌, ℕ, List, OnErr, OnOk};
+ghost use Rattle.std.specs.Prelude.{◌≡◌, ℕ, List, IfErr, OnErr, OnOk};
 ghost use Rattle.r4_base.specs.declared.items.Attr.{Attr as SeenAttr};
 ghost use Rattle.r4_content.specs.Bodies.{read, truncate, write};
 ghost use Rattle.r4_content.specs.Meaning.{named, set_attrs, stat};
-ghost use Rattle.r4_gather.specs.Asking.{HasAsked, IsLater, StopsIn};
+ghost use Rattle.r4_gather.specs.Asking.{HasAsked, IsCause, IsLater, StopsIn};
 
 use crate::sight::Sight;
 use crate::ways::see_way;
@@ -22,6 +22,8 @@ pub(crate) fn see_for_object<S: Sight>(
     path: &[Name],
 ) -> Result<(), FetchFault>
     ensures later { IsLater (S.state sight.old) (S.state sight.new) }
+    ensures kept { OnOk result ((S.state sight.new).fault ≡ (S.state sight.old).fault) }
+    ensures cause { IfErr result (λ e. IsCause e (S.state sight.new)) }
     ensures stat { OnOk result
         (HasAsked (named path.now (stat path.now)) (S.state sight.old) (S.state sight.new)) }
     ensures attrs { (f : SeenAttr → SeenAttr) → OnOk result
@@ -60,6 +62,8 @@ pub(crate) fn see_for_read<S: Sight>(
     len: u64,
 ) -> Result<(), FetchFault>
     ensures later { IsLater (S.state sight.old) (S.state sight.new) }
+    ensures kept { OnOk result ((S.state sight.new).fault ≡ (S.state sight.old).fault) }
+    ensures cause { IfErr result (λ e. IsCause e (S.state sight.new)) }
     ensures asked { OnOk result
         (HasAsked (named path.now (read path.now offset len)) (S.state sight.old) (S.state sight.new)) }
     ensures stops { OnErr result

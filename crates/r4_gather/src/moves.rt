@@ -1,12 +1,12 @@
 //! What a command asks for that moves an entry (docs/commands.md, "Entries").
 
-ghost use Rattle.std.specs.Prelude.{◌≡◌, ◌<◌, ◌^◌, None, length, IfOk, OnErr, OnOk, MatchOption};
+ghost use Rattle.std.specs.Prelude.{◌≡◌, ◌<◌, ◌^◌, None, length, IfErr, IfOk, OnErr, OnOk, MatchOption};
 ghost use Rattle.r4_base.specs.Name.{key_of_name, name_fault};
 ghost use Rattle.r4_content.specs.Entries.{move, rename, replace};
 ghost use Rattle.r4_content.specs.Meaning.{named};
 ghost use Rattle.r4_content.specs.Objects.{Object as SeenObject};
 ghost use Rattle.r4_dir.specs.Coming.{AreNames, IsSmall, object_of};
-ghost use Rattle.r4_gather.specs.Asking.{HasAsked, HasEndedEnds, IsAtEnds, IsLater, IsStoppedEnds, StopsIn};
+ghost use Rattle.r4_gather.specs.Asking.{HasAsked, HasEndedEnds, IsAtEnds, IsCause, IsLater, IsStoppedEnds, StopsIn};
 ghost use Rattle.std.specs.Prelude.{ℕ, List};
 
 use crate::entries::{entries_of, see_entry, see_parent};
@@ -36,6 +36,8 @@ fn see_ends<S: Sight>(
     requires some { 0 < length to.now }
     ensures small { IfOk result (λ r. MatchOption r Unit (λ e. IsSmall e.object × IsSmall e.new_dir)) }
     ensures later { IsLater (S.state sight.old) (S.state sight.new) }
+    ensures kept { OnOk result ((S.state sight.new).fault ≡ (S.state sight.old).fault) }
+    ensures cause { IfErr result (λ e. IsCause e (S.state sight.new)) }
     ensures comes { IfOk result (λ r. MatchOption r
         (HasEndedEnds from.now to.now (S.state sight.old) (S.state sight.new))
         (λ e. IsAtEnds from.now to.now (S.state sight.old) (S.state sight.new)
@@ -72,6 +74,8 @@ fn see_old<S: Sight>(
 ) -> Result<(), FetchFault>
     requires { IsSmall old.now }
     ensures later { IsLater (S.state sight.old) (S.state sight.new) }
+    ensures kept { OnOk result ((S.state sight.new).fault ≡ (S.state sight.old).fault) }
+    ensures cause { IfErr result (λ e. IsCause e (S.state sight.new)) }
     ensures asked { (dir new_dir : SeenObject) (n m : List ℕ) → OnOk result
         (HasAsked (replace dir n (object_of object.now) new_dir m (object_of old.now))
         (S.state sight.old) (S.state sight.new)) }
@@ -95,6 +99,8 @@ fn see_move<S: Sight>(
     requires small { IsSmall ends.now.object × IsSmall ends.now.new_dir }
     requires legal { name_fault new_name.now ≡ None }
     ensures later { IsLater (S.state sight.old) (S.state sight.new) }
+    ensures kept { OnOk result ((S.state sight.new).fault ≡ (S.state sight.old).fault) }
+    ensures cause { IfErr result (λ e. IsCause e (S.state sight.new)) }
     ensures asked { (dir : SeenObject) (n : List ℕ) → OnOk result
         (HasAsked (move dir n (object_of ends.now.object) (object_of ends.now.new_dir) new_name.now)
         (S.state sight.old) (S.state sight.new)) }
@@ -123,6 +129,8 @@ pub(crate) fn see_for_rename<S: Sight>(
     to: &[Name],
 ) -> Result<(), FetchFault>
     ensures later { IsLater (S.state sight.old) (S.state sight.new) }
+    ensures kept { OnOk result ((S.state sight.new).fault ≡ (S.state sight.old).fault) }
+    ensures cause { IfErr result (λ e. IsCause e (S.state sight.new)) }
     ensures asked { OnOk result (HasAsked (named from.now (named to.now (rename from.now to.now)))
         (S.state sight.old) (S.state sight.new)) }
     ensures stops { OnErr result (StopsIn (named from.now (named to.now (rename from.now to.now)))

@@ -1,10 +1,10 @@
 //! What was seen, to which more comes as it is asked for.
 
-ghost use Rattle.std.specs.Prelude.{◌≡◌, ◌+◌, ◌∷◌, OnErr, OnOk};
+ghost use Rattle.std.specs.Prelude.{◌≡◌, ◌+◌, ◌∷◌, IfErr, OnErr, OnOk};
 ghost use Rattle.r4_base.specs.Key.{rank};
 ghost use Rattle.r4_content.specs.Held.{interval_of, pairs_of};
 ghost use Rattle.r4_content.specs.Seen.{Rises};
-ghost use Rattle.r4_gather.specs.Asking.{EndsIn, IsLater, Sighting};
+ghost use Rattle.r4_gather.specs.Asking.{EndsIn, IsCause, IsLater, Sighting};
 
 use r4_base::Key;
 use r4_content::{Interval, Seen};
@@ -20,9 +20,10 @@ pub enum Asked {
 
 /// What was seen of a content, to which more comes as it is asked for (docs/commands.md, "Asking"). What was seen at a
 /// key that was asked for stays. Where a call ends with a fault, the interval may be among those that were asked for,
-/// and what stands there is not known.
+/// and what stands there is not known;
+/// the fault is the one with which the look-up ended, or want of memory.
 pub trait Sight {
-    /// What was seen, and what was asked for, the newest first.
+    /// What was seen, what was asked for, the newest first, and the fault with which a look-up ended last.
     ghost state: { Self → Sighting };
 
     /// What was seen so far.
@@ -33,6 +34,8 @@ pub trait Sight {
     /// What stands at a key is asked for.
     fn see(&mut self, alloc: Global, key: Key) -> Result<(), FetchFault>
         ensures later { IsLater (state self.old) (state self.new) }
+        ensures kept { OnOk result ((state self.new).fault ≡ (state self.old).fault) }
+        ensures cause { IfErr result (λ e. IsCause e (state self.new)) }
         ensures asked { OnOk result
             ((state self.new).asked ≡ (rank key, rank key + 1) ∷ (state self.old).asked) }
         ensures stops { OnErr result
@@ -41,6 +44,8 @@ pub trait Sight {
     /// All that stands in an interval of keys is asked for.
     fn see_all(&mut self, alloc: Global, within: Interval) -> Result<(), FetchFault>
         ensures later { IsLater (state self.old) (state self.new) }
+        ensures kept { OnOk result ((state self.new).fault ≡ (state self.old).fault) }
+        ensures cause { IfErr result (λ e. IsCause e (state self.new)) }
         ensures asked { OnOk result
             ((state self.new).asked ≡ interval_of within ∷ (state self.old).asked) }
         ensures stops { OnErr result

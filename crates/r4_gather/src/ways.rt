@@ -1,6 +1,6 @@
 //! The ways of commands to the objects that they name, asked for key by key (docs/commands.md, "Ways").
 
-ghost use Rattle.std.specs.Prelude.{◌≡◌, ◌<◌, ◌^◌, ◌+◌, ◌++◌, ◌∷◌, [], List, None, IfOk, OnErr, OnOk, MatchOption};
+ghost use Rattle.std.specs.Prelude.{◌≡◌, ◌<◌, ◌^◌, ◌+◌, ◌++◌, ◌∷◌, [], List, None, IfErr, IfOk, OnErr, OnOk, MatchOption};
 ghost use Rattle.std.specs.FinMap.{find};
 ghost use Rattle.std.specs.Ordering.{nat_cmp};
 ghost use Rattle.r4_base.specs.Key.{rank};
@@ -9,7 +9,7 @@ ghost use Rattle.r4_content.specs.Objects.{Object as SeenObject};
 ghost use Rattle.r4_content.specs.Walk.{target_in};
 ghost use Rattle.r4_content.specs.Ways.{object_at, step, to_object};
 ghost use Rattle.r4_dir.specs.Coming.{AreNames, IsSmall, object_of, place_of};
-ghost use Rattle.r4_gather.specs.Asking.{EndsIn, HasEnded, IsAt, IsLater, IsStopped};
+ghost use Rattle.r4_gather.specs.Asking.{EndsIn, HasEnded, IsAt, IsCause, IsLater, IsStopped};
 
 use crate::sight::Sight;
 use r4_base::{Key, Name, OBJECT_END, ROOT_OBJECT, Target};
@@ -26,6 +26,8 @@ pub fn see_object<S: Sight>(
 ) -> Result<Option<Object>, FetchFault>
     ensures small { IfOk result (λ r. MatchOption r Unit IsSmall) }
     ensures later { IsLater (S.state sight.old) (S.state sight.new) }
+    ensures kept { OnOk result ((S.state sight.new).fault ≡ (S.state sight.old).fault) }
+    ensures cause { IfErr result (λ e. IsCause e (S.state sight.new)) }
     ensures comes { IfOk result (λ r. MatchOption r
         (HasEnded (object_at target) (S.state sight.old) (S.state sight.new))
         (λ o. IsAt (object_at target) (S.state sight.old) (S.state sight.new) (object_of o))) }
@@ -50,6 +52,8 @@ pub(crate) fn see_target<S: Sight>(
     name: &Name,
 ) -> Result<Option<Target>, FetchFault>
     ensures later { IsLater (S.state sight.old) (S.state sight.new) }
+    ensures kept { OnOk result ((S.state sight.new).fault ≡ (S.state sight.old).fault) }
+    ensures cause { IfErr result (λ e. IsCause e (S.state sight.new)) }
     ensures asked { OnOk result
         ((S.state sight.new).asked ≡ (rank key, rank key + 1) ∷ (S.state sight.old).asked) }
     ensures stops { OnErr result
@@ -76,6 +80,8 @@ pub fn see_step<S: Sight>(
     requires legal { name_fault name.now ≡ None }
     ensures small { IfOk result (λ r. MatchOption r Unit IsSmall) }
     ensures later { IsLater (S.state sight.old) (S.state sight.new) }
+    ensures kept { OnOk result ((S.state sight.new).fault ≡ (S.state sight.old).fault) }
+    ensures cause { IfErr result (λ e. IsCause e (S.state sight.new)) }
     ensures comes { (above : List SeenObject) → IfOk result (λ r. MatchOption r
         (HasEnded (λ next. step name.now next
         (record { here = object_of here.now; above = above })) (S.state sight.old) (S.state sight.new))
@@ -105,6 +111,8 @@ pub fn see_way<S: Sight>(
     requires legal { AreNames path.now }
     ensures small { IfOk result (λ r. MatchOption r Unit (λ p. IsSmall p.here)) }
     ensures later { IsLater (S.state sight.old) (S.state sight.new) }
+    ensures kept { OnOk result ((S.state sight.new).fault ≡ (S.state sight.old).fault) }
+    ensures cause { IfErr result (λ e. IsCause e (S.state sight.new)) }
     ensures comes { IfOk result (λ r. MatchOption r
         (HasEnded (to_object path.now) (S.state sight.old) (S.state sight.new))
         (λ p. IsAt (to_object path.now) (S.state sight.old) (S.state sight.new) (place_of p))) }

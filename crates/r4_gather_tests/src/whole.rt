@@ -1,6 +1,6 @@
 //! A sight of a content that is held whole.
 
-ghost use Rattle.std.specs.Prelude.{◌≡◌, map, reverse};
+ghost use Rattle.std.specs.Prelude.{◌≡◌, None, map, reverse};
 ghost use Rattle.r4_content.specs.Held.{pairs_of};
 ghost use Rattle.r4_content.specs.Seen.{Rises};
 ghost use Rattle.r4_gather.specs.Finding.{asked_keys};
@@ -39,7 +39,7 @@ impl Whole {
 }
 
 impl Sight for Whole {
-    ghost state = { λ w. record { seen = pairs_of w.seen; asked = reverse (map asked_keys w.asked.items) } };
+    ghost state = { λ w. record { seen = pairs_of w.seen; asked = reverse (map asked_keys w.asked.items); fault = None } };
 
     fn parts(&self) -> &Seen {
         &self.seen

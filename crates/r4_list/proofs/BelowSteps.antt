@@ -19,7 +19,7 @@ use Rattle.r4_outside.specs.Sink.{SinkState, AppendsPart}
 use Rattle.r4_search.specs.Pool.{PoolState}
 use Rattle.r4_list.specs.Below.{GoesDown, GoesInto, GoesOn, IsBegun, IsFrameOf, IsHeld, IsOnward, IsPushed, IsPut, IsStack, PrintsOne, printed_in}
 use Rattle.r4_list.specs.Frame.{IsOfDir, IsOfOther, StandsAt, StandsFrom, dir_number}
-use Rattle.r4_list.specs.Leaf.{Stands}
+use Rattle.r4_search.specs.Pool.{StandsInMemory}
 use Rattle.r4_list.specs.Listing.{line_of}
 use Rattle.r4_list.specs.Over.{IsOver}
 use Rattle.r4_list.specs.Printed.{IsUndamagedStop, PrintsOver}
@@ -135,7 +135,7 @@ module _ {n : ℕ} {image : Image} {m : Content} (c : HasContent n image m) wher
 
   module _ (root : Root) (start : Target) (steps : ℕ) (f : OpenDir) (fs : List OpenDir) (b : Below) (frame : Frame) (held : IsHeld c f fs b frame) (w : IsWalking m start (f ∷ fs) (printed_in b)) where
     -- the leaf of the place, as it is looked at
-    module _ (enough : IsEnough m steps) (x : CellSeen) (same : x ≡ arc_value {X = CellSeen} frame.leaf) (whole : length x.block ≡ 4096) (stands : Stands x) where
+    module _ (enough : IsEnough m steps) (x : CellSeen) (same : x ≡ arc_value {X = CellSeen} frame.leaf) (whole : length x.block ≡ 4096) (stands : StandsInMemory x) where
       leaf : x.level ≡ 1
       leaf = ap (λ (y : CellSeen). y.level) same ∙ frame.level
 

@@ -31,12 +31,13 @@ use Rattle.r4_cell.proofs.NodesAt.{node_at, plugins_at}
 use Rattle.r4_cell.proofs.Rows.{row_bytes}
 use Rattle.r4_search.specs.Path.{EndsAt}
 use Rattle.r4_list.specs.Body.{HasByte, IsFileTo, IsKeyOf}
-use Rattle.r4_list.specs.Leaf.{AreUpTo, Stands}
-use Rattle.r4_list.proofs.BodyUnits.{names_of}
+use Rattle.r4_units.specs.Leaf.{AreUpTo}
+use Rattle.r4_search.specs.Pool.{StandsInMemory}
+use Rattle.r4_units.proofs.ExtentUnits.{names_of}
 use Rattle.r4_list.proofs.OverAnswers.{in_store}
-use Rattle.r4_list.proofs.OverLeaves.{node_units}
+use Rattle.r4_units.proofs.LeafUnits.{node_units}
 use Rattle.r4_list.proofs.OverPaths.{hi_is, level_is, lo_is}
-use Rattle.r4_list.proofs.OverUnits.{ends_before, item_is_key, last_up_to, mapped_place, unit_item}
+use Rattle.r4_units.proofs.ItemUnits.{ends_before, item_is_key, last_up_to, mapped_place, unit_item}
 
 -- ---- an item that has a byte, or names a block
 
@@ -172,7 +173,7 @@ pub record HasFound (x : CellSeen) (key : Key) (count : ℕ) : Type 0 where
   pub last : place + 1 ≡ count
   pub byte : HasByte item key
 
-module _ (x : CellSeen) (whole : length x.block ≡ 4096) (some : 1 ≤ x.level) (stands : Stands x) (key : Key) (kk : IsKey key) (count : ℕ) (up : AreUpTo (items_of x.block) (rank key) count) where
+module _ (x : CellSeen) (whole : length x.block ≡ 4096) (some : 1 ≤ x.level) (stands : StandsInMemory x) (key : Key) (kk : IsKey key) (count : ℕ) (up : AreUpTo (items_of x.block) (rank key) count) where
   items_good : items_in_fault true (2 ^ 64) x.level (rank x.lo) (rank x.hi) 0 (items_of x.block) ≡ None
   items_good = (node_at true (2 ^ 64) x.level (rank x.lo) (rank x.hi) x.block some stands).items
 

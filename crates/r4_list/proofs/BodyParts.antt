@@ -22,17 +22,18 @@ use Rattle.r4_cell.specs.Seen.{CellSeen, node_of}
 use Rattle.r4_cell.specs.declared.change.Root.{Root}
 use Rattle.r4_search.specs.Pool.{PoolState}
 use Rattle.r4_search.specs.declared.pool.FetchFault.{FetchFault}
-use Rattle.r4_list.specs.Body.{AreStored, AreUnits, IsFileTo, IsKeyOf, IsUnitAt, PrintsPart, block_name, unit_block}
+use Rattle.r4_list.specs.Body.{AreStored, AreUnits, IsFileTo, IsKeyOf, PrintsPart}
+use Rattle.r4_units.specs.Extent.{IsUnitAt, block_name, unit_block}
 use Rattle.r4_list.specs.Listing.{bytes_from}
 use Rattle.r4_list.specs.Over.{IsOver, IsUndamaged}
 use Rattle.r4_list.specs.Printed.{IsUndamagedStop, PrintsOver}
 use Rattle.r4_list.specs.declared.fault.Stop.{Stop}
 use Rattle.r4_list.specs.declared.fault.Stop.TheVariants.{Fetch, Sink}
-use Rattle.r4_list.proofs.OverLeaves.{node_units}
-use Rattle.r4_list.proofs.OverUnits.{item_unit}
+use Rattle.r4_units.proofs.LeafUnits.{node_units}
+use Rattle.r4_units.proofs.ItemUnits.{item_unit}
 use Rattle.r4_list.proofs.BodyOver.{not_well, nothing_part, on_err}
 use Rattle.r4_list.proofs.BodyText.{Spells, spelled, bytes_split, byte_unit, hole_unit}
-use Rattle.r4_list.proofs.BodyUnits.{AreOneBody, ranks_apart, unit_named}
+use Rattle.r4_units.proofs.ExtentUnits.{AreOneBody, ranks_apart, unit_named}
 
 -- ---- bytes of the tree are bytes of the file
 

@@ -18,12 +18,12 @@ use Rattle.r4_cell.specs.Seen.{CellSeen}
 use Rattle.r4_cell.proofs.Items.{good_item}
 use Rattle.r4_cell.proofs.NodesAt.{node_at}
 use Rattle.r4_search.proofs.Places.{item_in}
-use Rattle.r4_list.specs.Leaf.{Stands}
+use Rattle.r4_search.specs.Pool.{StandsInMemory}
 use Rattle.r4_list.specs.Frame.{EntryAt, IsFrom}
-use Rattle.r4_list.proofs.Leaves.{keys_rise}
-use Rattle.r4_list.proofs.Rising.{rises}
-use Rattle.r4_list.proofs.OverLeaves.{dir_accepted}
-use Rattle.r4_list.proofs.OverUnits.{ends_before, entry_is_key, entry_within, item_is_key}
+use Rattle.r4_units.proofs.Leaves.{keys_rise}
+use Rattle.r4_units.proofs.Rising.{rises}
+use Rattle.r4_units.proofs.LeafUnits.{dir_accepted}
+use Rattle.r4_units.proofs.ItemUnits.{ends_before, entry_is_key, entry_within, item_is_key}
 
 -- ---- an entry's key
 
@@ -120,7 +120,7 @@ items_below level lo hi from (x ∷ items) (suc i) it h is = items_below level l
 
 -- ---- the entries of a leaf
 
-module _ (x : CellSeen) (whole : length x.block ≡ 4096) (leaf : x.level ≡ 1) (stands : Stands x) where
+module _ (x : CellSeen) (whole : length x.block ≡ 4096) (leaf : x.level ≡ 1) (stands : StandsInMemory x) where
   rise : KeysRise (items_of x.block)
   rise = keys_rise x whole (omega (arith, leaf)) stands
 

@@ -17,14 +17,15 @@ use Rattle.r4_base.proofs.Dirs.{accepted}
 use Rattle.r4_base.proofs.EntryLists.{has_form}
 use Rattle.r4_base.proofs.Names.{is_name}
 use Rattle.r4_cell.specs.Seen.{CellSeen, node_of}
-use Rattle.r4_list.specs.Leaf.{AreUpTo, Stands}
+use Rattle.r4_units.specs.Leaf.{AreUpTo}
+use Rattle.r4_search.specs.Pool.{StandsInMemory}
 use Rattle.r4_list.specs.Walking.{OpenDir, IsLeftAt, NoneLeft}
 use Rattle.r4_list.specs.Frame.{EntryAt, IsFrom, FoundFrom, IsNextLeaf, NoEntries, StandsFrom, dir_number}
 use Rattle.r4_list.proofs.FrameLeaves.{entry_first, first_high, first_low, items_from, other_above}
 use Rattle.r4_list.proofs.FramePlaces.{entry_there, left_between}
 use Rattle.r4_list.proofs.FrameSpans.{name_above}
-use Rattle.r4_list.proofs.OverLeaves.{dir_accepted, node_units}
-use Rattle.r4_list.proofs.OverUnits.{dir_unit, item_unit}
+use Rattle.r4_units.proofs.LeafUnits.{dir_accepted, node_units}
+use Rattle.r4_units.proofs.ItemUnits.{dir_unit, item_unit}
 use Rattle.r4_cell.proofs.NodesAt.{node_at}
 use Rattle.r4_base.specs.Cell.{cell_fault, cell_of, items_in_fault}
 use Rattle.r4_base.specs.Tree.{Node}
@@ -73,7 +74,7 @@ module _ {n : ℕ} {image : Image} {m : Content} (c : HasContent n image m) (f :
       let left = l.left in
       none k name o l.stands (elim below [ inl le ↦ omega (arith, le, left) | inr le ↦ omega (arith, le, low) ]) high
 
-  module _ (x : CellSeen) (whole : length x.block ≡ 4096) (leaf : x.level ≡ 1) (stands : Stands x) where
+  module _ (x : CellSeen) (whole : length x.block ≡ 4096) (leaf : x.level ≡ 1) (stands : StandsInMemory x) where
     -- where it is opened
     pub opens_first : (key i : ℕ) → f.from ≡ 0 → key ≡ number * 2 ^ 192 → IsNextLeaf c key x → AreUpTo (items_of x.block) key i → StandsFrom m f x i 0
     opens_first key i zero_from start next up =

@@ -13,13 +13,13 @@ use Rattle.r4_base.specs.Volume.{HasContent, root_of}
 use Rattle.r4_base.specs.declared.items.Target.{Target}
 use Rattle.r4_base.proofs.Trees.{leaf_holds}
 use Rattle.r4_cell.specs.Seen.{CellSeen, node_of}
-use Rattle.r4_list.specs.Leaf.{Stands}
+use Rattle.r4_search.specs.Pool.{StandsInMemory}
 use Rattle.r4_list.specs.Walking.{OpenDir, IsLeftAt, NoneBefore, NoneLeft, open_from}
 use Rattle.r4_list.specs.Frame.{EntryAt, IsFrom, IsOfDir, IsOfOther, StandsFrom, dir_number}
 use Rattle.r4_list.proofs.OverAnswers.{in_content, in_store}
-use Rattle.r4_list.proofs.OverLeaves.{entry_found, node_units}
+use Rattle.r4_units.proofs.LeafUnits.{entry_found, node_units}
 use Rattle.r4_list.proofs.OverPaths.{hi_is, level_is, lo_is}
-use Rattle.r4_list.proofs.OverUnits.{entry_item, item_is_key, unit_item}
+use Rattle.r4_units.proofs.ItemUnits.{entry_item, item_is_key, unit_item}
 use Rattle.r4_list.proofs.FrameLeaves.{between, dir_of_rank, entries_rise, entry_first, entry_key, first_high, first_low, item_high, items_order, number_of_rank, other_above, within}
 
 -- ---- the keys of what is left
@@ -65,7 +65,7 @@ module _ {n : ℕ} {image : Image} {m : Content} (c : HasContent n image m) (x :
       let s = entry_item it k name o u in
       (i, s.at, s.entry, record { item = it; is = at; plugin = s.plugin; at = s.is }, s.key, s.named, s.targets)
 
-module _ {n : ℕ} {image : Image} {m : Content} (c : HasContent n image m) (x : CellSeen) (whole : length x.block ≡ 4096) (leaf : x.level ≡ 1) (stands : Stands x) (is : c.store x.id ≡ Some (node_of x)) where
+module _ {n : ℕ} {image : Image} {m : Content} (c : HasContent n image m) (x : CellSeen) (whole : length x.block ≡ 4096) (leaf : x.level ≡ 1) (stands : StandsInMemory x) (is : c.store x.id ≡ Some (node_of x)) where
   pub entry_stands : (i j : ℕ) (e : DirEntry) → EntryAt x i j e → at_key m (rank e.key) ≡ Some (Entry e.name e.target)
   entry_stands i j e h = in_content c (rank e.key) (Entry e.name e.target) tt (x.id, node_of x, is, entry_found x whole leaf stands (rank e.key) i j h.item e h.is h.plugin h.at refl)
 

@@ -19,7 +19,7 @@ use Rattle.r4_base.proofs.Choices.{nothing_in}
 use Rattle.r4_cell.specs.Seen.{CellSeen, node_of}
 use Rattle.r4_search.specs.Path.{EndsAt}
 use Rattle.r4_search.proofs.Places.{item_in}
-use Rattle.r4_list.specs.Leaf.{AreUpTo}
+use Rattle.r4_units.specs.Leaf.{AreUpTo}
 use Rattle.r4_list.specs.Frame.{NoEntries, dir_number}
 use Rattle.r4_list.proofs.FrameLeaves.{first_high, first_low, other_above}
 use Rattle.r4_list.proofs.OverAnswers.{none_at, none_outside}

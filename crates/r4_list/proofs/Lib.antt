@@ -1,14 +1,9 @@
-pub mod Rising
-pub mod Leaves
 pub mod Lookups
 pub mod OverPaths
-pub mod OverUnits
-pub mod OverLeaves
 pub mod OverAnswers
 pub mod OverPieces
 pub mod OverWalks
 pub mod Stages
-pub mod Pools
 pub mod WalkEntries
 pub mod LinesLeft
 pub mod WalkObjects
@@ -17,7 +12,6 @@ pub mod DepthBound
 pub mod WalkPaths
 pub mod LinesOfPath
 pub mod BodyStages
-pub mod BodyUnits
 pub mod BodyOver
 pub mod BodyText
 pub mod BodyParts

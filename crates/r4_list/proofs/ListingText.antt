@@ -17,6 +17,8 @@ use Rattle.r4_search.specs.Pool.{PoolState}
 use Rattle.r4_list.specs.Listing.{IsListing, file_text, lines_of, shown_path, text_at, bytes_from}
 use Rattle.r4_list.specs.Over.{IsOver}
 use Rattle.std.specs.BTreeMap.{BTreeMap}
+use Rattle.std.specs.Option.{option_or}
+use Rattle.std.proofs.lemmas.Option.{none-some}
 use Rattle.r4_base.specs.Image.{block_at}
 use Rattle.r4_base.specs.Layout.{IsLawfulSuper}
 use Rattle.r4_replay.specs.Homes.{home_in}
@@ -24,7 +26,9 @@ use Rattle.r4_cell.specs.Seen.{CellSeen}
 use Rattle.r4_search.specs.declared.pool.FetchFault.TheVariants.{Read, Damaged, Memory as NoCell}
 use Rattle.r4_list.specs.Lists.{IsUnrefused, PrintsText, stop_fault_of}
 use Rattle.r4_open.specs.Opening.{IsSettledBy}
-use Rattle.r4_list.specs.Pool.{Shared, is_image, kept_in, nodes_state, settled_block}
+use Rattle.r4_search.specs.Keeping.{Shared, met_in}
+use Rattle.r4_search.specs.OnDevice.{block_there, is_image}
+use Rattle.r4_list.specs.Pool.{nodes_state}
 use Rattle.r4_list.specs.declared.fault.ListFault.{ListFault}
 use Rattle.r4_list.specs.Printed.{IsUndamagedStop, PrintsOver}
 use Rattle.r4_list.specs.Walking.{IsEnough}
@@ -133,20 +137,20 @@ tells_image n image is =
 
 -- ---- a fresh pool over a device, and what is answered where printing ended
 
-pub settled_is : (d : State) (homes : BTreeMap ℕ ℕ) → is_image d.blocks d.seen ≡ true → (i : ℕ) → settled_block d homes i ≡ Some (block_at d.seen (home_in homes i))
+pub settled_is : (d : State) (homes : BTreeMap ℕ ℕ) → is_image d.blocks d.seen ≡ true → (i : ℕ) → block_there d (home_in homes) i ≡ Some (block_at d.seen (home_in homes i))
 settled_is d homes whole i = rw (whole) refl
 
-pub fresh_over : {n : ℕ} {image : Image} {m : Content} (c : HasContent n image m) (d : State) (homes : BTreeMap ℕ ℕ) (blocks : ℕ) (kept : BTreeMap ℕ Shared) (first : Name) (root : Root) → TellsReads d → n ≡ d.blocks → IsSettledBy d homes image
-    → IsLawfulSuper d.blocks c.super → blocks ≡ c.super.block_count → root.id.0 ≡ c.super.root_block → root.height ≡ c.super.tree_height → ((i : ℕ) → kept_in kept i ≡ None) → IsOver c root (nodes_state first d homes blocks kept)
-fresh_over {n} {image} {m} c d homes blocks kept first root tells same settled lawful count at high empty = record {
+pub fresh_over : {n : ℕ} {image : Image} {m : Content} (c : HasContent n image m) (d : State) (homes : BTreeMap ℕ ℕ) (blocks : ℕ) (met : List (ℕ × Shared)) (first : Name) (root : Root) → TellsReads d → n ≡ d.blocks → IsSettledBy d homes image
+    → IsLawfulSuper d.blocks c.super → blocks ≡ c.super.block_count → root.id.0 ≡ c.super.root_block → root.height ≡ c.super.tree_height → ((i : ℕ) → met_in met i ≡ None) → IsOver c root (nodes_state first d homes blocks met)
+fresh_over {n} {image} {m} c d homes blocks met first root tells same settled lawful count at high empty = record {
   blocks = count;
   root_is = cc (at, high);
   meant = λ i node is. settled_is d homes (tells_image d.blocks d.seen tells) i ∙ ap (λ (b : List ℕ). Some b) (sym (settled i));
   kept = λ i k is. absurd (none_kept (empty i) is);
 }
   where
-    none_kept : {k : CellSeen} {o : Option CellSeen} → o ≡ None → o ≡ Some k → ⊥
-    none_kept {k} {o} a b = cc
+    none_kept : {k : CellSeen} {o : Option CellSeen} → o ≡ None → option_or o None ≡ Some k → ⊥
+    none_kept {k} {o} a b = none-some k (sym (ap (λ (x : Option CellSeen). option_or x None) a) ∙ b)
 
 -- what was printed over the tree of a content is the text of what is answered
 pub text_well : {n : ℕ} {image : Image} {m : Content} (c : HasContent n image m) (root : Root) (text : List ℕ) (k l : SinkState) (p : PoolState) {X T : Type 0} (x : X) (v : T) → PrintsOver {T = X} c root text k (Ok x) p l → PrintsText text k (Ok v) l

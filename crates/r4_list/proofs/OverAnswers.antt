@@ -32,9 +32,9 @@ use Rattle.r4_search.specs.Pool.{PoolState}
 use Rattle.r4_search.specs.declared.pool.FetchFault.{FetchFault}
 use Rattle.r4_list.specs.Over.{FindsOver, IsUndamaged}
 use Rattle.r4_list.proofs.Lookups.{handed}
-use Rattle.r4_list.proofs.OverLeaves.{node_units}
+use Rattle.r4_units.proofs.LeafUnits.{node_units}
 use Rattle.r4_list.proofs.OverPaths.{IsStored, found_none, hi_is, level_is, lo_is}
-use Rattle.r4_list.proofs.OverUnits.{IsByte, bytes_are, entry_item, stat_item, unit_item}
+use Rattle.r4_units.proofs.ItemUnits.{IsByte, bytes_are, entry_item, stat_item, unit_item}
 
 -- ---- the units of a cell in which no stat data and no entry stand
 

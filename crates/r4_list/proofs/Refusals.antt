@@ -3,6 +3,7 @@ use Rattle.std.proofs.Common.{◌≡◌, inl, inr, ℕ, List, refl, sym, ap, sub
 use Rattle.std.specs.Prelude.{Option, Some, None, false}
 use Rattle.std.proofs.lemmas.Option.{none-some}
 use Rattle.std.specs.BTreeMap.{BTreeMap}
+use Rattle.std.specs.Option.{option_or}
 use Rattle.r4_base.specs.Cell.{cell_fault}
 use Rattle.r4_base.specs.Image.{Image, block_at}
 use Rattle.r4_base.specs.Key.{rank}
@@ -16,7 +17,8 @@ use Rattle.r4_search.specs.Path.{root_name}
 use Rattle.r4_search.specs.Pool.{FaultIs, Goes, IsFrom, IsNamed, IsNamedFrom, IsRead, PoolState}
 use Rattle.r4_search.proofs.Walks.{goes_both, named_more}
 use Rattle.r4_list.specs.Lists.{IsNodeRefused, IsReached, root_name_of}
-use Rattle.r4_list.specs.Pool.{Shared, kept_in, nodes_state}
+use Rattle.r4_search.specs.Keeping.{Shared, met_in}
+use Rattle.r4_list.specs.Pool.{nodes_state}
 use Rattle.r4_list.specs.Printing.{IsDamaged}
 use Rattle.r4_list.proofs.Listings.{RefusesWell}
 use Rattle.r4_list.proofs.ListingText.{settled_is, tells_image}
@@ -60,6 +62,6 @@ module _ (s : Super40) (image : Image) (root : Root) (old : PoolState) (blocks :
   damaged_refused at fault d =
       refused_by d.now d.name at fault d.came d.block (reached d.later (goes_both old d.now d.later d.came d.goes) d.name d.named) (d.now.kept d.name.id) refl d.has
 
-pub refuses_well : (d : State) (homes : BTreeMap ℕ ℕ) (s : Super40) (root : Root) (first : Name) (blocks : ℕ) (kept : BTreeMap ℕ Shared) → first ≡ root_name root → blocks ≡ s.block_count → root_name root ≡ root_name_of s → ((i : ℕ) → kept_in kept i ≡ None) → RefusesWell homes s root (nodes_state first d homes blocks kept) d
-refuses_well d homes s root first blocks kept begins count named empty at fault damaged told image settled =
-    damaged_refused s image root (nodes_state first d homes blocks kept) count begins named (λ i. settled_is d homes (tells_image d.blocks d.seen told) i ∙ ap (λ (b : List ℕ). Some b) (sym (settled i))) empty at fault damaged
+pub refuses_well : (d : State) (homes : BTreeMap ℕ ℕ) (s : Super40) (root : Root) (first : Name) (blocks : ℕ) (met : List (ℕ × Shared)) → first ≡ root_name root → blocks ≡ s.block_count → root_name root ≡ root_name_of s → ((i : ℕ) → met_in met i ≡ None) → RefusesWell homes s root (nodes_state first d homes blocks met) d
+refuses_well d homes s root first blocks met begins count named empty at fault damaged told image settled =
+    damaged_refused s image root (nodes_state first d homes blocks met) count begins named (λ i. settled_is d homes (tells_image d.blocks d.seen told) i ∙ ap (λ (b : List ℕ). Some b) (sym (settled i))) (λ i. ap (λ (o : Option CellSeen). option_or o None) (empty i)) at fault damaged

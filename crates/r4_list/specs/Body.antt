@@ -22,19 +22,6 @@ use Rattle.r4_list.specs.Printed.{IsUndamagedStop}
 use Rattle.r4_list.specs.Printing.{IsCause, Prints}
 use Rattle.r4_list.specs.declared.fault.Stop.{Stop}
 
--- a block of an extent as a unit of one block: what is at so many blocks behind the beginning
-pub record IsUnitAt (us : List ExtentUnit) (block : ℕ) (u : ExtentUnit) : Type 0 where
-  pub is : block_of us block ≡ (if u.start == 0 then None else Some u.start)
-  pub within : block < blocks_in us
-
--- a data block whose first byte has this key
-abbrev pub block_name : (id lo : ℕ) → Name
-block_name id lo = record { id = id; level = 0; lo = lo; hi = lo + 4096 }
-
--- the data block that a unit of one block names: none where it is a hole
-abbrev pub unit_names : ExtentUnit → (lo : ℕ) → List Name
-unit_names u lo = if u.start == 0 then [] else (block_name u.start lo ∷ [])
-
 -- all of these can be asked for
 abbrev pub AreKnown : PoolState → List Name → Type 0
 AreKnown p names = (n : Name) → Contains names n → IsKnown p n
@@ -54,10 +41,6 @@ AreStored t names = (n : Name) → Contains names n → (d : Node Value) × (t n
 -- the store has each of these units
 abbrev pub AreUnits : Store Value → List (ℕ × Value) → Type 0
 AreUnits t us = (k : ℕ) (v : Value) → Contains us (k, v) → UnitAt t k v
-
--- the bytes of a unit of one block
-abbrev pub unit_block : Image → ExtentUnit → List ℕ
-unit_block image u = if u.start == 0 then replicate 4096 0 else block_at image u.start
 
 -- A file of the content goes on up to an offset at least.
 pub record IsFileTo (m : Content) (o : Target) (to : ℕ) : Type 0 where

@@ -1,6 +1,5 @@
 pub mod Listing
 pub mod Pool
-pub mod Leaf
 pub mod Printing
 pub mod Body
 pub mod Frame

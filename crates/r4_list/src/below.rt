@@ -21,7 +21,6 @@ ghost use Rattle.r4_list.specs.Walking.{IsEnough, IsWalking, OpenDir, open_from,
 
 use crate::fault::Stop;
 use crate::frame::{Frame, Place, first_frame, next_frame, place_in};
-use crate::leaf::name_bytes;
 use crate::line::push_line;
 use crate::lookup::attr_of;
 use r4_base::{Attr, Memory, Oid, Target};
@@ -29,6 +28,7 @@ use r4_cde::NameRef;
 use r4_cell::Root;
 use r4_outside::Sink;
 use r4_search::Pool;
+use r4_units::name_bytes;
 use std::alloc::Global;
 use std::collections::BTreeSet;
 use std::sync::Arc;

@@ -4,7 +4,7 @@ ghost use Rattle.std.specs.Prelude.{◌≡◌, ◌^◌, ◌≤◌, ◌<◌, ◌+
 ghost use Rattle.r4_base.specs.Cell.{block_names, hole_bytes};
 ghost use Rattle.r4_base.specs.Image.{Image};
 ghost use Rattle.r4_base.specs.Key.{rank, least, body_key};
-ghost use Rattle.r4_base.specs.Extents.{AreLawfulUnits, IsLawfulUnit, blocks_in, body_fault, units_of};
+ghost use Rattle.r4_base.specs.Extents.{blocks_in, body_fault, units_of};
 ghost use Rattle.r4_base.specs.Node.{Item, items_of};
 ghost use Rattle.r4_base.specs.Value.{Content};
 ghost use Rattle.r4_base.specs.Volume.{HasContent, HasStat, is_directory};
@@ -13,18 +13,17 @@ ghost use Rattle.r4_list.specs.Listing.{bytes_from};
 ghost use Rattle.r4_search.specs.Path.{EndsAt};
 ghost use Rattle.r4_cell.specs.Seen.{node_of};
 ghost use Rattle.r4_outside.specs.Sink.{Appends};
-ghost use Rattle.r4_twig.specs.View.{view_units};
 ghost use Rattle.r4_search.specs.Path.{root_name};
 ghost use Rattle.r4_search.specs.Pool.{IsKnown};
-ghost use Rattle.r4_list.specs.Leaf.{AreUpTo};
+ghost use Rattle.r4_units.specs.Leaf.{AreUpTo};
 ghost use Rattle.r4_list.specs.Over.{IsOver};
 ghost use Rattle.r4_list.specs.Printed.{PrintsOver};
 ghost use Rattle.r4_list.specs.Printing.{Printed};
 ghost use Rattle.r4_list.specs.declared.fault.Stop.TheVariants.{Sink as NoSink};
-ghost use Rattle.r4_list.specs.Body.{AreKnown, AreStored, AreUnits, HasByte, IsFileTo, IsKeyOf, IsUnitAt, PrintsNamed, PrintsPart, unit_block, unit_names};
+ghost use Rattle.r4_list.specs.Body.{AreKnown, AreStored, AreUnits, HasByte, IsFileTo, IsKeyOf, PrintsNamed, PrintsPart};
+ghost use Rattle.r4_units.specs.Extent.{IsUnitAt, unit_block, unit_names};
 
 use crate::fault::Stop;
-use crate::leaf::items_up_to;
 use crate::lookup::cell_of;
 use r4_base::{BLOCK_BYTES, Block, EXTENT, GREATEST_SIZE, Key, NodeId, TAIL, Target, Unit};
 use r4_cell::{Cell, Root};
@@ -32,7 +31,7 @@ use r4_meta::tail_part;
 use r4_node40::ItemView;
 use r4_outside::Sink;
 use r4_search::Pool;
-use r4_twig::ExtentView;
+use r4_units::{items_up_to, unit_of};
 use std::alloc::Global;
 
 /// Prints the bytes of a file, and then a newline.
@@ -215,48 +214,6 @@ fn print_extent<P: Pool, K: Sink>(
     let to = BLOCK_BYTES.min(end - lo.el[3]);
     print_bytes(alloc, pool, root, out, unit, lo, place, to)?;
     Ok(to - place)
-}
-
-// The block that is so many blocks behind the beginning of an extent, as a unit of one block.
-fn unit_of(item: &ItemView<'_>, block: u64) -> Option<Unit>
-    requires few { length item.now.body.now < 16 * 65536 }
-    requires good { body_fault true (2 ^ 64) item.now.body.now ≡ None }
-    ensures some { IfSome result (λ u. IsUnitAt (units_of item.now.body.now) block u) }
-    ensures none { IfNone result (blocks_in (units_of item.now.body.now) ≤ block) }
-{
-    unit_at(&ExtentView::of_item(item.body), block)
-}
-
-// The block that is so many blocks behind the beginning of units.
-fn unit_at(extent: &ExtentView<'_>, block: u64) -> Option<Unit>
-    requires { AreLawfulUnits true (2 ^ 64) (view_units extent.now) }
-    ensures some { IfSome result (λ u. IsUnitAt (view_units extent.now) block u) }
-    ensures none { IfNone result (blocks_in (view_units extent.now) ≤ block) }
-{
-    let mut left = block;
-    for i in 0..extent.len() {
-        let unit = extent.unit(i);
-        if left < unit.width {
-            return Some(one_block(unit, left));
-        }
-        left -= unit.width;
-    }
-    None
-}
-
-// A block of a unit.
-fn one_block(unit: Unit, block: u64) -> Unit
-    requires lawful { IsLawfulUnit true (2 ^ 64) unit }
-    requires within { block < unit.width }
-    ensures { result.start ≡ (if unit.start == 0 then 0 else (unit.start + block)) }
-{
-    if unit.start == 0 {
-        return Unit { start: 0, width: 1 };
-    }
-    Unit {
-        start: unit.start + block,
-        width: 1,
-    }
 }
 
 // Prints a part of a block, whose first byte has this key: zeros for a hole.

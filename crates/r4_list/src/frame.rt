@@ -12,17 +12,17 @@ ghost use Rattle.r4_search.specs.Path.{root_name};
 ghost use Rattle.r4_search.specs.Pool.{IsKnown};
 ghost use Rattle.r4_search.specs.Path.{EndsAt};
 ghost use Rattle.r4_list.specs.Frame.{GoesFurther, IsNextLeaf, IsOpenAt, NoEntries, StandsAt, dir_number};
-ghost use Rattle.r4_list.specs.Leaf.{Stands};
+ghost use Rattle.r4_search.specs.Pool.{StandsInMemory};
 ghost use Rattle.r4_list.specs.Over.{FindsOver, IsOver};
 ghost use Rattle.r4_list.specs.Walking.{NoneLeft, OpenDir};
 ghost use Rattle.r4_list.specs.Printing.{Fetched};
 
-use crate::leaf::items_up_to;
 use crate::lookup::{cell_of, is_in_tree};
 use r4_base::{ENTRIES, Key, LEAF, Oid};
 use r4_cde::{DirView, EntryRef};
 use r4_cell::{Cell, Root};
 use r4_search::{FetchFault, Pool};
+use r4_units::items_up_to;
 use std::alloc::Global;
 use std::sync::Arc;
 
@@ -112,7 +112,7 @@ pub fn place_in(leaf: &Cell, dir: Oid, item: u16, entry: u16) -> Place<'_>
     ensures further { GoesFurther item entry result }
     ensures place { StandsAt leaf.now dir.0 item entry result }
     ensures whole { length leaf.now.block ≡ 4096 }
-    ensures stands { Stands leaf.now }
+    ensures stands { StandsInMemory leaf.now }
 {
     let node = leaf.node();
     if item >= node.len() {

@@ -6,11 +6,10 @@ mod body;
 mod fault;
 mod frame;
 mod laws;
-mod leaf;
 mod line;
 mod listing;
 mod lookup;
-mod nodes;
+mod settled;
 mod walk;
 
 pub use fault::ListFault;

@@ -25,14 +25,14 @@ ghost use Rattle.r4_list.specs.declared.fault.ListFault.TheVariants.{Device as D
 use crate::below::print_object;
 use crate::body::print_body;
 use crate::fault::{ListFault, Stop};
-use crate::nodes::Nodes;
+use crate::settled::SettledCells;
 use crate::walk::{Walked, walk};
 use r4_base::{Attr, NodeId, Super40, Target};
 use r4_cell::{ImageFault, Root};
 use r4_open::{Unopened, open_image};
 use r4_outside::{Device, Sink};
 use r4_replay::{Log, ReplayFault, read_log};
-use r4_search::{FetchFault, Pool};
+use r4_search::{FetchFault, Keeping, Pool};
 use std::alloc::Global;
 
 /// Prints what is at a path of a device's settled volume: the object there, and where it is a directory all that is below
@@ -97,9 +97,10 @@ fn print_settled<E: Device, K: Sink>(
         id: NodeId(found.root_block),
         height: found.tree_height as u8,
     };
-    let mut nodes = Nodes::new(alloc, dev, log, root, found.block_count);
+    let cells = SettledCells::new(dev, log, root, found.block_count);
+    let mut nodes = Keeping::nodes(alloc, cells);
     let printed = print_path(alloc, &mut nodes, &root, out, path);
-    let dev = nodes.into_device();
+    let dev = nodes.into_pool().into_device();
     if let Err(stop) = printed {
         let fault = fault_of(&dev, out, stop);
         return Ended {

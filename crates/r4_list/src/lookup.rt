@@ -16,11 +16,11 @@ ghost use Rattle.r4_list.specs.Over.{FindsOver, IsOver};
 ghost use Rattle.r4_list.specs.OverWalks.{IsLookedUp};
 ghost use Rattle.r4_list.specs.Printing.{Fetched};
 
-use crate::leaf::{attr_in, target_in};
 use r4_base::{Attr, Key, LEAF, OBJECT_END, Oid, Target};
 use r4_cde::entry_key;
 use r4_cell::{Cell, Root};
 use r4_search::{FetchFault, Pool, cover, least};
+use r4_units::{attr_in, target_in};
 use std::alloc::Global;
 use std::sync::Arc;
 

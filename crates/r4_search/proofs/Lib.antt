@@ -1,2 +1,4 @@
 pub mod Places
 pub mod Walks
+pub mod Kept
+pub mod FromDevice

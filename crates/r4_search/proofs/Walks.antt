@@ -1,5 +1,5 @@
 -- A walk down from the root: what is known of the cells so far and of the pool, and how it goes on.
-use Rattle.std.proofs.Common.{◌≡◌, inl, inr, ⊎_elim, ℕ, zero, suc, ◌+◌, ◌<◌, ◌≤◌, false, List, [], ◌∷◌, ◌++◌, map, refl, sym, ap, subst, ◌∙◌, arith}
+use Rattle.std.proofs.Common.{◌≡◌, inl, inr, ⊎_elim, ℕ, zero, suc, ◌+◌, ◌<◌, ◌≤◌, true, false, List, [], ◌∷◌, ◌++◌, map, refl, sym, ap, subst, ◌∙◌, arith}
 use Rattle.std.specs.Result.{IsErrAnd}
 use Rattle.std.specs.Prelude.{Option, Some, None, IsSome, IfSome, IfNone, Result, Ok, Err, IfErr, Contains, All, ◌==◌, if◌then◌else◌}
 use Rattle.std.specs.Option.{option_map}
@@ -18,8 +18,8 @@ use Rattle.r4_outside.specs.Device.{State}
 use Rattle.r4_outside.proofs.Moments.{goes_both as device_both, goes_same as device_same}
 use Rattle.r4_cell.specs.Seen.{CellSeen, node_of}
 use Rattle.r4_cell.specs.declared.change.Root.{Root}
-use Rattle.r4_search.specs.Pool.{PoolState, HangsTogether, IsFrom, IsKnown, IsNamed, IsNamedFrom, IsOf, IsRead, IsKeptOrRead, IsAnswer, IsRefused, KnowsNames, LeavesDevice, FaultIs, place_fault, Goes}
-use Rattle.r4_search.specs.Path.{Follows, Descends, LeadsTo, EndsAt, IsPath, KeepsOnly, KnowsOn, StopsOn, StopsShort, Stops, last_of, root_name}
+use Rattle.r4_search.specs.Pool.{PoolState, HangsTogether, IsFrom, IsKnown, IsMet, IsNamed, IsNamedFrom, IsOf, IsRead, IsKeptOrRead, IsAnswer, IsRefused, KnowsNames, LeavesDevice, FaultIs, StandsInMemory, place_fault, Goes}
+use Rattle.r4_search.specs.Path.{Follows, Descends, LeadsTo, EndsAt, IsPath, KeepsOnly, KnowsOn, Meets, MeetsOn, StopsOn, StopsShort, Stops, last_of, root_name}
 use Rattle.r4_search.specs.Place.{child_name}
 use Rattle.r4_search.specs.declared.inside.Child.{Child}
 use Rattle.r4_search.specs.declared.pool.FetchFault.{FetchFault}
@@ -41,6 +41,7 @@ pub record Reached (root : Root) (key : ℕ) (old mid : PoolState) (cells : List
   pub descends : Descends root key None cells
   pub are_of : All (IsOf old) cells
   pub only : KeepsOnly old mid cells
+  pub meets : Meets old mid cells
   pub above : (c : CellSeen) → Contains cells c → left next < c.level
   pub on : GoesOn root key mid (last_of None cells) next
 
@@ -81,15 +82,19 @@ goes_same p = record {
   added = λ i c h none. absurd cc;
   known = λ n h. h;
   hangs = λ h. h;
+  met = λ i c h. h;
+  added_met = λ i c h none. absurd cc;
+  keeps = λ l. refl;
 }
 
 -- cells of one kind are cells of another
+pub all_more : {A : Type 0} (P Q : A → Type 0) (xs : List A) → ((x : A) → P x → Q x) → All P xs → All Q xs
+all_more {A} P Q [] more all = All-nil Q
+all_more {A} P Q (x ∷ xs) more all =
+    All-cons Q x xs (more x (All-head P x xs all)) (all_more P Q xs more (All-tail P x xs all))
+
 pub named_more : (root : Name) (P Q : CellSeen → Type 0) (n : Name) → ((c : CellSeen) → P c → Q c) → IsNamedFrom root P n → IsNamedFrom root Q n
-named_more root P Q n more h = record { cells = h.cells; all = all_more h.cells h.all; lead = h.lead }
-  where
-    all_more : (cells : List CellSeen) → All P cells → All Q cells
-    all_more [] all = All-nil Q
-    all_more (c ∷ cells) all = All-cons Q c cells (more c (All-head P c cells all)) (all_more cells (All-tail P c cells all))
+named_more root P Q n more h = record { cells = h.cells; all = all_more P Q h.cells more h.all; lead = h.lead }
 
 -- what a cell names that is named itself
 pub named_below : (root : Name) (P : CellSeen → Type 0) (n m : Name) (c : CellSeen) → IsNamedFrom root P n → IsNamed n c → P c → Contains (node_of c).names m → IsNamedFrom root P m
@@ -131,6 +136,12 @@ module _ (a b c : PoolState) (f : Goes a b) (g : Goes b c) where
       let same : x ≡ k = same_Some x k (sym (g.kept i x e) ∙ h) in
       subst (λ (y : CellSeen). (y.id ≡ i) × IsRead a.blocks (a.meant i) y) same (f.added i x e none)
 
+  added_met_both : (i : ℕ) (k : CellSeen) → c.met i ≡ Some k → a.met i ≡ None → (o : Option CellSeen) → b.met i ≡ o → k.id ≡ i
+  added_met_both i k h none None e = g.added_met i k h e
+  added_met_both i k h none (Some x) e =
+      let same : x ≡ k = same_Some x k (sym (g.met i x e) ∙ h) in
+      subst (λ (y : CellSeen). y.id ≡ i) same (f.added_met i x e none)
+
   pub goes_both : Goes a c
   goes_both =
       let x = f.faults in
@@ -144,6 +155,9 @@ module _ (a b c : PoolState) (f : Goes a b) (g : Goes b c) where
         added = λ i k h none. added_both i k h none (b.kept i) refl;
         known = λ n h. g.known n (f.known n h);
         hangs = λ h. g.hangs (f.hangs h);
+        met = λ i k h. g.met i k (f.met i k h);
+        added_met = λ i k h none. added_met_both i k h none (b.met i) refl;
+        keeps = λ l. g.keeps l ∙ f.keeps l;
       }
 
 of_before : (old mid : PoolState) (c : CellSeen) → Goes old mid → (o m : Option CellSeen) → old.kept c.id ≡ o → mid.kept c.id ≡ m → IsKeptOrRead mid.blocks m (mid.meant c.id) c → IsKeptOrRead old.blocks o (old.meant c.id) c
@@ -158,6 +172,48 @@ of_before old mid c g None (Some j) e d h = subst (λ (y : CellSeen). IsRead old
 is_of_before : (old mid : PoolState) (c : CellSeen) → Goes old mid → IsOf mid c → IsOf old c
 is_of_before old mid c g h = of_before old mid c g (old.kept c.id) (mid.kept c.id) refl refl h
 
+-- ---- what was met
+
+pub met_on : (old new : PoolState) (c : CellSeen) → Goes old new → IsMet old c → IsMet new c
+met_on old new c g h keeps = g.met c.id c (h (sym (g.keeps c.level) ∙ keeps))
+
+none_met : (p : PoolState) (i : ℕ) (c : CellSeen) → p.met i ≡ Some c → p.met i ≡ None → ⊥
+none_met p i c h none = let e = sym h ∙ none in cc
+
+-- nothing more was met
+pub meets_still : (old mid new : PoolState) (cells : List CellSeen) → Meets old mid cells → Goes mid new
+    → ((i : ℕ) (c : CellSeen) → new.met i ≡ Some c → mid.met i ≡ None → ⊥) → Meets old new cells
+meets_still old mid new cells m g none = record {
+  met = all_more (IsMet mid) (IsMet new) cells (λ c h. met_on mid new c g h) m.met;
+  stand = m.stand;
+  only = λ i c h was. by i c h was (mid.met i) refl;
+}
+  where
+    by : (i : ℕ) (c : CellSeen) → new.met i ≡ Some c → old.met i ≡ None → (o : Option CellSeen) → mid.met i ≡ o → Contains cells c
+    by i c h was None e = absurd (none i c h e)
+    by i c h was (Some k) e =
+        let same : k ≡ c = same_Some k c (sym (g.met i k e) ∙ h) in
+        subst (λ (x : CellSeen). Contains cells x) same (m.only i k e was)
+
+-- one more cell was answered
+pub meets_more : (old mid new : PoolState) (cells : List CellSeen) (n : Name) (x : CellSeen) → Meets old mid cells → Goes mid new
+    → ((i : ℕ) (c : CellSeen) → new.met i ≡ Some c → mid.met i ≡ None → c ≡ x)
+    → (mid.keeps n.level ≡ true → new.met n.id ≡ Some x) → IsNamed n x → StandsInMemory x → Meets old new (cells ++ x ∷ [])
+meets_more old mid new cells n x m g only met is stands = record {
+  met = All-push (IsMet new) cells x (all_more (IsMet mid) (IsMet new) cells (λ c h. met_on mid new c g h) m.met) here;
+  stand = All-push StandsInMemory cells x m.stand stands;
+  only = λ i c h was. by i c h was (mid.met i) refl;
+}
+  where
+    here : IsMet new x
+    here keeps = ap new.met is.id ∙ met (ap mid.keeps (sym is.level) ∙ (sym (g.keeps x.level) ∙ keeps))
+
+    by : (i : ℕ) (c : CellSeen) → new.met i ≡ Some c → old.met i ≡ None → (o : Option CellSeen) → mid.met i ≡ o → Contains (cells ++ x ∷ []) c
+    by i c h was None e = subst (λ (y : CellSeen). Contains (cells ++ x ∷ []) y) (sym (only i c h e)) (Contains-push cells x)
+    by i c h was (Some k) e =
+        let same : k ≡ c = same_Some k c (sym (g.met i k e) ∙ h) in
+        subst (λ (y : CellSeen). Contains (cells ++ x ∷ []) y) same (Contains-append_left cells (x ∷ []) k (m.only i k e was))
+
 -- ---- the walk
 
 pub begun : (root : Root) (key : ℕ) (p : PoolState) (next : Name) → next ≡ root_name root → IsKnown p (root_name root) → 2 ≤ root.height → least ≤ key → key < top → Reached root key p p [] (Some next)
@@ -168,6 +224,11 @@ begun root key p next is known high from below =
       descends = tt;
       are_of = All-nil (IsOf p);
       only = λ i k h none. absurd (some_none k (sym h ∙ none));
+      meets = record {
+        met = All-nil (IsMet p);
+        stand = All-nil StandsInMemory;
+        only = λ i k h none. absurd (some_none k (sym h ∙ none));
+      };
       above = λ c h. absurd (nothing_in c h);
       on = subst (λ (n : Name). GoesOn root key p None (Some n)) (sym is) on;
     }
@@ -176,7 +237,20 @@ begun root key p next is known high from below =
     some_none k h = cc
 
 module _ (root : Root) (key : ℕ) (old mid new : PoolState) (cells : List CellSeen) (n : Name) (c : CellSeen) (r : Reached root key old mid cells (Some n)) (goes : Goes mid new)
-    (only : (i : ℕ) (k : CellSeen) → new.kept i ≡ Some k → mid.kept i ≡ None → k ≡ c) (answer : IsAnswer n mid c new) where
+    (only : (i : ℕ) (k : CellSeen) → new.kept i ≡ Some k → mid.kept i ≡ None → k ≡ c)
+    (only_met : (i : ℕ) (k : CellSeen) → new.met i ≡ Some k → mid.met i ≡ None → k ≡ c)
+    (met : mid.keeps n.level ≡ true → new.met n.id ≡ Some c) (answer : IsAnswer n mid c new) where
+  pub meets_here : Meets old new (cells ++ c ∷ [])
+  meets_here = meets_more old mid new cells n c r.meets goes only_met met answer.named answer.stands
+
+  -- also where no memory is found for it
+  pub meets_short : MeetsOn root key old new
+  meets_short = record {
+    cells = cells ++ c ∷ [];
+    descends = descends_more root key None cells c n r.descends r.on.0 answer.named;
+    meets = meets_here;
+  }
+
   only_more : (i : ℕ) (k : CellSeen) → new.kept i ≡ Some k → old.kept i ≡ None → (o : Option CellSeen) → mid.kept i ≡ o → Contains (cells ++ c ∷ []) k
   only_more i k h none None e = subst (λ (x : CellSeen). Contains (cells ++ c ∷ []) x) (sym (only i k h e)) (Contains-push cells c)
   only_more i k h none (Some x) e =
@@ -195,6 +269,7 @@ module _ (root : Root) (key : ℕ) (old mid new : PoolState) (cells : List CellS
     descends = descends_more root key None cells c n r.descends r.on.0 answer.named;
     are_of = All-push (IsOf old) cells c r.are_of (is_of_before old mid c r.goes answer.is_of);
     only = λ i k h none. only_more i k h none (mid.kept i) refl;
+    meets = meets_here;
     above = above_more next low;
     on = subst (λ (b : Option CellSeen). GoesOn root key new b next) (sym (last_more None cells c)) on;
   }
@@ -208,6 +283,9 @@ module _ (root : Root) (key : ℕ) (old mid new : PoolState) (cells : List CellS
 
 pub arrived : (root : Root) (key : ℕ) (old mid : PoolState) (cells : List CellSeen) → Reached root key old mid cells None → IsPath root key cells
 arrived root key old mid cells r = record { descends = r.descends; end = r.on.0; is_last = r.on.1; ends = r.on.2 }
+
+pub arrived_met : (root : Root) (key : ℕ) (old mid : PoolState) (cells : List CellSeen) (next : Option Name) → Reached root key old mid cells next → MeetsOn root key old mid
+arrived_met root key old mid cells next r = record { cells = cells; descends = r.descends; meets = r.meets }
 
 pub arrived_on : (root : Root) (key : ℕ) (old mid : PoolState) (cells : List CellSeen) → Reached root key old mid cells None → KnowsOn mid cells
 arrived_on root key old mid cells r c is = subst (KnowsNames mid) (same_Some r.on.0 c (sym r.on.1 ∙ is)) r.on.3
@@ -291,8 +369,14 @@ module _ (root : Root) (key : ℕ) (old mid new : PoolState) (cells : List CellS
     cells = cells ++ c ∷ [];
     descends = descends_more root key None cells c n r.descends r.on.0 answer.named;
     are_of = All-push (IsOf old) cells c r.are_of (is_of_before old mid c r.goes answer.is_of);
-    only = λ i k h none. only_more root key old mid new cells n c r goes only answer i k h none (mid.kept i) refl;
+    only = λ i k h none. more_kept i k h none (mid.kept i) refl;
   }
+    where
+      more_kept : (i : ℕ) (k : CellSeen) → new.kept i ≡ Some k → old.kept i ≡ None → (o : Option CellSeen) → mid.kept i ≡ o → Contains (cells ++ c ∷ []) k
+      more_kept i k h none None e = subst (λ (x : CellSeen). Contains (cells ++ c ∷ []) x) (sym (only i k h e)) (Contains-push cells c)
+      more_kept i k h none (Some x) e =
+          let same : x ≡ k = same_Some x k (sym (goes.kept i x e) ∙ h) in
+          subst (λ (y : CellSeen). Contains (cells ++ c ∷ []) y) same (Contains-append_left cells (c ∷ []) x (r.only i x e none))
 
 pub map_push : {A B : Type 0} (f : A → B) (xs ys : List A) (x : A) → ys ≡ xs ++ x ∷ [] → map f ys ≡ map f xs ++ f x ∷ []
 map_push {A} {B} f xs ys x e = ap (λ (l : List A). map f l) e ∙ map-append f xs (x ∷ [])

@@ -1,3 +1,5 @@
 pub mod Pool
 pub mod Path
 pub mod Place
+pub mod Keeping
+pub mod OnDevice

@@ -4,7 +4,7 @@ use Rattle.r4_base.specs.Key.{least, top}
 use Rattle.r4_base.specs.Tree.{Name, Span, InName, InSpan}
 use Rattle.r4_cell.specs.Seen.{CellSeen, node_of}
 use Rattle.r4_cell.specs.declared.change.Root.{Root}
-use Rattle.r4_search.specs.Pool.{PoolState, IsKnown, IsNamed, IsOf, IsRefused, KnowsNames}
+use Rattle.r4_search.specs.Pool.{PoolState, IsKnown, IsMet, IsNamed, IsOf, IsRefused, KnowsNames, StandsInMemory}
 use Rattle.r4_search.specs.declared.pool.FetchFault.{FetchFault}
 use Rattle.r4_search.specs.declared.pool.FetchFault.TheVariants.{Read, Damaged, Memory}
 
@@ -50,6 +50,18 @@ KnowsOn p cells = (c : CellSeen) → last_of None cells ≡ Some c → KnowsName
 -- what is kept from then on is among these cells
 abbrev pub KeepsOnly : (old new : PoolState) → List CellSeen → Type 0
 KeepsOnly old new cells = (i : ℕ) (c : CellSeen) → new.kept i ≡ Some c → old.kept i ≡ None → Contains cells c
+
+-- These cells were met, and nothing else is from then on.
+pub record Meets (old new : PoolState) (cells : List CellSeen) : Type 0 where
+  pub met : All (IsMet new) cells
+  pub stand : All StandsInMemory cells
+  pub only : (i : ℕ) (c : CellSeen) → new.met i ≡ Some c → old.met i ≡ None → Contains cells c
+
+-- Cells that lead down from the root were met, also where the way ends early.
+pub record MeetsOn (root : Root) (key : ℕ) (old new : PoolState) : Type 0 where
+  pub cells : List CellSeen
+  pub descends : Descends root key None cells
+  pub meets : Meets old new cells
 
 -- The cells of the pool lead down to one that is refused.
 pub record StopsOn (root : Root) (key : ℕ) (old : PoolState) (e : FetchFault) (new : PoolState) : Type 0 where

@@ -1,5 +1,5 @@
 -- What a pool of cells tells, and what its calls do to that (docs/volume.md, "The tree"). A key is its rank.
-use Rattle.std.specs.Prelude.{◌≡◌, ◌⊎◌, ℕ, ◌+◌, ◌-◌, ◌^◌, ◌<◌, ◌≤◌, ◌==◌, ◌&&◌, not, if◌then◌else◌, min, List, [], ◌∷◌, true, false, All, Contains, Option, Some, None, IsSome, Result, Ok, Err, IfOk, IfErr}
+use Rattle.std.specs.Prelude.{◌≡◌, ◌⊎◌, ℕ, ◌+◌, ◌-◌, ◌^◌, ◌<◌, ◌≤◌, ◌==◌, ◌&&◌, not, if◌then◌else◌, min, List, [], ◌∷◌, Bool, true, false, All, Contains, Option, Some, None, IsSome, Result, Ok, Err, IfOk, IfErr}
 use Rattle.r4_base.specs.Key.{rank}
 use Rattle.r4_base.specs.Cell.{cell_fault}
 use Rattle.r4_base.specs.Tree.{Name}
@@ -23,6 +23,10 @@ pub record PoolState : Type 0 where
   pub kept : ℕ → Option CellSeen
   -- the block that a name means while it is not kept, where that is told
   pub meant : ℕ → Option (List ℕ)
+  -- the cells that were met: those that it answered and keeps
+  pub met : ℕ → Option CellSeen
+  -- whether it keeps a cell of a level that it answered
+  pub keeps : ℕ → Bool
 
 -- Nothing was written to the device of a pool.
 pub record LeavesDevice (old new : State) : Type 0 where
@@ -105,17 +109,23 @@ pub record Goes (old new : PoolState) : Type 0 where
   pub added : (i : ℕ) (c : CellSeen) → new.kept i ≡ Some c → old.kept i ≡ None → (c.id ≡ i) × IsRead old.blocks (old.meant i) c
   pub known : (n : Name) → IsKnown old n → IsKnown new n
   pub hangs : HangsTogether old → HangsTogether new
+  pub met : (i : ℕ) (c : CellSeen) → old.met i ≡ Some c → new.met i ≡ Some c
+  pub added_met : (i : ℕ) (c : CellSeen) → new.met i ≡ Some c → old.met i ≡ None → c.id ≡ i
+  pub keeps : (level : ℕ) → new.keeps level ≡ old.keeps level
 
 -- what the cell names can be asked for
 abbrev pub KnowsNames : PoolState → CellSeen → Type 0
 KnowsNames p c = (m : Name) → Contains (node_of c).names m → IsKnown p m
 
+-- it may stand at its level and range, in memory
+abbrev pub StandsInMemory : CellSeen → Type 0
+StandsInMemory c = cell_fault true (2 ^ 64) c.level (rank c.lo) (rank c.hi) c.block ≡ None
+
 -- The cell that was asked for. What it names can be asked for.
 pub record IsAnswer (n : Name) (old : PoolState) (c : CellSeen) (new : PoolState) : Type 0 where
   pub named : IsNamed n c
   pub is_of : IsOf old c
-  -- it may stand there, in memory
-  pub stands : cell_fault true (2 ^ 64) c.level (rank c.lo) (rank c.hi) c.block ≡ None
+  pub stands : StandsInMemory c
   pub knows : KnowsNames new c
 
 -- Why it is refused: a device failed, or it has a fault.
@@ -130,8 +140,22 @@ IsThat seen (Ok x) c = c ≡ seen x
 IsThat seen (Err e) c = ⊥
 
 -- `fetch`
-pub record Fetches {T : Type 0} (seen : T → CellSeen) (n : Name) (old : PoolState) (result : Result T FetchFault) (new : PoolState) : Type 0 where
+pub record Fetches {T : Type 0} (seen : T → CellSeen) (n : Name) (old : PoolState) (result : Result T FetchFault)
+    (new : PoolState) : Type 0 where
   pub goes : Goes old new
   pub only : (i : ℕ) (c : CellSeen) → new.kept i ≡ Some c → old.kept i ≡ None → IsThat seen result c
+  pub only_met : (i : ℕ) (c : CellSeen) → new.met i ≡ Some c → old.met i ≡ None → IsThat seen result c
+  -- where cells of its level are not kept, nothing more is
+  pub still : old.keeps n.level ≡ false → (i : ℕ) → new.kept i ≡ old.kept i
   pub ok : IfOk result (λ x. IsAnswer n old (seen x) new)
+  -- and where they are, the cell was met from then on
+  pub met : IfOk result (λ x. old.keeps n.level ≡ true → new.met n.id ≡ Some (seen x))
   pub err : IfErr result (λ e. IsRefused n old e new)
+
+-- the pool keeps nothing that it answers
+abbrev pub KeepsNone : PoolState → Type 0
+KeepsNone p = (level : ℕ) → p.keeps level ≡ false
+
+-- the cell was met, if cells of its level are kept
+abbrev pub IsMet : PoolState → CellSeen → Type 0
+IsMet p c = p.keeps c.level ≡ true → p.met c.id ≡ Some c

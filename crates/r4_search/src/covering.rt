@@ -3,8 +3,8 @@
 ghost use Rattle.std.specs.Prelude.{◌≡◌, ◌<◌, ◌≤◌, All, map, IfOk, IfErr};
 ghost use Rattle.std.specs.Arc.{arc_value};
 ghost use Rattle.r4_base.specs.Key.{rank, least, top};
-ghost use Rattle.r4_search.specs.Pool.{IsKnown, IsOf, Goes, LeavesDevice};
-ghost use Rattle.r4_search.specs.Path.{IsPath, KeepsOnly, KnowsOn, Stops, root_name};
+ghost use Rattle.r4_search.specs.Pool.{IsKnown, IsMet, IsOf, Goes, LeavesDevice};
+ghost use Rattle.r4_search.specs.Path.{IsPath, KeepsOnly, KnowsOn, MeetsOn, Stops, root_name};
 ghost use Rattle.r4_search.specs.Place.{child_name};
 
 use crate::inside::{Child, child_of};
@@ -16,9 +16,9 @@ use std::sync::Arc;
 
 /// The cells from the root down to the node whose range has the key: a leaf, or the twig where the key lies in the range
 /// of an extent (docs/volume.md, "The tree"). Each is the one that the pool keeps, or of the block that its name means, and
-/// what the pool keeps from then on is among them. What the last one names can be asked for. `Read` and `Damaged` name the block that such cells lead to and that is
-/// refused; `Read` comes only where the count of faults rose. Also after an error what the pool keeps from then on is among
-/// cells that lead down from the root.
+/// what the pool keeps from then on is among them; so is what it met. What the last one names can be asked for. `Read`
+/// and `Damaged` name the block that such cells lead to and that is refused; `Read` comes only where the count of faults
+/// rose. Also after an error what the pool keeps or met from then on is among cells that lead down from the root.
 pub fn cover<P: Pool>(
     alloc: Global,
     pool: &mut P,
@@ -34,6 +34,9 @@ pub fn cover<P: Pool>(
     ensures path { IfOk result (λ path. IsPath root.now (rank key.now) (map (λ cell. arc_value cell) path.items)) }
     ensures are_of { IfOk result (λ path. All (IsOf (P.state pool.old)) (map (λ cell. arc_value cell) path.items)) }
     ensures only { IfOk result (λ path. KeepsOnly (P.state pool.old) (P.state pool.new) (map (λ cell. arc_value cell) path.items)) }
+    ensures meets { MeetsOn root.now (rank key.now) (P.state pool.old) (P.state pool.new) }
+    ensures met { IfOk result (λ path. All (IsMet (P.state pool.new))
+        (map (λ cell. arc_value cell) path.items)) }
     ensures knows { IfOk result (λ path. KnowsOn (P.state pool.new) (map (λ cell. arc_value cell) path.items)) }
     ensures err { IfErr result (λ e. Stops root.now (rank key.now) (P.state pool.old) e (P.state pool.new)) }
 {

@@ -67,8 +67,8 @@ fn child_in(node: &NodeView<'_>, cell: &Cell, key: &Key) -> Option<Child>
     }
 }
 
-// The last item whose key is not above the key.
-fn place_of(node: &NodeView<'_>, hi: Key, key: &Key) -> u16
+/// The place of the last item of a node whose key is not above a key, which lies in the range of the items: below `hi`.
+pub fn place_of(node: &NodeView<'_>, hi: Key, key: &Key) -> u16
     requires first { next_key (rank hi) (view_items node.now) ≤ rank key.now }
     requires below { rank key.now < rank hi }
     ensures { IsPlace (rank hi) (view_items node.now) (rank key.now) result }

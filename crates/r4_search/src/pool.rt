@@ -45,8 +45,10 @@ impl<T: Drop> From<AllocFailed<T>> for FetchFault {
 
 /// Cells by their names: those that it keeps, and those that it reads as they are asked for (docs/volume.md, "The tree").
 ///
-/// It has a root, and a number of blocks, and is asked only for the root and for what cells name that it answered. Each name that it does not keep and that is below this number means the block of a device,
-/// which no call changes, where the pool tells it.
+/// It has a root, and a number of blocks, and is asked only for the root and for what cells name that it answered. Each
+/// name that it does not keep and that is below this number means the block of a device, which no call changes, where the
+/// pool tells it. It tells of which levels it keeps the cells that it answered; these were met from then on, and no
+/// others.
 pub trait Pool {
     /// What the pool tells of itself.
     ghost state: { Self → PoolState };

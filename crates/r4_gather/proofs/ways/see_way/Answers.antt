@@ -1,4 +1,4 @@
-use Rattle.std.proofs.Common.{◌+◌, ◌++◌, ◌∷◌, [], List, drop, map, sym, subst}
+use Rattle.std.proofs.Common.{◌∙◌, ◌+◌, ◌++◌, ◌∷◌, [], List, drop, map, sym, subst}
 use Rattle.r4_content.specs.Objects.{Object as SeenObject}
 use Rattle.r4_content.specs.Ways.{Place, step}
 use Rattle.r4_dir.specs.Coming.{object_of}
@@ -72,6 +72,7 @@ loop-name-preserved g c =
     c.in_ok-push-in-Some-2.ensures.items in
     record {
       small = rw c.in-Some-2.is at c.in_ok-next.ensures.small;
+      kept = c.in_ok-next.ensures.kept ∙ c.loop-name.invariant.kept;
       walk = subst (λ (xs : List SeenObject). IsWalking path (drop (i + 1) path) old new
           (record { here = object_of next; above = xs })) (sym pushed)
           (way_goes_on path (drop i path) old now p c.loop-name.invariant.walk n (drop (i + 1) path)

@@ -1,4 +1,4 @@
-use Rattle.std.proofs.Common.{drop, map}
+use Rattle.std.proofs.Common.{◌≡◌, drop, map}
 use Rattle.r4_dir.specs.Coming.{IsSmall, object_of}
 use Rattle.r4_gather.specs.Walking.{IsWalking}
 use Rattle.r4_gather.proofs.ways.see_way.Given as goal
@@ -6,6 +6,7 @@ use Rattle.r4_gather.proofs.ways.see_way.Given as goal
 abbrev pub invariant-loop-name : goal.invariant-loop-name
 invariant-loop-name g l = record {
   small : IsSmall l.here;
+  kept : (g.S.Sight.state l.sight).fault ≡ (g.S.Sight.state l.fn.sight).fault;
   walk : IsWalking l.path (drop l.name-index l.path) (g.S.Sight.state l.fn.sight) (g.S.Sight.state l.sight)
       (record { here = object_of l.here; above = map object_of l.above.items });
 }

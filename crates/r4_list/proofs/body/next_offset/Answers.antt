@@ -3,7 +3,7 @@ use Rattle.std.proofs.Math.Decide.{dec_le}
 use Rattle.r4_base.specs.Key.{rank}
 use Rattle.r4_base.specs.Node.{items_of}
 use Rattle.r4_search.proofs.Places.{item_in}
-use Rattle.r4_list.proofs.BodyUnits.{offsets_above, one_body}
+use Rattle.r4_units.proofs.ExtentUnits.{offsets_above, one_body}
 use Rattle.r4_list.proofs.body.next_offset.Goals as goal
 
 pub returns-then-is_of_one_body-clause-more : goal.returns-then-is_of_one_body-clause-more

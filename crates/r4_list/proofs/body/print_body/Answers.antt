@@ -9,7 +9,7 @@ use Rattle.r4_base.specs.declared.key.Key.{Key}
 use Rattle.r4_list.specs.Body.{IsFileTo}
 use Rattle.r4_list.proofs.Stages.{ended_printing, ended_well, ended_writing, went_both, went_printed, went_same, went_written}
 use Rattle.r4_list.proofs.BodyParts.{so_far_first, so_far_next, so_far_stopped, so_far_writing, so_far_written}
-use Rattle.r4_list.proofs.BodyUnits.{rank_from}
+use Rattle.r4_units.proofs.ExtentUnits.{rank_from}
 use Rattle.r4_list.proofs.body.print_body.Goals as goal
 
 file_to : (m : Content) (o : Target) (a : Attr) (size end : ℕ) → HasStat m o a → is_directory a ≡ false → a.size ≡ size → end ≡ min size (2 ^ 30) → IsFileTo m o end

@@ -2,13 +2,13 @@ use Rattle.std.proofs.Common.{ℕ, List, length, refl, sym, ap, subst, ◌∙◌
 use Rattle.std.specs.Prelude.{Contains, slice_range}
 use Rattle.r4_base.specs.Key.{rank}
 use Rattle.r4_search.specs.Pool.{called}
-use Rattle.r4_list.specs.Body.{block_name, unit_names}
+use Rattle.r4_units.specs.Extent.{block_name, unit_names}
 use Rattle.r4_list.proofs.Stages.{prints_same, went_both, went_same, went_written}
 use Rattle.r4_cell.specs.Seen.{CellSeen}
 use Rattle.r4_list.proofs.BodyOver.{fetched_block, fetched_over, over_fetching, over_writing, over_written, unfetched_over, unfetched_undamaged}
 use Rattle.r4_list.proofs.OverPaths.{Stored}
 use Rattle.r4_list.proofs.BodyStages.{named_fetching, named_well, named_writing}
-use Rattle.r4_list.proofs.BodyUnits.{rank_behind, run_block, unit_in}
+use Rattle.r4_units.proofs.ExtentUnits.{rank_behind, run_block, unit_in}
 use Rattle.r4_list.proofs.body.print_bytes.Goals as goal
 
 pub returns-in_err-write-clause-printed : goal.returns-in_err-write-clause-printed

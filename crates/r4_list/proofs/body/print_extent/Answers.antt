@@ -2,10 +2,10 @@ use Rattle.std.proofs.Common.{arith, length, ℕ, ◌≡◌, ◌≤◌, ◌*◌,
 use Rattle.std.specs.Prelude.{slice_index, slice_range}
 use Rattle.r4_base.specs.Extents.{units_of}
 use Rattle.r4_base.specs.Key.{rank}
-use Rattle.r4_list.specs.Body.{unit_block, unit_names}
+use Rattle.r4_units.specs.Extent.{unit_block, unit_names}
 use Rattle.r4_list.proofs.Stages.{went_same}
 use Rattle.r4_list.proofs.BodyStages.{named_printing}
-use Rattle.r4_list.proofs.BodyUnits.{offset_is, one_body, rank_of_block, unit_among}
+use Rattle.r4_units.proofs.ExtentUnits.{offset_is, one_body, rank_of_block, unit_among}
 use Rattle.r4_list.proofs.BodyParts.{block_units, exact_len, part_none, part_printed, part_stopped, range_len, stretch}
 use Rattle.r4_list.proofs.body.print_extent.Goals as goal
 

@@ -2,10 +2,10 @@ use Rattle.std.proofs.Common.{rules, ◌≡◌, ◌-◌, ℕ, List, arith, sym, 
 use Rattle.std.specs.Prelude.{Some, slice_get}
 use Rattle.r4_base.specs.Key.{rank}
 use Rattle.r4_base.proofs.Keys.{is_key}
-use Rattle.r4_list.specs.Leaf.{AreUpTo}
+use Rattle.r4_units.specs.Leaf.{AreUpTo}
 use Rattle.r4_list.proofs.BodyParts.{part_handed}
 use Rattle.r4_base.specs.Node.{Item, KeysRise, items_of}
-use Rattle.r4_list.proofs.Leaves.{keys_rise}
+use Rattle.r4_units.proofs.Leaves.{keys_rise}
 use Rattle.r4_list.proofs.BodyFound.{found}
 use Rattle.r4_list.proofs.body.print_in_cell.Goals as goal
 

@@ -12,10 +12,10 @@ use Rattle.r4_base.specs.Key.{rank}
 use Rattle.r4_base.specs.Node.{Item}
 use Rattle.r4_node40.specs.View.{item_shown}
 use Rattle.r4_cell.proofs.Faults.{body_short}
-use Rattle.r4_list.proofs.Leaves.{body_of, extent_good}
+use Rattle.r4_units.proofs.Leaves.{body_of, extent_good}
 use Rattle.r4_list.proofs.Stages.{went_same}
 use Rattle.r4_list.proofs.BodyStages.{named_appending, named_by}
-use Rattle.r4_list.proofs.BodyUnits.{extent_among, offsets_up_to, one_body}
+use Rattle.r4_units.proofs.ExtentUnits.{extent_among, offsets_up_to, one_body}
 use Rattle.r4_list.proofs.body.print_item.Goals as goal
 
 len_is : (r : Result ℕ Stop) (a b : ℕ) → b ≡ a → IfOk r (λ len. len ≡ a) → (len : ℕ) → r ≡ Ok len → len ≡ b

@@ -4,9 +4,9 @@ use Rattle.r4_base.specs.Key.{rank}
 use Rattle.r4_node40.specs.View.{item_shown}
 use Rattle.r4_base.specs.Node.{Item, KeysRise, items_of}
 use Rattle.r4_base.specs.declared.key.Key.{Key}
-use Rattle.r4_list.specs.Leaf.{AreUpTo}
+use Rattle.r4_units.specs.Leaf.{AreUpTo}
 use Rattle.r4_list.proofs.FrameSpans.{next_ends, node_ends, span_of}
-use Rattle.r4_list.proofs.Leaves.{keys_rise}
+use Rattle.r4_units.proofs.Leaves.{keys_rise}
 use Rattle.r4_list.proofs.frame.behind.Goals as goal
 
 pub items_up_to-count-requires : goal.items_up_to-count-requires

@@ -6,9 +6,10 @@ use Rattle.r4_base.specs.Node.{Item, KeysRise, items_of}
 use Rattle.r4_base.specs.declared.key.Key.{Key}
 use Rattle.r4_cell.specs.Seen.{CellSeen}
 use Rattle.r4_list.specs.Frame.{IsNextLeaf, dir_number}
-use Rattle.r4_list.specs.Leaf.{AreUpTo, Stands}
+use Rattle.r4_units.specs.Leaf.{AreUpTo}
+use Rattle.r4_search.specs.Pool.{StandsInMemory}
 use Rattle.r4_list.proofs.FrameOpens.{first_none, opens_first, start_rank}
-use Rattle.r4_list.proofs.Leaves.{keys_rise}
+use Rattle.r4_units.proofs.Leaves.{keys_rise}
 use Rattle.r4_list.proofs.OverAnswers.{over_handed}
 use Rattle.r4_list.proofs.frame.first_frame.Goals as goal
 
@@ -36,7 +37,7 @@ returns-clause-over g c = λ n image m has over f dir zero_from.
     let one = subst (λ o. IfSome o (λ leaf. (arc_value {X = CellSeen} leaf).level ≡ 1)) c.in-Some.is c.in_ok-leaf.ensures.level in
     let next = subst (λ o. IfSome o (λ leaf. IsNextLeaf has (rank key) (arc_value {X = CellSeen} leaf))) c.in-Some.is h.found.1 in
     let whole = subst (λ (y : CellSeen). length y.block ≡ 4096) c.deref.ensures c.node.ensures.whole in
-    let stands = subst Stands c.deref.ensures c.node.ensures.stands in
+    let stands = subst StandsInMemory c.deref.ensures c.node.ensures.stands in
     let up = subst (λ (y : CellSeen). AreUpTo (items_of y.block) (rank key) c.items_up_to-item.result) c.deref.ensures (subst (λ (xs : List Item). AreUpTo xs (rank key) c.items_up_to-item.result) c.node.ensures.items c.items_up_to-item.ensures) in
     record {
       over = h.over;

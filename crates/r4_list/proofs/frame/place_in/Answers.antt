@@ -2,7 +2,7 @@ use Rattle.std.proofs.Common.{arith, subst, ◌≡◌, List}
 use Rattle.std.specs.Prelude.{Some, slice_get}
 use Rattle.r4_base.specs.Node.{Item}
 use Rattle.r4_node40.specs.View.{item_shown}
-use Rattle.r4_list.proofs.Leaves.{body_of, dir_good}
+use Rattle.r4_units.proofs.Leaves.{body_of, dir_good}
 use Rattle.r4_list.proofs.frame.place_in.Goals as goal
 
 pub of_item-entries-requires : goal.of_item-entries-requires

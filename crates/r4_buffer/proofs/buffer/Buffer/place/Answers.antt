@@ -3,7 +3,7 @@ use Rattle.std.specs.Arc.{arc_value}
 use Rattle.std.proofs.lemmas.Iterator.Adapters.{YieldsList-from_vec}
 use Rattle.std.proofs.lemmas.Iterator.Consumers.{YieldsList-turn}
 use Rattle.r4_buffer.specs.Changed.{placed}
-use Rattle.r4_buffer.specs.Reading.{Shared}
+use Rattle.r4_search.specs.Keeping.{Shared}
 use Rattle.r4_buffer.specs.Seen.{buffered}
 use Rattle.r4_buffer.proofs.Turns.{in_turn-map_push}
 use Rattle.r4_buffer.proofs.buffer.Buffer.place.Goals as goal

@@ -1,6 +1,6 @@
 use Rattle.std.proofs.Common.{map}
 use Rattle.std.specs.Arc.{arc_value}
-use Rattle.r4_buffer.specs.Reading.{Shared}
+use Rattle.r4_search.specs.Keeping.{Shared}
 use Rattle.r4_buffer.specs.Seen.{buffered}
 use Rattle.r4_buffer.proofs.Replacing.{replaced_is}
 use Rattle.r4_buffer.proofs.buffer.Buffer.put.Goals as goal

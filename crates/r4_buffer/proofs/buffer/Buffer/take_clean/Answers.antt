@@ -2,7 +2,7 @@ use Rattle.std.proofs.Common.{◌∙◌, ap, get_or, sym}
 use Rattle.std.specs.Arc.{arc_value}
 use Rattle.r4_cell.specs.Seen.{CellSeen}
 use Rattle.r4_buffer.specs.Changed.{taken}
-use Rattle.r4_buffer.specs.Reading.{Shared}
+use Rattle.r4_search.specs.Keeping.{Shared}
 use Rattle.r4_buffer.specs.Seen.{buffered}
 use Rattle.r4_buffer.proofs.Turns.{in_turn-map_take}
 use Rattle.r4_buffer.proofs.buffer.Buffer.take_clean.Goals as goal
