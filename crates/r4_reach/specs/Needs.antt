@@ -213,11 +213,11 @@ twig_need b e c hs =
     (all_more hs + put_among b e c)
     else weight (items_of c.block) + 46 * all_more hs
 
--- so many cells that it names need too much
+-- so many of the cells that it names ask for pointers
 abbrev pub growing : List (Name × Ask) → ℕ
 growing hs = sum_by (λ h. if nat_lt 0 h.1.more then 1 else 0) hs
 
--- Each leaf that grows may part its twig once.
+-- Where a twig needs too much, each leaf for which pointers come may part it once.
 abbrev pub twig_more : Option Body → Edits → Node Value → List (Name × Ask) → ℕ
 twig_more b e c hs = if nat_lt 4068 (twig_need b e c hs) then larger (over (twig_need b e c hs)) (growing hs) else 0
 
