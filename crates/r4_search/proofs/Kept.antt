@@ -1,6 +1,6 @@
 -- A pool that keeps what it answers, over one that keeps nothing.
 use Rattle.std.proofs.Common.{◌≡◌, ◌⊎◌, inl, inr, ⊎_elim, ℕ, ◌<◌, Bool, true, false, not, ◌&&◌, ◌||◌, cond, List, refl, sym, ap, subst, ◌∙◌}
-use Rattle.std.specs.Prelude.{Option, Some, None, IsSome, is_some, Result, Ok, Err, IfOk, IfErr, Contains, ◌==◌, nat_eq, nat_lt, if◌then◌else◌}
+use Rattle.std.specs.Prelude.{Option, Some, None, IsSome, is_some, Result, Ok, Err, IfOk, IfErr, ◌==◌, nat_eq, nat_lt, if◌then◌else◌}
 use Rattle.std.specs.Arc.{arc_value}
 use Rattle.std.specs.Map.{lookup}
 use Rattle.std.specs.Option.{option_map, option_or}
@@ -9,15 +9,13 @@ use Rattle.std.proofs.lemmas.Bool.{eqb-true, eq-eqb, lt-ltb, ltb-true}
 use Rattle.std.proofs.lemmas.Option.{none-some, same_Some}
 use Rattle.r4_base.specs.Key.{rank}
 use Rattle.r4_base.specs.Tree.{Name}
-use Rattle.r4_base.specs.declared.items.CellFault.{CellFault}
 use Rattle.r4_base.specs.declared.items.CellFault.TheVariants.{Level, Range}
-use Rattle.r4_base.specs.declared.things.BlockNo.{BlockNo}
-use Rattle.r4_cell.specs.Seen.{CellSeen, node_of}
-use Rattle.r4_search.specs.Pool.{PoolState, FaultIs, Fetches, Goes, HangsTogether, IsAnswer, IsFrom, IsKeptOrRead, IsKnown, IsNamed, IsNamedFrom, IsOf, IsRead, IsRefused, IsThat, KeepsNone, KnowsNames, place_fault}
+use Rattle.r4_cell.specs.Seen.{CellSeen}
+use Rattle.r4_search.specs.Pool.{PoolState, FaultIs, Fetches, Goes, IsAnswer, IsFrom, IsKeptOrRead, IsKnown, IsNamed, IsNamedFrom, IsOf, IsRead, IsRefused, KnowsNames, place_fault}
 use Rattle.r4_search.specs.Keeping.{IsAgain, Keeps, NamesStand, Shared, WasAnswered, WereAnswered, keeping_state, met_in}
 use Rattle.r4_search.specs.declared.pool.FetchFault.{FetchFault}
 use Rattle.r4_search.specs.declared.pool.FetchFault.TheVariants.{Read, Damaged, Memory}
-use Rattle.r4_search.proofs.Walks.{goes_same, hangs_on, known_on, named_below, named_more, named_on}
+use Rattle.r4_search.proofs.Walks.{goes_same, hangs_on, known_on, named_below, named_more}
 
 -- ---- the level and the range that are asked for
 

@@ -6,7 +6,7 @@ use Rattle.std.specs.Option.{option_map}
 use Rattle.std.proofs.lemmas.Bool.{eqb-true, ne_eqb}
 use Rattle.std.proofs.lemmas.Option.{same_Some}
 use Rattle.std.proofs.lemmas.List.{map-append}
-use Rattle.std.proofs.lemmas.List.Elements.{All-cons, All-head, All-nil, All-push, All-tail, Contains-append_left, Contains-push, Contains-push_cases}
+use Rattle.std.proofs.lemmas.List.Elements.{All-cons, All-nil, All-push, All-weaker, Contains-append_left, Contains-push, Contains-push_cases}
 use Rattle.r4_base.specs.Key.{rank, least, top}
 use Rattle.r4_base.specs.Cell.{cell_fault}
 use Rattle.r4_base.specs.Node.{level_of, node_fault}
@@ -88,13 +88,8 @@ goes_same p = record {
 }
 
 -- cells of one kind are cells of another
-pub all_more : {A : Type 0} (P Q : A → Type 0) (xs : List A) → ((x : A) → P x → Q x) → All P xs → All Q xs
-all_more {A} P Q [] more all = All-nil Q
-all_more {A} P Q (x ∷ xs) more all =
-    All-cons Q x xs (more x (All-head P x xs all)) (all_more P Q xs more (All-tail P x xs all))
-
 pub named_more : (root : Name) (P Q : CellSeen → Type 0) (n : Name) → ((c : CellSeen) → P c → Q c) → IsNamedFrom root P n → IsNamedFrom root Q n
-named_more root P Q n more h = record { cells = h.cells; all = all_more P Q h.cells more h.all; lead = h.lead }
+named_more root P Q n more h = record { cells = h.cells; all = All-weaker P Q more h.cells h.all; lead = h.lead }
 
 -- what a cell names that is named itself
 pub named_below : (root : Name) (P : CellSeen → Type 0) (n m : Name) (c : CellSeen) → IsNamedFrom root P n → IsNamed n c → P c → Contains (node_of c).names m → IsNamedFrom root P m
@@ -184,7 +179,7 @@ none_met p i c h none = let e = sym h ∙ none in cc
 pub meets_still : (old mid new : PoolState) (cells : List CellSeen) → Meets old mid cells → Goes mid new
     → ((i : ℕ) (c : CellSeen) → new.met i ≡ Some c → mid.met i ≡ None → ⊥) → Meets old new cells
 meets_still old mid new cells m g none = record {
-  met = all_more (IsMet mid) (IsMet new) cells (λ c h. met_on mid new c g h) m.met;
+  met = All-weaker (IsMet mid) (IsMet new) (λ c h. met_on mid new c g h) cells m.met;
   stand = m.stand;
   only = λ i c h was. by i c h was (mid.met i) refl;
 }
@@ -200,7 +195,7 @@ pub meets_more : (old mid new : PoolState) (cells : List CellSeen) (n : Name) (x
     → ((i : ℕ) (c : CellSeen) → new.met i ≡ Some c → mid.met i ≡ None → c ≡ x)
     → (mid.keeps n.level ≡ true → new.met n.id ≡ Some x) → IsNamed n x → StandsInMemory x → Meets old new (cells ++ x ∷ [])
 meets_more old mid new cells n x m g only met is stands = record {
-  met = All-push (IsMet new) cells x (all_more (IsMet mid) (IsMet new) cells (λ c h. met_on mid new c g h) m.met) here;
+  met = All-push (IsMet new) cells x (All-weaker (IsMet mid) (IsMet new) (λ c h. met_on mid new c g h) cells m.met) here;
   stand = All-push StandsInMemory cells x m.stand stands;
   only = λ i c h was. by i c h was (mid.met i) refl;
 }
