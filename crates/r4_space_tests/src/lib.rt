@@ -1,10 +1,6 @@
-//! Tests of space, and of the places that cells get.
+//! Tests of space.
 #![tactic(auto)]
 
-#[cfg(test)]
-mod figures;
-#[cfg(test)]
-mod places;
 #[cfg(test)]
 mod same;
 #[cfg(test)]

@@ -3,7 +3,6 @@
 ghost use Rattle.std.specs.Prelude.{◌≡◌, [], IfOk, OnOk};
 
 use crate::same::same;
-use crate::spaces::{charge, place, read};
 use r4_base::{AtomNo, Block, BlockNo};
 use r4_space::SpaceMap;
 use std::alloc::Global;
@@ -32,7 +31,8 @@ fn large(rt: &impl Abort, alloc: Global) -> Result<SpaceMap, Fail>
     for n in 0..33u64 {
         bitmaps.push(bitmap(alloc, n)?)?;
     }
-    read(rt, alloc, &bitmaps, 1_048_576, 1_048_520).map_err(|_| Fail::from("no space"))
+    assert_eq!(rt; bitmaps.len(), 33);
+    SpaceMap::read(alloc, &bitmaps, 1_048_576, 1_048_520).map_err(|_| Fail::from("no space"))
 }
 
 // Charges 10,000 atoms so many cells each, one of them without a block.
@@ -41,7 +41,8 @@ fn charge_all(alloc: Global, space: &mut SpaceMap, cells: u32) -> Result<(), Fai
     ensures { OnOk result (space.new.sealed ≡ []) }
 {
     for atom in 1..10_001u32 {
-        if charge(alloc, space, atom, cells, 1)?.is_some() {
+        space.room(alloc, 1)?;
+        if space.charge(AtomNo(atom), u64::from(cells), 1).is_err() {
             return Err(Fail::from("a charge is refused"));
         }
     }
@@ -64,7 +65,7 @@ fn thirty_thousand_blocks_are_placed(rt: HostRuntime) -> Result<(), Fail> {
     let alloc = rt.alloc();
     let mut space = large(&rt, alloc)?;
     for _ in 0..30_000u64 {
-        place(&mut space, 22);
+        let _ = space.place(BlockNo(22));
     }
     same(&rt, &space.free(), &1_018_520, "placed");
     space.settle(AtomNo(1));
