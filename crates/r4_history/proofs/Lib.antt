@@ -1,0 +1,4 @@
+pub mod Places
+pub mod AtomSteps
+pub mod CommitSteps
+pub mod Told

@@ -1,0 +1,11 @@
+//! What the tables of a run say of its trace: each entry that they allow is legal, and they go on
+//! saying it (docs/histories.md).
+#![tactic(auto)]
+
+mod atoms;
+mod commands;
+mod transactions;
+
+pub use atoms::{atoms_are_committed, atoms_fuse};
+pub use commands::{commands_are_done, commands_are_refused, commits_are_acknowledged};
+pub use transactions::{transactions_begin, transactions_end};
