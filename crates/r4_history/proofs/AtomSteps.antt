@@ -12,7 +12,7 @@ use Rattle.r4_base.specs.declared.things.TxnNo.{TxnNo}
 use Rattle.r4_content.specs.declared.command.Command.{Command}
 use Rattle.r4_content.specs.declared.reply.Reply.{Reply}
 use Rattle.r4_trace.specs.Order.{IsOrdered}
-use Rattle.r4_trace.specs.Traced.{IsCommitted, IsEnded, IsSealed, IsBegun, begun_in, committed_in, last_of, renamed_atom, atom_in}
+use Rattle.r4_trace.specs.Traced.{IsCommitted, IsEnded, IsSealed, IsBegun, begun_in, committed_in, last_of, last_sealed, renamed_atom, atom_in}
 use Rattle.r4_trace.specs.declared.entry.Entry.{Entry}
 use Rattle.r4_trace.specs.declared.entry.Entry.TheVariants.{Begin, Fuse, Done, Refused, Ended, Sealed, Committed, Acked, Broken}
 use Rattle.r4_trace.proofs.FirstOnes.{begun_le, committed_first, ended_le, first_sealed, new_atom as own_atom, sealed_begun}
@@ -55,6 +55,38 @@ atom_begun (Fuse a b n ∷ older) t legal some within = elim (cases_eq (atom_in 
       (omega (arith, e, was.0), omega (arith, e, was.1))
 ]
 atom_begun (e ∷ older) t legal some within = atom_begun older t legal.2 some within
+
+-- an atom has its own name
+pub own_name : (trace : List Entry) (t : ℕ) → IsOrdered trace → atom_in trace (atom_in trace t) ≡ atom_in trace t
+own_name [] t legal = refl
+own_name (Fuse a b n ∷ older) t legal = elim (cases_eq (atom_in older t) b.0) [
+  | inl same ↦
+      let e = cond-true (atom_in older t == b.0) a.0 (atom_in older t) (eq-eqb (atom_in older t) b.0 same) in
+      ap (λ (x : ℕ). renamed_atom a.0 b.0 (atom_in older x)) e
+      ∙ ap (renamed_atom a.0 b.0) legal.0.1.own
+      ∙ cond-false (a.0 == b.0) a.0 a.0 (ne_eqb a.0 b.0 (λ q. absurd (omega (arith, q, legal.0.0)))) ∙ sym e
+  | inr other ↦
+      let e = cond-false (atom_in older t == b.0) a.0 (atom_in older t) (ne_eqb (atom_in older t) b.0 other) in
+      ap (λ (x : ℕ). renamed_atom a.0 b.0 (atom_in older x)) e
+      ∙ ap (renamed_atom a.0 b.0) (own_name older t legal.2)
+]
+own_name (e ∷ older) t legal = own_name older t legal.2
+
+-- a sealed atom has its own name
+pub sealed_own : (trace : List Entry) (a : ℕ) → IsOrdered trace → IsSealed trace a → atom_in trace a ≡ a
+sealed_own [] a legal h = absurd h
+sealed_own (Fuse x y n ∷ older) a legal h =
+    let own = sealed_own older a legal.2 h in
+    ap (renamed_atom x.0 y.0) own
+    ∙ cond-false (a == y.0) x.0 a (ne_eqb a y.0 (λ same. absurd (legal.0.2.unsealed (subst (IsSealed older) same h))))
+sealed_own (Sealed b ∷ older) a legal (inl is) = ap (atom_in older) is ∙ legal.0.0.own ∙ sym is
+sealed_own (Sealed b ∷ older) a legal (inr h) = sealed_own older a legal.2 h
+sealed_own (e ∷ older) a legal h = sealed_own older a legal.2 h
+
+pub last_is_sealed : (trace : List Entry) (a : ℕ) → last_sealed trace ≡ Some a → IsSealed trace a
+last_is_sealed [] a is = absurd (cc is)
+last_is_sealed (Sealed b ∷ older) a is = inl (cc is)
+last_is_sealed (e ∷ older) a is = last_is_sealed older a is
 
 -- the last transaction of a script
 pub last_begun : (trace : List Entry) (s : ℕ) → (last_of trace s ≡ 0) ⊎ IsBegun trace (last_of trace s) s

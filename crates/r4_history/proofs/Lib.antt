@@ -2,3 +2,4 @@ pub mod Places
 pub mod AtomSteps
 pub mod CommitSteps
 pub mod Told
+pub mod RunSteps

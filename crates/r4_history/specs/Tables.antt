@@ -1,13 +1,13 @@
 -- The tables of a run: what they say of its scripts, its transactions and its atoms
 -- (docs/histories.md).
 use Rattle.std.specs.Prelude.{◌≡◌, ℕ, zero, suc, ◌+◌, ◌-◌, ◌≤◌, List, [], ◌∷◌, ◌++◌, map, length, slice_get, slice_index_or, slice_set, Option, Some, None, true, false, if◌then◌else◌}
-use Rattle.r4_atoms.specs.Atoms.{AtomsSeen, IsBegun as IsTxn, joined, new_atom, new_txn, renamed_txn, state_of, txn_of, with_state}
+use Rattle.r4_atoms.specs.Atoms.{AtomsSeen, IsBegun as IsTxn, IsClosedAtom, joined, new_atom, new_txn, renamed_txn, state_of, txn_of, with_state}
 use Rattle.r4_base.specs.declared.things.TxnNo.{TxnNo}
 use Rattle.r4_content.specs.declared.command.Command.{Command}
 use Rattle.r4_script.specs.declared.job.Job.{Job}
 use Rattle.r4_script.specs.declared.job.Script.{Script}
 use Rattle.r4_trace.specs.Job.{Asked, Inside, Outside, Place, Single, Within, at_start}
-use Rattle.r4_turns.specs.Turns.{IsScript, TurnsSeen, answered_at, answered_one, commands_at, left, start, turn_at}
+use Rattle.r4_turns.specs.Turns.{IsScript, TurnsSeen, answered_at, answered_one, commands_at, left, start, started, turn_at}
 use Rattle.r4_turns.specs.declared.turn.Open.{Open}
 use Rattle.r4_turns.specs.declared.turn.Turn.{Turn}
 
@@ -101,3 +101,28 @@ with_cleaned s a = with_state s a (record (state_of s a) { cleaned = true })
 pub record IsLastOf (s : AtomsSeen) (script txn : ℕ) : Type 0 where
   pub is_one : (txn ≡ 0 → ⊥) → IsTxn s txn × ((txn_of s txn).script ≡ script)
   pub no_later : (t : ℕ) → IsTxn s t → (txn_of s t).script ≡ script → t ≤ txn
+
+-- ---- at the start and at the end
+
+-- the tables of a run of a job that begins, with room for any number of captures and transactions
+abbrev pub opened : Job → (spare txn_spare : ℕ) → Tables
+opened job spare txn_spare = record {
+  turns = started job;
+  atoms = record { txns = []; atoms = []; captured = []; spare = spare; txn_spare = txn_spare };
+  commit = None;
+  broken = None;
+}
+
+-- Each command of a script is answered, and no transaction of it is open, unless a call of the
+-- device failed.
+pub record IsFinished (t : Tables) (script : ℕ) : Type 0 where
+  pub answered : answered_at t.turns script ≡ length (commands_at t.turns script)
+  pub closed : t.broken ≡ None → (turn_at t.turns script).transaction ≡ None
+
+-- All scripts are finished, no commit is under way, no atom is left that could be sealed, and no
+-- call of the device failed.
+pub record IsOver (t : Tables) : Type 0 where
+  pub finished : (s : ℕ) → IsScript t.turns s → IsFinished t s
+  pub no_atom : (a : ℕ) → IsClosedAtom t.atoms a → ⊥
+  pub no_commit : t.commit ≡ None
+  pub sound : t.broken ≡ None
