@@ -3,3 +3,5 @@ pub mod AtomSteps
 pub mod CommitSteps
 pub mod Told
 pub mod RunSteps
+pub mod Drawing
+pub mod DrawnSteps

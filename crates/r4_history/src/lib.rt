@@ -4,10 +4,12 @@
 
 mod atoms;
 mod commands;
+mod ids;
 mod runs;
 mod transactions;
 
 pub use atoms::{atoms_are_committed, atoms_fuse};
 pub use commands::{commands_are_done, commands_are_refused, commits_are_acknowledged};
+pub use ids::{drawn_ids_are_new, ids_are_drawn_once, ids_stay};
 pub use runs::{runs_are_whole, runs_begin, steps_tell_nothing, told_traces_are_legal};
 pub use transactions::{transactions_begin, transactions_end};
