@@ -5,3 +5,4 @@ pub mod Told
 pub mod RunSteps
 pub mod Drawing
 pub mod DrawnSteps
+pub mod ServingSteps

@@ -1,3 +1,5 @@
 pub mod Tables
 pub mod Told
 pub mod Drawn
+pub mod Held
+pub mod Serving

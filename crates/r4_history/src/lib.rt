@@ -5,11 +5,19 @@
 mod atoms;
 mod commands;
 mod ids;
+mod refused;
 mod runs;
+mod serving;
 mod transactions;
+mod why;
 
 pub use atoms::{atoms_are_committed, atoms_fuse};
 pub use commands::{commands_are_done, commands_are_refused, commits_are_acknowledged};
 pub use ids::{drawn_ids_are_new, ids_are_drawn_once, ids_stay};
+pub use refused::{
+    early_commits_are_not_acknowledged, failed_runs_answer_reopen, open_atoms_are_not_sealed,
+};
 pub use runs::{runs_are_whole, runs_begin, steps_tell_nothing, told_traces_are_legal};
+pub use serving::{one_script_is_served, others_are_exact};
 pub use transactions::{transactions_begin, transactions_end};
+pub use why::Why;
