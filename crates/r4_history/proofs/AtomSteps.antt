@@ -269,7 +269,7 @@ joined_keeps f same states to from j =
     ∙ one j
 
 module _ (old new : AtomsSeen) (a b : ℕ) (f : Fuses old new a b) where
-  fused_states : (g : AtomState → Bool) → ((x : AtomState) (y : Account) → g (with_account x y) ≡ g x) → (n : ℕ)
+  pub fused_states : (g : AtomState → Bool) → ((x : AtomState) (y : Account) → g (with_account x y) ≡ g x) → (n : ℕ)
       → g (state_of new n) ≡ g (state_of old n)
   fused_states g same n =
       ap (λ (xs : List AtomState). g (get_or xs (n - 1) new_atom)) f.atoms
@@ -286,7 +286,7 @@ module _ (old new : AtomsSeen) (a b : ℕ) (f : Fuses old new a b) where
     first = λ n is. inl (txn_by old new fused_count n is);
   }
 
-  fused_txn : (t : ℕ) → IsTxn old t → txn_of new t ≡ renamed_txn a b (txn_of old t)
+  pub fused_txn : (t : ℕ) → IsTxn old t → txn_of new t ≡ renamed_txn a b (txn_of old t)
   fused_txn t is =
       ap (λ (ts : List TxnSeen). get_or ts (t - 1) no_txn) f.txns
       ∙ get_or-map (renamed_txn a b) old.txns (t - 1) no_txn no_txn (omega (arith, is.some, is.within))

@@ -6,3 +6,4 @@ pub mod RunSteps
 pub mod Drawing
 pub mod DrawnSteps
 pub mod ServingSteps
+pub mod Fusing

@@ -23,6 +23,7 @@ use Rattle.r4_history.specs.Held.{Need, nodes_of}
 use Rattle.r4_history.specs.Serving.{AreOthers, IsLeastOwned, IsOtherOwner, IsPassedOver, IsServedNext, Rise}
 use Rattle.r4_history.specs.Tables.{Tables}
 use Rattle.r4_history.specs.Told.{IsTold}
+use Rattle.r4_history.proofs.Told.{atom_is}
 
 -- ---- the order
 
@@ -45,17 +46,17 @@ fewest_first t locks needs s q one is goes lt = goes (one.order q is (inl lt))
 
 -- ---- fusing
 
-cons_cases : {X : Type 0} (x : X) (l : List X) (y : X) → Contains (x ∷ l) y → (x ≡ y) ⊎ Contains l y
+pub cons_cases : {X : Type 0} (x : X) (l : List X) (y : X) → Contains (x ∷ l) y → (x ≡ y) ⊎ Contains l y
 cons_cases x l y c = by c.0 c.1 c.2
   where
     by : (k : ℕ) → k < length (x ∷ l) → get_or (x ∷ l) k y ≡ y → (x ≡ y) ⊎ Contains l y
     by zero lt e = inl e
     by (suc k) lt e = inr (k, omega (arith, lt), e)
 
-cons_later : {X : Type 0} (x : X) (l : List X) (y : X) → Contains l y → Contains (x ∷ l) y
+pub cons_later : {X : Type 0} (x : X) (l : List X) (y : X) → Contains l y → Contains (x ∷ l) y
 cons_later x l y c = let lt = c.1 in (suc c.0, omega (arith, lt), c.2)
 
-cons_here : {X : Type 0} (x : X) (l : List X) → Contains (x ∷ l) x
+pub cons_here : {X : Type 0} (x : X) (l : List X) → Contains (x ∷ l) x
 cons_here x l = (0, omega arith, refl)
 
 -- the smallest element that passes a test
@@ -149,8 +150,10 @@ module _ (w : Meaning Command Reply) (start : Option Start) (clock : ℕ) (t : T
       (sym (h.atoms.atom txn is.begun) ∙ is.atom)
 
   pub early_is_not_acked : (job : Option Asked) (script : ScriptNo) (txn : TxnNo) (now n : ℕ) → IsTxn t.atoms n → (txn_of t.atoms n).script ≡ script.0
-      → IsTxn t.atoms (atom_of t.atoms n) → is_committed t.atoms (atom_of t.atoms n) ≡ false → IsLegalSoFar w start job (Acked script txn now ∷ trace) → ⊥
-  early_is_not_acked job script txn now n begun mine atom un legal =
+      → is_committed t.atoms (atom_of t.atoms n) ≡ false → IsLegalSoFar w start job (Acked script txn now ∷ trace) → ⊥
+  early_is_not_acked job script txn now n begun mine un legal =
+      let b = h.atoms.script n begun in
+      let atom = atom_is w start clock t trace h n (txn_of t.atoms n).script b in
       let c : IsCommitted trace (atom_in trace n) = legal.order.0.1 n (subst (λ (x : ℕ). Rattle.r4_trace.specs.Traced.IsBegun trace n x) mine (h.atoms.script n begun)) in
       let d = (h.atoms.committed (atom_of t.atoms n) atom).1 (subst (IsCommitted trace) (sym (h.atoms.atom n begun)) c) in
       true≢false (sym d ∙ un)

@@ -1,6 +1,7 @@
 -- Which script is served, why one waits, and which atoms fuse (docs/histories.md).
-use Rattle.std.specs.Prelude.{◌≡◌, ◌≢◌, ◌⊎◌, ◌↔◌, ℕ, ◌<◌, ◌≤◌, min, max, Contains, List, [], ◌∷◌, Option, Some, None, IsSome, true, false}
+use Rattle.std.specs.Prelude.{◌≡◌, ◌≢◌, ◌⊎◌, ◌↔◌, ℕ, ◌<◌, ◌≤◌, min, max, Contains, List, [], ◌∷◌, Option, Some, None, IsSome, option_map, true, false}
 use Rattle.r4_atoms.specs.Atoms.{AllCommitted, AtomsSeen, IsUncommittedOf, is_sealed, owner_of}
+use Rattle.r4_atoms.specs.Names.{renamed}
 use Rattle.r4_atoms.specs.declared.things.Uncommitted.TheVariants as uncommitted
 use Rattle.r4_base.specs.declared.things.AtomNo.{AtomNo}
 use Rattle.r4_base.specs.declared.things.NodeId.{NodeId}
@@ -15,7 +16,7 @@ use Rattle.r4_turns.specs.declared.out.Out.{Out as Task}
 use Rattle.r4_history.specs.declared.why.Why.{Why}
 use Rattle.r4_history.specs.declared.why.Why.TheVariants.{Held, Open, Out, Sealed}
 use Rattle.r4_history.specs.Held.{IsOut, Need, nodes_of}
-use Rattle.r4_history.specs.Tables.{IsFinished, Tables, next_at}
+use Rattle.r4_history.specs.Tables.{Fuses, IsFinished, Tables, next_at}
 
 -- ---- what makes a command wait
 
@@ -136,3 +137,17 @@ fused own [] trace = trace
 fused own (p ∷ rest) trace =
     fused (min own p.0) rest
     (Fuse (record { 0 = min own p.0 }) (record { 0 = max own p.0 }) (record { 0 = p.1 }) ∷ trace)
+
+-- the table of atoms behind these fuses, one after the other
+abbrev pub FusesAll : AtomsSeen → (own : ℕ) → (others : List (ℕ × ℕ)) → AtomsSeen → Type 0
+FusesAll s own [] after = after ≡ s
+FusesAll s own (p ∷ rest) after =
+    (mid : AtomsSeen)
+    × Fuses s mid (min own p.0) (max own p.0)
+    × ((n : ℕ) → owner_of mid n ≡ option_map (renamed (min own p.0) (max own p.0)) (owner_of s n))
+    × FusesAll mid (min own p.0) rest after
+
+-- the atom of the command then
+abbrev pub least_of : (own : ℕ) → (others : List (ℕ × ℕ)) → ℕ
+least_of own [] = own
+least_of own (p ∷ rest) = least_of (min own p.0) rest

@@ -18,6 +18,6 @@ pub use refused::{
     early_commits_are_not_acknowledged, failed_runs_answer_reopen, open_atoms_are_not_sealed,
 };
 pub use runs::{runs_are_whole, runs_begin, steps_tell_nothing, told_traces_are_legal};
-pub use serving::{one_script_is_served, others_are_exact};
+pub use serving::{commands_fuse_atoms, one_script_is_served, others_are_exact};
 pub use transactions::{transactions_begin, transactions_end};
 pub use why::Why;

@@ -30,7 +30,7 @@ pub fn early_commits_are_not_acknowledged()
     ensures { (w : Meaning Command Reply) (start : Option Start) (clock : ℕ) (t : Tables)
         (trace : List Entry) → IsTold w start clock t trace
         → (job : Option Asked) (script : ScriptNo) (txn : TxnNo) (now n : ℕ) → IsBegun t.atoms n
-        → (txn_of t.atoms n).script ≡ script.0 → IsBegun t.atoms (atom_of t.atoms n)
+        → (txn_of t.atoms n).script ≡ script.0
         → is_committed t.atoms (atom_of t.atoms n) ≡ false
         → IsLegalSoFar w start job (Acked script txn now ∷ trace) → ⊥ }
 {}

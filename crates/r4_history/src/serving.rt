@@ -1,12 +1,18 @@
 //! Laws of serving: which script is served, and which atoms fuse.
 
-ghost use Rattle.std.specs.Prelude.{◌≡◌, ◌≢◌, ◌<◌, ℕ, Contains, List, Option, Some, false};
-ghost use Rattle.r4_atoms.specs.Atoms.{AtomsSeen, is_sealed, numbers, owner_of};
+ghost use Rattle.std.specs.Prelude.{◌≡◌, ◌≢◌, ◌<◌, ℕ, Contains, List, Option, Some, None, false};
+ghost use Rattle.r4_atoms.specs.Atoms.{AtomsSeen, IsBegun, IsOpenAtom, atom_of, is_sealed, numbers, owner_of};
+ghost use Rattle.r4_content.specs.Locality.{Meaning};
+ghost use Rattle.r4_content.specs.declared.command.Command.{Command};
+ghost use Rattle.r4_content.specs.declared.reply.Reply.{Reply};
 ghost use Rattle.r4_locks.specs.Locks.{LocksSeen};
+ghost use Rattle.r4_trace.specs.Ids.{Start};
+ghost use Rattle.r4_trace.specs.declared.entry.Entry.{Entry};
 ghost use Rattle.r4_turns.specs.Turns.{IsScript, answered_at};
-ghost use Rattle.r4_history.specs.Held.{Need, nodes_of};
-ghost use Rattle.r4_history.specs.Serving.{AreOthers, IsPassedOver, IsServedNext};
+ghost use Rattle.r4_history.specs.Held.{AreOwners, Need, nodes_of};
+ghost use Rattle.r4_history.specs.Serving.{AreOthers, FusesAll, IsPassedOver, IsSealedOwner, IsServedNext, fused, least_of};
 ghost use Rattle.r4_history.specs.Tables.{Tables};
+ghost use Rattle.r4_history.specs.Told.{IsTold};
 
 /// At most one script is the next to be served. One that has fewer answered commands and can be
 /// served comes first, whatever its number is.
@@ -36,4 +42,24 @@ pub fn others_are_exact()
         → AreOthers s own need others → (a n : ℕ)
         → ((node : ℕ) → Contains (nodes_of need) node → owner_of s node ≡ Some a → ⊥)
         → Contains others (a, n) → ⊥ }
+{}
+
+/// The atom of a command fuses with all of them, one after the other: the entries may follow, and
+/// tables and trace go on alike. After that no other atom owns a node of its reach, where no sealed
+/// one did.
+pub fn commands_fuse_atoms()
+    ensures told { (w : Meaning Command Reply) (start : Option Start) (clock : ℕ) (t : Tables)
+        (trace : List Entry) → IsTold w start clock t trace → (own : ℕ) (need : Need)
+        (others : List (ℕ × ℕ)) (atoms : AtomsSeen) → t.broken ≡ None → AreOwners t.atoms
+        → IsOpenAtom t.atoms own → AreOthers t.atoms own need others
+        → FusesAll t.atoms own others atoms
+        → IsTold w start clock (record t { atoms = atoms }) (fused own others trace) }
+    ensures reach { (s : AtomsSeen) (own : ℕ) (need : Need) (others : List (ℕ × ℕ))
+        (after : AtomsSeen) → AreOthers s own need others → FusesAll s own others after
+        → ((a : ℕ) → IsSealedOwner s need a → ⊥) → (node b : ℕ)
+        → Contains (nodes_of need) node → owner_of after node ≡ Some b
+        → b ≡ least_of own others }
+    ensures atom { (s : AtomsSeen) (own : ℕ) (others : List (ℕ × ℕ)) (after : AtomsSeen)
+        → FusesAll s own others after → (txn : ℕ) → IsBegun s txn → atom_of s txn ≡ own
+        → atom_of after txn ≡ least_of own others }
 {}
