@@ -7,3 +7,5 @@ pub mod Drawing
 pub mod DrawnSteps
 pub mod ServingSteps
 pub mod Fusing
+pub mod Ordered
+pub mod WaitingSteps

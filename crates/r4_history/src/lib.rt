@@ -9,6 +9,7 @@ mod refused;
 mod runs;
 mod serving;
 mod transactions;
+mod waiting;
 mod why;
 
 pub use atoms::{atoms_are_committed, atoms_fuse};
@@ -20,4 +21,5 @@ pub use refused::{
 pub use runs::{runs_are_whole, runs_begin, steps_tell_nothing, told_traces_are_legal};
 pub use serving::{commands_fuse_atoms, one_script_is_served, others_are_exact};
 pub use transactions::{transactions_begin, transactions_end};
+pub use waiting::{scripts_wait_for_one_reason, something_is_waited_for};
 pub use why::Why;
