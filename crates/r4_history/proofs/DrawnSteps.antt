@@ -76,7 +76,7 @@ drawn_from o t ids trace job h back le only = record {
 }
 
 -- the turn of another script
-turn_other : (t : TurnsSeen) (s q : ℕ) (turn : Turn) → IsScript t s → 0 < q → (q ≡ s → ⊥) → turn_at (with_turn t s turn) q ≡ turn_at t q
+pub turn_other : (t : TurnsSeen) (s q : ℕ) (turn : Turn) → IsScript t s → 0 < q → (q ≡ s → ⊥) → turn_at (with_turn t s turn) q ≡ turn_at t q
 turn_other t s q turn is some other =
     get_or-set_other t.turns (s - 1) (q - 1) turn no_turn (λ same. other (omega (arith, same, is.0, some)))
 

@@ -9,3 +9,4 @@ pub mod ServingSteps
 pub mod Fusing
 pub mod Ordered
 pub mod WaitingSteps
+pub mod TaskSteps

@@ -4,7 +4,7 @@ use Rattle.r4_atoms.specs.Atoms.{AtomsSeen, IsAtom, atom_of, is_cleaned, numbers
 use Rattle.r4_base.specs.declared.things.NodeId.{NodeId}
 use Rattle.r4_cell.specs.Seen.{CellSeen}
 use Rattle.r4_content.specs.declared.command.Command.{Command}
-use Rattle.r4_locks.specs.Locks.{IsTask, LocksSeen, mode_of, mode_with}
+use Rattle.r4_locks.specs.Locks.{IsTask, LocksSeen, OthersAsBefore, mode_of, mode_with, task_at}
 use Rattle.r4_locks.specs.declared.things.Mode.TheVariants.{Reads, Writes}
 use Rattle.r4_trace.specs.Job.{IsWork}
 use Rattle.r4_turns.specs.Turns.{IsScript, TurnsSeen, turn_at}
@@ -63,6 +63,21 @@ pub record IsServed (t : Tables) (script : ℕ) (out : Out) : Type 0 where
 pub record TasksTell (t : Tables) (locks : LocksSeen) : Type 0 where
   pub held : AreHeld t.turns locks
   pub served : (s : ℕ) (out : Out) → IsOut t.turns s out → IsServed t s out
+
+-- A new task holds what it was given, and the others hold what they held.
+pub record HoldsNew (before after : LocksSeen) (out : Out) : Type 0 where
+  pub unused : task_at before out.task.0 ≡ None
+  pub holds : Holds after out
+  pub others : OthersAsBefore before after out.task.0
+
+-- Of what tasks reach that are out, each node that has an owner had one before, whose atom is now
+-- that of the owner: of its transactions, as far as tasks go.
+abbrev pub OwnersFollow : Tables → (after : AtomsSeen) → Type 0
+OwnersFollow t after =
+    (s : ℕ) (out : Out) (node a : ℕ) → IsOut t.turns s out → Contains (nodes_of (need_of out)) node
+    → owner_of after node ≡ Some a
+    → (b : ℕ) × (owner_of t.atoms node ≡ Some b)
+    × (atom_of t.atoms out.txn.0 ≡ b → atom_of after out.txn.0 ≡ a)
 
 -- what the table of atoms says of all owners
 abbrev pub AreOwners : AtomsSeen → Type 0

@@ -8,6 +8,7 @@ mod ids;
 mod refused;
 mod runs;
 mod serving;
+mod tasks;
 mod transactions;
 mod waiting;
 mod why;
@@ -20,6 +21,9 @@ pub use refused::{
 };
 pub use runs::{runs_are_whole, runs_begin, steps_tell_nothing, told_traces_are_legal};
 pub use serving::{commands_fuse_atoms, one_script_is_served, others_are_exact};
+pub use tasks::{
+    tasks_are_apart, tasks_come_and_go, tasks_keep_their_owners, tasks_stay_out,
+};
 pub use transactions::{transactions_begin, transactions_end};
 pub use waiting::{scripts_wait_for_one_reason, something_is_waited_for};
 pub use why::Why;

@@ -1,0 +1,11 @@
+use Rattle.r4_history.proofs.TaskSteps.{tasks_answered, tasks_entered, tasks_left, tasks_other, tasks_owned}
+use Rattle.r4_history.proofs.tasks.tasks_stay_out.Goals as goal
+
+pub returns : goal.returns
+returns c = record {
+  entered = tasks_entered;
+  left = tasks_left;
+  answered = tasks_answered;
+  others = tasks_other;
+  owners = tasks_owned;
+}
