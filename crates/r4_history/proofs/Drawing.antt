@@ -172,4 +172,3 @@ pub from_grown : (i : ℕ) (job : Asked) (n : ℕ) (c : Command) (ahead : ℕ �
 from_grown i [] n c ahead = omega arith
 from_grown i (cs ∷ job) zero c ahead = let h = take_grown (ahead i) cs c in omega (arith, h)
 from_grown i (cs ∷ job) (suc n) c ahead = let h = from_grown (i + 1) job n c ahead in omega (arith, h)
-

@@ -65,10 +65,10 @@ module _ (w : Meaning Command Reply) (start : Option Start) (clock : ℕ) where
       all_told rest (min own p.0) (record t { atoms = mid }) (Rattle.r4_trace.specs.declared.entry.Entry.TheVariants.Fuse kept gone node ∷ trace) now none
       (stays (min own p.0) (of_min (IsOpenAtom t.atoms) own p.0 is first.0) (λ same. omega (arith, same, less))) rise.1
       (λ q there.
-        (let lt = rise.0 q there in
-        let was = each q (cons_later p rest q there) in
-        let differs = was.1 in
-        (stays q.0 was.0 (λ same. omega (arith, same, lt, differs)), λ same. omega (arith, same, lt, differs))))
+      (let lt = rise.0 q there in
+      let was = each q (cons_later p rest q there) in
+      let differs = was.1 in
+      (stays q.0 was.0 (λ same. omega (arith, same, lt, differs)), λ same. omega (arith, same, lt, differs))))
       after f.3
 
   pub fuses_told : (t : Tables) (trace : List Entry) → IsTold w start clock t trace → (own : ℕ) (need : Need) (others : List (ℕ × ℕ)) (atoms : AtomsSeen)
@@ -77,8 +77,8 @@ module _ (w : Meaning Command Reply) (start : Option Start) (clock : ℕ) where
   fuses_told t trace h own need others atoms none owners is are f =
       all_told others own t trace h none is are.rise
       (λ p there.
-        (let one = ((are.each p.0 p.1).0 there).is_one in
-        (record { atom = (owners p.1 p.0 one.owner).0; unsealed = one.unsealed }, one.other)))
+      (let one = ((are.each p.0 p.1).0 there).is_one in
+      (record { atom = (owners p.1 p.0 one.owner).0; unsealed = one.unsealed }, one.other)))
       atoms f
 
 -- ---- who owns the reach then
@@ -109,13 +109,13 @@ all_own (p ∷ rest) own s after f rise differ node b owned among =
         ⊎_elim
         (λ mine. inl (sym now ∙ renamed_own own p.0 d (inl mine)))
         (λ there. ⊎_elim
-          (λ first. inl (sym now ∙ renamed_own own p.0 d (inr (ap (λ (y : ℕ × ℕ). y.0) (sym first)))))
-          (λ later.
-            (let lt = rise.0 (d, there.0) later in
-            let unlike = differ (d, there.0) (cons_later p rest (d, there.0) later) in
-            let same : d ≡ c = sym (cond-false (d == max own p.0) (min own p.0) d (ne_eqb d (max own p.0) (λ e. omega (arith, e, lt, unlike)))) ∙ now in
-            inr (there.0, subst (λ (x : ℕ). Contains rest (x, there.0)) same later)))
-          (cons_cases p rest (d, there.0) there.1))
+        (λ first. inl (sym now ∙ renamed_own own p.0 d (inr (ap (λ (y : ℕ × ℕ). y.0) (sym first)))))
+        (λ later.
+        (let lt = rise.0 (d, there.0) later in
+        let unlike = differ (d, there.0) (cons_later p rest (d, there.0) later) in
+        let same : d ≡ c = sym (cond-false (d == max own p.0) (min own p.0) d (ne_eqb d (max own p.0) (λ e. omega (arith, e, lt, unlike)))) ∙ now in
+        inr (there.0, subst (λ (x : ℕ). Contains rest (x, there.0)) same later)))
+        (cons_cases p rest (d, there.0) there.1))
         (among d is)
 
 -- after the fuses no other atom owns a node of the reach, where no sealed one did

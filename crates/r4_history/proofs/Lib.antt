@@ -10,3 +10,4 @@ pub mod Fusing
 pub mod Ordered
 pub mod WaitingSteps
 pub mod TaskSteps
+pub mod Worked

@@ -81,9 +81,10 @@ module _ (cs : List Command) where
   passed : (p : Place) (c : Command) → slice_get cs p.answered ≡ Some c → Fits p → ((now : Bool) → Turns c (is_inside p.within) now → is_inside p.within ≡ now)
       → Fits (answered_at p)
   passed p c at ok stays =
-      let step = in_order_next (is_inside p.within) cs p.answered c ok.0 at in
-      (subst (λ (x : Bool). AreInOrder x (drop (p.answered + 1) cs)) (sym (answered_inside p.within ∙ stays step.0 step.1)) step.2,
-      answered_work p.within (slice_get cs (p.answered + 1)))
+      let step = in_order_next (is_inside p.within) cs p.answered c ok.0 at in (
+        subst (λ (x : Bool). AreInOrder x (drop (p.answered + 1) cs)) (sym (answered_inside p.within ∙ stays step.0 step.1)) step.2,
+        answered_work p.within (slice_get cs (p.answered + 1)),
+      )
 
   done_fits : (p : Place) (o : Option Command) (c : Command) → slice_get cs p.answered ≡ o → MayBeDone o c → Fits p → Fits (answered_at p)
   done_fits p None c at may ok = absurd may
@@ -114,14 +115,14 @@ module _ (cs : List Command) where
       let out : Place = record { answered = end_of (slice_get cs n) n; within = Outside } in
       let stays : Place = record { answered = n; within = Inside v } in
       subst Fits (sym (cond-true (u == v) out stays (eq-eqb u v may.0))) (⊎_elim
-        (λ ends.
-          (let step = in_order_next true cs n commands.End ok.0 ends in
-          subst (λ (o : Option Command). Fits (record { answered = end_of o n; within = Outside })) (sym ends)
-          (out_fits (n + 1) (subst (λ (b : Bool). AreInOrder b (drop (n + 1) cs)) step.1.1 step.2))))
-        (λ none.
-          subst (λ (o : Option Command). Fits (record { answered = end_of o n; within = Outside })) (sym none)
-          (out_fits n (subst (AreInOrder false) (sym (drop_end cs n none)) tt)))
-        may.1)
+      (λ ends.
+      (let step = in_order_next true cs n commands.End ok.0 ends in
+      subst (λ (o : Option Command). Fits (record { answered = end_of o n; within = Outside })) (sym ends)
+      (out_fits (n + 1) (subst (λ (b : Bool). AreInOrder b (drop (n + 1) cs)) step.1.1 step.2))))
+      (λ none.
+      subst (λ (o : Option Command). Fits (record { answered = end_of o n; within = Outside })) (sym none)
+      (out_fits n (subst (AreInOrder false) (sym (drop_end cs n none)) tt)))
+      may.1)
 
 module _ (job : Asked) (s : ℕ) (ok : AreInOrder false (commands_of job s)) where
   pub fits : (trace : List Entry) → IsOrdered trace → IsAnswered job trace → broken_at trace ≡ None → Fits (commands_of job s) (place (commands_of job s) trace s)

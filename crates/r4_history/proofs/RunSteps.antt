@@ -206,9 +206,11 @@ module _ (w : Meaning Command Reply) (start : Option Start) (clock : ℕ) (t : T
       let has : txn_in (place cs trace s).within ≡ Some o.txn.0 =
       ap (λ (p : Place). txn_in p.within) there ∙ ap (λ (x : Option Open). txn_in (within_of x)) some ∙ by_single o.single o.txn.0 in
       let opn = place_open cs trace o.txn.0 s h.legal.order has in
-      let txn = txn_is w start clock t trace h o.txn.0 s opn in
-      (txn, true_from_ne_false (txn_of t.atoms o.txn.0).is_open (λ ends. opn.1 ((h.atoms.ended o.txn.0 txn).0 ends)),
-      one_script trace o.txn.0 (txn_of t.atoms o.txn.0).script s h.legal.order (h.atoms.script o.txn.0 txn) opn.0)
+      let txn = txn_is w start clock t trace h o.txn.0 s opn in (
+        txn,
+        true_from_ne_false (txn_of t.atoms o.txn.0).is_open (λ ends. opn.1 ((h.atoms.ended o.txn.0 txn).0 ends)),
+        one_script trace o.txn.0 (txn_of t.atoms o.txn.0).script s h.legal.order (h.atoms.script o.txn.0 txn) opn.0,
+      )
     where
       by_single : (b : Bool) (n : ℕ) → txn_in (cond b (Rattle.r4_trace.specs.Job.Single n) (Rattle.r4_trace.specs.Job.Inside n)) ≡ Some n
       by_single true n = refl
@@ -242,10 +244,11 @@ module _ (w : Meaning Command Reply) (start : Option Start) (clock : ℕ) (t : T
           let past : length t.turns.turns ≤ s = elim (Rattle.std.proofs.lemmas.Bool.cases_lt s (length t.turns.turns)) [
             | inl less ↦ absurd (out (omega arith, omega (arith, less)))
             | inr le ↦ le
-          ] in
-          (ap (λ (k : ℕ). get_or t.turns.turns k no_turn) e ∙ get_or_past t.turns.turns s no_turn past,
-          ap (λ (k : ℕ). (get_or t.turns.job.scripts k no_script).commands) e
-          ∙ ap (λ (x : Script). x.commands) (get_or_past t.turns.job.scripts s no_script (omega (arith, past, h.scripts))))
+          ] in (
+            ap (λ (k : ℕ). get_or t.turns.turns k no_turn) e ∙ get_or_past t.turns.turns s no_turn past,
+            ap (λ (k : ℕ). (get_or t.turns.job.scripts k no_script).commands) e
+                ∙ ap (λ (x : Script). x.commands) (get_or_past t.turns.job.scripts s no_script (omega (arith, past, h.scripts))),
+          )
 
       is_script : (s : ℕ) → IsScript t.turns (suc s) ⊎ (IsScript t.turns (suc s) → ⊥)
       is_script s = elim (Rattle.std.proofs.lemmas.Bool.cases_lt s (length t.turns.turns)) [
@@ -297,10 +300,10 @@ module _ (w : Meaning Command Reply) (start : Option Start) (clock : ℕ) (t : T
           subst (IsSealed trace) same (elim (cases_Bool (is_sealed t.atoms a)) [
             | inl is ↦ (h.atoms.sealed a there).0 is
             | inr un ↦ absurd (over.no_atom a (record {
-                unsealed = record { atom = record { begun = there; own = own }; unsealed = un };
-                none = count_none (is_open_in a) t.atoms.txns (λ i lt.
-                    (let e : suc i - 1 ≡ i = omega arith in
-                    ap (λ (k : ℕ). is_open_in a (get_or t.atoms.txns k no_txn)) (sym e)
-                    ∙ closed a (suc i) (record { some = omega arith; within = omega (arith, lt) })));
-              }))
+              unsealed = record { atom = record { begun = there; own = own }; unsealed = un };
+              none = count_none (is_open_in a) t.atoms.txns (λ i lt.
+                  (let e : suc i - 1 ≡ i = omega arith in
+                  ap (λ (k : ℕ). is_open_in a (get_or t.atoms.txns k no_txn)) (sym e)
+                  ∙ closed a (suc i) (record { some = omega arith; within = omega (arith, lt) })));
+            }))
           ])

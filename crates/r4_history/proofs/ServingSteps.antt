@@ -71,9 +71,9 @@ least_in test (x ∷ l) n c is = elim (search_rest test l) [
       let best = least_in test l some.0 some.1 some.2 in
       elim (cases_Bool (test x)) [
         | inl passes ↦ elim (Rattle.std.proofs.lemmas.Bool.cases_lt x best.0) [
-            | inl less ↦ (x, cons_here x l, passes, λ k there pass. ⊎_elim (λ here. omega (arith, here)) (λ later. let le = best.3 k later pass in omega (arith, le, less)) (cons_cases x l k there))
-            | inr more ↦ (best.0, cons_later x l best.0 best.1, best.2, λ k there pass. ⊎_elim (λ here. omega (arith, here, more)) (λ later. best.3 k later pass) (cons_cases x l k there))
-          ]
+          | inl less ↦ (x, cons_here x l, passes, λ k there pass. ⊎_elim (λ here. omega (arith, here)) (λ later. let le = best.3 k later pass in omega (arith, le, less)) (cons_cases x l k there))
+          | inr more ↦ (best.0, cons_later x l best.0 best.1, best.2, λ k there pass. ⊎_elim (λ here. omega (arith, here, more)) (λ later. best.3 k later pass) (cons_cases x l k there))
+        ]
         | inr not ↦ (best.0, cons_later x l best.0 best.1, best.2, λ k there pass. ⊎_elim (λ here. absurd (true≢false (sym pass ∙ ap test (sym here) ∙ not))) (λ later. best.3 k later pass) (cons_cases x l k there))
       ]
 ]
@@ -83,9 +83,9 @@ least_in test (x ∷ l) n c is = elim (search_rest test l) [
     search_rest test (y ∷ l) = elim (cases_Bool (test y)) [
       | inl passes ↦ inr (y, cons_here y l, passes)
       | inr not ↦ elim (search_rest test l) [
-          | inl none ↦ inl (λ k c is. ⊎_elim (λ here. absurd (true≢false (sym is ∙ ap test (sym here) ∙ not))) (λ later. none k later is) (cons_cases y l k c))
-          | inr some ↦ inr (some.0, cons_later y l some.0 some.1, some.2)
-        ]
+        | inl none ↦ inl (λ k c is. ⊎_elim (λ here. absurd (true≢false (sym is ∙ ap test (sym here) ∙ not))) (λ later. none k later is) (cons_cases y l k c))
+        | inr some ↦ inr (some.0, cons_later y l some.0 some.1, some.2)
+      ]
     ]
 
 owns_by : (o : Option ℕ) (a : ℕ) → is_atom a o ≡ true → o ≡ Some a
@@ -128,8 +128,8 @@ same_rise (p ∷ l) (q ∷ m) rl rm to from =
     let first : p ≡ q =
     ⊎_elim (λ e. sym e)
     (λ p_later. ⊎_elim (λ e. e)
-      (λ q_later. (let a = rm.0 p p_later in let b = rl.0 q q_later in absurd (omega (arith, a, b))))
-      (cons_cases p l q (from q (cons_here q m))))
+    (λ q_later. (let a = rm.0 p p_later in let b = rl.0 q q_later in absurd (omega (arith, a, b))))
+    (cons_cases p l q (from q (cons_here q m))))
     (cons_cases q m p (to p (cons_here p l))) in
     let rest : l ≡ m = same_rise l m rl.1 rm.1
     (λ x there. ⊎_elim (λ e. (let lt = rl.0 x there in let k = ap (λ (y : ℕ × ℕ). y.0) (first ∙ e) in absurd (omega (arith, lt, k)))) (λ later. later) (cons_cases q m x (to x (cons_later p l x there))))

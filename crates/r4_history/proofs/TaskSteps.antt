@@ -57,10 +57,13 @@ module _ (t : Tables) (s : ℕ) (turn : Turn) (is : IsScript t.turns s) where
         | inl same ↦
             inl (same, ap (λ (x : Turn). x.out) (sym (turn_now t.turns s turn is)) ∙ ap (λ (k : ℕ). (turn_at (with_turn t.turns s turn) k).out) (sym same) ∙ has.is_out)
         | inr other ↦
-            inr (other, record {
-              is_script = (has.is_script.0, (let le = has.is_script.1 in omega (arith, le, count)));
-              is_out = ap (λ (x : Turn). x.out) (sym (turn_other t.turns s q turn is has.is_script.0 other)) ∙ has.is_out;
-            })
+            inr (
+              other,
+              record {
+                is_script = (has.is_script.0, (let le = has.is_script.1 in omega (arith, le, count)));
+                is_out = ap (λ (x : Turn). x.out) (sym (turn_other t.turns s q turn is has.is_script.0 other)) ∙ has.is_out;
+              },
+            )
       ]
 
   out_still : (q : ℕ) (o : Out) → q ≢ s → IsOut t.turns q o → IsOut (with_turn t.turns s turn) q o
@@ -120,9 +123,9 @@ tasks_out t locks after h s out is free new served = record {
   };
   served = λ q o has. ⊎_elim
       (λ here.
-        (let e : out ≡ o = cc here.1 in
-        subst (λ (x : ℕ). IsServed (record t { turns = with_turn t.turns s turn }) x o) (sym here.0)
-        (subst (IsServed (record t { turns = with_turn t.turns s turn }) s) e (served_here t s turn is out refl refl served))))
+      (let e : out ≡ o = cc here.1 in
+      subst (λ (x : ℕ). IsServed (record t { turns = with_turn t.turns s turn }) x o) (sym here.0)
+      (subst (IsServed (record t { turns = with_turn t.turns s turn }) s) e (served_here t s turn is out refl refl served))))
       (λ there. served_other t s turn is q o there.0 there.1.is_script.0 (h.served q o there.1))
       (out_cases t s turn is q o has);
 }
@@ -168,17 +171,20 @@ module _ (t : Tables) (locks after : LocksSeen) (h : TasksTell t locks) (s : ℕ
       tasks = λ k stands. elim (cases_eq k out.task.0) [
         | inl same ↦ absurd (none_stands (task_at after k) (ap (task_at after) same ∙ gone) stands)
         | inr other ↦
-            let had = h.held.tasks k (subst IsSome (others k other) stands) in
-            (had.0, had.1,
-            out_still t s turn is had.0 had.1
-            (λ same. (let e : had.1 ≡ out = cc (sym had.2.is_out ∙ ap (λ (x : ℕ). (turn_at t.turns x).out) same ∙ was) in
-            absurd (other (sym had.3 ∙ ap (λ (o : Out). o.task.0) e)))) had.2,
-            had.3)
+            let had = h.held.tasks k (subst IsSome (others k other) stands) in (
+              had.0,
+              had.1,
+              out_still t s turn is had.0 had.1
+                  (λ same. (let e : had.1 ≡ out = cc (sym had.2.is_out ∙ ap (λ (x : ℕ). (turn_at t.turns x).out) same ∙ was) in
+                  absurd (other (sym had.3 ∙ ap (λ (o : Out). o.task.0) e)))) had.2,
+              had.3,
+            )
       ];
       apart = λ q p a b x y same. h.held.apart q p a b (there_now q a x).1 (there_now p b y).1 same;
     };
     served = served_now;
   }
+
   -- none was out
   tasks_kept : (turn_at t.turns s).out ≡ None → TasksTell (record t { turns = with_turn t.turns s turn }) locks
   tasks_kept was = record {
@@ -287,7 +293,7 @@ some_mode : (reads writes : List NodeId) (node : ℕ) → Contains (numbers read
 some_mode reads writes node there none =
     ⊎_elim
     (λ read.
-      cc (sym (cond-true (is_named reads node) (Some (joined (mode_with Writes writes node None) Reads)) (mode_with Writes writes node None) (named_there reads node read)) ∙ none))
+    cc (sym (cond-true (is_named reads node) (Some (joined (mode_with Writes writes node None) Reads)) (mode_with Writes writes node None) (named_there reads node read)) ∙ none))
     (λ written. cc (sym (written_mode reads writes node written) ∙ none))
     (Contains-append_cases (numbers reads) (numbers writes) node there)
 
@@ -316,7 +322,7 @@ module _ (w : Meaning Command Reply) (start : Option Start) (clock : ℕ) (t : T
   begun_follow atoms script b same =
       tasks_owned t locks tells atoms
       (λ s out node a is reached owned.
-        (a, sym (same node) ∙ owned, λ e. ap (λ (x : TxnSeen). x.atom) (txn_before t.atoms atoms script b h.atoms.states out.txn.0 (txn_served s out is)) ∙ e))
+      (a, sym (same node) ∙ owned, λ e. ap (λ (x : TxnSeen). x.atom) (txn_before t.atoms atoms script b h.atoms.states out.txn.0 (txn_served s out is)) ∙ e))
 
   pub ended_follow : (txn : ℕ) → TasksTell (record t { atoms = with_ended t.atoms txn }) locks
   ended_follow txn =
@@ -340,9 +346,12 @@ module _ (w : Meaning Command Reply) (start : Option Start) (clock : ℕ) (t : T
           → (b : ℕ) × (owner_of t.atoms node ≡ Some b) × (atom_of t.atoms out.txn.0 ≡ b → atom_of atoms out.txn.0 ≡ a)
       by s out is node None none a e = absurd (cc (sym (ap (option_map (renamed kept gone)) none) ∙ e))
       by s out is node (Some b) had a e =
-          let now : renamed kept gone b ≡ a = cc (sym (ap (option_map (renamed kept gone)) had) ∙ e) in
-          (b, had, λ same.
-            ap (λ (x : TxnSeen). x.atom) (fused_txn t.atoms atoms kept gone f out.txn.0 (txn_served s out is)) ∙ ap (renamed kept gone) same ∙ now)
+          let now : renamed kept gone b ≡ a = cc (sym (ap (option_map (renamed kept gone)) had) ∙ e) in (
+            b,
+            had,
+            λ same.
+                ap (λ (x : TxnSeen). x.atom) (fused_txn t.atoms atoms kept gone f out.txn.0 (txn_served s out is)) ∙ ap (renamed kept gone) same ∙ now,
+          )
 
   -- a state that keeps whether nodes are clean
   pub state_follow : (a : ℕ) (x : AtomState) → x.cleaned ≡ (state_of t.atoms a).cleaned → TasksTell (record t { atoms = with_state t.atoms a x }) locks
@@ -373,8 +382,8 @@ module _ (w : Meaning Command Reply) (start : Option Start) (clock : ℕ) (t : T
   captured_follow atoms atom node txns owners apart =
       tasks_owned t locks tells atoms
       (λ s out n a is reached owned.
-        (let other : node ≢ n = λ same. apart s out is (subst (Contains (nodes_of (need_of out))) (sym same) reached) in
-        (a, sym (owners n ∙ cond-false (node == n) (Some atom) (owner_of t.atoms n) (ne_eqb node n other)) ∙ owned, λ e. same_txns atoms txns out.txn.0 ∙ e)))
+      (let other : node ≢ n = λ same. apart s out is (subst (Contains (nodes_of (need_of out))) (sym same) reached) in
+      (a, sym (owners n ∙ cond-false (node == n) (Some atom) (owner_of t.atoms n) (ne_eqb node n other)) ∙ owned, λ e. same_txns atoms txns out.txn.0 ∙ e)))
 
   pub renamed_follow : (atoms : AtomsSeen) (from to : ℕ) → atoms.txns ≡ t.atoms.txns → owner_of atoms from ≡ None
       → ((n : ℕ) → n ≢ from → n ≢ to → owner_of atoms n ≡ owner_of t.atoms n)
@@ -382,6 +391,6 @@ module _ (w : Meaning Command Reply) (start : Option Start) (clock : ℕ) (t : T
   renamed_follow atoms from to txns none others apart =
       tasks_owned t locks tells atoms
       (λ s out n a is reached owned.
-        (let not_to : n ≢ to = λ same. apart s out is (subst (Contains (nodes_of (need_of out))) same reached) in
-        let not_from : n ≢ from = λ same. cc (sym none ∙ ap (owner_of atoms) (sym same) ∙ owned) in
-        (a, sym (others n not_from not_to) ∙ owned, λ e. same_txns atoms txns out.txn.0 ∙ e)))
+      (let not_to : n ≢ to = λ same. apart s out is (subst (Contains (nodes_of (need_of out))) same reached) in
+      let not_from : n ≢ from = λ same. cc (sym none ∙ ap (owner_of atoms) (sym same) ∙ owned) in
+      (a, sym (others n not_from not_to) ∙ owned, λ e. same_txns atoms txns out.txn.0 ∙ e)))

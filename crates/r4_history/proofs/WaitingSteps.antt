@@ -1,9 +1,9 @@
 -- What a script waits for.
-use Rattle.std.proofs.Common.{◌≡◌, ◌≢◌, ◌⊎◌, inl, inr, ⊎_elim, ℕ, zero, suc, ◌+◌, ◌-◌, ◌<◌, ◌≤◌, Bool, true, false, true≢false, cond, List, [], ◌∷◌, length, drop, get_or, slice_get, Option, Some, None, IsSome, refl, sym, ◌∙◌, ap, subst, arith, Contains}
+use Rattle.std.proofs.Common.{◌≡◌, ◌≢◌, ◌⊎◌, inl, inr, ⊎_elim, ℕ, zero, suc, ◌+◌, ◌-◌, ◌<◌, ◌≤◌, ◌==◌, Bool, true, false, not, true≢false, cond, List, [], ◌∷◌, length, drop, get_or, slice_get, Option, Some, None, IsSome, refl, sym, ◌∙◌, ap, subst, arith, Contains}
 use Rattle.std.specs.Option.{option_or}
-use Rattle.std.proofs.lemmas.Bool.{cases_lt, false≢true}
+use Rattle.std.proofs.lemmas.Bool.{and_from, cases_Bool, cases_lt, eq-eqb, false≢true, not_from_false}
 use Rattle.std.proofs.lemmas.List.{get_or_past}
-use Rattle.r4_atoms.specs.Atoms.{AtomsSeen, IsBegun as IsTxn, IsOpenIn, IsSmallestAtom, IsSmallestOpen, IsUncommittedOf, txn_of}
+use Rattle.r4_atoms.specs.Atoms.{AllCommitted, AtomsSeen, IsBegun as IsTxn, atom_of, is_sealed, IsOpenIn, IsSmallestAtom, IsSmallestOpen, IsUncommittedOf, txn_of}
 use Rattle.r4_atoms.specs.declared.things.Uncommitted.TheVariants as uncommitted
 use Rattle.r4_base.specs.declared.things.AtomNo.{AtomNo}
 use Rattle.r4_base.specs.declared.things.NodeId.{NodeId}
@@ -23,6 +23,7 @@ use Rattle.r4_trace.specs.Ids.{Start}
 use Rattle.r4_trace.specs.Job.{Asked, Inside, IsWork, Place, Single, commands_of, place, txn_in}
 use Rattle.r4_trace.specs.Traced.{IsOpen}
 use Rattle.r4_trace.specs.declared.entry.Entry.{Entry}
+use Rattle.r4_trace.proofs.FirstOnes.{sealed_committed}
 use Rattle.r4_trace.proofs.Places.{open_place}
 use Rattle.r4_turns.specs.Turns.{IsScript, answered_at as count_at, commands_at, start as no_turn, turn_at}
 use Rattle.r4_turns.specs.declared.out.Out.{Out as Task}
@@ -33,10 +34,10 @@ use Rattle.r4_history.specs.declared.why.Why.TheVariants.{Held, Open, Out, Seale
 use Rattle.r4_history.specs.Held.{AreOwners, IsOut, Need, TasksTell}
 use Rattle.r4_history.specs.Serving.{AreOrdered, IsHeldUp, IsInTheWay, IsInTheWayOf, IsInTheWayOfCommit, IsPassedOver, IsReason, IsSealedOwner, IsUnderWay, IsWaiting, WaitsFor}
 use Rattle.r4_history.specs.Tables.{IsFinished, Stands, Tables, asked, next_at, place_at, within_of}
-use Rattle.r4_history.specs.Told.{IsTold}
+use Rattle.r4_history.specs.Told.{IsCommitting, IsTold}
 use Rattle.r4_history.proofs.Ordered.{Fits, fits, in_order_next}
 use Rattle.r4_history.proofs.Places.{commands_are, stood}
-use Rattle.r4_history.proofs.Told.{at as place_now}
+use Rattle.r4_history.proofs.Told.{at as place_now, atom_is}
 
 -- a holder that stands in the way is a task
 holds_there : (o : Option TaskSeen) (wanted : Mode) (node : ℕ) → conflicts wanted (mode_in o node) ≡ true → IsSome o
@@ -222,3 +223,19 @@ module _ (w : Meaning Command Reply) (start : Option Start) (clock : ℕ) (t : T
   pub one_reason : (locks : LocksSeen) (need : Option Need) (s : ℕ) (x y : Why) → AreOwners t.atoms → WaitsFor t locks need s x → WaitsFor t locks need s y → x ≡ y
   one_reason locks need s x y owners one two =
       same_held locks need owners one.sound s (next_at t.turns s) x y one.held_up two.held_up
+
+  -- ---- what a `commit` finds
+
+  pub all_committed : (s : ℕ) → t.broken ≡ None → t.commit ≡ None → IsUncommittedOf t.atoms s uncommitted.None → AllCommitted t.atoms s
+  all_committed s none rest nothing n begun mine = elim (cases_Bool (is_sealed t.atoms (atom_of t.atoms n))) [
+    | inl sealed ↦
+        let there = atom_is w start clock t trace h n (txn_of t.atoms n).script (h.atoms.script n begun) in
+        let even = subst (λ (o : Option ℕ). IsCommitting t.atoms o trace) rest (h.commit.under_way none) in
+        (h.atoms.committed (atom_of t.atoms n) there).1
+        (⊎_elim (λ c. c) (λ late. absurd (omega (arith, late.1, even)))
+        (sealed_committed trace (atom_of t.atoms n) h.legal.order ((h.atoms.sealed (atom_of t.atoms n) there).0 sealed)))
+    | inr un ↦
+        absurd (true≢false
+        (sym (and_from ((txn_of t.atoms n).script == s) (not (is_sealed t.atoms (atom_of t.atoms n))) (eq-eqb (txn_of t.atoms n).script s mine)
+        (not_from_false (is_sealed t.atoms (atom_of t.atoms n)) un)) ∙ nothing n begun))
+  ]

@@ -3,3 +3,4 @@ pub mod Told
 pub mod Drawn
 pub mod Held
 pub mod Serving
+pub mod Worked

@@ -65,6 +65,14 @@ pub record WaitsFor (t : Tables) (locks : LocksSeen) (need : Option Need) (scrip
   pub sound : t.broken ≡ None
   pub held_up : IsHeldUp t locks need script (next_at t.turns script) why
 
+-- A `commit` asks for a flush of this atom: no commit is under way, and it is the smallest of the
+-- script's atoms that are not sealed and have no open transaction.
+pub record AsksForFlush (t : Tables) (script : ℕ) (atom : AtomNo) : Type 0 where
+  pub sound : t.broken ≡ None
+  pub waits : AllCommitted t.atoms script → ⊥
+  pub rests : t.commit ≡ None
+  pub smallest : IsUncommittedOf t.atoms script (uncommitted.Closed atom)
+
 -- ---- which script is served
 
 -- It is finished, or a task of it is out, or it waits.

@@ -53,9 +53,11 @@ pub fn steps_tell_nothing()
         (trace : List Entry) → IsTold w start clock t trace
         → (a : ℕ) (account : Account)
         → IsTold w start clock
-            (record t { atoms =
-                with_state t.atoms a (record (state_of t.atoms a) { account = account }) })
-            trace }
+        (record t {
+          atoms =
+              with_state t.atoms a (record (state_of t.atoms a) { account = account });
+        })
+        trace }
     ensures later { (w : Meaning Command Reply) (start : Option Start) (clock : ℕ) (t : Tables)
         (trace : List Entry) → IsTold w start clock t trace
         → (now : ℕ) → clock ≤ now → IsTold w start now t trace }

@@ -90,7 +90,7 @@ pub fn tasks_keep_their_owners()
         → TasksTell t locks
         → (atoms : AtomsSeen) (atom node : ℕ) → atoms.txns ≡ t.atoms.txns
         → ((n : ℕ) →
-            owner_of atoms n ≡ (if node == n then Some atom else owner_of t.atoms n))
+        owner_of atoms n ≡ (if node == n then Some atom else owner_of t.atoms n))
         → ((s : ℕ) (out : Out) → IsOut t.turns s out → Contains (nodes_of (need_of out)) node → ⊥)
         → TasksTell (record t { atoms = atoms }) locks }
     ensures renamed { (w : Meaning Command Reply) (start : Option Start) (clock : ℕ) (t : Tables)

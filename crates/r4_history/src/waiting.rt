@@ -1,6 +1,8 @@
 //! Laws of waiting.
 
-ghost use Rattle.std.specs.Prelude.{◌≡◌, ℕ, List, Option};
+ghost use Rattle.std.specs.Prelude.{◌≡◌, ℕ, List, Option, None};
+ghost use Rattle.r4_atoms.specs.Atoms.{AllCommitted, IsUncommittedOf};
+ghost use Rattle.r4_atoms.specs.declared.things.Uncommitted.TheVariants as uncommitted;
 ghost use Rattle.r4_content.specs.Locality.{Meaning};
 ghost use Rattle.r4_content.specs.declared.command.Command.{Command};
 ghost use Rattle.r4_content.specs.declared.reply.Reply.{Reply};
@@ -27,4 +29,13 @@ pub fn something_is_waited_for()
         (trace : List Entry) → IsTold w start clock t trace
         → (locks : LocksSeen) (needs : ℕ → Option Need) → TasksTell t locks → AreOwners t.atoms
         → AreOrdered t.turns → (why : Why) → IsWaiting t locks needs why → IsUnderWay t }
+{}
+
+/// Where no atom of a script is left that is not sealed, and no commit is under way, each of its
+/// transactions is in a committed atom. So a `commit` is acknowledged, asks for a flush, or waits.
+pub fn commits_are_acknowledged_in_the_end()
+    ensures { (w : Meaning Command Reply) (start : Option Start) (clock : ℕ) (t : Tables)
+        (trace : List Entry) → IsTold w start clock t trace
+        → (s : ℕ) → t.broken ≡ None → t.commit ≡ None
+        → IsUncommittedOf t.atoms s uncommitted.None → AllCommitted t.atoms s }
 {}
