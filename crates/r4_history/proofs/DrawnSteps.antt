@@ -24,7 +24,7 @@ use Rattle.r4_history.specs.Tables.{asked, next_at}
 use Rattle.r4_history.specs.Told.{HasNewId}
 use Rattle.r4_history.specs.Drawn.{AreDrawn, BeginsAt, GetsNumbers, IsNoDone, ahead_at, ahead_by, drawn_at, id_for, makers_by, makers_from, next_after, numbers_of}
 use Rattle.r4_history.proofs.Drawing.{Drawn, Ids, draw, drawn_by, drawn_on, done_on, from_few, from_grown, from_mono, raised, used_by}
-use Rattle.r4_history.proofs.Places.{commands_are, turn_now}
+use Rattle.r4_history.proofs.Places.{commands_are, commands_pushed, next_pushed, next_there, turn_now}
 use Rattle.r4_history.proofs.RunSteps.{pushed_is}
 
 -- ---- commands that make an object
@@ -132,14 +132,6 @@ ahead_was t (suc i) some = refl
 drawn_was : (t : TurnsSeen) (s : ℕ) → 0 < s → drawn_at t s ≡ id_for (next_at t s) (numbers_of (turn_at t s))
 drawn_was t zero some = absurd (omega (arith, some))
 drawn_was t (suc i) some = refl
-
-next_there : (t : TurnsSeen) (s : ℕ) (c : Command) → next_at t s ≡ Some c → HasNext t s
-next_there t s c is = by (commands_at t s) (answered_at t s) is
-  where
-    by : (l : List Command) (i : ℕ) → slice_get l i ≡ Some c → i < length l
-    by [] i e = absurd (cc e)
-    by (x ∷ l) zero e = omega arith
-    by (x ∷ l) (suc i) e = let r = by l i e in omega (arith, r)
 
 module _ (o : ℕ) (t : TurnsSeen) (next : ℕ) (trace : List Entry) (h : AreDrawn o t next trace) where
   -- a turn with the same numbers, of the same command
@@ -412,27 +404,11 @@ module _ (o : ℕ) (t : TurnsSeen) (next : ℕ) (trace : List Entry) (h : AreDra
           by_script (suc n) some e =
               subst (λ (j : Asked). makers_by (asked t.job) (ahead_at t) ≤ makers_by j (ahead_at t)) e (from_grown 1 (asked t.job) n c (ahead_at t))
 
-      list_of : (q : ℕ) → (commands_at (with_command t s c) q ≡ commands_at t q) ⊎ (commands_at (with_command t s c) q ≡ commands_at t q ++ c ∷ [])
-      list_of q = elim (cases_eq (q - 1) (s - 1)) [
-        | inl same ↦
-            inr (ap (λ (k : ℕ). (get_or (set t.job.scripts (s - 1) (record { commands = commands_at t s ++ c ∷ [] })) k no_script).commands) same
-            ∙ ap (λ (x : Script). x.commands) (get_or-set_same t.job.scripts (s - 1) (record { commands = commands_at t s ++ c ∷ [] }) no_script (omega (arith, is.0, is.1, scripts)))
-            ∙ ap (λ (k : ℕ). (get_or t.job.scripts k no_script).commands ++ c ∷ []) (sym same))
-        | inr other ↦ inl (ap (λ (x : Script). x.commands) (get_or-set_other t.job.scripts (s - 1) (q - 1) (record { commands = commands_at t s ++ c ∷ [] }) no_script other))
-      ]
-
       longer : (q : ℕ) → HasNext t q → HasNext (with_command t s c) q
-      longer q lt = ⊎_elim (λ same. let e = ap length same in omega (arith, lt, e))
-          (λ more. let e = ap length more ∙ length-append (commands_at t q) (c ∷ []) in omega (arith, lt, e)) (list_of q)
-
-      got : (l : List Command) (i : ℕ) → i < length l → slice_get (l ++ c ∷ []) i ≡ slice_get l i
-      got [] i lt = absurd (omega (arith, lt))
-      got (x ∷ l) zero lt = refl
-      got (x ∷ l) (suc i) lt = got l i (omega (arith, lt))
-
-      next_same : (q : ℕ) → HasNext t q → next_at (with_command t s c) q ≡ next_at t q
-      next_same q lt = ⊎_elim (λ same. ap (λ (l : List Command). slice_get l (answered_at t q)) same)
-          (λ more. ap (λ (l : List Command). slice_get l (answered_at t q)) more ∙ got (commands_at t q) (answered_at t q) lt) (list_of q)
+      longer q lt =
+          ⊎_elim (λ same. let e = ap length same in omega (arith, lt, e))
+          (λ more. let e = ap length more.1 ∙ length-append (commands_at t q) (c ∷ []) in omega (arith, lt, e))
+          (commands_pushed t s c is scripts q)
 
       back : (q x : ℕ) → drawn_at (with_command t s c) q ≡ Some x → drawn_at t q ≡ Some x
       back zero x has = absurd (cc has)
@@ -455,7 +431,7 @@ module _ (o : ℕ) (t : TurnsSeen) (next : ℕ) (trace : List Entry) (h : AreDra
           by None none = absurd (none_for (next_at (with_command t s c) (suc i)) (ap (id_for (next_at (with_command t s c) (suc i))) (sym none) ∙ has))
           by (Some n) some =
               let lt = h.only_next (suc i) n (omega arith, in_range n some) some in
-              ap (λ (y : Option Command). id_for y (numbers_of (turn_at t (suc i)))) (sym (next_same (suc i) lt)) ∙ has
+              ap (λ (y : Option Command). id_for y (numbers_of (turn_at t (suc i)))) (sym (next_pushed t s c is scripts (suc i) lt)) ∙ has
 
 -- ---- at the start
 
@@ -485,3 +461,11 @@ drawn_first o job le = record {
     none (suc i) x e =
         none_for (next_at (started job) (suc i)) x
         (ap (λ (y : Turn). id_for (next_at (started job) (suc i)) (numbers_of y)) (sym (nothing_out (length job.scripts) (suc i - 1))) ∙ e)
+
+-- the last id is drawn again and again
+pub last_stays : (c : Command) → next_after c no_id ≡ no_id
+last_stays c = by (makes_object c)
+  where
+    by : (b : Bool) → cond b (min (no_id + 1) no_id) no_id ≡ no_id
+    by true = omega arith
+    by false = refl

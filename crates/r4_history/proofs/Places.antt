@@ -1,11 +1,11 @@
 -- How far scripts are, where turns change.
-use Rattle.std.proofs.Common.{◌≡◌, ℕ, zero, suc, ◌+◌, ◌-◌, ◌<◌, ◌≤◌, ◌==◌, Bool, true, false, cond, List, [], ◌∷◌, map, length, get_or, set, slice_get, Option, Some, None, refl, sym, ◌∙◌, ap, subst, arith, inl, inr}
+use Rattle.std.proofs.Common.{◌≡◌, ℕ, zero, suc, ◌+◌, ◌-◌, ◌<◌, ◌≤◌, ◌==◌, Bool, true, false, cond, List, [], ◌∷◌, map, length, get_or, set, slice_get, ◌++◌, ◌⊎◌, ⊎_elim, Option, Some, None, refl, sym, ◌∙◌, ap, subst, arith, inl, inr}
 use Rattle.std.proofs.lemmas.Bool.{cases_eq, cond-true, cond-false, eq-eqb, ne_eqb}
 use Rattle.std.proofs.lemmas.List.{get_or-set_same, get_or-set_other, length-set}
 use Rattle.r4_content.specs.declared.command.Command.{Command}
 use Rattle.r4_script.specs.declared.job.Script.{Script}
 use Rattle.r4_trace.specs.Job.{Outside, Place, Within, at_start, commands_at as commands_in, commands_of}
-use Rattle.r4_turns.specs.Turns.{IsScript, TurnsSeen, answered_at, answered_one, commands_at, dropped, entered, gone_out, given_back, left, no_script, start, turn_at, with_turn}
+use Rattle.r4_turns.specs.Turns.{HasNext, IsScript, TurnsSeen, answered_at, answered_one, commands_at, dropped, entered, gone_out, given_back, left, no_script, start, turn_at, with_command, with_turn}
 use Rattle.r4_turns.specs.declared.turn.Open.{Open}
 use Rattle.r4_turns.specs.declared.turn.Turn.{Turn}
 use Rattle.r4_history.specs.Tables.{asked, next_at, place_at, place_of, within_of}
@@ -118,3 +118,40 @@ commands_are t zero some = absurd (omega (arith, some))
 commands_are t (suc n) some =
     let e : n ≡ suc n - 1 = omega arith in
     nth t.job.scripts n ∙ ap (λ (k : ℕ). (get_or t.job.scripts k no_script).commands) e
+
+-- ---- a command more
+
+-- the commands of each script, where one has a command more
+pub commands_pushed : (t : TurnsSeen) (s : ℕ) (c : Command) → IsScript t s → length t.turns ≡ length t.job.scripts → (q : ℕ)
+    → (commands_at (with_command t s c) q ≡ commands_at t q) ⊎ ((q - 1 ≡ s - 1) × (commands_at (with_command t s c) q ≡ commands_at t q ++ c ∷ []))
+commands_pushed t s c is scripts q =
+    let more : Script = record { commands = commands_at t s ++ c ∷ [] } in
+    elim (cases_eq (q - 1) (s - 1)) [
+      | inl same ↦
+          inr (same,
+          ap (λ (k : ℕ). (get_or (set t.job.scripts (s - 1) more) k no_script).commands) same
+          ∙ ap (λ (x : Script). x.commands) (get_or-set_same t.job.scripts (s - 1) more no_script (omega (arith, is.0, is.1, scripts)))
+          ∙ ap (λ (k : ℕ). (get_or t.job.scripts k no_script).commands ++ c ∷ []) (sym same))
+      | inr other ↦ inl (ap (λ (x : Script). x.commands) (get_or-set_other t.job.scripts (s - 1) (q - 1) more no_script other))
+    ]
+
+got : (l : List Command) (c : Command) (i : ℕ) → i < length l → slice_get (l ++ c ∷ []) i ≡ slice_get l i
+got [] c i lt = absurd (omega (arith, lt))
+got (x ∷ l) c zero lt = refl
+got (x ∷ l) c (suc i) lt = got l c i (omega (arith, lt))
+
+-- a next command stays the next one
+pub next_pushed : (t : TurnsSeen) (s : ℕ) (c : Command) → IsScript t s → length t.turns ≡ length t.job.scripts → (q : ℕ) → HasNext t q
+    → next_at (with_command t s c) q ≡ next_at t q
+next_pushed t s c is scripts q lt =
+    ⊎_elim (λ same. ap (λ (l : List Command). slice_get l (answered_at t q)) same)
+    (λ more. ap (λ (l : List Command). slice_get l (answered_at t q)) more.1 ∙ got (commands_at t q) c (answered_at t q) lt)
+    (commands_pushed t s c is scripts q)
+
+pub next_there : (t : TurnsSeen) (s : ℕ) (c : Command) → next_at t s ≡ Some c → HasNext t s
+next_there t s c is = by (commands_at t s) (answered_at t s) is
+  where
+    by : (l : List Command) (i : ℕ) → slice_get l i ≡ Some c → i < length l
+    by [] i e = absurd (cc e)
+    by (x ∷ l) zero e = omega arith
+    by (x ∷ l) (suc i) e = let r = by l i e in omega (arith, r)

@@ -16,12 +16,12 @@ use Rattle.r4_content.specs.declared.reply.Reply.{Reply}
 use Rattle.r4_trace.specs.Ids.{Start}
 use Rattle.r4_trace.specs.declared.entry.Entry.{Entry}
 use Rattle.r4_base.specs.declared.things.TxnNo.{TxnNo}
-use Rattle.r4_locks.specs.Locks.{AreHolds, IsTask, LocksSeen, OthersAsBefore, TaskSeen, is_named, mode_in, mode_of, mode_with, task_at}
+use Rattle.r4_locks.specs.Locks.{AreHolds, IsNew, IsTask, LocksSeen, OthersAsBefore, Takes, TaskSeen, is_named, mode_in, mode_of, mode_with, task_at}
 use Rattle.r4_locks.specs.Modes.{joined}
 use Rattle.r4_locks.specs.declared.things.Mode.{Mode}
 use Rattle.r4_locks.specs.declared.things.Mode.TheVariants.{Reads, Writes}
 use Rattle.r4_script.specs.declared.job.Job.{Job}
-use Rattle.r4_turns.specs.Turns.{IsScript, TurnsSeen, answered_at, answered_one, dropped, entered, given_back, gone_out, left, start as no_turn, started, turn_at, with_turn}
+use Rattle.r4_turns.specs.Turns.{IsScript, TurnsSeen, answered_at, answered_one, dropped, entered, given_back, gone_out, left, start as no_turn, started, turn_at, with_command, with_turn}
 use Rattle.r4_turns.specs.declared.out.Numbers.{Numbers}
 use Rattle.r4_turns.specs.declared.out.Out.{Out}
 use Rattle.r4_turns.specs.declared.turn.Open.{Open}
@@ -31,7 +31,7 @@ use Rattle.r4_history.specs.Tables.{Begins, Fuses, Tables, next_at, opened, with
 use Rattle.r4_history.specs.Told.{IsTold}
 use Rattle.r4_history.proofs.AtomSteps.{fused_txn, kept_by_set, state_kept, txn_before}
 use Rattle.r4_history.proofs.DrawnSteps.{turn_other}
-use Rattle.r4_history.proofs.Places.{turn_now}
+use Rattle.r4_history.proofs.Places.{next_pushed, next_there, turn_now}
 use Rattle.r4_history.proofs.RunSteps.{open_in_both}
 use Rattle.r4_history.proofs.ServingSteps.{cons_cases}
 
@@ -249,6 +249,42 @@ tasks_other t locks h commit broken = record {
   served = λ s o has.
       (let v = h.served s o has in
       record { within = v.within; transaction = v.transaction; txn = v.txn; command = v.command; next = v.next; work = v.work; owners = v.owners });
+}
+
+pub tasks_pushed : (t : Tables) (locks : LocksSeen) → TasksTell t locks → (s : ℕ) (c : Command) → IsScript t.turns s
+    → length t.turns.turns ≡ length t.turns.job.scripts → TasksTell (record t { turns = with_command t.turns s c }) locks
+tasks_pushed t locks h s c is scripts = record {
+  held = record {
+    holds = λ q o has. h.held.holds q o (was q o has);
+    tasks = λ k stands. (let had = h.held.tasks k stands in (had.0, had.1, record { is_script = had.2.is_script; is_out = had.2.is_out }, had.3));
+    apart = λ q p a b x y same. h.held.apart q p a b (was q a x) (was p b y) same;
+  };
+  served = λ q o has.
+      (let v = h.served q o (was q o has) in
+      record {
+        within = v.within;
+        transaction = v.transaction;
+        txn = v.txn;
+        command = v.command;
+        next = next_pushed t.turns s c is scripts q (next_there t.turns q v.command v.next) ∙ v.next;
+        work = v.work;
+        owners = v.owners;
+      });
+}
+  where
+    was : (q : ℕ) (o : Out) → IsOut (with_command t.turns s c) q o → IsOut t.turns q o
+    was q o has = record { is_script = has.is_script; is_out = has.is_out }
+
+-- a new task that takes what it was given
+pub holds_new : (before mid after : LocksSeen) (out : Out) → task_at before out.task.0 ≡ None → OthersAsBefore before mid out.task.0 → IsNew mid out.task.0
+    → Takes mid after out.task.0 (need_of out).reads (need_of out).writes → IsTask after out.task.0 → OthersAsBefore mid after out.task.0 → HoldsNew before after out
+holds_new before mid after out unused first new takes stands second = record {
+  unused = unused;
+  holds = record {
+    stands = stands;
+    modes = λ node. takes node ∙ ap (λ (m : Option Mode). mode_with Reads (need_of out).reads node (mode_with Writes (need_of out).writes node m)) (new.empty node);
+  };
+  others = λ k other. second k other ∙ first k other;
 }
 
 nothing_out : (n i : ℕ) → get_or (replicate n no_turn) i no_turn ≡ no_turn

@@ -50,7 +50,8 @@ IsInTheWayOf s locks None why = ⊥
 IsInTheWayOf s locks (Some need) why = IsInTheWay s locks need why
 
 -- why the next command cannot be taken; `begin` and `end` can, and so can the end of a script
-abbrev pub IsHeldUp : Tables → LocksSeen → Option Need → (script : ℕ) → Option Command → Why → Type 0
+abbrev pub IsHeldUp :
+    Tables → LocksSeen → Option Need → (script : ℕ) → Option Command → Why → Type 0
 IsHeldUp t locks need script None why = ⊥
 IsHeldUp t locks need script (Some commands.Begin) why = ⊥
 IsHeldUp t locks need script (Some commands.End) why = ⊥
@@ -87,7 +88,8 @@ pub record IsServedNext (t : Tables) (locks : LocksSeen) (needs : ℕ → Option
     : Type 0 where
   pub is_script : IsScript t.turns script
   pub goes_on : IsPassedOver t locks needs script → ⊥
-  pub order : (q : ℕ) → IsScript t.turns q → IsBefore t.turns q script → IsPassedOver t locks needs q
+  pub order : (q : ℕ) → IsScript t.turns q → IsBefore t.turns q script
+      → IsPassedOver t locks needs q
 
 -- why a script that is not finished is passed over
 abbrev pub IsReason :

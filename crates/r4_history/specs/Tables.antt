@@ -7,7 +7,7 @@ use Rattle.r4_content.specs.declared.command.Command.{Command}
 use Rattle.r4_script.specs.declared.job.Job.{Job}
 use Rattle.r4_script.specs.declared.job.Script.{Script}
 use Rattle.r4_trace.specs.Job.{Asked, Inside, Outside, Place, Single, Within, at_start}
-use Rattle.r4_turns.specs.Turns.{IsScript, TurnsSeen, answered_at, answered_one, commands_at, left, start, started, turn_at}
+use Rattle.r4_turns.specs.Turns.{IsScript, TurnsSeen, answered_at, answered_one, commands_at, entered, left, start, started, turn_at}
 use Rattle.r4_turns.specs.declared.turn.Open.{Open}
 use Rattle.r4_turns.specs.declared.turn.Turn.{Turn}
 
@@ -64,7 +64,8 @@ single txn = record { txn = txn; single = true }
 
 -- a transaction ends
 abbrev pub with_ended : AtomsSeen → (txn : ℕ) → AtomsSeen
-with_ended s t = record s { txns = slice_set s.txns (t - 1) (record (txn_of s t) { is_open = false }) }
+with_ended s t =
+    record s { txns = slice_set s.txns (t - 1) (record (txn_of s t) { is_open = false }) }
 
 -- The next command of a script is answered. Where that ends its transaction, it leaves it.
 abbrev pub with_answer : Tables → (script : ℕ) → Tables
@@ -73,6 +74,32 @@ with_answer t script = record t { turns = answered_one t.turns script }
 abbrev pub with_last_answer : Tables → (script txn : ℕ) → Tables
 with_last_answer t script txn = record t {
   turns = left (answered_one t.turns script) script;
+  atoms = with_ended t.atoms txn;
+}
+
+-- A transaction begins by `begin`, or for a single command.
+abbrev pub with_begin : Tables → (script : ℕ) → TxnNo → AtomsSeen → Tables
+with_begin t script txn atoms = record t {
+  turns = answered_one (entered t.turns script (inside txn)) script;
+  atoms = atoms;
+}
+
+abbrev pub with_single : Tables → (script : ℕ) → TxnNo → AtomsSeen → Tables
+with_single t script txn atoms = record t {
+  turns = entered t.turns script (single txn);
+  atoms = atoms;
+}
+
+-- It ends by `end`, or because nothing else follows in its script.
+abbrev pub with_end : Tables → (script txn : ℕ) → Tables
+with_end t script txn = record t {
+  turns = answered_one (left t.turns script) script;
+  atoms = with_ended t.atoms txn;
+}
+
+abbrev pub with_nothing_left : Tables → (script txn : ℕ) → Tables
+with_nothing_left t script txn = record t {
+  turns = left t.turns script;
   atoms = with_ended t.atoms txn;
 }
 

@@ -36,7 +36,8 @@ IsCommitting s (Some a) trace = IsUnderWay s a trace
 
 -- Before a call of the device fails, the commit is that of the one atom which is sealed and not
 -- clean yet; after it there is none.
-pub record CommitTells (s : AtomsSeen) (commit broken : Option ℕ) (trace : List Entry) : Type 0 where
+pub record CommitTells (s : AtomsSeen) (commit broken : Option ℕ) (trace : List Entry)
+    : Type 0 where
   pub under_way : broken ≡ None → IsCommitting s commit trace
   pub one : (a : ℕ) → broken ≡ None → IsTxn s a → is_sealed s a ≡ true
       → is_cleaned s a ≡ false → commit ≡ Some a

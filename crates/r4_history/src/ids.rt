@@ -15,10 +15,11 @@ ghost use Rattle.r4_turns.specs.declared.out.Out.{Out};
 ghost use Rattle.r4_turns.specs.declared.turn.Open.{Open};
 ghost use Rattle.r4_history.specs.Tables.{asked, next_at};
 ghost use Rattle.r4_history.specs.Told.{HasNewId};
-ghost use Rattle.r4_history.specs.Drawn.{AreDrawn, BeginsAt, GetsNumbers, IsNoDone};
+ghost use Rattle.r4_history.specs.Drawn.{AreDrawn, BeginsAt, GetsNumbers, IsNoDone, next_after};
 
 /// Each id is drawn once: as a command that makes an object goes out for the first time. It is kept
-/// where the command is given back, and stands in its Done entry.
+/// where the command is given back, and stands in its Done entry. The last one is drawn again and
+/// again.
 pub fn ids_are_drawn_once()
     ensures start { (o : ℕ) (job : Job) → o ≤ no_id → AreDrawn o (started job) o [] }
     ensures out { (o : ℕ) (t : TurnsSeen) (next : ℕ) (trace : List Entry) → AreDrawn o t next trace
@@ -33,6 +34,7 @@ pub fn ids_are_drawn_once()
         → IsScript t s.0 → next_at t s.0 ≡ Some had → (turn_at t s.0).out ≡ Some out
         → c ≡ with_id out.numbers.oid had
         → AreDrawn o (answered_one (dropped t s.0) s.0) next (Done txn s i c r ∷ trace) }
+    ensures last { (c : Command) → next_after c no_id ≡ no_id }
 {}
 
 /// What else a step does leaves the ids as they are. A refused command's id is used up.

@@ -25,9 +25,9 @@ pub fn runs_begin()
         (spare txn_spare : ℕ) → IsTold w start clock (opened job spare txn_spare) [] }
 {}
 
-/// Steps that no entry tells leave the trace as it is: a task goes out, is given back or is dropped;
-/// owners, rooms and accounts change; a command comes to the end of a script without `begin`; calls of
-/// the device go by.
+/// Steps that no entry tells leave the trace as it is: a task goes out, is given back or is
+/// dropped; owners, rooms and accounts change; a command comes to the end of a script without
+/// `begin`; calls of the device go by.
 pub fn steps_tell_nothing()
     ensures out { (w : Meaning Command Reply) (start : Option Start) (clock : ℕ) (t : Tables)
         (trace : List Entry) → IsTold w start clock t trace
@@ -63,8 +63,8 @@ pub fn steps_tell_nothing()
         → (now : ℕ) → clock ≤ now → IsTold w start now t trace }
 {}
 
-/// A trace that the tables tell is legal. What a script has open is open in the table of atoms too, as
-/// its own; and the atom whose commit is under way is sealed.
+/// A trace that the tables tell is legal. What a script has open is open in the table of atoms too,
+/// as its own; and the atom whose commit is under way is sealed.
 pub fn told_traces_are_legal()
     ensures legal { (w : Meaning Command Reply) (start : Option Start) (clock : ℕ) (t : Tables)
         (trace : List Entry) → IsTold w start clock t trace
@@ -80,8 +80,8 @@ pub fn told_traces_are_legal()
         → (a : ℕ) → t.commit ≡ Some a → IsAtom t.atoms a × (is_sealed t.atoms a ≡ true) }
 {}
 
-/// A run is whole where its scripts are finished, no atom is left, no commit is under way, and no call
-/// of the device failed: each of its transactions is in a committed atom.
+/// A run is whole where its scripts are finished, no atom is left, no commit is under way, and no
+/// call of the device failed: each of its transactions is in a committed atom.
 pub fn runs_are_whole()
     ensures { (w : Meaning Command Reply) (start : Option Start) (clock : ℕ) (t : Tables)
         (trace : List Entry) → IsTold w start clock t trace

@@ -1,6 +1,6 @@
 //! Laws of tasks that are out: what they hold, and who owns what they reach.
 
-ghost use Rattle.std.specs.Prelude.{◌≡◌, ◌≢◌, ◌==◌, [], ℕ, Contains, List, Option, Some, None, if◌then◌else◌};
+ghost use Rattle.std.specs.Prelude.{◌≡◌, ◌≢◌, ◌==◌, [], ℕ, Contains, List, length, Option, Some, None, if◌then◌else◌};
 ghost use Rattle.std.specs.Option.{option_map};
 ghost use Rattle.r4_atoms.specs.Atoms.{AtomsSeen, numbers, owner_of, state_of, with_state, without_owner};
 ghost use Rattle.r4_atoms.specs.Names.{renamed};
@@ -8,11 +8,11 @@ ghost use Rattle.r4_atoms.specs.declared.things.AtomState.{AtomState};
 ghost use Rattle.r4_content.specs.Locality.{Meaning};
 ghost use Rattle.r4_content.specs.declared.command.Command.{Command};
 ghost use Rattle.r4_content.specs.declared.reply.Reply.{Reply};
-ghost use Rattle.r4_locks.specs.Locks.{AreHolds, LocksSeen, OthersAsBefore, task_at};
+ghost use Rattle.r4_locks.specs.Locks.{AreHolds, IsNew, IsTask, LocksSeen, OthersAsBefore, Takes, task_at};
 ghost use Rattle.r4_script.specs.declared.job.Job.{Job};
 ghost use Rattle.r4_trace.specs.Ids.{Start};
 ghost use Rattle.r4_trace.specs.declared.entry.Entry.{Entry};
-ghost use Rattle.r4_turns.specs.Turns.{IsScript, answered_one, dropped, entered, given_back, gone_out, left, turn_at};
+ghost use Rattle.r4_turns.specs.Turns.{IsScript, answered_one, dropped, entered, given_back, gone_out, left, turn_at, with_command};
 ghost use Rattle.r4_turns.specs.declared.out.Out.{Out};
 ghost use Rattle.r4_turns.specs.declared.turn.Open.{Open};
 ghost use Rattle.r4_history.specs.Held.{HoldsNew, IsOut, IsServed, OwnersFollow, TasksTell, need_of, nodes_of};
@@ -23,6 +23,11 @@ ghost use Rattle.r4_history.specs.Told.{IsTold};
 pub fn tasks_come_and_go()
     ensures start { (job : Job) (spare txn_spare : ℕ) (locks : LocksSeen) → locks.tasks ≡ []
         → TasksTell (opened job spare txn_spare) locks }
+    ensures new { (before mid after : LocksSeen) (out : Out) → task_at before out.task.0 ≡ None
+        → OthersAsBefore before mid out.task.0 → IsNew mid out.task.0
+        → Takes mid after out.task.0 (need_of out).reads (need_of out).writes
+        → IsTask after out.task.0 → OthersAsBefore mid after out.task.0
+        → HoldsNew before after out }
     ensures out { (t : Tables) (locks after : LocksSeen) → TasksTell t locks → (s : ℕ) (out : Out)
         → IsScript t.turns s → (turn_at t.turns s).out ≡ None → HoldsNew locks after out
         → IsServed t s out → TasksTell (record t { turns = gone_out t.turns s out }) after }
@@ -36,7 +41,8 @@ pub fn tasks_come_and_go()
         → TasksTell (record t { turns = dropped t.turns s }) after }
 {}
 
-/// What happens in a script without a task out concerns no task, nor do a commit and a failure.
+/// What happens in a script without a task out concerns no task, nor do a command that comes to the
+/// end of a script, a commit and a failure.
 pub fn tasks_stay_out()
     ensures entered { (t : Tables) (locks : LocksSeen) → TasksTell t locks → (s : ℕ) (x : Open)
         → IsScript t.turns s → (turn_at t.turns s).out ≡ None
@@ -50,6 +56,9 @@ pub fn tasks_stay_out()
     ensures others { (t : Tables) (locks : LocksSeen) → TasksTell t locks
         → (commit broken : Option ℕ)
         → TasksTell (record t { commit = commit; broken = broken }) locks }
+    ensures pushed { (t : Tables) (locks : LocksSeen) → TasksTell t locks → (s : ℕ) (c : Command)
+        → IsScript t.turns s → length t.turns.turns ≡ length t.turns.job.scripts
+        → TasksTell (record t { turns = with_command t.turns s c }) locks }
     ensures owners { (t : Tables) (locks : LocksSeen) → TasksTell t locks → (atoms : AtomsSeen)
         → OwnersFollow t atoms → TasksTell (record t { atoms = atoms }) locks }
 {}

@@ -12,8 +12,7 @@ ghost use Rattle.r4_trace.specs.Ids.{Start};
 ghost use Rattle.r4_trace.specs.Job.{IsWork};
 ghost use Rattle.r4_trace.specs.declared.entry.Entry.{Entry};
 ghost use Rattle.r4_trace.specs.declared.entry.Entry.TheVariants.{Begin, Ended};
-ghost use Rattle.r4_turns.specs.Turns.{answered_one, entered, left};
-ghost use Rattle.r4_history.specs.Tables.{Begins, Stands, Tables, inside, single, with_ended};
+ghost use Rattle.r4_history.specs.Tables.{Begins, Stands, Tables, inside, single, with_begin, with_end, with_nothing_left, with_single};
 ghost use Rattle.r4_history.specs.Told.{IsTold};
 
 /// A transaction begins by `begin`, which it answers, or for a single command. It has the next
@@ -24,20 +23,14 @@ pub fn transactions_begin()
         → (txn : TxnNo) (script : ScriptNo) (atoms : AtomsSeen) → t.broken ≡ None
         → Stands t.turns script.0 None (Some commands.Begin)
         → Begins t.atoms atoms script.0 → txn.0 ≡ length t.atoms.txns + 1
-        → IsTold w start clock
-        (record t {
-          atoms = atoms;
-          turns =
-              answered_one (entered t.turns script.0 (inside txn)) script.0;
-        })
+        → IsTold w start clock (with_begin t script.0 txn atoms)
         (Begin txn script ∷ trace) }
     ensures single { (w : Meaning Command Reply) (start : Option Start) (clock : ℕ) (t : Tables)
         (trace : List Entry) → IsTold w start clock t trace
         → (txn : TxnNo) (script : ScriptNo) (c : Command) (atoms : AtomsSeen) → t.broken ≡ None
         → Stands t.turns script.0 None (Some c) → IsWork c
         → Begins t.atoms atoms script.0 → txn.0 ≡ length t.atoms.txns + 1
-        → IsTold w start clock
-        (record t { atoms = atoms; turns = entered t.turns script.0 (single txn) })
+        → IsTold w start clock (with_single t script.0 txn atoms)
         (Begin txn script ∷ trace) }
 {}
 
@@ -48,18 +41,12 @@ pub fn transactions_end()
         (trace : List Entry) → IsTold w start clock t trace
         → (txn : TxnNo) (script : ScriptNo) → t.broken ≡ None
         → Stands t.turns script.0 (Some (inside txn)) (Some commands.End)
-        → IsTold w start clock
-        (record t {
-          atoms = with_ended t.atoms txn.0;
-          turns =
-              answered_one (left t.turns script.0) script.0;
-        })
+        → IsTold w start clock (with_end t script.0 txn.0)
         (Ended txn ∷ trace) }
     ensures last { (w : Meaning Command Reply) (start : Option Start) (clock : ℕ) (t : Tables)
         (trace : List Entry) → IsTold w start clock t trace
         → (txn : TxnNo) (script : ScriptNo) → t.broken ≡ None
         → Stands t.turns script.0 (Some (inside txn)) None
-        → IsTold w start clock
-        (record t { atoms = with_ended t.atoms txn.0; turns = left t.turns script.0 })
+        → IsTold w start clock (with_nothing_left t script.0 txn.0)
         (Ended txn ∷ trace) }
 {}

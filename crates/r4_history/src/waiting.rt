@@ -23,7 +23,8 @@ pub fn scripts_wait_for_one_reason()
         → WaitsFor t locks need s one → WaitsFor t locks need s two → one ≡ two }
 {}
 
-/// Where no script can be served though one is not finished, a task is out or a commit is under way.
+/// Where no script can be served though one is not finished, a task is out or a commit is under
+/// way.
 pub fn something_is_waited_for()
     ensures { (w : Meaning Command Reply) (start : Option Start) (clock : ℕ) (t : Tables)
         (trace : List Entry) → IsTold w start clock t trace
