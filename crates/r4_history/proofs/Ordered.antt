@@ -1,11 +1,11 @@
 -- What comes next in a script, where its transactions begin outside of one another and end.
-use Rattle.std.proofs.Common.{◌≡◌, ◌⊎◌, inl, inr, ⊎_elim, ℕ, zero, suc, ◌+◌, ◌<◌, ◌≤◌, ◌==◌, Bool, true, false, true≢false, cond, List, [], ◌∷◌, drop, slice_get, Option, Some, None, refl, sym, ◌∙◌, ap, subst, arith}
-use Rattle.std.proofs.lemmas.Bool.{cases_eq, cond-false, cond-true, eq-eqb, ne_eqb}
+use Rattle.std.proofs.Common.{◌≡◌, ◌⊎◌, inl, inr, ⊎_elim, ℕ, zero, suc, ◌+◌, ◌<◌, ◌≤◌, ◌==◌, Bool, true, false, true≢false, cond, List, [], ◌∷◌, ◌++◌, drop, slice_get, Option, Some, None, refl, sym, ◌∙◌, ap, subst, arith}
+use Rattle.std.proofs.lemmas.Bool.{cases_eq, cond-false, cond-true, eq-eqb, false≢true, ne_eqb}
 use Rattle.r4_content.specs.declared.command.Command.{Command}
 use Rattle.r4_content.specs.declared.command.Command.TheVariants as commands
 use Rattle.r4_script.specs.Grammar.{Turns}
 use Rattle.r4_script.specs.Spelling.{AreInOrder}
-use Rattle.r4_trace.specs.Job.{Answered, Asked, EndsOf, Inside, IsAnswered, IsWork, MayBeDone, MayBeRefused, MayBegin, MayEnd, Outside, Place, Single, Within, answered_at, answered_in, begun_at, begun_for, commands_of, end_of, ended_at, next_of, place, refused_at, txn_in}
+use Rattle.r4_trace.specs.Job.{Answered, Asked, EndsOf, HasNoBegin, Inside, IsAnswered, IsWork, MayBeDone, MayBeRefused, MayBegin, MayEnd, Outside, Place, Single, Within, answered_at, answered_in, begun_at, begun_for, commands_of, end_of, ended_at, next_of, place, refused_at, txn_in}
 use Rattle.r4_trace.specs.Order.{IsOrdered}
 use Rattle.r4_trace.specs.Traced.{broken_at}
 use Rattle.r4_trace.specs.declared.entry.Entry.{Entry}
@@ -195,3 +195,34 @@ module _ (job : Asked) (s : ℕ) (ok : AreInOrder false (commands_of job s)) whe
   ]
   fits (Broken c f ∷ older) legal ans sound = absurd (cc sound)
   fits (e ∷ older) legal ans sound = fits older legal.2 ans.1 sound
+
+-- ---- scripts of a text, and commands that come
+
+turn_of : (c : Command) → Turns c false true → c ≡ commands.Begin
+turn_of commands.Begin t = refl
+turn_of commands.End t = absurd (false≢true t.0)
+turn_of commands.Commit t = absurd (false≢true (sym t.1))
+turn_of c t = absurd (false≢true t)
+
+no_turn : (c : Command) → IsWork c ⊎ (c ≡ commands.Commit) → Turns c false false
+no_turn commands.Begin (inl work) = absurd work
+no_turn commands.Begin (inr is) = absurd (cc is)
+no_turn commands.End (inl work) = absurd work
+no_turn commands.End (inr is) = absurd (cc is)
+no_turn commands.Commit is = (refl, refl)
+no_turn c is = refl
+
+no_begin : (c : Command) (cs : List Command) → HasNoBegin (c ∷ cs) → (c ≡ commands.Begin → ⊥) × HasNoBegin cs
+no_begin commands.Begin cs none = absurd none
+no_begin c cs none = (λ is. cc is, none)
+
+outside : (x : Command) (cs : List Command) → HasNoBegin (x ∷ cs) → (now : Bool) → Turns x false now → now ≡ false
+outside x cs none true turn = absurd ((no_begin x cs none).0 (turn_of x turn))
+outside x cs none false turn = refl
+
+pub in_order_pushed : (cs : List Command) (c : Command) → HasNoBegin cs → IsWork c ⊎ (c ≡ commands.Commit) → AreInOrder false cs → AreInOrder false (cs ++ c ∷ [])
+in_order_pushed [] c none is ok = (false, (no_turn c is, tt))
+in_order_pushed (x ∷ cs) c none is ok =
+    let stays : ok.0 ≡ false = outside x cs none ok.0 ok.1.0 in
+    let rest = subst (λ (b : Bool). AreInOrder b cs) stays ok.1.1 in
+    (false, (subst (Turns x false) stays ok.1.0, in_order_pushed cs c (no_begin x cs none).1 is rest))

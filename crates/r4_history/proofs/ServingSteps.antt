@@ -27,7 +27,7 @@ use Rattle.r4_history.proofs.Told.{atom_is}
 
 -- ---- the order
 
-one_first : (t : Tables) (s q : ℕ) → (s ≡ q) ⊎ (IsBefore t.turns s q ⊎ IsBefore t.turns q s)
+pub one_first : (t : Tables) (s q : ℕ) → (s ≡ q) ⊎ (IsBefore t.turns s q ⊎ IsBefore t.turns q s)
 one_first t s q = elim (cases_order (answered_at t.turns s) (answered_at t.turns q)) [
   | inl same ↦ ⊎_elim (λ e. inl e) (λ d. ⊎_elim (λ lt. inr (inl (inr (same, lt)))) (λ gt. inr (inr (inr (sym same, gt)))) d) (cases_order s q)
   | inr differ ↦ ⊎_elim (λ lt. inr (inl (inl lt))) (λ gt. inr (inr (inl gt))) differ

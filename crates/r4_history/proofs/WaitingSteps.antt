@@ -1,5 +1,5 @@
 -- What a script waits for.
-use Rattle.std.proofs.Common.{◌≡◌, ◌≢◌, ◌⊎◌, inl, inr, ⊎_elim, ℕ, zero, suc, ◌+◌, ◌-◌, ◌<◌, ◌≤◌, ◌==◌, Bool, true, false, not, true≢false, cond, List, [], ◌∷◌, length, drop, get_or, slice_get, Option, Some, None, IsSome, refl, sym, ◌∙◌, ap, subst, arith, Contains}
+use Rattle.std.proofs.Common.{◌≡◌, ◌≢◌, ◌⊎◌, inl, inr, ⊎_elim, ℕ, zero, suc, ◌+◌, ◌-◌, ◌<◌, ◌≤◌, ◌==◌, Bool, true, false, not, true≢false, cond, List, [], ◌∷◌, ◌++◌, length, drop, get_or, slice_get, Option, Some, None, IsSome, refl, sym, ◌∙◌, ap, subst, arith, Contains}
 use Rattle.std.specs.Option.{option_or}
 use Rattle.std.proofs.lemmas.Bool.{and_from, cases_Bool, cases_lt, eq-eqb, false≢true, not_from_false}
 use Rattle.std.proofs.lemmas.List.{get_or_past}
@@ -18,25 +18,28 @@ use Rattle.r4_locks.specs.Modes.{conflicts}
 use Rattle.r4_locks.specs.declared.things.Mode.{Mode}
 use Rattle.r4_locks.specs.declared.things.Mode.TheVariants.{Reads, Writes}
 use Rattle.r4_locks.proofs.ConflictLaws.{first_is}
-use Rattle.r4_script.specs.Spelling.{AreInOrder}
+use Rattle.r4_script.specs.Spelling.{AreInOrder, AreScripts, IsScript as IsTextScript}
+use Rattle.r4_script.specs.declared.job.Script.{Script}
+use Rattle.std.specs.List.{AllByRecursion}
 use Rattle.r4_trace.specs.Ids.{Start}
-use Rattle.r4_trace.specs.Job.{Asked, Inside, IsWork, Place, Single, commands_of, place, txn_in}
+use Rattle.r4_trace.specs.Job.{Asked, HasNoBegin, Inside, IsWork, Place, Single, commands_of, place, txn_in}
 use Rattle.r4_trace.specs.Traced.{IsOpen}
 use Rattle.r4_trace.specs.declared.entry.Entry.{Entry}
 use Rattle.r4_trace.proofs.FirstOnes.{sealed_committed}
 use Rattle.r4_trace.proofs.Places.{open_place}
-use Rattle.r4_turns.specs.Turns.{IsScript, answered_at as count_at, commands_at, start as no_turn, turn_at}
+use Rattle.r4_turns.specs.Turns.{IsBefore, IsScript, TurnsSeen, answered_at as count_at, commands_at, no_script, start as no_turn, turn_at, with_command}
 use Rattle.r4_turns.specs.declared.out.Out.{Out as Task}
 use Rattle.r4_turns.specs.declared.turn.Open.{Open as OpenTxn}
 use Rattle.r4_turns.specs.declared.turn.Turn.{Turn}
 use Rattle.r4_history.specs.declared.why.Why.{Why}
 use Rattle.r4_history.specs.declared.why.Why.TheVariants.{Held, Open, Out, Sealed}
 use Rattle.r4_history.specs.Held.{AreOwners, IsOut, Need, TasksTell}
-use Rattle.r4_history.specs.Serving.{AreOrdered, IsHeldUp, IsInTheWay, IsInTheWayOf, IsInTheWayOfCommit, IsPassedOver, IsReason, IsSealedOwner, IsUnderWay, IsWaiting, WaitsFor}
+use Rattle.r4_history.specs.Serving.{AreOrdered, IsHeldUp, IsInTheWay, IsInTheWayOf, IsInTheWayOfCommit, IsPassedOver, IsReason, IsSealedOwner, IsServedNext, IsUnderWay, IsWaiting, WaitsFor}
 use Rattle.r4_history.specs.Tables.{IsFinished, Stands, Tables, asked, next_at, place_at, within_of}
 use Rattle.r4_history.specs.Told.{IsCommitting, IsTold}
-use Rattle.r4_history.proofs.Ordered.{Fits, fits, in_order_next}
-use Rattle.r4_history.proofs.Places.{commands_are, stood}
+use Rattle.r4_history.proofs.Ordered.{Fits, fits, in_order_next, in_order_pushed}
+use Rattle.r4_history.proofs.ServingSteps.{one_first}
+use Rattle.r4_history.proofs.Places.{commands_are, commands_pushed, stood}
 use Rattle.r4_history.proofs.Told.{at as place_now, atom_is}
 
 -- a holder that stands in the way is a task
@@ -57,6 +60,26 @@ holder_stands locks reads writes node holder is = by (first_conflict locks None 
         let found = first_is locks None Reads reads node holder
         (sym (ap (λ (o : Option (NodeId × TaskId)). option_or o (first_conflict locks None Reads reads)) e) ∙ is) in
         holds_there (task_at locks holder.0) Reads node.0 found.holds.holds.holds
+
+-- ---- scripts of a text
+
+every : (l : List Script) → AllByRecursion IsTextScript l → (i : ℕ) → i < length l → IsTextScript (get_or l i no_script)
+every [] all i lt = absurd (omega (arith, lt))
+every (x ∷ l) all zero lt = all.0
+every (x ∷ l) all (suc i) lt = every l all.1 i (omega (arith, lt))
+
+pub text_ordered : (t : TurnsSeen) → length t.turns ≡ length t.job.scripts → AreScripts t.job.scripts → AreOrdered t
+text_ordered t scripts all s is = (every t.job.scripts all.each (s - 1) (omega (arith, is.0, is.1, scripts))).1
+
+pub pushed_ordered : (t : TurnsSeen) (s : ℕ) (c : Command) → IsScript t s → length t.turns ≡ length t.job.scripts → HasNoBegin (commands_at t s)
+    → IsWork c ⊎ (c ≡ commands.Commit) → AreOrdered t → AreOrdered (with_command t s c)
+pushed_ordered t s c is scripts none plain ok q there =
+    ⊎_elim (λ same. subst (AreInOrder false) (sym same) (ok q there))
+    (λ more.
+      (let e : q ≡ s = (let some = is.0 in let also = there.0 in let same = more.0 in omega (arith, same, some, also)) in
+      subst (AreInOrder false) (sym (more.1 ∙ ap (λ (k : ℕ). commands_at t k ++ c ∷ []) e))
+      (in_order_pushed (commands_at t s) c none plain (ok s is))))
+    (commands_pushed t s c is scripts q)
 
 module _ (w : Meaning Command Reply) (start : Option Start) (clock : ℕ) (t : Tables) (trace : List Entry) (h : IsTold w start clock t trace) where
   -- the commit of a sealed atom that owns a node is under way
@@ -239,3 +262,24 @@ module _ (w : Meaning Command Reply) (start : Option Start) (clock : ℕ) (t : T
         (sym (and_from ((txn_of t.atoms n).script == s) (not (is_sealed t.atoms (atom_of t.atoms n))) (eq-eqb (txn_of t.atoms n).script s mine)
         (not_from_false (is_sealed t.atoms (atom_of t.atoms n)) un)) ∙ nothing n begun))
   ]
+
+  -- ---- one answer
+
+  pub one_wait : (locks : LocksSeen) (needs : ℕ → Option Need) (x y : Why) → AreOwners t.atoms → IsWaiting t locks needs x → IsWaiting t locks needs y → x ≡ y
+  one_wait locks needs x y owners one two =
+      same_reason two.script (turn_at t.turns two.script).out
+      (subst (λ (s : ℕ). IsReason t locks (needs s) s (turn_at t.turns s).out x) same_script one.reason) two.reason
+    where
+      same_script : one.script ≡ two.script
+      same_script =
+          ⊎_elim (λ e. e)
+          (λ d. ⊎_elim (λ before. absurd (one.unfinished (two.first one.script one.is_script before)))
+            (λ before. absurd (two.unfinished (one.first two.script two.is_script before))) d)
+          (one_first t one.script two.script)
+
+      same_reason : (s : ℕ) (o : Option Task) → IsReason t locks (needs s) s o x → IsReason t locks (needs s) s o y → x ≡ y
+      same_reason s (Some out) p q = p ∙ sym q
+      same_reason s None p q = one_reason locks (needs s) s x y owners p q
+
+  pub served_or_waits : (locks : LocksSeen) (needs : ℕ → Option Need) (s : ℕ) (why : Why) → IsServedNext t locks needs s → IsWaiting t locks needs why → ⊥
+  served_or_waits locks needs s why served waits = served.goes_on (waits.all s served.is_script)
