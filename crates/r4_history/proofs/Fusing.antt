@@ -78,7 +78,7 @@ module _ (w : Meaning Command Reply) (start : Option Start) (clock : ℕ) where
       all_told others own t trace h none is are.rise
       (λ p there.
       (let one = ((are.each p.0 p.1).0 there).is_one in
-      (record { atom = (owners p.1 p.0 one.owner).0; unsealed = one.unsealed }, one.other)))
+      (record { atom = (owners p.1 p.0 one.owner.owns).0; unsealed = one.owner.unsealed }, one.owner.other)))
       atoms f
 
 -- ---- who owns the reach then
@@ -123,7 +123,7 @@ pub reach_is_own : (s : AtomsSeen) (own : ℕ) (need : Need) (others : List (ℕ
     → FusesAll s own others after → ((a : ℕ) → IsSealedOwner s need a → ⊥) → (node b : ℕ) → Contains (nodes_of need) node
     → owner_of after node ≡ Some b → b ≡ least_of own others
 reach_is_own s own need others after are f unsealed node b reached owned =
-    all_own others own s after f are.rise (λ p there. ((are.each p.0 p.1).0 there).is_one.other) node b owned
+    all_own others own s after f are.rise (λ p there. ((are.each p.0 p.1).0 there).is_one.owner.other) node b owned
     (λ c had. elim (cases_eq c own) [
       | inl mine ↦ inl mine
       | inr other ↦

@@ -20,7 +20,7 @@ use Rattle.r4_trace.specs.declared.entry.Entry.TheVariants.{Acked, Sealed}
 use Rattle.r4_locks.specs.Locks.{LocksSeen}
 use Rattle.r4_turns.specs.Turns.{IsBefore, IsScript, answered_at}
 use Rattle.r4_history.specs.Held.{Need, nodes_of}
-use Rattle.r4_history.specs.Serving.{AreOthers, IsLeastOwned, IsOtherOwner, IsPassedOver, IsServedNext, Rise}
+use Rattle.r4_history.specs.Serving.{AreOthers, IsLeastOwned, IsPassedOver, IsServedNext, Rise}
 use Rattle.r4_history.specs.Tables.{Tables}
 use Rattle.r4_history.specs.Told.{IsTold}
 use Rattle.r4_history.proofs.Told.{atom_is}
@@ -104,8 +104,8 @@ module _ (s : AtomsSeen) (own : ℕ) (need : Need) (others : List (ℕ × ℕ)) 
       let best = least_in (λ (m : ℕ). owns s a m) (nodes_of need) node there (owns_from (owner_of s node) a owned) in
       let m = best.0 in
       let is : IsLeastOwned s own need a m = record {
-        is_one = record { reached = best.1; owner = owns_by (owner_of s m) a best.2; other = other; unsealed = un };
-        least = λ n one. best.3 n one.reached (owns_from (owner_of s n) a one.owner);
+        is_one = record { reached = best.1; owner = record { owns = owns_by (owner_of s m) a best.2; other = other; unsealed = un } };
+        least = λ n one. best.3 n one.reached (owns_from (owner_of s n) a one.owner.owns);
       } in
       (m, (h.each a m).1 is)
 
@@ -118,7 +118,7 @@ module _ (s : AtomsSeen) (own : ℕ) (need : Need) (others : List (ℕ × ℕ)) 
   pub strangers_stay : (a n : ℕ) → ((node : ℕ) → Contains (nodes_of need) node → owner_of s node ≡ Some a → ⊥) → Contains others (a, n) → ⊥
   strangers_stay a n none there =
       let is = (h.each a n).0 there in
-      none n is.is_one.reached is.is_one.owner
+      none n is.is_one.reached is.is_one.owner.owns
 
 same_rise : (l m : List (ℕ × ℕ)) → Rise l → Rise m → ((p : ℕ × ℕ) → Contains l p → Contains m p) → ((p : ℕ × ℕ) → Contains m p → Contains l p) → l ≡ m
 same_rise [] [] rl rm to from = refl

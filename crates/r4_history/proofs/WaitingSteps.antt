@@ -34,7 +34,7 @@ use Rattle.r4_turns.specs.declared.turn.Turn.{Turn}
 use Rattle.r4_history.specs.declared.why.Why.{Why}
 use Rattle.r4_history.specs.declared.why.Why.TheVariants.{Held, Open, Out, Sealed}
 use Rattle.r4_history.specs.Held.{AreOwners, IsOut, Need, TasksTell}
-use Rattle.r4_history.specs.Serving.{AreOrdered, IsHeldUp, IsInTheWay, IsInTheWayOf, IsInTheWayOfCommit, IsPassedOver, IsReason, IsSealedOwner, IsServedNext, IsUnderWay, IsWaiting, WaitsFor}
+use Rattle.r4_history.specs.Serving.{AreOrdered, IsHeldUp, IsInTheWay, IsInTheWayOf, IsInTheWayOfCommit, IsPassedOver, IsReason, IsSealedOwner, IsServedNext, IsAtWork, IsWaiting, WaitsFor}
 use Rattle.r4_history.specs.Tables.{IsFinished, Stands, Tables, asked, next_at, place_at, within_of}
 use Rattle.r4_history.specs.Told.{IsCommitting, IsTold}
 use Rattle.r4_history.proofs.Ordered.{Fits, fits, in_order_next, in_order_pushed}
@@ -176,14 +176,14 @@ module _ (w : Meaning Command Reply) (start : Option Start) (clock : ℕ) (t : T
     by_next s (Some commands.Commit) why none rest all held = absurd held.1
     by_next s (Some c) why none rest all held = by_need (needs s) why none rest held
 
-    pub waits_for_something : (why : Why) → IsWaiting t locks needs why → IsUnderWay t
+    pub waits_for_something : (why : Why) → IsWaiting t locks needs why → IsAtWork t
     waits_for_something why is = by_commit t.commit refl
       where
         by_out : (o : Option Task) → (turn_at t.turns is.script).out ≡ o → t.commit ≡ None → IsReason t locks (needs is.script) is.script o why → SomeOut
         by_out (Some out) some rest reason = (is.script, out, record { is_script = is.is_script; is_out = some })
         by_out None free rest reason = by_next is.script (next_at t.turns is.script) why reason.sound rest is.all reason.held_up
 
-        by_commit : (o : Option ℕ) → t.commit ≡ o → IsUnderWay t
+        by_commit : (o : Option ℕ) → t.commit ≡ o → IsAtWork t
         by_commit (Some a) some = inr (subst IsSome (sym some) refl)
         by_commit None rest = inl (by_out (turn_at t.turns is.script).out refl rest is.reason)
 

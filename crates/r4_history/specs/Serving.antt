@@ -1,6 +1,6 @@
 -- Which script is served, why one waits, and which atoms fuse (docs/histories.md).
-use Rattle.std.specs.Prelude.{◌≡◌, ◌≢◌, ◌⊎◌, ◌↔◌, ℕ, ◌<◌, ◌≤◌, min, max, Contains, List, [], ◌∷◌, Option, Some, None, IsSome, option_map, true, false}
-use Rattle.r4_atoms.specs.Atoms.{AllCommitted, AtomsSeen, IsUncommittedOf, is_sealed, owner_of}
+use Rattle.std.specs.Prelude.{◌≡◌, ◌⊎◌, ◌↔◌, ℕ, ◌<◌, ◌≤◌, min, max, Contains, List, [], ◌∷◌, Option, Some, None, IsSome, option_map, true, false}
+use Rattle.r4_atoms.specs.Atoms.{AllCommitted, AtomsSeen, IsOtherOwner, IsUncommittedOf, is_sealed, owner_of}
 use Rattle.r4_atoms.specs.Names.{renamed}
 use Rattle.r4_atoms.specs.declared.things.Uncommitted.TheVariants as uncommitted
 use Rattle.r4_base.specs.declared.things.AtomNo.{AtomNo}
@@ -109,8 +109,8 @@ pub record IsWaiting (t : Tables) (locks : LocksSeen) (needs : ℕ → Option Ne
     pub all : (q : ℕ) → IsScript t.turns q → IsPassedOver t locks needs q
 
 -- a task is out, or a commit is under way
-abbrev pub IsUnderWay : Tables → Type 0
-IsUnderWay t = ((s : ℕ) × (out : Task) × IsOut t.turns s out) ⊎ IsSome t.commit
+abbrev pub IsAtWork : Tables → Type 0
+IsAtWork t = ((s : ℕ) × (out : Task) × IsOut t.turns s out) ⊎ IsSome t.commit
 
 -- the scripts are those of a text: no `commit` stands inside of a transaction
 abbrev pub AreOrdered : TurnsSeen → Type 0
@@ -119,16 +119,14 @@ AreOrdered t = (s : ℕ) → IsScript t s → AreInOrder false (commands_at t s)
 -- ---- which atoms fuse
 
 -- another atom, which is not sealed, owns a node that is reached
-pub record IsOtherOwner (s : AtomsSeen) (own : ℕ) (need : Need) (a node : ℕ) : Type 0 where
+pub record IsOwnerInReach (s : AtomsSeen) (own : ℕ) (need : Need) (a node : ℕ) : Type 0 where
   pub reached : Contains (nodes_of need) node
-  pub owner : owner_of s node ≡ Some a
-  pub other : a ≢ own
-  pub unsealed : is_sealed s a ≡ false
+  pub owner : IsOtherOwner s own node (record { 0 = a })
 
 -- the smallest such node of it
 pub record IsLeastOwned (s : AtomsSeen) (own : ℕ) (need : Need) (a node : ℕ) : Type 0 where
-  pub is_one : IsOtherOwner s own need a node
-  pub least : (n : ℕ) → IsOtherOwner s own need a n → node ≤ n
+  pub is_one : IsOwnerInReach s own need a node
+  pub least : (n : ℕ) → IsOwnerInReach s own need a n → node ≤ n
 
 abbrev pub Rise : List (ℕ × ℕ) → Type 0
 Rise [] = Unit {0}

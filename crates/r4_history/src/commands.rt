@@ -16,7 +16,7 @@ ghost use Rattle.r4_trace.specs.Job.{IsWork};
 ghost use Rattle.r4_trace.specs.declared.entry.Entry.{Entry};
 ghost use Rattle.r4_trace.specs.declared.entry.Entry.TheVariants.{Acked, Done, Ended, Refused};
 ghost use Rattle.r4_turns.specs.declared.turn.Open.{Open};
-ghost use Rattle.r4_history.specs.Tables.{IsLastOf, IsNext, Stands, Tables, inside, single, with_answer, with_last_answer};
+ghost use Rattle.r4_history.specs.Tables.{IsLastOf, IsNextCommand, Stands, Tables, inside, single, with_answer, with_last_answer};
 ghost use Rattle.r4_history.specs.Told.{HasNewId, HasReply, IsTold};
 ghost use Rattle.r4_history.specs.Tables.{asked};
 
@@ -26,14 +26,14 @@ pub fn commands_are_done()
     ensures inside { (w : Meaning Command Reply) (start : Option Start) (clock : ℕ) (t : Tables)
         (trace : List Entry) → IsTold w start clock t trace
         → (txn : TxnNo) (script : ScriptNo) (i : ℕ) (c had : Command) (id : Oid) (r : Reply)
-        → t.broken ≡ None → IsNext t.turns script.0 (Some (inside txn)) i had → IsWork had
+        → t.broken ≡ None → IsNextCommand t.turns script.0 (Some (inside txn)) i had → IsWork had
         → c ≡ with_id id had → HasReply w start trace c r
         → HasNewId start (asked t.turns.job) trace c
         → IsTold w start clock (with_answer t script.0) (Done txn script i c r ∷ trace) }
     ensures single { (w : Meaning Command Reply) (start : Option Start) (clock : ℕ) (t : Tables)
         (trace : List Entry) → IsTold w start clock t trace
         → (txn : TxnNo) (script : ScriptNo) (i : ℕ) (c had : Command) (id : Oid) (r : Reply)
-        → t.broken ≡ None → IsNext t.turns script.0 (Some (single txn)) i had → IsWork had
+        → t.broken ≡ None → IsNextCommand t.turns script.0 (Some (single txn)) i had → IsWork had
         → c ≡ with_id id had → HasReply w start trace c r
         → HasNewId start (asked t.turns.job) trace c
         → IsTold w start clock (with_last_answer t script.0 txn.0)
@@ -47,28 +47,28 @@ pub fn commands_are_refused()
     ensures outside { (w : Meaning Command Reply) (start : Option Start) (clock : ℕ) (t : Tables)
         (trace : List Entry) → IsTold w start clock t trace
         → (txn : TxnNo) (script : ScriptNo) (i : ℕ) (c : Command) (r : Reply) → t.broken ≡ None
-        → IsNext t.turns script.0 None i c → IsWork c → txn.0 ≡ 0
+        → IsNextCommand t.turns script.0 None i c → IsWork c → txn.0 ≡ 0
         → IsTold w start clock (with_answer t script.0) (Refused txn script i r ∷ trace) }
     ensures commit { (w : Meaning Command Reply) (start : Option Start) (clock : ℕ) (t : Tables)
         (trace : List Entry) → IsTold w start clock t trace
         → (txn : TxnNo) (script : ScriptNo) (i : ℕ) (r : Reply) → t.broken ≡ None
-        → IsNext t.turns script.0 None i commands.Commit → txn.0 ≡ 0
+        → IsNextCommand t.turns script.0 None i commands.Commit → txn.0 ≡ 0
         → IsTold w start clock (with_answer t script.0) (Refused txn script i r ∷ trace) }
     ensures inside { (w : Meaning Command Reply) (start : Option Start) (clock : ℕ) (t : Tables)
         (trace : List Entry) → IsTold w start clock t trace
         → (txn : TxnNo) (script : ScriptNo) (i : ℕ) (c : Command) (r : Reply) → t.broken ≡ None
-        → IsNext t.turns script.0 (Some (inside txn)) i c → IsWork c
+        → IsNextCommand t.turns script.0 (Some (inside txn)) i c → IsWork c
         → IsTold w start clock (with_answer t script.0) (Refused txn script i r ∷ trace) }
     ensures single { (w : Meaning Command Reply) (start : Option Start) (clock : ℕ) (t : Tables)
         (trace : List Entry) → IsTold w start clock t trace
         → (txn : TxnNo) (script : ScriptNo) (i : ℕ) (c : Command) (r : Reply) → t.broken ≡ None
-        → IsNext t.turns script.0 (Some (single txn)) i c → IsWork c
+        → IsNextCommand t.turns script.0 (Some (single txn)) i c → IsWork c
         → IsTold w start clock (with_last_answer t script.0 txn.0)
         (Ended txn ∷ Refused txn script i r ∷ trace) }
     ensures reopen { (w : Meaning Command Reply) (start : Option Start) (clock : ℕ) (t : Tables)
         (trace : List Entry) → IsTold w start clock t trace
         → (txn : TxnNo) (script : ScriptNo) (i : ℕ) (c : Command) (o : Option Open) (failed : ℕ)
-        → t.broken ≡ Some failed → IsNext t.turns script.0 o i c → txn.0 ≡ 0
+        → t.broken ≡ Some failed → IsNextCommand t.turns script.0 o i c → txn.0 ≡ 0
         → IsTold w start clock (with_answer t script.0)
         (Refused txn script i (Reopen failed) ∷ trace) }
 {}

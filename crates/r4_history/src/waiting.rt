@@ -15,7 +15,7 @@ ghost use Rattle.r4_trace.specs.declared.entry.Entry.{Entry};
 ghost use Rattle.r4_turns.specs.Turns.{IsScript, TurnsSeen, commands_at, with_command};
 ghost use Rattle.r4_history.specs.declared.why.Why.{Why};
 ghost use Rattle.r4_history.specs.Held.{AreOwners, Need, TasksTell};
-ghost use Rattle.r4_history.specs.Serving.{AreOrdered, IsServedNext, IsUnderWay, IsWaiting, WaitsFor};
+ghost use Rattle.r4_history.specs.Serving.{AreOrdered, IsServedNext, IsAtWork, IsWaiting, WaitsFor};
 ghost use Rattle.r4_history.specs.Tables.{Tables};
 ghost use Rattle.r4_history.specs.Told.{IsTold};
 
@@ -42,7 +42,7 @@ pub fn something_is_waited_for()
     ensures { (w : Meaning Command Reply) (start : Option Start) (clock : ℕ) (t : Tables)
         (trace : List Entry) → IsTold w start clock t trace
         → (locks : LocksSeen) (needs : ℕ → Option Need) → TasksTell t locks → AreOwners t.atoms
-        → AreOrdered t.turns → (why : Why) → IsWaiting t locks needs why → IsUnderWay t }
+        → AreOrdered t.turns → (why : Why) → IsWaiting t locks needs why → IsAtWork t }
 {}
 
 /// Where no atom of a script is left that is not sealed, and no commit is under way, each of its
