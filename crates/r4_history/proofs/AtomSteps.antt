@@ -95,7 +95,8 @@ last_begun (Begin u q ∷ older) s = elim (cases_eq s q.0) [
   | inl same ↦ inr (inl (cond-true (s == q.0) u.0 (last_of older s) (eq-eqb s q.0 same), same))
   | inr other ↦
       let e = cond-false (s == q.0) u.0 (last_of older s) (ne_eqb s q.0 other) in
-      ⊎_elim (λ none. inl (e ∙ none)) (λ b. inr (inr (subst (λ (n : ℕ). IsBegun older n s) (sym e) b))) (last_begun older s)
+      ⊎_elim (λ none. inl (e ∙ none)) (λ b. inr (inr (subst (λ (n : ℕ). IsBegun older n s) (sym e) b)))
+      (last_begun older s)
 ]
 last_begun (e ∷ older) s = last_begun older s
 
@@ -104,10 +105,12 @@ last_greatest [] t s legal b = absurd b
 last_greatest (Begin u q ∷ older) t s legal b = elim (cases_eq s q.0) [
   | inl same ↦
       let e = cond-true (s == q.0) u.0 (last_of older s) (eq-eqb s q.0 same) in
-      ⊎_elim (λ new. omega (arith, e, new.0)) (λ was. let le = begun_le older t s legal.2 was in omega (arith, e, le, legal.0.0)) b
+      ⊎_elim (λ new. omega (arith, e, new.0))
+      (λ was. let le = begun_le older t s legal.2 was in omega (arith, e, le, legal.0.0)) b
   | inr other ↦
       let e = cond-false (s == q.0) u.0 (last_of older s) (ne_eqb s q.0 other) in
-      ⊎_elim (λ new. absurd (other new.1)) (λ was. let le = last_greatest older t s legal.2 was in omega (arith, e, le)) b
+      ⊎_elim (λ new. absurd (other new.1))
+      (λ was. let le = last_greatest older t s legal.2 was in omega (arith, e, le)) b
 ]
 last_greatest (e ∷ older) t s legal b = last_greatest older t s legal.2 b
 
@@ -119,7 +122,13 @@ pub record SameFlags (old new : AtomsSeen) : Type 0 where
   pub first : (a : ℕ) → IsTxn new a → IsTxn old a ⊎ (is_sealed new a ≡ false)
 
 pub same_flags : (s : AtomsSeen) → SameFlags s s
-same_flags s = record { sealed = λ a is. refl; committed = λ a is. refl; cleaned = λ a is. refl; first = λ a is. inl is }
+same_flags s = record {
+  sealed = λ a is. refl;
+  committed = λ a is. refl;
+  cleaned = λ a is. refl;
+  first =
+      λ a is. inl is;
+}
 
 -- the numbers that were begun, where their count is the same
 pub txn_by : (old new : AtomsSeen) → length new.txns ≡ length old.txns → (t : ℕ) → IsTxn new t → IsTxn old t
@@ -165,10 +174,12 @@ module _ (old new : AtomsSeen) (s : ℕ) (b : Begins old new s) (states : length
     sealed = λ a is. ap (λ (x : AtomState). x.sealed) (state_before a is);
     committed = λ a is. ap (λ (x : AtomState). x.committed) (state_before a is);
     cleaned = λ a is. ap (λ (x : AtomState). x.cleaned) (state_before a is);
-    first = λ a is. ⊎_elim (λ was. inl was) (λ here. inr (ap (λ (x : AtomState). x.sealed) (state_after a here))) (begun_or_new a is);
+    first = λ a is. ⊎_elim (λ was. inl was) (λ here. inr (ap (λ (x : AtomState). x.sealed) (state_after a here)))
+        (begun_or_new a is);
   }
 
-pub tell_begin : (old new : AtomsSeen) (trace : List Entry) (u : TxnNo) (s : ScriptNo) → AtomsTell old trace → IsOrdered trace
+pub tell_begin : (old new : AtomsSeen) (trace : List Entry) (u : TxnNo) (s : ScriptNo) → AtomsTell old trace
+    → IsOrdered trace
     → Begins old new s.0 → u.0 ≡ length old.txns + 1 → AtomsTell new (Begin u s ∷ trace)
 tell_begin old new trace u s h legal b number =
     let count = count_after old new s.0 b h.states in
@@ -186,7 +197,8 @@ tell_begin old new trace u s h legal b number =
           (cases t is);
       atom = λ t is. ⊎_elim
           (λ was. ap (λ (x : TxnSeen). x.atom) (before t was) ∙ h.atom t was)
-          (λ here. ap (λ (x : TxnSeen). x.atom) (after t here) ∙ sym here ∙ sym (own_atom trace t legal (omega (arith, here, h.begun))))
+          (λ here. ap (λ (x : TxnSeen). x.atom) (after t here) ∙ sym here
+          ∙ sym (own_atom trace t legal (omega (arith, here, h.begun))))
           (cases t is);
       ended = λ t is. ⊎_elim
           (λ was. let e = ap (λ (x : TxnSeen). x.is_open) (before t was) in
@@ -209,7 +221,8 @@ tell_begin old new trace u s h legal b number =
           (λ now. (h.committed t was).0 (sym e ∙ now), λ has. e ∙ (h.committed t was).1 has))
           (λ here. (
             λ now. absurd (true≢false (sym now ∙ ap (λ (x : AtomState). x.committed) (state_new t here))),
-            λ has. (let le = sealed_begun trace t legal (committed_sealed trace t legal has) in absurd (omega (arith, le, here, h.begun))),
+            λ has. (let le = sealed_begun trace t legal (committed_sealed trace t legal has) in absurd
+                (omega (arith, le, here, h.begun))),
           ))
           (cases t is);
     }
@@ -238,7 +251,8 @@ tell_ended old trace u h begun =
             (λ now. inl same, λ has. here)
         | inr other ↦
             let e = ap (λ (x : TxnSeen). x.is_open)
-            (get_or-set_other old.txns (u.0 - 1) (t - 1) at no_txn (λ same. other (omega (arith, same, is.some, begun.some)))) in (
+            (get_or-set_other old.txns (u.0 - 1) (t - 1) at no_txn
+            (λ same. other (omega (arith, same, is.some, begun.some)))) in (
               λ now. inr ((h.ended t (was t is)).0 (sym e ∙ now)),
               λ has. e ∙ (h.ended t (was t is)).1 (⊎_elim (λ here. absurd (other here)) (λ x. x) has),
             )
@@ -252,13 +266,15 @@ flags_ended old t = record {
   sealed = λ a is. refl;
   committed = λ a is. refl;
   cleaned = λ a is. refl;
-  first = λ a is. inl (txn_by old (with_ended old t) (length-set old.txns (t - 1) (record (txn_of old t) { is_open = false })) a is);
+  first = λ a is. inl (txn_by old (with_ended old t)
+      (length-set old.txns (t - 1) (record (txn_of old t) { is_open = false })) a is);
 }
 
 -- ---- two atoms become one
 
 joined_keeps : (f : AtomState → Bool) → ((x : AtomState) (a : Account) → f (with_account x a) ≡ f x)
-    → (states : List AtomState) (to from j : ℕ) → f (get_or (joined states to from) j new_atom) ≡ f (get_or states j new_atom)
+    → (states : List AtomState) (to from j : ℕ)
+    → f (get_or (joined states to from) j new_atom) ≡ f (get_or states j new_atom)
 joined_keeps f same states to from j =
     let moved = (get_or states from new_atom).account in
     let had = get_or states to new_atom in
@@ -309,7 +325,8 @@ module _ (old new : AtomsSeen) (a b : ℕ) (f : Fuses old new a b) where
       record {
         states = fused_length ∙ h.states ∙ sym fused_count;
         begun = fused_count ∙ h.begun;
-        script = λ t is. subst (IsBegun trace t) (sym (ap (λ (x : TxnSeen). x.script) (fused_txn t (was t is)))) (h.script t (was t is));
+        script = λ t is. subst (IsBegun trace t) (sym (ap (λ (x : TxnSeen). x.script) (fused_txn t (was t is))))
+            (h.script t (was t is));
         atom = λ t is.
             ap (λ (x : TxnSeen). x.atom) (fused_txn t (was t is))
             ∙ ap (renamed_atom a b) (h.atom t (was t is))
@@ -326,7 +343,8 @@ module _ (old new : AtomsSeen) (a b : ℕ) (f : Fuses old new a b) where
 -- ---- atoms are sealed, committed and clean
 
 module _ (s : AtomsSeen) (a : ℕ) (x : AtomState) where
-  pub state_kept : (f : AtomState → Bool) → f x ≡ f (state_of s a) → (n : ℕ) → f (state_of (with_state s a x) n) ≡ f (state_of s n)
+  pub state_kept : (f : AtomState → Bool) → f x ≡ f (state_of s a) → (n : ℕ)
+      → f (state_of (with_state s a x) n) ≡ f (state_of s n)
   state_kept f e n = kept_by_set f s.atoms (a - 1) x new_atom e (n - 1)
 
   pub state_set : IsTxn s a → length s.atoms ≡ length s.txns → (n : ℕ) → n ≡ a → state_of (with_state s a x) n ≡ x
@@ -354,7 +372,11 @@ tell_sealed s trace a h begun =
       atom = λ n is. h.atom n (was n is);
       ended = λ n is. h.ended n (was n is);
       sealed = λ n is. elim (cases_eq n a.0) [
-        | inl here ↦ (λ now. inl here, λ has. ap (λ (y : AtomState). y.sealed) (state_set s a.0 x begun h.states n here))
+        | inl here ↦ (
+          λ now. inl here,
+          λ has. ap (λ (y : AtomState). y.sealed)
+              (state_set s a.0 x begun h.states n here),
+        )
         | inr other ↦
             let e = ap (λ (y : AtomState). y.sealed) (state_other s a.0 x n begun (was n is) other) in (
               λ now. inr ((h.sealed n (was n is)).0 (sym e ∙ now)),
@@ -380,7 +402,11 @@ tell_committed s trace a clock h begun =
       sealed = λ n is. let e = same n in
           (λ now. (h.sealed n (was n is)).0 (sym e ∙ now), λ has. e ∙ (h.sealed n (was n is)).1 has);
       committed = λ n is. elim (cases_eq n a.0) [
-        | inl here ↦ (λ now. inl here, λ has. ap (λ (y : AtomState). y.committed) (state_set s a.0 x begun h.states n here))
+        | inl here ↦ (
+          λ now. inl here,
+          λ has. ap (λ (y : AtomState). y.committed)
+              (state_set s a.0 x begun h.states n here),
+        )
         | inr other ↦
             let e = ap (λ (y : AtomState). y.committed) (state_other s a.0 x n begun (was n is) other) in (
               λ now. inr ((h.committed n (was n is)).0 (sym e ∙ now)),
@@ -422,7 +448,8 @@ tell_done s trace u q i c r h = record {
   committed = h.committed;
 }
 
-pub tell_refused : (s : AtomsSeen) (trace : List Entry) (u : TxnNo) (q : ScriptNo) (i : ℕ) (r : Reply) → AtomsTell s trace
+pub tell_refused : (s : AtomsSeen) (trace : List Entry) (u : TxnNo) (q : ScriptNo) (i : ℕ) (r : Reply)
+    → AtomsTell s trace
     → AtomsTell s (Refused u q i r ∷ trace)
 tell_refused s trace u q i r h = record {
   states = h.states;

@@ -12,7 +12,8 @@ pub record SameSeals (old new : List Entry) : Type 0 where
   pub committed : committed_in new ≡ committed_in old
   pub last : last_sealed new ≡ last_sealed old
 
-module _ (old new : AtomsSeen) (was now : List Entry) (f : SameFlags old new) (grows : (a : ℕ) → IsTxn old a → IsTxn new a) (e : SameSeals was now) where
+module _ (old new : AtomsSeen) (was now : List Entry) (f : SameFlags old new)
+    (grows : (a : ℕ) → IsTxn old a → IsTxn new a) (e : SameSeals was now) where
   committing_on : (o : Option ℕ) → IsCommitting old o was → IsCommitting new o now
   committing_on None c = e.sealed ∙ c ∙ sym e.committed
   committing_on (Some a) c = record {

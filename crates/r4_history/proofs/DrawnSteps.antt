@@ -49,7 +49,8 @@ had_id c is = absurd (false≢true is)
 abbrev ids_of : TurnsSeen → (next : ℕ) → Ids
 ids_of t next = record { next = next; drawn = drawn_at t; ahead = ahead_at t }
 
-as_drawn : (o : ℕ) (t : TurnsSeen) (next : ℕ) (trace : List Entry) → AreDrawn o t next trace → Drawn o (asked t.job) (ids_of t next) trace
+as_drawn : (o : ℕ) (t : TurnsSeen) (next : ℕ) (trace : List Entry) → AreDrawn o t next trace
+    → Drawn o (asked t.job) (ids_of t next) trace
 as_drawn o t next trace h = record {
   least = h.least;
   few = h.few;
@@ -62,8 +63,10 @@ as_drawn o t next trace h = record {
 
 -- what is drawn for turns that draw no more than these ids, and are as far ahead
 drawn_from : (o : ℕ) (t : TurnsSeen) (ids : Ids) (trace : List Entry) (job : Asked) → Drawn o job ids trace
-    → ((s x : ℕ) → drawn_at t s ≡ Some x → ids.drawn s ≡ Some x) → makers_by job ids.ahead ≤ makers_by (asked t.job) (ahead_at t)
-    → ((s : ℕ) (n : Numbers) → IsScript t s → numbers_of (turn_at t s) ≡ Some n → HasNext t s) → AreDrawn o t ids.next trace
+    → ((s x : ℕ) → drawn_at t s ≡ Some x → ids.drawn s ≡ Some x)
+    → makers_by job ids.ahead ≤ makers_by (asked t.job) (ahead_at t)
+    → ((s : ℕ) (n : Numbers) → IsScript t s → numbers_of (turn_at t s) ≡ Some n → HasNext t s)
+    → AreDrawn o t ids.next trace
 drawn_from o t ids trace job h back le only = record {
   least = h.least;
   few = omega (arith, h.few, le);
@@ -76,7 +79,8 @@ drawn_from o t ids trace job h back le only = record {
 }
 
 -- the turn of another script
-pub turn_other : (t : TurnsSeen) (s q : ℕ) (turn : Turn) → IsScript t s → 0 < q → (q ≡ s → ⊥) → turn_at (with_turn t s turn) q ≡ turn_at t q
+pub turn_other : (t : TurnsSeen) (s q : ℕ) (turn : Turn) → IsScript t s → 0 < q → (q ≡ s → ⊥)
+    → turn_at (with_turn t s turn) q ≡ turn_at t q
 turn_other t s q turn is some other =
     get_or-set_other t.turns (s - 1) (q - 1) turn no_turn (λ same. other (omega (arith, same, is.0, some)))
 
@@ -84,7 +88,8 @@ module _ (t : TurnsSeen) (s : ℕ) (turn : Turn) (is : IsScript t s) where
   drawn_now : drawn_at (with_turn t s turn) s ≡ id_for (slice_get (commands_at t s) turn.answered) (numbers_of turn)
   drawn_now = at s is refl
     where
-      at : (q : ℕ) → IsScript t q → q ≡ s → drawn_at (with_turn t s turn) q ≡ id_for (slice_get (commands_at t s) turn.answered) (numbers_of turn)
+      at : (q : ℕ) → IsScript t q → q ≡ s
+          → drawn_at (with_turn t s turn) q ≡ id_for (slice_get (commands_at t s) turn.answered) (numbers_of turn)
       at zero there same = absurd (omega (arith, there.0))
       at (suc i) there same =
           ap (λ (q : ℕ). id_for (next_at (with_turn t s turn) q) (numbers_of (turn_at (with_turn t s turn) q))) same
@@ -93,7 +98,8 @@ module _ (t : TurnsSeen) (s : ℕ) (turn : Turn) (is : IsScript t s) where
   drawn_other : (q : ℕ) → (q ≡ s → ⊥) → drawn_at (with_turn t s turn) q ≡ drawn_at t q
   drawn_other zero other = refl
   drawn_other (suc i) other =
-      ap (λ (x : Turn). id_for (slice_get (commands_at t (suc i)) x.answered) (numbers_of x)) (turn_other t s (suc i) turn is (omega arith) other)
+      ap (λ (x : Turn). id_for (slice_get (commands_at t (suc i)) x.answered) (numbers_of x))
+      (turn_other t s (suc i) turn is (omega arith) other)
 
   ahead_now : (q : ℕ) → q ≡ s → ahead_at (with_turn t s turn) q ≡ ahead_by (numbers_of turn) turn.answered
   ahead_now zero same = absurd (omega (arith, is.0, same))
@@ -103,17 +109,20 @@ module _ (t : TurnsSeen) (s : ℕ) (turn : Turn) (is : IsScript t s) where
 
   ahead_other : (q : ℕ) → (q ≡ s → ⊥) → ahead_at (with_turn t s turn) q ≡ ahead_at t q
   ahead_other zero other = refl
-  ahead_other (suc i) other = ap (λ (x : Turn). ahead_by (numbers_of x) x.answered) (turn_other t s (suc i) turn is (omega arith) other)
+  ahead_other (suc i) other = ap (λ (x : Turn). ahead_by (numbers_of x) x.answered)
+      (turn_other t s (suc i) turn is (omega arith) other)
 
   -- only a next command has numbers, where this one is next
   only_still : ((q : ℕ) (n : Numbers) → IsScript t q → numbers_of (turn_at t q) ≡ Some n → HasNext t q)
       → ((n : Numbers) → numbers_of turn ≡ Some n → turn.answered < length (commands_at t s))
-      → (q : ℕ) (n : Numbers) → IsScript (with_turn t s turn) q → numbers_of (turn_at (with_turn t s turn) q) ≡ Some n → HasNext (with_turn t s turn) q
+      → (q : ℕ) (n : Numbers) → IsScript (with_turn t s turn) q
+      → numbers_of (turn_at (with_turn t s turn) q) ≡ Some n → HasNext (with_turn t s turn) q
   only_still only mine q n there has =
       let count = length-set t.turns (s - 1) turn in
       elim (cases_eq q s) [
         | inl same ↦
-            let now : turn_at (with_turn t s turn) q ≡ turn = ap (turn_at (with_turn t s turn)) same ∙ turn_now t s turn is in
+            let now : turn_at (with_turn t s turn) q ≡ turn = ap (turn_at (with_turn t s turn)) same
+            ∙ turn_now t s turn is in
             let lt = mine n (ap numbers_of (sym now) ∙ has) in
             let e = ap (λ (x : Turn). x.answered) now in
             let l = ap (λ (k : ℕ). length (commands_at t k)) same in
@@ -135,7 +144,8 @@ drawn_was t (suc i) some = refl
 
 module _ (o : ℕ) (t : TurnsSeen) (next : ℕ) (trace : List Entry) (h : AreDrawn o t next trace) where
   -- a turn with the same numbers, of the same command
-  drawn_same : (s : ℕ) (turn : Turn) → IsScript t s → turn.answered ≡ answered_at t s → numbers_of turn ≡ numbers_of (turn_at t s)
+  drawn_same : (s : ℕ) (turn : Turn) → IsScript t s → turn.answered ≡ answered_at t s
+      → numbers_of turn ≡ numbers_of (turn_at t s)
       → AreDrawn o (with_turn t s turn) next trace
   drawn_same s turn is count numbers =
       let drawn : (q : ℕ) → drawn_at (with_turn t s turn) q ≡ drawn_at t q = λ q. elim (cases_eq q s) [
@@ -147,14 +157,17 @@ module _ (o : ℕ) (t : TurnsSeen) (next : ℕ) (trace : List Entry) (h : AreDra
       ] in
       let ahead : (q : ℕ) → ahead_at (with_turn t s turn) q ≡ ahead_at t q = λ q. elim (cases_eq q s) [
         | inl same ↦
-            ahead_now t s turn is q same ∙ ap (ahead_by (numbers_of turn)) count ∙ ap (λ (x : Option Numbers). ahead_by x (answered_at t s)) numbers
+            ahead_now t s turn is q same ∙ ap (ahead_by (numbers_of turn)) count
+            ∙ ap (λ (x : Option Numbers). ahead_by x (answered_at t s)) numbers
             ∙ sym (ahead_was t s is.0) ∙ ap (ahead_at t) (sym same)
         | inr other ↦ ahead_other t s turn is q other
       ] in
       drawn_from o (with_turn t s turn) (ids_of t next) trace (asked t.job) (as_drawn o t next trace h)
       (λ q x has. sym (drawn q) ∙ has)
-      (from_mono 1 (asked t.job) (ahead_at t) (ahead_at (with_turn t s turn)) (λ q. let e = ahead q in omega (arith, e)))
-      (only_still t s turn is h.only_next (λ n has. let lt = h.only_next s n is (sym numbers ∙ has) in omega (arith, lt, count)))
+      (from_mono 1 (asked t.job) (ahead_at t) (ahead_at (with_turn t s turn))
+      (λ q. let e = ahead q in omega (arith, e)))
+      (only_still t s turn is h.only_next
+      (λ n has. let lt = h.only_next s n is (sym numbers ∙ has) in omega (arith, lt, count)))
 
   -- a turn that has no numbers, one command further or not behind
   drawn_without : (s : ℕ) (turn : Turn) → IsScript t s → turn.answered ≡ answered_at t s + 1 → numbers_of turn ≡ None
@@ -162,7 +175,9 @@ module _ (o : ℕ) (t : TurnsSeen) (next : ℕ) (trace : List Entry) (h : AreDra
   drawn_without s turn is count none =
       drawn_from o (with_turn t s turn) (ids_of t next) trace (asked t.job) (as_drawn o t next trace h)
       (λ q x has. elim (cases_eq q s) [
-        | inl same ↦ absurd (nothing (slice_get (commands_at t s) turn.answered) x (ap (id_for (slice_get (commands_at t s) turn.answered)) (sym none) ∙ sym (drawn_now t s turn is) ∙ ap (drawn_at (with_turn t s turn)) (sym same) ∙ has))
+        | inl same ↦ absurd (nothing (slice_get (commands_at t s) turn.answered) x
+            (ap (id_for (slice_get (commands_at t s) turn.answered)) (sym none) ∙ sym (drawn_now t s turn is)
+            ∙ ap (drawn_at (with_turn t s turn)) (sym same) ∙ has))
         | inr other ↦ sym (drawn_other t s turn is q other) ∙ has
       ])
       (from_mono 1 (asked t.job) (ahead_at t) (ahead_at (with_turn t s turn)) (λ q. elim (cases_eq q s) [
@@ -193,19 +208,24 @@ module _ (o : ℕ) (t : TurnsSeen) (next : ℕ) (trace : List Entry) (h : AreDra
         let y = had_id c makes in
         let turn : Turn = record (turn_at t s) { out = Some out } in
         let to = with_turn t s turn in
-        let count : ahead_at t s ≡ answered_at t s = ahead_was t s is.0 ∙ ap (λ (x : Option Numbers). ahead_by x (answered_at t s)) none in
+        let count : ahead_at t s ≡ answered_at t s = ahead_was t s is.0
+        ∙ ap (λ (x : Option Numbers). ahead_by x (answered_at t s)) none in
         let there : slice_get (commands_of (asked t.job) s) (ahead_at t s) ≡ Some c =
-        ap (slice_get (commands_of (asked t.job) s)) count ∙ ap (λ (l : List Command). slice_get l (answered_at t s)) (commands_are t s is.0) ∙ at in
+        ap (slice_get (commands_of (asked t.job) s)) count
+        ∙ ap (λ (l : List Command). slice_get l (answered_at t s)) (commands_are t s is.0) ∙ at in
         let d = drawn_on o (asked t.job) (ids_of t next) trace (as_drawn o t next trace h) s c y.0 there y.1 in
-        let e : after ≡ min (next + 1) no_id = is_after ∙ cond-true (makes_object c) (min (next + 1) no_id) next makes in
+        let e : after ≡ min (next + 1) no_id = is_after
+        ∙ cond-true (makes_object c) (min (next + 1) no_id) next makes in
         let mine : drawn_at to s ≡ Some next =
         drawn_now t s turn is ∙ ap (λ (x : Option Command). id_for x (Some out.numbers)) at
         ∙ cond-true (makes_object c) (Some out.numbers.oid.0) None makes ∙ ap Some (drawn makes) in
         subst (λ (n : ℕ). AreDrawn o to n trace) (sym e)
         (drawn_from o to (draw s (ids_of t next)) trace (asked t.job) d
         (λ q x has. elim (cases_eq q s) [
-          | inl same ↦ cond-true (q == s) (Some next) (drawn_at t q) (eq-eqb q s same) ∙ sym mine ∙ ap (drawn_at to) (sym same) ∙ has
-          | inr other ↦ cond-false (q == s) (Some next) (drawn_at t q) (ne_eqb q s other) ∙ sym (drawn_other t s turn is q other) ∙ has
+          | inl same ↦ cond-true (q == s) (Some next) (drawn_at t q) (eq-eqb q s same) ∙ sym mine
+              ∙ ap (drawn_at to) (sym same) ∙ has
+          | inr other ↦ cond-false (q == s) (Some next) (drawn_at t q) (ne_eqb q s other)
+              ∙ sym (drawn_other t s turn is q other) ∙ has
         ])
         (from_mono 1 (asked t.job) (raised (ahead_at t) s) (ahead_at to) (λ q. elim (cases_eq q s) [
           | inl same ↦
@@ -223,7 +243,8 @@ module _ (o : ℕ) (t : TurnsSeen) (next : ℕ) (trace : List Entry) (h : AreDra
         let turn : Turn = record (turn_at t s) { out = Some out } in
         let to = with_turn t s turn in
         let e : after ≡ next = is_after ∙ cond-false (makes_object c) (min (next + 1) no_id) next not in
-        let count : ahead_at t s ≡ answered_at t s = ahead_was t s is.0 ∙ ap (λ (x : Option Numbers). ahead_by x (answered_at t s)) none in
+        let count : ahead_at t s ≡ answered_at t s = ahead_was t s is.0
+        ∙ ap (λ (x : Option Numbers). ahead_by x (answered_at t s)) none in
         let mine : drawn_at to s ≡ None =
         drawn_now t s turn is ∙ ap (λ (x : Option Command). id_for x (Some out.numbers)) at
         ∙ cond-false (makes_object c) (Some out.numbers.oid.0) None not in
@@ -243,7 +264,8 @@ module _ (o : ℕ) (t : TurnsSeen) (next : ℕ) (trace : List Entry) (h : AreDra
         (only_still t s turn is h.only_next (λ n has. next_there t s c at)))
   ]
 
-  pub drawn_out : (s : ℕ) (c : Command) (out : Out) (after : ℕ) → IsScript t s → next_at t s ≡ Some c → (turn_at t s).out ≡ None
+  pub drawn_out : (s : ℕ) (c : Command) (out : Out) (after : ℕ) → IsScript t s → next_at t s ≡ Some c
+      → (turn_at t s).out ≡ None
       → GetsNumbers t s c next after out.numbers → AreDrawn o (gone_out t s out) after trace
   drawn_out s c out after is at free gets = by (numbers_of (turn_at t s)) refl
     where
@@ -254,7 +276,8 @@ module _ (o : ℕ) (t : TurnsSeen) (next : ℕ) (trace : List Entry) (h : AreDra
           subst (λ (n : ℕ). AreDrawn o (gone_out t s out) n trace) (sym d.1)
           (drawn_same s (record (turn_at t s) { out = Some out }) is refl (ap Some d.0 ∙ sym some))
 
-  pub drawn_back : (s : ℕ) (out : Out) → IsScript t s → (turn_at t s).out ≡ Some out → AreDrawn o (given_back t s out.numbers) next trace
+  pub drawn_back : (s : ℕ) (out : Out) → IsScript t s → (turn_at t s).out ≡ Some out
+      → AreDrawn o (given_back t s out.numbers) next trace
   drawn_back s out is has =
       drawn_same s (record (turn_at t s) { out = None; numbers = Some out.numbers }) is refl
       (ap (λ (x : Option Out). Rattle.r4_history.specs.Drawn.numbers_in x (turn_at t s).numbers) (sym has))
@@ -280,7 +303,8 @@ module _ (o : ℕ) (t : TurnsSeen) (next : ℕ) (trace : List Entry) (h : AreDra
       let now = turn_now t s turn is in
       let one : answered_one (dropped t s) s ≡ with_turn (dropped t s) s last =
       ap (λ (x : Turn). with_turn (dropped t s) s (record x { answered = x.answered + 1; numbers = None })) now in
-      let two : with_turn (dropped t s) s last ≡ with_turn t s last = ap (λ (l : List Turn). record t { turns = l }) (set-set t.turns (s - 1) turn last) in
+      let two : with_turn (dropped t s) s last ≡ with_turn t s last = ap (λ (l : List Turn). record t { turns = l })
+      (set-set t.turns (s - 1) turn last) in
       subst (λ (x : TurnsSeen). AreDrawn o x next trace) (sym (one ∙ two)) (drawn_without s last is refl refl)
 
   -- ---- entries
@@ -302,7 +326,8 @@ module _ (o : ℕ) (t : TurnsSeen) (next : ℕ) (trace : List Entry) (h : AreDra
       by e plain x d = d
 
   -- a command is done with the id that was drawn for it, and its task is out no more
-  pub drawn_done : (u : TxnNo) (s : ScriptNo) (i : ℕ) (c had : Command) (r : Reply) (out : Out) → IsScript t s.0 → next_at t s.0 ≡ Some had
+  pub drawn_done : (u : TxnNo) (s : ScriptNo) (i : ℕ) (c had : Command) (r : Reply) (out : Out) → IsScript t s.0
+      → next_at t s.0 ≡ Some had
       → (turn_at t s.0).out ≡ Some out → c ≡ with_id out.numbers.oid had
       → AreDrawn o (answered_one (dropped t s.0) s.0) next (Done u s i c r ∷ trace)
   drawn_done u s i c had r out is at has same =
@@ -322,9 +347,11 @@ module _ (o : ℕ) (t : TurnsSeen) (next : ℕ) (trace : List Entry) (h : AreDra
       mine : (x : ℕ) → id_of c ≡ Some x → drawn_at t s.0 ≡ Some x
       mine x is_x = elim (cases_Bool (makes_object had)) [
         | inl makes ↦
-            let e : Some out.numbers.oid.0 ≡ Some x = sym (made_id had out.numbers.oid makes) ∙ ap id_of (sym same) ∙ is_x in
+            let e : Some out.numbers.oid.0 ≡ Some x = sym (made_id had out.numbers.oid makes) ∙ ap id_of (sym same)
+            ∙ is_x in
             drawn_was t s.0 is.0 ∙ ap (λ (y : Option Command). id_for y (numbers_of (turn_at t s.0))) at
-            ∙ ap (λ (y : Option Out). id_for (Some had) (Rattle.r4_history.specs.Drawn.numbers_in y (turn_at t s.0).numbers)) has
+            ∙ ap (λ (y : Option Out). id_for (Some had)
+            (Rattle.r4_history.specs.Drawn.numbers_in y (turn_at t s.0).numbers)) has
             ∙ cond-true (makes_object had) (Some out.numbers.oid.0) None makes ∙ e
         | inr not ↦ absurd (cc (sym (made_none had out.numbers.oid not) ∙ ap id_of (sym same) ∙ is_x))
       ]
@@ -350,13 +377,16 @@ module _ (o : ℕ) (t : TurnsSeen) (next : ℕ) (trace : List Entry) (h : AreDra
       other q x w new lt = elim (cases_eq q s.0) [
         | inl here ↦
             cc (sym (none_for (slice_get (commands_at t s.0) turn.answered)) ∙ sym (drawn_now t s.0 turn is)
-            ∙ ap (λ (y : TurnsSeen). drawn_at y s.0) (sym to_is) ∙ ap (drawn_at (answered_one (dropped t s.0) s.0)) (sym here) ∙ w)
+            ∙ ap (λ (y : TurnsSeen). drawn_at y s.0) (sym to_is)
+            ∙ ap (drawn_at (answered_one (dropped t s.0) s.0)) (sym here) ∙ w)
         | inr there ↦
-            there (h.each q s.0 x (sym (drawn_other t s.0 turn is q there) ∙ ap (λ (y : TurnsSeen). drawn_at y q) (sym to_is) ∙ w) (mine x new) lt)
+            there (h.each q s.0 x (sym (drawn_other t s.0 turn is q there)
+            ∙ ap (λ (y : TurnsSeen). drawn_at y q) (sym to_is) ∙ w) (mine x new) lt)
       ]
 
   -- the id that is drawn is a new one
-  pub drawn_new : (start : Option Start) (s x : ℕ) → BeginsAt o start → drawn_at t s ≡ Some x → IsNewId start (Some (asked t.job)) trace x
+  pub drawn_new : (start : Option Start) (s x : ℕ) → BeginsAt o start → drawn_at t s ≡ Some x
+      → IsNewId start (Some (asked t.job)) trace x
   drawn_new start s x begins has = record {
     once = λ lt d. h.apart s x has lt d;
     free = free start begins;
@@ -375,34 +405,41 @@ module _ (o : ℕ) (t : TurnsSeen) (next : ℕ) (trace : List Entry) (h : AreDra
           let few = from_few 1 (asked t.job) (ahead_at t) in
           inl (omega (arith, w.0, e), omega (arith, w.1, few, e))
 
-  pub drawn_for : (start : Option Start) (s : ℕ) (had c : Command) (out : Out) → BeginsAt o start → IsScript t s → next_at t s ≡ Some had
+  pub drawn_for : (start : Option Start) (s : ℕ) (had c : Command) (out : Out) → BeginsAt o start → IsScript t s
+      → next_at t s ≡ Some had
       → (turn_at t s).out ≡ Some out → c ≡ with_id out.numbers.oid had → HasNewId start (asked t.job) trace c
   drawn_for start s had c out begins is at has same x is_x = elim (cases_Bool (makes_object had)) [
     | inl makes ↦
-        let e : Some out.numbers.oid.0 ≡ Some x = sym (made_id had out.numbers.oid makes) ∙ ap id_of (sym same) ∙ is_x in
+        let e : Some out.numbers.oid.0 ≡ Some x = sym (made_id had out.numbers.oid makes) ∙ ap id_of (sym same)
+        ∙ is_x in
         drawn_new start s x begins
         (drawn_was t s is.0 ∙ ap (λ (y : Option Command). id_for y (numbers_of (turn_at t s))) at
-        ∙ ap (λ (y : Option Out). id_for (Some had) (Rattle.r4_history.specs.Drawn.numbers_in y (turn_at t s).numbers)) has
+        ∙ ap (λ (y : Option Out). id_for (Some had)
+        (Rattle.r4_history.specs.Drawn.numbers_in y (turn_at t s).numbers)) has
         ∙ cond-true (makes_object had) (Some out.numbers.oid.0) None makes ∙ e)
     | inr not ↦ absurd (cc (sym (made_none had out.numbers.oid not) ∙ ap id_of (sym same) ∙ is_x))
   ]
 
   -- ---- the job grows
 
-  pub drawn_pushed : (s : ℕ) (c : Command) → IsScript t s → length t.turns ≡ length t.job.scripts → AreDrawn o (with_command t s c) next trace
+  pub drawn_pushed : (s : ℕ) (c : Command) → IsScript t s → length t.turns ≡ length t.job.scripts
+      → AreDrawn o (with_command t s c) next trace
   drawn_pushed s c is scripts =
       drawn_from o (with_command t s c) (ids_of t next) trace (asked t.job) (as_drawn o t next trace h)
       (λ q x has. back q x has)
       (grows (sym (pushed_is t s c is.0)))
       (λ q n there has. longer q (h.only_next q n there has))
     where
-      grows : pushed (asked t.job) s c ≡ asked (with_command t s c).job → makers_by (asked t.job) (ahead_at t) ≤ makers_by (asked (with_command t s c).job) (ahead_at t)
+      grows : pushed (asked t.job) s c ≡ asked (with_command t s c).job
+          → makers_by (asked t.job) (ahead_at t) ≤ makers_by (asked (with_command t s c).job) (ahead_at t)
       grows e = by_script s is.0 e
         where
-          by_script : (q : ℕ) → 0 < q → pushed (asked t.job) q c ≡ asked (with_command t s c).job → makers_by (asked t.job) (ahead_at t) ≤ makers_by (asked (with_command t s c).job) (ahead_at t)
+          by_script : (q : ℕ) → 0 < q → pushed (asked t.job) q c ≡ asked (with_command t s c).job
+              → makers_by (asked t.job) (ahead_at t) ≤ makers_by (asked (with_command t s c).job) (ahead_at t)
           by_script zero some e = absurd (omega (arith, some))
           by_script (suc n) some e =
-              subst (λ (j : Asked). makers_by (asked t.job) (ahead_at t) ≤ makers_by j (ahead_at t)) e (from_grown 1 (asked t.job) n c (ahead_at t))
+              subst (λ (j : Asked). makers_by (asked t.job) (ahead_at t) ≤ makers_by j (ahead_at t)) e
+              (from_grown 1 (asked t.job) n c (ahead_at t))
 
       longer : (q : ℕ) → HasNext t q → HasNext (with_command t s c) q
       longer q lt =
@@ -428,10 +465,12 @@ module _ (o : ℕ) (t : TurnsSeen) (next : ℕ) (trace : List Entry) (h : AreDra
           ]
 
           by : (y : Option Numbers) → numbers_of (turn_at t (suc i)) ≡ y → drawn_at t (suc i) ≡ Some x
-          by None none = absurd (none_for (next_at (with_command t s c) (suc i)) (ap (id_for (next_at (with_command t s c) (suc i))) (sym none) ∙ has))
+          by None none = absurd (none_for (next_at (with_command t s c) (suc i))
+              (ap (id_for (next_at (with_command t s c) (suc i))) (sym none) ∙ has))
           by (Some n) some =
               let lt = h.only_next (suc i) n (omega arith, in_range n some) some in
-              ap (λ (y : Option Command). id_for y (numbers_of (turn_at t (suc i)))) (sym (next_pushed t s c is scripts (suc i) lt)) ∙ has
+              ap (λ (y : Option Command). id_for y (numbers_of (turn_at t (suc i))))
+              (sym (next_pushed t s c is scripts (suc i) lt)) ∙ has
 
 -- ---- at the start
 
@@ -460,7 +499,8 @@ drawn_first o job le = record {
     none zero x e = cc e
     none (suc i) x e =
         none_for (next_at (started job) (suc i)) x
-        (ap (λ (y : Turn). id_for (next_at (started job) (suc i)) (numbers_of y)) (sym (nothing_out (length job.scripts) (suc i - 1))) ∙ e)
+        (ap (λ (y : Turn). id_for (next_at (started job) (suc i)) (numbers_of y))
+        (sym (nothing_out (length job.scripts) (suc i - 1))) ∙ e)
 
 -- the last id is drawn again and again
 pub last_stays : (c : Command) → next_after c no_id ≡ no_id

@@ -48,10 +48,13 @@ still_open old new a b f x is other =
     }
 
 module _ (w : Meaning Command Reply) (start : Option Start) (clock : ℕ) where
-  all_told : (others : List (ℕ × ℕ)) (own : ℕ) (t : Tables) (trace : List Entry) → IsTold w start clock t trace → t.broken ≡ None
-      → IsOpenAtom t.atoms own → Rise others → ((p : ℕ × ℕ) → Contains others p → IsOpenAtom t.atoms p.0 × (p.0 ≢ own)) → (after : AtomsSeen)
+  all_told : (others : List (ℕ × ℕ)) (own : ℕ) (t : Tables) (trace : List Entry) → IsTold w start clock t trace
+      → t.broken ≡ None
+      → IsOpenAtom t.atoms own → Rise others
+      → ((p : ℕ × ℕ) → Contains others p → IsOpenAtom t.atoms p.0 × (p.0 ≢ own)) → (after : AtomsSeen)
       → FusesAll t.atoms own others after → IsTold w start clock (record t { atoms = after }) (fused own others trace)
-  all_told [] own t trace h none is rise each after f = subst (λ (a : AtomsSeen). IsTold w start clock (record t { atoms = a }) trace) (sym f) h
+  all_told [] own t trace h none is rise each after f = subst
+      (λ (a : AtomsSeen). IsTold w start clock (record t { atoms = a }) trace) (sym f) h
   all_told (p ∷ rest) own t trace h none is rise each after f =
       let first = each p (cons_here p rest) in
       let kept : AtomNo = record { 0 = min own p.0 } in
@@ -60,9 +63,12 @@ module _ (w : Meaning Command Reply) (start : Option Start) (clock : ℕ) where
       let differ = first.1 in
       let less : min own p.0 < max own p.0 = omega (arith, differ) in
       let mid = f.0 in
-      let now = told_fuse w start clock t trace h kept gone node mid none (of_min (IsOpenAtom t.atoms) own p.0 is first.0) (of_max (IsOpenAtom t.atoms) own p.0 is first.0) less f.1 in
+      let now = told_fuse w start clock t trace h kept gone node mid none
+      (of_min (IsOpenAtom t.atoms) own p.0 is first.0)
+      (of_max (IsOpenAtom t.atoms) own p.0 is first.0) less f.1 in
       let stays = still_open t.atoms mid (min own p.0) (max own p.0) f.1 in
-      all_told rest (min own p.0) (record t { atoms = mid }) (Rattle.r4_trace.specs.declared.entry.Entry.TheVariants.Fuse kept gone node ∷ trace) now none
+      all_told rest (min own p.0) (record t { atoms = mid })
+      (Rattle.r4_trace.specs.declared.entry.Entry.TheVariants.Fuse kept gone node ∷ trace) now none
       (stays (min own p.0) (of_min (IsOpenAtom t.atoms) own p.0 is first.0) (λ same. omega (arith, same, less))) rise.1
       (λ q there.
       (let lt = rise.0 q there in
@@ -71,8 +77,10 @@ module _ (w : Meaning Command Reply) (start : Option Start) (clock : ℕ) where
       (stays q.0 was.0 (λ same. omega (arith, same, lt, differs)), λ same. omega (arith, same, lt, differs))))
       after f.3
 
-  pub fuses_told : (t : Tables) (trace : List Entry) → IsTold w start clock t trace → (own : ℕ) (need : Need) (others : List (ℕ × ℕ)) (atoms : AtomsSeen)
-      → t.broken ≡ None → AreOwners t.atoms → IsOpenAtom t.atoms own → AreOthers t.atoms own need others → FusesAll t.atoms own others atoms
+  pub fuses_told : (t : Tables) (trace : List Entry) → IsTold w start clock t trace
+      → (own : ℕ) (need : Need) (others : List (ℕ × ℕ)) (atoms : AtomsSeen)
+      → t.broken ≡ None → AreOwners t.atoms → IsOpenAtom t.atoms own → AreOthers t.atoms own need others
+      → FusesAll t.atoms own others atoms
       → IsTold w start clock (record t { atoms = atoms }) (fused own others trace)
   fuses_told t trace h own need others atoms none owners is are f =
       all_told others own t trace h none is are.rise
@@ -95,17 +103,21 @@ all_own : (others : List (ℕ × ℕ)) (own : ℕ) (s after : AtomsSeen) → Fus
     → ((p : ℕ × ℕ) → Contains others p → p.0 ≢ own) → (node b : ℕ) → owner_of after node ≡ Some b
     → ((c : ℕ) → owner_of s node ≡ Some c → (c ≡ own) ⊎ ((n : ℕ) × Contains others (c, n))) → b ≡ least_of own others
 all_own [] own s after f rise differ node b owned among =
-    ⊎_elim (λ e. e) (λ there. (let lt = there.1.1 in absurd (omega (arith, lt)))) (among b (ap (λ (x : AtomsSeen). owner_of x node) (sym f) ∙ owned))
+    ⊎_elim (λ e. e) (λ there. (let lt = there.1.1 in absurd (omega (arith, lt))))
+    (among b (ap (λ (x : AtomsSeen). owner_of x node) (sym f) ∙ owned))
 all_own (p ∷ rest) own s after f rise differ node b owned among =
     all_own rest (min own p.0) f.0 after f.3 rise.1
-    (λ q there. (let lt = rise.0 q there in let d = differ q (cons_later p rest q there) in λ same. omega (arith, same, lt, d))) node b owned
+    (λ q there. (let lt = rise.0 q there in let d = differ q (cons_later p rest q there) in λ same. omega
+    (arith, same, lt, d))) node b owned
     (λ c now. by (owner_of s node) refl c (sym (f.2 node) ∙ now))
   where
-    by : (o : Option ℕ) → owner_of s node ≡ o → (c : ℕ) → option_map (renamed (min own p.0) (max own p.0)) (owner_of s node) ≡ Some c
+    by : (o : Option ℕ) → owner_of s node ≡ o → (c : ℕ)
+        → option_map (renamed (min own p.0) (max own p.0)) (owner_of s node) ≡ Some c
         → (c ≡ min own p.0) ⊎ ((n : ℕ) × Contains rest (c, n))
     by None is c e = absurd (cc (sym (ap (option_map (renamed (min own p.0) (max own p.0))) is) ∙ e))
     by (Some d) is c e =
-        let now : renamed (min own p.0) (max own p.0) d ≡ c = cc (sym (ap (option_map (renamed (min own p.0) (max own p.0))) is) ∙ e) in
+        let now : renamed (min own p.0) (max own p.0) d ≡ c = cc
+        (sym (ap (option_map (renamed (min own p.0) (max own p.0))) is) ∙ e) in
         ⊎_elim
         (λ mine. inl (sym now ∙ renamed_own own p.0 d (inl mine)))
         (λ there. ⊎_elim
@@ -113,14 +125,17 @@ all_own (p ∷ rest) own s after f rise differ node b owned among =
         (λ later.
         (let lt = rise.0 (d, there.0) later in
         let unlike = differ (d, there.0) (cons_later p rest (d, there.0) later) in
-        let same : d ≡ c = sym (cond-false (d == max own p.0) (min own p.0) d (ne_eqb d (max own p.0) (λ e. omega (arith, e, lt, unlike)))) ∙ now in
+        let same : d ≡ c = sym (cond-false (d == max own p.0) (min own p.0) d
+        (ne_eqb d (max own p.0) (λ e. omega (arith, e, lt, unlike)))) ∙ now in
         inr (there.0, subst (λ (x : ℕ). Contains rest (x, there.0)) same later)))
         (cons_cases p rest (d, there.0) there.1))
         (among d is)
 
 -- after the fuses no other atom owns a node of the reach, where no sealed one did
-pub reach_is_own : (s : AtomsSeen) (own : ℕ) (need : Need) (others : List (ℕ × ℕ)) (after : AtomsSeen) → AreOthers s own need others
-    → FusesAll s own others after → ((a : ℕ) → IsSealedOwner s need a → ⊥) → (node b : ℕ) → Contains (nodes_of need) node
+pub reach_is_own : (s : AtomsSeen) (own : ℕ) (need : Need) (others : List (ℕ × ℕ)) (after : AtomsSeen)
+    → AreOthers s own need others
+    → FusesAll s own others after → ((a : ℕ) → IsSealedOwner s need a → ⊥) → (node b : ℕ)
+    → Contains (nodes_of need) node
     → owner_of after node ≡ Some b → b ≡ least_of own others
 reach_is_own s own need others after are f unsealed node b reached owned =
     all_own others own s after f are.rise (λ p there. ((are.each p.0 p.1).0 there).is_one.owner.other) node b owned
@@ -132,15 +147,18 @@ reach_is_own s own need others after are f unsealed node b reached owned =
           inr (other_is_told s own need others are c node reached had other un)
     ])
 
-all_names : (others : List (ℕ × ℕ)) (own : ℕ) (s after : AtomsSeen) → FusesAll s own others after → (txn : ℕ) → IsTxn s txn → atom_of s txn ≡ own
+all_names : (others : List (ℕ × ℕ)) (own : ℕ) (s after : AtomsSeen) → FusesAll s own others after → (txn : ℕ)
+    → IsTxn s txn → atom_of s txn ≡ own
     → atom_of after txn ≡ least_of own others
 all_names [] own s after f txn begun is = ap (λ (x : AtomsSeen). atom_of x txn) f ∙ is
 all_names (p ∷ rest) own s after f txn begun is =
     let count = fused_count s f.0 (min own p.0) (max own p.0) f.1 in
-    all_names rest (min own p.0) f.0 after f.3 txn (record { some = begun.some; within = omega (arith, begun.within, count) })
+    all_names rest (min own p.0) f.0 after f.3 txn
+    (record { some = begun.some; within = omega (arith, begun.within, count) })
     (ap (λ (y : TxnSeen). y.atom) (fused_txn s f.0 (min own p.0) (max own p.0) f.1 txn begun)
     ∙ ap (renamed (min own p.0) (max own p.0)) is ∙ renamed_own own p.0 own (inl refl))
 
-pub atom_is_least : (s : AtomsSeen) (own : ℕ) (others : List (ℕ × ℕ)) (after : AtomsSeen) → FusesAll s own others after → (txn : ℕ) → IsTxn s txn
+pub atom_is_least : (s : AtomsSeen) (own : ℕ) (others : List (ℕ × ℕ)) (after : AtomsSeen)
+    → FusesAll s own others after → (txn : ℕ) → IsTxn s txn
     → atom_of s txn ≡ own → atom_of after txn ≡ least_of own others
 atom_is_least s own others after f txn begun is = all_names others own s after f txn begun is

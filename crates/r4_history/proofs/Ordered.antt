@@ -33,7 +33,8 @@ drop_end (x ∷ cs) zero e = absurd (cc e)
 drop_end (x ∷ cs) (suc n) e = drop_end cs n e
 
 -- what stands behind the next command
-pub in_order_next : (b : Bool) (cs : List Command) (n : ℕ) (c : Command) → AreInOrder b (drop n cs) → slice_get cs n ≡ Some c
+pub in_order_next : (b : Bool) (cs : List Command) (n : ℕ) (c : Command) → AreInOrder b (drop n cs)
+    → slice_get cs n ≡ Some c
     → (now : Bool) × Turns c b now × AreInOrder now (drop (n + 1) cs)
 in_order_next b cs n c ok at =
     let e : suc n ≡ n + 1 = omega arith in
@@ -68,7 +69,8 @@ module _ (cs : List Command) where
   abbrev pub Fits : Place → Type 0
   Fits p = AreInOrder (is_inside p.within) (drop p.answered cs) × IsSingleWork p.within (slice_get cs p.answered)
 
-  begun_fits : (o : Option Command) (t n : ℕ) → slice_get cs n ≡ o → MayBegin o → AreInOrder false (drop n cs) → Fits (begun_for o t n)
+  begun_fits : (o : Option Command) (t n : ℕ) → slice_get cs n ≡ o → MayBegin o → AreInOrder false (drop n cs)
+      → Fits (begun_for o t n)
   begun_fits None t n at may ok = absurd may
   begun_fits (Some commands.Begin) t n at may ok =
       let step = in_order_next false cs n commands.Begin ok at in
@@ -78,22 +80,27 @@ module _ (cs : List Command) where
   begun_fits (Some c) t n at may ok = (ok, subst (IsSingleWork (Single t)) (sym at) tt)
 
   -- one command more is answered, which leaves the script where it is
-  passed : (p : Place) (c : Command) → slice_get cs p.answered ≡ Some c → Fits p → ((now : Bool) → Turns c (is_inside p.within) now → is_inside p.within ≡ now)
+  passed : (p : Place) (c : Command) → slice_get cs p.answered ≡ Some c → Fits p
+      → ((now : Bool) → Turns c (is_inside p.within) now → is_inside p.within ≡ now)
       → Fits (answered_at p)
   passed p c at ok stays =
       let step = in_order_next (is_inside p.within) cs p.answered c ok.0 at in (
-        subst (λ (x : Bool). AreInOrder x (drop (p.answered + 1) cs)) (sym (answered_inside p.within ∙ stays step.0 step.1)) step.2,
+        subst (λ (x : Bool). AreInOrder x (drop (p.answered + 1) cs))
+            (sym (answered_inside p.within ∙ stays step.0 step.1)) step.2,
         answered_work p.within (slice_get cs (p.answered + 1)),
       )
 
-  done_fits : (p : Place) (o : Option Command) (c : Command) → slice_get cs p.answered ≡ o → MayBeDone o c → Fits p → Fits (answered_at p)
+  done_fits : (p : Place) (o : Option Command) (c : Command) → slice_get cs p.answered ≡ o → MayBeDone o c → Fits p
+      → Fits (answered_at p)
   done_fits p None c at may ok = absurd may
   done_fits p (Some had) c at may ok = passed p had at ok (λ now. work_stays had (is_inside p.within) now may.0)
 
-  commit_fits : (p : Place) → slice_get cs p.answered ≡ Some commands.Commit → p.within ≡ Outside → Fits p → Fits (answered_at p)
+  commit_fits : (p : Place) → slice_get cs p.answered ≡ Some commands.Commit → p.within ≡ Outside → Fits p
+      → Fits (answered_at p)
   commit_fits p at out ok = passed p commands.Commit at ok (λ now t. ap is_inside out ∙ sym t.1)
 
-  refused_fits : (p : Place) (o : Option Command) (t : ℕ) → slice_get cs p.answered ≡ o → MayBeRefused None o p.within t → Fits p → Fits (answered_at p)
+  refused_fits : (p : Place) (o : Option Command) (t : ℕ) → slice_get cs p.answered ≡ o
+      → MayBeRefused None o p.within t → Fits p → Fits (answered_at p)
   refused_fits p None t at may ok = absurd may
   refused_fits p (Some commands.Begin) t at may ok = absurd may
   refused_fits p (Some commands.End) t at may ok = absurd may
@@ -125,7 +132,8 @@ module _ (cs : List Command) where
       may.1)
 
 module _ (job : Asked) (s : ℕ) (ok : AreInOrder false (commands_of job s)) where
-  pub fits : (trace : List Entry) → IsOrdered trace → IsAnswered job trace → broken_at trace ≡ None → Fits (commands_of job s) (place (commands_of job s) trace s)
+  pub fits : (trace : List Entry) → IsOrdered trace → IsAnswered job trace → broken_at trace ≡ None
+      → Fits (commands_of job s) (place (commands_of job s) trace s)
   fits [] legal ans sound = (ok, tt)
   fits (Begin u q ∷ older) legal ans sound = elim (cases_eq s q.0) [
     | inl same ↦
@@ -133,64 +141,80 @@ module _ (job : Asked) (s : ℕ) (ok : AreInOrder false (commands_of job s)) whe
         let cs = commands_of job s in
         let p = place cs older s in
         let may : (p.within ≡ Outside) × MayBegin (next_of cs p) =
-        subst (λ (x : ℕ). ((place (commands_of job x) older x).within ≡ Outside) × MayBegin (next_of (commands_of job x) (place (commands_of job x) older x))) (sym same) ans.0 in
+        subst (λ (x : ℕ). ((place (commands_of job x) older x).within ≡ Outside) × MayBegin
+        (next_of (commands_of job x) (place (commands_of job x) older x))) (sym same) ans.0 in
         subst (Fits cs) (sym (cond-true (s == q.0) (begun_at cs u.0 p) p (eq-eqb s q.0 same)))
-        (begun_fits cs (next_of cs p) u.0 p.answered refl may.1 (subst (λ (x : Within). AreInOrder (is_inside x) (drop p.answered cs)) may.0 was.0))
+        (begun_fits cs (next_of cs p) u.0 p.answered refl may.1
+        (subst (λ (x : Within). AreInOrder (is_inside x) (drop p.answered cs)) may.0 was.0))
     | inr other ↦
         let cs = commands_of job s in
         let p = place cs older s in
-        subst (Fits cs) (sym (cond-false (s == q.0) (begun_at cs u.0 p) p (ne_eqb s q.0 other))) (fits older legal.2 ans.1 sound)
+        subst (Fits cs) (sym (cond-false (s == q.0) (begun_at cs u.0 p) p (ne_eqb s q.0 other)))
+        (fits older legal.2 ans.1 sound)
   ]
   fits (Done u q i c r ∷ older) legal ans sound = elim (cases_eq s q.0) [
     | inl same ↦
         let was = fits older legal.2 ans.1 sound in
         let cs = commands_of job s in
         let p = place cs older s in
-        let may = subst (λ (x : ℕ). MayBeDone (next_of (commands_of job x) (place (commands_of job x) older x)) c) (sym same) ans.0.1 in
-        subst (Fits cs) (sym (cond-true (s == q.0) (answered_at p) p (eq-eqb s q.0 same))) (done_fits cs p (next_of cs p) c refl may was)
+        let may = subst (λ (x : ℕ). MayBeDone (next_of (commands_of job x) (place (commands_of job x) older x)) c)
+        (sym same) ans.0.1 in
+        subst (Fits cs) (sym (cond-true (s == q.0) (answered_at p) p (eq-eqb s q.0 same)))
+        (done_fits cs p (next_of cs p) c refl may was)
     | inr other ↦
         let cs = commands_of job s in
         let p = place cs older s in
-        subst (Fits cs) (sym (cond-false (s == q.0) (answered_at p) p (ne_eqb s q.0 other))) (fits older legal.2 ans.1 sound)
+        subst (Fits cs) (sym (cond-false (s == q.0) (answered_at p) p (ne_eqb s q.0 other)))
+        (fits older legal.2 ans.1 sound)
   ]
   fits (Refused u q i r ∷ older) legal ans sound = elim (cases_eq s q.0) [
     | inl same ↦
         let was = fits older legal.2 ans.1 sound in
         let cs = commands_of job s in
         let p = place cs older s in
-        let one = subst (λ (x : ℕ). MayBeRefused (broken_at older) (next_of (commands_of job x) (place (commands_of job x) older x)) (place (commands_of job x) older x).within u.0) (sym same) ans.0.1 in
+        let one = subst (λ (x : ℕ). MayBeRefused (broken_at older)
+        (next_of (commands_of job x) (place (commands_of job x) older x))
+        (place (commands_of job x) older x).within u.0) (sym same) ans.0.1 in
         let may = subst (λ (o : Option ℕ). MayBeRefused o (next_of cs p) p.within u.0) sound one in
         subst (Fits cs)
-        (sym (cond-true (s == q.0) (refused_at (broken_at older) p) p (eq-eqb s q.0 same) ∙ ap (λ (o : Option ℕ). refused_at o p) sound))
+        (sym (cond-true (s == q.0) (refused_at (broken_at older) p) p (eq-eqb s q.0 same)
+        ∙ ap (λ (o : Option ℕ). refused_at o p) sound))
         (refused_fits cs p (next_of cs p) u.0 refl may was)
     | inr other ↦
         let cs = commands_of job s in
         let p = place cs older s in
-        subst (Fits cs) (sym (cond-false (s == q.0) (refused_at (broken_at older) p) p (ne_eqb s q.0 other))) (fits older legal.2 ans.1 sound)
+        subst (Fits cs) (sym (cond-false (s == q.0) (refused_at (broken_at older) p) p (ne_eqb s q.0 other)))
+        (fits older legal.2 ans.1 sound)
   ]
   fits (Acked q u c ∷ older) legal ans sound = elim (cases_eq s q.0) [
     | inl same ↦
         let was = fits older legal.2 ans.1 sound in
         let cs = commands_of job s in
         let p = place cs older s in
-        let may = subst (λ (x : ℕ). ((place (commands_of job x) older x).within ≡ Outside) × (next_of (commands_of job x) (place (commands_of job x) older x) ≡ Some commands.Commit)) (sym same) ans.0 in
-        subst (Fits cs) (sym (cond-true (s == q.0) (answered_at p) p (eq-eqb s q.0 same))) (commit_fits cs p may.1 may.0 was)
+        let may = subst (λ (x : ℕ). ((place (commands_of job x) older x).within ≡ Outside) ×
+        (next_of (commands_of job x) (place (commands_of job x) older x) ≡ Some commands.Commit))
+        (sym same) ans.0 in
+        subst (Fits cs) (sym (cond-true (s == q.0) (answered_at p) p (eq-eqb s q.0 same)))
+        (commit_fits cs p may.1 may.0 was)
     | inr other ↦
         let cs = commands_of job s in
         let p = place cs older s in
-        subst (Fits cs) (sym (cond-false (s == q.0) (answered_at p) p (ne_eqb s q.0 other))) (fits older legal.2 ans.1 sound)
+        subst (Fits cs) (sym (cond-false (s == q.0) (answered_at p) p (ne_eqb s q.0 other)))
+        (fits older legal.2 ans.1 sound)
   ]
   fits (Ended u ∷ older) legal ans sound = elim (cases_eq s ans.0.0) [
     | inl same ↦
         let cs = commands_of job s in
         let p = place cs older s in
-        let may : EndsOf cs older s u.0 = subst (λ (x : ℕ). EndsOf (commands_of job x) older x u.0) (sym same) ans.0.1 in
+        let may : EndsOf cs older s u.0 = subst (λ (x : ℕ). EndsOf (commands_of job x) older x u.0)
+        (sym same) ans.0.1 in
         ended_fits cs p.within p.answered u.0 may (fits older legal.2 ans.1 sound)
     | inr other ↦
         let q = ans.0.0 in
         let pq = place (commands_of job q) older q in
         subst (Fits (commands_of job s))
-        (sym (others_stay job older u q s legal.2 (end_is (next_of (commands_of job q) pq) pq.within u.0 ans.0.1) other))
+        (sym (others_stay job older u q s legal.2
+        (end_is (next_of (commands_of job q) pq) pq.within u.0 ans.0.1) other))
         (fits older legal.2 ans.1 sound)
   ]
   fits (Broken c f ∷ older) legal ans sound = absurd (cc sound)
@@ -220,7 +244,8 @@ outside : (x : Command) (cs : List Command) → HasNoBegin (x ∷ cs) → (now :
 outside x cs none true turn = absurd ((no_begin x cs none).0 (turn_of x turn))
 outside x cs none false turn = refl
 
-pub in_order_pushed : (cs : List Command) (c : Command) → HasNoBegin cs → IsWork c ⊎ (c ≡ commands.Commit) → AreInOrder false cs → AreInOrder false (cs ++ c ∷ [])
+pub in_order_pushed : (cs : List Command) (c : Command) → HasNoBegin cs → IsWork c ⊎ (c ≡ commands.Commit)
+    → AreInOrder false cs → AreInOrder false (cs ++ c ∷ [])
 in_order_pushed [] c none is ok = (false, (no_turn c is, tt))
 in_order_pushed (x ∷ cs) c none is ok =
     let stays : ok.0 ≡ false = outside x cs none ok.0 ok.1.0 in

@@ -53,7 +53,8 @@ moved_with t s turn is = record {
 pub moved_on : (a b c : List Turn) (s : ℕ) (p r : Place) → Moved a b s p → Moved b c s r → Moved a c s r
 moved_on a b c s p r m n = record {
   count = n.count ∙ m.count;
-  placed = λ q. n.placed q ∙ ap (λ (x : Place). cond (q == s) r x) (m.placed q) ∙ cond_twice (q == s) r p (place_at a q);
+  placed = λ q. n.placed q ∙ ap (λ (x : Place). cond (q == s) r x) (m.placed q)
+      ∙ cond_twice (q == s) r p (place_at a q);
 }
 
 -- the turn that was set
@@ -81,7 +82,8 @@ moved_begun t s is o =
     moved_on t.turns (entered t s o).turns (answered_one (entered t s o) s).turns s
     (stood (answered_at t s) (Some o)) (stood (answered_at t s + 1) (Some o)) (moved_entered t s is o)
     (subst
-    (λ (x : Turn). Moved (entered t s o).turns (answered_one (entered t s o) s).turns s (stood (x.answered + 1) x.transaction))
+    (λ (x : Turn). Moved (entered t s o).turns (answered_one (entered t s o) s).turns s
+    (stood (x.answered + 1) x.transaction))
     now (moved_answered (entered t s o) s (is_script_with t s turn s is)))
 
 pub moved_answered_left : (t : TurnsSeen) (s : ℕ) → IsScript t s
@@ -122,17 +124,23 @@ commands_are t (suc n) some =
 -- ---- a command more
 
 -- the commands of each script, where one has a command more
-pub commands_pushed : (t : TurnsSeen) (s : ℕ) (c : Command) → IsScript t s → length t.turns ≡ length t.job.scripts → (q : ℕ)
-    → (commands_at (with_command t s c) q ≡ commands_at t q) ⊎ ((q - 1 ≡ s - 1) × (commands_at (with_command t s c) q ≡ commands_at t q ++ c ∷ []))
+pub commands_pushed : (t : TurnsSeen) (s : ℕ) (c : Command) → IsScript t s → length t.turns ≡ length t.job.scripts
+    → (q : ℕ)
+    → (commands_at (with_command t s c) q ≡ commands_at t q) ⊎
+    ((q - 1 ≡ s - 1) × (commands_at (with_command t s c) q ≡ commands_at t q ++ c ∷ []))
 commands_pushed t s c is scripts q =
     let more : Script = record { commands = commands_at t s ++ c ∷ [] } in
     elim (cases_eq (q - 1) (s - 1)) [
       | inl same ↦
-          inr (same,
-          ap (λ (k : ℕ). (get_or (set t.job.scripts (s - 1) more) k no_script).commands) same
-          ∙ ap (λ (x : Script). x.commands) (get_or-set_same t.job.scripts (s - 1) more no_script (omega (arith, is.0, is.1, scripts)))
-          ∙ ap (λ (k : ℕ). (get_or t.job.scripts k no_script).commands ++ c ∷ []) (sym same))
-      | inr other ↦ inl (ap (λ (x : Script). x.commands) (get_or-set_other t.job.scripts (s - 1) (q - 1) more no_script other))
+          inr (
+            same,
+            ap (λ (k : ℕ). (get_or (set t.job.scripts (s - 1) more) k no_script).commands) same
+                ∙ ap (λ (x : Script). x.commands)
+                (get_or-set_same t.job.scripts (s - 1) more no_script (omega (arith, is.0, is.1, scripts)))
+                ∙ ap (λ (k : ℕ). (get_or t.job.scripts k no_script).commands ++ c ∷ []) (sym same),
+          )
+      | inr other ↦ inl (ap (λ (x : Script). x.commands)
+          (get_or-set_other t.job.scripts (s - 1) (q - 1) more no_script other))
     ]
 
 got : (l : List Command) (c : Command) (i : ℕ) → i < length l → slice_get (l ++ c ∷ []) i ≡ slice_get l i
@@ -141,11 +149,13 @@ got (x ∷ l) c zero lt = refl
 got (x ∷ l) c (suc i) lt = got l c i (omega (arith, lt))
 
 -- a next command stays the next one
-pub next_pushed : (t : TurnsSeen) (s : ℕ) (c : Command) → IsScript t s → length t.turns ≡ length t.job.scripts → (q : ℕ) → HasNext t q
+pub next_pushed : (t : TurnsSeen) (s : ℕ) (c : Command) → IsScript t s → length t.turns ≡ length t.job.scripts
+    → (q : ℕ) → HasNext t q
     → next_at (with_command t s c) q ≡ next_at t q
 next_pushed t s c is scripts q lt =
     ⊎_elim (λ same. ap (λ (l : List Command). slice_get l (answered_at t q)) same)
-    (λ more. ap (λ (l : List Command). slice_get l (answered_at t q)) more.1 ∙ got (commands_at t q) c (answered_at t q) lt)
+    (λ more. ap (λ (l : List Command). slice_get l (answered_at t q)) more.1
+    ∙ got (commands_at t q) c (answered_at t q) lt)
     (commands_pushed t s c is scripts q)
 
 pub next_there : (t : TurnsSeen) (s : ℕ) (c : Command) → next_at t s ≡ Some c → HasNext t s

@@ -73,13 +73,15 @@ told_first w start clock job spare txn_spare =
 -- ---- the job grows
 
 pushed_nth : (scripts : List Script) (n : ℕ) (c : Command)
-    → map (λ (x : Script). x.commands) (set scripts n (record { commands = (get_or scripts n no_script).commands ++ c ∷ [] }))
+    → map (λ (x : Script). x.commands)
+    (set scripts n (record { commands = (get_or scripts n no_script).commands ++ c ∷ [] }))
     ≡ pushed_at (map (λ (x : Script). x.commands) scripts) n c
 pushed_nth [] n c = refl
 pushed_nth (x ∷ scripts) zero c = refl
 pushed_nth (x ∷ scripts) (suc n) c = ap (λ (l : Asked). x.commands ∷ l) (pushed_nth scripts n c)
 
-pub pushed_is : (t : Rattle.r4_turns.specs.Turns.TurnsSeen) (s : ℕ) (c : Command) → 0 < s → asked (with_command t s c).job ≡ pushed (asked t.job) s c
+pub pushed_is : (t : Rattle.r4_turns.specs.Turns.TurnsSeen) (s : ℕ) (c : Command) → 0 < s
+    → asked (with_command t s c).job ≡ pushed (asked t.job) s c
 pushed_is t zero c some = absurd (omega (arith, some))
 pushed_is t (suc n) c some =
     let e : suc n - 1 ≡ n = omega arith in
@@ -87,7 +89,8 @@ pushed_is t (suc n) c some =
     (set t.job.scripts k (record { commands = (get_or t.job.scripts k no_script).commands ++ c ∷ [] }))) e
     ∙ pushed_nth t.job.scripts n c
 
-module _ (w : Meaning Command Reply) (start : Option Start) (clock : ℕ) (t : Tables) (trace : List Entry) (h : IsTold w start clock t trace) where
+module _ (w : Meaning Command Reply) (start : Option Start) (clock : ℕ) (t : Tables) (trace : List Entry)
+    (h : IsTold w start clock t trace) where
   pub told_later : (now : ℕ) → clock ≤ now → IsTold w start now t trace
   told_later now le = record {
     legal = h.legal;
@@ -119,13 +122,15 @@ module _ (w : Meaning Command Reply) (start : Option Start) (clock : ℕ) (t : T
         broken = h.broken;
       }
 
-  pub told_out : (s : ℕ) (out : Out) → IsScript t.turns s → IsTold w start clock (record t { turns = gone_out t.turns s out }) trace
+  pub told_out : (s : ℕ) (out : Out) → IsScript t.turns s
+      → IsTold w start clock (record t { turns = gone_out t.turns s out }) trace
   told_out s out is = told_turn s (record (turn_at t.turns s) { out = Some out }) is refl
 
   pub told_dropped : (s : ℕ) → IsScript t.turns s → IsTold w start clock (record t { turns = dropped t.turns s }) trace
   told_dropped s is = told_turn s (record (turn_at t.turns s) { out = None }) is refl
 
-  pub told_back : (s : ℕ) (n : Numbers) → IsScript t.turns s → IsTold w start clock (record t { turns = given_back t.turns s n }) trace
+  pub told_back : (s : ℕ) (n : Numbers) → IsScript t.turns s
+      → IsTold w start clock (record t { turns = given_back t.turns s n }) trace
   told_back s n is = told_turn s (record (turn_at t.turns s) { out = None; numbers = Some n }) is refl
 
   pub told_pushed : (s : ℕ) (c : Command) → IsScript t.turns s → HasNoBegin (commands_at t.turns s)
@@ -137,14 +142,17 @@ module _ (w : Meaning Command Reply) (start : Option Start) (clock : ℕ) (t : T
       record {
         legal = subst (λ (j : Asked). IsLegalSoFar w start (Some j) trace) e (grown w start job trace s c few h.legal);
         time = h.time;
-        scripts = h.scripts ∙ sym (length-set t.turns.job.scripts (s - 1) (record { commands = commands_at t.turns s ++ c ∷ [] }));
-        places = λ q. h.places q ∙ sym (grown_places w start job trace s c few h.legal q) ∙ ap (λ (j : Asked). place (commands_of j q) trace q) e;
+        scripts = h.scripts ∙ sym
+            (length-set t.turns.job.scripts (s - 1) (record { commands = commands_at t.turns s ++ c ∷ [] }));
+        places = λ q. h.places q ∙ sym (grown_places w start job trace s c few h.legal q)
+            ∙ ap (λ (j : Asked). place (commands_of j q) trace q) e;
         atoms = h.atoms;
         commit = h.commit;
         broken = h.broken;
       }
 
-  told_atoms : (atoms : AtomsSeen) → atoms.txns ≡ t.atoms.txns → length atoms.atoms ≡ length t.atoms.atoms → SameFlags t.atoms atoms
+  told_atoms : (atoms : AtomsSeen) → atoms.txns ≡ t.atoms.txns → length atoms.atoms ≡ length t.atoms.atoms
+      → SameFlags t.atoms atoms
       → IsTold w start clock (record t { atoms = atoms }) trace
   told_atoms atoms txns count flags = record {
     legal = h.legal;
@@ -157,9 +165,11 @@ module _ (w : Meaning Command Reply) (start : Option Start) (clock : ℕ) (t : T
     broken = h.broken;
   }
 
-  pub told_owners : (atoms : AtomsSeen) → atoms.txns ≡ t.atoms.txns → atoms.atoms ≡ t.atoms.atoms → IsTold w start clock (record t { atoms = atoms }) trace
+  pub told_owners : (atoms : AtomsSeen) → atoms.txns ≡ t.atoms.txns → atoms.atoms ≡ t.atoms.atoms
+      → IsTold w start clock (record t { atoms = atoms }) trace
   told_owners atoms txns states =
-      let same = λ (a : ℕ). ap (λ (xs : List AtomState). get_or xs (a - 1) Rattle.r4_atoms.specs.Atoms.new_atom) states in
+      let same = λ (a : ℕ). ap
+      (λ (xs : List AtomState). get_or xs (a - 1) Rattle.r4_atoms.specs.Atoms.new_atom) states in
       told_atoms atoms txns (ap length states) (record {
         sealed = λ a is. ap (λ (x : AtomState). x.sealed) (same a);
         committed = λ a is. ap (λ (x : AtomState). x.committed) (same a);
@@ -167,7 +177,11 @@ module _ (w : Meaning Command Reply) (start : Option Start) (clock : ℕ) (t : T
         first = λ a is. inl (txn_by t.atoms atoms (ap length txns) a is);
       })
 
-  pub told_charged : (a : ℕ) (account : Account) → IsTold w start clock (record t { atoms = with_state t.atoms a (record (state_of t.atoms a) { account = account }) }) trace
+  pub told_charged : (a : ℕ) (account : Account)
+      → IsTold w start clock (record t {
+        atoms = with_state t.atoms a
+            (record (state_of t.atoms a) { account = account });
+      }) trace
   told_charged a account =
       let x : AtomState = record (state_of t.atoms a) { account = account } in
       told_atoms (with_state t.atoms a x) refl (state_count t.atoms a x) (record {
@@ -182,7 +196,8 @@ module _ (w : Meaning Command Reply) (start : Option Start) (clock : ℕ) (t : T
   pub told_legal : IsLegal w start (Some (asked t.turns.job)) trace
   told_legal = record { so_far = h.legal; closed = closed }
     where
-      by_single : (b : Bool) (n m : ℕ) → cond b (Rattle.r4_trace.specs.Job.Single n) (Rattle.r4_trace.specs.Job.Inside n) ≡ Answered m → ⊥
+      by_single : (b : Bool) (n m : ℕ)
+          → cond b (Rattle.r4_trace.specs.Job.Single n) (Rattle.r4_trace.specs.Job.Inside n) ≡ Answered m → ⊥
       by_single true n m is = cc is
       by_single false n m is = cc is
 
@@ -204,7 +219,8 @@ module _ (w : Meaning Command Reply) (start : Option Start) (clock : ℕ) (t : T
       let cs = commands_of (asked t.turns.job) s in
       let there : place cs trace s ≡ place_of (turn_at t.turns s) = sym (h.places s) ∙ place_is t.turns.turns s is.0 in
       let has : txn_in (place cs trace s).within ≡ Some o.txn.0 =
-      ap (λ (p : Place). txn_in p.within) there ∙ ap (λ (x : Option Open). txn_in (within_of x)) some ∙ by_single o.single o.txn.0 in
+      ap (λ (p : Place). txn_in p.within) there ∙ ap (λ (x : Option Open). txn_in (within_of x)) some
+      ∙ by_single o.single o.txn.0 in
       let opn = place_open cs trace o.txn.0 s h.legal.order has in
       let txn = txn_is w start clock t trace h o.txn.0 s opn in (
         txn,
@@ -212,7 +228,8 @@ module _ (w : Meaning Command Reply) (start : Option Start) (clock : ℕ) (t : T
         one_script trace o.txn.0 (txn_of t.atoms o.txn.0).script s h.legal.order (h.atoms.script o.txn.0 txn) opn.0,
       )
     where
-      by_single : (b : Bool) (n : ℕ) → txn_in (cond b (Rattle.r4_trace.specs.Job.Single n) (Rattle.r4_trace.specs.Job.Inside n)) ≡ Some n
+      by_single : (b : Bool) (n : ℕ)
+          → txn_in (cond b (Rattle.r4_trace.specs.Job.Single n) (Rattle.r4_trace.specs.Job.Inside n)) ≡ Some n
       by_single true n = refl
       by_single false n = refl
 
@@ -224,8 +241,10 @@ module _ (w : Meaning Command Reply) (start : Option Start) (clock : ℕ) (t : T
       by_broken (Some c) is = absurd (cc (h.commit.none c is, some))
       by_broken None is =
           let c = subst (λ (o : Option ℕ). IsCommitting t.atoms o trace) some (h.commit.under_way is) in
-          let s = last_is_sealed trace a c.last in
-          (record { begun = c.atom; own = h.atoms.atom a c.atom ∙ sealed_own trace a h.legal.order s }, (h.atoms.sealed a c.atom).1 s)
+          let s = last_is_sealed trace a c.last in (
+            record { begun = c.atom; own = h.atoms.atom a c.atom ∙ sealed_own trace a h.legal.order s },
+            (h.atoms.sealed a c.atom).1 s,
+          )
 
   -- ---- the end of a run
 
@@ -238,7 +257,8 @@ module _ (w : Meaning Command Reply) (start : Option Start) (clock : ℕ) (t : T
     sound = sym h.broken ∙ over.sound;
   })
     where
-      none_there : (s : ℕ) → (IsScript t.turns (suc s) → ⊥) → (turn_at t.turns (suc s) ≡ no_turn) × (commands_at t.turns (suc s) ≡ [])
+      none_there : (s : ℕ) → (IsScript t.turns (suc s) → ⊥)
+          → (turn_at t.turns (suc s) ≡ no_turn) × (commands_at t.turns (suc s) ≡ [])
       none_there s out =
           let e : suc s - 1 ≡ s = omega arith in
           let past : length t.turns.turns ≤ s = elim (Rattle.std.proofs.lemmas.Bool.cases_lt s (length t.turns.turns)) [
@@ -247,7 +267,8 @@ module _ (w : Meaning Command Reply) (start : Option Start) (clock : ℕ) (t : T
           ] in (
             ap (λ (k : ℕ). get_or t.turns.turns k no_turn) e ∙ get_or_past t.turns.turns s no_turn past,
             ap (λ (k : ℕ). (get_or t.turns.job.scripts k no_script).commands) e
-                ∙ ap (λ (x : Script). x.commands) (get_or_past t.turns.job.scripts s no_script (omega (arith, past, h.scripts))),
+                ∙ ap (λ (x : Script). x.commands)
+                (get_or_past t.turns.job.scripts s no_script (omega (arith, past, h.scripts))),
           )
 
       is_script : (s : ℕ) → IsScript t.turns (suc s) ⊎ (IsScript t.turns (suc s) → ⊥)
@@ -261,18 +282,24 @@ module _ (w : Meaning Command Reply) (start : Option Start) (clock : ℕ) (t : T
       answered (suc i) =
           ap (λ (p : Place). p.answered) (place_is t.turns.turns (suc i) (omega arith))
           ∙ ⊎_elim (λ is. (over.finished (suc i) is).answered)
-          (λ out. ap (λ (x : Turn). x.answered) (none_there i out).0 ∙ sym (ap length (none_there i out).1)) (is_script i)
+          (λ out. ap (λ (x : Turn). x.answered) (none_there i out).0 ∙ sym (ap length (none_there i out).1))
+          (is_script i)
           ∙ sym (ap length (commands_are t.turns (suc i) (omega arith)))
 
       outside : (s : ℕ) → (place_at t.turns.turns s).within ≡ Outside
       outside zero = refl
       outside (suc i) =
           ap (λ (p : Place). p.within) (place_is t.turns.turns (suc i) (omega arith))
-          ∙ ⊎_elim (λ is. ap within_of ((over.finished (suc i) is).closed over.sound)) (λ out. ap (λ (x : Turn). within_of x.transaction) (none_there i out).0) (is_script i)
+          ∙ ⊎_elim (λ is. ap within_of ((over.finished (suc i) is).closed over.sound))
+          (λ out. ap (λ (x : Turn). within_of x.transaction) (none_there i out).0) (is_script i)
 
       no_open : (n s : ℕ) → IsOpen trace n s → ⊥
       no_open n s opn =
-          cc (open_place (commands_of (asked t.turns.job) s) trace n s h.legal.order opn, ap (λ (p : Place). txn_in p.within) (sym (h.places s)) ∙ ap txn_in (outside s))
+          cc (
+            open_place (commands_of (asked t.turns.job) s) trace n s h.legal.order opn,
+            ap
+                (λ (p : Place). txn_in p.within) (sym (h.places s)) ∙ ap txn_in (outside s),
+          )
 
       closed : (a n : ℕ) → IsTxn t.atoms n → is_open_in a (txn_of t.atoms n) ≡ false
       closed a n is = false_from_ne_true (is_open_in a (txn_of t.atoms n))
@@ -280,7 +307,8 @@ module _ (w : Meaning Command Reply) (start : Option Start) (clock : ℕ) (t : T
           no_open n (txn_of t.atoms n).script
           (h.atoms.script n is, λ ends. true≢false (sym opened ∙ (h.atoms.ended n is).1 ends)))
 
-      count_none : (p : TxnSeen → Bool) (l : List TxnSeen) → ((i : ℕ) → i < length l → p (get_or l i no_txn) ≡ false) → count_by p l ≡ 0
+      count_none : (p : TxnSeen → Bool) (l : List TxnSeen) → ((i : ℕ) → i < length l → p (get_or l i no_txn) ≡ false)
+          → count_by p l ≡ 0
       count_none p [] none = refl
       count_none p (x ∷ l) none =
           let rest = count_none p l (λ i lt. none (suc i) (omega (arith, lt))) in
@@ -296,7 +324,8 @@ module _ (w : Meaning Command Reply) (start : Option Start) (clock : ℕ) (t : T
           let a = atom_of t.atoms n in
           let same = h.atoms.atom n txn in
           let there = atom_is w start clock t trace h n s b in
-          let own : atom_of t.atoms a ≡ a = h.atoms.atom a there ∙ ap (atom_in trace) same ∙ own_name trace n h.legal.order ∙ sym same in
+          let own : atom_of t.atoms a ≡ a = h.atoms.atom a there ∙ ap (atom_in trace) same
+          ∙ own_name trace n h.legal.order ∙ sym same in
           subst (IsSealed trace) same (elim (cases_Bool (is_sealed t.atoms a)) [
             | inl is ↦ (h.atoms.sealed a there).0 is
             | inr un ↦ absurd (over.no_atom a (record {

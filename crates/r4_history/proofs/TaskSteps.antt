@@ -41,7 +41,8 @@ none_stands o e is = true≢false (sym (subst IsSome e is))
 
 -- ---- holds of others
 
-others_hold : (before after : LocksSeen) (k : ℕ) (o : Out) → OthersAsBefore before after k → o.task.0 ≢ k → Holds before o → Holds after o
+others_hold : (before after : LocksSeen) (k : ℕ) (o : Out) → OthersAsBefore before after k → o.task.0 ≢ k
+    → Holds before o → Holds after o
 others_hold before after k o same other h =
     let e = same o.task.0 other in
     record {
@@ -50,18 +51,24 @@ others_hold before after k o same other h =
     }
 
 module _ (t : Tables) (s : ℕ) (turn : Turn) (is : IsScript t.turns s) where
-  out_cases : (q : ℕ) (o : Out) → IsOut (with_turn t.turns s turn) q o → ((q ≡ s) × (turn.out ≡ Some o)) ⊎ ((q ≢ s) × IsOut t.turns q o)
+  out_cases : (q : ℕ) (o : Out) → IsOut (with_turn t.turns s turn) q o
+      → ((q ≡ s) × (turn.out ≡ Some o)) ⊎ ((q ≢ s) × IsOut t.turns q o)
   out_cases q o has =
       let count = length-set t.turns.turns (s - 1) turn in
       elim (cases_eq q s) [
         | inl same ↦
-            inl (same, ap (λ (x : Turn). x.out) (sym (turn_now t.turns s turn is)) ∙ ap (λ (k : ℕ). (turn_at (with_turn t.turns s turn) k).out) (sym same) ∙ has.is_out)
+            inl (
+              same,
+              ap (λ (x : Turn). x.out) (sym (turn_now t.turns s turn is))
+                  ∙ ap (λ (k : ℕ). (turn_at (with_turn t.turns s turn) k).out) (sym same) ∙ has.is_out,
+            )
         | inr other ↦
             inr (
               other,
               record {
                 is_script = (has.is_script.0, (let le = has.is_script.1 in omega (arith, le, count)));
-                is_out = ap (λ (x : Turn). x.out) (sym (turn_other t.turns s q turn is has.is_script.0 other)) ∙ has.is_out;
+                is_out = ap (λ (x : Turn). x.out) (sym (turn_other t.turns s q turn is has.is_script.0 other))
+                    ∙ has.is_out;
               },
             )
       ]
@@ -74,7 +81,8 @@ module _ (t : Tables) (s : ℕ) (turn : Turn) (is : IsScript t.turns s) where
         is_out = ap (λ (x : Turn). x.out) (turn_other t.turns s q turn is has.is_script.0 other) ∙ has.is_out;
       }
 
-  served_other : (q : ℕ) (o : Out) → q ≢ s → 0 < q → IsServed t q o → IsServed (record t { turns = with_turn t.turns s turn }) q o
+  served_other : (q : ℕ) (o : Out) → q ≢ s → 0 < q → IsServed t q o
+      → IsServed (record t { turns = with_turn t.turns s turn }) q o
   served_other q o other some h =
       let e = turn_other t.turns s q turn is some other in
       record {
@@ -87,7 +95,8 @@ module _ (t : Tables) (s : ℕ) (turn : Turn) (is : IsScript t.turns s) where
         owners = h.owners;
       }
 
-  served_here : (o : Out) → turn.transaction ≡ (turn_at t.turns s).transaction → turn.answered ≡ answered_at t.turns s → IsServed t s o
+  served_here : (o : Out) → turn.transaction ≡ (turn_at t.turns s).transaction
+      → turn.answered ≡ answered_at t.turns s → IsServed t s o
       → IsServed (record t { turns = with_turn t.turns s turn }) s o
   served_here o open_one count h =
       let e = turn_now t.turns s turn is in
@@ -105,7 +114,8 @@ module _ (t : Tables) (s : ℕ) (turn : Turn) (is : IsScript t.turns s) where
 
 -- ---- a task goes out
 
-pub tasks_out : (t : Tables) (locks after : LocksSeen) → TasksTell t locks → (s : ℕ) (out : Out) → IsScript t.turns s → (turn_at t.turns s).out ≡ None
+pub tasks_out : (t : Tables) (locks after : LocksSeen) → TasksTell t locks → (s : ℕ) (out : Out) → IsScript t.turns s
+    → (turn_at t.turns s).out ≡ None
     → HoldsNew locks after out → IsServed t s out → TasksTell (record t { turns = gone_out t.turns s out }) after
 tasks_out t locks after h s out is free new served = record {
   held = record {
@@ -116,16 +126,27 @@ tasks_out t locks after h s out is free new served = record {
     tasks = λ k stands. elim (cases_eq k out.task.0) [
       | inl same ↦ (s, out, here_out, sym same)
       | inr other ↦
-          let was = h.held.tasks k (subst IsSome (new.others k other) stands) in
-          (was.0, was.1, out_still t s turn is was.0 was.1 (λ same. absurd (cc (sym (was.2.is_out) ∙ ap (λ (x : ℕ). (turn_at t.turns x).out) same, free))) was.2, was.3)
+          let was = h.held.tasks k (subst IsSome (new.others k other) stands) in (
+            was.0,
+            was.1,
+            out_still t s turn is was.0 was.1
+                (λ same. absurd (cc (
+                  sym (was.2.is_out)
+                      ∙ ap (λ (x : ℕ). (turn_at t.turns x).out) same,
+                  free,
+                ))) was.2,
+            was.3,
+          )
     ];
-    apart = λ q p a b has_a has_b same. apart q p a b (out_cases t s turn is q a has_a) (out_cases t s turn is p b has_b) same;
+    apart = λ q p a b has_a has_b same. apart q p a b (out_cases t s turn is q a has_a)
+        (out_cases t s turn is p b has_b) same;
   };
   served = λ q o has. ⊎_elim
       (λ here.
       (let e : out ≡ o = cc here.1 in
       subst (λ (x : ℕ). IsServed (record t { turns = with_turn t.turns s turn }) x o) (sym here.0)
-      (subst (IsServed (record t { turns = with_turn t.turns s turn }) s) e (served_here t s turn is out refl refl served))))
+      (subst (IsServed (record t { turns = with_turn t.turns s turn }) s) e
+      (served_here t s turn is out refl refl served))))
       (λ there. served_other t s turn is q o there.0 there.1.is_script.0 (h.served q o there.1))
       (out_cases t s turn is q o has);
 }
@@ -136,7 +157,11 @@ tasks_out t locks after h s out is free new served = record {
     here_out : IsOut (gone_out t.turns s out) s out
     here_out =
         let count = length-set t.turns.turns (s - 1) turn in
-        record { is_script = (is.0, (let le = is.1 in omega (arith, le, count))); is_out = ap (λ (x : Turn). x.out) (turn_now t.turns s turn is) }
+        record {
+          is_script = (is.0, (let le = is.1 in omega (arith, le, count)));
+          is_out = ap (λ (x : Turn). x.out)
+              (turn_now t.turns s turn is);
+        }
 
     unlike : (q : ℕ) (o : Out) → IsOut t.turns q o → o.task.0 ≢ out.task.0
     unlike q o has same =
@@ -146,28 +171,37 @@ tasks_out t locks after h s out is free new served = record {
     old_holds : (q : ℕ) (o : Out) → IsOut t.turns q o → Holds after o
     old_holds q o has = others_hold locks after out.task.0 o new.others (unlike q o has) (h.held.holds q o has)
 
-    apart : (q p : ℕ) (a b : Out) → ((q ≡ s) × (turn.out ≡ Some a)) ⊎ ((q ≢ s) × IsOut t.turns q a) → ((p ≡ s) × (turn.out ≡ Some b)) ⊎ ((p ≢ s) × IsOut t.turns p b)
+    apart : (q p : ℕ) (a b : Out) → ((q ≡ s) × (turn.out ≡ Some a)) ⊎ ((q ≢ s) × IsOut t.turns q a)
+        → ((p ≡ s) × (turn.out ≡ Some b)) ⊎ ((p ≢ s) × IsOut t.turns p b)
         → a.task.0 ≡ b.task.0 → q ≡ p
     apart q p a b (inl x) (inl y) same = x.0 ∙ sym y.0
-    apart q p a b (inl x) (inr y) same = let e : out ≡ a = cc x.1 in absurd (unlike p b y.1 (sym same ∙ ap (λ (o : Out). o.task.0) (sym e)))
-    apart q p a b (inr x) (inl y) same = let e : out ≡ b = cc y.1 in absurd (unlike q a x.1 (same ∙ ap (λ (o : Out). o.task.0) (sym e)))
+    apart q p a b (inl x) (inr y) same = let e : out ≡ a = cc x.1 in absurd
+        (unlike p b y.1 (sym same ∙ ap (λ (o : Out). o.task.0) (sym e)))
+    apart q p a b (inr x) (inl y) same = let e : out ≡ b = cc y.1 in absurd
+        (unlike q a x.1 (same ∙ ap (λ (o : Out). o.task.0) (sym e)))
     apart q p a b (inr x) (inr y) same = h.held.apart q p a b x.1 y.1 same
 
 -- ---- a task is out no more
 
-module _ (t : Tables) (locks after : LocksSeen) (h : TasksTell t locks) (s : ℕ) (turn : Turn) (is : IsScript t.turns s) (free : turn.out ≡ None) where
+module _ (t : Tables) (locks after : LocksSeen) (h : TasksTell t locks) (s : ℕ) (turn : Turn)
+    (is : IsScript t.turns s) (free : turn.out ≡ None) where
   there_now : (q : ℕ) (o : Out) → IsOut (with_turn t.turns s turn) q o → (q ≢ s) × IsOut t.turns q o
   there_now q o has = ⊎_elim (λ here. absurd (cc (free, here.1))) (λ there. there) (out_cases t s turn is q o has)
 
-  served_now : (q : ℕ) (o : Out) → IsOut (with_turn t.turns s turn) q o → IsServed (record t { turns = with_turn t.turns s turn }) q o
-  served_now q o has = let there = there_now q o has in served_other t s turn is q o there.0 there.1.is_script.0 (h.served q o there.1)
+  served_now : (q : ℕ) (o : Out) → IsOut (with_turn t.turns s turn) q o
+      → IsServed (record t { turns = with_turn t.turns s turn }) q o
+  served_now q o has = let there = there_now q o has in served_other t s turn is q o there.0 there.1.is_script.0
+      (h.served q o there.1)
 
-  tasks_gone : (out : Out) → (turn_at t.turns s).out ≡ Some out → task_at after out.task.0 ≡ None → OthersAsBefore locks after out.task.0
+  tasks_gone : (out : Out) → (turn_at t.turns s).out ≡ Some out → task_at after out.task.0 ≡ None
+      → OthersAsBefore locks after out.task.0
       → TasksTell (record t { turns = with_turn t.turns s turn }) after
   tasks_gone out was gone others = record {
     held = record {
       holds = λ q o has. (let there = there_now q o has in
-          others_hold locks after out.task.0 o others (λ same. there.0 (h.held.apart q s o out there.1 (record { is_script = is; is_out = was }) same)) (h.held.holds q o there.1));
+          others_hold locks after out.task.0 o others
+          (λ same. there.0 (h.held.apart q s o out there.1 (record { is_script = is; is_out = was }) same))
+          (h.held.holds q o there.1));
       tasks = λ k stands. elim (cases_eq k out.task.0) [
         | inl same ↦ absurd (none_stands (task_at after k) (ap (task_at after) same ∙ gone) stands)
         | inr other ↦
@@ -175,7 +209,8 @@ module _ (t : Tables) (locks after : LocksSeen) (h : TasksTell t locks) (s : ℕ
               had.0,
               had.1,
               out_still t s turn is had.0 had.1
-                  (λ same. (let e : had.1 ≡ out = cc (sym had.2.is_out ∙ ap (λ (x : ℕ). (turn_at t.turns x).out) same ∙ was) in
+                  (λ same. (let e : had.1 ≡ out = cc
+                  (sym had.2.is_out ∙ ap (λ (x : ℕ). (turn_at t.turns x).out) same ∙ was) in
                   absurd (other (sym had.3 ∙ ap (λ (o : Out). o.task.0) e)))) had.2,
               had.3,
             )
@@ -191,35 +226,53 @@ module _ (t : Tables) (locks after : LocksSeen) (h : TasksTell t locks) (s : ℕ
     held = record {
       holds = λ q o has. h.held.holds q o (there_now q o has).1;
       tasks = λ k stands.
-          (let had = h.held.tasks k stands in
-          (had.0, had.1, out_still t s turn is had.0 had.1 (λ same. absurd (cc (sym had.2.is_out ∙ ap (λ (x : ℕ). (turn_at t.turns x).out) same, was))) had.2, had.3));
+          (let had = h.held.tasks k stands in (
+            had.0,
+            had.1,
+            out_still t s turn is had.0 had.1
+                (λ same. absurd (cc (sym had.2.is_out ∙ ap (λ (x : ℕ). (turn_at t.turns x).out) same, was))) had.2,
+            had.3,
+          ));
       apart = λ q p a b x y same. h.held.apart q p a b (there_now q a x).1 (there_now p b y).1 same;
     };
     served = served_now;
   }
 
-pub tasks_back : (t : Tables) (locks after : LocksSeen) → TasksTell t locks → (s : ℕ) (out : Out) → IsOut t.turns s out → task_at after out.task.0 ≡ None
+pub tasks_back : (t : Tables) (locks after : LocksSeen) → TasksTell t locks → (s : ℕ) (out : Out)
+    → IsOut t.turns s out → task_at after out.task.0 ≡ None
     → OthersAsBefore locks after out.task.0 → TasksTell (record t { turns = given_back t.turns s out.numbers }) after
 tasks_back t locks after h s out is gone others =
-    tasks_gone t locks after h s (record (turn_at t.turns s) { out = None; numbers = Some out.numbers }) is.is_script refl out is.is_out gone others
+    tasks_gone t locks after h s
+    (record (turn_at t.turns s) {
+      out = None;
+      numbers =
+          Some out.numbers;
+    }) is.is_script refl out is.is_out gone others
 
-pub tasks_dropped : (t : Tables) (locks after : LocksSeen) → TasksTell t locks → (s : ℕ) (out : Out) → IsOut t.turns s out → task_at after out.task.0 ≡ None
+pub tasks_dropped : (t : Tables) (locks after : LocksSeen) → TasksTell t locks → (s : ℕ) (out : Out)
+    → IsOut t.turns s out → task_at after out.task.0 ≡ None
     → OthersAsBefore locks after out.task.0 → TasksTell (record t { turns = dropped t.turns s }) after
 tasks_dropped t locks after h s out is gone others =
     tasks_gone t locks after h s (record (turn_at t.turns s) { out = None }) is.is_script refl out is.is_out gone others
 
-pub tasks_entered : (t : Tables) (locks : LocksSeen) → TasksTell t locks → (s : ℕ) (x : Open) → IsScript t.turns s → (turn_at t.turns s).out ≡ None
+pub tasks_entered : (t : Tables) (locks : LocksSeen) → TasksTell t locks → (s : ℕ) (x : Open) → IsScript t.turns s
+    → (turn_at t.turns s).out ≡ None
     → TasksTell (record t { turns = entered t.turns s x }) locks
-tasks_entered t locks h s x is free = tasks_kept t locks locks h s (record (turn_at t.turns s) { transaction = Some x }) is free free
+tasks_entered t locks h s x is free = tasks_kept t locks locks h s
+    (record (turn_at t.turns s) { transaction = Some x }) is free free
 
-pub tasks_left : (t : Tables) (locks : LocksSeen) → TasksTell t locks → (s : ℕ) → IsScript t.turns s → (turn_at t.turns s).out ≡ None
+pub tasks_left : (t : Tables) (locks : LocksSeen) → TasksTell t locks → (s : ℕ) → IsScript t.turns s
+    → (turn_at t.turns s).out ≡ None
     → TasksTell (record t { turns = left t.turns s }) locks
-tasks_left t locks h s is free = tasks_kept t locks locks h s (record (turn_at t.turns s) { transaction = None }) is free free
+tasks_left t locks h s is free = tasks_kept t locks locks h s
+    (record (turn_at t.turns s) { transaction = None }) is free free
 
-pub tasks_answered : (t : Tables) (locks : LocksSeen) → TasksTell t locks → (s : ℕ) → IsScript t.turns s → (turn_at t.turns s).out ≡ None
+pub tasks_answered : (t : Tables) (locks : LocksSeen) → TasksTell t locks → (s : ℕ) → IsScript t.turns s
+    → (turn_at t.turns s).out ≡ None
     → TasksTell (record t { turns = answered_one t.turns s }) locks
 tasks_answered t locks h s is free =
-    tasks_kept t locks locks h s (record (turn_at t.turns s) { answered = answered_at t.turns s + 1; numbers = None }) is free free
+    tasks_kept t locks locks h s
+    (record (turn_at t.turns s) { answered = answered_at t.turns s + 1; numbers = None }) is free free
 
 -- ---- owners
 
@@ -248,15 +301,26 @@ tasks_other t locks h commit broken = record {
   held = h.held;
   served = λ s o has.
       (let v = h.served s o has in
-      record { within = v.within; transaction = v.transaction; txn = v.txn; command = v.command; next = v.next; work = v.work; owners = v.owners });
+      record {
+        within = v.within;
+        transaction = v.transaction;
+        txn = v.txn;
+        command = v.command;
+        next =
+            v.next;
+        work = v.work;
+        owners = v.owners;
+      });
 }
 
 pub tasks_pushed : (t : Tables) (locks : LocksSeen) → TasksTell t locks → (s : ℕ) (c : Command) → IsScript t.turns s
-    → length t.turns.turns ≡ length t.turns.job.scripts → TasksTell (record t { turns = with_command t.turns s c }) locks
+    → length t.turns.turns ≡ length t.turns.job.scripts
+    → TasksTell (record t { turns = with_command t.turns s c }) locks
 tasks_pushed t locks h s c is scripts = record {
   held = record {
     holds = λ q o has. h.held.holds q o (was q o has);
-    tasks = λ k stands. (let had = h.held.tasks k stands in (had.0, had.1, record { is_script = had.2.is_script; is_out = had.2.is_out }, had.3));
+    tasks = λ k stands. (let had = h.held.tasks k stands in
+        (had.0, had.1, record { is_script = had.2.is_script; is_out = had.2.is_out }, had.3));
     apart = λ q p a b x y same. h.held.apart q p a b (was q a x) (was p b y) same;
   };
   served = λ q o has.
@@ -276,13 +340,17 @@ tasks_pushed t locks h s c is scripts = record {
     was q o has = record { is_script = has.is_script; is_out = has.is_out }
 
 -- a new task that takes what it was given
-pub holds_new : (before mid after : LocksSeen) (out : Out) → task_at before out.task.0 ≡ None → OthersAsBefore before mid out.task.0 → IsNew mid out.task.0
-    → Takes mid after out.task.0 (need_of out).reads (need_of out).writes → IsTask after out.task.0 → OthersAsBefore mid after out.task.0 → HoldsNew before after out
+pub holds_new : (before mid after : LocksSeen) (out : Out) → task_at before out.task.0 ≡ None
+    → OthersAsBefore before mid out.task.0 → IsNew mid out.task.0
+    → Takes mid after out.task.0 (need_of out).reads (need_of out).writes → IsTask after out.task.0
+    → OthersAsBefore mid after out.task.0 → HoldsNew before after out
 holds_new before mid after out unused first new takes stands second = record {
   unused = unused;
   holds = record {
     stands = stands;
-    modes = λ node. takes node ∙ ap (λ (m : Option Mode). mode_with Reads (need_of out).reads node (mode_with Writes (need_of out).writes node m)) (new.empty node);
+    modes = λ node. takes node
+        ∙ ap (λ (m : Option Mode). mode_with Reads (need_of out).reads node
+        (mode_with Writes (need_of out).writes node m)) (new.empty node);
   };
   others = λ k other. second k other ∙ first k other;
 }
@@ -292,7 +360,8 @@ nothing_out zero i = refl
 nothing_out (suc n) zero = refl
 nothing_out (suc n) (suc i) = nothing_out n i
 
-pub tasks_first : (job : Job) (spare txn_spare : ℕ) (locks : LocksSeen) → locks.tasks ≡ [] → TasksTell (opened job spare txn_spare) locks
+pub tasks_first : (job : Job) (spare txn_spare : ℕ) (locks : LocksSeen) → locks.tasks ≡ []
+    → TasksTell (opened job spare txn_spare) locks
 tasks_first job spare txn_spare locks none = record {
   held = record {
     holds = λ s o is. absurd (never s o is);
@@ -306,7 +375,8 @@ tasks_first job spare txn_spare locks none = record {
     never s o is = cc (sym is.is_out ∙ ap (λ (x : Turn). x.out) (nothing_out (length job.scripts) (s - 1)))
 
     no_task : (k : ℕ) → IsTask locks k → ⊥
-    no_task k stands = true≢false (sym (subst IsSome (ap (λ (l : List (Option TaskSeen)). get_or l k None) none) stands))
+    no_task k stands = true≢false
+        (sym (subst IsSome (ap (λ (l : List (Option TaskSeen)). get_or l k None) none) stands))
 
 -- ---- holds keep tasks apart
 
@@ -314,9 +384,11 @@ named_there : (names : List NodeId) (node : ℕ) → Contains (numbers names) no
 named_there [] node c = let lt = c.1 in absurd (omega (arith, lt))
 named_there (x ∷ names) node c =
     ⊎_elim (λ here. or_left (x.0 == node) (is_named names node) (eq-eqb x.0 node here))
-    (λ later. or_right (x.0 == node) (is_named names node) (named_there names node later)) (cons_cases x.0 (numbers names) node c)
+    (λ later. or_right (x.0 == node) (is_named names node) (named_there names node later))
+    (cons_cases x.0 (numbers names) node c)
 
-written_mode : (reads writes : List NodeId) (node : ℕ) → Contains (numbers writes) node → mode_with Reads reads node (mode_with Writes writes node None) ≡ Some Writes
+written_mode : (reads writes : List NodeId) (node : ℕ) → Contains (numbers writes) node
+    → mode_with Reads reads node (mode_with Writes writes node None) ≡ Some Writes
 written_mode reads writes node there =
     let e = cond-true (is_named writes node) (Some (joined None Writes)) None (named_there writes node there) in
     ap (mode_with Reads reads node) e ∙ both (is_named reads node)
@@ -325,15 +397,18 @@ written_mode reads writes node there =
     both true = refl
     both false = refl
 
-some_mode : (reads writes : List NodeId) (node : ℕ) → Contains (numbers reads ++ numbers writes) node → mode_with Reads reads node (mode_with Writes writes node None) ≡ None → ⊥
+some_mode : (reads writes : List NodeId) (node : ℕ) → Contains (numbers reads ++ numbers writes) node
+    → mode_with Reads reads node (mode_with Writes writes node None) ≡ None → ⊥
 some_mode reads writes node there none =
     ⊎_elim
     (λ read.
-    cc (sym (cond-true (is_named reads node) (Some (joined (mode_with Writes writes node None) Reads)) (mode_with Writes writes node None) (named_there reads node read)) ∙ none))
+    cc (sym (cond-true (is_named reads node) (Some (joined (mode_with Writes writes node None) Reads))
+    (mode_with Writes writes node None) (named_there reads node read)) ∙ none))
     (λ written. cc (sym (written_mode reads writes node written) ∙ none))
     (Contains-append_cases (numbers reads) (numbers writes) node there)
 
-pub held_apart : (t : Tables) (locks : LocksSeen) → TasksTell t locks → AreHolds locks → (s q : ℕ) (a b : Out) (node : ℕ) → IsOut t.turns s a → IsOut t.turns q b → s ≢ q
+pub held_apart : (t : Tables) (locks : LocksSeen) → TasksTell t locks → AreHolds locks
+    → (s q : ℕ) (a b : Out) (node : ℕ) → IsOut t.turns s a → IsOut t.turns q b → s ≢ q
     → Contains (numbers (need_of a).writes) node → Contains (nodes_of (need_of b)) node → ⊥
 held_apart t locks h holds s q a b node is_a is_b other written reached =
     let one = (h.held.holds s a is_a).modes node ∙ written_mode (need_of a).reads (need_of a).writes node written in
@@ -342,40 +417,52 @@ held_apart t locks h holds s q a b node is_a is_b other written reached =
 
 -- ---- what the calls of the table of atoms do to owners
 
-module _ (w : Meaning Command Reply) (start : Option Start) (clock : ℕ) (t : Tables) (trace : List Entry) (h : IsTold w start clock t trace)
+module _ (w : Meaning Command Reply) (start : Option Start) (clock : ℕ) (t : Tables) (trace : List Entry)
+    (h : IsTold w start clock t trace)
     (locks : LocksSeen) (tells : TasksTell t locks) where
   -- the transaction of a task was begun
   txn_served : (s : ℕ) (out : Out) → IsOut t.turns s out → IsTxn t.atoms out.txn.0
   txn_served s out is =
       let v = tells.served s out is in
-      subst (λ (x : TxnNo). IsTxn t.atoms x.0) v.txn (open_in_both w start clock t trace h s v.within is.is_script v.transaction).0
+      subst (λ (x : TxnNo). IsTxn t.atoms x.0) v.txn
+      (open_in_both w start clock t trace h s v.within is.is_script v.transaction).0
 
   same_txns : (atoms : AtomsSeen) → atoms.txns ≡ t.atoms.txns → (n : ℕ) → atom_of atoms n ≡ atom_of t.atoms n
   same_txns atoms same n = ap (λ (l : List TxnSeen). (get_or l (n - 1) no_txn).atom) same
 
-  pub begun_follow : (atoms : AtomsSeen) (script : ℕ) → Begins t.atoms atoms script → ((n : ℕ) → owner_of atoms n ≡ owner_of t.atoms n)
+  pub begun_follow : (atoms : AtomsSeen) (script : ℕ) → Begins t.atoms atoms script
+      → ((n : ℕ) → owner_of atoms n ≡ owner_of t.atoms n)
       → TasksTell (record t { atoms = atoms }) locks
   begun_follow atoms script b same =
       tasks_owned t locks tells atoms
-      (λ s out node a is reached owned.
-      (a, sym (same node) ∙ owned, λ e. ap (λ (x : TxnSeen). x.atom) (txn_before t.atoms atoms script b h.atoms.states out.txn.0 (txn_served s out is)) ∙ e))
+      (λ s out node a is reached owned. (
+        a,
+        sym (same node) ∙ owned,
+        λ e. ap (λ (x : TxnSeen). x.atom)
+            (txn_before t.atoms atoms script b h.atoms.states out.txn.0 (txn_served s out is)) ∙ e,
+      ))
 
   pub ended_follow : (txn : ℕ) → TasksTell (record t { atoms = with_ended t.atoms txn }) locks
   ended_follow txn =
       tasks_owned t locks tells (with_ended t.atoms txn)
-      (λ s out node a is reached owned. (a, sym (same (label_of node t.atoms.captured)) ∙ owned, λ e. atom out.txn.0 ∙ e))
+      (λ s out node a is reached owned.
+      (a, sym (same (label_of node t.atoms.captured)) ∙ owned, λ e. atom out.txn.0 ∙ e))
     where
       atom : (n : ℕ) → atom_of (with_ended t.atoms txn) n ≡ atom_of t.atoms n
-      atom n = kept_by_set (λ (x : TxnSeen). x.atom) t.atoms.txns (txn - 1) (record (txn_of t.atoms txn) { is_open = false }) no_txn refl (n - 1)
+      atom n = kept_by_set (λ (x : TxnSeen). x.atom) t.atoms.txns (txn - 1)
+          (record (txn_of t.atoms txn) { is_open = false }) no_txn refl (n - 1)
 
       same : (o : Option ℕ) → owner_by (with_ended t.atoms txn) o ≡ owner_by t.atoms o
       same None = refl
       same (Some n) = ap (λ (a : ℕ). cond (is_cleaned t.atoms a) None (Some a)) (atom n)
 
   pub fused_follow : (atoms : AtomsSeen) (kept gone : ℕ) → Fuses t.atoms atoms kept gone
-      → ((n : ℕ) → owner_of atoms n ≡ option_map (renamed kept gone) (owner_of t.atoms n)) → TasksTell (record t { atoms = atoms }) locks
+      → ((n : ℕ) → owner_of atoms n ≡ option_map (renamed kept gone) (owner_of t.atoms n))
+      → TasksTell (record t { atoms = atoms }) locks
   fused_follow atoms kept gone f owners =
-      tasks_owned t locks tells atoms (λ s out node a is reached owned. by s out is node (owner_of t.atoms node) refl a (sym (owners node) ∙ owned))
+      tasks_owned t locks tells atoms
+      (λ s out node a is reached owned. by s out is node (owner_of t.atoms node) refl a
+      (sym (owners node) ∙ owned))
     where
       by : (s : ℕ) (out : Out) → IsOut t.turns s out → (node : ℕ) (o : Option ℕ) → owner_of t.atoms node ≡ o → (a : ℕ)
           → option_map (renamed kept gone) (owner_of t.atoms node) ≡ Some a
@@ -386,24 +473,29 @@ module _ (w : Meaning Command Reply) (start : Option Start) (clock : ℕ) (t : T
             b,
             had,
             λ same.
-                ap (λ (x : TxnSeen). x.atom) (fused_txn t.atoms atoms kept gone f out.txn.0 (txn_served s out is)) ∙ ap (renamed kept gone) same ∙ now,
+                ap (λ (x : TxnSeen). x.atom) (fused_txn t.atoms atoms kept gone f out.txn.0 (txn_served s out is))
+                ∙ ap (renamed kept gone) same ∙ now,
           )
 
   -- a state that keeps whether nodes are clean
-  pub state_follow : (a : ℕ) (x : AtomState) → x.cleaned ≡ (state_of t.atoms a).cleaned → TasksTell (record t { atoms = with_state t.atoms a x }) locks
+  pub state_follow : (a : ℕ) (x : AtomState) → x.cleaned ≡ (state_of t.atoms a).cleaned
+      → TasksTell (record t { atoms = with_state t.atoms a x }) locks
   state_follow a x clean =
       tasks_owned t locks tells (with_state t.atoms a x)
       (λ s out node b is reached owned. (b, sym (same (label_of node t.atoms.captured)) ∙ owned, λ e. e))
     where
       same : (o : Option ℕ) → owner_by (with_state t.atoms a x) o ≡ owner_by t.atoms o
       same None = refl
-      same (Some n) = ap (λ (c : Bool). cond c None (Some (atom_of t.atoms n))) (state_kept t.atoms a x (λ (y : AtomState). y.cleaned) clean (atom_of t.atoms n))
+      same (Some n) = ap (λ (c : Bool). cond c None (Some (atom_of t.atoms n)))
+          (state_kept t.atoms a x (λ (y : AtomState). y.cleaned) clean (atom_of t.atoms n))
 
-  pub cleaned_follow : (atoms : AtomsSeen) (atom : ℕ) → atoms.txns ≡ t.atoms.txns → ((n : ℕ) → owner_of atoms n ≡ without_owner atom (owner_of t.atoms n))
+  pub cleaned_follow : (atoms : AtomsSeen) (atom : ℕ) → atoms.txns ≡ t.atoms.txns
+      → ((n : ℕ) → owner_of atoms n ≡ without_owner atom (owner_of t.atoms n))
       → TasksTell (record t { atoms = atoms }) locks
   cleaned_follow atoms atom txns owners =
       tasks_owned t locks tells atoms
-      (λ s out node a is reached owned. (a, by (owner_of t.atoms node) a (sym (owners node) ∙ owned), λ e. same_txns atoms txns out.txn.0 ∙ e))
+      (λ s out node a is reached owned.
+      (a, by (owner_of t.atoms node) a (sym (owners node) ∙ owned), λ e. same_txns atoms txns out.txn.0 ∙ e))
     where
       by : (o : Option ℕ) (a : ℕ) → without_owner atom o ≡ Some a → o ≡ Some a
       by None a e = absurd (cc e)
@@ -414,16 +506,22 @@ module _ (w : Meaning Command Reply) (start : Option Start) (clock : ℕ) (t : T
 
   pub captured_follow : (atoms : AtomsSeen) (atom node : ℕ) → atoms.txns ≡ t.atoms.txns
       → ((n : ℕ) → owner_of atoms n ≡ cond (node == n) (Some atom) (owner_of t.atoms n))
-      → ((s : ℕ) (out : Out) → IsOut t.turns s out → Contains (nodes_of (need_of out)) node → ⊥) → TasksTell (record t { atoms = atoms }) locks
+      → ((s : ℕ) (out : Out) → IsOut t.turns s out → Contains (nodes_of (need_of out)) node → ⊥)
+      → TasksTell (record t { atoms = atoms }) locks
   captured_follow atoms atom node txns owners apart =
       tasks_owned t locks tells atoms
       (λ s out n a is reached owned.
-      (let other : node ≢ n = λ same. apart s out is (subst (Contains (nodes_of (need_of out))) (sym same) reached) in
-      (a, sym (owners n ∙ cond-false (node == n) (Some atom) (owner_of t.atoms n) (ne_eqb node n other)) ∙ owned, λ e. same_txns atoms txns out.txn.0 ∙ e)))
+      (let other : node ≢ n = λ same. apart s out is (subst (Contains (nodes_of (need_of out))) (sym same) reached) in (
+        a,
+        sym (owners n ∙ cond-false (node == n) (Some atom) (owner_of t.atoms n) (ne_eqb node n other))
+            ∙ owned,
+        λ e. same_txns atoms txns out.txn.0 ∙ e,
+      )))
 
   pub renamed_follow : (atoms : AtomsSeen) (from to : ℕ) → atoms.txns ≡ t.atoms.txns → owner_of atoms from ≡ None
       → ((n : ℕ) → n ≢ from → n ≢ to → owner_of atoms n ≡ owner_of t.atoms n)
-      → ((s : ℕ) (out : Out) → IsOut t.turns s out → Contains (nodes_of (need_of out)) to → ⊥) → TasksTell (record t { atoms = atoms }) locks
+      → ((s : ℕ) (out : Out) → IsOut t.turns s out → Contains (nodes_of (need_of out)) to → ⊥)
+      → TasksTell (record t { atoms = atoms }) locks
   renamed_follow atoms from to txns none others apart =
       tasks_owned t locks tells atoms
       (λ s out n a is reached owned.

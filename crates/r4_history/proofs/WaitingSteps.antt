@@ -71,25 +71,30 @@ every (x ∷ l) all (suc i) lt = every l all.1 i (omega (arith, lt))
 pub text_ordered : (t : TurnsSeen) → length t.turns ≡ length t.job.scripts → AreScripts t.job.scripts → AreOrdered t
 text_ordered t scripts all s is = (every t.job.scripts all.each (s - 1) (omega (arith, is.0, is.1, scripts))).1
 
-pub pushed_ordered : (t : TurnsSeen) (s : ℕ) (c : Command) → IsScript t s → length t.turns ≡ length t.job.scripts → HasNoBegin (commands_at t s)
+pub pushed_ordered : (t : TurnsSeen) (s : ℕ) (c : Command) → IsScript t s → length t.turns ≡ length t.job.scripts
+    → HasNoBegin (commands_at t s)
     → IsWork c ⊎ (c ≡ commands.Commit) → AreOrdered t → AreOrdered (with_command t s c)
 pushed_ordered t s c is scripts none plain ok q there =
     ⊎_elim (λ same. subst (AreInOrder false) (sym same) (ok q there))
     (λ more.
-      (let e : q ≡ s = (let some = is.0 in let also = there.0 in let same = more.0 in omega (arith, same, some, also)) in
-      subst (AreInOrder false) (sym (more.1 ∙ ap (λ (k : ℕ). commands_at t k ++ c ∷ []) e))
-      (in_order_pushed (commands_at t s) c none plain (ok s is))))
+    (let e : q ≡ s = (let some = is.0 in let also = there.0 in let same = more.0 in omega
+    (arith, same, some, also)) in
+    subst (AreInOrder false) (sym (more.1 ∙ ap (λ (k : ℕ). commands_at t k ++ c ∷ []) e))
+    (in_order_pushed (commands_at t s) c none plain (ok s is))))
     (commands_pushed t s c is scripts q)
 
-module _ (w : Meaning Command Reply) (start : Option Start) (clock : ℕ) (t : Tables) (trace : List Entry) (h : IsTold w start clock t trace) where
+module _ (w : Meaning Command Reply) (start : Option Start) (clock : ℕ) (t : Tables) (trace : List Entry)
+    (h : IsTold w start clock t trace) where
   -- the commit of a sealed atom that owns a node is under way
-  pub owner_commits : (need : Need) (a : ℕ) → AreOwners t.atoms → t.broken ≡ None → IsSealedOwner t.atoms need a → t.commit ≡ Some a
+  pub owner_commits : (need : Need) (a : ℕ) → AreOwners t.atoms → t.broken ≡ None → IsSealedOwner t.atoms need a
+      → t.commit ≡ Some a
   owner_commits need a owners none is =
       let o = owners is.node a is.owner in
       h.commit.one a none o.0.begun is.sealed o.1
 
   -- no `commit` stands inside of a transaction
-  pub no_commit_inside : (s : ℕ) (x : OpenTxn) → AreOrdered t.turns → IsScript t.turns s → t.broken ≡ None → (turn_at t.turns s).transaction ≡ Some x
+  pub no_commit_inside : (s : ℕ) (x : OpenTxn) → AreOrdered t.turns → IsScript t.turns s → t.broken ≡ None
+      → (turn_at t.turns s).transaction ≡ Some x
       → next_at t.turns s ≡ Some commands.Commit → ⊥
   no_commit_inside s x ordered is none some next = by x.single x.txn.0 there
     where
@@ -107,35 +112,47 @@ module _ (w : Meaning Command Reply) (start : Option Start) (clock : ℕ) (t : T
 
       there : Fits (commands_of (asked t.turns.job) s) (stood (count_at t.turns s) (Some x))
       there =
-          subst (Fits (commands_of (asked t.turns.job) s)) (place_now w start clock t trace h s (Some x) (Some commands.Commit) st)
-          (fits (asked t.turns.job) s (subst (AreInOrder false) (sym (commands_are t.turns s is.0)) (ordered s is)) trace h.legal.order h.legal.answers
+          subst (Fits (commands_of (asked t.turns.job) s))
+          (place_now w start clock t trace h s (Some x) (Some commands.Commit) st)
+          (fits (asked t.turns.job) s
+          (subst (AreInOrder false) (sym (commands_are t.turns s is.0))
+          (ordered s is)) trace h.legal.order h.legal.answers
           (sym h.broken ∙ none))
 
-      by : (b : Bool) (m : ℕ) → Fits (commands_of (asked t.turns.job) s) (record { answered = count_at t.turns s; within = cond b (Single m) (Inside m) }) → ⊥
-      by true m ok = subst (λ (o : Option Command). Rattle.r4_history.proofs.Ordered.IsSingleWork (Single m) o) following ok.1
+      by : (b : Bool) (m : ℕ) → Fits (commands_of (asked t.turns.job) s)
+          (record { answered = count_at t.turns s; within = cond b (Single m) (Inside m) }) → ⊥
+      by true m ok = subst (λ (o : Option Command). Rattle.r4_history.proofs.Ordered.IsSingleWork
+          (Single m) o) following ok.1
       by false m ok =
-          let step = in_order_next true (commands_of (asked t.turns.job) s) (count_at t.turns s) commands.Commit ok.0 following in
+          let step = in_order_next true (commands_of (asked t.turns.job) s)
+          (count_at t.turns s) commands.Commit ok.0 following in
           true≢false step.1.0
 
-  script_there : (q n : ℕ) → txn_in (place_at t.turns.turns q).within ≡ Some n → IsScript t.turns q × ((x : OpenTxn) × ((turn_at t.turns q).transaction ≡ Some x))
+  script_there : (q n : ℕ) → txn_in (place_at t.turns.turns q).within ≡ Some n
+      → IsScript t.turns q × ((x : OpenTxn) × ((turn_at t.turns q).transaction ≡ Some x))
   script_there zero n is = absurd (cc is)
   script_there (suc i) n is = elim (cases_lt i (length t.turns.turns)) [
     | inl lt ↦
         let e : i ≡ suc i - 1 = omega arith in
-        let x = some_there (get_or t.turns.turns i no_turn).transaction is in
-        ((omega arith, omega (arith, lt)), (x.0, ap (λ (k : ℕ). (get_or t.turns.turns k no_turn).transaction) (sym e) ∙ x.1))
-    | inr past ↦ absurd (cc (sym is ∙ ap (λ (x : Turn). txn_in (within_of x.transaction)) (get_or_past t.turns.turns i no_turn past)))
+        let x = some_there (get_or t.turns.turns i no_turn).transaction is in (
+          (omega arith, omega (arith, lt)),
+          (x.0, ap (λ (k : ℕ). (get_or t.turns.turns k no_turn).transaction) (sym e) ∙ x.1),
+        )
+    | inr past ↦ absurd (cc (sym is
+        ∙ ap (λ (x : Turn). txn_in (within_of x.transaction)) (get_or_past t.turns.turns i no_turn past)))
   ]
     where
       some_there : (o : Option OpenTxn) → txn_in (within_of o) ≡ Some n → (x : OpenTxn) × (o ≡ Some x)
       some_there None e = absurd (cc e)
       some_there (Some x) e = (x, refl)
 
-  module _ (locks : LocksSeen) (needs : ℕ → Option Need) (tells : TasksTell t locks) (owners : AreOwners t.atoms) (ordered : AreOrdered t.turns) where
+  module _ (locks : LocksSeen) (needs : ℕ → Option Need) (tells : TasksTell t locks) (owners : AreOwners t.atoms)
+      (ordered : AreOrdered t.turns) where
     abbrev SomeOut : Type 0
     SomeOut = (s : ℕ) × (out : Task) × IsOut t.turns s out
 
-    by_need : (need : Option Need) (why : Why) → t.broken ≡ None → t.commit ≡ None → IsInTheWayOf t.atoms locks need why → SomeOut
+    by_need : (need : Option Need) (why : Why) → t.broken ≡ None → t.commit ≡ None
+        → IsInTheWayOf t.atoms locks need why → SomeOut
     by_need None why none rest is = absurd is
     by_need (Some need) (Sealed atom) none rest is = absurd (cc (owner_commits need atom.0 owners none is, rest))
     by_need (Some need) (Held node holder) none rest is =
@@ -143,12 +160,14 @@ module _ (w : Meaning Command Reply) (start : Option Start) (clock : ℕ) (t : T
         (task.0, task.1, task.2)
     by_need (Some need) why none rest is = absurd is
 
-    by_inside : (s : ℕ) (x : OpenTxn) (o : Option Command) (why : Why) → IsScript t.turns s → (turn_at t.turns s).transaction ≡ Some x → next_at t.turns s ≡ o
+    by_inside : (s : ℕ) (x : OpenTxn) (o : Option Command) (why : Why) → IsScript t.turns s
+        → (turn_at t.turns s).transaction ≡ Some x → next_at t.turns s ≡ o
         → t.broken ≡ None → t.commit ≡ None → IsHeldUp t locks (needs s) s o why → SomeOut
     by_inside s x None why is some at none rest held = absurd held
     by_inside s x (Some commands.Begin) why is some at none rest held = absurd held
     by_inside s x (Some commands.End) why is some at none rest held = absurd held
-    by_inside s x (Some commands.Commit) why is some at none rest held = absurd (no_commit_inside s x ordered is none some at)
+    by_inside s x (Some commands.Commit) why is some at none rest held = absurd
+        (no_commit_inside s x ordered is none some at)
     by_inside s x (Some c) why is some at none rest held = by_need (needs s) why none rest held
 
     -- the script of an open transaction
@@ -156,15 +175,20 @@ module _ (w : Meaning Command Reply) (start : Option Start) (clock : ℕ) (t : T
         → ((q : ℕ) → IsScript t.turns q → IsPassedOver t locks needs q) → SomeOut
     by_open txn begun opened none rest all =
         let q = (txn_of t.atoms txn).script in
-        let opn : IsOpen trace txn q = (h.atoms.script txn begun, λ ends. true≢false (sym opened ∙ (h.atoms.ended txn begun).1 ends)) in
-        let has = ap (λ (p : Place). txn_in p.within) (h.places q) ∙ open_place (commands_of (asked t.turns.job) q) trace txn q h.legal.order opn in
+        let opn : IsOpen trace txn q =
+        (h.atoms.script txn begun, λ ends. true≢false (sym opened ∙ (h.atoms.ended txn begun).1 ends)) in
+        let has = ap (λ (p : Place). txn_in p.within) (h.places q)
+        ∙ open_place (commands_of (asked t.turns.job) q) trace txn q h.legal.order opn in
         let there = script_there q txn has in
         ⊎_elim
         (λ finished. absurd (cc (finished.closed none, there.1.1)))
-        (λ d. ⊎_elim (λ out. (q, out.0, out.1)) (λ waits. by_inside q there.1.0 (next_at t.turns q) waits.0 there.0 there.1.1 refl none rest waits.1.held_up) d)
+        (λ d. ⊎_elim (λ out. (q, out.0, out.1))
+        (λ waits. by_inside q there.1.0
+        (next_at t.turns q) waits.0 there.0 there.1.1 refl none rest waits.1.held_up) d)
         (all q there.0)
 
-    by_next : (s : ℕ) (o : Option Command) (why : Why) → t.broken ≡ None → t.commit ≡ None → ((q : ℕ) → IsScript t.turns q → IsPassedOver t locks needs q)
+    by_next : (s : ℕ) (o : Option Command) (why : Why) → t.broken ≡ None → t.commit ≡ None
+        → ((q : ℕ) → IsScript t.turns q → IsPassedOver t locks needs q)
         → IsHeldUp t locks (needs s) s o why → SomeOut
     by_next s None why none rest all held = absurd held
     by_next s (Some commands.Begin) why none rest all held = absurd held
@@ -179,9 +203,11 @@ module _ (w : Meaning Command Reply) (start : Option Start) (clock : ℕ) (t : T
     pub waits_for_something : (why : Why) → IsWaiting t locks needs why → IsAtWork t
     waits_for_something why is = by_commit t.commit refl
       where
-        by_out : (o : Option Task) → (turn_at t.turns is.script).out ≡ o → t.commit ≡ None → IsReason t locks (needs is.script) is.script o why → SomeOut
+        by_out : (o : Option Task) → (turn_at t.turns is.script).out ≡ o → t.commit ≡ None
+            → IsReason t locks (needs is.script) is.script o why → SomeOut
         by_out (Some out) some rest reason = (is.script, out, record { is_script = is.is_script; is_out = some })
-        by_out None free rest reason = by_next is.script (next_at t.turns is.script) why reason.sound rest is.all reason.held_up
+        by_out None free rest reason = by_next is.script
+            (next_at t.turns is.script) why reason.sound rest is.all reason.held_up
 
         by_commit : (o : Option ℕ) → t.commit ≡ o → IsAtWork t
         by_commit (Some a) some = inr (subst IsSome (sym some) refl)
@@ -194,7 +220,8 @@ module _ (w : Meaning Command Reply) (start : Option Start) (clock : ℕ) (t : T
     same_sealed a b one two = let e : a.0 ≡ b.0 = cc (one, two) in ap (λ (n : ℕ). Sealed (record { 0 = n })) e
 
     same_in_way : (n : Need) (x y : Why) → IsInTheWay t.atoms locks n x → IsInTheWay t.atoms locks n y → x ≡ y
-    same_in_way n (Sealed a) (Sealed b) one two = same_sealed a b (owner_commits n a.0 owners none one) (owner_commits n b.0 owners none two)
+    same_in_way n (Sealed a) (Sealed b) one two = same_sealed a b (owner_commits n a.0 owners none one)
+        (owner_commits n b.0 owners none two)
     same_in_way n (Held i k) (Held j l) one two =
         let e : (i, k) ≡ (j, l) = cc (one.1, two.1) in
         ap (λ (p : NodeId × TaskId). Held p.0 p.1) e
@@ -236,36 +263,42 @@ module _ (w : Meaning Command Reply) (start : Option Start) (clock : ℕ) (t : T
     same_of_commit s (Open a m) y one two = absurd two
     same_of_commit s x y one two = absurd one
 
-    same_held : (s : ℕ) (o : Option Command) (x y : Why) → IsHeldUp t locks need s o x → IsHeldUp t locks need s o y → x ≡ y
+    same_held : (s : ℕ) (o : Option Command) (x y : Why) → IsHeldUp t locks need s o x → IsHeldUp t locks need s o y
+        → x ≡ y
     same_held s None x y one two = absurd one
     same_held s (Some commands.Begin) x y one two = absurd one
     same_held s (Some commands.End) x y one two = absurd one
     same_held s (Some commands.Commit) x y one two = same_of_commit s x y one.1 two.1
     same_held s (Some c) x y one two = same_of need x y one two
 
-  pub one_reason : (locks : LocksSeen) (need : Option Need) (s : ℕ) (x y : Why) → AreOwners t.atoms → WaitsFor t locks need s x → WaitsFor t locks need s y → x ≡ y
+  pub one_reason : (locks : LocksSeen) (need : Option Need) (s : ℕ) (x y : Why) → AreOwners t.atoms
+      → WaitsFor t locks need s x → WaitsFor t locks need s y → x ≡ y
   one_reason locks need s x y owners one two =
       same_held locks need owners one.sound s (next_at t.turns s) x y one.held_up two.held_up
 
   -- ---- what a `commit` finds
 
-  pub all_committed : (s : ℕ) → t.broken ≡ None → t.commit ≡ None → IsUncommittedOf t.atoms s uncommitted.None → AllCommitted t.atoms s
+  pub all_committed : (s : ℕ) → t.broken ≡ None → t.commit ≡ None → IsUncommittedOf t.atoms s uncommitted.None
+      → AllCommitted t.atoms s
   all_committed s none rest nothing n begun mine = elim (cases_Bool (is_sealed t.atoms (atom_of t.atoms n))) [
     | inl sealed ↦
         let there = atom_is w start clock t trace h n (txn_of t.atoms n).script (h.atoms.script n begun) in
         let even = subst (λ (o : Option ℕ). IsCommitting t.atoms o trace) rest (h.commit.under_way none) in
         (h.atoms.committed (atom_of t.atoms n) there).1
         (⊎_elim (λ c. c) (λ late. absurd (omega (arith, late.1, even)))
-        (sealed_committed trace (atom_of t.atoms n) h.legal.order ((h.atoms.sealed (atom_of t.atoms n) there).0 sealed)))
+        (sealed_committed trace (atom_of t.atoms n) h.legal.order
+        ((h.atoms.sealed (atom_of t.atoms n) there).0 sealed)))
     | inr un ↦
         absurd (true≢false
-        (sym (and_from ((txn_of t.atoms n).script == s) (not (is_sealed t.atoms (atom_of t.atoms n))) (eq-eqb (txn_of t.atoms n).script s mine)
+        (sym (and_from ((txn_of t.atoms n).script == s) (not (is_sealed t.atoms (atom_of t.atoms n)))
+        (eq-eqb (txn_of t.atoms n).script s mine)
         (not_from_false (is_sealed t.atoms (atom_of t.atoms n)) un)) ∙ nothing n begun))
   ]
 
   -- ---- one answer
 
-  pub one_wait : (locks : LocksSeen) (needs : ℕ → Option Need) (x y : Why) → AreOwners t.atoms → IsWaiting t locks needs x → IsWaiting t locks needs y → x ≡ y
+  pub one_wait : (locks : LocksSeen) (needs : ℕ → Option Need) (x y : Why) → AreOwners t.atoms
+      → IsWaiting t locks needs x → IsWaiting t locks needs y → x ≡ y
   one_wait locks needs x y owners one two =
       same_reason two.script (turn_at t.turns two.script).out
       (subst (λ (s : ℕ). IsReason t locks (needs s) s (turn_at t.turns s).out x) same_script one.reason) two.reason
@@ -274,12 +307,14 @@ module _ (w : Meaning Command Reply) (start : Option Start) (clock : ℕ) (t : T
       same_script =
           ⊎_elim (λ e. e)
           (λ d. ⊎_elim (λ before. absurd (one.unfinished (two.first one.script one.is_script before)))
-            (λ before. absurd (two.unfinished (one.first two.script two.is_script before))) d)
+          (λ before. absurd (two.unfinished (one.first two.script two.is_script before))) d)
           (one_first t one.script two.script)
 
-      same_reason : (s : ℕ) (o : Option Task) → IsReason t locks (needs s) s o x → IsReason t locks (needs s) s o y → x ≡ y
+      same_reason : (s : ℕ) (o : Option Task) → IsReason t locks (needs s) s o x → IsReason t locks (needs s) s o y
+          → x ≡ y
       same_reason s (Some out) p q = p ∙ sym q
       same_reason s None p q = one_reason locks (needs s) s x y owners p q
 
-  pub served_or_waits : (locks : LocksSeen) (needs : ℕ → Option Need) (s : ℕ) (why : Why) → IsServedNext t locks needs s → IsWaiting t locks needs why → ⊥
+  pub served_or_waits : (locks : LocksSeen) (needs : ℕ → Option Need) (s : ℕ) (why : Why)
+      → IsServedNext t locks needs s → IsWaiting t locks needs why → ⊥
   served_or_waits locks needs s why served waits = served.goes_on (waits.all s served.is_script)

@@ -45,22 +45,40 @@ after_acked = with_answer after_settled 1
 only_one : (s : AtomsSeen) → length s.txns ≡ 1 → (n : ℕ) → IsTxn s n → n ≡ 1
 only_one s count n is = omega (arith, count, is.some, is.within)
 
-pub worked : (w : Meaning Command Reply) (clock : ℕ) (r : Reply) → (t : Tables) × IsTold w None clock t (one_trace r clock) × IsOver t
+pub worked : (w : Meaning Command Reply) (clock : ℕ) (r : Reply)
+    → (t : Tables) × IsTold w None clock t (one_trace r clock) × IsOver t
 worked w clock r =
     let t0 = told_first w None clock one_job 0 0 in
     let t1 = told_single w None clock at_first [] t0 first_txn first_script look after_begin.atoms refl
-    (record { is_script = (omega arith, omega arith); transaction = refl; next = refl }) tt (record { txns = refl; atoms = refl }) refl in
-    let t2 = told_done_single w None clock after_begin (Begin first_txn first_script ∷ []) t1 first_txn first_script 1 look look r refl
-    (record { is_script = (omega arith, omega arith); transaction = refl; next = refl }) tt refl refl (λ b is. absurd (cc is)) (λ x is. absurd (cc is)) in
-    let t3 = told_sealed w None clock after_done (Ended first_txn ∷ Done first_txn first_script 1 look r ∷ Begin first_txn first_script ∷ []) t2 first_atom refl refl
-    (record { atom = record { begun = record { some = omega arith; within = omega arith }; own = refl }; unsealed = refl })
-    (λ n is. false≢true (ap (λ (k : ℕ). (Rattle.r4_atoms.specs.Atoms.txn_of after_done.atoms k).is_open) (sym (only_one after_done.atoms refl n is.begun)) ∙ is.opened)) in
-    let t4 = told_committed w None clock after_sealed (Sealed first_atom ∷ Ended first_txn ∷ Done first_txn first_script 1 look r ∷ Begin first_txn first_script ∷ []) t3 first_atom clock refl refl refl (omega arith) in
-    let t5 = told_settled w None clock after_committed (Committed first_atom clock ∷ Sealed first_atom ∷ Ended first_txn ∷ Done first_txn first_script 1 look r ∷ Begin first_txn first_script ∷ []) t4 1 refl refl refl in
-    let t6 = told_acked w None clock after_settled (Committed first_atom clock ∷ Sealed first_atom ∷ Ended first_txn ∷ Done first_txn first_script 1 look r ∷ Begin first_txn first_script ∷ []) t5 first_script first_txn refl
+    (record { is_script = (omega arith, omega arith); transaction = refl; next = refl }) tt
+    (record { txns = refl; atoms = refl }) refl in
+    let t2 = told_done_single w None clock after_begin
+    (Begin first_txn first_script ∷ []) t1 first_txn first_script 1 look look r refl
+    (record { is_script = (omega arith, omega arith); transaction = refl; next = refl }) tt refl refl
+    (λ b is. absurd (cc is)) (λ x is. absurd (cc is)) in
+    let t3 = told_sealed w None clock after_done
+    (Ended first_txn ∷ Done first_txn first_script 1 look r ∷ Begin first_txn first_script ∷ []) t2 first_atom refl refl
+    (record {
+      atom = record { begun = record { some = omega arith; within = omega arith }; own = refl };
+      unsealed =
+          refl;
+    })
+    (λ n is. false≢true (ap (λ (k : ℕ). (Rattle.r4_atoms.specs.Atoms.txn_of after_done.atoms k).is_open)
+    (sym (only_one after_done.atoms refl n is.begun)) ∙ is.opened)) in
+    let t4 = told_committed w None clock after_sealed
+    (Sealed first_atom ∷ Ended first_txn ∷ Done first_txn first_script 1 look r ∷ Begin first_txn first_script ∷ []) t3 first_atom clock refl refl refl (omega arith) in
+    let t5 = told_settled w None clock after_committed
+    (Committed first_atom clock ∷ Sealed first_atom ∷ Ended first_txn ∷ Done first_txn first_script 1 look r ∷ Begin first_txn first_script ∷ []) t4 1 refl refl refl in
+    let t6 = told_acked w None clock after_settled
+    (Committed first_atom clock ∷ Sealed first_atom ∷ Ended first_txn ∷ Done first_txn first_script 1 look r ∷ Begin first_txn first_script ∷ []) t5 first_script first_txn refl
     (record { is_script = (omega arith, omega arith); transaction = refl; next = refl })
-    (record { is_one = λ other. (record { some = omega arith; within = omega arith }, refl); no_later = λ n is mine. (let e = only_one after_settled.atoms refl n is in omega (arith, e)) })
-    (λ n is mine. ap (λ (k : ℕ). Rattle.r4_atoms.specs.Atoms.is_committed after_settled.atoms (Rattle.r4_atoms.specs.Atoms.atom_of after_settled.atoms k)) (only_one after_settled.atoms refl n is)) in (
+    (record {
+      is_one = λ other. (record { some = omega arith; within = omega arith }, refl);
+      no_later = λ n is mine.
+          (let e = only_one after_settled.atoms refl n is in omega (arith, e));
+    })
+    (λ n is mine. ap (λ (k : ℕ). Rattle.r4_atoms.specs.Atoms.is_committed after_settled.atoms
+    (Rattle.r4_atoms.specs.Atoms.atom_of after_settled.atoms k)) (only_one after_settled.atoms refl n is)) in (
       after_acked,
       t6,
       record {
@@ -73,4 +91,5 @@ worked w clock r =
     )
   where
     finished : (s : ℕ) → s ≡ 1 → Rattle.r4_history.specs.Tables.IsFinished after_acked s
-    finished s e = subst (Rattle.r4_history.specs.Tables.IsFinished after_acked) (sym e) (record { answered = refl; closed = λ q. refl })
+    finished s e = subst (Rattle.r4_history.specs.Tables.IsFinished after_acked) (sym e)
+        (record { answered = refl; closed = λ q. refl })
