@@ -12,9 +12,12 @@ use Rattle.r4_content.specs.declared.command.Command.{Command}
 use Rattle.r4_content.specs.declared.reply.Reply.{Reply}
 use Rattle.r4_trace.specs.Ids.{Start}
 use Rattle.r4_trace.specs.declared.entry.Entry.{Entry}
-use Rattle.r4_history.specs.Held.{AreOwners, Need, nodes_of}
+use Rattle.r4_trace.specs.Job.{IsWork}
+use Rattle.r4_turns.specs.declared.out.Out.{Out}
+use Rattle.r4_turns.specs.declared.turn.Open.{Open}
+use Rattle.r4_history.specs.Held.{AreOwners, IsServed, Need, need_of, nodes_of}
 use Rattle.r4_history.specs.Serving.{AreOthers, FusesAll, IsSealedOwner, Rise, fused, least_of}
-use Rattle.r4_history.specs.Tables.{Fuses, Tables}
+use Rattle.r4_history.specs.Tables.{Fuses, Stands, Tables}
 use Rattle.r4_history.specs.Told.{IsTold}
 use Rattle.r4_history.proofs.AtomSteps.{fused_count, fused_states, fused_txn}
 use Rattle.r4_history.proofs.ServingSteps.{cons_cases, cons_here, cons_later, other_is_told}
@@ -162,3 +165,21 @@ pub atom_is_least : (s : AtomsSeen) (own : ℕ) (others : List (ℕ × ℕ)) (af
     → FusesAll s own others after → (txn : ℕ) → IsTxn s txn
     → atom_of s txn ≡ own → atom_of after txn ≡ least_of own others
 atom_is_least s own others after f txn begun is = all_names others own s after f txn begun is
+
+-- a command that goes out behind the fuses
+pub served_behind : (t : Tables) (s : ℕ) (within : Open) (c : Command) (out : Out) (others : List (ℕ × ℕ)) (after : AtomsSeen)
+    → Stands t.turns s (Some within) (Some c) → IsWork c → within.txn ≡ out.txn → IsTxn t.atoms out.txn.0
+    → AreOthers t.atoms (atom_of t.atoms out.txn.0) (need_of out) others
+    → FusesAll t.atoms (atom_of t.atoms out.txn.0) others after → ((a : ℕ) → IsSealedOwner t.atoms (need_of out) a → ⊥)
+    → IsServed (record t { atoms = after }) s out
+served_behind t s within c out others after st work txn begun are f unsealed = record {
+  within = within;
+  transaction = st.transaction;
+  txn = txn;
+  command = c;
+  next = st.next;
+  work = work;
+  owners = λ node a reached owned.
+      reach_is_own t.atoms (atom_of t.atoms out.txn.0) (need_of out) others after are f unsealed node a reached owned
+      ∙ sym (atom_is_least t.atoms (atom_of t.atoms out.txn.0) others after f out.txn.0 begun refl);
+}

@@ -8,10 +8,13 @@ ghost use Rattle.r4_content.specs.declared.reply.Reply.{Reply};
 ghost use Rattle.r4_locks.specs.Locks.{LocksSeen};
 ghost use Rattle.r4_trace.specs.Ids.{Start};
 ghost use Rattle.r4_trace.specs.declared.entry.Entry.{Entry};
+ghost use Rattle.r4_trace.specs.Job.{IsWork};
 ghost use Rattle.r4_turns.specs.Turns.{IsScript, answered_at};
-ghost use Rattle.r4_history.specs.Held.{AreOwners, Need, nodes_of};
+ghost use Rattle.r4_turns.specs.declared.out.Out.{Out};
+ghost use Rattle.r4_turns.specs.declared.turn.Open.{Open};
+ghost use Rattle.r4_history.specs.Held.{AreOwners, IsServed, Need, need_of, nodes_of};
 ghost use Rattle.r4_history.specs.Serving.{AreOthers, FusesAll, IsPassedOver, IsSealedOwner, IsServedNext, fused, least_of};
-ghost use Rattle.r4_history.specs.Tables.{Tables};
+ghost use Rattle.r4_history.specs.Tables.{Stands, Tables};
 ghost use Rattle.r4_history.specs.Told.{IsTold};
 
 /// At most one script is the next to be served. One that has fewer answered commands and can be
@@ -46,7 +49,7 @@ pub fn others_are_exact()
 
 /// The atom of a command fuses with all of them, one after the other: the entries may follow, and
 /// tables and trace go on alike. After that no other atom owns a node of its reach, where no sealed
-/// one did.
+/// one did; so a task that goes out then is served.
 pub fn commands_fuse_atoms()
     ensures told { (w : Meaning Command Reply) (start : Option Start) (clock : ℕ) (t : Tables)
         (trace : List Entry) → IsTold w start clock t trace → (own : ℕ) (need : Need)
@@ -62,4 +65,11 @@ pub fn commands_fuse_atoms()
     ensures atom { (s : AtomsSeen) (own : ℕ) (others : List (ℕ × ℕ)) (after : AtomsSeen)
         → FusesAll s own others after → (txn : ℕ) → IsBegun s txn → atom_of s txn ≡ own
         → atom_of after txn ≡ least_of own others }
+    ensures served { (t : Tables) (s : ℕ) (within : Open) (c : Command) (out : Out)
+        (others : List (ℕ × ℕ)) (after : AtomsSeen) → Stands t.turns s (Some within) (Some c)
+        → IsWork c → within.txn ≡ out.txn → IsBegun t.atoms out.txn.0
+        → AreOthers t.atoms (atom_of t.atoms out.txn.0) (need_of out) others
+        → FusesAll t.atoms (atom_of t.atoms out.txn.0) others after
+        → ((a : ℕ) → IsSealedOwner t.atoms (need_of out) a → ⊥)
+        → IsServed (record t { atoms = after }) s out }
 {}
