@@ -1,8 +1,8 @@
 -- The table of atoms goes on telling the trace.
-use Rattle.std.proofs.Common.{◌≡◌, ◌⊎◌, inl, inr, ⊎_elim, ℕ, zero, suc, ◌+◌, ◌-◌, ◌<◌, ◌≤◌, ◌==◌, Bool, true, false, true≢false, cond, List, [], ◌∷◌, ◌++◌, map, length, get_or, set, Option, Some, None, refl, sym, ◌∙◌, ap, subst, arith}
+use Rattle.std.proofs.Common.{◌≡◌, ◌⊎◌, inl, inr, ⊎_elim, ℕ, zero, suc, ◌+◌, ◌-◌, ◌<◌, ◌≤◌, ◌==◌, Bool, true, false, true≢false, List, [], ◌∷◌, length, get_or, set, Some, refl, sym, ◌∙◌, ap, subst, arith}
 use Rattle.std.proofs.lemmas.Bool.{cases_eq, cond-true, cond-false, eq-eqb, ne_eqb}
 use Rattle.std.proofs.lemmas.List.{get_or-set_same, get_or-set_other, get_or_append_left, get_or_push, get_or-map, length-set, length-map, length_push}
-use Rattle.r4_atoms.specs.Atoms.{AtomsSeen, IsBegun as IsTxn, TxnSeen, atom_of, is_cleaned, is_committed, is_sealed, joined, new_atom, new_txn, no_account, no_txn, renamed_txn, state_of, sum_of, txn_of, with_account, with_state}
+use Rattle.r4_atoms.specs.Atoms.{AtomsSeen, IsBegun as IsTxn, TxnSeen, is_cleaned, is_committed, is_sealed, joined, new_atom, new_txn, no_account, no_txn, renamed_txn, state_of, sum_of, txn_of, with_account, with_state}
 use Rattle.r4_atoms.specs.declared.things.Account.{Account}
 use Rattle.r4_atoms.specs.declared.things.AtomState.{AtomState}
 use Rattle.r4_base.specs.declared.things.AtomNo.{AtomNo}
@@ -12,7 +12,7 @@ use Rattle.r4_base.specs.declared.things.TxnNo.{TxnNo}
 use Rattle.r4_content.specs.declared.command.Command.{Command}
 use Rattle.r4_content.specs.declared.reply.Reply.{Reply}
 use Rattle.r4_trace.specs.Order.{IsOrdered}
-use Rattle.r4_trace.specs.Traced.{IsCommitted, IsEnded, IsSealed, IsBegun, begun_in, committed_in, last_of, last_sealed, renamed_atom, atom_in}
+use Rattle.r4_trace.specs.Traced.{IsCommitted, IsSealed, IsBegun, begun_in, committed_in, last_of, last_sealed, renamed_atom, atom_in}
 use Rattle.r4_trace.specs.declared.entry.Entry.{Entry}
 use Rattle.r4_trace.specs.declared.entry.Entry.TheVariants.{Begin, Fuse, Done, Refused, Ended, Sealed, Committed, Acked, Broken}
 use Rattle.r4_trace.proofs.FirstOnes.{begun_le, committed_first, ended_le, first_sealed, new_atom as own_atom, sealed_begun}

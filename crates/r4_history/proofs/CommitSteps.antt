@@ -1,9 +1,9 @@
 -- What is told of the commit that is under way, where it goes on unchanged.
-use Rattle.std.proofs.Common.{◌≡◌, ◌⊎◌, inl, inr, ⊎_elim, ℕ, ◌+◌, Bool, true, false, true≢false, cond, List, ◌∷◌, Option, Some, None, sym, ◌∙◌, ap}
-use Rattle.r4_atoms.specs.Atoms.{AtomsSeen, IsBegun as IsTxn, is_cleaned, is_committed, is_sealed}
+use Rattle.std.proofs.Common.{◌≡◌, ⊎_elim, ℕ, ◌+◌, Bool, true≢false, cond, List, Option, Some, None, sym, ◌∙◌, ap}
+use Rattle.r4_atoms.specs.Atoms.{AtomsSeen, IsBegun as IsTxn, is_committed}
 use Rattle.r4_trace.specs.Traced.{committed_in, last_sealed, sealed_in}
 use Rattle.r4_trace.specs.declared.entry.Entry.{Entry}
-use Rattle.r4_history.specs.Told.{CommitTells, IsCommitting, IsUnderWay}
+use Rattle.r4_history.specs.Told.{CommitTells, IsCommitting}
 use Rattle.r4_history.proofs.AtomSteps.{SameFlags}
 
 -- The two traces say the same of seals and commits.

@@ -7,9 +7,8 @@ use Rattle.r4_base.specs.declared.things.ScriptNo.{ScriptNo}
 use Rattle.r4_base.specs.declared.things.TxnNo.{TxnNo}
 use Rattle.r4_trace.specs.declared.entry.Entry.{Entry}
 use Rattle.r4_trace.specs.declared.entry.Entry.TheVariants.{Done}
-use Rattle.r4_content.specs.Fields.{IsUnused}
-use Rattle.r4_trace.specs.Ids.{IsDrawn, IsNewId, Start, id_of, makers, makers_in, one_for, no_id}
-use Rattle.r4_trace.specs.Job.{Asked, commands_at, commands_of, pushed, pushed_at}
+use Rattle.r4_trace.specs.Ids.{IsDrawn, id_of, makers, makers_in, one_for, no_id}
+use Rattle.r4_trace.specs.Job.{Asked, commands_at, commands_of, pushed_at}
 use Rattle.r4_history.specs.Drawn.{makers_by, makers_from}
 
 abbrev pub raised : (ℕ → ℕ) → (script : ℕ) → ℕ → ℕ

@@ -1,7 +1,7 @@
 -- What the turns say of ids, step by step.
-use Rattle.std.proofs.Common.{◌≡◌, ◌⊎◌, inl, inr, ⊎_elim, ℕ, zero, suc, ◌+◌, ◌-◌, ◌<◌, ◌≤◌, ◌==◌, Bool, true, false, true≢false, cond, min, List, [], ◌∷◌, ◌++◌, length, replicate, get_or, set, slice_get, take, Option, Some, None, refl, sym, ◌∙◌, ap, subst, arith}
+use Rattle.std.proofs.Common.{◌≡◌, inl, inr, ⊎_elim, ℕ, zero, suc, ◌+◌, ◌-◌, ◌<◌, ◌≤◌, ◌==◌, Bool, true, false, true≢false, cond, min, List, [], ◌∷◌, length, replicate, get_or, slice_get, Option, Some, None, refl, sym, ◌∙◌, ap, subst, arith}
 use Rattle.std.proofs.lemmas.Bool.{cases_Bool, cases_eq, cases_lt, cond-false, cond-true, eq-eqb, false≢true, ne_eqb}
-use Rattle.std.proofs.lemmas.List.{get_or-set_other, get_or-set_same, get_or_append_left, length-set, length-append, set-set}
+use Rattle.std.proofs.lemmas.List.{get_or-set_other, length-set, length-append, set-set, get_or_past}
 use Rattle.r4_base.specs.declared.things.Oid.{Oid}
 use Rattle.r4_base.specs.declared.things.ScriptNo.{ScriptNo}
 use Rattle.r4_base.specs.declared.things.TxnNo.{TxnNo}
@@ -10,20 +10,19 @@ use Rattle.r4_content.specs.declared.command.Command.{Command}
 use Rattle.r4_content.specs.declared.command.Command.TheVariants as commands
 use Rattle.r4_content.specs.declared.reply.Reply.{Reply}
 use Rattle.r4_script.specs.declared.job.Job.{Job}
-use Rattle.r4_script.specs.declared.job.Script.{Script}
-use Rattle.r4_trace.specs.Ids.{IsDrawn, IsFree, IsInBounds, IsNewId, Start, id_of, makers, no_id}
+use Rattle.r4_trace.specs.Ids.{IsDrawn, IsFree, IsInBounds, IsNewId, Start, id_of, no_id}
 use Rattle.r4_trace.specs.Job.{Asked, commands_of, pushed}
 use Rattle.r4_trace.specs.declared.entry.Entry.{Entry}
 use Rattle.r4_trace.specs.declared.entry.Entry.TheVariants.{Done}
-use Rattle.r4_turns.specs.Turns.{HasNext, IsScript, TurnsSeen, answered_at, answered_one, commands_at, dropped, entered, given_back, gone_out, left, no_script, start as no_turn, started, turn_at, with_command, with_turn}
+use Rattle.r4_turns.specs.Turns.{HasNext, IsScript, TurnsSeen, answered_at, answered_one, commands_at, dropped, entered, given_back, gone_out, left, start as no_turn, started, turn_at, with_command, with_turn}
 use Rattle.r4_turns.specs.declared.out.Numbers.{Numbers}
 use Rattle.r4_turns.specs.declared.out.Out.{Out}
 use Rattle.r4_turns.specs.declared.turn.Open.{Open}
 use Rattle.r4_turns.specs.declared.turn.Turn.{Turn}
 use Rattle.r4_history.specs.Tables.{asked, next_at}
 use Rattle.r4_history.specs.Told.{HasNewId}
-use Rattle.r4_history.specs.Drawn.{AreDrawn, BeginsAt, GetsNumbers, IsNoDone, ahead_at, ahead_by, drawn_at, id_for, makers_by, makers_from, next_after, numbers_of}
-use Rattle.r4_history.proofs.Drawing.{Drawn, Ids, draw, drawn_by, drawn_on, done_on, from_few, from_grown, from_mono, raised, used_by}
+use Rattle.r4_history.specs.Drawn.{AreDrawn, BeginsAt, GetsNumbers, IsNoDone, ahead_at, ahead_by, drawn_at, id_for, makers_by, next_after, numbers_of, numbers_in}
+use Rattle.r4_history.proofs.Drawing.{Drawn, Ids, draw, drawn_on, from_few, from_grown, from_mono, raised}
 use Rattle.r4_history.proofs.Places.{commands_are, commands_pushed, next_pushed, next_there, turn_now}
 use Rattle.r4_history.proofs.RunSteps.{pushed_is}
 
@@ -280,7 +279,7 @@ module _ (o : ℕ) (t : TurnsSeen) (next : ℕ) (trace : List Entry) (h : AreDra
       → AreDrawn o (given_back t s out.numbers) next trace
   drawn_back s out is has =
       drawn_same s (record (turn_at t s) { out = None; numbers = Some out.numbers }) is refl
-      (ap (λ (x : Option Out). Rattle.r4_history.specs.Drawn.numbers_in x (turn_at t s).numbers) (sym has))
+      (ap (λ (x : Option Out). numbers_in x (turn_at t s).numbers) (sym has))
 
   pub drawn_entered : (s : ℕ) (x : Open) → IsScript t s → AreDrawn o (entered t s x) next trace
   drawn_entered s x is = drawn_same s (record (turn_at t s) { transaction = Some x }) is refl refl
@@ -293,7 +292,7 @@ module _ (o : ℕ) (t : TurnsSeen) (next : ℕ) (trace : List Entry) (h : AreDra
   pub drawn_answered : (s : ℕ) → IsScript t s → (turn_at t s).out ≡ None → AreDrawn o (answered_one t s) next trace
   drawn_answered s is free =
       drawn_without s (record (turn_at t s) { answered = answered_at t s + 1; numbers = None }) is refl
-      (ap (λ (x : Option Out). Rattle.r4_history.specs.Drawn.numbers_in x None) free)
+      (ap (λ (x : Option Out). numbers_in x None) free)
 
   -- where its task was out
   pub drawn_dropped : (s : ℕ) → IsScript t s → AreDrawn o (answered_one (dropped t s) s) next trace
@@ -351,7 +350,7 @@ module _ (o : ℕ) (t : TurnsSeen) (next : ℕ) (trace : List Entry) (h : AreDra
             ∙ is_x in
             drawn_was t s.0 is.0 ∙ ap (λ (y : Option Command). id_for y (numbers_of (turn_at t s.0))) at
             ∙ ap (λ (y : Option Out). id_for (Some had)
-            (Rattle.r4_history.specs.Drawn.numbers_in y (turn_at t s.0).numbers)) has
+            (numbers_in y (turn_at t s.0).numbers)) has
             ∙ cond-true (makes_object had) (Some out.numbers.oid.0) None makes ∙ e
         | inr not ↦ absurd (cc (sym (made_none had out.numbers.oid not) ∙ ap id_of (sym same) ∙ is_x))
       ]
@@ -415,7 +414,7 @@ module _ (o : ℕ) (t : TurnsSeen) (next : ℕ) (trace : List Entry) (h : AreDra
         drawn_new start s x begins
         (drawn_was t s is.0 ∙ ap (λ (y : Option Command). id_for y (numbers_of (turn_at t s))) at
         ∙ ap (λ (y : Option Out). id_for (Some had)
-        (Rattle.r4_history.specs.Drawn.numbers_in y (turn_at t s).numbers)) has
+        (numbers_in y (turn_at t s).numbers)) has
         ∙ cond-true (makes_object had) (Some out.numbers.oid.0) None makes ∙ e)
     | inr not ↦ absurd (cc (sym (made_none had out.numbers.oid not) ∙ ap id_of (sym same) ∙ is_x))
   ]
@@ -461,7 +460,7 @@ module _ (o : ℕ) (t : TurnsSeen) (next : ℕ) (trace : List Entry) (h : AreDra
             | inr past ↦
                 let e : suc i - 1 ≡ i = omega arith in
                 absurd (cc (sym some ∙ ap (λ (k : ℕ). numbers_of (get_or t.turns k no_turn)) e
-                ∙ ap numbers_of (Rattle.std.proofs.lemmas.List.get_or_past t.turns i no_turn past)))
+                ∙ ap numbers_of (get_or_past t.turns i no_turn past)))
           ]
 
           by : (y : Option Numbers) → numbers_of (turn_at t (suc i)) ≡ y → drawn_at t (suc i) ≡ Some x

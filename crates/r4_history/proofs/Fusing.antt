@@ -1,8 +1,8 @@
 -- The atom of a command fuses with all others that own a node of its reach.
-use Rattle.std.proofs.Common.{◌≡◌, ◌≢◌, ◌⊎◌, inl, inr, ⊎_elim, ℕ, zero, suc, ◌+◌, ◌-◌, ◌<◌, ◌≤◌, ◌==◌, min, max, Bool, true, false, cond, List, [], ◌∷◌, length, Option, Some, None, refl, sym, ◌∙◌, ap, subst, arith, Contains}
+use Rattle.std.proofs.Common.{◌≡◌, ◌≢◌, ◌⊎◌, inl, inr, ⊎_elim, ℕ, ◌<◌, ◌==◌, min, max, false, List, [], ◌∷◌, Option, Some, None, refl, sym, ◌∙◌, ap, subst, arith, Contains}
 use Rattle.std.specs.Option.{option_map}
-use Rattle.std.proofs.lemmas.Bool.{cases_eq, cases_lt, cond-false, cond-true, eq-eqb, ne_eqb}
-use Rattle.r4_atoms.specs.Atoms.{AtomsSeen, IsAtom, IsBegun as IsTxn, IsOpenAtom, TxnSeen, atom_of, is_sealed, owner_of}
+use Rattle.std.proofs.lemmas.Bool.{cases_eq, cases_lt, cond-false, cond-true, eq-eqb, ne_eqb, false_from_ne_true}
+use Rattle.r4_atoms.specs.Atoms.{AtomsSeen, IsBegun as IsTxn, IsOpenAtom, TxnSeen, atom_of, is_sealed, owner_of}
 use Rattle.r4_atoms.specs.Names.{renamed}
 use Rattle.r4_atoms.specs.declared.things.AtomState.{AtomState}
 use Rattle.r4_base.specs.declared.things.AtomNo.{AtomNo}
@@ -22,6 +22,7 @@ use Rattle.r4_history.specs.Told.{IsTold}
 use Rattle.r4_history.proofs.AtomSteps.{fused_count, fused_states, fused_txn}
 use Rattle.r4_history.proofs.ServingSteps.{cons_cases, cons_here, cons_later, other_is_told}
 use Rattle.r4_history.proofs.Told.{told_fuse}
+use Rattle.r4_trace.specs.declared.entry.Entry.TheVariants.{Fuse}
 
 -- the smaller and the greater of two are these two
 of_min : (P : ℕ → Type 0) (a b : ℕ) → P a → P b → P (min a b)
@@ -71,7 +72,7 @@ module _ (w : Meaning Command Reply) (start : Option Start) (clock : ℕ) where
       (of_max (IsOpenAtom t.atoms) own p.0 is first.0) less f.1 in
       let stays = still_open t.atoms mid (min own p.0) (max own p.0) f.1 in
       all_told rest (min own p.0) (record t { atoms = mid })
-      (Rattle.r4_trace.specs.declared.entry.Entry.TheVariants.Fuse kept gone node ∷ trace) now none
+      (Fuse kept gone node ∷ trace) now none
       (stays (min own p.0) (of_min (IsOpenAtom t.atoms) own p.0 is first.0) (λ same. omega (arith, same, less))) rise.1
       (λ q there.
       (let lt = rise.0 q there in
@@ -145,7 +146,7 @@ reach_is_own s own need others after are f unsealed node b reached owned =
     (λ c had. elim (cases_eq c own) [
       | inl mine ↦ inl mine
       | inr other ↦
-          let un : is_sealed s c ≡ false = Rattle.std.proofs.lemmas.Bool.false_from_ne_true (is_sealed s c)
+          let un : is_sealed s c ≡ false = false_from_ne_true (is_sealed s c)
           (λ is. unsealed c (record { node = node; reached = reached; owner = had; sealed = is })) in
           inr (other_is_told s own need others are c node reached had other un)
     ])

@@ -4,8 +4,8 @@ use Rattle.std.proofs.lemmas.Bool.{cases_eq, cond-true, cond-false, eq-eqb, ne_e
 use Rattle.std.proofs.lemmas.List.{get_or-set_same, get_or-set_other, length-set}
 use Rattle.r4_content.specs.declared.command.Command.{Command}
 use Rattle.r4_script.specs.declared.job.Script.{Script}
-use Rattle.r4_trace.specs.Job.{Outside, Place, Within, at_start, commands_at as commands_in, commands_of}
-use Rattle.r4_turns.specs.Turns.{HasNext, IsScript, TurnsSeen, answered_at, answered_one, commands_at, dropped, entered, gone_out, given_back, left, no_script, start, turn_at, with_command, with_turn}
+use Rattle.r4_trace.specs.Job.{Place, at_start, commands_at as commands_in, commands_of}
+use Rattle.r4_turns.specs.Turns.{HasNext, IsScript, TurnsSeen, answered_at, answered_one, commands_at, entered, left, no_script, start, turn_at, with_command, with_turn}
 use Rattle.r4_turns.specs.declared.turn.Open.{Open}
 use Rattle.r4_turns.specs.declared.turn.Turn.{Turn}
 use Rattle.r4_history.specs.Tables.{asked, next_at, place_at, place_of, within_of}

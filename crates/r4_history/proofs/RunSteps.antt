@@ -1,10 +1,10 @@
 -- Steps without an entry, the start of a run, and its end.
-use Rattle.std.proofs.Common.{◌≡◌, ◌⊎◌, inl, inr, ⊎_elim, ℕ, zero, suc, ◌+◌, ◌-◌, ◌<◌, ◌≤◌, ◌==◌, ◌&&◌, Bool, true, false, true≢false, cond, List, [], ◌∷◌, ◌++◌, map, length, replicate, get_or, set, Option, Some, None, refl, sym, ◌∙◌, ap, subst, arith}
+use Rattle.std.proofs.Common.{◌≡◌, ◌⊎◌, inl, inr, ⊎_elim, ℕ, zero, suc, ◌+◌, ◌-◌, ◌<◌, ◌≤◌, ◌==◌, Bool, true, false, true≢false, cond, List, [], ◌∷◌, ◌++◌, map, length, replicate, get_or, set, Option, Some, None, refl, sym, ◌∙◌, ap, subst, arith}
 use Rattle.std.specs.List.{count_by}
-use Rattle.std.proofs.lemmas.Bool.{and_parts, cases_Bool, cases_eq, cond-false, cond-true, eq-eqb, eqb-true, false_from_ne_true, ne_eqb, true_from_ne_false}
+use Rattle.std.proofs.lemmas.Bool.{and_parts, cases_Bool, cases_eq, cond-false, cond-true, eq-eqb, false_from_ne_true, ne_eqb, true_from_ne_false, cases_lt}
 use Rattle.std.proofs.lemmas.List.Sums.{sum_by-cons}
-use Rattle.std.proofs.lemmas.List.{get_or_past, length-map, length-replicate, length-set}
-use Rattle.r4_atoms.specs.Atoms.{AtomsSeen, IsAtom, IsBegun as IsTxn, IsClosedAtom, TxnSeen, atom_of, is_committed, is_open_in, is_sealed, no_txn, state_of, txn_of, with_account, with_state}
+use Rattle.std.proofs.lemmas.List.{get_or_past, length-replicate, length-set}
+use Rattle.r4_atoms.specs.Atoms.{AtomsSeen, IsAtom, IsBegun as IsTxn, TxnSeen, atom_of, is_open_in, is_sealed, no_txn, state_of, txn_of, with_state, new_atom}
 use Rattle.r4_atoms.specs.declared.things.Account.{Account}
 use Rattle.r4_atoms.specs.declared.things.AtomState.{AtomState}
 use Rattle.r4_content.specs.Locality.{Meaning}
@@ -13,24 +13,25 @@ use Rattle.r4_content.specs.declared.reply.Reply.{Reply}
 use Rattle.r4_script.specs.declared.job.Job.{Job}
 use Rattle.r4_script.specs.declared.job.Script.{Script}
 use Rattle.r4_trace.specs.Ids.{Start}
-use Rattle.r4_trace.specs.Job.{AllClosed, Answered, Asked, HasNoBegin, Outside, Place, Within, at_start, commands_of, place, pushed, pushed_at, txn_in}
-use Rattle.r4_trace.specs.Legal.{IsFinished as AllFinished, IsLegal, IsLegalSoFar, IsWhole, RepliesFrom}
+use Rattle.r4_trace.specs.Job.{AllClosed, Answered, Asked, HasNoBegin, Outside, Place, at_start, commands_of, place, pushed, pushed_at, txn_in, Single, Inside}
+use Rattle.r4_trace.specs.Legal.{IsLegal, IsLegalSoFar, IsWhole, RepliesFrom}
 use Rattle.r4_trace.specs.Traced.{IsBegun, IsOpen, IsSealed, atom_in}
 use Rattle.r4_trace.specs.declared.entry.Entry.{Entry}
 use Rattle.r4_trace.proofs.Legally.{grown, grown_places}
 use Rattle.r4_trace.proofs.Places.{open_place, place_open}
 use Rattle.r4_trace.proofs.Stepping.{one_script, whole}
-use Rattle.r4_turns.specs.Turns.{IsScript, answered_at as count_at, commands_at, dropped, given_back, gone_out, no_script, start as no_turn, started, turn_at, with_command, with_turn}
+use Rattle.r4_turns.specs.Turns.{IsScript, commands_at, dropped, given_back, gone_out, no_script, start as no_turn, turn_at, with_command, with_turn, TurnsSeen}
 use Rattle.r4_turns.specs.declared.out.Numbers.{Numbers}
 use Rattle.r4_turns.specs.declared.out.Out.{Out}
 use Rattle.r4_turns.specs.declared.turn.Open.{Open}
 use Rattle.r4_turns.specs.declared.turn.Turn.{Turn}
-use Rattle.r4_history.specs.Tables.{IsFinished, IsOver, Stands, Tables, asked, opened, place_at, place_of, within_of}
-use Rattle.r4_history.specs.Told.{AtomsTell, CommitTells, IsCommitting, IsTold}
-use Rattle.r4_history.proofs.AtomSteps.{SameFlags, last_is_sealed, own_name, sealed_own, same_flags, state_count, state_kept, tell_same, txn_by}
+use Rattle.r4_history.specs.Tables.{IsOver, Tables, asked, opened, place_at, place_of, within_of}
+use Rattle.r4_history.specs.Told.{IsCommitting, IsTold}
+use Rattle.r4_history.proofs.AtomSteps.{SameFlags, last_is_sealed, own_name, sealed_own, state_count, state_kept, tell_same, txn_by}
 use Rattle.r4_history.proofs.CommitSteps.{commit_on}
-use Rattle.r4_history.proofs.Places.{Moved, commands_are, moved_with, place_is}
+use Rattle.r4_history.proofs.Places.{commands_are, moved_with, place_is}
 use Rattle.r4_history.proofs.Told.{atom_is, txn_is}
+use Rattle.r4_trace.proofs.FirstOnes.{begun_counted}
 
 no_replies : (w : Meaning Command Reply) (o : Option Start) → RepliesFrom w o []
 no_replies w None = tt
@@ -80,7 +81,7 @@ pushed_nth [] n c = refl
 pushed_nth (x ∷ scripts) zero c = refl
 pushed_nth (x ∷ scripts) (suc n) c = ap (λ (l : Asked). x.commands ∷ l) (pushed_nth scripts n c)
 
-pub pushed_is : (t : Rattle.r4_turns.specs.Turns.TurnsSeen) (s : ℕ) (c : Command) → 0 < s
+pub pushed_is : (t : TurnsSeen) (s : ℕ) (c : Command) → 0 < s
     → asked (with_command t s c).job ≡ pushed (asked t.job) s c
 pushed_is t zero c some = absurd (omega (arith, some))
 pushed_is t (suc n) c some =
@@ -169,7 +170,7 @@ module _ (w : Meaning Command Reply) (start : Option Start) (clock : ℕ) (t : T
       → IsTold w start clock (record t { atoms = atoms }) trace
   told_owners atoms txns states =
       let same = λ (a : ℕ). ap
-      (λ (xs : List AtomState). get_or xs (a - 1) Rattle.r4_atoms.specs.Atoms.new_atom) states in
+      (λ (xs : List AtomState). get_or xs (a - 1) new_atom) states in
       told_atoms atoms txns (ap length states) (record {
         sealed = λ a is. ap (λ (x : AtomState). x.sealed) (same a);
         committed = λ a is. ap (λ (x : AtomState). x.committed) (same a);
@@ -197,7 +198,7 @@ module _ (w : Meaning Command Reply) (start : Option Start) (clock : ℕ) (t : T
   told_legal = record { so_far = h.legal; closed = closed }
     where
       by_single : (b : Bool) (n m : ℕ)
-          → cond b (Rattle.r4_trace.specs.Job.Single n) (Rattle.r4_trace.specs.Job.Inside n) ≡ Answered m → ⊥
+          → cond b (Single n) (Inside n) ≡ Answered m → ⊥
       by_single true n m is = cc is
       by_single false n m is = cc is
 
@@ -229,7 +230,7 @@ module _ (w : Meaning Command Reply) (start : Option Start) (clock : ℕ) (t : T
       )
     where
       by_single : (b : Bool) (n : ℕ)
-          → txn_in (cond b (Rattle.r4_trace.specs.Job.Single n) (Rattle.r4_trace.specs.Job.Inside n)) ≡ Some n
+          → txn_in (cond b (Single n) (Inside n)) ≡ Some n
       by_single true n = refl
       by_single false n = refl
 
@@ -261,7 +262,7 @@ module _ (w : Meaning Command Reply) (start : Option Start) (clock : ℕ) (t : T
           → (turn_at t.turns (suc s) ≡ no_turn) × (commands_at t.turns (suc s) ≡ [])
       none_there s out =
           let e : suc s - 1 ≡ s = omega arith in
-          let past : length t.turns.turns ≤ s = elim (Rattle.std.proofs.lemmas.Bool.cases_lt s (length t.turns.turns)) [
+          let past : length t.turns.turns ≤ s = elim (cases_lt s (length t.turns.turns)) [
             | inl less ↦ absurd (out (omega arith, omega (arith, less)))
             | inr le ↦ le
           ] in (
@@ -272,7 +273,7 @@ module _ (w : Meaning Command Reply) (start : Option Start) (clock : ℕ) (t : T
           )
 
       is_script : (s : ℕ) → IsScript t.turns (suc s) ⊎ (IsScript t.turns (suc s) → ⊥)
-      is_script s = elim (Rattle.std.proofs.lemmas.Bool.cases_lt s (length t.turns.turns)) [
+      is_script s = elim (cases_lt s (length t.turns.turns)) [
         | inl less ↦ inl (omega arith, omega (arith, less))
         | inr le ↦ inr (λ is. omega (arith, le, is.1))
       ]
@@ -319,7 +320,7 @@ module _ (w : Meaning Command Reply) (start : Option Start) (clock : ℕ) (t : T
 
       all_sealed : (n s : ℕ) → IsBegun trace n s → IsSealed trace (atom_in trace n)
       all_sealed n s b =
-          let begun = Rattle.r4_trace.proofs.FirstOnes.begun_counted trace n s h.legal.order b in
+          let begun = begun_counted trace n s h.legal.order b in
           let txn : IsTxn t.atoms n = record { some = begun.0; within = omega (arith, begun.1, h.atoms.begun) } in
           let a = atom_of t.atoms n in
           let same = h.atoms.atom n txn in

@@ -1,10 +1,9 @@
 -- Which script is served, what stands in the way of one, and which atoms fuse.
-use Rattle.std.proofs.Common.{◌≡◌, ◌≢◌, ◌⊎◌, inl, inr, ⊎_elim, ℕ, zero, suc, ◌+◌, ◌-◌, ◌<◌, ◌≤◌, ◌==◌, Bool, true, false, true≢false, cond, List, [], ◌∷◌, ◌++◌, length, get_or, Option, Some, None, refl, sym, ◌∙◌, ap, subst, arith, Contains}
-use Rattle.std.proofs.lemmas.Bool.{cases_Bool, cases_eq, cases_order, cond-true, eq-eqb, eqb-true}
+use Rattle.std.proofs.Common.{◌≡◌, ◌≢◌, ◌⊎◌, inl, inr, ⊎_elim, ℕ, zero, suc, ◌<◌, ◌≤◌, Bool, true, false, true≢false, List, [], ◌∷◌, length, get_or, Option, Some, None, refl, sym, ◌∙◌, ap, subst, arith, Contains}
+use Rattle.std.proofs.lemmas.Bool.{cases_Bool, cases_order, eq-eqb, eqb-true, cases_lt}
 use Rattle.std.proofs.lemmas.List.Elements.{Contains-append_left}
-use Rattle.r4_atoms.specs.Atoms.{AllCommitted, AtomsSeen, IsBegun as IsTxn, IsOpenIn, IsSmallestAtom, IsSmallestOpen, atom_of, is_atom, is_cleaned, is_committed, is_sealed, numbers, owner_of, owns, txn_of}
+use Rattle.r4_atoms.specs.Atoms.{AtomsSeen, IsBegun as IsTxn, IsOpenIn, atom_of, is_atom, is_committed, is_sealed, numbers, owner_of, owns, txn_of}
 use Rattle.r4_base.specs.declared.things.AtomNo.{AtomNo}
-use Rattle.r4_base.specs.declared.things.NodeId.{NodeId}
 use Rattle.r4_base.specs.declared.things.ScriptNo.{ScriptNo}
 use Rattle.r4_base.specs.declared.things.TxnNo.{TxnNo}
 use Rattle.r4_content.specs.Locality.{Meaning}
@@ -14,7 +13,7 @@ use Rattle.r4_trace.specs.Ids.{Start}
 use Rattle.r4_trace.specs.Job.{Asked}
 use Rattle.r4_trace.specs.Legal.{IsLegalSoFar}
 use Rattle.r4_trace.specs.Order.{MayComeNow, Reopens}
-use Rattle.r4_trace.specs.Traced.{IsCommitted, atom_in, broken_at}
+use Rattle.r4_trace.specs.Traced.{IsCommitted, atom_in, IsBegun}
 use Rattle.r4_trace.specs.declared.entry.Entry.{Entry}
 use Rattle.r4_trace.specs.declared.entry.Entry.TheVariants.{Acked, Sealed}
 use Rattle.r4_locks.specs.Locks.{LocksSeen}
@@ -78,7 +77,7 @@ least_in test (x ∷ l) n c is = elim (search_rest test l) [
   | inr some ↦
       let best = least_in test l some.0 some.1 some.2 in
       elim (cases_Bool (test x)) [
-        | inl passes ↦ elim (Rattle.std.proofs.lemmas.Bool.cases_lt x best.0) [
+        | inl passes ↦ elim (cases_lt x best.0) [
           | inl less ↦ (
             x,
             cons_here x l,
@@ -202,7 +201,7 @@ module _ (w : Meaning Command Reply) (start : Option Start) (clock : ℕ) (t : T
       let b = h.atoms.script n begun in
       let atom = atom_is w start clock t trace h n (txn_of t.atoms n).script b in
       let c : IsCommitted trace (atom_in trace n) = legal.order.0.1 n
-      (subst (λ (x : ℕ). Rattle.r4_trace.specs.Traced.IsBegun trace n x) mine (h.atoms.script n begun)) in
+      (subst (λ (x : ℕ). IsBegun trace n x) mine (h.atoms.script n begun)) in
       let d = (h.atoms.committed (atom_of t.atoms n) atom).1
       (subst (IsCommitted trace) (sym (h.atoms.atom n begun)) c) in
       true≢false (sym d ∙ un)

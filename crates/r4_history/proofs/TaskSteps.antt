@@ -1,7 +1,6 @@
 -- Tasks that go out and come back, and the owners of what they reach.
-use Rattle.std.proofs.Common.{◌≡◌, ◌≢◌, ◌⊎◌, inl, inr, ⊎_elim, ℕ, zero, suc, ◌+◌, ◌-◌, ◌<◌, ◌≤◌, ◌==◌, Bool, true, false, true≢false, cond, List, [], ◌∷◌, ◌++◌, map, length, replicate, get_or, set, slice_get, Option, Some, None, IsSome, refl, sym, ◌∙◌, ap, subst, arith, Contains}
-use Rattle.std.specs.Option.{option_map, option_or}
-use Rattle.std.specs.List.{list_any}
+use Rattle.std.proofs.Common.{◌≡◌, ◌≢◌, ◌⊎◌, inl, inr, ⊎_elim, ℕ, zero, suc, ◌+◌, ◌-◌, ◌<◌, ◌==◌, Bool, true, false, true≢false, cond, List, [], ◌∷◌, ◌++◌, length, replicate, get_or, slice_get, Option, Some, None, IsSome, refl, sym, ◌∙◌, ap, subst, arith, Contains}
+use Rattle.std.specs.Option.{option_map}
 use Rattle.std.proofs.lemmas.Bool.{cases_Bool, cases_eq, cond-false, cond-true, eq-eqb, ne_eqb, or_left, or_right}
 use Rattle.std.proofs.lemmas.List.{length-set}
 use Rattle.std.proofs.lemmas.List.Elements.{Contains-append_cases}
@@ -16,18 +15,17 @@ use Rattle.r4_content.specs.declared.reply.Reply.{Reply}
 use Rattle.r4_trace.specs.Ids.{Start}
 use Rattle.r4_trace.specs.declared.entry.Entry.{Entry}
 use Rattle.r4_base.specs.declared.things.TxnNo.{TxnNo}
-use Rattle.r4_locks.specs.Locks.{AreHolds, IsNew, IsTask, LocksSeen, OthersAsBefore, Takes, TaskSeen, is_named, mode_in, mode_of, mode_with, task_at}
+use Rattle.r4_locks.specs.Locks.{AreHolds, IsNew, IsTask, LocksSeen, OthersAsBefore, Takes, TaskSeen, is_named, mode_in, mode_with, task_at}
 use Rattle.r4_locks.specs.Modes.{joined}
 use Rattle.r4_locks.specs.declared.things.Mode.{Mode}
 use Rattle.r4_locks.specs.declared.things.Mode.TheVariants.{Reads, Writes}
 use Rattle.r4_script.specs.declared.job.Job.{Job}
-use Rattle.r4_turns.specs.Turns.{IsScript, TurnsSeen, answered_at, answered_one, dropped, entered, given_back, gone_out, left, start as no_turn, started, turn_at, with_command, with_turn}
-use Rattle.r4_turns.specs.declared.out.Numbers.{Numbers}
+use Rattle.r4_turns.specs.Turns.{IsScript, answered_at, answered_one, dropped, entered, given_back, gone_out, left, start as no_turn, started, turn_at, with_command, with_turn, commands_at}
 use Rattle.r4_turns.specs.declared.out.Out.{Out}
 use Rattle.r4_turns.specs.declared.turn.Open.{Open}
 use Rattle.r4_turns.specs.declared.turn.Turn.{Turn}
-use Rattle.r4_history.specs.Held.{AreHeld, HoldsNew, Holds, IsOut, IsServed, OwnersFollow, TasksTell, need_of, nodes_of}
-use Rattle.r4_history.specs.Tables.{Begins, Fuses, Tables, next_at, opened, with_ended}
+use Rattle.r4_history.specs.Held.{HoldsNew, Holds, IsOut, IsServed, OwnersFollow, TasksTell, need_of, nodes_of}
+use Rattle.r4_history.specs.Tables.{Begins, Fuses, Tables, opened, with_ended}
 use Rattle.r4_history.specs.Told.{IsTold}
 use Rattle.r4_history.proofs.AtomSteps.{fused_txn, kept_by_set, state_kept, txn_before}
 use Rattle.r4_history.proofs.DrawnSteps.{turn_other}
@@ -90,7 +88,7 @@ module _ (t : Tables) (s : ℕ) (turn : Turn) (is : IsScript t.turns s) where
         transaction = ap (λ (x : Turn). x.transaction) e ∙ h.transaction;
         txn = h.txn;
         command = h.command;
-        next = ap (λ (x : Turn). slice_get (Rattle.r4_turns.specs.Turns.commands_at t.turns q) x.answered) e ∙ h.next;
+        next = ap (λ (x : Turn). slice_get (commands_at t.turns q) x.answered) e ∙ h.next;
         work = h.work;
         owners = h.owners;
       }
@@ -106,8 +104,8 @@ module _ (t : Tables) (s : ℕ) (turn : Turn) (is : IsScript t.turns s) where
         txn = h.txn;
         command = h.command;
         next =
-            ap (λ (x : Turn). slice_get (Rattle.r4_turns.specs.Turns.commands_at t.turns s) x.answered) e
-            ∙ ap (slice_get (Rattle.r4_turns.specs.Turns.commands_at t.turns s)) count ∙ h.next;
+            ap (λ (x : Turn). slice_get (commands_at t.turns s) x.answered) e
+            ∙ ap (slice_get (commands_at t.turns s)) count ∙ h.next;
         work = h.work;
         owners = h.owners;
       }

@@ -1,7 +1,7 @@
 -- Each entry keeps what the tables say of the trace.
-use Rattle.std.proofs.Common.{◌≡◌, ◌≢◌, Bool, ◌⊎◌, inl, inr, ⊎_elim, ℕ, zero, suc, ◌+◌, ◌-◌, ◌<◌, ◌≤◌, ◌==◌, true, false, true≢false, cond, List, [], ◌∷◌, length, slice_get, Option, Some, None, refl, sym, ◌∙◌, ap, subst, arith}
+use Rattle.std.proofs.Common.{◌≡◌, Bool, ◌⊎◌, inl, inr, ⊎_elim, ℕ, ◌+◌, ◌-◌, ◌<◌, ◌≤◌, ◌==◌, true, false, true≢false, cond, List, ◌∷◌, length, slice_get, Option, Some, None, refl, sym, ◌∙◌, ap, subst, arith}
 use Rattle.std.proofs.lemmas.Bool.{cases_eq, cond-true, cond-false, eq-eqb, false_from_ne_true, ne_eqb, true_from_ne_false}
-use Rattle.r4_atoms.specs.Atoms.{AllCommitted, AtomsSeen, IsBegun as IsTxn, IsOpenAtom, IsOpenIn, atom_of, is_cleaned, is_committed, is_sealed, state_of, txn_of}
+use Rattle.r4_atoms.specs.Atoms.{AllCommitted, AtomsSeen, IsBegun as IsTxn, IsOpenAtom, IsOpenIn, atom_of, is_committed, state_of, txn_of}
 use Rattle.r4_atoms.specs.declared.things.AtomState.{AtomState}
 use Rattle.r4_base.specs.Value.{Content}
 use Rattle.r4_base.specs.declared.things.AtomNo.{AtomNo}
@@ -17,23 +17,24 @@ use Rattle.r4_content.specs.declared.reply.Reply.{Reply}
 use Rattle.r4_content.specs.declared.reply.Reply.TheVariants.{Reopen}
 use Rattle.r4_trace.specs.Folds.{HasItsReplies, content_of, everything}
 use Rattle.r4_trace.specs.Ids.{HasNewIds, IsNewId, Start, id_of}
-use Rattle.r4_trace.specs.Job.{Answered, Answers, Asked, DoneIn, EndsOf, Inside, IsWork, MayBeDone, MayBeRefused, MayBegin, MayEnd, Outside, Place, Single, answered_at, begun_at, begun_for, commands_of, ended_at, end_of, next_of, place, refused_at, txn_in}
+use Rattle.r4_trace.specs.Job.{Answered, Answers, Asked, DoneIn, EndsOf, Inside, IsWork, MayBeDone, MayBeRefused, MayBegin, MayEnd, Outside, Place, Single, answered_at, begun_at, begun_for, commands_of, ended_at, end_of, next_of, place, refused_at, txn_in, RefusedIn}
 use Rattle.r4_trace.specs.Legal.{IsLegalSoFar, RepliesFrom}
 use Rattle.r4_trace.specs.Order.{IsOrdered, MayComeNow, MayFollow}
 use Rattle.r4_trace.specs.Traced.{IsBegun, IsCommitted, IsOpen, IsUnsealed, atom_in, broken_at, committed_in, last_of, latest, sealed_in}
 use Rattle.r4_trace.specs.declared.entry.Entry.{Entry}
 use Rattle.r4_trace.specs.declared.entry.Entry.TheVariants.{Begin, Fuse, Done, Refused, Ended, Sealed, Committed, Acked, Broken}
 use Rattle.r4_trace.proofs.FirstOnes.{begun_counted}
-use Rattle.r4_trace.proofs.Places.{open_place, place_open}
+use Rattle.r4_trace.proofs.Places.{place_open}
 use Rattle.r4_trace.proofs.Stepping.{begin_follows, done_follows, ended_follows, one_script, others_stay, refused_follows}
-use Rattle.r4_turns.specs.Turns.{IsScript, answered_at as count_at, answered_one, commands_at, entered, left, start as no_turn, turn_at}
+use Rattle.r4_turns.specs.Turns.{answered_at as count_at, answered_one, entered, left, turn_at}
 use Rattle.r4_turns.specs.declared.turn.Open.{Open}
 use Rattle.r4_turns.specs.declared.turn.Turn.{Turn}
-use Rattle.r4_history.specs.Tables.{Begins, Fuses, IsLastOf, Stands, Tables, asked, next_at, place_at, with_cleaned, with_committed, with_ended, with_sealed, within_of}
+use Rattle.r4_history.specs.Tables.{Begins, Fuses, IsLastOf, Stands, Tables, asked, place_at, with_cleaned, with_committed, with_ended, with_sealed, within_of}
 use Rattle.r4_history.specs.Told.{AtomsTell, CommitTells, IsCommitting, IsTold, IsUnderWay}
-use Rattle.r4_history.proofs.AtomSteps.{SameFlags, atom_begun, committed_sealed, flags_begin, flags_ended, flags_fuse, fused_count, last_begun, last_greatest, same_flags, state_kept, state_other, state_set, tell_acked, tell_begin, tell_broken, tell_cleaned, tell_committed, tell_done, tell_ended, tell_fuse, tell_refused, tell_sealed, txn_by}
+use Rattle.r4_history.proofs.AtomSteps.{atom_begun, committed_sealed, flags_begin, flags_ended, flags_fuse, fused_count, last_begun, last_greatest, same_flags, state_kept, state_other, state_set, tell_acked, tell_begin, tell_broken, tell_cleaned, tell_committed, tell_done, tell_ended, tell_fuse, tell_refused, tell_sealed, txn_by, count_after}
 use Rattle.r4_history.proofs.CommitSteps.{SameSeals, commit_on}
 use Rattle.r4_history.proofs.Places.{Moved, commands_are, moved_answered, moved_answered_left, moved_begun, moved_entered, moved_left, moved_left_answered, place_is, stood}
+use Rattle.std.proofs.lemmas.List.{length-set}
 
 -- ---- one legal entry more
 
@@ -192,7 +193,7 @@ module _ (w : Meaning Command Reply) (start : Option Start) (clock : ℕ) (t : T
       e ∙ ap (λ (x : Option Command). begun_for x u.0 (count_at t.turns s.0)) (sym is_next)
       ∙ ap (λ (x : Place). begun_for (next_of (cs s.0) (place (cs s.0) trace s.0)) u.0 x.answered) (sym where_is) in
       let flags = flags_begin t.atoms atoms s.0 b h.atoms.states in
-      let count = Rattle.r4_history.proofs.AtomSteps.count_after t.atoms atoms s.0 b h.atoms.states in
+      let count = count_after t.atoms atoms s.0 b h.atoms.states in
       record {
         legal = legal_on w start job trace h.legal (Begin u s)
             (begin_follows job trace h.legal.order u s answers (number ∙ ap (λ (n : ℕ). n + 1) h.atoms.begun))
@@ -324,7 +325,7 @@ module _ (w : Meaning Command Reply) (start : Option Start) (clock : ℕ) (t : T
       }
     where
       ended_count : (n : ℕ) → length (with_ended t.atoms n).txns ≡ length t.atoms.txns
-      ended_count n = Rattle.std.proofs.lemmas.List.length-set t.atoms.txns (n - 1)
+      ended_count n = length-set t.atoms.txns (n - 1)
           (record (txn_of t.atoms n) { is_open = false })
 
   pub told_done_single : (u : TxnNo) (s : ScriptNo) (i : ℕ) (c had : Command) (r : Reply) → t.broken ≡ None
@@ -371,7 +372,7 @@ module _ (w : Meaning Command Reply) (start : Option Start) (clock : ℕ) (t : T
       by_broken (Some clk) is = is clk refl
 
   may_refuse : (c : Command) → IsWork c → (o : Option Open) (u : ℕ)
-      → Rattle.r4_trace.specs.Job.RefusedIn (within_of o) u → MayBeRefused None (Some c) (within_of o) u
+      → RefusedIn (within_of o) u → MayBeRefused None (Some c) (within_of o) u
   may_refuse commands.Begin work o u is = absurd work
   may_refuse commands.End work o u is = absurd work
   may_refuse commands.Commit work o u is = absurd work
@@ -496,7 +497,7 @@ module _ (w : Meaning Command Reply) (start : Option Start) (clock : ℕ) (t : T
         atoms = tell_ended t.atoms trace u h.atoms (txn_is u.0 s.0 (open_is s.0 o c st refl));
         commit = commit_on t.atoms (with_ended t.atoms u.0) trace (Ended u ∷ trace) (flags_ended t.atoms u.0)
             (λ a is. txn_by (with_ended t.atoms u.0) t.atoms
-            (sym (Rattle.std.proofs.lemmas.List.length-set t.atoms.txns (u.0 - 1)
+            (sym (length-set t.atoms.txns (u.0 - 1)
             (record (txn_of t.atoms u.0) { is_open = false }))) a is)
             (record { sealed = refl; committed = refl; last = refl }) t.commit t.broken h.commit;
         broken = h.broken;

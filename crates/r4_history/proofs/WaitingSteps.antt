@@ -1,14 +1,13 @@
 -- What a script waits for.
-use Rattle.std.proofs.Common.{◌≡◌, ◌≢◌, ◌⊎◌, inl, inr, ⊎_elim, ℕ, zero, suc, ◌+◌, ◌-◌, ◌<◌, ◌≤◌, ◌==◌, Bool, true, false, not, true≢false, cond, List, [], ◌∷◌, ◌++◌, length, drop, get_or, slice_get, Option, Some, None, IsSome, refl, sym, ◌∙◌, ap, subst, arith, Contains}
+use Rattle.std.proofs.Common.{◌≡◌, ◌⊎◌, inl, inr, ⊎_elim, ℕ, zero, suc, ◌-◌, ◌<◌, ◌==◌, Bool, true, false, not, true≢false, cond, List, [], ◌∷◌, ◌++◌, length, get_or, slice_get, Option, Some, None, IsSome, refl, sym, ◌∙◌, ap, subst, arith}
 use Rattle.std.specs.Option.{option_or}
 use Rattle.std.proofs.lemmas.Bool.{and_from, cases_Bool, cases_lt, eq-eqb, false≢true, not_from_false}
 use Rattle.std.proofs.lemmas.List.{get_or_past}
-use Rattle.r4_atoms.specs.Atoms.{AllCommitted, AtomsSeen, IsBegun as IsTxn, atom_of, is_sealed, IsOpenIn, IsSmallestAtom, IsSmallestOpen, IsUncommittedOf, txn_of}
+use Rattle.r4_atoms.specs.Atoms.{AllCommitted, IsBegun as IsTxn, atom_of, is_sealed, IsSmallestAtom, IsSmallestOpen, IsUncommittedOf, txn_of, is_pending_as}
 use Rattle.r4_atoms.specs.declared.things.Uncommitted.TheVariants as uncommitted
 use Rattle.r4_base.specs.declared.things.AtomNo.{AtomNo}
 use Rattle.r4_base.specs.declared.things.NodeId.{NodeId}
 use Rattle.r4_base.specs.declared.things.TaskId.{TaskId}
-use Rattle.r4_base.specs.declared.things.TxnNo.{TxnNo}
 use Rattle.r4_content.specs.Locality.{Meaning}
 use Rattle.r4_content.specs.declared.command.Command.{Command}
 use Rattle.r4_content.specs.declared.command.Command.TheVariants as commands
@@ -22,22 +21,22 @@ use Rattle.r4_script.specs.Spelling.{AreInOrder, AreScripts, IsScript as IsTextS
 use Rattle.r4_script.specs.declared.job.Script.{Script}
 use Rattle.std.specs.List.{AllByRecursion}
 use Rattle.r4_trace.specs.Ids.{Start}
-use Rattle.r4_trace.specs.Job.{Asked, HasNoBegin, Inside, IsWork, Place, Single, commands_of, place, txn_in}
+use Rattle.r4_trace.specs.Job.{HasNoBegin, Inside, IsWork, Place, Single, commands_of, txn_in}
 use Rattle.r4_trace.specs.Traced.{IsOpen}
 use Rattle.r4_trace.specs.declared.entry.Entry.{Entry}
 use Rattle.r4_trace.proofs.FirstOnes.{sealed_committed}
 use Rattle.r4_trace.proofs.Places.{open_place}
-use Rattle.r4_turns.specs.Turns.{IsBefore, IsScript, TurnsSeen, answered_at as count_at, commands_at, no_script, start as no_turn, turn_at, with_command}
+use Rattle.r4_turns.specs.Turns.{IsScript, TurnsSeen, answered_at as count_at, commands_at, no_script, start as no_turn, turn_at, with_command}
 use Rattle.r4_turns.specs.declared.out.Out.{Out as Task}
 use Rattle.r4_turns.specs.declared.turn.Open.{Open as OpenTxn}
 use Rattle.r4_turns.specs.declared.turn.Turn.{Turn}
 use Rattle.r4_history.specs.declared.why.Why.{Why}
-use Rattle.r4_history.specs.declared.why.Why.TheVariants.{Held, Open, Out, Sealed}
+use Rattle.r4_history.specs.declared.why.Why.TheVariants.{Held, Open, Sealed}
 use Rattle.r4_history.specs.Held.{AreOwners, IsOut, Need, TasksTell}
 use Rattle.r4_history.specs.Serving.{AreOrdered, IsHeldUp, IsInTheWay, IsInTheWayOf, IsInTheWayOfCommit, IsPassedOver, IsReason, IsSealedOwner, IsServedNext, IsAtWork, IsWaiting, WaitsFor}
-use Rattle.r4_history.specs.Tables.{IsFinished, Stands, Tables, asked, next_at, place_at, within_of}
+use Rattle.r4_history.specs.Tables.{Stands, Tables, asked, next_at, place_at, within_of}
 use Rattle.r4_history.specs.Told.{IsCommitting, IsTold}
-use Rattle.r4_history.proofs.Ordered.{Fits, fits, in_order_next, in_order_pushed}
+use Rattle.r4_history.proofs.Ordered.{Fits, fits, in_order_next, in_order_pushed, IsSingleWork}
 use Rattle.r4_history.proofs.ServingSteps.{one_first}
 use Rattle.r4_history.proofs.Places.{commands_are, commands_pushed, stood}
 use Rattle.r4_history.proofs.Told.{at as place_now, atom_is}
@@ -121,7 +120,7 @@ module _ (w : Meaning Command Reply) (start : Option Start) (clock : ℕ) (t : T
 
       by : (b : Bool) (m : ℕ) → Fits (commands_of (asked t.turns.job) s)
           (record { answered = count_at t.turns s; within = cond b (Single m) (Inside m) }) → ⊥
-      by true m ok = subst (λ (o : Option Command). Rattle.r4_history.proofs.Ordered.IsSingleWork
+      by true m ok = subst (λ (o : Option Command). IsSingleWork
           (Single m) o) following ok.1
       by false m ok =
           let step = in_order_next true (commands_of (asked t.turns.job) s)
@@ -254,7 +253,7 @@ module _ (w : Meaning Command Reply) (start : Option Start) (clock : ℕ) (t : T
     same_of_commit : (s : ℕ) (x y : Why) → IsInTheWayOfCommit t s x → IsInTheWayOfCommit t s y → x ≡ y
     same_of_commit s (Sealed a) (Sealed b) one two = same_sealed a b one two
     same_of_commit s (Open a m) (Open b n) one two =
-        let ea = same_atom (Rattle.r4_atoms.specs.Atoms.is_pending_as t.atoms s false) a.0 b.0 one.1.1 two.1.1 in
+        let ea = same_atom (is_pending_as t.atoms s false) a.0 b.0 one.1.1 two.1.1 in
         let en = same_open b.0 m.0 n.0 (subst (λ (k : ℕ). IsSmallestOpen t.atoms k m.0) ea one.1.2) two.1.2 in
         ap (λ (k : ℕ). Open (record { 0 = k }) m) ea ∙ ap (λ (k : ℕ). Open b (record { 0 = k })) en
     same_of_commit s (Sealed a) (Open b n) one two = absurd (cc (one, two.0))

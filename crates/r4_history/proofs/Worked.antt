@@ -1,13 +1,10 @@
 -- A worked run, by the laws.
-use Rattle.std.proofs.Common.{◌≡◌, ◌≢◌, ◌⊎◌, inl, inr, ⊎_elim, ℕ, zero, suc, ◌+◌, ◌-◌, ◌<◌, ◌≤◌, Bool, true, false, true≢false, cond, List, [], ◌∷◌, ◌++◌, length, Option, Some, None, refl, sym, ◌∙◌, ap, subst, arith, Contains}
-use Rattle.std.proofs.lemmas.Bool.{cases_eq, false≢true}
+use Rattle.std.proofs.Common.{◌≡◌, ⊎_elim, ℕ, true≢false, [], ◌∷◌, length, Some, None, refl, sym, ◌∙◌, ap, subst, arith, Contains}
+use Rattle.std.proofs.lemmas.Bool.{false≢true}
 use Rattle.r4_atoms.specs.Atoms.{AtomsSeen, IsBegun as IsTxn, IsOpenAtom, atom_of, is_committed, is_sealed, new_atom, new_txn, owner_of, txn_of}
 use Rattle.r4_content.specs.Locality.{Meaning}
 use Rattle.r4_content.specs.declared.command.Command.{Command}
-use Rattle.r4_content.specs.declared.command.Command.TheVariants as commands
 use Rattle.r4_content.specs.declared.reply.Reply.{Reply}
-use Rattle.r4_trace.specs.Ids.{Start}
-use Rattle.r4_trace.specs.declared.entry.Entry.{Entry}
 use Rattle.r4_trace.specs.declared.entry.Entry.TheVariants.{Sealed}
 use Rattle.r4_turns.specs.Turns.{entered}
 use Rattle.r4_history.specs.Held.{nodes_of}

@@ -1,5 +1,5 @@
 -- Tasks that are out, and what they hold (docs/histories.md).
-use Rattle.std.specs.Prelude.{◌≡◌, ℕ, Contains, List, map, ◌++◌, false, Option, Some, None}
+use Rattle.std.specs.Prelude.{◌≡◌, ℕ, Contains, List, map, ◌++◌, false, Some, None}
 use Rattle.r4_atoms.specs.Atoms.{AtomsSeen, IsAtom, atom_of, is_cleaned, numbers, owner_of}
 use Rattle.r4_base.specs.declared.things.NodeId.{NodeId}
 use Rattle.r4_cell.specs.Seen.{CellSeen}

@@ -4,7 +4,6 @@ use Rattle.r4_atoms.specs.Atoms.{AllCommitted, AtomsSeen, IsOtherOwner, IsUncomm
 use Rattle.r4_atoms.specs.Names.{renamed}
 use Rattle.r4_atoms.specs.declared.things.Uncommitted.TheVariants as uncommitted
 use Rattle.r4_base.specs.declared.things.AtomNo.{AtomNo}
-use Rattle.r4_base.specs.declared.things.NodeId.{NodeId}
 use Rattle.r4_content.specs.declared.command.Command.{Command}
 use Rattle.r4_content.specs.declared.command.Command.TheVariants as commands
 use Rattle.r4_locks.specs.Locks.{LocksSeen, conflict_of}

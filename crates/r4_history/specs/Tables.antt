@@ -50,8 +50,8 @@ pub record Stands (t : TurnsSeen) (script : ℕ) (within : Option Open) (command
   pub next : next_at t script ≡ command
 
 -- its next command has this index, counted from 1
-pub record IsNextCommand (t : TurnsSeen) (script : ℕ) (within : Option Open) (i : ℕ) (command : Command)
-    : Type 0 where
+pub record IsNextCommand
+    (t : TurnsSeen) (script : ℕ) (within : Option Open) (i : ℕ) (command : Command) : Type 0 where
   pub stands : Stands t script within (Some command)
   pub index : i ≡ answered_at t script + 1
 
