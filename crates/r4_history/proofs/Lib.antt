@@ -11,3 +11,4 @@ pub mod Ordered
 pub mod WaitingSteps
 pub mod TaskSteps
 pub mod Worked
+pub mod WorkedTask

@@ -1,13 +1,16 @@
 //! Worked examples (docs/histories.md).
 
 ghost use Rattle.std.specs.Prelude.{◌∷◌, [], ℕ, None};
+ghost use Rattle.r4_base.specs.declared.key.Key.{Key};
 ghost use Rattle.r4_content.specs.Locality.{Meaning};
 ghost use Rattle.r4_content.specs.declared.command.Command.{Command};
 ghost use Rattle.r4_content.specs.declared.reply.Reply.{Reply};
+ghost use Rattle.r4_history.specs.Drawn.{AreDrawn};
+ghost use Rattle.r4_history.specs.Held.{TasksTell};
 ghost use Rattle.r4_history.specs.Serving.{AreOthers};
 ghost use Rattle.r4_history.specs.Tables.{IsOver, Tables};
 ghost use Rattle.r4_history.specs.Told.{IsTold};
-ghost use Rattle.r4_history.specs.Worked.{one_trace, reads_five, two_atoms};
+ghost use Rattle.r4_history.specs.Worked.{make_locks, make_tables, one_trace, reads_five, trace_begun, two_atoms};
 
 /// A script of one command and a `commit` runs to its end, entry by entry, whatever the reply is
 /// where no start is named.
@@ -20,4 +23,12 @@ pub fn one_run()
 /// fuses, and the entry names the node.
 pub fn reading_fuses()
     ensures { AreOthers two_atoms 1 reads_five ((2, 5) ∷ []) }
+{}
+
+/// A command that makes a file is out, as the first of its run: its task holds the node that it
+/// writes, and its id is drawn.
+pub fn one_task()
+    ensures { (w : Meaning Command Reply) (clock : ℕ) (k : Key)
+        → IsTold w None clock (make_tables k) trace_begun × TasksTell (make_tables k) make_locks
+        × AreDrawn 65536 (make_tables k).turns 65537 trace_begun }
 {}
