@@ -168,7 +168,8 @@ pub atom_is_least : (s : AtomsSeen) (own : ℕ) (others : List (ℕ × ℕ)) (af
 atom_is_least s own others after f txn begun is = all_names others own s after f txn begun is
 
 -- a command that goes out behind the fuses
-pub served_behind : (t : Tables) (s : ℕ) (within : Open) (c : Command) (out : Out) (others : List (ℕ × ℕ)) (after : AtomsSeen)
+pub served_behind : (t : Tables) (s : ℕ) (within : Open) (c : Command) (out : Out) (others : List (ℕ × ℕ))
+    (after : AtomsSeen)
     → Stands t.turns s (Some within) (Some c) → IsWork c → within.txn ≡ out.txn → IsTxn t.atoms out.txn.0
     → AreOthers t.atoms (atom_of t.atoms out.txn.0) (need_of out) others
     → FusesAll t.atoms (atom_of t.atoms out.txn.0) others after → ((a : ℕ) → IsSealedOwner t.atoms (need_of out) a → ⊥)

@@ -1,5 +1,5 @@
 -- A worked task, by the laws.
-use Rattle.std.proofs.Common.{◌≡◌, ◌≢◌, ⊎_elim, inl, inr, ℕ, zero, suc, ◌+◌, ◌<◌, ◌≤◌, ◌==◌, ◌||◌, Bool, false, cond, List, [], ◌∷◌, get_or, Option, Some, None, refl, sym, ◌∙◌, ap, arith, Contains}
+use Rattle.std.proofs.Common.{◌≡◌, ◌≢◌, ⊎_elim, inl, inr, ℕ, zero, suc, ◌==◌, ◌||◌, false, [], ◌∷◌, get_or, Some, None, refl, sym, ◌∙◌, subst, arith}
 use Rattle.std.proofs.lemmas.Bool.{cases_eq, cond-false, cond-true, eq-eqb, ne_eqb, or_from, or_left}
 use Rattle.r4_base.specs.declared.key.Key.{Key}
 use Rattle.r4_content.specs.Locality.{Meaning}
@@ -7,16 +7,16 @@ use Rattle.r4_content.specs.declared.command.Command.{Command}
 use Rattle.r4_content.specs.declared.reply.Reply.{Reply}
 use Rattle.r4_atoms.specs.Atoms.{AtomsSeen, new_atom, new_txn}
 use Rattle.r4_locks.specs.Locks.{LocksSeen, TaskSeen, mode_of, mode_with}
-use Rattle.r4_locks.specs.declared.things.Mode.{Mode}
 use Rattle.r4_locks.specs.declared.things.Mode.TheVariants.{Reads, Writes}
-use Rattle.r4_turns.specs.Turns.{TurnsSeen, entered, started}
-use Rattle.r4_turns.specs.declared.out.Out.{Out}
+use Rattle.r4_turns.specs.Turns.{IsBefore, IsScript, started}
 use Rattle.r4_trace.specs.declared.entry.Entry.TheVariants.{Begin}
 use Rattle.r4_history.specs.Drawn.{AreDrawn}
 use Rattle.r4_history.specs.Held.{HoldsNew, IsServed, TasksTell, need_of}
-use Rattle.r4_history.specs.Tables.{Tables, opened, single, with_single}
+use Rattle.r4_history.specs.Serving.{IsInTheWay, IsPassedOver, IsWaiting}
+use Rattle.r4_history.specs.declared.why.Why.TheVariants.{Held, Out}
+use Rattle.r4_history.specs.Tables.{IsFinished, Tables, opened, single, with_single}
 use Rattle.r4_history.specs.Told.{IsTold}
-use Rattle.r4_history.specs.Worked.{first_script, first_txn, make, make_job, make_locks, make_tables, make_task, trace_begun}
+use Rattle.r4_history.specs.Worked.{first_script, first_txn, make, make_job, make_locks, make_tables, make_task, reads_five, trace_begun}
 use Rattle.r4_history.proofs.DrawnSteps.{drawn_entered, drawn_entry, drawn_first, drawn_out}
 use Rattle.r4_history.proofs.RunSteps.{told_first, told_out}
 use Rattle.r4_history.proofs.TaskSteps.{begun_follow, tasks_entered, tasks_first, tasks_out}
@@ -81,11 +81,40 @@ worked_task w clock k =
     let h1 =
     begun_follow w None clock at_first [] t0 no_locks h0 one_begun 1 (record { txns = refl; atoms = refl })
     (λ n. refl) in
-    let h2 = tasks_entered (record at_first { atoms = one_begun }) no_locks h1 1 (single first_txn) (omega arith, omega arith) refl in
+    let h2 = tasks_entered (record at_first { atoms = one_begun }) no_locks h1 1 (single first_txn)
+    (omega arith, omega arith) refl in
     let d0 = drawn_first 65536 make_job (omega arith) in
     let d1 = drawn_entered 65536 (started make_job) 65536 [] d0 1 (single first_txn) (omega arith, omega arith) in
-    let d2 = drawn_entry 65536 begun.turns 65536 [] d1 (Begin first_txn first_script) tt in
-    (told_out w None clock begun trace_begun t1 1 (make_task k) (omega arith, omega arith),
-    tasks_out begun no_locks make_locks h2 1 (make_task k) (omega arith, omega arith) refl (new k) (served k),
-    drawn_out 65536 begun.turns 65536 trace_begun d2 1 make (make_task k) 65537 (omega arith, omega arith) refl refl
-    (record { kept = λ n is. absurd (cc is); drawn = λ none. (refl, λ makes. refl) }))
+    let d2 = drawn_entry 65536 begun.turns 65536 [] d1 (Begin first_txn first_script) tt in (
+      told_out w None clock begun trace_begun t1 1 (make_task k) (omega arith, omega arith),
+      tasks_out begun no_locks make_locks h2 1 (make_task k) (omega arith, omega arith) refl (new k) (served k),
+      drawn_out 65536 begun.turns 65536 trace_begun d2 1 make (make_task k) 65537 (omega arith, omega arith) refl refl
+          (record { kept = λ n is. absurd (cc is); drawn = λ none. (refl, λ makes. refl) }),
+    )
+
+-- while it is out its script waits for it
+unfinished : (k : Key) → IsFinished (make_tables k) 1 → ⊥
+unfinished k is = let e : 0 ≡ 2 = is.answered in omega (arith, e)
+
+pub out_is_waited_for : (k : Key) → IsWaiting (make_tables k) make_locks (λ s. None) (Out (record { 0 = 0 }))
+out_is_waited_for k = record {
+  script = 1;
+  is_script = (omega arith, omega arith);
+  unfinished = unfinished k;
+  first = λ q is before.
+      ⊎_elim (λ less. absurd (omega (arith, less, one q is)))
+      (λ same. (let lt = same.1 in absurd (omega (arith, lt, one q is))))
+      (subst (λ (x : ℕ). IsBefore (make_tables k).turns x 1) (one q is) before);
+  reason = refl;
+  all = λ q is.
+      subst (IsPassedOver (make_tables k) make_locks (λ s. None)) (sym (one q is))
+      (inr (inl (make_task k, record { is_script = (omega arith, omega arith); is_out = refl })));
+}
+  where
+    one : (q : ℕ) → IsScript (make_tables k).turns q → q ≡ 1
+    one q is = omega (arith, is.0, is.1)
+
+-- who wants to read its node waits for its hold
+pub hold_is_in_the_way : (k : Key)
+    → IsInTheWay (make_tables k).atoms make_locks reads_five (Held (record { 0 = 5 }) (record { 0 = 0 }))
+hold_is_in_the_way k = (λ a is. cc is.owner, refl)

@@ -7,7 +7,8 @@ ghost use Rattle.r4_content.specs.declared.command.Command.{Command};
 ghost use Rattle.r4_content.specs.declared.reply.Reply.{Reply};
 ghost use Rattle.r4_history.specs.Drawn.{AreDrawn};
 ghost use Rattle.r4_history.specs.Held.{TasksTell};
-ghost use Rattle.r4_history.specs.Serving.{AreOthers};
+ghost use Rattle.r4_history.specs.Serving.{AreOthers, IsInTheWay, IsWaiting};
+ghost use Rattle.r4_history.specs.declared.why.Why.TheVariants.{Held, Out};
 ghost use Rattle.r4_history.specs.Tables.{IsOver, Tables};
 ghost use Rattle.r4_history.specs.Told.{IsTold};
 ghost use Rattle.r4_history.specs.Worked.{make_locks, make_tables, one_trace, reads_five, trace_begun, two_atoms};
@@ -26,9 +27,13 @@ pub fn reading_fuses()
 {}
 
 /// A command that makes a file is out, as the first of its run: its task holds the node that it
-/// writes, and its id is drawn.
+/// writes, and its id is drawn. Its script waits for it, and so does who wants to read the node.
 pub fn one_task()
-    ensures { (w : Meaning Command Reply) (clock : ℕ) (k : Key)
+    ensures out { (w : Meaning Command Reply) (clock : ℕ) (k : Key)
         → IsTold w None clock (make_tables k) trace_begun × TasksTell (make_tables k) make_locks
         × AreDrawn 65536 (make_tables k).turns 65537 trace_begun }
+    ensures waits { (k : Key) → IsWaiting (make_tables k) make_locks (λ s. None)
+        (Out (record { 0 = 0 })) }
+    ensures held { (k : Key) → IsInTheWay (make_tables k).atoms make_locks reads_five
+        (Held (record { 0 = 5 }) (record { 0 = 0 })) }
 {}
