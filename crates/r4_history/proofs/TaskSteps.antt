@@ -415,30 +415,9 @@ held_apart t locks h holds s q a b node is_a is_b other written reached =
 
 -- ---- what the calls of the table of atoms do to owners
 
-module _ (w : Meaning Command Reply) (start : Option Start) (clock : ℕ) (t : Tables) (trace : List Entry)
-    (h : IsTold w start clock t trace)
-    (locks : LocksSeen) (tells : TasksTell t locks) where
-  -- the transaction of a task was begun
-  txn_served : (s : ℕ) (out : Out) → IsOut t.turns s out → IsTxn t.atoms out.txn.0
-  txn_served s out is =
-      let v = tells.served s out is in
-      subst (λ (x : TxnNo). IsTxn t.atoms x.0) v.txn
-      (open_in_both w start clock t trace h s v.within is.is_script v.transaction).0
-
+module _ (t : Tables) (locks : LocksSeen) (tells : TasksTell t locks) where
   same_txns : (atoms : AtomsSeen) → atoms.txns ≡ t.atoms.txns → (n : ℕ) → atom_of atoms n ≡ atom_of t.atoms n
   same_txns atoms same n = ap (λ (l : List TxnSeen). (get_or l (n - 1) no_txn).atom) same
-
-  pub begun_follow : (atoms : AtomsSeen) (script : ℕ) → Begins t.atoms atoms script
-      → ((n : ℕ) → owner_of atoms n ≡ owner_of t.atoms n)
-      → TasksTell (record t { atoms = atoms }) locks
-  begun_follow atoms script b same =
-      tasks_owned t locks tells atoms
-      (λ s out node a is reached owned. (
-        a,
-        sym (same node) ∙ owned,
-        λ e. ap (λ (x : TxnSeen). x.atom)
-            (txn_before t.atoms atoms script b h.atoms.states out.txn.0 (txn_served s out is)) ∙ e,
-      ))
 
   pub ended_follow : (txn : ℕ) → TasksTell (record t { atoms = with_ended t.atoms txn }) locks
   ended_follow txn =
@@ -453,27 +432,6 @@ module _ (w : Meaning Command Reply) (start : Option Start) (clock : ℕ) (t : T
       same : (o : Option ℕ) → owner_by (with_ended t.atoms txn) o ≡ owner_by t.atoms o
       same None = refl
       same (Some n) = ap (λ (a : ℕ). cond (is_cleaned t.atoms a) None (Some a)) (atom n)
-
-  pub fused_follow : (atoms : AtomsSeen) (kept gone : ℕ) → Fuses t.atoms atoms kept gone
-      → ((n : ℕ) → owner_of atoms n ≡ option_map (renamed kept gone) (owner_of t.atoms n))
-      → TasksTell (record t { atoms = atoms }) locks
-  fused_follow atoms kept gone f owners =
-      tasks_owned t locks tells atoms
-      (λ s out node a is reached owned. by s out is node (owner_of t.atoms node) refl a
-      (sym (owners node) ∙ owned))
-    where
-      by : (s : ℕ) (out : Out) → IsOut t.turns s out → (node : ℕ) (o : Option ℕ) → owner_of t.atoms node ≡ o → (a : ℕ)
-          → option_map (renamed kept gone) (owner_of t.atoms node) ≡ Some a
-          → (b : ℕ) × (owner_of t.atoms node ≡ Some b) × (atom_of t.atoms out.txn.0 ≡ b → atom_of atoms out.txn.0 ≡ a)
-      by s out is node None none a e = absurd (cc (sym (ap (option_map (renamed kept gone)) none) ∙ e))
-      by s out is node (Some b) had a e =
-          let now : renamed kept gone b ≡ a = cc (sym (ap (option_map (renamed kept gone)) had) ∙ e) in (
-            b,
-            had,
-            λ same.
-                ap (λ (x : TxnSeen). x.atom) (fused_txn t.atoms atoms kept gone f out.txn.0 (txn_served s out is))
-                ∙ ap (renamed kept gone) same ∙ now,
-          )
 
   -- a state that keeps whether nodes are clean
   pub state_follow : (a : ℕ) (x : AtomState) → x.cleaned ≡ (state_of t.atoms a).cleaned
@@ -526,3 +484,45 @@ module _ (w : Meaning Command Reply) (start : Option Start) (clock : ℕ) (t : T
       (let not_to : n ≢ to = λ same. apart s out is (subst (Contains (nodes_of (need_of out))) same reached) in
       let not_from : n ≢ from = λ same. cc (sym none ∙ ap (owner_of atoms) (sym same) ∙ owned) in
       (a, sym (others n not_from not_to) ∙ owned, λ e. same_txns atoms txns out.txn.0 ∙ e)))
+
+module _ (w : Meaning Command Reply) (start : Option Start) (clock : ℕ) (t : Tables) (trace : List Entry)
+    (h : IsTold w start clock t trace) (locks : LocksSeen) (tells : TasksTell t locks) where
+  -- the transaction of a task was begun
+  txn_served : (s : ℕ) (out : Out) → IsOut t.turns s out → IsTxn t.atoms out.txn.0
+  txn_served s out is =
+      let v = tells.served s out is in
+      subst (λ (x : TxnNo). IsTxn t.atoms x.0) v.txn
+      (open_in_both w start clock t trace h s v.within is.is_script v.transaction).0
+
+  pub begun_follow : (atoms : AtomsSeen) (script : ℕ) → Begins t.atoms atoms script
+      → ((n : ℕ) → owner_of atoms n ≡ owner_of t.atoms n)
+      → TasksTell (record t { atoms = atoms }) locks
+  begun_follow atoms script b same =
+      tasks_owned t locks tells atoms
+      (λ s out node a is reached owned. (
+        a,
+        sym (same node) ∙ owned,
+        λ e. ap (λ (x : TxnSeen). x.atom)
+            (txn_before t.atoms atoms script b h.atoms.states out.txn.0 (txn_served s out is)) ∙ e,
+      ))
+
+  pub fused_follow : (atoms : AtomsSeen) (kept gone : ℕ) → Fuses t.atoms atoms kept gone
+      → ((n : ℕ) → owner_of atoms n ≡ option_map (renamed kept gone) (owner_of t.atoms n))
+      → TasksTell (record t { atoms = atoms }) locks
+  fused_follow atoms kept gone f owners =
+      tasks_owned t locks tells atoms
+      (λ s out node a is reached owned. by s out is node (owner_of t.atoms node) refl a
+      (sym (owners node) ∙ owned))
+    where
+      by : (s : ℕ) (out : Out) → IsOut t.turns s out → (node : ℕ) (o : Option ℕ) → owner_of t.atoms node ≡ o → (a : ℕ)
+          → option_map (renamed kept gone) (owner_of t.atoms node) ≡ Some a
+          → (b : ℕ) × (owner_of t.atoms node ≡ Some b) × (atom_of t.atoms out.txn.0 ≡ b → atom_of atoms out.txn.0 ≡ a)
+      by s out is node None none a e = absurd (cc (sym (ap (option_map (renamed kept gone)) none) ∙ e))
+      by s out is node (Some b) had a e =
+          let now : renamed kept gone b ≡ a = cc (sym (ap (option_map (renamed kept gone)) had) ∙ e) in (
+            b,
+            had,
+            λ same.
+                ap (λ (x : TxnSeen). x.atom) (fused_txn t.atoms atoms kept gone f out.txn.0 (txn_served s out is))
+                ∙ ap (renamed kept gone) same ∙ now,
+          )

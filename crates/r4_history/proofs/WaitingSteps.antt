@@ -314,6 +314,7 @@ module _ (w : Meaning Command Reply) (start : Option Start) (clock : ℕ) (t : T
       same_reason s (Some out) p q = p ∙ sym q
       same_reason s None p q = one_reason locks (needs s) s x y owners p q
 
-  pub served_or_waits : (locks : LocksSeen) (needs : ℕ → Option Need) (s : ℕ) (why : Why)
-      → IsServedNext t locks needs s → IsWaiting t locks needs why → ⊥
-  served_or_waits locks needs s why served waits = served.goes_on (waits.all s served.is_script)
+-- where one can be served, none waits
+pub served_or_waits : (t : Tables) (locks : LocksSeen) (needs : ℕ → Option Need) (s : ℕ) (why : Why)
+    → IsServedNext t locks needs s → IsWaiting t locks needs why → ⊥
+served_or_waits t locks needs s why served waits = served.goes_on (waits.all s served.is_script)

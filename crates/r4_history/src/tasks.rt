@@ -73,9 +73,7 @@ pub fn tasks_keep_their_owners()
         → (atoms : AtomsSeen) (script : ℕ) → Begins t.atoms atoms script
         → ((n : ℕ) → owner_of atoms n ≡ owner_of t.atoms n)
         → TasksTell (record t { atoms = atoms }) locks }
-    ensures ends { (w : Meaning Command Reply) (start : Option Start) (clock : ℕ) (t : Tables)
-        (trace : List Entry) → IsTold w start clock t trace → (locks : LocksSeen)
-        → TasksTell t locks
+    ensures ends { (t : Tables) (locks : LocksSeen) → TasksTell t locks
         → (txn : ℕ) → TasksTell (record t { atoms = with_ended t.atoms txn }) locks }
     ensures fuses { (w : Meaning Command Reply) (start : Option Start) (clock : ℕ) (t : Tables)
         (trace : List Entry) → IsTold w start clock t trace → (locks : LocksSeen)
@@ -83,28 +81,20 @@ pub fn tasks_keep_their_owners()
         → (atoms : AtomsSeen) (kept gone : ℕ) → Fuses t.atoms atoms kept gone
         → ((n : ℕ) → owner_of atoms n ≡ option_map (renamed kept gone) (owner_of t.atoms n))
         → TasksTell (record t { atoms = atoms }) locks }
-    ensures states { (w : Meaning Command Reply) (start : Option Start) (clock : ℕ) (t : Tables)
-        (trace : List Entry) → IsTold w start clock t trace → (locks : LocksSeen)
-        → TasksTell t locks
+    ensures states { (t : Tables) (locks : LocksSeen) → TasksTell t locks
         → (a : ℕ) (x : AtomState) → x.cleaned ≡ (state_of t.atoms a).cleaned
         → TasksTell (record t { atoms = with_state t.atoms a x }) locks }
-    ensures cleaned { (w : Meaning Command Reply) (start : Option Start) (clock : ℕ) (t : Tables)
-        (trace : List Entry) → IsTold w start clock t trace → (locks : LocksSeen)
-        → TasksTell t locks
+    ensures cleaned { (t : Tables) (locks : LocksSeen) → TasksTell t locks
         → (atoms : AtomsSeen) (atom : ℕ) → atoms.txns ≡ t.atoms.txns
         → ((n : ℕ) → owner_of atoms n ≡ without_owner atom (owner_of t.atoms n))
         → TasksTell (record t { atoms = atoms }) locks }
-    ensures captured { (w : Meaning Command Reply) (start : Option Start) (clock : ℕ) (t : Tables)
-        (trace : List Entry) → IsTold w start clock t trace → (locks : LocksSeen)
-        → TasksTell t locks
+    ensures captured { (t : Tables) (locks : LocksSeen) → TasksTell t locks
         → (atoms : AtomsSeen) (atom node : ℕ) → atoms.txns ≡ t.atoms.txns
         → ((n : ℕ) →
         owner_of atoms n ≡ (if node == n then Some atom else owner_of t.atoms n))
         → ((s : ℕ) (out : Out) → IsOut t.turns s out → Contains (nodes_of (need_of out)) node → ⊥)
         → TasksTell (record t { atoms = atoms }) locks }
-    ensures renamed { (w : Meaning Command Reply) (start : Option Start) (clock : ℕ) (t : Tables)
-        (trace : List Entry) → IsTold w start clock t trace → (locks : LocksSeen)
-        → TasksTell t locks
+    ensures renamed { (t : Tables) (locks : LocksSeen) → TasksTell t locks
         → (atoms : AtomsSeen) (from to : ℕ) → atoms.txns ≡ t.atoms.txns
         → owner_of atoms from ≡ None
         → ((n : ℕ) → n ≢ from → n ≢ to → owner_of atoms n ≡ owner_of t.atoms n)

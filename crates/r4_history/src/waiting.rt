@@ -30,9 +30,7 @@ pub fn scripts_wait_for_one_reason()
         (trace : List Entry) → IsTold w start clock t trace
         → (locks : LocksSeen) (needs : ℕ → Option Need) (one two : Why) → AreOwners t.atoms
         → IsWaiting t locks needs one → IsWaiting t locks needs two → one ≡ two }
-    ensures either { (w : Meaning Command Reply) (start : Option Start) (clock : ℕ) (t : Tables)
-        (trace : List Entry) → IsTold w start clock t trace
-        → (locks : LocksSeen) (needs : ℕ → Option Need) (s : ℕ) (why : Why)
+    ensures either { (t : Tables) (locks : LocksSeen) (needs : ℕ → Option Need) (s : ℕ) (why : Why)
         → IsServedNext t locks needs s → IsWaiting t locks needs why → ⊥ }
 {}
 
@@ -47,7 +45,7 @@ pub fn something_is_waited_for()
 
 /// Where no atom of a script is left that is not sealed, and no commit is under way, each of its
 /// transactions is in a committed atom. So a `commit` is acknowledged, asks for a flush, or waits.
-pub fn commits_are_acknowledged_in_the_end()
+pub fn commits_have_answers()
     ensures { (w : Meaning Command Reply) (start : Option Start) (clock : ℕ) (t : Tables)
         (trace : List Entry) → IsTold w start clock t trace
         → (s : ℕ) → t.broken ≡ None → t.commit ≡ None
