@@ -1,10 +1,10 @@
 -- Tasks that go out and come back, and the owners of what they reach.
 use Rattle.std.proofs.Common.{◌≡◌, ◌≢◌, ◌⊎◌, inl, inr, ⊎_elim, ℕ, zero, suc, ◌+◌, ◌-◌, ◌<◌, ◌==◌, Bool, true, false, true≢false, cond, List, [], ◌∷◌, ◌++◌, length, replicate, get_or, slice_get, Option, Some, None, IsSome, refl, sym, ◌∙◌, ap, subst, arith, Contains}
 use Rattle.std.specs.Option.{option_map}
-use Rattle.std.proofs.lemmas.Bool.{cases_Bool, cases_eq, cond-false, cond-true, eq-eqb, ne_eqb, or_left, or_right}
+use Rattle.std.proofs.lemmas.Bool.{cases_Bool, cases_eq, cond-false, cond-true, eq-eqb, false_from_ne_true, ne_eqb, or_left, or_right}
 use Rattle.std.proofs.lemmas.List.{length-set}
 use Rattle.std.proofs.lemmas.List.Elements.{Contains-append_cases}
-use Rattle.r4_atoms.specs.Atoms.{AtomsSeen, IsBegun as IsTxn, TxnSeen, atom_of, is_cleaned, no_txn, numbers, owner_by, owner_of, state_of, txn_of, with_state, without_owner}
+use Rattle.r4_atoms.specs.Atoms.{atom_of, AtomsSeen, is_cleaned, is_sealed, IsBegun as IsTxn, IsFreeFor, IsOpenAtom, no_txn, numbers, owner_by, owner_of, state_of, txn_of, TxnSeen, with_state, without_owner}
 use Rattle.r4_atoms.specs.Names.{renamed}
 use Rattle.r4_atoms.specs.Owned.{label_of}
 use Rattle.r4_atoms.specs.declared.things.AtomState.{AtomState}
@@ -27,11 +27,14 @@ use Rattle.r4_turns.specs.declared.turn.Turn.{Turn}
 use Rattle.r4_history.specs.Held.{HoldsNew, Holds, IsOut, IsServed, OwnersFollow, TasksTell, need_of, nodes_of}
 use Rattle.r4_history.specs.Tables.{Begins, Fuses, Tables, opened, with_ended}
 use Rattle.r4_history.specs.Told.{IsTold}
-use Rattle.r4_history.proofs.AtomSteps.{fused_txn, kept_by_set, state_kept, txn_before}
+use Rattle.r4_history.proofs.AtomSteps.{fused_txn, kept_by_set, own_name, state_kept, txn_before}
 use Rattle.r4_history.proofs.DrawnSteps.{turn_other}
 use Rattle.r4_history.proofs.Places.{next_pushed, next_there, turn_now}
 use Rattle.r4_history.proofs.RunSteps.{open_in_both}
 use Rattle.r4_history.proofs.ServingSteps.{cons_cases}
+use Rattle.r4_trace.specs.Traced.{IsOpen, IsSealed, atom_in}
+use Rattle.r4_trace.proofs.FirstOnes.{open_unsealed}
+use Rattle.r4_history.proofs.Told.{atom_is}
 
 -- where no task stands
 none_stands : (o : Option TaskSeen) → o ≡ None → IsSome o → ⊥
@@ -526,3 +529,36 @@ module _ (w : Meaning Command Reply) (start : Option Start) (clock : ℕ) (t : T
                 ap (λ (x : TxnSeen). x.atom) (fused_txn t.atoms atoms kept gone f out.txn.0 (txn_served s out is))
                 ∙ ap (renamed kept gone) same ∙ now,
           )
+
+  -- its atom is open
+  pub atom_open : (s : ℕ) (out : Out) → IsOut t.turns s out → IsOpenAtom t.atoms (atom_of t.atoms out.txn.0)
+  atom_open s out is =
+      let v = tells.served s out is in
+      let both = open_in_both w start clock t trace h s v.within is.is_script v.transaction in
+      let begun = txn_served s out is in
+      let n = out.txn.0 in
+      let a = atom_of t.atoms n in
+      let script = (txn_of t.atoms n).script in
+      let begins = h.atoms.script n begun in
+      let same = h.atoms.atom n begun in
+      let opened : (txn_of t.atoms n).is_open ≡ true =
+      subst (λ (x : TxnNo). (txn_of t.atoms x.0).is_open ≡ true) v.txn both.1 in
+      let opn : IsOpen trace n script = (begins, λ ends. true≢false (sym opened ∙ (h.atoms.ended n begun).1 ends)) in
+      let there = atom_is w start clock t trace h n script begins in
+      record {
+        atom = record {
+          begun = there;
+          own = h.atoms.atom a there ∙ ap (atom_in trace) same ∙ own_name trace n h.legal.order ∙ sym same;
+        };
+        unsealed = false_from_ne_true (is_sealed t.atoms a)
+            (λ sealed.
+              open_unsealed trace n script h.legal.order opn
+              (subst (IsSealed trace) same ((h.atoms.sealed a there).0 sealed)));
+      }
+
+-- no other open atom owns what it reaches
+pub reach_free : (t : Tables) (locks : LocksSeen) → TasksTell t locks → (s : ℕ) (out : Out) (node : ℕ)
+    → IsOut t.turns s out → Contains (nodes_of (need_of out)) node
+    → IsFreeFor t.atoms (atom_of t.atoms out.txn.0) node
+reach_free t locks tells s out node is reached by owned other =
+    absurd (other ((tells.served s out is).owners node by reached owned))

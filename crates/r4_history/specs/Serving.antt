@@ -27,7 +27,7 @@ pub record IsSealedOwner (s : AtomsSeen) (need : Need) (a : ℕ) : Type 0 where
   pub sealed : is_sealed s a ≡ true
 
 -- What stands in the way of a command with this reach: a sealed atom that owns a node of it; else
--- the first hold that conflicts. This is the one place that copy on capture changes.
+-- the first hold that conflicts. What makes work wait stands here alone.
 abbrev pub IsInTheWay : AtomsSeen → LocksSeen → Need → Why → Type 0
 IsInTheWay s locks need (Sealed atom) = IsSealedOwner s need atom.0
 IsInTheWay s locks need (Held node holder) =

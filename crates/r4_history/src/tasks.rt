@@ -2,7 +2,7 @@
 
 ghost use Rattle.std.specs.Prelude.{◌≡◌, ◌≢◌, ◌==◌, [], ℕ, Contains, List, length, Option, Some, None, if◌then◌else◌};
 ghost use Rattle.std.specs.Option.{option_map};
-ghost use Rattle.r4_atoms.specs.Atoms.{AtomsSeen, numbers, owner_of, state_of, with_state, without_owner};
+ghost use Rattle.r4_atoms.specs.Atoms.{AtomsSeen, IsFreeFor, IsOpenAtom, atom_of, numbers, owner_of, state_of, with_state, without_owner};
 ghost use Rattle.r4_atoms.specs.Names.{renamed};
 ghost use Rattle.r4_atoms.specs.declared.things.AtomState.{AtomState};
 ghost use Rattle.r4_content.specs.Locality.{Meaning};
@@ -107,4 +107,16 @@ pub fn tasks_are_apart()
     ensures { (t : Tables) (locks : LocksSeen) → TasksTell t locks → AreHolds locks
         → (s q : ℕ) (a b : Out) (node : ℕ) → IsOut t.turns s a → IsOut t.turns q b → s ≢ q
         → Contains (numbers (need_of a).writes) node → Contains (nodes_of (need_of b)) node → ⊥ }
+{}
+
+/// The atom of a task that is out is open, and no other open atom owns a node that it reaches: so its
+/// atom may capture each of them.
+pub fn tasks_may_capture()
+    ensures atom { (w : Meaning Command Reply) (start : Option Start) (clock : ℕ) (t : Tables)
+        (trace : List Entry) → IsTold w start clock t trace → (locks : LocksSeen)
+        → TasksTell t locks → (s : ℕ) (out : Out) → IsOut t.turns s out
+        → IsOpenAtom t.atoms (atom_of t.atoms out.txn.0) }
+    ensures free { (t : Tables) (locks : LocksSeen) → TasksTell t locks → (s : ℕ) (out : Out)
+        (node : ℕ) → IsOut t.turns s out → Contains (nodes_of (need_of out)) node
+        → IsFreeFor t.atoms (atom_of t.atoms out.txn.0) node }
 {}
