@@ -27,10 +27,10 @@ use Rattle.r4_turns.specs.declared.turn.Open.{Open}
 use Rattle.r4_turns.specs.declared.turn.Turn.{Turn}
 use Rattle.r4_history.specs.Tables.{IsOver, Tables, asked, opened, place_at, place_of, within_of}
 use Rattle.r4_history.specs.Told.{IsCommitting, IsTold}
-use Rattle.r4_history.proofs.AtomSteps.{SameFlags, last_is_sealed, own_name, sealed_own, state_count, state_kept, tell_same, txn_by}
+use Rattle.r4_history.proofs.AtomSteps.{SameFlags, last_is_sealed, sealed_own, state_count, state_kept, tell_same, txn_by}
 use Rattle.r4_history.proofs.CommitSteps.{commit_on}
 use Rattle.r4_history.proofs.Places.{commands_are, moved_with, place_is}
-use Rattle.r4_history.proofs.Told.{atom_is, txn_is}
+use Rattle.r4_history.proofs.Told.{atom_named, txn_is}
 use Rattle.r4_trace.proofs.FirstOnes.{begun_counted}
 
 no_replies : (w : Meaning Command Reply) (o : Option Start) → RepliesFrom w o []
@@ -324,13 +324,11 @@ module _ (w : Meaning Command Reply) (start : Option Start) (clock : ℕ) (t : T
           let txn : IsTxn t.atoms n = record { some = begun.0; within = omega (arith, begun.1, h.atoms.begun) } in
           let a = atom_of t.atoms n in
           let same = h.atoms.atom n txn in
-          let there = atom_is w start clock t trace h n s b in
-          let own : atom_of t.atoms a ≡ a = h.atoms.atom a there ∙ ap (atom_in trace) same
-          ∙ own_name trace n h.legal.order ∙ sym same in
+          let atom = atom_named w start clock t trace h n txn in
           subst (IsSealed trace) same (elim (cases_Bool (is_sealed t.atoms a)) [
-            | inl is ↦ (h.atoms.sealed a there).0 is
+            | inl is ↦ (h.atoms.sealed a atom.begun).0 is
             | inr un ↦ absurd (over.no_atom a (record {
-              unsealed = record { atom = record { begun = there; own = own }; unsealed = un };
+              unsealed = record { atom = atom; unsealed = un };
               none = count_none (is_open_in a) t.atoms.txns (λ i lt.
                   (let e : suc i - 1 ≡ i = omega arith in
                   ap (λ (k : ℕ). is_open_in a (get_or t.atoms.txns k no_txn)) (sym e)

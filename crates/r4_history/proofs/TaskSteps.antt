@@ -27,14 +27,14 @@ use Rattle.r4_turns.specs.declared.turn.Turn.{Turn}
 use Rattle.r4_history.specs.Held.{HoldsNew, Holds, IsOut, IsServed, OwnersFollow, TasksTell, need_of, nodes_of}
 use Rattle.r4_history.specs.Tables.{Begins, Fuses, Tables, opened, with_ended}
 use Rattle.r4_history.specs.Told.{IsTold}
-use Rattle.r4_history.proofs.AtomSteps.{fused_txn, kept_by_set, own_name, state_kept, txn_before}
+use Rattle.r4_history.proofs.AtomSteps.{fused_txn, kept_by_set, state_kept, txn_before}
 use Rattle.r4_history.proofs.DrawnSteps.{turn_other}
 use Rattle.r4_history.proofs.Places.{next_pushed, next_there, turn_now}
 use Rattle.r4_history.proofs.RunSteps.{open_in_both}
 use Rattle.r4_history.proofs.ServingSteps.{cons_cases}
-use Rattle.r4_trace.specs.Traced.{IsOpen, IsSealed, atom_in}
+use Rattle.r4_trace.specs.Traced.{IsOpen, IsSealed}
 use Rattle.r4_trace.proofs.FirstOnes.{open_unsealed}
-use Rattle.r4_history.proofs.Told.{atom_is}
+use Rattle.r4_history.proofs.Told.{atom_named}
 
 -- where no task stands
 none_stands : (o : Option TaskSeen) → o ≡ None → IsSome o → ⊥
@@ -544,16 +544,13 @@ module _ (w : Meaning Command Reply) (start : Option Start) (clock : ℕ) (t : T
       let opened : (txn_of t.atoms n).is_open ≡ true =
       subst (λ (x : TxnNo). (txn_of t.atoms x.0).is_open ≡ true) v.txn both.1 in
       let opn : IsOpen trace n script = (begins, λ ends. true≢false (sym opened ∙ (h.atoms.ended n begun).1 ends)) in
-      let there = atom_is w start clock t trace h n script begins in
+      let atom = atom_named w start clock t trace h n begun in
       record {
-        atom = record {
-          begun = there;
-          own = h.atoms.atom a there ∙ ap (atom_in trace) same ∙ own_name trace n h.legal.order ∙ sym same;
-        };
+        atom = atom;
         unsealed = false_from_ne_true (is_sealed t.atoms a)
             (λ sealed.
-              open_unsealed trace n script h.legal.order opn
-              (subst (IsSealed trace) same ((h.atoms.sealed a there).0 sealed)));
+            open_unsealed trace n script h.legal.order opn
+            (subst (IsSealed trace) same ((h.atoms.sealed a atom.begun).0 sealed)));
       }
 
 -- no other open atom owns what it reaches

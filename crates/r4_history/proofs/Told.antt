@@ -1,7 +1,7 @@
 -- Each entry keeps what the tables say of the trace.
 use Rattle.std.proofs.Common.{◌≡◌, Bool, ◌⊎◌, inl, inr, ⊎_elim, ℕ, ◌+◌, ◌-◌, ◌<◌, ◌≤◌, ◌==◌, true, false, true≢false, cond, List, ◌∷◌, length, slice_get, Option, Some, None, refl, sym, ◌∙◌, ap, subst, arith}
 use Rattle.std.proofs.lemmas.Bool.{cases_eq, cond-true, cond-false, eq-eqb, false_from_ne_true, ne_eqb, true_from_ne_false}
-use Rattle.r4_atoms.specs.Atoms.{AllCommitted, AtomsSeen, IsBegun as IsTxn, IsOpenAtom, IsOpenIn, atom_of, is_committed, state_of, txn_of}
+use Rattle.r4_atoms.specs.Atoms.{AllCommitted, atom_of, AtomsSeen, is_committed, IsAtom, IsBegun as IsTxn, IsOpenAtom, IsOpenIn, state_of, txn_of}
 use Rattle.r4_atoms.specs.declared.things.AtomState.{AtomState}
 use Rattle.r4_base.specs.Value.{Content}
 use Rattle.r4_base.specs.declared.things.AtomNo.{AtomNo}
@@ -31,7 +31,7 @@ use Rattle.r4_turns.specs.declared.turn.Open.{Open}
 use Rattle.r4_turns.specs.declared.turn.Turn.{Turn}
 use Rattle.r4_history.specs.Tables.{Begins, Fuses, IsLastOf, Stands, Tables, asked, place_at, with_cleaned, with_committed, with_ended, with_sealed, within_of}
 use Rattle.r4_history.specs.Told.{AtomsTell, CommitTells, IsCommitting, IsTold, IsUnderWay}
-use Rattle.r4_history.proofs.AtomSteps.{atom_begun, committed_sealed, flags_begin, flags_ended, flags_fuse, fused_count, last_begun, last_greatest, same_flags, state_kept, state_other, state_set, tell_acked, tell_begin, tell_broken, tell_cleaned, tell_committed, tell_done, tell_ended, tell_fuse, tell_refused, tell_sealed, txn_by, count_after}
+use Rattle.r4_history.proofs.AtomSteps.{atom_begun, committed_sealed, count_after, flags_begin, flags_ended, flags_fuse, fused_count, last_begun, last_greatest, own_name, same_flags, state_kept, state_other, state_set, tell_acked, tell_begin, tell_broken, tell_cleaned, tell_committed, tell_done, tell_ended, tell_fuse, tell_refused, tell_sealed, txn_by}
 use Rattle.r4_history.proofs.CommitSteps.{SameSeals, commit_on}
 use Rattle.r4_history.proofs.Places.{Moved, commands_are, moved_answered, moved_answered_left, moved_begun, moved_entered, moved_left, moved_left_answered, place_is, stood}
 use Rattle.std.proofs.lemmas.List.{length-set}
@@ -708,6 +708,18 @@ module _ (w : Meaning Command Reply) (start : Option Start) (clock : ℕ) (t : T
       let a = atom_begun trace n h.legal.order k.0 k.1 in
       let e = h.atoms.atom n there in
       record { some = omega (arith, a.0, e); within = omega (arith, a.1, e, h.atoms.begun) }
+
+  -- the atom of a transaction is one
+  pub atom_named : (n : ℕ) → IsTxn t.atoms n → IsAtom t.atoms (atom_of t.atoms n)
+  atom_named n is =
+      let there = atom_is n (txn_of t.atoms n).script (h.atoms.script n is) in
+      let same = h.atoms.atom n is in
+      record {
+        begun = there;
+        own =
+            h.atoms.atom (atom_of t.atoms n) there ∙ ap (atom_in trace) same ∙ own_name trace n h.legal.order
+            ∙ sym same;
+      }
 
   last_is : (s u : ℕ) → IsLastOf t.atoms s u → u ≡ last_of trace s
   last_is s u is = omega (arith, at_most, at_least)

@@ -1,9 +1,9 @@
 -- What a script waits for.
 use Rattle.std.proofs.Common.{◌≡◌, ◌⊎◌, inl, inr, ⊎_elim, ℕ, zero, suc, ◌-◌, ◌<◌, ◌==◌, Bool, true, false, not, true≢false, cond, List, [], ◌∷◌, ◌++◌, length, get_or, slice_get, Option, Some, None, IsSome, refl, sym, ◌∙◌, ap, subst, arith}
 use Rattle.std.specs.Option.{option_or}
-use Rattle.std.proofs.lemmas.Bool.{and_from, cases_Bool, cases_lt, eq-eqb, false≢true, not_from_false}
+use Rattle.std.proofs.lemmas.Bool.{and_from, and_parts, cases_Bool, cases_lt, eq-eqb, eqb-true, false≢true, not-true, not_from_false}
 use Rattle.std.proofs.lemmas.List.{get_or_past}
-use Rattle.r4_atoms.specs.Atoms.{AllCommitted, IsBegun as IsTxn, atom_of, is_sealed, IsSmallestAtom, IsSmallestOpen, IsUncommittedOf, txn_of, is_pending_as}
+use Rattle.r4_atoms.specs.Atoms.{AllCommitted, atom_of, is_pending, is_pending_as, is_sealed, IsBegun as IsTxn, IsClosedAtom, IsSmallestAtom, IsSmallestOpen, IsUncommittedOf, open_count, txn_of}
 use Rattle.r4_atoms.specs.declared.things.Uncommitted.TheVariants as uncommitted
 use Rattle.r4_base.specs.declared.things.AtomNo.{AtomNo}
 use Rattle.r4_base.specs.declared.things.NodeId.{NodeId}
@@ -33,13 +33,14 @@ use Rattle.r4_turns.specs.declared.turn.Turn.{Turn}
 use Rattle.r4_history.specs.declared.why.Why.{Why}
 use Rattle.r4_history.specs.declared.why.Why.TheVariants.{Held, Open, Sealed}
 use Rattle.r4_history.specs.Held.{AreOwners, IsOut, Need, TasksTell}
-use Rattle.r4_history.specs.Serving.{AreOrdered, IsHeldUp, IsInTheWay, IsInTheWayOf, IsInTheWayOfCommit, IsPassedOver, IsReason, IsSealedOwner, IsServedNext, IsAtWork, IsWaiting, WaitsFor}
+use Rattle.r4_history.specs.Serving.{AreOrdered, AsksForFlush, IsAtWork, IsHeldUp, IsInTheWay, IsInTheWayOf, IsInTheWayOfCommit, IsPassedOver, IsReason, IsSealedOwner, IsServedNext, IsWaiting, WaitsFor}
 use Rattle.r4_history.specs.Tables.{Stands, Tables, asked, next_at, place_at, within_of}
 use Rattle.r4_history.specs.Told.{IsCommitting, IsTold}
 use Rattle.r4_history.proofs.Ordered.{Fits, fits, in_order_next, in_order_pushed, IsSingleWork}
 use Rattle.r4_history.proofs.ServingSteps.{one_first}
 use Rattle.r4_history.proofs.Places.{commands_are, commands_pushed, stood}
-use Rattle.r4_history.proofs.Told.{at as place_now, atom_is}
+use Rattle.r4_history.proofs.Told.{at as place_now, atom_is, atom_named}
+use mathlib.Core.Bool.{beq}
 
 -- a holder that stands in the way is a task
 holds_there : (o : Option TaskSeen) (wanted : Mode) (node : ℕ) → conflicts wanted (mode_in o node) ≡ true → IsSome o
@@ -313,6 +314,27 @@ module _ (w : Meaning Command Reply) (start : Option Start) (clock : ℕ) (t : T
           → x ≡ y
       same_reason s (Some out) p q = p ∙ sym q
       same_reason s None p q = one_reason locks (needs s) s x y owners p q
+
+  -- the atom that is asked for can be sealed
+  pub flush_is_closed : (s : ℕ) (atom : AtomNo) → AsksForFlush t s atom → IsClosedAtom t.atoms atom.0
+  flush_is_closed s atom asks =
+      let one = asks.smallest.passes in
+      let n = one.0 in
+      let both = and_parts (is_pending t.atoms s n) (beq true (open_count t.atoms (atom_of t.atoms n) == 0)) one.2 in
+      let pending = and_parts ((txn_of t.atoms n).script == s) (not (is_sealed t.atoms (atom_of t.atoms n))) both.0 in
+      let closed : IsClosedAtom t.atoms (atom_of t.atoms n) = record {
+        unsealed = record {
+          atom = atom_named w start clock t trace h n one.1;
+          unsealed = not-true (is_sealed t.atoms (atom_of t.atoms n)) pending.1;
+        };
+        none = eqb-true (open_count t.atoms (atom_of t.atoms n)) 0
+            (is_true (open_count t.atoms (atom_of t.atoms n) == 0) both.1);
+      } in
+      subst (IsClosedAtom t.atoms) one.3 closed
+    where
+      is_true : (b : Bool) → beq true b ≡ true → b ≡ true
+      is_true true e = refl
+      is_true false e = e
 
 -- where one can be served, none waits
 pub served_or_waits : (t : Tables) (locks : LocksSeen) (needs : ℕ → Option Need) (s : ℕ) (why : Why)

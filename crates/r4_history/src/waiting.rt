@@ -1,8 +1,9 @@
 //! Laws of waiting.
 
 ghost use Rattle.std.specs.Prelude.{◌≡◌, ◌⊎◌, ℕ, List, length, Option, None};
-ghost use Rattle.r4_atoms.specs.Atoms.{AllCommitted, IsUncommittedOf};
+ghost use Rattle.r4_atoms.specs.Atoms.{AllCommitted, IsClosedAtom, IsUncommittedOf};
 ghost use Rattle.r4_atoms.specs.declared.things.Uncommitted.TheVariants as uncommitted;
+ghost use Rattle.r4_base.specs.declared.things.AtomNo.{AtomNo};
 ghost use Rattle.r4_content.specs.Locality.{Meaning};
 ghost use Rattle.r4_content.specs.declared.command.Command.{Command};
 ghost use Rattle.r4_content.specs.declared.command.Command.TheVariants as commands;
@@ -15,7 +16,7 @@ ghost use Rattle.r4_trace.specs.declared.entry.Entry.{Entry};
 ghost use Rattle.r4_turns.specs.Turns.{IsScript, TurnsSeen, commands_at, with_command};
 ghost use Rattle.r4_history.specs.declared.why.Why.{Why};
 ghost use Rattle.r4_history.specs.Held.{AreOwners, Need, TasksTell};
-ghost use Rattle.r4_history.specs.Serving.{AreOrdered, IsServedNext, IsAtWork, IsWaiting, WaitsFor};
+ghost use Rattle.r4_history.specs.Serving.{AreOrdered, AsksForFlush, IsServedNext, IsAtWork, IsWaiting, WaitsFor};
 ghost use Rattle.r4_history.specs.Tables.{Tables};
 ghost use Rattle.r4_history.specs.Told.{IsTold};
 
@@ -44,12 +45,16 @@ pub fn something_is_waited_for()
 {}
 
 /// Where no atom of a script is left that is not sealed, and no commit is under way, each of its
-/// transactions is in a committed atom. So a `commit` is acknowledged, asks for a flush, or waits.
+/// transactions is in a committed atom. So a `commit` is acknowledged, waits, or asks for a flush of
+/// an atom that can be sealed.
 pub fn commits_have_answers()
-    ensures { (w : Meaning Command Reply) (start : Option Start) (clock : ℕ) (t : Tables)
+    ensures committed { (w : Meaning Command Reply) (start : Option Start) (clock : ℕ) (t : Tables)
         (trace : List Entry) → IsTold w start clock t trace
         → (s : ℕ) → t.broken ≡ None → t.commit ≡ None
         → IsUncommittedOf t.atoms s uncommitted.None → AllCommitted t.atoms s }
+    ensures flush { (w : Meaning Command Reply) (start : Option Start) (clock : ℕ) (t : Tables)
+        (trace : List Entry) → IsTold w start clock t trace
+        → (s : ℕ) (atom : AtomNo) → AsksForFlush t s atom → IsClosedAtom t.atoms atom.0 }
 {}
 
 /// In the scripts of a text transactions begin outside of one another and end; and so it is with a
