@@ -36,7 +36,8 @@ first_txn = record { 0 = 1 }
 abbrev pub first_atom : AtomNo
 first_atom = record { 0 = 1 }
 
--- its trace, the newest entry first, where the command has this reply: done, committed, acknowledged
+-- its trace, the newest entry first, where the command has this reply: done, committed,
+-- acknowledged
 abbrev pub trace_begun : List Entry
 trace_begun = Begin first_txn first_script ∷ []
 

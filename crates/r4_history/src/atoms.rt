@@ -14,7 +14,7 @@ ghost use Rattle.r4_history.specs.Tables.{Fuses, Tables, with_cleaned, with_comm
 ghost use Rattle.r4_history.specs.Told.{IsTold};
 
 /// Two open atoms become one, which the smaller names.
-pub fn atoms_fuse()
+pub fn two_atoms_fuse()
     ensures { (w : Meaning Command Reply) (start : Option Start) (clock : ℕ) (t : Tables)
         (trace : List Entry) → IsTold w start clock t trace
         → (kept gone : AtomNo) (node : NodeId) (atoms : AtomsSeen) → t.broken ≡ None

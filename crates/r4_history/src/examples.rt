@@ -20,8 +20,8 @@ pub fn one_run()
         → (t : Tables) × IsTold w None clock t (one_trace r clock) × IsOver t }
 {}
 
-/// A command of the first of two atoms reads a node that the second one owns: with that one its atom
-/// fuses, and the entry names the node.
+/// A command of the first of two atoms reads a node that the second one owns: with that one its
+/// atom fuses, and the entry names the node.
 pub fn reading_fuses()
     ensures { AreOthers two_atoms 1 reads_five ((2, 5) ∷ []) }
 {}

@@ -14,7 +14,7 @@ mod transactions;
 mod waiting;
 mod why;
 
-pub use atoms::{atoms_are_committed, atoms_fuse};
+pub use atoms::{atoms_are_committed, two_atoms_fuse};
 pub use commands::{commands_are_done, commands_are_refused, commits_are_acknowledged};
 pub use examples::{one_run, one_task, reading_fuses};
 pub use ids::{drawn_ids_are_new, ids_are_drawn_once, ids_stay};

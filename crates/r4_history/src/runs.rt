@@ -69,7 +69,7 @@ pub fn told_traces_are_legal()
     ensures legal { (w : Meaning Command Reply) (start : Option Start) (clock : ℕ) (t : Tables)
         (trace : List Entry) → IsTold w start clock t trace
         → IsLegal w start (Some (asked t.turns.job)) trace }
-    ensures transactions { (w : Meaning Command Reply) (start : Option Start) (clock : ℕ) (t : Tables)
+    ensures begun { (w : Meaning Command Reply) (start : Option Start) (clock : ℕ) (t : Tables)
         (trace : List Entry) → IsTold w start clock t trace
         → (s : ℕ) (o : Open) → IsScript t.turns s → (turn_at t.turns s).transaction ≡ Some o
         → IsBegun t.atoms o.txn.0

@@ -109,8 +109,8 @@ pub fn tasks_are_apart()
         → Contains (numbers (need_of a).writes) node → Contains (nodes_of (need_of b)) node → ⊥ }
 {}
 
-/// The atom of a task that is out is open, and no other open atom owns a node that it reaches: so its
-/// atom may capture each of them.
+/// The atom of a task that is out is open, and no other open atom owns a node that it reaches: so
+/// its atom may capture each of them.
 pub fn tasks_may_capture()
     ensures atom { (w : Meaning Command Reply) (start : Option Start) (clock : ℕ) (t : Tables)
         (trace : List Entry) → IsTold w start clock t trace → (locks : LocksSeen)

@@ -20,8 +20,8 @@ ghost use Rattle.r4_history.specs.Serving.{AreOrdered, AsksForFlush, IsServedNex
 ghost use Rattle.r4_history.specs.Tables.{Tables};
 ghost use Rattle.r4_history.specs.Told.{IsTold};
 
-/// A script waits for one reason, and what is told where none can be served is one reason too. It is
-/// not told where one can be served.
+/// A script waits for one reason, and what is told where none can be served is one reason too. It
+/// is not told where one can be served.
 pub fn scripts_wait_for_one_reason()
     ensures script { (w : Meaning Command Reply) (start : Option Start) (clock : ℕ) (t : Tables)
         (trace : List Entry) → IsTold w start clock t trace
@@ -45,8 +45,8 @@ pub fn something_is_waited_for()
 {}
 
 /// Where no atom of a script is left that is not sealed, and no commit is under way, each of its
-/// transactions is in a committed atom. So a `commit` is acknowledged, waits, or asks for a flush of
-/// an atom that can be sealed.
+/// transactions is in a committed atom. So a `commit` is acknowledged, waits, or asks for a flush
+/// of an atom that can be sealed.
 pub fn commits_have_answers()
     ensures committed { (w : Meaning Command Reply) (start : Option Start) (clock : ℕ) (t : Tables)
         (trace : List Entry) → IsTold w start clock t trace
