@@ -1,0 +1,14 @@
+pub mod Places
+pub mod AtomSteps
+pub mod CommitSteps
+pub mod Told
+pub mod RunSteps
+pub mod Drawing
+pub mod DrawnSteps
+pub mod ServingSteps
+pub mod Fusing
+pub mod Ordered
+pub mod WaitingSteps
+pub mod TaskSteps
+pub mod Worked
+pub mod WorkedTask
