@@ -1,0 +1,10 @@
+pub mod Swapped
+pub mod Planning
+pub mod ByBlock
+pub mod FlushedCells
+pub mod Gathering
+pub mod Remembering
+pub mod Sealing
+pub mod Owned
+pub mod RenamingItems
+pub mod OneCell

@@ -1,0 +1,4 @@
+pub mod Flushing
+pub mod Flushed
+pub mod RenamedItems
+pub mod Sample

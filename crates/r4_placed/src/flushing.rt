@@ -1,0 +1,93 @@
+//! Laws of an open atom that is flushed and sealed (docs/durable.md). Each is the contract of a function that does
+//! nothing.
+
+ghost use Rattle.std.specs.Prelude.{◌≡◌, ◌<◌, ◌^◌, ℕ, [], true, Some};
+ghost use Rattle.r4_base.specs.Tree.{IsTree, Node, Root, Store};
+ghost use Rattle.r4_base.specs.Value.{Content, Value};
+ghost use Rattle.r4_base.specs.declared.things.AtomNo.{AtomNo};
+ghost use Rattle.r4_base.specs.declared.things.NodeId.{NodeId};
+ghost use Rattle.r4_base.specs.declared.things.ScriptNo.{ScriptNo};
+ghost use Rattle.r4_base.specs.declared.things.TxnNo.{TxnNo};
+ghost use Rattle.r4_cell.specs.Patch.{Patch};
+ghost use Rattle.r4_content.specs.Locality.{Meaning};
+ghost use Rattle.r4_content.specs.declared.command.Command.{Command};
+ghost use Rattle.r4_content.specs.declared.reply.Reply.{Reply};
+ghost use Rattle.r4_place.specs.Chosen.{placed_all};
+ghost use Rattle.r4_wander.specs.declared.plan.LogPlan.{LogPlan};
+ghost use Rattle.r4_commit.specs.Plannable.{IsPlannable};
+ghost use Rattle.r4_sets.specs.Atoms.{committed, fused, opened};
+ghost use Rattle.r4_sets.specs.Change.{Applies, applied, touches};
+ghost use Rattle.r4_sets.specs.Session.{Session, Sets};
+ghost use Rattle.r4_sealed.specs.Commits.{HasPlan, IsCommitOn};
+ghost use Rattle.r4_sealed.specs.Written.{ComesFrom, Frees};
+ghost use Rattle.r4_placed.specs.Flushed.{AreFlushed, AreUnowned, IsFlushed, IsSealedTo, OwnsBlocks};
+ghost use Rattle.r4_placed.specs.Flushed.{sealed_to, with_flushed};
+ghost use Rattle.r4_placed.specs.Flushing.{Flushing, IsAtRest, commit_by_block, commit_of};
+
+use r4_cell::on_disk_law;
+
+/// Where nothing is unflushed, the blocks that are chosen for an atom's cells make a plan that is safe (`plannable`):
+/// for the cells under the names that they had (`commits`), and under the names of their blocks (`by_block`).
+pub fn plans_can_be_made()
+    ensures plannable { (n : ℕ) (work : Flushing) (m : Content) → IsAtRest n work m
+        → IsPlannable n work.base [] (placed_all work.space work.answers) work.cells work.answers
+        work.next work.last }
+    ensures commits { (n : ℕ) (work : Flushing) (m : Content) (p : LogPlan) → IsAtRest n work m
+        → HasPlan (commit_of work p) → IsCommitOn n (commit_of work p) }
+    ensures by_block { (n : ℕ) (work : Flushing) (m : Content) (p : LogPlan) → IsAtRest n work m
+        → HasPlan (commit_by_block work p) → IsCommitOn n (commit_by_block work p) }
+{}
+
+/// The committed cells with the atom's in place, where each of its own has its names renamed, are those of the atom in
+/// place under their new names (`gathered`). Each of them is written by the atom's commit or is a committed one that
+/// stays (`comes`); and the commit frees exactly the blocks that have no cell any more (`frees`). So it is where the
+/// plan is made for the cells under the names of their blocks.
+pub fn flushed_cells_are_written()
+    ensures gathered { (n : ℕ) (work : Flushing) (m : Content) (r : IsAtRest n work m) (c : Session)
+        → AreFlushed c work r.content.store
+        → IsFlushed c work r.content.store (with_flushed c work r.content.store) }
+    ensures comes { (n : ℕ) (work : Flushing) (m : Content) (r : IsAtRest n work m) (c : Session)
+        (u : Store Value) (root : Root) (p : LogPlan) → IsFlushed c work r.content.store u
+        → IsTree u root → ComesFrom r.content (commit_of work p) u
+        × ComesFrom r.content (commit_by_block work p) u }
+    ensures frees { (n : ℕ) (work : Flushing) (m : Content) (r : IsAtRest n work m) (c : Session)
+        (u : Store Value) (root : Root) (p : LogPlan) → IsFlushed c work r.content.store u
+        → IsTree u root → Frees r.content (commit_of work p) u
+        × Frees r.content (commit_by_block work p) u }
+{
+    on_disk_law();
+}
+
+/// An open atom, of whose cells each has its names renamed, can be sealed, where no open atom owns a block that was
+/// chosen: the other cells in memory stay as they are, since a cell without a block is named by one of its own atom
+/// (`sealed`). Where each owned block is that of a cell under the open atoms, nobody owns one that was chosen
+/// (`unowned`). And the session means what it meant (`sets`).
+pub fn flushed_atoms_are_sealed()
+    ensures sealed { (w : Meaning Command Reply) (n : ℕ) (work : Flushing) (m : Content)
+        (r : IsAtRest n work m) (c : Session) → Sets w c → AreFlushed c work r.content.store
+        → AreUnowned c work → IsSealedTo c work r.content.store
+        (with_flushed c work r.content.store) (with_flushed c work c.memory) }
+    ensures unowned { (n : ℕ) (work : Flushing) (m : Content) (r : IsAtRest n work m) (c : Session)
+        → AreFlushed c work r.content.store → OwnsBlocks c → AreUnowned c work }
+    ensures sets { (w : Meaning Command Reply) (n : ℕ) (work : Flushing) (m : Content)
+        (r : IsAtRest n work m) (c : Session) (u v : Store Value)
+        → IsSealedTo c work r.content.store u v → Sets w c → Sets w (sealed_to c work u v) }
+{}
+
+/// A block that an open atom owns is that of a cell under the open atoms: at the beginning, and where a command is done
+/// whose change takes no block as a new name, atoms become one, an atom is sealed, and one is committed.
+pub fn owned_blocks_stand()
+    ensures begun { (t : Store Value) (root : Root) (m : Content) → OwnsBlocks (opened t root m) }
+    ensures applied { (w : Meaning Command Reply) (c : Session) (txn : TxnNo) (script : ScriptNo)
+        (index : ℕ) (x : Command) (d : Patch Value) → OwnsBlocks c → Sets w c → Applies w c txn.0 x d
+        → ((i : ℕ) → i < 2 ^ 63 → touches d i ≡ true → (e : Node Value) × (d.old i ≡ Some e))
+        → OwnsBlocks (applied w c txn script index x d) }
+    ensures fused { (c : Session) (a b : AtomNo) (node : NodeId) → OwnsBlocks c
+        → OwnsBlocks (fused c a b node) }
+    ensures sealed { (n : ℕ) (work : Flushing) (m : Content) (r : IsAtRest n work m) (c : Session)
+        → AreFlushed c work r.content.store → OwnsBlocks c
+        → OwnsBlocks (sealed_to c work (with_flushed c work r.content.store)
+        (with_flushed c work c.memory)) }
+    ensures committed { (c : Session) (a : AtomNo) (clock : ℕ) → OwnsBlocks c
+        → OwnsBlocks (committed c a clock) }
+{}
