@@ -1,0 +1,6 @@
+use Rattle.r4_durable.proofs.Commits.{means_again}
+use Rattle.r4_durable.proofs.kept.commits_are_kept.Goals as goal
+
+pub returns : goal.returns
+returns g = λ limit b job x small h start owns will lost later image end clock.
+    means_again g.on_disk_law.ensures limit small b job x h start owns will lost later image end clock

@@ -1,0 +1,13 @@
+use Rattle.r4_durable.proofs.Opened.{alike_means, kept_now, opens_safely}
+use Rattle.r4_durable.proofs.kept.openings_keep_volumes.Goals as goal
+
+pub returns : goal.returns
+returns g c =
+    let old = g.D.Device.state c.args.old.now in
+    let new = g.D.Device.state c.args.new.now in
+    record {
+      alike = alike_means;
+      moments = λ b limit on goes always. opens_safely b limit old new on goes always;
+      kept = λ b limit job super40 bitmaps count on goes put crashes o.
+          kept_now limit b job super40 bitmaps old new count on goes put crashes o;
+    }

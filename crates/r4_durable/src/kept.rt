@@ -1,0 +1,115 @@
+//! Laws of what is kept of a run, from the opening to a commit and from one commit to the next (docs/durable.md). Each
+//! is the contract of a function that does nothing.
+
+ghost use Rattle.std.specs.Prelude.{◌≡◌, ◌↔◌, ◌+◌, ◌<◌, ◌^◌, ℕ, suc, List, [], ◌∷◌, Option};
+ghost use Rattle.r4_base.specs.Image.{Image, IsImage};
+ghost use Rattle.r4_base.specs.Volume.{IsLost};
+ghost use Rattle.r4_base.specs.declared.superblock.Super40.{Super40};
+ghost use Rattle.r4_content.specs.Locality.{commands};
+ghost use Rattle.r4_outside.specs.Device.{Goes, IsQuiet, TellsCrashes, TellsReads};
+ghost use Rattle.r4_replay.specs.Replay.{PutInPlace, SettlesAlike, SettlesAlways};
+ghost use Rattle.r4_space.specs.Bitmaps.{told_space};
+ghost use Rattle.r4_space.specs.Space.{Space, settled};
+ghost use Rattle.r4_trace.specs.Job.{Asked};
+ghost use Rattle.r4_trace.specs.Safe.{HasFirst, HasNow, IsSafeFrom};
+ghost use Rattle.r4_trace.specs.Traced.{committed_in};
+ghost use Rattle.r4_trace.specs.declared.entry.Entry.TheVariants.{Sealed};
+ghost use Rattle.r4_wander.specs.declared.plan.LogPlan.{LogPlan};
+ghost use Rattle.r4_sets.specs.Atoms.{committed};
+ghost use Rattle.r4_sets.specs.Session.{Session};
+ghost use Rattle.r4_sealed.specs.Commits.{LeftInPart};
+ghost use Rattle.r4_placed.specs.Flushed.{OwnsBlocks};
+ghost use Rattle.r4_placed.specs.Flushing.{Flushing, commit_by_block};
+ghost use Rattle.r4_durable.specs.Kept.{CanSeal, HasOpened, HasSettled, IsKept, Means, sealing_of};
+ghost use Rattle.r4_durable.specs.Kept.{session_of};
+ghost use Rattle.r4_durable.specs.Meaning.{Beginning, IsNextId, IsOn, WasLost, first_id, means};
+ghost use Rattle.r4_durable.specs.Sealing.{IsSealing, Sealing, session_after};
+
+use r4_cell::on_disk_law;
+use r4_outside::Device;
+
+/// What settles as the image of a beginning, but for the footer's block, means its content (`alike`). So at each moment
+/// of a replay a crash leaves that content, whether it is answered or refused (`moments`). And where the replay put the
+/// log in place and the image was opened, all is there that is kept while nothing is under way (`kept`).
+pub fn openings_keep_volumes<D: Device>(old: &D, new: &D)
+    ensures alike { (b : Beginning) (image : Image) → IsImage b.blocks image
+        → SettlesAlike b.blocks b.image image → means b image b.content }
+    ensures moments { (b : Beginning) (limit : ℕ) → IsOn b (D.state old.now)
+        → Goes (D.state old.now) (D.state new.now)
+        → SettlesAlways (D.state old.now) (D.state new.now)
+        → IsSafeFrom (means b) (commands limit) b.content (D.state old.now).clock []
+        (D.state new.now) }
+    ensures kept { (b : Beginning) (limit : ℕ) (job : Option Asked) (super40 : Super40)
+        (bitmaps : List (List ℕ)) (count : ℕ) → IsOn b (D.state old.now)
+        → Goes (D.state old.now) (D.state new.now)
+        → (TellsReads (D.state old.now) → PutInPlace (D.state old.now) count (D.state new.now))
+        → (TellsCrashes (D.state old.now)
+        → SettlesAlways (D.state old.now) (D.state new.now) × IsQuiet (D.state new.now))
+        → (TellsReads (D.state new.now)
+        → HasOpened limit b job super40 bitmaps (D.state new.now).seen)
+        → IsKept limit b job (session_of b) (told_space super40.block_count bitmaps)
+        (D.state old.now).clock (D.state new.now) }
+{
+    let _ = old;
+    let _ = new;
+}
+
+/// What is kept means what the committed atoms made (`now`). A flush from there can be sealed, and what is known of the
+/// next id and of lost blocks is known of the image with which it begins (`sealed`); and its owned blocks are those of
+/// cells then (`owns`).
+pub fn kept_runs_can_be_sealed()
+    ensures now { (limit : ℕ) (b : Beginning) (job : Option Asked) (c : Session) (s : Space)
+        (image : Image) → Means limit b job c s image
+        → HasNow (means b) (commands limit) b.content c.trace image }
+    ensures sealed { (limit : ℕ) (b : Beginning) (job : Option Asked) (c : Session) (work : Flushing)
+        (plan : LogPlan) (kept : Means limit b job c work.space work.base)
+        → CanSeal limit b c kept.rests.super40 work plan
+        → (h : IsSealing limit (first_id b) job b.blocks (sealing_of c work plan))
+        × IsNextId b h.rest.content.super.oid
+        × ((k : ℕ) → IsLost h.rest.content k ↔ WasLost b k) }
+    ensures owns { (limit : ℕ) (b : Beginning) (job : Option Asked) (c : Session) (work : Flushing)
+        (plan : LogPlan) (kept : Means limit b job c work.space work.base)
+        → CanSeal limit b c kept.rests.super40 work plan
+        → OwnsBlocks (session_after (sealing_of c work plan)) }
+{}
+
+/// An atom is sealed, committed and settled, from what is kept to what is kept again. Whatever settles by the part of
+/// its commit that is under way is what may be found then (`found`), and has the atom once the journal header is
+/// written (`durable`); and in the end all is there again (`again`).
+pub fn kept_runs_go_on()
+    ensures found { (limit : ℕ) (b : Beginning) (job : Option Asked) (c : Session) (work : Flushing)
+        (plan : LogPlan) → limit < 2 ^ 64 → (kept : Means limit b job c work.space work.base)
+        → CanSeal limit b c kept.rests.super40 work plan → IsNextId b work.next.oid → (i : ℕ)
+        (image : Image) → IsImage b.blocks image
+        → LeftInPart b.blocks (commit_by_block work plan) i image
+        → HasNow (means b) (commands limit) b.content (Sealed work.atom ∷ c.trace) image }
+    ensures durable { (limit : ℕ) (b : Beginning) (job : Option Asked) (c : Session) (work : Flushing)
+        (plan : LogPlan) → limit < 2 ^ 64 → (kept : Means limit b job c work.space work.base)
+        → CanSeal limit b c kept.rests.super40 work plan → IsNextId b work.next.oid → (i : ℕ)
+        (image : Image) → IsImage b.blocks image
+        → LeftInPart b.blocks (commit_by_block work plan) (suc (suc i)) image
+        → HasFirst (means b) (commands limit) b.content (Sealed work.atom ∷ c.trace)
+        (committed_in c.trace + 1) image }
+    ensures again { (limit : ℕ) (b : Beginning) (job : Option Asked) (c : Session) (work : Flushing)
+        (plan : LogPlan) → limit < 2 ^ 64 → (kept : Means limit b job c work.space work.base)
+        → CanSeal limit b c kept.rests.super40 work plan → IsNextId b work.next.oid → (later : Space)
+        (image : Image) → HasSettled b (sealing_of c work plan) later image → (clock : ℕ)
+        → Means limit b job (committed (session_after (sealing_of c work plan)) work.atom clock)
+        (settled later work.atom) image }
+{
+    on_disk_law();
+}
+
+/// Once the commit of a sealed atom has settled, all is there again that is kept while nothing is under way: for the
+/// session with the Committed entry, and the space in which the atom has settled.
+pub fn commits_are_kept()
+    ensures { (limit : ℕ) (b : Beginning) (job : Option Asked) (x : Sealing) → limit < 2 ^ 64
+        → (h : IsSealing limit (first_id b) job b.blocks x) → x.session.start ≡ b.content
+        → OwnsBlocks (session_after x) → IsNextId b x.flush.next.oid
+        → ((k : ℕ) → IsLost h.rest.content k ↔ WasLost b k) → (later : Space) (image : Image)
+        → HasSettled b x later image → (clock : ℕ)
+        → Means limit b job (committed (session_after x) x.flush.atom clock)
+        (settled later x.flush.atom) image }
+{
+    on_disk_law();
+}
