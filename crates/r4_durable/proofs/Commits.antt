@@ -1,18 +1,19 @@
 -- Once a commit has settled, what was kept is kept again.
-use Rattle.std.proofs.Common.{◌≡◌, ℕ, ◌+◌, ◌^◌, ◌<◌, [], Option, refl, sym, ap, ◌∙◌, subst}
+use Rattle.std.proofs.Common.{◌≡◌, ℕ, ◌+◌, ◌^◌, ◌<◌, false, [], List, Option, refl, sym, ap, ◌∙◌, subst, arith}
 use Rattle.std.specs.Prelude.{◌↔◌}
 use Rattle.r4_base.specs.Image.{Image}
-use Rattle.r4_base.specs.Value.{Content}
+use Rattle.r4_base.specs.Tree.{Store}
+use Rattle.r4_base.specs.Value.{Content, Value}
 use Rattle.r4_base.specs.Volume.{IsLost}
 use Rattle.r4_base.specs.declared.superblock.Super40.{Super40}
 use Rattle.r4_content.specs.Locality.{commands}
 use Rattle.r4_space.specs.Space.{Space, settled}
-use Rattle.r4_trace.specs.Folds.{after_first}
+use Rattle.r4_trace.specs.declared.entry.Entry.{Entry}
 use Rattle.r4_trace.specs.Job.{Asked}
 use Rattle.r4_trace.specs.Traced.{committed_in, sealed_in}
 use Rattle.r4_wander.specs.Kept.{IsVolumeOf}
 use Rattle.r4_sets.specs.Atoms.{committed}
-use Rattle.r4_sets.specs.Session.{Session}
+use Rattle.r4_sets.specs.Session.{Layer, Session}
 use Rattle.r4_sets.proofs.Gathered.{committed_sets}
 use Rattle.r4_sealed.specs.Commits.{image_after, super_after}
 use Rattle.r4_sealed.specs.Contents.{HasContentWith}
@@ -20,25 +21,26 @@ use Rattle.r4_sealed.specs.Written.{IsSpaceOf}
 use Rattle.r4_sealed.proofs.Kept.{ended}
 use Rattle.r4_sealed.proofs.Resting.{Rests, lost_rested, rested}
 use Rattle.r4_sealed.proofs.Settled.{settled_space}
-use Rattle.r4_placed.specs.Flushed.{OwnsBlocks}
 use Rattle.r4_placed.proofs.FlushedCells.{FitsOnDisk}
 use Rattle.r4_placed.proofs.Owned.{committed_owns}
-use Rattle.r4_durable.specs.Kept.{HasSettled, Means}
+use Rattle.r4_durable.specs.GoingOn.{GoesOn}
+use Rattle.r4_durable.specs.Kept.{HasSettled, IsSession, Means}
 use Rattle.r4_durable.specs.Meaning.{Beginning, IsNextId, WasLost, first_id}
 use Rattle.r4_durable.specs.Sealing.{IsSealing, Sealing, commit_in, made_by, session_after}
 use Rattle.r4_durable.proofs.Opened.{none_in}
-use Rattle.r4_durable.proofs.SealedContent.{all_sets, count_is, lost_is, new_content, ok}
+use Rattle.r4_durable.proofs.SealedContent.{count_is, lost_is, new_content, ok}
+use Rattle.r4_durable.proofs.Steps.{counts_stay, made_is}
 
 module _ (disk : FitsOnDisk) (limit : ℕ) (small : limit < 2 ^ 64) (b : Beginning) (job : Option Asked) (x : Sealing)
-    (h : IsSealing limit (first_id b) job b.blocks x) (start : x.session.start ≡ b.content)
-    (owns : OwnsBlocks (session_after x)) (will : IsNextId b x.flush.next.oid)
+    (h : IsSealing limit (first_id b) job b.blocks x) (will : IsNextId b x.flush.next.oid)
     (same : (k : ℕ) → IsLost h.rest.content k ↔ WasLost b k) (later : Space) (image : Image)
-    (end : HasSettled b x later image) (clock : ℕ) where
+    (end : HasSettled b x later image) (go : Session) (more : List Entry) (goes : GoesOn (session_after x) go more)
+    (session : IsSession limit b job go) (clock : ℕ) where
   abbrev now : Session
   now = session_after x
 
   abbrev after : Session
-  after = committed now x.flush.atom clock
+  after = committed go x.flush.atom clock
 
   abbrev space : Space
   space = settled later x.flush.atom
@@ -63,13 +65,13 @@ module _ (disk : FitsOnDisk) (limit : ℕ) (small : limit < 2 ^ 64) (b : Beginni
       settled_space b.blocks (commit_in x) (ok disk limit small (first_id b) job b.blocks x h) _ new.content
       (count_is disk limit small (first_id b) job b.blocks x h) later end.is_later
 
-  -- what the image has, whichever way its content is written
-  record Left (m : Content) : Type 0 where
-    pub has : HasContentWith b.blocks image (super_after (commit_in x)) x.under m
+  -- what the image has, whichever way its content and its cells are written
+  record Left (t : Store Value) (m : Content) : Type 0 where
+    pub has : HasContentWith b.blocks image (super_after (commit_in x)) t m
     pub here : IsSpaceOf has.content space
     pub lost : (k : ℕ) → IsLost has.content k ↔ WasLost b k
 
-  left : Left (made_by limit now (sealed_in now.trace))
+  left : Left x.under (made_by limit now (sealed_in now.trace))
   left = record {
     has = record {
       content = r.has.content;
@@ -87,28 +89,42 @@ module _ (disk : FitsOnDisk) (limit : ℕ) (small : limit < 2 ^ 64) (b : Beginni
         (λ l. three.0 (two.1 (one.0 l)), λ l. one.1 (two.0 (three.1 l)));
   }
 
-  one_more : sealed_in now.trace ≡ committed_in now.trace + 1
-  one_more = ap (λ (k : ℕ). k + 1) h.none_sealed
+  one_more : sealed_in go.trace ≡ committed_in go.trace + 1
+  one_more =
+      let counts = counts_stay limit now go more goes in
+      counts.0 ∙ ap (λ (k : ℕ). k + 1) (h.none_sealed ∙ sym counts.1)
 
-  left_after : Left (made_by limit after (committed_in after.trace))
-  left_after = subst (λ (k : ℕ). Left (after_first (commands limit) now.start now.trace k)) one_more left
+  same_made : made_by limit after (committed_in after.trace) ≡ made_by limit now (sealed_in now.trace)
+  same_made =
+      ap (made_by limit go) (sym one_more ∙ (counts_stay limit now go more goes).0)
+      ∙ made_is limit now go more goes (sealed_in now.trace) (omega arith)
+
+  left_after : Left after.base.cells (made_by limit after (committed_in after.trace))
+  left_after =
+      subst (Left go.under.cells) (sym same_made)
+      (subst (λ (l : Layer). Left l.cells (made_by limit now (sealed_in now.trace))) (sym goes.under) left)
 
   pub means_again : Means limit b job after space image
   means_again = record {
-    start = start;
-    sets = committed_sets (commands limit) now (all_sets disk limit small (first_id b) job b.blocks x h) x.flush.atom
-        clock
-        one_more;
-    run = record { lawful = h.run.lawful; room = h.run.room; paths = h.run.paths; ids = h.run.ids };
+    session = record {
+      start = session.start;
+      sets = committed_sets (commands limit) go session.sets x.flush.atom clock one_more;
+      run = record {
+        lawful = session.run.lawful;
+        room = session.run.room;
+        paths = session.run.paths;
+        ids = session.run.ids;
+      };
+      owns = committed_owns go session.owns x.flush.atom clock;
+    };
     none_sealed = one_more;
     alone = refl;
-    owns = committed_owns now owns x.flush.atom clock;
     rests = record {
       whole = end.whole;
       log = end.log;
       super40 = super_after (commit_in x);
       has = left_after.has;
-      root = h.root;
+      root = ap (λ (l : Layer). l.root) goes.under ∙ h.root;
       lawful = end.lawful;
       here = left_after.here;
       none_placed = λ k. none_in later.block_count k;

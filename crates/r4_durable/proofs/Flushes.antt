@@ -51,12 +51,12 @@ module _ (limit : ℕ) (b : Beginning) (job : Option Asked) (c : Session) (s : S
             most = omega (arith, is, high);
             none_lost = λ k l. (kept.rests.lost k).0 l;
           };
-          replies = kept.sets.committed.replies;
+          replies = kept.session.sets.committed.replies;
         };
       }
 
   pub means_now : HasNow (means b) (commands limit) b.content c.trace image
-  means_now = subst (λ (m : Content). HasNow (means b) (commands limit) m c.trace image) kept.start has_now
+  means_now = subst (λ (m : Content). HasNow (means b) (commands limit) m c.trace image) kept.session.start has_now
 
 module _ (limit : ℕ) (b : Beginning) (job : Option Asked) (c : Session) (work : Flushing) (plan : LogPlan)
     (kept : Means limit b job c work.space work.base) (can : CanSeal limit b c kept.rests.super40 work plan) where
@@ -72,7 +72,7 @@ module _ (limit : ℕ) (b : Beginning) (job : Option Asked) (c : Session) (work 
   -- an owned block is one of a committed cell
   pub owned_there : (i k : ℕ) → c.owner i ≡ Some k → i < 2 ^ 63 → (d : Node Value) × (base_store i ≡ Some d)
   owned_there i k own low =
-      let (d, is) = kept.owns i k own low in
+      let (d, is) = kept.session.owns i k own low in
       (d, ap (λ (t : Store Value). t i) same_store ∙ ap (λ (l : Layer). l.cells i) (sym kept.alone) ∙ is)
 
   abbrev pub rest : IsAtRest b.blocks work (made_by limit c (committed_in c.trace))
@@ -105,13 +105,13 @@ module _ (limit : ℕ) (b : Beginning) (job : Option Asked) (c : Session) (work 
   sealed_now =
       subst (λ (t : Store Value). IsSealedTo c work base_store (with_flushed c work t) (with_flushed c work c.memory))
       same_store
-      (sealed_cells (commands limit) b.blocks work (made_by limit c (committed_in c.trace)) rest c kept.sets flushed
+      (sealed_cells (commands limit) b.blocks work (made_by limit c (committed_in c.trace)) rest c kept.session.sets flushed
       unowned)
 
   abbrev pub is_sealing : IsSealing limit (first_id b) job b.blocks (sealing_of c work plan)
   is_sealing = record {
-    sets = kept.sets;
-    run = kept.run;
+    sets = kept.session.sets;
+    run = kept.session.run;
     none_sealed = kept.none_sealed;
     rest = rest;
     to = sealed_now;
@@ -126,7 +126,7 @@ module _ (limit : ℕ) (b : Beginning) (job : Option Asked) (c : Session) (work 
       subst (λ (t : Store Value). OwnsBlocks (sealed_to c work (with_flushed c work t)
       (with_flushed c work c.memory)))
       same_store
-      (sealed_owns b.blocks work (made_by limit c (committed_in c.trace)) rest c flushed kept.owns)
+      (sealed_owns b.blocks work (made_by limit c (committed_in c.trace)) rest c flushed kept.session.owns)
 
   pub id_may_be : IsNextId b is_sealing.rest.content.super.oid
   id_may_be = subst (λ (x : Super40). IsNextId b x.oid) (sym kept.rests.has.same_super) kept.rests.next_id

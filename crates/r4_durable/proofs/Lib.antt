@@ -3,5 +3,7 @@ pub mod SealedContent
 pub mod Crashed
 pub mod Opened
 pub mod Flushes
+pub mod Staying
+pub mod Steps
 pub mod Commits
 pub mod GoingOn

@@ -109,12 +109,14 @@ module _ (limit : ℕ) (b : Beginning) (job : Option Asked) (super40 : Super40) 
 
   pub opened_means : Means limit b job (session_of b) (told_space super40.block_count bitmaps) image
   opened_means = record {
-    start = refl;
-    sets = opened_sets (commands limit) b.volume.content.store (root_of b.volume.content.super) b.content tree;
-    run = o.run;
+    session = record {
+      start = refl;
+      sets = opened_sets (commands limit) b.volume.content.store (root_of b.volume.content.super) b.content tree;
+      run = o.run;
+      owns = opened_owns b.volume.content.store (root_of b.volume.content.super) b.content;
+    };
     none_sealed = refl;
     alone = refl;
-    owns = opened_owns b.volume.content.store (root_of b.volume.content.super) b.content;
     rests = record {
       whole = whole;
       log = log;

@@ -1,7 +1,8 @@
 -- What is kept of a run that began with a volume, while no commit is under way (docs/durable.md).
---     Rests   the image, with its space: it has the committed cells
---     Means   the session too
---     IsKept  on a device
+--     Rests      the image, with its space: it has the committed cells
+--     IsSession  the session
+--     Means      both
+--     IsKept     on a device
 use Rattle.std.specs.Prelude.{◌≡◌, ◌↔◌, ℕ, List, [], map, Option, Ok, false, slice_index_or}
 use Rattle.r4_base.specs.Chain.{HasLog, committed}
 use Rattle.r4_base.specs.Image.{AreDifferent, Image, IsImage, block_at}
@@ -31,8 +32,8 @@ use Rattle.r4_durable.specs.Meaning.{Beginning, IsNextId, WasLost, first_id, mea
 use Rattle.r4_durable.specs.Sealing.{Sealing, commit_in, made_by, session_after, start_in}
 
 -- Nothing is unflushed in the image; it has the committed cells, with the content of the committed atoms. The space is
--- its own, and no block is placed. Its next id may have been reached, and just the blocks are lost that were lost at the
--- beginning.
+-- its own, and no block is placed. Its next id may have been reached, and just the blocks are lost that were lost at
+-- the beginning.
 pub record Rests (limit : ℕ) (b : Beginning) (c : Session) (s : Space) (image : Image) : Type 0 where
   pub whole : IsImage b.blocks image
   pub log : HasLog b.blocks image []
@@ -45,16 +46,20 @@ pub record Rests (limit : ℕ) (b : Beginning) (c : Session) (s : Space) (image 
   pub next_id : IsNextId b super40.oid
   pub lost : (k : ℕ) → IsLost has.content k ↔ WasLost b k
 
--- The session began with the content of the beginning; each of its sets means what it should; no atom is sealed; and
--- a block that an open atom owns is one of a committed cell.
-pub record Means (limit : ℕ) (b : Beginning) (job : Option Asked) (c : Session) (s : Space) (image : Image)
-    : Type 0 where
+-- The session began with the content of the beginning; each of its sets means what it should; the run is lawful; and a
+-- block that an open atom owns is one of a cell under the open atoms.
+pub record IsSession (limit : ℕ) (b : Beginning) (job : Option Asked) (c : Session) : Type 0 where
   pub start : c.start ≡ b.content
   pub sets : Sets (commands limit) c
   pub run : IsLawfulRun limit (start_in c (first_id b)) job c.trace
+  pub owns : OwnsBlocks c
+
+-- In a session no atom is sealed, and an image has its committed cells.
+pub record Means (limit : ℕ) (b : Beginning) (job : Option Asked) (c : Session) (s : Space) (image : Image)
+    : Type 0 where
+  pub session : IsSession limit b job c
   pub none_sealed : sealed_in c.trace ≡ committed_in c.trace
   pub alone : c.under ≡ c.base
-  pub owns : OwnsBlocks c
   pub rests : Rests limit b c s image
 
 -- What the device reads means that; from the clock t on a crash left what it should; and now it leaves what is read.

@@ -33,7 +33,8 @@ first_id b = b.volume.content.super.oid
 abbrev pub WasLost : Beginning → ℕ → Type 0
 WasLost b k = IsLost b.volume.content k
 
--- The image has the volume m; its next id is one that may have been reached; and what is lost was lost at the beginning.
+-- The image has the volume m; its next id is one that may have been reached; and what is lost was lost at the
+-- beginning.
 abbrev pub means : Beginning → Image → Content → Type 0
 means b image m = IsVolumeOf b.blocks (first_id b) b.ids (WasLost b) image m
 

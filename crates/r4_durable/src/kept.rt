@@ -1,7 +1,7 @@
 //! Laws of what is kept of a run, from the opening to a commit and from one commit to the next (docs/durable.md). Each
 //! is the contract of a function that does nothing.
 
-ghost use Rattle.std.specs.Prelude.{◌≡◌, ◌↔◌, ◌+◌, ◌<◌, ◌^◌, ℕ, suc, List, [], ◌∷◌, Option};
+ghost use Rattle.std.specs.Prelude.{◌≡◌, ◌↔◌, ◌+◌, ◌<◌, ◌^◌, ℕ, suc, List, [], ◌∷◌, ◌++◌, Option};
 ghost use Rattle.r4_base.specs.Image.{Image, IsImage};
 ghost use Rattle.r4_base.specs.Volume.{IsLost};
 ghost use Rattle.r4_base.specs.declared.superblock.Super40.{Super40};
@@ -10,6 +10,9 @@ ghost use Rattle.r4_outside.specs.Device.{Goes, IsQuiet, TellsCrashes, TellsRead
 ghost use Rattle.r4_replay.specs.Replay.{PutInPlace, SettlesAlike, SettlesAlways};
 ghost use Rattle.r4_space.specs.Bitmaps.{told_space};
 ghost use Rattle.r4_space.specs.Space.{Space, settled};
+ghost use Rattle.r4_space.specs.Lawful.{IsLawful};
+ghost use Rattle.r4_trace.specs.declared.entry.Entry.{Entry};
+ghost use Rattle.r4_trace.specs.Order.{IsOrdered};
 ghost use Rattle.r4_trace.specs.Job.{Asked};
 ghost use Rattle.r4_trace.specs.Safe.{HasFirst, HasNow, IsSafeFrom};
 ghost use Rattle.r4_trace.specs.Traced.{committed_in};
@@ -20,8 +23,9 @@ ghost use Rattle.r4_sets.specs.Session.{Session};
 ghost use Rattle.r4_sealed.specs.Commits.{LeftInPart};
 ghost use Rattle.r4_placed.specs.Flushed.{OwnsBlocks};
 ghost use Rattle.r4_placed.specs.Flushing.{Flushing, commit_by_block};
-ghost use Rattle.r4_durable.specs.Kept.{CanSeal, HasOpened, HasSettled, IsKept, Means, sealing_of};
-ghost use Rattle.r4_durable.specs.Kept.{session_of};
+ghost use Rattle.r4_durable.specs.GoingOn.{GoesOn, MarksAlike, SealNothing};
+ghost use Rattle.r4_durable.specs.Kept.{CanSeal, HasOpened, HasSettled, IsKept, IsSession, Means};
+ghost use Rattle.r4_durable.specs.Kept.{sealing_of, session_of};
 ghost use Rattle.r4_durable.specs.Meaning.{Beginning, IsNextId, IsOn, WasLost, first_id, means};
 ghost use Rattle.r4_durable.specs.Sealing.{IsSealing, Sealing, session_after};
 
@@ -73,29 +77,50 @@ pub fn kept_runs_can_be_sealed()
         → OwnsBlocks (session_after (sealing_of c work plan)) }
 {}
 
-/// An atom is sealed, committed and settled, from what is kept to what is kept again. Whatever settles by the part of
-/// its commit that is under way is what may be found then (`found`), and has the atom once the journal header is
-/// written (`durable`); and in the end all is there again (`again`).
+/// What is kept stays kept where entries follow that seal and commit nothing, whatever becomes of the cells of open
+/// atoms (`kept`). So what may be found of a run may be found still (`found`).
+pub fn steps_are_kept()
+    ensures kept { (limit : ℕ) (b : Beginning) (job : Option Asked) (c now : Session) (s later : Space)
+        (more : List Entry) (image : Image) → Means limit b job c s image → GoesOn c now more
+        → MarksAlike s later → IsLawful later → IsSession limit b job now
+        → Means limit b job now later image }
+    ensures found { (limit : ℕ) (b : Beginning) (more trace : List Entry) (image : Image)
+        → IsOrdered (more ++ trace) → SealNothing more
+        → HasNow (means b) (commands limit) b.content trace image
+        → HasNow (means b) (commands limit) b.content (more ++ trace) image }
+{}
+
+/// An atom is sealed, committed and settled, from what is kept to what is kept again, while entries follow that seal
+/// and commit nothing. The session is one once the atom is sealed (`session`). Whatever settles by the part of the
+/// commit that is under way is what may be found then (`found`), and has the atom once the journal header is written
+/// (`durable`); and in the end all is there again (`again`).
 pub fn kept_runs_go_on()
+    ensures session { (limit : ℕ) (b : Beginning) (job : Option Asked) (c : Session) (work : Flushing)
+        (plan : LogPlan) → limit < 2 ^ 64 → (kept : Means limit b job c work.space work.base)
+        → CanSeal limit b c kept.rests.super40 work plan → IsNextId b work.next.oid
+        → IsSession limit b job (session_after (sealing_of c work plan)) }
     ensures found { (limit : ℕ) (b : Beginning) (job : Option Asked) (c : Session) (work : Flushing)
         (plan : LogPlan) → limit < 2 ^ 64 → (kept : Means limit b job c work.space work.base)
-        → CanSeal limit b c kept.rests.super40 work plan → IsNextId b work.next.oid → (i : ℕ)
-        (image : Image) → IsImage b.blocks image
+        → CanSeal limit b c kept.rests.super40 work plan → IsNextId b work.next.oid
+        → (more : List Entry) → IsOrdered (more ++ (Sealed work.atom ∷ c.trace)) → SealNothing more
+        → (i : ℕ) (image : Image) → IsImage b.blocks image
         → LeftInPart b.blocks (commit_by_block work plan) i image
-        → HasNow (means b) (commands limit) b.content (Sealed work.atom ∷ c.trace) image }
+        → HasNow (means b) (commands limit) b.content (more ++ (Sealed work.atom ∷ c.trace)) image }
     ensures durable { (limit : ℕ) (b : Beginning) (job : Option Asked) (c : Session) (work : Flushing)
         (plan : LogPlan) → limit < 2 ^ 64 → (kept : Means limit b job c work.space work.base)
-        → CanSeal limit b c kept.rests.super40 work plan → IsNextId b work.next.oid → (i : ℕ)
-        (image : Image) → IsImage b.blocks image
+        → CanSeal limit b c kept.rests.super40 work plan → IsNextId b work.next.oid
+        → (more : List Entry) → IsOrdered (more ++ (Sealed work.atom ∷ c.trace)) → SealNothing more
+        → (i : ℕ) (image : Image) → IsImage b.blocks image
         → LeftInPart b.blocks (commit_by_block work plan) (suc (suc i)) image
-        → HasFirst (means b) (commands limit) b.content (Sealed work.atom ∷ c.trace)
+        → HasFirst (means b) (commands limit) b.content (more ++ (Sealed work.atom ∷ c.trace))
         (committed_in c.trace + 1) image }
     ensures again { (limit : ℕ) (b : Beginning) (job : Option Asked) (c : Session) (work : Flushing)
         (plan : LogPlan) → limit < 2 ^ 64 → (kept : Means limit b job c work.space work.base)
         → CanSeal limit b c kept.rests.super40 work plan → IsNextId b work.next.oid → (later : Space)
-        (image : Image) → HasSettled b (sealing_of c work plan) later image → (clock : ℕ)
-        → Means limit b job (committed (session_after (sealing_of c work plan)) work.atom clock)
-        (settled later work.atom) image }
+        (image : Image) → HasSettled b (sealing_of c work plan) later image → (now : Session)
+        (more : List Entry) → GoesOn (session_after (sealing_of c work plan)) now more
+        → IsSession limit b job now → (clock : ℕ)
+        → Means limit b job (committed now work.atom clock) (settled later work.atom) image }
 {
     on_disk_law();
 }
@@ -104,12 +129,11 @@ pub fn kept_runs_go_on()
 /// session with the Committed entry, and the space in which the atom has settled.
 pub fn commits_are_kept()
     ensures { (limit : ℕ) (b : Beginning) (job : Option Asked) (x : Sealing) → limit < 2 ^ 64
-        → (h : IsSealing limit (first_id b) job b.blocks x) → x.session.start ≡ b.content
-        → OwnsBlocks (session_after x) → IsNextId b x.flush.next.oid
+        → (h : IsSealing limit (first_id b) job b.blocks x) → IsNextId b x.flush.next.oid
         → ((k : ℕ) → IsLost h.rest.content k ↔ WasLost b k) → (later : Space) (image : Image)
-        → HasSettled b x later image → (clock : ℕ)
-        → Means limit b job (committed (session_after x) x.flush.atom clock)
-        (settled later x.flush.atom) image }
+        → HasSettled b x later image → (now : Session) (more : List Entry)
+        → GoesOn (session_after x) now more → IsSession limit b job now → (clock : ℕ)
+        → Means limit b job (committed now x.flush.atom clock) (settled later x.flush.atom) image }
 {
     on_disk_law();
 }
