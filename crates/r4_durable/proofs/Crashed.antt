@@ -1,14 +1,12 @@
 -- What a crash leaves of a sealed atom's commit.
-use Rattle.std.proofs.Common.{◌≡◌, ⊎_elim, inl, inr, ℕ, zero, suc, ◌+◌, ◌^◌, ◌≤◌, ◌<◌, Option, sym, ap}
+use Rattle.std.proofs.Common.{◌≡◌, ⊎_elim, inl, inr, ℕ, zero, suc, ◌+◌, ◌^◌, ◌<◌, Option, sym, ap}
 use Rattle.std.proofs.Common.{◌∙◌, subst, arith}
 use Rattle.r4_base.specs.Image.{Image, IsImage}
 use Rattle.r4_base.specs.Volume.{HasContent, IsLost}
 use Rattle.r4_content.specs.Locality.{commands}
-use Rattle.r4_outside.specs.Device.{Goes, LeavesOnly, State}
 use Rattle.r4_trace.specs.Job.{Asked}
-use Rattle.r4_trace.specs.Order.{IsOrdered}
-use Rattle.r4_trace.specs.Safe.{HasFirst, HasNow, Step}
-use Rattle.r4_trace.specs.Traced.{committed_in, latest, sealed_in}
+use Rattle.r4_trace.specs.Safe.{HasFirst, HasNow}
+use Rattle.r4_trace.specs.Traced.{committed_in, sealed_in}
 use Rattle.r4_wander.specs.Kept.{IsVolumeOf}
 use Rattle.r4_sets.specs.Session.{Session}
 use Rattle.r4_sealed.specs.Commits.{LeftInPart, image_after}
@@ -133,18 +131,3 @@ module _ (disk : FitsOnDisk) (limit : ℕ) (small : limit < 2 ^ 64) (b : Beginni
       subst (λ (k : ℕ). HasFirst (means b) (commands limit) after.start after.trace k image) one_more
       (first_means (sealed_in after.trace) x.flush.next.oid image will
       (in_part disk limit small next_id job b.blocks x h (suc (suc i)) image whole by))
-
-  -- calls of the device while a part is under way
-  pub step : (i : ℕ) (d e : State) → e.blocks ≡ b.blocks → IsOrdered after.trace → latest after.trace ≤ d.clock
-      → Goes d e → LeavesOnly d e (LeftInPart b.blocks (commit_in x) i)
-      → Step (means b) (commands limit) after.start after.trace d e
-  step i d e size legal time goes left = record {
-    ordered = legal;
-    time = time;
-    goes = goes;
-    leaves = record {
-      each = λ m image lo hi is. found_in_part i image
-          (subst (λ (k : ℕ). IsImage k image) size (record { blocks = is.blocks; whole = is.whole }))
-          (left.each m image lo hi is);
-    };
-  }

@@ -105,7 +105,8 @@ module _ (limit : ℕ) (b : Beginning) (job : Option Asked) (c : Session) (work 
   sealed_now =
       subst (λ (t : Store Value). IsSealedTo c work base_store (with_flushed c work t) (with_flushed c work c.memory))
       same_store
-      (sealed_cells (commands limit) b.blocks work (made_by limit c (committed_in c.trace)) rest c kept.session.sets flushed
+      (sealed_cells (commands limit) b.blocks work (made_by limit c (committed_in c.trace)) rest c kept.session.sets
+      flushed
       unowned)
 
   abbrev pub is_sealing : IsSealing limit (first_id b) job b.blocks (sealing_of c work plan)

@@ -1,5 +1,5 @@
 -- What is found of a run stays found where entries follow that seal and commit nothing.
-use Rattle.std.proofs.Common.{◌≡◌, ℕ, ◌+◌, ◌≤◌, List, [], ◌∷◌, ◌++◌, refl, sym, ap, ◌∙◌, subst, arith}
+use Rattle.std.proofs.Common.{◌≡◌, ℕ, ◌≤◌, List, [], ◌∷◌, ◌++◌, refl, ◌∙◌, arith}
 use Rattle.r4_base.specs.Image.{Image}
 use Rattle.r4_base.specs.Value.{Content}
 use Rattle.r4_content.specs.Locality.{Meaning}
@@ -28,6 +28,11 @@ same_counts (e ∷ es) trace h =
     let one = one_count e (es ++ trace) h.0 in
     let rest = same_counts es trace h.1 in
     (one.0 ∙ rest.0, one.1 ∙ rest.1)
+
+-- what was in order before
+pub ordered_before : (more trace : List Entry) → IsOrdered (more ++ trace) → IsOrdered trace
+ordered_before [] trace legal = legal
+ordered_before (e ∷ es) trace legal = ordered_before es trace legal.2
 
 -- what as many atoms made as were sealed stays
 module _ (w : Meaning Command Reply) (x : Content) where

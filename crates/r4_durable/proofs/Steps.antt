@@ -1,8 +1,8 @@
 -- What is kept while nothing is under way stays kept over steps that seal and commit nothing.
-use Rattle.std.proofs.Common.{◌≡◌, ℕ, ◌≤◌, ◌<◌, Bool, false, List, ◌++◌, Option, get_or, refl, sym, ap, ◌∙◌, subst, arith}
+use Rattle.std.proofs.Common.{◌≡◌, ℕ, ◌≤◌, ◌<◌, Bool, false, List, Option, get_or, sym, ap, ◌∙◌, subst, arith}
 use Rattle.std.specs.Prelude.{◌↔◌}
 use Rattle.r4_base.specs.Image.{Image}
-use Rattle.r4_base.specs.Tree.{Root, Store}
+use Rattle.r4_base.specs.Tree.{Store}
 use Rattle.r4_base.specs.Value.{Content, Value}
 use Rattle.r4_base.specs.Volume.{IsLost}
 use Rattle.r4_content.specs.Locality.{commands}

@@ -101,6 +101,13 @@ pub record CanSeal
   pub counts : CountsObjects limit (start_in c (first_id b)) (in_under (session_after (sealing_of c work plan)))
       (session_after (sealing_of c work plan)).trace work.next
 
+-- From what is kept a flush is sealed and committed, with a next id that may have been reached.
+pub record IsUnderWay
+    (limit : ℕ) (b : Beginning) (job : Option Asked) (c : Session) (work : Flushing) (plan : LogPlan) : Type 0 where
+  pub kept : Means limit b job c work.space work.base
+  pub can : CanSeal limit b c kept.rests.super40 work plan
+  pub next_id : IsNextId b work.next.oid
+
 -- ---- and when its commit has settled
 
 -- The image settles as with the atom, and nothing is unflushed; the space is that of the commit, or later.

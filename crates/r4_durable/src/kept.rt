@@ -1,12 +1,12 @@
 //! Laws of what is kept of a run, from the opening to a commit and from one commit to the next (docs/durable.md). Each
 //! is the contract of a function that does nothing.
 
-ghost use Rattle.std.specs.Prelude.{◌≡◌, ◌↔◌, ◌+◌, ◌<◌, ◌^◌, ℕ, suc, List, [], ◌∷◌, ◌++◌, Option};
+ghost use Rattle.std.specs.Prelude.{◌≡◌, ◌↔◌, ◌+◌, ◌<◌, ◌^◌, ℕ, ◌≤◌, suc, List, [], ◌∷◌, ◌++◌, Option};
 ghost use Rattle.r4_base.specs.Image.{Image, IsImage};
 ghost use Rattle.r4_base.specs.Volume.{IsLost};
 ghost use Rattle.r4_base.specs.declared.superblock.Super40.{Super40};
 ghost use Rattle.r4_content.specs.Locality.{commands};
-ghost use Rattle.r4_outside.specs.Device.{Goes, IsQuiet, TellsCrashes, TellsReads};
+ghost use Rattle.r4_outside.specs.Device.{Goes, IsQuiet, Leaves, LeavesOnly, TellsCrashes, TellsReads};
 ghost use Rattle.r4_replay.specs.Replay.{PutInPlace, SettlesAlike, SettlesAlways};
 ghost use Rattle.r4_space.specs.Bitmaps.{told_space};
 ghost use Rattle.r4_space.specs.Space.{Space, settled};
@@ -14,9 +14,9 @@ ghost use Rattle.r4_space.specs.Lawful.{IsLawful};
 ghost use Rattle.r4_trace.specs.declared.entry.Entry.{Entry};
 ghost use Rattle.r4_trace.specs.Order.{IsOrdered};
 ghost use Rattle.r4_trace.specs.Job.{Asked};
-ghost use Rattle.r4_trace.specs.Safe.{HasFirst, HasNow, IsSafeFrom};
-ghost use Rattle.r4_trace.specs.Traced.{committed_in};
-ghost use Rattle.r4_trace.specs.declared.entry.Entry.TheVariants.{Sealed};
+ghost use Rattle.r4_trace.specs.Safe.{CommitStep, HasFirst, HasNow, IsSafeFrom, Step};
+ghost use Rattle.r4_trace.specs.Traced.{committed_in, latest};
+ghost use Rattle.r4_trace.specs.declared.entry.Entry.TheVariants.{Committed, Sealed};
 ghost use Rattle.r4_wander.specs.declared.plan.LogPlan.{LogPlan};
 ghost use Rattle.r4_sets.specs.Atoms.{committed};
 ghost use Rattle.r4_sets.specs.Session.{Session};
@@ -25,7 +25,7 @@ ghost use Rattle.r4_placed.specs.Flushed.{OwnsBlocks};
 ghost use Rattle.r4_placed.specs.Flushing.{Flushing, commit_by_block};
 ghost use Rattle.r4_durable.specs.GoingOn.{GoesOn, MarksAlike, SealNothing};
 ghost use Rattle.r4_durable.specs.Kept.{CanSeal, HasOpened, HasSettled, IsKept, IsSession, Means};
-ghost use Rattle.r4_durable.specs.Kept.{sealing_of, session_of};
+ghost use Rattle.r4_durable.specs.Kept.{IsUnderWay, sealing_of, session_of};
 ghost use Rattle.r4_durable.specs.Meaning.{Beginning, IsNextId, IsOn, WasLost, first_id, means};
 ghost use Rattle.r4_durable.specs.Sealing.{IsSealing, Sealing, session_after};
 
@@ -96,33 +96,78 @@ pub fn steps_are_kept()
 /// (`durable`); and in the end all is there again (`again`).
 pub fn kept_runs_go_on()
     ensures session { (limit : ℕ) (b : Beginning) (job : Option Asked) (c : Session) (work : Flushing)
-        (plan : LogPlan) → limit < 2 ^ 64 → (kept : Means limit b job c work.space work.base)
-        → CanSeal limit b c kept.rests.super40 work plan → IsNextId b work.next.oid
+        (plan : LogPlan) → limit < 2 ^ 64 → IsUnderWay limit b job c work plan
         → IsSession limit b job (session_after (sealing_of c work plan)) }
     ensures found { (limit : ℕ) (b : Beginning) (job : Option Asked) (c : Session) (work : Flushing)
-        (plan : LogPlan) → limit < 2 ^ 64 → (kept : Means limit b job c work.space work.base)
-        → CanSeal limit b c kept.rests.super40 work plan → IsNextId b work.next.oid
+        (plan : LogPlan) → limit < 2 ^ 64 → IsUnderWay limit b job c work plan
         → (more : List Entry) → IsOrdered (more ++ (Sealed work.atom ∷ c.trace)) → SealNothing more
         → (i : ℕ) (image : Image) → IsImage b.blocks image
         → LeftInPart b.blocks (commit_by_block work plan) i image
         → HasNow (means b) (commands limit) b.content (more ++ (Sealed work.atom ∷ c.trace)) image }
     ensures durable { (limit : ℕ) (b : Beginning) (job : Option Asked) (c : Session) (work : Flushing)
-        (plan : LogPlan) → limit < 2 ^ 64 → (kept : Means limit b job c work.space work.base)
-        → CanSeal limit b c kept.rests.super40 work plan → IsNextId b work.next.oid
+        (plan : LogPlan) → limit < 2 ^ 64 → IsUnderWay limit b job c work plan
         → (more : List Entry) → IsOrdered (more ++ (Sealed work.atom ∷ c.trace)) → SealNothing more
         → (i : ℕ) (image : Image) → IsImage b.blocks image
         → LeftInPart b.blocks (commit_by_block work plan) (suc (suc i)) image
         → HasFirst (means b) (commands limit) b.content (more ++ (Sealed work.atom ∷ c.trace))
         (committed_in c.trace + 1) image }
     ensures again { (limit : ℕ) (b : Beginning) (job : Option Asked) (c : Session) (work : Flushing)
-        (plan : LogPlan) → limit < 2 ^ 64 → (kept : Means limit b job c work.space work.base)
-        → CanSeal limit b c kept.rests.super40 work plan → IsNextId b work.next.oid → (later : Space)
+        (plan : LogPlan) → limit < 2 ^ 64 → IsUnderWay limit b job c work plan → (later : Space)
         (image : Image) → HasSettled b (sealing_of c work plan) later image → (now : Session)
         (more : List Entry) → GoesOn (session_after (sealing_of c work plan)) now more
         → IsSession limit b job now → (clock : ℕ)
         → Means limit b job (committed now work.atom clock) (settled later work.atom) image }
 {
     on_disk_law();
+}
+
+/// What a crash leaves of calls of a device while a commit is under way, in the words of a trace, whatever entries
+/// follow that seal and commit nothing: while a part is written (`part`); where the last of the calls ends the journal
+/// header, with the Committed entry (`header`); and behind it (`behind`).
+pub fn moments_of_commits<D: Device>(old: &D, new: &D)
+    ensures part { (limit : ℕ) (b : Beginning) (job : Option Asked) (c : Session) (work : Flushing)
+        (plan : LogPlan) → limit < 2 ^ 64 → IsUnderWay limit b job c work plan
+        → (more : List Entry) → IsOrdered (more ++ (Sealed work.atom ∷ c.trace)) → SealNothing more
+        → (i : ℕ) → (D.state new.now).blocks ≡ b.blocks
+        → latest (more ++ (Sealed work.atom ∷ c.trace)) ≤ (D.state old.now).clock
+        → Goes (D.state old.now) (D.state new.now)
+        → LeavesOnly (D.state old.now) (D.state new.now)
+        (LeftInPart b.blocks (commit_by_block work plan) i)
+        → Step (means b) (commands limit) b.content (more ++ (Sealed work.atom ∷ c.trace))
+        (D.state old.now) (D.state new.now) }
+    ensures header { (limit : ℕ) (b : Beginning) (job : Option Asked) (c : Session) (work : Flushing)
+        (plan : LogPlan) → limit < 2 ^ 64 → IsUnderWay limit b job c work plan
+        → (more : List Entry) → IsOrdered (more ++ (Sealed work.atom ∷ c.trace)) → SealNothing more
+        → (i : ℕ) → (D.state new.now).blocks ≡ b.blocks
+        → latest (more ++ (Sealed work.atom ∷ c.trace)) ≤ (D.state old.now).clock
+        → Goes (D.state old.now) (D.state new.now)
+        → LeavesOnly (D.state old.now) (D.state new.now)
+        (LeftInPart b.blocks (commit_by_block work plan) i)
+        → IsOrdered (Committed work.atom (D.state new.now).clock
+        ∷ (more ++ (Sealed work.atom ∷ c.trace)))
+        → (D.state old.now).clock < (D.state new.now).clock
+        → ((image : Image) → Leaves (D.state new.now) (D.state new.now).clock image
+        → LeftInPart b.blocks (commit_by_block work plan) 2 image)
+        → CommitStep (means b) (commands limit) b.content (more ++ (Sealed work.atom ∷ c.trace))
+        work.atom (D.state old.now) (D.state new.now) }
+    ensures behind { (limit : ℕ) (b : Beginning) (job : Option Asked) (c : Session) (work : Flushing)
+        (plan : LogPlan) → limit < 2 ^ 64 → IsUnderWay limit b job c work plan
+        → (more later : List Entry) (clock : ℕ)
+        → IsOrdered (later ++ (Committed work.atom clock ∷ (more ++ (Sealed work.atom ∷ c.trace))))
+        → SealNothing more → SealNothing later
+        → (i : ℕ) → (D.state new.now).blocks ≡ b.blocks
+        → latest (later ++ (Committed work.atom clock ∷ (more ++ (Sealed work.atom ∷ c.trace))))
+        ≤ (D.state old.now).clock
+        → Goes (D.state old.now) (D.state new.now)
+        → LeavesOnly (D.state old.now) (D.state new.now)
+        (LeftInPart b.blocks (commit_by_block work plan) (suc (suc i)))
+        → Step (means b) (commands limit) b.content
+        (later ++ (Committed work.atom clock ∷ (more ++ (Sealed work.atom ∷ c.trace))))
+        (D.state old.now) (D.state new.now) }
+{
+    on_disk_law();
+    let _ = old;
+    let _ = new;
 }
 
 /// Once the commit of a sealed atom has settled, all is there again that is kept while nothing is under way: for the

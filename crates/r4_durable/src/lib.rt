@@ -6,6 +6,9 @@ mod kept;
 mod meaning;
 mod sealing;
 
-pub use kept::{commits_are_kept, kept_runs_can_be_sealed, kept_runs_go_on, openings_keep_volumes, steps_are_kept};
+pub use kept::{
+    commits_are_kept, kept_runs_can_be_sealed, kept_runs_go_on, moments_of_commits,
+    openings_keep_volumes, steps_are_kept,
+};
 pub use meaning::{images_mean_volumes, named_runs_are_crash_safe};
-pub use sealing::{crashes_keep_contents, sealed_atoms_have_their_content, steps_of_commits};
+pub use sealing::{crashes_keep_contents, sealed_atoms_have_their_content};

@@ -5,12 +5,10 @@ ghost use Rattle.std.specs.Prelude.{◌≡◌, ◌↔◌, ◌+◌, ◌≤◌, �
 ghost use Rattle.r4_base.specs.Image.{Image, IsImage};
 ghost use Rattle.r4_base.specs.Volume.{HasContent, IsLost};
 ghost use Rattle.r4_content.specs.Locality.{commands};
-ghost use Rattle.r4_outside.specs.Device.{Goes, Leaves, LeavesOnly};
 ghost use Rattle.r4_trace.specs.Folds.{HasFirstReplies};
 ghost use Rattle.r4_trace.specs.Job.{Asked};
-ghost use Rattle.r4_trace.specs.Order.{IsOrdered};
-ghost use Rattle.r4_trace.specs.Safe.{HasFirst, HasNow, Step};
-ghost use Rattle.r4_trace.specs.Traced.{committed_in, latest, sealed_in};
+ghost use Rattle.r4_trace.specs.Safe.{HasFirst, HasNow};
+ghost use Rattle.r4_trace.specs.Traced.{committed_in, sealed_in};
 ghost use Rattle.r4_sets.specs.Session.{Sets};
 ghost use Rattle.r4_sealed.specs.Commits.{IsCommitOn, LeftInPart, image_after, super_after};
 ghost use Rattle.r4_sealed.specs.Contents.{HasContentWith};
@@ -19,7 +17,6 @@ ghost use Rattle.r4_durable.specs.Sealing.{IsSealing, MeansInPart, Sealing, comm
 ghost use Rattle.r4_durable.specs.Sealing.{session_after};
 
 use r4_cell::on_disk_law;
-use r4_outside::Device;
 
 /// An open atom is sealed under the names of its blocks: the session means what it meant (`sets`), and the plan is safe
 /// on its image (`commits`). The image with the atom's cells has the content of all that is sealed, with the superblock
@@ -67,22 +64,4 @@ pub fn crashes_keep_contents()
         (committed_in (session_after x).trace + 1) image }
 {
     on_disk_law();
-}
-
-/// Calls of a device during which a crash leaves what settles by a part of the commit leave what may be found.
-pub fn steps_of_commits<D: Device>(old: &D, new: &D)
-    ensures { (limit next_id : ℕ) (job : Option Asked) (b : Beginning) (x : Sealing)
-        → limit < 2 ^ 64 → (h : IsSealing limit next_id job b.blocks x)
-        → IsNextId b h.rest.content.super.oid → IsNextId b x.flush.next.oid
-        → ((k : ℕ) → IsLost h.rest.content k → WasLost b k) → (i : ℕ)
-        → (D.state new.now).blocks ≡ b.blocks → IsOrdered (session_after x).trace
-        → latest (session_after x).trace ≤ (D.state old.now).clock
-        → Goes (D.state old.now) (D.state new.now)
-        → LeavesOnly (D.state old.now) (D.state new.now) (LeftInPart b.blocks (commit_in x) i)
-        → Step (means b) (commands limit) (session_after x).start (session_after x).trace
-        (D.state old.now) (D.state new.now) }
-{
-    on_disk_law();
-    let _ = old;
-    let _ = new;
 }
