@@ -65,7 +65,8 @@ pub fn kept_runs_can_be_sealed()
     ensures now { (limit : ℕ) (b : Beginning) (job : Option Asked) (c : Session) (s : Space)
         (image : Image) → Means limit b job c s image
         → HasNow (means b) (commands limit) b.content c.trace image }
-    ensures sealed { (limit : ℕ) (b : Beginning) (job : Option Asked) (c : Session) (work : Flushing)
+    ensures sealed { (limit : ℕ) (b : Beginning) (job : Option Asked) (c : Session)
+        (work : Flushing)
         (plan : LogPlan) (kept : Means limit b job c work.space work.base)
         → CanSeal limit b c kept.rests.super40 work plan
         → (h : IsSealing limit (first_id b) job b.blocks (sealing_of c work plan))
@@ -80,7 +81,8 @@ pub fn kept_runs_can_be_sealed()
 /// What is kept stays kept where entries follow that seal and commit nothing, whatever becomes of the cells of open
 /// atoms (`kept`). So what may be found of a run may be found still (`found`).
 pub fn steps_are_kept()
-    ensures kept { (limit : ℕ) (b : Beginning) (job : Option Asked) (c now : Session) (s later : Space)
+    ensures kept { (limit : ℕ) (b : Beginning) (job : Option Asked) (c now : Session)
+        (s later : Space)
         (more : List Entry) (image : Image) → Means limit b job c s image → GoesOn c now more
         → MarksAlike s later → IsLawful later → IsSession limit b job now
         → Means limit b job now later image }
@@ -95,7 +97,8 @@ pub fn steps_are_kept()
 /// commit that is under way is what may be found then (`found`), and has the atom once the journal header is written
 /// (`durable`); and in the end all is there again (`again`).
 pub fn kept_runs_go_on()
-    ensures session { (limit : ℕ) (b : Beginning) (job : Option Asked) (c : Session) (work : Flushing)
+    ensures session { (limit : ℕ) (b : Beginning) (job : Option Asked) (c : Session)
+        (work : Flushing)
         (plan : LogPlan) → limit < 2 ^ 64 → IsUnderWay limit b job c work plan
         → IsSession limit b job (session_after (sealing_of c work plan)) }
     ensures found { (limit : ℕ) (b : Beginning) (job : Option Asked) (c : Session) (work : Flushing)
@@ -104,7 +107,8 @@ pub fn kept_runs_go_on()
         → (i : ℕ) (image : Image) → IsImage b.blocks image
         → LeftInPart b.blocks (commit_by_block work plan) i image
         → HasNow (means b) (commands limit) b.content (more ++ (Sealed work.atom ∷ c.trace)) image }
-    ensures durable { (limit : ℕ) (b : Beginning) (job : Option Asked) (c : Session) (work : Flushing)
+    ensures durable { (limit : ℕ) (b : Beginning) (job : Option Asked) (c : Session)
+        (work : Flushing)
         (plan : LogPlan) → limit < 2 ^ 64 → IsUnderWay limit b job c work plan
         → (more : List Entry) → IsOrdered (more ++ (Sealed work.atom ∷ c.trace)) → SealNothing more
         → (i : ℕ) (image : Image) → IsImage b.blocks image
@@ -135,7 +139,8 @@ pub fn moments_of_commits<D: Device>(old: &D, new: &D)
         (LeftInPart b.blocks (commit_by_block work plan) i)
         → Step (means b) (commands limit) b.content (more ++ (Sealed work.atom ∷ c.trace))
         (D.state old.now) (D.state new.now) }
-    ensures header { (limit : ℕ) (b : Beginning) (job : Option Asked) (c : Session) (work : Flushing)
+    ensures header { (limit : ℕ) (b : Beginning) (job : Option Asked) (c : Session)
+        (work : Flushing)
         (plan : LogPlan) → limit < 2 ^ 64 → IsUnderWay limit b job c work plan
         → (more : List Entry) → IsOrdered (more ++ (Sealed work.atom ∷ c.trace)) → SealNothing more
         → (i : ℕ) → (D.state new.now).blocks ≡ b.blocks
@@ -150,7 +155,8 @@ pub fn moments_of_commits<D: Device>(old: &D, new: &D)
         → LeftInPart b.blocks (commit_by_block work plan) 2 image)
         → CommitStep (means b) (commands limit) b.content (more ++ (Sealed work.atom ∷ c.trace))
         work.atom (D.state old.now) (D.state new.now) }
-    ensures behind { (limit : ℕ) (b : Beginning) (job : Option Asked) (c : Session) (work : Flushing)
+    ensures behind { (limit : ℕ) (b : Beginning) (job : Option Asked) (c : Session)
+        (work : Flushing)
         (plan : LogPlan) → limit < 2 ^ 64 → IsUnderWay limit b job c work plan
         → (more later : List Entry) (clock : ℕ)
         → IsOrdered (later ++ (Committed work.atom clock ∷ (more ++ (Sealed work.atom ∷ c.trace))))

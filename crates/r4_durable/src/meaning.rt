@@ -21,7 +21,8 @@ use r4_outside::Device;
 /// (`like`).
 pub fn images_mean_volumes()
     ensures start { (b : Beginning) → means b b.image b.content }
-    ensures one { (b : Beginning) (image : Image) (m o : Content) → means b image m → means b image o
+    ensures one { (b : Beginning) (image : Image) (m o : Content) → means b image m
+        → means b image o
         → m ≡ o }
     ensures same { (n : ℕ) (target image : Image) (m : Content) (c : HasContent n target m)
         → IsVolumeOf n image target m c → IsVolumeLike c c.super.oid image m }

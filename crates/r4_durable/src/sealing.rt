@@ -25,14 +25,17 @@ use r4_cell::on_disk_law;
 pub fn sealed_atoms_have_their_content()
     ensures sets { (limit next_id : ℕ) (job : Option Asked) (n : ℕ) (x : Sealing) → limit < 2 ^ 64
         → IsSealing limit next_id job n x → Sets (commands limit) (session_after x) }
-    ensures commits { (limit next_id : ℕ) (job : Option Asked) (n : ℕ) (x : Sealing) → limit < 2 ^ 64
+    ensures commits { (limit next_id : ℕ) (job : Option Asked) (n : ℕ) (x : Sealing)
+        → limit < 2 ^ 64
         → IsSealing limit next_id job n x → IsCommitOn n (commit_in x) }
-    ensures content { (limit next_id : ℕ) (job : Option Asked) (n : ℕ) (x : Sealing) → limit < 2 ^ 64
+    ensures content { (limit next_id : ℕ) (job : Option Asked) (n : ℕ) (x : Sealing)
+        → limit < 2 ^ 64
         → (h : IsSealing limit next_id job n x)
         → (c : HasContentWith n (image_after (commit_in x)) (super_after (commit_in x)) x.under
         (made_by limit (session_after x) (sealed_in (session_after x).trace)))
         × ((b : ℕ) → IsLost h.rest.content b ↔ IsLost c.content b) }
-    ensures replies { (limit next_id : ℕ) (job : Option Asked) (n : ℕ) (x : Sealing) → limit < 2 ^ 64
+    ensures replies { (limit next_id : ℕ) (job : Option Asked) (n : ℕ) (x : Sealing)
+        → limit < 2 ^ 64
         → IsSealing limit next_id job n x
         → HasFirstReplies (commands limit) (session_after x).start (session_after x).trace
         (sealed_in (session_after x).trace) }

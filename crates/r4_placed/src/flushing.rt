@@ -79,7 +79,8 @@ pub fn flushed_atoms_are_sealed()
 pub fn owned_blocks_stand()
     ensures begun { (t : Store Value) (root : Root) (m : Content) → OwnsBlocks (opened t root m) }
     ensures applied { (w : Meaning Command Reply) (c : Session) (txn : TxnNo) (script : ScriptNo)
-        (index : ℕ) (x : Command) (d : Patch Value) → OwnsBlocks c → Sets w c → Applies w c txn.0 x d
+        (index : ℕ) (x : Command) (d : Patch Value) → OwnsBlocks c → Sets w c
+        → Applies w c txn.0 x d
         → ((i : ℕ) → i < 2 ^ 63 → touches d i ≡ true → (e : Node Value) × (d.old i ≡ Some e))
         → OwnsBlocks (applied w c txn script index x d) }
     ensures fused { (c : Session) (a b : AtomNo) (node : NodeId) → OwnsBlocks c

@@ -68,7 +68,8 @@ pub fn needed_blocks_are_spoken_for()
 pub fn blocks_are_kept()
     ensures { (n : ℕ) (work : Commit) (o m : Content) (c : HasContent n (image_before work) o)
         (d : HasContent n (image_after work) m) → IsCommitOn n work → IsSpaceOf c work.space
-        → (i : ℕ) (image : Image) → IsImage n image → LeftInPart n work i image → HasEither c d i image }
+        → (i : ℕ) (image : Image) → IsImage n image → LeftInPart n work i image
+        → HasEither c d i image }
 {}
 
 /// An image that settles as with the atom has the volume of the new content (`ends`). And an image that has the volume
@@ -77,7 +78,8 @@ pub fn blocks_are_kept()
 pub fn commits_come_to_rest()
     ensures ends { (n : ℕ) (work : Commit) (m : Content) (d : HasContent n (image_after work) m)
         (image : Image) → IsCommitOn n work → IsImage n image
-        → WithAtom n work.base work.chain work.plan image → IsVolumeOf n image (image_after work) m d }
+        → WithAtom n work.base work.chain work.plan image
+        → IsVolumeOf n image (image_after work) m d }
     ensures rest { (n : ℕ) (target image : Image) (m : Content) (c : HasContent n target m)
         (s : Space) → IsVolumeOf n image target m c → HasLog n image [] → IsSpaceOf c s
         → (h : HasContentWith n image c.super c.store m) × IsSpaceOf h.content s }

@@ -15,7 +15,8 @@ ghost use Rattle.r4_sealed.specs.Written.{Frees, IsSpaceOf};
 /// cell any more (`commits`). And contents with the same superblock, the same cells and one space have the same
 /// (`same`).
 pub fn lost_blocks_stay()
-    ensures commits { (n : ℕ) (work : Commit) (o m : Content) (c : HasContent n (image_before work) o)
+    ensures commits { (n : ℕ) (work : Commit) (o m : Content)
+        (c : HasContent n (image_before work) o)
         (d : HasContent n (image_after work) m) → IsCommitOn n work → IsSpaceOf c work.space
         → d.super.block_count ≡ work.space.block_count → Frees c work d.store
         → (b : ℕ) → IsLost c b ↔ IsLost d b }

@@ -19,11 +19,13 @@ pub fn new_contents_are_as_planned()
         → IsCommitOn n work → d.super ≡ super_after work }
     ensures root { (n : ℕ) (work : Commit) (m : Content) (d : HasContent n (image_after work) m)
         → IsCommitOn n work
-        → (c : Node Value) × (d.store work.next.root_block ≡ Some c) × (c.level ≡ work.next.tree_height) }
+        → (c : Node Value) × (d.store work.next.root_block ≡ Some c)
+        × (c.level ≡ work.next.tree_height) }
     ensures count { (n : ℕ) (work : Commit) (m : Content) → HasContent n (image_after work) m
         → IsCommitOn n work → work.next.file_count ≡ objects_in m }
     ensures marked { (n : ℕ) (work : Commit) (m : Content) (d : HasContent n (image_after work) m)
-        → IsCommitOn n work → (b : ℕ) → is_marked_by work.space work.atom b ≡ false → d.store b ≡ None }
+        → IsCommitOn n work → (b : ℕ) → is_marked_by work.space work.atom b ≡ false
+        → d.store b ≡ None }
 {}
 
 /// A block that had a cell, and has none any more, is lost where the commit does not free it; and it was not lost
@@ -33,6 +35,7 @@ pub fn freed_blocks_have_to_be_deferred()
         (d : HasContent n (image_after work) m) (b : ℕ) (e : Node Value) → IsCommitOn n work
         → IsSpaceOf c work.space → c.store b ≡ Some e → d.store b ≡ None
         → is_freed work.space work.atom b ≡ false → IsLost d b }
-    ensures not_before { (n : ℕ) (work : Commit) (o : Content) (c : HasContent n (image_before work) o)
+    ensures not_before { (n : ℕ) (work : Commit) (o : Content)
+        (c : HasContent n (image_before work) o)
         (b : ℕ) (e : Node Value) → c.store b ≡ Some e → IsLost c b → ⊥ }
 {}

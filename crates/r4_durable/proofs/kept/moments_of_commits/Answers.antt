@@ -15,5 +15,6 @@ returns-clause-header g c = λ limit b job s work plan small way more legal none
 pub returns-clause-behind : goal.returns-clause-behind
 returns-clause-behind g c = λ limit b job s work plan small way more later clock legal none no_more i.
     let next = ordered_before later _ legal in
-    step_behind c.on_disk_law.ensures limit small b job s work plan way more next.2 none clock later legal no_more next i
+    step_behind c.on_disk_law.ensures limit small b job s work plan way more next.2 none clock later legal no_more next
+    i
     (g.D.Device.state c.args.old.now) (g.D.Device.state c.args.new.now)
