@@ -21,6 +21,8 @@ use Rattle.r4_sealed.specs.Written.{IsSpaceOf}
 use Rattle.r4_sealed.proofs.Kept.{ended}
 use Rattle.r4_sealed.proofs.Resting.{Rests, lost_rested, rested}
 use Rattle.r4_sealed.proofs.Settled.{settled_space}
+use Rattle.r4_placed.specs.Deferred.{AreDeferredBut}
+use Rattle.r4_placed.proofs.Deferring.{deferred_settled}
 use Rattle.r4_placed.proofs.FlushedCells.{FitsOnDisk}
 use Rattle.r4_placed.proofs.Owned.{committed_owns}
 use Rattle.r4_durable.specs.GoingOn.{GoesOn}
@@ -35,7 +37,7 @@ module _ (disk : FitsOnDisk) (limit : ℕ) (small : limit < 2 ^ 64) (b : Beginni
     (h : IsSealing limit (first_id b) job b.blocks x) (will : IsNextId b x.flush.next.oid)
     (same : (k : ℕ) → IsLost h.rest.content k ↔ WasLost b k) (later : Space) (image : Image)
     (end : HasSettled b x later image) (go : Session) (more : List Entry) (goes : GoesOn (session_after x) go more)
-    (session : IsSession limit b job go) (clock : ℕ) where
+    (session : IsSession limit b job go) (defers : AreDeferredBut x.flush.atom go later) (clock : ℕ) where
   abbrev now : Session
   now = session_after x
 
@@ -119,6 +121,7 @@ module _ (disk : FitsOnDisk) (limit : ℕ) (small : limit < 2 ^ 64) (b : Beginni
     };
     none_sealed = one_more;
     alone = refl;
+    deferred = deferred_settled go later x.flush.atom clock defers;
     rests = record {
       whole = end.whole;
       log = end.log;

@@ -15,8 +15,11 @@ use Rattle.r4_trace.specs.Traced.{committed_in}
 use Rattle.r4_wander.specs.declared.plan.LogPlan.{LogPlan}
 use Rattle.r4_sets.specs.Session.{Layer, Session}
 use Rattle.r4_sealed.specs.Contents.{RenewsSuper}
+use Rattle.r4_place.specs.Chosen.{placed_all}
+use Rattle.r4_placed.specs.Deferred.{AreDeferredBut}
 use Rattle.r4_placed.specs.Flushed.{AreFlushed, AreUnowned, IsSealedTo, OwnsBlocks, sealed_to, with_flushed}
 use Rattle.r4_placed.specs.Flushing.{Flushing, IsAtRest}
+use Rattle.r4_placed.proofs.Deferring.{deferred_sealed, freed_is_gone}
 use Rattle.r4_placed.proofs.Owned.{sealed_owns}
 use Rattle.r4_placed.proofs.Planning.{unowned_from}
 use Rattle.r4_placed.proofs.Remembering.{sealed_cells}
@@ -95,8 +98,25 @@ module _ (limit : ℕ) (b : Beginning) (job : Option Asked) (c : Session) (work 
     old = λ x one low. owned_there x.id work.atom.0 (can.flushed.owned x one).0 low;
   }
 
+  -- a committed cell stands under the open atoms
+  same_under : (i : ℕ) → c.under.cells i ≡ base_store i
+  same_under i = ap (λ (l : Layer). l.cells i) kept.alone ∙ sym (ap (λ (t : Store Value). t i) same_store)
+
   flushed : AreFlushed c work base_store
-  flushed = subst (AreFlushed c work) (sym same_store) can.flushed
+  flushed = record {
+    alone = same_under;
+    flush = can.flushed;
+    deferred = λ k.
+        let freed = freed_is_gone c work.space work.atom kept.deferred can.sealed k in (
+          λ e.
+              let g = freed.0 e in
+              let (d, is) = g.was in
+              record { own = g.own; gone = g.gone; was = (d, sym (same_under k) ∙ is) },
+          λ g.
+              let (d, is) = g.was in
+              freed.1 (record { own = g.own; gone = g.gone; was = (d, same_under k ∙ is) }),
+        );
+  }
 
   unowned : AreUnowned c work
   unowned = unowned_from b.blocks work (made_by limit c (committed_in c.trace)) rest c.owner owned_there
@@ -134,3 +154,14 @@ module _ (limit : ℕ) (b : Beginning) (job : Option Asked) (c : Session) (work 
 
   pub same_lost : (k : ℕ) → IsLost is_sealing.rest.content k ↔ WasLost b k
   same_lost = kept.rests.lost
+
+  -- and the others' blocks are deferred
+  pub still_deferred : AreDeferredBut work.atom (session_after (sealing_of c work plan))
+      (placed_all work.space work.answers)
+  still_deferred =
+      subst
+      (λ (t : Store Value). AreDeferredBut work.atom (sealed_to c work (with_flushed c work t)
+      (with_flushed c work c.memory))
+      (placed_all work.space work.answers))
+      same_store
+      (deferred_sealed b.blocks work (made_by limit c (committed_in c.trace)) rest c flushed unowned kept.deferred)

@@ -16,6 +16,7 @@ use Rattle.r4_wander.specs.declared.plan.LogPlan.{LogPlan}
 use Rattle.r4_sets.specs.Atoms.{committed}
 use Rattle.r4_sets.specs.Session.{Session}
 use Rattle.r4_sealed.specs.Commits.{LeftInPart}
+use Rattle.r4_placed.specs.Deferred.{AreDeferredBut}
 use Rattle.r4_placed.specs.Flushing.{Flushing, commit_by_block}
 use Rattle.r4_placed.proofs.FlushedCells.{FitsOnDisk}
 use Rattle.r4_durable.specs.GoingOn.{GoesOn, SealNothing}
@@ -72,11 +73,11 @@ module _ (disk : FitsOnDisk) (limit : ℕ) (small : limit < 2 ^ 64) (b : Beginni
         (λ k l. (same_lost limit b job c work plan kept can k).0 l) i image whole by))
 
   pub again : (later : Space) (image : Image) → HasSettled b x later image → (go : Session) (more : List Entry)
-      → GoesOn (session_after x) go more → IsSession limit b job go → (clock : ℕ)
+      → GoesOn (session_after x) go more → IsSession limit b job go → AreDeferredBut work.atom go later → (clock : ℕ)
       → Means limit b job (committed go work.atom clock) (settled later work.atom) image
-  again later image end go more goes session clock =
+  again later image end go more goes session defers clock =
       means_again disk limit small b job x h will (same_lost limit b job c work plan kept can) later image end go more
-      goes session clock
+      goes session defers clock
 
   -- and the session with the atom sealed is one
   pub session_sealed : IsSession limit b job (session_after x)

@@ -25,6 +25,7 @@ use Rattle.r4_sets.proofs.Answered.{opened_sets}
 use Rattle.r4_sealed.specs.Written.{IsSpaceOf}
 use Rattle.r4_sealed.proofs.Kept.{from_footer}
 use Rattle.r4_sealed.proofs.Resting.{Rests, lost_rested, rested}
+use Rattle.r4_placed.proofs.Deferring.{deferred_begun}
 use Rattle.r4_placed.proofs.Owned.{opened_owns}
 use Rattle.r4_durable.specs.Kept.{HasOpened, IsKept, Means, session_of}
 use Rattle.r4_durable.specs.Meaning.{Beginning, IsOn, means}
@@ -117,6 +118,8 @@ module _ (limit : ℕ) (b : Beginning) (job : Option Asked) (super40 : Super40) 
     };
     none_sealed = refl;
     alone = refl;
+    deferred = deferred_begun b.volume.content.store (root_of b.volume.content.super) b.content
+        (told_space super40.block_count bitmaps) refl;
     rests = record {
       whole = whole;
       log = log;

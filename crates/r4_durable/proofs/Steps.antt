@@ -15,6 +15,7 @@ use Rattle.r4_trace.specs.Traced.{committed_in, sealed_in}
 use Rattle.r4_sets.specs.Session.{Layer, Session}
 use Rattle.r4_sealed.specs.Contents.{HasContentWith}
 use Rattle.r4_sealed.specs.Written.{IsSpaceOf}
+use Rattle.r4_placed.specs.Deferred.{AreDeferred}
 use Rattle.r4_durable.specs.GoingOn.{GoesOn, MarksAlike}
 use Rattle.r4_durable.specs.Kept.{IsSession, Means}
 use Rattle.r4_durable.specs.Meaning.{Beginning, WasLost}
@@ -35,7 +36,8 @@ module _ (limit : ℕ) (c now : Session) (more : List Entry) (goes : GoesOn c no
 
 module _ (limit : ℕ) (b : Beginning) (job : Option Asked) (c now : Session) (s later : Space) (more : List Entry)
     (image : Image) (kept : Means limit b job c s image) (goes : GoesOn c now more) (alike : MarksAlike s later)
-    (lawful : IsLawful later) (session : IsSession limit b job now) where
+    (lawful : IsLawful later) (session : IsSession limit b job now)
+    (deferred : AreDeferred now later) where
   record Has (t : Store Value) (m : Content) : Type 0 where
     pub has : HasContentWith b.blocks image kept.rests.super40 t m
     pub here : IsSpaceOf has.content later
@@ -70,6 +72,7 @@ module _ (limit : ℕ) (b : Beginning) (job : Option Asked) (c now : Session) (s
         session = session;
         none_sealed = counts.0 ∙ kept.none_sealed ∙ sym counts.1;
         alone = goes.under ∙ kept.alone ∙ sym goes.base;
+        deferred = deferred;
         rests = record {
           whole = kept.rests.whole;
           log = kept.rests.log;

@@ -3,7 +3,7 @@
 --     IsSession  the session
 --     Means      both
 --     IsKept     on a device
-use Rattle.std.specs.Prelude.{◌≡◌, ◌↔◌, ℕ, List, [], map, Option, Ok, false, slice_index_or}
+use Rattle.std.specs.Prelude.{◌≡◌, ◌⊎◌, ◌↔◌, ℕ, List, [], ◌∷◌, map, Option, Ok, false, slice_index_or}
 use Rattle.r4_base.specs.Chain.{HasLog, committed}
 use Rattle.r4_base.specs.Image.{AreDifferent, Image, IsImage, block_at}
 use Rattle.r4_base.specs.Layout.{super_of}
@@ -26,7 +26,8 @@ use Rattle.r4_sets_told.specs.Runs.{CountsObjects, IsLawfulRun}
 use Rattle.r4_sealed.specs.Commits.{HasPlan, IsLater}
 use Rattle.r4_sealed.specs.Contents.{HasContentWith, RenewsSuper}
 use Rattle.r4_sealed.specs.Written.{IsSpaceOf}
-use Rattle.r4_placed.specs.Flushed.{AreFlushed, OwnsBlocks, with_flushed}
+use Rattle.r4_placed.specs.Deferred.{AreDeferred}
+use Rattle.r4_placed.specs.Flushed.{IsFlush, OwnsBlocks, with_flushed}
 use Rattle.r4_placed.specs.Flushing.{Flushing, commit_by_block}
 use Rattle.r4_durable.specs.Meaning.{Beginning, IsNextId, WasLost, first_id, means as meant}
 use Rattle.r4_durable.specs.Sealing.{Sealing, commit_in, made_by, session_after, start_in}
@@ -54,12 +55,14 @@ pub record IsSession (limit : ℕ) (b : Beginning) (job : Option Asked) (c : Ses
   pub run : IsLawfulRun limit (start_in c (first_id b)) job c.trace
   pub owns : OwnsBlocks c
 
--- In a session no atom is sealed, and an image has its committed cells.
+-- In a session no atom is sealed, and an image has its committed cells. Exactly those blocks are deferred for an open
+-- atom whose cells it owns, and that are gone.
 pub record Means (limit : ℕ) (b : Beginning) (job : Option Asked) (c : Session) (s : Space) (image : Image)
     : Type 0 where
   pub session : IsSession limit b job c
   pub none_sealed : sealed_in c.trace ≡ committed_in c.trace
   pub alone : c.under ≡ c.base
+  pub deferred : AreDeferred c s
   pub rests : Rests limit b c s image
 
 -- What the device reads means that; from the clock t on a crash left what it should; and now it leaves what is read.
@@ -94,7 +97,9 @@ sealing_of c work plan = record {
 pub record CanSeal
     (limit : ℕ) (b : Beginning) (c : Session) (super40 : Super40) (work : Flushing) (plan : LogPlan) : Type 0 where
   pub chosen : HasChosen work
-  pub flushed : AreFlushed c work c.base.cells
+  pub flushed : IsFlush c work
+  -- the space is sealed for the atom before its blocks are chosen, or later
+  pub sealed : (work.space.sealed ≡ []) ⊎ (work.space.sealed ≡ work.atom ∷ [])
   pub has_plan : HasPlan (commit_by_block work plan)
   pub renews : RenewsSuper super40 work.next
   pub root : (session_after (sealing_of c work plan)).under.root ≡ root_of work.next

@@ -21,6 +21,8 @@ ghost use Rattle.r4_wander.specs.declared.plan.LogPlan.{LogPlan};
 ghost use Rattle.r4_sets.specs.Atoms.{committed};
 ghost use Rattle.r4_sets.specs.Session.{Session};
 ghost use Rattle.r4_sealed.specs.Commits.{LeftInPart};
+ghost use Rattle.r4_place.specs.Chosen.{placed_all};
+ghost use Rattle.r4_placed.specs.Deferred.{AreDeferred, AreDeferredBut};
 ghost use Rattle.r4_placed.specs.Flushed.{OwnsBlocks};
 ghost use Rattle.r4_placed.specs.Flushing.{Flushing, commit_by_block};
 ghost use Rattle.r4_durable.specs.GoingOn.{GoesOn, MarksAlike, SealNothing};
@@ -84,7 +86,7 @@ pub fn steps_are_kept()
     ensures kept { (limit : ℕ) (b : Beginning) (job : Option Asked) (c now : Session)
         (s later : Space)
         (more : List Entry) (image : Image) → Means limit b job c s image → GoesOn c now more
-        → MarksAlike s later → IsLawful later → IsSession limit b job now
+        → MarksAlike s later → IsLawful later → IsSession limit b job now → AreDeferred now later
         → Means limit b job now later image }
     ensures found { (limit : ℕ) (b : Beginning) (more trace : List Entry) (image : Image)
         → IsOrdered (more ++ trace) → SealNothing more
@@ -93,14 +95,17 @@ pub fn steps_are_kept()
 {}
 
 /// An atom is sealed, committed and settled, from what is kept to what is kept again, while entries follow that seal
-/// and commit nothing. The session is one once the atom is sealed (`session`). Whatever settles by the part of the
+/// and commit nothing. Once the atom is sealed the session is one, in which the blocks of the others are deferred
+/// (`session`). Whatever settles by the part of the
 /// commit that is under way is what may be found then (`found`), and has the atom once the journal header is written
 /// (`durable`); and in the end all is there again (`again`).
 pub fn kept_runs_go_on()
     ensures session { (limit : ℕ) (b : Beginning) (job : Option Asked) (c : Session)
         (work : Flushing)
         (plan : LogPlan) → limit < 2 ^ 64 → IsUnderWay limit b job c work plan
-        → IsSession limit b job (session_after (sealing_of c work plan)) }
+        → IsSession limit b job (session_after (sealing_of c work plan))
+        × AreDeferredBut work.atom (session_after (sealing_of c work plan))
+        (placed_all work.space work.answers) }
     ensures found { (limit : ℕ) (b : Beginning) (job : Option Asked) (c : Session) (work : Flushing)
         (plan : LogPlan) → limit < 2 ^ 64 → IsUnderWay limit b job c work plan
         → (more : List Entry) → IsOrdered (more ++ (Sealed work.atom ∷ c.trace)) → SealNothing more
@@ -119,7 +124,7 @@ pub fn kept_runs_go_on()
         (plan : LogPlan) → limit < 2 ^ 64 → IsUnderWay limit b job c work plan → (later : Space)
         (image : Image) → HasSettled b (sealing_of c work plan) later image → (now : Session)
         (more : List Entry) → GoesOn (session_after (sealing_of c work plan)) now more
-        → IsSession limit b job now → (clock : ℕ)
+        → IsSession limit b job now → AreDeferredBut work.atom now later → (clock : ℕ)
         → Means limit b job (committed now work.atom clock) (settled later work.atom) image }
 {
     on_disk_law();
@@ -183,7 +188,8 @@ pub fn commits_are_kept()
         → (h : IsSealing limit (first_id b) job b.blocks x) → IsNextId b x.flush.next.oid
         → ((k : ℕ) → IsLost h.rest.content k ↔ WasLost b k) → (later : Space) (image : Image)
         → HasSettled b x later image → (now : Session) (more : List Entry)
-        → GoesOn (session_after x) now more → IsSession limit b job now → (clock : ℕ)
+        → GoesOn (session_after x) now more → IsSession limit b job now
+        → AreDeferredBut x.flush.atom now later → (clock : ℕ)
         → Means limit b job (committed now x.flush.atom clock) (settled later x.flush.atom) image }
 {
     on_disk_law();

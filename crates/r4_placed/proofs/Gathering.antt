@@ -81,7 +81,7 @@ module _ (n : ℕ) (work : Flushing) (m : Content) (r : IsAtRest n work m)
   off_spots : (i : ℕ) (d : Node Value) → r.content.store i ≡ Some d → (c.owner i ≡ Some work.atom.0 → ⊥)
       → (x : CellSeen) → Contains work.cells x → spot work.answers x ≡ i → ⊥
   off_spots i d is out x one at = ⊎_elim
-      (λ low. out (ap c.owner (sym at ∙ old_spot n work m r x one low) ∙ (fl.owned x one).0))
+      (λ low. out (ap c.owner (sym at ∙ old_spot n work m r x one low) ∙ (fl.flush.owned x one).0))
       (λ high. never_both (is_marked_in work.space i) (cell_marked n work m r i d is).0
       (subst (λ (k : ℕ). is_marked_in work.space k ≡ false) at (fresh_free n work m r x one high).1))
       (below_or x.id)
@@ -148,10 +148,10 @@ module _ (n : ℕ) (work : Flushing) (m : Content) (r : IsAtRest n work m)
   to_new i d is = ⊎_elim
       (λ (own, pick).
       let mem : c.memory i ≡ Some d = sym (with_atom_at i pick) ∙ is in
-      let (x, one, at) = fl.mine i d own mem in (
+      let (x, one, at) = fl.flush.mine i d own mem in (
         node_of x,
         ap u (ap to (sym at) ∙ renamed_cell n work m r x one) ∙ at_spot x one,
-        fl.renamed_cells x d one (ap c.memory at ∙ mem),
+        fl.flush.renamed_cells x d one (ap c.memory at ∙ mem),
       ))
       (λ (out, pick).
       let old : r.content.store i ≡ Some d = sym (without_at i pick) ∙ is in
@@ -162,14 +162,14 @@ module _ (n : ℕ) (work : Flushing) (m : Content) (r : IsAtRest n work m)
       × (cells_with c (only work.atom.0) (to j) ≡ Some d) × IsRenamed to d e
   from_new j e is = ⊎_elim
       (λ (x, one, at).
-      let (own, (d, mem)) = fl.owned x one in
+      let (own, (d, mem)) = fl.flush.owned x one in
       let back : to j ≡ x.id = ap to (sym at ∙ sym (renamed_cell n work m r x one)) ∙ renamed_twice n work m r x.id in
       let same : node_of x ≡ e = same_Some (node_of x) e (sym (at_spot x one) ∙ ap u at ∙ is) in
       ⊎_elim
       (λ (mine, pick). (
         d,
         ap (cells_with c (only work.atom.0)) back ∙ with_atom_at x.id pick ∙ mem,
-        subst (IsRenamed to d) same (fl.renamed_cells x d one mem),
+        subst (IsRenamed to d) same (fl.flush.renamed_cells x d one mem),
       ))
       (λ (out, pick). absurd (out own))
       (picks_cases work.atom.0 (c.owner x.id)))
@@ -182,7 +182,7 @@ module _ (n : ℕ) (work : Flushing) (m : Content) (r : IsAtRest n work m)
       → r.content.store i ≡ Some d
   others i d out still is = ⊎_elim
       (λ (x, one, at). ⊎_elim
-      (λ low. absurd (out (ap c.owner (sym at ∙ old_spot n work m r x one low) ∙ (fl.owned x one).0)))
+      (λ low. absurd (out (ap c.owner (sym at ∙ old_spot n work m r x one low) ∙ (fl.flush.owned x one).0)))
       (λ high.
       let back : x.id ≡ i = sym (renamed_twice n work m r x.id) ∙ ap to (renamed_cell n work m r x one ∙ at)
       ∙ still in
@@ -195,8 +195,8 @@ module _ (n : ℕ) (work : Flushing) (m : Content) (r : IsAtRest n work m)
   pub flushed : IsFlushed c work r.content.store u
   flushed = record {
     alone = fl.alone;
-    mine = fl.mine;
-    owned = fl.owned;
+    mine = fl.flush.mine;
+    owned = fl.flush.owned;
     renaming = record {
       to = to_new;
       from = from_new;
@@ -205,7 +205,7 @@ module _ (n : ℕ) (work : Flushing) (m : Content) (r : IsAtRest n work m)
           renamed_twice n work m r;
     };
     node = at_spot;
-    stands = fl.stands;
+    stands = fl.flush.stands;
     others = others;
     deferred = fl.deferred;
   }

@@ -6,5 +6,6 @@ pub mod Gathering
 pub mod Remembering
 pub mod Sealing
 pub mod Owned
+pub mod Deferring
 pub mod RenamingItems
 pub mod OneCell

@@ -119,7 +119,8 @@ module _ (n : ℕ) (work : Flushing) (m : Content) (c : HasContent n work.base m
           alone = λ i. refl;
           mine = λ i d own there. (x, any_here x [] x refl, sym (owner_is i own));
           owned = λ y in_y. (
-            ap (λ (t : Bool). cond t (Some a) None) (eq-eqb y.id x.id (ap (λ (z : CellSeen). z.id) (one_of x y in_y))),
+            ap (λ (t : Bool). cond t (Some a) None) (eq-eqb y.id x.id
+                (ap (λ (z : CellSeen). z.id) (one_of x y in_y))),
             (node_of x, ap (λ (z : CellSeen). c.store z.id) (one_of x y in_y) ∙ one.there),
           );
           renaming = renaming (cells_with session (only a)) same_cells;

@@ -57,7 +57,7 @@ module _ (c : Session) (owns : OwnsBlocks c) where
   pub committed_owns : (a : AtomNo) (clock : ℕ) → OwnsBlocks (committed c a clock)
   committed_owns a clock = owns
 
-still_owned : (a k : ℕ) (o : Option ℕ) → without a o ≡ Some k → (o ≡ Some k) × (o ≡ Some a → ⊥)
+pub still_owned : (a k : ℕ) (o : Option ℕ) → without a o ≡ Some k → (o ≡ Some k) × (o ≡ Some a → ⊥)
 still_owned a k None e = absurd (no_owner k e)
 still_owned a k (Some n) e = go (eqb n a) refl e
   where

@@ -62,7 +62,7 @@ module _ (w : Meaning Command Reply) (n : ℕ) (work : Flushing) (m : Content) (
   off_spots : (i : ℕ) (d : Node Value) → c.memory i ≡ Some d → (c.owner i ≡ Some work.atom.0 → ⊥) → (x : CellSeen)
       → Contains work.cells x → spot work.answers x ≡ i → ⊥
   off_spots i d is out x one at = ⊎_elim
-      (λ low. out (ap c.owner (sym at ∙ old_spot n work m r x one low) ∙ (fl.owned x one).0))
+      (λ low. out (ap c.owner (sym at ∙ old_spot n work m r x one low) ∙ (fl.flush.owned x one).0))
       (λ high.
       let none : c.owner i ≡ None = ap c.owner (sym at) ∙ unowned x one high in
       never_both (is_marked_in work.space i) (cell_marked n work m r i d (sym (clean_is i none) ∙ is)).0
@@ -75,7 +75,7 @@ module _ (w : Meaning Command Reply) (n : ℕ) (work : Flushing) (m : Content) (
       let (x, in_cells, at) = from_pairs work.answers work.cells q one in
       let name : q.0 ≡ x.id = ap (λ (p : ℕ × ℕ). p.0) at in
       let block : q.1 ≡ spot work.answers x = ap (λ (p : ℕ × ℕ). p.1) at in (
-        λ e. out (ap c.owner (e ∙ name) ∙ (fl.owned x in_cells).0),
+        λ e. out (ap c.owner (e ∙ name) ∙ (fl.flush.owned x in_cells).0),
         λ e. off_spots i d is out x in_cells (sym block ∙ sym e),
       ))
 
@@ -150,7 +150,7 @@ module _ (w : Meaning Command Reply) (n : ℕ) (work : Flushing) (m : Content) (
       (picks_cases work.atom.0 (c.owner k)))
       (has_parent (cells_with c (only work.atom.0)) (root_with c (only work.atom.0)) own_tree x.id e
       (with_atom_at x.id pick ∙ mem)))
-      (λ (out, pick). absurd (out (fl.owned x one).0))
+      (λ (out, pick). absurd (out (fl.flush.owned x one).0))
       (picks_cases work.atom.0 (c.owner x.id))
     where
       at_root : x.id ≡ c.root.id → ⊥
@@ -185,7 +185,7 @@ module _ (w : Meaning Command Reply) (n : ℕ) (work : Flushing) (m : Content) (
       let (e, there, fits) = memory_tree.named i d y is one in
       ⊎_elim
       (λ (own, pick).
-      let (x, in_cells, at) = fl.mine y.id e own there in
+      let (x, in_cells, at) = fl.flush.mine y.id e own there in
       ⊎_elim
       (λ low. ap to (sym at) ∙ renamed_cell n work m r x in_cells ∙ old_spot n work m r x in_cells low ∙ at)
       (λ high. absurd (out (own_parent x i d e y in_cells high is one (sym at) (ap c.memory at ∙ there) fits)))
@@ -210,10 +210,10 @@ module _ (w : Meaning Command Reply) (n : ℕ) (work : Flushing) (m : Content) (
   to_new : (i : ℕ) (d : Node Value) → c.memory i ≡ Some d → (e : Node Value) × (v (to i) ≡ Some e) × IsRenamed to d e
   to_new i d is = ⊎_elim
       (λ (own, pick).
-      let (x, one, at) = fl.mine i d own is in (
+      let (x, one, at) = fl.flush.mine i d own is in (
         node_of x,
         ap v (ap to (sym at) ∙ renamed_cell n work m r x one) ∙ at_spot x one,
-        fl.renamed_cells x d one (ap c.memory at ∙ is),
+        fl.flush.renamed_cells x d one (ap c.memory at ∙ is),
       ))
       (λ (out, pick). ⊎_elim
       (λ (x, one, at). absurd (off_spots i d is out x one at))
@@ -230,10 +230,10 @@ module _ (w : Meaning Command Reply) (n : ℕ) (work : Flushing) (m : Content) (
       × IsRenamed to d e
   from_new j e is = ⊎_elim
       (λ (x, one, at).
-      let (own, (d, mem)) = fl.owned x one in
+      let (own, (d, mem)) = fl.flush.owned x one in
       let back : to j ≡ x.id = ap to (sym at ∙ sym (renamed_cell n work m r x one)) ∙ renamed_twice n work m r x.id in
       let same : node_of x ≡ e = same_Some (node_of x) e (sym (at_spot x one) ∙ ap v at ∙ is) in
-      (d, ap c.memory back ∙ mem, subst (IsRenamed to d) same (fl.renamed_cells x d one mem)))
+      (d, ap c.memory back ∙ mem, subst (IsRenamed to d) same (fl.flush.renamed_cells x d one mem)))
       (λ (none, off). ⊎_elim
       (λ (own, pick). absurd (none_some (v j) e (elsewhere j none
       ∙ ap (λ (t : Bool). cond t None (c.memory j)) pick) is))

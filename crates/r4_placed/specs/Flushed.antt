@@ -6,6 +6,7 @@ use Rattle.r4_base.specs.Cell.{cell_fault}
 use Rattle.r4_base.specs.Key.{rank}
 use Rattle.r4_base.specs.Tree.{Node, Store}
 use Rattle.r4_base.specs.Value.{Value}
+use Rattle.r4_base.specs.declared.things.AtomNo.{AtomNo}
 use Rattle.r4_cell.specs.Seen.{CellSeen, node_of}
 use Rattle.r4_place.specs.declared.placed.Placed.{Placed}
 use Rattle.r4_sets.specs.Atoms.{sealed, without}
@@ -18,17 +19,14 @@ use Rattle.r4_placed.specs.Flushing.{Flushing, name_after}
 abbrev pub MayStand : CellSeen → Type 0
 MayStand x = cell_fault true (2 ^ 64) x.level (rank x.lo) (rank x.hi) x.block ≡ None
 
--- The block is of a committed cell that the atom owns and that is gone.
-pub record IsGone (c : Session) (work : Flushing) (committed : Store Value) (b : ℕ) : Type 0 where
-  pub own : c.owner b ≡ Some work.atom.0
+-- The block is of a cell of the store that the atom owns and that is gone from memory.
+pub record IsGone (c : Session) (atom : AtomNo) (t : Store Value) (b : ℕ) : Type 0 where
+  pub own : c.owner b ≡ Some atom.0
   pub gone : c.memory b ≡ None
-  pub was : (d : Node Value) × (committed b ≡ Some d)
+  pub was : (d : Node Value) × (t b ≡ Some d)
 
--- What a flush promises of its atom. No atom is sealed, so the committed cells stand under the open atoms. The atom's
--- cells are those that it owns in memory, each with its names renamed, and may stand in memory; and exactly the blocks
--- are freed whose cells are gone.
-pub record AreFlushed (c : Session) (work : Flushing) (committed : Store Value) : Type 0 where
-  pub alone : (i : ℕ) → c.under.cells i ≡ committed i
+-- The atom's cells are those that it owns in memory, each with its names renamed, and may stand in memory.
+pub record IsFlush (c : Session) (work : Flushing) : Type 0 where
   pub mine : (i : ℕ) (d : Node Value) → c.owner i ≡ Some work.atom.0 → c.memory i ≡ Some d
       → (x : CellSeen) × Contains work.cells x × (x.id ≡ i)
   pub owned : (x : CellSeen) → Contains work.cells x
@@ -36,7 +34,13 @@ pub record AreFlushed (c : Session) (work : Flushing) (committed : Store Value) 
   pub renamed_cells : (x : CellSeen) (d : Node Value) → Contains work.cells x → c.memory x.id ≡ Some d
       → IsRenamed (name_after work) d (node_of x)
   pub stands : (x : CellSeen) → Contains work.cells x → MayStand x
-  pub deferred : (b : ℕ) → (is_freed work.space work.atom b ≡ true) ↔ IsGone c work committed b
+
+-- The same, where no atom is sealed, so the committed cells stand under the open atoms; and exactly the blocks are freed
+-- whose cells are gone.
+pub record AreFlushed (c : Session) (work : Flushing) (committed : Store Value) : Type 0 where
+  pub alone : (i : ℕ) → c.under.cells i ≡ committed i
+  pub flush : IsFlush c work
+  pub deferred : (b : ℕ) → (is_freed work.space work.atom b ≡ true) ↔ IsGone c work.atom committed b
 
 -- no open atom owns a block that was chosen
 abbrev pub AreUnowned : Session → Flushing → Type 0
@@ -63,7 +67,7 @@ pub record IsFlushed (c : Session) (work : Flushing) (committed : Store Value) (
   -- one that the atom does not own is as it was
   pub others : (i : ℕ) (d : Node Value) → (c.owner i ≡ Some work.atom.0 → ⊥) → name_after work i ≡ i → u i ≡ Some d
       → committed i ≡ Some d
-  pub deferred : (b : ℕ) → (is_freed work.space work.atom b ≡ true) ↔ IsGone c work committed b
+  pub deferred : (b : ℕ) → (is_freed work.space work.atom b ≡ true) ↔ IsGone c work.atom committed b
 
 -- The atom is sealed: v are the cells in memory under the new names.
 pub record IsSealedTo (c : Session) (work : Flushing) (committed : Store Value) (u v : Store Value) : Type 0 where

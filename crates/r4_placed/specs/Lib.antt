@@ -1,4 +1,5 @@
 pub mod Flushing
 pub mod Flushed
+pub mod Deferred
 pub mod RenamedItems
 pub mod Sample

@@ -23,7 +23,8 @@ abbrev pub with_one : Flushing → CellSeen → Flushing
 with_one work x = record work { cells = x ∷ []; answers = overwrites x }
 
 -- The content has the cell; nothing is unflushed, placed or deferred.
-pub record IsOfOne {n : ℕ} {m : Content} (work : Flushing) (x : CellSeen) (c : HasContent n work.base m) : Type 0 where
+pub record IsOfOne {n : ℕ} {m : Content} (work : Flushing) (x : CellSeen)
+    (c : HasContent n work.base m) : Type 0 where
   pub there : c.store x.id ≡ Some (node_of x)
   pub image : IsImage n work.base
   pub log : HasLog n work.base []

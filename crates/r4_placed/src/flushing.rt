@@ -1,7 +1,7 @@
 //! Laws of an open atom that is flushed and sealed (docs/durable.md). Each is the contract of a function that does
 //! nothing.
 
-ghost use Rattle.std.specs.Prelude.{◌≡◌, ◌<◌, ◌^◌, ℕ, [], true, Some};
+ghost use Rattle.std.specs.Prelude.{◌≡◌, ◌⊎◌, ◌↔◌, ◌<◌, ◌^◌, ℕ, [], ◌∷◌, true, Some};
 ghost use Rattle.r4_base.specs.Tree.{IsTree, Node, Root, Store};
 ghost use Rattle.r4_base.specs.Value.{Content, Value};
 ghost use Rattle.r4_base.specs.declared.things.AtomNo.{AtomNo};
@@ -18,10 +18,12 @@ ghost use Rattle.r4_commit.specs.Plannable.{IsPlannable};
 ghost use Rattle.r4_sets.specs.Atoms.{committed, fused, opened};
 ghost use Rattle.r4_sets.specs.Change.{Applies, applied, touches};
 ghost use Rattle.r4_sets.specs.Session.{Session, Sets};
-ghost use Rattle.r4_sealed.specs.Commits.{HasPlan, IsCommitOn};
+ghost use Rattle.r4_sealed.specs.Commits.{HasPlan, IsCommitOn, is_freed};
+ghost use Rattle.r4_space.specs.Space.{Space, merged, settled};
+ghost use Rattle.r4_placed.specs.Deferred.{AreDeferred, AreDeferredBut};
 ghost use Rattle.r4_sealed.specs.Written.{ComesFrom, Frees};
-ghost use Rattle.r4_placed.specs.Flushed.{AreFlushed, AreUnowned, IsFlushed, IsSealedTo, OwnsBlocks};
-ghost use Rattle.r4_placed.specs.Flushed.{sealed_to, with_flushed};
+ghost use Rattle.r4_placed.specs.Flushed.{AreFlushed, AreUnowned, IsFlushed, IsGone, IsSealedTo};
+ghost use Rattle.r4_placed.specs.Flushed.{OwnsBlocks, sealed_to, with_flushed};
 ghost use Rattle.r4_placed.specs.Flushing.{Flushing, IsAtRest, commit_by_block, commit_of};
 
 use r4_cell::on_disk_law;
@@ -91,4 +93,24 @@ pub fn owned_blocks_stand()
         (with_flushed c work c.memory)) }
     ensures committed { (c : Session) (a : AtomNo) (clock : ℕ) → OwnsBlocks c
         → OwnsBlocks (committed c a clock) }
+{}
+
+/// Exactly those blocks are deferred for each open atom whose cells under the open atoms it owns, and that are gone from
+/// memory: at the beginning (`begun`), where two atoms become one (`fused`), of all others where an atom is sealed
+/// (`sealed`), and where it settles (`settled`). So a commit frees just these (`freed`).
+pub fn deferred_blocks_are_gone()
+    ensures begun { (t : Store Value) (root : Root) (m : Content) (s : Space) → s.deferred ≡ []
+        → AreDeferred (opened t root m) s }
+    ensures fused { (c : Session) (s : Space) (a b : AtomNo) (node : NodeId) → AreDeferred c s
+        → AreDeferred (fused c a b node) (merged s a b) }
+    ensures sealed { (n : ℕ) (work : Flushing) (m : Content) (r : IsAtRest n work m) (c : Session)
+        → AreFlushed c work r.content.store → AreUnowned c work → AreDeferred c work.space
+        → AreDeferredBut work.atom
+        (sealed_to c work (with_flushed c work r.content.store) (with_flushed c work c.memory))
+        (placed_all work.space work.answers) }
+    ensures settled { (c : Session) (s : Space) (atom : AtomNo) (clock : ℕ)
+        → AreDeferredBut atom c s → AreDeferred (committed c atom clock) (settled s atom) }
+    ensures freed { (c : Session) (s : Space) (atom : AtomNo) → AreDeferred c s
+        → (s.sealed ≡ []) ⊎ (s.sealed ≡ atom ∷ []) → (b : ℕ)
+        → (is_freed s atom b ≡ true) ↔ IsGone c atom c.under.cells b }
 {}

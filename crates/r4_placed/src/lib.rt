@@ -7,7 +7,8 @@ mod naming;
 mod sample;
 
 pub use flushing::{
-    flushed_atoms_are_sealed, flushed_cells_are_written, owned_blocks_stand, plans_can_be_made,
+    deferred_blocks_are_gone, flushed_atoms_are_sealed, flushed_cells_are_written,
+    owned_blocks_stand, plans_can_be_made,
 };
 pub use naming::{cells_have_places, names_become_blocks, renamed_blocks_are_cells};
 pub use sample::one_cell_can_be_flushed;

@@ -1,9 +1,12 @@
+use Rattle.r4_durable.proofs.Flushes.{still_deferred}
 use Rattle.r4_durable.proofs.GoingOn.{again, found, session_sealed, there}
 use Rattle.r4_durable.proofs.kept.kept_runs_go_on.Goals as goal
 
 pub returns-clause-session : goal.returns-clause-session
-returns-clause-session g = λ limit b job c work plan small way.
-    session_sealed g.on_disk_law.ensures limit small b job c work plan way
+returns-clause-session g = λ limit b job c work plan small way. (
+  session_sealed g.on_disk_law.ensures limit small b job c work plan way,
+  still_deferred limit b job c work plan way.kept way.can,
+)
 
 pub returns-clause-found : goal.returns-clause-found
 returns-clause-found g = λ limit b job c work plan small way more legal none.
