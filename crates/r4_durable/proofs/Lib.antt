@@ -7,3 +7,4 @@ pub mod Staying
 pub mod Steps
 pub mod Commits
 pub mod GoingOn
+pub mod Empty

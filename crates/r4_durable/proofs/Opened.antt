@@ -17,6 +17,7 @@ use Rattle.r4_content.specs.Locality.{commands}
 use Rattle.r4_outside.specs.Device.{Goes, IsQuiet, State, TellsCrashes, TellsReads}
 use Rattle.r4_replay.specs.Replay.{PutInPlace, SettlesAlike, SettlesAlways}
 use Rattle.r4_space.specs.Bitmaps.{AreBitmapsOf, marks, told_space}
+use Rattle.r4_open.specs.declared.opened.Opened.{Opened}
 use Rattle.r4_trace.specs.Job.{Asked}
 use Rattle.r4_trace.specs.Safe.{IsSafeFrom}
 use Rattle.r4_wander.specs.Kept.{IsVolumeOf}
@@ -27,7 +28,7 @@ use Rattle.r4_sealed.proofs.Kept.{from_footer}
 use Rattle.r4_sealed.proofs.Resting.{Rests, lost_rested, rested}
 use Rattle.r4_placed.proofs.Deferring.{deferred_begun}
 use Rattle.r4_placed.proofs.Owned.{opened_owns}
-use Rattle.r4_durable.specs.Kept.{HasOpened, IsKept, Means, session_of}
+use Rattle.r4_durable.specs.Kept.{HasOpened, IsKept, Means, session_of, space_of}
 use Rattle.r4_durable.specs.Meaning.{Beginning, IsOn, means}
 use Rattle.r4_durable.proofs.Meant.{first_may_be, like_means, volume_like}
 
@@ -92,54 +93,53 @@ none_in (suc n) (suc k) = none_in n k
 
 -- ---- what reading gives
 
-module _ (limit : ℕ) (b : Beginning) (job : Option Asked) (super40 : Super40) (bitmaps : List (List ℕ))
-    (image : Image)
+module _ (limit : ℕ) (b : Beginning) (job : Option Asked) (o : Opened) (image : Image)
     (whole : IsImage b.blocks image) (log : HasLog b.blocks image [])
     (v : IsVolumeOf b.blocks image (settled_at b) b.content b.volume.content)
-    (o : HasOpened limit b job super40 bitmaps image) where
+    (has : HasOpened limit b job o image) where
   abbrev r : Rests b.blocks (settled_at b) image b.content b.volume.content []
   r = rested b.blocks (settled_at b) image b.content b.volume.content v log
 
-  same_super40 : r.has.content.super ≡ super40
-  same_super40 = cc (sym r.has.content.layout.format ∙ o.format)
+  same_super40 : r.has.content.super ≡ o.super40
+  same_super40 = cc (sym r.has.content.layout.format ∙ has.opening.super)
 
   tree : IsTreeOf b.volume.content.store (root_of b.volume.content.super) b.content
   tree =
       let c = b.volume.content in
       record { tree = c.tree; raw = c.raw; units = c.units; files = c.files; visible = c.visible }
 
-  pub opened_means : Means limit b job (session_of b) (told_space super40.block_count bitmaps) image
+  pub opened_means : Means limit b job (session_of b) (space_of o) image
   opened_means = record {
     session = record {
       start = refl;
       sets = opened_sets (commands limit) b.volume.content.store (root_of b.volume.content.super) b.content tree;
-      run = o.run;
+      run = has.run;
       owns = opened_owns b.volume.content.store (root_of b.volume.content.super) b.content;
     };
     none_sealed = refl;
     alone = refl;
     deferred = deferred_begun b.volume.content.store (root_of b.volume.content.super) b.content
-        (told_space super40.block_count bitmaps) refl;
+        (space_of o) refl;
     rests = record {
       whole = whole;
       log = log;
       super40 = b.volume.content.super;
       has = r.has;
       root = refl;
-      lawful = o.lawful;
-      here = told_is b.blocks image b.content r.has.content bitmaps super40.block_count
-          (ap (λ (x : Super40). x.block_count) same_super40) o.told;
-      none_placed = λ k. none_in super40.block_count k;
+      lawful = has.lawful;
+      here = told_is b.blocks image b.content r.has.content o.bitmaps.items o.super40.block_count
+          (ap (λ (x : Super40). x.block_count) same_super40) has.opening.bitmaps;
+      none_placed = λ k. none_in o.super40.block_count k;
       next_id = first_may_be b;
       lost = λ k. lost_rested b.blocks (settled_at b) image b.content b.volume.content r k;
     };
   }
 
 -- all that is kept, from the replay on
-module _ (limit : ℕ) (b : Beginning) (job : Option Asked) (super40 : Super40) (bitmaps : List (List ℕ)) (d e : State)
+module _ (limit : ℕ) (b : Beginning) (job : Option Asked) (o : Opened) (d e : State)
     (count : ℕ) (on : IsOn b d) (goes : Goes d e) (put : TellsReads d → PutInPlace d count e)
     (crashes : TellsCrashes d → SettlesAlways d e × IsQuiet e)
-    (o : TellsReads e → HasOpened limit b job super40 bitmaps e.seen) where
+    (has : TellsReads e → HasOpened limit b job o e.seen) where
   module _ (reads : TellsReads e) where
     abbrev p : PutInPlace d count e
     p = put (goes.reads.0 reads)
@@ -172,10 +172,10 @@ module _ (limit : ℕ) (b : Beginning) (job : Option Asked) (super40 : Super40) 
       agrees = agrees;
     })
 
-    means_now : Means limit b job (session_of b) (told_space super40.block_count bitmaps) e.seen
-    means_now = opened_means limit b job super40 bitmaps e.seen whole log_now volume_now (o reads)
+    means_now : Means limit b job (session_of b) (space_of o) e.seen
+    means_now = opened_means limit b job o e.seen whole log_now volume_now (has reads)
 
-  pub kept_now : IsKept limit b job (session_of b) (told_space super40.block_count bitmaps) d.clock e
+  pub kept_now : IsKept limit b job (session_of b) (space_of o) d.clock e
   kept_now = record {
     means = means_now;
     durable = λ tells. opens_safely b limit d e on goes (crashes (goes.crashes.0 tells)).0;

@@ -3,17 +3,18 @@
 --     IsSession  the session
 --     Means      both
 --     IsKept     on a device
-use Rattle.std.specs.Prelude.{◌≡◌, ◌⊎◌, ◌↔◌, ℕ, List, [], ◌∷◌, map, Option, Ok, false, slice_index_or}
+use Rattle.std.specs.Prelude.{◌≡◌, ◌⊎◌, ◌↔◌, ℕ, [], ◌∷◌, map, Option, false, slice_index_or}
 use Rattle.r4_base.specs.Chain.{HasLog, committed}
-use Rattle.r4_base.specs.Image.{AreDifferent, Image, IsImage, block_at}
-use Rattle.r4_base.specs.Layout.{super_of}
+use Rattle.r4_base.specs.Image.{AreDifferent, Image, IsImage}
 use Rattle.r4_base.specs.Volume.{IsLost, root_of}
 use Rattle.r4_base.specs.declared.superblock.Super40.{Super40}
 use Rattle.r4_content.specs.Locality.{commands}
 use Rattle.r4_outside.specs.Device.{IsQuiet, State, TellsCrashes, TellsReads}
 use Rattle.r4_space.specs.Lawful.{IsLawful}
-use Rattle.r4_space.specs.Bitmaps.{AreBitmapsOf, told_space}
+use Rattle.r4_space.specs.Bitmaps.{told_space}
 use Rattle.r4_space.specs.Space.{Space, settled}
+use Rattle.r4_open.specs.Opening.{IsOpening}
+use Rattle.r4_open.specs.declared.opened.Opened.{Opened}
 use Rattle.r4_place.specs.Chosen.{AreChosen, placed_all}
 use Rattle.r4_trace.specs.Job.{Asked}
 use Rattle.r4_trace.specs.Safe.{IsSafeFrom}
@@ -125,13 +126,15 @@ pub record HasSettled (b : Beginning) (x : Sealing) (later : Space) (image : Ima
 
 -- ---- opening
 
--- The lawful run begins, and the image was opened: its superblock, and its space as its bitmaps tell it.
-pub record HasOpened (limit : ℕ) (b : Beginning) (job : Option Asked) (super40 : Super40) (bitmaps : List (List ℕ))
-    (image : Image) : Type 0 where
+-- the space that the bitmaps tell which an opening found
+abbrev pub space_of : Opened → Space
+space_of o = told_space o.super40.block_count o.bitmaps.items
+
+-- The lawful run begins, the image was opened, and its space is lawful.
+pub record HasOpened (limit : ℕ) (b : Beginning) (job : Option Asked) (o : Opened) (image : Image) : Type 0 where
   pub run : IsLawfulRun limit (record { content = b.content; next_id = first_id b }) job []
-  pub format : super_of b.blocks (block_at image 17) ≡ Ok super40
-  pub told : AreBitmapsOf super40.block_count image bitmaps
-  pub lawful : IsLawful (told_space super40.block_count bitmaps)
+  pub opening : IsOpening b.blocks image o
+  pub lawful : IsLawful (space_of o)
 
 -- the session with which it begins
 abbrev pub session_of : Beginning → Session

@@ -1,14 +1,14 @@
 //! Laws of what is kept of a run, from the opening to a commit and from one commit to the next (docs/durable.md). Each
 //! is the contract of a function that does nothing.
 
-ghost use Rattle.std.specs.Prelude.{◌≡◌, ◌↔◌, ◌+◌, ◌<◌, ◌^◌, ℕ, ◌≤◌, suc, List, [], ◌∷◌, ◌++◌, Option};
+ghost use Rattle.std.specs.Prelude.{◌≡◌, ◌↔◌, ◌+◌, ◌<◌, ◌^◌, ℕ, ◌≤◌, suc, List, [], ◌∷◌, ◌++◌, Option, Some};
 ghost use Rattle.r4_base.specs.Image.{Image, IsImage};
 ghost use Rattle.r4_base.specs.Volume.{IsLost};
-ghost use Rattle.r4_base.specs.declared.superblock.Super40.{Super40};
+ghost use Rattle.r4_base.specs.declared.things.AtomNo.{AtomNo};
 ghost use Rattle.r4_content.specs.Locality.{commands};
 ghost use Rattle.r4_outside.specs.Device.{Goes, IsQuiet, Leaves, LeavesOnly, TellsCrashes, TellsReads};
 ghost use Rattle.r4_replay.specs.Replay.{PutInPlace, SettlesAlike, SettlesAlways};
-ghost use Rattle.r4_space.specs.Bitmaps.{told_space};
+ghost use Rattle.r4_open.specs.declared.opened.Opened.{Opened};
 ghost use Rattle.r4_space.specs.Space.{Space, settled};
 ghost use Rattle.r4_space.specs.Lawful.{IsLawful};
 ghost use Rattle.r4_trace.specs.declared.entry.Entry.{Entry};
@@ -18,7 +18,7 @@ ghost use Rattle.r4_trace.specs.Safe.{CommitStep, HasFirst, HasNow, IsSafeFrom, 
 ghost use Rattle.r4_trace.specs.Traced.{committed_in, latest};
 ghost use Rattle.r4_trace.specs.declared.entry.Entry.TheVariants.{Committed, Sealed};
 ghost use Rattle.r4_wander.specs.declared.plan.LogPlan.{LogPlan};
-ghost use Rattle.r4_sets.specs.Atoms.{committed};
+ghost use Rattle.r4_sets.specs.Atoms.{committed, sealed};
 ghost use Rattle.r4_sets.specs.Session.{Session};
 ghost use Rattle.r4_sealed.specs.Commits.{LeftInPart};
 ghost use Rattle.r4_place.specs.Chosen.{placed_all};
@@ -27,7 +27,7 @@ ghost use Rattle.r4_placed.specs.Flushed.{OwnsBlocks};
 ghost use Rattle.r4_placed.specs.Flushing.{Flushing, commit_by_block};
 ghost use Rattle.r4_durable.specs.GoingOn.{GoesOn, MarksAlike, SealNothing};
 ghost use Rattle.r4_durable.specs.Kept.{CanSeal, HasOpened, HasSettled, IsKept, IsSession, Means};
-ghost use Rattle.r4_durable.specs.Kept.{IsUnderWay, sealing_of, session_of};
+ghost use Rattle.r4_durable.specs.Kept.{IsUnderWay, sealing_of, session_of, space_of};
 ghost use Rattle.r4_durable.specs.Meaning.{Beginning, IsNextId, IsOn, WasLost, first_id, means};
 ghost use Rattle.r4_durable.specs.Sealing.{IsSealing, Sealing, session_after};
 
@@ -45,16 +45,16 @@ pub fn openings_keep_volumes<D: Device>(old: &D, new: &D)
         → SettlesAlways (D.state old.now) (D.state new.now)
         → IsSafeFrom (means b) (commands limit) b.content (D.state old.now).clock []
         (D.state new.now) }
-    ensures kept { (b : Beginning) (limit : ℕ) (job : Option Asked) (super40 : Super40)
-        (bitmaps : List (List ℕ)) (count : ℕ) → IsOn b (D.state old.now)
+    ensures kept { (b : Beginning) (limit : ℕ) (job : Option Asked) (o : Opened) (count : ℕ)
+        → IsOn b (D.state old.now)
         → Goes (D.state old.now) (D.state new.now)
         → (TellsReads (D.state old.now) → PutInPlace (D.state old.now) count (D.state new.now))
         → (TellsCrashes (D.state old.now)
         → SettlesAlways (D.state old.now) (D.state new.now) × IsQuiet (D.state new.now))
         → (TellsReads (D.state new.now)
-        → HasOpened limit b job super40 bitmaps (D.state new.now).seen)
-        → IsKept limit b job (session_of b) (told_space super40.block_count bitmaps)
-        (D.state old.now).clock (D.state new.now) }
+        → HasOpened limit b job o (D.state new.now).seen)
+        → IsKept limit b job (session_of b) (space_of o) (D.state old.now).clock
+        (D.state new.now) }
 {
     let _ = old;
     let _ = new;
@@ -194,3 +194,19 @@ pub fn commits_are_kept()
 {
     on_disk_law();
 }
+
+/// An atom that owns no cell is sealed and committed, and nothing is written. Once it is sealed, the session is one, in
+/// which the blocks of the others are deferred (`session`); and once it is committed, all is kept with the same image,
+/// after whatever entries that seal and commit nothing (`again`).
+pub fn empty_atoms_are_kept()
+    ensures session { (limit : ℕ) (b : Beginning) (job : Option Asked) (c : Session) (s : Space)
+        (image : Image) (a : AtomNo) → Means limit b job c s image
+        → ((i : ℕ) → c.owner i ≡ Some a.0 → ⊥)
+        → IsSession limit b job (sealed c a) × AreDeferredBut a (sealed c a) s }
+    ensures again { (limit : ℕ) (b : Beginning) (job : Option Asked) (c : Session) (s : Space)
+        (image : Image) (a : AtomNo) → Means limit b job c s image
+        → ((i : ℕ) → c.owner i ≡ Some a.0 → ⊥) → (now : Session) (more : List Entry)
+        → GoesOn (sealed c a) now more → IsSession limit b job now → (later : Space)
+        → MarksAlike s later → IsLawful later → AreDeferred now later → (clock : ℕ)
+        → Means limit b job (committed now a clock) later image }
+{}

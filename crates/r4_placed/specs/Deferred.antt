@@ -9,7 +9,8 @@ use Rattle.r4_placed.specs.Flushed.{IsGone}
 abbrev pub IsDeferred : Space → AtomNo → ℕ → Type 0
 IsDeferred s a b = is_claimed (claims_of a s.deferred) b ≡ true
 
--- For each atom exactly those blocks are deferred whose cells under the open atoms it owns, and that are gone from memory.
+-- For each atom exactly those blocks are deferred whose cells under the open atoms it owns, and that are gone from
+-- memory.
 abbrev pub AreDeferred : Session → Space → Type 0
 AreDeferred c s = (a : AtomNo) (b : ℕ) → IsDeferred s a b ↔ IsGone c a c.under.cells b
 

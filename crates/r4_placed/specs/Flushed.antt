@@ -35,8 +35,8 @@ pub record IsFlush (c : Session) (work : Flushing) : Type 0 where
       → IsRenamed (name_after work) d (node_of x)
   pub stands : (x : CellSeen) → Contains work.cells x → MayStand x
 
--- The same, where no atom is sealed, so the committed cells stand under the open atoms; and exactly the blocks are freed
--- whose cells are gone.
+-- The same, where no atom is sealed, so the committed cells stand under the open atoms; and exactly the blocks are
+-- freed whose cells are gone.
 pub record AreFlushed (c : Session) (work : Flushing) (committed : Store Value) : Type 0 where
   pub alone : (i : ℕ) → c.under.cells i ≡ committed i
   pub flush : IsFlush c work

@@ -95,8 +95,8 @@ pub fn owned_blocks_stand()
         → OwnsBlocks (committed c a clock) }
 {}
 
-/// Exactly those blocks are deferred for each open atom whose cells under the open atoms it owns, and that are gone from
-/// memory: at the beginning (`begun`), where two atoms become one (`fused`), of all others where an atom is sealed
+/// Exactly those blocks are deferred for each open atom whose cells under the open atoms it owns, and that are gone
+/// from memory: at the beginning (`begun`), where two atoms become one (`fused`), of all others where an atom is sealed
 /// (`sealed`), and where it settles (`settled`). So a commit frees just these (`freed`).
 pub fn deferred_blocks_are_gone()
     ensures begun { (t : Store Value) (root : Root) (m : Content) (s : Space) → s.deferred ≡ []

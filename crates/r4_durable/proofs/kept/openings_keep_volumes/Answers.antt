@@ -8,6 +8,6 @@ returns g c =
     record {
       alike = alike_means;
       moments = λ b limit on goes always. opens_safely b limit old new on goes always;
-      kept = λ b limit job super40 bitmaps count on goes put crashes o.
-          kept_now limit b job super40 bitmaps old new count on goes put crashes o;
+      kept = λ b limit job o count on goes put crashes has.
+          kept_now limit b job o old new count on goes put crashes has;
     }
