@@ -14,6 +14,8 @@ use Rattle.r4_base.specs.declared.superblock.Super40.{Super40}
 use Rattle.r4_base.proofs.Logs.{one_log}
 use Rattle.r4_base.proofs.Members.{no_member}
 use Rattle.r4_content.specs.Locality.{commands}
+use Rattle.r4_content.specs.Meaning.{greatest_size}
+use Rattle.r4_content.proofs.VolumeWidths.{volume_lawful, volume_room}
 use Rattle.r4_outside.specs.Device.{Goes, IsQuiet, State, TellsCrashes, TellsReads}
 use Rattle.r4_replay.specs.Replay.{PutInPlace, SettlesAlike, SettlesAlways}
 use Rattle.r4_space.specs.Bitmaps.{AreBitmapsOf, marks, told_space}
@@ -23,13 +25,14 @@ use Rattle.r4_trace.specs.Safe.{IsSafeFrom}
 use Rattle.r4_wander.specs.Kept.{IsVolumeOf}
 use Rattle.r4_sets.specs.Session.{IsTreeOf}
 use Rattle.r4_sets.proofs.Answered.{opened_sets}
+use Rattle.r4_sets_told.specs.Runs.{IsLawfulRun}
 use Rattle.r4_sealed.specs.Written.{IsSpaceOf}
 use Rattle.r4_sealed.proofs.Kept.{from_footer}
 use Rattle.r4_sealed.proofs.Resting.{Rests, lost_rested, rested}
 use Rattle.r4_placed.proofs.Deferring.{deferred_begun}
 use Rattle.r4_placed.proofs.Owned.{opened_owns}
 use Rattle.r4_durable.specs.Kept.{HasOpened, IsKept, Means, session_of, space_of}
-use Rattle.r4_durable.specs.Meaning.{Beginning, IsOn, means}
+use Rattle.r4_durable.specs.Meaning.{Beginning, IsOn, means, start_of}
 use Rattle.r4_durable.proofs.Meant.{first_may_be, like_means, volume_like}
 
 -- the settled image of the beginning
@@ -48,6 +51,17 @@ alike_means b image whole alike =
     (alike.settled (settled_at b) (settles_there b)) in
     like_means b (settled_at b) b.content c c.super.oid image b.content
     (volume_like b.blocks (settled_at b) image b.content c v) (first_may_be b) (λ k l. l)
+
+-- its run begins lawfully, where the limit of a file's size is that of volumes
+pub begins_lawfully : (b : Beginning) (job : Option Asked) → IsLawfulRun greatest_size (start_of b) job []
+begins_lawfully b job =
+    let c = b.volume.content in
+    record {
+      lawful = volume_lawful b.blocks (settled_at b) b.content c;
+      room = volume_room b.blocks (settled_at b) b.content c 1 (omega arith);
+      paths = tt;
+      ids = tt;
+    }
 
 -- at each moment of an opening
 module _ (b : Beginning) (limit : ℕ) (d e : State) (on : IsOn b d) (goes : Goes d e) where

@@ -5,14 +5,15 @@ use Rattle.r4_base.specs.Value.{Content}
 use Rattle.r4_content.specs.Locality.{Meaning}
 use Rattle.r4_content.specs.declared.command.Command.{Command}
 use Rattle.r4_content.specs.declared.reply.Reply.{Reply}
+use Rattle.r4_outside.specs.Device.{State}
 use Rattle.r4_trace.specs.declared.entry.Entry.{Entry}
 use Rattle.r4_trace.specs.declared.entry.Entry.TheVariants.{Committed, Sealed}
 use Rattle.r4_trace.specs.Folds.{after_first}
 use Rattle.r4_trace.specs.Order.{IsOrdered}
-use Rattle.r4_trace.specs.Safe.{HasFirst, HasNow}
+use Rattle.r4_trace.specs.Safe.{HasFirst, HasNow, IsNoCommit, IsSafeFrom}
 use Rattle.r4_trace.specs.Traced.{committed_in, sealed_in}
 use Rattle.r4_trace.proofs.Folded.{after_stays}
-use Rattle.r4_trace.proofs.Safely.{has_push}
+use Rattle.r4_trace.proofs.Safely.{has_push, safe_push}
 use Rattle.r4_durable.specs.GoingOn.{SealNothing, SealsNothing}
 
 one_count : (e : Entry) (trace : List Entry) → SealsNothing e
@@ -69,3 +70,14 @@ module _ (means : Image → Content → Type 0) (w : Meaning Command Reply) (x :
         in_sealed = omega (arith, inside, sealed);
         has = first_stays more trace h.k image legal none h.in_sealed h.has;
       }
+
+  no_commit : (e : Entry) → SealsNothing e → IsNoCommit e
+  no_commit (Sealed atom) h = absurd h
+  no_commit (Committed atom clock) h = absurd h
+  no_commit e h = tt
+
+  pub safe_stays : (t : ℕ) (d : State) (more trace : List Entry) → IsOrdered (more ++ trace) → SealNothing more
+      → IsSafeFrom means w x t trace d → IsSafeFrom means w x t (more ++ trace) d
+  safe_stays t d [] trace legal none h = h
+  safe_stays t d (e ∷ es) trace legal none h =
+      safe_push means w x t d (es ++ trace) e legal (no_commit e none.0) (safe_stays t d es trace legal.2 none.1 h)

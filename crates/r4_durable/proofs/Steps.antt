@@ -6,10 +6,12 @@ use Rattle.r4_base.specs.Tree.{Store}
 use Rattle.r4_base.specs.Value.{Content, Value}
 use Rattle.r4_base.specs.Volume.{IsLost}
 use Rattle.r4_content.specs.Locality.{commands}
+use Rattle.r4_outside.specs.Device.{State, TellsReads}
 use Rattle.r4_space.specs.Lawful.{IsLawful}
 use Rattle.r4_space.specs.Space.{Space}
 use Rattle.r4_trace.specs.declared.entry.Entry.{Entry}
 use Rattle.r4_trace.specs.Folds.{after_first}
+use Rattle.r4_trace.specs.Safe.{IsSafeFrom}
 use Rattle.r4_trace.specs.Job.{Asked}
 use Rattle.r4_trace.specs.Traced.{committed_in, sealed_in}
 use Rattle.r4_sets.specs.Session.{Layer, Session}
@@ -17,10 +19,10 @@ use Rattle.r4_sealed.specs.Contents.{HasContentWith}
 use Rattle.r4_sealed.specs.Written.{IsSpaceOf}
 use Rattle.r4_placed.specs.Deferred.{AreDeferred}
 use Rattle.r4_durable.specs.GoingOn.{GoesOn, MarksAlike}
-use Rattle.r4_durable.specs.Kept.{IsSession, Means}
-use Rattle.r4_durable.specs.Meaning.{Beginning, WasLost}
+use Rattle.r4_durable.specs.Kept.{IsKept, IsSession, Means}
+use Rattle.r4_durable.specs.Meaning.{Beginning, WasLost, means}
 use Rattle.r4_durable.specs.Sealing.{made_by}
-use Rattle.r4_durable.proofs.Staying.{made_stays, same_counts}
+use Rattle.r4_durable.proofs.Staying.{made_stays, safe_stays, same_counts}
 
 -- what the first atoms of a session made, which goes on
 module _ (limit : ℕ) (c now : Session) (more : List Entry) (goes : GoesOn c now more) where
@@ -86,3 +88,18 @@ module _ (limit : ℕ) (b : Beginning) (job : Option Asked) (c now : Session) (s
           lost = has_after.lost;
         };
       }
+
+-- and so on a device
+module _ (limit : ℕ) (b : Beginning) (job : Option Asked) (c now : Session) (s later : Space) (more : List Entry)
+    (t : ℕ) (d : State) (kept : IsKept limit b job c s t d) (goes : GoesOn c now more) (alike : MarksAlike s later)
+    (lawful : IsLawful later) (session : TellsReads d → IsSession limit b job now)
+    (deferred : TellsReads d → AreDeferred now later) where
+  pub device_after : IsKept limit b job now later t d
+  device_after = record {
+    means = λ reads. kept_after limit b job c now s later more d.seen (kept.means reads) goes alike lawful
+        (session reads) (deferred reads);
+    durable = λ tells.
+        subst (λ (trace : List Entry). IsSafeFrom (means b) (commands limit) b.content t trace d) (sym goes.trace)
+        (safe_stays (means b) (commands limit) b.content t d more c.trace goes.legal goes.none (kept.durable tells));
+    now = kept.now;
+  }

@@ -30,7 +30,7 @@ use Rattle.r4_sealed.specs.Written.{IsSpaceOf}
 use Rattle.r4_placed.specs.Deferred.{AreDeferred}
 use Rattle.r4_placed.specs.Flushed.{IsFlush, OwnsBlocks, with_flushed}
 use Rattle.r4_placed.specs.Flushing.{Flushing, commit_by_block}
-use Rattle.r4_durable.specs.Meaning.{Beginning, IsNextId, WasLost, first_id, means as meant}
+use Rattle.r4_durable.specs.Meaning.{Beginning, IsNextId, WasLost, first_id, means as meant, start_of}
 use Rattle.r4_durable.specs.Sealing.{Sealing, commit_in, made_by, session_after, start_in}
 
 -- Nothing is unflushed in the image; it has the committed cells, with the content of the committed atoms. The space is
@@ -132,7 +132,7 @@ space_of o = told_space o.super40.block_count o.bitmaps.items
 
 -- The lawful run begins, the image was opened, and its space is lawful.
 pub record HasOpened (limit : ℕ) (b : Beginning) (job : Option Asked) (o : Opened) (image : Image) : Type 0 where
-  pub run : IsLawfulRun limit (record { content = b.content; next_id = first_id b }) job []
+  pub run : IsLawfulRun limit (start_of b) job []
   pub opening : IsOpening b.blocks image o
   pub lawful : IsLawful (space_of o)
 

@@ -11,7 +11,7 @@ use Rattle.r4_base.specs.Volume.{HasContent, HasVolume, IsLost}
 use Rattle.r4_content.specs.Locality.{commands}
 use Rattle.r4_outside.specs.Device.{State}
 use Rattle.r4_trace.specs.declared.entry.Entry.{Entry}
-use Rattle.r4_trace.specs.Ids.{makers, no_id}
+use Rattle.r4_trace.specs.Ids.{Start, makers, no_id}
 use Rattle.r4_trace.specs.Job.{Asked}
 use Rattle.r4_trace.specs.Safe.{IsCrashSafe, IsVolumeOf}
 
@@ -28,6 +28,10 @@ pub record Beginning : Type 0 where
 -- the first id that no object had then
 abbrev pub first_id : Beginning → ℕ
 first_id b = b.volume.content.super.oid
+
+-- with what its trace begins
+abbrev pub start_of : Beginning → Start
+start_of b = record { content = b.content; next_id = first_id b }
 
 -- the block was lost then
 abbrev pub WasLost : Beginning → ℕ → Type 0

@@ -6,6 +6,8 @@ ghost use Rattle.r4_base.specs.Image.{Image, IsImage};
 ghost use Rattle.r4_base.specs.Volume.{IsLost};
 ghost use Rattle.r4_base.specs.declared.things.AtomNo.{AtomNo};
 ghost use Rattle.r4_content.specs.Locality.{commands};
+ghost use Rattle.r4_content.specs.Meaning.{greatest_size};
+ghost use Rattle.r4_sets_told.specs.Runs.{IsLawfulRun};
 ghost use Rattle.r4_outside.specs.Device.{Goes, IsQuiet, Leaves, LeavesOnly, TellsCrashes, TellsReads};
 ghost use Rattle.r4_replay.specs.Replay.{PutInPlace, SettlesAlike, SettlesAlways};
 ghost use Rattle.r4_open.specs.declared.opened.Opened.{Opened};
@@ -29,17 +31,21 @@ ghost use Rattle.r4_durable.specs.GoingOn.{GoesOn, MarksAlike, SealNothing};
 ghost use Rattle.r4_durable.specs.Kept.{CanSeal, HasOpened, HasSettled, IsKept, IsSession, Means};
 ghost use Rattle.r4_durable.specs.Kept.{IsUnderWay, sealing_of, session_of, space_of};
 ghost use Rattle.r4_durable.specs.Meaning.{Beginning, IsNextId, IsOn, WasLost, first_id, means};
+ghost use Rattle.r4_durable.specs.Meaning.{start_of};
 ghost use Rattle.r4_durable.specs.Sealing.{IsSealing, Sealing, session_after};
 
 use r4_cell::on_disk_law;
 use r4_outside::Device;
 
 /// What settles as the image of a beginning, but for the footer's block, means its content (`alike`). So at each moment
-/// of a replay a crash leaves that content, whether it is answered or refused (`moments`). And where the replay put the
-/// log in place and the image was opened, all is there that is kept while nothing is under way (`kept`).
+/// of a replay a crash leaves that content, whether it is answered or refused (`moments`). A run from there begins
+/// lawfully, by the greatest size of files (`lawful`). And where the replay put the log in place and the image was
+/// opened, all is there that is kept while nothing is under way (`kept`).
 pub fn openings_keep_volumes<D: Device>(old: &D, new: &D)
     ensures alike { (b : Beginning) (image : Image) → IsImage b.blocks image
         → SettlesAlike b.blocks b.image image → means b image b.content }
+    ensures lawful { (b : Beginning) (job : Option Asked)
+        → IsLawfulRun greatest_size (start_of b) job [] }
     ensures moments { (b : Beginning) (limit : ℕ) → IsOn b (D.state old.now)
         → Goes (D.state old.now) (D.state new.now)
         → SettlesAlways (D.state old.now) (D.state new.now)
@@ -93,6 +99,18 @@ pub fn steps_are_kept()
         → HasNow (means b) (commands limit) b.content trace image
         → HasNow (means b) (commands limit) b.content (more ++ trace) image }
 {}
+
+/// So it is on a device: what it reads, what crashes left of it, and that it is quiet.
+pub fn steps_are_kept_on_devices<D: Device>(dev: &D)
+    ensures { (limit : ℕ) (b : Beginning) (job : Option Asked) (c now : Session) (s later : Space)
+        (more : List Entry) (t : ℕ) → IsKept limit b job c s t (D.state dev.now) → GoesOn c now more
+        → MarksAlike s later → IsLawful later
+        → (TellsReads (D.state dev.now) → IsSession limit b job now)
+        → (TellsReads (D.state dev.now) → AreDeferred now later)
+        → IsKept limit b job now later t (D.state dev.now) }
+{
+    let _ = dev;
+}
 
 /// An atom is sealed, committed and settled, from what is kept to what is kept again, while entries follow that seal
 /// and commit nothing. Once the atom is sealed the session is one, in which the blocks of the others are deferred

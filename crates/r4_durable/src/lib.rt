@@ -8,7 +8,7 @@ mod sealing;
 
 pub use kept::{
     commits_are_kept, empty_atoms_are_kept, kept_runs_can_be_sealed, kept_runs_go_on,
-    moments_of_commits, openings_keep_volumes, steps_are_kept,
+    moments_of_commits, openings_keep_volumes, steps_are_kept, steps_are_kept_on_devices,
 };
 pub use meaning::{images_mean_volumes, named_runs_are_crash_safe};
 pub use sealing::{crashes_keep_contents, sealed_atoms_have_their_content};
