@@ -21,10 +21,10 @@ use Rattle.r4_sealed.specs.Written.{IsSpaceOf}
 use Rattle.r4_sealed.proofs.Kept.{ended}
 use Rattle.r4_sealed.proofs.Resting.{Rests, lost_rested, rested}
 use Rattle.r4_sealed.proofs.Settled.{settled_space}
-use Rattle.r4_placed.specs.Deferred.{AreDeferredBut}
-use Rattle.r4_placed.proofs.Deferring.{deferred_settled}
-use Rattle.r4_placed.proofs.FlushedCells.{FitsOnDisk}
-use Rattle.r4_placed.proofs.Owned.{committed_owns}
+use Rattle.r4_flushed.specs.Deferred.{AreDeferredBut}
+use Rattle.r4_flushed.proofs.Deferring.{deferred_settled}
+use Rattle.r4_flushed.proofs.FlushedCells.{FitsOnDisk}
+use Rattle.r4_flushed.proofs.Owned.{committed_owns}
 use Rattle.r4_durable.specs.GoingOn.{GoesOn}
 use Rattle.r4_durable.specs.Kept.{HasSettled, IsSession, Means}
 use Rattle.r4_durable.specs.Meaning.{Beginning, IsNextId, WasLost, first_id}

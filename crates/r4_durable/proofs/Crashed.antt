@@ -12,7 +12,7 @@ use Rattle.r4_sets.specs.Session.{Session}
 use Rattle.r4_sealed.specs.Commits.{LeftInPart, image_after}
 use Rattle.r4_sealed.specs.Contents.{HasEither}
 use Rattle.r4_sealed.proofs.Kept.{by_part}
-use Rattle.r4_placed.proofs.FlushedCells.{FitsOnDisk}
+use Rattle.r4_flushed.proofs.FlushedCells.{FitsOnDisk}
 use Rattle.r4_durable.specs.Meaning.{Beginning, IsNextId, IsVolumeLike, WasLost, means}
 use Rattle.r4_durable.specs.Sealing.{IsSealing, MeansFirst, MeansInPart, Sealing, commit_in, made_by, session_after}
 use Rattle.r4_durable.proofs.Meant.{like_means, volume_like}

@@ -22,8 +22,8 @@ use Rattle.r4_sets.proofs.Patches.{empty_sealed}
 use Rattle.r4_sets_told.proofs.OneContent.{adds_nothing}
 use Rattle.r4_sealed.specs.Contents.{HasContentWith}
 use Rattle.r4_sealed.specs.Written.{IsSpaceOf}
-use Rattle.r4_placed.specs.Deferred.{AreDeferred, AreDeferredBut}
-use Rattle.r4_placed.proofs.Owned.{committed_owns, still_owned}
+use Rattle.r4_flushed.specs.Deferred.{AreDeferred, AreDeferredBut}
+use Rattle.r4_flushed.proofs.Owned.{committed_owns, still_owned}
 use Rattle.r4_durable.specs.GoingOn.{GoesOn, MarksAlike}
 use Rattle.r4_durable.specs.Kept.{IsSession, Means}
 use Rattle.r4_durable.specs.Meaning.{Beginning, WasLost}

@@ -16,13 +16,13 @@ use Rattle.r4_wander.specs.declared.plan.LogPlan.{LogPlan}
 use Rattle.r4_sets.specs.Session.{Layer, Session}
 use Rattle.r4_sealed.specs.Contents.{RenewsSuper}
 use Rattle.r4_place.specs.Chosen.{placed_all}
-use Rattle.r4_placed.specs.Deferred.{AreDeferredBut}
-use Rattle.r4_placed.specs.Flushed.{AreFlushed, AreUnowned, IsSealedTo, OwnsBlocks, sealed_to, with_flushed}
+use Rattle.r4_flushed.specs.Deferred.{AreDeferredBut}
+use Rattle.r4_flushed.specs.Flushed.{AreFlushed, AreUnowned, IsSealedTo, OwnsBlocks, sealed_to, with_flushed}
 use Rattle.r4_placed.specs.Flushing.{Flushing, IsAtRest}
-use Rattle.r4_placed.proofs.Deferring.{deferred_sealed, freed_is_gone}
-use Rattle.r4_placed.proofs.Owned.{sealed_owns}
+use Rattle.r4_flushed.proofs.Deferring.{deferred_sealed, freed_is_gone}
+use Rattle.r4_flushed.proofs.Owned.{sealed_owns}
 use Rattle.r4_placed.proofs.Planning.{unowned_from}
-use Rattle.r4_placed.proofs.Remembering.{sealed_cells}
+use Rattle.r4_flushed.proofs.Remembering.{sealed_cells}
 use Rattle.r4_durable.specs.Kept.{CanSeal, Means, sealing_of}
 use Rattle.r4_durable.specs.Meaning.{Beginning, IsNextId, WasLost, first_id, means}
 use Rattle.r4_durable.specs.Sealing.{IsSealing, made_by, session_after}

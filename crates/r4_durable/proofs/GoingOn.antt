@@ -16,9 +16,9 @@ use Rattle.r4_wander.specs.declared.plan.LogPlan.{LogPlan}
 use Rattle.r4_sets.specs.Atoms.{committed}
 use Rattle.r4_sets.specs.Session.{Session}
 use Rattle.r4_sealed.specs.Commits.{LeftInPart}
-use Rattle.r4_placed.specs.Deferred.{AreDeferredBut}
+use Rattle.r4_flushed.specs.Deferred.{AreDeferredBut}
 use Rattle.r4_placed.specs.Flushing.{Flushing, commit_by_block}
-use Rattle.r4_placed.proofs.FlushedCells.{FitsOnDisk}
+use Rattle.r4_flushed.proofs.FlushedCells.{FitsOnDisk}
 use Rattle.r4_durable.specs.GoingOn.{GoesOn, SealNothing}
 use Rattle.r4_durable.specs.Kept.{CanSeal, HasSettled, IsSession, IsUnderWay, Means, sealing_of}
 use Rattle.r4_durable.specs.Meaning.{Beginning, IsNextId, first_id, means}

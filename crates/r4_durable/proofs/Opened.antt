@@ -29,8 +29,8 @@ use Rattle.r4_sets_told.specs.Runs.{IsLawfulRun}
 use Rattle.r4_sealed.specs.Written.{IsSpaceOf}
 use Rattle.r4_sealed.proofs.Kept.{from_footer}
 use Rattle.r4_sealed.proofs.Resting.{Rests, lost_rested, rested}
-use Rattle.r4_placed.proofs.Deferring.{deferred_begun}
-use Rattle.r4_placed.proofs.Owned.{opened_owns}
+use Rattle.r4_flushed.proofs.Deferring.{deferred_begun}
+use Rattle.r4_flushed.proofs.Owned.{opened_owns}
 use Rattle.r4_durable.specs.Kept.{HasOpened, IsKept, Means, session_of, space_of}
 use Rattle.r4_durable.specs.Meaning.{Beginning, IsOn, means, start_of}
 use Rattle.r4_durable.proofs.Meant.{first_may_be, like_means, volume_like}

@@ -28,9 +28,9 @@ use Rattle.r4_sealed.proofs.Coming.{are_written, new_tree}
 use Rattle.r4_sealed.proofs.LostBlocks.{lost}
 use Rattle.r4_sealed.proofs.NewContent.{content}
 use Rattle.r4_placed.proofs.ByBlock.{comes_by, frees_by, is_commit_by}
-use Rattle.r4_placed.proofs.FlushedCells.{FitsOnDisk, comes, frees}
+use Rattle.r4_flushed.proofs.FlushedCells.{FitsOnDisk, comes, frees}
 use Rattle.r4_placed.proofs.Planning.{space_placed}
-use Rattle.r4_placed.proofs.Sealing.{sets_sealed}
+use Rattle.r4_flushed.proofs.Sealing.{sets_sealed}
 use Rattle.r4_durable.specs.Sealing.{IsSealing, Sealing, commit_in, made_by, session_after, start_in}
 
 -- ---- what is sealed now is none of the first k, where as many were sealed before

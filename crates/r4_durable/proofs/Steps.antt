@@ -17,7 +17,7 @@ use Rattle.r4_trace.specs.Traced.{committed_in, sealed_in}
 use Rattle.r4_sets.specs.Session.{Layer, Session}
 use Rattle.r4_sealed.specs.Contents.{HasContentWith}
 use Rattle.r4_sealed.specs.Written.{IsSpaceOf}
-use Rattle.r4_placed.specs.Deferred.{AreDeferred}
+use Rattle.r4_flushed.specs.Deferred.{AreDeferred}
 use Rattle.r4_durable.specs.GoingOn.{GoesOn, MarksAlike}
 use Rattle.r4_durable.specs.Kept.{IsKept, IsSession, Means}
 use Rattle.r4_durable.specs.Meaning.{Beginning, WasLost, means}

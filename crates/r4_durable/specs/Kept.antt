@@ -27,8 +27,8 @@ use Rattle.r4_sets_told.specs.Runs.{CountsObjects, IsLawfulRun}
 use Rattle.r4_sealed.specs.Commits.{HasPlan, IsLater}
 use Rattle.r4_sealed.specs.Contents.{HasContentWith, RenewsSuper}
 use Rattle.r4_sealed.specs.Written.{IsSpaceOf}
-use Rattle.r4_placed.specs.Deferred.{AreDeferred}
-use Rattle.r4_placed.specs.Flushed.{IsFlush, OwnsBlocks, with_flushed}
+use Rattle.r4_flushed.specs.Deferred.{AreDeferred}
+use Rattle.r4_flushed.specs.Flushed.{IsFlush, OwnsBlocks, with_flushed}
 use Rattle.r4_placed.specs.Flushing.{Flushing, commit_by_block}
 use Rattle.r4_durable.specs.Meaning.{Beginning, IsNextId, WasLost, first_id, means as meant, start_of}
 use Rattle.r4_durable.specs.Sealing.{Sealing, commit_in, made_by, session_after, start_in}

@@ -18,7 +18,7 @@ use Rattle.r4_sets.specs.Session.{Session, Sets, in_under}
 use Rattle.r4_sets_told.specs.Runs.{CountsObjects, IsLawfulRun}
 use Rattle.r4_sealed.specs.Commits.{Commit, HasPlan}
 use Rattle.r4_sealed.specs.Contents.{RenewsSuper}
-use Rattle.r4_placed.specs.Flushed.{IsSealedTo, sealed_to}
+use Rattle.r4_flushed.specs.Flushed.{IsSealedTo, sealed_to}
 use Rattle.r4_placed.specs.Flushing.{Flushing, IsAtRest, commit_by_block}
 use Rattle.r4_durable.specs.Meaning.{IsVolumeLike}
 

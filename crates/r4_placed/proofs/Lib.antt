@@ -1,11 +1,4 @@
 pub mod Swapped
 pub mod Planning
 pub mod ByBlock
-pub mod FlushedCells
-pub mod Gathering
-pub mod Remembering
-pub mod Sealing
-pub mod Owned
-pub mod Deferring
 pub mod RenamingItems
-pub mod OneCell

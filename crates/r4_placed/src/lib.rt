@@ -1,14 +1,9 @@
-//! An open atom is flushed where nothing is unflushed: its cells get the names of their blocks, it is sealed, and a
-//! plan is made for it (docs/durable.md).
+//! The cells of an open atom get blocks, and the names of these, where nothing is unflushed; and a plan can be made for
+//! them (docs/durable.md).
 #![tactic(auto)]
 
-mod flushing;
 mod naming;
-mod sample;
+mod plans;
 
-pub use flushing::{
-    deferred_blocks_are_gone, flushed_atoms_are_sealed, flushed_cells_are_written,
-    owned_blocks_stand, plans_can_be_made,
-};
 pub use naming::{cells_have_places, names_become_blocks, renamed_blocks_are_cells};
-pub use sample::one_cell_can_be_flushed;
+pub use plans::plans_can_be_made;

@@ -1,8 +1,8 @@
 use Rattle.std.proofs.Common.{sym, ◌∙◌}
 use Rattle.r4_placed.proofs.Planning.{unowned_from}
-use Rattle.r4_placed.proofs.Remembering.{sealed_cells}
-use Rattle.r4_placed.proofs.Sealing.{sets_sealed}
-use Rattle.r4_placed.proofs.flushing.flushed_atoms_are_sealed.Goals as goal
+use Rattle.r4_flushed.proofs.Remembering.{sealed_cells}
+use Rattle.r4_flushed.proofs.Sealing.{sets_sealed}
+use Rattle.r4_flushed.proofs.flushing.flushed_atoms_are_sealed.Goals as goal
 
 pub returns : goal.returns
 returns g = record {

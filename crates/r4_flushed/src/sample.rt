@@ -4,9 +4,9 @@ ghost use Rattle.std.specs.Prelude.{ℕ};
 ghost use Rattle.r4_base.specs.Value.{Content};
 ghost use Rattle.r4_base.specs.Volume.{HasContent, root_of};
 ghost use Rattle.r4_cell.specs.Seen.{CellSeen};
-ghost use Rattle.r4_placed.specs.Flushed.{IsSealedTo, MayStand};
+ghost use Rattle.r4_flushed.specs.Flushed.{IsSealedTo, MayStand};
 ghost use Rattle.r4_placed.specs.Flushing.{Flushing, IsAtRest};
-ghost use Rattle.r4_placed.specs.Sample.{IsOfOne, took, with_one};
+ghost use Rattle.r4_flushed.specs.Sample.{IsOfOne, took, with_one};
 
 /// On any image where nothing is unflushed, and with its space, in which nothing is placed or deferred: an atom that
 /// owns one committed cell and left it as it was is at rest (`rest`), and can be sealed (`sealed`).

@@ -14,31 +14,18 @@ ghost use Rattle.r4_content.specs.declared.command.Command.{Command};
 ghost use Rattle.r4_content.specs.declared.reply.Reply.{Reply};
 ghost use Rattle.r4_place.specs.Chosen.{placed_all};
 ghost use Rattle.r4_wander.specs.declared.plan.LogPlan.{LogPlan};
-ghost use Rattle.r4_commit.specs.Plannable.{IsPlannable};
 ghost use Rattle.r4_sets.specs.Atoms.{committed, fused, opened};
 ghost use Rattle.r4_sets.specs.Change.{Applies, applied, touches};
 ghost use Rattle.r4_sets.specs.Session.{Session, Sets};
-ghost use Rattle.r4_sealed.specs.Commits.{HasPlan, IsCommitOn, is_freed};
+ghost use Rattle.r4_sealed.specs.Commits.{is_freed};
 ghost use Rattle.r4_space.specs.Space.{Space, merged, settled};
-ghost use Rattle.r4_placed.specs.Deferred.{AreDeferred, AreDeferredBut};
+ghost use Rattle.r4_flushed.specs.Deferred.{AreDeferred, AreDeferredBut};
 ghost use Rattle.r4_sealed.specs.Written.{ComesFrom, Frees};
-ghost use Rattle.r4_placed.specs.Flushed.{AreFlushed, AreUnowned, IsFlushed, IsGone, IsSealedTo};
-ghost use Rattle.r4_placed.specs.Flushed.{OwnsBlocks, sealed_to, with_flushed};
+ghost use Rattle.r4_flushed.specs.Flushed.{AreFlushed, AreUnowned, IsFlushed, IsGone, IsSealedTo};
+ghost use Rattle.r4_flushed.specs.Flushed.{OwnsBlocks, sealed_to, with_flushed};
 ghost use Rattle.r4_placed.specs.Flushing.{Flushing, IsAtRest, commit_by_block, commit_of};
 
 use r4_cell::on_disk_law;
-
-/// Where nothing is unflushed, the blocks that are chosen for an atom's cells make a plan that is safe (`plannable`):
-/// for the cells under the names that they had (`commits`), and under the names of their blocks (`by_block`).
-pub fn plans_can_be_made()
-    ensures plannable { (n : ℕ) (work : Flushing) (m : Content) → IsAtRest n work m
-        → IsPlannable n work.base [] (placed_all work.space work.answers) work.cells work.answers
-        work.next work.last }
-    ensures commits { (n : ℕ) (work : Flushing) (m : Content) (p : LogPlan) → IsAtRest n work m
-        → HasPlan (commit_of work p) → IsCommitOn n (commit_of work p) }
-    ensures by_block { (n : ℕ) (work : Flushing) (m : Content) (p : LogPlan) → IsAtRest n work m
-        → HasPlan (commit_by_block work p) → IsCommitOn n (commit_by_block work p) }
-{}
 
 /// The committed cells with the atom's in place, where each of its own has its names renamed, are those of the atom in
 /// place under their new names (`gathered`). Each of them is written by the atom's commit or is a committed one that

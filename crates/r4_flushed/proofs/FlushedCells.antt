@@ -22,7 +22,7 @@ use Rattle.r4_commit.specs.Places.{place_of}
 use Rattle.r4_commit.specs.Plannable.{is_marked_in}
 use Rattle.r4_sets.specs.Session.{Session, only, picks, cells as cells_with}
 use Rattle.r4_placed.specs.Flushing.{Flushing, IsAtRest, commit_of, name_after}
-use Rattle.r4_placed.specs.Flushed.{IsFlushed}
+use Rattle.r4_flushed.specs.Flushed.{IsFlushed}
 use Rattle.r4_sealed.specs.Written.{ComesFrom, Frees}
 use Rattle.r4_sealed.specs.Commits.{is_freed, spot}
 use Rattle.r4_placed.proofs.Planning.{below_or, cell_marked, fresh_free, kept_from, old_spot, placed_spot}

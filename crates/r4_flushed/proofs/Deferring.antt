@@ -20,11 +20,11 @@ use Rattle.r4_sets.specs.Atoms.{committed, fused, opened, without}
 use Rattle.r4_sets.specs.Session.{Session, only, picks}
 use Rattle.r4_sealed.specs.Commits.{is_freed}
 use Rattle.r4_sealed.proofs.Settled.{freed_alone}
-use Rattle.r4_placed.specs.Deferred.{AreDeferred, AreDeferredBut, IsDeferred}
-use Rattle.r4_placed.specs.Flushed.{AreFlushed, AreUnowned, IsGone, sealed_to, with_flushed}
+use Rattle.r4_flushed.specs.Deferred.{AreDeferred, AreDeferredBut, IsDeferred}
+use Rattle.r4_flushed.specs.Flushed.{AreFlushed, AreUnowned, IsGone, sealed_to, with_flushed}
 use Rattle.r4_placed.specs.Flushing.{Flushing, IsAtRest}
-use Rattle.r4_placed.proofs.Gathering.{spot_or_not}
-use Rattle.r4_placed.proofs.Owned.{still_owned}
+use Rattle.r4_flushed.proofs.Gathering.{spot_or_not}
+use Rattle.r4_flushed.proofs.Owned.{still_owned}
 use Rattle.r4_placed.proofs.Planning.{below_or, old_spot}
 
 -- ---- claims of an atom

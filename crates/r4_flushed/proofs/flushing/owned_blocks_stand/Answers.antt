@@ -1,5 +1,5 @@
-use Rattle.r4_placed.proofs.Owned.{applied_owns, committed_owns, fused_owns, opened_owns, sealed_owns}
-use Rattle.r4_placed.proofs.flushing.owned_blocks_stand.Goals as goal
+use Rattle.r4_flushed.proofs.Owned.{applied_owns, committed_owns, fused_owns, opened_owns, sealed_owns}
+use Rattle.r4_flushed.proofs.flushing.owned_blocks_stand.Goals as goal
 
 pub returns : goal.returns
 returns g = record {

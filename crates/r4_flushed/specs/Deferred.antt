@@ -3,7 +3,7 @@ use Rattle.std.specs.Prelude.{◌≡◌, ◌≢◌, ◌↔◌, ℕ, true, Some}
 use Rattle.r4_base.specs.declared.things.AtomNo.{AtomNo}
 use Rattle.r4_space.specs.Space.{Space, claims_of, is_claimed}
 use Rattle.r4_sets.specs.Session.{Session}
-use Rattle.r4_placed.specs.Flushed.{IsGone}
+use Rattle.r4_flushed.specs.Flushed.{IsGone}
 
 -- the block is deferred for the atom
 abbrev pub IsDeferred : Space → AtomNo → ℕ → Type 0

@@ -1,7 +1,7 @@
 use Rattle.r4_placed.proofs.ByBlock.{comes_by, frees_by}
-use Rattle.r4_placed.proofs.FlushedCells.{comes, frees}
-use Rattle.r4_placed.proofs.Gathering.{flushed}
-use Rattle.r4_placed.proofs.flushing.flushed_cells_are_written.Goals as goal
+use Rattle.r4_flushed.proofs.FlushedCells.{comes, frees}
+use Rattle.r4_flushed.proofs.Gathering.{flushed}
+use Rattle.r4_flushed.proofs.flushing.flushed_cells_are_written.Goals as goal
 
 pub returns-clause-gathered : goal.returns-clause-gathered
 returns-clause-gathered g = λ n work m r c fl. flushed n work m r c fl

@@ -1,5 +1,6 @@
-use Rattle.r4_placed.proofs.Deferring.{deferred_begun, deferred_fused, deferred_sealed, deferred_settled, freed_is_gone}
-use Rattle.r4_placed.proofs.flushing.deferred_blocks_are_gone.Goals as goal
+use Rattle.r4_flushed.proofs.Deferring.{deferred_begun, deferred_fused, deferred_sealed, deferred_settled}
+use Rattle.r4_flushed.proofs.Deferring.{freed_is_gone}
+use Rattle.r4_flushed.proofs.flushing.deferred_blocks_are_gone.Goals as goal
 
 pub returns : goal.returns
 returns g = record {

@@ -17,10 +17,10 @@ use Rattle.r4_trace.specs.Traced.{atom_in, renamed_atom}
 use Rattle.r4_sets.specs.Atoms.{committed, fused, opened, without}
 use Rattle.r4_sets.specs.Change.{Applies, IsFree, applied, touches}
 use Rattle.r4_sets.specs.Session.{Session, Sets}
-use Rattle.r4_placed.specs.Flushed.{AreFlushed, OwnsBlocks, sealed_to, with_flushed}
+use Rattle.r4_flushed.specs.Flushed.{AreFlushed, OwnsBlocks, sealed_to, with_flushed}
 use Rattle.r4_placed.specs.Flushing.{Flushing, IsAtRest}
-use Rattle.r4_placed.proofs.FlushedCells.{picks_cases}
-use Rattle.r4_placed.proofs.Gathering.{not_owned}
+use Rattle.r4_flushed.proofs.FlushedCells.{picks_cases}
+use Rattle.r4_flushed.proofs.Gathering.{not_owned}
 
 no_owner : (k : ℕ) → None ≡ Some k → ⊥
 no_owner k e = absurd (cc e)

@@ -15,9 +15,9 @@ use Rattle.r4_space.specs.declared.things.Claim.{Claim}
 use Rattle.r4_wander.proofs.Members.{any_cases, any_here}
 use Rattle.r4_sets.specs.Renaming.{IsRenamed, IsRenaming, renamed_name}
 use Rattle.r4_sets.specs.Session.{Session, only, picks, cells as cells_with}
-use Rattle.r4_placed.specs.Flushed.{IsSealedTo, MayStand}
+use Rattle.r4_flushed.specs.Flushed.{IsSealedTo, MayStand}
 use Rattle.r4_placed.specs.Flushing.{Flushing, IsAtRest, swapped, moves, name_after}
-use Rattle.r4_placed.specs.Sample.{IsOfOne, overwrites, took, with_one}
+use Rattle.r4_flushed.specs.Sample.{IsOfOne, overwrites, took, with_one}
 use Rattle.r4_sealed.specs.Commits.{is_freed, spot, spot_of}
 
 one_of : (x y : CellSeen) → Contains (x ∷ []) y → y ≡ x

@@ -13,7 +13,7 @@ use Rattle.r4_sets.specs.Session.{Session, Sets}
 use Rattle.r4_sets.proofs.Gathered.{sealed_sets}
 use Rattle.r4_sets.proofs.Renamed.{renamed_sets}
 use Rattle.r4_sealed.specs.Commits.{spot}
-use Rattle.r4_placed.specs.Flushed.{IsSealedTo, sealed_to}
+use Rattle.r4_flushed.specs.Flushed.{IsSealedTo, sealed_to}
 use Rattle.r4_placed.specs.Flushing.{Flushing, IsAtRest, moves, name_after}
 use Rattle.r4_placed.proofs.Planning.{below_or, from_pairs, old_spot}
 use Rattle.r4_placed.proofs.Swapped.{goes}

@@ -1,6 +1,6 @@
 use Rattle.r4_placed.proofs.ByBlock.{is_commit_by}
 use Rattle.r4_placed.proofs.Planning.{is_commit, plannable}
-use Rattle.r4_placed.proofs.flushing.plans_can_be_made.Goals as goal
+use Rattle.r4_placed.proofs.plans.plans_can_be_made.Goals as goal
 
 pub returns : goal.returns
 returns g = record {

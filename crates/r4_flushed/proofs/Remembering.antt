@@ -19,11 +19,11 @@ use Rattle.r4_sets.specs.Renaming.{IsRenamed, renamed_name}
 use Rattle.r4_sets.specs.Session.{Session, Sets, only, picks, root_with, cells as cells_with}
 use Rattle.r4_sets.proofs.Applied.{memory_stands}
 use Rattle.r4_sets.proofs.Gathered.{under_stands}
-use Rattle.r4_placed.specs.Flushed.{AreFlushed, AreUnowned, IsSealedTo, cell_at, with_flushed}
+use Rattle.r4_flushed.specs.Flushed.{AreFlushed, AreUnowned, IsSealedTo, cell_at, with_flushed}
 use Rattle.r4_placed.specs.Flushing.{Flushing, IsAtRest, moves, name_after}
 use Rattle.r4_sealed.specs.Commits.{spot}
-use Rattle.r4_placed.proofs.FlushedCells.{none_some, picks_cases}
-use Rattle.r4_placed.proofs.Gathering.{flushed, found_in, spot_or_not}
+use Rattle.r4_flushed.proofs.FlushedCells.{none_some, picks_cases}
+use Rattle.r4_flushed.proofs.Gathering.{flushed, found_in, spot_or_not}
 use Rattle.r4_placed.proofs.Planning.{below_or, cell_marked, fresh_free, from_pairs, old_spot, renamed_cell}
 use Rattle.r4_placed.proofs.Planning.{renamed_twice}
 use Rattle.r4_placed.proofs.Swapped.{swap_stays}

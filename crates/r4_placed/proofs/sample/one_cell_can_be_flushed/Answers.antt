@@ -1,5 +1,0 @@
-use Rattle.r4_placed.proofs.OneCell.{at_rest, is_sealed}
-use Rattle.r4_placed.proofs.sample.one_cell_can_be_flushed.Goals as goal
-
-pub returns : goal.returns
-returns g = record { rest = at_rest; sealed = is_sealed }
