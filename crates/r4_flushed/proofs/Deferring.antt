@@ -24,8 +24,9 @@ use Rattle.r4_flushed.specs.Deferred.{AreDeferred, AreDeferredBut, IsDeferred}
 use Rattle.r4_flushed.specs.Flushed.{AreFlushed, AreUnowned, IsGone, sealed_to, with_flushed}
 use Rattle.r4_placed.specs.Flushing.{Flushing, IsAtRest}
 use Rattle.r4_flushed.proofs.Gathering.{spot_or_not}
-use Rattle.r4_flushed.proofs.Owned.{still_owned}
+use Rattle.r4_flushed.proofs.Owned.{no_owner, still_owned}
 use Rattle.r4_placed.proofs.Planning.{below_or, old_spot}
+use Rattle.r4_sealed.proofs.NewCells.{or_second}
 
 -- ---- claims of an atom
 
@@ -47,10 +48,6 @@ mix true g ks gs = refl
 mix false true true gs = refl
 mix false true false gs = refl
 mix false false ks gs = refl
-
-or_second : (p q : Bool) → q ≡ true → (p || q) ≡ true
-or_second true q e = refl
-or_second false q e = e
 
 not_atom : (a c : AtomNo) → a.0 ≢ c.0 → is_atom a c ≡ false
 not_atom a c other = ne_eqb c.0 a.0 (λ e. other (sym e))
@@ -147,9 +144,6 @@ module _ (atom a : AtomNo) (b : ℕ) where
           (ap (λ (k : ℕ). eqb x.atom.0 k) is ∙ e) ∙ same
 
 -- ---- sessions
-
-no_owner : (k : ℕ) → None ≡ Some k → ⊥
-no_owner k e = absurd (cc e)
 
 pub deferred_begun : (t : Store Value) (root : Root) (m : Content) (s : Space) → s.deferred ≡ []
     → AreDeferred (opened t root m) s

@@ -22,7 +22,7 @@ use Rattle.r4_placed.specs.Flushing.{Flushing, IsAtRest}
 use Rattle.r4_flushed.proofs.FlushedCells.{picks_cases}
 use Rattle.r4_flushed.proofs.Gathering.{not_owned}
 
-no_owner : (k : ℕ) → None ≡ Some k → ⊥
+pub no_owner : (k : ℕ) → None ≡ Some k → ⊥
 no_owner k e = absurd (cc e)
 
 pub opened_owns : (t : Store Value) (root : Root) (m : Content) → OwnsBlocks (opened t root m)

@@ -28,7 +28,8 @@ use Rattle.r4_sealed.specs.Written.{ComesFrom, Frees}
 use Rattle.r4_placed.specs.Flushing.{Flushing, IsAtRest, answers_by_block, cells_by_block, commit_by_block, commit_of}
 use Rattle.r4_placed.specs.Flushing.{named_by_block}
 use Rattle.r4_sealed.specs.Commits.{HasPlan, IsCommitOn, spot, spot_of}
-use Rattle.r4_placed.proofs.Planning.{below_or, cell_marked, fresh_given, fresh_spot, old_kept, old_spot, or_first}
+use Rattle.r4_placed.proofs.Planning.{below_or, cell_marked, fresh_given, fresh_spot, none_or, old_kept, old_spot}
+use Rattle.r4_placed.proofs.Planning.{or_first, some_or}
 use Rattle.r4_placed.proofs.Planning.{plannable, same_spot}
 
 -- ---- the answers
@@ -36,12 +37,6 @@ use Rattle.r4_placed.proofs.Planning.{plannable, same_spot}
 same_fresh : (ps : List Placed) → fresh_blocks (answers_by_block ps) ≡ fresh_blocks ps
 same_fresh [] = refl
 same_fresh (p ∷ ps) = ap (λ (l : List ℕ). block_of p.how ++ l) (same_fresh ps)
-
-none_or : (o q : Option BlockNo) → o ≡ None → q ≡ None → option_or o q ≡ None
-none_or o q e f = rw (e, f) refl
-
-some_or : (o q : Option BlockNo) (b : BlockNo) → o ≡ Some b → option_or o q ≡ Some b
-some_or o q b e = rw e refl
 
 then_or : (o q : Option BlockNo) (b : BlockNo) → o ≡ None → q ≡ Some b → option_or o q ≡ Some b
 then_or o q b e f = rw (e, f) refl

@@ -38,10 +38,10 @@ is_some_or : (o : Option BlockNo) (b : BlockNo) → (a : BlockNo) × (option_or 
 is_some_or None b = (b, refl)
 is_some_or (Some a) b = (a, refl)
 
-some_or : (o q : Option BlockNo) (b : BlockNo) → o ≡ Some b → option_or o q ≡ Some b
+pub some_or : (o q : Option BlockNo) (b : BlockNo) → o ≡ Some b → option_or o q ≡ Some b
 some_or o q b e = rw e refl
 
-none_or : (o q : Option BlockNo) → o ≡ None → q ≡ None → option_or o q ≡ None
+pub none_or : (o q : Option BlockNo) → o ≡ None → q ≡ None → option_or o q ≡ None
 none_or o q e f = rw (e, f) refl
 
 -- a name without a block gets one

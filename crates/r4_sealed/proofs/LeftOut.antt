@@ -1,5 +1,5 @@
 -- What a commit can not leave out.
-use Rattle.std.proofs.Common.{◌≡◌, ℕ, ◌<◌, false, List, Option, get_or, refl, sym, ap, ◌∙◌, subst, arith}
+use Rattle.std.proofs.Common.{◌≡◌, ℕ, ◌<◌, false, List, get_or, refl, sym, ap, ◌∙◌, subst, arith}
 use Rattle.std.specs.Prelude.{Contains, Some, None}
 use Rattle.r4_base.proofs.Choices.{never_both}
 use Rattle.r4_base.specs.Image.{block_at}
@@ -18,12 +18,8 @@ use Rattle.r4_sets.specs.Session.{IsTreeOf}
 use Rattle.r4_sets_told.proofs.Blocks.{raw_ids}
 use Rattle.r4_sealed.specs.Commits.{Commit, IsCommitOn, image_after, image_before, is_freed, super_after}
 use Rattle.r4_sealed.specs.Written.{IsSpaceOf}
-use Rattle.r4_sealed.proofs.LostBlocks.{is_none}
+use Rattle.r4_sealed.proofs.LostBlocks.{is_none, no_cell}
 use Rattle.r4_sealed.proofs.NewCells.{block_home, marks_after, or_first, stays_marked}
-
-no_cell : (o : Option (Node Value)) → ((d : Node Value) → o ≡ Some d → ⊥) → o ≡ None
-no_cell None h = refl
-no_cell (Some d) h = absurd (h d refl)
 
 module _ (n : ℕ) (work : Commit) (ok : IsCommitOn n work) (m : Content) (d : HasContent n (image_after work) m) where
   abbrev written : Super40

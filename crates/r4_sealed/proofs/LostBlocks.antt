@@ -16,7 +16,7 @@ use Rattle.r4_space.specs.Space.{Space, is_marked_after, is_marked_by}
 use Rattle.r4_commit.specs.Plannable.{is_marked_in}
 use Rattle.r4_sealed.specs.Commits.{Commit, IsCommitOn, image_after, image_before, is_freed}
 use Rattle.r4_sealed.specs.Written.{Frees, IsSpaceOf}
-use Rattle.r4_sealed.proofs.NewCells.{marks_after, stays_marked}
+use Rattle.r4_sealed.proofs.NewCells.{marks_after, or_first, stays_marked}
 
 -- a block that is marked afterwards and not fixed was marked or placed, and is not freed
 after_marked : (s : Space) (atom : AtomNo) (b : ℕ) → b < s.block_count → is_fixed s.block_count b ≡ false
@@ -39,10 +39,7 @@ one_of : (a b : Bool) → (a || b) ≡ true → (b ≡ true → ⊥) → a ≡ t
 one_of true b e h = refl
 one_of false b e h = absurd (h e)
 
-first_of : (a b : Bool) → a ≡ true → (a || b) ≡ true
-first_of a b e = rw e refl
-
-no_cell : (o : Option (Node Value)) → ((d : Node Value) → o ≡ Some d → ⊥) → o ≡ None
+pub no_cell : (o : Option (Node Value)) → ((d : Node Value) → o ≡ Some d → ⊥) → o ≡ None
 no_cell None h = refl
 no_cell (Some d) h = absurd (h d refl)
 
@@ -75,7 +72,7 @@ module _ (n : ℕ) (work : Commit) (ok : IsCommitOn n work) (o m : Content) (c0 
       is_none d (c0.store b) is none0) in (
         subst (λ (j : ℕ). b < j) (sym count) lt,
         marks_after n work ok b lt ∙ stays_marked work.space work.atom b
-            (first_of (get_or work.space.marked b false) (get_or work.space.placed b false) marked) kept,
+            (or_first (get_or work.space.marked b false) (get_or work.space.placed b false) marked) kept,
         subst (λ (j : ℕ). is_fixed j b ≡ false) (here.count ∙ sym count) free0,
         no_cell (c1.store b) (λ d is. let (e, was) = frees.over b d is marked in is_none e (c0.store b) was none0),
       )

@@ -47,7 +47,8 @@ pub record IsSpaceOf {n : ℕ} {image : Image} {m : Content} (c : HasContent n i
 
 -- Each cell of the tree is one of the atom's, which is written, or one of the content's, which the commit does not
 -- overwrite; and its block is not freed.
-pub record ComesFrom {n : ℕ} {image : Image} {m : Content} (c : HasContent n image m) (work : Commit) (t : Store Value)
+pub record ComesFrom {n : ℕ} {image : Image} {m : Content} (c : HasContent n image m) (work : Commit)
+    (t : Store Value)
     : Type 0 where
   pub each : (i : ℕ) (d : Node Value) → t i ≡ Some d
       → IsWrittenAt work i d ⊎ ((c.store i ≡ Some d) × (IsOverwritten work i → ⊥))
