@@ -1,0 +1,10 @@
+pub mod Meant
+pub mod SealedContent
+pub mod Crashed
+pub mod Opened
+pub mod Flushes
+pub mod Staying
+pub mod Steps
+pub mod Commits
+pub mod GoingOn
+pub mod Empty

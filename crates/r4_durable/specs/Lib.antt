@@ -1,0 +1,4 @@
+pub mod Meaning
+pub mod Sealing
+pub mod Kept
+pub mod GoingOn

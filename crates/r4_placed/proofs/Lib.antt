@@ -1,0 +1,4 @@
+pub mod Swapped
+pub mod Planning
+pub mod ByBlock
+pub mod RenamingItems
