@@ -1,0 +1,53 @@
+use Rattle.std.proofs.Common.{◌∙◌, ◌≡◌, ℕ, refl, sym, ap}
+use Rattle.r4_base.specs.Tree.{Node}
+use Rattle.r4_base.specs.Value.{Value}
+use Rattle.r4_check.specs.Looking.{name_of}
+use Rattle.r4_check.specs.Walk.{meet, stats_in}
+use Rattle.r4_check.proofs.Meets.{Reaches, none_more, below_accepted, below_again, below_refused, is_no, is_yes, marked_is, reached_by, steps_accepted, steps_again, steps_refused}
+use Rattle.r4_check.proofs.Steps.{extends_same, steps_ended, steps_none, steps_ok}
+use Rattle.r4_check.proofs.Tallies.{tally_gap}
+use Rattle.r4_check.proofs.Walks.{meet_extends}
+use Rattle.r4_check.proofs.look.meet_node.Goals as goal
+
+pub returns-in_err-look_again-clause-steps : goal.returns-in_err-look_again-clause-steps
+returns-in_err-look_again-clause-steps g c image ground =
+    let blocks = c.args.settled.now.found.super40.block_count in
+    let e = c.if-not-reach.ensures in
+    let reaches : Reaches blocks c.args.named.now.id c.args.tally.now c.reach.new.self = record { within = c.requires.within; reached = e.reached blocks (sym c.requires.size); objects = e.objects; faults = e.faults; whole = e.whole } in
+    steps_ended blocks _ _ _ _ _ c.from_residual.result (λ w. meet blocks image w (name_of c.args.named.now)) (λ w. meet blocks image w (name_of c.args.named.now)) c.from_residual.ensures.1 (λ w. extends_same (meet blocks image w (name_of c.args.named.now)))
+    (steps_again blocks c.args.named.now.id image (name_of c.args.named.now) refl _ _ _ _ _ _ reaches (is_yes _ e.first) (c.in_err-look_again.ensures.steps blocks))
+
+pub returns-then-not-reach-clause-steps : goal.returns-then-not-reach-clause-steps
+returns-then-not-reach-clause-steps g c image ground =
+    let blocks = c.args.settled.now.found.super40.block_count in
+    let e = c.if-not-reach.ensures in
+    let reaches : Reaches blocks c.args.named.now.id c.args.tally.now c.reach.new.self = record { within = c.requires.within; reached = e.reached blocks (sym c.requires.size); objects = e.objects; faults = e.faults; whole = e.whole } in
+    steps_ok blocks _ _ _ _ (tt {0}) _ _ (steps_again blocks c.args.named.now.id image (name_of c.args.named.now) refl _ _ _ _ _ _ reaches (is_yes _ e.first) (c.in_ok-look_again.ensures.steps blocks))
+
+pub returns-then-not-reach-clause-below : goal.returns-then-not-reach-clause-below
+returns-then-not-reach-clause-below g c image w ground h =
+    let blocks = c.args.settled.now.found.super40.block_count in
+    below_again blocks image w (name_of c.args.named.now) (reached_by blocks c.args.named.now.id w c.args.tally.now _ h c.requires.within (is_yes _ c.if-not-reach.ensures.first))
+
+pub returns-in_err-cell-clause-steps : goal.returns-in_err-cell-clause-steps
+returns-in_err-cell-clause-steps g c image ground =
+    let blocks = c.args.settled.now.found.super40.block_count in
+    steps_none blocks _ _ _ _ c.from_residual-in_err-cell.result (λ w. meet blocks image w (name_of c.args.named.now)) c.from_residual-in_err-cell.ensures.1 (λ w. meet_extends blocks image w (name_of c.args.named.now))
+
+pub returns-in_err-tell_wrong-in-Cell-clause-steps : goal.returns-in_err-tell_wrong-in-Cell-clause-steps
+returns-in_err-tell_wrong-in-Cell-clause-steps g c image ground = ?
+
+pub returns-in_err-tell_wrong-in-Refused-clause-steps : goal.returns-in_err-tell_wrong-in-Refused-clause-steps
+returns-in_err-tell_wrong-in-Refused-clause-steps g c image ground = ?
+
+pub returns-in_ok-tell_wrong-in-Cell-clause-steps : goal.returns-in_ok-tell_wrong-in-Cell-clause-steps
+returns-in_ok-tell_wrong-in-Cell-clause-steps g c image ground = ?
+
+pub returns-in_ok-tell_wrong-in-Cell-clause-below : goal.returns-in_ok-tell_wrong-in-Cell-clause-below
+returns-in_ok-tell_wrong-in-Cell-clause-below g c image w ground h = ?
+
+pub returns-in_ok-tell_wrong-in-Refused-clause-steps : goal.returns-in_ok-tell_wrong-in-Refused-clause-steps
+returns-in_ok-tell_wrong-in-Refused-clause-steps g c image ground = ?
+
+pub returns-in_ok-tell_wrong-in-Refused-clause-below : goal.returns-in_ok-tell_wrong-in-Refused-clause-below
+returns-in_ok-tell_wrong-in-Refused-clause-below g c image w ground h = ?

@@ -1,0 +1,16 @@
+//! The faults of an image, by name (docs/check.md).
+#![tactic(auto)]
+
+mod blocks;
+mod fault;
+mod lines;
+mod look;
+mod reading;
+mod settled;
+mod stop;
+mod tally;
+mod tree;
+
+pub use fault::{Fault, What};
+pub use r4_list::ListFault;
+pub use tree::{TreeVerdict, check_tree};
