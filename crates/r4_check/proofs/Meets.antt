@@ -11,7 +11,12 @@ use Rattle.r4_base.specs.declared.items.CellFault.{CellFault}
 use Rattle.r4_outside.specs.Sink.{SinkState}
 use Rattle.r4_space.specs.Bitmaps.{AreBitmapsOf, marks}
 use Rattle.r4_check.specs.Blocks.{MarksOneMore}
-use Rattle.r4_check.specs.Looking.{IsTally, Steps, counted}
+use Rattle.std.specs.Arc.{arc_value}
+use Rattle.r4_cell.specs.Seen.{node_of}
+use Rattle.r4_list.specs.Pool.{Shared}
+use Rattle.r4_check.specs.declared.reading.Met.{Met}
+use Rattle.r4_check.specs.declared.reading.Met.TheVariants.{Cell, Refused}
+use Rattle.r4_check.specs.Looking.{IsReadAs, IsTally, Steps, counted}
 use Rattle.r4_check.specs.Walk.{Walk, cell_at, is_reached, meet, met_again, met_first, names_below, refusal_at, stats_in, with_cell, with_fault, with_gap, with_reached, wrong_with}
 use Rattle.r4_check.specs.declared.fault.What.{What}
 use Rattle.r4_check.specs.declared.stop.Stop.{Stop}
@@ -148,3 +153,10 @@ module _ {T : Type 0} (blocks b : ℕ) (image : Image) (n : Name) (id : n.id ≡
           ∙ meet_refused blocks image w n f (reached_at w h ∙ is) bad)
       (steps_then blocks k k l t z v (tt {0}) r pre (with_fault b o)
           (steps_noted blocks k t z (tt {0}) pre (λ w. refl) (λ w h. gap w (tally_reached blocks b w t u h reaches.reached reaches.objects reaches.faults reaches.whole))) a)
+
+-- what was read
+pub read_cell_as : (blocks : ℕ) (image : Image) (n : Name) (m : Met) (c : Shared) → m ≡ Cell c → IsReadAs blocks image n m → (refusal_at blocks image n ≡ None) × (node_of (arc_value c) ≡ cell_at image n)
+read_cell_as blocks image n m c is r = subst (λ (x : Met). IsReadAs blocks image n x) is r
+
+pub read_refused_as : (blocks : ℕ) (image : Image) (n : Name) (m : Met) (f : CellFault) → m ≡ Refused f → IsReadAs blocks image n m → refusal_at blocks image n ≡ Some f
+read_refused_as blocks image n m f is r = subst (λ (x : Met). IsReadAs blocks image n x) is r
