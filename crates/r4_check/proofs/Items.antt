@@ -227,3 +227,16 @@ module _ {T : Type 0} (levels blocks : ℕ) (image : Image) (k l m : SinkState) 
 
 pub same_steps : {T : Type 0} (levels blocks : ℕ) (image : Image) (k l : SinkState) (t u : Tally) (r : Result T Stop) (a b : List Name) → a ≡ b → Steps blocks k t r l u (λ w. look_at levels blocks image w a) → Steps blocks k t r l u (λ w. look_at levels blocks image w b)
 same_steps {T} levels blocks image k l t u r a b is f = steps_as blocks k l t u r (λ w. look_at levels blocks image w a) (λ w. look_at levels blocks image w b) (λ w h. ap (look_at levels blocks image w) is) f
+
+pub extent_item : (level next : ℕ) (it : Item) → it.plugin ≡ 5 → block_names (rank it.key) (units_of it.body) ≡ item_names level next it
+unfolding item_names
+extent_item level next it is =
+    let a : (it.plugin == 3) ≡ false = ap (λ (k : ℕ). k == 3) is in
+    let t : (it.plugin == 5) ≡ true = eq-eqb it.plugin 5 is in
+    rw (a, t) refl
+
+pub no_extent : (it a : Item) → a ≡ it → a.plugin ≢ 5 → is_extent it ≡ false
+no_extent it a same other = let t : (a.plugin == 5) ≡ false = grind (arith, nat_tests) in ap is_extent (sym same) ∙ t
+
+pub units_lawful : (blocks : ℕ) (a b : List ExtentUnit) → a ≡ b → AreLawfulUnits false blocks a → AreLawfulUnits false blocks b
+units_lawful blocks a b is h = subst (λ (us : List ExtentUnit). AreLawfulUnits false blocks us) is h

@@ -14,9 +14,11 @@ use Rattle.r4_check.specs.Blocks.{MarksOneMore}
 use Rattle.std.specs.Arc.{arc_value}
 use Rattle.r4_cell.specs.Seen.{node_of}
 use Rattle.r4_list.specs.Pool.{Shared}
+use Rattle.std.specs.Prelude.{IfSome}
+use Rattle.r4_check.specs.declared.reading.Named.{Named}
 use Rattle.r4_check.specs.declared.reading.Met.{Met}
 use Rattle.r4_check.specs.declared.reading.Met.TheVariants.{Cell, Refused}
-use Rattle.r4_check.specs.Looking.{IsReadAs, IsTally, Steps, counted}
+use Rattle.r4_check.specs.Looking.{IsAccepted, IsReadAs, IsTally, Steps, counted}
 use Rattle.r4_check.specs.Walk.{Walk, cell_at, is_reached, meet, met_again, met_first, names_below, refusal_at, stats_in, with_cell, with_fault, with_gap, with_reached, wrong_with}
 use Rattle.r4_check.specs.declared.fault.What.{What}
 use Rattle.r4_check.specs.declared.stop.Stop.{Stop}
@@ -160,3 +162,6 @@ read_cell_as blocks image n m c is r = subst (λ (x : Met). IsReadAs blocks imag
 
 pub read_refused_as : (blocks : ℕ) (image : Image) (n : Name) (m : Met) (f : CellFault) → m ≡ Refused f → IsReadAs blocks image n m → refusal_at blocks image n ≡ Some f
 read_refused_as blocks image n m f is r = subst (λ (x : Met). IsReadAs blocks image n x) is r
+
+pub accepted_some : (blocks : ℕ) (n : Named) (o : Option Shared) (c : Shared) → o ≡ Some c → IfSome o (λ x. IsAccepted blocks n (arc_value x)) → IsAccepted blocks n (arc_value c)
+accepted_some blocks n o c is h = let P : Option Shared → Type 0 = λ p. IfSome p (λ x. IsAccepted blocks n (arc_value x)) in subst P is h

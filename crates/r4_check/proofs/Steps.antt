@@ -10,7 +10,10 @@ use Rattle.r4_search.proofs.Walks.{leaves_both, leaves_same}
 use Rattle.r4_list.specs.Printing.{Prints}
 use Rattle.r4_list.proofs.Stages.{prints_both, prints_same}
 use Rattle.r4_check.specs.Faults.{fault_line, fault_lines}
-use Rattle.r4_check.specs.Looking.{Goes, IsStopCause, IsTally, IsTellCause, Steps, Tells}
+use Rattle.r4_base.specs.Image.{Image, block_at}
+use Rattle.r4_replay.specs.Homes.{home_in}
+use Rattle.r4_check.specs.declared.settled.Settled.{Settled}
+use Rattle.r4_check.specs.Looking.{Goes, IsGround, IsStopCause, IsTally, IsTellCause, Steps, Tells}
 use Rattle.r4_check.specs.Walk.{Walk}
 use Rattle.r4_check.specs.declared.fault.Fault.{Fault}
 use Rattle.r4_check.specs.declared.stop.Stop.{Stop}
@@ -157,4 +160,13 @@ steps_none {T} blocks k t u e (Err y) g is more = record {
   tally = λ w h. tt;
   whole = λ w base h at. tt;
   part = λ w base h at. part_longer w (g w) base k (more w) (record { part = fault_lines w.faults; rest = []; splits = sym (append-nil (fault_lines w.faults)); written = at });
+}
+
+-- ---- the image that is settled stays
+
+pub ground_later : (s : Settled) (d e : State) (image : Image) → LeavesDevice d e → IsGround s d image → IsGround s e image
+ground_later s d e image l g = record {
+  told = l.goes.reads.1 g.told;
+  settled = λ b. g.settled b ∙ ap (λ (i : Image). block_at i (home_in s.log.homes b)) (sym l.idle.seen);
+  bitmaps = g.bitmaps;
 }

@@ -1,5 +1,5 @@
 -- What the steps of a walk have in common: none takes a fault away.
-use Rattle.std.proofs.Common.{◌≡◌, ℕ, zero, suc, ◌+◌, ◌*◌, ◌≤◌, Bool, true, false, cond, List, [], ◌∷◌, ◌++◌, refl, sym, ap, subst, ◌∙◌, arith}
+use Rattle.std.proofs.Common.{◌≡◌, ℕ, zero, suc, ◌+◌, ◌-◌, ◌*◌, ◌≤◌, Bool, true, false, cond, List, [], ◌∷◌, ◌++◌, refl, sym, ap, subst, ◌∙◌, arith}
 use Rattle.std.specs.Prelude.{Option, Some, None, fold, if◌then◌else◌}
 use Rattle.std.specs.Option.{is_none}
 use Rattle.std.proofs.lemmas.List.{append-nil, append_assoc}
@@ -113,3 +113,22 @@ run_part key start (suc n) (suc i) le =
 module _ {T : Type 0} (levels blocks : ℕ) (image : Image) (key start i : ℕ) (k l m : SinkState) (t u v : Tally) (r : Result T Stop) where
   pub run_on : Steps {T = Unit {0}} blocks k t (Ok tt) l u (λ w. look_at levels blocks image w (run_names key start i)) → Steps blocks l u r m v (λ w. meet blocks image w (block_name key start i)) → Steps blocks k t r m v (λ w. look_at levels blocks image w (run_names key start (i + 1)))
   run_on a b = steps_as blocks k m t v r _ (λ w. look_at levels blocks image w (run_names key start (i + 1))) (λ w h. run_step levels blocks image key start i w) (steps_then blocks k l m t u v (tt {0}) r (λ w. look_at levels blocks image w (run_names key start i)) (λ w. meet blocks image w (block_name key start i)) a b)
+
+-- ---- a name, and what is below it
+
+pub look_after : (levels blocks : ℕ) (image : Image) (w : Walk) (n : Name) → Extends (meet blocks image w n) (look levels blocks image w n)
+unfolding look
+look_after zero blocks image w n = extends_same (meet blocks image w n)
+look_after (suc levels) blocks image w n = look_at_extends levels blocks image (names_below blocks image w n) (meet blocks image w n)
+
+pub look_none : (levels blocks : ℕ) (image : Image) (w : Walk) (n : Name) → [] ≡ names_below blocks image w n → meet blocks image w n ≡ look levels blocks image w n
+unfolding look
+look_none zero blocks image w n is = refl
+look_none (suc levels) blocks image w n is = ap (look_at levels blocks image (meet blocks image w n)) is
+
+pub look_some : (levels m blocks : ℕ) (image : Image) (w : Walk) (n : Name) (names : List Name) → 1 ≤ levels → levels ≡ m → names ≡ names_below blocks image w n → look_at (m - 1) blocks image (meet blocks image w n) names ≡ look levels blocks image w n
+unfolding look
+look_some zero m blocks image w n names some is same = absurd (omega (arith, some))
+look_some (suc l) m blocks image w n names some is same =
+    let e : m - 1 ≡ l = omega (arith, is) in
+    ap (λ (k : ℕ). look_at k blocks image (meet blocks image w n) names) e ∙ ap (look_at l blocks image (meet blocks image w n)) same
