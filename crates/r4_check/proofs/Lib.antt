@@ -5,3 +5,4 @@ pub mod Stats
 pub mod Items
 pub mod BlockSets
 pub mod Meets
+pub mod Answered

@@ -1,26 +1,60 @@
-use Rattle.std.proofs.Common.{rules, ◌≡◌, ◌<◌, ◌≤◌, IfErr, ℕ, ◌+◌, ◌-◌, ◌*◌, length, ◌/◌, ◌%◌, Bool, true, false, nat_eq, nat_lt, List, [], ◌∷◌, ◌++◌, slice_index_or, slice_set, bit_and, bit_or, Fits, w8, w32, w64, Bor, MutBor}
-use Rattle.r4_base.specs.Image.{Image}
-use Rattle.r4_list.specs.Lists.{log_fault_of, open_fault_of, root_name_of}
-use Rattle.r4_list.specs.Printing.{Prints}
-use Rattle.r4_list.specs.declared.fault.ListFault.TheVariants.{Device as DeviceFailed}
-use Rattle.r4_search.specs.Pool.{LeavesDevice}
-use Rattle.r4_check.specs.Looking.{IsGround, IsStopCause, name_of}
-use Rattle.r4_check.specs.Tree.{ChecksTree, PrintsWalk, fault_of_stop}
+use Rattle.std.proofs.Common.{◌≡◌, ◌∙◌, ℕ, refl, sym, ap, subst, arith, Ok}
+use Rattle.r4_base.specs.Chain.{Settles}
+use Rattle.r4_base.specs.Image.{Image, block_at}
+use Rattle.r4_base.specs.Layout.{super_of}
+use Rattle.r4_base.specs.Volume.{HasLayout}
+use Rattle.r4_base.specs.declared.superblock.Super40.{Super40}
+use Rattle.r4_outside.proofs.Moments.{goes_both}
+use Rattle.r4_outside.specs.Device.{TellsReads}
+use Rattle.r4_list.proofs.Listings.{image_opened, same_super, settled_by}
+use Rattle.r4_check.specs.Looking.{IsGround}
+use Rattle.r4_check.specs.Tree.{PrintsWalk}
 use Rattle.r4_check.specs.Walk.{walk_of}
+use Rattle.r4_check.specs.declared.settled.Settled.{Settled}
+use Rattle.r4_check.proofs.Answered.{log_checks, open_checks, same_walk, stop_checks, walk_checks}
 use Rattle.r4_check.proofs.tree.check_tree.Goals as goal
 
--- src/tree.rt:53:23
 pub returns-in-Err-clause-checks : goal.returns-in-Err-clause-checks
-returns-in-Err-clause-checks g c = ?
+returns-in-Err-clause-checks g c = log_checks _ _ _ c.in-Err.fault c.log_fault.result c.log_fault.ensures c.in-Err.ensures.reads
 
--- src/tree.rt:60:26
 pub returns-in-Err-open_image-clause-checks : goal.returns-in-Err-open_image-clause-checks
-returns-in-Err-open_image-clause-checks g c = ?
+returns-in-Err-open_image-clause-checks g c =
+    let d = g.D.Device.state in
+    let read = c.in-Ok.ensures in
+    let first = d c.args.dev.now in
+    open_checks first _ _ (goes_both _ _ _ read.idles.goes c.blocks-2.ensures.goes) (c.blocks-2.ensures.seen ∙ read.idles.seen) read.reads.0 read.reads.1 _ _ c.in-Err-open_image.unopened c.open_fault.result c.open_fault.ensures c.in-Err-open_image.ensures.opens
 
--- src/tree.rt:50:1
 pub returns-in-Ok-walk_settled-clause-checks : goal.returns-in-Ok-walk_settled-clause-checks
-returns-in-Ok-walk_settled-clause-checks g c = ?
+returns-in-Ok-walk_settled-clause-checks g c =
+    let d = g.D.Device.state in
+    let read = c.in-Ok.ensures in
+    let first = d c.args.dev.now in
+    let before = d c.blocks-2.new.self in
+    let at = d c.open_image.new.dev in
+    let goes = goes_both _ _ _ read.idles.goes c.blocks-2.ensures.goes in
+    let seen = c.blocks-2.ensures.seen ∙ read.idles.seen in
+    let opened = image_opened first _ _ goes seen read.reads.0 read.reads.1 _ at c.in-Ok-open_image.ensures.opens in
+    let later = goes_both _ _ _ goes c.in-Ok-open_image.ensures.idles.goes in
+    walk_checks first _ _ _ c.in-Ok-walk_settled.verdict opened c.in-Ok-walk_settled.ensures.prints (λ image s told settles layout.
+        let by = settled_by first _ _ goes seen read.reads.0 read.reads.1 image told settles in
+        let opening = c.in-Ok-open_image.ensures.opens (goes.reads.1 told) image by in
+        let super = same_super _ _ _ _ _ (sym goes.blocks) layout.format opening.super in
+        same_walk s c.in-Ok-open_image.found.super40 image _ _ _ super
+        (c.in-Ok-walk_settled.ensures.walk image (record { told = later.reads.1 told; settled = settled_by first at _ later (c.in-Ok-open_image.ensures.idles.seen ∙ seen) read.reads.0 read.reads.1 image told settles; bitmaps = opening.bitmaps })))
 
--- src/tree.rt:43:1
 pub returns-clause-checks : goal.returns-clause-checks
-returns-clause-checks g c = ?
+returns-clause-checks g c =
+    let d = g.D.Device.state in
+    let read = c.in-Ok.ensures in
+    let first = d c.args.dev.now in
+    let at = d c.open_image.new.dev in
+    let goes = goes_both _ _ _ read.idles.goes c.blocks-2.ensures.goes in
+    let seen = c.blocks-2.ensures.seen ∙ read.idles.seen in
+    let opened = image_opened first _ _ goes seen read.reads.0 read.reads.1 _ at c.in-Ok-open_image.ensures.opens in
+    let later = goes_both _ _ _ goes c.in-Ok-open_image.ensures.idles.goes in
+    stop_checks first at _ _ _ c.in-Err-walk_settled.stop c.fault_of.result c.fault_of.ensures later.faults opened c.in-Err-walk_settled.ensures.prints c.in-Err-walk_settled.ensures.cause (λ image s told settles layout.
+        let by = settled_by first _ _ goes seen read.reads.0 read.reads.1 image told settles in
+        let opening = c.in-Ok-open_image.ensures.opens (goes.reads.1 told) image by in
+        let super = same_super _ _ _ _ _ (sym goes.blocks) layout.format opening.super in
+        same_walk s c.in-Ok-open_image.found.super40 image _ _ _ super
+        (c.in-Err-walk_settled.ensures.walk image (record { told = later.reads.1 told; settled = settled_by first at _ later (c.in-Ok-open_image.ensures.idles.seen ∙ seen) read.reads.0 read.reads.1 image told settles; bitmaps = opening.bitmaps })))

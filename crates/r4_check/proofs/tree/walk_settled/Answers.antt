@@ -1,18 +1,18 @@
-use Rattle.std.proofs.Common.{rules, ◌≡◌, ◌<◌, ◌≤◌, IfErr, ℕ, ◌+◌, ◌-◌, ◌*◌, length, ◌/◌, ◌%◌, Bool, true, false, nat_eq, nat_lt, List, [], ◌∷◌, ◌++◌, slice_index_or, slice_set, bit_and, bit_or, Fits, w8, w32, w64, Bor, MutBor}
-use Rattle.r4_base.specs.Image.{Image}
-use Rattle.r4_list.specs.Lists.{log_fault_of, open_fault_of, root_name_of}
-use Rattle.r4_list.specs.Printing.{Prints}
-use Rattle.r4_list.specs.declared.fault.ListFault.TheVariants.{Device as DeviceFailed}
-use Rattle.r4_search.specs.Pool.{LeavesDevice}
-use Rattle.r4_check.specs.Looking.{IsGround, IsStopCause, name_of}
-use Rattle.r4_check.specs.Tree.{ChecksTree, PrintsWalk, fault_of_stop}
-use Rattle.r4_check.specs.Walk.{walk_of}
+use Rattle.std.proofs.Common.{ap, refl}
+use Rattle.r4_base.specs.Tree.{Name}
+use Rattle.r4_check.specs.Looking.{name_of}
+use Rattle.r4_check.specs.Walk.{look, nothing_met, walk_of}
+use Rattle.r4_check.proofs.Answered.{tally_of, walk_printed, walk_stopped}
 use Rattle.r4_check.proofs.tree.walk_settled.Goals as goal
 
--- src/tree.rt:87:5
 pub returns-in_err-look_at_node-clause-walk : goal.returns-in_err-look_at_node-clause-walk
-returns-in_err-look_at_node-clause-walk g c = ?
+returns-in_err-look_at_node-clause-walk g c image ground =
+    let blocks = c.args.settled.now.found.super40.block_count in
+    walk_stopped blocks (walk_of c.args.settled.now.found.super40 image) _ _ _ _ (λ w. look c.root_of.result.level blocks image w (name_of c.root_of.result)) (ap (λ (n : Name). look n.level blocks image nothing_met n) c.root_of.ensures.name)
+    (tally_of _ blocks c.in_ok-tally.tally c.blocks-2.ensures c.in_ok-tally.ensures.nothing) _ c.from_residual-in_err-look_at_node.result c.from_residual-in_err-look_at_node.ensures.1 (c.in_err-look_at_node.ensures.steps image ground)
 
--- src/tree.rt:74:1
 pub returns-clause-walk : goal.returns-clause-walk
-returns-clause-walk g c = ?
+returns-clause-walk g c image ground =
+    let blocks = c.args.settled.now.found.super40.block_count in
+    walk_printed blocks (walk_of c.args.settled.now.found.super40 image) _ _ _ _ (λ w. look c.root_of.result.level blocks image w (name_of c.root_of.result)) (ap (λ (n : Name). look n.level blocks image nothing_met n) c.root_of.ensures.name)
+    (tally_of _ blocks c.in_ok-tally.tally c.blocks-2.ensures c.in_ok-tally.ensures.nothing) c.in_ok-look_at_node.field-0 _ (c.in_ok-look_at_node.ensures.steps image ground) refl refl refl
