@@ -64,11 +64,12 @@ put_marks blocks b bitmaps e w lt size is whole x same bits long = record {
   where
     now : refilled e w ≡ w
     now = refilled_is e w (long ∙ ap length same)
+
     each : (i : ℕ) → i < blocks → marks (slice_set bitmaps (b / 32736) (refilled e w)) i ≡ (b == i || marks bitmaps i)
     each i less = elim (cases_eq (b / 32736) (i / 32736)) [
       | inl q ↦
           let at : get_or (slice_set bitmaps (b / 32736) (refilled e w)) (i / 32736) [] ≡ w =
-              ap (λ (j : ℕ). get_or (slice_set bitmaps (b / 32736) (refilled e w)) j []) (sym q) ∙ get_or-set_same bitmaps (b / 32736) (refilled e w) [] lt ∙ now in
+          ap (λ (j : ℕ). get_or (slice_set bitmaps (b / 32736) (refilled e w)) j []) (sym q) ∙ get_or-set_same bitmaps (b / 32736) (refilled e w) [] lt ∙ now in
           let old : x ≡ get_or bitmaps (i / 32736) [] = same ∙ is ∙ ap (λ (j : ℕ). get_or bitmaps j []) q in
           ap (λ (l : List ℕ). is_used l (i % 32736)) at ∙ one_used x w (b % 32736) (i % 32736) (omega arith) (omega arith) bits
           ∙ ap (λ (t : Bool). t || is_used x (i % 32736)) (same_block b i q) ∙ ap (λ (l : List ℕ). b == i || is_used l (i % 32736)) old

@@ -128,7 +128,7 @@ module _ {T : Type 0} (blocks b : ℕ) (image : Image) (n : Name) (id : n.id ≡
   steps_again is a = steps_as blocks k l t v r (met_again b) (λ w. meet blocks image w n)
       (λ w h. ap (λ (x : ℕ). met_again x w) (sym id) ∙ meet_again blocks image w n (reached_at w h ∙ is))
       (steps_then blocks k k l t u v (tt {0}) r (λ w. w) (met_again b)
-          (steps_noted blocks k t u (tt {0}) (λ w. w) (λ w. refl) (λ w h. tally_again blocks b w t u h is reaches.reached reaches.objects reaches.faults reaches.whole)) a)
+      (steps_noted blocks k t u (tt {0}) (λ w. w) (λ w. refl) (λ w h. tally_again blocks b w t u h is reaches.reached reaches.objects reaches.faults reaches.whole)) a)
 
   -- it is accepted
   pub steps_accepted : (z : Tally) (marked : Bool) (o : Option What) (more : ℕ) → marks t.reached.items b ≡ false → refusal_at blocks image n ≡ None → marked ≡ is_marked image b → o ≡ wrong_with marked None
@@ -138,10 +138,10 @@ module _ {T : Type 0} (blocks b : ℕ) (image : Image) (n : Name) (id : n.id ≡
       let pre : Walk → Walk = λ w. with_cell b (cell_at image n) (with_reached b w) in
       steps_as blocks k l t v r (λ w. with_fault b o (pre w)) (λ w. meet blocks image w n)
       (λ w h. ap (λ (p : Option What). with_fault b p (pre w)) (wrong ∙ ap (λ (x : Bool). wrong_with x None) m)
-          ∙ ap (λ (x : ℕ). with_fault x (wrong_with (is_marked image x) None) (with_cell x (cell_at image n) (with_reached x w))) (sym id)
-          ∙ meet_accepted blocks image w n (reached_at w h ∙ is) sound)
+      ∙ ap (λ (x : ℕ). with_fault x (wrong_with (is_marked image x) None) (with_cell x (cell_at image n) (with_reached x w))) (sym id)
+      ∙ meet_accepted blocks image w n (reached_at w h ∙ is) sound)
       (steps_then blocks k k l t z v (tt {0}) r pre (with_fault b o)
-          (steps_noted blocks k t z (tt {0}) pre (λ w. refl) (λ w h. tally_cell blocks b more (cell_at image n) (with_reached b w) u z (tally_reached blocks b w t u h reaches.reached reaches.objects reaches.faults reaches.whole) stats same objects faults whole)) a)
+      (steps_noted blocks k t z (tt {0}) pre (λ w. refl) (λ w h. tally_cell blocks b more (cell_at image n) (with_reached b w) u z (tally_reached blocks b w t u h reaches.reached reaches.objects reaches.faults reaches.whole) stats same objects faults whole)) a)
 
   -- it is refused
   pub steps_refused : (z : Tally) (marked : Bool) (o : Option What) (f : CellFault) → marks t.reached.items b ≡ false → refusal_at blocks image n ≡ Some f → marked ≡ is_marked image b → o ≡ wrong_with marked (Some f)
@@ -151,10 +151,10 @@ module _ {T : Type 0} (blocks b : ℕ) (image : Image) (n : Name) (id : n.id ≡
       let pre : Walk → Walk = λ w. with_gap (with_reached b w) in
       steps_as blocks k l t v r (λ w. with_fault b o (pre w)) (λ w. meet blocks image w n)
       (λ w h. ap (λ (p : Option What). with_fault b p (pre w)) (wrong ∙ ap (λ (x : Bool). wrong_with x (Some f)) m)
-          ∙ ap (λ (x : ℕ). with_fault x (wrong_with (is_marked image x) (Some f)) (with_gap (with_reached x w))) (sym id)
-          ∙ meet_refused blocks image w n f (reached_at w h ∙ is) bad)
+      ∙ ap (λ (x : ℕ). with_fault x (wrong_with (is_marked image x) (Some f)) (with_gap (with_reached x w))) (sym id)
+      ∙ meet_refused blocks image w n f (reached_at w h ∙ is) bad)
       (steps_then blocks k k l t z v (tt {0}) r pre (with_fault b o)
-          (steps_noted blocks k t z (tt {0}) pre (λ w. refl) (λ w h. gap w (tally_reached blocks b w t u h reaches.reached reaches.objects reaches.faults reaches.whole))) a)
+      (steps_noted blocks k t z (tt {0}) pre (λ w. refl) (λ w h. gap w (tally_reached blocks b w t u h reaches.reached reaches.objects reaches.faults reaches.whole))) a)
 
 -- what was read
 pub read_cell_as : (blocks : ℕ) (image : Image) (n : Name) (m : Met) (c : Shared) → m ≡ Cell c → IsReadAs blocks image n m → (refusal_at blocks image n ≡ None) × (node_of (arc_value c) ≡ cell_at image n)

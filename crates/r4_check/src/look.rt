@@ -298,7 +298,7 @@ fn look_at_item<D: Device, K: Sink>(
     ensures goes { Goes (D.state dev.old) (K.state out.old) tally.old result (D.state dev.new) (K.state out.new) tally.new }
     ensures steps { (image : Image) (it : Item) → IsGround settled.now (D.state dev.old) image → slice_get (items_of cell.now.block) i ≡ Some it
         → Steps settled.now.found.super40.block_count (K.state out.old) tally.old result (K.state out.new) tally.new
-            (λ w. look_at (cell.now.level - 1) settled.now.found.super40.block_count image w (item_names cell.now.level (next_key (rank cell.now.hi) (drop (i + 1) (items_of cell.now.block))) it)) }
+        (λ w. look_at (cell.now.level - 1) settled.now.found.super40.block_count image w (item_names cell.now.level (next_key (rank cell.now.hi) (drop (i + 1) (items_of cell.now.block))) it)) }
 {
     let node = cell.node();
     let item = node.item(i);

@@ -44,7 +44,7 @@ look_at_item-look_at_extent-requires-clause-lawful g t c =
     let blocks = c.args.settled.now.found.super40.block_count in
     let at = sym (ap (λ (xs : List Item). slice_get xs c.args.i) node.items) ∙ c.item-item.ensures.shown in
     let good = extent_body false blocks (item_shown c.item-item.result) c.if-item-eq-EXTENT.true
-        (body_on cell.level (rank cell.lo) (rank cell.hi) cell.block node.whole c.requires.level c.args.i (item_shown c.item-item.result) at false blocks c.requires.sound) in
+    (body_on cell.level (rank cell.lo) (rank cell.hi) cell.block node.whole c.requires.level c.args.i (item_shown c.item-item.result) at false blocks c.requires.sound) in
     units_lawful blocks _ _ (sym c.of_item.ensures.units) (body_lawful false blocks _ good).2
 
 pub look_at_item-returns-then-item-eq-EXTENT-clause-steps : goal.look_at_item-returns-then-item-eq-EXTENT-clause-steps
@@ -94,17 +94,18 @@ look_at_node-returns-clause-steps g t c image ground =
     let level = sym (ap (λ (x : CellSeen). x.level) c.deref.ensures ∙ accepted.level) in
     steps_as blocks _ _ _ _ _ (λ w. look_at (cell.level - 1) blocks image (meet blocks image w n) (node_of cell).names) (λ w. look c.args.named.now.level blocks image w n)
     (λ w h. look_some c.args.named.now.level cell.level blocks image w n (node_of cell).names c.requires.level level
-        (ap (λ (x : CellSeen). (node_of x).names) c.deref.ensures ∙ sym (ap below_of c.in-Some.is) ∙ c.in_ok-cell.ensures.below image w ground h))
+    (ap (λ (x : CellSeen). (node_of x).names) c.deref.ensures ∙ sym (ap below_of c.in-Some.is) ∙ c.in_ok-cell.ensures.below image w ground h))
     (steps_then blocks _ _ _ _ _ _ c.in_ok-cell.field-0 c.look_below.result (λ w. meet blocks image w n) (λ w. look_at (cell.level - 1) blocks image w (node_of cell).names) (c.in_ok-cell.ensures.steps image ground)
-        (c.look_below.ensures.steps image (ground_later c.args.settled.now _ _ image c.in_ok-cell.ensures.goes.device ground)))
+    (c.look_below.ensures.steps image (ground_later c.args.settled.now _ _ image c.in_ok-cell.ensures.goes.device ground)))
 
 pub look_below-loop-i-init : goal.look_below-loop-i-init
 look_below-loop-i-init g t c =
     let blocks = c.args.settled.now.found.super40.block_count in
-    let cell = c.args.cell.now in
-    (goes_same _ _ _ (tt {0}),
-    λ image ground. steps_as blocks _ _ _ _ _ (λ w. w) (λ w. look_at (cell.level - 1) blocks image w (names_before cell.level (rank cell.hi) (items_of cell.block) 0))
-        (λ w h. ap (look_at (cell.level - 1) blocks image w) (sym (before_none cell.level (rank cell.hi) (items_of cell.block)))) (steps_same blocks _ _ (tt {0})))
+    let cell = c.args.cell.now in (
+      goes_same _ _ _ (tt {0}),
+      λ image ground. steps_as blocks _ _ _ _ _ (λ w. w) (λ w. look_at (cell.level - 1) blocks image w (names_before cell.level (rank cell.hi) (items_of cell.block) 0))
+          (λ w h. ap (look_at (cell.level - 1) blocks image w) (sym (before_none cell.level (rank cell.hi) (items_of cell.block)))) (steps_same blocks _ _ (tt {0})),
+    )
 
 pub look_below-returns-in_err-look_at_item-clause-steps : goal.look_below-returns-in_err-look_at_item-clause-steps
 look_below-returns-in_err-look_at_item-clause-steps g t c image ground =
@@ -116,9 +117,9 @@ look_below-returns-in_err-look_at_item-clause-steps g t c image ground =
     let it = item_in items c.loop-i.i (omega (arith, lt, end)) in
     steps_ended blocks _ _ _ _ _ c.from_residual.result _ (λ w. look_at (cell.level - 1) blocks image w (node_of cell).names) c.from_residual.ensures.1
     (λ w. rest_extends (cell.level - 1) blocks image w (node_of cell).names (names_before cell.level (rank cell.hi) items (c.loop-i.i + 1)) (names_in cell.level (rank cell.hi) (drop (c.loop-i.i + 1) items))
-        (names_of_cell cell.level (rank cell.lo) (rank cell.hi) cell.block c.requires.level ∙ names_after cell.level (rank cell.hi) items (c.loop-i.i + 1) (omega (arith, lt, end))))
+    (names_of_cell cell.level (rank cell.lo) (rank cell.hi) cell.block c.requires.level ∙ names_after cell.level (rank cell.hi) items (c.loop-i.i + 1) (omega (arith, lt, end))))
     (item_on (cell.level - 1) blocks image _ _ _ _ _ _ _ cell.level (rank cell.hi) items c.loop-i.i it.0 it.1 (c.loop-i.invariant.1 image ground)
-        (c.in_err-look_at_item.ensures.steps image it.0 (ground_later c.args.settled.now _ _ image c.loop-i.invariant.0.device ground) it.1))
+    (c.in_err-look_at_item.ensures.steps image it.0 (ground_later c.args.settled.now _ _ image c.loop-i.invariant.0.device ground) it.1))
 
 pub look_below-loop-i-preserved : goal.look_below-loop-i-preserved
 look_below-loop-i-preserved g t c =
@@ -127,10 +128,11 @@ look_below-loop-i-preserved g t c =
     let items = items_of cell.block in
     let lt = c.loop-i-test.true in
     let end = c.len-i-end.ensures ∙ ap (λ (xs : List Item). length xs) c.node.ensures.items in
-    let it = item_in items c.loop-i.i (omega (arith, lt, end)) in
-    (goes_then _ _ _ _ _ _ _ _ _ _ _ c.loop-i.invariant.0 c.in_ok-look_at_item.ensures.goes,
-    λ image ground. item_on (cell.level - 1) blocks image _ _ _ _ _ _ _ cell.level (rank cell.hi) items c.loop-i.i it.0 it.1 (c.loop-i.invariant.1 image ground)
-        (c.in_ok-look_at_item.ensures.steps image it.0 (ground_later c.args.settled.now _ _ image c.loop-i.invariant.0.device ground) it.1))
+    let it = item_in items c.loop-i.i (omega (arith, lt, end)) in (
+      goes_then _ _ _ _ _ _ _ _ _ _ _ c.loop-i.invariant.0 c.in_ok-look_at_item.ensures.goes,
+      λ image ground. item_on (cell.level - 1) blocks image _ _ _ _ _ _ _ cell.level (rank cell.hi) items c.loop-i.i it.0 it.1 (c.loop-i.invariant.1 image ground)
+          (c.in_ok-look_at_item.ensures.steps image it.0 (ground_later c.args.settled.now _ _ image c.loop-i.invariant.0.device ground) it.1),
+    )
 
 pub look_below-returns-clause-steps : goal.look_below-returns-clause-steps
 look_below-returns-clause-steps g t c image ground =

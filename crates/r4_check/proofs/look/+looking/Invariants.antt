@@ -19,4 +19,4 @@ decreases-look_below g l = 3 * l.cell.now.level
 abbrev pub invariant-look_below-loop-i : goal.invariant-look_below-loop-i
 invariant-look_below-loop-i g l = Goes {T = Unit {0}} (g.D.Device.state l.fn.dev) (g.K.Sink.state l.fn.out) l.fn.tally (Ok tt) (g.D.Device.state l.dev) (g.K.Sink.state l.out) l.tally
     × ((image : Image) → IsGround l.settled (g.D.Device.state l.fn.dev) image → Steps {T = Unit {0}} l.settled.found.super40.block_count (g.K.Sink.state l.fn.out) l.fn.tally (Ok tt) (g.K.Sink.state l.out) l.tally
-        (λ w. look_at (l.cell.level - 1) l.settled.found.super40.block_count image w (names_before l.cell.level (rank l.cell.hi) (items_of l.cell.block) l.i)))
+    (λ w. look_at (l.cell.level - 1) l.settled.found.super40.block_count image w (names_before l.cell.level (rank l.cell.hi) (items_of l.cell.block) l.i)))

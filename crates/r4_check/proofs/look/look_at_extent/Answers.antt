@@ -9,9 +9,10 @@ use Rattle.r4_check.proofs.look.look_at_extent.Goals as goal
 
 pub loop-i-init : goal.loop-i-init
 loop-i-init g c =
-    let blocks = c.args.settled.now.found.super40.block_count in
-    (tells_same _ _ (tt {0}),
-    λ image levels key bitmaps. steps_as blocks _ _ _ _ _ (λ w. w) (λ w. look_at levels blocks image w (units_before key (view_units c.args.extent.now) 0)) (λ w h. ap (look_at levels blocks image w) (sym (units_none key (view_units c.args.extent.now)))) (steps_same blocks _ _ (tt {0})))
+    let blocks = c.args.settled.now.found.super40.block_count in (
+      tells_same _ _ (tt {0}),
+      λ image levels key bitmaps. steps_as blocks _ _ _ _ _ (λ w. w) (λ w. look_at levels blocks image w (units_before key (view_units c.args.extent.now) 0)) (λ w h. ap (look_at levels blocks image w) (sym (units_none key (view_units c.args.extent.now)))) (steps_same blocks _ _ (tt {0})),
+    )
 
 pub look_at_unit-requires-clause-lawful : goal.look_at_unit-requires-clause-lawful
 look_at_unit-requires-clause-lawful g c = lawful_at c.args.settled.now.found.super40.block_count (view_units c.args.extent.now) c.loop-i.i _ c.requires.lawful c.unit.ensures
@@ -28,9 +29,10 @@ returns-in_err-look_at_unit-clause-steps g c image levels key bitmaps =
 pub loop-i-preserved : goal.loop-i-preserved
 loop-i-preserved g c =
     let blocks = c.args.settled.now.found.super40.block_count in
-    let units = view_units c.args.extent.now in
-    (tells_then _ _ _ _ _ _ _ _ c.loop-i.invariant.0 c.in_ok-look_at_unit.ensures.tells,
-    λ image levels key bitmaps. unit_on levels blocks image _ _ _ _ _ _ _ key units c.loop-i.i _ c.unit.ensures (c.loop-i.invariant.1 image levels key bitmaps) (c.in_ok-look_at_unit.ensures.steps image levels (unit_key key units c.loop-i.i) bitmaps))
+    let units = view_units c.args.extent.now in (
+      tells_then _ _ _ _ _ _ _ _ c.loop-i.invariant.0 c.in_ok-look_at_unit.ensures.tells,
+      λ image levels key bitmaps. unit_on levels blocks image _ _ _ _ _ _ _ key units c.loop-i.i _ c.unit.ensures (c.loop-i.invariant.1 image levels key bitmaps) (c.in_ok-look_at_unit.ensures.steps image levels (unit_key key units c.loop-i.i) bitmaps),
+    )
 
 pub returns-clause-steps : goal.returns-clause-steps
 returns-clause-steps g c image levels key bitmaps =

@@ -15,9 +15,10 @@ returns-in_err-look_at_block-clause-steps g c image levels key bitmaps =
 
 pub loop-i-preserved : goal.loop-i-preserved
 loop-i-preserved g c =
-    let blocks = c.args.settled.now.found.super40.block_count in
-    (tells_then _ _ _ _ _ _ _ _ c.loop-i.invariant.0 c.in_ok-look_at_block.ensures.tells,
-    λ image levels key bitmaps. run_on levels blocks image key c.args.start c.loop-i.i _ _ _ _ _ _ _ (c.loop-i.invariant.1 image levels key bitmaps) (c.in_ok-look_at_block.ensures.steps image (block_name key c.args.start c.loop-i.i) bitmaps refl refl))
+    let blocks = c.args.settled.now.found.super40.block_count in (
+      tells_then _ _ _ _ _ _ _ _ c.loop-i.invariant.0 c.in_ok-look_at_block.ensures.tells,
+      λ image levels key bitmaps. run_on levels blocks image key c.args.start c.loop-i.i _ _ _ _ _ _ _ (c.loop-i.invariant.1 image levels key bitmaps) (c.in_ok-look_at_block.ensures.steps image (block_name key c.args.start c.loop-i.i) bitmaps refl refl),
+    )
 
 pub returns-clause-steps : goal.returns-clause-steps
 returns-clause-steps g c image levels key bitmaps =

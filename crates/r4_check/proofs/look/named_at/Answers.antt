@@ -20,7 +20,7 @@ returns-in-Some-clause-named c it at other =
     let plugin = ap (λ (x : Item). x.plugin) (sym same) ∙ c.if-item-ne-POINTER.false in
     let to = ap (λ (x : Item). pointer_of x.body) (sym same) ∙ sym c.in-Some.ensures.value in
     let hi = c.key_behind.ensures ∙ ap (λ (k : Key). next_key (rank k) (drop (c.args.i + 1) (view_items c.node-node.result))) c.hi.ensures
-        ∙ ap (λ (xs : List Item). next_key (rank c.args.cell.now.hi) (drop (c.args.i + 1) xs)) c.node-node.ensures.items in
+    ∙ ap (λ (xs : List Item). next_key (rank c.args.cell.now.hi) (drop (c.args.i + 1) xs)) c.node-node.ensures.items in
     named_item c.args.cell.now.level c.level.result _ c.in-Some.field-0.0 (rank c.item-item.result.key) (rank c.key_behind.result) it plugin to c.level.ensures (ap (λ (x : Item). rank x.key) same) hi
 
 pub returns-in-Some-clause-level : goal.returns-in-Some-clause-level

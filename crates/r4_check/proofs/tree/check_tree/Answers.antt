@@ -36,11 +36,11 @@ returns-in-Ok-walk_settled-clause-checks g c =
     let opened = image_opened first _ _ goes seen read.reads.0 read.reads.1 _ at c.in-Ok-open_image.ensures.opens in
     let later = goes_both _ _ _ goes c.in-Ok-open_image.ensures.idles.goes in
     walk_checks first _ _ _ c.in-Ok-walk_settled.verdict opened c.in-Ok-walk_settled.ensures.prints (λ image s told settles layout.
-        let by = settled_by first _ _ goes seen read.reads.0 read.reads.1 image told settles in
-        let opening = c.in-Ok-open_image.ensures.opens (goes.reads.1 told) image by in
-        let super = same_super _ _ _ _ _ (sym goes.blocks) layout.format opening.super in
-        same_walk s c.in-Ok-open_image.found.super40 image _ _ _ super
-        (c.in-Ok-walk_settled.ensures.walk image (record { told = later.reads.1 told; settled = settled_by first at _ later (c.in-Ok-open_image.ensures.idles.seen ∙ seen) read.reads.0 read.reads.1 image told settles; bitmaps = opening.bitmaps })))
+    let by = settled_by first _ _ goes seen read.reads.0 read.reads.1 image told settles in
+    let opening = c.in-Ok-open_image.ensures.opens (goes.reads.1 told) image by in
+    let super = same_super _ _ _ _ _ (sym goes.blocks) layout.format opening.super in
+    same_walk s c.in-Ok-open_image.found.super40 image _ _ _ super
+    (c.in-Ok-walk_settled.ensures.walk image (record { told = later.reads.1 told; settled = settled_by first at _ later (c.in-Ok-open_image.ensures.idles.seen ∙ seen) read.reads.0 read.reads.1 image told settles; bitmaps = opening.bitmaps })))
 
 pub returns-clause-checks : goal.returns-clause-checks
 returns-clause-checks g c =
@@ -53,8 +53,8 @@ returns-clause-checks g c =
     let opened = image_opened first _ _ goes seen read.reads.0 read.reads.1 _ at c.in-Ok-open_image.ensures.opens in
     let later = goes_both _ _ _ goes c.in-Ok-open_image.ensures.idles.goes in
     stop_checks first at _ _ _ c.in-Err-walk_settled.stop c.fault_of.result c.fault_of.ensures later.faults opened c.in-Err-walk_settled.ensures.prints c.in-Err-walk_settled.ensures.cause (λ image s told settles layout.
-        let by = settled_by first _ _ goes seen read.reads.0 read.reads.1 image told settles in
-        let opening = c.in-Ok-open_image.ensures.opens (goes.reads.1 told) image by in
-        let super = same_super _ _ _ _ _ (sym goes.blocks) layout.format opening.super in
-        same_walk s c.in-Ok-open_image.found.super40 image _ _ _ super
-        (c.in-Err-walk_settled.ensures.walk image (record { told = later.reads.1 told; settled = settled_by first at _ later (c.in-Ok-open_image.ensures.idles.seen ∙ seen) read.reads.0 read.reads.1 image told settles; bitmaps = opening.bitmaps })))
+    let by = settled_by first _ _ goes seen read.reads.0 read.reads.1 image told settles in
+    let opening = c.in-Ok-open_image.ensures.opens (goes.reads.1 told) image by in
+    let super = same_super _ _ _ _ _ (sym goes.blocks) layout.format opening.super in
+    same_walk s c.in-Ok-open_image.found.super40 image _ _ _ super
+    (c.in-Err-walk_settled.ensures.walk image (record { told = later.reads.1 told; settled = settled_by first at _ later (c.in-Ok-open_image.ensures.idles.seen ∙ seen) read.reads.0 read.reads.1 image told settles; bitmaps = opening.bitmaps })))
