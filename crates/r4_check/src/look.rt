@@ -14,7 +14,7 @@ ghost use Rattle.r4_cell.specs.Seen.{node_of};
 ghost use Rattle.r4_node40.specs.View.{item_shown};
 ghost use Rattle.r4_twig.specs.View.{view_units};
 ghost use Rattle.r4_check.specs.Walk.{Walk, look, look_at, meet, met_again, names_below, stats_in, with_fault, wrong_with};
-ghost use Rattle.r4_check.specs.Looking.{Goes, IsAccepted, IsGround, IsTally, Steps, Tells, name_of};
+ghost use Rattle.r4_check.specs.Looking.{Goes, HasBits, IsAccepted, IsBelow, LooksAtBlocks, LooksAtItem, MayStand, MeetsBlock, Steps, Tells, Walks, blocks_of, name_of, names_at};
 ghost use Rattle.r4_check.specs.Units.{below_of, names_of, unit_names};
 
 use crate::fault::What;
@@ -37,11 +37,10 @@ fn look_at_block<K: Sink>(
     tally: &mut Tally,
     b: u64,
 ) -> Result<(), Stop>
-    requires size { length tally.old.reached.items ≡ bitmap_count settled.now.found.super40.block_count }
-    requires within { b < settled.now.found.super40.block_count }
+    requires size { HasBits settled.now tally.old }
+    requires within { b < blocks_of settled.now }
     ensures tells { Tells (K.state out.old) tally.old result (K.state out.new) tally.new }
-    ensures steps { (image : Image) (n : Name) → AreBitmapsOf settled.now.found.super40.block_count image settled.now.found.bitmaps.items → n.id ≡ b → n.level ≡ 0
-        → Steps settled.now.found.super40.block_count (K.state out.old) tally.old result (K.state out.new) tally.new (λ w. meet settled.now.found.super40.block_count image w n) }
+    ensures steps { MeetsBlock settled.now b (K.state out.old) tally.old result (K.state out.new) tally.new }
 {
     if !tally.reach(b) {
         return look_again(out, tally, b);
@@ -71,7 +70,8 @@ fn tell_wrong<K: Sink>(
     wrong: Option<What>,
 ) -> Result<(), Stop>
     ensures tells { Tells (K.state out.old) tally.old result (K.state out.new) tally.new }
-    ensures steps { (blocks : ℕ) → Steps blocks (K.state out.old) tally.old result (K.state out.new) tally.new (with_fault b wrong) }
+    ensures steps { (blocks : ℕ) → Steps blocks (K.state out.old) tally.old
+        result (K.state out.new) tally.new (with_fault b wrong) }
 {
     let Some(what) = wrong else {
         return Ok(());
@@ -83,7 +83,8 @@ fn tell_wrong<K: Sink>(
 // Tells that a block was reached before.
 fn look_again<K: Sink>(out: &mut K, tally: &mut Tally, b: u64) -> Result<(), Stop>
     ensures tells { Tells (K.state out.old) tally.old result (K.state out.new) tally.new }
-    ensures steps { (blocks : ℕ) → Steps blocks (K.state out.old) tally.old result (K.state out.new) tally.new (met_again b) }
+    ensures steps { (blocks : ℕ) → Steps blocks (K.state out.old) tally.old
+        result (K.state out.new) tally.new (met_again b) }
 {
     tally.whole = false;
     tell_wrong(out, tally, b, Some(What::Twice))
@@ -97,11 +98,11 @@ fn look_at_run<K: Sink>(
     start: u64,
     width: u64,
 ) -> Result<(), Stop>
-    requires size { length tally.old.reached.items ≡ bitmap_count settled.now.found.super40.block_count }
-    requires within { start + width ≤ settled.now.found.super40.block_count }
+    requires size { HasBits settled.now tally.old }
+    requires within { start + width ≤ blocks_of settled.now }
     ensures tells { Tells (K.state out.old) tally.old result (K.state out.new) tally.new }
-    ensures steps { (image : Image) (levels key : ℕ) → AreBitmapsOf settled.now.found.super40.block_count image settled.now.found.bitmaps.items
-        → Steps settled.now.found.super40.block_count (K.state out.old) tally.old result (K.state out.new) tally.new (λ w. look_at levels settled.now.found.super40.block_count image w (run_names key start width)) }
+    ensures steps { LooksAtBlocks settled.now (λ key. run_names key start width)
+        (K.state out.old) tally.old result (K.state out.new) tally.new }
 {
     for i in 0..width {
         look_at_block(out, settled, tally, start + i)?;
@@ -116,11 +117,11 @@ fn look_at_unit<K: Sink>(
     tally: &mut Tally,
     unit: Unit,
 ) -> Result<(), Stop>
-    requires size { length tally.old.reached.items ≡ bitmap_count settled.now.found.super40.block_count }
-    requires lawful { IsLawfulUnit false settled.now.found.super40.block_count unit }
+    requires size { HasBits settled.now tally.old }
+    requires lawful { IsLawfulUnit false (blocks_of settled.now) unit }
     ensures tells { Tells (K.state out.old) tally.old result (K.state out.new) tally.new }
-    ensures steps { (image : Image) (levels key : ℕ) → AreBitmapsOf settled.now.found.super40.block_count image settled.now.found.bitmaps.items
-        → Steps settled.now.found.super40.block_count (K.state out.old) tally.old result (K.state out.new) tally.new (λ w. look_at levels settled.now.found.super40.block_count image w (unit_names key unit)) }
+    ensures steps { LooksAtBlocks settled.now (λ key. unit_names key unit)
+        (K.state out.old) tally.old result (K.state out.new) tally.new }
 {
     if unit.start == 0 {
         return Ok(());
@@ -135,11 +136,11 @@ fn look_at_extent<K: Sink>(
     tally: &mut Tally,
     extent: &ExtentView<'_>,
 ) -> Result<(), Stop>
-    requires size { length tally.old.reached.items ≡ bitmap_count settled.now.found.super40.block_count }
-    requires lawful { AreLawfulUnits false settled.now.found.super40.block_count (view_units extent.now) }
+    requires size { HasBits settled.now tally.old }
+    requires lawful { AreLawfulUnits false (blocks_of settled.now) (view_units extent.now) }
     ensures tells { Tells (K.state out.old) tally.old result (K.state out.new) tally.new }
-    ensures steps { (image : Image) (levels key : ℕ) → AreBitmapsOf settled.now.found.super40.block_count image settled.now.found.bitmaps.items
-        → Steps settled.now.found.super40.block_count (K.state out.old) tally.old result (K.state out.new) tally.new (λ w. look_at levels settled.now.found.super40.block_count image w (block_names key (view_units extent.now))) }
+    ensures steps { LooksAtBlocks settled.now (λ key. block_names key (view_units extent.now))
+        (K.state out.old) tally.old result (K.state out.new) tally.new }
 {
     for i in 0..extent.len() {
         look_at_unit(out, settled, tally, extent.unit(i))?;
@@ -177,15 +178,17 @@ fn meet_node<D: Device, K: Sink>(
     named: &Named,
 ) -> Result<Option<Arc<Cell>>, Stop>
     requires device { settled.now.device_blocks ≡ (D.state dev.old).blocks }
-    requires size { length tally.old.reached.items ≡ bitmap_count settled.now.found.super40.block_count }
-    requires within { named.now.id < settled.now.found.super40.block_count }
+    requires size { HasBits settled.now tally.old }
+    requires within { named.now.id < blocks_of settled.now }
     requires level { 1 ≤ named.now.level }
-    ensures goes { Goes (D.state dev.old) (K.state out.old) tally.old result (D.state dev.new) (K.state out.new) tally.new }
-    ensures cell { IfOk result (λ o. IfSome o (λ c. IsAccepted settled.now.found.super40.block_count named.now (arc_value c))) }
-    ensures steps { (image : Image) → IsGround settled.now (D.state dev.old) image
-        → Steps settled.now.found.super40.block_count (K.state out.old) tally.old result (K.state out.new) tally.new (λ w. meet settled.now.found.super40.block_count image w (name_of named.now)) }
-    ensures below { (image : Image) (w : Walk) → IsGround settled.now (D.state dev.old) image → IsTally settled.now.found.super40.block_count w tally.old
-        → IfOk result (λ o. below_of o ≡ names_below settled.now.found.super40.block_count image w (name_of named.now)) }
+    ensures goes { Goes (D.state dev.old) (K.state out.old) tally.old
+        result (D.state dev.new) (K.state out.new) tally.new }
+    ensures cell { IfOk result (λ o. IfSome o (λ c. IsAccepted (blocks_of settled.now) named.now (arc_value c))) }
+    ensures steps { Walks settled.now (D.state dev.old)
+        (λ blocks image w. meet blocks image w (name_of named.now))
+        (K.state out.old) tally.old result (K.state out.new) tally.new }
+    ensures below { IfOk result (λ o.
+        IsBelow settled.now (D.state dev.old) tally.old (name_of named.now) (below_of o)) }
 {
     if !tally.reach(named.id) {
         look_again(out, tally, named.id)?;
@@ -211,9 +214,9 @@ fn named_at(cell: &Cell, i: u16) -> Option<Named>
     requires level { 1 ≤ cell.now.level }
     requires place { i < length (items_of cell.now.block) }
     ensures named { (it : Item) → slice_get (items_of cell.now.block) i ≡ Some it → is_extent it ≡ false
-        → item_names cell.now.level (next_key (rank cell.now.hi) (drop (i + 1) (items_of cell.now.block))) it ≡ names_of result }
+        → names_at cell.now i it ≡ names_of result }
     ensures level { IfSome result (λ n. (1 ≤ n.level) × (n.level + 1 ≡ cell.now.level)) }
-    ensures within { (blocks : ℕ) → cell_fault false blocks cell.now.level (rank cell.now.lo) (rank cell.now.hi) cell.now.block ≡ None → IfSome result (λ n. n.id < blocks) }
+    ensures within { (blocks : ℕ) → MayStand blocks cell.now → IfSome result (λ n. n.id < blocks) }
 {
     let node = cell.node();
     let item = node.item(i);
@@ -242,12 +245,14 @@ pub fn look_at_node<D: Device, K: Sink>(
     named: &Named,
 ) -> Result<(), Stop>
     requires device { settled.now.device_blocks ≡ (D.state dev.old).blocks }
-    requires size { length tally.old.reached.items ≡ bitmap_count settled.now.found.super40.block_count }
-    requires within { named.now.id < settled.now.found.super40.block_count }
+    requires size { HasBits settled.now tally.old }
+    requires within { named.now.id < blocks_of settled.now }
     requires level { 1 ≤ named.now.level }
-    ensures goes { Goes (D.state dev.old) (K.state out.old) tally.old result (D.state dev.new) (K.state out.new) tally.new }
-    ensures steps { (image : Image) → IsGround settled.now (D.state dev.old) image
-        → Steps settled.now.found.super40.block_count (K.state out.old) tally.old result (K.state out.new) tally.new (λ w. look named.now.level settled.now.found.super40.block_count image w (name_of named.now)) }
+    ensures goes { Goes (D.state dev.old) (K.state out.old) tally.old
+        result (D.state dev.new) (K.state out.new) tally.new }
+    ensures steps { Walks settled.now (D.state dev.old)
+        (λ blocks image w. look named.now.level blocks image w (name_of named.now))
+        (K.state out.old) tally.old result (K.state out.new) tally.new }
 {
     let Some(cell) = meet_node(alloc, dev, out, settled, tally, named)? else {
         return Ok(());
@@ -266,12 +271,14 @@ fn look_below<D: Device, K: Sink>(
     cell: &Cell,
 ) -> Result<(), Stop>
     requires device { settled.now.device_blocks ≡ (D.state dev.old).blocks }
-    requires size { length tally.old.reached.items ≡ bitmap_count settled.now.found.super40.block_count }
+    requires size { HasBits settled.now tally.old }
     requires level { 1 ≤ cell.now.level }
-    requires sound { cell_fault false settled.now.found.super40.block_count cell.now.level (rank cell.now.lo) (rank cell.now.hi) cell.now.block ≡ None }
-    ensures goes { Goes (D.state dev.old) (K.state out.old) tally.old result (D.state dev.new) (K.state out.new) tally.new }
-    ensures steps { (image : Image) → IsGround settled.now (D.state dev.old) image
-        → Steps settled.now.found.super40.block_count (K.state out.old) tally.old result (K.state out.new) tally.new (λ w. look_at (cell.now.level - 1) settled.now.found.super40.block_count image w (node_of cell.now).names) }
+    requires sound { MayStand (blocks_of settled.now) cell.now }
+    ensures goes { Goes (D.state dev.old) (K.state out.old) tally.old
+        result (D.state dev.new) (K.state out.new) tally.new }
+    ensures steps { Walks settled.now (D.state dev.old)
+        (λ blocks image w. look_at (cell.now.level - 1) blocks image w (node_of cell.now).names)
+        (K.state out.old) tally.old result (K.state out.new) tally.new }
 {
     for i in 0..cell.node().len() {
         look_at_item(alloc, dev, out, settled, tally, cell, i)?;
@@ -291,14 +298,14 @@ fn look_at_item<D: Device, K: Sink>(
     i: u16,
 ) -> Result<(), Stop>
     requires device { settled.now.device_blocks ≡ (D.state dev.old).blocks }
-    requires size { length tally.old.reached.items ≡ bitmap_count settled.now.found.super40.block_count }
+    requires size { HasBits settled.now tally.old }
     requires level { 1 ≤ cell.now.level }
-    requires sound { cell_fault false settled.now.found.super40.block_count cell.now.level (rank cell.now.lo) (rank cell.now.hi) cell.now.block ≡ None }
+    requires sound { MayStand (blocks_of settled.now) cell.now }
     requires place { i < length (items_of cell.now.block) }
-    ensures goes { Goes (D.state dev.old) (K.state out.old) tally.old result (D.state dev.new) (K.state out.new) tally.new }
-    ensures steps { (image : Image) (it : Item) → IsGround settled.now (D.state dev.old) image → slice_get (items_of cell.now.block) i ≡ Some it
-        → Steps settled.now.found.super40.block_count (K.state out.old) tally.old result (K.state out.new) tally.new
-        (λ w. look_at (cell.now.level - 1) settled.now.found.super40.block_count image w (item_names cell.now.level (next_key (rank cell.now.hi) (drop (i + 1) (items_of cell.now.block))) it)) }
+    ensures goes { Goes (D.state dev.old) (K.state out.old) tally.old
+        result (D.state dev.new) (K.state out.new) tally.new }
+    ensures steps { LooksAtItem settled.now (D.state dev.old) cell.now i
+        (K.state out.old) tally.old result (K.state out.new) tally.new }
 {
     let node = cell.node();
     let item = node.item(i);

@@ -5,7 +5,7 @@ ghost use Rattle.r4_base.specs.Cell.{cell_fault};
 ghost use Rattle.r4_base.specs.Image.{Image};
 ghost use Rattle.r4_base.specs.Key.{rank};
 ghost use Rattle.r4_search.specs.Pool.{LeavesDevice};
-ghost use Rattle.r4_check.specs.Looking.{IsGround, IsReadCause, IsReadAs, StandsAs, name_of};
+ghost use Rattle.r4_check.specs.Looking.{IsGround, IsReadCause, IsReadAs, StandsAs, blocks_of, name_of};
 
 use crate::settled::Settled;
 use crate::stop::Stop;
@@ -39,10 +39,11 @@ pub fn read_named<D: Device>(
     named: &Named,
 ) -> Result<Met, Stop>
     requires device { settled.now.device_blocks ≡ (D.state dev.old).blocks }
-    requires within { named.now.id < settled.now.found.super40.block_count }
+    requires within { named.now.id < blocks_of settled.now }
     ensures device { LeavesDevice (D.state dev.old) (D.state dev.new) }
-    ensures stands { IfOk result (λ met. StandsAs settled.now.found.super40.block_count named.now met) }
-    ensures read { (image : Image) → IsGround settled.now (D.state dev.old) image → IfOk result (λ met. IsReadAs settled.now.found.super40.block_count image (name_of named.now) met) }
+    ensures stands { IfOk result (StandsAs (blocks_of settled.now) named.now) }
+    ensures read { (image : Image) → IsGround settled.now (D.state dev.old) image
+        → IfOk result (IsReadAs (blocks_of settled.now) image (name_of named.now)) }
     ensures cause { IfErr result (λ e. IsReadCause (D.state dev.old) e (D.state dev.new)) }
 {
     let mut block = Block::zeroed(alloc)?;

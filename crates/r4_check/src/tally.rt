@@ -46,7 +46,8 @@ impl Tally {
     pub fn reach(&mut self, b: u64) -> bool
         requires { b / 32736 < length self.old.reached.items }
         ensures first { result ≡ not (marks self.old.reached.items b) }
-        ensures reached { (blocks : ℕ) → bitmap_count blocks ≡ length self.old.reached.items → MarksOneMore blocks b self.old.reached.items self.new.reached.items }
+        ensures reached { (blocks : ℕ) → bitmap_count blocks ≡ length self.old.reached.items
+            → MarksOneMore blocks b self.old.reached.items self.new.reached.items }
         ensures objects { self.new.objects ≡ self.old.objects }
         ensures faults { self.new.faults ≡ self.old.faults }
         ensures whole { self.new.whole ≡ self.old.whole }

@@ -31,15 +31,15 @@ pub struct TreeVerdict {
     pub whole: bool,
 }
 
-/// Walks over the tree of a device's settled image and prints the line of each fault: for each block that is named `twice`
-/// where it was reached before, else `unmarked` where its bit is 0, else for a node the word of its first fault at its
-/// level and range. A node comes before what it names, and all in order of keys. Each node is read once, and nothing below
-/// one that is refused or was reached before. Nothing is written to the device, and no other line is printed
-/// (docs/check.md).
+/// Walks over the tree of a device's settled image and prints the line of each fault: for each block that is
+/// named `twice` where it was reached before, else `unmarked` where its bit is 0, else for a node the word of
+/// its first fault at its level and range. A node comes before what it names, and all in order of keys. Each
+/// node is read once, and nothing below one that is refused or was reached before. Nothing is written to the
+/// device, and no other line is printed: the line that counts is the caller's (docs/check.md).
 ///
-/// Answers `Size` only outside 64 to 1,048,576 blocks; `Log`, where the log is refused; `Image`, where the superblocks or
-/// the bitmaps of the settled image are refused; `Device` and `Sink`, only where their count rose; `Memory`, where a
-/// growth was refused.
+/// Answers `Size` only outside 64 to 1,048,576 blocks; `Log`, where the log is refused; `Image`, where the
+/// superblocks or the bitmaps of the settled image are refused, and never for a node; `Device` and `Sink`, only
+/// where their count rose; `Memory`, where a growth was refused.
 pub fn check_tree<D: Device, K: Sink>(
     alloc: Global,
     dev: &mut D,
@@ -80,8 +80,10 @@ fn walk_settled<D: Device, K: Sink>(
     requires { settled.now.device_blocks ≡ (D.state dev.old).blocks }
     ensures device { LeavesDevice (D.state dev.old) (D.state dev.new) }
     ensures prints { Prints (K.state out.old) (K.state out.new) }
-    ensures cause { IfErr result (λ e. IsStopCause (D.state dev.old) (K.state out.old) e (D.state dev.new) (K.state out.new)) }
-    ensures walk { (image : Image) → IsGround settled.now (D.state dev.old) image → PrintsWalk (walk_of settled.now.found.super40 image) (K.state out.old) result (K.state out.new) }
+    ensures cause { IfErr result (λ e.
+        IsStopCause (D.state dev.old) (K.state out.old) e (D.state dev.new) (K.state out.new)) }
+    ensures walk { (image : Image) → IsGround settled.now (D.state dev.old) image
+        → PrintsWalk (walk_of settled.now.found.super40 image) (K.state out.old) result (K.state out.new) }
 {
     let mut tally = Tally::new(alloc, settled.blocks())?;
     look_at_node(alloc, dev, out, settled, &mut tally, &root_of(settled))?;
