@@ -6,3 +6,4 @@ pub mod Items
 pub mod BlockSets
 pub mod Meets
 pub mod Answered
+pub mod Kept

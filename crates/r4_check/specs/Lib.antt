@@ -4,3 +4,4 @@ pub mod Blocks
 pub mod Looking
 pub mod Units
 pub mod Tree
+pub mod Rows

@@ -3,6 +3,7 @@
 
 mod blocks;
 mod fault;
+mod laws;
 mod lines;
 mod look;
 mod reading;
@@ -12,5 +13,6 @@ mod tally;
 mod tree;
 
 pub use fault::{Fault, What};
+pub use laws::{cells_are_read, small_trees};
 pub use r4_list::ListFault;
 pub use tree::{TreeVerdict, check_tree};

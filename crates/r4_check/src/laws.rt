@@ -1,0 +1,40 @@
+//! Laws of the walk over a tree. Each is the contract of a function that does nothing.
+
+ghost use Rattle.std.specs.Prelude.{◌≡◌, ℕ, [], ◌∷◌, Contains, Some, false, true};
+ghost use Rattle.r4_base.specs.Bitmap.{is_marked};
+ghost use Rattle.r4_base.specs.Cell.{IsCellOf};
+ghost use Rattle.r4_base.specs.Image.{AreDifferent, Image, block_at};
+ghost use Rattle.r4_base.specs.Tree.{Name, Node};
+ghost use Rattle.r4_base.specs.Value.{Value};
+ghost use Rattle.r4_base.specs.declared.items.CellFault.{CellFault};
+ghost use Rattle.r4_base.specs.declared.superblock.Super40.{Super40};
+ghost use Rattle.r4_check.specs.Faults.{fault_at};
+ghost use Rattle.r4_check.specs.Rows.{IsAccepted, IsFirstNamed, IsSmall};
+ghost use Rattle.r4_check.specs.Walk.{look, nothing_met, objects_met, refusal_at, stats_in, cell_at, walk_of};
+ghost use Rattle.r4_check.specs.declared.fault.What.TheVariants.{Cell, Twice, Unmarked};
+
+/// What a walk finds in trees of one and two nodes: nothing; a root that names itself; a root that is refused; a
+/// leaf whose bit is 0, of which the stat data are counted (docs/check.md).
+pub fn small_trees()
+    ensures sound { (blocks : ℕ) (image : Image) (root leaf : Name) → IsSmall blocks image root leaf
+        → IsAccepted blocks image leaf → is_marked image leaf.id ≡ true
+        → (look 2 blocks image nothing_met root).faults ≡ [] }
+    ensures itself { (blocks : ℕ) (image : Image) (root child : Name) → IsFirstNamed blocks image root child
+        → child.id ≡ root.id → (look 2 blocks image nothing_met root).faults ≡ fault_at root.id Twice ∷ [] }
+    ensures refused { (levels blocks : ℕ) (image : Image) (root : Name) (f : CellFault) → is_marked image root.id ≡ true
+        → refusal_at blocks image root ≡ Some f
+        → (look levels blocks image nothing_met root).faults ≡ fault_at root.id (Cell f) ∷ [] }
+    ensures unmarked { (blocks : ℕ) (image : Image) (root leaf : Name) → IsSmall blocks image root leaf
+        → IsAccepted blocks image leaf → is_marked image leaf.id ≡ false
+        → (look 2 blocks image nothing_met root).faults ≡ fault_at leaf.id Unmarked ∷ [] }
+{}
+
+/// Each cell that a walk has is what its block says at the level and for the keys where it is named. No block is
+/// reached twice, and where there is no fault each cell's block is marked (docs/check.md).
+pub fn cells_are_read()
+    ensures cells { (s : Super40) (image : Image) (i : ℕ) (c : Node Value) → Contains (walk_of s image).cells (i, c)
+        → IsCellOf s.block_count (block_at image i) c }
+    ensures once { (s : Super40) (image : Image) → AreDifferent (walk_of s image).reached }
+    ensures marked { (s : Super40) (image : Image) (i : ℕ) (c : Node Value) → (walk_of s image).faults ≡ []
+        → Contains (walk_of s image).cells (i, c) → is_marked image i ≡ true }
+{}
