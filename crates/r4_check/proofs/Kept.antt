@@ -43,7 +43,7 @@ module _ (P : Walk → Type 0) (blocks : ℕ) (image : Image) (step : (w : Walk)
   look_keeps zero w n h = step w n h
   look_keeps (suc levels) w n h = fold_keeps (look levels blocks image) (look_keeps levels) (names_below blocks image w n) (meet blocks image w n) (step w n h)
 
-one_of : {X : Type 0} (x : X) (xs : List X) (y : X) → Contains (x ∷ xs) y → (x ≡ y) ⊎ Contains xs y
+pub one_of : {X : Type 0} (x : X) (xs : List X) (y : X) → Contains (x ∷ xs) y → (x ≡ y) ⊎ Contains xs y
 one_of {X} x xs y (zero, lt, e) = inl e
 one_of {X} x xs y (suc j, lt, e) = inr (j, omega (arith, lt), e)
 

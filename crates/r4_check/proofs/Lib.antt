@@ -7,3 +7,4 @@ pub mod BlockSets
 pub mod Meets
 pub mod Answered
 pub mod Kept
+pub mod Placed

@@ -4,8 +4,10 @@ ghost use Rattle.std.specs.Prelude.{◌≡◌, ℕ, [], ◌∷◌, Contains, Som
 ghost use Rattle.r4_base.specs.Bitmap.{is_marked};
 ghost use Rattle.r4_base.specs.Cell.{IsCellOf};
 ghost use Rattle.r4_base.specs.Image.{AreDifferent, Image, block_at};
+ghost use Rattle.r4_base.specs.Layout.{IsLawfulSuper};
 ghost use Rattle.r4_base.specs.Tree.{Name, Node};
 ghost use Rattle.r4_base.specs.Value.{Value};
+ghost use Rattle.r4_base.specs.Volume.{IsPlace};
 ghost use Rattle.r4_base.specs.declared.items.CellFault.{CellFault};
 ghost use Rattle.r4_base.specs.declared.superblock.Super40.{Super40};
 ghost use Rattle.r4_check.specs.Faults.{fault_at};
@@ -30,11 +32,13 @@ pub fn small_trees()
 {}
 
 /// Each cell that a walk has is what its block says at the level and for the keys where it is named. No block is
-/// reached twice, and where there is no fault each cell's block is marked (docs/check.md).
+/// reached twice, and where there is no fault each cell's block is one that a volume may use and does
+/// (docs/check.md).
 pub fn cells_are_read()
     ensures cells { (s : Super40) (image : Image) (i : ℕ) (c : Node Value) → Contains (walk_of s image).cells (i, c)
         → IsCellOf s.block_count (block_at image i) c }
     ensures once { (s : Super40) (image : Image) → AreDifferent (walk_of s image).reached }
-    ensures marked { (s : Super40) (image : Image) (i : ℕ) (c : Node Value) → (walk_of s image).faults ≡ []
-        → Contains (walk_of s image).cells (i, c) → is_marked image i ≡ true }
+    ensures places { (n : ℕ) (s : Super40) (image : Image) (i : ℕ) (c : Node Value) → IsLawfulSuper n s
+        → (walk_of s image).faults ≡ [] → Contains (walk_of s image).cells (i, c)
+        → IsPlace s.block_count image i }
 {}

@@ -1,6 +1,7 @@
 use Rattle.r4_list.specs.Lists.{root_name_of}
 use Rattle.r4_check.specs.Walk.{nothing_met}
 use Rattle.r4_check.proofs.Kept.{AreCells, AreMarked, AreOnce, cells_kept, look_keeps, marked_kept, no_cell, once_kept}
+use Rattle.r4_check.proofs.Placed.{AreFree, free_kept, look_keeps_free}
 use Rattle.r4_check.proofs.laws.cells_are_read.Goals as goal
 
 pub returns-clause-cells : goal.returns-clause-cells
@@ -9,5 +10,8 @@ returns-clause-cells c s image = look_keeps (AreCells s.block_count image) s.blo
 pub returns-clause-once : goal.returns-clause-once
 returns-clause-once c s image = look_keeps AreOnce s.block_count image (once_kept s.block_count image) s.tree_height nothing_met (root_name_of s) tt
 
-pub returns-clause-marked : goal.returns-clause-marked
-returns-clause-marked c s image i d none = look_keeps (AreMarked image) s.block_count image (marked_kept s.block_count image) s.tree_height nothing_met (root_name_of s) (λ e j x h. absurd (no_cell j x h)) none i d
+pub returns-clause-places : goal.returns-clause-places
+returns-clause-places c n s image i d lawful none at =
+    let marked = look_keeps (AreMarked image) s.block_count image (marked_kept s.block_count image) s.tree_height nothing_met (root_name_of s) (λ e j x h. absurd (no_cell j x h)) none i d at in
+    let free = look_keeps_free (AreFree s.block_count) s.block_count image (free_kept s.block_count image) s.tree_height nothing_met (root_name_of s) (lawful.root.1, lawful.root_not_fixed) (λ j x h. absurd (no_cell j x h)) i d at in
+    (free.0, free.1, marked)
