@@ -112,6 +112,7 @@ marked_kept blocks image w n h = meet_by (AreMarked image) blocks image w n
       | inl e ↦ let Q : ℕ × Node Value → Type 0 = λ p. is_marked image p.0 ≡ true in subst Q e is
       | inr later ↦ h (sym (append-nil w.faults) ∙ none) i c later
     ]
+
     refused : (f : CellFault) (m : Bool) → w.faults ++ faults_at n.id (wrong_with m (Some f)) ≡ [] → (i : ℕ) (c : Node Value) → Contains w.cells (i, c) → is_marked image i ≡ true
     refused f false none i c at = absurd (no_push w.faults _ (fault_at n.id Unmarked) refl none)
     refused f true none i c at = absurd (no_push w.faults _ (fault_at n.id (Cell f)) refl none)
