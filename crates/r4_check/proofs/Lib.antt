@@ -8,3 +8,4 @@ pub mod Meets
 pub mod Answered
 pub mod Kept
 pub mod Placed
+pub mod Closed

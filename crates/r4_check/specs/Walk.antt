@@ -1,5 +1,5 @@
 -- The faults of a tree, in the order in which a walk from the left meets them, a node before its children (docs/check.md).
-use Rattle.std.specs.Prelude.{◌≡◌, ◌⊎◌, ℕ, zero, suc, List, [], ◌∷◌, ◌++◌, Bool, true, false, not, ◌&&◌, ◌||◌, ◌==◌, Option, Some, None, if◌then◌else◌, count_by, fold, sum_by}
+use Rattle.std.specs.Prelude.{◌≡◌, ◌⊎◌, ℕ, zero, suc, List, [], ◌∷◌, ◌++◌, Bool, true, false, not, ◌&&◌, ◌||◌, ◌==◌, Option, Some, None, if◌then◌else◌, Contains, count_by, fold, sum_by}
 use Rattle.std.specs.Option.{option_map, is_none}
 use Rattle.r4_base.specs.Bitmap.{is_marked}
 use Rattle.r4_base.specs.Cell.{cell_fault, cell_of}
@@ -108,3 +108,7 @@ stats_in c = count_by (λ u. is_stat_value u.1) c.units
 
 abbrev pub objects_met : Walk → ℕ
 objects_met w = sum_by (λ c. stats_in c.1) w.cells
+
+-- the walk has the cell that a name means
+abbrev pub HasCell : Image → Walk → Name → Type 0
+HasCell image w n = Contains w.cells (n.id, cell_at image n)

@@ -10,9 +10,10 @@ ghost use Rattle.r4_base.specs.Value.{Value};
 ghost use Rattle.r4_base.specs.Volume.{IsPlace};
 ghost use Rattle.r4_base.specs.declared.items.CellFault.{CellFault};
 ghost use Rattle.r4_base.specs.declared.superblock.Super40.{Super40};
+ghost use Rattle.r4_list.specs.Lists.{root_name_of};
 ghost use Rattle.r4_check.specs.Faults.{fault_at};
 ghost use Rattle.r4_check.specs.Rows.{IsAccepted, IsFirstNamed, IsSmall};
-ghost use Rattle.r4_check.specs.Walk.{look, nothing_met, objects_met, refusal_at, stats_in, cell_at, walk_of};
+ghost use Rattle.r4_check.specs.Walk.{HasCell, look, nothing_met, refusal_at, walk_of};
 ghost use Rattle.r4_check.specs.declared.fault.What.TheVariants.{Cell, Twice, Unmarked};
 
 /// What a walk finds in trees of one and two nodes: nothing; a root that names itself; a root that is refused; a
@@ -41,4 +42,13 @@ pub fn cells_are_read()
     ensures places { (n : ℕ) (s : Super40) (image : Image) (i : ℕ) (c : Node Value) → IsLawfulSuper n s
         → (walk_of s image).faults ≡ [] → Contains (walk_of s image).cells (i, c)
         → IsPlace s.block_count image i }
+{}
+
+/// Where a walk is whole, the root is one of its cells, and so is each node and each data block that one of its
+/// cells names, at the level and for the keys of the name (docs/check.md).
+pub fn whole_walks_are_closed()
+    ensures root { (s : Super40) (image : Image) → (walk_of s image).whole ≡ true
+        → HasCell image (walk_of s image) (root_name_of s) }
+    ensures named { (s : Super40) (image : Image) (i : ℕ) (c : Node Value) (n : Name) → (walk_of s image).whole ≡ true
+        → Contains (walk_of s image).cells (i, c) → Contains c.names n → HasCell image (walk_of s image) n }
 {}

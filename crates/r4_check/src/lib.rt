@@ -13,6 +13,6 @@ mod tally;
 mod tree;
 
 pub use fault::{Fault, What};
-pub use laws::{cells_are_read, small_trees};
+pub use laws::{cells_are_read, small_trees, whole_walks_are_closed};
 pub use r4_list::ListFault;
 pub use tree::{TreeVerdict, check_tree};

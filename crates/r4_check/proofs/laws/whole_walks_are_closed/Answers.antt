@@ -1,0 +1,17 @@
+use Rattle.std.proofs.Common.{inl, inr, arith}
+use Rattle.r4_list.specs.Lists.{root_name_of}
+use Rattle.r4_check.specs.Walk.{nothing_met}
+use Rattle.r4_check.proofs.Closed.{look_grows}
+use Rattle.r4_check.proofs.Kept.{no_cell}
+use Rattle.r4_check.proofs.laws.whole_walks_are_closed.Goals as goal
+
+pub returns-clause-root : goal.returns-clause-root
+returns-clause-root c s image whole = (look_grows s.block_count image s.tree_height nothing_met (root_name_of s) (omega arith) whole).1
+
+pub returns-clause-named : goal.returns-clause-named
+returns-clause-named c s image i d n whole at named =
+    let grows = (look_grows s.block_count image s.tree_height nothing_met (root_name_of s) (omega arith) whole).0 in
+    elim (grows.closed i d at) [
+      | inl never ↦ absurd (no_cell i d never)
+      | inr all ↦ all n named
+    ]
