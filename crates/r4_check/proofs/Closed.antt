@@ -151,11 +151,13 @@ module _ (blocks : ℕ) (image : Image) where
   fold_grows f levels on [] low w whole = (record { whole = whole; more = λ i c at. at; closed = λ i c at. inl at }, λ n at. absurd (no_name n at))
   fold_grows f levels on (n ∷ names) low w whole =
       let rest = fold_grows f levels on names (λ m at. low m (later n names m at)) (f w n) whole in
-      let first = on w n (low n (here n names)) rest.0.whole in
-      (grows_both w (f w n) (fold f (f w n) names) first.0 rest.0, λ m at. elim (one_of n names m at) [
-        | inl e ↦ subst (HasCell image (fold f (f w n) names)) e (rest.0.more n.id (cell_at image n) first.1)
-        | inr more ↦ rest.1 m more
-      ])
+      let first = on w n (low n (here n names)) rest.0.whole in (
+        grows_both w (f w n) (fold f (f w n) names) first.0 rest.0,
+        λ m at. elim (one_of n names m at) [
+          | inl e ↦ subst (HasCell image (fold f (f w n) names)) e (rest.0.more n.id (cell_at image n) first.1)
+          | inr more ↦ rest.1 m more
+        ],
+      )
 
   pub look_grows : (levels : ℕ) (w : Walk) (n : Name) → n.level ≤ levels → (look levels blocks image w n).whole ≡ true → Grows image w (look levels blocks image w n) × HasCell image (look levels blocks image w n) n
   unfolding look
@@ -169,12 +171,14 @@ module _ (blocks : ℕ) (image : Image) where
       let all = fold_grows (look levels blocks image) levels (look_grows levels) names (below_low levels blocks image w n low) v whole in
       let m = meets blocks image w n all.0.whole in
       let u = fold (look levels blocks image) v names in
-      let met = subst (λ (l : List Name). AreMet image l u) (sym m.below) all.1 in
-      (record {
-        whole = m.whole;
-        more = λ i c at. all.0.more i c (met_more w v n m i c at);
-        closed = λ i c at. elim (all.0.closed i c at) [
-          | inl old ↦ new_closed w v u n m met i c old
-          | inr done ↦ inr done
-        ];
-      }, all.0.more n.id (cell_at image n) (met_there w v n m))
+      let met = subst (λ (l : List Name). AreMet image l u) (sym m.below) all.1 in (
+        record {
+          whole = m.whole;
+          more = λ i c at. all.0.more i c (met_more w v n m i c at);
+          closed = λ i c at. elim (all.0.closed i c at) [
+            | inl old ↦ new_closed w v u n m met i c old
+            | inr done ↦ inr done
+          ];
+        },
+        all.0.more n.id (cell_at image n) (met_there w v n m),
+      )
