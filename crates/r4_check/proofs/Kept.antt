@@ -117,6 +117,24 @@ marked_kept blocks image w n h = meet_by (AreMarked image) blocks image w n
     refused f false none i c at = absurd (no_push w.faults _ (fault_at n.id Unmarked) refl none)
     refused f true none i c at = absurd (no_push w.faults _ (fault_at n.id (Cell f)) refl none)
 
+-- ---- without a fault
+
+abbrev pub IsSoundWhole : Walk → Type 0
+IsSoundWhole w = w.faults ≡ [] → w.whole ≡ true
+
+pub sound_kept : (blocks : ℕ) (image : Image) (w : Walk) (n : Name) → IsSoundWhole w → IsSoundWhole (meet blocks image w n)
+sound_kept blocks image w n h = meet_by IsSoundWhole blocks image w n
+    (λ again none. absurd (no_push w.faults _ (fault_at n.id Twice) refl none))
+    (λ first sound none. h (nothing_left w.faults _ none))
+    (λ f first bad. refused f (is_marked image n.id))
+  where
+    nothing_left : (xs ys : List Fault) → xs ++ ys ≡ [] → xs ≡ []
+    nothing_left [] ys e = refl
+    nothing_left (x ∷ xs) ys e = absurd cc
+    refused : (f : CellFault) (m : Bool) → w.faults ++ faults_at n.id (wrong_with m (Some f)) ≡ [] → false ≡ true
+    refused f false none = absurd (no_push w.faults _ (fault_at n.id Unmarked) refl none)
+    refused f true none = absurd (no_push w.faults _ (fault_at n.id (Cell f)) refl none)
+
 -- ---- small walks
 
 abbrev pub after_root : Image → Name → Walk

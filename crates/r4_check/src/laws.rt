@@ -45,8 +45,9 @@ pub fn cells_are_read()
 {}
 
 /// Where a walk is whole, the root is one of its cells, and so is each node and each data block that one of its
-/// cells names, at the level and for the keys of the name (docs/check.md).
+/// cells names, at the level and for the keys of the name. A walk without a fault is whole (docs/check.md).
 pub fn whole_walks_are_closed()
+    ensures sound { (s : Super40) (image : Image) → (walk_of s image).faults ≡ [] → (walk_of s image).whole ≡ true }
     ensures root { (s : Super40) (image : Image) → (walk_of s image).whole ≡ true
         → HasCell image (walk_of s image) (root_name_of s) }
     ensures named { (s : Super40) (image : Image) (i : ℕ) (c : Node Value) (n : Name) → (walk_of s image).whole ≡ true
