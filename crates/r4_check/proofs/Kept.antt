@@ -131,6 +131,7 @@ sound_kept blocks image w n h = meet_by IsSoundWhole blocks image w n
     nothing_left : (xs ys : List Fault) → xs ++ ys ≡ [] → xs ≡ []
     nothing_left [] ys e = refl
     nothing_left (x ∷ xs) ys e = absurd cc
+
     refused : (f : CellFault) (m : Bool) → w.faults ++ faults_at n.id (wrong_with m (Some f)) ≡ [] → false ≡ true
     refused f false none = absurd (no_push w.faults _ (fault_at n.id Unmarked) refl none)
     refused f true none = absurd (no_push w.faults _ (fault_at n.id (Cell f)) refl none)

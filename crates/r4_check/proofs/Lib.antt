@@ -9,3 +9,4 @@ pub mod Answered
 pub mod Kept
 pub mod Placed
 pub mod Closed
+pub mod Nodes

@@ -3,9 +3,9 @@
 ghost use Rattle.std.specs.Prelude.{◌≡◌, ℕ, [], ◌∷◌, Contains, Some, false, true};
 ghost use Rattle.r4_base.specs.Bitmap.{is_marked};
 ghost use Rattle.r4_base.specs.Cell.{IsCellOf};
-ghost use Rattle.r4_base.specs.Image.{AreDifferent, Image, block_at};
+ghost use Rattle.r4_base.specs.Image.{AreDifferent, Image, IsImage, block_at};
 ghost use Rattle.r4_base.specs.Layout.{IsLawfulSuper};
-ghost use Rattle.r4_base.specs.Tree.{Name, Node};
+ghost use Rattle.r4_base.specs.Tree.{IsNode, Name, Node};
 ghost use Rattle.r4_base.specs.Value.{Value};
 ghost use Rattle.r4_base.specs.Volume.{IsPlace};
 ghost use Rattle.r4_base.specs.declared.items.CellFault.{CellFault};
@@ -32,12 +32,15 @@ pub fn small_trees()
         → (look 2 blocks image nothing_met root).faults ≡ fault_at leaf.id Unmarked ∷ [] }
 {}
 
-/// Each cell that a walk has is what its block says at the level and for the keys where it is named. No block is
+/// Each cell that a walk has is what its block says at the level and for the keys where it is named, and stands by
+/// itself as a cell of a tree does. No block is
 /// reached twice, and where there is no fault each cell's block is one that a volume may use and does
 /// (docs/check.md).
 pub fn cells_are_read()
     ensures cells { (s : Super40) (image : Image) (i : ℕ) (c : Node Value) → Contains (walk_of s image).cells (i, c)
         → IsCellOf s.block_count (block_at image i) c }
+    ensures nodes { (n : ℕ) (s : Super40) (image : Image) (i : ℕ) (c : Node Value) → IsImage n image
+        → IsLawfulSuper n s → Contains (walk_of s image).cells (i, c) → IsNode c }
     ensures once { (s : Super40) (image : Image) → AreDifferent (walk_of s image).reached }
     ensures places { (n : ℕ) (s : Super40) (image : Image) (i : ℕ) (c : Node Value) → IsLawfulSuper n s
         → (walk_of s image).faults ≡ [] → Contains (walk_of s image).cells (i, c)

@@ -1,11 +1,16 @@
 use Rattle.r4_list.specs.Lists.{root_name_of}
 use Rattle.r4_check.specs.Walk.{nothing_met}
 use Rattle.r4_check.proofs.Kept.{AreCells, AreMarked, AreOnce, cells_kept, look_keeps, marked_kept, no_cell, once_kept}
+use Rattle.r4_check.proofs.Nodes.{look_nodes, root_proper}
 use Rattle.r4_check.proofs.Placed.{AreFree, free_kept, look_keeps_free}
 use Rattle.r4_check.proofs.laws.cells_are_read.Goals as goal
 
 pub returns-clause-cells : goal.returns-clause-cells
 returns-clause-cells c s image = look_keeps (AreCells s.block_count image) s.block_count image (cells_kept s.block_count image) s.tree_height nothing_met (root_name_of s) (λ i d h. absurd (no_cell i d h))
+
+pub returns-clause-nodes : goal.returns-clause-nodes
+returns-clause-nodes c n s image i d whole lawful at =
+    look_nodes n s.block_count image whole lawful.blocks.2 s.tree_height nothing_met (root_name_of s) (root_proper n s lawful) (λ j x h. absurd (no_cell j x h)) i d at
 
 pub returns-clause-once : goal.returns-clause-once
 returns-clause-once c s image = look_keeps AreOnce s.block_count image (once_kept s.block_count image) s.tree_height nothing_met (root_name_of s) tt
