@@ -13,8 +13,9 @@ use Rattle.r4_base.specs.Value.{Value}
 use Rattle.r4_base.specs.declared.items.Unit.{Unit as ExtentUnit}
 use Rattle.r4_base.specs.declared.items.CellFault.{CellFault}
 use Rattle.r4_check.specs.Walk.{HasCell, Walk, cell_at, is_reached, look, meet, names_below, refusal_at, with_cell, with_fault, with_gap, with_reached, wrong_with}
-use Rattle.r4_check.proofs.Kept.{meet_by, one_of}
+use Rattle.r4_check.proofs.Kept.{look_keeps_with, meet_by, one_of}
 use Rattle.r4_check.proofs.Meets.{below_accepted}
+use Rattle.r4_check.proofs.Nodes.{of_level}
 
 -- ---- what a cell names lies below it
 
@@ -182,3 +183,20 @@ module _ (blocks : ℕ) (image : Image) where
         },
         all.0.more n.id (cell_at image n) (met_there w v n m),
       )
+
+-- ---- levels
+
+abbrev pub AreUpTo : (most : ℕ) → Walk → Type 0
+AreUpTo most w = (i : ℕ) (c : Node Value) → Contains w.cells (i, c) → c.level ≤ most
+
+level_kept : (most blocks : ℕ) (image : Image) (w : Walk) (n : Name) → n.level ≤ most → AreUpTo most w → AreUpTo most (meet blocks image w n)
+level_kept most blocks image w n low h = meet_by (AreUpTo most) blocks image w n (λ again. h) (λ first sound. accepted) (λ f first bad. h)
+  where
+    accepted : (i : ℕ) (c : Node Value) → Contains ((n.id, cell_at image n) ∷ w.cells) (i, c) → c.level ≤ most
+    accepted i c at = elim (one_of (n.id, cell_at image n) w.cells (i, c) at) [
+      | inl e ↦ let Q : ℕ × Node Value → Type 0 = λ p. p.1.level ≤ most in (let is = of_level n.level n.lo n.hi (block_at image n.id) in subst Q e (omega (arith, is, low)))
+      | inr more ↦ h i c more
+    ]
+
+pub look_keeps_low : (most blocks : ℕ) (image : Image) (levels : ℕ) (w : Walk) (n : Name) → n.level ≤ most → AreUpTo most w → AreUpTo most (look levels blocks image w n)
+look_keeps_low most blocks image = look_keeps_with (λ n. n.level ≤ most) (AreUpTo most) blocks image (λ w n low. below_low most blocks image w n (omega (arith, low))) (level_kept most blocks image)

@@ -33,15 +33,23 @@ module _ (Q : Walk → Type 0) (blocks : ℕ) (image : Image) (w : Walk) (n : Na
       by false None e f = subst Q (meet_accepted blocks image w n e f) (accepted e f)
       by false (Some x) e f = subst Q (meet_refused blocks image w n x e f) (refused x e f)
 
-module _ (P : Walk → Type 0) (blocks : ℕ) (image : Image) (step : (w : Walk) (n : Name) → P w → P (meet blocks image w n)) where
-  fold_keeps : (f : Walk → Name → Walk) → ((w : Walk) (n : Name) → P w → P (f w n)) → (names : List Name) (w : Walk) → P w → P (fold f w names)
-  fold_keeps f on [] w h = h
-  fold_keeps f on (n ∷ names) w h = fold_keeps f on names (f w n) (on w n h)
+-- what each step keeps at a name of a kind, where what is looked at below such a name is of that kind too
+module _ (G : Name → Type 0) (P : Walk → Type 0) (blocks : ℕ) (image : Image) (below : (w : Walk) (n : Name) → G n → (m : Name) → Contains (names_below blocks image w n) m → G m) (step : (w : Walk) (n : Name) → G n → P w → P (meet blocks image w n)) where
+  fold_keeps : (f : Walk → Name → Walk) → ((w : Walk) (n : Name) → G n → P w → P (f w n)) → (names : List Name) → ((m : Name) → Contains names m → G m) → (w : Walk) → P w → P (fold f w names)
+  fold_keeps f on [] all w h = h
+  fold_keeps f on (n ∷ names) all w h = fold_keeps f on names (λ m at. all m (later m at)) (f w n) (on w n (all n (zero, omega arith, refl)) h)
+    where
+      later : (m : Name) → Contains names m → Contains (n ∷ names) m
+      later m (k, lt, e) = (suc k, omega (arith, lt), e)
 
-  pub look_keeps : (levels : ℕ) (w : Walk) (n : Name) → P w → P (look levels blocks image w n)
+  pub look_keeps_with : (levels : ℕ) (w : Walk) (n : Name) → G n → P w → P (look levels blocks image w n)
   unfolding look
-  look_keeps zero w n h = step w n h
-  look_keeps (suc levels) w n h = fold_keeps (look levels blocks image) (look_keeps levels) (names_below blocks image w n) (meet blocks image w n) (step w n h)
+  look_keeps_with zero w n g h = step w n g h
+  look_keeps_with (suc levels) w n g h = fold_keeps (look levels blocks image) (look_keeps_with levels) (names_below blocks image w n) (below w n g) (meet blocks image w n) (step w n g h)
+
+-- the same for names of any kind
+pub look_keeps : (P : Walk → Type 0) (blocks : ℕ) (image : Image) → ((w : Walk) (n : Name) → P w → P (meet blocks image w n)) → (levels : ℕ) (w : Walk) (n : Name) → P w → P (look levels blocks image w n)
+look_keeps P blocks image step levels w n h = look_keeps_with (λ m. Unit {0}) P blocks image (λ v x g m at. tt) (λ v x g. step v x) levels w n tt h
 
 pub one_of : {X : Type 0} (x : X) (xs : List X) (y : X) → Contains (x ∷ xs) y → (x ≡ y) ⊎ Contains xs y
 one_of {X} x xs y (zero, lt, e) = inl e

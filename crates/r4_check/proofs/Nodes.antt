@@ -17,7 +17,7 @@ use Rattle.r4_base.specs.declared.superblock.Super40.{Super40}
 use Rattle.r4_cell.proofs.Nodes.{cell_node, data_node}
 use Rattle.r4_list.specs.Lists.{root_name_of}
 use Rattle.r4_check.specs.Walk.{Walk, cell_at, is_reached, look, meet, names_below, nothing_met, refusal_at, walk_of}
-use Rattle.r4_check.proofs.Kept.{meet_by, no_cell, one_of}
+use Rattle.r4_check.proofs.Kept.{look_keeps_with, meet_by, one_of}
 use Rattle.r4_check.proofs.Placed.{accepted_fits}
 
 no_name : (n : Name) → Contains [] n → ⊥
@@ -76,7 +76,7 @@ twig_wide lo hi b = items_wide hi (items_of b)
 
 -- ---- cells by themselves
 
-of_level : (level lo hi : ℕ) (b : List ℕ) → (cell_of level lo hi b).level ≡ level
+pub of_level : (level lo hi : ℕ) (b : List ℕ) → (cell_of level lo hi b).level ≡ level
 unfolding cell_of
 of_level zero lo hi b = refl
 of_level (suc l) lo hi b = refl
@@ -154,17 +154,8 @@ module _ (n blocks : ℕ) (image : Image) (is : IsImage n image) (few : blocks �
         | inr more ↦ h i c more
       ]
 
-  fold_nodes : (f : Walk → Name → Walk) → ((w : Walk) (x : Name) → IsProper blocks x → AreNodes w → AreNodes (f w x)) → (names : List Name) → ((m : Name) → Contains names m → IsProper blocks m) → (w : Walk) → AreNodes w → AreNodes (fold f w names)
-  fold_nodes f on [] all w h = h
-  fold_nodes f on (x ∷ names) all w h = fold_nodes f on names (λ m at. all m (later m at)) (f w x) (on w x (all x (zero, omega arith, refl)) h)
-    where
-      later : (m : Name) → Contains names m → Contains (x ∷ names) m
-      later m (k, lt, e) = (suc k, omega (arith, lt), e)
-
   pub look_nodes : (levels : ℕ) (w : Walk) (x : Name) → IsProper blocks x → AreNodes w → AreNodes (look levels blocks image w x)
-  unfolding look
-  look_nodes zero w x p h = meet_nodes w x p h
-  look_nodes (suc levels) w x p h = fold_nodes (look levels blocks image) (look_nodes levels) (names_below blocks image w x) (λ m at. below_proper w x m p at) (meet blocks image w x) (meet_nodes w x p h)
+  look_nodes = look_keeps_with (IsProper blocks) AreNodes blocks image (λ w x p m at. below_proper w x m p at) meet_nodes
 
 least_below : least < top
 unfolding least top

@@ -23,7 +23,7 @@ use Rattle.r4_cell.specs.OnDisk.{AreBlocks}
 use Rattle.r4_twig.proofs.Faults.{body_lawful}
 use Rattle.r4_check.specs.Walk.{Walk, cell_at, is_reached, look, meet, names_below, refusal_at, with_cell, with_fault, with_gap, with_reached, wrong_with}
 use Rattle.r4_check.proofs.Items.{extent_body, extent_item, names_nothing}
-use Rattle.r4_check.proofs.Kept.{meet_by, one_of}
+use Rattle.r4_check.proofs.Kept.{look_keeps_with, meet_by, one_of}
 
 -- ---- what an accepted cell names
 
@@ -127,19 +127,6 @@ below_fits blocks image w n = below_by blocks (is_reached w n.id) (refusal_at bl
 abbrev pub IsFree : (blocks : ℕ) → ℕ → Type 0
 IsFree blocks i = (i < blocks) × (is_fixed blocks i ≡ false)
 
-module _ (P : Walk → Type 0) (blocks : ℕ) (image : Image) (step : (w : Walk) (n : Name) → IsFree blocks n.id → P w → P (meet blocks image w n)) where
-  fold_keeps : (f : Walk → Name → Walk) → ((w : Walk) (n : Name) → IsFree blocks n.id → P w → P (f w n)) → (names : List Name) → AreBlocks blocks names → (w : Walk) → P w → P (fold f w names)
-  fold_keeps f on [] all w h = h
-  fold_keeps f on (n ∷ names) all w h = fold_keeps f on names (λ m at. all m (later at)) (f w n) (on w n (all n (zero, omega arith, refl)) h)
-    where
-      later : {m : Name} → Contains names m → Contains (n ∷ names) m
-      later {m} (k, lt, e) = (suc k, omega (arith, lt), e)
-
-  pub look_keeps_free : (levels : ℕ) (w : Walk) (n : Name) → IsFree blocks n.id → P w → P (look levels blocks image w n)
-  unfolding look
-  look_keeps_free zero w n free h = step w n free h
-  look_keeps_free (suc levels) w n free h = fold_keeps (look levels blocks image) (look_keeps_free levels) (names_below blocks image w n) (below_fits blocks image w n) (meet blocks image w n) (step w n free h)
-
 -- ---- the cells of a walk
 
 abbrev pub AreFree : (blocks : ℕ) → Walk → Type 0
@@ -153,3 +140,6 @@ free_kept blocks image w n free h = meet_by (AreFree blocks) blocks image w n (�
       | inl e ↦ let Q : ℕ × Node Value → Type 0 = λ p. IsFree blocks p.0 in subst Q e free
       | inr more ↦ h i c more
     ]
+
+pub look_keeps_free : (blocks : ℕ) (image : Image) (levels : ℕ) (w : Walk) (n : Name) → IsFree blocks n.id → AreFree blocks w → AreFree blocks (look levels blocks image w n)
+look_keeps_free blocks image = look_keeps_with (λ n. IsFree blocks n.id) (AreFree blocks) blocks image (λ w n free. below_fits blocks image w n) (free_kept blocks image)

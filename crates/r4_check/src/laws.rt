@@ -1,6 +1,6 @@
 //! Laws of the walk over a tree. Each is the contract of a function that does nothing.
 
-ghost use Rattle.std.specs.Prelude.{◌≡◌, ℕ, [], ◌∷◌, Contains, Some, false, true};
+ghost use Rattle.std.specs.Prelude.{◌≡◌, ◌≤◌, ℕ, [], ◌∷◌, Contains, Some, false, true};
 ghost use Rattle.r4_base.specs.Bitmap.{is_marked};
 ghost use Rattle.r4_base.specs.Cell.{IsCellOf};
 ghost use Rattle.r4_base.specs.Image.{AreDifferent, Image, IsImage, block_at};
@@ -33,7 +33,7 @@ pub fn small_trees()
 {}
 
 /// Each cell that a walk has is what its block says at the level and for the keys where it is named, and stands by
-/// itself as a cell of a tree does. No block is
+/// itself as a cell of a tree does, not above the root's level. No block is
 /// reached twice, and where there is no fault each cell's block is one that a volume may use and does
 /// (docs/check.md).
 pub fn cells_are_read()
@@ -41,6 +41,8 @@ pub fn cells_are_read()
         → IsCellOf s.block_count (block_at image i) c }
     ensures nodes { (n : ℕ) (s : Super40) (image : Image) (i : ℕ) (c : Node Value) → IsImage n image
         → IsLawfulSuper n s → Contains (walk_of s image).cells (i, c) → IsNode c }
+    ensures levels { (s : Super40) (image : Image) (i : ℕ) (c : Node Value) → Contains (walk_of s image).cells (i, c)
+        → c.level ≤ s.tree_height }
     ensures once { (s : Super40) (image : Image) → AreDifferent (walk_of s image).reached }
     ensures places { (n : ℕ) (s : Super40) (image : Image) (i : ℕ) (c : Node Value) → IsLawfulSuper n s
         → (walk_of s image).faults ≡ [] → Contains (walk_of s image).cells (i, c)
