@@ -10,3 +10,4 @@ pub mod Kept
 pub mod Placed
 pub mod Closed
 pub mod Nodes
+pub mod Parents

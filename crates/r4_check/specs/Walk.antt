@@ -112,3 +112,7 @@ objects_met w = sum_by (λ c. stats_in c.1) w.cells
 -- the walk has the cell that a name means
 abbrev pub HasCell : Image → Walk → Name → Type 0
 HasCell image w n = Contains w.cells (n.id, cell_at image n)
+
+-- the name is the root's, or a cell of the walk has it
+abbrev pub IsNamedIn : (root : Name) → Walk → Name → Type 0
+IsNamedIn root w n = (n ≡ root) ⊎ ((j : ℕ) × (d : Node Value) × Contains w.cells (j, d) × Contains d.names n)

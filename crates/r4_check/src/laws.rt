@@ -13,7 +13,7 @@ ghost use Rattle.r4_base.specs.declared.superblock.Super40.{Super40};
 ghost use Rattle.r4_list.specs.Lists.{root_name_of};
 ghost use Rattle.r4_check.specs.Faults.{fault_at};
 ghost use Rattle.r4_check.specs.Rows.{IsAccepted, IsFirstNamed, IsSmall};
-ghost use Rattle.r4_check.specs.Walk.{HasCell, look, nothing_met, refusal_at, walk_of};
+ghost use Rattle.r4_check.specs.Walk.{HasCell, IsNamedIn, cell_at, look, nothing_met, refusal_at, walk_of};
 ghost use Rattle.r4_check.specs.declared.fault.What.TheVariants.{Cell, Twice, Unmarked};
 
 /// What a walk finds in trees of one and two nodes: nothing; a root that names itself; a root that is refused; a
@@ -32,10 +32,10 @@ pub fn small_trees()
         → (look 2 blocks image nothing_met root).faults ≡ fault_at leaf.id Unmarked ∷ [] }
 {}
 
-/// Each cell that a walk has is what its block says at the level and for the keys where it is named, and stands by
-/// itself as a cell of a tree does, not above the root's level. No block is
-/// reached twice, and where there is no fault each cell's block is one that a volume may use and does
-/// (docs/check.md).
+/// Each cell that a walk has is what its block says at the level and for the keys where it is named. It stands by
+/// itself as a cell of a tree does, not above the root's level, and is the root's or one that a cell of the walk
+/// names. No block is reached twice, and where there is no fault each cell's block is one that a volume may use and
+/// does (docs/check.md).
 pub fn cells_are_read()
     ensures cells { (s : Super40) (image : Image) (i : ℕ) (c : Node Value) → Contains (walk_of s image).cells (i, c)
         → IsCellOf s.block_count (block_at image i) c }
@@ -43,6 +43,8 @@ pub fn cells_are_read()
         → IsLawfulSuper n s → Contains (walk_of s image).cells (i, c) → IsNode c }
     ensures levels { (s : Super40) (image : Image) (i : ℕ) (c : Node Value) → Contains (walk_of s image).cells (i, c)
         → c.level ≤ s.tree_height }
+    ensures named { (s : Super40) (image : Image) (i : ℕ) (c : Node Value) → Contains (walk_of s image).cells (i, c)
+        → (n : Name) × IsNamedIn (root_name_of s) (walk_of s image) n × (i ≡ n.id) × (c ≡ cell_at image n) }
     ensures once { (s : Super40) (image : Image) → AreDifferent (walk_of s image).reached }
     ensures places { (n : ℕ) (s : Super40) (image : Image) (i : ℕ) (c : Node Value) → IsLawfulSuper n s
         → (walk_of s image).faults ≡ [] → Contains (walk_of s image).cells (i, c)
