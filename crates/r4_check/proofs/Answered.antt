@@ -1,6 +1,6 @@
 -- What a check of a tree answers.
-use Rattle.std.proofs.Common.{◌≡◌, ℕ, ◌<◌, ◌≤◌, ◌⊎◌, List, [], ◌++◌, refl, sym, ap, subst, ◌∙◌, arith}
-use Rattle.std.specs.Prelude.{None, Some, Result, Ok, Err, IfErr, IfOk, OnErr, OnOk}
+use Rattle.std.proofs.Common.{◌≡◌, ℕ, ◌≤◌, List, [], ◌++◌, refl, sym, ap, subst, ◌∙◌, arith}
+use Rattle.std.specs.Prelude.{None, Some, Result, Ok, Err}
 use Rattle.std.specs.Result.{IsErrAnd}
 use Rattle.std.proofs.lemmas.List.{append-nil}
 use Rattle.r4_base.proofs.Logs.{not_refused}
@@ -23,12 +23,12 @@ use Rattle.r4_open.specs.declared.opened.Unopened.TheVariants.{Failed, Layout, M
 use Rattle.r4_list.specs.Lists.{IsListFault, IsOpened, IsUnrefused, log_fault_of, open_fault_of}
 use Rattle.r4_list.specs.Printing.{Prints}
 use Rattle.r4_list.specs.declared.fault.ListFault.{ListFault}
-use Rattle.r4_list.specs.declared.fault.ListFault.TheVariants.{Device as NoDevice, Size, Sink as NoSink, Memory as NoMemory}
+use Rattle.r4_list.specs.declared.fault.ListFault.TheVariants.{Device as NoDevice}
 use Rattle.r4_list.proofs.Listings.{image_refused, log_answer, open_answer}
 use Rattle.r4_list.proofs.Stages.{prints_same}
 use Rattle.r4_check.specs.Faults.{fault_lines}
 use Rattle.r4_check.specs.Looking.{IsStopCause, IsTally, Steps}
-use Rattle.r4_check.specs.Tree.{ChecksTree, IsNoNode, IsVerdict, PrintsLines, PrintsWalk, fault_of_stop}
+use Rattle.r4_check.specs.Tree.{ChecksTree, IsNoNode, PrintsWalk, fault_of_stop}
 use Rattle.r4_check.specs.Walk.{Walk, nothing_met, walk_of}
 use Rattle.r4_check.specs.declared.stop.Stop.{Stop}
 use Rattle.r4_check.specs.declared.stop.Stop.TheVariants.{Device, Sink, Memory}

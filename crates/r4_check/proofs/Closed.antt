@@ -1,5 +1,5 @@
 -- Where a walk is whole, each name that a cell has is one of its cells.
-use Rattle.std.proofs.Common.{◌≡◌, ◌⊎◌, inl, inr, ℕ, zero, suc, ◌+◌, ◌-◌, ◌*◌, ◌<◌, ◌≤◌, Bool, true, false, List, [], ◌∷◌, ◌++◌, refl, sym, ap, subst, ◌∙◌, arith}
+use Rattle.std.proofs.Common.{◌≡◌, ◌⊎◌, inl, inr, ℕ, zero, suc, ◌+◌, ◌-◌, ◌*◌, ◌≤◌, Bool, true, false, List, [], ◌∷◌, refl, sym, ap, subst, arith}
 use Rattle.std.specs.Prelude.{Option, Some, None, Contains, fold, if◌then◌else◌}
 use Rattle.std.proofs.lemmas.List.Elements.{Contains-append_cases}
 use Rattle.r4_base.specs.Cell.{block_names, cell_of, is_extent, is_pointer, item_names, names_in, next_key, pointer_names, run_names}
@@ -11,8 +11,7 @@ use Rattle.r4_base.specs.Node.{Item, items_of}
 use Rattle.r4_base.specs.Tree.{Name, Node}
 use Rattle.r4_base.specs.Value.{Value}
 use Rattle.r4_base.specs.declared.items.Unit.{Unit as ExtentUnit}
-use Rattle.r4_base.specs.declared.items.CellFault.{CellFault}
-use Rattle.r4_check.specs.Walk.{HasCell, Walk, cell_at, is_reached, look, meet, names_below, refusal_at, with_cell, with_fault, with_gap, with_reached, wrong_with}
+use Rattle.r4_check.specs.Walk.{HasCell, Walk, cell_at, is_reached, look, meet, names_below, refusal_at}
 use Rattle.r4_check.proofs.Kept.{look_keeps_with, meet_by, one_of}
 use Rattle.r4_check.proofs.Meets.{below_accepted}
 use Rattle.r4_check.proofs.Nodes.{of_level}

@@ -1,12 +1,12 @@
 -- What the first items of a node name, and the first units of an extent.
-use Rattle.std.proofs.Common.{◌≡◌, ◌≢◌, ℕ, zero, suc, ◌+◌, ◌-◌, ◌*◌, ◌^◌, ◌<◌, ◌≤◌, Bool, true, false, not, ◌&&◌, ◌||◌, List, [], ◌∷◌, ◌++◌, length, drop, refl, sym, ap, subst, ◌∙◌, arith}
-use Rattle.std.specs.Prelude.{Option, Some, None, slice_get, ◌==◌, nat_lt, nat_le, if◌then◌else◌}
+use Rattle.std.proofs.Common.{◌≡◌, ◌≢◌, ℕ, zero, suc, ◌+◌, ◌-◌, ◌*◌, ◌^◌, ◌<◌, ◌≤◌, Bool, true, false, not, ◌&&◌, List, [], ◌∷◌, ◌++◌, length, drop, refl, sym, ap, subst, ◌∙◌, arith}
+use Rattle.std.specs.Prelude.{Option, Some, None, slice_get, ◌==◌, nat_lt, if◌then◌else◌}
 use Rattle.std.specs.Option.{option_map}
 use Rattle.std.proofs.lemmas.Bool.{eq-eqb, ltb-true}
 use Rattle.std.proofs.lemmas.Bool.Decides.{nat_tests}
 use Rattle.std.proofs.lemmas.List.{append-nil, append_assoc}
 use Rattle.r4_base.specs.Bitmap.{is_fixed}
-use Rattle.r4_base.specs.Cell.{block_names, cell_fault, cell_of, is_extent, item_body_fault, item_names, items_in_fault, names_block, names_in, next_key, run_names}
+use Rattle.r4_base.specs.Cell.{block_names, cell_fault, cell_of, is_extent, item_body_fault, item_names, names_block, names_in, next_key, run_names}
 use Rattle.r4_base.specs.Extents.{AreLawfulUnits, IsLawfulUnit, body_fault, pointer_of, units_of}
 use Rattle.r4_base.specs.Key.{rank}
 use Rattle.r4_base.specs.Node.{Item, items_of}
@@ -25,7 +25,7 @@ use Rattle.r4_base.specs.Image.{Image}
 use Rattle.r4_outside.specs.Sink.{SinkState}
 use Rattle.std.specs.Prelude.{Result, Ok}
 use Rattle.r4_check.specs.Looking.{Steps}
-use Rattle.r4_check.specs.Walk.{Walk, look_at}
+use Rattle.r4_check.specs.Walk.{look_at}
 use Rattle.r4_check.specs.declared.stop.Stop.{Stop}
 use Rattle.r4_check.specs.declared.tally.Tally.{Tally}
 use Rattle.r4_check.proofs.Steps.{steps_as, steps_then}

@@ -1,12 +1,11 @@
 -- What becomes of a walk at one name: its block was reached before, or it is accepted, or refused.
-use Rattle.std.proofs.Common.{◌≡◌, inl, inr, ℕ, zero, suc, ◌+◌, ◌*◌, ◌/◌, ◌%◌, ◌<◌, ◌≤◌, Bool, true, false, List, [], ◌∷◌, ◌++◌, refl, sym, ap, subst, ◌∙◌, arith}
-use Rattle.std.specs.Prelude.{Option, Some, None, Result, Ok, not, length, if◌then◌else◌}
+use Rattle.std.proofs.Common.{◌≡◌, ℕ, zero, suc, ◌+◌, ◌/◌, ◌%◌, ◌<◌, Bool, true, false, List, [], refl, sym, ap, subst, ◌∙◌, arith}
+use Rattle.std.specs.Prelude.{Option, Some, None, Result, not, if◌then◌else◌}
 use Rattle.std.specs.Option.{is_none}
-use Rattle.r4_base.specs.Bitmap.{bitmap_count, is_marked, is_used}
+use Rattle.r4_base.specs.Bitmap.{is_marked, is_used}
 use Rattle.r4_base.specs.Cell.{cell_fault, cell_of}
 use Rattle.r4_base.specs.Image.{Image}
-use Rattle.r4_base.specs.Tree.{Name, Node}
-use Rattle.r4_base.specs.Value.{Value}
+use Rattle.r4_base.specs.Tree.{Name}
 use Rattle.r4_base.specs.declared.items.CellFault.{CellFault}
 use Rattle.r4_outside.specs.Sink.{SinkState}
 use Rattle.r4_space.specs.Bitmaps.{AreBitmapsOf, marks}

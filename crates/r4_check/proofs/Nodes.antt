@@ -1,6 +1,6 @@
 -- Each cell of a walk stands by itself as cells of trees do.
-use Rattle.std.proofs.Common.{◌≡◌, inl, inr, ℕ, zero, suc, ◌+◌, ◌*◌, ◌-◌, ◌<◌, ◌≤◌, Bool, true, false, List, [], ◌∷◌, ◌++◌, length, refl, sym, ap, subst, ◌∙◌, arith, lit<}
-use Rattle.std.specs.Prelude.{Option, Some, None, Contains, fold, if◌then◌else◌}
+use Rattle.std.proofs.Common.{◌≡◌, inl, inr, ℕ, zero, suc, ◌+◌, ◌*◌, ◌<◌, ◌≤◌, Bool, true, false, List, [], ◌∷◌, length, refl, sym, ap, subst, ◌∙◌, arith, lit<}
+use Rattle.std.specs.Prelude.{Option, Some, None, Contains, if◌then◌else◌}
 use Rattle.std.specs.Option.{is_none}
 use Rattle.std.proofs.lemmas.List.Elements.{Contains-append_cases}
 use Rattle.r4_base.specs.Cell.{block_names, cell_fault, cell_of, is_extent, is_pointer, item_names, names_in, next_key, pointer_names, run_names}
@@ -16,7 +16,7 @@ use Rattle.r4_base.specs.declared.items.Unit.{Unit as ExtentUnit}
 use Rattle.r4_base.specs.declared.superblock.Super40.{Super40}
 use Rattle.r4_cell.proofs.Nodes.{cell_node, data_node}
 use Rattle.r4_list.specs.Lists.{root_name_of}
-use Rattle.r4_check.specs.Walk.{Walk, cell_at, is_reached, look, meet, names_below, nothing_met, refusal_at, walk_of}
+use Rattle.r4_check.specs.Walk.{Walk, cell_at, is_reached, look, meet, names_below, refusal_at}
 use Rattle.r4_check.proofs.Kept.{look_keeps_with, meet_by, one_of}
 use Rattle.r4_check.proofs.Placed.{accepted_fits}
 

@@ -1,5 +1,5 @@
 -- Each cell of a walk but the root's is named by another.
-use Rattle.std.proofs.Common.{◌≡◌, ◌⊎◌, inl, inr, ℕ, zero, suc, ◌<◌, Bool, true, false, List, [], ◌∷◌, refl, sym, ap, subst, ◌∙◌, arith}
+use Rattle.std.proofs.Common.{◌≡◌, ◌⊎◌, inl, inr, ℕ, zero, suc, Bool, true, false, List, [], ◌∷◌, refl, subst, arith}
 use Rattle.std.specs.Prelude.{Option, Some, None, Contains, fold, if◌then◌else◌}
 use Rattle.std.specs.Option.{is_none}
 use Rattle.r4_base.specs.Image.{Image}

@@ -1,6 +1,6 @@
 -- What a walk looks at are blocks of the volume, and none of them is fixed.
-use Rattle.std.proofs.Common.{◌≡◌, ◌≢◌, ◌⊎◌, inl, inr, ℕ, zero, suc, ◌+◌, ◌*◌, ◌<◌, ◌≤◌, Bool, true, false, not, ◌&&◌, ◌||◌, List, [], ◌∷◌, ◌++◌, refl, sym, ap, subst, ◌∙◌, arith}
-use Rattle.std.specs.Prelude.{Option, Some, None, Contains, fold, nat_lt, ◌==◌, if◌then◌else◌}
+use Rattle.std.proofs.Common.{◌≡◌, inl, inr, ℕ, zero, suc, ◌+◌, ◌*◌, ◌<◌, ◌≤◌, Bool, true, false, not, ◌&&◌, ◌||◌, List, [], ◌∷◌, refl, sym, ap, subst, ◌∙◌, arith}
+use Rattle.std.specs.Prelude.{Option, Some, None, Contains, nat_lt, ◌==◌, if◌then◌else◌}
 use Rattle.std.specs.Option.{is_none}
 use Rattle.std.proofs.lemmas.Bool.{cases_eq, eq-eqb, ltb-true}
 use Rattle.std.proofs.lemmas.Bool.Decides.{nat_tests}
@@ -21,7 +21,7 @@ use Rattle.r4_cell.proofs.Items.{good_item}
 use Rattle.r4_cell.proofs.NodesAt.{node_at}
 use Rattle.r4_cell.specs.OnDisk.{AreBlocks}
 use Rattle.r4_twig.proofs.Faults.{body_lawful}
-use Rattle.r4_check.specs.Walk.{Walk, cell_at, is_reached, look, meet, names_below, refusal_at, with_cell, with_fault, with_gap, with_reached, wrong_with}
+use Rattle.r4_check.specs.Walk.{Walk, cell_at, is_reached, look, meet, names_below, refusal_at}
 use Rattle.r4_check.proofs.Items.{extent_body, extent_item, names_nothing}
 use Rattle.r4_check.proofs.Kept.{look_keeps_with, meet_by, one_of}
 

@@ -1,5 +1,5 @@
 -- The stat data of a node are its items of that kind.
-use Rattle.std.proofs.Common.{add-zero, get_or, ◌≡◌, ℕ, zero, suc, ◌+◌, ◌*◌, ◌<◌, ◌≤◌, Bool, true, false, cond, List, [], ◌∷◌, ◌++◌, map, refl, sym, ap, subst, ◌∙◌, arith}
+use Rattle.std.proofs.Common.{add-zero, get_or, ◌≡◌, ℕ, zero, suc, ◌+◌, ◌*◌, ◌≤◌, Bool, true, false, cond, List, [], ◌∷◌, ◌++◌, map, refl, sym, ap, ◌∙◌, arith}
 use Rattle.std.specs.Prelude.{Some, count_by, if◌then◌else◌, slice_get, take}
 use Rattle.std.proofs.lemmas.List.Sums.{count_by_more_no, count_by_more_yes, sum_by-append, sum_by-cons}
 use Rattle.std.proofs.lemmas.Option.{same_Some, slice_get_within}
@@ -9,7 +9,7 @@ use Rattle.r4_base.specs.Extents.{is_hole, units_of}
 use Rattle.r4_base.specs.Key.{rank}
 use Rattle.r4_base.specs.Node.{Item, items_of}
 use Rattle.r4_base.specs.Stat.{attr_of}
-use Rattle.r4_base.specs.Value.{Value, Stat, Entry, Byte}
+use Rattle.r4_base.specs.Value.{Value, Stat, Byte}
 use Rattle.r4_base.specs.Volume.{is_stat_value}
 use Rattle.r4_base.specs.declared.items.Unit.{Unit as ExtentUnit}
 use Rattle.r4_check.specs.Walk.{stats_in}

@@ -1,27 +1,26 @@
 -- What is counted of a walk, and what is printed of it, as one thing more is met.
-use Rattle.std.proofs.Common.{◌≡◌, ℕ, zero, suc, ◌+◌, ◌*◌, ◌<◌, ◌≤◌, ◌^◌, Bool, true, false, List, [], ◌∷◌, ◌++◌, refl, sym, ap, subst, ◌∙◌, arith}
-use Rattle.std.specs.Prelude.{Option, Some, None, Result, Ok, Err, length, min, not, ◌||◌, ◌==◌, sum_by}
+use Rattle.std.proofs.Common.{◌≡◌, ℕ, ◌+◌, Bool, true, false, List, [], ◌∷◌, ◌++◌, sym, ap, subst, ◌∙◌, arith}
+use Rattle.std.specs.Prelude.{Option, Some, None, Ok, Err, length, ◌||◌, ◌==◌}
 use Rattle.std.proofs.Common.{inl, inr}
 use Rattle.std.proofs.lemmas.Bool.{cases_eq, eq-eqb}
 use Rattle.std.proofs.lemmas.Bool.Decides.{nat_tests}
 use Rattle.std.proofs.lemmas.List.{append-nil, append_assoc, length-append}
 use Rattle.std.proofs.lemmas.List.Sums.{sum_by-cons}
 use Rattle.r4_outside.specs.Device.{next}
-use Rattle.r4_outside.specs.Sink.{SinkState, Appends, AppendsPart}
+use Rattle.r4_outside.specs.Sink.{SinkState, Appends}
 use Rattle.r4_base.specs.Tree.{Node}
 use Rattle.r4_base.specs.Value.{Value}
 use Rattle.r4_space.specs.Bitmaps.{marks}
-use Rattle.r4_outside.specs.declared.device.Failed.{Failed}
 use Rattle.r4_list.proofs.Stages.{appended}
 use Rattle.r4_check.specs.Blocks.{MarksOneMore}
 use Rattle.r4_check.specs.Faults.{fault_at, fault_line, fault_lines}
 use Rattle.r4_check.specs.Looking.{IsTally, Steps, Tells, TellsOne, counted}
-use Rattle.r4_check.specs.Walk.{Walk, faults_at, is_among, nothing_met, objects_met, stats_in, with_cell, with_fault, with_gap, with_reached}
+use Rattle.r4_check.specs.Walk.{Walk, objects_met, stats_in, with_cell, with_fault, with_gap, with_reached}
 use Rattle.r4_check.specs.declared.fault.Fault.{Fault}
 use Rattle.r4_check.specs.declared.fault.What.{What}
 use Rattle.r4_check.specs.declared.stop.Stop.TheVariants.{Sink}
 use Rattle.r4_check.specs.declared.tally.Tally.{Tally}
-use Rattle.r4_check.proofs.Steps.{lines_both, steps_noted, tells_noted}
+use Rattle.r4_check.proofs.Steps.{lines_both, steps_noted}
 
 pub tally_reached : (blocks b : ℕ) (w : Walk) (t u : Tally) → IsTally blocks w t → MarksOneMore blocks b t.reached.items u.reached.items → u.objects ≡ t.objects → u.faults ≡ t.faults → u.whole ≡ t.whole → IsTally blocks (with_reached b w) u
 tally_reached blocks b w t u h m o f l = record {

@@ -1,8 +1,7 @@
 -- What the steps of a walk have in common: none takes a fault away.
-use Rattle.std.proofs.Common.{◌≡◌, ℕ, zero, suc, ◌+◌, ◌-◌, ◌*◌, ◌≤◌, Bool, true, false, cond, List, [], ◌∷◌, ◌++◌, refl, sym, ap, subst, ◌∙◌, arith}
+use Rattle.std.proofs.Common.{◌≡◌, ℕ, zero, suc, ◌+◌, ◌-◌, ◌*◌, ◌≤◌, Bool, true, false, List, [], ◌∷◌, ◌++◌, refl, sym, ap, subst, ◌∙◌, arith}
 use Rattle.std.specs.Prelude.{Option, Some, None, fold, if◌then◌else◌}
 use Rattle.std.specs.Option.{is_none}
-use Rattle.std.proofs.lemmas.List.{append-nil, append_assoc}
 use Rattle.std.proofs.lemmas.List.Sums.{fold-append}
 use Rattle.r4_base.specs.Bitmap.{is_marked}
 use Rattle.r4_base.specs.Cell.{cell_of, run_names}
@@ -18,7 +17,7 @@ use Rattle.r4_outside.specs.Sink.{SinkState}
 use Rattle.r4_check.specs.Looking.{Steps}
 use Rattle.r4_check.specs.declared.stop.Stop.{Stop}
 use Rattle.r4_check.specs.declared.tally.Tally.{Tally}
-use Rattle.std.specs.Prelude.{Result, Ok, Err}
+use Rattle.std.specs.Prelude.{Result, Ok}
 
 first_extends : (b : ℕ) (marked : Bool) (f : Option CellFault) (c : Node Value) (w : Walk) → Extends w (met_first b marked f c w)
 first_extends b marked None c w = record { more = faults_at b (wrong_with marked None); is = refl }

@@ -1,6 +1,5 @@
 -- Sets of blocks, kept as bitmaps.
 use Rattle.std.specs.Prelude.{◌≡◌, ℕ, ◌<◌, List, length, ◌==◌, ◌||◌}
-use Rattle.r4_base.specs.Bitmap.{bitmap_count}
 use Rattle.r4_space.specs.Bitmaps.{marks}
 
 -- The bitmaps mark the same blocks as before, and one more.

@@ -1,5 +1,5 @@
 -- How the calls of a walk go: what each of them reads, prints and counts (docs/check.md).
-use Rattle.std.specs.Prelude.{◌≡◌, ℕ, ◌+◌, ◌-◌, ◌^◌, ◌<◌, min, List, [], ◌++◌, drop, length, slice_get, false, Bool, Option, Some, None, Result, Ok, Err, IfOk, IfErr, OnOk, OnErr}
+use Rattle.std.specs.Prelude.{◌≡◌, ℕ, ◌+◌, ◌-◌, ◌^◌, ◌<◌, min, List, ◌++◌, drop, length, slice_get, false, Some, None, Result, IfOk, IfErr, OnOk, OnErr}
 use Rattle.std.specs.Arc.{arc_value}
 use Rattle.r4_base.specs.Bitmap.{bitmap_count}
 use Rattle.r4_base.specs.Cell.{cell_fault, item_names, next_key}

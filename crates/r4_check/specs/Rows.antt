@@ -1,5 +1,5 @@
 -- Small trees, as examples of a walk (docs/check.md).
-use Rattle.std.specs.Prelude.{◌≡◌, ◌≢◌, ℕ, List, [], ◌∷◌, None, true}
+use Rattle.std.specs.Prelude.{◌≡◌, ◌≢◌, ℕ, [], ◌∷◌, None, true}
 use Rattle.r4_base.specs.Bitmap.{is_marked}
 use Rattle.r4_base.specs.Image.{Image}
 use Rattle.r4_base.specs.Tree.{Name}

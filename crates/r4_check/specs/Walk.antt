@@ -1,6 +1,6 @@
 -- The faults of a tree, in the order in which a walk from the left meets them, a node before its children (docs/check.md).
-use Rattle.std.specs.Prelude.{◌≡◌, ◌⊎◌, ℕ, zero, suc, List, [], ◌∷◌, ◌++◌, Bool, true, false, not, ◌&&◌, ◌||◌, ◌==◌, Option, Some, None, if◌then◌else◌, Contains, count_by, fold, sum_by}
-use Rattle.std.specs.Option.{option_map, is_none}
+use Rattle.std.specs.Prelude.{◌≡◌, ◌⊎◌, ℕ, zero, suc, List, [], ◌∷◌, ◌++◌, Bool, true, false, ◌||◌, ◌==◌, Option, Some, None, if◌then◌else◌, Contains, count_by, fold, sum_by}
+use Rattle.std.specs.Option.{is_none}
 use Rattle.r4_base.specs.Bitmap.{is_marked}
 use Rattle.r4_base.specs.Cell.{cell_fault, cell_of}
 use Rattle.r4_base.specs.Image.{Image, block_at}

@@ -1,5 +1,4 @@
-use Rattle.std.proofs.Common.{◌∙◌, ◌%◌, ◌/◌, ℕ, List, sym, ap, arith}
-use Rattle.r4_base.specs.Bitmap.{is_used}
+use Rattle.std.proofs.Common.{◌∙◌, ◌%◌, ◌/◌, arith}
 use Rattle.r4_check.proofs.BlockSets.{element, read_bit}
 use Rattle.r4_check.proofs.blocks.has_block.Goals as goal
 

@@ -1,4 +1,4 @@
-use Rattle.std.proofs.Common.{arith, ap, sym, ◌∙◌}
+use Rattle.std.proofs.Common.{arith}
 use Rattle.r4_check.proofs.BlockSets.{none_marked}
 use Rattle.r4_check.proofs.blocks.no_blocks.Goals as goal
 

@@ -1,4 +1,4 @@
-use Rattle.std.proofs.Common.{◌≡◌, ◌++◌, ◌∙◌, ℕ, List, sym, ap, subst, refl, decimal, codes}
+use Rattle.std.proofs.Common.{◌≡◌, ◌++◌, ◌∙◌, ℕ, List, subst, decimal, codes}
 use Rattle.std.specs.Prelude.{Result, Ok, Err, IsErr}
 use Rattle.r4_outside.specs.Sink.{SinkState, Appends}
 use Rattle.r4_outside.proofs.Texts.{appends_both, appends_stopped}

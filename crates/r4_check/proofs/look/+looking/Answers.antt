@@ -1,14 +1,11 @@
-use Rattle.std.proofs.Common.{◌≡◌, ◌∙◌, ◌+◌, ◌-◌, ◌^◌, ℕ, List, [], ◌∷◌, true, false, ap, sym, refl, arith, drop}
-use Rattle.std.specs.Prelude.{Some, length, slice_get}
-use Rattle.std.specs.Arc.{arc_value}
+use Rattle.std.proofs.Common.{◌≡◌, ◌∙◌, ◌+◌, ◌-◌, ◌^◌, ℕ, List, true, false, ap, sym, arith, drop}
+use Rattle.std.specs.Prelude.{length, slice_get}
 use Rattle.r4_base.specs.Cell.{block_names, item_names, names_in, next_key}
-use Rattle.r4_base.specs.Image.{Image}
 use Rattle.r4_base.specs.Key.{rank}
 use Rattle.r4_base.specs.Node.{Item, items_of}
-use Rattle.r4_base.specs.Tree.{Name, Node}
 use Rattle.r4_cell.proofs.Faults.{body_short}
 use Rattle.r4_cell.specs.Seen.{CellSeen, node_of}
-use Rattle.r4_node40.specs.View.{item_shown, view_items}
+use Rattle.r4_node40.specs.View.{item_shown}
 use Rattle.r4_search.proofs.Places.{item_in}
 use Rattle.r4_twig.proofs.Faults.{body_lawful}
 use Rattle.r4_twig.specs.View.{view_units}

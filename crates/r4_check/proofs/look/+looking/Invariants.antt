@@ -1,4 +1,4 @@
-use Rattle.std.proofs.Common.{◌≡◌, ◌+◌, ◌-◌, ◌*◌, ℕ, Ok}
+use Rattle.std.proofs.Common.{◌+◌, ◌-◌, ◌*◌, Ok}
 use Rattle.r4_base.specs.Image.{Image}
 use Rattle.r4_base.specs.Key.{rank}
 use Rattle.r4_base.specs.Node.{items_of}

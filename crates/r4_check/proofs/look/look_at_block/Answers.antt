@@ -1,6 +1,5 @@
-use Rattle.std.proofs.Common.{◌∙◌, ◌≡◌, ◌+◌, ℕ, refl, sym, arith, None}
-use Rattle.r4_check.specs.Looking.{counted}
-use Rattle.r4_check.proofs.Meets.{Reaches, data_sound, data_stats, is_no, is_yes, marked_is, none_more, steps_accepted, steps_again}
+use Rattle.std.proofs.Common.{◌∙◌, refl, sym}
+use Rattle.r4_check.proofs.Meets.{data_sound, data_stats, is_no, is_yes, marked_is, none_more, steps_accepted, steps_again}
 use Rattle.r4_check.proofs.look.look_at_block.Goals as goal
 
 pub returns-then-not-reach-clause-steps : goal.returns-then-not-reach-clause-steps

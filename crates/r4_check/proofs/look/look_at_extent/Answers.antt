@@ -1,4 +1,4 @@
-use Rattle.std.proofs.Common.{drop, ◌≡◌, ◌+◌, ℕ, List, [], ap, sym, refl, arith}
+use Rattle.std.proofs.Common.{drop, ◌+◌, ap, sym, arith}
 use Rattle.r4_base.specs.Cell.{block_names}
 use Rattle.r4_twig.specs.View.{view_units}
 use Rattle.r4_check.specs.Walk.{look_at}

@@ -1,7 +1,4 @@
-use Rattle.std.proofs.Common.{◌≡◌, ℕ, List, [], Bool, ap, sym, refl, arith}
-use Rattle.std.specs.Prelude.{◌==◌, if◌then◌else◌}
-use Rattle.r4_base.specs.Cell.{run_names}
-use Rattle.r4_base.specs.Tree.{Name}
+use Rattle.std.proofs.Common.{ap}
 use Rattle.r4_check.specs.Units.{unit_names}
 use Rattle.r4_check.specs.Walk.{look_at}
 use Rattle.r4_check.proofs.Items.{unit_run}

@@ -1,10 +1,10 @@
-use Rattle.std.proofs.Common.{◌∙◌, ◌≡◌, ℕ, refl, sym, ap}
+use Rattle.std.proofs.Common.{◌∙◌, refl, sym, ap}
 use Rattle.r4_base.specs.Tree.{Node}
 use Rattle.r4_base.specs.Value.{Value}
 use Rattle.r4_check.specs.Looking.{name_of}
 use Rattle.r4_cell.specs.Seen.{CellSeen, node_of}
 use Rattle.r4_check.specs.Walk.{meet, stats_in, with_reached}
-use Rattle.r4_check.proofs.Meets.{Reaches, none_more, below_accepted, below_again, below_refused, is_no, is_yes, read_cell_as, read_refused_as, marked_is, reached_by, steps_accepted, steps_again, steps_refused}
+use Rattle.r4_check.proofs.Meets.{Reaches, below_accepted, below_again, below_refused, is_no, is_yes, read_cell_as, read_refused_as, marked_is, reached_by, steps_accepted, steps_again, steps_refused}
 use Rattle.r4_check.proofs.Steps.{extends_same, steps_ended, steps_none, steps_ok}
 use Rattle.r4_check.proofs.Tallies.{tally_gap}
 use Rattle.r4_check.proofs.Walks.{meet_extends}

@@ -3,7 +3,7 @@ use Rattle.std.specs.Prelude.{slice_get}
 use Rattle.r4_base.specs.Extents.{pointer_of}
 use Rattle.r4_base.specs.Cell.{next_key}
 use Rattle.r4_base.specs.Key.{rank}
-use Rattle.r4_base.specs.Node.{Item, items_of}
+use Rattle.r4_base.specs.Node.{Item}
 use Rattle.r4_base.specs.declared.key.Key.{Key}
 use Rattle.r4_node40.specs.View.{item_shown, view_items}
 use Rattle.r4_check.proofs.Items.{body_on, named_item, names_nothing, pointer_high, pointer_there, pointer_within, shown_is}

@@ -1,4 +1,3 @@
-use Rattle.std.proofs.Common.{Ok, Err}
 use Rattle.r4_check.specs.Faults.{fault_at, fault_line}
 use Rattle.r4_check.specs.Walk.{with_fault}
 use Rattle.r4_check.specs.declared.stop.Stop.TheVariants.{Sink}

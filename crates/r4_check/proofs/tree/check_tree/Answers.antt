@@ -1,16 +1,6 @@
-use Rattle.std.proofs.Common.{◌≡◌, ◌∙◌, ℕ, refl, sym, ap, subst, arith, Ok}
-use Rattle.r4_base.specs.Chain.{Settles}
-use Rattle.r4_base.specs.Image.{Image, block_at}
-use Rattle.r4_base.specs.Layout.{super_of}
-use Rattle.r4_base.specs.Volume.{HasLayout}
-use Rattle.r4_base.specs.declared.superblock.Super40.{Super40}
+use Rattle.std.proofs.Common.{◌∙◌, sym}
 use Rattle.r4_outside.proofs.Moments.{goes_both}
-use Rattle.r4_outside.specs.Device.{TellsReads}
 use Rattle.r4_list.proofs.Listings.{image_opened, same_super, settled_by}
-use Rattle.r4_check.specs.Looking.{IsGround}
-use Rattle.r4_check.specs.Tree.{PrintsWalk}
-use Rattle.r4_check.specs.Walk.{walk_of}
-use Rattle.r4_check.specs.declared.settled.Settled.{Settled}
 use Rattle.r4_check.proofs.Answered.{log_checks, open_checks, same_walk, stop_checks, walk_checks}
 use Rattle.r4_check.proofs.tree.check_tree.Goals as goal
 
