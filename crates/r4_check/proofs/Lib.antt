@@ -1,0 +1,13 @@
+pub mod Steps
+pub mod Walks
+pub mod Tallies
+pub mod Stats
+pub mod Items
+pub mod BlockSets
+pub mod Meets
+pub mod Answered
+pub mod Kept
+pub mod Placed
+pub mod Closed
+pub mod Nodes
+pub mod Parents

@@ -1,0 +1,18 @@
+//! The faults of an image, by name (docs/check.md).
+#![tactic(auto)]
+
+mod blocks;
+mod fault;
+mod laws;
+mod lines;
+mod look;
+mod reading;
+mod settled;
+mod stop;
+mod tally;
+mod tree;
+
+pub use fault::{Fault, What};
+pub use laws::{cells_are_read, small_trees, whole_walks_are_closed};
+pub use r4_list::ListFault;
+pub use tree::{TreeVerdict, check_tree};
