@@ -1,8 +1,8 @@
 -- What pairs have at the keys of an interval.
 use Rattle.std.proofs.Common.{◌≡◌, ◌⊎◌, inl, inr, ℕ, zero, suc, ◌+◌, ◌-◌, ◌<◌, ◌≤◌, Bool, true, false, cond, List, [], ◌∷◌, ◌++◌, length, take, drop, refl, sym, ap, ◌∙◌, arith}
-use Rattle.std.specs.Prelude.{min}
+use Rattle.std.specs.Prelude.{min, Contains}
 use Rattle.std.proofs.lemmas.Bool.Decides.{nat_tests}
-use Rattle.std.proofs.lemmas.List.Elements.{filter-append}
+use Rattle.std.proofs.lemmas.List.Elements.{Contains-append_right, filter-append}
 use Rattle.r4_base.specs.Cell.{bytes_from}
 use Rattle.r4_base.specs.Value.{Value, Byte}
 use Rattle.r4_content.specs.Edited.{Pairs, is_between}
@@ -117,3 +117,21 @@ bytes_in a b k (x ∷ xs) = elim (compare k b) [
         ∙ (ap (λ (n : ℕ). bytes_from (k + 0) (take n (x ∷ xs))) (sym all_more)
         ∙ (ap (λ (n : ℕ). bytes_from (k + n) (take (suc u - n) (drop n (x ∷ xs)))) (sym f)
         ∙ ap (λ (n : ℕ). bytes_from (k + min (length (x ∷ xs)) (a - k)) (take (n - min (length (x ∷ xs)) (a - k)) (drop (min (length (x ∷ xs)) (a - k)) (x ∷ xs)))) (sym t)))))
+
+-- ---- pairs beside an interval
+
+first_member : (e : ℕ × Value) (es : Pairs) → Contains (e ∷ es) e
+first_member e es = (zero, omega arith, refl)
+
+later_member : (e : ℕ × Value) (es : Pairs) (d : ℕ × Value) → Contains es d → Contains (e ∷ es) d
+later_member e es d at = Contains-append_right (e ∷ []) es d at
+
+pub pairs_high : (a b : ℕ) (es : Pairs) → ((k : ℕ) (v : Value) → Contains es (k, v) → b ≤ k) → pairs_in es a b ≡ []
+pairs_high a b [] h = refl
+pairs_high a b (e ∷ es) h =
+    first_out a b e es (is_high a b e.0 (h e.0 e.1 (first_member e es))) ∙ pairs_high a b es (λ k v at. h k v (later_member e es (k, v) at))
+
+pub pairs_low : (a b : ℕ) (es : Pairs) → ((k : ℕ) (v : Value) → Contains es (k, v) → k < a) → pairs_in es a b ≡ []
+pairs_low a b [] h = refl
+pairs_low a b (e ∷ es) h =
+    first_out a b e es (is_low a b e.0 (h e.0 e.1 (first_member e es))) ∙ pairs_low a b es (λ k v at. h k v (later_member e es (k, v) at))

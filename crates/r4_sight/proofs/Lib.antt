@@ -1,2 +1,7 @@
 pub mod Between
 pub mod Adding
+pub mod Twigs
+pub mod Holes
+pub mod Bodies
+pub mod Stretching
+pub mod Fetching

@@ -139,8 +139,8 @@ fn add_bytes(
     Ok(())
 }
 
-// Bytes, the first at a key, as a part of what was seen.
-fn run_of(alloc: Global, from: Key, bytes: &[u8]) -> Result<SeenPart, Memory>
+/// Bytes, the first at a key, as a part of what was seen.
+pub(crate) fn run_of(alloc: Global, from: Key, bytes: &[u8]) -> Result<SeenPart, Memory>
     ensures { IfOk result (λ part. part_pairs part ≡ byte_pairs (rank from) bytes.now) }
 {
     let bytes = Bytes::from_vec(alloc, Vec::from_slice(alloc, bytes)?)?;
