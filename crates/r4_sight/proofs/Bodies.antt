@@ -1,5 +1,5 @@
 -- Keys of one body: how far they are apart, and where they are not.
-use Rattle.std.proofs.Common.{◌≡◌, ◌⊎◌, inl, inr, ℕ, ◌+◌, ◌-◌, ◌*◌, ◌^◌, ◌<◌, ◌≤◌, true, ◌&&◌, refl, sym, subst, arith}
+use Rattle.std.proofs.Common.{◌≡◌, ◌⊎◌, inl, inr, ℕ, ◌+◌, ◌-◌, ◌*◌, ◌^◌, ◌<◌, ◌≤◌, true, ◌&&◌, refl, sym, ap, subst, ◌∙◌, arith}
 use Rattle.std.specs.Prelude.{◌==◌, slice_index}
 use Rattle.std.proofs.lemmas.Bool.{eq-eqb}
 use Rattle.std.proofs.lemmas.Bool.Decides.{nat_tests}
@@ -67,3 +67,12 @@ above_leaf level read some is not = elim (cases_lt level 2) [
   | inl lt ↦ absurd (not (omega (arith, some, lt, is)))
   | inr le ↦ le
 ]
+
+-- the lesser of two keys is one of them
+pub end_of : (x y z : Key) (hi : ℕ) → rank y ≡ hi → (z ≡ x) ⊎ (z ≡ y) → (rank z ≡ rank x) ⊎ (rank z ≡ hi)
+end_of x y z hi up (inl is) = inl (ap rank is)
+end_of x y z hi up (inr is) = inr (ap rank is ∙ up)
+
+pub end_at : (t z : Key) (to hi : ℕ) → rank t ≡ rank z → (rank z ≡ to) ⊎ (rank z ≡ hi) → (rank t ≡ to) ⊎ (rank t ≡ hi)
+end_at t z to hi same (inl is) = inl (same ∙ is)
+end_at t z to hi same (inr is) = inr (same ∙ is)

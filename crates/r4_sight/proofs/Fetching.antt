@@ -1,5 +1,5 @@
 -- What is known of a pool after a data block was asked for.
-use Rattle.std.proofs.Common.{◌≡◌, ◌≢◌, inl, inr, ℕ, ◌+◌, ◌<◌, ◌≤◌, true, List, [], ◌∷◌, ◌++◌, refl, sym, ap, subst, ◌∙◌, arith}
+use Rattle.std.proofs.Common.{◌≡◌, ◌≢◌, ◌⊎◌, inl, inr, ℕ, ◌+◌, ◌<◌, ◌≤◌, true, List, [], ◌∷◌, ◌++◌, refl, sym, ap, subst, ◌∙◌, arith}
 use Rattle.std.specs.Prelude.{Option, Some, None, Result, Ok, Err, IfOk, IfErr, All, Contains}
 use Rattle.std.proofs.lemmas.List.Elements.{All-contains, Contains-push}
 use Rattle.std.proofs.lemmas.Option.{same_Some}
@@ -16,7 +16,7 @@ use Rattle.r4_search.specs.declared.pool.FetchFault.{FetchFault}
 use Rattle.r4_search.specs.declared.pool.FetchFault.TheVariants.{Read, Damaged, Memory}
 use Rattle.r4_search.proofs.Walks.{goes_both, goes_same, met_on}
 use Rattle.r4_sight.specs.Parts.{AreFull, all_pairs}
-use Rattle.r4_sight.specs.Stretches.{IsBlockOf, IsItOrOf, IsStretch, IsWaysEnd, Looks, MeetsBlock, StopsAt}
+use Rattle.r4_sight.specs.Stretches.{IsBlockOf, IsBorder, IsItOrOf, IsStretch, IsWaysEnd, Looks, MeetsBlock, StopsAt}
 use Rattle.r4_sight.specs.declared.stretch.DataBlock.{DataBlock}
 use Rattle.r4_sight.specs.declared.stretch.Stretch.{Stretch}
 use Rattle.r4_sight.proofs.Stretching.{data_stretch}
@@ -87,8 +87,8 @@ looks_only root key old new way = record { mid = new; way = way; block = λ i c 
 
 pub block_stretch : (old new : PoolState) (here x : CellSeen) (n : Name) (found : DataBlock) (hi from to : ℕ) (s : Stretch) → n ≡ asked_name found hi → Goes old new → IsAnswer n old x new
     → (old.keeps n.level ≡ true → new.met n.id ≡ Some x) → from < rank s.to → rank s.to ≤ to → rank found.lo ≤ from → rank s.to ≤ hi
-    → all_pairs s.parts.items ≡ pairs_in (bytes_from (rank found.lo) x.block) from (rank s.to) → AreFull s.parts.items → IsStretch (IsItOrOf old here) new from to s
-block_stretch old new here x n found hi from to s name g a met onward within low high pairs full =
+    → all_pairs s.parts.items ≡ pairs_in (bytes_from (rank found.lo) x.block) from (rank s.to) → AreFull s.parts.items → (rank s.to ≡ to) ⊎ (rank s.to ≡ hi) → IsStretch (IsItOrOf old here) new from to s
+block_stretch old new here x n found hi from to s name g a met onward within low high pairs full far =
     let is = a.named in
     let level : x.level ≡ 0 = is.level ∙ ap (λ (m : Name). m.level) name in
     let lo : rank x.lo ≡ rank found.lo = is.lo ∙ ap (λ (m : Name). m.lo) name in
@@ -100,7 +100,12 @@ block_stretch old new here x n found hi from to s name g a met onward within low
       met = λ keeps. ap new.met is.id ∙ met (ap old.keeps (sym is.level) ∙ (sym (g.keeps x.level) ∙ keeps));
       of = data_stretch x from to s level onward within (omega (arith, lo, low)) (omega (arith, up, high))
           (pairs ∙ ap (λ (k : ℕ). pairs_in (bytes_from k x.block) from (rank s.to)) (sym lo)) full;
+      far = by up far;
     }
+  where
+    by : rank x.hi ≡ hi → (rank s.to ≡ to) ⊎ (rank s.to ≡ hi) → (rank s.to ≡ to) ⊎ IsBorder x (rank s.to)
+    by up (inl is) = inl is
+    by up (inr is) = inr (inl (is ∙ sym up))
 
 -- ---- the cell at which the way ends
 
@@ -122,6 +127,7 @@ stretch_before old mid new here from to s g is h = record {
   stands = h.stands;
   met = h.met;
   of = h.of;
+  far = h.far;
 }
   where
     by : IsItOrOf mid here h.cell → IsOf old h.cell

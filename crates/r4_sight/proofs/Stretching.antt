@@ -1,8 +1,8 @@
 -- What stands from a key on in the cell at which the way ends.
-use Rattle.std.proofs.Common.{◌≡◌, ◌≢◌, inl, inr, ℕ, zero, suc, ◌+◌, ◌*◌, ◌^◌, ◌<◌, ◌≤◌, true, false, not, ◌||◌, List, [], ◌∷◌, length, drop, refl, sym, ap, subst, ◌∙◌, arith}
+use Rattle.std.proofs.Common.{◌≡◌, ◌≢◌, ◌⊎◌, inl, inr, ℕ, zero, suc, ◌+◌, ◌*◌, ◌^◌, ◌<◌, ◌≤◌, true, false, not, ◌||◌, List, [], ◌∷◌, length, drop, refl, sym, ap, subst, ◌∙◌, arith}
 use Rattle.std.specs.Prelude.{Some, None, Contains, replicate, ◌==◌, nat_le, slice_get, if◌then◌else◌}
 use Rattle.std.proofs.lemmas.Bool.{and_parts, leb-true}
-use Rattle.std.proofs.lemmas.List.Elements.{All-nil}
+use Rattle.std.proofs.lemmas.List.Elements.{All-nil, Contains-append_right}
 use Rattle.r4_base.specs.Cell.{block_names, bytes_from, cell_of, hole_bytes, item_body_fault, item_end, items_in_fault, next_key, offsets_fit, range_is_good, spans_in}
 use Rattle.r4_base.specs.Extents.{block_of, blocks_in, units_of}
 use Rattle.r4_base.specs.Key.{offset_of, rank}
@@ -24,11 +24,12 @@ use Rattle.r4_search.specs.Place.{IsPlace}
 use Rattle.r4_search.specs.Pool.{StandsInMemory}
 use Rattle.r4_search.proofs.Places.{IsBranch, branch, extent_span, place_key, spans_at}
 use Rattle.r4_sight.specs.Parts.{AreFull, all_pairs}
-use Rattle.r4_sight.specs.Stretches.{IsStretchOf}
+use Rattle.r4_sight.specs.Stretches.{IsBorder, IsStretchOf}
 use Rattle.r4_sight.specs.declared.stretch.Stretch.{Stretch}
 use Rattle.r4_sight.proofs.Holes.{hole_in, hole_nameless, units_low}
 use Rattle.r4_sight.proofs.Twigs.{IsOwn, extent_end, extent_names, extent_units, own_item, span_extent}
 use Rattle.r4_units.proofs.ExtentUnits.{names_of}
+use Rattle.r4_units.proofs.ItemUnits.{at_place}
 use Rattle.r4_units.proofs.LeafUnits.{node_units}
 
 -- ---- a cell and its node
@@ -213,3 +214,28 @@ pub extent_at : (c : CellSeen) (items : List Item) → items ≡ items_of c.bloc
 extent_at c items are hi hi_is whole two stands i it is key p ends =
     let low = place_key (rank hi) key i items it (subst (λ (xs : List Item). slice_get xs i ≡ Some it) (sym are) is) p in
     is_extent_at c whole two stands i it is key low (place_below c items are hi hi_is key i p) ends
+
+-- ---- how far it goes
+
+pub leaf_far : (c : CellSeen) (k to : ℕ) → (k ≡ to) ⊎ (k ≡ rank c.hi) → (k ≡ to) ⊎ IsBorder c k
+leaf_far c k to (inl is) = inl is
+leaf_far c k to (inr is) = inr (inl is)
+
+next_border : (c : CellSeen) (items : List Item) → 2 ≤ c.level → ((x : Item) → Contains items x → Contains (items_of c.block) x) → IsBorder c (next_key (rank c.hi) items)
+next_border c [] two all = inl refl
+next_border c (x ∷ items) two all =
+    let e : rank x.key ≡ rank x.key + 4096 * 0 = omega arith in
+    inr (two, x, all x (zero, omega arith, refl), 0, e)
+
+dropped : (n : ℕ) (items : List Item) (x : Item) → Contains (drop n items) x → Contains items x
+dropped zero items x at = at
+dropped (suc n) [] x at = at
+dropped (suc n) (y ∷ items) x at = Contains-append_right (y ∷ []) items x (dropped n items x at)
+
+pub next_far : (c : CellSeen) → 2 ≤ c.level → (i to k : ℕ) → (k ≡ to) ⊎ (k ≡ next_key (rank c.hi) (drop (i + 1) (items_of c.block))) → (k ≡ to) ⊎ IsBorder c k
+next_far c two i to k (inl is) = inl is
+next_far c two i to k (inr is) = inr (subst (IsBorder c) (sym is) (next_border c (drop (i + 1) (items_of c.block)) two (dropped (i + 1) (items_of c.block))))
+
+pub hole_far : (c : CellSeen) → 2 ≤ c.level → (i : ℕ) (it : Item) → slice_get (items_of c.block) i ≡ Some it → (block lo to k : ℕ) → lo ≡ rank it.key + 4096 * block → (k ≡ to) ⊎ (k ≡ lo + 4096) → (k ≡ to) ⊎ IsBorder c k
+hole_far c two i it at block lo to k lo_is (inl is) = inl is
+hole_far c two i it at block lo to k lo_is (inr is) = inr (inr (two, it, at_place (items_of c.block) i it at, block + 1, omega (arith, is, lo_is)))

@@ -25,13 +25,19 @@ pub record IsStretchOf (cell : Node Value) (from to : ℕ) (s : Stretch) : Type 
   pub pairs : all_pairs s.parts.items ≡ pairs_in cell.units from (rank s.to)
   pub full : AreFull s.parts.items
 
--- A cell of this kind does, and was met if cells of its level are kept.
+-- The cell's keys end there, or, above the leaves, one of its items or a block of an extent begins there.
+abbrev pub IsBorder : CellSeen → ℕ → Type 0
+IsBorder c k = (k ≡ rank c.hi)
+    ⊎ ((2 ≤ c.level) × (x : Item) × Contains (items_of c.block) x × (n : ℕ) × (k ≡ rank x.key + 4096 * n))
+
+-- A cell of this kind does, up to the end or a border of it, and was met if cells of its level are kept.
 pub record IsStretch (Kind : CellSeen → Type 0) (new : PoolState) (from to : ℕ) (s : Stretch) : Type 0 where
   pub cell : CellSeen
   pub is : Kind cell
   pub stands : StandsInMemory cell
   pub met : IsMet new cell
   pub of : IsStretchOf (node_of cell) from to s
+  pub far : (rank s.to ≡ to) ⊎ IsBorder cell (rank s.to)
 
 -- it is this cell, or one of the pool
 abbrev pub IsItOrOf : PoolState → (here : CellSeen) → CellSeen → Type 0

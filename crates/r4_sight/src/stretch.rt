@@ -98,7 +98,8 @@ fn of_leaf(alloc: Global, leaf: &Cell, from: Key, to: Key) -> Result<Stretch, Me
     requires from { rank leaf.now.lo ≤ rank from }
     requires below { rank from < rank leaf.now.hi }
     requires order { rank from < rank to }
-    ensures { IfOk result (IsStretchOf (node_of leaf.now) (rank from) (rank to)) }
+    ensures stretch { IfOk result (IsStretchOf (node_of leaf.now) (rank from) (rank to)) }
+    ensures far { IfOk result (λ s. (rank s.to ≡ rank to) ⊎ (rank s.to ≡ rank leaf.now.hi)) }
 {
     let to = lesser(to, leaf.hi());
     let parts = parts_of(alloc, leaf, Interval { from, to })?;

@@ -1,4 +1,4 @@
-use Rattle.std.proofs.Common.{ℕ, List, inl, refl, sym, ap, ◌∙◌, arith}
+use Rattle.std.proofs.Common.{◌+◌, ℕ, List, inl, refl, sym, ap, ◌∙◌, arith}
 use Rattle.std.specs.Arc.{arc_value}
 use Rattle.std.specs.Prelude.{None, Some, ◌==◌, if◌then◌else◌}
 use Rattle.r4_base.specs.Cell.{bytes_from}
@@ -6,9 +6,9 @@ use Rattle.r4_base.specs.Key.{rank}
 use Rattle.r4_cell.specs.Seen.{CellSeen}
 use Rattle.r4_content.specs.Seen.{pairs_in}
 use Rattle.r4_search.proofs.Walks.{handed}
-use Rattle.r4_sight.proofs.Bodies.{lesser_above}
+use Rattle.r4_sight.proofs.Bodies.{end_at, end_of, lesser_above}
 use Rattle.r4_sight.proofs.Fetching.{block_named, block_stretch, has_key, meets_block, refused_at}
-use Rattle.r4_sight.proofs.Stretching.{hole_stretch}
+use Rattle.r4_sight.proofs.Stretching.{hole_far, hole_stretch}
 use Rattle.r4_sight.proofs.stretch.of_block.Goals as goal
 
 pub fetch-requires : goal.fetch-requires
@@ -37,6 +37,7 @@ returns-then-found-eq0-clause-stretch g c =
       of = hole_stretch twig c.requires.whole c.requires.level c.requires.stands b.place b.item b.is b.extent b.at.block lo from (rank c.args.to) s
           (b.at.unit.is ∙ ap (λ (n : ℕ). if n == 0 then None else Some n) c.if-found-eq0.true) b.at.unit.within b.at.lo b.at.from (omega (arith, end, both, hi)) (omega (arith, end, onward)) (omega (arith, end, below))
           (c.in_ok-of_bytes.ensures.pairs ∙ (ap (λ (k : ℕ). pairs_in (bytes_from lo c.in_ok-zeros.zeros) from k) (sym end) ∙ ap (λ (xs : List ℕ). pairs_in (bytes_from lo xs) from (rank s.to)) c.in_ok-zeros.ensures)) c.in_ok-of_bytes.ensures.full;
+      far = hole_far twig c.requires.level b.place b.item b.is b.at.block lo (rank c.args.to) (rank s.to) b.at.lo (end_at s.to c.lesser-end.result (rank c.args.to) (lo + 4096) end (end_of c.args.to c.block_end-hi.result c.lesser-end.result _ hi c.lesser-end.ensures.is));
     }
 
 pub returns-in_err-data-clause-err : goal.returns-in_err-data-clause-err
@@ -80,3 +81,4 @@ returns-clause-stretch g c =
     let same = c.block.ensures ∙ ap (λ (y : CellSeen). y.block) c.deref.ensures in
     block_stretch _ _ c.args.twig.now x _ c.args.found (rank c.block_end-hi.result) from (rank c.args.to) s refl f.goes f.ok f.met (omega (arith, end, onward)) (omega (arith, end, below)) b.at.from (omega (arith, end, both))
     (c.in_ok-of_bytes-2.ensures.pairs ∙ (ap (λ (k : ℕ). pairs_in (bytes_from lo c.block.result.now) from k) (sym end) ∙ ap (λ (xs : List ℕ). pairs_in (bytes_from lo xs) from (rank s.to)) same)) c.in_ok-of_bytes-2.ensures.full
+    (end_at s.to c.lesser-end.result (rank c.args.to) (rank c.block_end-hi.result) end (end_of c.args.to c.block_end-hi.result c.lesser-end.result _ refl c.lesser-end.ensures.is))

@@ -1,12 +1,12 @@
-use Rattle.std.proofs.Common.{◌<◌, ◌≤◌, sym, subst, arith}
+use Rattle.std.proofs.Common.{◌<◌, ◌≤◌, sym, ap, subst, arith}
 use Rattle.r4_base.specs.Key.{rank}
 use Rattle.r4_base.specs.declared.key.Key.{Key}
-use Rattle.r4_sight.proofs.Bodies.{lesser_above}
+use Rattle.r4_sight.proofs.Bodies.{end_of, lesser_above}
 use Rattle.r4_sight.proofs.Stretching.{low_holds}
 use Rattle.r4_sight.proofs.stretch.of_leaf.Goals as goal
 
-pub returns : goal.returns
-returns c =
+pub returns-clause-stretch : goal.returns-clause-stretch
+returns-clause-stretch c =
     let leaf = c.args.leaf.now in
     let level = c.requires.level in
     let low = c.requires.from in
@@ -18,3 +18,6 @@ returns c =
       pairs = c.in_ok-parts.ensures.pairs;
       full = c.in_ok-parts.ensures.full;
     }
+
+pub returns-clause-far : goal.returns-clause-far
+returns-clause-far c = end_of c.args.to c.hi.result c.lesser-to.result (rank c.args.leaf.now.hi) (ap rank c.hi.ensures) c.lesser-to.ensures.is

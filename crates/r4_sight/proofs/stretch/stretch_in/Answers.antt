@@ -11,8 +11,8 @@ use Rattle.r4_node40.specs.View.{item_shown, view_items}
 use Rattle.r4_search.proofs.Places.{branch, place_key}
 use Rattle.r4_units.proofs.ItemUnits.{item_is_key}
 use Rattle.r4_units.proofs.Leaves.{body_of, extent_good}
-use Rattle.r4_sight.proofs.Bodies.{above_leaf, lesser_above, up_to_top}
-use Rattle.r4_sight.proofs.Stretching.{ends_below, extent_at, gap_stretch, offsets_in, place_below}
+use Rattle.r4_sight.proofs.Bodies.{above_leaf, end_of, lesser_above, up_to_top}
+use Rattle.r4_sight.proofs.Stretching.{ends_below, extent_at, gap_stretch, leaf_far, next_far, offsets_in, place_below}
 use Rattle.r4_sight.proofs.stretch.stretch_in.Goals as goal
 
 pub returns-then-level-eq-LEAF-clause-stretch : goal.returns-then-level-eq-LEAF-clause-stretch
@@ -21,7 +21,8 @@ returns-then-level-eq-LEAF-clause-stretch g c = record {
   is = inl refl;
   stands = c.node-node.ensures.stands;
   met = c.requires.end.met;
-  of = c.in_ok-of_leaf.ensures;
+  of = c.in_ok-of_leaf.ensures.stretch;
+  far = leaf_far c.args.cell.now _ (rank c.args.to) c.in_ok-of_leaf.ensures.far;
 }
 
 pub place_of-place-requires-clause-first : goal.place_of-place-requires-clause-first
@@ -115,4 +116,5 @@ returns-in-None-clause-stretch g c =
       met = c.requires.end.met;
       of = gap_stretch cell c.node-node.ensures.whole two c.node-node.ensures.stands place it is five from (rank c.args.to) _ c.in-None.ensures.none
           (lesser_above from c.args.to c.key_behind.result c.lesser.result c.requires.order (omega (arith, next, behind)) c.lesser.ensures.is) c.lesser.ensures.below (omega (arith, both, behind)) c.new.ensures.items;
+      far = next_far cell two place (rank c.args.to) _ (end_of c.args.to c.key_behind.result c.lesser.result _ behind c.lesser.ensures.is);
     }
