@@ -1,5 +1,6 @@
 -- How the calls of a walk go: what each of them reads, prints and counts (docs/check.md).
-use Rattle.std.specs.Prelude.{◌≡◌, ℕ, ◌+◌, ◌-◌, ◌^◌, ◌<◌, min, List, ◌++◌, drop, length, slice_get, false, Some, None, Result, IfOk, IfErr, OnOk, OnErr}
+use Rattle.std.specs.Prelude.{◌≡◌, ℕ, ◌+◌, ◌-◌, ◌^◌, ◌<◌, min, List, ◌++◌, drop, length, slice_get, false, Some}
+use Rattle.std.specs.Prelude.{None, Result, IfOk, IfErr, OnOk, OnErr}
 use Rattle.std.specs.Arc.{arc_value}
 use Rattle.r4_base.specs.Bitmap.{bitmap_count}
 use Rattle.r4_base.specs.Cell.{cell_fault, item_names, next_key}
@@ -101,49 +102,62 @@ IsTellCause k Sink k' = Rose k.faults k'.faults
 IsTellCause k Memory k' = ⊥
 
 -- A call that prints.
-pub record Tells {T : Type 0} (k : SinkState) (t : Tally) (result : Result T Stop) (k' : SinkState) (t' : Tally) : Type 0 where
+pub record Tells {T : Type 0} (k : SinkState) (t : Tally) (result : Result T Stop) (k' : SinkState)
+    (t' : Tally) : Type 0 where
   pub prints : Prints k k'
   pub size : length t'.reached.items ≡ length t.reached.items
   pub cause : IfErr result (λ e. IsTellCause k e k')
 
 -- A call that reads and prints.
-pub record Goes {T : Type 0} (d : State) (k : SinkState) (t : Tally) (result : Result T Stop) (d' : State) (k' : SinkState) (t' : Tally) : Type 0 where
+pub record Goes {T : Type 0} (d : State) (k : SinkState) (t : Tally) (result : Result T Stop) (d' : State)
+    (k' : SinkState) (t' : Tally) : Type 0 where
   pub device : LeavesDevice d d'
   pub prints : Prints k k'
   pub size : length t'.reached.items ≡ length t.reached.items
   pub cause : IfErr result (λ e. IsStopCause d k e d' k')
 
--- A call takes a walk on by this step: it counts what is met, and prints the lines of the faults that are met, or stops within them.
-pub record Steps {T : Type 0} (blocks : ℕ) (k : SinkState) (t : Tally) (result : Result T Stop) (k' : SinkState) (t' : Tally) (step : Walk → Walk) : Type 0 where
+-- A call takes a walk on by this step: it counts what is met, and prints the lines of the faults that are met, or
+-- stops within them.
+pub record Steps {T : Type 0} (blocks : ℕ) (k : SinkState) (t : Tally) (result : Result T Stop) (k' : SinkState)
+    (t' : Tally) (step : Walk → Walk) : Type 0 where
   pub tally : (w : Walk) → IsTally blocks w t → IfOk result (λ _. IsTally blocks (step w) t')
-  pub whole : (w : Walk) (base : List ℕ) → IsTally blocks w t → k.written ≡ Some (base ++ fault_lines w.faults) → OnOk result (k'.written ≡ Some (base ++ fault_lines (step w).faults))
-  pub part : (w : Walk) (base : List ℕ) → IsTally blocks w t → k.written ≡ Some (base ++ fault_lines w.faults) → OnErr result (AppendsPart (fault_lines (step w).faults) base k'.written)
+  pub whole : (w : Walk) (base : List ℕ) → IsTally blocks w t → k.written ≡ Some (base ++ fault_lines w.faults)
+      → OnOk result (k'.written ≡ Some (base ++ fault_lines (step w).faults))
+  pub part : (w : Walk) (base : List ℕ) → IsTally blocks w t → k.written ≡ Some (base ++ fault_lines w.faults)
+      → OnErr result (AppendsPart (fault_lines (step w).faults) base k'.written)
 
 -- ---- what the calls do to a walk: over an image that has the bitmaps, and over the one that the device settles to
 
 -- the call meets a data block
-abbrev pub MeetsBlock : {T : Type 0} → Settled → (b : ℕ) → SinkState → Tally → Result T Stop → SinkState → Tally → Type 0
+abbrev pub MeetsBlock : {T : Type 0} → Settled → (b : ℕ) → SinkState → Tally → Result T Stop → SinkState → Tally
+    → Type 0
 MeetsBlock {T} s b k t r k' t' = (image : Image) (n : Name) → HasMarks s image → n.id ≡ b → n.level ≡ 0
     → Steps (blocks_of s) k t r k' t' (λ w. meet (blocks_of s) image w n)
 
 -- the call looks at data blocks, which are these names where the first has the key
-abbrev pub LooksAtBlocks : {T : Type 0} → Settled → (names : ℕ → List Name) → SinkState → Tally → Result T Stop → SinkState → Tally → Type 0
+abbrev pub LooksAtBlocks : {T : Type 0} → Settled → (names : ℕ → List Name) → SinkState → Tally → Result T Stop
+    → SinkState → Tally → Type 0
 LooksAtBlocks {T} s names k t r k' t' = (image : Image) (levels key : ℕ) → HasMarks s image
     → Steps (blocks_of s) k t r k' t' (λ w. look_at levels (blocks_of s) image w (names key))
 
 -- the call takes the walk on by a step
-abbrev pub Walks : {T : Type 0} → Settled → State → (step : ℕ → Image → Walk → Walk) → SinkState → Tally → Result T Stop → SinkState → Tally → Type 0
-Walks {T} s d step k t r k' t' = (image : Image) → IsGround s d image → Steps (blocks_of s) k t r k' t' (step (blocks_of s) image)
+abbrev pub Walks : {T : Type 0} → Settled → State → (step : ℕ → Image → Walk → Walk) → SinkState → Tally
+    → Result T Stop → SinkState → Tally → Type 0
+Walks {T} s d step k t r k' t' = (image : Image) → IsGround s d image
+    → Steps (blocks_of s) k t r k' t' (step (blocks_of s) image)
 
 -- these are the names that are looked at below a name
 abbrev pub IsBelow : Settled → State → Tally → Name → List Name → Type 0
-IsBelow s d t n names = (image : Image) (w : Walk) → IsGround s d image → IsTally (blocks_of s) w t → names ≡ names_below (blocks_of s) image w n
+IsBelow s d t n names = (image : Image) (w : Walk) → IsGround s d image → IsTally (blocks_of s) w t
+    → names ≡ names_below (blocks_of s) image w n
 
 -- what item i of a cell names, of which this is the item
 abbrev pub names_at : CellSeen → (i : ℕ) → Item → List Name
 names_at c i it = item_names c.level (next_key (rank c.hi) (drop (i + 1) (items_of c.block))) it
 
 -- the call looks at all that an item of a cell names
-abbrev pub LooksAtItem : {T : Type 0} → Settled → State → CellSeen → (i : ℕ) → SinkState → Tally → Result T Stop → SinkState → Tally → Type 0
-LooksAtItem {T} s d c i k t r k' t' = (image : Image) (it : Item) → IsGround s d image → slice_get (items_of c.block) i ≡ Some it
+abbrev pub LooksAtItem : {T : Type 0} → Settled → State → CellSeen → (i : ℕ) → SinkState → Tally → Result T Stop
+    → SinkState → Tally → Type 0
+LooksAtItem {T} s d c i k t r k' t' = (image : Image) (it : Item) → IsGround s d image
+    → slice_get (items_of c.block) i ≡ Some it
     → Steps (blocks_of s) k t r k' t' (λ w. look_at (c.level - 1) (blocks_of s) image w (names_at c i it))

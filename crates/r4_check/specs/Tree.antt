@@ -31,12 +31,14 @@ pub record IsVerdict (w : Walk) (v : TreeVerdict) : Type 0 where
   pub whole : v.whole ≡ w.whole
 
 -- All of a text was appended, or a prefix of it where printing stops.
-pub record PrintsLines {T E : Type 0} (text : List ℕ) (k : SinkState) (result : Result T E) (k' : SinkState) : Type 0 where
+pub record PrintsLines {T E : Type 0} (text : List ℕ) (k : SinkState) (result : Result T E)
+    (k' : SinkState) : Type 0 where
   pub whole : (before : List ℕ) → k.written ≡ Some before → OnOk result (k'.written ≡ Some (before ++ text))
   pub part : (before : List ℕ) → k.written ≡ Some before → OnErr result (AppendsPart text before k'.written)
 
 -- The lines of a walk's faults are printed, or a prefix of them where printing stops; and at the end they are counted.
-pub record PrintsWalk {E : Type 0} (w : Walk) (k : SinkState) (result : Result TreeVerdict E) (k' : SinkState) : Type 0 where
+pub record PrintsWalk {E : Type 0} (w : Walk) (k : SinkState) (result : Result TreeVerdict E)
+    (k' : SinkState) : Type 0 where
   pub verdict : IfOk result (λ v. IsVerdict w v)
   pub text : PrintsLines (fault_lines w.faults) k result k'
 
@@ -51,7 +53,8 @@ IsNoNode (Sink faults) = Unit {0}
 IsNoNode Memory = Unit {0}
 
 -- `check_tree`
-pub record ChecksTree (d : State) (k : SinkState) (result : Result TreeVerdict ListFault) (d' : State) (k' : SinkState) : Type 0 where
+pub record ChecksTree (d : State) (k : SinkState) (result : Result TreeVerdict ListFault) (d' : State)
+    (k' : SinkState) : Type 0 where
   pub printed : Prints k k'
   -- where neither the log nor the superblocks nor the bitmaps are refused, the faults are those of the tree
   pub tree : (image : Image) (s : Super40) → TellsReads d → Settles d.blocks d.seen image → HasLayout d.blocks image s

@@ -1,5 +1,7 @@
--- The faults of a tree, in the order in which a walk from the left meets them, a node before its children (docs/check.md).
-use Rattle.std.specs.Prelude.{◌≡◌, ◌⊎◌, ℕ, zero, suc, List, [], ◌∷◌, ◌++◌, Bool, true, false, ◌||◌, ◌==◌, Option, Some, None, if◌then◌else◌, Contains, count_by, fold, sum_by}
+-- The faults of a tree, in the order in which a walk from the left meets them, a node before its children
+-- (docs/check.md).
+use Rattle.std.specs.Prelude.{◌≡◌, ◌⊎◌, ℕ, zero, suc, List, [], ◌∷◌, ◌++◌, Bool, true, false, ◌||◌, ◌==◌, Option}
+use Rattle.std.specs.Prelude.{Some, None, if◌then◌else◌, Contains, count_by, fold, sum_by}
 use Rattle.std.specs.Option.{is_none}
 use Rattle.r4_base.specs.Bitmap.{is_marked}
 use Rattle.r4_base.specs.Cell.{cell_fault, cell_of}
@@ -93,7 +95,8 @@ names_below blocks image w n =
 -- To look at a name, and at what is below it, at most so many levels.
 unfoldable pub look : (levels blocks : ℕ) → Image → Walk → Name → Walk
 look zero blocks image w n = meet blocks image w n
-look (suc levels) blocks image w n = fold (look levels blocks image) (meet blocks image w n) (names_below blocks image w n)
+look (suc levels) blocks image w n =
+    fold (look levels blocks image) (meet blocks image w n) (names_below blocks image w n)
 
 abbrev pub look_at : (levels blocks : ℕ) → Image → Walk → List Name → Walk
 look_at levels blocks image w names = fold (look levels blocks image) w names

@@ -33,7 +33,8 @@ pub fn has_block(bitmaps: &[Block], b: u64) -> bool
 /// Puts a block into a set.
 pub fn put_block(bitmaps: &mut [Block], b: u64)
     requires { b / 32736 < length bitmaps.old }
-    ensures { (blocks : ℕ) → bitmap_count blocks ≡ length bitmaps.old → MarksOneMore blocks b bitmaps.old bitmaps.new }
+    ensures { (blocks : ℕ) → bitmap_count blocks ≡ length bitmaps.old
+        → MarksOneMore blocks b bitmaps.old bitmaps.new }
 {
     mark_one(
         bitmaps[(b / BITMAP_BITS) as usize].bytes_mut(),

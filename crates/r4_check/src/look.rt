@@ -1,6 +1,7 @@
 //! The walk over a tree from the left, a node before its children (docs/check.md).
 
-ghost use Rattle.std.specs.Prelude.{◌≡◌, ℕ, ◌+◌, ◌-◌, ◌^◌, ◌<◌, ◌≤◌, ◌==◌, false, true, drop, length, slice_get, Some, None, IfOk, IfErr, IfSome, if◌then◌else◌};
+ghost use Rattle.std.specs.Prelude.{◌≡◌, ℕ, ◌+◌, ◌-◌, ◌^◌, ◌<◌, ◌≤◌, ◌==◌, false, true, drop, length, slice_get};
+ghost use Rattle.std.specs.Prelude.{Some, None, IfOk, IfErr, IfSome, if◌then◌else◌};
 ghost use Rattle.std.specs.Arc.{arc_value};
 ghost use Rattle.r4_base.specs.Bitmap.{bitmap_count};
 ghost use Rattle.r4_base.specs.Cell.{block_names, cell_fault, is_extent, is_stat, item_names, next_key, run_names};
@@ -13,8 +14,10 @@ ghost use Rattle.r4_space.specs.Bitmaps.{AreBitmapsOf};
 ghost use Rattle.r4_cell.specs.Seen.{node_of};
 ghost use Rattle.r4_node40.specs.View.{item_shown};
 ghost use Rattle.r4_twig.specs.View.{view_units};
-ghost use Rattle.r4_check.specs.Walk.{Walk, look, look_at, meet, met_again, names_below, stats_in, with_fault, wrong_with};
-ghost use Rattle.r4_check.specs.Looking.{Goes, HasBits, IsAccepted, IsBelow, LooksAtBlocks, LooksAtItem, MayStand, MeetsBlock, Steps, Tells, Walks, blocks_of, name_of, names_at};
+ghost use Rattle.r4_check.specs.Walk.{Walk, look, look_at, meet, met_again, names_below, stats_in, with_fault};
+ghost use Rattle.r4_check.specs.Walk.{wrong_with};
+ghost use Rattle.r4_check.specs.Looking.{Goes, HasBits, IsAccepted, IsBelow, LooksAtBlocks, LooksAtItem, MayStand};
+ghost use Rattle.r4_check.specs.Looking.{MeetsBlock, Steps, Tells, Walks, blocks_of, name_of, names_at};
 ghost use Rattle.r4_check.specs.Units.{below_of, names_of, unit_names};
 
 use crate::fault::What;
@@ -40,7 +43,8 @@ fn look_at_block<K: Sink>(
     requires size { HasBits settled.now tally.old }
     requires within { b < blocks_of settled.now }
     ensures tells { Tells (K.state out.old) tally.old result (K.state out.new) tally.new }
-    ensures steps { MeetsBlock settled.now b (K.state out.old) tally.old result (K.state out.new) tally.new }
+    ensures steps { MeetsBlock settled.now b (K.state out.old) tally.old result (K.state out.new)
+        tally.new }
 {
     if !tally.reach(b) {
         return look_again(out, tally, b);
@@ -183,7 +187,8 @@ fn meet_node<D: Device, K: Sink>(
     requires level { 1 ≤ named.now.level }
     ensures goes { Goes (D.state dev.old) (K.state out.old) tally.old
         result (D.state dev.new) (K.state out.new) tally.new }
-    ensures cell { IfOk result (λ o. IfSome o (λ c. IsAccepted (blocks_of settled.now) named.now (arc_value c))) }
+    ensures cell { IfOk result (λ o. IfSome o (λ c. IsAccepted (blocks_of settled.now) named.now
+        (arc_value c))) }
     ensures steps { Walks settled.now (D.state dev.old)
         (λ blocks image w. meet blocks image w (name_of named.now))
         (K.state out.old) tally.old result (K.state out.new) tally.new }
@@ -213,7 +218,8 @@ fn meet_node<D: Device, K: Sink>(
 fn named_at(cell: &Cell, i: u16) -> Option<Named>
     requires level { 1 ≤ cell.now.level }
     requires place { i < length (items_of cell.now.block) }
-    ensures named { (it : Item) → slice_get (items_of cell.now.block) i ≡ Some it → is_extent it ≡ false
+    ensures named { (it : Item) → slice_get (items_of cell.now.block) i ≡ Some it
+        → is_extent it ≡ false
         → names_at cell.now i it ≡ names_of result }
     ensures level { IfSome result (λ n. (1 ≤ n.level) × (n.level + 1 ≡ cell.now.level)) }
     ensures within { (blocks : ℕ) → MayStand blocks cell.now → IfSome result (λ n. n.id < blocks) }

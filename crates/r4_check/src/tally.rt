@@ -59,7 +59,8 @@ impl Tally {
 
     /// Adds stat data.
     pub fn add_objects(&mut self, more: u64)
-        ensures objects { (n : ℕ) → self.old.objects ≡ counted n → self.new.objects ≡ counted (n + more) }
+        ensures objects { (n : ℕ) → self.old.objects ≡ counted n
+            → self.new.objects ≡ counted (n + more) }
         ensures reached { self.new.reached ≡ self.old.reached }
         ensures faults { self.new.faults ≡ self.old.faults }
         ensures whole { self.new.whole ≡ self.old.whole }
@@ -69,7 +70,8 @@ impl Tally {
 
     /// Prints a fault and counts it.
     pub fn tell<K: Sink>(&mut self, out: &mut K, b: u64, what: What) -> Result<(), Failed>
-        ensures printed { Appends (fault_line (fault_at b what)) (K.state out.old) result (K.state out.new) }
+        ensures printed { Appends (fault_line (fault_at b what)) (K.state out.old)
+            result (K.state out.new) }
         ensures told { TellsOne self.old self.new }
     {
         self.faults = self.faults.saturating_add(1);

@@ -46,7 +46,8 @@ pub fn check_tree<D: Device, K: Sink>(
     out: &mut K,
 ) -> Result<TreeVerdict, ListFault>
     ensures device { LeavesDevice (D.state dev.old) (D.state dev.new) }
-    ensures checks { ChecksTree (D.state dev.old) (K.state out.old) result (D.state dev.new) (K.state out.new) }
+    ensures checks { ChecksTree (D.state dev.old) (K.state out.old) result (D.state dev.new)
+        (K.state out.new) }
 {
     let log = match read_log(alloc, dev) {
         Ok(log) => log,
@@ -83,7 +84,8 @@ fn walk_settled<D: Device, K: Sink>(
     ensures cause { IfErr result (λ e.
         IsStopCause (D.state dev.old) (K.state out.old) e (D.state dev.new) (K.state out.new)) }
     ensures walk { (image : Image) → IsGround settled.now (D.state dev.old) image
-        → PrintsWalk (walk_of settled.now.found.super40 image) (K.state out.old) result (K.state out.new) }
+        → PrintsWalk (walk_of settled.now.found.super40 image) (K.state out.old)
+        result (K.state out.new) }
 {
     let mut tally = Tally::new(alloc, settled.blocks())?;
     look_at_node(alloc, dev, out, settled, &mut tally, &root_of(settled))?;
@@ -146,7 +148,8 @@ fn open_fault<D: Device>(dev: &D, unopened: Unopened) -> ListFault
 
 // What is answered where a walk stopped.
 fn fault_of<D: Device, K: Sink>(dev: &D, out: &K, stop: Stop) -> ListFault
-    ensures { result ≡ fault_of_stop stop (D.state dev.now).clock (D.state dev.now).faults (K.state out.now).faults }
+    ensures { result ≡ fault_of_stop stop (D.state dev.now).clock (D.state dev.now).faults
+        (K.state out.now).faults }
 {
     match stop {
         Stop::Device => device_fault(dev),

@@ -1,5 +1,6 @@
 -- Which script is served, why one waits, and which atoms fuse (docs/histories.md).
-use Rattle.std.specs.Prelude.{◌≡◌, ◌⊎◌, ◌↔◌, ℕ, ◌<◌, ◌≤◌, min, max, Contains, List, [], ◌∷◌, Option, Some, None, IsSome, option_map, true, false}
+use Rattle.std.specs.Prelude.{◌≡◌, ◌⊎◌, ◌↔◌, ℕ, ◌<◌, ◌≤◌, min, max, Contains, List, [], ◌∷◌, Option, Some, None}
+use Rattle.std.specs.Prelude.{IsSome, option_map, true, false}
 use Rattle.r4_atoms.specs.Atoms.{AllCommitted, AtomsSeen, IsOtherOwner, IsUncommittedOf, is_sealed, owner_of}
 use Rattle.r4_atoms.specs.Names.{renamed}
 use Rattle.r4_atoms.specs.declared.things.Uncommitted.TheVariants as uncommitted

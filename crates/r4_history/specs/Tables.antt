@@ -1,13 +1,16 @@
 -- The tables of a run: what they say of its scripts, its transactions and its atoms
 -- (docs/histories.md).
-use Rattle.std.specs.Prelude.{◌≡◌, ℕ, zero, suc, ◌+◌, ◌-◌, ◌≤◌, List, [], ◌∷◌, ◌++◌, map, length, slice_get, slice_index_or, slice_set, Option, Some, None, true, false, if◌then◌else◌}
-use Rattle.r4_atoms.specs.Atoms.{AtomsSeen, IsBegun as IsTxn, IsClosedAtom, joined, new_atom, new_txn, renamed_txn, state_of, txn_of, with_state}
+use Rattle.std.specs.Prelude.{◌≡◌, ℕ, zero, suc, ◌+◌, ◌-◌, ◌≤◌, List, [], ◌∷◌, ◌++◌, map, length, slice_get}
+use Rattle.std.specs.Prelude.{slice_index_or, slice_set, Option, Some, None, true, false, if◌then◌else◌}
+use Rattle.r4_atoms.specs.Atoms.{AtomsSeen, IsBegun as IsTxn, IsClosedAtom, joined, new_atom, new_txn, renamed_txn}
+use Rattle.r4_atoms.specs.Atoms.{state_of, txn_of, with_state}
 use Rattle.r4_base.specs.declared.things.TxnNo.{TxnNo}
 use Rattle.r4_content.specs.declared.command.Command.{Command}
 use Rattle.r4_script.specs.declared.job.Job.{Job}
 use Rattle.r4_script.specs.declared.job.Script.{Script}
 use Rattle.r4_trace.specs.Job.{Asked, Inside, Outside, Place, Single, Within, at_start}
-use Rattle.r4_turns.specs.Turns.{IsScript, TurnsSeen, answered_at, answered_one, commands_at, entered, left, start, started, turn_at}
+use Rattle.r4_turns.specs.Turns.{IsScript, TurnsSeen, answered_at, answered_one, commands_at, entered, left, start}
+use Rattle.r4_turns.specs.Turns.{started, turn_at}
 use Rattle.r4_turns.specs.declared.turn.Open.{Open}
 use Rattle.r4_turns.specs.declared.turn.Turn.{Turn}
 

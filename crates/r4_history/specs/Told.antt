@@ -8,7 +8,8 @@ use Rattle.r4_trace.specs.Folds.{content_of, everything}
 use Rattle.r4_trace.specs.Ids.{IsNewId, Start, id_of}
 use Rattle.r4_trace.specs.Job.{Asked, commands_of, place}
 use Rattle.r4_trace.specs.Legal.{IsLegalSoFar}
-use Rattle.r4_trace.specs.Traced.{IsBegun, IsCommitted, IsEnded, IsSealed, atom_in, begun_in, broken_at, committed_in, last_sealed, latest, sealed_in}
+use Rattle.r4_trace.specs.Traced.{IsBegun, IsCommitted, IsEnded, IsSealed, atom_in, begun_in, broken_at}
+use Rattle.r4_trace.specs.Traced.{committed_in, last_sealed, latest, sealed_in}
 use Rattle.r4_trace.specs.declared.entry.Entry.{Entry}
 use Rattle.r4_history.specs.Tables.{Tables, asked, place_at}
 

@@ -16,7 +16,8 @@ ghost use Rattle.r4_trace.specs.Job.{IsWork};
 ghost use Rattle.r4_trace.specs.declared.entry.Entry.{Entry};
 ghost use Rattle.r4_trace.specs.declared.entry.Entry.TheVariants.{Acked, Done, Ended, Refused};
 ghost use Rattle.r4_turns.specs.declared.turn.Open.{Open};
-ghost use Rattle.r4_history.specs.Tables.{IsLastOf, IsNextCommand, Stands, Tables, inside, single, with_answer, with_last_answer};
+ghost use Rattle.r4_history.specs.Tables.{IsLastOf, IsNextCommand, Stands, Tables, inside, single, with_answer};
+ghost use Rattle.r4_history.specs.Tables.{with_last_answer};
 ghost use Rattle.r4_history.specs.Told.{HasNewId, HasReply, IsTold};
 ghost use Rattle.r4_history.specs.Tables.{asked};
 

@@ -13,7 +13,8 @@ ghost use Rattle.r4_turns.specs.Turns.{IsScript, answered_at};
 ghost use Rattle.r4_turns.specs.declared.out.Out.{Out};
 ghost use Rattle.r4_turns.specs.declared.turn.Open.{Open};
 ghost use Rattle.r4_history.specs.Held.{AreOwners, IsServed, Need, need_of, nodes_of};
-ghost use Rattle.r4_history.specs.Serving.{AreOthers, FusesAll, IsPassedOver, IsSealedOwner, IsServedNext, fused, least_of};
+ghost use Rattle.r4_history.specs.Serving.{AreOthers, FusesAll, IsPassedOver, IsSealedOwner, IsServedNext, fused};
+ghost use Rattle.r4_history.specs.Serving.{least_of};
 ghost use Rattle.r4_history.specs.Tables.{Stands, Tables};
 ghost use Rattle.r4_history.specs.Told.{IsTold};
 

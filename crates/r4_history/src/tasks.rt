@@ -2,7 +2,8 @@
 
 ghost use Rattle.std.specs.Prelude.{◌≡◌, ◌≢◌, ◌==◌, [], ℕ, Contains, List, length, Option, Some, None, if◌then◌else◌};
 ghost use Rattle.std.specs.Option.{option_map};
-ghost use Rattle.r4_atoms.specs.Atoms.{AtomsSeen, IsFreeFor, IsOpenAtom, atom_of, numbers, owner_of, state_of, with_state, without_owner};
+ghost use Rattle.r4_atoms.specs.Atoms.{AtomsSeen, IsFreeFor, IsOpenAtom, atom_of, numbers, owner_of, state_of};
+ghost use Rattle.r4_atoms.specs.Atoms.{with_state, without_owner};
 ghost use Rattle.r4_atoms.specs.Names.{renamed};
 ghost use Rattle.r4_atoms.specs.declared.things.AtomState.{AtomState};
 ghost use Rattle.r4_content.specs.Locality.{Meaning};
@@ -12,7 +13,8 @@ ghost use Rattle.r4_locks.specs.Locks.{AreHolds, IsNew, IsTask, LocksSeen, Other
 ghost use Rattle.r4_script.specs.declared.job.Job.{Job};
 ghost use Rattle.r4_trace.specs.Ids.{Start};
 ghost use Rattle.r4_trace.specs.declared.entry.Entry.{Entry};
-ghost use Rattle.r4_turns.specs.Turns.{IsScript, answered_one, dropped, entered, given_back, gone_out, left, turn_at, with_command};
+ghost use Rattle.r4_turns.specs.Turns.{IsScript, answered_one, dropped, entered, given_back, gone_out, left};
+ghost use Rattle.r4_turns.specs.Turns.{turn_at, with_command};
 ghost use Rattle.r4_turns.specs.declared.out.Out.{Out};
 ghost use Rattle.r4_turns.specs.declared.turn.Open.{Open};
 ghost use Rattle.r4_history.specs.Held.{HoldsNew, IsOut, IsServed, OwnersFollow, TasksTell, need_of, nodes_of};

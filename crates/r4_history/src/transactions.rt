@@ -12,7 +12,8 @@ ghost use Rattle.r4_trace.specs.Ids.{Start};
 ghost use Rattle.r4_trace.specs.Job.{IsWork};
 ghost use Rattle.r4_trace.specs.declared.entry.Entry.{Entry};
 ghost use Rattle.r4_trace.specs.declared.entry.Entry.TheVariants.{Begin, Ended};
-ghost use Rattle.r4_history.specs.Tables.{Begins, Stands, Tables, inside, single, with_begin, with_end, with_nothing_left, with_single};
+ghost use Rattle.r4_history.specs.Tables.{Begins, Stands, Tables, inside, single, with_begin, with_end};
+ghost use Rattle.r4_history.specs.Tables.{with_nothing_left, with_single};
 ghost use Rattle.r4_history.specs.Told.{IsTold};
 
 /// A transaction begins by `begin`, which it answers, or for a single command. It has the next

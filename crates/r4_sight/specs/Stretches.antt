@@ -1,4 +1,5 @@
--- What stands at keys from one on, as far as the cell goes that holds them (docs/volume.md, "Sight"). A key is its rank.
+-- What stands at keys from one on, as far as the cell goes that holds them (docs/volume.md, "Sight"). A key is its
+-- rank.
 use Rattle.std.specs.Prelude.{◌≡◌, ◌⊎◌, ℕ, ◌+◌, ◌*◌, ◌^◌, ◌<◌, ◌≤◌, Contains, Some, None, slice_get}
 use Rattle.r4_base.specs.Extents.{units_of}
 use Rattle.r4_base.specs.Key.{offset_of, rank}

@@ -1,4 +1,5 @@
-//! What stands in the cells of a tree at the keys of an interval, as parts of what a command sees (docs/volume.md, "Sight").
+//! What stands in the cells of a tree at the keys of an interval, as parts of what a command sees (docs/volume.md,
+//! "Sight").
 #![tactic(auto)]
 
 mod items;

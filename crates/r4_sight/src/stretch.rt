@@ -1,6 +1,7 @@
 //! What stands at keys that one cell holds.
 
-ghost use Rattle.std.specs.Prelude.{◌≡◌, ◌⊎◌, ◌+◌, ◌-◌, ◌*◌, ◌^◌, ◌≤◌, ◌<◌, ◌==◌, ◌&&◌, length, slice_index, true, None, IfErr, IfNone, IfOk, IfSome};
+ghost use Rattle.std.specs.Prelude.{◌≡◌, ◌⊎◌, ◌+◌, ◌-◌, ◌*◌, ◌^◌, ◌≤◌, ◌<◌, ◌==◌, ◌&&◌, length, slice_index, true};
+ghost use Rattle.std.specs.Prelude.{None, IfErr, IfNone, IfOk, IfSome};
 ghost use Rattle.r4_base.specs.Cell.{bytes_from};
 ghost use Rattle.r4_base.specs.Extents.{blocks_in, body_fault, units_of};
 ghost use Rattle.r4_base.specs.Key.{IsKey, least, offset_of, rank, top};
@@ -10,7 +11,8 @@ ghost use Rattle.r4_node40.specs.View.{item_shown};
 ghost use Rattle.r4_search.specs.Path.{root_name};
 ghost use Rattle.r4_search.specs.Pool.{Goes, IsKnown, IsMet, IsOf, KnowsNames, LeavesDevice, StandsInMemory};
 ghost use Rattle.r4_sight.specs.Parts.{AreFull, all_pairs};
-ghost use Rattle.r4_sight.specs.Stretches.{IsBlockAt, IsBlockOf, IsItOrOf, IsStretch, IsStretchOf, IsWaysEnd, Looks, MeetsBlock, StopsAt};
+ghost use Rattle.r4_sight.specs.Stretches.{IsBlockAt, IsBlockOf, IsItOrOf, IsStretch, IsStretchOf, IsWaysEnd};
+ghost use Rattle.r4_sight.specs.Stretches.{Looks, MeetsBlock, StopsAt};
 
 use crate::items::{parts_of, run_of};
 use r4_base::{BLOCK_BYTES, Block, Key, LEAF, Memory, NodeId, Unit};
@@ -28,10 +30,11 @@ pub struct Stretch {
     pub to: Key,
 }
 
-/// What stands at the keys from one on, as far as the cell goes that holds it, and no further than an end: in a leaf, in a
-/// data block, in a hole, or behind what an extent has, where nothing stands (docs/volume.md, "Sight"). The cell is the one
-/// that the pool keeps, or of the block that its name means; what the pool met from then on are the cells of the way to it,
-/// and it. `Read` and `Damaged` name a block that such cells lead to and that is refused.
+/// What stands at the keys from one on, as far as the cell goes that holds it, and no further than an end: in a leaf,
+/// in a data block, in a hole, a block of it at a time, or behind what an extent has, where nothing stands
+/// (docs/volume.md, "Sight"). The cell is the one that the pool keeps, or of the block that its name means; what the
+/// pool met from then on are the cells of the way to it, and it. `Read` and `Damaged` name a block that such cells lead
+/// to and that is refused; `Memory` comes where a growth was refused.
 pub fn stretch_from<P: Pool>(
     alloc: Global,
     pool: &mut P,
@@ -118,7 +121,8 @@ fn block_at(item: &ItemView<'_>, key: Key) -> Option<DataBlock>
     requires is_key { IsKey item.now.key }
     requires few { length item.now.body.now < 16 * 65536 }
     requires good { body_fault true (2 ^ 64) item.now.body.now ≡ None }
-    requires fits { offset_of item.now.key + 4096 * blocks_in (units_of item.now.body.now) ≤ 2 ^ 64 }
+    requires fits { offset_of item.now.key + 4096 * blocks_in
+        (units_of item.now.body.now) ≤ 2 ^ 64 }
     requires from { rank item.now.key ≤ rank key }
     ensures some { IfSome result (IsBlockAt (item_shown item.now) (rank key)) }
     ensures none { IfNone result
