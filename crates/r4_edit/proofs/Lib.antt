@@ -14,7 +14,6 @@ pub mod HalvedLeaf
 pub mod HalvedTwig
 pub mod LastLeaf
 pub mod LeafAmong
-pub mod LeafItems
 pub mod LeafLent
 pub mod NewLeaves
 pub mod OverLeaf

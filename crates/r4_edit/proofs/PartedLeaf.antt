@@ -5,7 +5,7 @@ use Rattle.std.specs.Option.{option_map}
 use Rattle.std.proofs.lemmas.Bool.{eq-eqb, eqb-true}
 use Rattle.std.proofs.lemmas.List.Elements.{All-head}
 use Rattle.std.proofs.lemmas.Option.{same_Some}
-use Rattle.r4_base.specs.Cell.{cell_fault, next_key, units_in}
+use Rattle.r4_base.specs.Cell.{cell_fault, item_end, item_units, next_key, units_in}
 use Rattle.r4_base.specs.Key.{IsKey, rank}
 use Rattle.r4_base.specs.Node.{Item, items_of, level_of, mkfs_id_of, node_fault}
 use Rattle.r4_base.specs.declared.items.CellFault.TheVariants.{Node, Level}
@@ -15,21 +15,36 @@ use Rattle.r4_base.proofs.Choices.{chosen, none_of_node, or_none}
 use Rattle.r4_cell.specs.Seen.{CellSeen, node_of}
 use Rattle.r4_leaf.specs.Items.{Lie}
 use Rattle.r4_leaf.specs.Leaves.{HaveMkfsId, MayStand}
-use Rattle.r4_leaf.specs.Units.{LeafUnit, cut_units, leaf_bytes}
+use Rattle.r4_leaf.specs.Measure.{last_or}
+use Rattle.r4_leaf.specs.Units.{LeafUnit, bytes_behind, cut_units, leaf_bytes}
 use Rattle.r4_leaf.specs.declared.leaf.Leaf.{Leaf}
+use Rattle.r4_leaf.proofs.LeafItems.{lie_narrower, lie_rise, no_bytes, spread}
 use Rattle.r4_leaf.proofs.Lying.{units_cons, units_nil}
 use Rattle.r4_leaf.proofs.Packed.{lie_good}
 use Rattle.r4_leaf.proofs.Rising.{Rise}
 use Rattle.r4_leaf.proofs.Standing.{is_node, stand_lie}
+use Rattle.r4_leaf.proofs.Weighed.{behind_append}
 use Rattle.r4_node40.specs.Laid.{room_of}
 use Rattle.r4_node40.proofs.Accepted.{space}
 use Rattle.r4_edit.specs.Editing.{AreLeavesOf}
 use Rattle.r4_edit.specs.LeafParts.{HasUnits, IsLeftPart, IsRightPart, first_from, first_item_key, units_below, units_from}
 use Rattle.r4_path.specs.Nodes.{weight}
 use Rattle.r4_path.proofs.CellNodes.{units_are}
-use Rattle.r4_edit.proofs.LeafItems.{lie_narrower, lie_rise, lie_weighs, spread}
+use Rattle.r4_path.proofs.Filling.{weight_cons}
 use Rattle.r4_path.proofs.Lying.{Good, good_cons, good_nil, good_parts}
 use Rattle.r4_edit.proofs.SidesOfKey.{below_fits, below_twice, cut_before, cut_behind, first_is, from_fits, none_from, rise_below}
+
+-- ---- the bytes of items one after the other
+
+lie_weighs : (lo hi : ℕ) (before : Option LeafUnit) (xs : List Item) → Lie lo hi xs → bytes_behind before (units_in xs) ≤ weight xs
+lie_weighs lo hi before [] h = let none = no_bytes before in let same = ap (bytes_behind before) units_nil in omega (arith, none, same)
+lie_weighs lo hi before (x ∷ xs) h =
+    let same = ap (bytes_behind before) (units_cons x xs) in
+    let both = behind_append before (item_units x) (units_in xs) in
+    let one = (spread x h.1).weighs before in
+    let rest = lie_weighs (item_end x) hi (last_or before (item_units x)) xs h.2 in
+    let sum = weight_cons x xs in
+    omega (arith, same, both, one, rest, sum)
 
 -- ---- a block that may stand as a leaf
 

@@ -15,7 +15,7 @@ use Rattle.r4_leaf.proofs.SoundItems.{entries_item, tail_item}
 use Rattle.r4_leaf.proofs.Standing.{stand_lie}
 use Rattle.r4_path.proofs.CellNodes.{units_are}
 use Rattle.r4_edit.proofs.HalvedLeaf.{lent_stands}
-use Rattle.r4_edit.proofs.LeafItems.{spread}
+use Rattle.r4_leaf.proofs.LeafItems.{spread}
 
 some_units : (x : Item) → IsSoundItem x → 1 ≤ length (item_units x)
 some_units x s = let is = ap length (spread x s).units in omega (arith, is)

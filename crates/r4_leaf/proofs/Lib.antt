@@ -9,6 +9,7 @@ pub mod Merged
 pub mod Opened
 pub mod Bodied
 pub mod Weighed
+pub mod LeafItems
 pub mod Filled
 pub mod TailFilled
 pub mod EntryWritten

@@ -2,7 +2,7 @@
 use Rattle.std.proofs.Common.{◌≡◌, inl, inr, ℕ, zero, suc, ◌+◌, ◌*◌, ◌^◌, ◌-◌, ◌<◌, ◌≤◌, List, [], ◌∷◌, ◌++◌, refl, sym, ap, subst, ◌∙◌, arith}
 use Rattle.std.specs.Prelude.{◌⊎◌, Option, Some, None, Contains, All, Result, Ok, Err, IfErr, slice_index}
 use Rattle.std.specs.Result.{IsErrAnd}
-use Rattle.std.proofs.lemmas.List.Elements.{All-contains, Contains-append_right, Contains-push}
+use Rattle.std.proofs.lemmas.List.Elements.{All-contains}
 use Rattle.std.proofs.lemmas.Option.{same_Some}
 use Rattle.r4_base.specs.Key.{IsKey, rank, least, top}
 use Rattle.r4_base.specs.Name.{key_of_name}
@@ -17,23 +17,10 @@ use Rattle.r4_search.specs.Pool.{PoolState, Goes, IsFrom, IsKnown, IsNamedFrom, 
 use Rattle.r4_search.specs.Path.{Follows, Descends, EndsAt, IsPath, KnowsOn, Stops, last_of, root_name}
 use Rattle.r4_search.specs.declared.pool.FetchFault.{FetchFault}
 use Rattle.r4_search.specs.declared.pool.FetchFault.TheVariants.{Read, Damaged, Memory}
-use Rattle.r4_search.proofs.Walks.{goes_both, goes_same, leaves_both}
+use Rattle.r4_search.proofs.Walks.{goes_both, goes_same, last_pushed, leaves_both}
 use Rattle.r4_list.specs.Printing.{IsFetchCause, Fetched}
 
 -- ---- the last cell
-
-pub last_pushed : (before : Option CellSeen) (cells : List CellSeen) (c : CellSeen) → last_of before (cells ++ c ∷ []) ≡ Some c
-last_pushed before [] c = refl
-last_pushed before (x ∷ cells) c = last_pushed (Some x) cells c
-
--- the last of some cells is one of them
-pub last_in : (x : CellSeen) (cells : List CellSeen) (c : CellSeen) → last_of (Some x) cells ≡ Some c → Contains (x ∷ cells) c
-last_in x [] c e = subst (Contains (x ∷ [])) (same_Some x c e) (Contains-push [] x)
-last_in x (y ∷ cells) c e = Contains-append_right (x ∷ []) (y ∷ cells) c (last_in y cells c e)
-
-pub last_among : (cells : List CellSeen) (c : CellSeen) → last_of None cells ≡ Some c → Contains cells c
-last_among [] c e = absurd cc
-last_among (x ∷ cells) c e = last_in x cells c e
 
 pub record Inside (c : CellSeen) (key : ℕ) : Type 0 where
   pub from : rank c.lo ≤ key

@@ -20,8 +20,8 @@ use Rattle.r4_search.specs.Pool.{PoolState, FaultIs, Goes, IsKeptOrRead, IsNamed
 use Rattle.r4_search.specs.Path.{Descends, Follows, KeepsOnly, StopsOn, Stops, last_of, root_name}
 use Rattle.r4_search.specs.declared.pool.FetchFault.{FetchFault}
 use Rattle.r4_search.specs.declared.pool.FetchFault.TheVariants.{Read, Damaged, Memory}
+use Rattle.r4_search.proofs.Walks.{last_in}
 use Rattle.r4_list.specs.Over.{IsOver, IsUndamaged}
-use Rattle.r4_list.proofs.Lookups.{last_in}
 
 -- the store has a cell of this name, as it is named
 abbrev pub Stored : Store Value → Name → Type 0

@@ -6,7 +6,7 @@ use Rattle.std.specs.Option.{option_map}
 use Rattle.std.proofs.lemmas.Bool.{eqb-true, ne_eqb}
 use Rattle.std.proofs.lemmas.Option.{same_Some}
 use Rattle.std.proofs.lemmas.List.{map-append}
-use Rattle.std.proofs.lemmas.List.Elements.{All-cons, All-nil, All-push, All-weaker, Contains-append_left, Contains-push, Contains-push_cases}
+use Rattle.std.proofs.lemmas.List.Elements.{All-cons, All-nil, All-push, All-weaker, Contains-append_left, Contains-append_right, Contains-push, Contains-push_cases}
 use Rattle.r4_base.specs.Key.{rank, least, top}
 use Rattle.r4_base.specs.Cell.{cell_fault}
 use Rattle.r4_base.specs.Node.{level_of, node_fault}
@@ -164,7 +164,7 @@ of_before old mid c g (Some k) (Some j) e d h = h ∙ same_Some j k (sym d ∙ g
 of_before old mid c g None None e d h = subst (λ (n : ℕ). IsRead n (old.meant c.id) c) g.blocks (subst (λ (m : Option (List ℕ)). IsRead mid.blocks m c) (g.meant c.id) h)
 of_before old mid c g None (Some j) e d h = subst (λ (y : CellSeen). IsRead old.blocks (old.meant c.id) y) (sym h) (g.added c.id j d e).1
 
-is_of_before : (old mid : PoolState) (c : CellSeen) → Goes old mid → IsOf mid c → IsOf old c
+pub is_of_before : (old mid : PoolState) (c : CellSeen) → Goes old mid → IsOf mid c → IsOf old c
 is_of_before old mid c g h = of_before old mid c g (old.kept c.id) (mid.kept c.id) refl refl h
 
 -- ---- what was met
@@ -380,3 +380,18 @@ map_push {A} {B} f xs ys x e = ap (λ (l : List A). map f l) e ∙ map-append f 
 pub handed : {T : Type 0} (P : FetchFault → Type 0) (r : Result T FetchFault) (e : FetchFault) → IsErrAnd r (λ y. y ≡ e) → P e → IfErr r P
 handed {T} P (Ok x) e h p = tt
 handed {T} P (Err y) e h p = subst P (sym h) p
+
+-- ---- the last of some cells
+
+pub last_pushed : (before : Option CellSeen) (cells : List CellSeen) (c : CellSeen) → last_of before (cells ++ c ∷ []) ≡ Some c
+last_pushed before [] c = refl
+last_pushed before (x ∷ cells) c = last_pushed (Some x) cells c
+
+-- the last of some cells is one of them
+pub last_in : (x : CellSeen) (cells : List CellSeen) (c : CellSeen) → last_of (Some x) cells ≡ Some c → Contains (x ∷ cells) c
+last_in x [] c e = subst (Contains (x ∷ [])) (same_Some x c e) (Contains-push [] x)
+last_in x (y ∷ cells) c e = Contains-append_right (x ∷ []) (y ∷ cells) c (last_in y cells c e)
+
+pub last_among : (cells : List CellSeen) (c : CellSeen) → last_of None cells ≡ Some c → Contains cells c
+last_among [] c e = absurd cc
+last_among (x ∷ cells) c e = last_in x cells c e

@@ -14,7 +14,7 @@ use Rattle.r4_search.specs.Path.{Descends, EndsAt, Follows, IsPath, KnowsOn, Mee
 use Rattle.r4_search.specs.Pool.{Goes, IsAnswer, IsKeptOrRead, IsKnown, IsMet, IsNamed, IsOf, IsRead, IsRefused, PoolState}
 use Rattle.r4_search.specs.declared.pool.FetchFault.{FetchFault}
 use Rattle.r4_search.specs.declared.pool.FetchFault.TheVariants.{Read, Damaged, Memory}
-use Rattle.r4_search.proofs.Walks.{goes_both, goes_same, met_on}
+use Rattle.r4_search.proofs.Walks.{goes_both, goes_same, is_of_before, last_pushed, met_on}
 use Rattle.r4_sight.specs.Parts.{AreFull, all_pairs}
 use Rattle.r4_sight.specs.Stretches.{IsBlockOf, IsBorder, IsItOrOf, IsStretch, IsWaysEnd, Looks, MeetsBlock, StopsAt}
 use Rattle.r4_sight.specs.declared.stretch.DataBlock.{DataBlock}
@@ -109,17 +109,6 @@ block_stretch old new here x n found hi from to s name g a met onward within low
 
 -- ---- the cell at which the way ends
 
--- what a pool has later it has from the beginning
-of_before : (old mid : PoolState) (c : CellSeen) → Goes old mid → (was : Option CellSeen) (is : Option CellSeen) → old.kept c.id ≡ was → mid.kept c.id ≡ is → IsKeptOrRead mid.blocks is (mid.meant c.id) c → IsKeptOrRead old.blocks was (old.meant c.id) c
-of_before old mid c g (Some k) (Some j) e d h = h ∙ same_Some j k (sym d ∙ g.kept c.id k e)
-of_before old mid c g (Some k) None e d h = absurd (let kept = g.kept c.id k e in cc)
-of_before old mid c g None None e d h =
-    subst (λ (b : Option (List ℕ)). IsRead old.blocks b c) (g.meant c.id) (subst (λ (n : ℕ). IsRead n (mid.meant c.id) c) g.blocks h)
-of_before old mid c g None (Some j) e d h = subst (λ (y : CellSeen). IsRead old.blocks (old.meant c.id) y) (sym h) (g.added c.id j d e).1
-
-pub is_of_before : (old mid : PoolState) (c : CellSeen) → Goes old mid → IsOf mid c → IsOf old c
-is_of_before old mid c g h = of_before old mid c g (old.kept c.id) (mid.kept c.id) refl refl h
-
 stretch_before : (old mid new : PoolState) (here : CellSeen) (from to : ℕ) (s : Stretch) → Goes old mid → IsOf old here → IsStretch (IsItOrOf mid here) new from to s → IsStretch (IsOf old) new from to s
 stretch_before old mid new here from to s g is h = record {
   cell = h.cell;
@@ -141,10 +130,6 @@ ok_before old mid new here from to (Err e) g is h = tt
 pub err_before : (key : ℕ) (old mid new : PoolState) (r : Result Stretch FetchFault) → Goes old mid → IfErr r (λ e. StopsAt key mid e new) → IfErr r (λ e. StopsAt key old e new)
 err_before key old mid new (Ok s) g h = tt
 err_before key old mid new (Err e) g h = later_stops key old mid new e g h
-
-last_pushed : (before : Option CellSeen) (cells : List CellSeen) (c : CellSeen) → last_of before (cells ++ c ∷ []) ≡ Some c
-last_pushed before [] c = refl
-last_pushed before (x ∷ cells) c = last_pushed (Some x) cells c
 
 record Inside (c : CellSeen) (key : ℕ) : Type 0 where
   level : 1 ≤ c.level

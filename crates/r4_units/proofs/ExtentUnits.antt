@@ -111,9 +111,10 @@ module _ (us : List ExtentUnit) (i block left : ℕ) (h : IsLeft us i block left
         is = h.is ∙ (ap (λ (vs : List ExtentUnit). block_of vs left) split ∙ later);
       }
 
-  pub unit_here : (v : ExtentUnit) → left < u.width → v.start ≡ (if u.start == 0 then 0 else (u.start + left)) → IsUnitAt us block v
+  pub unit_here : (v : ExtentUnit) → left < u.width → v.start ≡ (if u.start == 0 then 0 else (u.start + left)) → v.width ≡ 1
+      → IsUnitAt us block v
   unfolding block_of
-  unit_here v lt start =
+  unit_here v lt start one =
       let split = drop_next us i u is in
       let order = h.order in
       let blocks = h.blocks in
@@ -122,6 +123,7 @@ module _ (us : List ExtentUnit) (i block left : ℕ) (h : IsLeft us i block left
       record {
         is = h.is ∙ (ap (λ (vs : List ExtentUnit). block_of vs left) split ∙ (here ∙ started u.start v.start left start));
         within = omega (arith, order, blocks, parts, lt);
+        width = one;
       }
     where
       started : (s t k : ℕ) → t ≡ (if s == 0 then 0 else (s + k)) → (if s == 0 then None else Some (s + k)) ≡ (if t == 0 then None else Some t)

@@ -9,6 +9,7 @@ use Rattle.r4_base.specs.declared.items.Unit.{Unit as ExtentUnit}
 pub record IsUnitAt (us : List ExtentUnit) (block : ℕ) (u : ExtentUnit) : Type 0 where
   pub is : block_of us block ≡ (if u.start == 0 then None else Some u.start)
   pub within : block < blocks_in us
+  pub width : u.width ≡ 1
 
 -- a data block whose first byte has this key
 abbrev pub block_name : (id lo : ℕ) → Name

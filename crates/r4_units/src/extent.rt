@@ -41,7 +41,8 @@ fn unit_at(extent: &ExtentView<'_>, block: u64) -> Option<Unit>
 fn one_block(unit: Unit, block: u64) -> Unit
     requires lawful { IsLawfulUnit true (2 ^ 64) unit }
     requires within { block < unit.width }
-    ensures { result.start ≡ (if unit.start == 0 then 0 else (unit.start + block)) }
+    ensures start { result.start ≡ (if unit.start == 0 then 0 else (unit.start + block)) }
+    ensures width { result.width ≡ 1 }
 {
     if unit.start == 0 {
         return Unit { start: 0, width: 1 };

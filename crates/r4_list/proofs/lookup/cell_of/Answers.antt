@@ -1,8 +1,8 @@
 use Rattle.std.proofs.Common.{map}
 use Rattle.std.specs.Arc.{arc_value}
 use Rattle.r4_base.specs.Key.{rank}
-use Rattle.r4_search.proofs.Walks.{map_push}
-use Rattle.r4_list.proofs.Lookups.{last_among, last_ends, last_inside, last_is, last_knows, last_of_pool, fetch_cause, handed}
+use Rattle.r4_search.proofs.Walks.{map_push, last_among}
+use Rattle.r4_list.proofs.Lookups.{last_ends, last_inside, last_is, last_knows, last_of_pool, fetch_cause, handed}
 use Rattle.r4_list.proofs.OverPaths.{found_none, over_path, over_stop, path_stored, undamaged}
 use Rattle.r4_list.specs.Over.{IsUndamaged}
 use Rattle.r4_list.proofs.lookup.cell_of.Goals as goal

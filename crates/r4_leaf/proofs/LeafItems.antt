@@ -1,4 +1,4 @@
--- The items of a leaf by their units: where these lie, and the bytes that they take up.
+-- The items of a leaf by their units: where these lie, and the bytes that each takes up.
 use Rattle.std.proofs.Common.{◌≡◌, ◌⊎◌, inl, inr, ℕ, suc, ◌+◌, ◌-◌, ◌/◌, ◌^◌, ◌<◌, ◌≤◌, Bool, true, false, List, [], ◌∷◌, ◌++◌, length, map, refl, sym, ap, subst, ◌∙◌, arith}
 use Rattle.std.specs.Prelude.{slice_get, slice_index, Option, Some, None, ◌==◌, if◌then◌else◌}
 use Rattle.std.specs.List.{sum_by}
@@ -22,8 +22,6 @@ use Rattle.r4_leaf.proofs.Rising.{Rise, bytes_rise, rise_append, rise_lower}
 use Rattle.r4_leaf.proofs.SoundItems.{IsTailItem, entries_item, stat_item, stat_long, tail_item}
 use Rattle.r4_leaf.specs.Measure.{last_or}
 use Rattle.r4_leaf.proofs.Weighed.{behind_append, behind_one, entry_weighs, first_number, last_byte, last_entry, run_cost, stat_cost}
-use Rattle.r4_path.specs.Nodes.{weight, weight_of}
-use Rattle.r4_path.proofs.Filling.{weight_cons}
 
 -- The units of an item of a leaf: the first has its key, and the last one stands before its end.
 pub record IsSpread (x : Item) : Type 0 where
@@ -35,7 +33,7 @@ pub record IsSpread (x : Item) : Type 0 where
   pub ends : last_or (Some first) more ≡ Some last
   pub end : last.0 + 1 ≡ item_end x
   pub rise : Rise (rank x.key) (item_end x) (item_units x)
-  pub weighs : (before : Option LeafUnit) → bytes_behind before (item_units x) ≤ weight_of x
+  pub weighs : (before : Option LeafUnit) → bytes_behind before (item_units x) ≤ 38 + length x.body
 
 -- ---- stat data
 
@@ -62,7 +60,7 @@ stat_spread x is s =
 
 -- ---- bytes of a tail
 
-no_bytes : (before : Option LeafUnit) → bytes_behind before [] ≡ 0
+pub no_bytes : (before : Option LeafUnit) → bytes_behind before [] ≡ 0
 unfolding bytes_behind
 no_bytes before = refl
 
@@ -214,16 +212,6 @@ lie_rise lo hi [] h = subst (Rise lo hi) (sym units_nil) h
 lie_rise lo hi (x ∷ xs) h =
     subst (Rise lo hi) (sym (units_cons x xs))
     (rise_append lo (item_end x) hi (item_units x) (units_in xs) (rise_lower (rank x.key) lo (item_end x) (item_units x) h.0 (spread x h.1).rise) (lie_rise (item_end x) hi xs h.2))
-
-pub lie_weighs : (lo hi : ℕ) (before : Option LeafUnit) (xs : List Item) → Lie lo hi xs → bytes_behind before (units_in xs) ≤ weight xs
-lie_weighs lo hi before [] h = let none = no_bytes before in let same = ap (bytes_behind before) units_nil in omega (arith, none, same)
-lie_weighs lo hi before (x ∷ xs) h =
-    let same = ap (bytes_behind before) (units_cons x xs) in
-    let both = behind_append before (item_units x) (units_in xs) in
-    let one = (spread x h.1).weighs before in
-    let rest = lie_weighs (item_end x) hi (last_or before (item_units x)) xs h.2 in
-    let sum = weight_cons x xs in
-    omega (arith, same, both, one, rest, sum)
 
 -- units behind those of which this is the last
 rise_after : (u w : LeafUnit) (hi : ℕ) (us vs : List LeafUnit) → Rise (u.0 + 1) hi (us ++ vs) → last_or (Some u) us ≡ Some w → Rise (w.0 + 1) hi vs
