@@ -1,13 +1,20 @@
 -- What pairs have at the keys of an interval.
 use Rattle.std.proofs.Common.{◌≡◌, ◌⊎◌, inl, inr, ℕ, zero, suc, ◌+◌, ◌-◌, ◌<◌, ◌≤◌, Bool, true, false, cond, List, [], ◌∷◌, ◌++◌, length, take, drop, refl, sym, ap, ◌∙◌, arith}
-use Rattle.std.specs.Prelude.{min, Contains}
+use Rattle.std.specs.Prelude.{min, Contains, T}
+use Rattle.std.specs.FinMap.{is_sorted}
+use Rattle.std.specs.FinMap.Entries.{below_all}
+use Rattle.std.specs.Ordering.{is_lt, nat_cmp}
+use Rattle.std.specs.Cmp.{nat_cmp_is}
+use Rattle.std.proofs.Common.{Less, subst}
 use Rattle.std.proofs.lemmas.Bool.Decides.{nat_tests}
 use Rattle.std.proofs.lemmas.List.Elements.{Contains-append_right, filter-append}
 use Rattle.r4_base.specs.Cell.{bytes_from}
 use Rattle.r4_base.specs.Value.{Value, Byte}
 use Rattle.r4_content.specs.Edited.{Pairs, is_between}
 use Rattle.r4_content.specs.Objects.{byte_pairs}
-use Rattle.r4_content.specs.Seen.{pairs_in}
+use Rattle.r4_content.specs.Seen.{Rises, pairs_in}
+use Rattle.r4_content.proofs.Counting.{both_hold}
+use Rattle.r4_leaf.proofs.Rising.{Rise, bytes_rise}
 
 pub both_in : (a b : ℕ) (xs ys : Pairs) → pairs_in (xs ++ ys) a b ≡ pairs_in xs a b ++ pairs_in ys a b
 both_in a b xs ys = filter-append (λ (e : ℕ × Value). is_between a b e.0) xs ys
@@ -135,3 +142,28 @@ pub pairs_low : (a b : ℕ) (es : Pairs) → ((k : ℕ) (v : Value) → Contains
 pairs_low a b [] h = refl
 pairs_low a b (e ∷ es) h =
     first_out a b e es (is_low a b e.0 (h e.0 e.1 (first_member e es))) ∙ pairs_low a b es (λ k v at. h k v (later_member e es (k, v) at))
+
+-- ---- pairs that rise
+
+lower : (x y : ℕ) → x < y → T (is_lt (nat_cmp x y))
+lower x y lt = subst (λ r. T (is_lt r)) (nat_cmp_is x y Less lt) tt
+
+below_in : (a b x from to : ℕ) (us : Pairs) → x < from → Rise from to us → T (below_all nat_cmp x (pairs_in us a b))
+below_in a b x from to [] lt rise = tt
+below_in a b x from to (u ∷ us) lt rise = by (is_between a b u.0) (below_in a b x (u.0 + 1) to us (let low = rise.0 in omega (arith, lt, low)) rise.1)
+  where
+    by : (t : Bool) → T (below_all nat_cmp x (pairs_in us a b)) → T (below_all nat_cmp x (cond t (u ∷ pairs_in us a b) (pairs_in us a b)))
+    by true rest = both_hold (is_lt (nat_cmp x u.0)) (below_all nat_cmp x (pairs_in us a b)) (let low = rise.0 in lower x u.0 (omega (arith, lt, low))) rest
+    by false rest = rest
+
+-- what rising units have in an interval rises
+pub rises_in : (a b from to : ℕ) (us : Pairs) → Rise from to us → Rises (pairs_in us a b)
+rises_in a b from to [] rise = tt
+rises_in a b from to (u ∷ us) rise = by (is_between a b u.0) (rises_in a b (u.0 + 1) to us rise.1)
+  where
+    by : (t : Bool) → Rises (pairs_in us a b) → Rises (cond t (u ∷ pairs_in us a b) (pairs_in us a b))
+    by true rest = both_hold (below_all nat_cmp u.0 (pairs_in us a b)) (is_sorted nat_cmp (pairs_in us a b)) (below_in a b u.0 (u.0 + 1) to us (omega arith) rise.1) rest
+    by false rest = rest
+
+pub bytes_rise_in : (a b k : ℕ) (xs : List ℕ) → Rises (pairs_in (bytes_from k xs) a b)
+bytes_rise_in a b k xs = rises_in a b k (k + length xs) (bytes_from k xs) (bytes_rise k xs)

@@ -81,7 +81,7 @@ none_met : (p : PoolState) (i : ℕ) (c : CellSeen) → p.met i ≡ Some c → p
 none_met p i c h none = let e = sym h ∙ none in cc
 
 pub looks_only : (root : Root) (key : ℕ) (old new : PoolState) → MeetsOn root key old new → Looks root key old new
-looks_only root key old new way = record { mid = new; way = way; block = λ i c h none. absurd (none_met new i c h none) }
+looks_only root key old new way = record { mid = new; way = way; goes = goes_same new; block = λ i c h none. absurd (none_met new i c h none) }
 
 -- ---- the block
 

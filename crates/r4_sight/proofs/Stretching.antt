@@ -16,7 +16,7 @@ use Rattle.r4_cell.proofs.ItemRows.{extent_row}
 use Rattle.r4_cell.proofs.Items.{good_item, items_part}
 use Rattle.r4_content.specs.Edited.{Pairs}
 use Rattle.r4_content.specs.Held.{part_pairs}
-use Rattle.r4_content.specs.Seen.{pairs_in}
+use Rattle.r4_content.specs.Seen.{Rises, pairs_in}
 use Rattle.r4_content.specs.declared.seen.SeenPart.{SeenPart}
 use Rattle.r4_node40.proofs.Following.{item_first}
 use Rattle.r4_search.specs.Path.{EndsAt}
@@ -26,6 +26,7 @@ use Rattle.r4_search.proofs.Places.{IsBranch, branch, extent_span, place_key, sp
 use Rattle.r4_sight.specs.Parts.{AreFull, all_pairs}
 use Rattle.r4_sight.specs.Stretches.{IsBorder, IsStretchOf}
 use Rattle.r4_sight.specs.declared.stretch.Stretch.{Stretch}
+use Rattle.r4_sight.proofs.Between.{bytes_rise_in}
 use Rattle.r4_sight.proofs.Holes.{hole_in, hole_nameless, units_low}
 use Rattle.r4_sight.proofs.Twigs.{IsOwn, extent_end, extent_names, extent_units, own_item, span_extent}
 use Rattle.r4_units.proofs.ExtentUnits.{names_of}
@@ -76,6 +77,7 @@ data_stretch c from to s level onward within low high pairs full = record {
   within = within;
   holds = λ k le lt. low_holds c k (omega (arith, level)) (omega (arith, low, le)) (omega (arith, high, lt));
   pairs = pairs ∙ ap (λ (us : Pairs). pairs_in us from (rank s.to)) (sym (data_units c.level (rank c.lo) (rank c.hi) c.block level));
+  rises = subst Rises (sym pairs) (bytes_rise_in from (rank s.to) (rank c.lo) c.block);
   full = full;
 }
 
@@ -171,6 +173,7 @@ module _ (c : CellSeen) (whole : length c.block ≡ 4096) (two : 2 ≤ c.level) 
       holds = λ k le lt. span_holds k (omega (arith, past, le)) (omega (arith, high, lt))
           (λ n at has. let stops = (extent_row (rank it.key) (units_of it.body)).to n at in let up = has.1 in omega (arith, stops, up, past, le));
       pairs = ap all_pairs none ∙ sym (twig_pairs from (rank s.to) (omega (arith, past)) high ∙ units_low from (rank s.to) (rank it.key) (units_of it.body) past);
+      rises = subst (λ (parts : List SeenPart). Rises (all_pairs parts)) (sym none) tt;
       full = subst AreFull (sym none) (All-nil (λ (p : SeenPart). part_pairs p ≢ []));
     }
 
@@ -188,6 +191,7 @@ module _ (c : CellSeen) (whole : length c.block ≡ 4096) (two : 2 ≤ c.level) 
           pairs = pairs ∙ (ap (λ (j : ℕ). pairs_in (bytes_from j (replicate 4096 0)) from (rank s.to)) lo_is
               ∙ (sym (hole_in from (rank s.to) (rank it.key) (units_of it.body) block none within (omega (arith, lo_is, low)) (omega (arith, lo_is, high)))
               ∙ sym (twig_pairs from (rank s.to) (omega (arith, lo_is, low)) (omega (arith, end, stops, within, lo_is, high)))));
+          rises = subst Rises (sym pairs) (bytes_rise_in from (rank s.to) lo (replicate 4096 0));
           full = full;
         }
 

@@ -8,7 +8,7 @@ use Rattle.r4_base.specs.Tree.{Holds, InName, Name, Node}
 use Rattle.r4_base.specs.Value.{Value}
 use Rattle.r4_cell.specs.Seen.{CellSeen, node_of}
 use Rattle.r4_cell.specs.declared.change.Root.{Root}
-use Rattle.r4_content.specs.Seen.{pairs_in}
+use Rattle.r4_content.specs.Seen.{Rises, pairs_in}
 use Rattle.r4_search.specs.Path.{EndsAt, MeetsOn}
 use Rattle.r4_search.specs.Pool.{Goes, IsKnown, IsMet, IsNamed, IsOf, IsRefused, KnowsNames, PoolState, StandsInMemory}
 use Rattle.r4_search.specs.declared.pool.FetchFault.{FetchFault}
@@ -24,6 +24,7 @@ pub record IsStretchOf (cell : Node Value) (from to : ℕ) (s : Stretch) : Type 
   pub within : rank s.to ≤ to
   pub holds : (k : ℕ) → from ≤ k → k < rank s.to → Holds cell k
   pub pairs : all_pairs s.parts.items ≡ pairs_in cell.units from (rank s.to)
+  pub rises : Rises (all_pairs s.parts.items)
   pub full : AreFull s.parts.items
 
 -- The cell's keys end there, or, above the leaves, one of its items or a block of an extent begins there.
@@ -71,6 +72,7 @@ MeetsBlock key old new =
 pub record Looks (root : Root) (key : ℕ) (old new : PoolState) : Type 0 where
   pub mid : PoolState
   pub way : MeetsOn root key old mid
+  pub goes : Goes mid new
   pub block : MeetsBlock key mid new
 
 -- A cell that has the key is refused as it is asked for.

@@ -8,7 +8,7 @@ ghost use Rattle.r4_cde.specs.Shown.{entry_shown};
 ghost use Rattle.r4_content.specs.Edited.{is_between};
 ghost use Rattle.r4_content.specs.Held.{part_pairs};
 ghost use Rattle.r4_content.specs.Objects.{byte_pairs};
-ghost use Rattle.r4_content.specs.Seen.{pairs_in};
+ghost use Rattle.r4_content.specs.Seen.{Rises, pairs_in};
 ghost use Rattle.r4_leaf.specs.Items.{IsSoundItem};
 ghost use Rattle.r4_node40.specs.View.{item_shown};
 ghost use Rattle.r4_sight.specs.Parts.{Adds, AreFull, all_pairs, entry_pair};
@@ -28,6 +28,7 @@ pub fn parts_of(alloc: Global, leaf: &Cell, within: Interval) -> Result<Vec<Seen
     requires { leaf.now.level ≡ 1 }
     ensures pairs { IfOk result (λ parts. all_pairs parts.items
         ≡ pairs_in (node_of leaf.now).units (rank within.from) (rank within.to)) }
+    ensures rises { IfOk result (λ parts. Rises (all_pairs parts.items)) }
     ensures full { IfOk result (λ parts. AreFull parts.items) }
 {
     let mut parts = Vec::new(alloc);

@@ -6,4 +6,4 @@ mod items;
 mod stretch;
 
 pub use items::parts_of;
-pub use stretch::{Stretch, stretch_from};
+pub use stretch::{Stretch, key_after, stretch_from};

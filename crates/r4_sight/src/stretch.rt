@@ -161,7 +161,7 @@ fn of_block<P: Pool>(
         (P.state pool.new) (rank from) (rank to)) }
     ensures err { IfErr result (λ e. StopsAt (rank from) (P.state pool.old) e (P.state pool.new)) }
 {
-    let hi = block_end(found.lo);
+    let hi = key_after(found.lo, BLOCK_BYTES);
     let end = lesser(to, hi);
     if found.unit.start == 0 {
         let zeros = Block::zeroed(alloc)?;
@@ -204,16 +204,16 @@ fn offset_in(lo: Key, key: Key) -> usize
     }
 }
 
-// The key behind the last byte of a block.
+/// The key so many bytes behind another one, in the order of keys: of the same body, or the first one behind it.
 #[tactic(auto, unfolding(r4_base::specs::Key::rank))]
-fn block_end(lo: Key) -> Key
-    requires fits { offset_of lo + 4096 ≤ 2 ^ 64 }
-    requires below { rank lo + 4096 ≤ top }
-    ensures { rank result ≡ rank lo + 4096 }
+pub fn key_after(key: Key, bytes: u64) -> Key
+    requires fits { offset_of key + bytes ≤ 2 ^ 64 }
+    requires below { rank key + bytes ≤ top }
+    ensures { rank result ≡ rank key + bytes }
 {
-    match lo.el[3].checked_add(BLOCK_BYTES) {
-        Some(offset) => lo.with_offset(offset),
-        None => next_body(lo),
+    match key.el[3].checked_add(bytes) {
+        Some(offset) => key.with_offset(offset),
+        None => next_body(key),
     }
 }
 

@@ -16,6 +16,7 @@ returns-clause-stretch c =
       within = c.lesser-to.ensures.below;
       holds = λ k le lt. low_holds leaf k (omega (arith, level)) (omega (arith, low, le)) (omega (arith, up, lt));
       pairs = c.in_ok-parts.ensures.pairs;
+      rises = c.in_ok-parts.ensures.rises;
       full = c.in_ok-parts.ensures.full;
     }
 

@@ -5,13 +5,16 @@ use Rattle.r4_cell.specs.Seen.{CellSeen}
 use Rattle.r4_search.proofs.Walks.{goes_both, handed, map_push}
 use Rattle.r4_search.specs.Pool.{IsOf}
 use Rattle.r4_sight.specs.Stretches.{IsWaysEnd}
-use Rattle.r4_sight.proofs.Fetching.{end_of_pool, err_before, ok_before, way_stops, ways_end}
+use Rattle.r4_sight.proofs.Fetching.{end_of_pool, err_before, looks_only, ok_before, way_stops, ways_end}
 use Rattle.r4_sight.proofs.stretch.stretch_from.Goals as goal
 
 pub returns-in_err-path-clause-err : goal.returns-in_err-path-clause-err
 returns-in_err-path-clause-err g c =
     handed _ c.from_residual.result c.in_err-path.field-0.0 c.from_residual.ensures.1
     (way_stops c.args.root.now (rank c.args.from) _ c.in_err-path.field-0.0 _ c.requires.from c.requires.below c.in_err-path.ensures.err)
+
+pub returns-in_err-path-clause-looks : goal.returns-in_err-path-clause-looks
+returns-in_err-path-clause-looks g c = looks_only c.args.root.now (rank c.args.from) _ _ c.in_err-path.ensures.meets
 
 pub stretch_in-requires-clause-end : goal.stretch_in-requires-clause-end
 stretch_in-requires-clause-end g c =

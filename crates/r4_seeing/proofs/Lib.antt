@@ -1,0 +1,9 @@
+pub mod Inserted
+pub mod Found
+pub mod Placing
+pub mod Noting
+pub mod Hanging
+pub mod Reading
+pub mod Putting
+pub mod AskedOn
+pub mod LookingOn
