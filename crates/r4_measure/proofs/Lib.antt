@@ -1,0 +1,6 @@
+pub mod Parent
+pub mod Climb
+pub mod Kept
+pub mod Suffices
+pub mod Turn
+pub mod Loop

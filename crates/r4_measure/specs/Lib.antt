@@ -1,0 +1,4 @@
+pub mod Budget
+pub mod Leaving
+pub mod Measured
+pub mod Loop

@@ -1,0 +1,9 @@
+//! How many cells may still come in the place of each cell of a tree, while the leaves of a command are edited one
+//! after another (docs/volume.md, "What may still come").
+#![tactic(auto)]
+
+mod laws;
+
+pub use laws::{
+    a_budget_suffices, each_leaf_has_its_turn, edits_keep_a_budget, turns_keep_the_measure,
+};
