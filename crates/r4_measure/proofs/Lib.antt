@@ -4,3 +4,5 @@ pub mod Kept
 pub mod Suffices
 pub mod Turn
 pub mod Loop
+pub mod Asked
+pub mod Begin

@@ -5,5 +5,6 @@
 mod laws;
 
 pub use laws::{
-    a_budget_suffices, each_leaf_has_its_turn, edits_keep_a_budget, turns_keep_the_measure,
+    a_budget_suffices, each_leaf_has_its_turn, edits_keep_a_budget, reach_suffices_for_all_edits,
+    turns_keep_the_measure, what_is_asked_is_a_budget,
 };
