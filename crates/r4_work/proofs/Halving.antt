@@ -51,7 +51,7 @@ in_first xs ys level k e = cell_in_both xs ys level k ∙ ap (λ o. option_or o 
 is_at_all : (level k : ℕ) (c : CellSeen) → c.level ≡ level → rank c.lo ≤ k → k < rank c.hi → is_at level k c ≡ true
 is_at_all level k c a b d = grind (arith, a, b, d)
 
-true_or_false : (b : Bool) → (b ≡ true) ⊎ (b ≡ false)
+pub true_or_false : (b : Bool) → (b ≡ true) ⊎ (b ≡ false)
 true_or_false true = inl refl
 true_or_false false = inr refl
 

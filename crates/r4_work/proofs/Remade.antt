@@ -32,14 +32,11 @@ use Rattle.r4_work.specs.Remaking.{CanRemake, CanRemakeUp, Changes, CutsWithin, 
 use Rattle.r4_work.specs.Remaking.{remade_values, value_in}
 use Rattle.r4_work.specs.Working.{IsNextEdit, IsPutInPlace, IsWorking, now_of, path_of, root_of, standing}
 use Rattle.r4_work.specs.declared.working.WorkingSet.{WorkingSet}
+use Rattle.r4_work.proofs.Halving.{true_or_false}
 use Rattle.r4_work.proofs.InPlace.{now_effect, now_part, now_working, standing_is}
 use Rattle.r4_work.proofs.LeafEffect.{leaf_effect, new_numbers, root_number, us_once}
 use Rattle.r4_work.proofs.Paths.{lowest_is, path_ascends}
 use Rattle.r4_work.proofs.UnitMembers.{between, filtered, from_put, not_false, not_true, rise_in, some_value, to_filtered, to_put, value_there}
-
-true_or_false : (b : Bool) → (b ≡ true) ⊎ (b ≡ false)
-true_or_false true = inl refl
-true_or_false false = inr refl
 
 or_true : (a b : Bool) → a || b ≡ true → (a ≡ true) ⊎ (b ≡ true)
 or_true true b h = inl refl
