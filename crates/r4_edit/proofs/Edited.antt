@@ -99,6 +99,8 @@ module _ (leaf : CellSeen) (ups : List CellSeen) (us : List LeafUnit) (leaves : 
           climbs = rose.climbs;
           keep = rose.keep;
           needed = rose.needed;
+          rows = rose.rows;
+          ends = rose.ends;
           root_needed = rose.root_needed;
           root_able = rose.root_able;
           mkfs_ids = rose.mkfs_ids;

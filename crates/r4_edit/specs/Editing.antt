@@ -15,10 +15,10 @@ use Rattle.r4_leaf.specs.Units.{LeafUnit, cut_units, leaf_bytes, put_units}
 use Rattle.r4_leaf.specs.declared.leaf.Leaf.{Leaf}
 use Rattle.r4_patch.specs.Joining.{ids_of}
 use Rattle.r4_path.specs.Growing.{IsPathIn}
-use Rattle.r4_path.specs.Levels.{AreNeeded, HasLevels, HaveMkfsIdOf, IsLongEnough, IsRootNeeded, KeepMkfsIds, Keeps}
+use Rattle.r4_path.specs.Levels.{AreNeeded, AreRows, HasLevels, HaveMkfsIdOf, IsLongEnough, IsRootNeeded, KeepMkfsIds, Keeps}
 use Rattle.r4_path.specs.Levels.{units_of_cells}
 use Rattle.r4_path.specs.Sharing.{IsSound}
-use Rattle.r4_path.specs.Steps.{Climbs, CountUp, IsStep, Step, fresh_ids, olds}
+use Rattle.r4_path.specs.Steps.{Climbs, CountUp, Ends, IsStep, Step, fresh_ids, olds}
 use Rattle.r4_path.specs.LeafSteps.{leaf_cells}
 use Rattle.r4_path.specs.Nodes.{IsPointable}
 
@@ -69,6 +69,9 @@ pub record Edits (leaf : CellSeen) (ups : List CellSeen) (us : List LeafUnit) (b
   pub climbs : Climbs None (lowest ∷ more)
   pub keep : (u : Step) → Contains more u → Keeps u
   pub needed : AreNeeded (lowest ∷ more)
+  pub rows : AreRows (lowest ∷ more) over
+  pub ends : (r : Root) → (length lowest.new ≡ 1) ⊎ IsLongEnough r (length (drop 1 lowest.new)) leaf ups
+      → Ends r (lowest ∷ more) over
   pub root_needed : IsRootNeeded (lowest ∷ more) over
   pub root_able : (d : CellSeen) → over ≡ Some d → IsPointable d.id
   pub mkfs_ids : KeepMkfsIds (lowest ∷ more) over

@@ -15,11 +15,11 @@ use Rattle.r4_patch.specs.Joining.{ids_of, patch_of_change}
 use Rattle.r4_patch.specs.Part.{IsPart, MeetsPart}
 use Rattle.r4_patch.proofs.PartCells.{one_above}
 use Rattle.r4_path.specs.Growing.{IsPathIn}
-use Rattle.r4_path.specs.Levels.{AreNeeded, CanClimb, Climbed, HasLevels, HaveMkfsIdOf, IsLongEnough, IsRootNeeded, KeepMkfsIds, Keeps, Leads}
+use Rattle.r4_path.specs.Levels.{AreNeeded, AreRows, CanClimb, Climbed, HasLevels, HaveMkfsIdOf, IsLongEnough, IsRootNeeded, KeepMkfsIds, Keeps, Leads}
 use Rattle.r4_path.specs.Levels.{Rises, Suffices}
 use Rattle.r4_path.specs.Nodes.{IsPointable}
 use Rattle.r4_path.specs.Sharing.{IsSound}
-use Rattle.r4_path.specs.Steps.{Ascends, Climbs, CountUp, IsPathChange, IsStep, Step, fresh_ids, name_of, news, olds}
+use Rattle.r4_path.specs.Steps.{Ascends, Climbs, CountUp, Ends, IsPathChange, IsStep, Step, fresh_ids, name_of, news, olds}
 use Rattle.r4_path.proofs.NewNodes.{new_node}
 use Rattle.r4_path.proofs.OnPath.{new_stands, stands_in, stands_new, stands_step}
 use Rattle.r4_path.proofs.PathPatch.{change_is, part_meets}
@@ -45,6 +45,9 @@ pub record Rose (c : CellSeen) (ups : List CellSeen) (f after : Fresh) (d : Chan
   pub climbs : Climbs None (record { old = c; new = cells } ∷ more)
   pub keep : (u : Step) → Contains more u → Keeps u
   pub needed : AreNeeded (record { old = c; new = cells } ∷ more)
+  pub rows : AreRows (record { old = c; new = cells } ∷ more) over
+  pub ends : (r : Root) → (length cells ≡ 1) ⊎ IsLongEnough r (length (drop 1 cells)) c ups
+      → Ends r (record { old = c; new = cells } ∷ more) over
   pub root_needed : IsRootNeeded (record { old = c; new = cells } ∷ more) over
   pub root_able : (x : CellSeen) → over ≡ Some x → IsPointable x.id
   pub mkfs_ids : KeepMkfsIds (record { old = c; new = cells } ∷ more) over
@@ -170,6 +173,8 @@ module _ (c : CellSeen) (ups : List CellSeen) (f g : Fresh) (cells : List CellSe
       climbs = climbs;
       keep = up.keep;
       needed = up.needed;
+      rows = up.rows;
+      ends = up.ends;
       root_needed = up.root_needed;
       root_able = up.root_able;
       mkfs_ids = up.mkfs_ids b.mkfs_id;

@@ -75,6 +75,7 @@ module _ (l : ℕ) (cells : List CellSeen) (follow : Follow l least top cells) (
         names = names_are x l level_is ∙
             (ap (λ h. names_in (suc l) h (items_of x.block)) to
             ∙ (ap (λ items. names_in (suc l) top items) node.items_are ∙ pointers_name l least top cells follow able));
+        items = node.items_are;
         spans = spans_are x l level_is ∙
             (ap (λ items. spans_in (rank x.hi) items) node.items_are ∙ pointers_span (rank x.hi) cells);
         units = units_are x l level_is ∙ (ap units_in node.items_are ∙ pointers_unit cells);

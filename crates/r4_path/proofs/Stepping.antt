@@ -17,7 +17,7 @@ use Rattle.r4_node40.specs.Laid.{IsNode}
 use Rattle.r4_node40.specs.View.{view_block, view_items}
 use Rattle.r4_node40.proofs.Accepted.{good}
 use Rattle.r4_patch.specs.Joining.{ids_of}
-use Rattle.r4_path.specs.Levels.{HaveMkfsIdOf, IsStepOver, IsUnder, units_of_cells}
+use Rattle.r4_path.specs.Levels.{HasRow, HaveMkfsIdOf, IsStepOver, IsUnder, units_of_cells}
 use Rattle.r4_path.specs.Nodes.{IsPointable, pointer_item, weight, weight_of}
 use Rattle.r4_path.specs.Rows.{row_items, row_level, row_more, with_pointers}
 use Rattle.r4_path.specs.Sharing.{AreFilled, HasItems, IsRowOf, IsSound, Shares, items_of_cells}
@@ -212,6 +212,17 @@ module _ (parent : CellSeen) (b : Step) (first : CellSeen) (rest : List CellSeen
         ≡ names_in parent.level (rank parent.hi) the_row
     new_named = level_names (items_of_cells cells) ∙ ap (names_in parent.level (rank parent.hi)) all_items
 
+    pub parent_rows : HasRow b (record { old = parent; new = cells })
+    parent_rows = record {
+      before = f.before;
+      pointer = f.p;
+      behind = f.behind;
+      was = f.parts;
+      plugin = f.points.plugin;
+      to = f.points.to;
+      now = all_items ∙ ap (λ (more : List CellSeen). f.before ++ f.p ∷ (map pointer_item more ++ f.behind)) (sym rest_is);
+    }
+
     pub parent_step : IsStep (Some b) (record { old = parent; new = cells })
     parent_step = record {
       first = has.first;
@@ -337,4 +348,6 @@ module _ (parent : CellSeen) (b : Step) (p q : CellSeen) (w : Row) (key : Key) (
               (ap (λ (x : CellSeen). x.level) (looks.q_is ∙ sym same)) shares.filled high;
         };
         mkfs_id = subst (λ x. HaveMkfsIdOf x cells) (sym same) has.mkfs_id;
+        row = subst (λ x. HasRow b (record { old = x; new = cells })) (sym same)
+            (parent_rows parent b first rest w looks.under sound_parent new view_parent looks.more key_below key_here f.next cells has);
       }

@@ -76,6 +76,7 @@ ends_alone s ups f were are room one steps = record {
   steps = steps;
   climbs = tt;
   needed = tt;
+  rows = tt;
   root_needed = tt;
   root_able = λ c e. absurd (none-some c e);
   olds_are = refl;
@@ -135,6 +136,7 @@ module _ (s : Step) (f : Fresh) (can : CanClimb s [] f) (two : length s.new ≢ 
     steps = steps;
     climbs = tt;
     needed = tt;
+    rows = (two, points.items);
     root_needed = two;
     root_able = λ d e. subst (λ (x : CellSeen). IsPointable x.id) (same_Some c d e) (subst IsPointable (sym points.number)
         (numbered f.next can.unplaced (let n = can.numbers in let end = can.end in omega (arith, n, end))));
@@ -257,6 +259,7 @@ module _ (s : Step) (parent : CellSeen) (ups : List CellSeen) (f : Fresh) (can :
             (drop 1 s.new) ≤ 4068) step.old room)),
         rest.needed,
       );
+      rows = (step.row, rest.rows);
       root_needed = rest.root_needed;
       root_able = rest.root_able;
       olds_are = (λ i. step.old i ∷ rest.olds_are i);

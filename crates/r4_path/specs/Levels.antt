@@ -1,17 +1,18 @@
 -- A change that climbs a path, level by level (docs/volume.md, "Edits").
 use Rattle.std.specs.Prelude.{◌≡◌, ◌≢◌, ◌⊎◌, ℕ, suc, ◌+◌, ◌*◌, ◌^◌, ◌<◌, ◌≤◌, List, [], ◌∷◌, ◌++◌, All, Contains, drop, length}
-use Rattle.std.specs.Prelude.{take, Option, None, Some}
+use Rattle.std.specs.Prelude.{map, take, Option, None, Some}
 use Rattle.std.specs.Arc.{arc_value}
+use Rattle.r4_base.specs.Extents.{pointer_of}
 use Rattle.r4_base.specs.Key.{least, rank, top}
-use Rattle.r4_base.specs.Node.{items_of, mkfs_id_of}
+use Rattle.r4_base.specs.Node.{Item, items_of, mkfs_id_of}
 use Rattle.r4_base.specs.Tree.{IsNode, Root}
 use Rattle.r4_base.specs.Value.{Value}
 use Rattle.r4_cell.specs.Seen.{CellSeen, node_of}
 use Rattle.r4_cell.specs.declared.change.Change.{Change}
 use Rattle.r4_cell.specs.declared.change.Fresh.{Fresh}
 use Rattle.r4_patch.specs.Joining.{ids_of}
-use Rattle.r4_path.specs.Nodes.{IsPointable, weight}
-use Rattle.r4_path.specs.Sharing.{AreFilled, IsSound}
+use Rattle.r4_path.specs.Nodes.{IsPointable, pointer_item, weight}
+use Rattle.r4_path.specs.Sharing.{AreFilled, IsSound, items_of_cells}
 use Rattle.r4_path.specs.Steps.{Climbs, CountUp, Ends, Follow, IsStep, Step, fresh_ids, name_of, news, olds, root_pair}
 use Rattle.r4_path.specs.declared.level.Level.{Level}
 
@@ -52,6 +53,24 @@ AreNeeded (s ∷ (u ∷ us)) =
     × (weight (items_of u.old.block) + 46 * length (drop 1 s.new) ≤ 4068 → length u.new ≡ 1)
     × AreNeeded (u ∷ us)
 
+-- The items of the cells in the place of a parent are its own, and behind the pointer to the old cell of the level below stand
+-- pointers to those that came beside it.
+pub record HasRow (b s : Step) : Type 0 where
+  pub before : List Item
+  pub pointer : Item
+  pub behind : List Item
+  pub was : items_of s.old.block ≡ before ++ pointer ∷ behind
+  pub plugin : pointer.plugin ≡ 3
+  pub to : pointer_of pointer.body ≡ Some b.old.id
+  pub now : items_of_cells s.new ≡ before ++ pointer ∷ (map pointer_item (drop 1 b.new) ++ behind)
+
+-- So at each level above the lowest one; and a new root points to the cells below it.
+abbrev pub AreRows : List Step → (over : Option CellSeen) → Type 0
+AreRows [] over = Unit {0}
+AreRows (s ∷ []) None = Unit {0}
+AreRows (s ∷ []) (Some c) = (length s.new ≢ 1) × (items_of c.block ≡ map pointer_item s.new)
+AreRows (s ∷ (u ∷ us)) over = HasRow s u × AreRows (u ∷ us) over
+
 -- A new root stands only over a step of which several cells came.
 abbrev pub IsRootNeeded : List Step → (over : Option CellSeen) → Type 0
 IsRootNeeded [] over = over ≡ None
@@ -82,6 +101,7 @@ pub record IsStepOver (b : Step) (parent : CellSeen) (before after : Fresh) (s :
   pub two : 4068 < weight (items_of parent.block) + 46 * length (drop 1 b.new) → length s.new ≡ 2
   pub keeps : Keeps s
   pub mkfs_id : HaveMkfsIdOf s.old s.new
+  pub row : HasRow b s
 
 -- ---- up a path, from the lowest cell on
 
@@ -121,6 +141,7 @@ pub record Climbed (s : Step) (ups : List CellSeen) (before after : Fresh) (were
   pub steps : are ≡ were ++ s ∷ more
   pub climbs : Climbs (Some s) more
   pub needed : AreNeeded (s ∷ more)
+  pub rows : AreRows (s ∷ more) over
   pub root_needed : IsRootNeeded (s ∷ more) over
   pub root_able : (c : CellSeen) → over ≡ Some c → IsPointable c.id
   pub olds_are : olds more ≡ take (length more) ups

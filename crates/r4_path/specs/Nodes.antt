@@ -45,6 +45,7 @@ pub record IsPointingTo (cells : List CellSeen) (level id : ℕ) (c : CellSeen) 
   pub lo : rank c.lo ≡ least
   pub hi : rank c.hi ≡ top
   pub names : (node_of c).names ≡ map name_of cells
+  pub items : items_of c.block ≡ map pointer_item cells
   pub spans : (node_of c).spans ≡ []
   pub units : (node_of c).units ≡ []
   pub node : IsTreeNode (node_of c)

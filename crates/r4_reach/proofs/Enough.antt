@@ -33,7 +33,7 @@ no_if : (x : Bool) (p : ℕ) → x ≡ false → (if x then p else 0) ≡ 0
 no_if true p f = absurd cc
 no_if false p f = refl
 
-none_meet : (lo hi : ℕ) → meets lo hi (0, 0) ≡ false
+pub none_meet : (lo hi : ℕ) → meets lo hi (0, 0) ≡ false
 none_meet lo hi = by_tests (nat_lt lo 0) (nat_lt hi 0) refl refl
   where
     by_tests : (x y : Bool) → nat_lt lo 0 ≡ x → nat_lt hi 0 ≡ y
@@ -42,7 +42,7 @@ none_meet lo hi = by_tests (nat_lt lo 0) (nat_lt hi 0) refl refl
     by_tests false true f g = absurd (grind (arith, g))
     by_tests false false f g = f
 
-over_some : (n : ℕ) → 4068 < n → 1 ≤ over n
+pub over_some : (n : ℕ) → 4068 < n → 1 ≤ over n
 over_some n h = by_test (nat_lt 4068 n) refl
   where
     by_test : (v : Bool) → nat_lt 4068 n ≡ v → 1 ≤ (if v then 1 + (n - 4068 + 1023) / 1024 else 0)
@@ -60,7 +60,7 @@ more_some n m h = by_test (nat_lt 4068 n) refl
     by_test true f = most (nat_lt (over n) m) refl
     by_test false f = absurd (grind (arith, f, h))
 
-asks_some : (always : Bool) (a : Ask) → 1 ≤ a.more → asking always a ≡ Some a
+pub asks_some : (always : Bool) (a : Ask) → 1 ≤ a.more → asking always a ≡ Some a
 asks_some true a h = refl
 asks_some false a h = by_test (nat_lt 0 a.more) refl
   where
@@ -104,13 +104,13 @@ module _ (b : Option Body) (e : Edits) (reads rs : Intervals) (quiet : come_of b
   none_meets lo hi = subst (λ r. meets lo hi r ≡ false) (sym quiet) (none_meet lo hi)
 
   -- a twig whose pieces stay, and a node above, need the bytes of their items and of the pointers that come
-  twig_needs : (c : Node Value) (hs : List (Name × Ask)) → changes_pieces b e c ≡ false
+  pub twig_needs : (c : Node Value) (hs : List (Name × Ask)) → changes_pieces b e c ≡ false
       → twig_need b e c hs ≡ weight (items_of c.block) + 46 * all_more hs
   twig_needs c hs still = no_or (changes_pieces b e c) (meets c.lo c.hi (come_of b))
       (twig_bytes (pieces_after b e c hs) + 46 * (all_more hs + put_among b e c))
       (weight (items_of c.block) + 46 * all_more hs) still (none_meets c.lo c.hi)
 
-  node_needs : (c : Node Value) (hs : List (Name × Ask))
+  pub node_needs : (c : Node Value) (hs : List (Name × Ask))
       → node_need b c hs ≡ weight (items_of c.block) + 46 * all_more hs
   node_needs c hs = let z : pointers_gone (come_of b) c hs
       ≡ 0 = no_if (meets c.lo c.hi (come_of b)) (all_gone hs) (none_meets c.lo c.hi) in omega (arith, z)

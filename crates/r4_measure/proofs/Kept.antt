@@ -1,0 +1,321 @@
+-- What is left of a budget after all edits of a leaf.
+use Rattle.std.proofs.Common.{◌≡◌, ◌⊎◌, inl, inr, ℕ, zero, suc, ◌+◌, ◌-◌, ◌^◌, ◌<◌, ◌≤◌, Bool, true, false, List, [], ◌∷◌, ◌++◌, drop, length, refl, ap, sym, subst, ◌∙◌, arith}
+use Rattle.std.specs.Prelude.{Contains, Option, None, Some, ◌==◌, if◌then◌else◌, sum_by}
+use Rattle.std.specs.Option.{option_map, unwrap_or}
+use Rattle.std.proofs.lemmas.Bool.{cases_eq, cases_lt, eq-eqb}
+use Rattle.std.proofs.lemmas.List.Elements.{Contains-append_cases, Contains-append_left, Contains-append_right}
+use Rattle.std.proofs.lemmas.List.Sums.{sum_by-cons}
+use Rattle.std.proofs.lemmas.Option.{none-some, same_Some}
+use Rattle.r4_base.specs.Cell.{block_names, cell_of, item_names, names_in, next_key, pointer_names}
+use Rattle.r4_base.specs.Extents.{pointer_of, units_of}
+use Rattle.r4_base.specs.Key.{rank}
+use Rattle.r4_base.specs.Node.{Item, items_of}
+use Rattle.r4_base.specs.Tree.{Name, Node, Root, Store}
+use Rattle.r4_base.specs.Value.{Value}
+use Rattle.r4_cell.specs.Patch.{by_name, over, place, root_after, root_of_pair}
+use Rattle.r4_cell.specs.Seen.{CellSeen, node_of}
+use Rattle.r4_cell.specs.declared.change.Change.{Change}
+use Rattle.r4_cell.specs.declared.change.Fresh.{Fresh}
+use Rattle.r4_cell.specs.declared.change.Root.{Root as RootPair}
+use Rattle.r4_patch.specs.Joining.{ids_of, patch_of_change}
+use Rattle.r4_patch.specs.Part.{IsPart}
+use Rattle.r4_patch.proofs.PartCells.{root_high}
+use Rattle.r4_leaf.specs.Units.{LeafUnit, leaf_bytes}
+use Rattle.r4_edit.specs.Editing.{Edits, extra_cells}
+use Rattle.r4_path.specs.Levels.{IsLongEnough}
+use Rattle.r4_path.specs.Nodes.{IsPointable}
+use Rattle.r4_path.specs.Steps.{Ascends, Climbs, Ends, IsFree, OnlyTakes, Step, fresh_ids, name_of, news, olds, root_pair}
+use Rattle.r4_path.proofs.Begun.{ascends_take}
+use Rattle.r4_path.proofs.CellNodes.{names_are}
+use Rattle.r4_patch.proofs.Members.{cases, found, here, here_named, later, later_named, none}
+use Rattle.r4_path.proofs.Rising.{count_within, follow_within, level_is}
+use Rattle.r4_measure.specs.Budget.{AllBear, AreSeen, AreUp, Bears, Budget, HasNoFresh, IsBudget, IsFresh, IsSpent, Rises, below, none_at}
+use Rattle.r4_measure.proofs.Climb.{climbing, in_left, in_right, none_less, none_member, none_other}
+use Rattle.r4_measure.proofs.Parent.{less_below, less_grows}
+
+-- ---- cells and their items
+
+pub block_is : (c : CellSeen) → (node_of c).block ≡ c.block
+unfolding cell_of
+block_is c = by_level c.level
+  where
+    by_level : (l : ℕ) → (cell_of l (rank c.lo) (rank c.hi) c.block).block ≡ c.block
+    by_level zero = refl
+    by_level (suc l) = refl
+
+pointer_named : (level next : ℕ) (it : Item) (k : ℕ) → it.plugin ≡ 3 → pointer_of it.body ≡ Some k → (n : Name) × Contains (item_names level next it) n × (n.id ≡ k)
+unfolding item_names
+pointer_named level next it k p e = by_plugin (it.plugin == 3) (eq-eqb it.plugin 3 p)
+  where
+    Has : List Name → Type 0
+    Has ns = (n : Name) × Contains ns n × (n.id ≡ k)
+
+    one : Has (pointer_names level (rank it.key) next (Some k))
+    one = (record { id = k; level = level - 1; lo = rank it.key; hi = next }, here (record { id = k; level = level - 1; lo = rank it.key; hi = next }) [], refl)
+
+    by_plugin : (t : Bool) → t ≡ true → (n : Name) × Contains (if t then pointer_names level (rank it.key) next (pointer_of it.body) else (if it.plugin == 5 then block_names (rank it.key) (units_of it.body) else [])) n × (n.id ≡ k)
+    by_plugin true h = subst Has (ap (pointer_names level (rank it.key) next) (sym e)) one
+    by_plugin false h = absurd cc
+
+item_named : (level hi : ℕ) (items : List Item) (it : Item) (k : ℕ) → Contains items it → it.plugin ≡ 3 → pointer_of it.body ≡ Some k → (n : Name) × Contains (names_in level hi items) n × (n.id ≡ k)
+unfolding names_in
+item_named level hi [] it k member p e = absurd (none it member)
+item_named level hi (x ∷ xs) it k member p e = elim (cases x it xs member) [
+  | inl same ↦
+      let (n, at, is) = pointer_named level (next_key hi xs) x k (ap (λ (y : Item). y.plugin) (sym same) ∙ p) (ap (λ (y : Item). pointer_of y.body) (sym same) ∙ e) in
+      (n, Contains-append_left (item_names level (next_key hi xs) x) (names_in level hi xs) n at, is)
+  | inr rest ↦
+      let (n, at, is) = item_named level hi xs it k rest p e in
+      (n, Contains-append_right (item_names level (next_key hi xs) x) (names_in level hi xs) n at, is)
+]
+
+module _ (now : Store Value) (seen : AreSeen now) (f : Fresh) (free : IsFree f.next f.end now) where
+  pub clean_node : (i : ℕ) (c : Node Value) (l : ℕ) → now i ≡ Some c → c.level ≡ suc l → HasNoFresh f (items_of c.block)
+  clean_node i c l at up it k member p e fresh =
+      let (x, is) = seen i c at in
+      let level : x.level ≡ suc l = sym (level_is x) ∙ (ap (λ (y : Node Value). y.level) (sym is) ∙ up) in
+      let mine : Contains (items_of x.block) it = subst (λ (b : List ℕ). Contains (items_of b) it) (ap (λ (y : Node Value). y.block) is ∙ block_is x) member in
+      let (n, named, id_is) = item_named (suc l) (rank x.hi) (items_of x.block) it k mine p e in
+      let named_c : Contains c.names n = subst (λ ns. Contains ns n) (sym (ap (λ (y : Node Value). y.names) is ∙ names_are x l level)) named in
+      free.names k fresh.0 fresh.1 (n, (i, c, at, named_c), id_is)
+
+-- ---- the cells above
+
+module _ (now : Store Value) (r : Root) (it : IsPart now r) (seen : AreSeen now) (f : Fresh) (free : IsFree f.next f.end now) (b : Budget) (is : IsBudget now r b) where
+  not_fresh : (i : ℕ) (c : Node Value) → now i ≡ Some c → IsFresh f i → ⊥
+  not_fresh i c at fresh = none-some c (sym (free.cells i fresh.0 fresh.1) ∙ at)
+
+  pub up_path : (l : ℕ) (lower : CellSeen) (more : List Step) → 1 ≤ l → lower.level ≡ l → Ascends now (Some lower) (olds more) → AreUp f b l more
+  up_path l lower [] low level path = tt
+  up_path l lower (u ∷ us) low level (at, pos, named, rest) =
+      let up : u.old.level ≡ suc l = elim ((it.nodes u.old.id (node_of u.old) at).below (name_of lower) named) [
+        | inl pointer ↦ let a = pointer.1 in let c = level_is u.old in omega (arith, a, c, level)
+        | inr extent ↦ let a = extent.1 in absurd (omega (arith, a, low, level))
+      ] in
+      let node_up : (node_of u.old).level ≡ suc l = level_is u.old ∙ up in (
+        record {
+          level = up;
+          old = not_fresh u.old.id (node_of u.old) at;
+          clean = subst (λ (bytes : List ℕ). HasNoFresh f (items_of bytes)) (block_is u.old) (clean_node now seen f free u.old.id (node_of u.old) l at node_up);
+          bears = subst (λ (bytes : List ℕ). Bears (b l) (b (suc l)) (suc l) (items_of bytes) u.old.id) (block_is u.old) (is.bears u.old.id (node_of u.old) l at node_up low);
+        },
+        up_path (suc l) u.old us (omega (arith, low)) up rest,
+      )
+
+-- a new cell above the lowest step suffices for what is left below it
+pub bear_of : (f : Fresh) (b after : Budget) (r : Root) (l : ℕ) (s : Step) (more : List Step) (over : Option CellSeen) → s.old.level ≡ l → AreUp f b l more → Climbs (Some s) more → Ends r (s ∷ more) over → AllBear after l more over
+    → (x : CellSeen) → Contains (news more over) x → (k : ℕ) × (l ≤ k) × (x.level ≡ suc k) × Bears (after k) (after (suc k)) (suc k) (items_of x.block) x.id
+bear_of f b after r l s [] None level ups climbs ends bear x member = absurd (none x member)
+bear_of f b after r l s [] (Some c) level ups climbs ends bear x member = elim (cases c x [] member) [
+  | inl e ↦ subst (λ (z : CellSeen). (k : ℕ) × (l ≤ k) × (z.level ≡ suc k) × Bears (after k) (after (suc k)) (suc k) (items_of z.block) z.id) (sym e) (l, omega arith, ends.level ∙ ap suc level, bear)
+  | inr m ↦ absurd (none x m)
+]
+bear_of f b after r l s (u ∷ us) over level (up, ups) (step, climbs) ends (bear, rest) x member = elim (Contains-append_cases u.new (news us over) x member) [
+  | inl mine ↦ (l, omega arith, (follow_within u.old.level (rank u.old.lo) (rank u.old.hi) u.new x step.ranges mine).level_as ∙ up.level, bear x mine)
+  | inr more ↦ let (k, le, xl, h) = bear_of f b after r (suc l) u us over up.level ups climbs ends rest x more in (k, omega (arith, le), xl, h)
+]
+
+-- ---- all of it
+
+pub not_named : (cells : List CellSeen) (i : ℕ) → by_name cells i ≡ None → Contains (ids_of cells) i → ⊥
+not_named [] i e member = none i member
+not_named (x ∷ xs) i e member = elim (cases_eq x.id i) [
+  | inl same ↦ none-some (node_of x) (sym e ∙ here_named x xs i same)
+  | inr other ↦ elim (cases x.id i (ids_of xs) member) [
+    | inl h ↦ other (sym h)
+    | inr m ↦ not_named xs i (sym (later_named x xs i other) ∙ e) m
+  ]
+]
+
+module _ (now : Store Value) (r : Root) (it : IsPart now r) (seen : AreSeen now) (f after : Fresh) (free : IsFree f.next f.end now) (unplaced : 2 ^ 63 ≤ f.next) (high : f.end < 2 ^ 64) (takes : OnlyTakes f after) (able : IsPointable r.id)
+    (b : Budget) (is : IsBudget now r b) (us : List LeafUnit) (leaf : CellSeen) (ups : List CellSeen) (d : Change) (leaf_level : leaf.level ≡ 1) (path : Ascends now None (leaf ∷ ups))
+    (enough : (leaf_bytes us ≤ 4068) ⊎ IsLongEnough r (extra_cells us) leaf ups) (has : (leaf_bytes us ≤ 4068) ⊎ (extra_cells us ≤ b 1 leaf.id)) (e : Edits leaf ups us f after d) where
+  abbrev s : Step
+  s = e.lowest
+
+  first : ids_of s.new ≡ s.old.id ∷ ids_of (drop 1 s.new)
+  first = e.climbs.0.first
+
+  s_level : s.old.level ≡ 1
+  s_level = ap (λ (c : CellSeen). c.level) e.old ∙ leaf_level
+
+  abbrev left : ℕ → ℕ
+  left = none_at s.new (b 1)
+
+  zeros : (cells : List CellSeen) → ((c : CellSeen) → Contains cells c → left c.id ≡ 0) → sum_by (λ (c : CellSeen). left c.id) cells ≡ 0
+  zeros [] h = refl
+  zeros (c ∷ cs) h = let a = sum_by-cons (λ (x : CellSeen). left x.id) c cs in let z = h c (here c cs) in let rest = zeros cs (λ x m. h x (later c x cs m)) in omega (arith, a, z, rest)
+
+  long : (cells : List CellSeen) → 1 ≤ length cells → length cells ≡ 1 + length (drop 1 cells)
+  long [] h = absurd (omega (arith, h))
+  long (c ∷ cs) h = omega arith
+
+  come : length (drop 1 s.new) ≤ b 1 s.old.id
+  come =
+      let same : b 1 s.old.id ≡ b 1 leaf.id = ap (λ (c : CellSeen). b 1 c.id) e.old in
+      elim (cases_lt 4068 (leaf_bytes us)) [
+        | inl over ↦
+            let n = e.several over in
+            let l = long s.new (omega (arith, n)) in
+            elim has [ inl fits ↦ absurd (omega (arith, over, fits)) | inr h ↦ omega (arith, n, l, h, same) ]
+        | inr fits ↦ let n = e.one fits in let l = long s.new (omega (arith, n)) in omega (arith, n, l)
+      ]
+
+  spent : IsSpent f (b 1) left s
+  spent = record {
+    less = λ i h. none_less s.new (b 1) i;
+    spent = let z = zeros s.new (λ c m. none_member s.new (b 1) c m) in let h = come in omega (arith, z, h);
+    small = λ i. let h = none_less s.new (b 1) i in let m = is.small 1 i in omega (arith, h, m);
+    others = λ i out. none_other s.new (b 1) i out;
+    once = λ l c m. none_member s.new (b 1) c m;
+  }
+
+  fresh : (i : ℕ) → Contains (fresh_ids (s ∷ e.more) e.over) i → IsFresh f i
+  fresh i member =
+      let w = count_within f.next (fresh_ids (s ∷ e.more) e.over) i e.counts member in
+      let n = ap (λ (x : Fresh). x.next) e.number in
+      (omega (arith, w), omega (arith, w, n, takes))
+
+  ends : Ends r (s ∷ e.more) e.over
+  ends = e.ends r (elim enough [
+    | inl fits ↦ inl (e.one fits)
+    | inr h ↦ elim (cases_lt 4068 (leaf_bytes us)) [
+      | inl over ↦ let n = e.several over in let l = long s.new (omega (arith, n)) in inr (fewer r (extra_cells us) (length (drop 1 s.new)) leaf ups (omega (arith, n, l)) h)
+      | inr fits ↦ inl (e.one fits)
+    ]
+  ])
+    where
+      fewer : (r : Root) (n m : ℕ) (c : CellSeen) (cs : List CellSeen) → m ≤ n → IsLongEnough r n c cs → IsLongEnough r m c cs
+      fewer r n m c [] le h = h
+      fewer r n m c (d ∷ ds) le h = elim h [ inl room ↦ inl (omega (arith, room, le)) | inr rest ↦ inr rest ]
+
+  ups_stand : Ascends now (Some leaf) (olds e.more)
+  ups_stand = subst (λ cells. Ascends now (Some leaf) cells) (sym e.ups_are) (ascends_take now (Some leaf) (length e.more) ups path.3)
+
+  ups_are : AreUp f b 1 e.more
+  ups_are = up_path now r it seen f free b is 1 leaf e.more (omega arith) leaf_level ups_stand
+
+  -- an old cell that is the root stands at its level
+  tops : (u : Step) → Contains (s ∷ e.more) u → u.old.id ≡ r.id → u.old.level ≡ r.height
+  tops u member is_root = elim (cases s u e.more member) [
+    | inl same ↦
+        let id : leaf.id ≡ r.id = ap (λ (c : CellSeen). c.id) (sym e.old) ∙ (ap (λ (v : Step). v.old.id) (sym same) ∙ is_root) in
+        let h = root_high now r it leaf.id (node_of leaf) path.0 id in
+        let v = level_is leaf in
+        let lv = ap (λ (w : Step). w.old.level) same in
+        omega (arith, h, v, lv, s_level, leaf_level)
+    | inr more ↦
+        let at = stands_old e.more (Some leaf) ups_stand u more in
+        let h = root_high now r it u.old.id (node_of u.old) at is_root in
+        let v = level_is u.old in
+        omega (arith, h, v)
+  ]
+    where
+      stands_old : (steps : List Step) (below : Option CellSeen) → Ascends now below (olds steps) → (u : Step) → Contains steps u → now u.old.id ≡ Some (node_of u.old)
+      stands_old [] below path u member = absurd (none u member)
+      stands_old (v ∷ vs) below (at, low, named, rest) u member = elim (cases v u vs member) [
+        | inl same ↦ subst (λ (x : Step). now x.old.id ≡ Some (node_of x.old)) (sym same) at
+        | inr more ↦ stands_old vs (Some v.old) rest u more
+      ]
+
+  rises : Rises r f b 1 left e.more e.over
+  rises = climbing f unplaced high r able b is.small is.root 1 left s e.more e.over (omega arith) s_level spent first fresh e.rows e.needed e.keep e.climbs.1 ends tops ups_are
+
+  abbrev now2 : Store Value
+  now2 = place (patch_of_change d) now
+
+  pub new_are : d.new ≡ s.new ++ news e.more e.over
+  new_are = e.levels.new
+
+  less : (k i : ℕ) → (IsFresh f i → ⊥) → rises.after k i ≤ b k i
+  less = rises.less
+
+  same_below : (k i : ℕ) → (Contains (ids_of d.new) i → ⊥) → rises.after k i ≡ b k i
+  same_below k i out = elim (cases_eq k 1) [
+    | inl one ↦ subst (λ j. rises.after j i ≡ b j i) (sym one) (ap (λ g. g i) rises.at ∙ spent.others i (λ m. out (subst (λ cs. Contains (ids_of cs) i) (sym new_are) (in_left s.new (news e.more e.over) i m))))
+    | inr ne ↦ rises.others k i ne (λ m. out (subst (λ cs. Contains (ids_of cs) i) (sym new_are) (in_right s.new (news e.more e.over) i m)))
+  ]
+
+  kept_node : (i : ℕ) (c : Node Value) (l : ℕ) → now i ≡ Some c → (Contains (ids_of d.new) i → ⊥) → c.level ≡ suc l → 1 ≤ l → Bears (rises.after l) (rises.after (suc l)) (suc l) (items_of c.block) i
+  kept_node i c l at out up low =
+      let clean = clean_node now seen f free i c l at up in
+      let a = less_below f (b l) (rises.after l) (less l) (items_of c.block) clean in
+      let g = less_grows f (b l) (rises.after l) (less l) (items_of c.block) clean in
+      let own = same_below (suc l) i out in
+      elim (is.bears i c l at up low) [
+        | inl fits ↦ inl (omega (arith, a, fits))
+        | inr rest ↦ elim rest [
+          | inl empty ↦ inr (inl (omega (arith, a, empty)))
+          | inr rest2 ↦ elim rest2 [
+            | inl twig ↦ let h = twig.1 in inr (inr (inl (twig.0, omega (arith, g, h, own))))
+            | inr node ↦ let h = node.1 in inr (inr (inr (node.0, omega (arith, a, h, own))))
+          ]
+        ]
+      ]
+
+  new_node : (x : CellSeen) (l : ℕ) → Contains d.new x → (node_of x).level ≡ suc l → 1 ≤ l → Bears (rises.after l) (rises.after (suc l)) (suc l) (items_of (node_of x).block) x.id
+  new_node x l member up low = elim (Contains-append_cases s.new (news e.more e.over) x (subst (λ cs. Contains cs x) new_are member)) [
+    | inl leafs ↦
+        let w = (follow_within s.old.level (rank s.old.lo) (rank s.old.hi) s.new x e.climbs.0.ranges leafs).level_as in
+        let v = level_is x in
+        absurd (omega (arith, w, v, up, low, s_level))
+    | inr upper ↦
+        let (k, le, xl, h) = bear_of f b rises.after r 1 s e.more e.over s_level ups_are e.climbs.1 ends rises.bear x upper in
+        let v = level_is x in
+        let same : k ≡ l = omega (arith, v, xl, up) in
+        subst (λ (bytes : List ℕ). Bears (rises.after l) (rises.after (suc l)) (suc l) (items_of bytes) x.id) (sym (block_is x))
+        (subst (λ j. Bears (rises.after j) (rises.after (suc j)) (suc j) (items_of x.block) x.id) same h)
+  ]
+
+  all_nodes : (i : ℕ) (c : Node Value) (l : ℕ) → now2 i ≡ Some c → c.level ≡ suc l → 1 ≤ l → Bears (rises.after l) (rises.after (suc l)) (suc l) (items_of c.block) i
+  all_nodes i c l at up low = by_new (by_name d.new i) refl (by_name d.old i) at
+    where
+      by_new : (o : Option (Node Value)) → by_name d.new i ≡ o → (p : Option (Node Value)) → over o p (now i) ≡ Some c → Bears (rises.after l) (rises.after (suc l)) (suc l) (items_of c.block) i
+      by_new (Some n) o p h =
+          let (x, member, id_is, says) = found d.new i n o in
+          let same : c ≡ node_of x = sym (same_Some n c h) ∙ says in
+          subst (λ (z : Node Value). Bears (rises.after l) (rises.after (suc l)) (suc l) (items_of z.block) i) (sym same)
+          (subst (λ j. Bears (rises.after l) (rises.after (suc l)) (suc l) (items_of (node_of x).block) j) id_is (new_node x l member (ap (λ (z : Node Value). z.level) (sym same) ∙ up) low))
+      by_new None o (Some q) h = absurd (none-some c h)
+      by_new None o None h = kept_node i c l h (not_named d.new i o) up low
+
+  abbrev root2 : Root
+  root2 = root_after (patch_of_change d) r
+
+  root_kept : 1 ≤ rises.after root2.height root2.id → root2.height < 8
+  root_kept = by_over e.over rises.new_root e.levels.pair
+    where
+      Low : Root → Type 0
+      Low q = 1 ≤ rises.after q.height q.id → q.height < 8
+
+      by_over : (o : Option CellSeen) → ((c : CellSeen) → o ≡ Some c → (1 < c.level) × (c.level ≤ 8) × (rises.after c.level c.id ≡ 0) × (1 ≤ b r.height r.id)) → d.root ≡ root_pair o → 1 ≤ rises.after root2.height root2.id → root2.height < 8
+      by_over None h pair = subst Low (sym (ap (λ (q : Option RootPair). unwrap_or (option_map root_of_pair q) r) pair))
+          (λ some. is.root (let k = less r.height r.id (not_fresh now r it seen f free b is r.id it.root_node it.root_is) in omega (arith, some, k)))
+      by_over (Some c) h pair = subst Low (sym (ap (λ (q : Option RootPair). unwrap_or (option_map root_of_pair q) r) pair))
+          (λ some. let z = (h c refl).2 in absurd (omega (arith, z, some)))
+
+  pub height_kept : r.height ≤ 8 → root2.height ≤ 8
+  height_kept low = by_over e.over rises.new_root e.levels.pair
+    where
+      by_over : (o : Option CellSeen) → ((c : CellSeen) → o ≡ Some c → (1 < c.level) × (c.level ≤ 8) × (rises.after c.level c.id ≡ 0) × (1 ≤ b r.height r.id)) → d.root ≡ root_pair o → root2.height ≤ 8
+      by_over None h pair = subst (λ (q : Root). q.height ≤ 8) (sym (ap (λ (q : Option RootPair). unwrap_or (option_map root_of_pair q) r) pair)) low
+      by_over (Some c) h pair = subst (λ (q : Root). q.height ≤ 8) (sym (ap (λ (q : Option RootPair). unwrap_or (option_map root_of_pair q) r) pair)) ((h c refl).1)
+
+  -- where nothing may come of the root, it stays
+  root_stays : b r.height r.id ≡ 0 → (root2 ≡ r) × (rises.after r.height r.id ≡ 0)
+  root_stays zero_root = (by_over e.over rises.new_root e.levels.pair, let k = less r.height r.id (not_fresh now r it seen f free b is r.id it.root_node it.root_is) in omega (arith, k, zero_root))
+    where
+      by_over : (o : Option CellSeen) → ((c : CellSeen) → o ≡ Some c → (1 < c.level) × (c.level ≤ 8) × (rises.after c.level c.id ≡ 0) × (1 ≤ b r.height r.id)) → d.root ≡ root_pair o → root2 ≡ r
+      by_over None h pair = ap (λ (q : Option RootPair). unwrap_or (option_map root_of_pair q) r) pair
+      by_over (Some c) h pair = let some = (h c refl).3 in absurd (omega (arith, some, zero_root))
+
+  pub budget_kept : (left : Budget) × IsBudget now2 root2 left × ((k i : ℕ) → (Contains (ids_of d.new) i → ⊥) → left k i ≡ b k i) × ((k i : ℕ) → (IsFresh f i → ⊥) → left k i ≤ b k i) × (b r.height r.id ≡ 0 → (root2 ≡ r) × (left r.height r.id ≡ 0))
+  budget_kept = (rises.after, record { bears = all_nodes; small = rises.small; root = root_kept }, same_below, less, root_stays)
+
+  pub seen_kept : AreSeen now2
+  seen_kept i c at = by_new (by_name d.new i) refl (by_name d.old i) at
+    where
+      by_new : (o : Option (Node Value)) → by_name d.new i ≡ o → (p : Option (Node Value)) → over o p (now i) ≡ Some c → (x : CellSeen) × (c ≡ node_of x)
+      by_new (Some n) o p h = let (x, member, id_is, says) = found d.new i n o in (x, sym (same_Some n c h) ∙ says)
+      by_new None o (Some q) h = absurd (none-some c h)
+      by_new None o None h = seen i c h

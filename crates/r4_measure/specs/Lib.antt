@@ -1,0 +1,6 @@
+pub mod Budget
+pub mod Leaving
+pub mod Measured
+pub mod Loop
+pub mod Asked
+pub mod Begin

@@ -1,0 +1,10 @@
+//! How many cells may still come in the place of each cell of a tree, while the leaves of a command are edited one
+//! after another (docs/volume.md, "What may still come").
+#![tactic(auto)]
+
+mod laws;
+
+pub use laws::{
+    a_budget_suffices, each_leaf_has_its_turn, edits_keep_a_budget, reach_suffices_for_all_edits,
+    turns_keep_the_measure, what_is_asked_is_a_budget,
+};

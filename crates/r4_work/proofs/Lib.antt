@@ -1,0 +1,10 @@
+pub mod Paths
+pub mod Places
+pub mod Halving
+pub mod InPlace
+pub mod Ranges
+pub mod Ups
+pub mod LeafEffect
+pub mod UnitMembers
+pub mod Starting
+pub mod Remade
