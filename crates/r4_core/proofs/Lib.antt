@@ -1,0 +1,6 @@
+mod Turning
+mod Unused
+mod Carried
+mod Ended
+mod GivingBack
+mod Parting
