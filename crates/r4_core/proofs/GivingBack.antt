@@ -32,7 +32,8 @@ use Rattle.r4_core.specs.TasksOut.{AreOut, pins_in}
 use Rattle.r4_core.specs.View.{CoreSeen, blocks_of, tables_of}
 use Rattle.r4_core.specs.declared.parts.Commit.{Commit}
 use Rattle.r4_core.proofs.Turning.{is_script_before, out_of_others, owed_less, summed}
-use Rattle.r4_core.proofs.Unused.{AreLike, IsLike, none_there, readable_like, same_captured, same_dirty, unused_fewer, unused_like, was_there}
+use Rattle.r4_core.proofs.Unused.{AreLike, IsLike, none_there, readable_like, same_captured, same_dirty, unused_fewer}
+use Rattle.r4_core.proofs.Unused.{unused_like, was_there}
 
 module _ (t : TurnsSeen) (s : ℕ) (out : Out) (is : IsScript t s) (was : (turn_at t s).out ≡ Some out) where
   abbrev back : Turn

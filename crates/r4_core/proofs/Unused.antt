@@ -1,5 +1,6 @@
 -- Where a task uses cells in memory no more: the cells stay, and what is said of them.
-use Rattle.std.proofs.Common.{◌≡◌, inl, inr, ⊎_elim, ℕ, ◌-◌, ◌≤◌, ◌==◌, Bool, true, false, ◌||◌, cond, List, [], ◌∷◌, Some, None, refl, sym, ◌∙◌, ap, subst, arith, nat_lt}
+use Rattle.std.proofs.Common.{◌≡◌, inl, inr, ⊎_elim, ℕ, ◌-◌, ◌≤◌, ◌==◌, Bool, true, false, ◌||◌, cond, List, [], ◌∷◌}
+use Rattle.std.proofs.Common.{Some, None, refl, sym, ◌∙◌, ap, subst, arith, nat_lt}
 use Rattle.std.specs.Prelude.{count_by}
 use Rattle.std.specs.Option.{option_map}
 use Rattle.std.proofs.lemmas.Bool.{cases_Bool, cond-true, cond-false}
@@ -9,7 +10,8 @@ use Rattle.r4_base.specs.Key.{rank}
 use Rattle.r4_base.specs.declared.things.NodeId.{NodeId}
 use Rattle.r4_buffer.specs.Changed.{Standing, in_turn, one_less, unused, uses_of}
 use Rattle.r4_buffer.specs.Reading.{IsReadable, NamesStand}
-use Rattle.r4_buffer.specs.Seen.{BufferSeen, EntrySeen, IsCaptured, IsLawful, buffered, is_above, is_captured, is_dirty_by}
+use Rattle.r4_buffer.specs.Seen.{BufferSeen, EntrySeen, IsCaptured, IsLawful, buffered, is_above, is_captured}
+use Rattle.r4_buffer.specs.Seen.{is_dirty_by}
 use Rattle.r4_buffer.proofs.Captured.{captured_is, is_captured_from}
 use Rattle.r4_cell.specs.Seen.{CellSeen}
 use Rattle.r4_outside.specs.Device.{State}

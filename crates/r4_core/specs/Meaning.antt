@@ -1,5 +1,6 @@
 -- Group F, what the cells mean, in a run that names an image with a volume (docs/durable.md).
-use Rattle.std.specs.Prelude.{◌≡◌, ◌++◌, ℕ, ◌<◌, ◌≤◌, ◌==◌, true, if◌then◌else◌, Contains, Option, Some, None, IsSome, List, [], Ok}
+use Rattle.std.specs.Prelude.{◌≡◌, ◌++◌, ℕ, ◌<◌, ◌≤◌, ◌==◌, true, if◌then◌else◌, Contains, Option, Some, None, IsSome}
+use Rattle.std.specs.Prelude.{List, [], Ok}
 use Rattle.r4_atoms.specs.Atoms.{AtomsSeen, IsOpenAtom, account_of, is_sealed, owner_of}
 use Rattle.r4_base.specs.Cell.{IsCellOf}
 use Rattle.r4_base.specs.Chain.{committed as head_named}

@@ -49,9 +49,40 @@ impl<D: Device, R: Run> Model for Core<D, R> {
 
     ghost Value = { CoreSeen D };
 
-    ghost view = { λ c. record { dev = c.dev; turns = c.turns; locks = c.locks; atoms = c.atoms; buffer = c.buffer; space = c.space; tree = c.tree; numbers = c.numbers; volume = c.volume; commit = c.commit; broken = c.broken; trace = c.trace; threshold = c.threshold } };
+    ghost view = { λ c. record {
+      dev = c.dev;
+      turns = c.turns;
+      locks = c.locks;
+      atoms = c.atoms;
+      buffer = c.buffer;
+      space = c.space;
+      tree = c.tree;
+      numbers = c.numbers;
+      volume = c.volume;
+      commit = c.commit;
+      broken = c.broken;
+      trace = c.trace;
+      threshold = c.threshold;
+    } };
 
-    ghost invariant = { λ c. IsKept (record { start = R.start; clock = R.clock; scripts = R.scripts; lender = R.lender }) (D.state c.dev) (record { dev = c.dev; turns = c.turns; locks = c.locks; atoms = c.atoms; buffer = c.buffer; space = c.space; tree = c.tree; numbers = c.numbers; volume = c.volume; commit = c.commit; broken = c.broken; trace = c.trace; threshold = c.threshold }) };
+    ghost invariant = { λ c. IsKept
+        (record { start = R.start; clock = R.clock; scripts = R.scripts; lender = R.lender })
+        (D.state c.dev)
+        (record {
+          dev = c.dev;
+          turns = c.turns;
+          locks = c.locks;
+          atoms = c.atoms;
+          buffer = c.buffer;
+          space = c.space;
+          tree = c.tree;
+          numbers = c.numbers;
+          volume = c.volume;
+          commit = c.commit;
+          broken = c.broken;
+          trace = c.trace;
+          threshold = c.threshold;
+        }) };
 }
 
 impl<D: Device, R: Run> Core<D, R> {
