@@ -4,3 +4,4 @@ mod Carried
 mod Ended
 mod GivingBack
 mod Parting
+mod Resting

@@ -1,5 +1,5 @@
 -- What the little steps of a core change.
-use Rattle.std.specs.Prelude.{◌≡◌, ◌⊎◌, ℕ, ◌-◌, ◌∷◌, ◌≤◌, Some, None}
+use Rattle.std.specs.Prelude.{◌≡◌, ◌⊎◌, ℕ, ◌+◌, ◌-◌, ◌∷◌, ◌≤◌, Some, None}
 use Rattle.r4_base.specs.declared.things.TxnNo.{TxnNo}
 use Rattle.r4_buffer.specs.Changed.{in_turn, unused}
 use Rattle.r4_buffer.specs.Seen.{buffered}
@@ -11,7 +11,8 @@ use Rattle.r4_trace.specs.declared.entry.Entry.{Entry}
 use Rattle.r4_trace.specs.declared.entry.Entry.TheVariants.{Broken, Ended}
 use Rattle.r4_turns.specs.Turns.{answered_one, given_back, left}
 use Rattle.r4_turns.specs.declared.out.Out.{Out}
-use Rattle.r4_wander.specs.Progress.{IsNext, stage_at}
+use Rattle.r4_outside.specs.Device.{State}
+use Rattle.r4_wander.specs.Progress.{IsNext, calls_left, stage_at}
 use Rattle.r4_wander.specs.declared.stage.Stage.{Stage}
 use Rattle.r4_core.specs.View.{CoreSeen}
 use Rattle.r4_core.specs.declared.parts.Commit.{Commit}
@@ -71,14 +72,17 @@ pub record Writes {D : Type 0} (c : CoreSeen D) (k : Commit) (w : CommitSeen) : 
   pub work : k.work ≡ Some w
   pub part : IsQuietPart w.work.part
 
--- The step made the next writes of the plan, which is the same, and answers how far that is.
-pub record IsWritten {D : Type 0} (old new : CoreSeen D) (k : Commit) (w : CommitSeen) (stage : Stage) : Type 0
+-- The step made the next writes of the plan, which is the same, each by one call, and answers how
+-- far that is.
+pub record IsWritten
+    {D : Type 0} (d e : State) (old new : CoreSeen D) (k : Commit) (w : CommitSeen) (stage : Stage) : Type 0
   where
     pub now : CommitSeen
     pub same : new ≡ written old new.dev k now
     pub told : (now.head ≡ w.head) × (now.super40 ≡ w.super40)
     pub plan : now.work.plan ≡ w.work.plan
     pub next : IsNext w.work now.work
+    pub calls : e.clock + calls_left now.work ≡ d.clock + calls_left w.work
     pub answer : stage ≡ stage_at now.work.part now.work.done
 
 -- a core whose commit writes such a part

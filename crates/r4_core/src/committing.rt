@@ -2,7 +2,9 @@
 
 ghost use Rattle.std.specs.Prelude.{◌≡◌, OnErr, IfOk};
 ghost use Rattle.r4_commit.specs.Planned.{CommitSeen};
-ghost use Rattle.r4_outside.specs.Device.{Goes, HasCause};
+ghost use Rattle.r4_outside.specs.Device.{Goes, HasCause, Spares};
+ghost use Rattle.r4_wander.specs.Progress.{under_way};
+ghost use Rattle.r4_wander.specs.Torn.{IsTarget};
 ghost use Rattle.r4_core.specs.Steps.{IsAtWrites, IsWritten, Writes, failed};
 ghost use Rattle.r4_core.specs.declared.parts.Commit.{Commit};
 
@@ -22,7 +24,10 @@ impl<D: Device, R: Run> Core<D, R> {
         ensures goes { Goes (D.state self.old.dev) (D.state self.new.dev) }
         ensures cause { HasCause (D.state self.old.dev) result (D.state self.new.dev) }
         ensures written { (k : Commit) (w : CommitSeen) → Writes self.old k w
-            → IfOk result (λ stage. IsWritten self.old self.new k w stage) }
+            → IfOk result (λ stage. IsWritten (D.state self.old.dev) (D.state self.new.dev) self.old
+            self.new k w stage) }
+        ensures spares { (k : Commit) (w : CommitSeen) → Writes self.old k w
+            → Spares (IsTarget (under_way w.work)) (D.state self.old.dev) (D.state self.new.dev) }
         ensures failed { OnErr result (self.new ≡ failed self.old self.new.dev (D.state self.new.dev).clock
             (D.state self.new.dev).faults) }
     {

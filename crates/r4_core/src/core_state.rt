@@ -6,10 +6,12 @@ ghost use Rattle.std.specs.Option.{option_map};
 ghost use Rattle.r4_atoms.specs.Atoms.{IsClosedAtom, IsSmallestClosed};
 ghost use Rattle.r4_content.specs.Locality.{commands};
 ghost use Rattle.r4_content.specs.Meaning.{greatest_size};
-ghost use Rattle.r4_durable.specs.Meaning.{Beginning, BeginsWith, IsSafeTrace, start_of};
+ghost use Rattle.r4_durable.specs.Meaning.{Beginning, BeginsWith, IsNamed, IsSafeTrace, start_of};
+ghost use Rattle.r4_base.specs.Volume.{HasVolume};
+ghost use Rattle.r4_trace.specs.Folds.{after_first};
 ghost use Rattle.r4_history.specs.Tables.{asked};
 ghost use Rattle.r4_trace.specs.Legal.{IsLegal};
-ghost use Rattle.r4_trace.specs.Traced.{latest};
+ghost use Rattle.r4_trace.specs.Traced.{committed_in, latest};
 ghost use Rattle.r4_core.specs.Naming.{names_of};
 
 use crate::parts::{Commit, Numbers, Volume};
@@ -124,6 +126,14 @@ impl<D: Device, R: Run> Core<D, R> {
         ensures time { latest self.trace.entries ≤ (D.state result).clock }
         ensures safe { IsSafeTrace greatest_size (names_of R.start R.clock R.scripts)
             self.trace.entries (D.state result) }
+
+        // Where nothing is under way and no call failed, it has the content that the committed atoms made.
+        ensures content { (b : Beginning)
+            → IsNamed (names_of R.start R.clock R.scripts) (D.state result).blocks b
+            → self.broken ≡ None → self.commit ≡ None
+            → HasVolume (D.state result).blocks (D.state result).seen
+            (after_first (commands greatest_size) b.content self.trace.entries
+            (committed_in self.trace.entries)) }
     {
         let Core {
             dev,
