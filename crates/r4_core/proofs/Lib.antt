@@ -1,0 +1,7 @@
+mod Turning
+mod Unused
+mod Carried
+mod Ended
+mod GivingBack
+mod Parting
+mod Resting

@@ -1,0 +1,70 @@
+-- Group C, the accounts: what atoms take up, and what tasks may still use up (docs/space.md).
+use Rattle.std.specs.Prelude.{◌≡◌, ◌⊎◌, ◌↔◌, ℕ, ◌^◌, ◌≤◌, nat_le, nat_eq, false, true, List, [], ◌∷◌, length}
+use Rattle.std.specs.Prelude.{count_by, sum_by, Contains, slice_index_or, Option, Some, None}
+use Rattle.std.specs.List.{IsDistinct}
+use Rattle.r4_atoms.specs.Atoms.{AtomsSeen, IsOpenAtom, account_of, owner_of}
+use Rattle.r4_base.specs.Bitmap.{bitmap_count}
+use Rattle.r4_base.specs.declared.things.AtomNo.{AtomNo}
+use Rattle.r4_buffer.specs.Seen.{BufferSeen, buffered, is_dirty_by}
+use Rattle.r4_space.specs.Accounts.{account_at, dues}
+use Rattle.r4_space.specs.Space.{unused_count}
+use Rattle.r4_turns.specs.declared.out.Out.{Out}
+use Rattle.r4_turns.specs.declared.turn.Turn.{Turn}
+use Rattle.r4_core.specs.View.{CoreSeen}
+use Rattle.r4_core.specs.declared.parts.Commit.{Commit}
+
+-- ---- cells of an atom
+
+-- So many cells of an atom stand in memory, and so many of these have no block.
+pub record CountsCells (b : BufferSeen) (s : AtomsSeen) (atom cells fresh : ℕ) : Type 0 where
+  pub nodes : List ℕ
+  pub different : IsDistinct nat_eq nodes
+  pub just : (i : ℕ) → Contains nodes i
+      ↔ ((owner_of s i ≡ Some atom) × (is_dirty_by (buffered b i) ≡ true))
+  pub cells_are : cells ≡ length nodes
+  pub fresh_are : fresh ≡ count_by (nat_le (2 ^ 63)) nodes
+
+-- ---- what tasks may still use up
+
+abbrev pub cells_for : Option Out → ℕ
+cells_for None = 0
+cells_for (Some out) = out.cells
+
+abbrev pub claims_for : Option Out → ℕ
+claims_for None = 0
+claims_for (Some out) = out.claims
+
+abbrev pub cells_owed : List Turn → ℕ
+cells_owed turns = sum_by (λ (t : Turn). cells_for t.out) turns
+
+abbrev pub claims_owed : List Turn → ℕ
+claims_owed turns = sum_by (λ (t : Turn). claims_for t.out) turns
+
+-- ---- what a commit holds in the space
+
+-- without a commit no atom is sealed, and with one at most its own
+abbrev pub MaySeal : Option Commit → List AtomNo → Type 0
+MaySeal None atoms = atoms ≡ []
+MaySeal (Some k) atoms = (atoms ≡ []) ⊎ (atoms ≡ k.atom ∷ [])
+
+-- ---- the group
+
+pub record AreAccounts {D : Type 0} (c : CoreSeen D) : Type 0 where
+  -- what open atoms take up is free for them
+  pub covered : dues (bitmap_count c.space.block_count) c.space.atoms ≤ unused_count c.space
+  -- the space and the table of atoms have the same numbers of each open atom
+  pub same : (a : AtomNo) → IsOpenAtom c.atoms a.0
+      → ((account_at c.space.atoms a).cells ≡ (account_of c.atoms a.0).cells)
+      × ((account_at c.space.atoms a).fresh ≡ (account_of c.atoms a.0).fresh)
+  -- and these are those of its cells in memory
+  pub counted : (a : ℕ) → IsOpenAtom c.atoms a
+      → CountsCells c.buffer c.atoms a (account_of c.atoms a).cells (account_of c.atoms a).fresh
+  -- before a call of the device fails, the space knows of no sealed atom but the one under way
+  pub sealed : c.broken ≡ None → MaySeal c.commit c.space.sealed
+  -- and where none is under way, no block is placed or held
+  pub rests : c.broken ≡ None → c.commit ≡ None
+      → (c.space.held ≡ []) × ((b : ℕ) → slice_index_or c.space.placed b false ≡ false)
+  -- there is room for all that the tasks out may capture, put into memory, and defer
+  pub room_to_capture : cells_owed c.turns.turns ≤ c.atoms.spare
+  pub room_for_cells : cells_owed c.turns.turns ≤ c.buffer.spare
+  pub room_to_defer : claims_owed c.turns.turns ≤ c.space.spare

@@ -1,0 +1,63 @@
+-- Group A, the history: the trace, and what the tables tell of it (docs/histories.md).
+use Rattle.std.specs.Prelude.{◌≡◌, ℕ, ◌+◌, ◌≤◌, Bool, true, false, List, [], ◌∷◌, drop, count_by, Option, Some, None}
+use Rattle.std.specs.Prelude.{Ok}
+use Rattle.std.specs.Option.{option_map}
+use Rattle.r4_content.specs.Locality.{commands}
+use Rattle.r4_content.specs.Meaning.{greatest_size}
+use Rattle.r4_content.specs.declared.command.Command.{Command}
+use Rattle.r4_content.specs.declared.command.Command.TheVariants as asks
+use Rattle.r4_durable.specs.Meaning.{Beginning, BeginsWith, IsNamed, first_id, start_of}
+use Rattle.r4_history.specs.Drawn.{AreDrawn}
+use Rattle.r4_history.specs.Told.{IsTold}
+use Rattle.r4_outside.specs.Device.{State}
+use Rattle.r4_script.specs.Text.{job_of}
+use Rattle.r4_script.specs.declared.job.Script.{Script}
+use Rattle.r4_turns.specs.Turns.{TurnsSeen}
+use Rattle.r4_turns.specs.declared.out.Out.{Out}
+use Rattle.r4_turns.specs.declared.turn.Turn.{Turn}
+use Rattle.r4_core.specs.Naming.{Naming, names_in}
+use Rattle.r4_core.specs.View.{CoreSeen, committing, tables_of}
+
+-- ---- entries for which room is kept
+
+abbrev pub is_commit : Command → Bool
+is_commit asks.Commit = true
+is_commit c = false
+
+-- a task that is out may need two: its answer, and the end of its transaction
+abbrev pub owed_for_task : Option Out → ℕ
+owed_for_task None = 0
+owed_for_task (Some out) = 2
+
+-- and each `commit` that is not answered yet needs one
+abbrev pub owed_by : Turn → Script → ℕ
+owed_by turn script = count_by is_commit (drop turn.answered script.commands) + owed_for_task turn.out
+
+abbrev pub owed_in : List Turn → List Script → ℕ
+owed_in [] scripts = 0
+owed_in (turn ∷ turns) [] = 0
+owed_in (turn ∷ turns) (script ∷ scripts) = owed_by turn script + owed_in turns scripts
+
+abbrev pub owed : TurnsSeen → ℕ
+owed t = owed_in t.turns t.job.scripts
+
+-- a commit that is under way needs one when it is durable, and one where a call fails
+abbrev pub owed_for_commit : Option ℕ → ℕ
+owed_for_commit None = 0
+owed_for_commit (Some atom) = 2
+
+-- ---- the group
+
+pub record IsHistory {D : Type 0} (r : Naming) (d : State) (c : CoreSeen D) : Type 0 where
+  -- the trace is legal for the job as it stands now, whatever volume the run names, and tells what
+  -- the tables say; no clock in it is above the device's
+  pub told : (o : Option Beginning) → BeginsWith (names_in r) d.blocks o
+      → IsTold (commands greatest_size) (option_map start_of o) d.clock (tables_of c) c.trace.entries
+  -- the job is that of the text, where the run names one
+  pub job : (text : List ℕ) → r.scripts ≡ Some text → job_of text ≡ Ok c.turns.job
+  -- each id is drawn once, from the first one on, which is that of the image that the run names
+  pub first : ℕ
+  pub drawn : AreDrawn first c.turns c.numbers.next_oid c.trace.entries
+  pub begins : (b : Beginning) → IsNamed (names_in r) d.blocks b → first ≡ first_id b
+  -- there is room for each entry that may not want memory
+  pub room : owed c.turns + owed_for_commit (committing c.commit) ≤ c.trace.spare

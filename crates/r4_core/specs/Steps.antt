@@ -1,0 +1,90 @@
+-- What the little steps of a core change.
+use Rattle.std.specs.Prelude.{◌≡◌, ◌⊎◌, ℕ, ◌+◌, ◌-◌, ◌∷◌, ◌≤◌, Some, None}
+use Rattle.r4_base.specs.declared.things.TxnNo.{TxnNo}
+use Rattle.r4_buffer.specs.Changed.{in_turn, unused}
+use Rattle.r4_buffer.specs.Seen.{buffered}
+use Rattle.r4_commit.specs.Planned.{CommitSeen}
+use Rattle.r4_history.specs.Tables.{with_ended}
+use Rattle.r4_locks.specs.Locks.{OthersAsBefore, task_at}
+use Rattle.r4_trace.specs.Kept.{Told}
+use Rattle.r4_trace.specs.declared.entry.Entry.{Entry}
+use Rattle.r4_trace.specs.declared.entry.Entry.TheVariants.{Broken, Ended}
+use Rattle.r4_turns.specs.Turns.{answered_one, given_back, left}
+use Rattle.r4_turns.specs.declared.out.Out.{Out}
+use Rattle.r4_outside.specs.Device.{State}
+use Rattle.r4_wander.specs.Progress.{IsNext, calls_left, stage_at}
+use Rattle.r4_wander.specs.declared.stage.Stage.{Stage}
+use Rattle.r4_core.specs.View.{CoreSeen}
+use Rattle.r4_core.specs.declared.parts.Commit.{Commit}
+
+-- one entry more, in the room that was kept
+abbrev pub with_entry : Told → Entry → Told
+with_entry told e = record { entries = e ∷ told.entries; spare = told.spare - 1 }
+
+-- the transaction ends, by the `end` that is the script's next command
+abbrev pub ended : {D : Type 0} → CoreSeen D → (script : ℕ) → TxnNo → CoreSeen D
+ended c s txn = record c {
+  turns = answered_one (left c.turns s) s;
+  atoms = with_ended c.atoms txn.0;
+  trace = with_entry c.trace (Ended txn);
+}
+
+-- A task is given back: its command is the next one again, with its numbers; it holds nothing, and
+-- keeps no cell in memory. All else is as it was.
+pub record IsTakenBack {D : Type 0} (old new : CoreSeen D) (s : ℕ) (out : Out) : Type 0 where
+  pub same : new ≡ record old {
+    turns = given_back old.turns s out.numbers;
+    locks = new.locks;
+    buffer = new.buffer;
+  }
+  pub gone : task_at new.locks out.task.0 ≡ None
+  pub others : OthersAsBefore old.locks new.locks out.task.0
+  pub holders : old.locks.spare ≤ new.locks.spare
+  pub cells : (i : ℕ) → buffered new.buffer i ≡ in_turn unused out.pins i (buffered old.buffer i)
+  pub room : new.buffer.spare ≡ old.buffer.spare
+
+-- a commit that writes by this plan
+abbrev pub writing : Commit → CommitSeen → Commit
+writing k w = record k { work = Some w }
+
+-- The commit has written more of its plan; all else is as it was.
+abbrev pub written : {D : Type 0} → CoreSeen D → (dev : D) → Commit → CommitSeen → CoreSeen D
+written c dev k w = record c { dev = dev; commit = Some (writing k w) }
+
+-- A call of the device failed, with this clock and this count: the commit is over, and the trace
+-- tells it.
+abbrev pub failed : {D : Type 0} → CoreSeen D → (dev : D) → (clock faults : ℕ) → CoreSeen D
+failed c dev clock faults = record c {
+  dev = dev;
+  commit = None;
+  broken = Some clock;
+  trace = with_entry c.trace (Broken clock faults);
+}
+
+-- the part is the first one or the homes, at whose end no entry comes
+abbrev pub IsQuietPart : ℕ → Type 0
+IsQuietPart part = (part ≡ 0) ⊎ (part ≡ 2)
+
+-- a commit that writes such a part
+pub record Writes {D : Type 0} (c : CoreSeen D) (k : Commit) (w : CommitSeen) : Type 0 where
+  pub sound : c.broken ≡ None
+  pub commit : c.commit ≡ Some k
+  pub work : k.work ≡ Some w
+  pub part : IsQuietPart w.work.part
+
+-- The step made the next writes of the plan, which is the same, each by one call, and answers how
+-- far that is.
+pub record IsWritten
+    {D : Type 0} (d e : State) (old new : CoreSeen D) (k : Commit) (w : CommitSeen) (stage : Stage) : Type 0
+  where
+    pub now : CommitSeen
+    pub same : new ≡ written old new.dev k now
+    pub told : (now.head ≡ w.head) × (now.super40 ≡ w.super40)
+    pub plan : now.work.plan ≡ w.work.plan
+    pub next : IsNext w.work now.work
+    pub calls : e.clock + calls_left now.work ≡ d.clock + calls_left w.work
+    pub answer : stage ≡ stage_at now.work.part now.work.done
+
+-- a core whose commit writes such a part
+abbrev pub IsAtWrites : {D : Type 0} → CoreSeen D → Type 0
+IsAtWrites c = (k : Commit) × (w : CommitSeen) × Writes c k w
