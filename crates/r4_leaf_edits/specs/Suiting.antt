@@ -1,5 +1,6 @@
 -- Edits that leaves can take (docs/volume.md, "Which edits a leaf gets"). A key is its rank.
-use Rattle.std.specs.Prelude.{◌≡◌, ℕ, ◌-◌, ◌<◌, [], ◌∷◌, ◌++◌, Bool, true, false, replicate, All}
+use Rattle.std.specs.Prelude.{◌≡◌, ℕ, ◌+◌, ◌-◌, ◌^◌, ◌<◌, ◌≤◌, [], ◌∷◌, ◌++◌, length, replicate, All}
+use Rattle.std.specs.Prelude.{Bool, true, false}
 use Rattle.std.specs.List.{filter, flat_map}
 use Rattle.r4_base.specs.Entries.{IsLawfulEntry}
 use Rattle.r4_base.specs.Key.{key_of_rank, offset_of}
@@ -7,6 +8,7 @@ use Rattle.r4_base.specs.Stat.{kind_is_good}
 use Rattle.r4_base.specs.Value.{Byte, Entry, Stat, Value}
 use Rattle.r4_content.specs.Edited.{Edits, Pairs, is_in, put_keys}
 use Rattle.r4_content.specs.Objects.{byte_pairs}
+use Rattle.r4_content.specs.declared.edits.Edits.{Edits as HeldEdits}
 use Rattle.r4_reach.specs.Reach.{is_body}
 
 abbrev pub is_byte : Value → Bool
@@ -37,8 +39,13 @@ IsLawfulPut (k, Stat a) = (kind_is_good a.mode ≡ true) × (is_body k ≡ false
 IsLawfulPut (k, Entry n t) = IsLawfulEntry (record { key = key_of_rank k; target = t; name = n })
 IsLawfulPut (k, Byte x) = Unit {0}
 
--- Each byte that is set is one of a body, before byte `end` of its file, and no key gets two; the other values are lawful.
+-- Each byte that is set is one of a body, before byte `end` of its file, and no key gets two; the other values are
+-- lawful.
 pub record SuitLeaves (end : ℕ) (e : Edits) : Type 0 where
   pub once : AreOnce (bytes_set e)
   pub bytes : All (IsBefore end) (bytes_set e)
   pub values : All IsLawfulPut e.puts
+
+-- No run goes past the body in which it begins.
+abbrev pub StayInBodies : HeldEdits → Type 0
+StayInBodies e = All (λ r. offset_of r.from + length r.bytes ≤ 2 ^ 64) e.runs.items

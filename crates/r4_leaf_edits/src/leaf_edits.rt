@@ -94,7 +94,8 @@ impl<'a> LeafEdits<'a> {
     // One more range of keys goes, and an item comes.
     pub(crate) fn replace(&mut self, range: KeyRange, item: LeafItem<'a>) -> Result<(), Memory>
         ensures cuts { OnOk result (cuts_in self.new ≡ cuts_in self.old ++ range ∷ []) }
-        ensures items { OnOk result (items_in self.new ≡ items_in self.old ++ made_item item.entry ∷ []) }
+        ensures items { OnOk result (items_in self.new
+            ≡ items_in self.old ++ made_item item.entry ∷ []) }
     {
         self.cuts.push(range)?;
         self.items.push(item)?;

@@ -18,7 +18,8 @@ ghost use Rattle.r4_leaf_edits.specs.Made.{AreItems, AreOfLeaf, CutsWithin, Have
 ghost use Rattle.r4_leaf_edits.specs.Made.{bytes_end, cuts_in, spread_keys};
 ghost use Rattle.r4_leaf_edits.specs.Making.{Gains, Gathers, Sets, all_cuts, all_pairs, body_cuts};
 ghost use Rattle.r4_leaf_edits.specs.Making.{body_pairs, bytes_of, is_kept, values_set};
-ghost use Rattle.r4_leaf_edits.specs.Suiting.{IsBefore, IsLawfulPut, SuitLeaves, is_byte, zero_pairs};
+ghost use Rattle.r4_leaf_edits.specs.Suiting.{IsBefore, IsLawfulPut, SuitLeaves};
+ghost use Rattle.r4_leaf_edits.specs.Suiting.{is_byte, zero_pairs};
 
 use crate::adding::{cut, fill, set_run, set_value};
 use crate::leaf_edits::LeafEdits;
@@ -29,9 +30,9 @@ use std::alloc::Global;
 
 /// What the leaf of the keys from `lo` on and below `hi` gets of a command's edits: what it is to have afterwards is
 /// what the edits make of its units, as far as that lies in its range. Where a body stands in extents afterwards,
-/// `spread` has all its keys: these are cut out, and none of its bytes is put in. Bytes are lent, and a fill holds none;
-/// at most one range and one item come for each interval, run and value of the edits. `Memory` where there was not
-/// enough (docs/volume.md, "Which edits a leaf gets").
+/// `spread` has all its keys: these are cut out, and none of its bytes is put in. Bytes are lent, and a fill holds
+/// none; at most one range and one item come for each interval, run and value of the edits. `Memory` where there was
+/// not enough (docs/volume.md, "Which edits a leaf gets").
 pub fn edits_of_leaf<'a>(
     alloc: Global,
     edits: &'a Edits,

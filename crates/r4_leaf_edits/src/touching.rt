@@ -6,6 +6,7 @@ ghost use Rattle.r4_base.specs.Key.{offset_of, rank};
 ghost use Rattle.r4_content.specs.Edited.{changed, is_between, put_keys};
 ghost use Rattle.r4_content.specs.Held.{edits_of, interval_of, pair_of, run_pairs};
 ghost use Rattle.r4_content.specs.declared.edits.ByteRun.{ByteRun as HeldRun};
+ghost use Rattle.r4_leaf_edits.specs.Suiting.{StayInBodies};
 ghost use Rattle.r4_reach.specs.Needs.{is_met, meets};
 
 use crate::keys::{has, higher, part_of};
@@ -14,10 +15,10 @@ use r4_content::{ByteRun, Edits, FilledInterval, Interval};
 use r4_leaf::KeyRange;
 
 /// Whether a key that a command sets or takes away lies in the range of a leaf, from `lo` on and below `hi`. No run of
-/// bytes goes past its body, whose offsets are below 2^64. It takes no time for each byte (docs/volume.md, "Which edits a
-/// leaf gets").
+/// bytes goes past its body, whose offsets are below 2^64. It takes no time for each byte (docs/volume.md, "Which edits
+/// a leaf gets").
 pub fn touches_leaf(edits: &Edits, lo: &Key, hi: &Key) -> bool
-    requires { All (λ (r : HeldRun). offset_of r.from + length r.bytes ≤ 2 ^ 64) edits.now.runs.items }
+    requires { StayInBodies edits.now }
     ensures { result ≡ is_met (changed (edits_of edits.now)) (rank lo.now) (rank hi.now) }
 {
     let range = KeyRange { from: *lo, to: *hi };
@@ -26,7 +27,7 @@ pub fn touches_leaf(edits: &Edits, lo: &Key, hi: &Key) -> bool
 
 // Whether a key in a range gets a value.
 fn sets_in(range: &KeyRange, edits: &Edits) -> bool
-    requires { All (λ (r : HeldRun). offset_of r.from + length r.bytes ≤ 2 ^ 64) edits.now.runs.items }
+    requires { StayInBodies edits.now }
     ensures { result ≡ is_met (put_keys (edits_of edits.now).puts)
         (rank range.now.from) (rank range.now.to) }
 {
@@ -35,9 +36,10 @@ fn sets_in(range: &KeyRange, edits: &Edits) -> bool
 
 // Whether a key in a range gets a byte of a run or a value.
 fn sets_one_by_one(range: &KeyRange, edits: &Edits) -> bool
-    requires { All (λ (r : HeldRun). offset_of r.from + length r.bytes ≤ 2 ^ 64) edits.now.runs.items }
+    requires { StayInBodies edits.now }
     ensures { result
-        ≡ is_met (put_keys (flat_map run_pairs edits.now.runs.items ++ map pair_of edits.now.puts.items))
+        ≡ is_met (put_keys
+        (flat_map run_pairs edits.now.runs.items ++ map pair_of edits.now.puts.items))
         (rank range.now.from) (rank range.now.to) }
 {
     meets_runs(range, edits.runs.as_slice()) || meets_values(range, edits.puts.as_slice())
@@ -60,16 +62,17 @@ fn meets(range: &KeyRange, from: Key, to: Key) -> bool
 
 // Whether one of the intervals has a key in a range.
 fn meets_intervals(range: &KeyRange, intervals: &[Interval]) -> bool
-    ensures { result
-        ≡ list_any (λ i. meets (rank range.now.from) (rank range.now.to) (interval_of i)) intervals.now }
+    ensures { result ≡ list_any
+        (λ i. meets (rank range.now.from) (rank range.now.to) (interval_of i)) intervals.now }
 {
     intervals.iter().any(|i| meets(range, i.from, i.to))
 }
 
 // Whether one of the fills has a key in a range.
 fn meets_fills(range: &KeyRange, fills: &[FilledInterval]) -> bool
-    ensures { result
-        ≡ list_any (λ f. meets (rank range.now.from) (rank range.now.to) (rank f.from, rank f.to)) fills.now }
+    ensures { result ≡ list_any
+        (λ f. meets (rank range.now.from) (rank range.now.to) (rank f.from, rank f.to))
+        fills.now }
 {
     fills.iter().any(|f| meets(range, f.from, f.to))
 }
@@ -89,7 +92,8 @@ fn meets_runs(range: &KeyRange, runs: &[ByteRun]) -> bool
 // Whether a run has a key in a range.
 fn meets_run(range: &KeyRange, run: &ByteRun) -> bool
     requires { offset_of run.now.from + length run.now.bytes ≤ 2 ^ 64 }
-    ensures { result ≡ is_met (put_keys (run_pairs run.now)) (rank range.now.from) (rank range.now.to) }
+    ensures { result
+        ≡ is_met (put_keys (run_pairs run.now)) (rank range.now.from) (rank range.now.to) }
 {
     let count = run.bytes.as_slice().len() as u64;
     let low = higher(range.from, run.from);
@@ -113,8 +117,8 @@ fn reaches(from: &Key, count: u64, other: &Key) -> bool
 
 // Whether one of the values has its key in a range.
 fn meets_values(range: &KeyRange, values: &[(Key, Value)]) -> bool
-    ensures { result
-        ≡ list_any (λ p. is_between (rank range.now.from) (rank range.now.to) (rank p.0)) values.now }
+    ensures { result ≡ list_any
+        (λ p. is_between (rank range.now.from) (rank range.now.to) (rank p.0)) values.now }
 {
     values.iter().any(|put| has(range, put.0))
 }
