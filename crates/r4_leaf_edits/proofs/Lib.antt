@@ -11,3 +11,4 @@ pub mod Whole
 pub mod Meant
 pub mod Touched
 pub mod Gathered
+pub mod Few

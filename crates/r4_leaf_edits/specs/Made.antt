@@ -1,5 +1,5 @@
 -- What one leaf gets, and what that makes of its units (docs/volume.md, "Which edits a leaf gets"). A key is its rank.
-use Rattle.std.specs.Prelude.{◌≡◌, ℕ, ◌+◌, ◌^◌, ◌≤◌, List, [], ◌∷◌, true, map, All}
+use Rattle.std.specs.Prelude.{◌≡◌, ℕ, ◌+◌, ◌^◌, ◌≤◌, List, [], ◌∷◌, true, length, map, All}
 use Rattle.std.specs.Prelude.{Option, Some, None, if◌then◌else◌}
 use Rattle.std.specs.List.{filter}
 use Rattle.r4_base.specs.Key.{IsKey, rank}
@@ -7,6 +7,7 @@ use Rattle.r4_base.specs.Node.{Item}
 use Rattle.r4_content.specs.Edited.{Edits, is_between}
 use Rattle.r4_content.specs.Listed.{list_edited}
 use Rattle.r4_content.specs.Seen.{Rises}
+use Rattle.r4_content.specs.declared.edits.Edits.{Edits as HeldEdits}
 use Rattle.r4_content.specs.declared.edits.Interval.{Interval}
 use Rattle.r4_leaf.specs.Remade.{CanPutAll, cut_all, filled_tail, item_of, put_all}
 use Rattle.r4_leaf.specs.Units.{LeafUnit}
@@ -33,6 +34,15 @@ items_in x = map made_item x.items.items
 -- these are the items, as they are given to a leaf
 abbrev pub AreItems : LeafEdits → List Given → Type 0
 AreItems x gs = map item_of gs ≡ items_in x
+
+-- at most so many ranges, and at most so many items
+abbrev pub HasAtMost : ℕ → LeafEdits → Type 0
+HasAtMost n x = (length (cuts_in x) ≤ n) × (length (items_in x) ≤ n)
+
+-- one for each interval, run and value of the edits, and one for a body that goes to extents
+abbrev pub edit_count : HeldEdits → ℕ
+edit_count e = length e.cuts.items + (1 + (length e.zeros.items + (length e.fills.items
+    + length e.runs.items)) + length e.puts.items)
 
 -- ---- where they belong
 

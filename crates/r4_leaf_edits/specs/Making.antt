@@ -1,5 +1,5 @@
 -- How what a leaf gets is put together. A key is its rank.
-use Rattle.std.specs.Prelude.{◌≡◌, ℕ, ◌+◌, ◌≤◌, [], ◌∷◌, ◌++◌, map, All}
+use Rattle.std.specs.Prelude.{◌≡◌, ℕ, ◌+◌, ◌≤◌, [], ◌∷◌, ◌++◌, length, map, All}
 use Rattle.std.specs.Prelude.{Bool, not, ◌&&◌, ◌||◌, if◌then◌else◌, Option, Some, None}
 use Rattle.std.specs.List.{filter, flat_map}
 use Rattle.std.specs.Option.{is_none}
@@ -53,6 +53,11 @@ pub record Gathers (lo hi : ℕ) (rs : Intervals) (ps : Pairs) (x : LeafEdits) :
   pub cuts : (k : ℕ) → is_in (map range_of (cuts_in x)) k ≡ (is_between lo hi k && is_in rs k)
   pub units : units_in (items_in x) ≡ filter (λ p. is_between lo hi p.0) ps
   pub sound : AreSound lo hi x
+
+-- At most so many ranges come, and at most so many items.
+pub record Grows (n : ℕ) (old new : LeafEdits) : Type 0 where
+  pub cuts : length (cuts_in new) ≤ length (cuts_in old) + n
+  pub items : length (items_in new) ≤ length (items_in old) + n
 
 abbrev pub Sets : (lo hi : ℕ) → Pairs → LeafEdits → LeafEdits → Type 0
 Sets lo hi ps old new = Gains lo hi (put_keys ps) ps old new

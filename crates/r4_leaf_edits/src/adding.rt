@@ -5,7 +5,7 @@ ghost use Rattle.r4_base.specs.Key.{offset_of, rank};
 ghost use Rattle.r4_base.specs.Value.{value_of};
 ghost use Rattle.r4_content.specs.Held.{interval_of};
 ghost use Rattle.r4_content.specs.Objects.{byte_pairs};
-ghost use Rattle.r4_leaf_edits.specs.Making.{Gains, Sets};
+ghost use Rattle.r4_leaf_edits.specs.Making.{Gains, Grows, Sets};
 ghost use Rattle.r4_leaf_edits.specs.Suiting.{IsBefore, IsLawfulPut, is_byte};
 
 use crate::keys::{distance, has, next_key, part_of};
@@ -23,8 +23,9 @@ pub(crate) fn cut(
     range: &KeyRange,
     interval: &Interval,
 ) -> Result<(), Memory>
-    ensures { OnOk result (Gains (rank range.now.from) (rank range.now.to)
+    ensures gains { OnOk result (Gains (rank range.now.from) (rank range.now.to)
         (interval_of interval.now ∷ []) [] edits.old edits.new) }
+    ensures few { OnOk result (Grows 1 edits.old edits.new) }
 {
     match part_of(range, interval.from, interval.to) {
         Some(part) => edits.cut(part),
@@ -42,8 +43,9 @@ pub(crate) fn fill(
 ) -> Result<(), Memory>
     requires { All (IsBefore 16384)
         (byte_pairs (rank from) (replicate (rank to - rank from) byte)) }
-    ensures { OnOk result (Sets (rank range.now.from) (rank range.now.to)
+    ensures gains { OnOk result (Sets (rank range.now.from) (rank range.now.to)
         (byte_pairs (rank from) (replicate (rank to - rank from) byte)) edits.old edits.new) }
+    ensures few { OnOk result (Grows 1 edits.old edits.new) }
 {
     match part_of(range, from, to) {
         Some(part) => {
@@ -62,8 +64,9 @@ pub(crate) fn set_run<'a>(
     bytes: &'a [u8],
 ) -> Result<(), Memory>
     requires { All (IsBefore 16384) (byte_pairs (rank from) bytes.now) }
-    ensures { OnOk result (Sets (rank range.now.from) (rank range.now.to)
+    ensures gains { OnOk result (Sets (rank range.now.from) (rank range.now.to)
         (byte_pairs (rank from) bytes.now) edits.old edits.new) }
+    ensures few { OnOk result (Grows 1 edits.old edits.new) }
 {
     if bytes.is_empty() {
         return Ok(());
@@ -90,8 +93,9 @@ pub(crate) fn set_value<'a>(
 ) -> Result<(), Memory>
     requires lawful { IsLawfulPut (rank key, value_of value.now) }
     requires short { is_byte (value_of value.now) ≡ true → offset_of key < 16384 }
-    ensures { OnOk result (Sets (rank range.now.from) (rank range.now.to)
+    ensures gains { OnOk result (Sets (rank range.now.from) (rank range.now.to)
         ((rank key, value_of value.now) ∷ []) edits.old edits.new) }
+    ensures few { OnOk result (Grows 1 edits.old edits.new) }
 {
     if !has(range, key) {
         return Ok(());

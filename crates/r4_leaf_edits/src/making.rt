@@ -1,6 +1,7 @@
 //! The edits that a leaf gets (docs/volume.md, "Which edits a leaf gets").
 
-ghost use Rattle.std.specs.Prelude.{◌≡◌, ℕ, ◌^◌, ◌∷◌, [], true, All, IfOk, List, OnOk, Option, map};
+ghost use Rattle.std.specs.Prelude.{◌≡◌, ℕ, ◌+◌, ◌^◌, ◌∷◌, [], true, length, map};
+ghost use Rattle.std.specs.Prelude.{All, IfOk, List, OnOk, Option};
 ghost use Rattle.std.specs.Prelude.{if◌then◌else◌, not, ◌&&◌, ◌||◌, ◌==◌};
 ghost use Rattle.std.specs.List.{filter, flat_map, list_any};
 ghost use Rattle.std.specs.Option.{is_none, option_map};
@@ -15,9 +16,9 @@ ghost use Rattle.r4_reach.specs.Needs.{leaf_edits};
 ghost use Rattle.r4_reach.specs.Reach.{is_body};
 ghost use Rattle.r4_reach.specs.Touched.{Body};
 ghost use Rattle.r4_leaf_edits.specs.Made.{AreItems, AreOfLeaf, CutsWithin, HaveKeys, MakesEdits};
-ghost use Rattle.r4_leaf_edits.specs.Made.{bytes_end, cuts_in, spread_keys};
-ghost use Rattle.r4_leaf_edits.specs.Making.{Gains, Gathers, Sets, all_cuts, all_pairs, body_cuts};
-ghost use Rattle.r4_leaf_edits.specs.Making.{body_pairs, bytes_of, is_kept, values_set};
+ghost use Rattle.r4_leaf_edits.specs.Made.{HasAtMost, bytes_end, cuts_in, edit_count, spread_keys};
+ghost use Rattle.r4_leaf_edits.specs.Making.{Gains, Gathers, Grows, Sets, all_cuts, all_pairs};
+ghost use Rattle.r4_leaf_edits.specs.Making.{body_cuts, body_pairs, bytes_of, is_kept, values_set};
 ghost use Rattle.r4_leaf_edits.specs.Suiting.{IsBefore, IsLawfulPut, SuitLeaves};
 ghost use Rattle.r4_leaf_edits.specs.Suiting.{is_byte, zero_pairs};
 
@@ -31,8 +32,8 @@ use std::alloc::Global;
 /// What the leaf of the keys from `lo` on and below `hi` gets of a command's edits: what it is to have afterwards is
 /// what the edits make of its units, as far as that lies in its range. Where a body stands in extents afterwards,
 /// `spread` has all its keys: these are cut out, and none of its bytes is put in. Bytes are lent, and a fill holds
-/// none; at most one range and one item come for each interval, run and value of the edits. `Memory` where there was
-/// not enough (docs/volume.md, "Which edits a leaf gets").
+/// none; at most one range and one item come for each interval, run and value of the edits, and a range for a body.
+/// `Memory` where there was not enough (docs/volume.md, "Which edits a leaf gets").
 pub fn edits_of_leaf<'a>(
     alloc: Global,
     edits: &'a Edits,
@@ -49,6 +50,7 @@ pub fn edits_of_leaf<'a>(
         → AreOfLeaf (rank lo.now) (rank hi.now) us → AreItems v gs
         → MakesEdits (rank lo.now) (rank hi.now) (leaf_edits b (edits_of edits.now))
         (cuts_in v) gs us) }
+    ensures few { IfOk result (HasAtMost (edit_count edits.now)) }
 {
     let range = KeyRange { from: *lo, to: *hi };
     gather(alloc, edits, spread, &range)
@@ -62,8 +64,9 @@ fn gather<'a>(
     range: &KeyRange,
 ) -> Result<LeafEdits<'a>, Memory>
     requires { SuitLeaves (bytes_end spread) (edits_of edits.now) }
-    ensures { IfOk result (Gathers (rank range.now.from) (rank range.now.to)
+    ensures gains { IfOk result (Gathers (rank range.now.from) (rank range.now.to)
         (all_cuts spread edits.now) (all_pairs spread edits.now)) }
+    ensures few { IfOk result (HasAtMost (edit_count edits.now)) }
 {
     let mut made = LeafEdits::none(alloc);
     cut_each(&mut made, range, edits.cuts.as_slice())?;
@@ -80,8 +83,9 @@ fn gather<'a>(
 
 // What lies in the leaf's range of each interval goes.
 fn cut_each(made: &mut LeafEdits<'_>, range: &KeyRange, cuts: &[Interval]) -> Result<(), Memory>
-    ensures { OnOk result (Gains (rank range.now.from) (rank range.now.to)
+    ensures gains { OnOk result (Gains (rank range.now.from) (rank range.now.to)
         (map interval_of cuts.now) [] made.old made.new) }
+    ensures few { OnOk result (Grows (length cuts.now) made.old made.new) }
 {
     match cuts.split_first() {
         None => Ok(()),
@@ -100,8 +104,10 @@ fn take_body<'a>(
     spread: Option<Interval>,
 ) -> Result<(), Memory>
     requires { SuitLeaves (bytes_end spread) (edits_of edits.now) }
-    ensures { OnOk result (Gains (rank range.now.from) (rank range.now.to)
+    ensures gains { OnOk result (Gains (rank range.now.from) (rank range.now.to)
         (body_cuts spread edits.now) (body_pairs spread edits.now) made.old made.new) }
+    ensures few { OnOk result (Grows (1 + (length edits.now.zeros.items
+        + (length edits.now.fills.items + length edits.now.runs.items))) made.old made.new) }
 {
     match spread {
         Some(body) => cut(made, range, &body),
@@ -112,8 +118,10 @@ fn take_body<'a>(
 // The bytes of zeros, fills and runs are set.
 fn set_bytes<'a>(made: &mut LeafEdits<'a>, range: &KeyRange, edits: &'a Edits) -> Result<(), Memory>
     requires { All (IsBefore 16384) (bytes_of edits.now) }
-    ensures { OnOk result (Sets (rank range.now.from) (rank range.now.to) (bytes_of edits.now)
+    ensures gains { OnOk result (Sets (rank range.now.from) (rank range.now.to) (bytes_of edits.now)
         made.old made.new) }
+    ensures few { OnOk result (Grows (length edits.now.zeros.items
+        + (length edits.now.fills.items + length edits.now.runs.items)) made.old made.new) }
 {
     zero_each(made, range, edits.zeros.as_slice())?;
     fill_each(made, range, edits.fills.as_slice())?;
@@ -123,8 +131,9 @@ fn set_bytes<'a>(made: &mut LeafEdits<'a>, range: &KeyRange, edits: &'a Edits) -
 // The keys of each interval get the byte 0.
 fn zero_each(made: &mut LeafEdits<'_>, range: &KeyRange, zeros: &[Interval]) -> Result<(), Memory>
     requires { All (IsBefore 16384) (flat_map zero_pairs (map interval_of zeros.now)) }
-    ensures { OnOk result (Sets (rank range.now.from) (rank range.now.to)
+    ensures gains { OnOk result (Sets (rank range.now.from) (rank range.now.to)
         (flat_map zero_pairs (map interval_of zeros.now)) made.old made.new) }
+    ensures few { OnOk result (Grows (length zeros.now) made.old made.new) }
 {
     match zeros.split_first() {
         None => Ok(()),
@@ -142,8 +151,9 @@ fn fill_each(
     fills: &[FilledInterval],
 ) -> Result<(), Memory>
     requires { All (IsBefore 16384) (flat_map fill_pairs fills.now) }
-    ensures { OnOk result (Sets (rank range.now.from) (rank range.now.to)
+    ensures gains { OnOk result (Sets (rank range.now.from) (rank range.now.to)
         (flat_map fill_pairs fills.now) made.old made.new) }
+    ensures few { OnOk result (Grows (length fills.now) made.old made.new) }
 {
     match fills.split_first() {
         None => Ok(()),
@@ -161,8 +171,9 @@ fn set_runs<'a>(
     runs: &'a [ByteRun],
 ) -> Result<(), Memory>
     requires { All (IsBefore 16384) (flat_map run_pairs runs.now) }
-    ensures { OnOk result (Sets (rank range.now.from) (rank range.now.to)
+    ensures gains { OnOk result (Sets (rank range.now.from) (rank range.now.to)
         (flat_map run_pairs runs.now) made.old made.new) }
+    ensures few { OnOk result (Grows (length runs.now) made.old made.new) }
 {
     match runs.split_first() {
         None => Ok(()),
@@ -184,8 +195,9 @@ fn set_values(
     requires lawful { All IsLawfulPut (map pair_of values.now) }
     requires before { All (IsBefore (if bytes then 16384 else 2 ^ 64))
         (filter (λ p. is_byte p.1) (map pair_of values.now)) }
-    ensures { OnOk result (Sets (rank range.now.from) (rank range.now.to)
+    ensures gains { OnOk result (Sets (rank range.now.from) (rank range.now.to)
         (values_set bytes (map pair_of values.now)) made.old made.new) }
+    ensures few { OnOk result (Grows (length values.now) made.old made.new) }
 {
     match values.split_first() {
         None => Ok(()),
@@ -209,10 +221,11 @@ fn set_last(
     requires lawful { IsLawfulPut (rank key, value_of value.now) }
     requires before { All (IsBefore (if bytes then 16384 else 2 ^ 64))
         (filter (λ p. is_byte p.1) ((rank key, value_of value.now) ∷ [])) }
-    ensures { OnOk result (Sets (rank range.now.from) (rank range.now.to)
+    ensures gains { OnOk result (Sets (rank range.now.from) (rank range.now.to)
         (if is_kept bytes (rank key, value_of value.now)
         && not (is_in (put_keys (map pair_of rest.now)) (rank key))
         then (rank key, value_of value.now) ∷ [] else []) made.old made.new) }
+    ensures few { OnOk result (Grows 1 made.old made.new) }
 {
     if is_set(key, rest, bytes) {
         set_value(alloc, made, range, key, value)

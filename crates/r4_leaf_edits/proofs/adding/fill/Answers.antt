@@ -1,4 +1,5 @@
 use Rattle.std.proofs.Common.{arith}
+use Rattle.r4_leaf_edits.proofs.Few.{grows_item, grows_none}
 use Rattle.r4_leaf_edits.proofs.Added.{both_ok}
 use Rattle.r4_base.specs.Key.{rank}
 use Rattle.r4_leaf_edits.proofs.Added.{fill_added, fill_ends, fill_nothing}
@@ -20,8 +21,8 @@ overflow_cast-count c =
     let n = c.distance-count.ensures in
     omega (arith, end, n)
 
-pub returns-in-Some : goal.returns-in-Some
-returns-in-Some c =
+pub returns-in-Some-clause-gains : goal.returns-in-Some-clause-gains
+returns-in-Some-clause-gains c =
     let is = c.in-Some.ensures.key in
     let (from, to, lt) = c.in-Some.ensures.part in
     let n = c.distance-count.ensures in
@@ -29,5 +30,11 @@ returns-in-Some c =
     (λ cuts items. fill_added (rank c.args.range.now.from) (rank c.args.range.now.to) (rank c.args.from) (rank c.args.to) c.args.byte c.args.edits.now c.replace.new.self c.in-Some.part c.distance-count.result
     from to lt c.requires is n cuts items) c.replace.ensures.cuts c.replace.ensures.items
 
-pub returns-in-None : goal.returns-in-None
-returns-in-None c = fill_nothing (rank c.args.range.now.from) (rank c.args.range.now.to) (rank c.args.from) (rank c.args.to) c.args.byte c.args.edits.now c.in-None.ensures.part
+pub returns-in-None-clause-gains : goal.returns-in-None-clause-gains
+returns-in-None-clause-gains c = fill_nothing (rank c.args.range.now.from) (rank c.args.range.now.to) (rank c.args.from) (rank c.args.to) c.args.byte c.args.edits.now c.in-None.ensures.part
+
+pub returns-in-Some-clause-few : goal.returns-in-Some-clause-few
+returns-in-Some-clause-few c = both_ok c.replace.result (λ cut items. grows_item c.args.edits.now c.replace.new.self c.in-Some.part _ cut items) c.replace.ensures.cuts c.replace.ensures.items
+
+pub returns-in-None-clause-few : goal.returns-in-None-clause-few
+returns-in-None-clause-few c = grows_none 1 c.args.edits.now

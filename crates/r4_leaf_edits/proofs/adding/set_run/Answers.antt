@@ -3,6 +3,7 @@ use Rattle.std.specs.Prelude.{slice_range, ◌==◌}
 use Rattle.std.proofs.lemmas.Bool.{eqb-false}
 use Rattle.r4_base.specs.Key.{rank}
 use Rattle.r4_base.proofs.Keys.{is_key}
+use Rattle.r4_leaf_edits.proofs.Few.{grows_item, grows_none}
 use Rattle.r4_leaf_edits.proofs.Clipped.{part_bytes}
 use Rattle.r4_leaf_edits.proofs.Added.{both_ok, run_added, run_bounds, run_nothing, run_short}
 use Rattle.r4_leaf_edits.proofs.adding.set_run.Goals as goal
@@ -48,8 +49,8 @@ tail_part-bytes-requires-clause-within c =
     let n = c.distance-last.ensures in
     omega (arith, high, n)
 
-pub returns-in-Some : goal.returns-in-Some
-returns-in-Some c =
+pub returns-in-Some-clause-gains : goal.returns-in-Some-clause-gains
+returns-in-Some-clause-gains c =
     let is = is_key c.args.from (search (rules, c.well_formed.1.1.0)) (search (rules, c.well_formed.1.1.0)) (search (rules, c.well_formed.1.1.0)) (search (rules, c.well_formed.1.1.0)) (search (rules, c.well_formed.1.1.0)) in
     let some = some_of _ (sym c.if-is_empty.ensures) in
     let (from, to, lt) = c.in-Some.ensures.part in
@@ -59,8 +60,17 @@ returns-in-Some c =
     (λ cut more. run_added (rank c.args.range.now.from) (rank c.args.range.now.to) c.args.from is c.args.bytes.now some c.requires c.behind-end.result c.behind-end.ensures c.args.edits.now c.replace.new.self c.in-Some.part
     c.tail_part-bytes.result.now from to lt c.in-Some.ensures.key (c.tail_part-bytes.ensures.value ∙ same) cut more) c.replace.ensures.cuts c.replace.ensures.items
 
-pub returns-in-None : goal.returns-in-None
-returns-in-None c =
+pub returns-in-None-clause-gains : goal.returns-in-None-clause-gains
+returns-in-None-clause-gains c =
     let is = is_key c.args.from (search (rules, c.well_formed.1.1.0)) (search (rules, c.well_formed.1.1.0)) (search (rules, c.well_formed.1.1.0)) (search (rules, c.well_formed.1.1.0)) (search (rules, c.well_formed.1.1.0)) in
     let some = some_of _ (sym c.if-is_empty.ensures) in
     run_nothing (rank c.args.range.now.from) (rank c.args.range.now.to) c.args.from is c.args.bytes.now some c.requires c.behind-end.result c.behind-end.ensures c.args.edits.now c.in-None.ensures.part
+
+pub returns-in-Some-clause-few : goal.returns-in-Some-clause-few
+returns-in-Some-clause-few c = both_ok c.replace.result (λ cut items. grows_item c.args.edits.now c.replace.new.self c.in-Some.part _ cut items) c.replace.ensures.cuts c.replace.ensures.items
+
+pub returns-in-None-clause-few : goal.returns-in-None-clause-few
+returns-in-None-clause-few c = grows_none 1 c.args.edits.now
+
+pub returns-then-is_empty-clause-few : goal.returns-then-is_empty-clause-few
+returns-then-is_empty-clause-few c = grows_none 1 c.args.edits.now
