@@ -1,0 +1,14 @@
+pub mod Lookups
+pub mod Puts
+pub mod KeyRanks
+pub mod Law
+pub mod Gained
+pub mod Clipped
+pub mod Spelled
+pub mod Added
+pub mod OneByOne
+pub mod Whole
+pub mod Meant
+pub mod Touched
+pub mod Gathered
+pub mod Few

@@ -1,0 +1,3 @@
+pub mod Suiting
+pub mod Made
+pub mod Making
