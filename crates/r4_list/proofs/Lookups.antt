@@ -17,7 +17,7 @@ use Rattle.r4_search.specs.Pool.{PoolState, Goes, IsFrom, IsKnown, IsNamedFrom, 
 use Rattle.r4_search.specs.Path.{Follows, Descends, EndsAt, IsPath, KnowsOn, Stops, last_of, root_name}
 use Rattle.r4_search.specs.declared.pool.FetchFault.{FetchFault}
 use Rattle.r4_search.specs.declared.pool.FetchFault.TheVariants.{Read, Damaged, Memory}
-use Rattle.r4_search.proofs.Walks.{goes_both, goes_same, last_pushed, leaves_both}
+use Rattle.r4_search.proofs.Walks.{goes_both, goes_same, last_among, last_pushed, leaves_both}
 use Rattle.r4_list.specs.Printing.{IsFetchCause, Fetched}
 
 -- ---- the last cell
