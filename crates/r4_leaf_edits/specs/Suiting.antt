@@ -1,5 +1,5 @@
 -- Edits that leaves can take (docs/volume.md, "Which edits a leaf gets"). A key is its rank.
-use Rattle.std.specs.Prelude.{◌≡◌, ℕ, ◌+◌, ◌-◌, ◌^◌, ◌<◌, ◌≤◌, [], ◌∷◌, ◌++◌, length, replicate, All}
+use Rattle.std.specs.Prelude.{◌≡◌, ℕ, ◌-◌, ◌<◌, [], ◌∷◌, ◌++◌, replicate, All}
 use Rattle.std.specs.Prelude.{Bool, true, false}
 use Rattle.std.specs.List.{filter, flat_map}
 use Rattle.r4_base.specs.Entries.{IsLawfulEntry}
@@ -8,7 +8,6 @@ use Rattle.r4_base.specs.Stat.{kind_is_good}
 use Rattle.r4_base.specs.Value.{Byte, Entry, Stat, Value}
 use Rattle.r4_content.specs.Edited.{Edits, Pairs, is_in, put_keys}
 use Rattle.r4_content.specs.Objects.{byte_pairs}
-use Rattle.r4_content.specs.declared.edits.Edits.{Edits as HeldEdits}
 use Rattle.r4_reach.specs.Reach.{is_body}
 
 abbrev pub is_byte : Value → Bool
@@ -45,7 +44,3 @@ pub record SuitLeaves (end : ℕ) (e : Edits) : Type 0 where
   pub once : AreOnce (bytes_set e)
   pub bytes : All (IsBefore end) (bytes_set e)
   pub values : All IsLawfulPut e.puts
-
--- No run goes past the body in which it begins.
-abbrev pub StayInBodies : HeldEdits → Type 0
-StayInBodies e = All (λ r. offset_of r.from + length r.bytes ≤ 2 ^ 64) e.runs.items

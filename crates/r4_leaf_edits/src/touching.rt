@@ -1,24 +1,20 @@
 //! Whether a command changes a leaf (docs/volume.md, "Which edits a leaf gets").
 
-ghost use Rattle.std.specs.Prelude.{◌≡◌, ◌+◌, ◌++◌, ◌^◌, ◌≤◌, All, length, map, nat_lt};
+ghost use Rattle.std.specs.Prelude.{◌≡◌, ◌+◌, ◌++◌, map, nat_lt, slice_index, ◌==◌, ◌&&◌};
 ghost use Rattle.std.specs.List.{flat_map, list_any};
-ghost use Rattle.r4_base.specs.Key.{offset_of, rank};
+ghost use Rattle.r4_base.specs.Key.{IsKey, rank};
 ghost use Rattle.r4_content.specs.Edited.{changed, is_between, put_keys};
 ghost use Rattle.r4_content.specs.Held.{edits_of, interval_of, pair_of, run_pairs};
-ghost use Rattle.r4_content.specs.declared.edits.ByteRun.{ByteRun as HeldRun};
-ghost use Rattle.r4_leaf_edits.specs.Suiting.{StayInBodies};
 ghost use Rattle.r4_reach.specs.Needs.{is_met, meets};
 
-use crate::keys::{has, higher, part_of};
+use crate::keys::{has, higher, next_key, part_of};
 use r4_base::{Key, Value};
 use r4_content::{ByteRun, Edits, FilledInterval, Interval};
 use r4_leaf::KeyRange;
 
-/// Whether a key that a command sets or takes away lies in the range of a leaf, from `lo` on and below `hi`. No run of
-/// bytes goes past its body, whose offsets are below 2^64. It takes no time for each byte (docs/volume.md, "Which edits
-/// a leaf gets").
+/// Whether a key that a command sets or takes away lies in the range of a leaf, from `lo` on and below `hi`. It takes no
+/// time for each byte (docs/volume.md, "Which edits a leaf gets").
 pub fn touches_leaf(edits: &Edits, lo: &Key, hi: &Key) -> bool
-    requires { StayInBodies edits.now }
     ensures { result ≡ is_met (changed (edits_of edits.now)) (rank lo.now) (rank hi.now) }
 {
     let range = KeyRange { from: *lo, to: *hi };
@@ -27,7 +23,6 @@ pub fn touches_leaf(edits: &Edits, lo: &Key, hi: &Key) -> bool
 
 // Whether a key in a range gets a value.
 fn sets_in(range: &KeyRange, edits: &Edits) -> bool
-    requires { StayInBodies edits.now }
     ensures { result ≡ is_met (put_keys (edits_of edits.now).puts)
         (rank range.now.from) (rank range.now.to) }
 {
@@ -36,7 +31,6 @@ fn sets_in(range: &KeyRange, edits: &Edits) -> bool
 
 // Whether a key in a range gets a byte of a run or a value.
 fn sets_one_by_one(range: &KeyRange, edits: &Edits) -> bool
-    requires { StayInBodies edits.now }
     ensures { result
         ≡ is_met (put_keys
         (flat_map run_pairs edits.now.runs.items ++ map pair_of edits.now.puts.items))
@@ -79,7 +73,6 @@ fn meets_fills(range: &KeyRange, fills: &[FilledInterval]) -> bool
 
 // Whether one of the runs has a key in a range.
 fn meets_runs(range: &KeyRange, runs: &[ByteRun]) -> bool
-    requires { All (λ (r : HeldRun). offset_of r.from + length r.bytes ≤ 2 ^ 64) runs.now }
     ensures { result ≡ is_met (put_keys (flat_map run_pairs runs.now))
         (rank range.now.from) (rank range.now.to) }
 {
@@ -91,28 +84,40 @@ fn meets_runs(range: &KeyRange, runs: &[ByteRun]) -> bool
 
 // Whether a run has a key in a range.
 fn meets_run(range: &KeyRange, run: &ByteRun) -> bool
-    requires { offset_of run.now.from + length run.now.bytes ≤ 2 ^ 64 }
     ensures { result
         ≡ is_met (put_keys (run_pairs run.now)) (rank range.now.from) (rank range.now.to) }
 {
     let count = run.bytes.as_slice().len() as u64;
     let low = higher(range.from, run.from);
-    low.is_below(range.to) && reaches(&run.from, count, &low)
+    low.is_below(range.to) && reaches(run.from, count, low)
 }
 
 // Whether so many keys from one on go past another.
 #[tactic(auto, unfolding(r4_base::specs::Key::rank))]
-fn reaches(from: &Key, count: u64, other: &Key) -> bool
-    requires { offset_of from.now + count ≤ 2 ^ 64 }
-    ensures { result ≡ nat_lt (rank other.now) (rank from.now + count) }
+fn reaches(from: Key, count: u64, other: Key) -> bool
+    ensures { result ≡ nat_lt (rank other) (rank from + count) }
 {
-    if other.is_below(*from) {
+    if other.is_below(from) {
         return true;
     }
-    if other.el[0] != from.el[0] || other.el[1] != from.el[1] || other.el[2] != from.el[2] {
+    if is_same_body(from, other) {
+        return other.el[3] - from.el[3] < count;
+    }
+    let left = u64::MAX - from.el[3];
+    if count <= left {
         return false;
     }
-    other.el[3] - from.el[3] < count
+    let border = next_key(from.with_offset(u64::MAX), other);
+    is_same_body(border, other) && other.el[3] < count - left - 1
+}
+
+// Whether two keys differ in their offsets at most.
+fn is_same_body(a: Key, b: Key) -> bool
+    ensures same { result ≡ (slice_index a.el 0 == slice_index b.el 0
+        && (slice_index a.el 1 == slice_index b.el 1 && slice_index a.el 2 == slice_index b.el 2)) }
+    ensures keys { IsKey a × IsKey b }
+{
+    a.el[0] == b.el[0] && (a.el[1] == b.el[1] && a.el[2] == b.el[2])
 }
 
 // Whether one of the values has its key in a range.
