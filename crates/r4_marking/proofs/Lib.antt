@@ -1,0 +1,5 @@
+pub mod Held
+pub mod Asked
+pub mod Children
+pub mod Besides
+pub mod Marked

@@ -1,0 +1,10 @@
+//! Which of the cells that were met a change reads and writes (docs/volume.md, "Reach").
+#![tactic(auto)]
+
+mod asking;
+mod demands;
+mod hearing;
+mod marking;
+
+pub use demands::{Asking, Demands, Heard};
+pub use marking::{Marks, mark};

@@ -1,0 +1,118 @@
+//! Which of the cells that were met are read and written.
+
+ghost use Rattle.std.specs.Prelude.{◌≡◌, ◌↔◌, map, true, IfOk, OnOk};
+ghost use Rattle.std.specs.Arc.{arc_value};
+ghost use Rattle.r4_cell.specs.Patch.{root_of_pair};
+ghost use Rattle.r4_marking.specs.Marks.{AddsBeside, AreBeside, AreMarksOf, IsMet, IsWrittenBy, MarksOne, asks_seen};
+
+use crate::asking::asked_up;
+use crate::demands::{Asking, Demands};
+use crate::hearing::heard_by;
+use r4_base::Memory;
+use r4_cell::{Cell, Root};
+use std::alloc::Global;
+use std::collections::HashMap;
+use std::sync::Arc;
+
+/// The cells of those that were met which a change reads and which it writes, in the order in which they are given; and
+/// what the root asks for, where it asks for something (docs/volume.md, "Reach").
+#[derive(Drop)]
+pub struct Marks {
+    pub reads: Vec<Arc<Cell>>,
+    pub writes: Vec<Arc<Cell>>,
+    pub rises: Option<Asking>,
+}
+
+/// Which of the cells that were met a change reads and writes. They are a part of a tree with this root, and stand by
+/// level, the lowest first. Each is looked at twice, and no other one (docs/volume.md, "Reach"). The only error is want
+/// of memory.
+pub fn mark<D: Demands>(
+    alloc: Global,
+    demands: &D,
+    root: &Root,
+    met: &[Arc<Cell>],
+) -> Result<Marks, Memory>
+    requires { IsMet (map (λ c. arc_value c) met.now) (root_of_pair root.now) }
+    ensures { IfOk result (AreMarksOf (D.demand demands.now) (map (λ c. arc_value c) met.now)
+        (root_of_pair root.now)) }
+{
+    let asks = asked_up(alloc, demands, met)?;
+    let beside = beside_of(alloc, demands, met)?;
+    let mut marks = Marks {
+        reads: Vec::new(alloc),
+        writes: Vec::new(alloc),
+        rises: asks.get(&root.id.0).copied(),
+    };
+    for cell in met {
+        mark_cell(alloc, demands, cell, &asks, &beside, &mut marks)?;
+    }
+    Ok(marks)
+}
+
+// A cell that is written or read is put behind the others that are.
+fn mark_cell<D: Demands>(
+    alloc: Global,
+    demands: &D,
+    cell: &Arc<Cell>,
+    asks: &HashMap<u64, Asking>,
+    beside: &[u64],
+    marks: &mut Marks,
+) -> Result<(), Memory>
+    ensures { OnOk result (MarksOne (D.demand demands.now) (asks_seen asks.now.entries) beside.now
+        (arc_value cell.now) marks.old marks.new) }
+{
+    if is_written(alloc, demands, cell, asks, beside)? {
+        marks.writes.push(Arc::try_clone(cell)?)?;
+    } else if demands.reads_at(cell) {
+        marks.reads.push(Arc::try_clone(cell)?)?;
+    }
+    Ok(())
+}
+
+// Whether a cell is written: by its keys, as a twig that turns, beside one, or since it is asked for something.
+#[tactic(auto, using(crate::proofs::Children::data_silent))]
+fn is_written<D: Demands>(
+    alloc: Global,
+    demands: &D,
+    cell: &Cell,
+    asks: &HashMap<u64, Asking>,
+    beside: &[u64],
+) -> Result<bool, Memory>
+    ensures { IfOk result (λ b. (b ≡ true) ↔ IsWrittenBy (D.demand demands.now) cell.now
+        (asks_seen asks.now.entries) beside.now) }
+{
+    if demands.changes_at(cell) || demands.turns(cell) || beside.contains(&cell.id().0) {
+        return Ok(true);
+    }
+    if cell.level() == 0 {
+        return Ok(false);
+    }
+    Ok(!heard_by(alloc, cell, asks)?.is_empty())
+}
+
+// The numbers of the leaves beside the twigs that turn.
+fn beside_of<D: Demands>(alloc: Global, demands: &D, met: &[Arc<Cell>]) -> Result<Vec<u64>, Memory>
+    ensures { IfOk result (λ v. AreBeside (D.demand demands.now) (map (λ c. arc_value c) met.now) v.items) }
+{
+    let mut beside = Vec::new(alloc);
+    for cell in met {
+        add_beside(alloc, demands, cell, &mut beside)?;
+    }
+    Ok(beside)
+}
+
+// The numbers of the leaves beside a cell that turns are put behind the others.
+fn add_beside<D: Demands>(
+    alloc: Global,
+    demands: &D,
+    cell: &Cell,
+    beside: &mut Vec<u64>,
+) -> Result<(), Memory>
+    ensures { OnOk result (AddsBeside (D.demand demands.now) cell.now beside.old.items beside.new.items) }
+{
+    if demands.turns(cell) {
+        let mut more = demands.beside(alloc, cell)?;
+        beside.append(&mut more)?;
+    }
+    Ok(())
+}
