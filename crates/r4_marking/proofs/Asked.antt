@@ -14,7 +14,7 @@ use Rattle.r4_patch.specs.Part.{IsPart}
 use Rattle.r4_patch.proofs.Members.{Distinct, absent, cases, distinct, found, here, later, none, there}
 use Rattle.r4_reach.specs.Demand.{Demand, ask, ask_of, heard}
 use Rattle.r4_reach.specs.Needs.{Ask}
-use Rattle.r4_marking.specs.Marks.{AreAsks, AreLevels, HearsLittle, IsMet, IsNoted, heard_by_id, most_for}
+use Rattle.r4_marking.specs.Marks.{AreAsks, AreLevels, HearsLittle, AreMet, IsNoted, heard_by_id, most_for}
 use Rattle.r4_marking.proofs.Held.{heard_same}
 
 -- ---- places in lists
@@ -80,7 +80,7 @@ cell_level (suc l) lo hi b = refl
 pub node_level : (c : CellSeen) → (node_of c).level ≡ c.level
 node_level c = cell_level c.level (rank c.lo) (rank c.hi) c.block
 
-module _ (d : Demand Ask) (met : List CellSeen) (root : Root) (m : IsMet met root) where
+module _ (d : Demand Ask) (met : List CellSeen) (root : Root) (m : AreMet met root) where
   abbrev pub t : Store Value
   t = by_name met
 

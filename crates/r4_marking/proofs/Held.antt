@@ -11,7 +11,7 @@ use Rattle.r4_patch.specs.Part.{IsPart}
 use Rattle.r4_patch.proofs.Members.{absent, found, here, later}
 use Rattle.r4_reach.specs.Demand.{Demand, ask, ask_of, heard, heard_one}
 use Rattle.r4_reach.specs.Needs.{Ask}
-use Rattle.r4_marking.specs.Marks.{AreAsks, AreLevels, IsMet, IsNoted, heard_by_id}
+use Rattle.r4_marking.specs.Marks.{AreAsks, AreLevels, AreMet, IsNoted, heard_by_id}
 
 pub heard_same : (d : Demand Ask) (t : Store Value) (l : ℕ) (f : ℕ → Option Ask) (ns : List Name) → ((n : Name) → Contains ns n → 1 ≤ n.level → f n.id ≡ ask_of (ask d t l) (t n.id)) → heard_by_id f ns ≡ heard (ask d t l) t ns
 heard_same d t l f [] h = refl

@@ -13,7 +13,7 @@ use Rattle.r4_patch.proofs.Members.{found, none}
 use Rattle.r4_reach.specs.Demand.{Demand, ask, heard}
 use Rattle.r4_reach.specs.Needs.{Ask}
 use Rattle.r4_reach.specs.Reach.{IsAsked, IsBeside, IsRead, IsReadAt, IsReached, IsRootAsking, IsWritten, IsWrittenAt}
-use Rattle.r4_marking.specs.Marks.{AreAsks, AreBeside, AreChosen, AreMarks, IsMet, IsWrittenBy, KeepsOrder, Marks1, StandsBeside, heard_by_id}
+use Rattle.r4_marking.specs.Marks.{AreAsks, AreBeside, AreChosen, AreMarks, AreMet, IsWrittenBy, KeepsOrder, AddsMark, StandsBeside, heard_by_id}
 use Rattle.r4_marking.proofs.Asked.{heard_of, node_level, stands}
 use Rattle.r4_marking.proofs.Children.{data_nameless, data_silent}
 use Rattle.r4_marking.proofs.Held.{heard_same}
@@ -93,7 +93,7 @@ module _ (d : Demand Ask) (f : ℕ → Option Ask) (beside : List ℕ) where
   pub marking_none : AreMarking [] [] []
   marking_none = record { read = chosen_none ReadAlone; written = chosen_none Written }
 
-  pub marking_more : (cells reads writes more_reads more_writes : List CellSeen) (c : CellSeen) → AreMarking cells reads writes → Marks1 d f beside c reads writes more_reads more_writes → AreMarking (cells ++ c ∷ []) more_reads more_writes
+  pub marking_more : (cells reads writes more_reads more_writes : List CellSeen) (c : CellSeen) → AreMarking cells reads writes → AddsMark d f beside c reads writes more_reads more_writes → AreMarking (cells ++ c ∷ []) more_reads more_writes
   marking_more cells reads writes more_reads more_writes c h (inl (written, added, same)) = record {
     read = subst (Chosen ReadAlone (cells ++ c ∷ [])) (sym same) (chosen_skip ReadAlone cells reads c h.read (λ both. both.1 written));
     written = subst (Chosen Written (cells ++ c ∷ [])) (sym added) (chosen_more Written cells writes c h.written written);
@@ -107,7 +107,7 @@ module _ (d : Demand Ask) (f : ℕ → Option Ask) (beside : List ℕ) where
     written = subst (Chosen Written (cells ++ c ∷ [])) (sym same) (chosen_skip Written cells writes c h.written other);
   }
 
-module _ (d : Demand Ask) (met : List CellSeen) (root : Root) (m : IsMet met root) (f : ℕ → Option Ask) (a : AreAsks d (by_name met) met f) (beside : List ℕ) (b : AreBeside d met beside) where
+module _ (d : Demand Ask) (met : List CellSeen) (root : Root) (m : AreMet met root) (f : ℕ → Option Ask) (a : AreAsks d (by_name met) met f) (beside : List ℕ) (b : AreBeside d met beside) where
   abbrev t : Store Value
   t = by_name met
 
@@ -206,15 +206,15 @@ taken_more {A} k xs x is = let e : suc k ≡ k + 1 = omega arith in subst (λ (n
 -- ---- one cell
 
 module _ (d : Demand Ask) (f : ℕ → Option Ask) (beside : List ℕ) (c x : CellSeen) (same : x ≡ c) (reads writes : List CellSeen) (b : Bool) (says : (b ≡ true → IsWrittenBy d x f beside) × (IsWrittenBy d x f beside → b ≡ true)) where
-  pub one_written : (more : List CellSeen) → b ≡ true → more ≡ writes ++ c ∷ [] → Marks1 d f beside c reads writes reads more
+  pub one_written : (more : List CellSeen) → b ≡ true → more ≡ writes ++ c ∷ [] → AddsMark d f beside c reads writes reads more
   one_written more is added = inl (subst (λ (y : CellSeen). IsWrittenBy d y f beside) same (says.0 is), added, refl)
 
   not_written : b ≡ false → IsWrittenBy d c f beside → ⊥
   not_written is w = let e = sym (says.1 (subst (λ (y : CellSeen). IsWrittenBy d y f beside) (sym same) w)) ∙ is in cc
 
   module _ (z : CellSeen) (also : z ≡ c) (r : Bool) (tells : (r ≡ true → IsReadAt d (node_of z)) × (IsReadAt d (node_of z) → r ≡ true)) where
-    pub one_read : (more : List CellSeen) → b ≡ false → r ≡ true → more ≡ reads ++ c ∷ [] → Marks1 d f beside c reads writes more writes
+    pub one_read : (more : List CellSeen) → b ≡ false → r ≡ true → more ≡ reads ++ c ∷ [] → AddsMark d f beside c reads writes more writes
     one_read more is read added = inr (not_written is, refl, inl (subst (λ (y : CellSeen). IsReadAt d (node_of y)) also (tells.0 read), added))
 
-    pub one_left : b ≡ false → r ≡ false → Marks1 d f beside c reads writes reads writes
+    pub one_left : b ≡ false → r ≡ false → AddsMark d f beside c reads writes reads writes
     one_left is read = inr (not_written is, refl, inr ((λ w. let e = sym (tells.1 (subst (λ (y : CellSeen). IsReadAt d (node_of y)) (sym also) w)) ∙ read in cc), refl))

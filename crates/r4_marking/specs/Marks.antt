@@ -1,5 +1,7 @@
 -- Which of the cells that were met are read and written (docs/volume.md, "Reach"). A key is its rank.
-use Rattle.std.specs.Prelude.{◌≡◌, ◌≢◌, ◌⊎◌, ◌↔◌, ℕ, ◌+◌, ◌-◌, ◌*◌, ◌^◌, ◌<◌, ◌≤◌, ◌==◌, List, [], ◌∷◌, ◌++◌, All, AllPairs, Bool, true, Contains, Option, Some, None, drop, map, nat_eq, slice_get, if◌then◌else◌}
+use Rattle.std.specs.Prelude.{◌≡◌, ◌≢◌, ◌⊎◌, ◌↔◌, ℕ, ◌+◌, ◌*◌, ◌^◌, ◌<◌, ◌≤◌, ◌==◌, if◌then◌else◌, Bool, true}
+use Rattle.std.specs.Prelude.{List, [], ◌∷◌, ◌++◌, All, AllPairs, Contains, drop, map, nat_eq, slice_get}
+use Rattle.std.specs.Prelude.{Option, Some, None}
 use Rattle.std.specs.Arc.{arc_value}
 use Rattle.std.specs.Map.{lookup}
 use Rattle.std.specs.Option.{option_map}
@@ -75,10 +77,11 @@ HearsAt c place f old new = (item : Item) → slice_get (items_of c.block) place
 
 -- They stand by level, the lowest first.
 abbrev pub AreLevels : List CellSeen → Type 0
-AreLevels met = (i j : ℕ) (c d : CellSeen) → slice_get met i ≡ Some c → slice_get met j ≡ Some d → i < j → c.level ≤ d.level
+AreLevels met = (i j : ℕ) (c d : CellSeen) → slice_get met i ≡ Some c → slice_get met j ≡ Some d → i < j
+    → c.level ≤ d.level
 
 -- They have different names, are a part of a tree and stand by level.
-pub record IsMet (met : List CellSeen) (root : Root) : Type 0 where
+pub record AreMet (met : List CellSeen) (root : Root) : Type 0 where
   pub names : HaveNames met
   pub part : IsPart (by_name met) root
   pub levels : AreLevels met
@@ -117,16 +120,19 @@ abbrev pub IsWrittenBy : Demand Ask → CellSeen → (ℕ → Option Ask) → Li
 IsWrittenBy d c f beside = IsWrittenAt d (node_of c) ⊎ ((d.turns (node_of c) ≡ true)
     ⊎ (Contains beside c.id ⊎ (heard_by_id f (node_of c).names ≢ [])))
 
-abbrev pub Marks1 : Demand Ask → (ℕ → Option Ask) → List ℕ → CellSeen → (reads writes more_reads more_writes : List CellSeen) → Type 0
-Marks1 d f beside c reads writes more_reads more_writes =
+-- Of cells that are read and those that are written: the cell comes behind the latter, or the former, or neither.
+abbrev pub AddsMark : Demand Ask → (ℕ → Option Ask) → List ℕ → CellSeen → (reads writes : List CellSeen)
+    → (more_reads more_writes : List CellSeen) → Type 0
+AddsMark d f beside c reads writes more_reads more_writes =
     (IsWrittenBy d c f beside × (more_writes ≡ writes ++ c ∷ []) × (more_reads ≡ reads))
     ⊎ ((¬ (IsWrittenBy d c f beside)) × (more_writes ≡ writes)
-    × ((IsReadAt d (node_of c) × (more_reads ≡ reads ++ c ∷ [])) ⊎ ((¬ (IsReadAt d (node_of c))) × (more_reads ≡ reads))))
+    × ((IsReadAt d (node_of c) × (more_reads ≡ reads ++ c ∷ []))
+    ⊎ ((¬ (IsReadAt d (node_of c))) × (more_reads ≡ reads))))
 
 -- The cell comes behind those that are written or read, if it is.
 abbrev pub MarksOne : Demand Ask → (ℕ → Option Ask) → List ℕ → CellSeen → (old new : Marks) → Type 0
 MarksOne d f beside c old new =
-    (new.rises ≡ old.rises) × (Marks1 d f beside c (map arc_value old.reads.items) (map arc_value old.writes.items)
+    (new.rises ≡ old.rises) × (AddsMark d f beside c (map arc_value old.reads.items) (map arc_value old.writes.items)
     (map arc_value new.reads.items) (map arc_value new.writes.items))
 
 -- What holds of each two of the cells, in their order, holds of these too.

@@ -5,7 +5,7 @@ ghost use Rattle.std.specs.Arc.{arc_value};
 ghost use Rattle.r4_base.specs.Tree.{Root};
 ghost use Rattle.r4_cell.specs.Patch.{by_name};
 ghost use Rattle.r4_cell.specs.Seen.{node_of};
-ghost use Rattle.r4_marking.specs.Marks.{AreAsks, HearsLittle, IsMet, IsNoted, asks_seen, most_for};
+ghost use Rattle.r4_marking.specs.Marks.{AreAsks, HearsLittle, AreMet, IsNoted, asks_seen, most_for};
 
 use crate::demands::{Asking, Demands};
 use crate::hearing::heard_by;
@@ -22,7 +22,7 @@ pub(crate) fn asked_up<D: Demands>(
     demands: &D,
     met: &[Arc<Cell>],
 ) -> Result<HashMap<u64, Asking>, Memory>
-    requires { (root : Root) × IsMet (map (λ c. arc_value c) met.now) root }
+    requires { (root : Root) × AreMet (map (λ c. arc_value c) met.now) root }
     ensures { IfOk result (λ m. AreAsks (D.demand demands.now)
         (by_name (map (λ c. arc_value c) met.now)) (map (λ c. arc_value c) met.now)
         (asks_seen m.entries)) }

@@ -3,7 +3,7 @@
 ghost use Rattle.std.specs.Prelude.{◌≡◌, ◌↔◌, map, true, IfOk, OnOk};
 ghost use Rattle.std.specs.Arc.{arc_value};
 ghost use Rattle.r4_cell.specs.Patch.{root_of_pair};
-ghost use Rattle.r4_marking.specs.Marks.{AddsBeside, AreBeside, AreMarksOf, IsMet, IsWrittenBy, MarksOne, asks_seen};
+ghost use Rattle.r4_marking.specs.Marks.{AddsBeside, AreBeside, AreMarksOf, AreMet, IsWrittenBy, MarksOne, asks_seen};
 
 use crate::asking::asked_up;
 use crate::demands::{Asking, Demands};
@@ -32,7 +32,7 @@ pub fn mark<D: Demands>(
     root: &Root,
     met: &[Arc<Cell>],
 ) -> Result<Marks, Memory>
-    requires { IsMet (map (λ c. arc_value c) met.now) (root_of_pair root.now) }
+    requires { AreMet (map (λ c. arc_value c) met.now) (root_of_pair root.now) }
     ensures { IfOk result (AreMarksOf (D.demand demands.now) (map (λ c. arc_value c) met.now)
         (root_of_pair root.now)) }
 {

@@ -1,5 +1,6 @@
 -- Keys that are known, and parts that are put among others (docs/volume.md, "Sight"). A key is its rank.
-use Rattle.std.specs.Prelude.{◌≡◌, ℕ, ◌+◌, ◌<◌, ◌≤◌, List, [], ◌∷◌, ◌++◌, All, Bool, true, false, drop, length, take, slice_get, Some}
+use Rattle.std.specs.Prelude.{◌≡◌, ℕ, ◌+◌, ◌<◌, ◌≤◌, List, ◌++◌, All, true, false, drop, length, take}
+use Rattle.std.specs.Prelude.{slice_get, Some}
 use Rattle.r4_base.specs.Key.{rank}
 use Rattle.r4_base.specs.declared.key.Key.{Key}
 use Rattle.r4_content.specs.Edited.{Intervals, is_in}

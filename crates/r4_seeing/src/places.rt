@@ -1,6 +1,7 @@
 //! Parts that are put among those that were seen.
 
-ghost use Rattle.std.specs.Prelude.{◌≡◌, ◌+◌, ◌∷◌, ◌++◌, ◌≤◌, [], drop, length, take, OnErr, OnOk, vec_capacity, vec_len};
+ghost use Rattle.std.specs.Prelude.{◌≡◌, ◌+◌, ◌∷◌, ◌++◌, ◌≤◌, [], drop, length, take, OnErr, OnOk};
+ghost use Rattle.std.specs.Prelude.{vec_capacity, vec_len};
 ghost use Rattle.r4_base.specs.Key.{rank};
 ghost use Rattle.r4_seeing.specs.Known.{IsNoted, IsPlaceFor, part_key};
 

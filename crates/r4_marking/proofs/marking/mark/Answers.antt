@@ -4,7 +4,7 @@ use Rattle.std.specs.Option.{option_map}
 use Rattle.std.proofs.lemmas.List.{length-map}
 use Rattle.r4_cell.specs.Patch.{root_of_pair}
 use Rattle.r4_cell.specs.Seen.{CellSeen}
-use Rattle.r4_marking.specs.Marks.{Marks1, ask_seen, asks_seen}
+use Rattle.r4_marking.specs.Marks.{AddsMark, ask_seen, asks_seen}
 use Rattle.r4_marking.proofs.Asked.{at_place}
 use Rattle.r4_marking.proofs.Marked.{AreMarking, all_taken, marked, marking_more, taken_more}
 use Rattle.r4_marking.proofs.marking.mark.Goals as goal
@@ -23,7 +23,7 @@ loop-cell-preserved g c =
       subst (λ (xs : List CellSeen). AreMarking d f c.in_ok-beside.beside.items xs more_reads more_writes)
           (sym (taken_more c.loop-cell.cell-index cells cell (at_place (λ x. arc_value x) c.args.met.now c.loop-cell.cell-index c.cell-item.result cell c.loop-cell-test.true (ap (λ x. arc_value x) c.cell-item.is))))
           (marking_more d f c.in_ok-beside.beside.items (take c.loop-cell.cell-index cells) reads writes more_reads more_writes cell c.loop-cell.invariant.1
-          (subst (λ (ids : List ℕ). Marks1 d f ids cell reads writes more_reads more_writes) c.deref.ensures.value c.in_ok-mark_cell.ensures.1)),
+          (subst (λ (ids : List ℕ). AddsMark d f ids cell reads writes more_reads more_writes) c.deref.ensures.value c.in_ok-mark_cell.ensures.1)),
     )
 
 pub returns : goal.returns
