@@ -19,7 +19,8 @@ use Rattle.r4_search.specs.declared.pool.FetchFault.{FetchFault}
 use Rattle.r4_search.proofs.Walks.{goes_both, goes_same}
 use Rattle.r4_seeing.specs.Known.{AreKnown, AreNew}
 use Rattle.r4_seeing.specs.Looking.{KnowsMore, LookingSeen, StopsBetween}
-use Rattle.r4_seeing.specs.Seeing.{IsNotedFault, IsSeeing, IsStopped, SeeingSeen, asked_keys, sighting}
+use Rattle.r4_gather.specs.Finding.{asked_keys}
+use Rattle.r4_seeing.specs.Seeing.{IsNotedFault, IsSeeing, IsStopped, SeeingSeen, sighting}
 use Rattle.r4_seeing.proofs.Reading.{new_more}
 
 -- ---- gaps

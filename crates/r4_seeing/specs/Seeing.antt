@@ -1,20 +1,13 @@
 -- What a command has seen, and what it asked for (docs/volume.md, "Sight"). A key is its rank.
-use Rattle.std.specs.Prelude.{◌≡◌, ℕ, ◌+◌, ◌<◌, ◌≤◌, Bool, true, Option, Some, None, Result, Ok, Err}
-use Rattle.r4_base.specs.Key.{least, rank, top}
+use Rattle.std.specs.Prelude.{◌≡◌, ℕ, ◌<◌, ◌≤◌, Bool, true, Option, Some, None, Result, Ok, Err}
+use Rattle.r4_base.specs.Key.{least, top}
 use Rattle.r4_content.specs.Edited.{Intervals, is_in}
-use Rattle.r4_content.specs.Held.{interval_of, pairs_of}
+use Rattle.r4_content.specs.Held.{pairs_of}
 use Rattle.r4_gather.specs.Asking.{Sighting}
-use Rattle.r4_gather.specs.declared.sight.Asked.{Asked}
-use Rattle.r4_gather.specs.declared.sight.Asked.TheVariants.{Key as AskedKey, Within}
 use Rattle.r4_search.specs.Pool.{Goes, PoolState}
 use Rattle.r4_search.specs.declared.pool.FetchFault.{FetchFault}
 use Rattle.r4_seeing.specs.Looking.{LookingSeen}
 use Rattle.r4_sight.specs.Stretches.{StopsAt}
-
--- the keys that were asked for
-abbrev pub asked_keys : Asked → ℕ × ℕ
-asked_keys (AskedKey k) = (rank k, rank k + 1)
-asked_keys (Within i) = interval_of i
 
 -- what contracts see: what was seen, what was asked for, the newest first, and the fault with which a look-up ended
 pub record SeeingSeen (P : Type 0) : Type 0 where

@@ -76,6 +76,20 @@ impl<P: Pool> Looking<P> {
         &self.seen
     }
 
+    /// The pool, and what was seen.
+    pub fn into_parts(self) -> (P, Seen)
+        ensures pool { result.0 ≡ self.pool }
+        ensures seen { result.1 ≡ self.seen }
+    {
+        let Looking {
+            pool,
+            root: _,
+            seen,
+            known: _,
+        } = self;
+        (pool, seen)
+    }
+
     /// What holds of all that is known. It does nothing.
     pub fn lawful(&self)
         ensures { IsLooking (P.state self.now.pool) self.now.root self.now.seen.parts.items

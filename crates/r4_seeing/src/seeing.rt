@@ -30,7 +30,8 @@ pub struct Seeing<P: Pool> {
 
 impl<P: Pool> Model for Seeing<P> {
     ghost use Rattle.std.specs.Prelude.{map, reverse};
-    ghost use Rattle.r4_seeing.specs.Seeing.{IsSeeing, SeeingSeen, asked_keys};
+    ghost use Rattle.r4_gather.specs.Finding.{asked_keys};
+    ghost use Rattle.r4_seeing.specs.Seeing.{IsSeeing, SeeingSeen};
 
     ghost Value = { SeeingSeen P };
 
@@ -63,6 +64,19 @@ impl<P: Pool> Seeing<P> {
             asked: Vec::new(alloc),
             fault: None,
         }
+    }
+
+    /// The pool, and what was seen.
+    pub fn into_parts(self) -> (P, Seen)
+        ensures pool { result.0 ≡ self.looking.pool }
+        ensures seen { result.1 ≡ self.looking.seen }
+    {
+        let Seeing {
+            looking,
+            asked: _,
+            fault: _,
+        } = self;
+        looking.into_parts()
     }
 
     /// What was seen is what cells have that were met, at the keys that are known (docs/volume.md, "Sight"). It does

@@ -25,7 +25,7 @@ use Rattle.r4_leaf.proofs.Standing.{put_sound}
 use Rattle.r4_edit.specs.Editing.{Edits, EditsUp, extra_cells, extra_for, extra_up}
 use Rattle.r4_edit.specs.Remaking.{IsRemadeUp, IsRemakeIn, after_edits}
 use Rattle.r4_path.specs.Steps.{Ascends, OnlyTakes}
-use Rattle.r4_edit.proofs.LeafItems.{spread}
+use Rattle.r4_leaf.proofs.LeafItems.{spread}
 use Rattle.r4_path.proofs.Rising.{InCell}
 use Rattle.r4_patch.specs.Effect.{HasEffect}
 use Rattle.r4_work.specs.Remaking.{CanRemake, CanRemakeUp, Changes, CutsWithin, HaveKeys, IsRemade, IsRemakable, cut_keys, item_value, remade_keys}

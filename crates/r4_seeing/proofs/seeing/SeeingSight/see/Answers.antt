@@ -6,7 +6,8 @@ use Rattle.r4_content.specs.Edited.{Intervals, is_between}
 use Rattle.r4_gather.specs.Asking.{IsLater}
 use Rattle.r4_gather.specs.declared.sight.Asked.{Asked}
 use Rattle.r4_gather.specs.declared.sight.Asked.TheVariants.{Key as AskedKey}
-use Rattle.r4_seeing.specs.Seeing.{IsSeeing, asked_keys, sighting}
+use Rattle.r4_gather.specs.Finding.{asked_keys}
+use Rattle.r4_seeing.specs.Seeing.{IsSeeing, sighting}
 use Rattle.r4_seeing.proofs.AskedOn.{asked_more, asked_outside, asked_within, later_seeing}
 use Rattle.r4_seeing.proofs.seeing.SeeingSight.see.Goals as goal
 

@@ -1,0 +1,7 @@
+//! Tests of what a command sees of a volume.
+#![tactic(auto)]
+
+#[cfg(test)]
+mod counting;
+#[cfg(test)]
+mod seeing;
