@@ -3,6 +3,7 @@
 
 mod cells;
 mod holes;
+mod names;
 mod remaking;
 mod trials;
 
@@ -10,6 +11,7 @@ pub use cells::{
     DIRECTORY, Row, STAT, TAIL, ZEROS, byte, empty_leaf, first, root_leaf, rows, with, with_between,
 };
 pub use holes::{halve_holes, twig_of_holes};
+pub use names::{ENTRIES, LETTERS, entries, name_key};
 pub use remaking::remake;
 pub use trials::{
     LEAF, ROOT, TWIG, UNPLACED, halve, numbers, put, put_apart, put_behind, put_blocks, raise,

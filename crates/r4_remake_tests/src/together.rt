@@ -1,11 +1,10 @@
 //! All edits of a leaf at once: what goes, what comes, and which cells there are then.
 
-use crate::leaves::{ENTRIES, LETTERS, entries, name_key};
 use r4_base::{Attr, Key, Oid, get16};
 use r4_cell::{Cell, Change, least, top};
 use r4_edit_testing::{
-    DIRECTORY, LEAF, ROOT, Row, STAT, TAIL, ZEROS, byte, empty_leaf, first, remake, root_leaf,
-    rows, with,
+    DIRECTORY, ENTRIES, LEAF, LETTERS, ROOT, Row, STAT, TAIL, ZEROS, byte, empty_leaf, entries,
+    first, name_key, remake, root_leaf, rows, with,
 };
 use r4_leaf::{Given, KeyRange};
 use r4_meta::write_stat;
