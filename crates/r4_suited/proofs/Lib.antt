@@ -1,0 +1,6 @@
+pub mod Few
+pub mod Walked
+pub mod Runs
+pub mod Suits
+pub mod Weights
+pub mod Small

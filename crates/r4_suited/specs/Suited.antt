@@ -1,0 +1,20 @@
+-- What was seen in cells that were accepted, and where bytes end (docs/volume.md, "Which edits a leaf gets").
+use Rattle.std.specs.Prelude.{◌≡◌, ℕ, ◌^◌, ◌<◌, All, true, if◌then◌else◌, Option, Some, None}
+use Rattle.r4_base.specs.Stat.{kind_is_good}
+use Rattle.r4_base.specs.Value.{Byte, Entry, Stat, Value}
+use Rattle.r4_content.specs.Edited.{Pairs}
+use Rattle.r4_reach.specs.Touched.{Body, is_spread}
+
+-- Attributes are a directory's or a file's, and what an entry names has an ordering of 64 bits.
+abbrev pub IsLawfulSeen : ℕ × Value → Type 0
+IsLawfulSeen (k, Stat a) = kind_is_good a.mode ≡ true
+IsLawfulSeen (k, Entry n t) = t.ordering < 2 ^ 64
+IsLawfulSeen (k, Byte x) = Unit {0}
+
+abbrev pub AreLawfulSeen : Pairs → Type 0
+AreLawfulSeen s = All IsLawfulSeen s
+
+-- Bytes that are set stand before this one of their file; anywhere where its body stands in extents afterwards.
+abbrev pub end_of_bytes : Option Body → ℕ
+end_of_bytes None = 16384
+end_of_bytes (Some b) = if is_spread b then 2 ^ 64 else 16384

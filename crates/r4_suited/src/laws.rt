@@ -1,0 +1,39 @@
+//! Laws of what the edits of commands are. Each is the contract of a function that does nothing.
+
+ghost use Rattle.std.specs.Prelude.{◌≡◌, ℕ, ◌<◌, ◌≤◌, Bool, Option, None};
+ghost use Rattle.std.specs.Option.{option_map};
+ghost use Rattle.r4_base.specs.Tree.{Node};
+ghost use Rattle.r4_base.specs.Value.{Value};
+ghost use Rattle.r4_content.specs.Edited.{Pairs};
+ghost use Rattle.r4_content.specs.Fields.{HasBytePaths};
+ghost use Rattle.r4_content.specs.Held.{interval_of};
+ghost use Rattle.r4_content.specs.Seen.{Rises};
+ghost use Rattle.r4_content.specs.declared.command.Command.{Command};
+ghost use Rattle.r4_content.specs.declared.edits.Interval.{Interval};
+ghost use Rattle.r4_leaf.specs.Units.{leaf_bytes};
+ghost use Rattle.r4_leaf_edits.specs.Made.{bytes_end, spread_keys};
+ghost use Rattle.r4_leaf_edits.specs.Suiting.{SuitLeaves};
+ghost use Rattle.r4_reach.specs.Needs.{units_after};
+ghost use Rattle.r4_reach.specs.Touched.{body_on, edits_on};
+ghost use Rattle.r4_suited.specs.Suited.{AreLawfulSeen, end_of_bytes};
+
+/// The edits of a command, whose paths are of bytes, are such as leaves can take, where what was seen is lawful. So
+/// they are for a leaf that is told all keys of a body that stands in extents afterwards.
+pub fn plans_suit_leaves()
+    ensures body { (c : Command) (s : Pairs) (in_extents : Bool)
+        → HasBytePaths c → Rises s → AreLawfulSeen s
+        → SuitLeaves (end_of_bytes (body_on c s in_extents)) (edits_on c s) }
+    ensures told { (c : Command) (s : Pairs) (in_extents : Bool) (spread : Option Interval)
+        → HasBytePaths c → Rises s → AreLawfulSeen s
+        → option_map interval_of spread ≡ spread_keys (body_on c s in_extents)
+        → SuitLeaves (bytes_end spread) (edits_on c s) }
+{}
+
+/// After a command that leaves no body in extents, a leaf whose units took up no more than one leaf has so few bytes
+/// that they can be parted.
+pub fn leaves_stay_small()
+    ensures { (c : Command) (s : Pairs) (in_extents : Bool) (n : Node Value) → HasBytePaths c
+        → Rises s → AreLawfulSeen s → Rises n.units → leaf_bytes n.units ≤ 4068
+        → spread_keys (body_on c s in_extents) ≡ None
+        → leaf_bytes (units_after (body_on c s in_extents) (edits_on c s) n) < 58912 }
+{}
