@@ -3,4 +3,5 @@ pub mod Walked
 pub mod Runs
 pub mod Suits
 pub mod Weights
+pub mod Left
 pub mod Small

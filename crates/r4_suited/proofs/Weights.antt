@@ -1,12 +1,13 @@
 -- How many bytes rising units need at most in a leaf, where keys are cut out of them and values are put in.
-use Rattle.std.specs.Prelude.{◌≡◌, ◌⊎◌, ℕ, zero, suc, ◌+◌, ◌-◌, ◌*◌, ◌<◌, ◌≤◌, List, [], ◌∷◌, ◌++◌, length, replicate, Bool, true, false, not, ◌&&◌, ◌||◌, ◌==◌, nat_lt, cond, All, Option, Some, None, T, if◌then◌else◌}
+use Rattle.std.specs.Prelude.{◌≡◌, ◌⊎◌, ℕ, zero, suc, ◌+◌, ◌-◌, ◌*◌, ◌<◌, ◌≤◌, List, [], ◌∷◌, length, replicate, Bool}
+use Rattle.std.specs.Prelude.{true, false, not, ◌||◌, ◌==◌, cond, All, Option, Some, None, T, if◌then◌else◌}
 use Rattle.std.proofs.Common.{arith, inl, inr, refl, sym, ap, subst, ◌∙◌, Less, Equal, Greater}
 use Rattle.std.specs.Cmp.{nat_cmp_is, unsigned_tied}
 use Rattle.std.specs.FinMap.{find, is_sorted, put}
 use Rattle.std.specs.FinMap.Entries.{below_all, by_order, find-put, is_sorted-put}
 use Rattle.std.specs.List.{filter}
 use Rattle.std.specs.Ordering.{is_lt, nat_cmp}
-use Rattle.std.proofs.lemmas.Bool.{cases_lt, eq-eqb, eqb-true, ltb-false, or_parts}
+use Rattle.std.proofs.lemmas.Bool.{cases_lt, eq-eqb, eqb-true}
 use Rattle.std.proofs.lemmas.Bool.Decides.{nat_tests}
 use Rattle.std.proofs.lemmas.Cmp.{nat_cmp_total}
 use Rattle.std.proofs.lemmas.Grind.{common_steps}
@@ -18,13 +19,13 @@ use Rattle.r4_base.specs.Value.{Byte, Entry, Stat, Value}
 use Rattle.r4_base.specs.declared.items.Target.{Target}
 use Rattle.r4_base.proofs.Names.{is_name}
 use Rattle.r4_content.specs.Edited.{Edits, Intervals, Pairs, is_between}
-use Rattle.r4_content.specs.Listed.{list_cut, list_edited, list_put, list_zero, list_zero_from}
+use Rattle.r4_content.specs.Listed.{list_cut, list_put, list_zero_from}
 use Rattle.r4_content.specs.Objects.{byte_pairs}
 use Rattle.r4_content.specs.Seen.{Rises}
 use Rattle.r4_content.proofs.EditLaws.{last_put}
 use Rattle.r4_content.proofs.Counting.{below_lt, first_holds, second_holds}
-use Rattle.r4_leaf.specs.Units.{LeafUnit, bytes_behind, continues_entries, continues_tail, entry_bytes, leaf_bytes, unit_bytes}
-use Rattle.r4_leaf.proofs.Rising.{Rise, above_kept, below_kept, between_cut, cut_high, rise_order}
+use Rattle.r4_leaf.specs.Units.{LeafUnit, bytes_behind, entry_bytes, leaf_bytes, unit_bytes}
+use Rattle.r4_leaf.proofs.Rising.{Rise, below_kept, between_cut, cut_high}
 use Rattle.r4_leaf.proofs.Weighed.{byte_cost, entry_weighs, headed, stat_cost}
 use Rattle.r4_leaf_edits.proofs.Lookups.{edited_rises, found, kept_rises, same_rising}
 use Rattle.r4_suited.proofs.Few.{IsValue}
@@ -35,13 +36,15 @@ rise_behind : (j : ℕ) (us : Pairs) → T (below_all nat_cmp j us) → Rises us
 rise_behind j [] b r = (j + 1, omega arith)
 rise_behind j (u ∷ us) b r =
     let lt = below_lt j u.0 (first_holds (is_lt (nat_cmp j u.0)) (below_all nat_cmp j us) b) in
-    let (to, rest) = rise_behind u.0 us (first_holds (below_all nat_cmp u.0 us) (is_sorted nat_cmp us) r) (second_holds (below_all nat_cmp u.0 us) (is_sorted nat_cmp us) r) in
+    let (to, rest) = rise_behind u.0 us (first_holds (below_all nat_cmp u.0 us) (is_sorted nat_cmp us) r)
+    (second_holds (below_all nat_cmp u.0 us) (is_sorted nat_cmp us) r) in
     (to, (omega (arith, lt), rest))
 
 pub rise_of : (us : Pairs) → Rises us → (to : ℕ) × Rise 0 to us
 rise_of [] r = (0, omega arith)
 rise_of (u ∷ us) r =
-    let (to, rest) = rise_behind u.0 us (first_holds (below_all nat_cmp u.0 us) (is_sorted nat_cmp us) r) (second_holds (below_all nat_cmp u.0 us) (is_sorted nat_cmp us) r) in
+    let (to, rest) = rise_behind u.0 us (first_holds (below_all nat_cmp u.0 us) (is_sorted nat_cmp us) r)
+    (second_holds (below_all nat_cmp u.0 us) (is_sorted nat_cmp us) r) in
     (to, (omega arith, rest))
 
 -- ---- the unit before matters by a header alone
@@ -57,7 +60,8 @@ any_before b d (u ∷ us) =
 -- ---- cuts
 
 -- from the first key that goes on
-cut_on : (from to a end : ℕ) (b d : Option LeafUnit) (us : List LeafUnit) → from ≤ a → Rise a end us → bytes_behind b (filter (λ u. not (is_between from to u.0)) us) ≤ bytes_behind d us + 40
+cut_on : (from to a end : ℕ) (b d : Option LeafUnit) (us : List LeafUnit) → from ≤ a → Rise a end us
+    → bytes_behind b (filter (λ u. not (is_between from to u.0)) us) ≤ bytes_behind d us + 40
 unfolding bytes_behind
 cut_on from to a end b d [] le h = omega arith
 cut_on from to a end b d (u ∷ us) le h = elim (cases_lt u.0 to) [
@@ -72,7 +76,8 @@ cut_on from to a end b d (u ∷ us) le h = elim (cases_lt u.0 to) [
       omega (arith, same, any)
 ]
 
-cut_costs : (from to a end : ℕ) (b : Option LeafUnit) (us : List LeafUnit) → Rise a end us → bytes_behind b (filter (λ u. not (is_between from to u.0)) us) ≤ bytes_behind b us + 40
+cut_costs : (from to a end : ℕ) (b : Option LeafUnit) (us : List LeafUnit) → Rise a end us
+    → bytes_behind b (filter (λ u. not (is_between from to u.0)) us) ≤ bytes_behind b us + 40
 unfolding bytes_behind
 cut_costs from to a end b [] h = omega arith
 cut_costs from to a end b (u ∷ us) h = elim (cases_lt u.0 from) [
@@ -94,7 +99,8 @@ outside_high lo hi k le = grind (arith, nat_tests, le)
 inside : (lo hi k : ℕ) → lo ≤ k → k < hi → is_between lo hi k ≡ true
 inside lo hi k le lt = grind (arith, nat_tests, le, lt)
 
-none_beyond : (lo hi a end : ℕ) (us : List LeafUnit) → hi ≤ a → Rise a end us → filter (λ u. is_between lo hi u.0) us ≡ []
+none_beyond : (lo hi a end : ℕ) (us : List LeafUnit) → hi ≤ a → Rise a end us
+    → filter (λ u. is_between lo hi u.0) us ≡ []
 none_beyond lo hi a end [] le h = refl
 none_beyond lo hi a end (u ∷ us) le h =
     let low = h.0 in
@@ -102,7 +108,8 @@ none_beyond lo hi a end (u ∷ us) le h =
     let rest = none_beyond lo hi (u.0 + 1) end us (omega (arith, le, low)) h.1 in
     rw gone rest
 
-window_on : (lo hi a end : ℕ) (b : Option LeafUnit) (us : List LeafUnit) → lo ≤ a → Rise a end us → bytes_behind b (filter (λ u. is_between lo hi u.0) us) ≤ bytes_behind b us
+window_on : (lo hi a end : ℕ) (b : Option LeafUnit) (us : List LeafUnit) → lo ≤ a → Rise a end us
+    → bytes_behind b (filter (λ u. is_between lo hi u.0) us) ≤ bytes_behind b us
 unfolding bytes_behind
 window_on lo hi a end b [] le h = omega arith
 window_on lo hi a end b (u ∷ us) le h = elim (cases_lt u.0 hi) [
@@ -111,10 +118,12 @@ window_on lo hi a end b (u ∷ us) le h = elim (cases_lt u.0 hi) [
       let kept = inside lo hi u.0 (omega (arith, le, low)) within in
       let rest = window_on lo hi (u.0 + 1) end (Some u) us (omega (arith, le, low)) h.1 in
       rw kept (omega (arith, rest))
-  | inr past ↦ let none = ap (bytes_behind b) (none_beyond lo hi u.0 end (u ∷ us) past (omega arith, h.1)) in omega (arith, none)
+  | inr past ↦ let none = ap (bytes_behind b) (none_beyond lo hi u.0 end (u ∷ us) past (omega arith, h.1)) in omega
+      (arith, none)
 ]
 
-pub window_costs : (lo hi a end : ℕ) (b d : Option LeafUnit) (us : List LeafUnit) → Rise a end us → bytes_behind b (filter (λ u. is_between lo hi u.0) us) ≤ bytes_behind d us + 40
+pub window_costs : (lo hi a end : ℕ) (b d : Option LeafUnit) (us : List LeafUnit) → Rise a end us
+    → bytes_behind b (filter (λ u. is_between lo hi u.0) us) ≤ bytes_behind d us + 40
 unfolding bytes_behind
 window_costs lo hi a end b d [] h = omega arith
 window_costs lo hi a end b d (u ∷ us) h = elim (cases_lt u.0 lo) [
@@ -130,19 +139,29 @@ window_costs lo hi a end b d (u ∷ us) h = elim (cases_lt u.0 lo) [
 
 -- ---- one value is put in
 
-put_less : (k : ℕ) (v : Value) (u : LeafUnit) (us : List LeafUnit) → k < u.0 → put nat_cmp k v (u ∷ us) ≡ (k, v) ∷ (u ∷ us)
-put_less k v u us lt = ap (λ o. by_order o ((k, v) ∷ (u ∷ us)) ((u.0, v) ∷ us) (u ∷ put nat_cmp k v us)) (sym (nat_cmp_is k u.0 Less lt))
+put_less : (k : ℕ) (v : Value) (u : LeafUnit) (us : List LeafUnit) → k < u.0
+    → put nat_cmp k v (u ∷ us) ≡ (k, v) ∷ (u ∷ us)
+put_less k v u us lt = ap (λ o. by_order o ((k, v) ∷ (u ∷ us)) ((u.0, v) ∷ us) (u ∷ put nat_cmp k v us))
+    (sym (nat_cmp_is k u.0 Less lt))
 
 put_same : (k : ℕ) (v : Value) (u : LeafUnit) (us : List LeafUnit) → k ≡ u.0 → put nat_cmp k v (u ∷ us) ≡ (u.0, v) ∷ us
-put_same k v u us e = ap (λ o. by_order o ((k, v) ∷ (u ∷ us)) ((u.0, v) ∷ us) (u ∷ put nat_cmp k v us)) (sym (nat_cmp_is k u.0 Equal e))
+put_same k v u us e = ap (λ o. by_order o ((k, v) ∷ (u ∷ us)) ((u.0, v) ∷ us) (u ∷ put nat_cmp k v us))
+    (sym (nat_cmp_is k u.0 Equal e))
 
-put_later : (k : ℕ) (v : Value) (u : LeafUnit) (us : List LeafUnit) → u.0 < k → put nat_cmp k v (u ∷ us) ≡ u ∷ put nat_cmp k v us
-put_later k v u us lt = ap (λ o. by_order o ((k, v) ∷ (u ∷ us)) ((u.0, v) ∷ us) (u ∷ put nat_cmp k v us)) (sym (nat_cmp_is k u.0 Greater lt))
+put_later : (k : ℕ) (v : Value) (u : LeafUnit) (us : List LeafUnit) → u.0 < k
+    → put nat_cmp k v (u ∷ us) ≡ u ∷ put nat_cmp k v us
+put_later k v u us lt = ap (λ o. by_order o ((k, v) ∷ (u ∷ us)) ((u.0, v) ∷ us) (u ∷ put nat_cmp k v us))
+    (sym (nat_cmp_is k u.0 Greater lt))
 
 cases_order : (a b : ℕ) → (a < b) ⊎ ((a ≡ b) ⊎ (b < a))
-cases_order a b = elim (cases_lt a b) [ inl lt ↦ inl lt | inr ge ↦ elim (cases_lt b a) [ inl gt ↦ inr (inr gt) | inr le ↦ inr (inl (omega (arith, ge, le))) ] ]
+cases_order a b = elim (cases_lt a b) [
+  | inl lt ↦ inl lt
+  | inr ge ↦ elim
+      (cases_lt b a) [ inl gt ↦ inr (inr gt) | inr le ↦ inr (inl (omega (arith, ge, le))) ]
+]
 
-pub put_costs : (b : Option LeafUnit) (k : ℕ) (v : Value) (us : List LeafUnit) → bytes_behind b (put nat_cmp k v us) ≤ bytes_behind b us + (unit_bytes None (k, v) + 40)
+pub put_costs : (b : Option LeafUnit) (k : ℕ) (v : Value) (us : List LeafUnit)
+    → bytes_behind b (put nat_cmp k v us) ≤ bytes_behind b us + (unit_bytes None (k, v) + 40)
 unfolding bytes_behind
 put_costs b k v [] = let h = (headed b (k, v)).0 in omega (arith, h)
 put_costs b k v (u ∷ us) = elim (cases_order k u.0) [
@@ -190,7 +209,9 @@ unfolding unit_bytes
 entry_full k x j n t = omega arith
 
 -- a byte in the place of a value, behind a byte
-over_value : (k x y : ℕ) (u : LeafUnit) (us : List LeafUnit) → k + 1 ≡ u.0 → unit_bytes (Some (k, Byte x)) (u.0, Byte y) + bytes_behind (Some (u.0, Byte y)) us ≤ unit_bytes (Some (k, Byte x)) u + bytes_behind (Some u) us + 1
+over_value : (k x y : ℕ) (u : LeafUnit) (us : List LeafUnit) → k + 1 ≡ u.0
+    → unit_bytes (Some (k, Byte x)) (u.0, Byte y) + bytes_behind (Some (u.0, Byte y)) us ≤ unit_bytes
+    (Some (k, Byte x)) u + bytes_behind (Some u) us + 1
 over_value k x y (j, Byte z) us e =
     let one = byte_cost (Some (k, Byte x)) j y in
     let was = byte_cost (Some (k, Byte x)) j z in
@@ -210,7 +231,8 @@ over_value k x y (j, Entry n t) us e =
     let any = any_before (Some (j, Byte y)) (Some (j, Entry n t)) us in
     omega (arith, one, alone, was, least, any)
 
-at_byte : (k x y : ℕ) (end : ℕ) (us : List LeafUnit) → Rise (k + 1) end us → bytes_behind (Some (k, Byte x)) (put nat_cmp (k + 1) (Byte y) us) ≤ bytes_behind (Some (k, Byte x)) us + 1
+at_byte : (k x y : ℕ) (end : ℕ) (us : List LeafUnit) → Rise (k + 1) end us
+    → bytes_behind (Some (k, Byte x)) (put nat_cmp (k + 1) (Byte y) us) ≤ bytes_behind (Some (k, Byte x)) us + 1
 unfolding bytes_behind
 at_byte k x y end [] h = let one = byte_next k x y in omega (arith, one)
 at_byte k x y end (u ∷ us) h = elim (cases_order (k + 1) u.0) [
@@ -226,28 +248,34 @@ at_byte k x y end (u ∷ us) h = elim (cases_order (k + 1) u.0) [
 found_low : (k a end : ℕ) (v : Value) (us : List LeafUnit) → Rise a end us → find nat_cmp k us ≡ Some v → a ≤ k
 found_low k a end v [] h at = absurd cc
 found_low k a end v (u ∷ us) h at =
-    by_key (k == u.0) refl (sym (ap (λ (t : Bool). cond t (Some u.1) (find nat_cmp k us)) (unsigned_tied k u.0)) ∙ at) (found_low k (u.0 + 1) end v us h.1)
+    by_key (k == u.0) refl (sym (ap (λ (t : Bool). cond t (Some u.1) (find nat_cmp k us)) (unsigned_tied k u.0)) ∙ at)
+    (found_low k (u.0 + 1) end v us h.1)
   where
-    by_key : (t : Bool) → (k == u.0) ≡ t → cond t (Some u.1) (find nat_cmp k us) ≡ Some v → (find nat_cmp k us ≡ Some v → u.0 + 1 ≤ k) → a ≤ k
+    by_key : (t : Bool) → (k == u.0) ≡ t → cond t (Some u.1) (find nat_cmp k us) ≡ Some v
+        → (find nat_cmp k us ≡ Some v → u.0 + 1 ≤ k) → a ≤ k
     by_key true e g rest = let same = eqb-true k u.0 e in let low = h.0 in omega (arith, same, low)
     by_key false e g rest = let more = rest g in let low = h.0 in omega (arith, more, low)
 
 -- where a byte stands, the next one costs one
-next_costs : (b : Option LeafUnit) (k x y a end : ℕ) (us : List LeafUnit) → Rise a end us → find nat_cmp k us ≡ Some (Byte x) → bytes_behind b (put nat_cmp (k + 1) (Byte y) us) ≤ bytes_behind b us + 1
+next_costs : (b : Option LeafUnit) (k x y a end : ℕ) (us : List LeafUnit) → Rise a end us
+    → find nat_cmp k us ≡ Some (Byte x) → bytes_behind b (put nat_cmp (k + 1) (Byte y) us) ≤ bytes_behind b us + 1
 unfolding bytes_behind
 next_costs b k x y a end [] h at = absurd cc
 next_costs b k x y a end (u ∷ us) h at =
-    by_key (k == u.0) refl (sym (ap (λ (t : Bool). cond t (Some u.1) (find nat_cmp k us)) (unsigned_tied k u.0)) ∙ at) (next_costs (Some u) k x y (u.0 + 1) end us h.1)
+    by_key (k == u.0) refl (sym (ap (λ (t : Bool). cond t (Some u.1) (find nat_cmp k us)) (unsigned_tied k u.0)) ∙ at)
+    (next_costs (Some u) k x y (u.0 + 1) end us h.1)
   where
     by_key : (t : Bool) → (k == u.0) ≡ t → cond t (Some u.1) (find nat_cmp k us) ≡ Some (Byte x)
-        → (find nat_cmp k us ≡ Some (Byte x) → bytes_behind (Some u) (put nat_cmp (k + 1) (Byte y) us) ≤ bytes_behind (Some u) us + 1)
+        → (find nat_cmp k us ≡ Some (Byte x)
+        → bytes_behind (Some u) (put nat_cmp (k + 1) (Byte y) us) ≤ bytes_behind (Some u) us + 1)
         → bytes_behind b (put nat_cmp (k + 1) (Byte y) (u ∷ us)) ≤ unit_bytes b u + bytes_behind (Some u) us + 1
     by_key true e g more =
         let same = eqb-true k u.0 e in
         let unit : u ≡ (k, Byte x) = λ i. (sym same i, same_Some u.1 (Byte x) g i) in
         let at_it = at_byte k x y end us (subst (λ (j : ℕ). Rise (j + 1) end us) (sym same) h.1) in
         let rest : bytes_behind (Some u) (put nat_cmp (k + 1) (Byte y) us) ≤ bytes_behind (Some u) us + 1
-        = subst (λ (w : LeafUnit). bytes_behind (Some w) (put nat_cmp (k + 1) (Byte y) us) ≤ bytes_behind (Some w) us + 1) (sym unit) at_it in
+        = subst (λ (w : LeafUnit). bytes_behind (Some w) (put nat_cmp (k + 1) (Byte y) us) ≤ bytes_behind
+        (Some w) us + 1) (sym unit) at_it in
         rw (put_later (k + 1) (Byte y) u us (omega (arith, same))) (omega (arith, rest))
     by_key false e g more =
         let low = found_low k (u.0 + 1) end (Byte x) us h.1 g in
@@ -271,7 +299,11 @@ pub record Grows (n : ℕ) (us vs : Pairs) : Type 0 where
   pub bytes : leaf_bytes vs ≤ leaf_bytes us + n
 
 pub grows_both : (n m k : ℕ) (us vs ws : Pairs) → n + m ≤ k → Grows n us vs → Grows m vs ws → Grows k us ws
-grows_both n m k us vs ws le a b = let p = a.bytes in let q = b.bytes in record { rises = b.rises; bytes = omega (arith, le, p, q) }
+grows_both n m k us vs ws le a b = let p = a.bytes in let q = b.bytes in record {
+  rises = b.rises;
+  bytes = omega
+      (arith, le, p, q);
+}
 
 pub grows_none : (us : Pairs) → Rises us → Grows 0 us us
 grows_none us r = record { rises = r; bytes = omega arith }
@@ -283,27 +315,36 @@ pub cuts_grow : (rs : Intervals) (us : Pairs) → Rises us → Grows (40 * lengt
 cuts_grow [] us r = record { rises = r; bytes = omega arith }
 cuts_grow (c ∷ rs) us r =
     let (end, rise) = rise_of us r in
-    grows_both 40 (40 * length rs) (40 * length (c ∷ rs)) us (filter (λ e. not (is_between c.0 c.1 e.0)) us) (list_cut (c ∷ rs) us) (omega arith)
+    grows_both 40 (40 * length rs) (40 * length (c ∷ rs)) us (filter (λ e. not (is_between c.0 c.1 e.0)) us)
+    (list_cut (c ∷ rs) us) (omega arith)
     (record { rises = kept_rises (λ k. not (is_between c.0 c.1 k)) us r; bytes = cut_costs c.0 c.1 0 end None us rise })
     (cuts_grow rs (filter (λ e. not (is_between c.0 c.1 e.0)) us) (kept_rises (λ k. not (is_between c.0 c.1 k)) us r))
 
 -- one value that is no byte
 one_grows : (k : ℕ) (v : Value) (us : Pairs) → Rises us → IsValue (k, v) → Grows 386 us (put nat_cmp k v us)
-one_grows k v us r value = record { rises = put_rises k v us r; bytes = let most = at_most k v value in let costs = put_costs None k v us in omega (arith, most, costs) }
+one_grows k v us r value =
+    let most = at_most k v value in
+    let costs = put_costs None k v us in
+    record { rises = put_rises k v us r; bytes = omega (arith, most, costs) }
   where
     at_most : (k : ℕ) (v : Value) → IsValue (k, v) → unit_bytes None (k, v) ≤ 346
     at_most k (Stat a) h = let c = stat_cost None k a in omega (arith, c)
-    at_most k (Entry n t) h = let w = (entry_weighs None k n t).0 in let s = name_short n h.0.legal in omega (arith, w, s)
+    at_most k (Entry n t) h =
+        let w = (entry_weighs None k n t).0 in
+        let s = name_short n h.0.legal in
+        omega (arith, w, s)
     at_most k (Byte x) h = absurd (let e = h.1 in cc)
 
 pub values_grow : (ps : Pairs) (us : Pairs) → Rises us → All IsValue ps → Grows (386 * length ps) us (list_put ps us)
 values_grow [] us r all = record { rises = r; bytes = omega arith }
 values_grow (p ∷ ps) us r all =
     let one = one_grows p.0 p.1 us r (All-head IsValue p ps all) in
-    grows_both 386 (386 * length ps) (386 * length (p ∷ ps)) us (put nat_cmp p.0 p.1 us) (list_put (p ∷ ps) us) (omega arith) one (values_grow ps (put nat_cmp p.0 p.1 us) one.rises (All-tail IsValue p ps all))
+    grows_both 386 (386 * length ps) (386 * length (p ∷ ps)) us (put nat_cmp p.0 p.1 us) (list_put (p ∷ ps) us)
+    (omega arith) one (values_grow ps (put nat_cmp p.0 p.1 us) one.rises (All-tail IsValue p ps all))
 
 -- bytes behind one that stands
-run_on : (k x : ℕ) (xs : List ℕ) (us : Pairs) → Rises us → find nat_cmp k us ≡ Some (Byte x) → Grows (length xs) us (list_put (byte_pairs (k + 1) xs) us)
+run_on : (k x : ℕ) (xs : List ℕ) (us : Pairs) → Rises us → find nat_cmp k us ≡ Some (Byte x)
+    → Grows (length xs) us (list_put (byte_pairs (k + 1) xs) us)
 run_on k x [] us r at = record { rises = r; bytes = omega arith }
 run_on k x (y ∷ xs) us r at =
     let (end, rise) = rise_of us r in
@@ -314,32 +355,41 @@ run_on k x (y ∷ xs) us r at =
     (run_on (k + 1) y xs vs rises (put_finds (k + 1) y us))
   where
     put_finds : (k y : ℕ) (us : Pairs) → find nat_cmp k (put nat_cmp k (Byte y) us) ≡ Some (Byte y)
-    put_finds k y us = find-put nat_cmp nat_cmp_total k k (Byte y) us ∙ ap (λ (t : Bool). cond t (Some (Byte y)) (find nat_cmp k us)) (unsigned_tied k k ∙ eq-eqb k k refl)
+    put_finds k y us = find-put nat_cmp nat_cmp_total k k (Byte y) us
+        ∙ ap (λ (t : Bool). cond t (Some (Byte y)) (find nat_cmp k us)) (unsigned_tied k k ∙ eq-eqb k k refl)
 
-pub run_grows : (k : ℕ) (xs : List ℕ) (us : Pairs) → Rises us → Grows (79 + length xs) us (list_put (byte_pairs k xs) us)
+pub run_grows : (k : ℕ) (xs : List ℕ) (us : Pairs) → Rises us
+    → Grows (79 + length xs) us (list_put (byte_pairs k xs) us)
 run_grows k [] us r = record { rises = r; bytes = omega arith }
 run_grows k (x ∷ xs) us r =
     let rises = put_rises k (Byte x) us r in
     let one = put_costs None k (Byte x) us in
     let cost = byte_cost None k x in
-    grows_both 79 (length xs) (79 + length (x ∷ xs)) us (put nat_cmp k (Byte x) us) (list_put (byte_pairs k (x ∷ xs)) us) (omega arith)
+    grows_both 79 (length xs) (79 + length (x ∷ xs)) us (put nat_cmp k (Byte x) us)
+    (list_put (byte_pairs k (x ∷ xs)) us) (omega arith)
     (record { rises = rises; bytes = omega (arith, one, cost) })
-    (run_on k x xs (put nat_cmp k (Byte x) us) rises (find-put nat_cmp nat_cmp_total k k (Byte x) us ∙ ap (λ (t : Bool). cond t (Some (Byte x)) (find nat_cmp k us)) (unsigned_tied k k ∙ eq-eqb k k refl)))
+    (run_on k x xs (put nat_cmp k (Byte x) us) rises
+    (find-put nat_cmp nat_cmp_total k k (Byte x) us
+    ∙ ap (λ (t : Bool). cond t (Some (Byte x)) (find nat_cmp k us)) (unsigned_tied k k ∙ eq-eqb k k refl)))
 
 -- ---- zeros are bytes
 
 no_key : (from k : ℕ) → false ≡ is_between from (from + 0) k
 no_key from k = grind (arith, common_steps)
 
-zero_found : (from n k : ℕ) (v : Option Value) → last_put (byte_pairs from (replicate n 0)) k v ≡ cond (is_between from (from + n) k) (Some (Byte 0)) v
+zero_found : (from n k : ℕ) (v : Option Value)
+    → last_put (byte_pairs from (replicate n 0)) k v ≡ cond (is_between from (from + n) k) (Some (Byte 0)) v
 zero_found from zero k v = ap (λ (t : Bool). cond t (Some (Byte 0)) v) (no_key from k)
-zero_found from (suc n) k v = zero_found (from + 1) n k (cond (k == from) (Some (Byte 0)) v) ∙ both_ways (is_between (from + 1) (from + 1 + n) k) (k == from) ∙ ap (λ (t : Bool). cond t (Some (Byte 0)) v) (first_or_rest from n k)
+zero_found from (suc n) k v = zero_found (from + 1) n k (cond (k == from) (Some (Byte 0)) v)
+    ∙ both_ways (is_between (from + 1) (from + 1 + n) k) (k == from)
+    ∙ ap (λ (t : Bool). cond t (Some (Byte 0)) v) (first_or_rest from n k)
   where
     both_ways : (a b : Bool) → cond a (Some (Byte 0)) (cond b (Some (Byte 0)) v) ≡ cond (a || b) (Some (Byte 0)) v
     both_ways true b = refl
     both_ways false b = refl
 
-    first_or_rest : (from n k : ℕ) → (is_between (from + 1) (from + 1 + n) k || k == from) ≡ is_between from (from + suc n) k
+    first_or_rest : (from n k : ℕ) → (is_between (from + 1) (from + 1 + n) k || k == from)
+        ≡ is_between from (from + suc n) k
     first_or_rest from n k = grind (arith, common_steps)
 
 abbrev zero_edits : (from to : ℕ) → Edits
@@ -351,16 +401,21 @@ byte_edits from n = record { cuts = []; zeros = []; puts = byte_pairs from (repl
 to_end : (from to k : ℕ) → (is_between from to k || false) ≡ is_between from (from + (to - from)) k
 to_end from to k = grind (arith, common_steps)
 
-zeros_are : (from to : ℕ) (us : Pairs) → Rises us → list_zero_from from (to - from) us ≡ list_put (byte_pairs from (replicate (to - from) 0)) us
-zeros_are from to us r = same_rising (list_zero_from from (to - from) us) (list_put (byte_pairs from (replicate (to - from) 0)) us)
+zeros_are : (from to : ℕ) (us : Pairs) → Rises us
+    → list_zero_from from (to - from) us ≡ list_put (byte_pairs from (replicate (to - from) 0)) us
+zeros_are from to us r = same_rising (list_zero_from from (to - from) us)
+    (list_put (byte_pairs from (replicate (to - from) 0)) us)
     (edited_rises (zero_edits from to) us r) (edited_rises (byte_edits from (to - from)) us r) (λ k.
     found (zero_edits from to) us k r ∙ ap (λ (t : Bool). cond t (Some (Byte 0)) (find nat_cmp k us)) (to_end from to k)
     ∙ sym (found (byte_edits from (to - from)) us k r ∙ zero_found from (to - from) k (find nat_cmp k us)))
 
-pub zeros_grow : (from to : ℕ) (us : Pairs) → Rises us → Grows (79 + (to - from)) us (list_zero_from from (to - from) us)
+pub zeros_grow : (from to : ℕ) (us : Pairs) → Rises us
+    → Grows (79 + (to - from)) us (list_zero_from from (to - from) us)
 zeros_grow from to us r =
     let run = run_grows from (replicate (to - from) 0) us r in
     let long = length-replicate {A = ℕ} (to - from) 0 in
     subst (λ (vs : Pairs). Grows (79 + (to - from)) us vs) (sym (zeros_are from to us r))
-    (grows_both (79 + length (replicate (to - from) 0)) 0 (79 + (to - from)) us (list_put (byte_pairs from (replicate (to - from) 0)) us)
-    (list_put (byte_pairs from (replicate (to - from) 0)) us) (omega (arith, long)) run (grows_none (list_put (byte_pairs from (replicate (to - from) 0)) us) run.rises))
+    (grows_both (79 + length (replicate (to - from) 0)) 0 (79 + (to - from)) us
+    (list_put (byte_pairs from (replicate (to - from) 0)) us)
+    (list_put (byte_pairs from (replicate (to - from) 0)) us) (omega (arith, long)) run
+    (grows_none (list_put (byte_pairs from (replicate (to - from) 0)) us) run.rises))

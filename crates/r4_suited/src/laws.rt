@@ -1,6 +1,6 @@
 //! Laws of what the edits of commands are. Each is the contract of a function that does nothing.
 
-ghost use Rattle.std.specs.Prelude.{◌≡◌, ℕ, ◌<◌, ◌≤◌, Bool, Option, None};
+ghost use Rattle.std.specs.Prelude.{◌≡◌, ℕ, ◌<◌, ◌≤◌, Bool, Option};
 ghost use Rattle.std.specs.Option.{option_map};
 ghost use Rattle.r4_base.specs.Tree.{Node};
 ghost use Rattle.r4_base.specs.Value.{Value};
@@ -29,11 +29,9 @@ pub fn plans_suit_leaves()
         → SuitLeaves (bytes_end spread) (edits_on c s) }
 {}
 
-/// After a command that leaves no body in extents, a leaf whose units took up no more than one leaf has so few bytes
-/// that they can be parted.
+/// A leaf whose units took up no more than a leaf holds has so few bytes after a command that they can be parted.
 pub fn leaves_stay_small()
-    ensures { (c : Command) (s : Pairs) (in_extents : Bool) (n : Node Value) → HasBytePaths c
-        → Rises s → AreLawfulSeen s → Rises n.units → leaf_bytes n.units ≤ 4068
-        → spread_keys (body_on c s in_extents) ≡ None
+    ensures { (c : Command) (s : Pairs) (in_extents : Bool) (n : Node Value)
+        → HasBytePaths c → Rises s → AreLawfulSeen s → Rises n.units → leaf_bytes n.units ≤ 4068
         → leaf_bytes (units_after (body_on c s in_extents) (edits_on c s) n) < 58912 }
 {}
