@@ -73,8 +73,9 @@ end_fits b m le most = by_test (is_spread b) refl
   where
     by_test : (t : Bool) → is_spread b ≡ t → m ≤ (if t then 2 ^ 64 else 16384)
     by_test true e = most
-    by_test false e = let small = ltb-false 16384 b.now (or_parts b.in_extents (nat_lt 16384 b.now) e).1 in omega
-        (arith, small, le)
+    by_test false e =
+        let small = ltb-false 16384 b.now (or_parts b.in_extents (nat_lt 16384 b.now) e).1 in
+        omega (arith, small, le)
 
 -- the body of an object that has a size afterwards
 pub body_is : (e : Edits) (s : Pairs) (in_extents : Bool) (o : Object) (x : ℕ) → IsHere s o → x < 2 ^ 64

@@ -118,8 +118,9 @@ window_on lo hi a end b (u ∷ us) le h = elim (cases_lt u.0 hi) [
       let kept = inside lo hi u.0 (omega (arith, le, low)) within in
       let rest = window_on lo hi (u.0 + 1) end (Some u) us (omega (arith, le, low)) h.1 in
       rw kept (omega (arith, rest))
-  | inr past ↦ let none = ap (bytes_behind b) (none_beyond lo hi u.0 end (u ∷ us) past (omega arith, h.1)) in omega
-      (arith, none)
+  | inr past ↦
+      let none = ap (bytes_behind b) (none_beyond lo hi u.0 end (u ∷ us) past (omega arith, h.1)) in
+      omega (arith, none)
 ]
 
 pub window_costs : (lo hi a end : ℕ) (b d : Option LeafUnit) (us : List LeafUnit) → Rise a end us
