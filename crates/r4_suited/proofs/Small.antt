@@ -174,12 +174,12 @@ leaves_grow (Some b) s in_extents e us rs r made is = by_test (is_spread b) refl
         (ap end_of_bytes is ∙ ap (λ (t : Bool). let end : ℕ = if t then 2 ^ 64 else 16384 in end) tails)
 
 pub leaf_small : (c : Command) (s : Pairs) (in_extents : Bool) (n : Node Value) → HasBytePaths c → Rises s
-    → AreLawfulSeen s → Rises n.units → leaf_bytes n.units ≤ 4068
+    → AreLawfulSeen c s → Rises n.units → leaf_bytes n.units ≤ 4068
     → leaf_bytes (units_after (body_on c s in_extents) (edits_on c s) n) < 58912
 leaf_small c s in_extents n bytes rs lawful r small =
     let e = edits_on c s in
     let b = body_on c s in_extents in
-    let g = leaves_grow b s in_extents e n.units rs r (edits_made s lawful c bytes) refl in
+    let g = leaves_grow b s in_extents e n.units rs r (edits_made c s lawful bytes) refl in
     let after = list_edited (leaf_edits b e) n.units in
     let (end, rise) = rise_of after g.rises in
     let window = window_costs n.lo n.hi 0 end None None after rise in

@@ -267,9 +267,9 @@ made_suits s in_extents e r (inr (inr w)) = subst
     (λ (x : Edits). SuitLeaves (end_of_bytes (body_after x s in_extents)) x) (sym w.is)
     (resized_suits s in_extents w.file w.size r w.here w.fits)
 
-pub command_suits : (c : Command) (s : Pairs) (in_extents : Bool) → HasBytePaths c → Rises s → AreLawfulSeen s
+pub command_suits : (c : Command) (s : Pairs) (in_extents : Bool) → HasBytePaths c → Rises s → AreLawfulSeen c s
     → SuitLeaves (end_of_bytes (body_on c s in_extents)) (edits_on c s)
-command_suits c s in_extents bytes r lawful = made_suits s in_extents (edits_on c s) r (edits_made s lawful c bytes)
+command_suits c s in_extents bytes r lawful = made_suits s in_extents (edits_on c s) r (edits_made c s lawful bytes)
 
 -- what a leaf is told of a body says where its bytes end
 same_end : (b : Option Body) (spread : Option Interval) → option_map interval_of spread ≡ spread_keys b
@@ -287,7 +287,7 @@ same_end (Some b) spread e = by_test (is_spread b) spread e
     by_test false (Some i) e = absurd cc
 
 pub told_suits : (c : Command) (s : Pairs) (in_extents : Bool) (spread : Option Interval) → HasBytePaths c → Rises s
-    → AreLawfulSeen s
+    → AreLawfulSeen c s
     → option_map interval_of spread ≡ spread_keys (body_on c s in_extents)
     → SuitLeaves (bytes_end spread) (edits_on c s)
 told_suits c s in_extents spread bytes r lawful told =

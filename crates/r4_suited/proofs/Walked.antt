@@ -7,7 +7,7 @@ use Rattle.std.specs.Cmp.{unsigned_tied}
 use Rattle.std.specs.FinMap.{find}
 use Rattle.std.specs.Option.{is_none}
 use Rattle.std.specs.Ordering.{nat_cmp}
-use Rattle.std.proofs.lemmas.Bool.{and_parts, eqb-true, leb-false, ltb-false}
+use Rattle.std.proofs.lemmas.Bool.{and_parts, eqb-true, leb-false, ltb-false, or_left, or_right}
 use Rattle.std.proofs.lemmas.List.Elements.{All-cons, All-head, All-nil, All-tail}
 use Rattle.std.proofs.lemmas.Option.{same_Some}
 use Rattle.r4_base.specs.Name.{name_fault}
@@ -19,8 +19,8 @@ use Rattle.r4_base.specs.declared.items.NameFault.{NameFault}
 use Rattle.r4_base.specs.declared.items.Target.{Target}
 use Rattle.r4_base.specs.declared.things.Oid.{Oid}
 use Rattle.r4_content.specs.Bodies.{read, truncate, truncated, smaller, write, written}
-use Rattle.r4_content.specs.Course.{Course, Ask, Scan, Answer, Change, ending}
-use Rattle.r4_content.specs.Edited.{Edits, Pairs}
+use Rattle.r4_content.specs.Course.{Course, Ask, Scan, Answer, Change, asked, ending}
+use Rattle.r4_content.specs.Edited.{Edits, Pairs, is_in}
 use Rattle.r4_content.specs.Entries.{create, if_empty, is_no_id, link, linked, mkdir, move_to, moved, moved_onto}
 use Rattle.r4_content.specs.Entries.{name_in, names, rename, replace, rmdir, unlink, with_entries}
 use Rattle.r4_content.specs.Fields.{HasBytePaths, HasBytes}
@@ -36,6 +36,7 @@ use Rattle.r4_content.specs.declared.command.Command.TheVariants.{Create, Fill, 
 use Rattle.r4_content.specs.declared.command.Command.TheVariants.{Names, Link, Unlink, Rmdir, Rename, Chmod, Chown}
 use Rattle.r4_content.specs.declared.command.Command.TheVariants.{Times, Begin, End, Commit}
 use Rattle.r4_content.specs.declared.reply.Reply.{Reply}
+use Rattle.r4_content.proofs.CourseLaws.{at_itself}
 use Rattle.r4_content.proofs.Found.{small_object}
 use Rattle.r4_content.proofs.Ranks.{name_fits, root_is_object}
 use Rattle.r4_content.proofs.Rewired.{entry_is}
@@ -103,25 +104,27 @@ last_name : (path : List (List ℕ)) → (length path == 0) ≡ false → All Is
     → IsName (slice_index_or path (length path - 1) [])
 last_name path e all = let some = positive (length path) e in all (length path - 1) [] (omega (arith, some))
 
-module _ (s : Pairs) (lawful : AreLawfulSeen s) where
+module _ (s : Pairs) (S : ℕ → Type 0)
+    (lawful : (k : ℕ) (v : Value) → S k → find nat_cmp k s ≡ Some v → IsLawfulSeen (k, v)) where
+  -- the course's edits are so, where S has all keys that it asks for
   Good : Course → Type 0
-  Good c = AreMade s (ending c (of_seen s)).edits
+  Good c = ((k : ℕ) → is_in (asked c (of_seen s)) k ≡ true → S k) → AreMade s (ending c (of_seen s)).edits
 
   good_answer : (r : Reply) → Good (Answer r)
   unfolding Good
-  good_answer r = inl (few_less 0 0 4 3 _ (omega arith) (omega arith) few_none)
+  good_answer r all = inl (few_less 0 0 4 3 _ (omega arith) (omega arith) few_none)
 
-  good_ask : (k : ℕ) (next : Option Value → Course) → Good (next (find nat_cmp k s)) → Good (Ask k next)
+  good_ask : (k : ℕ) (next : Option Value → Course) → (S k → Good (next (find nat_cmp k s))) → Good (Ask k next)
   unfolding Good
-  good_ask k next h = h
+  good_ask k next h all = h (all k (or_left _ _ (at_itself k))) (λ q on. all q (or_right _ _ on))
 
   good_scan : (from to : ℕ) (next : Pairs → Course) → Good (next (pairs_in s from to)) → Good (Scan from to next)
   unfolding Good
-  good_scan from to next h = h
+  good_scan from to next h all = h (λ q on. all q (or_right _ _ on))
 
   good_change : (e : Edits) → AreMade s e → Good (Change e)
   unfolding Good
-  good_change e h = h
+  good_change e h all = h
 
   good_few : (e : Edits) → AreFew 4 3 e → Good (Change e)
   good_few e h = good_change e (inl h)
@@ -140,20 +143,19 @@ module _ (s : Pairs) (lawful : AreLawfulSeen s) where
   good_target next None h = good_answer _
   good_target next (Some t) h = h t refl
 
-  here : (t : Target) (a : Attr) → IsObject t → may_be_object t ≡ true
+  here : (t : Target) (a : Attr) → IsObject t → may_be_object t ≡ true → S (stat_rank t)
       → attr_in (find nat_cmp (stat_rank t) s) ≡ Some a → IsHere s (record { target = t; attr = a })
-  here t a is may at =
+  here t a is may asked_for at =
       let found = attr_is (find nat_cmp (stat_rank t) s) a at in
       record {
         found = found;
         may = may;
         object = is;
-        kind = at_found IsLawfulSeen s (stat_rank t)
-            (StatValue a) lawful found;
+        kind = lawful (stat_rank t) (StatValue a) asked_for found;
       }
 
-  ordered : (k : ℕ) (n : List ℕ) (t : Target) → find nat_cmp k s ≡ Some (Entry n t) → t.ordering < 2 ^ 64
-  ordered k n t h = at_found IsLawfulSeen s k (Entry n t) lawful h
+  ordered : (k : ℕ) (n : List ℕ) (t : Target) → S k → find nat_cmp k s ≡ Some (Entry n t) → t.ordering < 2 ^ 64
+  ordered k n t asked_for h = lawful k (Entry n t) asked_for h
 
   good_at : (t : Target) → t.ordering < 2 ^ 64 → (next : Object → Course)
       → ((o : Object) → IsHere s o → Good (next o)) → Good (object_at t next)
@@ -162,8 +164,8 @@ module _ (s : Pairs) (lawful : AreLawfulSeen s) where
       let small = small_object t may in
       let low = small.1 in
       let is : IsObject t = (small.0, ordering, omega (arith, low)) in
-      good_ask (stat_rank t) _ (good_attr _ _ (attr_in (find nat_cmp (stat_rank t) s))
-      (λ a at. h (record { target = t; attr = a }) (here t a is may at))))
+      good_ask (stat_rank t) _ (λ asked_for. good_attr _ _ (attr_in (find nat_cmp (stat_rank t) s))
+      (λ a at. h (record { target = t; attr = a }) (here t a is may asked_for at))))
       (λ e. good_answer _)
 
   -- ---- the ways
@@ -172,8 +174,8 @@ module _ (s : Pairs) (lawful : AreLawfulSeen s) where
       → IsHere s p.here → Good (step n next p)
   good_step n next h p f = good_if (is_dir p.here) _ _
       (λ e. good_ask (entry_rank p.here.target n) _
-      (good_target _ (target_in n (find nat_cmp (entry_rank p.here.target n) s)) (λ t at.
-      good_at t (ordered (entry_rank p.here.target n) n t
+      (λ asked_for. good_target _ (target_in n (find nat_cmp (entry_rank p.here.target n) s)) (λ t at.
+      good_at t (ordered (entry_rank p.here.target n) n t asked_for
       (target_is n (find nat_cmp (entry_rank p.here.target n) s) t at)) _
       (λ o g. h (record { here = o; above = p.above ++ p.here ∷ [] }) g))))
       (λ e. good_answer _)
@@ -188,9 +190,9 @@ module _ (s : Pairs) (lawful : AreLawfulSeen s) where
   unfolding to_object
   good_object path next h =
       good_ask (stat_rank root_object) _
-      (good_attr _ _ (attr_in (find nat_cmp (stat_rank root_object) s)) (λ a at.
+      (λ asked_for. good_attr _ _ (attr_in (find nat_cmp (stat_rank root_object) s)) (λ a at.
       good_steps path next h (record { here = record { target = root_object; attr = a }; above = [] })
-      (here root_object a root_is_object refl at)))
+      (here root_object a root_is_object refl asked_for at)))
 
   good_parent : (r : Reply) (path : List (List ℕ)) → All IsName path → (next : Place → List ℕ → Course)
       → ((p : Place) (n : List ℕ) → IsName n → IsHere s p.here → Good (next p n)) → Good (to_parent r path next)
@@ -211,7 +213,7 @@ module _ (s : Pairs) (lawful : AreLawfulSeen s) where
   unfolding to_free
   good_free path all next h = good_parent _ path all _ (λ p n name f. good_if (is_dir p.here) _ _
       (λ e. good_ask (entry_rank p.here.target n) _
-      (if_named (entry_in (find nat_cmp (entry_rank p.here.target n) s)) n (next p.here n) (h p.here n name f)))
+      (λ asked_for. if_named (entry_in (find nat_cmp (entry_rank p.here.target n) s)) n (next p.here n) (h p.here n name f)))
       (λ e. good_answer _))
     where
       if_named : (v : Option Named) (n : List ℕ) (c : Course) → Good c → Good (if_free n c v)
@@ -340,8 +342,8 @@ module _ (s : Pairs) (lawful : AreLawfulSeen s) where
   good_rename from to all_from all_to = good_if (length to == 0) _ _ (λ e. good_answer _)
       (λ e. good_ends from to all_from all_to _ (λ dir n o new_dir new_name name fd fn.
       good_ask (entry_rank new_dir.target new_name) _
-      (good_to dir n o new_dir new_name (entry_in (find nat_cmp (entry_rank new_dir.target new_name) s)) fd fn name
-      (λ x is. ordered (entry_rank new_dir.target new_name) x.name x.target
+      (λ asked_for. good_to dir n o new_dir new_name (entry_in (find nat_cmp (entry_rank new_dir.target new_name) s)) fd fn name
+      (λ x is. ordered (entry_rank new_dir.target new_name) x.name x.target asked_for
       (entry_is (find nat_cmp (entry_rank new_dir.target new_name) s) x.name x.target is)))))
 
   good_path : (path : List (List ℕ)) (c : Course) → HasBytes path → (All IsName path → Good c) → Good (named path c)
@@ -375,7 +377,10 @@ module _ (s : Pairs) (lawful : AreLawfulSeen s) where
   good_course End bytes = good_answer _
   good_course Commit bytes = good_answer _
 
-  -- what the edits of a command are
-  pub edits_made : (c : Command) → HasBytePaths c → AreMade s (ending (course greatest_size c) (of_seen s)).edits
-  unfolding Good
-  edits_made c bytes = good_course c bytes
+-- what the edits of a command are
+pub edits_made : (c : Command) (s : Pairs) → AreLawfulSeen c s → HasBytePaths c
+    → AreMade s (ending (course greatest_size c) (of_seen s)).edits
+unfolding Good
+edits_made c s lawful bytes =
+    good_course s (λ k. is_in (asked (course greatest_size c) (of_seen s)) k ≡ true) (λ k v on at. lawful k v on at)
+    c bytes (λ k on. on)

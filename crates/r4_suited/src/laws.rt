@@ -21,10 +21,10 @@ ghost use Rattle.r4_suited.specs.Suited.{AreLawfulSeen, end_of_bytes};
 /// they are for a leaf that is told all keys of a body that stands in extents afterwards.
 pub fn plans_suit_leaves()
     ensures body { (c : Command) (s : Pairs) (in_extents : Bool)
-        → HasBytePaths c → Rises s → AreLawfulSeen s
+        → HasBytePaths c → Rises s → AreLawfulSeen c s
         → SuitLeaves (end_of_bytes (body_on c s in_extents)) (edits_on c s) }
     ensures told { (c : Command) (s : Pairs) (in_extents : Bool) (spread : Option Interval)
-        → HasBytePaths c → Rises s → AreLawfulSeen s
+        → HasBytePaths c → Rises s → AreLawfulSeen c s
         → option_map interval_of spread ≡ spread_keys (body_on c s in_extents)
         → SuitLeaves (bytes_end spread) (edits_on c s) }
 {}
@@ -32,6 +32,6 @@ pub fn plans_suit_leaves()
 /// A leaf whose units took up no more than a leaf holds has so few bytes after a command that they can be parted.
 pub fn leaves_stay_small()
     ensures { (c : Command) (s : Pairs) (in_extents : Bool) (n : Node Value)
-        → HasBytePaths c → Rises s → AreLawfulSeen s → Rises n.units → leaf_bytes n.units ≤ 4068
+        → HasBytePaths c → Rises s → AreLawfulSeen c s → Rises n.units → leaf_bytes n.units ≤ 4068
         → leaf_bytes (units_after (body_on c s in_extents) (edits_on c s) n) < 58912 }
 {}
