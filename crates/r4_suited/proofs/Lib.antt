@@ -4,4 +4,5 @@ pub mod Runs
 pub mod Suits
 pub mod Weights
 pub mod Left
+pub mod Cells
 pub mod Small

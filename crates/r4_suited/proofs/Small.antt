@@ -3,10 +3,12 @@ use Rattle.std.specs.Prelude.{◌≡◌, ℕ, ◌+◌, ◌-◌, ◌*◌, ◌^◌
 use Rattle.std.specs.Prelude.{◌==◌, nat_lt, Option, Some, None, if◌then◌else◌}
 use Rattle.std.proofs.Common.{arith, inl, inr, refl, sym, ap, subst, ◌∙◌}
 use Rattle.std.proofs.lemmas.Bool.{ltb-true}
+use Rattle.r4_base.specs.Key.{rank}
 use Rattle.r4_base.specs.Tree.{Node}
 use Rattle.r4_base.specs.Value.{Value}
 use Rattle.r4_base.specs.Volume.{byte_rank}
 use Rattle.r4_base.specs.declared.items.Target.{Target}
+use Rattle.r4_cell.specs.Seen.{CellSeen, node_of}
 use Rattle.r4_content.specs.Bodies.{larger, truncated, written}
 use Rattle.r4_content.specs.Edited.{Edits, Pairs, and_also}
 use Rattle.r4_content.specs.Fields.{HasBytePaths}
@@ -15,10 +17,12 @@ use Rattle.r4_content.specs.Objects.{Object, byte_pairs, set_body}
 use Rattle.r4_content.specs.Seen.{Rises}
 use Rattle.r4_content.specs.declared.command.Command.{Command}
 use Rattle.r4_content.proofs.Ranks.{byte_after}
+use Rattle.r4_leaf.specs.Leaves.{MayStand}
 use Rattle.r4_leaf.specs.Units.{leaf_bytes}
 use Rattle.r4_reach.specs.Needs.{leaf_edits, units_after}
 use Rattle.r4_reach.specs.Touched.{Body, body_on, edits_on, first_byte, is_spread}
 use Rattle.r4_suited.specs.Suited.{AreLawfulSeen, end_of_bytes}
+use Rattle.r4_suited.proofs.Cells.{leaf_fits}
 use Rattle.r4_suited.proofs.Few.{AreFew, IsHere}
 use Rattle.r4_suited.proofs.Left.{made_left, without_body}
 use Rattle.r4_suited.proofs.Runs.{gap_on, size_on, sized_by}
@@ -185,3 +189,11 @@ leaf_small c s in_extents n bytes rs lawful r small =
     let window = window_costs n.lo n.hi 0 end None None after rise in
     let grown = g.bytes in
     omega (arith, window, grown, small)
+
+-- so it is of a leaf that may stand
+pub cell_small : (c : Command) (s : Pairs) (in_extents : Bool) (x : CellSeen) → HasBytePaths c → Rises s
+    → AreLawfulSeen c s → x.level ≡ 1 → MayStand (rank x.lo) (rank x.hi) x.block → rank x.lo ≤ rank x.hi
+    → leaf_bytes (units_after (body_on c s in_extents) (edits_on c s) (node_of x)) < 58912
+cell_small c s in_extents x bytes rs lawful level stand le =
+    let fits = leaf_fits x level stand le in
+    leaf_small c s in_extents (node_of x) bytes rs lawful fits.rises fits.few

@@ -213,7 +213,8 @@ module _ (s : Pairs) (S : ℕ → Type 0)
   unfolding to_free
   good_free path all next h = good_parent _ path all _ (λ p n name f. good_if (is_dir p.here) _ _
       (λ e. good_ask (entry_rank p.here.target n) _
-      (λ asked_for. if_named (entry_in (find nat_cmp (entry_rank p.here.target n) s)) n (next p.here n) (h p.here n name f)))
+      (λ asked_for. if_named (entry_in (find nat_cmp (entry_rank p.here.target n) s)) n (next p.here n)
+      (h p.here n name f)))
       (λ e. good_answer _))
     where
       if_named : (v : Option Named) (n : List ℕ) (c : Course) → Good c → Good (if_free n c v)
@@ -342,7 +343,8 @@ module _ (s : Pairs) (S : ℕ → Type 0)
   good_rename from to all_from all_to = good_if (length to == 0) _ _ (λ e. good_answer _)
       (λ e. good_ends from to all_from all_to _ (λ dir n o new_dir new_name name fd fn.
       good_ask (entry_rank new_dir.target new_name) _
-      (λ asked_for. good_to dir n o new_dir new_name (entry_in (find nat_cmp (entry_rank new_dir.target new_name) s)) fd fn name
+      (λ asked_for. good_to dir n o new_dir new_name
+      (entry_in (find nat_cmp (entry_rank new_dir.target new_name) s)) fd fn name
       (λ x is. ordered (entry_rank new_dir.target new_name) x.name x.target asked_for
       (entry_is (find nat_cmp (entry_rank new_dir.target new_name) s) x.name x.target is)))))
 

@@ -300,11 +300,10 @@ pub record Grows (n : ℕ) (us vs : Pairs) : Type 0 where
   pub bytes : leaf_bytes vs ≤ leaf_bytes us + n
 
 pub grows_both : (n m k : ℕ) (us vs ws : Pairs) → n + m ≤ k → Grows n us vs → Grows m vs ws → Grows k us ws
-grows_both n m k us vs ws le a b = let p = a.bytes in let q = b.bytes in record {
-  rises = b.rises;
-  bytes = omega
-      (arith, le, p, q);
-}
+grows_both n m k us vs ws le a b =
+    let p = a.bytes in
+    let q = b.bytes in
+    record { rises = b.rises; bytes = omega (arith, le, p, q) }
 
 pub grows_none : (us : Pairs) → Rises us → Grows 0 us us
 grows_none us r = record { rises = r; bytes = omega arith }

@@ -2,8 +2,11 @@
 use Rattle.std.specs.Prelude.{◌≡◌, ℕ, ◌^◌, ◌<◌, true, if◌then◌else◌, Option, Some, None}
 use Rattle.std.specs.FinMap.{find}
 use Rattle.std.specs.Ordering.{nat_cmp}
+use Rattle.r4_base.specs.Cell.{cell_fault}
+use Rattle.r4_base.specs.Key.{rank}
 use Rattle.r4_base.specs.Stat.{kind_is_good}
 use Rattle.r4_base.specs.Value.{Byte, Entry, Stat, Value}
+use Rattle.r4_cell.specs.Seen.{CellSeen}
 use Rattle.r4_content.specs.Course.{asked}
 use Rattle.r4_content.specs.Edited.{Pairs, is_in}
 use Rattle.r4_content.specs.Meaning.{course, greatest_size}
@@ -19,8 +22,13 @@ IsLawfulSeen (k, Byte x) = Unit {0}
 
 -- So it is at each key that the command asks for.
 abbrev pub AreLawfulSeen : Command → Pairs → Type 0
-AreLawfulSeen c s = (k : ℕ) (v : Value) → is_in (asked (course greatest_size c) (of_seen s)) k ≡ true
+AreLawfulSeen c s = (k : ℕ) (v : Value)
+    → is_in (asked (course greatest_size c) (of_seen s)) k ≡ true
     → find nat_cmp k s ≡ Some v → IsLawfulSeen (k, v)
+
+-- The cell may stand as it is, in memory.
+abbrev pub IsAccepted : CellSeen → Type 0
+IsAccepted x = cell_fault true (2 ^ 64) x.level (rank x.lo) (rank x.hi) x.block ≡ None
 
 -- Bytes that are set stand before this one of their file; anywhere where its body stands in extents afterwards.
 abbrev pub end_of_bytes : Option Body → ℕ

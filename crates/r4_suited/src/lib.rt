@@ -3,4 +3,4 @@
 
 mod laws;
 
-pub use laws::{leaves_stay_small, plans_suit_leaves};
+pub use laws::{accepted_cells_are_lawful, leaves_stay_small, plans_suit_leaves};
