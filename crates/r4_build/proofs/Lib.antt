@@ -1,0 +1,7 @@
+mod Pairs
+mod MetKeys
+mod LeafKeys
+mod Changing
+mod Turns
+mod Origin
+mod Made

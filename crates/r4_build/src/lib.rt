@@ -1,0 +1,9 @@
+//! The change that a command makes of the cells of its task, where its edits lie in leaves (docs/volume.md,
+//! "Building").
+#![tactic(auto)]
+
+mod building;
+mod laws;
+
+pub use building::change_of;
+pub use laws::{edits_are_made, reach_suffices_to_build};
