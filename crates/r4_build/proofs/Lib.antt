@@ -5,3 +5,4 @@ mod Changing
 mod Turns
 mod Origin
 mod Made
+mod FreshBuilt

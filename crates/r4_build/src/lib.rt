@@ -3,7 +3,9 @@
 #![tactic(auto)]
 
 mod building;
+mod examples;
 mod laws;
 
 pub use building::change_of;
+pub use examples::fresh_volumes_can_be_built_on;
 pub use laws::{edits_are_made, reach_suffices_to_build};

@@ -27,11 +27,11 @@ use Rattle.r4_measure.specs.Asked.{asked_of, more_of}
 use Rattle.r4_measure.specs.Begin.{IsQuiet, IsReachedFor}
 use Rattle.r4_measure.specs.Examples.{fresh_cells, fresh_root, set_root, some_numbers}
 
-lowest : rank root_key ≡ least
+pub lowest : rank root_key ≡ least
 unfolding rank least
 lowest = refl
 
-highest : rank (key_of_rank (2 ^ 256 - 1)) ≡ top
+pub highest : rank (key_of_rank (2 ^ 256 - 1)) ≡ top
 unfolding rank key_of_rank top
 highest = refl
 
@@ -49,16 +49,16 @@ module _ (twig leaf : List ℕ) (is_twig : HasOneItem twig 2 3 (number_bytes 8 2
   unfolding tree_root
   part = tree_is_part tree tree_root (fresh_is_tree twig leaf)
 
-  abbrev twig_cell : CellSeen
+  abbrev pub twig_cell : CellSeen
   twig_cell = record { id = 22; level = 2; lo = root_key; hi = key_of_rank (2 ^ 256 - 1); block = twig }
 
-  abbrev leaf_cell : CellSeen
+  abbrev pub leaf_cell : CellSeen
   leaf_cell = record { id = 23; level = 1; lo = root_key; hi = key_of_rank (2 ^ 256 - 1); block = leaf }
 
   twig_is : node_of twig_cell ≡ fresh_twig twig
   twig_is = node_at 2 twig ∙ sym (twig_says twig is_twig)
 
-  leaf_is : node_of leaf_cell ≡ fresh_leaf leaf
+  pub leaf_is : node_of leaf_cell ≡ fresh_leaf leaf
   leaf_is = node_at 1 leaf ∙ sym (leaf_says leaf is_leaf)
 
   same_at : (i : ℕ) → by_name cells i ≡ tree i
