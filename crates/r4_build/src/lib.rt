@@ -3,9 +3,13 @@
 #![tactic(auto)]
 
 mod building;
+mod built;
 mod examples;
 mod laws;
+mod task;
 
 pub use building::change_of;
+pub use built::{Built, build};
 pub use examples::fresh_volumes_can_be_built_on;
 pub use laws::{edits_are_made, reach_suffices_to_build};
+pub use task::{BuildFault, Task};
