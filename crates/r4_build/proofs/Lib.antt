@@ -5,4 +5,5 @@ mod Changing
 mod Turns
 mod Origin
 mod Made
+mod Contents
 mod FreshBuilt

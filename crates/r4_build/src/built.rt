@@ -20,8 +20,8 @@ use r4_outside::Gate;
 use std::alloc::Global;
 use std::marker::Model;
 
-/// What was built of a task: the task as it was, the change and the reply. It cannot be made but by `build`, so it keeps
-/// what `build` promises (docs/volume.md, "Building").
+/// What was built of a task: the task as it was, the change and the reply. It cannot be made but by `build`, so it
+/// keeps what `build` promises (docs/volume.md, "Building").
 #[derive(Drop)]
 pub struct Built {
     task: Task,
@@ -36,7 +36,8 @@ impl Model for Built {
 
     ghost view = { λ b. record { task = b.task; change = b.change; reply = b.reply } };
 
-    ghost invariant = { λ b. IsBuilt (record { task = b.task; change = b.change; reply = b.reply }) };
+    ghost invariant = { λ b. IsBuilt
+        (record { task = b.task; change = b.change; reply = b.reply }) };
 }
 
 impl Built {
@@ -74,8 +75,8 @@ impl Built {
 }
 
 /// Makes of a task the change and the reply that its command means, where its edits lie in leaves. First the gate is
-/// passed; no lock is taken. In both answers the task is as it was given, its numbers included; the only error is want of
-/// memory (docs/volume.md, "Building").
+/// passed; no lock is taken. In both answers the task is as it was given, its numbers included; the only error is want
+/// of memory (docs/volume.md, "Building").
 pub fn build<G: Gate>(alloc: Global, gate: &G, task: Task) -> Result<Built, BuildFault>
     requires task { (b : Option Body) × ((reads : Intervals) × ((t : Store Value)
         × ((r : TreeRoot) × IsTaskIn b reads t r task))) }

@@ -1,6 +1,6 @@
 //! Laws of what is built. Each is the contract of a function that does nothing.
 
-ghost use Rattle.std.specs.Prelude.{ℕ, List, Option};
+ghost use Rattle.std.specs.Prelude.{◌≡◌, List, Option};
 ghost use Rattle.r4_base.specs.Tree.{Root, Store};
 ghost use Rattle.r4_base.specs.Value.{Content, Value};
 ghost use Rattle.r4_base.specs.Volume.{HasUnits};
@@ -8,11 +8,17 @@ ghost use Rattle.r4_cell.specs.Patch.{Patch, place};
 ghost use Rattle.r4_cell.specs.Seen.{CellSeen};
 ghost use Rattle.r4_cell.specs.declared.change.Fresh.{Fresh};
 ghost use Rattle.r4_content.specs.Edited.{Edits, Intervals, changed, edited, is_in};
+ghost use Rattle.r4_content.specs.Held.{pairs_of};
+ghost use Rattle.r4_content.specs.Meaning.{after, greatest_size, reply};
+ghost use Rattle.r4_content.specs.Seen.{IsSeen};
 ghost use Rattle.r4_patch.specs.Effect.{Affects};
+ghost use Rattle.r4_patch.specs.Joining.{patch_of_change};
+ghost use Rattle.r4_patch.specs.Part.{IsPart, MeetsPart};
 ghost use Rattle.r4_reach.specs.Touched.{Body};
 ghost use Rattle.r4_work.specs.Working.{IsStart};
 ghost use Rattle.r4_work.specs.declared.working.WorkingSet.{WorkingSet};
 ghost use Rattle.r4_build.specs.Building.{CanBuild, set_by};
+ghost use Rattle.r4_build.specs.Built.{BuiltSeen, IsBuilt};
 ghost use Rattle.r4_build.specs.Making.{CanMake};
 
 /// A change that sets what edits set, and nothing else, makes of a tree's content what the edits make of it: in every
@@ -28,4 +34,16 @@ pub fn reach_suffices_to_build()
     ensures { (b : Option Body) (e : Edits) (reads : Intervals) (t : Store Value) (r : Root)
         (f : Fresh) (cells : List CellSeen) (w : WorkingSet)
         → CanBuild b e reads t r f cells → IsStart cells w → CanMake t r e cells f w }
+{}
+
+/// What was built of a task makes of each part of a tree that it fits on what the command means, and the reply is the
+/// command's, where what was seen is what stands there at the keys that the command asks for.
+pub fn what_is_built_is_meant()
+    ensures content { (x : BuiltSeen) (t : Store Value) (root : Root) (m : Content) → IsBuilt x
+        → IsPart t root → MeetsPart (patch_of_change x.change) t root → HasUnits t m
+        → IsSeen greatest_size x.task.command (pairs_of x.task.seen) m
+        → HasUnits (place (patch_of_change x.change) t) (after greatest_size x.task.command m) }
+    ensures reply { (x : BuiltSeen) (m : Content) → IsBuilt x
+        → IsSeen greatest_size x.task.command (pairs_of x.task.seen) m
+        → x.reply ≡ reply greatest_size x.task.command m }
 {}

@@ -4,9 +4,9 @@ use r4_base::{ScriptNo, TaskId, TxnNo};
 use r4_cell::{Cells, Fresh};
 use r4_content::{Command, Seen};
 
-/// A command of a script with all that it takes to make its change, and no more: the cells that it reads and writes, what
-/// was seen at the keys that it asks for, and numbers for new nodes. So no tree and no lock is needed (docs/volume.md,
-/// "Building").
+/// A command of a script with all that it takes to make its change, and no more: the cells that it reads and writes,
+/// what was seen at the keys that it asks for, and numbers for new nodes. So no tree and no lock is needed
+/// (docs/volume.md, "Building").
 #[derive(Drop)]
 pub struct Task {
     pub id: TaskId,

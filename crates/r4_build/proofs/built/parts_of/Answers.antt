@@ -1,4 +1,4 @@
-use Rattle.std.proofs.Common.{◌≡◌, ◌<◌, ◌≤◌, ◌⊎◌, inl, inr, ap, arith, map, subst, sym}
+use Rattle.std.proofs.Common.{◌≡◌, inl, inr, ap, arith, map, subst, sym}
 use Rattle.std.specs.Arc.{arc_value}
 use Rattle.std.specs.Prelude.{Contains, List}
 use Rattle.r4_cell.specs.Seen.{CellSeen}
@@ -6,7 +6,7 @@ use Rattle.r4_content.specs.Course.{Ending}
 use Rattle.r4_content.specs.Edited.{Edits, changed, is_in}
 use Rattle.r4_content.specs.Held.{edits_of}
 use Rattle.r4_patch.specs.Effect.{HasEffect}
-use Rattle.r4_patch.specs.Joining.{ids_of, patch_of_change}
+use Rattle.r4_patch.specs.Joining.{patch_of_change}
 use Rattle.r4_build.specs.Building.{CanBuild, set_by}
 use Rattle.r4_build.specs.Built.{edits_for}
 use Rattle.r4_build.proofs.built.parts_of.Goals as goal
