@@ -6,4 +6,5 @@ mod Turns
 mod Origin
 mod Made
 mod Contents
+mod Lying
 mod FreshBuilt

@@ -1,8 +1,9 @@
 -- A command's edits as one change of the cells of its task, where they lie in leaves (docs/volume.md, "Building").
-use Rattle.std.specs.Prelude.{◌≡◌, ◌⊎◌, ℕ, ◌+◌, ◌*◌, ◌<◌, ◌≤◌, true, List, [], length, Contains, None, Option}
+use Rattle.std.specs.Prelude.{◌≡◌, ◌⊎◌, ℕ, ◌+◌, ◌*◌, ◌<◌, ◌≤◌, true, false, List, [], length, Contains, None, Option, Some}
 use Rattle.std.specs.FinMap.{find}
 use Rattle.std.specs.Ordering.{nat_cmp}
-use Rattle.r4_base.specs.Tree.{Root, Store}
+use Rattle.r4_base.specs.Key.{least, top}
+use Rattle.r4_base.specs.Tree.{Node, Root, Span, Store}
 use Rattle.r4_base.specs.Value.{Value}
 use Rattle.r4_cell.specs.Patch.{HaveNames}
 use Rattle.r4_cell.specs.Seen.{CellSeen, node_of}
@@ -14,7 +15,7 @@ use Rattle.r4_leaf.specs.Units.{leaf_bytes}
 use Rattle.r4_leaf_edits.specs.Made.{spread_keys}
 use Rattle.r4_patch.specs.Effect.{Placed, in_leaf}
 use Rattle.r4_patch.specs.Joining.{ids_of}
-use Rattle.r4_reach.specs.Needs.{units_after}
+use Rattle.r4_reach.specs.Needs.{is_met, units_after}
 use Rattle.r4_reach.specs.Touched.{Body}
 use Rattle.r4_work.specs.Order.{HasKey}
 use Rattle.r4_measure.specs.Begin.{IsReachedFor}
@@ -23,6 +24,15 @@ use Rattle.r4_measure.specs.Budget.{AreUnplaced}
 -- One of the cells is a leaf that has the key.
 abbrev pub LiesInLeaf : List CellSeen → ℕ → Type 0
 LiesInLeaf cells k = (c : CellSeen) × Contains cells c × (c.level ≡ 1) × HasKey c k
+
+-- No key that changes lies in an extent.
+abbrev pub SparesExtents : Edits → Store Value → Type 0
+SparesExtents e t = (i : ℕ) (c : Node Value) (s : Span) → t i ≡ Some c → Contains c.spans s
+    → is_met (changed e) s.lo s.hi ≡ false
+
+-- Each key that changes is one that an item may have.
+abbrev pub HaveLawfulKeys : Edits → Type 0
+HaveLawfulKeys e = (k : ℕ) → is_in (changed e) k ≡ true → (least ≤ k) × (k < top)
 
 -- The cells are a part's, with all that the edits write; each key that changes lies in a leaf among them, and no body
 -- goes to extents. There are 64 numbers for each cell.

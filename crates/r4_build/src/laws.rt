@@ -1,6 +1,6 @@
 //! Laws of what is built. Each is the contract of a function that does nothing.
 
-ghost use Rattle.std.specs.Prelude.{◌≡◌, List, Option};
+ghost use Rattle.std.specs.Prelude.{◌≡◌, ℕ, true, List, Option};
 ghost use Rattle.r4_base.specs.Tree.{Root, Store};
 ghost use Rattle.r4_base.specs.Value.{Content, Value};
 ghost use Rattle.r4_base.specs.Volume.{HasUnits};
@@ -14,10 +14,13 @@ ghost use Rattle.r4_content.specs.Seen.{IsSeen};
 ghost use Rattle.r4_patch.specs.Effect.{Affects};
 ghost use Rattle.r4_patch.specs.Joining.{patch_of_change};
 ghost use Rattle.r4_patch.specs.Part.{IsPart, MeetsPart};
+ghost use Rattle.r4_reach.specs.Needs.{demand_of};
+ghost use Rattle.r4_reach.specs.Reach.{HasTouched};
 ghost use Rattle.r4_reach.specs.Touched.{Body};
 ghost use Rattle.r4_work.specs.Working.{IsStart};
 ghost use Rattle.r4_work.specs.declared.working.WorkingSet.{WorkingSet};
-ghost use Rattle.r4_build.specs.Building.{CanBuild, set_by};
+ghost use Rattle.r4_measure.specs.Begin.{IsReachedFor};
+ghost use Rattle.r4_build.specs.Building.{CanBuild, HaveLawfulKeys, LiesInLeaf, SparesExtents, set_by};
 ghost use Rattle.r4_build.specs.Built.{BuiltSeen, IsBuilt};
 ghost use Rattle.r4_build.specs.Making.{CanMake};
 
@@ -34,6 +37,16 @@ pub fn reach_suffices_to_build()
     ensures { (b : Option Body) (e : Edits) (reads : Intervals) (t : Store Value) (r : Root)
         (f : Fresh) (cells : List CellSeen) (w : WorkingSet)
         → CanBuild b e reads t r f cells → IsStart cells w → CanMake t r e cells f w }
+{}
+
+/// Where the edits touch no extent, in a part that has what they touch and cells that have what they write, each key that
+/// changes lies in a leaf among the cells.
+pub fn spared_extents_leave_leaves()
+    ensures { (b : Option Body) (e : Edits) (reads : Intervals) (t : Store Value) (r : Root)
+        (f : Fresh) (cells : List CellSeen) (k : ℕ)
+        → IsReachedFor b e reads (changed e) t r f cells
+        → HasTouched (demand_of b e reads (changed e)) t → SparesExtents e t → HaveLawfulKeys e
+        → is_in (changed e) k ≡ true → LiesInLeaf cells k }
 {}
 
 /// What was built of a task makes of each part of a tree that it fits on what the command means, and the reply is the
