@@ -7,4 +7,5 @@ mod Origin
 mod Made
 mod Contents
 mod Lying
+mod Fitting
 mod FreshBuilt

@@ -1,5 +1,6 @@
 -- A command's edits as one change of the cells of its task, where they lie in leaves (docs/volume.md, "Building").
-use Rattle.std.specs.Prelude.{◌≡◌, ◌⊎◌, ℕ, ◌+◌, ◌*◌, ◌<◌, ◌≤◌, true, false, List, [], length, Contains, None, Option, Some}
+use Rattle.std.specs.Prelude.{◌≡◌, ◌⊎◌, ℕ, ◌+◌, ◌*◌, ◌<◌, ◌≤◌, true, false, List, [], length, Contains, None}
+use Rattle.std.specs.Prelude.{Option, Some}
 use Rattle.std.specs.FinMap.{find}
 use Rattle.std.specs.Ordering.{nat_cmp}
 use Rattle.r4_base.specs.Key.{least, top}

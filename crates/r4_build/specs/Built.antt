@@ -1,6 +1,6 @@
 -- What was built of a command, by its task (docs/volume.md, "Building").
-use Rattle.std.specs.Prelude.{◌≡◌, ◌⊎◌, ◌<◌, ◌≤◌, Contains, Option}
-use Rattle.r4_base.specs.Tree.{Root, Store}
+use Rattle.std.specs.Prelude.{◌≡◌, ◌⊎◌, ◌<◌, ◌≤◌, Contains, IsSome, Option, Some}
+use Rattle.r4_base.specs.Tree.{Node, Root, Store}
 use Rattle.r4_base.specs.Value.{Value}
 use Rattle.r4_cell.specs.Patch.{IsChange}
 use Rattle.r4_cell.specs.Seen.{CellSeen}
@@ -47,3 +47,8 @@ pub record IsBuilt (x : BuiltSeen) : Type 0 where
   pub new : (c : CellSeen) → Contains x.change.new c
       → Contains (ids_of x.change.old) c.id
       ⊎ ((x.task.fresh.next ≤ c.id) × (c.id < x.task.fresh.end))
+
+-- Where the change has a new root, it has an old cell of the root's number.
+abbrev pub HasOldRoot : BuiltSeen → Root → Type 0
+HasOldRoot x r = IsSome (patch_of_change x.change).root
+    → (c : Node Value) × ((patch_of_change x.change).old r.id ≡ Some c)

@@ -17,11 +17,11 @@ ghost use Rattle.r4_patch.specs.Part.{IsPart, MeetsPart};
 ghost use Rattle.r4_reach.specs.Needs.{demand_of};
 ghost use Rattle.r4_reach.specs.Reach.{HasTouched};
 ghost use Rattle.r4_reach.specs.Touched.{Body};
-ghost use Rattle.r4_work.specs.Working.{IsStart};
+ghost use Rattle.r4_work.specs.Working.{AreCellsIn, IsStart};
 ghost use Rattle.r4_work.specs.declared.working.WorkingSet.{WorkingSet};
 ghost use Rattle.r4_measure.specs.Begin.{IsReachedFor};
 ghost use Rattle.r4_build.specs.Building.{CanBuild, HaveLawfulKeys, LiesInLeaf, SparesExtents, set_by};
-ghost use Rattle.r4_build.specs.Built.{BuiltSeen, IsBuilt};
+ghost use Rattle.r4_build.specs.Built.{BuiltSeen, HasOldRoot, IsBuilt};
 ghost use Rattle.r4_build.specs.Making.{CanMake};
 
 /// A change that sets what edits set, and nothing else, makes of a tree's content what the edits make of it: in every
@@ -39,14 +39,22 @@ pub fn reach_suffices_to_build()
         → CanBuild b e reads t r f cells → IsStart cells w → CanMake t r e cells f w }
 {}
 
-/// Where the edits touch no extent, in a part that has what they touch and cells that have what they write, each key that
-/// changes lies in a leaf among the cells.
+/// Where the edits touch no extent, in a part that has what they touch and cells that have what they write, each key
+/// that changes lies in a leaf among the cells.
 pub fn spared_extents_leave_leaves()
     ensures { (b : Option Body) (e : Edits) (reads : Intervals) (t : Store Value) (r : Root)
         (f : Fresh) (cells : List CellSeen) (k : ℕ)
         → IsReachedFor b e reads (changed e) t r f cells
         → HasTouched (demand_of b e reads (changed e)) t → SparesExtents e t → HaveLawfulKeys e
         → is_in (changed e) k ≡ true → LiesInLeaf cells k }
+{}
+
+/// What was built of a task fits on each part of a tree that has the cells which the task writes, and where its numbers
+/// are free: also with changes of others in place, or without them.
+pub fn built_changes_fit()
+    ensures { (x : BuiltSeen) (t : Store Value) (r : Root) → IsBuilt x
+        → AreCellsIn t r x.task.fresh x.task.writes → HasOldRoot x r
+        → MeetsPart (patch_of_change x.change) t r }
 {}
 
 /// What was built of a task makes of each part of a tree that it fits on what the command means, and the reply is the

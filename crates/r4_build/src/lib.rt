@@ -12,6 +12,7 @@ pub use building::change_of;
 pub use built::{Built, build};
 pub use examples::fresh_volumes_can_be_built_on;
 pub use laws::{
-    edits_are_made, reach_suffices_to_build, spared_extents_leave_leaves, what_is_built_is_meant,
+    built_changes_fit, edits_are_made, reach_suffices_to_build, spared_extents_leave_leaves,
+    what_is_built_is_meant,
 };
 pub use task::{BuildFault, Task};
