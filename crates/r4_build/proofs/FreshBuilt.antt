@@ -68,7 +68,7 @@ module _ (twig leaf : List ℕ) (is_twig : HasOneItem twig 2 3 (number_bytes 8 2
     tails = refl;
     names = names;
     lie = lie;
-    small = small;
+    small = λ c at level met. small c at level;
     unplaced = (lit< tt, lit< tt);
     numbers = lit< tt;
   }

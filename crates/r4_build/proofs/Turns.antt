@@ -72,7 +72,7 @@ module _ (b : Option Body) (e : Edits) (reads : Intervals) (t : Store Value) (r 
         within = subst (λ x. AreWithin x (node_of c).hi u.items) (sym lo) (subst (λ y. AreWithin (rank c.lo) y u.items) (sym hi) turn.within);
         keys = turn.keys;
         can = turn.makes.can;
-        small = subst (λ (us : List LeafUnit). leaf_bytes us < 58912) (units c u turn) (is.small c at one);
+        small = subst (λ (us : List LeafUnit). leaf_bytes us < 58912) (units c u turn) (is.small c at one turn.touched);
         units = units c u turn;
       }
     where

@@ -3,7 +3,7 @@ use Rattle.std.specs.Prelude.{◌≡◌, ◌⊎◌, ℕ, ◌+◌, ◌*◌, ◌<�
 use Rattle.std.specs.Prelude.{Option, Some}
 use Rattle.std.specs.FinMap.{find}
 use Rattle.std.specs.Ordering.{nat_cmp}
-use Rattle.r4_base.specs.Key.{least, top}
+use Rattle.r4_base.specs.Key.{least, rank, top}
 use Rattle.r4_base.specs.Tree.{Node, Root, Span, Store}
 use Rattle.r4_base.specs.Value.{Value}
 use Rattle.r4_cell.specs.Patch.{HaveNames}
@@ -44,6 +44,7 @@ pub record CanBuild (b : Option Body) (e : Edits) (reads : Intervals) (t : Store
   pub names : HaveNames cells
   pub lie : (k : ℕ) → is_in (changed e) k ≡ true → LiesInLeaf cells k
   pub small : (c : CellSeen) → Contains cells c → c.level ≡ 1
+      → is_met (changed e) (rank c.lo) (rank c.hi) ≡ true
       → leaf_bytes (units_after b e (node_of c)) < 58912
   pub unplaced : AreUnplaced f
   pub numbers : f.next + 64 * length cells ≤ f.end
