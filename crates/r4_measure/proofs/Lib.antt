@@ -6,3 +6,4 @@ pub mod Turn
 pub mod Loop
 pub mod Asked
 pub mod Begin
+pub mod FreshReach

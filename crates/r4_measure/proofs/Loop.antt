@@ -53,7 +53,7 @@ path_is cells k q e = ap (λ o. first_and o (ups_of 7 cells 2 k)) e
 -- ---- numbers
 
 -- a new cell has an old one's number or a fresh one
-from_new : (below : Option Step) (steps : List Step) (o : Option CellSeen) (i : ℕ) → Climbs below steps → Contains (ids_of (news steps o)) i → Contains (ids_of (olds steps)) i ⊎ Contains (fresh_ids steps o) i
+pub from_new : (below : Option Step) (steps : List Step) (o : Option CellSeen) (i : ℕ) → Climbs below steps → Contains (ids_of (news steps o)) i → Contains (ids_of (olds steps)) i ⊎ Contains (fresh_ids steps o) i
 from_new below [] None i climbs member = absurd (none i member)
 from_new below [] (Some c) i climbs member = inr member
 from_new below (s ∷ ss) o i (step, climbs) member = elim (split s.new (news ss o) i member) [
@@ -74,7 +74,7 @@ from_new below (s ∷ ss) o i (step, climbs) member = elim (split s.new (news ss
     split : (xs ys : List CellSeen) (i : ℕ) → Contains (ids_of (xs ++ ys)) i → Contains (ids_of xs) i ⊎ Contains (ids_of ys) i
     split xs ys i m = Contains-append_cases (ids_of xs) (ids_of ys) i (subst (λ is. Contains is i) (ids_append xs ys) m)
 
-of_id : (cells : List CellSeen) (i : ℕ) → Contains (ids_of cells) i → (x : CellSeen) × Contains cells x × (x.id ≡ i)
+pub of_id : (cells : List CellSeen) (i : ℕ) → Contains (ids_of cells) i → (x : CellSeen) × Contains cells x × (x.id ≡ i)
 of_id [] i m = absurd (none i m)
 of_id (c ∷ cs) i m = elim (cases c.id i (ids_of cs) m) [
   | inl e ↦ (c, here c cs, sym e)

@@ -28,16 +28,17 @@ pub record IsQuiet (b : Option Body) (e : Edits) (reads rs : Intervals) (t : Sto
   pub low : (x : Ask) → IsRootAsking (demand_of b e reads rs) t r x → r.height < 8
 
 -- The cells are cells of this part of a tree, with all that a quiet command writes.
-pub record IsReachedFor (b : Option Body) (e : Edits) (reads rs : Intervals) (t : Store Value) (r : Root)
-    (f : Fresh) (cells : List CellSeen) : Type 0 where
+pub record IsReachedFor (b : Option Body) (e : Edits) (reads rs : Intervals) (t : Store Value)
+    (r : Root) (f : Fresh) (cells : List CellSeen) : Type 0 where
   pub quiet : IsQuiet b e reads rs t r
   pub height : r.height ≤ 8
   pub cells_in : AreCellsIn t r f cells
-  pub written : (i : ℕ) → IsWritten (demand_of b e reads rs) t i → (x : CellSeen) × Contains cells x × (x.id ≡ i)
+  pub written : (i : ℕ) → IsWritten (demand_of b e reads rs) t i
+      → (x : CellSeen) × Contains cells x × (x.id ≡ i)
 
 -- The leaf of this number is written, and its edits are those that the command makes there.
-pub record IsEditOf (b : Option Body) (e : Edits) (reads rs : Intervals) (t : Store Value) (turn : LeafTurn)
-    (i : ℕ) : Type 0 where
+pub record IsEditOf (b : Option Body) (e : Edits) (reads rs : Intervals) (t : Store Value)
+    (turn : LeafTurn) (i : ℕ) : Type 0 where
   pub node : Node Value
   pub at : t i ≡ Some node
   pub written : IsWritten (demand_of b e reads rs) t i
@@ -52,9 +53,11 @@ pub record IsEditOf (b : Option Body) (e : Edits) (reads rs : Intervals) (t : St
   pub units : units_after b e node ≡ units_now turn node
 
 -- each of them, and no two of one leaf
-abbrev pub AreEditsOf : Option Body → Edits → (reads rs : Intervals) → Store Value → List LeafTurn → List ℕ → Type 0
+abbrev pub AreEditsOf : Option Body → Edits → (reads rs : Intervals) → Store Value → List LeafTurn
+    → List ℕ → Type 0
 AreEditsOf b e reads rs t [] [] = Unit {0}
 AreEditsOf b e reads rs t [] (i ∷ is) = ⊥
 AreEditsOf b e reads rs t (u ∷ us) [] = ⊥
 AreEditsOf b e reads rs t (u ∷ us) (i ∷ is) =
-    IsEditOf b e reads rs t u i × ((j : ℕ) → Contains is j → j ≢ i) × AreEditsOf b e reads rs t us is
+    IsEditOf b e reads rs t u i × ((j : ℕ) → Contains is j → j ≢ i)
+    × AreEditsOf b e reads rs t us is

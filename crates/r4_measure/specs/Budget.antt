@@ -64,7 +64,8 @@ pub record IsSpent (f : Fresh) (was left : ℕ → ℕ) (s : Step) : Type 0 wher
 -- No item points to a fresh number.
 abbrev pub HasNoFresh : Fresh → List Item → Type 0
 HasNoFresh f items =
-    (it : Item) (i : ℕ) → Contains items it → it.plugin ≡ 3 → pointer_of it.body ≡ Some i → IsFresh f i → ⊥
+    (it : Item) (i : ℕ) → Contains items it → it.plugin ≡ 3 → pointer_of it.body ≡ Some i
+    → IsFresh f i → ⊥
 
 -- from a level on, the new cells of the steps above it suffice for what is left below them, and so does a new root
 abbrev pub AllBear : Budget → (l : ℕ) → List Step → (over : Option CellSeen) → Type 0

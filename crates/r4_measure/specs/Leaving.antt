@@ -25,8 +25,8 @@ pub record HasBudget (now : Store Value) (r : Root) (f : Fresh) (b : Budget) : T
   pub budget : IsBudget now r b
 
 -- All edits of a leaf, of which is known by what path it is reached; what comes beside it is in the budget.
-pub record AreEditsIn (now : Store Value) (r : Root) (b : Budget) (us : List LeafUnit) (leaf : CellSeen)
-    (ups : List CellSeen) (f after : Fresh) (d : Change) : Type 0 where
+pub record AreEditsIn (now : Store Value) (r : Root) (b : Budget) (us : List LeafUnit)
+    (leaf : CellSeen) (ups : List CellSeen) (f after : Fresh) (d : Change) : Type 0 where
   pub level : leaf.level ≡ 1
   pub path : Ascends now None (leaf ∷ ups)
   pub enough : (leaf_bytes us ≤ 4068) ⊎ IsLongEnough r (extra_cells us) leaf ups
@@ -36,7 +36,8 @@ pub record AreEditsIn (now : Store Value) (r : Root) (b : Budget) (us : List Lea
 
 -- With the change in place there is a budget: cells that are none of its new ones keep what they had, and no old one
 -- has more. Where nothing may come of the root, it stays the root, and nothing may come of it.
-pub record LeavesBudget (now : Store Value) (r : Root) (f : Fresh) (b : Budget) (d : Change) : Type 0 where
+pub record LeavesBudget (now : Store Value) (r : Root) (f : Fresh) (b : Budget) (d : Change)
+    : Type 0 where
   pub left : Budget
   pub budget : IsBudget (place (patch_of_change d) now) (root_after (patch_of_change d) r) left
   pub others : (k i : ℕ) → (Contains (ids_of d.new) i → ⊥) → left k i ≡ b k i

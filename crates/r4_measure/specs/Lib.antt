@@ -4,3 +4,4 @@ pub mod Measured
 pub mod Loop
 pub mod Asked
 pub mod Begin
+pub mod Examples

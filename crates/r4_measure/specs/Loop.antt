@@ -27,7 +27,8 @@ abbrev pub units_now : LeafTurn → Node Value → List LeafUnit
 units_now e c = put_all e.items (cut_all e.cuts c.units)
 
 -- They are made: what the call says that makes them.
-abbrev pub IsDone : Store Value → Root → (before after : Fresh) → (w now : WorkingSet) → LeafTurn → Type 0
+abbrev pub IsDone : Store Value → Root → (before after : Fresh) → (w now : WorkingSet) → LeafTurn
+    → Type 0
 IsDone t r before after w now e = IsRemade t r before after w now e.key e.cuts e.items
 
 -- The first may be made, and whatever it leaves, the others.

@@ -11,18 +11,19 @@ use Rattle.r4_work.specs.declared.working.WorkingSet.{WorkingSet}
 use Rattle.r4_measure.specs.Budget.{AreSeen, Budget, IsBudget}
 
 -- What stands has a budget, and each cell stands that names one of which something may come.
-pub record IsMeasured (t : Store Value) (r : Root) (fresh : Fresh) (w : WorkingSet) (b : Budget) : Type 0 where
+pub record IsMeasured (t : Store Value) (r : Root) (fresh : Fresh) (w : WorkingSet) (b : Budget)
+    : Type 0 where
   pub working : IsWorking t r fresh w
   pub seen : AreSeen (now_of w t)
   pub budget : IsBudget (now_of w t) (root_of w r) b
   pub height : (root_of w r).height ≤ 8
-  pub kept : (i : ℕ) (c : Node Value) (n : Name) → now_of w t i ≡ Some c → Contains c.names n → 1 ≤ n.level
-      → 1 ≤ b n.level n.id → (x : CellSeen) × Contains (standing w) x × (x.id ≡ i)
+  pub kept : (i : ℕ) (c : Node Value) (n : Name) → now_of w t i ≡ Some c → Contains c.names n
+      → 1 ≤ n.level → 1 ≤ b n.level n.id → (x : CellSeen) × Contains (standing w) x × (x.id ≡ i)
 
 -- The set after a change is measured: leaves that are none of the change's new cells keep what they had. Where nothing
 -- may come of the root, it stays the root, and nothing may come of it.
-pub record LeavesMeasure (t : Store Value) (r : Root) (after : Fresh) (w now : WorkingSet) (b : Budget)
-    (d : Change) : Type 0 where
+pub record LeavesMeasure (t : Store Value) (r : Root) (after : Fresh) (w now : WorkingSet)
+    (b : Budget) (d : Change) : Type 0 where
   pub left : Budget
   pub measured : IsMeasured t r after now left
   pub leaves : (i : ℕ) → (Contains (ids_of d.new) i → ⊥) → left 1 i ≡ b 1 i

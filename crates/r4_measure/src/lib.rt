@@ -2,8 +2,10 @@
 //! after another (docs/volume.md, "What may still come").
 #![tactic(auto)]
 
+mod examples;
 mod laws;
 
+pub use examples::fresh_volumes_are_reached;
 pub use laws::{
     a_budget_suffices, each_leaf_has_its_turn, edits_keep_a_budget, reach_suffices_for_all_edits,
     turns_keep_the_measure, what_is_asked_is_a_budget,

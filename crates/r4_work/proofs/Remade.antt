@@ -38,21 +38,21 @@ use Rattle.r4_work.proofs.LeafEffect.{leaf_effect, new_numbers, root_number, us_
 use Rattle.r4_work.proofs.Paths.{lowest_is, path_ascends}
 use Rattle.r4_work.proofs.UnitMembers.{between, filtered, from_put, not_false, not_true, rise_in, some_value, to_filtered, to_put, value_there}
 
-or_true : (a b : Bool) → a || b ≡ true → (a ≡ true) ⊎ (b ≡ true)
+pub or_true : (a b : Bool) → a || b ≡ true → (a ≡ true) ⊎ (b ≡ true)
 or_true true b h = inl refl
 or_true false b h = inr h
 
-or_false : (a b : Bool) → a || b ≡ false → (a ≡ false) × (b ≡ false)
+pub or_false : (a b : Bool) → a || b ≡ false → (a ≡ false) × (b ≡ false)
 or_false false b h = (refl, h)
 or_false true b h = absurd (grind (arith, h))
 
 -- ---- members
 
-InItems : List Given → LeafUnit → Type 0
+pub InItems : List Given → LeafUnit → Type 0
 InItems [] u = ⊥
 InItems (g ∷ gs) u = Contains (item_units (item_of g)) u ⊎ InItems gs u
 
-from_items : (gs : List Given) (us : List LeafUnit) (u : LeafUnit) → Contains (put_all gs us) u → InItems gs u ⊎ Contains us u
+pub from_items : (gs : List Given) (us : List LeafUnit) (u : LeafUnit) → Contains (put_all gs us) u → InItems gs u ⊎ Contains us u
 unfolding InItems
 from_items [] us u h = inr h
 from_items (g ∷ gs) us u h = elim (from_items gs (put_units (item_units (item_of g)) us) u h) [
@@ -60,7 +60,7 @@ from_items (g ∷ gs) us u h = elim (from_items gs (put_units (item_units (item_
   | inr x ↦ elim (from_put (item_units (item_of g)) us u x) [ inl y ↦ inl (inl y) | inr y ↦ inr y ]
 ]
 
-to_items : (gs : List Given) (us : List LeafUnit) (u : LeafUnit) → InItems gs u ⊎ Contains us u → Contains (put_all gs us) u
+pub to_items : (gs : List Given) (us : List LeafUnit) (u : LeafUnit) → InItems gs u ⊎ Contains us u → Contains (put_all gs us) u
 unfolding InItems
 to_items [] us u (inl h) = absurd h
 to_items [] us u (inr h) = h
@@ -68,7 +68,7 @@ to_items (g ∷ gs) us u (inl (inl h)) = to_items gs (put_units (item_units (ite
 to_items (g ∷ gs) us u (inl (inr h)) = to_items gs (put_units (item_units (item_of g)) us) u (inl h)
 to_items (g ∷ gs) us u (inr h) = to_items gs (put_units (item_units (item_of g)) us) u (inr (to_put (item_units (item_of g)) us u (inr h)))
 
-from_cuts : (cs : List KeyRange) (us : List LeafUnit) (k : ℕ) (v : Value) → Contains (cut_all cs us) (k, v) → Contains us (k, v) × (cut_keys cs k ≡ false)
+pub from_cuts : (cs : List KeyRange) (us : List LeafUnit) (k : ℕ) (v : Value) → Contains (cut_all cs us) (k, v) → Contains us (k, v) × (cut_keys cs k ≡ false)
 from_cuts [] us k v h = (h, refl)
 from_cuts (c ∷ cs) us k v h =
     let (at, rest) = from_cuts cs (cut_units (rank c.from) (rank c.to) us) k v h in
@@ -79,7 +79,7 @@ from_cuts (c ∷ cs) us k v h =
     neither false b x y = y
     neither true b x y = absurd (grind (arith, x))
 
-to_cuts : (cs : List KeyRange) (us : List LeafUnit) (k : ℕ) (v : Value) → Contains us (k, v) → cut_keys cs k ≡ false → Contains (cut_all cs us) (k, v)
+pub to_cuts : (cs : List KeyRange) (us : List LeafUnit) (k : ℕ) (v : Value) → Contains us (k, v) → cut_keys cs k ≡ false → Contains (cut_all cs us) (k, v)
 to_cuts [] us k v h e = h
 to_cuts (c ∷ cs) us k v h e =
     let (a, b) = or_false (is_between (rank c.from) (rank c.to) k) (cut_keys cs k) e in
@@ -91,7 +91,7 @@ first_value : (o rest : Option Value) (x : Value) → option_or o rest ≡ Some 
 first_value (Some y) rest x e = inl e
 first_value None rest x e = inr (refl, e)
 
-value_in_items : (gs : List Given) (k : ℕ) (x : Value) → item_value gs k ≡ Some x → InItems gs (k, x)
+pub value_in_items : (gs : List Given) (k : ℕ) (x : Value) → item_value gs k ≡ Some x → InItems gs (k, x)
 unfolding InItems
 value_in_items [] k x e = none-some x e
 value_in_items (g ∷ gs) k x e = elim (first_value (value_in (item_units (item_of g)) k) (item_value gs k) x e) [
@@ -104,23 +104,23 @@ either_value (Some y) rest h = (y, refl)
 either_value None rest (inl h) = absurd (none-some h.0 h.1)
 either_value None rest (inr h) = h
 
-items_value : (gs : List Given) (k : ℕ) (v : Value) → InItems gs (k, v) → (x : Value) × (item_value gs k ≡ Some x)
+pub items_value : (gs : List Given) (k : ℕ) (v : Value) → InItems gs (k, v) → (x : Value) × (item_value gs k ≡ Some x)
 unfolding InItems
 items_value [] k v h = absurd h
 items_value (g ∷ gs) k v (inl h) = either_value (value_in (item_units (item_of g)) k) (item_value gs k) (inl (some_value (item_units (item_of g)) k v h))
 items_value (g ∷ gs) k v (inr h) = either_value (value_in (item_units (item_of g)) k) (item_value gs k) (inr (items_value gs k v h))
 
-some_of : (o : Option Value) → is_some o ≡ true → (x : Value) × (o ≡ Some x)
+pub some_of : (o : Option Value) → is_some o ≡ true → (x : Value) × (o ≡ Some x)
 some_of (Some x) h = (x, refl)
 some_of None h = absurd (grind (arith, h))
 
-none_of : (o : Option Value) → is_some o ≡ false → o ≡ None
+pub none_of : (o : Option Value) → is_some o ≡ false → o ≡ None
 none_of None h = refl
 none_of (Some x) h = absurd (grind (arith, h))
 
 -- ---- the keys are the leaf's
 
-items_in : (lo hi : ℕ) (gs : List Given) (us : List LeafUnit) (k : ℕ) (v : Value) → AreWithin lo hi gs → HaveKeys gs → CanPutAll gs us → InItems gs (k, v) → (lo ≤ k) × (k < hi)
+pub items_in : (lo hi : ℕ) (gs : List Given) (us : List LeafUnit) (k : ℕ) (v : Value) → AreWithin lo hi gs → HaveKeys gs → CanPutAll gs us → InItems gs (k, v) → (lo ≤ k) × (k < hi)
 unfolding InItems
 items_in lo hi [] us k v within keys can h = absurd h
 items_in lo hi (g ∷ gs) us k v (low, high, within) (key, keys) (given, apart, can) (inl h) =
@@ -128,7 +128,7 @@ items_in lo hi (g ∷ gs) us k v (low, high, within) (key, keys) (given, apart, 
     (omega (arith, a, low), omega (arith, b, high))
 items_in lo hi (g ∷ gs) us k v (low, high, within) (key, keys) (given, apart, can) (inr h) = items_in lo hi gs (put_units (item_units (item_of g)) us) k v within keys can h
 
-cuts_in : (lo hi : ℕ) (cs : List KeyRange) (k : ℕ) → CutsWithin lo hi cs → cut_keys cs k ≡ true → (lo ≤ k) × (k < hi)
+pub cuts_in : (lo hi : ℕ) (cs : List KeyRange) (k : ℕ) → CutsWithin lo hi cs → cut_keys cs k ≡ true → (lo ≤ k) × (k < hi)
 cuts_in lo hi [] k within h = absurd (grind (arith, h))
 cuts_in lo hi (c ∷ cs) k (low, high, within) h = elim (or_true (is_between (rank c.from) (rank c.to) k) (cut_keys cs k) h) [
   | inl x ↦ let (a, b) = between (rank c.from) (rank c.to) k x in (omega (arith, a, low), omega (arith, b, high))

@@ -1,5 +1,5 @@
--- Cells in the order of their levels, and within a level of the keys with which they begin (docs/volume.md, "The working
--- set").
+-- Cells in the order of their levels, and within a level of the keys with which they begin (docs/volume.md, "The
+-- working set").
 use Rattle.std.specs.Prelude.{◌≡◌, ℕ, ◌+◌, ◌*◌, ◌^◌, ◌<◌, ◌≤◌, ◌==◌, ◌&&◌, ◌↔◌, if◌then◌else◌, not, nat_le, nat_lt, map}
 use Rattle.std.specs.Prelude.{Bool, List, [], ◌∷◌, Contains, Option, None, Some}
 use Rattle.std.specs.List.{filter}
@@ -26,7 +26,8 @@ is_at level k c = c.level == level && nat_le (rank c.lo) k && nat_lt k (rank c.h
 -- the last of the cells of a level that has the key
 abbrev pub cell_at : List CellSeen → (level k : ℕ) → Option CellSeen
 cell_at [] level k = None
-cell_at (c ∷ cells) level k = option_or (cell_at cells level k) (if is_at level k c then Some c else None)
+cell_at (c ∷ cells) level k =
+    option_or (cell_at cells level k) (if is_at level k c then Some c else None)
 
 -- the key lies in the cell's range
 abbrev pub HasKey : CellSeen → ℕ → Type 0
@@ -41,8 +42,8 @@ pub record IsAt (cells : List CellSeen) (level k : ℕ) (c : CellSeen) : Type 0 
 -- Each of the cells has a range of keys, and two of one level that have a key in common have one range.
 pub record AreRangesApart (cells : List CellSeen) : Type 0 where
   pub some : (c : CellSeen) → Contains cells c → (rank c.lo < rank c.hi) × (rank c.hi ≤ top)
-  pub one : (b c : CellSeen) (k : ℕ) → Contains cells b → Contains cells c → b.level ≡ c.level → HasKey b k → HasKey c k
-      → (rank b.lo ≡ rank c.lo) × (rank b.hi ≡ rank c.hi)
+  pub one : (b c : CellSeen) (k : ℕ) → Contains cells b → Contains cells c → b.level ≡ c.level
+      → HasKey b k → HasKey c k → (rank b.lo ≡ rank c.lo) × (rank b.hi ≡ rank c.hi)
 
 abbrev pub places_of : List CellSeen → List ℕ
 places_of cells = map place cells

@@ -60,8 +60,8 @@ HaveKeys [] = Unit {0}
 HaveKeys (g ∷ gs) = IsKey (item_of g).key × HaveKeys gs
 
 -- The leaf is to have these units, and the cells above it suffice; there are numbers for all that may come.
-pub record CanEdit (r : Root) (fresh : Fresh) (us : List LeafUnit) (leaf : CellSeen) (ups : List CellSeen)
-    : Type 0 where
+pub record CanEdit (r : Root) (fresh : Fresh) (us : List LeafUnit) (leaf : CellSeen)
+    (ups : List CellSeen) : Type 0 where
   pub enough : (leaf_bytes us ≤ 4068) ⊎ IsLongEnough r (extra_cells us) leaf ups
   pub numbers : fresh.next + (1 + length ups) + min 15 (extra_cells us) < fresh.end
 
@@ -88,16 +88,17 @@ pub record IsRemakable (t : Store Value) (r : Root) (fresh : Fresh) (w : Working
 
 -- ---- what is made
 
--- Whatever the first set's change does to units, that of the second does too, but that at the keys of a set these values
--- stand.
-abbrev pub Changes : (w now : WorkingSet) → (at : ℕ → Bool) → (to : ℕ → Option (Placed Value)) → Type 0
+-- Whatever the first set's change does to units, that of the second does too, but that at the keys of a set these
+-- values stand.
+abbrev pub Changes : (w now : WorkingSet) → (at : ℕ → Bool) → (to : ℕ → Option (Placed Value))
+    → Type 0
 Changes w now at to =
     (a : ℕ → Bool) (f : ℕ → Option (Placed Value)) → HasEffect (patch_of_change w.change) a f
     → HasEffect (patch_of_change now.change) (either a at) (later at to f)
 
 -- The path of the key is that of a leaf; the edit of it is one that `change_leaf` makes, and it is put in place.
-pub record IsRemade (t : Store Value) (r : Root) (before after : Fresh) (w now : WorkingSet) (key : Key)
-    (cuts : List KeyRange) (items : List Given) : Type 0 where
+pub record IsRemade (t : Store Value) (r : Root) (before after : Fresh) (w now : WorkingSet)
+    (key : Key) (cuts : List KeyRange) (items : List Given) : Type 0 where
   pub leaf : CellSeen
   pub ups : List CellSeen
   pub path : path_of w (rank key) ≡ leaf ∷ ups

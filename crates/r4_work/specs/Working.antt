@@ -55,7 +55,8 @@ abbrev pub HasNoEffect : WorkingSet → Type 0
 HasNoEffect w = HasEffect (patch_of_change w.change) (λ k. false) (λ k. None)
 
 -- The cells are cells of this part of a tree, where the fresh numbers are free.
-pub record AreCellsIn (t : Store Value) (r : Root) (fresh : Fresh) (cells : List CellSeen) : Type 0 where
+pub record AreCellsIn (t : Store Value) (r : Root) (fresh : Fresh) (cells : List CellSeen)
+    : Type 0 where
   pub part : IsPart t r
   pub stand : (c : CellSeen) → Contains cells c → t c.id ≡ Some (node_of c)
   pub free : IsFree fresh.next fresh.end t
@@ -64,11 +65,12 @@ pub record AreCellsIn (t : Store Value) (r : Root) (fresh : Fresh) (cells : List
 -- ---- one change more
 
 -- The change is one of the part as it stands, and its new names are numbers that were taken.
-pub record IsNextEdit (t : Store Value) (r : Root) (w : WorkingSet) (before after : Fresh) (d : Change)
-    : Type 0 where
+pub record IsNextEdit (t : Store Value) (r : Root) (w : WorkingSet) (before after : Fresh)
+    (d : Change) : Type 0 where
   pub change : IsChange d.old d.new d.root
   pub meets : MeetsPart (patch_of_change d) (now_of w t) (root_of w r)
-  pub names : (c : CellSeen) → Contains d.new c → (patch_of_change d).old c.id ≡ None → c.id < after.next
+  pub names : (c : CellSeen) → Contains d.new c → (patch_of_change d).old c.id ≡ None
+      → c.id < after.next
   pub takes : OnlyTakes before after
   pub root : (x : RootPair) → d.root ≡ Some x → IsPointable x.id.0
 

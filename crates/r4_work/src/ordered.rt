@@ -75,8 +75,8 @@ impl OrderedCells {
         }
     }
 
-    /// Takes the cells out that stand at the place of one of these, which are to be few: for each of them those behind it
-    /// are moved.
+    /// Takes the cells out that stand at the place of one of these, which are to be few: for each of them those
+    /// behind it are moved.
     pub fn take_out_all(&mut self, cells: &[Arc<Cell>])
         ensures { self.new
             ≡ without_places (places_of (map (λ c. arc_value c) cells.now)) self.old }

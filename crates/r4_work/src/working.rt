@@ -8,7 +8,8 @@ ghost use Rattle.r4_base.specs.Tree.{Root as TreeRoot, Store};
 ghost use Rattle.r4_base.specs.Value.{Value};
 ghost use Rattle.r4_cell.specs.declared.change.Fresh.{Fresh as FreshSeen};
 ghost use Rattle.r4_work.specs.Order.{AreNamedByPlace, AreRangesApart, IsAt, cell_at};
-ghost use Rattle.r4_work.specs.Working.{AreCellsIn, HasNoEffect, IsPutInPlace, IsStart, IsWorking, path_of, standing, ups_of};
+ghost use Rattle.r4_work.specs.Working.{AreCellsIn, HasNoEffect, IsPutInPlace, IsStart, IsWorking};
+ghost use Rattle.r4_work.specs.Working.{path_of, standing, ups_of};
 
 use crate::ordered::OrderedCells;
 use r4_base::{Key, Memory};
@@ -17,8 +18,8 @@ use r4_patch::follow;
 use std::alloc::Global;
 use std::sync::Arc;
 
-/// The cells of a task that are not replaced, and one change of all that were. A cell is looked for by halves, and cells
-/// are shared: no block is copied (docs/volume.md, "The working set").
+/// The cells of a task that are not replaced, and one change of all that were. A cell is looked for by halves, and
+/// cells are shared: no block is copied (docs/volume.md, "The working set").
 #[derive(Drop)]
 pub struct WorkingSet {
     kept: OrderedCells,

@@ -1,0 +1,11 @@
+mod Pairs
+mod MetKeys
+mod LeafKeys
+mod Changing
+mod Turns
+mod Origin
+mod Made
+mod Contents
+mod Lying
+mod Fitting
+mod FreshBuilt

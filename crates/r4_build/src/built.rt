@@ -1,0 +1,111 @@
+//! A command's change and its reply (docs/volume.md, "Building").
+
+ghost use Rattle.std.specs.Prelude.{◌≡◌, IfOk, MatchResult, Option};
+ghost use Rattle.r4_base.specs.Tree.{Root as TreeRoot, Store};
+ghost use Rattle.r4_base.specs.Value.{Value};
+ghost use Rattle.r4_content.specs.Edited.{Intervals};
+ghost use Rattle.r4_content.specs.Held.{pairs_of};
+ghost use Rattle.r4_content.specs.Seen.{Rises};
+ghost use Rattle.r4_leaf_edits.specs.Suiting.{SuitLeaves};
+ghost use Rattle.r4_reach.specs.Touched.{Body};
+ghost use Rattle.r4_build.specs.Built.{IsBuilt, IsTaskIn, edits_for};
+
+use crate::building::change_of;
+use crate::task::{BuildFault, Task};
+use r4_base::Memory;
+use r4_cell::Change;
+use r4_content::{Edits, Reply};
+use r4_file::plan;
+use r4_outside::Gate;
+use std::alloc::Global;
+use std::marker::Model;
+
+/// What was built of a task: the task as it was, the change and the reply. It cannot be made but by `build`, so it
+/// keeps what `build` promises (docs/volume.md, "Building").
+#[derive(Drop)]
+pub struct Built {
+    task: Task,
+    change: Change,
+    reply: Reply,
+}
+
+impl Model for Built {
+    ghost use Rattle.r4_build.specs.Built.{BuiltSeen, IsBuilt};
+
+    ghost Value = { BuiltSeen };
+
+    ghost view = { λ b. record { task = b.task; change = b.change; reply = b.reply } };
+
+    ghost invariant = { λ b. IsBuilt
+        (record { task = b.task; change = b.change; reply = b.reply }) };
+}
+
+impl Built {
+    /// The task, as it was.
+    pub fn task(&self) -> &Task
+        ensures { result.now ≡ self.now.task }
+    {
+        &self.task
+    }
+
+    /// The change, and what is promised of it.
+    pub fn change(&self) -> &Change
+        ensures value { result.now ≡ self.now.change }
+        ensures built { IsBuilt self.now }
+    {
+        &self.change
+    }
+
+    /// The reply.
+    pub fn reply(&self) -> &Reply
+        ensures { result.now ≡ self.now.reply }
+    {
+        &self.reply
+    }
+
+    /// The task, the change and the reply.
+    pub fn into_parts(self) -> (Task, Change, Reply)
+        ensures task { result.0 ≡ self.task }
+        ensures change { result.1 ≡ self.change }
+        ensures reply { result.2 ≡ self.reply }
+        ensures built { IsBuilt self }
+    {
+        (self.task, self.change, self.reply)
+    }
+}
+
+/// Makes of a task the change and the reply that its command means, where its edits lie in leaves. First the gate is
+/// passed; no lock is taken. In both answers the task is as it was given, its numbers included; the only error is want
+/// of memory (docs/volume.md, "Building").
+pub fn build<G: Gate>(alloc: Global, gate: &G, task: Task) -> Result<Built, BuildFault>
+    requires task { (b : Option Body) × ((reads : Intervals) × ((t : Store Value)
+        × ((r : TreeRoot) × IsTaskIn b reads t r task))) }
+    requires rises { Rises (pairs_of task.seen) }
+    requires suits { SuitLeaves 16384 (edits_for task) }
+    ensures { MatchResult result (λ b. b.task ≡ task) (λ e. e.task ≡ task) }
+{
+    gate.pass(task.script, task.index);
+    match parts_of(alloc, &task) {
+        Ok((change, reply)) => Ok(Built {
+            task,
+            change,
+            reply,
+        }),
+        Err(Memory) => Err(BuildFault { task }),
+    }
+}
+
+// The change and the reply of a task.
+fn parts_of(alloc: Global, task: &Task) -> Result<(Change, Reply), Memory>
+    requires task { (b : Option Body) × ((reads : Intervals) × ((t : Store Value)
+        × ((r : TreeRoot) × IsTaskIn b reads t r task.now))) }
+    requires rises { Rises (pairs_of task.now.seen) }
+    requires suits { SuitLeaves 16384 (edits_for task.now) }
+    ensures { IfOk result (λ p. IsBuilt (record { task = task.now; change = p.0; reply = p.1 })) }
+{
+    let edits = plan(alloc, &task.command, &task.seen)?;
+    let mut fresh = task.fresh;
+    let change = change_of(alloc, task.writes.as_slice(), &edits, &mut fresh)?;
+    let Edits { reply, .. } = edits;
+    Ok((change, reply))
+}

@@ -1,0 +1,18 @@
+//! The change that a command makes of the cells of its task, where its edits lie in leaves (docs/volume.md,
+//! "Building").
+#![tactic(auto)]
+
+mod building;
+mod built;
+mod examples;
+mod laws;
+mod task;
+
+pub use building::change_of;
+pub use built::{Built, build};
+pub use examples::fresh_volumes_can_be_built_on;
+pub use laws::{
+    built_changes_fit, edits_are_made, reach_suffices_to_build, spared_extents_leave_leaves,
+    what_is_built_is_meant,
+};
+pub use task::{BuildFault, Task};
