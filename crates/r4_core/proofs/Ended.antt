@@ -130,7 +130,8 @@ module _ (t : TurnsSeen) (s : ℕ) (is : IsScript t s) where
         ∙ ap (λ (o : Option Out). numbers_in o None) out in
         absurd (cc (sym here ∙ is_n))
     | inr other ↦
-        sym (ap numbers_of (turn_other away s q next there has.0 other ∙ turn_other t s q without is has.0 other)) ∙ is_n
+        sym (ap numbers_of (turn_other away s q next there has.0 other ∙ turn_other t s q without is has.0 other))
+        ∙ is_n
   ]
 
 -- ---- a core
@@ -155,7 +156,8 @@ module _ {D : Type 0} (r : Naming) (d : State) (c : CoreSeen D) (k : IsKept r d 
           absurd (no_work v.command v.command refl v.work (cc (sym v.next ∙ st.next)))
 
   none_away : (turn_at (left c.turns s.0) s.0).out ≡ None
-  none_away = same_of c.turns s.0 (record (turn_at c.turns s.0) { transaction = None }) is (λ (x : Turn). x.out) refl s.0
+  none_away =
+      same_of c.turns s.0 (record (turn_at c.turns s.0) { transaction = None }) is (λ (x : Turn). x.out) refl s.0
       ∙ none_out
 
   abbrev trace : List Entry

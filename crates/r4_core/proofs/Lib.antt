@@ -1,6 +1,8 @@
 mod Turning
 mod Unused
 mod Carried
+mod AtStart
+mod Replayed
 mod Ended
 mod GivingBack
 mod Parting

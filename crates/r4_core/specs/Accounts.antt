@@ -1,6 +1,7 @@
 -- Group C, the accounts: what atoms take up, and what tasks may still use up (docs/space.md).
-use Rattle.std.specs.Prelude.{◌≡◌, ◌⊎◌, ◌↔◌, ℕ, ◌^◌, ◌≤◌, nat_le, nat_eq, false, true, List, [], ◌∷◌, length}
-use Rattle.std.specs.Prelude.{count_by, sum_by, Contains, slice_index_or, Option, Some, None}
+use Rattle.std.specs.Prelude.{◌≡◌, ◌⊎◌, ◌↔◌, ℕ, ◌^◌, ◌≤◌, nat_le, nat_eq, false, true, List, []}
+use Rattle.std.specs.Prelude.{◌∷◌, length, count_by, sum_by, Contains, slice_index_or}
+use Rattle.std.specs.Prelude.{Option, Some, None}
 use Rattle.std.specs.List.{IsDistinct}
 use Rattle.r4_atoms.specs.Atoms.{AtomsSeen, IsOpenAtom, account_of, owner_of}
 use Rattle.r4_base.specs.Bitmap.{bitmap_count}

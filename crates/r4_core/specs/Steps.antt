@@ -75,7 +75,8 @@ pub record Writes {D : Type 0} (c : CoreSeen D) (k : Commit) (w : CommitSeen) : 
 -- The step made the next writes of the plan, which is the same, each by one call, and answers how
 -- far that is.
 pub record IsWritten
-    {D : Type 0} (d e : State) (old new : CoreSeen D) (k : Commit) (w : CommitSeen) (stage : Stage) : Type 0
+    {D : Type 0} (d e : State) (old new : CoreSeen D) (k : Commit) (w : CommitSeen) (stage : Stage)
+    : Type 0
   where
     pub now : CommitSeen
     pub same : new ≡ written old new.dev k now
