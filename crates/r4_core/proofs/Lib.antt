@@ -3,7 +3,9 @@ mod Unused
 mod Carried
 mod AtStart
 mod Replayed
+mod Answered
 mod Ended
+mod Replied
 mod GivingBack
 mod Parting
 mod Resting

@@ -1,16 +1,20 @@
 -- What the little steps of a core change.
-use Rattle.std.specs.Prelude.{◌≡◌, ◌⊎◌, ℕ, ◌+◌, ◌-◌, ◌∷◌, ◌≤◌, Some, None}
+use Rattle.std.specs.Prelude.{◌≡◌, ◌⊎◌, ℕ, ◌+◌, ◌-◌, ◌∷◌, ◌≤◌, Option, Some, None}
 use Rattle.r4_base.specs.declared.things.TxnNo.{TxnNo}
 use Rattle.r4_buffer.specs.Changed.{in_turn, unused}
 use Rattle.r4_buffer.specs.Seen.{buffered}
 use Rattle.r4_commit.specs.Planned.{CommitSeen}
-use Rattle.r4_history.specs.Tables.{with_ended}
+use Rattle.r4_content.specs.declared.command.Command.{Command}
+use Rattle.r4_content.specs.declared.command.Command.TheVariants as asks
+use Rattle.r4_history.specs.Tables.{Stands, inside, with_ended}
 use Rattle.r4_locks.specs.Locks.{OthersAsBefore, task_at}
+use Rattle.r4_trace.specs.Job.{IsWork}
 use Rattle.r4_trace.specs.Kept.{Told}
 use Rattle.r4_trace.specs.declared.entry.Entry.{Entry}
 use Rattle.r4_trace.specs.declared.entry.Entry.TheVariants.{Broken, Ended}
-use Rattle.r4_turns.specs.Turns.{answered_one, given_back, left}
+use Rattle.r4_turns.specs.Turns.{TurnsSeen, answered_one, given_back, left, turn_at}
 use Rattle.r4_turns.specs.declared.out.Out.{Out}
+use Rattle.r4_turns.specs.declared.turn.Open.{Open}
 use Rattle.r4_outside.specs.Device.{State}
 use Rattle.r4_wander.specs.Progress.{IsNext, calls_left, stage_at}
 use Rattle.r4_wander.specs.declared.stage.Stage.{Stage}
@@ -28,6 +32,40 @@ ended c s txn = record c {
   atoms = with_ended c.atoms txn.0;
   trace = with_entry c.trace (Ended txn);
 }
+
+-- it ends because nothing else follows in its script
+abbrev pub ended_last : {D : Type 0} → CoreSeen D → (script : ℕ) → TxnNo → CoreSeen D
+ended_last c s txn = record c {
+  turns = left c.turns s;
+  atoms = with_ended c.atoms txn.0;
+  trace = with_entry c.trace (Ended txn);
+}
+
+-- The next command of a script is answered by this entry.
+abbrev pub answered : {D : Type 0} → CoreSeen D → (script : ℕ) → Entry → CoreSeen D
+answered c s e = record c {
+  turns = answered_one c.turns s;
+  trace = with_entry c.trace e;
+}
+
+-- the transaction that a refusal names: none, or one that `begin` began
+abbrev pub NamesTxn : Option Open → TxnNo → Type 0
+NamesTxn None txn = txn.0 ≡ 0
+NamesTxn (Some o) txn = o ≡ inside txn
+
+-- what is refused: work, and outside of transactions `commit`
+abbrev pub MayBeRefused : Option Open → Command → Type 0
+MayBeRefused None asks.Commit = Unit {0}
+MayBeRefused within c = IsWork c
+
+-- The next command of a script may be refused so, by itself.
+pub record IsRefusable (t : TurnsSeen) (script : ℕ) (txn : TxnNo) : Type 0 where
+  pub within : Option Open
+  pub command : Command
+  pub stands : Stands t script within (Some command)
+  pub names : NamesTxn within txn
+  pub may : MayBeRefused within command
+  pub free : (turn_at t script).out ≡ None
 
 -- A task is given back: its command is the next one again, with its numbers; it holds nothing, and
 -- keeps no cell in memory. All else is as it was.

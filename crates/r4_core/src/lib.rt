@@ -1,12 +1,14 @@
 //! The core of a volume: a device, and the parts that a run keeps beside it (docs/core.md). Here is
-//! its form, with what holds of every core, its opening, and three of its little steps.
+//! its form, with what holds of every core, its opening, and seven of its little steps.
 #![tactic(auto)]
 
+mod answering;
 mod committing;
 mod core_state;
 mod ending;
 mod fault;
 mod giving_back;
+mod leaving;
 mod opening;
 mod parts;
 mod starting;
