@@ -1,7 +1,7 @@
 -- An entry is told that changes no cell, and turns and transactions go on with it: what holds of a core holds still. So
 -- it is where a command is answered while no task of its script is out, and where a transaction ends.
 use Rattle.std.proofs.Common.{◌≡◌, inl, inr, ℕ, ◌+◌, ◌-◌, ◌≤◌, ◌==◌, false, List, ◌∷◌, Option, Some, None}
-use Rattle.std.proofs.Common.{refl, sym, ◌∙◌, ap, subst, arith}
+use Rattle.std.proofs.Common.{length, refl, sym, ◌∙◌, ap, subst, arith}
 use Rattle.std.specs.Prelude.{IsSome, Ok, slice_index_or, sum_by}
 use Rattle.std.specs.Option.{option_map}
 use Rattle.std.proofs.lemmas.Bool.{cases_eq}
@@ -175,7 +175,8 @@ module _ (x : Content) (a : ℕ) (trace : List Entry) where
 module _ {D : Type 0} (r : Naming) (d : State) (c : CoreSeen D) (k : IsKept r d c) (turns : TurnsSeen)
     (txns : List TxnSeen) (entries : Told) (on : TurnsGoOn c.turns turns)
     (owners : (i : ℕ) → owner_of (record c.atoms { txns = txns }) i ≡ owner_of c.atoms i)
-    (opens : (a : ℕ) → IsOpenAtom (record c.atoms { txns = txns }) a → IsOpenAtom c.atoms a) where
+    (opens : (a : ℕ) → IsOpenAtom (record c.atoms { txns = txns }) a → IsOpenAtom c.atoms a)
+    (as_many : length txns ≡ length c.atoms.txns) where
   abbrev gone_on : CoreSeen D
   gone_on = record c {
     turns = turns;
@@ -205,6 +206,8 @@ module _ {D : Type 0} (r : Naming) (d : State) (c : CoreSeen D) (k : IsKept r d 
         covered = g.covered;
         same = λ a opened. g.same a (opens a.0 opened);
         counted = λ a opened. counts_after a _ _ (g.counted a (opens a opened));
+        unknown = λ a none. g.unknown a (λ was.
+            (let le = was.within in none (record { some = was.some; within = omega (arith, le, as_many) })));
         sealed = g.sealed;
         rests = g.rests;
         room_to_capture = omega (arith, cells, g.room_to_capture);
@@ -250,6 +253,7 @@ module _ {D : Type 0} (r : Naming) (d : State) (c : CoreSeen D) (k : IsKept r d 
     (same_job : turns.job ≡ c.turns.job)
     (owners : (i : ℕ) → owner_of (record c.atoms { txns = txns }) i ≡ owner_of c.atoms i)
     (opens : (a : ℕ) → IsOpenAtom (record c.atoms { txns = txns }) a → IsOpenAtom c.atoms a)
+    (as_many : length txns ≡ length c.atoms.txns)
     (tells : (o : Option Beginning) → BeginsWith (names_in r) d.blocks o
     → IsTold (commands greatest_size) (option_map start_of o) d.clock
     (record (tables_of c) { turns = turns; atoms = record c.atoms { txns = txns } }) (e ∷ c.trace.entries))
@@ -329,9 +333,9 @@ module _ {D : Type 0} (r : Naming) (d : State) (c : CoreSeen D) (k : IsKept r d 
   keeps_after = record {
     history = history_after;
     tables = record { tasks = tasks; ordered = ordered_after };
-    accounts = accounts_after r d c k turns txns (with_entry c.trace e) on owners opens;
-    cells = cells_after r d c k turns txns (with_entry c.trace e) on owners opens;
-    tasks = tasks_after r d c k turns txns (with_entry c.trace e) on owners opens;
+    accounts = accounts_after r d c k turns txns (with_entry c.trace e) on owners opens as_many;
+    cells = cells_after r d c k turns txns (with_entry c.trace e) on owners opens as_many;
+    tasks = tasks_after r d c k turns txns (with_entry c.trace e) on owners opens as_many;
     lender = k.lender;
     story = λ b named. record {
       story = now b named;
@@ -352,7 +356,7 @@ module _ {D : Type 0} (r : Naming) (d : State) (c : CoreSeen D) (k : IsKept r d 
   keeps_answer =
       let trace = c.trace.entries in
       keeps_after r d c k (answered_one c.turns s.0) c.atoms.txns e quiet
-      (answered_goes_on c.turns s.0 is free) refl (λ i. refl) (λ a opened. opened) tells
+      (answered_goes_on c.turns s.0 is free) refl (λ i. refl) (λ a opened. opened) refl tells
       (drawn_entry k.history.first (answered_one c.turns s.0) c.numbers.next_oid trace
       (drawn_answered k.history.first c.turns c.numbers.next_oid trace k.history.drawn s.0 is free) e plain)
       (tasks_answered (tables_of c) c.locks k.tables.tasks s.0 is free) room

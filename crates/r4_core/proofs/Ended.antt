@@ -1,7 +1,7 @@
 -- A transaction ends, by the `end` that is its script's next command or because its script has no further one: what holds
 -- of a core holds still.
 use Rattle.std.proofs.Common.{◌≡◌, ℕ, ◌+◌, ◌-◌, ◌≤◌, true, false, cond, List, Option, Some, None}
-use Rattle.std.proofs.Common.{refl, sym, ◌∙◌, ap, subst, arith}
+use Rattle.std.proofs.Common.{length, refl, sym, ◌∙◌, ap, subst, arith}
 use Rattle.std.specs.Option.{option_map}
 use Rattle.std.proofs.lemmas.List.{length-set}
 use Rattle.r4_atoms.specs.Atoms.{AtomsSeen, IsBegun as IsTxn, IsOpenAtom, TxnSeen, atom_of, is_cleaned, no_txn}
@@ -49,6 +49,9 @@ module _ (s : AtomsSeen) (t : ℕ) where
       by : (o : Option ℕ) → owner_by (with_ended s t) o ≡ owner_by s o
       by None = refl
       by (Some x) = ap (λ (a : ℕ). cond (is_cleaned s a) None (Some a)) (same_atom x)
+
+  pub same_count : length (with_ended s t).txns ≡ length s.txns
+  same_count = length-set s.txns (t - 1) (record (txn_of s t) { is_open = false })
 
   pub open_before : (a : ℕ) → IsOpenAtom (with_ended s t) a → IsOpenAtom s a
   open_before a is = record {
@@ -116,7 +119,7 @@ module _ {D : Type 0} (r : Naming) (d : State) (c : CoreSeen D) (k : IsKept r d 
         keeps_after r d c k (answered_one (left c.turns s.0) s.0) (with_ended c.atoms u.0).txns (Ended u) tt
         (goes_on_twice c.turns (left c.turns s.0) (answered_one (left c.turns s.0) s.0) (left_goes_on c.turns s.0 is)
         (answered_goes_on (left c.turns s.0) s.0 (there c.turns s.0 is) none)) refl
-        (same_owner c.atoms u.0) (open_before c.atoms u.0)
+        (same_owner c.atoms u.0) (open_before c.atoms u.0) (same_count c.atoms u.0)
         (λ o named. told_end (commands greatest_size) (option_map start_of o) d.clock (tables_of c) trace
         (k.history.told o named) u s sound st)
         (drawn_entry k.history.first (answered_one (left c.turns s.0) s.0) c.numbers.next_oid trace
@@ -159,7 +162,7 @@ module _ {D : Type 0} (r : Naming) (d : State) (c : CoreSeen D) (k : IsKept r d 
     keeps_last : IsKept r d (ended_last c s.0 u)
     keeps_last =
         keeps_after r d c k (left c.turns s.0) (with_ended c.atoms u.0).txns (Ended u) tt
-        (left_goes_on c.turns s.0 st.is_script) refl (same_owner c.atoms u.0) (open_before c.atoms u.0)
+        (left_goes_on c.turns s.0 st.is_script) refl (same_owner c.atoms u.0) (open_before c.atoms u.0) (same_count c.atoms u.0)
         (λ o named. told_last (commands greatest_size) (option_map start_of o) d.clock (tables_of c) trace
         (k.history.told o named) u s sound st)
         (drawn_entry k.history.first (left c.turns s.0) c.numbers.next_oid trace

@@ -6,6 +6,7 @@ mod Replayed
 mod Answered
 mod Ended
 mod Replied
+mod Begun
 mod GivingBack
 mod Parting
 mod Resting

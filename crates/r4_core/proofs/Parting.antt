@@ -281,6 +281,7 @@ module _ {D : Type 0} (disk : FitsOnDisk) (r : Naming) (d e : State) (x : CoreSe
           covered = g.covered;
           same = g.same;
           counted = g.counted;
+          unknown = g.unknown;
           sealed = g.sealed;
           rests = λ sound none. absurd (cc none);
           room_to_capture = g.room_to_capture;
@@ -406,6 +407,7 @@ module _ {D : Type 0} (disk : FitsOnDisk) (r : Naming) (d e : State) (x : CoreSe
         covered = g.covered;
         same = g.same;
         counted = g.counted;
+        unknown = g.unknown;
         sealed = λ none. absurd (cc none);
         rests = λ none at. absurd (cc none);
         room_to_capture = g.room_to_capture;

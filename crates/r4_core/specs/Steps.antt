@@ -1,18 +1,20 @@
 -- What the little steps of a core change.
-use Rattle.std.specs.Prelude.{◌≡◌, ◌⊎◌, ℕ, ◌+◌, ◌-◌, ◌∷◌, ◌≤◌, Option, Some, None}
+use Rattle.std.specs.Prelude.{◌≡◌, ◌⊎◌, ℕ, ◌+◌, ◌-◌, ◌∷◌, ◌≤◌, length, Option, Some, None}
+use Rattle.r4_atoms.specs.Atoms.{owner_of}
+use Rattle.r4_base.specs.declared.things.ScriptNo.{ScriptNo}
 use Rattle.r4_base.specs.declared.things.TxnNo.{TxnNo}
 use Rattle.r4_buffer.specs.Changed.{in_turn, unused}
 use Rattle.r4_buffer.specs.Seen.{buffered}
 use Rattle.r4_commit.specs.Planned.{CommitSeen}
 use Rattle.r4_content.specs.declared.command.Command.{Command}
 use Rattle.r4_content.specs.declared.command.Command.TheVariants as asks
-use Rattle.r4_history.specs.Tables.{Stands, inside, with_ended}
+use Rattle.r4_history.specs.Tables.{Begins, Stands, inside, with_ended}
 use Rattle.r4_locks.specs.Locks.{OthersAsBefore, task_at}
 use Rattle.r4_trace.specs.Job.{IsWork}
 use Rattle.r4_trace.specs.Kept.{Told}
 use Rattle.r4_trace.specs.declared.entry.Entry.{Entry}
-use Rattle.r4_trace.specs.declared.entry.Entry.TheVariants.{Broken, Ended}
-use Rattle.r4_turns.specs.Turns.{TurnsSeen, answered_one, given_back, left, turn_at}
+use Rattle.r4_trace.specs.declared.entry.Entry.TheVariants.{Begin, Broken, Ended}
+use Rattle.r4_turns.specs.Turns.{TurnsSeen, answered_one, entered, given_back, left, turn_at}
 use Rattle.r4_turns.specs.declared.out.Out.{Out}
 use Rattle.r4_turns.specs.declared.turn.Open.{Open}
 use Rattle.r4_outside.specs.Device.{State}
@@ -40,6 +42,20 @@ ended_last c s txn = record c {
   atoms = with_ended c.atoms txn.0;
   trace = with_entry c.trace (Ended txn);
 }
+
+-- A transaction begins by the `begin` that is its script's next command, alone in its atom, with the
+-- next number; all else is as it was.
+pub record HasBegun {D : Type 0} (old new : CoreSeen D) (script : ScriptNo) (txn : TxnNo) : Type 0
+  where
+    pub number : txn.0 ≡ length old.atoms.txns + 1
+    pub begins : Begins old.atoms new.atoms script.0
+    pub owners : (n : ℕ) → owner_of new.atoms n ≡ owner_of old.atoms n
+    pub room : new.atoms.spare ≡ old.atoms.spare
+    pub same : new ≡ record old {
+      turns = answered_one (entered old.turns script.0 (inside txn)) script.0;
+      atoms = new.atoms;
+      trace = with_entry old.trace (Begin txn script);
+    }
 
 -- The next command of a script is answered by this entry.
 abbrev pub answered : {D : Type 0} → CoreSeen D → (script : ℕ) → Entry → CoreSeen D

@@ -1,8 +1,9 @@
 //! The core of a volume: a device, and the parts that a run keeps beside it (docs/core.md). Here is
-//! its form, with what holds of every core, its opening, and seven of its little steps.
+//! its form, with what holds of every core, its opening, and eight of its little steps.
 #![tactic(auto)]
 
 mod answering;
+mod beginning;
 mod committing;
 mod core_state;
 mod ending;
