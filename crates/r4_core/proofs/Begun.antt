@@ -356,7 +356,8 @@ module _ {D : Type 0} (r : Naming) (d : State) (c : CoreSeen D) (k : IsKept r d 
       durable_begun t is crashes =
           let g = had.durable t is crashes in
           record {
-            each = safe_push (means beg) (commands greatest_size) beg.content t d trace (Begin u s) legal_begun tt g.each;
+            each = safe_push (means beg) (commands greatest_size) beg.content t d trace (Begin u s) legal_begun tt
+                g.each;
             now = g.now;
           }
 

@@ -1,5 +1,5 @@
--- A transaction ends, by the `end` that is its script's next command or because its script has no further one: what holds
--- of a core holds still.
+-- A transaction ends, by the `end` that is its script's next command or because its script has no further one: what
+-- holds of a core holds still.
 use Rattle.std.proofs.Common.{◌≡◌, ℕ, ◌+◌, ◌-◌, ◌≤◌, true, false, cond, List, Option, Some, None}
 use Rattle.std.proofs.Common.{length, refl, sym, ◌∙◌, ap, subst, arith}
 use Rattle.std.specs.Option.{option_map}
@@ -162,7 +162,8 @@ module _ {D : Type 0} (r : Naming) (d : State) (c : CoreSeen D) (k : IsKept r d 
     keeps_last : IsKept r d (ended_last c s.0 u)
     keeps_last =
         keeps_after r d c k (left c.turns s.0) (with_ended c.atoms u.0).txns (Ended u) tt
-        (left_goes_on c.turns s.0 st.is_script) refl (same_owner c.atoms u.0) (open_before c.atoms u.0) (same_count c.atoms u.0)
+        (left_goes_on c.turns s.0 st.is_script) refl (same_owner c.atoms u.0) (open_before c.atoms u.0)
+        (same_count c.atoms u.0)
         (λ o named. told_last (commands greatest_size) (option_map start_of o) d.clock (tables_of c) trace
         (k.history.told o named) u s sound st)
         (drawn_entry k.history.first (left c.turns s.0) c.numbers.next_oid trace

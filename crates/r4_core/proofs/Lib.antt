@@ -7,6 +7,7 @@ mod Answered
 mod Ended
 mod Replied
 mod Begun
+mod Pushed
 mod GivingBack
 mod Parting
 mod Resting

@@ -96,8 +96,8 @@ module _ {D : Type 0} (r : Naming) (d : State) (c : CoreSeen D) (k : IsKept r d 
         → IsKept r d (record c { turns = turns; trace = entries })
     keeps_refused can room turns index entries are_turns is_index are_entries =
         keeps_answered r d c k s (Refused txn s i reply) can.stands.is_script can.free tt tt
-        (λ start named. tells_refused start named can.within can.command can.stands can.names can.may) room turns entries
-        are_turns (are_entries ∙ ap (λ (n : ℕ). with_entry c.trace (Refused txn s n reply)) is_index)
+        (λ start named. tells_refused start named can.within can.command can.stands can.names can.may) room turns
+        entries are_turns (are_entries ∙ ap (λ (n : ℕ). with_entry c.trace (Refused txn s n reply)) is_index)
 
     pub may_refuse : IsRefusable c.turns s.0 txn → IsScript c.turns s.0 × HasNext c.turns s.0
     may_refuse can = (can.stands.is_script, next_there c.turns s.0 can.command can.stands.next)

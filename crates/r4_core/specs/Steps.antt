@@ -15,6 +15,7 @@ use Rattle.r4_trace.specs.Kept.{Told}
 use Rattle.r4_trace.specs.declared.entry.Entry.{Entry}
 use Rattle.r4_trace.specs.declared.entry.Entry.TheVariants.{Begin, Broken, Ended}
 use Rattle.r4_turns.specs.Turns.{TurnsSeen, answered_one, entered, given_back, left, turn_at}
+use Rattle.r4_turns.specs.Turns.{with_command}
 use Rattle.r4_turns.specs.declared.out.Out.{Out}
 use Rattle.r4_turns.specs.declared.turn.Open.{Open}
 use Rattle.r4_outside.specs.Device.{State}
@@ -43,8 +44,8 @@ ended_last c s txn = record c {
   trace = with_entry c.trace (Ended txn);
 }
 
--- A transaction begins by the `begin` that is its script's next command, alone in its atom, with the
--- next number; all else is as it was.
+-- A transaction begins by the `begin` that is its script's next command, alone in its atom, with
+-- the next number; all else is as it was.
 pub record HasBegun {D : Type 0} (old new : CoreSeen D) (script : ScriptNo) (txn : TxnNo) : Type 0
   where
     pub number : txn.0 ≡ length old.atoms.txns + 1
@@ -82,6 +83,23 @@ pub record IsRefusable (t : TurnsSeen) (script : ℕ) (txn : TxnNo) : Type 0 whe
   pub names : NamesTxn within txn
   pub may : MayBeRefused within command
   pub free : (turn_at t script).out ≡ None
+
+-- There is room for so many entries.
+abbrev pub with_room : {D : Type 0} → CoreSeen D → (spare : ℕ) → CoreSeen D
+with_room c spare = record c { trace = record c.trace { spare = spare } }
+
+-- There is more room for entries, or as much; all else is as it was.
+pub record IsRoomier {D : Type 0} (old new : CoreSeen D) : Type 0 where
+  pub spare : ℕ
+  pub more : old.trace.spare ≤ spare
+  pub same : new ≡ with_room old spare
+
+-- A command comes to the end of a script, with room for one entry more.
+abbrev pub pushed : {D : Type 0} → CoreSeen D → (script : ℕ) → Command → CoreSeen D
+pushed c s command = record c {
+  turns = with_command c.turns s command;
+  trace = record c.trace { spare = c.trace.spare + 1 };
+}
 
 -- A task is given back: its command is the next one again, with its numbers; it holds nothing, and
 -- keeps no cell in memory. All else is as it was.

@@ -53,7 +53,8 @@ impl<D: Device, R: Run> Core<D, R> {
         });
     }
 
-    // After a call of the device failed, the next command of a script is refused, in no transaction.
+    // After a call of the device failed, the next command of a script is refused, in no
+    // transaction.
     pub(crate) fn reopen(&mut self, script: ScriptNo, failed: u64)
         requires failed { self.old.broken ≡ Some failed }
         requires script { IsScript self.old.turns script.0 }

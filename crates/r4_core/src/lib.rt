@@ -12,6 +12,7 @@ mod giving_back;
 mod leaving;
 mod opening;
 mod parts;
+mod pushing;
 mod starting;
 
 pub use core_state::{Core, goes_to_threads};
