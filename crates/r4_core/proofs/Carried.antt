@@ -40,11 +40,16 @@ commits_nothing e h = tt
 
 run_told : (limit : ℕ) (start : Start) (job : Option Asked) (trace : List Entry) (e : Entry) → ChangesNoCell e
     → IsLawfulRun limit start job trace → IsLawfulRun limit start job (e ∷ trace)
-run_told limit start job trace (Begin txn script) q h = record { lawful = h.lawful; room = h.room; paths = h.paths; ids = h.ids }
-run_told limit start job trace (Refused txn script i r) q h = record { lawful = h.lawful; room = h.room; paths = h.paths; ids = h.ids }
-run_told limit start job trace (Ended txn) q h = record { lawful = h.lawful; room = h.room; paths = h.paths; ids = h.ids }
-run_told limit start job trace (Acked script txn clock) q h = record { lawful = h.lawful; room = h.room; paths = h.paths; ids = h.ids }
-run_told limit start job trace (Broken clock faults) q h = record { lawful = h.lawful; room = h.room; paths = h.paths; ids = h.ids }
+run_told limit start job trace (Begin txn script) q h =
+    record { lawful = h.lawful; room = h.room; paths = h.paths; ids = h.ids }
+run_told limit start job trace (Refused txn script i r) q h =
+    record { lawful = h.lawful; room = h.room; paths = h.paths; ids = h.ids }
+run_told limit start job trace (Ended txn) q h =
+    record { lawful = h.lawful; room = h.room; paths = h.paths; ids = h.ids }
+run_told limit start job trace (Acked script txn clock) q h =
+    record { lawful = h.lawful; room = h.room; paths = h.paths; ids = h.ids }
+run_told limit start job trace (Broken clock faults) q h =
+    record { lawful = h.lawful; room = h.room; paths = h.paths; ids = h.ids }
 run_told limit start job trace (Fuse a b n) q h = absurd q
 run_told limit start job trace (Done txn script i c r) q h = absurd q
 run_told limit start job trace (Sealed atom) q h = absurd q

@@ -1,7 +1,13 @@
 mod Turning
 mod Unused
 mod Carried
+mod AtStart
+mod Replayed
+mod Answered
 mod Ended
+mod Replied
+mod Begun
+mod Pushed
 mod GivingBack
 mod Parting
 mod Resting

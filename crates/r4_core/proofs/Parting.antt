@@ -154,8 +154,8 @@ two_or_more n (inl none) le = absurd (omega (arith, none, le))
 two_or_more n (inr is) le = is
 
 module _ (disk : FitsOnDisk) (b : Beginning) (job : Option Asked) (c : Session) (s : Space) (vol : Volume)
-    (d e : State) (k : AtomNo) (w : CommitSeen) (goes : Goes d e) (quiet : IsQuietPart w.work.part) (settles : Settles d e w.work)
-    (size : b.blocks ≡ d.blocks) (time : latest c.trace ≤ d.clock) where
+    (d e : State) (k : AtomNo) (w : CommitSeen) (goes : Goes d e) (quiet : IsQuietPart w.work.part)
+    (settles : Settles d e w.work) (size : b.blocks ≡ d.blocks) (time : latest c.trace ≤ d.clock) where
   sized : e.blocks ≡ b.blocks
   sized = goes.blocks ∙ sym size
 
@@ -281,6 +281,7 @@ module _ {D : Type 0} (disk : FitsOnDisk) (r : Naming) (d e : State) (x : CoreSe
           covered = g.covered;
           same = g.same;
           counted = g.counted;
+          unknown = g.unknown;
           sealed = g.sealed;
           rests = λ sound none. absurd (cc none);
           room_to_capture = g.room_to_capture;
@@ -337,7 +338,8 @@ module _ {D : Type 0} (disk : FitsOnDisk) (r : Naming) (d e : State) (x : CoreSe
           cells = m.cells;
           clean = λ sound i n at none.
               (let had_it = m.clean refl i n at none in (
-                subst (λ (block : List ℕ). IsCellOf (blocks_of x) block n) (sym (same_read i m.reads had_it.1)) had_it.0,
+                subst (λ (block : List ℕ). IsCellOf (blocks_of x) block n)
+                    (sym (same_read i m.reads had_it.1)) had_it.0,
                 λ p target. had_it.1 p (subst (λ (plan : Parts). IsTarget (part plan p) i) steps.plan target),
               ));
           reach = m.reach;
@@ -405,6 +407,7 @@ module _ {D : Type 0} (disk : FitsOnDisk) (r : Naming) (d e : State) (x : CoreSe
         covered = g.covered;
         same = g.same;
         counted = g.counted;
+        unknown = g.unknown;
         sealed = λ none. absurd (cc none);
         rests = λ none at. absurd (cc none);
         room_to_capture = g.room_to_capture;
@@ -503,7 +506,8 @@ module _ {D : Type 0} (disk : FitsOnDisk) (r : Naming) (d e : State) (c : CoreSe
       → faults ≡ e.faults → entries ≡ with_entry c.trace (Broken clock faults)
       → IsKept r e (record c { dev = dev; commit = commit; broken = Some clock; trace = entries })
   keeps_failed commit clock faults entries is_none is_clock are_faults is_told =
-      subst (λ (o : Option Commit). IsKept r e (record c { dev = dev; commit = o; broken = Some clock; trace = entries }))
+      subst (λ (o : Option Commit).
+      IsKept r e (record c { dev = dev; commit = o; broken = Some clock; trace = entries }))
       (sym is_none)
       (subst (λ (l : Told). IsKept r e (record c { dev = dev; commit = None; broken = Some clock; trace = l }))
       (sym is_told)

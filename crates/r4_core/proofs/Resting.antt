@@ -40,6 +40,7 @@ module _ {D : Type 0} (r : Naming) (d : State) (c : CoreSeen D) (k : IsKept r d 
   has_content =
       let rests = rest.means.rests in
       subst (HasVolume d.blocks d.seen) made
-      (subst (λ (n : ℕ). HasVolume n d.seen (made_by greatest_size h.story.session (committed_in h.story.session.trace)))
+      (subst (λ (n : ℕ).
+      HasVolume n d.seen (made_by greatest_size h.story.session (committed_in h.story.session.trace)))
       named.size
       (record { whole = rests.whole; chain = []; log = rests.log; content = rests.has.content }))

@@ -50,10 +50,12 @@ one_fewer (Some e) = refl
 
 pub unused_like : (ids : List NodeId) (i : ℕ) (o : Standing) → IsLike o (in_turn unused ids i o)
 unused_like [] i o = like_itself o
-unused_like (n ∷ ids) i o = like_on o (unused n i o) (in_turn unused ids i (unused n i o)) (elim (cases_Bool (n.0 == i)) [
-  | inl same ↦ subst (IsLike o) (sym (cond-true (n.0 == i) (option_map one_less o) o same)) (one_like o)
-  | inr not ↦ subst (IsLike o) (sym (cond-false (n.0 == i) (option_map one_less o) o not)) (like_itself o)
-]) (unused_like ids i (unused n i o))
+unused_like (n ∷ ids) i o =
+    let one : IsLike o (unused n i o) = elim (cases_Bool (n.0 == i)) [
+      | inl same ↦ subst (IsLike o) (sym (cond-true (n.0 == i) (option_map one_less o) o same)) (one_like o)
+      | inr not ↦ subst (IsLike o) (sym (cond-false (n.0 == i) (option_map one_less o) o not)) (like_itself o)
+    ] in
+    like_on o (unused n i o) (in_turn unused ids i (unused n i o)) one (unused_like ids i (unused n i o))
 
 pub unused_fewer : (ids : List NodeId) (i : ℕ) (o : Standing)
     → uses_of (in_turn unused ids i o) ≤ uses_of o - count_by (λ (n : NodeId). n.0 == i) ids

@@ -1,12 +1,13 @@
 -- Group C, the accounts: what atoms take up, and what tasks may still use up (docs/space.md).
-use Rattle.std.specs.Prelude.{◌≡◌, ◌⊎◌, ◌↔◌, ℕ, ◌^◌, ◌≤◌, nat_le, nat_eq, false, true, List, [], ◌∷◌, length}
-use Rattle.std.specs.Prelude.{count_by, sum_by, Contains, slice_index_or, Option, Some, None}
+use Rattle.std.specs.Prelude.{◌≡◌, ◌⊎◌, ◌↔◌, ℕ, ◌^◌, ◌≤◌, nat_le, nat_eq, false, true, List, []}
+use Rattle.std.specs.Prelude.{◌∷◌, length, count_by, sum_by, Contains, slice_index_or}
+use Rattle.std.specs.Prelude.{Option, Some, None}
 use Rattle.std.specs.List.{IsDistinct}
-use Rattle.r4_atoms.specs.Atoms.{AtomsSeen, IsOpenAtom, account_of, owner_of}
+use Rattle.r4_atoms.specs.Atoms.{AtomsSeen, IsBegun, IsOpenAtom, account_of, owner_of}
 use Rattle.r4_base.specs.Bitmap.{bitmap_count}
 use Rattle.r4_base.specs.declared.things.AtomNo.{AtomNo}
 use Rattle.r4_buffer.specs.Seen.{BufferSeen, buffered, is_dirty_by}
-use Rattle.r4_space.specs.Accounts.{account_at, dues}
+use Rattle.r4_space.specs.Accounts.{account_at, dues, no_account}
 use Rattle.r4_space.specs.Space.{unused_count}
 use Rattle.r4_turns.specs.declared.out.Out.{Out}
 use Rattle.r4_turns.specs.declared.turn.Turn.{Turn}
@@ -59,6 +60,9 @@ pub record AreAccounts {D : Type 0} (c : CoreSeen D) : Type 0 where
   -- and these are those of its cells in memory
   pub counted : (a : ℕ) → IsOpenAtom c.atoms a
       → CountsCells c.buffer c.atoms a (account_of c.atoms a).cells (account_of c.atoms a).fresh
+  -- an atom that was not begun has no account in the space
+  pub unknown : (a : AtomNo) → (IsBegun c.atoms a.0 → ⊥)
+      → account_at c.space.atoms a ≡ no_account a
   -- before a call of the device fails, the space knows of no sealed atom but the one under way
   pub sealed : c.broken ≡ None → MaySeal c.commit c.space.sealed
   -- and where none is under way, no block is placed or held

@@ -1,5 +1,6 @@
 -- Group D, the cells in memory, on every image (docs/buffer.md).
-use Rattle.std.specs.Prelude.{◌≡◌, ◌⊎◌, ◌↔◌, ◌++◌, ℕ, ◌^◌, ◌<◌, ◌≤◌, true, false, Contains, Option, Some, None, IsSome}
+use Rattle.std.specs.Prelude.{◌≡◌, ◌⊎◌, ◌↔◌, ◌++◌, ℕ, ◌^◌, ◌<◌, ◌≤◌, true, false, Contains}
+use Rattle.std.specs.Prelude.{Option, Some, None, IsSome}
 use Rattle.r4_atoms.specs.Atoms.{owner_of}
 use Rattle.r4_base.specs.Bitmap.{is_fixed}
 use Rattle.r4_base.specs.Image.{Image}

@@ -1,5 +1,5 @@
--- Group G, what a crash leaves, in a run that names its beginning and the clock of then, on a device
--- that tells it (docs/durable.md).
+-- Group G, what a crash leaves, in a run that names its beginning and the clock of then, on a
+-- device that tells it (docs/durable.md).
 use Rattle.std.specs.Prelude.{ℕ, Option, Some, None}
 use Rattle.r4_commit.specs.Planned.{CommitSeen}
 use Rattle.r4_content.specs.Locality.{commands}
@@ -24,7 +24,8 @@ LeavesNow d flush (Some clock) commit = Unit {0}
 LeavesNow d flush None None = IsQuiet d
 LeavesNow d flush None (Some k) = StandsAt d flush k.work
 
-pub record IsDurable {D : Type 0} (b : Beginning) (t : ℕ) (d : State) (c : CoreSeen D) (story : Story) : Type 0
+pub record IsDurable {D : Type 0}
+    (b : Beginning) (t : ℕ) (d : State) (c : CoreSeen D) (story : Story) : Type 0
   where
     -- from the clock t on a crash left what some number of atoms made, with all that were committed
     pub each : IsSafeFrom (means b) (commands greatest_size) b.content t c.trace.entries d

@@ -1,6 +1,6 @@
 -- Group A, the history: the trace, and what the tables tell of it (docs/histories.md).
-use Rattle.std.specs.Prelude.{◌≡◌, ℕ, ◌+◌, ◌≤◌, Bool, true, false, List, [], ◌∷◌, drop, count_by, Option, Some, None}
-use Rattle.std.specs.Prelude.{Ok}
+use Rattle.std.specs.Prelude.{◌≡◌, ℕ, ◌+◌, ◌≤◌, Bool, true, false, List, [], ◌∷◌, drop, count_by}
+use Rattle.std.specs.Prelude.{Option, Some, None, Ok}
 use Rattle.std.specs.Option.{option_map}
 use Rattle.r4_content.specs.Locality.{commands}
 use Rattle.r4_content.specs.Meaning.{greatest_size}
@@ -31,7 +31,8 @@ owed_for_task (Some out) = 2
 
 -- and each `commit` that is not answered yet needs one
 abbrev pub owed_by : Turn → Script → ℕ
-owed_by turn script = count_by is_commit (drop turn.answered script.commands) + owed_for_task turn.out
+owed_by turn script =
+    count_by is_commit (drop turn.answered script.commands) + owed_for_task turn.out
 
 abbrev pub owed_in : List Turn → List Script → ℕ
 owed_in [] scripts = 0
@@ -52,7 +53,8 @@ pub record IsHistory {D : Type 0} (r : Naming) (d : State) (c : CoreSeen D) : Ty
   -- the trace is legal for the job as it stands now, whatever volume the run names, and tells what
   -- the tables say; no clock in it is above the device's
   pub told : (o : Option Beginning) → BeginsWith (names_in r) d.blocks o
-      → IsTold (commands greatest_size) (option_map start_of o) d.clock (tables_of c) c.trace.entries
+      → IsTold (commands greatest_size) (option_map start_of o) d.clock (tables_of c)
+      c.trace.entries
   -- the job is that of the text, where the run names one
   pub job : (text : List ℕ) → r.scripts ≡ Some text → job_of text ≡ Ok c.turns.job
   -- each id is drawn once, from the first one on, which is that of the image that the run names

@@ -22,7 +22,8 @@ use Rattle.r4_core.specs.TasksOut.{AreOut}
 use Rattle.r4_core.specs.View.{CoreSeen}
 
 -- what is known of a run that began with this
-pub record HasStory {D : Type 0} (r : Naming) (b : Beginning) (d : State) (c : CoreSeen D) : Type 0 where
+pub record HasStory {D : Type 0} (r : Naming) (b : Beginning) (d : State) (c : CoreSeen D)
+    : Type 0 where
   pub story : Story
   pub means : HasMeaning b (job_named r.scripts) d c story
   pub durable : (t : ℕ) → r.clock ≡ Some t → TellsCrashes d → IsDurable b t d c story

@@ -10,3 +10,4 @@ pub mod Meaning
 pub mod Durable
 pub mod Kept
 pub mod Steps
+pub mod Opening

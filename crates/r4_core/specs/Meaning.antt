@@ -1,6 +1,6 @@
 -- Group F, what the cells mean, in a run that names an image with a volume (docs/durable.md).
-use Rattle.std.specs.Prelude.{◌≡◌, ◌++◌, ℕ, ◌<◌, ◌≤◌, ◌==◌, true, if◌then◌else◌, Contains, Option, Some, None, IsSome}
-use Rattle.std.specs.Prelude.{List, [], Ok}
+use Rattle.std.specs.Prelude.{◌≡◌, ◌++◌, ℕ, ◌<◌, ◌≤◌, ◌==◌, true, if◌then◌else◌, Contains, Option}
+use Rattle.std.specs.Prelude.{Some, None, IsSome, List, [], Ok}
 use Rattle.r4_atoms.specs.Atoms.{AtomsSeen, IsOpenAtom, account_of, is_sealed, owner_of}
 use Rattle.r4_base.specs.Cell.{IsCellOf}
 use Rattle.r4_base.specs.Chain.{committed as head_named}
@@ -50,7 +50,8 @@ if_open s (Some a) = if is_sealed s a then None else Some a
 -- ---- while no commit is under way
 
 -- All is as at rest, with the superblock of the core, and the head that its journal header names.
-pub record IsAtRest (b : Beginning) (job : Option Asked) (c : Session) (s : Space) (v : Volume) (d : State)
+pub record IsAtRest
+    (b : Beginning) (job : Option Asked) (c : Session) (s : Space) (v : Volume) (d : State)
     : Type 0 where
   pub means : MeansAtRest greatest_size b job c s d.seen
   pub super40 : super_of b.blocks (block_at d.seen SUPER_BLOCK.0) ≡ Ok v.super40
@@ -98,8 +99,8 @@ pub record IsFlushing
 -- ---- while an atom is sealed that owns no cell
 
 pub record IsSealedEmpty
-    (b : Beginning) (job : Option Asked) (c : Session) (s : Space) (v : Volume) (d : State) (a : AtomNo)
-    : Type 0 where
+    (b : Beginning) (job : Option Asked) (c : Session) (s : Space) (v : Volume) (d : State)
+    (a : AtomNo) : Type 0 where
   pub before : Session
   pub space : Space
   pub more : List Entry
@@ -138,7 +139,8 @@ Spares i (Some k) = SparesIn i k.work
 
 -- ---- the group
 
-pub record HasMeaning {D : Type 0} (b : Beginning) (job : Option Asked) (d : State) (c : CoreSeen D) (story : Story)
+pub record HasMeaning {D : Type 0}
+    (b : Beginning) (job : Option Asked) (d : State) (c : CoreSeen D) (story : Story)
     : Type 0 where
   -- the device tells what reading gives
   pub reads : TellsReads d

@@ -1,16 +1,23 @@
 -- What the little steps of a core change.
-use Rattle.std.specs.Prelude.{◌≡◌, ◌⊎◌, ℕ, ◌+◌, ◌-◌, ◌∷◌, ◌≤◌, Some, None}
+use Rattle.std.specs.Prelude.{◌≡◌, ◌⊎◌, ℕ, ◌+◌, ◌-◌, ◌∷◌, ◌≤◌, length, Option, Some, None}
+use Rattle.r4_atoms.specs.Atoms.{owner_of}
+use Rattle.r4_base.specs.declared.things.ScriptNo.{ScriptNo}
 use Rattle.r4_base.specs.declared.things.TxnNo.{TxnNo}
 use Rattle.r4_buffer.specs.Changed.{in_turn, unused}
 use Rattle.r4_buffer.specs.Seen.{buffered}
 use Rattle.r4_commit.specs.Planned.{CommitSeen}
-use Rattle.r4_history.specs.Tables.{with_ended}
+use Rattle.r4_content.specs.declared.command.Command.{Command}
+use Rattle.r4_content.specs.declared.command.Command.TheVariants as asks
+use Rattle.r4_history.specs.Tables.{Begins, Stands, inside, with_ended}
 use Rattle.r4_locks.specs.Locks.{OthersAsBefore, task_at}
+use Rattle.r4_trace.specs.Job.{IsWork}
 use Rattle.r4_trace.specs.Kept.{Told}
 use Rattle.r4_trace.specs.declared.entry.Entry.{Entry}
-use Rattle.r4_trace.specs.declared.entry.Entry.TheVariants.{Broken, Ended}
-use Rattle.r4_turns.specs.Turns.{answered_one, given_back, left}
+use Rattle.r4_trace.specs.declared.entry.Entry.TheVariants.{Begin, Broken, Ended}
+use Rattle.r4_turns.specs.Turns.{TurnsSeen, answered_one, entered, given_back, left, turn_at}
+use Rattle.r4_turns.specs.Turns.{with_command}
 use Rattle.r4_turns.specs.declared.out.Out.{Out}
+use Rattle.r4_turns.specs.declared.turn.Open.{Open}
 use Rattle.r4_outside.specs.Device.{State}
 use Rattle.r4_wander.specs.Progress.{IsNext, calls_left, stage_at}
 use Rattle.r4_wander.specs.declared.stage.Stage.{Stage}
@@ -27,6 +34,71 @@ ended c s txn = record c {
   turns = answered_one (left c.turns s) s;
   atoms = with_ended c.atoms txn.0;
   trace = with_entry c.trace (Ended txn);
+}
+
+-- it ends because nothing else follows in its script
+abbrev pub ended_last : {D : Type 0} → CoreSeen D → (script : ℕ) → TxnNo → CoreSeen D
+ended_last c s txn = record c {
+  turns = left c.turns s;
+  atoms = with_ended c.atoms txn.0;
+  trace = with_entry c.trace (Ended txn);
+}
+
+-- A transaction begins by the `begin` that is its script's next command, alone in its atom, with
+-- the next number; all else is as it was.
+pub record HasBegun {D : Type 0} (old new : CoreSeen D) (script : ScriptNo) (txn : TxnNo) : Type 0
+  where
+    pub number : txn.0 ≡ length old.atoms.txns + 1
+    pub begins : Begins old.atoms new.atoms script.0
+    pub owners : (n : ℕ) → owner_of new.atoms n ≡ owner_of old.atoms n
+    pub room : new.atoms.spare ≡ old.atoms.spare
+    pub same : new ≡ record old {
+      turns = answered_one (entered old.turns script.0 (inside txn)) script.0;
+      atoms = new.atoms;
+      trace = with_entry old.trace (Begin txn script);
+    }
+
+-- The next command of a script is answered by this entry.
+abbrev pub answered : {D : Type 0} → CoreSeen D → (script : ℕ) → Entry → CoreSeen D
+answered c s e = record c {
+  turns = answered_one c.turns s;
+  trace = with_entry c.trace e;
+}
+
+-- the transaction that a refusal names: none, or one that `begin` began
+abbrev pub NamesTxn : Option Open → TxnNo → Type 0
+NamesTxn None txn = txn.0 ≡ 0
+NamesTxn (Some o) txn = o ≡ inside txn
+
+-- what is refused: work, and outside of transactions `commit`
+abbrev pub MayBeRefused : Option Open → Command → Type 0
+MayBeRefused None asks.Commit = Unit {0}
+MayBeRefused within c = IsWork c
+
+-- The next command of a script may be refused so, by itself.
+pub record IsRefusable (t : TurnsSeen) (script : ℕ) (txn : TxnNo) : Type 0 where
+  pub within : Option Open
+  pub command : Command
+  pub stands : Stands t script within (Some command)
+  pub names : NamesTxn within txn
+  pub may : MayBeRefused within command
+  pub free : (turn_at t script).out ≡ None
+
+-- There is room for so many entries.
+abbrev pub with_room : {D : Type 0} → CoreSeen D → (spare : ℕ) → CoreSeen D
+with_room c spare = record c { trace = record c.trace { spare = spare } }
+
+-- There is more room for entries, or as much; all else is as it was.
+pub record IsRoomier {D : Type 0} (old new : CoreSeen D) : Type 0 where
+  pub spare : ℕ
+  pub more : old.trace.spare ≤ spare
+  pub same : new ≡ with_room old spare
+
+-- A command comes to the end of a script, with room for one entry more.
+abbrev pub pushed : {D : Type 0} → CoreSeen D → (script : ℕ) → Command → CoreSeen D
+pushed c s command = record c {
+  turns = with_command c.turns s command;
+  trace = record c.trace { spare = c.trace.spare + 1 };
 }
 
 -- A task is given back: its command is the next one again, with its numbers; it holds nothing, and
@@ -75,7 +147,8 @@ pub record Writes {D : Type 0} (c : CoreSeen D) (k : Commit) (w : CommitSeen) : 
 -- The step made the next writes of the plan, which is the same, each by one call, and answers how
 -- far that is.
 pub record IsWritten
-    {D : Type 0} (d e : State) (old new : CoreSeen D) (k : Commit) (w : CommitSeen) (stage : Stage) : Type 0
+    {D : Type 0} (d e : State) (old new : CoreSeen D) (k : Commit) (w : CommitSeen) (stage : Stage)
+    : Type 0
   where
     pub now : CommitSeen
     pub same : new ≡ written old new.dev k now

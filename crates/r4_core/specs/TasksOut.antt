@@ -1,7 +1,8 @@
 -- Group E, the tasks that are out, on every image. What is owed yet: that the cells of a task are
 -- those which its command reaches in a part of a tree, in which none of its new numbers is named.
 -- That waits for the reach of a command, and for the type of a task that has it.
-use Rattle.std.specs.Prelude.{◌≡◌, ◌≢◌, ◌⊎◌, ℕ, ◌^◌, ◌<◌, ◌≤◌, ◌==◌, List, count_by, sum_by, Option, Some, None}
+use Rattle.std.specs.Prelude.{◌≡◌, ◌≢◌, ◌⊎◌, ℕ, ◌^◌, ◌<◌, ◌≤◌, ◌==◌, List, count_by, sum_by}
+use Rattle.std.specs.Prelude.{Option, Some, None}
 use Rattle.r4_base.specs.declared.things.NodeId.{NodeId}
 use Rattle.r4_buffer.specs.Changed.{uses_of}
 use Rattle.r4_buffer.specs.Seen.{EntrySeen, buffered}

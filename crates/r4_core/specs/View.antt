@@ -37,7 +37,12 @@ committing commit = option_map (λ (k : Commit). k.atom.0) commit
 
 -- the tables that the trace tells of
 abbrev pub tables_of : {D : Type 0} → CoreSeen D → Tables
-tables_of c = record { turns = c.turns; atoms = c.atoms; commit = committing c.commit; broken = c.broken }
+tables_of c = record {
+  turns = c.turns;
+  atoms = c.atoms;
+  commit = committing c.commit;
+  broken = c.broken;
+}
 
 -- the number of blocks of the volume
 abbrev pub blocks_of : {D : Type 0} → CoreSeen D → ℕ

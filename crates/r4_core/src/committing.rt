@@ -28,8 +28,8 @@ impl<D: Device, R: Run> Core<D, R> {
             self.new k w stage) }
         ensures spares { (k : Commit) (w : CommitSeen) → Writes self.old k w
             → Spares (IsTarget (under_way w.work)) (D.state self.old.dev) (D.state self.new.dev) }
-        ensures failed { OnErr result (self.new ≡ failed self.old self.new.dev (D.state self.new.dev).clock
-            (D.state self.new.dev).faults) }
+        ensures failed { OnErr result (self.new ≡ failed self.old self.new.dev
+            (D.state self.new.dev).clock (D.state self.new.dev).faults) }
     {
         on_disk_law();
         let Some(commit) = self.commit.take() else {

@@ -1,0 +1,27 @@
+//! Transactions end with their scripts.
+
+ghost use Rattle.std.specs.Prelude.{◌≡◌, ◌+◌, ◌≤◌, Some, None};
+ghost use Rattle.r4_history.specs.Tables.{Stands, inside};
+ghost use Rattle.r4_core.specs.History.{owed, owed_for_commit};
+ghost use Rattle.r4_core.specs.Steps.{ended_last};
+ghost use Rattle.r4_core.specs.View.{committing};
+
+use crate::core_state::Core;
+use r4_base::{ScriptNo, TxnNo};
+use r4_outside::{Device, Run};
+use r4_trace::Entry;
+
+impl<D: Device, R: Run> Core<D, R> {
+    // The transaction of a script ends because the script has no further command.
+    pub(crate) fn leave(&mut self, script: ScriptNo, txn: TxnNo)
+        requires sound { self.old.broken ≡ None }
+        requires stands { Stands self.old.turns script.0 (Some (inside txn)) None }
+        requires room { owed self.old.turns + owed_for_commit (committing self.old.commit) + 1
+            ≤ self.old.trace.spare }
+        ensures { self.new ≡ ended_last self.old script.0 txn }
+    {
+        self.atoms.close(txn);
+        self.turns.leave(script);
+        self.trace.push(Entry::Ended { txn });
+    }
+}
