@@ -9,6 +9,7 @@ use Rattle.std.proofs.lemmas.Bool.Decides.{nat_tests}
 use Rattle.std.proofs.lemmas.List.{map-append, reverse-append, take_more}
 use Rattle.std.proofs.lemmas.Option.{same_Some}
 use Rattle.r4_base.specs.Key.{least, rank, top}
+use Rattle.r4_cell.specs.Seen.{CellSeen}
 use Rattle.r4_content.specs.Edited.{Intervals, is_between, is_in}
 use Rattle.r4_content.specs.Held.{interval_of, pairs_of}
 use Rattle.r4_content.specs.declared.edits.Interval.{Interval}
@@ -18,9 +19,9 @@ use Rattle.r4_search.specs.Pool.{Goes, PoolState}
 use Rattle.r4_search.specs.declared.pool.FetchFault.{FetchFault}
 use Rattle.r4_search.proofs.Walks.{goes_both, goes_same}
 use Rattle.r4_seeing.specs.Known.{AreKnown, AreNew}
-use Rattle.r4_seeing.specs.Looking.{KnowsMore, LookingSeen, StopsBetween}
+use Rattle.r4_seeing.specs.Looking.{KnowsBetween, KnowsMore, LookingSeen, MeetsBetween, StopsBetween}
 use Rattle.r4_gather.specs.Finding.{asked_keys}
-use Rattle.r4_seeing.specs.Seeing.{IsNotedFault, IsSeeing, IsStopped, SeeingSeen, sighting}
+use Rattle.r4_seeing.specs.Seeing.{IsAskedIn, IsNotedFault, IsSeeing, IsStopped, SeeingSeen, sighting}
 use Rattle.r4_seeing.proofs.Reading.{new_more}
 
 -- ---- gaps
@@ -51,12 +52,27 @@ next_gap known i d from end next lt fresh le out begins =
 pub asked_more : (items : List Asked) (a : Asked) → reverse (map asked_keys (items ++ a ∷ [])) ≡ asked_keys a ∷ reverse (map asked_keys items)
 asked_more items a = ap reverse (map-append asked_keys items (a ∷ [])) ∙ reverse-append (map asked_keys items) (asked_keys a ∷ [])
 
-stopped_still : (p q : PoolState) (asked : Intervals) (r : ℕ × ℕ) (e : FetchFault) → Goes p q → IsStopped p asked e → IsStopped q (r ∷ asked) e
-stopped_still p q asked r e g s = record { key = s.key; is_asked = by (is_between r.0 r.1 s.key) s.is_asked; before = s.before; at = s.at; goes = s.goes; stops = s.stops; since = goes_both s.at p q s.since g }
+-- what was asked for was asked for, also with more
+also_asked : (r : ℕ × ℕ) (asked : Intervals) (k : ℕ) → is_in asked k ≡ true → is_in (r ∷ asked) k ≡ true
+also_asked r asked k h = by (is_between r.0 r.1 k) h
   where
-    by : (b : Bool) → is_in asked s.key ≡ true → (b || is_in asked s.key) ≡ true
+    by : (b : Bool) → is_in asked k ≡ true → (b || is_in asked k) ≡ true
     by true h = refl
     by false h = h
+
+also_asked_in : (r : ℕ × ℕ) (asked : Intervals) (c : CellSeen) → IsAskedIn asked c → IsAskedIn (r ∷ asked) c
+also_asked_in r asked c (key, at, low, high) = (key, also_asked r asked key at, low, high)
+
+stopped_still : (p q : PoolState) (asked : Intervals) (r : ℕ × ℕ) (e : FetchFault) → Goes p q → IsStopped p asked e → IsStopped q (r ∷ asked) e
+stopped_still p q asked r e g s = record {
+  key = s.key;
+  is_asked = also_asked r asked s.key s.is_asked;
+  before = s.before;
+  at = s.at;
+  goes = s.goes;
+  stops = s.stops;
+  since = goes_both s.at p q s.since g;
+}
 
 in_cases : (r : ℕ × ℕ) (asked : Intervals) (k : ℕ) → is_in (r ∷ asked) k ≡ true → (is_between r.0 r.1 k ≡ true) ⊎ (is_in asked k ≡ true)
 in_cases r asked k h = by (is_between r.0 r.1 k) refl h
@@ -72,6 +88,8 @@ asked_outside p known asked fault k out h = record {
     | inl it ↦ absurd (let in_it : is_between least top j ≡ true = between least top j low high in let same : j ≡ k = one j it in let other = ap (is_between least top) same ∙ out in differ in_it other)
     | inr more ↦ h.looked no_fault j more low high
   ];
+  only = λ j is. also_asked (k, k + 1) asked j (h.only j is);
+  met = λ i c is. also_asked_in (k, k + 1) asked c (h.met i c is);
   stopped = λ e is. stopped_still p p asked (k, k + 1) e (goes_same p) (h.stopped e is);
 }
   where
@@ -85,30 +103,57 @@ asked_outside p known asked fault k out h = record {
     differ t f = let e = sym t ∙ f in cc
 
 -- the keys of an interval were looked at, or the look-up ended with a fault
-pub asked_within : (p q : PoolState) (known now asked : Intervals) (r : ℕ × ℕ) (from to : ℕ) (fault fault2 : Option FetchFault) (result : Result Unit FetchFault) → IsSeeing p known asked fault → Goes p q → ((k : ℕ) → is_in known k ≡ true → is_in now k ≡ true) → OnOk result (AreKnown now from to) → IfErr result (λ e. StopsBetween from to p e q) → IsNotedFault fault result fault2
-    → ((k : ℕ) → is_between r.0 r.1 k ≡ true → least ≤ k → k < top → (from ≤ k) × (k < to)) → ((k : ℕ) → from ≤ k → k < to → is_between r.0 r.1 k ≡ true) → fault ≡ None → IsSeeing q now (r ∷ asked) fault2
-asked_within p q known now asked r from to fault fault2 (Ok u) h g more known_now stops noted inside outside was = record {
-  looked = λ no_fault j at low high. elim (in_cases r asked j at) [
-    | inl it ↦ let (a, b) = inside j it low high in known_now j a b
-    | inr before ↦ more j (h.looked was j before low high)
-  ];
-  stopped = λ e is. absurd (let none = sym is ∙ (noted ∙ was) in cc);
-}
-asked_within p q known now asked r from to fault fault2 (Err e) h g more known_now stops noted inside outside was = record {
-  looked = λ no_fault j at low high. absurd (let some = sym noted ∙ no_fault in cc);
-  stopped = λ x is. subst (λ (y : FetchFault). IsStopped q (r ∷ asked) y) (same_Some e x (sym noted ∙ is)) it;
-}
-  where
-    it : IsStopped q (r ∷ asked) e
-    it = record {
-      key = stops.key;
-      is_asked = ap (λ (b : Bool). b || is_in asked stops.key) (outside stops.key stops.low stops.high);
-      before = stops.mid;
-      at = q;
-      goes = stops.after;
-      stops = stops.stops;
-      since = goes_same q;
-    }
+module _ (p q : PoolState) (known now asked : Intervals) (r : ℕ × ℕ) (from to : ℕ) (fault : Option FetchFault)
+    (h : IsSeeing p known asked fault) (g : Goes p q)
+    (inside : (k : ℕ) → is_between r.0 r.1 k ≡ true → least ≤ k → k < top → (from ≤ k) × (k < to))
+    (outside : (k : ℕ) → from ≤ k → k < to → is_between r.0 r.1 k ≡ true)
+    (meets : MeetsBetween from to p q) (knows : KnowsBetween from to known now) where
+  asked_now : (k : ℕ) → from ≤ k → k < to → is_in (r ∷ asked) k ≡ true
+  asked_now k low high = ap (λ (b : Bool). b || is_in asked k) (outside k low high)
+
+  only_asked : (k : ℕ) → is_in now k ≡ true → is_in (r ∷ asked) k ≡ true
+  only_asked k is = by (is_in known k) refl
+    where
+      by : (b : Bool) → is_in known k ≡ b → is_in (r ∷ asked) k ≡ true
+      by true then = also_asked r asked k (h.only k then)
+      by false then = let (low, high) = knows k is then in asked_now k low high
+
+  met_asked : (i : ℕ) (c : CellSeen) → q.met i ≡ Some c → IsAskedIn (r ∷ asked) c
+  met_asked i c is = by (p.met i) refl
+    where
+      by : (m : Option CellSeen) → p.met i ≡ m → IsAskedIn (r ∷ asked) c
+      by (Some x) then =
+          let same : x ≡ c = same_Some x c (sym (g.met i x then) ∙ is) in
+          also_asked_in r asked c (h.met i c (then ∙ ap (λ (y : CellSeen). Some y) same))
+      by None then = let (key, low, high, up, down) = meets i c is then in (key, asked_now key low high, up, down)
+
+  pub asked_within : (fault2 : Option FetchFault) (result : Result Unit FetchFault) → ((k : ℕ) → is_in known k ≡ true → is_in now k ≡ true) → OnOk result (AreKnown now from to) → IfErr result (λ e. StopsBetween from to p e q) → IsNotedFault fault result fault2 → fault ≡ None → IsSeeing q now (r ∷ asked) fault2
+  asked_within fault2 (Ok u) more known_now stops noted was = record {
+    looked = λ no_fault j at low high. elim (in_cases r asked j at) [
+      | inl it ↦ let (a, b) = inside j it low high in known_now j a b
+      | inr before ↦ more j (h.looked was j before low high)
+    ];
+    only = only_asked;
+    met = met_asked;
+    stopped = λ e is. absurd (let none = sym is ∙ (noted ∙ was) in cc);
+  }
+  asked_within fault2 (Err e) more known_now stops noted was = record {
+    looked = λ no_fault j at low high. absurd (let some = sym noted ∙ no_fault in cc);
+    only = only_asked;
+    met = met_asked;
+    stopped = λ x is. subst (λ (y : FetchFault). IsStopped q (r ∷ asked) y) (same_Some e x (sym noted ∙ is)) it;
+  }
+    where
+      it : IsStopped q (r ∷ asked) e
+      it = record {
+        key = stops.key;
+        is_asked = asked_now stops.key stops.low stops.high;
+        before = stops.mid;
+        at = q;
+        goes = stops.after;
+        stops = stops.stops;
+        since = goes_same q;
+      }
 
 -- ---- what was seen stays
 

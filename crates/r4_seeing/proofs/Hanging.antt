@@ -4,7 +4,8 @@ use Rattle.std.specs.Prelude.{All, Contains, Option, Some, None}
 use Rattle.std.specs.Option.{option_map}
 use Rattle.std.proofs.lemmas.List.Elements.{All-head, All-tail}
 use Rattle.std.proofs.lemmas.Option.{same_Some}
-use Rattle.r4_base.specs.Tree.{Name, Node, Store}
+use Rattle.r4_base.specs.Key.{least, rank, top}
+use Rattle.r4_base.specs.Tree.{InName, Name, Node, Store}
 use Rattle.r4_base.specs.Value.{Value}
 use Rattle.r4_patch.proofs.Members.{cases, none}
 use Rattle.r4_cell.specs.Seen.{CellSeen, node_of}
@@ -14,6 +15,24 @@ use Rattle.r4_search.specs.Path.{Descends, Follows, MeetsOn, root_name}
 use Rattle.r4_search.specs.Pool.{Goes, IsMet, IsNamed, PoolState}
 use Rattle.r4_sight.specs.Stretches.{Looks}
 use Rattle.r4_seeing.specs.Looking.{AreFound, AreHung, IsFoundAt, IsNamedByMet, met_cells}
+
+-- a key of a name is one of the cell that has the name
+named_has : (n : Name) (c : CellSeen) (key : ℕ) → InName n key → IsNamed n c → (rank c.lo ≤ key) × (key < rank c.hi)
+named_has n c key (low, high) is =
+    (subst (λ (lo : ℕ). lo ≤ key) (sym is.lo) low, subst (λ (hi : ℕ). key < hi) (sym is.hi) high)
+
+-- all cells on a way down to a key have it
+descended_has : (root : Root) (key : ℕ) → least ≤ key → key < top → (before : Option CellSeen) (cells : List CellSeen)
+    → Descends root key before cells → (c : CellSeen) → Contains cells c → (rank c.lo ≤ key) × (key < rank c.hi)
+descended_has root key low high before [] d c at = absurd (none c at)
+descended_has root key low high before (x ∷ cells) d c at = elim (cases x c cells at) [
+  | inl same ↦ subst (λ (y : CellSeen). (rank y.lo ≤ key) × (key < rank y.hi)) (sym same) (first before d.0)
+  | inr more ↦ descended_has root key low high (Some x) cells d.1 c more
+]
+  where
+    first : (b : Option CellSeen) → ((n : Name) × Follows root key b n × IsNamed n x) → (rank x.lo ≤ key) × (key < rank x.hi)
+    first None (n, f, is) = named_has n x key (subst (λ (m : Name). InName m key) (sym f) (low, high)) is
+    first (Some b) (n, f, is) = named_has n x key f.within is
 
 abbrev IsHung : PoolState → Root → CellSeen → Type 0
 IsHung p root c = IsNamed (root_name root) c ⊎ IsNamedByMet p c
@@ -65,6 +84,18 @@ module _ (root : Root) (key : ℕ) (old new : PoolState) (keeps : (level : ℕ) 
       by i c is None None was then =
           let b = l.block i c is then in
           inr (record { up = b.twig; met = b.met (new_keeps b.twig.level); name = b.name; named = b.named; is = b.is })
+
+  -- each cell that was met as the key was looked at has it
+  pub met_for : least ≤ key → key < top → (i : ℕ) (c : CellSeen) → new.met i ≡ Some c → old.met i ≡ None
+      → (rank c.lo ≤ key) × (key < rank c.hi)
+  met_for low high i c is was = by (l.mid.met i) refl
+    where
+      by : (m : Option CellSeen) → l.mid.met i ≡ m → (rank c.lo ≤ key) × (key < rank c.hi)
+      by (Some y) then =
+          let same : y ≡ c = same_Some y c (sym (l.goes.met i y then) ∙ is) in
+          descended_has root key low high None l.way.cells l.way.descends c
+          (l.way.meets.only i c (then ∙ ap (λ (z : CellSeen). Some z) same) was)
+      by None then = let b = l.block i c is then in named_has b.name c key b.within b.is
 
   -- what was found in cells that were met is found there still
   pub still_found : (known : Intervals) (s : Pairs) → AreFound (met_cells old) known s → AreFound (met_cells new) known s

@@ -19,8 +19,8 @@ use Rattle.r4_sight.specs.Parts.{all_pairs}
 use Rattle.r4_sight.specs.Stretches.{IsStretch, Looks}
 use Rattle.r4_sight.specs.declared.stretch.Stretch.{Stretch}
 use Rattle.r4_seeing.specs.Known.{AreKnown, AreNew, IsNoted}
-use Rattle.r4_seeing.specs.Looking.{IsLooking, met_cells}
-use Rattle.r4_seeing.proofs.Hanging.{still_found, still_hung}
+use Rattle.r4_seeing.specs.Looking.{IsLooking, KnowsBetween, MeetsBetween, met_cells}
+use Rattle.r4_seeing.proofs.Hanging.{met_for, still_found, still_hung}
 use Rattle.r4_seeing.proofs.Noting.{IsShown, found_out, is_known, known_more, noted, noted_full, values_stay, was_known}
 
 -- ---- keys that are new
@@ -54,6 +54,13 @@ module _ (root : Root) (at : ℕ) (old new : PoolState) (parts : List SeenPart) 
     full = h.full;
     found = still_found root at old new h.keeps g l known (all_pairs parts) h.found;
   }
+
+  -- each cell that was met has the key that was looked at
+  pub meets_at : (end : ℕ) → least ≤ at → at < end → end ≤ top → MeetsBetween at end old new
+  meets_at end low lt high i c is was =
+      let below : at < top = omega (arith, lt, high) in
+      let (up, down) = met_for root at old new h.keeps g l low below i c is was in
+      (at, omega arith, lt, up, down)
 
   module _ (end : ℕ) (s : Stretch) (is : IsStretch (IsOf old) new at end s) (low : least ≤ at) (high : end ≤ top) (fresh : AreNew known at end) (now : List SeenPart) (n : IsNoted at parts s.parts.items now) where
     shown : IsShown (met_cells new) at (rank s.to) s.parts.items
@@ -98,3 +105,11 @@ known_behind items r = map-append interval_of items (r ∷ [])
 
 pub all_known : (known : Intervals) (from to : ℕ) → AreKnown (known ++ (from, to) ∷ []) from to
 all_known known from to k le lt = is_known known (from, to) k le lt
+
+-- the keys of one more interval are known, and no others
+pub knows_at : (known : Intervals) (from to end : ℕ) → to ≤ end → KnowsBetween from end known (known ++ (from, to) ∷ [])
+knows_at known from to end le k is out =
+    inside (sym (ap (λ (b : Bool). b || is_between from to k) out) ∙ (sym (known_more known (from, to) k) ∙ is))
+  where
+    inside : is_between from to k ≡ true → (from ≤ k) × (k < end)
+    inside it = (grind (arith, nat_tests, it), let lt : k < to = grind (arith, nat_tests, it) in omega (arith, lt, le))

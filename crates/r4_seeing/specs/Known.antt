@@ -30,7 +30,8 @@ part_key (Run r) = r.from
 pub record IsPlaceFor (parts : List SeenPart) (from : ℕ) (at : ℕ) : Type 0 where
   pub within : at ≤ length parts
   pub above : All (λ (p : SeenPart). from < rank (part_key p)) (drop at parts)
-  pub last : (i : ℕ) (p : SeenPart) → i < at → at ≤ i + 1 → slice_get parts i ≡ Some p → rank (part_key p) ≤ from
+  pub last : (i : ℕ) (p : SeenPart) → i < at → at ≤ i + 1 → slice_get parts i ≡ Some p
+      → rank (part_key p) ≤ from
 
 -- The parts are put at the place for this key among the others.
 pub record IsNoted (from : ℕ) (old parts new : List SeenPart) : Type 0 where

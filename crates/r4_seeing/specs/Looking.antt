@@ -1,9 +1,10 @@
 -- What was seen of a tree, and which of its cells were met (docs/volume.md, "Sight"). A key is its rank.
-use Rattle.std.specs.Prelude.{◌≡◌, ◌↔◌, ◌⊎◌, ℕ, ◌<◌, ◌≤◌, List, Contains, Bool, true, false, Option, Some, None}
+use Rattle.std.specs.Prelude.{◌≡◌, ◌↔◌, ◌⊎◌, ℕ, ◌<◌, ◌≤◌, List, Contains, Bool, true, false}
+use Rattle.std.specs.Prelude.{Option, Some, None}
 use Rattle.std.specs.Option.{option_map}
 use Rattle.std.specs.FinMap.{find}
 use Rattle.std.specs.Ordering.{nat_cmp}
-use Rattle.r4_base.specs.Key.{least, top}
+use Rattle.r4_base.specs.Key.{least, rank, top}
 use Rattle.r4_base.specs.Tree.{Holds, Name, Node, Store}
 use Rattle.r4_base.specs.Value.{Value}
 use Rattle.r4_cell.specs.Seen.{CellSeen, node_of}
@@ -36,7 +37,8 @@ pub record IsNamedByMet (p : PoolState) (c : CellSeen) : Type 0 where
 -- Each cell that was met is the root's, or one that was met names it.
 pub record AreHung (p : PoolState) (root : Root) : Type 0 where
   pub numbers : (i : ℕ) (c : CellSeen) → p.met i ≡ Some c → c.id ≡ i
-  pub hung : (i : ℕ) (c : CellSeen) → p.met i ≡ Some c → IsNamed (root_name root) c ⊎ IsNamedByMet p c
+  pub hung : (i : ℕ) (c : CellSeen) → p.met i ≡ Some c
+      → IsNamed (root_name root) c ⊎ IsNamedByMet p c
 
 -- ---- what was seen
 
@@ -56,7 +58,8 @@ pub record AreFound (t : Store Value) (known : Intervals) (s : Pairs) : Type 0 w
   pub only : (k : ℕ) → is_in known k ≡ false → find nat_cmp k s ≡ None
 
 -- What was seen over a pool that keeps all cells, of the tree with this root.
-pub record IsLooking (p : PoolState) (root : Root) (parts : List SeenPart) (known : Intervals) : Type 0 where
+pub record IsLooking (p : PoolState) (root : Root) (parts : List SeenPart) (known : Intervals)
+    : Type 0 where
   pub height : 1 ≤ root.height
   pub begins : IsKnown p (root_name root)
   pub keeps : (level : ℕ) → p.keeps level ≡ true
@@ -82,7 +85,8 @@ pub record KnowsMore {P : Type 0} (old new : LookingSeen P) : Type 0 where
       → find nat_cmp k (pairs_of new.seen) ≡ find nat_cmp k (pairs_of old.seen)
 
 -- A look-up ended early, at one of the keys from one on up to another.
-pub record StopsBetween (from to : ℕ) (old : PoolState) (e : FetchFault) (new : PoolState) : Type 0 where
+pub record StopsBetween (from to : ℕ) (old : PoolState) (e : FetchFault) (new : PoolState)
+    : Type 0 where
   pub key : ℕ
   pub low : from ≤ key
   pub high : key < to
@@ -90,3 +94,13 @@ pub record StopsBetween (from to : ℕ) (old : PoolState) (e : FetchFault) (new 
   pub before : Goes old mid
   pub stops : StopsAt key mid e new
   pub after : Goes mid new
+
+-- Each cell that was met from then on has one of the keys from one on up to another.
+abbrev pub MeetsBetween : (from to : ℕ) → (old new : PoolState) → Type 0
+MeetsBetween from to old new = (i : ℕ) (c : CellSeen) → new.met i ≡ Some c → old.met i ≡ None
+    → (key : ℕ) × (from ≤ key) × (key < to) × (rank c.lo ≤ key) × (key < rank c.hi)
+
+-- Each key that is known from then on is one of the keys from one on up to another.
+abbrev pub KnowsBetween : (from to : ℕ) → (old new : Intervals) → Type 0
+KnowsBetween from to old new =
+    (k : ℕ) → is_in new k ≡ true → is_in old k ≡ false → (from ≤ k) × (k < to)

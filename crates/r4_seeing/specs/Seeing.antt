@@ -1,6 +1,7 @@
 -- What a command has seen, and what it asked for (docs/volume.md, "Sight"). A key is its rank.
 use Rattle.std.specs.Prelude.{◌≡◌, ℕ, ◌<◌, ◌≤◌, Bool, true, Option, Some, None, Result, Ok, Err}
-use Rattle.r4_base.specs.Key.{least, top}
+use Rattle.r4_base.specs.Key.{least, rank, top}
+use Rattle.r4_cell.specs.Seen.{CellSeen}
 use Rattle.r4_content.specs.Edited.{Intervals, is_in}
 use Rattle.r4_content.specs.Held.{pairs_of}
 use Rattle.r4_gather.specs.Asking.{Sighting}
@@ -28,9 +29,18 @@ pub record IsStopped (p : PoolState) (asked : Intervals) (e : FetchFault) : Type
   pub stops : StopsAt key before e at
   pub since : Goes at p
 
--- While no look-up ended with a fault, each key of the tree that was asked for is known.
-pub record IsSeeing (p : PoolState) (known asked : Intervals) (fault : Option FetchFault) : Type 0 where
-  pub looked : fault ≡ None → (k : ℕ) → is_in asked k ≡ true → least ≤ k → k < top → is_in known k ≡ true
+-- a key that was asked for lies in the cell's range
+abbrev pub IsAskedIn : (asked : Intervals) → CellSeen → Type 0
+IsAskedIn asked c = (key : ℕ) × (is_in asked key ≡ true) × (rank c.lo ≤ key) × (key < rank c.hi)
+
+-- While no look-up ended with a fault, each key of the tree that was asked for is known. No other key was looked at,
+-- and each cell that was met has a key that was asked for.
+pub record IsSeeing (p : PoolState) (known asked : Intervals) (fault : Option FetchFault)
+    : Type 0 where
+  pub looked : fault ≡ None → (k : ℕ) → is_in asked k ≡ true → least ≤ k → k < top
+      → is_in known k ≡ true
+  pub only : (k : ℕ) → is_in known k ≡ true → is_in asked k ≡ true
+  pub met : (i : ℕ) (c : CellSeen) → p.met i ≡ Some c → IsAskedIn asked c
   pub stopped : (e : FetchFault) → fault ≡ Some e → IsStopped p asked e
 
 -- a fault with which a look-up ended is kept

@@ -7,7 +7,8 @@ ghost use Rattle.r4_content.specs.Seen.{Rises};
 ghost use Rattle.r4_search.specs.Path.{root_name};
 ghost use Rattle.r4_search.specs.Pool.{Goes, IsKnown, LeavesDevice};
 ghost use Rattle.r4_seeing.specs.Known.{AreKnown, AreNew};
-ghost use Rattle.r4_seeing.specs.Looking.{IsLooking, KnowsMore, StopsBetween};
+ghost use Rattle.r4_seeing.specs.Looking.{IsLooking, KnowsBetween, KnowsMore, MeetsBetween};
+ghost use Rattle.r4_seeing.specs.Looking.{StopsBetween};
 
 use crate::gaps::{Gap, how_far};
 use crate::places::note;
@@ -43,7 +44,8 @@ impl<P: Pool> Model for Looking<P> {
       known = map interval_of l.known.items;
     } };
 
-    ghost invariant = { λ l. IsLooking (P.state l.pool) l.root l.seen.parts.items (map interval_of l.known.items) };
+    ghost invariant = { λ l. IsLooking (P.state l.pool) l.root l.seen.parts.items
+        (map interval_of l.known.items) };
 }
 
 impl<P: Pool> Looking<P> {
@@ -98,8 +100,8 @@ impl<P: Pool> Looking<P> {
         let _ = &self.pool;
     }
 
-    /// Looks at each key of an interval of the tree. What was known stays. Where a look-up ends with a fault, it is at
-    /// one of these keys.
+    /// Looks at each key of an interval of the tree, and at no other. What was known stays, and each cell that is met has
+    /// one of these keys. Where a look-up ends with a fault, it is at one of them.
     pub fn look(&mut self, alloc: Global, from: Key, to: Key) -> Result<(), FetchFault>
         requires from { least ≤ rank from }
         requires to { rank to ≤ top }
@@ -107,6 +109,9 @@ impl<P: Pool> Looking<P> {
         ensures device { LeavesDevice (P.device self.old.pool) (P.device self.new.pool) }
         ensures more { KnowsMore self.old self.new }
         ensures looked { OnOk result (AreKnown self.new.known (rank from) (rank to)) }
+        ensures met { MeetsBetween (rank from) (rank to) (P.state self.old.pool)
+            (P.state self.new.pool) }
+        ensures only { KnowsBetween (rank from) (rank to) self.old.known self.new.known }
         ensures err { IfErr result (λ e. StopsBetween (rank from) (rank to) (P.state self.old.pool) e
             (P.state self.new.pool)) }
     {
@@ -127,6 +132,9 @@ impl<P: Pool> Looking<P> {
         ensures more { KnowsMore self.old self.new }
         ensures onward { IfOk result (λ k. rank at < rank k) }
         ensures looked { IfOk result (λ k. AreKnown self.new.known (rank at) (rank k)) }
+        ensures met { MeetsBetween (rank at) (rank to) (P.state self.old.pool)
+            (P.state self.new.pool) }
+        ensures only { KnowsBetween (rank at) (rank to) self.old.known self.new.known }
         ensures err { IfErr result (λ e. StopsBetween (rank at) (rank to) (P.state self.old.pool) e
             (P.state self.new.pool)) }
     {
@@ -147,6 +155,9 @@ impl<P: Pool> Looking<P> {
         ensures more { KnowsMore self.old self.new }
         ensures onward { IfOk result (λ k. rank at < rank k) }
         ensures looked { IfOk result (λ k. AreKnown self.new.known (rank at) (rank k)) }
+        ensures met { MeetsBetween (rank at) (rank end) (P.state self.old.pool)
+            (P.state self.new.pool) }
+        ensures only { KnowsBetween (rank at) (rank end) self.old.known self.new.known }
         ensures err { IfErr result (λ e. StopsBetween (rank at) (rank end) (P.state self.old.pool) e
             (P.state self.new.pool)) }
     {

@@ -6,7 +6,7 @@ ghost use Rattle.r4_content.specs.Edited.{is_between};
 ghost use Rattle.r4_search.specs.Path.{root_name};
 ghost use Rattle.r4_search.specs.Pool.{IsKnown};
 ghost use Rattle.r4_seeing.specs.Looking.{IsLooking};
-ghost use Rattle.r4_seeing.specs.Seeing.{IsNotedFault};
+ghost use Rattle.r4_seeing.specs.Seeing.{IsNotedFault, IsSeeing};
 
 use crate::looking::Looking;
 use r4_base::Key;
@@ -79,11 +79,13 @@ impl<P: Pool> Seeing<P> {
         looking.into_parts()
     }
 
-    /// What was seen is what cells have that were met, at the keys that are known (docs/volume.md, "Sight"). It does
-    /// nothing.
+    /// What was seen is what cells have that were met, at the keys that are known; these are keys that were asked for,
+    /// and so is a key of each cell that was met (docs/volume.md, "Sight"). It does nothing.
     pub fn lawful(&self)
-        ensures { IsLooking (P.state self.now.looking.pool) self.now.looking.root
+        ensures looking { IsLooking (P.state self.now.looking.pool) self.now.looking.root
             self.now.looking.seen.parts.items self.now.looking.known }
+        ensures seeing { IsSeeing (P.state self.now.looking.pool) self.now.looking.known
+            self.now.asked self.now.fault }
     {
         self.looking.lawful();
     }

@@ -8,8 +8,9 @@ use Rattle.r4_content.specs.declared.edits.Interval.{Interval}
 use Rattle.r4_content.specs.declared.seen.SeenPart.{SeenPart}
 use Rattle.r4_search.proofs.Walks.{goes_same, handed}
 use Rattle.r4_seeing.specs.Known.{AreKnown, AreNew}
-use Rattle.r4_seeing.specs.Looking.{IsLooking, KnowsMore, StopsBetween}
-use Rattle.r4_seeing.proofs.Reading.{all_known, goes_on, known_behind, outside_are, stays, values_are}
+use Rattle.r4_seeing.specs.Looking.{IsLooking, KnowsBetween, KnowsMore, MeetsBetween, StopsBetween}
+use Rattle.r4_seeing.proofs.LookingOn.{knows_none}
+use Rattle.r4_seeing.proofs.Reading.{all_known, goes_on, known_behind, knows_at, meets_at, outside_are, stays, values_are}
 use Rattle.r4_seeing.proofs.Noting.{was_known}
 use Rattle.r4_seeing.proofs.looking.Looking.read_on.Goals as goal
 
@@ -61,3 +62,36 @@ pub returns-clause-looked : goal.returns-clause-looked
 returns-clause-looked g c =
     let now = ap (map interval_of) c.in_ok-note.ensures.known ∙ known_behind c.self.inside.known.items (record { from = c.args.at; to = c.in_ok-stretch.stretch.to }) in
     subst (λ (known : Intervals). AreKnown known (rank c.args.at) (rank c.in_ok-stretch.stretch.to)) (sym now) (all_known (map interval_of c.self.inside.known.items) (rank c.args.at) (rank c.in_ok-stretch.stretch.to))
+
+pub returns-in_err-stretch-clause-met : goal.returns-in_err-stretch-clause-met
+returns-in_err-stretch-clause-met g c =
+    subst (λ v. MeetsBetween (rank c.args.at) (rank c.args.end) (g.P.Pool.state v.pool) (g.P.Pool.state c.stretch_from.new.pool)) c.self.view_is
+    (meets_at c.self.inside.root (rank c.args.at) (g.P.Pool.state c.self.inside.pool) (g.P.Pool.state c.stretch_from.new.pool) c.self.inside.seen.parts.items (map interval_of c.self.inside.known.items) c.self.invariant c.in_err-stretch.ensures.goes c.in_err-stretch.ensures.looks (rank c.args.end) c.requires.from c.requires.order c.requires.to)
+
+pub returns-in_err-note-clause-met : goal.returns-in_err-note-clause-met
+returns-in_err-note-clause-met g c =
+    subst (λ v. MeetsBetween (rank c.args.at) (rank c.args.end) (g.P.Pool.state v.pool) (g.P.Pool.state c.stretch_from.new.pool)) c.self.view_is
+    (meets_at c.self.inside.root (rank c.args.at) (g.P.Pool.state c.self.inside.pool) (g.P.Pool.state c.stretch_from.new.pool) c.self.inside.seen.parts.items (map interval_of c.self.inside.known.items) c.self.invariant c.in_ok-stretch.ensures.goes c.in_ok-stretch.ensures.looks (rank c.args.end) c.requires.from c.requires.order c.requires.to)
+
+pub returns-clause-met : goal.returns-clause-met
+returns-clause-met g c =
+    subst (λ v. MeetsBetween (rank c.args.at) (rank c.args.end) (g.P.Pool.state v.pool) (g.P.Pool.state c.stretch_from.new.pool)) c.self.view_is
+    (meets_at c.self.inside.root (rank c.args.at) (g.P.Pool.state c.self.inside.pool) (g.P.Pool.state c.stretch_from.new.pool) c.self.inside.seen.parts.items (map interval_of c.self.inside.known.items) c.self.invariant c.in_ok-stretch.ensures.goes c.in_ok-stretch.ensures.looks (rank c.args.end) c.requires.from c.requires.order c.requires.to)
+
+pub returns-in_err-stretch-clause-only : goal.returns-in_err-stretch-clause-only
+returns-in_err-stretch-clause-only g c =
+    subst (λ v. KnowsBetween (rank c.args.at) (rank c.args.end) v.known (map interval_of c.self.inside.known.items)) c.self.view_is
+    (knows_none (rank c.args.at) (rank c.args.end) (map interval_of c.self.inside.known.items))
+
+pub returns-in_err-note-clause-only : goal.returns-in_err-note-clause-only
+returns-in_err-note-clause-only g c =
+    subst (λ v. KnowsBetween (rank c.args.at) (rank c.args.end) v.known (map interval_of c.note.new.known.items)) c.self.view_is
+    (subst (λ (items : List Interval). KnowsBetween (rank c.args.at) (rank c.args.end) (map interval_of c.self.inside.known.items) (map interval_of items)) (sym c.in_err-note.ensures.still)
+    (knows_none (rank c.args.at) (rank c.args.end) (map interval_of c.self.inside.known.items)))
+
+pub returns-clause-only : goal.returns-clause-only
+returns-clause-only g c =
+    let now = ap (map interval_of) c.in_ok-note.ensures.known ∙ known_behind c.self.inside.known.items (record { from = c.args.at; to = c.in_ok-stretch.stretch.to }) in
+    subst (λ v. KnowsBetween (rank c.args.at) (rank c.args.end) v.known (map interval_of c.note.new.known.items)) c.self.view_is
+    (subst (λ (known : Intervals). KnowsBetween (rank c.args.at) (rank c.args.end) (map interval_of c.self.inside.known.items) known) (sym now)
+    (knows_at (map interval_of c.self.inside.known.items) (rank c.args.at) (rank c.in_ok-stretch.stretch.to) (rank c.args.end) c.in_ok-stretch.ensures.stretch.of.within))
