@@ -90,7 +90,7 @@ names_suc level hi [] place it is = absurd cc
 names_suc level hi (x ∷ items) zero it is = ap (λ (y : Item). item_names level (next_key hi items) y ++ names_in level hi items) (same_Some x it is)
 names_suc level hi (x ∷ items) (suc place) it is = names_suc level hi items place it is
 
-names_next : (level hi : ℕ) (items : List Item) (place : ℕ) (it : Item) → slice_get items place ≡ Some it → names_in level hi (drop place items) ≡ item_names level (next_key hi (drop (place + 1) items)) it ++ names_in level hi (drop (place + 1) items)
+pub names_next : (level hi : ℕ) (items : List Item) (place : ℕ) (it : Item) → slice_get items place ≡ Some it → names_in level hi (drop place items) ≡ item_names level (next_key hi (drop (place + 1) items)) it ++ names_in level hi (drop (place + 1) items)
 names_next level hi items place it is = let e : suc place ≡ place + 1 = omega arith in subst (λ (k : ℕ). names_in level hi (drop place items) ≡ item_names level (next_key hi (drop k items)) it ++ names_in level hi (drop k items)) e (names_suc level hi items place it is)
 
 pub heard_more : (c : CellSeen) (f : ℕ → Option Ask) (place : ℕ) (heard more : List (Name × Ask)) → place < length (items_of c.block) → HeardFrom c f place heard → HearsAt c place f heard more → HeardFrom c f (place + 1) more
@@ -140,7 +140,7 @@ leaf_item level next it one fits =
     let five : (it.plugin == 5) ≡ false = grind (arith, nat_tests, one, fits) in
     rw (three, five) refl
 
-leaf_names : (level hi : ℕ) (items : List Item) → level ≡ 1 → PluginsFit level items → names_in level hi items ≡ []
+pub leaf_names : (level hi : ℕ) (items : List Item) → level ≡ 1 → PluginsFit level items → names_in level hi items ≡ []
 unfolding names_in
 leaf_names level hi [] one fits = refl
 leaf_names level hi (it ∷ items) one fits =

@@ -44,18 +44,25 @@ AreSmall most heard = All (λ (h : Heard). h.ask.more ≤ most) heard
 -- what is held for the nodes of these names, in their order
 abbrev pub heard_by_id : (ℕ → Option Ask) → List Name → List (Name × Ask)
 heard_by_id f [] = []
-heard_by_id f (n ∷ ns) = if n.level == 0 then heard_by_id f ns else heard_one n (f n.id) (heard_by_id f ns)
+heard_by_id f (n ∷ ns) =
+    if n.level == 0 then heard_by_id f ns else heard_one n (f n.id) (heard_by_id f ns)
 
 -- what is held for them is little
 abbrev pub HearsLittle : (ℕ → Option Ask) → (most : ℕ) → List Name → Type 0
-HearsLittle f most ns = (n : Name) (a : Ask) → Contains ns n → 1 ≤ n.level → f n.id ≡ Some a → a.more ≤ most
+HearsLittle f most ns =
+    (n : Name) (a : Ask) → Contains ns n → 1 ≤ n.level → f n.id ≡ Some a → a.more ≤ most
 
 -- ---- a node's pointers
+
+-- what this item names at a place of the cell
+abbrev pub names_at : CellSeen → (place : ℕ) → Item → List Name
+names_at c place item =
+    item_names c.level (next_key (rank c.hi) (drop (place + 1) (items_of c.block))) item
 
 -- what the item at a place of the cell names
 abbrev pub NamesAt : CellSeen → (place : ℕ) → List Name → Type 0
 NamesAt c place names = (item : Item) → slice_get (items_of c.block) place ≡ Some item
-    → item_names c.level (next_key (rank c.hi) (drop (place + 1) (items_of c.block))) item ≡ names
+    → names_at c place item ≡ names
 
 -- It names this node.
 pub record IsChildAt (c : CellSeen) (place : ℕ) (child : Child) : Type 0 where
@@ -65,20 +72,21 @@ pub record IsChildAt (c : CellSeen) (place : ℕ) (child : Child) : Type 0 where
 -- It names data blocks, or nothing.
 abbrev pub NoChildAt : CellSeen → (place : ℕ) → Type 0
 NoChildAt c place = (item : Item) → slice_get (items_of c.block) place ≡ Some item → (n : Name)
-    → Contains (item_names c.level (next_key (rank c.hi) (drop (place + 1) (items_of c.block))) item) n
+    → Contains (names_at c place item) n
     → n.level ≡ 0
 
 -- What is held for the names at the place comes behind the others.
-abbrev pub HearsAt : CellSeen → (place : ℕ) → (ℕ → Option Ask) → (old new : List (Name × Ask)) → Type 0
+abbrev pub HearsAt :
+    CellSeen → (place : ℕ) → (ℕ → Option Ask) → (old new : List (Name × Ask)) → Type 0
 HearsAt c place f old new = (item : Item) → slice_get (items_of c.block) place ≡ Some item → new
-    ≡ old ++ heard_by_id f (item_names c.level (next_key (rank c.hi) (drop (place + 1) (items_of c.block))) item)
+    ≡ old ++ heard_by_id f (names_at c place item)
 
 -- ---- the cells that were met
 
 -- They stand by level, the lowest first.
 abbrev pub AreLevels : List CellSeen → Type 0
-AreLevels met = (i j : ℕ) (c d : CellSeen) → slice_get met i ≡ Some c → slice_get met j ≡ Some d → i < j
-    → c.level ≤ d.level
+AreLevels met = (i j : ℕ) (c d : CellSeen) → slice_get met i ≡ Some c → slice_get met j ≡ Some d
+    → i < j → c.level ≤ d.level
 
 -- They have different names, are a part of a tree and stand by level.
 pub record AreMet (met : List CellSeen) (root : Root) : Type 0 where
@@ -87,14 +95,17 @@ pub record AreMet (met : List CellSeen) (root : Root) : Type 0 where
   pub levels : AreLevels met
 
 -- What is held is what each of these cells asks for, and nothing else is held.
-pub record AreAsks (d : Demand Ask) (t : Store Value) (cells : List CellSeen) (f : ℕ → Option Ask) : Type 0 where
+pub record AreAsks (d : Demand Ask) (t : Store Value) (cells : List CellSeen) (f : ℕ → Option Ask)
+    : Type 0 where
   pub asks : (c : CellSeen) → Contains cells c → f c.id ≡ ask d t c.level (node_of c)
   pub none : (i : ℕ) → ((c : CellSeen) → Contains cells c → c.id ≢ i) → f i ≡ None
-  pub small : (c : CellSeen) (a : Ask) → Contains cells c → f c.id ≡ Some a → a.more ≤ most_for (c.level + 1)
+  pub small : (c : CellSeen) (a : Ask) → Contains cells c → f c.id ≡ Some a
+      → a.more ≤ most_for (c.level + 1)
 
 -- What a cell asks for is held under its number, where nothing was held, and all else is as before.
 pub record IsNoted (d : Demand Ask) (c : CellSeen) (old new : ℕ → Option Ask) : Type 0 where
-  pub node : old c.id ≡ None → 1 ≤ c.level → new c.id ≡ d.asks (node_of c) (heard_by_id old (node_of c).names)
+  pub node : old c.id ≡ None → 1 ≤ c.level
+      → new c.id ≡ d.asks (node_of c) (heard_by_id old (node_of c).names)
   pub data_block : c.level ≡ 0 → new c.id ≡ old c.id
   pub others : (i : ℕ) → i ≢ c.id → new i ≡ old i
   pub small : (a : Ask) → old c.id ≡ None → new c.id ≡ Some a → a.more ≤ most_for (c.level + 1)
@@ -121,8 +132,8 @@ IsWrittenBy d c f beside = IsWrittenAt d (node_of c) ⊎ ((d.turns (node_of c) �
     ⊎ (Contains beside c.id ⊎ (heard_by_id f (node_of c).names ≢ [])))
 
 -- Of cells that are read and those that are written: the cell comes behind the latter, or the former, or neither.
-abbrev pub AddsMark : Demand Ask → (ℕ → Option Ask) → List ℕ → CellSeen → (reads writes : List CellSeen)
-    → (more_reads more_writes : List CellSeen) → Type 0
+abbrev pub AddsMark : Demand Ask → (ℕ → Option Ask) → List ℕ → CellSeen
+    → (reads writes more_reads more_writes : List CellSeen) → Type 0
 AddsMark d f beside c reads writes more_reads more_writes =
     (IsWrittenBy d c f beside × (more_writes ≡ writes ++ c ∷ []) × (more_reads ≡ reads))
     ⊎ ((¬ (IsWrittenBy d c f beside)) × (more_writes ≡ writes)
@@ -132,12 +143,14 @@ AddsMark d f beside c reads writes more_reads more_writes =
 -- The cell comes behind those that are written or read, if it is.
 abbrev pub MarksOne : Demand Ask → (ℕ → Option Ask) → List ℕ → CellSeen → (old new : Marks) → Type 0
 MarksOne d f beside c old new =
-    (new.rises ≡ old.rises) × (AddsMark d f beside c (map arc_value old.reads.items) (map arc_value old.writes.items)
+    (new.rises ≡ old.rises)
+    × (AddsMark d f beside c (map arc_value old.reads.items) (map arc_value old.writes.items)
     (map arc_value new.reads.items) (map arc_value new.writes.items))
 
 -- What holds of each two of the cells, in their order, holds of these too.
 abbrev pub KeepsOrder : (cells chosen : List CellSeen) → Type 0
-KeepsOrder cells chosen = (r : CellSeen → CellSeen → Bool) → AllPairs (λ (c e : CellSeen). r c e ≡ true) cells
+KeepsOrder cells chosen =
+    (r : CellSeen → CellSeen → Bool) → AllPairs (λ (c e : CellSeen). r c e ≡ true) cells
     → AllPairs (λ (c e : CellSeen). r c e ≡ true) chosen
 
 -- These of the cells are of the kind, in the order of the cells.
@@ -146,12 +159,13 @@ pub record AreChosen (kind : ℕ → Type 0) (cells chosen : List CellSeen) : Ty
   pub order : KeepsOrder cells chosen
 
 -- The cells that are read and those that are written, and what the root asks for.
-pub record AreMarks (d : Demand Ask) (met : List CellSeen) (root : Root) (reads writes : List CellSeen)
-    (rises : Option Ask) : Type 0 where
+pub record AreMarks (d : Demand Ask) (met : List CellSeen) (root : Root)
+    (reads writes : List CellSeen) (rises : Option Ask) : Type 0 where
   pub read : AreChosen (IsRead d (by_name met)) met reads
   pub written : AreChosen (IsWritten d (by_name met)) met writes
   pub rising : (a : Ask) → (rises ≡ Some a) ↔ IsRootAsking d (by_name met) root a
 
 abbrev pub AreMarksOf : Demand Ask → List CellSeen → Root → Marks → Type 0
-AreMarksOf d met root m = AreMarks d met root (map arc_value m.reads.items) (map arc_value m.writes.items)
+AreMarksOf d met root m =
+    AreMarks d met root (map arc_value m.reads.items) (map arc_value m.writes.items)
     (option_map ask_seen m.rises)

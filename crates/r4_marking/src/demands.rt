@@ -57,5 +57,6 @@ pub trait Demands {
 
     /// The numbers of the leaves below the twig that get another range though none of their keys is changed.
     fn beside(&self, alloc: Global, cell: &Cell) -> Result<Vec<u64>, Memory>
-        ensures { IfOk result (λ v. v.items ≡ map (λ n. n.id) ((demand self.now).beside (node_of cell.now))) };
+        ensures { IfOk result (λ v. v.items
+            ≡ map (λ n. n.id) ((demand self.now).beside (node_of cell.now))) };
 }

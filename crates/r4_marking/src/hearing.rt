@@ -69,8 +69,8 @@ fn hear(heard: &mut Vec<Heard>, child: Child, asks: &HashMap<u64, Asking>) -> Re
     Ok(())
 }
 
-// The node that a pointer names; none where the item is an extent.
-fn child_at(node: &NodeView<'_>, cell: &Cell, place: u16) -> Option<Child>
+/// The node that the pointer at a place of a node names; none where the item is an extent (docs/volume.md, "The tree").
+pub fn child_at(node: &NodeView<'_>, cell: &Cell, place: u16) -> Option<Child>
     requires items { view_items node.now ≡ items_of cell.now.block }
     requires branch { 2 ≤ cell.now.level }
     requires within { place < length (view_items node.now) }

@@ -7,4 +7,5 @@ mod hearing;
 mod marking;
 
 pub use demands::{Asking, Demands, Heard};
+pub use hearing::child_at;
 pub use marking::{Marks, mark};

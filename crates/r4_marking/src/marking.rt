@@ -92,7 +92,8 @@ fn is_written<D: Demands>(
 
 // The numbers of the leaves beside the twigs that turn.
 fn beside_of<D: Demands>(alloc: Global, demands: &D, met: &[Arc<Cell>]) -> Result<Vec<u64>, Memory>
-    ensures { IfOk result (λ v. AreBeside (D.demand demands.now) (map (λ c. arc_value c) met.now) v.items) }
+    ensures { IfOk result (λ v. AreBeside (D.demand demands.now)
+        (map (λ c. arc_value c) met.now) v.items) }
 {
     let mut beside = Vec::new(alloc);
     for cell in met {
@@ -108,7 +109,8 @@ fn add_beside<D: Demands>(
     cell: &Cell,
     beside: &mut Vec<u64>,
 ) -> Result<(), Memory>
-    ensures { OnOk result (AddsBeside (D.demand demands.now) cell.now beside.old.items beside.new.items) }
+    ensures { OnOk result (AddsBeside (D.demand demands.now) cell.now beside.old.items
+        beside.new.items) }
 {
     if demands.turns(cell) {
         let mut more = demands.beside(alloc, cell)?;

@@ -1,0 +1,9 @@
+pub mod Numbers
+pub mod Turns
+pub mod Firsts
+pub mod Runs
+pub mod Walked
+pub mod Below
+pub mod Parts
+pub mod Empty
+pub mod Leaves
