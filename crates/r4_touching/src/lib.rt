@@ -1,0 +1,8 @@
+//! The cells that hold the keys which a command changes, met leaf by leaf (docs/volume.md, "Reach").
+#![tactic(auto)]
+
+mod changed;
+mod touching;
+
+pub use changed::changed_keys;
+pub use touching::touch;
