@@ -71,7 +71,8 @@ pub fn meets_fills(range: &KeyRange, fills: &[FilledInterval]) -> bool
     fills.iter().any(|f| meets(range, f.from, f.to))
 }
 
-/// Whether one of the runs has a key in a range. It takes no time for each byte (docs/volume.md, "Which edits a leaf gets").
+/// Whether one of the runs has a key in a range. It takes no time for each byte (docs/volume.md, "Which edits a leaf
+/// gets").
 pub fn meets_runs(range: &KeyRange, runs: &[ByteRun]) -> bool
     ensures { result ≡ is_met (put_keys (flat_map run_pairs runs.now))
         (rank range.now.from) (rank range.now.to) }
