@@ -9,15 +9,16 @@ ghost use Rattle.r4_leaf_edits.specs.Making.{range_of};
 use r4_base::Key;
 use r4_leaf::KeyRange;
 
-/// Whether a key lies in a range.
-pub(crate) fn has(range: &KeyRange, key: Key) -> bool
+/// Whether a key lies in a range (docs/volume.md, "Which edits a leaf gets").
+pub fn has(range: &KeyRange, key: Key) -> bool
     ensures { result ≡ is_between (rank range.now.from) (rank range.now.to) (rank key) }
 {
     !key.is_below(range.from) && key.is_below(range.to)
 }
 
-/// The keys from one on and below another that lie in a range, if there are any.
-pub(crate) fn part_of(range: &KeyRange, from: Key, to: Key) -> Option<KeyRange>
+/// The keys from one on and below another that lie in a range, if there are any (docs/volume.md, "Which edits a leaf
+/// gets").
+pub fn part_of(range: &KeyRange, from: Key, to: Key) -> Option<KeyRange>
     ensures part { MatchOption result
         (smaller (rank range.now.to) (rank to) ≤ larger (rank range.now.from) (rank from))
         (λ r. (rank r.from ≡ larger (rank range.now.from) (rank from))

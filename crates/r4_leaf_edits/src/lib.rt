@@ -8,6 +8,7 @@ mod making;
 mod touching;
 mod values;
 
+pub use keys::{has, part_of};
 pub use leaf_edits::LeafEdits;
 pub use making::edits_of_leaf;
-pub use touching::touches_leaf;
+pub use touching::{meets_fills, meets_intervals, meets_runs, touches_leaf};

@@ -54,16 +54,16 @@ fn meets(range: &KeyRange, from: Key, to: Key) -> bool
     part_of(range, from, to).is_some()
 }
 
-// Whether one of the intervals has a key in a range.
-fn meets_intervals(range: &KeyRange, intervals: &[Interval]) -> bool
+/// Whether one of the intervals has a key in a range (docs/volume.md, "Which edits a leaf gets").
+pub fn meets_intervals(range: &KeyRange, intervals: &[Interval]) -> bool
     ensures { result ≡ list_any
         (λ i. meets (rank range.now.from) (rank range.now.to) (interval_of i)) intervals.now }
 {
     intervals.iter().any(|i| meets(range, i.from, i.to))
 }
 
-// Whether one of the fills has a key in a range.
-fn meets_fills(range: &KeyRange, fills: &[FilledInterval]) -> bool
+/// Whether one of the fills has a key in a range (docs/volume.md, "Which edits a leaf gets").
+pub fn meets_fills(range: &KeyRange, fills: &[FilledInterval]) -> bool
     ensures { result ≡ list_any
         (λ f. meets (rank range.now.from) (rank range.now.to) (rank f.from, rank f.to))
         fills.now }
@@ -71,8 +71,9 @@ fn meets_fills(range: &KeyRange, fills: &[FilledInterval]) -> bool
     fills.iter().any(|f| meets(range, f.from, f.to))
 }
 
-// Whether one of the runs has a key in a range.
-fn meets_runs(range: &KeyRange, runs: &[ByteRun]) -> bool
+/// Whether one of the runs has a key in a range. It takes no time for each byte (docs/volume.md, "Which edits a leaf
+/// gets").
+pub fn meets_runs(range: &KeyRange, runs: &[ByteRun]) -> bool
     ensures { result ≡ is_met (put_keys (flat_map run_pairs runs.now))
         (rank range.now.from) (rank range.now.to) }
 {

@@ -1,7 +1,8 @@
 //! What a change asks of cells, one cell at a time.
 
-ghost use Rattle.std.specs.Prelude.{◌≡◌, ◌+◌, ◌≤◌, ◌↔◌, map, true, IfOk, IfSome};
+ghost use Rattle.std.specs.Prelude.{◌≡◌, ◌+◌, ◌≤◌, ◌↔◌, length, map, true, IfOk, IfSome};
 ghost use Rattle.std.specs.Option.{option_map};
+ghost use Rattle.r4_base.specs.Node.{items_of};
 ghost use Rattle.r4_cell.specs.Seen.{node_of};
 ghost use Rattle.r4_marking.specs.Marks.{AreSmall, ask_seen, heard_seen, most_for};
 ghost use Rattle.r4_reach.specs.Demand.{Demand};
@@ -33,10 +34,11 @@ pub trait Demands {
     /// The keys that it reads and changes, and what cells ask for.
     ghost demand: { Self → Demand Ask };
 
-    /// What a node asks for, where the ones that it names ask for this, in the order of its names. Each asks for few
-    /// pointers, and so does the node.
+    /// What a node asks for, where the ones that it names ask for this, in the order of its names: at most one for
+    /// each of its items. Each asks for few pointers, and so does the node.
     fn asks(&self, alloc: Global, cell: &Cell, heard: &[Heard]) -> Result<Option<Asking>, Memory>
         requires node { 1 ≤ cell.now.level }
+        requires few { length heard.now ≤ length (items_of cell.now.block) }
         requires small { AreSmall (most_for cell.now.level) heard.now }
         ensures asks { IfOk result (λ a. option_map ask_seen a
             ≡ (demand self.now).asks (node_of cell.now) (map heard_seen heard.now)) }
