@@ -1,5 +1,6 @@
 -- What a cell names stands below it.
-use Rattle.std.proofs.Common.{◌≡◌, ◌⊎◌, inl, inr, ℕ, zero, suc, ◌+◌, ◌-◌, ◌*◌, ◌<◌, ◌≤◌, Bool, true, false, List, [], ◌∷◌, refl, ap, arith}
+use Rattle.std.proofs.Common.{◌≡◌, ◌⊎◌, inl, inr, ℕ, zero, suc, ◌+◌, ◌-◌, ◌*◌, ◌<◌, ◌≤◌, Bool, true, false, List, []}
+use Rattle.std.proofs.Common.{◌∷◌, refl, ap, arith}
 use Rattle.std.specs.Prelude.{Contains, Option, Some, None, ◌==◌, if◌then◌else◌}
 use Rattle.std.proofs.lemmas.List.Elements.{Contains-append_cases}
 use Rattle.r4_base.specs.Cell.{block_names, cell_of, item_names, names_in, next_key, pointer_names, run_names}
@@ -22,7 +23,9 @@ pub record IsBelow (level : ℕ) (n : Name) : Type 0 where
 
 block_size : (k : ℕ) (us : List ExtentUnit) (n : Name) → Contains (block_names k us) n → n.hi ≡ n.lo + 4096
 block_size k [] n h = absurd (nothing_in n h)
-block_size k (u ∷ us) n h = elim (Contains-append_cases (if is_hole u then [] else run_names k u.start u.width) (block_names (k + 4096 * u.width) us) n h) [
+block_size k (u ∷ us) n h = elim
+    (Contains-append_cases (if is_hole u then [] else run_names k u.start u.width)
+    (block_names (k + 4096 * u.width) us) n h) [
   | inl at ↦ by (is_hole u) at
   | inr at ↦ block_size (k + 4096 * u.width) us n at
 ]
@@ -35,27 +38,34 @@ block_size k (u ∷ us) n h = elim (Contains-append_cases (if is_hole u then [] 
         let lo = ap (λ (x : Name). x.lo) is in
         omega (arith, hi, lo)
 
-item_below : (level next : ℕ) (it : Item) (n : Name) → 1 ≤ level → Contains (item_names level next it) n → IsBelow level n
+item_below : (level next : ℕ) (it : Item) (n : Name) → 1 ≤ level → Contains (item_names level next it) n
+    → IsBelow level n
 unfolding item_names
 item_below level next it n some at = by (it.plugin == 3) (it.plugin == 5) at
   where
     pointed : (o : Option ℕ) → Contains (pointer_names level (rank it.key) next o) n → IsBelow level n
     pointed None h = absurd (nothing_in n h)
     pointed (Some to) h =
-        let e = ap (λ (x : Name). x.level) (only (record { id = to; level = level - 1; lo = rank it.key; hi = next }) n h) in
+        let e = ap (λ (x : Name). x.level)
+            (only (record { id = to; level = level - 1; lo = rank it.key; hi = next }) n h) in
         record { below = omega (arith, e, some); size = λ z. inr (omega (arith, e, z, some)) }
 
-    by : (a b : Bool) → Contains (if a then pointer_names level (rank it.key) next (pointer_of it.body) else (if b then block_names (rank it.key) (units_of it.body) else [])) n → IsBelow level n
+    by : (a b : Bool)
+        → Contains
+        (if a then pointer_names level (rank it.key) next (pointer_of it.body) else
+        (if b then block_names (rank it.key) (units_of it.body) else [])) n → IsBelow level n
     by true b h = pointed (pointer_of it.body) h
     by false true h =
         let z = extent_data (rank it.key) (units_of it.body) n h in
         record { below = omega (arith, z, some); size = λ e. inl (block_size (rank it.key) (units_of it.body) n h) }
     by false false h = absurd (nothing_in n h)
 
-names_below : (level hi : ℕ) (items : List Item) (n : Name) → 1 ≤ level → Contains (names_in level hi items) n → IsBelow level n
+names_below : (level hi : ℕ) (items : List Item) (n : Name) → 1 ≤ level → Contains (names_in level hi items) n
+    → IsBelow level n
 unfolding names_in
 names_below level hi [] n some at = absurd (nothing_in n at)
-names_below level hi (it ∷ items) n some at = elim (Contains-append_cases (item_names level (next_key hi items) it) (names_in level hi items) n at) [
+names_below level hi (it ∷ items) n some at = elim
+    (Contains-append_cases (item_names level (next_key hi items) it) (names_in level hi items) n at) [
   | inl h ↦ item_below level (next_key hi items) it n some h
   | inr h ↦ names_below level hi items n some h
 ]
@@ -70,10 +80,12 @@ name_below c n at = cell_below c.level (rank c.lo) (rank c.hi) c.block n at
 
 -- ---- what a cell says of itself
 
-says : (level lo hi : ℕ) (b : List ℕ) → ((cell_of level lo hi b).level ≡ level) × ((cell_of level lo hi b).lo ≡ lo) × ((cell_of level lo hi b).hi ≡ hi)
+says : (level lo hi : ℕ) (b : List ℕ) → ((cell_of level lo hi b).level ≡ level) × ((cell_of level lo hi b).lo ≡ lo) ×
+    ((cell_of level lo hi b).hi ≡ hi)
 unfolding cell_of
 says zero lo hi b = (refl, refl, refl)
 says (suc l) lo hi b = (refl, refl, refl)
 
-pub node_says : (c : CellSeen) → ((node_of c).level ≡ c.level) × ((node_of c).lo ≡ rank c.lo) × ((node_of c).hi ≡ rank c.hi)
+pub node_says : (c : CellSeen) → ((node_of c).level ≡ c.level) × ((node_of c).lo ≡ rank c.lo) ×
+    ((node_of c).hi ≡ rank c.hi)
 node_says c = says c.level (rank c.lo) (rank c.hi) c.block

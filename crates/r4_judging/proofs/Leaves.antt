@@ -13,15 +13,18 @@ use Rattle.r4_units.proofs.ExtentUnits.{names_of}
 use Rattle.r4_judging.specs.Judging.{IsJudged}
 use Rattle.r4_judging.proofs.Firsts.{no_names}
 
-pub leaf_judged : (c : CellSeen) (cells : List CellSeen) → c.level ≡ 1 → length c.block ≡ 4096 → StandsInMemory c → IsJudged (node_of c).names cells None
+pub leaf_judged : (c : CellSeen) (cells : List CellSeen) → c.level ≡ 1 → length c.block ≡ 4096 → StandsInMemory c
+    → IsJudged (node_of c).names cells None
 leaf_judged c cells level whole stands =
     let at = node_at true (2 ^ 64) c.level (rank c.lo) (rank c.hi) c.block (omega (arith, level)) stands in
     let none : (node_of c).names ≡ [] = names_of c.level (rank c.lo) (rank c.hi) c.block (omega (arith, level))
-    ∙ leaf_names c.level (rank c.hi) (items_of c.block) level (plugins_at true (2 ^ 64) c.level (rank c.lo) (rank c.hi) c.block whole at) in
+    ∙ leaf_names c.level (rank c.hi) (items_of c.block) level
+        (plugins_at true (2 ^ 64) c.level (rank c.lo) (rank c.hi) c.block whole at) in
     subst (λ (ns : List Name). IsJudged ns cells None) (sym none) (no_names cells)
 
 pub data_judged : (c : CellSeen) (cells : List CellSeen) → c.level ≡ 0 → IsJudged (node_of c).names cells None
-data_judged c cells level = subst (λ (ns : List Name). IsJudged ns cells None) (sym (data_nameless c level)) (no_names cells)
+data_judged c cells level = subst (λ (ns : List Name). IsJudged ns cells None) (sym (data_nameless c level))
+    (no_names cells)
 
 data_fine : (level lo hi : ℕ) (b : List ℕ) → level ≡ 0 → cell_fault true (2 ^ 64) level lo hi b ≡ None
 unfolding cell_fault

@@ -1,5 +1,6 @@
 -- Cells by their numbers, and those with some numbers.
-use Rattle.std.proofs.Common.{◌≡◌, ◌⊎◌, inl, inr, ℕ, zero, suc, ◌+◌, ◌-◌, ◌<◌, ◌≤◌, Bool, true, false, List, [], ◌∷◌, length, take, drop, get_or, map, refl, sym, ap, subst, ◌∙◌, arith}
+use Rattle.std.proofs.Common.{◌≡◌, ◌⊎◌, inl, inr, ℕ, zero, suc, ◌+◌, ◌-◌, ◌<◌, ◌≤◌, Bool, true, false, List, [], ◌∷◌}
+use Rattle.std.proofs.Common.{length, take, drop, get_or, map, refl, sym, ap, subst, ◌∙◌, arith}
 use Rattle.std.specs.Prelude.{Contains, nat_lt}
 use denote.Param.Members.{Mut}
 use denote.Ref.{Bor}
@@ -22,15 +23,18 @@ pub order_shown : {A : Type 0} (h : A → CellSeen) (xs : List A) → IsNonDecre
 order_shown h [] up i j d low lt = absurd (omega (arith, lt))
 order_shown h (x ∷ xs) up i j d low lt =
     let long = length_map h (x ∷ xs) in
-    subst (λ c. c.id ≤ (get_or (map h (x ∷ xs)) j d).id) (sym (get_or-map h (x ∷ xs) i x d (omega (arith, low, lt, long))))
-    (subst (λ c. (h (get_or (x ∷ xs) i x)).id ≤ c.id) (sym (get_or-map h (x ∷ xs) j x d (omega (arith, lt, long)))) (up i j x low (omega (arith, lt, long))))
+    subst (λ c. c.id ≤ (get_or (map h (x ∷ xs)) j d).id)
+        (sym (get_or-map h (x ∷ xs) i x d (omega (arith, low, lt, long))))
+    (subst (λ c. (h (get_or (x ∷ xs) i x)).id ≤ c.id) (sym (get_or-map h (x ∷ xs) j x d (omega (arith, lt, long))))
+        (up i j x low (omega (arith, lt, long))))
 
 pub order_hidden : {A : Type 0} (h : A → CellSeen) (xs : List A) → IsNonDecreasingBy (λ c. c.id) (map h xs)
     → IsNonDecreasingBy (λ x. (h x).id) xs
 order_hidden h xs up i j d low lt =
     let long = length_map h xs in
     subst (λ c. c.id ≤ (h (get_or xs j d)).id) (get_or-map h xs i d (h d) (omega (arith, low, lt)))
-    (subst (λ c. (get_or (map h xs) i (h d)).id ≤ c.id) (get_or-map h xs j d (h d) lt) (up i j (h d) low (omega (arith, lt, long))))
+    (subst (λ c. (get_or (map h xs) i (h d)).id ≤ c.id) (get_or-map h xs j d (h d) lt)
+        (up i j (h d) low (omega (arith, lt, long))))
 
 -- the first of them whose number is not below an end
 abbrev pub EndsBefore : {A : Type 0} → (A → CellSeen) → ℕ → List A → ℕ → Type 0
@@ -38,7 +42,8 @@ EndsBefore h n = IsPartitionPoint (λ y. nat_lt (h y).id n ≡ true) (λ y. nat_
 
 pub ends_before : {A : Type 0} (h : A → CellSeen) (n : ℕ) {F : Type 0} {g : Mut F (Bor A × Unit {0}) Bool} {f : F}
     (xs : List A) (i : ℕ) → IsNonDecreasingBy (λ x. (h x).id) xs
-    → ((q : A → Bool) → ComputesKey g q f → IsPartitionedBy q xs → IsPartitionPoint (λ y. q y ≡ true) (λ y. q y ≡ false) xs i)
+    → ((q : A → Bool) → ComputesKey g q f → IsPartitionedBy q xs
+        → IsPartitionPoint (λ y. q y ≡ true) (λ y. q y ≡ false) xs i)
     → ((a : Bor A × Unit {0}) (r : Bool) (f' : F) → Called g f a r f' → (r ≡ nat_lt (h a.0.now).id n) × (f' ≡ f))
     → EndsBefore h n xs i
 ends_before h n xs i order clause calls =
@@ -46,27 +51,34 @@ ends_before h n xs i order clause calls =
     (IsPartitionedBy-ltb (λ y. (h y).id) xs n order) calls
 
 -- the order of those from a place on
-pub rest_in_order : {A : Type 0} (f : A → ℕ) (k : ℕ) (xs : List A) → IsNonDecreasingBy f xs → IsNonDecreasingBy f (drop k xs)
+pub rest_in_order : {A : Type 0} (f : A → ℕ) (k : ℕ) (xs : List A) → IsNonDecreasingBy f xs
+    → IsNonDecreasingBy f (drop k xs)
 rest_in_order f zero xs up = up
 rest_in_order f (suc k) [] up = up
-rest_in_order f (suc k) (x ∷ xs) up = rest_in_order f k xs (λ i j d le lt. up (suc i) (suc j) d (omega (arith, le)) (omega (arith, lt)))
+rest_in_order f (suc k) (x ∷ xs) up = rest_in_order f k xs
+    (λ i j d le lt. up (suc i) (suc j) d (omega (arith, le)) (omega (arith, lt)))
 
 -- ---- what has the numbers from one on
 
-at_place : {A : Type 0} (h : A → CellSeen) (xs : List A) (c : CellSeen) (d : A) → Contains (map h xs) c → (i : ℕ) × (i < length xs) × (h (get_or xs i d) ≡ c)
+at_place : {A : Type 0} (h : A → CellSeen) (xs : List A) (c : CellSeen) (d : A) → Contains (map h xs) c
+    → (i : ℕ) × (i < length xs) × (h (get_or xs i d) ≡ c)
 at_place h [] c d (i, l, e) = absurd (omega (arith, l))
 at_place h (x ∷ xs) c d (zero, l, e) = (zero, omega arith, e)
-at_place h (x ∷ xs) c d (suc i, l, e) = let (j, lt, is) = at_place h xs c d (i, omega (arith, l), e) in (suc j, omega (arith, lt), is)
+at_place h (x ∷ xs) c d (suc i, l, e) = let (j, lt, is) = at_place h xs c d (i, omega (arith, l), e) in
+    (suc j, omega (arith, lt), is)
 
-has_place : {A : Type 0} (h : A → CellSeen) (xs : List A) (i : ℕ) (d : A) → i < length xs → Contains (map h xs) (h (get_or xs i d))
+has_place : {A : Type 0} (h : A → CellSeen) (xs : List A) (i : ℕ) (d : A) → i < length xs
+    → Contains (map h xs) (h (get_or xs i d))
 has_place h [] i d lt = absurd (omega (arith, lt))
 has_place h (x ∷ xs) zero d lt = (zero, omega arith, refl)
-has_place h (x ∷ xs) (suc i) d lt = let (j, l, e) = has_place h xs i d (omega (arith, lt)) in (suc j, omega (arith, l), e)
+has_place h (x ∷ xs) (suc i) d lt = let (j, l, e) = has_place h xs i d (omega (arith, lt)) in
+    (suc j, omega (arith, l), e)
 
 drop_at : {A : Type 0} (k : ℕ) (xs : List A) (i : ℕ) (d : A) → get_or (drop k xs) i d ≡ get_or xs (k + i) d
 drop_at zero xs i d = let e : i ≡ 0 + i = omega arith in ap (λ (n : ℕ). get_or xs n d) e
 drop_at (suc k) [] i d = refl
-drop_at (suc k) (x ∷ xs) i d = let e : suc (k + i) ≡ suc k + i = omega arith in drop_at k xs i d ∙ ap (λ (n : ℕ). get_or (x ∷ xs) n d) e
+drop_at (suc k) (x ∷ xs) i d = let e : suc (k + i) ≡ suc k + i = omega arith in drop_at k xs i d
+    ∙ ap (λ (n : ℕ). get_or (x ∷ xs) n d) e
 
 drop_long : {A : Type 0} (k : ℕ) (xs : List A) → length (drop k xs) ≡ length xs - k
 drop_long zero xs = omega arith
@@ -84,14 +96,16 @@ take_long zero xs le = refl
 take_long (suc k) [] le = absurd (omega (arith, le))
 take_long (suc k) (x ∷ xs) le = let e = take_long k xs (omega (arith, le)) in omega (arith, e)
 
-module _ {A : Type 0} (h : A → CellSeen) (from count a b : ℕ) (xs : List A) (low : EndsBefore h from xs a) (within : a ≤ length xs) (short : b ≤ length (drop a xs)) (high : EndsBefore h (from + count) (drop a xs) b) where
+module _ {A : Type 0} (h : A → CellSeen) (from count a b : ℕ) (xs : List A) (low : EndsBefore h from xs a)
+    (within : a ≤ length xs) (short : b ≤ length (drop a xs)) (high : EndsBefore h (from + count) (drop a xs) b) where
   abbrev pub near : List A
   near = take b (drop a xs)
 
   compare : (m n : ℕ) → (m < n) ⊎ (n ≤ m)
   compare m n = grind (arith, nat_tests)
 
-  pub near_has : (c : CellSeen) → Contains (map h near) c → Contains (map h xs) c × (from ≤ c.id) × (c.id < from + count)
+  pub near_has : (c : CellSeen) → Contains (map h near) c
+      → Contains (map h xs) c × (from ≤ c.id) × (c.id < from + count)
   near_has c at = by xs refl
     where
       by : (ys : List A) → ys ≡ xs → Contains (map h xs) c × (from ≤ c.id) × (c.id < from + count)
@@ -125,23 +139,33 @@ module _ {A : Type 0} (h : A → CellSeen) (from count a b : ℕ) (xs : List A) 
   has_near c at from_c below_c = by xs refl
     where
       by : (ys : List A) → ys ≡ xs → Contains (map h near) c
-      by [] none = absurd (let (i, l, is) = subst (λ (zs : List A). Contains (map h zs) c) (sym none) at in omega (arith, l))
+      by [] none = absurd
+          (let (i, l, is) = subst (λ (zs : List A). Contains (map h zs) c) (sym none) at in omega (arith, l))
       by (d ∷ ys) e =
           let (i, lt, is) = at_place h xs c d at in
           let l = drop_long a xs in
           let from_i : from ≤ (h (get_or xs i d)).id = subst (λ (y : CellSeen). from ≤ y.id) (sym is) from_c in
-          let below_i : (h (get_or xs i d)).id < from + count = subst (λ (y : CellSeen). y.id < from + count) (sym is) below_c in
+          let below_i : (h (get_or xs i d)).id < from + count = subst (λ (y : CellSeen). y.id < from + count)
+              (sym is) below_c in
           let past : a ≤ i = elim (compare i a) [
-            | inl less ↦ absurd (let t = low.0 i d (omega arith) less in let bad : (h (get_or xs i d)).id < from = grind (arith, nat_tests, t) in omega (arith, bad, from_i))
+            | inl less ↦ absurd
+                (let t = low.0 i d (omega arith) less in let bad : (h (get_or xs i d)).id < from = grind
+                (arith, nat_tests, t) in omega (arith, bad, from_i))
             | inr le ↦ le
           ] in
           let k = i - a in
           let place : a + (i - a) ≡ i = omega (arith, past) in
           let inside : i - a < length (drop a xs) = omega (arith, l, lt, past) in
-          let same : get_or (drop a xs) (i - a) d ≡ get_or xs i d = drop_at a xs (i - a) d ∙ ap (λ (n : ℕ). get_or xs n d) place in
+          let same : get_or (drop a xs) (i - a) d ≡ get_or xs i d = drop_at a xs (i - a) d
+              ∙ ap (λ (n : ℕ). get_or xs n d) place in
           let below_b : i - a < b = elim (compare (i - a) b) [
             | inl less ↦ less
-            | inr le ↦ absurd (let t = high.1 (i - a) d le inside in let bad : from + count ≤ (h (get_or (drop a xs) (i - a) d)).id = grind (arith, nat_tests, t) in let there : from + count ≤ (h (get_or xs i d)).id = subst (λ (y : A). from + count ≤ (h y).id) same bad in omega (arith, there, below_i))
+            | inr le ↦ absurd
+                (let t = high.1 (i - a) d le inside in let bad : from + count ≤
+                (h (get_or (drop a xs) (i - a) d)).id = grind (arith, nat_tests, t) in let there : from + count ≤
+                (h (get_or xs i d)).id = subst (λ (y : A). from + count ≤ (h y).id) same bad in omega
+                (arith, there, below_i))
           ] in
           let long = take_long b (drop a xs) short in
-          subst (Contains (map h near)) (ap h (take_at b (drop a xs) (i - a) d below_b ∙ same) ∙ is) (has_place h near (i - a) d (omega (arith, below_b, long)))
+          subst (Contains (map h near)) (ap h (take_at b (drop a xs) (i - a) d below_b ∙ same) ∙ is)
+              (has_place h near (i - a) d (omega (arith, below_b, long)))

@@ -1,5 +1,6 @@
 -- Cells that hang together, and of which none misnames another one, are a part of a tree.
-use Rattle.std.proofs.Common.{◌≡◌, ◌⊎◌, inl, inr, ℕ, zero, suc, ◌+◌, ◌<◌, ◌≤◌, ◌^◌, true, List, [], ◌∷◌, ◌++◌, append-nil, append_assoc, refl, sym, ap, subst, ◌∙◌, arith}
+use Rattle.std.proofs.Common.{◌≡◌, ◌⊎◌, inl, inr, ℕ, zero, suc, ◌+◌, ◌<◌, ◌≤◌, ◌^◌, true, List, [], ◌∷◌, ◌++◌}
+use Rattle.std.proofs.Common.{append-nil, append_assoc, refl, sym, ap, subst, ◌∙◌, arith}
 use Rattle.std.specs.Prelude.{All, Contains, Option, Some, None}
 use Rattle.std.proofs.lemmas.List.Elements.{All-head, All-tail, Contains-append_left, Contains-append_right}
 use Rattle.r4_base.specs.Cell.{cell_of}
@@ -26,29 +27,36 @@ all_sound (x ∷ cells) h c at = elim (cases x c cells at) [
   | inr more ↦ all_sound cells (All-tail IsSound x cells h) c more
 ]
 
-pub in_all_names : (cells : List CellSeen) (c : CellSeen) (n : Name) → Contains cells c → Contains (node_of c).names n → Contains (all_names cells) n
+pub in_all_names : (cells : List CellSeen) (c : CellSeen) (n : Name) → Contains cells c → Contains (node_of c).names n
+    → Contains (all_names cells) n
 in_all_names [] c n at named = absurd (none c at)
 in_all_names (x ∷ cells) c n at named = elim (cases x c cells at) [
-  | inl is ↦ Contains-append_left (node_of x).names (all_names cells) n (subst (λ (y : CellSeen). Contains (node_of y).names n) is named)
+  | inl is ↦ Contains-append_left (node_of x).names (all_names cells) n
+      (subst (λ (y : CellSeen). Contains (node_of y).names n) is named)
   | inr more ↦ Contains-append_right (node_of x).names (all_names cells) n (in_all_names cells c n more named)
 ]
 
 pub names_more : (xs : List CellSeen) (x : CellSeen) → all_names (xs ++ x ∷ []) ≡ all_names xs ++ (node_of x).names
 names_more [] x = append-nil (node_of x).names
-names_more (y ∷ xs) x = ap (λ (ns : List Name). (node_of y).names ++ ns) (names_more xs x) ∙ sym (append_assoc (node_of y).names (all_names xs) (node_of x).names)
+names_more (y ∷ xs) x = ap (λ (ns : List Name). (node_of y).names ++ ns) (names_more xs x)
+    ∙ sym (append_assoc (node_of y).names (all_names xs) (node_of x).names)
 
 least_top : least < top
 unfolding least top
 least_top = omega arith
 
-module _ (root : Root) (met : List CellSeen) (h : HangTogether root met) (sound : All IsSound met) (judged : IsJudged (all_names met) met None) where
+module _ (root : Root) (met : List CellSeen) (h : HangTogether root met) (sound : All IsSound met)
+    (judged : IsJudged (all_names met) met None) where
   -- what is named and was met has the level and the range
-  fit : (c d : CellSeen) (n : Name) → Contains met c → Contains met d → Contains (node_of c).names n → d.id ≡ n.id → IsNamed n d
+  fit : (c d : CellSeen) (n : Name) → Contains met c → Contains met d → Contains (node_of c).names n → d.id ≡ n.id
+      → IsNamed n d
   fit c d n at there_d named id = by (place_fault n d) refl
     where
       by : (o : Option CellFault) → place_fault n d ≡ o → IsNamed n d
       by None is = fits n d id is
-      by (Some f) is = absurd (judged d f (record { among = there_d; name = n; named = in_all_names met c n at named; id = sym id; fault = is }))
+      by (Some f) is = absurd
+          (judged d f
+          (record { among = there_d; name = n; named = in_all_names met c n at named; id = sym id; fault = is }))
 
   is_sound : (c : CellSeen) → Contains met c → IsSound c
   is_sound c at = all_sound met sound c at
@@ -57,8 +65,10 @@ module _ (root : Root) (met : List CellSeen) (h : HangTogether root met) (sound 
     node : IsNode (node_of c)
     low : c.level ≤ root.height
 
-  as_node : (c : CellSeen) → Contains met c → 1 ≤ c.level → least ≤ rank c.lo → rank c.lo < rank c.hi → rank c.hi ≤ top → IsNode (node_of c)
-  as_node c at some low order high = let s = is_sound c at in cell_node true (2 ^ 64) c.level (rank c.lo) (rank c.hi) c.block s.whole some low order high s.stands
+  as_node : (c : CellSeen) → Contains met c → 1 ≤ c.level → least ≤ rank c.lo → rank c.lo < rank c.hi → rank c.hi ≤ top
+      → IsNode (node_of c)
+  as_node c at some low order high = let s = is_sound c at in cell_node true (2 ^ 64) c.level (rank c.lo)
+      (rank c.hi) c.block s.whole some low order high s.stands
 
   root_good : (c : CellSeen) → Contains met c → IsNamed (root_name root) c → IsGood c
   root_good c at is =
@@ -67,7 +77,8 @@ module _ (root : Root) (met : List CellSeen) (h : HangTogether root met) (sound 
       let hi = is.hi in
       let tall = h.height in
       record {
-        node = as_node c at (omega (arith, level, tall)) (omega (arith, lo)) (let lt = least_top in omega (arith, lo, hi, lt)) (omega (arith, hi));
+        node = as_node c at (omega (arith, level, tall)) (omega (arith, lo))
+            (let lt = least_top in omega (arith, lo, hi, lt)) (omega (arith, hi));
         low = omega (arith, level);
       }
 
@@ -110,7 +121,8 @@ module _ (root : Root) (met : List CellSeen) (h : HangTogether root met) (sound 
           let hi = up.is.hi in
           let long : rank c.hi ≡ rank c.lo + 4096 = omega (arith, size, lo, hi) in
           subst (λ (k : ℕ). IsNode (cell_of k (rank c.lo) (rank c.hi) c.block)) (sym e)
-          (subst (λ (k : ℕ). IsNode (cell_of 0 (rank c.lo) k c.block)) (sym long) (data_node (rank c.lo) c.block (is_sound c at).whole low (omega (arith, long, high))))
+          (subst (λ (k : ℕ). IsNode (cell_of 0 (rank c.lo) k c.block)) (sym long)
+              (data_node (rank c.lo) c.block (is_sound c at).whole low (omega (arith, long, high))))
 
   -- level by level from the root
   above : (k : ℕ) (c : CellSeen) → 256 ≤ c.level + suc k → (up : IsNamedAmong met c) → 256 ≤ up.up.level + k
@@ -130,7 +142,8 @@ module _ (root : Root) (met : List CellSeen) (h : HangTogether root met) (sound 
   all_good c at = good 256 c at (omega arith)
 
   -- the root was met
-  top_of : (k : ℕ) (c : CellSeen) → Contains met c → 256 ≤ c.level + k → (r : CellSeen) × Contains met r × IsNamed (root_name root) r
+  top_of : (k : ℕ) (c : CellSeen) → Contains met c → 256 ≤ c.level + k
+      → (r : CellSeen) × Contains met r × IsNamed (root_name root) r
   top_of zero c at far = let low = (is_sound c at).level in absurd (omega (arith, far, low))
   top_of (suc k) c at far = elim (h.hung c at) [
     | inl is ↦ (c, at, is)
@@ -145,24 +158,31 @@ module _ (root : Root) (met : List CellSeen) (h : HangTogether root met) (sound 
       let (r, at, is) = top_of 256 h.some h.one (omega arith) in
       let (level, lo, hi) = node_says r in
       record {
-        nodes = λ i c e. let (x, in_met, id, same) = found met i c e in subst IsNode (sym same) (all_good x in_met).node;
+        nodes = λ i c e. let (x, in_met, id, same) = found met i c e in subst IsNode (sym same)
+            (all_good x in_met).node;
         root_node = node_of r;
         root_is = subst (λ (i : ℕ). by_name met i ≡ Some (node_of r)) is.id (in_store r at);
         root_level = level ∙ is.level;
         root_lo = lo ∙ is.lo;
         root_hi = hi ∙ is.hi;
         height = h.height;
-        none_above = λ i c e. let (x, in_met, id, same) = found met i c e in let low = (all_good x in_met).low in subst (λ (m : Node Value). m.level ≤ root.height) (sym same) (let (l, _, _) = node_says x in omega (arith, l, low));
+        none_above = λ i c e. let (x, in_met, id, same) = found met i c e in let low = (all_good x in_met).low in subst
+            (λ (m : Node Value). m.level ≤ root.height) (sym same)
+            (let (l, _, _) = node_says x in omega (arith, l, low));
         named = λ i c d n e has f.
             let (x, in_met, id, same) = found met i c e in
             let (y, in_met2, id2, same2) = found met n.id d f in
-            subst (Fits n) (sym same2) (fitting n y (fit x y n in_met in_met2 (subst (λ (m : Node Value). Contains m.names n) same has) id2));
+            subst (Fits n) (sym same2)
+                (fitting n y (fit x y n in_met in_met2 (subst (λ (m : Node Value). Contains m.names n) same has) id2));
         reached = λ i c e. let (x, in_met, id, same) = found met i c e in hung_at i x in_met id (h.hung x in_met);
       }
     where
       fitting : (n : Name) (y : CellSeen) → IsNamed n y → Fits n (node_of y)
-      fitting n y is = let (l, lo, hi) = node_says y in record { level = l ∙ is.level; lo = lo ∙ is.lo; hi = hi ∙ is.hi }
+      fitting n y is = let
+          (l, lo, hi) = node_says y in record { level = l ∙ is.level; lo = lo ∙ is.lo; hi = hi ∙ is.hi }
 
-      hung_at : (i : ℕ) (x : CellSeen) → Contains met x → x.id ≡ i → IsNamed (root_name root) x ⊎ IsNamedAmong met x → (i ≡ root.id.0) ⊎ NamesId (by_name met) i
+      hung_at : (i : ℕ) (x : CellSeen) → Contains met x → x.id ≡ i → IsNamed (root_name root) x ⊎ IsNamedAmong met x
+          → (i ≡ root.id.0) ⊎ NamesId (by_name met) i
       hung_at i x in_met id (inl is) = inl (sym id ∙ is.id)
-      hung_at i x in_met id (inr up) = inr (up.name, (up.up.id, node_of up.up, in_store up.up up.above, up.named), sym up.is.id ∙ id)
+      hung_at i x in_met id (inr up) = inr
+          (up.name, (up.up.id, node_of up.up, in_store up.up up.above, up.named), sym up.is.id ∙ id)

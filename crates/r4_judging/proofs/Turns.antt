@@ -53,17 +53,22 @@ no_higher : (l m a b : ℕ) (f g : CellFault) → l ≡ m → a ≡ b → fault_
 unfolding turn
 no_higher l m a b f g same key le = omega (arith, same, key, le)
 
-module _ (l m a b : ℕ) (f g : CellFault) (top_l : l < 256) (top_m : m < 256) (small_a : a < 2 ^ 256) (small_b : b < 2 ^ 256) where
+module _ (l m a b : ℕ) (f g : CellFault) (top_l : l < 256) (top_m : m < 256) (small_a : a < 2 ^ 256)
+    (small_b : b < 2 ^ 256) where
   pub by_level : l ≢ m → nat_lt m l ≡ nat_lt (turn l a f) (turn m b g)
   by_level ne = elim (compare m l) [
     | inl lt ↦ lt_true m l lt ∙ sym (lt_true (turn l a f) (turn m b g) (higher l m a b f g top_l small_a lt))
-    | inr le ↦ (let less = higher m l b a g f top_m small_b (omega (arith, le, ne)) in lt_false m l le ∙ sym (lt_false (turn l a f) (turn m b g) (omega (arith, less))))
+    | inr le ↦
+        (let less = higher m l b a g f top_m small_b (omega (arith, le, ne)) in lt_false m l le
+        ∙ sym (lt_false (turn l a f) (turn m b g) (omega (arith, less))))
   ]
 
   pub by_key : l ≡ m → a ≢ b → nat_lt a b ≡ nat_lt (turn l a f) (turn m b g)
   by_key same ne = elim (compare a b) [
     | inl lt ↦ lt_true a b lt ∙ sym (lt_true (turn l a f) (turn m b g) (lower_key l m a b f g same lt))
-    | inr le ↦ (let less = lower_key m l b a g f (sym same) (omega (arith, le, ne)) in lt_false a b le ∙ sym (lt_false (turn l a f) (turn m b g) (omega (arith, less))))
+    | inr le ↦
+        (let less = lower_key m l b a g f (sym same) (omega (arith, le, ne)) in lt_false a b le
+        ∙ sym (lt_false (turn l a f) (turn m b g) (omega (arith, less))))
   ]
 
   pub by_fault : l ≡ m → a ≡ b → (fault_turn f == 0) ≡ true → not (fault_turn g == 0) ≡ nat_lt (turn l a f) (turn m b g)
@@ -73,8 +78,10 @@ module _ (l m a b : ℕ) (f g : CellFault) (top_l : l < 256) (top_m : m < 256) (
       zero_f = grind (arith, first)
 
       by : (t : Bool) → (fault_turn g == 0) ≡ t → not t ≡ nat_lt (turn l a f) (turn m b g)
-      by true is = let z : fault_turn g ≡ 0 = grind (arith, is) in let y = zero_f in sym (lt_false (turn l a f) (turn m b g) (no_higher m l b a g f (sym same) (sym key) (omega (arith, z, y))))
-      by false is = let z : 0 < fault_turn g = grind (arith, is) in let y = zero_f in sym (lt_true (turn l a f) (turn m b g) (same_key l m a b f g same key (omega (arith, z, y))))
+      by true is = let z : fault_turn g ≡ 0 = grind (arith, is) in let y = zero_f in sym
+          (lt_false (turn l a f) (turn m b g) (no_higher m l b a g f (sym same) (sym key) (omega (arith, z, y))))
+      by false is = let z : 0 < fault_turn g = grind (arith, is) in let y = zero_f in sym
+          (lt_true (turn l a f) (turn m b g) (same_key l m a b f g same key (omega (arith, z, y))))
 
   pub by_other : l ≡ m → a ≡ b → (fault_turn f == 0) ≡ false → false ≡ nat_lt (turn l a f) (turn m b g)
   by_other same key other =

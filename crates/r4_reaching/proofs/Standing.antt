@@ -22,7 +22,8 @@ use Rattle.r4_reaching.specs.Reaching.{InLeaf, IsSeenPart, StaysInLeaves}
 
 -- ---- over a pool that has met more
 
-pub found_on : (p q : PoolState) (known : Intervals) (s : Pairs) → Goes p q → AreFound (met_cells p) known s → AreFound (met_cells q) known s
+pub found_on : (p q : PoolState) (known : Intervals) (s : Pairs) → Goes p q → AreFound (met_cells p) known s
+    → AreFound (met_cells q) known s
 found_on p q known s g f = record {
   rises = f.rises;
   within = f.within;
@@ -33,7 +34,8 @@ found_on p q known s g f = record {
     moved : (k : ℕ) {o : Option Value} → IsFoundAt (met_cells p) k o → IsFoundAt (met_cells q) k o
     moved k h = record { id = h.id; cell = h.cell; is = stays (p.met h.id) refl h.is; holds = h.holds; has = h.has }
       where
-        stays : (o : Option CellSeen) → p.met h.id ≡ o → option_map node_of (p.met h.id) ≡ Some h.cell → option_map node_of (q.met h.id) ≡ Some h.cell
+        stays : (o : Option CellSeen) → p.met h.id ≡ o → option_map node_of (p.met h.id) ≡ Some h.cell
+            → option_map node_of (q.met h.id) ≡ Some h.cell
         stays (Some c) was is = ap (option_map node_of) (g.met h.id c was) ∙ (sym (ap (option_map node_of) was) ∙ is)
         stays None was is = absurd (let none = sym (ap (option_map node_of) was) ∙ is in cc)
 
@@ -59,18 +61,21 @@ module _ (t : Store Value) (root : Root) (known : Intervals) (s : Pairs) (h : Is
     where
       back : IsFoundAt t k (find nat_cmp k s) → UnitAt t k v → find nat_cmp k s ≡ Some v
       back f (i, c, is, has) =
-          let same : i ≡ f.id = one_holder t root h.part k i f.id c f.cell is f.is (unit_held c k v (h.part.nodes i c is) has) f.holds in
+          let same : i ≡ f.id = one_holder t root h.part k i f.id c f.cell is f.is
+              (unit_held c k v (h.part.nodes i c is) has) f.holds in
           let cell : c ≡ f.cell = one_cell t f.id c f.cell (subst (λ (j : ℕ). t j ≡ Some c) same is) f.is in
           (f.has v).1 (subst (λ (d : Node Value). Contains d.units (k, v)) cell has)
 
-  pub seen_stands : (asked : Intervals) → ((k : ℕ) → is_in asked k ≡ true → least ≤ k → k < top → is_in known k ≡ true) → (k : ℕ) (v : Value) → is_in asked k ≡ true → (find nat_cmp k s ≡ Some v) ↔ UnitAt t k v
+  pub seen_stands : (asked : Intervals) → ((k : ℕ) → is_in asked k ≡ true → least ≤ k → k < top → is_in known k ≡ true)
+      → (k : ℕ) (v : Value) → is_in asked k ≡ true → (find nat_cmp k s ≡ Some v) ↔ UnitAt t k v
   seen_stands asked looked k v at = by (is_in known k) refl
     where
       by : (b : Bool) → is_in known k ≡ b → (find nat_cmp k s ≡ Some v) ↔ UnitAt t k v
       by true is = known_stands k v is
       by false is = (
         (λ seen. absurd (let none = sym (h.found.only k is) ∙ seen in cc)),
-        (λ u. absurd (let (low, high) = unit_inside k v u in let yes = looked k at low high in let both = sym yes ∙ is in cc)),
+        (λ u. absurd
+            (let (low, high) = unit_inside k v u in let yes = looked k at low high in let both = sym yes ∙ is in cc)),
       )
 
   -- ---- what is touched
@@ -86,7 +91,8 @@ module _ (t : Store Value) (root : Root) (known : Intervals) (s : Pairs) (h : Is
         low le at = elim (dec_le 1 f.cell.level) [
           | yes one ↦ (f.id, f.cell, f.is, inl (omega (arith, le, one), at))
           | no zero_level ↦
-              (let (j, e, n, r, te, en, is, z, at_n, er, at_r) = block_twig t root h.part f.id f.cell k f.is (omega (arith, lt_of_not-le zero_level)) at in
+              (let (j, e, n, r, te, en, is, z, at_n, er, at_r) = block_twig t root h.part f.id f.cell k f.is
+                  (omega (arith, lt_of_not-le zero_level)) at in
               (j, e, te, inr (r, er, at_r)))
         ]
 
@@ -98,10 +104,12 @@ module _ (t : Store Value) (root : Root) (known : Intervals) (s : Pairs) (h : Is
     covered_leaf k (i, c, is, level, at) = (i, c, is, inl (level, at))
 
     -- a data block that has a touched key is there
-    block_there : (i : ℕ) (c : Node Value) (n : Name) (k : ℕ) → t i ≡ Some c → Contains c.names n → IsData n → InName n k → (is_in known k ≡ true) ⊎ InLeaf t k → (b : Node Value) × (t n.id ≡ Some b)
+    block_there : (i : ℕ) (c : Node Value) (n : Name) (k : ℕ) → t i ≡ Some c → Contains c.names n → IsData n
+        → InName n k → (is_in known k ≡ true) ⊎ InLeaf t k → (b : Node Value) × (t n.id ≡ Some b)
     block_there i c n k tc named z at (inr (j, e, te, level, in_e)) =
         let (r, cr, from, to) = (h.part.nodes i c tc).data_in_span n named z in
-        absurd (leaf_or_extent t root h.part j i e c r k te tc level cr in_e (omega (arith, from, at), omega (arith, to, at)))
+        absurd (leaf_or_extent t root h.part j i e c r k te tc level cr in_e
+            (omega (arith, from, at), omega (arith, to, at)))
     block_there i c n k tc named z at (inl is) = by (h.found.found k is)
       where
         by : IsFoundAt t k (find nat_cmp k s) → (b : Node Value) × (t n.id ≡ Some b)
@@ -111,15 +119,18 @@ module _ (t : Store Value) (root : Root) (known : Intervals) (s : Pairs) (h : Is
             holding (inl (le, in_f)) = elim (dec_le 1 f.cell.level) [
               | yes one ↦
                   (let (r, cr, from, to) = (h.part.nodes i c tc).data_in_span n named z in
-                  absurd (leaf_or_extent t root h.part f.id i f.cell c r k f.is tc (omega (arith, le, one)) cr in_f (omega (arith, from, at), omega (arith, to, at))))
+                  absurd (leaf_or_extent t root h.part f.id i f.cell c r k f.is tc (omega (arith, le, one)) cr in_f
+                      (omega (arith, from, at), omega (arith, to, at))))
               | no zero_level ↦
-                  (let (j, e, m, r, te, em, id, zm, at_m, er, at_r) = block_twig t root h.part f.id f.cell k f.is (omega (arith, lt_of_not-le zero_level)) in_f in
+                  (let (j, e, m, r, te, em, id, zm, at_m, er, at_r) = block_twig t root h.part f.id f.cell k f.is
+                      (omega (arith, lt_of_not-le zero_level)) in_f in
                   let same : n ≡ m = one_name t root h.part k i j c e n m tc te named z at em zm at_m in
                   (f.cell, subst (λ (a : ℕ). t a ≡ Some f.cell) (sym (ap (λ (x : Name). x.id) same ∙ id)) f.is))
             ]
             holding (inr (r, has, in_r, none)) =
                 let (q, cq, from, to) = (h.part.nodes i c tc).data_in_span n named z in
-                let same : f.id ≡ i = one_span t root h.part k f.id i f.cell c r q f.is tc has in_r cq (omega (arith, from, at), omega (arith, to, at)) in
+                let same : f.id ≡ i = one_span t root h.part k f.id i f.cell c r q f.is tc has in_r cq
+                    (omega (arith, from, at), omega (arith, to, at)) in
                 let cell : f.cell ≡ c = one_cell t i f.cell c (subst (λ (a : ℕ). t a ≡ Some f.cell) same f.is) tc in
                 absurd (none n (subst (λ (x : Node Value). Contains x.names n) (sym cell) named) z at)
 

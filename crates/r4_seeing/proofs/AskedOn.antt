@@ -1,6 +1,8 @@
 -- What is kept as more is asked for.
-use Rattle.std.proofs.Common.{◌≡◌, ◌⊎◌, inl, inr, ℕ, zero, suc, ◌+◌, ◌<◌, ◌≤◌, Bool, true, false, List, [], ◌∷◌, ◌++◌, length, map, take, refl, sym, ap, subst, ◌∙◌, arith}
-use Rattle.std.specs.Prelude.{Option, Some, None, Result, Ok, Err, IfErr, OnOk, ◌||◌, ◌&&◌, ◌==◌, reverse, slice_index_or}
+use Rattle.std.proofs.Common.{◌≡◌, ◌⊎◌, inl, inr, ℕ, zero, suc, ◌+◌, ◌<◌, ◌≤◌, Bool, true, false, List, [], ◌∷◌, ◌++◌}
+use Rattle.std.proofs.Common.{length, map, take, refl, sym, ap, subst, ◌∙◌, arith}
+use Rattle.std.specs.Prelude.{Option, Some, None, Result, Ok, Err, IfErr, OnOk, ◌||◌, ◌&&◌, ◌==◌, reverse}
+use Rattle.std.specs.Prelude.{slice_index_or}
 use Rattle.std.specs.FinMap.{find}
 use Rattle.std.specs.List.{list_any}
 use Rattle.std.specs.Ordering.{nat_cmp}
@@ -26,7 +28,9 @@ use Rattle.r4_seeing.proofs.Reading.{new_more}
 
 -- ---- gaps
 
-pub in_at : (known : List Interval) (i : ℕ) (d : Interval) (k : ℕ) → i < length known → is_between (rank (slice_index_or known i d).from) (rank (slice_index_or known i d).to) k ≡ true → is_in (map interval_of known) k ≡ true
+pub in_at : (known : List Interval) (i : ℕ) (d : Interval) (k : ℕ) → i < length known
+    → is_between (rank (slice_index_or known i d).from) (rank (slice_index_or known i d).to) k ≡ true
+    → is_in (map interval_of known) k ≡ true
 in_at [] i d k lt at = absurd (omega (arith, lt))
 in_at (r ∷ rs) zero d k lt at = ap (λ (b : Bool). b || is_in (map interval_of rs) k) at
 in_at (r ∷ rs) (suc i) d k lt at = by (is_between (rank r.from) (rank r.to) k) (in_at rs i d k (omega (arith, lt)) at)
@@ -35,22 +39,33 @@ in_at (r ∷ rs) (suc i) d k lt at = by (is_between (rank r.from) (rank r.to) k)
     by true h = refl
     by false h = h
 
-pub known_from : (known : List Interval) (i : ℕ) (d : Interval) (from : ℕ) → i < length known → is_between (rank (slice_index_or known i d).from) (rank (slice_index_or known i d).to) from ≡ true → (from < rank (slice_index_or known i d).to) × AreKnown (map interval_of known) from (rank (slice_index_or known i d).to)
+pub known_from : (known : List Interval) (i : ℕ) (d : Interval) (from : ℕ) → i < length known
+    → is_between (rank (slice_index_or known i d).from) (rank (slice_index_or known i d).to) from ≡ true
+    → (from < rank (slice_index_or known i d).to) × AreKnown (map interval_of known) from
+    (rank (slice_index_or known i d).to)
 known_from known i d from lt at = (
   grind (arith, nat_tests, at),
   (λ k le below. in_at known i d k lt (grind (arith, nat_tests, at, le, below))),
 )
 
-pub next_gap : (known : List Interval) (i : ℕ) (d : Interval) (from end next : ℕ) → i < length known → AreNew (map interval_of (take i known)) from end → next ≤ end → is_between (rank (slice_index_or known i d).from) (rank (slice_index_or known i d).to) from ≡ false → (from < rank (slice_index_or known i d).from → next ≤ rank (slice_index_or known i d).from) → AreNew (map interval_of (take (i + 1) known)) from next
+pub next_gap : (known : List Interval) (i : ℕ) (d : Interval) (from end next : ℕ) → i < length known
+    → AreNew (map interval_of (take i known)) from end → next ≤ end → is_between (rank (slice_index_or known i d).from)
+    (rank (slice_index_or known i d).to) from ≡ false
+    → (from < rank (slice_index_or known i d).from → next ≤ rank (slice_index_or known i d).from)
+    → AreNew (map interval_of (take (i + 1) known)) from next
 next_gap known i d from end next lt fresh le out begins =
     let r = slice_index_or known i d in
-    let is : map interval_of (take (i + 1) known) ≡ map interval_of (take i known) ++ (rank r.from, rank r.to) ∷ [] = ap (map interval_of) (take_more known i d lt) ∙ map-append interval_of (take i known) (r ∷ []) in
-    subst (λ (q : Intervals). AreNew q from next) (sym is) (new_more (map interval_of (take i known)) (rank r.from, rank r.to) from end next fresh le out begins)
+    let is : map interval_of (take (i + 1) known) ≡ map interval_of (take i known) ++ (rank r.from, rank r.to) ∷ [] = ap
+    (map interval_of) (take_more known i d lt) ∙ map-append interval_of (take i known) (r ∷ []) in
+    subst (λ (q : Intervals). AreNew q from next) (sym is)
+    (new_more (map interval_of (take i known)) (rank r.from, rank r.to) from end next fresh le out begins)
 
 -- ---- what was asked for
 
-pub asked_more : (items : List Asked) (a : Asked) → reverse (map asked_keys (items ++ a ∷ [])) ≡ asked_keys a ∷ reverse (map asked_keys items)
-asked_more items a = ap reverse (map-append asked_keys items (a ∷ [])) ∙ reverse-append (map asked_keys items) (asked_keys a ∷ [])
+pub asked_more : (items : List Asked) (a : Asked) → reverse (map asked_keys (items ++ a ∷ []))
+    ≡ asked_keys a ∷ reverse (map asked_keys items)
+asked_more items a = ap reverse (map-append asked_keys items (a ∷ []))
+    ∙ reverse-append (map asked_keys items) (asked_keys a ∷ [])
 
 -- what was asked for was asked for, also with more
 also_asked : (r : ℕ × ℕ) (asked : Intervals) (k : ℕ) → is_in asked k ≡ true → is_in (r ∷ asked) k ≡ true
@@ -63,7 +78,8 @@ also_asked r asked k h = by (is_between r.0 r.1 k) h
 also_asked_in : (r : ℕ × ℕ) (asked : Intervals) (c : CellSeen) → IsAskedIn asked c → IsAskedIn (r ∷ asked) c
 also_asked_in r asked c (key, at, low, high) = (key, also_asked r asked key at, low, high)
 
-stopped_still : (p q : PoolState) (asked : Intervals) (r : ℕ × ℕ) (e : FetchFault) → Goes p q → IsStopped p asked e → IsStopped q (r ∷ asked) e
+stopped_still : (p q : PoolState) (asked : Intervals) (r : ℕ × ℕ) (e : FetchFault) → Goes p q → IsStopped p asked e
+    → IsStopped q (r ∷ asked) e
 stopped_still p q asked r e g s = record {
   key = s.key;
   is_asked = also_asked r asked s.key s.is_asked;
@@ -74,18 +90,23 @@ stopped_still p q asked r e g s = record {
   since = goes_both s.at p q s.since g;
 }
 
-in_cases : (r : ℕ × ℕ) (asked : Intervals) (k : ℕ) → is_in (r ∷ asked) k ≡ true → (is_between r.0 r.1 k ≡ true) ⊎ (is_in asked k ≡ true)
+in_cases : (r : ℕ × ℕ) (asked : Intervals) (k : ℕ) → is_in (r ∷ asked) k ≡ true
+    → (is_between r.0 r.1 k ≡ true) ⊎ (is_in asked k ≡ true)
 in_cases r asked k h = by (is_between r.0 r.1 k) refl h
   where
-    by : (b : Bool) → is_between r.0 r.1 k ≡ b → (b || is_in asked k) ≡ true → (is_between r.0 r.1 k ≡ true) ⊎ (is_in asked k ≡ true)
+    by : (b : Bool) → is_between r.0 r.1 k ≡ b → (b || is_in asked k) ≡ true
+        → (is_between r.0 r.1 k ≡ true) ⊎ (is_in asked k ≡ true)
     by true is e = inl is
     by false is e = inr e
 
 -- a key of no tree
-pub asked_outside : (p : PoolState) (known asked : Intervals) (fault : Option FetchFault) (k : ℕ) → is_between least top k ≡ false → IsSeeing p known asked fault → IsSeeing p known ((k, k + 1) ∷ asked) fault
+pub asked_outside : (p : PoolState) (known asked : Intervals) (fault : Option FetchFault) (k : ℕ)
+    → is_between least top k ≡ false → IsSeeing p known asked fault → IsSeeing p known ((k, k + 1) ∷ asked) fault
 asked_outside p known asked fault k out h = record {
   looked = λ no_fault j at low high. elim (in_cases (k, k + 1) asked j at) [
-    | inl it ↦ absurd (let in_it : is_between least top j ≡ true = between least top j low high in let same : j ≡ k = one j it in let other = ap (is_between least top) same ∙ out in differ in_it other)
+    | inl it ↦ absurd
+        (let in_it : is_between least top j ≡ true = between least top j low high in let same : j
+        ≡ k = one j it in let other = ap (is_between least top) same ∙ out in differ in_it other)
     | inr more ↦ h.looked no_fault j more low high
   ];
   only = λ j is. also_asked (k, k + 1) asked j (h.only j is);
@@ -127,7 +148,10 @@ module _ (p q : PoolState) (known now asked : Intervals) (r : ℕ × ℕ) (from 
           also_asked_in r asked c (h.met i c (then ∙ ap (λ (y : CellSeen). Some y) same))
       by None then = let (key, low, high, up, down) = meets i c is then in (key, asked_now key low high, up, down)
 
-  pub asked_within : (fault2 : Option FetchFault) (result : Result Unit FetchFault) → ((k : ℕ) → is_in known k ≡ true → is_in now k ≡ true) → OnOk result (AreKnown now from to) → IfErr result (λ e. StopsBetween from to p e q) → IsNotedFault fault result fault2 → fault ≡ None → IsSeeing q now (r ∷ asked) fault2
+  pub asked_within : (fault2 : Option FetchFault) (result : Result Unit FetchFault)
+      → ((k : ℕ) → is_in known k ≡ true → is_in now k ≡ true) → OnOk result (AreKnown now from to)
+      → IfErr result (λ e. StopsBetween from to p e q) → IsNotedFault fault result fault2 → fault ≡ None
+      → IsSeeing q now (r ∷ asked) fault2
   asked_within fault2 (Ok u) more known_now stops noted was = record {
     looked = λ no_fault j at low high. elim (in_cases r asked j at) [
       | inl it ↦ let (a, b) = inside j it low high in known_now j a b
@@ -161,7 +185,8 @@ has_one : (asked : Intervals) (k : ℕ) → has asked (k, k + 1) ≡ true → is
 has_one [] k h = absurd cc
 has_one (r ∷ asked) k h = by ((r.0 == k) && (r.1 == k + 1)) refl h (has_one asked k)
   where
-    by : (b : Bool) → ((r.0 == k) && (r.1 == k + 1)) ≡ b → (b || has asked (k, k + 1)) ≡ true → (has asked (k, k + 1) ≡ true → is_in asked k ≡ true) → (is_between r.0 r.1 k || is_in asked k) ≡ true
+    by : (b : Bool) → ((r.0 == k) && (r.1 == k + 1)) ≡ b → (b || has asked (k, k + 1)) ≡ true
+        → (has asked (k, k + 1) ≡ true → is_in asked k ≡ true) → (is_between r.0 r.1 k || is_in asked k) ≡ true
     by true is e more = ap (λ (b : Bool). b || is_in asked k) (whole is)
       where
         whole : ((r.0 == k) && (r.1 == k + 1)) ≡ true → is_between r.0 r.1 k ≡ true
@@ -172,7 +197,9 @@ has_one (r ∷ asked) k h = by ((r.0 == k) && (r.1 == k + 1)) refl h (has_one as
         or_right true b h = refl
         or_right false b h = h
 
-pub later_seeing : {P : Type 0} (p : PoolState) (old new : SeeingSeen P) (r : ℕ × ℕ) → IsSeeing p old.looking.known old.asked old.fault → old.fault ≡ None → new.asked ≡ r ∷ old.asked → KnowsMore old.looking new.looking → IsLater (sighting old) (sighting new)
+pub later_seeing : {P : Type 0} (p : PoolState) (old new : SeeingSeen P) (r : ℕ × ℕ)
+    → IsSeeing p old.looking.known old.asked old.fault → old.fault ≡ None → new.asked ≡ r ∷ old.asked
+    → KnowsMore old.looking new.looking → IsLater (sighting old) (sighting new)
 later_seeing {P} p old new r h none asked more = record {
   keeps = λ q at. ap (λ (g : Intervals). has g q) asked ∙ or_right ((r.0 == q.0) && (r.1 == q.1)) (has old.asked q) at;
   values = λ k at. by k (has_one old.asked k at) (compare k least) (compare k top);
@@ -185,14 +212,16 @@ later_seeing {P} p old new r h none asked more = record {
     compare : (m n : ℕ) → (m < n) ⊎ (n ≤ m)
     compare m n = grind (arith, nat_tests)
 
-    by : (k : ℕ) → is_in old.asked k ≡ true → (k < least) ⊎ (least ≤ k) → (k < top) ⊎ (top ≤ k) → find nat_cmp k (pairs_of new.looking.seen) ≡ find nat_cmp k (pairs_of old.looking.seen)
+    by : (k : ℕ) → is_in old.asked k ≡ true → (k < least) ⊎ (least ≤ k) → (k < top) ⊎ (top ≤ k)
+        → find nat_cmp k (pairs_of new.looking.seen) ≡ find nat_cmp k (pairs_of old.looking.seen)
     by k is (inl lt) up = more.outside k (inl lt)
     by k is (inr le) (inr past) = more.outside k (inr past)
     by k is (inr le) (inl lt) = more.values k (h.looked none k is le lt)
 
 -- ---- an interval, as far as it is one of a tree
 
-pub clipped : (a b from to : ℕ) → (from ≤ a) ⊎ (from ≤ least) → (b ≤ to) ⊎ (top ≤ to) → (k : ℕ) → is_between a b k ≡ true → least ≤ k → k < top → (from ≤ k) × (k < to)
+pub clipped : (a b from to : ℕ) → (from ≤ a) ⊎ (from ≤ least) → (b ≤ to) ⊎ (top ≤ to) → (k : ℕ) → is_between a b k
+    ≡ true → least ≤ k → k < top → (from ≤ k) × (k < to)
 clipped a b from to low high k it up down = (first low, last high)
   where
     begins : is_between a b k ≡ true → a ≤ k

@@ -1,5 +1,6 @@
 -- What is found among pairs that rise.
-use Rattle.std.proofs.Common.{◌≡◌, ◌≢◌, ◌⊎◌, inl, inr, ℕ, zero, ◌<◌, ◌≤◌, ◌+◌, Bool, true, false, cond, List, [], ◌∷◌, ◌++◌, length, refl, sym, ap, subst, ◌∙◌, arith}
+use Rattle.std.proofs.Common.{◌≡◌, ◌≢◌, ◌⊎◌, inl, inr, ℕ, zero, ◌<◌, ◌≤◌, ◌+◌, Bool, true, false, cond, List, [], ◌∷◌}
+use Rattle.std.proofs.Common.{◌++◌, length, refl, sym, ap, subst, ◌∙◌, arith}
 use Rattle.std.specs.Prelude.{All, Contains, Option, Some, None, T, ◌==◌}
 use Rattle.std.specs.FinMap.{find, is_sorted}
 use Rattle.std.specs.FinMap.Entries.{below_all}
@@ -19,18 +20,22 @@ use Rattle.r4_content.proofs.Counting.{below_lt, first_holds, none_below, second
 -- ---- elements of lists
 
 module _ {A : Type 0} where
-  in_pass : (test : A → Bool) (b : Bool) (y x : A) (ys rest : List A) → test y ≡ b → (Contains rest x → Contains ys x × (test x ≡ true)) → Contains (cond b (y ∷ rest) rest) x → Contains (y ∷ ys) x × (test x ≡ true)
+  in_pass : (test : A → Bool) (b : Bool) (y x : A) (ys rest : List A) → test y ≡ b
+      → (Contains rest x → Contains ys x × (test x ≡ true)) → Contains (cond b (y ∷ rest) rest) x
+      → Contains (y ∷ ys) x × (test x ≡ true)
   in_pass test true y x ys rest e more h = elim (cases y x rest h) [
     | inl same ↦ (subst (Contains (y ∷ ys)) (sym same) (here y ys), ap test same ∙ e)
     | inr beyond ↦ let (a, b) = more beyond in (later y x ys a, b)
   ]
   in_pass test false y x ys rest e more h = let (a, b) = more h in (later y x ys a, b)
 
-  pub in_filter : (test : A → Bool) (xs : List A) (x : A) → Contains (filter test xs) x → Contains xs x × (test x ≡ true)
+  pub in_filter : (test : A → Bool) (xs : List A) (x : A) → Contains (filter test xs) x
+      → Contains xs x × (test x ≡ true)
   in_filter test [] x at = absurd (none x at)
   in_filter test (y ∷ ys) x at = in_pass test (test y) y x ys (filter test ys) refl (in_filter test ys x) at
 
-  to_pass : (test : A → Bool) (b : Bool) (y x : A) (ys rest : List A) → test y ≡ b → test x ≡ true → (Contains ys x → Contains rest x) → Contains (y ∷ ys) x → Contains (cond b (y ∷ rest) rest) x
+  to_pass : (test : A → Bool) (b : Bool) (y x : A) (ys rest : List A) → test y ≡ b → test x ≡ true
+      → (Contains ys x → Contains rest x) → Contains (y ∷ ys) x → Contains (cond b (y ∷ rest) rest) x
   to_pass test true y x ys rest is e more at = elim (cases y x ys at) [
     | inl same ↦ subst (Contains (y ∷ rest)) (sym same) (here y rest)
     | inr beyond ↦ later y x rest (more beyond)
@@ -42,7 +47,8 @@ module _ {A : Type 0} where
 
   pub to_filter : (test : A → Bool) (xs : List A) (x : A) → Contains xs x → test x ≡ true → Contains (filter test xs) x
   to_filter test [] x at e = absurd (none x at)
-  to_filter test (y ∷ ys) x at e = to_pass test (test y) y x ys (filter test ys) refl e (λ h. to_filter test ys x h e) at
+  to_filter test (y ∷ ys) x at e = to_pass test (test y) y x ys (filter test ys) refl e
+      (λ h. to_filter test ys x h e) at
 
 -- ---- pairs
 
@@ -50,14 +56,17 @@ pub found_in : (k : ℕ) (s : Pairs) (v : Value) → find nat_cmp k s ≡ Some v
 found_in k [] v h = absurd cc
 found_in k (e ∷ s) v h = by (k == e.0) (unsigned_tied k e.0) refl h (found_in k s v)
   where
-    by : (b : Bool) → eq_by_cmp nat_cmp k e.0 ≡ (k == e.0) → (k == e.0) ≡ b → find nat_cmp k (e ∷ s) ≡ Some v → (find nat_cmp k s ≡ Some v → Contains s (k, v)) → Contains (e ∷ s) (k, v)
+    by : (b : Bool) → eq_by_cmp nat_cmp k e.0 ≡ (k == e.0) → (k == e.0) ≡ b → find nat_cmp k (e ∷ s) ≡ Some v
+        → (find nat_cmp k s ≡ Some v → Contains s (k, v)) → Contains (e ∷ s) (k, v)
     by true tied is h more =
         let same : k ≡ e.0 = eqb-true k e.0 is in
-        let here_is : find nat_cmp k (e ∷ s) ≡ Some e.1 = ap (λ (b : Bool). cond b (Some e.1) (find nat_cmp k s)) (tied ∙ is) in
+        let here_is : find nat_cmp k (e ∷ s) ≡ Some e.1 = ap (λ (b : Bool). cond b (Some e.1) (find nat_cmp k s))
+        (tied ∙ is) in
         let value : e.1 ≡ v = same_Some e.1 v (sym here_is ∙ h) in
         subst (λ (x : ℕ × Value). Contains (e ∷ s) x) (λ i. (sym same i, value i)) (here e s)
     by false tied is h more =
-        let rest : find nat_cmp k (e ∷ s) ≡ find nat_cmp k s = ap (λ (b : Bool). cond b (Some e.1) (find nat_cmp k s)) (tied ∙ is) in
+        let rest : find nat_cmp k (e ∷ s) ≡ find nat_cmp k s = ap (λ (b : Bool). cond b (Some e.1) (find nat_cmp k s))
+        (tied ∙ is) in
         later e (k, v) s (more (sym rest ∙ h))
 
 -- a pair of rising ones is found at its key
@@ -72,31 +81,43 @@ rising_found (e ∷ s) k v r at = elim (cases e (k, v) s at) [
     here_found same =
         let key : k ≡ e.0 = ap (λ (x : ℕ × Value). x.0) same in
         let value : v ≡ e.1 = ap (λ (x : ℕ × Value). x.1) same in
-        ap (λ (b : Bool). cond b (Some e.1) (find nat_cmp k s)) (unsigned_tied k e.0 ∙ eq-eqb k e.0 key) ∙ ap (λ (w : Value). Some w) (sym value)
+        ap (λ (b : Bool). cond b (Some e.1) (find nat_cmp k s)) (unsigned_tied k e.0 ∙ eq-eqb k e.0 key)
+        ∙ ap (λ (w : Value). Some w) (sym value)
 
     behind : Contains s (k, v) → find nat_cmp k s ≡ Some v → find nat_cmp k (e ∷ s) ≡ Some v
-    behind more found = ap (λ (b : Bool). cond b (Some e.1) (find nat_cmp k s)) (unsigned_tied k e.0 ∙ ne_eqb k e.0 apart) ∙ found
+    behind more found = ap (λ (b : Bool). cond b (Some e.1) (find nat_cmp k s))
+        (unsigned_tied k e.0 ∙ ne_eqb k e.0 apart) ∙ found
       where
         apart : k ≢ e.0
-        apart same = let nothing = none_below k e.0 s (omega (arith, same)) (first_holds (below_all nat_cmp e.0 s) (is_sorted nat_cmp s) r) in cc
+        apart same = let nothing = none_below k e.0 s (omega (arith, same))
+            (first_holds (below_all nat_cmp e.0 s) (is_sorted nat_cmp s) r) in cc
 
 between : (from to k : ℕ) → from ≤ k → k < to → is_between from to k ≡ true
 between from to k le lt = grind (arith, nat_tests, le, lt)
 
 -- what rising pairs of an interval have there is what all have
-pub found_iff : (units zs : Pairs) (from to k : ℕ) (v : Value) → zs ≡ pairs_in units from to → Rises zs → from ≤ k → k < to → (find nat_cmp k zs ≡ Some v → Contains units (k, v)) × (Contains units (k, v) → find nat_cmp k zs ≡ Some v)
+pub found_iff : (units zs : Pairs) (from to k : ℕ) (v : Value) → zs ≡ pairs_in units from to → Rises zs → from ≤ k
+    → k < to → (find nat_cmp k zs ≡ Some v → Contains units (k, v)) ×
+    (Contains units (k, v) → find nat_cmp k zs ≡ Some v)
 found_iff units zs from to k v same rises le lt = (
-  (λ h. (in_filter (λ (e : ℕ × Value). is_between from to e.0) units (k, v) (subst (λ (s : Pairs). Contains s (k, v)) same (found_in k zs v h))).0),
-  (λ at. rising_found zs k v rises (subst (λ (s : Pairs). Contains s (k, v)) (sym same) (to_filter (λ (e : ℕ × Value). is_between from to e.0) units (k, v) at (between from to k le lt)))),
+  (λ h. (in_filter (λ (e : ℕ × Value). is_between from to e.0) units (k, v)
+      (subst (λ (s : Pairs). Contains s (k, v)) same (found_in k zs v h))).0),
+  (λ at. rising_found zs k v rises
+      (subst (λ (s : Pairs). Contains s (k, v)) (sym same)
+      (to_filter (λ (e : ℕ × Value). is_between from to e.0) units (k, v) at (between from to k le lt)))),
 )
 
 -- the keys of an interval's pairs
-pub interval_keys : (units : Pairs) (from to : ℕ) → All (λ (e : ℕ × Value). (from ≤ e.0) × (e.0 < to)) (pairs_in units from to)
+pub interval_keys : (units : Pairs) (from to : ℕ) → All (λ (e : ℕ × Value). (from ≤ e.0) × (e.0 < to))
+    (pairs_in units from to)
 interval_keys [] from to = All-nil (λ (e : ℕ × Value). (from ≤ e.0) × (e.0 < to))
 interval_keys (u ∷ us) from to = by (is_between from to u.0) refl (interval_keys us from to)
   where
-    by : (b : Bool) → is_between from to u.0 ≡ b → All (λ (e : ℕ × Value). (from ≤ e.0) × (e.0 < to)) (pairs_in us from to) → All (λ (e : ℕ × Value). (from ≤ e.0) × (e.0 < to)) (cond b (u ∷ pairs_in us from to) (pairs_in us from to))
-    by true is rest = All-cons (λ (e : ℕ × Value). (from ≤ e.0) × (e.0 < to)) u (pairs_in us from to) (low is, high is) rest
+    by : (b : Bool) → is_between from to u.0 ≡ b → All (λ (e : ℕ × Value). (from ≤ e.0) × (e.0 < to))
+        (pairs_in us from to) → All (λ (e : ℕ × Value). (from ≤ e.0) × (e.0 < to))
+        (cond b (u ∷ pairs_in us from to) (pairs_in us from to))
+    by true is rest = All-cons (λ (e : ℕ × Value). (from ≤ e.0) × (e.0 < to)) u (pairs_in us from to)
+        (low is, high is) rest
       where
         low : is_between from to u.0 ≡ true → from ≤ u.0
         low is = grind (arith, nat_tests, is)

@@ -1,5 +1,6 @@
 -- What is known after parts were put among the others.
-use Rattle.std.proofs.Common.{◌≡◌, ◌≢◌, ◌⊎◌, inl, inr, ℕ, zero, suc, ◌+◌, ◌<◌, ◌≤◌, Bool, true, false, List, [], ◌∷◌, ◌++◌, length, take, drop, map, refl, sym, ap, subst, ◌∙◌, arith}
+use Rattle.std.proofs.Common.{◌≡◌, ◌≢◌, ◌⊎◌, inl, inr, ℕ, zero, suc, ◌+◌, ◌<◌, ◌≤◌, Bool, true, false, List, [], ◌∷◌}
+use Rattle.std.proofs.Common.{◌++◌, length, take, drop, map, refl, sym, ap, subst, ◌∙◌, arith}
 use Rattle.std.specs.Prelude.{All, Contains, Option, Some, None, ◌||◌}
 use Rattle.std.specs.FinMap.{find}
 use Rattle.std.specs.Ordering.{nat_cmp}
@@ -23,9 +24,11 @@ use Rattle.r4_seeing.proofs.Placing.{pairs_before, parts_above, parts_below}
 
 -- ---- one interval more
 
-pub known_more : (known : Intervals) (r : ℕ × ℕ) (k : ℕ) → is_in (known ++ r ∷ []) k ≡ (is_in known k || is_between r.0 r.1 k)
+pub known_more : (known : Intervals) (r : ℕ × ℕ) (k : ℕ) → is_in (known ++ r ∷ []) k
+    ≡ (is_in known k || is_between r.0 r.1 k)
 known_more [] r k = grind (arith, nat_tests)
-known_more (q ∷ known) r k = ap (λ (b : Bool). is_between q.0 q.1 k || b) (known_more known r k) ∙ either (is_between q.0 q.1 k) (is_in known k) (is_between r.0 r.1 k)
+known_more (q ∷ known) r k = ap (λ (b : Bool). is_between q.0 q.1 k || b) (known_more known r k)
+    ∙ either (is_between q.0 q.1 k) (is_in known k) (is_between r.0 r.1 k)
   where
     either : (a b c : Bool) → (a || (b || c)) ≡ ((a || b) || c)
     either true b c = refl
@@ -42,19 +45,23 @@ is_known known r k le lt = known_more known r k ∙ by (is_in known k)
     by false = grind (arith, nat_tests, le, lt)
 
 -- a key that is known now was so before, or is of the interval
-pub known_cases : (known : Intervals) (r : ℕ × ℕ) (k : ℕ) → is_in (known ++ r ∷ []) k ≡ true → (is_in known k ≡ true) ⊎ ((r.0 ≤ k) × (k < r.1))
+pub known_cases : (known : Intervals) (r : ℕ × ℕ) (k : ℕ) → is_in (known ++ r ∷ []) k ≡ true
+    → (is_in known k ≡ true) ⊎ ((r.0 ≤ k) × (k < r.1))
 known_cases known r k h = by (is_in known k) (is_between r.0 r.1 k) refl refl (sym (known_more known r k) ∙ h)
   where
-    by : (a b : Bool) → is_in known k ≡ a → is_between r.0 r.1 k ≡ b → (a || b) ≡ true → (is_in known k ≡ true) ⊎ ((r.0 ≤ k) × (k < r.1))
+    by : (a b : Bool) → is_in known k ≡ a → is_between r.0 r.1 k ≡ b → (a || b) ≡ true
+        → (is_in known k ≡ true) ⊎ ((r.0 ≤ k) × (k < r.1))
     by true b is between e = inl is
     by false true is between e = inr (grind (arith, nat_tests, between), grind (arith, nat_tests, between))
     by false false is between e = absurd cc
 
 -- and one that is not known now was not, and is not of it
-pub unknown_both : (known : Intervals) (r : ℕ × ℕ) (k : ℕ) → is_in (known ++ r ∷ []) k ≡ false → (is_in known k ≡ false) × ((k < r.0) ⊎ (r.1 ≤ k))
+pub unknown_both : (known : Intervals) (r : ℕ × ℕ) (k : ℕ) → is_in (known ++ r ∷ []) k ≡ false
+    → (is_in known k ≡ false) × ((k < r.0) ⊎ (r.1 ≤ k))
 unknown_both known r k h = by (is_in known k) (is_between r.0 r.1 k) refl refl (sym (known_more known r k) ∙ h)
   where
-    by : (a b : Bool) → is_in known k ≡ a → is_between r.0 r.1 k ≡ b → (a || b) ≡ false → (is_in known k ≡ false) × ((k < r.0) ⊎ (r.1 ≤ k))
+    by : (a b : Bool) → is_in known k ≡ a → is_between r.0 r.1 k ≡ b → (a || b) ≡ false
+        → (is_in known k ≡ false) × ((k < r.0) ⊎ (r.1 ≤ k))
     by true b is between e = absurd cc
     by false true is between e = absurd cc
     by false false is between e = (is, grind (arith, nat_tests, between))
@@ -83,7 +90,9 @@ pub record IsShown (t : Store Value) (from to : ℕ) (parts : List SeenPart) : T
   pub rises : Rises (all_pairs parts)
   pub full : AreFull parts
 
-module _ (t : Store Value) (known : Intervals) (old parts new : List SeenPart) (from to : ℕ) (f : AreFound t known (all_pairs old)) (full : AreFull old) (fresh : AreNew known from to) (s : IsShown t from to parts) (n : IsNoted from old parts new) where
+module _ (t : Store Value) (known : Intervals) (old parts new : List SeenPart) (from to : ℕ)
+    (f : AreFound t known (all_pairs old)) (full : AreFull old) (fresh : AreNew known from to)
+    (s : IsShown t from to parts) (n : IsNoted from old parts new) where
   abbrev xs : Pairs
   xs = all_pairs (take n.at old)
 
@@ -97,7 +106,9 @@ module _ (t : Store Value) (known : Intervals) (old parts new : List SeenPart) (
   old_is = ap all_pairs (sym (take-append-drop n.at old)) ∙ flat_map-append part_pairs (take n.at old) (drop n.at old)
 
   pub new_is : all_pairs new ≡ xs ++ (zs ++ ys)
-  new_is = ap all_pairs n.put ∙ (flat_map-append part_pairs (take n.at old) (parts ++ drop n.at old) ∙ ap (λ (es : Pairs). xs ++ es) (flat_map-append part_pairs parts (drop n.at old)))
+  new_is = ap all_pairs n.put
+      ∙ (flat_map-append part_pairs (take n.at old) (parts ++ drop n.at old)
+      ∙ ap (λ (es : Pairs). xs ++ es) (flat_map-append part_pairs parts (drop n.at old)))
 
   rises_old : Rises (xs ++ ys)
   rises_old = subst Rises old_is f.rises
@@ -107,7 +118,8 @@ module _ (t : Store Value) (known : Intervals) (old parts new : List SeenPart) (
   none_here k le lt = subst (λ (es : Pairs). find nat_cmp k es ≡ None) old_is (f.only k (fresh k le lt))
 
   low : All (λ (e : ℕ × Value). e.0 < from) xs
-  low = parts_below from (take n.at old) (pairs_before n.at from old n.place) (full_first n.at old full) (rises_first xs ys rises_old) none_there
+  low = parts_below from (take n.at old) (pairs_before n.at from old n.place) (full_first n.at old full)
+      (rises_first xs ys rises_old) none_there
     where
       full_first : (at : ℕ) (ps : List SeenPart) → AreFull ps → AreFull (take at ps)
       full_first at ps h = All-take (λ (p : SeenPart). part_pairs p ≢ []) at ps h
@@ -120,7 +132,8 @@ module _ (t : Store Value) (known : Intervals) (old parts new : List SeenPart) (
           cc
 
   high : All (λ (e : ℕ × Value). to ≤ e.0) ys
-  high = all_both (λ (e : ℕ × Value). from ≤ e.0) (λ (e : ℕ × Value). find nat_cmp e.0 (xs ++ ys) ≢ None) (λ (e : ℕ × Value). to ≤ e.0) ys beyond (parts_above from (drop n.at old) n.place.above) (all_there xs ys)
+  high = all_both (λ (e : ℕ × Value). from ≤ e.0) (λ (e : ℕ × Value). find nat_cmp e.0 (xs ++ ys) ≢ None)
+      (λ (e : ℕ × Value). to ≤ e.0) ys beyond (parts_above from (drop n.at old) n.place.above) (all_there xs ys)
     where
       beyond : (e : ℕ × Value) → from ≤ e.0 → find nat_cmp e.0 (xs ++ ys) ≢ None → to ≤ e.0
       beyond e le there = elim (compare e.0 to) [ inl lt ↦ absurd (there (none_here e.0 le lt)) | inr past ↦ past ]
@@ -132,10 +145,12 @@ module _ (t : Store Value) (known : Intervals) (old parts new : List SeenPart) (
   order = let lt = s.order in omega (arith, lt)
 
   found_in_it : (k : ℕ) → from ≤ k → k < to → find nat_cmp k (all_pairs new) ≡ find nat_cmp k zs
-  found_in_it k le lt = ap (find nat_cmp k) new_is ∙ inserted_in xs zs ys from to order rises_old s.rises low mid high k le lt
+  found_in_it k le lt = ap (find nat_cmp k) new_is
+      ∙ inserted_in xs zs ys from to order rises_old s.rises low mid high k le lt
 
   pub found_out : (k : ℕ) → Apart from to k → find nat_cmp k (all_pairs new) ≡ find nat_cmp k (all_pairs old)
-  found_out k out = ap (find nat_cmp k) new_is ∙ (inserted_out xs zs ys from to order rises_old s.rises low mid high k out ∙ ap (find nat_cmp k) (sym old_is))
+  found_out k out = ap (find nat_cmp k) new_is
+      ∙ (inserted_out xs zs ys from to order rises_old s.rises low mid high k out ∙ ap (find nat_cmp k) (sym old_is))
 
   -- a key that was known is not of the interval
   apart : (k : ℕ) → is_in known k ≡ true → Apart from to k
@@ -148,14 +163,20 @@ module _ (t : Store Value) (known : Intervals) (old parts new : List SeenPart) (
   values_stay k is = found_out k (apart k is)
 
   pub noted_full : AreFull new
-  noted_full = subst AreFull (sym n.put) (All-append P (take n.at old) (parts ++ drop n.at old) (All-take P n.at old full) (All-append P parts (drop n.at old) s.full (All-drop P n.at old full)))
+  noted_full = subst AreFull (sym n.put)
+      (All-append P (take n.at old) (parts ++ drop n.at old) (All-take P n.at old full)
+      (All-append P parts (drop n.at old) s.full (All-drop P n.at old full)))
 
   pub noted : AreFound t (known ++ (from, to) ∷ []) (all_pairs new)
   noted = record {
     rises = subst Rises (sym new_is) (inserted_rise xs zs ys from to order rises_old s.rises low mid high);
     within = λ k is. elim (known_cases known (from, to) k is) [
       | inl was ↦ f.within k was
-      | inr has ↦ (let a = s.low in let b = has.0 in omega (arith, a, b), let a = s.high in let b = has.1 in omega (arith, a, b))
+      | inr has ↦ (
+        let a = s.low in let b = has.0 in omega (arith, a, b),
+        let a = s.high in let b = has.1 in omega
+            (arith, a, b),
+      )
     ];
     found = λ k is. elim (known_cases known (from, to) k is) [
       | inl was ↦ subst (λ (o : Option Value). IsFoundAt t k o) (sym (values_stay k was)) (f.found k was)

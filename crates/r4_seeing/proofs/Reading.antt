@@ -1,5 +1,6 @@
 -- What is kept as more is read.
-use Rattle.std.proofs.Common.{◌≡◌, ◌⊎◌, inl, inr, ℕ, ◌+◌, ◌<◌, ◌≤◌, Bool, true, false, List, [], ◌∷◌, ◌++◌, map, refl, sym, ap, subst, ◌∙◌, arith}
+use Rattle.std.proofs.Common.{◌≡◌, ◌⊎◌, inl, inr, ℕ, ◌+◌, ◌<◌, ◌≤◌, Bool, true, false, List, [], ◌∷◌, ◌++◌, map, refl}
+use Rattle.std.proofs.Common.{sym, ap, subst, ◌∙◌, arith}
 use Rattle.std.specs.Prelude.{Option, Some, None, Contains, ◌||◌}
 use Rattle.std.specs.Option.{option_map}
 use Rattle.std.specs.FinMap.{find}
@@ -26,8 +27,10 @@ use Rattle.r4_seeing.proofs.Noting.{IsShown, found_out, is_known, known_more, no
 -- ---- keys that are new
 
 -- one more interval that does not have the first key, and begins behind them if above it
-pub new_more : (known : Intervals) (r : ℕ × ℕ) (from end next : ℕ) → AreNew known from end → next ≤ end → is_between r.0 r.1 from ≡ false → (from < r.0 → next ≤ r.0) → AreNew (known ++ r ∷ []) from next
-new_more known r from end next h le out begins = λ k low high. known_more known r k ∙ by k low high (is_in known k) (h k low (omega (arith, high, le)))
+pub new_more : (known : Intervals) (r : ℕ × ℕ) (from end next : ℕ) → AreNew known from end → next ≤ end
+    → is_between r.0 r.1 from ≡ false → (from < r.0 → next ≤ r.0) → AreNew (known ++ r ∷ []) from next
+new_more known r from end next h le out begins = λ k low high. known_more known r k
+    ∙ by k low high (is_in known k) (h k low (omega (arith, high, le)))
   where
     compare : (m n : ℕ) → (m < n) ⊎ (n ≤ m)
     compare m n = grind (arith, nat_tests)
@@ -44,7 +47,8 @@ new_more known r from end next h le out begins = λ k low high. known_more known
 
 -- ---- over a pool that has met more
 
-module _ (root : Root) (at : ℕ) (old new : PoolState) (parts : List SeenPart) (known : Intervals) (h : IsLooking old root parts known) (g : Goes old new) (l : Looks root at old new) where
+module _ (root : Root) (at : ℕ) (old new : PoolState) (parts : List SeenPart) (known : Intervals)
+    (h : IsLooking old root parts known) (g : Goes old new) (l : Looks root at old new) where
   pub stays : IsLooking new root parts known
   stays = record {
     height = h.height;
@@ -62,7 +66,8 @@ module _ (root : Root) (at : ℕ) (old new : PoolState) (parts : List SeenPart) 
       let (up, down) = met_for root at old new h.keeps g l low below i c is was in
       (at, omega arith, lt, up, down)
 
-  module _ (end : ℕ) (s : Stretch) (is : IsStretch (IsOf old) new at end s) (low : least ≤ at) (high : end ≤ top) (fresh : AreNew known at end) (now : List SeenPart) (n : IsNoted at parts s.parts.items now) where
+  module _ (end : ℕ) (s : Stretch) (is : IsStretch (IsOf old) new at end s) (low : least ≤ at) (high : end ≤ top)
+      (fresh : AreNew known at end) (now : List SeenPart) (n : IsNoted at parts s.parts.items now) where
     shown : IsShown (met_cells new) at (rank s.to) s.parts.items
     shown = record {
       id = is.cell.id;
@@ -86,21 +91,26 @@ module _ (root : Root) (at : ℕ) (old new : PoolState) (parts : List SeenPart) 
       begins = stays.begins;
       keeps = stays.keeps;
       hung = stays.hung;
-      full = noted_full (met_cells new) known parts s.parts.items now at (rank s.to) stays.found h.full new_here shown n;
+      full = noted_full (met_cells new) known parts s.parts.items now at (rank s.to) stays.found h.full new_here shown
+          n;
       found = noted (met_cells new) known parts s.parts.items now at (rank s.to) stays.found h.full new_here shown n;
     }
 
     pub values_are : (k : ℕ) → is_in known k ≡ true → find nat_cmp k (all_pairs now) ≡ find nat_cmp k (all_pairs parts)
-    values_are k was = values_stay (met_cells new) known parts s.parts.items now at (rank s.to) stays.found h.full new_here shown n k was
+    values_are k was = values_stay (met_cells new) known parts s.parts.items now at
+        (rank s.to) stays.found h.full new_here shown n k was
 
-    pub outside_are : (k : ℕ) → (k < least) ⊎ (top ≤ k) → find nat_cmp k (all_pairs now) ≡ find nat_cmp k (all_pairs parts)
-    outside_are k out = found_out (met_cells new) known parts s.parts.items now at (rank s.to) stays.found h.full new_here shown n k (apart out)
+    pub outside_are : (k : ℕ) → (k < least) ⊎ (top ≤ k) → find nat_cmp k (all_pairs now)
+        ≡ find nat_cmp k (all_pairs parts)
+    outside_are k out = found_out (met_cells new) known parts s.parts.items now at
+        (rank s.to) stays.found h.full new_here shown n k (apart out)
       where
         apart : (k < least) ⊎ (top ≤ k) → (k < at) ⊎ (rank s.to ≤ k)
         apart (inl lt) = inl (omega (arith, lt, low))
         apart (inr le) = let within = is.of.within in inr (omega (arith, le, within, high))
 
-pub known_behind : (items : List Interval) (r : Interval) → map interval_of (items ++ r ∷ []) ≡ map interval_of items ++ (rank r.from, rank r.to) ∷ []
+pub known_behind : (items : List Interval) (r : Interval) → map interval_of (items ++ r ∷ [])
+    ≡ map interval_of items ++ (rank r.from, rank r.to) ∷ []
 known_behind items r = map-append interval_of items (r ∷ [])
 
 pub all_known : (known : Intervals) (from to : ℕ) → AreKnown (known ++ (from, to) ∷ []) from to

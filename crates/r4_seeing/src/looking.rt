@@ -100,8 +100,8 @@ impl<P: Pool> Looking<P> {
         let _ = &self.pool;
     }
 
-    /// Looks at each key of an interval of the tree, and at no other. What was known stays, and each cell that is met has
-    /// one of these keys. Where a look-up ends with a fault, it is at one of them.
+    /// Looks at each key of an interval of the tree, and at no other. What was known stays, and each cell that is met
+    /// has one of these keys. Where a look-up ends with a fault, it is at one of them.
     pub fn look(&mut self, alloc: Global, from: Key, to: Key) -> Result<(), FetchFault>
         requires from { least ≤ rank from }
         requires to { rank to ≤ top }
@@ -112,8 +112,8 @@ impl<P: Pool> Looking<P> {
         ensures met { MeetsBetween (rank from) (rank to) (P.state self.old.pool)
             (P.state self.new.pool) }
         ensures only { KnowsBetween (rank from) (rank to) self.old.known self.new.known }
-        ensures err { IfErr result (λ e. StopsBetween (rank from) (rank to) (P.state self.old.pool) e
-            (P.state self.new.pool)) }
+        ensures err { IfErr result (λ e. StopsBetween (rank from) (rank to)
+            (P.state self.old.pool) e (P.state self.new.pool)) }
     {
         let mut at = from;
         while at.is_below(to) {

@@ -4,7 +4,8 @@ use Rattle.r4_judging.proofs.Leaves.{data_judged, data_stands, leaf_judged}
 use Rattle.r4_judging.proofs.nodes.misfit_of.Goals as goal
 
 pub returns-then-level-eq0-clause-judged : goal.returns-then-level-eq0-clause-judged
-returns-then-level-eq0-clause-judged c = data_judged c.args.cell.now (map (λ x. arc_value x) c.args.cells.now) (sym c.level.ensures ∙ c.if-level-eq0.true)
+returns-then-level-eq0-clause-judged c = data_judged c.args.cell.now (map (λ x. arc_value x) c.args.cells.now)
+    (sym c.level.ensures ∙ c.if-level-eq0.true)
 
 pub returns-then-level-eq0-clause-sound : goal.returns-then-level-eq0-clause-sound
 returns-then-level-eq0-clause-sound c = record {
@@ -14,4 +15,5 @@ returns-then-level-eq0-clause-sound c = record {
 }
 
 pub returns-then-level-eq-LEAF-clause-judged : goal.returns-then-level-eq-LEAF-clause-judged
-returns-then-level-eq-LEAF-clause-judged c = leaf_judged c.args.cell.now (map (λ x. arc_value x) c.args.cells.now) (sym c.level-2.ensures ∙ c.if-level-eq-LEAF.true) c.node-node.ensures.whole c.node-node.ensures.stands
+returns-then-level-eq-LEAF-clause-judged c = leaf_judged c.args.cell.now (map (λ x. arc_value x) c.args.cells.now)
+    (sym c.level-2.ensures ∙ c.if-level-eq-LEAF.true) c.node-node.ensures.whole c.node-node.ensures.stands

@@ -6,7 +6,8 @@ use Rattle.r4_seeing.specs.Known.{part_key}
 use Rattle.r4_seeing.proofs.places.place_for.Given as goal
 
 abbrev pub invariant-loop-at : goal.invariant-loop-at
-invariant-loop-at l = (l.at ≤ length l.parts) × All (λ (p : SeenPart). rank l.from < rank (part_key p)) (drop l.at l.parts)
+invariant-loop-at l = (l.at ≤ length l.parts) × All (λ (p : SeenPart). rank l.from < rank (part_key p))
+    (drop l.at l.parts)
 
 abbrev pub decreases-loop-at : goal.decreases-loop-at
 decreases-loop-at l = l.at

@@ -5,7 +5,8 @@ use Rattle.r4_seeing.proofs.Putting.{IsPutting}
 use Rattle.r4_seeing.proofs.places.put_in.Given as goal
 
 abbrev pub invariant-loop-part : goal.invariant-loop-part
-invariant-loop-part l = IsPutting l.at l.fn.parts.items l.fn.more.items l.parts.items l.more.items × (vec_len l.parts + vec_len l.more ≤ vec_capacity l.parts)
+invariant-loop-part l = IsPutting l.at l.fn.parts.items l.fn.more.items l.parts.items l.more.items ×
+    (vec_len l.parts + vec_len l.more ≤ vec_capacity l.parts)
 
 abbrev pub decreases-loop-part : goal.decreases-loop-part
 decreases-loop-part l = length l.more.items

@@ -7,7 +7,8 @@ use Rattle.r4_touching.proofs.Touched.{AreSoFar}
 use Rattle.r4_touching.proofs.touching.touch_keys.Given as goal
 
 abbrev pub invariant-loop-alloc : goal.invariant-loop-alloc
-invariant-loop-alloc g l = (rank l.fn.from ≤ rank l.at) × LeavesDevice (g.P.Pool.device l.fn.pool) (g.P.Pool.device l.pool)
+invariant-loop-alloc g l = (rank l.fn.from ≤ rank l.at) × LeavesDevice (g.P.Pool.device l.fn.pool)
+    (g.P.Pool.device l.pool)
     × Touches l.root (is_between (rank l.fn.from) (rank l.fn.to)) (g.P.Pool.state l.fn.pool) (g.P.Pool.state l.pool)
     × AreSoFar (rank l.fn.from) (rank l.at) (g.P.Pool.state l.pool)
 

@@ -11,18 +11,24 @@ use Rattle.r4_judging.proofs.Runs.{meant_within}
 use Rattle.r4_judging.proofs.named.Named.misfit.Goals as goal
 use Rattle.r4_judging.proofs.named.Named.misfit.Goals.{After-deref}
 
-cell_near : (c : After-deref) → slice_get (map (λ x. arc_value x) c.numbered-near.result.now) c.loop-cell.cell-index ≡ Some c.deref.result.now
-cell_near c = at_place (λ x. arc_value x) c.numbered-near.result.now c.loop-cell.cell-index c.cell-item.result c.deref.result.now c.loop-cell-test.true (c.deref.ensures ∙ ap (λ x. arc_value x) c.cell-item.is)
+cell_near : (c : After-deref) → slice_get (map (λ x. arc_value x) c.numbered-near.result.now) c.loop-cell.cell-index
+    ≡ Some c.deref.result.now
+cell_near c = at_place (λ x. arc_value x) c.numbered-near.result.now c.loop-cell.cell-index c.cell-item.result
+    c.deref.result.now c.loop-cell-test.true (c.deref.ensures ∙ ap (λ x. arc_value x) c.cell-item.is)
 
 pub misfit_at-requires-clause-from : goal.misfit_at-requires-clause-from
 misfit_at-requires-clause-from c =
-    let (among, from, below) = (c.numbered-near.ensures c.deref.result.now).0 (got (map (λ x. arc_value x) c.numbered-near.result.now) c.loop-cell.cell-index c.deref.result.now (cell_near c)) in
+    let (among, from, below) = (c.numbered-near.ensures c.deref.result.now).0
+        (got (map (λ x. arc_value x) c.numbered-near.result.now) c.loop-cell.cell-index c.deref.result.now
+        (cell_near c)) in
     let first = c.from.ensures in
     omega (arith, from, first)
 
 pub misfit_at-requires-clause-below : goal.misfit_at-requires-clause-below
 misfit_at-requires-clause-below c =
-    let (among, from, below) = (c.numbered-near.ensures c.deref.result.now).0 (got (map (λ x. arc_value x) c.numbered-near.result.now) c.loop-cell.cell-index c.deref.result.now (cell_near c)) in
+    let (among, from, below) = (c.numbered-near.ensures c.deref.result.now).0
+        (got (map (λ x. arc_value x) c.numbered-near.result.now) c.loop-cell.cell-index c.deref.result.now
+        (cell_near c)) in
     let first = c.from.ensures in
     let many = c.count.ensures in
     omega (arith, below, first, many)
@@ -35,17 +41,21 @@ loop-cell-preserved c =
     let near : List CellSeen = map (λ x. arc_value x) c.numbered-near.result.now in
     let ns = names_meant c.args.self.now in
     let more = taken_more c.loop-cell.cell-index near c.deref.result.now
-    (at_place (λ x. arc_value x) c.numbered-near.result.now c.loop-cell.cell-index c.cell-item.result c.deref.result.now c.loop-cell-test.true (c.deref.ensures ∙ ap (λ x. arc_value x) c.cell-item.is)) in
+    (at_place (λ x. arc_value x) c.numbered-near.result.now c.loop-cell.cell-index c.cell-item.result c.deref.result.now
+        c.loop-cell-test.true (c.deref.ensures ∙ ap (λ x. arc_value x) c.cell-item.is)) in
     subst (λ (xs : List CellSeen). IsJudged ns xs c.first_of-found.result) (sym more)
     (subst (IsJudged ns (take c.loop-cell.cell-index near ++ c.deref.result.now ∷ [])) (sym c.first_of-found.ensures)
-    (judged_cells ns (take c.loop-cell.cell-index near) (c.deref.result.now ∷ []) c.loop-cell.found c.misfit_at.result c.loop-cell.invariant c.misfit_at.ensures))
+    (judged_cells ns (take c.loop-cell.cell-index near) (c.deref.result.now ∷ []) c.loop-cell.found c.misfit_at.result
+        c.loop-cell.invariant c.misfit_at.ensures))
 
 pub returns : goal.returns
 returns c =
     let near : List CellSeen = map (λ x. arc_value x) c.numbered-near.result.now in
     let past = c.loop-cell-test.false in
-    let long : length near ≡ length c.numbered-near.result.now = length-map c.numbered-near.result.now (λ x. arc_value x) in
-    let all = subst (λ (xs : List CellSeen). IsJudged (names_meant c.args.self.now) xs c.loop-cell.found) (all_taken c.loop-cell.cell-index near (omega (arith, past, long))) c.loop-cell.invariant in
+    let long : length near ≡ length c.numbered-near.result.now = length-map c.numbered-near.result.now
+        (λ x. arc_value x) in
+    let all = subst (λ (xs : List CellSeen). IsJudged (names_meant c.args.self.now) xs c.loop-cell.found)
+        (all_taken c.loop-cell.cell-index near (omega (arith, past, long))) c.loop-cell.invariant in
     let first = c.from.ensures in
     let many = c.count.ensures in
     judged_of (names_meant c.args.self.now) near (map (λ x. arc_value x) c.args.cells.now) c.loop-cell.found

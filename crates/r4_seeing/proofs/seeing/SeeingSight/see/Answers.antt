@@ -13,20 +13,52 @@ use Rattle.r4_seeing.proofs.seeing.SeeingSight.see.Goals as goal
 
 pub invariant_of-self-then-not-is_in_tree : goal.invariant_of-self-then-not-is_in_tree
 invariant_of-self-then-not-is_in_tree g c =
-    subst (λ (q : Intervals). IsSeeing (g.P.Pool.state c.self.inside.looking.pool) c.self.inside.looking.known q c.self.inside.fault) (sym (ap (λ (items : List Asked). reverse (map asked_keys items)) c.in_ok-push.ensures.items ∙ asked_more c.self.inside.asked.items (AskedKey c.args.key)))
-    (asked_outside (g.P.Pool.state c.self.inside.looking.pool) c.self.inside.looking.known (reverse (map asked_keys c.self.inside.asked.items)) c.self.inside.fault (rank c.args.key) (sym c.if-not-is_in_tree.ensures) c.self.invariant)
+    subst (λ (q : Intervals). IsSeeing (g.P.Pool.state c.self.inside.looking.pool) c.self.inside.looking.known q
+    c.self.inside.fault)
+    (sym (ap (λ (items : List Asked). reverse (map asked_keys items)) c.in_ok-push.ensures.items
+    ∙ asked_more c.self.inside.asked.items (AskedKey c.args.key)))
+    (asked_outside (g.P.Pool.state c.self.inside.looking.pool) c.self.inside.looking.known
+    (reverse (map asked_keys c.self.inside.asked.items)) c.self.inside.fault (rank c.args.key)
+    (sym c.if-not-is_in_tree.ensures) c.self.invariant)
 
 pub invariant_of-self-2 : goal.invariant_of-self-2
 invariant_of-self-2 g c =
     let end = c.key_after.ensures in
-    subst (λ (q : Intervals). IsSeeing (g.P.Pool.state c.look-looked.new.self.pool) c.look-looked.new.self.known q c.noted.new.fault) (sym (ap (λ (items : List Asked). reverse (map asked_keys items)) c.in_ok-push.ensures.items ∙ asked_more c.self.inside.asked.items (AskedKey c.args.key)))
-    (asked_within (g.P.Pool.state c.self.inside.looking.pool) (g.P.Pool.state c.look-looked.new.self.pool) c.self.inside.looking.known c.look-looked.new.self.known (reverse (map asked_keys c.self.inside.asked.items)) (rank c.args.key, rank c.args.key + 1) (rank c.args.key) (rank c.key_after.result) c.self.inside.fault
+    subst (λ (q : Intervals). IsSeeing (g.P.Pool.state c.look-looked.new.self.pool) c.look-looked.new.self.known q
+    c.noted.new.fault)
+    (sym (ap (λ (items : List Asked). reverse (map asked_keys items)) c.in_ok-push.ensures.items
+    ∙ asked_more c.self.inside.asked.items (AskedKey c.args.key)))
+    (asked_within (g.P.Pool.state c.self.inside.looking.pool)
+    (g.P.Pool.state c.look-looked.new.self.pool) c.self.inside.looking.known c.look-looked.new.self.known
+    (reverse (map asked_keys c.self.inside.asked.items)) (rank c.args.key, rank c.args.key + 1) (rank c.args.key)
+    (rank c.key_after.result) c.self.inside.fault
     c.self.invariant c.look-looked.ensures.goes
-    (λ k it low high. (grind (arith, nat_tests, it), let lt : k < rank c.args.key + 1 = grind (arith, nat_tests, it) in omega (arith, lt, end))) (λ k low high. let lt : k < rank c.args.key + 1 = omega (arith, high, end) in grind (arith, nat_tests, low, lt))
-    c.look-looked.ensures.met c.look-looked.ensures.only c.noted.new.fault c.look-looked.result c.look-looked.ensures.more.known c.look-looked.ensures.looked c.look-looked.ensures.err c.noted.ensures.fault c.in_default.is)
+    (λ k it low high. (
+      grind (arith, nat_tests, it),
+      let lt : k < rank c.args.key + 1 = grind (arith, nat_tests, it) in omega
+          (arith, lt, end),
+    ))
+    (λ k low high. let lt : k < rank c.args.key + 1 = omega (arith, high, end) in grind (arith, nat_tests, low, lt))
+    c.look-looked.ensures.met c.look-looked.ensures.only c.noted.new.fault c.look-looked.result
+    c.look-looked.ensures.more.known c.look-looked.ensures.looked c.look-looked.ensures.err c.noted.ensures.fault
+    c.in_default.is)
 
 pub returns-clause-later : goal.returns-clause-later
 returns-clause-later g c =
-    subst (λ v. IsLater (sighting v) (sighting (record { looking = c.look-looked.new.self; asked = reverse (map asked_keys c.push.new.self.items); fault = c.noted.new.fault }))) c.self.view_is
-    (later_seeing (g.P.Pool.state c.self.inside.looking.pool) _ (record { looking = c.look-looked.new.self; asked = reverse (map asked_keys c.push.new.self.items); fault = c.noted.new.fault }) (rank c.args.key, rank c.args.key + 1) c.self.invariant c.in_default.is
-    (ap (λ (items : List Asked). reverse (map asked_keys items)) c.in_ok-push.ensures.items ∙ asked_more c.self.inside.asked.items (AskedKey c.args.key)) c.look-looked.ensures.more)
+    subst (λ v. IsLater (sighting v)
+    (sighting
+    (record {
+      looking = c.look-looked.new.self;
+      asked = reverse (map asked_keys c.push.new.self.items);
+      fault =
+          c.noted.new.fault;
+    }))) c.self.view_is
+    (later_seeing (g.P.Pool.state c.self.inside.looking.pool) _
+    (record {
+      looking = c.look-looked.new.self;
+      asked = reverse (map asked_keys c.push.new.self.items);
+      fault =
+          c.noted.new.fault;
+    }) (rank c.args.key, rank c.args.key + 1) c.self.invariant c.in_default.is
+    (ap (λ (items : List Asked). reverse (map asked_keys items)) c.in_ok-push.ensures.items
+    ∙ asked_more c.self.inside.asked.items (AskedKey c.args.key)) c.look-looked.ensures.more)

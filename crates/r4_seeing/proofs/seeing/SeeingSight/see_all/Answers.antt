@@ -13,17 +13,45 @@ use Rattle.r4_seeing.proofs.seeing.SeeingSight.see_all.Goals as goal
 
 pub invariant_of-self-2 : goal.invariant_of-self-2
 invariant_of-self-2 g c =
-    let low : (rank c.greater-from.result ≤ rank c.args.within.from) ⊎ (rank c.greater-from.result ≤ least) = subst (λ (k : ℕ). (rank c.greater-from.result ≤ rank c.args.within.from) ⊎ (rank c.greater-from.result ≤ k)) c.least.ensures c.greater-from.ensures.is in
-    let high : (rank c.args.within.to ≤ rank c.lesser-to.result) ⊎ (top ≤ rank c.lesser-to.result) = subst (λ (k : ℕ). (rank c.args.within.to ≤ rank c.lesser-to.result) ⊎ (k ≤ rank c.lesser-to.result)) c.top.ensures c.lesser-to.ensures.is in
-    subst (λ (q : Intervals). IsSeeing (g.P.Pool.state c.look-looked.new.self.pool) c.look-looked.new.self.known q c.noted.new.fault) (sym (ap (λ (items : List Asked). reverse (map asked_keys items)) c.in_ok-push.ensures.items ∙ asked_more c.self.inside.asked.items (Within c.args.within)))
-    (asked_within (g.P.Pool.state c.self.inside.looking.pool) (g.P.Pool.state c.look-looked.new.self.pool) c.self.inside.looking.known c.look-looked.new.self.known (reverse (map asked_keys c.self.inside.asked.items)) (rank c.args.within.from, rank c.args.within.to) (rank c.greater-from.result) (rank c.lesser-to.result) c.self.inside.fault
+    let low : (rank c.greater-from.result ≤ rank c.args.within.from) ⊎ (rank c.greater-from.result ≤ least) = subst
+    (λ (k : ℕ). (rank c.greater-from.result ≤ rank c.args.within.from) ⊎ (rank c.greater-from.result ≤ k))
+    c.least.ensures c.greater-from.ensures.is in
+    let high : (rank c.args.within.to ≤ rank c.lesser-to.result) ⊎ (top ≤ rank c.lesser-to.result) = subst
+    (λ (k : ℕ). (rank c.args.within.to ≤ rank c.lesser-to.result) ⊎ (k ≤ rank c.lesser-to.result)) c.top.ensures
+    c.lesser-to.ensures.is in
+    subst (λ (q : Intervals). IsSeeing (g.P.Pool.state c.look-looked.new.self.pool) c.look-looked.new.self.known q
+    c.noted.new.fault)
+    (sym (ap (λ (items : List Asked). reverse (map asked_keys items)) c.in_ok-push.ensures.items
+    ∙ asked_more c.self.inside.asked.items (Within c.args.within)))
+    (asked_within (g.P.Pool.state c.self.inside.looking.pool)
+    (g.P.Pool.state c.look-looked.new.self.pool) c.self.inside.looking.known c.look-looked.new.self.known
+    (reverse (map asked_keys c.self.inside.asked.items)) (rank c.args.within.from, rank c.args.within.to)
+    (rank c.greater-from.result) (rank c.lesser-to.result) c.self.inside.fault
     c.self.invariant c.look-looked.ensures.goes
-    (clipped (rank c.args.within.from) (rank c.args.within.to) (rank c.greater-from.result) (rank c.lesser-to.result) low high)
-    (clipped_in (rank c.args.within.from) (rank c.args.within.to) (rank c.greater-from.result) (rank c.lesser-to.result) c.greater-from.ensures.one c.lesser-to.ensures.one)
-    c.look-looked.ensures.met c.look-looked.ensures.only c.noted.new.fault c.look-looked.result c.look-looked.ensures.more.known c.look-looked.ensures.looked c.look-looked.ensures.err c.noted.ensures.fault c.in_default.is)
+    (clipped (rank c.args.within.from) (rank c.args.within.to) (rank c.greater-from.result)
+    (rank c.lesser-to.result) low high)
+    (clipped_in (rank c.args.within.from) (rank c.args.within.to) (rank c.greater-from.result)
+    (rank c.lesser-to.result) c.greater-from.ensures.one c.lesser-to.ensures.one)
+    c.look-looked.ensures.met c.look-looked.ensures.only c.noted.new.fault c.look-looked.result
+    c.look-looked.ensures.more.known c.look-looked.ensures.looked c.look-looked.ensures.err c.noted.ensures.fault
+    c.in_default.is)
 
 pub returns-clause-later : goal.returns-clause-later
 returns-clause-later g c =
-    subst (λ v. IsLater (sighting v) (sighting (record { looking = c.look-looked.new.self; asked = reverse (map asked_keys c.push.new.self.items); fault = c.noted.new.fault }))) c.self.view_is
-    (later_seeing (g.P.Pool.state c.self.inside.looking.pool) _ (record { looking = c.look-looked.new.self; asked = reverse (map asked_keys c.push.new.self.items); fault = c.noted.new.fault }) (rank c.args.within.from, rank c.args.within.to) c.self.invariant c.in_default.is
-    (ap (λ (items : List Asked). reverse (map asked_keys items)) c.in_ok-push.ensures.items ∙ asked_more c.self.inside.asked.items (Within c.args.within)) c.look-looked.ensures.more)
+    subst (λ v. IsLater (sighting v)
+    (sighting
+    (record {
+      looking = c.look-looked.new.self;
+      asked = reverse (map asked_keys c.push.new.self.items);
+      fault =
+          c.noted.new.fault;
+    }))) c.self.view_is
+    (later_seeing (g.P.Pool.state c.self.inside.looking.pool) _
+    (record {
+      looking = c.look-looked.new.self;
+      asked = reverse (map asked_keys c.push.new.self.items);
+      fault =
+          c.noted.new.fault;
+    }) (rank c.args.within.from, rank c.args.within.to) c.self.invariant c.in_default.is
+    (ap (λ (items : List Asked). reverse (map asked_keys items)) c.in_ok-push.ensures.items
+    ∙ asked_more c.self.inside.asked.items (Within c.args.within)) c.look-looked.ensures.more)
