@@ -3,7 +3,7 @@ use Rattle.std.specs.Prelude.{◌≡◌, ◌≢◌, ℕ, zero, suc, ◌-◌, ◌
 use Rattle.std.specs.Prelude.{Contains, Option, Some, None, not, nat_lt, ◌&&◌, ◌||◌, if◌then◌else◌}
 use Rattle.std.proofs.Common.{arith, inl, inr, refl, sym, ap, subst, ◌∙◌}
 use Rattle.std.specs.List.{filter}
-use Rattle.std.proofs.lemmas.Bool.{both_ways, eq-eqb, eqb-true, le-ltb, ne_eqb}
+use Rattle.std.proofs.lemmas.Bool.{and_left, both_ways, eq-eqb, eqb-true, le-ltb, ne_eqb}
 use Rattle.std.proofs.lemmas.Option.{same_Some}
 use Rattle.r4_base.specs.Node.{items_of}
 use Rattle.r4_base.specs.Tree.{Name, Node, Root, Store}
@@ -32,10 +32,6 @@ use Rattle.r4_leaf_demands.specs.Leaves.{node_more}
 use Rattle.r4_leaf_demands.proofs.Weighed.{block_is}
 
 -- ---- one cell
-
-and_false : (a b : Bool) → a ≡ false → (a && b) ≡ false
-and_false false b h = refl
-and_false true b h = absurd (both_ways true h refl)
 
 none_move : (c : Node Value) → moves (0, 0) c ≡ false
 none_move c = by_tests (nat_lt 0 c.lo) (nat_lt 0 c.hi)
@@ -79,7 +75,7 @@ module _ (b : Option Body) (e : Edits) (reads : Intervals) (quiet : come_of b �
         (λ (t : Bool). if t then
         (if nat_lt 4068 (bearing c hs) then larger (over (bearing c hs)) (growing hs) else 0) else over
         (bearing c hs)) two) in
-        let gone = and_false (meets c.lo c.hi (come_of b)) (length (pieces_after b e c hs) == 0) no_meet in
+        let gone = and_left (meets c.lo c.hi (come_of b)) (length (pieces_after b e c hs) == 0) no_meet in
         (λ i. asking (no_move i) (record { more = need i; gone = gone i }))
 
     node_same : (c.level == 2) ≡ false → node_asks b c hs ≡ needing (node_more c.level (bearing c hs) (growing hs))
@@ -90,7 +86,7 @@ module _ (b : Option Body) (e : Edits) (reads : Intervals) (quiet : come_of b �
         (λ (t : Bool). if t then
         (if nat_lt 4068 (bearing c hs) then larger (over (bearing c hs)) (growing hs) else 0) else over
         (bearing c hs)) other) in
-        let gone = and_false (meets c.lo c.hi (come_of b)) (length c.names == all_gone hs) no_meet in
+        let gone = and_left (meets c.lo c.hi (come_of b)) (length c.names == all_gone hs) no_meet in
         (λ i. asking (no_move i) (record { more = need i; gone = gone i }))
 
     above_same : changes_pieces b e c ≡ false → (if c.level == 2 then twig_asks b e c hs else node_asks b c hs)

@@ -13,12 +13,12 @@ use Rattle.r4_content.specs.Edited.{Edits, Intervals, changed}
 use Rattle.r4_marking.proofs.Asked.{node_level}
 use Rattle.r4_patch.proofs.Members.{none}
 use Rattle.r4_path.proofs.CellNodes.{spans_are}
+use Rattle.r4_path.proofs.Rising.{hi_is, lo_is}
 use Rattle.r4_reach.specs.Demand.{Spans}
 use Rattle.r4_reach.specs.Reach.{IsReadAt, IsWrittenAt}
 use Rattle.r4_leaf_demands.specs.Leaves.{leaf_demand}
 use Rattle.r4_leaf_demands.specs.Touching.{IsTouchedIn, item_spans}
 use Rattle.r4_leaf_demands.specs.declared.touching.Way.TheVariants.{Change, Read}
-use Rattle.r4_leaf_demands.proofs.Measured.{node_hi, node_lo}
 use Rattle.r4_leaf_demands.proofs.Meets.{HasOf}
 use Rattle.r4_leaf_demands.proofs.Spans.{spans_cons, spans_nil}
 
@@ -61,8 +61,8 @@ module _ (e : Edits) (reads : Intervals) (x : CellSeen) (t : Bool) where
         → (t ≡ true) ↔ IsWrittenAt (leaf_demand e reads) (node_of x)
     written_low h =
         let level = node_level x in
-        let from = node_lo x in
-        let to = node_hi x in (
+        let from = lo_is x in
+        let to = hi_is x in (
           (λ is. let (k, at, down, up) = h.0 is in
               (k, at, inl (omega (arith, level, low), (omega (arith, from, down), omega (arith, to, up))))),
           (λ w. let (k, at, place) = w in elim place [
@@ -77,8 +77,8 @@ module _ (e : Edits) (reads : Intervals) (x : CellSeen) (t : Bool) where
         (node_of x)
     read_low h =
         let level = node_level x in
-        let from = node_lo x in
-        let to = node_hi x in (
+        let from = lo_is x in
+        let to = hi_is x in (
           (λ is. let (k, at, down, up) = h.0 is in
               (k, inl (at, inl (omega (arith, level, low), (omega (arith, from, down), omega (arith, to, up)))))),
           (λ r. let (k, way) = r in elim way [

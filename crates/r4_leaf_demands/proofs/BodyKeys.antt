@@ -1,8 +1,8 @@
 -- Keys of bodies, and of none, in ranges and in intervals.
 use Rattle.std.specs.Prelude.{◌≡◌, ◌≢◌, ◌⊎◌, ◌↔◌, ℕ, ◌+◌, ◌-◌, ◌*◌, ◌/◌, ◌%◌, ◌^◌, ◌<◌, ◌≤◌, ◌==◌, [], ◌∷◌, ◌++◌}
-use Rattle.std.specs.Prelude.{Bool, true, false, ◌||◌, nat_lt, slice_index}
+use Rattle.std.specs.Prelude.{Bool, true, false, nat_lt, slice_index}
 use Rattle.std.proofs.Common.{arith, inl, inr, refl, sym, ap, subst, ◌∙◌}
-use Rattle.std.proofs.lemmas.Bool.{both_ways, eq-eqb, eqb-true, lt-ltb, ltb-true}
+use Rattle.std.proofs.lemmas.Bool.{both_ways, eq-eqb, eqb-true, lt-ltb, ltb-true, or_cases, or_left, or_right}
 use Rattle.std.proofs.lemmas.Grind.{common_steps}
 use Rattle.r4_base.specs.Key.{IsKey, key_of_rank, rank}
 use Rattle.r4_base.specs.declared.key.Key.{Key}
@@ -130,18 +130,6 @@ below_all k is =
     omega (arith, a, b, c, d)
 
 -- ---- in intervals
-
-pub or_cases : (a b : Bool) → (a || b) ≡ true → (a ≡ true) ⊎ (b ≡ true)
-or_cases true b e = inl refl
-or_cases false b e = inr e
-
-pub or_left : (a b : Bool) → a ≡ true → (a || b) ≡ true
-or_left true b e = refl
-or_left false b e = absurd (both_ways false refl e)
-
-pub or_right : (a b : Bool) → b ≡ true → (a || b) ≡ true
-or_right true b e = refl
-or_right false b e = e
 
 module _ (body : Bool) (rs ss : Intervals) (lo hi : ℕ) where
   pub meets_first : MeetsKind body rs lo hi → MeetsKind body (rs ++ ss) lo hi

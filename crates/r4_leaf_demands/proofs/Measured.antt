@@ -1,11 +1,11 @@
 -- A leaf, measured with the edits that it gets.
-use Rattle.std.specs.Prelude.{◌≡◌, ℕ, zero, suc, ◌+◌, ◌-◌, ◌^◌, ◌<◌, ◌≤◌, ◌==◌, List, [], ◌∷◌, length, All, true, false}
+use Rattle.std.specs.Prelude.{◌≡◌, ℕ, ◌+◌, ◌-◌, ◌^◌, ◌<◌, ◌≤◌, ◌==◌, List, [], ◌∷◌, length, All, true, false}
 use Rattle.std.specs.Prelude.{None, min, nat_le, nat_lt}
 use Rattle.std.proofs.Common.{arith, inl, refl, sym, ap, subst, ◌∙◌}
 use Rattle.std.specs.List.{filter}
 use Rattle.std.proofs.lemmas.Bool.{and_from, eq-eqb, le-leb, lt-ltb}
 use Rattle.std.proofs.lemmas.List.Elements.{All-cons, All-nil}
-use Rattle.r4_base.specs.Cell.{cell_fault, cell_of, units_in}
+use Rattle.r4_base.specs.Cell.{cell_fault, units_in}
 use Rattle.r4_base.specs.Key.{rank}
 use Rattle.r4_base.specs.Node.{Item, items_of}
 use Rattle.r4_base.specs.Tree.{Name}
@@ -25,27 +25,10 @@ use Rattle.r4_leaf.proofs.Standing.{stand_lie}
 use Rattle.r4_leaf_edits.specs.Made.{AreOfLeaf, MakesEdits}
 use Rattle.r4_marking.proofs.Asked.{node_level}
 use Rattle.r4_path.proofs.CellNodes.{units_are}
+use Rattle.r4_path.proofs.Rising.{hi_is, lo_is}
 use Rattle.r4_reach.specs.Needs.{Ask, is_met, over, units_after}
 use Rattle.r4_suited.proofs.Cells.{IsFitting, leaf_fits}
 use Rattle.r4_leaf_demands.specs.Leaves.{AreLeafEdits, leaf_change_asks, needing}
-
--- ---- the range of a cell
-
-pub node_lo : (c : CellSeen) → (node_of c).lo ≡ rank c.lo
-unfolding cell_of
-node_lo c = by_level c.level
-  where
-    by_level : (l : ℕ) → (cell_of l (rank c.lo) (rank c.hi) c.block).lo ≡ rank c.lo
-    by_level zero = refl
-    by_level (suc l) = refl
-
-pub node_hi : (c : CellSeen) → (node_of c).hi ≡ rank c.hi
-unfolding cell_of
-node_hi c = by_level c.level
-  where
-    by_level : (l : ℕ) → (cell_of l (rank c.lo) (rank c.hi) c.block).hi ≡ rank c.hi
-    by_level zero = refl
-    by_level (suc l) = refl
 
 -- ---- units that rise lie in their range
 
@@ -106,7 +89,7 @@ module _ (x : CellSeen) (level : x.level ≡ 1) (whole : length x.block ≡ 4096
   module _ (e : Edits) (ok : AreLeafEdits e) (cuts : List KeyRange) (gs : List Given)
       (m : MakesEdits (rank x.lo) (rank x.hi) e cuts gs (node_of x).units) where
     after : units_after None e (node_of x) ≡ put_all gs (cut_all cuts (node_of x).units)
-    after = (λ i. filter (λ u. is_between (node_lo x i) (node_hi x i) u.0) (list_edited e (node_of x).units))
+    after = (λ i. filter (λ u. is_between (lo_is x i) (hi_is x i) u.0) (list_edited e (node_of x).units))
         ∙ sym m.units
 
     few : leaf_bytes (units_after None e (node_of x)) < 58912
@@ -138,7 +121,7 @@ module _ (x : CellSeen) (level : x.level ≡ 1) (whole : length x.block ≡ 4096
 
 met_at : (x : CellSeen) (e : Edits) → is_met (changed e) (node_of x).lo (node_of x).hi
     ≡ is_met (changed e) (rank x.lo) (rank x.hi)
-met_at x e = (λ i. is_met (changed e) (node_lo x i) (node_hi x i))
+met_at x e = (λ i. is_met (changed e) (lo_is x i) (hi_is x i))
 
 module _ (x : CellSeen) (level : x.level ≡ 1) (e : Edits) (hs : List (Name × Ask)) where
   one : ((node_of x).level == 1) ≡ true

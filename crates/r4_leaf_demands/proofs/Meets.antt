@@ -2,7 +2,7 @@
 use Rattle.std.specs.Prelude.{◌≡◌, ◌⊎◌, ◌↔◌, ℕ, ◌<◌, ◌≤◌, [], ◌∷◌, ◌++◌, map, Bool, true, false, ◌||◌}
 use Rattle.std.proofs.Common.{arith, inl, inr, refl, sym, ap, ◌∙◌}
 use Rattle.std.specs.List.{filter, flat_map}
-use Rattle.std.proofs.lemmas.Bool.{both_ways, lt-ltb, ltb-true}
+use Rattle.std.proofs.lemmas.Bool.{both_ways, lt-ltb, ltb-true, or_cases, or_from, or_left, or_parts, or_right}
 use Rattle.std.proofs.lemmas.List.Elements.{filter-append}
 use Rattle.r4_content.specs.Bodies.{larger, smaller}
 use Rattle.r4_content.specs.Edited.{Intervals, Pairs, changed, is_between, is_in, put_keys}
@@ -15,8 +15,7 @@ use Rattle.r4_leaf_edits.proofs.Whole.{bodies_only, fills_filter, runs_filter, z
 use Rattle.r4_reach.specs.Needs.{is_met, meets}
 use Rattle.r4_reach.specs.Reach.{is_body}
 use Rattle.r4_leaf_demands.specs.Touching.{MeetsKind}
-use Rattle.r4_leaf_demands.proofs.BodyKeys.{clip_in, clip_out, meets_cases, meets_first, meets_rest, or_cases, or_left}
-use Rattle.r4_leaf_demands.proofs.BodyKeys.{or_right}
+use Rattle.r4_leaf_demands.proofs.BodyKeys.{clip_in, clip_out, meets_cases, meets_first, meets_rest}
 
 -- an interval has a key of the range
 abbrev pub HasOf : Intervals → (lo hi : ℕ) → Type 0
@@ -58,14 +57,6 @@ shuffle false false true true c = refl
 shuffle false false true false c = refl
 shuffle false false false true c = refl
 shuffle false false false false c = refl
-
-or_parts : (a b : Bool) → (a || b) ≡ false → (a ≡ false) × (b ≡ false)
-or_parts false b e = (refl, e)
-or_parts true b e = absurd (both_ways true e refl)
-
-or_none : (a b : Bool) → a ≡ false → b ≡ false → (a || b) ≡ false
-or_none false b e f = f
-or_none true b e f = absurd (both_ways true e refl)
 
 module _ (e : HeldEdits) where
   fs : Pairs
@@ -126,8 +117,8 @@ module _ (e : HeldEdits) where
         let second = or_parts (is_in (put_keys rs) k) (is_in (put_keys (filter (λ p. is_byte p.1) vs)) k)
         (sym (in_both rs (filter (λ p. is_byte p.1) vs) k) ∙ first.1) in
         in_append zs (put_keys (fs ++ rs)) k
-        ∙ or_none (is_in zs k) (is_in (put_keys (fs ++ rs)) k) (sym (zeros_keys zs k) ∙ parts.0)
-        (in_both fs rs k ∙ or_none (is_in (put_keys fs) k) (is_in (put_keys rs) k) first.0 second.0)
+        ∙ or_from (is_in zs k) (is_in (put_keys (fs ++ rs)) k) (sym (zeros_keys zs k) ∙ parts.0)
+        (in_both fs rs k ∙ or_from (is_in (put_keys fs) k) (is_in (put_keys rs) k) first.0 second.0)
 
     bytes_bodies : (k : ℕ) → is_in byte_keys k ≡ true → is_body k ≡ true
     bytes_bodies k at = by_test (is_body k) refl

@@ -37,6 +37,7 @@ pub(crate) fn low_range(cell: &Cell) -> KeyRange
     ensures none { (node_of cell.now).spans ≡ [] }
 {
     if cell.level() == LEAF {
+        // A node of this level: its items are no extents.
         let _ = cell.node();
     }
     KeyRange {

@@ -179,35 +179,44 @@ small_heard f most ns heard is h = each heard (subst (All (λ (x : Name × Ask).
 item_one : (f : ℕ → Option Ask) (level next : ℕ) (it : Item) → length (heard_by_id f (item_names level next it)) ≤ 1
 item_one f level next it = elim (ℕ_discrete it.plugin 3) [
   | yes three ↦ by_target three (pointer_of it.body) refl
-  | no other ↦ (let e = ap length (heard_none f (item_names level next it) (λ n at. other_data level next it n other at)) in omega (arith, e))
+  | no other ↦
+      (let e = ap length (heard_none f (item_names level next it) (λ n at. other_data level next it n other at)) in
+      omega (arith, e))
 ]
   where
-    one_name : (n : Name) (b : Bool) → (n.level == 0) ≡ b → (o : Option Ask) → f n.id ≡ o → length (heard_by_id f (n ∷ [])) ≤ 1
+    one_name : (n : Name) (b : Bool) → (n.level == 0) ≡ b → (o : Option Ask) → f n.id ≡ o
+        → length (heard_by_id f (n ∷ [])) ≤ 1
     one_name n true is o held = rw is (omega arith)
     one_name n false is None held = rw (is, held) (omega arith)
     one_name n false is (Some a) held = rw (is, held) (omega arith)
 
-    by_target : it.plugin ≡ 3 → (o : Option ℕ) → pointer_of it.body ≡ o → length (heard_by_id f (item_names level next it)) ≤ 1
-    by_target three None e = let same = ap (λ (ns : List Name). length (heard_by_id f ns)) (no_pointer level next it three e) in omega (arith, same)
+    by_target : it.plugin ≡ 3 → (o : Option ℕ) → pointer_of it.body ≡ o
+        → length (heard_by_id f (item_names level next it)) ≤ 1
+    by_target three None e = let same = ap (λ (ns : List Name). length (heard_by_id f ns))
+        (no_pointer level next it three e) in omega (arith, same)
     by_target three (Some to) e =
         let n : Name = record { id = to; level = level - 1; lo = rank it.key; hi = next } in
         let same = ap (λ (ns : List Name). length (heard_by_id f ns)) (pointer_item level next to it three e) in
         let one = one_name n (n.level == 0) refl (f n.id) refl in
         omega (arith, same, one)
 
-few_heard : (f : ℕ → Option Ask) (level hi : ℕ) (items : List Item) → length (heard_by_id f (names_in level hi items)) ≤ length items
+few_heard : (f : ℕ → Option Ask) (level hi : ℕ) (items : List Item)
+    → length (heard_by_id f (names_in level hi items)) ≤ length items
 unfolding names_in
 few_heard f level hi [] = omega arith
 few_heard f level hi (it ∷ items) =
     let both = ap length (heard_append f (item_names level (next_key hi items) it) (names_in level hi items)) in
-    let sum = length-append (heard_by_id f (item_names level (next_key hi items) it)) (heard_by_id f (names_in level hi items)) in
+    let sum = length-append (heard_by_id f (item_names level (next_key hi items) it))
+    (heard_by_id f (names_in level hi items)) in
     let one = item_one f level (next_key hi items) it in
     let rest = few_heard f level hi items in
     omega (arith, both, sum, one, rest)
 
-pub heard_few : (c : CellSeen) (f : ℕ → Option Ask) (heard : List Heard) → 1 ≤ c.level → map heard_seen heard ≡ heard_by_id f (node_of c).names → length heard ≤ length (items_of c.block)
+pub heard_few : (c : CellSeen) (f : ℕ → Option Ask) (heard : List Heard) → 1 ≤ c.level → map heard_seen heard
+    ≡ heard_by_id f (node_of c).names → length heard ≤ length (items_of c.block)
 heard_few c f heard some is =
-    let names = ap (λ (ns : List Name). length (heard_by_id f ns)) (names_of c.level (rank c.lo) (rank c.hi) c.block some) in
+    let names = ap (λ (ns : List Name). length (heard_by_id f ns))
+    (names_of c.level (rank c.lo) (rank c.hi) c.block some) in
     let few = few_heard f c.level (rank c.hi) (items_of c.block) in
     let long = ap length is in
     let same = length-map heard heard_seen in
