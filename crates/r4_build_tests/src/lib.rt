@@ -5,4 +5,7 @@
 mod building;
 #[cfg(test)]
 mod leaves;
+#[cfg(test)]
 mod small;
+#[cfg(test)]
+mod working;
