@@ -1,16 +1,24 @@
 //! Laws of the cells that were met for a command. Each is the contract of a function that does nothing.
 
-ghost use Rattle.std.specs.Prelude.{◌≡◌, ◌↔◌, ℕ, ◌<◌, ◌≤◌, Some, true};
+ghost use Rattle.std.specs.Prelude.{◌≡◌, ◌↔◌, ℕ, ◌<◌, ◌≤◌, List, Some, true};
 ghost use Rattle.std.specs.FinMap.{find};
 ghost use Rattle.std.specs.Ordering.{nat_cmp};
 ghost use Rattle.r4_base.specs.Key.{least, top};
 ghost use Rattle.r4_base.specs.Tree.{Root, Store, UnitAt};
 ghost use Rattle.r4_base.specs.Value.{Value};
+ghost use Rattle.r4_cell.specs.Patch.{by_name, root_of_pair};
+ghost use Rattle.r4_cell.specs.Seen.{CellSeen};
+ghost use Rattle.r4_cell.specs.declared.change.Root.{Root as RootPair};
 ghost use Rattle.r4_content.specs.Edited.{Intervals, Pairs, is_in};
+ghost use Rattle.r4_judging.specs.Judging.{HangTogether};
+ghost use Rattle.r4_marking.specs.Marks.{AreMet};
+ghost use Rattle.r4_patch.specs.Part.{IsPart};
 ghost use Rattle.r4_reach.specs.Demand.{Demand};
 ghost use Rattle.r4_reach.specs.Reach.{HasTouched};
 ghost use Rattle.r4_search.specs.Pool.{Goes, PoolState};
-ghost use Rattle.r4_seeing.specs.Looking.{AreFound, met_cells};
+ghost use Rattle.r4_seeing.specs.Looking.{AreFound, AreHung, met_cells};
+ghost use Rattle.r4_work.specs.Order.{AreInOrder};
+ghost use Rattle.r4_reaching.specs.Gathering.{AreAllMet};
 ghost use Rattle.r4_reaching.specs.Reaching.{IsSeenPart, StaysInLeaves};
 
 /// What was found in cells that a pool had met is found in them still, however many it has met since then.
@@ -34,4 +42,18 @@ pub fn what_was_seen_stands()
 pub fn touched_cells_were_met<A>()
     ensures { (d : Demand A) (t : Store Value) (root : Root) (known : Intervals) (s : Pairs)
         → IsSeenPart t root known s → StaysInLeaves d t known → HasTouched d t }
+{}
+
+/// All cells that were met, as a list: they are the same part of a tree, by name. Where what was met hangs together with
+/// the root, and something was met, they hang together; and in order they are as `mark` takes them, where they are a
+/// part of a tree.
+pub fn what_was_met_is_listed()
+    ensures store { (p : PoolState) (root : RootPair) (cells : List CellSeen) → AreHung p root
+        → AreAllMet p.met cells → (i : ℕ) → by_name cells i ≡ met_cells p i }
+    ensures hangs { (p : PoolState) (root : RootPair) (cells : List CellSeen) (some : CellSeen)
+        → AreHung p root → AreAllMet p.met cells → 2 ≤ root.height
+        → p.met some.id ≡ Some some → HangTogether root cells }
+    ensures ordered { (p : PoolState) (root : RootPair) (cells : List CellSeen)
+        → AreAllMet p.met cells → AreInOrder cells
+        → IsPart (by_name cells) (root_of_pair root) → AreMet cells (root_of_pair root) }
 {}

@@ -8,4 +8,5 @@ mod remaking;
 mod working;
 
 pub use laws::{paths_ascend, standing_cells_are_apart};
+pub use ordered::by_place;
 pub use working::WorkingSet;

@@ -52,7 +52,7 @@ impl OrderedCells {
         ensures order { IfOk result (λ o. AreInOrder o) }
     {
         let mut ordered = shared(alloc, cells)?;
-        ordered.sort_unstable_by(|a, b| compare(a, b));
+        ordered.sort_unstable_by(|a, b| by_place(a, b));
         Ok(OrderedCells { cells: ordered })
     }
 
@@ -107,8 +107,9 @@ fn shared(alloc: Global, cells: &[Arc<Cell>]) -> Result<Vec<Arc<Cell>>, Memory>
     Ok(all)
 }
 
-// Whether a cell stands before another one or at its place.
-fn compare(one: &Cell, other: &Cell) -> Ordering
+/// How two cells stand to one another in the order of their levels, and within a level of the keys with which they begin
+/// (docs/volume.md, "The working set").
+pub fn by_place(one: &Cell, other: &Cell) -> Ordering
     ensures { result ≡ nat_cmp (place one.now) (place other.now) }
 {
     if is_before(one, other) {
