@@ -65,8 +65,8 @@ pub record AreOfLeaf (lo hi : ℕ) (us : List LeafUnit) : Type 0 where
 
 -- They may be put into a leaf with these units once the ranges are cut out. Then it has what the edits make of the
 -- units, as far as that lies in its range.
-pub record MakesEdits (lo hi : ℕ) (e : Edits) (cuts : List KeyRange) (gs : List Given) (us : List LeafUnit)
-    : Type 0 where
+pub record MakesEdits (lo hi : ℕ) (e : Edits) (cuts : List KeyRange) (gs : List Given)
+    (us : List LeafUnit) : Type 0 where
   pub can : CanPutAll gs (cut_all cuts us)
   pub units : put_all gs (cut_all cuts us) ≡ filter (λ u. is_between lo hi u.0) (list_edited e us)
 

@@ -45,7 +45,8 @@ pub record IsUnit (key : Key) (v : Value) (it : Item) : Type 0 where
 pub record Gains (lo hi : ℕ) (rs : Intervals) (ps : Pairs) (old new : LeafEdits) : Type 0 where
   pub cuts : (k : ℕ) → is_in (map range_of (cuts_in new)) k
       ≡ (is_in (map range_of (cuts_in old)) k || (is_between lo hi k && is_in rs k))
-  pub units : units_in (items_in new) ≡ units_in (items_in old) ++ filter (λ p. is_between lo hi p.0) ps
+  pub units : units_in (items_in new) ≡ units_in (items_in old)
+      ++ filter (λ p. is_between lo hi p.0) ps
   pub sound : AreSound lo hi old → AreSound lo hi new
 
 -- All that lies in the range of these keys goes, and all that lies in it of these units comes.
@@ -85,7 +86,8 @@ is_kept bytes p = bytes || not (is_body p.0)
 -- the last of the values of each key that a leaf gets
 abbrev pub values_set : (bytes : Bool) → Pairs → Pairs
 values_set bytes [] = []
-values_set bytes (p ∷ ps) = if is_kept bytes p && not (is_in (put_keys ps) p.0) then p ∷ values_set bytes ps
+values_set bytes (p ∷ ps) =
+    if is_kept bytes p && not (is_in (put_keys ps) p.0) then p ∷ values_set bytes ps
     else values_set bytes ps
 
 -- all of it

@@ -12,8 +12,8 @@ use r4_base::{Key, Value};
 use r4_content::{ByteRun, Edits, FilledInterval, Interval};
 use r4_leaf::KeyRange;
 
-/// Whether a key that a command sets or takes away lies in the range of a leaf, from `lo` on and below `hi`. It takes no
-/// time for each byte (docs/volume.md, "Which edits a leaf gets").
+/// Whether a key that a command sets or takes away lies in the range of a leaf, from `lo` on and below `hi`. It takes
+/// no time for each byte (docs/volume.md, "Which edits a leaf gets").
 pub fn touches_leaf(edits: &Edits, lo: &Key, hi: &Key) -> bool
     ensures { result ≡ is_met (changed (edits_of edits.now)) (rank lo.now) (rank hi.now) }
 {

@@ -1,0 +1,6 @@
+//! What the edits of a command are, so that leaves can take them (docs/volume.md, "Which edits a leaf gets").
+#![tactic(auto)]
+
+mod laws;
+
+pub use laws::{accepted_cells_are_lawful, leaves_stay_small, plans_suit_leaves};
