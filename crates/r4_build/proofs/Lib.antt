@@ -1,6 +1,6 @@
-mod Pairs
-mod MetKeys
-mod LeafKeys
+pub mod Pairs
+pub mod MetKeys
+pub mod LeafKeys
 mod Changing
 mod Turns
 mod Origin

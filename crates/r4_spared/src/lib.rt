@@ -1,0 +1,6 @@
+//! What is asked of a tree by commands that touch no extent (docs/volume.md, "Building").
+#![tactic(auto)]
+
+mod laws;
+
+pub use laws::keys_in_leaves_spare_extents;
