@@ -1,8 +1,7 @@
 -- What a cell asks for is at most what the leaves below it do, as far as their ranges are charged for it.
 use Rattle.std.specs.Prelude.{◌≡◌, ◌≢◌, ◌⊎◌, ℕ, zero, suc, ◌+◌, ◌-◌, ◌*◌, ◌/◌, ◌^◌, ◌<◌, ◌≤◌, List, [], ◌∷◌, ◌++◌, length}
-use Rattle.std.specs.Prelude.{Bool, true, false, not, ◌||◌, ◌&&◌, ◌==◌, nat_lt, sum_by, Contains, Option, Some, None}
+use Rattle.std.specs.Prelude.{Bool, true, false, not, ◌||◌, ◌==◌, nat_lt, Contains, Option, Some, None}
 use Rattle.std.specs.Prelude.{if◌then◌else◌}
-use Rattle.std.specs.List.{list_any}
 use Rattle.std.proofs.Common.{arith, inl, inr, refl, sym, ap, subst, ◌∙◌}
 use Rattle.std.proofs.lemmas.Bool.{cases_lt, eqb-true}
 use Rattle.std.proofs.lemmas.Bool.Decides.{nat_tests}
@@ -10,11 +9,11 @@ use Rattle.std.proofs.lemmas.Grind.{common_steps}
 use Rattle.std.proofs.lemmas.List.{append_assoc}
 use Rattle.std.proofs.lemmas.List.Elements.{Contains-append_left, Contains-append_right}
 use Rattle.std.proofs.lemmas.List.Sums.{sum_by-cons}
-use Rattle.r4_base.specs.Cell.{block_names, cell_fault, cell_of, body_bytes, item_end, item_names, items_in_fault, last_entry_key, names_in, next_key, pointer_names, run_names, spans_in}
+use Rattle.r4_base.specs.Cell.{block_names, cell_of, body_bytes, item_end, item_names, items_in_fault, last_entry_key, names_in, next_key, pointer_names, run_names}
 use Rattle.r4_base.specs.Extents.{is_hole, pointer_of, units_of}
 use Rattle.r4_base.specs.Key.{rank, top}
 use Rattle.r4_base.specs.Node.{Item, PluginsFit, fits_level, items_of, node_fault}
-use Rattle.r4_base.specs.Tree.{Name, Node, Root, Span, Store}
+use Rattle.r4_base.specs.Tree.{Name, Node, Root, Store}
 use Rattle.r4_base.specs.Value.{Value}
 use Rattle.r4_base.specs.declared.items.Unit.{Unit as ExtentUnit}
 use Rattle.r4_cell.specs.Seen.{CellSeen, node_of}
@@ -30,7 +29,7 @@ use Rattle.r4_path.proofs.CellNodes.{names_are}
 use Rattle.r4_path.proofs.Rising.{level_is, lo_is, hi_is}
 use Rattle.r4_reach.specs.Demand.{Demand, ask, ask_of, heard, heard_one}
 use Rattle.r4_reach.specs.Needs.{Ask, all_more, asking, cell_asks, changes_pieces, come_of, cut_in_two, demand_of, growing, is_gone, is_touched, leaf_asks}
-use Rattle.r4_reach.specs.Needs.{meets, moves, node_asks, node_need, over, pieces_after, twig_asks, twig_more, twig_need, units_after}
+use Rattle.r4_reach.specs.Needs.{meets, moves, node_asks, node_need, over, twig_asks, twig_more, units_after}
 use Rattle.r4_reach.specs.Touched.{Body}
 use Rattle.r4_reach.proofs.Enough.{node_needs, twig_needs}
 use Rattle.r4_search.proofs.Places.{IsBranch, branch}

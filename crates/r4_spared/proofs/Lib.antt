@@ -1,3 +1,6 @@
 mod Pieces
 mod Spared
 mod Climbing
+mod Charges
+mod Shapes
+mod Small

@@ -93,7 +93,7 @@ module _ {X : Type 0} where
 abbrev whole : Body → ℕ × ℕ
 whole b = (first_byte b, first_byte b + 2 ^ 64)
 
-unspread : (b : Body) → spread_keys (Some b) ≡ None → is_spread b ≡ false
+pub unspread : (b : Body) → spread_keys (Some b) ≡ None → is_spread b ≡ false
 unspread b h = by_test (is_spread b) h
   where
     by_test : (v : Bool) → (if v then Some (whole b) else None) ≡ None → v ≡ false

@@ -3,4 +3,4 @@
 
 mod laws;
 
-pub use laws::keys_in_leaves_spare_extents;
+pub use laws::{asks_stay_small, keys_in_leaves_spare_extents};
