@@ -1,38 +1,42 @@
--- What a command asks of a part of a tree, where its keys lie in leaves, stays small.
-use Rattle.std.specs.Prelude.{◌≡◌, ℕ, ◌+◌, ◌*◌, ◌^◌, ◌<◌, ◌≤◌, Bool, true, false, Option, Some, None, if◌then◌else◌}
+-- What a command asks of a part of a tree, where its keys lie in leaves, stays small; and that it can be built.
+use Rattle.std.specs.Prelude.{◌≡◌, ℕ, ◌+◌, ◌*◌, ◌^◌, ◌<◌, ◌≤◌, Bool, true, false, List, Contains, Option, Some, None}
+use Rattle.std.specs.Prelude.{if◌then◌else◌}
 use Rattle.std.specs.FinMap.{find}
 use Rattle.std.specs.List.{filter}
 use Rattle.std.specs.Ordering.{nat_cmp}
-use Rattle.std.proofs.Common.{arith, refl, sym, ap, subst, ◌∙◌}
+use Rattle.std.proofs.Common.{arith, inl, refl, sym, ap, subst, ◌∙◌}
 use Rattle.std.proofs.lemmas.Bool.Decides.{nat_tests}
 use Rattle.r4_base.specs.Cell.{cell_fault}
 use Rattle.r4_base.specs.Key.{rank}
 use Rattle.r4_base.specs.Tree.{Node, Root, Store}
 use Rattle.r4_base.specs.Value.{Value}
-use Rattle.r4_content.specs.Edited.{Edits, Intervals, Pairs, is_between}
-use Rattle.r4_content.specs.Fields.{HasBytePaths}
+use Rattle.r4_base.proofs.Trees.{one_cell}
+use Rattle.r4_cell.specs.Seen.{CellSeen, node_of}
+use Rattle.r4_cell.specs.declared.change.Fresh.{Fresh}
+use Rattle.r4_content.specs.Edited.{Edits, Intervals, Pairs, changed, is_between, is_in}
 use Rattle.r4_content.specs.Listed.{list_edited}
-use Rattle.r4_content.specs.Seen.{Rises}
 use Rattle.r4_content.specs.declared.command.Command.{Command}
 use Rattle.r4_leaf.specs.Leaves.{MayStand}
 use Rattle.r4_leaf.specs.Units.{leaf_bytes}
 use Rattle.r4_leaf_edits.specs.Made.{spread_keys}
 use Rattle.r4_patch.specs.Part.{IsPart}
-use Rattle.r4_path.proofs.Rising.{hi_is, level_is, lo_is}
-use Rattle.r4_reach.specs.Needs.{Ask, demand_of, over, units_after}
-use Rattle.r4_reach.specs.Reach.{IsRootAsking}
-use Rattle.r4_reach.specs.Touched.{Body, body_on, edits_on}
-use Rattle.r4_suited.specs.Suited.{AreLawfulSeen, end_of_bytes}
+use Rattle.r4_path.proofs.Rising.{hi_is, in_cell, level_is, lo_is}
+use Rattle.r4_reach.specs.Demand.{Demand}
+use Rattle.r4_reach.specs.Needs.{Ask, demand_of, demand_on, over, units_after}
+use Rattle.r4_reach.specs.Touched.{Body, body_on, edits_on, reads_on}
+use Rattle.r4_suited.specs.Suited.{end_of_bytes}
 use Rattle.r4_suited.proofs.Cells.{IsFitting, leaf_fits}
+use Rattle.r4_suited.proofs.Small.{leaf_small}
 use Rattle.r4_suited.proofs.Walked.{edits_made}
 use Rattle.r4_measure.specs.Asked.{asked_of}
 use Rattle.r4_measure.specs.Begin.{IsQuiet}
+use Rattle.r4_build.specs.Building.{CanBuild, HaveLawfulKeys, LiesInLeaf}
 use Rattle.r4_build.proofs.Pairs.{found_in}
-use Rattle.r4_spared.specs.Spared.{AreAccepted, LieInLeaves}
+use Rattle.r4_spared.specs.Spared.{AreAccepted, ChangesLeaves, HasTask, IsAskedInLeaves, MayRise, Spares}
 use Rattle.r4_spared.proofs.Charges.{AreCharged, charge_most, charge_of, charge_up, leaf_charged}
 use Rattle.r4_spared.proofs.Climbing.{asked_bound}
 use Rattle.r4_spared.proofs.Shapes.{made_charged}
-use Rattle.r4_spared.proofs.Spared.{all_spared, own_edits, unspread}
+use Rattle.r4_spared.proofs.Spared.{all_spared, asked_in_leaves, own_edits, unspread}
 
 ends_in_tails : (b : Option Body) → spread_keys b ≡ None → end_of_bytes b ≡ 16384
 ends_in_tails None h = refl
@@ -78,30 +82,78 @@ module _ (b : Option Body) (e : Edits) (tails : spread_keys b ≡ None) (h : Are
       let same = ap (λ (f : Edits). over (leaf_bytes (filter (λ u. is_between c.lo c.hi u.0) (list_edited f c.units)))) (own_edits b e tails) in
       omega (arith, most, same)
 
-pub asks_few : (c : Command) (s : Pairs) (in_extents : Bool) (reads rs : Intervals) (t : Store Value) (root : Root) (l i : ℕ)
-    → HasBytePaths c → Rises s → AreLawfulSeen c s → IsPart t root → AreAccepted t
-    → spread_keys (body_on c s in_extents) ≡ None → LieInLeaves (edits_on c s) t
-    → asked_of (demand_of (body_on c s in_extents) (edits_on c s) reads rs) t l i ≤ 26
-asks_few c s in_extents reads rs t root l i bytes rises lawful it accepted tails lie =
-    let b = body_on c s in_extents in
-    let e = edits_on c s in
-    let h = made_charged s in_extents e rises (edits_made c s lawful bytes) (ends_in_tails b tails) in
-    let spared = all_spared t root b e it accepted tails lie in
-    asked_bound b e reads rs spared.come t root it accepted spared.still (charge_of e h) (charge_up e h)
-    (λ j n at one. leaf_asks_few b e tails h t root it accepted j n at one) l i 26
-    (λ k below. let most = charge_most e h k in omega (arith, most))
+module _ (c : Command) (s : Pairs) (in_extents : Bool) (t : Store Value) (root : Root)
+    (is : ChangesLeaves c s in_extents t root) where
+  abbrev b : Option Body
+  b = body_on c s in_extents
 
-pub is_quiet : (c : Command) (s : Pairs) (in_extents : Bool) (reads rs : Intervals) (t : Store Value) (root : Root)
-    → HasBytePaths c → Rises s → AreLawfulSeen c s → IsPart t root → AreAccepted t
-    → spread_keys (body_on c s in_extents) ≡ None → LieInLeaves (edits_on c s) t
-    → ((x : Ask) → IsRootAsking (demand_of (body_on c s in_extents) (edits_on c s) reads rs) t root x → root.height < 8)
-    → IsQuiet (body_on c s in_extents) (edits_on c s) reads rs t root
-is_quiet c s in_extents reads rs t root bytes rises lawful it accepted tails lie low =
-    let spared = all_spared t root (body_on c s in_extents) (edits_on c s) it accepted tails lie in
-    record {
-      quiet = spared.come;
-      seen = λ i n at. ((accepted.cells i n at).0, (accepted.cells i n at).1);
-      still = spared.still;
-      small = λ l i. let few = asks_few c s in_extents reads rs t root l i bytes rises lawful it accepted tails lie in omega (arith, few);
-      low = low;
+  abbrev e : Edits
+  e = edits_on c s
+
+  spared : Spares b e t
+  spared = all_spared t root b e is.part is.accepted is.tails is.lie
+
+  pub asks_few : (reads rs : Intervals) (l i : ℕ) → asked_of (demand_of b e reads rs) t l i ≤ 26
+  asks_few reads rs l i =
+      let h = made_charged s in_extents e is.rises (edits_made c s is.lawful is.paths) (ends_in_tails b is.tails) in
+      asked_bound b e reads rs spared.come t root is.part is.accepted spared.still (charge_of e h) (charge_up e h)
+      (λ j n at one. leaf_asks_few b e is.tails h t root is.part is.accepted j n at one) l i 26
+      (λ k below. let most = charge_most e h k in omega (arith, most))
+
+  -- what it asks for as a command
+  same_asked : IsAskedInLeaves c s in_extents
+  same_asked = asked_in_leaves c s in_extents is.tails
+
+  pub command_asks_few : (l i : ℕ) → asked_of (demand_on c s in_extents) t l i ≤ 26
+  command_asks_few l i =
+      subst (λ (d : Demand Ask). asked_of d t l i ≤ 26) (sym same_asked) (asks_few (reads_on c s in_extents) (changed e) l i)
+
+  pub is_quiet : (reads rs : Intervals) → MayRise (demand_of b e reads rs) t root → IsQuiet b e reads rs t root
+  is_quiet reads rs low = record {
+    quiet = spared.come;
+    seen = λ i n at. ((is.accepted.cells i n at).0, (is.accepted.cells i n at).1);
+    still = spared.still;
+    small = λ l i. let few = asks_few reads rs l i in omega (arith, few);
+    low = low;
+  }
+
+  -- ---- of a task
+
+  module _ (f : Fresh) (cells : List CellSeen) (keys : HaveLawfulKeys e)
+      (task : HasTask (demand_of b e (reads_on c s in_extents) (changed e)) t root f cells) where
+    lies : (k : ℕ) → is_in (changed e) k ≡ true → LiesInLeaf cells k
+    lies k on =
+        let (low, high) = keys k on in
+        let (i, leaf, at, level, inside) = is.lie k on low high in
+        let (x, member, id) = task.written i (leaf, at, inl (k, on, inl (omega (arith, level), inside))) in
+        let same : node_of x ≡ leaf = one_cell t i (node_of x) leaf
+        (subst (λ (j : ℕ). t j ≡ Some (node_of x)) id (task.cells_in.stand x member)) at in
+        let l = level_is x in
+        let one : (node_of x).level ≡ 1 = subst (λ (n : Node Value). n.level ≡ 1) (sym same) level in
+        (x, member, sym l ∙ one, in_cell x k (subst (λ (n : Node Value). (n.lo ≤ k) × (k < n.hi)) (sym same) inside))
+
+    small : (x : CellSeen) → Contains cells x → x.level ≡ 1 → leaf_bytes (units_after b e (node_of x)) < 58912
+    small x member one =
+        let own = fits b e is.tails (made_charged s in_extents e is.rises (edits_made c s is.lawful is.paths) (ends_in_tails b is.tails))
+        t root is.part is.accepted x.id (node_of x) (task.cells_in.stand x member) (level_is x ∙ one) in
+        leaf_small c s in_extents (node_of x) is.paths is.rises is.lawful own.rises own.few
+
+    can_build : CanBuild b e (reads_on c s in_extents) t root f cells
+    can_build = record {
+      reached = record {
+        quiet = is_quiet (reads_on c s in_extents) (changed e) task.low;
+        height = task.height;
+        cells_in = task.cells_in;
+        written = task.written;
+      };
+      tails = is.tails;
+      names = task.names;
+      lie = lies;
+      small = λ x member one met. small x member one;
+      unplaced = task.unplaced;
+      numbers = task.numbers;
     }
+
+  pub builds : (f : Fresh) (cells : List CellSeen) → HaveLawfulKeys e → HasTask (demand_on c s in_extents) t root f cells
+      → CanBuild b e (reads_on c s in_extents) t root f cells
+  builds f cells keys task = can_build f cells keys (subst (λ (d : Demand Ask). HasTask d t root f cells) same_asked task)

@@ -1,17 +1,29 @@
 -- Commands that touch no extent (docs/volume.md, "Building").
-use Rattle.std.specs.Prelude.{◌≡◌, ◌≢◌, ℕ, ◌^◌, ◌<◌, ◌≤◌, Bool, true, false, length, Contains, Option, Some}
+use Rattle.std.specs.Prelude.{◌≡◌, ◌≢◌, ℕ, ◌+◌, ◌*◌, ◌^◌, ◌<◌, ◌≤◌, Bool, true, false, List, length}
+use Rattle.std.specs.Prelude.{Contains, Option, None, Some}
 use Rattle.r4_base.specs.Key.{least, top}
-use Rattle.r4_base.specs.Tree.{Covers, Name, Node, Store}
+use Rattle.r4_base.specs.Tree.{Covers, Name, Node, Root, Store}
 use Rattle.r4_base.specs.Value.{Value}
+use Rattle.r4_cell.specs.Patch.{HaveNames}
 use Rattle.r4_cell.specs.Seen.{CellSeen, node_of}
+use Rattle.r4_cell.specs.declared.change.Fresh.{Fresh}
 use Rattle.r4_content.specs.Edited.{Edits, Pairs, changed, is_in}
+use Rattle.r4_content.specs.Fields.{HasBytePaths}
+use Rattle.r4_content.specs.Seen.{Rises}
 use Rattle.r4_content.specs.declared.command.Command.{Command}
-use Rattle.r4_reach.specs.Needs.{changes_pieces, come_of, demand_of, demand_on, going_of}
+use Rattle.r4_leaf_edits.specs.Made.{spread_keys}
+use Rattle.r4_patch.specs.Part.{IsPart}
+use Rattle.r4_reach.specs.Demand.{Demand}
+use Rattle.r4_reach.specs.Needs.{Ask, changes_pieces, come_of, demand_of, demand_on, going_of}
+use Rattle.r4_reach.specs.Reach.{IsRootAsking, IsWritten}
 use Rattle.r4_reach.specs.Touched.{Body, body_on, edits_on, reads_on}
-use Rattle.r4_suited.specs.Suited.{IsAccepted}
+use Rattle.r4_suited.specs.Suited.{AreLawfulSeen, IsAccepted}
+use Rattle.r4_work.specs.Working.{AreCellsIn}
+use Rattle.r4_measure.specs.Budget.{AreUnplaced}
 use Rattle.r4_build.specs.Building.{SparesExtents}
 
--- What stands is cells that may stand, in memory. None of them names the number by which new blocks are told.
+-- What stands is cells that may stand, in memory. None of them names the number by which new
+-- blocks are told.
 pub record AreAccepted (t : Store Value) : Type 0 where
   pub cells : (i : ℕ) (c : Node Value) → t i ≡ Some c
       → (x : CellSeen) × (c ≡ node_of x) × (length x.block ≡ 4096) × IsAccepted x
@@ -29,6 +41,34 @@ pub record Spares (b : Option Body) (e : Edits) (t : Store Value) : Type 0 where
   pub extents : SparesExtents e t
   pub still : (i : ℕ) (c : Node Value) → t i ≡ Some c → c.level ≡ 2
       → changes_pieces b e c ≡ false
+
+-- A command, on what was seen, and a part of a tree whose cells may stand: all keys that it
+-- changes lie in leaves.
+pub record ChangesLeaves (c : Command) (s : Pairs) (in_extents : Bool) (t : Store Value)
+    (root : Root) : Type 0 where
+  pub part : IsPart t root
+  pub accepted : AreAccepted t
+  pub paths : HasBytePaths c
+  pub rises : Rises s
+  pub lawful : AreLawfulSeen c s
+  pub tails : spread_keys (body_on c s in_extents) ≡ None
+  pub lie : LieInLeaves (edits_on c s) t
+
+-- The root may be parted, where it is asked to be: it stands below level 8.
+abbrev pub MayRise : Demand Ask → Store Value → Root → Type 0
+MayRise d t root = (x : Ask) → IsRootAsking d t root x → root.height < 8
+
+-- A task has all cells of the part that are written, no two of one number, and 64 fresh numbers
+-- for each.
+pub record HasTask (d : Demand Ask) (t : Store Value) (root : Root) (f : Fresh)
+    (cells : List CellSeen) : Type 0 where
+  pub height : root.height ≤ 8
+  pub low : MayRise d t root
+  pub cells_in : AreCellsIn t root f cells
+  pub written : (i : ℕ) → IsWritten d t i → (x : CellSeen) × Contains cells x × (x.id ≡ i)
+  pub names : HaveNames cells
+  pub unplaced : AreUnplaced f
+  pub numbers : f.next + 64 * length cells ≤ f.end
 
 -- What the command asks of a tree is what its edits ask, of just the keys that they change.
 abbrev pub IsAskedInLeaves : Command → Pairs → (in_extents : Bool) → Type 0

@@ -1,25 +1,25 @@
 //! Laws of commands that touch no extent. Each is the contract of a function that does nothing.
 
-ghost use Rattle.std.specs.Prelude.{◌≡◌, ℕ, ◌<◌, ◌≤◌, Bool, None, Option};
+ghost use Rattle.std.specs.Prelude.{◌≡◌, ℕ, ◌≤◌, Bool, List, None, Option};
 ghost use Rattle.r4_base.specs.Tree.{Root, Store};
 ghost use Rattle.r4_base.specs.Value.{Value};
-ghost use Rattle.r4_content.specs.Edited.{Edits, Intervals, Pairs};
-ghost use Rattle.r4_content.specs.Fields.{HasBytePaths};
-ghost use Rattle.r4_content.specs.Seen.{Rises};
+ghost use Rattle.r4_cell.specs.Seen.{CellSeen};
+ghost use Rattle.r4_cell.specs.declared.change.Fresh.{Fresh};
+ghost use Rattle.r4_content.specs.Edited.{Edits, Intervals, Pairs, changed};
 ghost use Rattle.r4_content.specs.declared.command.Command.{Command};
 ghost use Rattle.r4_leaf_edits.specs.Made.{spread_keys};
 ghost use Rattle.r4_patch.specs.Part.{IsPart};
-ghost use Rattle.r4_reach.specs.Needs.{Ask, demand_of};
-ghost use Rattle.r4_reach.specs.Reach.{IsRootAsking};
-ghost use Rattle.r4_reach.specs.Touched.{Body, body_on, edits_on};
-ghost use Rattle.r4_suited.specs.Suited.{AreLawfulSeen};
+ghost use Rattle.r4_reach.specs.Needs.{demand_of, demand_on};
+ghost use Rattle.r4_reach.specs.Touched.{Body, body_on, edits_on, reads_on};
 ghost use Rattle.r4_measure.specs.Asked.{asked_of};
 ghost use Rattle.r4_measure.specs.Begin.{IsQuiet};
-ghost use Rattle.r4_spared.specs.Spared.{AreAccepted, IsAskedInLeaves, LieInLeaves, Spares};
+ghost use Rattle.r4_build.specs.Building.{CanBuild, HaveLawfulKeys};
+ghost use Rattle.r4_spared.specs.Spared.{AreAccepted, ChangesLeaves, HasTask, IsAskedInLeaves};
+ghost use Rattle.r4_spared.specs.Spared.{LieInLeaves, MayRise, Spares};
 
-/// Where all keys that edits change lie in leaves, and no body stands in extents afterwards, no extent is touched: no
-/// blocks come or go, and no twig's pieces change. So it is of each command; what it asks of the tree is then what its
-/// edits ask.
+/// Where all keys that edits change lie in leaves, and no body stands in extents afterwards, no
+/// extent is touched: no blocks come or go, and no twig's pieces change. So it is of each command;
+/// what it asks of the tree is then what its edits ask.
 pub fn keys_in_leaves_spare_extents()
     ensures edits { (t : Store Value) (root : Root) (b : Option Body) (e : Edits)
         → IsPart t root → AreAccepted t → spread_keys b ≡ None → LieInLeaves e t
@@ -30,19 +30,26 @@ pub fn keys_in_leaves_spare_extents()
         → Spares (body_on c s in_extents) (edits_on c s) t × IsAskedInLeaves c s in_extents }
 {}
 
-/// Of a part of a tree whose cells may stand, no cell is asked for more than 26 pointers by a command whose keys lie
-/// in leaves. So the command is quiet, where the root asks for something only below level 8.
+/// No cell is asked for more than 26 pointers by a command whose keys lie in leaves. So the command
+/// is quiet, where the root asks for something only below level 8.
 pub fn asks_stay_small()
     ensures small { (c : Command) (s : Pairs) (in_extents : Bool) (reads rs : Intervals)
-        (t : Store Value) (root : Root) (l i : ℕ)
-        → HasBytePaths c → Rises s → AreLawfulSeen c s → IsPart t root → AreAccepted t
-        → spread_keys (body_on c s in_extents) ≡ None → LieInLeaves (edits_on c s) t
+        (t : Store Value) (root : Root) (l i : ℕ) → ChangesLeaves c s in_extents t root
         → asked_of (demand_of (body_on c s in_extents) (edits_on c s) reads rs) t l i ≤ 26 }
+    ensures command { (c : Command) (s : Pairs) (in_extents : Bool) (t : Store Value) (root : Root)
+        (l i : ℕ) → ChangesLeaves c s in_extents t root
+        → asked_of (demand_on c s in_extents) t l i ≤ 26 }
     ensures quiet { (c : Command) (s : Pairs) (in_extents : Bool) (reads rs : Intervals)
-        (t : Store Value) (root : Root)
-        → HasBytePaths c → Rises s → AreLawfulSeen c s → IsPart t root → AreAccepted t
-        → spread_keys (body_on c s in_extents) ≡ None → LieInLeaves (edits_on c s) t
-        → ((x : Ask) → IsRootAsking (demand_of (body_on c s in_extents) (edits_on c s) reads rs) t
-        root x → root.height < 8)
+        (t : Store Value) (root : Root) → ChangesLeaves c s in_extents t root
+        → MayRise (demand_of (body_on c s in_extents) (edits_on c s) reads rs) t root
         → IsQuiet (body_on c s in_extents) (edits_on c s) reads rs t root }
+{}
+
+/// Such a command can be built of a task that has the cells which it writes.
+pub fn commands_can_be_built()
+    ensures { (c : Command) (s : Pairs) (in_extents : Bool) (t : Store Value) (root : Root)
+        (f : Fresh) (cells : List CellSeen) → ChangesLeaves c s in_extents t root
+        → HaveLawfulKeys (edits_on c s) → HasTask (demand_on c s in_extents) t root f cells
+        → CanBuild (body_on c s in_extents) (edits_on c s) (reads_on c s in_extents) t root f
+            cells }
 {}

@@ -3,4 +3,4 @@
 
 mod laws;
 
-pub use laws::{asks_stay_small, keys_in_leaves_spare_extents};
+pub use laws::{asks_stay_small, commands_can_be_built, keys_in_leaves_spare_extents};
