@@ -56,7 +56,8 @@ points (p ∷ ps) k = (if nat_lt p.0 k then 2433 else 0) + points ps k
 -- ---- they grow with the key
 
 ends_up : (a b k j : ℕ) → k ≤ j
-    → (if nat_lt a k then 2126 else 0) + (if nat_le b k then 2126 else 0) ≤ (if nat_lt a j then 2126 else 0) + (if nat_le b j then 2126 else 0)
+    → (if nat_lt a k then 2126 else 0) + (if nat_le b k then 2126 else 0) ≤ (if nat_lt a j then 2126 else 0) +
+    (if nat_le b j then 2126 else 0)
 ends_up a b k j le = grind (arith, nat_tests, le)
 
 size_up : (a b k j : ℕ) → k ≤ j → smaller k b - a ≤ smaller j b - a
@@ -112,7 +113,8 @@ parts lo hi [] = 0
 parts lo hi (r ∷ rs) = part lo hi r + parts lo hi rs
 
 ends_part : (lo hi a b : ℕ) → lo ≤ hi → (nat_le a lo && nat_le hi b) ≡ false
-    → (if nat_lt a lo then 2126 else 0) + (if nat_le b lo then 2126 else 0) + 2126 * (if nat_lt (larger lo a) (smaller hi b) then 1 else 0)
+    → (if nat_lt a lo then 2126 else 0) + (if nat_le b lo then 2126 else 0) + 2126 *
+    (if nat_lt (larger lo a) (smaller hi b) then 1 else 0)
     ≤ (if nat_lt a hi then 2126 else 0) + (if nat_le b hi then 2126 else 0)
 ends_part lo hi a b le h = grind (arith, nat_tests, le, h)
 
@@ -208,7 +210,8 @@ is_lt a b h = grind (arith, nat_tests, h)
 
 keep_all : (p : ℕ × Value → Bool) (us : Pairs) → ((u : ℕ × Value) → p u ≡ true) → filter p us ≡ us
 keep_all p [] h = refl
-keep_all p (u ∷ us) h = ap (λ (v : Bool). cond v (u ∷ filter p us) (filter p us)) (h u) ∙ ap (λ (ws : Pairs). u ∷ ws) (keep_all p us h)
+keep_all p (u ∷ us) h = ap (λ (v : Bool). cond v (u ∷ filter p us) (filter p us)) (h u)
+    ∙ ap (λ (ws : Pairs). u ∷ ws) (keep_all p us h)
 
 module _ (lo hi : ℕ) where
   cut_in : (r : ℕ × ℕ) (us : Pairs) → Rises us
@@ -216,14 +219,17 @@ module _ (lo hi : ℕ) where
   cut_in r us rises = by_test (meets lo hi r) refl
     where
       by_test : (v : Bool) → meets lo hi r ≡ v
-          → Grows (40 * (if v then 1 else 0)) us (filter (λ u. not (is_between (larger lo r.0) (smaller hi r.1) u.0)) us)
+          → Grows (40 * (if v then 1 else 0)) us
+          (filter (λ u. not (is_between (larger lo r.0) (smaller hi r.1) u.0)) us)
       by_test true h = cuts_grow (clip lo hi r ∷ []) us rises
       by_test false h = subst (λ (ws : Pairs). Grows 0 us ws)
           (sym (keep_all (λ u. not (is_between (larger lo r.0) (smaller hi r.1) u.0)) us
-          (λ u. ap not (none_between (larger lo r.0) (smaller hi r.1) u.0 (not_lt (larger lo r.0) (smaller hi r.1) h)))))
+          (λ u. ap not
+          (none_between (larger lo r.0) (smaller hi r.1) u.0 (not_lt (larger lo r.0) (smaller hi r.1) h)))))
           (grows_none us rises)
 
-  cuts_in : (rs : Intervals) (us : Pairs) → Rises us → Grows (40 * count lo hi rs) us (list_cut (map (clip lo hi) rs) us)
+  cuts_in : (rs : Intervals) (us : Pairs) → Rises us
+      → Grows (40 * count lo hi rs) us (list_cut (map (clip lo hi) rs) us)
   cuts_in [] us rises = grows_none us rises
   cuts_in (r ∷ rs) us rises =
       let a = cut_in r us rises in
@@ -268,7 +274,8 @@ module _ (lo hi : ℕ) where
           (grows_none _ run.rises))
       by_test false h = subst (λ (ps : Pairs). Grows (0 + part lo hi (a, a + length xs)) us (list_put ps us))
           (sym (no_bytes lo hi a xs (not_lt (larger lo a) (smaller hi (a + length xs)) h)))
-          (grows_both 0 0 (0 + part lo hi (a, a + length xs)) us us us (omega arith) (grows_none us rises) (grows_none us rises))
+          (grows_both 0 0 (0 + part lo hi (a, a + length xs)) us us us (omega arith) (grows_none us rises)
+          (grows_none us rises))
 
   kept_values : (ps : Pairs) → All IsValue ps → All IsValue (filter (λ p. is_between lo hi p.0) ps)
   kept_values [] h = All-nil IsValue
@@ -336,15 +343,20 @@ module _ (lo hi k : ℕ) where
           → last_put (cond b (p ∷ filter (λ q. is_between lo hi q.0) ps) (filter (λ q. is_between lo hi q.0) ps)) k v
           ≡ last_put ps k (cond (k == p.0) (Some p.1) v)
       by_test rest true h = rest (cond (k == p.0) (Some p.1) v)
-      by_test rest false h = rest v ∙ ap (λ (b : Bool). last_put ps k (cond b (Some p.1) v)) (sym (other_key lo hi k p.0 at h))
+      by_test rest false h = rest v ∙ ap (λ (b : Bool). last_put ps k (cond b (Some p.1) v))
+          (sym (other_key lo hi k p.0 at h))
 
-  put_out : (ps : Pairs) → is_between lo hi k ≡ false → is_in (put_keys (filter (λ p. is_between lo hi p.0) ps)) k ≡ false
+  put_out : (ps : Pairs) → is_between lo hi k ≡ false → is_in (put_keys (filter (λ p. is_between lo hi p.0) ps)) k
+      ≡ false
   put_out [] at = refl
   put_out (p ∷ ps) at = by_test (put_out ps at) (is_between lo hi p.0) refl
     where
-      by_test : is_in (put_keys (filter (λ q. is_between lo hi q.0) ps)) k ≡ false → (b : Bool) → is_between lo hi p.0 ≡ b
-          → is_in (put_keys (cond b (p ∷ filter (λ q. is_between lo hi q.0) ps) (filter (λ q. is_between lo hi q.0) ps))) k ≡ false
-      by_test rest true h = or_off (is_between p.0 (p.0 + 1) k) (is_in (put_keys (filter (λ q. is_between lo hi q.0) ps)) k)
+      by_test : is_in (put_keys (filter (λ q. is_between lo hi q.0) ps)) k ≡ false → (b : Bool) → is_between lo hi p.0
+          ≡ b
+          → is_in (put_keys
+          (cond b (p ∷ filter (λ q. is_between lo hi q.0) ps) (filter (λ q. is_between lo hi q.0) ps))) k ≡ false
+      by_test rest true h = or_off (is_between p.0 (p.0 + 1) k)
+          (is_in (put_keys (filter (λ q. is_between lo hi q.0) ps)) k)
           (off_key lo hi k p.0 at h) rest
       by_test rest false h = rest
 
@@ -359,26 +371,32 @@ module _ (lo hi : ℕ) (e : Edits) (us : Pairs) (rises : Rises us)
         | inr out ↦ ap (λ (v : Bool). cond v (find nat_cmp k (list_edited e us)) None) out ∙ sym (outside k out)
       ])
     where
-      inside : (k : ℕ) → is_between lo hi k ≡ true → find nat_cmp k (list_edited e us) ≡ find nat_cmp k (list_edited (clipped lo hi e) us)
+      inside : (k : ℕ) → is_between lo hi k ≡ true → find nat_cmp k (list_edited e us)
+          ≡ find nat_cmp k (list_edited (clipped lo hi e) us)
       inside k at =
           found e us k rises
-          ∙ sym (put_in lo hi k e.puts at (cond (is_in e.zeros k) (Some (Byte 0)) (cond (is_in e.cuts k) None (find nat_cmp k us))))
-          ∙ (λ i. last_put (filter (λ p. is_between lo hi p.0) e.puts) k (cond (sym (clip_in lo hi k e.zeros at) i) (Some (Byte 0))
+          ∙ sym (put_in lo hi k e.puts at
+          (cond (is_in e.zeros k) (Some (Byte 0)) (cond (is_in e.cuts k) None (find nat_cmp k us))))
+          ∙ (λ i. last_put (filter (λ p. is_between lo hi p.0) e.puts) k
+          (cond (sym (clip_in lo hi k e.zeros at) i) (Some (Byte 0))
           (cond (sym (clip_in lo hi k e.cuts at) i) None (find nat_cmp k us))))
           ∙ sym (found (clipped lo hi e) us k rises)
 
       outside : (k : ℕ) → is_between lo hi k ≡ false → find nat_cmp k (list_edited (clipped lo hi e) us) ≡ None
       outside k out = listed_off (clipped lo hi e) us k rises
           (in_changed (clipped lo hi e) k
-          ∙ or_off (is_in (put_keys (filter (λ p. is_between lo hi p.0) e.puts)) k) (is_in (map (clip lo hi) e.zeros) k || is_in (map (clip lo hi) e.cuts) k)
+          ∙ or_off (is_in (put_keys (filter (λ p. is_between lo hi p.0) e.puts)) k)
+          (is_in (map (clip lo hi) e.zeros) k || is_in (map (clip lo hi) e.cuts) k)
           (put_out lo hi k e.puts out)
-          (or_off (is_in (map (clip lo hi) e.zeros) k) (is_in (map (clip lo hi) e.cuts) k) (clip_out lo hi k e.zeros out) (clip_out lo hi k e.cuts out)))
+          (or_off (is_in (map (clip lo hi) e.zeros) k) (is_in (map (clip lo hi) e.cuts) k)
+          (clip_out lo hi k e.zeros out) (clip_out lo hi k e.cuts out)))
           ∙ within k out
 
   -- where each of its keys changes, what stood there does not matter
   anew : ((k : ℕ) → is_between lo hi k ≡ true → is_in (changed e) k ≡ true)
       → filter (λ u. is_between lo hi u.0) (list_edited e us) ≡ filter (λ u. is_between lo hi u.0) (list_edited e [])
-  anew all = same_rising (filter (λ u. is_between lo hi u.0) (list_edited e us)) (filter (λ u. is_between lo hi u.0) (list_edited e []))
+  anew all = same_rising (filter (λ u. is_between lo hi u.0) (list_edited e us))
+      (filter (λ u. is_between lo hi u.0) (list_edited e []))
       (kept_rises (is_between lo hi) (list_edited e us) (edited_rises e us rises))
       (kept_rises (is_between lo hi) (list_edited e []) (edited_rises e [] tt))
       (λ k. kept_found (is_between lo hi) (list_edited e us) k ∙ (elim (true_or_false (is_between lo hi k)) [
@@ -390,10 +408,12 @@ module _ (lo hi : ℕ) (e : Edits) (us : Pairs) (rises : Rises us)
 
 -- ---- an interval that covers the range
 
-covered_key : (lo hi a b k : ℕ) → (nat_le a lo && nat_le hi b) ≡ true → is_between lo hi k ≡ true → is_between a b k ≡ true
+covered_key : (lo hi a b k : ℕ) → (nat_le a lo && nat_le hi b) ≡ true → is_between lo hi k ≡ true → is_between a b k
+    ≡ true
 covered_key lo hi a b k h g = grind (arith, common_steps, h, g)
 
-covered_keys : (lo hi : ℕ) (rs : Intervals) → list_any (covers lo hi) rs ≡ true → (k : ℕ) → is_between lo hi k ≡ true → is_in rs k ≡ true
+covered_keys : (lo hi : ℕ) (rs : Intervals) → list_any (covers lo hi) rs ≡ true → (k : ℕ) → is_between lo hi k ≡ true
+    → is_in rs k ≡ true
 covered_keys lo hi [] h k at = absurd cc
 covered_keys lo hi (r ∷ rs) h k at = elim (or_parts (covers lo hi r) (list_any (covers lo hi) rs) h) [
   | inl own ↦ or_left (is_between r.0 r.1 k) (is_in rs k) (covered_key lo hi r.0 r.1 k own at)
@@ -413,7 +433,8 @@ pub nothing_weighs : leaf_bytes [] ≡ 0
 unfolding bytes_behind
 nothing_weighs = refl
 
-module _ (lo hi : ℕ) (le : lo ≤ hi) (e : Edits) (a : ℕ) (xs : List ℕ) (vs : Pairs) (puts : e.puts ≡ byte_pairs a xs ++ vs)
+module _ (lo hi : ℕ) (le : lo ≤ hi) (e : Edits) (a : ℕ) (xs : List ℕ) (vs : Pairs)
+    (puts : e.puts ≡ byte_pairs a xs ++ vs)
     (values : All IsValue vs) (few : length e.zeros ≤ 1) where
   abbrev run : ℕ × ℕ
   run = (a, a + length xs)
@@ -449,7 +470,8 @@ module _ (lo hi : ℕ) (le : lo ≤ hi) (e : Edits) (a : ℕ) (xs : List ℕ) (v
       let all = grows_both (g + zeros_more) (run_more + values_more) (g + zeros_more + run_more + values_more) ws zeroed
       (list_put (filter Within vs) filled) (omega arith)
       (grows_both g zeros_more (g + zeros_more) ws cuts zeroed (omega arith) cut z)
-      (grows_both run_more values_more (run_more + values_more) zeroed filled (list_put (filter Within vs) filled) (omega arith) r v) in
+      (grows_both run_more values_more (run_more + values_more) zeroed filled (list_put (filter Within vs) filled)
+      (omega arith) r v) in
       subst (λ (ps : Pairs). Grows (g + zeros_more + run_more + values_more) ws (list_put ps zeroed)) (sym puts_within)
       (subst (λ (xs : Pairs). Grows (g + zeros_more + run_more + values_more) ws xs)
       (sym (put_append (filter Within (byte_pairs a xs)) (filter Within vs) zeroed)) all)
@@ -460,7 +482,8 @@ module _ (lo hi : ℕ) (le : lo ≤ hi) (e : Edits) (a : ℕ) (xs : List ℕ) (v
     after = filter Within (list_edited e us)
 
     -- no interval covers the range
-    in_part : list_any (covers lo hi) e.cuts ≡ false → list_any (covers lo hi) e.zeros ≡ false → covers lo hi run ≡ false
+    in_part : list_any (covers lo hi) e.cuts ≡ false → list_any (covers lo hi) e.zeros ≡ false → covers lo hi run
+        ≡ false
         → 1024 * over (leaf_bytes after) + charge lo ≤ charge hi
     unfolding after
     in_part no_cut no_zero no_run =
@@ -490,7 +513,8 @@ module _ (lo hi : ℕ) (le : lo ≤ hi) (e : Edits) (a : ℕ) (xs : List ℕ) (v
         → 1024 * over (leaf_bytes after) + charge lo ≤ charge hi
     unfolding after
     in_whole all =
-        let g = grown 0 [] (subst (λ (ws : Pairs). Grows 0 [] ws) (sym (none_cut (map (clip lo hi) e.cuts))) (grows_none [] tt)) in
+        let g = grown 0 []
+        (subst (λ (ws : Pairs). Grows 0 [] ws) (sym (none_cut (map (clip lo hi) e.cuts))) (grows_none [] tt)) in
         let bytes = g.bytes in
         let same = ap leaf_bytes (anew lo hi e us rises within all ∙ window lo hi e [] tt (λ k out. refl)) in
         let c = all_ends_up e.cuts lo hi le in
@@ -521,7 +545,8 @@ module _ (lo hi : ℕ) (le : lo ≤ hi) (e : Edits) (a : ℕ) (xs : List ℕ) (v
             (or_left (is_in e.zeros k) (is_in e.cuts k) (covered_keys lo hi e.zeros zero_all k at)))
         | inr no_zero ↦ elim (true_or_false (covers lo hi run)) [
           | inl own ↦ in_whole (λ k at. in_changed e k
-              ∙ or_left (is_in (put_keys e.puts) k) (is_in e.zeros k || is_in e.cuts k) (in_run k (covered_key lo hi a (a + length xs) k own at)))
+              ∙ or_left (is_in (put_keys e.puts) k) (is_in e.zeros k || is_in e.cuts k)
+              (in_run k (covered_key lo hi a (a + length xs) k own at)))
           | inr no_run ↦ in_part no_cut no_zero no_run
         ]
       ]
@@ -529,7 +554,8 @@ module _ (lo hi : ℕ) (le : lo ≤ hi) (e : Edits) (a : ℕ) (xs : List ℕ) (v
       where
         in_run : (k : ℕ) → is_between a (a + length xs) k ≡ true → is_in (put_keys e.puts) k ≡ true
         in_run k h = ap (λ (ps : Pairs). is_in (put_keys ps) k) puts
-            ∙ (in_both (byte_pairs a xs) vs k ∙ or_left (is_in (put_keys (byte_pairs a xs)) k) (is_in (put_keys vs) k) (run_keys a xs k ∙ h))
+            ∙ (in_both (byte_pairs a xs) vs k ∙ or_left (is_in (put_keys (byte_pairs a xs)) k) (is_in (put_keys vs) k)
+            (run_keys a xs k ∙ h))
 
 -- ---- all charges together
 

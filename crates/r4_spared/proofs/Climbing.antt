@@ -1,5 +1,6 @@
 -- What a cell asks for is at most what the leaves below it do, as far as their ranges are charged for it.
-use Rattle.std.specs.Prelude.{◌≡◌, ◌≢◌, ◌⊎◌, ℕ, zero, suc, ◌+◌, ◌-◌, ◌*◌, ◌/◌, ◌^◌, ◌<◌, ◌≤◌, List, [], ◌∷◌, ◌++◌, length}
+use Rattle.std.specs.Prelude.{◌≡◌, ◌≢◌, ◌⊎◌, ℕ, zero, suc, ◌+◌, ◌-◌, ◌*◌, ◌/◌, ◌^◌, ◌<◌, ◌≤◌, List, [], ◌∷◌, ◌++◌}
+use Rattle.std.specs.Prelude.{length}
 use Rattle.std.specs.Prelude.{Bool, true, false, not, ◌||◌, ◌==◌, nat_lt, Contains, Option, Some, None}
 use Rattle.std.specs.Prelude.{if◌then◌else◌}
 use Rattle.std.proofs.Common.{arith, inl, inr, refl, sym, ap, subst, ◌∙◌}
@@ -9,7 +10,8 @@ use Rattle.std.proofs.lemmas.Grind.{common_steps}
 use Rattle.std.proofs.lemmas.List.{append_assoc}
 use Rattle.std.proofs.lemmas.List.Elements.{Contains-append_left, Contains-append_right}
 use Rattle.std.proofs.lemmas.List.Sums.{sum_by-cons}
-use Rattle.r4_base.specs.Cell.{block_names, cell_of, body_bytes, item_end, item_names, items_in_fault, last_entry_key, names_in, next_key, pointer_names, run_names}
+use Rattle.r4_base.specs.Cell.{block_names, cell_of, body_bytes, item_end, item_names, items_in_fault, last_entry_key}
+use Rattle.r4_base.specs.Cell.{names_in, next_key, pointer_names, run_names}
 use Rattle.r4_base.specs.Extents.{is_hole, pointer_of, units_of}
 use Rattle.r4_base.specs.Key.{rank, top}
 use Rattle.r4_base.specs.Node.{Item, PluginsFit, fits_level, items_of, node_fault}
@@ -28,7 +30,8 @@ use Rattle.r4_path.specs.Nodes.{weight}
 use Rattle.r4_path.proofs.CellNodes.{names_are}
 use Rattle.r4_path.proofs.Rising.{level_is, lo_is, hi_is}
 use Rattle.r4_reach.specs.Demand.{Demand, ask, ask_of, heard, heard_one}
-use Rattle.r4_reach.specs.Needs.{Ask, all_more, asking, cell_asks, changes_pieces, come_of, cut_in_two, demand_of, growing, is_gone, is_touched, leaf_asks}
+use Rattle.r4_reach.specs.Needs.{Ask, all_more, asking, cell_asks, changes_pieces, come_of, cut_in_two, demand_of}
+use Rattle.r4_reach.specs.Needs.{growing, is_gone, is_touched, leaf_asks}
 use Rattle.r4_reach.specs.Needs.{meets, moves, node_asks, node_need, over, twig_asks, twig_more, units_after}
 use Rattle.r4_reach.specs.Touched.{Body}
 use Rattle.r4_reach.proofs.Enough.{node_needs, twig_needs}
@@ -136,10 +139,13 @@ module _ (f : Node Value → Option Ask) (t : Store Value) where
   skip_blocks : (k : ℕ) (us : List ExtentUnit) (ns : List Name) → heard f t (block_names k us ++ ns) ≡ heard f t ns
   skip_blocks k [] ns = refl
   skip_blocks k (u ∷ us) ns =
-      ap (heard f t) (append_assoc (if is_hole u then [] else run_names k u.start u.width) (block_names (k + 4096 * u.width) us) ns)
+      ap (heard f t)
+      (append_assoc (if is_hole u then [] else run_names k u.start u.width)
+      (block_names (k + 4096 * u.width) us) ns)
       ∙ (own (is_hole u) (block_names (k + 4096 * u.width) us ++ ns) ∙ skip_blocks (k + 4096 * u.width) us ns)
     where
-      own : (v : Bool) (ms : List Name) → heard f t ((if v then [] else run_names k u.start u.width) ++ ms) ≡ heard f t ms
+      own : (v : Bool) (ms : List Name) → heard f t ((if v then [] else run_names k u.start u.width) ++ ms)
+          ≡ heard f t ms
       own true ms = refl
       own false ms = skip_runs k u.start u.width ms
 
@@ -152,8 +158,11 @@ module _ (f : Node Value → Option Ask) (t : Store Value) where
       one_more (Some a) = sum_by-cons (λ (h : Name × Ask). h.1.more) (n, a) (heard f t ns)
 
       by_level : (v : Bool) → (n.level == 0) ≡ v
-          → (all_more (if v then heard f t ns else heard_one n (ask_of f (t n.id)) (heard f t ns)) ≡ all_more (heard f t ns))
-          ⊎ ((n.level ≢ 0) × (all_more (if v then heard f t ns else heard_one n (ask_of f (t n.id)) (heard f t ns)) ≡ more_of (ask_of f (t n.id)) + all_more (heard f t ns)))
+          → (all_more (if v then heard f t ns else heard_one n (ask_of f (t n.id)) (heard f t ns))
+          ≡ all_more (heard f t ns))
+          ⊎ ((n.level ≢ 0) ×
+          (all_more (if v then heard f t ns else heard_one n (ask_of f (t n.id)) (heard f t ns))
+          ≡ more_of (ask_of f (t n.id)) + all_more (heard f t ns)))
       by_level true h = inl refl
       by_level false h = inr ((λ z. absurd (grind (arith, nat_tests, h, z))), one_more (ask_of f (t n.id)))
 
@@ -168,7 +177,8 @@ module _ (f : Node Value → Option Ask) (t : Store Value) where
 
     item_bounds : (level next : ℕ) (it : Item) (ns : List Name) (hi : ℕ) → rank it.key ≤ next
         → ((n : Name) → Contains (item_names level next it) n → IsBounded n)
-        → Bounds C next hi (all_more (heard f t ns)) → Bounds C (rank it.key) hi (all_more (heard f t (item_names level next it ++ ns)))
+        → Bounds C next hi (all_more (heard f t ns))
+        → Bounds C (rank it.key) hi (all_more (heard f t (item_names level next it ++ ns)))
     unfolding item_names
     item_bounds level next it ns hi le each rest = by_plugin (it.plugin == 3) (it.plugin == 5) (pointer_of it.body) each
       where
@@ -179,8 +189,15 @@ module _ (f : Node Value → Option Ask) (t : Store Value) where
             (omega (arith, r, m, is), subst IsFine (sym is) fine)
 
         by_plugin : (v w : Bool) (o : Option ℕ)
-            → ((n : Name) → Contains (if v then pointer_names level (rank it.key) next o else (if w then block_names (rank it.key) (units_of it.body) else [])) n → IsBounded n)
-            → Bounds C (rank it.key) hi (all_more (heard f t ((if v then pointer_names level (rank it.key) next o else (if w then block_names (rank it.key) (units_of it.body) else [])) ++ ns)))
+            → ((n : Name)
+            → Contains
+            (if v then pointer_names level (rank it.key) next o else
+            (if w then block_names (rank it.key) (units_of it.body) else [])) n → IsBounded n)
+            → Bounds C (rank it.key) hi
+            (all_more
+            (heard f t
+            ((if v then pointer_names level (rank it.key) next o else
+            (if w then block_names (rank it.key) (units_of it.body) else [])) ++ ns)))
         by_plugin false false o own = wider (all_more (heard f t ns)) refl
         by_plugin false true o own = wider _ (ap all_more (skip_blocks (rank it.key) (units_of it.body) ns))
         by_plugin true w None own = wider (all_more (heard f t ns)) refl
@@ -191,8 +208,11 @@ module _ (f : Node Value → Option Ask) (t : Store Value) where
               | inr h ↦
                   let (up, is) = h in
                   let (mine, fine) = own n (here n []) up in
-                  let (r, others) = rest in
-                  (omega (arith, is, mine, r), subst IsFine (sym is) (fine_sum (more_of (ask_of f (t to))) (all_more (heard f t ns)) fine others))
+                  let (r, others) = rest in (
+                    omega (arith, is, mine, r),
+                    subst IsFine (sym is)
+                        (fine_sum (more_of (ask_of f (t to))) (all_more (heard f t ns)) fine others),
+                  )
             ]
 
     items_bound : (level hi : ℕ) (items : List Item) → GoUp hi items
@@ -204,7 +224,8 @@ module _ (f : Node Value → Option Ask) (t : Store Value) where
         item_bounds level (next_key hi items) it (names_in level hi items) hi up.0
         (λ n at. each n (Contains-append_left (item_names level (next_key hi items) it) (names_in level hi items) n at))
         (items_bound level hi items up.1
-        (λ n at. each n (Contains-append_right (item_names level (next_key hi items) it) (names_in level hi items) n at)))
+        (λ n at. each n
+        (Contains-append_right (item_names level (next_key hi items) it) (names_in level hi items) n at)))
 
 -- ---- the items of a node above the leaves go up
 
@@ -213,7 +234,8 @@ unfolding item_end
 rank_end it h = by_test (it.plugin == 0 || it.plugin == 3) (it.plugin == 2) h
   where
     by_test : (v w : Bool) → w ≡ false
-        → rank it.key ≤ (if v then rank it.key + 1 else (if w then last_entry_key it + 1 else rank it.key + body_bytes it))
+        → rank it.key ≤
+        (if v then rank it.key + 1 else (if w then last_entry_key it + 1 else rank it.key + body_bytes it))
     by_test true w g = omega arith
     by_test false true g = absurd cc
     by_test false false g = omega arith
@@ -252,7 +274,11 @@ module _ (P : ℕ → Type 0) (none : P 0) where
     of_leaf h = by_test (meets c.lo c.hi (come_of b)) (ap (λ (r : ℕ × ℕ). meets c.lo c.hi r) quiet ∙ unmet c.lo c.hi)
       where
         by_test : (v : Bool) → v ≡ false → P (more_of (if v then asking true
-            (record { more = over (leaf_bytes (units_after b e c)) + cut_in_two (come_of b) c (units_after b e c); gone = is_gone (come_of b) c (units_after b e c) })
+            (record {
+              more = over (leaf_bytes (units_after b e c)) + cut_in_two (come_of b) c
+                  (units_after b e c);
+              gone = is_gone (come_of b) c (units_after b e c);
+            })
             else asking false (record { more = over (leaf_bytes (units_after b e c)); gone = false })))
         by_test true g = absurd cc
         by_test false g = asked_or_none false (record { more = over (leaf_bytes (units_after b e c)); gone = false }) h
@@ -269,14 +295,16 @@ module _ (P : ℕ → Type 0) (none : P 0) where
         by_twig false g up = asked_or_none (moves (come_of b) c) _ (node (grind (arith, nat_tests, g, up)))
 
         by_leaf : (v : Bool) → (c.level == 1) ≡ v → 1 ≤ c.level
-            → P (more_of (if v then leaf_asks b e c else (if c.level == 2 then twig_asks b e c hs else node_asks b c hs)))
+            → P (more_of
+            (if v then leaf_asks b e c else (if c.level == 2 then twig_asks b e c hs else node_asks b c hs)))
         by_leaf true g up = of_leaf (leaf (eqb-true c.level 1 g))
         by_leaf false g up = by_twig (c.level == 2) refl (grind (arith, nat_tests, g, up))
 
         some_level : (is_touched rs c || not (length hs == 0)) ≡ true → 1 ≤ c.level
         some_level g = elim (cases_lt 0 c.level) [
           | inl up ↦ up
-          | inr none_up ↦ let off = low (omega (arith, none_up)) in absurd (true_off (is_touched rs c || not (length hs == 0)) g off)
+          | inr none_up ↦ let off = low (omega (arith, none_up)) in absurd
+              (true_off (is_touched rs c || not (length hs == 0)) g off)
         ]
           where
             true_off : (v : Bool) → v ≡ true → v ≡ false → ⊥
@@ -284,13 +312,17 @@ module _ (P : ℕ → Type 0) (none : P 0) where
             true_off false h k = absurd cc
 
         by_touch : (v : Bool) → (is_touched rs c || not (length hs == 0)) ≡ v
-            → P (more_of (if v then (if c.level == 1 then leaf_asks b e c else (if c.level == 2 then twig_asks b e c hs else node_asks b c hs)) else None))
+            → P (more_of
+            (if v then
+            (if c.level == 1 then leaf_asks b e c else
+            (if c.level == 2 then twig_asks b e c hs else node_asks b c hs)) else None))
         by_touch true g = by_leaf (c.level == 1) refl (some_level g)
         by_touch false g = none
 
 -- ---- in a part of a tree
 
-module _ (b : Option Body) (e : Edits) (reads rs : Intervals) (quiet : come_of b ≡ (0, 0)) (t : Store Value) (root : Root)
+module _ (b : Option Body) (e : Edits) (reads rs : Intervals) (quiet : come_of b ≡ (0, 0)) (t : Store Value)
+    (root : Root)
     (it : IsPart t root) (accepted : AreAccepted t)
     (still : (i : ℕ) (c : Node Value) → t i ≡ Some c → c.level ≡ 2 → changes_pieces b e c ≡ false)
     (C : ℕ → ℕ) (mono : (k j : ℕ) → k ≤ j → C k ≤ C j)
@@ -325,7 +357,8 @@ module _ (b : Option Body) (e : Edits) (reads rs : Intervals) (quiet : come_of b
         let m = mono c.lo c.hi (omega (arith, some)) in
         (omega (arith, m), inl refl)
 
-    module _ (x : CellSeen) (same : c ≡ node_of x) (whole : length x.block ≡ 4096) (good_cell : IsAccepted x) (two : 2 ≤ c.level) where
+    module _ (x : CellSeen) (same : c ≡ node_of x) (whole : length x.block ≡ 4096) (good_cell : IsAccepted x)
+        (two : 2 ≤ c.level) where
       level : x.level ≡ c.level
       level = sym (level_is x) ∙ ap (λ (y : Node Value). y.level) (sym same)
 
@@ -342,10 +375,12 @@ module _ (b : Option Body) (e : Edits) (reads rs : Intervals) (quiet : come_of b
       heard_bound : Bounds C c.lo c.hi (all_more hs)
       heard_bound =
           let (bound, fine) = items_bound (ask d t l) t C mono x.level (rank x.hi) (items_of x.block)
-          (go_up (ask d t l) t C mono x.level (rank x.lo) (rank x.hi) 0 (items_of x.block) (omega (arith, two, level)) stands.fits stands.items)
+          (go_up (ask d t l) t C mono x.level (rank x.lo) (rank x.hi) 0 (items_of x.block)
+          (omega (arith, two, level)) stands.fits stands.items)
           (λ n has up. child n (subst (λ (ns : List Name). Contains ns n) (sym named) has)) in
           let z = ap (λ (ns : List Name). all_more (heard (ask d t l) t ns)) named in
-          let lo : C c.lo ≡ C (next_key (rank x.hi) (items_of x.block)) = ap C (ap (λ (y : Node Value). y.lo) same ∙ lo_is x ∙ sym stands.first) in
+          let lo : C c.lo ≡ C (next_key (rank x.hi) (items_of x.block)) = ap C
+          (ap (λ (y : Node Value). y.lo) same ∙ lo_is x ∙ sym stands.first) in
           let hi : C c.hi ≡ C (rank x.hi) = ap C (ap (λ (y : Node Value). y.hi) same ∙ hi_is x) in
           (omega (arith, bound, z, lo, hi), subst IsFine (sym z) fine)
 
@@ -361,8 +396,11 @@ module _ (b : Option Body) (e : Edits) (reads rs : Intervals) (quiet : come_of b
       of_twig : c.level ≡ 2 → Bounds C c.lo c.hi (twig_more b e c hs)
       of_twig is =
           let need = twig_needs b e reads rs quiet c hs (still i c at is) in
-          let (few, fine) = twig_few (weight (items_of c.block)) (all_more hs) (growing hs) weighs heard_bound.1 (growing_few hs) in
-          let z : twig_more b e c hs ≡ (if nat_lt 4068 (weight (items_of c.block) + 46 * all_more hs) then larger (over (weight (items_of c.block) + 46 * all_more hs)) (growing hs) else 0)
+          let (few, fine) = twig_few (weight (items_of c.block)) (all_more hs) (growing hs) weighs heard_bound.1
+          (growing_few hs) in
+          let z : twig_more b e c hs
+          ≡ (if nat_lt 4068 (weight (items_of c.block) + 46 * all_more hs) then larger
+          (over (weight (items_of c.block) + 46 * all_more hs)) (growing hs) else 0)
           = ap (λ (k : ℕ). if nat_lt 4068 k then larger (over k) (growing hs) else 0) need in
           from_few (twig_more b e c hs) (omega (arith, z, few)) (subst IsFine (sym z) fine)
 
@@ -375,9 +413,13 @@ module _ (b : Option Body) (e : Edits) (reads rs : Intervals) (quiet : come_of b
 
     untouched : (x : CellSeen) → c ≡ node_of x → c.level ≡ 0 → (is_touched rs c || not (length hs == 0)) ≡ false
     unfolding cell_of
-    untouched x same low = subst (λ (y : Node Value). (is_touched rs y || not (length (heard (ask d t l) t y.names) == 0)) ≡ false) (sym same) (of_data x.level (sym (level_is x) ∙ (ap (λ (y : Node Value). y.level) (sym same) ∙ low)))
+    untouched x same low = subst
+        (λ (y : Node Value). (is_touched rs y || not (length (heard (ask d t l) t y.names) == 0)) ≡ false) (sym same)
+        (of_data x.level (sym (level_is x) ∙ (ap (λ (y : Node Value). y.level) (sym same) ∙ low)))
       where
-        of_data : (k : ℕ) → k ≡ 0 → (is_touched rs (cell_of k (rank x.lo) (rank x.hi) x.block) || not (length (heard (ask d t l) t (cell_of k (rank x.lo) (rank x.hi) x.block).names) == 0)) ≡ false
+        of_data : (k : ℕ) → k ≡ 0
+            → (is_touched rs (cell_of k (rank x.lo) (rank x.hi) x.block) || not
+            (length (heard (ask d t l) t (cell_of k (rank x.lo) (rank x.hi) x.block).names) == 0)) ≡ false
         of_data zero z = refl
         of_data (suc k) z = absurd (omega (arith, z))
 
@@ -396,7 +438,8 @@ module _ (b : Option Body) (e : Edits) (reads rs : Intervals) (quiet : come_of b
       (omega (arith, m), inl refl)
   asks_bound (suc l) i c at = own_bound l (asks_bound l) i c at
 
-  pub asked_bound : (l i most : ℕ) → ((k : ℕ) → k ≤ top → C k ≤ 1024 * most + 1023) → asked_of (demand_of b e reads rs) t l i ≤ most
+  pub asked_bound : (l i most : ℕ) → ((k : ℕ) → k ≤ top → C k ≤ 1024 * most + 1023)
+      → asked_of (demand_of b e reads rs) t l i ≤ most
   asked_bound l i most all = by_cell (t i) refl
     where
       by_cell : (o : Option (Node Value)) → t i ≡ o → more_of (ask_of (ask d t l) o) ≤ most

@@ -12,7 +12,8 @@ use Rattle.r4_base.specs.Tree.{InSpan, Name, Span}
 use Rattle.r4_base.specs.declared.items.Unit.{Unit as ExtentUnit}
 use Rattle.r4_base.specs.declared.key.Key.{Key}
 use Rattle.r4_branch.specs.Items.{IsSoundItem, Lie}
-use Rattle.r4_branch.specs.Pieces.{Follow, IsSound, IsSoundPart, item_pieces, names_of, next_of, part_names, piece_end, pieces_in, unit_pieces}
+use Rattle.r4_branch.specs.Pieces.{Follow, IsSound, IsSoundPart, item_pieces, names_of, next_of, part_names, piece_end}
+use Rattle.r4_branch.specs.Pieces.{pieces_in, unit_pieces}
 use Rattle.r4_branch.specs.declared.piece.TwigPart.{TwigPart}
 use Rattle.r4_branch.specs.declared.piece.TwigPart.TheVariants.{Blocks, Pointer}
 use Rattle.r4_branch.specs.declared.piece.TwigPiece.{TwigPiece}
@@ -41,22 +42,23 @@ record IsUnitOf (low high : ℕ) (p : TwigPiece) : Type 0 where
 unit_at : (k : Key) (n : ℕ) (us : List ExtentUnit) (p : TwigPiece) → Contains (unit_pieces k n us) p
     → IsUnitOf (rank k + 4096 * n) (rank k + 4096 * (n + blocks_in us)) p
 unit_at k n [] p h = absurd (none p h)
-unit_at k n (u ∷ us) p h = elim (cases (record { key = behind k (4096 * n); part = Blocks u }) p (unit_pieces k (n + u.width) us) h) [
-  | inl is ↦
-      let at = rank_later k (4096 * n) in
-      let same : rank p.key ≡ rank k + 4096 * n = ap (λ (q : TwigPiece). rank q.key) is ∙ at in
-      record {
-        unit = u;
-        part = ap (λ (q : TwigPiece). q.part) is;
-        from = omega (arith, same);
-        to = omega (arith, same);
-      }
-  | inr more ↦
-      let rest = unit_at k (n + u.width) us p more in
-      let from = rest.from in
-      let to = rest.to in
-      record { unit = rest.unit; part = rest.part; from = omega (arith, from); to = omega (arith, to) }
-]
+unit_at k n (u ∷ us) p h = elim
+    (cases (record { key = behind k (4096 * n); part = Blocks u }) p (unit_pieces k (n + u.width) us) h) [
+      | inl is ↦
+          let at = rank_later k (4096 * n) in
+          let same : rank p.key ≡ rank k + 4096 * n = ap (λ (q : TwigPiece). rank q.key) is ∙ at in
+          record {
+            unit = u;
+            part = ap (λ (q : TwigPiece). q.part) is;
+            from = omega (arith, same);
+            to = omega (arith, same);
+          }
+      | inr more ↦
+          let rest = unit_at k (n + u.width) us p more in
+          let from = rest.from in
+          let to = rest.to in
+          record { unit = rest.unit; part = rest.part; from = omega (arith, from); to = omega (arith, to) }
+    ]
 
 spanned_of : (ss : List Span) (k : ℕ) (part : TwigPart) (u : ExtentUnit) → part ≡ Blocks u
     → ((j : ℕ) → k ≤ j → j < k + 4096 * u.width → (s : Span) × Contains ss s × InSpan s j) → part_spanned ss k part
@@ -74,7 +76,8 @@ own_span hi x xs = if is_extent x then (record { lo = rank x.key; hi = next_key 
 its_span : (hi : ℕ) (x : Item) (xs : List Item) → x.plugin ≡ 5
     → Contains (own_span hi x xs) (record { lo = rank x.key; hi = next_key hi xs })
 its_span hi x xs is =
-    let one : Contains (record { lo = rank x.key; hi = next_key hi xs } ∷ []) (record { lo = rank x.key; hi = next_key hi xs }) =
+    let one : Contains (record { lo = rank x.key; hi = next_key hi xs } ∷ [])
+    (record { lo = rank x.key; hi = next_key hi xs }) =
     here (record { lo = rank x.key; hi = next_key hi xs }) [] in
     let test : (x.plugin == 5) ≡ true = eq-eqb x.plugin 5 is in
     rw test one
@@ -164,7 +167,8 @@ named_in hi (q ∷ qs) p u has is block some = elim (cases q p qs has) [
 ]
 
 pub block_named : (from hi to : ℕ) (ps : List TwigPiece) (p : TwigPiece) (u : ExtentUnit) → Follow from to ps
-    → Contains ps p → p.part ≡ Blocks u → is_hole u ≡ false → (m : Name) × Contains (names_of hi ps) m × (m.id ≡ u.start)
+    → Contains ps p → p.part ≡ Blocks u → is_hole u ≡ false
+    → (m : Name) × Contains (names_of hi ps) m × (m.id ≡ u.start)
 block_named from hi to ps p u f has is block =
     let sound = sound_in from to ps f p has in
     let lawful = (subst (λ (x : TwigPart). IsSoundPart (offset_of p.key) x) is sound.1).0 in
@@ -185,7 +189,8 @@ run_is_hole gets k zero h = inl refl
 run_is_hole gets k (suc n) h =
     let own = h k (omega arith) (omega arith) in
     let step : runs gets k (suc n) ≡ widened k (runs gets (k + 4096) n) =
-    ap (λ (v : Bool). if v then record { key = key_of_rank k; part = Blocks (record { start = 2 ^ 63; width = 1 }) } ∷ runs gets (k + 4096) n
+    ap (λ (v : Bool). if v then record { key = key_of_rank k; part = Blocks (record { start = 2 ^ 63; width = 1 }) } ∷
+    runs gets (k + 4096) n
     else widened k (runs gets (k + 4096) n)) own in
     elim (run_is_hole gets (k + 4096) n (λ j from to. h j (omega (arith, from)) (omega (arith, to)))) [
       | inl no_more ↦ inr (1, step ∙ ap (widened k) no_more)

@@ -131,7 +131,8 @@ made_charged s in_extents e rs (inr (inl w)) end =
     ≡ 16384 = ap (λ (x : Edits). end_of_bytes (body_after x s in_extents)) (sym w.is) ∙ end in
     let n = larger o.attr.size (w.from + length w.bytes) in
     subst (λ (x : Edits). AreCharged x) (sym w.is)
-    (written_charged s o w.from n w.bytes (nat_lt o.attr.size w.from) (o.attr.size == n) w.here (omega (arith, fits, same)))
+    (written_charged s o w.from n w.bytes (nat_lt o.attr.size w.from) (o.attr.size == n) w.here
+    (omega (arith, fits, same)))
 made_charged s in_extents e rs (inr (inr w)) end =
     let o = w.file in
     let n = w.size in

@@ -46,7 +46,8 @@ is_inside : (lo hi k : ℕ) → lo ≤ k → k < hi → is_between lo hi k ≡ t
 is_inside lo hi k low high = grind (arith, nat_tests, low, high)
 
 module _ (b : Option Body) (e : Edits) (tails : spread_keys b ≡ None) (h : AreCharged e) (t : Store Value) (root : Root)
-    (it : IsPart t root) (accepted : AreAccepted t) (i : ℕ) (c : Node Value) (at : t i ≡ Some c) (one : c.level ≡ 1) where
+    (it : IsPart t root) (accepted : AreAccepted t) (i : ℕ) (c : Node Value) (at : t i ≡ Some c)
+    (one : c.level ≡ 1) where
   fits : IsFitting c.units
   fits =
       let x = (accepted.cells i c at).0 in
@@ -79,7 +80,8 @@ module _ (b : Option Body) (e : Edits) (tails : spread_keys b ≡ None) (h : Are
       let some = (it.nodes i c at).nonempty in
       let most = leaf_charged c.lo c.hi (omega (arith, some)) e h.first h.bytes h.values h.puts h.lawful h.zeros c.units
       fits.rises outside fits.few in
-      let same = ap (λ (f : Edits). over (leaf_bytes (filter (λ u. is_between c.lo c.hi u.0) (list_edited f c.units)))) (own_edits b e tails) in
+      let same = ap (λ (f : Edits). over (leaf_bytes (filter (λ u. is_between c.lo c.hi u.0) (list_edited f c.units))))
+      (own_edits b e tails) in
       omega (arith, most, same)
 
 module _ (c : Command) (s : Pairs) (in_extents : Bool) (t : Store Value) (root : Root)
@@ -106,7 +108,8 @@ module _ (c : Command) (s : Pairs) (in_extents : Bool) (t : Store Value) (root :
 
   pub command_asks_few : (l i : ℕ) → asked_of (demand_on c s in_extents) t l i ≤ 26
   command_asks_few l i =
-      subst (λ (d : Demand Ask). asked_of d t l i ≤ 26) (sym same_asked) (asks_few (reads_on c s in_extents) (changed e) l i)
+      subst (λ (d : Demand Ask). asked_of d t l i ≤ 26) (sym same_asked)
+      (asks_few (reads_on c s in_extents) (changed e) l i)
 
   pub is_quiet : (reads rs : Intervals) → MayRise (demand_of b e reads rs) t root → IsQuiet b e reads rs t root
   is_quiet reads rs low = record {
@@ -134,7 +137,8 @@ module _ (c : Command) (s : Pairs) (in_extents : Bool) (t : Store Value) (root :
 
     small : (x : CellSeen) → Contains cells x → x.level ≡ 1 → leaf_bytes (units_after b e (node_of x)) < 58912
     small x member one =
-        let own = fits b e is.tails (made_charged s in_extents e is.rises (edits_made c s is.lawful is.paths) (ends_in_tails b is.tails))
+        let own = fits b e is.tails
+        (made_charged s in_extents e is.rises (edits_made c s is.lawful is.paths) (ends_in_tails b is.tails))
         t root is.part is.accepted x.id (node_of x) (task.cells_in.stand x member) (level_is x ∙ one) in
         leaf_small c s in_extents (node_of x) is.paths is.rises is.lawful own.rises own.few
 
@@ -154,6 +158,8 @@ module _ (c : Command) (s : Pairs) (in_extents : Bool) (t : Store Value) (root :
       numbers = task.numbers;
     }
 
-  pub builds : (f : Fresh) (cells : List CellSeen) → HaveLawfulKeys e → HasTask (demand_on c s in_extents) t root f cells
+  pub builds : (f : Fresh) (cells : List CellSeen) → HaveLawfulKeys e
+      → HasTask (demand_on c s in_extents) t root f cells
       → CanBuild b e (reads_on c s in_extents) t root f cells
-  builds f cells keys task = can_build f cells keys (subst (λ (d : Demand Ask). HasTask d t root f cells) same_asked task)
+  builds f cells keys task = can_build f cells keys
+      (subst (λ (d : Demand Ask). HasTask d t root f cells) same_asked task)

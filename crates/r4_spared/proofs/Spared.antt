@@ -1,5 +1,6 @@
 -- What is asked of a tree where the keys that change lie in leaves.
-use Rattle.std.specs.Prelude.{◌≡◌, ◌⊎◌, ℕ, zero, suc, ◌+◌, ◌*◌, ◌^◌, ◌<◌, ◌≤◌, List, [], ◌∷◌, ◌++◌, map, Bool, true, false, not}
+use Rattle.std.specs.Prelude.{◌≡◌, ◌⊎◌, ℕ, zero, suc, ◌+◌, ◌*◌, ◌^◌, ◌<◌, ◌≤◌, List, [], ◌∷◌, ◌++◌, map, Bool, true}
+use Rattle.std.specs.Prelude.{false, not}
 use Rattle.std.specs.Prelude.{◌||◌, ◌&&◌, ◌==◌, nat_lt, sum_by, Contains, Option, Some, None, if◌then◌else◌}
 use Rattle.std.specs.List.{filter, list_any}
 use Rattle.std.proofs.Common.{arith, cond, inl, inr, refl, sym, ap, subst, ◌∙◌}
@@ -34,9 +35,11 @@ use Rattle.r4_patch.proofs.Members.{here, later}
 use Rattle.r4_patch.proofs.PartCells.{leaf_or_extent}
 use Rattle.r4_measure.proofs.Kept.{block_is}
 use Rattle.r4_path.proofs.Rising.{level_is}
-use Rattle.r4_reach.specs.Needs.{changes_pieces, come_of, demand_of, filled, gets_bytes, goes_in, going_of, is_met, leaf_edits, leaves_for}
+use Rattle.r4_reach.specs.Needs.{changes_pieces, come_of, demand_of, filled, gets_bytes, goes_in, going_of, is_met}
+use Rattle.r4_reach.specs.Needs.{leaf_edits, leaves_for}
 use Rattle.r4_reach.specs.Needs.{meets, put_among, runs}
-use Rattle.r4_reach.specs.Touched.{Body, blocks_end, body_on, coming, edits_on, first_byte, going, is_spread, raw_changes, reads_on, turns_out}
+use Rattle.r4_reach.specs.Touched.{Body, blocks_end, body_on, coming, edits_on, first_byte, going, is_spread}
+use Rattle.r4_reach.specs.Touched.{raw_changes, reads_on, turns_out}
 use Rattle.r4_reach.specs.Touched.{with_blocks}
 use Rattle.r4_suited.proofs.Left.{without_body}
 use Rattle.r4_work.proofs.Halving.{true_or_false}
@@ -104,7 +107,8 @@ in_tails : (b : Body) → is_spread b ≡ false → b.in_extents ≡ false
 in_tails b h = left_off b.in_extents (nat_lt 16384 b.now) h
 
 none_comes : (b : Body) → is_spread b ≡ false → coming b ≡ (0, 0)
-none_comes b h = ap (λ (v : Bool). if v then (if b.in_extents then blocks_end b b.was else first_byte b, blocks_end b b.now) else
+none_comes b h = ap
+    (λ (v : Bool). if v then (if b.in_extents then blocks_end b b.was else first_byte b, blocks_end b b.now) else
     (0, 0)) h
 
 none_goes : (b : Body) → is_spread b ≡ false → going b ≡ (0, 0)
@@ -150,7 +154,8 @@ IsKept qs = (qs ≡ []) ⊎ (((k : Key) × (to : NodeId) × (qs ≡ record { key
 set_keys : (e : Edits) (k : ℕ) (v : Value) → Contains (list_edited e []) (k, v) → is_in (changed e) k ≡ true
 set_keys e k v has = elim (true_or_false (is_in (changed e) k)) [
   | inl on ↦ on
-  | inr off ↦ absurd (none-some v (sym (listed_off e [] k tt off) ∙ rising_found (list_edited e []) k v (edited_rises e [] tt) has))
+  | inr off ↦ absurd
+      (none-some v (sym (listed_off e [] k tt off) ∙ rising_found (list_edited e []) k v (edited_rises e [] tt) has))
 ]
 
 put_changes : (e : Edits) (k : ℕ) → is_in (put_keys e.puts) k ≡ true → is_in (changed e) k ≡ true
@@ -189,7 +194,8 @@ filled_kept : (b : Body) (e : Edits) (k : Key) (part : TwigPart) → is_spread b
     → ((u : ExtentUnit) → part ≡ Blocks u → is_hole u ≡ false → (u.start == 2 ^ 63) ≡ false)
     → IsKept (filled b e (record { key = k; part = part }))
 filled_kept b e k (Pointer to) tails ss spanned same old = inr (inl (k, to, refl))
-filled_kept b e k (Blocks u) tails ss spanned same old = by_test (is_hole u) refl (is_between (first_byte b) (first_byte b + 2 ^ 64) (rank k))
+filled_kept b e k (Blocks u) tails ss spanned same old = by_test (is_hole u) refl
+    (is_between (first_byte b) (first_byte b + 2 ^ 64) (rank k))
   where
     no_new : (n : ℕ) → (n == 0) ≡ true → (n == 2 ^ 63) ≡ false
     no_new n h = let z = eqb-true n 0 h in ap (λ (m : ℕ). m == 2 ^ 63) z
@@ -198,12 +204,17 @@ filled_kept b e k (Blocks u) tails ss spanned same old = by_test (is_hole u) ref
     of_run rs (inl is) = inl is
     of_run rs (inr (w, is)) = inr (inr (key_of_rank (rank k), record { start = 0; width = w }, is, refl))
 
-    by_test : (v : Bool) → is_hole u ≡ v → (w : Bool) → IsKept (if v && w then runs (gets_bytes b e) (rank k) u.width else (record { key = k; part = Blocks u }) ∷ [])
+    by_test : (v : Bool) → is_hole u ≡ v → (w : Bool)
+        → IsKept (if v && w then runs (gets_bytes b e) (rank k) u.width else (record { key = k; part = Blocks u }) ∷ [])
     by_test false h w = inr (inr (k, u, refl, old u refl h))
     by_test true h false = inr (inr (k, u, refl, no_new u.start h))
-    by_test true h true = of_run (runs (gets_bytes b e) (rank k) u.width) (run_is_hole (gets_bytes b e) (rank k) u.width (λ j from to. no_bytes b e j tails (λ i low high. same i (spanned i (omega (arith, from, low)) (omega (arith, to, high))))))
+    by_test true h true = of_run (runs (gets_bytes b e) (rank k) u.width)
+        (run_is_hole (gets_bytes b e) (rank k) u.width
+        (λ j from to. no_bytes b e j tails
+        (λ i low high. same i (spanned i (omega (arith, from, low)) (omega (arith, to, high))))))
 
-module _ (b : Option Body) (e : Edits) (t : Store Value) (spared : SparesExtents e t) (i : ℕ) (c : Node Value) (at : t i ≡ Some c) (tails : spread_keys b ≡ None) where
+module _ (b : Option Body) (e : Edits) (t : Store Value) (spared : SparesExtents e t) (i : ℕ) (c : Node Value)
+    (at : t i ≡ Some c) (tails : spread_keys b ≡ None) where
   -- no key of an extent changes
   off : (k : ℕ) → ((s : Span) × Contains c.spans s × InSpan s k) → is_in (changed e) k ≡ false
   off k (s, has, (from, to)) = not_true (is_in (changed e) k)
@@ -223,8 +234,11 @@ module _ (b : Option Body) (e : Edits) (t : Store Value) (spared : SparesExtents
       high_of lo hi k h = grind (arith, common_steps, h)
 
   none_put : put_among b e c ≡ 0
-  none_put = none_summed (λ (s : Span). leaves_for (filter (λ u. is_between s.lo s.hi u.0) (list_edited (leaf_edits b e) []))) c.spans (λ s has.
-      ap (λ (f : Edits). leaves_for (filter (λ u. is_between s.lo s.hi u.0) (list_edited f []))) (own_edits b e tails) ∙ own_put s has)
+  none_put = none_summed
+      (λ (s : Span). leaves_for (filter (λ u. is_between s.lo s.hi u.0) (list_edited (leaf_edits b e) []))) c.spans
+      (λ s has.
+      ap (λ (f : Edits). leaves_for (filter (λ u. is_between s.lo s.hi u.0) (list_edited f []))) (own_edits b e tails)
+      ∙ own_put s has)
 
   module _ (accepted : AreAccepted t) (two : c.level ≡ 2) where
     cell : CellSeen
@@ -240,8 +254,11 @@ module _ (b : Option Body) (e : Edits) (t : Store Value) (spared : SparesExtents
     stands : MayStand (rank cell.lo) (rank cell.hi) cell.block
     unfolding cell
     stands = let whole_block = (accepted.cells i c at).2 in
-        let good = (accepted.cells i c at).3 in
-        (whole_block, subst (λ (l : ℕ). cell_fault true (2 ^ 64) l (rank cell.lo) (rank cell.hi) cell.block ≡ None) level_two good)
+        let good = (accepted.cells i c at).3 in (
+          whole_block,
+          subst (λ (l : ℕ). cell_fault true (2 ^ 64) l (rank cell.lo) (rank cell.hi) cell.block ≡ None)
+              level_two good,
+        )
 
     pieces : List TwigPiece
     pieces = pieces_in (items_of cell.block)
@@ -250,21 +267,26 @@ module _ (b : Option Body) (e : Edits) (t : Store Value) (spared : SparesExtents
     unfolding pieces
     pieces_are = ap (λ (x : List ℕ). pieces_in (items_of x)) (ap (λ (y : Node Value). y.block) is_cell ∙ block_is cell)
 
-    twig_node : (l : ℕ) → l ≡ 2 → (lo hi : ℕ) (x : List ℕ) → ((cell_of l lo hi x).spans ≡ spans_in hi (items_of x)) × ((cell_of l lo hi x).names ≡ names_in 2 hi (items_of x))
+    twig_node : (l : ℕ) → l ≡ 2 → (lo hi : ℕ) (x : List ℕ) → ((cell_of l lo hi x).spans ≡ spans_in hi (items_of x)) ×
+        ((cell_of l lo hi x).names ≡ names_in 2 hi (items_of x))
     unfolding cell_of
     twig_node zero h lo hi x = absurd (omega (arith, h))
     twig_node (suc l) h lo hi x = (refl, ap (λ (m : ℕ). names_in m hi (items_of x)) h)
 
     spans_are : c.spans ≡ spans_in (rank cell.hi) (items_of cell.block)
-    spans_are = ap (λ (y : Node Value). y.spans) is_cell ∙ (twig_node cell.level level_two (rank cell.lo) (rank cell.hi) cell.block).0
+    spans_are = ap (λ (y : Node Value). y.spans) is_cell
+        ∙ (twig_node cell.level level_two (rank cell.lo) (rank cell.hi) cell.block).0
 
     names_are : c.names ≡ names_in 2 (rank cell.hi) (items_of cell.block)
-    names_are = ap (λ (y : Node Value). y.names) is_cell ∙ (twig_node cell.level level_two (rank cell.lo) (rank cell.hi) cell.block).1
+    names_are = ap (λ (y : Node Value). y.names) is_cell
+        ∙ (twig_node cell.level level_two (rank cell.lo) (rank cell.hi) cell.block).1
 
-    old_block : (p : TwigPiece) → Contains pieces p → (u : ExtentUnit) → p.part ≡ Blocks u → is_hole u ≡ false → (u.start == 2 ^ 63) ≡ false
+    old_block : (p : TwigPiece) → Contains pieces p → (u : ExtentUnit) → p.part ≡ Blocks u → is_hole u ≡ false
+        → (u.start == 2 ^ 63) ≡ false
     unfolding pieces
     old_block p has u is block =
-        let (m, there, id) = block_named (rank cell.lo) (rank cell.hi) (rank cell.hi) (pieces_in (items_of cell.block)) p u
+        let (m, there, id) = block_named (rank cell.lo) (rank cell.hi) (rank cell.hi)
+        (pieces_in (items_of cell.block)) p u
         (pieces_of_twig (rank cell.lo) (rank cell.hi) cell.block stands).follow has is block in
         let named : Contains c.names m = subst (λ (ns : List Name). Contains ns m)
         (names_of_twig (rank cell.lo) (rank cell.hi) cell.block stands (rank cell.hi) ∙ sym names_are) there in
@@ -273,10 +295,12 @@ module _ (b : Option Body) (e : Edits) (t : Store Value) (spared : SparesExtents
     spanned : (p : TwigPiece) → Contains pieces p → IsSpanned c.spans p
     unfolding pieces
     spanned p has = subst (λ (ss : List Span). IsSpanned ss p) (sym spans_are)
-        (pieces_spanned (rank cell.lo) (rank cell.hi) (items_of cell.block) (stand_lie (rank cell.lo) (rank cell.hi) cell.block stands) p has)
+        (pieces_spanned (rank cell.lo) (rank cell.hi) (items_of cell.block)
+        (stand_lie (rank cell.lo) (rank cell.hi) cell.block stands) p has)
 
     -- no piece is filled
-    unfilled : (bd : Body) → is_spread bd ≡ false → (p : TwigPiece) → Contains (pieces_in (items_of c.block)) p → IsKept (filled bd e p)
+    unfilled : (bd : Body) → is_spread bd ≡ false → (p : TwigPiece) → Contains (pieces_in (items_of c.block)) p
+        → IsKept (filled bd e p)
     unfilled bd tail p has =
         let there : Contains pieces p = subst (λ (ps : List TwigPiece). Contains ps p) pieces_are has in
         filled_kept bd e p.key p.part tail c.spans (spanned p there) off (old_block p there)
@@ -291,8 +315,10 @@ module _ (b : Option Body) (e : Edits) (t : Store Value) (spared : SparesExtents
         by_part (Pointer to) = refl
         by_part (Blocks u) = unmet (rank p.key) (rank p.key + 4096 * u.width)
 
-    none_comes_in : (bd : Body) → is_spread bd ≡ false → (s : Span) → (is_between s.lo s.hi (coming bd).0 && nat_lt (coming bd).0 (coming bd).1) ≡ false
-    none_comes_in bd tail s = ap (λ (r : ℕ × ℕ). is_between s.lo s.hi r.0 && nat_lt r.0 r.1) (none_comes bd tail) ∙ no_more (is_between s.lo s.hi 0)
+    none_comes_in : (bd : Body) → is_spread bd ≡ false → (s : Span)
+        → (is_between s.lo s.hi (coming bd).0 && nat_lt (coming bd).0 (coming bd).1) ≡ false
+    none_comes_in bd tail s = ap (λ (r : ℕ × ℕ). is_between s.lo s.hi r.0 && nat_lt r.0 r.1) (none_comes bd tail)
+        ∙ no_more (is_between s.lo s.hi 0)
       where
         no_more : (v : Bool) → (v && nat_lt 0 0) ≡ false
         no_more true = refl
@@ -306,7 +332,10 @@ module _ (b : Option Body) (e : Edits) (t : Store Value) (spared : SparesExtents
         (ap (λ (n : ℕ). nat_lt 0 n) (ap (λ (x : Option Body). put_among x e c) is ∙ none_put))
         (none_of _ c.spans (λ s has. none_comes_in bd tail s))
         (none_of _ (pieces_in (items_of c.block)) (λ p has. none_goes_in bd tail p))
-        (none_of _ (pieces_in (items_of c.block)) (λ p has. elim (unfilled bd tail p has) [ inl is ↦ rw is refl | inr (inl (k, to, is)) ↦ rw is refl | inr (inr (k, u, is, old)) ↦ rw is old ]))
+        (none_of _ (pieces_in (items_of c.block))
+        (λ p has. elim
+        (unfilled bd tail p has)
+        [ inl is ↦ rw is refl | inr (inl (k, to, is)) ↦ rw is refl | inr (inr (k, u, is, old)) ↦ rw is old ]))
 
 -- ---- the law
 

@@ -51,5 +51,5 @@ pub fn commands_can_be_built()
         (f : Fresh) (cells : List CellSeen) → ChangesLeaves c s in_extents t root
         → HaveLawfulKeys (edits_on c s) → HasTask (demand_on c s in_extents) t root f cells
         → CanBuild (body_on c s in_extents) (edits_on c s) (reads_on c s in_extents) t root f
-            cells }
+        cells }
 {}
