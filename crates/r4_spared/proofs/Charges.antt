@@ -423,7 +423,7 @@ covered_keys lo hi (r ∷ rs) h k at = elim (or_parts (covers lo hi r) (list_any
 run_key : (a k n : ℕ) → (is_between a (a + 1) k || is_between (a + 1) (a + 1 + n) k) ≡ is_between a (a + suc n) k
 run_key a k n = grind (arith, common_steps)
 
-run_keys : (a : ℕ) (xs : List ℕ) (k : ℕ) → is_in (put_keys (byte_pairs a xs)) k ≡ is_between a (a + length xs) k
+pub run_keys : (a : ℕ) (xs : List ℕ) (k : ℕ) → is_in (put_keys (byte_pairs a xs)) k ≡ is_between a (a + length xs) k
 run_keys a [] k = sym (none_between a (a + 0) k (omega arith))
 run_keys a (x ∷ xs) k = ap (λ (v : Bool). is_between a (a + 1) k || v) (run_keys (a + 1) xs k) ∙ run_key a k (length xs)
 

@@ -4,3 +4,4 @@ mod Climbing
 mod Charges
 mod Shapes
 mod Small
+mod Lawful

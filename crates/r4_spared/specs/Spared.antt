@@ -1,15 +1,22 @@
 -- Commands that touch no extent (docs/volume.md, "Building").
 use Rattle.std.specs.Prelude.{◌≡◌, ◌≢◌, ℕ, ◌+◌, ◌*◌, ◌^◌, ◌<◌, ◌≤◌, Bool, true, false, List, length}
 use Rattle.std.specs.Prelude.{Contains, Option, None, Some}
+use Rattle.std.specs.FinMap.{find}
+use Rattle.std.specs.Ordering.{nat_cmp}
 use Rattle.r4_base.specs.Key.{least, top}
 use Rattle.r4_base.specs.Tree.{Covers, Name, Node, Root, Store}
-use Rattle.r4_base.specs.Value.{Value}
+use Rattle.r4_base.specs.Value.{Stat, Value}
+use Rattle.r4_base.specs.Volume.{IsObject, stat_rank}
+use Rattle.r4_base.specs.declared.items.Attr.{Attr}
+use Rattle.r4_base.specs.declared.items.Target.{Target}
 use Rattle.r4_cell.specs.Patch.{HaveNames}
 use Rattle.r4_cell.specs.Seen.{CellSeen, node_of}
 use Rattle.r4_cell.specs.declared.change.Fresh.{Fresh}
+use Rattle.r4_content.specs.Course.{asked}
 use Rattle.r4_content.specs.Edited.{Edits, Pairs, changed, is_in}
 use Rattle.r4_content.specs.Fields.{HasBytePaths}
-use Rattle.r4_content.specs.Seen.{Rises}
+use Rattle.r4_content.specs.Meaning.{course, greatest_size}
+use Rattle.r4_content.specs.Seen.{Rises, of_seen}
 use Rattle.r4_content.specs.declared.command.Command.{Command}
 use Rattle.r4_leaf_edits.specs.Made.{spread_keys}
 use Rattle.r4_patch.specs.Part.{IsPart}
@@ -75,3 +82,11 @@ abbrev pub IsAskedInLeaves : Command → Pairs → (in_extents : Bool) → Type 
 IsAskedInLeaves c s in_extents = demand_on c s in_extents
     ≡ demand_of (body_on c s in_extents) (edits_on c s) (reads_on c s in_extents)
     (changed (edits_on c s))
+
+-- Each object that a command finds in what was seen stands from the least key on, and has an id from
+-- 42 on and a size of 64 bits.
+abbrev pub AreObjectsSeen : Command → Pairs → Type 0
+AreObjectsSeen c s = (o : Target) (a : Attr) → IsObject o
+    → is_in (asked (course greatest_size c) (of_seen s)) (stat_rank o) ≡ true
+    → find nat_cmp (stat_rank o) s ≡ Some (Stat a)
+    → (least ≤ stat_rank o) × (42 ≤ o.oid.0) × (a.size < 2 ^ 64)

@@ -6,16 +6,18 @@ ghost use Rattle.r4_base.specs.Value.{Value};
 ghost use Rattle.r4_cell.specs.Seen.{CellSeen};
 ghost use Rattle.r4_cell.specs.declared.change.Fresh.{Fresh};
 ghost use Rattle.r4_content.specs.Edited.{Edits, Intervals, Pairs, changed};
+ghost use Rattle.r4_content.specs.Fields.{HasBytePaths};
 ghost use Rattle.r4_content.specs.declared.command.Command.{Command};
 ghost use Rattle.r4_leaf_edits.specs.Made.{spread_keys};
 ghost use Rattle.r4_patch.specs.Part.{IsPart};
 ghost use Rattle.r4_reach.specs.Needs.{demand_of, demand_on};
 ghost use Rattle.r4_reach.specs.Touched.{Body, body_on, edits_on, reads_on};
+ghost use Rattle.r4_suited.specs.Suited.{AreLawfulSeen};
 ghost use Rattle.r4_measure.specs.Asked.{asked_of};
 ghost use Rattle.r4_measure.specs.Begin.{IsQuiet};
 ghost use Rattle.r4_build.specs.Building.{CanBuild, HaveLawfulKeys};
-ghost use Rattle.r4_spared.specs.Spared.{AreAccepted, ChangesLeaves, HasTask, IsAskedInLeaves};
-ghost use Rattle.r4_spared.specs.Spared.{LieInLeaves, MayRise, Spares};
+ghost use Rattle.r4_spared.specs.Spared.{AreAccepted, AreObjectsSeen, ChangesLeaves, HasTask};
+ghost use Rattle.r4_spared.specs.Spared.{IsAskedInLeaves, LieInLeaves, MayRise, Spares};
 
 /// Where all keys that edits change lie in leaves, and no body stands in extents afterwards, no
 /// extent is touched: no blocks come or go, and no twig's pieces change. So it is of each command;
@@ -45,7 +47,14 @@ pub fn asks_stay_small()
         → IsQuiet (body_on c s in_extents) (edits_on c s) reads rs t root }
 {}
 
-/// Such a command can be built of a task that has the cells which it writes.
+/// The keys that a command changes are such as items may have, where the objects that it found have
+/// ids from 42 on, keys from the least one on, and sizes of 64 bits.
+pub fn commands_change_lawful_keys()
+    ensures { (c : Command) (s : Pairs) → HasBytePaths c → AreLawfulSeen c s → AreObjectsSeen c s
+        → HaveLawfulKeys (edits_on c s) }
+{}
+
+/// A command whose keys lie in leaves can be built of a task that has the cells which it writes.
 pub fn commands_can_be_built()
     ensures { (c : Command) (s : Pairs) (in_extents : Bool) (t : Store Value) (root : Root)
         (f : Fresh) (cells : List CellSeen) → ChangesLeaves c s in_extents t root

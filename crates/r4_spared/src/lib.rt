@@ -3,4 +3,7 @@
 
 mod laws;
 
-pub use laws::{asks_stay_small, commands_can_be_built, keys_in_leaves_spare_extents};
+pub use laws::{
+    asks_stay_small, commands_can_be_built, commands_change_lawful_keys,
+    keys_in_leaves_spare_extents,
+};
