@@ -1,12 +1,12 @@
 -- What a leaf may ask for after edits, charged to the keys of its range at which they put in or cut out.
-use Rattle.std.specs.Prelude.{◌≡◌, ◌⊎◌, ℕ, suc, ◌+◌, ◌-◌, ◌*◌, ◌<◌, ◌≤◌, List, [], ◌∷◌, ◌++◌, length, map}
+use Rattle.std.specs.Prelude.{◌≡◌, ℕ, suc, ◌+◌, ◌-◌, ◌*◌, ◌<◌, ◌≤◌, List, [], ◌∷◌, ◌++◌, length, map}
 use Rattle.std.specs.Prelude.{Bool, true, false, not, ◌||◌, ◌&&◌, ◌==◌, nat_le, nat_lt, All, Option, Some, None}
 use Rattle.std.specs.Prelude.{cond, if◌then◌else◌}
 use Rattle.std.specs.FinMap.{find}
 use Rattle.std.specs.List.{filter, list_any}
 use Rattle.std.specs.Ordering.{nat_cmp}
 use Rattle.std.proofs.Common.{arith, inl, inr, refl, sym, ap, subst, ◌∙◌}
-use Rattle.std.proofs.lemmas.Bool.{cases_lt}
+use Rattle.std.proofs.lemmas.Bool.{cases_lt, or_left, or_right}
 use Rattle.std.proofs.lemmas.Bool.Decides.{nat_tests}
 use Rattle.std.proofs.lemmas.Grind.{common_steps}
 use Rattle.std.proofs.lemmas.List.Elements.{All-cons, All-head, All-nil, All-tail, filter-append}
@@ -27,6 +27,7 @@ use Rattle.r4_suited.proofs.Few.{IsValue}
 use Rattle.r4_suited.proofs.Small.{put_append}
 use Rattle.r4_suited.proofs.Weights.{Grows, cuts_grow, grows_both, grows_none, run_grows, values_grow, zeros_grow}
 use Rattle.r4_work.proofs.Halving.{true_or_false}
+use Rattle.r4_work.proofs.Remade.{or_true}
 use Rattle.r4_build.proofs.LeafKeys.{listed_off, listed_on}
 use Rattle.r4_spared.proofs.Climbing.{over_cases}
 
@@ -304,18 +305,6 @@ or_off : (v w : Bool) → v ≡ false → w ≡ false → (v || w) ≡ false
 or_off false w h g = g
 or_off true w h g = absurd cc
 
-or_left : (v w : Bool) → v ≡ true → (v || w) ≡ true
-or_left true w h = refl
-or_left false w h = absurd cc
-
-or_right : (v w : Bool) → w ≡ true → (v || w) ≡ true
-or_right true w h = refl
-or_right false w h = h
-
-or_parts : (v w : Bool) → (v || w) ≡ true → (v ≡ true) ⊎ (w ≡ true)
-or_parts true w h = inl refl
-or_parts false w h = inr h
-
 other_key : (lo hi k a : ℕ) → is_between lo hi k ≡ true → is_between lo hi a ≡ false → (k == a) ≡ false
 other_key lo hi k a h g = grind (arith, common_steps, h, g)
 
@@ -415,7 +404,7 @@ covered_key lo hi a b k h g = grind (arith, common_steps, h, g)
 covered_keys : (lo hi : ℕ) (rs : Intervals) → list_any (covers lo hi) rs ≡ true → (k : ℕ) → is_between lo hi k ≡ true
     → is_in rs k ≡ true
 covered_keys lo hi [] h k at = absurd cc
-covered_keys lo hi (r ∷ rs) h k at = elim (or_parts (covers lo hi r) (list_any (covers lo hi) rs) h) [
+covered_keys lo hi (r ∷ rs) h k at = elim (or_true (covers lo hi r) (list_any (covers lo hi) rs) h) [
   | inl own ↦ or_left (is_between r.0 r.1 k) (is_in rs k) (covered_key lo hi r.0 r.1 k own at)
   | inr more ↦ or_right (is_between r.0 r.1 k) (is_in rs k) (covered_keys lo hi rs more k at)
 ]

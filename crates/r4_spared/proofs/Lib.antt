@@ -5,3 +5,4 @@ mod Charges
 mod Shapes
 mod Small
 mod Lawful
+mod Found

@@ -8,7 +8,7 @@ use Rattle.r4_base.specs.Cell.{is_extent, item_end, next_key, run_names, spans_i
 use Rattle.r4_base.specs.Extents.{blocks_in, is_hole, units_of as units_of_body}
 use Rattle.r4_base.specs.Key.{key_of_rank, later as behind, offset_of, rank}
 use Rattle.r4_base.specs.Node.{Item}
-use Rattle.r4_base.specs.Tree.{InSpan, Name, Span}
+use Rattle.r4_base.specs.Tree.{InSpan, IsData, Name, Span}
 use Rattle.r4_base.specs.declared.items.Unit.{Unit as ExtentUnit}
 use Rattle.r4_base.specs.declared.key.Key.{Key}
 use Rattle.r4_branch.specs.Items.{IsSoundItem, Lie}
@@ -135,40 +135,41 @@ sound_in from to (q ∷ qs) f p has = elim (cases q p qs has) [
   | inr more ↦ sound_in (piece_end q) to qs f.2 p more
 ]
 
-first_run : (k start n : ℕ) → 1 ≤ n → (m : Name) × Contains (run_names k start n) m × (m.id ≡ start)
+first_run : (k start n : ℕ) → 1 ≤ n → (m : Name) × Contains (run_names k start n) m × IsData m × (m.id ≡ start)
 first_run k start zero some = absurd (omega (arith, some))
-first_run k start (suc n) some = (_, here _ _, refl)
+first_run k start (suc n) some = (_, here _ _, refl, refl)
 
 piece_names : (next k : ℕ) (u : ExtentUnit) → is_hole u ≡ false → 1 ≤ u.width
-    → (m : Name) × Contains (part_names k next (Blocks u)) m × (m.id ≡ u.start)
+    → (m : Name) × Contains (part_names k next (Blocks u)) m × IsData m × (m.id ≡ u.start)
 piece_names next k u block some = by_test (is_hole u) block
   where
     by_test : (v : Bool) → v ≡ false
-        → (m : Name) × Contains (if v then [] else run_names k u.start u.width) m × (m.id ≡ u.start)
+        → (m : Name) × Contains (if v then [] else run_names k u.start u.width) m × IsData m × (m.id ≡ u.start)
     by_test false h = first_run k u.start u.width some
     by_test true h = absurd cc
 
 named_in : (hi : ℕ) (ps : List TwigPiece) (p : TwigPiece) (u : ExtentUnit) → Contains ps p → p.part ≡ Blocks u
-    → is_hole u ≡ false → 1 ≤ u.width → (m : Name) × Contains (names_of hi ps) m × (m.id ≡ u.start)
+    → is_hole u ≡ false → 1 ≤ u.width → (m : Name) × Contains (names_of hi ps) m × IsData m × (m.id ≡ u.start)
 unfolding names_of
 named_in hi [] p u has is block some = absurd (none p has)
 named_in hi (q ∷ qs) p u has is block some = elim (cases q p qs has) [
   | inl same ↦
-      let (m, at, id) = piece_names (next_of hi qs) (rank q.key) u block some in
+      let (m, at, block_level, id) = piece_names (next_of hi qs) (rank q.key) u block some in
       let part : Blocks u ≡ q.part = sym is ∙ ap (λ (x : TwigPiece). x.part) same in (
         m,
         Contains-append_left _ (names_of hi qs) m
             (subst (λ (x : TwigPart). Contains (part_names (rank q.key) (next_of hi qs) x) m) part at),
+        block_level,
         id,
       )
   | inr more ↦
-      let (m, at, id) = named_in hi qs p u more is block some in
-      (m, Contains-append_right (part_names (rank q.key) (next_of hi qs) q.part) (names_of hi qs) m at, id)
+      let (m, at, block_level, id) = named_in hi qs p u more is block some in
+      (m, Contains-append_right (part_names (rank q.key) (next_of hi qs) q.part) (names_of hi qs) m at, block_level, id)
 ]
 
 pub block_named : (from hi to : ℕ) (ps : List TwigPiece) (p : TwigPiece) (u : ExtentUnit) → Follow from to ps
     → Contains ps p → p.part ≡ Blocks u → is_hole u ≡ false
-    → (m : Name) × Contains (names_of hi ps) m × (m.id ≡ u.start)
+    → (m : Name) × Contains (names_of hi ps) m × IsData m × (m.id ≡ u.start)
 block_named from hi to ps p u f has is block =
     let sound = sound_in from to ps f p has in
     let lawful = (subst (λ (x : TwigPart). IsSoundPart (offset_of p.key) x) is sound.1).0 in

@@ -36,7 +36,7 @@ use Rattle.r4_spared.specs.Spared.{AreAccepted, ChangesLeaves, HasTask, IsAskedI
 use Rattle.r4_spared.proofs.Charges.{AreCharged, charge_most, charge_of, charge_up, leaf_charged}
 use Rattle.r4_spared.proofs.Climbing.{asked_bound}
 use Rattle.r4_spared.proofs.Shapes.{made_charged}
-use Rattle.r4_spared.proofs.Spared.{all_spared, asked_in_leaves, own_edits, unspread}
+use Rattle.r4_spared.proofs.Spared.{all_spared, asked_in_leaves, no_true, own_edits, unspread}
 
 ends_in_tails : (b : Option Body) → spread_keys b ≡ None → end_of_bytes b ≡ 16384
 ends_in_tails None h = refl
@@ -65,10 +65,6 @@ module _ (b : Option Body) (e : Edits) (tails : spread_keys b ≡ None) (h : Are
   outside : (k : ℕ) → is_between c.lo c.hi k ≡ false → find nat_cmp k c.units ≡ None
   outside k out = by_found (find nat_cmp k c.units) refl
     where
-      no_true : (v : Bool) → v ≡ true → v ≡ false → ⊥
-      no_true true g f = absurd cc
-      no_true false g f = absurd cc
-
       by_found : (o : Option Value) → find nat_cmp k c.units ≡ o → o ≡ None
       by_found None is = refl
       by_found (Some v) is =

@@ -1,5 +1,5 @@
 -- What is asked of a tree where the keys that change lie in leaves.
-use Rattle.std.specs.Prelude.{◌≡◌, ◌⊎◌, ℕ, zero, suc, ◌+◌, ◌*◌, ◌^◌, ◌<◌, ◌≤◌, List, [], ◌∷◌, ◌++◌, map, Bool, true}
+use Rattle.std.specs.Prelude.{◌≡◌, ◌⊎◌, ℕ, ◌+◌, ◌*◌, ◌^◌, ◌<◌, ◌≤◌, List, [], ◌∷◌, ◌++◌, map, Bool, true}
 use Rattle.std.specs.Prelude.{false, not}
 use Rattle.std.specs.Prelude.{◌||◌, ◌&&◌, ◌==◌, nat_lt, sum_by, Contains, Option, Some, None, if◌then◌else◌}
 use Rattle.std.specs.List.{filter, list_any}
@@ -8,7 +8,7 @@ use Rattle.std.proofs.lemmas.Bool.{eqb-true, ne_eqb}
 use Rattle.std.proofs.lemmas.Grind.{common_steps}
 use Rattle.std.proofs.lemmas.List.Sums.{sum_by-cons}
 use Rattle.std.proofs.lemmas.Option.{none-some}
-use Rattle.r4_base.specs.Cell.{cell_fault, cell_of, names_in, spans_in}
+use Rattle.r4_base.specs.Cell.{cell_fault, names_in, spans_in}
 use Rattle.r4_base.specs.Extents.{is_hole}
 use Rattle.r4_base.specs.Key.{key_of_rank, rank}
 use Rattle.r4_base.specs.Node.{items_of}
@@ -34,10 +34,11 @@ use Rattle.r4_patch.specs.Part.{IsPart}
 use Rattle.r4_patch.proofs.Members.{here, later}
 use Rattle.r4_patch.proofs.PartCells.{leaf_or_extent}
 use Rattle.r4_measure.proofs.Kept.{block_is}
+use Rattle.r4_path.proofs.CellNodes.{names_are as cell_names, spans_are as cell_spans}
 use Rattle.r4_path.proofs.Rising.{level_is}
 use Rattle.r4_reach.specs.Needs.{changes_pieces, come_of, demand_of, filled, gets_bytes, goes_in, going_of, is_met}
 use Rattle.r4_reach.specs.Needs.{leaf_edits, leaves_for}
-use Rattle.r4_reach.specs.Needs.{meets, put_among, runs}
+use Rattle.r4_reach.specs.Needs.{put_among, runs}
 use Rattle.r4_reach.specs.Touched.{Body, blocks_end, body_on, coming, edits_on, first_byte, going, is_spread}
 use Rattle.r4_reach.specs.Touched.{raw_changes, reads_on, turns_out}
 use Rattle.r4_reach.specs.Touched.{with_blocks}
@@ -48,11 +49,12 @@ use Rattle.r4_build.proofs.LeafKeys.{listed_off}
 use Rattle.r4_build.proofs.MetKeys.{key_met, met_key}
 use Rattle.r4_build.proofs.Pairs.{rising_found}
 use Rattle.r4_spared.specs.Spared.{AreAccepted, IsAskedInLeaves, LieInLeaves, Spares}
+use Rattle.r4_spared.proofs.Climbing.{unmet}
 use Rattle.r4_spared.proofs.Pieces.{IsSpanned, block_named, hole, part_spanned, pieces_spanned, run_is_hole}
 
 -- ---- lists and tests
 
-no_true : (b : Bool) → b ≡ true → b ≡ false → ⊥
+pub no_true : (b : Bool) → b ≡ true → b ≡ false → ⊥
 no_true true h g = absurd cc
 no_true false h g = absurd cc
 
@@ -267,30 +269,22 @@ module _ (b : Option Body) (e : Edits) (t : Store Value) (spared : SparesExtents
     unfolding pieces
     pieces_are = ap (λ (x : List ℕ). pieces_in (items_of x)) (ap (λ (y : Node Value). y.block) is_cell ∙ block_is cell)
 
-    twig_node : (l : ℕ) → l ≡ 2 → (lo hi : ℕ) (x : List ℕ) → ((cell_of l lo hi x).spans ≡ spans_in hi (items_of x)) ×
-        ((cell_of l lo hi x).names ≡ names_in 2 hi (items_of x))
-    unfolding cell_of
-    twig_node zero h lo hi x = absurd (omega (arith, h))
-    twig_node (suc l) h lo hi x = (refl, ap (λ (m : ℕ). names_in m hi (items_of x)) h)
-
     spans_are : c.spans ≡ spans_in (rank cell.hi) (items_of cell.block)
-    spans_are = ap (λ (y : Node Value). y.spans) is_cell
-        ∙ (twig_node cell.level level_two (rank cell.lo) (rank cell.hi) cell.block).0
+    spans_are = ap (λ (y : Node Value). y.spans) is_cell ∙ cell_spans cell 1 level_two
 
     names_are : c.names ≡ names_in 2 (rank cell.hi) (items_of cell.block)
-    names_are = ap (λ (y : Node Value). y.names) is_cell
-        ∙ (twig_node cell.level level_two (rank cell.lo) (rank cell.hi) cell.block).1
+    names_are = ap (λ (y : Node Value). y.names) is_cell ∙ cell_names cell 1 level_two
 
     old_block : (p : TwigPiece) → Contains pieces p → (u : ExtentUnit) → p.part ≡ Blocks u → is_hole u ≡ false
         → (u.start == 2 ^ 63) ≡ false
     unfolding pieces
     old_block p has u is block =
-        let (m, there, id) = block_named (rank cell.lo) (rank cell.hi) (rank cell.hi)
+        let (m, there, level_zero, id) = block_named (rank cell.lo) (rank cell.hi) (rank cell.hi)
         (pieces_in (items_of cell.block)) p u
         (pieces_of_twig (rank cell.lo) (rank cell.hi) cell.block stands).follow has is block in
         let named : Contains c.names m = subst (λ (ns : List Name). Contains ns m)
         (names_of_twig (rank cell.lo) (rank cell.hi) cell.block stands (rank cell.hi) ∙ sym names_are) there in
-        ne_eqb u.start (2 ^ 63) (λ same. accepted.numbers i c m at named (id ∙ same))
+        ne_eqb u.start (2 ^ 63) (λ same. accepted.numbers i c m at named level_zero (id ∙ same))
 
     spanned : (p : TwigPiece) → Contains pieces p → IsSpanned c.spans p
     unfolding pieces
@@ -308,9 +302,6 @@ module _ (b : Option Body) (e : Edits) (t : Store Value) (spared : SparesExtents
     none_goes_in : (bd : Body) → is_spread bd ≡ false → (p : TwigPiece) → goes_in (going bd) p p.part ≡ false
     none_goes_in bd tail p = ap (λ (r : ℕ × ℕ). goes_in r p p.part) (none_goes bd tail) ∙ by_part p.part
       where
-        unmet : (lo hi : ℕ) → meets lo hi (0, 0) ≡ false
-        unmet lo hi = grind (arith, common_steps)
-
         by_part : (part : TwigPart) → goes_in (0, 0) p part ≡ false
         by_part (Pointer to) = refl
         by_part (Blocks u) = unmet (rank p.key) (rank p.key + 4096 * u.width)

@@ -4,9 +4,9 @@ use Rattle.std.specs.Prelude.{Contains, Option, None, Some}
 use Rattle.std.specs.FinMap.{find}
 use Rattle.std.specs.Ordering.{nat_cmp}
 use Rattle.r4_base.specs.Key.{least, top}
-use Rattle.r4_base.specs.Tree.{Covers, Name, Node, Root, Store}
-use Rattle.r4_base.specs.Value.{Stat, Value}
-use Rattle.r4_base.specs.Volume.{IsObject, stat_rank}
+use Rattle.r4_base.specs.Tree.{Covers, IsData, Name, Node, Root, Store}
+use Rattle.r4_base.specs.Value.{Content, Stat, Value}
+use Rattle.r4_base.specs.Volume.{HasStat, IsObject, stat_rank}
 use Rattle.r4_base.specs.declared.items.Attr.{Attr}
 use Rattle.r4_base.specs.declared.items.Target.{Target}
 use Rattle.r4_cell.specs.Patch.{HaveNames}
@@ -29,13 +29,13 @@ use Rattle.r4_work.specs.Working.{AreCellsIn}
 use Rattle.r4_measure.specs.Budget.{AreUnplaced}
 use Rattle.r4_build.specs.Building.{SparesExtents}
 
--- What stands is cells that may stand, in memory. None of them names the number by which new
--- blocks are told.
+-- What stands is cells that may stand, in memory. None of them names a block of the number by which
+-- new blocks are told.
 pub record AreAccepted (t : Store Value) : Type 0 where
   pub cells : (i : ℕ) (c : Node Value) → t i ≡ Some c
       → (x : CellSeen) × (c ≡ node_of x) × (length x.block ≡ 4096) × IsAccepted x
   pub numbers : (i : ℕ) (c : Node Value) (n : Name) → t i ≡ Some c → Contains c.names n
-      → n.id ≢ 2 ^ 63
+      → IsData n → n.id ≢ 2 ^ 63
 
 -- Each key that changes lies in a leaf, as far as it is one that an item may have.
 abbrev pub LieInLeaves : Edits → Store Value → Type 0
@@ -90,3 +90,7 @@ AreObjectsSeen c s = (o : Target) (a : Attr) → IsObject o
     → is_in (asked (course greatest_size c) (of_seen s)) (stat_rank o) ≡ true
     → find nat_cmp (stat_rank o) s ≡ Some (Stat a)
     → (least ≤ stat_rank o) × (42 ≤ o.oid.0) × (a.size < 2 ^ 64)
+
+-- The objects of a content have ids from 42 on, and sizes of 64 bits.
+abbrev pub HasGoodObjects : Content → Type 0
+HasGoodObjects m = (o : Target) (a : Attr) → HasStat m o a → (42 ≤ o.oid.0) × (a.size < 2 ^ 64)

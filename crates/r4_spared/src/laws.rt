@@ -2,11 +2,16 @@
 
 ghost use Rattle.std.specs.Prelude.{◌≡◌, ℕ, ◌≤◌, Bool, List, None, Option};
 ghost use Rattle.r4_base.specs.Tree.{Root, Store};
-ghost use Rattle.r4_base.specs.Value.{Value};
+ghost use Rattle.r4_base.specs.Value.{Content, Value};
+ghost use Rattle.r4_base.specs.Volume.{HasIds, HasUnits};
+ghost use Rattle.r4_base.specs.declared.superblock.Super40.{Super40};
 ghost use Rattle.r4_cell.specs.Seen.{CellSeen};
 ghost use Rattle.r4_cell.specs.declared.change.Fresh.{Fresh};
 ghost use Rattle.r4_content.specs.Edited.{Edits, Intervals, Pairs, changed};
 ghost use Rattle.r4_content.specs.Fields.{HasBytePaths};
+ghost use Rattle.r4_content.specs.Lawful.{IsLawful};
+ghost use Rattle.r4_content.specs.Meaning.{greatest_size};
+ghost use Rattle.r4_content.specs.Seen.{IsSeen};
 ghost use Rattle.r4_content.specs.declared.command.Command.{Command};
 ghost use Rattle.r4_leaf_edits.specs.Made.{spread_keys};
 ghost use Rattle.r4_patch.specs.Part.{IsPart};
@@ -17,7 +22,8 @@ ghost use Rattle.r4_measure.specs.Asked.{asked_of};
 ghost use Rattle.r4_measure.specs.Begin.{IsQuiet};
 ghost use Rattle.r4_build.specs.Building.{CanBuild, HaveLawfulKeys};
 ghost use Rattle.r4_spared.specs.Spared.{AreAccepted, AreObjectsSeen, ChangesLeaves, HasTask};
-ghost use Rattle.r4_spared.specs.Spared.{IsAskedInLeaves, LieInLeaves, MayRise, Spares};
+ghost use Rattle.r4_spared.specs.Spared.{HasGoodObjects, IsAskedInLeaves, LieInLeaves, MayRise};
+ghost use Rattle.r4_spared.specs.Spared.{Spares};
 
 /// Where all keys that edits change lie in leaves, and no body stands in extents afterwards, no
 /// extent is touched: no blocks come or go, and no twig's pieces change. So it is of each command;
@@ -52,6 +58,16 @@ pub fn asks_stay_small()
 pub fn commands_change_lawful_keys()
     ensures { (c : Command) (s : Pairs) → HasBytePaths c → AreLawfulSeen c s → AreObjectsSeen c s
         → HaveLawfulKeys (edits_on c s) }
+{}
+
+/// So are the objects that a command finds in a part of a tree, where those of its content are; and
+/// those of a volume's content are.
+pub fn objects_are_found_good()
+    ensures seen { (c : Command) (s : Pairs) (m : Content) (t : Store Value) (root : Root)
+        → IsSeen greatest_size c s m → IsPart t root → HasUnits t m → HasGoodObjects m
+        → AreObjectsSeen c s }
+    ensures volume { (super : Super40) (m : Content) → IsLawful greatest_size m → HasIds super m
+        → HasGoodObjects m }
 {}
 
 /// A command whose keys lie in leaves can be built of a task that has the cells which it writes.
