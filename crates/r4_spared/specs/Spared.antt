@@ -83,8 +83,8 @@ IsAskedInLeaves c s in_extents = demand_on c s in_extents
     ≡ demand_of (body_on c s in_extents) (edits_on c s) (reads_on c s in_extents)
     (changed (edits_on c s))
 
--- Each object that a command finds in what was seen stands from the least key on, and has an id from
--- 42 on and a size of 64 bits.
+-- Each object that a command finds in what was seen stands from the least key on, and has an id
+-- from 42 on and a size of 64 bits.
 abbrev pub AreObjectsSeen : Command → Pairs → Type 0
 AreObjectsSeen c s = (o : Target) (a : Attr) → IsObject o
     → is_in (asked (course greatest_size c) (of_seen s)) (stat_rank o) ≡ true
