@@ -6,3 +6,4 @@ mod Shapes
 mod Small
 mod Lawful
 mod Found
+mod Answered

@@ -1,6 +1,6 @@
 -- Commands that touch no extent (docs/volume.md, "Building").
 use Rattle.std.specs.Prelude.{◌≡◌, ◌≢◌, ℕ, ◌+◌, ◌*◌, ◌^◌, ◌<◌, ◌≤◌, Bool, true, false, List, length}
-use Rattle.std.specs.Prelude.{Contains, Option, None, Some}
+use Rattle.std.specs.Prelude.{All, Contains, Option, None, Some}
 use Rattle.std.specs.FinMap.{find}
 use Rattle.std.specs.Ordering.{nat_cmp}
 use Rattle.r4_base.specs.Key.{least, top}
@@ -20,6 +20,8 @@ use Rattle.r4_content.specs.Seen.{Rises, of_seen}
 use Rattle.r4_content.specs.declared.command.Command.{Command}
 use Rattle.r4_leaf_edits.specs.Made.{spread_keys}
 use Rattle.r4_patch.specs.Part.{IsPart}
+use Rattle.r4_path.specs.Nodes.{IsPointable}
+use Rattle.r4_path.specs.Steps.{IsFree}
 use Rattle.r4_reach.specs.Demand.{Demand}
 use Rattle.r4_reach.specs.Needs.{Ask, changes_pieces, come_of, demand_of, demand_on, going_of}
 use Rattle.r4_reach.specs.Reach.{IsRootAsking, IsWritten}
@@ -36,6 +38,14 @@ pub record AreAccepted (t : Store Value) : Type 0 where
       → (x : CellSeen) × (c ≡ node_of x) × (length x.block ≡ 4096) × IsAccepted x
   pub numbers : (i : ℕ) (c : Node Value) (n : Name) → t i ≡ Some c → Contains c.names n
       → IsData n → n.id ≢ 2 ^ 63
+
+-- So are these cells, of which no two have one number.
+pub record MayStandAll (cells : List CellSeen) : Type 0 where
+  pub accepted : All IsAccepted cells
+  pub whole : (x : CellSeen) → Contains cells x → length x.block ≡ 4096
+  pub numbers : (x : CellSeen) (n : Name) → Contains cells x → Contains (node_of x).names n
+      → IsData n → n.id ≢ 2 ^ 63
+  pub names : HaveNames cells
 
 -- Each key that changes lies in a leaf, as far as it is one that an item may have.
 abbrev pub LieInLeaves : Edits → Store Value → Type 0
@@ -74,6 +84,16 @@ pub record HasTask (d : Demand Ask) (t : Store Value) (root : Root) (f : Fresh)
   pub cells_in : AreCellsIn t root f cells
   pub written : (i : ℕ) → IsWritten d t i → (x : CellSeen) × Contains cells x × (x.id ≡ i)
   pub names : HaveNames cells
+  pub unplaced : AreUnplaced f
+  pub numbers : f.next + 64 * length cells ≤ f.end
+
+-- There are 64 fresh numbers for each of these cells, which are free in a part of a tree; no two of
+-- the cells have one number.
+pub record HasNumbers (t : Store Value) (root : Root) (f : Fresh) (cells : List CellSeen)
+    : Type 0 where
+  pub root_number : IsPointable root.id
+  pub names : HaveNames cells
+  pub free : IsFree f.next f.end t
   pub unplaced : AreUnplaced f
   pub numbers : f.next + 64 * length cells ≤ f.end
 

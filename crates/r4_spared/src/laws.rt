@@ -1,12 +1,14 @@
 //! Laws of commands that touch no extent. Each is the contract of a function that does nothing.
 
-ghost use Rattle.std.specs.Prelude.{◌≡◌, ℕ, ◌≤◌, Bool, List, None, Option};
+ghost use Rattle.std.specs.Prelude.{◌≡◌, ℕ, ◌<◌, ◌≤◌, Bool, IsSome, List, None, Option};
 ghost use Rattle.r4_base.specs.Tree.{Root, Store};
 ghost use Rattle.r4_base.specs.Value.{Content, Value};
 ghost use Rattle.r4_base.specs.Volume.{HasIds, HasUnits};
 ghost use Rattle.r4_base.specs.declared.superblock.Super40.{Super40};
+ghost use Rattle.r4_cell.specs.Patch.{by_name, root_of_pair};
 ghost use Rattle.r4_cell.specs.Seen.{CellSeen};
 ghost use Rattle.r4_cell.specs.declared.change.Fresh.{Fresh};
+ghost use Rattle.r4_cell.specs.declared.change.Root.{Root as RootPair};
 ghost use Rattle.r4_content.specs.Edited.{Edits, Intervals, Pairs, changed};
 ghost use Rattle.r4_content.specs.Fields.{HasBytePaths};
 ghost use Rattle.r4_content.specs.Lawful.{IsLawful};
@@ -15,6 +17,7 @@ ghost use Rattle.r4_content.specs.Seen.{IsSeen};
 ghost use Rattle.r4_content.specs.declared.command.Command.{Command};
 ghost use Rattle.r4_leaf_edits.specs.Made.{spread_keys};
 ghost use Rattle.r4_patch.specs.Part.{IsPart};
+ghost use Rattle.r4_reach.specs.Answer.{IsReachOf};
 ghost use Rattle.r4_reach.specs.Needs.{demand_of, demand_on};
 ghost use Rattle.r4_reach.specs.Touched.{Body, body_on, edits_on, reads_on};
 ghost use Rattle.r4_suited.specs.Suited.{AreLawfulSeen};
@@ -23,7 +26,7 @@ ghost use Rattle.r4_measure.specs.Begin.{IsQuiet};
 ghost use Rattle.r4_build.specs.Building.{CanBuild, HaveLawfulKeys};
 ghost use Rattle.r4_spared.specs.Spared.{AreAccepted, AreObjectsSeen, ChangesLeaves, HasTask};
 ghost use Rattle.r4_spared.specs.Spared.{HasGoodObjects, IsAskedInLeaves, LieInLeaves, MayRise};
-ghost use Rattle.r4_spared.specs.Spared.{Spares};
+ghost use Rattle.r4_spared.specs.Spared.{HasNumbers, MayStandAll, Spares};
 
 /// Where all keys that edits change lie in leaves, and no body stands in extents afterwards, no
 /// extent is touched: no blocks come or go, and no twig's pieces change. So it is of each command;
@@ -77,4 +80,25 @@ pub fn commands_can_be_built()
         → HaveLawfulKeys (edits_on c s) → HasTask (demand_on c s in_extents) t root f cells
         → CanBuild (body_on c s in_extents) (edits_on c s) (reads_on c s in_extents) t root f
         cells }
+{}
+
+/// So it can be built of the cells that an answer has as written, where those that were met may
+/// stand, and hold all keys that it changes in leaves.
+pub fn answers_can_be_built()
+    ensures changes { (root : RootPair) (c : Command) (met reads writes : List CellSeen)
+        (rises : Option RootPair) (h : IsReachOf root c met reads writes rises)
+        → MayStandAll met → HasBytePaths c
+        → spread_keys (body_on c h.seen h.in_extents) ≡ None
+        → LieInLeaves (edits_on c h.seen) (by_name met)
+        → ChangesLeaves c h.seen h.in_extents (by_name met) (root_of_pair root) }
+    ensures builds { (root : RootPair) (c : Command) (met reads writes : List CellSeen)
+        (rises : Option RootPair) (h : IsReachOf root c met reads writes rises) (f : Fresh)
+        → MayStandAll met → HasBytePaths c
+        → spread_keys (body_on c h.seen h.in_extents) ≡ None
+        → LieInLeaves (edits_on c h.seen) (by_name met)
+        → HaveLawfulKeys (edits_on c h.seen) → (root_of_pair root).height ≤ 8
+        → (IsSome rises → (root_of_pair root).height < 8)
+        → HasNumbers (by_name met) (root_of_pair root) f writes
+        → CanBuild (body_on c h.seen h.in_extents) (edits_on c h.seen)
+        (reads_on c h.seen h.in_extents) (by_name met) (root_of_pair root) f writes }
 {}

@@ -4,6 +4,6 @@
 mod laws;
 
 pub use laws::{
-    asks_stay_small, commands_can_be_built, commands_change_lawful_keys,
+    answers_can_be_built, asks_stay_small, commands_can_be_built, commands_change_lawful_keys,
     keys_in_leaves_spare_extents, objects_are_found_good,
 };
