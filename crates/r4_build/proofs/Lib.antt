@@ -8,4 +8,4 @@ mod Made
 mod Contents
 mod Lying
 mod Fitting
-mod FreshBuilt
+pub mod FreshBuilt

@@ -7,3 +7,4 @@ mod Small
 mod Lawful
 mod Found
 mod Answered
+mod FreshLeaves
