@@ -229,7 +229,8 @@ module _ (s : Pairs) (S : ℕ → Type 0)
       → ((dir : Object) (n : List ℕ) (p : Place) → IsMet s S dir → IsName n → IsMet s S p.here → Good (next dir n p))
       → Good (to_entry r path next)
   unfolding to_entry
-  good_entry r path all next h = good_parent r path all _ (λ p n name f. good_step n _ (λ q g. h p.here n q f name g) p f)
+  good_entry r path all next h = good_parent r path all _
+      (λ p n name f. good_step n _ (λ q g. h p.here n q f name g) p f)
 
   good_free : (path : List (List ℕ)) → All IsName path → (next : Object → List ℕ → Course)
       → ((dir : Object) (n : List ℕ) → IsName n → IsMet s S dir → Good (next dir n)) → Good (to_free path next)
@@ -303,7 +304,8 @@ module _ (s : Pairs) (S : ℕ → Type 0)
 
   good_truncate : (path : List (List ℕ)) (n : ℕ) → Good (truncate greatest_size path n)
   good_truncate path n = good_file greatest_size path n _
-      (λ o f low. good_change _ (holds.resizes _ (record { file = o; size = n; here = f.here; fits = low; is = refl }) f.among))
+      (λ o f low. good_change _
+      (holds.resizes _ (record { file = o; size = n; here = f.here; fits = low; is = refl }) f.among))
 
   good_read : (path : List (List ℕ)) (from len : ℕ) → Good (read path from len)
   good_read path from len = good_object path _ (λ p f. good_if (is_dir p.here) _ _ (λ e. good_answer _)
