@@ -1,0 +1,4 @@
+pub mod FirstKeys
+pub mod FileSizes
+pub mod BodyKeys
+pub mod Premises
