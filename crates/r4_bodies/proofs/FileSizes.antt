@@ -79,7 +79,8 @@ module _ (e : HeldEdits) (suit : SuitLeaves (2 ^ 64) (edits_of e)) (k : ℕ) (of
   no_byte = bodies_only (2 ^ 64) (bytes_of e) k (bytes_before e (2 ^ 64) suit) off
 
   no_zero : is_in (put_keys zs) k ≡ false
-  no_zero = (or_parts (is_in (put_keys zs) k) (is_in (put_keys (fs ++ rs)) k) (sym (in_both zs (fs ++ rs) k) ∙ no_byte)).0
+  no_zero =
+      (or_parts (is_in (put_keys zs) k) (is_in (put_keys (fs ++ rs)) k) (sym (in_both zs (fs ++ rs) k) ∙ no_byte)).0
 
   no_others : (is_in (put_keys fs) k || is_in (put_keys rs) k) ≡ false
   no_others = sym (in_both fs rs k)

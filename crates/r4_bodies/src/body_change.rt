@@ -1,6 +1,6 @@
 //! The body that a command's edits change (docs/volume.md, "Reach").
 
-ghost use Rattle.std.specs.Prelude.{◌≡◌, ◌^◌, Some, false};
+ghost use Rattle.std.specs.Prelude.{◌≡◌, ◌^◌, ◌<◌, IfSome, Some, false};
 ghost use Rattle.std.specs.Option.{option_map};
 ghost use Rattle.r4_content.specs.Edited.{changed};
 ghost use Rattle.r4_content.specs.Held.{edits_of, pairs_of};
@@ -67,15 +67,16 @@ impl BodyChange {
     }
 }
 
-/// The file whose body a command's edits change, as the body stands in tails, on what was seen: that of the first key of
-/// a body that is set or taken away, in the order of fills, runs, values, zeros and cuts. The bytes that are set are
-/// bytes of bodies. A step is taken for each fill, run, value and interval, but none for a byte; what was seen is looked
-/// up once, by halves (docs/volume.md, "Reach").
+/// The file whose body a command's edits change, as it is where nothing of the body stands in extents before, on what
+/// was seen: that of the first key of a body that is set or taken away, in the order of fills, runs, values, zeros and
+/// cuts. The bytes that are set are bytes of bodies. A step is taken for each fill, run, value and interval, but none
+/// for a byte; what was seen is looked up once, by halves (docs/volume.md, "Reach").
 pub fn body_changed(edits: &Edits, seen: &Seen) -> Option<BodyChange>
     requires rises { Rises (pairs_of seen.now) }
     requires suits { SuitLeaves (2 ^ 64) (edits_of edits.now) }
-    ensures { result ≡ option_map (body_of (edits_of edits.now) (pairs_of seen.now) false)
+    ensures body { result ≡ option_map (body_of (edits_of edits.now) (pairs_of seen.now) false)
         (body_key (changed (edits_of edits.now))) }
+    ensures sizes { IfSome result (λ b. (b.was < 2 ^ 64) × (b.now < 2 ^ 64)) }
 {
     let first = first_key(edits)?;
     let stat = stat_of(first);

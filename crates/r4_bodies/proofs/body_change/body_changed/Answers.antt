@@ -9,8 +9,8 @@ use Rattle.r4_reach.specs.Touched.{Body, body_of, size_in}
 use Rattle.r4_bodies.proofs.BodyKeys.{same_body}
 use Rattle.r4_bodies.proofs.body_change.body_changed.Goals as goal
 
-pub returns : goal.returns
-returns c =
+pub returns-clause-body : goal.returns-clause-body
+returns-clause-body c =
     let e = edits_of c.args.edits.now in
     let s = pairs_of c.args.seen.now in
     let k = c.in_ok-first.first in

@@ -26,5 +26,6 @@ returns-after-is_same t c s r e =
     ] in
     let size = put_size (rank p.0) (value_of p.1) s k c.is_same.result r c.is_same.ensures.ranks
     ∙ ap (cond c.is_same.result (size_in (Some (value_of p.1)))) e ∙ told in
-    ap (λ (ps : List (Key × HeldValue)). size_in (find nat_cmp k (list_put (map pair_of ps) s))) c.in-Some.ensures.cases.0
+    ap (λ (ps : List (Key × HeldValue)). size_in (find nat_cmp k (list_put (map pair_of ps) s)))
+    c.in-Some.ensures.cases.0
     ∙ c.last_size.ensures (put nat_cmp (rank p.0) (value_of p.1) s) (put_rises (rank p.0) (value_of p.1) s r) size
