@@ -4,7 +4,7 @@ mod LeafKeys
 mod Changing
 mod Turns
 mod Origin
-mod Made
+pub mod Made
 mod Contents
 mod Lying
 mod Fitting

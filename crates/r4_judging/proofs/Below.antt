@@ -26,9 +26,9 @@ block_size k [] n h = absurd (nothing_in n h)
 block_size k (u ∷ us) n h = elim
     (Contains-append_cases (if is_hole u then [] else run_names k u.start u.width)
     (block_names (k + 4096 * u.width) us) n h) [
-  | inl at ↦ by (is_hole u) at
-  | inr at ↦ block_size (k + 4096 * u.width) us n at
-]
+      | inl at ↦ by (is_hole u) at
+      | inr at ↦ block_size (k + 4096 * u.width) us n at
+    ]
   where
     by : (hole : Bool) → Contains (if hole then [] else run_names k u.start u.width) n → n.hi ≡ n.lo + 4096
     by true at = absurd (nothing_in n at)
@@ -47,7 +47,7 @@ item_below level next it n some at = by (it.plugin == 3) (it.plugin == 5) at
     pointed None h = absurd (nothing_in n h)
     pointed (Some to) h =
         let e = ap (λ (x : Name). x.level)
-            (only (record { id = to; level = level - 1; lo = rank it.key; hi = next }) n h) in
+        (only (record { id = to; level = level - 1; lo = rank it.key; hi = next }) n h) in
         record { below = omega (arith, e, some); size = λ z. inr (omega (arith, e, z, some)) }
 
     by : (a b : Bool)
@@ -66,9 +66,9 @@ unfolding names_in
 names_below level hi [] n some at = absurd (nothing_in n at)
 names_below level hi (it ∷ items) n some at = elim
     (Contains-append_cases (item_names level (next_key hi items) it) (names_in level hi items) n at) [
-  | inl h ↦ item_below level (next_key hi items) it n some h
-  | inr h ↦ names_below level hi items n some h
-]
+      | inl h ↦ item_below level (next_key hi items) it n some h
+      | inr h ↦ names_below level hi items n some h
+    ]
 
 cell_below : (level lo hi : ℕ) (b : List ℕ) (n : Name) → Contains (cell_of level lo hi b).names n → IsBelow level n
 unfolding cell_of

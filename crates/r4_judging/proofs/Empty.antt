@@ -22,7 +22,7 @@ names_nothing level next it two other zeros n at =
     pointed None h z = nothing_in n h
     pointed (Some to) h z =
         let e = ap (λ (x : Name). x.level)
-            (only (record { id = to; level = level - 1; lo = rank it.key; hi = next }) n h) in
+        (only (record { id = to; level = level - 1; lo = rank it.key; hi = next }) n h) in
         omega (arith, e, z, two)
 
     by : (a b : Bool) → b ≡ false

@@ -75,12 +75,20 @@ judged_names ns ms met a b h g =
     (either_first (Misnames ns met) (Misnames ms met) a b h g)
   where
     to : (c : CellSeen) (f : CellFault) → Misnames ns met c f ⊎ Misnames ms met c f → Misnames (ns ++ ms) met c f
-    to c f (inl m) = record
-        { among = m.among; name = m.name; named = Contains-append_left ns ms m.name m.named; id = m.id; fault = m.fault
-        }
-    to c f (inr m) = record
-        { among = m.among; name = m.name; named = Contains-append_right ns ms m.name m.named; id = m.id; fault = m.fault
-        }
+    to c f (inl m) = record {
+      among = m.among;
+      name = m.name;
+      named = Contains-append_left ns ms m.name m.named;
+      id = m.id;
+      fault = m.fault;
+    }
+    to c f (inr m) = record {
+      among = m.among;
+      name = m.name;
+      named = Contains-append_right ns ms m.name m.named;
+      id = m.id;
+      fault = m.fault;
+    }
 
     back : (c : CellSeen) (f : CellFault) → Misnames (ns ++ ms) met c f → Misnames ns met c f ⊎ Misnames ms met c f
     back c f m = elim (Contains-append_cases ns ms m.name m.named) [
@@ -122,4 +130,4 @@ judged_of ns ks ms o to back h =
     same_first (Misnames ns ks) (Misnames ns ms)
     (λ c f m. record { among = to c m.among; name = m.name; named = m.named; id = m.id; fault = m.fault })
     (λ c f m. record
-        { among = back c m.name m.among m.named m.id; name = m.name; named = m.named; id = m.id; fault = m.fault }) o h
+    { among = back c m.name m.among m.named m.id; name = m.name; named = m.named; id = m.id; fault = m.fault }) o h

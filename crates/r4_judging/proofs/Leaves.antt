@@ -19,7 +19,7 @@ leaf_judged c cells level whole stands =
     let at = node_at true (2 ^ 64) c.level (rank c.lo) (rank c.hi) c.block (omega (arith, level)) stands in
     let none : (node_of c).names ≡ [] = names_of c.level (rank c.lo) (rank c.hi) c.block (omega (arith, level))
     ∙ leaf_names c.level (rank c.hi) (items_of c.block) level
-        (plugins_at true (2 ^ 64) c.level (rank c.lo) (rank c.hi) c.block whole at) in
+    (plugins_at true (2 ^ 64) c.level (rank c.lo) (rank c.hi) c.block whole at) in
     subst (λ (ns : List Name). IsJudged ns cells None) (sym none) (no_names cells)
 
 pub data_judged : (c : CellSeen) (cells : List CellSeen) → c.level ≡ 0 → IsJudged (node_of c).names cells None

@@ -24,9 +24,9 @@ order_shown h [] up i j d low lt = absurd (omega (arith, lt))
 order_shown h (x ∷ xs) up i j d low lt =
     let long = length_map h (x ∷ xs) in
     subst (λ c. c.id ≤ (get_or (map h (x ∷ xs)) j d).id)
-        (sym (get_or-map h (x ∷ xs) i x d (omega (arith, low, lt, long))))
+    (sym (get_or-map h (x ∷ xs) i x d (omega (arith, low, lt, long))))
     (subst (λ c. (h (get_or (x ∷ xs) i x)).id ≤ c.id) (sym (get_or-map h (x ∷ xs) j x d (omega (arith, lt, long))))
-        (up i j x low (omega (arith, lt, long))))
+    (up i j x low (omega (arith, lt, long))))
 
 pub order_hidden : {A : Type 0} (h : A → CellSeen) (xs : List A) → IsNonDecreasingBy (λ c. c.id) (map h xs)
     → IsNonDecreasingBy (λ x. (h x).id) xs
@@ -34,7 +34,7 @@ order_hidden h xs up i j d low lt =
     let long = length_map h xs in
     subst (λ c. c.id ≤ (h (get_or xs j d)).id) (get_or-map h xs i d (h d) (omega (arith, low, lt)))
     (subst (λ c. (get_or (map h xs) i (h d)).id ≤ c.id) (get_or-map h xs j d (h d) lt)
-        (up i j (h d) low (omega (arith, lt, long))))
+    (up i j (h d) low (omega (arith, lt, long))))
 
 -- the first of them whose number is not below an end
 abbrev pub EndsBefore : {A : Type 0} → (A → CellSeen) → ℕ → List A → ℕ → Type 0
@@ -43,7 +43,7 @@ EndsBefore h n = IsPartitionPoint (λ y. nat_lt (h y).id n ≡ true) (λ y. nat_
 pub ends_before : {A : Type 0} (h : A → CellSeen) (n : ℕ) {F : Type 0} {g : Mut F (Bor A × Unit {0}) Bool} {f : F}
     (xs : List A) (i : ℕ) → IsNonDecreasingBy (λ x. (h x).id) xs
     → ((q : A → Bool) → ComputesKey g q f → IsPartitionedBy q xs
-        → IsPartitionPoint (λ y. q y ≡ true) (λ y. q y ≡ false) xs i)
+    → IsPartitionPoint (λ y. q y ≡ true) (λ y. q y ≡ false) xs i)
     → ((a : Bor A × Unit {0}) (r : Bool) (f' : F) → Called g f a r f' → (r ≡ nat_lt (h a.0.now).id n) × (f' ≡ f))
     → EndsBefore h n xs i
 ends_before h n xs i order clause calls =
@@ -146,7 +146,7 @@ module _ {A : Type 0} (h : A → CellSeen) (from count a b : ℕ) (xs : List A) 
           let l = drop_long a xs in
           let from_i : from ≤ (h (get_or xs i d)).id = subst (λ (y : CellSeen). from ≤ y.id) (sym is) from_c in
           let below_i : (h (get_or xs i d)).id < from + count = subst (λ (y : CellSeen). y.id < from + count)
-              (sym is) below_c in
+          (sym is) below_c in
           let past : a ≤ i = elim (compare i a) [
             | inl less ↦ absurd
                 (let t = low.0 i d (omega arith) less in let bad : (h (get_or xs i d)).id < from = grind
@@ -157,7 +157,7 @@ module _ {A : Type 0} (h : A → CellSeen) (from count a b : ℕ) (xs : List A) 
           let place : a + (i - a) ≡ i = omega (arith, past) in
           let inside : i - a < length (drop a xs) = omega (arith, l, lt, past) in
           let same : get_or (drop a xs) (i - a) d ≡ get_or xs i d = drop_at a xs (i - a) d
-              ∙ ap (λ (n : ℕ). get_or xs n d) place in
+          ∙ ap (λ (n : ℕ). get_or xs n d) place in
           let below_b : i - a < b = elim (compare (i - a) b) [
             | inl less ↦ less
             | inr le ↦ absurd
@@ -168,4 +168,4 @@ module _ {A : Type 0} (h : A → CellSeen) (from count a b : ℕ) (xs : List A) 
           ] in
           let long = take_long b (drop a xs) short in
           subst (Contains (map h near)) (ap h (take_at b (drop a xs) (i - a) d below_b ∙ same) ∙ is)
-              (has_place h near (i - a) d (omega (arith, below_b, long)))
+          (has_place h near (i - a) d (omega (arith, below_b, long)))

@@ -122,7 +122,7 @@ module _ (root : Root) (met : List CellSeen) (h : HangTogether root met) (sound 
           let long : rank c.hi ≡ rank c.lo + 4096 = omega (arith, size, lo, hi) in
           subst (λ (k : ℕ). IsNode (cell_of k (rank c.lo) (rank c.hi) c.block)) (sym e)
           (subst (λ (k : ℕ). IsNode (cell_of 0 (rank c.lo) k c.block)) (sym long)
-              (data_node (rank c.lo) c.block (is_sound c at).whole low (omega (arith, long, high))))
+          (data_node (rank c.lo) c.block (is_sound c at).whole low (omega (arith, long, high))))
 
   -- level by level from the root
   above : (k : ℕ) (c : CellSeen) → 256 ≤ c.level + suc k → (up : IsNamedAmong met c) → 256 ≤ up.up.level + k
@@ -173,7 +173,7 @@ module _ (root : Root) (met : List CellSeen) (h : HangTogether root met) (sound 
             let (x, in_met, id, same) = found met i c e in
             let (y, in_met2, id2, same2) = found met n.id d f in
             subst (Fits n) (sym same2)
-                (fitting n y (fit x y n in_met in_met2 (subst (λ (m : Node Value). Contains m.names n) same has) id2));
+            (fitting n y (fit x y n in_met in_met2 (subst (λ (m : Node Value). Contains m.names n) same has) id2));
         reached = λ i c e. let (x, in_met, id, same) = found met i c e in hung_at i x in_met id (h.hung x in_met);
       }
     where

@@ -41,13 +41,13 @@ run_has k start (suc n) zero lt =
     let a : start ≡ start + 0 = omega arith in
     let b : k ≡ k + 4096 * 0 = omega arith in
     subst (Contains (run_names k start (suc n))) (λ i. block_name (a i) (b i))
-        (here (block_name start k) (run_names (k + 4096) (start + 1) n))
+    (here (block_name start k) (run_names (k + 4096) (start + 1) n))
 run_has k start (suc n) (suc j) lt =
     let a : start + 1 + j ≡ start + suc j = omega arith in
     let b : k + 4096 + 4096 * j ≡ k + 4096 * suc j = omega arith in
     subst (Contains (run_names k start (suc n))) (λ i. block_name (a i) (b i))
     (later (block_name start k) (block_name (start + 1 + j) (k + 4096 + 4096 * j)) (run_names (k + 4096) (start + 1) n)
-        (run_has (k + 4096) (start + 1) n j (omega (arith, lt))))
+    (run_has (k + 4096) (start + 1) n j (omega (arith, lt))))
 
 -- ---- its numbers
 
@@ -63,6 +63,9 @@ meant_within (Blocks start count lo) n h =
 pub meant_has : (m : Named) (i : ℕ) → number_from m ≤ i → i < number_from m + number_count m
     → (n : Name) × Contains (names_meant m) n × (n.id ≡ i)
 meant_has (Child child) i from below = (child_name child, here (child_name child) [], omega (arith, from, below))
-meant_has (Blocks start count lo) i from below =
-    (block_name (start + (i - start)) (rank lo + 4096 * (i - start)), run_has (rank lo) start count (i - start)
-        (omega (arith, from, below)), omega (arith, from))
+meant_has (Blocks start count lo) i from below = (
+  block_name (start + (i - start)) (rank lo + 4096 * (i - start)),
+  run_has (rank lo) start count (i - start)
+      (omega (arith, from, below)),
+  omega (arith, from),
+)

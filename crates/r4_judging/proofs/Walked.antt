@@ -35,7 +35,7 @@ pub all_judged : (all rest : List Name) (met : List CellSeen) (a : Option Misfit
     → IsJudged all met a
 all_judged all rest met a none h =
     subst (λ (ns : List Name). IsJudged ns met a)
-        (sym (append-nil h.before) ∙ (ap (λ (ns : List Name). h.before ++ ns) (sym none) ∙ h.parts)) h.judged
+    (sym (append-nil h.before) ∙ (ap (λ (ns : List Name). h.before ++ ns) (sym none) ∙ h.parts)) h.judged
 
 drop_past : {A : Type 0} (k : ℕ) (xs : List A) → length xs ≤ k → drop k xs ≡ []
 drop_past zero [] le = refl
@@ -48,7 +48,7 @@ drop_past (suc k) (x ∷ xs) le = drop_past k xs (omega (arith, le))
 abbrev pub AreWalked : CellSeen → (place : ℕ) → List CellSeen → Option Misfit → Type 0
 AreWalked c place met found =
     AreJudged (names_in c.level (rank c.hi) (items_of c.block))
-        (names_in c.level (rank c.hi) (drop place (items_of c.block))) met found
+    (names_in c.level (rank c.hi) (drop place (items_of c.block))) met found
 
 pub no_items_left : (level hi place : ℕ) (items : List Item) → length items ≤ place
     → names_in level hi (drop place items) ≡ []
@@ -65,7 +65,7 @@ units_suc : (key : ℕ) (us : List ExtentUnit) (place : ℕ) (u : ExtentUnit) �
     → (blocks_in (take (suc place) us) ≡ blocks_in (take place us) + u.width)
     × (block_names (key + 4096 * blocks_in (take place us)) (drop place us)
     ≡ (if is_hole u then [] else run_names (key + 4096 * blocks_in (take place us)) u.start u.width) ++ block_names
-        (key + 4096 * blocks_in (take (suc place) us)) (drop (suc place) us))
+    (key + 4096 * blocks_in (take (suc place) us)) (drop (suc place) us))
 units_suc key [] place u is = absurd cc
 units_suc key (x ∷ us) zero u is =
     let same = same_Some x u is in
@@ -75,36 +75,36 @@ units_suc key (x ∷ us) zero u is =
       subst (λ (k : ℕ). block_names k (x ∷ us) ≡ (if is_hole u then [] else run_names k u.start u.width) ++ block_names
           (key + 4096 * (x.width + 0)) us) none
           (subst (λ (k : ℕ). block_names key (x ∷ us)
-              ≡ (if is_hole u then [] else run_names key u.start u.width) ++ block_names k us) on
+          ≡ (if is_hole u then [] else run_names key u.start u.width) ++ block_names k us) on
           (ap (λ (y : ExtentUnit). (if is_hole y then [] else run_names key y.start y.width) ++ block_names
-              (key + 4096 * x.width) us) same)),
+          (key + 4096 * x.width) us) same)),
     )
 units_suc key (x ∷ us) (suc place) u is =
     let (count, names) = units_suc (key + 4096 * x.width) us place u is in
     let a : key + 4096 * x.width + 4096 * blocks_in (take place us)
-        ≡ key + 4096 * (x.width + blocks_in (take place us)) = omega arith in
+    ≡ key + 4096 * (x.width + blocks_in (take place us)) = omega arith in
     let b : key + 4096 * x.width + 4096 * blocks_in (take (suc place) us)
-        ≡ key + 4096 * (x.width + blocks_in (take (suc place) us)) = omega arith in (
+    ≡ key + 4096 * (x.width + blocks_in (take (suc place) us)) = omega arith in (
       omega (arith, count),
       subst (λ (k : ℕ). block_names k (drop place us)
           ≡ (if is_hole u then [] else run_names k u.start u.width) ++ block_names
           (key + 4096 * (x.width + blocks_in (take (suc place) us))) (drop (suc place) us)) a
           (subst (λ (k : ℕ). block_names (key + 4096 * x.width + 4096 * blocks_in (take place us)) (drop place us)
-              ≡ (if is_hole u then [] else run_names (key + 4096 * x.width + 4096 * blocks_in (take place us)) u.start
-              u.width) ++ block_names k (drop (suc place) us)) b names),
+          ≡ (if is_hole u then [] else run_names (key + 4096 * x.width + 4096 * blocks_in (take place us)) u.start
+          u.width) ++ block_names k (drop (suc place) us)) b names),
     )
 
 pub units_next : (key : ℕ) (us : List ExtentUnit) (place : ℕ) (u : ExtentUnit) → slice_get us place ≡ Some u
     → (blocks_in (take (place + 1) us) ≡ blocks_in (take place us) + u.width)
     × (block_names (key + 4096 * blocks_in (take place us)) (drop place us)
     ≡ (if is_hole u then [] else run_names (key + 4096 * blocks_in (take place us)) u.start u.width) ++ block_names
-        (key + 4096 * blocks_in (take (place + 1) us)) (drop (place + 1) us))
+    (key + 4096 * blocks_in (take (place + 1) us)) (drop (place + 1) us))
 units_next key us place u is =
     let e : suc place ≡ place + 1 = omega arith in
     subst (λ (k : ℕ). (blocks_in (take k us) ≡ blocks_in (take place us) + u.width) ×
-        (block_names (key + 4096 * blocks_in (take place us)) (drop place us)
-        ≡ (if is_hole u then [] else run_names (key + 4096 * blocks_in (take place us)) u.start u.width) ++ block_names
-        (key + 4096 * blocks_in (take k us)) (drop k us))) e
+    (block_names (key + 4096 * blocks_in (take place us)) (drop place us)
+    ≡ (if is_hole u then [] else run_names (key + 4096 * blocks_in (take place us)) u.start u.width) ++ block_names
+    (key + 4096 * blocks_in (take k us)) (drop k us))) e
     (units_suc key us place u is)
 
 pub no_units_left : (key place : ℕ) (us : List ExtentUnit) → length us ≤ place

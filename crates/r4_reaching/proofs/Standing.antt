@@ -62,7 +62,7 @@ module _ (t : Store Value) (root : Root) (known : Intervals) (s : Pairs) (h : Is
       back : IsFoundAt t k (find nat_cmp k s) → UnitAt t k v → find nat_cmp k s ≡ Some v
       back f (i, c, is, has) =
           let same : i ≡ f.id = one_holder t root h.part k i f.id c f.cell is f.is
-              (unit_held c k v (h.part.nodes i c is) has) f.holds in
+          (unit_held c k v (h.part.nodes i c is) has) f.holds in
           let cell : c ≡ f.cell = one_cell t f.id c f.cell (subst (λ (j : ℕ). t j ≡ Some c) same is) f.is in
           (f.has v).1 (subst (λ (d : Node Value). Contains d.units (k, v)) cell has)
 
@@ -92,7 +92,7 @@ module _ (t : Store Value) (root : Root) (known : Intervals) (s : Pairs) (h : Is
           | yes one ↦ (f.id, f.cell, f.is, inl (omega (arith, le, one), at))
           | no zero_level ↦
               (let (j, e, n, r, te, en, is, z, at_n, er, at_r) = block_twig t root h.part f.id f.cell k f.is
-                  (omega (arith, lt_of_not-le zero_level)) at in
+              (omega (arith, lt_of_not-le zero_level)) at in
               (j, e, te, inr (r, er, at_r)))
         ]
 
@@ -109,7 +109,7 @@ module _ (t : Store Value) (root : Root) (known : Intervals) (s : Pairs) (h : Is
     block_there i c n k tc named z at (inr (j, e, te, level, in_e)) =
         let (r, cr, from, to) = (h.part.nodes i c tc).data_in_span n named z in
         absurd (leaf_or_extent t root h.part j i e c r k te tc level cr in_e
-            (omega (arith, from, at), omega (arith, to, at)))
+        (omega (arith, from, at), omega (arith, to, at)))
     block_there i c n k tc named z at (inl is) = by (h.found.found k is)
       where
         by : IsFoundAt t k (find nat_cmp k s) → (b : Node Value) × (t n.id ≡ Some b)
@@ -120,17 +120,17 @@ module _ (t : Store Value) (root : Root) (known : Intervals) (s : Pairs) (h : Is
               | yes one ↦
                   (let (r, cr, from, to) = (h.part.nodes i c tc).data_in_span n named z in
                   absurd (leaf_or_extent t root h.part f.id i f.cell c r k f.is tc (omega (arith, le, one)) cr in_f
-                      (omega (arith, from, at), omega (arith, to, at))))
+                  (omega (arith, from, at), omega (arith, to, at))))
               | no zero_level ↦
                   (let (j, e, m, r, te, em, id, zm, at_m, er, at_r) = block_twig t root h.part f.id f.cell k f.is
-                      (omega (arith, lt_of_not-le zero_level)) in_f in
+                  (omega (arith, lt_of_not-le zero_level)) in_f in
                   let same : n ≡ m = one_name t root h.part k i j c e n m tc te named z at em zm at_m in
                   (f.cell, subst (λ (a : ℕ). t a ≡ Some f.cell) (sym (ap (λ (x : Name). x.id) same ∙ id)) f.is))
             ]
             holding (inr (r, has, in_r, none)) =
                 let (q, cq, from, to) = (h.part.nodes i c tc).data_in_span n named z in
                 let same : f.id ≡ i = one_span t root h.part k f.id i f.cell c r q f.is tc has in_r cq
-                    (omega (arith, from, at), omega (arith, to, at)) in
+                (omega (arith, from, at), omega (arith, to, at)) in
                 let cell : f.cell ≡ c = one_cell t i f.cell c (subst (λ (a : ℕ). t a ≡ Some f.cell) same f.is) tc in
                 absurd (none n (subst (λ (x : Node Value). Contains x.names n) (sym cell) named) z at)
 

@@ -44,7 +44,7 @@ adds_both a b c rs ss all is first next k low high =
     ∙ (ap (λ (t : Bool). t || is_in ss k) (first k low high)
     ∙ (or_assoc (is_in (map interval_of a) k) (is_in rs k) (is_in ss k)
     ∙ ap (λ (t : Bool). is_in (map interval_of a) k || t)
-        (sym (ap (λ (qs : Intervals). is_in qs k) is ∙ in_append rs ss k))))
+    (sym (ap (λ (qs : Intervals). is_in qs k) is ∙ in_append rs ss k))))
 
 -- the keys of pairs, one list behind another
 pub keys_both : (ps qs all : Pairs) → all ≡ ps ++ qs → put_keys all ≡ put_keys ps ++ put_keys qs
@@ -61,7 +61,7 @@ fill_keys f k =
     or_false (is_between (rank f.from) (rank f.to) k)
     ∙ (to_end (rank f.from) (rank f.to) k
     ∙ (ap (λ (n : ℕ). is_between (rank f.from) (rank f.from + n) k)
-        (sym (length-replicate (rank f.to - rank f.from) f.byte))
+    (sym (length-replicate (rank f.to - rank f.from) f.byte))
     ∙ sym (keys_in (rank f.from) (replicate (rank f.to - rank f.from) f.byte) k)))
   where
     or_false : (b : Bool) → (b || false) ≡ b
@@ -92,10 +92,10 @@ module _ (e : HeldEdits) where
   in_order =
       ap (λ (qs : Intervals). qs ++ (zs ++ cs))
       (keys_both (flat_map fill_pairs e.fills.items) (flat_map run_pairs e.runs.items ++ map pair_of e.puts.items)
-          (edits_of e).puts refl
+      (edits_of e).puts refl
       ∙ (ap (λ (qs : Intervals). fs ++ qs)
-          (keys_both (flat_map run_pairs e.runs.items) (map pair_of e.puts.items)
-          (flat_map run_pairs e.runs.items ++ map pair_of e.puts.items) refl)
+      (keys_both (flat_map run_pairs e.runs.items) (map pair_of e.puts.items)
+      (flat_map run_pairs e.runs.items ++ map pair_of e.puts.items) refl)
       ∙ sym (append_assoc fs rs vs)))
       ∙ sym (append_assoc ((fs ++ rs) ++ vs) zs cs)
 

@@ -76,9 +76,14 @@ touches_both root keys old mid new a b = record {
 
 pub stops_wider : (keys more : ℕ → Bool) (old mid new : PoolState) (e : FetchFault)
     → ((k : ℕ) → keys k ≡ true → more k ≡ true) → Goes old mid → StopsFor keys mid e new → StopsFor more old e new
-stops_wider keys more old mid new e all g s = record
-    { key = s.key; is = all s.key s.is; mid = s.mid; before = goes_both old mid s.mid g s.before; stops = s.stops;
-    after = s.after }
+stops_wider keys more old mid new e all g s = record {
+  key = s.key;
+  is = all s.key s.is;
+  mid = s.mid;
+  before = goes_both old mid s.mid g s.before;
+  stops = s.stops;
+  after = s.after;
+}
 
 pub in_leaf_still : (old new : PoolState) (k : ℕ) → Goes old new → IsInLeaf old k → IsInLeaf new k
 in_leaf_still old new k g h = record
@@ -117,9 +122,14 @@ ends_of p key c (Some end) keeps (level, is) none w =
     let hi = ap rank is in
     let below = w.below in (
       omega (arith, below, hi),
-      (λ k low high. record
-          { leaf = c; met = w.met (keeps c.level); level = level; from =
-          (let from = w.from in omega (arith, from, low)); below = omega (arith, high, hi) }),
+      (λ k low high. record {
+        leaf = c;
+        met = w.met (keeps c.level);
+        level = level;
+        from =
+            (let from = w.from in omega (arith, from, low));
+        below = omega (arith, high, hi);
+      }),
     )
 ends_of p key c None keeps some other w = elim w.ends [
   | inl leaf ↦ absurd (other leaf)
@@ -135,8 +145,8 @@ pub first_all : (first : Interval) (rest keys : List Interval) (from to : ℕ) �
     → is_in (map interval_of keys) k ≡ true
 first_all first rest keys from to are low high k is =
     ap (λ (xs : List Interval). is_in (map interval_of xs) k) are
-        ∙ ap (λ (b : Bool). b || is_in (map interval_of rest) k)
-        (wider from to (rank first.from) (rank first.to) low high is)
+    ∙ ap (λ (b : Bool). b || is_in (map interval_of rest) k)
+    (wider from to (rank first.from) (rank first.to) low high is)
   where
     wider : (a b c d : ℕ) → c ≤ a → b ≤ d → is_between a b k ≡ true → is_between c d k ≡ true
     wider a b c d l h at = grind (arith, nat_tests, l, h, at)
@@ -153,10 +163,10 @@ rest_all first rest keys are k is = ap (λ (xs : List Interval). is_in (map inte
 pub in_first_or_rest : (first : Interval) (rest keys : List Interval) (from to : ℕ) → keys ≡ first ∷ rest
     → (from ≡ rank first.from) ⊎ (from ≡ least) → (to ≡ rank first.to) ⊎ (to ≡ top)
     → (k : ℕ) → is_in (map interval_of keys) k ≡ true → least ≤ k → k < top
-        → (is_between from to k ≡ true) ⊎ (is_in (map interval_of rest) k ≡ true)
+    → (is_between from to k ≡ true) ⊎ (is_in (map interval_of rest) k ≡ true)
 in_first_or_rest first rest keys from to are low high k is up down =
     by (is_between (rank first.from) (rank first.to) k) refl
-        (sym (ap (λ (xs : List Interval). is_in (map interval_of xs) k) are) ∙ is)
+    (sym (ap (λ (xs : List Interval). is_in (map interval_of xs) k) are) ∙ is)
   where
     begins : is_between (rank first.from) (rank first.to) k ≡ true → (from ≡ rank first.from) ⊎ (from ≡ least)
         → from ≤ k
@@ -182,7 +192,7 @@ held_first p keys more false no_leaf all (k, is, at) = (k, all k is, at)
 
 pub held_rest : (mid new : PoolState) (first rest keys : ℕ → Bool) (a b : Bool) → a ≡ true → Goes mid new
     → ((k : ℕ) → keys k ≡ true → least ≤ k → k < top → (first k ≡ true) ⊎ (rest k ≡ true))
-        → ((k : ℕ) → rest k ≡ true → keys k ≡ true)
+    → ((k : ℕ) → rest k ≡ true → keys k ≡ true)
     → AreHeld mid first a → AreHeld new rest b → AreHeld new keys b
 held_rest mid new first rest keys false b is g either all h1 h2 = absurd cc
 held_rest mid new first rest keys true true is g either all h1 h2 = λ k at low high. elim (either k at low high) [

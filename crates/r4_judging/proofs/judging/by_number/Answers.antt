@@ -9,8 +9,8 @@ use Rattle.r4_judging.proofs.judging.by_number.Goals as goal
 pub returns-clause-same : goal.returns-clause-same
 returns-clause-same c =
     subst (λ ys. IsPermutation ys (map (λ x. arc_value x) c.sort_unstable_by_key.new.self.items))
-        (c.loop-cell.invariant
-        ∙ ap (map (λ x. arc_value x)) (take_all c.loop-cell.cell-index c.args.met.now c.loop-cell-test.false))
+    (c.loop-cell.invariant
+    ∙ ap (map (λ x. arc_value x)) (take_all c.loop-cell.cell-index c.args.met.now c.loop-cell-test.false))
     (IsPermutation-map (λ x. arc_value x) c.loop-cell.cells.items c.sort_unstable_by_key.new.self.items
     c.sort_unstable_by_key.ensures.permutation)
 

@@ -8,4 +8,4 @@ pub returns-in-None : goal.returns-in-None
 returns-in-None c =
     let met = map (λ x. arc_value x) c.args.met.now in
     is_part c.args.root.now met c.requires c.in_ok-misnamed.ensures.sound
-        (subst (IsJudged (all_names met) met) c.in-None.is c.in_ok-misnamed.ensures.judged)
+    (subst (IsJudged (all_names met) met) c.in-None.is c.in_ok-misnamed.ensures.judged)

@@ -23,15 +23,15 @@ loop-cell-preserved c =
     let cell = c.deref.result.now in
     let i = c.loop-cell.cell-index in
     let more = taken_more i ms cell
-        (at_place (λ x. arc_value x) c.args.met.now i c.cell-item.result cell c.loop-cell-test.true
-        (c.deref.ensures ∙ ap (λ x. arc_value x) c.cell-item.is)) in
+    (at_place (λ x. arc_value x) c.args.met.now i c.cell-item.result cell c.loop-cell-test.true
+    (c.deref.ensures ∙ ap (λ x. arc_value x) c.cell-item.is)) in
     let here = subst (λ xs. IsJudged (node_of cell).names (map (λ x. arc_value x) xs) c.misfit_of.result)
-        c.deref-in-loop-cell.ensures.value c.misfit_of.ensures.judged in (
+    c.deref-in-loop-cell.ensures.value c.misfit_of.ensures.judged in (
       subst (λ (xs : List CellSeen). IsJudged (all_names xs) cells c.first_of-found.result) (sym more)
           (subst (λ (ns : List Name). IsJudged ns cells c.first_of-found.result) (sym (names_more (take i ms) cell))
           (subst (IsJudged (all_names (take i ms) ++ (node_of cell).names) cells) (sym c.first_of-found.ensures)
           (judged_names (all_names (take i ms)) (node_of cell).names cells c.loop-cell.found c.misfit_of.result
-              c.loop-cell.invariant.0 here))),
+          c.loop-cell.invariant.0 here))),
       subst (All IsSound) (sym more)
           (All-append IsSound (take i ms) (cell ∷ []) c.loop-cell.invariant.1
           (All-cons IsSound cell [] c.misfit_of.ensures.sound (All-nil IsSound))),

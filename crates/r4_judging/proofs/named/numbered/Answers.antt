@@ -13,11 +13,11 @@ returns c =
     let rest : c.split_at.result.1.now ≡ drop a xs = c.split_at.ensures.back in
     let order = order_hidden (λ x. arc_value x) xs c.requires in
     let low = ends_before (λ x. arc_value x) c.args.from xs a order c.partition_point.ensures.partitioned
-        (λ r s f' k. search rules) in
+    (λ r s f' k. search rules) in
     let high = subst (λ zs. EndsBefore (λ x. arc_value x) (c.args.from + c.args.count) zs b) rest
     (ends_before (λ x. arc_value x) (c.args.from + c.args.count) c.split_at.result.1.now b
     (subst (λ zs. IsNonDecreasingBy (λ x. number (arc_value x)) zs) (sym rest)
-        (rest_in_order (λ x. number (arc_value x)) a xs order))
+    (rest_in_order (λ x. number (arc_value x)) a xs order))
     c.partition_point-2.ensures.partitioned (λ r s f' k. search rules)) in
     let short = subst (λ zs. b ≤ length zs) rest c.partition_point-2.ensures.bound in
     let same : c.split_at-2.result.0.now ≡ take b (drop a xs) = c.split_at-2.ensures.front ∙ ap (take b) rest in

@@ -22,7 +22,7 @@ use Rattle.r4_judging.proofs.nodes.misfit_at.Goals as goal
 pub misfit_of_extent-requires-clause-few : goal.misfit_of_extent-requires-clause-few
 misfit_of_extent-requires-clause-few c =
     let is = subst (λ (items : List Item). slice_get items c.args.place ≡ Some (item_shown c.item-item.result))
-        c.requires.items c.item-item.ensures.shown in
+    c.requires.items c.item-item.ensures.shown in
     let short = body_short c.args.cell.now.block c.args.place _ is in
     let whole = c.requires.whole in
     omega (arith, short, whole)
@@ -31,28 +31,28 @@ pub misfit_of_extent-requires-clause-good : goal.misfit_of_extent-requires-claus
 misfit_of_extent-requires-clause-good c =
     let cell = c.args.cell.now in
     let is = subst (λ (items : List Item). slice_get items c.args.place ≡ Some (item_shown c.item-item.result))
-        c.requires.items c.item-item.ensures.shown in
+    c.requires.items c.item-item.ensures.shown in
     let two = c.requires.branch in
     extent_good (item_shown c.item-item.result) c.if-item-eq-EXTENT.true
-        (body_of cell c.args.place _ (omega (arith, two)) c.requires.stands is)
+    (body_of cell c.args.place _ (omega (arith, two)) c.requires.stands is)
 
 pub misfit_of_extent-requires-clause-fits : goal.misfit_of_extent-requires-clause-fits
 misfit_of_extent-requires-clause-fits c =
     let is = subst (λ (items : List Item). slice_get items c.args.place ≡ Some (item_shown c.item-item.result))
-        c.requires.items c.item-item.ensures.shown in
+    c.requires.items c.item-item.ensures.shown in
     offsets_in c.args.cell.now c.requires.whole c.requires.branch c.requires.stands c.args.place
-        (item_shown c.item-item.result) is c.if-item-eq-EXTENT.true
+    (item_shown c.item-item.result) is c.if-item-eq-EXTENT.true
 
 pub misfit_of_extent-requires-clause-below : goal.misfit_of_extent-requires-clause-below
 misfit_of_extent-requires-clause-below c =
     let cell = c.args.cell.now in
     let is = subst (λ (items : List Item). slice_get items c.args.place ≡ Some (item_shown c.item-item.result))
-        c.requires.items c.item-item.ensures.shown in
+    c.requires.items c.item-item.ensures.shown in
     let end = ends_below cell c.requires.whole c.requires.branch c.requires.stands c.args.place
-        (item_shown c.item-item.result) is c.if-item-eq-EXTENT.true in
+    (item_shown c.item-item.result) is c.if-item-eq-EXTENT.true in
     let up : rank cell.hi ≤ top = subst (λ (k : Key). rank k ≤ top) c.requires.hi
-        (up_to_top c.args.hi
-        (is_key c.args.hi (search rules) (search rules) (search rules) (search rules) (search rules))) in
+    (up_to_top c.args.hi
+    (is_key c.args.hi (search rules) (search rules) (search rules) (search rules) (search rules))) in
     omega (arith, end, up)
 
 pub returns-then-item-eq-EXTENT : goal.returns-then-item-eq-EXTENT
@@ -60,10 +60,10 @@ returns-then-item-eq-EXTENT c it at =
     let cell = c.args.cell.now in
     let cells = map (λ x. arc_value x) c.args.cells.now in
     let is = subst (λ (items : List Item). slice_get items c.args.place ≡ Some (item_shown c.item-item.result))
-        c.requires.items c.item-item.ensures.shown in
+    c.requires.items c.item-item.ensures.shown in
     let same : item_shown c.item-item.result ≡ it = same_Some (item_shown c.item-item.result) it (sym is ∙ at) in
     let names = extent_names cell.level (next_key (rank cell.hi) (drop (c.args.place + 1) (items_of cell.block)))
-        (item_shown c.item-item.result) c.if-item-eq-EXTENT.true in
+    (item_shown c.item-item.result) c.if-item-eq-EXTENT.true in
     subst (λ (x : Item). IsJudged (names_at cell c.args.place x) cells c.misfit_of_extent.result) same
     (subst (λ (ns : List Name). IsJudged ns cells c.misfit_of_extent.result) (sym names) c.misfit_of_extent.ensures)
 
@@ -72,16 +72,16 @@ returns-in_err-child_at c it at =
     let cell = c.args.cell.now in
     let cells = map (λ x. arc_value x) c.args.cells.now in
     let is = subst (λ (items : List Item). slice_get items c.args.place ≡ Some (item_shown c.item-item.result))
-        c.requires.items c.item-item.ensures.shown in
+    c.requires.items c.item-item.ensures.shown in
     let same : item_shown c.item-item.result ≡ it = same_Some (item_shown c.item-item.result) it (sym is ∙ at) in
     let next = next_key (rank cell.hi) (drop (c.args.place + 1) (items_of cell.block)) in
     subst (IsJudged (names_at cell c.args.place it) cells) (sym c.from_residual.ensures)
     (λ d f m. names_nothing cell.level next it c.requires.branch
-        (λ five. c.if-item-eq-EXTENT.false (ap (λ (x : Item). x.plugin) same ∙ five))
+    (λ five. c.if-item-eq-EXTENT.false (ap (λ (x : Item). x.plugin) same ∙ five))
     (λ n h. c.in_err-child_at.ensures.none it at n h) m.name m.named)
 
 pub returns : goal.returns
 returns c it at =
     let cells = map (λ x. arc_value x) c.args.cells.now in
     subst (λ (ns : List Name). IsJudged ns cells c.misfit.result) (sym (c.in_ok-child_at.ensures.child.names it at))
-        c.misfit.ensures
+    c.misfit.ensures

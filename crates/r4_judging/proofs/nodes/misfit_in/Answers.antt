@@ -27,11 +27,11 @@ loop-i-preserved c =
     let (it, is) = item_in items i (omega (arith, within, count, same)) in
     let all = names_in cell.level (rank cell.hi) items in
     let more = more_judged all (item_names cell.level (next_key (rank cell.hi) (drop (i + 1) items)) it)
-        (names_in cell.level (rank cell.hi) (drop i items)) (names_in cell.level (rank cell.hi) (drop (i + 1) items))
-        cells c.loop-i.found c.misfit_at.result
+    (names_in cell.level (rank cell.hi) (drop i items)) (names_in cell.level (rank cell.hi) (drop (i + 1) items))
+    cells c.loop-i.found c.misfit_at.result
     (names_next cell.level (rank cell.hi) items i it is) c.loop-i.invariant (c.misfit_at.ensures it is) in
     subst (AreJudged all (names_in cell.level (rank cell.hi) (drop (i + 1) items)) cells)
-        (sym c.first_of-found.ensures) more
+    (sym c.first_of-found.ensures) more
 
 pub returns : goal.returns
 returns c =
@@ -43,7 +43,7 @@ returns c =
     let same = ap length c.requires.items in
     let two = c.requires.branch in
     subst (λ (ns : List Name). IsJudged ns cells c.loop-i.found)
-        (sym (names_of cell.level (rank cell.lo) (rank cell.hi) cell.block (omega (arith, two))))
+    (sym (names_of cell.level (rank cell.lo) (rank cell.hi) cell.block (omega (arith, two))))
     (all_judged (names_in cell.level (rank cell.hi) items) (names_in cell.level (rank cell.hi) (drop c.loop-i.i items))
-        cells c.loop-i.found
+    cells c.loop-i.found
     (no_items_left cell.level (rank cell.hi) c.loop-i.i items (omega (arith, past, count, same))) c.loop-i.invariant)

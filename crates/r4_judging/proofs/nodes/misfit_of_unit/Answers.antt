@@ -12,4 +12,4 @@ pub returns : goal.returns
 returns c =
     let some : is_hole c.args.unit ≡ false = ne_eqb c.args.unit.start 0 c.if-unit-eq0.false in
     subst (λ (b : Bool). IsJudged (if b then [] else run_names (rank c.args.lo) c.args.unit.start c.args.unit.width)
-        (map (λ x. arc_value x) c.args.cells.now) c.misfit.result) (sym some) c.misfit.ensures
+    (map (λ x. arc_value x) c.args.cells.now) c.misfit.result) (sym some) c.misfit.ensures

@@ -17,8 +17,8 @@ returns-in_ok-push-in-Some t c =
     let r : Interval = record { from = f.from; to = f.to } in
     on_ok_weaker c.add_fills.result
     (adds_both c.args.keys.now.items c.push.new.self.items c.add_fills.new.keys.items (put_keys (fill_pairs f))
-        (put_keys (flat_map fill_pairs c.in-Some.rest.now)) (put_keys (flat_map fill_pairs c.args.fills.now))
+    (put_keys (flat_map fill_pairs c.in-Some.rest.now)) (put_keys (flat_map fill_pairs c.args.fills.now))
     (keys_both (fill_pairs f) (flat_map fill_pairs c.in-Some.rest.now) (flat_map fill_pairs c.args.fills.now)
-        (ap (flat_map fill_pairs) c.in-Some.ensures.cases.0))
+    (ap (flat_map fill_pairs) c.in-Some.ensures.cases.0))
     (adds_one c.args.keys.now.items c.push.new.self.items r (put_keys (fill_pairs f)) c.in_ok-push-in-Some.ensures.items
-        (λ k low high. fill_keys f k))) c.add_fills.ensures
+    (λ k low high. fill_keys f k))) c.add_fills.ensures

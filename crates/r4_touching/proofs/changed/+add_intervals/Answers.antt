@@ -12,8 +12,8 @@ pub returns-in_ok-push-in-Some : goal.returns-in_ok-push-in-Some
 returns-in_ok-push-in-Some t c =
     on_ok_weaker c.add_intervals.result
     (adds_both c.args.keys.now.items c.push.new.self.items c.add_intervals.new.keys.items
-        (interval_of c.in-Some.first.now ∷ []) (map interval_of c.in-Some.rest.now) (map interval_of c.args.more.now)
+    (interval_of c.in-Some.first.now ∷ []) (map interval_of c.in-Some.rest.now) (map interval_of c.args.more.now)
     (ap (map interval_of) c.in-Some.ensures.cases.0)
     (adds_one c.args.keys.now.items c.push.new.self.items c.in-Some.first.now
-        (interval_of c.in-Some.first.now ∷ []) c.in_ok-push-in-Some.ensures.items (λ k low high. refl)))
-        c.add_intervals.ensures
+    (interval_of c.in-Some.first.now ∷ []) c.in_ok-push-in-Some.ensures.items (λ k low high. refl)))
+    c.add_intervals.ensures

@@ -19,7 +19,7 @@ pub keys_of_bytes-requires : goal.keys_of_bytes-requires
 keys_of_bytes-requires t c =
     let all = subst (All (IsBefore 16384)) (ap (flat_map run_pairs) c.in-Some.ensures.cases.0) c.requires in
     subst (λ bytes. All (IsBefore 16384) (byte_pairs (rank c.in-Some.first.now.from) bytes)) (sym c.as_slice.ensures)
-        (all_left (IsBefore 16384) (run_pairs c.in-Some.first.now) (flat_map run_pairs c.in-Some.rest.now) all)
+    (all_left (IsBefore 16384) (run_pairs c.in-Some.first.now) (flat_map run_pairs c.in-Some.rest.now) all)
 
 pub add_runs-requires : goal.add_runs-requires
 add_runs-requires t c = (
@@ -33,10 +33,10 @@ returns-in_ok-push-in-Some t c =
     let f = c.in-Some.first.now in
     on_ok_weaker c.add_runs.result
     (adds_both c.args.keys.now.items c.push.new.self.items c.add_runs.new.keys.items (put_keys (run_pairs f))
-        (put_keys (flat_map run_pairs c.in-Some.rest.now)) (put_keys (flat_map run_pairs c.args.runs.now))
+    (put_keys (flat_map run_pairs c.in-Some.rest.now)) (put_keys (flat_map run_pairs c.args.runs.now))
     (keys_both (run_pairs f) (flat_map run_pairs c.in-Some.rest.now) (flat_map run_pairs c.args.runs.now)
-        (ap (flat_map run_pairs) c.in-Some.ensures.cases.0))
+    (ap (flat_map run_pairs) c.in-Some.ensures.cases.0))
     (adds_one c.args.keys.now.items c.push.new.self.items c.keys_of_bytes.result
-        (put_keys (run_pairs f)) c.in_ok-push-in-Some.ensures.items
+    (put_keys (run_pairs f)) c.in_ok-push-in-Some.ensures.items
     (λ k low high. c.keys_of_bytes.ensures k
-        ∙ ap (λ bytes. is_in (put_keys (byte_pairs (rank f.from) bytes)) k) c.as_slice.ensures))) c.add_runs.ensures
+    ∙ ap (λ bytes. is_in (put_keys (byte_pairs (rank f.from) bytes)) k) c.as_slice.ensures))) c.add_runs.ensures

@@ -14,9 +14,9 @@ pub returns-in_ok-push-in-Some : goal.returns-in_ok-push-in-Some
 returns-in_ok-push-in-Some t c =
     on_ok_weaker c.add_values.result
     (adds_both c.args.keys.now.items c.push.new.self.items c.add_values.new.keys.items
-        ((rank c.in-Some.field-0-0.now.0, rank c.in-Some.field-0-0.now.0 + 1) ∷ [])
-        (put_keys (map pair_of c.in-Some.rest.now)) (put_keys (map pair_of c.args.values.now))
+    ((rank c.in-Some.field-0-0.now.0, rank c.in-Some.field-0-0.now.0 + 1) ∷ [])
+    (put_keys (map pair_of c.in-Some.rest.now)) (put_keys (map pair_of c.args.values.now))
     (ap (λ vs. put_keys (map pair_of vs)) c.in-Some.ensures.cases.0)
     (adds_one c.args.keys.now.items c.push.new.self.items c.one_key.result
-        ((rank c.in-Some.field-0-0.now.0, rank c.in-Some.field-0-0.now.0 + 1) ∷ []) c.in_ok-push-in-Some.ensures.items
-        c.one_key.ensures)) c.add_values.ensures
+    ((rank c.in-Some.field-0-0.now.0, rank c.in-Some.field-0-0.now.0 + 1) ∷ []) c.in_ok-push-in-Some.ensures.items
+    c.one_key.ensures)) c.add_values.ensures

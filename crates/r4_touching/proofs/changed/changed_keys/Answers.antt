@@ -29,9 +29,9 @@ returns c =
     all_added e a b d f c.add_intervals-2.new.keys.items
     (subst (λ zs. AddsKeys zs (put_keys (flat_map fill_pairs e.fills.items)) a) c.new-keys.ensures.items
     (subst (λ xs. AddsKeys c.new-keys.result.items (put_keys (flat_map fill_pairs xs)) a) c.as_slice.ensures.value
-        c.in_ok-add_fills.ensures))
+    c.in_ok-add_fills.ensures))
     (subst (λ xs. AddsKeys a (put_keys (flat_map run_pairs xs)) b) c.as_slice-2.ensures.value c.in_ok-add_runs.ensures)
     (subst (λ xs. AddsKeys b (put_keys (map pair_of xs)) d) c.as_slice-3.ensures.value c.in_ok-add_values.ensures)
     (subst (λ xs. AddsKeys d (map interval_of xs) f) c.as_slice-4.ensures.value c.in_ok-add_intervals.ensures)
     (subst (λ xs. AddsKeys f (map interval_of xs) c.add_intervals-2.new.keys.items) c.as_slice-5.ensures.value
-        c.in_ok-add_intervals-2.ensures)
+    c.in_ok-add_intervals-2.ensures)

@@ -20,12 +20,12 @@ pub behind-requires : goal.behind-requires
 behind-requires c =
     let is = is_key c.args.from (search rules) (search rules) (search rules) (search rules) (search rules) in
     let short = run_short 0 0 c.args.from is c.args.bytes.now
-        (some_of (length c.args.bytes.now) (sym c.if-is_empty.ensures)) c.requires in
+    (some_of (length c.args.bytes.now) (sym c.if-is_empty.ensures)) c.requires in
     omega (arith, short)
 
 pub returns : goal.returns
 returns c k =
     let end : rank c.behind.result ≡ rank c.args.from + length c.args.bytes.now = ap rank c.behind.ensures
-        ∙ later_rank c.args.from (length c.args.bytes.now) in
+    ∙ later_rank c.args.from (length c.args.bytes.now) in
     or_false (is_between (rank c.args.from) (rank c.behind.result) k)
-        ∙ (ap (λ n. is_between (rank c.args.from) n k) end ∙ sym (keys_in (rank c.args.from) c.args.bytes.now k))
+    ∙ (ap (λ n. is_between (rank c.args.from) n k) end ∙ sym (keys_in (rank c.args.from) c.args.bytes.now k))

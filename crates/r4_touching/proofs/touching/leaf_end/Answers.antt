@@ -18,11 +18,11 @@ returns-in_err-path-clause-touches g c = touches_one c.args.root.now (rank c.arg
 pub returns-in_err-path-clause-err : goal.returns-in_err-path-clause-err
 returns-in_err-path-clause-err g c =
     handed (λ e. StopsFor (is_between (rank c.args.key) (rank c.args.key + 1)) (g.P.Pool.state c.args.pool.now) e
-        (g.P.Pool.state c.cover.new.pool)) c.from_residual.result c.in_err-path.field-0.0 c.from_residual.ensures.1
+    (g.P.Pool.state c.cover.new.pool)) c.from_residual.result c.in_err-path.field-0.0 c.from_residual.ensures.1
     (stops_one (rank c.args.key) (g.P.Pool.state c.args.pool.now)
-        (g.P.Pool.state c.cover.new.pool) c.in_err-path.field-0.0 c.in_err-path.ensures.goes
+    (g.P.Pool.state c.cover.new.pool) c.in_err-path.field-0.0 c.in_err-path.ensures.goes
     (way_stops c.args.root.now (rank c.args.key) _ c.in_err-path.field-0.0 _ c.requires.from c.requires.below
-        c.in_err-path.ensures.err))
+    c.in_err-path.ensures.err))
 
 pub returns-clause-touches : goal.returns-clause-touches
 returns-clause-touches g c = touches_one c.args.root.now (rank c.args.key) (g.P.Pool.state c.args.pool.now)
@@ -33,10 +33,10 @@ pub returns-clause-end : goal.returns-clause-end
 returns-clause-end g c =
     let new = g.P.Pool.state c.cover.new.pool in
     let pushed = map_push (λ cell. arc_value cell) c.pop.new.self.items c.in_ok-path.path.items c.in-Some.cell
-        c.in-Some.ensures.items in
+    c.in-Some.ensures.items in
     let end = ways_end c.args.root.now (rank c.args.key) new _ _ _ pushed c.requires.some c.requires.from
-        c.requires.below c.in_ok-path.ensures.path c.in_ok-path.ensures.knows c.in_ok-path.ensures.met in
+    c.requires.below c.in_ok-path.ensures.path c.in_ok-path.ensures.knows c.in_ok-path.ensures.met in
     ends_of new (rank c.args.key) c.deref.result.now c.end_of.result
-        (λ level. c.in_ok-path.ensures.goes.keeps level ∙ c.requires.keeps level) c.end_of.ensures.leaf
-        c.end_of.ensures.other
+    (λ level. c.in_ok-path.ensures.goes.keeps level ∙ c.requires.keeps level) c.end_of.ensures.leaf
+    c.end_of.ensures.other
     (subst (λ (x : CellSeen). IsWaysEnd new (rank c.args.key) x) (sym c.deref.ensures) end)

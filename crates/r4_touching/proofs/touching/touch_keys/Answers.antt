@@ -33,7 +33,7 @@ loop-alloc-preserved g c =
     let end = subst (λ o. EndsLeaf new at (option_map (λ k. rank k) o)) c.in-Some.is c.in_ok-end.ensures.end in
     let on = end.0 in
     let here = touches_wider c.args.root.now (is_between at (at + 1)) (is_between from to) mid new
-        (λ k is. within from to at k low high is) c.in_ok-end.ensures.touches in (
+    (λ k is. within from to at k low high is) c.in_ok-end.ensures.touches in (
       omega (arith, low, on),
       leaves_both (g.P.Pool.device c.args.pool.now) (g.P.Pool.device c.loop-alloc.pool)
           (g.P.Pool.device c.leaf_end.new.pool) c.loop-alloc.invariant.1 c.in_ok-end.ensures.device,
@@ -54,7 +54,7 @@ returns-in_err-end-clause-touches g c =
     let high : at < to = grind (arith, nat_tests, test) in
     touches_both c.args.root.now (is_between from to) old mid new c.loop-alloc.invariant.2
     (touches_wider c.args.root.now (is_between at (at + 1)) (is_between from to) mid new
-        (λ k is. within from to at k low high is) c.in_err-end.ensures.touches)
+    (λ k is. within from to at k low high is) c.in_err-end.ensures.touches)
 
 pub returns-in_err-end-clause-err : goal.returns-in_err-end-clause-err
 returns-in_err-end-clause-err g c =
@@ -68,9 +68,9 @@ returns-in_err-end-clause-err g c =
     let test = c.loop-alloc-test.ensures in
     let high : at < to = grind (arith, nat_tests, test) in
     handed (λ e. StopsFor (is_between from to) old e new) c.from_residual.result c.in_err-end.field-0.0
-        c.from_residual.ensures.1
+    c.from_residual.ensures.1
     (stops_wider (is_between at (at + 1)) (is_between from to) old mid new c.in_err-end.field-0.0
-        (λ k is. within from to at k low high is) c.loop-alloc.invariant.2.goes c.in_err-end.ensures.err)
+    (λ k is. within from to at k low high is) c.loop-alloc.invariant.2.goes c.in_err-end.ensures.err)
 
 pub returns-in-None-clause-touches : goal.returns-in-None-clause-touches
 returns-in-None-clause-touches g c =
@@ -85,4 +85,4 @@ returns-in-None-clause-touches g c =
     let high : at < to = grind (arith, nat_tests, test) in
     touches_both c.args.root.now (is_between from to) old mid new c.loop-alloc.invariant.2
     (touches_wider c.args.root.now (is_between at (at + 1)) (is_between from to) mid new
-        (λ k is. within from to at k low high is) c.in_ok-end.ensures.touches)
+    (λ k is. within from to at k low high is) c.in_ok-end.ensures.touches)

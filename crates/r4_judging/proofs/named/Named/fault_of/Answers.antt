@@ -23,7 +23,7 @@ key_after-requires-clause-below c =
     let keys = (subst FitKeys c.in-Blocks.is c.requires.keys).1 in
     let from = subst (λ (m : Named). number_from m ≤ c.args.cell.now.id) c.in-Blocks.is c.requires.from in
     let below = subst (λ (m : Named). c.args.cell.now.id < number_from m + number_count m) c.in-Blocks.is
-        c.requires.below in
+    c.requires.below in
     let lo = ap rank c.behind-lo.ensures ∙ later_rank c.in-Blocks.first _ in
     let id = c.id.ensures in
     omega (arith, keys, from, below, lo, id)
@@ -39,8 +39,8 @@ returns-in-Blocks c n at id =
     let a : rank c.behind-lo.result ≡ rank c.in-Blocks.first + 4096 * j = omega (arith, lo, id, cell, named) in
     let b : rank c.key_after.result ≡ rank c.in-Blocks.first + 4096 * j + 4096 = omega (arith, hi, a) in
     let same : (record
-        { id = c.in-Blocks.start + j; level = 0; lo = rank c.behind-lo.result; hi = rank c.key_after.result })
-        ≡ block_name (c.in-Blocks.start + j) (rank c.in-Blocks.first + 4096 * j) = λ i. record
-        { id = c.in-Blocks.start + j; level = 0; lo = a i; hi = b i } in
+    { id = c.in-Blocks.start + j; level = 0; lo = rank c.behind-lo.result; hi = rank c.key_after.result })
+    ≡ block_name (c.in-Blocks.start + j) (rank c.in-Blocks.first + 4096 * j) = λ i. record
+    { id = c.in-Blocks.start + j; level = 0; lo = a i; hi = b i } in
     c.fault_of_place-in-Blocks.ensures (c.in-Blocks.start + j) ∙ ap (λ (m : Name). place_fault m c.args.cell.now)
-        (same ∙ sym is)
+    (same ∙ sym is)

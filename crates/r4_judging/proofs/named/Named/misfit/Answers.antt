@@ -19,16 +19,16 @@ cell_near c = at_place (λ x. arc_value x) c.numbered-near.result.now c.loop-cel
 pub misfit_at-requires-clause-from : goal.misfit_at-requires-clause-from
 misfit_at-requires-clause-from c =
     let (among, from, below) = (c.numbered-near.ensures c.deref.result.now).0
-        (got (map (λ x. arc_value x) c.numbered-near.result.now) c.loop-cell.cell-index c.deref.result.now
-        (cell_near c)) in
+    (got (map (λ x. arc_value x) c.numbered-near.result.now) c.loop-cell.cell-index c.deref.result.now
+    (cell_near c)) in
     let first = c.from.ensures in
     omega (arith, from, first)
 
 pub misfit_at-requires-clause-below : goal.misfit_at-requires-clause-below
 misfit_at-requires-clause-below c =
     let (among, from, below) = (c.numbered-near.ensures c.deref.result.now).0
-        (got (map (λ x. arc_value x) c.numbered-near.result.now) c.loop-cell.cell-index c.deref.result.now
-        (cell_near c)) in
+    (got (map (λ x. arc_value x) c.numbered-near.result.now) c.loop-cell.cell-index c.deref.result.now
+    (cell_near c)) in
     let first = c.from.ensures in
     let many = c.count.ensures in
     omega (arith, below, first, many)
@@ -42,20 +42,20 @@ loop-cell-preserved c =
     let ns = names_meant c.args.self.now in
     let more = taken_more c.loop-cell.cell-index near c.deref.result.now
     (at_place (λ x. arc_value x) c.numbered-near.result.now c.loop-cell.cell-index c.cell-item.result c.deref.result.now
-        c.loop-cell-test.true (c.deref.ensures ∙ ap (λ x. arc_value x) c.cell-item.is)) in
+    c.loop-cell-test.true (c.deref.ensures ∙ ap (λ x. arc_value x) c.cell-item.is)) in
     subst (λ (xs : List CellSeen). IsJudged ns xs c.first_of-found.result) (sym more)
     (subst (IsJudged ns (take c.loop-cell.cell-index near ++ c.deref.result.now ∷ [])) (sym c.first_of-found.ensures)
     (judged_cells ns (take c.loop-cell.cell-index near) (c.deref.result.now ∷ []) c.loop-cell.found c.misfit_at.result
-        c.loop-cell.invariant c.misfit_at.ensures))
+    c.loop-cell.invariant c.misfit_at.ensures))
 
 pub returns : goal.returns
 returns c =
     let near : List CellSeen = map (λ x. arc_value x) c.numbered-near.result.now in
     let past = c.loop-cell-test.false in
     let long : length near ≡ length c.numbered-near.result.now = length-map c.numbered-near.result.now
-        (λ x. arc_value x) in
+    (λ x. arc_value x) in
     let all = subst (λ (xs : List CellSeen). IsJudged (names_meant c.args.self.now) xs c.loop-cell.found)
-        (all_taken c.loop-cell.cell-index near (omega (arith, past, long))) c.loop-cell.invariant in
+    (all_taken c.loop-cell.cell-index near (omega (arith, past, long))) c.loop-cell.invariant in
     let first = c.from.ensures in
     let many = c.count.ensures in
     judged_of (names_meant c.args.self.now) near (map (λ x. arc_value x) c.args.cells.now) c.loop-cell.found

@@ -23,10 +23,10 @@ returns c =
           let is : d ≡ cell = only cell d m.among in
           let same : c.in_ok-fault.fault ≡ f = same_Some c.in_ok-fault.fault f
           (c.in_ok-fault.ensures m.name m.named (m.id ∙ ap (λ (x : CellSeen). x.id) is)
-              ∙ (ap (λ (x : CellSeen). place_fault m.name x) (sym is) ∙ m.fault)) in
+          ∙ (ap (λ (x : CellSeen). place_fault m.name x) (sym is) ∙ m.fault)) in
           let level : c.level.result ≡ d.level = c.level.ensures ∙ ap (λ (x : CellSeen). x.level) (sym is) in
           let lo : rank c.lo.result ≡ rank d.lo = ap rank (c.lo.ensures ∙ ap (λ (x : CellSeen). x.lo) (sym is)) in
           let e : turn c.level.result (rank c.lo.result) c.in_ok-fault.fault
-              ≡ turn d.level (rank d.lo) f = λ i. turn (level i) (lo i) (same i) in
+          ≡ turn d.level (rank d.lo) f = λ i. turn (level i) (lo i) (same i) in
           omega (arith, e);
     }

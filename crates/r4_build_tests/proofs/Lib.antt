@@ -1,0 +1,3 @@
+mod Lawful
+mod Room
+mod TwoCells

@@ -1,0 +1,14 @@
+use Rattle.std.proofs.Common.{ℕ, List, sym, subst}
+use Rattle.r4_content.specs.Edited.{Pairs}
+use Rattle.r4_content.specs.Held.{pairs_of}
+use Rattle.r4_content.specs.declared.command.Command.TheVariants.{Create}
+use Rattle.r4_reach.specs.Touched.{edits_on}
+use Rattle.r4_build_tests.specs.Commands.{create_file}
+use Rattle.r4_build_tests.specs.Small.{AreLawful}
+use Rattle.r4_build_tests.proofs.Lawful.{create_lawful}
+use Rattle.r4_build_tests.proofs.small.build_creation.Goals as goal
+
+pub built-requires-clause-lawful : goal.built-requires-clause-lawful
+built-requires-clause-lawful g c κs within =
+    subst (λ (p : List (List ℕ)). AreLawful (edits_on (Create p (record { 0 = 65536 })) (pairs_of c.in_ok-seen.seen))) (sym c.in_ok-path.ensures)
+    (subst (λ (s : Pairs). AreLawful (edits_on create_file s)) (sym c.in_ok-seen.ensures) create_lawful)

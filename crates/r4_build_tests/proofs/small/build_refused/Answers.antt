@@ -1,0 +1,14 @@
+use Rattle.std.proofs.Common.{ℕ, List, sym, subst}
+use Rattle.r4_content.specs.Edited.{Pairs}
+use Rattle.r4_content.specs.Held.{pairs_of}
+use Rattle.r4_content.specs.declared.command.Command.TheVariants.{Chmod}
+use Rattle.r4_reach.specs.Touched.{edits_on}
+use Rattle.r4_build_tests.specs.Commands.{chmod_file}
+use Rattle.r4_build_tests.specs.Small.{AreLawful}
+use Rattle.r4_build_tests.proofs.Lawful.{chmod_lawful}
+use Rattle.r4_build_tests.proofs.small.build_refused.Goals as goal
+
+pub built-requires-clause-lawful : goal.built-requires-clause-lawful
+built-requires-clause-lawful g c κs within =
+    subst (λ (p : List (List ℕ)). AreLawful (edits_on (Chmod p 0o600) (pairs_of c.in_ok-seen.seen))) (sym c.in_ok-path.ensures)
+    (subst (λ (s : Pairs). AreLawful (edits_on chmod_file s)) (sym c.in_ok-seen.ensures) chmod_lawful)

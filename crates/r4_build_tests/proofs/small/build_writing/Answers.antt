@@ -1,0 +1,19 @@
+use Rattle.std.proofs.Common.{ℕ, List, [], ◌∷◌, sym, subst}
+use Rattle.r4_content.specs.Edited.{Pairs}
+use Rattle.r4_content.specs.Held.{pairs_of}
+use Rattle.r4_content.specs.Seen.{Rises}
+use Rattle.r4_content.specs.declared.command.Command.TheVariants.{Write}
+use Rattle.r4_reach.specs.Touched.{edits_on}
+use Rattle.r4_build_tests.specs.Commands.{file_name, file_seen}
+use Rattle.r4_build_tests.specs.Small.{AreLawful}
+use Rattle.r4_build_tests.proofs.Lawful.{file_rises, write_lawful}
+use Rattle.r4_build_tests.proofs.small.build_writing.Goals as goal
+
+pub built-requires-clause-lawful : goal.built-requires-clause-lawful
+built-requires-clause-lawful g c κs within =
+    subst (λ (p : List (List ℕ)). AreLawful (edits_on (Write p 0 c.in_ok-text.text) (pairs_of c.in_ok-seen.seen))) (sym c.in_ok-path.ensures)
+    (subst (λ (s : Pairs). AreLawful (edits_on (Write (file_name ∷ []) 0 c.in_ok-text.text) s)) (sym c.in_ok-seen.ensures)
+    (subst (λ (x : List ℕ). AreLawful (edits_on (Write (file_name ∷ []) 0 x) file_seen)) (sym c.in_ok-text.ensures) write_lawful))
+
+pub built-requires-clause-rises : goal.built-requires-clause-rises
+built-requires-clause-rises g c κs within = subst Rises (sym c.in_ok-seen.ensures) file_rises

@@ -1,0 +1,11 @@
+//! Tests of what is built of a task: the change and the reply (docs/volume.md, "Building").
+#![tactic(auto)]
+
+#[cfg(test)]
+mod building;
+#[cfg(test)]
+mod leaves;
+#[cfg(test)]
+mod small;
+#[cfg(test)]
+mod working;

@@ -1,0 +1,101 @@
+//! Which cells are named as others than they are.
+
+use crate::cells::{Place, branch, leaf, twig};
+use r4_base::{BlockNo, CellFault, Key, Oid};
+use r4_cell::{Cell, least, top};
+use r4_judging::{Misfit, misnamed};
+use std::alloc::Global;
+use std::process::Abort;
+use std::sync::Arc;
+use std::test::Fail;
+
+// The place of a twig of the whole range.
+fn whole(id: u64, level: u8) -> Place {
+    Place {
+        id,
+        level,
+        lo: least(),
+        hi: top(),
+    }
+}
+
+// The key of a byte of object 65536.
+fn byte(offset: u64) -> Key {
+    Key::body(42, 0, Oid(65536), offset)
+}
+
+// Ends the test unless this is what is found among the cells.
+fn found<X: Abort>(
+    rt: &X,
+    alloc: Global,
+    cells: &[Arc<Cell>],
+    wanted: Option<Misfit>,
+    what: &str,
+) -> Result<(), Fail> {
+    let got = misnamed(alloc, cells)?;
+    assert_eq!(rt; got, wanted, "{what}");
+    Ok(())
+}
+
+// A cell by its block and its first key, and why it is not the one that a name means.
+fn misfit(block: u64, level: u8, lo: Key, fault: CellFault) -> Option<Misfit> {
+    Some(Misfit {
+        block: BlockNo(block),
+        level,
+        lo,
+        fault,
+    })
+}
+
+#[test]
+fn a_block_that_is_only_named_is_not_judged(rt: HostRuntime) -> Result<(), Fail> {
+    let alloc = rt.alloc();
+    let low = branch(alloc, whole(22, 2), [(least(), 40), (byte(0), 40)])?;
+    let high = branch(alloc, whole(24, 3), [(least(), 40), (byte(0), 40)])?;
+    found(&rt, alloc, &[low, high], None, "only named")
+}
+
+#[test]
+fn a_leaf_that_is_named_twice_is_damage(rt: HostRuntime) -> Result<(), Fail> {
+    let alloc = rt.alloc();
+    let cells = [
+        leaf(alloc, 23, least(), byte(0))?,
+        branch(alloc, whole(22, 2), [(least(), 23), (byte(0), 23)])?,
+    ];
+    let range = CellFault::Range { item: 0 };
+    found(
+        &rt,
+        alloc,
+        &cells,
+        misfit(23, 1, least(), range),
+        "named twice",
+    )
+}
+
+#[test]
+fn the_block_nearest_to_the_root_comes_first(rt: HostRuntime) -> Result<(), Fail> {
+    let alloc = rt.alloc();
+    let cells = [
+        leaf(alloc, 23, least(), byte(0))?,
+        leaf(alloc, 25, byte(0), top())?,
+        twig(alloc, whole(22, 2), (least(), 23), (byte(0), 25, 2))?,
+        branch(alloc, whole(24, 3), [(least(), 22), (byte(0), 40)])?,
+    ];
+    let range = CellFault::Range { item: 0 };
+    found(
+        &rt,
+        alloc,
+        &cells,
+        misfit(22, 2, least(), range),
+        "the twig",
+    )?;
+    let level = CellFault::Level;
+    found(
+        &rt,
+        alloc,
+        &cells[..3],
+        misfit(25, 1, byte(0), level),
+        "the leaf in an extent",
+    )?;
+    found(&rt, alloc, &cells[..2], None, "leaves name nothing")
+}
