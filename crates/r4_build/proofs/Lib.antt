@@ -1,6 +1,6 @@
-mod Pairs
-mod MetKeys
-mod LeafKeys
+pub mod Pairs
+pub mod MetKeys
+pub mod LeafKeys
 mod Changing
 mod Turns
 mod Origin
@@ -8,4 +8,4 @@ pub mod Made
 mod Contents
 mod Lying
 mod Fitting
-mod FreshBuilt
+pub mod FreshBuilt

@@ -111,25 +111,25 @@ full_more n m h = by_test (nat_lt 4068 n) refl
     by_test true g = refl
     by_test false g = absurd (grind (arith, g, h))
 
-module _ (b : Option Body) (e : Edits) (reads rs : Intervals) (quiet : come_of b ≡ (0, 0)) (c : Node Value) (x : Name × Ask) (xs : List (Name × Ask)) (still : changes_pieces b e c ≡ false) (big : 4068 < weight (items_of c.block) + 46 * all_more (x ∷ xs)) where
+module _ (b : Option Body) (e : Edits) (reads rs : Intervals) (quiet : come_of b ≡ (0, 0)) (c : Node Value) (x : Name × Ask) (xs : List (Name × Ask)) (still : c.level ≡ 2 → changes_pieces b e c ≡ false) (big : 4068 < weight (items_of c.block) + 46 * all_more (x ∷ xs)) where
   Asks : Option Ask → Type 0
   Asks o = (a : Ask) × (o ≡ Some a) × (over (weight (items_of c.block) + 46 * all_more (x ∷ xs)) ≤ a.more)
       × (c.level ≡ 2 → growing (x ∷ xs) ≤ a.more)
 
-  twig : Asks (twig_asks b e c (x ∷ xs))
+  twig : c.level ≡ 2 → Asks (twig_asks b e c (x ∷ xs))
   unfolding Asks
-  twig =
+  twig two =
       let a : Ask = record {
         more = twig_more b e c (x ∷ xs);
         gone = meets c.lo c.hi (come_of b) && (length (pieces_after b e c (x ∷ xs)) == 0);
       } in
       let n : ℕ = weight (items_of c.block) + 46 * all_more (x ∷ xs) in
       let same : a.more ≡ larger (over n) (growing (x ∷ xs)) =
-      ap (λ k. if nat_lt 4068 k then larger (over k) (growing (x ∷ xs)) else 0) (twig_needs b e reads rs quiet c (x ∷ xs) still)
+      ap (λ k. if nat_lt 4068 k then larger (over k) (growing (x ∷ xs)) else 0) (twig_needs b e reads rs quiet c (x ∷ xs) (still two))
       ∙ full_more n (growing (x ∷ xs)) big in
       let (own, each) = larger_least (over n) (growing (x ∷ xs)) in
       let some = over_some n big in
-      (a, asks_some (moves (come_of b) c) a (omega (arith, same, own, some)), omega (arith, same, own), λ two. omega (arith, same, each))
+      (a, asks_some (moves (come_of b) c) a (omega (arith, same, own, some)), omega (arith, same, own), λ at. omega (arith, same, each))
 
   node : c.level ≢ 2 → Asks (node_asks b c (x ∷ xs))
   unfolding Asks
@@ -148,7 +148,7 @@ module _ (b : Option Body) (e : Edits) (reads rs : Intervals) (quiet : come_of b
   asks_over high = by_touch (is_touched rs c)
     where
       by_twig : (v : Bool) → (c.level == 2) ≡ v → Asks (if v then twig_asks b e c (x ∷ xs) else node_asks b c (x ∷ xs))
-      by_twig true g = twig
+      by_twig true g = twig (eqb-true c.level 2 g)
       by_twig false g = node (λ two. absurd (grind (arith, g, two)))
 
       by_leaf : (v : Bool) → (c.level == 1) ≡ v

@@ -158,7 +158,7 @@ module _ (twig leaf : List ℕ) (is_twig : HasOneItem twig 2 3 (number_bytes 8 2
     quiet = record {
       quiet = refl;
       seen = λ i c e. let (x, at, id, is) = of_tree i c e in (x, is);
-      still = still;
+      still = λ i c e two. still i c e;
       small = small;
       low = λ x h. omega arith;
     }

@@ -23,7 +23,8 @@ pub record IsQuiet (b : Option Body) (e : Edits) (reads rs : Intervals) (t : Sto
     : Type 0 where
   pub quiet : come_of b ≡ (0, 0)
   pub seen : AreSeen t
-  pub still : (i : ℕ) (c : Node Value) → t i ≡ Some c → changes_pieces b e c ≡ false
+  pub still : (i : ℕ) (c : Node Value) → t i ≡ Some c → c.level ≡ 2
+      → changes_pieces b e c ≡ false
   pub small : (l i : ℕ) → asked_of (demand_of b e reads rs) t l i ≤ 87
   pub low : (x : Ask) → IsRootAsking (demand_of b e reads rs) t r x → r.height < 8
 

@@ -45,7 +45,7 @@ few_grow n m e us r h =
 
 -- ---- bytes
 
-put_append : (ps qs us : Pairs) → list_put (ps ++ qs) us ≡ list_put qs (list_put ps us)
+pub put_append : (ps qs us : Pairs) → list_put (ps ++ qs) us ≡ list_put qs (list_put ps us)
 put_append [] qs us = refl
 put_append (p ∷ ps) qs us = put_append ps qs _
 
@@ -57,7 +57,7 @@ size_grows s o n m b us vs h g =
     grows_both m (386 * length (size_on o n b).puts) (m + 386) us vs (list_put (size_on o n b).puts vs)
     (omega (arith, one)) g (values_grow (size_on o n b).puts vs g.rises few.values)
 
-gap_long : (o : Target) (from to : ℕ) → byte_rank o to - byte_rank o from ≤ to
+pub gap_long : (o : Target) (from to : ℕ) → byte_rank o to - byte_rank o from ≤ to
 gap_long o from to =
     let a : byte_rank o (0 + from) ≡ byte_rank o 0 + from = byte_after o 0 from in
     let b : byte_rank o (0 + to) ≡ byte_rank o 0 + to = byte_after o 0 to in

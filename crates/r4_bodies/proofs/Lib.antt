@@ -1,0 +1,5 @@
+pub mod FirstKeys
+pub mod FileSizes
+pub mod BodyKeys
+pub mod Premises
+pub mod InTails

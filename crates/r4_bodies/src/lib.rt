@@ -1,0 +1,13 @@
+//! Which file's body a command's edits change (docs/volume.md, "Reach").
+#![tactic(auto)]
+
+mod body_change;
+mod finding;
+mod keys;
+mod laws;
+mod sizes;
+mod telling;
+
+pub use body_change::{BodyChange, body_changed};
+pub use laws::commands_set_bytes_of_bodies;
+pub use telling::{BodyTold, told_by_body};

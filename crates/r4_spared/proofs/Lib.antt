@@ -1,0 +1,10 @@
+mod Pieces
+mod Spared
+mod Climbing
+mod Charges
+mod Shapes
+mod Small
+mod Lawful
+mod Found
+mod Answered
+mod FreshLeaves
