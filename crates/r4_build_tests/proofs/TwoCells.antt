@@ -245,7 +245,7 @@ module _ (twig leaf : CellSeen) (above : HasAllKeys 22 2 twig) (below : HasAllKe
     quiet = record {
       quiet = refl;
       seen = λ i c at. let (x, in_cells, id, is) = of_tree i c at in (x, is);
-      still = still;
+      still = λ i c at twig. still i c at;
       small = small;
       low = λ x h. omega arith;
     }

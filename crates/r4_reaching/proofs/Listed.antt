@@ -17,7 +17,7 @@ use Rattle.r4_search.specs.Pool.{PoolState}
 use Rattle.r4_seeing.specs.Looking.{AreHung, met_cells}
 use Rattle.r4_work.specs.Order.{AreInOrder, place, place_of}
 use Rattle.r4_work.proofs.Places.{top_small}
-use Rattle.r4_reaching.specs.Gathering.{AreAllMet}
+use Rattle.r4_reaching.specs.Gathering.{AreAllMet, IsOneMet}
 
 pub same_store : (p : PoolState) (root : RootPair) (cells : List CellSeen) → AreHung p root → AreAllMet p.met cells
     → (i : ℕ) → by_name cells i ≡ met_cells p i
@@ -78,3 +78,8 @@ as_marked p root cells a order part = record { names = a.names; part = part; lev
         let last = get_or_from_slice_get cells j d d other in
         level_rises c.level d.level (rank c.lo) (rank d.lo) (subst (λ e. rank e.lo < 2 ^ 256) last (small j d within))
         (subst (λ e. place c ≤ place e) last (subst (λ e. place e ≤ place (get_or cells j d)) first rises))
+
+pub hang_as_met : (p : PoolState) (root : RootPair) (cells : List CellSeen) → AreHung p root → AreAllMet p.met cells
+    → 2 ≤ root.height → IsOneMet p → HangTogether root cells
+hang_as_met p root cells h a high (i, c, met) =
+    hangs_together p root cells c h a high (subst (λ j. p.met j ≡ Some c) (sym (h.numbers i c met)) met)
