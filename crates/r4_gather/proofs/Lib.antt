@@ -3,3 +3,4 @@ pub mod Quiet
 pub mod Below
 pub mod Moved
 pub mod Steps
+pub mod Staying

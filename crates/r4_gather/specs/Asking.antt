@@ -11,6 +11,10 @@ use Rattle.r4_content.specs.Seen.{of_seen}
 use Rattle.r4_content.specs.Ways.{Place, to_ends, to_entry, to_free, to_parent}
 use Rattle.r4_content.specs.declared.reply.Reply.{Reply}
 use Rattle.r4_dir.specs.Coming.{last_of}
+use Rattle.r4_cell.specs.Seen.{CellSeen}
+use Rattle.r4_cell.specs.declared.change.Root.{Root}
+use Rattle.r4_outside.specs.Device.{State}
+use Rattle.r4_search.specs.Pool.{LeavesDevice, PoolState}
 use Rattle.r4_search.specs.declared.pool.FetchFault.{FetchFault}
 use Rattle.r4_search.specs.declared.pool.FetchFault.TheVariants.{Memory}
 
@@ -19,6 +23,25 @@ pub record Sighting : Type 0 where
   pub seen : Pairs
   pub asked : Intervals
   pub fault : Option FetchFault
+
+-- the root of the tree that is seen, and the pool of its cells
+pub record Over : Type 0 where
+  pub root : Root
+  pub pool : PoolState
+
+-- Nothing was written, it is the same tree, and each name of its pool means what it meant.
+pub record IsSameTree (d e : State) (old new : Over) : Type 0 where
+  pub device : LeavesDevice d e
+  pub root : new.root ≡ old.root
+  pub named : new.pool.root ≡ old.pool.root
+  pub blocks : new.pool.blocks ≡ old.pool.blocks
+  pub meant : (i : ℕ) → new.pool.meant i ≡ old.pool.meant i
+  pub kept : (i : ℕ) (c : CellSeen) → old.pool.kept i ≡ Some c → new.pool.kept i ≡ Some c
+  pub keeps : (level : ℕ) → new.pool.keeps level ≡ old.pool.keeps level
+
+-- the same, as one fact, which is not looked into on the way
+unfoldable pub StaysOver : (d e : State) → (old new : Over) → Type 0
+StaysOver d e old new = IsSameTree d e old new
 
 -- A fault is the one with which a look-up ended, or there was no memory.
 abbrev pub IsCause : FetchFault → Sighting → Type 0

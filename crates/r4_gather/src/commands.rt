@@ -4,7 +4,7 @@ ghost use Rattle.std.specs.Prelude.{◌≡◌, ◌++◌, IfErr, OnErr, OnOk, rev
 ghost use Rattle.r4_content.specs.Course.{asked};
 ghost use Rattle.r4_content.specs.Meaning.{course, greatest_size};
 ghost use Rattle.r4_content.specs.Seen.{of_seen};
-ghost use Rattle.r4_gather.specs.Asking.{EndsIn, HasAsked, IsCause, IsLater, StopsIn};
+ghost use Rattle.r4_gather.specs.Asking.{EndsIn, HasAsked, IsCause, IsLater, StaysOver, StopsIn};
 
 use crate::entries::{see_for_link, see_for_names, see_for_new, see_for_rmdir, see_for_unlink};
 use crate::files::{see_for_object, see_for_read};
@@ -15,8 +15,11 @@ use r4_search::FetchFault;
 use std::alloc::Global;
 
 // What a command asks for, whatever is asked for besides.
+#[tactic(auto, using(crate::proofs::Staying::stays_both, crate::proofs::Staying::stays_same))]
 fn see_course<S: Sight>(alloc: Global, sight: &mut S, command: &Command) -> Result<(), FetchFault>
     ensures later { IsLater (S.state sight.old) (S.state sight.new) }
+    ensures stays { StaysOver (S.device sight.old) (S.device sight.new)
+        (S.over sight.old) (S.over sight.new) }
     ensures kept { OnOk result ((S.state sight.new).fault ≡ (S.state sight.old).fault) }
     ensures cause { IfErr result (λ e. IsCause e (S.state sight.new)) }
     ensures asked { OnOk result
@@ -61,8 +64,11 @@ fn see_course<S: Sight>(alloc: Global, sight: &mut S, command: &Command) -> Resu
 /// Sees all that a command asks for, and nothing else: one interval of keys after another, in the command's order
 /// (docs/commands.md, "Asking"). Where a fault ends that, what was asked for until then is the beginning of what the
 /// command asks for. `Read` and `Damaged` are those of the sight; `Memory` also where none was found for the way.
+#[tactic(auto, using(crate::proofs::Staying::stays_both, crate::proofs::Staying::stays_same))]
 pub fn see_for<S: Sight>(alloc: Global, sight: &mut S, command: &Command) -> Result<(), FetchFault>
     ensures later { IsLater (S.state sight.old) (S.state sight.new) }
+    ensures stays { StaysOver (S.device sight.old) (S.device sight.new)
+        (S.over sight.old) (S.over sight.new) }
     ensures kept { OnOk result ((S.state sight.new).fault ≡ (S.state sight.old).fault) }
     ensures cause { IfErr result (λ e. IsCause e (S.state sight.new)) }
     ensures asked { OnOk result ((S.state sight.new).asked

@@ -7,7 +7,7 @@ ghost use Rattle.r4_content.specs.Meaning.{named};
 ghost use Rattle.r4_content.specs.declared.reply.Reply.{Reply as SeenReply};
 ghost use Rattle.r4_base.specs.declared.things.Oid.{Oid as SeenOid};
 ghost use Rattle.r4_dir.specs.Coming.{AreNames, IsSmall, object_of, place_of};
-ghost use Rattle.r4_gather.specs.Asking.{HasAsked, HasAskedFree, HasEndedEntry, HasEndedParent, IsAtEntry, IsAtParent};
+ghost use Rattle.r4_gather.specs.Asking.{HasAsked, HasAskedFree, HasEndedEntry, HasEndedParent, IsAtEntry, IsAtParent, StaysOver};
 ghost use Rattle.r4_gather.specs.Asking.{IsCause, IsLater, IsStoppedEntry, IsStoppedParent, StopsFree, StopsIn};
 ghost use Rattle.r4_gather.specs.Finding.{place_seen};
 
@@ -20,7 +20,7 @@ use r4_search::FetchFault;
 use std::alloc::Global;
 
 // The place above the last name of a path; none where the way ends before.
-#[tactic(auto, unfolding(r4_content::specs::Ways::to_parent))]
+#[tactic(auto, unfolding(r4_content::specs::Ways::to_parent), using(crate::proofs::Staying::stays_both, crate::proofs::Staying::stays_same))]
 pub(crate) fn see_parent<S: Sight>(
     alloc: Global,
     sight: &mut S,
@@ -30,6 +30,8 @@ pub(crate) fn see_parent<S: Sight>(
     requires some { 0 < length path.now }
     ensures small { IfOk result (λ r. MatchOption r Unit (λ p. IsSmall p.here)) }
     ensures later { IsLater (S.state sight.old) (S.state sight.new) }
+    ensures stays { StaysOver (S.device sight.old) (S.device sight.new)
+        (S.over sight.old) (S.over sight.new) }
     ensures kept { OnOk result ((S.state sight.new).fault ≡ (S.state sight.old).fault) }
     ensures cause { IfErr result (λ e. IsCause e (S.state sight.new)) }
     ensures comes { (of_root : SeenReply) → IfOk result (λ r. MatchOption r
@@ -50,6 +52,7 @@ pub(crate) struct SeenFound {
 }
 
 // The object of a path of names with its entry; none where the way ends before.
+#[tactic(auto, using(crate::proofs::Staying::stays_both, crate::proofs::Staying::stays_same))]
 fn see_named<S: Sight>(
     alloc: Global,
     sight: &mut S,
@@ -59,6 +62,8 @@ fn see_named<S: Sight>(
     requires some { 0 < length path.now }
     ensures small { IfOk result (λ r. MatchOption r Unit (λ f. IsSmall f.dir × IsSmall f.object)) }
     ensures later { IsLater (S.state sight.old) (S.state sight.new) }
+    ensures stays { StaysOver (S.device sight.old) (S.device sight.new)
+        (S.over sight.old) (S.over sight.new) }
     ensures kept { OnOk result ((S.state sight.new).fault ≡ (S.state sight.old).fault) }
     ensures cause { IfErr result (λ e. IsCause e (S.state sight.new)) }
     ensures comes { (of_root : SeenReply) → IfOk result (λ r. MatchOption r
@@ -83,7 +88,7 @@ fn see_named<S: Sight>(
 }
 
 // The same, where the path may be that of the root, which has no entry.
-#[tactic(auto, unfolding(r4_content::specs::Ways::to_entry, r4_content::specs::Ways::to_parent))]
+#[tactic(auto, unfolding(r4_content::specs::Ways::to_entry, r4_content::specs::Ways::to_parent), using(crate::proofs::Staying::stays_both, crate::proofs::Staying::stays_same))]
 pub(crate) fn see_entry<S: Sight>(
     alloc: Global,
     sight: &mut S,
@@ -92,6 +97,8 @@ pub(crate) fn see_entry<S: Sight>(
     requires legal { AreNames path.now }
     ensures small { IfOk result (λ r. MatchOption r Unit (λ f. IsSmall f.dir × IsSmall f.object)) }
     ensures later { IsLater (S.state sight.old) (S.state sight.new) }
+    ensures stays { StaysOver (S.device sight.old) (S.device sight.new)
+        (S.over sight.old) (S.over sight.new) }
     ensures kept { OnOk result ((S.state sight.new).fault ≡ (S.state sight.old).fault) }
     ensures cause { IfErr result (λ e. IsCause e (S.state sight.new)) }
     ensures comes { (of_root : SeenReply) → IfOk result (λ r. MatchOption r
@@ -108,7 +115,7 @@ pub(crate) fn see_entry<S: Sight>(
 }
 
 // The key of a path's last name, where its directory is there.
-#[tactic(auto, unfolding(r4_content::specs::Ways::to_free, r4_content::specs::Ways::to_parent), using(crate::proofs::Beginning::asking_goes, crate::proofs::Beginning::asking_on, crate::proofs::Quiet::free_quiet))]
+#[tactic(auto, unfolding(r4_content::specs::Ways::to_free, r4_content::specs::Ways::to_parent), using(crate::proofs::Staying::stays_both, crate::proofs::Staying::stays_same, crate::proofs::Beginning::asking_goes, crate::proofs::Beginning::asking_on, crate::proofs::Quiet::free_quiet))]
 pub(crate) fn see_free<S: Sight>(
     alloc: Global,
     sight: &mut S,
@@ -116,6 +123,8 @@ pub(crate) fn see_free<S: Sight>(
 ) -> Result<(), FetchFault>
     requires legal { AreNames path.now }
     ensures later { IsLater (S.state sight.old) (S.state sight.new) }
+    ensures stays { StaysOver (S.device sight.old) (S.device sight.new)
+        (S.over sight.old) (S.over sight.new) }
     ensures kept { OnOk result ((S.state sight.new).fault ≡ (S.state sight.old).fault) }
     ensures cause { IfErr result (λ e. IsCause e (S.state sight.new)) }
     ensures asked { OnOk result (HasAskedFree path.now (S.state sight.old) (S.state sight.new)) }
@@ -135,12 +144,15 @@ pub(crate) fn see_free<S: Sight>(
 }
 
 /// What a command asks for that makes an object: the way to its directory, and the key of its name there.
+#[tactic(auto, using(crate::proofs::Staying::stays_both, crate::proofs::Staying::stays_same))]
 pub(crate) fn see_for_new<S: Sight>(
     alloc: Global,
     sight: &mut S,
     path: &[Name],
 ) -> Result<(), FetchFault>
     ensures later { IsLater (S.state sight.old) (S.state sight.new) }
+    ensures stays { StaysOver (S.device sight.old) (S.device sight.new)
+        (S.over sight.old) (S.over sight.new) }
     ensures kept { OnOk result ((S.state sight.new).fault ≡ (S.state sight.old).fault) }
     ensures cause { IfErr result (λ e. IsCause e (S.state sight.new)) }
     ensures create { (oid : SeenOid) → OnOk result
@@ -159,7 +171,7 @@ pub(crate) fn see_for_new<S: Sight>(
 }
 
 /// What `link` asks for.
-#[tactic(auto, using(crate::proofs::Beginning::asking_goes, crate::proofs::Beginning::asking_on))]
+#[tactic(auto, using(crate::proofs::Staying::stays_both, crate::proofs::Staying::stays_same, crate::proofs::Beginning::asking_goes, crate::proofs::Beginning::asking_on))]
 pub(crate) fn see_for_link<S: Sight>(
     alloc: Global,
     sight: &mut S,
@@ -167,6 +179,8 @@ pub(crate) fn see_for_link<S: Sight>(
     to: &[Name],
 ) -> Result<(), FetchFault>
     ensures later { IsLater (S.state sight.old) (S.state sight.new) }
+    ensures stays { StaysOver (S.device sight.old) (S.device sight.new)
+        (S.over sight.old) (S.over sight.new) }
     ensures kept { OnOk result ((S.state sight.new).fault ≡ (S.state sight.old).fault) }
     ensures cause { IfErr result (λ e. IsCause e (S.state sight.new)) }
     ensures asked { OnOk result (HasAsked (named from.now (named to.now (link from.now to.now)))
@@ -202,13 +216,15 @@ pub(crate) fn entries_of(dir: Oid) -> Interval
 }
 
 /// What `names` asks for: the way to the object, and the entries of a directory.
-#[tactic(auto, using(crate::proofs::Beginning::asking_goes, crate::proofs::Beginning::asking_on))]
+#[tactic(auto, using(crate::proofs::Staying::stays_both, crate::proofs::Staying::stays_same, crate::proofs::Beginning::asking_goes, crate::proofs::Beginning::asking_on))]
 pub(crate) fn see_for_names<S: Sight>(
     alloc: Global,
     sight: &mut S,
     path: &[Name],
 ) -> Result<(), FetchFault>
     ensures later { IsLater (S.state sight.old) (S.state sight.new) }
+    ensures stays { StaysOver (S.device sight.old) (S.device sight.new)
+        (S.over sight.old) (S.over sight.new) }
     ensures kept { OnOk result ((S.state sight.new).fault ≡ (S.state sight.old).fault) }
     ensures cause { IfErr result (λ e. IsCause e (S.state sight.new)) }
     ensures asked { OnOk result (HasAsked (named path.now (names path.now))
@@ -229,13 +245,15 @@ pub(crate) fn see_for_names<S: Sight>(
 }
 
 /// What `unlink` asks for.
-#[tactic(auto, using(crate::proofs::Quiet::choice_quiet))]
+#[tactic(auto, using(crate::proofs::Staying::stays_both, crate::proofs::Staying::stays_same, crate::proofs::Quiet::choice_quiet))]
 pub(crate) fn see_for_unlink<S: Sight>(
     alloc: Global,
     sight: &mut S,
     path: &[Name],
 ) -> Result<(), FetchFault>
     ensures later { IsLater (S.state sight.old) (S.state sight.new) }
+    ensures stays { StaysOver (S.device sight.old) (S.device sight.new)
+        (S.over sight.old) (S.over sight.new) }
     ensures kept { OnOk result ((S.state sight.new).fault ≡ (S.state sight.old).fault) }
     ensures cause { IfErr result (λ e. IsCause e (S.state sight.new)) }
     ensures asked { OnOk result (HasAsked (named path.now (unlink path.now))
@@ -251,13 +269,15 @@ pub(crate) fn see_for_unlink<S: Sight>(
 }
 
 /// What `rmdir` asks for: the way to the object with its entry, and the entries of a directory.
-#[tactic(auto, using(crate::proofs::Beginning::asking_goes, crate::proofs::Beginning::asking_on, crate::proofs::Quiet::empty_quiet))]
+#[tactic(auto, using(crate::proofs::Staying::stays_both, crate::proofs::Staying::stays_same, crate::proofs::Beginning::asking_goes, crate::proofs::Beginning::asking_on, crate::proofs::Quiet::empty_quiet))]
 pub(crate) fn see_for_rmdir<S: Sight>(
     alloc: Global,
     sight: &mut S,
     path: &[Name],
 ) -> Result<(), FetchFault>
     ensures later { IsLater (S.state sight.old) (S.state sight.new) }
+    ensures stays { StaysOver (S.device sight.old) (S.device sight.new)
+        (S.over sight.old) (S.over sight.new) }
     ensures kept { OnOk result ((S.state sight.new).fault ≡ (S.state sight.old).fault) }
     ensures cause { IfErr result (λ e. IsCause e (S.state sight.new)) }
     ensures asked { OnOk result (HasAsked (named path.now (rmdir path.now))

@@ -4,7 +4,7 @@ ghost use Rattle.std.specs.Prelude.{◌≡◌, ℕ, List, IfErr, OnErr, OnOk};
 ghost use Rattle.r4_base.specs.declared.items.Attr.{Attr as SeenAttr};
 ghost use Rattle.r4_content.specs.Bodies.{read, truncate, write};
 ghost use Rattle.r4_content.specs.Meaning.{named, set_attrs, stat};
-ghost use Rattle.r4_gather.specs.Asking.{HasAsked, IsCause, IsLater, StopsIn};
+ghost use Rattle.r4_gather.specs.Asking.{HasAsked, IsCause, IsLater, StaysOver, StopsIn};
 
 use crate::sight::Sight;
 use crate::ways::see_way;
@@ -15,13 +15,15 @@ use r4_search::FetchFault;
 use std::alloc::Global;
 
 /// What commands ask for that are of one object and read no byte: the way to it.
-#[tactic(auto, unfolding(r4_content::specs::Ways::to_file))]
+#[tactic(auto, unfolding(r4_content::specs::Ways::to_file), using(crate::proofs::Staying::stays_both, crate::proofs::Staying::stays_same))]
 pub(crate) fn see_for_object<S: Sight>(
     alloc: Global,
     sight: &mut S,
     path: &[Name],
 ) -> Result<(), FetchFault>
     ensures later { IsLater (S.state sight.old) (S.state sight.new) }
+    ensures stays { StaysOver (S.device sight.old) (S.device sight.new)
+        (S.over sight.old) (S.over sight.new) }
     ensures kept { OnOk result ((S.state sight.new).fault ≡ (S.state sight.old).fault) }
     ensures cause { IfErr result (λ e. IsCause e (S.state sight.new)) }
     ensures stat { OnOk result
@@ -53,7 +55,7 @@ pub(crate) fn see_for_object<S: Sight>(
 }
 
 /// What `read` asks for: the way to the object, and the bytes of a file that it has in the interval.
-#[tactic(auto, using(crate::proofs::Beginning::asking_goes, crate::proofs::Beginning::asking_on))]
+#[tactic(auto, using(crate::proofs::Staying::stays_both, crate::proofs::Staying::stays_same, crate::proofs::Beginning::asking_goes, crate::proofs::Beginning::asking_on))]
 pub(crate) fn see_for_read<S: Sight>(
     alloc: Global,
     sight: &mut S,
@@ -62,6 +64,8 @@ pub(crate) fn see_for_read<S: Sight>(
     len: u64,
 ) -> Result<(), FetchFault>
     ensures later { IsLater (S.state sight.old) (S.state sight.new) }
+    ensures stays { StaysOver (S.device sight.old) (S.device sight.new)
+        (S.over sight.old) (S.over sight.new) }
     ensures kept { OnOk result ((S.state sight.new).fault ≡ (S.state sight.old).fault) }
     ensures cause { IfErr result (λ e. IsCause e (S.state sight.new)) }
     ensures asked { OnOk result

@@ -6,7 +6,7 @@ ghost use Rattle.r4_content.specs.Entries.{move, rename, replace};
 ghost use Rattle.r4_content.specs.Meaning.{named};
 ghost use Rattle.r4_content.specs.Objects.{Object as SeenObject};
 ghost use Rattle.r4_dir.specs.Coming.{AreNames, IsSmall, object_of};
-ghost use Rattle.r4_gather.specs.Asking.{HasAsked, HasEndedEnds, IsAtEnds, IsCause, IsLater, IsStoppedEnds, StopsIn};
+ghost use Rattle.r4_gather.specs.Asking.{HasAsked, HasEndedEnds, IsAtEnds, IsCause, IsLater, IsStoppedEnds, StaysOver, StopsIn};
 ghost use Rattle.std.specs.Prelude.{ℕ, List};
 
 use crate::entries::{entries_of, see_entry, see_parent};
@@ -26,6 +26,7 @@ struct Ends {
 }
 
 // The object that moves, and where to; none where it does not.
+#[tactic(auto, using(crate::proofs::Staying::stays_both, crate::proofs::Staying::stays_same))]
 fn see_ends<S: Sight>(
     alloc: Global,
     sight: &mut S,
@@ -36,6 +37,8 @@ fn see_ends<S: Sight>(
     requires some { 0 < length to.now }
     ensures small { IfOk result (λ r. MatchOption r Unit (λ e. IsSmall e.object × IsSmall e.new_dir)) }
     ensures later { IsLater (S.state sight.old) (S.state sight.new) }
+    ensures stays { StaysOver (S.device sight.old) (S.device sight.new)
+        (S.over sight.old) (S.over sight.new) }
     ensures kept { OnOk result ((S.state sight.new).fault ≡ (S.state sight.old).fault) }
     ensures cause { IfErr result (λ e. IsCause e (S.state sight.new)) }
     ensures comes { IfOk result (λ r. MatchOption r
@@ -65,7 +68,7 @@ fn see_ends<S: Sight>(
 }
 
 // The entries of a directory that another one comes onto.
-#[tactic(auto, using(crate::proofs::Beginning::asking_goes, crate::proofs::Beginning::asking_on))]
+#[tactic(auto, using(crate::proofs::Staying::stays_both, crate::proofs::Staying::stays_same, crate::proofs::Beginning::asking_goes, crate::proofs::Beginning::asking_on))]
 fn see_old<S: Sight>(
     alloc: Global,
     sight: &mut S,
@@ -74,6 +77,8 @@ fn see_old<S: Sight>(
 ) -> Result<(), FetchFault>
     requires { IsSmall old.now }
     ensures later { IsLater (S.state sight.old) (S.state sight.new) }
+    ensures stays { StaysOver (S.device sight.old) (S.device sight.new)
+        (S.over sight.old) (S.over sight.new) }
     ensures kept { OnOk result ((S.state sight.new).fault ≡ (S.state sight.old).fault) }
     ensures cause { IfErr result (λ e. IsCause e (S.state sight.new)) }
     ensures asked { (dir new_dir : SeenObject) (n m : List ℕ) → OnOk result
@@ -90,6 +95,7 @@ fn see_old<S: Sight>(
 }
 
 // The key of the new name, the object that has it already, and the entries of that one.
+#[tactic(auto, using(crate::proofs::Staying::stays_both, crate::proofs::Staying::stays_same))]
 fn see_move<S: Sight>(
     alloc: Global,
     sight: &mut S,
@@ -99,6 +105,8 @@ fn see_move<S: Sight>(
     requires small { IsSmall ends.now.object × IsSmall ends.now.new_dir }
     requires legal { name_fault new_name.now ≡ None }
     ensures later { IsLater (S.state sight.old) (S.state sight.new) }
+    ensures stays { StaysOver (S.device sight.old) (S.device sight.new)
+        (S.over sight.old) (S.over sight.new) }
     ensures kept { OnOk result ((S.state sight.new).fault ≡ (S.state sight.old).fault) }
     ensures cause { IfErr result (λ e. IsCause e (S.state sight.new)) }
     ensures asked { (dir : SeenObject) (n : List ℕ) → OnOk result
@@ -122,6 +130,7 @@ fn see_move<S: Sight>(
 }
 
 /// What `rename` asks for.
+#[tactic(auto, using(crate::proofs::Staying::stays_both, crate::proofs::Staying::stays_same))]
 pub(crate) fn see_for_rename<S: Sight>(
     alloc: Global,
     sight: &mut S,
@@ -129,6 +138,8 @@ pub(crate) fn see_for_rename<S: Sight>(
     to: &[Name],
 ) -> Result<(), FetchFault>
     ensures later { IsLater (S.state sight.old) (S.state sight.new) }
+    ensures stays { StaysOver (S.device sight.old) (S.device sight.new)
+        (S.over sight.old) (S.over sight.new) }
     ensures kept { OnOk result ((S.state sight.new).fault ≡ (S.state sight.old).fault) }
     ensures cause { IfErr result (λ e. IsCause e (S.state sight.new)) }
     ensures asked { OnOk result (HasAsked (named from.now (named to.now (rename from.now to.now)))

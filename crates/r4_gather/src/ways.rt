@@ -9,7 +9,7 @@ ghost use Rattle.r4_content.specs.Objects.{Object as SeenObject};
 ghost use Rattle.r4_content.specs.Walk.{target_in};
 ghost use Rattle.r4_content.specs.Ways.{object_at, step, to_object};
 ghost use Rattle.r4_dir.specs.Coming.{AreNames, IsSmall, object_of, place_of};
-ghost use Rattle.r4_gather.specs.Asking.{EndsIn, HasEnded, IsAt, IsCause, IsLater, IsStopped};
+ghost use Rattle.r4_gather.specs.Asking.{EndsIn, HasEnded, IsAt, IsCause, IsLater, IsStopped, StaysOver};
 
 use crate::sight::Sight;
 use r4_base::{Key, Name, OBJECT_END, ROOT_OBJECT, Target};
@@ -18,7 +18,7 @@ use r4_search::FetchFault;
 use std::alloc::Global;
 
 /// The object that an entry names; none where it has no stat data, or can be no object.
-#[tactic(auto, using(crate::proofs::Beginning::asking_goes, crate::proofs::Beginning::asking_on))]
+#[tactic(auto, using(crate::proofs::Staying::stays_both, crate::proofs::Staying::stays_same, crate::proofs::Beginning::asking_goes, crate::proofs::Beginning::asking_on))]
 pub fn see_object<S: Sight>(
     alloc: Global,
     sight: &mut S,
@@ -26,6 +26,8 @@ pub fn see_object<S: Sight>(
 ) -> Result<Option<Object>, FetchFault>
     ensures small { IfOk result (λ r. MatchOption r Unit IsSmall) }
     ensures later { IsLater (S.state sight.old) (S.state sight.new) }
+    ensures stays { StaysOver (S.device sight.old) (S.device sight.new)
+        (S.over sight.old) (S.over sight.new) }
     ensures kept { OnOk result ((S.state sight.new).fault ≡ (S.state sight.old).fault) }
     ensures cause { IfErr result (λ e. IsCause e (S.state sight.new)) }
     ensures comes { IfOk result (λ r. MatchOption r
@@ -45,6 +47,7 @@ pub fn see_object<S: Sight>(
 }
 
 /// What the entry of this name names, at the name's key; none where there is none.
+#[tactic(auto, using(crate::proofs::Staying::stays_both, crate::proofs::Staying::stays_same))]
 pub(crate) fn see_target<S: Sight>(
     alloc: Global,
     sight: &mut S,
@@ -52,6 +55,8 @@ pub(crate) fn see_target<S: Sight>(
     name: &Name,
 ) -> Result<Option<Target>, FetchFault>
     ensures later { IsLater (S.state sight.old) (S.state sight.new) }
+    ensures stays { StaysOver (S.device sight.old) (S.device sight.new)
+        (S.over sight.old) (S.over sight.new) }
     ensures kept { OnOk result ((S.state sight.new).fault ≡ (S.state sight.old).fault) }
     ensures cause { IfErr result (λ e. IsCause e (S.state sight.new)) }
     ensures asked { OnOk result
@@ -69,7 +74,7 @@ pub(crate) fn see_target<S: Sight>(
 }
 
 /// One step down, to the object of a name; none where there is none.
-#[tactic(auto, using(crate::proofs::Beginning::asking_goes, crate::proofs::Beginning::asking_on))]
+#[tactic(auto, using(crate::proofs::Staying::stays_both, crate::proofs::Staying::stays_same, crate::proofs::Beginning::asking_goes, crate::proofs::Beginning::asking_on))]
 pub fn see_step<S: Sight>(
     alloc: Global,
     sight: &mut S,
@@ -80,6 +85,8 @@ pub fn see_step<S: Sight>(
     requires legal { name_fault name.now ≡ None }
     ensures small { IfOk result (λ r. MatchOption r Unit IsSmall) }
     ensures later { IsLater (S.state sight.old) (S.state sight.new) }
+    ensures stays { StaysOver (S.device sight.old) (S.device sight.new)
+        (S.over sight.old) (S.over sight.new) }
     ensures kept { OnOk result ((S.state sight.new).fault ≡ (S.state sight.old).fault) }
     ensures cause { IfErr result (λ e. IsCause e (S.state sight.new)) }
     ensures comes { (above : List SeenObject) → IfOk result (λ r. MatchOption r
@@ -102,7 +109,7 @@ pub fn see_step<S: Sight>(
 }
 
 /// The way along a path, from the root; none where it ends before.
-#[tactic(auto, unfolding(r4_content::specs::Ways::to_object), using(crate::proofs::Beginning::asking_goes, crate::proofs::Beginning::asking_on))]
+#[tactic(auto, unfolding(r4_content::specs::Ways::to_object), using(crate::proofs::Staying::stays_both, crate::proofs::Staying::stays_same, crate::proofs::Beginning::asking_goes, crate::proofs::Beginning::asking_on))]
 pub fn see_way<S: Sight>(
     alloc: Global,
     sight: &mut S,
@@ -111,6 +118,8 @@ pub fn see_way<S: Sight>(
     requires legal { AreNames path.now }
     ensures small { IfOk result (λ r. MatchOption r Unit (λ p. IsSmall p.here)) }
     ensures later { IsLater (S.state sight.old) (S.state sight.new) }
+    ensures stays { StaysOver (S.device sight.old) (S.device sight.new)
+        (S.over sight.old) (S.over sight.new) }
     ensures kept { OnOk result ((S.state sight.new).fault ≡ (S.state sight.old).fault) }
     ensures cause { IfErr result (λ e. IsCause e (S.state sight.new)) }
     ensures comes { IfOk result (λ r. MatchOption r

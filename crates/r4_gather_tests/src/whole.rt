@@ -39,6 +39,12 @@ impl Whole {
 }
 
 impl Sight for Whole {
+    ghost use Rattle.r4_gather_tests.specs.NoTree.{no_device, no_tree};
+
+    ghost over = { λ w. no_tree };
+
+    ghost device = { λ w. no_device };
+
     ghost state = { λ w. record { seen = pairs_of w.seen; asked = reverse (map asked_keys w.asked.items); fault = None } };
 
     fn parts(&self) -> &Seen {

@@ -1,6 +1,6 @@
 //! Whether one of the cells that were met is named as another one than it is (docs/volume.md, "Reach").
 
-ghost use Rattle.std.specs.Prelude.{◌≡◌, All, Err, IfOk, MatchResult, None, Some, map};
+ghost use Rattle.std.specs.Prelude.{◌≡◌, All, Err, IfOk, MatchResult, None, OnOk, Some, map};
 ghost use Rattle.std.specs.Arc.{arc_value};
 ghost use Rattle.std.specs.List.Sorted.{IsNonDecreasingBy, IsPermutation};
 ghost use Rattle.r4_cell.specs.Patch.{by_name, root_of_pair};
@@ -17,14 +17,16 @@ use std::sync::Arc;
 
 /// Refuses the first of the cells that were met which another one names with another level or range, as `Damaged`, with
 /// its block: the first by level from the root, then by range; the fault is `Level`, or `Range` at item 0 where none
-/// names it with another level. Else they are a part of a tree. A block that was not met is not judged
+/// names it with another level. Else they are a part of a tree, and each is a node or a data block by itself. A block
+/// that was not met is not judged
 /// (docs/volume.md, "Reach"). For n cells with m names it takes (n + m) log n steps; a unit of an extent counts as one
 /// name, with each of its blocks that was met.
 pub fn judge(alloc: Global, root: &Root, met: &[Arc<Cell>]) -> Result<(), FetchFault>
     requires { HangTogether root.now (map (λ c. arc_value c) met.now) }
-    ensures { MatchResult result
+    ensures judged { MatchResult result
         (λ u. IsPart (by_name (map (λ c. arc_value c) met.now)) (root_of_pair root.now))
         (λ e. IsRefusal (map (λ c. arc_value c) met.now) e) }
+    ensures sound { OnOk result (All IsSound (map (λ c. arc_value c) met.now)) }
 {
     match misnamed(alloc, met)? {
         None => Ok(()),

@@ -8,15 +8,15 @@ use Rattle.std.proofs.lemmas.Option.{same_Some}
 use Rattle.r4_base.specs.Node.{items_of}
 use Rattle.r4_base.specs.Tree.{Name, Node, Root, Store}
 use Rattle.r4_base.specs.Value.{Value}
-use Rattle.r4_cell.specs.Patch.{by_name}
-use Rattle.r4_cell.specs.Seen.{CellSeen}
+use Rattle.r4_cell.specs.Patch.{HaveNames, by_name}
+use Rattle.r4_cell.specs.Seen.{CellSeen, node_of}
 use Rattle.r4_content.specs.Bodies.{larger}
 use Rattle.r4_content.specs.Edited.{Edits, Intervals, changed, is_between}
 use Rattle.r4_content.specs.Listed.{list_edited}
 use Rattle.r4_leaf.specs.Units.{leaf_bytes}
 use Rattle.r4_marking.specs.Marks.{AreChosen, AreMarks}
 use Rattle.r4_marking.proofs.Asked.{node_level}
-use Rattle.r4_patch.proofs.Members.{found}
+use Rattle.r4_patch.proofs.Members.{distinct, found, there}
 use Rattle.r4_path.specs.Nodes.{weight}
 use Rattle.r4_reach.specs.Demand.{Demand, ask, ask_of, heard, heard_one}
 use Rattle.r4_reach.specs.Needs.{Ask, all_gone, asking, cell_asks, changes_pieces, come_of, demand_of, growing, is_met}
@@ -89,13 +89,13 @@ module _ (b : Option Body) (e : Edits) (reads : Intervals) (quiet : come_of b �
         let gone = and_left (meets c.lo c.hi (come_of b)) (length c.names == all_gone hs) no_meet in
         (λ i. asking (no_move i) (record { more = need i; gone = gone i }))
 
-    above_same : changes_pieces b e c ≡ false → (if c.level == 2 then twig_asks b e c hs else node_asks b c hs)
+    above_same : (c.level ≡ 2 → changes_pieces b e c ≡ false) → (if c.level == 2 then twig_asks b e c hs else node_asks b c hs)
         ≡ needing (node_more c.level (bearing c hs) (growing hs))
     above_same still = by_level (c.level == 2) refl
       where
         by_level : (t : Bool) → (c.level == 2) ≡ t → (if t then twig_asks b e c hs else node_asks b c hs)
             ≡ needing (node_more c.level (bearing c hs) (growing hs))
-        by_level true two = twig_same still two
+        by_level true two = twig_same (still (eqb-true c.level 2 two)) two
         by_level false other = node_same other
 
   -- a node that hears nothing asks for nothing
@@ -112,7 +112,7 @@ module _ (b : Option Body) (e : Edits) (reads : Intervals) (quiet : come_of b �
       by_level true = let r = room in rw r refl
       by_level false = let r = room in rw r refl
 
-  pub asks_same : (hs : List (Name × Ask)) → 1 ≤ c.level → changes_pieces b e c ≡ false
+  pub asks_same : (hs : List (Name × Ask)) → 1 ≤ c.level → (c.level ≡ 2 → changes_pieces b e c ≡ false)
       → (2 ≤ c.level → weight (items_of c.block) ≤ 4068) → (c.level ≡ 1 → hs ≡ [])
       → leaf_change_asks e c hs ≡ cell_asks b e (changed e) c hs
   asks_same hs some still fits silent = by_level (c.level == 1) refl
@@ -199,9 +199,12 @@ module _ (b : Option Body) (e : Edits) (reads : Intervals) (met : List CellSeen)
   theirs : Demand Ask
   theirs = demand_of b e reads (changed e)
 
-  still_at : (i : ℕ) (c : Node Value) → t i ≡ Some c → changes_pieces b e c ≡ false
+  still_at : (i : ℕ) (c : Node Value) → t i ≡ Some c → c.level ≡ 2 → changes_pieces b e c ≡ false
   unfolding t
-  still_at i c is = let (x, at, id, says) = found met i c is in ap (changes_pieces b e) says ∙ h.still x at
+  still_at i c is two =
+      let (x, at, id, says) = found met i c is in
+      let level = ap (λ (n : Node Value). n.level) says in
+      ap (changes_pieces b e) says ∙ h.still x at (sym (node_level x) ∙ (sym level ∙ two))
 
   fits_at : (i : ℕ) (c : Node Value) → t i ≡ Some c → 2 ≤ c.level → weight (items_of c.block) ≤ 4068
   unfolding t
@@ -265,12 +268,12 @@ module _ (b : Option Body) (e : Edits) (reads : Intervals) (met : List CellSeen)
 
   no_turn : (i : ℕ) (c : Node Value) → t i ≡ Some c → theirs.turns c ≡ true → ⊥
   unfolding theirs
-  no_turn i c is turns = by_tests (is_touched (changed e) c) (c.level == 2) (still_at i c is) turns
+  no_turn i c is turns = by_tests (is_touched (changed e) c) (c.level == 2) refl turns
     where
-      by_tests : (p q : Bool) → changes_pieces b e c ≡ false → (p && (q && changes_pieces b e c)) ≡ true → ⊥
-      by_tests true true still so = both_ways (changes_pieces b e c) still so
-      by_tests true false still so = both_ways false refl so
-      by_tests false q still so = both_ways false refl so
+      by_tests : (p q : Bool) → (c.level == 2) ≡ q → (p && (q && changes_pieces b e c)) ≡ true → ⊥
+      by_tests true true two so = both_ways (changes_pieces b e c) (still_at i c is (eqb-true c.level 2 two)) so
+      by_tests true false other so = both_ways false refl so
+      by_tests false q other so = both_ways false refl so
 
   written_to : (i : ℕ) → IsWritten mine t i → IsWritten theirs t i
   unfolding mine theirs
@@ -345,3 +348,10 @@ module _ (b : Option Body) (e : Edits) (reads : Intervals) (met : List CellSeen)
     written = chosen (IsWritten mine t) (IsWritten theirs t) ws written_to written_from m.written;
     rising = λ a. ((λ is. root_to a ((m.rising a).0 is)), (λ asks. (m.rising a).1 (root_from a asks)));
   }
+
+  -- and each cell that was met asks for the same
+  pub asks_as : HaveNames met → (c : CellSeen) → Contains met c
+      → ask (leaf_demand e reads) (by_name met) c.level (node_of c)
+      ≡ ask (demand_of b e reads (changed e)) (by_name met) c.level (node_of c)
+  unfolding t mine theirs
+  asks_as names c at = ask_same c.level c.id (node_of c) (there met c (distinct met names) at) (node_level c)

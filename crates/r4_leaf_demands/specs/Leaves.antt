@@ -80,4 +80,5 @@ pub record AreOfLeaves (b : Option Body) (e : Edits) (met : List CellSeen) (root
     pub part : IsPart (by_name met) root
     pub fits : (c : CellSeen) → Contains met c → 2 ≤ c.level → weight (items_of c.block) ≤ 4068
     pub in_leaves : IsInLeaves b
-    pub still : (c : CellSeen) → Contains met c → changes_pieces b e (node_of c) ≡ false
+    pub still : (c : CellSeen) → Contains met c → c.level ≡ 2
+        → changes_pieces b e (node_of c) ≡ false

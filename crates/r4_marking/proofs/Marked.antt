@@ -1,16 +1,18 @@
 -- Which cells are read and written, from what is held.
 use Rattle.std.proofs.Common.{◌≡◌, ◌≢◌, ◌⊎◌, inl, inr, ℕ, zero, suc, ◌+◌, ◌-◌, ◌<◌, ◌≤◌, Bool, true, false, List, [], ◌∷◌, ◌++◌, length, map, take, refl, sym, ap, subst, ◌∙◌, arith}
-use Rattle.std.specs.Prelude.{AllPairs, Contains, Option, Some, None, slice_get, slice_index_or}
+use Rattle.std.specs.Prelude.{AllPairs, Contains, Option, Some, None, slice_get, slice_index_or, sum_by}
 use Rattle.std.proofs.lemmas.List.{get_or_append_left, get_or_push, length-append, take_more}
 use Rattle.std.proofs.lemmas.List.Elements.{Contains-append_left, Contains-push, Contains-push_cases}
 use Rattle.std.proofs.lemmas.List.Quantifiers.{all_pairs_push}
+use Rattle.std.proofs.lemmas.List.Sums.{sum_by-cons}
 use Rattle.std.proofs.lemmas.Option.{same_Some}
 use Rattle.r4_base.specs.Tree.{Name, Node, Root, Store}
 use Rattle.r4_base.specs.Value.{Value}
 use Rattle.r4_cell.specs.Patch.{by_name}
 use Rattle.r4_cell.specs.Seen.{CellSeen, node_of}
-use Rattle.r4_patch.proofs.Members.{found, none}
+use Rattle.r4_patch.proofs.Members.{found, here, later, none}
 use Rattle.r4_reach.specs.Demand.{Demand, ask, heard}
+use Rattle.r4_reach.specs.Leaves.{more_in, more_of}
 use Rattle.r4_reach.specs.Needs.{Ask}
 use Rattle.r4_reach.specs.Reach.{IsAsked, IsBeside, IsRead, IsReadAt, IsReached, IsRootAsking, IsWritten, IsWrittenAt}
 use Rattle.r4_marking.specs.Marks.{AreAsks, AreBeside, AreChosen, AreMarks, AreMet, IsWrittenBy, KeepsOrder, AddsMark, StandsBeside, heard_by_id}
@@ -218,3 +220,14 @@ module _ (d : Demand Ask) (f : ℕ → Option Ask) (beside : List ℕ) (c x : Ce
 
     pub one_left : b ≡ false → r ≡ false → AddsMark d f beside c reads writes reads writes
     one_left is read = inr (not_written is, refl, inr ((λ w. let e = sym (tells.1 (subst (λ (y : CellSeen). IsReadAt d (node_of y)) (sym also) w)) ∙ read in cc), refl))
+
+-- for how many pointers these cells ask in all
+pub asked_in_all : (d : Demand Ask) (t : Store Value) (f : ℕ → Option Ask) (met cells : List CellSeen)
+    → AreAsks d t met f → ((c : CellSeen) → Contains cells c → Contains met c)
+    → sum_by (λ (c : CellSeen). more_of (f c.id)) cells ≡ more_in d t cells
+asked_in_all d t f met [] a sub = refl
+asked_in_all d t f met (c ∷ cells) a sub =
+    let rest = asked_in_all d t f met cells a (λ x at. sub x (later c x cells at)) in
+    let first = ap more_of (a.asks c (sub c (here c cells))) in
+    sum_by-cons (λ (x : CellSeen). more_of (f x.id)) c cells
+    ∙ ((λ i. first i + rest i) ∙ sym (sum_by-cons (λ (x : CellSeen). more_of (ask d t x.level (node_of x))) c cells))

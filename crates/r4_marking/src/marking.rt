@@ -1,8 +1,9 @@
 //! Which of the cells that were met are read and written.
 
-ghost use Rattle.std.specs.Prelude.{◌≡◌, ◌↔◌, map, true, IfOk, OnOk};
+ghost use Rattle.std.specs.Prelude.{◌≡◌, ◌↔◌, map, true, IfOk, OnOk, sum_by};
 ghost use Rattle.std.specs.Arc.{arc_value};
-ghost use Rattle.r4_cell.specs.Patch.{root_of_pair};
+ghost use Rattle.r4_cell.specs.Patch.{by_name, root_of_pair};
+ghost use Rattle.r4_reach.specs.Leaves.{more_in, more_of};
 ghost use Rattle.r4_marking.specs.Marks.{AddsBeside, AreBeside, AreMarksOf, AreMet, IsWrittenBy, MarksOne, asks_seen};
 
 use crate::asking::asked_up;
@@ -10,22 +11,24 @@ use crate::demands::{Asking, Demands};
 use crate::hearing::heard_by;
 use r4_base::Memory;
 use r4_cell::{Cell, Root};
-use std::alloc::Global;
+use std::alloc::{AllocError, Global};
 use std::collections::HashMap;
 use std::sync::Arc;
 
-/// The cells of those that were met which a change reads and which it writes, in the order in which they are given; and
-/// what the root asks for, where it asks for something (docs/volume.md, "Reach").
+/// The cells of those that were met which a change reads and which it writes, in the order in which they are given; what
+/// the root asks for, where it asks for something; and for how many pointers the cells ask in all that are written
+/// (docs/volume.md, "Reach").
 #[derive(Drop)]
 pub struct Marks {
     pub reads: Vec<Arc<Cell>>,
     pub writes: Vec<Arc<Cell>>,
     pub rises: Option<Asking>,
+    pub more: u64,
 }
 
 /// Which of the cells that were met a change reads and writes. They are a part of a tree with this root, and stand by
 /// level, the lowest first. Each is looked at twice, and no other one (docs/volume.md, "Reach"). The only error is want
-/// of memory.
+/// of memory, also where 2^64 pointers or more are asked for.
 pub fn mark<D: Demands>(
     alloc: Global,
     demands: &D,
@@ -33,8 +36,10 @@ pub fn mark<D: Demands>(
     met: &[Arc<Cell>],
 ) -> Result<Marks, Memory>
     requires { AreMet (map (λ c. arc_value c) met.now) (root_of_pair root.now) }
-    ensures { IfOk result (AreMarksOf (D.demand demands.now) (map (λ c. arc_value c) met.now)
+    ensures marks { IfOk result (AreMarksOf (D.demand demands.now) (map (λ c. arc_value c) met.now)
         (root_of_pair root.now)) }
+    ensures more { IfOk result (λ m. m.more ≡ more_in (D.demand demands.now)
+        (by_name (map (λ c. arc_value c) met.now)) (map (λ c. arc_value c) m.writes.items)) }
 {
     let asks = asked_up(alloc, demands, met)?;
     let beside = beside_of(alloc, demands, met)?;
@@ -42,11 +47,28 @@ pub fn mark<D: Demands>(
         reads: Vec::new(alloc),
         writes: Vec::new(alloc),
         rises: asks.get(&root.id.0).copied(),
+        more: 0,
     };
     for cell in met {
         mark_cell(alloc, demands, cell, &asks, &beside, &mut marks)?;
     }
-    Ok(marks)
+    let more = all_more(&marks.writes, &asks)?;
+    Ok(Marks { more, ..marks })
+}
+
+// For how many pointers these cells ask in all.
+fn all_more(cells: &[Arc<Cell>], asks: &HashMap<u64, Asking>) -> Result<u64, Memory>
+    ensures { IfOk result (λ n. n ≡ sum_by (λ c. more_of (asks_seen asks.now.entries c.id))
+        (map (λ c. arc_value c) cells.now)) }
+{
+    match cells.split_first() {
+        None => Ok(0),
+        Some((first, rest)) => {
+            let more = asks.get(&first.id().0).map_or(0, |ask| ask.more);
+            let others = all_more(rest, asks)?;
+            Ok(more.checked_add(others).ok_or(AllocError)?)
+        }
+    }
 }
 
 // A cell that is written or read is put behind the others that are.

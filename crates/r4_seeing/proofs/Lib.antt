@@ -7,3 +7,4 @@ pub mod Reading
 pub mod Putting
 pub mod AskedOn
 pub mod LookingOn
+pub mod Staying

@@ -1,8 +1,9 @@
 //! What a command has seen, over a pool.
 
-ghost use Rattle.std.specs.Prelude.{◌≡◌, ◌⊎◌, ◌≤◌, ℕ, [], true, None};
+ghost use Rattle.std.specs.Prelude.{◌≡◌, ◌⊎◌, ◌≤◌, ℕ, [], true, None, map, reverse};
 ghost use Rattle.r4_base.specs.Key.{least, rank, top};
 ghost use Rattle.r4_content.specs.Edited.{is_between};
+ghost use Rattle.r4_gather.specs.Finding.{asked_keys};
 ghost use Rattle.r4_search.specs.Path.{root_name};
 ghost use Rattle.r4_search.specs.Pool.{IsKnown};
 ghost use Rattle.r4_seeing.specs.Looking.{IsLooking};
@@ -66,17 +67,19 @@ impl<P: Pool> Seeing<P> {
         }
     }
 
-    /// The pool, and what was seen.
-    pub fn into_parts(self) -> (P, Seen)
+    /// The pool, what was seen, and what was asked for, in its order.
+    pub fn into_parts(self) -> (P, Seen, Vec<Asked>)
         ensures pool { result.0 ≡ self.looking.pool }
         ensures seen { result.1 ≡ self.looking.seen }
+        ensures asked { reverse (map asked_keys result.2.items) ≡ self.asked }
     {
         let Seeing {
             looking,
-            asked: _,
+            asked,
             fault: _,
         } = self;
-        looking.into_parts()
+        let (pool, seen) = looking.into_parts();
+        (pool, seen, asked)
     }
 
     /// What was seen is what cells have that were met, at the keys that are known; these are keys that were asked for,
@@ -95,6 +98,10 @@ impl<P: Pool> Sight for Seeing<P> {
     ghost use Rattle.r4_seeing.specs.Seeing.{sighting};
 
     ghost state = { λ s. sighting s };
+
+    ghost over = { λ s. record { root = s.looking.root; pool = P.state s.looking.pool } };
+
+    ghost device = { λ s. P.device s.looking.pool };
 
     fn parts(&self) -> &Seen {
         self.looking.seen()

@@ -95,7 +95,7 @@ fn a_new_volume_is_read_once(rt: HostRuntime) -> Result<(), Fail> {
     let pool = Keeping::all(alloc, Reading::new(&mut dev, &buffer, ROOT, 64));
     let mut sight = Seeing::new(alloc, pool, ROOT);
     let found = see_root(alloc, &mut sight);
-    let (pool, seen) = sight.into_parts();
+    let (pool, seen, _) = sight.into_parts();
     let _ = pool.into_pool().into_device();
     same(&rt, &found, &Ok(()), "looking at the root directory");
     same(
@@ -119,7 +119,7 @@ fn blocks_and_holes_are_seen_in_order(rt: HostRuntime) -> Result<(), Fail> {
     let pool = Keeping::all(alloc, Reading::new(&mut dev, &buffer, ROOT, 64));
     let mut sight = Seeing::new(alloc, pool, ROOT);
     let found = see_bytes(alloc, &mut sight, 4000, 9000);
-    let (pool, seen) = sight.into_parts();
+    let (pool, seen, _) = sight.into_parts();
     let _ = pool.into_pool().into_device();
     same(&rt, &found, &Ok(()), "looking at bytes");
     same(
@@ -144,7 +144,7 @@ fn a_block_that_is_met_twice_is_damage(rt: HostRuntime) -> Result<(), Fail> {
     let mut sight = Seeing::new(alloc, pool, ROOT);
     let first = see_bytes(alloc, &mut sight, 0, 16384);
     let second = see_root(alloc, &mut sight);
-    let (pool, _) = sight.into_parts();
+    let (pool, _, _) = sight.into_parts();
     let _ = pool.into_pool().into_device();
     let damaged = FetchFault::Damaged {
         block: BlockNo(25),

@@ -27,6 +27,7 @@ use Rattle.r4_content.specs.declared.command.Command.TheVariants.{Chmod}
 use Rattle.r4_leaf_edits.specs.Made.{spread_keys}
 use Rattle.r4_patch.proofs.Members.{cases, distinct, there}
 use Rattle.r4_path.proofs.Rising.{in_node, level_is}
+use Rattle.r4_reach.specs.Leaves.{LieInLeaves}
 use Rattle.r4_reach.specs.Touched.{body_on, edits_on}
 use Rattle.r4_suited.specs.Suited.{AreLawfulSeen, IsAccepted, IsLawfulSeen}
 use Rattle.r4_suited.proofs.Walked.{at_found}
@@ -35,7 +36,7 @@ use Rattle.r4_measure.proofs.FreshReach.{highest, leaf_cell, lowest, twig_cell}
 use Rattle.r4_build.specs.Building.{CanBuild, HaveLawfulKeys}
 use Rattle.r4_build.proofs.FreshBuilt.{fresh_built}
 use Rattle.r4_spared.specs.Examples.{root_seen}
-use Rattle.r4_spared.specs.Spared.{AreObjectsSeen, ChangesLeaves, LieInLeaves, MayStandAll}
+use Rattle.r4_spared.specs.Spared.{AreObjectsSeen, ChangesLeaves, MayStandAll}
 use Rattle.r4_spared.proofs.Answered.{all_accepted}
 use Rattle.r4_spared.proofs.Lawful.{keys_lawful}
 
@@ -106,20 +107,6 @@ module _ (twig leaf : List ℕ) (is_twig : HasOneItem twig 2 3 (number_bytes 8 2
       ≡ cell_of l least top b
   named l b = λ i. cell_of l (lowest i) (highest i) b
 
-  no_block : (x : CellSeen) (n : Name) → Contains cells x → Contains (node_of x).names n → IsData n → n.id ≢ 2 ^ 63
-  unfolding fresh_twig fresh_leaf down
-  no_block x n at has block_level = elim (cases high x (low ∷ []) at) [
-    | inl is ↦
-        let same : node_of x ≡ fresh_twig twig = ap node_of is ∙ (named 2 twig ∙ sym (twig_says twig is_twig)) in
-        let one : n ≡ down = only down n (subst (λ (y : Node Value). Contains y.names n) same has) in
-        let level = ap (λ (m : Name). m.level) one in
-        absurd (omega (arith, level, block_level))
-    | inr more ↦
-        let same : node_of x ≡ fresh_leaf leaf = ap node_of (only low x more)
-        ∙ (named 1 leaf ∙ sym (leaf_says leaf is_leaf)) in
-        absurd (nothing_in n (subst (λ (y : Node Value). Contains y.names n) same has))
-  ]
-
   pub fresh_stand : MayStandAll cells
   fresh_stand = record {
     accepted = All-cons IsAccepted high (low ∷ [])
@@ -132,11 +119,10 @@ module _ (twig leaf : List ℕ) (is_twig : HasOneItem twig 2 3 (number_bytes 8 2
       | inl is ↦ ap (λ (y : CellSeen). length y.block) is ∙ whole_twig
       | inr more ↦ ap (λ (y : CellSeen). length y.block) (only low x more) ∙ whole_leaf
     ];
-    numbers = no_block;
     names = (built root_attr).names;
   }
 
-  lies : (e : Edits) (a : Attr) → e ≡ set_root a → LieInLeaves e (by_name cells)
+  lies : (e : Edits) (a : Attr) → e ≡ set_root a → LieInLeaves (by_name cells) (is_in (changed e))
   lies e a same k on from to =
       let (x, at, level, key) = (built a).lie k (subst (λ (f : Edits). is_in (changed f) k ≡ true) same on) in
       (x.id, node_of x, there cells x (distinct cells (built a).names) at, level_is x ∙ level, in_node x k key)

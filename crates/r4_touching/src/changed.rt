@@ -1,4 +1,4 @@
-//! The keys that a command changes, as intervals.
+//! The keys that a command asks for and changes, as intervals.
 
 ghost use Rattle.std.specs.Prelude.{◌≡◌, ◌∷◌, [], ℕ, ◌+◌, ◌<◌, ◌≤◌, All, OnOk, IfOk, map};
 ghost use Rattle.std.specs.List.{flat_map};
@@ -6,12 +6,14 @@ ghost use Rattle.r4_base.specs.Key.{least, rank, top};
 ghost use Rattle.r4_content.specs.Edited.{changed, is_in, put_keys};
 ghost use Rattle.r4_content.specs.Held.{edits_of, fill_pairs, interval_of, pair_of, run_pairs};
 ghost use Rattle.r4_content.specs.Objects.{byte_pairs};
+ghost use Rattle.r4_gather.specs.Finding.{asked_keys};
 ghost use Rattle.r4_leaf_edits.specs.Suiting.{IsBefore, SuitLeaves};
 ghost use Rattle.r4_touching.specs.Changed.{AddsKeys};
 
 use r4_base::{Key, Memory, Value};
 use r4_cell::{least, top};
 use r4_content::{ByteRun, Edits, FilledInterval, Interval};
+use r4_gather::Asked;
 use r4_sight::key_after;
 use std::alloc::Global;
 
@@ -29,6 +31,41 @@ pub fn changed_keys(alloc: Global, edits: &Edits) -> Result<Vec<Interval>, Memor
     add_intervals(&mut keys, edits.zeros.as_slice())?;
     add_intervals(&mut keys, edits.cuts.as_slice())?;
     Ok(keys)
+}
+
+/// The keys of a tree that were asked for: one interval for each question. The only error is want of memory
+/// (docs/volume.md, "Reach").
+pub fn keys_asked(alloc: Global, asked: &[Asked]) -> Result<Vec<Interval>, Memory>
+    ensures { IfOk result (λ v. (k : ℕ) → least ≤ k → k < top
+        → is_in (map interval_of v.items) k ≡ is_in (map asked_keys asked.now) k) }
+{
+    let mut keys = Vec::new(alloc);
+    add_asked(&mut keys, asked)?;
+    Ok(keys)
+}
+
+// The keys of questions come behind the others.
+fn add_asked(keys: &mut Vec<Interval>, asked: &[Asked]) -> Result<(), Memory>
+    ensures { OnOk result (AddsKeys keys.old.items (map asked_keys asked.now) keys.new.items) }
+{
+    match asked.split_first() {
+        None => Ok(()),
+        Some((first, rest)) => {
+            keys.push(keys_of_question(*first))?;
+            add_asked(keys, rest)
+        }
+    }
+}
+
+// The keys of a tree that one question asks for.
+fn keys_of_question(asked: Asked) -> Interval
+    ensures { (k : ℕ) → least ≤ k → k < top
+        → is_in (interval_of result ∷ []) k ≡ is_in (asked_keys asked ∷ []) k }
+{
+    match asked {
+        Asked::Key(key) => one_key(key),
+        Asked::Within(interval) => interval,
+    }
 }
 
 // The keys of intervals come behind the others.

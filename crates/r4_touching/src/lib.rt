@@ -4,5 +4,5 @@
 mod changed;
 mod touching;
 
-pub use changed::changed_keys;
+pub use changed::{changed_keys, keys_asked};
 pub use touching::touch;

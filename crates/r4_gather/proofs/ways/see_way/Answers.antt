@@ -6,6 +6,7 @@ use Rattle.r4_search.proofs.Walks.{map_push}
 use Rattle.r4_gather.specs.Asking.{HasEnded, IsAt, IsStopped}
 use Rattle.r4_gather.specs.Walking.{IsWalking}
 use Rattle.r4_gather.proofs.Beginning.{always_err}
+use Rattle.r4_gather.proofs.Staying.{stays_both}
 use Rattle.r4_gather.proofs.Steps.{drop_item, walking_stops, way_ends, way_goes_on, way_stops}
 use Rattle.r4_gather.proofs.ways.see_way.Goals as goal
 
@@ -72,6 +73,10 @@ loop-name-preserved g c =
     c.in_ok-push-in-Some-2.ensures.items in
     record {
       small = rw c.in-Some-2.is at c.in_ok-next.ensures.small;
+      stays = stays_both (g.S.Sight.device c.args.sight.now) (g.S.Sight.device c.loop-name.sight)
+          (g.S.Sight.device c.see_step.new.sight) (g.S.Sight.over c.args.sight.now)
+          (g.S.Sight.over c.loop-name.sight) (g.S.Sight.over c.see_step.new.sight) c.loop-name.invariant.stays
+          c.in_ok-next.ensures.stays;
       kept = c.in_ok-next.ensures.kept ∙ c.loop-name.invariant.kept;
       walk = subst (λ (xs : List SeenObject). IsWalking path (drop (i + 1) path) old new
           (record { here = object_of next; above = xs })) (sym pushed)

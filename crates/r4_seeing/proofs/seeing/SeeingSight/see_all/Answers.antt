@@ -3,11 +3,13 @@ use Rattle.std.specs.Prelude.{reverse, true}
 use Rattle.std.proofs.lemmas.Bool.Decides.{nat_tests}
 use Rattle.r4_base.specs.Key.{least, rank, top}
 use Rattle.r4_content.specs.Edited.{Intervals, is_between}
-use Rattle.r4_gather.specs.Asking.{IsLater}
+use Rattle.r4_gather.specs.Asking.{IsLater, StaysOver}
+use Rattle.r4_gather.proofs.Staying.{stays_same}
 use Rattle.r4_gather.specs.declared.sight.Asked.{Asked}
 use Rattle.r4_gather.specs.declared.sight.Asked.TheVariants.{Within}
 use Rattle.r4_gather.specs.Finding.{asked_keys}
 use Rattle.r4_seeing.specs.Seeing.{IsSeeing, sighting}
+use Rattle.r4_seeing.proofs.Staying.{goes_stay}
 use Rattle.r4_seeing.proofs.AskedOn.{asked_more, asked_within, clipped, clipped_in, later_seeing}
 use Rattle.r4_seeing.proofs.seeing.SeeingSight.see_all.Goals as goal
 
@@ -55,3 +57,26 @@ returns-clause-later g c =
     }) (rank c.args.within.from, rank c.args.within.to) c.self.invariant c.in_default.is
     (ap (λ (items : List Asked). reverse (map asked_keys items)) c.in_ok-push.ensures.items
     ∙ asked_more c.self.inside.asked.items (Within c.args.within)) c.look-looked.ensures.more)
+
+pub returns-in-Some-clause-stays : goal.returns-in-Some-clause-stays
+returns-in-Some-clause-stays g c =
+    let l = c.args.self.now.looking in
+    stays_same (g.P.Pool.device l.pool) (record { root = l.root; pool = g.P.Pool.state l.pool })
+
+pub returns-in_err-push-clause-stays : goal.returns-in_err-push-clause-stays
+returns-in_err-push-clause-stays g c =
+    let l = c.self.inside.looking in
+    subst (λ v. StaysOver (g.P.Pool.device v.looking.pool) (g.P.Pool.device l.pool)
+    (record { root = v.looking.root; pool = g.P.Pool.state v.looking.pool })
+    (record { root = l.root; pool = g.P.Pool.state l.pool })) c.self.view_is
+    (stays_same (g.P.Pool.device l.pool) (record { root = l.root; pool = g.P.Pool.state l.pool }))
+
+pub returns-clause-stays : goal.returns-clause-stays
+returns-clause-stays g c =
+    let l = c.self.inside.looking in
+    let m = c.look-looked.new.self in
+    subst (λ v. StaysOver (g.P.Pool.device v.looking.pool) (g.P.Pool.device m.pool)
+    (record { root = v.looking.root; pool = g.P.Pool.state v.looking.pool })
+    (record { root = m.root; pool = g.P.Pool.state m.pool })) c.self.view_is
+    (goes_stay (g.P.Pool.device l.pool) (g.P.Pool.device m.pool) (g.P.Pool.state l.pool) (g.P.Pool.state m.pool)
+    l.root m.root c.look-looked.ensures.more.root c.look-looked.ensures.device c.look-looked.ensures.goes)
