@@ -1,0 +1,4 @@
+pub mod Made
+pub mod Faults
+pub mod Spelled
+pub mod Written

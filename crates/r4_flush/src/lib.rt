@@ -1,0 +1,9 @@
+//! What the flush of an atom prepares: its cells under the names of their blocks, and the plan of its commit
+//! (docs/durable.md, "From an open atom to its plan").
+#![tactic(auto)]
+
+mod bodies;
+mod cells;
+mod names;
+
+pub use cells::RenamedCell;
