@@ -17,8 +17,7 @@ use Rattle.r4_node40.proofs.Accepted.{accepted, good}
 use Rattle.r4_node40.proofs.Bodies.{body_lent}
 use Rattle.r4_node40.proofs.Kept.{node_written}
 use Rattle.r4_node40.proofs.Laid.{get-items_of, length-items_of}
-use Rattle.r4_flush.specs.Anew.{IsBlockAnew, IsItemAnew, unit_anew}
-use Rattle.r4_flush.specs.Prepared.{IsWrittenAnew}
+use Rattle.r4_flush.specs.Anew.{IsBlockAnew, IsItemAnew, IsWrittenAnew, unit_anew}
 use Rattle.r4_flush.proofs.Made.{AreMadeTo, made_all, made_set, same_behind}
 
 -- ---- one item

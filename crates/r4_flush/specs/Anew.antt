@@ -8,12 +8,12 @@ use Rattle.std.specs.Option.{option_map}
 use Rattle.r4_base.specs.Bitmap.{is_fixed}
 use Rattle.r4_base.specs.Cell.{is_extent, is_pointer}
 use Rattle.r4_base.specs.Extents.{pointer_of, units_of}
-use Rattle.r4_base.specs.Node.{Item, count_of, item_flags_at, items_of, start_of}
+use Rattle.r4_base.specs.Node.{Item, count_of, item_at, item_flags_at, items_of, start_of}
 use Rattle.r4_base.specs.declared.items.Unit.{Unit as ExtentUnit}
 use Rattle.r4_base.specs.declared.limits.TheConstants.{UNPLACED}
 use Rattle.r4_base.specs.declared.things.BlockNo.{BlockNo}
 use Rattle.r4_cell.specs.Seen.{CellSeen}
-use Rattle.r4_node40.specs.Laid.{KeepsFree, SameHead, room_of}
+use Rattle.r4_node40.specs.Laid.{KeepsFree, SameHead, WritesBody, room_of}
 use Rattle.r4_sealed.specs.Commits.{spot_of}
 
 -- ---- names
@@ -64,6 +64,12 @@ pub record IsBlockAnew (f : ℕ → ℕ) (b c : List ℕ) : Type 0 where
   pub start : start_of c ≡ start_of b
   pub flags : (k : ℕ) → k < count_of b → item_flags_at c k ≡ item_flags_at b k
   pub free : KeepsFree b c
+
+-- Item i is named anew, and nothing else of the block changes.
+pub record IsWrittenAnew (f : ℕ → ℕ) (old : List ℕ) (i : ℕ) (new : List ℕ) : Type 0 where
+  pub body : List ℕ
+  pub written : WritesBody old body i new
+  pub anew : IsItemAnew f (item_at (count_of old) old i) (record (item_at (count_of old) old i) { body = body })
 
 -- The cell under its new name: a data block with its bytes, and a node with its block named anew.
 pub record IsCellAnew (f : ℕ → ℕ) (x y : CellSeen) : Type 0 where

@@ -5,5 +5,7 @@
 mod bodies;
 mod cells;
 mod names;
+mod preparing;
 
 pub use cells::RenamedCell;
+pub use preparing::{Prepared, prepare};

@@ -4,9 +4,10 @@ ghost use Rattle.std.specs.Prelude.{◌≡◌, ℕ, IfOk, map};
 ghost use Rattle.std.specs.Ordering.{nat_cmp};
 ghost use Rattle.std.specs.BTreeMap.{get};
 ghost use Rattle.r4_commit.specs.Places.{block_given, place_of};
+ghost use Rattle.r4_placed.specs.Flushing.{answer_by_block, answers_by_block};
 ghost use Rattle.r4_flush.specs.Anew.{new_name};
 
-use r4_base::{BlockNo, Memory};
+use r4_base::{BlockNo, Memory, NodeId};
 use r4_place::{How, Placed};
 use std::alloc::Global;
 use std::collections::BTreeMap;
@@ -44,5 +45,30 @@ pub(crate) fn new_name(names: &Names, name: u64) -> u64
     match names.get(&name) {
         Some(block) => block.0,
         None => name,
+    }
+}
+
+/// The answers, each for the cell under the name of its block.
+pub(crate) fn by_block(alloc: Global, answers: &[Placed]) -> Result<Vec<Placed>, Memory>
+    ensures { IfOk result (λ v. v.items ≡ answers_by_block answers.now) }
+{
+    let mut renamed = Vec::with_capacity(alloc, answers.len())?;
+    for answer in answers {
+        renamed.push(answer_by_block(*answer))?;
+    }
+    Ok(renamed)
+}
+
+// An answer for the cell under the name of its block.
+fn answer_by_block(answer: Placed) -> Placed
+    ensures { result ≡ answer_by_block answer }
+{
+    let node = match block_given(answer.how) {
+        Some(block) => NodeId(block.0),
+        None => answer.node,
+    };
+    Placed {
+        node,
+        how: answer.how,
     }
 }
