@@ -104,15 +104,19 @@ module _ (f : ℕ → ℕ) (blocks_are : BecomeBlocks f) where
     e,
   ) refl
 
-  extent_fault : (it : Item) → is_extent it ≡ true → item_body_fault true (2 ^ 64) it
-      ≡ option_map Extent (body_fault true (2 ^ 64) it.body)
+  pub extent_fault_on : (blocks : ℕ) (it : Item) → is_extent it ≡ true → item_body_fault true blocks it
+      ≡ option_map Extent (body_fault true blocks it.body)
   unfolding item_body_fault
-  extent_fault it e = rw (
+  extent_fault_on blocks it e = rw (
     not_kind it.plugin 5 0 (λ k. absurd cc) e,
     not_kind it.plugin 5 2 (λ k. absurd cc) e,
     not_kind it.plugin 5 3 (λ k. absurd cc) e,
     e,
   ) refl
+
+  extent_fault : (it : Item) → is_extent it ≡ true → item_body_fault true (2 ^ 64) it
+      ≡ option_map Extent (body_fault true (2 ^ 64) it.body)
+  extent_fault = extent_fault_on (2 ^ 64)
 
   pointer_end : (it : Item) → is_pointer it ≡ true → item_end it ≡ rank it.key + 1
   unfolding item_end

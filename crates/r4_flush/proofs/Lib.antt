@@ -5,3 +5,4 @@ pub mod Written
 pub mod Choosing
 pub mod Overwriting
 pub mod Preparation
+pub mod Joining

@@ -4,8 +4,10 @@
 
 mod bodies;
 mod cells;
+mod laws;
 mod names;
 mod preparing;
 
 pub use cells::RenamedCell;
+pub use laws::names_are_those_of_blocks;
 pub use preparing::{Prepared, prepare};
