@@ -6,3 +6,4 @@ pub mod Choosing
 pub mod Overwriting
 pub mod Preparation
 pub mod Joining
+pub mod Flushed

@@ -115,20 +115,6 @@ module _ (f : ℕ → ℕ) where
             ∙ s.free p (omega (arith, from, w.written.start)) (omega (arith, to, w.written.count));
       }
 
-  pub all_so_far : (n : ℕ) (b c : List ℕ) → length b ≡ 4096 → n ≡ length (items_of b) → IsSoFar n b c
-      → IsBlockAnew f b c
-  all_so_far n b c whole all s = record {
-    whole = s.node.laid.whole ∙ sym whole;
-    items = made_all (IsItemAnew f) (items_of b) (items_of c)
-        (subst (λ (k : ℕ). AreMadeTo (IsItemAnew f) k (items_of b) (items_of c)) all s.items);
-    count = s.count;
-    head = s.head;
-    room = s.room;
-    start = s.start;
-    flags = s.flags;
-    free = s.free;
-  }
-
   -- and it is a node that is accepted
   pub accepted_so_far : (n : ℕ) (b c : List ℕ) → length b ≡ 4096 → node_fault b ≡ None → IsSoFar n b c
       → node_fault c ≡ None
@@ -138,3 +124,19 @@ module _ (f : ℕ → ℕ) where
       ap (λ (l : ℕ). nat_lt 1 l && eqb (count_of c) 0) s.head.level
       ∙ ap (λ (k : ℕ). nat_lt 1 (level_of b) && eqb k 0) s.count in
       accepted c s.node ∙ ap (λ (t : Bool). cond t (Some Empty) None) (same ∙ some)
+
+  pub all_so_far : (n : ℕ) (b c : List ℕ) → length b ≡ 4096 → node_fault b ≡ None
+      → n ≡ length (items_of b) → IsSoFar n b c
+      → IsBlockAnew f b c
+  all_so_far n b c whole none all s = record {
+    whole = s.node.laid.whole ∙ sym whole;
+    node = accepted_so_far n b c whole none s ∙ sym none;
+    items = made_all (IsItemAnew f) (items_of b) (items_of c)
+        (subst (λ (k : ℕ). AreMadeTo (IsItemAnew f) k (items_of b) (items_of c)) all s.items);
+    count = s.count;
+    head = s.head;
+    room = s.room;
+    start = s.start;
+    flags = s.flags;
+    free = s.free;
+  }

@@ -8,7 +8,7 @@ use Rattle.std.specs.Option.{option_map}
 use Rattle.r4_base.specs.Bitmap.{is_fixed}
 use Rattle.r4_base.specs.Cell.{is_extent, is_pointer}
 use Rattle.r4_base.specs.Extents.{pointer_of, units_of}
-use Rattle.r4_base.specs.Node.{Item, count_of, item_at, item_flags_at, items_of, start_of}
+use Rattle.r4_base.specs.Node.{Item, count_of, item_at, item_flags_at, items_of, node_fault, start_of}
 use Rattle.r4_base.specs.declared.items.Unit.{Unit as ExtentUnit}
 use Rattle.r4_base.specs.declared.limits.TheConstants.{UNPLACED}
 use Rattle.r4_base.specs.declared.things.BlockNo.{BlockNo}
@@ -54,9 +54,10 @@ AreItemsAnew f = AreMade (IsItemAnew f)
 
 -- ---- blocks
 
--- The items are named anew, and all else of the block is as it was.
+-- The items are named anew, and all else of the block is as it was. It is a node where it was one.
 pub record IsBlockAnew (f : ℕ → ℕ) (b c : List ℕ) : Type 0 where
   pub whole : length c ≡ length b
+  pub node : node_fault c ≡ node_fault b
   pub items : AreItemsAnew f (items_of b) (items_of c)
   pub count : count_of c ≡ count_of b
   pub head : SameHead b c

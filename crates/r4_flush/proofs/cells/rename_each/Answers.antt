@@ -34,7 +34,7 @@ loop-i-preserved c =
 
 pub returns-clause-anew : goal.returns-clause-anew
 returns-clause-anew c = all_so_far (new_name (get nat_cmp c.args.names.now)) c.loop-i.i (bytes_of c.args.node.now)
-    (bytes_of c.loop-i.node) c.requires.whole (omega (arith, c.requires.counted)) c.loop-i.invariant.1
+    (bytes_of c.loop-i.node) c.requires.whole c.requires.node (omega (arith, c.requires.counted)) c.loop-i.invariant.1
 
 pub returns-clause-again : goal.returns-clause-again
 returns-clause-again c = accepted_so_far (new_name (get nat_cmp c.args.names.now)) c.loop-i.i
