@@ -7,3 +7,4 @@ pub mod Overwriting
 pub mod Preparation
 pub mod Joining
 pub mod Flushed
+pub mod Standing

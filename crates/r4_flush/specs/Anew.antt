@@ -24,7 +24,8 @@ new_name place i = spot_of (place i) i
 
 -- Each name stays, or it is one from 2^63 on, and becomes that of a block which may be named.
 abbrev pub BecomeBlocks : (ℕ → ℕ) → Type 0
-BecomeBlocks f = (i : ℕ) → (f i ≡ i) ⊎ ((UNPLACED ≤ i) × (f i < 2 ^ 64) × (is_fixed (2 ^ 64) (f i) ≡ false))
+BecomeBlocks f = (i : ℕ) → (f i ≡ i) ⊎ ((UNPLACED ≤ i) × (f i < 2 ^ 64)
+    × (is_fixed (2 ^ 64) (f i) ≡ false))
 
 -- ---- items
 
@@ -70,7 +71,8 @@ pub record IsBlockAnew (f : ℕ → ℕ) (b c : List ℕ) : Type 0 where
 pub record IsWrittenAnew (f : ℕ → ℕ) (old : List ℕ) (i : ℕ) (new : List ℕ) : Type 0 where
   pub body : List ℕ
   pub written : WritesBody old body i new
-  pub anew : IsItemAnew f (item_at (count_of old) old i) (record (item_at (count_of old) old i) { body = body })
+  pub anew : IsItemAnew f (item_at (count_of old) old i) (record (item_at
+      (count_of old) old i) { body = body })
 
 -- The cell under its new name: a data block with its bytes, and a node with its block named anew.
 pub record IsCellAnew (f : ℕ → ℕ) (x y : CellSeen) : Type 0 where

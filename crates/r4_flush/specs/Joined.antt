@@ -27,7 +27,8 @@ abbrev pub flushed_cells : List RenamedCell → List CellSeen
 flushed_cells renamed = map flushed_cell renamed
 
 -- the flush that was prepared, on an image
-abbrev pub flushing_of : (base : Image) (space : Space) → AtomNo → (answers : List Placed) → Super40 → (last : BlockNo)
+abbrev pub flushing_of : (base : Image) (space : Space) → AtomNo → (answers : List Placed)
+    → Super40 → (last : BlockNo)
     → Prepared → Flushing
 flushing_of base space atom answers next last p = record {
   base = base;
@@ -50,5 +51,6 @@ pub record AreOwnCells (c : Session) (atom : AtomNo) (cells : List CellSeen) : T
 
 -- no cell names a block that was chosen
 abbrev pub NameNoneChosen : List CellSeen → List Placed → Type 0
-NameNoneChosen cells answers = (x : CellSeen) (z : Name) → Contains cells x → Contains (node_of x).names z
+NameNoneChosen cells answers = (x : CellSeen) (z : Name) → Contains cells x
+    → Contains (node_of x).names z
     → Contains (fresh_blocks answers) z.id → ⊥

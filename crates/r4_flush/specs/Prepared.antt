@@ -27,14 +27,16 @@ abbrev pub cells_of : List RenamedCell → List CellSeen
 cells_of renamed = map (λ r. arc_value r.cell) renamed
 
 -- The plan is that for the cells and the answers under the names of the blocks.
-abbrev pub IsPlannedByBlock : (old new : Space) → AtomNo → List RenamedCell → List Placed → Super40 → (last : BlockNo)
+abbrev pub IsPlannedByBlock : (old new : Space) → AtomNo → List RenamedCell → List Placed
+    → Super40 → (last : BlockNo)
     → CommitSeen → Type 0
 IsPlannedByBlock old new atom renamed answers next last c =
     IsPlanned old new atom (cells_of renamed) (answers_by_block answers) next last c
 
 -- The cells in order, the answers that were chosen for them, and each cell named anew by these; the root so too; and
 -- the plan for them, on the space with the chosen blocks placed.
-pub record IsPrepared (given : List CellSeen) (atom : AtomNo) (next : Super40) (last : BlockNo) (space : Space)
+pub record IsPrepared (given : List CellSeen) (atom : AtomNo) (next : Super40) (last : BlockNo)
+    (space : Space)
     (p : Prepared) : Type 0 where
   pub cells : List CellSeen
   pub same : IsPermutation given cells

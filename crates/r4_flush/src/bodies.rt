@@ -18,8 +18,10 @@ pub(crate) fn rename_body(plugin: u16, body: &mut [u8], names: &Names)
     requires names { BecomeBlocks (new_name (get nat_cmp names.now)) }
     requires short { length body.old ≤ 4096 }
     ensures long { length body.new ≡ length body.old }
-    ensures pointer { plugin ≡ 3 → pointer_of body.new ≡ option_map (new_name (get nat_cmp names.now)) (pointer_of body.old) }
-    ensures extent { plugin ≡ 5 → units_of body.new ≡ map (unit_anew (new_name (get nat_cmp names.now))) (units_of body.old) }
+    ensures pointer { plugin ≡ 3 → pointer_of body.new ≡ option_map (new_name
+        (get nat_cmp names.now)) (pointer_of body.old) }
+    ensures extent { plugin ≡ 5 → units_of body.new ≡ map (unit_anew (new_name
+        (get nat_cmp names.now))) (units_of body.old) }
     ensures other { plugin ≢ 3 → plugin ≢ 5 → body.new ≡ body.old }
 {
     match plugin {
@@ -33,7 +35,8 @@ pub(crate) fn rename_body(plugin: u16, body: &mut [u8], names: &Names)
 fn rename_pointer(body: &mut [u8], names: &Names)
     requires { BecomeBlocks (new_name (get nat_cmp names.now)) }
     ensures long { length body.new ≡ length body.old }
-    ensures pointer { pointer_of body.new ≡ option_map (new_name (get nat_cmp names.now)) (pointer_of body.old) }
+    ensures pointer { pointer_of body.new ≡ option_map (new_name (get nat_cmp names.now))
+        (pointer_of body.old) }
 {
     if let Some(to) = pointer(body) {
         put_pointer(body, BlockNo(new_name(names, to.0)));
@@ -44,7 +47,8 @@ fn rename_pointer(body: &mut [u8], names: &Names)
 fn rename_units(body: &mut [u8], names: &Names)
     requires { length body.old ≤ 4096 }
     ensures long { length body.new ≡ length body.old }
-    ensures units { units_of body.new ≡ map (unit_anew (new_name (get nat_cmp names.now))) (units_of body.old) }
+    ensures units { units_of body.new ≡ map (unit_anew (new_name (get nat_cmp names.now)))
+        (units_of body.old) }
 {
     let count = (body.len() / UNIT) as u16;
     for i in 0..count {
@@ -84,7 +88,8 @@ fn renamed_unit(unit: Unit, names: &Names) -> Unit
 /// Whether an item names one that gets another name.
 pub(crate) fn names_other(item: &ItemView<'_>, names: &Names) -> bool
     requires { length item.now.body.now ≤ 4096 }
-    ensures { result ≡ false → IsItemAnew (new_name (get nat_cmp names.now)) (item_shown item.now) (item_shown item.now) }
+    ensures { result ≡ false → IsItemAnew (new_name (get nat_cmp names.now))
+        (item_shown item.now) (item_shown item.now) }
 {
     match item.plugin {
         POINTER => points_to_other(item.body, names),
@@ -95,7 +100,8 @@ pub(crate) fn names_other(item: &ItemView<'_>, names: &Names) -> bool
 
 // Whether a pointer names one that gets another name.
 fn points_to_other(body: &[u8], names: &Names) -> bool
-    ensures { result ≡ false → option_map (new_name (get nat_cmp names.now)) (pointer_of body.now) ≡ pointer_of body.now }
+    ensures { result ≡ false → option_map (new_name (get nat_cmp names.now))
+        (pointer_of body.now) ≡ pointer_of body.now }
 {
     match pointer(body) {
         Some(to) => new_name(names, to.0) != to.0,
@@ -106,7 +112,8 @@ fn points_to_other(body: &[u8], names: &Names) -> bool
 // Whether some unit of an extent gets another name.
 fn has_other(body: &[u8], names: &Names) -> bool
     requires { length body.now ≤ 4096 }
-    ensures { result ≡ false → map (unit_anew (new_name (get nat_cmp names.now))) (units_of body.now) ≡ units_of body.now }
+    ensures { result ≡ false → map (unit_anew (new_name (get nat_cmp names.now)))
+        (units_of body.now) ≡ units_of body.now }
 {
     for i in 0..(body.len() / UNIT) as u16 {
         let unit = unit_in(body, i);

@@ -35,7 +35,8 @@ pub(crate) fn rename_cells(
     names: &Names,
 ) -> Result<Vec<RenamedCell>, Memory>
     requires { BecomeBlocks (new_name (get nat_cmp names.now)) }
-    ensures { IfOk result (λ v. AreMade (WasCell (new_name (get nat_cmp names.now))) (map (λ c. arc_value c) cells.now) v.items) }
+    ensures { IfOk result (λ v. AreMade (WasCell (new_name (get nat_cmp names.now))) (map
+        (λ c. arc_value c) cells.now) v.items) }
 {
     let mut renamed = Vec::with_capacity(alloc, cells.len())?;
     for cell in cells {
@@ -49,7 +50,8 @@ pub(crate) fn rename_cells(
 // A cell under its new name, which is shared where neither it nor one that it names gets another name.
 fn rename_cell(alloc: Global, cell: &Arc<Cell>, names: &Names) -> Result<Arc<Cell>, Memory>
     requires { BecomeBlocks (new_name (get nat_cmp names.now)) }
-    ensures { IfOk result (λ c. IsCellAnew (new_name (get nat_cmp names.now)) (arc_value cell.now) (arc_value c)) }
+    ensures { IfOk result (λ c. IsCellAnew (new_name (get nat_cmp names.now))
+        (arc_value cell.now) (arc_value c)) }
 {
     let id = new_name(names, cell.id().0);
     if id == cell.id().0 && !has_other_names(cell, names) {
@@ -62,7 +64,8 @@ fn rename_cell(alloc: Global, cell: &Arc<Cell>, names: &Names) -> Result<Arc<Cel
 // Whether a cell names one that gets another name.
 fn has_other_names(cell: &Cell, names: &Names) -> bool
     ensures { result ≡ false → cell.now.level ≢ 0
-        → AreItemsAnew (new_name (get nat_cmp names.now)) (items_of cell.now.block) (items_of cell.now.block) }
+        → AreItemsAnew (new_name (get nat_cmp names.now)) (items_of cell.now.block)
+        (items_of cell.now.block) }
 {
     cell.level() != 0 && names_others(&cell.node(), names)
 }
@@ -70,7 +73,8 @@ fn has_other_names(cell: &Cell, names: &Names) -> bool
 // Whether some item of a node names one that gets another name.
 fn names_others(node: &NodeView<'_>, names: &Names) -> bool
     requires { length (view_block node.now).now ≡ 4096 }
-    ensures { result ≡ false → AreItemsAnew (new_name (get nat_cmp names.now)) (view_items node.now) (view_items node.now) }
+    ensures { result ≡ false → AreItemsAnew (new_name (get nat_cmp names.now))
+        (view_items node.now) (view_items node.now) }
 {
     for i in 0..node.len() {
         if names_other(&node.item(i), names) {
@@ -86,7 +90,8 @@ fn rename_block(alloc: Global, cell: &Cell, names: &Names) -> Result<Block, Memo
     ensures bytes { IfOk result (λ b. cell.now.level ≡ 0 → b ≡ cell.now.block) }
     ensures node { IfOk result (λ b. cell.now.level ≢ 0
         → IsBlockAnew (new_name (get nat_cmp names.now)) cell.now.block b) }
-    ensures stands { IfOk result (λ b. cell_fault true (2 ^ 64) cell.now.level (rank cell.now.lo) (rank cell.now.hi) b ≡ None) }
+    ensures stands { IfOk result (λ b. cell_fault true (2 ^ 64) cell.now.level
+        (rank cell.now.lo) (rank cell.now.hi) b ≡ None) }
 {
     let mut block = cell.block().copy(alloc)?;
     if cell.level() != 0 {
@@ -116,7 +121,8 @@ fn rename_each(node: &mut NodeMut<'_>, count: u16, names: &Names)
     requires node { node_fault (bytes_of node.old) ≡ None }
     requires counted { count ≡ length (items_of (bytes_of node.old)) }
     ensures block { node.new ≡ with_bytes node.old (bytes_of node.new) }
-    ensures anew { IsBlockAnew (new_name (get nat_cmp names.now)) (bytes_of node.old) (bytes_of node.new) }
+    ensures anew { IsBlockAnew (new_name (get nat_cmp names.now)) (bytes_of node.old)
+        (bytes_of node.new) }
     ensures again { node_fault (bytes_of node.new) ≡ None }
 {
     for i in 0..count {
@@ -130,7 +136,8 @@ fn rename_item(node: &mut NodeMut<'_>, i: u16, names: &Names)
     requires laid { IsLaid (bytes_of node.old) }
     requires within { i < count_of (bytes_of node.old) }
     ensures block { node.new ≡ with_bytes node.old (bytes_of node.new) }
-    ensures written { IsWrittenAnew (new_name (get nat_cmp names.now)) (bytes_of node.old) i (bytes_of node.new) }
+    ensures written { IsWrittenAnew (new_name (get nat_cmp names.now)) (bytes_of node.old) i
+        (bytes_of node.new) }
 {
     let plugin = node.view().item(i).plugin;
     rename_body(plugin, node.body_mut(i), names);

@@ -9,5 +9,5 @@ mod names;
 mod preparing;
 
 pub use cells::RenamedCell;
-pub use laws::{names_are_those_of_blocks, prepared_atoms_are_flushed};
+pub use laws::{chosen_blocks_are_free, names_are_those_of_blocks, prepared_atoms_are_flushed};
 pub use preparing::{Prepared, prepare};

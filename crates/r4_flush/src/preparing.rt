@@ -55,7 +55,8 @@ pub fn prepare(
         + fresh_count (map (λ c. arc_value c) cells.items) ≤ unused_count space.now }
     requires stand { All (StandsIn space.now.block_count) (map (λ c. arc_value c) cells.items) }
     requires blocks { next.now.block_count ≡ space.now.block_count }
-    ensures { IfOk result (IsPrepared (map (λ c. arc_value c) cells.items) atom next.now prev space.now) }
+    ensures { IfOk result (IsPrepared (map
+        (λ c. arc_value c) cells.items) atom next.now prev space.now) }
 {
     space.lawful();
     let mut cells = cells;
@@ -97,11 +98,14 @@ fn plan_renamed(
     prev: BlockNo,
     space: &mut SpaceMap,
 ) -> Result<CommitPlan, Memory>
-    requires room { price_formula (length renamed.now) (bitmap_count space.old.block_count) ≤ unused_count space.old }
-    requires within { All (λ c. (c.id ≢ 0) × (c.id < space.old.block_count)) (cells_of renamed.now) }
+    requires room { price_formula (length renamed.now) (bitmap_count space.old.block_count)
+        ≤ unused_count space.old }
+    requires within { All (λ c. (c.id ≢ 0) × (c.id < space.old.block_count))
+        (cells_of renamed.now) }
     requires placed { All (λ b. b < space.old.block_count) (fresh_blocks answers.now) }
     requires blocks { next.now.block_count ≡ space.old.block_count }
-    ensures { IfOk result (IsPlannedByBlock space.old space.new atom renamed.now answers.now next.now prev) }
+    ensures { IfOk result
+        (IsPlannedByBlock space.old space.new atom renamed.now answers.now next.now prev) }
 {
     let cells = share_cells(alloc, renamed)?;
     let answers = by_block(alloc, answers)?;
