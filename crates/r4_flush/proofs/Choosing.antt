@@ -1,7 +1,7 @@
 -- What the chosen blocks are to the names of cells, and how many unused blocks are left.
-use Rattle.std.proofs.Common.{◌≡◌, ◌≢◌, ◌⊎◌, inl, inr, ⊎_elim, ℕ, suc, ◌+◌, ◌/◌, ◌^◌, ◌<◌, ◌≤◌, Bool, true, false, eqb, leb, List}
-use Rattle.std.proofs.Common.{[], ◌∷◌, ◌++◌, length, map, set, get_or, Option, Some, None, refl, sym, ap, ◌∙◌, subst, arith}
-use Rattle.std.specs.Prelude.{All, Contains, sum_by, nat_le, if◌then◌else◌}
+use Rattle.std.proofs.Common.{◌≡◌, ◌≢◌, ◌⊎◌, inl, inr, ⊎_elim, ℕ, ◌+◌, ◌^◌, ◌<◌, ◌≤◌, Bool, true, false, List}
+use Rattle.std.proofs.Common.{[], ◌∷◌, get_or, Option, Some, None, refl, sym, ap, ◌∙◌, subst, arith}
+use Rattle.std.specs.Prelude.{All, Contains, sum_by, if◌then◌else◌}
 use Rattle.std.proofs.lemmas.Bool.{le-leb}
 use Rattle.std.proofs.lemmas.Bool.Decides.{nat_tests}
 use Rattle.std.proofs.lemmas.List.{length-set}
@@ -14,7 +14,7 @@ use Rattle.r4_cell.specs.Seen.{CellSeen}
 use Rattle.r4_space.specs.Lawful.{IsLawful}
 use Rattle.r4_space.specs.Space.{Space, is_taken, unused_count, with_placed}
 use Rattle.r4_space.proofs.UsedLaws.{placed_fewer}
-use Rattle.r4_place.specs.Chosen.{AreChosen, IsChosen, behind, block_of, fresh_blocks, placed_all, placed_in}
+use Rattle.r4_place.specs.Chosen.{AreChosen, IsChosen, behind, fresh_blocks, placed_all, placed_in}
 use Rattle.r4_place.specs.declared.placed.How.{How}
 use Rattle.r4_place.specs.declared.placed.How.TheVariants.{Fresh, Relocate, Overwrite}
 use Rattle.r4_place.specs.declared.placed.Placed.{Placed}

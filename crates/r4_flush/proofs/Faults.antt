@@ -1,22 +1,20 @@
 -- A block whose items are named anew may stand in memory where it stood.
-use Rattle.std.proofs.Common.{◌≡◌, ◌≢◌, ◌⊎◌, inl, inr, ⊎_elim, ℕ, zero, suc, ◌+◌, ◌*◌, ◌%◌, ◌^◌, ◌<◌, ◌≤◌, Bool, true, false}
-use Rattle.std.proofs.Common.{not, ◌&&◌, ◌||◌, eqb, List, [], ◌∷◌, length, map, Option, Some, None, refl, sym, ap, ◌∙◌, subst}
-use Rattle.std.proofs.Common.{arith, cond}
-use Rattle.std.specs.Prelude.{◌==◌, nat_le, nat_lt, if◌then◌else◌}
-use Rattle.std.specs.Option.{option_map, option_or}
+use Rattle.std.proofs.Common.{◌≡◌, ◌≢◌, inl, inr, ⊎_elim, ℕ, zero, suc, ◌+◌, ◌*◌, ◌%◌, ◌^◌, ◌<◌, ◌≤◌, Bool, true, false}
+use Rattle.std.proofs.Common.{eqb, List, [], ◌∷◌, length, map, Option, Some, None, refl, sym, ap, ◌∙◌, subst}
+use Rattle.std.proofs.Common.{arith}
+use Rattle.std.specs.Prelude.{◌==◌, nat_le, if◌then◌else◌}
+use Rattle.std.specs.Option.{option_map}
 use Rattle.std.proofs.lemmas.Bool.{eqb-true, eq-eqb, ne_eqb, cases_eq}
 use Rattle.std.proofs.lemmas.Bool.Decides.{nat_tests}
 use Rattle.r4_base.specs.Bitmap.{is_fixed}
 use Rattle.r4_base.specs.Cell.{cell_fault, is_extent, is_pointer, item_body_fault, item_end, items_in_fault}
 use Rattle.r4_base.specs.Cell.{names_block, next_key, offsets_fit, range_is_good}
-use Rattle.r4_base.specs.Extents.{AreLawfulUnits, IsLawfulUnit, IsRun, blocks_in, body_fault, holds_fixed, pointer_of}
+use Rattle.r4_base.specs.Extents.{AreLawfulUnits, IsLawfulUnit, blocks_in, body_fault, holds_fixed, pointer_of}
 use Rattle.r4_base.specs.Extents.{units_of}
 use Rattle.r4_base.specs.Key.{offset_of, rank}
 use Rattle.r4_base.specs.Node.{Item, items_of, level_of, node_fault}
 use Rattle.r4_base.specs.declared.key.Key.{Key}
-use Rattle.r4_base.specs.declared.items.CellFault.{CellFault}
 use Rattle.r4_base.specs.declared.items.CellFault.TheVariants.{Extent, Level, Node, Pointer, Range}
-use Rattle.r4_base.specs.declared.items.ExtentFault.{ExtentFault}
 use Rattle.r4_base.specs.declared.items.Unit.{Unit as ExtentUnit}
 use Rattle.r4_base.proofs.Choices.{none_under, or_none}
 use Rattle.r4_twig.proofs.Faults.{body_lawful, body_none}

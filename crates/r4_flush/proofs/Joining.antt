@@ -1,13 +1,12 @@
 -- What is prepared is what a flush promises of its atom.
-use Rattle.std.proofs.Common.{◌≡◌, ◌≢◌, ◌⊎◌, inl, inr, ⊎_elim, ℕ, zero, suc, ◌+◌, ◌*◌, ◌^◌, ◌<◌, ◌≤◌, Bool, true, false, cond, eqb}
-use Rattle.std.proofs.Common.{List, [], ◌∷◌, ◌++◌, length, ◌%◌, map, Option, Some, None, refl, sym, ap, ◌∙◌, subst, arith}
+use Rattle.std.proofs.Common.{◌≡◌, ◌≢◌, inl, inr, ⊎_elim, ℕ, zero, suc, ◌+◌, ◌*◌, ◌^◌, ◌<◌, Bool, true, false, cond, eqb}
+use Rattle.std.proofs.Common.{List, [], ◌∷◌, length, ◌%◌, map, Option, Some, None, refl, sym, ap, ◌∙◌, subst, arith}
 use Rattle.std.specs.Prelude.{Contains, ◌==◌, if◌then◌else◌}
-use Rattle.std.specs.Option.{option_map, option_or}
-use Rattle.std.proofs.lemmas.Bool.{cases_eq, eq-eqb, eqb-true, ne_eqb}
+use Rattle.std.specs.Option.{option_map}
+use Rattle.std.proofs.lemmas.Bool.{cases_eq, eq-eqb, ne_eqb}
 use Rattle.std.proofs.lemmas.List.Elements.{Contains-append_left, Contains-append_right}
 use Rattle.r4_base.proofs.Choices.{none_under, or_none}
 use Rattle.r4_base.proofs.Members.{member_here, member_later, member_or_not}
-use Rattle.r4_base.specs.Bitmap.{is_fixed}
 use Rattle.r4_base.specs.Cell.{block_names, cell_fault, cell_of, is_extent, is_pointer, item_body_fault, item_names}
 use Rattle.r4_base.specs.Cell.{items_in_fault, names_in, next_key, pointer_names, range_is_good, run_names}
 use Rattle.r4_base.specs.Extents.{AreLawfulUnits, IsLawfulUnit, body_fault, is_hole, pointer_of, units_of}
@@ -15,7 +14,6 @@ use Rattle.r4_base.specs.Key.{rank}
 use Rattle.r4_base.specs.Node.{Item, items_of, level_of, node_fault}
 use Rattle.r4_base.specs.Tree.{Name}
 use Rattle.r4_base.specs.Value.{Content}
-use Rattle.r4_base.specs.declared.items.CellFault.{CellFault}
 use Rattle.r4_base.specs.declared.items.CellFault.TheVariants.{Extent, Level, Node as NodeAt, Range}
 use Rattle.r4_base.specs.declared.items.Unit.{Unit as ExtentUnit}
 use Rattle.r4_base.specs.declared.things.BlockNo.{BlockNo}
@@ -24,7 +22,7 @@ use Rattle.r4_space.specs.Space.{Space}
 use Rattle.r4_place.specs.Chosen.{AreChosen, behind, fresh_blocks, placed_in}
 use Rattle.r4_place.specs.declared.placed.Placed.{Placed}
 use Rattle.r4_twig.proofs.Faults.{body_lawful}
-use Rattle.r4_wander.proofs.Members.{any_cases, any_here, any_later, from_map, in_map}
+use Rattle.r4_wander.proofs.Members.{any_here, any_later, from_map, in_map}
 use Rattle.r4_commit.specs.Places.{block_given, place_of}
 use Rattle.r4_sealed.specs.Commits.{spot, spot_of}
 use Rattle.r4_sets.specs.Renaming.{IsRenamed}

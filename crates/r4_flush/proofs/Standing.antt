@@ -1,8 +1,8 @@
 -- What stands in memory stands off the blocks that were chosen.
-use Rattle.std.proofs.Common.{◌≡◌, ℕ, ◌^◌, ◌<◌, ◌≤◌, List, Option, Some, None, false, sym, ap, ◌∙◌, subst}
+use Rattle.std.proofs.Common.{◌≡◌, ℕ, List, Option, Some, None, false, sym, ap, ◌∙◌, subst}
 use Rattle.std.specs.Prelude.{Contains}
 use Rattle.r4_base.proofs.Choices.{never_both}
-use Rattle.r4_base.specs.Tree.{Name, Node}
+use Rattle.r4_base.specs.Tree.{Node}
 use Rattle.r4_base.specs.Value.{Content, Value}
 use Rattle.r4_base.specs.declared.things.BlockNo.{BlockNo}
 use Rattle.r4_cell.specs.Seen.{CellSeen, node_of}

@@ -1,24 +1,23 @@
 -- The items of a node that are written anew, one after the other.
-use Rattle.std.proofs.Common.{◌≡◌, ◌≢◌, ℕ, suc, ◌+◌, ◌*◌, ◌<◌, ◌≤◌, Bool, true, false, ◌&&◌, eqb, cond, List, length, set, Option}
+use Rattle.std.proofs.Common.{◌≡◌, ◌≢◌, ℕ, suc, ◌+◌, ◌<◌, Bool, ◌&&◌, eqb, cond, List, length, set}
 use Rattle.std.proofs.Common.{Some, None, refl, sym, ap, ◌∙◌, subst, arith, map}
-use Rattle.std.specs.Prelude.{slice_get, slice_index, nat_lt}
+use Rattle.std.specs.Prelude.{slice_get, nat_lt}
 use Rattle.std.specs.Option.{option_map}
 use Rattle.std.proofs.lemmas.Bool.{eqb-true}
 use Rattle.std.proofs.lemmas.Option.{same_Some}
 use Rattle.r4_base.proofs.Choices.{never_both}
 use Rattle.r4_base.specs.Extents.{pointer_of, units_of}
 use Rattle.r4_base.specs.Lending.{written}
-use Rattle.r4_base.specs.Node.{Item, count_of, end_at, is_empty_branch, item_at, item_flags_at, items_of, key_at, level_of}
+use Rattle.r4_base.specs.Node.{Item, count_of, is_empty_branch, item_at, item_flags_at, items_of, key_at, level_of}
 use Rattle.r4_base.specs.Node.{node_fault, offset_at, plugin_at, start_of}
-use Rattle.r4_base.specs.declared.node.NodeFault.{NodeFault}
 use Rattle.r4_base.specs.declared.node.NodeFault.TheVariants.{Empty}
-use Rattle.r4_node40.specs.Laid.{IsLaid, IsNode, KeepsFree, SameHead, WritesBody, room_of, span_at}
+use Rattle.r4_node40.specs.Laid.{IsLaid, IsNode, KeepsFree, SameHead, room_of, span_at}
 use Rattle.r4_node40.proofs.Accepted.{accepted, good}
 use Rattle.r4_node40.proofs.Bodies.{body_lent}
 use Rattle.r4_node40.proofs.Kept.{node_written}
-use Rattle.r4_node40.proofs.Laid.{get-items_of, length-items_of}
+use Rattle.r4_node40.proofs.Laid.{get-items_of}
 use Rattle.r4_flush.specs.Anew.{IsBlockAnew, IsItemAnew, IsWrittenAnew, unit_anew}
-use Rattle.r4_flush.proofs.Made.{AreMadeTo, made_all, made_set, same_behind}
+use Rattle.r4_flush.proofs.Made.{AreMadeTo, made_all, made_set}
 
 -- ---- one item
 

@@ -1,5 +1,5 @@
 -- What is asked of the cells of an atom that is flushed (docs/durable.md, "From an open atom to its plan").
-use Rattle.std.specs.Prelude.{◌≡◌, ◌≢◌, ℕ, ◌<◌, List, sum_by, nat_le, if◌then◌else◌}
+use Rattle.std.specs.Prelude.{◌≢◌, ℕ, ◌<◌, List, sum_by, nat_le, if◌then◌else◌}
 use Rattle.r4_base.specs.declared.limits.TheConstants.{UNPLACED}
 use Rattle.r4_cell.specs.Seen.{CellSeen}
 

@@ -15,7 +15,6 @@ use Rattle.r4_place.specs.Chosen.{fresh_blocks}
 use Rattle.r4_place.specs.declared.placed.Placed.{Placed}
 use Rattle.r4_sets.specs.Session.{Session}
 use Rattle.r4_placed.specs.Flushing.{Flushing}
-use Rattle.r4_flush.specs.Prepared.{IsPrepared}
 use Rattle.r4_flush.specs.declared.cells.RenamedCell.{RenamedCell}
 use Rattle.r4_flush.specs.declared.preparing.Prepared.{Prepared}
 

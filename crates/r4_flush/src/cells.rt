@@ -1,6 +1,6 @@
 //! Cells under the names of their blocks (docs/durable.md, "From an open atom to its plan").
 
-ghost use Rattle.std.specs.Prelude.{◌≡◌, ◌≢◌, ◌<◌, ◌≤◌, ◌^◌, ℕ, List, length, map, Contains, false, true, None, IfOk};
+ghost use Rattle.std.specs.Prelude.{◌≡◌, ◌≢◌, ◌<◌, ◌^◌, length, map, false, true, None, IfOk};
 ghost use Rattle.std.specs.Arc.{arc_value};
 ghost use Rattle.std.specs.Ordering.{nat_cmp};
 ghost use Rattle.std.specs.BTreeMap.{get};
@@ -8,7 +8,7 @@ ghost use Rattle.r4_base.specs.Cell.{cell_fault};
 ghost use Rattle.r4_base.specs.Key.{rank};
 ghost use Rattle.r4_base.specs.Node.{count_of, items_of, node_fault};
 ghost use Rattle.r4_node40.specs.Loan.{bytes_of, with_bytes};
-ghost use Rattle.r4_node40.specs.Laid.{IsLaid, WritesBody};
+ghost use Rattle.r4_node40.specs.Laid.{IsLaid};
 ghost use Rattle.r4_node40.specs.View.{view_block, view_items};
 ghost use Rattle.r4_flush.specs.Anew.{AreItemsAnew, AreMade, BecomeBlocks, IsBlockAnew, IsCellAnew, IsWrittenAnew, new_name};
 ghost use Rattle.r4_flush.specs.Prepared.{WasCell};

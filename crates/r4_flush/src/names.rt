@@ -1,6 +1,6 @@
 //! The names that cells get, those of their blocks (docs/durable.md, "From an open atom to its plan").
 
-ghost use Rattle.std.specs.Prelude.{◌≡◌, ℕ, IfOk, map};
+ghost use Rattle.std.specs.Prelude.{◌≡◌, ℕ, IfOk};
 ghost use Rattle.std.specs.Ordering.{nat_cmp};
 ghost use Rattle.std.specs.BTreeMap.{get};
 ghost use Rattle.r4_commit.specs.Places.{block_given, place_of};

@@ -1,12 +1,11 @@
 //! What the flush of an atom prepares (docs/durable.md, "From an open atom to its plan").
 
-ghost use Rattle.std.specs.Prelude.{◌≡◌, ◌≢◌, ◌+◌, ◌^◌, ◌<◌, ◌≤◌, All, IfOk, length, map};
+ghost use Rattle.std.specs.Prelude.{◌≡◌, ◌≢◌, ◌+◌, ◌<◌, ◌≤◌, All, IfOk, length, map};
 ghost use Rattle.std.specs.Arc.{arc_value};
 ghost use Rattle.r4_base.specs.Bitmap.{bitmap_count};
-ghost use Rattle.r4_place.specs.Chosen.{AreChosen, fresh_blocks};
+ghost use Rattle.r4_place.specs.Chosen.{fresh_blocks};
 ghost use Rattle.r4_space.specs.Accounts.{price_formula};
 ghost use Rattle.r4_space.specs.Space.{unused_count};
-ghost use Rattle.r4_placed.specs.Flushing.{answers_by_block};
 ghost use Rattle.r4_flush.specs.Asked.{StandsIn, fresh_count};
 ghost use Rattle.r4_flush.specs.Prepared.{IsPlannedByBlock, IsPrepared, cells_of};
 

@@ -1,4 +1,4 @@
-use Rattle.std.proofs.Common.{sym, ap, ◌∙◌}
+use Rattle.std.proofs.Common.{sym}
 use Rattle.r4_flush.proofs.Spelled.{pointer_long}
 use Rattle.r4_flush.proofs.bodies.rename_pointer.Goals as goal
 

@@ -1,7 +1,6 @@
-use Rattle.std.proofs.Common.{◌≡◌, ◌+◌, ◌<◌, ◌≤◌, ℕ, List, length, refl, sym, ap, ◌∙◌, subst, arith}
+use Rattle.std.proofs.Common.{refl, ap, ◌∙◌, arith}
 use Rattle.std.specs.Ordering.{nat_cmp}
 use Rattle.std.specs.BTreeMap.{get}
-use Rattle.r4_base.specs.Node.{count_of}
 use Rattle.r4_node40.specs.Loan.{bytes_of, with_bytes}
 use Rattle.r4_node40.proofs.Laid.{length-items_of}
 use Rattle.r4_flush.specs.Anew.{new_name}
