@@ -1,0 +1,4 @@
+pub mod Anew
+pub mod Asked
+pub mod Prepared
+pub mod Joined
