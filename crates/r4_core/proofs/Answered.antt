@@ -139,6 +139,17 @@ module _ {D : Type 0} (c : CoreSeen D) (k : AreTables c) (s : ℕ) (is : IsScrip
   pub nothing_left : next_at c.turns s ≡ None → (turn_at c.turns s).out ≡ None
   nothing_left is_none = by_task (turn_at c.turns s).out refl None is_none (λ y same work. absurd (cc same))
 
+  outside_by : (o : Option Out) → (turn_at c.turns s).out ≡ o → (turn_at c.turns s).transaction ≡ None
+      → (turn_at c.turns s).out ≡ None
+  outside_by None at outside = at
+  outside_by (Some out) at outside =
+      let v = k.tasks.served s out (record { is_script = is; is_out = at }) in
+      absurd (cc (sym outside ∙ v.transaction))
+
+  -- and it stands in a transaction
+  pub none_outside : (turn_at c.turns s).transaction ≡ None → (turn_at c.turns s).out ≡ None
+  none_outside outside = outside_by (turn_at c.turns s).out refl outside
+
 -- ---- accounts
 
 -- such an entry makes no object and takes none away

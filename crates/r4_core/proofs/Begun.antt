@@ -1,4 +1,4 @@
--- A transaction begins by the `begin` that is its script's next command: what holds of a core holds still.
+-- A transaction begins, by `begin` or for a single command: what holds of a core holds still.
 use Rattle.std.proofs.Common.{◌≡◌, ◌⊎◌, inl, inr, ⊎_elim, ℕ, ◌+◌, ◌<◌, ◌≤◌, ◌==◌, false, cond, List, [], ◌∷◌}
 use Rattle.std.proofs.Common.{Option, Some, None, length, refl, sym, ◌∙◌, ap, subst, arith}
 use Rattle.std.specs.Prelude.{Bool, IsSome, nat_eq}
@@ -15,14 +15,16 @@ use Rattle.r4_base.specs.declared.things.TxnNo.{TxnNo}
 use Rattle.r4_content.specs.Locality.{commands}
 use Rattle.r4_content.specs.Meaning.{greatest_size}
 use Rattle.r4_content.specs.declared.command.Command.TheVariants as asks
-use Rattle.r4_durable.specs.Meaning.{Beginning, IsNamed, means, start_of}
-use Rattle.r4_history.specs.Held.{AreOwners}
-use Rattle.r4_history.specs.Tables.{Begins, Stands, inside}
+use Rattle.r4_durable.specs.Meaning.{Beginning, BeginsWith, IsNamed, means, start_of}
+use Rattle.r4_history.specs.Drawn.{AreDrawn}
+use Rattle.r4_history.specs.Held.{AreOwners, TasksTell}
+use Rattle.r4_history.specs.Tables.{Begins, Stands, inside, single, with_begin, with_single}
+use Rattle.r4_history.specs.Told.{IsTold}
 use Rattle.r4_history.proofs.AtomSteps.{begun_or_new, count_after, state_after, state_before, txn_before}
 use Rattle.r4_history.proofs.DrawnSteps.{drawn_answered, drawn_entered, drawn_entry}
 use Rattle.r4_history.proofs.Places.{is_script_with, next_there, turn_now}
 use Rattle.r4_history.proofs.TaskSteps.{begun_follow, tasks_answered, tasks_entered}
-use Rattle.r4_history.proofs.Told.{told_begin}
+use Rattle.r4_history.proofs.Told.{told_begin, told_single}
 use Rattle.r4_outside.specs.Device.{State, TellsCrashes}
 use Rattle.r4_sets.specs.Atoms.{told}
 use Rattle.r4_sets_told.specs.Runs.{born_in, gone_in}
@@ -43,12 +45,12 @@ use Rattle.r4_core.specs.History.{IsHistory, owed, owed_for_commit}
 use Rattle.r4_core.specs.Kept.{HasStory, IsKept}
 use Rattle.r4_core.specs.Meaning.{HasMeaning, if_open}
 use Rattle.r4_core.specs.Naming.{Naming, job_named, names_in}
-use Rattle.r4_core.specs.Steps.{with_entry}
+use Rattle.r4_core.specs.Steps.{StandsAlone, with_entry}
 use Rattle.r4_core.specs.Story.{Story}
 use Rattle.r4_core.specs.Tables.{AreTables}
 use Rattle.r4_core.specs.TasksOut.{AreOut, pins_in}
 use Rattle.r4_core.specs.View.{CoreSeen, committing, tables_of}
-use Rattle.r4_core.proofs.Answered.{TurnsGoOn, answered_goes_on, goes_on_twice, not_out, turned_goes_on}
+use Rattle.r4_core.proofs.Answered.{TurnsGoOn, answered_goes_on, goes_on_twice, none_outside, not_out, turned_goes_on}
 use Rattle.r4_core.proofs.Carried.{at_told, session_told}
 use Rattle.r4_core.proofs.Turning.{owed_answered, owed_less, same_of}
 
@@ -88,55 +90,25 @@ none_twice = tt
 -- ---- a core
 
 module _ {D : Type 0} (r : Naming) (d : State) (c : CoreSeen D) (k : IsKept r d c) (s : ScriptNo) (u : TxnNo)
-    (sound : c.broken ≡ None) (st : Stands c.turns s.0 None (Some asks.Begin))
+    (all : List Turn) (on : TurnsGoOn c.turns (record c.turns { turns = all }))
+    (fewer : owed (record c.turns { turns = all }) ≤ owed c.turns)
     (room : owed c.turns + owed_for_commit (committing c.commit) + 1 ≤ c.trace.spare) where
-  abbrev is : IsScript c.turns s.0
-  is = st.is_script
-
   abbrev trace : List Entry
   trace = c.trace.entries
 
-  -- ---- its script
-
-  abbrev turn : Turn
-  turn = record (turn_at c.turns s.0) { transaction = Some (inside u) }
-
-  abbrev within : TurnsSeen
-  within = entered c.turns s.0 (inside u)
-
   abbrev turns : TurnsSeen
-  turns = answered_one within s.0
-
-  none_out : (turn_at c.turns s.0).out ≡ None
-  none_out = not_out c k.tables s.0 is asks.Begin st.next (λ w. w)
-
-  there : IsScript within s.0
-  there = is_script_with c.turns s.0 turn s.0 is
-
-  none_there : (turn_at within s.0).out ≡ None
-  none_there = same_of c.turns s.0 turn is (λ (x : Turn). x.out) refl s.0 ∙ none_out
-
-  on : TurnsGoOn c.turns turns
-  on = goes_on_twice c.turns within turns (turned_goes_on c.turns s.0 is turn refl refl)
-      (answered_goes_on within s.0 there none_there)
-
-  fewer : owed turns ≤ owed c.turns
-  fewer =
-      let one = owed_less c.turns s.0 turn is (λ x. omega arith) in
-      let two = owed_answered within s.0 there in
-      omega (arith, one, two)
-
-  pub may_answer_begin : HasNext within s.0
-  may_answer_begin =
-      let e = ap (λ (x : Turn). x.answered) (turn_now c.turns s.0 turn is) in
-      let has = next_there c.turns s.0 asks.Begin st.next in
-      omega (arith, e, has)
+  turns = record c.turns { turns = all }
 
   -- ---- the table of atoms
 
   module _ (new : AtomsSeen) (b : Begins c.atoms new s.0) (number : u.0 ≡ length c.atoms.txns + 1)
       (names : (n : ℕ) → owner_of new n ≡ owner_of c.atoms n) (spare : new.spare ≡ c.atoms.spare)
-      (owners : AreOwners c.atoms) (least : (t : ℕ) → IsTxn c.atoms t → atom_of c.atoms t ≤ t) where
+      (owners : AreOwners c.atoms) (least : (t : ℕ) → IsTxn c.atoms t → atom_of c.atoms t ≤ t)
+      (tells : (o : Option Beginning) → BeginsWith (names_in r) d.blocks o
+      → IsTold (commands greatest_size) (option_map start_of o) d.clock
+      (record (tables_of c) { turns = turns; atoms = new }) (Begin u s ∷ trace))
+      (drawn : AreDrawn k.history.first turns c.numbers.next_oid trace)
+      (tasks : TasksTell (record (tables_of c) { turns = turns; atoms = new }) c.locks) where
     states : length c.atoms.atoms ≡ length c.atoms.txns
     states = (k.history.told None tt).atoms.states
 
@@ -236,28 +208,16 @@ module _ {D : Type 0} (r : Naming) (d : State) (c : CoreSeen D) (k : IsKept r d 
 
     history_begun : IsHistory r d after
     history_begun = record {
-      told = λ o named. told_begin (commands greatest_size) (option_map start_of o) d.clock (tables_of c) trace
-          (k.history.told o named) u s new sound st b number;
+      told = tells;
       job = k.history.job;
       first = k.history.first;
-      drawn = drawn_entry k.history.first turns c.numbers.next_oid trace
-          (drawn_answered k.history.first within c.numbers.next_oid trace
-          (drawn_entered k.history.first c.turns c.numbers.next_oid trace k.history.drawn s.0 (inside u) is)
-          s.0 there none_there) (Begin u s) tt;
+      drawn = drawn_entry k.history.first turns c.numbers.next_oid trace drawn (Begin u s) tt;
       begins = k.history.begins;
       room = omega (arith, fewer, room);
     }
 
     tables_begun : AreTables after
-    tables_begun =
-        let t = tables_of c in
-        let one = begun_follow (commands greatest_size) None d.clock t trace (k.history.told None tt) c.locks
-        k.tables.tasks new s.0 b names in
-        let two = tasks_entered (record t { atoms = new }) c.locks one s.0 (inside u) is none_out in
-        record {
-          tasks = tasks_answered (record t { atoms = new; turns = within }) c.locks two s.0 there none_there;
-          ordered = λ q has. k.tables.ordered q (on.scripts q has);
-        }
+    tables_begun = record { tasks = tasks; ordered = λ q has. k.tables.ordered q (on.scripts q has) }
 
     cells_begun : AreCells d after
     cells_begun =
@@ -377,13 +337,111 @@ module _ {D : Type 0} (r : Naming) (d : State) (c : CoreSeen D) (k : IsKept r d 
     }
 
     -- the same of parts that are as they are then
-    pub keeps_begun_by : (seen : TurnsSeen) (entries : Told) → seen ≡ turns
-        → entries ≡ with_entry c.trace (Begin u s)
+    keeps_begin_by : (seen : TurnsSeen) (entries : Told) → seen ≡ turns → entries ≡ with_entry c.trace (Begin u s)
         → IsKept r d (record c { turns = seen; atoms = new; trace = entries })
-    keeps_begun_by seen entries are_turns are_entries =
+    keeps_begin_by seen entries are_turns are_entries =
         subst (λ (x : TurnsSeen). IsKept r d (record c { turns = x; atoms = new; trace = entries })) (sym are_turns)
         (subst (λ (x : Told). IsKept r d (record after { trace = x })) (sym are_entries) keeps_begin)
+
+-- ---- by the `begin` that is the script's next command
+
+module _ {D : Type 0} (r : Naming) (d : State) (c : CoreSeen D) (k : IsKept r d c) (s : ScriptNo) (u : TxnNo)
+    (sound : c.broken ≡ None) (st : Stands c.turns s.0 None (Some asks.Begin))
+    (room : owed c.turns + owed_for_commit (committing c.commit) + 1 ≤ c.trace.spare) where
+  abbrev is : IsScript c.turns s.0
+  is = st.is_script
+
+  abbrev turn : Turn
+  turn = record (turn_at c.turns s.0) { transaction = Some (inside u) }
+
+  abbrev within : TurnsSeen
+  within = entered c.turns s.0 (inside u)
+
+  none_out : (turn_at c.turns s.0).out ≡ None
+  none_out = not_out c k.tables s.0 is asks.Begin st.next (λ w. w)
+
+  there : IsScript within s.0
+  there = is_script_with c.turns s.0 turn s.0 is
+
+  none_there : (turn_at within s.0).out ≡ None
+  none_there = same_of c.turns s.0 turn is (λ (x : Turn). x.out) refl s.0 ∙ none_out
+
+  on : TurnsGoOn c.turns (answered_one within s.0)
+  on = goes_on_twice c.turns within (answered_one within s.0) (turned_goes_on c.turns s.0 is turn refl refl)
+      (answered_goes_on within s.0 there none_there)
+
+  fewer : owed (answered_one within s.0) ≤ owed c.turns
+  fewer =
+      let one = owed_less c.turns s.0 turn is (λ x. omega arith) in
+      let two = owed_answered within s.0 there in
+      omega (arith, one, two)
+
+  pub may_answer_begin : HasNext within s.0
+  may_answer_begin =
+      let e = ap (λ (x : Turn). x.answered) (turn_now c.turns s.0 turn is) in
+      let has = next_there c.turns s.0 asks.Begin st.next in
+      omega (arith, e, has)
+
+  module _ (new : AtomsSeen) (b : Begins c.atoms new s.0) (number : u.0 ≡ length c.atoms.txns + 1)
+      (names : (n : ℕ) → owner_of new n ≡ owner_of c.atoms n) (spare : new.spare ≡ c.atoms.spare)
+      (owners : AreOwners c.atoms) (least : (t : ℕ) → IsTxn c.atoms t → atom_of c.atoms t ≤ t) where
+    tasks : TasksTell (with_begin (tables_of c) s.0 u new) c.locks
+    tasks =
+        let t = tables_of c in
+        let one = begun_follow (commands greatest_size) None d.clock t c.trace.entries (k.history.told None tt) c.locks
+        k.tables.tasks new s.0 b names in
+        let two = tasks_entered (record t { atoms = new }) c.locks one s.0 (inside u) is none_out in
+        tasks_answered (record t { atoms = new; turns = within }) c.locks two s.0 there none_there
+
+    drawn : AreDrawn k.history.first (answered_one within s.0) c.numbers.next_oid c.trace.entries
+    drawn = drawn_answered k.history.first within c.numbers.next_oid c.trace.entries
+        (drawn_entered k.history.first c.turns c.numbers.next_oid c.trace.entries k.history.drawn s.0 (inside u) is)
+        s.0 there none_there
+
+    pub keeps_begun_by : (seen : TurnsSeen) (entries : Told) → seen ≡ answered_one within s.0
+        → entries ≡ with_entry c.trace (Begin u s)
+        → IsKept r d (record c { turns = seen; atoms = new; trace = entries })
+    keeps_begun_by =
+        keeps_begin_by r d c k s u (answered_one within s.0).turns on fewer room new b number names spare owners least
+        (λ o named. told_begin (commands greatest_size) (option_map start_of o) d.clock (tables_of c) c.trace.entries
+        (k.history.told o named) u s new sound st b number) drawn tasks
 
   -- where it does not begin, all is as before
   pub keeps_not_begun : (new : AtomsSeen) → new ≡ c.atoms → IsKept r d (record c { atoms = new })
   keeps_not_begun new same = subst (λ (x : AtomsSeen). IsKept r d (record c { atoms = x })) (sym same) k
+
+-- ---- for a single command
+
+module _ {D : Type 0} (r : Naming) (d : State) (c : CoreSeen D) (k : IsKept r d c) (s : ScriptNo) (u : TxnNo)
+    (sound : c.broken ≡ None) (st : StandsAlone c.turns s.0)
+    (room : owed c.turns + owed_for_commit (committing c.commit) + 1 ≤ c.trace.spare) where
+  abbrev alone : IsScript c.turns s.0
+  alone = st.stands.is_script
+
+  abbrev in_its_own : Turn
+  in_its_own = record (turn_at c.turns s.0) { transaction = Some (single u) }
+
+  goes_alone : TurnsGoOn c.turns (entered c.turns s.0 (single u))
+  goes_alone = turned_goes_on c.turns s.0 alone in_its_own refl refl
+
+  module _ (new : AtomsSeen) (b : Begins c.atoms new s.0) (number : u.0 ≡ length c.atoms.txns + 1)
+      (names : (n : ℕ) → owner_of new n ≡ owner_of c.atoms n) (spare : new.spare ≡ c.atoms.spare)
+      (owners : AreOwners c.atoms) (least : (t : ℕ) → IsTxn c.atoms t → atom_of c.atoms t ≤ t) where
+    tasks_alone : TasksTell (with_single (tables_of c) s.0 u new) c.locks
+    tasks_alone =
+        let t = tables_of c in
+        let one = begun_follow (commands greatest_size) None d.clock t c.trace.entries (k.history.told None tt) c.locks
+        k.tables.tasks new s.0 b names in
+        tasks_entered (record t { atoms = new }) c.locks one s.0 (single u) alone
+        (none_outside c k.tables s.0 alone st.stands.transaction)
+
+    pub keeps_alone_by : (seen : TurnsSeen) (entries : Told) → seen ≡ entered c.turns s.0 (single u)
+        → entries ≡ with_entry c.trace (Begin u s)
+        → IsKept r d (record c { turns = seen; atoms = new; trace = entries })
+    keeps_alone_by =
+        keeps_begin_by r d c k s u (entered c.turns s.0 (single u)).turns goes_alone
+        (owed_less c.turns s.0 in_its_own alone (λ x. omega arith)) room new b number names spare owners least
+        (λ o named. told_single (commands greatest_size) (option_map start_of o) d.clock (tables_of c) c.trace.entries
+        (k.history.told o named) u s st.command new sound st.stands st.work b number)
+        (drawn_entered k.history.first c.turns c.numbers.next_oid c.trace.entries k.history.drawn s.0 (single u) alone)
+        tasks_alone

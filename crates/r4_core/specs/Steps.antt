@@ -8,7 +8,7 @@ use Rattle.r4_buffer.specs.Seen.{buffered}
 use Rattle.r4_commit.specs.Planned.{CommitSeen}
 use Rattle.r4_content.specs.declared.command.Command.{Command}
 use Rattle.r4_content.specs.declared.command.Command.TheVariants as asks
-use Rattle.r4_history.specs.Tables.{Begins, Stands, inside, with_ended}
+use Rattle.r4_history.specs.Tables.{Begins, Stands, inside, single, with_ended}
 use Rattle.r4_locks.specs.Locks.{OthersAsBefore, task_at}
 use Rattle.r4_trace.specs.Job.{IsWork}
 use Rattle.r4_trace.specs.Kept.{Told}
@@ -44,19 +44,38 @@ ended_last c s txn = record c {
   trace = with_entry c.trace (Ended txn);
 }
 
--- A transaction begins by the `begin` that is its script's next command, alone in its atom, with
--- the next number; all else is as it was.
-pub record HasBegun {D : Type 0} (old new : CoreSeen D) (script : ScriptNo) (txn : TxnNo) : Type 0
+-- A transaction begins, alone in its atom, with the next number, and the turns are these then; all
+-- else is as it was.
+pub record HasBegunWith
+    {D : Type 0} (old new : CoreSeen D) (script : ScriptNo) (txn : TxnNo) (turns : TurnsSeen)
+    : Type 0
   where
     pub number : txn.0 ≡ length old.atoms.txns + 1
     pub begins : Begins old.atoms new.atoms script.0
     pub owners : (n : ℕ) → owner_of new.atoms n ≡ owner_of old.atoms n
     pub room : new.atoms.spare ≡ old.atoms.spare
     pub same : new ≡ record old {
-      turns = answered_one (entered old.turns script.0 (inside txn)) script.0;
+      turns = turns;
       atoms = new.atoms;
       trace = with_entry old.trace (Begin txn script);
     }
+
+-- It begins by the `begin` that is its script's next command, which is answered so.
+abbrev pub HasBegun : {D : Type 0} → (old new : CoreSeen D) → ScriptNo → TxnNo → Type 0
+HasBegun old new script txn =
+    HasBegunWith old new script txn
+    (answered_one (entered old.turns script.0 (inside txn)) script.0)
+
+-- It begins for the single command that is its script's next one, and is not answered yet.
+abbrev pub HasBegunSingle : {D : Type 0} → (old new : CoreSeen D) → ScriptNo → TxnNo → Type 0
+HasBegunSingle old new script txn =
+    HasBegunWith old new script txn (entered old.turns script.0 (single txn))
+
+-- The next command of a script is a single one: work, outside of transactions.
+pub record StandsAlone (t : TurnsSeen) (script : ℕ) : Type 0 where
+  pub command : Command
+  pub stands : Stands t script None (Some command)
+  pub work : IsWork command
 
 -- The next command of a script is answered by this entry.
 abbrev pub answered : {D : Type 0} → CoreSeen D → (script : ℕ) → Entry → CoreSeen D

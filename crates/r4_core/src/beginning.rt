@@ -4,7 +4,7 @@ ghost use Rattle.std.specs.Prelude.{◌≡◌, ◌+◌, ◌<◌, ◌≤◌, leng
 ghost use Rattle.r4_content.specs.declared.command.Command.TheVariants as asks;
 ghost use Rattle.r4_history.specs.Tables.{Stands};
 ghost use Rattle.r4_core.specs.History.{owed, owed_for_commit};
-ghost use Rattle.r4_core.specs.Steps.{HasBegun};
+ghost use Rattle.r4_core.specs.Steps.{HasBegun, HasBegunSingle, StandsAlone};
 ghost use Rattle.r4_core.specs.View.{committing};
 
 use crate::core_state::Core;
@@ -29,6 +29,25 @@ impl<D: Device, R: Run> Core<D, R> {
         let txn = self.atoms.begin(alloc, script)?;
         self.turns.enter(script, txn, false);
         self.turns.answer(script);
+        self.trace.push(Entry::Begin { txn, script });
+        Ok(txn)
+    }
+
+    // A single command, work outside of transactions, gets a transaction of its own. The command is
+    // still the next one: it is answered later. The only error is want of memory, and all is as
+    // before then.
+    pub(crate) fn begin_single(&mut self, alloc: Global, script: ScriptNo) -> Result<TxnNo, Memory>
+        requires sound { self.old.broken ≡ None }
+        requires alone { StandsAlone self.old.turns script.0 }
+        requires few { length self.old.atoms.txns < 4294967295 }
+        requires room { owed self.old.turns + owed_for_commit (committing self.old.commit) + 1
+            ≤ self.old.trace.spare }
+        ensures ok { IfOk result (λ txn. HasBegunSingle self.old self.new script txn) }
+        ensures err { OnErr result (self.new ≡ self.old) }
+    {
+        self.atoms.lawful();
+        let txn = self.atoms.begin(alloc, script)?;
+        self.turns.enter(script, txn, true);
         self.trace.push(Entry::Begin { txn, script });
         Ok(txn)
     }

@@ -1,5 +1,5 @@
 //! The core of a volume: a device, and the parts that a run keeps beside it (docs/core.md). Here is
-//! its form, with what holds of every core, its opening, and eight of its little steps.
+//! its form, with what holds of every core, its opening, and nine of its little steps.
 #![tactic(auto)]
 
 mod answering;
