@@ -1,9 +1,9 @@
 -- The cells that a pool has met, as a list (docs/volume.md, "Reach").
-use Rattle.std.specs.Prelude.{◌≡◌, ◌↔◌, ℕ, List, Contains, Option, Some}
+use Rattle.std.specs.Prelude.{◌≡◌, ◌↔◌, ℕ, List, All, Contains, Option, Some}
 use Rattle.r4_cell.specs.Patch.{HaveNames, by_name, root_of_pair}
 use Rattle.r4_cell.specs.Seen.{CellSeen}
 use Rattle.r4_cell.specs.declared.change.Root.{Root as RootPair}
-use Rattle.r4_judging.specs.Judging.{IsRefusal}
+use Rattle.r4_judging.specs.Judging.{IsRefusal, IsSound}
 use Rattle.r4_marking.specs.Marks.{AreMet}
 use Rattle.r4_search.specs.Pool.{PoolState}
 use Rattle.r4_search.specs.declared.pool.FetchFault.{FetchFault}
@@ -23,12 +23,13 @@ pub record AreAllMet (met : ℕ → Option CellSeen) (cells : List CellSeen) : T
 abbrev pub IsOneMet : PoolState → Type 0
 IsOneMet p = (i : ℕ) × (c : CellSeen) × (p.met i ≡ Some c)
 
--- They are the cells that were met, each once and in order, and a part of a tree.
+-- They are the cells that were met, each once and in order, and a part of a tree; each is a cell by itself.
 pub record IsPartMet (p : PoolState) (root : RootPair) (cells : List CellSeen) : Type 0 where
   pub all : AreAllMet p.met cells
   pub store : (i : ℕ) → by_name cells i ≡ met_cells p i
   pub order : AreInOrder cells
   pub met : AreMet cells (root_of_pair root)
+  pub sound : All IsSound cells
 
 -- The fault is that of the first of the cells that were met which is misnamed, with its block.
 abbrev pub IsRefusedFor : PoolState → FetchFault → Type 0

@@ -1,7 +1,8 @@
 use Rattle.std.proofs.Common.{map, sym, subst}
 use Rattle.std.specs.Arc.{arc_value}
 use Rattle.r4_cell.specs.Patch.{by_name, root_of_pair}
-use Rattle.r4_judging.specs.Judging.{HangTogether}
+use Rattle.std.specs.Prelude.{All}
+use Rattle.r4_judging.specs.Judging.{HangTogether, IsSound}
 use Rattle.r4_patch.specs.Part.{IsPart}
 use Rattle.r4_search.specs.Keeping.{keeping_state, met_in}
 use Rattle.r4_reaching.specs.Gathering.{AreAllMet}
@@ -29,5 +30,6 @@ returns g c =
       order = c.in_ok-cells.ensures.order;
       met = as_marked p c.args.root.now cells all c.in_ok-cells.ensures.order
           (subst (λ xs. IsPart (by_name (map (λ x. arc_value x) xs)) (root_of_pair c.args.root.now))
-          c.as_slice.ensures.value c.in_ok-judge.ensures);
+          c.as_slice.ensures.value c.in_ok-judge.ensures.judged);
+      sound = subst (λ xs. All IsSound (map (λ x. arc_value x) xs)) c.as_slice.ensures.value c.in_ok-judge.ensures.sound;
     }

@@ -1,0 +1,141 @@
+-- What is answered on what a command reads and writes, where all keys that it changes lie in leaves (docs/volume.md,
+-- "Reach"). A key is its rank.
+use Rattle.std.specs.Prelude.{◌≡◌, ◌⊎◌, ℕ, ◌<◌, ◌≤◌, ◌==◌, ◌||◌, List, [], All, Bool, true, false, reverse}
+use Rattle.std.specs.Prelude.{◌+◌, Some, length, map}
+use Rattle.std.specs.Arc.{arc_value}
+use Rattle.std.specs.Option.{option_map}
+use Rattle.std.specs.FinMap.{find}
+use Rattle.std.specs.Ordering.{nat_cmp}
+use Rattle.r4_base.specs.Key.{least, top}
+use Rattle.r4_cell.specs.Patch.{by_name, root_of_pair}
+use Rattle.r4_cell.specs.Seen.{CellSeen}
+use Rattle.r4_cell.specs.declared.change.Root.{Root}
+use Rattle.r4_content.specs.Course.{asked}
+use Rattle.r4_content.specs.Edited.{Intervals, Pairs, changed, is_in}
+use Rattle.r4_content.specs.Held.{pairs_of}
+use Rattle.r4_content.specs.Meaning.{course, greatest_size}
+use Rattle.r4_content.specs.Seen.{Rises, of_seen}
+use Rattle.r4_content.specs.declared.command.Command.{Command}
+use Rattle.r4_content.specs.declared.seen.Seen.{Seen}
+use Rattle.r4_gather.specs.Asking.{EndsIn, StaysOver}
+use Rattle.r4_judging.specs.Judging.{IsSound}
+use Rattle.r4_leaf_demands.specs.Leaves.{IsInLeaves}
+use Rattle.r4_outside.specs.Device.{State}
+use Rattle.r4_reach.specs.Answer.{IsReachOf}
+use Rattle.r4_marking.specs.Marks.{ask_seen}
+use Rattle.r4_marking.specs.declared.marking.Marks.{Marks}
+use Rattle.r4_reach.specs.Leaves.{LieInLeaves, most_of, rise_of}
+use Rattle.r4_reach.specs.Needs.{demand_on}
+use Rattle.r4_reach.specs.Touched.{body_on, edits_on, kind_reads}
+use Rattle.r4_search.specs.Keeping.{Shared, WereAnswered, keeping_state}
+use Rattle.r4_search.specs.Path.{root_name}
+use Rattle.r4_search.specs.Pool.{IsKnown, PoolState}
+use Rattle.r4_search.specs.declared.pool.FetchFault.{FetchFault}
+use Rattle.r4_search.specs.declared.pool.FetchFault.TheVariants.{Memory}
+use Rattle.r4_seeing.specs.Looking.{AreFound, AreHung, IsFoundAt, met_cells}
+use Rattle.r4_seeing.specs.Seeing.{IsStopped}
+use Rattle.r4_touching.specs.Touching.{IsInExtent, StopsFor}
+use Rattle.r4_work.specs.Order.{AreInOrder}
+use Rattle.r4_reaching.specs.Gathering.{AreAllMet, IsRefusedFor}
+use Rattle.r4_reaching.specs.declared.reached.Reach.{Reach}
+
+-- the questions of a command, on what was seen
+abbrev pub asked_by : Command → Pairs → Intervals
+asked_by c s = asked (course greatest_size c) (of_seen s)
+
+-- a key that has to lie in a leaf: one that changes, or the one that tells where the body stands which changes
+abbrev pub has_to_lie : Command → Pairs → (key : ℕ) → Bool
+has_to_lie c s k = is_in (kind_reads (body_on c s false)) k || is_in (changed (edits_on c s)) k
+
+-- ---- what was seen
+
+-- All that the command asks for was seen in the cells that were met.
+pub record IsSeenIn (p : PoolState) (c : Command) (s : Pairs) : Type 0 where
+  pub rises : Rises s
+  pub found : (k : ℕ) → is_in (asked_by c s) k ≡ true → least ≤ k → k < top
+      → IsFoundAt (met_cells p) k (find nat_cmp k s)
+
+-- So it was over a pool that keeps all cells, by these questions.
+pub record IsAllSeen
+    (p : PoolState) (root : Root) (c : Command) (s : Seen) (known questions : Intervals)
+    : Type 0
+  where
+    pub height : 2 ≤ root.height
+    pub begins : IsKnown p (root_name root)
+    pub keeps : (level : ℕ) → p.keeps level ≡ true
+    pub hung : AreHung p root
+    pub found : AreFound (met_cells p) known (pairs_of s)
+    pub questions_are : questions ≡ asked_by c (pairs_of s)
+    pub looked : (k : ℕ) → is_in questions k ≡ true → least ≤ k → k < top
+        → is_in known k ≡ true
+
+-- ---- the pool
+
+-- The pool below is over the same tree as before, and answered each of these cells.
+pub record IsSamePool (d e : State) (p q : PoolState) (root : Root) (met : List (ℕ × Shared))
+    : Type 0 where
+  pub stays : StaysOver d e (record { root = root; pool = keeping_state p true [] })
+      (record { root = root; pool = keeping_state q true met })
+  pub answered : WereAnswered q met
+
+-- ---- the answers
+
+-- The cells that were met are a part of a tree with all that the command touches; those that it reads and writes, what
+-- was seen, and how many new cells come at most. All are in order, and each is a cell by itself. The keys that change
+-- lie in leaves, and so does the body afterwards.
+pub record IsReach (p : PoolState) (root : Root) (c : Command) (r : Reach) : Type 0 where
+  pub answer : IsReachOf root c r.met r.reads r.writes r.root
+  pub seen : answer.seen ≡ pairs_of r.seen
+  pub in_leaves : answer.in_extents ≡ false
+  pub body : IsInLeaves (body_on c (pairs_of r.seen) false)
+  pub lie : LieInLeaves (by_name r.met) (is_in (changed (edits_on c (pairs_of r.seen))))
+  pub most : r.most ≡ most_of (demand_on c (pairs_of r.seen) false) (by_name r.met)
+      (root_of_pair root) r.writes
+  pub rises : (x : Root) → r.root ≡ Some x → x ≡ root
+  pub all : AreAllMet p.met r.met
+  pub sound : All IsSound r.met
+  pub met_order : AreInOrder r.met
+  pub reads_order : AreInOrder r.reads
+  pub writes_order : AreInOrder r.writes
+
+-- It is made of these cells and marks.
+pub record IsFrom (root : Root) (seen : Seen) (met : List CellSeen) (m : Marks) (r : Reach) : Type 0
+  where
+    pub reads : r.reads ≡ map (λ c. arc_value c) m.reads.items
+    pub writes : r.writes ≡ map (λ c. arc_value c) m.writes.items
+    pub met_are : r.met ≡ met
+    pub root_is : r.root ≡ option_map (λ a. root) m.rises
+    pub seen_is : r.seen ≡ seen
+    pub most : r.most ≡ length m.writes.items + m.more + rise_of (option_map ask_seen m.rises)
+
+-- On what was seen the body stands in extents afterwards, or a key that has to lie in a leaf lies in an extent.
+pub record TouchesExtent (p : PoolState) (c : Command) : Type 0 where
+  pub seen : Pairs
+  pub saw : IsSeenIn p c seen
+  pub extent : (IsInLeaves (body_on c seen false) → ⊥)
+      ⊎ ((k : ℕ) × (has_to_lie c seen k ≡ true) × IsInExtent p k)
+
+-- ---- why there is none
+
+-- A look-up ended at a key that has to lie in a leaf, or, where nothing was met before, at the least key.
+pub record StopsOnWay (p : PoolState) (c : Command) (e : FetchFault) : Type 0 where
+  pub seen : Pairs
+  pub before : PoolState
+  pub saw : IsSeenIn before c seen
+  pub stops : StopsFor (λ k. has_to_lie c seen k || (k == least)) before e p
+
+-- or a cell that was met is not the one that another one names, or there was no memory
+abbrev pub StopsWriting : PoolState → Command → FetchFault → Type 0
+StopsWriting p c e = (e ≡ Memory) ⊎ (IsRefusedFor p e ⊎ StopsOnWay p c e)
+
+-- The questions of the command were asked, one after another, up to one of which a look-up ended.
+pub record StopsAsking (p : PoolState) (c : Command) (e : FetchFault) : Type 0 where
+  pub seen : Pairs
+  pub known : Intervals
+  pub found : AreFound (met_cells p) known seen
+  pub questions : Intervals
+  pub so_far : EndsIn questions (reverse (asked_by c seen))
+  pub stopped : (e ≡ Memory) ⊎ IsStopped p questions e
+
+abbrev pub StopsReach : PoolState → Command → FetchFault → Type 0
+StopsReach p c e = StopsAsking p c e ⊎ StopsWriting p c e
