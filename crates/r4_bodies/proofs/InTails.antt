@@ -14,9 +14,10 @@ use Rattle.r4_base.specs.Volume.{byte_rank, object_of, stat_rank}
 use Rattle.r4_content.specs.Edited.{Edits, Intervals, Pairs, changed, is_between, is_in}
 use Rattle.r4_content.proofs.EditLaws.{one_key}
 use Rattle.r4_reach.specs.Reach.{is_body}
+use Rattle.r4_reach.specs.Leaves.{LieInLeaves}
 use Rattle.r4_reach.specs.Touched.{Body, IsKindIn, body_key, body_of, grows, has_unit, kind_reads, last_byte, shown_at}
 use Rattle.r4_reach.specs.Touched.{size_in}
-use Rattle.r4_bodies.specs.Told.{AreOfTree, LieInLeaves}
+use Rattle.r4_bodies.specs.Told.{AreOfTree}
 
 -- ---- the first key
 
@@ -128,7 +129,7 @@ module _ (e : Edits) (s : Pairs) (t : Store Value) (k : ℕ) (found : body_key (
     sym (ap (λ (x : Bool). not x && has_unit c (shown_at b)) (eq-eqb c.level 1 level)),
   )
 
-  pub in_tails : b.was < 2 ^ 64 → AreOfTree s → LieInLeaves t (kind_reads (Some b)) → LieInLeaves t (changed e)
+  pub in_tails : b.was < 2 ^ 64 → AreOfTree s → LieInLeaves t (is_in (kind_reads (Some b))) → LieInLeaves t (is_in (changed e))
       → IsKindIn t (Some b)
   in_tails small of_tree reads changes = by_size b.was refl
     where
@@ -157,7 +158,7 @@ module _ (e : Edits) (s : Pairs) (t : Store Value) (k : ℕ) (found : body_key (
 -- the body that the edits change
 pub told_in_tails : (e : Edits) (s : Pairs) (t : Store Value) (b : Body)
     → Some b ≡ option_map (body_of e s false) (body_key (changed e)) → b.was < 2 ^ 64 → AreOfTree s
-    → LieInLeaves t (kind_reads (Some b)) → LieInLeaves t (changed e)
+    → LieInLeaves t (is_in (kind_reads (Some b))) → LieInLeaves t (is_in (changed e))
     → IsKindIn t (option_map (body_of e s false) (body_key (changed e)))
 told_in_tails e s t b told small of_tree reads changes = by_key (body_key (changed e)) refl
   where
@@ -168,4 +169,4 @@ told_in_tails e s t b told small of_tree reads changes = by_key (body_key (chang
         let same = same_Some b (body_of e s false k) (told ∙ ap (option_map (body_of e s false)) found) in
         subst (λ (o : Option ℕ). IsKindIn t (option_map (body_of e s false) o)) (sym found)
         (in_tails e s t k found (subst (λ (x : Body). x.was < 2 ^ 64) same small) of_tree
-        (subst (λ (x : Body). LieInLeaves t (kind_reads (Some x))) same reads) changes)
+        (subst (λ (x : Body). LieInLeaves t (is_in (kind_reads (Some x)))) same reads) changes)

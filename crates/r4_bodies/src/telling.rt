@@ -4,15 +4,16 @@ ghost use Rattle.std.specs.Prelude.{◌≡◌, ◌↔◌, ◌++◌, ◌^◌, fal
 ghost use Rattle.r4_base.specs.Tree.{Store};
 ghost use Rattle.r4_base.specs.Value.{Value};
 ghost use Rattle.r4_content.specs.Course.{asked};
-ghost use Rattle.r4_content.specs.Edited.{changed};
+ghost use Rattle.r4_content.specs.Edited.{changed, is_in};
 ghost use Rattle.r4_content.specs.Held.{edits_of, pairs_of};
 ghost use Rattle.r4_content.specs.Meaning.{course, greatest_size};
 ghost use Rattle.r4_content.specs.Seen.{Rises, of_seen};
 ghost use Rattle.r4_content.specs.declared.command.Command.{Command};
 ghost use Rattle.r4_leaf_demands.specs.Leaves.{IsInLeaves};
 ghost use Rattle.r4_leaf_edits.specs.Suiting.{SuitLeaves};
+ghost use Rattle.r4_reach.specs.Leaves.{LieInLeaves};
 ghost use Rattle.r4_reach.specs.Touched.{IsKindIn, body_on, changes_on, edits_on, reads_on};
-ghost use Rattle.r4_bodies.specs.Told.{AreOfTree, LieInLeaves, intervals_of};
+ghost use Rattle.r4_bodies.specs.Told.{AreOfTree, intervals_of};
 
 use crate::body_change::body_changed;
 use r4_content::{Edits, Interval, Seen};
@@ -42,8 +43,8 @@ pub fn told_by_body(edits: &Edits, seen: &Seen) -> BodyTold
         → changes_on c (pairs_of seen.now) false ≡ changed (edits_of edits.now) }
     ensures kind { (c : Command) (t : Store Value)
         → edits_of edits.now ≡ edits_on c (pairs_of seen.now)
-        → AreOfTree (pairs_of seen.now) → LieInLeaves t (intervals_of result.read)
-        → LieInLeaves t (changed (edits_of edits.now))
+        → AreOfTree (pairs_of seen.now) → LieInLeaves t (is_in (intervals_of result.read))
+        → LieInLeaves t (is_in (changed (edits_of edits.now)))
         → IsKindIn t (body_on c (pairs_of seen.now) false) }
 {
     match body_changed(edits, seen) {

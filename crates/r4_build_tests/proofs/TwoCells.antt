@@ -20,7 +20,8 @@ use Rattle.r4_patch.proofs.Members.{Distinct, cases, found, have_names, here, la
 use Rattle.r4_path.proofs.Rising.{hi_is, level_is, lo_is}
 use Rattle.r4_reach.specs.Demand.{Demand, ask, ask_of, heard, heard_one}
 use Rattle.r4_reach.specs.Needs.{Ask, cell_asks, changes_pieces, demand_of, leaf_asks, put_among, units_after}
-use Rattle.r4_measure.specs.Asked.{asked_of, more_of}
+use Rattle.r4_reach.specs.Leaves.{more_of}
+use Rattle.r4_measure.specs.Asked.{asked_of}
 use Rattle.r4_measure.specs.Begin.{IsQuiet, IsReachedFor}
 use Rattle.r4_measure.specs.Examples.{fresh_root, some_numbers}
 use Rattle.r4_build.specs.Building.{CanBuild, HaveLawfulKeys, LiesInLeaf}

@@ -21,7 +21,8 @@ use Rattle.r4_reach.specs.Needs.{leaf_asks, meets, moves, node_asks, node_need, 
 use Rattle.r4_reach.specs.Touched.{Body}
 use Rattle.r4_reach.proofs.Enough.{asks_some, node_needs, over_some, twig_needs}
 use Rattle.r4_measure.specs.Budget.{Bears, Budget, IsBudget, below, grows, of_item, of_target}
-use Rattle.r4_measure.specs.Asked.{asked_of, more_of}
+use Rattle.r4_reach.specs.Leaves.{more_of}
+use Rattle.r4_measure.specs.Asked.{asked_of}
 use Rattle.r4_measure.specs.Begin.{IsQuiet}
 use Rattle.r4_measure.proofs.Kept.{block_is}
 

@@ -22,7 +22,8 @@ use Rattle.r4_reach.specs.Needs.{Ask, asking, come_of, cut_in_two, demand_of, is
 use Rattle.r4_reach.specs.Touched.{Body}
 use Rattle.r4_reach.proofs.Enough.{asks_some, none_meet, over_some}
 use Rattle.r4_reach.proofs.Heard.{is_heard}
-use Rattle.r4_measure.specs.Asked.{asked_of, more_of}
+use Rattle.r4_reach.specs.Leaves.{more_of}
+use Rattle.r4_measure.specs.Asked.{asked_of}
 use Rattle.r4_measure.specs.Begin.{AreEditsOf, IsEditOf, IsReachedFor}
 use Rattle.r4_measure.specs.Budget.{AreSeen, IsBudget}
 use Rattle.r4_measure.specs.Loop.{AreReady, CanRemakeAll, IsReady, LeafTurn, units_now}

@@ -23,7 +23,8 @@ use Rattle.r4_patch.proofs.PartCells.{tree_is_part}
 use Rattle.r4_leaf.specs.Units.{bytes_behind, unit_bytes}
 use Rattle.r4_reach.specs.Demand.{Demand, ask, ask_of, heard, heard_one}
 use Rattle.r4_reach.specs.Needs.{Ask, cell_asks, changes_pieces, demand_of}
-use Rattle.r4_measure.specs.Asked.{asked_of, more_of}
+use Rattle.r4_reach.specs.Leaves.{more_of}
+use Rattle.r4_measure.specs.Asked.{asked_of}
 use Rattle.r4_measure.specs.Begin.{IsQuiet, IsReachedFor}
 use Rattle.r4_measure.specs.Examples.{fresh_cells, fresh_root, set_root, some_numbers}
 

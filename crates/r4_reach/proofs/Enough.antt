@@ -116,8 +116,8 @@ module _ (b : Option Body) (e : Edits) (reads rs : Intervals) (quiet : come_of b
       ≡ 0 = no_if (meets c.lo c.hi (come_of b)) (all_gone hs) (none_meets c.lo c.hi) in omega (arith, z)
 
   -- a cell above the leaves that hears for more than it has room for asks for something
-  asks_up : (c : Node Value) (x : Name × Ask) (xs : List (Name × Ask)) → 2 ≤ c.level → changes_pieces b e c ≡ false
-      → 4068 < weight (items_of c.block) + 46 * all_more (x ∷ xs)
+  asks_up : (c : Node Value) (x : Name × Ask) (xs : List (Name × Ask)) → 2 ≤ c.level
+      → (c.level ≡ 2 → changes_pieces b e c ≡ false) → 4068 < weight (items_of c.block) + 46 * all_more (x ∷ xs)
       → (a : Ask) × (cell_asks b e rs c (x ∷ xs) ≡ Some a) × (1 ≤ a.more)
   asks_up c x xs high still big = by_touch (is_touched rs c)
     where
@@ -127,15 +127,15 @@ module _ (b : Option Body) (e : Edits) (reads rs : Intervals) (quiet : come_of b
       hs : List (Name × Ask)
       hs = x ∷ xs
 
-      twig : Up (twig_asks b e c (x ∷ xs))
-      twig =
+      twig : changes_pieces b e c ≡ false → Up (twig_asks b e c (x ∷ xs))
+      twig same =
           let a : Ask = record {
             more = twig_more b e c (x ∷ xs);
             gone = meets c.lo c.hi (come_of b)
                 && (length (pieces_after b e c (x ∷ xs)) == 0);
           } in
           let some : 1 ≤ a.more = more_some (twig_need b e c (x ∷ xs)) (growing (x ∷ xs))
-          (subst (λ n. 4068 < n) (sym (twig_needs c (x ∷ xs) still)) big) in
+          (subst (λ n. 4068 < n) (sym (twig_needs c (x ∷ xs) same)) big) in
           (a, asks_some (moves (come_of b) c) a some, some)
 
       node : Up (node_asks b c (x ∷ xs))
@@ -149,15 +149,16 @@ module _ (b : Option Body) (e : Edits) (reads rs : Intervals) (quiet : come_of b
           (subst (λ n. 4068 < n) (sym (node_needs c (x ∷ xs))) big) in
           (a, asks_some (moves (come_of b) c) a some, some)
 
-      by_twig : (v : Bool) → Up (if v then twig_asks b e c (x ∷ xs) else node_asks b c (x ∷ xs))
-      by_twig true = twig
-      by_twig false = node
+      by_twig : (v : Bool) → (c.level == 2) ≡ v
+          → Up (if v then twig_asks b e c (x ∷ xs) else node_asks b c (x ∷ xs))
+      by_twig true g = twig (still (grind (arith, g)))
+      by_twig false g = node
 
       by_leaf : (v : Bool) → (c.level == 1) ≡ v
           → Up (if v then leaf_asks b e c else
           (if c.level == 2 then twig_asks b e c (x ∷ xs) else node_asks b c (x ∷ xs)))
       by_leaf true g = absurd (grind (arith, g, high))
-      by_leaf false g = by_twig (c.level == 2)
+      by_leaf false g = by_twig (c.level == 2) refl
 
       by_touch : (v : Bool) → Up (if v
           || not (length (x ∷ xs) == 0) then
@@ -186,7 +187,7 @@ module _ (b : Option Body) (e : Edits) (reads rs : Intervals) (quiet : come_of b
   Up = demand_of b e reads rs
 
   abbrev Still : Numbered → Type 0
-  Still x = changes_pieces b e x.1 ≡ false
+  Still x = x.1.level ≡ 2 → changes_pieces b e x.1 ≡ false
 
   abbrev Here : Numbered → Type 0
   Here x = IsWritten Up t x.0
@@ -196,8 +197,8 @@ module _ (b : Option Body) (e : Edits) (reads rs : Intervals) (quiet : come_of b
       → ask Up t c.level c ≡ cell_asks b e rs c (heard (ask Up t l) t c.names)
   ask_at c l cl = ap (λ k. ask Up t k c) cl
 
-  some_heard : (c : Node Value) (hs : List (Name × Ask)) → hs ≢ [] → 2 ≤ c.level → changes_pieces b e c ≡ false
-      → 4068 < weight (items_of c.block) + 46 * all_more hs
+  some_heard : (c : Node Value) (hs : List (Name × Ask)) → hs ≢ [] → 2 ≤ c.level
+      → (c.level ≡ 2 → changes_pieces b e c ≡ false) → 4068 < weight (items_of c.block) + 46 * all_more hs
       → (a : Ask) × (cell_asks b e rs c hs ≡ Some a) × (1 ≤ a.more)
   some_heard c [] some high still big = absurd (some refl)
   some_heard c (x ∷ xs) some high still big = asks_up b e reads rs quiet c x xs high still big

@@ -45,7 +45,7 @@ pub record AsksAbove (b : Option Body) (e : Edits) (reads rs : Intervals) (t : S
   pub stands : t c.0 ≡ Some c.1
   pub node : 1 ≤ c.1.level
   pub leads : LeadsUp t root c ups
-  pub still : All (λ (x : Numbered). changes_pieces b e x.1 ≡ false) ups
+  pub still : All (λ (x : Numbered). x.1.level ≡ 2 → changes_pieces b e x.1 ≡ false) ups
   pub asks : ask (demand_of b e reads rs) t c.1.level c.1 ≡ Some a
   -- the height can rise where the root asks for something
   pub low : (x : Ask) → IsRootAsking (demand_of b e reads rs) t root x → root.height < 8

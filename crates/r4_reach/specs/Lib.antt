@@ -4,5 +4,6 @@ pub mod Touched
 pub mod Needs
 pub mod Enough
 pub mod Answer
+pub mod Leaves
 pub mod Alike
 pub mod Examples

@@ -7,7 +7,7 @@ use Rattle.std.specs.Ordering.{nat_cmp}
 use Rattle.std.proofs.Math.Decide.{dec_le}
 use Rattle.std.proofs.Math.Nat.{lt_of_not-le}
 use Rattle.r4_base.specs.Key.{least, top}
-use Rattle.r4_base.specs.Tree.{Holds, InName, InNode, IsData, Name, Node, Root, Store, UnitAt}
+use Rattle.r4_base.specs.Tree.{Covers as CoversAt, Holds, InName, InNode, IsData, Name, Node, Root, Store, UnitAt}
 use Rattle.r4_base.specs.Value.{Value}
 use Rattle.r4_base.proofs.Trees.{one_cell}
 use Rattle.r4_cell.specs.Seen.{CellSeen, node_of}
@@ -18,7 +18,7 @@ use Rattle.r4_reach.specs.Demand.{Covers, Demand}
 use Rattle.r4_reach.specs.Reach.{HasTouched}
 use Rattle.r4_search.specs.Pool.{Goes, PoolState}
 use Rattle.r4_seeing.specs.Looking.{AreFound, IsFoundAt, met_cells}
-use Rattle.r4_reaching.specs.Reaching.{InLeaf, IsSeenPart, StaysInLeaves}
+use Rattle.r4_reaching.specs.Reaching.{IsSeenPart, StaysInLeaves}
 
 -- ---- over a pool that has met more
 
@@ -100,12 +100,12 @@ module _ (t : Store Value) (root : Root) (known : Intervals) (s : Pairs) (h : Is
         by (inl (le, at)) = low le at
         by (inr (r, has, at, none)) = (f.id, f.cell, f.is, inr (r, has, at))
 
-    covered_leaf : (k : ℕ) → InLeaf t k → CoveredAt k
+    covered_leaf : (k : ℕ) → CoversAt t 1 k → CoveredAt k
     covered_leaf k (i, c, is, level, at) = (i, c, is, inl (level, at))
 
     -- a data block that has a touched key is there
     block_there : (i : ℕ) (c : Node Value) (n : Name) (k : ℕ) → t i ≡ Some c → Contains c.names n → IsData n
-        → InName n k → (is_in known k ≡ true) ⊎ InLeaf t k → (b : Node Value) × (t n.id ≡ Some b)
+        → InName n k → (is_in known k ≡ true) ⊎ CoversAt t 1 k → (b : Node Value) × (t n.id ≡ Some b)
     block_there i c n k tc named z at (inr (j, e, te, level, in_e)) =
         let (r, cr, from, to) = (h.part.nodes i c tc).data_in_span n named z in
         absurd (leaf_or_extent t root h.part j i e c r k te tc level cr in_e

@@ -8,18 +8,20 @@ use Rattle.r4_cell.specs.Patch.{by_name, root_of_pair}
 use Rattle.r4_cell.specs.Seen.{CellSeen}
 use Rattle.r4_cell.specs.declared.change.Fresh.{Fresh}
 use Rattle.r4_cell.specs.declared.change.Root.{Root as RootPair}
+use Rattle.r4_content.specs.Edited.{changed, is_in}
 use Rattle.r4_content.specs.Fields.{HasBytePaths}
 use Rattle.r4_content.specs.declared.command.Command.{Command}
 use Rattle.r4_leaf_edits.specs.Made.{spread_keys}
 use Rattle.r4_patch.proofs.Members.{distinct, found, there}
 use Rattle.r4_reach.specs.Answer.{IsReachOf}
+use Rattle.r4_reach.specs.Leaves.{LieInLeaves}
 use Rattle.r4_reach.specs.Needs.{demand_on}
 use Rattle.r4_reach.specs.Reach.{IsWritten}
 use Rattle.r4_reach.specs.Touched.{body_on, edits_on, reads_on}
 use Rattle.r4_suited.specs.Suited.{IsAccepted}
 use Rattle.r4_suited.proofs.Cells.{reach_lawful}
 use Rattle.r4_build.specs.Building.{CanBuild, HaveLawfulKeys}
-use Rattle.r4_spared.specs.Spared.{AreAccepted, ChangesLeaves, HasNumbers, HasTask, LieInLeaves, MayStandAll}
+use Rattle.r4_spared.specs.Spared.{AreAccepted, ChangesLeaves, HasNumbers, HasTask, MayStandAll}
 use Rattle.r4_spared.proofs.Small.{builds}
 
 pub all_accepted : (cells : List CellSeen) → MayStandAll cells → AreAccepted (by_name cells)
@@ -35,7 +37,7 @@ all_accepted cells h = record {
 module _ (root : RootPair) (c : Command) (met reads writes : List CellSeen) (rises : Option RootPair)
     (h : IsReachOf root c met reads writes rises) (stand : MayStandAll met) (paths : HasBytePaths c)
     (tails : spread_keys (body_on c h.seen h.in_extents) ≡ None)
-    (lie : LieInLeaves (edits_on c h.seen) (by_name met)) where
+    (lie : LieInLeaves (by_name met) (is_in (changed (edits_on c h.seen)))) where
   pub changes_leaves : ChangesLeaves c h.seen h.in_extents (by_name met) (root_of_pair root)
   changes_leaves = record {
     part = h.part;

@@ -36,7 +36,8 @@ use Rattle.r4_reach.specs.Needs.{meets, moves, node_asks, node_need, over, twig_
 use Rattle.r4_reach.specs.Touched.{Body}
 use Rattle.r4_reach.proofs.Enough.{node_needs, twig_needs}
 use Rattle.r4_search.proofs.Places.{IsBranch, branch}
-use Rattle.r4_measure.specs.Asked.{asked_of, more_of}
+use Rattle.r4_reach.specs.Leaves.{more_of}
+use Rattle.r4_measure.specs.Asked.{asked_of}
 use Rattle.r4_measure.proofs.Kept.{block_is}
 use Rattle.r4_suited.specs.Suited.{IsAccepted}
 use Rattle.r4_spared.specs.Spared.{AreAccepted}

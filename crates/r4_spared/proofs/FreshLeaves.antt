@@ -27,6 +27,7 @@ use Rattle.r4_content.specs.declared.command.Command.TheVariants.{Chmod}
 use Rattle.r4_leaf_edits.specs.Made.{spread_keys}
 use Rattle.r4_patch.proofs.Members.{cases, distinct, there}
 use Rattle.r4_path.proofs.Rising.{in_node, level_is}
+use Rattle.r4_reach.specs.Leaves.{LieInLeaves}
 use Rattle.r4_reach.specs.Touched.{body_on, edits_on}
 use Rattle.r4_suited.specs.Suited.{AreLawfulSeen, IsAccepted, IsLawfulSeen}
 use Rattle.r4_suited.proofs.Walked.{at_found}
@@ -35,7 +36,7 @@ use Rattle.r4_measure.proofs.FreshReach.{highest, leaf_cell, lowest, twig_cell}
 use Rattle.r4_build.specs.Building.{CanBuild, HaveLawfulKeys}
 use Rattle.r4_build.proofs.FreshBuilt.{fresh_built}
 use Rattle.r4_spared.specs.Examples.{root_seen}
-use Rattle.r4_spared.specs.Spared.{AreObjectsSeen, ChangesLeaves, LieInLeaves, MayStandAll}
+use Rattle.r4_spared.specs.Spared.{AreObjectsSeen, ChangesLeaves, MayStandAll}
 use Rattle.r4_spared.proofs.Answered.{all_accepted}
 use Rattle.r4_spared.proofs.Lawful.{keys_lawful}
 
@@ -136,7 +137,7 @@ module _ (twig leaf : List ℕ) (is_twig : HasOneItem twig 2 3 (number_bytes 8 2
     names = (built root_attr).names;
   }
 
-  lies : (e : Edits) (a : Attr) → e ≡ set_root a → LieInLeaves e (by_name cells)
+  lies : (e : Edits) (a : Attr) → e ≡ set_root a → LieInLeaves (by_name cells) (is_in (changed e))
   lies e a same k on from to =
       let (x, at, level, key) = (built a).lie k (subst (λ (f : Edits). is_in (changed f) k ≡ true) same on) in
       (x.id, node_of x, there cells x (distinct cells (built a).names) at, level_is x ∙ level, in_node x k key)

@@ -36,6 +36,7 @@ use Rattle.r4_patch.proofs.PartCells.{leaf_or_extent}
 use Rattle.r4_measure.proofs.Kept.{block_is}
 use Rattle.r4_path.proofs.CellNodes.{names_are as cell_names, spans_are as cell_spans}
 use Rattle.r4_path.proofs.Rising.{level_is}
+use Rattle.r4_reach.specs.Leaves.{LieInLeaves}
 use Rattle.r4_reach.specs.Needs.{changes_pieces, come_of, demand_of, filled, gets_bytes, goes_in, going_of, is_met}
 use Rattle.r4_reach.specs.Needs.{leaf_edits, leaves_for}
 use Rattle.r4_reach.specs.Needs.{put_among, runs}
@@ -48,7 +49,7 @@ use Rattle.r4_build.specs.Building.{SparesExtents}
 use Rattle.r4_build.proofs.LeafKeys.{listed_off}
 use Rattle.r4_build.proofs.MetKeys.{key_met, met_key}
 use Rattle.r4_build.proofs.Pairs.{rising_found}
-use Rattle.r4_spared.specs.Spared.{AreAccepted, IsAskedInLeaves, LieInLeaves, Spares}
+use Rattle.r4_spared.specs.Spared.{AreAccepted, IsAskedInLeaves, Spares}
 use Rattle.r4_spared.proofs.Climbing.{unmet}
 use Rattle.r4_spared.proofs.Pieces.{IsSpanned, block_named, hole, part_spanned, pieces_spanned, run_is_hole}
 
@@ -166,7 +167,7 @@ put_changes e k h =
 
 -- ---- in a part of a tree
 
-module _ (t : Store Value) (root : Root) (it : IsPart t root) (e : Edits) (lie : LieInLeaves e t) where
+module _ (t : Store Value) (root : Root) (it : IsPart t root) (e : Edits) (lie : LieInLeaves t (is_in (changed e))) where
   pub spares : SparesExtents e t
   spares i c s at has = not_true (is_met (changed e) s.lo s.hi) (λ met.
       let (k, on, low, high) = met_key (changed e) s.lo s.hi met in
@@ -331,7 +332,7 @@ module _ (b : Option Body) (e : Edits) (t : Store Value) (spared : SparesExtents
 -- ---- the law
 
 pub all_spared : (t : Store Value) (root : Root) (b : Option Body) (e : Edits) → IsPart t root → AreAccepted t
-    → spread_keys b ≡ None → LieInLeaves e t → Spares b e t
+    → spread_keys b ≡ None → LieInLeaves t (is_in (changed e)) → Spares b e t
 all_spared t root b e it accepted tails lie = record {
   come = none_come b tails;
   go = none_go b tails;

@@ -3,8 +3,8 @@ use Rattle.std.specs.Prelude.{◌≡◌, ◌≢◌, ℕ, ◌+◌, ◌*◌, ◌^�
 use Rattle.std.specs.Prelude.{All, Contains, Option, None, Some}
 use Rattle.std.specs.FinMap.{find}
 use Rattle.std.specs.Ordering.{nat_cmp}
-use Rattle.r4_base.specs.Key.{least, top}
-use Rattle.r4_base.specs.Tree.{Covers, IsData, Name, Node, Root, Store}
+use Rattle.r4_base.specs.Key.{least}
+use Rattle.r4_base.specs.Tree.{IsData, Name, Node, Root, Store}
 use Rattle.r4_base.specs.Value.{Content, Stat, Value}
 use Rattle.r4_base.specs.Volume.{HasStat, IsObject, stat_rank}
 use Rattle.r4_base.specs.declared.items.Attr.{Attr}
@@ -23,6 +23,7 @@ use Rattle.r4_patch.specs.Part.{IsPart}
 use Rattle.r4_path.specs.Nodes.{IsPointable}
 use Rattle.r4_path.specs.Steps.{IsFree}
 use Rattle.r4_reach.specs.Demand.{Demand}
+use Rattle.r4_reach.specs.Leaves.{LieInLeaves}
 use Rattle.r4_reach.specs.Needs.{Ask, changes_pieces, come_of, demand_of, demand_on, going_of}
 use Rattle.r4_reach.specs.Reach.{IsRootAsking, IsWritten}
 use Rattle.r4_reach.specs.Touched.{Body, body_on, edits_on, reads_on}
@@ -47,10 +48,6 @@ pub record MayStandAll (cells : List CellSeen) : Type 0 where
       → IsData n → n.id ≢ 2 ^ 63
   pub names : HaveNames cells
 
--- Each key that changes lies in a leaf, as far as it is one that an item may have.
-abbrev pub LieInLeaves : Edits → Store Value → Type 0
-LieInLeaves e t = (k : ℕ) → is_in (changed e) k ≡ true → least ≤ k → k < top → Covers t 1 k
-
 -- No blocks come or go, no key that changes lies in an extent, and no twig's pieces change.
 pub record Spares (b : Option Body) (e : Edits) (t : Store Value) : Type 0 where
   pub come : come_of b ≡ (0, 0)
@@ -69,7 +66,7 @@ pub record ChangesLeaves (c : Command) (s : Pairs) (in_extents : Bool) (t : Stor
   pub rises : Rises s
   pub lawful : AreLawfulSeen c s
   pub tails : spread_keys (body_on c s in_extents) ≡ None
-  pub lie : LieInLeaves (edits_on c s) t
+  pub lie : LieInLeaves t (is_in (changed (edits_on c s)))
 
 -- The root may be parted, where it is asked to be: it stands below level 8.
 abbrev pub MayRise : Demand Ask → Store Value → Root → Type 0

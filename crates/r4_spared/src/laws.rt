@@ -9,7 +9,7 @@ ghost use Rattle.r4_cell.specs.Patch.{by_name, root_of_pair};
 ghost use Rattle.r4_cell.specs.Seen.{CellSeen};
 ghost use Rattle.r4_cell.specs.declared.change.Fresh.{Fresh};
 ghost use Rattle.r4_cell.specs.declared.change.Root.{Root as RootPair};
-ghost use Rattle.r4_content.specs.Edited.{Edits, Intervals, Pairs, changed};
+ghost use Rattle.r4_content.specs.Edited.{Edits, Intervals, Pairs, changed, is_in};
 ghost use Rattle.r4_content.specs.Fields.{HasBytePaths};
 ghost use Rattle.r4_content.specs.Lawful.{IsLawful};
 ghost use Rattle.r4_content.specs.Meaning.{greatest_size};
@@ -18,6 +18,7 @@ ghost use Rattle.r4_content.specs.declared.command.Command.{Command};
 ghost use Rattle.r4_leaf_edits.specs.Made.{spread_keys};
 ghost use Rattle.r4_patch.specs.Part.{IsPart};
 ghost use Rattle.r4_reach.specs.Answer.{IsReachOf};
+ghost use Rattle.r4_reach.specs.Leaves.{LieInLeaves};
 ghost use Rattle.r4_reach.specs.Needs.{demand_of, demand_on};
 ghost use Rattle.r4_reach.specs.Touched.{Body, body_on, edits_on, reads_on};
 ghost use Rattle.r4_suited.specs.Suited.{AreLawfulSeen};
@@ -25,7 +26,7 @@ ghost use Rattle.r4_measure.specs.Asked.{asked_of};
 ghost use Rattle.r4_measure.specs.Begin.{IsQuiet};
 ghost use Rattle.r4_build.specs.Building.{CanBuild, HaveLawfulKeys};
 ghost use Rattle.r4_spared.specs.Spared.{AreAccepted, AreObjectsSeen, ChangesLeaves, HasTask};
-ghost use Rattle.r4_spared.specs.Spared.{HasGoodObjects, IsAskedInLeaves, LieInLeaves, MayRise};
+ghost use Rattle.r4_spared.specs.Spared.{HasGoodObjects, IsAskedInLeaves, MayRise};
 ghost use Rattle.r4_spared.specs.Spared.{HasNumbers, MayStandAll, Spares};
 
 /// Where all keys that edits change lie in leaves, and no body stands in extents afterwards, no
@@ -33,11 +34,11 @@ ghost use Rattle.r4_spared.specs.Spared.{HasNumbers, MayStandAll, Spares};
 /// what it asks of the tree is then what its edits ask.
 pub fn keys_in_leaves_spare_extents()
     ensures edits { (t : Store Value) (root : Root) (b : Option Body) (e : Edits)
-        → IsPart t root → AreAccepted t → spread_keys b ≡ None → LieInLeaves e t
+        → IsPart t root → AreAccepted t → spread_keys b ≡ None → LieInLeaves t (is_in (changed e))
         → Spares b e t }
     ensures command { (c : Command) (s : Pairs) (in_extents : Bool) (t : Store Value) (root : Root)
         → IsPart t root → AreAccepted t → spread_keys (body_on c s in_extents) ≡ None
-        → LieInLeaves (edits_on c s) t
+        → LieInLeaves t (is_in (changed (edits_on c s)))
         → Spares (body_on c s in_extents) (edits_on c s) t × IsAskedInLeaves c s in_extents }
 {}
 
@@ -89,13 +90,13 @@ pub fn answers_can_be_built()
         (rises : Option RootPair) (h : IsReachOf root c met reads writes rises)
         → MayStandAll met → HasBytePaths c
         → spread_keys (body_on c h.seen h.in_extents) ≡ None
-        → LieInLeaves (edits_on c h.seen) (by_name met)
+        → LieInLeaves (by_name met) (is_in (changed (edits_on c h.seen)))
         → ChangesLeaves c h.seen h.in_extents (by_name met) (root_of_pair root) }
     ensures builds { (root : RootPair) (c : Command) (met reads writes : List CellSeen)
         (rises : Option RootPair) (h : IsReachOf root c met reads writes rises) (f : Fresh)
         → MayStandAll met → HasBytePaths c
         → spread_keys (body_on c h.seen h.in_extents) ≡ None
-        → LieInLeaves (edits_on c h.seen) (by_name met)
+        → LieInLeaves (by_name met) (is_in (changed (edits_on c h.seen)))
         → HaveLawfulKeys (edits_on c h.seen) → (root_of_pair root).height ≤ 8
         → (IsSome rises → (root_of_pair root).height < 8)
         → HasNumbers (by_name met) (root_of_pair root) f writes
