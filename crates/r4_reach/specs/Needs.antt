@@ -188,6 +188,10 @@ abbrev pub goes_in : ℕ × ℕ → TwigPiece → TwigPart → Bool
 goes_in r p (Pointer to) = false
 goes_in r p (Blocks u) = meets (rank p.key) (rank p.key + 4096 * u.width) r
 
+abbrev pub is_hole_part : TwigPart → Bool
+is_hole_part (Pointer to) = false
+is_hole_part (Blocks u) = is_hole u
+
 -- an extent's unit comes or goes, or is replaced, or another value comes among the extents
 abbrev pub changes_pieces : Option Body → Edits → Node Value → Bool
 changes_pieces None e c = nat_lt 0 (put_among None e c)
@@ -199,11 +203,7 @@ changes_pieces (Some b) e c =
   where
     is_refilled : TwigPiece → List TwigPiece → Bool
     is_refilled p [] = false
-    is_refilled p (q ∷ qs) = not (length qs == 0) || by_part q.part
-      where
-        by_part : TwigPart → Bool
-        by_part (Pointer to) = false
-        by_part (Blocks u) = u.start == 2 ^ 63
+    is_refilled p (q ∷ qs) = not (length qs == 0) || (is_hole_part p.part && not (is_hole_part q.part))
 
 -- A twig whose pieces change is packed anew, and what it needs is what its pieces need; one that only gets pointers
 -- keeps its items.

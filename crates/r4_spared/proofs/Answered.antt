@@ -29,9 +29,6 @@ all_accepted cells h = record {
   cells = λ i c at.
       let (x, among, id, says) = found cells i c at in
       (x, says, h.whole x among, All-contains IsAccepted cells x h.accepted among);
-  numbers = λ i c n at has block_level.
-      let (x, among, id, says) = found cells i c at in
-      h.numbers x n among (subst (λ (y : Node Value). Contains y.names n) says has) block_level;
 }
 
 module _ (root : RootPair) (c : Command) (met reads writes : List CellSeen) (rises : Option RootPair)

@@ -107,20 +107,6 @@ module _ (twig leaf : List ℕ) (is_twig : HasOneItem twig 2 3 (number_bytes 8 2
       ≡ cell_of l least top b
   named l b = λ i. cell_of l (lowest i) (highest i) b
 
-  no_block : (x : CellSeen) (n : Name) → Contains cells x → Contains (node_of x).names n → IsData n → n.id ≢ 2 ^ 63
-  unfolding fresh_twig fresh_leaf down
-  no_block x n at has block_level = elim (cases high x (low ∷ []) at) [
-    | inl is ↦
-        let same : node_of x ≡ fresh_twig twig = ap node_of is ∙ (named 2 twig ∙ sym (twig_says twig is_twig)) in
-        let one : n ≡ down = only down n (subst (λ (y : Node Value). Contains y.names n) same has) in
-        let level = ap (λ (m : Name). m.level) one in
-        absurd (omega (arith, level, block_level))
-    | inr more ↦
-        let same : node_of x ≡ fresh_leaf leaf = ap node_of (only low x more)
-        ∙ (named 1 leaf ∙ sym (leaf_says leaf is_leaf)) in
-        absurd (nothing_in n (subst (λ (y : Node Value). Contains y.names n) same has))
-  ]
-
   pub fresh_stand : MayStandAll cells
   fresh_stand = record {
     accepted = All-cons IsAccepted high (low ∷ [])
@@ -133,7 +119,6 @@ module _ (twig leaf : List ℕ) (is_twig : HasOneItem twig 2 3 (number_bytes 8 2
       | inl is ↦ ap (λ (y : CellSeen). length y.block) is ∙ whole_twig
       | inr more ↦ ap (λ (y : CellSeen). length y.block) (only low x more) ∙ whole_leaf
     ];
-    numbers = no_block;
     names = (built root_attr).names;
   }
 

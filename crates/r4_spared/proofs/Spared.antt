@@ -4,11 +4,10 @@ use Rattle.std.specs.Prelude.{false, not}
 use Rattle.std.specs.Prelude.{◌||◌, ◌&&◌, ◌==◌, nat_lt, sum_by, Contains, Option, Some, None, if◌then◌else◌}
 use Rattle.std.specs.List.{filter, list_any}
 use Rattle.std.proofs.Common.{arith, cond, inl, inr, refl, sym, ap, subst, ◌∙◌}
-use Rattle.std.proofs.lemmas.Bool.{eqb-true, ne_eqb}
 use Rattle.std.proofs.lemmas.Grind.{common_steps}
 use Rattle.std.proofs.lemmas.List.Sums.{sum_by-cons}
 use Rattle.std.proofs.lemmas.Option.{none-some}
-use Rattle.r4_base.specs.Cell.{cell_fault, names_in, spans_in}
+use Rattle.r4_base.specs.Cell.{cell_fault, spans_in}
 use Rattle.r4_base.specs.Extents.{is_hole}
 use Rattle.r4_base.specs.Key.{key_of_rank, rank}
 use Rattle.r4_base.specs.Node.{items_of}
@@ -16,12 +15,10 @@ use Rattle.r4_base.specs.Tree.{InSpan, Name, Node, Root, Span, Store}
 use Rattle.r4_base.specs.Value.{Value}
 use Rattle.r4_base.specs.declared.items.Unit.{Unit as ExtentUnit}
 use Rattle.r4_base.specs.declared.key.Key.{Key}
-use Rattle.r4_base.specs.declared.things.NodeId.{NodeId}
 use Rattle.r4_branch.specs.Pieces.{MayStand, pieces_in}
 use Rattle.r4_branch.specs.declared.piece.TwigPart.{TwigPart}
 use Rattle.r4_branch.specs.declared.piece.TwigPart.TheVariants.{Blocks, Pointer}
 use Rattle.r4_branch.specs.declared.piece.TwigPiece.{TwigPiece}
-use Rattle.r4_branch.proofs.ItemPieces.{names_of_twig, pieces_of_twig}
 use Rattle.r4_branch.proofs.Standing.{stand_lie}
 use Rattle.r4_cell.specs.Seen.{CellSeen, node_of}
 use Rattle.r4_content.specs.Edited.{Edits, Intervals, Pairs, changed, is_between, is_in, put_keys}
@@ -34,11 +31,11 @@ use Rattle.r4_patch.specs.Part.{IsPart}
 use Rattle.r4_patch.proofs.Members.{here, later}
 use Rattle.r4_patch.proofs.PartCells.{leaf_or_extent}
 use Rattle.r4_measure.proofs.Kept.{block_is}
-use Rattle.r4_path.proofs.CellNodes.{names_are as cell_names, spans_are as cell_spans}
+use Rattle.r4_path.proofs.CellNodes.{spans_are as cell_spans}
 use Rattle.r4_path.proofs.Rising.{level_is}
 use Rattle.r4_reach.specs.Leaves.{LieInLeaves}
 use Rattle.r4_reach.specs.Needs.{changes_pieces, come_of, demand_of, filled, gets_bytes, goes_in, going_of, is_met}
-use Rattle.r4_reach.specs.Needs.{leaf_edits, leaves_for}
+use Rattle.r4_reach.specs.Needs.{is_hole_part, leaf_edits, leaves_for}
 use Rattle.r4_reach.specs.Needs.{put_among, runs}
 use Rattle.r4_reach.specs.Touched.{Body, blocks_end, body_on, coming, edits_on, first_byte, going, is_spread}
 use Rattle.r4_reach.specs.Touched.{raw_changes, reads_on, turns_out}
@@ -51,7 +48,7 @@ use Rattle.r4_build.proofs.MetKeys.{key_met, met_key}
 use Rattle.r4_build.proofs.Pairs.{rising_found}
 use Rattle.r4_spared.specs.Spared.{AreAccepted, IsAskedInLeaves, Spares}
 use Rattle.r4_spared.proofs.Climbing.{unmet}
-use Rattle.r4_spared.proofs.Pieces.{IsSpanned, block_named, hole, part_spanned, pieces_spanned, run_is_hole}
+use Rattle.r4_spared.proofs.Pieces.{IsSpanned, hole, part_spanned, pieces_spanned, run_is_hole}
 
 -- ---- lists and tests
 
@@ -147,10 +144,10 @@ asked_in_leaves c s in_extents h =
 
 -- ---- pieces that stay
 
--- nothing, one pointer, or one unit that is no new block
-abbrev IsKept : List TwigPiece → Type 0
-IsKept qs = (qs ≡ []) ⊎ (((k : Key) × (to : NodeId) × (qs ≡ record { key = k; part = Pointer to } ∷ []))
-    ⊎ ((k : Key) × (u : ExtentUnit) × (qs ≡ record { key = k; part = Blocks u } ∷ []) × ((u.start == 2 ^ 63) ≡ false)))
+-- nothing, or one piece, which is a hole where it was one
+abbrev IsKept : TwigPart → List TwigPiece → Type 0
+IsKept part qs = (qs ≡ [])
+    ⊎ ((q : TwigPiece) × (qs ≡ q ∷ []) × ((is_hole_part part && not (is_hole_part q.part)) ≡ false))
 
 -- ---- the keys that edits set
 
@@ -194,23 +191,28 @@ no_bytes b e k tails h =
 filled_kept : (b : Body) (e : Edits) (k : Key) (part : TwigPart) → is_spread b ≡ false
     → (ss : List Span) → part_spanned ss (rank k) part
     → ((j : ℕ) → ((s : Span) × Contains ss s × InSpan s j) → is_in (changed e) j ≡ false)
-    → ((u : ExtentUnit) → part ≡ Blocks u → is_hole u ≡ false → (u.start == 2 ^ 63) ≡ false)
-    → IsKept (filled b e (record { key = k; part = part }))
-filled_kept b e k (Pointer to) tails ss spanned same old = inr (inl (k, to, refl))
-filled_kept b e k (Blocks u) tails ss spanned same old = by_test (is_hole u) refl
+    → IsKept part (filled b e (record { key = k; part = part }))
+filled_kept b e k (Pointer to) tails ss spanned same = inr (record { key = k; part = Pointer to }, refl, refl)
+filled_kept b e k (Blocks u) tails ss spanned same = by_test (is_hole u) refl
     (is_between (first_byte b) (first_byte b + 2 ^ 64) (rank k))
   where
-    no_new : (n : ℕ) → (n == 0) ≡ true → (n == 2 ^ 63) ≡ false
-    no_new n h = let z = eqb-true n 0 h in ap (λ (m : ℕ). m == 2 ^ 63) z
+    both : (v : Bool) → (v && not v) ≡ false
+    both true = refl
+    both false = refl
 
-    of_run : (rs : List TwigPiece) → (rs ≡ []) ⊎ ((w : ℕ) × (rs ≡ hole (rank k) w ∷ [])) → IsKept rs
+    of_run : (rs : List TwigPiece) → (rs ≡ []) ⊎ ((w : ℕ) × (rs ≡ hole (rank k) w ∷ [])) → IsKept (Blocks u) rs
     of_run rs (inl is) = inl is
-    of_run rs (inr (w, is)) = inr (inr (key_of_rank (rank k), record { start = 0; width = w }, is, refl))
+    of_run rs (inr (w, is)) = inr (hole (rank k) w, is, ends (is_hole u))
+      where
+        ends : (v : Bool) → (v && false) ≡ false
+        ends true = refl
+        ends false = refl
 
     by_test : (v : Bool) → is_hole u ≡ v → (w : Bool)
-        → IsKept (if v && w then runs (gets_bytes b e) (rank k) u.width else (record { key = k; part = Blocks u }) ∷ [])
-    by_test false h w = inr (inr (k, u, refl, old u refl h))
-    by_test true h false = inr (inr (k, u, refl, no_new u.start h))
+        → IsKept (Blocks u)
+        (if v && w then runs (gets_bytes b e) (rank k) u.width else (record { key = k; part = Blocks u }) ∷ [])
+    by_test false h w = inr (record { key = k; part = Blocks u }, refl, both (is_hole u))
+    by_test true h false = inr (record { key = k; part = Blocks u }, refl, both (is_hole u))
     by_test true h true = of_run (runs (gets_bytes b e) (rank k) u.width)
         (run_is_hole (gets_bytes b e) (rank k) u.width
         (λ j from to. no_bytes b e j tails
@@ -273,20 +275,6 @@ module _ (b : Option Body) (e : Edits) (t : Store Value) (spared : SparesExtents
     spans_are : c.spans ≡ spans_in (rank cell.hi) (items_of cell.block)
     spans_are = ap (λ (y : Node Value). y.spans) is_cell ∙ cell_spans cell 1 level_two
 
-    names_are : c.names ≡ names_in 2 (rank cell.hi) (items_of cell.block)
-    names_are = ap (λ (y : Node Value). y.names) is_cell ∙ cell_names cell 1 level_two
-
-    old_block : (p : TwigPiece) → Contains pieces p → (u : ExtentUnit) → p.part ≡ Blocks u → is_hole u ≡ false
-        → (u.start == 2 ^ 63) ≡ false
-    unfolding pieces
-    old_block p has u is block =
-        let (m, there, level_zero, id) = block_named (rank cell.lo) (rank cell.hi) (rank cell.hi)
-        (pieces_in (items_of cell.block)) p u
-        (pieces_of_twig (rank cell.lo) (rank cell.hi) cell.block stands).follow has is block in
-        let named : Contains c.names m = subst (λ (ns : List Name). Contains ns m)
-        (names_of_twig (rank cell.lo) (rank cell.hi) cell.block stands (rank cell.hi) ∙ sym names_are) there in
-        ne_eqb u.start (2 ^ 63) (λ same. accepted.numbers i c m at named level_zero (id ∙ same))
-
     spanned : (p : TwigPiece) → Contains pieces p → IsSpanned c.spans p
     unfolding pieces
     spanned p has = subst (λ (ss : List Span). IsSpanned ss p) (sym spans_are)
@@ -295,10 +283,10 @@ module _ (b : Option Body) (e : Edits) (t : Store Value) (spared : SparesExtents
 
     -- no piece is filled
     unfilled : (bd : Body) → is_spread bd ≡ false → (p : TwigPiece) → Contains (pieces_in (items_of c.block)) p
-        → IsKept (filled bd e p)
+        → IsKept p.part (filled bd e p)
     unfilled bd tail p has =
         let there : Contains pieces p = subst (λ (ps : List TwigPiece). Contains ps p) pieces_are has in
-        filled_kept bd e p.key p.part tail c.spans (spanned p there) off (old_block p there)
+        filled_kept bd e p.key p.part tail c.spans (spanned p there) off
 
     none_goes_in : (bd : Body) → is_spread bd ≡ false → (p : TwigPiece) → goes_in (going bd) p p.part ≡ false
     none_goes_in bd tail p = ap (λ (r : ℕ × ℕ). goes_in r p p.part) (none_goes bd tail) ∙ by_part p.part
@@ -327,7 +315,7 @@ module _ (b : Option Body) (e : Edits) (t : Store Value) (spared : SparesExtents
         (none_of _ (pieces_in (items_of c.block))
         (λ p has. elim
         (unfilled bd tail p has)
-        [ inl is ↦ rw is refl | inr (inl (k, to, is)) ↦ rw is refl | inr (inr (k, u, is, old)) ↦ rw is old ]))
+        [ inl is ↦ rw is refl | inr (q, is, stays) ↦ rw is stays ]))
 
 -- ---- the law
 

@@ -4,7 +4,7 @@ use Rattle.std.specs.Prelude.{All, Contains, Option, None, Some}
 use Rattle.std.specs.FinMap.{find}
 use Rattle.std.specs.Ordering.{nat_cmp}
 use Rattle.r4_base.specs.Key.{least}
-use Rattle.r4_base.specs.Tree.{IsData, Name, Node, Root, Store}
+use Rattle.r4_base.specs.Tree.{Node, Root, Store}
 use Rattle.r4_base.specs.Value.{Content, Stat, Value}
 use Rattle.r4_base.specs.Volume.{HasStat, IsObject, stat_rank}
 use Rattle.r4_base.specs.declared.items.Attr.{Attr}
@@ -32,20 +32,15 @@ use Rattle.r4_work.specs.Working.{AreCellsIn}
 use Rattle.r4_measure.specs.Budget.{AreUnplaced}
 use Rattle.r4_build.specs.Building.{SparesExtents}
 
--- What stands is cells that may stand, in memory. None of them names a block of the number by which
--- new blocks are told.
+-- What stands is cells that may stand, in memory.
 pub record AreAccepted (t : Store Value) : Type 0 where
   pub cells : (i : ℕ) (c : Node Value) → t i ≡ Some c
       → (x : CellSeen) × (c ≡ node_of x) × (length x.block ≡ 4096) × IsAccepted x
-  pub numbers : (i : ℕ) (c : Node Value) (n : Name) → t i ≡ Some c → Contains c.names n
-      → IsData n → n.id ≢ 2 ^ 63
 
 -- So are these cells, of which no two have one number.
 pub record MayStandAll (cells : List CellSeen) : Type 0 where
   pub accepted : All IsAccepted cells
   pub whole : (x : CellSeen) → Contains cells x → length x.block ≡ 4096
-  pub numbers : (x : CellSeen) (n : Name) → Contains cells x → Contains (node_of x).names n
-      → IsData n → n.id ≢ 2 ^ 63
   pub names : HaveNames cells
 
 -- No blocks come or go, no key that changes lies in an extent, and no twig's pieces change.
