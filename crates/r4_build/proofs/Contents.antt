@@ -3,16 +3,17 @@ use Rattle.std.proofs.Common.{◌≡◌, ◌∙◌, Bool, true, false, [], ap, r
 use Rattle.std.specs.FinMap.{find}
 use Rattle.std.specs.Option.{option_map}
 use Rattle.std.specs.Ordering.{nat_cmp}
-use Rattle.std.specs.Prelude.{None, Option, Some, if◌then◌else◌}
+use Rattle.std.specs.Prelude.{◌&&◌, None, Option, Some, if◌then◌else◌}
 use Rattle.r4_base.specs.Tree.{Root, Store}
 use Rattle.r4_base.specs.Value.{Content, Value, at_key}
 use Rattle.r4_base.specs.Volume.{HasUnits}
 use Rattle.r4_cell.specs.Patch.{Patch, place}
+use Rattle.r4_content.specs.Counts.{born, gone, is_okay, stats_in}
 use Rattle.r4_content.specs.Course.{Ending}
 use Rattle.r4_content.specs.Edited.{Edits, changed, edited, is_in}
 use Rattle.r4_content.specs.Held.{pairs_of}
 use Rattle.r4_content.specs.Listed.{list_edited}
-use Rattle.r4_content.specs.Meaning.{after, greatest_size, reply}
+use Rattle.r4_content.specs.Meaning.{after, greatest_size, makes_object, reply}
 use Rattle.r4_content.specs.Seen.{IsSeen}
 use Rattle.r4_content.proofs.EditLaws.{edited_off}
 use Rattle.r4_content.proofs.SeenLaws.{seen}
@@ -46,3 +47,9 @@ module _ (x : BuiltSeen) (is : IsBuilt x) (m : Content) (saw : IsSeen greatest_s
 
   pub built_reply : x.reply ≡ reply greatest_size x.task.command m
   built_reply = is.reply ∙ ap (λ (e : Ending). e.reply) (seen greatest_size x.task.command (pairs_of x.task.seen) m saw)
+
+  pub built_born : x.objects.born ≡ born greatest_size x.task.command m
+  built_born = is.born ∙ ap (λ (e : Ending). if makes_object x.task.command && is_okay e.reply then 1 else 0) (seen greatest_size x.task.command (pairs_of x.task.seen) m saw)
+
+  pub built_gone : x.objects.gone ≡ gone greatest_size x.task.command m
+  built_gone = is.gone ∙ ap (λ (e : Ending). stats_in e.edits.cuts) (seen greatest_size x.task.command (pairs_of x.task.seen) m saw)

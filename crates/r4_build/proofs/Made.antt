@@ -3,8 +3,9 @@ use Rattle.std.proofs.Common.{◌≡◌, inl, inr, ℕ, ◌+◌, ◌<◌, ◌≤
 use Rattle.std.specs.Prelude.{◌&&◌, ◌||◌, ◌==◌, ◌^◌, All, Contains, Err, None, Ok, OnOk, Option, Result, length}
 use Rattle.std.proofs.lemmas.Bool.{and_parts, eq-eqb, eqb-true}
 use Rattle.std.proofs.lemmas.Grind.{common_steps}
+use Rattle.std.proofs.lemmas.List.{length-append}
 use Rattle.std.proofs.lemmas.List.Elements.{All-cons, All-nil}
-use Rattle.std.proofs.lemmas.List.Sorted.{Contains-permutation, IsPermutation-sym}
+use Rattle.std.proofs.lemmas.List.Sorted.{Contains-permutation, IsPermutation-sym, length_permutation}
 use Rattle.r4_base.specs.Cell.{cell_fault}
 use Rattle.r4_base.specs.Key.{rank}
 use Rattle.r4_base.specs.Tree.{Root, Store}
@@ -32,7 +33,7 @@ use Rattle.r4_edit.proofs.HalvedLeaf.{lent_stands}
 use Rattle.r4_edit.proofs.PartedLeaf.{units_rise}
 use Rattle.r4_work.specs.Remaking.{Changes, CutsWithin, HaveKeys, IsRemakable, remade_keys, remade_values}
 use Rattle.r4_work.specs.Order.{HasKey}
-use Rattle.r4_work.specs.Working.{HasNoEffect, IsStart}
+use Rattle.r4_work.specs.Working.{HasNoEffect, IsStart, IsWorking, standing}
 use Rattle.r4_work.specs.declared.working.WorkingSet.{WorkingSet}
 use Rattle.r4_work.proofs.Halving.{true_or_false}
 use Rattle.r4_work.proofs.Remade.{or_true}
@@ -150,6 +151,7 @@ module _ (t : Store Value) (r : Root) (e : Edits) (c : CellSeen) (cells : List C
       changes = changes;
       stays = stays_of t r f g w v u.key u.cuts u.items can.working.made done;
       rest = after_turn g v done;
+      few = λ most h us turns. h (u ∷ us) (inr (u, us, refl, turn, turns)) g v done;
     }
 
 -- ---- a cell that has none
@@ -173,6 +175,7 @@ none_here t r e c cells f w none can = record {
   changes = changes_none w (changed_in e c) (set_by e) (no_leaf e c none);
   stays = stays_same f w;
   rest = others_can t r e c cells f w can;
+  few = λ most h us turns. h us (inl turns);
 }
 
 -- ---- all cells
@@ -182,6 +185,7 @@ none_among t r e f w can = record {
   working = can.working;
   changes = changes_none w (changed_among e []) (set_by e) (λ k. refl);
   stays = stays_same f w;
+  few = λ most h. h [] refl;
 }
 
 pub one_more : (t : Store Value) (r : Root) (e : Edits) (c : CellSeen) (cells : List CellSeen) (f g h : Fresh) (w v now : WorkingSet) → f.next ≤ g.next → IsMadeIn t r e c cells f g w v → AreMadeIn t r e cells g h v now → AreMadeIn t r e (c ∷ cells) f h w now
@@ -189,6 +193,7 @@ one_more t r e c cells f g h w v now up one all = record {
   working = all.working;
   changes = changes_both w v now (changed_in e c) (changed_among e cells) (set_by e) one.changes all.changes;
   stays = λ cs first low was. all.stays cs first (omega (arith, low, up)) (one.stays cs first low was);
+  few = λ most h. all.few most (one.few most h);
 }
 
 -- ---- from the start to the end
@@ -243,3 +248,10 @@ pub whole_effect : (t : Store Value) (r : Root) (e : Edits) (cells : List CellSe
 whole_effect t r e cells f g w now lie start made =
     changes_all w now (is_in (changed e)) (set_by e) start
     (same_changes w now (changed_among e cells) (is_in (changed e)) (set_by e) (set_by e) made.changes (all_keys e cells lie) (λ k h. refl))
+
+-- the new cells stand
+pub few_new : (most : ℕ) (t : Store Value) (r : Root) (f : Fresh) (w : WorkingSet) → IsWorking t r f w → length (standing w) ≤ most → length w.change.new ≤ most
+few_new most t r f w working few =
+    let a = length-append w.made w.kept in
+    let p = length_permutation w.change.new w.made working.made in
+    omega (arith, few, a, p)

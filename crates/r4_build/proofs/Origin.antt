@@ -1,6 +1,6 @@
 -- Of which cells a working set is, and which numbers its new cells have.
-use Rattle.std.proofs.Common.{◌≡◌, ◌⊎◌, inl, inr, ℕ, zero, suc, ◌+◌, ◌<◌, ◌≤◌, true, false, List, [], ◌∷◌, ◌++◌, length, refl, sym, ap, subst, ◌∙◌, arith}
-use Rattle.std.specs.Prelude.{Contains, None, Option, Some}
+use Rattle.std.proofs.Common.{◌≡◌, ◌⊎◌, inl, inr, ℕ, ◌+◌, ◌<◌, ◌≤◌, true, false, List, ◌∷◌, ◌++◌, length, refl, sym, ap, subst, ◌∙◌, arith}
+use Rattle.std.specs.Prelude.{Contains, None}
 use Rattle.std.specs.List.Sorted.{IsPermutation}
 use Rattle.std.proofs.lemmas.List.Elements.{Contains-append_cases, Contains-append_left, Contains-append_right}
 use Rattle.std.proofs.lemmas.List.Sorted.{Contains-permutation, IsPermutation-sym}
@@ -15,30 +15,15 @@ use Rattle.r4_leaf.specs.declared.remaking.KeyRange.{KeyRange}
 use Rattle.r4_patch.specs.Following.{is_among, without}
 use Rattle.r4_patch.specs.Joining.{ids_of}
 use Rattle.r4_patch.proofs.Followed.{among_cell, among_or_not, cell_among, in_without, to_without}
-use Rattle.r4_patch.proofs.Members.{cases, here, none}
 use Rattle.r4_path.specs.Steps.{Step, fresh_ids, olds}
 use Rattle.r4_path.proofs.Rising.{count_within, id_member}
-use Rattle.r4_work.specs.Order.{cell_at}
 use Rattle.r4_work.specs.Remaking.{IsRemade}
-use Rattle.r4_work.specs.Working.{first_and, standing, ups_of}
+use Rattle.r4_work.specs.Working.{standing}
 use Rattle.r4_work.specs.declared.working.WorkingSet.{WorkingSet}
-use Rattle.r4_work.proofs.LeafEffect.{taken}
-use Rattle.r4_work.proofs.Paths.{found_is}
+use Rattle.r4_edit.specs.Remaking.{after_edits}
 use Rattle.r4_measure.proofs.Loop.{from_new, of_id}
+use Rattle.r4_measure.proofs.OldCells.{old_stands}
 use Rattle.r4_build.specs.Making.{IsOf, StaysOf}
-
--- the cells of a path are cells of those in which it was looked up
-path_among : (n : ℕ) (cells : List CellSeen) (level k : ℕ) (x : CellSeen) → Contains (ups_of n cells level k) x → Contains cells x
-unfolding ups_of
-path_among zero cells level k x h = absurd (none x h)
-path_among (suc n) cells level k x h = by_first (cell_at cells level k) (ups_of n cells (level + 1) k) refl (path_among n cells (level + 1) k x) h
-  where
-    by_first : (o : Option CellSeen) (rest : List CellSeen) → cell_at cells level k ≡ o → (Contains rest x → Contains cells x) → Contains (first_and o rest) x → Contains cells x
-    by_first None rest is more h = absurd (none x h)
-    by_first (Some c) rest is more h = elim (cases c x rest h) [
-      | inl same ↦ subst (Contains cells) (sym same) (found_is cells level k c is).among
-      | inr m ↦ more m
-    ]
 
 ids_left : (xs ys : List CellSeen) (i : ℕ) → Contains (ids_of xs) i → Contains (ids_of (xs ++ ys)) i
 ids_left xs ys i m = let (x, at, id) = of_id xs i m in subst (Contains (ids_of (xs ++ ys))) id (id_member (xs ++ ys) x (Contains-append_left xs ys x at))
@@ -47,17 +32,8 @@ module _ (t : Store Value) (r : Root) (before after : Fresh) (w now : WorkingSet
   abbrev steps : List Step
   steps = made.edits.lowest ∷ made.edits.more
 
-  path_in : (x : CellSeen) → Contains (made.leaf ∷ made.ups) x → Contains (standing w) x
-  path_in x m = path_among 8 (standing w) 1 (rank key) x (subst (λ cs. Contains cs x) (sym made.path) m)
-
   edit_old : (c : CellSeen) → Contains made.edit.old c → Contains (standing w) c
-  edit_old c at = elim (cases made.edits.lowest.old c (olds made.edits.more) (subst (λ cs. Contains cs c) made.edits.levels.old at)) [
-    | inl is ↦ path_in c (subst (Contains (made.leaf ∷ made.ups)) (sym (is ∙ made.edits.old)) (here made.leaf made.ups))
-    | inr more ↦ path_in c (up (taken (length made.edits.more) made.ups c (subst (λ cs. Contains cs c) made.edits.ups_are more)))
-  ]
-    where
-      up : {c : CellSeen} → Contains made.ups c → Contains (made.leaf ∷ made.ups) c
-      up {c} m = Contains-append_right (made.leaf ∷ []) made.ups c m
+  edit_old = old_stands w (rank key) made.leaf made.ups made.path (after_edits cuts items made.leaf) before after made.edit made.edits
 
   module _ (cells : List CellSeen) (first : ℕ) (low : first ≤ before.next) (was : IsOf cells first before w) where
     -- an old cell of the edit that was not made before

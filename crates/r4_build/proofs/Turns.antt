@@ -26,10 +26,10 @@ use Rattle.r4_work.specs.declared.working.WorkingSet.{WorkingSet}
 use Rattle.r4_work.proofs.Starting.{start_working}
 use Rattle.r4_measure.specs.Begin.{AreEditsOf, IsEditOf}
 use Rattle.r4_measure.specs.Loop.{LeafTurn, units_now}
-use Rattle.r4_measure.proofs.Begin.{reach_turns}
+use Rattle.r4_measure.proofs.Begin.{reach_few, reach_turns}
 use Rattle.r4_measure.proofs.Loop.{of_id}
-use Rattle.r4_build.specs.Building.{CanBuild}
-use Rattle.r4_build.specs.Making.{AreTurnsOf, CanMake, IsTurnOf}
+use Rattle.r4_build.specs.Building.{CanBuild, most_new}
+use Rattle.r4_build.specs.Making.{AreTurnsOf, CanMake, IsTurnOf, MakeAtMost}
 use Rattle.r4_build.proofs.MetKeys.{met_key}
 
 none_only : (t : Bool) (y : ℕ × ℕ) → (if t then Some y else None) ≡ None → t ≡ false
@@ -112,3 +112,9 @@ module _ (b : Option Body) (e : Edits) (reads : Intervals) (t : Store Value) (r 
         let all = is.numbers in
         reach_turns b e reads (changed e) t r f cells is.reached w start us ids edits is.unplaced.0 is.unplaced.1 (omega (arith, all, long));
   }
+
+  pub few_made : (w : WorkingSet) → IsStart cells w → MakeAtMost (most_new b e reads t r cells) t r e cells f w
+  few_made w start us h =
+      let (ids, edits, are, long) = numbered cells us (distinct cells is.names) (λ c m. m) h in
+      let all = is.numbers in
+      reach_few b e reads (changed e) t r f cells is.reached w start us ids edits is.unplaced.0 is.unplaced.1 (omega (arith, all, long))

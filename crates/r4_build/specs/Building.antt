@@ -16,7 +16,8 @@ use Rattle.r4_leaf.specs.Units.{leaf_bytes}
 use Rattle.r4_leaf_edits.specs.Made.{spread_keys}
 use Rattle.r4_patch.specs.Effect.{Placed, in_leaf}
 use Rattle.r4_patch.specs.Joining.{ids_of}
-use Rattle.r4_reach.specs.Needs.{is_met, units_after}
+use Rattle.r4_reach.specs.Leaves.{most_of}
+use Rattle.r4_reach.specs.Needs.{demand_of, is_met, units_after}
 use Rattle.r4_reach.specs.Touched.{Body}
 use Rattle.r4_work.specs.Order.{HasKey}
 use Rattle.r4_measure.specs.Begin.{IsReachedFor}
@@ -48,6 +49,11 @@ pub record CanBuild (b : Option Body) (e : Edits) (reads : Intervals) (t : Store
       → leaf_bytes (units_after b e (node_of c)) < 58912
   pub unplaced : AreUnplaced f
   pub numbers : f.next + 64 * length cells ≤ f.end
+
+-- how many new cells come at most
+abbrev pub most_new : Option Body → Edits → (reads : Intervals) → Store Value → Root → List CellSeen
+    → ℕ
+most_new b e reads t r cells = most_of (demand_of b e reads (changed e)) t r cells
 
 -- what edits set at a key that they change, wherever they are made: it stands in a leaf
 abbrev pub set_by : Edits → ℕ → Option (Placed Value)

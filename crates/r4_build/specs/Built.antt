@@ -1,21 +1,23 @@
 -- What was built of a command, by its task (docs/volume.md, "Building").
-use Rattle.std.specs.Prelude.{◌≡◌, ◌⊎◌, ◌<◌, ◌≤◌, Contains, IsSome, Option, Some}
+use Rattle.std.specs.Prelude.{◌≡◌, ◌⊎◌, ℕ, ◌<◌, ◌≤◌, ◌&&◌, if◌then◌else◌, Contains, IsSome, Option, Some, length}
 use Rattle.r4_base.specs.Tree.{Node, Root, Store}
 use Rattle.r4_base.specs.Value.{Value}
 use Rattle.r4_cell.specs.Patch.{IsChange}
 use Rattle.r4_cell.specs.Seen.{CellSeen}
 use Rattle.r4_cell.specs.declared.change.Change.{Change}
+use Rattle.r4_content.specs.Counts.{is_okay, stats_in}
 use Rattle.r4_content.specs.Course.{ending}
 use Rattle.r4_content.specs.Edited.{Edits, Intervals, changed, is_in}
 use Rattle.r4_content.specs.Held.{pairs_of}
-use Rattle.r4_content.specs.Meaning.{course, greatest_size}
+use Rattle.r4_content.specs.Meaning.{course, greatest_size, makes_object}
 use Rattle.r4_content.specs.Seen.{of_seen}
 use Rattle.r4_content.specs.declared.reply.Reply.{Reply}
 use Rattle.r4_patch.specs.Effect.{HasEffect}
 use Rattle.r4_patch.specs.Joining.{ids_of, patch_of_change}
 use Rattle.r4_patch.specs.Part.{MeetsPart}
 use Rattle.r4_reach.specs.Touched.{Body, edits_on}
-use Rattle.r4_build.specs.Building.{CanBuild, set_by}
+use Rattle.r4_build.specs.Building.{CanBuild, most_new, set_by}
+use Rattle.r4_build.specs.declared.counting.ObjectCounts.{ObjectCounts}
 use Rattle.r4_build.specs.declared.task.Task.{Task}
 
 -- the edits and the reply that the task's command means, on what was seen
@@ -25,6 +27,13 @@ edits_for task = edits_on task.command (pairs_of task.seen)
 abbrev pub reply_for : Task → Reply
 reply_for task = (ending (course greatest_size task.command) (of_seen (pairs_of task.seen))).reply
 
+-- the objects that it makes and takes away (docs/commands.md, "Objects born and gone")
+abbrev pub born_for : Task → ℕ
+born_for task = if makes_object task.command && is_okay (reply_for task) then 1 else 0
+
+abbrev pub gone_for : Task → ℕ
+gone_for task = stats_in (edits_for task).cuts
+
 -- The task's edits may be made in this part of a tree.
 abbrev pub IsTaskIn : Option Body → Intervals → Store Value → Root → Task → Type 0
 IsTaskIn b reads t r task = CanBuild b (edits_for task) reads t r task.fresh task.writes
@@ -33,14 +42,21 @@ pub record BuiltSeen : Type 0 where
   pub task : Task
   pub change : Change
   pub reply : Reply
+  pub objects : ObjectCounts
 
--- The reply is the command's. The change is one of each part of a tree in which the task's edits may be made; it sets
--- just what they set. Its old cells are cells that the task writes, and its new ones have their numbers, or the task's.
+-- The reply is the command's, and so are the objects that it makes and takes away. The change is one of each part of a
+-- tree in which the task's edits may be made; it sets just what they set. Its old cells are cells that the task writes,
+-- and its new ones have their numbers, or the task's; there are no more of them than what the edits ask for.
 pub record IsBuilt (x : BuiltSeen) : Type 0 where
   pub reply : x.reply ≡ reply_for x.task
+  pub born : x.objects.born ≡ born_for x.task
+  pub gone : x.objects.gone ≡ gone_for x.task
   pub change : IsChange x.change.old x.change.new x.change.root
   pub meets : (b : Option Body) (reads : Intervals) (t : Store Value) (r : Root)
       → IsTaskIn b reads t r x.task → MeetsPart (patch_of_change x.change) t r
+  pub few : (b : Option Body) (reads : Intervals) (t : Store Value) (r : Root)
+      → IsTaskIn b reads t r x.task
+      → length x.change.new ≤ most_new b (edits_for x.task) reads t r x.task.writes
   pub effect : HasEffect (patch_of_change x.change) (is_in (changed (edits_for x.task)))
       (set_by (edits_for x.task))
   pub old : (c : CellSeen) → Contains x.change.old c → Contains x.task.writes c

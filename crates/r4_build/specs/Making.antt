@@ -1,5 +1,6 @@
 -- The edits of one leaf after another, among the cells of a task (docs/volume.md, "Building").
-use Rattle.std.specs.Prelude.{◌≡◌, ◌⊎◌, ℕ, ◌<◌, ◌≤◌, ◌==◌, ◌&&◌, ◌||◌, Bool, true, false, List, [], ◌∷◌, Contains}
+use Rattle.std.specs.Prelude.{◌≡◌, ◌⊎◌, ℕ, ◌<◌, ◌≤◌, ◌==◌, ◌&&◌, ◌||◌, Bool, true, false, List, [], ◌∷◌}
+use Rattle.std.specs.Prelude.{Contains, length}
 use Rattle.r4_base.specs.Key.{rank}
 use Rattle.r4_base.specs.Tree.{Root, Store}
 use Rattle.r4_base.specs.Value.{Value}
@@ -11,9 +12,9 @@ use Rattle.r4_leaf_edits.specs.Made.{MakesEdits}
 use Rattle.r4_patch.specs.Joining.{ids_of}
 use Rattle.r4_reach.specs.Needs.{is_met}
 use Rattle.r4_work.specs.Remaking.{Changes, CutsWithin, HaveKeys}
-use Rattle.r4_work.specs.Working.{IsWorking}
+use Rattle.r4_work.specs.Working.{IsWorking, standing}
 use Rattle.r4_work.specs.declared.working.WorkingSet.{WorkingSet}
-use Rattle.r4_measure.specs.Loop.{CanRemakeAll, LeafTurn}
+use Rattle.r4_measure.specs.Loop.{CanRemakeAll, LeafTurn, StandAtMost}
 use Rattle.r4_build.specs.Building.{set_by}
 
 -- The cell is a leaf with a key that changes, and these are its edits.
@@ -39,6 +40,12 @@ pub record CanMake (t : Store Value) (r : Root) (e : Edits) (cells : List CellSe
   pub working : IsWorking t r f w
   pub turns : (us : List LeafTurn) → AreTurnsOf e cells us → CanRemakeAll t r us f w
 
+-- Where all edits of leaves among these cells are made, whichever they are, no more cells stand than so many.
+abbrev pub MakeAtMost : (most : ℕ) → Store Value → Root → Edits → List CellSeen → Fresh → WorkingSet
+    → Type 0
+MakeAtMost most t r e cells f w =
+    (us : List LeafTurn) → AreTurnsOf e cells us → StandAtMost most t r us f w
+
 -- ---- what is made
 
 -- the keys that change in a cell, if it is a leaf, and in all of the cells
@@ -62,16 +69,20 @@ abbrev pub StaysOf : (before after : Fresh) → (w now : WorkingSet) → Type 0
 StaysOf before after w now = (cells : List CellSeen) (first : ℕ) → first ≤ before.next
     → IsOf cells first before w → IsOf cells first after now
 
--- The edits are made that lie in the cell, and those of the other cells may still be made.
+-- The edits are made that lie in the cell, and those of the other cells may still be made. No more cells come than
+-- might before.
 pub record IsMadeIn (t : Store Value) (r : Root) (e : Edits) (c : CellSeen) (cells : List CellSeen)
     (before after : Fresh) (w now : WorkingSet) : Type 0 where
   pub changes : Changes w now (changed_in e c) (set_by e)
   pub stays : StaysOf before after w now
   pub rest : CanMake t r e cells after now
+  pub few : (most : ℕ) → MakeAtMost most t r e (c ∷ cells) before w
+      → MakeAtMost most t r e cells after now
 
--- The edits are made that lie in the cells.
+-- The edits are made that lie in the cells. No more cells come than might before.
 pub record AreMadeIn (t : Store Value) (r : Root) (e : Edits) (cells : List CellSeen)
     (before after : Fresh) (w now : WorkingSet) : Type 0 where
   pub working : IsWorking t r after now
   pub changes : Changes w now (changed_among e cells) (set_by e)
   pub stays : StaysOf before after w now
+  pub few : (most : ℕ) → MakeAtMost most t r e cells before w → length (standing now) ≤ most

@@ -1,6 +1,7 @@
 //! All edits of a command, one leaf after another, as one change (docs/volume.md, "Building").
 
-ghost use Rattle.std.specs.Prelude.{◌≡◌, ◌∷◌, ◌^◌, ◌≤◌, true, Contains, IfErr, IfOk, List, OnOk, Option, map};
+ghost use Rattle.std.specs.Prelude.{◌≡◌, ◌∷◌, ◌^◌, ◌≤◌, true, Contains, IfErr, IfOk, List, OnOk};
+ghost use Rattle.std.specs.Prelude.{Option, length, map};
 ghost use Rattle.std.specs.Arc.{arc_value};
 ghost use Rattle.r4_base.specs.Key.{rank};
 ghost use Rattle.r4_base.specs.Tree.{Root as TreeRoot, Store};
@@ -16,7 +17,7 @@ ghost use Rattle.r4_patch.specs.Part.{MeetsPart};
 ghost use Rattle.r4_path.specs.Steps.{OnlyTakes};
 ghost use Rattle.r4_reach.specs.Needs.{is_met};
 ghost use Rattle.r4_reach.specs.Touched.{Body};
-ghost use Rattle.r4_build.specs.Building.{AreNumbered, CanBuild, set_by};
+ghost use Rattle.r4_build.specs.Building.{AreNumbered, CanBuild, most_new, set_by};
 ghost use Rattle.r4_build.specs.Making.{AreMadeIn, CanMake, IsMadeIn};
 
 use r4_base::Memory;
@@ -28,8 +29,8 @@ use std::alloc::Global;
 use std::sync::Arc;
 
 /// Makes all edits of a command that lie in leaves, each leaf of its task once, and gives them as one change of the
-/// cells of the task. The only error is want of memory: then the numbers are as they were (docs/volume.md,
-/// "Building").
+/// cells of the task. It has no more new cells than what the edits ask for. The only error is want of memory: then the
+/// numbers are as they were (docs/volume.md, "Building").
 pub fn change_of(
     alloc: Global,
     cells: &[Arc<Cell>],
@@ -45,6 +46,11 @@ pub fn change_of(
         (r : TreeRoot) → CanBuild b (edits_of edits.now) reads t r fresh.old
         (map (λ c. arc_value c) cells.now)
         → MeetsPart (patch_of_change d) t r) }
+    ensures few { IfOk result (λ d. (b : Option Body) (reads : Intervals) (t : Store Value)
+        (r : TreeRoot) → CanBuild b (edits_of edits.now) reads t r fresh.old
+        (map (λ c. arc_value c) cells.now)
+        → length d.new ≤ most_new b (edits_of edits.now) reads t r
+        (map (λ c. arc_value c) cells.now)) }
     ensures effect { IfOk result (λ d. HasEffect (patch_of_change d)
         (is_in (changed (edits_of edits.now))) (set_by (edits_of edits.now))) }
     ensures old { IfOk result (λ d. (c : CellSeen) → Contains d.old c

@@ -11,6 +11,7 @@ ghost use Rattle.r4_reach.specs.Touched.{Body};
 ghost use Rattle.r4_build.specs.Built.{IsBuilt, IsTaskIn, edits_for};
 
 use crate::building::change_of;
+use crate::counting::{ObjectCounts, born, gone};
 use crate::task::{BuildFault, Task};
 use r4_base::Memory;
 use r4_cell::Change;
@@ -20,13 +21,14 @@ use r4_outside::Gate;
 use std::alloc::Global;
 use std::marker::Model;
 
-/// What was built of a task: the task as it was, the change and the reply. It cannot be made but by `build`, so it
-/// keeps what `build` promises (docs/volume.md, "Building").
+/// What was built of a task: the task as it was, the change, the reply, and how many objects come and go. It cannot be
+/// made but by `build`, so it keeps what `build` promises (docs/volume.md, "Building").
 #[derive(Drop)]
 pub struct Built {
     task: Task,
     change: Change,
     reply: Reply,
+    objects: ObjectCounts,
 }
 
 impl Model for Built {
@@ -34,10 +36,19 @@ impl Model for Built {
 
     ghost Value = { BuiltSeen };
 
-    ghost view = { λ b. record { task = b.task; change = b.change; reply = b.reply } };
+    ghost view = { λ b. record {
+      task = b.task;
+      change = b.change;
+      reply = b.reply;
+      objects = b.objects;
+    } };
 
-    ghost invariant = { λ b. IsBuilt
-        (record { task = b.task; change = b.change; reply = b.reply }) };
+    ghost invariant = { λ b. IsBuilt (record {
+      task = b.task;
+      change = b.change;
+      reply = b.reply;
+      objects = b.objects;
+    }) };
 }
 
 impl Built {
@@ -63,20 +74,28 @@ impl Built {
         &self.reply
     }
 
-    /// The task, the change and the reply.
-    pub fn into_parts(self) -> (Task, Change, Reply)
+    /// How many objects the command makes and takes away.
+    pub fn objects(&self) -> ObjectCounts
+        ensures { result ≡ self.now.objects }
+    {
+        self.objects
+    }
+
+    /// The task, the change, the reply, and the numbers of objects.
+    pub fn into_parts(self) -> (Task, Change, Reply, ObjectCounts)
         ensures task { result.0 ≡ self.task }
         ensures change { result.1 ≡ self.change }
         ensures reply { result.2 ≡ self.reply }
+        ensures objects { result.3 ≡ self.objects }
         ensures built { IsBuilt self }
     {
-        (self.task, self.change, self.reply)
+        (self.task, self.change, self.reply, self.objects)
     }
 }
 
-/// Makes of a task the change and the reply that its command means, where its edits lie in leaves. First the gate is
-/// passed; no lock is taken. In both answers the task is as it was given, its numbers included; the only error is want
-/// of memory (docs/volume.md, "Building").
+/// Makes of a task the change and the reply that its command means, where its edits lie in leaves, and counts the
+/// objects that come and go. First the gate is passed; no lock is taken. In both answers the task is as it was given,
+/// its numbers included; the only error is want of memory (docs/volume.md, "Building").
 pub fn build<G: Gate>(alloc: Global, gate: &G, task: Task) -> Result<Built, BuildFault>
     requires task { (b : Option Body) × ((reads : Intervals) × ((t : Store Value)
         × ((r : TreeRoot) × IsTaskIn b reads t r task))) }
@@ -86,26 +105,36 @@ pub fn build<G: Gate>(alloc: Global, gate: &G, task: Task) -> Result<Built, Buil
 {
     gate.pass(task.script, task.index);
     match parts_of(alloc, &task) {
-        Ok((change, reply)) => Ok(Built {
+        Ok((change, reply, objects)) => Ok(Built {
             task,
             change,
             reply,
+            objects,
         }),
         Err(Memory) => Err(BuildFault { task }),
     }
 }
 
-// The change and the reply of a task.
-fn parts_of(alloc: Global, task: &Task) -> Result<(Change, Reply), Memory>
+// The change and the reply of a task, and the numbers of objects.
+fn parts_of(alloc: Global, task: &Task) -> Result<(Change, Reply, ObjectCounts), Memory>
     requires task { (b : Option Body) × ((reads : Intervals) × ((t : Store Value)
         × ((r : TreeRoot) × IsTaskIn b reads t r task.now))) }
     requires rises { Rises (pairs_of task.now.seen) }
     requires suits { SuitLeaves 16384 (edits_for task.now) }
-    ensures { IfOk result (λ p. IsBuilt (record { task = task.now; change = p.0; reply = p.1 })) }
+    ensures { IfOk result (λ p. IsBuilt (record {
+      task = task.now;
+      change = p.0;
+      reply = p.1;
+      objects = p.2;
+    })) }
 {
     let edits = plan(alloc, &task.command, &task.seen)?;
     let mut fresh = task.fresh;
     let change = change_of(alloc, task.writes.as_slice(), &edits, &mut fresh)?;
+    let objects = ObjectCounts {
+        born: born(&task.command, &edits.reply),
+        gone: gone(&edits),
+    };
     let Edits { reply, .. } = edits;
-    Ok((change, reply))
+    Ok((change, reply, objects))
 }

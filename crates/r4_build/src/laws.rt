@@ -7,6 +7,7 @@ ghost use Rattle.r4_base.specs.Volume.{HasUnits};
 ghost use Rattle.r4_cell.specs.Patch.{Patch, place};
 ghost use Rattle.r4_cell.specs.Seen.{CellSeen};
 ghost use Rattle.r4_cell.specs.declared.change.Fresh.{Fresh};
+ghost use Rattle.r4_content.specs.Counts.{born, gone};
 ghost use Rattle.r4_content.specs.Edited.{Edits, Intervals, changed, edited, is_in};
 ghost use Rattle.r4_content.specs.Held.{pairs_of};
 ghost use Rattle.r4_content.specs.Meaning.{after, greatest_size, reply};
@@ -20,9 +21,10 @@ ghost use Rattle.r4_reach.specs.Touched.{Body};
 ghost use Rattle.r4_work.specs.Working.{AreCellsIn, IsStart};
 ghost use Rattle.r4_work.specs.declared.working.WorkingSet.{WorkingSet};
 ghost use Rattle.r4_measure.specs.Begin.{IsReachedFor};
-ghost use Rattle.r4_build.specs.Building.{CanBuild, HaveLawfulKeys, LiesInLeaf, SparesExtents, set_by};
+ghost use Rattle.r4_build.specs.Building.{CanBuild, HaveLawfulKeys, LiesInLeaf, SparesExtents};
+ghost use Rattle.r4_build.specs.Building.{most_new, set_by};
 ghost use Rattle.r4_build.specs.Built.{BuiltSeen, HasOldRoot, IsBuilt};
-ghost use Rattle.r4_build.specs.Making.{CanMake};
+ghost use Rattle.r4_build.specs.Making.{CanMake, MakeAtMost};
 
 /// A change that sets what edits set, and nothing else, makes of a tree's content what the edits make of it: in every
 /// part of a tree that it is put into, whatever else stands there.
@@ -32,11 +34,16 @@ pub fn edits_are_made()
         → HasUnits (place p t) (edited e m) }
 {}
 
-/// Where what is reached is there, the edits of the leaves may be made, one leaf after another.
+/// Where what is reached is there, the edits of the leaves may be made, one leaf after another. Then no more cells
+/// stand than one in the place of each, those for which the cells ask, and a new root.
 pub fn reach_suffices_to_build()
-    ensures { (b : Option Body) (e : Edits) (reads : Intervals) (t : Store Value) (r : Root)
+    ensures can { (b : Option Body) (e : Edits) (reads : Intervals) (t : Store Value) (r : Root)
         (f : Fresh) (cells : List CellSeen) (w : WorkingSet)
         → CanBuild b e reads t r f cells → IsStart cells w → CanMake t r e cells f w }
+    ensures few { (b : Option Body) (e : Edits) (reads : Intervals) (t : Store Value) (r : Root)
+        (f : Fresh) (cells : List CellSeen) (w : WorkingSet)
+        → CanBuild b e reads t r f cells → IsStart cells w
+        → MakeAtMost (most_new b e reads t r cells) t r e cells f w }
 {}
 
 /// Where the edits touch no extent, in a part that has what they touch and cells that have what they write, each key
@@ -58,7 +65,8 @@ pub fn built_changes_fit()
 {}
 
 /// What was built of a task makes of each part of a tree that it fits on what the command means, and the reply is the
-/// command's, where what was seen is what stands there at the keys that the command asks for.
+/// command's, as are the objects that come and go, where what was seen is what stands there at the keys that the
+/// command asks for.
 pub fn what_is_built_is_meant()
     ensures content { (x : BuiltSeen) (t : Store Value) (root : Root) (m : Content) → IsBuilt x
         → IsPart t root → MeetsPart (patch_of_change x.change) t root → HasUnits t m
@@ -67,4 +75,10 @@ pub fn what_is_built_is_meant()
     ensures reply { (x : BuiltSeen) (m : Content) → IsBuilt x
         → IsSeen greatest_size x.task.command (pairs_of x.task.seen) m
         → x.reply ≡ reply greatest_size x.task.command m }
+    ensures born { (x : BuiltSeen) (m : Content) → IsBuilt x
+        → IsSeen greatest_size x.task.command (pairs_of x.task.seen) m
+        → x.objects.born ≡ born greatest_size x.task.command m }
+    ensures gone { (x : BuiltSeen) (m : Content) → IsBuilt x
+        → IsSeen greatest_size x.task.command (pairs_of x.task.seen) m
+        → x.objects.gone ≡ gone greatest_size x.task.command m }
 {}

@@ -4,12 +4,14 @@
 
 mod building;
 mod built;
+mod counting;
 mod examples;
 mod laws;
 mod task;
 
 pub use building::change_of;
 pub use built::{Built, build};
+pub use counting::ObjectCounts;
 pub use examples::fresh_volumes_can_be_built_on;
 pub use laws::{
     built_changes_fit, edits_are_made, reach_suffices_to_build, spared_extents_leave_leaves,

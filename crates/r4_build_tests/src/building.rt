@@ -7,7 +7,7 @@ use crate::small::{
     build_writing, fresh_cells, with_change,
 };
 use r4_base::{Attr, Key, ScriptNo, TAIL, Target, TaskId, get16};
-use r4_build::{Built, Task};
+use r4_build::{Built, ObjectCounts, Task};
 use r4_cell::{Cell, Cells, Fresh, least};
 use r4_content::Reply;
 use r4_outside::Gate;
@@ -112,6 +112,7 @@ fn a_file_is_created(rt: HostRuntime) -> Result<(), Fail> {
     let built = build_creation(alloc, &gate, fresh_cells(alloc)?)?;
     assert_eq!(rt; gate.count(), (1, 3005));
     assert!(rt; matches!(*built.reply(), Reply::Okay));
+    assert_eq!(rt; built.objects(), ObjectCounts { born: 1, gone: 0 });
     let rows = ((1, Some((23, 1))), (1, Some((23, 3))));
     assert_eq!(rt; outcome(&built), Some(rows));
     let old = (Some(ROOT), None, None);
@@ -150,8 +151,9 @@ fn a_command_is_refused(rt: HostRuntime) -> Result<(), Fail> {
     let built = build_refused(alloc, &gate, fresh_cells(alloc)?)?;
     assert_eq!(rt; gate.count(), (1, 3005));
     assert_eq!(rt; outcome(&built), Some(((0, None), (0, None))));
-    let (_, _, reply) = built.into_parts();
+    let (_, _, reply, objects) = built.into_parts();
     assert!(rt; matches!(reply, Reply::Absent));
+    assert_eq!(rt; objects, ObjectCounts { born: 0, gone: 0 });
     Ok(())
 }
 

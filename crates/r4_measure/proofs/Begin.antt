@@ -1,14 +1,15 @@
 -- From what is reached to the first edit.
 use Rattle.std.proofs.Common.{Bool, true, false, ◌≡◌, ◌≢◌, inl, inr, ℕ, ◌+◌, ◌-◌, ◌*◌, ◌/◌, ◌^◌, ◌<◌, ◌≤◌, List, [], ◌∷◌, length, refl, ap, sym, subst, ◌∙◌, arith}
-use Rattle.std.specs.Prelude.{Contains, Option, None, Some, not, ◌||◌, ◌==◌, if◌then◌else◌, nat_lt}
+use Rattle.std.specs.Prelude.{Contains, Option, None, Some, not, ◌||◌, ◌==◌, if◌then◌else◌, min, nat_lt}
 use Rattle.std.proofs.lemmas.Bool.{cases_lt, eq-eqb}
 use Rattle.r4_base.specs.Tree.{Name, Node, Root, Store}
 use Rattle.r4_base.specs.Value.{Value}
 use Rattle.r4_cell.specs.Patch.{Patch, patch_of, place, root_after}
-use Rattle.r4_cell.specs.Seen.{CellSeen}
+use Rattle.r4_cell.specs.Seen.{CellSeen, node_of}
 use Rattle.r4_cell.specs.declared.change.Fresh.{Fresh}
 use Rattle.r4_content.specs.Edited.{Edits, Intervals}
 use Rattle.r4_patch.specs.Joining.{patch_of_change}
+use Rattle.r4_patch.proofs.Members.{here, later}
 use Rattle.r4_leaf.specs.Units.{leaf_bytes}
 use Rattle.r4_edit.specs.Editing.{extra_cells}
 use Rattle.r4_work.specs.Working.{IsStart}
@@ -16,20 +17,21 @@ use Rattle.r4_work.specs.Working.{IsWorking, now_of, root_of, standing}
 use Rattle.r4_work.specs.declared.working.WorkingSet.{WorkingSet}
 use Rattle.r4_work.proofs.Starting.{start_working}
 use Rattle.std.proofs.lemmas.List.Elements.{Contains-append_right}
-use Rattle.std.proofs.lemmas.List.Sorted.{Contains-permutation}
+use Rattle.std.proofs.lemmas.List.Sorted.{Contains-permutation, sum_by-IsPermutation}
+use Rattle.std.proofs.lemmas.List.Sums.{sum_by-append, sum_by-cons}
 use Rattle.r4_reach.specs.Demand.{Demand, ask, ask_of, heard}
 use Rattle.r4_reach.specs.Needs.{Ask, asking, come_of, cut_in_two, demand_of, is_gone, is_touched, leaf_asks, meets, node_asks, over, twig_asks, units_after}
 use Rattle.r4_reach.specs.Touched.{Body}
 use Rattle.r4_reach.proofs.Enough.{asks_some, none_meet, over_some}
 use Rattle.r4_reach.proofs.Heard.{is_heard}
-use Rattle.r4_reach.specs.Leaves.{more_of}
+use Rattle.r4_reach.specs.Leaves.{more_in, more_of, most_of, rise_of}
 use Rattle.r4_measure.specs.Asked.{asked_of}
 use Rattle.r4_measure.specs.Begin.{AreEditsOf, IsEditOf, IsReachedFor}
-use Rattle.r4_measure.specs.Budget.{AreSeen, IsBudget}
-use Rattle.r4_measure.specs.Loop.{AreReady, CanRemakeAll, IsReady, LeafTurn, units_now}
+use Rattle.r4_measure.specs.Budget.{AreSeen, IsBudget, cells_from, most_from}
+use Rattle.r4_measure.specs.Loop.{AreReady, CanRemakeAll, IsReady, LeafTurn, StandAtMost, units_now}
 use Rattle.r4_measure.specs.Measured.{IsMeasured}
 use Rattle.r4_measure.proofs.Asked.{asked_budget, some_asked, own_of}
-use Rattle.r4_measure.proofs.Loop.{all_turns}
+use Rattle.r4_measure.proofs.Loop.{all_turns, few_stand}
 
 over_extra : (n : ℕ) → 4068 < n → (n - 4068 + 1023) / 1024 ≤ over n
 over_extra n h = by_test (nat_lt 4068 n) refl
@@ -149,3 +151,32 @@ module _ (b : Option Body) (e : Edits) (reads rs : Intervals) (t : Store Value) 
 
     pub reach_turns : (us : List LeafTurn) (ids : List ℕ) → AreEditsOf b e reads rs t us ids → 2 ^ 63 ≤ f.next → f.end < 2 ^ 64 → f.next + 64 * length us ≤ f.end → CanRemakeAll t r us f w
     reach_turns us ids h unplaced high numbers = all_turns t r us ids f w (asked_of d t) start_measured (all_ready us ids h) unplaced high numbers
+
+    -- ---- how many cells there may be in the end
+
+    -- each cell and those for which it asks
+    asked_cells : (cs : List CellSeen) → ((c : CellSeen) → Contains cs c → t c.id ≡ Some (node_of c)) → cells_from (asked_of d t) cs ≡ length cs + more_in d t cs
+    asked_cells [] stand = refl
+    asked_cells (c ∷ cs) stand =
+        let a = sum_by-cons (λ (x : CellSeen). 1 + asked_of d t x.level x.id) c cs in
+        let z = sum_by-cons (λ (x : CellSeen). more_of (ask d t x.level (node_of x))) c cs in
+        let own = own_of d t c.id c.level (node_of c) (stand c (here c cs)) in
+        let rest = asked_cells cs (λ x m. stand x (later c x cs m)) in
+        omega (arith, a, z, own, rest)
+
+    one_root : (o : Option Ask) → min 1 (more_of o) ≤ rise_of o
+    one_root None = omega arith
+    one_root (Some a) = omega arith
+
+    start_few : most_from (asked_of d t) (root_of w r) (standing w) ≤ most_of d t r cells
+    start_few =
+        let top = ap (λ (q : Root). min 1 (asked_of d t q.height q.id)) root_as_before in
+        let root = one_root (ask_of (ask d t r.height) (t r.id)) in
+        let a = sum_by-append (λ (c : CellSeen). 1 + asked_of d t c.level c.id) w.made w.kept in
+        let m = ap (cells_from (asked_of d t)) start.made in
+        let p = sum_by-IsPermutation (λ (c : CellSeen). 1 + asked_of d t c.level c.id) cells w.kept start.kept in
+        let asked = asked_cells cells is.cells_in.stand in
+        omega (arith, top, root, a, m, p, asked)
+
+    pub reach_few : (us : List LeafTurn) (ids : List ℕ) → AreEditsOf b e reads rs t us ids → 2 ^ 63 ≤ f.next → f.end < 2 ^ 64 → f.next + 64 * length us ≤ f.end → StandAtMost (most_of d t r cells) t r us f w
+    reach_few us ids h unplaced high numbers = few_stand (most_of d t r cells) t r us ids f w (asked_of d t) start_measured (all_ready us ids h) unplaced high numbers start_few

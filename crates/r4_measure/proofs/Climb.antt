@@ -15,7 +15,7 @@ use Rattle.r4_path.specs.Steps.{Climbs, Ends, Step, fresh_ids, news}
 use Rattle.r4_patch.proofs.Members.{cases, here, later, none}
 use Rattle.r4_path.proofs.Pointers.{pointers_weigh}
 use Rattle.r4_path.proofs.Rising.{id_member}
-use Rattle.r4_measure.specs.Budget.{AllBear, AreUp, Bears, Budget, IsFresh, IsSpent, Rises, below, none_at}
+use Rattle.r4_measure.specs.Budget.{AllBear, AreSpent, AreUp, Bears, Budget, IsFresh, IsSpent, Rises, below, none_at, spent_on}
 use Rattle.r4_measure.proofs.Parent.{parent_bears, pointable, pointers_below}
 
 -- ---- a budget with another level
@@ -54,6 +54,13 @@ bear_again b c l (u ∷ us) over same (h, rest) = (
   λ x member. subst (λ g. Bears g (c (suc l)) (suc l) (items_of x.block) x.id) (sym (same l (omega arith)))
       (subst (λ g. Bears (b l) g (suc l) (items_of x.block) x.id) (sym (same (suc l) (omega arith))) (h x member)),
   bear_again b c (suc l) us over (λ k le. same k (omega (arith, le))) rest,
+)
+
+pub spent_again : (b c d : Budget) (l : ℕ) (steps : List Step) → ((k : ℕ) → l ≤ k → d k ≡ c k) → AreSpent b c l steps → AreSpent b d l steps
+spent_again b c d l [] same h = tt
+spent_again b c d l (u ∷ us) same (h, rest) = (
+  subst (λ g. spent_on g u ≤ b (suc l) u.old.id) (sym (same (suc l) (omega arith))) h,
+  spent_again b c d (suc l) us (λ k le. same k (omega (arith, le))) rest,
 )
 
 -- ---- nothing more comes in the place of some
@@ -116,6 +123,7 @@ module _ (f : Fresh) (unplaced : 2 ^ 63 ≤ f.next) (high : f.end < 2 ^ 64) (r :
     small = λ k i. put_any (λ g. g i ≤ 87) l left b k (λ e. is.small i) (small k i);
     others = λ k i ne out. ap (λ g. g i) (put_other l left b k ne);
     bear = tt;
+    spent = tt;
     new_root = λ c e. absurd (none-some c e);
   }
 
@@ -132,6 +140,7 @@ module _ (f : Fresh) (unplaced : 2 ^ 63 ≤ f.next) (high : f.end < 2 ^ 64) (r :
     others = λ k i ne out. ap (λ g. g i) (put_other l left base k ne)
         ∙ put_any (λ g. g i ≡ b k i) (suc l) top b k (λ e. subst (λ j. top i ≡ b j i) (sym e) (none_other (c ∷ []) (b (suc l)) i out)) refl;
     bear = inl (subst (λ g. weight (items_of c.block) + 46 * below g (items_of c.block) ≤ 4068) (sym (put_here l left base)) fits);
+    spent = tt;
     new_root = λ d e.
         let same = same_Some c d e in
         let zero_top : put l left base (suc l) c.id ≡ 0 = ap (λ g. g c.id) (put_other l left base (suc l) (λ z. absurd (omega (arith, z))) ∙ put_here (suc l) top b) ∙ none_member (c ∷ []) (b (suc l)) c (here c []) in
@@ -207,6 +216,10 @@ module _ (f : Fresh) (unplaced : 2 ^ 63 ≤ f.next) (high : f.end < 2 ^ 64) (r :
           (λ x member. subst (λ g. Bears g (put l left more.after (suc l)) (suc l) (items_of x.block) x.id) (sym (put_here l left more.after))
               (subst (λ g. Bears left g (suc l) (items_of x.block) x.id) (sym (put_other l left more.after (suc l) (λ e. absurd (omega (arith, e))) ∙ more.at)) (bears x member))),
           bear_again more.after (put l left more.after) (suc l) us over (λ k le. put_other l left more.after k (λ e. absurd (omega (arith, le, e)))) more.bear,
+        );
+        spent = (
+          subst (λ g. spent_on g u ≤ b (suc l) u.old.id) (sym (put_other l left more.after (suc l) (λ e. absurd (omega (arith, e))) ∙ more.at)) spent.spent,
+          spent_again b more.after (put l left more.after) (suc l) us (λ k le. put_other l left more.after k (λ e. absurd (omega (arith, le, e)))) more.spent,
         );
         new_root = λ c e. let h = more.new_root c e in (let lt = h.0 in omega (arith, lt), h.1, ap (λ g. g c.id) (put_other l left more.after c.level (λ z. absurd (let lt = h.0 in omega (arith, lt, z)))) ∙ h.2, h.3);
       }

@@ -1,10 +1,10 @@
 -- What is left of a budget after all edits of a leaf.
 use Rattle.std.proofs.Common.{◌≡◌, ◌⊎◌, inl, inr, ℕ, zero, suc, ◌+◌, ◌-◌, ◌^◌, ◌<◌, ◌≤◌, Bool, true, false, List, [], ◌∷◌, ◌++◌, drop, length, refl, ap, sym, subst, ◌∙◌, arith}
-use Rattle.std.specs.Prelude.{Contains, Option, None, Some, ◌==◌, if◌then◌else◌, sum_by}
+use Rattle.std.specs.Prelude.{Contains, Option, None, Some, ◌==◌, if◌then◌else◌, min, sum_by}
 use Rattle.std.specs.Option.{option_map, unwrap_or}
 use Rattle.std.proofs.lemmas.Bool.{cases_eq, cases_lt, eq-eqb}
 use Rattle.std.proofs.lemmas.List.Elements.{Contains-append_cases, Contains-append_left, Contains-append_right}
-use Rattle.std.proofs.lemmas.List.Sums.{sum_by-cons}
+use Rattle.std.proofs.lemmas.List.Sums.{sum_by-append, sum_by-cons}
 use Rattle.std.proofs.lemmas.Option.{none-some, same_Some}
 use Rattle.r4_base.specs.Cell.{block_names, cell_of, item_names, names_in, next_key, pointer_names}
 use Rattle.r4_base.specs.Extents.{pointer_of, units_of}
@@ -29,9 +29,10 @@ use Rattle.r4_path.proofs.Begun.{ascends_take}
 use Rattle.r4_path.proofs.CellNodes.{names_are}
 use Rattle.r4_patch.proofs.Members.{cases, found, here, here_named, later, later_named, none}
 use Rattle.r4_path.proofs.Rising.{count_within, follow_within, level_is}
-use Rattle.r4_measure.specs.Budget.{AllBear, AreSeen, AreUp, Bears, Budget, HasNoFresh, IsBudget, IsFresh, IsSpent, Rises, below, none_at}
+use Rattle.r4_measure.specs.Budget.{AllBear, AreSeen, AreUp, Bears, Budget, HasNoFresh, IsBudget, IsFresh, IsSpent, Rises, below, cells_from, most_from, none_at, spent_on}
 use Rattle.r4_measure.proofs.Climb.{climbing, in_left, in_right, none_less, none_member, none_other}
-use Rattle.r4_measure.proofs.Parent.{less_below, less_grows}
+use Rattle.r4_measure.proofs.Few.{over_count, step_few, steps_few}
+use Rattle.r4_measure.proofs.Parent.{less_below, less_grows, min_less}
 
 -- ---- cells and their items
 
@@ -309,8 +310,41 @@ module _ (now : Store Value) (r : Root) (it : IsPart now r) (seen : AreSeen now)
       by_over None h pair = ap (λ (q : Option RootPair). unwrap_or (option_map root_of_pair q) r) pair
       by_over (Some c) h pair = let some = (h c refl).3 in absurd (omega (arith, some, zero_root))
 
-  pub budget_kept : (left : Budget) × IsBudget now2 root2 left × ((k i : ℕ) → (Contains (ids_of d.new) i → ⊥) → left k i ≡ b k i) × ((k i : ℕ) → (IsFresh f i → ⊥) → left k i ≤ b k i) × (b r.height r.id ≡ 0 → (root2 ≡ r) × (left r.height r.id ≡ 0))
-  budget_kept = (rises.after, record { bears = all_nodes; small = rises.small; root = root_kept }, same_below, less, root_stays)
+  -- the new cells and what may come of them are in what the old ones had, and in a new root
+  cells_few : cells_from rises.after d.new ≤ cells_from b d.old + over_count e.over
+  cells_few =
+      let a = ap (cells_from rises.after) new_are in
+      let z = ap (cells_from b) e.levels.old in
+      let x = sum_by-append (λ (c : CellSeen). 1 + rises.after c.level c.id) s.new (news e.more e.over) in
+      let y = sum_by-cons (λ (c : CellSeen). 1 + b c.level c.id) s.old (olds e.more) in
+      let one = step_few b rises.after None s e.more 1 s_level e.climbs (subst (λ g. spent_on g s ≤ b 1 s.old.id) (sym rises.at) spent.spent) in
+      let more = steps_few b rises.after f (Some s) 1 e.more e.over ups_are e.climbs.1 rises.spent (λ c is_over. let (lt, le, none_left, some) = rises.new_root c is_over in none_left) in
+      omega (arith, a, z, x, y, one, more)
+
+  few : most_from rises.after root2 d.new ≤ most_from b r d.old
+  few = by_over e.over rises.new_root e.levels.pair cells_few
+    where
+      Few : Root → Type 0
+      Few q = most_from rises.after q d.new ≤ most_from b r d.old
+
+      by_over : (o : Option CellSeen) → ((c : CellSeen) → o ≡ Some c → (1 < c.level) × (c.level ≤ 8) × (rises.after c.level c.id ≡ 0) × (1 ≤ b r.height r.id)) → d.root ≡ root_pair o → cells_from rises.after d.new ≤ cells_from b d.old + over_count o → Few root2
+      by_over None h pair cells = subst Few (sym (ap (λ (q : Option RootPair). unwrap_or (option_map root_of_pair q) r) pair))
+          (let k = less r.height r.id (not_fresh now r it seen f free b is r.id it.root_node it.root_is) in kept_root (rises.after r.height r.id) (b r.height r.id) k cells)
+        where
+          kept_root : (x y : ℕ) → x ≤ y → cells_from rises.after d.new ≤ cells_from b d.old + 0 → cells_from rises.after d.new + min 1 x ≤ cells_from b d.old + min 1 y
+          kept_root x y le h = let m = min_less x y le in omega (arith, m, h)
+      by_over (Some c) h pair cells = subst Few (sym (ap (λ (q : Option RootPair). unwrap_or (option_map root_of_pair q) r) pair))
+          (let (lt, le, none_left, some) = h c refl in other_root (rises.after c.level c.id) (b r.height r.id) none_left some cells)
+        where
+          other_root : (x y : ℕ) → x ≡ 0 → 1 ≤ y → cells_from rises.after d.new ≤ cells_from b d.old + 1 → cells_from rises.after d.new + min 1 x ≤ cells_from b d.old + min 1 y
+          other_root x y z some h =
+              let m : min 1 x ≡ 0 = ap (min 1) z in
+              let k = min_less 1 y some in
+              let o : min 1 1 ≡ 1 = refl in
+              omega (arith, m, k, o, h)
+
+  pub budget_kept : (left : Budget) × IsBudget now2 root2 left × ((k i : ℕ) → (Contains (ids_of d.new) i → ⊥) → left k i ≡ b k i) × ((k i : ℕ) → (IsFresh f i → ⊥) → left k i ≤ b k i) × (most_from left root2 d.new ≤ most_from b r d.old) × (b r.height r.id ≡ 0 → (root2 ≡ r) × (left r.height r.id ≡ 0))
+  budget_kept = (rises.after, record { bears = all_nodes; small = rises.small; root = root_kept }, same_below, less, few, root_stays)
 
   pub seen_kept : AreSeen now2
   seen_kept i c at = by_new (by_name d.new i) refl (by_name d.old i) at

@@ -1,7 +1,9 @@
 pub mod Parent
 pub mod Climb
+pub mod Few
 pub mod Kept
 pub mod Suffices
+pub mod OldCells
 pub mod Turn
 pub mod Loop
 pub mod Asked

@@ -3,6 +3,7 @@ use Rattle.std.proofs.Common.{◌≡◌, ◌≢◌, ◌⊎◌, inl, inr, ℕ, ze
 use Rattle.std.specs.Prelude.{Contains, Option, None, Some, min}
 use Rattle.std.proofs.lemmas.Bool.{cases_lt}
 use Rattle.std.proofs.lemmas.List.{length-append}
+use Rattle.std.proofs.lemmas.List.Sums.{sum_by-cons}
 use Rattle.std.proofs.lemmas.List.Elements.{Contains-append_cases, Contains-append_left, Contains-append_right}
 use Rattle.std.proofs.lemmas.Option.{none-some}
 use Rattle.r4_base.specs.Key.{rank}
@@ -31,8 +32,8 @@ use Rattle.r4_work.specs.declared.working.WorkingSet.{WorkingSet}
 use Rattle.r4_work.proofs.InPlace.{now_part, standing_is}
 use Rattle.r4_work.proofs.LeafEffect.{ups_high}
 use Rattle.r4_work.proofs.Paths.{found_is, lowest_is, path_ascends}
-use Rattle.r4_measure.specs.Budget.{Budget, IsFresh}
-use Rattle.r4_measure.specs.Loop.{AreReady, CanRemakeAll, IsDone, IsReady, LeafTurn, units_now}
+use Rattle.r4_measure.specs.Budget.{Budget, IsFresh, cells_from, most_from}
+use Rattle.r4_measure.specs.Loop.{AreReady, CanRemakeAll, IsDone, IsReady, LeafTurn, StandAtMost, units_now}
 use Rattle.r4_measure.specs.Measured.{IsMeasured}
 use Rattle.r4_measure.proofs.Suffices.{finds}
 use Rattle.r4_measure.proofs.Turn.{cells_are, still_in, turn_enough, turn_kept}
@@ -195,7 +196,8 @@ module _ (t : Store Value) (r : Root) (f : Fresh) (w : WorkingSet) (b : Budget) 
     come : extra_cells (after_edits e.cuts e.items made.leaf) ≤ b 1 made.leaf.id
     come = subst (λ u. extra_cells u ≤ b 1 made.leaf.id) (sym (units_are made.leaf leaf_is.1)) (subst (λ j. extra_cells (units_now e ready.node) ≤ b 1 j) (sym leaf_is.0) ready.come)
 
-    pub next_measure : (c2 : Budget) × IsMeasured t r g v c2 × ((j : ℕ) → (Contains (ids_of made.edit.new) j → ⊥) → c2 1 j ≡ b 1 j) × (b (root_of w r).height (root_of w r).id ≡ 0 → (root_of v r ≡ root_of w r) × (c2 (root_of w r).height (root_of w r).id ≡ 0))
+    pub next_measure : (c2 : Budget) × IsMeasured t r g v c2 × ((j : ℕ) → (Contains (ids_of made.edit.new) j → ⊥) → c2 1 j ≡ b 1 j)
+        × (most_from c2 (root_of v r) (standing v) ≤ most_from b (root_of w r) (standing w)) × (b (root_of w r).height (root_of w r).id ≡ 0 → (root_of v r ≡ root_of w r) × (c2 (root_of w r).height (root_of w r).id ≡ 0))
     next_measure = turn_kept t r f w b is (rank e.key) made.leaf made.ups made.path v g (after_edits e.cuts e.items made.leaf) made.edit come unplaced high made.takes made.change made.meets made.edits made.put made.working
 
     ascends : Ascends s None (made.leaf ∷ made.ups)
@@ -312,10 +314,28 @@ all_turns t r (e ∷ es) [] f w b measured ready unplaced high numbers = absurd 
 all_turns t r (e ∷ es) (i ∷ is) f w b measured (ready, apart2, rest) unplaced high numbers = (
   can_turn t r f w b measured e i ready (omega (arith, numbers)),
   λ g v made.
-      let (c2, next, same, stays) = next_measure t r f w b measured e i ready unplaced high g v made in
+      let (c2, next, same, few_cells, stays) = next_measure t r f w b measured e i ready unplaced high g v made in
       let few = few_numbers t r f w b measured e i ready unplaced high g v made in
       let takes = made.takes in
       all_turns t r es is g v c2 next
       (still_all t w v b c2 i (λ e2 j ne ready2. still_ready t r f w b measured e i ready unplaced high g v made c2 same e2 j ne ready2) es is apart2 rest)
       (omega (arith, unplaced, takes)) (omega (arith, high, few)) (omega (arith, numbers, few)),
 )
+
+-- ---- how many cells stand then
+
+long_sum : (b : Budget) (cells : List CellSeen) → length cells ≤ cells_from b cells
+long_sum b [] = omega arith
+long_sum b (c ∷ cs) = let a = sum_by-cons (λ (x : CellSeen). 1 + b x.level x.id) c cs in let h = long_sum b cs in omega (arith, a, h)
+
+pub few_stand : (most : ℕ) (t : Store Value) (r : Root) (es : List LeafTurn) (is : List ℕ) (f : Fresh) (w : WorkingSet) (b : Budget) → IsMeasured t r f w b → AreReady t w b es is → 2 ^ 63 ≤ f.next → f.end < 2 ^ 64 → f.next + 64 * length es ≤ f.end
+    → most_from b (root_of w r) (standing w) ≤ most → StandAtMost most t r es f w
+few_stand most t r [] is f w b measured ready unplaced high numbers few = let h = long_sum b (standing w) in omega (arith, few, h)
+few_stand most t r (e ∷ es) [] f w b measured ready unplaced high numbers few = absurd ready
+few_stand most t r (e ∷ es) (i ∷ is) f w b measured (ready, apart2, rest) unplaced high numbers few = λ g v made.
+    let (c2, next, same, fewer, stays) = next_measure t r f w b measured e i ready unplaced high g v made in
+    let taken = few_numbers t r f w b measured e i ready unplaced high g v made in
+    let takes = made.takes in
+    few_stand most t r es is g v c2 next
+    (still_all t w v b c2 i (λ e2 j ne ready2. still_ready t r f w b measured e i ready unplaced high g v made c2 same e2 j ne ready2) es is apart2 rest)
+    (omega (arith, unplaced, takes)) (omega (arith, high, taken)) (omega (arith, numbers, taken)) (omega (arith, few, fewer))

@@ -20,7 +20,7 @@ use Rattle.r4_measure.specs.Budget.{Bears, HasNoFresh, IsFresh, IsSpent, below, 
 
 -- ---- two functions
 
-min_less : (a b : ℕ) → a ≤ b → min 1 a ≤ min 1 b
+pub min_less : (a b : ℕ) → a ≤ b → min 1 a ≤ min 1 b
 min_less zero b h = omega arith
 min_less (suc a) zero h = absurd (omega (arith, h))
 min_less (suc a) (suc b) h = omega arith

@@ -1,9 +1,10 @@
 -- A leaf at its turn.
-use Rattle.std.proofs.Common.{Bool, true, false, ◌≡◌, ◌⊎◌, inl, inr, ℕ, ◌^◌, ◌<◌, ◌≤◌, List, ◌∷◌, ◌++◌, refl, ap, sym, subst, ◌∙◌, arith}
-use Rattle.std.specs.Prelude.{Contains, Option, None, Some}
+use Rattle.std.proofs.Common.{Bool, true, false, ◌≡◌, ◌⊎◌, inl, inr, ℕ, ◌+◌, ◌^◌, ◌<◌, ◌≤◌, List, ◌∷◌, ◌++◌, refl, ap, sym, subst, ◌∙◌, arith}
+use Rattle.std.specs.Prelude.{Contains, Option, None, Some, if◌then◌else◌, min, sum_by}
 use Rattle.std.proofs.lemmas.Bool.{cases_lt}
 use Rattle.std.proofs.lemmas.List.Elements.{Contains-append_cases, Contains-append_left, Contains-append_right}
-use Rattle.std.proofs.lemmas.List.Sorted.{Contains-permutation, IsPermutation-sym}
+use Rattle.std.proofs.lemmas.List.Sorted.{Contains-permutation, IsPermutation-sym, sum_by-IsPermutation}
+use Rattle.std.proofs.lemmas.List.Sums.{sum_by-append}
 use Rattle.std.proofs.lemmas.Option.{none-some}
 use Rattle.r4_base.specs.Tree.{Name, Node}
 use Rattle.r4_cell.specs.Patch.{IsChange, by_name, over, place, root_after}
@@ -19,6 +20,8 @@ use Rattle.r4_patch.proofs.Followed.{followed_cells, followed_root, some_by_name
 use Rattle.r4_patch.proofs.Members.{distinct}
 use Rattle.r4_work.proofs.Paths.{path_ascends}
 use Rattle.r4_measure.specs.Budget.{AreSeen, IsBudget, IsFresh}
+use Rattle.r4_measure.proofs.Few.{members_and_others, outside, sum_without, sums_less}
+use Rattle.r4_measure.proofs.OldCells.{old_stands}
 use Rattle.r4_measure.proofs.Kept.{budget_kept, height_kept, seen_kept}
 use Rattle.r4_base.specs.Tree.{Root, Store}
 use Rattle.r4_base.specs.Value.{Value}
@@ -32,7 +35,7 @@ use Rattle.r4_work.specs.Working.{first_and, now_of, path_of, root_of, standing,
 use Rattle.r4_work.specs.declared.working.WorkingSet.{WorkingSet}
 use Rattle.r4_work.proofs.InPlace.{now_part, standing_is}
 use Rattle.r4_work.proofs.Paths.{lowest_is}
-use Rattle.r4_measure.specs.Budget.{Budget}
+use Rattle.r4_measure.specs.Budget.{Budget, most_from}
 use Rattle.r4_measure.specs.Measured.{IsMeasured}
 use Rattle.r4_measure.proofs.Suffices.{long_enough}
 
@@ -44,14 +47,14 @@ ups_are cells k leaf ups e = by_first (cell_at cells 1 k) (ups_of 7 cells 2 k) e
     by_first None rest e = absurd cc
     by_first (Some c) rest e = cc
 
-module _ (t : Store Value) (r : Root) (fresh : Fresh) (w : WorkingSet) (b : Budget) (is : IsMeasured t r fresh w b) (k : ℕ) (leaf : CellSeen) (ups : List CellSeen) (path : path_of w k ≡ leaf ∷ ups) where
+module _ (t : Store Value) (r : Root) (fresh : Fresh) (w : WorkingSet) (b : Budget) (is : IsMeasured t r fresh w b) (key : ℕ) (leaf : CellSeen) (ups : List CellSeen) (path : path_of w key ≡ leaf ∷ ups) where
   pub turn_enough : (us : List LeafUnit) → extra_cells us ≤ b 1 leaf.id → (leaf_bytes us ≤ 4068) ⊎ IsLongEnough (root_of w r) (extra_cells us) leaf ups
   turn_enough us fits = elim (cases_lt 4068 (leaf_bytes us)) [
     | inr room ↦ inl room
     | inl over ↦
         let some : 1 ≤ extra_cells us = omega (arith, over) in
-        let h = long_enough (now_of w t) (root_of w r) (now_part t r fresh w is.working) b is.budget (standing w) (standing_is t r fresh w is.working) is.height is.kept k 7 1 leaf (extra_cells us) (lowest_is (standing w) k leaf ups path) (omega arith) (omega arith) some fits in
-        inr (subst (λ cells. IsLongEnough (root_of w r) (extra_cells us) leaf cells) (ups_are (standing w) k leaf ups path) h)
+        let h = long_enough (now_of w t) (root_of w r) (now_part t r fresh w is.working) b is.budget (standing w) (standing_is t r fresh w is.working) is.height is.kept key 7 1 leaf (extra_cells us) (lowest_is (standing w) key leaf ups path) (omega arith) (omega arith) some fits in
+        inr (subst (λ cells. IsLongEnough (root_of w r) (extra_cells us) leaf cells) (ups_are (standing w) key leaf ups path) h)
   ]
 
   module _ (now : WorkingSet) (after : Fresh) (us : List LeafUnit) (d : Change) (fits : extra_cells us ≤ b 1 leaf.id) (unplaced : 2 ^ 63 ≤ fresh.next) (high : fresh.end < 2 ^ 64) (takes : OnlyTakes fresh after) (change : IsChange d.old d.new d.root)
@@ -75,13 +78,14 @@ module _ (t : Store Value) (r : Root) (fresh : Fresh) (w : WorkingSet) (b : Budg
     root_is = followed_root w.change d now.change t r turn put.followed
 
     ascends : Ascends s None (leaf ∷ ups)
-    ascends = subst (Ascends s None) path (path_ascends s root part (standing w) (standing_is t r fresh w is.working) k)
+    ascends = subst (Ascends s None) path (path_ascends s root part (standing w) (standing_is t r fresh w is.working) key)
 
     leaf_level : leaf.level ≡ 1
-    leaf_level = (lowest_is (standing w) k leaf ups path).level_is
+    leaf_level = (lowest_is (standing w) key leaf ups path).level_is
 
     Left : Type 0
-    Left = (left : Budget) × IsBudget (place (patch_of_change d) s) (root_after (patch_of_change d) root) left × ((l i : ℕ) → (Contains (ids_of d.new) i → ⊥) → left l i ≡ b l i) × ((l i : ℕ) → (IsFresh fresh i → ⊥) → left l i ≤ b l i) × (b root.height root.id ≡ 0 → (root_after (patch_of_change d) root ≡ root) × (left root.height root.id ≡ 0))
+    Left = (left : Budget) × IsBudget (place (patch_of_change d) s) (root_after (patch_of_change d) root) left × ((l i : ℕ) → (Contains (ids_of d.new) i → ⊥) → left l i ≡ b l i) × ((l i : ℕ) → (IsFresh fresh i → ⊥) → left l i ≤ b l i)
+        × (most_from left (root_after (patch_of_change d) root) d.new ≤ most_from b root d.old) × (b root.height root.id ≡ 0 → (root_after (patch_of_change d) root ≡ root) × (left root.height root.id ≡ 0))
 
     left : Left
     unfolding Left
@@ -125,10 +129,60 @@ module _ (t : Store Value) (r : Root) (fresh : Fresh) (w : WorkingSet) (b : Budg
             let (x, member, id_is) = is.kept i c n h names low (omega (arith, l, some)) in
             (x, still_in i x id_is q member, id_is)
 
-    pub turn_kept : (c2 : Budget) × IsMeasured t r after now c2 × ((i : ℕ) → (Contains (ids_of d.new) i → ⊥) → c2 1 i ≡ b 1 i) × (b root.height root.id ≡ 0 → (root_of now r ≡ root) × (c2 root.height root.id ≡ 0))
+    -- ---- how many cells there may be in the end
+
+    stood : (x : CellSeen) → Contains (standing w) x → IsFresh fresh x.id → ⊥
+    stood x m fr = none-some (node_of x) (sym (is.working.free.cells x.id fr.0 fr.1) ∙ standing_is t r fresh w is.working x m)
+
+    was_made : (x : CellSeen) → Contains w.change.new x → Contains (standing w) x
+    was_made x m = Contains-append_left w.made w.kept x (Contains-permutation w.change.new w.made x is.working.made m)
+
+    one_of : (x : CellSeen) → Contains (standing w) x → Contains (w.change.new ++ w.kept) x
+    one_of x m = elim (Contains-append_cases w.made w.kept x m) [
+      | inl made ↦ Contains-append_left w.change.new w.kept x (Contains-permutation w.made w.change.new x (IsPermutation-sym w.change.new w.made is.working.made) made)
+      | inr kept ↦ Contains-append_right w.change.new w.kept x kept
+    ]
+
+    module _ (c2 : Budget) (less : (l i : ℕ) → (IsFresh fresh i → ⊥) → c2 l i ≤ b l i) where
+      abbrev was_each : CellSeen → ℕ
+      was_each c = 1 + b c.level c.id
+
+      abbrev now_each : CellSeen → ℕ
+      now_each c = 1 + c2 c.level c.id
+
+      -- cells that stay
+      stay_few : (cells : List CellSeen) → ((x : CellSeen) → Contains cells x → Contains (standing w) x) → sum_by now_each (without (ids_of d.old) cells) ≤ sum_by (outside (ids_of d.old) was_each) cells
+      stay_few cells stand =
+          let e = sum_without (ids_of d.old) now_each cells in
+          let h = sums_less (outside (ids_of d.old) now_each) (outside (ids_of d.old) was_each) cells (λ c m. by_test (is_among (ids_of d.old) c.id) (now_each c) (was_each c) (let k = less c.level c.id (stood c (stand c m)) in omega (arith, k))) in
+          omega (arith, e, h)
+        where
+          by_test : (v : Bool) (n m : ℕ) → n ≤ m → (if v then 0 else n) ≤ (if v then 0 else m)
+          by_test true n m h = omega arith
+          by_test false n m h = h
+
+      all_few : most_from c2 (root_after (patch_of_change d) root) d.new ≤ most_from b root d.old → most_from c2 (root_of now r) (standing now) ≤ most_from b root (standing w)
+      all_few few =
+          let top = ap (λ (q : Root). min 1 (c2 q.height q.id)) root_is in
+          let a = sum_by-append now_each now.made now.kept in
+          let p = sum_by-IsPermutation now_each now.change.new now.made put.made in
+          let n = ap (sum_by now_each) put.followed.new in
+          let m = sum_by-append now_each d.new (without (ids_of d.old) w.change.new) in
+          let k = ap (sum_by now_each) put.kept in
+          let one = stay_few w.change.new was_made in
+          let two = stay_few w.kept (λ x at. Contains-append_right w.made w.kept x at) in
+          let others = members_and_others was_each d.old (w.change.new ++ w.kept) (distinct d.old change.old_names)
+          (λ x at. one_of x (old_stands w key leaf ups path us fresh after d e x at)) in
+          let x = sum_by-append (outside (ids_of d.old) was_each) w.change.new w.kept in
+          let y = sum_by-append was_each w.change.new w.kept in
+          let z = sum_by-append was_each w.made w.kept in
+          let q = sum_by-IsPermutation was_each w.change.new w.made is.working.made in
+          omega (arith, few, top, a, p, n, m, k, one, two, others, x, y, z, q)
+
+    pub turn_kept : (c2 : Budget) × IsMeasured t r after now c2 × ((i : ℕ) → (Contains (ids_of d.new) i → ⊥) → c2 1 i ≡ b 1 i) × (most_from c2 (root_of now r) (standing now) ≤ most_from b root (standing w)) × (b root.height root.id ≡ 0 → (root_of now r ≡ root) × (c2 root.height root.id ≡ 0))
     unfolding Left
     turn_kept =
-        let (c2, budget, same, less, stays) = left in (
+        let (c2, budget, same, less, few, stays) = left in (
           c2,
           record {
             working = working;
@@ -138,5 +192,6 @@ module _ (t : Store Value) (r : Root) (fresh : Fresh) (w : WorkingSet) (b : Budg
             kept = λ i c n at names low some. kept2 c2 less i c n (subst (λ (u : Store Value). u i ≡ Some c) cells_are at) names low some;
           },
           λ i out. same 1 i out,
+          all_few c2 less few,
           λ zero_root. let h = stays zero_root in (root_is ∙ h.0, h.1),
         )

@@ -40,6 +40,18 @@ Bears under own level items id =
     ⊎ (((level ≡ 2) × (grows under items ≤ own id))
     ⊎ ((3 ≤ level) × (weight items + 46 * below under items ≤ 4068 + 1024 * own id))))
 
+-- ---- how many cells there may be in the end
+
+-- these, and what may come in the place of each
+abbrev pub cells_from : Budget → List CellSeen → ℕ
+cells_from b cells = sum_by (λ (c : CellSeen). 1 + b c.level c.id) cells
+
+-- and a new root
+abbrev pub most_from : Budget → Root → List CellSeen → ℕ
+most_from b r cells = cells_from b cells + min 1 (b r.height r.id)
+
+-- ---- a change
+
 -- the number is one of the fresh ones
 abbrev pub IsFresh : Fresh → ℕ → Type 0
 IsFresh f i = (f.next ≤ i) × (i < f.end)
@@ -53,10 +65,14 @@ abbrev pub none_at : List CellSeen → (ℕ → ℕ) → ℕ → ℕ
 none_at [] g i = g i
 none_at (c ∷ cs) g i = if c.id == i then 0 else none_at cs g i
 
+-- what is left where the new cells of a step stand, and these cells but one
+abbrev pub spent_on : (left : ℕ → ℕ) → Step → ℕ
+spent_on left s = sum_by (λ (c : CellSeen). left c.id) s.new + length (drop 1 s.new)
+
 -- At a level so much is left where the new cells of a step stand. A leaf is edited once.
 pub record IsSpent (f : Fresh) (was left : ℕ → ℕ) (s : Step) : Type 0 where
   pub less : (i : ℕ) → (IsFresh f i → ⊥) → left i ≤ was i
-  pub spent : sum_by (λ (c : CellSeen). left c.id) s.new + length (drop 1 s.new) ≤ was s.old.id
+  pub spent : spent_on left s ≤ was s.old.id
   pub small : (i : ℕ) → left i ≤ 87
   pub others : (i : ℕ) → (Contains (ids_of s.new) i → ⊥) → left i ≡ was i
   pub once : s.old.level ≡ 1 → (c : CellSeen) → Contains s.new c → left c.id ≡ 0
@@ -75,6 +91,12 @@ AllBear b l (u ∷ us) over =
     ((c : CellSeen) → Contains u.new c → Bears (b l) (b (suc l)) (suc l) (items_of c.block) c.id)
     × AllBear b (suc l) us over
 
+-- what the steps above a level make, and what is left there, was in the budget
+abbrev pub AreSpent : (b left : Budget) → (l : ℕ) → List Step → Type 0
+AreSpent b left l [] = Unit {0}
+AreSpent b left l (u ∷ us) =
+    (spent_on (left (suc l)) u ≤ b (suc l) u.old.id) × AreSpent b left (suc l) us
+
 -- What is left of a budget after a change that has these steps above a level of which this is left.
 pub record Rises (r : Root) (f : Fresh) (b : Budget) (l : ℕ) (left : ℕ → ℕ) (more : List Step)
     (over : Option CellSeen) : Type 0 where
@@ -85,6 +107,7 @@ pub record Rises (r : Root) (f : Fresh) (b : Budget) (l : ℕ) (left : ℕ → �
   pub small : (k i : ℕ) → after k i ≤ 87
   pub others : (k i : ℕ) → k ≢ l → (Contains (ids_of (news more over)) i → ⊥) → after k i ≡ b k i
   pub bear : AllBear after l more over
+  pub spent : AreSpent b after l more
   pub new_root : (c : CellSeen) → over ≡ Some c
       → (l < c.level) × (c.level ≤ 8) × (after c.level c.id ≡ 0) × (1 ≤ b r.height r.id)
 

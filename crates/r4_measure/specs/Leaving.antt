@@ -13,7 +13,7 @@ use Rattle.r4_path.specs.Levels.{IsLongEnough}
 use Rattle.r4_path.specs.Nodes.{IsPointable}
 use Rattle.r4_path.specs.Steps.{Ascends, IsFree, OnlyTakes}
 use Rattle.r4_edit.specs.Editing.{Edits, extra_cells}
-use Rattle.r4_measure.specs.Budget.{AreSeen, AreUnplaced, Budget, IsBudget, IsFresh}
+use Rattle.r4_measure.specs.Budget.{AreSeen, AreUnplaced, Budget, IsBudget, IsFresh, most_from}
 
 -- A part of a tree of cells, where these numbers are free, has a budget.
 pub record HasBudget (now : Store Value) (r : Root) (f : Fresh) (b : Budget) : Type 0 where
@@ -35,11 +35,13 @@ pub record AreEditsIn (now : Store Value) (r : Root) (b : Budget) (us : List Lea
   pub takes : OnlyTakes f after
 
 -- With the change in place there is a budget: cells that are none of its new ones keep what they had, and no old one
--- has more. Where nothing may come of the root, it stays the root, and nothing may come of it.
+-- has more. Of its new cells there may be no more in the end than of its old ones before. Where nothing may come of the
+-- root, it stays the root, and nothing may come of it.
 pub record LeavesBudget (now : Store Value) (r : Root) (f : Fresh) (b : Budget) (d : Change)
     : Type 0 where
   pub left : Budget
   pub budget : IsBudget (place (patch_of_change d) now) (root_after (patch_of_change d) r) left
   pub others : (k i : ℕ) → (Contains (ids_of d.new) i → ⊥) → left k i ≡ b k i
   pub less : (k i : ℕ) → (IsFresh f i → ⊥) → left k i ≤ b k i
+  pub few : most_from left (root_after (patch_of_change d) r) d.new ≤ most_from b r d.old
   pub root : b r.height r.id ≡ 0 → (root_after (patch_of_change d) r ≡ r) × (left r.height r.id ≡ 0)

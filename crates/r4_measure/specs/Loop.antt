@@ -1,5 +1,5 @@
 -- Edits of leaves, each leaf once, one after the other (docs/volume.md, "What may still come").
-use Rattle.std.specs.Prelude.{◌≡◌, ◌≢◌, ℕ, ◌<◌, ◌≤◌, List, [], ◌∷◌, Contains, Some}
+use Rattle.std.specs.Prelude.{◌≡◌, ◌≢◌, ℕ, ◌<◌, ◌≤◌, List, [], ◌∷◌, Contains, Some, length}
 use Rattle.r4_base.specs.Key.{rank}
 use Rattle.r4_base.specs.Tree.{Node, Root, Store}
 use Rattle.r4_base.specs.Value.{Value}
@@ -37,6 +37,13 @@ CanRemakeAll t r [] f w = Unit {0}
 CanRemakeAll t r (e ∷ es) f w =
     IsRemakable t r f w e.key e.cuts e.items
     × ((g : Fresh) (v : WorkingSet) → IsDone t r f g w v e → CanRemakeAll t r es g v)
+
+-- Where all of them are made, no more cells stand than so many.
+abbrev pub StandAtMost : (most : ℕ) → Store Value → Root → List LeafTurn → Fresh → WorkingSet
+    → Type 0
+StandAtMost most t r [] f w = length (standing w) ≤ most
+StandAtMost most t r (e ∷ es) f w =
+    (g : Fresh) (v : WorkingSet) → IsDone t r f g w v e → StandAtMost most t r es g v
 
 -- The leaf of this number stands and has the key; the edits are its own, and what comes beside it is in the budget.
 pub record IsReady (t : Store Value) (w : WorkingSet) (b : Budget) (e : LeafTurn) (i : ℕ)

@@ -1,13 +1,16 @@
-use Rattle.std.proofs.Common.{◌≡◌, inl, inr, ap, arith, map, subst, sym}
+use Rattle.std.proofs.Common.{◌≡◌, ◌∙◌, ◌≤◌, inl, inr, ap, arith, length, map, subst, sym}
 use Rattle.std.specs.Arc.{arc_value}
-use Rattle.std.specs.Prelude.{Contains, List}
+use Rattle.std.specs.Prelude.{◌&&◌, Contains, List, if◌then◌else◌}
 use Rattle.r4_cell.specs.Seen.{CellSeen}
+use Rattle.r4_content.specs.Counts.{is_okay, stats_in}
 use Rattle.r4_content.specs.Course.{Ending}
 use Rattle.r4_content.specs.Edited.{Edits, changed, is_in}
 use Rattle.r4_content.specs.Held.{edits_of}
+use Rattle.r4_content.specs.Meaning.{makes_object}
+use Rattle.r4_content.specs.declared.reply.Reply.{Reply}
 use Rattle.r4_patch.specs.Effect.{HasEffect}
 use Rattle.r4_patch.specs.Joining.{patch_of_change}
-use Rattle.r4_build.specs.Building.{CanBuild, set_by}
+use Rattle.r4_build.specs.Building.{CanBuild, most_new, set_by}
 use Rattle.r4_build.specs.Built.{edits_for}
 use Rattle.r4_build.proofs.built.parts_of.Goals as goal
 
@@ -18,10 +21,17 @@ returns c =
     let same : edits_of c.in_ok-edits.edits ≡ edits_for task = ap (λ (x : Ending). x.edits) c.in_ok-edits.ensures.ending in
     record {
       reply = ap (λ (x : Ending). x.reply) c.in_ok-edits.ensures.ending;
+      born = c.born.ensures ∙ ap (λ (x : Reply). if makes_object task.command && is_okay x then 1 else 0) (ap (λ (x : Ending). x.reply) c.in_ok-edits.ensures.ending);
+      gone = c.gone.ensures ∙ ap (λ (e : Edits). stats_in e.cuts) same;
       change = told.change;
       meets = λ b reads t r is. told.meets b reads t r
           (subst (λ (e : Edits). CanBuild b e reads t r task.fresh (map (λ x. arc_value x) c.as_slice.result.now)) (sym same)
           (subst (λ (cells : List CellSeen). CanBuild b (edits_for task) reads t r task.fresh cells) (sym c.as_slice.ensures) is));
+      few = λ b reads t r is. subst (λ (cells : List CellSeen). length c.in_ok-change.change.new ≤ most_new b (edits_for task) reads t r cells) c.as_slice.ensures
+          (subst (λ (e : Edits). length c.in_ok-change.change.new ≤ most_new b e reads t r (map (λ x. arc_value x) c.as_slice.result.now)) same
+          (told.few b reads t r
+          (subst (λ (e : Edits). CanBuild b e reads t r task.fresh (map (λ x. arc_value x) c.as_slice.result.now)) (sym same)
+          (subst (λ (cells : List CellSeen). CanBuild b (edits_for task) reads t r task.fresh cells) (sym c.as_slice.ensures) is))));
       effect = subst (λ (e : Edits). HasEffect (patch_of_change c.in_ok-change.change) (is_in (changed e)) (set_by e)) same told.effect;
       old = λ x at. subst (λ (cells : List CellSeen). Contains cells x) c.as_slice.ensures (told.old x at);
       new = λ x at. elim (told.new x at) [
