@@ -1,8 +1,8 @@
 mod BodyKeys
-mod Weighed
+pub mod Weighed
 mod Meets
 mod Spans
 mod Measured
 mod AtCells
-mod Alike
-mod OfCommands
+pub mod Alike
+pub mod OfCommands

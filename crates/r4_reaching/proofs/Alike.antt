@@ -1,16 +1,16 @@
 -- Demands that read the same keys of a tree read and write the same cells.
-use Rattle.std.proofs.Common.{◌≡◌, ◌⊎◌, inl, inr, ℕ, zero, suc, ◌-◌, ◌<◌, ◌≤◌, Bool, true, List, refl, sym, ap, subst, ◌∙◌, arith}
-use Rattle.std.specs.Prelude.{Contains, Option, Some}
+use Rattle.std.proofs.Common.{◌≡◌, inl, inr, ℕ, zero, suc, ◌-◌, ◌<◌, ◌≤◌, Bool, List, refl, sym, ap, ◌∙◌, arith}
+use Rattle.std.specs.Prelude.{Option, Some}
 use Rattle.r4_base.specs.Key.{least, top}
 use Rattle.r4_base.specs.Tree.{Node, Root, Store}
 use Rattle.r4_base.specs.Value.{Value}
 use Rattle.r4_cell.specs.Patch.{by_name}
-use Rattle.r4_cell.specs.Seen.{CellSeen, node_of}
+use Rattle.r4_cell.specs.Seen.{CellSeen}
 use Rattle.r4_marking.specs.Marks.{AreChosen, AreMarks}
 use Rattle.r4_patch.specs.Part.{IsPart}
-use Rattle.r4_reach.specs.Demand.{Demand, Spans, ask, heard}
+use Rattle.r4_reach.specs.Demand.{Demand, ask, heard}
 use Rattle.r4_reach.specs.Needs.{Ask}
-use Rattle.r4_reach.specs.Reach.{IsAsked, IsAt, IsRead, IsReadAt, IsReached, IsRootAsking, IsWritten}
+use Rattle.r4_reach.specs.Reach.{IsAt, IsRead, IsReadAt, IsRootAsking, IsWritten}
 
 -- another one, but for the keys that are read
 abbrev pub reading : Demand Ask → (ℕ → Bool) → Demand Ask

@@ -1,11 +1,9 @@
 -- What was found in the cells that a pool answered, and the keys that leaves have which were met.
-use Rattle.std.proofs.Common.{◌≡◌, inl, inr, ℕ, ◌<◌, ◌≤◌, Bool, true, false, List, refl, sym, ap, subst, ◌∙◌, arith}
-use Rattle.std.specs.Prelude.{All, Contains, Option, Some, None}
-use Rattle.std.specs.FinMap.{find}
+use Rattle.std.proofs.Common.{◌≡◌, ◌⊎◌, inl, inr, ℕ, ◌^◌, Bool, true, false, List, refl, sym, ap, subst, ◌∙◌, arith}
+use Rattle.std.specs.Prelude.{Contains, Option, Some, None}
 use Rattle.std.specs.Option.{option_map}
-use Rattle.std.specs.Ordering.{nat_cmp}
 use Rattle.std.proofs.lemmas.List.Elements.{All-contains}
-use Rattle.r4_base.specs.Key.{least, rank, top}
+use Rattle.r4_base.specs.Key.{rank}
 use Rattle.r4_base.specs.Tree.{Node, Store}
 use Rattle.r4_base.specs.Value.{Value}
 use Rattle.r4_bodies.specs.Told.{AreOfTree}

@@ -1,27 +1,20 @@
 -- From the cells that were met and the marks to a reach.
-use Rattle.std.proofs.Common.{◌≡◌, ◌⊎◌, inl, inr, ℕ, suc, ◌+◌, ◌<◌, ◌≤◌, Bool, true, false, List, [], ◌∷◌, ◌++◌, length}
-use Rattle.std.proofs.Common.{map, refl, sym, ap, subst, ◌∙◌, arith}
-use Rattle.std.specs.Prelude.{◌↔◌, ◌||◌, ◌&&◌, ◌==◌, nat_le, All, AllPairs, Contains, IsSome, Option, Some, None, slice_index_or, sum_by}
-use Rattle.std.specs.FinMap.{find}
-use Rattle.std.specs.Option.{option_map}
-use Rattle.std.specs.Ordering.{nat_cmp}
+use Rattle.std.proofs.Common.{◌≡◌, ◌⊎◌, inl, inr, ℕ, ◌+◌, ◌<◌, ◌≤◌, Bool, true, false, List, [], ◌∷◌}
+use Rattle.std.proofs.Common.{refl, sym, ap, subst, ◌∙◌, arith}
+use Rattle.std.specs.Prelude.{◌↔◌, ◌||◌, ◌&&◌, ◌==◌, nat_le, AllPairs, Contains, IsSome, Option, Some, None, slice_index_or, sum_by}
 use Rattle.std.proofs.lemmas.Bool.{eqb-true}
 use Rattle.std.proofs.lemmas.Bool.Decides.{nat_tests}
 use Rattle.std.proofs.lemmas.List.Elements.{All-contains, All-weaker}
 use Rattle.std.proofs.lemmas.List.Sums.{sum_by-cons}
 use Rattle.std.proofs.lemmas.Option.{same_Some}
 use Rattle.r4_base.specs.Key.{least, top}
-use Rattle.r4_base.specs.Node.{items_of}
 use Rattle.r4_base.specs.Tree.{Node, Root as TreeRoot, Store}
 use Rattle.r4_base.specs.Value.{Value}
-use Rattle.r4_bodies.specs.Told.{intervals_of}
 use Rattle.r4_cell.specs.Patch.{by_name, root_of_pair}
 use Rattle.r4_cell.specs.Seen.{CellSeen, node_of}
 use Rattle.r4_cell.specs.declared.change.Root.{Root}
 use Rattle.r4_content.specs.Edited.{Edits, Intervals, Pairs, changed, is_in}
-use Rattle.r4_content.specs.Held.{interval_of, pairs_of}
 use Rattle.r4_content.specs.declared.command.Command.{Command}
-use Rattle.r4_content.specs.declared.edits.Interval.{Interval}
 use Rattle.r4_content.proofs.EditLaws.{in_append}
 use Rattle.r4_judging.specs.Judging.{IsSound}
 use Rattle.r4_leaf_demands.specs.Leaves.{AreOfLeaves, IsInLeaves, leaf_demand}
@@ -31,7 +24,6 @@ use Rattle.r4_leaf_edits.specs.Made.{spread_keys}
 use Rattle.r4_marking.specs.Marks.{AreMarks, KeepsOrder}
 use Rattle.r4_patch.specs.Part.{IsPart}
 use Rattle.r4_patch.proofs.Members.{distinct, here, later, there}
-use Rattle.r4_path.specs.Nodes.{weight}
 use Rattle.r4_path.proofs.Rising.{level_is}
 use Rattle.r4_reach.specs.Answer.{IsSeenIn as SeesAll}
 use Rattle.r4_reach.specs.Demand.{Demand, ask, ask_of}
@@ -49,7 +41,7 @@ use Rattle.r4_work.specs.Order.{AreInOrder, place}
 use Rattle.r4_reaching.specs.Answers.{asked_by, has_to_lie}
 use Rattle.r4_reaching.specs.Gathering.{IsPartMet}
 use Rattle.r4_reaching.specs.Reaching.{IsSeenPart, StaysInLeaves}
-use Rattle.r4_reaching.proofs.Alike.{marks_alike, reading, same_ask}
+use Rattle.r4_reaching.proofs.Alike.{marks_alike, same_ask}
 use Rattle.r4_reaching.proofs.Found.{found_listed}
 use Rattle.r4_reaching.proofs.Standing.{all_touched, seen_stands}
 
@@ -144,7 +136,7 @@ module _ (p : PoolState) (root : Root) (c : Command) (s : Pairs) (known : Interv
 
   pub stand : MayStandAll met
   stand = record {
-    accepted = All-weaker IsSound IsAccepted met (λ x h. h.stands) at.sound;
+    accepted = All-weaker IsSound IsAccepted (λ x h. h.stands) met at.sound;
     whole = λ x among. (All-contains IsSound met x at.sound among).whole;
     names = at.met.names;
   }
@@ -164,9 +156,9 @@ module _ (p : PoolState) (root : Root) (c : Command) (s : Pairs) (known : Interv
       stays = record {
         reads = λ k on low high. elim (or_cases (is_in (asked_by c s) k) (is_in (kind_reads b) k)
             (sym (in_append (asked_by c s) (kind_reads b) k) ∙ on)) [
-          | inl question ↦ inl (looked k question low high)
-          | inr tells ↦ inr (lie_read k tells low high)
-        ];
+              | inl question ↦ inl (looked k question low high)
+              | inr tells ↦ inr (lie_read k tells low high)
+            ];
         changes = λ k on low high. lie_changed k (sym (ap (λ rs. is_in rs k) own) ∙ on) low high;
         still = λ i n is turns. no_turn i n is turns;
       }
@@ -249,8 +241,8 @@ module _ (p : PoolState) (root : Root) (c : Command) (s : Pairs) (known : Interv
         )
           where
             by_rises : (x : Option Ask) → rises ≡ x → IsSome x → (a : Ask) × IsRootAsking D t r a
-            by_rises None is none = absurd none
+            by_rises None is none = absurd (let no = none in cc)
             by_rises (Some a) is some = (a, (marks.rising a).0 is)
 
             is_some : (a : Ask) → rises ≡ Some a → IsSome rises
-            is_some a is = subst IsSome (sym is) tt
+            is_some a is = subst IsSome (sym is) refl

@@ -1,32 +1,37 @@
 -- What is answered on what a command reads and writes, where all keys that it changes lie in leaves (docs/volume.md,
 -- "Reach"). A key is its rank.
-use Rattle.std.specs.Prelude.{◌≡◌, ◌⊎◌, ℕ, ◌<◌, ◌≤◌, ◌==◌, ◌||◌, List, [], All, Bool, true, false, reverse}
-use Rattle.std.specs.Prelude.{◌+◌, Some, length, map}
+use Rattle.std.specs.Prelude.{◌≡◌, ◌⊎◌, ℕ, ◌<◌, ◌≤◌, ◌||◌, List, [], All, Bool, true, false, reverse}
+use Rattle.std.specs.Prelude.{◌+◌, Option, Some, length, map}
 use Rattle.std.specs.Arc.{arc_value}
 use Rattle.std.specs.Option.{option_map}
 use Rattle.std.specs.FinMap.{find}
 use Rattle.std.specs.Ordering.{nat_cmp}
 use Rattle.r4_base.specs.Key.{least, top}
+use Rattle.r4_base.specs.Tree.{Store}
+use Rattle.r4_base.specs.Value.{Value}
+use Rattle.r4_bodies.specs.Told.{AreOfTree, intervals_of}
 use Rattle.r4_cell.specs.Patch.{by_name, root_of_pair}
 use Rattle.r4_cell.specs.Seen.{CellSeen}
 use Rattle.r4_cell.specs.declared.change.Root.{Root}
 use Rattle.r4_content.specs.Course.{asked}
 use Rattle.r4_content.specs.Edited.{Intervals, Pairs, changed, is_in}
-use Rattle.r4_content.specs.Held.{pairs_of}
+use Rattle.r4_content.specs.Held.{edits_of, pairs_of}
 use Rattle.r4_content.specs.Meaning.{course, greatest_size}
 use Rattle.r4_content.specs.Seen.{Rises, of_seen}
 use Rattle.r4_content.specs.declared.command.Command.{Command}
+use Rattle.r4_content.specs.declared.edits.Edits.{Edits as HeldEdits}
+use Rattle.r4_content.specs.declared.edits.Interval.{Interval}
 use Rattle.r4_content.specs.declared.seen.Seen.{Seen}
 use Rattle.r4_gather.specs.Asking.{EndsIn, StaysOver}
 use Rattle.r4_judging.specs.Judging.{IsSound}
-use Rattle.r4_leaf_demands.specs.Leaves.{IsInLeaves}
+use Rattle.r4_leaf_demands.specs.Leaves.{AreLeafEdits, IsInLeaves}
 use Rattle.r4_outside.specs.Device.{State}
 use Rattle.r4_reach.specs.Answer.{IsReachOf}
 use Rattle.r4_marking.specs.Marks.{ask_seen}
 use Rattle.r4_marking.specs.declared.marking.Marks.{Marks}
 use Rattle.r4_reach.specs.Leaves.{LieInLeaves, most_of, rise_of}
 use Rattle.r4_reach.specs.Needs.{demand_on}
-use Rattle.r4_reach.specs.Touched.{body_on, edits_on, kind_reads}
+use Rattle.r4_reach.specs.Touched.{IsKindIn, body_on, changes_on, edits_on, kind_reads}
 use Rattle.r4_search.specs.Keeping.{Shared, WereAnswered, keeping_state}
 use Rattle.r4_search.specs.Path.{root_name}
 use Rattle.r4_search.specs.Pool.{IsKnown, PoolState}
@@ -34,9 +39,9 @@ use Rattle.r4_search.specs.declared.pool.FetchFault.{FetchFault}
 use Rattle.r4_search.specs.declared.pool.FetchFault.TheVariants.{Memory}
 use Rattle.r4_seeing.specs.Looking.{AreFound, AreHung, IsFoundAt, met_cells}
 use Rattle.r4_seeing.specs.Seeing.{IsStopped}
-use Rattle.r4_touching.specs.Touching.{IsInExtent, StopsFor}
+use Rattle.r4_touching.specs.Touching.{AreInLeaves, IsInExtent, StopsFor}
 use Rattle.r4_work.specs.Order.{AreInOrder}
-use Rattle.r4_reaching.specs.Gathering.{AreAllMet, IsRefusedFor}
+use Rattle.r4_reaching.specs.Gathering.{AreAllMet, IsOneMet, IsRefusedFor}
 use Rattle.r4_reaching.specs.declared.reached.Reach.{Reach}
 
 -- the questions of a command, on what was seen
@@ -68,6 +73,37 @@ pub record IsAllSeen
     pub questions_are : questions ≡ asked_by c (pairs_of s)
     pub looked : (k : ℕ) → is_in questions k ≡ true → least ≤ k → k < top
         → is_in known k ≡ true
+
+-- The edits are the command's, and of leaves where no byte of the body that they change stands in extents; the key is
+-- the one that tells whether one does.
+pub record IsPlanned
+    (p : PoolState) (root : Root) (c : Command) (s : Seen) (known questions : Intervals) (e : HeldEdits)
+    (read : Option Interval)
+    : Type 0
+  where
+    pub all_seen : IsAllSeen p root c s known questions
+    pub edits : edits_of e ≡ edits_on c (pairs_of s)
+    pub body : IsInLeaves (body_on c (pairs_of s) false)
+    pub own : changes_on c (pairs_of s) false ≡ changed (edits_on c (pairs_of s))
+    pub read_is : intervals_of read ≡ kind_reads (body_on c (pairs_of s) false)
+    pub kind : (t : Store Value) → AreOfTree (pairs_of s) → LieInLeaves t (has_to_lie c (pairs_of s))
+        → IsKindIn t (body_on c (pairs_of s) false)
+    pub leaves : AreLeafEdits (edits_of e)
+
+-- And all keys that have to lie in leaves do so.
+pub record IsTouched
+    (p : PoolState) (root : Root) (c : Command) (s : Seen) (known questions : Intervals) (e : HeldEdits)
+    (read : Option Interval)
+    : Type 0
+  where
+    pub planned : IsPlanned p root c s known questions e read
+    pub held : AreInLeaves p (has_to_lie c (pairs_of s))
+    pub some : IsOneMet p
+
+-- The keys of a tree among these are those of the questions, and the one that is read beside.
+abbrev pub AreReadKeys : (held questions : Intervals) → (read : Option Interval) → Type 0
+AreReadKeys held questions read = (k : ℕ) → least ≤ k → k < top
+    → is_in held k ≡ (is_in questions k || is_in (intervals_of read) k)
 
 -- ---- the pool
 
@@ -108,12 +144,13 @@ pub record IsFrom (root : Root) (seen : Seen) (met : List CellSeen) (m : Marks) 
     pub seen_is : r.seen ≡ seen
     pub most : r.most ≡ length m.writes.items + m.more + rise_of (option_map ask_seen m.rises)
 
--- On what was seen the body stands in extents afterwards, or a key that has to lie in a leaf lies in an extent.
+-- On what was seen the body stands in extents afterwards, or a key that has to lie in a leaf, as far as it is one that
+-- an item may have, lies in an extent.
 pub record TouchesExtent (p : PoolState) (c : Command) : Type 0 where
   pub seen : Pairs
   pub saw : IsSeenIn p c seen
   pub extent : (IsInLeaves (body_on c seen false) → ⊥)
-      ⊎ ((k : ℕ) × (has_to_lie c seen k ≡ true) × IsInExtent p k)
+      ⊎ ((k : ℕ) × (least ≤ k → k < top → has_to_lie c seen k ≡ true) × IsInExtent p k)
 
 -- ---- why there is none
 
@@ -122,11 +159,16 @@ pub record StopsOnWay (p : PoolState) (c : Command) (e : FetchFault) : Type 0 wh
   pub seen : Pairs
   pub before : PoolState
   pub saw : IsSeenIn before c seen
-  pub stops : StopsFor (λ k. has_to_lie c seen k || (k == least)) before e p
+  pub keys : ℕ → Bool
+  pub are : (k : ℕ) → least ≤ k → k < top → keys k ≡ true → (has_to_lie c seen k ≡ true) ⊎ (k ≡ least)
+  pub stops : StopsFor keys before e p
 
 -- or a cell that was met is not the one that another one names, or there was no memory
+abbrev pub StopsJudging : PoolState → FetchFault → Type 0
+StopsJudging p e = (e ≡ Memory) ⊎ IsRefusedFor p e
+
 abbrev pub StopsWriting : PoolState → Command → FetchFault → Type 0
-StopsWriting p c e = (e ≡ Memory) ⊎ (IsRefusedFor p e ⊎ StopsOnWay p c e)
+StopsWriting p c e = StopsJudging p e ⊎ StopsOnWay p c e
 
 -- The questions of the command were asked, one after another, up to one of which a look-up ended.
 pub record StopsAsking (p : PoolState) (c : Command) (e : FetchFault) : Type 0 where

@@ -1,6 +1,7 @@
 //! Laws of the cells that were met for a command. Each is the contract of a function that does nothing.
 
-ghost use Rattle.std.specs.Prelude.{◌≡◌, ◌↔◌, ℕ, ◌<◌, ◌≤◌, List, Some, true};
+ghost use Rattle.std.specs.Prelude.{◌≡◌, ◌↔◌, ℕ, ◌<◌, ◌≤◌, List, Option, Some, map, true};
+ghost use Rattle.std.specs.Arc.{arc_value};
 ghost use Rattle.std.specs.FinMap.{find};
 ghost use Rattle.std.specs.Ordering.{nat_cmp};
 ghost use Rattle.r4_base.specs.Key.{least, top};
@@ -10,16 +11,26 @@ ghost use Rattle.r4_cell.specs.Patch.{by_name, root_of_pair};
 ghost use Rattle.r4_cell.specs.Seen.{CellSeen};
 ghost use Rattle.r4_cell.specs.declared.change.Root.{Root as RootPair};
 ghost use Rattle.r4_content.specs.Edited.{Intervals, Pairs, is_in};
+ghost use Rattle.r4_content.specs.Held.{edits_of};
+ghost use Rattle.r4_content.specs.declared.command.Command.{Command};
+ghost use Rattle.r4_content.specs.declared.edits.Edits.{Edits as HeldEdits};
+ghost use Rattle.r4_content.specs.declared.edits.Interval.{Interval};
+ghost use Rattle.r4_content.specs.declared.seen.Seen.{Seen};
 ghost use Rattle.r4_judging.specs.Judging.{HangTogether};
-ghost use Rattle.r4_marking.specs.Marks.{AreMet};
+ghost use Rattle.r4_leaf_demands.specs.Leaves.{leaf_demand};
+ghost use Rattle.r4_marking.specs.Marks.{AreMarksOf, AreMet};
+ghost use Rattle.r4_marking.specs.declared.marking.Marks.{Marks};
 ghost use Rattle.r4_patch.specs.Part.{IsPart};
 ghost use Rattle.r4_reach.specs.Demand.{Demand};
+ghost use Rattle.r4_reach.specs.Leaves.{more_in};
 ghost use Rattle.r4_reach.specs.Reach.{HasTouched};
 ghost use Rattle.r4_search.specs.Pool.{Goes, PoolState};
 ghost use Rattle.r4_seeing.specs.Looking.{AreFound, AreHung, met_cells};
 ghost use Rattle.r4_work.specs.Order.{AreInOrder};
-ghost use Rattle.r4_reaching.specs.Gathering.{AreAllMet};
+ghost use Rattle.r4_reaching.specs.Answers.{AreReadKeys, IsFrom, IsReach, IsTouched};
+ghost use Rattle.r4_reaching.specs.Gathering.{AreAllMet, IsPartMet};
 ghost use Rattle.r4_reaching.specs.Reaching.{IsSeenPart, StaysInLeaves};
+ghost use Rattle.r4_reaching.specs.declared.reached.Reach.{Reach};
 
 /// What was found in cells that a pool had met is found in them still, however many it has met since then.
 pub fn what_was_found_stays()
@@ -56,4 +67,18 @@ pub fn what_was_met_is_listed()
     ensures ordered { (p : PoolState) (root : RootPair) (cells : List CellSeen)
         → AreAllMet p.met cells → AreInOrder cells
         → IsPart (by_name cells) (root_of_pair root) → AreMet cells (root_of_pair root) }
+{}
+
+/// Where all keys of a command that have to lie in leaves do so in the cells that were met, which are a part of a tree,
+/// the marks of these by the command's edits and the keys that it reads are its reach.
+pub fn marked_cells_are_a_reach()
+    ensures { (p : PoolState) (root : RootPair) (c : Command) (seen : Seen)
+        (known questions : Intervals) (e : HeldEdits) (read : Option Interval)
+        (met : List CellSeen) (held : Intervals) (m : Marks) (r : Reach)
+        → IsTouched p root c seen known questions e read → IsPartMet p root met
+        → AreReadKeys held questions read
+        → AreMarksOf (leaf_demand (edits_of e) held) met (root_of_pair root) m
+        → m.more ≡ more_in (leaf_demand (edits_of e) held) (by_name met)
+        (map (λ x. arc_value x) m.writes.items)
+        → IsFrom root seen met m r → IsReach p root c r }
 {}

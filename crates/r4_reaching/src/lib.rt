@@ -10,7 +10,8 @@ mod reaching;
 
 pub use gathering::in_order;
 pub use laws::{
-    touched_cells_were_met, what_was_found_stays, what_was_met_is_listed, what_was_seen_stands,
+    marked_cells_are_a_reach, touched_cells_were_met, what_was_found_stays, what_was_met_is_listed,
+    what_was_seen_stands,
 };
 pub use parting::part_met;
 pub use reached::Reach;

@@ -16,8 +16,8 @@ ghost use Rattle.r4_search.specs.Pool.{IsKnown, KeepsNone};
 ghost use Rattle.r4_seeing.specs.Looking.{AreHung};
 ghost use Rattle.r4_touching.specs.Changed.{AddsKeys};
 ghost use Rattle.r4_touching.specs.Touching.{StopsFor, Touches};
-ghost use Rattle.r4_reaching.specs.Answers.{IsAllSeen, IsReach, IsSamePool, StopsReach};
-ghost use Rattle.r4_reaching.specs.Answers.{StopsWriting, TouchesExtent};
+ghost use Rattle.r4_reaching.specs.Answers.{IsAllSeen, IsPlanned, IsReach, IsSamePool, IsTouched};
+ghost use Rattle.r4_reaching.specs.Answers.{StopsJudging, StopsReach, StopsWriting, TouchesExtent};
 ghost use Rattle.r4_reaching.specs.Gathering.{IsOneMet};
 
 use crate::answer::reach_from;
@@ -113,16 +113,79 @@ fn reach_of_seen<P: Pool>(
     if !told.in_leaves {
         return Ok(None);
     }
-    let keys = keys_to_touch(alloc, &edits, told.read)?;
+    reach_of_edits(alloc, pool, root, command, seen, asked, &edits, told.read)
+}
+
+// The same, once the edits are known, which are of leaves where no byte of the body stands in extents: `read` tells
+// whether one does.
+fn reach_of_edits<P: Pool>(
+    alloc: Global,
+    pool: &mut Keeping<P>,
+    root: &Root,
+    command: &Command,
+    seen: Seen,
+    asked: &[Asked],
+    edits: &Edits,
+    read: Option<Interval>,
+) -> Result<Option<Reach>, FetchFault>
+    requires { (known : Intervals) × IsPlanned (keeping_state (P.state pool.old.pool)
+        pool.old.all pool.old.met.entries) root.now command.now seen known
+        (map asked_keys asked.now) edits.now read }
+    ensures stays { StaysOver (P.device pool.old.pool) (P.device pool.new.pool)
+        (record {
+          root = root.now;
+          pool = keeping_state (P.state pool.old.pool)
+              pool.old.all pool.old.met.entries;
+        })
+        (record {
+          root = root.now;
+          pool = keeping_state (P.state pool.new.pool)
+              pool.new.all pool.new.met.entries;
+        }) }
+    ensures reach { MatchResult result
+        (λ found. MatchOption found
+        (TouchesExtent (keeping_state (P.state pool.new.pool) pool.new.all
+        pool.new.met.entries) command.now)
+        (IsReach (keeping_state (P.state pool.new.pool) pool.new.all pool.new.met.entries)
+        root.now command.now))
+        (StopsWriting (keeping_state (P.state pool.new.pool) pool.new.all pool.new.met.entries)
+        command.now) }
+{
+    let keys = keys_to_touch(alloc, edits, read)?;
     meet_some(alloc, pool, root)?;
-    if !touch(alloc, pool, root, &keys)? {
-        return Ok(None);
+    if touch(alloc, pool, root, &keys)? {
+        let reach = reach_of_met(alloc, pool, root, command, seen, asked, edits, read)?;
+        return Ok(Some(reach));
     }
+    Ok(None)
+}
+
+// The reach, once all cells were met. Nothing more is read.
+fn reach_of_met<P: Pool>(
+    alloc: Global,
+    pool: &Keeping<P>,
+    root: &Root,
+    command: &Command,
+    seen: Seen,
+    asked: &[Asked],
+    edits: &Edits,
+    read: Option<Interval>,
+) -> Result<Reach, FetchFault>
+    requires { (known : Intervals) × IsTouched (keeping_state (P.state pool.now.pool)
+        pool.now.all pool.now.met.entries) root.now command.now seen known
+        (map asked_keys asked.now) edits.now read }
+    ensures { MatchResult result
+        (IsReach (keeping_state (P.state pool.now.pool) pool.now.all pool.now.met.entries)
+        root.now command.now)
+        (StopsJudging (keeping_state (P.state pool.now.pool) pool.now.all
+        pool.now.met.entries)) }
+{
+    let _ = command;
     let met = part_met(alloc, root, pool)?;
     let mut reads = keys_asked(alloc, asked)?;
-    add_read(&mut reads, told.read)?;
-    let marks = mark(alloc, &LeafDemands::new(&edits, &reads), root, &met)?;
-    Ok(Some(reach_from(root, seen, met, marks)?))
+    add_read(&mut reads, read)?;
+    let marks = mark(alloc, &LeafDemands::new(edits, &reads), root, &met)?;
+    Ok(reach_from(root, seen, met, marks)?)
 }
 
 // Where nothing was met yet, the cells on the way to the least key are: each reach has the root among the cells that

@@ -1,10 +1,10 @@
 mod Pieces
-mod Spared
+pub mod Spared
 mod Climbing
 mod Charges
 mod Shapes
 mod Small
 mod Lawful
 mod Found
-mod Answered
+pub mod Answered
 mod FreshLeaves

@@ -1,18 +1,19 @@
-use Rattle.std.proofs.Common.{◌≡◌, ◌+◌, ◌<◌, ◌≤◌, ℕ, ap, sym, subst, refl, arith, map, ◌∷◌, []}
-use Rattle.std.specs.Prelude.{true}
-use Rattle.std.proofs.lemmas.Bool.Decides.{nat_tests}
-use Rattle.r4_base.specs.Key.{least, rank, top}
+use Rattle.std.proofs.Common.{hash_map_len, ◌∙◌, ◌≡◌, ◌+◌, ap, sym, subst, refl, arith, map, ◌∷◌, []}
+use Rattle.r4_base.specs.Key.{rank}
 use Rattle.r4_base.proofs.FreshTree.{least_below}
-use Rattle.r4_content.specs.Edited.{is_between, is_in}
+use Rattle.r4_content.specs.Edited.{is_in}
 use Rattle.r4_content.specs.Held.{interval_of}
 use Rattle.r4_gather.proofs.Staying.{stays_same}
 use Rattle.r4_search.specs.Keeping.{keeping_state}
 use Rattle.r4_seeing.proofs.Staying.{goes_stay}
-use Rattle.r4_reaching.proofs.Some.{held_some, one_kept}
+use Rattle.r4_reaching.proofs.Some.{held_some, is_first, one_kept}
 use Rattle.r4_reaching.proofs.reaching.meet_some.Goals as goal
 
 pub key_after-requires-clause-below : goal.key_after-requires-clause-below
-key_after-requires-clause-below g c = ?
+key_after-requires-clause-below g c =
+    let a = least_below in
+    let b = c.least-2.ensures in
+    omega (arith, a, b)
 
 pub returns-then-not-is_empty-clause-stays : goal.returns-then-not-is_empty-clause-stays
 returns-then-not-is_empty-clause-stays g c =
@@ -21,7 +22,12 @@ returns-then-not-is_empty-clause-stays g c =
     (record { root = c.args.root.now; pool = keeping_state (g.P.Pool.state k.pool) k.all k.met.entries })
 
 pub returns-then-not-is_empty-clause-some : goal.returns-then-not-is_empty-clause-some
-returns-then-not-is_empty-clause-some g c = ?
+returns-then-not-is_empty-clause-some g c =
+    let k = c.args.pool.now in
+    one_kept (g.P.Pool.state k.pool) k.all k.met.entries
+    (λ none. let yes = c.is_empty.ensures.1 (subst (λ m. hash_map_len m ≡ 0) (sym c.met.ensures) none) in
+    let no = c.if-not-is_empty.true in
+    cc)
 
 pub returns-in_err-touch-clause-stays : goal.returns-in_err-touch-clause-stays
 returns-in_err-touch-clause-stays g c =
@@ -42,4 +48,9 @@ returns-clause-stays g c =
     c.touch.ensures.device c.touch.ensures.touches.goes
 
 pub returns-clause-some : goal.returns-clause-some
-returns-clause-some g c = ?
+returns-clause-some g c =
+    let m = c.touch.new.pool in
+    held_some (keeping_state (g.P.Pool.state m.pool) m.all m.met.entries)
+    (is_in (map interval_of (record { from = c.least.result; to = c.key_after.result } ∷ []))) c.in_ok-touch.field-0
+    (is_first (rank c.least.result) (rank c.key_after.result) c.least.ensures
+    (c.key_after.ensures ∙ ap (λ n. n + 1) c.least-2.ensures)) least_below c.in_ok-touch.ensures.held
