@@ -37,20 +37,20 @@ use Rattle.r4_turns.specs.Turns.{IsScript, TurnsSeen, answered_one, no_script, t
 use Rattle.r4_turns.specs.declared.out.Numbers.{Numbers}
 use Rattle.r4_turns.specs.declared.out.Out.{Out}
 use Rattle.r4_turns.specs.declared.turn.Turn.{Turn}
-use Rattle.r4_core.specs.Accounts.{AreAccounts, CountsCells, cells_for, claims_for}
-use Rattle.r4_core.specs.Cells.{AreCells}
-use Rattle.r4_core.specs.Durable.{IsDurable}
-use Rattle.r4_core.specs.History.{IsHistory, owed, owed_for_commit}
-use Rattle.r4_core.specs.Kept.{HasStory, IsKept}
-use Rattle.r4_core.specs.Meaning.{HasMeaning, if_open}
-use Rattle.r4_core.specs.Naming.{Naming, job_named, names_in}
-use Rattle.r4_core.specs.Steps.{answered, with_entry}
-use Rattle.r4_core.specs.Story.{Story}
-use Rattle.r4_core.specs.Tables.{AreTables}
-use Rattle.r4_core.specs.TasksOut.{AreOut, pins_in}
-use Rattle.r4_core.specs.View.{CoreSeen, committing, tables_of}
-use Rattle.r4_core.proofs.Carried.{at_told, commits_nothing, session_told}
-use Rattle.r4_core.proofs.Turning.{is_script_before, out_before, same_of, summed}
+use Rattle.r4_kept.specs.Accounts.{AreAccounts, CountsCells, cells_for, claims_for}
+use Rattle.r4_kept.specs.Cells.{AreCells}
+use Rattle.r4_kept.specs.Durable.{IsDurable}
+use Rattle.r4_kept.specs.History.{IsHistory, owed, owed_for_commit}
+use Rattle.r4_kept.specs.Kept.{HasStory, IsKept}
+use Rattle.r4_kept.specs.Meaning.{HasMeaning, if_open}
+use Rattle.r4_kept.specs.Naming.{Naming, job_named, names_in}
+use Rattle.r4_kept.specs.Steps.{answered, with_entry}
+use Rattle.r4_kept.specs.Story.{Story}
+use Rattle.r4_kept.specs.Tables.{AreTables}
+use Rattle.r4_kept.specs.TasksOut.{AreOut, pins_in}
+use Rattle.r4_kept.specs.View.{CoreSeen, committing, tables_of}
+use Rattle.r4_kept.proofs.Carried.{at_told, commits_nothing, session_told}
+use Rattle.r4_kept.proofs.Turning.{is_script_before, out_before, same_of, summed}
 
 -- ---- what the turns keep
 
@@ -270,7 +270,7 @@ module _ {D : Type 0} (r : Naming) (d : State) (c : CoreSeen D) (k : IsKept r d 
     (record (tables_of c) { turns = turns; atoms = record c.atoms { txns = txns } }) (e ∷ c.trace.entries))
     (drawn : AreDrawn k.history.first turns c.numbers.next_oid (e ∷ c.trace.entries))
     (tasks : TasksTell (record (tables_of c) { turns = turns; atoms = record c.atoms { txns = txns } }) c.locks)
-    (room : owed turns + owed_for_commit (committing c.commit) + 1 ≤ c.trace.spare) where
+    (room : owed turns + owed_for_commit c.commit + 1 ≤ c.trace.spare) where
   abbrev pub after : CoreSeen D
   after = record c {
     turns = turns;
@@ -362,7 +362,7 @@ module _ {D : Type 0} (r : Naming) (d : State) (c : CoreSeen D) (k : IsKept r d 
     (tells : (o : Option Beginning) → BeginsWith (names_in r) d.blocks o
     → IsTold (commands greatest_size) (option_map start_of o) d.clock
     (record (tables_of c) { turns = answered_one c.turns s.0 }) (e ∷ c.trace.entries))
-    (room : owed (answered_one c.turns s.0) + owed_for_commit (committing c.commit) + 1 ≤ c.trace.spare) where
+    (room : owed (answered_one c.turns s.0) + owed_for_commit c.commit + 1 ≤ c.trace.spare) where
   keeps_answer : IsKept r d (answered c s.0 e)
   keeps_answer =
       let trace = c.trace.entries in

@@ -46,20 +46,20 @@ use Rattle.r4_turns.specs.Turns.{TurnsSeen, start, started, turn_at}
 use Rattle.r4_turns.specs.declared.out.Numbers.{Numbers}
 use Rattle.r4_turns.specs.declared.out.Out.{Out}
 use Rattle.r4_turns.specs.declared.turn.Turn.{Turn}
-use Rattle.r4_core.specs.Accounts.{AreAccounts, cells_for, claims_for}
-use Rattle.r4_core.specs.Cells.{AreCells, IsName}
-use Rattle.r4_core.specs.Durable.{IsDurable}
-use Rattle.r4_core.specs.History.{IsHistory, is_commit, owed, owed_in}
-use Rattle.r4_core.specs.Kept.{IsKept}
-use Rattle.r4_core.specs.Meaning.{HasMeaning}
-use Rattle.r4_core.specs.Naming.{Naming, job_named, names_in}
+use Rattle.r4_kept.specs.Accounts.{AreAccounts, cells_for, claims_for}
+use Rattle.r4_kept.specs.Cells.{AreCells, IsName}
+use Rattle.r4_kept.specs.Durable.{IsDurable}
+use Rattle.r4_kept.specs.History.{IsHistory, is_commit, owed, owed_in}
+use Rattle.r4_kept.specs.Kept.{IsKept}
+use Rattle.r4_kept.specs.Meaning.{HasMeaning}
+use Rattle.r4_kept.specs.Naming.{Naming, job_named, names_in}
 use Rattle.r4_core.specs.Opening.{IsFound, first_numbers, first_volume}
-use Rattle.r4_core.specs.Story.{Story}
-use Rattle.r4_core.specs.Tables.{AreTables}
-use Rattle.r4_core.specs.TasksOut.{AreOut}
-use Rattle.r4_core.specs.View.{CoreSeen, root_seen}
-use Rattle.r4_core.specs.declared.parts.Numbers.{Numbers as CoreNumbers}
-use Rattle.r4_core.specs.declared.parts.Volume.{Volume}
+use Rattle.r4_kept.specs.Story.{Story}
+use Rattle.r4_kept.specs.Tables.{AreTables}
+use Rattle.r4_kept.specs.TasksOut.{AreOut}
+use Rattle.r4_kept.specs.View.{CoreSeen, root_seen}
+use Rattle.r4_kept.specs.declared.parts.Numbers.{Numbers as CoreNumbers}
+use Rattle.r4_kept.specs.declared.parts.Volume.{Volume}
 
 -- ---- turns before any command
 

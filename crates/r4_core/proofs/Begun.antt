@@ -38,21 +38,21 @@ use Rattle.r4_trace.proofs.FirstOnes.{begun_counted}
 use Rattle.r4_trace.proofs.Safely.{safe_push}
 use Rattle.r4_turns.specs.Turns.{HasNext, IsScript, TurnsSeen, answered_one, entered, turn_at}
 use Rattle.r4_turns.specs.declared.turn.Turn.{Turn}
-use Rattle.r4_core.specs.Accounts.{AreAccounts, CountsCells, cells_for, claims_for}
-use Rattle.r4_core.specs.Cells.{AreCells}
-use Rattle.r4_core.specs.Durable.{IsDurable}
-use Rattle.r4_core.specs.History.{IsHistory, owed, owed_for_commit}
-use Rattle.r4_core.specs.Kept.{HasStory, IsKept}
-use Rattle.r4_core.specs.Meaning.{HasMeaning, if_open}
-use Rattle.r4_core.specs.Naming.{Naming, job_named, names_in}
-use Rattle.r4_core.specs.Steps.{StandsAlone, with_entry}
-use Rattle.r4_core.specs.Story.{Story}
-use Rattle.r4_core.specs.Tables.{AreTables}
-use Rattle.r4_core.specs.TasksOut.{AreOut, pins_in}
-use Rattle.r4_core.specs.View.{CoreSeen, committing, tables_of}
+use Rattle.r4_kept.specs.Accounts.{AreAccounts, CountsCells, cells_for, claims_for}
+use Rattle.r4_kept.specs.Cells.{AreCells}
+use Rattle.r4_kept.specs.Durable.{IsDurable}
+use Rattle.r4_kept.specs.History.{IsHistory, owed, owed_for_commit}
+use Rattle.r4_kept.specs.Kept.{HasStory, IsKept}
+use Rattle.r4_kept.specs.Meaning.{HasMeaning, if_open}
+use Rattle.r4_kept.specs.Naming.{Naming, job_named, names_in}
+use Rattle.r4_kept.specs.Steps.{StandsAlone, with_entry}
+use Rattle.r4_kept.specs.Story.{Story}
+use Rattle.r4_kept.specs.Tables.{AreTables}
+use Rattle.r4_kept.specs.TasksOut.{AreOut, pins_in}
+use Rattle.r4_kept.specs.View.{CoreSeen, committing, tables_of}
 use Rattle.r4_core.proofs.Answered.{TurnsGoOn, answered_goes_on, goes_on_twice, none_outside, not_out, turned_goes_on}
-use Rattle.r4_core.proofs.Carried.{at_told, session_told}
-use Rattle.r4_core.proofs.Turning.{owed_answered, owed_less, same_of}
+use Rattle.r4_kept.proofs.Carried.{at_told, session_told}
+use Rattle.r4_kept.proofs.Turning.{owed_answered, owed_less, same_of}
 
 -- ---- no command of a new transaction was done
 
@@ -92,7 +92,7 @@ none_twice = tt
 module _ {D : Type 0} (r : Naming) (d : State) (c : CoreSeen D) (k : IsKept r d c) (s : ScriptNo) (u : TxnNo)
     (all : List Turn) (on : TurnsGoOn c.turns (record c.turns { turns = all }))
     (fewer : owed (record c.turns { turns = all }) ≤ owed c.turns)
-    (room : owed c.turns + owed_for_commit (committing c.commit) + 1 ≤ c.trace.spare) where
+    (room : owed c.turns + owed_for_commit c.commit + 1 ≤ c.trace.spare) where
   abbrev trace : List Entry
   trace = c.trace.entries
 
@@ -347,7 +347,7 @@ module _ {D : Type 0} (r : Naming) (d : State) (c : CoreSeen D) (k : IsKept r d 
 
 module _ {D : Type 0} (r : Naming) (d : State) (c : CoreSeen D) (k : IsKept r d c) (s : ScriptNo) (u : TxnNo)
     (sound : c.broken ≡ None) (st : Stands c.turns s.0 None (Some asks.Begin))
-    (room : owed c.turns + owed_for_commit (committing c.commit) + 1 ≤ c.trace.spare) where
+    (room : owed c.turns + owed_for_commit c.commit + 1 ≤ c.trace.spare) where
   abbrev is : IsScript c.turns s.0
   is = st.is_script
 
@@ -414,7 +414,7 @@ module _ {D : Type 0} (r : Naming) (d : State) (c : CoreSeen D) (k : IsKept r d 
 
 module _ {D : Type 0} (r : Naming) (d : State) (c : CoreSeen D) (k : IsKept r d c) (s : ScriptNo) (u : TxnNo)
     (sound : c.broken ≡ None) (st : StandsAlone c.turns s.0)
-    (room : owed c.turns + owed_for_commit (committing c.commit) + 1 ≤ c.trace.spare) where
+    (room : owed c.turns + owed_for_commit c.commit + 1 ≤ c.trace.spare) where
   abbrev alone : IsScript c.turns s.0
   alone = st.stands.is_script
 

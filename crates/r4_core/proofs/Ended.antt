@@ -27,14 +27,14 @@ use Rattle.r4_trace.specs.declared.entry.Entry.{Entry}
 use Rattle.r4_trace.specs.declared.entry.Entry.TheVariants.{Ended}
 use Rattle.r4_turns.specs.Turns.{HasNext, IsScript, TurnsSeen, answered_one, left, turn_at}
 use Rattle.r4_turns.specs.declared.turn.Turn.{Turn}
-use Rattle.r4_core.specs.History.{owed, owed_for_commit}
-use Rattle.r4_core.specs.Kept.{IsKept}
-use Rattle.r4_core.specs.Naming.{Naming}
-use Rattle.r4_core.specs.Steps.{ended, ended_last, with_entry}
-use Rattle.r4_core.specs.View.{CoreSeen, committing, tables_of}
+use Rattle.r4_kept.specs.History.{owed, owed_for_commit}
+use Rattle.r4_kept.specs.Kept.{IsKept}
+use Rattle.r4_kept.specs.Naming.{Naming}
+use Rattle.r4_kept.specs.Steps.{ended, ended_last, with_entry}
+use Rattle.r4_kept.specs.View.{CoreSeen, committing, tables_of}
 use Rattle.r4_core.proofs.Answered.{TurnsGoOn, answered_goes_on, goes_on_twice, keeps_after, not_out, nothing_left}
 use Rattle.r4_core.proofs.Answered.{turned_goes_on}
-use Rattle.r4_core.proofs.Turning.{owed_answered, owed_less, same_of}
+use Rattle.r4_kept.proofs.Turning.{owed_answered, owed_less, same_of}
 
 -- ---- the table of atoms
 
@@ -92,7 +92,7 @@ module _ (t : TurnsSeen) (s : ℕ) (is : IsScript t s) where
 -- ---- a core
 
 module _ {D : Type 0} (r : Naming) (d : State) (c : CoreSeen D) (k : IsKept r d c) (s : ScriptNo) (u : TxnNo)
-    (sound : c.broken ≡ None) (room : owed c.turns + owed_for_commit (committing c.commit) + 1 ≤ c.trace.spare) where
+    (sound : c.broken ≡ None) (room : owed c.turns + owed_for_commit c.commit + 1 ≤ c.trace.spare) where
   abbrev trace : List Entry
   trace = c.trace.entries
 

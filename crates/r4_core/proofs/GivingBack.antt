@@ -21,19 +21,19 @@ use Rattle.r4_outside.specs.Device.{State}
 use Rattle.r4_turns.specs.Turns.{IsScript, TurnsSeen, given_back, turn_at}
 use Rattle.r4_turns.specs.declared.out.Out.{Out}
 use Rattle.r4_turns.specs.declared.turn.Turn.{Turn}
-use Rattle.r4_core.specs.Accounts.{AreAccounts, CountsCells, cells_for, claims_for}
-use Rattle.r4_core.specs.Cells.{AreCells, FitsCommit, HasNames, IsWritingOf}
-use Rattle.r4_core.specs.History.{IsHistory}
-use Rattle.r4_core.specs.Kept.{HasStory, IsKept}
-use Rattle.r4_core.specs.Meaning.{HasMeaning}
-use Rattle.r4_core.specs.Naming.{Naming, job_named}
-use Rattle.r4_core.specs.Tables.{AreTables}
-use Rattle.r4_core.specs.TasksOut.{AreOut, pins_in}
-use Rattle.r4_core.specs.View.{CoreSeen, blocks_of, tables_of}
-use Rattle.r4_core.specs.declared.parts.Commit.{Commit}
-use Rattle.r4_core.proofs.Turning.{is_script_before, out_of_others, owed_less, summed}
-use Rattle.r4_core.proofs.Unused.{AreLike, IsLike, none_there, readable_like, same_captured, same_dirty, unused_fewer}
-use Rattle.r4_core.proofs.Unused.{unused_like, was_there}
+use Rattle.r4_kept.specs.Accounts.{AreAccounts, CountsCells, cells_for, claims_for}
+use Rattle.r4_kept.specs.Cells.{AreCells, FitsCommit, HasNames, IsWritingOf}
+use Rattle.r4_kept.specs.History.{IsHistory}
+use Rattle.r4_kept.specs.Kept.{HasStory, IsKept}
+use Rattle.r4_kept.specs.Meaning.{HasMeaning}
+use Rattle.r4_kept.specs.Naming.{Naming, job_named}
+use Rattle.r4_kept.specs.Tables.{AreTables}
+use Rattle.r4_kept.specs.TasksOut.{AreOut, pins_in}
+use Rattle.r4_kept.specs.View.{CoreSeen, blocks_of, tables_of}
+use Rattle.r4_kept.specs.declared.parts.Commit.{Commit}
+use Rattle.r4_kept.proofs.Turning.{is_script_before, out_of_others, owed_less, summed}
+use Rattle.r4_kept.proofs.Unused.{AreLike, IsLike, none_there, readable_like, same_captured, same_dirty, unused_fewer}
+use Rattle.r4_kept.proofs.Unused.{unused_like, was_there}
 
 module _ (t : TurnsSeen) (s : ℕ) (out : Out) (is : IsScript t s) (was : (turn_at t s).out ≡ Some out) where
   abbrev back : Turn

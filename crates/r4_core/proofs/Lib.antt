@@ -1,6 +1,3 @@
-mod Turning
-mod Unused
-mod Carried
 mod AtStart
 mod Replayed
 mod Answered
@@ -10,4 +7,3 @@ mod Begun
 mod Pushed
 mod GivingBack
 mod Parting
-mod Resting

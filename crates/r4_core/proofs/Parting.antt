@@ -42,19 +42,19 @@ use Rattle.r4_wander.specs.declared.plan.LogPlan.{LogPlan}
 use Rattle.r4_base.specs.Chain.{Txn}
 use Rattle.r4_wander.proofs.Members.{any_cases, any_here, any_later}
 use Rattle.r4_wander.proofs.Settling.{put_writes_other}
-use Rattle.r4_core.specs.Accounts.{AreAccounts}
-use Rattle.r4_core.specs.Cells.{AreCells}
-use Rattle.r4_core.specs.Durable.{IsDurable, StandsAt}
-use Rattle.r4_core.specs.History.{IsHistory}
-use Rattle.r4_core.specs.Kept.{HasStory, IsKept}
-use Rattle.r4_core.specs.Meaning.{Comes, ComesFrom, HasMeaning, IsFlushing, IsInCommit, IsInPart}
-use Rattle.r4_core.specs.Naming.{Naming, job_named, names_in}
-use Rattle.r4_core.specs.Steps.{IsAtWrites, IsQuietPart, Writes, failed, with_entry, writing, written}
-use Rattle.r4_core.specs.Story.{Flush, Headed, Story}
-use Rattle.r4_core.specs.View.{CoreSeen, blocks_of, tables_of}
-use Rattle.r4_core.specs.declared.parts.Commit.{Commit}
-use Rattle.r4_core.specs.declared.parts.Volume.{Volume}
-use Rattle.r4_core.proofs.Carried.{session_told}
+use Rattle.r4_kept.specs.Accounts.{AreAccounts}
+use Rattle.r4_kept.specs.Cells.{AreCells}
+use Rattle.r4_kept.specs.Durable.{IsDurable, StandsAt}
+use Rattle.r4_kept.specs.History.{IsHistory}
+use Rattle.r4_kept.specs.Kept.{HasStory, IsKept}
+use Rattle.r4_kept.specs.Meaning.{Comes, ComesFrom, HasMeaning, IsFlushing, IsInCommit, IsInPart}
+use Rattle.r4_kept.specs.Naming.{Naming, job_named, names_in}
+use Rattle.r4_kept.specs.Steps.{IsAtWrites, IsQuietPart, Writes, failed, with_entry, writing, written}
+use Rattle.r4_kept.specs.Story.{Flush, Headed, Story}
+use Rattle.r4_kept.specs.View.{CoreSeen, blocks_of, tables_of}
+use Rattle.r4_kept.specs.declared.parts.Commit.{Commit}
+use Rattle.r4_kept.specs.declared.parts.Volume.{Volume}
+use Rattle.r4_kept.proofs.Carried.{session_told}
 
 -- ---- blocks that no part writes
 

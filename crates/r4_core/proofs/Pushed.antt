@@ -19,11 +19,11 @@ use Rattle.r4_trace.specs.Job.{HasNoBegin, IsWork}
 use Rattle.r4_trace.specs.Kept.{Told}
 use Rattle.r4_turns.specs.Turns.{IsScript, TurnsSeen, commands_at, no_script, with_command}
 use Rattle.r4_turns.specs.declared.turn.Turn.{Turn}
-use Rattle.r4_core.specs.History.{IsHistory, is_commit, owed, owed_for_commit, owed_in}
-use Rattle.r4_core.specs.Kept.{HasStory, IsKept}
-use Rattle.r4_core.specs.Naming.{Naming, names_in}
-use Rattle.r4_core.specs.Tables.{AreTables}
-use Rattle.r4_core.specs.View.{CoreSeen, committing, tables_of}
+use Rattle.r4_kept.specs.History.{IsHistory, is_commit, owed, owed_for_commit, owed_in}
+use Rattle.r4_kept.specs.Kept.{HasStory, IsKept}
+use Rattle.r4_kept.specs.Naming.{Naming, names_in}
+use Rattle.r4_kept.specs.Tables.{AreTables}
+use Rattle.r4_kept.specs.View.{CoreSeen, committing, tables_of}
 use Rattle.r4_core.proofs.Answered.{TurnsGoOn, accounts_after, cells_after, tasks_after}
 
 -- ---- entries for which room is kept
@@ -148,13 +148,13 @@ module _ {D : Type 0} (r : Naming) (d : State) (c : CoreSeen D) (k : IsKept r d 
       subst (λ (x : Told). IsKept r d (record c { trace = x })) (sym same)
       (keeps_room (max c.trace.spare n) (omega arith))
 
-  pub room_for_one : (n : ℕ) → c.trace.spare + 1 ≤ n → owed c.turns + owed_for_commit (committing c.commit) + 1 ≤ n
+  pub room_for_one : (n : ℕ) → c.trace.spare + 1 ≤ n → owed c.turns + owed_for_commit c.commit + 1 ≤ n
   room_for_one n le = let had = k.history.room in omega (arith, had, le)
 
   -- a command comes to the end of a script
   module _ (s : ℕ) (y : Command) (unnamed : r.scripts ≡ None) (is : IsScript c.turns s)
       (plain : HasNoBegin (commands_at c.turns s)) (ok : IsWork y ⊎ (y ≡ asks.Commit))
-      (more : owed c.turns + owed_for_commit (committing c.commit) + 1 ≤ c.trace.spare) where
+      (more : owed c.turns + owed_for_commit c.commit + 1 ≤ c.trace.spare) where
     scripts : length c.turns.turns ≡ length c.turns.job.scripts
     scripts = (k.history.told None tt).scripts
 

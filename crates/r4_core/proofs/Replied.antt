@@ -25,13 +25,13 @@ use Rattle.r4_trace.specs.declared.entry.Entry.TheVariants.{Acked, Refused}
 use Rattle.r4_turns.specs.Turns.{HasNext, IsScript, TurnsSeen, answered_at, answered_one, turn_at}
 use Rattle.r4_turns.specs.declared.turn.Open.{Open}
 use Rattle.r4_turns.specs.declared.turn.Turn.{Turn}
-use Rattle.r4_core.specs.History.{owed, owed_for_commit}
-use Rattle.r4_core.specs.Kept.{IsKept}
-use Rattle.r4_core.specs.Naming.{Naming, names_in}
-use Rattle.r4_core.specs.Steps.{IsRefusable, MayBeRefused, NamesTxn, with_entry}
-use Rattle.r4_core.specs.View.{CoreSeen, committing, tables_of}
+use Rattle.r4_kept.specs.History.{owed, owed_for_commit}
+use Rattle.r4_kept.specs.Kept.{IsKept}
+use Rattle.r4_kept.specs.Naming.{Naming, names_in}
+use Rattle.r4_kept.specs.Steps.{IsRefusable, MayBeRefused, NamesTxn, with_entry}
+use Rattle.r4_kept.specs.View.{CoreSeen, committing, tables_of}
 use Rattle.r4_core.proofs.Answered.{keeps_answered, not_out}
-use Rattle.r4_core.proofs.Turning.{commit_owed}
+use Rattle.r4_kept.proofs.Turning.{commit_owed}
 
 -- one command more is answered then
 pub now_answered : (t : TurnsSeen) (s : ℕ) → IsScript t s → answered_at (answered_one t s) s ≡ answered_at t s + 1
@@ -44,7 +44,7 @@ module _ {D : Type 0} (r : Naming) (d : State) (c : CoreSeen D) (k : IsKept r d 
 
   module _ (txn : TxnNo) (sound : c.broken ≡ None) (st : Stands c.turns s.0 None (Some asks.Commit)) where
     -- there is room for the entry
-    room_to_ack : owed (answered_one c.turns s.0) + owed_for_commit (committing c.commit) + 1 ≤ c.trace.spare
+    room_to_ack : owed (answered_one c.turns s.0) + owed_for_commit c.commit + 1 ≤ c.trace.spare
     room_to_ack =
         let had = k.history.room in
         let less = commit_owed c.turns s.0 st.is_script (k.history.told None tt).scripts st.next in
@@ -90,7 +90,7 @@ module _ {D : Type 0} (r : Naming) (d : State) (c : CoreSeen D) (k : IsKept r d 
         (subst (λ (y : Open). Stands c.turns s.0 (Some y) (Some x)) is st) may refl
 
     pub keeps_refused : (can : IsRefusable c.turns s.0 txn)
-        (room : owed (answered_one c.turns s.0) + owed_for_commit (committing c.commit) + 1 ≤ c.trace.spare)
+        (room : owed (answered_one c.turns s.0) + owed_for_commit c.commit + 1 ≤ c.trace.spare)
         (turns : TurnsSeen) (index : ℕ) (entries : Told) → turns ≡ answered_one c.turns s.0 → index ≡ i
         → entries ≡ with_entry c.trace (Refused txn s index reply)
         → IsKept r d (record c { turns = turns; trace = entries })
@@ -125,7 +125,7 @@ module _ {D : Type 0} (r : Naming) (d : State) (c : CoreSeen D) (k : IsKept r d 
     has_next (Some x) at has = next_there c.turns s.0 x at
 
     pub keeps_reopened : (next : IsSome (next_at c.turns s.0))
-        (room : owed (answered_one c.turns s.0) + owed_for_commit (committing c.commit) + 1 ≤ c.trace.spare)
+        (room : owed (answered_one c.turns s.0) + owed_for_commit c.commit + 1 ≤ c.trace.spare)
         (turns : TurnsSeen) (index : ℕ) (entries : Told) → turns ≡ answered_one c.turns s.0
         → index ≡ answered_at c.turns s.0 + 1 → entries ≡ with_entry c.trace (Refused none s index (Reopen failed))
         → IsKept r d (record c { turns = turns; trace = entries })

@@ -18,12 +18,12 @@ use Rattle.r4_replay.specs.declared.fault.ReplayFault.TheVariants as replays
 use Rattle.r4_script.specs.declared.job.Job.{Job}
 use Rattle.r4_space.specs.Lawful.{IsLawful}
 use Rattle.r4_turns.specs.Turns.{started}
-use Rattle.r4_core.specs.History.{owed}
-use Rattle.r4_core.specs.View.{CoreSeen, root_seen}
+use Rattle.r4_kept.specs.History.{owed}
+use Rattle.r4_kept.specs.View.{CoreSeen, root_seen}
 use Rattle.r4_core.specs.declared.fault.OpenWhy.{OpenWhy}
 use Rattle.r4_core.specs.declared.fault.OpenWhy.TheVariants.{Device, Image, Log, Memory, Size}
-use Rattle.r4_core.specs.declared.parts.Numbers.{Numbers}
-use Rattle.r4_core.specs.declared.parts.Volume.{Volume}
+use Rattle.r4_kept.specs.declared.parts.Numbers.{Numbers}
+use Rattle.r4_kept.specs.declared.parts.Volume.{Volume}
 use Rattle.r4_core.specs.declared.starting.Start.{Start}
 
 -- ---- what is found

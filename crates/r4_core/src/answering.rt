@@ -7,9 +7,9 @@ ghost use Rattle.r4_content.specs.declared.reply.Reply.TheVariants.{Reopen};
 ghost use Rattle.r4_history.specs.Tables.{IsLastOf, Stands, next_at};
 ghost use Rattle.r4_trace.specs.declared.entry.Entry.TheVariants.{Acked, Refused};
 ghost use Rattle.r4_turns.specs.Turns.{IsScript, answered_at, answered_one, turn_at};
-ghost use Rattle.r4_core.specs.History.{owed, owed_for_commit};
-ghost use Rattle.r4_core.specs.Steps.{IsRefusable, answered};
-ghost use Rattle.r4_core.specs.View.{committing};
+ghost use Rattle.r4_kept.specs.History.{owed, owed_for_commit};
+ghost use Rattle.r4_kept.specs.Steps.{IsRefusable, answered};
+ghost use Rattle.r4_kept.specs.View.{committing};
 
 use crate::core_state::Core;
 use r4_base::{ScriptNo, TxnNo};
@@ -39,7 +39,7 @@ impl<D: Device, R: Run> Core<D, R> {
         requires sound { self.old.broken ≡ None }
         requires refusable { IsRefusable self.old.turns script.0 txn }
         requires room { owed (answered_one self.old.turns script.0)
-            + owed_for_commit (committing self.old.commit) + 1 ≤ self.old.trace.spare }
+            + owed_for_commit self.old.commit + 1 ≤ self.old.trace.spare }
         ensures { self.new ≡ answered self.old script.0
             (Refused txn script (answered_at self.old.turns script.0 + 1) reply) }
     {
@@ -61,7 +61,7 @@ impl<D: Device, R: Run> Core<D, R> {
         requires next { IsSome (next_at self.old.turns script.0) }
         requires free { (turn_at self.old.turns script.0).out ≡ None }
         requires room { owed (answered_one self.old.turns script.0)
-            + owed_for_commit (committing self.old.commit) + 1 ≤ self.old.trace.spare }
+            + owed_for_commit self.old.commit + 1 ≤ self.old.trace.spare }
         ensures { self.new ≡ answered self.old script.0
             (Refused (record { 0 = 0 }) script (answered_at self.old.turns script.0 + 1)
             (Reopen failed)) }

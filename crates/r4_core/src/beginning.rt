@@ -3,9 +3,9 @@
 ghost use Rattle.std.specs.Prelude.{◌≡◌, ◌+◌, ◌<◌, ◌≤◌, length, IfOk, None, OnErr, Some};
 ghost use Rattle.r4_content.specs.declared.command.Command.TheVariants as asks;
 ghost use Rattle.r4_history.specs.Tables.{Stands};
-ghost use Rattle.r4_core.specs.History.{owed, owed_for_commit};
-ghost use Rattle.r4_core.specs.Steps.{HasBegun, HasBegunSingle, StandsAlone};
-ghost use Rattle.r4_core.specs.View.{committing};
+ghost use Rattle.r4_kept.specs.History.{owed, owed_for_commit};
+ghost use Rattle.r4_kept.specs.Steps.{HasBegun, HasBegunSingle, StandsAlone};
+ghost use Rattle.r4_kept.specs.View.{committing};
 
 use crate::core_state::Core;
 use r4_base::{Memory, ScriptNo, TxnNo};
@@ -20,7 +20,7 @@ impl<D: Device, R: Run> Core<D, R> {
         requires sound { self.old.broken ≡ None }
         requires stands { Stands self.old.turns script.0 None (Some asks.Begin) }
         requires few { length self.old.atoms.txns < 4294967295 }
-        requires room { owed self.old.turns + owed_for_commit (committing self.old.commit) + 1
+        requires room { owed self.old.turns + owed_for_commit self.old.commit + 1
             ≤ self.old.trace.spare }
         ensures ok { IfOk result (λ txn. HasBegun self.old self.new script txn) }
         ensures err { OnErr result (self.new ≡ self.old) }
@@ -40,7 +40,7 @@ impl<D: Device, R: Run> Core<D, R> {
         requires sound { self.old.broken ≡ None }
         requires alone { StandsAlone self.old.turns script.0 }
         requires few { length self.old.atoms.txns < 4294967295 }
-        requires room { owed self.old.turns + owed_for_commit (committing self.old.commit) + 1
+        requires room { owed self.old.turns + owed_for_commit self.old.commit + 1
             ≤ self.old.trace.spare }
         ensures ok { IfOk result (λ txn. HasBegunSingle self.old self.new script txn) }
         ensures err { OnErr result (self.new ≡ self.old) }

@@ -5,11 +5,11 @@ ghost use Rattle.r4_commit.specs.Planned.{CommitSeen};
 ghost use Rattle.r4_outside.specs.Device.{Goes, HasCause, Spares};
 ghost use Rattle.r4_wander.specs.Progress.{under_way};
 ghost use Rattle.r4_wander.specs.Torn.{IsTarget};
-ghost use Rattle.r4_core.specs.Steps.{IsAtWrites, IsWritten, Writes, failed};
-ghost use Rattle.r4_core.specs.declared.parts.Commit.{Commit};
+ghost use Rattle.r4_kept.specs.Steps.{IsAtWrites, IsWritten, Writes, failed};
+ghost use Rattle.r4_kept.specs.declared.parts.Commit.{Commit};
 
 use crate::core_state::Core;
-use crate::parts::Commit;
+use r4_kept::Commit;
 use r4_cell::on_disk_law;
 use r4_commit::step;
 use r4_outside::{Device, Failed, Run};

@@ -12,9 +12,9 @@ ghost use Rattle.r4_trace.specs.Folds.{after_first};
 ghost use Rattle.r4_history.specs.Tables.{asked};
 ghost use Rattle.r4_trace.specs.Legal.{IsLegal};
 ghost use Rattle.r4_trace.specs.Traced.{committed_in, latest};
-ghost use Rattle.r4_core.specs.Naming.{names_of};
+ghost use Rattle.r4_kept.specs.Naming.{names_of};
 
-use crate::parts::{Commit, Numbers, Volume};
+use r4_kept::{Commit, Numbers, Volume};
 use r4_atoms::Atoms;
 use r4_base::AtomNo;
 use r4_buffer::Buffer;
@@ -46,8 +46,8 @@ pub struct Core<D: Device, R: Run> {
 }
 
 impl<D: Device, R: Run> Model for Core<D, R> {
-    ghost use Rattle.r4_core.specs.View.{CoreSeen};
-    ghost use Rattle.r4_core.specs.Kept.{IsKept};
+    ghost use Rattle.r4_kept.specs.View.{CoreSeen};
+    ghost use Rattle.r4_kept.specs.Kept.{IsKept};
 
     ghost Value = { CoreSeen D };
 

@@ -2,9 +2,9 @@
 
 ghost use Rattle.std.specs.Prelude.{◌≡◌, ◌+◌, ◌≤◌, Some, None};
 ghost use Rattle.r4_history.specs.Tables.{Stands, inside};
-ghost use Rattle.r4_core.specs.History.{owed, owed_for_commit};
-ghost use Rattle.r4_core.specs.Steps.{ended_last};
-ghost use Rattle.r4_core.specs.View.{committing};
+ghost use Rattle.r4_kept.specs.History.{owed, owed_for_commit};
+ghost use Rattle.r4_kept.specs.Steps.{ended_last};
+ghost use Rattle.r4_kept.specs.View.{committing};
 
 use crate::core_state::Core;
 use r4_base::{ScriptNo, TxnNo};
@@ -16,7 +16,7 @@ impl<D: Device, R: Run> Core<D, R> {
     pub(crate) fn leave(&mut self, script: ScriptNo, txn: TxnNo)
         requires sound { self.old.broken ≡ None }
         requires stands { Stands self.old.turns script.0 (Some (inside txn)) None }
-        requires room { owed self.old.turns + owed_for_commit (committing self.old.commit) + 1
+        requires room { owed self.old.turns + owed_for_commit self.old.commit + 1
             ≤ self.old.trace.spare }
         ensures { self.new ≡ ended_last self.old script.0 txn }
     {

@@ -11,10 +11,9 @@ mod fault;
 mod giving_back;
 mod leaving;
 mod opening;
-mod parts;
 mod pushing;
 mod starting;
 
 pub use core_state::{Core, goes_to_threads};
 pub use fault::{OpenFault, OpenWhy};
-pub use parts::{Commit, Numbers, Volume};
+pub use r4_kept::{Commit, Numbers, Volume};

@@ -8,7 +8,7 @@ ghost use Rattle.r4_durable.specs.Meaning.{IsSafeTrace};
 ghost use Rattle.r4_outside.specs.Device.{Goes, IsQuiet, TellsCrashes, TellsReads};
 ghost use Rattle.r4_script.specs.Spelling.{AreScripts};
 ghost use Rattle.r4_script.specs.Text.{job_of};
-ghost use Rattle.r4_core.specs.Naming.{names_of};
+ghost use Rattle.r4_kept.specs.Naming.{names_of};
 ghost use Rattle.r4_core.specs.Opening.{IsAtStart, IsOpenFault, OpensFrom};
 
 use crate::core_state::Core;

@@ -4,9 +4,9 @@ ghost use Rattle.std.specs.Prelude.{◌≡◌, ◌⊎◌, ◌≤◌, ◌<◌, �
 ghost use Rattle.r4_content.specs.declared.command.Command.TheVariants as asks;
 ghost use Rattle.r4_trace.specs.Job.{HasNoBegin, IsWork};
 ghost use Rattle.r4_turns.specs.Turns.{IsScript, commands_at};
-ghost use Rattle.r4_core.specs.History.{owed, owed_for_commit};
-ghost use Rattle.r4_core.specs.View.{committing};
-ghost use Rattle.r4_core.specs.Steps.{IsRoomier, pushed, with_room};
+ghost use Rattle.r4_kept.specs.History.{owed, owed_for_commit};
+ghost use Rattle.r4_kept.specs.View.{committing};
+ghost use Rattle.r4_kept.specs.Steps.{IsRoomier, pushed, with_room};
 
 use crate::core_state::Core;
 use r4_base::{Memory, ScriptNo};
@@ -38,7 +38,7 @@ impl<D: Device, R: Run> Core<D, R> {
     fn more_room(&mut self) -> Result<(), Memory>
         ensures ok { OnOk result (self.new ≡ with_room self.old (self.old.trace.spare + 1)) }
         ensures room { OnOk result (owed self.new.turns
-            + owed_for_commit (committing self.new.commit) + 1 ≤ self.new.trace.spare) }
+            + owed_for_commit self.new.commit + 1 ≤ self.new.trace.spare) }
         ensures err { OnErr result (self.new ≡ self.old) }
     {
         let entries = self.trace.spare().checked_add(1).ok_or(AllocError)?;

@@ -8,14 +8,14 @@ ghost use Rattle.r4_durable.specs.Kept.{space_of};
 ghost use Rattle.r4_open.specs.Opening.{AreAccepted};
 ghost use Rattle.r4_space.specs.Lawful.{IsLawful};
 ghost use Rattle.r4_turns.specs.Turns.{started};
-ghost use Rattle.r4_core.specs.History.{is_commit, owed};
+ghost use Rattle.r4_kept.specs.History.{is_commit, owed};
 ghost use Rattle.r4_core.specs.Opening.{HasStarted, IsFound, IsOpenFault};
 ghost use Rattle.r4_core.specs.Opening.{fault_of_image, fault_of_log};
-ghost use Rattle.r4_core.specs.View.{root_seen};
+ghost use Rattle.r4_kept.specs.View.{root_seen};
 ghost use Rattle.r4_core.specs.declared.fault.OpenWhy.TheVariants.{Device as HasFailed};
 
 use crate::fault::OpenWhy;
-use crate::parts::{Numbers, Volume};
+use r4_kept::{Numbers, Volume};
 use r4_base::{Memory, NodeId, Super40, UNPLACED};
 use r4_cell::Root;
 use r4_content::Command;

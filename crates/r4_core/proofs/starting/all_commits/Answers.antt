@@ -2,7 +2,7 @@ use Rattle.std.proofs.Common.{◌≤◌, List, ap, length, subst, ◌∙◌}
 use Rattle.std.specs.Prelude.{count_by, sum_by}
 use Rattle.std.proofs.lemmas.List.{take_all}
 use Rattle.r4_script.specs.declared.job.Script.{Script}
-use Rattle.r4_core.specs.History.{is_commit}
+use Rattle.r4_kept.specs.History.{is_commit}
 use Rattle.r4_core.proofs.AtStart.{first_owed}
 use Rattle.r4_core.proofs.starting.all_commits.Goals as goal
 

@@ -5,7 +5,7 @@ use Rattle.r4_content.specs.Meaning.{greatest_size}
 use Rattle.r4_durable.specs.Meaning.{start_of}
 use Rattle.r4_durable.proofs.Meant.{safe_trace}
 use Rattle.r4_history.proofs.RunSteps.{told_legal}
-use Rattle.r4_core.proofs.Resting.{has_content}
+use Rattle.r4_kept.proofs.Resting.{has_content}
 use Rattle.r4_core.proofs.core_state.Core.into_device.Goals as goal
 
 pub returns-clause-legal : goal.returns-clause-legal

@@ -8,9 +8,9 @@ use Rattle.r4_durable.specs.Meaning.{Beginning, means}
 use Rattle.r4_outside.specs.Device.{IsQuiet, State}
 use Rattle.r4_trace.specs.Safe.{IsSafeFrom}
 use Rattle.r4_wander.specs.Progress.{Stands}
-use Rattle.r4_core.specs.Story.{Flush, Story}
-use Rattle.r4_core.specs.View.{CoreSeen}
-use Rattle.r4_core.specs.declared.parts.Commit.{Commit}
+use Rattle.r4_kept.specs.Story.{Flush, Story}
+use Rattle.r4_kept.specs.View.{CoreSeen}
+use Rattle.r4_kept.specs.declared.parts.Commit.{Commit}
 
 -- the device is where the writer of the commit is; an atom without cells writes nothing
 abbrev pub StandsAt : State → Option Flush → Option CommitSeen → Type 0

@@ -10,9 +10,9 @@ use Rattle.r4_locks.specs.Locks.{LocksSeen}
 use Rattle.r4_space.specs.Space.{Space}
 use Rattle.r4_trace.specs.Kept.{Told}
 use Rattle.r4_turns.specs.Turns.{TurnsSeen}
-use Rattle.r4_core.specs.declared.parts.Commit.{Commit}
-use Rattle.r4_core.specs.declared.parts.Numbers.{Numbers}
-use Rattle.r4_core.specs.declared.parts.Volume.{Volume}
+use Rattle.r4_kept.specs.declared.parts.Commit.{Commit}
+use Rattle.r4_kept.specs.declared.parts.Numbers.{Numbers}
+use Rattle.r4_kept.specs.declared.parts.Volume.{Volume}
 
 pub record CoreSeen (D : Type 0) : Type 0 where
   pub dev : D

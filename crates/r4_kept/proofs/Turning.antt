@@ -16,7 +16,7 @@ use Rattle.r4_script.specs.declared.job.Script.{Script}
 use Rattle.r4_turns.specs.Turns.{IsScript, TurnsSeen, answered_one, commands_at, no_script, start, turn_at, with_turn}
 use Rattle.r4_turns.specs.declared.out.Out.{Out}
 use Rattle.r4_turns.specs.declared.turn.Turn.{Turn}
-use Rattle.r4_core.specs.History.{is_commit, owed, owed_by, owed_in}
+use Rattle.r4_kept.specs.History.{is_commit, owed, owed_by, owed_in}
 
 -- further on in a list there are no more that pass
 pub fewer : {A : Type 0} (p : A → Bool) (xs : List A) (n : ℕ)

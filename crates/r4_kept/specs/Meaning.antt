@@ -35,10 +35,10 @@ use Rattle.r4_turns.specs.declared.out.Out.{Out}
 use Rattle.r4_wander.specs.Parts.{part}
 use Rattle.r4_wander.specs.Progress.{Commits, ReadsAs}
 use Rattle.r4_wander.specs.Torn.{IsTarget}
-use Rattle.r4_core.specs.Story.{Flush, Headed, Story, sealing_in}
-use Rattle.r4_core.specs.View.{CoreSeen, blocks_of, root_seen}
-use Rattle.r4_core.specs.declared.parts.Commit.{Commit}
-use Rattle.r4_core.specs.declared.parts.Volume.{Volume}
+use Rattle.r4_kept.specs.Story.{Flush, Headed, Story, sealing_in}
+use Rattle.r4_kept.specs.View.{CoreSeen, blocks_of, root_seen}
+use Rattle.r4_kept.specs.declared.parts.Commit.{Commit}
+use Rattle.r4_kept.specs.declared.parts.Volume.{Volume}
 
 -- ---- owners
 

@@ -21,8 +21,8 @@ use Rattle.r4_turns.specs.declared.turn.Open.{Open}
 use Rattle.r4_outside.specs.Device.{State}
 use Rattle.r4_wander.specs.Progress.{IsNext, calls_left, stage_at}
 use Rattle.r4_wander.specs.declared.stage.Stage.{Stage}
-use Rattle.r4_core.specs.View.{CoreSeen}
-use Rattle.r4_core.specs.declared.parts.Commit.{Commit}
+use Rattle.r4_kept.specs.View.{CoreSeen}
+use Rattle.r4_kept.specs.declared.parts.Commit.{Commit}
 
 -- one entry more, in the room that was kept
 abbrev pub with_entry : Told → Entry → Told

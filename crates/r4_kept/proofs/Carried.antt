@@ -22,10 +22,10 @@ use Rattle.r4_trace.specs.Safe.{IsNoCommit}
 use Rattle.r4_trace.specs.declared.entry.Entry.{Entry}
 use Rattle.r4_trace.specs.declared.entry.Entry.TheVariants.{Begin, Fuse, Done, Refused, Ended, Sealed, Committed}
 use Rattle.r4_trace.specs.declared.entry.Entry.TheVariants.{Acked, Broken}
-use Rattle.r4_core.specs.Meaning.{Comes, ComesFrom, IsAt, IsAtRest, IsInCommit, IsInPart}
-use Rattle.r4_core.specs.Story.{Flush, Headed}
-use Rattle.r4_core.specs.declared.parts.Commit.{Commit}
-use Rattle.r4_core.specs.declared.parts.Volume.{Volume}
+use Rattle.r4_kept.specs.Meaning.{Comes, ComesFrom, IsAt, IsAtRest, IsInCommit, IsInPart}
+use Rattle.r4_kept.specs.Story.{Flush, Headed}
+use Rattle.r4_kept.specs.declared.parts.Commit.{Commit}
+use Rattle.r4_kept.specs.declared.parts.Volume.{Volume}
 
 -- ---- the entry
 

@@ -1,18 +1,21 @@
 -- Group C, the accounts: what atoms take up, and what tasks may still use up (docs/space.md).
-use Rattle.std.specs.Prelude.{◌≡◌, ◌⊎◌, ◌↔◌, ℕ, ◌^◌, ◌≤◌, nat_le, nat_eq, false, true, List, []}
+use Rattle.std.specs.Prelude.{◌≡◌, ◌⊎◌, ◌↔◌, ℕ, ◌+◌, ◌^◌, ◌≤◌, ◌==◌, nat_le, nat_eq, Bool, false, true}
+use Rattle.std.specs.Prelude.{if◌then◌else◌, List, []}
 use Rattle.std.specs.Prelude.{◌∷◌, length, count_by, sum_by, Contains, slice_index_or}
 use Rattle.std.specs.Prelude.{Option, Some, None}
 use Rattle.std.specs.List.{IsDistinct}
-use Rattle.r4_atoms.specs.Atoms.{AtomsSeen, IsBegun, IsOpenAtom, account_of, owner_of}
+use Rattle.r4_atoms.specs.Atoms.{AtomsSeen, IsBegun, IsOpenAtom, account_of, atom_of, owner_of}
 use Rattle.r4_base.specs.Bitmap.{bitmap_count}
 use Rattle.r4_base.specs.declared.things.AtomNo.{AtomNo}
 use Rattle.r4_buffer.specs.Seen.{BufferSeen, buffered, is_dirty_by}
 use Rattle.r4_space.specs.Accounts.{account_at, dues, no_account}
 use Rattle.r4_space.specs.Space.{unused_count}
+use Rattle.r4_trace.specs.declared.entry.Entry.{Entry}
+use Rattle.r4_trace.specs.declared.entry.Entry.TheVariants.{Done}
 use Rattle.r4_turns.specs.declared.out.Out.{Out}
 use Rattle.r4_turns.specs.declared.turn.Turn.{Turn}
-use Rattle.r4_core.specs.View.{CoreSeen}
-use Rattle.r4_core.specs.declared.parts.Commit.{Commit}
+use Rattle.r4_kept.specs.View.{CoreSeen}
+use Rattle.r4_kept.specs.declared.parts.Commit.{Commit}
 
 -- ---- cells of an atom
 
@@ -41,6 +44,19 @@ cells_owed turns = sum_by (λ (t : Turn). cells_for t.out) turns
 abbrev pub claims_owed : List Turn → ℕ
 claims_owed turns = sum_by (λ (t : Turn). claims_for t.out) turns
 
+-- ---- objects that an atom made or took away
+
+-- how many commands of such transactions were done
+abbrev pub dones_of : (chosen : ℕ → Bool) → List Entry → ℕ
+dones_of chosen [] = 0
+dones_of chosen (Done txn script index x reply ∷ older) =
+    (if chosen txn.0 then 1 else 0) + dones_of chosen older
+dones_of chosen (e ∷ older) = dones_of chosen older
+
+-- how many commands of an atom were done
+abbrev pub dones_in : AtomsSeen → (atom : ℕ) → List Entry → ℕ
+dones_in s a trace = dones_of (λ t. atom_of s t == a) trace
+
 -- ---- what a commit holds in the space
 
 -- without a commit no atom is sealed, and with one at most its own
@@ -63,6 +79,10 @@ pub record AreAccounts {D : Type 0} (c : CoreSeen D) : Type 0 where
   -- an atom that was not begun has no account in the space
   pub unknown : (a : AtomNo) → (IsBegun c.atoms a.0 → ⊥)
       → account_at c.space.atoms a ≡ no_account a
+  -- an open atom has made no more objects than its commands were done, nor taken away
+  pub objects : (a : ℕ) → IsOpenAtom c.atoms a
+      → ((account_of c.atoms a).born ≤ dones_in c.atoms a c.trace.entries)
+      × ((account_of c.atoms a).gone ≤ dones_in c.atoms a c.trace.entries)
   -- before a call of the device fails, the space knows of no sealed atom but the one under way
   pub sealed : c.broken ≡ None → MaySeal c.commit c.space.sealed
   -- and where none is under way, no block is placed or held

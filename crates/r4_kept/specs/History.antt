@@ -1,6 +1,7 @@
 -- Group A, the history: the trace, and what the tables tell of it (docs/histories.md).
 use Rattle.std.specs.Prelude.{◌≡◌, ℕ, ◌+◌, ◌≤◌, Bool, true, false, List, [], ◌∷◌, drop, count_by}
-use Rattle.std.specs.Prelude.{Option, Some, None, Ok}
+use Rattle.std.specs.Prelude.{Option, Some, None, Ok, nat_lt, if◌then◌else◌}
+use Rattle.r4_commit.specs.Planned.{CommitSeen}
 use Rattle.std.specs.Option.{option_map}
 use Rattle.r4_content.specs.Locality.{commands}
 use Rattle.r4_content.specs.Meaning.{greatest_size}
@@ -15,8 +16,9 @@ use Rattle.r4_script.specs.declared.job.Script.{Script}
 use Rattle.r4_turns.specs.Turns.{TurnsSeen}
 use Rattle.r4_turns.specs.declared.out.Out.{Out}
 use Rattle.r4_turns.specs.declared.turn.Turn.{Turn}
-use Rattle.r4_core.specs.Naming.{Naming, names_in}
-use Rattle.r4_core.specs.View.{CoreSeen, committing, tables_of}
+use Rattle.r4_kept.specs.Naming.{Naming, names_in}
+use Rattle.r4_kept.specs.View.{CoreSeen, tables_of}
+use Rattle.r4_kept.specs.declared.parts.Commit.{Commit}
 
 -- ---- entries for which room is kept
 
@@ -42,10 +44,15 @@ owed_in (turn ∷ turns) (script ∷ scripts) = owed_by turn script + owed_in tu
 abbrev pub owed : TurnsSeen → ℕ
 owed t = owed_in t.turns t.job.scripts
 
--- a commit that is under way needs one when it is durable, and one where a call fails
-abbrev pub owed_for_commit : Option ℕ → ℕ
+-- A commit that is under way needs one when it is durable, and one where a call fails; it is durable
+-- from its third part on. An atom without cells is durable at once, and calls nothing.
+abbrev pub owed_for_work : Option CommitSeen → ℕ
+owed_for_work None = 1
+owed_for_work (Some w) = if nat_lt w.work.part 2 then 2 else 1
+
+abbrev pub owed_for_commit : Option Commit → ℕ
 owed_for_commit None = 0
-owed_for_commit (Some atom) = 2
+owed_for_commit (Some k) = owed_for_work k.work
 
 -- ---- the group
 
@@ -62,4 +69,4 @@ pub record IsHistory {D : Type 0} (r : Naming) (d : State) (c : CoreSeen D) : Ty
   pub drawn : AreDrawn first c.turns c.numbers.next_oid c.trace.entries
   pub begins : (b : Beginning) → IsNamed (names_in r) d.blocks b → first ≡ first_id b
   -- there is room for each entry that may not want memory
-  pub room : owed c.turns + owed_for_commit (committing c.commit) ≤ c.trace.spare
+  pub room : owed c.turns + owed_for_commit c.commit ≤ c.trace.spare

@@ -10,11 +10,11 @@ use Rattle.r4_outside.specs.Device.{State}
 use Rattle.r4_trace.specs.Folds.{after_first}
 use Rattle.r4_trace.specs.Traced.{committed_in}
 use Rattle.r4_trace.specs.declared.entry.Entry.{Entry}
-use Rattle.r4_core.specs.Kept.{HasStory, IsKept}
-use Rattle.r4_core.specs.Meaning.{IsAt, IsAtRest}
-use Rattle.r4_core.specs.Naming.{Naming, job_named, names_in}
-use Rattle.r4_core.specs.View.{CoreSeen}
-use Rattle.r4_core.specs.declared.parts.Commit.{Commit}
+use Rattle.r4_kept.specs.Kept.{HasStory, IsKept}
+use Rattle.r4_kept.specs.Meaning.{IsAt, IsAtRest}
+use Rattle.r4_kept.specs.Naming.{Naming, job_named, names_in}
+use Rattle.r4_kept.specs.View.{CoreSeen}
+use Rattle.r4_kept.specs.declared.parts.Commit.{Commit}
 
 module _ {D : Type 0} (r : Naming) (d : State) (c : CoreSeen D) (k : IsKept r d c) (b : Beginning)
     (named : IsNamed (names_in r) d.blocks b) (sound : c.broken ≡ None) (none : c.commit ≡ None) where

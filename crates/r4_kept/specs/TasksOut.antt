@@ -11,7 +11,7 @@ use Rattle.r4_turns.specs.Turns.{IsScript, turn_at}
 use Rattle.r4_turns.specs.declared.out.Numbers.{Numbers}
 use Rattle.r4_turns.specs.declared.out.Out.{Out}
 use Rattle.r4_turns.specs.declared.turn.Turn.{Turn}
-use Rattle.r4_core.specs.View.{CoreSeen}
+use Rattle.r4_kept.specs.View.{CoreSeen}
 
 -- ---- pins
 

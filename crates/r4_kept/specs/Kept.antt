@@ -10,16 +10,16 @@ use Rattle.std.specs.Prelude.{◌≡◌, ℕ, List, Some}
 use Rattle.std.specs.Borrow.{GName}
 use Rattle.r4_durable.specs.Meaning.{Beginning, IsNamed}
 use Rattle.r4_outside.specs.Device.{State, TellsCrashes}
-use Rattle.r4_core.specs.Accounts.{AreAccounts}
-use Rattle.r4_core.specs.Cells.{AreCells}
-use Rattle.r4_core.specs.Durable.{IsDurable}
-use Rattle.r4_core.specs.History.{IsHistory}
-use Rattle.r4_core.specs.Meaning.{HasMeaning}
-use Rattle.r4_core.specs.Naming.{Naming, job_named, names_in}
-use Rattle.r4_core.specs.Story.{Story}
-use Rattle.r4_core.specs.Tables.{AreTables}
-use Rattle.r4_core.specs.TasksOut.{AreOut}
-use Rattle.r4_core.specs.View.{CoreSeen}
+use Rattle.r4_kept.specs.Accounts.{AreAccounts}
+use Rattle.r4_kept.specs.Cells.{AreCells}
+use Rattle.r4_kept.specs.Durable.{IsDurable}
+use Rattle.r4_kept.specs.History.{IsHistory}
+use Rattle.r4_kept.specs.Meaning.{HasMeaning}
+use Rattle.r4_kept.specs.Naming.{Naming, job_named, names_in}
+use Rattle.r4_kept.specs.Story.{Story}
+use Rattle.r4_kept.specs.Tables.{AreTables}
+use Rattle.r4_kept.specs.TasksOut.{AreOut}
+use Rattle.r4_kept.specs.View.{CoreSeen}
 
 -- what is known of a run that began with this
 pub record HasStory {D : Type 0} (r : Naming) (b : Beginning) (d : State) (c : CoreSeen D)

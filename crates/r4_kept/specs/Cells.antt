@@ -16,8 +16,8 @@ use Rattle.r4_turns.specs.declared.out.Out.{Out}
 use Rattle.r4_wander.specs.Parts.{part}
 use Rattle.r4_wander.specs.Progress.{FitOn, Progress, ReadsAs}
 use Rattle.r4_wander.specs.Torn.{IsTarget}
-use Rattle.r4_core.specs.View.{CoreSeen, blocks_of}
-use Rattle.r4_core.specs.declared.parts.Commit.{Commit}
+use Rattle.r4_kept.specs.View.{CoreSeen, blocks_of}
+use Rattle.r4_kept.specs.declared.parts.Commit.{Commit}
 
 -- ---- names
 

@@ -1,0 +1,4 @@
+pub mod Turning
+pub mod Unused
+pub mod Carried
+pub mod Resting

@@ -1,0 +1,12 @@
+pub mod View
+pub mod Naming
+pub mod History
+pub mod Tables
+pub mod Accounts
+pub mod Cells
+pub mod TasksOut
+pub mod Story
+pub mod Meaning
+pub mod Durable
+pub mod Kept
+pub mod Steps
