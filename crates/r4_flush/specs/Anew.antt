@@ -1,4 +1,5 @@
--- A cell under other names: what its block is when what it names gets other names (docs/durable.md, "From an open atom to its plan").
+-- A cell under other names: what its block is when what it names gets other names (docs/durable.md,
+-- "From an open atom to its plan").
 --     IsItemAnew    an item
 --     IsBlockAnew   a block
 --     IsCellAnew    a cell

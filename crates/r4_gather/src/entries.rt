@@ -7,7 +7,8 @@ ghost use Rattle.r4_content.specs.Meaning.{named};
 ghost use Rattle.r4_content.specs.declared.reply.Reply.{Reply as SeenReply};
 ghost use Rattle.r4_base.specs.declared.things.Oid.{Oid as SeenOid};
 ghost use Rattle.r4_dir.specs.Coming.{AreNames, IsSmall, object_of, place_of};
-ghost use Rattle.r4_gather.specs.Asking.{HasAsked, HasAskedFree, HasEndedEntry, HasEndedParent, IsAtEntry, IsAtParent, StaysOver};
+ghost use Rattle.r4_gather.specs.Asking.{HasAsked, HasAskedFree, HasEndedEntry, HasEndedParent, IsAtEntry};
+ghost use Rattle.r4_gather.specs.Asking.{IsAtParent, StaysOver};
 ghost use Rattle.r4_gather.specs.Asking.{IsCause, IsLater, IsStoppedEntry, IsStoppedParent, StopsFree, StopsIn};
 ghost use Rattle.r4_gather.specs.Finding.{place_seen};
 

@@ -6,7 +6,8 @@ ghost use Rattle.r4_content.specs.Entries.{move, rename, replace};
 ghost use Rattle.r4_content.specs.Meaning.{named};
 ghost use Rattle.r4_content.specs.Objects.{Object as SeenObject};
 ghost use Rattle.r4_dir.specs.Coming.{AreNames, IsSmall, object_of};
-ghost use Rattle.r4_gather.specs.Asking.{HasAsked, HasEndedEnds, IsAtEnds, IsCause, IsLater, IsStoppedEnds, StaysOver, StopsIn};
+ghost use Rattle.r4_gather.specs.Asking.{HasAsked, HasEndedEnds, IsAtEnds, IsCause, IsLater, IsStoppedEnds};
+ghost use Rattle.r4_gather.specs.Asking.{StaysOver, StopsIn};
 ghost use Rattle.std.specs.Prelude.{ℕ, List};
 
 use crate::entries::{entries_of, see_entry, see_parent};

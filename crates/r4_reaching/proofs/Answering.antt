@@ -29,7 +29,7 @@ use Rattle.r4_reaching.specs.Answers.{AreReadKeys, IsFrom, IsReach, IsTouched, a
 use Rattle.r4_reaching.specs.Gathering.{IsPartMet}
 use Rattle.r4_reaching.specs.declared.reached.Reach.{Reach}
 use Rattle.r4_reaching.proofs.Found.{found_inside, leaves_listed}
-use Rattle.r4_reaching.proofs.Made.{chosen_rise, has, marks as all_marks, more_same, rise_same, root_asks, sees}
+use Rattle.r4_reaching.proofs.Made.{chosen_once, chosen_rise, has, marks as all_marks, more_same, rise_same, root_asks, sees}
 
 both_some : (root : Root) (o : Option Asking) → IsSome (option_map (λ a. root) o) ↔ IsSome (option_map ask_seen o)
 both_some root None = ((λ some. some), (λ some. some))
@@ -125,6 +125,8 @@ module _ (p : PoolState) (root : Root) (c : Command) (seen : Seen) (known questi
     met_order = its_met.order;
     reads_order = chosen_rise r.met r.reads made_marks.read.order its_met.order;
     writes_order = chosen_rise r.met r.writes made_marks.written.order its_met.order;
+    reads_once = chosen_once r.met r.reads made_marks.read.order its_met.all.names;
+    writes_once = chosen_once r.met r.writes made_marks.written.order its_met.all.names;
   }
     where
       or_second : (a b : Bool) → b ≡ true → (a || b) ≡ true

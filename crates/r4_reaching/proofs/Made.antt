@@ -1,7 +1,7 @@
 -- From the cells that were met and the marks to a reach.
 use Rattle.std.proofs.Common.{◌≡◌, ◌⊎◌, inl, inr, ℕ, ◌+◌, ◌<◌, ◌≤◌, Bool, true, false, List, [], ◌∷◌}
 use Rattle.std.proofs.Common.{refl, sym, ap, subst, ◌∙◌, arith}
-use Rattle.std.specs.Prelude.{◌↔◌, ◌||◌, ◌&&◌, ◌==◌, nat_le, AllPairs, Contains, IsSome, Option, Some, None, slice_index_or, sum_by}
+use Rattle.std.specs.Prelude.{◌↔◌, ◌≢◌, ◌||◌, ◌&&◌, ◌==◌, nat_le, not, AllPairs, Contains, IsSome, Option, Some, None, slice_index_or, sum_by}
 use Rattle.std.proofs.lemmas.Bool.{eqb-true}
 use Rattle.std.proofs.lemmas.Bool.Decides.{nat_tests}
 use Rattle.std.proofs.lemmas.List.Elements.{All-contains, All-weaker}
@@ -10,7 +10,7 @@ use Rattle.std.proofs.lemmas.Option.{same_Some}
 use Rattle.r4_base.specs.Key.{least, top}
 use Rattle.r4_base.specs.Tree.{Node, Root as TreeRoot, Store}
 use Rattle.r4_base.specs.Value.{Value}
-use Rattle.r4_cell.specs.Patch.{by_name, root_of_pair}
+use Rattle.r4_cell.specs.Patch.{HaveNames, by_name, root_of_pair}
 use Rattle.r4_cell.specs.Seen.{CellSeen, node_of}
 use Rattle.r4_cell.specs.declared.change.Root.{Root}
 use Rattle.r4_content.specs.Edited.{Edits, Intervals, Pairs, changed, is_in}
@@ -71,6 +71,23 @@ chosen_rise cells chosen keeps order i j d le within = elim (compare i j) [
     pairs : AllPairs (λ (c e : CellSeen). in_place c e ≡ true) chosen
     pairs = keeps in_place (λ a b x less in_cells. leb (place (slice_index_or cells a x))
         (place (slice_index_or cells b x)) (order a b x (omega (arith, less)) in_cells))
+
+pub chosen_once : (cells chosen : List CellSeen) → KeepsOrder cells chosen → HaveNames cells → HaveNames chosen
+chosen_once cells chosen keeps once i j d less within =
+    differ_of (slice_index_or chosen i d).id (slice_index_or chosen j d).id (pairs i j d less within)
+  where
+    differ : CellSeen → CellSeen → Bool
+    differ c e = not (c.id == e.id)
+
+    differ_by : (m n : ℕ) → m ≢ n → not (m == n) ≡ true
+    differ_by m n h = grind (arith, nat_tests, h)
+
+    differ_of : (m n : ℕ) → not (m == n) ≡ true → m ≢ n
+    differ_of m n h = λ same. absurd (grind (arith, nat_tests, h, same))
+
+    pairs : AllPairs (λ (c e : CellSeen). differ c e ≡ true) chosen
+    pairs = keeps differ (λ a b x before in_cells. differ_by (slice_index_or cells a x).id (slice_index_or cells b x).id
+        (once a b x before in_cells))
 
 -- ---- what is asked for in all
 

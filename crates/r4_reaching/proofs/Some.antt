@@ -28,4 +28,4 @@ pub held_some : (p : PoolState) (keys : ℕ → Bool) (b : Bool) → keys least 
     → IsOneMet p
 held_some p keys true on below held =
     let l = held least on (omega arith) below in (l.leaf.id, l.leaf, l.met)
-held_some p keys false on below (k, at, in_extent) = (in_extent.twig.id, in_extent.twig, in_extent.met)
+held_some p keys false on below (k, low, high, at, in_extent) = (in_extent.twig.id, in_extent.twig, in_extent.met)

@@ -91,10 +91,10 @@ module _ (p : PoolState) (root : Root) (c : Command) (s : Seen) (known questions
   touched held some = record { planned = h; held = held_keys held; some = some }
 
   pub in_extent : AreHeld p (is_in (map interval_of keys)) false → TouchesExtent p c
-  in_extent (k, on, inside) = record {
+  in_extent (k, low, high, on, inside) = record {
     seen = pairs_of s;
     saw = seen_in p root c s known questions h.all_seen;
-    extent = inr (k, (λ low high. sym (same_keys k low high) ∙ on), inside);
+    extent = inr (k, low, high, sym (same_keys k low high) ∙ on, inside);
   }
 
   pub stops_touching : (q : PoolState) (f : FetchFault) → StopsFor (is_in (map interval_of keys)) p f q

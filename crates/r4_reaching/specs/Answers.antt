@@ -10,7 +10,7 @@ use Rattle.r4_base.specs.Key.{least, top}
 use Rattle.r4_base.specs.Tree.{Store}
 use Rattle.r4_base.specs.Value.{Value}
 use Rattle.r4_bodies.specs.Told.{AreOfTree, intervals_of}
-use Rattle.r4_cell.specs.Patch.{by_name, root_of_pair}
+use Rattle.r4_cell.specs.Patch.{HaveNames, by_name, root_of_pair}
 use Rattle.r4_cell.specs.Seen.{CellSeen}
 use Rattle.r4_cell.specs.declared.change.Root.{Root}
 use Rattle.r4_content.specs.Course.{asked}
@@ -117,8 +117,8 @@ pub record IsSamePool (d e : State) (p q : PoolState) (root : Root) (met : List 
 -- ---- the answers
 
 -- The cells that were met are a part of a tree with all that the command touches; those that it reads and writes, what
--- was seen, and how many new cells come at most. All are in order, and each is a cell by itself. The keys that change
--- lie in leaves, and so does the body afterwards.
+-- was seen, and how many new cells come at most. All are in order, each once, and each is a cell by itself. The keys
+-- that change lie in leaves, and so does the body afterwards.
 pub record IsReach (p : PoolState) (root : Root) (c : Command) (r : Reach) : Type 0 where
   pub answer : IsReachOf root c r.met r.reads r.writes r.root
   pub seen : answer.seen ≡ pairs_of r.seen
@@ -133,6 +133,8 @@ pub record IsReach (p : PoolState) (root : Root) (c : Command) (r : Reach) : Typ
   pub met_order : AreInOrder r.met
   pub reads_order : AreInOrder r.reads
   pub writes_order : AreInOrder r.writes
+  pub reads_once : HaveNames r.reads
+  pub writes_once : HaveNames r.writes
 
 -- It is made of these cells and marks.
 pub record IsFrom (root : Root) (seen : Seen) (met : List CellSeen) (m : Marks) (r : Reach) : Type 0
@@ -144,13 +146,12 @@ pub record IsFrom (root : Root) (seen : Seen) (met : List CellSeen) (m : Marks) 
     pub seen_is : r.seen ≡ seen
     pub most : r.most ≡ length m.writes.items + m.more + rise_of (option_map ask_seen m.rises)
 
--- On what was seen the body stands in extents afterwards, or a key that has to lie in a leaf, as far as it is one that
--- an item may have, lies in an extent.
+-- On what was seen the body stands in extents afterwards, or a key that has to lie in a leaf lies in an extent.
 pub record TouchesExtent (p : PoolState) (c : Command) : Type 0 where
   pub seen : Pairs
   pub saw : IsSeenIn p c seen
   pub extent : (IsInLeaves (body_on c seen false) → ⊥)
-      ⊎ ((k : ℕ) × (least ≤ k → k < top → has_to_lie c seen k ≡ true) × IsInExtent p k)
+      ⊎ ((k : ℕ) × (least ≤ k) × (k < top) × (has_to_lie c seen k ≡ true) × IsInExtent p k)
 
 -- ---- why there is none
 

@@ -6,6 +6,7 @@ ghost use Rattle.r4_base.specs.Key.{least, top};
 ghost use Rattle.r4_bodies.specs.Told.{intervals_of};
 ghost use Rattle.r4_content.specs.Edited.{Intervals, changed, is_in};
 ghost use Rattle.r4_content.specs.Fields.{HasBytePaths};
+ghost use Rattle.r4_content.specs.declared.command.Command.{Command as CommandSeen};
 ghost use Rattle.r4_content.specs.Held.{edits_of, interval_of};
 ghost use Rattle.r4_gather.specs.Asking.{StaysOver};
 ghost use Rattle.r4_gather.specs.Finding.{asked_keys};
@@ -43,9 +44,10 @@ use std::alloc::Global;
 /// writes is not told here.
 ///
 /// What the command asks for is seen first, in its order; then the cells are met that hold the keys which it changes,
-/// and the cells on the way to the least key where no other one was met. No cell is read twice, and no byte of a body is
-/// looked at that it does not ask for. `Read` and `Damaged` name the block with which that ended; `Damaged` comes also
-/// for the first cell that was met and that another one names with another level or range (docs/volume.md, "Reach").
+/// and the cells on the way to the least key where no other one was met. No cell is read twice, and no byte of a body
+/// is looked at that it does not ask for. `Read` and `Damaged` name the block with which that ended; `Damaged` comes
+/// also for the first cell that was met and that another one names with another level or range (docs/volume.md,
+/// "Reach").
 pub fn reach_in_leaves<P: Pool>(
     alloc: Global,
     pool: P,
@@ -154,7 +156,7 @@ fn reach_of_edits<P: Pool>(
     let keys = keys_to_touch(alloc, edits, read)?;
     meet_some(alloc, pool, root)?;
     if touch(alloc, pool, root, &keys)? {
-        let reach = reach_of_met(alloc, pool, root, command, seen, asked, edits, read)?;
+        let reach = reach_of_met(alloc, pool, root, seen, asked, edits, read)?;
         return Ok(Some(reach));
     }
     Ok(None)
@@ -165,22 +167,22 @@ fn reach_of_met<P: Pool>(
     alloc: Global,
     pool: &Keeping<P>,
     root: &Root,
-    command: &Command,
     seen: Seen,
     asked: &[Asked],
     edits: &Edits,
     read: Option<Interval>,
 ) -> Result<Reach, FetchFault>
-    requires { (known : Intervals) × IsTouched (keeping_state (P.state pool.now.pool)
-        pool.now.all pool.now.met.entries) root.now command.now seen known
-        (map asked_keys asked.now) edits.now read }
-    ensures { MatchResult result
-        (IsReach (keeping_state (P.state pool.now.pool) pool.now.all pool.now.met.entries)
-        root.now command.now)
-        (StopsJudging (keeping_state (P.state pool.now.pool) pool.now.all
-        pool.now.met.entries)) }
+    requires { (command : CommandSeen) × (known : Intervals)
+        × IsTouched (keeping_state (P.state pool.now.pool) pool.now.all pool.now.met.entries)
+        root.now command seen known (map asked_keys asked.now) edits.now read }
+    ensures ok { IfOk result (λ reach. (command : CommandSeen) (known : Intervals)
+        → IsTouched (keeping_state (P.state pool.now.pool) pool.now.all pool.now.met.entries)
+        root.now command seen known (map asked_keys asked.now) edits.now read
+        → IsReach (keeping_state (P.state pool.now.pool) pool.now.all pool.now.met.entries)
+        root.now command reach) }
+    ensures err { IfErr result (StopsJudging (keeping_state (P.state pool.now.pool)
+        pool.now.all pool.now.met.entries)) }
 {
-    let _ = command;
     let met = part_met(alloc, root, pool)?;
     let mut reads = keys_asked(alloc, asked)?;
     add_read(&mut reads, read)?;

@@ -37,10 +37,18 @@ touches_one root key old new keeps low high g way =
     itself : (k : ℕ) → is_between k (k + 1) k ≡ true
     itself k = grind (arith, nat_tests)
 
-pub stops_one : (key : ℕ) (old new : PoolState) (e : FetchFault) → Goes old new → StopsAt key old e new
-    → StopsFor (is_between key (key + 1)) old e new
-stops_one key old new e g s = record
-    { key = key; is = itself key; mid = old; before = goes_same old; stops = s; after = g }
+pub stops_one : (key : ℕ) (old new : PoolState) (e : FetchFault) → least ≤ key → key < top → Goes old new
+    → StopsAt key old e new → StopsFor (is_between key (key + 1)) old e new
+stops_one key old new e low high g s = record {
+  key = key;
+  low = low;
+  high = high;
+  is = itself key;
+  mid = old;
+  before = goes_same old;
+  stops = s;
+  after = g;
+}
   where
     itself : (k : ℕ) → is_between k (k + 1) k ≡ true
     itself k = grind (arith, nat_tests)
@@ -78,6 +86,8 @@ pub stops_wider : (keys more : ℕ → Bool) (old mid new : PoolState) (e : Fetc
     → ((k : ℕ) → keys k ≡ true → more k ≡ true) → Goes old mid → StopsFor keys mid e new → StopsFor more old e new
 stops_wider keys more old mid new e all g s = record {
   key = s.key;
+  low = s.low;
+  high = s.high;
   is = all s.key s.is;
   mid = s.mid;
   before = goes_both old mid s.mid g s.before;
@@ -188,7 +198,7 @@ in_first_or_rest first rest keys from to are low high k is up down =
 pub held_first : (p : PoolState) (keys more : ℕ → Bool) (b : Bool) → b ≡ false
     → ((k : ℕ) → keys k ≡ true → more k ≡ true) → AreHeld p keys b → AreHeld p more b
 held_first p keys more true not_so all h = absurd cc
-held_first p keys more false no_leaf all (k, is, at) = (k, all k is, at)
+held_first p keys more false no_leaf all (k, low, high, is, at) = (k, low, high, all k is, at)
 
 pub held_rest : (mid new : PoolState) (first rest keys : ℕ → Bool) (a b : Bool) → a ≡ true → Goes mid new
     → ((k : ℕ) → keys k ≡ true → least ≤ k → k < top → (first k ≡ true) ⊎ (rest k ≡ true))
@@ -199,4 +209,5 @@ held_rest mid new first rest keys true true is g either all h1 h2 = λ k at low 
   | inl here ↦ in_leaf_still mid new k g (h1 k here low high)
   | inr there ↦ h2 k there low high
 ]
-held_rest mid new first rest keys true false is g either all h1 (k, at, inside) = (k, all k at, inside)
+held_rest mid new first rest keys true false is g either all h1 (k, low, high, at, inside) =
+    (k, low, high, all k at, inside)

@@ -38,9 +38,9 @@ EndsLeaf p key (Some end) = (key < end) × ((k : ℕ) → key ≤ k → k < end 
 abbrev pub AreInLeaves : PoolState → (keys : ℕ → Bool) → Type 0
 AreInLeaves p keys = (k : ℕ) → keys k ≡ true → least ≤ k → k < top → IsInLeaf p k
 
--- One of them is in an extent.
+-- A key of a tree that is one of them is in an extent.
 abbrev pub IsOneInExtent : PoolState → (keys : ℕ → Bool) → Type 0
-IsOneInExtent p keys = (k : ℕ) × (keys k ≡ true) × IsInExtent p k
+IsOneInExtent p keys = (k : ℕ) × (least ≤ k) × (k < top) × (keys k ≡ true) × IsInExtent p k
 
 -- All of them are in leaves, or one is in an extent.
 abbrev pub AreHeld : PoolState → (keys : ℕ → Bool) → (in_leaves : Bool) → Type 0
@@ -52,10 +52,12 @@ abbrev pub MeetsFor : (keys : ℕ → Bool) → (old new : PoolState) → Type 0
 MeetsFor keys old new = (i : ℕ) (c : CellSeen) → new.met i ≡ Some c → old.met i ≡ None
     → (key : ℕ) × (keys key ≡ true) × (rank c.lo ≤ key) × (key < rank c.hi)
 
--- A way to one of the keys ended early.
+-- A way to one of the keys ended early, which is a key of a tree.
 pub record StopsFor (keys : ℕ → Bool) (old : PoolState) (e : FetchFault) (new : PoolState)
     : Type 0 where
   pub key : ℕ
+  pub low : least ≤ key
+  pub high : key < top
   pub is : keys key ≡ true
   pub mid : PoolState
   pub before : Goes old mid

@@ -83,11 +83,41 @@ reach_of_met-requires g c =
     ∙ c.in_ok-keys.ensures x low high) in
     let then = planned_still q r root (is_in (map interval_of keys)) command seen known asked edits read
     c.touch.ensures.touches first in (
+      command,
       known,
       touched r root command seen known asked edits read then keys are
           (subst (λ (b : Bool). AreHeld r (is_in (map interval_of keys)) b) c.if-branch.true c.in_ok-touch.ensures.held)
           (one_stays q r c.touch.ensures.touches.goes c.in_ok-meet_some.ensures.some),
     )
+
+pub returns-then-branch-clause-reach : goal.returns-then-branch-clause-reach
+returns-then-branch-clause-reach g c =
+    let root = c.args.root.now in
+    let command = c.args.command.now in
+    let seen = c.args.seen in
+    let asked = map asked_keys c.args.asked.now in
+    let edits = c.args.edits.now in
+    let read = c.args.read in
+    let k = c.args.pool.now in
+    let m = c.meet_some.new.pool in
+    let n = c.touch.new.pool in
+    let p = keeping_state (g.P.Pool.state k.pool) k.all k.met.entries in
+    let q = keeping_state (g.P.Pool.state m.pool) m.all m.met.entries in
+    let r = keeping_state (g.P.Pool.state n.pool) n.all n.met.entries in
+    let keys = c.deref.result.now in
+    let (known, planned) = c.requires in
+    let first = planned_still p q root (is_in ((least, least + 1) ∷ [])) command seen known asked edits read
+    c.meet_some.ensures.touches planned in
+    let are : (x : ℕ) → least ≤ x → x < top → is_in (map interval_of keys) x
+    ≡ (is_in (intervals_of read) x || is_in (changed (edits_of edits)) x) =
+    (λ x low high. ap (λ (xs : List Interval). is_in (map interval_of xs) x) c.deref.ensures.value
+    ∙ c.in_ok-keys.ensures x low high) in
+    let then = planned_still q r root (is_in (map interval_of keys)) command seen known asked edits read
+    c.touch.ensures.touches first in
+    c.in_ok-reach.ensures.ok command known
+    (touched r root command seen known asked edits read then keys are
+    (subst (λ (b : Bool). AreHeld r (is_in (map interval_of keys)) b) c.if-branch.true c.in_ok-touch.ensures.held)
+    (one_stays q r c.touch.ensures.touches.goes c.in_ok-meet_some.ensures.some))
 
 pub returns-in_err-reach-clause-stays : goal.returns-in_err-reach-clause-stays
 returns-in_err-reach-clause-stays g c =

@@ -16,9 +16,8 @@ use Rattle.r4_search.specs.Keeping.{keeping_state}
 use Rattle.r4_reaching.proofs.Answering.{is_reach}
 use Rattle.r4_reaching.proofs.reaching.reach_of_met.Goals as goal
 
-pub returns : goal.returns
-returns g c =
-    let (known, touched) = c.requires in
+pub returns-clause-ok : goal.returns-clause-ok
+returns-clause-ok g c = λ command known touched.
     let k = c.args.pool.now in
     let met = map (λ x. arc_value x) c.in_ok-met.met.items in
     let m = c.in_ok-marks.marks in
@@ -37,6 +36,6 @@ returns g c =
     let more = c.in_ok-marks.ensures.more
     ∙ (λ i. more_in (leaf_demand (edits_of (c.new.ensures.edits i)) held) (by_name (same_met i))
     (map (λ x. arc_value x) m.writes.items)) in
-    is_reach (keeping_state (g.P.Pool.state k.pool) k.all k.met.entries) c.args.root.now c.args.command.now
+    is_reach (keeping_state (g.P.Pool.state k.pool) k.all k.met.entries) c.args.root.now command
     c.args.seen known (map asked_keys c.args.asked.now) c.args.edits.now c.args.read touched met c.in_ok-met.ensures
     held reads m marked more c.in_ok-reach_from.field-0 c.in_ok-reach_from.ensures

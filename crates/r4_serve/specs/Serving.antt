@@ -1,0 +1,110 @@
+-- What becomes of a command before its work (docs/core.md, "Asking").
+use Rattle.std.specs.Prelude.{◌≡◌, ◌⊎◌, ℕ, ◌<◌, ◌≤◌, List, Contains, IsSome, true}
+use Rattle.r4_atoms.specs.Atoms.{AtomsSeen, is_sealed, owner_of}
+use Rattle.r4_base.specs.declared.limits.TheConstants.{MOST_LEVELS}
+use Rattle.r4_buffer.specs.Reading.{IsReadable, captured_in, reading_places}
+use Rattle.r4_buffer.specs.Seen.{BufferSeen}
+use Rattle.r4_cell.specs.declared.change.Root.{Root}
+use Rattle.r4_content.specs.declared.command.Command.{Command}
+use Rattle.r4_content.specs.declared.reply.Reply.{Reply}
+use Rattle.r4_content.specs.declared.reply.Reply.TheVariants.{Damaged, Readfault}
+use Rattle.r4_history.specs.Held.{Need, names_of}
+use Rattle.r4_history.specs.Serving.{IsInTheWay}
+use Rattle.r4_history.specs.declared.why.Why.{Why}
+use Rattle.r4_history.specs.declared.why.Why.TheVariants as why
+use Rattle.r4_locks.specs.Locks.{LocksSeen}
+use Rattle.r4_outside.specs.Device.{State}
+use Rattle.r4_reaching.specs.Answers.{IsReach, IsSamePool, StopsReach, TouchesExtent}
+use Rattle.r4_reaching.specs.declared.reached.Reach.{Reach}
+use Rattle.r4_search.specs.Keeping.{Shared, keeping_state}
+use Rattle.r4_search.specs.OnDevice.{device_state}
+use Rattle.r4_search.specs.Path.{root_name}
+use Rattle.r4_search.specs.Pool.{PoolState}
+use Rattle.r4_search.specs.declared.pool.FetchFault.{FetchFault}
+use Rattle.r4_search.specs.declared.pool.FetchFault.TheVariants as fetching
+use Rattle.r4_serve.specs.declared.asked.Asked.{Asked}
+use Rattle.r4_serve.specs.declared.asked.Asked.TheVariants as asked
+
+-- the parts that decide it
+pub record PartsSeen : Type 0 where
+  pub buffer : BufferSeen
+  pub locks : LocksSeen
+  pub atoms : AtomsSeen
+  pub root : Root
+  pub blocks : ℕ
+
+-- ---- what is read
+
+-- The volume lies on the device; the cells in memory can be read from; and the root is one of them or has a block.
+pub record CanAsk (d : State) (p : PartsSeen) : Type 0 where
+  pub within : p.blocks ≤ d.blocks
+  pub readable : IsReadable d p.buffer p.blocks
+  pub height : 2 ≤ p.root.height
+  pub stands : IsSome (captured_in p.buffer p.root.id.0) ⊎ (p.root.id.0 < p.blocks)
+
+-- the pool over the cells in memory and the device, before anything of it was kept
+abbrev pub read_over : PartsSeen → State → PoolState
+read_over p d = device_state (reading_places (root_name p.root) p.buffer p.blocks) d
+
+-- and once these cells were
+abbrev pub met_over : PartsSeen → State → List (ℕ × Shared) → PoolState
+met_over p d met = keeping_state (read_over p d) true met
+
+-- ---- what it needs
+
+-- the nodes of the cells of a reach
+abbrev pub NeedsCells : Reach → Need → Type 0
+NeedsCells r need = need ≡ record { reads = names_of r.reads; writes = names_of r.writes }
+
+abbrev pub need_in : Reach → Need
+need_in r = record { reads = names_of r.reads; writes = names_of r.writes }
+
+-- the atom is sealed, and owns one of the nodes
+pub record IsSealedOwnerOf (s : AtomsSeen) (nodes : List ℕ) (a : ℕ) : Type 0 where
+  pub node : ℕ
+  pub among : Contains nodes node
+  pub owner : owner_of s node ≡ Some a
+  pub sealed : is_sealed s a ≡ true
+
+-- no sealed atom owns one of the nodes
+abbrev pub NoneSealed : AtomsSeen → (nodes : List ℕ) → Type 0
+NoneSealed s nodes = (a : ℕ) → IsSealedOwnerOf s nodes a → ⊥
+
+-- ---- what becomes of it
+
+-- the reply where what it reads ended at a block
+abbrev pub IsReplyTo : FetchFault → Reply → Type 0
+IsReplyTo (fetching.Read block faults) reply = reply ≡ Readfault block faults
+IsReplyTo (fetching.Damaged block fault) reply = reply ≡ Damaged block
+IsReplyTo fetching.Memory reply = ⊥
+
+-- no sealed atom and no hold stands in the way
+abbrev pub IsClear : PartsSeen → Reach → Type 0
+IsClear p r = (w : Why) → IsInTheWay p.atoms p.locks (need_in r) w → ⊥
+
+-- the root asks, and the tree cannot grow
+abbrev pub IsTall : PartsSeen → Reach → Type 0
+IsTall p r = IsSome r.root × (MOST_LEVELS ≤ p.root.height)
+
+-- What becomes of a command with this reach, the first of these: a sealed atom or a hold stands in the way; the tree
+-- would have to grow; else it is ready.
+abbrev pub IsDecided : PartsSeen → Reach → Asked → Type 0
+IsDecided p r (asked.Refused reply) = ⊥
+IsDecided p r asked.InExtents = ⊥
+IsDecided p r (asked.Sealed atom) = IsInTheWay p.atoms p.locks (need_in r) (why.Sealed atom)
+IsDecided p r (asked.Busy node holder) = IsInTheWay p.atoms p.locks (need_in r) (why.Held node holder)
+IsDecided p r (asked.Tall height) = IsClear p r × IsTall p r × (height ≡ p.root.height)
+IsDecided p r (asked.Ready ready) =
+    IsClear p r × (IsTall p r → ⊥) × (ready.reach ≡ r) × NeedsCells r ready.need
+
+-- Of what was met: where reading ended at a block the command is refused.
+abbrev pub IsAskedOf : PoolState → PartsSeen → Command → Asked → Type 0
+IsAskedOf q p c (asked.Refused reply) = (e : FetchFault) × StopsReach q c e × IsReplyTo e reply
+IsAskedOf q p c asked.InExtents = TouchesExtent q c
+IsAskedOf q p c a = (r : Reach) × IsReach q p.root c r × IsDecided p r a
+
+-- The cells that were met are those of the tree of all atoms, as the cells in memory and the device have it.
+pub record Asks (d e : State) (p : PartsSeen) (c : Command) (a : Asked) : Type 0 where
+  pub met : List (ℕ × Shared)
+  pub same : IsSamePool d e (read_over p d) (read_over p e) p.root met
+  pub is : IsAskedOf (met_over p e met) p c a

@@ -1,0 +1,81 @@
+//! What becomes of a command.
+
+ghost use Rattle.std.specs.Prelude.{◌≡◌, IfOk, MatchResult};
+ghost use Rattle.r4_content.specs.Fields.{HasBytePaths};
+ghost use Rattle.r4_search.specs.Pool.{LeavesDevice};
+ghost use Rattle.r4_search.specs.declared.pool.FetchFault.TheVariants.{Memory as NoMemory};
+ghost use Rattle.r4_serve.specs.Serving.{Asks, CanAsk, IsDecided, IsReplyTo};
+
+use crate::asked::{Asked, Ready};
+use crate::need::{NodesNeeded, sealed_owner};
+use crate::parts::Parts;
+use r4_base::{MOST_LEVELS, Memory};
+use r4_buffer::Reading;
+
+use r4_content::{Command, Reply};
+use r4_outside::Device;
+use r4_reaching::{Reach, reach_in_leaves};
+use r4_search::FetchFault;
+use std::alloc::Global;
+
+/// What becomes of a command, the first of these that holds: it is refused, since what it reads ended at a block; it
+/// touches a body that stands in extents; it waits for a sealed atom that owns a cell of its reach; it waits for a task
+/// that holds one in a mode that conflicts; the tree would have to grow, and is as high as it may be; else it may be
+/// worked at. Its reach is that in the tree of all atoms, as the cells in memory and the device have it. The device is
+/// read, no block of it twice, and nothing else changes. The only error is want of memory (docs/core.md, "Asking").
+pub fn ask<D: Device>(
+    alloc: Global,
+    dev: &mut D,
+    parts: &Parts<'_>,
+    command: &Command,
+) -> Result<Asked, Memory>
+    requires can { CanAsk (D.state dev.old) parts.now }
+    requires paths { HasBytePaths command.now }
+    ensures device { LeavesDevice (D.state dev.old) (D.state dev.new) }
+    ensures asks { IfOk result (Asks (D.state dev.old) (D.state dev.new) parts.now command.now) }
+{
+    let pool = Reading::new(dev, parts.buffer, parts.root, parts.blocks);
+    let (pool, found) = reach_in_leaves(alloc, pool, &parts.root, command);
+    let _ = pool.into_device();
+    match found {
+        Ok(Some(reach)) => decide(alloc, parts, reach),
+        Ok(None) => Ok(Asked::InExtents),
+        Err(fault) => Ok(Asked::Refused {
+            reply: reply_to(fault)?,
+        }),
+    }
+}
+
+// The reply where what a command reads ended so; none where it was want of memory.
+fn reply_to(fault: FetchFault) -> Result<Reply, Memory>
+    ensures { MatchResult result (IsReplyTo fault) (λ e. fault ≡ NoMemory) }
+{
+    match fault {
+        FetchFault::Read { block, faults } => Ok(Reply::Readfault { block, faults }),
+        FetchFault::Damaged { block, fault: _ } => Ok(Reply::Damaged { block }),
+        FetchFault::Memory => Err(Memory),
+    }
+}
+
+// What becomes of a command with this reach.
+fn decide(alloc: Global, parts: &Parts<'_>, reach: Reach) -> Result<Asked, Memory>
+    ensures { IfOk result (IsDecided parts.now reach) }
+{
+    let need = NodesNeeded::of(alloc, &reach)?;
+    if let Some(atom) = sealed_owner(parts.atoms, need.reads()) {
+        return Ok(Asked::Sealed { atom });
+    }
+    if let Some(atom) = sealed_owner(parts.atoms, need.writes()) {
+        return Ok(Asked::Sealed { atom });
+    }
+    if let Some((node, holder)) = parts.locks.conflict(need.reads(), need.writes()) {
+        return Ok(Asked::Busy { node, holder });
+    }
+    let height = parts.root.height;
+    if reach.root.is_some() && height >= MOST_LEVELS {
+        return Ok(Asked::Tall { height });
+    }
+    Ok(Asked::Ready {
+        ready: Ready { reach, need },
+    })
+}

@@ -1,0 +1,12 @@
+//! What becomes of the next command of a script, before its work (docs/core.md, "Asking").
+#![tactic(auto)]
+
+mod asked;
+mod asking;
+mod need;
+mod parts;
+
+pub use asked::{Asked, Ready};
+pub use asking::ask;
+pub use need::NodesNeeded;
+pub use parts::Parts;
