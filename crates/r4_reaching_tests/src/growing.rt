@@ -1,4 +1,5 @@
-//! What commands reach that put more into a leaf than it has room for.
+//! What commands reach that put more into a leaf than it has room for. A cell that needs up to 1,024 bytes too many asks
+//! for two pointers: so a new cell comes in the place of each that is written, and two beside it at most.
 
 ghost use Rattle.std.specs.Prelude.{IfOk};
 ghost use Rattle.r4_content.specs.Fields.{HasBytePaths};
@@ -36,7 +37,7 @@ fn a_full_leaf_asks_for_its_parent(rt: HostRuntime) -> Result<(), Fail> {
     let alloc = rt.alloc();
     for levels in 0..3 {
         let mut tree = with_room(alloc, levels)?;
-        let wanted = writes(&[23, 22], 3, false);
+        let wanted = writes(&[23, 22], 4, false);
         expect(&rt, alloc, &mut tree, &create(alloc)?, &wanted, "create /b")?;
     }
     Ok(())
@@ -63,10 +64,10 @@ fn an_entry_in_the_place_of_another_asks_for_nothing(rt: HostRuntime) -> Result<
 fn full_twigs_ask_further_up(rt: HostRuntime) -> Result<(), Fail> {
     let alloc = rt.alloc();
     let mut tree = full(alloc, 1)?;
-    let wanted = writes(&[23, 24], 6, true);
+    let wanted = writes(&[23, 24], 7, true);
     expect(&rt, alloc, &mut tree, &create(alloc)?, &wanted, "create /b")?;
     let mut tree = full(alloc, 2)?;
-    let wanted = writes(&[23, 24, 25], 9, true);
+    let wanted = writes(&[23, 24, 25], 10, true);
     expect(&rt, alloc, &mut tree, &create(alloc)?, &wanted, "create /b")
 }
 
@@ -75,6 +76,6 @@ fn a_tall_tree_asks_up_to_its_root_pair(rt: HostRuntime) -> Result<(), Fail> {
     let alloc = rt.alloc();
     let mut tree = full(alloc, 7)?;
     assert_eq!(rt; tree.1.height, 8);
-    let wanted = writes(&[23, 24, 25, 26, 27, 28, 29, 30], 24, true);
+    let wanted = writes(&[23, 24, 25, 26, 27, 28, 29, 30], 25, true);
     expect(&rt, alloc, &mut tree, &create(alloc)?, &wanted, "create /b")
 }

@@ -25,6 +25,7 @@ pub struct Reached {
 }
 
 /// What a test wants to be reached.
+#[derive(Drop)]
 pub struct Wanted<'a> {
     pub reads: &'a [u64],
     pub writes: &'a [u64],

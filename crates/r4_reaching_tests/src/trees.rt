@@ -124,7 +124,7 @@ pub fn full(alloc: Global, levels: u8) -> Result<(MemoryDevice, Root), Fail> {
     for more in 0..levels {
         let mut items = Vec::new(alloc);
         items.push(pointer(alloc, least(), root.id.0)?)?;
-        add_others(alloc, &mut items, more, 87)?;
+        add_others(alloc, &mut items, more + 1, 87)?;
         root = Root {
             id: NodeId(24 + u64::from(more)),
             height: 2 + more,
