@@ -24,9 +24,9 @@ use std::sync::Arc;
 
 /// The parts of a leaf at a key: what is before it, and what is from its first unit there on.
 #[derive(Drop)]
-pub(crate) struct LeafParts {
-    pub(crate) left: Option<Arc<Cell>>,
-    pub(crate) right: Option<Arc<Cell>>,
+pub struct LeafParts {
+    pub left: Option<Arc<Cell>>,
+    pub right: Option<Arc<Cell>>,
 }
 
 /// Parts a leaf at a key of its range. There is a left part unless the key is the leaf's first, and a right one where a unit
