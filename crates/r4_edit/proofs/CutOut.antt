@@ -23,7 +23,7 @@ use Rattle.r4_edit.proofs.Gaps.{same_first}
 use Rattle.r4_path.proofs.Grown.{map_names, names_map}
 use Rattle.r4_patch.proofs.Members.{cases, here, later}
 
-exchange : {N P G C P' G' C' : Type 0} → N ↔ ((P × (G → ⊥)) ⊎ C) → P ↔ P' → G ↔ G' → C ↔ C' → N ↔ ((P' × (G' → ⊥)) ⊎ C')
+pub exchange : {N P G C P' G' C' : Type 0} → N ↔ ((P × (G → ⊥)) ⊎ C) → P ↔ P' → G ↔ G' → C ↔ C' → N ↔ ((P' × (G' → ⊥)) ⊎ C')
 exchange all p g c = (
   (λ n. elim (all.0 n) [
     | inl stays ↦ inl (p.0 stays.0, λ gone. stays.1 (g.1 gone))
@@ -35,10 +35,10 @@ exchange all p g c = (
   ])),
 )
 
-both : {A : Type 0} → (P : A → Type 0) (x y : A) → x ≡ y → P x ↔ P y
+pub both : {A : Type 0} → (P : A → Type 0) (x y : A) → x ≡ y → P x ↔ P y
 both P x y is = ((λ h. subst P is h), (λ h. subst P (sym is) h))
 
-nonempty : (lo hi : ℕ) (qs : List TwigPiece) → next_of hi qs ≡ lo → lo < hi → 1 ≤ length qs
+pub nonempty : (lo hi : ℕ) (qs : List TwigPiece) → next_of hi qs ≡ lo → lo < hi → 1 ≤ length qs
 nonempty lo hi [] first some = absurd (omega (arith, first, some))
 nonempty lo hi (q ∷ qs) first some = omega arith
 

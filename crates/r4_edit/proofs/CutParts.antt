@@ -114,15 +114,15 @@ place_more k l (p ∷ ps) le = elim (cases_lt (rank p.key) k) [
   | inr ge ↦ let a = place_none k p ps ge in omega (arith, a)
 ]
 
-end_below : (from k : ℕ) (ps : List TwigPiece) → from ≤ k → ((p : TwigPiece) → Contains ps p → piece_end p ≤ k) → end_of from ps ≤ k
+pub end_below : (from k : ℕ) (ps : List TwigPiece) → from ≤ k → ((p : TwigPiece) → Contains ps p → piece_end p ≤ k) → end_of from ps ≤ k
 end_below from k [] le each = le
 end_below from k (p ∷ ps) le each = end_below (piece_end p) k ps (each p (first_member p ps)) (λ q at. each q (later_member p ps q at))
 
-follow_higher : (from mid to : ℕ) (ps : List TwigPiece) → mid ≤ to → Follow from mid ps → Follow from to ps
+pub follow_higher : (from mid to : ℕ) (ps : List TwigPiece) → mid ≤ to → Follow from mid ps → Follow from to ps
 follow_higher from mid to [] le f = omega (arith, le, f)
 follow_higher from mid to (p ∷ ps) le f = (f.0, f.1, follow_higher (piece_end p) mid to ps le f.2)
 
-follow_from : (low from to : ℕ) (ps : List TwigPiece) → from ≤ next_of to ps → Follow low to ps → Follow from to ps
+pub follow_from : (low from to : ℕ) (ps : List TwigPiece) → from ≤ next_of to ps → Follow low to ps → Follow from to ps
 follow_from low from to [] le f = le
 follow_from low from to (p ∷ ps) le f = (le, f.1, f.2)
 

@@ -32,7 +32,7 @@ use Rattle.r4_path.proofs.Rising.{hi_is, lo_is}
 use Rattle.r4_edit.proofs.Spread.{extent_level}
 
 -- the first unit from a key on
-first_there : (k : ℕ) (us : List LeafUnit) (n : ℕ) → first_from k us ≡ Some n → (v : Value) × Contains us (n, v) × (k ≤ n)
+pub first_there : (k : ℕ) (us : List LeafUnit) (n : ℕ) → first_from k us ≡ Some n → (v : Value) × Contains us (n, v) × (k ≤ n)
 first_there k [] n is = absurd cc
 first_there k (u ∷ us) n is = elim (cases_lt u.0 k) [
   | inl lt ↦
@@ -45,7 +45,7 @@ first_there k (u ∷ us) n is = elim (cases_lt u.0 k) [
       (u.1, subst (λ (j : ℕ). Contains (u ∷ us) (j, u.1)) same (first_member u us), subst (λ (j : ℕ). k ≤ j) same le)
 ]
 
-some_is_none : {X : Type 0} → (x : X) → Some x ≡ None → ⊥
+pub some_is_none : {X : Type 0} → (x : X) → Some x ≡ None → ⊥
 some_is_none x e = absurd cc
 
 -- a leaf that may stand is a node by itself

@@ -80,7 +80,7 @@ abbrev pub MayStandBehind : Item → CellSeen → Option CellSeen → Type 0
 MayStandBehind it leaf None = item_end it ≤ rank leaf.hi
 MayStandBehind it leaf (Some c) = StandsBehind it leaf c
 
-item_some : (it : Item) → IsGivenExtent it → 1 ≤ length (item_pieces it)
+pub item_some : (it : Item) → IsGivenExtent it → 1 ≤ length (item_pieces it)
 item_some it given = by_pieces (item_pieces it) refl
   where
     by_pieces : (xs : List TwigPiece) → xs ≡ item_pieces it → 1 ≤ length xs
@@ -89,16 +89,16 @@ item_some it given = by_pieces (item_pieces it) refl
         absurd (omega (arith, e))
     by_pieces (x ∷ xs) same = omega arith
 
-pointer_follows : (it : Item) (leaf : CellSeen) (right : Option CellSeen) → MayStandBehind it leaf right → Follow (item_end it) (rank leaf.hi) (pointer_to right)
+pub pointer_follows : (it : Item) (leaf : CellSeen) (right : Option CellSeen) → MayStandBehind it leaf right → Follow (item_end it) (rank leaf.hi) (pointer_to right)
 pointer_follows it leaf None h = h
 pointer_follows it leaf (Some c) h = let high = h.high in (h.low, (h.whole_key, h.may_be_named), omega (arith, high))
 
-pointer_names : (it : Item) (leaf : CellSeen) (right : Option CellSeen) → MayStandBehind it leaf right → names_of (rank leaf.hi) (pointer_to right) ≡ map name_of (given_cells right)
+pub pointer_names : (it : Item) (leaf : CellSeen) (right : Option CellSeen) → MayStandBehind it leaf right → names_of (rank leaf.hi) (pointer_to right) ≡ map name_of (given_cells right)
 unfolding names_of
 pointer_names it leaf None h = refl
 pointer_names it leaf (Some c) h = (λ i. record { id = c.id; level = sym h.level_is i; lo = rank c.lo; hi = rank (sym h.to i) } ∷ [])
 
-pointer_bytes : (right : Option CellSeen) → twig_bytes (pointer_to right) ≤ 46
+pub pointer_bytes : (right : Option CellSeen) → twig_bytes (pointer_to right) ≤ 46
 unfolding bytes_behind
 pointer_bytes None = omega arith
 pointer_bytes (Some c) = omega arith

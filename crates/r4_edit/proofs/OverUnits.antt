@@ -27,7 +27,7 @@ use Rattle.r4_edit.proofs.OverLeaf.{behind}
 use Rattle.r4_edit.proofs.OverPath.{over_in, parted, ups}
 use Rattle.r4_edit.proofs.OverPieces.{MayStandBehind, comes, over_is, parts, place_of_leaf, rest, stays}
 
-pointer_none : (right : Option CellSeen) → units_of (pointer_to right) ≡ []
+pub pointer_none : (right : Option CellSeen) → units_of (pointer_to right) ≡ []
 unfolding units_of
 pointer_none None = refl
 pointer_none (Some c) = refl

@@ -77,8 +77,13 @@ fn pointer_at(pieces: &[TwigPiece], at: usize, end: usize, id: NodeId) -> Option
     })
 }
 
-/// A twig's pieces, parted at both keys.
-fn pieces_parted(alloc: Global, twig: &Cell, from: &Key, to: &Key) -> Result<Vec<TwigPiece>, Memory>
+/// A twig's pieces, parted at both keys, of which the first lies at a border of blocks (docs/volume.md, "Twigs").
+pub fn pieces_parted(
+    alloc: Global,
+    twig: &Cell,
+    from: &Key,
+    to: &Key,
+) -> Result<Vec<TwigPiece>, Memory>
     requires level { twig.now.level ≡ 2 }
     requires border { IsBorder (rank from.now) (twig_pieces twig.now) }
     ensures are { IfOk result (λ v. ArePiecesOf twig.now (twig_pieces twig.now)) }

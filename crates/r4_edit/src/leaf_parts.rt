@@ -24,9 +24,9 @@ use std::sync::Arc;
 
 /// The parts of a leaf at a key: what is before it, and what is from its first unit there on.
 #[derive(Drop)]
-pub(crate) struct LeafParts {
-    pub(crate) left: Option<Arc<Cell>>,
-    pub(crate) right: Option<Arc<Cell>>,
+pub struct LeafParts {
+    pub left: Option<Arc<Cell>>,
+    pub right: Option<Arc<Cell>>,
 }
 
 /// Parts a leaf at a key of its range. There is a left part unless the key is the leaf's first, and a right one where a unit
@@ -51,8 +51,8 @@ pub(crate) fn part_leaf(
     Ok(LeafParts { left, right })
 }
 
-/// The part of a leaf before a key of its range, unless that is its first.
-fn left_part(alloc: Global, leaf: &Cell, key: &Key) -> Result<Option<Arc<Cell>>, Memory>
+/// The part of a leaf before a key of its range, unless that is its first. It has the leaf's name (docs/volume.md, "Edits").
+pub fn left_part(alloc: Global, leaf: &Cell, key: &Key) -> Result<Option<Arc<Cell>>, Memory>
     requires level { leaf.now.level ≡ 1 }
     requires from { rank leaf.now.lo ≤ rank key.now }
     requires to { rank key.now < rank leaf.now.hi }
@@ -66,8 +66,9 @@ fn left_part(alloc: Global, leaf: &Cell, key: &Key) -> Result<Option<Arc<Cell>>,
     Ok(Some(cell))
 }
 
-/// The part of a leaf from its first unit at or behind a key of its range on, where there is one.
-fn right_part(
+/// The part of a leaf from its first unit at or behind a key of its range on, where there is one. It has the leaf's name where
+/// the key is the leaf's first, and else takes a fresh number (docs/volume.md, "Edits").
+pub fn right_part(
     alloc: Global,
     leaf: &Cell,
     key: &Key,

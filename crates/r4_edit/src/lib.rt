@@ -10,10 +10,13 @@ mod over;
 mod remaking;
 mod splitting;
 
+pub use cutting::pieces_parted;
 pub use editing::{cut, insert, leaves_without};
 pub use graft_laws::{
     an_extent_by_pieces, grafts_are_patches, keys_of_an_extent_are_among_extents,
     numbers_serve_below,
 };
+pub use leaf_parts::{LeafParts, left_part, right_part};
+pub use over::{add_pointer, cells_of};
 pub use remaking::change_leaf;
 pub use splitting::split;

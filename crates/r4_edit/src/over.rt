@@ -84,7 +84,7 @@ fn pieces_over(
 }
 
 /// Puts a pointer to the cell behind the pieces, if there is one.
-fn add_pointer(pieces: &mut Vec<TwigPiece>, to: &Option<Arc<Cell>>) -> Result<(), Memory>
+pub fn add_pointer(pieces: &mut Vec<TwigPiece>, to: &Option<Arc<Cell>>) -> Result<(), Memory>
     ensures { OnOk result (pieces.new.items ≡ pieces.old.items ++ pointer_to (option_map (λ c. arc_value c) to.now)) }
 {
     let Some(cell) = to else {
@@ -107,7 +107,7 @@ fn one(alloc: Global, cell: &Arc<Cell>) -> Result<Vec<Arc<Cell>>, Memory>
 }
 
 /// The parts of a leaf that there are.
-pub(crate) fn cells_of(alloc: Global, parts: LeafParts) -> Result<Vec<Arc<Cell>>, Memory>
+pub fn cells_of(alloc: Global, parts: LeafParts) -> Result<Vec<Arc<Cell>>, Memory>
     ensures { IfOk result (λ v. map (λ c. arc_value c) v.items
         ≡ given_cells (option_map (λ c. arc_value c) parts.left) ++ given_cells (option_map (λ c. arc_value c) parts.right)) }
 {
