@@ -6,6 +6,7 @@ use Rattle.std.specs.Option.{option_map}
 use Rattle.std.proofs.lemmas.List.{length-map}
 use Rattle.std.proofs.lemmas.Option.{none-some, same_Some}
 use Rattle.r4_base.specs.Key.{least, top}
+use Rattle.r4_build.specs.Building.{HaveLawfulKeys}
 use Rattle.r4_cell.specs.Patch.{by_name, root_of_pair}
 use Rattle.r4_cell.specs.Seen.{CellSeen}
 use Rattle.r4_cell.specs.declared.change.Root.{Root}
@@ -114,6 +115,7 @@ module _ (p : PoolState) (root : Root) (c : Command) (seen : Seen) (known questi
     seen = sym (ap pairs_of from.seen_is);
     in_leaves = refl;
     body = subst (λ (v : Seen). IsInLeaves (body_on c (pairs_of v) false)) (sym from.seen_is) h.planned.body;
+    keys = subst (λ (v : Seen). HaveLawfulKeys (edits_on c (pairs_of v))) (sym from.seen_is) h.planned.keys;
     lie = subst (λ (v : Seen). LieInLeaves (by_name r.met) (is_in (changed (edits_on c (pairs_of v)))))
         (sym from.seen_is) (λ k on low high. lie k (or_second (is_in (kind_reads (body_on c s false)) k)
         (is_in (changed (edits_on c s)) k) on) low high);

@@ -119,10 +119,10 @@ stays_joined d e f p q u root old new fresh met last a b z all is first then =
 
 abbrev pub IsAnswered : PoolState → Root → Command → Result (Option Reach) FetchFault → Type 0
 IsAnswered p root c r = MatchResult r (λ found. MatchOption found (TouchesExtent p c) (IsReach p root c))
-    (StopsReach p c)
+    (StopsReach p root c)
 
 pub stops_wider : (p : PoolState) (root : Root) (c : Command) (r : Result (Option Reach) FetchFault)
-    → MatchResult r (λ found. MatchOption found (TouchesExtent p c) (IsReach p root c)) (StopsWriting p c)
+    → MatchResult r (λ found. MatchOption found (TouchesExtent p c) (IsReach p root c)) (StopsWriting p root c)
     → IsAnswered p root c r
 stops_wider p root c (Ok found) h = h
 stops_wider p root c (Err e) h = inr h

@@ -8,7 +8,8 @@ use Rattle.r4_bodies.proofs.Premises.{command_bytes}
 use Rattle.r4_bodies.specs.Told.{AreOfTree, intervals_of}
 use Rattle.r4_cell.specs.declared.change.Root.{Root}
 use Rattle.r4_content.specs.Course.{asked}
-use Rattle.r4_content.specs.Edited.{Edits, Intervals, changed, is_in}
+use Rattle.r4_build.specs.Building.{HaveLawfulKeys}
+use Rattle.r4_content.specs.Edited.{Edits, Intervals, Pairs, changed, is_in}
 use Rattle.r4_content.specs.Fields.{HasBytePaths}
 use Rattle.r4_content.specs.Held.{edits_of, pairs_of}
 use Rattle.r4_content.specs.Meaning.{course, greatest_size}
@@ -24,9 +25,12 @@ use Rattle.r4_reach.specs.Leaves.{LieInLeaves}
 use Rattle.r4_reach.specs.Touched.{IsKindIn, body_on, changes_on, edits_on, kind_reads, reads_on}
 use Rattle.r4_search.specs.Keeping.{Shared, WereAnswered, keeping_state}
 use Rattle.r4_search.specs.Pool.{PoolState}
+use Rattle.r4_spared.specs.Spared.{AreObjectsSeen}
 use Rattle.r4_suited.specs.Suited.{AreLawfulSeen}
-use Rattle.r4_reaching.specs.Answers.{IsAllSeen, IsPlanned, TouchesExtent}
-use Rattle.r4_reaching.proofs.Found.{found_lawful}
+use Rattle.r4_seeing.specs.Looking.{met_cells}
+use Rattle.r4_reaching.specs.Answers.{HaveObjectNumbers, IsAllSeen, IsPlanned, TouchesExtent}
+use Rattle.r4_reaching.proofs.Found.{found_inside, found_lawful}
+use Rattle.r4_reaching.proofs.Objects.{objects_seen}
 use Rattle.r4_reaching.proofs.Touched.{seen_in}
 
 or_first : (a b : Bool) → a ≡ true → (a || b) ≡ true
@@ -36,6 +40,11 @@ or_first false b on = absurd cc
 or_next : (a b : Bool) → b ≡ true → (a || b) ≡ true
 or_next true b on = refl
 or_next false b on = on
+
+-- where the objects that were seen are good, a command changes keys of a tree
+abbrev pub ChangesLawfulKeys : Type 0
+ChangesLawfulKeys = (c : Command) (s : Pairs) → HasBytePaths c → AreLawfulSeen c s → AreObjectsSeen c s
+    → HaveLawfulKeys (edits_on c s)
 
 pub holds : (b : Bool) → not b ≡ false → b ≡ true
 holds true e = refl
@@ -63,13 +72,13 @@ module _ (below : PoolState) (all : Bool) (met : List (ℕ × Shared)) (answered
     extent = inl not;
   }
 
-  pub is_planned : (read : Option Interval) → IsInLeaves (body_on c (pairs_of s) false)
+  pub is_planned : ChangesLawfulKeys → HaveObjectNumbers (pairs_of s) → (read : Option Interval) → IsInLeaves (body_on c (pairs_of s) false)
       → reads_on c (pairs_of s) false ≡ asked (course greatest_size c) (of_seen (pairs_of s)) ++ intervals_of read
       → changes_on c (pairs_of s) false ≡ changed (edits_of e)
       → ((t : Store Value) → AreOfTree (pairs_of s) → LieInLeaves t (is_in (intervals_of read))
       → LieInLeaves t (is_in (changed (edits_of e))) → IsKindIn t (body_on c (pairs_of s) false))
       → IsPlanned (keeping_state below all met) root c s known questions e read
-  is_planned read leaves reads changes kind = record {
+  is_planned law numbers read leaves reads changes kind = record {
     all_seen = h;
     edits = is;
     body = leaves;
@@ -82,6 +91,9 @@ module _ (below : PoolState) (all : Bool) (met : List (ℕ × Shared)) (answered
         (λ k on low high. lie k (or_next (is_in (kind_reads (body_on c (pairs_of s) false)) k)
         (is_in (changed (edits_on c (pairs_of s))) k) (sym (ap (λ x. is_in (changed x) k) is) ∙ on)) low high);
     leaves = subst AreLeafEdits (sym is) (leaf_edits_of c (pairs_of s) false paths h.found.rises lawful leaves);
+    keys = law c (pairs_of s) paths lawful
+        (objects_seen c (pairs_of s) (found_inside (met_cells (keeping_state below all met)) known (pairs_of s) h.found)
+        numbers);
   }
     where
       same_read : intervals_of read ≡ kind_reads (body_on c (pairs_of s) false)

@@ -72,6 +72,7 @@ planned_still p q root keys c s known questions e read t h = record {
   read_is = h.read_is;
   kind = h.kind;
   leaves = h.leaves;
+  keys = h.keys;
 }
 
 module _ (p : PoolState) (root : Root) (c : Command) (s : Seen) (known questions : Intervals) (e : HeldEdits)

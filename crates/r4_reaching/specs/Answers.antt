@@ -1,14 +1,17 @@
 -- What is answered on what a command reads and writes, where all keys that it changes lie in leaves (docs/volume.md,
 -- "Reach"). A key is its rank.
 use Rattle.std.specs.Prelude.{◌≡◌, ◌⊎◌, ℕ, ◌<◌, ◌≤◌, ◌||◌, List, [], All, Bool, true, false, reverse}
-use Rattle.std.specs.Prelude.{◌+◌, Option, Some, length, map}
+use Rattle.std.specs.Prelude.{◌+◌, ◌^◌, Contains, Option, Some, length, map, slice_index}
 use Rattle.std.specs.Arc.{arc_value}
 use Rattle.std.specs.Option.{option_map}
 use Rattle.std.specs.FinMap.{find}
 use Rattle.std.specs.Ordering.{nat_cmp}
-use Rattle.r4_base.specs.Key.{least, top}
+use Rattle.r4_base.specs.Key.{key_of_rank, least, top}
 use Rattle.r4_base.specs.Tree.{Store}
-use Rattle.r4_base.specs.Value.{Value}
+use Rattle.r4_base.specs.Value.{Stat, Value}
+use Rattle.r4_base.specs.declared.items.Attr.{Attr}
+use Rattle.r4_base.specs.declared.items.CellFault.TheVariants.{Range}
+use Rattle.r4_build.specs.Building.{HaveLawfulKeys}
 use Rattle.r4_bodies.specs.Told.{AreOfTree, intervals_of}
 use Rattle.r4_cell.specs.Patch.{HaveNames, by_name, root_of_pair}
 use Rattle.r4_cell.specs.Seen.{CellSeen}
@@ -36,7 +39,7 @@ use Rattle.r4_search.specs.Keeping.{Shared, WereAnswered, keeping_state}
 use Rattle.r4_search.specs.Path.{root_name}
 use Rattle.r4_search.specs.Pool.{IsKnown, PoolState}
 use Rattle.r4_search.specs.declared.pool.FetchFault.{FetchFault}
-use Rattle.r4_search.specs.declared.pool.FetchFault.TheVariants.{Memory}
+use Rattle.r4_search.specs.declared.pool.FetchFault.TheVariants.{Damaged, Memory}
 use Rattle.r4_seeing.specs.Looking.{AreFound, AreHung, IsFoundAt, met_cells}
 use Rattle.r4_seeing.specs.Seeing.{IsStopped}
 use Rattle.r4_touching.specs.Touching.{AreInLeaves, IsInExtent, StopsFor}
@@ -59,6 +62,22 @@ pub record IsSeenIn (p : PoolState) (c : Command) (s : Pairs) : Type 0 where
   pub rises : Rises s
   pub found : (k : ℕ) → is_in (asked_by c s) k ≡ true → least ≤ k → k < top
       → IsFoundAt (met_cells p) k (find nat_cmp k s)
+
+-- the number of the object whose stat data have this key
+abbrev pub number_in : (key : ℕ) → ℕ
+number_in k = slice_index (key_of_rank k).el 2
+
+-- Each object whose attributes were seen has a number from 42 on, that of the root directory, and a size of 64 bits.
+abbrev pub HaveObjectNumbers : Pairs → Type 0
+HaveObjectNumbers s = (k : ℕ) (a : Attr) → Contains s (k, Stat a)
+    → (42 ≤ number_in k) × (a.size < 2 ^ 64)
+
+-- Attributes were seen of one that has a smaller number.
+pub record SeesLowObject (s : Pairs) : Type 0 where
+  pub key : ℕ
+  pub attr : Attr
+  pub among : Contains s (key, Stat attr)
+  pub low : number_in key < 42
 
 -- So it was over a pool that keeps all cells, by these questions.
 pub record IsAllSeen
@@ -89,6 +108,7 @@ pub record IsPlanned
     pub kind : (t : Store Value) → AreOfTree (pairs_of s) → LieInLeaves t (has_to_lie c (pairs_of s))
         → IsKindIn t (body_on c (pairs_of s) false)
     pub leaves : AreLeafEdits (edits_of e)
+  pub keys : HaveLawfulKeys (edits_on c (pairs_of s))
 
 -- And all keys that have to lie in leaves do so.
 pub record IsTouched
@@ -118,12 +138,13 @@ pub record IsSamePool (d e : State) (p q : PoolState) (root : Root) (met : List 
 
 -- The cells that were met are a part of a tree with all that the command touches; those that it reads and writes, what
 -- was seen, and how many new cells come at most. All are in order, each once, and each is a cell by itself. The keys
--- that change lie in leaves, and so does the body afterwards.
+-- that change are keys of a tree and lie in leaves, and so does the body afterwards.
 pub record IsReach (p : PoolState) (root : Root) (c : Command) (r : Reach) : Type 0 where
   pub answer : IsReachOf root c r.met r.reads r.writes r.root
   pub seen : answer.seen ≡ pairs_of r.seen
   pub in_leaves : answer.in_extents ≡ false
   pub body : IsInLeaves (body_on c (pairs_of r.seen) false)
+  pub keys : HaveLawfulKeys (edits_on c (pairs_of r.seen))
   pub lie : LieInLeaves (by_name r.met) (is_in (changed (edits_on c (pairs_of r.seen))))
   pub most : r.most ≡ most_of (demand_on c (pairs_of r.seen) false) (by_name r.met)
       (root_of_pair root) r.writes
@@ -168,8 +189,15 @@ pub record StopsOnWay (p : PoolState) (c : Command) (e : FetchFault) : Type 0 wh
 abbrev pub StopsJudging : PoolState → FetchFault → Type 0
 StopsJudging p e = (e ≡ Memory) ⊎ IsRefusedFor p e
 
-abbrev pub StopsWriting : PoolState → Command → FetchFault → Type 0
-StopsWriting p c e = StopsJudging p e ⊎ StopsOnWay p c e
+-- Or an object was seen with a number that none has, and the block of the root is damaged.
+pub record StopsAtObject (p : PoolState) (root : Root) (c : Command) (e : FetchFault) : Type 0 where
+  pub seen : Pairs
+  pub saw : IsSeenIn p c seen
+  pub object : SeesLowObject seen
+  pub fault : e ≡ Damaged (record { 0 = root.id.0 }) (Range 0)
+
+abbrev pub StopsWriting : PoolState → Root → Command → FetchFault → Type 0
+StopsWriting p root c e = StopsAtObject p root c e ⊎ (StopsJudging p e ⊎ StopsOnWay p c e)
 
 -- The questions of the command were asked, one after another, up to one of which a look-up ended.
 pub record StopsAsking (p : PoolState) (c : Command) (e : FetchFault) : Type 0 where
@@ -180,5 +208,5 @@ pub record StopsAsking (p : PoolState) (c : Command) (e : FetchFault) : Type 0 w
   pub so_far : EndsIn questions (reverse (asked_by c seen))
   pub stopped : (e ≡ Memory) ⊎ IsStopped p questions e
 
-abbrev pub StopsReach : PoolState → Command → FetchFault → Type 0
-StopsReach p c e = StopsAsking p c e ⊎ StopsWriting p c e
+abbrev pub StopsReach : PoolState → Root → Command → FetchFault → Type 0
+StopsReach p root c e = StopsAsking p c e ⊎ StopsWriting p root c e

@@ -4,6 +4,7 @@
 mod answer;
 mod gathering;
 mod laws;
+mod objects;
 mod parting;
 mod reached;
 mod reaching;

@@ -22,9 +22,10 @@ ghost use Rattle.r4_reaching.specs.Answers.{StopsJudging, StopsReach, StopsWriti
 ghost use Rattle.r4_reaching.specs.Gathering.{IsOneMet};
 
 use crate::answer::reach_from;
+use crate::objects::sees_low_object;
 use crate::parting::part_met;
 use crate::reached::Reach;
-use r4_base::Memory;
+use r4_base::{BlockNo, CellFault, Memory};
 use r4_bodies::told_by_body;
 use r4_cell::{Root, least};
 use r4_content::{Command, Edits, Interval, Seen};
@@ -35,6 +36,7 @@ use r4_marking::mark;
 use r4_search::{FetchFault, Keeping, Pool};
 use r4_seeing::Seeing;
 use r4_sight::key_after;
+use r4_spared::commands_change_lawful_keys;
 use r4_touching::{changed_keys, keys_asked, touch};
 use std::alloc::Global;
 
@@ -64,7 +66,7 @@ pub fn reach_in_leaves<P: Pool>(
         (λ found. MatchOption found
         (TouchesExtent (keeping_state (P.state result.0) true met) command.now)
         (IsReach (keeping_state (P.state result.0) true met) root.now command.now))
-        (StopsReach (keeping_state (P.state result.0) true met) command.now) }
+        (StopsReach (keeping_state (P.state result.0) true met) root.now command.now) }
 {
     let mut sight = Seeing::new(alloc, Keeping::all(alloc, pool), *root);
     let saw = see_for(alloc, &mut sight, command);
@@ -108,8 +110,15 @@ fn reach_of_seen<P: Pool>(
         (IsReach (keeping_state (P.state pool.new.pool) pool.new.all pool.new.met.entries)
         root.now command.now))
         (StopsWriting (keeping_state (P.state pool.new.pool) pool.new.all pool.new.met.entries)
-        command.now) }
+        root.now command.now) }
 {
+    if sees_low_object(seen.parts.as_slice()) {
+        return Err(FetchFault::Damaged {
+            block: BlockNo(root.id.0),
+            fault: CellFault::Range { item: 0 },
+        });
+    }
+    commands_change_lawful_keys();
     let edits = plan(alloc, command, &seen)?;
     let told = told_by_body(&edits, &seen);
     if !told.in_leaves {
@@ -151,7 +160,7 @@ fn reach_of_edits<P: Pool>(
         (IsReach (keeping_state (P.state pool.new.pool) pool.new.all pool.new.met.entries)
         root.now command.now))
         (StopsWriting (keeping_state (P.state pool.new.pool) pool.new.all pool.new.met.entries)
-        command.now) }
+        root.now command.now) }
 {
     let keys = keys_to_touch(alloc, edits, read)?;
     meet_some(alloc, pool, root)?;

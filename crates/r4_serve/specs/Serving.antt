@@ -99,7 +99,7 @@ IsDecided p r (asked.Ready ready) =
 
 -- Of what was met: where reading ended at a block the command is refused.
 abbrev pub IsAskedOf : PoolState → PartsSeen → Command → Asked → Type 0
-IsAskedOf q p c (asked.Refused reply) = (e : FetchFault) × StopsReach q c e × IsReplyTo e reply
+IsAskedOf q p c (asked.Refused reply) = (e : FetchFault) × StopsReach q p.root c e × IsReplyTo e reply
 IsAskedOf q p c asked.InExtents = TouchesExtent q c
 IsAskedOf q p c a = (r : Reach) × IsReach q p.root c r × IsDecided p r a
 

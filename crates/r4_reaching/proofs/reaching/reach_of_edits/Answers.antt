@@ -54,10 +54,10 @@ returns-in_err-touch-clause-reach g c =
     (λ x low high. ap (λ (xs : List Interval). is_in (map interval_of xs) x) c.deref.ensures.value
     ∙ c.in_ok-keys.ensures x low high) in
     handed_match (λ found. MatchOption found (TouchesExtent r command) (IsReach r root command))
-    (StopsWriting r command) c.from_residual-in_err-touch.result c.in_err-touch.field-0.0
+    (StopsWriting r root command) c.from_residual-in_err-touch.result c.in_err-touch.field-0.0
     c.from_residual-in_err-touch.ensures.1
-    (inr (stops_touching q root command seen known asked edits read first keys are r c.in_err-touch.field-0.0
-    c.in_err-touch.ensures.err))
+    (inr (inr (stops_touching q root command seen known asked edits read first keys are r c.in_err-touch.field-0.0
+    c.in_err-touch.ensures.err)))
 
 pub reach_of_met-requires : goal.reach_of_met-requires
 reach_of_met-requires g c =
