@@ -65,10 +65,7 @@ pub fn prepare(
     let names = read_names(alloc, answers.as_slice())?;
     let renamed = rename_cells(alloc, cells.as_slice(), &names)?;
     let root = NodeId(new_name(&names, next.root_block));
-    let next = Super40 {
-        root_block: root.0,
-        ..*next
-    };
+    let next = with_root(next, root);
     let plan = plan_renamed(
         alloc,
         atom,
@@ -84,6 +81,16 @@ pub fn prepare(
         plan,
         space,
     })
+}
+
+// The superblock to come, of which the root has this name.
+fn with_root(next: &Super40, root: NodeId) -> Super40
+    ensures { result ≡ record next.now { root_block = root.0 } }
+{
+    Super40 {
+        root_block: root.0,
+        ..*next
+    }
 }
 
 // The plan for the cells under the names of their blocks. The condition is that of `plan`, where each cell may be
