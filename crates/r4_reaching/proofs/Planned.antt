@@ -30,7 +30,7 @@ use Rattle.r4_suited.specs.Suited.{AreLawfulSeen}
 use Rattle.r4_seeing.specs.Looking.{met_cells}
 use Rattle.r4_reaching.specs.Answers.{HaveObjectNumbers, IsAllSeen, IsPlanned, TouchesExtent}
 use Rattle.r4_reaching.proofs.Found.{found_inside, found_lawful}
-use Rattle.r4_reaching.proofs.Objects.{objects_seen}
+use Rattle.r4_reaching.proofs.Numbers.{objects_seen}
 use Rattle.r4_reaching.proofs.Touched.{seen_in}
 
 or_first : (a b : Bool) → a ≡ true → (a || b) ≡ true

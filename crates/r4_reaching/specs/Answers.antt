@@ -108,7 +108,7 @@ pub record IsPlanned
     pub kind : (t : Store Value) → AreOfTree (pairs_of s) → LieInLeaves t (has_to_lie c (pairs_of s))
         → IsKindIn t (body_on c (pairs_of s) false)
     pub leaves : AreLeafEdits (edits_of e)
-  pub keys : HaveLawfulKeys (edits_on c (pairs_of s))
+    pub keys : HaveLawfulKeys (edits_on c (pairs_of s))
 
 -- And all keys that have to lie in leaves do so.
 pub record IsTouched

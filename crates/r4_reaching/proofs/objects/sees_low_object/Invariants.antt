@@ -5,4 +5,4 @@ use Rattle.r4_reaching.specs.Answers.{HaveObjectNumbers}
 use Rattle.r4_reaching.proofs.objects.sees_low_object.Given as goal
 
 abbrev pub invariant-loop-part : goal.invariant-loop-part
-invariant-loop-part l = HaveObjectNumbers (flat_map part_pairs (take l.part-index l.fn.seen.now))
+invariant-loop-part l = HaveObjectNumbers (flat_map part_pairs (take l.part-index l.fn.seen))

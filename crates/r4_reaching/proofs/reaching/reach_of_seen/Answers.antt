@@ -4,7 +4,7 @@ use Rattle.std.specs.List.{flat_map}
 use Rattle.r4_content.specs.Held.{pairs_of, part_pairs}
 use Rattle.r4_content.specs.declared.seen.SeenPart.{SeenPart}
 use Rattle.r4_reaching.specs.Answers.{HaveObjectNumbers, SeesLowObject}
-use Rattle.r4_reaching.proofs.Objects.{good_numbers, low_object, stops_at_object}
+use Rattle.r4_reaching.proofs.Numbers.{good_numbers, low_object, stops_at_object}
 use Rattle.r4_reaching.proofs.Touched.{seen_in}
 use Rattle.r4_gather.proofs.Staying.{stays_same}
 use Rattle.r4_gather.specs.Finding.{asked_keys}
