@@ -1,5 +1,5 @@
 -- The numbers of objects that were seen, and the keys that a command changes then.
-use Rattle.std.proofs.Common.{◌≡◌, ◌⊎◌, inl, inr, ⊎_elim, ℕ, ◌+◌, ◌*◌, ◌<◌, ◌≤◌, ◌^◌, zero, suc, List, [], ◌∷◌, ◌++◌}
+use Rattle.std.proofs.Common.{◌≡◌, inl, inr, ⊎_elim, ℕ, ◌+◌, ◌<◌, ◌≤◌, ◌^◌, zero, suc, List, [], ◌∷◌, ◌++◌}
 use Rattle.std.proofs.Common.{refl, sym, ap, subst, ◌∙◌, arith, Bool, true, false, get_or}
 use Rattle.std.proofs.lemmas.List.Elements.{All-cons, All-contains, All-nil, Contains-append_cases}
 use Rattle.std.proofs.lemmas.List.Elements.{Contains-append_left, Contains-append_right}
@@ -7,11 +7,9 @@ use Rattle.std.proofs.lemmas.Bool.Decides.{nat_tests}
 use Rattle.std.proofs.Math.Seq.{take-suc}
 use Rattle.std.proofs.lemmas.Grind.{flat_map-append}
 use Rattle.std.proofs.lemmas.List.{append-nil, take-append-drop, take_all}
-use Rattle.std.specs.Prelude.{Contains, MatchBool, Some, drop, flat_map, length, nat_lt, slice_index, take}
-use Rattle.std.specs.FinMap.{find}
-use Rattle.std.specs.Ordering.{nat_cmp}
+use Rattle.std.specs.Prelude.{Contains, MatchBool, drop, flat_map, length, nat_lt, slice_index, take}
 use Rattle.r4_base.proofs.FreshVolume.{same_attr}
-use Rattle.r4_base.specs.Key.{IsKey, key_of_rank, least, rank, stat_key, top}
+use Rattle.r4_base.specs.Key.{IsKey, rank, stat_key}
 use Rattle.r4_base.specs.Value.{Byte, Stat, Value}
 use Rattle.r4_base.specs.Volume.{IsObject, stat_rank}
 use Rattle.r4_base.specs.declared.items.Attr.{Attr}
