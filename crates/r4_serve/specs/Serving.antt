@@ -1,5 +1,5 @@
 -- What becomes of a command before its work (docs/core.md, "Asking").
-use Rattle.std.specs.Prelude.{◌≡◌, ◌⊎◌, ℕ, ◌<◌, ◌≤◌, List, Contains, IsSome, true}
+use Rattle.std.specs.Prelude.{◌≡◌, ◌⊎◌, ℕ, ◌<◌, ◌≤◌, List, Contains, MatchOption, MatchResult, Option, IsSome, None, Some, Result, Ok, Err, true}
 use Rattle.r4_atoms.specs.Atoms.{AtomsSeen, is_sealed, owner_of}
 use Rattle.r4_base.specs.declared.limits.TheConstants.{MOST_LEVELS}
 use Rattle.r4_buffer.specs.Reading.{IsReadable, captured_in, reading_places}
@@ -33,6 +33,15 @@ pub record PartsSeen : Type 0 where
   pub root : Root
   pub blocks : ℕ
 
+abbrev pub parts_seen : BufferSeen → LocksSeen → AtomsSeen → Root → (blocks : ℕ) → PartsSeen
+parts_seen buffer locks atoms root blocks = record {
+  buffer = buffer;
+  locks = locks;
+  atoms = atoms;
+  root = root;
+  blocks = blocks;
+}
+
 -- ---- what is read
 
 -- The volume lies on the device; the cells in memory can be read from; and the root is one of them or has a block.
@@ -46,9 +55,15 @@ pub record CanAsk (d : State) (p : PartsSeen) : Type 0 where
 abbrev pub read_over : PartsSeen → State → PoolState
 read_over p d = device_state (reading_places (root_name p.root) p.buffer p.blocks) d
 
--- and once these cells were
-abbrev pub met_over : PartsSeen → State → List (ℕ × Shared) → PoolState
-met_over p d met = keeping_state (read_over p d) true met
+-- What a command reaches there, over the cells that were met. The pool afterwards is over the same tree.
+pub record Reaches (d e : State) (p : PartsSeen) (c : Command) (r : Result (Option Reach) FetchFault) : Type 0 where
+  pub after : PoolState
+  pub met : List (ℕ × Shared)
+  pub same : IsSamePool d e (read_over p d) after p.root met
+  pub is : MatchResult r
+      (λ found. MatchOption found (TouchesExtent (keeping_state after true met) c)
+      (IsReach (keeping_state after true met) p.root c))
+      (StopsReach (keeping_state after true met) p.root c)
 
 -- ---- what it needs
 
@@ -105,6 +120,13 @@ IsAskedOf q p c a = (r : Reach) × IsReach q p.root c r × IsDecided p r a
 
 -- The cells that were met are those of the tree of all atoms, as the cells in memory and the device have it.
 pub record Asks (d e : State) (p : PartsSeen) (c : Command) (a : Asked) : Type 0 where
+  pub after : PoolState
   pub met : List (ℕ × Shared)
-  pub same : IsSamePool d e (read_over p d) (read_over p e) p.root met
-  pub is : IsAskedOf (met_over p e met) p c a
+  pub same : IsSamePool d e (read_over p d) after p.root met
+  pub is : IsAskedOf (keeping_state after true met) p c a
+
+-- the answer where this was found
+abbrev pub IsAnswerTo : PartsSeen → Result (Option Reach) FetchFault → Asked → Type 0
+IsAnswerTo p (Ok (Some r)) a = IsDecided p r a
+IsAnswerTo p (Ok None) a = a ≡ asked.InExtents
+IsAnswerTo p (Err e) a = (reply : Reply) × (a ≡ asked.Refused reply) × IsReplyTo e reply

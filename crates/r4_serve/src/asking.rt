@@ -4,14 +4,13 @@ ghost use Rattle.std.specs.Prelude.{◌≡◌, IfOk, MatchResult};
 ghost use Rattle.r4_content.specs.Fields.{HasBytePaths};
 ghost use Rattle.r4_search.specs.Pool.{LeavesDevice};
 ghost use Rattle.r4_search.specs.declared.pool.FetchFault.TheVariants.{Memory as NoMemory};
-ghost use Rattle.r4_serve.specs.Serving.{Asks, CanAsk, IsDecided, IsReplyTo};
+ghost use Rattle.r4_serve.specs.Serving.{Asks, CanAsk, IsAnswerTo, IsDecided, IsReplyTo, Reaches, parts_seen};
 
 use crate::asked::{Asked, Ready};
 use crate::need::{NodesNeeded, sealed_owner};
 use crate::parts::Parts;
 use r4_base::{MOST_LEVELS, Memory};
 use r4_buffer::Reading;
-
 use r4_content::{Command, Reply};
 use r4_outside::Device;
 use r4_reaching::{Reach, reach_in_leaves};
@@ -22,21 +21,55 @@ use std::alloc::Global;
 /// touches a body that stands in extents; it waits for a sealed atom that owns a cell of its reach; it waits for a task
 /// that holds one in a mode that conflicts; the tree would have to grow, and is as high as it may be; else it may be
 /// worked at. Its reach is that in the tree of all atoms, as the cells in memory and the device have it. The device is
-/// read, no block of it twice, and nothing else changes. The only error is want of memory (docs/core.md, "Asking").
-pub fn ask<D: Device>(
+/// read, no block of it twice, and nothing else changes; it goes back. The only error is want of memory (docs/core.md,
+/// "Asking").
+pub fn ask<E: Device>(
     alloc: Global,
-    dev: &mut D,
+    dev: E,
     parts: &Parts<'_>,
     command: &Command,
-) -> Result<Asked, Memory>
-    requires can { CanAsk (D.state dev.old) parts.now }
+) -> (E, Result<Asked, Memory>)
+    requires can { CanAsk (E.state dev) (parts_seen parts.now.buffer.now parts.now.locks.now
+        parts.now.atoms.now parts.now.root parts.now.blocks) }
     requires paths { HasBytePaths command.now }
-    ensures device { LeavesDevice (D.state dev.old) (D.state dev.new) }
-    ensures asks { IfOk result (Asks (D.state dev.old) (D.state dev.new) parts.now command.now) }
+    ensures device { LeavesDevice (E.state dev) (E.state result.0) }
+    ensures asks { IfOk result.1 (Asks (E.state dev) (E.state result.0)
+        (parts_seen parts.now.buffer.now parts.now.locks.now parts.now.atoms.now parts.now.root
+        parts.now.blocks) command.now) }
+{
+    let (dev, found) = reach_over(alloc, dev, parts, command);
+    let asked = answer_to(alloc, parts, found);
+    (dev, asked)
+}
+
+// What the command reaches in the tree of the cells in memory and the device.
+fn reach_over<E: Device>(
+    alloc: Global,
+    dev: E,
+    parts: &Parts<'_>,
+    command: &Command,
+) -> (E, Result<Option<Reach>, FetchFault>)
+    requires can { CanAsk (E.state dev) (parts_seen parts.now.buffer.now parts.now.locks.now
+        parts.now.atoms.now parts.now.root parts.now.blocks) }
+    requires paths { HasBytePaths command.now }
+    ensures { Reaches (E.state dev) (E.state result.0) (parts_seen parts.now.buffer.now
+        parts.now.locks.now parts.now.atoms.now parts.now.root parts.now.blocks) command.now
+        result.1 }
 {
     let pool = Reading::new(dev, parts.buffer, parts.root, parts.blocks);
     let (pool, found) = reach_in_leaves(alloc, pool, &parts.root, command);
-    let _ = pool.into_device();
+    (pool.into_device(), found)
+}
+
+// The answer where this was found of a command.
+fn answer_to(
+    alloc: Global,
+    parts: &Parts<'_>,
+    found: Result<Option<Reach>, FetchFault>,
+) -> Result<Asked, Memory>
+    ensures { IfOk result (IsAnswerTo (parts_seen parts.now.buffer.now parts.now.locks.now
+        parts.now.atoms.now parts.now.root parts.now.blocks) found) }
+{
     match found {
         Ok(Some(reach)) => decide(alloc, parts, reach),
         Ok(None) => Ok(Asked::InExtents),
@@ -59,7 +92,8 @@ fn reply_to(fault: FetchFault) -> Result<Reply, Memory>
 
 // What becomes of a command with this reach.
 fn decide(alloc: Global, parts: &Parts<'_>, reach: Reach) -> Result<Asked, Memory>
-    ensures { IfOk result (IsDecided parts.now reach) }
+    ensures { IfOk result (IsDecided (parts_seen parts.now.buffer.now parts.now.locks.now
+        parts.now.atoms.now parts.now.root parts.now.blocks) reach) }
 {
     let need = NodesNeeded::of(alloc, &reach)?;
     if let Some(atom) = sealed_owner(parts.atoms, need.reads()) {

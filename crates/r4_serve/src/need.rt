@@ -72,13 +72,12 @@ pub(crate) fn sealed_owner(atoms: &Atoms, nodes: &[NodeId]) -> Option<AtomNo>
         (NoneSealed atoms.now (numbers nodes.now))
         (λ a. IsSealedOwnerOf atoms.now (numbers nodes.now) a.0) }
 {
-    match nodes.split_first() {
-        None => None,
-        Some((first, rest)) => match sealed_by(atoms, *first) {
-            Some(atom) => Some(atom),
-            None => sealed_owner(atoms, rest),
-        },
+    for &node in nodes {
+        if let Some(atom) = sealed_by(atoms, node) {
+            return Some(atom);
+        }
     }
+    None
 }
 
 // The atom that owns a node, if it is sealed.
