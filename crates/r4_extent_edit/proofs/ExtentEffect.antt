@@ -48,7 +48,7 @@ is_off from to k never = by_test (is_between from to k) refl
     by_test false e = e
 
 pub both_ways : (b : Bool) → b ≡ true → b ≡ false → ⊥
-both_ways b yes no = absurd (grind (arith, yes, no))
+both_ways b on off = absurd (grind (arith, on, off))
 
 placed_value : (o : Option Value) (v : Value) (b : Bool) → in_extent o ≡ Some (v, b) → (o ≡ Some v) × (b ≡ false)
 placed_value None v b e = absurd (none-some (v, b) e)

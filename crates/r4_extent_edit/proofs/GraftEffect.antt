@@ -32,7 +32,7 @@ use Rattle.r4_path.specs.Twigs.{Below}
 use Rattle.r4_path.proofs.OnPath.{new_id, new_stands, stands_old, stands_step}
 use Rattle.r4_path.proofs.Rising.{count_within, follow_within, id_member, level_is}
 use Rattle.r4_path.proofs.Upwards.{numbered}
-use Rattle.r4_work.proofs.LeafEffect.{from_units, over_fresh, taken, to_units, upper_units, ups_high}
+use Rattle.r4_work.proofs.LeafEffect.{from_units, taken, to_units, upper_units, ups_high}
 use Rattle.r4_extent_edit.specs.Effects.{IsMadeIn, patch_with}
 
 -- ---- cells of a list
@@ -42,7 +42,7 @@ abbrev pub IsPlacedIn : List CellSeen → ℕ → Placed Value → Type 0
 IsPlacedIn cells k u = (x : CellSeen) × Contains cells x × Contains (node_of x).units (k, u.0) × ((x.level == 1) ≡ u.1)
 
 pub apart_names : (xs ys : List CellSeen) → Distinct (xs ++ ys) → (x y : CellSeen) → Contains xs x → Contains ys y → x.id ≡ y.id → ⊥
-apart_names [] ys d x y at_x at_y = absurd (none x at_x)
+apart_names [] ys d x y at_x at_y same = none x at_x
 apart_names (z ∷ zs) ys d x y at_x at_y same = elim (cases z x zs at_x) [
   | inl is ↦ d.0 y (Contains-append_right zs ys y at_y) (ap (λ (w : CellSeen). w.id) (sym is) ∙ same)
   | inr more ↦ apart_names zs ys d.1 x y more at_y same

@@ -83,10 +83,10 @@ module _ {t : Store Value} {r : Root} {it : Item} {leaf twig : CellSeen} {ups : 
   over_does of =
       let keeps = keeps_from it.key (item_end it) leaf (right_id leaf it.key before) does.right does.parts.right_is is.leaf_level (λ k v at. let a = is.apart k v at in beside_item k a) in
       let mid_next : does.mid.next ≡ before.next + right_takes leaf it.key does.right = ap (λ (f : Fresh). f.next) does.parts.number in
-      let l = later_next g is.given (over_beside is) (over_around is) does.units does.parts.left_is keeps in
+      let l = later_next does.left does.right g is.given (over_beside is) (over_around is) does.units does.parts.left_is keeps in
       record {
-        effect = leaves_effect g is.given (over_beside is) (over_around is) does.units does.parts.left_is keeps of;
-        names = leaves_names g is.given (over_beside is) (over_around is) does.units does.parts.left_is keeps (omega (arith, mid_next))
+        effect = leaves_effect does.left does.right g is.given (over_beside is) (over_around is) does.units does.parts.left_is keeps of;
+        names = leaves_names does.left does.right g is.given (over_beside is) (over_around is) does.units does.parts.left_is keeps (omega (arith, mid_next))
             (right_name does.right does.parts.right_is (omega (arith, mid_next, l)));
         root_number = graft_root g;
       }

@@ -37,7 +37,7 @@ twig_holds twig k node level low high clear =
     let l = level_is twig in
     elim (node.covered k (omega (arith, l, level)) (in_node twig k (low, high))) [
       | inl h ↦ let (n, cn, nl, range) = h in absurd (clear n cn range)
-      | inr h ↦ let (x, cx, range) = h in inr (x, cx, range, λ n cn data in_n. clear n cn in_n)
+      | inr h ↦ let (x, cx, range) = h in inr (x, cx, range, λ n cn block in_n. clear n cn in_n)
     ]
 
 pub clear_key : (n : Name) (from to k : ℕ) → (n.hi ≤ from) ⊎ (to ≤ n.lo) → from ≤ k → k < to → InName n k → ⊥

@@ -90,7 +90,7 @@ same_kind : (x y : CellSeen) (b : Bool) → x.level ≡ 1 → y.level ≡ 1 → 
 same_kind x y b one two kind = ap (λ (l : ℕ). l == 1) (two ∙ sym one) ∙ kind
 
 module _ {t : Store Value} {r : Root} {it : Item} {leaf : CellSeen} {more : List CellSeen} {twig : CellSeen} {ups : List CellSeen}
-    {qs : List TwigPiece} {left right : Option CellSeen} {blocks : List CellSeen} {before mid after : Fresh} {d c : Change}
+    {qs : List TwigPiece} (left right : Option CellSeen) {blocks : List CellSeen} {before mid after : Fresh} {d c : Change}
     (g : IsRepacked t r twig ups qs (record { old = leaf ∷ more; new = given_cells left ++ given_cells right }) blocks before mid after d c)
     (given : IsGivenExtent it) (beside : AreBeside t twig leaf more) (around : AreAround leaf more (rank it.key) (item_end it))
     (units : units_of qs ≡ put_units (item_units it) (node_of twig).units) (left_is : HasLeft leaf it.key left)
@@ -187,7 +187,7 @@ module _ {t : Store Value} {r : Root} {it : Item} {leaf : CellSeen} {more : List
       | inl a ↦ from_left left left_is k u (x, a, has, kind)
       | inr b ↦ from_right k u (x, b, has, kind)
     ],
-    λ h. let (low, off) = h in let (x, at, has, kind) = low in elim (off_cases k off) [
+    λ z. let (low, off) = z in let (x, at, has, kind) = low in elim (off_cases k off) [
       | inl lt ↦ let (y, in_y, has_y, kind_y) = to_left left left_is x k u at has kind lt in (y, Contains-append_left (given_cells left) (given_cells right) y in_y, has_y, kind_y)
       | inr le ↦ let (y, in_y, has_y, kind_y) = to_right x k u at has kind le in (y, Contains-append_right (given_cells left) (given_cells right) y in_y, has_y, kind_y)
     ],
@@ -261,11 +261,11 @@ module _ {t : Store Value} {r : Root} {it : Item} {leaf : CellSeen} {more : List
 
 -- ---- what stays of the last leaf
 
-keeps_from : (key : Key) (to : ℕ) (leaf : CellSeen) (id : ℕ) (o : Option CellSeen) → HasRight leaf key id o → leaf.level ≡ 1
+pub keeps_from : (key : Key) (to : ℕ) (leaf : CellSeen) (id : ℕ) (o : Option CellSeen) → HasRight leaf key id o → leaf.level ≡ 1
     → ((k : ℕ) (v : Value) → Contains (node_of leaf).units (k, v) → (rank key ≤ k → to ≤ k) × (to ≤ k → rank key ≤ k)) → KeepsFrom to leaf o
 keeps_from key to leaf id None h level same k u = (
   λ x. absurd (none x.0 x.1),
-  λ h. let (low, le) = h in let (x, at, has, kind) = low in elim (cases leaf x [] at) [
+  λ z. let (low, le) = z in let (x, at, has, kind) = low in elim (cases leaf x [] at) [
     | inr none_is ↦ absurd (none x none_is)
     | inl is ↦ let mine = subst (λ (z : CellSeen). Contains (node_of z).units (k, u.0)) is has in absurd (no_first (rank key) (node_of leaf).units (k, u.0) h mine ((same k u.0 mine).1 le))
   ],
@@ -279,7 +279,7 @@ keeps_from key to leaf id (Some y) h level same k u = (
         let l : x.level ≡ 1 = ap (λ (z : CellSeen). z.level) is ∙ h.level_is in
         ((leaf, here leaf [], m.0, same_kind x leaf u.1 l level kind), (same k u.0 m.0).0 m.1)
   ],
-  λ h. let (low, le) = h in let (x, at, has, kind) = low in elim (cases leaf x [] at) [
+  λ z. let (low, le) = z in let (x, at, has, kind) = low in elim (cases leaf x [] at) [
     | inr none_is ↦ absurd (none x none_is)
     | inl is ↦
         let mine = subst (λ (z : CellSeen). Contains (node_of z).units (k, u.0)) is has in
@@ -312,10 +312,10 @@ turn_does {t} {r} {it} {leaf} {more} {twig} {ups} {before} {after} {path} {c} {b
     let level = (follow_within 1 (rank leaf.lo) (rank last.hi) (leaf ∷ more) last is.beside.follow (last_in leaf more)).level_as in
     let keeps = keeps_from (key_of_end it) (item_end it) last before.next does.right does.keeps.right_is level (λ k v at. (λ a. omega (arith, a, to_is), λ a. omega (arith, a, to_is))) in
     let mid_next : does.mid.next ≡ before.next + length (given_cells does.right) = ap (λ (f : Fresh). f.next) does.keeps.number in
-    let l = later_next g is.given is.beside is.around does.units does.keeps.left_is keeps in
+    let l = later_next does.left does.right g is.given is.beside is.around does.units does.keeps.left_is keeps in
     record {
-      effect = leaves_effect g is.given is.beside is.around does.units does.keeps.left_is keeps of;
-      names = leaves_names g is.given is.beside is.around does.units does.keeps.left_is keeps (omega (arith, mid_next))
+      effect = leaves_effect does.left does.right g is.given is.beside is.around does.units does.keeps.left_is keeps of;
+      names = leaves_names does.left does.right g is.given is.beside is.around does.units does.keeps.left_is keeps (omega (arith, mid_next))
           (λ x at gone. right_taken (key_of_end it) last before.next after.next does.right does.keeps.right_is (omega (arith, mid_next, l)) x at);
       root_number = graft_root g;
     }

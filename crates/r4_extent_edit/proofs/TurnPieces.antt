@@ -127,13 +127,13 @@ module _ (twig : CellSeen) (are : ArePiecesOf twig (twig_pieces twig)) (leaf : C
   front_low p at = (piece_within (rank twig.lo) (rank leaf.lo) h.before p front at).1
 
   front_key : (p : TwigPiece) → Contains h.before p → rank p.key < rank leaf.lo
-  front_key p at = let w = sound_in h.before p parts.0 at in let e = front_low p at in omega (arith, w, e)
+  front_key p at = let w = sound_in (rank twig.lo) (end_of (rank twig.lo) h.before) h.before p parts.0 at in let e = front_low p at in omega (arith, w, e)
     where
-      sound_in : {a b : ℕ} (xs : List TwigPiece) (p : TwigPiece) → Follow a b xs → Contains xs p → rank p.key < piece_end p
-      sound_in [] p f at = absurd (none p at)
-      sound_in (x ∷ xs) p f at = elim (first_or_later x xs p at) [
+      sound_in : (a b : ℕ) (xs : List TwigPiece) (p : TwigPiece) → Follow a b xs → Contains xs p → rank p.key < piece_end p
+      sound_in a b [] p f at = absurd (none p at)
+      sound_in a b (x ∷ xs) p f at = elim (first_or_later x xs p at) [
         | inl is ↦ subst (λ (y : TwigPiece). rank y.key < piece_end y) is (has_end x f.1)
-        | inr rest_at ↦ sound_in xs p f.2 rest_at
+        | inr rest_at ↦ sound_in (piece_end x) b xs p f.2 rest_at
       ]
 
   module _ (from to : ℕ) (around : AreAround leaf more from to) where
