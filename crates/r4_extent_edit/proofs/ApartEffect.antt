@@ -45,7 +45,7 @@ not_there (Some x) v e same = absurd cc
 module _ {t : Store Value} {r : Root} {it : Item} {twig : CellSeen} {ups : List CellSeen} {before mid after : Fresh} {path : List CellSeen} {c : Change}
     (is : IsLeafPutIn t r it twig ups before) (does : PutsLeafIn path it before after c twig)
     (g : IsRepacked t r twig ups (put_pieces it.key (leaf_pointer it.key before.next) (twig_pieces twig)) (record { old = []; new = does.leaf ∷ [] })
-      [] before mid after does.grafts.change c) (mid_is : mid.next ≡ before.next + 1) where
+      [] mid after does.grafts.change c) (mid_is : mid.next ≡ before.next + 1) where
   abbrev leaf : CellSeen
   leaf = does.leaf
 
@@ -141,7 +141,7 @@ module _ {t : Store Value} {r : Root} {it : Item} {twig : CellSeen} {ups : List 
     root_number = graft_root g;
   }
 
-module _ (t : Store Value) (r : Root) (path : List CellSeen) (it : Item) (before after : Fresh) (c : Change) (made : IsMadeIn t r c [] before after) where
+module _ (t : Store Value) (r : Root) (path : List CellSeen) (it : Item) (before after : Fresh) (c : Change) (made : IsMadeIn t r c []) where
   apart_cells : (cells : List CellSeen) → reverse path ≡ cells → IsLeafPutUp t r it before cells → PutsLeafUp path it before after c cells
       → EditsUnits c [] before after (own_keys it) (leaf_values it)
   apart_cells [] same is does = absurd is

@@ -64,7 +64,7 @@ module _ {t : Store Value} {r : Root} {leaf : Option CellSeen} {blocks : List Ce
     {twig : CellSeen} {ups : List CellSeen} {path : List CellSeen} {c : Change} (is : IsCutIn t r leaf blocks from to before twig ups)
     (does : CutsIn path leaf blocks from to before after c twig) (are : ArePiecesOf twig (twig_pieces twig))
     (g : IsRepacked t r twig ups (cut_pieces from to before.next leaf twig) (record { old = blocks ++ given_cells leaf; new = does.come })
-      [] before mid after does.grafts.change c)
+      [] mid after does.grafts.change c)
     (mid_is : mid.next ≡ before.next + numbers_for leaf (new_pointer from to before.next leaf (parted_twice from to (twig_pieces twig)))) where
   abbrev at : ℕ → Bool
   at = is_between from to
@@ -266,7 +266,7 @@ module _ {t : Store Value} {r : Root} {leaf : Option CellSeen} {blocks : List Ce
   }
 
 module _ (t : Store Value) (r : Root) (path : List CellSeen) (leaf : Option CellSeen) (blocks : List CellSeen) (from to : ℕ)
-    (before after : Fresh) (c : Change) (made : IsMadeIn t r c [] before after) where
+    (before after : Fresh) (c : Change) (made : IsMadeIn t r c []) where
   cut_cells : (cells : List CellSeen) → reverse path ≡ cells → MayStandUp cells → IsCutUp t r leaf blocks from to before cells
       → CutsUp path leaf blocks from to before after c cells → EditsUnits c [] before after (is_between from to) no_values
   cut_cells [] same sound is does = absurd is

@@ -55,7 +55,7 @@ placed_value None v b e = absurd (none-some (v, b) e)
 placed_value (Some x) v b e = let same = same_Some (x, false) (v, b) e in (ap (λ (u : Placed Value). Some u.0) same, ap (λ (u : Placed Value). u.1) (sym same))
 
 module _ {s : Store Value} {r : Root} {twig : CellSeen} {ups : List CellSeen} {qs : List TwigPiece} {b : Below}
-    {blocks : List CellSeen} {first before after : Fresh} {d c : Change} (g : IsRepacked s r twig ups qs b blocks first before after d c)
+    {blocks : List CellSeen} {before after : Fresh} {d c : Change} (g : IsRepacked s r twig ups qs b blocks before after d c)
     (it : Item) (given : IsGivenExtent it) (are : AreBlocksOf (item_blocks it) blocks) (rest : List LeafUnit)
     (units : units_of qs ≡ put_units (item_units it) rest)
     (rest_is : (k : ℕ) (v : Value) → Contains rest (k, v) ↔ (Contains (node_of twig).units (k, v) × (item_keys it k ≡ false)))

@@ -54,23 +54,22 @@ same_level x = ap (λ (l : ℕ). l == 1) (level_is x)
 not_leaf : (x : CellSeen) → ¬ (x.level ≡ 1) → (x.level == 1) ≡ false
 not_leaf x other = ne_eqb x.level 1 other
 
--- A twig of a part of a tree that was packed anew, what goes and comes below it, and data blocks that come; from the first of
--- these numbers on they were taken, those of the twigs and of the nodes above it from a later one on.
+-- A twig of a part of a tree that was packed anew, with what goes and comes below it, and data blocks that come.
 pub record IsRepacked (s : Store Value) (r : Root) (twig : CellSeen) (ups : List CellSeen) (qs : List TwigPiece) (b : Below)
-    (blocks : List CellSeen) (first before after : Fresh) (d c : Change) : Type 0 where
+    (blocks : List CellSeen) (before after : Fresh) (d c : Change) : Type 0 where
   pub part : IsPart s r
   pub level : twig.level ≡ 2
   pub above : Ascends s (Some twig) ups
   pub grafts : Grafts twig ups qs before after d
   pub below : HasBelow b.old b.new d c
-  pub made : IsMadeIn s r c blocks first after
+  pub made : IsMadeIn s r c blocks
 
 module _ {s : Store Value} {r : Root} {twig : CellSeen} {ups : List CellSeen} {qs : List TwigPiece} {b : Below}
-    {blocks : List CellSeen} {first before after : Fresh} {d c : Change} (g : IsRepacked s r twig ups qs b blocks first before after d c) where
+    {blocks : List CellSeen} {before after : Fresh} {d c : Change} (g : IsRepacked s r twig ups qs b blocks before after d c) where
   abbrev grafts : Grafts twig ups qs before after d
   grafts = g.grafts
 
-  abbrev made : IsMadeIn s r c blocks first after
+  abbrev made : IsMadeIn s r c blocks
   made = g.made
 
   abbrev below : HasBelow b.old b.new d c

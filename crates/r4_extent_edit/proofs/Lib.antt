@@ -13,3 +13,5 @@ pub mod TurnGraft
 pub mod CutEffect
 pub mod OverEffect
 pub mod ApartEffect
+pub mod TurnEnds
+pub mod Told

@@ -65,7 +65,7 @@ over_around {t} {r} {it} is =
 module _ {t : Store Value} {r : Root} {it : Item} {leaf twig : CellSeen} {ups : List CellSeen} {before after : Fresh} {path : List CellSeen}
     {c : Change} {blocks : List CellSeen} (is : IsOverIn t r it leaf twig ups before) (does : PutsOverIn path it before after c leaf twig)
     (g : IsRepacked t r twig ups (over_pieces it leaf does.right (twig_pieces twig)) (record { old = leaf ∷ []; new = given_cells does.left ++ given_cells does.right })
-      blocks before does.mid after does.grafts.change c) where
+      blocks does.mid after does.grafts.change c) where
   -- what has the leaf's name is no new name
   right_name : (o : Option CellSeen) → HasRight leaf it.key (right_id leaf it.key before) o → before.next + right_takes leaf it.key o ≤ after.next
       → (x : CellSeen) → Contains (given_cells o) x → (patch_with c blocks).old x.id ≡ None → (before.next ≤ x.id) × (x.id < after.next)
@@ -83,10 +83,10 @@ module _ {t : Store Value} {r : Root} {it : Item} {leaf twig : CellSeen} {ups : 
   over_does of =
       let keeps = keeps_from it.key (item_end it) leaf (right_id leaf it.key before) does.right does.parts.right_is is.leaf_level (λ k v at. let a = is.apart k v at in beside_item k a) in
       let mid_next : does.mid.next ≡ before.next + right_takes leaf it.key does.right = ap (λ (f : Fresh). f.next) does.parts.number in
-      let l = later_next does.left does.right g is.given (over_beside is) (over_around is) does.units does.parts.left_is keeps in
+      let l = later_next does.left does.right before g is.given (over_beside is) (over_around is) does.units does.parts.left_is keeps in
       record {
-        effect = leaves_effect does.left does.right g is.given (over_beside is) (over_around is) does.units does.parts.left_is keeps of;
-        names = leaves_names does.left does.right g is.given (over_beside is) (over_around is) does.units does.parts.left_is keeps (omega (arith, mid_next))
+        effect = leaves_effect does.left does.right before g is.given (over_beside is) (over_around is) does.units does.parts.left_is keeps of;
+        names = leaves_names does.left does.right before g is.given (over_beside is) (over_around is) does.units does.parts.left_is keeps (omega (arith, mid_next))
             (right_name does.right does.parts.right_is (omega (arith, mid_next, l)));
         root_number = graft_root g;
       }
@@ -96,7 +96,7 @@ module _ {t : Store Value} {r : Root} {it : Item} {leaf twig : CellSeen} {ups : 
       beside_item k (inr behind) = let end = item_has_end it is.given.sound in (λ a. behind, λ a. omega (arith, a, end))
 
 module _ (t : Store Value) (r : Root) (path : List CellSeen) (it : Item) (before after : Fresh) (c : Change) (blocks : List CellSeen)
-    (are : AreBlocksOf (item_blocks it) blocks) (made : IsMadeIn t r c blocks before after) where
+    (are : AreBlocksOf (item_blocks it) blocks) (made : IsMadeIn t r c blocks) where
   over_cells : (cells : List CellSeen) → reverse path ≡ cells → IsOverUp t r it before cells → PutsOverUp path it before after c cells
       → EditsUnits c blocks before after (item_keys it) (extent_values it blocks)
   over_cells [] same is does = absurd is

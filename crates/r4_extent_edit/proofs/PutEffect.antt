@@ -54,7 +54,7 @@ cut_members from to us k v = (
 -- ---- nothing goes or comes below the twig
 
 module _ {s : Store Value} {r : Root} {twig : CellSeen} {ups : List CellSeen} {qs : List TwigPiece} {blocks : List CellSeen}
-    {before after : Fresh} {d c : Change} (g : IsRepacked s r twig ups qs nothing blocks before before after d c)
+    {before after : Fresh} {d c : Change} (g : IsRepacked s r twig ups qs nothing blocks before after d c)
     (it : Item) (given : IsGivenExtent it) (are : AreBlocksOf (item_blocks it) blocks) (rest : List LeafUnit)
     (units : units_of qs ≡ put_units (item_units it) rest)
     (rest_is : (k : ℕ) (v : Value) → Contains rest (k, v) ↔ (Contains (node_of twig).units (k, v) × (item_keys it k ≡ false)))
@@ -87,7 +87,7 @@ no_units twig from to keys k v = (
 )
 
 module _ (t : Store Value) (r : Root) (path : List CellSeen) (it : Item) (before after : Fresh) (c : Change) (blocks : List CellSeen)
-    (are : AreBlocksOf (item_blocks it) blocks) (made : IsMadeIn t r c blocks before after) where
+    (are : AreBlocksOf (item_blocks it) blocks) (made : IsMadeIn t r c blocks) where
   spread_cells : (cells : List CellSeen) → reverse path ≡ cells → IsSpreadUp t r it before cells → SpreadsUp path it before after c cells
       → EditsUnits c blocks before after (item_keys it) (extent_values it blocks)
   spread_cells [] same is does = absurd is

@@ -90,8 +90,8 @@ same_kind : (x y : CellSeen) (b : Bool) → x.level ≡ 1 → y.level ≡ 1 → 
 same_kind x y b one two kind = ap (λ (l : ℕ). l == 1) (two ∙ sym one) ∙ kind
 
 module _ {t : Store Value} {r : Root} {it : Item} {leaf : CellSeen} {more : List CellSeen} {twig : CellSeen} {ups : List CellSeen}
-    {qs : List TwigPiece} (left right : Option CellSeen) {blocks : List CellSeen} {before mid after : Fresh} {d c : Change}
-    (g : IsRepacked t r twig ups qs (record { old = leaf ∷ more; new = given_cells left ++ given_cells right }) blocks before mid after d c)
+    {qs : List TwigPiece} (left right : Option CellSeen) (before : Fresh) {blocks : List CellSeen} {mid after : Fresh} {d c : Change}
+    (g : IsRepacked t r twig ups qs (record { old = leaf ∷ more; new = given_cells left ++ given_cells right }) blocks mid after d c)
     (given : IsGivenExtent it) (beside : AreBeside t twig leaf more) (around : AreAround leaf more (rank it.key) (item_end it))
     (units : units_of qs ≡ put_units (item_units it) (node_of twig).units) (left_is : HasLeft leaf it.key left)
     (right_has : KeepsFrom (item_end it) (last_leaf leaf more) right) where
@@ -304,7 +304,7 @@ turn_does : {t : Store Value} {r : Root} {it : Item} {leaf : CellSeen} {more : L
     {before after : Fresh} {path : List CellSeen} {c : Change} {blocks : List CellSeen} (is : IsTurnIn t r it leaf more twig ups before)
     (does : TurnsIn path it leaf more before after c twig)
     → IsRepacked t r twig ups (turned_pieces it does.right twig) (record { old = leaf ∷ more; new = given_cells does.left ++ given_cells does.right })
-      blocks before does.mid after does.grafts.change c
+      blocks does.mid after does.grafts.change c
     → AreBlocksOf (item_blocks it) blocks → EditsUnits c blocks before after (item_keys it) (extent_values it blocks)
 turn_does {t} {r} {it} {leaf} {more} {twig} {ups} {before} {after} {path} {c} {blocks} is does g of =
     let to_is = end_is it is.given in
@@ -312,16 +312,16 @@ turn_does {t} {r} {it} {leaf} {more} {twig} {ups} {before} {after} {path} {c} {b
     let level = (follow_within 1 (rank leaf.lo) (rank last.hi) (leaf ∷ more) last is.beside.follow (last_in leaf more)).level_as in
     let keeps = keeps_from (key_of_end it) (item_end it) last before.next does.right does.keeps.right_is level (λ k v at. (λ a. omega (arith, a, to_is), λ a. omega (arith, a, to_is))) in
     let mid_next : does.mid.next ≡ before.next + length (given_cells does.right) = ap (λ (f : Fresh). f.next) does.keeps.number in
-    let l = later_next does.left does.right g is.given is.beside is.around does.units does.keeps.left_is keeps in
+    let l = later_next does.left does.right before g is.given is.beside is.around does.units does.keeps.left_is keeps in
     record {
-      effect = leaves_effect does.left does.right g is.given is.beside is.around does.units does.keeps.left_is keeps of;
-      names = leaves_names does.left does.right g is.given is.beside is.around does.units does.keeps.left_is keeps (omega (arith, mid_next))
+      effect = leaves_effect does.left does.right before g is.given is.beside is.around does.units does.keeps.left_is keeps of;
+      names = leaves_names does.left does.right before g is.given is.beside is.around does.units does.keeps.left_is keeps (omega (arith, mid_next))
           (λ x at gone. right_taken (key_of_end it) last before.next after.next does.right does.keeps.right_is (omega (arith, mid_next, l)) x at);
       root_number = graft_root g;
     }
 
 module _ (t : Store Value) (r : Root) (path : List CellSeen) (it : Item) (before after : Fresh) (c : Change) (blocks : List CellSeen)
-    (are : AreBlocksOf (item_blocks it) blocks) (made : IsMadeIn t r c blocks before after) where
+    (are : AreBlocksOf (item_blocks it) blocks) (made : IsMadeIn t r c blocks) where
   turn_cells : (leaves cells : List CellSeen) → reverse path ≡ cells → IsTurnUp t r it leaves before cells → TurnsUp path it leaves before after c cells
       → EditsUnits c blocks before after (item_keys it) (extent_values it blocks)
   turn_cells [] cells same is does = absurd is

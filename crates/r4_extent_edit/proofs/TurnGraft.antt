@@ -35,7 +35,7 @@ use Rattle.r4_edit.proofs.CutGraft.{may_be_named}
 use Rattle.r4_edit.proofs.OverLeaf.{first_there, leaf_node, some_is_none}
 use Rattle.r4_edit.proofs.OverPieces.{MayStandBehind}
 use Rattle.r4_edit.proofs.Spread.{extent_level}
-use Rattle.r4_extent_edit.specs.Turning.{AreEnds, IsAround, IsTurnIn, IsTurnUp, KeepsEnds, TurnsIn, TurnsUp, key_of_end, last_leaf, turned_pieces}
+use Rattle.r4_extent_edit.specs.Turning.{IsTurnIn, IsTurnUp, KeepsEnds, TurnsIn, TurnsUp, key_of_end, last_leaf, turned_pieces}
 use Rattle.r4_extent_edit.proofs.TurnPieces.{comes, comes_names, last_in, p, turned_bytes, turned_names, turned_twigs, turned_units}
 
 -- the key behind an extent
@@ -360,25 +360,6 @@ module _ {A : Type 0} (h : A → CellSeen) (path : List A) (x : A) (last_is : x 
 
   pub turn_in : FoundTurn t r it leaves fresh (h x) ups
   turn_in = found_turn t r it leaves fresh (h x) ups (up_last h (IsTurnUp t r it leaves fresh) (never_up t r it leaves fresh) path x last_is is)
-
-  pub turn_ends : (to : Key) → rank to ≡ item_end it → AreEnds leaves (rank it.key) (rank to)
-  turn_ends to e =
-      let f = turn_in in
-      let a = f.is.around in
-      let low = a.low in
-      let w = follow_within 1 (rank f.leaf.lo) (rank (last_leaf f.leaf f.more).hi) (f.leaf ∷ f.more) (last_leaf f.leaf f.more) f.is.beside.follow (last_in f.leaf f.more) in
-      let node = f.is.path.part.nodes (last_leaf f.leaf f.more).id (node_of (last_leaf f.leaf f.more)) (f.is.beside.stand (last_leaf f.leaf f.more) (last_in f.leaf f.more)) in
-      let hi = hi_is (last_leaf f.leaf f.more) in
-      subst (λ cells. AreEnds cells (rank it.key) (rank to)) (sym f.same)
-      (subst (λ (n : ℕ). AreEnds (f.leaf ∷ f.more) (rank it.key) n) (sym e) (record {
-        level = f.is.beside.follow.0;
-        last_level = w.level_as;
-        low = a.low;
-        begins = a.begins;
-        ends = a.ends;
-        high = a.high;
-        units = λ k v at. let inside = node.unit_in k v at in omega (arith, inside, hi);
-      }))
 
   module _ (are : ArePiecesOf (h x) (twig_pieces (h x))) (mid : Fresh) (left right : Option CellSeen) (to : Key) (to_is : rank to ≡ item_end it)
       (kept : (leaf : CellSeen) (more : List CellSeen) → leaves ≡ leaf ∷ more → KeepsEnds leaf more it.key to fresh mid left right)

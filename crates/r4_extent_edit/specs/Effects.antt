@@ -1,5 +1,5 @@
 -- What an edit of a twig does to units (docs/volume.md, "Edits").
-use Rattle.std.specs.Prelude.{◌≡◌, ◌==◌, ℕ, ◌^◌, ◌<◌, ◌≤◌, Bool, List, [], ◌∷◌, ◌++◌, Contains, Option, None, Some}
+use Rattle.std.specs.Prelude.{◌≡◌, ℕ, ◌<◌, ◌≤◌, Bool, List, [], ◌∷◌, ◌++◌, Contains, Option, None, Some}
 use Rattle.std.specs.Option.{is_some}
 use Rattle.r4_base.specs.Cell.{item_end, item_units}
 use Rattle.r4_base.specs.Key.{rank}
@@ -17,20 +17,16 @@ use Rattle.r4_patch.specs.Part.{MeetsPart}
 use Rattle.r4_path.specs.Levels.{units_of_cells}
 use Rattle.r4_path.specs.Nodes.{IsPointable}
 use Rattle.r4_path.specs.Sharing.{IsSound}
-use Rattle.r4_path.specs.Steps.{OnlyTakes}
 use Rattle.r4_work.specs.Remaking.{value_in}
 
 -- the change's cells with data blocks that come, as one patch
 abbrev pub patch_with : Change → (blocks : List CellSeen) → Patch Value
 patch_with c blocks = patch_of c.old (c.new ++ blocks) c.root
 
--- With the blocks the change is a patch that this part of a tree meets, and it took numbers of nodes.
-pub record IsMadeIn (t : Store Value) (r : Root) (c : Change) (blocks : List CellSeen) (before after : Fresh) : Type 0 where
+-- With the blocks the change is a patch that this part of a tree meets.
+pub record IsMadeIn (t : Store Value) (r : Root) (c : Change) (blocks : List CellSeen) : Type 0 where
   pub change : IsChange c.old (c.new ++ blocks) c.root
   pub meets : MeetsPart (patch_with c blocks) t r
-  pub unplaced : 2 ^ 63 ≤ before.next
-  pub end : before.end < 2 ^ 64
-  pub takes : OnlyTakes before after
 
 -- At the keys of a set it leaves the values of a function, and elsewhere what stood there. The names of its new cells that no
 -- old one has are numbers that were taken, and a new root may be named.

@@ -29,15 +29,15 @@ pub fn keys_of_a_span_may_be_cut()
 /// as it was, in leaves where it stood in leaves.
 pub fn insert_edits_units()
     ensures spread { (t : Store Value) (r : Root) (path : List CellSeen) (it : Item) (before after : Fresh) (c : Change)
-        (blocks : List CellSeen) → AreBlocksOf (item_blocks it) blocks → IsMadeIn t r c blocks before after
+        (blocks : List CellSeen) → AreBlocksOf (item_blocks it) blocks → IsMadeIn t r c blocks
         → IsSpreadUp t r it before (reverse path) → SpreadsUp path it before after c (reverse path)
         → EditsUnits c blocks before after (item_keys it) (extent_values it blocks) }
     ensures over { (t : Store Value) (r : Root) (path : List CellSeen) (it : Item) (before after : Fresh) (c : Change)
-        (blocks : List CellSeen) → AreBlocksOf (item_blocks it) blocks → IsMadeIn t r c blocks before after
+        (blocks : List CellSeen) → AreBlocksOf (item_blocks it) blocks → IsMadeIn t r c blocks
         → IsOverUp t r it before (reverse path) → PutsOverUp path it before after c (reverse path)
         → EditsUnits c blocks before after (item_keys it) (extent_values it blocks) }
     ensures apart { (t : Store Value) (r : Root) (path : List CellSeen) (it : Item) (before after : Fresh) (c : Change)
-        → IsMadeIn t r c [] before after → IsLeafPutUp t r it before (reverse path)
+        → IsMadeIn t r c [] → IsLeafPutUp t r it before (reverse path)
         → PutsLeafUp path it before after c (reverse path) → EditsUnits c [] before after (own_keys it) (leaf_values it) }
 {}
 
@@ -45,7 +45,7 @@ pub fn insert_edits_units()
 /// stands at the keys, padding of the blocks included, and elsewhere what stood there.
 pub fn cut_edits_units()
     ensures { (t : Store Value) (r : Root) (path : List CellSeen) (leaf : Option CellSeen) (blocks : List CellSeen)
-        (from to : ℕ) (before after : Fresh) (c : Change) → IsMadeIn t r c [] before after → MayStandUp (reverse path)
+        (from to : ℕ) (before after : Fresh) (c : Change) → IsMadeIn t r c [] → MayStandUp (reverse path)
         → IsCutUp t r leaf blocks from to before (reverse path)
         → CutsUp path leaf blocks from to before after c (reverse path)
         → EditsUnits c [] before after (is_between from to) no_values }
