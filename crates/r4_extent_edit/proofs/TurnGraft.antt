@@ -18,6 +18,7 @@ use Rattle.r4_cell.specs.Patch.{HaveNames}
 use Rattle.r4_cell.specs.Seen.{CellSeen, node_of}
 use Rattle.r4_cell.specs.declared.change.Change.{Change}
 use Rattle.r4_cell.specs.declared.change.Fresh.{Fresh}
+use Rattle.r4_graft.specs.Splices.{IsBorder}
 use Rattle.r4_graft.proofs.Placed.{first_member, first_or_later, not_in_none}
 use Rattle.r4_patch.specs.Joining.{ids_of}
 use Rattle.r4_patch.proofs.Members.{Distinct, cases, have_names, here, later, none}
@@ -36,7 +37,7 @@ use Rattle.r4_edit.proofs.OverLeaf.{first_there, leaf_node, some_is_none}
 use Rattle.r4_edit.proofs.OverPieces.{MayStandBehind}
 use Rattle.r4_edit.proofs.Spread.{extent_level}
 use Rattle.r4_extent_edit.specs.Turning.{IsTurnIn, IsTurnUp, KeepsEnds, TurnsIn, TurnsUp, key_of_end, last_leaf, turned_pieces}
-use Rattle.r4_extent_edit.proofs.TurnPieces.{comes, comes_names, last_in, p, turned_bytes, turned_names, turned_twigs, turned_units}
+use Rattle.r4_extent_edit.proofs.TurnPieces.{comes, comes_names, last_in, p, turn_border, turned_bytes, turned_names, turned_twigs, turned_units}
 
 -- the key behind an extent
 pub end_is : (it : Item) → IsGivenExtent it → rank (key_of_end it) ≡ item_end it
@@ -360,6 +361,9 @@ module _ {A : Type 0} (h : A → CellSeen) (path : List A) (x : A) (last_is : x 
 
   pub turn_in : FoundTurn t r it leaves fresh (h x) ups
   turn_in = found_turn t r it leaves fresh (h x) ups (up_last h (IsTurnUp t r it leaves fresh) (never_up t r it leaves fresh) path x last_is is)
+
+  pub turn_at : ArePiecesOf (h x) (twig_pieces (h x)) → IsBorder (rank it.key) (twig_pieces (h x))
+  turn_at are = turn_border (h x) are turn_in.leaf turn_in.more turn_in.is.beside.follow turn_in.is.beside.named (rank it.key) (item_end it) turn_in.is.around
 
   module _ (are : ArePiecesOf (h x) (twig_pieces (h x))) (mid : Fresh) (left right : Option CellSeen) (to : Key) (to_is : rank to ≡ item_end it)
       (kept : (leaf : CellSeen) (more : List CellSeen) → leaves ≡ leaf ∷ more → KeepsEnds leaf more it.key to fresh mid left right)

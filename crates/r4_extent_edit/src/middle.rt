@@ -13,7 +13,8 @@ use r4_edit::pieces_parted;
 use r4_graft::{place_of, splice};
 use std::alloc::Global;
 
-/// A twig's pieces, parted at both keys, with others in the place of those between them.
+/// A twig's pieces, parted at both keys, with others in the place of those between them. The first key lies at a border of
+/// blocks.
 pub(crate) fn pieces_put_over(
     alloc: Global,
     twig: &Cell,
@@ -22,10 +23,11 @@ pub(crate) fn pieces_put_over(
     others: &[TwigPiece],
 ) -> Result<Vec<TwigPiece>, Memory>
     requires level { twig.now.level ≡ 2 }
-    requires border { IsBorder (rank from.now) (twig_pieces twig.now) }
+    requires border { ArePiecesOf twig.now (twig_pieces twig.now) → IsBorder (rank from.now) (twig_pieces twig.now) }
     ensures are { IfOk result (λ v. ArePiecesOf twig.now (twig_pieces twig.now)) }
     ensures over { IfOk result (λ v. v.items ≡ pieces_over (rank from.now) (rank to.now) others.now twig.now) }
 {
+    let _node = twig.node();
     let pieces = pieces_parted(alloc, twig, from, to)?;
     let at = place_of(pieces.as_slice(), from);
     let end = place_of(pieces.as_slice(), to);

@@ -1,7 +1,11 @@
 use Rattle.std.proofs.Common.{◌≤◌, length, ap, arith}
 use Rattle.r4_base.specs.Key.{rank}
 use Rattle.r4_graft.proofs.Placed.{place_within}
+use Rattle.r4_extent_edit.proofs.SpanBorders.{sound_pieces}
 use Rattle.r4_extent_edit.proofs.middle.pieces_put_over.Goals as goal
+
+pub pieces_parted-requires-clause-border : goal.pieces_parted-requires-clause-border
+pieces_parted-requires-clause-border c = c.requires.border (sound_pieces c.args.twig.now (record { whole = c.node-node.ensures.whole; accepted = c.node-node.ensures.stands }) c.requires.level)
 
 pub splice-requires-clause-from : goal.splice-requires-clause-from
 splice-requires-clause-from c =

@@ -35,7 +35,7 @@ key_behind-end-requires c =
     (item_end it, subst (EndsAt (item_end it)) (sym (c.as_slice.ensures.value ∙ c.in_ok-extent.ensures)) (extent_ends it given.0 given.1))
 
 pub pieces_put_over-requires-clause-border : goal.pieces_put_over-requires-clause-border
-pieces_put_over-requires-clause-border c =
+pieces_put_over-requires-clause-border c are =
     let it = given_item c.args.key.now 5 c.args.body.now in
     let (t, (r, is)) = c.requires.path in
     subst (λ (x : CellSeen). IsBorder (rank c.args.key.now) (twig_pieces x)) (sym c.deref.ensures)
