@@ -1,5 +1,5 @@
 -- What an item of a leaf that is put among extents does to units.
-use Rattle.std.specs.Prelude.{◌≡◌, ◌↔◌, ◌==◌, ℕ, ◌+◌, ◌<◌, ◌≤◌, ◌⊎◌, Bool, true, false, List, [], ◌∷◌, ◌++◌, length, Contains, None, Option, Some, reverse}
+use Rattle.std.specs.Prelude.{◌≡◌, ◌↔◌, ◌==◌, ℕ, ◌+◌, ◌<◌, ◌≤◌, ◌⊎◌, Bool, true, false, List, [], ◌∷◌, length, Contains, None, Option, Some, reverse}
 use Rattle.std.specs.Option.{is_some}
 use mathlib.Core.Path.{refl, sym, ap, subst, ◌∙◌}
 use mathlib.Core.Logic.{inl, inr}
@@ -10,7 +10,7 @@ use Rattle.std.proofs.lemmas.List.Elements.{Contains-append_cases}
 use Rattle.std.proofs.lemmas.Option.{none-some, same_Some}
 use Rattle.r4_base.specs.Cell.{item_end, item_units}
 use Rattle.r4_base.specs.Key.{rank}
-use Rattle.r4_base.specs.Node.{Item, mkfs_id_of}
+use Rattle.r4_base.specs.Node.{Item}
 use Rattle.r4_base.specs.Tree.{IsNode, Root, Store}
 use Rattle.r4_base.specs.Value.{Value}
 use Rattle.r4_cell.specs.Seen.{CellSeen, node_of}
@@ -18,7 +18,7 @@ use Rattle.r4_cell.specs.declared.change.Change.{Change}
 use Rattle.r4_cell.specs.declared.change.Fresh.{Fresh}
 use Rattle.r4_leaf.proofs.LeafItems.{spread}
 use Rattle.r4_leaf.proofs.Standing.{given_sound}
-use Rattle.r4_patch.specs.Effect.{HasEffect, Placed, in_leaf}
+use Rattle.r4_patch.specs.Effect.{Placed, in_leaf}
 use Rattle.r4_patch.proofs.Members.{cases, here, none}
 use Rattle.r4_path.specs.Grafts.{GraftsUp}
 use Rattle.r4_path.specs.Steps.{fresh_ids}
@@ -27,7 +27,7 @@ use Rattle.r4_edit.specs.Extents.{IsLeafPutIn, IsLeafPutUp, PutsLeafIn, PutsLeaf
 use Rattle.r4_work.specs.Remaking.{value_in}
 use Rattle.r4_work.proofs.UnitMembers.{rise_in, some_value, value_there}
 use Rattle.r4_extent_edit.specs.Effects.{EditsUnits, IsMadeIn, leaf_values, own_keys, patch_with}
-use Rattle.r4_extent_edit.proofs.GraftEffect.{Comes, IsHeldBelow, IsPlacedIn, IsRepacked, Was, graft_effect, graft_names, graft_root, new_once, twig_stands}
+use Rattle.r4_extent_edit.proofs.GraftEffect.{Comes, IsHeldBelow, IsRepacked, Was, graft_effect, graft_names, graft_root, new_once, twig_stands}
 use Rattle.r4_extent_edit.proofs.PutEffect.{clear_key, twig_holds}
 
 placed_value : (o : Option Value) (v : Value) (b : Bool) → in_leaf o ≡ Some (v, b) → (o ≡ Some v) × (b ≡ true)
@@ -45,7 +45,7 @@ not_there (Some x) v e same = absurd cc
 module _ {t : Store Value} {r : Root} {it : Item} {twig : CellSeen} {ups : List CellSeen} {before mid after : Fresh} {path : List CellSeen} {c : Change}
     (is : IsLeafPutIn t r it twig ups before) (does : PutsLeafIn path it before after c twig)
     (g : IsRepacked t r twig ups (put_pieces it.key (leaf_pointer it.key before.next) (twig_pieces twig)) (record { old = []; new = does.leaf ∷ [] })
-      [] mid after does.grafts.change c) (mid_is : mid.next ≡ before.next + 1) where
+    [] mid after does.grafts.change c) (mid_is : mid.next ≡ before.next + 1) where
   abbrev leaf : CellSeen
   leaf = does.leaf
 

@@ -1,5 +1,5 @@
 -- Pieces with others in the place of those between two keys, where what stands there names nothing.
-use Rattle.std.proofs.Common.{◌≡◌, ◌↔◌, ◌⊎◌, inl, inr, ℕ, ◌+◌, ◌<◌, ◌≤◌, List, [], ◌∷◌, ◌++◌, length, refl, sym, ap, subst, ◌∙◌, arith}
+use Rattle.std.proofs.Common.{◌≡◌, ◌↔◌, ◌⊎◌, inl, inr, ℕ, ◌+◌, ◌<◌, ◌≤◌, List, [], ◌∷◌, ◌++◌, refl, sym, ap, subst, ◌∙◌, arith}
 use Rattle.std.specs.Prelude.{Contains}
 use Rattle.std.proofs.lemmas.List.Elements.{Contains-append_left, Contains-append_right}
 use Rattle.r4_base.specs.Key.{rank}
@@ -10,7 +10,7 @@ use Rattle.r4_branch.specs.declared.piece.TwigPart.TheVariants.{Pointer, Blocks}
 use Rattle.r4_branch.specs.declared.piece.TwigPiece.{TwigPiece}
 use Rattle.r4_graft.proofs.FoundPlaces.{next_lower}
 use Rattle.r4_graft.proofs.Joined.{follow_join, names_join, next_join, spliced_bytes}
-use Rattle.r4_graft.proofs.Placed.{first_member, follow_end, has_end, later_member}
+use Rattle.r4_graft.proofs.Placed.{first_member, has_end}
 use Rattle.r4_graft.proofs.SplicedNames.{spliced_names}
 use Rattle.r4_leaf.specs.Units.{cut_units, put_units}
 use Rattle.r4_edit.proofs.CutNames.{between_names, names_lie, units_without}

@@ -1,5 +1,5 @@
 -- What blocks that are cut out of a twig's extents do to units.
-use Rattle.std.specs.Prelude.{◌≡◌, ◌≢◌, ◌↔◌, ◌==◌, ℕ, ◌+◌, ◌^◌, ◌<◌, ◌≤◌, ◌⊎◌, Bool, true, false, List, [], ◌∷◌, ◌++◌, length, Contains, None, Option, Some, reverse}
+use Rattle.std.specs.Prelude.{◌≡◌, ◌↔◌, ◌==◌, ℕ, ◌+◌, ◌<◌, ◌≤◌, ◌⊎◌, Bool, true, false, List, [], ◌∷◌, ◌++◌, length, Contains, None, Option, Some, reverse}
 use mathlib.Core.Path.{refl, sym, ap, subst, ◌∙◌}
 use mathlib.Core.Logic.{inl, inr}
 use native.Mathlib.Omega.{arith}
@@ -20,11 +20,11 @@ use Rattle.r4_graft.proofs.Placed.{follow_end, has_end}
 use Rattle.r4_leaf.specs.Units.{cut_units, is_between}
 use Rattle.r4_patch.specs.Effect.{Placed}
 use Rattle.r4_patch.proofs.Holding.{find_name}
-use Rattle.r4_patch.proofs.Members.{cases, here, later, none}
+use Rattle.r4_patch.proofs.Members.{cases, here, none}
 use Rattle.r4_path.specs.Grafts.{GraftsUp}
 use Rattle.r4_path.specs.Steps.{fresh_ids, name_of}
 use Rattle.r4_path.specs.TwigPieces.{ArePiecesOf, twig_pieces}
-use Rattle.r4_path.proofs.Rising.{hi_is, in_cell, in_node, level_is, lo_is}
+use Rattle.r4_path.proofs.Rising.{in_cell, in_node, level_is}
 use Rattle.r4_edit.specs.CutBlocks.{BeginsAt, CutsIn, CutsUp, IsCutIn, IsCutUp, IsLeftOf, IsTakenUp, cut_pieces, end_key, new_pointer, numbers_for, parted_twice, pieces_between}
 use Rattle.r4_edit.specs.Extents.{given_cells}
 use Rattle.r4_edit.proofs.CutParts.{split}
@@ -64,7 +64,7 @@ module _ {t : Store Value} {r : Root} {leaf : Option CellSeen} {blocks : List Ce
     {twig : CellSeen} {ups : List CellSeen} {path : List CellSeen} {c : Change} (is : IsCutIn t r leaf blocks from to before twig ups)
     (does : CutsIn path leaf blocks from to before after c twig) (are : ArePiecesOf twig (twig_pieces twig))
     (g : IsRepacked t r twig ups (cut_pieces from to before.next leaf twig) (record { old = blocks ++ given_cells leaf; new = does.come })
-      [] mid after does.grafts.change c)
+    [] mid after does.grafts.change c)
     (mid_is : mid.next ≡ before.next + numbers_for leaf (new_pointer from to before.next leaf (parted_twice from to (twig_pieces twig)))) where
   abbrev at : ℕ → Bool
   at = is_between from to

@@ -1,5 +1,5 @@
 -- Where the pieces of an extent end.
-use Rattle.std.proofs.Common.{◌≡◌, ℕ, ◌+◌, ◌*◌, ◌^◌, ◌<◌, ◌≤◌, List, [], ◌∷◌, length, refl, sym, ap, subst, ◌∙◌, arith}
+use Rattle.std.proofs.Common.{◌≡◌, ℕ, ◌+◌, ◌*◌, ◌^◌, ◌<◌, List, [], ◌∷◌, length, refl, sym, ap, subst, ◌∙◌, arith}
 use Rattle.r4_base.specs.Cell.{item_end}
 use Rattle.r4_base.specs.Extents.{blocks_in, units_of as units_of_body}
 use Rattle.r4_base.specs.Key.{offset_of, rank, later}

@@ -1,5 +1,5 @@
 -- What an extent that comes into a twig does to units.
-use Rattle.std.specs.Prelude.{◌≡◌, ◌↔◌, ◌==◌, ℕ, ◌+◌, ◌*◌, ◌<◌, ◌≤◌, ◌⊎◌, Bool, true, false, List, [], ◌∷◌, ◌++◌, map, Contains, None, Option, Some}
+use Rattle.std.specs.Prelude.{◌≡◌, ◌↔◌, ◌==◌, ℕ, ◌<◌, ◌≤◌, ◌⊎◌, Bool, true, false, List, ◌++◌, Contains, None, Option, Some}
 use mathlib.Core.Path.{refl, sym, ap, subst, ◌∙◌}
 use mathlib.Core.Logic.{inl, inr}
 use native.Mathlib.Omega.{arith}
@@ -22,7 +22,7 @@ use Rattle.r4_cell.specs.declared.change.Change.{Change}
 use Rattle.r4_cell.specs.declared.change.Fresh.{Fresh}
 use Rattle.r4_leaf.specs.Units.{LeafUnit, is_between, put_units}
 use Rattle.r4_patch.specs.Effect.{HasEffect, Placed, in_extent}
-use Rattle.r4_patch.proofs.Members.{cases, distinct, here, later, none, there}
+use Rattle.r4_patch.proofs.Members.{distinct, there}
 use Rattle.r4_path.specs.Grafts.{AreBlocksOf}
 use Rattle.r4_path.specs.Levels.{units_of_cells}
 use Rattle.r4_path.specs.Steps.{name_of}
@@ -94,6 +94,7 @@ module _ {s : Store Value} {r : Root} {twig : CellSeen} {ups : List CellSeen} {q
       let to = (extent_row (rank it.key) (units_of_body it.body)).to (name_of x) is in
       let end = e.end in
       (omega (arith, range, lo, from), omega (arith, range, hi, to, end))
+
   given_off : (k : ℕ) → (rank it.key ≤ k) × (k < item_end it) → item_keys it k ≡ false → ⊥
   given_off k range off = both_ways (item_keys it k) (is_on (rank it.key) (item_end it) k range.0 range.1) off
 

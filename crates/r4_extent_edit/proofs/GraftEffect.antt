@@ -1,5 +1,5 @@
 -- What a twig that is packed anew does to units, with what goes and comes below it, and to numbers.
-use Rattle.std.specs.Prelude.{◌≡◌, ◌↔◌, ◌==◌, ℕ, ◌+◌, ◌^◌, ◌<◌, ◌≤◌, ◌⊎◌, Bool, true, false, List, [], ◌∷◌, ◌++◌, length, drop, Contains, None, Option, Some}
+use Rattle.std.specs.Prelude.{◌≡◌, ◌↔◌, ◌==◌, ℕ, ◌+◌, ◌<◌, ◌≤◌, ◌⊎◌, Bool, true, false, List, [], ◌∷◌, ◌++◌, length, drop, Contains, None, Option, Some}
 use mathlib.Core.Path.{refl, sym, ap, subst, ◌∙◌}
 use mathlib.Core.Logic.{inl, inr}
 use native.Mathlib.Omega.{arith}
@@ -12,7 +12,7 @@ use Rattle.r4_base.specs.Tree.{Holds, Node, Root, Store, UnitAt}
 use Rattle.r4_base.specs.Value.{Value}
 use Rattle.r4_branch.specs.Pieces.{units_of}
 use Rattle.r4_branch.specs.declared.piece.TwigPiece.{TwigPiece}
-use Rattle.r4_cell.specs.Patch.{HaveNames, IsChange, Patch, by_name, patch_of, place, root_after}
+use Rattle.r4_cell.specs.Patch.{HaveNames, Patch, by_name, place, root_after}
 use Rattle.r4_cell.specs.Seen.{CellSeen, node_of}
 use Rattle.r4_cell.specs.declared.change.Change.{Change}
 use Rattle.r4_cell.specs.declared.change.Fresh.{Fresh}
@@ -20,7 +20,7 @@ use Rattle.r4_cell.specs.declared.change.Root.{Root as RootPair}
 use Rattle.r4_leaf.specs.Units.{LeafUnit}
 use Rattle.r4_patch.specs.Effect.{HasEffect, Placed, UnitIn}
 use Rattle.r4_patch.specs.Joining.{ids_of}
-use Rattle.r4_patch.specs.Part.{IsPart, MeetsPart}
+use Rattle.r4_patch.specs.Part.{IsPart}
 use Rattle.r4_patch.proofs.Holding.{one_holder, unit_held, unit_once}
 use Rattle.r4_patch.proofs.Members.{Distinct, cases, distinct, found, here, later, none, there}
 use Rattle.r4_patch.proofs.Placed.{over_new, placed_part}
@@ -31,7 +31,6 @@ use Rattle.r4_path.specs.Steps.{Ascends, Step, fresh_ids, news, olds, root_pair}
 use Rattle.r4_path.specs.Twigs.{Below}
 use Rattle.r4_path.proofs.OnPath.{new_id, new_stands, stands_old, stands_step}
 use Rattle.r4_path.proofs.Rising.{count_within, follow_within, id_member, level_is}
-use Rattle.r4_path.proofs.Upwards.{numbered}
 use Rattle.r4_work.proofs.LeafEffect.{from_units, taken, to_units, upper_units, ups_high}
 use Rattle.r4_extent_edit.specs.Effects.{IsMadeIn, patch_with}
 

@@ -1,5 +1,5 @@
 -- An extent in the place of a twig's holes: the pieces make a graft.
-use Rattle.std.proofs.Common.{◌≡◌, ◌≢◌, ◌↔◌, ◌⊎◌, inl, inr, ℕ, ◌+◌, ◌-◌, ◌<◌, ◌≤◌, List, [], ◌++◌, length, map, take, get_or, sym, ap, subst, ◌∙◌, arith}
+use Rattle.std.proofs.Common.{◌≡◌, ◌≢◌, ◌↔◌, ◌⊎◌, inl, inr, ℕ, ◌-◌, ◌≤◌, List, [], length, map, take, get_or, sym, ap, subst, ◌∙◌, arith}
 use Rattle.std.specs.Prelude.{Contains, reverse}
 use Rattle.r4_base.specs.Cell.{item_end, item_units}
 use Rattle.r4_base.specs.Key.{rank}
@@ -15,7 +15,7 @@ use Rattle.r4_cell.specs.declared.change.Fresh.{Fresh}
 use Rattle.r4_graft.proofs.Placed.{not_in_none}
 use Rattle.r4_leaf.specs.Units.{cut_units, put_units}
 use Rattle.r4_patch.proofs.Members.{have_names}
-use Rattle.r4_path.specs.Grafts.{AreBlocksOf, AreCountedBelow, GraftsBelow, IsGraftBelow, IsGraftBelowIn, IsGraftBelowUp, IsGraftIn, IsGraftOf, IsGraftedIn, IsGraftedUp}
+use Rattle.r4_path.specs.Grafts.{AreBlocksOf, GraftsBelow, IsGraftBelow, IsGraftBelowIn, IsGraftBelowUp, IsGraftIn, IsGraftOf, IsGraftedIn, IsGraftedUp}
 use Rattle.r4_path.specs.Steps.{IsNameOf}
 use Rattle.r4_path.specs.TwigPieces.{ArePiecesOf, twig_pieces}
 use Rattle.r4_path.proofs.LastCell.{last_up, up_last, up_some}

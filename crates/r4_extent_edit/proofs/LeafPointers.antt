@@ -1,17 +1,15 @@
 -- The pointers to leaves that stand one beside the other, among a twig's pieces.
-use Rattle.std.proofs.Common.{◌≡◌, ◌⊎◌, inl, inr, ℕ, suc, ◌+◌, ◌<◌, ◌≤◌, List, [], ◌∷◌, ◌++◌, length, map, refl, sym, ap, subst, ◌∙◌, arith}
+use Rattle.std.proofs.Common.{◌≡◌, inl, inr, ℕ, ◌+◌, ◌≤◌, List, [], ◌∷◌, ◌++◌, map, refl, sym, ap, subst, ◌∙◌, arith}
 use Rattle.std.specs.Prelude.{Contains}
-use Rattle.std.proofs.lemmas.List.{append_assoc, length-append}
-use Rattle.std.proofs.lemmas.List.Elements.{Contains-append_cases, Contains-append_left, Contains-append_right}
+use Rattle.std.proofs.lemmas.List.Elements.{Contains-append_cases, Contains-append_left}
 use Rattle.r4_base.specs.Key.{rank}
 use Rattle.r4_base.specs.Tree.{Name}
 use Rattle.r4_branch.specs.Pieces.{Follow, names_of, next_of, part_end, part_names, part_units, piece_end, units_of}
-use Rattle.r4_branch.specs.declared.piece.TwigPart.{TwigPart}
 use Rattle.r4_branch.specs.declared.piece.TwigPart.TheVariants.{Pointer}
 use Rattle.r4_branch.specs.declared.piece.TwigPiece.{TwigPiece}
 use Rattle.r4_cell.specs.Seen.{CellSeen}
 use Rattle.r4_graft.proofs.FoundPlaces.{find_pointer}
-use Rattle.r4_graft.proofs.Joined.{end_of, follow_parts, names_join, next_join}
+use Rattle.r4_graft.proofs.Joined.{end_of, follow_parts, names_join}
 use Rattle.r4_graft.proofs.Placed.{follow_end, has_end}
 use Rattle.r4_graft.proofs.SplicedNames.{names_begin}
 use Rattle.r4_patch.proofs.Members.{cases, here, later, none}

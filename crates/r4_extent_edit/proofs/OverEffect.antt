@@ -1,16 +1,15 @@
 -- What an extent over a leaf, and an item of a leaf among extents, do to units.
-use Rattle.std.specs.Prelude.{◌≡◌, ◌≢◌, ◌↔◌, ◌==◌, ℕ, ◌+◌, ◌-◌, ◌<◌, ◌≤◌, ◌⊎◌, Bool, true, false, if◌then◌else◌, List, [], ◌∷◌, ◌++◌, length, take, Contains, None, Option, Some, reverse}
+use Rattle.std.specs.Prelude.{◌≡◌, ◌==◌, ℕ, ◌+◌, ◌-◌, ◌<◌, ◌≤◌, ◌⊎◌, Bool, true, false, if◌then◌else◌, List, [], ◌∷◌, ◌++◌, length, take, Contains, None, Option, Some, reverse}
 use mathlib.Core.Path.{refl, sym, ap, subst, ◌∙◌}
 use mathlib.Core.Logic.{inl, inr}
 use native.Mathlib.Omega.{arith}
-use Rattle.std.proofs.lemmas.Bool.{eq-eqb, ne_eqb}
-use Rattle.std.proofs.lemmas.List.{length-append, length-reverse, reverse-append, reverse-reverse}
+use Rattle.std.proofs.lemmas.List.{length-append, reverse-append, reverse-reverse}
 use Rattle.std.proofs.Math.Seq.{take-append_seam}
 use Rattle.std.proofs.lemmas.Option.{none-some}
-use Rattle.r4_base.specs.Cell.{item_end, item_units}
+use Rattle.r4_base.specs.Cell.{item_end}
 use Rattle.r4_base.specs.Key.{rank}
 use Rattle.r4_base.specs.Node.{Item}
-use Rattle.r4_base.specs.Tree.{IsNode, Root, Store}
+use Rattle.r4_base.specs.Tree.{Root, Store}
 use Rattle.r4_base.specs.Value.{Value}
 use Rattle.r4_branch.proofs.Filled.{item_has_end}
 use Rattle.r4_cell.specs.Seen.{CellSeen, node_of}
@@ -65,7 +64,7 @@ over_around {t} {r} {it} is =
 module _ {t : Store Value} {r : Root} {it : Item} {leaf twig : CellSeen} {ups : List CellSeen} {before after : Fresh} {path : List CellSeen}
     {c : Change} {blocks : List CellSeen} (is : IsOverIn t r it leaf twig ups before) (does : PutsOverIn path it before after c leaf twig)
     (g : IsRepacked t r twig ups (over_pieces it leaf does.right (twig_pieces twig)) (record { old = leaf ∷ []; new = given_cells does.left ++ given_cells does.right })
-      blocks does.mid after does.grafts.change c) where
+    blocks does.mid after does.grafts.change c) where
   -- what has the leaf's name is no new name
   right_name : (o : Option CellSeen) → HasRight leaf it.key (right_id leaf it.key before) o → before.next + right_takes leaf it.key o ≤ after.next
       → (x : CellSeen) → Contains (given_cells o) x → (patch_with c blocks).old x.id ≡ None → (before.next ≤ x.id) × (x.id < after.next)

@@ -1,6 +1,6 @@
 -- What an extent that is put among others, or in the place of holes, does to units.
-use Rattle.std.specs.Prelude.{◌≡◌, ◌↔◌, ℕ, ◌<◌, ◌≤◌, ◌⊎◌, Bool, true, false, not, List, [], ◌∷◌, Contains, Option, reverse}
-use mathlib.Core.Path.{refl, sym, ap, subst, ◌∙◌}
+use Rattle.std.specs.Prelude.{◌≡◌, ◌↔◌, ℕ, ◌<◌, ◌≤◌, ◌⊎◌, false, not, List, [], ◌∷◌, Contains, reverse}
+use mathlib.Core.Path.{refl, subst}
 use mathlib.Core.Logic.{inl, inr}
 use native.Mathlib.Omega.{arith}
 use Rattle.r4_base.specs.Cell.{item_end, item_units}
@@ -14,18 +14,15 @@ use Rattle.r4_cell.specs.Seen.{CellSeen, node_of}
 use Rattle.r4_cell.specs.declared.change.Change.{Change}
 use Rattle.r4_cell.specs.declared.change.Fresh.{Fresh}
 use Rattle.r4_leaf.specs.Units.{LeafUnit, cut_units, is_between, put_units}
-use Rattle.r4_patch.specs.Effect.{HasEffect, Placed}
+use Rattle.r4_patch.specs.Effect.{Placed}
 use Rattle.r4_patch.proofs.Members.{none}
-use Rattle.r4_path.specs.Grafts.{AreBlocksOf, Grafts, GraftsAt, GraftsBelow, GraftsUp, HasBelow}
-use Rattle.r4_path.specs.Growing.{IsPathIn}
-use Rattle.r4_path.specs.Steps.{Ascends}
-use Rattle.r4_path.specs.Twigs.{Below}
+use Rattle.r4_path.specs.Grafts.{AreBlocksOf, GraftsUp}
 use Rattle.r4_path.proofs.Rising.{in_node, level_is}
-use Rattle.r4_edit.specs.Extents.{AreAmongExtents, IsGivenExtent, IsSpreadIn, IsSpreadUp, SpreadsIn, SpreadsUp, item_blocks}
+use Rattle.r4_edit.specs.Extents.{AreAmongExtents, IsGivenExtent, IsSpreadUp, SpreadsUp, item_blocks}
 use Rattle.r4_edit.proofs.Spread.{nothing}
 use Rattle.r4_work.proofs.UnitMembers.{filtered, not_false, not_true, to_filtered}
-use Rattle.r4_extent_edit.specs.Effects.{EditsUnits, IsMadeIn, extent_values, item_keys, patch_with}
-use Rattle.r4_extent_edit.specs.Setting.{IsSetIn, IsSetUp, SetsIn, SetsUp, set_pieces}
+use Rattle.r4_extent_edit.specs.Effects.{EditsUnits, IsMadeIn, extent_values, item_keys}
+use Rattle.r4_extent_edit.specs.Setting.{IsSetUp, SetsUp}
 use Rattle.r4_extent_edit.proofs.ExtentEffect.{extent_effect, is_off}
 use Rattle.r4_extent_edit.proofs.GraftEffect.{IsPlacedIn, IsRepacked, graft_names, graft_root, twig_stands}
 

@@ -1,6 +1,6 @@
 -- Borders of an extent's blocks are borders of the twig's pieces.
-use Rattle.std.proofs.Common.{◌≡◌, ◌⊎◌, inl, inr, ℕ, ◌+◌, ◌-◌, ◌*◌, ◌^◌, ◌<◌, ◌≤◌, Bool, true, false, List, [], ◌∷◌, ◌++◌, refl, sym, ap, subst, ◌∙◌, arith}
-use Rattle.std.specs.Prelude.{Contains, None, ◌==◌, if◌then◌else◌}
+use Rattle.std.proofs.Common.{◌≡◌, ◌⊎◌, inl, inr, ℕ, ◌+◌, ◌-◌, ◌*◌, ◌^◌, ◌≤◌, Bool, true, false, List, [], ◌∷◌, ◌++◌, refl, sym, ap, subst, ◌∙◌, arith}
+use Rattle.std.specs.Prelude.{Contains, None, if◌then◌else◌}
 use Rattle.std.proofs.lemmas.Bool.{cases_lt, eqb-true}
 use Rattle.std.proofs.lemmas.List.{append_assoc}
 use Rattle.std.proofs.lemmas.List.Elements.{Contains-append_cases}
@@ -12,7 +12,7 @@ use Rattle.r4_base.specs.Tree.{IsData, Name, Span}
 use Rattle.r4_base.specs.declared.items.Unit.{Unit as ExtentUnit}
 use Rattle.r4_base.specs.declared.key.Key.{Key}
 use Rattle.r4_branch.specs.Items.{IsSoundItem, Lie}
-use Rattle.r4_branch.specs.Pieces.{Follow, MayStand, item_pieces, next_of, piece_end, pieces_in, twig_bytes, unit_pieces}
+use Rattle.r4_branch.specs.Pieces.{Follow, MayStand, item_pieces, piece_end, pieces_in, unit_pieces}
 use Rattle.r4_branch.specs.declared.piece.TwigPart.TheVariants.{Blocks}
 use Rattle.r4_branch.specs.declared.piece.TwigPiece.{TwigPiece}
 use Rattle.r4_branch.proofs.ItemPieces.{bytes_of_twig, extent_pieces, follow_item, follow_items, names_of_twig, next_of_items, pieces_of_twig, units_of_twig}
@@ -20,7 +20,7 @@ use Rattle.r4_branch.proofs.Standing.{stand_lie}
 use Rattle.r4_branch.proofs.UnitPieces.{rank_later}
 use Rattle.r4_cell.specs.Seen.{CellSeen, node_of}
 use Rattle.r4_graft.specs.Splices.{IsBorder}
-use Rattle.r4_graft.proofs.Placed.{first_or_later, follow_above, follow_end, has_end, not_in_none}
+use Rattle.r4_graft.proofs.Placed.{first_or_later, follow_end, has_end, not_in_none}
 use Rattle.r4_path.specs.Sharing.{IsSound}
 use Rattle.r4_path.specs.TwigPieces.{ArePiecesOf, twig_pieces}
 use Rattle.r4_path.proofs.CellNodes.{names_are, spans_are, units_are}

@@ -1,16 +1,15 @@
 -- What leaves whose range becomes an extent do to units.
-use Rattle.std.specs.Prelude.{◌≡◌, ◌≢◌, ◌↔◌, ◌==◌, ℕ, ◌+◌, ◌<◌, ◌≤◌, ◌⊎◌, Bool, true, false, nat_le, nat_lt, List, [], ◌∷◌, ◌++◌, length, Contains, None, Option, Some, reverse}
+use Rattle.std.specs.Prelude.{◌≡◌, ◌↔◌, ◌==◌, ℕ, ◌+◌, ◌<◌, ◌≤◌, ◌⊎◌, Bool, true, false, nat_le, nat_lt, List, [], ◌∷◌, ◌++◌, length, Contains, None, Option, Some, reverse}
 use mathlib.Core.Path.{refl, sym, ap, subst, ◌∙◌}
 use mathlib.Core.Logic.{inl, inr}
 use native.Mathlib.Omega.{arith}
 use Rattle.std.proofs.lemmas.Bool.{cases_lt, le-leb, lt-leb, lt-ltb}
-use Rattle.std.proofs.lemmas.Bool.Decides.{nat_tests}
 use Rattle.std.proofs.lemmas.List.Elements.{Contains-append_cases, Contains-append_left, Contains-append_right}
-use Rattle.std.proofs.lemmas.Option.{none-some, same_Some}
+use Rattle.std.proofs.lemmas.Option.{none-some}
 use Rattle.r4_base.specs.Cell.{item_end, item_units}
 use Rattle.r4_base.specs.Key.{rank}
 use Rattle.r4_base.specs.Node.{Item}
-use Rattle.r4_base.specs.Tree.{Holds, IsData, IsNode, Root, Store}
+use Rattle.r4_base.specs.Tree.{IsData, IsNode, Root, Store}
 use Rattle.r4_base.specs.Value.{Value}
 use Rattle.r4_base.specs.declared.key.Key.{Key}
 use Rattle.r4_branch.specs.Pieces.{units_of}
@@ -20,7 +19,7 @@ use Rattle.r4_cell.specs.declared.change.Change.{Change}
 use Rattle.r4_cell.specs.declared.change.Fresh.{Fresh}
 use Rattle.r4_leaf.specs.Units.{LeafUnit, put_units}
 use Rattle.r4_patch.specs.Effect.{HasEffect, Placed}
-use Rattle.r4_patch.proofs.Members.{cases, here, later, none}
+use Rattle.r4_patch.proofs.Members.{cases, here, none}
 use Rattle.r4_path.specs.Grafts.{AreBlocksOf, GraftsUp}
 use Rattle.r4_path.specs.Steps.{Follow as FollowCells, fresh_ids, name_of}
 use Rattle.r4_path.proofs.Rising.{InCell, follow_covers, follow_within, in_cell, in_node, level_is}
@@ -304,7 +303,7 @@ turn_does : {t : Store Value} {r : Root} {it : Item} {leaf : CellSeen} {more : L
     {before after : Fresh} {path : List CellSeen} {c : Change} {blocks : List CellSeen} (is : IsTurnIn t r it leaf more twig ups before)
     (does : TurnsIn path it leaf more before after c twig)
     → IsRepacked t r twig ups (turned_pieces it does.right twig) (record { old = leaf ∷ more; new = given_cells does.left ++ given_cells does.right })
-      blocks does.mid after does.grafts.change c
+    blocks does.mid after does.grafts.change c
     → AreBlocksOf (item_blocks it) blocks → EditsUnits c blocks before after (item_keys it) (extent_values it blocks)
 turn_does {t} {r} {it} {leaf} {more} {twig} {ups} {before} {after} {path} {c} {blocks} is does g of =
     let to_is = end_is it is.given in

@@ -1,5 +1,5 @@
 -- The first and the last of some leaves that are given in a list, and the last piece of an extent.
-use Rattle.std.proofs.Common.{◌≡◌, ℕ, zero, suc, ◌+◌, ◌-◌, ◌*◌, ◌<◌, ◌≤◌, List, [], ◌∷◌, ◌++◌, length, map, get_or, refl, sym, ap, subst, ◌∙◌, arith}
+use Rattle.std.proofs.Common.{◌≡◌, ℕ, zero, suc, ◌-◌, ◌*◌, ◌<◌, List, [], ◌∷◌, ◌++◌, length, map, get_or, refl, sym, ap, subst, ◌∙◌, arith}
 use Rattle.std.specs.Prelude.{Contains, None}
 use Rattle.std.proofs.lemmas.Bool.{lt-leb}
 use Rattle.std.proofs.lemmas.List.{length-append}
@@ -83,7 +83,7 @@ unfolding width_of
 last_piece to ps d u ends part =
     let long = ap length ends.is ∙ length-append ends.before (record { key = ends.key; part = Blocks ends.unit } ∷ []) in
     let is : get_or ps (length ps - 1) d ≡ record { key = ends.key; part = Blocks ends.unit } =
-        ap (λ xs. get_or xs (length ps - 1) d) ends.is ∙ at_end ends.before (record { key = ends.key; part = Blocks ends.unit }) d (length ps - 1) (omega (arith, long)) in
+    ap (λ xs. get_or xs (length ps - 1) d) ends.is ∙ at_end ends.before (record { key = ends.key; part = Blocks ends.unit }) d (length ps - 1) (omega (arith, long)) in
     let width : u.width ≡ ends.unit.width = ap width_of (sym part ∙ ap (λ (p : TwigPiece). p.part) is) in
     let key = ap (λ (p : TwigPiece). rank p.key) is in
     let at = rank_later (get_or ps (length ps - 1) d).key (4096 * u.width) in

@@ -1,5 +1,5 @@
 -- Leaves whose range becomes an extent: what goes and comes.
-use Rattle.std.proofs.Common.{◌≡◌, ◌≢◌, ◌↔◌, ◌⊎◌, inl, inr, ℕ, ◌+◌, ◌-◌, ◌*◌, ◌^◌, ◌<◌, ◌≤◌, Bool, true, false, List, [], ◌∷◌, ◌++◌, length, map, take, get_or, refl, sym, ap, subst, ◌∙◌, arith}
+use Rattle.std.proofs.Common.{◌≡◌, ◌≢◌, ◌↔◌, ◌⊎◌, inl, inr, ℕ, ◌+◌, ◌-◌, ◌*◌, ◌^◌, ◌<◌, ◌≤◌, true, List, [], ◌∷◌, ◌++◌, length, map, take, get_or, refl, sym, ap, subst, ◌∙◌, arith}
 use Rattle.std.specs.Prelude.{Contains, Option, None, Some, reverse}
 use Rattle.std.proofs.lemmas.List.Elements.{Contains-append_cases, Contains-append_left, Contains-append_right}
 use Rattle.std.proofs.lemmas.Option.{same_Some}
@@ -21,7 +21,7 @@ use Rattle.r4_cell.specs.declared.change.Fresh.{Fresh}
 use Rattle.r4_graft.specs.Splices.{IsBorder}
 use Rattle.r4_graft.proofs.Placed.{first_member, first_or_later, not_in_none}
 use Rattle.r4_patch.specs.Joining.{ids_of}
-use Rattle.r4_patch.proofs.Members.{Distinct, cases, have_names, here, later, none}
+use Rattle.r4_patch.proofs.Members.{Distinct, have_names, here, later}
 use Rattle.r4_path.specs.Grafts.{AreBlocksOf, AreCountedBelow, GraftsBelow, IsGraftBelow, IsGraftBelowIn, IsGraftBelowUp, IsGraftIn, IsGraftOf, IsGraftedIn, IsGraftedUp, IsUnusedBeside}
 use Rattle.r4_path.specs.Steps.{CountUp, Follow as FollowCells, IsFree, IsNameOf, name_of}
 use Rattle.r4_path.specs.TwigPieces.{ArePiecesOf, twig_pieces}
@@ -29,7 +29,7 @@ use Rattle.r4_path.specs.Twigs.{Below}
 use Rattle.r4_path.proofs.GraftBelow.{path_later}
 use Rattle.r4_path.proofs.Grown.{map_names, names_map}
 use Rattle.r4_path.proofs.LastCell.{last_up, up_last, up_some}
-use Rattle.r4_path.proofs.Rising.{follow_within, hi_is, id_member, lo_is}
+use Rattle.r4_path.proofs.Rising.{follow_within, hi_is, lo_is}
 use Rattle.r4_edit.specs.Extents.{AreEnough, IsGivenExtent, given_cells, item_blocks}
 use Rattle.r4_edit.specs.LeafParts.{HasLeft, HasRight, first_from, units_from}
 use Rattle.r4_edit.proofs.CutGraft.{may_be_named}

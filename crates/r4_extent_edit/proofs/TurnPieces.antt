@@ -1,5 +1,5 @@
 -- An extent over leaves that stand one beside the other: the pieces, their units, and what they name.
-use Rattle.std.proofs.Common.{map, ◌≡◌, ◌≢◌, ◌↔◌, ◌⊎◌, inl, inr, ℕ, zero, suc, ◌+◌, ◌^◌, ◌<◌, ◌≤◌, Bool, true, false, List, [], ◌∷◌, ◌++◌, length, take, drop, refl, sym, ap, subst, ◌∙◌, arith}
+use Rattle.std.proofs.Common.{map, ◌≡◌, ◌≢◌, ◌↔◌, ◌⊎◌, inl, inr, ℕ, suc, ◌+◌, ◌<◌, ◌≤◌, Bool, true, false, List, [], ◌∷◌, ◌++◌, length, take, drop, refl, sym, ap, subst, ◌∙◌, arith}
 use Rattle.std.specs.Prelude.{Contains, Option, None, Some, ◌==◌, if◌then◌else◌}
 use Rattle.std.proofs.Math.Seq.{drop-append_seam, take-append_seam}
 use Rattle.std.proofs.lemmas.Bool.{cases_lt, eqb-true, eqb-false, le-ltb, lt-ltb}
@@ -11,10 +11,9 @@ use Rattle.r4_base.specs.Node.{Item}
 use Rattle.r4_base.specs.Tree.{Name}
 use Rattle.r4_branch.specs.Pieces.{AreTwigPieces, Follow, bytes_behind, item_pieces, last_end, names_of, next_of, part_bytes, part_end, part_names, part_units, piece_end, twig_bytes, units_of}
 use Rattle.r4_branch.specs.declared.piece.TwigPiece.{TwigPiece}
-use Rattle.r4_branch.proofs.Filled.{item_has_end}
 use Rattle.r4_branch.proofs.ItemPieces.{bytes_of_item, follow_item, names_of_item, next_of_item, units_append, units_of_item}
 use Rattle.r4_cell.specs.Seen.{CellSeen, node_of}
-use Rattle.r4_graft.specs.Splices.{IsBorder, is_within, parted, parted_piece, place}
+use Rattle.r4_graft.specs.Splices.{IsBorder, parted, parted_piece, place}
 use Rattle.r4_graft.proofs.Joined.{bytes_join, bytes_most, end_of, follow_join, follow_parts, names_join, next_join, spliced_bytes}
 use Rattle.r4_graft.proofs.Placed.{first_member, first_or_later, follow_above, has_end, later_member, place_none, place_some}
 use Rattle.r4_graft.proofs.SplicedNames.{spliced_names}

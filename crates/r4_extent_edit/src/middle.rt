@@ -13,8 +13,9 @@ use r4_edit::pieces_parted;
 use r4_graft::{place_of, splice};
 use std::alloc::Global;
 
-/// A twig's pieces, parted at both keys, with others in the place of those between them. The first key lies at a border of
-/// blocks.
+// A twig's pieces, parted at both keys, with others in the place of those between them. The first key lies at a border of
+// blocks.
+#[tactic(auto, using(r4_graft::proofs::Placed::place_within))]
 pub(crate) fn pieces_put_over(
     alloc: Global,
     twig: &Cell,
@@ -35,7 +36,7 @@ pub(crate) fn pieces_put_over(
     Ok(all)
 }
 
-/// The key behind the pieces of an extent.
+// The key behind the pieces of an extent.
 pub(crate) fn key_behind(extent: &[TwigPiece]) -> Key
     requires { (to : ℕ) × EndsAt to extent.now }
     ensures { (to : ℕ) → EndsAt to extent.now → rank result ≡ to }

@@ -65,13 +65,12 @@ pub fn turn(
     add_pointer(&mut others, &parts.right)?;
     let twig = &path[path.len() - 1];
     let pieces = pieces_put_over(alloc, twig, key, &end, others.as_slice())?;
-    let mut old = Vec::with_capacity(alloc, leaves.len())?;
-    add(&mut old, leaves)?;
+    let old = all_of(alloc, leaves)?;
     let new = cells_of(alloc, parts)?;
     graft_below(alloc, path, pieces.as_slice(), old, new, fresh)
 }
 
-/// What stays of leaves where a range goes: the part of the first one before a key, and that of the last one from another on.
+// What stays of leaves where a range goes: the part of the first one before a key, and that of the last one from another on.
 fn ends_kept(
     alloc: Global,
     leaves: &[Arc<Cell>],
@@ -91,7 +90,7 @@ fn ends_kept(
     Ok(LeafParts { left, right })
 }
 
-/// The part of a leaf from a key behind its first one on, where a unit has that key or one behind it.
+// The part of a leaf from a key behind its first one on, where a unit has that key or one behind it.
 fn rest_of(
     alloc: Global,
     leaf: &Cell,
@@ -113,4 +112,13 @@ fn rest_of(
         return Ok(None);
     }
     right_part(alloc, leaf, key, fresh)
+}
+
+// All of the leaves, since those between the first and the last go too.
+fn all_of(alloc: Global, leaves: &[Arc<Cell>]) -> Result<Vec<Arc<Cell>>, Memory>
+    ensures { IfOk result (λ v. map (λ c. arc_value c) v.items ≡ map (λ c. arc_value c) leaves.now) }
+{
+    let mut cells = Vec::with_capacity(alloc, leaves.len())?;
+    add(&mut cells, leaves)?;
+    Ok(cells)
 }

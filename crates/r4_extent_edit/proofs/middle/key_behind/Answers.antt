@@ -1,4 +1,4 @@
-use Rattle.std.proofs.Common.{◌*◌, ap, ◌∙◌}
+use Rattle.std.proofs.Common.{ap, ◌∙◌}
 use Rattle.r4_base.specs.Key.{rank}
 use Rattle.r4_extent_edit.proofs.TurnEnds.{last_piece}
 use Rattle.r4_extent_edit.proofs.middle.key_behind.Goals as goal

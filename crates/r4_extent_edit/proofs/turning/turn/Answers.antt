@@ -1,4 +1,4 @@
-use Rattle.std.proofs.Common.{◌≡◌, ℕ, ◌++◌, List, [], map, sym, ap, subst, ◌∙◌}
+use Rattle.std.proofs.Common.{◌≡◌, ◌++◌, List, map, sym, ap, subst, ◌∙◌}
 use Rattle.std.specs.Prelude.{Option, reverse}
 use Rattle.std.specs.Arc.{arc_value}
 use Rattle.std.specs.Option.{option_map}
@@ -8,7 +8,6 @@ use Rattle.r4_base.specs.Key.{rank}
 use Rattle.r4_base.specs.Node.{Item}
 use Rattle.r4_base.specs.Tree.{Root as TreeRoot, Store}
 use Rattle.r4_base.specs.Value.{Value}
-use Rattle.r4_branch.specs.Pieces.{item_pieces}
 use Rattle.r4_cell.specs.Seen.{CellSeen}
 use Rattle.r4_cell.specs.declared.change.Change.{Change}
 use Rattle.r4_edit.specs.Editing.{given_item}
@@ -98,17 +97,14 @@ module _ (c : After-drop-others-2) where
   are : ArePiecesOf twig (twig_pieces twig)
   are = subst (λ (x : CellSeen). ArePiecesOf x (twig_pieces x)) c.deref.ensures c.in_ok-pieces.ensures.are
 
-  old_is : map arc_value c.add.new.cells.items ≡ leaves
-  old_is = c.in_ok-add.ensures ∙ ap (λ (xs : List _). map arc_value xs ++ leaves) c.in_ok-old.ensures.items
-
   abbrev lent : Below
-  lent = record { old = map arc_value c.add.new.cells.items; new = map arc_value c.in_ok-new.new.items }
+  lent = record { old = map arc_value c.in_ok-old.old.items; new = map arc_value c.in_ok-new.new.items }
 
   abbrev parts : Below
   parts = record { old = leaves; new = given_cells left ++ given_cells right }
 
   same : parts ≡ lent
-  same i = record { old = sym old_is i; new = sym c.in_ok-new.ensures i }
+  same i = record { old = sym c.in_ok-old.ensures i; new = sym c.in_ok-new.ensures i }
 
   below : (t : Store Value) (r : TreeRoot) → IsTurnUp t r it leaves c.args.fresh.now (reverse (map arc_value c.args.path.now))
       → (blocks : List CellSeen) → AreBlocksOf (item_blocks it) blocks
