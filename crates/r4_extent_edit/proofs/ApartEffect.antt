@@ -1,5 +1,6 @@
 -- What an item of a leaf that is put among extents does to units.
-use Rattle.std.specs.Prelude.{◌≡◌, ◌↔◌, ◌==◌, ℕ, ◌+◌, ◌<◌, ◌≤◌, ◌⊎◌, Bool, true, false, List, [], ◌∷◌, length, Contains, None, Option, Some, reverse}
+use Rattle.std.specs.Prelude.{◌≡◌, ◌↔◌, ◌==◌, ℕ, ◌+◌, ◌<◌, ◌≤◌, ◌⊎◌, Bool, true, false, List, [], ◌∷◌, length, Contains}
+use Rattle.std.specs.Prelude.{None, Option, Some, reverse}
 use Rattle.std.specs.Option.{is_some}
 use mathlib.Core.Path.{refl, sym, ap, subst, ◌∙◌}
 use mathlib.Core.Logic.{inl, inr}
@@ -27,12 +28,14 @@ use Rattle.r4_edit.specs.Extents.{IsLeafPutIn, IsLeafPutUp, PutsLeafIn, PutsLeaf
 use Rattle.r4_work.specs.Remaking.{value_in}
 use Rattle.r4_work.proofs.UnitMembers.{rise_in, some_value, value_there}
 use Rattle.r4_extent_edit.specs.Effects.{EditsUnits, IsMadeIn, leaf_values, own_keys, patch_with}
-use Rattle.r4_extent_edit.proofs.GraftEffect.{Comes, IsHeldBelow, IsRepacked, Was, graft_effect, graft_names, graft_root, new_once, twig_stands}
+use Rattle.r4_extent_edit.proofs.GraftEffect.{Comes, IsHeldBelow, IsRepacked, Was, graft_effect, graft_names}
+use Rattle.r4_extent_edit.proofs.GraftEffect.{graft_root, new_once, twig_stands}
 use Rattle.r4_extent_edit.proofs.PutEffect.{clear_key, twig_holds}
 
 placed_value : (o : Option Value) (v : Value) (b : Bool) → in_leaf o ≡ Some (v, b) → (o ≡ Some v) × (b ≡ true)
 placed_value None v b e = absurd (none-some (v, b) e)
-placed_value (Some x) v b e = let same = same_Some (x, true) (v, b) e in (ap (λ (u : Placed Value). Some u.0) same, ap (λ (u : Placed Value). u.1) (sym same))
+placed_value (Some x) v b e = let same = same_Some (x, true) (v, b) e in
+    (ap (λ (u : Placed Value). Some u.0) same, ap (λ (u : Placed Value). u.1) (sym same))
 
 is_there : (o : Option Value) → is_some o ≡ true → (v : Value) × (o ≡ Some v)
 is_there None e = absurd cc
@@ -42,15 +45,18 @@ not_there : (o : Option Value) (v : Value) → is_some o ≡ false → o ≡ Som
 not_there None v e same = none-some v same
 not_there (Some x) v e same = absurd cc
 
-module _ {t : Store Value} {r : Root} {it : Item} {twig : CellSeen} {ups : List CellSeen} {before mid after : Fresh} {path : List CellSeen} {c : Change}
+module _ {t : Store Value} {r : Root} {it : Item} {twig : CellSeen} {ups : List CellSeen} {before mid after : Fresh}
+    {path : List CellSeen} {c : Change}
     (is : IsLeafPutIn t r it twig ups before) (does : PutsLeafIn path it before after c twig)
-    (g : IsRepacked t r twig ups (put_pieces it.key (leaf_pointer it.key before.next) (twig_pieces twig)) (record { old = []; new = does.leaf ∷ [] })
+    (g : IsRepacked t r twig ups (put_pieces it.key (leaf_pointer it.key before.next) (twig_pieces twig))
+    (record { old = []; new = does.leaf ∷ [] })
     [] mid after does.grafts.change c) (mid_is : mid.next ≡ before.next + 1) where
   abbrev leaf : CellSeen
   leaf = does.leaf
 
   item_in : (k : ℕ) (v : Value) → Contains (item_units it) (k, v) → (rank it.key ≤ k) × (k < item_end it)
-  item_in k v h = rise_in (rank it.key) (item_end it) (item_units it) k v (spread it (given_sound it is.given is.whole_key)).rise h
+  item_in k v h = rise_in (rank it.key) (item_end it) (item_units it) k v (spread it
+      (given_sound it is.given is.whole_key)).rise h
 
   own_in : (k : ℕ) → own_keys it k ≡ true → (rank it.key ≤ k) × (k < item_end it)
   own_in k on = let (v, e) = is_there (value_in (item_units it) k) on in item_in k v (value_there (item_units it) k v e)
@@ -62,13 +68,18 @@ module _ {t : Store Value} {r : Root} {it : Item} {twig : CellSeen} {ups : List 
   held k on =
       let (from, to) = own_in k on in
       let low = is.keys.low in
-      let high = is.keys.high in
-      (twig, inr refl, twig_holds twig k node g.level (omega (arith, low, from)) (omega (arith, high, to)) (λ n cn range. clear_key n (rank it.key) (item_end it) k (is.keys.clear.named n cn) from to range))
+      let high = is.keys.high in (
+        twig,
+        inr refl,
+        twig_holds twig k node g.level (omega (arith, low, from)) (omega (arith, high, to))
+            (λ n cn range. clear_key n (rank it.key) (item_end it) k (is.keys.clear.named n cn) from to range),
+      )
 
   leaf_kind : (leaf.level == 1) ≡ true
   leaf_kind = eq-eqb leaf.level 1 does.leaf_is.level_is
 
-  come_from : (k : ℕ) (u : Placed Value) → Comes g k u → (Contains (item_units it) (k, u.0) × (u.1 ≡ true)) ⊎ (Contains (node_of twig).units (k, u.0) × (u.1 ≡ false))
+  come_from : (k : ℕ) (u : Placed Value) → Comes g k u → (Contains (item_units it) (k, u.0) × (u.1 ≡ true))
+      ⊎ (Contains (node_of twig).units (k, u.0) × (u.1 ≡ false))
   come_from k u h = elim h [
     | inr mine ↦ inr (subst (λ us. Contains us (k, u.0)) does.units mine.0, mine.1)
     | inl low ↦
@@ -83,19 +94,33 @@ module _ {t : Store Value} {r : Root} {it : Item} {twig : CellSeen} {ups : List 
   ]
 
   own_come : (k : ℕ) (v : Value) → Contains (item_units it) (k, v) → Comes g k (v, true)
-  own_come k v h = inl (leaf, subst (λ cells. Contains cells leaf) (sym (append-nil (leaf ∷ []))) (here leaf []), subst (λ us. Contains us (k, v)) (sym does.leaf_is.units) h, leaf_kind)
+  own_come k v h = inl (
+    leaf,
+    subst (λ cells. Contains cells leaf) (sym (append-nil (leaf ∷ [])))
+        (here leaf []),
+    subst (λ us. Contains us (k, v)) (sym does.leaf_is.units) h,
+    leaf_kind,
+  )
 
   twig_come : (k : ℕ) (u : Placed Value) → Contains (node_of twig).units (k, u.0) → u.1 ≡ false → Comes g k u
   twig_come k u h kind = inr (subst (λ us. Contains us (k, u.0)) (sym does.units) h, kind)
 
   come_once : (k : ℕ) (u w : Placed Value) → Comes g k u → Comes g k w → u.0 ≡ w.0
-  come_once k u w x y = new_once g k u w (elim x [ inl z ↦ inl z | inr z ↦ inr (inl z) ]) (elim y [ inl z ↦ inl z | inr z ↦ inr (inl z) ])
+  come_once k u w x y = new_once g k u w (elim x [ inl z ↦ inl z | inr z ↦ inr (inl z) ]) (elim y [
+    | inl z ↦
+        inl z
+    | inr z ↦ inr (inl z)
+  ])
 
   with_kind : (k : ℕ) (u : Placed Value) → u.1 ≡ true → Comes g k (u.0, true) → Comes g k u
   with_kind k u kind h = subst (λ x. Comes g k (u.0, x)) (sym kind) h
 
   not_own : (k : ℕ) (v : Value) → Contains (node_of twig).units (k, v) → (rank it.key ≤ k) × (k < item_end it) → ⊥
-  not_own k v h range = elim (is.keys.clear.own k v h) [ inl x ↦ omega (arith, x, range) | inr x ↦ omega (arith, x, range) ]
+  not_own k v h range = elim (is.keys.clear.own k v h) [
+    | inl x ↦ omega (arith, x, range)
+    | inr x ↦
+        omega (arith, x, range)
+  ]
 
   says : (k : ℕ) (u : Placed Value) → own_keys it k ≡ true → Comes g k u ↔ (leaf_values it k ≡ Some u)
   says k u on = (
@@ -114,7 +139,8 @@ module _ {t : Store Value} {r : Root} {it : Item} {twig : CellSeen} {ups : List 
   same_there : (k : ℕ) (u : Placed Value) → own_keys it k ≡ false → Comes g k u ↔ Was g k u
   same_there k u off = (
     λ x. elim (come_from k u x) [
-      | inl mine ↦ let (w, e) = some_value (item_units it) k u.0 mine.0 in absurd (not_there (value_in (item_units it) k) w off e)
+      | inl mine ↦ let (w, e) = some_value (item_units it) k u.0 mine.0 in
+          absurd (not_there (value_in (item_units it) k) w off e)
       | inr twigs ↦ inr twigs
     ],
     λ x. elim x [
@@ -123,13 +149,17 @@ module _ {t : Store Value} {r : Root} {it : Item} {twig : CellSeen} {ups : List 
     ],
   )
 
-  new_names : (x : CellSeen) → Contains c.new x → (patch_with c []).old x.id ≡ None → (before.next ≤ x.id) × (x.id < after.next)
+  new_names : (x : CellSeen) → Contains c.new x → (patch_with c []).old x.id ≡ None → (before.next ≤ x.id)
+      × (x.id < after.next)
   new_names x at gone =
-      let n : after.next ≡ mid.next + length (fresh_ids (g.grafts.lowest ∷ g.grafts.more) g.grafts.over) = ap (λ (f : Fresh). f.next) g.grafts.number in
-      elim (Contains-append_cases (leaf ∷ []) does.grafts.change.new x (subst (λ cells. Contains cells x) g.below.new_is at)) [
+      let n : after.next ≡ mid.next + length (fresh_ids (g.grafts.lowest ∷ g.grafts.more) g.grafts.over) = ap (λ
+      (f : Fresh). f.next) g.grafts.number in
+      elim (Contains-append_cases (leaf ∷ []) does.grafts.change.new x (subst
+      (λ cells. Contains cells x) g.below.new_is at)) [
         | inl low ↦ elim (cases leaf x [] low) [
           | inr none_is ↦ absurd (none x none_is)
-          | inl same ↦ let id : x.id ≡ before.next = ap (λ (z : CellSeen). z.id) same ∙ does.leaf_is.number in (omega (arith, id), omega (arith, id, n, mid_is))
+          | inl same ↦ let id : x.id ≡ before.next = ap (λ (z : CellSeen). z.id) same
+              ∙ does.leaf_is.number in (omega (arith, id), omega (arith, id, n, mid_is))
         ]
         | inr high ↦ let w = graft_names g x high gone in (omega (arith, w, mid_is), omega (arith, w))
       ]
@@ -141,8 +171,10 @@ module _ {t : Store Value} {r : Root} {it : Item} {twig : CellSeen} {ups : List 
     root_number = graft_root g;
   }
 
-module _ (t : Store Value) (r : Root) (path : List CellSeen) (it : Item) (before after : Fresh) (c : Change) (made : IsMadeIn t r c []) where
-  apart_cells : (cells : List CellSeen) → reverse path ≡ cells → IsLeafPutUp t r it before cells → PutsLeafUp path it before after c cells
+module _ (t : Store Value) (r : Root) (path : List CellSeen) (it : Item) (before after : Fresh) (c : Change)
+    (made : IsMadeIn t r c []) where
+  apart_cells : (cells : List CellSeen) → reverse path ≡ cells → IsLeafPutUp t r it before cells
+      → PutsLeafUp path it before after c cells
       → EditsUnits c [] before after (own_keys it) (leaf_values it)
   apart_cells [] same is does = absurd is
   apart_cells (twig ∷ ups) same is does = apart_does is does

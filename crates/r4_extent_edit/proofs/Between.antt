@@ -1,10 +1,12 @@
 -- Pieces with others in the place of those between two keys, where what stands there names nothing.
-use Rattle.std.proofs.Common.{◌≡◌, ◌↔◌, ◌⊎◌, inl, inr, ℕ, ◌+◌, ◌<◌, ◌≤◌, List, [], ◌∷◌, ◌++◌, refl, sym, ap, subst, ◌∙◌, arith}
+use Rattle.std.proofs.Common.{◌≡◌, ◌↔◌, ◌⊎◌, inl, inr, ℕ, ◌+◌, ◌<◌, ◌≤◌, List, [], ◌∷◌, ◌++◌, refl, sym, ap, subst, ◌∙◌}
+use Rattle.std.proofs.Common.{arith}
 use Rattle.std.specs.Prelude.{Contains}
 use Rattle.std.proofs.lemmas.List.Elements.{Contains-append_left, Contains-append_right}
 use Rattle.r4_base.specs.Key.{rank}
 use Rattle.r4_base.specs.Tree.{Name}
-use Rattle.r4_branch.specs.Pieces.{AreTwigPieces, Follow, names_of, next_of, part_names, piece_end, twig_bytes, units_of}
+use Rattle.r4_branch.specs.Pieces.{AreTwigPieces, Follow, names_of, next_of, part_names, piece_end, twig_bytes}
+use Rattle.r4_branch.specs.Pieces.{units_of}
 use Rattle.r4_branch.specs.declared.piece.TwigPart.{TwigPart}
 use Rattle.r4_branch.specs.declared.piece.TwigPart.TheVariants.{Pointer, Blocks}
 use Rattle.r4_branch.specs.declared.piece.TwigPiece.{TwigPiece}
@@ -20,7 +22,8 @@ use Rattle.r4_edit.proofs.PutUnits.{units_among}
 
 -- ---- pieces before keys that no leaf has
 
-part_left : (k next from to : ℕ) (t : TwigPart) → ((n : Name) → Contains (part_names k next t) n → (n.hi ≤ from) ⊎ (to ≤ n.lo))
+part_left : (k next from to : ℕ) (t : TwigPart) → ((n : Name) → Contains (part_names k next t) n → (n.hi ≤ from)
+    ⊎ (to ≤ n.lo))
     → k < from → from < to → from ≤ next → part_names k from t ≡ part_names k next t
 part_left k next from to (Blocks u) clear low some le = refl
 part_left k next from to (Pointer i) clear low some le =
@@ -39,7 +42,8 @@ left_names lo next from to [] f clear some le = refl
 left_names lo next from to (x ∷ []) f clear some le =
     let e = has_end x f.1 in
     let end = f.2 in
-    ap (λ ns. ns ++ []) (part_left (rank x.key) next from to x.part (λ n at. clear n (Contains-append_left (part_names (rank x.key) next x.part) [] n at))
+    ap (λ ns. ns ++ []) (part_left (rank x.key) next from to x.part (λ n at. clear n (Contains-append_left
+    (part_names (rank x.key) next x.part) [] n at))
     (omega (arith, e, end)) some le)
 left_names lo next from to (x ∷ (y ∷ ys)) f clear some le =
     ap (λ ns. part_names (rank x.key) (rank y.key) x.part ++ ns)
@@ -48,7 +52,8 @@ left_names lo next from to (x ∷ (y ∷ ys)) f clear some le =
     in_more : (n : Name) → Contains (names_of next (y ∷ ys)) n → Contains (names_of next (x ∷ (y ∷ ys))) n
     in_more n at = Contains-append_right (part_names (rank x.key) (rank y.key) x.part) (names_of next (y ∷ ys)) n at
 
-module _ (lo hi from to : ℕ) (pp xs ms ys ns : List TwigPiece) (s : AreSplit lo hi from to pp xs ms ys) (f : Follow from to ns)
+module _ (lo hi from to : ℕ) (pp xs ms ys ns : List TwigPiece) (s : AreSplit lo hi from to pp xs ms ys)
+    (f : Follow from to ns)
     (begins : (h : ℕ) → next_of h ns ≡ from) where
   abbrev pub qs : List TwigPiece
   qs = xs ++ (ns ++ ys)
@@ -95,16 +100,19 @@ module _ (lo hi from to : ℕ) (pp xs ms ys ns : List TwigPiece) (s : AreSplit l
     before = names_of (next_of next ms) xs
 
     all_names : names_of hi pp ≡ before ++ (names_of next ms ++ names_of hi ys)
-    all_names = ap (names_of hi) s.is ∙ (names_join hi xs (ms ++ ys) ∙ (λ i. names_of (next_join hi ms ys i) xs ++ names_join hi ms ys i))
+    all_names = ap (names_of hi) s.is ∙ (names_join hi xs (ms ++ ys)
+        ∙ (λ i. names_of (next_join hi ms ys i) xs ++ names_join hi ms ys i))
 
     from_next : from ≤ next_of next ms
-    from_next = subst (λ (k : ℕ). from ≤ k) (next_join hi ms ys) (next_lower from hi (ms ++ ys) (follow_join from to hi ms ys s.mid s.right))
+    from_next = subst (λ (k : ℕ). from ≤ k) (next_join hi ms ys) (next_lower from hi (ms ++ ys)
+        (follow_join from to hi ms ys s.mid s.right))
 
     left : names_of (next_of next ns) xs ≡ before
     left =
         ap (λ (k : ℕ). names_of k xs) (begins next)
         ∙ left_names lo (next_of next ms) from to xs s.left
-        (λ n at. clear n (subst (λ ks. Contains ks n) (sym all_names) (Contains-append_left before (names_of next ms ++ names_of hi ys) n at)))
+        (λ n at. clear n (subst (λ ks. Contains ks n) (sym all_names) (Contains-append_left before
+        (names_of next ms ++ names_of hi ys) n at)))
         some from_next
 
     none_between : (n : Name) → Contains (names_of next ms) n → ⊥
@@ -119,7 +127,8 @@ module _ (lo hi from to : ℕ) (pp xs ms ys ns : List TwigPiece) (s : AreSplit l
         ]
 
     -- What they name: what the pieces named, and what the others name.
-    pub over_names : Follow lo hi pp → (n : Name) → Contains (names_of hi qs) n ↔ (Contains (names_of hi pp) n ⊎ Contains (names_of next ns) n)
+    pub over_names : Follow lo hi pp → (n : Name) → Contains (names_of hi qs) n ↔ (Contains (names_of hi pp) n
+        ⊎ Contains (names_of next ns) n)
     over_names follow n =
         let all = spliced_names hi lo hi xs ms ns ys (subst (Follow lo hi) s.is follow) left n in (
           (λ at. elim (all.0 at) [

@@ -16,7 +16,8 @@ use Rattle.r4_edit.specs.Extents.{IsGivenExtent}
 use Rattle.r4_edit.proofs.OverPieces.{item_some}
 use Rattle.r4_extent_edit.specs.Between.{EndsAt, HasKeyBehind}
 
-units_end : (k : Key) (n : ℕ) (u : ExtentUnit) (us : List ExtentUnit) → offset_of k + 4096 * (n + blocks_in (u ∷ us)) < 2 ^ 64
+units_end : (k : Key) (n : ℕ) (u : ExtentUnit) (us : List ExtentUnit)
+    → offset_of k + 4096 * (n + blocks_in (u ∷ us)) < 2 ^ 64
     → EndsAt (rank k + 4096 * (n + blocks_in (u ∷ us))) (unit_pieces k n (u ∷ us))
 units_end k n u [] fits =
     let at = rank_later k (4096 * n) in
@@ -47,7 +48,8 @@ extent_ends it given fits = by_units (units_of_body it.body) refl
     by_units : (us : List ExtentUnit) → us ≡ units_of_body it.body → EndsAt (item_end it) (item_pieces it)
     by_units [] same =
         let some = item_some it given in
-        let none : length {A = TwigPiece} (item_pieces it) ≡ 0 = ap length (extent_pieces it given.plugin) ∙ ap (λ us. length (unit_pieces it.key 0 us)) (sym same) in
+        let none : length {A = TwigPiece} (item_pieces it) ≡ 0 = ap length (extent_pieces it given.plugin)
+        ∙ ap (λ us. length (unit_pieces it.key 0 us)) (sym same) in
         absurd (omega (arith, some, none))
     by_units (u ∷ us) same =
         let e = (extent_item it given.plugin given.sound).end in
@@ -55,4 +57,5 @@ extent_ends it given fits = by_units (units_of_body it.body) refl
         let to : rank it.key + 4096 * (0 + blocks_in (u ∷ us)) ≡ item_end it = omega (arith, e, count) in
         subst (λ ps. EndsAt (item_end it) ps) (sym (extent_pieces it given.plugin))
         (subst (λ vs. EndsAt (item_end it) (unit_pieces it.key 0 vs)) same
-        (subst (λ (n : ℕ). EndsAt n (unit_pieces it.key 0 (u ∷ us))) to (units_end it.key 0 u us (omega (arith, fits, count)))))
+        (subst (λ (n : ℕ). EndsAt n (unit_pieces it.key 0 (u ∷ us))) to (units_end it.key 0 u us (omega
+        (arith, fits, count)))))

@@ -1,5 +1,6 @@
 -- What an extent that comes into a twig does to units.
-use Rattle.std.specs.Prelude.{◌≡◌, ◌↔◌, ◌==◌, ℕ, ◌<◌, ◌≤◌, ◌⊎◌, Bool, true, false, List, ◌++◌, Contains, None, Option, Some}
+use Rattle.std.specs.Prelude.{◌≡◌, ◌↔◌, ◌==◌, ℕ, ◌<◌, ◌≤◌, ◌⊎◌, Bool, true, false, List, ◌++◌, Contains, None, Option}
+use Rattle.std.specs.Prelude.{Some}
 use mathlib.Core.Path.{refl, sym, ap, subst, ◌∙◌}
 use mathlib.Core.Logic.{inl, inr}
 use native.Mathlib.Omega.{arith}
@@ -52,13 +53,16 @@ both_ways b on off = absurd (grind (arith, on, off))
 
 placed_value : (o : Option Value) (v : Value) (b : Bool) → in_extent o ≡ Some (v, b) → (o ≡ Some v) × (b ≡ false)
 placed_value None v b e = absurd (none-some (v, b) e)
-placed_value (Some x) v b e = let same = same_Some (x, false) (v, b) e in (ap (λ (u : Placed Value). Some u.0) same, ap (λ (u : Placed Value). u.1) (sym same))
+placed_value (Some x) v b e = let same = same_Some (x, false) (v, b) e in
+    (ap (λ (u : Placed Value). Some u.0) same, ap (λ (u : Placed Value). u.1) (sym same))
 
 module _ {s : Store Value} {r : Root} {twig : CellSeen} {ups : List CellSeen} {qs : List TwigPiece} {b : Below}
-    {blocks : List CellSeen} {before after : Fresh} {d c : Change} (g : IsRepacked s r twig ups qs b blocks before after d c)
+    {blocks : List CellSeen} {before after : Fresh} {d c : Change}
+    (g : IsRepacked s r twig ups qs b blocks before after d c)
     (it : Item) (given : IsGivenExtent it) (are : AreBlocksOf (item_blocks it) blocks) (rest : List LeafUnit)
     (units : units_of qs ≡ put_units (item_units it) rest)
-    (rest_is : (k : ℕ) (v : Value) → Contains rest (k, v) ↔ (Contains (node_of twig).units (k, v) × (item_keys it k ≡ false)))
+    (rest_is : (k : ℕ) (v : Value) → Contains rest (k, v) ↔ (Contains (node_of twig).units (k, v) × (item_keys it k
+    ≡ false)))
     (leaves : (k : ℕ) (u : Placed Value) → IsPlacedIn b.new k u ↔ (IsPlacedIn b.old k u × (item_keys it k ≡ false)))
     (held : (k : ℕ) → rank it.key ≤ k → k < item_end it → IsHeldBelow g k) where
   abbrev gs : List LeafUnit
@@ -70,7 +74,8 @@ module _ {s : Store Value} {r : Root} {twig : CellSeen} {ups : List CellSeen} {q
   item_in : (k : ℕ) (v : Value) → Contains gs (k, v) → (rank it.key ≤ k) × (k < item_end it)
   item_in k v h =
       let e = extent_item it given.plugin given.sound in
-      let range = (extent_row (rank it.key) (units_of_body it.body)).unit_in k v (subst (λ xs. Contains xs (k, v)) e.units h) in
+      let range = (extent_row (rank it.key) (units_of_body it.body)).unit_in k v (subst (λ xs. Contains xs
+      (k, v)) e.units h) in
       let end = e.end in
       (range.0, omega (arith, range, end))
 
@@ -82,10 +87,12 @@ module _ {s : Store Value} {r : Root} {twig : CellSeen} {ups : List CellSeen} {q
       let zero_level : x.level ≡ 0 = extent_level it given.plugin (name_of x) (named x at) in
       ne_eqb x.level 1 (λ e. absurd (omega (arith, zero_level, e)))
 
-  block_in : (x : CellSeen) (k : ℕ) (v : Value) → Contains blocks x → Contains (node_of x).units (k, v) → (rank it.key ≤ k) × (k < item_end it)
+  block_in : (x : CellSeen) (k : ℕ) (v : Value) → Contains blocks x → Contains (node_of x).units (k, v)
+      → (rank it.key ≤ k) × (k < item_end it)
   block_in x k v among has =
       let e = extent_item it given.plugin given.sound in
-      let node = g.made.change.patch.nodes x.id (node_of x) (there (c.new ++ blocks) x (distinct (c.new ++ blocks) g.made.change.new_names) (Contains-append_right c.new blocks x among)) in
+      let node = g.made.change.patch.nodes x.id (node_of x) (there (c.new ++ blocks) x (distinct (c.new
+      ++ blocks) g.made.change.new_names) (Contains-append_right c.new blocks x among)) in
       let range = node.unit_in k v has in
       let lo = lo_is x in
       let hi = hi_is x in
@@ -101,17 +108,23 @@ module _ {s : Store Value} {r : Root} {twig : CellSeen} {ups : List CellSeen} {q
   mine_come : (k : ℕ) (v : Value) → Contains (gs ++ data_units) (k, v) → Comes g k (v, false)
   mine_come k v h = elim (Contains-append_cases gs data_units (k, v) h) [
     | inl x ↦ inr (subst (λ xs. Contains xs (k, v)) (sym units) (to_put gs rest (k, v) (inl x)), refl)
-    | inr y ↦ let (x, at, has) = from_units blocks (k, v) y in inl (x, Contains-append_right b.new blocks x at, has, block_level x at)
+    | inr y ↦ let (x, at, has) = from_units blocks (k, v) y in
+        inl (x, Contains-append_right b.new blocks x at, has, block_level x at)
   ]
 
   -- what comes is the extent's, or stands at another key
-  come_from : (k : ℕ) (u : Placed Value) → Comes g k u → (Contains (gs ++ data_units) (k, u.0) × (u.1 ≡ false)) ⊎ (IsPlacedIn b.new k u ⊎ (Contains rest (k, u.0) × (u.1 ≡ false)))
+  come_from : (k : ℕ) (u : Placed Value) → Comes g k u → (Contains (gs ++ data_units) (k, u.0) × (u.1 ≡ false))
+      ⊎ (IsPlacedIn b.new k u ⊎ (Contains rest (k, u.0) × (u.1 ≡ false)))
   come_from k u h = elim h [
     | inl low ↦
         let (x, at, has, kind) = low in
         elim (Contains-append_cases b.new blocks x at) [
           | inl new ↦ inr (inl (x, new, has, kind))
-          | inr block ↦ inl (Contains-append_right gs data_units (k, u.0) (to_units blocks x (k, u.0) block has), sym kind ∙ block_level x block)
+          | inr block ↦ inl (
+            Contains-append_right gs data_units (k, u.0) (to_units blocks x
+                (k, u.0) block has),
+            sym kind ∙ block_level x block,
+          )
         ]
     | inr mine ↦ elim (from_put gs rest (k, u.0) (subst (λ xs. Contains xs (k, u.0)) units mine.0)) [
       | inl x ↦ inl (Contains-append_left gs data_units (k, u.0) x, mine.1)
@@ -126,7 +139,11 @@ module _ {s : Store Value} {r : Root} {twig : CellSeen} {ups : List CellSeen} {q
   ]
 
   come_once : (k : ℕ) (u w : Placed Value) → Comes g k u → Comes g k w → u.0 ≡ w.0
-  come_once k u w x y = new_once g k u w (elim x [ inl z ↦ inl z | inr z ↦ inr (inl z) ]) (elim y [ inl z ↦ inl z | inr z ↦ inr (inl z) ])
+  come_once k u w x y = new_once g k u w (elim x [ inl z ↦ inl z | inr z ↦ inr (inl z) ]) (elim y [
+    | inl z ↦
+        inl z
+    | inr z ↦ inr (inl z)
+  ])
 
   with_kind : (k : ℕ) (u : Placed Value) → u.1 ≡ false → Comes g k (u.0, false) → Comes g k u
   with_kind k u kind h = subst (λ x. Comes g k (u.0, x)) (sym kind) h
@@ -158,8 +175,13 @@ module _ {s : Store Value} {r : Root} {twig : CellSeen} {ups : List CellSeen} {q
       ]
     ],
     λ x. elim x [
-      | inl low ↦ let (y, at, has, kind) = (leaves k u).1 (low, off) in inl (y, Contains-append_left b.new blocks y at, has, kind)
-      | inr has ↦ inr (subst (λ xs. Contains xs (k, u.0)) (sym units) (to_put gs rest (k, u.0) (inr ((rest_is k u.0).1 (has.0, off)))), has.1)
+      | inl low ↦ let (y, at, has, kind) = (leaves k u).1 (low, off) in
+          inl (y, Contains-append_left b.new blocks y at, has, kind)
+      | inr has ↦ inr (
+        subst (λ xs. Contains xs (k, u.0)) (sym units) (to_put gs rest (k, u.0) (inr
+            ((rest_is k u.0).1 (has.0, off)))),
+        has.1,
+      )
     ],
   )
 

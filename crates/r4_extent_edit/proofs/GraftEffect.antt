@@ -1,5 +1,6 @@
 -- What a twig that is packed anew does to units, with what goes and comes below it, and to numbers.
-use Rattle.std.specs.Prelude.{◌≡◌, ◌↔◌, ◌==◌, ℕ, ◌+◌, ◌<◌, ◌≤◌, ◌⊎◌, Bool, true, false, List, [], ◌∷◌, ◌++◌, length, drop, Contains, None, Option, Some}
+use Rattle.std.specs.Prelude.{◌≡◌, ◌↔◌, ◌==◌, ℕ, ◌+◌, ◌<◌, ◌≤◌, ◌⊎◌, Bool, true, false, List, [], ◌∷◌, ◌++◌, length}
+use Rattle.std.specs.Prelude.{drop, Contains, None, Option, Some}
 use mathlib.Core.Path.{refl, sym, ap, subst, ◌∙◌}
 use mathlib.Core.Logic.{inl, inr}
 use native.Mathlib.Omega.{arith}
@@ -40,7 +41,8 @@ use Rattle.r4_extent_edit.specs.Effects.{IsMadeIn, patch_with}
 abbrev pub IsPlacedIn : List CellSeen → ℕ → Placed Value → Type 0
 IsPlacedIn cells k u = (x : CellSeen) × Contains cells x × Contains (node_of x).units (k, u.0) × ((x.level == 1) ≡ u.1)
 
-pub apart_names : (xs ys : List CellSeen) → Distinct (xs ++ ys) → (x y : CellSeen) → Contains xs x → Contains ys y → x.id ≡ y.id → ⊥
+pub apart_names : (xs ys : List CellSeen) → Distinct (xs ++ ys) → (x y : CellSeen) → Contains xs x → Contains ys y
+    → x.id ≡ y.id → ⊥
 apart_names [] ys d x y at_x at_y same = none x at_x
 apart_names (z ∷ zs) ys d x y at_x at_y same = elim (cases z x zs at_x) [
   | inl is ↦ d.0 y (Contains-append_right zs ys y at_y) (ap (λ (w : CellSeen). w.id) (sym is) ∙ same)
@@ -54,7 +56,8 @@ not_leaf : (x : CellSeen) → ¬ (x.level ≡ 1) → (x.level == 1) ≡ false
 not_leaf x other = ne_eqb x.level 1 other
 
 -- A twig of a part of a tree that was packed anew, with what goes and comes below it, and data blocks that come.
-pub record IsRepacked (s : Store Value) (r : Root) (twig : CellSeen) (ups : List CellSeen) (qs : List TwigPiece) (b : Below)
+pub record IsRepacked (s : Store Value) (r : Root) (twig : CellSeen) (ups : List CellSeen) (qs : List TwigPiece)
+    (b : Below)
     (blocks : List CellSeen) (before after : Fresh) (d c : Change) : Type 0 where
   pub part : IsPart s r
   pub level : twig.level ≡ 2
@@ -64,7 +67,8 @@ pub record IsRepacked (s : Store Value) (r : Root) (twig : CellSeen) (ups : List
   pub made : IsMadeIn s r c blocks
 
 module _ {s : Store Value} {r : Root} {twig : CellSeen} {ups : List CellSeen} {qs : List TwigPiece} {b : Below}
-    {blocks : List CellSeen} {before after : Fresh} {d c : Change} (g : IsRepacked s r twig ups qs b blocks before after d c) where
+    {blocks : List CellSeen} {before after : Fresh} {d c : Change}
+    (g : IsRepacked s r twig ups qs b blocks before after d c) where
   abbrev grafts : Grafts twig ups qs before after d
   grafts = g.grafts
 
@@ -95,7 +99,8 @@ module _ {s : Store Value} {r : Root} {twig : CellSeen} {ups : List CellSeen} {q
   -- ---- the lists of cells
 
   old_list : c.old ≡ b.old ++ (twig ∷ upper_old)
-  old_list = below.old_is ∙ ap (λ xs. b.old ++ xs) (grafts.levels.old ∙ ap (λ (x : CellSeen). x ∷ upper_old) grafts.level.row.old)
+  old_list = below.old_is ∙ ap (λ xs. b.old ++ xs) (grafts.levels.old
+      ∙ ap (λ (x : CellSeen). x ∷ upper_old) grafts.level.row.old)
 
   new_list : c.new ++ blocks ≡ (b.new ++ (grafts.lowest.new ++ upper_new)) ++ blocks
   new_list = ap (λ xs. xs ++ blocks) (below.new_is ∙ ap (λ xs. b.new ++ xs) grafts.levels.new)
@@ -139,30 +144,34 @@ module _ {s : Store Value} {r : Root} {twig : CellSeen} {ups : List CellSeen} {q
   OfNew x = Contains come x ⊎ (Contains grafts.lowest.new x ⊎ Contains upper_new x)
 
   of_new : (x : CellSeen) → Contains (c.new ++ blocks) x → OfNew x
-  of_new x at = elim (Contains-append_cases (b.new ++ (grafts.lowest.new ++ upper_new)) blocks x (subst (λ cells. Contains cells x) new_list at)) [
-    | inr block ↦ inl (Contains-append_right b.new blocks x block)
-    | inl rest ↦ elim (Contains-append_cases b.new (grafts.lowest.new ++ upper_new) x rest) [
-      | inl low ↦ inl (Contains-append_left b.new blocks x low)
-      | inr high ↦ inr (Contains-append_cases grafts.lowest.new upper_new x high)
-    ]
-  ]
+  of_new x at = elim (Contains-append_cases (b.new ++ (grafts.lowest.new ++ upper_new)) blocks x (subst
+      (λ cells. Contains cells x) new_list at)) [
+        | inr block ↦ inl (Contains-append_right b.new blocks x block)
+        | inl rest ↦ elim (Contains-append_cases b.new (grafts.lowest.new ++ upper_new) x rest) [
+          | inl low ↦ inl (Contains-append_left b.new blocks x low)
+          | inr high ↦ inr (Contains-append_cases grafts.lowest.new upper_new x high)
+        ]
+      ]
 
   in_new : (x : CellSeen) → OfNew x → Contains (c.new ++ blocks) x
   in_new x h = subst (λ cells. Contains cells x) (sym new_list) (elim h [
     | inl at ↦ elim (Contains-append_cases b.new blocks x at) [
-      | inl low ↦ Contains-append_left (b.new ++ (grafts.lowest.new ++ upper_new)) blocks x (Contains-append_left b.new (grafts.lowest.new ++ upper_new) x low)
+      | inl low ↦ Contains-append_left (b.new ++ (grafts.lowest.new ++ upper_new)) blocks x
+          (Contains-append_left b.new (grafts.lowest.new ++ upper_new) x low)
       | inr block ↦ Contains-append_right (b.new ++ (grafts.lowest.new ++ upper_new)) blocks x block
     ]
-    | inr at ↦ Contains-append_left (b.new ++ (grafts.lowest.new ++ upper_new)) blocks x (Contains-append_right b.new (grafts.lowest.new ++ upper_new) x (elim at [
-      | inl low ↦ Contains-append_left grafts.lowest.new upper_new x low
-      | inr high ↦ Contains-append_right grafts.lowest.new upper_new x high
-    ]))
+    | inr at ↦ Contains-append_left (b.new ++ (grafts.lowest.new ++ upper_new)) blocks x (Contains-append_right b.new
+        (grafts.lowest.new ++ upper_new) x (elim at [
+          | inl low ↦ Contains-append_left grafts.lowest.new upper_new x low
+          | inr high ↦ Contains-append_right grafts.lowest.new upper_new x high
+        ]))
   ])
 
   -- ---- which cells are leaves
 
   high_old : (x : CellSeen) → Contains upper_old x → 2 ≤ x.level
-  high_old x at = ups_high s r g.part (Some twig) ups (let l = g.level in omega (arith, l)) g.above x (taken (length grafts.more) ups x (subst (λ xs. Contains xs x) grafts.ups_are at))
+  high_old x at = ups_high s r g.part (Some twig) ups (let l = g.level in
+      omega (arith, l)) g.above x (taken (length grafts.more) ups x (subst (λ xs. Contains xs x) grafts.ups_are at))
 
   low_new : (x : CellSeen) → Contains grafts.lowest.new x → x.level ≡ 2
   low_new x at = (follow_within 2 (rank twig.lo) (rank twig.hi) grafts.lowest.new x grafts.level.row.ranges at).level_as
@@ -186,7 +195,8 @@ module _ {s : Store Value} {r : Root} {twig : CellSeen} {ups : List CellSeen} {q
 
   -- what the new cells have: those that come below, the pieces, and the nodes above
   abbrev pub WasOrComes : (cells : List CellSeen) → (mine : List LeafUnit) → ℕ → Placed Value → Type 0
-  WasOrComes cells mine k u = IsPlacedIn cells k u ⊎ ((Contains mine (k, u.0) × (u.1 ≡ false)) ⊎ (Contains upper (k, u.0) × (u.1 ≡ false)))
+  WasOrComes cells mine k u = IsPlacedIn cells k u ⊎ ((Contains mine (k, u.0) × (u.1 ≡ false))
+      ⊎ (Contains upper (k, u.0) × (u.1 ≡ false)))
 
   new_from : (k : ℕ) (u : Placed Value) → UnitIn q.new k u → WasOrComes come (units_of qs) k u
   new_from k u (i, n, e, has, kind) =
@@ -198,9 +208,14 @@ module _ {s : Store Value} {r : Root} {twig : CellSeen} {ups : List CellSeen} {q
         | inr more ↦ elim more [
           | inl mine ↦
               let l = low_new x mine in
-              inr (inl (subst (λ xs. Contains xs (k, u.0)) grafts.level.row.units (to_units grafts.lowest.new x (k, u.0) mine has_x), sym kind_x ∙ above_leaf x (omega (arith, l))))
+              inr (inl (
+                subst (λ xs. Contains xs (k, u.0)) grafts.level.row.units (to_units grafts.lowest.new x
+                    (k, u.0) mine has_x),
+                sym kind_x ∙ above_leaf x (omega (arith, l)),
+              ))
           | inr high ↦ inr (inr (
-            subst (λ xs. Contains xs (k, u.0)) (upper_units grafts.more grafts.over grafts.keep grafts.root_units) (to_units upper_new x (k, u.0) high has_x),
+            subst (λ xs. Contains xs (k, u.0)) (upper_units grafts.more grafts.over grafts.keep grafts.root_units)
+                (to_units upper_new x (k, u.0) high has_x),
             sym kind_x ∙ above_leaf x (high_new x (k, u.0) high has_x),
           ))
         ]
@@ -208,15 +223,36 @@ module _ {s : Store Value} {r : Root} {twig : CellSeen} {ups : List CellSeen} {q
 
   new_to : (k : ℕ) (u : Placed Value) → WasOrComes come (units_of qs) k u → UnitIn q.new k u
   new_to k u h = elim h [
-    | inl low ↦ let (x, at, has, kind) = low in (x.id, node_of x, there_new x (in_new x (inl at)), has, same_level x ∙ kind)
+    | inl low ↦ let (x, at, has, kind) = low in (
+      x.id,
+      node_of x,
+      there_new x (in_new x (inl at)),
+      has,
+      same_level x
+          ∙ kind,
+    )
     | inr more ↦ elim more [
       | inl mine ↦
-          let (x, at, has) = from_units grafts.lowest.new (k, u.0) (subst (λ xs. Contains xs (k, u.0)) (sym grafts.level.row.units) mine.0) in
-          let l = low_new x at in
-          (x.id, node_of x, there_new x (in_new x (inr (inl at))), has, same_level x ∙ (above_leaf x (omega (arith, l)) ∙ sym mine.1))
+          let (x, at, has) = from_units grafts.lowest.new (k, u.0) (subst (λ xs. Contains xs (k, u.0))
+          (sym grafts.level.row.units) mine.0) in
+          let l = low_new x at in (
+            x.id,
+            node_of x,
+            there_new x (in_new x (inr (inl at))),
+            has,
+            same_level x
+                ∙ (above_leaf x (omega (arith, l)) ∙ sym mine.1),
+          )
       | inr high ↦
-          let (x, at, has) = from_units upper_new (k, u.0) (subst (λ xs. Contains xs (k, u.0)) (sym (upper_units grafts.more grafts.over grafts.keep grafts.root_units)) high.0) in
-          (x.id, node_of x, there_new x (in_new x (inr (inr at))), has, same_level x ∙ (above_leaf x (high_new x (k, u.0) at has) ∙ sym high.1))
+          let (x, at, has) = from_units upper_new (k, u.0) (subst (λ xs. Contains xs (k, u.0)) (sym
+          (upper_units grafts.more grafts.over grafts.keep grafts.root_units)) high.0) in (
+            x.id,
+            node_of x,
+            there_new x (in_new x (inr (inr at))),
+            has,
+            same_level x
+                ∙ (above_leaf x (high_new x (k, u.0) at has) ∙ sym high.1),
+          )
     ]
   ]
 
@@ -230,7 +266,11 @@ module _ {s : Store Value} {r : Root} {twig : CellSeen} {ups : List CellSeen} {q
         | inr rest ↦ elim (cases twig x upper_old rest) [
           | inl same ↦
               let l : x.level ≡ 2 = ap (λ (z : CellSeen). z.level) same ∙ level in
-              inr (inl (subst (λ (z : CellSeen). Contains (node_of z).units (k, u.0)) same has_x, sym kind_x ∙ above_leaf x (omega (arith, l))))
+              inr (inl (
+                subst (λ (z : CellSeen). Contains (node_of z).units (k, u.0)) same has_x,
+                sym kind_x
+                    ∙ above_leaf x (omega (arith, l)),
+              ))
           | inr high ↦ inr (inr (to_units upper_old x (k, u.0) high has_x, sym kind_x ∙ above_leaf x (high_old x high)))
         ]
       ]
@@ -239,10 +279,23 @@ module _ {s : Store Value} {r : Root} {twig : CellSeen} {ups : List CellSeen} {q
   old_to k u h = elim h [
     | inl low ↦ let (x, at, has, kind) = low in (x.id, node_of x, there_old x (in_below x at), has, same_level x ∙ kind)
     | inr more ↦ elim more [
-      | inl mine ↦ (twig.id, node_of twig, there_old twig in_twig, mine.0, same_level twig ∙ (above_leaf twig (let l = g.level in omega (arith, l)) ∙ sym mine.1))
+      | inl mine ↦ (
+        twig.id,
+        node_of twig,
+        there_old twig in_twig,
+        mine.0,
+        same_level twig
+            ∙ (above_leaf twig (let l = g.level in omega (arith, l)) ∙ sym mine.1),
+      )
       | inr high ↦
-          let (x, at, has) = from_units upper_old (k, u.0) high.0 in
-          (x.id, node_of x, there_old x (in_upper x at), has, same_level x ∙ (above_leaf x (high_old x at) ∙ sym high.1))
+          let (x, at, has) = from_units upper_old (k, u.0) high.0 in (
+            x.id,
+            node_of x,
+            there_old x (in_upper x at),
+            has,
+            same_level x ∙ (above_leaf x (high_old x at)
+                ∙ sym high.1),
+          )
     ]
   ]
 
@@ -253,7 +306,8 @@ module _ {s : Store Value} {r : Root} {twig : CellSeen} {ups : List CellSeen} {q
 
   held_list : (x : CellSeen) → Contains b.old x ⊎ (x ≡ twig) → Contains (b.old ++ (twig ∷ [])) x
   held_list x (inl at) = Contains-append_left b.old (twig ∷ []) x at
-  held_list x (inr same) = subst (λ (z : CellSeen). Contains (b.old ++ (twig ∷ [])) z) (sym same) (Contains-append_right b.old (twig ∷ []) twig (here twig []))
+  held_list x (inr same) = subst (λ (z : CellSeen). Contains (b.old ++ (twig ∷ [])) z) (sym same)
+      (Contains-append_right b.old (twig ∷ []) twig (here twig []))
 
   held_there : (x : CellSeen) → Contains b.old x ⊎ (x ≡ twig) → Contains (b.old ++ (twig ∷ upper_old)) x
   held_there x (inl at) = in_below x at
@@ -264,12 +318,17 @@ module _ {s : Store Value} {r : Root} {twig : CellSeen} {ups : List CellSeen} {q
       let (x, at, has_x) = from_units upper_old (k, v) has in
       let sx = stands x (in_upper x at) in
       let sy = stands y (held_there y at_y) in
-      apart_names (b.old ++ (twig ∷ [])) upper_old (subst Distinct (sym (append_assoc b.old (twig ∷ []) upper_old)) old_distinct) y x (held_list y at_y) at
-      (one_holder s r g.part k y.id x.id (node_of y) (node_of x) sy sx holds (unit_held (node_of x) k v (g.part.nodes x.id (node_of x) sx) has_x))
+      apart_names (b.old ++ (twig ∷ [])) upper_old (subst Distinct (sym (append_assoc b.old (twig
+      ∷ []) upper_old)) old_distinct) y x (held_list y at_y) at
+      (one_holder s r g.part k y.id x.id (node_of y) (node_of x) sy sx holds (unit_held (node_of x) k v
+      (g.part.nodes x.id (node_of x) sx) has_x))
 
   -- a key has one of the new units
-  pub new_once : (k : ℕ) (u w : Placed Value) → WasOrComes come (units_of qs) k u → WasOrComes come (units_of qs) k w → u.0 ≡ w.0
-  new_once k u w a e = unit_once (place q s) (root_after q r) (placed_part q s r made.change.patch g.part made.meets.meets made.meets.unnamed) k u.0 w.0 (placed u a) (placed w e)
+  pub new_once : (k : ℕ) (u w : Placed Value) → WasOrComes come (units_of qs) k u
+      → WasOrComes come (units_of qs) k w → u.0 ≡ w.0
+  new_once k u w a e = unit_once (place q s) (root_after q r)
+      (placed_part q s r made.change.patch g.part made.meets.meets made.meets.unnamed) k u.0 w.0 (placed u a)
+      (placed w e)
     where
       placed : (x : Placed Value) → WasOrComes come (units_of qs) k x → UnitAt (place q s) k x.0
       placed x h = let (i, n, e, has, kind) = new_to k x h in (i, n, over_new (q.new i) (q.old i) (s i) n e, has)
@@ -318,13 +377,15 @@ module _ {s : Store Value} {r : Root} {twig : CellSeen} {ups : List CellSeen} {q
   steps : List Step
   steps = grafts.lowest ∷ grafts.more
 
-  ids_are : fresh_ids (grafts.lowest ∷ grafts.more) grafts.over ≡ ids_of (drop 1 grafts.lowest.new) ++ fresh_ids grafts.more grafts.over
+  ids_are : fresh_ids (grafts.lowest ∷ grafts.more) grafts.over
+      ≡ ids_of (drop 1 grafts.lowest.new) ++ fresh_ids grafts.more grafts.over
   ids_are = refl
 
   number : after.next ≡ before.next + length (fresh_ids (grafts.lowest ∷ grafts.more) grafts.over)
   number = ap (λ (f : Fresh). f.next) grafts.number
 
-  fresh_number : (i : ℕ) → Contains (fresh_ids (grafts.lowest ∷ grafts.more) grafts.over) i → (before.next ≤ i) × (i < after.next)
+  fresh_number : (i : ℕ) → Contains (fresh_ids (grafts.lowest ∷ grafts.more) grafts.over) i → (before.next ≤ i)
+      × (i < after.next)
   fresh_number i at =
       let w = count_within before.next (fresh_ids (grafts.lowest ∷ grafts.more) grafts.over) i grafts.counts at in
       let n = number in
@@ -335,18 +396,24 @@ module _ {s : Store Value} {r : Root} {twig : CellSeen} {ups : List CellSeen} {q
 
   -- a name that no old cell has is a number that was taken
   pub graft_names : (x : CellSeen) → Contains d.new x → q.old x.id ≡ None → (before.next ≤ x.id) × (x.id < after.next)
-  graft_names x at gone = elim (Contains-append_cases grafts.lowest.new upper_new x (subst (λ cells. Contains cells x) grafts.levels.new at)) [
-    | inl low ↦ elim (cases twig.id x.id (ids_of (drop 1 grafts.lowest.new)) (subst (λ ids. Contains ids x.id) grafts.level.row.first (id_member grafts.lowest.new x low))) [
-      | inl same ↦ absurd (old_id x twig in_twig same gone)
-      | inr more ↦ fresh_number x.id (Contains-append_left (ids_of (drop 1 grafts.lowest.new)) (fresh_ids grafts.more grafts.over) x.id more)
-    ]
-    | inr high ↦ elim (new_id (Some grafts.lowest) grafts.more grafts.over x grafts.climbs high) [
-      | inl h ↦ let (e, w, st, same) = h in absurd (old_id x w.old (in_upper w.old (stands_old (Some grafts.lowest) grafts.more e w st)) same gone)
-      | inr more ↦ fresh_number x.id (Contains-append_right (ids_of (drop 1 grafts.lowest.new)) (fresh_ids grafts.more grafts.over) x.id more)
-    ]
-  ]
+  graft_names x at gone = elim (Contains-append_cases grafts.lowest.new upper_new x (subst
+      (λ cells. Contains cells x) grafts.levels.new at)) [
+        | inl low ↦ elim (cases twig.id x.id (ids_of (drop 1 grafts.lowest.new)) (subst
+            (λ ids. Contains ids x.id) grafts.level.row.first (id_member grafts.lowest.new x low))) [
+              | inl same ↦ absurd (old_id x twig in_twig same gone)
+              | inr more ↦ fresh_number x.id (Contains-append_left (ids_of (drop 1 grafts.lowest.new))
+                  (fresh_ids grafts.more grafts.over) x.id more)
+            ]
+        | inr high ↦ elim (new_id (Some grafts.lowest) grafts.more grafts.over x grafts.climbs high) [
+          | inl h ↦ let (e, w, st, same) = h in absurd (old_id x w.old (in_upper w.old (stands_old
+              (Some grafts.lowest) grafts.more e w st)) same gone)
+          | inr more ↦ fresh_number x.id (Contains-append_right (ids_of (drop 1 grafts.lowest.new))
+              (fresh_ids grafts.more grafts.over) x.id more)
+        ]
+      ]
 
-  root_from : (over : Option CellSeen) (x : RootPair) → root_pair over ≡ Some x → (e : CellSeen) × (over ≡ Some e) × (x.id.0 ≡ e.id)
+  root_from : (over : Option CellSeen) (x : RootPair) → root_pair over ≡ Some x → (e : CellSeen) × (over ≡ Some e)
+      × (x.id.0 ≡ e.id)
   root_from None x e = absurd (none-some x e)
   root_from (Some o) x e = (o, refl, ap (λ (y : RootPair). y.id.0) (sym (same_Some _ x e)))
 

@@ -1,5 +1,6 @@
 -- An extent in the place of a twig's holes: the pieces make a graft.
-use Rattle.std.proofs.Common.{◌≡◌, ◌≢◌, ◌↔◌, ◌⊎◌, inl, inr, ℕ, ◌-◌, ◌≤◌, List, [], length, map, take, get_or, sym, ap, subst, ◌∙◌, arith}
+use Rattle.std.proofs.Common.{◌≡◌, ◌≢◌, ◌↔◌, ◌⊎◌, inl, inr, ℕ, ◌-◌, ◌≤◌, List, [], length, map, take, get_or, sym, ap}
+use Rattle.std.proofs.Common.{subst, ◌∙◌, arith}
 use Rattle.std.specs.Prelude.{Contains, reverse}
 use Rattle.r4_base.specs.Cell.{item_end, item_units}
 use Rattle.r4_base.specs.Key.{rank}
@@ -15,7 +16,8 @@ use Rattle.r4_cell.specs.declared.change.Fresh.{Fresh}
 use Rattle.r4_graft.proofs.Placed.{not_in_none}
 use Rattle.r4_leaf.specs.Units.{cut_units, put_units}
 use Rattle.r4_patch.proofs.Members.{have_names}
-use Rattle.r4_path.specs.Grafts.{AreBlocksOf, GraftsBelow, IsGraftBelow, IsGraftBelowIn, IsGraftBelowUp, IsGraftIn, IsGraftOf, IsGraftedIn, IsGraftedUp}
+use Rattle.r4_path.specs.Grafts.{AreBlocksOf, GraftsBelow, IsGraftBelow, IsGraftBelowIn, IsGraftBelowUp, IsGraftIn}
+use Rattle.r4_path.specs.Grafts.{IsGraftOf, IsGraftedIn, IsGraftedUp}
 use Rattle.r4_path.specs.Steps.{IsNameOf}
 use Rattle.r4_path.specs.TwigPieces.{ArePiecesOf, twig_pieces}
 use Rattle.r4_path.proofs.LastCell.{last_up, up_last, up_some}
@@ -65,13 +67,16 @@ module _ (t : Store Value) (r : Root) (it : Item) (twig : CellSeen) (ups : List 
   s = split lo hi from to ps are.pieces.follow holes.low holes.some holes.high holes.first_border holes.second_border
 
   follow : Follow lo hi pp
-  follow = twice_follow lo hi from to ps are.pieces.follow holes.low holes.some holes.high holes.first_border holes.second_border
+  follow = twice_follow lo hi from to ps are.pieces.follow holes.low holes.some holes.high holes.first_border
+      holes.second_border
 
   names_are : names_of hi pp ≡ (node_of twig).names
-  names_are = twice_names lo hi from to ps are.pieces.follow holes.low holes.some holes.high holes.first_border holes.second_border hi ∙ are.names
+  names_are = twice_names lo hi from to ps are.pieces.follow holes.low holes.some holes.high holes.first_border
+      holes.second_border hi ∙ are.names
 
   first : next_of hi pp ≡ lo
-  first = twice_next lo hi from to ps are.pieces.follow holes.low holes.some holes.high holes.first_border holes.second_border hi ∙ are.pieces.first
+  first = twice_next lo hi from to ps are.pieces.follow holes.low holes.some holes.high holes.first_border
+      holes.second_border hi ∙ are.pieces.first
 
   item_follow : Follow from to ns
   item_follow = follow_item it is.given.sound
@@ -89,7 +94,8 @@ module _ (t : Store Value) (r : Root) (it : Item) (twig : CellSeen) (ups : List 
   set_fits : twig_bytes (set_pieces it twig) ≤ 16000
   set_fits =
       let a = over_bytes lo hi from to pp xs ms ys ns s item_follow begins in
-      let b = twice_bytes lo hi from to ps are.pieces.follow holes.low holes.some holes.high holes.first_border holes.second_border in
+      let b = twice_bytes lo hi from to ps are.pieces.follow holes.low holes.some holes.high holes.first_border
+      holes.second_border in
       let c = are.fits in
       let d = bytes_of_item it is.given.sound in
       let e = is.given.short in
@@ -98,7 +104,9 @@ module _ (t : Store Value) (r : Root) (it : Item) (twig : CellSeen) (ups : List 
   pub set_units : units_of (set_pieces it twig) ≡ put_units (item_units it) (cut_units from to (node_of twig).units)
   set_units =
       over_units lo hi from to pp xs ms ys ns s item_follow begins
-      ∙ ((λ i. put_units (units_of_item it is.given.sound i) (cut_units from to (twice_units lo hi from to ps are.pieces.follow holes.low holes.some holes.high holes.first_border holes.second_border i)))
+      ∙ ((λ i. put_units (units_of_item it is.given.sound i) (cut_units from to
+      (twice_units lo hi from to ps are.pieces.follow holes.low holes.some holes.high holes.first_border
+      holes.second_border i)))
       ∙ ap (λ us. put_units (item_units it) (cut_units from to us)) are.units)
 
   pub set_grafted : IsGraftedIn t r (set_pieces it twig) twig ups fresh
@@ -128,7 +136,8 @@ module _ (t : Store Value) (r : Root) (it : Item) (twig : CellSeen) (ups : List 
       mine : names_of (next_of hi ys) ns ≡ item_blocks it
       mine = names_of_item it is.given.sound (next_of hi ys) ∙ extent_names it (next_of hi ys) is.given.plugin
 
-      by_name : (n : Name) → Contains (names_of hi (set_pieces it twig)) n ↔ ((Contains (node_of twig).names n × (IsNameOf [] n → ⊥)) ⊎ (IsNameOf [] n ⊎ Contains (item_blocks it) n))
+      by_name : (n : Name) → Contains (names_of hi (set_pieces it twig)) n ↔ ((Contains (node_of twig).names n
+          × (IsNameOf [] n → ⊥)) ⊎ (IsNameOf [] n ⊎ Contains (item_blocks it) n))
       by_name n =
           let all = over_names lo hi from to pp xs ms ys ns s item_follow begins holes.some clear follow n in (
             λ at. elim (all.0 at) [
@@ -144,7 +153,8 @@ module _ (t : Store Value) (r : Root) (it : Item) (twig : CellSeen) (ups : List 
             ]),
           )
 
-  pub set_below : (blocks : List CellSeen) → AreBlocksOf (item_blocks it) blocks → IsGraftBelow t r (set_pieces it twig) nothing blocks fresh.next fresh twig ups
+  pub set_below : (blocks : List CellSeen) → AreBlocksOf (item_blocks it) blocks
+      → IsGraftBelow t r (set_pieces it twig) nothing blocks fresh.next fresh twig ups
   set_below blocks of = record {
     data_names = item_blocks it;
     grafted = set_grafted;
@@ -178,7 +188,8 @@ module _ {A : Type 0} (h : A → CellSeen) (path : List A) (x : A) (last : x ≡
 
   module _ (are : ArePiecesOf (h x) (twig_pieces (h x))) where
     pub set_graft_in : IsGraftIn t r (map h path) (set_pieces it (h x)) fresh
-    set_graft_in = last_up h (IsGraftedUp t r (set_pieces it (h x)) fresh) path x some last (set_grafted t r it (h x) ups fresh are set_in)
+    set_graft_in = last_up h (IsGraftedUp t r (set_pieces it (h x)) fresh) path x some last (set_grafted t r it
+        (h x) ups fresh are set_in)
 
     pub set_below_in : (blocks : List CellSeen) → AreBlocksOf (item_blocks it) blocks
         → IsGraftBelowIn t r (map h path) (set_pieces it (h x)) nothing blocks fresh.next fresh

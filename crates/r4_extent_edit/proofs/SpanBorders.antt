@@ -1,5 +1,6 @@
 -- Borders of an extent's blocks are borders of the twig's pieces.
-use Rattle.std.proofs.Common.{◌≡◌, ◌⊎◌, inl, inr, ℕ, ◌+◌, ◌-◌, ◌*◌, ◌^◌, ◌≤◌, Bool, true, false, List, [], ◌∷◌, ◌++◌, refl, sym, ap, subst, ◌∙◌, arith}
+use Rattle.std.proofs.Common.{◌≡◌, ◌⊎◌, inl, inr, ℕ, ◌+◌, ◌-◌, ◌*◌, ◌^◌, ◌≤◌, Bool, true, false, List, [], ◌∷◌, ◌++◌}
+use Rattle.std.proofs.Common.{refl, sym, ap, subst, ◌∙◌, arith}
 use Rattle.std.specs.Prelude.{Contains, None, if◌then◌else◌}
 use Rattle.std.proofs.lemmas.Bool.{cases_lt, eqb-true}
 use Rattle.std.proofs.lemmas.List.{append_assoc}
@@ -15,7 +16,8 @@ use Rattle.r4_branch.specs.Items.{IsSoundItem, Lie}
 use Rattle.r4_branch.specs.Pieces.{Follow, MayStand, item_pieces, piece_end, pieces_in, unit_pieces}
 use Rattle.r4_branch.specs.declared.piece.TwigPart.TheVariants.{Blocks}
 use Rattle.r4_branch.specs.declared.piece.TwigPiece.{TwigPiece}
-use Rattle.r4_branch.proofs.ItemPieces.{bytes_of_twig, extent_pieces, follow_item, follow_items, names_of_twig, next_of_items, pieces_of_twig, units_of_twig}
+use Rattle.r4_branch.proofs.ItemPieces.{bytes_of_twig, extent_pieces, follow_item, follow_items, names_of_twig}
+use Rattle.r4_branch.proofs.ItemPieces.{next_of_items, pieces_of_twig, units_of_twig}
 use Rattle.r4_branch.proofs.Standing.{stand_lie}
 use Rattle.r4_branch.proofs.UnitPieces.{rank_later}
 use Rattle.r4_cell.specs.Seen.{CellSeen, node_of}
@@ -33,7 +35,11 @@ use Rattle.r4_extent_edit.proofs.WholeBlocks.{whole_blocks}
 -- ---- a twig's pieces
 
 stands : (twig : CellSeen) → IsSound twig → twig.level ≡ 2 → MayStand (rank twig.lo) (rank twig.hi) twig.block
-stands twig sound level = (sound.whole, subst (λ (l : ℕ). cell_fault true (2 ^ 64) l (rank twig.lo) (rank twig.hi) twig.block ≡ None) level sound.accepted)
+stands twig sound level = (
+  sound.whole,
+  subst (λ (l : ℕ). cell_fault true (2 ^ 64) l (rank twig.lo)
+      (rank twig.hi) twig.block ≡ None) level sound.accepted,
+)
 
 -- The pieces of a twig that may stand.
 pub sound_pieces : (twig : CellSeen) → IsSound twig → twig.level ≡ 2 → ArePiecesOf twig (twig_pieces twig)
@@ -42,7 +48,8 @@ sound_pieces twig sound level =
     record {
       is = refl;
       pieces = pieces_of_twig (rank twig.lo) (rank twig.hi) twig.block stand;
-      names = names_of_twig (rank twig.lo) (rank twig.hi) twig.block stand (rank twig.hi) ∙ sym (names_are twig 1 level);
+      names = names_of_twig (rank twig.lo) (rank twig.hi) twig.block stand (rank twig.hi)
+          ∙ sym (names_are twig 1 level);
       units = units_of_twig (rank twig.lo) (rank twig.hi) twig.block stand ∙ sym (units_are twig 1 level);
       fits = bytes_of_twig (rank twig.lo) (rank twig.hi) twig.block stand;
     }
@@ -62,28 +69,31 @@ record HasItem (lo hi : ℕ) (items : List Item) (s : Span) : Type 0 where
   sound : IsSoundItem item
   right : Lie (item_end item) hi behind
 
-find_item : (lo hi : ℕ) (items : List Item) (s : Span) → Lie lo hi items → Contains (spans_in hi items) s → HasItem lo hi items s
+find_item : (lo hi : ℕ) (items : List Item) (s : Span) → Lie lo hi items → Contains (spans_in hi items) s
+    → HasItem lo hi items s
 unfolding spans_in
 find_item lo hi [] s lie at = absurd (not_in_none s at)
-find_item lo hi (x ∷ xs) s lie at = elim (Contains-append_cases (if is_extent x then (record { lo = rank x.key; hi = next_key hi xs } ∷ []) else []) (spans_in hi xs) s at) [
-  | inl mine ↦ by_test (is_extent x) refl mine
-  | inr more ↦
-      let r = find_item (item_end x) hi xs s lie.2 more in
-      record {
-        before = x ∷ r.before;
-        item = r.item;
-        behind = r.behind;
-        is = ap (λ ys. x ∷ ys) r.is;
-        plugin = r.plugin;
-        from = r.from;
-        to = r.to;
-        left = (lie.0, lie.1, r.left);
-        sound = r.sound;
-        right = r.right;
-      }
-]
+find_item lo hi (x ∷ xs) s lie at = elim (Contains-append_cases (if is_extent x then
+    (record { lo = rank x.key; hi = next_key hi xs } ∷ []) else []) (spans_in hi xs) s at) [
+      | inl mine ↦ by_test (is_extent x) refl mine
+      | inr more ↦
+          let r = find_item (item_end x) hi xs s lie.2 more in
+          record {
+            before = x ∷ r.before;
+            item = r.item;
+            behind = r.behind;
+            is = ap (λ ys. x ∷ ys) r.is;
+            plugin = r.plugin;
+            from = r.from;
+            to = r.to;
+            left = (lie.0, lie.1, r.left);
+            sound = r.sound;
+            right = r.right;
+          }
+    ]
   where
-    by_test : (b : Bool) → is_extent x ≡ b → Contains (if b then (record { lo = rank x.key; hi = next_key hi xs } ∷ []) else []) s → HasItem lo hi (x ∷ xs) s
+    by_test : (b : Bool) → is_extent x ≡ b → Contains (if b then (record { lo = rank x.key; hi = next_key hi xs }
+        ∷ []) else []) s → HasItem lo hi (x ∷ xs) s
     by_test false e none = absurd (not_in_none s none)
     by_test true e mine = elim (first_or_later (record { lo = rank x.key; hi = next_key hi xs }) [] s mine) [
       | inr none ↦ absurd (not_in_none s none)
@@ -103,9 +113,11 @@ find_item lo hi (x ∷ xs) s lie at = elim (Contains-append_cases (if is_extent 
 
 pieces_join : (xs ys : List Item) → pieces_in (xs ++ ys) ≡ pieces_in xs ++ pieces_in ys
 pieces_join [] ys = refl
-pieces_join (x ∷ xs) ys = ap (λ ps. item_pieces x ++ ps) (pieces_join xs ys) ∙ sym (append_assoc (item_pieces x) (pieces_in xs) (pieces_in ys))
+pieces_join (x ∷ xs) ys = ap (λ ps. item_pieces x ++ ps) (pieces_join xs ys)
+    ∙ sym (append_assoc (item_pieces x) (pieces_in xs) (pieces_in ys))
 
-pub follow_within : (from to : ℕ) (ps : List TwigPiece) (p : TwigPiece) → Follow from to ps → Contains ps p → (from ≤ rank p.key) × (piece_end p ≤ to)
+pub follow_within : (from to : ℕ) (ps : List TwigPiece) (p : TwigPiece) → Follow from to ps → Contains ps p
+    → (from ≤ rank p.key) × (piece_end p ≤ to)
 follow_within from to [] p f at = absurd (not_in_none p at)
 follow_within from to (q ∷ ps) p f at = elim (first_or_later q ps p at) [
   | inl is ↦
@@ -122,15 +134,17 @@ follow_within from to (q ∷ ps) p f at = elim (first_or_later q ps p at) [
       (omega (arith, r, low, e), r.1)
 ]
 
-unit_key : (k : Key) (n : ℕ) (us : List ExtentUnit) (p : TwigPiece) → Contains (unit_pieces k n us) p → (m : ℕ) × (rank p.key ≡ rank k + 4096 * m)
+unit_key : (k : Key) (n : ℕ) (us : List ExtentUnit) (p : TwigPiece) → Contains (unit_pieces k n us) p → (m : ℕ)
+    × (rank p.key ≡ rank k + 4096 * m)
 unit_key k n [] p at = absurd (not_in_none p at)
-unit_key k n (u ∷ us) p at = elim (first_or_later (record { key = later k (4096 * n); part = Blocks u }) (unit_pieces k (n + u.width) us) p at) [
-  | inl is ↦
-      let e = rank_later k (4096 * n) in
-      let same : rank (later k (4096 * n)) ≡ rank p.key = ap (λ (x : TwigPiece). rank x.key) is in
-      (n, omega (arith, e, same))
-  | inr more ↦ unit_key k (n + u.width) us p more
-]
+unit_key k n (u ∷ us) p at = elim (first_or_later (record { key = later k (4096 * n); part = Blocks u })
+    (unit_pieces k (n + u.width) us) p at) [
+      | inl is ↦
+          let e = rank_later k (4096 * n) in
+          let same : rank (later k (4096 * n)) ≡ rank p.key = ap (λ (x : TwigPiece). rank x.key) is in
+          (n, omega (arith, e, same))
+      | inr more ↦ unit_key k (n + u.width) us p more
+    ]
 
 module _ (twig : CellSeen) (s : Span) (from to : ℕ) (is : AreOfSpan twig s from to) where
   abbrev items : List Item
@@ -146,22 +160,26 @@ module _ (twig : CellSeen) (s : Span) (from to : ℕ) (is : AreOfSpan twig s fro
 
   behind_follow : Follow s.hi (rank twig.hi) (pieces_in found.behind)
   behind_follow =
-      let first = next_of_items (item_end found.item) (rank twig.hi) found.behind found.right (rank twig.hi) ∙ found.to in
+      let first = next_of_items (item_end found.item) (rank twig.hi) found.behind found.right (rank twig.hi)
+      ∙ found.to in
       follow_from (item_end found.item) s.hi (rank twig.hi) (pieces_in found.behind) (omega (arith, first))
       (follow_items (item_end found.item) (rank twig.hi) found.behind found.right)
 
   item_ends : item_end found.item ≤ s.hi
   item_ends = by_behind found.behind found.to found.right
     where
-      by_behind : (xs : List Item) → next_key (rank twig.hi) xs ≡ s.hi → Lie (item_end found.item) (rank twig.hi) xs → item_end found.item ≤ s.hi
+      by_behind : (xs : List Item) → next_key (rank twig.hi) xs ≡ s.hi → Lie (item_end found.item) (rank twig.hi) xs
+          → item_end found.item ≤ s.hi
       by_behind [] e lie = omega (arith, e, lie)
       by_behind (x ∷ xs) e lie = let low = lie.0 in omega (arith, e, low)
 
   border : (k : ℕ) → s.lo ≤ k → k ≤ s.hi → IsSpanBorder s k → IsBorder k (twig_pieces twig)
   border k low high at p in_p below above =
-      elim (Contains-append_cases (pieces_in found.before) (item_pieces found.item ++ pieces_in found.behind) p (subst (λ ps. Contains ps p) pieces_are in_p)) [
+      elim (Contains-append_cases (pieces_in found.before) (item_pieces found.item ++ pieces_in found.behind) p
+      (subst (λ ps. Contains ps p) pieces_are in_p)) [
         | inl left ↦
-            let w = follow_within (rank twig.lo) (rank found.item.key) (pieces_in found.before) p (follow_items (rank twig.lo) (rank found.item.key) found.before found.left) left in
+            let w = follow_within (rank twig.lo) (rank found.item.key) (pieces_in found.before) p (follow_items
+            (rank twig.lo) (rank found.item.key) found.before found.left) left in
             let e = found.from in
             absurd (omega (arith, w, e, low, above))
         | inr more ↦ elim (Contains-append_cases (item_pieces found.item) (pieces_in found.behind) p more) [
@@ -169,9 +187,11 @@ module _ (twig : CellSeen) (s : Span) (from to : ℕ) (is : AreOfSpan twig s fro
               let w = follow_within s.hi (rank twig.hi) (pieces_in found.behind) p behind_follow right in
               absurd (omega (arith, w, high, below))
           | inl mine ↦
-              let w = follow_within (rank found.item.key) (item_end found.item) (item_pieces found.item) p (follow_item found.item found.sound) mine in
+              let w = follow_within (rank found.item.key) (item_end found.item) (item_pieces found.item) p
+              (follow_item found.item found.sound) mine in
               let ends = item_ends in
-              let key = unit_key found.item.key 0 (units_of_body found.item.body) p (subst (λ ps. Contains ps p) (extent_pieces found.item found.plugin) mine) in
+              let key = unit_key found.item.key 0 (units_of_body found.item.body) p (subst (λ ps. Contains ps p)
+              (extent_pieces found.item found.plugin) mine) in
               let m = key.1 in
               let e = found.from in
               elim at [
@@ -192,18 +212,28 @@ module _ (twig : CellSeen) (s : Span) (from to : ℕ) (is : AreOfSpan twig s fro
         | inl ends ↦ elim (cases_lt n.lo to) [
           | inr behind ↦ inr behind
           | inl begins ↦ elim (cases_lt n.lo from) [
-            | inl earlier ↦ absurd (data_leaf (is.node.spans_apart n s from named is.span (omega (arith, earlier), ends) (low, omega (arith, some, high))))
+            | inl earlier ↦ absurd (data_leaf (is.node.spans_apart n s from named is.span (
+              omega
+                  (arith, earlier),
+              ends,
+            ) (low, omega (arith, some, high))))
             | inr later_is ↦ let wide = is.node.name_nonempty n named in
-                absurd (data_leaf (is.node.spans_apart n s n.lo named is.span (omega arith, wide) (omega (arith, low, later_is), omega (arith, begins, high))))
+                absurd (data_leaf (is.node.spans_apart n s n.lo named is.span (omega arith, wide) (
+                  omega
+                      (arith, low, later_is),
+                  omega (arith, begins, high),
+                )))
           ]
         ]
       ]
 
   first_border : IsBorder from (twig_pieces twig)
-  first_border = let low = is.low in let some = is.some in let high = is.high in border from low (omega (arith, some, high)) is.first
+  first_border = let low = is.low in let some = is.some in let high = is.high in
+      border from low (omega (arith, some, high)) is.first
 
   second_border : IsBorder to (twig_pieces twig)
-  second_border = let low = is.low in let some = is.some in let high = is.high in border to (omega (arith, low, some)) high is.second
+  second_border = let low = is.low in let some = is.some in let high = is.high in
+      border to (omega (arith, low, some)) high is.second
 
   starts : rank twig.lo ≤ from
   starts = let l = is.node.span_from s is.span in let e = lo_is twig in let low = is.low in omega (arith, l, e, low)
@@ -216,11 +246,13 @@ module _ (twig : CellSeen) (s : Span) (from to : ℕ) (is : AreOfSpan twig s fro
     first_border = first_border;
     second_border = second_border;
     clear = leaf_clear;
-    whole = whole_blocks twig (sound_pieces twig is.sound is.level) from to starts is.some ends_in first_border second_border;
+    whole = whole_blocks twig (sound_pieces twig is.sound is.level) from to starts is.some ends_in first_border
+        second_border;
   }
 
   -- where no data block has one of the keys, there are holes
-  pub span_holes : ((n : Name) → Contains (node_of twig).names n → IsData n → (n.hi ≤ from) ⊎ (to ≤ n.lo)) → AreHoles twig from to
+  pub span_holes : ((n : Name) → Contains (node_of twig).names n → IsData n → (n.hi ≤ from) ⊎ (to ≤ n.lo))
+      → AreHoles twig from to
   span_holes none = record {
     low = starts;
     some = is.some;

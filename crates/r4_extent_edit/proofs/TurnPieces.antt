@@ -1,5 +1,6 @@
 -- An extent over leaves that stand one beside the other: the pieces, their units, and what they name.
-use Rattle.std.proofs.Common.{map, ◌≡◌, ◌≢◌, ◌↔◌, ◌⊎◌, inl, inr, ℕ, suc, ◌+◌, ◌<◌, ◌≤◌, Bool, true, false, List, [], ◌∷◌, ◌++◌, length, take, drop, refl, sym, ap, subst, ◌∙◌, arith}
+use Rattle.std.proofs.Common.{map, ◌≡◌, ◌≢◌, ◌↔◌, ◌⊎◌, inl, inr, ℕ, suc, ◌+◌, ◌<◌, ◌≤◌, Bool, true, false, List, []}
+use Rattle.std.proofs.Common.{◌∷◌, ◌++◌, length, take, drop, refl, sym, ap, subst, ◌∙◌, arith}
 use Rattle.std.specs.Prelude.{Contains, Option, None, Some, ◌==◌, if◌then◌else◌}
 use Rattle.std.proofs.Math.Seq.{drop-append_seam, take-append_seam}
 use Rattle.std.proofs.lemmas.Bool.{cases_lt, eqb-true, eqb-false, le-ltb, lt-ltb}
@@ -9,13 +10,17 @@ use Rattle.r4_base.specs.Cell.{item_end, item_units}
 use Rattle.r4_base.specs.Key.{rank}
 use Rattle.r4_base.specs.Node.{Item}
 use Rattle.r4_base.specs.Tree.{Name}
-use Rattle.r4_branch.specs.Pieces.{AreTwigPieces, Follow, bytes_behind, item_pieces, last_end, names_of, next_of, part_bytes, part_end, part_names, part_units, piece_end, twig_bytes, units_of}
+use Rattle.r4_branch.specs.Pieces.{AreTwigPieces, Follow, bytes_behind, item_pieces, last_end, names_of, next_of}
+use Rattle.r4_branch.specs.Pieces.{part_bytes, part_end, part_names, part_units, piece_end, twig_bytes, units_of}
 use Rattle.r4_branch.specs.declared.piece.TwigPiece.{TwigPiece}
-use Rattle.r4_branch.proofs.ItemPieces.{bytes_of_item, follow_item, names_of_item, next_of_item, units_append, units_of_item}
+use Rattle.r4_branch.proofs.ItemPieces.{bytes_of_item, follow_item, names_of_item, next_of_item, units_append}
+use Rattle.r4_branch.proofs.ItemPieces.{units_of_item}
 use Rattle.r4_cell.specs.Seen.{CellSeen, node_of}
 use Rattle.r4_graft.specs.Splices.{IsBorder, parted, parted_piece, place}
-use Rattle.r4_graft.proofs.Joined.{bytes_join, bytes_most, end_of, follow_join, follow_parts, names_join, next_join, spliced_bytes}
-use Rattle.r4_graft.proofs.Placed.{first_member, first_or_later, follow_above, has_end, later_member, place_none, place_some}
+use Rattle.r4_graft.proofs.Joined.{bytes_join, bytes_most, end_of, follow_join, follow_parts, names_join, next_join}
+use Rattle.r4_graft.proofs.Joined.{spliced_bytes}
+use Rattle.r4_graft.proofs.Placed.{first_member, first_or_later, follow_above, has_end, later_member, place_none}
+use Rattle.r4_graft.proofs.Placed.{place_some}
 use Rattle.r4_graft.proofs.SplicedNames.{spliced_names}
 use Rattle.r4_leaf.specs.Units.{put_units}
 use Rattle.r4_leaf.proofs.Rising.{Rise, put_run, rise_lower, rise_wider}
@@ -37,7 +42,8 @@ use Rattle.r4_extent_edit.proofs.SpanBorders.{follow_within as piece_within}
 
 -- ---- places and parting
 
-place_at : (k hi : ℕ) (xs ys : List TwigPiece) → ((p : TwigPiece) → Contains xs p → rank p.key < k) → k ≤ next_of hi ys → place k (xs ++ ys) ≡ length xs
+place_at : (k hi : ℕ) (xs ys : List TwigPiece) → ((p : TwigPiece) → Contains xs p → rank p.key < k)
+    → k ≤ next_of hi ys → place k (xs ++ ys) ≡ length xs
 place_at k hi [] [] low high = refl
 place_at k hi [] (y ∷ ys) low high = place_none k y ys high
 place_at k hi (x ∷ xs) ys low high =
@@ -60,11 +66,13 @@ whole_piece k p never = elim (cases_lt (rank p.key) k) [
 parted_same : (k : ℕ) (ps : List TwigPiece) → IsBeside k ps → parted k ps ≡ ps
 parted_same k [] never = refl
 parted_same k (p ∷ ps) never =
-    (λ i. whole_piece k p (never p (first_member p ps)) i ++ parted_same k ps (λ q at. never q (later_member p ps q at)) i)
+    (λ i. whole_piece k p (never p (first_member p ps)) i ++ parted_same k ps (λ q at. never q
+    (later_member p ps q at)) i)
 
 -- ---- leaves that stand one beside the other
 
-pub last_low : (lo end : ℕ) (leaf : CellSeen) (more : List CellSeen) (c : CellSeen) → FollowCells 1 lo end (leaf ∷ more) → Contains (leaf ∷ more) c
+pub last_low : (lo end : ℕ) (leaf : CellSeen) (more : List CellSeen) (c : CellSeen)
+    → FollowCells 1 lo end (leaf ∷ more) → Contains (leaf ∷ more) c
     → rank c.lo ≤ rank (last_leaf leaf more).lo
 last_low lo end leaf [] c f at = elim (cases leaf c [] at) [
   | inl is ↦ let e : rank c.lo ≡ rank leaf.lo = ap (λ (x : CellSeen). rank x.lo) is in omega (arith, e)
@@ -98,18 +106,22 @@ module _ (twig : CellSeen) (are : ArePiecesOf twig (twig_pieces twig)) (leaf : C
   h = find_pointers (rank twig.lo) (rank twig.hi) (rank last.hi) ps leaf more are.pieces.follow beside
       (λ c at. subst (λ ns. Contains ns (name_of c)) (sym are.names) (named c at))
 
-  parts : Follow (rank twig.lo) (end_of (rank twig.lo) h.before) h.before × Follow (end_of (rank twig.lo) h.before) (rank twig.hi) (h.piece ∷ (h.others ++ h.behind))
-  parts = follow_parts (rank twig.lo) (rank twig.hi) h.before (h.piece ∷ (h.others ++ h.behind)) (subst (Follow (rank twig.lo) (rank twig.hi)) h.is are.pieces.follow)
+  parts : Follow (rank twig.lo) (end_of (rank twig.lo) h.before) h.before
+      × Follow (end_of (rank twig.lo) h.before) (rank twig.hi) (h.piece ∷ (h.others ++ h.behind))
+  parts = follow_parts (rank twig.lo) (rank twig.hi) h.before (h.piece ∷ (h.others ++ h.behind)) (subst (Follow
+      (rank twig.lo) (rank twig.hi)) h.is are.pieces.follow)
 
   pub piece_ends : piece_end h.piece ≡ rank h.piece.key + 1
   piece_ends = ap (part_end (rank h.piece.key)) h.part
 
-  others_parts : Follow (piece_end h.piece) (end_of (piece_end h.piece) h.others) h.others × Follow (end_of (piece_end h.piece) h.others) (rank twig.hi) h.behind
+  others_parts : Follow (piece_end h.piece) (end_of (piece_end h.piece) h.others) h.others
+      × Follow (end_of (piece_end h.piece) h.others) (rank twig.hi) h.behind
   others_parts = follow_parts (piece_end h.piece) (rank twig.hi) h.others h.behind parts.1.2
 
   -- what is behind the pointers begins where the last leaf ends
   pub rest : Follow (rank last.hi) (rank twig.hi) h.behind
-  rest = let n = h.next in follow_from (end_of (piece_end h.piece) h.others) (rank last.hi) (rank twig.hi) h.behind (omega (arith, n)) others_parts.1
+  rest = let n = h.next in follow_from (end_of (piece_end h.piece) h.others) (rank last.hi) (rank twig.hi) h.behind
+      (omega (arith, n)) others_parts.1
 
   -- what is before them ends where the first leaf begins
   pub front : Follow (rank twig.lo) (rank leaf.lo) h.before
@@ -126,9 +138,11 @@ module _ (twig : CellSeen) (are : ArePiecesOf twig (twig_pieces twig)) (leaf : C
   front_low p at = (piece_within (rank twig.lo) (rank leaf.lo) h.before p front at).1
 
   front_key : (p : TwigPiece) → Contains h.before p → rank p.key < rank leaf.lo
-  front_key p at = let w = sound_in (rank twig.lo) (end_of (rank twig.lo) h.before) h.before p parts.0 at in let e = front_low p at in omega (arith, w, e)
+  front_key p at = let w = sound_in (rank twig.lo) (end_of (rank twig.lo) h.before) h.before p parts.0 at in
+      let e = front_low p at in omega (arith, w, e)
     where
-      sound_in : (a b : ℕ) (xs : List TwigPiece) (p : TwigPiece) → Follow a b xs → Contains xs p → rank p.key < piece_end p
+      sound_in : (a b : ℕ) (xs : List TwigPiece) (p : TwigPiece) → Follow a b xs → Contains xs p
+          → rank p.key < piece_end p
       sound_in a b [] p f at = absurd (none p at)
       sound_in a b (x ∷ xs) p f at = elim (first_or_later x xs p at) [
         | inl is ↦ subst (λ (y : TwigPiece). rank y.key < piece_end y) is (has_end x f.1)
@@ -138,20 +152,22 @@ module _ (twig : CellSeen) (are : ArePiecesOf twig (twig_pieces twig)) (leaf : C
   module _ (from to : ℕ) (around : AreAround leaf more from to) where
     -- both keys are beside all pieces
     beside_key : (k : ℕ) → rank leaf.lo ≤ k → k ≤ rank last.hi → IsBeside k ps
-    beside_key k low high p at below above = elim (Contains-append_cases h.before (h.piece ∷ (h.others ++ h.behind)) p (subst (λ qs. Contains qs p) h.is at)) [
-      | inl left ↦ let e = front_low p left in omega (arith, e, low, above)
-      | inr more_at ↦ elim (first_or_later h.piece (h.others ++ h.behind) p more_at) [
-        | inl is ↦
-            let e = piece_ends in
-            let same : piece_end h.piece ≡ piece_end p = ap (λ (x : TwigPiece). piece_end x) is in
-            let key : rank h.piece.key ≡ rank p.key = ap (λ (x : TwigPiece). rank x.key) is in
-            omega (arith, e, same, key, below, above)
-        | inr rest_at ↦ elim (Contains-append_cases h.others h.behind p rest_at) [
-          | inl mine ↦ let e = (h.each p mine).1.1.1 in omega (arith, e, below, above)
-          | inr right ↦ let e = follow_above (rank last.hi) (rank twig.hi) h.behind rest p right in omega (arith, e, high, below)
+    beside_key k low high p at below above = elim (Contains-append_cases h.before (h.piece ∷ (h.others
+        ++ h.behind)) p (subst (λ qs. Contains qs p) h.is at)) [
+          | inl left ↦ let e = front_low p left in omega (arith, e, low, above)
+          | inr more_at ↦ elim (first_or_later h.piece (h.others ++ h.behind) p more_at) [
+            | inl is ↦
+                let e = piece_ends in
+                let same : piece_end h.piece ≡ piece_end p = ap (λ (x : TwigPiece). piece_end x) is in
+                let key : rank h.piece.key ≡ rank p.key = ap (λ (x : TwigPiece). rank x.key) is in
+                omega (arith, e, same, key, below, above)
+            | inr rest_at ↦ elim (Contains-append_cases h.others h.behind p rest_at) [
+              | inl mine ↦ let e = (h.each p mine).1.1.1 in omega (arith, e, below, above)
+              | inr right ↦ let e = follow_above (rank last.hi) (rank twig.hi) h.behind rest p right in
+                  omega (arith, e, high, below)
+            ]
+          ]
         ]
-      ]
-    ]
 
     pub turn_border : IsBorder from ps
     turn_border p at low high = let a = around.low in let b = from_high in absurd (beside_key from a b p at low high)
@@ -177,8 +193,12 @@ module _ (twig : CellSeen) (are : ArePiecesOf twig (twig_pieces twig)) (leaf : C
         let ends = around.ends in
         (omega (arith, w, ends), around.high)
 
+    pub turn_end_border : IsBorder to ps
+    turn_end_border p at low high = absurd (beside_key to to_in.0 to_in.1 p at low high)
+
     pp_is : parted_twice from to ps ≡ ps
-    pp_is = ap (parted to) (parted_same from ps (beside_key from from_in.0 from_in.1)) ∙ parted_same to ps (beside_key to to_in.0 to_in.1)
+    pp_is = ap (parted to) (parted_same from ps (beside_key from from_in.0 from_in.1))
+        ∙ parted_same to ps (beside_key to to_in.0 to_in.1)
 
     -- the first pointer, where it stays
     abbrev pub kept : List TwigPiece
@@ -192,7 +212,8 @@ module _ (twig : CellSeen) (are : ArePiecesOf twig (twig_pieces twig)) (leaf : C
         elim (Contains-append_cases h.before (h.piece ∷ h.others) p at) [
           | inl left ↦ let e = front_key p left in omega (arith, e, w, ends)
           | inr more_at ↦ elim (first_or_later h.piece h.others p more_at) [
-            | inl is ↦ let key : rank h.piece.key ≡ rank p.key = ap (λ (x : TwigPiece). rank x.key) is in let k = h.key in omega (arith, key, k, w, ends)
+            | inl is ↦ let key : rank h.piece.key ≡ rank p.key = ap (λ (x : TwigPiece). rank x.key) is in
+                let k = h.key in omega (arith, key, k, w, ends)
             | inr mine ↦
                 let e = h.each p mine in
                 let key = e.1.1.0 in
@@ -203,51 +224,68 @@ module _ (twig : CellSeen) (are : ArePiecesOf twig (twig_pieces twig)) (leaf : C
 
     behind_is : drop (place to ps) ps ≡ h.behind
     behind_is =
-        let all : ps ≡ (h.before ++ (h.piece ∷ h.others)) ++ h.behind = h.is ∙ sym (append_assoc h.before (h.piece ∷ h.others) h.behind) in
+        let all : ps ≡ (h.before ++ (h.piece ∷ h.others)) ++ h.behind = h.is
+        ∙ sym (append_assoc h.before (h.piece ∷ h.others) h.behind) in
         let n = h.next in
         let high = around.high in
-        let at : place to ps ≡ length (h.before ++ (h.piece ∷ h.others)) = ap (place to) all ∙ place_at to (rank twig.hi) (h.before ++ (h.piece ∷ h.others)) h.behind pointers_low (omega (arith, n, high)) in
+        let at : place to ps ≡ length (h.before ++ (h.piece ∷ h.others)) = ap (place to) all
+        ∙ place_at to (rank twig.hi) (h.before ++ (h.piece ∷ h.others)) h.behind pointers_low (omega
+        (arith, n, high)) in
         (λ i. drop (at i) (all i)) ∙ drop-append_seam (h.before ++ (h.piece ∷ h.others)) h.behind
 
     before_is : take (place from ps) ps ≡ h.before ++ kept
     before_is = by_test (from == rank leaf.lo) refl
       where
-        by_test : (b : Bool) → b ≡ (from == rank leaf.lo) → take (place from ps) ps ≡ h.before ++ (if b then [] else h.piece ∷ [])
+        by_test : (b : Bool) → b ≡ (from == rank leaf.lo) → take (place from ps) ps
+            ≡ h.before ++ (if b then [] else h.piece ∷ [])
         by_test true same =
             let e : from ≡ rank leaf.lo = eqb-true from (rank leaf.lo) (sym same) in
             let key = h.key in
-            let at : place from ps ≡ length h.before = ap (place from) h.is ∙ place_at from (rank twig.hi) h.before (h.piece ∷ (h.others ++ h.behind)) (λ p in_p. let l = front_key p in_p in omega (arith, l, e)) (omega (arith, key, e)) in
-            (λ i. take (at i) (h.is i)) ∙ (take-append_seam h.before (h.piece ∷ (h.others ++ h.behind)) ∙ sym (append-nil h.before))
+            let at : place from ps ≡ length h.before = ap (place from) h.is
+            ∙ place_at from (rank twig.hi) h.before (h.piece ∷ (h.others ++ h.behind))
+            (λ p in_p. let l = front_key p in_p in omega (arith, l, e)) (omega (arith, key, e)) in
+            (λ i. take (at i) (h.is i)) ∙ (take-append_seam h.before (h.piece ∷ (h.others ++ h.behind))
+            ∙ sym (append-nil h.before))
         by_test false same =
             let other = eqb-false from (rank leaf.lo) (sym same) in
             let low = around.low in
             let begins = around.begins in
-            let all : ps ≡ (h.before ++ (h.piece ∷ [])) ++ (h.others ++ h.behind) = h.is ∙ sym (append_assoc h.before (h.piece ∷ []) (h.others ++ h.behind)) in
-            let next : next_of (rank twig.hi) (h.others ++ h.behind) ≡ rank leaf.hi = next_join (rank twig.hi) h.others h.behind ∙ (ap (λ (k : ℕ). next_of k h.others) h.next ∙ h.begins) in
-            let at : place from ps ≡ length (h.before ++ (h.piece ∷ [])) = ap (place from) all ∙ place_at from (rank twig.hi) (h.before ++ (h.piece ∷ [])) (h.others ++ h.behind) (λ p in_p. front_from p in_p other low) (omega (arith, next, begins)) in
+            let all : ps ≡ (h.before ++ (h.piece ∷ [])) ++ (h.others ++ h.behind) = h.is
+            ∙ sym (append_assoc h.before (h.piece ∷ []) (h.others ++ h.behind)) in
+            let next : next_of (rank twig.hi) (h.others ++ h.behind)
+            ≡ rank leaf.hi = next_join (rank twig.hi) h.others h.behind
+            ∙ (ap (λ (k : ℕ). next_of k h.others) h.next ∙ h.begins) in
+            let at : place from ps ≡ length (h.before ++ (h.piece ∷ [])) = ap (place from) all
+            ∙ place_at from (rank twig.hi) (h.before ++ (h.piece ∷ [])) (h.others ++ h.behind)
+            (λ p in_p. front_from p in_p other low) (omega (arith, next, begins)) in
             (λ i. take (at i) (all i)) ∙ take-append_seam (h.before ++ (h.piece ∷ [])) (h.others ++ h.behind)
           where
-            front_from : (p : TwigPiece) → Contains (h.before ++ (h.piece ∷ [])) p → (from ≢ rank leaf.lo) → rank leaf.lo ≤ from → rank p.key < from
+            front_from : (p : TwigPiece) → Contains (h.before ++ (h.piece ∷ [])) p → (from ≢ rank leaf.lo)
+                → rank leaf.lo ≤ from → rank p.key < from
             front_from p in_p other low = elim (Contains-append_cases h.before (h.piece ∷ []) p in_p) [
               | inl left ↦ let l = front_key p left in omega (arith, l, low)
               | inr mine ↦ elim (first_or_later h.piece [] p mine) [
-                | inl is ↦ let key : rank h.piece.key ≡ rank p.key = ap (λ (x : TwigPiece). rank x.key) is in let k = h.key in omega (arith, key, k, other, low)
+                | inl is ↦ let key : rank h.piece.key ≡ rank p.key = ap (λ (x : TwigPiece). rank x.key) is in
+                    let k = h.key in omega (arith, key, k, other, low)
                 | inr none_is ↦ absurd (none p none_is)
               ]
             ]
 
-    pub over_is : (others : List TwigPiece) → pieces_over from to others twig ≡ h.before ++ ((kept ++ others) ++ h.behind)
+    pub over_is : (others : List TwigPiece) → pieces_over from to others twig
+        ≡ h.before ++ ((kept ++ others) ++ h.behind)
     over_is others =
         (λ i. put_between from to others (pp_is i))
         ∙ ((λ i. before_is i ++ (others ++ behind_is i))
-        ∙ (append_assoc h.before kept (others ++ h.behind) ∙ ap (λ xs. h.before ++ xs) (sym (append_assoc kept others h.behind))))
+        ∙ (append_assoc h.before kept (others ++ h.behind) ∙ ap (λ xs. h.before ++ xs) (sym
+        (append_assoc kept others h.behind))))
 
 -- ---- the extent
 
 module _ (twig : CellSeen) (are : ArePiecesOf twig (twig_pieces twig)) (leaf : CellSeen) (more : List CellSeen)
     (beside : FollowCells 1 (rank leaf.lo) (rank (last_leaf leaf more).hi) (leaf ∷ more))
     (named : (c : CellSeen) → Contains (leaf ∷ more) c → Contains (node_of twig).names (name_of c))
-    (it : Item) (right : Option CellSeen) (given : IsGivenExtent it) (around : AreAround leaf more (rank it.key) (item_end it))
+    (it : Item) (right : Option CellSeen) (given : IsGivenExtent it) (around : AreAround leaf more (rank it.key)
+    (item_end it))
     (behind : MayStandBehind it (last_leaf leaf more) right) where
   abbrev pub p : HasPointers (rank twig.hi) (twig_pieces twig) leaf more (rank (last_leaf leaf more).hi)
   p = h twig are leaf more beside named
@@ -262,7 +300,8 @@ module _ (twig : CellSeen) (are : ArePiecesOf twig (twig_pieces twig)) (leaf : C
   comes = stays ++ (item_pieces it ++ pointer_to right)
 
   pub turned_is : turned_pieces it right twig ≡ p.before ++ (comes ++ p.behind)
-  turned_is = over_is twig are leaf more beside named (rank it.key) (item_end it) around (item_pieces it ++ pointer_to right)
+  turned_is = over_is twig are leaf more beside named (rank it.key) (item_end it) around (item_pieces it
+      ++ pointer_to right)
 
   from : rank leaf.lo ≤ rank it.key
   from = around.low
@@ -271,10 +310,12 @@ module _ (twig : CellSeen) (are : ArePiecesOf twig (twig_pieces twig)) (leaf : C
   piece_sound =
       let key = p.key in
       let e = piece_ends twig are leaf more beside named in
-      let f = (follow_parts (rank twig.lo) (rank twig.hi) p.before (p.piece ∷ (p.others ++ p.behind)) (subst (Follow (rank twig.lo) (rank twig.hi)) p.is are.pieces.follow)).1 in
+      let f = (follow_parts (rank twig.lo) (rank twig.hi) p.before (p.piece ∷ (p.others ++ p.behind)) (subst (Follow
+      (rank twig.lo) (rank twig.hi)) p.is are.pieces.follow)).1 in
       (omega (arith, key), f.1, omega (arith, key, e))
 
-  kept_follows : (b : Bool) → b ≡ (rank it.key == rank leaf.lo) → Follow (rank leaf.lo) (rank it.key) (if b then [] else p.piece ∷ [])
+  kept_follows : (b : Bool) → b ≡ (rank it.key == rank leaf.lo)
+      → Follow (rank leaf.lo) (rank it.key) (if b then [] else p.piece ∷ [])
   kept_follows true same = from
   kept_follows false same =
       let other = eqb-false (rank it.key) (rank leaf.lo) (sym same) in
@@ -284,15 +325,20 @@ module _ (twig : CellSeen) (are : ArePiecesOf twig (twig_pieces twig)) (leaf : C
 
   comes_follow : Follow (rank leaf.lo) end comes
   comes_follow =
-      follow_join (rank leaf.lo) (rank it.key) end stays (item_pieces it ++ pointer_to right) (kept_follows (rank it.key == rank leaf.lo) refl)
-      (follow_join (rank it.key) (item_end it) end (item_pieces it) (pointer_to right) (follow_item it given.sound) (pointer_follows it (last_leaf leaf more) right behind))
+      follow_join (rank leaf.lo) (rank it.key) end stays (item_pieces it ++ pointer_to right) (kept_follows
+      (rank it.key == rank leaf.lo) refl)
+      (follow_join (rank it.key) (item_end it) end (item_pieces it) (pointer_to right) (follow_item it given.sound)
+      (pointer_follows it (last_leaf leaf more) right behind))
 
   -- the first of what comes has the first leaf's first key
   first_comes : (z : ℕ) → next_of z comes ≡ rank leaf.lo
   first_comes z = by_test (rank it.key == rank leaf.lo) refl
     where
-      by_test : (b : Bool) → b ≡ (rank it.key == rank leaf.lo) → next_of z ((if b then [] else p.piece ∷ []) ++ (item_pieces it ++ pointer_to right)) ≡ rank leaf.lo
-      by_test true same = next_join z (item_pieces it) (pointer_to right) ∙ (next_of_item it given.sound (next_of z (pointer_to right)) ∙ eqb-true (rank it.key) (rank leaf.lo) (sym same))
+      by_test : (b : Bool) → b ≡ (rank it.key == rank leaf.lo)
+          → next_of z ((if b then [] else p.piece ∷ []) ++ (item_pieces it ++ pointer_to right)) ≡ rank leaf.lo
+      by_test true same = next_join z (item_pieces it) (pointer_to right)
+          ∙ (next_of_item it given.sound (next_of z (pointer_to right))
+          ∙ eqb-true (rank it.key) (rank leaf.lo) (sym same))
       by_test false same = p.key
 
   pub turned_twigs : AreTwigPieces (rank twig.lo) (rank twig.hi) (turned_pieces it right twig)
@@ -305,10 +351,14 @@ module _ (twig : CellSeen) (are : ArePiecesOf twig (twig_pieces twig)) (leaf : C
       subst (AreTwigPieces (rank twig.lo) (rank twig.hi)) (sym turned_is) (record {
         some = omega (arith, before, rest_long, mine, whole, both);
         first = next_join (rank twig.hi) p.before (comes ++ p.behind)
-            ∙ (ap (λ (n : ℕ). next_of n p.before) (next_join (rank twig.hi) comes p.behind ∙ (first_comes (next_of (rank twig.hi) p.behind) ∙ sym p.key))
-            ∙ (sym (next_join (rank twig.hi) p.before (p.piece ∷ (p.others ++ p.behind))) ∙ (ap (next_of (rank twig.hi)) (sym p.is) ∙ are.pieces.first)));
-        follow = follow_join (rank twig.lo) (rank leaf.lo) (rank twig.hi) p.before (comes ++ p.behind) (front twig are leaf more beside named)
-            (follow_join (rank leaf.lo) end (rank twig.hi) comes p.behind comes_follow (rest twig are leaf more beside named));
+            ∙ (ap (λ (n : ℕ). next_of n p.before) (next_join (rank twig.hi) comes p.behind
+            ∙ (first_comes (next_of (rank twig.hi) p.behind) ∙ sym p.key))
+            ∙ (sym (next_join (rank twig.hi) p.before (p.piece ∷ (p.others ++ p.behind)))
+            ∙ (ap (next_of (rank twig.hi)) (sym p.is) ∙ are.pieces.first)));
+        follow = follow_join (rank twig.lo) (rank leaf.lo) (rank twig.hi) p.before (comes ++ p.behind)
+            (front twig are leaf more beside named)
+            (follow_join (rank leaf.lo) end (rank twig.hi) comes p.behind comes_follow
+            (rest twig are leaf more beside named));
       })
 
   kept_bytes : (b : Bool) → twig_bytes (if b then [] else p.piece ∷ []) ≤ 54
@@ -357,7 +407,8 @@ module _ (twig : CellSeen) (are : ArePiecesOf twig (twig_pieces twig)) (leaf : C
       sym are.units
       ∙ (ap units_of p.is
       ∙ (units_append p.before ((p.piece ∷ p.others) ++ p.behind)
-      ∙ ap (λ us. units_of p.before ++ us) (units_append (p.piece ∷ p.others) p.behind ∙ ap (λ us. us ++ units_of p.behind) gone_none)))
+      ∙ ap (λ us. units_of p.before ++ us) (units_append (p.piece ∷ p.others) p.behind
+      ∙ ap (λ us. us ++ units_of p.behind) gone_none)))
 
   before_rise : Rise (rank twig.lo) (rank it.key) (units_of p.before)
   before_rise = rise_wider (rank twig.lo) (rank leaf.lo) (rank it.key) (units_of p.before) from
@@ -377,31 +428,40 @@ module _ (twig : CellSeen) (are : ArePiecesOf twig (twig_pieces twig)) (leaf : C
       ∙ (units_append p.before (comes ++ p.behind)
       ∙ (ap (λ us. units_of p.before ++ us) (units_append comes p.behind)
       ∙ (ap (λ us. units_of p.before ++ (us ++ units_of p.behind)) come_units
-      ∙ (sym (put_run (rank twig.lo) (rank it.key) (item_end it) (rank twig.hi) (item_units it) (units_of p.before) (units_of p.behind) before_rise item_rise behind_rise)
+      ∙ (sym (put_run (rank twig.lo) (rank it.key) (item_end it) (rank twig.hi) (item_units it) (units_of p.before)
+      (units_of p.behind) before_rise item_rise behind_rise)
       ∙ ap (put_units (item_units it)) (sym were_units)))))
 
   -- ---- what they name
 
   begins : next_of end (item_pieces it ++ pointer_to right) ≡ rank it.key
-  begins = next_join end (item_pieces it) (pointer_to right) ∙ next_of_item it given.sound (next_of end (pointer_to right))
+  begins = next_join end (item_pieces it) (pointer_to right)
+      ∙ next_of_item it given.sound (next_of end (pointer_to right))
 
   module _ (left : Option CellSeen) (none_is : rank it.key ≡ rank leaf.lo → left ≡ None)
-      (some_is : (rank it.key ≢ rank leaf.lo) → (c : CellSeen) × (left ≡ Some c) × (name_of c ≡ record { id = leaf.id; level = 1; lo = rank leaf.lo; hi = rank it.key })) where
-    kept_names : (b : Bool) → b ≡ (rank it.key == rank leaf.lo) → names_of (next_of end (item_pieces it ++ pointer_to right)) (if b then [] else p.piece ∷ []) ≡ map name_of (given_cells left)
+      (some_is : (rank it.key ≢ rank leaf.lo) → (c : CellSeen) × (left ≡ Some c) × (name_of c
+      ≡ record { id = leaf.id; level = 1; lo = rank leaf.lo; hi = rank it.key })) where
+    kept_names : (b : Bool) → b ≡ (rank it.key == rank leaf.lo)
+        → names_of (next_of end (item_pieces it ++ pointer_to right)) (if b then [] else p.piece ∷ [])
+        ≡ map name_of (given_cells left)
     unfolding names_of
-    kept_names true same = ap (λ o. map name_of (given_cells o)) (sym (none_is (eqb-true (rank it.key) (rank leaf.lo) (sym same))))
+    kept_names true same = ap (λ o. map name_of (given_cells o)) (sym (none_is (eqb-true (rank it.key) (rank leaf.lo)
+        (sym same))))
     kept_names false same =
         let some = some_is (eqb-false (rank it.key) (rank leaf.lo) (sym same)) in
         (λ i. part_names (p.key i) (begins i) (p.part i) ++ [])
         ∙ ((λ i. sym some.2 i ∷ []) ∙ ap (λ o. map name_of (given_cells o)) (sym some.1))
 
     -- What comes names what stays of the leaves, and the blocks.
-    pub comes_names : names_of (next_of (rank twig.hi) p.behind) comes ≡ map name_of (given_cells left) ++ (item_blocks it ++ map name_of (given_cells right))
+    pub comes_names : names_of (next_of (rank twig.hi) p.behind) comes
+        ≡ map name_of (given_cells left) ++ (item_blocks it ++ map name_of (given_cells right))
     comes_names =
-        let item : names_of (next_of end (pointer_to right)) (item_pieces it) ≡ item_blocks it = names_of_item it given.sound _ ∙ extent_names it _ given.plugin in
+        let item : names_of (next_of end (pointer_to right)) (item_pieces it)
+        ≡ item_blocks it = names_of_item it given.sound _ ∙ extent_names it _ given.plugin in
         ap (λ (n : ℕ). names_of n comes) p.next
         ∙ (names_join end stays (item_pieces it ++ pointer_to right)
-        ∙ ((λ i. kept_names (rank it.key == rank leaf.lo) refl i ++ names_join end (item_pieces it) (pointer_to right) i)
+        ∙ ((λ i. kept_names (rank it.key == rank leaf.lo) refl i ++ names_join end (item_pieces it)
+        (pointer_to right) i)
         ∙ (λ i. map name_of (given_cells left) ++ (item i ++ pointer_names it (last_leaf leaf more) right behind i))))
 
   -- The leaves go.
@@ -413,11 +473,19 @@ module _ (twig : CellSeen) (are : ArePiecesOf twig (twig_pieces twig)) (leaf : C
       ∙ (λ i. record { id = leaf.id; level = sym beside.0 i; lo = rank leaf.lo; hi = rank leaf.hi } ∷ map name_of more))
 
   pub turned_names : (n : Name) → Contains (names_of (rank twig.hi) (turned_pieces it right twig)) n ↔
-      ((Contains (node_of twig).names n × (Contains (map name_of (leaf ∷ more)) n → ⊥)) ⊎ Contains (names_of (next_of (rank twig.hi) p.behind) comes) n)
+      ((Contains (node_of twig).names n × (Contains (map name_of (leaf ∷ more)) n → ⊥))
+      ⊎ Contains (names_of (next_of (rank twig.hi) p.behind) comes) n)
   turned_names n =
-      subst (λ ns. Contains ns n ↔ ((Contains (node_of twig).names n × (Contains (map name_of (leaf ∷ more)) n → ⊥)) ⊎ Contains (names_of (next_of (rank twig.hi) p.behind) comes) n)) (ap (names_of (rank twig.hi)) (sym turned_is))
-      (subst (λ gone. Contains (names_of (rank twig.hi) (p.before ++ (comes ++ p.behind))) n ↔ ((Contains (node_of twig).names n × (Contains gone n → ⊥)) ⊎ Contains (names_of (next_of (rank twig.hi) p.behind) comes) n)) gone_names
-      (subst (λ ns. Contains (names_of (rank twig.hi) (p.before ++ (comes ++ p.behind))) n ↔ ((Contains ns n × (Contains (names_of (next_of (rank twig.hi) p.behind) (p.piece ∷ p.others)) n → ⊥)) ⊎ Contains (names_of (next_of (rank twig.hi) p.behind) comes) n))
+      subst (λ ns. Contains ns n ↔ ((Contains (node_of twig).names n × (Contains (map name_of (leaf ∷ more)) n → ⊥))
+      ⊎ Contains (names_of (next_of (rank twig.hi) p.behind) comes) n)) (ap (names_of (rank twig.hi))
+      (sym turned_is))
+      (subst (λ gone. Contains (names_of (rank twig.hi) (p.before ++ (comes ++ p.behind))) n
+      ↔ ((Contains (node_of twig).names n × (Contains gone n → ⊥))
+      ⊎ Contains (names_of (next_of (rank twig.hi) p.behind) comes) n)) gone_names
+      (subst (λ ns. Contains (names_of (rank twig.hi) (p.before ++ (comes ++ p.behind))) n ↔ ((Contains ns n
+      × (Contains (names_of (next_of (rank twig.hi) p.behind) (p.piece ∷ p.others)) n → ⊥))
+      ⊎ Contains (names_of (next_of (rank twig.hi) p.behind) comes) n))
       (ap (names_of (rank twig.hi)) gone_is ∙ are.names)
-      (spliced_names (rank twig.hi) (rank twig.lo) (rank twig.hi) p.before (p.piece ∷ p.others) comes p.behind (subst (Follow (rank twig.lo) (rank twig.hi)) p.is are.pieces.follow)
+      (spliced_names (rank twig.hi) (rank twig.lo) (rank twig.hi) p.before (p.piece ∷ p.others) comes p.behind (subst
+      (Follow (rank twig.lo) (rank twig.hi)) p.is are.pieces.follow)
       (ap (λ (k : ℕ). names_of k p.before) (first_comes (next_of (rank twig.hi) p.behind) ∙ sym p.key)) n)))

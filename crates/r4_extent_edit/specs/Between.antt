@@ -18,7 +18,8 @@ put_between from to others ps = spliced (place from ps) (place to ps) others ps
 
 -- a twig's pieces, parted at both keys, with others in the place of those between them
 abbrev pub pieces_over : (from to : ℕ) → (others : List TwigPiece) → CellSeen → List TwigPiece
-pieces_over from to others twig = put_between from to others (parted_twice from to (twig_pieces twig))
+pieces_over from to others twig = put_between from to others (parted_twice from to
+    (twig_pieces twig))
 
 -- The extent ends below offset 2^64, so that there is a key behind it.
 abbrev pub HasKeyBehind : Item → Type 0

@@ -1,5 +1,6 @@
 -- What an edit of a twig does to units (docs/volume.md, "Edits").
-use Rattle.std.specs.Prelude.{◌≡◌, ℕ, ◌<◌, ◌≤◌, Bool, List, [], ◌∷◌, ◌++◌, Contains, Option, None, Some}
+use Rattle.std.specs.Prelude.{◌≡◌, ℕ, ◌<◌, ◌≤◌, Bool, List, [], ◌∷◌, ◌++◌, Contains, Option, None}
+use Rattle.std.specs.Prelude.{Some}
 use Rattle.std.specs.Option.{is_some}
 use Rattle.r4_base.specs.Cell.{item_end, item_units}
 use Rattle.r4_base.specs.Key.{rank}
@@ -24,23 +25,27 @@ abbrev pub patch_with : Change → (blocks : List CellSeen) → Patch Value
 patch_with c blocks = patch_of c.old (c.new ++ blocks) c.root
 
 -- With the blocks the change is a patch that this part of a tree meets.
-pub record IsMadeIn (t : Store Value) (r : Root) (c : Change) (blocks : List CellSeen) : Type 0 where
+pub record IsMadeIn (t : Store Value) (r : Root) (c : Change)
+    (blocks : List CellSeen) : Type 0 where
   pub change : IsChange c.old (c.new ++ blocks) c.root
   pub meets : MeetsPart (patch_with c blocks) t r
 
--- At the keys of a set it leaves the values of a function, and elsewhere what stood there. The names of its new cells that no
--- old one has are numbers that were taken, and a new root may be named.
+-- At the keys of a set it leaves the values of a function, and elsewhere what stood there. The
+-- names of its new cells that no old one has are numbers that were taken, and a new root may be
+-- named.
 pub record EditsUnits (c : Change) (blocks : List CellSeen) (before after : Fresh) (at : ℕ → Bool)
     (to : ℕ → Option (Placed Value)) : Type 0 where
   pub effect : HasEffect (patch_with c blocks) at to
-  pub names : (x : CellSeen) → Contains c.new x → (patch_with c blocks).old x.id ≡ None → (before.next ≤ x.id) × (x.id < after.next)
+  pub names : (x : CellSeen) → Contains c.new x → (patch_with c blocks).old x.id ≡ None
+      → (before.next ≤ x.id) × (x.id < after.next)
   pub root_number : (x : RootPair) → c.root ≡ Some x → IsPointable x.id.0
 
 -- the keys of an item's range
 abbrev pub item_keys : Item → ℕ → Bool
 item_keys it = is_between (rank it.key) (item_end it)
 
--- what stands at a key where an extent does: the zeros of its holes, and the bytes of its blocks, padding included
+-- what stands at a key where an extent does: the zeros of its holes, and the bytes of its blocks,
+-- padding included
 abbrev pub extent_values : Item → (blocks : List CellSeen) → ℕ → Option (Placed Value)
 extent_values it blocks k = in_extent (value_in (item_units it ++ units_of_cells blocks) k)
 

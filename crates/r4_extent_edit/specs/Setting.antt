@@ -17,8 +17,8 @@ use Rattle.r4_path.specs.TwigPieces.{twig_pieces}
 use Rattle.r4_edit.specs.Extents.{AreNewBlocks, HasRoomFor, IsGivenExtent, item_blocks}
 use Rattle.r4_extent_edit.specs.Between.{HasKeyBehind, pieces_over}
 
--- The keys are the twig's, both ends lie at borders of blocks, and no leaf and no data block has a key between them: what
--- stands there are holes, or nothing.
+-- The keys are the twig's, both ends lie at borders of blocks, and no leaf and no data block has a
+-- key between them: what stands there are holes, or nothing.
 pub record AreHoles (twig : CellSeen) (from to : ℕ) : Type 0 where
   pub low : rank twig.lo ≤ from
   pub some : from < to
@@ -44,13 +44,15 @@ abbrev pub IsSetUp : Store Value → Root → Item → Fresh → List CellSeen �
 IsSetUp t r it fresh [] = ⊥
 IsSetUp t r it fresh (twig ∷ ups) = IsSetIn t r it twig ups fresh
 
--- The change packs the twig with the extent's pieces in the place of those between its keys. Its units come in the place of
--- what the twig had there.
-pub record SetsIn (path : List CellSeen) (it : Item) (before after : Fresh) (c : Change) (twig : CellSeen) : Type 0 where
+-- The change packs the twig with the extent's pieces in the place of those between its keys. Its
+-- units come in the place of what the twig had there.
+pub record SetsIn (path : List CellSeen) (it : Item) (before after : Fresh) (c : Change)
+    (twig : CellSeen) : Type 0 where
   pub grafts : GraftsBelow path (set_pieces it twig) (record { old = []; new = [] }) before after c
   pub units : units_of (set_pieces it twig) ≡
       put_units (item_units it) (cut_units (rank it.key) (item_end it) (node_of twig).units)
 
-abbrev pub SetsUp : (path : List CellSeen) → Item → (before after : Fresh) → Change → List CellSeen → Type 0
+abbrev pub SetsUp : (path : List CellSeen) → Item → (before after : Fresh) → Change
+    → List CellSeen → Type 0
 SetsUp path it before after c [] = ⊥
 SetsUp path it before after c (twig ∷ ups) = SetsIn path it before after c twig

@@ -10,7 +10,8 @@ use Rattle.r4_path.specs.TwigPieces.{twig_pieces}
 abbrev pub IsSpanBorder : Span → ℕ → Type 0
 IsSpanBorder s k = (k ≡ s.hi) ⊎ ((n : ℕ) × (k ≡ s.lo + 4096 * n))
 
--- The keys lie in the range of one extent of a twig that may stand, and begin and end at borders of its blocks.
+-- The keys lie in the range of one extent of a twig that may stand, and begin and end at borders of
+-- its blocks.
 pub record AreOfSpan (twig : CellSeen) (s : Span) (from to : ℕ) : Type 0 where
   pub sound : IsSound twig
   pub level : twig.level ≡ 2
@@ -26,6 +27,7 @@ pub record AreOfSpan (twig : CellSeen) (s : Span) (from to : ℕ) : Type 0 where
 pub record AreWholeBlocks (twig : CellSeen) (from to : ℕ) : Type 0 where
   pub first_border : IsBorder from (twig_pieces twig)
   pub second_border : IsBorder to (twig_pieces twig)
-  pub clear : (n : Name) → Contains (node_of twig).names n → n.level ≡ 1 → (n.hi ≤ from) ⊎ (to ≤ n.lo)
+  pub clear : (n : Name) → Contains (node_of twig).names n → n.level ≡ 1 → (n.hi ≤ from)
+      ⊎ (to ≤ n.lo)
   pub whole : (n : Name) → Contains (node_of twig).names n → IsData n
       → ((n.hi ≤ from) ⊎ (to ≤ n.lo)) ⊎ ((from ≤ n.lo) × (n.hi ≤ to))

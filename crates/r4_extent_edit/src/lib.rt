@@ -1,5 +1,5 @@
-//! Edits of a twig's extents over holes, and the turn of tails to an extent; what each edit of a twig does to units, as a
-//! property of its change alone (docs/volume.md, "Edits").
+//! Edits of a twig's extents over holes, and the turn of tails to an extent; what each edit of a
+//! twig does to units, as a property of its change alone (docs/volume.md, "Edits").
 #![tactic(auto)]
 
 mod laws;

@@ -13,8 +13,8 @@ use r4_edit::pieces_parted;
 use r4_graft::{place_of, splice};
 use std::alloc::Global;
 
-// A twig's pieces, parted at both keys, with others in the place of those between them. The first key lies at a border of
-// blocks.
+// A twig's pieces, parted at both keys, with others in the place of those between them. The first
+// key lies at a border of blocks.
 #[tactic(auto, using(r4_graft::proofs::Placed::place_within))]
 pub(crate) fn pieces_put_over(
     alloc: Global,
@@ -24,9 +24,11 @@ pub(crate) fn pieces_put_over(
     others: &[TwigPiece],
 ) -> Result<Vec<TwigPiece>, Memory>
     requires level { twig.now.level ≡ 2 }
-    requires border { ArePiecesOf twig.now (twig_pieces twig.now) → IsBorder (rank from.now) (twig_pieces twig.now) }
+    requires border { ArePiecesOf twig.now (twig_pieces twig.now)
+        → IsBorder (rank from.now) (twig_pieces twig.now) }
     ensures are { IfOk result (λ v. ArePiecesOf twig.now (twig_pieces twig.now)) }
-    ensures over { IfOk result (λ v. v.items ≡ pieces_over (rank from.now) (rank to.now) others.now twig.now) }
+    ensures over { IfOk result (λ v. v.items
+        ≡ pieces_over (rank from.now) (rank to.now) others.now twig.now) }
 {
     let _node = twig.node();
     let pieces = pieces_parted(alloc, twig, from, to)?;
