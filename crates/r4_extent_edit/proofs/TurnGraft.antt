@@ -138,8 +138,8 @@ module _ (t : Store Value) (r : Root) (it : Item) (leaf : CellSeen) (more : List
   come_names = map name_of (given_cells left) ++ (item_blocks it ++ map name_of (given_cells right))
 
   come : names_of (next_of (rank twig.hi) (p twig are leaf more is.beside.follow is.beside.named it right is.given
-      is.around behind).behind) (comes twig are leaf more is.beside.follow is.beside.named it right is.given is.around
-      behind) ≡ come_names
+      is.around).behind) (comes twig are leaf more is.beside.follow is.beside.named it right is.given is.around)
+      ≡ come_names
   come = comes_names twig are leaf more is.beside.follow is.beside.named it right is.given is.around behind left
       (left_none left keeps.left_is) (left_some left keeps.left_is)
 
@@ -210,8 +210,8 @@ module _ (t : Store Value) (r : Root) (it : Item) (leaf : CellSeen) (more : List
   named_so : (n : Name) → Contains (names_of (rank twig.hi) (turned_pieces it right twig)) n ↔
       ((Contains (node_of twig).names n × (Contains (map name_of (leaf ∷ more)) n → ⊥))
       ⊎ Contains (names_of (next_of (rank twig.hi) (p twig are leaf more is.beside.follow is.beside.named it right
-      is.given is.around behind).behind) (comes twig are leaf more is.beside.follow is.beside.named it right
-      is.given is.around behind)) n)
+      is.given is.around).behind) (comes twig are leaf more is.beside.follow is.beside.named it right is.given
+      is.around)) n)
   named_so n = turned_names twig are leaf more is.beside.follow is.beside.named it right is.given is.around behind n
 
   turned_of : IsGraftOf t twig (turned_pieces it right twig) below (item_blocks it)
@@ -259,7 +259,7 @@ module _ (t : Store Value) (r : Root) (it : Item) (leaf : CellSeen) (more : List
 
   pub turned_grafted : IsGraftedIn t r (turned_pieces it right twig) twig ups mid
   turned_grafted =
-      let small = turned_bytes twig are leaf more is.beside.follow is.beside.named it right is.given is.around behind in
+      let small = turned_bytes twig are leaf more is.beside.follow is.beside.named it right is.given is.around in
       let numbers = enough.numbers in
       let n = numbered in
       record {

@@ -285,8 +285,7 @@ module _ (twig : CellSeen) (are : ArePiecesOf twig (twig_pieces twig)) (leaf : C
     (beside : FollowCells 1 (rank leaf.lo) (rank (last_leaf leaf more).hi) (leaf ∷ more))
     (named : (c : CellSeen) → Contains (leaf ∷ more) c → Contains (node_of twig).names (name_of c))
     (it : Item) (right : Option CellSeen) (given : IsGivenExtent it) (around : AreAround leaf more (rank it.key)
-    (item_end it))
-    (behind : MayStandBehind it (last_leaf leaf more) right) where
+    (item_end it)) where
   abbrev pub p : HasPointers (rank twig.hi) (twig_pieces twig) leaf more (rank (last_leaf leaf more).hi)
   p = h twig are leaf more beside named
 
@@ -302,64 +301,6 @@ module _ (twig : CellSeen) (are : ArePiecesOf twig (twig_pieces twig)) (leaf : C
   pub turned_is : turned_pieces it right twig ≡ p.before ++ (comes ++ p.behind)
   turned_is = over_is twig are leaf more beside named (rank it.key) (item_end it) around (item_pieces it
       ++ pointer_to right)
-
-  from : rank leaf.lo ≤ rank it.key
-  from = around.low
-
-  piece_sound : Follow (rank leaf.lo) (rank leaf.lo + 1) (p.piece ∷ [])
-  piece_sound =
-      let key = p.key in
-      let e = piece_ends twig are leaf more beside named in
-      let f = (follow_parts (rank twig.lo) (rank twig.hi) p.before (p.piece ∷ (p.others ++ p.behind)) (subst (Follow
-      (rank twig.lo) (rank twig.hi)) p.is are.pieces.follow)).1 in
-      (omega (arith, key), f.1, omega (arith, key, e))
-
-  kept_follows : (b : Bool) → b ≡ (rank it.key == rank leaf.lo)
-      → Follow (rank leaf.lo) (rank it.key) (if b then [] else p.piece ∷ [])
-  kept_follows true same = from
-  kept_follows false same =
-      let other = eqb-false (rank it.key) (rank leaf.lo) (sym same) in
-      let low = from in
-      let s = piece_sound in
-      (s.0, s.1, let e = s.2 in omega (arith, e, other, low))
-
-  comes_follow : Follow (rank leaf.lo) end comes
-  comes_follow =
-      follow_join (rank leaf.lo) (rank it.key) end stays (item_pieces it ++ pointer_to right) (kept_follows
-      (rank it.key == rank leaf.lo) refl)
-      (follow_join (rank it.key) (item_end it) end (item_pieces it) (pointer_to right) (follow_item it given.sound)
-      (pointer_follows it (last_leaf leaf more) right behind))
-
-  -- the first of what comes has the first leaf's first key
-  first_comes : (z : ℕ) → next_of z comes ≡ rank leaf.lo
-  first_comes z = by_test (rank it.key == rank leaf.lo) refl
-    where
-      by_test : (b : Bool) → b ≡ (rank it.key == rank leaf.lo)
-          → next_of z ((if b then [] else p.piece ∷ []) ++ (item_pieces it ++ pointer_to right)) ≡ rank leaf.lo
-      by_test true same = next_join z (item_pieces it) (pointer_to right)
-          ∙ (next_of_item it given.sound (next_of z (pointer_to right))
-          ∙ eqb-true (rank it.key) (rank leaf.lo) (sym same))
-      by_test false same = p.key
-
-  pub turned_twigs : AreTwigPieces (rank twig.lo) (rank twig.hi) (turned_pieces it right twig)
-  turned_twigs =
-      let before = length-append p.before (comes ++ p.behind) in
-      let rest_long = length-append comes p.behind in
-      let mine = item_some it given in
-      let whole = length-append stays (item_pieces it ++ pointer_to right) in
-      let both = length-append (item_pieces it) (pointer_to right) in
-      subst (AreTwigPieces (rank twig.lo) (rank twig.hi)) (sym turned_is) (record {
-        some = omega (arith, before, rest_long, mine, whole, both);
-        first = next_join (rank twig.hi) p.before (comes ++ p.behind)
-            ∙ (ap (λ (n : ℕ). next_of n p.before) (next_join (rank twig.hi) comes p.behind
-            ∙ (first_comes (next_of (rank twig.hi) p.behind) ∙ sym p.key))
-            ∙ (sym (next_join (rank twig.hi) p.before (p.piece ∷ (p.others ++ p.behind)))
-            ∙ (ap (next_of (rank twig.hi)) (sym p.is) ∙ are.pieces.first)));
-        follow = follow_join (rank twig.lo) (rank leaf.lo) (rank twig.hi) p.before (comes ++ p.behind)
-            (front twig are leaf more beside named)
-            (follow_join (rank leaf.lo) end (rank twig.hi) comes p.behind comes_follow
-            (rest twig are leaf more beside named));
-      })
 
   kept_bytes : (b : Bool) → twig_bytes (if b then [] else p.piece ∷ []) ≤ 54
   unfolding bytes_behind
@@ -385,107 +326,167 @@ module _ (twig : CellSeen) (are : ArePiecesOf twig (twig_pieces twig)) (leaf : C
       let short = given.short in
       omega (arith, is, all, were, fits, a, b, c, d, e, f, g, short)
 
-  -- ---- units
+  module _ (behind : MayStandBehind it (last_leaf leaf more) right) where
+    from : rank leaf.lo ≤ rank it.key
+    from = around.low
 
-  kept_none : (b : Bool) → units_of (if b then [] else p.piece ∷ []) ≡ []
-  unfolding units_of
-  kept_none true = refl
-  kept_none false = ap (λ t. part_units (rank p.piece.key) t ++ []) p.part
+    piece_sound : Follow (rank leaf.lo) (rank leaf.lo + 1) (p.piece ∷ [])
+    piece_sound =
+        let key = p.key in
+        let e = piece_ends twig are leaf more beside named in
+        let f = (follow_parts (rank twig.lo) (rank twig.hi) p.before (p.piece ∷ (p.others ++ p.behind)) (subst (Follow
+        (rank twig.lo) (rank twig.hi)) p.is are.pieces.follow)).1 in
+        (omega (arith, key), f.1, omega (arith, key, e))
 
-  gone_none : units_of (p.piece ∷ p.others) ≡ []
-  unfolding units_of
-  gone_none = (λ i. part_units (rank p.piece.key) (p.part i) ++ p.units i)
+    kept_follows : (b : Bool) → b ≡ (rank it.key == rank leaf.lo)
+        → Follow (rank leaf.lo) (rank it.key) (if b then [] else p.piece ∷ [])
+    kept_follows true same = from
+    kept_follows false same =
+        let other = eqb-false (rank it.key) (rank leaf.lo) (sym same) in
+        let low = from in
+        let s = piece_sound in
+        (s.0, s.1, let e = s.2 in omega (arith, e, other, low))
 
-  come_units : units_of comes ≡ item_units it
-  come_units =
-      units_append stays (item_pieces it ++ pointer_to right)
-      ∙ ((λ i. kept_none (rank it.key == rank leaf.lo) i ++ units_append (item_pieces it) (pointer_to right) i)
-      ∙ ((λ i. units_of_item it given.sound i ++ pointer_none right i) ∙ append-nil (item_units it)))
+    comes_follow : Follow (rank leaf.lo) end comes
+    comes_follow =
+        follow_join (rank leaf.lo) (rank it.key) end stays (item_pieces it ++ pointer_to right) (kept_follows
+        (rank it.key == rank leaf.lo) refl)
+        (follow_join (rank it.key) (item_end it) end (item_pieces it) (pointer_to right) (follow_item it given.sound)
+        (pointer_follows it (last_leaf leaf more) right behind))
 
-  were_units : (node_of twig).units ≡ units_of p.before ++ units_of p.behind
-  were_units =
-      sym are.units
-      ∙ (ap units_of p.is
-      ∙ (units_append p.before ((p.piece ∷ p.others) ++ p.behind)
-      ∙ ap (λ us. units_of p.before ++ us) (units_append (p.piece ∷ p.others) p.behind
-      ∙ ap (λ us. us ++ units_of p.behind) gone_none)))
+    -- the first of what comes has the first leaf's first key
+    first_comes : (z : ℕ) → next_of z comes ≡ rank leaf.lo
+    first_comes z = by_test (rank it.key == rank leaf.lo) refl
+      where
+        by_test : (b : Bool) → b ≡ (rank it.key == rank leaf.lo)
+            → next_of z ((if b then [] else p.piece ∷ []) ++ (item_pieces it ++ pointer_to right)) ≡ rank leaf.lo
+        by_test true same = next_join z (item_pieces it) (pointer_to right)
+            ∙ (next_of_item it given.sound (next_of z (pointer_to right))
+            ∙ eqb-true (rank it.key) (rank leaf.lo) (sym same))
+        by_test false same = p.key
 
-  before_rise : Rise (rank twig.lo) (rank it.key) (units_of p.before)
-  before_rise = rise_wider (rank twig.lo) (rank leaf.lo) (rank it.key) (units_of p.before) from
-      (units_rise (rank twig.lo) (rank leaf.lo) p.before (front twig are leaf more beside named))
+    pub turned_twigs : AreTwigPieces (rank twig.lo) (rank twig.hi) (turned_pieces it right twig)
+    turned_twigs =
+        let before = length-append p.before (comes ++ p.behind) in
+        let rest_long = length-append comes p.behind in
+        let mine = item_some it given in
+        let whole = length-append stays (item_pieces it ++ pointer_to right) in
+        let both = length-append (item_pieces it) (pointer_to right) in
+        subst (AreTwigPieces (rank twig.lo) (rank twig.hi)) (sym turned_is) (record {
+          some = omega (arith, before, rest_long, mine, whole, both);
+          first = next_join (rank twig.hi) p.before (comes ++ p.behind)
+              ∙ (ap (λ (n : ℕ). next_of n p.before) (next_join (rank twig.hi) comes p.behind
+              ∙ (first_comes (next_of (rank twig.hi) p.behind) ∙ sym p.key))
+              ∙ (sym (next_join (rank twig.hi) p.before (p.piece ∷ (p.others ++ p.behind)))
+              ∙ (ap (next_of (rank twig.hi)) (sym p.is) ∙ are.pieces.first)));
+          follow = follow_join (rank twig.lo) (rank leaf.lo) (rank twig.hi) p.before (comes ++ p.behind)
+              (front twig are leaf more beside named)
+              (follow_join (rank leaf.lo) end (rank twig.hi) comes p.behind comes_follow
+              (rest twig are leaf more beside named));
+        })
 
-  behind_rise : Rise (item_end it) (rank twig.hi) (units_of p.behind)
-  behind_rise = rise_lower end (item_end it) (rank twig.hi) (units_of p.behind) around.high
-      (units_rise end (rank twig.hi) p.behind (rest twig are leaf more beside named))
+    -- ---- units
 
-  item_rise : Rise (rank it.key) (item_end it) (item_units it)
-  item_rise = subst (Rise (rank it.key) (item_end it)) (units_of_item it given.sound)
-      (units_rise (rank it.key) (item_end it) (item_pieces it) (follow_item it given.sound))
+    kept_none : (b : Bool) → units_of (if b then [] else p.piece ∷ []) ≡ []
+    unfolding units_of
+    kept_none true = refl
+    kept_none false = ap (λ t. part_units (rank p.piece.key) t ++ []) p.part
 
-  pub turned_units : units_of (turned_pieces it right twig) ≡ put_units (item_units it) (node_of twig).units
-  turned_units =
-      ap units_of turned_is
-      ∙ (units_append p.before (comes ++ p.behind)
-      ∙ (ap (λ us. units_of p.before ++ us) (units_append comes p.behind)
-      ∙ (ap (λ us. units_of p.before ++ (us ++ units_of p.behind)) come_units
-      ∙ (sym (put_run (rank twig.lo) (rank it.key) (item_end it) (rank twig.hi) (item_units it) (units_of p.before)
-      (units_of p.behind) before_rise item_rise behind_rise)
-      ∙ ap (put_units (item_units it)) (sym were_units)))))
+    gone_none : units_of (p.piece ∷ p.others) ≡ []
+    unfolding units_of
+    gone_none = (λ i. part_units (rank p.piece.key) (p.part i) ++ p.units i)
 
-  -- ---- what they name
+    come_units : units_of comes ≡ item_units it
+    come_units =
+        units_append stays (item_pieces it ++ pointer_to right)
+        ∙ ((λ i. kept_none (rank it.key == rank leaf.lo) i ++ units_append (item_pieces it) (pointer_to right) i)
+        ∙ ((λ i. units_of_item it given.sound i ++ pointer_none right i) ∙ append-nil (item_units it)))
 
-  begins : next_of end (item_pieces it ++ pointer_to right) ≡ rank it.key
-  begins = next_join end (item_pieces it) (pointer_to right)
-      ∙ next_of_item it given.sound (next_of end (pointer_to right))
+    were_units : (node_of twig).units ≡ units_of p.before ++ units_of p.behind
+    were_units =
+        sym are.units
+        ∙ (ap units_of p.is
+        ∙ (units_append p.before ((p.piece ∷ p.others) ++ p.behind)
+        ∙ ap (λ us. units_of p.before ++ us) (units_append (p.piece ∷ p.others) p.behind
+        ∙ ap (λ us. us ++ units_of p.behind) gone_none)))
 
-  module _ (left : Option CellSeen) (none_is : rank it.key ≡ rank leaf.lo → left ≡ None)
-      (some_is : (rank it.key ≢ rank leaf.lo) → (c : CellSeen) × (left ≡ Some c) × (name_of c
-      ≡ record { id = leaf.id; level = 1; lo = rank leaf.lo; hi = rank it.key })) where
-    kept_names : (b : Bool) → b ≡ (rank it.key == rank leaf.lo)
-        → names_of (next_of end (item_pieces it ++ pointer_to right)) (if b then [] else p.piece ∷ [])
-        ≡ map name_of (given_cells left)
+    before_rise : Rise (rank twig.lo) (rank it.key) (units_of p.before)
+    before_rise = rise_wider (rank twig.lo) (rank leaf.lo) (rank it.key) (units_of p.before) from
+        (units_rise (rank twig.lo) (rank leaf.lo) p.before (front twig are leaf more beside named))
+
+    behind_rise : Rise (item_end it) (rank twig.hi) (units_of p.behind)
+    behind_rise = rise_lower end (item_end it) (rank twig.hi) (units_of p.behind) around.high
+        (units_rise end (rank twig.hi) p.behind (rest twig are leaf more beside named))
+
+    item_rise : Rise (rank it.key) (item_end it) (item_units it)
+    item_rise = subst (Rise (rank it.key) (item_end it)) (units_of_item it given.sound)
+        (units_rise (rank it.key) (item_end it) (item_pieces it) (follow_item it given.sound))
+
+    pub turned_units : units_of (turned_pieces it right twig) ≡ put_units (item_units it) (node_of twig).units
+    turned_units =
+        ap units_of turned_is
+        ∙ (units_append p.before (comes ++ p.behind)
+        ∙ (ap (λ us. units_of p.before ++ us) (units_append comes p.behind)
+        ∙ (ap (λ us. units_of p.before ++ (us ++ units_of p.behind)) come_units
+        ∙ (sym (put_run (rank twig.lo) (rank it.key) (item_end it) (rank twig.hi) (item_units it) (units_of p.before)
+        (units_of p.behind) before_rise item_rise behind_rise)
+        ∙ ap (put_units (item_units it)) (sym were_units)))))
+
+    -- ---- what they name
+
+    begins : next_of end (item_pieces it ++ pointer_to right) ≡ rank it.key
+    begins = next_join end (item_pieces it) (pointer_to right)
+        ∙ next_of_item it given.sound (next_of end (pointer_to right))
+
+    module _ (left : Option CellSeen) (none_is : rank it.key ≡ rank leaf.lo → left ≡ None)
+        (some_is : (rank it.key ≢ rank leaf.lo) → (c : CellSeen) × (left ≡ Some c) × (name_of c
+        ≡ record { id = leaf.id; level = 1; lo = rank leaf.lo; hi = rank it.key })) where
+      kept_names : (b : Bool) → b ≡ (rank it.key == rank leaf.lo)
+          → names_of (next_of end (item_pieces it ++ pointer_to right)) (if b then [] else p.piece ∷ [])
+          ≡ map name_of (given_cells left)
+      unfolding names_of
+      kept_names true same = ap (λ o. map name_of (given_cells o)) (sym (none_is (eqb-true (rank it.key) (rank leaf.lo)
+          (sym same))))
+      kept_names false same =
+          let some = some_is (eqb-false (rank it.key) (rank leaf.lo) (sym same)) in
+          (λ i. part_names (p.key i) (begins i) (p.part i) ++ [])
+          ∙ ((λ i. sym some.2 i ∷ []) ∙ ap (λ o. map name_of (given_cells o)) (sym some.1))
+
+      -- What comes names what stays of the leaves, and the blocks.
+      pub comes_names : names_of (next_of (rank twig.hi) p.behind) comes
+          ≡ map name_of (given_cells left) ++ (item_blocks it ++ map name_of (given_cells right))
+      comes_names =
+          let item : names_of (next_of end (pointer_to right)) (item_pieces it)
+          ≡ item_blocks it = names_of_item it given.sound _ ∙ extent_names it _ given.plugin in
+          ap (λ (n : ℕ). names_of n comes) p.next
+          ∙ (names_join end stays (item_pieces it ++ pointer_to right)
+          ∙ ((λ i. kept_names (rank it.key == rank leaf.lo) refl i ++ names_join end (item_pieces it)
+          (pointer_to right) i)
+          ∙ (λ i. map name_of (given_cells left) ++ (item i ++ pointer_names it (last_leaf leaf more) right behind i))))
+
+    -- The leaves go.
+    pub gone_names : names_of (next_of (rank twig.hi) p.behind) (p.piece ∷ p.others) ≡ map name_of (leaf ∷ more)
     unfolding names_of
-    kept_names true same = ap (λ o. map name_of (given_cells o)) (sym (none_is (eqb-true (rank it.key) (rank leaf.lo)
-        (sym same))))
-    kept_names false same =
-        let some = some_is (eqb-false (rank it.key) (rank leaf.lo) (sym same)) in
-        (λ i. part_names (p.key i) (begins i) (p.part i) ++ [])
-        ∙ ((λ i. sym some.2 i ∷ []) ∙ ap (λ o. map name_of (given_cells o)) (sym some.1))
+    gone_names =
+        ap (λ (n : ℕ). names_of n (p.piece ∷ p.others)) p.next
+        ∙ ((λ i. part_names (p.key i) (p.begins i) (p.part i) ++ p.names i)
+        ∙ (λ i. record { id = leaf.id; level = sym beside.0 i; lo = rank leaf.lo; hi = rank leaf.hi }
+            ∷ map name_of more))
 
-    -- What comes names what stays of the leaves, and the blocks.
-    pub comes_names : names_of (next_of (rank twig.hi) p.behind) comes
-        ≡ map name_of (given_cells left) ++ (item_blocks it ++ map name_of (given_cells right))
-    comes_names =
-        let item : names_of (next_of end (pointer_to right)) (item_pieces it)
-        ≡ item_blocks it = names_of_item it given.sound _ ∙ extent_names it _ given.plugin in
-        ap (λ (n : ℕ). names_of n comes) p.next
-        ∙ (names_join end stays (item_pieces it ++ pointer_to right)
-        ∙ ((λ i. kept_names (rank it.key == rank leaf.lo) refl i ++ names_join end (item_pieces it)
-        (pointer_to right) i)
-        ∙ (λ i. map name_of (given_cells left) ++ (item i ++ pointer_names it (last_leaf leaf more) right behind i))))
-
-  -- The leaves go.
-  pub gone_names : names_of (next_of (rank twig.hi) p.behind) (p.piece ∷ p.others) ≡ map name_of (leaf ∷ more)
-  unfolding names_of
-  gone_names =
-      ap (λ (n : ℕ). names_of n (p.piece ∷ p.others)) p.next
-      ∙ ((λ i. part_names (p.key i) (p.begins i) (p.part i) ++ p.names i)
-      ∙ (λ i. record { id = leaf.id; level = sym beside.0 i; lo = rank leaf.lo; hi = rank leaf.hi } ∷ map name_of more))
-
-  pub turned_names : (n : Name) → Contains (names_of (rank twig.hi) (turned_pieces it right twig)) n ↔
-      ((Contains (node_of twig).names n × (Contains (map name_of (leaf ∷ more)) n → ⊥))
-      ⊎ Contains (names_of (next_of (rank twig.hi) p.behind) comes) n)
-  turned_names n =
-      subst (λ ns. Contains ns n ↔ ((Contains (node_of twig).names n × (Contains (map name_of (leaf ∷ more)) n → ⊥))
-      ⊎ Contains (names_of (next_of (rank twig.hi) p.behind) comes) n)) (ap (names_of (rank twig.hi))
-      (sym turned_is))
-      (subst (λ gone. Contains (names_of (rank twig.hi) (p.before ++ (comes ++ p.behind))) n
-      ↔ ((Contains (node_of twig).names n × (Contains gone n → ⊥))
-      ⊎ Contains (names_of (next_of (rank twig.hi) p.behind) comes) n)) gone_names
-      (subst (λ ns. Contains (names_of (rank twig.hi) (p.before ++ (comes ++ p.behind))) n ↔ ((Contains ns n
-      × (Contains (names_of (next_of (rank twig.hi) p.behind) (p.piece ∷ p.others)) n → ⊥))
-      ⊎ Contains (names_of (next_of (rank twig.hi) p.behind) comes) n))
-      (ap (names_of (rank twig.hi)) gone_is ∙ are.names)
-      (spliced_names (rank twig.hi) (rank twig.lo) (rank twig.hi) p.before (p.piece ∷ p.others) comes p.behind (subst
-      (Follow (rank twig.lo) (rank twig.hi)) p.is are.pieces.follow)
-      (ap (λ (k : ℕ). names_of k p.before) (first_comes (next_of (rank twig.hi) p.behind) ∙ sym p.key)) n)))
+    pub turned_names : (n : Name) → Contains (names_of (rank twig.hi) (turned_pieces it right twig)) n ↔
+        ((Contains (node_of twig).names n × (Contains (map name_of (leaf ∷ more)) n → ⊥))
+        ⊎ Contains (names_of (next_of (rank twig.hi) p.behind) comes) n)
+    turned_names n =
+        subst (λ ns. Contains ns n ↔ ((Contains (node_of twig).names n × (Contains (map name_of (leaf ∷ more)) n → ⊥))
+        ⊎ Contains (names_of (next_of (rank twig.hi) p.behind) comes) n)) (ap (names_of (rank twig.hi))
+        (sym turned_is))
+        (subst (λ gone. Contains (names_of (rank twig.hi) (p.before ++ (comes ++ p.behind))) n
+        ↔ ((Contains (node_of twig).names n × (Contains gone n → ⊥))
+        ⊎ Contains (names_of (next_of (rank twig.hi) p.behind) comes) n)) gone_names
+        (subst (λ ns. Contains (names_of (rank twig.hi) (p.before ++ (comes ++ p.behind))) n ↔ ((Contains ns n
+        × (Contains (names_of (next_of (rank twig.hi) p.behind) (p.piece ∷ p.others)) n → ⊥))
+        ⊎ Contains (names_of (next_of (rank twig.hi) p.behind) comes) n))
+        (ap (names_of (rank twig.hi)) gone_is ∙ are.names)
+        (spliced_names (rank twig.hi) (rank twig.lo) (rank twig.hi) p.before (p.piece ∷ p.others) comes p.behind (subst
+        (Follow (rank twig.lo) (rank twig.hi)) p.is are.pieces.follow)
+        (ap (λ (k : ℕ). names_of k p.before) (first_comes (next_of (rank twig.hi) p.behind) ∙ sym p.key)) n)))

@@ -1,5 +1,6 @@
 -- Holes of a root may be filled.
-use Rattle.std.proofs.Common.{◌≡◌, inl, inr, ℕ, ◌+◌, ◌-◌, ◌/◌, ◌%◌, ◌^◌, slice_index, ◌<◌, ◌≤◌, List, [], ◌∷◌, length, get_or, refl, sym, ap, subst, ◌∙◌, arith}
+use Rattle.std.proofs.Common.{◌≡◌, inl, inr, ℕ, ◌+◌, ◌-◌, ◌/◌, ◌%◌, ◌^◌, slice_index, ◌<◌, ◌≤◌, List, [], ◌∷◌, length}
+use Rattle.std.proofs.Common.{get_or, refl, sym, ap, subst, ◌∙◌, arith}
 use Rattle.std.specs.Prelude.{Contains}
 use Rattle.r4_base.specs.Cell.{item_end}
 use Rattle.r4_base.specs.Extents.{blocks_in}
@@ -28,7 +29,8 @@ use Rattle.r4_path.specs.Growing.{IsPathIn}
 use Rattle.r4_path.specs.TwigPieces.{ArePiecesOf, twig_pieces}
 use Rattle.r4_patch.proofs.Members.{none}
 
-pub two_borders : (k : ℕ) (ps : List TwigPiece) (d : TwigPiece) → 2 ≤ length ps → length ps < 3 → IsAtBorder k (get_or ps 0 d) → IsAtBorder k (get_or ps 1 d) → IsBorder k ps
+pub two_borders : (k : ℕ) (ps : List TwigPiece) (d : TwigPiece) → 2 ≤ length ps → length ps < 3
+    → IsAtBorder k (get_or ps 0 d) → IsAtBorder k (get_or ps 1 d) → IsBorder k ps
 two_borders k [] d some few first second = absurd (omega (arith, some))
 two_borders k (p ∷ []) d some few first second = absurd (omega (arith, some))
 two_borders k (p ∷ (q ∷ [])) d some few first second = λ x at low high. elim (first_or_later p (q ∷ []) x at) [
@@ -40,7 +42,8 @@ two_borders k (p ∷ (q ∷ [])) d some few first second = λ x at low high. eli
 ]
 two_borders k (p ∷ (q ∷ (r ∷ ps))) d some few first second = absurd (omega (arith, few))
 
-pub blocks_behind : (k : Key) (p : TwigPiece) → slice_index p.key.el 0 ≡ slice_index k.el 0 → slice_index p.key.el 1 ≡ slice_index k.el 1
+pub blocks_behind : (k : Key) (p : TwigPiece) → slice_index p.key.el 0 ≡ slice_index k.el 0 → slice_index p.key.el 1
+    ≡ slice_index k.el 1
     → slice_index p.key.el 2 ≡ slice_index k.el 2 → slice_index p.key.el 3 ≤ slice_index k.el 3
     → (slice_index k.el 3 - slice_index p.key.el 3) % 4096 ≡ 0 → IsAtBorder (rank k) p
 unfolding rank
@@ -78,20 +81,27 @@ module _ (twig : CellSeen) (is : IsTwigOfHoles twig) (are : ArePiecesOf twig (tw
   }
 
   filled : (it : Item) → it.plugin ≡ 5 → IsNewExtent it → least ≤ rank it.key → rank it.key + 8192 ≤ top
-      → IsBorder (rank it.key) (twig_pieces twig) → IsBorder (rank it.key + 8192) (twig_pieces twig) → (f : Fresh) → f.next ≡ 2 ^ 63 + 1000 → f.end ≡ 2 ^ 63 + 2000
+      → IsBorder (rank it.key) (twig_pieces twig) → IsBorder (rank it.key + 8192) (twig_pieces twig) → (f : Fresh)
+          → f.next ≡ 2 ^ 63 + 1000 → f.end ≡ 2 ^ 63 + 2000
       → IsSetIn t r it twig [] f
   filled it five new low high one two f next end =
       let last = ends it five new in
       let lo = is.lo in
       let hi = is.hi in
-      let second : IsBorder (item_end it) (twig_pieces twig) = subst (λ (k : ℕ). IsBorder k (twig_pieces twig)) (sym last) two in
-      let bytes = twice_bytes (rank twig.lo) (rank twig.hi) (rank it.key) (item_end it) (twig_pieces twig) are.pieces.follow (omega (arith, lo, low)) (omega (arith, last)) (omega (arith, last, hi, high)) one second in
+      let second : IsBorder (item_end it) (twig_pieces twig) = subst (λ (k : ℕ). IsBorder k (twig_pieces twig))
+          (sym last) two in
+      let bytes = twice_bytes (rank twig.lo) (rank twig.hi) (rank it.key) (item_end it)
+          (twig_pieces twig) are.pieces.follow (omega (arith, lo, low)) (omega (arith, last)) (omega
+          (arith, last, hi, high)) one second in
       let mine = bytes_of_item it (given it five new).sound in
       let long = new.long in
       let fits = are.fits in
       let pp = parted_twice (rank it.key) (item_end it) (twig_pieces twig) in
-      let s = split (rank twig.lo) (rank twig.hi) (rank it.key) (item_end it) (twig_pieces twig) are.pieces.follow (omega (arith, lo, low)) (omega (arith, last)) (omega (arith, last, hi, high)) one second in
-      let few = over_bytes (rank twig.lo) (rank twig.hi) (rank it.key) (item_end it) pp (pieces_below (rank it.key) pp) (pieces_between (rank it.key) (item_end it) pp) (pieces_behind (item_end it) pp) (item_pieces it) s
+      let s = split (rank twig.lo) (rank twig.hi) (rank it.key) (item_end it) (twig_pieces twig) are.pieces.follow
+          (omega (arith, lo, low)) (omega (arith, last)) (omega (arith, last, hi, high)) one second in
+      let few = over_bytes (rank twig.lo) (rank twig.hi) (rank it.key) (item_end it) pp (pieces_below
+          (rank it.key) pp) (pieces_between (rank it.key) (item_end it) pp) (pieces_behind (item_end it) pp)
+          (item_pieces it) s
       (follow_item it (given it five new).sound) (next_of_item it (given it five new).sound) in
       let all : twig_bytes (set_pieces it twig) ≤ 9000 = omega (arith, few, bytes, fits, mine, long) in
       record {
@@ -114,7 +124,8 @@ module _ (twig : CellSeen) (is : IsTwigOfHoles twig) (are : ArePiecesOf twig (tw
         blocks = new_blocks it five new t wide f wide_path.free refl (omega arith) end;
       }
 
-pub fill_here : (twig cell : CellSeen) (ps seen : List TwigPiece) (it : Item) (end : ℕ) → cell ≡ twig → IsTwigOfHoles twig
+pub fill_here : (twig cell : CellSeen) (ps seen : List TwigPiece) (it : Item) (end : ℕ) → cell ≡ twig
+    → IsTwigOfHoles twig
     → ArePiecesOf twig ps → seen ≡ ps → it.plugin ≡ 5 → IsNewExtent it → least ≤ rank it.key → end ≤ top
     → end ≡ rank it.key + 8192 → IsBorder (rank it.key) seen → IsBorder end seen
     → (t : Store Value) × ((r : Root) × IsSetIn t r it cell [] (record { next = 2 ^ 63 + 1000; end = 2 ^ 63 + 2000 }))
@@ -125,4 +136,5 @@ fill_here twig cell ps seen it end same is are same_pieces five new low high beh
     let first = subst (IsBorder (rank it.key)) all one in
     let second = subst (λ k. IsBorder k (twig_pieces twig)) behind (subst (IsBorder end) all two) in
     subst (λ (x : CellSeen). (t : Store Value) × ((r : Root) × IsSetIn t r it x [] f)) (sym same)
-    (t twig is here, (r twig is here, filled twig is here it five new low (omega (arith, high, behind)) first second f refl refl))
+    (t twig is here, (r twig is here, filled twig is here it five new low (omega
+        (arith, high, behind)) first second f refl refl))
