@@ -45,8 +45,8 @@ fn lay_holes(block: &mut Block) {
     append(&mut node, 0, least(), 5, &extent);
 }
 
-// Whether the cell is the root of an extent of two holes.
-fn is_twig_of_holes(alloc: Global, twig: &Cell) -> Result<bool, Memory>
+/// Whether the cell is the root of an extent of two holes.
+pub fn is_twig_of_holes(alloc: Global, twig: &Cell) -> Result<bool, Memory>
     ensures { IfOk result (λ b. IsTrue b → IsTwigOfHoles twig.now) }
 {
     if twig.id().0 != TWIG || twig.level() != 2 {

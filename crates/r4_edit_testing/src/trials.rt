@@ -425,8 +425,8 @@ fn has_two_entries(key: &Key, body: &[u8]) -> bool
     DirView::of_item(key, body).len() >= 2
 }
 
-// Whether the cells are leaves below one root.
-pub(crate) fn are_leaves(cells: &[Arc<Cell>]) -> bool
+/// Whether the cells are leaves below one root.
+pub fn are_leaves(cells: &[Arc<Cell>]) -> bool
     ensures { IsTrue result → AreLeaves (map (λ c. arc_value c) cells.now) }
 {
     if cells.is_empty() || cells.len() > 88 {
@@ -520,8 +520,8 @@ fn may_lie(alloc: Global, leaves: &[Arc<Cell>], key: &Key, body: &[u8]) -> Resul
     is_clear(alloc, leaf, key, &end)
 }
 
-// The key two blocks behind another, of the same object.
-fn two_blocks_behind(key: &Key) -> Option<Key>
+/// The key two blocks behind another, of the same object.
+pub fn two_blocks_behind(key: &Key) -> Option<Key>
     ensures { (k : Key) → result ≡ Some k → IsKey key.now × (offset_of key.now + 8192 < 2 ^ 64)
         × (rank k ≡ rank key.now + 8192) }
 {
@@ -533,8 +533,8 @@ fn two_blocks_behind(key: &Key) -> Option<Key>
     })
 }
 
-// Whether the extent has two blocks that have no place yet, the first two numbers behind those that may be taken.
-fn are_new_blocks(body: &[u8]) -> bool
+/// Whether the extent has two blocks that have no place yet, the first two numbers behind those that may be taken.
+pub fn are_new_blocks(body: &[u8]) -> bool
     ensures { IsTrue result → (length body.now ≡ 32) × (units_of body.now ≡ new_units) }
 {
     if body.len() > 4030 {

@@ -1,0 +1,17 @@
+pub mod Between
+pub mod Ends
+pub mod ExtentEffect
+pub mod GraftEffect
+pub mod HoleGraft
+pub mod PutEffect
+pub mod SpanBorders
+pub mod WholeBlocks
+pub mod LeafPointers
+pub mod TurnPieces
+pub mod TurnEffect
+pub mod TurnGraft
+pub mod CutEffect
+pub mod OverEffect
+pub mod ApartEffect
+pub mod TurnEnds
+pub mod Told

@@ -1,0 +1,5 @@
+pub mod Between
+pub mod Effects
+pub mod Setting
+pub mod Spans
+pub mod Turning

@@ -1,0 +1,10 @@
+//! Tests of extents over holes and of the turn: which cells come, and how many items and free bytes they have
+//! (docs/volume.md, "Edits").
+#![tactic(auto)]
+
+mod filling;
+
+#[cfg(test)]
+mod tests;
+
+pub use filling::fill;
