@@ -7,6 +7,7 @@ use Rattle.r4_core.proofs.Advanced.{at_footer, at_header, at_quiet, footed_now, 
 use Rattle.r4_core.proofs.Footing.{at_end, keeps_footed, may_clean}
 use Rattle.r4_core.proofs.Heading.{at_homes, keeps_headed, may_commit}
 use Rattle.r4_core.proofs.Parting.{keeps_part}
+use Rattle.r4_core.proofs.Sparing.{spares_needed}
 use Rattle.r4_core.proofs.Writing.{keeps_failed, writes_as}
 use Rattle.r4_core.proofs.core_state.Core.advance.Goals as goal
 
@@ -172,4 +173,35 @@ returns-in_default-stage g c =
           (let calls = c.in-Ok.ensures.calls in let rose = c.in-Ok.ensures.clock.0 in omega (arith, calls, rose));
       calls = (c.in-Ok.ensures.some, c.in-Ok.ensures.few);
       spares = for_plan _ c.in-Some.commit c.in-Some-work.plan (sym c.in-Some.ensures.value) c.in-Some-work.is _ c.in-Ok.ensures.spares;
+      needed = λ b t named at tells. for_plan _ c.in-Some.commit c.in-Some-work.plan (sym c.in-Some.ensures.value) c.in-Some-work.is _
+          (λ other. spares_needed c.on_disk_law.ensures _ (g.D.Device.state c.self.inside.dev)
+          (g.D.Device.state c.step.new.dev) _ c.in-Some.commit c.in-Some-work.plan c.self.invariant x
+          c.in-Ok.ensures.needed other b t named at tells);
     })
+
+pub returns-in-Err-clause-needed : goal.returns-in-Err-clause-needed
+returns-in-Err-clause-needed g c =
+    let asked = rw (← c.self.view_is) at c.requires in
+    let x = writes_as _ asked c.in-Some.commit c.in-Some-work.plan (sym c.in-Some.ensures.value) c.in-Some-work.is in
+    rw (← c.self.view_is) (λ b t named at tells. for_plan _ c.in-Some.commit c.in-Some-work.plan (sym c.in-Some.ensures.value) c.in-Some-work.is _
+    (λ other. spares_needed c.on_disk_law.ensures _ (g.D.Device.state c.self.inside.dev)
+    (g.D.Device.state c.step.new.dev) _ c.in-Some.commit c.in-Some-work.plan c.self.invariant x
+    c.in-Err.ensures.needed other b t named at tells))
+
+pub returns-in-Headed-clause-needed : goal.returns-in-Headed-clause-needed
+returns-in-Headed-clause-needed g c =
+    let asked = rw (← c.self.view_is) at c.requires in
+    let x = writes_as _ asked c.in-Some.commit c.in-Some-work.plan (sym c.in-Some.ensures.value) c.in-Some-work.is in
+    rw (← c.self.view_is) (λ b t named at tells. for_plan _ c.in-Some.commit c.in-Some-work.plan (sym c.in-Some.ensures.value) c.in-Some-work.is _
+    (λ other. spares_needed c.on_disk_law.ensures _ (g.D.Device.state c.self.inside.dev)
+    (g.D.Device.state c.step.new.dev) _ c.in-Some.commit c.in-Some-work.plan c.self.invariant x
+    c.in-Ok.ensures.needed other b t named at tells))
+
+pub returns-in-Footed-clause-needed : goal.returns-in-Footed-clause-needed
+returns-in-Footed-clause-needed g c =
+    let asked = rw (← c.self.view_is) at c.requires in
+    let x = writes_as _ asked c.in-Some.commit c.in-Some-work.plan (sym c.in-Some.ensures.value) c.in-Some-work.is in
+    rw (← c.self.view_is) (λ b t named at tells. for_plan _ c.in-Some.commit c.in-Some-work.plan (sym c.in-Some.ensures.value) c.in-Some-work.is _
+    (λ other. spares_needed c.on_disk_law.ensures _ (g.D.Device.state c.self.inside.dev)
+    (g.D.Device.state c.step.new.dev) _ c.in-Some.commit c.in-Some-work.plan c.self.invariant x
+    c.in-Ok.ensures.needed other b t named at tells))
