@@ -100,7 +100,7 @@ returns c =
     (get nat_cmp c.in_ok-names.names) same c.in_ok-renamed.renamed.items
     (subst (λ l. AreMade (WasCell (new_name (get nat_cmp c.in_ok-names.names))) (map (λ x. arc_value x) l)
     c.in_ok-renamed.renamed.items) c.as_slice-3.ensures.value c.in_ok-renamed.ensures) in
-    let next : Super40 = c.with_root.result in
+    let next : Super40 = c.with_root-next.result in
     record {
       cells = map (λ x. arc_value x) c.sort_unstable_by.new.self.items;
       same = IsPermutation-map (λ x. arc_value x) c.args.cells.items c.sort_unstable_by.new.self.items
@@ -115,7 +115,7 @@ returns c =
           ∙ ap (λ (o : Option BlockNo). spot_of o c.args.next.now.root_block) (same c.args.next.now.root_block);
       planned = subst (λ (s : Super40). IsPlannedByBlock
           (placed_all c.args.space.now c.in_ok-answers.answers.items) c.plan_renamed.new.space c.args.atom
-          c.in_ok-renamed.renamed.items c.in_ok-answers.answers.items s c.args.prev c.in_ok-plan.plan) c.with_root.ensures
+          c.in_ok-renamed.renamed.items c.in_ok-answers.answers.items s c.args.prev c.in_ok-plan.plan) c.with_root-next.ensures
           (subst (λ (u : Space). IsPlannedByBlock u c.plan_renamed.new.space c.args.atom
           c.in_ok-renamed.renamed.items c.in_ok-answers.answers.items next c.args.prev c.in_ok-plan.plan) placed
           (subst (λ (l : List Placed). IsPlannedByBlock c.choose.new.space c.plan_renamed.new.space c.args.atom
