@@ -20,7 +20,8 @@ pub returns-then-writes-clause-step : goal.returns-then-writes-clause-step
 returns-then-writes-clause-step g c =
     let all = rw (← c.self.view_is) at c.advance.ensures.advanced in
     subst (λ (x : CoreSeen g.row.D.Denot). TakesStep (g.D.Device.state x.dev)
-    (g.D.Device.state c.advance.new.self.dev) x c.advance.new.self x.commit c.advance.result) c.self.view_is (stepped _ _ _ c.self.invariant c.in-Some.commit c.in-Some.is
+    (g.D.Device.state c.advance.new.self.dev) x c.advance.new.self x.commit c.advance.result) c.self.view_is (stepped _
+    _ _ c.self.invariant c.in-Some.commit c.in-Some.is
     (g.D.Device.state c.advance.new.self.dev) c.advance.new.self c.advance.result
     (sym c.is_some-writes.ensures ∙ c.if-writes.true) all)
 
