@@ -12,3 +12,4 @@ pub mod RefusedSingle
 pub mod OutTurns
 pub mod Used
 pub mod GoneOut
+pub mod MetInMemory
