@@ -5,7 +5,7 @@ use Rattle.std.proofs.Common.{length, refl, sym, ◌∙◌, ap, subst, arith}
 use Rattle.std.specs.Prelude.{IsSome, Ok, slice_index_or, sum_by}
 use Rattle.std.specs.Option.{option_map}
 use Rattle.std.proofs.lemmas.Bool.{cases_eq}
-use Rattle.r4_atoms.specs.Atoms.{IsOpenAtom, TxnSeen, owner_of}
+use Rattle.r4_atoms.specs.Atoms.{IsOpenAtom, TxnSeen, atom_of, owner_of}
 use Rattle.r4_base.specs.declared.things.ScriptNo.{ScriptNo}
 use Rattle.r4_content.specs.Locality.{commands}
 use Rattle.r4_content.specs.Meaning.{greatest_size}
@@ -37,7 +37,7 @@ use Rattle.r4_turns.specs.Turns.{IsScript, TurnsSeen, answered_one, no_script, t
 use Rattle.r4_turns.specs.declared.out.Numbers.{Numbers}
 use Rattle.r4_turns.specs.declared.out.Out.{Out}
 use Rattle.r4_turns.specs.declared.turn.Turn.{Turn}
-use Rattle.r4_kept.specs.Accounts.{AreAccounts, CountsCells, cells_for, claims_for}
+use Rattle.r4_kept.specs.Accounts.{AreAccounts, CountsCells, cells_for, claims_for, dones_in}
 use Rattle.r4_kept.specs.Cells.{AreCells}
 use Rattle.r4_kept.specs.Durable.{IsDurable}
 use Rattle.r4_kept.specs.History.{IsHistory, owed, owed_for_commit}
@@ -48,8 +48,9 @@ use Rattle.r4_kept.specs.Steps.{answered, with_entry}
 use Rattle.r4_kept.specs.Story.{Story}
 use Rattle.r4_kept.specs.Tables.{AreTables}
 use Rattle.r4_kept.specs.TasksOut.{AreOut, pins_in}
-use Rattle.r4_kept.specs.View.{CoreSeen, committing, tables_of}
+use Rattle.r4_kept.specs.View.{CoreSeen, tables_of}
 use Rattle.r4_kept.proofs.Carried.{at_told, commits_nothing, session_told}
+use Rattle.r4_kept.proofs.Dones.{changes_none, dones_on}
 use Rattle.r4_kept.proofs.Turning.{is_script_before, out_before, same_of, summed}
 
 -- ---- what the turns keep
@@ -187,76 +188,82 @@ module _ {D : Type 0} (r : Naming) (d : State) (c : CoreSeen D) (k : IsKept r d 
     (txns : List TxnSeen) (entries : Told) (on : TurnsGoOn c.turns turns)
     (owners : (i : ℕ) → owner_of (record c.atoms { txns = txns }) i ≡ owner_of c.atoms i)
     (opens : (a : ℕ) → IsOpenAtom (record c.atoms { txns = txns }) a → IsOpenAtom c.atoms a)
-    (as_many : length txns ≡ length c.atoms.txns) where
-  abbrev gone_on : CoreSeen D
-  gone_on = record c {
-    turns = turns;
-    atoms = record c.atoms { txns = txns };
-    trace = entries;
-  }
+    (as_many : length txns ≡ length c.atoms.txns)
+    (dones : (a : ℕ) → dones_in c.atoms a c.trace.entries ≤ dones_in (record c.atoms { txns = txns }) a entries.entries)
+  where
+    abbrev gone_on : CoreSeen D
+    gone_on = record c {
+      turns = turns;
+      atoms = record c.atoms { txns = txns };
+      trace = entries;
+    }
 
-  counts_after : (a cells fresh : ℕ) → CountsCells c.buffer c.atoms a cells fresh
-      → CountsCells c.buffer (record c.atoms { txns = txns }) a cells fresh
-  counts_after a cells fresh h = record {
-    nodes = h.nodes;
-    different = h.different;
-    just = λ i. (
-      (λ has. (owners i ∙ ((h.just i).0 has).0, ((h.just i).0 has).1)),
-      (λ both. (h.just i).1 (sym (owners i) ∙ both.0, both.1)),
-    );
-    cells_are = h.cells_are;
-    fresh_are = h.fresh_are;
-  }
+    counts_after : (a cells fresh : ℕ) → CountsCells c.buffer c.atoms a cells fresh
+        → CountsCells c.buffer (record c.atoms { txns = txns }) a cells fresh
+    counts_after a cells fresh h = record {
+      nodes = h.nodes;
+      different = h.different;
+      just = λ i. (
+        (λ has. (owners i ∙ ((h.just i).0 has).0, ((h.just i).0 has).1)),
+        (λ both. (h.just i).1 (sym (owners i) ∙ both.0, both.1)),
+      );
+      cells_are = h.cells_are;
+      fresh_are = h.fresh_are;
+    }
 
-  pub accounts_after : AreAccounts gone_on
-  accounts_after =
-      let g = k.accounts in
-      let cells = on.sums cells_for in
-      let claims = on.sums claims_for in
-      record {
-        covered = g.covered;
-        same = λ a opened. g.same a (opens a.0 opened);
-        counted = λ a opened. counts_after a _ _ (g.counted a (opens a opened));
-        unknown = λ a none. g.unknown a (λ was.
-            (let le = was.within in none (record { some = was.some; within = omega (arith, le, as_many) })));
-        sealed = g.sealed;
-        rests = g.rests;
-        room_to_capture = omega (arith, cells, g.room_to_capture);
-        room_for_cells = omega (arith, cells, g.room_for_cells);
-        room_to_defer = omega (arith, claims, g.room_to_defer);
-      }
+    pub accounts_after : AreAccounts gone_on
+    accounts_after =
+        let g = k.accounts in
+        let cells = on.sums cells_for in
+        let claims = on.sums claims_for in
+        record {
+          covered = g.covered;
+          same = λ a opened. g.same a (opens a.0 opened);
+          counted = λ a opened. counts_after a _ _ (g.counted a (opens a opened));
+          unknown = λ a none. g.unknown a (λ was.
+              (let le = was.within in none (record { some = was.some; within = omega (arith, le, as_many) })));
+          objects = λ a opened.
+              (let had = g.objects a (opens a opened) in
+              let more = dones a in
+              (omega (arith, had.0, more), omega (arith, had.1, more)));
+          sealed = g.sealed;
+          rests = g.rests;
+          room_to_capture = omega (arith, cells, g.room_to_capture);
+          room_for_cells = omega (arith, cells, g.room_for_cells);
+          room_to_defer = omega (arith, claims, g.room_to_defer);
+        }
 
-  pub cells_after : AreCells d gone_on
-  cells_after =
-      let g = k.cells in
-      record {
-        super40 = g.super40;
-        space = g.space;
-        root = g.root;
-        height = g.height;
-        buffered_names = g.buffered_names;
-        reached_names = λ q out x has. g.reached_names q out x (on.outs q out has);
-        dirty = λ i e at. (
-          (λ yes. subst IsSome (sym (owners i)) ((g.dirty i e at).0 yes)),
-          (λ some. (g.dirty i e at).1 (subst IsSome (owners i) some)),
-        );
-        clean = g.clean;
-        commit = g.commit;
-      }
+    pub cells_after : AreCells d gone_on
+    cells_after =
+        let g = k.cells in
+        record {
+          super40 = g.super40;
+          space = g.space;
+          root = g.root;
+          height = g.height;
+          buffered_names = g.buffered_names;
+          reached_names = λ q out x has. g.reached_names q out x (on.outs q out has);
+          dirty = λ i e at. (
+            (λ yes. subst IsSome (sym (owners i)) ((g.dirty i e at).0 yes)),
+            (λ some. (g.dirty i e at).1 (subst IsSome (owners i) some)),
+          );
+          clean = g.clean;
+          commit = g.commit;
+        }
 
-  pub tasks_after : AreOut gone_on
-  tasks_after =
-      let g = k.tasks in
-      record {
-        uses = λ i.
-            (let e = on.sums (λ o. pins_in o i) in
-            let le = g.uses i in
-            omega (arith, e, le));
-        drawn = λ q n has is_n. g.drawn q n (on.scripts q has) (on.numbers q n has is_n);
-        apart = λ q p n m has also other is_n is_m. g.apart q p n m (on.scripts q has) (on.scripts p also) other
-            (on.numbers q n has is_n) (on.numbers p m also is_m);
-        unused = λ q i n e has is_n. g.unused q i n e (on.scripts q has) (on.numbers q n has is_n);
-      }
+    pub tasks_after : AreOut gone_on
+    tasks_after =
+        let g = k.tasks in
+        record {
+          uses = λ i.
+              (let e = on.sums (λ o. pins_in o i) in
+              let le = g.uses i in
+              omega (arith, e, le));
+          drawn = λ q n has is_n. g.drawn q n (on.scripts q has) (on.numbers q n has is_n);
+          apart = λ q p n m has also other is_n is_m. g.apart q p n m (on.scripts q has) (on.scripts p also) other
+              (on.numbers q n has is_n) (on.numbers p m also is_m);
+          unused = λ q i n e has is_n. g.unused q i n e (on.scripts q has) (on.numbers q n has is_n);
+        }
 
 -- with an entry more
 module _ {D : Type 0} (r : Naming) (d : State) (c : CoreSeen D) (k : IsKept r d c) (turns : TurnsSeen)
@@ -265,6 +272,7 @@ module _ {D : Type 0} (r : Naming) (d : State) (c : CoreSeen D) (k : IsKept r d 
     (owners : (i : ℕ) → owner_of (record c.atoms { txns = txns }) i ≡ owner_of c.atoms i)
     (opens : (a : ℕ) → IsOpenAtom (record c.atoms { txns = txns }) a → IsOpenAtom c.atoms a)
     (as_many : length txns ≡ length c.atoms.txns)
+    (same_atom : (t : ℕ) → atom_of (record c.atoms { txns = txns }) t ≡ atom_of c.atoms t)
     (tells : (o : Option Beginning) → BeginsWith (names_in r) d.blocks o
     → IsTold (commands greatest_size) (option_map start_of o) d.clock
     (record (tables_of c) { turns = turns; atoms = record c.atoms { txns = txns } }) (e ∷ c.trace.entries))
@@ -290,6 +298,10 @@ module _ {D : Type 0} (r : Naming) (d : State) (c : CoreSeen D) (k : IsKept r d 
     begins = k.history.begins;
     room = omega (arith, room);
   }
+
+  as_many_dones : (a : ℕ) → dones_in c.atoms a trace ≤ dones_in (record c.atoms { txns = txns }) a (e ∷ trace)
+  as_many_dones a =
+      dones_on c.atoms (record c.atoms { txns = txns }) a trace (λ t is. same_atom t ∙ is) e (changes_none e quiet)
 
   ordered_after : AreOrdered turns
   ordered_after q has =
@@ -344,9 +356,9 @@ module _ {D : Type 0} (r : Naming) (d : State) (c : CoreSeen D) (k : IsKept r d 
   keeps_after = record {
     history = history_after;
     tables = record { tasks = tasks; ordered = ordered_after };
-    accounts = accounts_after r d c k turns txns (with_entry c.trace e) on owners opens as_many;
-    cells = cells_after r d c k turns txns (with_entry c.trace e) on owners opens as_many;
-    tasks = tasks_after r d c k turns txns (with_entry c.trace e) on owners opens as_many;
+    accounts = accounts_after r d c k turns txns (with_entry c.trace e) on owners opens as_many as_many_dones;
+    cells = cells_after r d c k turns txns (with_entry c.trace e) on owners opens as_many as_many_dones;
+    tasks = tasks_after r d c k turns txns (with_entry c.trace e) on owners opens as_many as_many_dones;
     lender = k.lender;
     story = λ b named. record {
       story = now b named;
@@ -367,7 +379,7 @@ module _ {D : Type 0} (r : Naming) (d : State) (c : CoreSeen D) (k : IsKept r d 
   keeps_answer =
       let trace = c.trace.entries in
       keeps_after r d c k (answered_one c.turns s.0) c.atoms.txns e quiet
-      (answered_goes_on c.turns s.0 is free) refl (λ i. refl) (λ a opened. opened) refl tells
+      (answered_goes_on c.turns s.0 is free) refl (λ i. refl) (λ a opened. opened) refl (λ t. refl) tells
       (drawn_entry k.history.first (answered_one c.turns s.0) c.numbers.next_oid trace
       (drawn_answered k.history.first c.turns c.numbers.next_oid trace k.history.drawn s.0 is free) e plain)
       (tasks_answered (tables_of c) c.locks k.tables.tasks s.0 is free) room

@@ -216,6 +216,7 @@ module _ {D : Type 0} (r : Naming) (old d : State) (dev : D) (job : Job) (thresh
         same = λ a opened. absurd (none_begun a.0 opened.atom);
         counted = λ a opened. absurd (none_begun a opened.atom);
         unknown = λ a none. refl;
+        objects = λ a opened. absurd (none_begun a opened.atom);
         sealed = λ sound. refl;
         rests = λ sound none. (refl, λ b. none_in o.super40.block_count b);
         room_to_capture = omega (arith, cells);

@@ -49,9 +49,10 @@ use Rattle.r4_kept.specs.Steps.{StandsAlone, with_entry}
 use Rattle.r4_kept.specs.Story.{Story}
 use Rattle.r4_kept.specs.Tables.{AreTables}
 use Rattle.r4_kept.specs.TasksOut.{AreOut, pins_in}
-use Rattle.r4_kept.specs.View.{CoreSeen, committing, tables_of}
+use Rattle.r4_kept.specs.View.{CoreSeen, tables_of}
 use Rattle.r4_core.proofs.Answered.{TurnsGoOn, answered_goes_on, goes_on_twice, none_outside, not_out, turned_goes_on}
 use Rattle.r4_kept.proofs.Carried.{at_told, session_told}
+use Rattle.r4_kept.proofs.Dones.{atom_stays, dones_on}
 use Rattle.r4_kept.proofs.Turning.{owed_answered, owed_less, same_of}
 
 -- ---- no command of a new transaction was done
@@ -191,6 +192,20 @@ module _ {D : Type 0} (r : Naming) (d : State) (c : CoreSeen D) (k : IsKept r d 
               (λ here. subst (λ (x : Account). CountsCells c.buffer new a x.cells x.fresh)
               (sym (new_account a here)) (counts_none a here)) (open_or_new a opened);
           unknown = λ a none. g.unknown a (λ was. none (begun_still a.0 was));
+          objects = λ a opened.
+              ⊎_elim (λ was.
+              (let had = g.objects a was in
+              let acc = same_account a was.atom.begun in
+              let born : (account_of new a).born ≡ (account_of c.atoms a).born = ap (λ (x : Account). x.born) acc in
+              let gone : (account_of new a).gone ≡ (account_of c.atoms a).gone = ap (λ (x : Account). x.gone) acc in
+              let more = dones_on c.atoms new a trace
+              (λ t is. atom_stays c.atoms new s.0 b t a was.atom.begun.some is) (Begin u s) tt in
+              (omega (arith, had.0, more, born), omega (arith, had.1, more, gone))))
+              (λ here.
+              (let acc = new_account a here in
+              let born : (account_of new a).born ≡ 0 = ap (λ (x : Account). x.born) acc in
+              let gone : (account_of new a).gone ≡ 0 = ap (λ (x : Account). x.gone) acc in
+              (omega (arith, born), omega (arith, gone)))) (open_or_new a opened);
           sealed = g.sealed;
           rests = g.rests;
           room_to_capture = omega (arith, cells, spare, g.room_to_capture);

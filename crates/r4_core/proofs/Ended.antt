@@ -31,7 +31,7 @@ use Rattle.r4_kept.specs.History.{owed, owed_for_commit}
 use Rattle.r4_kept.specs.Kept.{IsKept}
 use Rattle.r4_kept.specs.Naming.{Naming}
 use Rattle.r4_kept.specs.Steps.{ended, ended_last, with_entry}
-use Rattle.r4_kept.specs.View.{CoreSeen, committing, tables_of}
+use Rattle.r4_kept.specs.View.{CoreSeen, tables_of}
 use Rattle.r4_core.proofs.Answered.{TurnsGoOn, answered_goes_on, goes_on_twice, keeps_after, not_out, nothing_left}
 use Rattle.r4_core.proofs.Answered.{turned_goes_on}
 use Rattle.r4_kept.proofs.Turning.{owed_answered, owed_less, same_of}
@@ -119,7 +119,7 @@ module _ {D : Type 0} (r : Naming) (d : State) (c : CoreSeen D) (k : IsKept r d 
         keeps_after r d c k (answered_one (left c.turns s.0) s.0) (with_ended c.atoms u.0).txns (Ended u) tt
         (goes_on_twice c.turns (left c.turns s.0) (answered_one (left c.turns s.0) s.0) (left_goes_on c.turns s.0 is)
         (answered_goes_on (left c.turns s.0) s.0 (there c.turns s.0 is) none)) refl
-        (same_owner c.atoms u.0) (open_before c.atoms u.0) (same_count c.atoms u.0)
+        (same_owner c.atoms u.0) (open_before c.atoms u.0) (same_count c.atoms u.0) (same_atom c.atoms u.0)
         (λ o named. told_end (commands greatest_size) (option_map start_of o) d.clock (tables_of c) trace
         (k.history.told o named) u s sound st)
         (drawn_entry k.history.first (answered_one (left c.turns s.0) s.0) c.numbers.next_oid trace
@@ -163,7 +163,7 @@ module _ {D : Type 0} (r : Naming) (d : State) (c : CoreSeen D) (k : IsKept r d 
     keeps_last =
         keeps_after r d c k (left c.turns s.0) (with_ended c.atoms u.0).txns (Ended u) tt
         (left_goes_on c.turns s.0 st.is_script) refl (same_owner c.atoms u.0) (open_before c.atoms u.0)
-        (same_count c.atoms u.0)
+        (same_count c.atoms u.0) (same_atom c.atoms u.0)
         (λ o named. told_last (commands greatest_size) (option_map start_of o) d.clock (tables_of c) trace
         (k.history.told o named) u s sound st)
         (drawn_entry k.history.first (left c.turns s.0) c.numbers.next_oid trace

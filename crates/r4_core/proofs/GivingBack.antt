@@ -127,6 +127,7 @@ module _ {D : Type 0} (r : Naming) (d : State) (c : CoreSeen D) (k : IsKept r d 
         same = g.same;
         counted = λ a opened. counts_back a _ _ (g.counted a opened);
         unknown = g.unknown;
+        objects = g.objects;
         sealed = g.sealed;
         rests = g.rests;
         room_to_capture = omega (arith, cells, g.room_to_capture);

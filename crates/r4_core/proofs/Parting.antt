@@ -45,7 +45,7 @@ use Rattle.r4_wander.proofs.Settling.{put_writes_other}
 use Rattle.r4_kept.specs.Accounts.{AreAccounts}
 use Rattle.r4_kept.specs.Cells.{AreCells}
 use Rattle.r4_kept.specs.Durable.{IsDurable, StandsAt}
-use Rattle.r4_kept.specs.History.{IsHistory}
+use Rattle.r4_kept.specs.History.{IsHistory, owed_for_work}
 use Rattle.r4_kept.specs.Kept.{HasStory, IsKept}
 use Rattle.r4_kept.specs.Meaning.{Comes, ComesFrom, HasMeaning, IsFlushing, IsInCommit, IsInPart}
 use Rattle.r4_kept.specs.Naming.{Naming, job_named, names_in}
@@ -55,6 +55,7 @@ use Rattle.r4_kept.specs.View.{CoreSeen, blocks_of, tables_of}
 use Rattle.r4_kept.specs.declared.parts.Commit.{Commit}
 use Rattle.r4_kept.specs.declared.parts.Volume.{Volume}
 use Rattle.r4_kept.proofs.Carried.{session_told}
+use Rattle.r4_kept.proofs.Owing.{owes_last, owes_one, owes_two}
 
 -- ---- blocks that no part writes
 
@@ -143,6 +144,16 @@ module _ (d e : State) (w v : Progress) (steps : Steps d e w v) (quiet : IsQuiet
       read_apart v base e i (λ p target. apart p (subst (λ (plan : Parts). IsTarget (part plan p) i) steps.plan target))
       (steps.reads base h)
       ∙ sym (read_apart w base d i apart h)
+
+-- there is still room to be kept for as many entries
+as_many_owed : (d e : State) (w v : CommitSeen) → Steps d e w.work v.work → IsQuietPart w.work.part
+    → owed_for_work (Some v) ≡ owed_for_work (Some w)
+as_many_owed d e w v steps (inl is) =
+    let before : w.work.part < 2 = omega (arith, is) in
+    owes_two v (part_before d e w.work v.work steps (inl is) before) ∙ sym (owes_two w before)
+as_many_owed d e w v steps (inr is) =
+    let behind : 2 ≤ w.work.part = omega (arith, is) in
+    owes_last v (part_behind d e w.work v.work steps (inr is) behind) ∙ sym (owes_last w behind)
 
 -- ---- what a crash leaves meanwhile
 
@@ -271,7 +282,7 @@ module _ {D : Type 0} (disk : FitsOnDisk) (r : Naming) (d e : State) (x : CoreSe
       first = h.history.first;
       drawn = h.history.drawn;
       begins = λ b named. h.history.begins b (named_before b named);
-      room = h.history.room;
+      room = let enough = h.history.room in let same = as_many_owed d e w v steps quiet in omega (arith, enough, same);
     }
 
     accounts_part : AreAccounts now
@@ -282,6 +293,7 @@ module _ {D : Type 0} (disk : FitsOnDisk) (r : Naming) (d e : State) (x : CoreSe
           same = g.same;
           counted = g.counted;
           unknown = g.unknown;
+          objects = g.objects;
           sealed = g.sealed;
           rests = λ sound none. absurd (cc none);
           room_to_capture = g.room_to_capture;
@@ -394,7 +406,7 @@ module _ {D : Type 0} (disk : FitsOnDisk) (r : Naming) (d e : State) (x : CoreSe
     first = h.history.first;
     drawn = drawn_entry h.history.first x.turns x.numbers.next_oid trace h.history.drawn (Broken e.clock e.faults) tt;
     begins = λ b named. h.history.begins b (named_before b named);
-    room = let enough = h.history.room in omega (arith, enough);
+    room = let enough = h.history.room in let one = owes_one (Some w) in omega (arith, enough, one);
   }
 
   legal_over : IsOrdered (Broken e.clock e.faults ∷ trace)
@@ -408,6 +420,7 @@ module _ {D : Type 0} (disk : FitsOnDisk) (r : Naming) (d e : State) (x : CoreSe
         same = g.same;
         counted = g.counted;
         unknown = g.unknown;
+        objects = g.objects;
         sealed = λ none. absurd (cc none);
         rests = λ none at. absurd (cc none);
         room_to_capture = g.room_to_capture;

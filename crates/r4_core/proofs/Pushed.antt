@@ -23,7 +23,7 @@ use Rattle.r4_kept.specs.History.{IsHistory, is_commit, owed, owed_for_commit, o
 use Rattle.r4_kept.specs.Kept.{HasStory, IsKept}
 use Rattle.r4_kept.specs.Naming.{Naming, names_in}
 use Rattle.r4_kept.specs.Tables.{AreTables}
-use Rattle.r4_kept.specs.View.{CoreSeen, committing, tables_of}
+use Rattle.r4_kept.specs.View.{CoreSeen, tables_of}
 use Rattle.r4_core.proofs.Answered.{TurnsGoOn, accounts_after, cells_after, tasks_after}
 
 -- ---- entries for which room is kept
@@ -118,11 +118,11 @@ module _ {D : Type 0} (r : Naming) (d : State) (c : CoreSeen D) (k : IsKept r d 
       history = history;
       tables = tables;
       accounts = accounts_after r d c k turns c.atoms.txns (record c.trace { spare = spare }) on (λ i. refl)
-          (λ a opened. opened) refl;
+          (λ a opened. opened) refl (λ a. omega arith);
       cells = cells_after r d c k turns c.atoms.txns (record c.trace { spare = spare }) on (λ i. refl)
-          (λ a opened. opened) refl;
+          (λ a opened. opened) refl (λ a. omega arith);
       tasks = tasks_after r d c k turns c.atoms.txns (record c.trace { spare = spare }) on (λ i. refl)
-          (λ a opened. opened) refl;
+          (λ a opened. opened) refl (λ a. omega arith);
       lender = k.lender;
       story = story_after;
     }

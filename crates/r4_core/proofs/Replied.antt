@@ -29,7 +29,7 @@ use Rattle.r4_kept.specs.History.{owed, owed_for_commit}
 use Rattle.r4_kept.specs.Kept.{IsKept}
 use Rattle.r4_kept.specs.Naming.{Naming, names_in}
 use Rattle.r4_kept.specs.Steps.{IsRefusable, MayBeRefused, NamesTxn, with_entry}
-use Rattle.r4_kept.specs.View.{CoreSeen, committing, tables_of}
+use Rattle.r4_kept.specs.View.{CoreSeen, tables_of}
 use Rattle.r4_core.proofs.Answered.{keeps_answered, not_out}
 use Rattle.r4_kept.proofs.Turning.{commit_owed}
 

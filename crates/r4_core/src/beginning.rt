@@ -5,7 +5,6 @@ ghost use Rattle.r4_content.specs.declared.command.Command.TheVariants as asks;
 ghost use Rattle.r4_history.specs.Tables.{Stands};
 ghost use Rattle.r4_kept.specs.History.{owed, owed_for_commit};
 ghost use Rattle.r4_kept.specs.Steps.{HasBegun, HasBegunSingle, StandsAlone};
-ghost use Rattle.r4_kept.specs.View.{committing};
 
 use crate::core_state::Core;
 use r4_base::{Memory, ScriptNo, TxnNo};

@@ -9,9 +9,9 @@ ghost use Rattle.r4_kept.specs.Steps.{IsAtWrites, IsWritten, Writes, failed};
 ghost use Rattle.r4_kept.specs.declared.parts.Commit.{Commit};
 
 use crate::core_state::Core;
-use r4_kept::Commit;
 use r4_cell::on_disk_law;
 use r4_commit::step;
+use r4_kept::Commit;
 use r4_outside::{Device, Failed, Run};
 use r4_trace::Entry;
 use r4_wander::Stage;

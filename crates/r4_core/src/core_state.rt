@@ -14,11 +14,11 @@ ghost use Rattle.r4_trace.specs.Legal.{IsLegal};
 ghost use Rattle.r4_trace.specs.Traced.{committed_in, latest};
 ghost use Rattle.r4_kept.specs.Naming.{names_of};
 
-use r4_kept::{Commit, Numbers, Volume};
 use r4_atoms::Atoms;
 use r4_base::AtomNo;
 use r4_buffer::Buffer;
 use r4_cell::Root;
+use r4_kept::{Commit, Numbers, Volume};
 use r4_locks::LockTable;
 use r4_outside::{Device, Run};
 use r4_script::Job;

@@ -4,7 +4,6 @@ ghost use Rattle.std.specs.Prelude.{◌≡◌, ◌+◌, ◌≤◌, Some, None};
 ghost use Rattle.r4_history.specs.Tables.{Stands, inside};
 ghost use Rattle.r4_kept.specs.History.{owed, owed_for_commit};
 ghost use Rattle.r4_kept.specs.Steps.{ended_last};
-ghost use Rattle.r4_kept.specs.View.{committing};
 
 use crate::core_state::Core;
 use r4_base::{ScriptNo, TxnNo};

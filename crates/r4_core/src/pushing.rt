@@ -5,7 +5,6 @@ ghost use Rattle.r4_content.specs.declared.command.Command.TheVariants as asks;
 ghost use Rattle.r4_trace.specs.Job.{HasNoBegin, IsWork};
 ghost use Rattle.r4_turns.specs.Turns.{IsScript, commands_at};
 ghost use Rattle.r4_kept.specs.History.{owed, owed_for_commit};
-ghost use Rattle.r4_kept.specs.View.{committing};
 ghost use Rattle.r4_kept.specs.Steps.{IsRoomier, pushed, with_room};
 
 use crate::core_state::Core;

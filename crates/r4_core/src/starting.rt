@@ -15,10 +15,10 @@ ghost use Rattle.r4_kept.specs.View.{root_seen};
 ghost use Rattle.r4_core.specs.declared.fault.OpenWhy.TheVariants.{Device as HasFailed};
 
 use crate::fault::OpenWhy;
-use r4_kept::{Numbers, Volume};
 use r4_base::{Memory, NodeId, Super40, UNPLACED};
 use r4_cell::Root;
 use r4_content::Command;
+use r4_kept::{Numbers, Volume};
 use r4_open::{Opened, Unopened, open_in_place};
 use r4_outside::Device;
 use r4_replay::{ReplayFault, replay};

@@ -2,3 +2,5 @@ pub mod Turning
 pub mod Unused
 pub mod Carried
 pub mod Resting
+pub mod Dones
+pub mod Owing
