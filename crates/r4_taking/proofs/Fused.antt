@@ -281,7 +281,14 @@ module _ {D : Type 0} (r : Naming) (d : State) (c : CoreSeen D) (k : IsKept r d 
   tasks_fused : AreOut after
   tasks_fused =
       let g = k.tasks in
-      record { uses = g.uses; drawn = g.drawn; apart = g.apart; unused = g.unused }
+      record {
+        uses = g.uses;
+        drawn = g.drawn;
+        apart = g.apart;
+        unused = g.unused;
+        unreached = g.unreached;
+        given = g.given;
+      }
 
   -- ---- in a run that names its beginning
 

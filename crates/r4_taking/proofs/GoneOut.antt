@@ -20,16 +20,19 @@ use Rattle.r4_cell.specs.Seen.{CellSeen, node_of}
 use Rattle.r4_cell.proofs.NamesBelow.{names_below}
 use Rattle.r4_commit.specs.Planned.{CommitSeen}
 use Rattle.r4_content.specs.Locality.{commands}
-use Rattle.r4_content.specs.Meaning.{greatest_size}
+use Rattle.r4_content.specs.Meaning.{greatest_size, with_id}
+use Rattle.r4_content.specs.declared.command.Command.{Command}
 use Rattle.r4_durable.specs.Meaning.{Beginning, IsNamed, start_of}
 use Rattle.r4_history.specs.Drawn.{numbers_of}
-use Rattle.r4_history.specs.Held.{HoldsNew, names_of}
+use Rattle.r4_history.specs.Held.{HoldsNew, IsOut, names_of}
+use Rattle.r4_history.specs.Tables.{next_at}
 use Rattle.r4_history.proofs.DrawnSteps.{drawn_out}
+use Rattle.r4_history.proofs.Places.{next_there}
 use Rattle.r4_history.proofs.RunSteps.{told_out}
 use Rattle.r4_history.proofs.TaskSteps.{tasks_out}
 use Rattle.r4_locks.specs.Locks.{LocksSeen}
 use Rattle.r4_outside.specs.Device.{State}
-use Rattle.r4_turns.specs.Turns.{IsScript, TurnsSeen, gone_out, turn_at}
+use Rattle.r4_turns.specs.Turns.{HasNext, IsScript, TurnsSeen, gone_out, turn_at}
 use Rattle.r4_turns.specs.declared.out.Numbers.{Numbers}
 use Rattle.r4_turns.specs.declared.out.Out.{Out}
 use Rattle.r4_kept.specs.Accounts.{AreAccounts, CountsCells, cells_for, claims_for}
@@ -39,14 +42,14 @@ use Rattle.r4_kept.specs.Kept.{IsKept}
 use Rattle.r4_kept.specs.Meaning.{HasMeaning, Spares, SparesIn}
 use Rattle.r4_kept.specs.Naming.{Naming, job_named, names_in}
 use Rattle.r4_kept.specs.Tables.{AreTables}
-use Rattle.r4_kept.specs.TasksOut.{AreApart, AreOut, WereDrawn, pins_in}
+use Rattle.r4_kept.specs.TasksOut.{AreApart, AreOut, IsGiven, WereDrawn, pins_in}
 use Rattle.r4_kept.specs.View.{CoreSeen, blocks_of, tables_of}
 use Rattle.r4_kept.specs.declared.parts.Commit.{Commit}
 use Rattle.r4_kept.specs.declared.parts.Numbers.{Numbers as Next}
 use Rattle.r4_kept.proofs.Unused.{IsLike}
 use Rattle.r4_taking.specs.GoingOut.{CanGoOut, IsMet, IsOnDisk}
 use Rattle.r4_taking.proofs.NamesFree.{names_free}
-use Rattle.r4_taking.proofs.OutTurns.{numbers_cases, out_cases, owed_out, scripts_before, sums_rise}
+use Rattle.r4_taking.proofs.OutTurns.{next_same, numbers_cases, out_cases, owed_out, scripts_before, sums_rise}
 use Rattle.r4_taking.proofs.Used.{IsClean, IsNew, IsUsed, all_used, uses_then}
 
 -- ---- what stands in memory then
@@ -518,6 +521,72 @@ module _ {D : Type 0} (r : Naming) (d : State) (c : CoreSeen D) (k : IsKept r d 
       ⊎_elim (λ here. subst (WereDrawn next.next_name) here.1 drawn_now)
       (λ other. drawn_later q n (scripts q has) other.1) (numbers_cases c.turns s is out q n has is_n)
 
+  -- a cell that the task was given has no number of a next command
+  met_unused : (q : ℕ) (n : Numbers) (x : CellSeen) → IsScript after.turns q
+      → numbers_of (turn_at after.turns q) ≡ Some n → Contains met x → n.fresh.next ≤ x.id → x.id < n.fresh.end → ⊥
+  met_unused q n x has is_n there low high = elim (cases_Bool (is_captured c.buffer x.id)) [
+    | inl held ↦ by (buffered c.buffer x.id) refl ((can.met_are x there).captured held)
+    | inr free ↦
+        let lt = ((can.met_are x there).on_disk free).block in
+        let first = (drawn_of q n has is_n).least in
+        absurd (omega (arith, lt, first, small, low))
+  ]
+    where
+      by : (o : Option EntrySeen) → buffered c.buffer x.id ≡ o → option_map (λ (e : EntrySeen). e.cell) o ≡ Some x → ⊥
+      by None at h = absurd (cc h)
+      by (Some e) at h =
+          ⊎_elim (λ here.
+          unused_now x.id e at (subst (λ (m : Numbers). m.fresh.next ≤ x.id) (sym here.1) low)
+          (subst (λ (m : Numbers). x.id < m.fresh.end) (sym here.1) high))
+          (λ other. k.tasks.unused q x.id n e (scripts q has) other.1 at low high)
+          (numbers_cases c.turns s is out q n has is_n)
+
+  -- nor has one that another task was given
+  reach_unused : (p : ℕ) (o : Out) (x : CellSeen) → IsOut c.turns p o → Contains (o.reads ++ o.writes) x
+      → out.numbers.fresh.next ≤ x.id → x.id < out.numbers.fresh.end → ⊥
+  reach_unused p o x was there low high = by (numbers_of (turn_at c.turns s)) refl
+    where
+      below : IsName (blocks_of c) c.numbers.next_name x.id → numbers_of (turn_at c.turns s) ≡ None → ⊥
+      below (inl h) none =
+          let lt = h.0 in
+          let first = (can.draws.drawn none).0 in
+          absurd (omega (arith, lt, first, small, low))
+      below (inr h) none =
+          let lt = h.1 in
+          let first = (can.draws.drawn none).1 in
+          absurd (omega (arith, lt, first, low))
+
+      by : (m : Option Numbers) → numbers_of (turn_at c.turns s) ≡ m → ⊥
+      by None none = below (k.cells.reached_names p o x was there).own none
+      by (Some n) some =
+          let same = ((can.gets can.served.command can.served.next).kept n some).0 in
+          k.tasks.unreached s p n o x is some was there (subst (λ (m : Numbers). m.fresh.next ≤ x.id) same low)
+          (subst (λ (m : Numbers). x.id < m.fresh.end) same high)
+
+  unreached_then : (q p : ℕ) (n : Numbers) (o : Out) (x : CellSeen) → IsScript after.turns q
+      → numbers_of (turn_at after.turns q) ≡ Some n → IsOut after.turns p o → Contains (o.reads ++ o.writes) x
+      → n.fresh.next ≤ x.id → x.id < n.fresh.end → ⊥
+  unreached_then q p n o x has is_n is_out there low high =
+      ⊎_elim (λ here.
+      met_unused q n x has is_n
+      (can.among x (subst (λ (y : Out). Contains (y.reads ++ y.writes) x) (sym here.1) there)) low high)
+      (λ was.
+      ⊎_elim (λ here.
+      reach_unused p o x was.1 there (subst (λ (m : Numbers). m.fresh.next ≤ x.id) (sym here.1) low)
+      (subst (λ (m : Numbers). x.id < m.fresh.end) (sym here.1) high))
+      (λ other. k.tasks.unreached q p n o x (scripts q has) other.1 was.1 there low high)
+      (numbers_cases c.turns s is out q n has is_n))
+      (out_cases c.turns s is out p o is_out)
+
+  given_then : (q : ℕ) (o : Out) (x : Command) → IsOut after.turns q o → next_at after.turns q ≡ Some x
+      → IsGiven (with_id o.numbers.oid x) o
+  given_then q o x is_out next_is =
+      let was : next_at c.turns q ≡ Some x = sym (next_same c.turns s is out q) ∙ next_is in
+      ⊎_elim (λ here.
+      subst (λ (y : Out). IsGiven (with_id y.numbers.oid x) y) here.1
+      (can.given x (ap (next_at c.turns) (sym here.0) ∙ was)))
+      (λ old. k.tasks.given q o x old.1 was) (out_cases c.turns s is out q o is_out)
+
   unused_then : (q i : ℕ) (n : Numbers) (f : EntrySeen) → IsScript after.turns q
       → numbers_of (turn_at after.turns q) ≡ Some n → buffered buffer i ≡ Some f
       → n.fresh.next ≤ i → i < n.fresh.end → ⊥
@@ -560,6 +629,8 @@ module _ {D : Type 0} (r : Naming) (d : State) (c : CoreSeen D) (k : IsKept r d 
             (numbers_cases c.turns s is out p m also is_m))
             (numbers_cases c.turns s is out q n has is_n);
         unused = unused_then;
+        unreached = unreached_then;
+        given = given_then;
       }
 
   -- ---- in a run that names its beginning
@@ -623,3 +694,10 @@ module _ {D : Type 0} (r : Naming) (d : State) (c : CoreSeen D) (k : IsKept r d 
   keeps_out_by turns are_turns =
       subst (λ (x : TurnsSeen). IsKept r d (record c { turns = x; locks = locks; buffer = buffer; numbers = next }))
       (sym are_turns) keeps_out
+
+  -- what the calls ask for
+  pub may_take_out : HasNext c.turns s
+  may_take_out = next_there c.turns s can.served.command can.served.next
+
+  pub may_use : length met ≤ c.buffer.spare
+  may_use = let enough = can.cells in omega (arith, enough)

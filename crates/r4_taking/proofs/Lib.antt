@@ -13,3 +13,4 @@ pub mod OutTurns
 pub mod Used
 pub mod GoneOut
 pub mod MetInMemory
+pub mod GivenOut

@@ -1,19 +1,21 @@
 -- The turns where a task goes out: what is added up over all tasks, room for entries, and numbers.
 use Rattle.std.proofs.Common.{◌≡◌, ◌≢◌, ◌⊎◌, inl, inr, ℕ, zero, suc, ◌+◌, ◌-◌, ◌<◌, List, [], ◌∷◌, Option, Some, None}
-use Rattle.std.proofs.Common.{get_or, set, length, sym, ◌∙◌, ap, arith}
-use Rattle.std.specs.Prelude.{sum_by}
+use Rattle.std.proofs.Common.{get_or, set, length, refl, sym, ◌∙◌, ap, arith}
+use Rattle.std.specs.Prelude.{slice_get, sum_by}
 use Rattle.std.proofs.lemmas.Bool.{cases_eq}
 use Rattle.r4_history.specs.Drawn.{numbers_of}
 use Rattle.r4_history.specs.Held.{IsOut}
+use Rattle.r4_history.specs.Tables.{next_at}
 use Rattle.r4_history.proofs.DrawnSteps.{turn_other}
 use Rattle.r4_history.proofs.Places.{turn_now}
 use Rattle.r4_script.specs.declared.job.Script.{Script}
-use Rattle.r4_turns.specs.Turns.{IsScript, TurnsSeen, given_back, gone_out, no_script, start, turn_at, with_turn}
+use Rattle.r4_turns.specs.Turns.{IsScript, TurnsSeen, commands_at, given_back, gone_out, no_script, start, turn_at}
+use Rattle.r4_turns.specs.Turns.{with_turn}
 use Rattle.r4_turns.specs.declared.out.Numbers.{Numbers}
 use Rattle.r4_turns.specs.declared.out.Out.{Out}
 use Rattle.r4_turns.specs.declared.turn.Turn.{Turn}
 use Rattle.r4_kept.specs.History.{owed, owed_by, owed_for_task, owed_in}
-use Rattle.r4_kept.proofs.Turning.{is_script_before, summed}
+use Rattle.r4_kept.proofs.Turning.{is_script_before, same_of, summed}
 
 owed_at : (turns : List Turn) (scripts : List Script) (i : ℕ) (turn : Turn) → i < length turns → i < length scripts
     → owed_in (set turns i turn) scripts + owed_by (get_or turns i start) (get_or scripts i no_script)
@@ -90,3 +92,7 @@ module _ (t : TurnsSeen) (s : ℕ) (is : IsScript t s) (out : Out) where
         inl (same, cc (sym here ∙ is_n))
     | inr other ↦ inr (other, sym (ap numbers_of (turn_other t s q turn is has.0 other)) ∙ is_n)
   ]
+
+  -- each next command is the one that it was
+  pub next_same : (q : ℕ) → next_at (gone_out t s out) q ≡ next_at t q
+  next_same q = ap (slice_get (commands_at t q)) (same_of t s turn is (λ (x : Turn). x.answered) refl q)

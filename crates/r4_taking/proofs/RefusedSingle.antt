@@ -11,6 +11,7 @@ use Rattle.r4_content.specs.Meaning.{greatest_size}
 use Rattle.r4_content.specs.declared.reply.Reply.{Reply}
 use Rattle.r4_durable.specs.Kept.{IsSession}
 use Rattle.r4_durable.specs.Meaning.{Beginning, IsNamed, means, start_of}
+use Rattle.r4_history.specs.Held.{IsOut}
 use Rattle.r4_history.specs.Tables.{single, with_ended}
 use Rattle.r4_history.proofs.DrawnSteps.{drawn_answered, drawn_entry, drawn_left}
 use Rattle.r4_history.proofs.Places.{next_there}
@@ -25,7 +26,8 @@ use Rattle.r4_trace.specs.Order.{IsOrdered}
 use Rattle.r4_trace.specs.declared.entry.Entry.{Entry}
 use Rattle.r4_trace.specs.declared.entry.Entry.TheVariants.{Ended, Refused}
 use Rattle.r4_trace.proofs.Safely.{safe_push}
-use Rattle.r4_turns.specs.Turns.{HasNext, IsScript, TurnsSeen, answered_at, answered_one, left}
+use Rattle.r4_turns.specs.Turns.{HasNext, IsScript, TurnsSeen, answered_at, answered_one, given_back, left}
+use Rattle.r4_turns.specs.declared.out.Out.{Out}
 use Rattle.r4_kept.specs.Accounts.{AreAccounts, CountsCells, cells_for, claims_for, dones_of}
 use Rattle.r4_kept.specs.Cells.{AreCells}
 use Rattle.r4_kept.specs.Durable.{IsDurable}
@@ -41,6 +43,7 @@ use Rattle.r4_kept.specs.View.{CoreSeen, tables_of}
 use Rattle.r4_kept.proofs.Carried.{at_told, session_told}
 use Rattle.r4_taking.specs.Refusing.{StandsSingle, refused_single}
 use Rattle.r4_taking.proofs.EndedAtoms.{open_before, same_atom, same_count, same_owner}
+use Rattle.r4_taking.proofs.OutTurns.{owed_back}
 use Rattle.r4_taking.proofs.Turned.{TurnsStay, free_then, last_stays, owed_last, there}
 
 module _ {D : Type 0} (r : Naming) (d : State) (c : CoreSeen D) (k : IsKept r d c) (s : ScriptNo) (u : TxnNo)
@@ -162,6 +165,9 @@ module _ {D : Type 0} (r : Naming) (d : State) (c : CoreSeen D) (k : IsKept r d 
         apart = λ q p n m has also other is_n is_m. g.apart q p n m (on.scripts q has) (on.scripts p also) other
             (on.numbers q n has is_n) (on.numbers p m also is_m);
         unused = λ q i n e has is_n. g.unused q i n e (on.scripts q has) (on.numbers q n has is_n);
+        unreached = λ q p n o x has is_n out. g.unreached q p n o x (on.scripts q has) (on.numbers q n has is_n)
+            (on.outs p o out);
+        given = λ q o x has next. g.given q o x (on.outs q o has) (sym (on.nexts q o has) ∙ next);
       }
 
   -- ---- in a run that names its beginning
@@ -226,7 +232,7 @@ module _ {D : Type 0} (r : Naming) (d : State) (c : CoreSeen D) (k : IsKept r d 
           now = g.now;
         }
 
-  keeps_single : IsKept r d after
+  pub keeps_single : IsKept r d after
   keeps_single = record {
     history = history_refused;
     tables = tables_refused;
@@ -263,3 +269,12 @@ module _ {D : Type 0} (r : Naming) (d : State) (c : CoreSeen D) (k : IsKept r d 
       let o = open_in_both (commands greatest_size) None d.clock (tables_of c) trace (k.history.told None tt) s.0
       (single u) is st.stands.transaction in
       (o.0, o.1)
+
+-- Where its task is out, it is taken back first: then there is room for both entries.
+pub room_back : {D : Type 0} (r : Naming) (d : State) (c : CoreSeen D) → IsKept r d c → (s : ℕ) (out : Out)
+    → IsOut c.turns s out
+    → owed (given_back c.turns s out.numbers) + owed_for_commit c.commit + 2 ≤ c.trace.spare
+room_back r d c k s out is =
+    let less = owed_back c.turns s is.is_script (k.history.told None tt).scripts out out.numbers is.is_out in
+    let enough = k.history.room in
+    omega (arith, less, enough)

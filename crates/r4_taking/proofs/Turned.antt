@@ -1,13 +1,14 @@
 -- The turn of one script changes, of which no task is out, and the numbers that were kept for its next command go.
 use Rattle.std.proofs.Common.{◌≡◌, inl, inr, ℕ, ◌+◌, ◌-◌, ◌≤◌, List, Option, Some, None, sym, ◌∙◌, ap, subst, arith}
-use Rattle.std.specs.Prelude.{sum_by}
+use Rattle.std.specs.Prelude.{slice_get, sum_by}
 use Rattle.std.proofs.lemmas.Bool.{cases_eq}
 use Rattle.std.proofs.lemmas.List.{set-set}
 use Rattle.r4_history.specs.Drawn.{numbers_in, numbers_of}
 use Rattle.r4_history.specs.Held.{IsOut}
+use Rattle.r4_history.specs.Tables.{next_at}
 use Rattle.r4_history.proofs.DrawnSteps.{turn_other}
 use Rattle.r4_history.proofs.Places.{is_script_with, turn_now}
-use Rattle.r4_turns.specs.Turns.{IsScript, TurnsSeen, answered_one, left, turn_at, with_turn}
+use Rattle.r4_turns.specs.Turns.{IsScript, TurnsSeen, answered_one, commands_at, left, turn_at, with_turn}
 use Rattle.r4_turns.specs.declared.out.Numbers.{Numbers}
 use Rattle.r4_turns.specs.declared.out.Out.{Out}
 use Rattle.r4_turns.specs.declared.turn.Turn.{Turn}
@@ -22,6 +23,8 @@ pub record TurnsStay (old new : TurnsSeen) : Type 0 where
       → sum_by (λ (x : Turn). f x.out) new.turns ≡ sum_by (λ (x : Turn). f x.out) old.turns
   pub numbers : (q : ℕ) (n : Numbers) → IsScript new q → numbers_of (turn_at new q) ≡ Some n
       → numbers_of (turn_at old q) ≡ Some n
+  -- a command that is out is the next one still
+  pub nexts : (q : ℕ) (out : Out) → IsOut new q out → next_at new q ≡ next_at old q
 
 module _ (t : TurnsSeen) (s : ℕ) (is : IsScript t s) (turn : Turn) (free : (turn_at t s).out ≡ None)
     (none : turn.out ≡ None) (used : numbers_of turn ≡ None) where
@@ -36,6 +39,17 @@ module _ (t : TurnsSeen) (s : ℕ) (is : IsScript t s) (turn : Turn) (free : (tu
     | inr other ↦ sym (ap numbers_of (turn_other t s q turn is has.0 other)) ∙ is_n
   ]
 
+  next_before : (q : ℕ) (out : Out) → IsOut (with_turn t s turn) q out → next_at (with_turn t s turn) q ≡ next_at t q
+  next_before q out has = elim (cases_eq q s) [
+    | inl same ↦
+        let here : (turn_at (with_turn t s turn) q).out ≡ None =
+        ap (λ (m : ℕ). (turn_at (with_turn t s turn) m).out) same
+        ∙ ap (λ (x : Turn). x.out) (turn_now t s turn is) ∙ none in
+        absurd (cc (sym here ∙ has.is_out))
+    | inr other ↦
+        ap (λ (x : Turn). slice_get (commands_at t q) x.answered) (turn_other t s q turn is has.is_script.0 other)
+  ]
+
   pub turned_stays : TurnsStay t (with_turn t s turn)
   turned_stays = record {
     scripts = λ q has. is_script_before t s turn is q has;
@@ -47,6 +61,7 @@ module _ (t : TurnsSeen) (s : ℕ) (is : IsScript t s) (turn : Turn) (free : (tu
         let same : f turn.out ≡ f (turn_at t s).out = ap f (none ∙ sym free) in
         omega (arith, one, same));
     numbers = numbers_before;
+    nexts = next_before;
   }
 
 -- its next command is answered, and it leaves its transaction

@@ -9,6 +9,7 @@ use Rattle.r4_base.specs.Key.{rank}
 use Rattle.r4_buffer.specs.Changed.{in_turn, used}
 use Rattle.r4_buffer.specs.Seen.{buffered, cell_at, is_captured}
 use Rattle.r4_cell.specs.Seen.{CellSeen}
+use Rattle.r4_content.specs.Meaning.{with_id}
 use Rattle.r4_content.specs.declared.command.Command.{Command}
 use Rattle.r4_history.specs.Drawn.{GetsNumbers, numbers_of}
 use Rattle.r4_history.specs.Held.{HoldsNew, IsServed, names_of}
@@ -20,6 +21,7 @@ use Rattle.r4_turns.specs.declared.out.Out.{Out}
 use Rattle.r4_kept.specs.Accounts.{cells_owed, claims_owed}
 use Rattle.r4_kept.specs.History.{owed, owed_for_commit}
 use Rattle.r4_kept.specs.Meaning.{Spares}
+use Rattle.r4_kept.specs.TasksOut.{IsGiven}
 use Rattle.r4_kept.specs.View.{CoreSeen, blocks_of, tables_of}
 use Rattle.r4_kept.specs.declared.parts.Numbers.{Numbers as Next}
 
@@ -54,15 +56,16 @@ pub record DrawsNames (t : TurnsSeen) (script next after : ℕ) (n : Numbers) : 
 -- ---- the step
 
 -- The next command of a script may go out as this task, with these cells met and these numbers next
--- then: it is of its script's open transaction, and no other atom owns a node that it reaches.
--- There is room for its entries, the cells that it may put into memory, and the claims that it may
--- make.
+-- then: it is of its script's open transaction, and no other atom owns a node that it reaches. It
+-- was given what it reaches. There is room for its entries, the cells that it may put into memory,
+-- and the claims that it may make.
 pub record CanGoOut
     {D : Type 0} (d : State) (c : CoreSeen D) (s : ℕ) (out : Out) (met : List CellSeen)
     (next : Next) : Type 0
   where
     pub free : (turn_at c.turns s).out ≡ None
     pub served : IsServed (tables_of c) s out
+    pub given : (x : Command) → next_at c.turns s ≡ Some x → IsGiven (with_id out.numbers.oid x) out
     pub gets : (x : Command) → next_at c.turns s ≡ Some x
         → GetsNumbers c.turns s x c.numbers.next_oid next.next_oid out.numbers
     pub draws : DrawsNames c.turns s c.numbers.next_name next.next_name out.numbers
