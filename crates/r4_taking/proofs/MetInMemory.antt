@@ -1,6 +1,6 @@
 -- In a run that names its beginning, the cells that a reading met are those of the session: they are a part of the tree
 -- in memory, one led to by another from its root on.
-use Rattle.std.proofs.Common.{◌≡◌, ◌⊎◌, inl, inr, ⊎_elim, ℕ, zero, suc, ◌-◌, ◌<◌, ◌≤◌, true, false, List, Option, Some}
+use Rattle.std.proofs.Common.{◌≡◌, inl, inr, ⊎_elim, ℕ, zero, suc, ◌-◌, ◌<◌, ◌≤◌, false, List, Option, Some}
 use Rattle.std.proofs.Common.{None}
 use Rattle.std.proofs.Common.{Contains, refl, sym, ◌∙◌, ap, subst, arith}
 use Rattle.std.specs.Option.{option_map}
@@ -10,7 +10,7 @@ use Rattle.r4_base.specs.Image.{block_at}
 use Rattle.r4_base.specs.Key.{rank}
 use Rattle.r4_base.specs.Tree.{Fits, IsNode, IsTree, Name, Node}
 use Rattle.r4_base.specs.Value.{Value}
-use Rattle.r4_buffer.specs.Seen.{EntrySeen, buffered, cell_at, is_captured}
+use Rattle.r4_buffer.specs.Seen.{EntrySeen, buffered, is_captured}
 use Rattle.r4_cell.specs.Patch.{HaveNames, NamesId, by_name, root_of_pair}
 use Rattle.r4_cell.specs.Seen.{CellSeen, node_of}
 use Rattle.r4_content.specs.Locality.{commands}
