@@ -26,8 +26,8 @@ pub record TurnsDrop (old new : TurnsSeen) (s : ℕ) (out : Out) : Type 0 where
   pub nexts : (q : ℕ) (o : Out) → IsOut new q o → next_at new q ≡ next_at old q
 
 module _ (t : TurnsSeen) (s : ℕ) (is : IsScript t s) (out : Out) (was : (turn_at t s).out ≡ Some out) where
-  module _ (turn : Turn) (none : turn.out ≡ None) (used : numbers_of turn ≡ None) where
-    outs_before : (q : ℕ) (o : Out) → IsOut (with_turn t s turn) q o → (q ≢ s) × IsOut t q o
+  module _ (turn : Turn) (none : turn.out ≡ None) where
+    pub outs_before : (q : ℕ) (o : Out) → IsOut (with_turn t s turn) q o → (q ≢ s) × IsOut t q o
     outs_before q o has = elim (cases_eq q s) [
       | inl same ↦
           let here : (turn_at (with_turn t s turn) q).out ≡ None =
@@ -43,6 +43,7 @@ module _ (t : TurnsSeen) (s : ℕ) (is : IsScript t s) (out : Out) (was : (turn_
       )
     ]
 
+  module _ (turn : Turn) (none : turn.out ≡ None) (used : numbers_of turn ≡ None) where
     numbers_before : (q : ℕ) (n : Numbers) → IsScript (with_turn t s turn) q
         → numbers_of (turn_at (with_turn t s turn) q) ≡ Some n → (q ≢ s) × (numbers_of (turn_at t q) ≡ Some n)
     numbers_before q n has is_n = elim (cases_eq q s) [
@@ -57,7 +58,7 @@ module _ (t : TurnsSeen) (s : ℕ) (is : IsScript t s) (out : Out) (was : (turn_
     pub turned_drops : TurnsDrop t (with_turn t s turn) s out
     turned_drops = record {
       scripts = λ q has. is_script_before t s turn is q has;
-      outs = outs_before;
+      outs = outs_before turn none;
       sums = λ f zero.
           (let all : sum_by (λ (x : Turn). f x.out) (with_turn t s turn).turns + f (turn_at t s).out
           ≡ sum_by (λ (x : Turn). f x.out) t.turns + f turn.out = summed t s turn is (λ (x : Turn). f x.out) in
@@ -66,7 +67,7 @@ module _ (t : TurnsSeen) (s : ℕ) (is : IsScript t s) (out : Out) (was : (turn_
           omega (arith, all, had, now, zero));
       numbers = numbers_before;
       nexts = λ q o has.
-          (let old = outs_before q o has in
+          (let old = outs_before turn none q o has in
           ap (λ (x : Turn). slice_get (commands_at t q) x.answered)
           (turn_other t s q turn is has.is_script.0 old.0));
     }

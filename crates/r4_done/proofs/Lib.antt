@@ -1,2 +1,6 @@
 pub mod Dropped
 pub mod Replaced
+pub mod Named
+pub mod DoneTasks
+pub mod DoneTables
+pub mod DoneHistory

@@ -9,7 +9,8 @@ use Rattle.r4_history.specs.Tables.{next_at}
 use Rattle.r4_history.proofs.DrawnSteps.{turn_other}
 use Rattle.r4_history.proofs.Places.{turn_now}
 use Rattle.r4_script.specs.declared.job.Script.{Script}
-use Rattle.r4_turns.specs.Turns.{IsScript, TurnsSeen, commands_at, given_back, gone_out, no_script, start, turn_at}
+use Rattle.r4_turns.specs.Turns.{IsScript, TurnsSeen, commands_at, dropped, given_back, gone_out, no_script, start}
+use Rattle.r4_turns.specs.Turns.{turn_at}
 use Rattle.r4_turns.specs.Turns.{with_turn}
 use Rattle.r4_turns.specs.declared.out.Numbers.{Numbers}
 use Rattle.r4_turns.specs.declared.out.Out.{Out}
@@ -44,6 +45,12 @@ module _ (t : TurnsSeen) (s : ℕ) (is : IsScript t s) (scripts : length t.turns
   pub owed_back : (n : Numbers) → (turn_at t s).out ≡ Some out → owed (given_back t s n) + 2 ≡ owed t
   owed_back n there =
       let all = owed_change (record (turn_at t s) { out = None; numbers = Some n }) in
+      let was = ap owed_for_task there in
+      omega (arith, all, was)
+
+  pub owed_dropped : (turn_at t s).out ≡ Some out → owed (dropped t s) + 2 ≡ owed t
+  owed_dropped there =
+      let all = owed_change (record (turn_at t s) { out = None }) in
       let was = ap owed_for_task there in
       omega (arith, all, was)
 
