@@ -4,3 +4,4 @@ pub mod Named
 pub mod DoneTasks
 pub mod DoneTables
 pub mod DoneHistory
+pub mod Beginning
