@@ -5,3 +5,4 @@ pub mod DoneTasks
 pub mod DoneTables
 pub mod DoneHistory
 pub mod Beginning
+pub mod Charged
