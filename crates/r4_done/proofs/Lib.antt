@@ -6,3 +6,4 @@ pub mod DoneTables
 pub mod DoneHistory
 pub mod Beginning
 pub mod Charged
+pub mod DoneCounts

@@ -2,7 +2,7 @@
 use Rattle.std.proofs.Common.{◌≡◌, ◌⊎◌, inl, inr, ⊎_elim, ℕ, ◌==◌, Bool, true, false, List, [], ◌∷◌, ◌++◌, Contains}
 use Rattle.std.proofs.Common.{refl, sym}
 use Rattle.std.proofs.Common.{◌∙◌, ap, arith}
-use Rattle.std.proofs.lemmas.Bool.{cases_Bool, eqb-true}
+use Rattle.std.proofs.lemmas.Bool.{cases_Bool, eq-eqb, eqb-true, or_left, or_right}
 use Rattle.std.proofs.lemmas.List.Elements.{Contains-append_cases, Contains-append_left, Contains-append_right}
 use Rattle.r4_atoms.specs.Atoms.{numbers}
 use Rattle.r4_base.proofs.Members.{member_cases, member_here, member_later, no_member}
@@ -56,3 +56,9 @@ reached_one out i h =
     (λ written.
     let x = one_of_numbers out.writes i written in (x.0, Contains-append_right out.reads out.writes x.0 x.1, x.2))
     (Contains-append_cases (numbers (names_of out.reads)) (numbers (names_of out.writes)) i h)
+
+pub has_one : (xs : List CellSeen) (x : CellSeen) → Contains xs x → has_name xs x.id ≡ true
+has_one [] x h = let lt = h.1 in absurd (omega (arith, lt))
+has_one (y ∷ ys) x h =
+    ⊎_elim (λ is. or_left (y.id == x.id) (has_name ys x.id) (eq-eqb y.id x.id (ap (λ (z : CellSeen). z.id) is)))
+    (λ rest. or_right (y.id == x.id) (has_name ys x.id) (has_one ys x rest)) (cons_cases y ys x h)

@@ -1,15 +1,24 @@
 -- The cells of a change stand in memory in place of old ones, and its task uses cells no more: what stands there then.
-use Rattle.std.proofs.Common.{◌≡◌, ◌⊎◌, inl, inr, ⊎_elim, ℕ, ◌-◌, ◌≤◌, ◌==◌, true, cond, List, [], ◌∷◌}
+use Rattle.std.proofs.Common.{◌≡◌, ◌||◌, Bool, false, ◌⊎◌, inl, inr, ⊎_elim, ℕ, ◌-◌, ◌≤◌, ◌==◌, true, cond, List, []}
+use Rattle.std.proofs.Common.{◌∷◌}
 use Rattle.std.proofs.Common.{Some, None}
 use Rattle.std.proofs.Common.{Contains, refl, sym, ◌∙◌, ap, subst, arith}
 use Rattle.std.specs.Prelude.{count_by}
 use Rattle.std.proofs.lemmas.Bool.{cases_Bool, cond-false, cond-true, eqb-true}
 use Rattle.r4_base.specs.declared.things.NodeId.{NodeId}
 use Rattle.r4_buffer.specs.Changed.{Standing, has_name, in_turn, placed, replaced, unused, uses_of}
-use Rattle.r4_buffer.specs.Seen.{BufferSeen, EntrySeen, buffered}
+use Rattle.r4_buffer.specs.Seen.{BufferSeen, EntrySeen, buffered, is_dirty_by}
 use Rattle.r4_cell.specs.Seen.{CellSeen}
 use Rattle.r4_history.proofs.ServingSteps.{cons_here, cons_later}
 use Rattle.r4_kept.proofs.Unused.{IsLike, unused_fewer, unused_like}
+
+or_false : (x : Bool) → (x || false) ≡ x
+or_false true = refl
+or_false false = refl
+
+or_true : (x : Bool) → (x || true) ≡ true
+or_true true = refl
+or_true false = refl
 
 -- one of the new cells stands under the name
 pub record IsPlaced (new : List CellSeen) (i : ℕ) (p : Standing) : Type 0 where
@@ -82,6 +91,33 @@ uses_replaced old new i o = elim (cases_Bool (has_name new i)) [
   ]
 ]
 
+-- ---- what is dirty
+
+like_dirty : (o p : Standing) → IsLike o p → is_dirty_by p ≡ is_dirty_by o
+like_dirty None None h = refl
+like_dirty None (Some f) h = absurd h
+like_dirty (Some e) None h = absurd h
+like_dirty (Some e) (Some f) h = h.dirty
+
+placed_dirty : (xs : List CellSeen) (i : ℕ) (p : Standing)
+    → is_dirty_by (in_turn placed xs i p) ≡ (is_dirty_by p || has_name xs i)
+placed_dirty [] i p = sym (or_false (is_dirty_by p))
+placed_dirty (x ∷ xs) i p =
+    placed_dirty xs i (placed x i p) ∙ elim (cases_Bool (x.id == i)) [
+      | inl same ↦ rw same (sym (or_true (is_dirty_by p)))
+      | inr not ↦ rw not refl
+    ]
+
+dirty_replaced : (old new : List CellSeen) (i : ℕ) (o : Standing) → is_dirty_by (replaced old new i o)
+    ≡ cond (has_name new i) true (cond (has_name old i) false (is_dirty_by o))
+dirty_replaced old new i o = elim (cases_Bool (has_name new i)) [
+  | inl here ↦ rw here (placed_dirty new i o ∙ rw here (or_true (is_dirty_by o)))
+  | inr not ↦ elim (cases_Bool (has_name old i)) [
+    | inl gone ↦ rw (not, gone) refl
+    | inr stays ↦ rw (not, stays) refl
+  ]
+]
+
 -- ---- all cells in memory
 
 -- an entry like one that was there
@@ -130,3 +166,8 @@ module _ (b now : BufferSeen) (old new : List CellSeen) (pins : List NodeId)
       let two = unused_fewer pins i (mid i) in
       let same = ap uses_of (cells i) in
       omega (arith, one, two, same)
+
+  -- what is dirty then
+  pub dirty_then : (i : ℕ) → is_dirty_by (buffered now i)
+      ≡ cond (has_name new i) true (cond (has_name old i) false (is_dirty_by (buffered b i)))
+  dirty_then i = like_dirty (mid i) (buffered now i) (like_mid i) ∙ dirty_replaced old new i (buffered b i)

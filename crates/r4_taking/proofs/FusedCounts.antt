@@ -136,16 +136,16 @@ module _ (k g : ℕ) (less : k < g) where
 
 -- ---- cells
 
-all_from : (P : ℕ → Type 0) (xs : List ℕ) → ((y : ℕ) → Contains xs y → P y) → AllByRecursion P xs
+pub all_from : (P : ℕ → Type 0) (xs : List ℕ) → ((y : ℕ) → Contains xs y → P y) → AllByRecursion P xs
 all_from P [] has = tt
 all_from P (x ∷ xs) has =
     (has x (member_here x xs x refl), all_from P xs (λ y c. has y (member_later x xs y c)))
 
-all_both : (P : ℕ → Type 0) (xs ys : List ℕ) → AllByRecursion P xs → AllByRecursion P ys → AllByRecursion P (xs ++ ys)
+pub all_both : (P : ℕ → Type 0) (xs ys : List ℕ) → AllByRecursion P xs → AllByRecursion P ys → AllByRecursion P (xs ++ ys)
 all_both P [] ys one two = two
 all_both P (x ∷ xs) ys one two = (one.0, all_both P xs ys one.1 two)
 
-distinct_both : (xs ys : List ℕ) → IsDistinct nat_eq xs → IsDistinct nat_eq ys
+pub distinct_both : (xs ys : List ℕ) → IsDistinct nat_eq xs → IsDistinct nat_eq ys
     → ((i : ℕ) → Contains xs i → Contains ys i → ⊥) → IsDistinct nat_eq (xs ++ ys)
 distinct_both [] ys one two apart = two
 distinct_both (x ∷ xs) ys one two apart =
