@@ -192,6 +192,42 @@ picked_once p (x ∷ xs) once =
       | inr not ↦ rw not tail
     ]
 
+picked_length : (p : CellSeen → Bool) (xs : List CellSeen) → length (picked p xs) ≡ count_by p xs
+picked_length p [] = refl
+picked_length p (x ∷ xs) =
+    let rest = picked_length p xs in
+    let all = sum_by-cons (λ (y : CellSeen). cond (p y) 1 0) x xs in
+    elim (cases_Bool (p x)) [
+      | inl is ↦
+          let one = cond-true {A = ℕ} (p x) 1 0 is in
+          let same = ap (λ (l : List ℕ). length l) (cond-true (p x) (x.id ∷ picked p xs) (picked p xs) is) in
+          omega (arith, rest, all, one, same)
+      | inr not ↦
+          let one = cond-false {A = ℕ} (p x) 1 0 not in
+          let same = ap (λ (l : List ℕ). length l) (cond-false (p x) (x.id ∷ picked p xs) (picked p xs) not) in
+          omega (arith, rest, all, one, same)
+    ]
+
+picked_count : (test : ℕ → Bool) (p : CellSeen → Bool) (xs : List CellSeen)
+    → count_by test (picked p xs) ≡ count_by (λ (x : CellSeen). p x && test x.id) xs
+picked_count test p [] = refl
+picked_count test p (x ∷ xs) =
+    let rest = picked_count test p xs in
+    let all = sum_by-cons (λ (y : CellSeen). cond (p y && test y.id) 1 0) x xs in
+    let here = sum_by-cons (λ (i : ℕ). cond (test i) 1 0) x.id (picked p xs) in
+    elim (cases_Bool (p x)) [
+      | inl is ↦
+          let one : cond {A = ℕ} (p x && test x.id) 1 0 ≡ cond (test x.id) 1 0 =
+          ap (λ (y : Bool). cond {A = ℕ} (y && test x.id) 1 0) is in
+          let same = ap (λ (l : List ℕ). count_by test l) (cond-true (p x) (x.id ∷ picked p xs) (picked p xs) is) in
+          omega (arith, rest, all, here, one, same)
+      | inr not ↦
+          let one : cond {A = ℕ} (p x && test x.id) 1 0 ≡ 0 =
+          ap (λ (y : Bool). cond {A = ℕ} (y && test x.id) 1 0) not in
+          let same = ap (λ (l : List ℕ). count_by test l) (cond-false (p x) (x.id ∷ picked p xs) (picked p xs) not) in
+          omega (arith, rest, all, one, same)
+    ]
+
 -- ---- the cells of an atom
 
 module _ (b now : BufferSeen) (s after : AtomsSeen) (a : ℕ) (old new : List CellSeen)
@@ -318,8 +354,9 @@ module _ (b now : BufferSeen) (s after : AtomsSeen) (a : ℕ) (old new : List Ce
 
     -- so many are counted then: the same numbers less those that go, and those that come
     pub counts_done : (after_cells after_fresh : ℕ)
-        → after_cells + length gone ≡ cells + length come
-        → after_fresh + count_by (nat_le (2 ^ 63)) gone ≡ fresh + count_by (nat_le (2 ^ 63)) come
+        → after_cells + count_by goes old ≡ cells + count_by comes new
+        → after_fresh + count_by (λ x. goes x && nat_le (2 ^ 63) x.id) old
+        ≡ fresh + count_by (λ x. comes x && nat_le (2 ^ 63) x.id) new
         → CountsCells now after a after_cells after_fresh
     counts_done after_cells after_fresh cells_then fresh_then = record {
       nodes = nodes;
@@ -341,15 +378,65 @@ module _ (b now : BufferSeen) (s after : AtomsSeen) (a : ℕ) (old new : List Ce
           let two = ones gone in
           let three = ones h.nodes in
           let had = h.cells_are in
-          omega (arith, all, rest, one, two, three, had, cells_then);
+          let less = picked_length goes old in
+          let more = picked_length comes new in
+          omega (arith, all, rest, one, two, three, had, cells_then, less, more);
       fresh_are =
           let f = λ (i : ℕ). cond (nat_le (2 ^ 63) i) 1 0 in
           let all = sum_by-append f (rid gone h.nodes) come in
           let rest = rid_sum f gone h.nodes (picked_once goes old old_once) gone_there in
           let had = h.fresh_are in
-          omega (arith, all, rest, had, fresh_then);
+          let less = picked_count (nat_le (2 ^ 63)) goes old in
+          let more = picked_count (nat_le (2 ^ 63)) comes new in
+          omega (arith, all, rest, had, fresh_then, less, more);
     }
       where
         ones : (xs : List ℕ) → sum_by (λ (i : ℕ). 1) xs ≡ length xs
         ones [] = refl
         ones (x ∷ xs) = let e = sum_by-cons (λ (i : ℕ). 1) x xs in let r = ones xs in omega (arith, e, r)
+
+  -- another atom has the cells that it had
+  module _ (other : ℕ) (unlike : other ≢ a) (cells fresh : ℕ) (h : CountsCells b s other cells fresh) where
+    apart : (i : ℕ) → owner_of s i ≡ Some other → is_dirty_by (buffered b i) ≡ true → is_touched old new i ≡ false
+    apart i is filled = false_from_ne_true (is_touched old new i) (λ touched.
+        some_unlike (sym is ∙ own i touched filled))
+      where
+        some_unlike : Some other ≡ Some a → ⊥
+        some_unlike e = unlike (cc e)
+
+    same_then : (i : ℕ) → is_touched old new i ≡ false
+        → (owner_of after i ≡ owner_of s i) × (is_dirty_by (buffered now i) ≡ is_dirty_by (buffered b i))
+    same_then i not =
+        let both = neither_of (has_name old i) (has_name new i) not in (
+          owners i ∙ cond-false (is_touched old new i) (Some a) (owner_of s i) not,
+          dirty i ∙ cond-false (has_name new i) true _ both.1
+              ∙ cond-false (has_name old i) false (is_dirty_by (buffered b i)) both.0,
+        )
+      where
+        neither_of : (x y : Bool) → (x || y) ≡ false → (x ≡ false) × (y ≡ false)
+        neither_of true y e = absurd (cc e)
+        neither_of false y e = (refl, e)
+
+    untouched_by : (i : ℕ) → owner_of after i ≡ Some other → is_touched old new i ≡ false
+    untouched_by i is = false_from_ne_true (is_touched old new i) (λ touched.
+        some_unlike (sym is ∙ owned_touched i touched))
+      where
+        some_unlike : Some other ≡ Some a → ⊥
+        some_unlike e = unlike (cc e)
+
+    pub counts_stay : CountsCells now after other cells fresh
+    counts_stay = record {
+      nodes = h.nodes;
+      different = h.different;
+      just = λ i. (
+        λ has.
+            (let e = (h.just i).0 has in
+            let same = same_then i (apart i e.0 e.1) in
+            (same.0 ∙ e.0, same.1 ∙ e.1)),
+        λ e.
+            (let same = same_then i (untouched_by i e.0) in
+            (h.just i).1 (sym same.0 ∙ e.0, sym same.1 ∙ e.1)),
+      );
+      cells_are = h.cells_are;
+      fresh_are = h.fresh_are;
+    }
