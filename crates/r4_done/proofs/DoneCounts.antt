@@ -1,12 +1,12 @@
 -- A task is done: the cells of its atom, counted. Those that go are counted no more, and those that come are.
-use Rattle.std.proofs.Common.{◌≡◌, ◌≢◌, ◌⊎◌, inl, inr, ⊎_elim, ℕ, ◌+◌, ◌≤◌, ◌^◌, ◌==◌, ◌&&◌, ◌||◌, not, Bool, true}
+use Rattle.std.proofs.Common.{◌≡◌, ◌≢◌, inl, inr, ⊎_elim, ℕ, ◌+◌, ◌^◌, ◌==◌, ◌&&◌, ◌||◌, not, Bool, true}
 use Rattle.std.proofs.Common.{false, cond}
-use Rattle.std.proofs.Common.{List, [], ◌∷◌, ◌++◌, length, Option, Some, None, Contains, refl, sym, ◌∙◌, ap, subst}
+use Rattle.std.proofs.Common.{List, [], ◌∷◌, ◌++◌, length, Some, Contains, refl, sym, ◌∙◌, ap, subst}
 use Rattle.std.proofs.Common.{arith}
 use Rattle.std.proofs.Common.{true≢false}
 use Rattle.std.specs.Prelude.{count_by, nat_eq, nat_le, sum_by}
 use Rattle.std.specs.List.{AllByRecursion, IsDistinct}
-use Rattle.std.proofs.lemmas.Bool.{and_parts, cases_Bool, cases_eq, cond-false, cond-true, eqb-true, false_from_ne_true}
+use Rattle.std.proofs.lemmas.Bool.{and_parts, cases_Bool, cond-false, cond-true, eqb-true, false_from_ne_true}
 use Rattle.std.proofs.lemmas.Bool.{eq-eqb, ne_eqb, or_left, or_right}
 use Rattle.std.proofs.lemmas.List.Elements.{Contains-append_cases, Contains-append_left, Contains-append_right}
 use Rattle.std.proofs.lemmas.List.Sums.{sum_by-append, sum_by-cons}
@@ -21,6 +21,7 @@ use Rattle.r4_history.proofs.ServingSteps.{cons_cases, cons_here, cons_later}
 use Rattle.r4_patch.specs.Joining.{ids_of}
 use Rattle.r4_kept.specs.Accounts.{CountsCells}
 use Rattle.r4_taking.proofs.FusedCounts.{all_from, distinct_both}
+use Rattle.r4_done.specs.Doing.{is_less, is_more}
 use Rattle.r4_done.proofs.DoneTables.{is_touched}
 use Rattle.r4_done.proofs.Named.{has_one, one_named}
 
@@ -236,12 +237,11 @@ module _ (b now : BufferSeen) (s after : AtomsSeen) (a : ℕ) (old new : List Ce
     ≡ cond (has_name new i) true (cond (has_name old i) false (is_dirty_by (buffered b i))))
     (owners : (n : ℕ) → owner_of after n ≡ cond (is_touched old new n) (Some a) (owner_of s n))
     (own : (n : ℕ) → is_touched old new n ≡ true → is_dirty_by (buffered b n) ≡ true → owner_of s n ≡ Some a) where
-  -- an old cell that was counted and goes, and a new one that was not counted
-  abbrev pub goes : CellSeen → Bool
-  goes x = is_dirty_by (buffered b x.id) && not (has_name new x.id)
+  abbrev goes : CellSeen → Bool
+  goes = is_less b new
 
-  abbrev pub comes : CellSeen → Bool
-  comes x = not (is_dirty_by (buffered b x.id))
+  abbrev comes : CellSeen → Bool
+  comes = is_more b
 
   touched_old : (x : CellSeen) → Contains old x → is_touched old new x.id ≡ true
   touched_old x h = or_left (has_name old x.id) (has_name new x.id) (has_one old x h)
@@ -354,9 +354,9 @@ module _ (b now : BufferSeen) (s after : AtomsSeen) (a : ℕ) (old new : List Ce
 
     -- so many are counted then: the same numbers less those that go, and those that come
     pub counts_done : (after_cells after_fresh : ℕ)
-        → after_cells + count_by goes old ≡ cells + count_by comes new
-        → after_fresh + count_by (λ x. goes x && nat_le (2 ^ 63) x.id) old
-        ≡ fresh + count_by (λ x. comes x && nat_le (2 ^ 63) x.id) new
+        → after_cells + count_by (is_less b new) old ≡ cells + count_by (is_more b) new
+        → after_fresh + count_by (λ x. is_less b new x && nat_le (2 ^ 63) x.id) old
+        ≡ fresh + count_by (λ x. is_more b x && nat_le (2 ^ 63) x.id) new
         → CountsCells now after a after_cells after_fresh
     counts_done after_cells after_fresh cells_then fresh_then = record {
       nodes = nodes;

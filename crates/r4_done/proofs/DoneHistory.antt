@@ -1,5 +1,5 @@
 -- A task is done: the trace, and what the tables tell of it.
-use Rattle.std.proofs.Common.{◌≡◌, ℕ, ◌+◌, ◌≤◌, ◌∷◌, List, Option, Some, None, refl, sym, ◌∙◌, ap, subst, arith}
+use Rattle.std.proofs.Common.{◌≡◌, ℕ, ◌+◌, ◌≤◌, ◌∷◌, List, Option, Some, None, sym, ◌∙◌, ap, subst, arith}
 use Rattle.std.specs.Prelude.{slice_get}
 use Rattle.std.specs.Option.{option_map}
 use Rattle.r4_atoms.specs.Atoms.{AtomsSeen, state_of, with_state}
@@ -27,7 +27,7 @@ use Rattle.r4_turns.specs.Turns.{IsScript, TurnsSeen, answered_at, answered_one,
 use Rattle.r4_turns.specs.declared.out.Out.{Out}
 use Rattle.r4_turns.specs.declared.turn.Open.{Open}
 use Rattle.r4_turns.specs.declared.turn.Turn.{Turn}
-use Rattle.r4_kept.specs.History.{IsHistory, owed, owed_for_commit}
+use Rattle.r4_kept.specs.History.{IsHistory, owed}
 use Rattle.r4_kept.specs.Kept.{IsKept}
 use Rattle.r4_kept.specs.Naming.{Naming, names_in}
 use Rattle.r4_kept.specs.Steps.{with_entry}
@@ -44,7 +44,8 @@ module _ {D : Type 0} (r : Naming) (d : State) (c : CoreSeen D) (k : IsKept r d 
     (begins : (o : Option Beginning) → BeginsWith (names_in r) d.blocks o
     → BeginsAt k.history.first (option_map start_of o))
     (atom : ℕ) (account : Account) (atoms : AtomsSeen) (txns : atoms.txns ≡ c.atoms.txns)
-    (states : atoms.atoms ≡ (with_state c.atoms atom (record (state_of c.atoms atom) { account = account })).atoms) where
+    (states : atoms.atoms
+    ≡ (with_state c.atoms atom (record (state_of c.atoms atom) { account = account })).atoms) where
   abbrev trace : List Entry
   trace = c.trace.entries
 
@@ -75,8 +76,8 @@ module _ {D : Type 0} (r : Naming) (d : State) (c : CoreSeen D) (k : IsKept r d 
       let h = told_dropped w start d.clock (tables_of c) trace (k.history.told o named) s.0 is in
       let charged = told_charged w start d.clock t trace h atom account in
       told_owners w start d.clock
-      (record t { atoms = with_state c.atoms atom (record (state_of c.atoms atom) { account = account }) }) trace charged
-      atoms txns states
+      (record t { atoms = with_state c.atoms atom (record (state_of c.atoms atom) { account = account }) }) trace
+      charged atoms txns states
 
   stands_away : (o : Option Open) → Stands c.turns s.0 o (Some had) → Stands away s.0 o (Some had)
   stands_away o st =

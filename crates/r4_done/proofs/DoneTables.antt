@@ -1,10 +1,8 @@
 -- A task is done: what tasks hold that are still out, and what the tables tell.
-use Rattle.std.proofs.Common.{◌≡◌, ◌≢◌, ◌⊎◌, inl, inr, ⊎_elim, ℕ, ◌+◌, ◌<◌, ◌≤◌, ◌||◌, Bool, true, false, cond, List}
-use Rattle.std.proofs.Common.{◌++◌, ◌∷◌}
+use Rattle.std.proofs.Common.{◌≡◌, ◌≢◌, ⊎_elim, ℕ, ◌||◌, Bool, false, cond, List}
 use Rattle.std.proofs.Common.{◌-◌, get_or, Option, Some, None, Contains, refl, sym, ◌∙◌, ap, subst, arith}
 use Rattle.std.proofs.lemmas.Bool.{cond-false, false_from_ne_true, or_cases}
 use Rattle.r4_atoms.specs.Atoms.{AtomsSeen, TxnSeen, no_txn, numbers, owner_of}
-use Rattle.r4_base.specs.declared.things.NodeId.{NodeId}
 use Rattle.r4_buffer.specs.Changed.{has_name}
 use Rattle.r4_cell.specs.Seen.{CellSeen}
 use Rattle.r4_history.specs.Drawn.{numbers_in}
@@ -15,8 +13,7 @@ use Rattle.r4_history.proofs.TaskSteps.{tasks_owned}
 use Rattle.r4_history.proofs.Places.{is_script_with, turn_now}
 use Rattle.r4_locks.specs.Locks.{AreHolds, LocksSeen, OthersAsBefore, task_at}
 use Rattle.r4_outside.specs.Device.{State}
-use Rattle.r4_patch.specs.Joining.{ids_of}
-use Rattle.r4_turns.specs.Turns.{IsScript, TurnsSeen, answered_one, dropped, left, turn_at}
+use Rattle.r4_turns.specs.Turns.{IsScript, answered_one, dropped, left, turn_at}
 use Rattle.r4_turns.specs.declared.out.Out.{Out}
 use Rattle.r4_turns.specs.declared.turn.Turn.{Turn}
 use Rattle.r4_kept.specs.Kept.{IsKept}

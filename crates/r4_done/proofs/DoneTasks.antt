@@ -1,5 +1,5 @@
 -- A task is done: what is said of the tasks that are still out.
-use Rattle.std.proofs.Common.{◌≡◌, ◌≢◌, ◌⊎◌, inl, inr, ⊎_elim, ℕ, ◌+◌, ◌-◌, ◌<◌, ◌≤◌, List, ◌++◌, Option, Some}
+use Rattle.std.proofs.Common.{◌≡◌, ◌≢◌, ◌⊎◌, ⊎_elim, ℕ, ◌<◌, ◌≤◌, List, Option, Some}
 use Rattle.std.proofs.Common.{Contains, refl}
 use Rattle.std.proofs.Common.{sym}
 use Rattle.std.proofs.Common.{◌∙◌, ap, subst, arith}
@@ -16,7 +16,7 @@ use Rattle.r4_turns.specs.declared.out.Numbers.{Numbers}
 use Rattle.r4_turns.specs.declared.out.Out.{Out}
 use Rattle.r4_kept.specs.Kept.{IsKept}
 use Rattle.r4_kept.specs.Naming.{Naming}
-use Rattle.r4_kept.specs.TasksOut.{AreApart, AreOut, pins_in}
+use Rattle.r4_kept.specs.TasksOut.{AreOut, pins_in}
 use Rattle.r4_kept.specs.View.{CoreSeen}
 use Rattle.r4_done.proofs.Dropped.{TurnsDrop}
 use Rattle.r4_done.proofs.Named.{one_of_ids}

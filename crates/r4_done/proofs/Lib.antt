@@ -7,3 +7,4 @@ pub mod DoneHistory
 pub mod Beginning
 pub mod Charged
 pub mod DoneCounts
+pub mod DoneAccounts

@@ -141,7 +141,8 @@ all_from P [] has = tt
 all_from P (x ∷ xs) has =
     (has x (member_here x xs x refl), all_from P xs (λ y c. has y (member_later x xs y c)))
 
-pub all_both : (P : ℕ → Type 0) (xs ys : List ℕ) → AllByRecursion P xs → AllByRecursion P ys → AllByRecursion P (xs ++ ys)
+pub all_both : (P : ℕ → Type 0) (xs ys : List ℕ) → AllByRecursion P xs → AllByRecursion P ys
+    → AllByRecursion P (xs ++ ys)
 all_both P [] ys one two = two
 all_both P (x ∷ xs) ys one two = (one.0, all_both P xs ys one.1 two)
 
