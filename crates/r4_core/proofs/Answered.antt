@@ -243,8 +243,7 @@ module _ {D : Type 0} (r : Naming) (d : State) (c : CoreSeen D) (k : IsKept r d 
               (let had = g.objects a (opens a opened) in
               let more = dones a in
               (omega (arith, had.0, more), omega (arith, had.1, more)));
-          sealed = g.sealed;
-          rests = g.rests;
+          holds = g.holds;
           room_to_capture = omega (arith, cells, g.room_to_capture);
           room_for_cells = omega (arith, cells, g.room_for_cells);
           room_to_defer = omega (arith, claims, g.room_to_defer);
@@ -264,7 +263,12 @@ module _ {D : Type 0} (r : Naming) (d : State) (c : CoreSeen D) (k : IsKept r d 
             (λ yes. subst IsSome (sym (owners i)) ((g.dirty i e at).0 yes)),
             (λ some. (g.dirty i e at).1 (subst IsSome (owners i) some)),
           );
+          fresh = g.fresh;
           clean = g.clean;
+          nodes = λ x at i. (
+            (λ has. owners i ∙ (g.nodes x at i).0 has),
+            (λ own. (g.nodes x at i).1 (sym (owners i) ∙ own)),
+          );
           commit = g.commit;
         }
 
@@ -316,6 +320,7 @@ module _ {D : Type 0} (r : Naming) (d : State) (c : CoreSeen D) (k : IsKept r d 
     first = k.history.first;
     drawn = drawn;
     begins = k.history.begins;
+    committed = k.history.committed;
     room = omega (arith, room);
   }
 

@@ -217,8 +217,11 @@ module _ {D : Type 0} (r : Naming) (old d : State) (dev : D) (job : Job) (thresh
         counted = λ a opened. absurd (none_begun a opened.atom);
         unknown = λ a none. refl;
         objects = λ a opened. absurd (none_begun a opened.atom);
-        sealed = λ sound. refl;
-        rests = λ sound none. (refl, λ b. none_in o.super40.block_count b);
+        holds = λ sound. record {
+          none_sealed = refl;
+          none_held = refl;
+          none_placed = λ b. none_in o.super40.block_count b;
+        };
         room_to_capture = omega (arith, cells);
         room_for_cells = omega (arith, cells);
         room_to_defer = omega (arith, claims);
@@ -240,11 +243,13 @@ module _ {D : Type 0} (r : Naming) (old d : State) (dev : D) (job : Job) (thresh
         buffered_names = λ i e at. absurd (cc at);
         reached_names = λ s out x is. absurd (none_out job s out is);
         dirty = λ i e at. absurd (cc at);
+        fresh = λ i e at. absurd (cc at);
         clean = λ sound. record {
           accepted = λ i e at. absurd (cc at);
           same = λ tells i e at. absurd (cc at);
           names = λ i e at. absurd (cc at);
         };
+        nodes = λ k at. absurd (cc at);
         commit = tt;
       }
 
@@ -343,6 +348,7 @@ module _ {D : Type 0} (r : Naming) (old d : State) (dev : D) (job : Job) (thresh
     first = o.super40.oid;
     drawn = drawn_first o.super40.oid job (let small = found.super40.next_id.1 in omega (arith, small));
     begins = first_is;
+    committed = λ k at. absurd (cc at);
     room = omega (arith, room);
   }
 

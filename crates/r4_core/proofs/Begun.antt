@@ -24,6 +24,7 @@ use Rattle.r4_history.proofs.AtomSteps.{begun_or_new, count_after, state_after, 
 use Rattle.r4_history.proofs.DrawnSteps.{drawn_answered, drawn_entered, drawn_entry}
 use Rattle.r4_history.proofs.Places.{is_script_with, next_there, turn_now}
 use Rattle.r4_history.proofs.TaskSteps.{begun_follow, tasks_answered, tasks_entered}
+use Rattle.r4_history.proofs.RunSteps.{commit_is}
 use Rattle.r4_history.proofs.Told.{told_begin, told_single}
 use Rattle.r4_outside.specs.Device.{State, TellsCrashes}
 use Rattle.r4_sets.specs.Atoms.{told}
@@ -49,7 +50,7 @@ use Rattle.r4_kept.specs.Steps.{StandsAlone, with_entry}
 use Rattle.r4_kept.specs.Story.{Story}
 use Rattle.r4_kept.specs.Tables.{AreTables}
 use Rattle.r4_kept.specs.TasksOut.{AreOut, pins_in}
-use Rattle.r4_kept.specs.View.{CoreSeen, tables_of}
+use Rattle.r4_kept.specs.View.{CoreSeen, committing, tables_of}
 use Rattle.r4_core.proofs.Answered.{TurnsGoOn, answered_goes_on, goes_on_twice, none_outside, not_out, turned_goes_on}
 use Rattle.r4_kept.proofs.Carried.{at_told, session_told}
 use Rattle.r4_kept.proofs.Dones.{atom_stays, dones_on}
@@ -206,8 +207,7 @@ module _ {D : Type 0} (r : Naming) (d : State) (c : CoreSeen D) (k : IsKept r d 
               let born : (account_of new a).born ≡ 0 = ap (λ (x : Account). x.born) acc in
               let gone : (account_of new a).gone ≡ 0 = ap (λ (x : Account). x.gone) acc in
               (omega (arith, born), omega (arith, gone)))) (open_or_new a opened);
-          sealed = g.sealed;
-          rests = g.rests;
+          holds = g.holds;
           room_to_capture = omega (arith, cells, spare, g.room_to_capture);
           room_for_cells = omega (arith, cells, g.room_for_cells);
           room_to_defer = omega (arith, claims, g.room_to_defer);
@@ -228,6 +228,11 @@ module _ {D : Type 0} (r : Naming) (d : State) (c : CoreSeen D) (k : IsKept r d 
       first = k.history.first;
       drawn = drawn_entry k.history.first turns c.numbers.next_oid trace drawn (Begin u s) tt;
       begins = k.history.begins;
+      committed = λ x at.
+          (let was = commit_is (commands greatest_size) None d.clock (tables_of c) trace (k.history.told None tt) x.atom.0
+          (ap committing at) in
+          ap (λ (y : AtomState). y.committed) (state_before c.atoms new s.0 b states x.atom.0 was.0.begun)
+          ∙ k.history.committed x at);
       room = omega (arith, fewer, room);
     }
 
@@ -248,7 +253,12 @@ module _ {D : Type 0} (r : Naming) (d : State) (c : CoreSeen D) (k : IsKept r d 
             (λ yes. subst IsSome (sym (names i)) ((g.dirty i e at).0 yes)),
             (λ some. (g.dirty i e at).1 (subst IsSome (names i) some)),
           );
+          fresh = g.fresh;
           clean = g.clean;
+          nodes = λ x at i. (
+            (λ has. names i ∙ (g.nodes x at i).0 has),
+            (λ own. (g.nodes x at i).1 (sym (names i) ∙ own)),
+          );
           commit = g.commit;
         }
 

@@ -3,6 +3,7 @@ use Rattle.std.proofs.Common.{◌≡◌, inl, inr, ℕ, ◌+◌, Option, Some, N
 use Rattle.std.specs.Prelude.{slice_get, sum_by}
 use Rattle.std.specs.Option.{option_map}
 use Rattle.std.proofs.lemmas.Bool.{cases_eq}
+use Rattle.r4_atoms.specs.Atoms.{numbers}
 use Rattle.r4_buffer.specs.Changed.{in_turn, unused, uses_of}
 use Rattle.r4_buffer.specs.Seen.{BufferSeen, IsLawful, buffered}
 use Rattle.r4_cell.specs.Seen.{CellSeen, node_of}
@@ -23,7 +24,7 @@ use Rattle.r4_turns.specs.Turns.{IsScript, TurnsSeen, commands_at, given_back, t
 use Rattle.r4_turns.specs.declared.out.Out.{Out}
 use Rattle.r4_turns.specs.declared.turn.Turn.{Turn}
 use Rattle.r4_kept.specs.Accounts.{AreAccounts, CountsCells, cells_for, claims_for}
-use Rattle.r4_kept.specs.Cells.{AreCells, FitsCommit, HasNames, IsWritingOf}
+use Rattle.r4_kept.specs.Cells.{AreCells, FitsCommit, HasNames, IsAccepted, IsWritingOf}
 use Rattle.r4_kept.specs.History.{IsHistory}
 use Rattle.r4_kept.specs.Kept.{HasStory, IsKept}
 use Rattle.r4_kept.specs.Meaning.{HasMeaning}
@@ -33,7 +34,7 @@ use Rattle.r4_kept.specs.TasksOut.{AreOut, pins_in}
 use Rattle.r4_kept.specs.View.{CoreSeen, blocks_of, tables_of}
 use Rattle.r4_kept.specs.declared.parts.Commit.{Commit}
 use Rattle.r4_kept.proofs.Turning.{is_script_before, out_of_others, owed_less, same_of, summed}
-use Rattle.r4_kept.proofs.Unused.{AreLike, IsLike, none_there, readable_like, same_captured, same_dirty, unused_fewer}
+use Rattle.r4_kept.proofs.Unused.{AreLike, IsLike, none_there, readable_like, same_dirty, unused_fewer}
 use Rattle.r4_kept.proofs.Unused.{unused_like, was_there}
 
 module _ (t : TurnsSeen) (s : ℕ) (out : Out) (is : IsScript t s) (was : (turn_at t s).out ≡ Some out) where
@@ -97,6 +98,7 @@ module _ {D : Type 0} (r : Naming) (d : State) (c : CoreSeen D) (k : IsKept r d 
     first = k.history.first;
     drawn = drawn_back k.history.first c.turns c.numbers.next_oid c.trace.entries k.history.drawn s out is was;
     begins = k.history.begins;
+    committed = k.history.committed;
     room =
         let fewer = owed_less c.turns s (back c.turns s out is was) is (λ x. omega arith) in
         let had = k.history.room in
@@ -133,27 +135,38 @@ module _ {D : Type 0} (r : Naming) (d : State) (c : CoreSeen D) (k : IsKept r d 
         counted = λ a opened. counts_back a _ _ (g.counted a opened);
         unknown = g.unknown;
         objects = g.objects;
-        sealed = g.sealed;
-        rests = g.rests;
+        holds = g.holds;
         room_to_capture = omega (arith, cells, g.room_to_capture);
         room_for_cells = omega (arith, cells, g.room_for_cells, room);
         room_to_defer = omega (arith, claims, g.room_to_defer);
       }
 
-  fits_back : (commit : Option Commit) → FitsCommit d c.buffer commit → FitsCommit d buffer commit
-  fits_back None h = tt
-  fits_back (Some x) h = by x.work h
+  fits_back : (blocks : ℕ) (commit : Option Commit) → FitsCommit d c.buffer blocks commit
+      → FitsCommit d buffer blocks commit
+  fits_back blocks None h = tt
+  fits_back blocks (Some x) h = by x.work h
     where
-      by : (w : Option CommitSeen) → IsWritingOf d c.buffer w → IsWritingOf d buffer w
-      by None h = tt
+      by : (w : Option CommitSeen) → IsWritingOf d c.buffer blocks (numbers x.nodes) w
+          → IsWritingOf d buffer blocks (numbers x.nodes) w
+      by None h = h
       by (Some w) h = record {
         fits = h.fits;
         unfinished = h.unfinished;
+        within = h.within;
+        super40 = h.super40;
+        count = h.count;
         base = h.base;
         reads = h.reads;
         apart = λ i p f target at.
             (let e = was_there c.buffer buffer like i f at in
-            same_captured c.buffer buffer like lawful still i ∙ h.apart i p e.entry target e.is);
+            e.like.dirty ∙ h.apart i p e.entry target e.is);
+        below = h.below;
+        accepted = λ i f has at.
+            (let e = was_there c.buffer buffer like i f at in
+            subst (IsAccepted blocks) (sym e.like.cell) (h.accepted i e.entry has e.is));
+        lands = λ tells i f has at.
+            (let e = was_there c.buffer buffer like i f at in
+            ap (λ (y : CellSeen). y.block) e.like.cell ∙ h.lands tells i e.entry has e.is);
       }
 
   cells_back : AreCells d after
@@ -174,7 +187,11 @@ module _ {D : Type 0} (r : Naming) (d : State) (c : CoreSeen D) (k : IsKept r d 
               (λ some. e.like.dirty ∙ (g.dirty i e.entry e.is).1 some),
             ));
         clean = λ sound. readable_like c.buffer buffer like lawful still d (blocks_of c) (g.clean sound);
-        commit = fits_back c.commit g.commit;
+        fresh = λ i f at high.
+            (let e = was_there c.buffer buffer like i f at in
+            e.like.dirty ∙ g.fresh i e.entry e.is high);
+        nodes = g.nodes;
+        commit = fits_back (blocks_of c) c.commit g.commit;
       }
 
   tasks_after : AreOut after

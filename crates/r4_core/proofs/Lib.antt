@@ -6,4 +6,12 @@ mod Replied
 mod Begun
 mod Pushed
 mod GivingBack
+mod Writing
 mod Parting
+mod Heading
+mod Footing
+mod Emptied
+mod SealedEmpty
+mod Sparing
+mod Advanced
+mod Stepped

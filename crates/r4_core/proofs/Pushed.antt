@@ -146,6 +146,7 @@ module _ {D : Type 0} (r : Naming) (d : State) (c : CoreSeen D) (k : IsKept r d 
         first = h.first;
         drawn = h.drawn;
         begins = h.begins;
+        committed = h.committed;
         room = let had = h.room in omega (arith, had, le);
       }) (record { tasks = k.tables.tasks; ordered = k.tables.ordered })
 
@@ -175,6 +176,7 @@ module _ {D : Type 0} (r : Naming) (d : State) (c : CoreSeen D) (k : IsKept r d 
           first = h.first;
           drawn = drawn_pushed h.first c.turns c.numbers.next_oid c.trace.entries h.drawn s y is scripts;
           begins = h.begins;
+          committed = h.committed;
           room =
               let owes = owed_pushed c.turns s y in
               omega (arith, owes, more);

@@ -1,60 +1,106 @@
 //! A commit goes on.
 
-ghost use Rattle.std.specs.Prelude.{◌≡◌, OnErr, IfOk};
+ghost use Rattle.std.specs.Prelude.{◌≡◌, ◌+◌, ◌≤◌};
 ghost use Rattle.r4_commit.specs.Planned.{CommitSeen};
-ghost use Rattle.r4_outside.specs.Device.{Goes, HasCause, Spares};
-ghost use Rattle.r4_wander.specs.Progress.{under_way};
+ghost use Rattle.r4_outside.specs.Device.{Goes, Rose, Spares};
+ghost use Rattle.r4_wander.specs.Progress.{calls_left, under_way};
 ghost use Rattle.r4_wander.specs.Torn.{IsTarget};
-ghost use Rattle.r4_kept.specs.Steps.{IsAtWrites, IsWritten, Writes, failed};
+ghost use Rattle.r4_kept.specs.Steps.{IsAdvanced, IsAtNothing, IsAtPlan, Writes, WritesNothing};
+ghost use Rattle.r4_kept.specs.Steps.{emptied};
 ghost use Rattle.r4_kept.specs.declared.parts.Commit.{Commit};
 
 use crate::core_state::Core;
+use r4_base::AtomNo;
 use r4_cell::on_disk_law;
 use r4_commit::step;
-use r4_kept::Commit;
+use r4_kept::{Commit, Step, Volume};
 use r4_outside::{Device, Failed, Run};
 use r4_trace::Entry;
 use r4_wander::Stage;
 
 impl<D: Device, R: Run> Core<D, R> {
-    // One step of the commit, in a part at whose end no entry comes: the first one, or the homes. Where a call of the
-    // device fails, the commit is over, since nothing more is known of its plan.
-    pub(crate) fn part(&mut self) -> Result<Stage, Failed>
-        requires { IsAtWrites self.old }
+    // One step of the commit's plan. With the journal header the atom is committed, and the trace tells it with the
+    // clock then; with the journal footer the commit is over. Where a call of the device fails it is over too, since
+    // nothing more is known of its plan.
+    pub(crate) fn advance(&mut self) -> Step
+        requires { IsAtPlan self.old }
         ensures goes { Goes (D.state self.old.dev) (D.state self.new.dev) }
-        ensures cause { HasCause (D.state self.old.dev) result (D.state self.new.dev) }
-        ensures written { (k : Commit) (w : CommitSeen) → Writes self.old k w
-            → IfOk result (λ stage. IsWritten (D.state self.old.dev) (D.state self.new.dev) self.old
-            self.new k w stage) }
+        ensures advanced { (k : Commit) (w : CommitSeen) → Writes self.old k w
+            → IsAdvanced (D.state self.old.dev) (D.state self.new.dev) self.old self.new k w
+            result }
+        ensures some { (k : Commit) (w : CommitSeen) → Writes self.old k w
+            → 1 ≤ calls_left w.work }
+        ensures calls { Rose (D.state self.old.dev).clock (D.state self.new.dev).clock
+            × ((D.state self.new.dev).clock ≤ (D.state self.old.dev).clock + 4) }
         ensures spares { (k : Commit) (w : CommitSeen) → Writes self.old k w
             → Spares (IsTarget (under_way w.work)) (D.state self.old.dev) (D.state self.new.dev) }
-        ensures failed { OnErr result (self.new ≡ failed self.old self.new.dev
-            (D.state self.new.dev).clock (D.state self.new.dev).faults) }
     {
         on_disk_law();
         let Some(commit) = self.commit.take() else {
             unreachable!();
         };
-        let Commit { atom, work } = commit;
+        let Commit { atom, nodes, work } = commit;
         let Some(plan) = work else {
             unreachable!();
         };
         let mut plan = plan;
-        match step(&mut plan, &mut self.dev) {
-            Ok(stage) => {
-                self.commit = Some(Commit {
-                    atom,
-                    work: Some(plan),
-                });
-                Ok(stage)
-            }
+        let stage = match step(&mut plan, &mut self.dev) {
+            Ok(stage) => stage,
             Err(Failed) => {
                 let clock = self.dev.clock();
                 let faults = self.dev.faults();
                 self.broken = Some(clock);
                 self.trace.push(Entry::Broken { clock, faults });
-                Err(Failed)
+                return Step::Broken { clock, faults };
+            }
+        };
+        match stage {
+            Stage::Headed => {
+                let clock = self.dev.clock();
+                self.atoms.commit(atom);
+                self.trace.push(Entry::Committed { atom, clock });
+                self.commit = Some(Commit {
+                    atom,
+                    nodes,
+                    work: Some(plan),
+                });
+                Step::Committed(atom)
+            }
+            Stage::Footed => {
+                self.space.lawful();
+                self.buffer.lawful();
+                self.space.settle(atom);
+                self.atoms.clean(atom);
+                self.buffer.clean(nodes.as_slice());
+                self.buffer.lawful();
+                let super40 = *plan.super40();
+                let prev = plan.head();
+                self.volume = Volume { super40, prev };
+                Step::More
+            }
+            _ => {
+                let work = Some(plan);
+                self.commit = Some(Commit { atom, nodes, work });
+                Step::More
             }
         }
+    }
+
+    // The commit of an atom without cells: it is committed, and the trace tells it, with no call of the device.
+    pub(crate) fn empty(&mut self) -> AtomNo
+        requires { IsAtNothing self.old }
+        ensures goes { Goes (D.state self.old.dev) (D.state self.new.dev) }
+        ensures emptied { (k : Commit) → WritesNothing self.old k
+            → (self.new ≡ emptied self.old k (D.state self.old.dev).clock) × (result ≡ k.atom) }
+    {
+        let Some(commit) = self.commit.take() else {
+            unreachable!();
+        };
+        let atom = commit.atom;
+        let clock = self.dev.clock();
+        self.atoms.commit(atom);
+        self.atoms.clean(atom);
+        self.trace.push(Entry::Committed { atom, clock });
+        atom
     }
 }

@@ -1,5 +1,6 @@
 //! The core of a volume: a device, and the parts that a run keeps beside it (docs/core.md). Here is
-//! its form, with what holds of every core, its opening, and nine of its little steps.
+//! its form, with what holds of every core, its opening, the steps of a commit, and other
+//! little steps.
 #![tactic(auto)]
 
 mod answering;
@@ -12,8 +13,10 @@ mod giving_back;
 mod leaving;
 mod opening;
 mod pushing;
+mod sealing;
 mod starting;
+mod stepping;
 
 pub use core_state::{Core, goes_to_threads};
 pub use fault::{OpenFault, OpenWhy};
-pub use r4_kept::{Commit, Numbers, Volume};
+pub use r4_kept::{Commit, Numbers, Step, Volume};

@@ -1,7 +1,7 @@
 -- A task is done: the accounts.
-use Rattle.std.proofs.Common.{◌≡◌, inl, inr, ℕ, ◌+◌, ◌≤◌, ◌==◌, Bool, true, false, cond, List}
+use Rattle.std.proofs.Common.{◌≡◌, inl, inr, ℕ, ◌+◌, ◌≤◌, ◌==◌, true, false, cond, List}
 use Rattle.std.proofs.Common.{Some}
-use Rattle.std.proofs.Common.{get_or, refl, sym, ◌∙◌, ap, subst, arith}
+use Rattle.std.proofs.Common.{refl, sym, ◌∙◌, ap, subst, arith}
 use Rattle.std.specs.Prelude.{nat_eq}
 use Rattle.std.specs.List.{IsDistinct}
 use Rattle.std.proofs.lemmas.Bool.{cases_eq}
@@ -16,10 +16,11 @@ use Rattle.r4_patch.specs.Joining.{ids_of}
 use Rattle.r4_space.specs.Accounts.{account_at}
 use Rattle.r4_space.specs.Space.{Space}
 use Rattle.r4_space.specs.declared.things.Account.{Account as SpaceAccount}
+use Rattle.r4_space.specs.declared.things.Claim.{Claim}
 use Rattle.r4_trace.specs.declared.entry.Entry.{Entry}
 use Rattle.r4_turns.specs.Turns.{TurnsSeen}
 use Rattle.r4_turns.specs.declared.out.Out.{Out}
-use Rattle.r4_kept.specs.Accounts.{AreAccounts, CountsCells, MaySeal, cells_for, claims_for, dones_in, dones_of}
+use Rattle.r4_kept.specs.Accounts.{AreAccounts, CountsCells, HoldsOf, cells_for, claims_for, dones_in, dones_of}
 use Rattle.r4_kept.specs.Kept.{IsKept}
 use Rattle.r4_kept.specs.Naming.{Naming}
 use Rattle.r4_kept.specs.View.{CoreSeen}
@@ -155,12 +156,10 @@ module _ {D : Type 0} (r : Naming) (d : State) (c : CoreSeen D) (k : IsKept r d 
             let m1 = m.1 in
             let e = same_dones x in
             (omega (arith, m0, e), omega (arith, m1, e)));
-        sealed = λ sound. subst (MaySeal c.commit) (sym charged.sealed) (g.sealed sound);
-        rests = λ sound none.
-            (let was = g.rests sound none in (
-              charged.held ∙ was.0,
-              λ b. ap (λ (l : List Bool). get_or l b false) charged.placed ∙ was.1 b,
-            ));
+        holds = λ sound.
+            subst (λ (l : List AtomNo). HoldsOf c.commit l space.held space.placed) (sym charged.sealed)
+            (subst (λ (l : List Claim). HoldsOf c.commit c.space.sealed l space.placed) (sym charged.held)
+            (subst (HoldsOf c.commit c.space.sealed c.space.held) (sym charged.placed) (g.holds sound)));
         room_to_capture = omega (arith, sum, spare, g.room_to_capture);
         room_for_cells = omega (arith, sum, places, g.room_for_cells);
         room_to_defer = omega (arith, claims, calls, g.room_to_defer);

@@ -1,8 +1,9 @@
 -- A task is done: the trace, and what the tables tell of it.
-use Rattle.std.proofs.Common.{◌≡◌, ℕ, ◌+◌, ◌≤◌, ◌∷◌, List, Option, Some, None, sym, ◌∙◌, ap, subst, arith}
+use Rattle.std.proofs.Common.{◌≡◌, ◌-◌, get_or, refl, ℕ, ◌+◌, ◌≤◌, ◌∷◌, List, Option, Some, None, sym, ◌∙◌, ap, subst, arith}
 use Rattle.std.specs.Prelude.{slice_get}
 use Rattle.std.specs.Option.{option_map}
-use Rattle.r4_atoms.specs.Atoms.{AtomsSeen, state_of, with_state}
+use Rattle.r4_atoms.specs.Atoms.{AtomsSeen, is_committed, new_atom, state_of, with_state}
+use Rattle.r4_atoms.specs.declared.things.AtomState.{AtomState}
 use Rattle.r4_atoms.specs.declared.things.Account.{Account}
 use Rattle.r4_base.specs.declared.things.ScriptNo.{ScriptNo}
 use Rattle.r4_base.specs.declared.things.TxnNo.{TxnNo}
@@ -15,6 +16,7 @@ use Rattle.r4_history.specs.Drawn.{AreDrawn, BeginsAt}
 use Rattle.r4_history.specs.Held.{IsOut}
 use Rattle.r4_history.specs.Tables.{Stands, Tables, asked, inside, single, with_ended}
 use Rattle.r4_history.specs.Told.{HasNewId, HasReply, IsTold}
+use Rattle.r4_history.proofs.AtomSteps.{state_kept}
 use Rattle.r4_history.proofs.DrawnSteps.{drawn_done, drawn_entry, drawn_for, drawn_left}
 use Rattle.r4_history.proofs.Places.{is_script_with, turn_now}
 use Rattle.r4_history.proofs.RunSteps.{told_charged, told_dropped, told_owners}
@@ -27,11 +29,12 @@ use Rattle.r4_turns.specs.Turns.{IsScript, TurnsSeen, answered_at, answered_one,
 use Rattle.r4_turns.specs.declared.out.Out.{Out}
 use Rattle.r4_turns.specs.declared.turn.Open.{Open}
 use Rattle.r4_turns.specs.declared.turn.Turn.{Turn}
-use Rattle.r4_kept.specs.History.{IsHistory, owed}
+use Rattle.r4_kept.specs.History.{IsHistory, is_headed, owed}
 use Rattle.r4_kept.specs.Kept.{IsKept}
 use Rattle.r4_kept.specs.Naming.{Naming, names_in}
 use Rattle.r4_kept.specs.Steps.{with_entry}
 use Rattle.r4_kept.specs.View.{CoreSeen, tables_of}
+use Rattle.r4_kept.specs.declared.parts.Commit.{Commit}
 use Rattle.r4_kept.proofs.Turning.{owed_answered}
 use Rattle.r4_taking.proofs.OutTurns.{owed_dropped}
 use Rattle.r4_taking.proofs.Turned.{owed_last, there}
@@ -103,6 +106,14 @@ module _ {D : Type 0} (r : Naming) (d : State) (c : CoreSeen D) (k : IsKept r d 
       let two = owed_dropped c.turns s.0 is (k.history.told None tt).scripts out here.is_out in
       omega (arith, one, two)
 
+  -- whether the atom under way is committed
+  committed_then : (y : Commit) → c.commit ≡ Some y → is_committed atoms y.atom.0 ≡ is_headed y.work
+  committed_then y at =
+      ap (λ (l : List AtomState). (get_or l (y.atom.0 - 1) new_atom).committed) states
+      ∙ state_kept c.atoms atom (record (state_of c.atoms atom) { account = account })
+      (λ (z : AtomState). z.committed) refl y.atom.0
+      ∙ k.history.committed y at
+
   module _ (within : Open) (st : Stands c.turns s.0 (Some within) (Some had)) where
     new_id : (o : Option Beginning) → BeginsWith (names_in r) d.blocks o
         → HasNewId (option_map start_of o) (asked c.turns.job) trace x
@@ -134,6 +145,7 @@ module _ {D : Type 0} (r : Naming) (d : State) (c : CoreSeen D) (k : IsKept r d 
         first = k.history.first;
         drawn = drawn_then (inside u) st;
         begins = k.history.begins;
+        committed = committed_then;
         room =
             let less = fewer in
             let enough = k.history.room in
@@ -163,6 +175,7 @@ module _ {D : Type 0} (r : Naming) (d : State) (c : CoreSeen D) (k : IsKept r d 
             (drawn_left o (answered_one away s.0) next (done ∷ trace) (drawn_then (single u) st) s.0
             (there away s.0 away_there)) (Ended u) tt;
         begins = k.history.begins;
+        committed = committed_then;
         room =
             let less = fewer_last in
             let enough = k.history.room in

@@ -92,10 +92,10 @@ module _ (b : Beginning) (job : Option Asked) (c : Session) (e : Entry) (quiet :
       none = (seals_nothing e quiet, g.none);
     }
 
-    from_told : (f : Flush) (part : ℕ) → Comes f c part → Comes f (told c e) part
+    from_told : (f : Flush) (part : ℕ) → Comes b job f c part → Comes b job f (told c e) part
     from_told f part g = by g.headed g.from g.in_part
       where
-        by : (h : Option Headed) → ComesFrom f g.more h c → IsInPart h part → Comes f (told c e) part
+        by : (h : Option Headed) → ComesFrom b job f g.more h c → IsInPart h part → Comes b job f (told c e) part
         by None from part = record {
           more = e ∷ g.more;
           headed = None;
@@ -107,8 +107,10 @@ module _ (b : Beginning) (job : Option Asked) (c : Session) (e : Entry) (quiet :
           headed = Some (record h { later = e ∷ h.later });
           from = record {
             before = from.before;
+            session = from.session;
             deferred = from.deferred;
             later = from.later;
+            lawful = from.lawful;
             behind = goes_told _ h.later from.behind;
           };
           in_part = part;
@@ -150,6 +152,8 @@ module _ (b : Beginning) (job : Option Asked) (c : Session) (e : Entry) (quiet :
         way = h.way;
         comes = from_told f w.work.part h.comes;
         atom = h.atom;
+        super40 = h.super40;
+        head = h.head;
         commits = h.commits;
         reads = h.reads;
         deferred = but_told f.work.atom s h.deferred;

@@ -1,6 +1,10 @@
 pub mod Turning
 pub mod Unused
 pub mod Carried
+pub mod Readable
 pub mod Resting
+pub mod Settling
+pub mod Cleaned
+pub mod States
 pub mod Dones
 pub mod Owing

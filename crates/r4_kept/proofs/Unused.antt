@@ -5,16 +5,15 @@ use Rattle.std.specs.Prelude.{count_by}
 use Rattle.std.specs.Option.{option_map}
 use Rattle.std.proofs.lemmas.Bool.{cases_Bool, cond-true, cond-false}
 use Rattle.std.proofs.lemmas.List.Sums.{sum_by-cons}
-use Rattle.r4_base.specs.Cell.{cell_fault}
-use Rattle.r4_base.specs.Key.{rank}
 use Rattle.r4_base.specs.declared.things.NodeId.{NodeId}
 use Rattle.r4_buffer.specs.Changed.{Standing, in_turn, one_less, unused, uses_of}
-use Rattle.r4_buffer.specs.Reading.{IsReadable, NamesStand}
+use Rattle.r4_buffer.specs.Reading.{NamesStand}
 use Rattle.r4_buffer.specs.Seen.{BufferSeen, EntrySeen, IsCaptured, IsLawful, buffered, is_above, is_captured}
 use Rattle.r4_buffer.specs.Seen.{is_dirty_by}
 use Rattle.r4_buffer.proofs.Captured.{captured_is, is_captured_from}
 use Rattle.r4_cell.specs.Seen.{CellSeen}
 use Rattle.r4_outside.specs.Device.{State}
+use Rattle.r4_kept.specs.Cells.{AreReadable, IsAccepted}
 
 -- the same but for how often it is used
 pub record IsEntryLike (e f : EntrySeen) : Type 0 where
@@ -170,15 +169,14 @@ module _ (b new : BufferSeen) (like : AreLike b new) where
         (λ h. is_captured_from b lawful i (captured_here i (captured_is new still i h)))
         (λ h. is_captured_from new still i (captured_there i (captured_is b lawful i h)))
 
-    pub readable_like : (d : State) (blocks : ℕ) → IsReadable d b blocks → IsReadable d new blocks
+    pub readable_like : (d : State) (blocks : ℕ) → AreReadable d b blocks → AreReadable d new blocks
     readable_like d blocks h = record {
       accepted = λ i f at not.
           (let e = was_there b new like i f at in
-          subst (λ (x : CellSeen). cell_fault false blocks x.level (rank x.lo) (rank x.hi) x.block ≡ None)
-          (sym e.like.cell) (h.accepted i e.entry e.is (sym (same_captured i) ∙ not)));
+          subst (IsAccepted blocks) (sym e.like.cell) (h.accepted i e.entry e.is (sym e.like.dirty ∙ not)));
       same = λ tells i f at not.
           (let e = was_there b new like i f at in
-          ap (λ (x : CellSeen). x.block) e.like.cell ∙ h.same tells i e.entry e.is (sym (same_captured i) ∙ not));
+          ap (λ (x : CellSeen). x.block) e.like.cell ∙ h.same tells i e.entry e.is (sym e.like.dirty ∙ not));
       names = λ i f at yes.
           (let e = was_there b new like i f at in
           subst (NamesStand new blocks) (sym e.like.cell)

@@ -9,7 +9,9 @@ use Rattle.r4_base.specs.Bitmap.{bitmap_count}
 use Rattle.r4_base.specs.declared.things.AtomNo.{AtomNo}
 use Rattle.r4_buffer.specs.Seen.{BufferSeen, buffered, is_dirty_by}
 use Rattle.r4_space.specs.Accounts.{account_at, dues, no_account}
-use Rattle.r4_space.specs.Space.{unused_count}
+use Rattle.r4_commit.specs.Planned.{CommitSeen}
+use Rattle.r4_space.specs.Space.{claims_without, unused_count}
+use Rattle.r4_space.specs.declared.things.Claim.{Claim}
 use Rattle.r4_trace.specs.declared.entry.Entry.{Entry}
 use Rattle.r4_trace.specs.declared.entry.Entry.TheVariants.{Done}
 use Rattle.r4_turns.specs.declared.out.Out.{Out}
@@ -59,10 +61,25 @@ dones_in s a trace = dones_of (λ t. atom_of s t == a) trace
 
 -- ---- what a commit holds in the space
 
--- without a commit no atom is sealed, and with one at most its own
-abbrev pub MaySeal : Option Commit → List AtomNo → Type 0
-MaySeal None atoms = atoms ≡ []
-MaySeal (Some k) atoms = (atoms ≡ []) ⊎ (atoms ≡ k.atom ∷ [])
+-- Nothing is sealed, held or placed.
+pub record IsStill (sealed : List AtomNo) (held : List Claim) (placed : List Bool) : Type 0 where
+  pub none_sealed : sealed ≡ []
+  pub none_held : held ≡ []
+  pub none_placed : (b : ℕ) → slice_index_or placed b false ≡ false
+
+-- At most this atom is sealed, and what is held is held for it.
+pub record IsFor (atom : AtomNo) (sealed : List AtomNo) (held : List Claim) : Type 0 where
+  pub alone : (sealed ≡ []) ⊎ (sealed ≡ atom ∷ [])
+  pub own : claims_without atom held ≡ []
+
+-- so it is while no commit with a plan is under way, and while one is
+abbrev pub HoldsFor : AtomNo → Option CommitSeen → List AtomNo → List Claim → List Bool → Type 0
+HoldsFor atom None sealed held placed = IsStill sealed held placed
+HoldsFor atom (Some w) sealed held placed = IsFor atom sealed held
+
+abbrev pub HoldsOf : Option Commit → List AtomNo → List Claim → List Bool → Type 0
+HoldsOf None sealed held placed = IsStill sealed held placed
+HoldsOf (Some k) sealed held placed = HoldsFor k.atom k.work sealed held placed
 
 -- ---- the group
 
@@ -83,11 +100,9 @@ pub record AreAccounts {D : Type 0} (c : CoreSeen D) : Type 0 where
   pub objects : (a : ℕ) → IsOpenAtom c.atoms a
       → ((account_of c.atoms a).born ≤ dones_in c.atoms a c.trace.entries)
       × ((account_of c.atoms a).gone ≤ dones_in c.atoms a c.trace.entries)
-  -- before a call of the device fails, the space knows of no sealed atom but the one under way
-  pub sealed : c.broken ≡ None → MaySeal c.commit c.space.sealed
-  -- and where none is under way, no block is placed or held
-  pub rests : c.broken ≡ None → c.commit ≡ None
-      → (c.space.held ≡ []) × ((b : ℕ) → slice_index_or c.space.placed b false ≡ false)
+  -- before a call of the device fails, the space has sealed, held and placed for the commit alone
+  pub holds : c.broken ≡ None
+      → HoldsOf c.commit c.space.sealed c.space.held c.space.placed
   -- there is room for all that the tasks out may capture, put into memory, and defer
   pub room_to_capture : cells_owed c.turns.turns ≤ c.atoms.spare
   pub room_for_cells : cells_owed c.turns.turns ≤ c.buffer.spare

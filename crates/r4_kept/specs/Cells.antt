@@ -1,20 +1,22 @@
 -- Group D, the cells in memory, on every image (docs/buffer.md).
 use Rattle.std.specs.Prelude.{◌≡◌, ◌⊎◌, ◌↔◌, ◌++◌, ℕ, ◌^◌, ◌<◌, ◌≤◌, true, false, Contains}
-use Rattle.std.specs.Prelude.{Option, Some, None, IsSome}
-use Rattle.r4_atoms.specs.Atoms.{owner_of}
+use Rattle.std.specs.Prelude.{List, [], length, Option, Some, None, IsSome}
+use Rattle.r4_atoms.specs.Atoms.{numbers, owner_of}
 use Rattle.r4_base.specs.Bitmap.{is_fixed}
-use Rattle.r4_base.specs.Image.{Image}
+use Rattle.r4_base.specs.Cell.{cell_fault}
+use Rattle.r4_base.specs.Image.{Image, block_at}
+use Rattle.r4_base.specs.Key.{rank}
 use Rattle.r4_base.specs.Layout.{IsLawfulSuper}
 use Rattle.r4_base.specs.Tree.{Name}
-use Rattle.r4_buffer.specs.Reading.{IsReadable}
+use Rattle.r4_buffer.specs.Reading.{NamesStand}
 use Rattle.r4_buffer.specs.Seen.{BufferSeen, EntrySeen, buffered, is_captured}
 use Rattle.r4_cell.specs.Seen.{CellSeen, node_of}
 use Rattle.r4_commit.specs.Planned.{CommitSeen}
 use Rattle.r4_history.specs.Held.{IsOut}
 use Rattle.r4_outside.specs.Device.{State, TellsReads}
 use Rattle.r4_turns.specs.declared.out.Out.{Out}
-use Rattle.r4_wander.specs.Parts.{part}
-use Rattle.r4_wander.specs.Progress.{FitOn, Progress, ReadsAs}
+use Rattle.r4_wander.specs.Parts.{base_of, part}
+use Rattle.r4_wander.specs.Progress.{FitOn, ReadsAs, under_way}
 use Rattle.r4_wander.specs.Torn.{IsTarget}
 use Rattle.r4_kept.specs.View.{CoreSeen, blocks_of}
 use Rattle.r4_kept.specs.declared.parts.Commit.{Commit}
@@ -33,23 +35,53 @@ pub record HasNames (blocks next : ℕ) (x : CellSeen) : Type 0 where
 
 -- ---- a commit that is under way
 
--- A plan fits on the device and is not at its end. Reading gives what it has written so far, on the
--- image with which it began; and no cell that is not captured stands under a block that it writes.
-pub record IsWriting (d : State) (b : BufferSeen) (w : Progress) : Type 0 where
-  pub fits : FitOn d.blocks w.plan
-  pub unfinished : w.part < 4
+-- the block is a cell on disk, of the level and the range of this cell
+abbrev pub IsAccepted : (blocks : ℕ) → CellSeen → Type 0
+IsAccepted blocks x = cell_fault false blocks x.level (rank x.lo) (rank x.hi) x.block ≡ None
+
+-- The plan of an atom that owns these nodes fits on the device and is not at its end; its superblock
+-- is a lawful one, of as many blocks. Reading gives what it has written so far, on the image with
+-- which it began. No cell stands under a block that it writes but a dirty one; and each cell of the
+-- atom is a cell on disk, which at the end is the block of its name.
+pub record IsWriting
+    (d : State) (b : BufferSeen) (blocks : ℕ) (nodes : List ℕ) (c : CommitSeen) : Type 0 where
+  pub fits : FitOn d.blocks c.work.plan
+  pub unfinished : c.work.part < 4
+  pub within : c.work.done ≤ length (under_way c.work)
+  pub super40 : IsLawfulSuper d.blocks c.super40
+  pub count : c.super40.block_count ≡ blocks
   pub base : Image
-  pub reads : TellsReads d → ReadsAs w base d
-  pub apart : (i p : ℕ) (e : EntrySeen) → IsTarget (part w.plan p) i → buffered b i ≡ Some e
-      → is_captured b i ≡ true
+  pub reads : TellsReads d → ReadsAs c.work base d
+  pub apart : (i p : ℕ) (e : EntrySeen) → IsTarget (part c.work.plan p) i → buffered b i ≡ Some e
+      → e.dirty ≡ true
+  pub below : (i : ℕ) → Contains nodes i → i < blocks
+  pub accepted : (i : ℕ) (e : EntrySeen) → Contains nodes i → buffered b i ≡ Some e
+      → IsAccepted blocks e.cell
+  pub lands : TellsReads d → (i : ℕ) (e : EntrySeen) → Contains nodes i → buffered b i ≡ Some e
+      → e.cell.block ≡ block_at (base_of c.work.plan base 4) i
 
-abbrev pub IsWritingOf : State → BufferSeen → Option CommitSeen → Type 0
-IsWritingOf d b None = Unit {0}
-IsWritingOf d b (Some w) = IsWriting d b w.work
+-- an atom that writes nothing owns nothing
+abbrev pub IsWritingOf :
+    State → BufferSeen → (blocks : ℕ) → (nodes : List ℕ) → Option CommitSeen → Type 0
+IsWritingOf d b blocks nodes None = nodes ≡ []
+IsWritingOf d b blocks nodes (Some c) = IsWriting d b blocks nodes c
 
-abbrev pub FitsCommit : State → BufferSeen → Option Commit → Type 0
-FitsCommit d b None = Unit {0}
-FitsCommit d b (Some k) = IsWritingOf d b k.work
+abbrev pub FitsCommit : State → BufferSeen → (blocks : ℕ) → Option Commit → Type 0
+FitsCommit d b blocks None = Unit {0}
+FitsCommit d b blocks (Some k) = IsWritingOf d b blocks (numbers k.nodes) k.work
+
+-- ---- reading
+
+-- Cells in memory from which a step can read: one that is not dirty is accepted on disk, and where
+-- the device tells what reading gives, it is the block of its name there; what a captured one names
+-- is a block or captured.
+pub record AreReadable (d : State) (b : BufferSeen) (blocks : ℕ) : Type 0 where
+  pub accepted : (i : ℕ) (e : EntrySeen) → buffered b i ≡ Some e → e.dirty ≡ false
+      → IsAccepted blocks e.cell
+  pub same : TellsReads d → (i : ℕ) (e : EntrySeen) → buffered b i ≡ Some e → e.dirty ≡ false
+      → e.cell.block ≡ block_at d.seen i
+  pub names : (i : ℕ) (e : EntrySeen) → buffered b i ≡ Some e → is_captured b i ≡ true
+      → NamesStand b blocks e.cell
 
 -- ---- the group
 
@@ -68,7 +100,13 @@ pub record AreCells {D : Type 0} (d : State) (c : CoreSeen D) : Type 0 where
   -- a cell in memory is dirty exactly where an atom owns it
   pub dirty : (i : ℕ) (e : EntrySeen) → buffered c.buffer i ≡ Some e
       → (e.dirty ≡ true) ↔ IsSome (owner_of c.atoms i)
-  -- before a call of the device fails, one that is not captured is the block of its name
-  pub clean : c.broken ≡ None → IsReadable d c.buffer (blocks_of c)
-  -- the commit under way can go on
-  pub commit : FitsCommit d c.buffer c.commit
+  -- one without a block is dirty
+  pub fresh : (i : ℕ) (e : EntrySeen) → buffered c.buffer i ≡ Some e → 2 ^ 63 ≤ i
+      → e.dirty ≡ true
+  -- before a call of the device fails, one that is not dirty is the block of its name
+  pub clean : c.broken ≡ None → AreReadable d c.buffer (blocks_of c)
+  -- a commit has the nodes that its atom owns
+  pub nodes : (k : Commit) → c.commit ≡ Some k → (i : ℕ)
+      → Contains (numbers k.nodes) i ↔ (owner_of c.atoms i ≡ Some k.atom.0)
+  -- and it can go on
+  pub commit : FitsCommit d c.buffer (blocks_of c) c.commit

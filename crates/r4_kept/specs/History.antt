@@ -1,6 +1,7 @@
 -- Group A, the history: the trace, and what the tables tell of it (docs/histories.md).
 use Rattle.std.specs.Prelude.{◌≡◌, ℕ, ◌+◌, ◌≤◌, Bool, true, false, List, [], ◌∷◌, drop, count_by}
-use Rattle.std.specs.Prelude.{Option, Some, None, Ok, nat_lt, if◌then◌else◌}
+use Rattle.std.specs.Prelude.{Option, Some, None, Ok, nat_le, nat_lt, if◌then◌else◌}
+use Rattle.r4_atoms.specs.Atoms.{is_committed}
 use Rattle.r4_commit.specs.Planned.{CommitSeen}
 use Rattle.std.specs.Option.{option_map}
 use Rattle.r4_content.specs.Locality.{commands}
@@ -54,6 +55,13 @@ abbrev pub owed_for_commit : Option Commit → ℕ
 owed_for_commit None = 0
 owed_for_commit (Some k) = owed_for_work k.work
 
+-- ---- the entry of a commit
+
+-- whether the journal header of a commit is written, with which its entry comes
+abbrev pub is_headed : Option CommitSeen → Bool
+is_headed None = false
+is_headed (Some w) = nat_le 2 w.work.part
+
 -- ---- the group
 
 pub record IsHistory {D : Type 0} (r : Naming) (d : State) (c : CoreSeen D) : Type 0 where
@@ -68,5 +76,8 @@ pub record IsHistory {D : Type 0} (r : Naming) (d : State) (c : CoreSeen D) : Ty
   pub first : ℕ
   pub drawn : AreDrawn first c.turns c.numbers.next_oid c.trace.entries
   pub begins : (b : Beginning) → IsNamed (names_in r) d.blocks b → first ≡ first_id b
+  -- the atom of a commit is committed once its journal header is written
+  pub committed : (k : Commit) → c.commit ≡ Some k
+      → is_committed c.atoms k.atom.0 ≡ is_headed k.work
   -- there is room for each entry that may not want memory
   pub room : owed c.turns + owed_for_commit c.commit ≤ c.trace.spare

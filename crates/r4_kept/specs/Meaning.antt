@@ -22,7 +22,7 @@ use Rattle.r4_flushed.specs.Deferred.{AreDeferred, AreDeferredBut}
 use Rattle.r4_history.specs.Held.{IsOut}
 use Rattle.r4_outside.specs.Device.{State, TellsReads}
 use Rattle.r4_placed.specs.Flushing.{commit_by_block}
-use Rattle.r4_sealed.specs.Commits.{IsLater}
+use Rattle.r4_sealed.specs.Commits.{IsLater, super_after}
 use Rattle.r4_sets.specs.Atoms.{committed, sealed}
 use Rattle.r4_sets.specs.Session.{Session}
 use Rattle.r4_sets_told.specs.Runs.{born_in, gone_in}
@@ -61,33 +61,42 @@ pub record IsAtRest
 
 -- The session goes on from the sealed one by these entries, and over the Committed one where that
 -- has come.
-pub record ComesOver (f : Flush) (more : List Entry) (h : Headed) (c : Session) : Type 0 where
+pub record ComesOver
+    (b : Beginning) (job : Option Asked) (f : Flush) (more : List Entry) (h : Headed) (c : Session)
+    : Type 0 where
   pub before : GoesOn (session_after (sealing_in f)) h.session more
+  pub session : IsSession greatest_size b job h.session
   pub deferred : AreDeferredBut f.work.atom h.session h.space
   pub later : IsLater (commit_by_block f.work f.plan).space h.space f.work.atom
+  pub lawful : IsLawful (settled h.space f.work.atom)
   pub behind : GoesOn (committed h.session f.work.atom h.clock) c h.later
 
-abbrev pub ComesFrom : Flush → (more : List Entry) → Option Headed → Session → Type 0
-ComesFrom f more None c = GoesOn (session_after (sealing_in f)) c more
-ComesFrom f more (Some h) c = ComesOver f more h c
+abbrev pub ComesFrom :
+    Beginning → Option Asked → Flush → (more : List Entry) → Option Headed → Session → Type 0
+ComesFrom b job f more None c = GoesOn (session_after (sealing_in f)) c more
+ComesFrom b job f more (Some h) c = ComesOver b job f more h c
 
 -- The Committed entry comes as the journal header is written.
 abbrev pub IsInPart : Option Headed → (part : ℕ) → Type 0
 IsInPart None part = part < 2
 IsInPart (Some h) part = 2 ≤ part
 
-pub record Comes (f : Flush) (c : Session) (part : ℕ) : Type 0 where
+pub record Comes
+    (b : Beginning) (job : Option Asked) (f : Flush) (c : Session) (part : ℕ) : Type 0 where
   pub more : List Entry
   pub headed : Option Headed
-  pub from : ComesFrom f more headed c
+  pub from : ComesFrom b job f more headed c
   pub in_part : IsInPart headed part
 
 pub record IsFlushing
     (b : Beginning) (job : Option Asked) (c : Session) (s : Space) (d : State) (f : Flush)
     (a : AtomNo) (w : CommitSeen) : Type 0 where
   pub way : IsUnderWay greatest_size b job f.before f.work f.plan
-  pub comes : Comes f c w.work.part
+  pub comes : Comes b job f c w.work.part
   pub atom : a ≡ f.work.atom
+  -- it tells the superblock and the head that the plan writes
+  pub super40 : w.super40 ≡ super_after (commit_by_block f.work f.plan)
+  pub head : w.head ≡ f.plan.head
   -- the writer makes the plan, and reading gives what it has written so far
   pub commits : Commits w.work b.blocks f.work.base [] f.plan
   pub reads : ReadsAs w.work f.work.base d

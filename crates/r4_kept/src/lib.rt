@@ -4,4 +4,4 @@
 
 mod parts;
 
-pub use parts::{Commit, Numbers, Volume};
+pub use parts::{Commit, Numbers, Step, Volume};

@@ -2,6 +2,7 @@
 
 use r4_base::{AtomNo, BlockNo, Super40};
 use r4_commit::CommitPlan;
+use r4_turns::Nodes;
 
 /// The numbers that are drawn next.
 #[derive(Clone, Copy, Debug, PartialEq, Eq)]
@@ -25,6 +26,21 @@ pub struct Volume {
 #[derive(Drop)]
 pub struct Commit {
     pub atom: AtomNo,
+    /// The names of the cells that the atom owns, of those too that are gone.
+    pub nodes: Nodes,
     /// What is left to write; an atom without cells writes nothing.
     pub work: Option<CommitPlan>,
+}
+
+/// What a step of a commit did.
+#[derive(Clone, Copy, Debug, PartialEq, Eq)]
+pub enum Step {
+    /// Nothing: no commit is under way.
+    Idle,
+    /// The commit went on. With the journal footer it is over.
+    More,
+    /// The atom is committed: its journal header is written, or it has no cells.
+    Committed(AtomNo),
+    /// A call of the device failed, and the commit is over: the clock and the count of faults then.
+    Broken { clock: u64, faults: u64 },
 }

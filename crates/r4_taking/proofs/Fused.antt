@@ -8,8 +8,10 @@ use Rattle.r4_atoms.specs.Atoms.{AtomsSeen, FitTogether, IsBegun as IsTxn, IsOpe
 use Rattle.r4_atoms.specs.Atoms.{owner_of, sum_of}
 use Rattle.r4_atoms.specs.Names.{renamed}
 use Rattle.r4_atoms.specs.declared.things.Account.{Account}
+use Rattle.r4_atoms.specs.declared.things.AtomState.{AtomState}
 use Rattle.r4_base.specs.declared.things.AtomNo.{AtomNo}
 use Rattle.r4_base.specs.declared.things.NodeId.{NodeId}
+use Rattle.r4_commit.specs.Planned.{CommitSeen}
 use Rattle.r4_content.specs.Locality.{commands}
 use Rattle.r4_content.specs.Meaning.{greatest_size}
 use Rattle.r4_durable.specs.GoingOn.{GoesOn}
@@ -18,7 +20,7 @@ use Rattle.r4_durable.specs.Meaning.{Beginning, IsNamed, means, start_of}
 use Rattle.r4_flushed.proofs.Deferring.{deferred_fused}
 use Rattle.r4_flushed.proofs.Owned.{fused_owns}
 use Rattle.r4_history.specs.Tables.{Fuses}
-use Rattle.r4_history.proofs.AtomSteps.{fused_count}
+use Rattle.r4_history.proofs.AtomSteps.{fused_count, fused_states}
 use Rattle.r4_history.proofs.DrawnSteps.{drawn_entry}
 use Rattle.r4_history.proofs.RunSteps.{commit_is}
 use Rattle.r4_history.proofs.TaskSteps.{fused_follow}
@@ -38,7 +40,7 @@ use Rattle.r4_trace.specs.Traced.{IsSealed, atom_in, renamed_atom}
 use Rattle.r4_trace.specs.declared.entry.Entry.{Entry}
 use Rattle.r4_trace.specs.declared.entry.Entry.TheVariants.{Fuse}
 use Rattle.r4_trace.proofs.Safely.{safe_push}
-use Rattle.r4_kept.specs.Accounts.{AreAccounts, CountsCells, MaySeal, dones_of}
+use Rattle.r4_kept.specs.Accounts.{AreAccounts, CountsCells, HoldsFor, HoldsOf, dones_of}
 use Rattle.r4_kept.specs.Cells.{AreCells}
 use Rattle.r4_kept.specs.Durable.{IsDurable}
 use Rattle.r4_kept.specs.History.{IsHistory, owed, owed_for_commit}
@@ -54,7 +56,7 @@ use Rattle.r4_kept.specs.declared.parts.Commit.{Commit}
 use Rattle.r4_taking.proofs.Deferred.{but_fused, later_merged}
 use Rattle.r4_taking.proofs.FusedAtoms.{account_both, account_other, atom_after, open_cases, sealed_after}
 use Rattle.r4_taking.proofs.FusedCounts.{born_both, chosen_other, counts_both, counts_other, dones_apart}
-use Rattle.r4_taking.proofs.FusedCounts.{dones_both, gone_both}
+use Rattle.r4_taking.proofs.FusedCounts.{dones_both, gone_both, other_after, other_before}
 use Rattle.r4_taking.proofs.Going.{Follows, at_over}
 use Rattle.r4_taking.proofs.Merged.{dues_merged, lawful_merged, merged_cells, merged_fresh, merged_other}
 use Rattle.r4_taking.proofs.Merged.{space_account_small, unused_merged}
@@ -111,6 +113,9 @@ module _ {D : Type 0} (r : Naming) (d : State) (c : CoreSeen D) (k : IsKept r d 
     first = k.history.first;
     drawn = drawn_entry k.history.first c.turns c.numbers.next_oid trace k.history.drawn e tt;
     begins = k.history.begins;
+    committed = λ x is.
+        fused_states c.atoms new kept.0 gone.0 f (λ (y : AtomState). y.committed) (λ y z. refl) x.atom.0
+        ∙ k.history.committed x is;
     room = omega (arith, room);
   }
 
@@ -236,8 +241,7 @@ module _ {D : Type 0} (r : Naming) (d : State) (c : CoreSeen D) (k : IsKept r d 
             (λ is. none (begun_still a.0 (subst (IsTxn c.atoms) (sym is) also)))
             ∙ g.unknown a (λ was. none (begun_still a.0 was));
         objects = objects_fused;
-        sealed = g.sealed;
-        rests = g.rests;
+        holds = g.holds;
         room_to_capture = omega (arith, spare, g.room_to_capture);
         room_for_cells = g.room_for_cells;
         room_to_defer = g.room_to_defer;
@@ -260,6 +264,13 @@ module _ {D : Type 0} (r : Naming) (d : State) (c : CoreSeen D) (k : IsKept r d 
   owner_after : (i : ℕ) → IsSome (owner_of c.atoms i) → IsSome (owner_of new i)
   owner_after i some = subst IsSome (sym (owners i)) (some_after as_renamed (owner_of c.atoms i) some)
 
+  -- the atom under way is neither of both
+  other_than : (x : Commit) → c.commit ≡ Some x → (a : ℕ) → IsOpenAtom c.atoms a → x.atom.0 ≢ a
+  other_than x is a opened =
+      sealed_differs c.atoms x.atom.0 a
+      (commit_is (commands greatest_size) None d.clock (tables_of c) trace (k.history.told None tt) x.atom.0
+      (ap committing is)).1 opened.unsealed
+
   cells_fused : AreCells d after
   cells_fused =
       let g = k.cells in
@@ -274,7 +285,16 @@ module _ {D : Type 0} (r : Naming) (d : State) (c : CoreSeen D) (k : IsKept r d 
           (λ yes. owner_after i ((g.dirty i x at).0 yes)),
           (λ some. (g.dirty i x at).1 (owner_before i some)),
         );
+        fresh = g.fresh;
         clean = g.clean;
+        nodes = λ x is i.
+            (let same = g.nodes x is i in (
+              λ has. owners i
+                  ∙ other_after kept.0 gone.0 less x.atom.0 (other_than x is gone.0 two) (owner_of c.atoms i)
+                  (same.0 has),
+              λ owned. same.1 (other_before kept.0 gone.0 less x.atom.0 (other_than x is kept.0 one)
+                  (owner_of c.atoms i) (sym (owners i) ∙ owned)),
+            ));
         commit = g.commit;
       }
 
@@ -350,13 +370,6 @@ module _ {D : Type 0} (r : Naming) (d : State) (c : CoreSeen D) (k : IsKept r d 
       legal = subst (λ (l : List Entry). IsOrdered (e ∷ l)) (sym had.means.trace) legal_fused;
       none = (tt, tt);
     }
-
-    -- the atom under way is neither of both
-    other_than : (x : Commit) → c.commit ≡ Some x → (a : ℕ) → IsOpenAtom c.atoms a → x.atom.0 ≢ a
-    other_than x is a opened =
-        sealed_differs c.atoms x.atom.0 a
-        (commit_is (commands greatest_size) None d.clock (tables_of c) trace (k.history.told None tt) x.atom.0
-        (ap committing is)).1 opened.unsealed
 
     follows : Follows c.commit was now c.space (merged c.space kept gone)
     follows = record {
@@ -505,8 +518,11 @@ module _ {D : Type 0} (r : Naming) (d : State) (c : CoreSeen D) (k : IsKept r d 
 
   -- the space has not sealed an atom that is open
   pub may_merge : c.broken ≡ None → (a : AtomNo) → IsOpenAtom c.atoms a.0 → is_sealed_in c.space.sealed a ≡ false
-  may_merge sound a is = by c.commit refl (k.accounts.sealed sound)
+  may_merge sound a is = by c.commit refl (k.accounts.holds sound)
     where
+      none_there : (l : List AtomNo) → l ≡ [] → is_sealed_in l a ≡ false
+      none_there l none = ap (λ (m : List AtomNo). is_sealed_in m a) none
+
       alone : (x : Commit) → c.commit ≡ Some x → is_sealed_in (x.atom ∷ []) a ≡ false
       alone x at =
           let differ = sealed_differs c.atoms x.atom.0 a.0
@@ -515,8 +531,13 @@ module _ {D : Type 0} (r : Naming) (d : State) (c : CoreSeen D) (k : IsKept r d 
           let e : (x.atom.0 == a.0) ≡ false = ne_eqb x.atom.0 a.0 differ in
           rw e refl
 
-      by : (o : Option Commit) → c.commit ≡ o → MaySeal o c.space.sealed → is_sealed_in c.space.sealed a ≡ false
-      by None at none = ap (λ (l : List AtomNo). is_sealed_in l a) none
-      by (Some x) at may =
-          ⊎_elim (λ none. ap (λ (l : List AtomNo). is_sealed_in l a) none)
-          (λ one. ap (λ (l : List AtomNo). is_sealed_in l a) one ∙ alone x at) may
+      by_work : (x : Commit) → c.commit ≡ Some x → (w : Option CommitSeen)
+          → HoldsFor x.atom w c.space.sealed c.space.held c.space.placed → is_sealed_in c.space.sealed a ≡ false
+      by_work x at None h = none_there c.space.sealed h.none_sealed
+      by_work x at (Some w) h =
+          ⊎_elim (none_there c.space.sealed) (λ own. ap (λ (l : List AtomNo). is_sealed_in l a) own ∙ alone x at) h.alone
+
+      by : (o : Option Commit) → c.commit ≡ o → HoldsOf o c.space.sealed c.space.held c.space.placed
+          → is_sealed_in c.space.sealed a ≡ false
+      by None at h = none_there c.space.sealed h.none_sealed
+      by (Some x) at h = by_work x at x.work h

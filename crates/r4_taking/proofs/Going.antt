@@ -28,7 +28,7 @@ seal_none : (es more : List Entry) → SealNothing es → SealNothing more → S
 seal_none [] more one two = two
 seal_none (e ∷ es) more one two = (one.0, seal_none es more one.1 two)
 
-module _ (c now : Session) (es : List Entry) (goes : GoesOn c now es) where
+module _ (b : Beginning) (job : Option Asked) (c now : Session) (es : List Entry) (goes : GoesOn c now es) where
   goes_over : (from : Session) (more : List Entry) → GoesOn from c more → GoesOn from now (es ++ more)
   goes_over from more g =
       let same : es ++ c.trace ≡ (es ++ more) ++ from.trace =
@@ -42,10 +42,10 @@ module _ (c now : Session) (es : List Entry) (goes : GoesOn c now es) where
         none = seal_none es more goes.none g.none;
       }
 
-  comes_over : (f : Flush) (part : ℕ) → Comes f c part → Comes f now part
+  comes_over : (f : Flush) (part : ℕ) → Comes b job f c part → Comes b job f now part
   comes_over f part g = by g.headed g.from g.in_part
     where
-      by : (h : Option Headed) → ComesFrom f g.more h c → IsInPart h part → Comes f now part
+      by : (h : Option Headed) → ComesFrom b job f g.more h c → IsInPart h part → Comes b job f now part
       by None from part = record {
         more = es ++ g.more;
         headed = None;
@@ -57,8 +57,10 @@ module _ (c now : Session) (es : List Entry) (goes : GoesOn c now es) where
         headed = Some (record h { later = es ++ h.later });
         from = record {
           before = from.before;
+          session = from.session;
           deferred = from.deferred;
           later = from.later;
+          lawful = from.lawful;
           behind = goes_over _ h.later from.behind;
         };
         in_part = part;
@@ -93,8 +95,10 @@ module _ (b : Beginning) (job : Option Asked) (c now : Session) (es : List Entry
       subst (λ (x : AtomNo). FollowsFor x c now s later) h.atom along in
       record {
         way = h.way;
-        comes = comes_over c now es goes f w.work.part h.comes;
+        comes = comes_over b job c now es goes f w.work.part h.comes;
         atom = h.atom;
+        super40 = h.super40;
+        head = h.head;
         commits = h.commits;
         reads = h.reads;
         deferred = mine.but h.deferred;
@@ -110,7 +114,7 @@ module _ (b : Beginning) (job : Option Asked) (c now : Session) (es : List Entry
     more = es ++ h.more;
     rest = h.rest;
     none = h.none;
-    goes = goes_over c now es goes _ h.more h.goes;
+    goes = goes_over b job c now es goes _ h.more h.goes;
     alike = record {
       count = follows.alike.count ∙ h.alike.count;
       marked = follows.alike.marked ∙ h.alike.marked;

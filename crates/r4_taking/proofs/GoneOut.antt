@@ -4,15 +4,14 @@ use Rattle.std.proofs.Common.{◌++◌, length, Option, Some, None, Contains, re
 use Rattle.std.proofs.Common.{cond, true≢false}
 use Rattle.std.specs.Prelude.{IsSome, count_by}
 use Rattle.std.specs.Option.{option_map}
-use Rattle.std.proofs.lemmas.Bool.{cases_Bool, false_from_ne_true, lt-ltb, or_cases, or_left, or_right}
+use Rattle.std.proofs.lemmas.Bool.{cases_Bool, lt-ltb, or_cases, or_left, or_right}
 use Rattle.std.proofs.lemmas.List.Sums.{sum_by-cons}
-use Rattle.r4_atoms.specs.Atoms.{owner_of}
-use Rattle.r4_base.specs.Cell.{cell_fault}
+use Rattle.r4_atoms.specs.Atoms.{numbers, owner_of}
 use Rattle.r4_base.specs.Image.{block_at}
 use Rattle.r4_base.specs.Key.{rank}
 use Rattle.r4_base.specs.declared.things.NodeId.{NodeId}
 use Rattle.r4_buffer.specs.Changed.{Standing, in_turn, used, uses_of}
-use Rattle.r4_buffer.specs.Reading.{IsReadable, NamesStand}
+use Rattle.r4_buffer.specs.Reading.{NamesStand}
 use Rattle.r4_buffer.specs.Seen.{BufferSeen, EntrySeen, IsLawful, buffered, cell_at, is_above, is_captured}
 use Rattle.r4_buffer.specs.Seen.{is_dirty_by}
 use Rattle.r4_buffer.proofs.Captured.{captured_is, is_captured_from}
@@ -36,7 +35,7 @@ use Rattle.r4_turns.specs.Turns.{HasNext, IsScript, TurnsSeen, gone_out, turn_at
 use Rattle.r4_turns.specs.declared.out.Numbers.{Numbers}
 use Rattle.r4_turns.specs.declared.out.Out.{Out}
 use Rattle.r4_kept.specs.Accounts.{AreAccounts, CountsCells, cells_for, claims_for}
-use Rattle.r4_kept.specs.Cells.{AreCells, FitsCommit, HasNames, IsName, IsWritingOf}
+use Rattle.r4_kept.specs.Cells.{AreCells, AreReadable, FitsCommit, HasNames, IsAccepted, IsName, IsWritingOf}
 use Rattle.r4_kept.specs.History.{IsHistory}
 use Rattle.r4_kept.specs.Kept.{IsKept}
 use Rattle.r4_kept.specs.Meaning.{HasMeaning, Spares, SparesIn}
@@ -179,11 +178,6 @@ module _ {D : Type 0} (d : State) (c : CoreSeen D) (lawful : IsLawful c.buffer) 
             (entry_cases above.name above.entry above.is)) h.why;
       })
 
-  not_before : (i : ℕ) (f : EntrySeen) → buffered new i ≡ Some f → Was b i f → is_captured new i ≡ false
-      → is_captured b i ≡ false
-  not_before i f at was not =
-      false_from_ne_true (is_captured b i) (λ held. true≢false (sym (captured_still i held) ∙ not))
-
   pub same_dirty : (i : ℕ) → is_dirty_by (buffered new i) ≡ is_dirty_by (buffered b i)
   same_dirty i =
       by (buffered b i) (buffered new i)
@@ -218,16 +212,15 @@ module _ {D : Type 0} (d : State) (c : CoreSeen D) (lawful : IsLawful c.buffer) 
       (lt-ltb n.id (blocks_of c)
       (names_below (blocks_of c) x.level (rank x.lo) (rank x.hi) x.block n on.accepted has))
 
-  pub readable_then : IsReadable d b (blocks_of c) → IsReadable d new (blocks_of c)
+  pub readable_then : AreReadable d b (blocks_of c) → AreReadable d new (blocks_of c)
   readable_then h = record {
     accepted = λ i f at not.
         ⊎_elim (λ was.
-        subst (λ (x : CellSeen). cell_fault false (blocks_of c) x.level (rank x.lo) (rank x.hi) x.block ≡ None)
-        (sym was.cell) (h.accepted i was.entry was.is (not_before i f at was not)))
+        subst (IsAccepted (blocks_of c)) (sym was.cell) (h.accepted i was.entry was.is (sym was.dirty ∙ not)))
         (λ read. read.on_disk.accepted) (entry_cases i f at);
     same = λ tells i f at not.
         ⊎_elim (λ was.
-        ap (λ (x : CellSeen). x.block) was.cell ∙ h.same tells i was.entry was.is (not_before i f at was not))
+        ap (λ (x : CellSeen). x.block) was.cell ∙ h.same tells i was.entry was.is (sym was.dirty ∙ not))
         (λ read. read.on_disk.same tells ∙ ap (block_at d.seen) read.named) (entry_cases i f at);
     names = λ i f at yes.
         ⊎_elim (λ was.
@@ -312,6 +305,7 @@ module _ {D : Type 0} (r : Naming) (d : State) (c : CoreSeen D) (k : IsKept r d 
     drawn = drawn_out k.history.first c.turns c.numbers.next_oid c.trace.entries k.history.drawn s can.served.command
         out next.next_oid is can.served.next can.free (can.gets can.served.command can.served.next);
     begins = k.history.begins;
+    committed = k.history.committed;
     room =
         let more = owed_out c.turns s is (k.history.told None tt).scripts out can.free in
         let enough = can.entries in
@@ -353,8 +347,7 @@ module _ {D : Type 0} (r : Naming) (d : State) (c : CoreSeen D) (k : IsKept r d 
         counted = λ a opened. counts_then a _ _ (g.counted a opened);
         unknown = g.unknown;
         objects = g.objects;
-        sealed = g.sealed;
-        rests = g.rests;
+        holds = g.holds;
         room_to_capture = omega (arith, more, captures);
         room_for_cells = omega (arith, more, places, room);
         room_to_defer = omega (arith, claims, enough);
@@ -362,26 +355,44 @@ module _ {D : Type 0} (r : Naming) (d : State) (c : CoreSeen D) (k : IsKept r d 
 
   -- ---- cells
 
+  small : blocks_of c ≤ 2 ^ 63
+  small = let le = k.cells.super40.blocks.1 in omega (arith, le)
+
+  none_some : {a : ℕ} → None ≡ Some a → ⊥
+  none_some e = cc e
+
   fits_by : (commit : Option Commit)
       → ((i : ℕ) (f : EntrySeen) → buffered buffer i ≡ Some f → Was c.buffer i f ⊎ Spares i commit)
-      → FitsCommit d c.buffer commit → FitsCommit d buffer commit
-  fits_by None spares h = tt
-  fits_by (Some x) spares h = by x.work spares h
+      → ((x : Commit) → commit ≡ Some x → (i : ℕ) (f : EntrySeen) → Contains (numbers x.nodes) i
+      → buffered buffer i ≡ Some f → Was c.buffer i f)
+      → FitsCommit d c.buffer (blocks_of c) commit → FitsCommit d buffer (blocks_of c) commit
+  fits_by None spares own h = tt
+  fits_by (Some x) spares own h = by x.work spares (own x refl) h
     where
       by : (w : Option CommitSeen)
           → ((i : ℕ) (f : EntrySeen) → buffered buffer i ≡ Some f → Was c.buffer i f ⊎ SparesIn i w)
-          → IsWritingOf d c.buffer w → IsWritingOf d buffer w
-      by None spares h = tt
-      by (Some w) spares h = record {
+          → ((i : ℕ) (f : EntrySeen) → Contains (numbers x.nodes) i → buffered buffer i ≡ Some f → Was c.buffer i f)
+          → IsWritingOf d c.buffer (blocks_of c) (numbers x.nodes) w
+          → IsWritingOf d buffer (blocks_of c) (numbers x.nodes) w
+      by None spares own h = h
+      by (Some w) spares own h = record {
         fits = h.fits;
         unfinished = h.unfinished;
+        within = h.within;
+        super40 = h.super40;
+        count = h.count;
         base = h.base;
         reads = h.reads;
         apart = λ i p f target at.
-            ⊎_elim (λ was.
-            captured_still d c lawful met can.met_are buffer still cells i
-            (h.apart i p was.entry target was.is))
+            ⊎_elim (λ was. was.dirty ∙ h.apart i p was.entry target was.is)
             (λ spared. absurd (spared p target)) (spares i f at);
+        below = h.below;
+        accepted = λ i f has at.
+            (let was = own i f has at in
+            subst (IsAccepted (blocks_of c)) (sym was.cell) (h.accepted i was.entry has was.is));
+        lands = λ tells i f has at.
+            (let was = own i f has at in
+            ap (λ (y : CellSeen). y.block) was.cell ∙ h.lands tells i was.entry has was.is);
       }
 
   cells_out : AreCells d after
@@ -415,10 +426,19 @@ module _ {D : Type 0} (r : Naming) (d : State) (c : CoreSeen D) (k : IsKept r d 
               (λ some. absurd (true≢false (sym
                   (subst IsSome (ap (owner_of c.atoms) (sym read.named) ∙ read.on_disk.unowned) some)))),
             )) (cases i f at);
+        fresh = λ i f at high.
+            ⊎_elim (λ was. was.dirty ∙ g.fresh i was.entry was.is high)
+            (λ read.
+            (let lt = read.on_disk.block in let named = read.named in absurd (omega (arith, lt, named, high, small))))
+            (cases i f at);
         clean = λ sound. readable_then d c lawful met can.met_are buffer still cells (g.clean sound);
+        nodes = g.nodes;
         commit = fits_by c.commit
             (λ i f at. ⊎_elim (λ was. inl was)
             (λ read. inr (subst (λ (j : ℕ). Spares j c.commit) read.named read.on_disk.spared)) (cases i f at))
+            (λ x is i f has at. ⊎_elim (λ was. was)
+            (λ read. absurd (none_some (sym (ap (owner_of c.atoms) (sym read.named) ∙ read.on_disk.unowned)
+            ∙ (g.nodes x is i).0 has))) (cases i f at))
             g.commit;
       }
     where
@@ -487,9 +507,6 @@ module _ {D : Type 0} (r : Naming) (d : State) (c : CoreSeen D) (k : IsKept r d 
   flipped : (n m : Numbers) → AreApart n m → AreApart m n
   flipped n m (inl h) = inr h
   flipped n m (inr h) = inl h
-
-  small : blocks_of c ≤ 2 ^ 63
-  small = let le = k.cells.super40.blocks.1 in omega (arith, le)
 
   unused_now : (i : ℕ) (e : EntrySeen) → buffered c.buffer i ≡ Some e → out.numbers.fresh.next ≤ i
       → i < out.numbers.fresh.end → ⊥

@@ -24,6 +24,7 @@ use Rattle.r4_sets.proofs.Applied.{memory_stands}
 use Rattle.r4_kept.specs.Kept.{HasStory, IsKept}
 use Rattle.r4_kept.specs.Naming.{Naming, names_in}
 use Rattle.r4_kept.specs.View.{CoreSeen}
+use Rattle.r4_kept.proofs.Readable.{not_dirty}
 use Rattle.r4_taking.specs.GoingOut.{IsMet, IsOnDisk}
 
 -- ---- what a cell says of itself
@@ -91,7 +92,7 @@ module _ {D : Type 0} (r : Naming) (d : State) (c : CoreSeen D) (k : IsKept r d 
           one_node m x (block_at d.seen x.id) alike is.says (on.same h.means.reads)
       by (Some f) some =
           let same : node_of f.cell ≡ m = cc (sym (h.means.cells x.id f some) ∙ at) in
-          let block = (k.cells.clean sound).same h.means.reads x.id f some free in
+          let block = (k.cells.clean sound).same h.means.reads x.id f some (not_dirty c.buffer x.id f some free) in
           one_node m x f.cell.block alike (own_node f.cell m (sym same))
           (on.same h.means.reads ∙ sym block)
 

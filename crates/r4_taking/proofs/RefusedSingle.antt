@@ -83,6 +83,7 @@ module _ {D : Type 0} (r : Naming) (d : State) (c : CoreSeen D) (k : IsKept r d 
             drawn_entry o after.turns next (refusal ∷ trace) (drawn_entry o after.turns next trace away refusal tt)
             (Ended u) tt;
         begins = k.history.begins;
+        committed = k.history.committed;
         room = let fewer = owed_last c.turns s.0 is in omega (arith, fewer, room);
       }
 
@@ -128,8 +129,7 @@ module _ {D : Type 0} (r : Naming) (d : State) (c : CoreSeen D) (k : IsKept r d 
             subst (λ (chosen : ℕ → Bool). ((account_of c.atoms a).born ≤ dones_of chosen trace)
             × ((account_of c.atoms a).gone ≤ dones_of chosen trace))
             (λ j t. sym (same_atom c.atoms u.0 t) j == a) (g.objects a (opens a opened));
-        sealed = g.sealed;
-        rests = g.rests;
+        holds = g.holds;
         room_to_capture = omega (arith, cells, g.room_to_capture);
         room_for_cells = omega (arith, cells, g.room_for_cells);
         room_to_defer = omega (arith, claims, g.room_to_defer);
@@ -149,7 +149,12 @@ module _ {D : Type 0} (r : Naming) (d : State) (c : CoreSeen D) (k : IsKept r d 
           (λ yes. subst IsSome (sym (owners i)) ((g.dirty i e at).0 yes)),
           (λ some. (g.dirty i e at).1 (subst IsSome (owners i) some)),
         );
+        fresh = g.fresh;
         clean = g.clean;
+        nodes = λ x at i. (
+          (λ has. owners i ∙ (g.nodes x at i).0 has),
+          (λ own. (g.nodes x at i).1 (sym (owners i) ∙ own)),
+        );
         commit = g.commit;
       }
 

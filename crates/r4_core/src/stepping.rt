@@ -1,0 +1,55 @@
+//! The steps of a commit that callers make.
+
+ghost use Rattle.std.specs.Prelude.{◌≡◌, ◌↔◌, ◌+◌, ◌≤◌, None};
+ghost use Rattle.r4_commit.specs.Planned.{CommitSeen};
+ghost use Rattle.r4_outside.specs.Device.{Goes, Rose, Spares};
+ghost use Rattle.r4_wander.specs.Progress.{calls_left, under_way};
+ghost use Rattle.r4_wander.specs.Torn.{IsTarget};
+ghost use Rattle.r4_kept.specs.Accounts.{IsStill};
+ghost use Rattle.r4_kept.specs.Steps.{TakesStep, Writes};
+ghost use Rattle.r4_kept.specs.declared.parts.Commit.{Commit};
+ghost use Rattle.r4_kept.specs.declared.parts.Step.TheVariants.{Idle};
+
+use crate::core_state::Core;
+use r4_kept::Step;
+use r4_outside::{Device, Run};
+
+impl<D: Device, R: Run> Core<D, R> {
+    /// Makes one step of the commit under way: from one to four writes and syncs, or none for an atom without cells. It
+    /// takes no memory. `Idle` comes where no commit is under way, `Committed` from the step that wrote and synced the
+    /// journal header, `Broken` where a call of the device failed (docs/core.md, "A commit").
+    pub fn commit_step(&mut self) -> Step
+        ensures goes { Goes (D.state self.old.dev) (D.state self.new.dev) }
+
+        // It does nothing, or what its commit asks for: with the journal header and for an atom without cells comes
+        // the Committed entry, where a call fails the Broken one, each with the clock then.
+        ensures step { TakesStep (D.state self.old.dev) (D.state self.new.dev) self.old self.new
+            self.old.commit result }
+        ensures idle { (result ≡ Idle) ↔ (self.old.commit ≡ None) }
+
+        // A plan has calls left, and the step makes one to four of them.
+        ensures some { (k : Commit) (w : CommitSeen) → Writes self.old k w
+            → 1 ≤ calls_left w.work }
+        ensures calls { (k : Commit) (w : CommitSeen) → Writes self.old k w
+            → Rose (D.state self.old.dev).clock (D.state self.new.dev).clock
+            × ((D.state self.new.dev).clock ≤ (D.state self.old.dev).clock + 4) }
+
+        // No write falls on another block than those of the part that is under way.
+        ensures spares { (k : Commit) (w : CommitSeen) → Writes self.old k w
+            → Spares (IsTarget (under_way w.work)) (D.state self.old.dev) (D.state self.new.dev) }
+
+        // Where none is under way and no call failed, nothing is sealed, held or placed.
+        ensures rests { result ≡ Idle → self.old.broken ≡ None
+            → IsStill self.new.space.sealed self.new.space.held self.new.space.placed }
+    {
+        let writes = match &self.commit {
+            None => return Step::Idle,
+            Some(commit) => commit.work.is_some(),
+        };
+        if writes {
+            self.advance()
+        } else {
+            Step::Committed(self.empty())
+        }
+    }
+}
