@@ -1,5 +1,6 @@
 -- A task is done: the trace, and what the tables tell of it.
-use Rattle.std.proofs.Common.{◌≡◌, ◌-◌, get_or, refl, ℕ, ◌+◌, ◌≤◌, ◌∷◌, List, Option, Some, None, sym, ◌∙◌, ap, subst, arith}
+use Rattle.std.proofs.Common.{◌≡◌, ◌-◌, get_or, refl, ℕ, ◌+◌, ◌≤◌, ◌∷◌, List, Option, Some, None, sym, ◌∙◌, ap, subst}
+use Rattle.std.proofs.Common.{arith}
 use Rattle.std.specs.Prelude.{slice_get}
 use Rattle.std.specs.Option.{option_map}
 use Rattle.r4_atoms.specs.Atoms.{AtomsSeen, is_committed, new_atom, state_of, with_state}

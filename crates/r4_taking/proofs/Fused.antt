@@ -535,7 +535,8 @@ module _ {D : Type 0} (r : Naming) (d : State) (c : CoreSeen D) (k : IsKept r d 
           → HoldsFor x.atom w c.space.sealed c.space.held c.space.placed → is_sealed_in c.space.sealed a ≡ false
       by_work x at None h = none_there c.space.sealed h.none_sealed
       by_work x at (Some w) h =
-          ⊎_elim (none_there c.space.sealed) (λ own. ap (λ (l : List AtomNo). is_sealed_in l a) own ∙ alone x at) h.alone
+          ⊎_elim (none_there c.space.sealed)
+          (λ own. ap (λ (l : List AtomNo). is_sealed_in l a) own ∙ alone x at) h.alone
 
       by : (o : Option Commit) → c.commit ≡ o → HoldsOf o c.space.sealed c.space.held c.space.placed
           → is_sealed_in c.space.sealed a ≡ false
