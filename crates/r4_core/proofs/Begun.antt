@@ -229,7 +229,8 @@ module _ {D : Type 0} (r : Naming) (d : State) (c : CoreSeen D) (k : IsKept r d 
       drawn = drawn_entry k.history.first turns c.numbers.next_oid trace drawn (Begin u s) tt;
       begins = k.history.begins;
       committed = λ x at.
-          (let was = commit_is (commands greatest_size) None d.clock (tables_of c) trace (k.history.told None tt) x.atom.0
+          (let was = commit_is (commands greatest_size) None d.clock (tables_of c) trace (k.history.told None tt)
+          x.atom.0
           (ap committing at) in
           ap (λ (y : AtomState). y.committed) (state_before c.atoms new s.0 b states x.atom.0 was.0.begun)
           ∙ k.history.committed x at);

@@ -82,7 +82,8 @@ use Rattle.r4_kept.specs.declared.parts.Volume.{Volume}
 use Rattle.r4_kept.proofs.Cleaned.{Was, captured_before, none_before, same_now, was_there}
 use Rattle.r4_kept.proofs.Settling.{deferred_then, fewer_dues, more_unused, settled_alike, still_then}
 use Rattle.r4_kept.proofs.States.{opens_same, state_same}
-use Rattle.r4_core.proofs.Writing.{small, Settles, Steps, at_hand, begun_before, named_before, same_read, still_safe, was}
+use Rattle.r4_core.proofs.Writing.{small, Settles, Steps, at_hand, begun_before, named_before, same_read, still_safe}
+use Rattle.r4_core.proofs.Writing.{was}
 
 -- ---- how far the plan is
 

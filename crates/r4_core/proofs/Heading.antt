@@ -60,7 +60,8 @@ use Rattle.r4_kept.specs.declared.parts.Commit.{Commit}
 use Rattle.r4_kept.specs.declared.parts.Volume.{Volume}
 use Rattle.r4_kept.proofs.Owing.{owes_last, owes_two}
 use Rattle.r4_kept.proofs.States.{opens_same, owners_same, state_same, state_there}
-use Rattle.r4_core.proofs.Writing.{small, Settles, Steps, apart_on, at_hand, begun_before, in_time, lawful_super, named_before}
+use Rattle.r4_core.proofs.Writing.{small, Settles, Steps, apart_on, at_hand, begun_before, in_time, lawful_super}
+use Rattle.r4_core.proofs.Writing.{named_before}
 use Rattle.r4_core.proofs.Writing.{readable_now, same_read, was, writing_now}
 
 -- ---- how far the plan is

@@ -1,10 +1,13 @@
 //! A commit goes on.
 
-ghost use Rattle.std.specs.Prelude.{◌≡◌, ◌+◌, ◌≤◌};
+ghost use Rattle.std.specs.Prelude.{◌≡◌, ◌≢◌, ◌+◌, ◌≤◌, ℕ, Some};
 ghost use Rattle.r4_commit.specs.Planned.{CommitSeen};
-ghost use Rattle.r4_outside.specs.Device.{Goes, Rose, Spares};
+ghost use Rattle.r4_outside.specs.Device.{Goes, Rose, Spares, TellsCrashes};
 ghost use Rattle.r4_wander.specs.Progress.{calls_left, under_way};
+ghost use Rattle.r4_durable.specs.Meaning.{Beginning, IsNamed};
+ghost use Rattle.r4_wander.specs.Needed.{SparesNeeded};
 ghost use Rattle.r4_wander.specs.Torn.{IsTarget};
+ghost use Rattle.r4_kept.specs.Naming.{names_of};
 ghost use Rattle.r4_kept.specs.Steps.{IsAdvanced, IsAtNothing, IsAtPlan, Writes, WritesNothing};
 ghost use Rattle.r4_kept.specs.Steps.{emptied};
 ghost use Rattle.r4_kept.specs.declared.parts.Commit.{Commit};
@@ -34,6 +37,11 @@ impl<D: Device, R: Run> Core<D, R> {
             × ((D.state self.new.dev).clock ≤ (D.state self.old.dev).clock + 4) }
         ensures spares { (k : Commit) (w : CommitSeen) → Writes self.old k w
             → Spares (IsTarget (under_way w.work)) (D.state self.old.dev) (D.state self.new.dev) }
+        ensures needed { (b : Beginning) (t : ℕ)
+            → IsNamed (names_of R.start R.clock R.scripts) (D.state self.old.dev).blocks b
+            → R.clock ≡ Some t → TellsCrashes (D.state self.old.dev)
+            → (k : Commit) (w : CommitSeen) → Writes self.old k w → w.work.part ≢ 2
+            → SparesNeeded (D.state self.old.dev) (D.state self.new.dev) }
     {
         on_disk_law();
         let Some(commit) = self.commit.take() else {

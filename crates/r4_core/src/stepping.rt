@@ -1,10 +1,15 @@
 //! The steps of a commit that callers make.
 
-ghost use Rattle.std.specs.Prelude.{◌≡◌, ◌↔◌, ◌+◌, ◌≤◌, None};
+ghost use Rattle.std.specs.Prelude.{◌≡◌, ◌≢◌, ◌↔◌, ◌+◌, ◌≤◌, ℕ, None, Some, false, true};
+ghost use Rattle.std.specs.Prelude.{slice_index_or};
 ghost use Rattle.r4_commit.specs.Planned.{CommitSeen};
-ghost use Rattle.r4_outside.specs.Device.{Goes, Rose, Spares};
+ghost use Rattle.r4_outside.specs.Device.{Goes, Rose, Spares, TellsCrashes};
 ghost use Rattle.r4_wander.specs.Progress.{calls_left, under_way};
+ghost use Rattle.r4_durable.specs.Meaning.{Beginning, IsNamed};
+ghost use Rattle.r4_space.specs.Space.{is_claimed};
+ghost use Rattle.r4_wander.specs.Needed.{SparesNeeded};
 ghost use Rattle.r4_wander.specs.Torn.{IsTarget};
+ghost use Rattle.r4_kept.specs.Naming.{names_of};
 ghost use Rattle.r4_kept.specs.Accounts.{IsStill};
 ghost use Rattle.r4_kept.specs.Steps.{TakesStep, Writes};
 ghost use Rattle.r4_kept.specs.declared.parts.Commit.{Commit};
@@ -38,9 +43,23 @@ impl<D: Device, R: Run> Core<D, R> {
         ensures spares { (k : Commit) (w : CommitSeen) → Writes self.old k w
             → Spares (IsTarget (under_way w.work)) (D.state self.old.dev) (D.state self.new.dev) }
 
+        // But for the homes none falls on a block that an image needs which a crash meanwhile may leave, in a run that
+        // names its image and its clock, on a device that tells this.
+        ensures needed { (b : Beginning) (t : ℕ)
+            → IsNamed (names_of R.start R.clock R.scripts) (D.state self.old.dev).blocks b
+            → R.clock ≡ Some t → TellsCrashes (D.state self.old.dev)
+            → (k : Commit) (w : CommitSeen) → Writes self.old k w → w.work.part ≢ 2
+            → SparesNeeded (D.state self.old.dev) (D.state self.new.dev) }
+
         // Where none is under way and no call failed, nothing is sealed, held or placed.
         ensures rests { result ≡ Idle → self.old.broken ≡ None
             → IsStill self.new.space.sealed self.new.space.held self.new.space.placed }
+
+        // In a run that names an image with a volume each block that is deferred is marked then.
+        ensures comes_back { result ≡ Idle → self.old.broken ≡ None → (b : Beginning)
+            → IsNamed (names_of R.start R.clock R.scripts) (D.state self.new.dev).blocks b
+            → (k : ℕ) → is_claimed self.new.space.deferred k ≡ true
+            → slice_index_or self.new.space.marked k false ≡ true }
     {
         let writes = match &self.commit {
             None => return Step::Idle,

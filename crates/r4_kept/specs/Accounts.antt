@@ -1,6 +1,6 @@
 -- Group C, the accounts: what atoms take up, and what tasks may still use up (docs/space.md).
-use Rattle.std.specs.Prelude.{◌≡◌, ◌⊎◌, ◌↔◌, ℕ, ◌+◌, ◌^◌, ◌≤◌, ◌==◌, nat_le, nat_eq, Bool, false, true}
-use Rattle.std.specs.Prelude.{if◌then◌else◌, List, []}
+use Rattle.std.specs.Prelude.{◌≡◌, ◌⊎◌, ◌↔◌, ℕ, ◌+◌, ◌^◌, ◌≤◌, ◌==◌, nat_le, nat_eq, Bool}
+use Rattle.std.specs.Prelude.{false, true, if◌then◌else◌, List, []}
 use Rattle.std.specs.Prelude.{◌∷◌, length, count_by, sum_by, Contains, slice_index_or}
 use Rattle.std.specs.Prelude.{Option, Some, None}
 use Rattle.std.specs.List.{IsDistinct}

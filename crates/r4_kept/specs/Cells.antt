@@ -39,8 +39,8 @@ pub record HasNames (blocks next : ℕ) (x : CellSeen) : Type 0 where
 abbrev pub IsAccepted : (blocks : ℕ) → CellSeen → Type 0
 IsAccepted blocks x = cell_fault false blocks x.level (rank x.lo) (rank x.hi) x.block ≡ None
 
--- The plan of an atom that owns these nodes fits on the device and is not at its end; its superblock
--- is a lawful one, of as many blocks. Reading gives what it has written so far, on the image with
+-- The plan of an atom that owns these nodes fits on the device and is not at its end; its
+-- superblock is a lawful one, of as many blocks. Reading gives what it has written so far, on the image with
 -- which it began. No cell stands under a block that it writes but a dirty one; and each cell of the
 -- atom is a cell on disk, which at the end is the block of its name.
 pub record IsWriting

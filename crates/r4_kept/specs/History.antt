@@ -45,8 +45,8 @@ owed_in (turn ∷ turns) (script ∷ scripts) = owed_by turn script + owed_in tu
 abbrev pub owed : TurnsSeen → ℕ
 owed t = owed_in t.turns t.job.scripts
 
--- A commit that is under way needs one when it is durable, and one where a call fails; it is durable
--- from its third part on. An atom without cells is durable at once, and calls nothing.
+-- A commit that is under way needs one when it is durable, and one where a call fails; it is
+-- durable from its third part on. An atom without cells is durable at once, and calls nothing.
 abbrev pub owed_for_work : Option CommitSeen → ℕ
 owed_for_work None = 1
 owed_for_work (Some w) = if nat_lt w.work.part 2 then 2 else 1

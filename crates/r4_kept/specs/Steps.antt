@@ -148,8 +148,8 @@ writing k w = record k { work = Some w }
 abbrev pub written : {D : Type 0} → CoreSeen D → (dev : D) → Commit → CommitSeen → CoreSeen D
 written c dev k w = record c { dev = dev; commit = Some (writing k w) }
 
--- Its journal header is written, and the Committed entry tells it with this clock; all else is as it
--- was.
+-- Its journal header is written, and the Committed entry tells it with this clock; all else is as
+-- it was.
 abbrev pub headed : {D : Type 0} → CoreSeen D → (dev : D) → Commit → CommitSeen → (clock : ℕ)
     → CoreSeen D
 headed c dev k w clock = record c {
@@ -169,8 +169,8 @@ failed c dev clock faults = record c {
   trace = with_entry c.trace (TellsBroken clock faults);
 }
 
--- An atom is sealed that owns no cell, and the trace tells it: its commit is under way, which writes
--- nothing.
+-- An atom is sealed that owns no cell, and the trace tells it: its commit is under way, which
+-- writes nothing.
 abbrev pub sealed_empty : {D : Type 0} → CoreSeen D → AtomNo → CoreSeen D
 sealed_empty c atom = record c {
   atoms = with_sealed c.atoms atom.0;
@@ -218,8 +218,8 @@ pub record IsHeaded
     pub answer : atom ≡ k.atom
 
 -- In the part of the journal footer, it wrote that, with all calls that were left: the atom has
--- settled, its cells are dirty no more, and the volume has the superblock and the head that the plan
--- told. No commit is under way; all else is as it was.
+-- settled, its cells are dirty no more, and the volume has the superblock and the head that the
+-- plan told. No commit is under way; all else is as it was.
 pub record IsFooted
     {D : Type 0} (d e : State) (old new : CoreSeen D) (k : Commit) (w : CommitSeen) : Type 0
   where

@@ -7,6 +7,7 @@ use Rattle.r4_core.proofs.Advanced.{at_footer, at_header, at_quiet, footed_now, 
 use Rattle.r4_core.proofs.Footing.{at_end, keeps_footed, may_clean}
 use Rattle.r4_core.proofs.Heading.{at_homes, keeps_headed, may_commit}
 use Rattle.r4_core.proofs.Parting.{keeps_part}
+use Rattle.r4_core.proofs.Sparing.{spares_needed}
 use Rattle.r4_core.proofs.Writing.{keeps_failed, writes_as}
 use Rattle.r4_core.proofs.core_state.Core.advance.Goals as goal
 
@@ -23,7 +24,8 @@ pub commit-requires-clause-atom : goal.commit-requires-clause-atom
 commit-requires-clause-atom g c =
     let asked = rw (← c.self.view_is) at c.requires in
     let x = writes_as _ asked c.in-Some.commit c.in-Some-work.plan (sym c.in-Some.ensures.value) c.in-Some-work.is in
-    let at = at_header _ _ _ c.in-Some.commit c.in-Some-work.plan c.self.invariant x c.step.new.plan c.in-Ok.ensures.next
+    let at = at_header _ _ _ c.in-Some.commit c.in-Some-work.plan c.self.invariant x c.step.new.plan
+    c.in-Ok.ensures.next
     c.in-Ok.stage c.in-Ok.ensures.stage c.in-Headed.is in
     (may_commit _ _ _ c.in-Some.commit c.in-Some-work.plan c.self.invariant x at).0
 
@@ -31,7 +33,8 @@ pub commit-requires-clause-sealed : goal.commit-requires-clause-sealed
 commit-requires-clause-sealed g c =
     let asked = rw (← c.self.view_is) at c.requires in
     let x = writes_as _ asked c.in-Some.commit c.in-Some-work.plan (sym c.in-Some.ensures.value) c.in-Some-work.is in
-    let at = at_header _ _ _ c.in-Some.commit c.in-Some-work.plan c.self.invariant x c.step.new.plan c.in-Ok.ensures.next
+    let at = at_header _ _ _ c.in-Some.commit c.in-Some-work.plan c.self.invariant x c.step.new.plan
+    c.in-Ok.ensures.next
     c.in-Ok.stage c.in-Ok.ensures.stage c.in-Headed.is in
     (may_commit _ _ _ c.in-Some.commit c.in-Some-work.plan c.self.invariant x at).1
 
@@ -39,7 +42,8 @@ pub invariant_of-self-in-Headed : goal.invariant_of-self-in-Headed
 invariant_of-self-in-Headed g c =
     let asked = rw (← c.self.view_is) at c.requires in
     let x = writes_as _ asked c.in-Some.commit c.in-Some-work.plan (sym c.in-Some.ensures.value) c.in-Some-work.is in
-    let at = at_header _ _ _ c.in-Some.commit c.in-Some-work.plan c.self.invariant x c.step.new.plan c.in-Ok.ensures.next
+    let at = at_header _ _ _ c.in-Some.commit c.in-Some-work.plan c.self.invariant x c.step.new.plan
+    c.in-Ok.ensures.next
     c.in-Ok.stage c.in-Ok.ensures.stage c.in-Headed.is in
     keeps_headed _ (g.D.Device.state c.self.inside.dev) _ c.in-Some.commit c.in-Some-work.plan c.self.invariant x at
     c.on_disk_law.ensures (g.D.Device.state c.step.new.dev) c.step.new.dev c.in-Ok.ensures.goes
@@ -52,13 +56,15 @@ invariant_of-self-in-Headed g c =
       stands = c.in-Ok.ensures.stands;
     }) (let rose = c.in-Ok.ensures.clock.0 in omega (arith, rose))
     c.clock-clock-in-Headed.result
-    c.commit.new.self c.push-in-Headed.new.self c.clock-clock-in-Headed.ensures c.commit.ensures c.push-in-Headed.ensures
+    c.commit.new.self c.push-in-Headed.new.self c.clock-clock-in-Headed.ensures c.commit.ensures
+    c.push-in-Headed.ensures
 
 pub clean-requires-clause-atom : goal.clean-requires-clause-atom
 clean-requires-clause-atom g c =
     let asked = rw (← c.self.view_is) at c.requires in
     let x = writes_as _ asked c.in-Some.commit c.in-Some-work.plan (sym c.in-Some.ensures.value) c.in-Some-work.is in
-    let at = at_footer _ _ _ c.in-Some.commit c.in-Some-work.plan c.self.invariant x c.step.new.plan c.in-Ok.ensures.next
+    let at = at_footer _ _ _ c.in-Some.commit c.in-Some-work.plan c.self.invariant x c.step.new.plan
+    c.in-Ok.ensures.next
     c.in-Ok.stage c.in-Ok.ensures.stage c.in-Footed.is in
     (may_clean _ _ _ c.in-Some.commit c.in-Some-work.plan c.self.invariant x at).0
 
@@ -66,7 +72,8 @@ pub clean-requires-clause-sealed : goal.clean-requires-clause-sealed
 clean-requires-clause-sealed g c =
     let asked = rw (← c.self.view_is) at c.requires in
     let x = writes_as _ asked c.in-Some.commit c.in-Some-work.plan (sym c.in-Some.ensures.value) c.in-Some-work.is in
-    let at = at_footer _ _ _ c.in-Some.commit c.in-Some-work.plan c.self.invariant x c.step.new.plan c.in-Ok.ensures.next
+    let at = at_footer _ _ _ c.in-Some.commit c.in-Some-work.plan c.self.invariant x c.step.new.plan
+    c.in-Ok.ensures.next
     c.in-Ok.stage c.in-Ok.ensures.stage c.in-Footed.is in
     (may_clean _ _ _ c.in-Some.commit c.in-Some-work.plan c.self.invariant x at).1
 
@@ -74,7 +81,8 @@ pub invariant_of-self-in-Footed-1 : goal.invariant_of-self-in-Footed-1
 invariant_of-self-in-Footed-1 g c =
     let asked = rw (← c.self.view_is) at c.requires in
     let x = writes_as _ asked c.in-Some.commit c.in-Some-work.plan (sym c.in-Some.ensures.value) c.in-Some-work.is in
-    let at = at_footer _ _ _ c.in-Some.commit c.in-Some-work.plan c.self.invariant x c.step.new.plan c.in-Ok.ensures.next
+    let at = at_footer _ _ _ c.in-Some.commit c.in-Some-work.plan c.self.invariant x c.step.new.plan
+    c.in-Ok.ensures.next
     c.in-Ok.stage c.in-Ok.ensures.stage c.in-Footed.is in
     keeps_footed _ (g.D.Device.state c.self.inside.dev) _ c.in-Some.commit c.in-Some-work.plan c.self.invariant x at
     c.on_disk_law.ensures (g.D.Device.state c.step.new.dev) c.step.new.dev c.in-Ok.ensures.goes
@@ -114,9 +122,11 @@ pub returns-in-Headed-clause-advanced : goal.returns-in-Headed-clause-advanced
 returns-in-Headed-clause-advanced g c =
     let asked = rw (← c.self.view_is) at c.requires in
     let x = writes_as _ asked c.in-Some.commit c.in-Some-work.plan (sym c.in-Some.ensures.value) c.in-Some-work.is in
-    let at = at_header _ _ _ c.in-Some.commit c.in-Some-work.plan c.self.invariant x c.step.new.plan c.in-Ok.ensures.next
+    let at = at_header _ _ _ c.in-Some.commit c.in-Some-work.plan c.self.invariant x c.step.new.plan
+    c.in-Ok.ensures.next
     c.in-Ok.stage c.in-Ok.ensures.stage c.in-Headed.is in
-    rw (← c.self.view_is) (for_plan _ c.in-Some.commit c.in-Some-work.plan (sym c.in-Some.ensures.value) c.in-Some-work.is _
+    rw (← c.self.view_is) (for_plan _ c.in-Some.commit c.in-Some-work.plan (sym c.in-Some.ensures.value)
+    c.in-Some-work.is _
     (headed_now (g.D.Device.state c.self.inside.dev) (g.D.Device.state c.step.new.dev) _ c.in-Some.commit
     c.in-Some-work.plan c.step.new.plan c.step.new.dev c.in-Ok.ensures.told c.in-Ok.ensures.plan c.in-Ok.ensures.next
     c.in-Ok.ensures.calls at
@@ -135,9 +145,11 @@ pub returns-in-Footed-clause-advanced : goal.returns-in-Footed-clause-advanced
 returns-in-Footed-clause-advanced g c =
     let asked = rw (← c.self.view_is) at c.requires in
     let x = writes_as _ asked c.in-Some.commit c.in-Some-work.plan (sym c.in-Some.ensures.value) c.in-Some-work.is in
-    let at = at_footer _ _ _ c.in-Some.commit c.in-Some-work.plan c.self.invariant x c.step.new.plan c.in-Ok.ensures.next
+    let at = at_footer _ _ _ c.in-Some.commit c.in-Some-work.plan c.self.invariant x c.step.new.plan
+    c.in-Ok.ensures.next
     c.in-Ok.stage c.in-Ok.ensures.stage c.in-Footed.is in
-    rw (← c.self.view_is) (for_plan _ c.in-Some.commit c.in-Some-work.plan (sym c.in-Some.ensures.value) c.in-Some-work.is _
+    rw (← c.self.view_is) (for_plan _ c.in-Some.commit c.in-Some-work.plan (sym c.in-Some.ensures.value)
+    c.in-Some-work.is _
     (footed_now (g.D.Device.state c.self.inside.dev) (g.D.Device.state c.step.new.dev) _ c.in-Some.commit
     c.in-Some-work.plan c.step.new.plan c.step.new.dev c.in-Ok.ensures.told c.in-Ok.ensures.plan c.in-Ok.ensures.next
     c.in-Ok.ensures.calls at
@@ -154,7 +166,8 @@ returns-in-Footed-clause-advanced g c =
     (c.super40-super40.ensures ∙ c.in-Ok.ensures.told.1) (c.head-prev.ensures ∙ c.in-Ok.ensures.told.0)
     c.take.ensures.after
     (λ i. c.clean-in-Footed.ensures.buffered i
-    ∙ ap (λ (ids : List NodeId). in_turn cleaned ids i (buffered c.self.inside.buffer i)) c.as_slice.ensures) c.clean-in-Footed.ensures.spare))
+    ∙ ap (λ (ids : List NodeId). in_turn cleaned ids i (buffered c.self.inside.buffer i)) c.as_slice.ensures)
+    c.clean-in-Footed.ensures.spare))
 
 pub returns-in_default-stage : goal.returns-in_default-stage
 returns-in_default-stage g c =
@@ -166,10 +179,47 @@ returns-in_default-stage g c =
       goes = c.in-Ok.ensures.goes;
       advanced = for_plan _ c.in-Some.commit c.in-Some-work.plan (sym c.in-Some.ensures.value) c.in-Some-work.is _
           (written_now (g.D.Device.state c.self.inside.dev) (g.D.Device.state c.step.new.dev) _ c.in-Some.commit
-          c.in-Some-work.plan c.step.new.plan c.step.new.dev c.in-Ok.ensures.told c.in-Ok.ensures.plan c.in-Ok.ensures.next
+          c.in-Some-work.plan c.step.new.plan c.step.new.dev c.in-Ok.ensures.told c.in-Ok.ensures.plan
+          c.in-Ok.ensures.next
           c.in-Ok.ensures.calls at);
       some = for_plan _ c.in-Some.commit c.in-Some-work.plan (sym c.in-Some.ensures.value) c.in-Some-work.is _
           (let calls = c.in-Ok.ensures.calls in let rose = c.in-Ok.ensures.clock.0 in omega (arith, calls, rose));
       calls = (c.in-Ok.ensures.some, c.in-Ok.ensures.few);
-      spares = for_plan _ c.in-Some.commit c.in-Some-work.plan (sym c.in-Some.ensures.value) c.in-Some-work.is _ c.in-Ok.ensures.spares;
+      spares = for_plan _ c.in-Some.commit c.in-Some-work.plan (sym c.in-Some.ensures.value) c.in-Some-work.is _
+          c.in-Ok.ensures.spares;
+      needed = λ b t named at tells. for_plan _ c.in-Some.commit c.in-Some-work.plan (sym c.in-Some.ensures.value)
+          c.in-Some-work.is _
+          (λ other. spares_needed c.on_disk_law.ensures _ (g.D.Device.state c.self.inside.dev)
+          (g.D.Device.state c.step.new.dev) _ c.in-Some.commit c.in-Some-work.plan c.self.invariant x
+          c.in-Ok.ensures.needed other b t named at tells);
     })
+
+pub returns-in-Err-clause-needed : goal.returns-in-Err-clause-needed
+returns-in-Err-clause-needed g c =
+    let asked = rw (← c.self.view_is) at c.requires in
+    let x = writes_as _ asked c.in-Some.commit c.in-Some-work.plan (sym c.in-Some.ensures.value) c.in-Some-work.is in
+    rw (← c.self.view_is) (λ b t named at tells. for_plan _ c.in-Some.commit c.in-Some-work.plan (sym
+    c.in-Some.ensures.value) c.in-Some-work.is _
+    (λ other. spares_needed c.on_disk_law.ensures _ (g.D.Device.state c.self.inside.dev)
+    (g.D.Device.state c.step.new.dev) _ c.in-Some.commit c.in-Some-work.plan c.self.invariant x
+    c.in-Err.ensures.needed other b t named at tells))
+
+pub returns-in-Headed-clause-needed : goal.returns-in-Headed-clause-needed
+returns-in-Headed-clause-needed g c =
+    let asked = rw (← c.self.view_is) at c.requires in
+    let x = writes_as _ asked c.in-Some.commit c.in-Some-work.plan (sym c.in-Some.ensures.value) c.in-Some-work.is in
+    rw (← c.self.view_is) (λ b t named at tells. for_plan _ c.in-Some.commit c.in-Some-work.plan (sym
+    c.in-Some.ensures.value) c.in-Some-work.is _
+    (λ other. spares_needed c.on_disk_law.ensures _ (g.D.Device.state c.self.inside.dev)
+    (g.D.Device.state c.step.new.dev) _ c.in-Some.commit c.in-Some-work.plan c.self.invariant x
+    c.in-Ok.ensures.needed other b t named at tells))
+
+pub returns-in-Footed-clause-needed : goal.returns-in-Footed-clause-needed
+returns-in-Footed-clause-needed g c =
+    let asked = rw (← c.self.view_is) at c.requires in
+    let x = writes_as _ asked c.in-Some.commit c.in-Some-work.plan (sym c.in-Some.ensures.value) c.in-Some-work.is in
+    rw (← c.self.view_is) (λ b t named at tells. for_plan _ c.in-Some.commit c.in-Some-work.plan (sym
+    c.in-Some.ensures.value) c.in-Some-work.is _
+    (λ other. spares_needed c.on_disk_law.ensures _ (g.D.Device.state c.self.inside.dev)
+    (g.D.Device.state c.step.new.dev) _ c.in-Some.commit c.in-Some-work.plan c.self.invariant x
+    c.in-Ok.ensures.needed other b t named at tells))

@@ -2,6 +2,7 @@ use Rattle.std.proofs.Common.{sym, ◌∙◌, subst}
 use Rattle.r4_kept.specs.Steps.{TakesStep}
 use Rattle.r4_kept.specs.View.{CoreSeen}
 use Rattle.r4_kept.specs.declared.parts.Step.TheVariants.{Committed}
+use Rattle.r4_kept.proofs.Resting.{deferred_is_marked}
 use Rattle.r4_core.proofs.Stepped.{at_nothing, at_plan, ended, never_idle, stepped}
 use Rattle.r4_core.proofs.core_state.Core.commit_step.Goals as goal
 
@@ -19,7 +20,8 @@ pub returns-then-writes-clause-step : goal.returns-then-writes-clause-step
 returns-then-writes-clause-step g c =
     let all = rw (← c.self.view_is) at c.advance.ensures.advanced in
     subst (λ (x : CoreSeen g.row.D.Denot). TakesStep (g.D.Device.state x.dev)
-    (g.D.Device.state c.advance.new.self.dev) x c.advance.new.self x.commit c.advance.result) c.self.view_is (stepped _ _ _ c.self.invariant c.in-Some.commit c.in-Some.is
+    (g.D.Device.state c.advance.new.self.dev) x c.advance.new.self x.commit c.advance.result) c.self.view_is (stepped _
+    _ _ c.self.invariant c.in-Some.commit c.in-Some.is
     (g.D.Device.state c.advance.new.self.dev) c.advance.new.self c.advance.result
     (sym c.is_some-writes.ensures ∙ c.if-writes.true) all)
 
@@ -38,3 +40,16 @@ returns-else-writes-clause-step g c =
     c.self.view_is (ended _ _ _ c.self.invariant c.in-Some.commit c.in-Some.is
     (g.D.Device.state c.empty.new.self.dev) c.empty.new.self c.empty.result
     (sym c.is_some-writes.ensures ∙ c.if-writes.false) all)
+
+pub returns-in-None-clause-comes_back : goal.returns-in-None-clause-comes_back
+returns-in-None-clause-comes_back g c =
+    rw (← c.self.view_is) (λ idle sound b named k claimed.
+    deferred_is_marked _ _ _ c.self.invariant b named sound c.in-None.is k claimed)
+
+pub returns-then-writes-clause-comes_back : goal.returns-then-writes-clause-comes_back
+returns-then-writes-clause-comes_back g c = λ idle.
+    (let all = rw (← c.self.view_is) at c.advance.ensures.advanced in
+    let none = (never_idle _ _ _ c.self.invariant c.in-Some.commit c.in-Some.is
+    (g.D.Device.state c.advance.new.self.dev) c.advance.new.self c.advance.result
+    (sym c.is_some-writes.ensures ∙ c.if-writes.true) all).0 idle in
+    absurd (cc (sym none ∙ c.in-Some.is)))

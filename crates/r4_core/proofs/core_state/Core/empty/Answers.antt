@@ -18,18 +18,21 @@ pub clean-requires-clause-atom : goal.clean-requires-clause-atom
 clean-requires-clause-atom g c =
     let asked = rw (← c.self.view_is) at c.requires in
     let x = nothing_as _ asked c.in-Some.commit (sym c.in-Some.ensures.value) in
-    (may_clean _ (g.D.Device.state c.self.inside.dev) _ c.in-Some.commit c.self.invariant x c.commit.new.self c.commit.ensures).0
+    (may_clean _ (g.D.Device.state c.self.inside.dev) _ c.in-Some.commit c.self.invariant x c.commit.new.self
+    c.commit.ensures).0
 
 pub clean-requires-clause-sealed : goal.clean-requires-clause-sealed
 clean-requires-clause-sealed g c =
     let asked = rw (← c.self.view_is) at c.requires in
     let x = nothing_as _ asked c.in-Some.commit (sym c.in-Some.ensures.value) in
-    (may_clean _ (g.D.Device.state c.self.inside.dev) _ c.in-Some.commit c.self.invariant x c.commit.new.self c.commit.ensures).1
+    (may_clean _ (g.D.Device.state c.self.inside.dev) _ c.in-Some.commit c.self.invariant x c.commit.new.self
+    c.commit.ensures).1
 
 pub invariant_of-self : goal.invariant_of-self
 invariant_of-self g c =
     let asked = rw (← c.self.view_is) at c.requires in
     let x = nothing_as _ asked c.in-Some.commit (sym c.in-Some.ensures.value) in
-    keeps_emptied _ (g.D.Device.state c.self.inside.dev) _ c.in-Some.commit c.self.invariant x c.commit.new.self c.clean.new.self
+    keeps_emptied _ (g.D.Device.state c.self.inside.dev) _ c.in-Some.commit c.self.invariant x c.commit.new.self
+    c.clean.new.self
     c.take.new.self c.clock-clock.result c.push.new.self c.commit.ensures c.clean.ensures.atoms c.clean.ensures.owners
     c.take.ensures.after c.clock-clock.ensures c.push.ensures
