@@ -2,7 +2,7 @@
 -- it is where a command is answered while no task of its script is out, and where a transaction ends.
 use Rattle.std.proofs.Common.{◌≡◌, inl, inr, ℕ, ◌+◌, ◌-◌, ◌≤◌, ◌==◌, false, List, ◌∷◌, Option, Some, None}
 use Rattle.std.proofs.Common.{length, refl, sym, ◌∙◌, ap, subst, arith}
-use Rattle.std.specs.Prelude.{IsSome, Ok, slice_index_or, sum_by}
+use Rattle.std.specs.Prelude.{IsSome, Ok, slice_get, slice_index_or, sum_by}
 use Rattle.std.specs.Option.{option_map}
 use Rattle.std.proofs.lemmas.Bool.{cases_eq}
 use Rattle.r4_atoms.specs.Atoms.{IsOpenAtom, TxnSeen, atom_of, owner_of}
@@ -33,7 +33,8 @@ use Rattle.r4_trace.specs.declared.entry.Entry.{Entry}
 use Rattle.r4_trace.specs.declared.entry.Entry.TheVariants.{Acked, Begin, Broken, Committed, Done, Ended, Fuse, Refused}
 use Rattle.r4_trace.specs.declared.entry.Entry.TheVariants.{Sealed}
 use Rattle.r4_trace.proofs.Safely.{safe_push}
-use Rattle.r4_turns.specs.Turns.{IsScript, TurnsSeen, answered_one, no_script, turn_at, with_turn}
+use Rattle.r4_turns.specs.Turns.{IsScript, TurnsSeen, answered_at, answered_one, commands_at, no_script}
+use Rattle.r4_turns.specs.Turns.{turn_at, with_turn}
 use Rattle.r4_turns.specs.declared.out.Numbers.{Numbers}
 use Rattle.r4_turns.specs.declared.out.Out.{Out}
 use Rattle.r4_turns.specs.declared.turn.Turn.{Turn}
@@ -63,10 +64,12 @@ pub record TurnsGoOn (old new : TurnsSeen) : Type 0 where
       → sum_by (λ (x : Turn). f x.out) new.turns ≡ sum_by (λ (x : Turn). f x.out) old.turns
   pub numbers : (q : ℕ) (n : Numbers) → IsScript new q → numbers_of (turn_at new q) ≡ Some n
       → numbers_of (turn_at old q) ≡ Some n
+  -- a command that is out is the next one still
+  pub nexts : (q : ℕ) (out : Out) → IsOut new q out → next_at new q ≡ next_at old q
 
 -- the turn of a script changes, with its task and its numbers as they are
 module _ (t : TurnsSeen) (s : ℕ) (is : IsScript t s) (turn : Turn) (task : turn.out ≡ (turn_at t s).out)
-    (drawn : numbers_of turn ≡ numbers_of (turn_at t s)) where
+    (drawn : numbers_of turn ≡ numbers_of (turn_at t s)) (count : turn.answered ≡ answered_at t s) where
   pub turned_goes_on : TurnsGoOn t (with_turn t s turn)
   turned_goes_on = record {
     scripts = λ q has. is_script_before t s turn is q has;
@@ -78,6 +81,7 @@ module _ (t : TurnsSeen) (s : ℕ) (is : IsScript t s) (turn : Turn) (task : tur
         let same : f turn.out ≡ f (turn_at t s).out = ap f task in
         omega (arith, one, same));
     numbers = λ q n has is_n. sym (same_of t s turn is numbers_of drawn q) ∙ is_n;
+    nexts = λ q out has. ap (slice_get (commands_at t q)) (same_of t s turn is (λ (x : Turn). x.answered) count q);
   }
 
 -- a script's next command is answered while no task of it is out
@@ -105,12 +109,24 @@ module _ (t : TurnsSeen) (s : ℕ) (is : IsScript t s) (none : (turn_at t s).out
     | inr other ↦ sym (ap numbers_of (turn_other t s q next is has.0 other)) ∙ is_n
   ]
 
+  next_answered : (q : ℕ) (out : Out) → IsOut (answered_one t s) q out → next_at (answered_one t s) q ≡ next_at t q
+  next_answered q out has = elim (cases_eq q s) [
+    | inl same ↦
+        let here : (turn_at (answered_one t s) q).out ≡ None =
+        ap (λ (m : ℕ). (turn_at (answered_one t s) m).out) same
+        ∙ ap (λ (x : Turn). x.out) (turn_now t s next is) ∙ none in
+        absurd (cc (sym here ∙ has.is_out))
+    | inr other ↦
+        ap (λ (x : Turn). slice_get (commands_at t q) x.answered) (turn_other t s q next is has.is_script.0 other)
+  ]
+
   pub answered_goes_on : TurnsGoOn t (answered_one t s)
   answered_goes_on = record {
     scripts = λ q has. is_script_before t s next is q has;
     outs = λ q out has. out_before t s next is refl q out has;
     sums = sums_answered;
     numbers = numbers_answered;
+    nexts = next_answered;
   }
 
 pub goes_on_twice : (a b c : TurnsSeen) → TurnsGoOn a b → TurnsGoOn b c → TurnsGoOn a c
@@ -119,6 +135,7 @@ goes_on_twice a b c one two = record {
   outs = λ q out has. one.outs q out (two.outs q out has);
   sums = λ f. two.sums f ∙ one.sums f;
   numbers = λ q n has is_n. one.numbers q n (two.scripts q has) (two.numbers q n has is_n);
+  nexts = λ q out has. two.nexts q out has ∙ one.nexts q out (two.outs q out has);
 }
 
 -- ---- who has no task out
@@ -267,6 +284,9 @@ module _ {D : Type 0} (r : Naming) (d : State) (c : CoreSeen D) (k : IsKept r d 
           apart = λ q p n m has also other is_n is_m. g.apart q p n m (on.scripts q has) (on.scripts p also) other
               (on.numbers q n has is_n) (on.numbers p m also is_m);
           unused = λ q i n e has is_n. g.unused q i n e (on.scripts q has) (on.numbers q n has is_n);
+          unreached = λ q p n o x has is_n out. g.unreached q p n o x (on.scripts q has) (on.numbers q n has is_n)
+              (on.outs p o out);
+          given = λ q o x has next. g.given q o x (on.outs q o has) (sym (on.nexts q o has) ∙ next);
         }
 
 -- with an entry more

@@ -259,6 +259,8 @@ module _ {D : Type 0} (r : Naming) (old d : State) (dev : D) (job : Job) (thresh
     drawn = λ s n is has. absurd (no_numbers job s n has);
     apart = λ s q n m is also other has. absurd (no_numbers job s n has);
     unused = λ s i n e is has. absurd (no_numbers job s n has);
+    unreached = λ s q n out x is has. absurd (no_numbers job s n has);
+    given = λ s out x is. absurd (none_out job s out is);
   }
 
   -- ---- in a run that names its beginning

@@ -275,6 +275,9 @@ module _ {D : Type 0} (r : Naming) (d : State) (c : CoreSeen D) (k : IsKept r d 
           apart = λ q p n m has also other is_n is_m. g.apart q p n m (on.scripts q has) (on.scripts p also) other
               (on.numbers q n has is_n) (on.numbers p m also is_m);
           unused = λ q i n e has is_n. g.unused q i n e (on.scripts q has) (on.numbers q n has is_n);
+          unreached = λ q p n o x has is_n out. g.unreached q p n o x (on.scripts q has) (on.numbers q n has is_n)
+              (on.outs p o out);
+          given = λ q o x has next. g.given q o x (on.outs q o has) (sym (on.nexts q o has) ∙ next);
         }
 
     -- ---- in a run that names its beginning
@@ -393,7 +396,7 @@ module _ {D : Type 0} (r : Naming) (d : State) (c : CoreSeen D) (k : IsKept r d 
   none_there = same_of c.turns s.0 turn is (λ (x : Turn). x.out) refl s.0 ∙ none_out
 
   on : TurnsGoOn c.turns (answered_one within s.0)
-  on = goes_on_twice c.turns within (answered_one within s.0) (turned_goes_on c.turns s.0 is turn refl refl)
+  on = goes_on_twice c.turns within (answered_one within s.0) (turned_goes_on c.turns s.0 is turn refl refl refl)
       (answered_goes_on within s.0 there none_there)
 
   fewer : owed (answered_one within s.0) ≤ owed c.turns
@@ -448,7 +451,7 @@ module _ {D : Type 0} (r : Naming) (d : State) (c : CoreSeen D) (k : IsKept r d 
   in_its_own = record (turn_at c.turns s.0) { transaction = Some (single u) }
 
   goes_alone : TurnsGoOn c.turns (entered c.turns s.0 (single u))
-  goes_alone = turned_goes_on c.turns s.0 alone in_its_own refl refl
+  goes_alone = turned_goes_on c.turns s.0 alone in_its_own refl refl refl
 
   module _ (new : AtomsSeen) (b : Begins c.atoms new s.0) (number : u.0 ≡ length c.atoms.txns + 1)
       (names : (n : ℕ) → owner_of new n ≡ owner_of c.atoms n) (spare : new.spare ≡ c.atoms.spare)

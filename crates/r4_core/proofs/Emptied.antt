@@ -294,6 +294,8 @@ module _ {D : Type 0} (r : Naming) (d : State) (x : CoreSeen D) (k : Commit)
       drawn = h.tasks.drawn;
       apart = h.tasks.apart;
       unused = h.tasks.unused;
+      unreached = h.tasks.unreached;
+      given = h.tasks.given;
     };
     lender = h.lender;
     story = λ b named. record {

@@ -77,7 +77,7 @@ module _ (t : TurnsSeen) (s : ℕ) (is : IsScript t s) where
   there = is_script_with t s without s is
 
   pub left_goes_on : TurnsGoOn t away
-  left_goes_on = turned_goes_on t s is without refl refl
+  left_goes_on = turned_goes_on t s is without refl refl refl
 
   pub owed_left : owed away ≤ owed t
   owed_left = owed_less t s without is (λ x. omega arith)

@@ -526,6 +526,8 @@ module _ {D : Type 0} (disk : FitsOnDisk) (r : Naming) (d e : State) (x : CoreSe
           drawn = g.drawn;
           apart = g.apart;
           unused = λ s i n f has is_n at. (let old = was_so i f at in g.unused s i n old.entry has is_n old.is);
+          unreached = g.unreached;
+          given = g.given;
         }
 
     -- ---- in a run that names its beginning

@@ -1,6 +1,6 @@
 -- A task is given back: what holds of a core holds still.
 use Rattle.std.proofs.Common.{◌≡◌, inl, inr, ℕ, ◌+◌, Option, Some, None, refl, sym, ◌∙◌, ap, subst, arith}
-use Rattle.std.specs.Prelude.{sum_by}
+use Rattle.std.specs.Prelude.{slice_get, sum_by}
 use Rattle.std.specs.Option.{option_map}
 use Rattle.std.proofs.lemmas.Bool.{cases_eq}
 use Rattle.r4_atoms.specs.Atoms.{numbers}
@@ -13,13 +13,14 @@ use Rattle.r4_content.specs.Meaning.{greatest_size}
 use Rattle.r4_durable.specs.Meaning.{Beginning, start_of}
 use Rattle.r4_history.specs.Drawn.{numbers_in, numbers_of}
 use Rattle.r4_history.specs.Held.{IsOut}
+use Rattle.r4_history.specs.Tables.{next_at}
 use Rattle.r4_history.proofs.DrawnSteps.{drawn_back, turn_other}
 use Rattle.r4_history.proofs.Places.{turn_now}
 use Rattle.r4_history.proofs.RunSteps.{told_back}
 use Rattle.r4_history.proofs.TaskSteps.{tasks_back}
 use Rattle.r4_locks.specs.Locks.{IsTask, LocksSeen, OthersAsBefore, task_at}
 use Rattle.r4_outside.specs.Device.{State}
-use Rattle.r4_turns.specs.Turns.{IsScript, TurnsSeen, given_back, turn_at}
+use Rattle.r4_turns.specs.Turns.{IsScript, TurnsSeen, commands_at, given_back, turn_at}
 use Rattle.r4_turns.specs.declared.out.Out.{Out}
 use Rattle.r4_turns.specs.declared.turn.Turn.{Turn}
 use Rattle.r4_kept.specs.Accounts.{AreAccounts, CountsCells, cells_for, claims_for}
@@ -32,7 +33,7 @@ use Rattle.r4_kept.specs.Tables.{AreTables}
 use Rattle.r4_kept.specs.TasksOut.{AreOut, pins_in}
 use Rattle.r4_kept.specs.View.{CoreSeen, blocks_of, tables_of}
 use Rattle.r4_kept.specs.declared.parts.Commit.{Commit}
-use Rattle.r4_kept.proofs.Turning.{is_script_before, out_of_others, owed_less, summed}
+use Rattle.r4_kept.proofs.Turning.{is_script_before, out_of_others, owed_less, same_of, summed}
 use Rattle.r4_kept.proofs.Unused.{AreLike, IsLike, none_there, readable_like, same_dirty, unused_fewer}
 use Rattle.r4_kept.proofs.Unused.{unused_like, was_there}
 
@@ -51,6 +52,10 @@ module _ (t : TurnsSeen) (s : ℕ) (out : Out) (is : IsScript t s) (was : (turn_
         ∙ ap (λ (m : ℕ). numbers_of (turn_at t m)) (sym same)
     | inr other ↦ ap numbers_of (turn_other t s q back is has.0 other)
   ]
+
+  -- and so is each next command
+  pub next_back : (q : ℕ) → next_at (given_back t s out.numbers) q ≡ next_at t q
+  next_back q = ap (slice_get (commands_at t q)) (same_of t s back is (λ (x : Turn). x.answered) refl q)
 
   -- what is added up of the tasks that are out is less by what this one had
   pub sums_fall : (f : Option Out → ℕ) → f None ≡ 0
@@ -209,6 +214,10 @@ module _ {D : Type 0} (r : Naming) (d : State) (c : CoreSeen D) (k : IsKept r d 
             (let one = scripts q has in
             let e = was_there c.buffer buffer like i f at in
             g.unused q i n e.entry one (sym (same q one) ∙ is_n) e.is);
+        unreached = λ q p n o x has is_n there.
+            (let one = scripts q has in
+            g.unreached q p n o x one (sym (same q one) ∙ is_n) (outs p o there));
+        given = λ q o x has next. g.given q o x (outs q o has) (sym (next_back c.turns s out is was q) ∙ next);
       }
 
   means_back : (b : Beginning) (h : HasStory r b d c) → HasMeaning b (job_named r.scripts) d after h.story

@@ -443,6 +443,8 @@ module _ {D : Type 0} (disk : FitsOnDisk) (r : Naming) (d e : State) (x : CoreSe
       drawn = h.tasks.drawn;
       apart = h.tasks.apart;
       unused = h.tasks.unused;
+      unreached = h.tasks.unreached;
+      given = h.tasks.given;
     };
     lender = λ l is_l. goes.lender ∙ h.lender l is_l;
     story = λ b named. record {

@@ -9,7 +9,9 @@ use Rattle.r4_content.specs.Meaning.{greatest_size}
 use Rattle.r4_content.specs.declared.command.Command.{Command}
 use Rattle.r4_content.specs.declared.command.Command.TheVariants as asks
 use Rattle.r4_durable.specs.Meaning.{Beginning, IsNamed, start_of}
+use Rattle.r4_history.specs.Held.{IsOut}
 use Rattle.r4_history.proofs.DrawnSteps.{drawn_pushed}
+use Rattle.r4_history.proofs.Places.{next_pushed, next_there}
 use Rattle.r4_history.proofs.RunSteps.{told_pushed}
 use Rattle.r4_history.proofs.TaskSteps.{tasks_pushed}
 use Rattle.r4_history.proofs.WaitingSteps.{pushed_ordered}
@@ -17,7 +19,8 @@ use Rattle.r4_outside.specs.Device.{State}
 use Rattle.r4_script.specs.declared.job.Script.{Script}
 use Rattle.r4_trace.specs.Job.{HasNoBegin, IsWork}
 use Rattle.r4_trace.specs.Kept.{Told}
-use Rattle.r4_turns.specs.Turns.{IsScript, TurnsSeen, commands_at, no_script, with_command}
+use Rattle.r4_turns.specs.Turns.{HasNext, IsScript, TurnsSeen, commands_at, no_script, with_command}
+use Rattle.r4_turns.specs.declared.out.Out.{Out}
 use Rattle.r4_turns.specs.declared.turn.Turn.{Turn}
 use Rattle.r4_kept.specs.History.{IsHistory, is_commit, owed, owed_for_commit, owed_in}
 use Rattle.r4_kept.specs.Kept.{HasStory, IsKept}
@@ -63,12 +66,15 @@ owed_pushed t s y = owed_in_pushed t.turns t.job.scripts (s - 1) y
 
 -- ---- a core
 
-goes_on_pushed : (t : TurnsSeen) (s : ℕ) (y : Command) → TurnsGoOn t (with_command t s y)
-goes_on_pushed t s y = record {
+goes_on_pushed : (t : TurnsSeen) (s : ℕ) (y : Command) → IsScript t s → length t.turns ≡ length t.job.scripts
+    → ((q : ℕ) (out : Out) → IsOut t q out → HasNext t q) → TurnsGoOn t (with_command t s y)
+goes_on_pushed t s y is scripts left = record {
   scripts = λ q has. has;
   outs = λ q out has. record { is_script = has.is_script; is_out = has.is_out };
   sums = λ f. refl;
   numbers = λ q n has is_n. is_n;
+  nexts = λ q out has. next_pushed t s y is scripts q
+      (left q out (record { is_script = has.is_script; is_out = has.is_out }));
 }
 
 goes_on_same : (t : TurnsSeen) → TurnsGoOn t t
@@ -77,6 +83,7 @@ goes_on_same t = record {
   outs = λ q out has. has;
   sums = λ f. refl;
   numbers = λ q n has is_n. is_n;
+  nexts = λ q out has. refl;
 }
 
 module _ {D : Type 0} (r : Naming) (d : State) (c : CoreSeen D) (k : IsKept r d c) where
@@ -177,7 +184,10 @@ module _ {D : Type 0} (r : Naming) (d : State) (c : CoreSeen D) (k : IsKept r d 
 
     keeps_push : IsKept r d (record c { turns = with_command c.turns s y })
     keeps_push =
-        keeps_with (with_command c.turns s y) c.trace.spare (goes_on_pushed c.turns s y) history_pushed
+        keeps_with (with_command c.turns s y) c.trace.spare
+        (goes_on_pushed c.turns s y is scripts
+        (λ q out has.
+        (let v = k.tables.tasks.served q out has in next_there c.turns q v.command v.next))) history_pushed
         (record {
           tasks = tasks_pushed (tables_of c) c.locks k.tables.tasks s y is scripts;
           ordered = pushed_ordered c.turns s y is scripts plain ok k.tables.ordered;

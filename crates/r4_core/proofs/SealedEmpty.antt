@@ -324,6 +324,8 @@ module _ {D : Type 0} (r : Naming) (d : State) (x : CoreSeen D) (k : AtomNo)
       drawn = h.tasks.drawn;
       apart = h.tasks.apart;
       unused = h.tasks.unused;
+      unreached = h.tasks.unreached;
+      given = h.tasks.given;
     };
     lender = h.lender;
     story = λ b named. record {

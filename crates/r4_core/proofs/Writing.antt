@@ -412,6 +412,8 @@ module _ {D : Type 0} (disk : FitsOnDisk) (r : Naming) (d e : State) (x : CoreSe
       drawn = h.tasks.drawn;
       apart = h.tasks.apart;
       unused = h.tasks.unused;
+      unreached = h.tasks.unreached;
+      given = h.tasks.given;
     };
     lender = λ l is. goes.lender ∙ h.lender l is;
     story = λ b named. record { story = last b named; means = means_over b named; durable = durable_over b named };

@@ -1,17 +1,46 @@
--- Group E, the tasks that are out, on every image. What is owed yet: that the cells of a task are
--- those which its command reaches in a part of a tree, in which none of its new numbers is named.
--- That waits for the reach of a command, and for the type of a task that has it.
-use Rattle.std.specs.Prelude.{◌≡◌, ◌≢◌, ◌⊎◌, ℕ, ◌^◌, ◌<◌, ◌≤◌, ◌==◌, List, count_by, sum_by}
-use Rattle.std.specs.Prelude.{Option, Some, None}
+-- Group E, the tasks that are out, on every image: what they were given, and the numbers that they
+-- have (docs/volume.md, "Reach" and "Building").
+use Rattle.std.specs.Prelude.{◌≡◌, ◌≢◌, ◌⊎◌, ◌++◌, ℕ, ◌+◌, ◌^◌, ◌<◌, ◌≤◌, ◌==◌, Contains, List}
+use Rattle.std.specs.Prelude.{Option, Some, None, count_by, length, sum_by}
 use Rattle.r4_base.specs.declared.things.NodeId.{NodeId}
 use Rattle.r4_buffer.specs.Changed.{uses_of}
 use Rattle.r4_buffer.specs.Seen.{EntrySeen, buffered}
+use Rattle.r4_build.specs.Building.{CanBuild, most_new}
+use Rattle.r4_cell.specs.Patch.{by_name, root_of_pair}
+use Rattle.r4_cell.specs.Seen.{CellSeen}
+use Rattle.r4_cell.specs.declared.change.Root.{Root}
+use Rattle.r4_content.specs.Meaning.{with_id}
+use Rattle.r4_content.specs.declared.command.Command.{Command}
 use Rattle.r4_history.specs.Drawn.{numbers_of}
+use Rattle.r4_history.specs.Held.{IsOut}
+use Rattle.r4_history.specs.Tables.{next_at}
+use Rattle.r4_reach.specs.Answer.{IsReachOf}
+use Rattle.r4_reach.specs.Touched.{body_on, edits_on, reads_on}
 use Rattle.r4_turns.specs.Turns.{IsScript, turn_at}
 use Rattle.r4_turns.specs.declared.out.Numbers.{Numbers}
 use Rattle.r4_turns.specs.declared.out.Out.{Out}
 use Rattle.r4_turns.specs.declared.turn.Turn.{Turn}
 use Rattle.r4_kept.specs.View.{CoreSeen}
+
+-- ---- what a task was given
+
+-- The cells that a reading met were a part of a tree with this root pair. There the command reaches
+-- what the task reads and writes, and its edits may be made with the task's numbers, none of which
+-- stands or is named there. There is room for the cells that it captures and that may come, and for
+-- a charge and its claims.
+pub record IsGiven (c : Command) (out : Out) : Type 0 where
+  pub root : Root
+  pub met : List CellSeen
+  pub rises : Option Root
+  pub reach : IsReachOf root c met out.reads out.writes rises
+  pub can : CanBuild (body_on c reach.seen reach.in_extents) (edits_on c reach.seen)
+      (reads_on c reach.seen reach.in_extents) (by_name met) (root_of_pair root)
+      out.numbers.fresh out.writes
+  pub cells : length out.writes
+      + most_new (body_on c reach.seen reach.in_extents) (edits_on c reach.seen)
+      (reads_on c reach.seen reach.in_extents) (by_name met) (root_of_pair root) out.writes
+      ≤ out.cells
+  pub claims : length out.writes + 1 ≤ out.claims
 
 -- ---- pins
 
@@ -51,3 +80,10 @@ pub record AreOut {D : Type 0} (c : CoreSeen D) : Type 0 where
   pub unused : (s i : ℕ) (n : Numbers) (e : EntrySeen) → IsScript c.turns s
       → numbers_of (turn_at c.turns s) ≡ Some n → buffered c.buffer i ≡ Some e
       → n.fresh.next ≤ i → i < n.fresh.end → ⊥
+  -- nor has a cell that a task was given
+  pub unreached : (s q : ℕ) (n : Numbers) (out : Out) (x : CellSeen) → IsScript c.turns s
+      → numbers_of (turn_at c.turns s) ≡ Some n → IsOut c.turns q out
+      → Contains (out.reads ++ out.writes) x → n.fresh.next ≤ x.id → x.id < n.fresh.end → ⊥
+  -- each task was given what its script's next command reaches, with the id that was drawn for it
+  pub given : (s : ℕ) (out : Out) (x : Command) → IsOut c.turns s out
+      → next_at c.turns s ≡ Some x → IsGiven (with_id out.numbers.oid x) out

@@ -1,0 +1,88 @@
+-- A task is done: what is said of the tasks that are still out.
+use Rattle.std.proofs.Common.{◌≡◌, ◌≢◌, ◌⊎◌, ⊎_elim, ℕ, ◌<◌, ◌≤◌, List, Option, Some}
+use Rattle.std.proofs.Common.{Contains, refl}
+use Rattle.std.proofs.Common.{sym}
+use Rattle.std.proofs.Common.{◌∙◌, ap, subst, arith}
+use Rattle.std.proofs.lemmas.List.Elements.{Contains-append_right}
+use Rattle.r4_buffer.specs.Changed.{in_turn, replaced, unused}
+use Rattle.r4_buffer.specs.Seen.{BufferSeen, EntrySeen, buffered}
+use Rattle.r4_cell.specs.Seen.{CellSeen}
+use Rattle.r4_history.specs.Drawn.{numbers_in, numbers_of}
+use Rattle.r4_history.specs.Held.{IsOut}
+use Rattle.r4_outside.specs.Device.{State}
+use Rattle.r4_patch.specs.Joining.{ids_of}
+use Rattle.r4_turns.specs.Turns.{IsScript, TurnsSeen, turn_at}
+use Rattle.r4_turns.specs.declared.out.Numbers.{Numbers}
+use Rattle.r4_turns.specs.declared.out.Out.{Out}
+use Rattle.r4_kept.specs.Kept.{IsKept}
+use Rattle.r4_kept.specs.Naming.{Naming}
+use Rattle.r4_kept.specs.TasksOut.{AreOut, pins_in}
+use Rattle.r4_kept.specs.View.{CoreSeen}
+use Rattle.r4_done.proofs.Dropped.{TurnsDrop}
+use Rattle.r4_done.proofs.Named.{one_of_ids}
+use Rattle.r4_done.proofs.Replaced.{entry_cases, uses_then}
+
+-- each new cell has the name of an old one, or a number of the task's
+abbrev pub AreNumbered : (old new : List CellSeen) → Numbers → Type 0
+AreNumbered old new n =
+    (x : CellSeen) → Contains new x
+    → Contains (ids_of old) x.id ⊎ ((n.fresh.next ≤ x.id) × (x.id < n.fresh.end))
+
+module _ {D : Type 0} (r : Naming) (d : State) (c : CoreSeen D) (k : IsKept r d c) (s : ℕ) (out : Out)
+    (here : IsOut c.turns s out) (old new : List CellSeen) (reached : (x : CellSeen) → Contains old x
+    → Contains out.writes x)
+    (numbered : AreNumbered old new out.numbers) (turns : TurnsSeen) (on : TurnsDrop c.turns turns s out) where
+  -- its numbers are those of its script's next command
+  own : numbers_of (turn_at c.turns s) ≡ Some out.numbers
+  own = ap (λ (o : Option Out). numbers_in o (turn_at c.turns s).numbers) here.is_out
+
+  -- a name that the change touches is no number of another command
+  pub not_numbers : (q i : ℕ) (n : Numbers) → IsScript c.turns q → q ≢ s → numbers_of (turn_at c.turns q) ≡ Some n
+      → Contains (ids_of old) i ⊎ ((out.numbers.fresh.next ≤ i) × (i < out.numbers.fresh.end))
+      → n.fresh.next ≤ i → i < n.fresh.end → ⊥
+  not_numbers q i n has other is_n why low high =
+      ⊎_elim (λ named.
+      (let x = one_of_ids old i named in
+      k.tasks.unreached q s n out x.0 has is_n here
+      (Contains-append_right out.reads out.writes x.0 (reached x.0 x.1))
+      (subst (λ (j : ℕ). n.fresh.next ≤ j) (sym x.2) low) (subst (λ (j : ℕ). j < n.fresh.end) (sym x.2) high)))
+      (λ fresh.
+      (let from = fresh.0 in
+      let to = fresh.1 in
+      ⊎_elim (λ below. absurd (omega (arith, below, from, high))) (λ above. absurd (omega (arith, above, to, low)))
+      (k.tasks.apart q s n out.numbers has here.is_script other is_n own))) why
+
+  module _ (buffer : BufferSeen)
+      (cells : (i : ℕ) → buffered buffer i ≡ in_turn unused out.pins i (replaced old new i (buffered c.buffer i))) where
+    unused_done : (q i : ℕ) (n : Numbers) (f : EntrySeen) → IsScript turns q
+        → numbers_of (turn_at turns q) ≡ Some n → buffered buffer i ≡ Some f → n.fresh.next ≤ i → i < n.fresh.end → ⊥
+    unused_done q i n f has is_n at low high =
+        let was = on.numbers q n has is_n in
+        ⊎_elim (λ e. k.tasks.unused q i n e.entry (on.scripts q has) was.1 e.is low high)
+        (λ y.
+        not_numbers q i n (on.scripts q has) was.0 was.1
+        (subst (λ (j : ℕ). Contains (ids_of old) j ⊎ ((out.numbers.fresh.next ≤ j) × (j < out.numbers.fresh.end)))
+        y.named (numbered f.cell y.there)) low high)
+        (entry_cases c.buffer buffer old new out.pins cells i f at)
+
+    pub tasks_done : (after : CoreSeen D) → after ≡ record after {
+      turns = turns;
+      buffer = buffer;
+      numbers = c.numbers;
+    } → AreOut after
+    tasks_done after same =
+        let g = k.tasks in
+        subst AreOut (sym same) (record {
+          uses = λ i.
+              (let fewer = uses_then c.buffer buffer old new out.pins cells i in
+              let sums = on.sums (λ o. pins_in o i) refl in
+              let le = g.uses i in
+              omega (arith, fewer, sums, le));
+          drawn = λ q n has is_n. g.drawn q n (on.scripts q has) (on.numbers q n has is_n).1;
+          apart = λ q p n m has also other is_n is_m. g.apart q p n m (on.scripts q has) (on.scripts p also) other
+              (on.numbers q n has is_n).1 (on.numbers p m also is_m).1;
+          unused = unused_done;
+          unreached = λ q p n o x has is_n is_out. g.unreached q p n o x (on.scripts q has) (on.numbers q n has is_n).1
+              (on.outs p o is_out).1;
+          given = λ q o x has next. g.given q o x (on.outs q o has).1 (sym (on.nexts q o has) ∙ next);
+        })

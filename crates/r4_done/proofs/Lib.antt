@@ -1,0 +1,10 @@
+pub mod Dropped
+pub mod Replaced
+pub mod Named
+pub mod DoneTasks
+pub mod DoneTables
+pub mod DoneHistory
+pub mod Beginning
+pub mod Charged
+pub mod DoneCounts
+pub mod DoneAccounts

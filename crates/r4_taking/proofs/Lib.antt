@@ -1,0 +1,16 @@
+pub mod Merged
+pub mod NamesFree
+pub mod FusedAtoms
+pub mod FusedCounts
+pub mod Deferred
+pub mod Going
+pub mod Turned
+pub mod EndedAtoms
+pub mod Fused
+pub mod FusedAll
+pub mod RefusedSingle
+pub mod OutTurns
+pub mod Used
+pub mod GoneOut
+pub mod MetInMemory
+pub mod GivenOut

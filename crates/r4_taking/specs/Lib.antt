@@ -1,0 +1,3 @@
+pub mod Fusing
+pub mod Refusing
+pub mod GoingOut
