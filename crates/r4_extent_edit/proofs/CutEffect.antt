@@ -65,7 +65,9 @@ empty_name [] id hi mkfs_id cells same x at = absurd (none x (subst (λ xs. Cont
 empty_name (p ∷ ps) id hi mkfs_id cells (d, same, new) x at = elim (cases d x [] (subst
     (λ xs. Contains xs x) same at)) [
       | inr none_is ↦ absurd (none x none_is)
-      | inl this ↦ let e : x.id ≡ id = ap (λ (z : CellSeen). z.id) this ∙ new.number in (omega (arith, e), omega (arith, e))
+      | inl this ↦
+          let e : x.id ≡ id = ap (λ (z : CellSeen). z.id) this ∙ new.number in
+          (omega (arith, e), omega (arith, e))
     ]
 
 module _ {t : Store Value} {r : Root} {leaf : Option CellSeen} {blocks : List CellSeen} {from to : ℕ} {before after

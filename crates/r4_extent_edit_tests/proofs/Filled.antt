@@ -82,26 +82,26 @@ module _ (twig : CellSeen) (is : IsTwigOfHoles twig) (are : ArePiecesOf twig (tw
 
   filled : (it : Item) → it.plugin ≡ 5 → IsNewExtent it → least ≤ rank it.key → rank it.key + 8192 ≤ top
       → IsBorder (rank it.key) (twig_pieces twig) → IsBorder (rank it.key + 8192) (twig_pieces twig) → (f : Fresh)
-          → f.next ≡ 2 ^ 63 + 1000 → f.end ≡ 2 ^ 63 + 2000
+      → f.next ≡ 2 ^ 63 + 1000 → f.end ≡ 2 ^ 63 + 2000
       → IsSetIn t r it twig [] f
   filled it five new low high one two f next end =
       let last = ends it five new in
       let lo = is.lo in
       let hi = is.hi in
       let second : IsBorder (item_end it) (twig_pieces twig) = subst (λ (k : ℕ). IsBorder k (twig_pieces twig))
-          (sym last) two in
+      (sym last) two in
       let bytes = twice_bytes (rank twig.lo) (rank twig.hi) (rank it.key) (item_end it)
-          (twig_pieces twig) are.pieces.follow (omega (arith, lo, low)) (omega (arith, last)) (omega
-          (arith, last, hi, high)) one second in
+      (twig_pieces twig) are.pieces.follow (omega (arith, lo, low)) (omega (arith, last)) (omega
+      (arith, last, hi, high)) one second in
       let mine = bytes_of_item it (given it five new).sound in
       let long = new.long in
       let fits = are.fits in
       let pp = parted_twice (rank it.key) (item_end it) (twig_pieces twig) in
       let s = split (rank twig.lo) (rank twig.hi) (rank it.key) (item_end it) (twig_pieces twig) are.pieces.follow
-          (omega (arith, lo, low)) (omega (arith, last)) (omega (arith, last, hi, high)) one second in
+      (omega (arith, lo, low)) (omega (arith, last)) (omega (arith, last, hi, high)) one second in
       let few = over_bytes (rank twig.lo) (rank twig.hi) (rank it.key) (item_end it) pp (pieces_below
-          (rank it.key) pp) (pieces_between (rank it.key) (item_end it) pp) (pieces_behind (item_end it) pp)
-          (item_pieces it) s
+      (rank it.key) pp) (pieces_between (rank it.key) (item_end it) pp) (pieces_behind (item_end it) pp)
+      (item_pieces it) s
       (follow_item it (given it five new).sound) (next_of_item it (given it five new).sound) in
       let all : twig_bytes (set_pieces it twig) ≤ 9000 = omega (arith, few, bytes, fits, mine, long) in
       record {
@@ -135,6 +135,11 @@ fill_here twig cell ps seen it end same is are same_pieces five new low high beh
     let here = subst (ArePiecesOf twig) are.is are in
     let first = subst (IsBorder (rank it.key)) all one in
     let second = subst (λ k. IsBorder k (twig_pieces twig)) behind (subst (IsBorder end) all two) in
-    subst (λ (x : CellSeen). (t : Store Value) × ((r : Root) × IsSetIn t r it x [] f)) (sym same)
-    (t twig is here, (r twig is here, filled twig is here it five new low (omega
-        (arith, high, behind)) first second f refl refl))
+    subst (λ (x : CellSeen). (t : Store Value) × ((r : Root) × IsSetIn t r it x [] f)) (sym same) (
+      t twig is here,
+      (
+        r twig is here,
+        filled twig is here it five new low (omega
+            (arith, high, behind)) first second f refl refl,
+      ),
+    )

@@ -1,1 +1,2 @@
 pub mod Borders
+pub mod Turned

@@ -14,8 +14,8 @@ use r4_path::pieces_of_cell;
 use std::alloc::Global;
 use std::sync::Arc;
 
-/// Puts an extent of two blocks that have no place yet over a root of two holes, from a key on; `None` where it is another
-/// root or extent, or an end of it lies within a block of a hole.
+/// Puts an extent of two blocks that have no place yet over a root of two holes, from a key on;
+/// `None` where it is another root or extent, or an end of it lies within a block of a hole.
 pub fn fill(
     alloc: Global,
     twig: &Arc<Cell>,
@@ -61,7 +61,10 @@ fn at_border(piece: &TwigPiece, key: &Key) -> bool
     if !piece.key.is_below(*key) {
         return true;
     }
-    if piece.key.el[0] != key.el[0] || piece.key.el[1] != key.el[1] || piece.key.el[2] != key.el[2] {
+    if piece.key.el[0] != key.el[0]
+        || piece.key.el[1] != key.el[1]
+        || piece.key.el[2] != key.el[2]
+    {
         return false;
     }
     piece.key.el[3] <= key.el[3] && (key.el[3] - piece.key.el[3]) % 4096 == 0

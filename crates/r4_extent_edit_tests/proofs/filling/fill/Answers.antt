@@ -21,5 +21,6 @@ set_extent-requires-clause-path c =
     let high : rank c.in-Some.end ≤ top = search rules in
     let one : IsBorder (rank c.args.key.now) c.as_slice.result.now = search rules in
     let two : IsBorder (rank c.in-Some.end) c.as_slice.result.now = search rules in
-    fill_here c.deref.result.now (arc_value c.in_ok-try_clone.field-0) c.in_ok-pieces.pieces.items c.as_slice.result.now it
-        (rank c.in-Some.end) cell is are seen refl new low high end one two
+    fill_here c.deref.result.now (arc_value c.in_ok-try_clone.field-0) c.in_ok-pieces.pieces.items
+    c.as_slice.result.now it
+    (rank c.in-Some.end) cell is are seen refl new low high end one two
