@@ -30,7 +30,8 @@ use Rattle.r4_reaching.specs.Answers.{AreReadKeys, IsFrom, IsReach, IsTouched, a
 use Rattle.r4_reaching.specs.Gathering.{IsPartMet}
 use Rattle.r4_reaching.specs.declared.reached.Reach.{Reach}
 use Rattle.r4_reaching.proofs.Found.{found_inside, leaves_listed}
-use Rattle.r4_reaching.proofs.Made.{chosen_once, chosen_rise, has, marks as all_marks, more_same, rise_same, root_asks, sees}
+use Rattle.r4_reaching.proofs.Made.{chosen_once, chosen_rise, has, marks as all_marks, more_same, rise_same}
+use Rattle.r4_reaching.proofs.Made.{root_asks, sees}
 
 both_some : (root : Root) (o : Option Asking) → IsSome (option_map (λ a. root) o) ↔ IsSome (option_map ask_seen o)
 both_some root None = ((λ some. some), (λ some. some))

@@ -1,7 +1,8 @@
 -- From the cells that were met and the marks to a reach.
 use Rattle.std.proofs.Common.{◌≡◌, ◌⊎◌, inl, inr, ℕ, ◌+◌, ◌<◌, ◌≤◌, Bool, true, false, List, [], ◌∷◌}
 use Rattle.std.proofs.Common.{refl, sym, ap, subst, ◌∙◌, arith}
-use Rattle.std.specs.Prelude.{◌↔◌, ◌≢◌, ◌||◌, ◌&&◌, ◌==◌, nat_le, not, AllPairs, Contains, IsSome, Option, Some, None, slice_index_or, sum_by}
+use Rattle.std.specs.Prelude.{◌↔◌, ◌≢◌, ◌||◌, ◌&&◌, ◌==◌, nat_le, not, AllPairs, Contains, IsSome, Option, Some, None}
+use Rattle.std.specs.Prelude.{slice_index_or, sum_by}
 use Rattle.std.proofs.lemmas.Bool.{eqb-true}
 use Rattle.std.proofs.lemmas.Bool.Decides.{nat_tests}
 use Rattle.std.proofs.lemmas.List.Elements.{All-contains, All-weaker}

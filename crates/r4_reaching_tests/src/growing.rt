@@ -1,5 +1,5 @@
-//! What commands reach that put more into a leaf than it has room for. A cell that needs up to 1,024 bytes too many asks
-//! for two pointers: so a new cell comes in the place of each that is written, and two beside it at most.
+//! What commands reach that put more into a leaf than it has room for. A cell that needs up to 1,024 bytes too many
+//! asks for two pointers: so a new cell comes in the place of each that is written, and two beside it at most.
 
 ghost use Rattle.std.specs.Prelude.{IfOk};
 ghost use Rattle.r4_content.specs.Fields.{HasBytePaths};

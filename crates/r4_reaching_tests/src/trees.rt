@@ -78,8 +78,8 @@ fn pointers(alloc: Global) -> Result<Vec<Item>, Fail> {
     Ok(items)
 }
 
-// So many pointers to block 40, which is no node, behind all keys of the file; those of a higher level come behind those
-// of a lower one.
+// So many pointers to block 40, which is no node, behind all keys of the file; those of a higher level come behind
+// those of a lower one.
 fn add_others(alloc: Global, items: &mut Vec<Item>, level: u8, count: u64) -> Result<(), Fail> {
     for i in 0..count {
         let key = Key {

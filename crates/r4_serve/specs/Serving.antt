@@ -1,5 +1,6 @@
 -- What becomes of a command before its work (docs/core.md, "Asking").
-use Rattle.std.specs.Prelude.{◌≡◌, ◌⊎◌, ℕ, ◌<◌, ◌≤◌, List, Contains, MatchOption, MatchResult, Option, IsSome, None, Some, Result, Ok, Err, true}
+use Rattle.std.specs.Prelude.{◌≡◌, ◌⊎◌, ℕ, ◌<◌, ◌≤◌, List, Contains, MatchOption, MatchResult, Option, IsSome, None}
+use Rattle.std.specs.Prelude.{Some, Result, Ok, Err, true}
 use Rattle.r4_atoms.specs.Atoms.{AtomsSeen, is_sealed, owner_of}
 use Rattle.r4_base.specs.declared.limits.TheConstants.{MOST_LEVELS}
 use Rattle.r4_buffer.specs.Reading.{IsReadable, captured_in, reading_places}
