@@ -2,14 +2,4 @@
 #![tactic(auto)]
 
 #[cfg(test)]
-mod growing;
-#[cfg(test)]
-mod reached;
-#[cfg(test)]
 mod reaching;
-#[cfg(test)]
-mod refusals;
-#[cfg(test)]
-mod tails;
-#[cfg(test)]
-mod trees;

@@ -1,68 +1,151 @@
-//! What commands reach on a new volume: its root is block 22, and its leaf block 23.
+//! What commands reach on a new volume of 64 blocks: its root is block 22, and its leaf block 23.
 
-use crate::reached::{Wanted, expect, reach};
+ghost use Rattle.r4_content.specs.Fields.{HasBytePaths};
+
 use r4_base::NodeId;
-use r4_cell::Root;
+use r4_buffer::{Buffer, Reading};
+use r4_cell::{Cell, Root};
 use r4_content::{Command, Path};
 use r4_mkfs::mkfs;
-use r4_outside::MemoryDevice;
-use r4_tree_testing::empty_device;
+use r4_outside::{Device, MemoryDevice};
+use r4_reaching::reach_in_leaves;
 use std::alloc::Global;
+use std::fmt::Debug;
+use std::process::Abort;
+use std::sync::Arc;
 use std::test::Fail;
 
-fn new_volume(alloc: Global) -> Result<(MemoryDevice, Root), Fail> {
-    let mut dev = empty_device(alloc)?;
-    if mkfs(alloc, &mut dev, b"").is_err() {
+const ROOT: Root = Root {
+    id: NodeId(22),
+    height: 2,
+};
+
+// What is reached, as the numbers of cells, and how many new cells come at most.
+#[derive(Drop)]
+struct Reached {
+    reads: Vec<u64>,
+    writes: Vec<u64>,
+    met: Vec<u64>,
+    most: u64,
+}
+
+// Ends the test unless the two are equal. `what` says what they are.
+fn same<T: PartialEq + Debug, X: Abort>(rt: &X, got: &T, wanted: &T, what: &str) {
+    assert_eq!(rt; *got, *wanted, "{what}");
+}
+
+// The numbers of cells, in their order.
+fn numbers(alloc: Global, cells: &[Arc<Cell>]) -> Result<Vec<u64>, Fail> {
+    let mut numbers = Vec::new(alloc);
+    for cell in cells {
+        numbers.push(cell.id().0)?;
+    }
+    Ok(numbers)
+}
+
+// What the command reaches on a new volume.
+fn reach_of_new(alloc: Global, command: &Command) -> Result<Reached, Fail>
+    requires { HasBytePaths command.now }
+{
+    let mut dev = MemoryDevice::plain(alloc, 64)?;
+    if mkfs(alloc, &mut dev, b"").is_err() || dev.blocks()? != 64 {
         return Err(Fail::from("no volume was made"));
     }
-    let root = Root {
-        id: NodeId(22),
-        height: 2,
+    let buffer = Buffer::new(alloc);
+    let pool = Reading::new(&mut dev, &buffer, ROOT, 64);
+    let (pool, found) = reach_in_leaves(alloc, pool, &ROOT, command);
+    let _ = pool.into_device();
+    let Ok(Some(reach)) = found else {
+        return Err(Fail::from("no reach was found"));
     };
-    Ok((dev, root))
+    Ok(Reached {
+        reads: numbers(alloc, reach.reads.as_slice())?,
+        writes: numbers(alloc, reach.writes.as_slice())?,
+        met: numbers(alloc, reach.met.as_slice())?,
+        most: reach.most,
+    })
 }
 
 #[test]
-fn attributes_of_the_root_stand_in_the_leaf(rt: HostRuntime) -> Result<(), Fail> {
+fn a_mode_is_written_in_the_leaf(rt: HostRuntime) -> Result<(), Fail> {
     let alloc = rt.alloc();
-    let mut tree = new_volume(alloc)?;
     let chmod = Command::Chmod {
         path: Path::from_vec(Vec::new(alloc)),
         mode: 448,
     };
-    let written = Wanted {
-        reads: &[],
-        writes: &[23],
-        most: 1,
-        rises: false,
-    };
-    expect(&rt, alloc, &mut tree, &chmod, &written, "chmod / 700")?;
-    let stat = Command::Stat {
-        path: Path::from_vec(Vec::new(alloc)),
-    };
-    let read = Wanted {
-        reads: &[23],
-        writes: &[],
-        most: 0,
-        rises: false,
-    };
-    expect(&rt, alloc, &mut tree, &stat, &read, "stat /")
+    let r = reach_of_new(alloc, &chmod)?;
+    same(
+        &rt,
+        &r.reads.as_slice(),
+        &[].as_slice(),
+        "cells that are read",
+    );
+    same(
+        &rt,
+        &r.writes.as_slice(),
+        &[23].as_slice(),
+        "cells that are written",
+    );
+    same(
+        &rt,
+        &r.met.as_slice(),
+        &[23, 22].as_slice(),
+        "cells that were met",
+    );
+    same(&rt, &r.most, &1, "new cells");
+    Ok(())
 }
 
 #[test]
-fn a_commit_reads_nothing_and_meets_the_root(rt: HostRuntime) -> Result<(), Fail> {
+fn attributes_are_read_in_the_leaf(rt: HostRuntime) -> Result<(), Fail> {
     let alloc = rt.alloc();
-    let mut tree = new_volume(alloc)?;
-    let none = Wanted {
-        reads: &[],
-        writes: &[],
-        most: 0,
-        rises: false,
+    let stat = Command::Stat {
+        path: Path::from_vec(Vec::new(alloc)),
     };
-    expect(&rt, alloc, &mut tree, &Command::Commit, &none, "commit")?;
-    let Some(reached) = reach(alloc, &mut tree.0, tree.1, &Command::Commit)? else {
-        return Err(Fail::from("an extent is touched"));
-    };
-    assert_eq!(rt; reached.met.as_slice(), [23, 22].as_slice());
+    let r = reach_of_new(alloc, &stat)?;
+    same(
+        &rt,
+        &r.reads.as_slice(),
+        &[23].as_slice(),
+        "cells that are read",
+    );
+    same(
+        &rt,
+        &r.writes.as_slice(),
+        &[].as_slice(),
+        "cells that are written",
+    );
+    same(
+        &rt,
+        &r.met.as_slice(),
+        &[23, 22].as_slice(),
+        "cells that were met",
+    );
+    same(&rt, &r.most, &0, "new cells");
+    Ok(())
+}
+
+#[test]
+fn a_commit_reads_nothing(rt: HostRuntime) -> Result<(), Fail> {
+    let alloc = rt.alloc();
+    let r = reach_of_new(alloc, &Command::Commit)?;
+    same(
+        &rt,
+        &r.reads.as_slice(),
+        &[].as_slice(),
+        "cells that are read",
+    );
+    same(
+        &rt,
+        &r.writes.as_slice(),
+        &[].as_slice(),
+        "cells that are written",
+    );
+    same(
+        &rt,
+        &r.met.as_slice(),
+        &[23, 22].as_slice(),
+        "cells that were met",
+    );
     Ok(())
 }

@@ -4,10 +4,9 @@ ghost use Rattle.std.specs.Prelude.{IfOk};
 ghost use Rattle.r4_content.specs.Fields.{HasBytePaths};
 
 use crate::reached::{Wanted, expect, reach};
-use crate::trees::with_room;
 use r4_base::Bytes;
 use r4_content::Command;
-use r4_tree_testing::path;
+use r4_tree_testing::{path, with_room};
 use std::alloc::Global;
 use std::test::Fail;
 
@@ -20,16 +19,6 @@ fn write(alloc: Global, offset: u64) -> Result<Command, Fail>
         offset,
         text: Bytes::from_vec(alloc, Vec::from_array(alloc, *b"x")?)?,
     })
-}
-
-// What is reached where cells are only read, and where some are written, with no further ones.
-fn reads<'a>(cells: &'a [u64]) -> Wanted<'a> {
-    Wanted {
-        reads: cells,
-        writes: &[],
-        most: 0,
-        rises: false,
-    }
 }
 
 #[test]
@@ -59,45 +48,28 @@ fn a_file_that_grows_past_its_leaves_touches_an_extent(rt: HostRuntime) -> Resul
 }
 
 #[test]
-fn bytes_are_read_in_their_leaves(rt: HostRuntime) -> Result<(), Fail> {
+fn bytes_are_read_across_a_border(rt: HostRuntime) -> Result<(), Fail> {
     let alloc = rt.alloc();
     let mut tree = with_room(alloc, 0)?;
-    let first = Command::Read {
-        path: path(alloc, b"a")?,
-        offset: 0,
-        len: 1,
-    };
-    expect(&rt, alloc, &mut tree, &first, &reads(&[23]), "read /a 0 1")?;
-    let across = Command::Read {
+    let command = Command::Read {
         path: path(alloc, b"a")?,
         offset: 7805,
         len: 2,
     };
-    expect(&rt, alloc, &mut tree, &across, &reads(&[23, 24, 25]), "read /a 7805 2")?;
-    let behind = Command::Read {
-        path: path(alloc, b"a")?,
-        offset: 16_384,
-        len: 9,
+    let wanted = Wanted {
+        reads: &[23, 24, 25],
+        writes: &[],
+        most: 0,
+        rises: false,
     };
-    expect(&rt, alloc, &mut tree, &behind, &reads(&[23]), "read /a 16384 9")
+    expect(&rt, alloc, &mut tree, &command, &wanted, "read /a 7805 2")
 }
 
 #[test]
-fn bytes_that_go_are_written_in_their_leaves(rt: HostRuntime) -> Result<(), Fail> {
+fn a_file_that_goes_is_written_in_its_leaves(rt: HostRuntime) -> Result<(), Fail> {
     let alloc = rt.alloc();
     let mut tree = with_room(alloc, 0)?;
-    let shorter = Command::Truncate {
-        path: path(alloc, b"a")?,
-        size: 11_900,
-    };
-    let wanted = Wanted {
-        reads: &[],
-        writes: &[23, 26, 27],
-        most: 3,
-        rises: false,
-    };
-    expect(&rt, alloc, &mut tree, &shorter, &wanted, "truncate /a 11900")?;
-    let gone = Command::Unlink {
+    let command = Command::Unlink {
         path: path(alloc, b"a")?,
     };
     let wanted = Wanted {
@@ -106,5 +78,5 @@ fn bytes_that_go_are_written_in_their_leaves(rt: HostRuntime) -> Result<(), Fail
         most: 5,
         rises: false,
     };
-    expect(&rt, alloc, &mut tree, &gone, &wanted, "unlink /a")
+    expect(&rt, alloc, &mut tree, &command, &wanted, "unlink /a")
 }

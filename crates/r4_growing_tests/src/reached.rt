@@ -93,8 +93,16 @@ pub fn expect<X: Abort>(
     let Some(got) = reach(alloc, &mut tree.0, tree.1, command)? else {
         return Err(Fail::from("an extent is touched"));
     };
-    assert_eq!(rt; got.reads.as_slice(), wanted.reads, "{what}: cells that are read");
-    assert_eq!(rt; got.writes.as_slice(), wanted.writes, "{what}: cells that are written");
+    assert_eq!(rt;
+        got.reads.as_slice(),
+        wanted.reads,
+        "{what}: cells that are read"
+    );
+    assert_eq!(rt;
+        got.writes.as_slice(),
+        wanted.writes,
+        "{what}: cells that are written"
+    );
     assert_eq!(rt; got.most, wanted.most, "{what}: new cells");
     assert_eq!(rt; got.rises, wanted.rises, "{what}: the root pair");
     Ok(())

@@ -5,10 +5,9 @@ ghost use Rattle.std.specs.Prelude.{IfOk};
 ghost use Rattle.r4_content.specs.Fields.{HasBytePaths};
 
 use crate::reached::{Wanted, expect};
-use crate::trees::{full, with_room};
 use r4_base::Oid;
 use r4_content::Command;
-use r4_tree_testing::path;
+use r4_tree_testing::{full, path, with_room};
 use std::alloc::Global;
 use std::test::Fail;
 
@@ -52,20 +51,12 @@ fn an_entry_in_the_place_of_another_asks_for_nothing(rt: HostRuntime) -> Result<
         to: path(alloc, b"c")?,
     };
     let wanted = writes(&[23], 1, false);
-    expect(&rt, alloc, &mut tree, &command, &wanted, "rename /a /c")?;
-    let command = Command::Chmod {
-        path: path(alloc, b"a")?,
-        mode: 0o600,
-    };
-    expect(&rt, alloc, &mut tree, &command, &wanted, "chmod /a 600")
+    expect(&rt, alloc, &mut tree, &command, &wanted, "rename /a /c")
 }
 
 #[test]
-fn full_twigs_ask_further_up(rt: HostRuntime) -> Result<(), Fail> {
+fn a_full_twig_asks_further_up(rt: HostRuntime) -> Result<(), Fail> {
     let alloc = rt.alloc();
-    let mut tree = full(alloc, 1)?;
-    let wanted = writes(&[23, 24], 7, true);
-    expect(&rt, alloc, &mut tree, &create(alloc)?, &wanted, "create /b")?;
     let mut tree = full(alloc, 2)?;
     let wanted = writes(&[23, 24, 25], 10, true);
     expect(&rt, alloc, &mut tree, &create(alloc)?, &wanted, "create /b")

@@ -1,14 +1,15 @@
-//! The trees of these tests. The file /a has 16,384 bytes in five leaves, each full but for the last: blocks 23 to 27.
+//! Trees with a file: /a has 16,384 bytes in five leaves, each full but for the last: blocks 23 to 27.
 
+use crate::items::{Item, entry, pointer, stat, tail};
+use crate::nodes::{empty_device, lay};
 use r4_base::{Attr, Key, NodeId, Oid, Target};
 use r4_cell::{Root, least};
 use r4_outside::MemoryDevice;
-use r4_tree_testing::{Item, empty_device, entry, lay, pointer, stat, tail};
 use std::alloc::Global;
 use std::test::Fail;
 
-/// What the root directory has.
-pub const DIRECTORY: Attr = Attr {
+// What the root directory has.
+const DIRECTORY: Attr = Attr {
     mode: 0o40755,
     nlink: 2,
     size: 1,
@@ -29,8 +30,8 @@ const FILE: Attr = Attr {
 
 const ORDERING: u64 = 27_303_072_740_933_632;
 
-/// The file "a" in the root directory.
-pub const A: Target = Target {
+// The file "a" in the root directory.
+const A: Target = Target {
     locality: 42,
     ordering: ORDERING,
     oid: Oid(65_536),
@@ -38,6 +39,11 @@ pub const A: Target = Target {
 
 // The offsets at which the leaves of the file begin, but for the first.
 const BORDERS: [u64; 4] = [3776, 7806, 11_836, 15_866];
+
+// The next block.
+fn next(at: u64) -> u64 {
+    at.saturating_add(1)
+}
 
 // The key of a byte of the file.
 fn byte(offset: u64) -> Key {
@@ -61,7 +67,7 @@ fn more_leaves(alloc: Global, dev: &mut MemoryDevice) -> Result<(), Fail> {
         let len = if at == 27 { 518 } else { 4030 };
         let items = [tail(alloc, byte(border), len, b'2')?];
         lay(alloc, dev, at, 1, &items)?;
-        at += 1;
+        at = next(at);
     }
     Ok(())
 }
@@ -73,7 +79,7 @@ fn pointers(alloc: Global) -> Result<Vec<Item>, Fail> {
     let mut at = 24;
     for border in BORDERS {
         items.push(pointer(alloc, byte(border), at)?)?;
-        at += 1;
+        at = next(at);
     }
     Ok(items)
 }
@@ -83,7 +89,7 @@ fn pointers(alloc: Global) -> Result<Vec<Item>, Fail> {
 fn add_others(alloc: Global, items: &mut Vec<Item>, level: u8, count: u64) -> Result<(), Fail> {
     for i in 0..count {
         let key = Key {
-            el: [100_000 * u64::from(level) + i, 0, 0, 0],
+            el: [(100_000 * u64::from(level)).saturating_add(i), 0, 0, 0],
         };
         items.push(pointer(alloc, key, 40)?)?;
     }
@@ -105,7 +111,7 @@ pub fn with_room(alloc: Global, levels: u8) -> Result<(MemoryDevice, Root), Fail
         let items = [pointer(alloc, least(), root.id.0)?];
         root = Root {
             id: NodeId(30 + u64::from(more)),
-            height: 3 + more,
+            height: more.saturating_add(3),
         };
         lay(alloc, &mut dev, root.id.0, root.height, &items)?;
     }
@@ -114,6 +120,9 @@ pub fn with_room(alloc: Global, levels: u8) -> Result<(MemoryDevice, Root), Fail
 
 /// The first leaf of the file below full nodes: of each of these levels, from 2 on, one with 88 pointers. They are
 /// blocks 24 and above, the twig first; all pointers but the first of each name block 40.
+///
+/// # Errors
+/// Where there is no memory, or the device has no such block.
 pub fn full(alloc: Global, levels: u8) -> Result<(MemoryDevice, Root), Fail> {
     let mut dev = empty_device(alloc)?;
     first_leaf(alloc, &mut dev)?;
@@ -124,10 +133,10 @@ pub fn full(alloc: Global, levels: u8) -> Result<(MemoryDevice, Root), Fail> {
     for more in 0..levels {
         let mut items = Vec::new(alloc);
         items.push(pointer(alloc, least(), root.id.0)?)?;
-        add_others(alloc, &mut items, more + 1, 87)?;
+        add_others(alloc, &mut items, more.saturating_add(1), 87)?;
         root = Root {
             id: NodeId(24 + u64::from(more)),
-            height: 2 + more,
+            height: more.saturating_add(2),
         };
         lay(alloc, &mut dev, root.id.0, root.height, items.as_slice())?;
     }
