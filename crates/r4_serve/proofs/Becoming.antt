@@ -1,5 +1,5 @@
 -- From what was found of a command to what becomes of it.
-use Rattle.std.proofs.Common.{◌≡◌, Option, Some, None, true, false, refl, subst, sym}
+use Rattle.std.proofs.Common.{◌≡◌, inl, inr, Option, Some, None, true, false, refl, subst, sym}
 use Rattle.std.specs.Prelude.{IfOk, IsSome, Result, Ok, Err, is_some}
 use Rattle.r4_gather.specs.Asking.{StaysOver}
 use Rattle.r4_content.specs.declared.command.Command.{Command}
@@ -15,8 +15,8 @@ use Rattle.r4_search.specs.Keeping.{keeping_state}
 
 decided : (q : PoolState) (p : PartsSeen) (c : Command) (r : Reach) (a : Asked) → IsReach q p.root c r
     → IsDecided p r a → IsAskedOf q p c a
-decided q p c r (asked.Refused reply) reach h = absurd h
-decided q p c r asked.InExtents reach h = absurd h
+decided q p c r (asked.Refused reply) reach h = inr (r, reach, h)
+decided q p c r asked.InExtents reach h = absurd h.1
 decided q p c r (asked.Sealed atom) reach h = (r, reach, h)
 decided q p c r (asked.Busy node holder) reach h = (r, reach, h)
 decided q p c r (asked.Tall height) reach h = (r, reach, h)
@@ -40,7 +40,7 @@ asks d e p c (Err f) a h answer = record {
   after = h.after;
   met = h.met;
   same = h.same;
-  is = subst (IsAskedOf (keeping_state h.after true h.met) p c) (sym answer.1) (f, h.is, answer.2);
+  is = subst (IsAskedOf (keeping_state h.after true h.met) p c) (sym answer.1) (inl (f, h.is, answer.2));
 }
 
 pub asks_ok : {F : Type 0} (d e : State) (p : PartsSeen) (c : Command) (r : Result (Option Reach) FetchFault)

@@ -4,7 +4,8 @@ use Rattle.std.specs.Prelude.{Some, Result, Ok, Err, true}
 use Rattle.r4_atoms.specs.Atoms.{AtomsSeen, is_sealed, owner_of}
 use Rattle.r4_base.specs.declared.limits.TheConstants.{MOST_LEVELS}
 use Rattle.r4_buffer.specs.Reading.{IsReadable, captured_in, reading_places}
-use Rattle.r4_buffer.specs.Seen.{BufferSeen}
+use Rattle.r4_buffer.specs.Seen.{BufferSeen, buffered}
+use Rattle.r4_cell.specs.Seen.{CellSeen}
 use Rattle.r4_cell.specs.declared.change.Root.{Root}
 use Rattle.r4_content.specs.declared.command.Command.{Command}
 use Rattle.r4_content.specs.declared.reply.Reply.{Reply}
@@ -102,20 +103,47 @@ IsClear p r = (w : Why) → IsInTheWay p.atoms p.locks (need_in r) w → ⊥
 abbrev pub IsTall : PartsSeen → Reach → Type 0
 IsTall p r = IsSome r.root × (MOST_LEVELS ≤ p.root.height)
 
--- What becomes of a command with this reach, the first of these: a sealed atom or a hold stands in the way; the tree
--- would have to grow; else it is ready.
-abbrev pub IsDecided : PartsSeen → Reach → Asked → Type 0
-IsDecided p r (asked.Refused reply) = ⊥
-IsDecided p r asked.InExtents = ⊥
-IsDecided p r (asked.Sealed atom) = IsInTheWay p.atoms p.locks (need_in r) (why.Sealed atom)
-IsDecided p r (asked.Busy node holder) = IsInTheWay p.atoms p.locks (need_in r) (why.Held node holder)
-IsDecided p r (asked.Tall height) = IsClear p r × IsTall p r × (height ≡ p.root.height)
-IsDecided p r (asked.Ready ready) =
+-- An atom owns the cell, and no cell of its name is in memory: the atom took it away, and its block was read.
+pub record IsStray (p : PartsSeen) (x : CellSeen) : Type 0 where
+  pub gone : buffered p.buffer x.id ≡ None
+  pub owned : IsSome (owner_of p.atoms x.id)
+
+-- none of these is such a cell
+abbrev pub NoneStray : PartsSeen → List CellSeen → Type 0
+NoneStray p xs = (x : CellSeen) → Contains xs x → IsStray p x → ⊥
+
+-- one of them is, which the reply tells as damaged
+pub record IsStrayReply (p : PartsSeen) (xs : List CellSeen) (reply : Reply) : Type 0 where
+  pub cell : CellSeen
+  pub among : Contains xs cell
+  pub stray : IsStray p cell
+  pub reply_is : reply ≡ Damaged (record { 0 = cell.id })
+
+-- What becomes of a command with this reach, where no such cell was met, the first of these: a sealed atom or a hold
+-- stands in the way; the tree would have to grow; else it is ready.
+abbrev pub IsWeighed : PartsSeen → Reach → Asked → Type 0
+IsWeighed p r (asked.Refused reply) = ⊥
+IsWeighed p r asked.InExtents = ⊥
+IsWeighed p r (asked.Sealed atom) = IsInTheWay p.atoms p.locks (need_in r) (why.Sealed atom)
+IsWeighed p r (asked.Busy node holder) = IsInTheWay p.atoms p.locks (need_in r) (why.Held node holder)
+IsWeighed p r (asked.Tall height) = IsClear p r × IsTall p r × (height ≡ p.root.height)
+IsWeighed p r (asked.Ready ready) =
     IsClear p r × (IsTall p r → ⊥) × (ready.reach ≡ r) × NeedsCells r ready.need
+
+-- a cell that was met and that an atom took away is damage
+abbrev pub IsDecided : PartsSeen → Reach → Asked → Type 0
+IsDecided p r (asked.Refused reply) = IsStrayReply p r.met reply
+IsDecided p r a = NoneStray p r.met × IsWeighed p r a
+
+-- the reading ended at a block, which the reply names
+abbrev pub IsStoppedWith : PoolState → PartsSeen → Command → Reply → Type 0
+IsStoppedWith q p c reply = (e : FetchFault) × StopsReach q p.root c e × IsReplyTo e reply
 
 -- Of what was met: where reading ended at a block the command is refused.
 abbrev pub IsAskedOf : PoolState → PartsSeen → Command → Asked → Type 0
-IsAskedOf q p c (asked.Refused reply) = (e : FetchFault) × StopsReach q p.root c e × IsReplyTo e reply
+IsAskedOf q p c (asked.Refused reply) =
+    IsStoppedWith q p c reply
+    ⊎ ((r : Reach) × IsReach q p.root c r × IsDecided p r (asked.Refused reply))
 IsAskedOf q p c asked.InExtents = TouchesExtent q c
 IsAskedOf q p c a = (r : Reach) × IsReach q p.root c r × IsDecided p r a
 

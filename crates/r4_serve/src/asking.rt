@@ -4,11 +4,13 @@ ghost use Rattle.std.specs.Prelude.{◌≡◌, IfOk, MatchResult};
 ghost use Rattle.r4_content.specs.Fields.{HasBytePaths};
 ghost use Rattle.r4_search.specs.Pool.{LeavesDevice};
 ghost use Rattle.r4_search.specs.declared.pool.FetchFault.TheVariants.{Memory as NoMemory};
-ghost use Rattle.r4_serve.specs.Serving.{Asks, CanAsk, IsAnswerTo, IsDecided, IsReplyTo, Reaches, parts_seen};
+ghost use Rattle.r4_serve.specs.Serving.{Asks, CanAsk, IsAnswerTo, IsDecided, IsReplyTo, IsWeighed, Reaches};
+ghost use Rattle.r4_serve.specs.Serving.{parts_seen};
 
 use crate::asked::{Asked, Ready};
 use crate::need::{NodesNeeded, sealed_owner};
 use crate::parts::Parts;
+use crate::stray::stray_block;
 use r4_base::{MOST_LEVELS, Memory};
 use r4_buffer::Reading;
 use r4_content::{Command, Reply};
@@ -90,9 +92,23 @@ fn reply_to(fault: FetchFault) -> Result<Reply, Memory>
     }
 }
 
-// What becomes of a command with this reach.
+// What becomes of a command with this reach. On a damaged image it may have met the block of a cell that an atom took
+// away.
 fn decide(alloc: Global, parts: &Parts<'_>, reach: Reach) -> Result<Asked, Memory>
     ensures { IfOk result (IsDecided (parts_seen parts.now.buffer.now parts.now.locks.now
+        parts.now.atoms.now parts.now.root parts.now.blocks) reach) }
+{
+    match stray_block(parts, reach.met.as_slice()) {
+        Some(block) => Ok(Asked::Refused {
+            reply: Reply::Damaged { block },
+        }),
+        None => weigh(alloc, parts, reach),
+    }
+}
+
+// What becomes of a command with this reach, where no such block was met.
+fn weigh(alloc: Global, parts: &Parts<'_>, reach: Reach) -> Result<Asked, Memory>
+    ensures { IfOk result (IsWeighed (parts_seen parts.now.buffer.now parts.now.locks.now
         parts.now.atoms.now parts.now.root parts.now.blocks) reach) }
 {
     let need = NodesNeeded::of(alloc, &reach)?;

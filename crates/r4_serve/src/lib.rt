@@ -5,6 +5,7 @@ mod asked;
 mod asking;
 mod need;
 mod parts;
+mod stray;
 
 pub use asked::{Asked, Ready};
 pub use asking::ask;

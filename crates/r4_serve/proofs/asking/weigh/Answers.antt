@@ -5,9 +5,9 @@ use Rattle.r4_locks.specs.Locks.{conflict_of}
 use Rattle.r4_serve.specs.Serving.{IsSealedOwnerOf, NoneSealed, need_in}
 use Rattle.r4_serve.proofs.Becoming.{none_there, some_there}
 use Rattle.r4_serve.proofs.Owners.{is_clear, none_in_need, owner_of_read, owner_of_written}
-use Rattle.r4_serve.proofs.asking.decide.Goals.{else-is_some-via-else-is_some}
-use Rattle.r4_serve.proofs.asking.decide.Goals.{else-is_some-via-then-is_some+else-height-ge-MOST_LEVELS}
-use Rattle.r4_serve.proofs.asking.decide.Goals as goal
+use Rattle.r4_serve.proofs.asking.weigh.Goals.{else-is_some-via-else-is_some}
+use Rattle.r4_serve.proofs.asking.weigh.Goals.{else-is_some-via-then-is_some+else-height-ge-MOST_LEVELS}
+use Rattle.r4_serve.proofs.asking.weigh.Goals as goal
 
 pub returns-in-Some : goal.returns-in-Some
 returns-in-Some c =
