@@ -2,12 +2,12 @@
 
 ghost use Rattle.std.specs.Prelude.{◌≡◌};
 
-use crate::small::{
+use r4_base::{Attr, Key, ScriptNo, TAIL, Target, TaskId, get16};
+use r4_build::{Built, ObjectCounts, Task};
+use r4_build_testing::{
     ENTRY, FILE, FILE_STAT, NEW_FILE, ROOT, build_creation, build_refused, build_times,
     build_writing, fresh_cells, with_change,
 };
-use r4_base::{Attr, Key, ScriptNo, TAIL, Target, TaskId, get16};
-use r4_build::{Built, ObjectCounts, Task};
 use r4_cell::{Cell, Cells, Fresh, least};
 use r4_content::Reply;
 use r4_outside::Gate;

@@ -3,9 +3,3 @@
 
 #[cfg(test)]
 mod building;
-#[cfg(test)]
-mod leaves;
-#[cfg(test)]
-mod small;
-#[cfg(test)]
-mod working;

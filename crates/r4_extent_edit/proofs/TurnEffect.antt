@@ -323,11 +323,11 @@ module _ {t : Store Value} {r : Root} {it : Item} {leaf : CellSeen} {more : List
 
 -- ---- what stays of the last leaf
 
-pub keeps_from : (key : Key) (to : ℕ) (leaf : CellSeen) (id : ℕ) (o : Option CellSeen) → HasRight leaf key id o
+pub keeps_from : (key : Key) (behind : ℕ) (leaf : CellSeen) (id : ℕ) (o : Option CellSeen) → HasRight leaf key id o
     → leaf.level ≡ 1
-    → ((k : ℕ) (v : Value) → Contains (node_of leaf).units (k, v) → (rank key ≤ k → to ≤ k) × (to ≤ k
-    → rank key ≤ k)) → KeepsFrom to leaf o
-keeps_from key to leaf id None h level same k u = (
+    → ((k : ℕ) (v : Value) → Contains (node_of leaf).units (k, v) → (rank key ≤ k → behind ≤ k) × (behind ≤ k
+    → rank key ≤ k)) → KeepsFrom behind leaf o
+keeps_from key behind leaf id None h level same k u = (
   λ x. absurd (none x.0 x.1),
   λ z. let (low, le) = z in let (x, at, has, kind) = low in elim (cases leaf x [] at) [
     | inr none_is ↦ absurd (none x none_is)
@@ -335,7 +335,7 @@ keeps_from key to leaf id None h level same k u = (
         absurd (no_first (rank key) (node_of leaf).units (k, u.0) h mine ((same k u.0 mine).1 le))
   ],
 )
-keeps_from key to leaf id (Some y) h level same k u = (
+keeps_from key behind leaf id (Some y) h level same k u = (
   λ (x, at, has, kind). elim (cases y x [] at) [
     | inr none_is ↦ absurd (none x none_is)
     | inl is ↦

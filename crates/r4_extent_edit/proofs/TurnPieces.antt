@@ -471,7 +471,7 @@ module _ (twig : CellSeen) (are : ArePiecesOf twig (twig_pieces twig)) (leaf : C
         ap (λ (n : ℕ). names_of n (p.piece ∷ p.others)) p.next
         ∙ ((λ i. part_names (p.key i) (p.begins i) (p.part i) ++ p.names i)
         ∙ (λ i. record { id = leaf.id; level = sym beside.0 i; lo = rank leaf.lo; hi = rank leaf.hi }
-            ∷ map name_of more))
+        ∷ map name_of more))
 
     pub turned_names : (n : Name) → Contains (names_of (rank twig.hi) (turned_pieces it right twig)) n ↔
         ((Contains (node_of twig).names n × (Contains (map name_of (leaf ∷ more)) n → ⊥))

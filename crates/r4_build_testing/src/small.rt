@@ -6,7 +6,7 @@ ghost use Rattle.r4_base.specs.Key.{least};
 ghost use Rattle.r4_base.specs.Value.{Entry, Stat};
 ghost use Rattle.r4_base.specs.Volume.{root_attr, root_object, stat_rank};
 ghost use Rattle.r4_content.specs.Objects.{entry_rank, new_file, sized};
-ghost use Rattle.r4_build_tests.specs.Commands.{file, file_name, file_seen, file_text, fresh_seen};
+ghost use Rattle.r4_build_testing.specs.Commands.{file, file_name, file_seen, file_text, fresh_seen};
 ghost use Rattle.r4_base.specs.Bytes.{number_bytes};
 ghost use Rattle.r4_base.specs.Fresh.{HasOneItem};
 ghost use Rattle.r4_base.specs.Image.{block_at};
@@ -16,7 +16,7 @@ ghost use Rattle.r4_leaf_edits.specs.Suiting.{SuitLeaves};
 ghost use Rattle.r4_outside.specs.Device.{TellsReads};
 ghost use Rattle.r4_outside.specs.Memory.{memory_state};
 ghost use Rattle.r4_reach.specs.Touched.{edits_on};
-ghost use Rattle.r4_build_tests.specs.Small.{AreLawful, HasAllKeys, HasRoomFor, IsSmall};
+ghost use Rattle.r4_build_testing.specs.Small.{AreLawful, HasAllKeys, HasRoomFor, IsSmall};
 
 use r4_base::{
     Attr, Block, BlockNo, Bytes, Key, Memory, Name, NodeId, Oid, ScriptNo, Target, TaskId, TxnNo,

@@ -5,9 +5,9 @@ use Rattle.r4_cell.specs.Seen.{CellSeen}
 use Rattle.r4_content.specs.Course.{Ending}
 use Rattle.r4_content.specs.Edited.{Edits}
 use Rattle.r4_content.specs.Held.{edits_of}
-use Rattle.r4_build_tests.specs.Small.{HasRoomFor}
-use Rattle.r4_build_tests.proofs.Room.{second_is}
-use Rattle.r4_build_tests.proofs.small.has_room.Goals as goal
+use Rattle.r4_build_testing.specs.Small.{HasRoomFor}
+use Rattle.r4_build_testing.proofs.Room.{second_is}
+use Rattle.r4_build_testing.proofs.small.has_room.Goals as goal
 
 pub returns-in-len2 : goal.returns-in-len2
 returns-in-len2 c =

@@ -5,8 +5,8 @@ use Rattle.r4_cell.specs.Patch.{by_name}
 use Rattle.r4_content.specs.Held.{pairs_of}
 use Rattle.r4_measure.specs.Examples.{fresh_root}
 use Rattle.r4_reach.specs.Touched.{edits_on}
-use Rattle.r4_build_tests.proofs.TwoCells.{can_build}
-use Rattle.r4_build_tests.proofs.small.built.Goals as goal
+use Rattle.r4_build_testing.proofs.TwoCells.{can_build}
+use Rattle.r4_build_testing.proofs.small.built.Goals as goal
 
 pub build-requires-clause-task : goal.build-requires-clause-task
 build-requires-clause-task g c κs within =

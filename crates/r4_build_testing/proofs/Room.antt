@@ -16,7 +16,7 @@ use Rattle.r4_leaf.specs.declared.remaking.KeyRange.{KeyRange}
 use Rattle.r4_leaf_edits.specs.Made.{MakesEdits}
 use Rattle.r4_path.proofs.Rising.{hi_is, lo_is}
 use Rattle.r4_reach.specs.Needs.{units_after}
-use Rattle.r4_build_tests.specs.Small.{HasRoomFor, IsSmall}
+use Rattle.r4_build_testing.specs.Small.{HasRoomFor, IsSmall}
 
 least_of : (m n : ℕ) → n ≡ min m (2 ^ 64 - 1) → n ≤ 4068 → m ≤ 4068
 least_of m n e h = grind (arith, common_steps, e, h)

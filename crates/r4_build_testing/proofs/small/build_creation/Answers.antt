@@ -3,10 +3,10 @@ use Rattle.r4_content.specs.Edited.{Pairs}
 use Rattle.r4_content.specs.Held.{pairs_of}
 use Rattle.r4_content.specs.declared.command.Command.TheVariants.{Create}
 use Rattle.r4_reach.specs.Touched.{edits_on}
-use Rattle.r4_build_tests.specs.Commands.{create_file}
-use Rattle.r4_build_tests.specs.Small.{AreLawful}
-use Rattle.r4_build_tests.proofs.Lawful.{create_lawful}
-use Rattle.r4_build_tests.proofs.small.build_creation.Goals as goal
+use Rattle.r4_build_testing.specs.Commands.{create_file}
+use Rattle.r4_build_testing.specs.Small.{AreLawful}
+use Rattle.r4_build_testing.proofs.Lawful.{create_lawful}
+use Rattle.r4_build_testing.proofs.small.build_creation.Goals as goal
 
 pub built-requires-clause-lawful : goal.built-requires-clause-lawful
 built-requires-clause-lawful g c κs within =

@@ -25,7 +25,7 @@ use Rattle.r4_measure.specs.Asked.{asked_of}
 use Rattle.r4_measure.specs.Begin.{IsQuiet, IsReachedFor}
 use Rattle.r4_measure.specs.Examples.{fresh_root, some_numbers}
 use Rattle.r4_build.specs.Building.{CanBuild, HaveLawfulKeys, LiesInLeaf}
-use Rattle.r4_build_tests.specs.Small.{AreLawful, HasAllKeys, HasRoomFor, IsSmall}
+use Rattle.r4_build_testing.specs.Small.{AreLawful, HasAllKeys, HasRoomFor, IsSmall}
 
 no_members : {A : Type 0} (xs : List A) → ((x : A) → Contains xs x → ⊥) → xs ≡ []
 no_members [] h = refl

@@ -13,8 +13,8 @@ use Rattle.r4_leaf.proofs.Standing.{stand_lie}
 use Rattle.r4_node40.specs.View.{view_items}
 use Rattle.r4_edit.proofs.LeafLent.{lent_stands, lent_units}
 use Rattle.r4_build.proofs.Made.{gets_of, units_of_leaf}
-use Rattle.r4_build_tests.proofs.Room.{room_for}
-use Rattle.r4_build_tests.proofs.small.leaf_has_room.Goals as goal
+use Rattle.r4_build_testing.proofs.Room.{room_for}
+use Rattle.r4_build_testing.proofs.small.leaf_has_room.Goals as goal
 
 pub bytes_after-requires-clause-leaf : goal.bytes_after-requires-clause-leaf
 bytes_after-requires-clause-leaf c =

@@ -4,10 +4,10 @@ use Rattle.r4_content.specs.Held.{pairs_of}
 use Rattle.r4_content.specs.Seen.{Rises}
 use Rattle.r4_content.specs.declared.command.Command.TheVariants.{Write}
 use Rattle.r4_reach.specs.Touched.{edits_on}
-use Rattle.r4_build_tests.specs.Commands.{file_name, file_seen}
-use Rattle.r4_build_tests.specs.Small.{AreLawful}
-use Rattle.r4_build_tests.proofs.Lawful.{file_rises, write_lawful}
-use Rattle.r4_build_tests.proofs.small.build_writing.Goals as goal
+use Rattle.r4_build_testing.specs.Commands.{file_name, file_seen}
+use Rattle.r4_build_testing.specs.Small.{AreLawful}
+use Rattle.r4_build_testing.proofs.Lawful.{file_rises, write_lawful}
+use Rattle.r4_build_testing.proofs.small.build_writing.Goals as goal
 
 pub built-requires-clause-lawful : goal.built-requires-clause-lawful
 built-requires-clause-lawful g c κs within =

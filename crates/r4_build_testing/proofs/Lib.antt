@@ -1,3 +1,3 @@
-mod Lawful
+pub mod Lawful
 mod Room
 mod TwoCells

@@ -1,7 +1,7 @@
 //! The cells of a task, looked for by their keys before any is changed.
 
-use crate::small::{FILE_STAT, fresh_cells};
 use r4_base::Key;
+use r4_build_testing::{FILE_STAT, fresh_cells};
 use r4_cell::{Cell, least, top};
 use r4_work::WorkingSet;
 use std::alloc::Global;

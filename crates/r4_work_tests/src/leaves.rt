@@ -4,10 +4,10 @@ ghost use Rattle.std.specs.Prelude.{◌≡◌, IfOk};
 ghost use Rattle.r4_content.specs.Held.{edits_of};
 ghost use Rattle.r4_base.specs.Key.{rank};
 ghost use Rattle.r4_base.specs.Volume.{byte_rank};
-ghost use Rattle.r4_build_tests.specs.Commands.{file, mixed};
+ghost use Rattle.r4_build_testing.specs.Commands.{file, mixed};
 
-use crate::small::{FILE, ROOT};
 use r4_base::{Bytes, Key, STAT, TAIL, Value};
+use r4_build_testing::{FILE, ROOT};
 use r4_cell::{least, top};
 use r4_content::{ByteRun, Edits, FilledInterval, Interval, Reply};
 use r4_leaf::{Given, KeyRange};

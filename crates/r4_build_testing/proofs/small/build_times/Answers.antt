@@ -3,10 +3,10 @@ use Rattle.r4_content.specs.Edited.{Pairs}
 use Rattle.r4_content.specs.Held.{pairs_of}
 use Rattle.r4_content.specs.declared.command.Command.TheVariants.{Times}
 use Rattle.r4_reach.specs.Touched.{edits_on}
-use Rattle.r4_build_tests.specs.Commands.{set_times}
-use Rattle.r4_build_tests.specs.Small.{AreLawful}
-use Rattle.r4_build_tests.proofs.Lawful.{times_lawful}
-use Rattle.r4_build_tests.proofs.small.build_times.Goals as goal
+use Rattle.r4_build_testing.specs.Commands.{set_times}
+use Rattle.r4_build_testing.specs.Small.{AreLawful}
+use Rattle.r4_build_testing.proofs.Lawful.{times_lawful}
+use Rattle.r4_build_testing.proofs.small.build_times.Goals as goal
 
 pub built-requires-clause-lawful : goal.built-requires-clause-lawful
 built-requires-clause-lawful g c κs within =
