@@ -4,4 +4,4 @@
 
 mod laws;
 
-pub use laws::rows_are_patches;
+pub use laws::{rows_are_patches, rows_keep_units, rows_take_effect, turns_take_effect};
