@@ -1,5 +1,12 @@
+pub mod Fewer
 pub mod Flat
+pub mod LeafSlum
+pub mod Numbered
+pub mod PutBehind
+pub mod Rewritten
 pub mod RowCells
 pub mod RowUnits
+pub mod Squeezed
 pub mod Stacked
 pub mod Turned
+pub mod TwigSlum

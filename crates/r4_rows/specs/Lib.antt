@@ -1,4 +1,9 @@
+pub mod Behind
+pub mod Fewest
 pub mod Numbers
+pub mod Packed
+pub mod Replaced
 pub mod Rows
+pub mod Slum
 pub mod Turn
 pub mod Units

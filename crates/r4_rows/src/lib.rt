@@ -1,7 +1,11 @@
 //! Changes of rows: neighbouring nodes of one level, with those above them, give way to others that
-//! share out the same range (docs/volume.md, "Edits").
+//! share out the same range; and a slum that is packed to the left (docs/volume.md, "Edits").
 #![tactic(auto)]
 
 mod laws;
 
-pub use laws::{rows_are_patches, rows_keep_units, rows_take_effect, turns_take_effect};
+pub use laws::{
+    filling_needs_fewest, items_come_behind, leaves_pack_to_the_left, pointers_take_their_place,
+    rows_are_numbered, rows_are_patches, rows_keep_units, rows_take_effect, squeezing_is_a_patch,
+    turns_take_effect, twigs_pack_to_the_left,
+};
