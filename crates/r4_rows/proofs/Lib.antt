@@ -2,6 +2,7 @@ pub mod Fewer
 pub mod Flat
 pub mod LeafSlum
 pub mod Numbered
+pub mod NumberedBelow
 pub mod PutBehind
 pub mod Rewritten
 pub mod RowCells

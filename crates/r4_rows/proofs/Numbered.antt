@@ -25,7 +25,7 @@ order n to (s ∷ rows) over (xs, ids, counts, rest) = let le = order (n + lengt
     omega (arith, le)
 
 -- an old number, or one between
-where_from : (n to : ℕ) (rows : List Row) (over : Option CellSeen) (x : CellSeen) → AreNumbered n to rows over
+pub where_from : (n to : ℕ) (rows : List Row) (over : Option CellSeen) (x : CellSeen) → AreNumbered n to rows over
     → Contains (news_in rows over) x → Contains (ids_of (olds_in rows)) x.id ⊎ ((n ≤ x.id) × (x.id < to))
 where_from n to [] None x h at = absurd (none x at)
 where_from n to [] (Some c) x (is, lt) at = elim (cases c x [] at) [
@@ -117,7 +117,7 @@ distinct_apart (z ∷ xs) ys x y (first, rest) mx my = elim (cases z x xs mx) [
 ]
 
 module _ (t : Store Value) where
-  not_free : (n to i : ℕ) (o : CellSeen) → IsFree n to t → t o.id ≡ Some (node_of o) → o.id ≡ i → n ≤ i → i < to → ⊥
+  pub not_free : (n to i : ℕ) (o : CellSeen) → IsFree n to t → t o.id ≡ Some (node_of o) → o.id ≡ i → n ≤ i → i < to → ⊥
   not_free n to i o free there same low high = none-some (node_of o)
       (sym (free.cells i low high) ∙ subst (λ j. t j ≡ Some (node_of o)) same there)
 

@@ -30,7 +30,7 @@ ghost use Rattle.r4_path.specs.Steps.{Follow, IsFree, IsNameOf, root_pair};
 ghost use Rattle.r4_path.specs.Twigs.{IsUnused};
 ghost use Rattle.r4_rows.specs.Behind.{EachMayBePut, UnitsRise};
 ghost use Rattle.r4_rows.specs.Fewest.{EachFits, joined};
-ghost use Rattle.r4_rows.specs.Numbers.{AreNumbered};
+ghost use Rattle.r4_rows.specs.Numbers.{AreNumbered, IsNumberedChange};
 ghost use Rattle.r4_rows.specs.Packed.{ArePackedLeft, AreSlumPieces, AreTwigsLeft, renumbered};
 ghost use Rattle.r4_rows.specs.Packed.{units_each};
 ghost use Rattle.r4_rows.specs.Replaced.{AreReplaced, with_pointers};
@@ -102,8 +102,9 @@ pub fn squeezing_is_a_patch()
 {}
 
 /// Where the new cells of each row have the first of its old numbers, and then free ones in turn,
-/// no name stands twice, and each is an old cell's or unused: what a change of rows asks of its
-/// numbers (docs/volume.md, "Edits").
+/// no name stands twice, and each is an old cell's or unused. So such rows are a change of rows,
+/// over what comes below with numbers of what goes there or other unused ones (docs/volume.md,
+/// "Edits").
 pub fn rows_are_numbered()
     ensures names { (t : Store Value) (n to : ℕ) (rows : List Row) (over : Option CellSeen)
         → AreNumbered n to rows over → HaveNames (olds_in rows) → AreThere t (olds_in rows)
@@ -112,6 +113,9 @@ pub fn rows_are_numbered()
         → AreNumbered n to rows over → IsFree n to t
         → (c : CellSeen) → Contains (news_in rows over) c
         → Contains (ids_of (olds_in rows)) c.id ⊎ IsUnused t c.id }
+    ensures change { (t : Store Value) (r : Root) (level n to : ℕ) (b s : Row) (more : List Row)
+        (over : Option CellSeen) → IsNumberedChange t r level n to b s more over
+        → IsRowChange t r level b s more over }
 {}
 
 /// Leaves and twigs that are filled from the left are no more than any others with the same in
