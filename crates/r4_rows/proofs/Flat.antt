@@ -1,5 +1,5 @@
 -- The law of rows on lists of cells: no levels but those that the cells have.
-use Rattle.std.proofs.Common.{◌≡◌, ◌⊎◌, inl, inr, ℕ, ◌<◌, ◌≤◌, List, [], ◌∷◌, refl, sym, ap, subst, ◌∙◌, arith}
+use Rattle.std.proofs.Common.{◌≡◌, ◌⊎◌, inl, inr, ℕ, ◌<◌, ◌≤◌, List, refl, sym, ap, subst, ◌∙◌, arith}
 use Rattle.std.specs.Prelude.{◌↔◌, Contains, IsSome, Option, None, Some}
 use Rattle.std.specs.Option.{option_map}
 use Rattle.std.proofs.lemmas.Option.{none-some, same_Some}
@@ -14,7 +14,8 @@ use Rattle.r4_patch.specs.Part.{IsPart, MeetsPart}
 use Rattle.r4_patch.proofs.PartCells.{level_above}
 use Rattle.r4_path.specs.Steps.{AreNaming, IsNameOf, name_of, root_pair}
 use Rattle.r4_path.specs.Twigs.{CoversBelow, IsUnused}
-use Rattle.r4_patch.proofs.Members.{Distinct, absent, cases, found, have_names, here, later, none, there}
+use Rattle.r4_patch.proofs.Members.{Distinct, absent, found, have_names, there}
+use Rattle.r4_path.proofs.TwigBelow.{id_cell}
 use Rattle.r4_path.proofs.Rising.{InCell, hi_is, in_cell, in_node, level_is, lo_is}
 
 -- the key lies in one of the leaves, or in an extent of one of the twigs
@@ -66,13 +67,6 @@ pub record IsFlat (t : Store Value) (r : Root) (old new : List CellSeen) (over :
   pub used : (c : CellSeen) → Contains new c → Contains (ids_of old) c.id ⊎ IsUnused t c.id
 
 -- a cell of a list, by its number
-pub id_cell : (cells : List CellSeen) (i : ℕ) → Contains (ids_of cells) i → (o : CellSeen) × Contains cells o
-    × (o.id ≡ i)
-id_cell [] i at = absurd (none i at)
-id_cell (c ∷ cells) i at = elim (cases c.id i (ids_of cells) at) [
-  | inl is ↦ (c, here c cells, sym is)
-  | inr more ↦ let (o, member, same) = id_cell cells i more in (o, later c o cells member, same)
-]
 
 same_fields : (id level lo hi i l a b : ℕ) → id ≡ i → level ≡ l → lo ≡ a → hi ≡ b
     → ◌≡◌ {A = Name} (record { id = id; level = level; lo = lo; hi = hi })

@@ -2,6 +2,7 @@
 use Rattle.std.proofs.Common.{◌≡◌, inl, inr, ℕ, zero, suc, ◌+◌, ◌<◌, ◌≤◌, List, [], ◌∷◌, ◌++◌, length, take, refl, sym}
 use Rattle.std.proofs.Common.{ap, subst, ◌∙◌, arith}
 use Rattle.std.specs.Prelude.{Contains}
+use Rattle.std.proofs.lemmas.List.{append-nil}
 use Rattle.r4_base.specs.Key.{rank}
 use Rattle.r4_base.specs.declared.key.Key.{Key}
 use Rattle.r4_cell.specs.Seen.{CellSeen, node_of}
@@ -16,6 +17,7 @@ use Rattle.r4_path.specs.Steps.{Follow}
 use Rattle.r4_path.proofs.CellNodes.{units_are}
 use Rattle.r4_path.proofs.LeafCells.{packed}
 use Rattle.r4_patch.proofs.Members.{cases, later, none}
+use Rattle.r4_path.proofs.Upwards.{long_ids}
 use Rattle.r4_rows.specs.Fewest.{EachFits, joined}
 use Rattle.r4_rows.specs.Packed.{AreFullLeaves, ArePackedLeft, IsFullLeaf, renumbered, units_each}
 use Rattle.r4_rows.proofs.Fewer.{packs_fewest}
@@ -91,13 +93,9 @@ first_units lo hi' hi id next us x [] leaf = (
   [],
   refl,
   units_are (record { id = id; level = 1; lo = x.lo; hi = hi; block = x.block }) 0 refl ∙ leaf.units,
-  sym (append_none us),
+  sym (append-nil us),
   λ u vs e. (vs, e),
 )
-  where
-    append_none : (us : List LeafUnit) → us ++ [] ≡ us
-    append_none [] = refl
-    append_none (u ∷ us) = ap (λ (vs : List LeafUnit). u ∷ vs) (append_none us)
 first_units lo hi' hi id next us x (y ∷ more) (first, n, rest, is, from, low, leaf, full, p) = (
   record { id = id; level = 1; lo = x.lo; hi = y.lo; block = x.block },
   leaf_cells next (next + 1) hi (y ∷ more),
@@ -142,7 +140,7 @@ long_each : (slum : List CellSeen) → length (units_each slum) ≡ length slum
 long_each [] = refl
 long_each (c ∷ slum) = ap suc (long_each slum)
 
-some_each : (level lo hi : ℕ) (slum : List CellSeen) → Follow level lo hi slum → lo < hi → 1 ≤ length slum
+pub some_each : (level lo hi : ℕ) (slum : List CellSeen) → Follow level lo hi slum → lo < hi → 1 ≤ length slum
 some_each level lo hi [] e lt = absurd (omega (arith, e, lt))
 some_each level lo hi (c ∷ slum) f lt = omega arith
 
@@ -170,7 +168,3 @@ leaves_squeezed slum from hi leaves follow range fit p =
       full = full_new (ids_of slum) (leaf_cells 0 0 hi leaves)
           (cells_full from (rank hi) hi 0 0 (units_of_cells slum) leaves p);
     }
-  where
-    long_ids : (slum : List CellSeen) → length (ids_of slum) ≡ length slum
-    long_ids [] = refl
-    long_ids (c ∷ slum) = ap suc (long_ids slum)

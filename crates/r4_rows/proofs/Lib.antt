@@ -1,6 +1,7 @@
 pub mod Fewer
 pub mod Flat
 pub mod LeafSlum
+pub mod Lists
 pub mod Numbered
 pub mod NumberedBelow
 pub mod PutBehind

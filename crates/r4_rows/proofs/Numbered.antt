@@ -1,5 +1,5 @@
 -- Rows whose new cells have old numbers and then the next ones.
-use Rattle.std.proofs.Common.{◌≡◌, ◌≢◌, ◌⊎◌, inl, inr, ℕ, zero, suc, ◌+◌, ◌<◌, ◌≤◌, List, [], ◌∷◌, ◌++◌, length, take}
+use Rattle.std.proofs.Common.{◌≡◌, ◌⊎◌, inl, inr, ℕ, zero, suc, ◌+◌, ◌<◌, ◌≤◌, List, [], ◌∷◌, ◌++◌, length, take}
 use Rattle.std.proofs.Common.{refl, sym, ap, subst, ◌∙◌, arith}
 use Rattle.std.specs.Prelude.{Contains, Option, None, Some}
 use Rattle.std.proofs.lemmas.List.Elements.{Contains-append_cases, Contains-append_left, Contains-append_right}
@@ -12,11 +12,12 @@ use Rattle.r4_patch.specs.Joining.{ids_of}
 use Rattle.r4_path.specs.Steps.{CountUp, IsFree}
 use Rattle.r4_path.specs.Twigs.{IsUnused}
 use Rattle.r4_patch.proofs.Members.{Distinct, cases, distinct_append, have_names, later, none}
+use Rattle.r4_path.proofs.Ordered.{Once}
 use Rattle.r4_path.proofs.Rising.{count_within, id_member}
 use Rattle.r4_rows.specs.Rows.{AreThere, Row, news_in, olds_in}
 use Rattle.r4_rows.specs.Numbers.{AreNumbered}
-use Rattle.r4_rows.proofs.Flat.{id_cell}
-use Rattle.r4_rows.proofs.Squeezed.{in_take}
+use Rattle.r4_path.proofs.TwigBelow.{id_cell}
+use Rattle.r4_rows.proofs.Lists.{distinct_apart, distinct_left, distinct_right, in_take}
 
 order : (n to : ℕ) (rows : List Row) (over : Option CellSeen) → AreNumbered n to rows over → n ≤ to
 order n to [] None h = h
@@ -55,10 +56,6 @@ where_from n to (s ∷ rows) over x (xs, ids, counts, rest) at =
     ]
 
 -- ---- numbers, none twice
-
-abbrev Once : List ℕ → Type 0
-Once [] = Unit {0}
-Once (i ∷ ids) = (Contains ids i → ⊥) × Once ids
 
 once_ids : (cells : List CellSeen) → Distinct cells → Once (ids_of cells)
 once_ids [] d = tt
@@ -99,22 +96,6 @@ distinct_of (c ∷ cells) (i ∷ ids) e (first, rest) =
           (subst (Contains (ids_of cells)) (sym same ∙ head) (id_member cells y at))),
       distinct_of cells ids tail rest,
     )
-
-distinct_left : (xs ys : List CellSeen) → Distinct (xs ++ ys) → Distinct xs
-distinct_left [] ys d = tt
-distinct_left (x ∷ xs) ys (first, rest) = (λ y at. first y (Contains-append_left xs ys y at), distinct_left xs ys rest)
-
-distinct_right : (xs ys : List CellSeen) → Distinct (xs ++ ys) → Distinct ys
-distinct_right [] ys d = d
-distinct_right (x ∷ xs) ys (first, rest) = distinct_right xs ys rest
-
-distinct_apart : (xs ys : List CellSeen) (x y : CellSeen) → Distinct (xs ++ ys) → Contains xs x → Contains ys y
-    → x.id ≢ y.id
-distinct_apart [] ys x y d mx my = absurd (none x mx)
-distinct_apart (z ∷ xs) ys x y (first, rest) mx my = elim (cases z x xs mx) [
-  | inl is ↦ λ same. first y (Contains-append_right xs ys y my) (sym (ap (λ (c : CellSeen). c.id) is) ∙ same)
-  | inr more ↦ distinct_apart xs ys x y rest more my
-]
 
 module _ (t : Store Value) where
   pub not_free : (n to i : ℕ) (o : CellSeen) → IsFree n to t → t o.id ≡ Some (node_of o) → o.id ≡ i → n ≤ i → i < to → ⊥

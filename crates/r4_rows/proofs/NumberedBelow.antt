@@ -13,7 +13,7 @@ use Rattle.r4_patch.proofs.Members.{Distinct, distinct, distinct_append, have_na
 use Rattle.r4_path.proofs.Rising.{follow_within, id_member}
 use Rattle.r4_rows.specs.Numbers.{IsNumberedChange}
 use Rattle.r4_rows.specs.Rows.{IsRowChange, Row, all_news, all_olds, news_in, olds_in}
-use Rattle.r4_rows.proofs.Flat.{id_cell}
+use Rattle.r4_path.proofs.TwigBelow.{id_cell}
 use Rattle.r4_rows.proofs.Numbered.{not_free, numbered_distinct, numbered_each, where_from}
 use Rattle.r4_rows.proofs.Stacked.{at_least, old_in, row_with, rows_distinct, same_level}
 

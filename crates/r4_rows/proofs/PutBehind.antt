@@ -3,7 +3,7 @@ use Rattle.std.proofs.Common.{◌≡◌, inl, inr, ◌<◌, Bool, true, false, L
 use Rattle.std.proofs.Common.{◌∙◌, arith}
 use Rattle.std.specs.Prelude.{if◌then◌else◌, nat_lt, Contains}
 use Rattle.std.proofs.lemmas.Bool.Decides.{nat_tests}
-use Rattle.std.proofs.lemmas.List.{append_assoc}
+use Rattle.std.proofs.lemmas.List.{append_assoc, append-nil}
 use Rattle.std.proofs.lemmas.List.Elements.{Contains-append_left, Contains-append_right}
 use Rattle.r4_base.specs.Cell.{item_units, units_in}
 use Rattle.r4_leaf.specs.Leaves.{AreApart}
@@ -64,11 +64,7 @@ skip_one (x ∷ us) u gs (first, rest) = (
     ]
 
 units_behind : (gs us : List LeafUnit) → UnitsRise (us ++ gs) → put_units gs us ≡ us ++ gs
-units_behind [] us r = sym (append_none us)
-  where
-    append_none : (us : List LeafUnit) → us ++ [] ≡ us
-    append_none [] = refl
-    append_none (u ∷ us) = ap (λ (vs : List LeafUnit). u ∷ vs) (append_none us)
+units_behind [] us r = sym (append-nil us)
 units_behind (g ∷ gs) us r = ap (put_unit g) (units_behind gs us (skip_one us g gs r)) ∙ put_behind g us gs r
 
 rise_front : (xs ys : List LeafUnit) → UnitsRise (xs ++ ys) → UnitsRise xs
@@ -109,11 +105,7 @@ can_put_behind (g ∷ gs) us (mine, others) r = (
 
 pub put_all_behind : (gs : List Given) (us : List LeafUnit) → UnitsRise (us ++ units_in (map item_of gs))
     → put_all gs us ≡ us ++ units_in (map item_of gs)
-put_all_behind [] us r = sym (append_none us) ∙ ap (λ (vs : List LeafUnit). us ++ vs) (sym units_nil)
-  where
-    append_none : (us : List LeafUnit) → us ++ [] ≡ us
-    append_none [] = refl
-    append_none (u ∷ us) = ap (λ (vs : List LeafUnit). u ∷ vs) (append_none us)
+put_all_behind [] us r = sym (append-nil us) ∙ ap (λ (vs : List LeafUnit). us ++ vs) (sym units_nil)
 put_all_behind (g ∷ gs) us r =
     put_all_behind gs (put_units (item_units (item_of g)) us) (rest_rises g gs us r)
     ∙ (ap (λ (vs : List LeafUnit). vs ++ units_in (map item_of gs)) (one g gs us r)

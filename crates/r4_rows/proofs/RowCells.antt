@@ -16,8 +16,9 @@ use Rattle.r4_patch.proofs.Members.{Distinct, cases, distinct_append, here, none
 use Rattle.r4_path.proofs.Rising.{InCell, Within, follow_apart, follow_covers, follow_within, in_cell, in_node}
 use Rattle.r4_path.proofs.Rising.{level_is}
 use Rattle.r4_patch.proofs.Members.{distinct}
+use Rattle.r4_path.proofs.TwigBelow.{id_cell}
 use Rattle.r4_rows.specs.Rows.{EndsRow, IsOver, IsRow, IsRowChange, KeepsSpans, Row, news_in, olds_in}
-use Rattle.r4_rows.proofs.Flat.{EndsAt, Has, IsAlike, IsFlat, IsLowIn, IsRootAbove, flat_change, flat_meets, id_cell}
+use Rattle.r4_rows.proofs.Flat.{EndsAt, Has, IsAlike, IsFlat, IsLowIn, IsRootAbove, flat_change, flat_meets}
 use Rattle.r4_rows.proofs.Flat.{same_name}
 use Rattle.r4_rows.proofs.Stacked.{Highest, InNew, InOld, Stands, above_or_last, at_least, below_is, head_is, highest}
 use Rattle.r4_rows.proofs.Stacked.{in_new, in_old}

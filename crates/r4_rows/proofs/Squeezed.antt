@@ -1,5 +1,5 @@
 -- A squeezed slum and its parent are a change of rows.
-use Rattle.std.proofs.Common.{◌≡◌, inl, inr, ℕ, zero, suc, ◌<◌, ◌≤◌, List, [], ◌∷◌, ◌++◌, length, take, refl, sym, ap}
+use Rattle.std.proofs.Common.{◌≡◌, inl, inr, ℕ, suc, ◌<◌, ◌≤◌, List, [], ◌∷◌, ◌++◌, length, take, refl, sym, ap}
 use Rattle.std.proofs.Common.{subst, ◌∙◌, arith}
 use Rattle.std.specs.Prelude.{false, Contains, None, Some}
 use Rattle.std.proofs.lemmas.List.Elements.{Contains-append_cases, Contains-append_left, Contains-append_right}
@@ -14,16 +14,17 @@ use Rattle.r4_patch.specs.Part.{MeetsPart}
 use Rattle.r4_patch.proofs.PartCells.{one_above}
 use Rattle.r4_path.specs.Levels.{units_of_cells}
 use Rattle.r4_path.specs.Steps.{AreNaming, AreSpanning, Follow, name_of}
-use Rattle.r4_patch.proofs.Members.{Distinct, cases, have_names, here, later, none}
+use Rattle.r4_patch.proofs.Members.{Distinct, cases, have_names, here, none}
 use Rattle.r4_path.proofs.Rising.{follow_within, id_member, level_is, lo_is, hi_is}
 use Rattle.r4_rows.specs.Rows.{EndsIn, IsPlainRowChange, IsRow, IsRowChange, Mounts, Row, no_row}
 use Rattle.r4_rows.specs.Slum.{IsSlum, IsSqueezed, slum_patch}
-use Rattle.r4_rows.proofs.Flat.{id_cell}
+use Rattle.r4_path.proofs.TwigBelow.{id_cell}
 use Rattle.r4_rows.proofs.RowCells.{rows_change, rows_meet}
 use Rattle.r4_rows.proofs.RowUnits.{cells_effect, in_units, of_units, plain_rows, same_bool}
 use Rattle.r4_rows.specs.Units.{UnitOf}
 use Rattle.r4_patch.specs.Effect.{Placed}
 use Rattle.std.proofs.lemmas.Bool.{cases_lt}
+use Rattle.r4_rows.proofs.Lists.{distinct_left, in_take}
 use Rattle.r4_rows.proofs.Stacked.{Stands, moved, rows_distinct}
 
 -- ---- lists
@@ -46,19 +47,7 @@ one_spanning c n member = (c, here c [], member)
 no_units_more : (c : CellSeen) → units_of_cells (c ∷ []) ≡ (node_of c).units ++ []
 no_units_more c = refl
 
-append_none : (xs : List CellSeen) → xs ++ [] ≡ xs
-append_none [] = refl
-append_none (x ∷ xs) = ap (λ (ys : List CellSeen). x ∷ ys) (append_none xs)
-
 -- ---- numbers
-
-pub in_take : (k : ℕ) (ids : List ℕ) (i : ℕ) → Contains (take k ids) i → Contains ids i
-in_take zero ids i at = absurd (none i at)
-in_take (suc k) [] i at = absurd (none i at)
-in_take (suc k) (j ∷ ids) i at = elim (cases j i (take k ids) at) [
-  | inl is ↦ subst (Contains (j ∷ ids)) (sym is) (here j ids)
-  | inr more ↦ later j i ids (in_take k ids i more)
-]
 
 -- the cells have the first numbers of others, and one more has the last one's
 fewer_distinct : (slum : List CellSeen) (parent : CellSeen) (cells : List CellSeen) (over : CellSeen)
@@ -82,10 +71,6 @@ fewer_distinct (x ∷ slum) parent (c ∷ cells) over (first, rest) ids id =
       ],
       fewer_distinct slum parent cells over rest tail id,
     )
-
-distinct_left : (xs ys : List CellSeen) → Distinct (xs ++ ys) → Distinct xs
-distinct_left [] ys d = tt
-distinct_left (x ∷ xs) ys (first, rest) = (λ y at. first y (Contains-append_left xs ys y at), distinct_left xs ys rest)
 
 follow_some : (level from to : ℕ) (cells : List CellSeen) → Follow level from to cells → from < to → (c : CellSeen)
     × Contains cells c

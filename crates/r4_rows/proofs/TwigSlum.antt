@@ -1,5 +1,5 @@
 -- A slum of twigs that is packed.
-use Rattle.std.proofs.Common.{◌≡◌, inl, inr, ℕ, suc, ◌+◌, ◌<◌, ◌≤◌, List, [], ◌∷◌, length, refl, sym, ap, subst, ◌∙◌}
+use Rattle.std.proofs.Common.{◌≡◌, inl, inr, ℕ, suc, ◌+◌, ◌≤◌, List, [], ◌∷◌, length, refl, sym, ap, subst, ◌∙◌}
 use Rattle.std.proofs.Common.{arith}
 use Rattle.std.specs.Prelude.{Contains}
 use Rattle.r4_base.specs.Key.{rank}
@@ -13,12 +13,13 @@ use Rattle.r4_cell.specs.Seen.{CellSeen, node_of}
 use Rattle.r4_cell.specs.declared.change.Fresh.{Fresh}
 use Rattle.r4_patch.specs.Joining.{ids_of}
 use Rattle.r4_path.specs.Grafts.{IsTwigLevel, TwigsHaveMkfsId, twig_cells}
-use Rattle.r4_path.specs.Steps.{AreNaming, Follow}
+use Rattle.r4_path.specs.Steps.{AreNaming}
 use Rattle.r4_patch.proofs.Members.{cases, here, later, none}
 use Rattle.r4_path.proofs.TwigCells.{twigs_step}
+use Rattle.r4_path.proofs.Upwards.{long_ids}
 use Rattle.r4_rows.specs.Packed.{AreSlumPieces, AreTwigsLeft, renumbered}
 use Rattle.r4_rows.proofs.Fewer.{packs_fewest_twigs}
-use Rattle.r4_rows.proofs.LeafSlum.{follow_new, ids_new, long_new, sound_new, units_new}
+use Rattle.r4_rows.proofs.LeafSlum.{follow_new, ids_new, long_new, some_each, sound_new, units_new}
 
 long_twigs : (id next : ℕ) (hi : Key) (twigs : List Twig) → length (twig_cells id next hi twigs) ≡ length twigs
 long_twigs id next hi [] = refl
@@ -53,14 +54,6 @@ new_naming (i ∷ ids) (c ∷ cells) n le (x, mx, member) = elim (cases c x cell
       (y, later (record c { id = i }) y (renumbered ids cells) my, in_y)
 ]
 
-long_ids : (slum : List CellSeen) → length (ids_of slum) ≡ length slum
-long_ids [] = refl
-long_ids (c ∷ slum) = ap suc (long_ids slum)
-
-some_cells : (level lo hi : ℕ) (slum : List CellSeen) → Follow level lo hi slum → lo < hi → 1 ≤ length slum
-some_cells level lo hi [] e lt = absurd (omega (arith, e, lt))
-some_cells level lo hi (c ∷ slum) f lt = omega arith
-
 abbrev any_twig : Key → Key → List ℕ → CellSeen
 any_twig lo hi b = record { id = 0; level = 2; lo = lo; hi = hi; block = b }
 
@@ -80,7 +73,7 @@ twigs_squeezed slum lo hi ps each (x ∷ more) b are p few own =
     (record { next = 0 + length more; end = 0 })
     (record { old = any_twig lo hi b; new = twig_cells 0 0 hi (x ∷ more) }) refl p few refl refl refl own in
     let row = step.row in
-    let some = some_cells 2 (rank lo) (rank hi) slum are.follow are.some in
+    let some = some_each 2 (rank lo) (rank hi) slum are.follow are.some in
     let many = are.many in
     let fewest = packs_fewest_twigs (rank lo) (rank hi) ps (x ∷ more) each p are.all are.fit
     (omega (arith, some, many)) in
