@@ -8,6 +8,7 @@ pub mod PutBehind
 pub mod Rewritten
 pub mod RowCells
 pub mod RowUnits
+pub mod SlumPieces
 pub mod Squeezed
 pub mod Stacked
 pub mod Turned

@@ -4,7 +4,7 @@ use Rattle.std.proofs.Common.{subst, ◌∙◌, arith}
 use Rattle.std.specs.Prelude.{false, Contains, None, Some}
 use Rattle.std.proofs.lemmas.List.Elements.{Contains-append_cases, Contains-append_left, Contains-append_right}
 use Rattle.r4_base.specs.Key.{rank}
-use Rattle.r4_base.specs.Tree.{IsNode, Name, Root, Span, Store}
+use Rattle.r4_base.specs.Tree.{IsNode, Name, Root, Store}
 use Rattle.r4_base.specs.Value.{Value}
 use Rattle.r4_patch.specs.Effect.{HasEffect}
 use Rattle.r4_cell.specs.Patch.{IsChange}
@@ -12,8 +12,7 @@ use Rattle.r4_cell.specs.Seen.{CellSeen, node_of}
 use Rattle.r4_patch.specs.Joining.{ids_of}
 use Rattle.r4_patch.specs.Part.{MeetsPart}
 use Rattle.r4_patch.proofs.PartCells.{one_above}
-use Rattle.r4_path.specs.Levels.{units_of_cells}
-use Rattle.r4_path.specs.Steps.{AreNaming, AreSpanning, Follow, name_of}
+use Rattle.r4_path.specs.Steps.{AreNaming, Follow, name_of}
 use Rattle.r4_patch.proofs.Members.{Distinct, cases, have_names, here, none}
 use Rattle.r4_path.proofs.Rising.{follow_within, id_member, level_is, lo_is, hi_is}
 use Rattle.r4_rows.specs.Rows.{EndsIn, IsPlainRowChange, IsRow, IsRowChange, Mounts, Row, no_row}
@@ -37,15 +36,6 @@ naming_one c n (x, mx, member) = subst (λ (z : CellSeen). Contains (node_of z).
 
 one_naming : (c : CellSeen) (n : Name) → Contains (node_of c).names n → AreNaming (c ∷ []) n
 one_naming c n member = (c, here c [], member)
-
-spanning_one : (c : CellSeen) (n : Span) → AreSpanning (c ∷ []) n → Contains (node_of c).spans n
-spanning_one c n (x, mx, member) = subst (λ (z : CellSeen). Contains (node_of z).spans n) (one_of c x mx) member
-
-one_spanning : (c : CellSeen) (n : Span) → Contains (node_of c).spans n → AreSpanning (c ∷ []) n
-one_spanning c n member = (c, here c [], member)
-
-no_units_more : (c : CellSeen) → units_of_cells (c ∷ []) ≡ (node_of c).units ++ []
-no_units_more c = refl
 
 -- ---- numbers
 

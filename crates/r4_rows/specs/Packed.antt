@@ -10,6 +10,7 @@ use Rattle.r4_patch.specs.Joining.{ids_of}
 use Rattle.r4_path.specs.Levels.{units_of_cells}
 use Rattle.r4_path.specs.Sharing.{IsSound}
 use Rattle.r4_path.specs.Steps.{AreNaming, Follow}
+use Rattle.r4_path.specs.TwigPieces.{ArePiecesOf}
 use Rattle.r4_rows.specs.Fewest.{EachFits, joined}
 
 -- the cells with these numbers, as many as there are
@@ -44,6 +45,13 @@ pub record ArePackedLeft (slum : List CellSeen) (from to : ℕ) (cells : List Ce
   pub units : units_of_cells cells ≡ units_of_cells slum
   pub sound : (c : CellSeen) → Contains cells c → IsSound c
   pub full : AreFullLeaves cells
+
+-- These are the pieces of the twigs, twig by twig.
+abbrev pub AreTheirPieces : List CellSeen → List (List TwigPiece) → Type 0
+AreTheirPieces [] [] = Unit {0}
+AreTheirPieces [] (ps ∷ each) = ⊥
+AreTheirPieces (c ∷ slum) [] = ⊥
+AreTheirPieces (c ∷ slum) (ps ∷ each) = ArePiecesOf c ps × AreTheirPieces slum each
 
 -- The pieces of a slum of twigs, twig by twig: each twig's have room in one, and all together name
 -- what the slum names and have its units.

@@ -9,7 +9,7 @@ ghost use Rattle.r4_base.specs.Node.{mkfs_id_of};
 ghost use Rattle.r4_base.specs.Tree.{Name, Root, Store};
 ghost use Rattle.r4_base.specs.Value.{Value};
 ghost use Rattle.r4_base.specs.declared.key.Key.{Key};
-ghost use Rattle.r4_branch.specs.Pieces.{names_of, twig_bytes, units_of};
+ghost use Rattle.r4_branch.specs.Pieces.{AreTwigPieces, names_of, twig_bytes, units_of};
 ghost use Rattle.r4_branch.specs.Twigs.{AreFewTwigs, PacksTwigs};
 ghost use Rattle.r4_branch.specs.declared.piece.TwigPiece.{TwigPiece};
 ghost use Rattle.r4_branch.specs.declared.twig.Twig.{Twig};
@@ -31,7 +31,8 @@ ghost use Rattle.r4_path.specs.Twigs.{IsUnused};
 ghost use Rattle.r4_rows.specs.Behind.{EachMayBePut, UnitsRise};
 ghost use Rattle.r4_rows.specs.Fewest.{EachFits, joined};
 ghost use Rattle.r4_rows.specs.Numbers.{AreNumbered, IsNumberedChange};
-ghost use Rattle.r4_rows.specs.Packed.{ArePackedLeft, AreSlumPieces, AreTwigsLeft, renumbered};
+ghost use Rattle.r4_rows.specs.Packed.{ArePackedLeft, AreSlumPieces, AreTheirPieces, AreTwigsLeft};
+ghost use Rattle.r4_rows.specs.Packed.{renumbered};
 ghost use Rattle.r4_rows.specs.Packed.{units_each};
 ghost use Rattle.r4_rows.specs.Replaced.{AreReplaced, with_pointers};
 ghost use Rattle.r4_rows.specs.Rows.{AreThere, IsPlainRowChange, IsRowChange, Row, all_news};
@@ -138,6 +139,18 @@ pub fn leaves_pack_to_the_left()
         → Packs from (rank hi) (units_of_cells slum) leaves
         → ArePackedLeft slum from (rank hi)
         (renumbered (ids_of slum) (leaf_cells 0 0 hi leaves)) }
+{}
+
+/// The pieces of twigs beside each other, one twig's after the other's, name what these name, and
+/// have their units; and they may make a twig of the whole range, but for their bytes
+/// (docs/volume.md, "Edits").
+pub fn twigs_are_their_pieces()
+    ensures slum { (slum : List CellSeen) (from to : ℕ) (each : List (List TwigPiece))
+        → Follow 2 from to slum → from < to → AreTheirPieces slum each
+        → AreSlumPieces slum from to (joined each) each }
+    ensures pieces { (slum : List CellSeen) (from to : ℕ) (each : List (List TwigPiece))
+        → Follow 2 from to slum → from < to → AreTheirPieces slum each
+        → AreTwigPieces from to (joined each) }
 {}
 
 /// The twigs into which the pieces of a slum of twigs are packed, with the leftmost numbers: they
