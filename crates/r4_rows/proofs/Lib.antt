@@ -4,6 +4,7 @@ pub mod LeafSlum
 pub mod Lists
 pub mod Numbered
 pub mod NumberedBelow
+pub mod PathRows
 pub mod PutBehind
 pub mod Rewritten
 pub mod RowCells
@@ -12,4 +13,5 @@ pub mod SlumPieces
 pub mod Squeezed
 pub mod Stacked
 pub mod Turned
+pub mod TwigRows
 pub mod TwigSlum

@@ -5,5 +5,6 @@ pub mod Packed
 pub mod Replaced
 pub mod Rows
 pub mod Slum
+pub mod Steps
 pub mod Turn
 pub mod Units

@@ -26,8 +26,8 @@ ghost use Rattle.r4_patch.specs.Part.{MeetsPart};
 ghost use Rattle.r4_path.specs.Grafts.{TwigsHaveMkfsId, twig_cells};
 ghost use Rattle.r4_path.specs.LeafSteps.{leaf_cells};
 ghost use Rattle.r4_path.specs.Levels.{units_of_cells};
-ghost use Rattle.r4_path.specs.Steps.{Follow, IsFree, IsNameOf, root_pair};
-ghost use Rattle.r4_path.specs.Twigs.{IsUnused};
+ghost use Rattle.r4_path.specs.Steps.{Follow, IsFree, IsNameOf, IsPathChange, Step, root_pair};
+ghost use Rattle.r4_path.specs.Twigs.{Below, IsTwigChange, IsUnused};
 ghost use Rattle.r4_rows.specs.Behind.{EachMayBePut, UnitsRise};
 ghost use Rattle.r4_rows.specs.Fewest.{EachFits, joined};
 ghost use Rattle.r4_rows.specs.Numbers.{AreNumbered, IsNumberedChange};
@@ -38,6 +38,7 @@ ghost use Rattle.r4_rows.specs.Replaced.{AreReplaced, with_pointers};
 ghost use Rattle.r4_rows.specs.Rows.{AreThere, IsPlainRowChange, IsRowChange, Row, all_news};
 ghost use Rattle.r4_rows.specs.Rows.{all_olds, news_in, no_row, olds_in, rows_patch};
 ghost use Rattle.r4_rows.specs.Slum.{IsSlum, IsSqueezed, slum_patch};
+ghost use Rattle.r4_rows.specs.Steps.{row_below, row_of_step};
 ghost use Rattle.r4_rows.specs.Turn.{IsTurn};
 ghost use Rattle.r4_rows.specs.Units.{KeepUnits, TakeEffect};
 
@@ -52,6 +53,17 @@ pub fn rows_are_patches()
     ensures meets { (t : Store Value) (r : Root) (level : ℕ) (b s : Row) (more : List Row)
         (over : Option CellSeen) → IsRowChange t r level b s more over
         → MeetsPart (rows_patch b s more over) t r }
+{}
+
+/// A change along a path is one of rows of one old cell each; and so is a change of a twig, over
+/// the leaves and data blocks that go and come below it (docs/volume.md, "Edits").
+pub fn steps_are_rows()
+    ensures path { (t : Store Value) (r : Root) (from : ℕ) (s : Step) (more : List Step)
+        (over : Option CellSeen) → IsPathChange t r from (s ∷ more) over
+        → IsRowChange t r s.old.level no_row (row_of_step s) (map row_of_step more) over }
+    ensures twig { (t : Store Value) (r : Root) (b : Below) (s : Step) (more : List Step)
+        (over : Option CellSeen) → IsTwigChange t r b s more over
+        → IsRowChange t r 2 (row_below b) (row_of_step s) (map row_of_step more) over }
 {}
 
 /// Where twigs or nodes above them are the lowest row, what happens to units is what happens to
