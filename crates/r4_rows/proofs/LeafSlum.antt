@@ -9,6 +9,7 @@ use Rattle.r4_cell.specs.Seen.{CellSeen, node_of}
 use Rattle.r4_leaf.specs.Leaves.{IsFull, Packs}
 use Rattle.r4_leaf.specs.Units.{LeafUnit, leaf_bytes}
 use Rattle.r4_leaf.specs.declared.leaf.Leaf.{Leaf}
+use Rattle.r4_node40.specs.Laid.{room_of}
 use Rattle.r4_patch.specs.Joining.{ids_of}
 use Rattle.r4_path.specs.LeafSteps.{leaf_cells}
 use Rattle.r4_path.specs.Levels.{units_of_cells}
@@ -16,10 +17,10 @@ use Rattle.r4_path.specs.Sharing.{IsSound}
 use Rattle.r4_path.specs.Steps.{Follow}
 use Rattle.r4_path.proofs.CellNodes.{units_are}
 use Rattle.r4_path.proofs.LeafCells.{packed}
-use Rattle.r4_patch.proofs.Members.{cases, later, none}
+use Rattle.r4_patch.proofs.Members.{cases, here, later, none}
 use Rattle.r4_path.proofs.Upwards.{long_ids}
 use Rattle.r4_rows.specs.Fewest.{EachFits, joined}
-use Rattle.r4_rows.specs.Packed.{AreFullLeaves, ArePackedLeft, IsFullLeaf, renumbered, units_each}
+use Rattle.r4_rows.specs.Packed.{AreFullLeaves, ArePackedLeft, IsDense, IsFullLeaf, renumbered, units_each}
 use Rattle.r4_rows.proofs.Fewer.{packs_fewest}
 
 -- ---- other numbers
@@ -78,7 +79,37 @@ full_new (i ∷ (j ∷ ids)) (c ∷ []) f = tt
 full_new (i ∷ (j ∷ ids)) (c ∷ (d ∷ cells)) (first, rest) =
     (full_again i j c d first, full_new (j ∷ ids) (d ∷ cells) rest)
 
--- ---- each leaf is full before the next one
+dense_new : (ids : List ℕ) (cells : List CellSeen) → ((c : CellSeen) → Contains cells c → IsDense c) → (c : CellSeen)
+    → Contains (renumbered ids cells) c → IsDense c
+dense_new [] cells all c at = absurd (none c at)
+dense_new (i ∷ ids) [] all c at = absurd (none c at)
+dense_new (i ∷ ids) (d ∷ cells) all c at = elim (cases (record d { id = i }) c (renumbered ids cells) at) [
+  | inl is ↦ subst IsDense (sym is) (all d (here d cells))
+  | inr more ↦ dense_new ids cells (λ x mx. all x (later d x cells mx)) c more
+]
+
+-- ---- each leaf is dense, and full before the next one
+
+dense_one : (c : CellSeen) (us : List LeafUnit) → (node_of c).units ≡ us → room_of c.block + leaf_bytes us ≡ 4068
+    → IsDense c
+dense_one c us e h = subst (λ (vs : List LeafUnit). room_of c.block + leaf_bytes vs ≡ 4068) (sym e) h
+
+cells_dense : (lo hi' : ℕ) (hi : Key) (id next : ℕ) (us : List LeafUnit) (leaves : List Leaf) → Packs lo hi' us leaves
+    → (c : CellSeen) → Contains (leaf_cells id next hi leaves) c → IsDense c
+cells_dense lo hi' hi id next us [] p c at = absurd p
+cells_dense lo hi' hi id next us (x ∷ []) leaf c at =
+    let mine : CellSeen = record { id = id; level = 1; lo = x.lo; hi = hi; block = x.block } in
+    elim (cases (record { id = id; level = 1; lo = x.lo; hi = hi; block = x.block }) c [] at) [
+      | inl is ↦ subst IsDense (sym is) (dense_one mine us (units_are mine 0 refl ∙ leaf.units) leaf.room)
+      | inr more ↦ absurd (none c more)
+    ]
+cells_dense lo hi' hi id next us (x ∷ (y ∷ more)) (first, n, rest, same, from, low, leaf, full, p) c at =
+    let mine : CellSeen = record { id = id; level = 1; lo = x.lo; hi = y.lo; block = x.block } in
+    elim (cases (record { id = id; level = 1; lo = x.lo; hi = y.lo; block = x.block }) c
+    (leaf_cells next (next + 1) hi (y ∷ more)) at) [
+      | inl is ↦ subst IsDense (sym is) (dense_one mine first (units_are mine 0 refl ∙ leaf.units) leaf.room)
+      | inr behind ↦ cells_dense n.0 hi' hi next (next + 1) (n ∷ rest) (y ∷ more) p c behind
+    ]
 
 -- the units of the first cell begin with the first unit
 first_units : (lo hi' : ℕ) (hi : Key) (id next : ℕ) (us : List LeafUnit) (x : Leaf) (more : List Leaf)
@@ -165,6 +196,8 @@ leaves_squeezed slum from hi leaves follow range fit p =
       follow = follow_new 1 from (rank hi) (ids_of slum) (leaf_cells 0 0 hi leaves) le are.follow;
       units = units_new (ids_of slum) (leaf_cells 0 0 hi leaves) le ∙ are.units;
       sound = sound_new (ids_of slum) (leaf_cells 0 0 hi leaves) are.sound;
+      dense = dense_new (ids_of slum) (leaf_cells 0 0 hi leaves)
+          (cells_dense from (rank hi) hi 0 0 (units_of_cells slum) leaves p);
       full = full_new (ids_of slum) (leaf_cells 0 0 hi leaves)
           (cells_full from (rank hi) hi 0 0 (units_of_cells slum) leaves p);
     }

@@ -1,9 +1,11 @@
 -- Parts of lists, and cells of which no two have one name.
-use Rattle.std.proofs.Common.{◌≢◌, inl, inr, ℕ, zero, suc, List, [], ◌∷◌, ◌++◌, take, sym, ap, subst, ◌∙◌}
+use Rattle.std.proofs.Common.{◌≡◌, ◌≢◌, inl, inr, ℕ, zero, suc, List, [], ◌∷◌, ◌++◌, take, sym, ap, subst, ◌∙◌}
 use Rattle.std.specs.Prelude.{Contains}
 use Rattle.std.proofs.lemmas.List.Elements.{Contains-append_left, Contains-append_right}
-use Rattle.r4_cell.specs.Seen.{CellSeen}
+use Rattle.r4_base.specs.Tree.{Name}
+use Rattle.r4_cell.specs.Seen.{CellSeen, node_of}
 use Rattle.r4_patch.proofs.Members.{Distinct, cases, here, later, none}
+use Rattle.r4_path.specs.Steps.{AreNaming}
 
 pub in_take : (k : ℕ) (ids : List ℕ) (i : ℕ) → Contains (take k ids) i → Contains ids i
 in_take zero ids i at = absurd (none i at)
@@ -28,3 +30,14 @@ distinct_apart (z ∷ xs) ys x y (first, rest) mx my = elim (cases z x xs mx) [
   | inl is ↦ λ same. first y (Contains-append_right xs ys y my) (sym (ap (λ (c : CellSeen). c.id) is) ∙ same)
   | inr more ↦ distinct_apart xs ys x y rest more my
 ]
+
+-- ---- one cell
+
+pub one_of : (c x : CellSeen) → Contains (c ∷ []) x → x ≡ c
+one_of c x at = elim (cases c x [] at) [ inl is ↦ is | inr more ↦ absurd (none x more) ]
+
+pub naming_one : (c : CellSeen) (n : Name) → AreNaming (c ∷ []) n → Contains (node_of c).names n
+naming_one c n (x, mx, member) = subst (λ (z : CellSeen). Contains (node_of z).names n) (one_of c x mx) member
+
+pub one_naming : (c : CellSeen) (n : Name) → Contains (node_of c).names n → AreNaming (c ∷ []) n
+one_naming c n member = (c, here c [], member)

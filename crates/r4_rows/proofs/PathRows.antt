@@ -12,15 +12,13 @@ use Rattle.r4_patch.specs.Part.{IsPart}
 use Rattle.r4_patch.proofs.PartCells.{one_above}
 use Rattle.r4_path.specs.Steps.{AreNaming, AreSpanning, Ascends, Climbs, Ends, Follow, IsPathChange, IsStep, Step}
 use Rattle.r4_path.specs.Steps.{fresh_ids, name_of, news, olds}
-use Rattle.r4_patch.proofs.Members.{cases, have_names, here, none}
+use Rattle.r4_patch.proofs.Members.{have_names, here, none}
 use Rattle.r4_path.proofs.OnPath.{distinct_news, new_id, stands_old}
 use Rattle.r4_path.proofs.Rising.{count_within, hi_is, id_member, level_is, lo_is}
 use Rattle.r4_rows.specs.Rows.{EndsIn, EndsRow, IsRow, IsRowChange, KeepsSpans, Mounts, news_in, no_row, olds_in}
+use Rattle.r4_rows.proofs.Lists.{naming_one, one_naming, one_of}
 use Rattle.r4_rows.specs.Steps.{row_of_step}
 use Rattle.r4_rows.proofs.RowUnits.{plain_rows}
-
-pub one_of : (c x : CellSeen) → Contains (c ∷ []) x → x ≡ c
-one_of c x at = elim (cases c x [] at) [ inl is ↦ is | inr more ↦ absurd (none x more) ]
 
 pub olds_same : (steps : List Step) → olds_in (map row_of_step steps) ≡ olds steps
 olds_same [] = refl
@@ -31,11 +29,8 @@ news_same [] None = refl
 news_same [] (Some c) = refl
 news_same (s ∷ steps) over = ap (λ (cs : List CellSeen). s.new ++ cs) (news_same steps over)
 
-pub naming_one : (c : CellSeen) (n : Name) → AreNaming (c ∷ []) n ↔ Contains (node_of c).names n
-naming_one c n = (
-  λ h. let (x, mx, member) = h in subst (λ (z : CellSeen). Contains (node_of z).names n) (one_of c x mx) member,
-  λ h. (c, here c [], h),
-)
+pub names_one : (c : CellSeen) (n : Name) → AreNaming (c ∷ []) n ↔ Contains (node_of c).names n
+names_one c n = (naming_one c n, one_naming c n)
 
 spanning_one : (c : CellSeen) (n : Span) → AreSpanning (c ∷ []) n ↔ Contains (node_of c).spans n
 spanning_one c n = (
@@ -57,9 +52,9 @@ module _ (t : Store Value) (r : Root) (part : IsPart t r) where
     there = λ c mc. subst (λ (z : CellSeen). t z.id ≡ Some (node_of z)) (sym (one_of s.old c mc)) at;
     leads = λ c mc. absurd (none c mc);
     names = λ n. (
-      λ h. inl ((naming_one s.old n).1 ((step.names n).0 h), λ g. none g.0 g.1),
+      λ h. inl ((names_one s.old n).1 ((step.names n).0 h), λ g. none g.0 g.1),
       λ h. elim h [
-        | inl g ↦ (step.names n).1 ((naming_one s.old n).0 g.0)
+        | inl g ↦ (step.names n).1 ((names_one s.old n).0 g.0)
         | inr g ↦ absurd (none g.0 g.1)
       ],
     );
@@ -74,18 +69,18 @@ module _ (t : Store Value) (r : Root) (part : IsPart t r) where
     were = (level, refl, step_range u.old (part.nodes u.old.id (node_of u.old) at), refl);
     are = subst (λ m. Follow m (rank u.old.lo) (rank u.old.hi) u.new) level step.ranges;
     there = λ c mc. subst (λ (z : CellSeen). t z.id ≡ Some (node_of z)) (sym (one_of u.old c mc)) at;
-    leads = λ c mc. (naming_one u.old (name_of c)).1
+    leads = λ c mc. (names_one u.old (name_of c)).1
         (subst (λ (z : CellSeen). Contains (node_of u.old).names (name_of z)) (sym (one_of b.old c mc)) leads);
     names = λ n. (
       λ h. elim ((step.names n).0 h) [
         | inl g ↦ inl (
-          (naming_one u.old n).1 g.0,
+          (names_one u.old n).1 g.0,
           λ k. let (x, mx, e) = k in g.1 (e ∙ ap name_of (one_of b.old x mx)),
         )
         | inr g ↦ inr g
       ],
       λ h. (step.names n).1 (elim h [
-        | inl g ↦ inl ((naming_one u.old n).0 g.0, λ e. g.1 (b.old, here b.old [], e))
+        | inl g ↦ inl ((names_one u.old n).0 g.0, λ e. g.1 (b.old, here b.old [], e))
         | inr g ↦ inr g
       ]),
     );
@@ -103,7 +98,7 @@ module _ (t : Store Value) (r : Root) (part : IsPart t r) where
   mounts_over b l [] level low path climbs = tt
   mounts_over b l (u ∷ us) level low (at, one, leads, rest) (step, more) =
       let up = one_above (node_of u.old) (name_of b.old) (part.nodes u.old.id (node_of u.old) at) leads
-          (omega (arith, level, low)) in
+      (omega (arith, level, low)) in
       let ul = level_is u.old in
       let here_level : u.old.level ≡ suc l = omega (arith, up, ul, level) in (
         row_over b u (suc l) here_level at leads step,
@@ -129,8 +124,8 @@ last_ends r s (Some c) first root = record {
   lo = root.lo;
   hi = root.hi;
   names = λ n. (
-    λ h. (root.names n).0 ((naming_one c n).0 h),
-    λ h. (naming_one c n).1 ((root.names n).1 h),
+    λ h. (root.names n).0 ((names_one c n).0 h),
+    λ h. (names_one c n).1 ((root.names n).1 h),
   );
   spans = λ x h. root.spans x ((spanning_one c x).0 h);
 }
@@ -161,13 +156,13 @@ path_rows t r from s more over is =
           (distinct_news t r is.part None (s ∷ more) over from is.path is.climbs is.counts is.free));
       each = λ c mc. elim (new_id None (s ∷ more) over c is.climbs
           (subst (λ (cs : List CellSeen). Contains cs c) same mc)) [
-        | inl h ↦
-            let (b, u, st, id) = h in
-            inl (subst (λ (cs : List CellSeen). Contains (ids_of cs) c.id) (sym olds_are)
-            (subst (Contains (ids_of (olds (s ∷ more)))) (sym id)
-            (id_member (olds (s ∷ more)) u.old (stands_old None (s ∷ more) b u st))))
-        | inr fresh ↦
-            let w = count_within from (fresh_ids (s ∷ more) over) c.id is.counts fresh in
-            inr (is.free.cells c.id w.0 w.1, is.free.names c.id w.0 w.1)
-      ];
+            | inl h ↦
+                let (b, u, st, id) = h in
+                inl (subst (λ (cs : List CellSeen). Contains (ids_of cs) c.id) (sym olds_are)
+                (subst (Contains (ids_of (olds (s ∷ more)))) (sym id)
+                (id_member (olds (s ∷ more)) u.old (stands_old None (s ∷ more) b u st))))
+            | inr fresh ↦
+                let w = count_within from (fresh_ids (s ∷ more) over) c.id is.counts fresh in
+                inr (is.free.cells c.id w.0 w.1, is.free.names c.id w.0 w.1)
+          ];
     })

@@ -4,7 +4,7 @@ use Rattle.std.proofs.Common.{subst, ◌∙◌, arith}
 use Rattle.std.specs.Prelude.{false, Contains, None, Some}
 use Rattle.std.proofs.lemmas.List.Elements.{Contains-append_cases, Contains-append_left, Contains-append_right}
 use Rattle.r4_base.specs.Key.{rank}
-use Rattle.r4_base.specs.Tree.{IsNode, Name, Root, Store}
+use Rattle.r4_base.specs.Tree.{IsNode, Root, Store}
 use Rattle.r4_base.specs.Value.{Value}
 use Rattle.r4_patch.specs.Effect.{HasEffect}
 use Rattle.r4_cell.specs.Patch.{IsChange}
@@ -12,8 +12,8 @@ use Rattle.r4_cell.specs.Seen.{CellSeen, node_of}
 use Rattle.r4_patch.specs.Joining.{ids_of}
 use Rattle.r4_patch.specs.Part.{MeetsPart}
 use Rattle.r4_patch.proofs.PartCells.{one_above}
-use Rattle.r4_path.specs.Steps.{AreNaming, Follow, name_of}
-use Rattle.r4_patch.proofs.Members.{Distinct, cases, have_names, here, none}
+use Rattle.r4_path.specs.Steps.{Follow, name_of}
+use Rattle.r4_patch.proofs.Members.{Distinct, have_names, here, none}
 use Rattle.r4_path.proofs.Rising.{follow_within, id_member, level_is, lo_is, hi_is}
 use Rattle.r4_rows.specs.Rows.{EndsIn, IsPlainRowChange, IsRow, IsRowChange, Mounts, Row, no_row}
 use Rattle.r4_rows.specs.Slum.{IsSlum, IsSqueezed, slum_patch}
@@ -23,19 +23,8 @@ use Rattle.r4_rows.proofs.RowUnits.{cells_effect, in_units, of_units, plain_rows
 use Rattle.r4_rows.specs.Units.{UnitOf}
 use Rattle.r4_patch.specs.Effect.{Placed}
 use Rattle.std.proofs.lemmas.Bool.{cases_lt}
-use Rattle.r4_rows.proofs.Lists.{distinct_left, in_take}
+use Rattle.r4_rows.proofs.Lists.{distinct_left, in_take, naming_one, one_naming, one_of}
 use Rattle.r4_rows.proofs.Stacked.{Stands, moved, rows_distinct}
-
--- ---- lists
-
-one_of : (c x : CellSeen) → Contains (c ∷ []) x → x ≡ c
-one_of c x at = elim (cases c x [] at) [ inl is ↦ is | inr more ↦ absurd (none x more) ]
-
-naming_one : (c : CellSeen) (n : Name) → AreNaming (c ∷ []) n → Contains (node_of c).names n
-naming_one c n (x, mx, member) = subst (λ (z : CellSeen). Contains (node_of z).names n) (one_of c x mx) member
-
-one_naming : (c : CellSeen) (n : Name) → Contains (node_of c).names n → AreNaming (c ∷ []) n
-one_naming c n member = (c, here c [], member)
 
 -- ---- numbers
 

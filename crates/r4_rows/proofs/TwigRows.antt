@@ -18,8 +18,8 @@ use Rattle.r4_path.proofs.TwigPatch.{change_is}
 use Rattle.r4_rows.specs.Rows.{EndsIn, IsRow, IsRowChange, news_in, olds_in}
 use Rattle.r4_rows.specs.Steps.{row_below, row_of_step}
 use Rattle.r4_path.proofs.TwigBelow.{id_cell}
-use Rattle.r4_rows.proofs.PathRows.{ends_over, last_ends, mounts_over, naming_one, news_same, olds_same, one_of}
-use Rattle.r4_rows.proofs.PathRows.{step_range}
+use Rattle.r4_rows.proofs.PathRows.{ends_over, last_ends, mounts_over, names_one, news_same, olds_same, step_range}
+use Rattle.r4_rows.proofs.Lists.{one_of}
 
 -- a cell that a twig names is a leaf or a data block
 low_named : (c x : CellSeen) → IsNode (node_of c) → c.level ≡ 2 → Contains (node_of c).names (name_of x) → x.level ≤ 1
@@ -56,10 +56,10 @@ module _ (t : Store Value) (r : Root) (b : Below) (s : Step) (more : List Step) 
     were = (is.step.level, refl, step_range s.old twig_node, refl);
     are = subst (λ m. Follow m (rank s.old.lo) (rank s.old.hi) s.new) is.step.level is.step.ranges;
     there = λ c mc. subst (λ (z : CellSeen). t z.id ≡ Some (node_of z)) (sym (one_of s.old c mc)) there;
-    leads = λ c mc. (naming_one s.old (name_of c)).1 (is.step.goes c mc);
+    leads = λ c mc. (names_one s.old (name_of c)).1 (is.step.goes c mc);
     names = λ n. (
-      λ h. elim ((is.step.names n).0 h) [ inl g ↦ inl ((naming_one s.old n).1 g.0, g.1) | inr g ↦ inr g ],
-      λ h. (is.step.names n).1 (elim h [ inl g ↦ inl ((naming_one s.old n).0 g.0, g.1) | inr g ↦ inr g ]),
+      λ h. elim ((is.step.names n).0 h) [ inl g ↦ inl ((names_one s.old n).1 g.0, g.1) | inr g ↦ inr g ],
+      λ h. (is.step.names n).1 (elim h [ inl g ↦ inl ((names_one s.old n).0 g.0, g.1) | inr g ↦ inr g ]),
     );
   }
 

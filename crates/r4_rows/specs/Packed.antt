@@ -1,11 +1,12 @@
 -- Leaves and twigs in the place of a slum of such (docs/volume.md, "Edits").
-use Rattle.std.specs.Prelude.{◌≡◌, ◌↔◌, ℕ, ◌<◌, ◌≤◌, List, [], ◌∷◌, Contains, length, take}
+use Rattle.std.specs.Prelude.{◌≡◌, ◌↔◌, ℕ, ◌+◌, ◌<◌, ◌≤◌, List, [], ◌∷◌, Contains, length, take}
 use Rattle.r4_base.specs.Tree.{Name}
 use Rattle.r4_branch.specs.Pieces.{names_of, twig_bytes, units_of}
 use Rattle.r4_branch.specs.declared.piece.TwigPiece.{TwigPiece}
 use Rattle.r4_cell.specs.Seen.{CellSeen, node_of}
 use Rattle.r4_leaf.specs.Leaves.{IsFull}
-use Rattle.r4_leaf.specs.Units.{LeafUnit}
+use Rattle.r4_leaf.specs.Units.{LeafUnit, leaf_bytes}
+use Rattle.r4_node40.specs.Laid.{room_of}
 use Rattle.r4_patch.specs.Joining.{ids_of}
 use Rattle.r4_path.specs.Levels.{units_of_cells}
 use Rattle.r4_path.specs.Sharing.{IsSound}
@@ -36,14 +37,19 @@ AreFullLeaves [] = Unit {0}
 AreFullLeaves (c ∷ []) = Unit {0}
 AreFullLeaves (c ∷ (d ∷ cells)) = IsFullLeaf c d × AreFullLeaves (d ∷ cells)
 
+-- The leaf's items take up no more than its units need: no two tails of one file in it meet.
+abbrev pub IsDense : CellSeen → Type 0
+IsDense c = room_of c.block + leaf_bytes (node_of c).units ≡ 4068
+
 -- Leaves in the place of those of a slum: no more of them, with the leftmost numbers and the units
--- in their order, each full before the next one.
+-- in their order, each dense, and full before the next one.
 pub record ArePackedLeft (slum : List CellSeen) (from to : ℕ) (cells : List CellSeen) : Type 0 where
   pub few : length cells ≤ length slum
   pub ids : ids_of cells ≡ take (length cells) (ids_of slum)
   pub follow : Follow 1 from to cells
   pub units : units_of_cells cells ≡ units_of_cells slum
   pub sound : (c : CellSeen) → Contains cells c → IsSound c
+  pub dense : (c : CellSeen) → Contains cells c → IsDense c
   pub full : AreFullLeaves cells
 
 -- These are the pieces of the twigs, twig by twig.

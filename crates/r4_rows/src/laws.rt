@@ -143,7 +143,8 @@ pub fn filling_needs_fewest()
 {}
 
 /// The leaves into which the units of a slum of leaves are packed, with the leftmost numbers: each
-/// is full before the next one, and they are no more than before (docs/volume.md, "Edits").
+/// is dense, and full before the next one, and they are no more than before (docs/volume.md,
+/// "Edits").
 pub fn leaves_pack_to_the_left()
     ensures { (slum : List CellSeen) (from : ℕ) (hi : Key) (leaves : List Leaf)
         → Follow 1 from (rank hi) slum → from < rank hi
