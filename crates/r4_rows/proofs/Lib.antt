@@ -5,6 +5,7 @@ pub mod Lists
 pub mod Numbered
 pub mod NumberedBelow
 pub mod PathRows
+pub mod Pointing
 pub mod PutBehind
 pub mod Rewritten
 pub mod RowCells

@@ -21,12 +21,12 @@ use Rattle.r4_rows.specs.Packed.{AreSlumPieces, AreTwigsLeft, renumbered}
 use Rattle.r4_rows.proofs.Fewer.{packs_fewest_twigs}
 use Rattle.r4_rows.proofs.LeafSlum.{follow_new, ids_new, long_new, some_each, sound_new, units_new}
 
-long_twigs : (id next : ℕ) (hi : Key) (twigs : List Twig) → length (twig_cells id next hi twigs) ≡ length twigs
+pub long_twigs : (id next : ℕ) (hi : Key) (twigs : List Twig) → length (twig_cells id next hi twigs) ≡ length twigs
 long_twigs id next hi [] = refl
 long_twigs id next hi (x ∷ []) = refl
 long_twigs id next hi (x ∷ (y ∷ more)) = ap suc (long_twigs next (next + 1) hi (y ∷ more))
 
-naming_new : (ids : List ℕ) (cells : List CellSeen) (n : Name) → length cells ≤ length ids
+pub naming_new : (ids : List ℕ) (cells : List CellSeen) (n : Name) → length cells ≤ length ids
     → AreNaming (renumbered ids cells) n
     → AreNaming cells n
 naming_new [] cells n le (x, mx, member) = absurd (none x mx)
@@ -38,7 +38,7 @@ naming_new (i ∷ ids) (c ∷ cells) n le (x, mx, member) = elim (cases (record 
       (y, later c y cells my, in_y)
 ]
 
-new_naming : (ids : List ℕ) (cells : List CellSeen) (n : Name) → length cells ≤ length ids → AreNaming cells n
+pub new_naming : (ids : List ℕ) (cells : List CellSeen) (n : Name) → length cells ≤ length ids → AreNaming cells n
     → AreNaming (renumbered ids cells) n
 new_naming [] [] n le (x, mx, member) = absurd (none x mx)
 new_naming [] (c ∷ cells) n le h = absurd (omega (arith, le))
@@ -54,7 +54,7 @@ new_naming (i ∷ ids) (c ∷ cells) n le (x, mx, member) = elim (cases c x cell
       (y, later (record c { id = i }) y (renumbered ids cells) my, in_y)
 ]
 
-abbrev any_twig : Key → Key → List ℕ → CellSeen
+abbrev pub any_twig : Key → Key → List ℕ → CellSeen
 any_twig lo hi b = record { id = 0; level = 2; lo = lo; hi = hi; block = b }
 
 pub twigs_squeezed : (slum : List CellSeen) (lo hi : Key) (ps : List TwigPiece) (each : List (List TwigPiece))

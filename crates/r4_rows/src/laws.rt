@@ -1,6 +1,7 @@
 //! Laws of rows. Each is the contract of a function that does nothing.
 
-ghost use Rattle.std.specs.Prelude.{◌≡◌, ◌<◌, ◌≤◌, ◌↔◌, ◌⊎◌, ◌++◌, ◌∷◌, [], ℕ, Bool, false};
+ghost use Rattle.std.specs.Prelude.{◌≡◌, ◌<◌, ◌≤◌, ◌↔◌, ◌⊎◌, ◌++◌, ◌∷◌, [], ℕ, suc, All, Bool};
+ghost use Rattle.std.specs.Prelude.{false};
 ghost use Rattle.std.specs.Prelude.{Contains};
 ghost use Rattle.std.specs.Prelude.{length, map, List, None, Option};
 ghost use Rattle.r4_base.specs.Cell.{units_in};
@@ -26,6 +27,7 @@ ghost use Rattle.r4_patch.specs.Part.{MeetsPart};
 ghost use Rattle.r4_path.specs.Grafts.{TwigsHaveMkfsId, twig_cells};
 ghost use Rattle.r4_path.specs.LeafSteps.{leaf_cells};
 ghost use Rattle.r4_path.specs.Levels.{units_of_cells};
+ghost use Rattle.r4_path.specs.Nodes.{IsPointable, pointer_item};
 ghost use Rattle.r4_path.specs.Steps.{Follow, IsFree, IsNameOf, IsPathChange, Step, root_pair};
 ghost use Rattle.r4_path.specs.Twigs.{Below, IsTwigChange, IsUnused};
 ghost use Rattle.r4_rows.specs.Behind.{EachMayBePut, UnitsRise};
@@ -34,8 +36,10 @@ ghost use Rattle.r4_rows.specs.Numbers.{AreNumbered, IsNumberedChange};
 ghost use Rattle.r4_rows.specs.Packed.{ArePackedLeft, AreSlumPieces, AreTheirPieces, AreTwigsLeft};
 ghost use Rattle.r4_rows.specs.Packed.{renumbered};
 ghost use Rattle.r4_rows.specs.Packed.{units_each};
+ghost use Rattle.r4_rows.specs.Pointers.{PointTo, PointsBelow};
 ghost use Rattle.r4_rows.specs.Replaced.{AreReplaced, with_pointers};
-ghost use Rattle.r4_rows.specs.Rows.{AreThere, IsPlainRowChange, IsRowChange, Row, all_news};
+ghost use Rattle.r4_rows.specs.Rows.{AreThere, IsPlainRowChange, IsRow, IsRowChange, KeepsSpans};
+ghost use Rattle.r4_rows.specs.Rows.{Row, all_news};
 ghost use Rattle.r4_rows.specs.Rows.{all_olds, news_in, no_row, olds_in, rows_patch};
 ghost use Rattle.r4_rows.specs.Slum.{IsSlum, IsSqueezed, slum_patch};
 ghost use Rattle.r4_rows.specs.Steps.{row_below, row_of_step};
@@ -112,6 +116,20 @@ pub fn squeezing_is_a_patch()
     ensures effect { (t : Store Value) (r : Root) (slum cells : List CellSeen)
         (parent over : CellSeen) → IsSlum t r slum parent → IsSqueezed slum parent cells over
         → HasEffect (slum_patch slum parent cells over) (λ k. false) (λ k. None) }
+{}
+
+/// Cells that have pointers to the new cells below in the place of those to the old ones, and their
+/// other items as they were, one cell's after the other's, are such a row over that one, with their
+/// extents and their own units kept. `points`: the items that point to cells (docs/volume.md,
+/// "Edits").
+pub fn pointers_make_rows()
+    ensures row { (t : Store Value) (l : ℕ) (b s : Row) → 1 ≤ l → PointsBelow l b s
+        → AreThere t s.old → IsRow t (suc l) b s }
+    ensures spans { (l : ℕ) (b s : Row) → 1 ≤ l → PointsBelow l b s → KeepsSpans s }
+    ensures units { (l : ℕ) (b s : Row) → 1 ≤ l → PointsBelow l b s
+        → units_of_cells s.new ≡ units_of_cells s.old }
+    ensures points { (cells : List CellSeen) → All (λ c. IsPointable c.id) cells
+        → PointTo (map pointer_item cells) cells }
 {}
 
 /// Where the new cells of each row have the first of its old numbers, and then free ones in turn,
