@@ -14,5 +14,6 @@ pub mod SlumPieces
 pub mod Squeezed
 pub mod Stacked
 pub mod Turned
+pub mod TwigPieces
 pub mod TwigRows
 pub mod TwigSlum

@@ -2,6 +2,7 @@ pub mod Behind
 pub mod Fewest
 pub mod Numbers
 pub mod Packed
+pub mod Pieces
 pub mod Pointers
 pub mod Replaced
 pub mod Rows

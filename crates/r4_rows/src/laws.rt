@@ -36,6 +36,7 @@ ghost use Rattle.r4_rows.specs.Numbers.{AreNumbered, IsNumberedChange};
 ghost use Rattle.r4_rows.specs.Packed.{ArePackedLeft, AreSlumPieces, AreTheirPieces, AreTwigsLeft};
 ghost use Rattle.r4_rows.specs.Packed.{renumbered};
 ghost use Rattle.r4_rows.specs.Packed.{units_each};
+ghost use Rattle.r4_rows.specs.Pieces.{AreTwigsOfPieces, PiecesBelow};
 ghost use Rattle.r4_rows.specs.Pointers.{PointTo, PointsBelow};
 ghost use Rattle.r4_rows.specs.Replaced.{AreReplaced, with_pointers};
 ghost use Rattle.r4_rows.specs.Rows.{AreThere, IsPlainRowChange, IsRow, IsRowChange, KeepsSpans};
@@ -130,6 +131,23 @@ pub fn pointers_make_rows()
         → units_of_cells s.new ≡ units_of_cells s.old }
     ensures points { (cells : List CellSeen) → All (λ c. IsPointable c.id) cells
         → PointTo (map pointer_item cells) cells }
+{}
+
+/// Twigs whose pieces, one twig's after the other's, have others in the place of those that name
+/// the cells that go below, and name those that come, are such a row over them; what goes without
+/// units leaves all others. `packed`: twigs into which pieces are packed, with any numbers, have
+/// just these pieces' names and units (docs/volume.md, "Edits").
+pub fn pieces_make_rows()
+    ensures packed { (lo hi : Key) (ps : List TwigPiece) (twigs : List Twig) (ids b : List ℕ)
+        → PacksTwigs (rank lo) (rank hi) ps twigs → AreFewTwigs ps twigs
+        → TwigsHaveMkfsId (mkfs_id_of b) twigs → length ids ≡ length twigs
+        → AreTwigsOfPieces (rank lo) (rank hi) ids ps
+        (renumbered ids (twig_cells 0 0 hi twigs)) }
+    ensures row { (t : Store Value) (b s : Row) → PiecesBelow b s → AreThere t s.old
+        → IsRow t 2 b s }
+    ensures units { (b s : Row) (p : PiecesBelow b s) → units_of p.gone ≡ []
+        → (w : ℕ × Value) → Contains (units_of_cells s.new) w
+        ↔ (Contains (units_of_cells s.old) w ⊎ Contains (units_of p.come) w) }
 {}
 
 /// Where the new cells of each row have the first of its old numbers, and then free ones in turn,
