@@ -4,6 +4,7 @@ pub mod LeafSlum
 pub mod Lists
 pub mod Numbered
 pub mod NumberedBelow
+pub mod PackedSlum
 pub mod PathRows
 pub mod Pointing
 pub mod PutBehind

@@ -2,6 +2,7 @@
 -- (docs/volume.md, "Edits").
 use Rattle.std.specs.Prelude.{ℕ, ◌≤◌, List, [], ◌∷◌, ◌++◌}
 
+-- all the lists, one after the other
 abbrev pub joined : {A : Type 0} → List (List A) → List A
 joined [] = []
 joined (g ∷ gs) = g ++ joined gs

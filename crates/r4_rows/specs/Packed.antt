@@ -20,6 +20,7 @@ renumbered [] cells = []
 renumbered (i ∷ ids) [] = []
 renumbered (i ∷ ids) (c ∷ cells) = record c { id = i } ∷ renumbered ids cells
 
+-- the units of each of the cells
 abbrev pub units_each : List CellSeen → List (List LeafUnit)
 units_each [] = []
 units_each (c ∷ cells) = (node_of c).units ∷ units_each cells

@@ -7,6 +7,7 @@ use Rattle.r4_branch.specs.declared.piece.TwigPiece.{TwigPiece}
 use Rattle.r4_cell.specs.Seen.{CellSeen}
 use Rattle.r4_path.specs.Steps.{Follow}
 
+-- the piece that points to a cell
 abbrev pub pointer_to : CellSeen → TwigPiece
 pointer_to c = record { key = c.lo; part = Pointer (record { 0 = c.id }) }
 

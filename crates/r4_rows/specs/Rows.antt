@@ -17,6 +17,7 @@ pub record Row : Type 0 where
   pub old : List CellSeen
   pub new : List CellSeen
 
+-- the cells stand in the tree
 abbrev pub AreThere : Store Value → List CellSeen → Type 0
 AreThere t cells = (c : CellSeen) → Contains cells c → t c.id ≡ Some (node_of c)
 
@@ -36,6 +37,7 @@ pub record IsRow (t : Store Value) (level : ℕ) (b s : Row) : Type 0 where
   pub leads : (c : CellSeen) → Contains b.old c → AreNaming s.old (name_of c)
   pub names : (n : Name) → AreNaming s.new n ↔ AreNamedAfter b s n
 
+-- the new cells have the extents of the old ones
 abbrev pub KeepsSpans : Row → Type 0
 KeepsSpans s = (x : Span) → AreSpanning s.new x ↔ AreSpanning s.old x
 
@@ -66,6 +68,7 @@ pub record IsOver (r : Root) (s : Row) (c : CellSeen) : Type 0 where
   pub names : (n : Name) → AreNaming (c ∷ []) n ↔ IsNameOf s.new n
   pub spans : (x : Span) → AreSpanning (c ∷ []) x → ⊥
 
+-- the highest row has one cell in the place of its old one, or a new root stands over it
 abbrev pub EndsRow : Root → Row → (over : Option CellSeen) → Type 0
 EndsRow r s None = IsKept s
 EndsRow r s (Some c) = IsOver r s c
@@ -77,6 +80,7 @@ EndsIn r s (u ∷ us) over = EndsIn r u us over
 
 -- ---- the whole change
 
+-- the cells of all the rows that go, and those that come
 abbrev pub olds_in : List Row → List CellSeen
 olds_in [] = []
 olds_in (s ∷ rows) = s.old ++ olds_in rows
@@ -117,6 +121,7 @@ pub record IsRowChange (t : Store Value) (r : Root) (level : ℕ) (b s : Row) (m
 
 -- ---- rows alone
 
+-- nothing goes and nothing comes
 abbrev pub no_row : Row
 no_row = record { old = []; new = [] }
 

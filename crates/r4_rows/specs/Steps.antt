@@ -4,6 +4,7 @@ use Rattle.r4_path.specs.Steps.{Step}
 use Rattle.r4_path.specs.Twigs.{Below}
 use Rattle.r4_rows.specs.Rows.{Row}
 
+-- a step's one old cell and its new ones
 abbrev pub row_of_step : Step → Row
 row_of_step s = record { old = s.old ∷ []; new = s.new }
 

@@ -13,6 +13,7 @@ abbrev pub UnitOf : List CellSeen → ℕ → Placed Value → Type 0
 UnitOf cells k u = (c : CellSeen) × Contains cells c × Contains (node_of c).units (k, u.0)
     × ((c.level == 1) ≡ u.1)
 
+-- one of the cells holds the key
 abbrev pub HoldIn : List CellSeen → ℕ → Type 0
 HoldIn cells k = (c : CellSeen) × Contains cells c × Holds (node_of c) k
 

@@ -3,10 +3,13 @@
 #![tactic(auto)]
 
 mod laws;
+mod slum_laws;
 
 pub use laws::{
-    filling_needs_fewest, items_come_behind, leaves_pack_to_the_left, pieces_make_rows,
-    pointers_make_rows, pointers_take_their_place, rows_are_numbered, rows_are_patches,
-    rows_keep_units, rows_take_effect, squeezing_is_a_patch, steps_are_rows, turns_take_effect,
-    twigs_are_their_pieces, twigs_pack_to_the_left,
+    pieces_make_rows, pointers_make_rows, rows_are_numbered, rows_are_patches, rows_keep_units,
+    rows_take_effect, steps_are_rows, turns_take_effect, twigs_are_their_pieces,
+};
+pub use slum_laws::{
+    filling_needs_fewest, items_come_behind, leaves_pack_to_the_left, packed_slums_are_squeezed,
+    pointers_take_their_place, squeezing_is_a_patch, twigs_pack_to_the_left,
 };
