@@ -1,5 +1,5 @@
 -- A row of twigs by the pieces of its twigs.
-use Rattle.std.proofs.Common.{◌≡◌, ◌⊎◌, inl, inr, ℕ, ◌+◌, ◌≤◌, List, [], ◌∷◌, ◌++◌, length, refl, sym}
+use Rattle.std.proofs.Common.{map, ◌≡◌, ◌⊎◌, inl, inr, ℕ, ◌+◌, ◌≤◌, List, [], ◌∷◌, ◌++◌, length, refl, sym}
 use Rattle.std.proofs.Common.{ap, subst}
 use Rattle.std.proofs.Common.{◌∙◌, arith}
 use Rattle.std.specs.Prelude.{◌↔◌, Contains}
@@ -20,11 +20,13 @@ use Rattle.r4_graft.proofs.SplicedNames.{spliced_names}
 use Rattle.r4_patch.specs.Joining.{ids_of}
 use Rattle.r4_path.specs.Grafts.{IsTwigLevel, TwigsHaveMkfsId, twig_cells}
 use Rattle.r4_path.specs.Levels.{units_of_cells}
-use Rattle.r4_path.specs.Steps.{AreNaming, name_of}
+use Rattle.r4_path.specs.Steps.{AreNaming, Follow, name_of}
+use Rattle.r4_path.proofs.Grown.{map_names, names_map}
 use Rattle.r4_path.proofs.TwigCells.{twigs_step}
 use Rattle.r4_rows.specs.Fewest.{joined}
 use Rattle.r4_rows.specs.Packed.{AreSlumPieces, renumbered}
-use Rattle.r4_rows.specs.Pieces.{AreTwigsOfPieces, PiecesBelow}
+use Rattle.r4_rows.specs.Pieces.{ArePointersTo, AreTwigsOfPieces, PiecesBelow}
+use Rattle.r4_rows.specs.Replaced.{pointer_to}
 use Rattle.r4_rows.specs.Rows.{AreNamedAfter, AreThere, IsRow, Row}
 use Rattle.r4_rows.proofs.LeafSlum.{follow_new, sound_new, units_new}
 use Rattle.r4_rows.proofs.SlumPieces.{slum_pieces, twig_pieces}
@@ -64,6 +66,39 @@ packed_pieces lo hi ps (x ∷ more) ids b p few own many =
       };
       numbers = all_ids ids (twig_cells 0 0 hi (x ∷ more)) same;
       sound = sound_new ids (twig_cells 0 0 hi (x ∷ more)) row.sound;
+    }
+
+-- ---- pointers to leaves
+
+points_next : (from to : ℕ) (cells : List CellSeen) → Follow 1 from to cells → next_of to (map pointer_to cells) ≡ from
+points_next from to [] e = sym e
+points_next from to (c ∷ cells) f = f.1
+
+points_name : (from to : ℕ) (cells : List CellSeen) → Follow 1 from to cells
+    → names_of to (map pointer_to cells) ≡ map name_of cells
+unfolding names_of
+points_name from to [] e = refl
+points_name from to (c ∷ cells) (level, at, less, rest) =
+    let next = points_next (rank c.hi) to cells rest in
+    let more = points_name (rank c.hi) to cells rest in
+    (λ j. record { id = c.id; level = sym level j; lo = rank c.lo; hi = next j } ∷ more j)
+
+points_units : (cells : List CellSeen) → units_of (map pointer_to cells) ≡ []
+unfolding units_of
+points_units [] = refl
+points_units (c ∷ cells) = points_units cells
+
+pub pieces_point : (from to : ℕ) (cells : List CellSeen) → Follow 1 from to cells
+    → ArePointersTo from to cells (map pointer_to cells)
+pieces_point from to cells f =
+    let is = points_name from to cells f in
+    record {
+      begin = points_next from to cells f;
+      names = λ n. (
+        λ h. names_map cells n (subst (λ ns. Contains ns n) is h),
+        λ h. subst (λ ns. Contains ns n) (sym is) (map_names cells n h),
+      );
+      units = points_units cells;
     }
 
 -- ---- the row

@@ -1,5 +1,5 @@
 -- A row of twigs by the pieces of its twigs (docs/volume.md, "Edits").
-use Rattle.std.specs.Prelude.{◌≡◌, ◌↔◌, ℕ, ◌<◌, List, ◌++◌, Contains}
+use Rattle.std.specs.Prelude.{◌≡◌, ◌↔◌, ℕ, ◌<◌, List, [], ◌++◌, Contains}
 use Rattle.r4_base.specs.Tree.{Name}
 use Rattle.r4_branch.specs.Pieces.{names_of, next_of, units_of}
 use Rattle.r4_branch.specs.declared.piece.TwigPiece.{TwigPiece}
@@ -24,6 +24,13 @@ pub record AreTwigsOfPieces (from to : ℕ) (ids : List ℕ) (ps : List TwigPiec
   pub has : HavePieces from to ps cells
   pub numbers : ids_of cells ≡ ids
   pub sound : (c : CellSeen) → Contains cells c → IsSound c
+
+-- Pieces that name just these cells, beside each other from one key up to another, and have no
+-- units.
+pub record ArePointersTo (from to : ℕ) (cells : List CellSeen) (ps : List TwigPiece) : Type 0 where
+  pub begin : next_of to ps ≡ from
+  pub names : (n : Name) → Contains (names_of to ps) n ↔ IsNameOf cells n
+  pub units : units_of ps ≡ []
 
 -- Among the pieces of the old twigs, one twig's after the other's, stand those that name the old
 -- cells below. In their place, from the same key on, the new twigs have pieces that name the new
