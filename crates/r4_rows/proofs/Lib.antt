@@ -8,7 +8,6 @@ pub mod PackedSlum
 pub mod PathRows
 pub mod Pointing
 pub mod PutBehind
-pub mod Rewritten
 pub mod RowCells
 pub mod RowUnits
 pub mod SlumPieces

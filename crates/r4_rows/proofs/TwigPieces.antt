@@ -25,8 +25,7 @@ use Rattle.r4_path.proofs.Grown.{map_names, names_map}
 use Rattle.r4_path.proofs.TwigCells.{twigs_step}
 use Rattle.r4_rows.specs.Fewest.{joined}
 use Rattle.r4_rows.specs.Packed.{AreSlumPieces, renumbered}
-use Rattle.r4_rows.specs.Pieces.{ArePointersTo, AreTwigsOfPieces, PiecesBelow}
-use Rattle.r4_rows.specs.Replaced.{pointer_to}
+use Rattle.r4_rows.specs.Pieces.{ArePointersTo, AreTwigsOfPieces, PiecesBelow, pointer_to}
 use Rattle.r4_rows.specs.Rows.{AreNamedAfter, AreThere, IsRow, Row}
 use Rattle.r4_rows.proofs.LeafSlum.{follow_new, sound_new, units_new}
 use Rattle.r4_rows.proofs.SlumPieces.{slum_pieces, twig_pieces}
@@ -206,3 +205,15 @@ module _ (b s : Row) (is : PiecesBelow b s) where
       | inr mine ↦ inr mine
     ])),
   )
+
+  all_units : (ms : List TwigPiece) → units_of (is.before ++ (ms ++ is.behind))
+      ≡ units_of is.before ++ (units_of ms ++ units_of is.behind)
+  all_units ms = units_append is.before (ms ++ is.behind)
+      ∙ ap (λ us. units_of is.before ++ us) (units_append ms is.behind)
+
+  pub pieces_keep : units_of is.come ≡ units_of is.gone → units_of_cells s.new ≡ units_of_cells s.old
+  pieces_keep e =
+      is.have.units
+      ∙ (all_units is.come
+      ∙ (ap (λ us. units_of is.before ++ (us ++ units_of is.behind)) e
+      ∙ (sym (all_units is.gone) ∙ sym old_units)))

@@ -4,7 +4,6 @@ pub mod Numbers
 pub mod Packed
 pub mod Pieces
 pub mod Pointers
-pub mod Replaced
 pub mod Rows
 pub mod Slum
 pub mod Steps

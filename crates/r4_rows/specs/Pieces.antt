@@ -2,6 +2,7 @@
 use Rattle.std.specs.Prelude.{◌≡◌, ◌↔◌, ℕ, ◌<◌, List, [], ◌++◌, Contains}
 use Rattle.r4_base.specs.Tree.{Name}
 use Rattle.r4_branch.specs.Pieces.{names_of, next_of, units_of}
+use Rattle.r4_branch.specs.declared.piece.TwigPart.TheVariants.{Pointer}
 use Rattle.r4_branch.specs.declared.piece.TwigPiece.{TwigPiece}
 use Rattle.r4_cell.specs.Seen.{CellSeen}
 use Rattle.r4_patch.specs.Joining.{ids_of}
@@ -24,6 +25,10 @@ pub record AreTwigsOfPieces (from to : ℕ) (ids : List ℕ) (ps : List TwigPiec
   pub has : HavePieces from to ps cells
   pub numbers : ids_of cells ≡ ids
   pub sound : (c : CellSeen) → Contains cells c → IsSound c
+
+-- the piece that points to a cell
+abbrev pub pointer_to : CellSeen → TwigPiece
+pointer_to c = record { key = c.lo; part = Pointer (record { 0 = c.id }) }
 
 -- Pieces that name just these cells, beside each other from one key up to another, and have no
 -- units.

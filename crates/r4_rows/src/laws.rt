@@ -25,9 +25,8 @@ ghost use Rattle.r4_path.specs.Twigs.{Below, IsTwigChange, IsUnused};
 ghost use Rattle.r4_rows.specs.Fewest.{joined};
 ghost use Rattle.r4_rows.specs.Numbers.{AreNumbered, IsNumberedChange};
 ghost use Rattle.r4_rows.specs.Packed.{AreSlumPieces, AreTheirPieces, renumbered};
-ghost use Rattle.r4_rows.specs.Pieces.{ArePointersTo, AreTwigsOfPieces, PiecesBelow};
+ghost use Rattle.r4_rows.specs.Pieces.{ArePointersTo, AreTwigsOfPieces, PiecesBelow, pointer_to};
 ghost use Rattle.r4_rows.specs.Pointers.{PointTo, PointsBelow};
-ghost use Rattle.r4_rows.specs.Replaced.{pointer_to};
 ghost use Rattle.r4_rows.specs.Rows.{AreThere, IsPlainRowChange, IsRow, IsRowChange, KeepsSpans};
 ghost use Rattle.r4_rows.specs.Rows.{Row, all_news, all_olds, news_in, no_row, olds_in, rows_patch};
 ghost use Rattle.r4_rows.specs.Steps.{row_below, row_of_step};
@@ -105,10 +104,10 @@ pub fn pointers_make_rows()
 {}
 
 /// Twigs whose pieces, one twig's after the other's, have others in the place of those that name
-/// the cells that go below, and name those that come, are such a row over them; what goes without
-/// units leaves all others. `packed`: twigs into which pieces are packed, with any numbers, have
-/// just these pieces' names and units. `points`: the pieces that point to leaves (docs/volume.md,
-/// "Edits").
+/// the cells that go below, and name those that come, are such a row over them. `units`: where what
+/// goes has none, the units of what comes are added; `keep`: where both have the same, all stay.
+/// `packed`: twigs into which pieces are packed, with any numbers, have just these pieces' names and
+/// units. `points`: the pieces that point to leaves (docs/volume.md, "Edits").
 pub fn pieces_make_rows()
     ensures packed { (lo hi : Key) (ps : List TwigPiece) (twigs : List Twig) (ids b : List ℕ)
         → PacksTwigs (rank lo) (rank hi) ps twigs → AreFewTwigs ps twigs
@@ -120,6 +119,8 @@ pub fn pieces_make_rows()
     ensures units { (b s : Row) (p : PiecesBelow b s) → units_of p.gone ≡ []
         → (w : ℕ × Value) → Contains (units_of_cells s.new) w
         ↔ (Contains (units_of_cells s.old) w ⊎ Contains (units_of p.come) w) }
+    ensures keep { (b s : Row) (p : PiecesBelow b s) → units_of p.come ≡ units_of p.gone
+        → units_of_cells s.new ≡ units_of_cells s.old }
     ensures points { (from to : ℕ) (cells : List CellSeen) → Follow 1 from to cells
         → ArePointersTo from to cells (map pointer_to cells) }
 {}

@@ -11,5 +11,5 @@ pub use laws::{
 };
 pub use slum_laws::{
     filling_needs_fewest, items_come_behind, leaves_pack_to_the_left, packed_slums_are_squeezed,
-    pointers_take_their_place, squeezing_is_a_patch, twigs_pack_to_the_left,
+    squeezing_is_a_patch, twigs_pack_to_the_left,
 };

@@ -1,14 +1,14 @@
 //! Laws of a slum that is packed. Each is the contract of a function that does nothing.
 
-ghost use Rattle.std.specs.Prelude.{◌≡◌, ◌<◌, ◌≤◌, ◌↔◌, ◌⊎◌, ◌++◌, ◌∷◌, [], ℕ, false, Contains};
+ghost use Rattle.std.specs.Prelude.{◌≡◌, ◌<◌, ◌≤◌, ◌++◌, ◌∷◌, [], ℕ, false};
 ghost use Rattle.std.specs.Prelude.{length, map, List, None};
 ghost use Rattle.r4_base.specs.Cell.{units_in};
 ghost use Rattle.r4_base.specs.Key.{rank};
 ghost use Rattle.r4_base.specs.Node.{mkfs_id_of};
-ghost use Rattle.r4_base.specs.Tree.{Name, Root, Store};
+ghost use Rattle.r4_base.specs.Tree.{Root, Store};
 ghost use Rattle.r4_base.specs.Value.{Value};
 ghost use Rattle.r4_base.specs.declared.key.Key.{Key};
-ghost use Rattle.r4_branch.specs.Pieces.{names_of, twig_bytes, units_of};
+ghost use Rattle.r4_branch.specs.Pieces.{twig_bytes};
 ghost use Rattle.r4_branch.specs.Twigs.{AreFewTwigs, PacksTwigs};
 ghost use Rattle.r4_branch.specs.declared.piece.TwigPiece.{TwigPiece};
 ghost use Rattle.r4_branch.specs.declared.twig.Twig.{Twig};
@@ -25,12 +25,11 @@ ghost use Rattle.r4_patch.specs.Part.{MeetsPart};
 ghost use Rattle.r4_path.specs.Grafts.{TwigsHaveMkfsId, twig_cells};
 ghost use Rattle.r4_path.specs.LeafSteps.{leaf_cells};
 ghost use Rattle.r4_path.specs.Levels.{units_of_cells};
-ghost use Rattle.r4_path.specs.Steps.{Follow, IsNameOf};
+ghost use Rattle.r4_path.specs.Steps.{Follow};
 ghost use Rattle.r4_rows.specs.Behind.{EachMayBePut, UnitsRise};
 ghost use Rattle.r4_rows.specs.Fewest.{EachFits, joined};
 ghost use Rattle.r4_rows.specs.Packed.{ArePackedLeft, AreSlumPieces, AreTwigsLeft, renumbered};
 ghost use Rattle.r4_rows.specs.Packed.{units_each};
-ghost use Rattle.r4_rows.specs.Replaced.{AreReplaced, with_pointers};
 ghost use Rattle.r4_rows.specs.Slum.{IsSlum, IsSqueezed, slum_patch, IsPackedSlum};
 
 /// A slum, cells of one level beside each other below one cell, and cells in its place that have
@@ -90,20 +89,6 @@ pub fn twigs_pack_to_the_left()
         → AreFewTwigs ps twigs → TwigsHaveMkfsId (mkfs_id_of b) twigs
         → AreTwigsLeft slum (rank lo) (rank hi)
         (renumbered (ids_of slum) (twig_cells 0 0 hi twigs)) }
-{}
-
-/// A twig with pointers to other leaves in the place of some, of the same range: what it names
-/// then, and that its units stay (docs/volume.md, "Edits").
-pub fn pointers_take_their_place()
-    ensures names { (hi from to : ℕ) (before after : List TwigPiece) (slum cells : List CellSeen)
-        → AreReplaced hi from to before after slum cells → (n : Name)
-        → Contains (names_of hi (with_pointers before after cells)) n
-        ↔ ((Contains (names_of hi (with_pointers before after slum)) n × (IsNameOf slum n → ⊥))
-        ⊎ IsNameOf cells n) }
-    ensures units { (hi from to : ℕ) (before after : List TwigPiece) (slum cells : List CellSeen)
-        → AreReplaced hi from to before after slum cells
-        → units_of (with_pointers before after cells)
-        ≡ units_of (with_pointers before after slum) }
 {}
 
 /// Items whose units are above all that a leaf has, one item's above those before it, may be put in
