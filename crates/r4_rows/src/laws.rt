@@ -106,8 +106,8 @@ pub fn pointers_make_rows()
 /// Twigs whose pieces, one twig's after the other's, have others in the place of those that name
 /// the cells that go below, and name those that come, are such a row over them. `units`: where what
 /// goes has none, the units of what comes are added; `keep`: where both have the same, all stay.
-/// `packed`: twigs into which pieces are packed, with any numbers, have just these pieces' names and
-/// units. `points`: the pieces that point to leaves (docs/volume.md, "Edits").
+/// `packed`: twigs into which pieces are packed, with any numbers, have just these pieces' names
+/// and units. `points`: the pieces that point to leaves (docs/volume.md, "Edits").
 pub fn pieces_make_rows()
     ensures packed { (lo hi : Key) (ps : List TwigPiece) (twigs : List Twig) (ids b : List ℕ)
         → PacksTwigs (rank lo) (rank hi) ps twigs → AreFewTwigs ps twigs
