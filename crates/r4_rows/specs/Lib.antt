@@ -1,0 +1,11 @@
+pub mod Behind
+pub mod Fewest
+pub mod Numbers
+pub mod Packed
+pub mod Pieces
+pub mod Pointers
+pub mod Rows
+pub mod Slum
+pub mod Steps
+pub mod Turn
+pub mod Units
