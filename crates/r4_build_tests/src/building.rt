@@ -13,6 +13,7 @@ use r4_content::Reply;
 use r4_outside::Gate;
 use r4_units::{attr_in, target_in};
 use std::alloc::Global;
+use std::process::Abort;
 use std::sync::atomic::{AtomicU64, Ordering};
 use std::test::Fail;
 
@@ -104,21 +105,51 @@ const ROOT_WITH_FILE: Attr = Attr {
     ..ROOT
 };
 
+// What a test wants to be built: the reply, how many objects come and go, the old cells and the new ones, and what
+// these have of the file.
+#[derive(Drop)]
+struct Wanted {
+    reply: &'static str,
+    objects: ObjectCounts,
+    rows: (Row, Row),
+    old: Option<FileRow>,
+    new: Option<FileRow>,
+}
+
+// The replies that come here.
+fn spelled(reply: &Reply) -> &'static str {
+    match reply {
+        Reply::Okay => "ok",
+        Reply::Absent => "absent",
+        _ => "another reply",
+    }
+}
+
+// Ends the test unless just this is built.
+fn expect<X: Abort>(rt: &X, built: &Built, wanted: &Wanted) {
+    let change = built.change();
+    assert_eq!(rt; spelled(built.reply()), wanted.reply);
+    assert_eq!(rt; built.objects(), wanted.objects);
+    assert_eq!(rt; outcome(built), Some(wanted.rows));
+    assert_eq!(rt; file_in(&change.old), wanted.old);
+    assert_eq!(rt; file_in(&change.new), wanted.new);
+}
+
 // A file comes: the leaf alone is new, and has it.
 #[test]
 fn a_file_is_created(rt: HostRuntime) -> Result<(), Fail> {
     let alloc = rt.alloc();
     let gate = Counter::new();
     let built = build_creation(alloc, &gate, fresh_cells(alloc)?)?;
+    let wanted = Wanted {
+        reply: "ok",
+        objects: ObjectCounts { born: 1, gone: 0 },
+        rows: ((1, Some((23, 1))), (1, Some((23, 3)))),
+        old: Some((Some(ROOT), None, None)),
+        new: Some((Some(ROOT_WITH_FILE), Some(FILE), Some(NEW_FILE))),
+    };
+    expect(&rt, &built, &wanted);
     assert_eq!(rt; gate.count(), (1, 3005));
-    assert!(rt; matches!(*built.reply(), Reply::Okay));
-    assert_eq!(rt; built.objects(), ObjectCounts { born: 1, gone: 0 });
-    let rows = ((1, Some((23, 1))), (1, Some((23, 3))));
-    assert_eq!(rt; outcome(&built), Some(rows));
-    let old = (Some(ROOT), None, None);
-    assert_eq!(rt; file_in(&built.change().old), Some(old));
-    let new = (Some(ROOT_WITH_FILE), Some(FILE), Some(NEW_FILE));
-    assert_eq!(rt; file_in(&built.change().new), Some(new));
     Ok(())
 }
 
@@ -128,18 +159,21 @@ fn times_are_set(rt: HostRuntime) -> Result<(), Fail> {
     let alloc = rt.alloc();
     let gate = Counter::new();
     let built = build_times(alloc, &gate, fresh_cells(alloc)?)?;
-    assert_eq!(rt; gate.count(), (1, 3005));
-    assert!(rt; matches!(*built.reply(), Reply::Okay));
-    let rows = ((1, Some((23, 1))), (1, Some((23, 1))));
-    assert_eq!(rt; outcome(&built), Some(rows));
     let root = Attr {
         atime: 11,
         mtime: 12,
         ctime: 13,
         ..ROOT
     };
-    let new = (Some(root), None, None);
-    assert_eq!(rt; file_in(&built.change().new), Some(new));
+    let wanted = Wanted {
+        reply: "ok",
+        objects: ObjectCounts { born: 0, gone: 0 },
+        rows: ((1, Some((23, 1))), (1, Some((23, 1)))),
+        old: Some((Some(ROOT), None, None)),
+        new: Some((Some(root), None, None)),
+    };
+    expect(&rt, &built, &wanted);
+    assert_eq!(rt; gate.count(), (1, 3005));
     Ok(())
 }
 
@@ -149,11 +183,15 @@ fn a_command_is_refused(rt: HostRuntime) -> Result<(), Fail> {
     let alloc = rt.alloc();
     let gate = Counter::new();
     let built = build_refused(alloc, &gate, fresh_cells(alloc)?)?;
+    let wanted = Wanted {
+        reply: "absent",
+        objects: ObjectCounts { born: 0, gone: 0 },
+        rows: ((0, None), (0, None)),
+        old: None,
+        new: None,
+    };
+    expect(&rt, &built, &wanted);
     assert_eq!(rt; gate.count(), (1, 3005));
-    assert_eq!(rt; outcome(&built), Some(((0, None), (0, None))));
-    let (_, _, reply, objects) = built.into_parts();
-    assert!(rt; matches!(reply, Reply::Absent));
-    assert_eq!(rt; objects, ObjectCounts { born: 0, gone: 0 });
     Ok(())
 }
 
@@ -190,17 +228,20 @@ fn bytes_are_written_into_a_new_file(rt: HostRuntime) -> Result<(), Fail> {
     let alloc = rt.alloc();
     let gate = Counter::new();
     let built = written(alloc, &gate)?;
-    assert_eq!(rt; gate.count(), (2, 6010));
-    assert!(rt; matches!(*built.reply(), Reply::Okay));
-    let rows = ((1, Some((23, 3))), (1, Some((23, 4))));
-    assert_eq!(rt; outcome(&built), Some(rows));
     let file = Attr {
         size: 5,
         bytes: 5,
         ..NEW_FILE
     };
-    let new = (Some(ROOT_WITH_FILE), Some(FILE), Some(file));
-    assert_eq!(rt; file_in(&built.change().new), Some(new));
+    let wanted = Wanted {
+        reply: "ok",
+        objects: ObjectCounts { born: 0, gone: 0 },
+        rows: ((1, Some((23, 3))), (1, Some((23, 4)))),
+        old: Some((Some(ROOT_WITH_FILE), Some(FILE), Some(NEW_FILE))),
+        new: Some((Some(ROOT_WITH_FILE), Some(FILE), Some(file))),
+    };
+    expect(&rt, &built, &wanted);
     assert!(rt; has_bytes(&built.change().new, b"hello"));
+    assert_eq!(rt; gate.count(), (2, 6010));
     Ok(())
 }
