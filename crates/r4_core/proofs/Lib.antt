@@ -9,6 +9,7 @@ mod GivingBack
 mod Writing
 mod Parting
 mod Heading
+mod Joined
 mod Footing
 mod Emptied
 mod SealedEmpty

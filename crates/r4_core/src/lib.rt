@@ -9,6 +9,7 @@ mod committing;
 mod core_state;
 mod ending;
 mod fault;
+mod fusing;
 mod giving_back;
 mod leaving;
 mod opening;
