@@ -6,6 +6,9 @@ mod Replied
 mod Begun
 mod Pushed
 mod GivingBack
+mod NewTask
+mod HandedOut
+mod Holding
 mod Writing
 mod Parting
 mod Heading

@@ -11,6 +11,7 @@ mod ending;
 mod fault;
 mod fusing;
 mod giving_back;
+mod handing;
 mod leaving;
 mod opening;
 mod pushing;
