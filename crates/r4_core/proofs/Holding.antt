@@ -1,5 +1,5 @@
 -- The table of holds changes, and each task holds what it held: what holds of a core holds still.
-use Rattle.std.proofs.Common.{◌≡◌, ℕ, Option, Some, sym, ◌∙◌, ap, subst}
+use Rattle.std.proofs.Common.{Option, sym, ◌∙◌, ap, subst}
 use Rattle.std.specs.Prelude.{IsSome}
 use Rattle.r4_durable.specs.Meaning.{Beginning, IsNamed}
 use Rattle.r4_history.specs.Held.{TasksTell}
@@ -10,9 +10,7 @@ use Rattle.r4_kept.specs.Accounts.{AreAccounts}
 use Rattle.r4_kept.specs.Cells.{AreCells}
 use Rattle.r4_kept.specs.History.{IsHistory}
 use Rattle.r4_kept.specs.Kept.{HasStory, IsKept}
-use Rattle.r4_kept.specs.Meaning.{HasMeaning}
-use Rattle.r4_kept.specs.Naming.{Naming, job_named, names_in}
-use Rattle.r4_kept.specs.Tables.{AreTables}
+use Rattle.r4_kept.specs.Naming.{Naming, names_in}
 use Rattle.r4_kept.specs.TasksOut.{AreOut}
 use Rattle.r4_kept.specs.View.{CoreSeen, tables_of}
 

@@ -13,6 +13,7 @@ mod Writing
 mod Parting
 mod Heading
 mod Joined
+mod FusingAll
 mod Footing
 mod Emptied
 mod SealedEmpty
