@@ -1,11 +1,13 @@
 -- Atoms fuse one after another, along a list.
 use Rattle.std.proofs.Common.{◌≡◌, ◌≢◌, ℕ, ◌-◌, ◌<◌, ◌≤◌, List, [], ◌∷◌, length, min, max, drop, take, refl, sym}
-use Rattle.std.proofs.Common.{◌∙◌, ap, subst, arith, slice_index_or}
+use Rattle.std.proofs.Common.{None, ◌+◌, ◌∙◌, ap, subst, arith, slice_index_or}
 use Rattle.std.proofs.lemmas.List.{take_all}
 use Rattle.r4_atoms.specs.Atoms.{IsOpenAtom}
 use Rattle.r4_history.proofs.ServingSteps.{cons_here, cons_later}
 use Rattle.r4_core.specs.FusingAll.{CanFuseAll, least_of, pairs_of}
 use Rattle.r4_core.specs.declared.fusing.Other.{Other}
+use Rattle.r4_history.specs.Held.{AreOwners, Need}
+use Rattle.r4_history.specs.Serving.{AreOthers}
 use Rattle.r4_kept.specs.History.{owed, owed_for_commit}
 use Rattle.r4_kept.specs.View.{CoreSeen}
 use Rattle.r4_taking.specs.Fusing.{HasFused, HasFusedAll}
@@ -88,3 +90,19 @@ module _ {D : Type 0} (now : CoreSeen D) (all : ℕ) (d : Other) where
       (subst (λ (l : List Other). GoesAlong old own others mid (min all x.atom.0) (pairs_of l))
       (sym (take_all (length (x ∷ xs) - 1) xs (omega arith)))
       (goes_on now mid all (x.atom.0, x.node.0) (pairs_of xs) g.can h old own others g))
+
+-- ---- those that own a node of a reach
+
+-- the other open atoms that a command's own one has to fuse with are such a list
+pub can_fuse_others : {D : Type 0} (c : CoreSeen D) (own : ℕ) (need : Need) (others : List (ℕ × ℕ)) → c.broken ≡ None
+    → AreOwners c.atoms → IsOpenAtom c.atoms own → AreOthers c.atoms own need others
+    → owed c.turns + owed_for_commit c.commit + length others ≤ c.trace.spare → CanFuseAll c own others
+can_fuse_others c own need others sound owners is are room = record {
+  sound = sound;
+  is_open = is;
+  rise = are.rise;
+  each = λ p there.
+      (let one = ((are.each p.0 p.1).0 there).is_one in
+      (record { atom = (owners p.1 p.0 one.owner.owns).0; unsealed = one.owner.unsealed }, one.owner.other));
+  room = room;
+}
