@@ -3,6 +3,7 @@ mod Replayed
 mod Answered
 mod Ended
 mod Replied
+mod RefusedOut
 mod Begun
 mod Pushed
 mod GivingBack

@@ -15,6 +15,7 @@ mod handing;
 mod leaving;
 mod opening;
 mod pushing;
+mod refusing;
 mod sealing;
 mod starting;
 mod stepping;
