@@ -1,1 +1,4 @@
 pub mod Opening
+pub mod Handing
+pub mod FusingAll
+pub mod RefusingOut

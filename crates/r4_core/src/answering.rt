@@ -9,6 +9,7 @@ ghost use Rattle.r4_trace.specs.declared.entry.Entry.TheVariants.{Acked, Refused
 ghost use Rattle.r4_turns.specs.Turns.{IsScript, answered_at, answered_one, turn_at};
 ghost use Rattle.r4_kept.specs.History.{owed, owed_for_commit};
 ghost use Rattle.r4_kept.specs.Steps.{IsRefusable, answered};
+ghost use Rattle.r4_taking.specs.Refusing.{StandsSingle, refused_single};
 
 use crate::core_state::Core;
 use r4_base::{ScriptNo, TxnNo};
@@ -50,6 +51,28 @@ impl<D: Device, R: Run> Core<D, R> {
             index,
             reply,
         });
+    }
+
+    // A single command is refused, and the transaction that was begun for it ends: two entries as
+    // one step, since no other may come between.
+    pub(crate) fn refuse_single(&mut self, script: ScriptNo, txn: TxnNo, reply: Reply)
+        requires sound { self.old.broken ≡ None }
+        requires stands { StandsSingle self.old.turns script.0 txn }
+        requires room { owed self.old.turns + owed_for_commit self.old.commit + 2
+            ≤ self.old.trace.spare }
+        ensures { self.new ≡ refused_single self.old script txn reply }
+    {
+        self.turns.answer(script);
+        let index = self.turns.answered(script);
+        self.turns.leave(script);
+        self.atoms.close(txn);
+        self.trace.push(Entry::Refused {
+            txn,
+            script,
+            index,
+            reply,
+        });
+        self.trace.push(Entry::Ended { txn });
     }
 
     // After a call of the device failed, the next command of a script is refused, in no

@@ -41,7 +41,7 @@ module _ {D : Type 0} (r : Naming) (d : State) (old new : CoreSeen D) (k : IsKep
 -- ---- who is left
 
 -- an open atom that is not the one that goes stays one
-still_open : (old new : AtomsSeen) (a b : ℕ) → Fuses old new a b → (x : ℕ) → IsOpenAtom old x → x ≢ b → IsOpenAtom new x
+pub still_open : (old new : AtomsSeen) (a b : ℕ) → Fuses old new a b → (x : ℕ) → IsOpenAtom old x → x ≢ b → IsOpenAtom new x
 still_open old new a b f x is other =
     let count = fused_count old new a b f in
     let within = is.atom.begun.within in
@@ -56,13 +56,13 @@ still_open old new a b f x is other =
     }
 
 -- the smaller and the greater of two are these two
-of_min : (P : ℕ → Type 0) (a b : ℕ) → P a → P b → P (min a b)
+pub of_min : (P : ℕ → Type 0) (a b : ℕ) → P a → P b → P (min a b)
 of_min P a b x y = elim (cases_lt a b) [
   | inl less ↦ let e : a ≡ min a b = omega (arith, less) in subst P e x
   | inr more ↦ let e : b ≡ min a b = omega (arith, more) in subst P e y
 ]
 
-of_max : (P : ℕ → Type 0) (a b : ℕ) → P a → P b → P (max a b)
+pub of_max : (P : ℕ → Type 0) (a b : ℕ) → P a → P b → P (max a b)
 of_max P a b x y = elim (cases_lt a b) [
   | inl less ↦ let e : b ≡ max a b = omega (arith, less) in subst P e y
   | inr more ↦ let e : a ≡ max a b = omega (arith, more) in subst P e x
