@@ -8,3 +8,4 @@ pub mod Beginning
 pub mod Charged
 pub mod DoneCounts
 pub mod DoneAccounts
+pub mod DoneNames
