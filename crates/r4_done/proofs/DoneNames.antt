@@ -56,7 +56,7 @@ module _ (blocks next : ℕ) (old new : List CellSeen) (root : Option RootPair) 
       let most = drawn.most in
       inr (omega (arith, from, least), omega (arith, to, most)))) (numbered x has)
 
-  found_name : (i : ℕ) (c : Node Value) → by_name new i ≡ Some c → IsName blocks next i
+  pub found_name : (i : ℕ) (c : Node Value) → by_name new i ≡ Some c → IsName blocks next i
   found_name i c at = let (x, has, named, says) = found new i c at in subst (IsName blocks next) named (own_name x has)
 
   -- what a new cell names is one, or what an old cell named

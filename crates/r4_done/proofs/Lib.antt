@@ -9,3 +9,4 @@ pub mod Charged
 pub mod DoneCounts
 pub mod DoneAccounts
 pub mod DoneNames
+pub mod DoneCells
