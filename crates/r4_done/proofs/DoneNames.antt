@@ -35,7 +35,7 @@ has_found cells i c at =
     let (x, has, is, says) = found cells i c at in
     subst (λ (j : ℕ). has_name cells j ≡ true) is (has_one cells x has)
 
-not_found : (cells : List CellSeen) (i : ℕ) → has_name cells i ≡ false → by_name cells i ≡ None
+pub not_found : (cells : List CellSeen) (i : ℕ) → has_name cells i ≡ false → by_name cells i ≡ None
 not_found cells i none =
     absent cells i (λ x has is. cc (sym (subst (λ (j : ℕ). has_name cells j ≡ true) is (has_one cells x has)) ∙ none))
 

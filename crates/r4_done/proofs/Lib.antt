@@ -10,3 +10,4 @@ pub mod DoneCounts
 pub mod DoneAccounts
 pub mod DoneNames
 pub mod DoneCells
+pub mod DoneMeaning

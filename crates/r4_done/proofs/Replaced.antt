@@ -244,6 +244,21 @@ module _ (b now : BufferSeen) (old new : List CellSeen) (pins : List NodeId)
         ]
   ]
 
+  -- where nothing stands that the change does not touch, nothing stood
+  pub none_before : (i : ℕ) → has_name new i ≡ false → has_name old i ≡ false → buffered now i ≡ None
+      → buffered b i ≡ None
+  none_before i not_new not_old none = by (buffered b i) refl
+    where
+      stays : mid i ≡ buffered b i
+      stays =
+          cond-false (has_name new i) (in_turn placed new i (buffered b i)) (cond (has_name old i) None (buffered b i))
+          not_new ∙ cond-false (has_name old i) None (buffered b i) not_old
+
+      by : (o : Standing) → buffered b i ≡ o → buffered b i ≡ None
+      by None is = is
+      by (Some e) is =
+          absurd (subst (λ (o : Standing). IsLike o None) (stays ∙ is) (subst (IsLike (mid i)) none (like_mid i)))
+
   pub uses_then : (i : ℕ) → uses_of (buffered now i)
       ≤ uses_of (buffered b i) - count_by (λ (n : NodeId). n.0 == i) pins
   uses_then i =
