@@ -3,18 +3,18 @@ use Rattle.std.proofs.Common.{◌≡◌, ◌≢◌, ⊎_elim, ℕ, ◌+◌, ◌=
 use Rattle.std.proofs.Common.{Option, Some, None, Contains, inl, inr, option_map, refl, sym, ◌∙◌, ap, subst, arith}
 use Rattle.std.specs.Prelude.{IsSome, is_some}
 use Rattle.std.specs.Option.{unwrap_or}
-use Rattle.std.proofs.lemmas.Bool.{cases_Bool, cases_eq, cond-false, cond-true, eq-eqb, ne_eqb, or_right}
+use Rattle.std.proofs.lemmas.Bool.{cases_Bool, cases_eq, cond-false, cond-true, eq-eqb, ne_eqb}
 use Rattle.std.proofs.lemmas.List.Elements.{Contains-append_cases, Contains-append_left, Contains-append_right}
 use Rattle.r4_atoms.specs.Atoms.{AtomsSeen, IsOpenAtom, account_of, is_sealed, numbers, owner_of}
 use Rattle.r4_atoms.specs.declared.things.Account.{Account}
-use Rattle.r4_base.specs.Tree.{Node, Root, Store}
-use Rattle.r4_base.specs.Value.{Content, Value}
+use Rattle.r4_base.specs.Tree.{Node, Store}
+use Rattle.r4_base.specs.Value.{Value}
 use Rattle.r4_base.specs.declared.things.AtomNo.{AtomNo}
 use Rattle.r4_base.specs.declared.things.ScriptNo.{ScriptNo}
 use Rattle.r4_base.specs.declared.things.TxnNo.{TxnNo}
-use Rattle.r4_buffer.specs.Changed.{Standing, has_name, in_turn, replaced, unused}
+use Rattle.r4_buffer.specs.Changed.{has_name, in_turn, replaced, unused}
 use Rattle.r4_buffer.specs.Seen.{BufferSeen, EntrySeen, buffered, is_dirty_by}
-use Rattle.r4_cell.specs.Patch.{HaveNames, IsChange, Patch, by_name, over, patch_of, place, root_after, root_of_pair}
+use Rattle.r4_cell.specs.Patch.{HaveNames, IsChange, Patch, by_name, over, patch_of, place, root_of_pair}
 use Rattle.r4_cell.specs.Seen.{CellSeen, node_of}
 use Rattle.r4_cell.specs.declared.change.Root.{Root as RootPair}
 use Rattle.r4_content.specs.Counts.{born, gone}
@@ -58,7 +58,7 @@ use Rattle.r4_done.specs.Doing.{HasCaptured}
 use Rattle.r4_done.proofs.DoneNames.{not_found}
 use Rattle.r4_done.proofs.DoneTables.{is_touched}
 use Rattle.r4_done.proofs.Dropped.{TurnsDrop}
-use Rattle.r4_done.proofs.Named.{has_one, number_of, one_named}
+use Rattle.r4_done.proofs.Named.{number_of, one_named}
 use Rattle.r4_done.proofs.Replaced.{dirty_then, entries_then, none_before}
 
 -- the session once a command is done by this change

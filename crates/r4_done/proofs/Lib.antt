@@ -11,3 +11,4 @@ pub mod DoneAccounts
 pub mod DoneNames
 pub mod DoneCells
 pub mod DoneMeaning
+pub mod Done
