@@ -1,7 +1,7 @@
--- What changes of a core as a task is done inside of a transaction.
-use Rattle.std.specs.Prelude.{◌≡◌, ◌⊎◌, ◌+◌, ◌<◌, ◌≤◌, ◌&&◌, ◌||◌, ℕ, Contains, List, Option, Some, None}
+-- What changes of a core as a task is done.
+use Rattle.std.specs.Prelude.{◌≡◌, ◌⊎◌, ◌+◌, ◌<◌, ◌≤◌, ◌||◌, ℕ, Contains, Some, None}
 use Rattle.std.specs.Option.{unwrap_or}
-use Rattle.r4_atoms.specs.Atoms.{IsBegun, IsOpenAtom, account_of, atom_of, state_of, with_state}
+use Rattle.r4_atoms.specs.Atoms.{AtomsSeen, IsBegun, IsOpenAtom, account_of, atom_of, state_of, with_state}
 use Rattle.r4_atoms.specs.declared.things.Account.{Account}
 use Rattle.r4_base.specs.declared.things.AtomNo.{AtomNo}
 use Rattle.r4_base.specs.declared.things.ScriptNo.{ScriptNo}
@@ -16,13 +16,14 @@ use Rattle.r4_content.specs.Meaning.{with_id}
 use Rattle.r4_content.specs.declared.command.Command.{Command}
 use Rattle.r4_content.specs.declared.reply.Reply.{Reply}
 use Rattle.r4_history.specs.Held.{IsOut}
-use Rattle.r4_history.specs.Tables.{Stands, inside}
+use Rattle.r4_history.specs.Tables.{Stands, with_ended}
 use Rattle.r4_locks.specs.Locks.{AreHolds, OthersAsBefore, task_at}
 use Rattle.r4_patch.specs.Joining.{ids_of, patch_of_change}
 use Rattle.r4_trace.specs.Job.{IsWork}
-use Rattle.r4_trace.specs.declared.entry.Entry.TheVariants.{Done}
-use Rattle.r4_turns.specs.Turns.{answered_at, answered_one, dropped}
+use Rattle.r4_trace.specs.declared.entry.Entry.TheVariants.{Done, Ended}
+use Rattle.r4_turns.specs.Turns.{answered_at, answered_one, dropped, left}
 use Rattle.r4_turns.specs.declared.out.Out.{Out}
+use Rattle.r4_turns.specs.declared.turn.Open.{Open}
 use Rattle.r4_kept.specs.Steps.{with_entry}
 use Rattle.r4_kept.specs.View.{CoreSeen, blocks_of, root_seen}
 use Rattle.r4_done.specs.Doing.{HasCaptured, HasCharged, IsCount}
@@ -38,37 +39,37 @@ pub record IsChangeOf {D : Type 0} (c : CoreSeen D) (out : Out) (change : Change
   pub all : MeetsAll c.buffer (blocks_of c) (root_seen c.tree) (patch_of_change change)
   pub low : (x : RootPair) → change.root ≡ Some x → x.height ≤ 8
 
--- The task is that of a script's next command, inside of this transaction of this atom, which is
--- open.
+-- The task is that of a script's next command, in its transaction of this atom, which is open.
 pub record CanBeDone
-    {D : Type 0} (c : CoreSeen D) (s : ScriptNo) (u : TxnNo) (out : Out) (x : Command) (a : AtomNo)
-    : Type 0
+    {D : Type 0} (c : CoreSeen D) (s : ScriptNo) (within : Open) (out : Out) (x : Command)
+    (a : AtomNo) : Type 0
   where
     pub out_is : IsOut c.turns s.0 out
     pub sound : c.broken ≡ None
     pub command : Command
     pub work : IsWork command
     pub made : x ≡ with_id out.numbers.oid command
-    pub stands : Stands c.turns s.0 (Some (inside u)) (Some command)
-    pub txn : out.txn ≡ u
-    pub begun : IsBegun c.atoms u.0
-    pub own : atom_of c.atoms u.0 ≡ a.0
+    pub stands : Stands c.turns s.0 (Some within) (Some command)
+    pub txn : out.txn ≡ within.txn
+    pub begun : IsBegun c.atoms within.txn.0
+    pub own : atom_of c.atoms within.txn.0 ≡ a.0
     pub opened : IsOpenAtom c.atoms a.0
     pub holds : AreHolds c.locks
     pub lawful : IsLawful c.buffer
 
--- It is done by this change, with this reply, and the atom has this account then, with at most one
--- object more and one that is gone. All else is as it was.
-pub record HasDone
-    {D : Type 0} (old new : CoreSeen D) (s : ScriptNo) (u : TxnNo) (out : Out) (x : Command)
-    (reply : Reply) (change : Change) (a : AtomNo) (account : Account) : Type 0
+-- What locks, cells in memory, the space and this table of atoms have once the change is made: the
+-- task holds nothing; and the atom has this account, with at most one object more and one that is
+-- gone.
+pub record HasPut
+    {D : Type 0} (old new : CoreSeen D) (atoms : AtomsSeen) (out : Out) (change : Change)
+    (a : AtomNo) (account : Account) : Type 0
   where
     pub gone : task_at new.locks out.task.0 ≡ None
     pub others : OthersAsBefore old.locks new.locks out.task.0
-    pub txns : new.atoms.txns ≡ old.atoms.txns
-    pub states : new.atoms.atoms
+    pub txns : atoms.txns ≡ old.atoms.txns
+    pub states : atoms.atoms
         ≡ (with_state old.atoms a.0 (record (state_of old.atoms a.0) { account = account })).atoms
-    pub captured : HasCaptured old.atoms new.atoms a.0
+    pub captured : HasCaptured old.atoms atoms a.0
         (λ n. has_name change.old n || has_name change.new n) account out.cells
     pub cells : (i : ℕ) → buffered new.buffer i
         ≡ in_turn unused out.pins i (replaced change.old change.new i (buffered old.buffer i))
@@ -78,6 +79,13 @@ pub record HasDone
     pub counts : IsCount old.buffer change.old change.new (account_of old.atoms a.0) account
     pub one_made : account.born ≤ (account_of old.atoms a.0).born + 1
     pub one_gone : account.gone ≤ (account_of old.atoms a.0).gone + 1
+
+-- It is done by this change inside of a transaction, and the trace tells it. All else is as it was.
+pub record HasDone
+    {D : Type 0} (old new : CoreSeen D) (s : ScriptNo) (u : TxnNo) (out : Out) (x : Command)
+    (reply : Reply) (change : Change) (a : AtomNo) (account : Account) : Type 0
+  where
+    pub put : HasPut old new new.atoms out change a account
     pub same : new ≡ record old {
       turns = answered_one (dropped old.turns s.0) s.0;
       locks = new.locks;
@@ -86,4 +94,22 @@ pub record HasDone
       space = new.space;
       tree = unwrap_or change.root old.tree;
       trace = with_entry old.trace (Done u s (answered_at old.turns s.0 + 1) x reply);
+    }
+
+-- So is a single command, and its transaction ends. All else is as it was.
+pub record HasDoneSingle
+    {D : Type 0} (old new : CoreSeen D) (s : ScriptNo) (u : TxnNo) (out : Out) (x : Command)
+    (reply : Reply) (change : Change) (a : AtomNo) (account : Account) : Type 0
+  where
+    pub atoms : AtomsSeen
+    pub put : HasPut old new atoms out change a account
+    pub same : new ≡ record old {
+      turns = left (answered_one (dropped old.turns s.0) s.0) s.0;
+      locks = new.locks;
+      atoms = with_ended atoms u.0;
+      buffer = new.buffer;
+      space = new.space;
+      tree = unwrap_or change.root old.tree;
+      trace = with_entry
+          (with_entry old.trace (Done u s (answered_at old.turns s.0 + 1) x reply)) (Ended u);
     }
