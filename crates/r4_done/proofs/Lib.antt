@@ -12,3 +12,4 @@ pub mod DoneNames
 pub mod DoneCells
 pub mod DoneMeaning
 pub mod Done
+pub mod FromBuilt
