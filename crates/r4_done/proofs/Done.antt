@@ -1,13 +1,14 @@
 -- A task is done: what holds of a core holds still.
 use Rattle.std.proofs.Common.{◌≡◌, ◌≢◌, ⊎_elim, ℕ, ◌+◌, ◌≤◌, ◌==◌, true, false, cond, List, [], ◌∷◌}
-use Rattle.std.proofs.Common.{Option, Some, None, Contains, get_or, option_map, ◌-◌, refl, sym, ◌∙◌, ap, subst, arith}
+use Rattle.std.proofs.Common.{Option, Some, None, Contains, get_or, length, option_map, ◌-◌, refl, sym, ◌∙◌, ap, subst, arith}
 use Rattle.std.specs.Prelude.{IsSome, nat_eq}
 use Rattle.std.specs.List.{AllByRecursion, IsDistinct}
 use Rattle.std.specs.Option.{unwrap_or}
 use Rattle.std.proofs.lemmas.Bool.{cond-true, eq-eqb, ne_eqb, or_cases}
 use Rattle.std.proofs.lemmas.List.Elements.{Contains-append_right}
 use Rattle.std.proofs.lemmas.Map.Keys.{IsDistinct-cons}
-use Rattle.r4_atoms.specs.Atoms.{AtomsSeen, account_of, atom_of, is_sealed, new_atom, numbers, owner_of, state_of}
+use Rattle.r4_atoms.specs.Atoms.{AtomsSeen, TxnSeen, account_of, atom_of, is_sealed, new_atom, no_txn, numbers}
+use Rattle.r4_atoms.specs.Atoms.{owner_of, state_of, with_state}
 use Rattle.r4_atoms.specs.declared.things.Account.{Account}
 use Rattle.r4_atoms.specs.declared.things.AtomState.{AtomState}
 use Rattle.r4_base.specs.declared.things.AtomNo.{AtomNo}
@@ -29,6 +30,7 @@ use Rattle.r4_history.specs.Drawn.{numbers_in, numbers_of}
 use Rattle.r4_history.specs.Held.{IsOut, IsServed, names_of, need_of, nodes_of}
 use Rattle.r4_history.specs.Tables.{Stands, inside, single, with_ended}
 use Rattle.r4_history.specs.Told.{HasReply}
+use Rattle.r4_history.proofs.RunSteps.{open_in_both}
 use Rattle.r4_outside.specs.Device.{State, TellsCrashes}
 use Rattle.r4_patch.specs.Joining.{ids_of, patch_of_change}
 use Rattle.r4_patch.proofs.Members.{Distinct, distinct, here, later}
@@ -52,7 +54,7 @@ use Rattle.r4_kept.specs.Steps.{with_entry}
 use Rattle.r4_kept.specs.Story.{Story}
 use Rattle.r4_kept.specs.View.{CoreSeen, tables_of}
 use Rattle.r4_kept.proofs.Carried.{at_told, session_told}
-use Rattle.r4_kept.proofs.States.{state_same}
+use Rattle.r4_kept.proofs.States.{state_others, state_same, state_there}
 use Rattle.r4_done.specs.Doing.{HasCaptured}
 use Rattle.r4_done.specs.Done.{CanBeDone, HasDone, HasDoneSingle, HasPut, IsChangeOf}
 use Rattle.r4_taking.proofs.EndedAtoms.{open_before, same_atom, same_count, same_owner}
@@ -116,11 +118,19 @@ module _ {D : Type 0} (r : Naming) (d : State) (c : CoreSeen D) (k : IsKept r d 
   abbrev e : Entry
   e = Done u s (answered_at c.turns s.0 + 1) x reply
 
+  served : IsServed (tables_of c) s.0 out
+  served = k.tables.tasks.served s.0 out can.out_is
+
   own_out : atom_of c.atoms out.txn.0 ≡ a.0
-  own_out = ap (λ (t : TxnNo). atom_of c.atoms t.0) can.txn ∙ can.own
+  own_out =
+      let same : served.within ≡ within = cc (sym served.transaction ∙ can.stands.transaction) in
+      ap (λ (t : TxnNo). atom_of c.atoms t.0) (sym served.txn ∙ ap (λ (o : Open). o.txn) same) ∙ can.own
 
   own_in : atom_in trace u.0 ≡ a.0
-  own_in = sym ((k.history.told None tt).atoms.atom u.0 can.begun) ∙ can.own
+  own_in =
+      let is_open = open_in_both (commands greatest_size) None d.clock (tables_of c) trace (k.history.told None tt) s.0
+      within can.out_is.is_script can.stands.transaction in
+      sym ((k.history.told None tt).atoms.atom u.0 is_open.0) ∙ can.own
 
   -- ---- the reply
 
@@ -143,8 +153,42 @@ module _ {D : Type 0} (r : Naming) (d : State) (c : CoreSeen D) (k : IsKept r d 
       ap (λ (l : List AtomState). (get_or l (n - 1) new_atom).sealed) put.states
       ∙ state_same c.atoms a.0 (record (state_of c.atoms a.0) { account = account }) (λ (y : AtomState). y.sealed) refl n
 
-  served : IsServed (tables_of c) s.0 out
-  served = k.tables.tasks.served s.0 out can.out_is
+  -- the atom has its account then, and what the change touches
+  abbrev given : AtomState
+  given = record (state_of c.atoms a.0) { account = account }
+
+  account_then : (n : ℕ) → account_of atoms n ≡ account_of (with_state c.atoms a.0 given) n
+  account_then n = ap (λ (l : List AtomState). (get_or l (n - 1) new_atom).account) put.states
+
+  atom_then : (t : ℕ) → atom_of atoms t ≡ atom_of c.atoms t
+  atom_then t = ap (λ (l : List TxnSeen). (get_or l (t - 1) no_txn).atom) put.txns
+
+  count_then : length atoms.txns ≡ length c.atoms.txns
+  count_then = ap (λ (l : List TxnSeen). length l) put.txns
+
+  captured : HasCaptured c.atoms atoms a.0 (is_touched change.old change.new) account out.cells
+  captured = record {
+    owners = put.owners;
+    own = account_then a.0
+        ∙ ap (λ (y : AtomState). y.account)
+        (state_there c.atoms a.0 given can.opened.atom.begun (k.history.told None tt).atoms.states);
+    others = λ n is other.
+        account_then n
+        ∙ ap (λ (y : AtomState). y.account)
+        (state_others c.atoms a.0 given can.opened.atom.begun n is.some other);
+    atoms = atom_then;
+    opens = λ n is. record {
+      atom = record {
+        begun =
+            let e = count_then in
+            record { some = is.atom.begun.some; within = omega (arith, is.atom.begun.within, e) };
+        own = sym (atom_then n) ∙ is.atom.own;
+      };
+      unsealed = sym (seals n) ∙ is.unsealed;
+    };
+    count = count_then;
+    spare = put.captures;
+  }
 
   old_owned : (y : CellSeen) → Contains change.old y → (n : ℕ) → owner_of c.atoms y.id ≡ Some n → n ≡ a.0
   old_owned y there n owned =
@@ -189,7 +233,7 @@ module _ {D : Type 0} (r : Naming) (d : State) (c : CoreSeen D) (k : IsKept r d 
       → is_touched change.old change.new node ≡ false
   spared =
       untouched r d c k s.0 out can.out_is change.old change.new of_it.reached of_it.numbered can.holds new.locks put.gone
-      put.others a.0 atoms put.txns put.captured.owners
+      put.others a.0 atoms put.txns captured.owners
 
   one_more : (n : ℕ) → n + 1 ≤ cond {A = ℕ} (atom_of c.atoms u.0 == a.0) 1 0 + n
   one_more n =
@@ -230,15 +274,15 @@ module _ {D : Type 0} (r : Naming) (d : State) (c : CoreSeen D) (k : IsKept r d 
       history = history_then;
       tables = record {
         tasks = tells_inside r d c k s.0 out can.out_is change.old change.new of_it.reached of_it.numbered can.holds
-            new.locks put.gone put.others a.0 atoms put.txns put.captured.owners;
+            new.locks put.gone put.others a.0 atoms put.txns captured.owners;
         ordered = λ q there. k.tables.ordered q (on.scripts q there);
       };
       accounts = accounts_done r d c k s.0 out turns on a can.opened change.old change.new
           (once change.old of_it.is.old_names) (once change.new of_it.is.new_names) own_dirty new.buffer put.cells
-          put.places account atoms put.captured new.space put.charged put.counts (e ∷ trace) (λ n. omega arith)
+          put.places account atoms captured new.space put.charged put.counts (e ∷ trace) (λ n. omega arith)
           (one_more _) put.one_made put.one_gone after refl;
       cells = cells_done r d c k s.0 out can.out_is change.old change.new change.root of_it.is of_it.reached
-          of_it.numbered turns on a can.opened own_out atoms put.captured.owners new.buffer can.lawful put.cells
+          of_it.numbered turns on a can.opened own_out atoms captured.owners new.buffer can.lawful put.cells
           of_it.all of_it.low new.space put.count after refl;
       tasks = tasks_done r d c k s.0 out can.out_is change.old change.new of_it.reached of_it.numbered turns on
           new.buffer put.cells after refl;
@@ -247,13 +291,13 @@ module _ {D : Type 0} (r : Naming) (d : State) (c : CoreSeen D) (k : IsKept r d 
           (let y = right b named in
           record {
             story = story_done r d c k s out change.old change.new change.root of_it.is turns on u
-                (answered_at c.turns s.0 + 1) x reply a can.opened own_in account atoms put.captured seals new.buffer
+                (answered_at c.turns s.0 + 1) x reply a can.opened own_in account atoms captured seals new.buffer
                 put.cells spared new.space legal b named y.built y.made y.took;
             means = meaning_done r d c k s out change.old change.new change.root of_it.is turns on u
-                (answered_at c.turns s.0 + 1) x reply a can.opened own_in account atoms put.captured seals new.buffer
+                (answered_at c.turns s.0 + 1) x reply a can.opened own_in account atoms captured seals new.buffer
                 put.cells spared new.space legal b named y.built y.made y.took after refl;
             durable = λ t clock crashes. durable_done r d c k s out change.old change.new change.root of_it.is turns on
-                u (answered_at c.turns s.0 + 1) x reply a can.opened own_in account atoms put.captured seals new.buffer
+                u (answered_at c.turns s.0 + 1) x reply a can.opened own_in account atoms captured seals new.buffer
                 put.cells spared new.space legal b named y.built y.made y.took t clock crashes after refl;
           });
     }
@@ -287,13 +331,13 @@ module _ {D : Type 0} (r : Naming) (d : State) (c : CoreSeen D) (k : IsKept r d 
 
     captured_end : HasCaptured c.atoms ended a.0 (is_touched change.old change.new) account out.cells
     captured_end = record {
-      owners = λ n. same_owner atoms u.0 n ∙ put.captured.owners n;
-      own = put.captured.own;
-      others = put.captured.others;
-      atoms = λ t. same_atom atoms u.0 t ∙ put.captured.atoms t;
-      opens = λ n is. put.captured.opens n (open_before atoms u.0 n is);
-      count = same_count atoms u.0 ∙ put.captured.count;
-      spare = put.captured.spare;
+      owners = λ n. same_owner atoms u.0 n ∙ captured.owners n;
+      own = captured.own;
+      others = captured.others;
+      atoms = λ t. same_atom atoms u.0 t ∙ captured.atoms t;
+      opens = λ n is. captured.opens n (open_before atoms u.0 n is);
+      count = same_count atoms u.0 ∙ captured.count;
+      spare = captured.spare;
     }
 
     history_last : IsHistory r d end
@@ -364,7 +408,7 @@ module _ {D : Type 0} (r : Naming) (d : State) (c : CoreSeen D) (k : IsKept r d 
       history = history_last;
       tables = record {
         tasks = tells_single r d c k s.0 out can.out_is change.old change.new of_it.reached of_it.numbered can.holds
-            new.locks put.gone put.others a.0 atoms put.txns put.captured.owners u.0;
+            new.locks put.gone put.others a.0 atoms put.txns captured.owners u.0;
         ordered = λ q there. k.tables.ordered q (leaves.scripts q there);
       };
       accounts = accounts_done r d c k s.0 out last leaves a can.opened change.old change.new

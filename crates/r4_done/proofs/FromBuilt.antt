@@ -1,5 +1,5 @@
 -- What was built of a task is a change of its cells, and counts at most one object that comes and one that goes.
-use Rattle.std.proofs.Common.{◌≡◌, ◌⊎◌, ◌<◌, ◌≤◌, ◌&&◌, ℕ, Bool, true, false, List, Option, Some, Contains, sym, subst}
+use Rattle.std.proofs.Common.{◌≡◌, ◌⊎◌, ◌<◌, ◌≤◌, ◌&&◌, Bool, true, false, List, Some, Contains, subst}
 use Rattle.std.proofs.Common.{arith, if◌then◌else◌}
 use Rattle.r4_build.specs.Built.{BuiltSeen, IsBuilt, reply_for}
 use Rattle.r4_cell.specs.Seen.{CellSeen}

@@ -1,7 +1,8 @@
 -- What changes of a core as a task is done.
 use Rattle.std.specs.Prelude.{◌≡◌, ◌⊎◌, ◌+◌, ◌<◌, ◌≤◌, ◌||◌, ℕ, Contains, Some, None}
+use Rattle.std.specs.Prelude.{if◌then◌else◌}
 use Rattle.std.specs.Option.{unwrap_or}
-use Rattle.r4_atoms.specs.Atoms.{AtomsSeen, IsBegun, IsOpenAtom, account_of, atom_of, state_of, with_state}
+use Rattle.r4_atoms.specs.Atoms.{AtomsSeen, IsOpenAtom, account_of, atom_of, owner_of, state_of, with_state}
 use Rattle.r4_atoms.specs.declared.things.Account.{Account}
 use Rattle.r4_base.specs.declared.things.AtomNo.{AtomNo}
 use Rattle.r4_base.specs.declared.things.ScriptNo.{ScriptNo}
@@ -26,7 +27,7 @@ use Rattle.r4_turns.specs.declared.out.Out.{Out}
 use Rattle.r4_turns.specs.declared.turn.Open.{Open}
 use Rattle.r4_kept.specs.Steps.{with_entry}
 use Rattle.r4_kept.specs.View.{CoreSeen, blocks_of, root_seen}
-use Rattle.r4_done.specs.Doing.{HasCaptured, HasCharged, IsCount}
+use Rattle.r4_done.specs.Doing.{HasCharged, IsCount}
 use Rattle.r4_done.specs.Meeting.{MeetsAll}
 
 -- The change is one of cells that the task writes, with their names or the task's numbers. It meets
@@ -50,8 +51,6 @@ pub record CanBeDone
     pub work : IsWork command
     pub made : x ≡ with_id out.numbers.oid command
     pub stands : Stands c.turns s.0 (Some within) (Some command)
-    pub txn : out.txn ≡ within.txn
-    pub begun : IsBegun c.atoms within.txn.0
     pub own : atom_of c.atoms within.txn.0 ≡ a.0
     pub opened : IsOpenAtom c.atoms a.0
     pub holds : AreHolds c.locks
@@ -69,8 +68,9 @@ pub record HasPut
     pub txns : atoms.txns ≡ old.atoms.txns
     pub states : atoms.atoms
         ≡ (with_state old.atoms a.0 (record (state_of old.atoms a.0) { account = account })).atoms
-    pub captured : HasCaptured old.atoms atoms a.0
-        (λ n. has_name change.old n || has_name change.new n) account out.cells
+    pub owners : (n : ℕ) → owner_of atoms n
+        ≡ (if has_name change.old n || has_name change.new n then Some a.0 else owner_of old.atoms n)
+    pub captures : old.atoms.spare ≤ atoms.spare + out.cells
     pub cells : (i : ℕ) → buffered new.buffer i
         ≡ in_turn unused out.pins i (replaced change.old change.new i (buffered old.buffer i))
     pub places : old.buffer.spare ≤ new.buffer.spare + out.cells
