@@ -1,4 +1,5 @@
-//! The law of how many objects a command takes away. It is the contract of a function that does nothing.
+//! The law of how many objects a command takes away. It is the contract of a function that does
+//! nothing.
 
 ghost use Rattle.std.specs.Prelude.{◌≤◌};
 ghost use Rattle.r4_content.specs.Counts.{stats_in};

@@ -1,4 +1,5 @@
-//! How many objects a command can take away, on what was seen (docs/commands.md, "Objects born and gone").
+//! How many objects a command can take away, on what was seen (docs/commands.md, "Objects born
+//! and gone").
 #![tactic(auto)]
 
 mod laws;

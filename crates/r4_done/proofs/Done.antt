@@ -1,6 +1,7 @@
 -- A task is done: what holds of a core holds still.
 use Rattle.std.proofs.Common.{◌≡◌, ◌≢◌, ⊎_elim, ℕ, ◌+◌, ◌≤◌, ◌==◌, true, false, cond, List, [], ◌∷◌}
-use Rattle.std.proofs.Common.{Option, Some, None, Contains, get_or, length, option_map, ◌-◌, refl, sym, ◌∙◌, ap, subst, arith}
+use Rattle.std.proofs.Common.{Option, Some, None, Contains, get_or, length, option_map, ◌-◌, refl, sym, ◌∙◌, ap}
+use Rattle.std.proofs.Common.{subst, arith}
 use Rattle.std.specs.Prelude.{IsSome, nat_eq}
 use Rattle.std.specs.List.{AllByRecursion, IsDistinct}
 use Rattle.std.specs.Option.{unwrap_or}
@@ -151,7 +152,8 @@ module _ {D : Type 0} (r : Naming) (d : State) (c : CoreSeen D) (k : IsKept r d 
   seals : (n : ℕ) → is_sealed atoms n ≡ is_sealed c.atoms n
   seals n =
       ap (λ (l : List AtomState). (get_or l (n - 1) new_atom).sealed) put.states
-      ∙ state_same c.atoms a.0 (record (state_of c.atoms a.0) { account = account }) (λ (y : AtomState). y.sealed) refl n
+      ∙ state_same c.atoms a.0 (record (state_of c.atoms a.0) { account = account }) (λ (y : AtomState). y.sealed) refl
+      n
 
   -- the atom has its account then, and what the change touches
   abbrev given : AtomState
@@ -232,8 +234,8 @@ module _ {D : Type 0} (r : Naming) (d : State) (c : CoreSeen D) (k : IsKept r d 
   spared : (q : ℕ) (o : Out) → q ≢ s.0 → IsOut c.turns q o → (node : ℕ) → Contains (nodes_of (need_of o)) node
       → is_touched change.old change.new node ≡ false
   spared =
-      untouched r d c k s.0 out can.out_is change.old change.new of_it.reached of_it.numbered can.holds new.locks put.gone
-      put.others a.0 atoms put.txns captured.owners
+      untouched r d c k s.0 out can.out_is change.old change.new of_it.reached of_it.numbered can.holds new.locks
+      put.gone put.others a.0 atoms put.txns captured.owners
 
   one_more : (n : ℕ) → n + 1 ≤ cond {A = ℕ} (atom_of c.atoms u.0 == a.0) 1 0 + n
   one_more n =

@@ -86,7 +86,8 @@ some_named : (cells : List CellSeen) → HaveNames cells → (i : ℕ) → is_so
 some_named cells names i = elim (cases_Bool (has_name cells i)) [
   | inl here ↦
       let (x, has, named) = one_named cells i here in
-      ap is_some (subst (λ (j : ℕ). by_name cells j ≡ Some (node_of x)) named (there cells x (distinct cells names) has))
+      ap is_some (subst (λ (j : ℕ). by_name cells j ≡ Some (node_of x)) named
+      (there cells x (distinct cells names) has))
       ∙ sym here
   | inr not ↦ ap is_some (not_found cells i not) ∙ sym not
 ]

@@ -9,7 +9,8 @@ use Rattle.r4_base.specs.Value.{Value}
 use Rattle.r4_base.specs.declared.things.NodeId.{NodeId}
 use Rattle.r4_buffer.specs.Changed.{Standing, has_name, in_turn, replaced, unused}
 use Rattle.r4_buffer.specs.Reading.{NamesStand}
-use Rattle.r4_buffer.specs.Seen.{BufferSeen, EntrySeen, IsLawful, buffered, is_above_dirty, is_captured, is_captured_by}
+use Rattle.r4_buffer.specs.Seen.{BufferSeen, EntrySeen, IsLawful, buffered, is_above_dirty, is_captured}
+use Rattle.r4_buffer.specs.Seen.{is_captured_by}
 use Rattle.r4_buffer.specs.Seen.{is_dirty_by}
 use Rattle.r4_buffer.proofs.Captured.{captured_is}
 use Rattle.r4_cell.specs.Patch.{IsChange, Patch, by_name, patch_of}
@@ -101,7 +102,8 @@ module _ (d : State) (b now : BufferSeen) (lawful : IsLawful b) (old new : List 
       let named = lawful.named n h.entry h.is in
       ⊎_elim (λ block. absurd (cc (sym (lt-ltb n blocks (subst (λ (j : ℕ). j < blocks) named block.0)) ∙ not)))
       (λ number.
-      ap is_dirty_by h.is ∙ fresh n h.entry h.is (subst (λ (j : ℕ). 2 ^ 63 ≤ j) named number.0)) (names n h.entry h.is).own
+      ap is_dirty_by h.is ∙ fresh n h.entry h.is (subst (λ (j : ℕ). 2 ^ 63 ≤ j) named number.0))
+      (names n h.entry h.is).own
 
   now_dirty : (n : ℕ) → is_dirty_by (buffered b n) ≡ true → (has_name old n ≡ true → has_name new n ≡ true)
       → is_dirty_by (buffered now n) ≡ true
@@ -139,7 +141,8 @@ module _ (d : State) (b now : BufferSeen) (lawful : IsLawful b) (old new : List 
       (λ gone.
       (let (y, there_y, named) = one_named old n.id gone in
       absurd (none-some (node_of y) (sym none
-      ∙ subst (λ (j : ℕ). by_name old j ≡ Some (node_of y)) named (there old y (distinct old is.old_names) there_y)))))))
+      ∙ subst (λ (j : ℕ). by_name old j ≡ Some (node_of y)) named
+      (there old y (distinct old is.old_names) there_y)))))))
       (is.patch.named n (x.id, node_of x, there new x (distinct new is.new_names) has, names_n))
 
   -- and one that was there and captured
@@ -152,7 +155,8 @@ module _ (d : State) (b now : BufferSeen) (lawful : IsLawful b) (old new : List 
       (let (y, there_y, named) = one_named old n.id gone in
       let was : by_name old n.id ≡ Some (node_of y) =
       subst (λ (j : ℕ). by_name old j ≡ Some (node_of y)) named (there old y (distinct old is.old_names) there_y) in
-      let (c, now_c, fit) = still_there p all.tree top is.patch all.part all.meets.meets i (node_of e.cell) (node_of y) n
+      let (c, now_c, fit) = still_there p all.tree top is.patch all.part all.meets.meets i (node_of e.cell) (node_of y)
+      n
       in_tree names_n (not_found old i kept) was in
       has_found new n.id c now_c))
 

@@ -2,7 +2,8 @@
 use Rattle.std.specs.Prelude.{◌≡◌, ◌⊎◌, ◌+◌, ◌<◌, ◌≤◌, ◌||◌, ℕ, Contains, Some, None}
 use Rattle.std.specs.Prelude.{if◌then◌else◌}
 use Rattle.std.specs.Option.{unwrap_or}
-use Rattle.r4_atoms.specs.Atoms.{AtomsSeen, IsOpenAtom, account_of, atom_of, owner_of, state_of, with_state}
+use Rattle.r4_atoms.specs.Atoms.{AtomsSeen, IsOpenAtom, account_of, atom_of, owner_of, state_of}
+use Rattle.r4_atoms.specs.Atoms.{with_state}
 use Rattle.r4_atoms.specs.declared.things.Account.{Account}
 use Rattle.r4_base.specs.declared.things.AtomNo.{AtomNo}
 use Rattle.r4_base.specs.declared.things.ScriptNo.{ScriptNo}
@@ -69,7 +70,8 @@ pub record HasPut
     pub states : atoms.atoms
         ≡ (with_state old.atoms a.0 (record (state_of old.atoms a.0) { account = account })).atoms
     pub owners : (n : ℕ) → owner_of atoms n
-        ≡ (if has_name change.old n || has_name change.new n then Some a.0 else owner_of old.atoms n)
+        ≡ (if has_name change.old n || has_name change.new n then Some a.0
+        else owner_of old.atoms n)
     pub captures : old.atoms.spare ≤ atoms.spare + out.cells
     pub cells : (i : ℕ) → buffered new.buffer i
         ≡ in_turn unused out.pins i (replaced change.old change.new i (buffered old.buffer i))
