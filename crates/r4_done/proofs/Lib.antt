@@ -13,3 +13,4 @@ pub mod DoneCells
 pub mod DoneMeaning
 pub mod Done
 pub mod FromBuilt
+pub mod DoneRun
