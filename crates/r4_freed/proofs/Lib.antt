@@ -1,1 +1,2 @@
 pub mod FreedSpace
+pub mod Following
