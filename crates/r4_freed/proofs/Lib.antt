@@ -1,0 +1,4 @@
+pub mod FreedSpace
+pub mod Following
+pub mod OwnClaims
+pub mod UsedCells
