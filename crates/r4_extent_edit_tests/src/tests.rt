@@ -6,7 +6,8 @@ use crate::{fill, turn_all};
 use r4_base::{Block, Key, NodeId, put64};
 use r4_cell::{Cell, least, read_cell, top};
 use r4_edit_testing::{
-    LEAF, ROOT, Row, TAIL, TWIG, UNPLACED, ZEROS, byte, empty_leaf, rows, twig_of_holes,
+    LEAF, ROOT, Row, TAIL, TWIG, UNPLACED, ZEROS, byte, empty_leaf, first, rows, twig_of_holes,
+    with,
 };
 use r4_node40::NodeMut;
 use r4_path::append;
@@ -148,5 +149,31 @@ fn a_leaf_goes_for_an_extent(rt: HostRuntime) -> Result<(), Fail> {
         rows(alloc, &change)?.as_slice(),
         [(ROOT, 1, 3998)].as_slice()
     );
+    Ok(())
+}
+
+// The leaf of all keys with two tails: one goes on behind the byte where the range begins, and the
+// other begins behind the range.
+fn leaf_around(alloc: Global) -> Result<Arc<Cell>, Fail> {
+    let bare = [empty_leaf(alloc, LEAF, least(), top())?];
+    let one = [first(&with(alloc, &bare, byte(4000), TAIL, &ZEROS[..200])?)?];
+    first(&with(alloc, &one, byte(12_300), TAIL, &ZEROS[..100])?)
+}
+
+// Of one leaf both ends stay, each in a leaf of its own.
+#[test]
+fn the_middle_of_a_leaf_becomes_an_extent(rt: HostRuntime) -> Result<(), Fail> {
+    let alloc = rt.alloc();
+    let leaf = leaf_around(alloc)?;
+    let mut body = [0; 32];
+    spell_new_blocks(&mut body);
+    let Some(change) = turn_all(alloc, &[leaf], &byte(4096), &body)? else {
+        return Err(Fail::from("the leaf may not be turned"));
+    };
+    assert_eq!(rt;
+        rows(alloc, &change)?.as_slice(),
+        [(LEAF, 1, 3934), (ROOT + 1, 1, 3930), (ROOT, 3, 3906)].as_slice()
+    );
+    assert_eq!(rt; change.old.as_slice().len(), 2);
     Ok(())
 }
