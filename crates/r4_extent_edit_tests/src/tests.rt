@@ -2,7 +2,7 @@
 
 ghost use Rattle.std.specs.Prelude.{◌≡◌, ◌≤◌, length};
 
-use crate::{fill, turn_all};
+use crate::{fill, fill_below, turn_all, turn_below};
 use r4_base::{Block, Key, NodeId, put64};
 use r4_cell::{Cell, least, read_cell, top};
 use r4_edit_testing::{
@@ -54,6 +54,24 @@ fn blocks_are_set_over_holes(rt: HostRuntime) -> Result<(), Fail> {
     for (offset, want) in FILLS {
         let key = least().with_offset(offset);
         let Some(change) = fill(alloc, &twig, &key, &body)? else {
+            return Err(Fail::from("the blocks may not be set there"));
+        };
+        assert_eq!(rt; rows(alloc, &change)?.as_slice(), want);
+        assert!(rt; change.root.is_none());
+    }
+    Ok(())
+}
+
+// In a tree of three levels the same cells come: the root stays.
+#[test]
+fn blocks_are_set_over_holes_below_a_root(rt: HostRuntime) -> Result<(), Fail> {
+    let alloc = rt.alloc();
+    let twig = holes(alloc)?;
+    let mut body = [0; 32];
+    spell_new_blocks(&mut body);
+    for (offset, want) in FILLS {
+        let key = least().with_offset(offset);
+        let Some(change) = fill_below(alloc, &twig, &key, &body)? else {
             return Err(Fail::from("the blocks may not be set there"));
         };
         assert_eq!(rt; rows(alloc, &change)?.as_slice(), want);
@@ -115,6 +133,24 @@ fn three_leaves_become_an_extent(rt: HostRuntime) -> Result<(), Fail> {
         [(LEAF, 1, 1934), (ROOT + 1, 1, 3318), (ROOT, 3, 3906)].as_slice()
     );
     assert_eq!(rt; change.old.as_slice().len(), 4);
+    Ok(())
+}
+
+// In a tree of three levels the same cells come, but for the number: the root stays.
+#[test]
+fn a_leaf_below_a_root_and_a_twig_becomes_an_extent(rt: HostRuntime) -> Result<(), Fail> {
+    let alloc = rt.alloc();
+    let leaf = leaf_around(alloc)?;
+    let mut body = [0; 32];
+    spell_new_blocks(&mut body);
+    let Some(change) = turn_below(alloc, &[leaf], &byte(4096), &body)? else {
+        return Err(Fail::from("the leaf may not be turned"));
+    };
+    assert_eq!(rt;
+        rows(alloc, &change)?.as_slice(),
+        [(LEAF, 1, 3934), (ROOT + 2, 1, 3930), (ROOT, 3, 3906)].as_slice()
+    );
+    assert_eq!(rt; change.old.as_slice().len(), 2);
     Ok(())
 }
 

@@ -6,6 +6,7 @@ ghost use Rattle.std.specs.Arc.{arc_value};
 ghost use Rattle.r4_base.specs.Key.{rank};
 ghost use Rattle.r4_extent_edit_tests.specs.Turned.{AllStand, LieAround};
 
+use crate::raising::raised;
 use r4_base::{Key, Memory};
 use r4_cell::{Cell, Change, Fresh};
 use r4_edit_testing::{ROOT, UNPLACED, are_leaves, are_new_blocks, two_blocks_behind};
@@ -40,6 +41,33 @@ pub fn turn_all(
     let _pieces = pieces_of_cell(alloc, &twig)?;
     let path = [twig];
     let change = turn(alloc, &path, leaves, key, body, &mut few)?;
+    Ok(Some(change))
+}
+
+/// The same in a tree of three levels: over the root there is one more, which has it alone.
+pub fn turn_below(
+    alloc: Global,
+    leaves: &[Arc<Cell>],
+    key: &Key,
+    body: &[u8],
+) -> Result<Option<Change>, Memory> {
+    let Some(end) = two_blocks_behind(key) else {
+        return Ok(None);
+    };
+    if !are_new_blocks(body) || !are_leaves(leaves) || !stand(leaves) {
+        return Ok(None);
+    }
+    if !lie_around(leaves, key, &end) {
+        return Ok(None);
+    }
+    let mut few = Fresh {
+        next: ROOT,
+        end: UNPLACED,
+    };
+    let twig = root_over(alloc, leaves, 1, &mut few)?;
+    let _pieces = pieces_of_cell(alloc, &twig)?;
+    let path = raised(alloc, &twig, &mut few)?;
+    let change = turn(alloc, path.as_slice(), leaves, key, body, &mut few)?;
     Ok(Some(change))
 }
 
