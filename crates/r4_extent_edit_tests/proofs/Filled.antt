@@ -190,13 +190,14 @@ fill_here twig cell ps seen it end same is are same_pieces five new low high beh
       ),
     )
 
-pub fill_raised : (twig cell : CellSeen) (path : List CellSeen) (ps seen : List TwigPiece) (it : Item) (end : ℕ) (f : Fresh)
-    → cell ≡ twig → IsTwigOfHoles twig → IsRaised cell (2 ^ 63 + 1000) path → ArePiecesOf twig ps → seen ≡ ps
-    → it.plugin ≡ 5 → IsNewExtent it → least ≤ rank it.key → end ≤ top → end ≡ rank it.key + 8192
+pub fill_raised : (twig cell : CellSeen) (path : List CellSeen) (ps seen : List TwigPiece) (it : Item) (end : ℕ)
+    (f : Fresh) → cell ≡ twig → IsTwigOfHoles twig → IsRaised cell (2 ^ 63 + 1000) path → ArePiecesOf twig ps
+    → seen ≡ ps → it.plugin ≡ 5 → IsNewExtent it → least ≤ rank it.key → end ≤ top → end ≡ rank it.key + 8192
     → IsBorder (rank it.key) seen → IsBorder end seen → f.next ≡ 2 ^ 63 + 1001 → f.end ≡ 2 ^ 63 + 2000
     → (t : Store Value) × ((r : Root) × IsSetUp t r it f (reverse path))
 fill_raised twig cell path ps seen it end f same is raised are same_pieces five new low high behind one two next stops =
-    let up : IsRaised twig (2 ^ 63 + 1000) path = subst (λ (x : CellSeen). IsRaised x (2 ^ 63 + 1000) path) same raised in
+    let up : IsRaised twig (2 ^ 63 + 1000) path =
+    subst (λ (x : CellSeen). IsRaised x (2 ^ 63 + 1000) path) same raised in
     let all = same_pieces ∙ are.is in
     let here = subst (ArePiecesOf twig) are.is are in
     let first = subst (IsBorder (rank it.key)) all one in
@@ -206,8 +207,8 @@ fill_raised twig cell path ps seen it end f same is raised are same_pieces five 
         high_root up.over,
         subst (λ (p : List CellSeen). IsSetUp (by_name (up.over ∷ (twig ∷ []))) (high_root up.over) it f (reverse p))
             (sym up.cells)
-            (filled_high twig is here up.over up.points it five new low (omega (arith, high, behind)) first second f next
-            stops),
+            (filled_high twig is here up.over up.points it five new low (omega (arith, high, behind)) first second f
+            next stops),
       ),
     )
 

@@ -18,8 +18,10 @@ use Rattle.r4_path.specs.Growing.{IsPathIn}
 use Rattle.r4_path.specs.Nodes.{IsPointingTo}
 use Rattle.r4_path.specs.Steps.{name_of}
 
-module _ (cells : List CellSeen) (twig over : CellSeen) (f : Fresh) (path : IsPathIn (by_name cells) (low_root twig) (twig ∷ []) f)
-    (level : twig.level ≡ 2) (points : IsPointingTo (twig ∷ []) 3 f.next over) (low : 2 ^ 63 ≤ f.next) (some : f.next < f.end)
+module _ (cells : List CellSeen) (twig over : CellSeen) (f : Fresh)
+    (path : IsPathIn (by_name cells) (low_root twig) (twig ∷ []) f)
+    (level : twig.level ≡ 2) (points : IsPointingTo (twig ∷ []) 3 f.next over) (low : 2 ^ 63 ≤ f.next)
+    (some : f.next < f.end)
     (high : f.end ≤ 2 ^ 64) where
   abbrev t : Store Value
   t = by_name cells
@@ -91,7 +93,8 @@ module _ (cells : List CellSeen) (twig over : CellSeen) (f : Fresh) (path : IsPa
         | inl root ↦
             let id = is_next in
             let at = root.0 in
-            absurd (path.free.names n.id (omega (arith, id, at)) (omega (arith, id, at, some)) (n, (i, c, old, h), refl))
+            absurd (path.free.names n.id (omega (arith, id, at)) (omega (arith, id, at, some))
+            (n, (i, c, old, h), refl))
         | inr stands ↦ path.part.named i c d n old h stands
       ]
     ];
@@ -122,7 +125,8 @@ module _ (cells : List CellSeen) (twig over : CellSeen) (f : Fresh) (path : IsPa
           let (n, (j, c, e, h), is) = by in
           elim (cell_is j c e) [
             | inl root ↦
-                let id = ap (λ (m : Name). m.id) (only_twig n (subst (λ (m : Node Value). Contains m.names n) root.1 h)) in
+                let id = ap (λ (m : Name). m.id)
+                (only_twig n (subst (λ (m : Node Value). Contains m.names n) root.1 h)) in
                 not_free twig.id (node_of twig) path.ascends.0 (omega (arith, from, next, id, is))
                 (omega (arith, to, end, id, is))
             | inr old ↦

@@ -178,8 +178,8 @@ module _ (leaf : CellSeen) (more : List CellSeen) (twig : CellSeen) (are : AreLe
     pub high_path : (f : Fresh) → f.next ≡ 2 ^ 63 + 1002 → f.end ≤ 2 ^ 64 - 1
         → IsPathIn (by_name (over ∷ (twig ∷ leaves))) (high_root over) (twig ∷ (over ∷ [])) f
     high_path f next end =
-        raised_path (twig ∷ leaves) twig over wide wide_path points.level_is above (omega arith) (omega arith) (omega arith)
-        f (omega (arith, next)) end
+        raised_path (twig ∷ leaves) twig over wide wide_path points.level_is above (omega arith) (omega arith)
+        (omega arith) f (omega (arith, next)) end
 
     high_beside : AreBeside (by_name (over ∷ (twig ∷ leaves))) twig leaf more
     high_beside = record {
@@ -226,10 +226,10 @@ turn_here (leaf ∷ more) twig ps it end f are stand points pieces five new behi
       (low_root twig, turn_in leaf more twig are stand points here it five new lie f next stops),
     )
 
-pub turn_raised : (cells : List CellSeen) (twig : CellSeen) (path : List CellSeen) (ps : List TwigPiece) (it : Item) (end : ℕ)
-    (f : Fresh) → AreLeaves cells → AllStand cells → IsPointingTo cells 2 (2 ^ 63 + 1000) twig
-    → IsRaised twig (2 ^ 63 + 1001) path → ArePiecesOf twig ps → it.plugin ≡ 5 → IsNewExtent it → end ≡ rank it.key + 8192
-    → LieAround cells (rank it.key) end → f.next ≡ 2 ^ 63 + 1002 → f.end ≡ 2 ^ 63 + 2000
+pub turn_raised : (cells : List CellSeen) (twig : CellSeen) (path : List CellSeen) (ps : List TwigPiece) (it : Item)
+    (end : ℕ) (f : Fresh) → AreLeaves cells → AllStand cells → IsPointingTo cells 2 (2 ^ 63 + 1000) twig
+    → IsRaised twig (2 ^ 63 + 1001) path → ArePiecesOf twig ps → it.plugin ≡ 5 → IsNewExtent it
+    → end ≡ rank it.key + 8192 → LieAround cells (rank it.key) end → f.next ≡ 2 ^ 63 + 1002 → f.end ≡ 2 ^ 63 + 2000
     → (t : Store Value) × ((r : Root) × IsTurnUp t r it cells f (reverse path))
 turn_raised [] twig path ps it end f are stand points up pieces five new behind around next stops = absurd around
 turn_raised (leaf ∷ more) twig path ps it end f are stand points up pieces five new behind around next stops =
@@ -238,13 +238,14 @@ turn_raised (leaf ∷ more) twig path ps it end f are stand points up pieces fiv
       by_name (up.over ∷ (twig ∷ (leaf ∷ more))),
       (
         high_root up.over,
-        subst (λ (p : List CellSeen). IsTurnUp (by_name (up.over ∷ (twig ∷ (leaf ∷ more)))) (high_root up.over) it (leaf ∷ more)
-            f (reverse p)) (sym up.cells)
+        subst (λ (p : List CellSeen). IsTurnUp (by_name (up.over ∷ (twig ∷ (leaf ∷ more)))) (high_root up.over) it
+            (leaf ∷ more) f (reverse p)) (sym up.cells)
             (turn_high leaf more twig are stand points here up.over up.points it five new lie f next stops),
       ),
     )
 
-pub may_be_below : (cells : List CellSeen) (twig : CellSeen) → IsPointingTo cells 2 (2 ^ 63 + 1000) twig → MayBeBelow twig
+pub may_be_below : (cells : List CellSeen) (twig : CellSeen) → IsPointingTo cells 2 (2 ^ 63 + 1000) twig
+    → MayBeBelow twig
 may_be_below cells twig points = record {
   level = points.level_is;
   lo = points.lo;

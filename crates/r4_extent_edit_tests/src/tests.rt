@@ -113,16 +113,21 @@ fn tail_leaf(
     Ok(cell)
 }
 
+// Three leaves of one file, each with a tail.
+fn three_leaves(alloc: Global) -> Result<[Arc<Cell>; 3], Fail> {
+    Ok([
+        tail_leaf(alloc, 0, least(), byte(5000), 2000, &ZEROS[..3000])?,
+        tail_leaf(alloc, 1, byte(5000), byte(9000), 5000, &ZEROS[..4000])?,
+        tail_leaf(alloc, 2, byte(9000), top(), 9000, &ZEROS[..4000])?,
+    ])
+}
+
 // Of the first leaf the bytes before the range stay, of the last one those behind it, in a new
 // leaf.
 #[test]
 fn three_leaves_become_an_extent(rt: HostRuntime) -> Result<(), Fail> {
     let alloc = rt.alloc();
-    let leaves = [
-        tail_leaf(alloc, 0, least(), byte(5000), 2000, &ZEROS[..3000])?,
-        tail_leaf(alloc, 1, byte(5000), byte(9000), 5000, &ZEROS[..4000])?,
-        tail_leaf(alloc, 2, byte(9000), top(), 9000, &ZEROS[..4000])?,
-    ];
+    let leaves = three_leaves(alloc)?;
     let mut body = [0; 32];
     spell_new_blocks(&mut body);
     let Some(change) = turn_all(alloc, &leaves, &byte(4096), &body)? else {
@@ -136,7 +141,25 @@ fn three_leaves_become_an_extent(rt: HostRuntime) -> Result<(), Fail> {
     Ok(())
 }
 
-// In a tree of three levels the same cells come, but for the number: the root stays.
+// In a tree of three levels the same cells come, but for a number: the root stays.
+#[test]
+fn three_leaves_below_a_root_and_a_twig_become_an_extent(rt: HostRuntime) -> Result<(), Fail> {
+    let alloc = rt.alloc();
+    let leaves = three_leaves(alloc)?;
+    let mut body = [0; 32];
+    spell_new_blocks(&mut body);
+    let Some(change) = turn_below(alloc, &leaves, &byte(4096), &body)? else {
+        return Err(Fail::from("the leaves may not be turned"));
+    };
+    assert_eq!(rt;
+        rows(alloc, &change)?.as_slice(),
+        [(LEAF, 1, 1934), (ROOT + 2, 1, 3318), (ROOT, 3, 3906)].as_slice()
+    );
+    assert_eq!(rt; change.old.as_slice().len(), 4);
+    Ok(())
+}
+
+// The same of one leaf.
 #[test]
 fn a_leaf_below_a_root_and_a_twig_becomes_an_extent(rt: HostRuntime) -> Result<(), Fail> {
     let alloc = rt.alloc();

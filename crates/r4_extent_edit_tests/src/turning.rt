@@ -88,7 +88,8 @@ fn stand(leaves: &[Arc<Cell>]) -> bool
 // Whether the range from one key up to another begins in the first of the leaves, and ends in the
 // last.
 fn lie_around(leaves: &[Arc<Cell>], from: &Key, to: &Key) -> bool
-    ensures { IsTrue result → LieAround (map (λ c. arc_value c) leaves.now) (rank from.now) (rank to.now) }
+    ensures { IsTrue result → LieAround (map (λ c. arc_value c) leaves.now) (rank from.now)
+        (rank to.now) }
 {
     if leaves.is_empty() {
         return false;
@@ -100,14 +101,16 @@ fn lie_around(leaves: &[Arc<Cell>], from: &Key, to: &Key) -> bool
 
 // Whether a range from the key on begins in the leaf.
 fn begins_in(leaf: &Cell, key: &Key) -> bool
-    ensures { IsTrue result → (rank leaf.now.lo ≤ rank key.now) × (rank key.now < rank leaf.now.hi) }
+    ensures { IsTrue result → (rank leaf.now.lo ≤ rank key.now)
+        × (rank key.now < rank leaf.now.hi) }
 {
     !key.is_below(leaf.lo()) && key.is_below(leaf.hi())
 }
 
 // Whether a range up to the key ends in the leaf or with it.
 fn ends_in(leaf: &Cell, key: &Key) -> bool
-    ensures { IsTrue result → (rank leaf.now.lo < rank key.now) × (rank key.now ≤ rank leaf.now.hi) }
+    ensures { IsTrue result → (rank leaf.now.lo < rank key.now)
+        × (rank key.now ≤ rank leaf.now.hi) }
 {
     leaf.lo().is_below(*key) && !leaf.hi().is_below(*key)
 }

@@ -34,4 +34,5 @@ set_extent-requires-clause-path c =
     subst (IsRaised (arc_value c.args.twig.now) (2 ^ 63 + 1000)) (ap (map arc_value) (sym c.as_slice-2.ensures.value))
     c.in_ok-path.ensures.path in
     fill_raised c.deref.result.now (arc_value c.args.twig.now) path c.in_ok-pieces.pieces.items c.as_slice.result.now it
-    (rank c.in-Some.end) c.raised.new.fresh (sym c.deref.ensures) is up are seen refl new low high end one two next stops
+    (rank c.in-Some.end) c.raised.new.fresh (sym c.deref.ensures) is up are seen refl new low high end one two
+    next stops
