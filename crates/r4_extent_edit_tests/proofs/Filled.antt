@@ -1,31 +1,40 @@
 -- Holes of a root may be filled.
 use Rattle.std.proofs.Common.{◌≡◌, inl, inr, ℕ, ◌+◌, ◌-◌, ◌/◌, ◌%◌, ◌^◌, slice_index, ◌<◌, ◌≤◌, List, [], ◌∷◌, length}
 use Rattle.std.proofs.Common.{get_or, refl, sym, ap, subst, ◌∙◌, arith}
-use Rattle.std.specs.Prelude.{Contains}
+use Rattle.std.proofs.Math.Dec.{lit<}
+use Rattle.std.specs.Prelude.{Contains, reverse}
 use Rattle.r4_base.specs.Cell.{item_end}
 use Rattle.r4_base.specs.Extents.{blocks_in}
 use Rattle.r4_base.specs.Key.{least, rank, top}
 use Rattle.r4_base.specs.declared.key.Key.{Key}
 use Rattle.r4_base.specs.Node.{Item}
-use Rattle.r4_base.specs.Tree.{Root, Store}
+use Rattle.r4_base.specs.Tree.{Name, Root, Store}
 use Rattle.r4_base.specs.Value.{Value}
 use Rattle.r4_branch.specs.Pieces.{item_pieces, twig_bytes}
 use Rattle.r4_branch.specs.declared.piece.TwigPiece.{TwigPiece}
 use Rattle.r4_branch.proofs.ItemPieces.{bytes_of_item, follow_item, next_of_item}
-use Rattle.r4_cell.specs.Seen.{CellSeen}
+use Rattle.r4_cell.specs.Patch.{by_name}
+use Rattle.r4_cell.specs.Seen.{CellSeen, node_of}
 use Rattle.r4_cell.specs.declared.change.Fresh.{Fresh}
 use Rattle.r4_edit.specs.CutBlocks.{parted_twice, pieces_behind, pieces_below, pieces_between}
+use Rattle.r4_edit.specs.Extents.{AreNewBlocks, item_blocks}
 use Rattle.r4_edit.specs.Splitting.{IsSplitIn}
 use Rattle.r4_edit.proofs.CutParts.{split, twice_bytes}
-use Rattle.r4_edit_testing.specs.Trials.{IsNewExtent, IsTwigOfHoles}
+use Rattle.r4_edit_testing.specs.Trials.{IsNewExtent, IsTwigOfHoles, low_root}
 use Rattle.r4_edit_testing.proofs.HoleTwig.{may_be_parted}
+use Rattle.r4_edit_testing.proofs.RootPart.{root_path}
 use Rattle.r4_edit_testing.proofs.ShortOver.{ends, given, new_blocks}
-use Rattle.r4_extent_edit.specs.Setting.{IsSetIn, set_pieces}
+use Rattle.r4_extent_edit.specs.Setting.{IsSetIn, IsSetUp, set_pieces}
 use Rattle.r4_extent_edit_tests.specs.Borders.{IsAtBorder}
+use Rattle.r4_extent_edit_tests.specs.Raised.{IsRaised, MayBeBelow, high_root}
+use Rattle.r4_extent_edit_tests.proofs.Raised.{raised_path}
 use Rattle.r4_extent_edit.proofs.Between.{over_bytes}
 use Rattle.r4_graft.specs.Splices.{IsBorder}
 use Rattle.r4_graft.proofs.Placed.{first_or_later, not_in_none}
+use Rattle.r4_path.specs.Grafts.{extra_twigs}
 use Rattle.r4_path.specs.Growing.{IsPathIn}
+use Rattle.r4_path.specs.Levels.{IsLongEnough}
+use Rattle.r4_path.specs.Nodes.{IsPointable, IsPointingTo}
 use Rattle.r4_path.specs.TwigPieces.{ArePiecesOf, twig_pieces}
 use Rattle.r4_patch.proofs.Members.{none}
 
@@ -80,11 +89,12 @@ module _ (twig : CellSeen) (is : IsTwigOfHoles twig) (are : ArePiecesOf twig (tw
     root_number = wide_path.root_number;
   }
 
-  filled : (it : Item) → it.plugin ≡ 5 → IsNewExtent it → least ≤ rank it.key → rank it.key + 8192 ≤ top
-      → IsBorder (rank it.key) (twig_pieces twig) → IsBorder (rank it.key + 8192) (twig_pieces twig) → (f : Fresh)
-      → f.next ≡ 2 ^ 63 + 1000 → f.end ≡ 2 ^ 63 + 2000
-      → IsSetIn t r it twig [] f
-  filled it five new low high one two f next end =
+  set_in : (it : Item) → it.plugin ≡ 5 → IsNewExtent it → least ≤ rank it.key → rank it.key + 8192 ≤ top
+      → IsBorder (rank it.key) (twig_pieces twig) → IsBorder (rank it.key + 8192) (twig_pieces twig) → (s : Store Value)
+      (q : Root) (ups : List CellSeen) (f : Fresh) → IsPathIn s q (twig ∷ ups) f
+      → IsLongEnough q (extra_twigs (set_pieces it twig)) twig ups → f.next + length ups ≤ 2 ^ 63 + 1002
+      → f.end ≡ 2 ^ 63 + 2000 → AreNewBlocks s (item_blocks it) f → IsSetIn s q it twig ups f
+  set_in it five new low high one two t r ups f leads enough next end blocks =
       let last = ends it five new in
       let lo = is.lo in
       let hi = is.hi in
@@ -106,9 +116,9 @@ module _ (twig : CellSeen) (is : IsTwigOfHoles twig) (are : ArePiecesOf twig (tw
       let all : twig_bytes (set_pieces it twig) ≤ 9000 = omega (arith, few, bytes, fits, mine, long) in
       record {
         room = record {
-          path = path f next end;
+          path = leads;
           level = is.level;
-          enough = inr in_split.enough;
+          enough = inr enough;
           numbers = omega (arith, all, next, end);
         };
         holes = record {
@@ -121,8 +131,44 @@ module _ (twig : CellSeen) (is : IsTwigOfHoles twig) (are : ArePiecesOf twig (tw
         };
         given = given it five new;
         behind = let fits = new.fits in let count = ap blocks_in new.blocks in omega (arith, fits, count);
-        blocks = new_blocks it five new t wide f wide_path.free refl (omega arith) end;
+        blocks = blocks;
       }
+
+  filled : (it : Item) → it.plugin ≡ 5 → IsNewExtent it → least ≤ rank it.key → rank it.key + 8192 ≤ top
+      → IsBorder (rank it.key) (twig_pieces twig) → IsBorder (rank it.key + 8192) (twig_pieces twig) → (f : Fresh)
+      → f.next ≡ 2 ^ 63 + 1000 → f.end ≡ 2 ^ 63 + 2000
+      → IsSetIn t r it twig [] f
+  filled it five new low high one two f next end =
+      set_in it five new low high one two t r [] f (path f next end) in_split.enough (omega (arith, next)) end
+      (new_blocks it five new t wide f wide_path.free refl (omega arith) end)
+
+  no_name : (n : Name) → Contains (node_of twig).names n → ⊥
+  no_name n at = none n (subst (λ ns. Contains ns n) is.names at)
+
+  low_path : IsPathIn (by_name (twig ∷ [])) (low_root twig) (twig ∷ []) wide
+  low_path = root_path twig [] is.level is.lo is.hi is.node (λ c at. absurd (none c at)) (λ c at. absurd (none c at))
+      (λ c at. absurd (none c at)) (λ n m at same e. absurd (no_name n at)) (λ n at. absurd (no_name n at)) 23
+      (λ n at. absurd (no_name n at)) (let id = is.id in omega (arith, id)) wide numbers
+      (subst IsPointable (sym is.id) (lit< tt, refl))
+
+  module _ (over : CellSeen) (above : IsPointingTo (twig ∷ []) 3 (2 ^ 63 + 1000) over) where
+    high_path : (f : Fresh) → f.next ≡ 2 ^ 63 + 1001 → f.end ≤ 2 ^ 64 - 1
+        → IsPathIn (by_name (over ∷ (twig ∷ []))) (high_root over) (twig ∷ (over ∷ [])) f
+    high_path f next end =
+        raised_path (twig ∷ []) twig over wide low_path is.level above (omega arith) (omega arith) (omega arith) f
+        (omega (arith, next)) end
+
+    filled_high : (it : Item) → it.plugin ≡ 5 → IsNewExtent it → least ≤ rank it.key → rank it.key + 8192 ≤ top
+        → IsBorder (rank it.key) (twig_pieces twig) → IsBorder (rank it.key + 8192) (twig_pieces twig) → (f : Fresh)
+        → f.next ≡ 2 ^ 63 + 1001 → f.end ≡ 2 ^ 63 + 2000
+        → IsSetIn (by_name (over ∷ (twig ∷ []))) (high_root over) it twig (over ∷ []) f
+    filled_high it five new low high one two f next end =
+        let rest : Fresh = record { next = 2 ^ 63 + 1001; end = 2 ^ 64 - 1 } in
+        let free = (high_path rest refl (omega arith)).free in
+        set_in it five new low high one two (by_name (over ∷ (twig ∷ []))) (high_root over) (over ∷ []) f
+        (high_path f next (omega (arith, end)))
+        (inr (refl, (let level = above.level_is in omega (arith, level)))) (omega (arith, next)) end
+        (new_blocks it five new (by_name (over ∷ (twig ∷ []))) rest f free refl (omega arith) end)
 
 pub fill_here : (twig cell : CellSeen) (ps seen : List TwigPiece) (it : Item) (end : ℕ) → cell ≡ twig
     → IsTwigOfHoles twig
@@ -143,3 +189,29 @@ fill_here twig cell ps seen it end same is are same_pieces five new low high beh
             (arith, high, behind)) first second f refl refl,
       ),
     )
+
+pub fill_raised : (twig cell : CellSeen) (path : List CellSeen) (ps seen : List TwigPiece) (it : Item) (end : ℕ)
+    (f : Fresh) → cell ≡ twig → IsTwigOfHoles twig → IsRaised cell (2 ^ 63 + 1000) path → ArePiecesOf twig ps
+    → seen ≡ ps → it.plugin ≡ 5 → IsNewExtent it → least ≤ rank it.key → end ≤ top → end ≡ rank it.key + 8192
+    → IsBorder (rank it.key) seen → IsBorder end seen → f.next ≡ 2 ^ 63 + 1001 → f.end ≡ 2 ^ 63 + 2000
+    → (t : Store Value) × ((r : Root) × IsSetUp t r it f (reverse path))
+fill_raised twig cell path ps seen it end f same is raised are same_pieces five new low high behind one two next stops =
+    let up : IsRaised twig (2 ^ 63 + 1000) path =
+    subst (λ (x : CellSeen). IsRaised x (2 ^ 63 + 1000) path) same raised in
+    let all = same_pieces ∙ are.is in
+    let here = subst (ArePiecesOf twig) are.is are in
+    let first = subst (IsBorder (rank it.key)) all one in
+    let second = subst (λ k. IsBorder k (twig_pieces twig)) behind (subst (IsBorder end) all two) in (
+      by_name (up.over ∷ (twig ∷ [])),
+      (
+        high_root up.over,
+        subst (λ (p : List CellSeen). IsSetUp (by_name (up.over ∷ (twig ∷ []))) (high_root up.over) it f (reverse p))
+            (sym up.cells)
+            (filled_high twig is here up.over up.points it five new low (omega (arith, high, behind)) first second f
+            next stops),
+      ),
+    )
+
+pub holes_below : (twig cell : CellSeen) → cell ≡ twig → IsTwigOfHoles twig → MayBeBelow cell
+holes_below twig cell same is = subst MayBeBelow (sym same)
+    (record { level = is.level; lo = is.lo; hi = is.hi; able = subst IsPointable (sym is.id) (lit< tt, refl) })

@@ -1,7 +1,7 @@
 -- A range of leaves of a root may become an extent.
 use Rattle.std.proofs.Common.{◌≡◌, true, lit<, inl, inr, ℕ, ◌+◌, ◌-◌, ◌^◌, ◌<◌, ◌≤◌, List, [], ◌∷◌, length, get_or, map}
 use Rattle.std.proofs.Common.{refl, sym, ap, subst, ◌∙◌, arith}
-use Rattle.std.specs.Prelude.{Contains, Some}
+use Rattle.std.specs.Prelude.{Contains, Some, reverse}
 use Rattle.std.proofs.lemmas.List.Elements.{All-contains}
 use Rattle.r4_base.specs.Cell.{item_end}
 use Rattle.r4_base.specs.Extents.{blocks_in}
@@ -20,7 +20,9 @@ use Rattle.r4_edit_testing.proofs.ShortOver.{ends, given, new_blocks}
 use Rattle.r4_extent_edit.specs.Turning.{AreAround, AreBeside, IsTurnIn, IsTurnUp, last_leaf}
 use Rattle.r4_extent_edit.proofs.TurnEnds.{first_is, last_is}
 use Rattle.r4_extent_edit.proofs.TurnPieces.{turned_bytes}
+use Rattle.r4_extent_edit_tests.specs.Raised.{IsRaised, MayBeBelow, high_root}
 use Rattle.r4_extent_edit_tests.specs.Turned.{AllStand, LieAround, Stands}
+use Rattle.r4_extent_edit_tests.proofs.Raised.{raised_path, stays}
 use Rattle.r4_patch.proofs.Members.{Distinct, cases, later, none, there}
 use Rattle.r4_patch.specs.Joining.{ids_of}
 use Rattle.r4_path.proofs.Grown.{map_names, names_map}
@@ -166,6 +168,51 @@ module _ (leaf : CellSeen) (more : List CellSeen) (twig : CellSeen) (are : AreLe
             };
       }
 
+  abbrev wide : Fresh
+  wide = record { next = 2 ^ 63 + 1001; end = 2 ^ 64 - 1 }
+
+  wide_path : IsPathIn t (low_root twig) (twig ∷ []) wide
+  wide_path = path wide (omega arith)
+
+  module _ (over : CellSeen) (above : IsPointingTo (twig ∷ []) 3 (2 ^ 63 + 1001) over) where
+    pub high_path : (f : Fresh) → f.next ≡ 2 ^ 63 + 1002 → f.end ≤ 2 ^ 64 - 1
+        → IsPathIn (by_name (over ∷ (twig ∷ leaves))) (high_root over) (twig ∷ (over ∷ [])) f
+    high_path f next end =
+        raised_path (twig ∷ leaves) twig over wide wide_path points.level_is above (omega arith) (omega arith)
+        (omega arith) f (omega (arith, next)) end
+
+    high_beside : AreBeside (by_name (over ∷ (twig ∷ leaves))) twig leaf more
+    high_beside = record {
+      follow = beside.follow;
+      named = named;
+      stand = λ c at.
+          stays (twig ∷ leaves) twig over wide wide_path points.level_is above (omega arith) (omega arith) (omega arith)
+          c.id (node_of c) (stands c at);
+    }
+
+    pub turn_high : (it : Item) → it.plugin ≡ 5 → IsNewExtent it → AreAround leaf more (rank it.key) (item_end it)
+        → (f : Fresh) → f.next ≡ 2 ^ 63 + 1002 → f.end ≡ 2 ^ 63 + 2000
+        → IsTurnIn (by_name (over ∷ (twig ∷ leaves))) (high_root over) it leaf more twig (over ∷ []) f
+    turn_high it five new around f next end =
+        let free_from : Fresh = record { next = 2 ^ 63 + 1002; end = 2 ^ 64 - 1 } in
+        let free = (high_path free_from refl (omega arith)).free in
+        record {
+          path = high_path f next (omega (arith, end));
+          level = points.level_is;
+          number = omega (arith, next, end);
+          beside = high_beside;
+          around = around;
+          given = given it five new;
+          behind = let fits = new.fits in let count = ap blocks_in new.blocks in omega (arith, fits, count);
+          blocks = new_blocks it five new (by_name (over ∷ (twig ∷ leaves))) free_from f free refl (omega arith) end;
+          room = λ id right has.
+              let small = turned_bytes twig pieces leaf more beside.follow named it right (given it five new) around in
+              record {
+                enough = inr (inr (refl, (let level = above.level_is in omega (arith, level))));
+                numbers = omega (arith, small, next, end);
+              };
+        }
+
 pub turn_here : (cells : List CellSeen) (twig : CellSeen) (ps : List TwigPiece) (it : Item) (end : ℕ) (f : Fresh)
     → AreLeaves cells
     → AllStand cells → IsPointingTo cells 2 (2 ^ 63 + 1000) twig → ArePiecesOf twig ps → it.plugin ≡ 5 → IsNewExtent it
@@ -178,3 +225,30 @@ turn_here (leaf ∷ more) twig ps it end f are stand points pieces five new behi
       by_name (twig ∷ (leaf ∷ more)),
       (low_root twig, turn_in leaf more twig are stand points here it five new lie f next stops),
     )
+
+pub turn_raised : (cells : List CellSeen) (twig : CellSeen) (path : List CellSeen) (ps : List TwigPiece) (it : Item)
+    (end : ℕ) (f : Fresh) → AreLeaves cells → AllStand cells → IsPointingTo cells 2 (2 ^ 63 + 1000) twig
+    → IsRaised twig (2 ^ 63 + 1001) path → ArePiecesOf twig ps → it.plugin ≡ 5 → IsNewExtent it
+    → end ≡ rank it.key + 8192 → LieAround cells (rank it.key) end → f.next ≡ 2 ^ 63 + 1002 → f.end ≡ 2 ^ 63 + 2000
+    → (t : Store Value) × ((r : Root) × IsTurnUp t r it cells f (reverse path))
+turn_raised [] twig path ps it end f are stand points up pieces five new behind around next stops = absurd around
+turn_raised (leaf ∷ more) twig path ps it end f are stand points up pieces five new behind around next stops =
+    let here = subst (ArePiecesOf twig) pieces.is pieces in
+    let lie = subst (λ (to : ℕ). AreAround leaf more (rank it.key) to) (behind ∙ sym (ends it five new)) around in (
+      by_name (up.over ∷ (twig ∷ (leaf ∷ more))),
+      (
+        high_root up.over,
+        subst (λ (p : List CellSeen). IsTurnUp (by_name (up.over ∷ (twig ∷ (leaf ∷ more)))) (high_root up.over) it
+            (leaf ∷ more) f (reverse p)) (sym up.cells)
+            (turn_high leaf more twig are stand points here up.over up.points it five new lie f next stops),
+      ),
+    )
+
+pub may_be_below : (cells : List CellSeen) (twig : CellSeen) → IsPointingTo cells 2 (2 ^ 63 + 1000) twig
+    → MayBeBelow twig
+may_be_below cells twig points = record {
+  level = points.level_is;
+  lo = points.lo;
+  hi = points.hi;
+  able = subst IsPointable (sym points.number) (lit< tt, refl);
+}

@@ -5,6 +5,7 @@ ghost use Rattle.r4_base.specs.Key.{rank};
 ghost use Rattle.r4_extent_edit_tests.specs.Borders.{IsAtBorder};
 ghost use Rattle.r4_graft.specs.Splices.{IsBorder};
 
+use crate::raising::raised;
 use r4_base::{Key, Memory};
 use r4_branch::TwigPiece;
 use r4_cell::{Cell, Change, Fresh, least, top};
@@ -41,6 +42,35 @@ pub fn fill(
         end: UNPLACED,
     };
     let change = set_extent(alloc, &path, key, body, &mut few)?;
+    Ok(Some(change))
+}
+
+/// The same in a tree of three levels: over the root there is one more, which has it alone.
+pub fn fill_below(
+    alloc: Global,
+    twig: &Arc<Cell>,
+    key: &Key,
+    body: &[u8],
+) -> Result<Option<Change>, Memory> {
+    let Some(end) = two_blocks_behind(key) else {
+        return Ok(None);
+    };
+    if !are_new_blocks(body) || key.is_below(least()) || top().is_below(end) {
+        return Ok(None);
+    }
+    if !is_twig_of_holes(alloc, twig)? {
+        return Ok(None);
+    }
+    let pieces = pieces_of_cell(alloc, twig)?;
+    if !are_at_border(pieces.as_slice(), key) || !are_at_border(pieces.as_slice(), &end) {
+        return Ok(None);
+    }
+    let mut few = Fresh {
+        next: ROOT,
+        end: UNPLACED,
+    };
+    let path = raised(alloc, twig, &mut few)?;
+    let change = set_extent(alloc, path.as_slice(), key, body, &mut few)?;
     Ok(Some(change))
 }
 

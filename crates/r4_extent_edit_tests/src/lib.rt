@@ -3,9 +3,10 @@
 #![tactic(auto)]
 
 mod filling;
+mod raising;
 #[cfg(test)]
 mod tests;
 mod turning;
 
-pub use filling::fill;
-pub use turning::turn_all;
+pub use filling::{fill, fill_below};
+pub use turning::{turn_all, turn_below};

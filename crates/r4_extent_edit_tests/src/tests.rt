@@ -2,11 +2,12 @@
 
 ghost use Rattle.std.specs.Prelude.{◌≡◌, ◌≤◌, length};
 
-use crate::{fill, turn_all};
+use crate::{fill, fill_below, turn_all, turn_below};
 use r4_base::{Block, Key, NodeId, put64};
 use r4_cell::{Cell, least, read_cell, top};
 use r4_edit_testing::{
-    LEAF, ROOT, Row, TAIL, TWIG, UNPLACED, ZEROS, byte, empty_leaf, rows, twig_of_holes,
+    LEAF, ROOT, Row, TAIL, TWIG, UNPLACED, ZEROS, byte, empty_leaf, first, rows, twig_of_holes,
+    with,
 };
 use r4_node40::NodeMut;
 use r4_path::append;
@@ -61,6 +62,24 @@ fn blocks_are_set_over_holes(rt: HostRuntime) -> Result<(), Fail> {
     Ok(())
 }
 
+// In a tree of three levels the same cells come: the root stays.
+#[test]
+fn blocks_are_set_over_holes_below_a_root(rt: HostRuntime) -> Result<(), Fail> {
+    let alloc = rt.alloc();
+    let twig = holes(alloc)?;
+    let mut body = [0; 32];
+    spell_new_blocks(&mut body);
+    for (offset, want) in FILLS {
+        let key = least().with_offset(offset);
+        let Some(change) = fill_below(alloc, &twig, &key, &body)? else {
+            return Err(Fail::from("the blocks may not be set there"));
+        };
+        assert_eq!(rt; rows(alloc, &change)?.as_slice(), want);
+        assert!(rt; change.root.is_none());
+    }
+    Ok(())
+}
+
 #[test]
 fn no_block_is_set_within_another(rt: HostRuntime) -> Result<(), Fail> {
     let alloc = rt.alloc();
@@ -94,16 +113,21 @@ fn tail_leaf(
     Ok(cell)
 }
 
+// Three leaves of one file, each with a tail.
+fn three_leaves(alloc: Global) -> Result<[Arc<Cell>; 3], Fail> {
+    Ok([
+        tail_leaf(alloc, 0, least(), byte(5000), 2000, &ZEROS[..3000])?,
+        tail_leaf(alloc, 1, byte(5000), byte(9000), 5000, &ZEROS[..4000])?,
+        tail_leaf(alloc, 2, byte(9000), top(), 9000, &ZEROS[..4000])?,
+    ])
+}
+
 // Of the first leaf the bytes before the range stay, of the last one those behind it, in a new
 // leaf.
 #[test]
 fn three_leaves_become_an_extent(rt: HostRuntime) -> Result<(), Fail> {
     let alloc = rt.alloc();
-    let leaves = [
-        tail_leaf(alloc, 0, least(), byte(5000), 2000, &ZEROS[..3000])?,
-        tail_leaf(alloc, 1, byte(5000), byte(9000), 5000, &ZEROS[..4000])?,
-        tail_leaf(alloc, 2, byte(9000), top(), 9000, &ZEROS[..4000])?,
-    ];
+    let leaves = three_leaves(alloc)?;
     let mut body = [0; 32];
     spell_new_blocks(&mut body);
     let Some(change) = turn_all(alloc, &leaves, &byte(4096), &body)? else {
@@ -114,6 +138,42 @@ fn three_leaves_become_an_extent(rt: HostRuntime) -> Result<(), Fail> {
         [(LEAF, 1, 1934), (ROOT + 1, 1, 3318), (ROOT, 3, 3906)].as_slice()
     );
     assert_eq!(rt; change.old.as_slice().len(), 4);
+    Ok(())
+}
+
+// In a tree of three levels the same cells come, but for a number: the root stays.
+#[test]
+fn three_leaves_below_a_root_and_a_twig_become_an_extent(rt: HostRuntime) -> Result<(), Fail> {
+    let alloc = rt.alloc();
+    let leaves = three_leaves(alloc)?;
+    let mut body = [0; 32];
+    spell_new_blocks(&mut body);
+    let Some(change) = turn_below(alloc, &leaves, &byte(4096), &body)? else {
+        return Err(Fail::from("the leaves may not be turned"));
+    };
+    assert_eq!(rt;
+        rows(alloc, &change)?.as_slice(),
+        [(LEAF, 1, 1934), (ROOT + 2, 1, 3318), (ROOT, 3, 3906)].as_slice()
+    );
+    assert_eq!(rt; change.old.as_slice().len(), 4);
+    Ok(())
+}
+
+// The same of one leaf.
+#[test]
+fn a_leaf_below_a_root_and_a_twig_becomes_an_extent(rt: HostRuntime) -> Result<(), Fail> {
+    let alloc = rt.alloc();
+    let leaf = leaf_around(alloc)?;
+    let mut body = [0; 32];
+    spell_new_blocks(&mut body);
+    let Some(change) = turn_below(alloc, &[leaf], &byte(4096), &body)? else {
+        return Err(Fail::from("the leaf may not be turned"));
+    };
+    assert_eq!(rt;
+        rows(alloc, &change)?.as_slice(),
+        [(LEAF, 1, 3934), (ROOT + 2, 1, 3930), (ROOT, 3, 3906)].as_slice()
+    );
+    assert_eq!(rt; change.old.as_slice().len(), 2);
     Ok(())
 }
 
@@ -148,5 +208,31 @@ fn a_leaf_goes_for_an_extent(rt: HostRuntime) -> Result<(), Fail> {
         rows(alloc, &change)?.as_slice(),
         [(ROOT, 1, 3998)].as_slice()
     );
+    Ok(())
+}
+
+// The leaf of all keys with two tails: one goes on behind the byte where the range begins, and the
+// other begins behind the range.
+fn leaf_around(alloc: Global) -> Result<Arc<Cell>, Fail> {
+    let bare = [empty_leaf(alloc, LEAF, least(), top())?];
+    let one = [first(&with(alloc, &bare, byte(4000), TAIL, &ZEROS[..200])?)?];
+    first(&with(alloc, &one, byte(12_300), TAIL, &ZEROS[..100])?)
+}
+
+// Of one leaf both ends stay, each in a leaf of its own.
+#[test]
+fn the_middle_of_a_leaf_becomes_an_extent(rt: HostRuntime) -> Result<(), Fail> {
+    let alloc = rt.alloc();
+    let leaf = leaf_around(alloc)?;
+    let mut body = [0; 32];
+    spell_new_blocks(&mut body);
+    let Some(change) = turn_all(alloc, &[leaf], &byte(4096), &body)? else {
+        return Err(Fail::from("the leaf may not be turned"));
+    };
+    assert_eq!(rt;
+        rows(alloc, &change)?.as_slice(),
+        [(LEAF, 1, 3934), (ROOT + 1, 1, 3930), (ROOT, 3, 3906)].as_slice()
+    );
+    assert_eq!(rt; change.old.as_slice().len(), 2);
     Ok(())
 }

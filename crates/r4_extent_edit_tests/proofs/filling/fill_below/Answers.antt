@@ -1,0 +1,38 @@
+use Rattle.std.proofs.Common.{◌≡◌, ◌≤◌, ◌+◌, ◌^◌, map, ap, refl, sym, subst, rules}
+use Rattle.std.specs.Arc.{arc_value}
+use Rattle.r4_base.specs.Key.{least, rank, top}
+use Rattle.r4_cell.specs.declared.change.Fresh.{Fresh}
+use Rattle.r4_edit.specs.Editing.{given_item}
+use Rattle.r4_edit_testing.specs.Trials.{IsNewExtent, IsTwigOfHoles}
+use Rattle.r4_extent_edit_tests.proofs.Filled.{fill_raised, holes_below}
+use Rattle.r4_extent_edit_tests.specs.Raised.{IsRaised}
+use Rattle.r4_graft.specs.Splices.{IsBorder}
+use Rattle.r4_path.specs.TwigPieces.{ArePiecesOf}
+use Rattle.r4_extent_edit_tests.proofs.filling.fill_below.Goals as goal
+
+pub raised-requires-clause-twig : goal.raised-requires-clause-twig
+raised-requires-clause-twig c =
+    let is : IsTwigOfHoles c.deref.result.now = c.in_ok-is_twig_of_holes.ensures c.if-not-branch.false in
+    holes_below c.deref.result.now (arc_value c.args.twig.now) (sym c.deref.ensures) is
+
+pub set_extent-requires-clause-path : goal.set_extent-requires-clause-path
+set_extent-requires-clause-path c =
+    let it = given_item c.args.key.now 5 c.args.body.now in
+    let is : IsTwigOfHoles c.deref.result.now = c.in_ok-is_twig_of_holes.ensures c.if-not-branch.false in
+    let seen : c.as_slice.result.now ≡ c.in_ok-pieces.pieces.items = search rules in
+    let are : ArePiecesOf c.deref.result.now c.in_ok-pieces.pieces.items = search rules in
+    let end : rank c.in-Some.end ≡ rank c.args.key.now + 8192 = search rules in
+    let new : IsNewExtent it = search rules in
+    let low : least ≤ rank c.args.key.now = search rules in
+    let high : rank c.in-Some.end ≤ top = search rules in
+    let one : IsBorder (rank c.args.key.now) c.as_slice.result.now = search rules in
+    let two : IsBorder (rank c.in-Some.end) c.as_slice.result.now = search rules in
+    let next = ap (λ (f : Fresh). f.next) c.in_ok-path.ensures.fresh in
+    let stops = ap (λ (f : Fresh). f.end) c.in_ok-path.ensures.fresh in
+    let path = map arc_value c.as_slice-2.result.now in
+    let up : IsRaised (arc_value c.args.twig.now) (2 ^ 63 + 1000) path =
+    subst (IsRaised (arc_value c.args.twig.now) (2 ^ 63 + 1000)) (ap (map arc_value) (sym c.as_slice-2.ensures.value))
+    c.in_ok-path.ensures.path in
+    fill_raised c.deref.result.now (arc_value c.args.twig.now) path c.in_ok-pieces.pieces.items c.as_slice.result.now it
+    (rank c.in-Some.end) c.raised.new.fresh (sym c.deref.ensures) is up are seen refl new low high end one two
+    next stops
