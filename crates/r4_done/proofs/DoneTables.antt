@@ -57,7 +57,7 @@ module _ {D : Type 0} (r : Naming) (d : State) (c : CoreSeen D) (k : IsKept r d 
       (ap (λ (y : Option Out). numbers_in y (turn_at c.turns s).numbers) here.is_out) is_out z.1
       (omega (arith, from, same)) (omega (arith, to, same)))) (numbered x has)
 
-  untouched : (q : ℕ) (o : Out) → q ≢ s → IsOut c.turns q o → (node : ℕ) → Contains (nodes_of (need_of o)) node
+  pub untouched : (q : ℕ) (o : Out) → q ≢ s → IsOut c.turns q o → (node : ℕ) → Contains (nodes_of (need_of o)) node
       → is_touched old new node ≡ false
   untouched q o other is_out node there =
       false_from_ne_true (is_touched old new node) (λ touched.

@@ -8,3 +8,9 @@ pub mod Beginning
 pub mod Charged
 pub mod DoneCounts
 pub mod DoneAccounts
+pub mod DoneNames
+pub mod DoneCells
+pub mod DoneMeaning
+pub mod Done
+pub mod FromBuilt
+pub mod DoneRun

@@ -51,6 +51,44 @@ module _ (new : List CellSeen) (i : ℕ) (o : Standing) where
   placed_from (x ∷ xs) all p h =
       placed_from xs (λ y c. all y (cons_later x xs y c)) (placed x i p) (one_placed x (all x (cons_here x xs)) p h)
 
+  -- where a new cell has the name, one stands there
+  placed_here : (xs : List CellSeen) → ((x : CellSeen) → Contains xs x → Contains new x) → (p : Standing)
+      → has_name xs i ≡ true → IsPlaced new i (in_turn placed xs i p)
+  placed_here [] all p h = absurd (cc h)
+  placed_here (x ∷ xs) all p h = elim (cases_Bool (x.id == i)) [
+    | inl same ↦
+        let is = cond-true (x.id == i) (Some (record { cell = x; uses = uses_of p; dirty = true })) p same in
+        let one : IsPlaced new i (placed x i p) = subst (IsPlaced new i) (sym is) (record {
+          entry = record { cell = x; uses = uses_of p; dirty = true };
+          is = refl;
+          there = all x (cons_here x xs);
+          named = eqb-true x.id i same;
+          dirty = refl;
+        }) in
+        over xs (λ y c. all y (cons_later x xs y c)) (placed x i p) one
+    | inr not ↦
+        let rest : has_name xs i ≡ true = rw not at h in
+        placed_here xs (λ y c. all y (cons_later x xs y c)) (placed x i p) rest
+  ]
+    where
+      over : (ys : List CellSeen) → ((y : CellSeen) → Contains ys y → Contains new y) → (q : Standing)
+          → IsPlaced new i q → IsPlaced new i (in_turn placed ys i q)
+      over [] all q h = h
+      over (y ∷ ys) all q h = elim (cases_Bool (y.id == i)) [
+        | inl same ↦
+            let is = cond-true (y.id == i) (Some (record { cell = y; uses = uses_of q; dirty = true })) q same in
+            over ys (λ z c. all z (cons_later y ys z c)) (placed y i q) (subst (IsPlaced new i) (sym is) (record {
+              entry = record { cell = y; uses = uses_of q; dirty = true };
+              is = refl;
+              there = all y (cons_here y ys);
+              named = eqb-true y.id i same;
+              dirty = refl;
+            }))
+        | inr not ↦
+            let is = cond-false (y.id == i) (Some (record { cell = y; uses = uses_of q; dirty = true })) q not in
+            over ys (λ z c. all z (cons_later y ys z c)) (placed y i q) (subst (IsPlaced new i) (sym is) h)
+      ]
+
   -- what was there, a new cell, or nothing
   pub replaced_cases : (old : List CellSeen)
       → (replaced old new i o ≡ o) ⊎ (IsPlaced new i (replaced old new i o) ⊎ (replaced old new i o ≡ None))
@@ -133,6 +171,12 @@ pub record IsNewCell (new : List CellSeen) (i : ℕ) (f : EntrySeen) : Type 0 wh
   pub named : f.cell.id ≡ i
   pub dirty : f.dirty ≡ true
 
+-- an entry under a name that is none of an old or a new cell
+pub record Untouched (b : BufferSeen) (old new : List CellSeen) (i : ℕ) (f : EntrySeen) : Type 0 where
+  pub was : Was b i f
+  pub not_new : has_name new i ≡ false
+  pub not_old : has_name old i ≡ false
+
 module _ (b now : BufferSeen) (old new : List CellSeen) (pins : List NodeId)
     (cells : (i : ℕ) → buffered now i ≡ in_turn unused pins i (replaced old new i (buffered b i))) where
   abbrev mid : ℕ → Standing
@@ -158,6 +202,62 @@ module _ (b now : BufferSeen) (old new : List CellSeen) (pins : List NodeId)
           })))
           (λ none. absurd (cc (sym none ∙ is))) rest)
           (replaced_cases new i (buffered b i) old)
+
+  new_by : (i : ℕ) (f : EntrySeen) → buffered now i ≡ Some f → IsPlaced new i (mid i) → IsNewCell new i f
+  new_by i f at p =
+      let h : IsLike (Some p.entry) (Some f) =
+      subst (λ (o : Standing). IsLike o (Some f)) p.is (subst (IsLike (mid i)) at (like_mid i)) in
+      record {
+        there = subst (Contains new) (sym h.cell) p.there;
+        named = ap (λ (x : CellSeen). x.id) h.cell ∙ p.named;
+        dirty = h.dirty ∙ p.dirty;
+      }
+
+  was_by : (i : ℕ) (f : EntrySeen) → buffered now i ≡ Some f → mid i ≡ buffered b i → Was b i f
+  was_by i f at same = by (buffered b i) refl (subst (λ (o : Standing). IsLike o (Some f)) same
+      (subst (IsLike (mid i)) at (like_mid i)))
+    where
+      by : (o : Standing) → buffered b i ≡ o → IsLike o (Some f) → Was b i f
+      by None is h = absurd h
+      by (Some g) is h = record { entry = g; is = is; cell = h.cell; dirty = h.dirty }
+
+  none_then : (i : ℕ) (f : EntrySeen) → buffered now i ≡ Some f → mid i ≡ None → ⊥
+  none_then i f at none =
+      subst (λ (o : Standing). IsLike o (Some f)) none (subst (IsLike (mid i)) at (like_mid i))
+
+  -- a new cell, or an entry under a name that the change does not touch
+  pub entries_then : (i : ℕ) (f : EntrySeen) → buffered now i ≡ Some f → IsNewCell new i f ⊎ Untouched b old new i f
+  entries_then i f at = elim (cases_Bool (has_name new i)) [
+    | inl here ↦
+        inl (new_by i f at (subst (IsPlaced new i) (sym (cond-true (has_name new i) _ _ here))
+        (placed_here new i (buffered b i) new (λ x c. c) (buffered b i) here)))
+    | inr not ↦
+        let rest = cond-false (has_name new i) (in_turn placed new i (buffered b i))
+        (cond (has_name old i) None (buffered b i)) not in
+        elim (cases_Bool (has_name old i)) [
+          | inl gone ↦ absurd (none_then i f at (rest ∙ cond-true (has_name old i) None (buffered b i) gone))
+          | inr stays ↦ inr (record {
+            was = was_by i f at (rest ∙ cond-false (has_name old i) None (buffered b i) stays);
+            not_new = not;
+            not_old = stays;
+          })
+        ]
+  ]
+
+  -- where nothing stands that the change does not touch, nothing stood
+  pub none_before : (i : ℕ) → has_name new i ≡ false → has_name old i ≡ false → buffered now i ≡ None
+      → buffered b i ≡ None
+  none_before i not_new not_old none = by (buffered b i) refl
+    where
+      stays : mid i ≡ buffered b i
+      stays =
+          cond-false (has_name new i) (in_turn placed new i (buffered b i)) (cond (has_name old i) None (buffered b i))
+          not_new ∙ cond-false (has_name old i) None (buffered b i) not_old
+
+      by : (o : Standing) → buffered b i ≡ o → buffered b i ≡ None
+      by None is = is
+      by (Some e) is =
+          absurd (subst (λ (o : Standing). IsLike o None) (stays ∙ is) (subst (IsLike (mid i)) none (like_mid i)))
 
   pub uses_then : (i : ℕ) → uses_of (buffered now i)
       ≤ uses_of (buffered b i) - count_by (λ (n : NodeId). n.0 == i) pins

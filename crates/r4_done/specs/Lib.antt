@@ -1,1 +1,3 @@
 pub mod Doing
+pub mod Meeting
+pub mod Done

@@ -1,0 +1,258 @@
+-- A task is done: the cells in memory.
+use Rattle.std.proofs.Common.{◌≡◌, ◌≢◌, ◌⊎◌, inl, inr, ⊎_elim, ℕ, ◌<◌, ◌≤◌, ◌^◌, true, false, cond, List}
+use Rattle.std.proofs.Common.{Option, Some, None, Contains, refl, sym, ◌∙◌, ap, subst, arith}
+use Rattle.std.specs.Prelude.{◌↔◌, IsSome, option_map}
+use Rattle.std.specs.Option.{unwrap_or}
+use Rattle.std.proofs.lemmas.Bool.{cases_Bool, cond-false, cond-true, or_cases, or_right}
+use Rattle.std.proofs.lemmas.List.Elements.{Contains-append_right}
+use Rattle.r4_atoms.specs.Atoms.{AtomsSeen, IsOpenAtom, atom_of, numbers, owner_of}
+use Rattle.r4_base.proofs.Members.{no_member}
+use Rattle.r4_base.specs.declared.things.AtomNo.{AtomNo}
+use Rattle.r4_buffer.specs.Changed.{has_name, in_turn, replaced, unused}
+use Rattle.r4_buffer.specs.Seen.{BufferSeen, EntrySeen, IsLawful, buffered}
+use Rattle.r4_cell.specs.Patch.{IsChange, patch_of, root_of_pair}
+use Rattle.r4_cell.specs.Seen.{CellSeen}
+use Rattle.r4_cell.specs.declared.change.Root.{Root as RootPair}
+use Rattle.r4_commit.specs.Planned.{CommitSeen}
+use Rattle.r4_content.specs.Locality.{commands}
+use Rattle.r4_content.specs.Meaning.{greatest_size}
+use Rattle.r4_history.specs.Drawn.{numbers_in}
+use Rattle.r4_history.specs.Held.{IsOut, IsServed, names_of}
+use Rattle.r4_history.proofs.RunSteps.{commit_is}
+use Rattle.r4_outside.specs.Device.{State}
+use Rattle.r4_patch.proofs.Placed.{rises}
+use Rattle.r4_space.specs.Space.{Space}
+use Rattle.r4_turns.specs.Turns.{TurnsSeen, turn_at}
+use Rattle.r4_turns.specs.declared.out.Out.{Out}
+use Rattle.r4_kept.specs.Cells.{AreCells, FitsCommit, HasNames, IsAccepted, IsName, IsWriting, IsWritingOf}
+use Rattle.r4_kept.specs.Kept.{IsKept}
+use Rattle.r4_kept.specs.Naming.{Naming}
+use Rattle.r4_kept.specs.TasksOut.{WereDrawn}
+use Rattle.r4_kept.specs.View.{CoreSeen, blocks_of, committing, root_seen, tables_of}
+use Rattle.r4_kept.specs.declared.parts.Commit.{Commit}
+use Rattle.r4_taking.proofs.Fused.{sealed_differs}
+use Rattle.r4_done.specs.Meeting.{MeetsAll}
+use Rattle.r4_done.proofs.DoneNames.{found_name, names_done, readable_done}
+use Rattle.r4_done.proofs.DoneTables.{is_touched}
+use Rattle.r4_done.proofs.DoneTasks.{AreNumbered}
+use Rattle.r4_done.proofs.Dropped.{TurnsDrop}
+use Rattle.r4_done.proofs.Named.{has_one, number_of, one_named, one_of_ids}
+use Rattle.r4_done.proofs.Replaced.{IsNewCell, Untouched, entries_then}
+
+module _ {D : Type 0} (r : Naming) (d : State) (c : CoreSeen D) (k : IsKept r d c) (s : ℕ) (out : Out)
+    (here : IsOut c.turns s out) (old new : List CellSeen) (root : Option RootPair) (is : IsChange old new root)
+    (reached : (x : CellSeen) → Contains old x → Contains out.writes x)
+    (numbered : AreNumbered old new out.numbers) (turns : TurnsSeen) (on : TurnsDrop c.turns turns s out)
+    (a : AtomNo) (opened : IsOpenAtom c.atoms a.0) (own : atom_of c.atoms out.txn.0 ≡ a.0) (atoms : AtomsSeen)
+    (owners : (n : ℕ) → owner_of atoms n ≡ cond (is_touched old new n) (Some a.0) (owner_of c.atoms n))
+    (buffer : BufferSeen) (lawful : IsLawful c.buffer)
+    (cells : (i : ℕ) → buffered buffer i ≡ in_turn unused out.pins i (replaced old new i (buffered c.buffer i)))
+    (all : MeetsAll c.buffer (blocks_of c) (root_seen c.tree) (patch_of old new root))
+    (low : (x : RootPair) → root ≡ Some x → x.height ≤ 8) where
+  abbrev blocks : ℕ
+  blocks = blocks_of c
+
+  abbrev next : ℕ
+  next = c.numbers.next_name
+
+  drawn : WereDrawn next out.numbers
+  drawn =
+      k.tasks.drawn s out.numbers here.is_script
+      (ap (λ (o : Option Out). numbers_in o (turn_at c.turns s).numbers) here.is_out)
+
+  had : (x : CellSeen) → Contains old x → HasNames blocks next x
+  had x has = k.cells.reached_names s out x here (Contains-append_right out.reads out.writes x (reached x has))
+
+  entries : (i : ℕ) (f : EntrySeen) → buffered buffer i ≡ Some f
+      → IsNewCell new i f ⊎ Untouched c.buffer old new i f
+  entries = entries_then c.buffer buffer old new out.pins cells
+
+  -- ---- names
+
+  names_then : (i : ℕ) (f : EntrySeen) → buffered buffer i ≡ Some f → HasNames blocks next f.cell
+  names_then i f at =
+      ⊎_elim (λ y. names_done blocks next old new root is out.numbers drawn numbered had f.cell y.there)
+      (λ u. subst (HasNames blocks next) (sym u.was.cell) (k.cells.buffered_names i u.was.entry u.was.is))
+      (entries i f at)
+
+  root_name : IsName blocks next (unwrap_or root c.tree).id.0
+  root_name = by root refl
+    where
+      by : (o : Option RootPair) → root ≡ o → IsName blocks next (unwrap_or o c.tree).id.0
+      by None none = k.cells.root
+      by (Some x) some =
+          let top = is.patch.new_root (root_of_pair x) (ap (λ (o : Option RootPair). option_map root_of_pair o) some) in
+          found_name blocks next old new root is out.numbers drawn numbered had x.id.0 top.node top.is
+
+  root_height : (2 ≤ (unwrap_or root c.tree).height) × ((unwrap_or root c.tree).height ≤ 8)
+  root_height = by root refl
+    where
+      by : (o : Option RootPair) → root ≡ o → (2 ≤ (unwrap_or o c.tree).height) × ((unwrap_or o c.tree).height ≤ 8)
+      by None none = k.cells.height
+      by (Some x) some =
+          let more : c.tree.height ≤ x.height =
+          rises (patch_of old new root) all.tree (root_seen c.tree) is.patch all.part all.meets.meets (root_of_pair x)
+          (ap (λ (o : Option RootPair). option_map root_of_pair o) some) in
+          let two = k.cells.height.0 in
+          (omega (arith, more, two), low x some)
+
+  -- ---- owners
+
+  owned_new : (i : ℕ) → is_touched old new i ≡ true → owner_of atoms i ≡ Some a.0
+  owned_new i hit = owners i ∙ cond-true (is_touched old new i) (Some a.0) (owner_of c.atoms i) hit
+
+  owned_still : (i : ℕ) → is_touched old new i ≡ false → owner_of atoms i ≡ owner_of c.atoms i
+  owned_still i miss = owners i ∙ cond-false (is_touched old new i) (Some a.0) (owner_of c.atoms i) miss
+
+  new_touched : (i : ℕ) (f : EntrySeen) → IsNewCell new i f → is_touched old new i ≡ true
+  new_touched i f y =
+      or_right (has_name old i) (has_name new i)
+      (subst (λ (j : ℕ). has_name new j ≡ true) y.named (has_one new f.cell y.there))
+
+  untouched : (i : ℕ) (f : EntrySeen) → Untouched c.buffer old new i f → is_touched old new i ≡ false
+  untouched i f u = rw (u.not_old, u.not_new) refl
+
+  dirty_then : (i : ℕ) (f : EntrySeen) → buffered buffer i ≡ Some f → (f.dirty ≡ true) ↔ IsSome (owner_of atoms i)
+  dirty_then i f at = (
+    λ dirty. ⊎_elim (λ y. subst IsSome (sym (owned_new i (new_touched i f y))) refl)
+        (λ u. subst IsSome (sym (owned_still i (untouched i f u)))
+        ((k.cells.dirty i u.was.entry u.was.is).0 (sym u.was.dirty ∙ dirty))) (entries i f at),
+    λ some. ⊎_elim (λ y. y.dirty)
+        (λ u. u.was.dirty ∙ (k.cells.dirty i u.was.entry u.was.is).1
+        (subst IsSome (owned_still i (untouched i f u)) some)) (entries i f at),
+  )
+
+  fresh_then : (i : ℕ) (f : EntrySeen) → buffered buffer i ≡ Some f → 2 ^ 63 ≤ i → f.dirty ≡ true
+  fresh_then i f at high =
+      ⊎_elim (λ y. y.dirty) (λ u. u.was.dirty ∙ k.cells.fresh i u.was.entry u.was.is high) (entries i f at)
+
+  -- ---- the commit that is under way
+
+  module _ (y : Commit) (some : c.commit ≡ Some y) where
+    other : y.atom.0 ≢ a.0
+    other =
+        sealed_differs c.atoms y.atom.0 a.0
+        (commit_is (commands greatest_size) None d.clock (tables_of c) c.trace.entries (k.history.told None tt) y.atom.0
+        (ap committing some)).1 opened.unsealed
+
+    served : IsServed (tables_of c) s out
+    served = k.tables.tasks.served s out here
+
+    fits : FitsCommit d c.buffer blocks (Some y)
+    fits = subst (FitsCommit d c.buffer blocks) some k.cells.commit
+
+    old_free : (x : CellSeen) → Contains old x → owner_of c.atoms x.id ≡ Some y.atom.0 → ⊥
+    old_free x has owned =
+        other (served.owners x.id y.atom.0
+        (Contains-append_right (numbers (names_of out.reads)) (numbers (names_of out.writes)) x.id
+        (number_of out.writes x (reached x has))) owned ∙ own)
+
+    below : (i : ℕ) → Contains (numbers y.nodes) i → i < blocks
+    below i has = by y.work fits
+      where
+        by : (w : Option CommitSeen) → IsWritingOf d c.buffer blocks (numbers y.nodes) w → i < blocks
+        by None none = absurd (no_member i (subst (λ (l : List ℕ). Contains l i) none has))
+        by (Some w) h = h.below i has
+
+    new_free : (x : CellSeen) → Contains new x → owner_of c.atoms x.id ≡ Some y.atom.0 → ⊥
+    new_free x has owned =
+        ⊎_elim
+        (λ of_old.
+        (let z = one_of_ids old x.id of_old in
+        old_free z.0 z.1 (ap (owner_of c.atoms) z.2 ∙ owned)))
+        (λ fresh.
+        (let lt = below x.id ((k.cells.nodes y some x.id).1 owned) in
+        let most = k.cells.super40.blocks.1 in
+        let from = fresh.0 in
+        let least = drawn.least in
+        absurd (omega (arith, lt, most, from, least)))) (numbered x has)
+
+    touched_free : (i : ℕ) → is_touched old new i ≡ true → owner_of c.atoms i ≡ Some y.atom.0 → ⊥
+    touched_free i hit owned =
+        ⊎_elim
+        (λ one. (let x = one_named old i one in old_free x.0 x.1 (ap (owner_of c.atoms) x.2 ∙ owned)))
+        (λ two. (let x = one_named new i two in new_free x.0 x.1 (ap (owner_of c.atoms) x.2 ∙ owned)))
+        (or_cases (has_name old i) (has_name new i) hit)
+
+    nodes_then : (i : ℕ) → Contains (numbers y.nodes) i ↔ (owner_of atoms i ≡ Some y.atom.0)
+    nodes_then i = elim (cases_Bool (is_touched old new i)) [
+      | inl hit ↦ (
+        λ has. absurd (touched_free i hit ((k.cells.nodes y some i).0 has)),
+        λ owned. absurd (other (cc (sym owned ∙ owned_new i hit))),
+      )
+      | inr miss ↦ (
+        λ has. owned_still i miss ∙ (k.cells.nodes y some i).0 has,
+        λ owned. (k.cells.nodes y some i).1 (sym (owned_still i miss) ∙ owned),
+      )
+    ]
+
+    -- a cell of the atom under way was there
+    node_was : (i : ℕ) (f : EntrySeen) → Contains (numbers y.nodes) i → buffered buffer i ≡ Some f
+        → Untouched c.buffer old new i f
+    node_was i f has at =
+        ⊎_elim (λ z. absurd (touched_free i (new_touched i f z) ((k.cells.nodes y some i).0 has))) (λ u. u)
+        (entries i f at)
+
+    writing_then : (w : CommitSeen) → IsWriting d c.buffer blocks (numbers y.nodes) w
+        → IsWriting d buffer blocks (numbers y.nodes) w
+    writing_then w h = record {
+      fits = h.fits;
+      unfinished = h.unfinished;
+      within = h.within;
+      super40 = h.super40;
+      count = h.count;
+      base = h.base;
+      reads = h.reads;
+      apart = λ i p f target at.
+          ⊎_elim (λ z. z.dirty) (λ u. u.was.dirty ∙ h.apart i p u.was.entry target u.was.is) (entries i f at);
+      below = h.below;
+      accepted = λ i f has at.
+          (let u = node_was i f has at in
+          subst (IsAccepted blocks) (sym u.was.cell) (h.accepted i u.was.entry has u.was.is));
+      lands = λ tells i f has at.
+          (let u = node_was i f has at in
+          ap (λ (x : CellSeen). x.block) u.was.cell ∙ h.lands tells i u.was.entry has u.was.is);
+    }
+
+    commit_by : (w : Option CommitSeen) → IsWritingOf d c.buffer blocks (numbers y.nodes) w
+        → IsWritingOf d buffer blocks (numbers y.nodes) w
+    commit_by None none = none
+    commit_by (Some w) h = writing_then w h
+
+  commit_then : FitsCommit d buffer blocks c.commit
+  commit_then = by c.commit refl
+    where
+      by : (o : Option Commit) → c.commit ≡ o → FitsCommit d buffer blocks o
+      by None none = tt
+      by (Some y) some = commit_by y some y.work (fits y some)
+
+  -- ---- the group
+
+  pub cells_done : (space : Space) → space.block_count ≡ c.space.block_count → (after : CoreSeen D)
+      → after ≡ record after {
+        turns = turns;
+        atoms = atoms;
+        buffer = buffer;
+        space = space;
+        tree = unwrap_or root c.tree;
+        numbers = c.numbers;
+        volume = c.volume;
+        commit = c.commit;
+        broken = c.broken;
+      } → AreCells d after
+  cells_done space count after same =
+      let g = k.cells in
+      subst (AreCells d) (sym same) (record {
+        super40 = g.super40;
+        space = count ∙ g.space;
+        root = root_name;
+        height = root_height;
+        buffered_names = names_then;
+        reached_names = λ q o x has. g.reached_names q o x (on.outs q o has).1;
+        dirty = dirty_then;
+        fresh = fresh_then;
+        clean = λ sound. readable_done d c.buffer buffer lawful old new root is out.pins cells blocks next
+            g.buffered_names g.fresh (root_seen c.tree) all (g.clean sound);
+        nodes = nodes_then;
+        commit = commit_then;
+      })
