@@ -1,0 +1,4 @@
+mod OwnedCells
+mod DeferredCells
+mod ChargedCells
+mod CellLists

@@ -1,0 +1,19 @@
+use Rattle.std.proofs.Common.{rules, tests, ◌∙◌}
+use Rattle.std.proofs.lemmas.Iterator.{YieldsList-from_slice}
+use Rattle.std.proofs.lemmas.Iterator.Consumers.{YieldsList-from_filter, count_from_yields_List}
+use Rattle.std.proofs.lemmas.List.Sums.{length-filter}
+use Rattle.std.specs.Arc.{arc_value}
+use Rattle.r4_buffer.specs.Seen.{cells_of}
+use Rattle.r4_accounting.specs.Accounting.{is_fresh_less}
+use Rattle.r4_search.specs.Keeping.{Shared}
+use Rattle.r4_accounting.proofs.CellLists.{count_cells}
+use Rattle.r4_accounting.proofs.counting.less_fresh.Goals as goal
+
+pub returns : goal.returns
+returns c =
+    count_from_yields_List c.filter.result _ c.count.ensures.ran
+    (YieldsList-from_filter _ (λ (x : Shared). is_fresh_less c.args.buffer.now (cells_of c.args.new.now) (arc_value x))
+    (YieldsList-from_slice c.args.old.now cc) c.filter.ensures.closure (λ x r q k. search (rules, tests)))
+    ∙ length-filter (λ (x : Shared). is_fresh_less c.args.buffer.now (cells_of c.args.new.now) (arc_value x))
+    c.args.old.now
+    ∙ count_cells (is_fresh_less c.args.buffer.now (cells_of c.args.new.now)) c.args.old.now

@@ -1,0 +1,11 @@
+//! What becomes of an atom's account, of its cells, and of the space as a command is done
+//! (docs/core.md, "Little steps").
+#![tactic(auto)]
+
+mod counting;
+mod freeing;
+mod owning;
+
+pub use counting::account_after;
+pub use freeing::tell_space;
+pub use owning::take_over;
