@@ -5,6 +5,11 @@ The kit proves the crates that the program stands on, those side by side that do
 time as there are processors, and 4 GiB of free memory for each. Behind out/r4_tool stands out/sources, the folders of
 which it was built: ./r4 looks there alone for what is newer. The program is as old as the beginning of its build, so
 that what is changed meanwhile counts as newer.
+
+How long it takes, in a fresh clone. To see that nothing is newer: 10 to 15 ms, at 909 files in 61 folders; 80 calls, on
+four processors that proved other crates meanwhile, took from 8 to 29. The program alone takes less than 1 of them. It is
+to stay under 50. The first build, with nothing kept, on four idle processors: not measured since its crates are 21. It is
+to end within 8 minutes.
 """
 import os
 import shutil

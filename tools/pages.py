@@ -3,8 +3,9 @@
 
 docs/trust.md lists the definitions on which the promises of the top call rest. They are found by their names in the
 text of specs/: a definition rests on each one of the repository that its own text names, but for its own variables and
-fields. --check looks besides whether each crate has its rows, whether what docs/changing.md names is there, and whether
-each page and section that a source file names is.
+fields. --check looks besides whether each crate has its rows, whether README.md is short and names crates and clauses
+that docs/proved.md tells of, whether what docs/changing.md names is there, and whether each page and section that a
+source file names is.
 """
 import collections
 import glob
@@ -16,6 +17,10 @@ ROOT = os.path.dirname(os.path.dirname(os.path.abspath(__file__)))
 HEAD = re.compile(r"(?:(?:abbrev|unfoldable|opaque) )?(?:pub )?(record |data )?([A-Za-z_][\w']*)")
 WORD = re.compile(r"(?<![\w'.])[A-Za-z_][\w']*")
 IMPORT = re.compile(r"^use Rattle\.(\w+)\.specs\.([\w.]+)\.\{([^}]*)\}", re.M)
+
+# How long README.md may be, and calls that are named as crates are.
+MOST_LINES = 120
+CALLS = {"r4_main"}
 
 # The promises, in reading order: what each says, and the definitions that its clauses cite.
 TOP, DEVICE, REPLAY, MKFS = "r4_top.Answers", "r4_outside.Device", "r4_replay.Replay", "r4_mkfs.Mkfs"
@@ -196,18 +201,34 @@ def read(path):
 
 
 def crates_without_rows():
-    """Crates that a page does not name, and rows of README.md that are too long."""
+    """Crates that a page does not name: docs/proved.md has a row for each, or a line in "Only tested" for one of tests."""
     names = re.findall(r"^(r4_\w+)[^:\n]*:", read("crates.txt"), re.M)
-    pages = {page: read(page) for page in ("README.md", "docs/proved.md", "docs/architecture.md")}
+    pages = {page: read(page) for page in ("docs/proved.md", "docs/architecture.md")}
     for name in names:
+        is_test = name.endswith("_tests") or name.endswith("_testing")
         for page, text in pages.items():
-            is_test = name.endswith("_tests") or name.endswith("_testing")
             wanted = f"`{name}`" if is_test or page == "docs/architecture.md" else f"\n| `{name}` |"
-            if wanted not in text and not (name.endswith("_testing") and page != "docs/architecture.md"):
+            if wanted not in text:
                 yield f"{page} does not tell of {name}"
-    for line in pages["README.md"].split("\n"):
-        if line.startswith("| `r4_") and len(line) > 160:
-            yield f"README.md has a row of {len(line)} characters: {line[:30]}"
+
+
+def readme_faults():
+    """README.md is to be read: its length, that of its rows of crates, and crates and clauses that are not there."""
+    names = re.findall(r"^(r4_\w+)[^:\n]*:", read("crates.txt"), re.M)
+    lines = read("README.md").split("\n")
+    proved = read("docs/proved.md")
+    if len(lines) > MOST_LINES:
+        yield f"README.md has {len(lines)} lines, and {MOST_LINES} are enough"
+    for line in lines:
+        for name in re.findall(r"`(r4_[a-z0-9_]+)`", line):
+            if name not in names and name not in CALLS:
+                yield f"README.md names {name}, which is no crate"
+        if line.startswith("| `r4_"):
+            if len(line) > 160:
+                yield f"README.md has a row of {len(line)} characters: {line[:30]}"
+            for word in re.findall(r"`(\w+)`", line.split("|", 2)[2]):
+                if word not in CALLS and f"`{word}`" not in proved:
+                    yield f"README.md names {word}, of which docs/proved.md does not tell"
 
 
 def has_section(page, section):
@@ -245,7 +266,7 @@ def missing_sections():
 
 
 def check():
-    stale = [*crates_without_rows(), *stale_rules(), *missing_sections()]
+    stale = [*crates_without_rows(), *readme_faults(), *stale_rules(), *missing_sections()]
     if not os.path.exists(f"{ROOT}/docs/trust.md") or read("docs/trust.md") != trust_page():
         stale.append("docs/trust.md is stale: run tools/pages.py")
     for line in stale:

@@ -1,6 +1,6 @@
 -- Shared cells, counted and looked for.
 use Rattle.std.proofs.Common.{◌≡◌, ◌+◌, ◌<◌, ◌||◌, ◌++◌, ℕ, Bool, cond, List, [], ◌∷◌, count_by}
-use Rattle.std.proofs.Common.{get_or, length, take, refl, sym, ◌∙◌, ap}
+use Rattle.std.proofs.Common.{Contains, zero, suc, get_or, length, take, refl, sym, ◌∙◌, ap, arith}
 use Rattle.std.proofs.lemmas.List.{map-append, take_more}
 use Rattle.std.proofs.lemmas.List.Sums.{sum_by-cons}
 use Rattle.std.specs.Arc.{arc_value}
@@ -28,3 +28,7 @@ pub cells_more : (xs : List Shared) (i : ℕ) (d : Shared) → i < length xs
 cells_more xs i d lt =
     ap cells_of (take_more xs i d lt)
     ∙ map-append (λ (x : Shared). arc_value x) (take i xs) (get_or xs i d ∷ [])
+
+pub only_cell : (y x : CellSeen) → Contains (y ∷ []) x → x ≡ y
+only_cell y x (zero, lt, is) = sym is
+only_cell y x (suc k, lt, is) = absurd (omega (arith, lt))

@@ -4,8 +4,12 @@
 
 mod counting;
 mod freeing;
+mod levels;
 mod owning;
+mod putting;
 
 pub use counting::account_after;
 pub use freeing::tell_space;
+pub use levels::levels_law;
 pub use owning::take_over;
+pub use putting::{afford, put_change};

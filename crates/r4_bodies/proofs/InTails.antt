@@ -13,35 +13,12 @@ use Rattle.r4_base.specs.Value.{Value}
 use Rattle.r4_base.specs.Volume.{byte_rank, object_of, stat_rank}
 use Rattle.r4_content.specs.Edited.{Edits, Intervals, Pairs, changed, is_between, is_in}
 use Rattle.r4_content.proofs.EditLaws.{one_key}
+use Rattle.r4_reach.proofs.FirstKeys.{first_is}
 use Rattle.r4_reach.specs.Reach.{is_body}
 use Rattle.r4_reach.specs.Leaves.{LieInLeaves}
 use Rattle.r4_reach.specs.Touched.{Body, IsKindIn, body_key, body_of, grows, has_unit, kind_reads, last_byte, shown_at}
 use Rattle.r4_reach.specs.Touched.{size_in}
 use Rattle.r4_bodies.specs.Told.{AreOfTree}
-
--- ---- the first key
-
-starts : (a b : ℕ) → a < b → is_between a b a ≡ true
-starts a b lt = grind (arith, common_steps)
-
--- the first key of a body is one of the intervals', and is a body's
-pub first_is : (rs : Intervals) (k : ℕ) → body_key rs ≡ Some k → (is_in rs k ≡ true) × (is_body k ≡ true)
-first_is [] k e = absurd cc
-first_is (r ∷ rs) k e = by_test (nat_lt r.0 r.1 && is_body r.0) refl e (first_is rs k)
-  where
-    by_test : (b : Bool) → (nat_lt r.0 r.1 && is_body r.0) ≡ b → (if b then Some r.0 else body_key rs) ≡ Some k
-        → (body_key rs ≡ Some k → (is_in rs k ≡ true) × (is_body k ≡ true))
-        → ((is_between r.0 r.1 k || is_in rs k) ≡ true) × (is_body k ≡ true)
-    by_test true is found rest =
-        let both = and_parts (nat_lt r.0 r.1) (is_body r.0) is in
-        let same = same_Some r.0 k found in
-        let at = starts r.0 r.1 (ltb-true r.0 r.1 both.0) in (
-          or_left (is_between r.0 r.1 k) (is_in rs k) (ap (is_between r.0 r.1) (sym same) ∙ at),
-          ap is_body (sym same) ∙ both.1,
-        )
-    by_test false is found rest =
-        let (at, body) = rest found in
-        (or_right (is_between r.0 r.1 k) (is_in rs k) at, body)
 
 -- ---- keys of a tree
 

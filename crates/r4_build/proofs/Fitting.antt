@@ -1,26 +1,28 @@
 -- The parts of trees on which what was built fits.
 use Rattle.std.proofs.Common.{◌≡◌, inl, inr, ◌<◌, ◌≤◌, ℕ, sym, ap, subst, ◌∙◌}
-use Rattle.std.specs.Prelude.{None, Some}
+use Rattle.std.specs.Prelude.{Contains, None, Some}
 use Rattle.std.proofs.lemmas.Option.{none-some}
 use Rattle.r4_base.specs.Tree.{Node, Root, Store}
 use Rattle.r4_base.specs.Value.{Value}
 use Rattle.r4_cell.specs.Patch.{Patch}
-use Rattle.r4_cell.specs.Seen.{node_of}
+use Rattle.r4_cell.specs.Seen.{CellSeen, node_of}
 use Rattle.r4_patch.specs.Joining.{patch_of_change}
 use Rattle.r4_patch.specs.Part.{MeetsPart}
 use Rattle.r4_patch.proofs.Members.{distinct, found, there}
-use Rattle.r4_work.specs.Working.{AreCellsIn}
+use Rattle.r4_path.specs.Steps.{IsFree}
 use Rattle.r4_measure.proofs.Loop.{of_id}
 use Rattle.r4_build.specs.Built.{BuiltSeen, HasOldRoot, IsBuilt}
 
-module _ (x : BuiltSeen) (is : IsBuilt x) (t : Store Value) (r : Root) (are : AreCellsIn t r x.task.fresh x.task.writes) (root : HasOldRoot x r) where
+module _ (x : BuiltSeen) (is : IsBuilt x) (t : Store Value) (r : Root)
+    (stand : (c : CellSeen) → Contains x.task.writes c → t c.id ≡ Some (node_of c))
+    (free : IsFree x.task.fresh.next x.task.fresh.end t) (root : HasOldRoot x r) where
   abbrev p : Patch Value
   p = patch_of_change x.change
 
   has_old : (i : ℕ) (c : Node Value) → p.old i ≡ Some c → t i ≡ Some c
   has_old i c e =
       let (y, at, id, says) = found x.change.old i c e in
-      subst (λ j. t j ≡ Some c) id (are.stand y (is.old y at) ∙ ap Some (sym says))
+      subst (λ j. t j ≡ Some c) id (stand y (is.old y at) ∙ ap Some (sym says))
 
   -- a new cell that is no old one has one of the task's numbers
   new_number : (i : ℕ) (c : Node Value) → p.new i ≡ Some c → p.old i ≡ None → (x.task.fresh.next ≤ i) × (i < x.task.fresh.end)
@@ -38,8 +40,8 @@ module _ (x : BuiltSeen) (is : IsBuilt x) (t : Store Value) (r : Root) (are : Ar
   built_meets = record {
     meets = record {
       has_old = has_old;
-      free = λ i c e gone. let (low, high) = new_number i c e gone in are.free.cells i low high;
+      free = λ i c e gone. let (low, high) = new_number i c e gone in free.cells i low high;
       root_old = root;
     };
-    unnamed = λ i c e gone names. let (low, high) = new_number i c e gone in are.free.names i low high names;
+    unnamed = λ i c e gone names. let (low, high) = new_number i c e gone in free.names i low high names;
   }

@@ -5,7 +5,7 @@ mod Changing
 mod Turns
 mod Origin
 pub mod Made
-mod Contents
+pub mod Contents
 mod Lying
-mod Fitting
+pub mod Fitting
 pub mod FreshBuilt

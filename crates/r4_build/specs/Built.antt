@@ -1,5 +1,6 @@
 -- What was built of a command, by its task (docs/volume.md, "Building").
 use Rattle.std.specs.Prelude.{◌≡◌, ◌⊎◌, ℕ, ◌<◌, ◌≤◌, ◌&&◌, if◌then◌else◌, Contains, IsSome, Option, Some, length}
+use Rattle.std.specs.Arc.{arc_value}
 use Rattle.r4_base.specs.Tree.{Node, Root, Store}
 use Rattle.r4_base.specs.Value.{Value}
 use Rattle.r4_cell.specs.Patch.{IsChange}
@@ -22,10 +23,10 @@ use Rattle.r4_build.specs.declared.task.Task.{Task}
 
 -- the edits and the reply that the task's command means, on what was seen
 abbrev pub edits_for : Task → Edits
-edits_for task = edits_on task.command (pairs_of task.seen)
+edits_for task = edits_on task.command (pairs_of (arc_value task.seen))
 
 abbrev pub reply_for : Task → Reply
-reply_for task = (ending (course greatest_size task.command) (of_seen (pairs_of task.seen))).reply
+reply_for task = (ending (course greatest_size task.command) (of_seen (pairs_of (arc_value task.seen)))).reply
 
 -- the objects that it makes and takes away (docs/commands.md, "Objects born and gone")
 abbrev pub born_for : Task → ℕ

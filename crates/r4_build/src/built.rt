@@ -1,6 +1,7 @@
 //! A command's change and its reply (docs/volume.md, "Building").
 
 ghost use Rattle.std.specs.Prelude.{◌≡◌, IfOk, MatchResult, Option};
+ghost use Rattle.std.specs.Arc.{arc_value};
 ghost use Rattle.r4_base.specs.Tree.{Root as TreeRoot, Store};
 ghost use Rattle.r4_base.specs.Value.{Value};
 ghost use Rattle.r4_content.specs.Edited.{Intervals};
@@ -99,7 +100,7 @@ impl Built {
 pub fn build<G: Gate>(alloc: Global, gate: &G, task: Task) -> Result<Built, BuildFault>
     requires task { (b : Option Body) × ((reads : Intervals) × ((t : Store Value)
         × ((r : TreeRoot) × IsTaskIn b reads t r task))) }
-    requires rises { Rises (pairs_of task.seen) }
+    requires rises { Rises (pairs_of (arc_value task.seen)) }
     requires suits { SuitLeaves 16384 (edits_for task) }
     ensures { MatchResult result (λ b. b.task ≡ task) (λ e. e.task ≡ task) }
 {
@@ -119,7 +120,7 @@ pub fn build<G: Gate>(alloc: Global, gate: &G, task: Task) -> Result<Built, Buil
 fn parts_of(alloc: Global, task: &Task) -> Result<(Change, Reply, ObjectCounts), Memory>
     requires task { (b : Option Body) × ((reads : Intervals) × ((t : Store Value)
         × ((r : TreeRoot) × IsTaskIn b reads t r task.now))) }
-    requires rises { Rises (pairs_of task.now.seen) }
+    requires rises { Rises (pairs_of (arc_value task.now.seen)) }
     requires suits { SuitLeaves 16384 (edits_for task.now) }
     ensures { IfOk result (λ p. IsBuilt (record {
       task = task.now;

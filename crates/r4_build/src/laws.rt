@@ -1,6 +1,7 @@
 //! Laws of what is built. Each is the contract of a function that does nothing.
 
 ghost use Rattle.std.specs.Prelude.{◌≡◌, ℕ, true, List, Option};
+ghost use Rattle.std.specs.Arc.{arc_value};
 ghost use Rattle.r4_base.specs.Tree.{Root, Store};
 ghost use Rattle.r4_base.specs.Value.{Content, Value};
 ghost use Rattle.r4_base.specs.Volume.{HasUnits};
@@ -70,15 +71,15 @@ pub fn built_changes_fit()
 pub fn what_is_built_is_meant()
     ensures content { (x : BuiltSeen) (t : Store Value) (root : Root) (m : Content) → IsBuilt x
         → IsPart t root → MeetsPart (patch_of_change x.change) t root → HasUnits t m
-        → IsSeen greatest_size x.task.command (pairs_of x.task.seen) m
+        → IsSeen greatest_size x.task.command (pairs_of (arc_value x.task.seen)) m
         → HasUnits (place (patch_of_change x.change) t) (after greatest_size x.task.command m) }
     ensures reply { (x : BuiltSeen) (m : Content) → IsBuilt x
-        → IsSeen greatest_size x.task.command (pairs_of x.task.seen) m
+        → IsSeen greatest_size x.task.command (pairs_of (arc_value x.task.seen)) m
         → x.reply ≡ reply greatest_size x.task.command m }
     ensures born { (x : BuiltSeen) (m : Content) → IsBuilt x
-        → IsSeen greatest_size x.task.command (pairs_of x.task.seen) m
+        → IsSeen greatest_size x.task.command (pairs_of (arc_value x.task.seen)) m
         → x.objects.born ≡ born greatest_size x.task.command m }
     ensures gone { (x : BuiltSeen) (m : Content) → IsBuilt x
-        → IsSeen greatest_size x.task.command (pairs_of x.task.seen) m
+        → IsSeen greatest_size x.task.command (pairs_of (arc_value x.task.seen)) m
         → x.objects.gone ≡ gone greatest_size x.task.command m }
 {}

@@ -3,6 +3,7 @@
 use r4_base::{ScriptNo, TaskId, TxnNo};
 use r4_cell::{Cells, Fresh};
 use r4_content::{Command, Seen};
+use std::sync::Arc;
 
 /// A command of a script with all that it takes to make its change, and no more: the cells that it reads and writes,
 /// what was seen at the keys that it asks for, and numbers for new nodes. So no tree and no lock is needed
@@ -17,7 +18,7 @@ pub struct Task {
     pub command: Command,
     pub reads: Cells,
     pub writes: Cells,
-    pub seen: Seen,
+    pub seen: Arc<Seen>,
     pub fresh: Fresh,
 }
 

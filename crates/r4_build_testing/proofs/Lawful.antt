@@ -13,7 +13,8 @@ use Rattle.r4_leaf_edits.specs.Suiting.{bytes_set, IsBefore, IsLawfulPut, SuitLe
 use Rattle.r4_reach.specs.Touched.{edits_on}
 use Rattle.r4_work.proofs.Remade.{or_true}
 use Rattle.r4_work.proofs.UnitMembers.{between}
-use Rattle.r4_build_testing.specs.Commands.{chmod_file, create_file, file_seen, fresh_seen, set_times, mixed, write_file}
+use Rattle.r4_build_testing.specs.Commands.{chmod_file, create_file, file_seen, fresh_seen, mixed}
+use Rattle.r4_build_testing.specs.Commands.{set_times, write_file}
 use Rattle.r4_build_testing.specs.Small.{AreLawful}
 
 -- what holds of each of a list, one after another

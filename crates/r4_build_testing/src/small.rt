@@ -6,7 +6,8 @@ ghost use Rattle.r4_base.specs.Key.{least};
 ghost use Rattle.r4_base.specs.Value.{Entry, Stat};
 ghost use Rattle.r4_base.specs.Volume.{root_attr, root_object, stat_rank};
 ghost use Rattle.r4_content.specs.Objects.{entry_rank, new_file, sized};
-ghost use Rattle.r4_build_testing.specs.Commands.{file, file_name, file_seen, file_text, fresh_seen};
+ghost use Rattle.r4_build_testing.specs.Commands.{file, file_name, file_seen, file_text};
+ghost use Rattle.r4_build_testing.specs.Commands.{fresh_seen};
 ghost use Rattle.r4_base.specs.Bytes.{number_bytes};
 ghost use Rattle.r4_base.specs.Fresh.{HasOneItem};
 ghost use Rattle.r4_base.specs.Image.{block_at};
@@ -168,7 +169,7 @@ pub fn built<G: Gate>(
         command,
         reads: Cells::new(alloc),
         writes,
-        seen,
+        seen: Arc::new(alloc, seen)?,
         fresh: Fresh {
             next: 9_223_372_036_854_775_808,
             end: 9_223_372_036_854_776_808,

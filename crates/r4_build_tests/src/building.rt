@@ -105,8 +105,8 @@ const ROOT_WITH_FILE: Attr = Attr {
     ..ROOT
 };
 
-// What a test wants to be built: the reply, how many objects come and go, the old cells and the new ones, and what
-// these have of the file.
+// What a test wants to be built: the reply, how many objects come and go, the old cells and the new
+// ones, and what these have of the file.
 #[derive(Drop)]
 struct Wanted {
     reply: &'static str,

@@ -63,6 +63,13 @@ impl Cells {
     {
         self.items.as_slice()
     }
+
+    /// The cells, which are moved and not copied.
+    pub fn into_vec(self) -> Vec<Arc<Cell>>
+        ensures { map (λ cell. arc_value cell) result.items ≡ self }
+    {
+        self.items
+    }
 }
 
 /// A change of a tree: the cells `old` of it are replaced by the cells `new`, and where the root changes, `root` is the

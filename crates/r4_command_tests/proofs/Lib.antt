@@ -1,8 +1,1 @@
-mod Beyond
-mod Examples
-mod FileAlone
-mod GrownOver
-mod Left
-mod Numbers
 mod Rising
-mod TwoFiles

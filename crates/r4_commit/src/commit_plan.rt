@@ -1,6 +1,6 @@
 //! A commit under way.
 
-ghost use Rattle.std.specs.Prelude.{ℕ, ◌≡◌, ◌≢◌, ◌+◌, ◌^◌, ◌<◌, ◌≤◌, OnOk, IfOk, List, true};
+ghost use Rattle.std.specs.Prelude.{ℕ, ◌≡◌, ◌≢◌, ◌+◌, ◌^◌, ◌<◌, ◌≤◌, OnOk, IfOk, List, MatchBool, true};
 ghost use Rattle.r4_base.specs.Image.{Image};
 ghost use Rattle.r4_base.specs.Chain.{Txn};
 ghost use Rattle.r4_base.specs.Value.{Content};
@@ -15,6 +15,7 @@ ghost use Rattle.r4_commit.specs.Planned.{IsPlanFor};
 ghost use Rattle.r4_commit.specs.Plannable.{IsPlannable, is_spoken_for};
 ghost use Rattle.r4_commit.specs.Volumes.{VolumeByPart};
 ghost use Rattle.r4_outside.specs.Device.{Goes, HasCause, Spares, LeavesOnly, Rose};
+ghost use Rattle.r4_wander.specs.Parts.{FallsOn};
 ghost use Rattle.r4_wander.specs.Torn.{IsTarget};
 ghost use Rattle.r4_wander.specs.LogPlan.{first};
 ghost use Rattle.r4_wander.specs.Needed.{SparesNeeded};
@@ -58,6 +59,14 @@ impl CommitPlan {
         ensures { result.now ≡ self.now.super40 }
     {
         &self.super40
+    }
+
+    /// Whether a write of the commit falls on a block, in whichever part: made or not. No memory.
+    pub fn falls_on(&self, block: BlockNo) -> bool
+        ensures { MatchBool result (FallsOn self.now.work.plan block.0)
+            (FallsOn self.now.work.plan block.0 → ⊥) }
+    {
+        self.writer.falls_on(block)
     }
 }
 

@@ -3,7 +3,8 @@ use Rattle.std.specs.Prelude.{◌≡◌, ◌≢◌, ◌⊎◌, ℕ, ◌+◌, ◌
 use Rattle.std.proofs.Common.{arith, inl, inr, lit<, refl, sym, ap, subst, ◌∙◌}
 use Rattle.std.proofs.lemmas.Bool.{and_parts, eqb-true, leb-false, ltb-false, ltb-true, or_cases, or_left, or_right}
 use Rattle.std.proofs.lemmas.List.Elements.{All-head, All-tail, All-take}
-use Rattle.r4_base.specs.Key.{key_of_rank, minor_of, rank}
+use Rattle.r4_base.specs.Key.{key_of_rank, minor_of, offset_of, rank}
+use Rattle.r4_base.specs.declared.key.Key.{Key}
 use Rattle.r4_base.specs.Value.{Value, Stat as StatValue, Entry, Byte, Content, at_key}
 use Rattle.r4_base.specs.Volume.{HasStat, IsObject, byte_rank, object_of, root_object, stat_rank}
 use Rattle.r4_base.specs.declared.items.Attr.{Attr}
@@ -15,7 +16,7 @@ use Rattle.r4_content.specs.Course.{Course, Ask, Scan, Answer, Change, asked, en
 use Rattle.r4_content.specs.Edited.{Edits, Pairs, and_also, changed, is_between, is_in, pairs_between}
 use Rattle.r4_content.specs.Entries.{create, entries_from, entries_to, if_empty, is_no_id, link, linked, mkdir, move_to, moved, moved_onto, name_in, names, rename, replace, rmdir, set_parents, unlink, unname_in, with_entries, without}
 use Rattle.r4_content.specs.Fields.{HasBytePaths, HasBytes, HasNumbers}
-use Rattle.r4_content.specs.Locality.{Touches, commands}
+use Rattle.r4_content.specs.Locality.{IsByteKey, ReadsBytes, Touches, commands}
 use Rattle.r4_content.specs.Meaning.{course, is_path, named, set_attrs, stat}
 use Rattle.r4_content.specs.Objects.{Object, cut_body, new_directory, new_file, set_body, cut_key, entry_less, entry_more, entry_rank, is_among, is_dir, is_full, is_same, is_same_target, made_in, set_attr, set_entry, unnamed}
 use Rattle.r4_content.specs.Walk.{attr_in, may_be_object, target_in}
@@ -64,11 +65,23 @@ target_value n (Some (StatValue b)) t e = cc
 target_value n (Some (Entry s o)) t e = (s, named_by (bytes_eq s n) s o t e)
 target_value n (Some (Byte x)) t e = cc
 
+-- the key of an offset below a size is that of a byte
+byte_key_is : (m : Content) (o : Target) (a : Attr) (x k : ℕ) → HasStat m o a → x < 2 ^ 64 → k ≡ byte_rank o x
+    → x < a.size → IsByteKey m k
+byte_key_is m o a x k found lt is below =
+    let (there, low) = subst (λ (q : Key). HasStat m (object_of q) a × (offset_of q < a.size)) (sym
+    (byte_back o x found.0 lt))
+    (subst (λ (p : Target). HasStat m p a) (sym (byte_object o x)) found, below) in
+    subst (IsByteKey m) (sym is) (a, there, low)
+
 module _ (m : Content) (numbers : HasNumbers m) (S : ℕ → Type 0) where
-  -- each body key that the course asks for, or changes at its end, has its object's stat key among S, which has all stat keys that are asked for
+  -- each body key that the course asks for, or changes at its end, has its object's stat key among S, which has
+  -- all stat keys that are asked for;
+  -- and one that it asks for is that of a byte
   Good : Course → Type 0
   Good (Ask k next) = (IsBodyKey k → ⊥) × (S k → Good (next (at_key m k)))
-  Good (Scan from to next) = ((k : ℕ) → is_between from to k ≡ true → IsBodyKey k → S (stat_of k)) × Good (next (pairs_between m from to))
+  Good (Scan from to next) = ((k : ℕ) → is_between from to k ≡ true → IsBodyKey k
+      → S (stat_of k) × IsByteKey m k) × Good (next (pairs_between m from to))
   Good (Answer r) = Unit {0}
   Good (Change e) = (k : ℕ) → is_in (changed e) k ≡ true → IsBodyKey k → S (stat_of k)
 
@@ -80,7 +93,7 @@ module _ (m : Content) (numbers : HasNumbers m) (S : ℕ → Type 0) where
   ]
   told (Ask q next) good all k (inr e) four = told (next (at_key m q)) (good.1 (all q (or_left _ _ (at_itself q)))) (λ x h. all x (or_right _ _ h)) k (inr e) four
   told (Scan from to next) good all k (inl e) four = elim (or_cases (is_between from to k) (is_in (asked (next (pairs_between m from to)) (of_content m)) k) e) [
-    | inl here ↦ good.0 k here four
+    | inl here ↦ (good.0 k here four).0
     | inr later ↦ told (next (pairs_between m from to)) good.1 (λ x h. all x (or_right _ _ h)) k (inl later) four
   ]
   told (Scan from to next) good all k (inr e) four = told (next (pairs_between m from to)) good.1 (λ x h. all x (or_right _ _ h)) k (inr e) four
@@ -88,6 +101,23 @@ module _ (m : Content) (numbers : HasNumbers m) (S : ℕ → Type 0) where
   told (Answer r) good all k (inr e) four = absurd (true_not_false (sym e))
   told (Change x) good all k (inl e) four = absurd (true_not_false (sym e))
   told (Change x) good all k (inr e) four = good k e four
+
+  told_bytes : (c : Course) → Good c → ((k : ℕ) → is_in (asked c (of_content m)) k ≡ true → S k) → (k : ℕ)
+      → is_in (asked c (of_content m)) k ≡ true → IsBodyKey k → IsByteKey m k
+  unfolding Good
+  told_bytes (Ask q next) good all k e four = elim (or_cases (is_between q (q + 1) k) (is_in (asked (next
+      (at_key m q)) (of_content m)) k) e) [
+        | inl here ↦ absurd (good.0 (subst IsBodyKey (eqb-true k q (sym (one_key k q) ∙ here)) four))
+        | inr later ↦ told_bytes (next (at_key m q)) (good.1 (all q (or_left _ _ (at_itself q)))) (λ x h. all x
+            (or_right _ _ h)) k later four
+      ]
+  told_bytes (Scan from to next) good all k e four = elim (or_cases (is_between from to k) (is_in (asked (next
+      (pairs_between m from to)) (of_content m)) k) e) [
+        | inl here ↦ (good.0 k here four).1
+        | inr later ↦ told_bytes (next (pairs_between m from to)) good.1 (λ x h. all x (or_right _ _ h)) k later four
+      ]
+  told_bytes (Answer r) good all k e four = absurd (true_not_false (sym e))
+  told_bytes (Change x) good all k e four = absurd (true_not_false (sym e))
 
   -- ---- objects that were found
 
@@ -104,7 +134,9 @@ module _ (m : Content) (numbers : HasNumbers m) (S : ℕ → Type 0) where
   unfolding Good
   good_ask k next h g = (h, g)
 
-  good_scan : (from to : ℕ) (next : Pairs → Course) → ((k : ℕ) → is_between from to k ≡ true → IsBodyKey k → S (stat_of k)) → Good (next (pairs_between m from to)) → Good (Scan from to next)
+  good_scan : (from to : ℕ) (next : Pairs → Course)
+      → ((k : ℕ) → is_between from to k ≡ true → IsBodyKey k → S (stat_of k) × IsByteKey m k)
+      → Good (next (pairs_between m from to)) → Good (Scan from to next)
   unfolding Good
   good_scan from to next h g = (h, g)
 
@@ -274,7 +306,10 @@ module _ (m : Content) (numbers : HasNumbers m) (S : ℕ → Type 0) where
       let (x, is, low, high) = in_body p.here.target from (smaller (from + len) p.here.attr.size) k at in
       let le = smaller_right (from + len) p.here.attr.size in
       let size = size_of p.here f in
-      subst S (sym (byte_stat p.here.target x k f.stat.0 (omega (arith, high, le, size)) is)) f.asked_for) (good_answer _))
+      let lt : x < 2 ^ 64 = omega (arith, high, le, size) in (
+        subst S (sym (byte_stat p.here.target x k f.stat.0 lt is)) f.asked_for,
+        byte_key_is m p.here.target p.here.attr x k f.stat lt is (omega (arith, high, le)),
+      )) (good_answer _))
       (λ g. good_answer _)))
 
   -- entries of a directory have keys of their own
@@ -386,3 +421,9 @@ module _ (m : Content) (numbers : HasNumbers m) (S : ℕ → Type 0) where
 
 pub stats_asked : (limit : ℕ) (x : Command) (m : Content) → limit ≤ 2 ^ 64 → HasNumbers m → HasBytePaths x → (k : ℕ) → Touches (commands limit) x m k → IsBodyKey k → is_in ((commands limit).reads x m) (stat_of k) ≡ true
 stats_asked limit x m le numbers bytes k touches four = told m numbers (λ q. is_in ((commands limit).reads x m) q ≡ true) (course limit x) (good_course m numbers (λ q. is_in ((commands limit).reads x m) q ≡ true) limit le x bytes) (λ q h. h) k touches four
+
+pub bytes_asked : (limit : ℕ) (x : Command) (m : Content) → limit ≤ 2 ^ 64 → HasNumbers m → HasBytePaths x
+    → ReadsBytes limit x m
+bytes_asked limit x m le numbers bytes k on four = told_bytes m numbers (λ q. is_in
+    ((commands limit).reads x m) q ≡ true) (course limit x) (good_course m numbers (λ q. is_in
+    ((commands limit).reads x m) q ≡ true) limit le x bytes) (λ q h. h) k on four

@@ -1,9 +1,10 @@
 -- What commands have in common, whatever they are: each does the same in contents that agree where
 -- it reads (docs/commands.md, "Reading").
-use Rattle.std.specs.Prelude.{◌≡◌, ℕ, ◌⊎◌, true, false}
-use Rattle.r4_base.specs.Key.{key_of_rank, minor_of}
+use Rattle.std.specs.Prelude.{◌≡◌, ℕ, ◌<◌, ◌⊎◌, true, false}
+use Rattle.r4_base.specs.Key.{key_of_rank, minor_of, offset_of}
 use Rattle.r4_base.specs.Value.{Content, at_key}
-use Rattle.r4_base.specs.Volume.{object_of, stat_rank}
+use Rattle.r4_base.specs.Volume.{HasStat, object_of, stat_rank}
+use Rattle.r4_base.specs.declared.items.Attr.{Attr}
 use Rattle.r4_content.specs.Edited.{Intervals, is_in}
 use Rattle.r4_content.specs.Meaning.{after, changes, reads, reply}
 use Rattle.r4_content.specs.declared.command.Command.{Command}
@@ -55,3 +56,13 @@ Spares w y x m = (k : ℕ) → Touches w x m k → is_in (w.changes y m) k ≡ f
 abbrev pub AsksForStats : (limit : ℕ) → Command → Content → Type 0
 AsksForStats limit x m = (k : ℕ) → Touches (commands limit) x m k → minor_of (key_of_rank k) ≡ 4
     → is_in (reads limit x m) (stat_rank (object_of (key_of_rank k))) ≡ true
+
+-- the key of a body is that of one of the bytes that its file has
+abbrev pub IsByteKey : Content → (key : ℕ) → Type 0
+IsByteKey m k = (a : Attr) × HasStat m (object_of (key_of_rank k)) a
+    × (offset_of (key_of_rank k) < a.size)
+
+-- each key of a body that the command reads is one of these
+abbrev pub ReadsBytes : (limit : ℕ) → Command → Content → Type 0
+ReadsBytes limit x m = (k : ℕ) → is_in (reads limit x m) k ≡ true → minor_of (key_of_rank k) ≡ 4
+    → IsByteKey m k

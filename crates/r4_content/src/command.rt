@@ -1,6 +1,7 @@
 //! Commands: what a script asks of a volume.
 
 ghost use Rattle.std.specs.Prelude.{◌≡◌, IfOk};
+ghost use Rattle.r4_content.specs.Fields.{HasBytePaths};
 ghost use Rattle.r4_content.specs.Groups.{IsOfBytes, IsOfAttributes, IsOfEntries};
 ghost use Rattle.r4_content.specs.Meaning.{makes_object};
 
@@ -107,6 +108,32 @@ impl Command {
         ensures { result ≡ makes_object self.now }
     {
         matches!(*self, Command::Create { .. } | Command::Mkdir { .. })
+    }
+
+    /// Its paths are of bytes, as those of every command are. It changes nothing.
+    pub fn lawful(&self)
+        ensures { HasBytePaths self.now }
+    {
+        match *self {
+            Command::Begin | Command::End | Command::Commit => (),
+            Command::Create { ref path, .. }
+            | Command::Mkdir { ref path, .. }
+            | Command::Write { ref path, .. }
+            | Command::Fill { ref path, .. }
+            | Command::Truncate { ref path, .. }
+            | Command::Read { ref path, .. }
+            | Command::Stat { ref path }
+            | Command::Names { ref path }
+            | Command::Unlink { ref path }
+            | Command::Rmdir { ref path }
+            | Command::Chmod { ref path, .. }
+            | Command::Chown { ref path, .. }
+            | Command::Times { ref path, .. } => path.lawful(),
+            Command::Link { ref from, ref to } | Command::Rename { ref from, ref to } => {
+                from.lawful();
+                to.lawful();
+            }
+        }
     }
 
     /// An equal command. Its paths have memory of their own, and the bytes of a text are shared.

@@ -17,7 +17,8 @@ ghost use Rattle.r4_content.specs.Fields.{HasBytePaths, HasBytes, HasNumbers, Is
 ghost use Rattle.r4_content.specs.Fields.{NamesUnused};
 ghost use Rattle.r4_content.specs.Lawful.{HasBodies, IsLawful, RoomFor};
 ghost use Rattle.r4_content.specs.Listed.{list_after};
-ghost use Rattle.r4_content.specs.Locality.{Agree, AsksForStats, IsLocal, Meaning, Spares};
+ghost use Rattle.r4_content.specs.Locality.{Agree, AsksForStats, IsLocal, Meaning};
+ghost use Rattle.r4_content.specs.Locality.{ReadsBytes, Spares};
 ghost use Rattle.r4_content.specs.Locality.{commands};
 ghost use Rattle.r4_content.specs.Meaning.{after, changes, course, greatest_size, reads, reply};
 ghost use Rattle.r4_content.specs.Objects.{link_more, new_directory, new_file};
@@ -56,12 +57,16 @@ pub fn seen_suffices()
         → IsSeen limit c s m }
 {}
 
-/// A command that reads or changes a key of a file's body reads the stat key of the file. So it is in each content whose
-/// numbers are of their fields' widths, for paths of bytes.
+/// A command that reads or changes a key of a file's body reads the stat key of the file; and what
+/// it reads of a body are bytes that the file has. So it is in each content whose numbers are of
+/// their fields' widths, for paths of bytes.
 pub fn commands_ask_for_stats()
-    ensures { (limit : ℕ) (c : Command) (m : Content) → limit ≤ 2 ^ 64 → HasNumbers m
+    ensures stats { (limit : ℕ) (c : Command) (m : Content) → limit ≤ 2 ^ 64 → HasNumbers m
         → HasBytePaths c
         → AsksForStats limit c m }
+    ensures bytes { (limit : ℕ) (c : Command) (m : Content) → limit ≤ 2 ^ 64 → HasNumbers m
+        → HasBytePaths c
+        → ReadsBytes limit c m }
 {}
 
 /// A command does to a content what it does to the list of its pairs.

@@ -1,6 +1,7 @@
 //! Paths of names.
 
-ghost use Rattle.std.specs.Prelude.{◌≡◌, ◌↔◌, IfOk, IsTrue};
+ghost use Rattle.std.specs.Prelude.{◌≡◌, ◌↔◌, ◌<◌, All, IfOk, IsTrue};
+ghost use Rattle.r4_content.specs.Fields.{HasBytes};
 
 use r4_base::{Memory, Name};
 use std::alloc::Global;
@@ -35,6 +36,15 @@ impl Path {
         self.names.as_slice()
     }
 
+    /// Its names are lists of bytes, as those of every path are. It changes nothing.
+    pub fn lawful(&self)
+        ensures { HasBytes self.now }
+    {
+        for name in self.as_slice() {
+            are_bytes(name.as_slice());
+        }
+    }
+
     /// Whether the two paths have the same names.
     pub fn is_same(&self, other: &Path) -> bool
         ensures { IsTrue result ↔ (self.now ≡ other.now) }
@@ -53,6 +63,11 @@ impl Path {
         Ok(Path { names })
     }
 }
+
+// Each byte is one.
+fn are_bytes(bytes: &[u8])
+    ensures { All (λ x. x < 256) bytes.now }
+{}
 
 // Whether these are the same names, one after another.
 fn are_same(names: &[Name], others: &[Name]) -> bool

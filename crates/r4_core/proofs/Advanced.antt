@@ -1,16 +1,14 @@
 -- What a step of a commit's plan leaves, in the words of its contract.
 use Rattle.std.proofs.Common.{◌≡◌, inl, inr, ℕ, ◌+◌, ◌-◌, Option, Some, None, refl, sym, ◌∙◌, ap, subst, arith}
 use Rattle.r4_atoms.specs.Atoms.{AtomsSeen}
-use Rattle.r4_base.specs.declared.superblock.Super40.{Super40}
-use Rattle.r4_base.specs.declared.things.BlockNo.{BlockNo}
 use Rattle.r4_buffer.specs.Changed.{cleaned, in_turn}
 use Rattle.r4_buffer.specs.Seen.{BufferSeen, buffered}
 use Rattle.r4_commit.specs.Planned.{CommitSeen}
 use Rattle.r4_history.specs.Tables.{with_cleaned, with_committed}
-use Rattle.r4_outside.specs.Device.{Rose, State}
+use Rattle.r4_outside.specs.Device.{State}
 use Rattle.r4_space.specs.Space.{Space, settled}
 use Rattle.r4_trace.specs.Kept.{Told}
-use Rattle.r4_trace.specs.declared.entry.Entry.TheVariants.{Broken, Committed}
+use Rattle.r4_trace.specs.declared.entry.Entry.TheVariants.{Committed}
 use Rattle.r4_wander.specs.Progress.{IsNext, calls_from, calls_left, stage_at}
 use Rattle.r4_wander.specs.declared.stage.Stage.{Stage}
 use Rattle.r4_wander.specs.declared.stage.Stage.TheVariants.{Footed, Headed}
@@ -20,6 +18,7 @@ use Rattle.r4_kept.specs.Steps.{IsAdvanced, IsQuietPart, Writes}
 use Rattle.r4_kept.specs.Steps.{with_entry, writing}
 use Rattle.r4_kept.specs.View.{CoreSeen}
 use Rattle.r4_kept.specs.declared.parts.Commit.{Commit}
+use Rattle.r4_kept.specs.declared.parts.Volume.{Volume}
 use Rattle.r4_kept.specs.declared.parts.Step.TheVariants as steps
 use Rattle.r4_core.proofs.Writing.{at_hand, footer_told, header_told, quiet_told}
 
@@ -48,6 +47,11 @@ for_plan c k0 w0 at work P p k w x =
     subst (λ (y : Commit). P y w) same (subst (P k0) also p)
 
 -- ---- what it leaves
+
+-- the volume that a plan tells which told the same before
+pub same_volume : (w v : CommitSeen) → (v.head ≡ w.head) × (v.super40 ≡ w.super40)
+    → let volume : CommitSeen → Volume = λ p. record { super40 = p.super40; prev = p.head } in volume v ≡ volume w
+same_volume w v told = λ i. record { super40 = told.1 i; prev = told.0 i }
 
 module _ {D : Type 0} (d e : State) (c : CoreSeen D) (k : Commit) (w v : CommitSeen) (dev : D)
     (told : (v.head ≡ w.head) × (v.super40 ≡ w.super40)) (plan : v.work.plan ≡ w.work.plan)
@@ -86,9 +90,9 @@ module _ {D : Type 0} (d e : State) (c : CoreSeen D) (k : Commit) (w v : CommitS
   }
 
   pub footed_now : w.work.part ≡ 3 → (v.work.part ≡ 4) × (v.work.done ≡ 0) → (atoms : AtomsSeen) (buffer : BufferSeen)
-      (space : Space) (super40 : Super40) (prev : BlockNo) (commit : Option Commit)
+      (space : Space) (volume : Volume) (commit : Option Commit)
       → atoms ≡ with_cleaned c.atoms k.atom.0 → space ≡ settled c.space k.atom
-      → super40 ≡ w.super40 → prev ≡ w.head → commit ≡ None
+      → volume ≡ record { super40 = w.super40; prev = w.head } → commit ≡ None
       → ((i : ℕ) → buffered buffer i ≡ in_turn cleaned k.nodes i (buffered c.buffer i))
       → buffer.spare ≡ c.buffer.spare
       → IsAdvanced d e c (record c {
@@ -96,10 +100,10 @@ module _ {D : Type 0} (d e : State) (c : CoreSeen D) (k : Commit) (w v : CommitS
         atoms = atoms;
         buffer = buffer;
         space = space;
-        volume = record { super40 = super40; prev = prev };
+        volume = volume;
         commit = commit;
       }) k w steps.More
-  footed_now is at atoms buffer space super40 prev commit are_atoms is_space is_super is_head is_none cells spare =
+  footed_now is at atoms buffer space volume commit are_atoms is_space is_volume is_none cells spare =
       inr (record {
         part = is;
         same = λ i. record c {
@@ -107,7 +111,7 @@ module _ {D : Type 0} (d e : State) (c : CoreSeen D) (k : Commit) (w v : CommitS
           atoms = are_atoms i;
           buffer = buffer;
           space = is_space i;
-          volume = record { super40 = is_super i; prev = is_head i };
+          volume = is_volume i;
           commit = is_none i;
         };
         cells = cells;
@@ -117,14 +121,3 @@ module _ {D : Type 0} (d e : State) (c : CoreSeen D) (k : Commit) (w v : CommitS
             ap (λ (i : ℕ). calls_from v.work.plan i - v.work.done) at.0 ∙ omega arith in
             omega (arith, calls, none);
       })
-
-pub broken_now : {D : Type 0} (d e : State) (c : CoreSeen D) (k : Commit) (w : CommitSeen) (dev : D)
-    → Rose d.faults e.faults → (commit : Option Commit) (clock faults : ℕ) (entries : Told) → commit ≡ None
-    → clock ≡ e.clock → faults ≡ e.faults → entries ≡ with_entry c.trace (Broken clock faults)
-    → IsAdvanced d e c (record c { dev = dev; commit = commit; broken = Some clock; trace = entries }) k w
-    (steps.Broken clock faults)
-broken_now d e c k w dev rose commit clock faults entries is_none is_clock are_faults is_told = record {
-  rose = rose;
-  same = λ i. record c { dev = dev; commit = is_none i; broken = Some clock; trace = is_told i };
-  now = (is_clock, are_faults);
-}

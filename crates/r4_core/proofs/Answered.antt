@@ -257,8 +257,12 @@ module _ {D : Type 0} (r : Naming) (d : State) (c : CoreSeen D) (k : IsKept r d 
           space = g.space;
           root = g.root;
           height = g.height;
+          root_stands = g.root_stands;
           buffered_names = g.buffered_names;
           reached_names = λ q out x has. g.reached_names q out x (on.outs q out has);
+          owned_names = λ i some. g.owned_names i (subst IsSome (owners i) some);
+          named = g.named;
+          given_cells = λ sound q out x has. g.given_cells sound q out x (on.outs q out has);
           dirty = λ i e at. (
             (λ yes. subst IsSome (sym (owners i)) ((g.dirty i e at).0 yes)),
             (λ some. (g.dirty i e at).1 (subst IsSome (owners i) some)),
@@ -284,8 +288,11 @@ module _ {D : Type 0} (r : Naming) (d : State) (c : CoreSeen D) (k : IsKept r d 
           apart = λ q p n m has also other is_n is_m. g.apart q p n m (on.scripts q has) (on.scripts p also) other
               (on.numbers q n has is_n) (on.numbers p m also is_m);
           unused = λ q i n e has is_n. g.unused q i n e (on.scripts q has) (on.numbers q n has is_n);
+          unnamed = λ q i n m has is_n. g.unnamed q i n m (on.scripts q has) (on.numbers q n has is_n);
           unreached = λ q p n o x has is_n out. g.unreached q p n o x (on.scripts q has) (on.numbers q n has is_n)
               (on.outs p o out);
+          unowned = λ q i n has is_n low high. owners i
+              ∙ g.unowned q i n (on.scripts q has) (on.numbers q n has is_n) low high;
           given = λ q o x has next. g.given q o x (on.outs q o has) (sym (on.nexts q o has) ∙ next);
         }
 

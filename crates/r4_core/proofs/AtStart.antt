@@ -1,12 +1,11 @@
 -- A core at the start of its job: all that holds of a core holds of it.
-use Rattle.std.proofs.Common.{◌≡◌, inl, ℕ, zero, suc, ◌-◌, ◌*◌, ◌^◌, ◌≤◌, List, [], ◌∷◌, get_or, length}
+use Rattle.std.proofs.Common.{◌≡◌, inl, ℕ, zero, suc, ◌-◌, ◌*◌, ◌^◌, ◌≤◌, List, [], get_or, length}
 use Rattle.std.proofs.Common.{replicate, true≢false, Option, None, Some, refl, sym, ◌∙◌, ap, subst, arith}
 use Rattle.std.specs.Borrow.{GName}
-use Rattle.std.specs.Prelude.{IsSome, Ok, count_by, sum_by}
+use Rattle.std.specs.Prelude.{IsSome, Ok, sum_by}
 use Rattle.std.specs.Option.{option_map}
 use Rattle.std.proofs.lemmas.List.{length-replicate}
 use Rattle.std.proofs.lemmas.List.Folds.{sum_by-replicate}
-use Rattle.std.proofs.lemmas.List.Sums.{sum_by-cons}
 use Rattle.r4_atoms.specs.Atoms.{AtomsSeen, IsAtom}
 use Rattle.r4_base.specs.Cell.{IsCellOf}
 use Rattle.r4_base.specs.Image.{Image, block_at}
@@ -35,7 +34,6 @@ use Rattle.r4_replay.specs.Replay.{PutInPlace, SettlesAlways}
 use Rattle.r4_script.specs.Spelling.{AreScripts}
 use Rattle.r4_script.specs.Text.{job_of}
 use Rattle.r4_script.specs.declared.job.Job.{Job}
-use Rattle.r4_script.specs.declared.job.Script.{Script}
 use Rattle.r4_space.proofs.AccountLaws.{dues-none}
 use Rattle.r4_space.specs.Lawful.{IsLawful}
 use Rattle.r4_space.specs.Space.{Space, unused_count}
@@ -49,11 +47,11 @@ use Rattle.r4_turns.specs.declared.turn.Turn.{Turn}
 use Rattle.r4_kept.specs.Accounts.{AreAccounts, cells_for, claims_for}
 use Rattle.r4_kept.specs.Cells.{AreCells, IsName}
 use Rattle.r4_kept.specs.Durable.{IsDurable}
-use Rattle.r4_kept.specs.History.{IsHistory, is_commit, owed, owed_in}
+use Rattle.r4_kept.specs.History.{IsHistory, owed}
 use Rattle.r4_kept.specs.Kept.{IsKept}
 use Rattle.r4_kept.specs.Meaning.{HasMeaning}
 use Rattle.r4_kept.specs.Naming.{Naming, job_named, names_in}
-use Rattle.r4_core.specs.Opening.{IsFound, first_numbers, first_volume}
+use Rattle.r4_start.specs.Starting.{IsFound, first_numbers, first_volume}
 use Rattle.r4_kept.specs.Story.{Story}
 use Rattle.r4_kept.specs.Tables.{AreTables}
 use Rattle.r4_kept.specs.TasksOut.{AreOut}
@@ -84,18 +82,6 @@ module _ (job : Job) where
       let e = sum_by-replicate (λ (x : Turn). f x.out) (length job.scripts) start in
       let z : length job.scripts * f None ≡ 0 = ap (λ (n : ℕ). length job.scripts * n) none ∙ omega arith in
       e ∙ z
-
--- each `commit` of a job needs an entry
-owed_first : (scripts : List Script) → sum_by (λ (x : Script). count_by is_commit x.commands) scripts
-    ≡ owed_in (replicate (length scripts) start) scripts
-owed_first [] = refl
-owed_first (x ∷ scripts) =
-    let e = sum_by-cons (λ (y : Script). count_by is_commit y.commands) x scripts in
-    let h = owed_first scripts in
-    omega (arith, e, h)
-
-pub first_owed : (job : Job) → sum_by (λ (x : Script). count_by is_commit x.commands) job.scripts ≡ owed (started job)
-first_owed job = owed_first job.scripts
 
 -- ---- atoms and cells
 
@@ -240,8 +226,19 @@ module _ {D : Type 0} (r : Naming) (old d : State) (dev : D) (job : Job) (thresh
         root = subst (λ (i : ℕ). IsName o.super40.block_count (2 ^ 63) i) (sym root_is)
             (inl (s.root.1, s.root_not_fixed));
         height = (omega (arith, height, s.height.0), omega (arith, height, s.height.1));
+        root_stands = λ high.
+            (let same = root_is in
+            let low = s.root.1 in
+            let most = s.blocks.1 in
+            absurd (omega (arith, high, same, low, most)));
         buffered_names = λ i e at. absurd (cc at);
         reached_names = λ s out x is. absurd (none_out job s out is);
+        owned_names = λ i some. absurd (cc some);
+        named = record {
+          once = λ i j n m x. absurd (cc x.is);
+          not_root = λ i n x. absurd (cc x.is);
+        };
+        given_cells = λ sound s out x is. absurd (none_out job s out is);
         dirty = λ i e at. absurd (cc at);
         fresh = λ i e at. absurd (cc at);
         clean = λ sound. record {
@@ -259,7 +256,9 @@ module _ {D : Type 0} (r : Naming) (old d : State) (dev : D) (job : Job) (thresh
     drawn = λ s n is has. absurd (no_numbers job s n has);
     apart = λ s q n m is also other has. absurd (no_numbers job s n has);
     unused = λ s i n e is has. absurd (no_numbers job s n has);
+    unnamed = λ s i n m is has. absurd (no_numbers job s n has);
     unreached = λ s q n out x is has. absurd (no_numbers job s n has);
+    unowned = λ s i n is has. absurd (no_numbers job s n has);
     given = λ s out x is. absurd (none_out job s out is);
   }
 

@@ -16,6 +16,7 @@ use Rattle.r4_base.specs.Chain.{HasLog, committed as head_named, flushed}
 use Rattle.r4_base.specs.Image.{Image, IsImage, block_at}
 use Rattle.r4_base.specs.Layout.{IsLawfulSuper, super_of}
 use Rattle.r4_base.specs.Log.{footer_of}
+use Rattle.r4_base.specs.Tree.{Name}
 use Rattle.r4_base.specs.declared.journal.Footer.{Footer}
 use Rattle.r4_base.specs.declared.limits.TheConstants.{SUPER_BLOCK}
 use Rattle.r4_base.specs.declared.superblock.Super40.{Super40}
@@ -66,7 +67,7 @@ use Rattle.r4_wander.specs.declared.plan.LogPlan.{LogPlan}
 use Rattle.r4_wander.proofs.Ending.{ends_reading, quiet_between}
 use Rattle.r4_wander.proofs.Settling.{length-put_writes}
 use Rattle.r4_kept.specs.Accounts.{AreAccounts, CountsCells}
-use Rattle.r4_kept.specs.Cells.{AreCells, AreReadable, HasNames, IsAccepted, IsName}
+use Rattle.r4_kept.specs.Cells.{AreCells, AreReadable, HasNames, IsAccepted, IsName, IsStillThere, NamesAt}
 use Rattle.r4_kept.specs.Durable.{IsDurable, StandsAt}
 use Rattle.r4_kept.specs.History.{IsHistory}
 use Rattle.r4_kept.specs.Kept.{HasStory, IsKept}
@@ -82,6 +83,7 @@ use Rattle.r4_kept.specs.declared.parts.Volume.{Volume}
 use Rattle.r4_kept.proofs.Cleaned.{Was, captured_before, none_before, same_now, was_there}
 use Rattle.r4_kept.proofs.Settling.{deferred_then, fewer_dues, more_unused, settled_alike, still_then}
 use Rattle.r4_kept.proofs.States.{opens_same, state_same}
+use Rattle.r4_kept.proofs.Staying.{named_on, names_as, still_cleaned}
 use Rattle.r4_core.proofs.Writing.{small, Settles, Steps, at_hand, begun_before, named_before, same_read, still_safe}
 use Rattle.r4_core.proofs.Writing.{was}
 
@@ -461,6 +463,15 @@ module _ {D : Type 0} (disk : FitsOnDisk) (r : Naming) (d e : State) (x : CoreSe
           names = names_then;
         })
 
+    names_before : (i : ℕ) (n : Name) → NamesAt buffer i n → NamesAt x.buffer i n
+    names_before i n y =
+        let old = was_so i y.entry y.is in names_as x.buffer i old.entry y.entry old.is old.cell n y.among
+
+    footed_root : 2 ^ 63 ≤ x.tree.id.0 → is_dirty_by (buffered buffer x.tree.id.0) ≡ true
+    footed_root high =
+        ap is_dirty_by (same_now x.buffer buffer k.nodes cells x.tree.id.0 (λ has. low x.tree.id.0 has high))
+        ∙ h.cells.root_stands high
+
     cells_footed : AreCells e now
     cells_footed =
         let g = h.cells in
@@ -469,6 +480,7 @@ module _ {D : Type 0} (disk : FitsOnDisk) (r : Naming) (d e : State) (x : CoreSe
           space = g.space ∙ sym same_count;
           root = subst (λ (n : ℕ). IsName n x.numbers.next_name x.tree.id.0) (sym same_count) g.root;
           height = g.height;
+          root_stands = footed_root;
           buffered_names = λ i f at.
               (let old = was_so i f at in
               subst (λ (n : ℕ). HasNames n x.numbers.next_name f.cell) (sym same_count)
@@ -476,6 +488,13 @@ module _ {D : Type 0} (disk : FitsOnDisk) (r : Naming) (d e : State) (x : CoreSe
               (g.buffered_names i old.entry old.is)));
           reached_names = λ s out y is_out has.
               subst (λ (n : ℕ). HasNames n x.numbers.next_name y) (sym same_count) (g.reached_names s out y is_out has);
+          owned_names = λ i some. subst (λ (n : ℕ). IsName n x.numbers.next_name i) (sym same_count)
+              (g.owned_names i (some_before a (owner_of x.atoms i) (subst IsSome (names i) some)).0);
+          named = named_on x.buffer buffer x.tree.id.0 (λ i n y high. names_before i n y) g.named;
+          given_cells = λ sound s out y is_out has.
+              subst (λ (n : ℕ). IsStillThere buffer n y) (sym same_count)
+              (still_cleaned x.buffer buffer k.nodes cells (blocks_of x) g.commit.below
+              (λ i f there at. g.commit.accepted i f there at) y (g.given_cells refl s out y is_out has));
           dirty = footed_dirty;
           fresh = footed_fresh;
           clean = λ sound. footed_readable;
@@ -526,7 +545,10 @@ module _ {D : Type 0} (disk : FitsOnDisk) (r : Naming) (d e : State) (x : CoreSe
           drawn = g.drawn;
           apart = g.apart;
           unused = λ s i n f has is_n at. (let old = was_so i f at in g.unused s i n old.entry has is_n old.is);
+          unnamed = λ s i n m has is_n y. g.unnamed s i n m has is_n (names_before i m y);
           unreached = g.unreached;
+          unowned = λ q i n has is_n low high. names i
+              ∙ ap (without_owner a) (g.unowned q i n has is_n low high);
           given = g.given;
         }
 
@@ -627,27 +649,28 @@ module _ {D : Type 0} (r : Naming) (d : State) (c : CoreSeen D) (k : Commit) (w 
       (spare : buffer.spare ≡ c.buffer.spare) (lawful : AreNamed c.buffer) (still : AreNamed buffer)
       (fair : IsLawful c.space) where
     -- the same of parts that are as they are then
-    pub keeps_footed : (table : AtomsSeen) (space : Space) (super40 : Super40) (prev : BlockNo) (commit : Option Commit)
+    pub keeps_footed : (table : AtomsSeen) (space : Space) (volume : Volume) (commit : Option Commit)
         → table ≡ with_cleaned c.atoms k.atom.0
         → ((n : ℕ) → owner_of table n ≡ without_owner k.atom.0 (owner_of c.atoms n))
-        → space ≡ settled c.space k.atom → super40 ≡ w.super40 → prev ≡ w.head → commit ≡ None
+        → space ≡ settled c.space k.atom → volume ≡ record { super40 = w.super40; prev = w.head } → commit ≡ None
         → IsKept r e (record c {
           dev = dev;
           atoms = table;
           buffer = buffer;
           space = space;
-          volume = record { super40 = super40; prev = prev };
+          volume = volume;
           commit = commit;
         })
-    keeps_footed table space super40 prev commit are_atoms names is_space is_super is_head is_none =
+    keeps_footed table space volume commit are_atoms names is_space is_volume is_none =
         let x = c in
-        let then : AtomsSeen → Space → Super40 → BlockNo → Option Commit → Option ℕ → CoreSeen D =
-        λ s y u q o z. record x {
+        let last : Volume = record { super40 = w.super40; prev = w.head } in
+        let then : AtomsSeen → Space → Volume → Option Commit → Option ℕ → CoreSeen D =
+        λ s y u o z. record x {
           dev = dev;
           atoms = s;
           buffer = buffer;
           space = y;
-          volume = record { super40 = u; prev = q };
+          volume = u;
           commit = o;
           broken = z;
         } in
@@ -655,20 +678,17 @@ module _ {D : Type 0} (r : Naming) (d : State) (c : CoreSeen D) (k : Commit) (w 
         ≡ without_owner k.atom.0 (owner_of c.atoms n) =
         subst (λ (s : AtomsSeen). (n : ℕ) → owner_of s n ≡ without_owner k.atom.0 (owner_of c.atoms n)) are_atoms
         names in
-        subst (λ (s : AtomsSeen). IsKept r e (then s space super40 prev commit c.broken)) (sym are_atoms)
-        (subst (λ (y : Space). IsKept r e (then (with_cleaned c.atoms k.atom.0) y super40 prev commit c.broken))
+        subst (λ (s : AtomsSeen). IsKept r e (then s space volume commit c.broken)) (sym are_atoms)
+        (subst (λ (y : Space). IsKept r e (then (with_cleaned c.atoms k.atom.0) y volume commit c.broken))
         (sym is_space)
-        (subst (λ (u : Super40).
-        IsKept r e (then (with_cleaned c.atoms k.atom.0) (settled c.space k.atom) u prev commit c.broken))
-        (sym is_super)
-        (subst (λ (q : BlockNo).
-        IsKept r e (then (with_cleaned c.atoms k.atom.0) (settled c.space k.atom) w.super40 q commit c.broken))
-        (sym is_head)
+        (subst (λ (u : Volume).
+        IsKept r e (then (with_cleaned c.atoms k.atom.0) (settled c.space k.atom) u commit c.broken))
+        (sym is_volume)
         (subst (λ (o : Option Commit).
-        IsKept r e (then (with_cleaned c.atoms k.atom.0) (settled c.space k.atom) w.super40 w.head o c.broken))
+        IsKept r e (then (with_cleaned c.atoms k.atom.0) (settled c.space k.atom) last o c.broken))
         (sym is_none)
         (subst (λ (z : Option ℕ).
-        IsKept r e (then (with_cleaned c.atoms k.atom.0) (settled c.space k.atom) w.super40 w.head None z))
+        IsKept r e (then (with_cleaned c.atoms k.atom.0) (settled c.space k.atom) last None z))
         (sym writes.sound)
         (kept_footed disk r d e c k w dev here goes settles is v steps buffer cells spare lawful still fair
-        owners))))))
+        owners)))))

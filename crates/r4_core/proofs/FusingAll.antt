@@ -4,8 +4,10 @@ use Rattle.std.proofs.Common.{None, ◌+◌, ◌∙◌, ap, subst, arith, slice_
 use Rattle.std.proofs.lemmas.List.{take_all}
 use Rattle.r4_atoms.specs.Atoms.{IsOpenAtom}
 use Rattle.r4_history.proofs.ServingSteps.{cons_here, cons_later}
-use Rattle.r4_core.specs.FusingAll.{CanFuseAll, least_of, pairs_of}
-use Rattle.r4_core.specs.declared.fusing.Other.{Other}
+use Rattle.r4_core.specs.FusingAll.{CanFuseAll}
+use Rattle.r4_history.specs.Serving.{least_of}
+use Rattle.r4_others.specs.Others.{pairs_of}
+use Rattle.r4_others.specs.declared.finding.Other.{Other}
 use Rattle.r4_history.specs.Held.{AreOwners, Need}
 use Rattle.r4_history.specs.Serving.{AreOthers}
 use Rattle.r4_kept.specs.History.{owed, owed_for_commit}

@@ -4,6 +4,7 @@ use Rattle.std.specs.Prelude.{slice_get, sum_by}
 use Rattle.std.specs.Option.{option_map}
 use Rattle.std.proofs.lemmas.Bool.{cases_eq}
 use Rattle.r4_atoms.specs.Atoms.{numbers}
+use Rattle.r4_base.specs.Tree.{Name}
 use Rattle.r4_buffer.specs.Changed.{in_turn, unused, uses_of}
 use Rattle.r4_buffer.specs.Seen.{BufferSeen, IsLawful, buffered}
 use Rattle.r4_cell.specs.Seen.{CellSeen, node_of}
@@ -24,7 +25,7 @@ use Rattle.r4_turns.specs.Turns.{IsScript, TurnsSeen, commands_at, given_back, t
 use Rattle.r4_turns.specs.declared.out.Out.{Out}
 use Rattle.r4_turns.specs.declared.turn.Turn.{Turn}
 use Rattle.r4_kept.specs.Accounts.{AreAccounts, CountsCells, cells_for, claims_for}
-use Rattle.r4_kept.specs.Cells.{AreCells, FitsCommit, HasNames, IsAccepted, IsWritingOf}
+use Rattle.r4_kept.specs.Cells.{AreCells, FitsCommit, HasNames, IsAccepted, IsWritingOf, NamesAt}
 use Rattle.r4_kept.specs.History.{IsHistory}
 use Rattle.r4_kept.specs.Kept.{HasStory, IsKept}
 use Rattle.r4_kept.specs.Meaning.{HasMeaning}
@@ -33,6 +34,7 @@ use Rattle.r4_kept.specs.Tables.{AreTables}
 use Rattle.r4_kept.specs.TasksOut.{AreOut, pins_in}
 use Rattle.r4_kept.specs.View.{CoreSeen, blocks_of, tables_of}
 use Rattle.r4_kept.specs.declared.parts.Commit.{Commit}
+use Rattle.r4_kept.proofs.Staying.{named_on, names_as, still_like}
 use Rattle.r4_kept.proofs.Turning.{is_script_before, out_of_others, owed_less, same_of, summed}
 use Rattle.r4_kept.proofs.Unused.{AreLike, IsLike, none_there, readable_like, same_dirty, unused_fewer}
 use Rattle.r4_kept.proofs.Unused.{unused_like, was_there}
@@ -169,6 +171,11 @@ module _ {D : Type 0} (r : Naming) (d : State) (c : CoreSeen D) (k : IsKept r d 
             ap (λ (y : CellSeen). y.block) e.like.cell ∙ h.lands tells i e.entry has e.is);
       }
 
+  names_before : (i : ℕ) (n : Name) → NamesAt buffer i n → NamesAt c.buffer i n
+  names_before i n x =
+      let e = was_there c.buffer buffer like i x.entry x.is in
+      names_as c.buffer i e.entry x.entry e.is e.like.cell n x.among
+
   cells_back : AreCells d after
   cells_back =
       let g = k.cells in
@@ -177,10 +184,15 @@ module _ {D : Type 0} (r : Naming) (d : State) (c : CoreSeen D) (k : IsKept r d 
         space = g.space;
         root = g.root;
         height = g.height;
+        root_stands = λ high. same_dirty c.buffer buffer like c.tree.id.0 ∙ g.root_stands high;
         buffered_names = λ i f at.
             (let e = was_there c.buffer buffer like i f at in
             subst (HasNames (blocks_of c) c.numbers.next_name) (sym e.like.cell) (g.buffered_names i e.entry e.is));
         reached_names = λ q o x has. g.reached_names q o x (outs q o has);
+        owned_names = g.owned_names;
+        named = named_on c.buffer buffer c.tree.id.0 (λ i n x high. names_before i n x) g.named;
+        given_cells = λ sound q o x has there.
+            still_like c.buffer buffer like (blocks_of c) x (g.given_cells sound q o x (outs q o has) there);
         dirty = λ i f at.
             (let e = was_there c.buffer buffer like i f at in (
               (λ yes. (g.dirty i e.entry e.is).0 (sym e.like.dirty ∙ yes)),
@@ -214,9 +226,14 @@ module _ {D : Type 0} (r : Naming) (d : State) (c : CoreSeen D) (k : IsKept r d 
             (let one = scripts q has in
             let e = was_there c.buffer buffer like i f at in
             g.unused q i n e.entry one (sym (same q one) ∙ is_n) e.is);
+        unnamed = λ q i n m has is_n x.
+            (let one = scripts q has in
+            g.unnamed q i n m one (sym (same q one) ∙ is_n) (names_before i m x));
         unreached = λ q p n o x has is_n there.
             (let one = scripts q has in
             g.unreached q p n o x one (sym (same q one) ∙ is_n) (outs p o there));
+        unowned = λ q i n has is_n.
+            (let one = scripts q has in g.unowned q i n one (sym (same q one) ∙ is_n));
         given = λ q o x has next. g.given q o x (outs q o has) (sym (next_back c.turns s out is was q) ∙ next);
       }
 

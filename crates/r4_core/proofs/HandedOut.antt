@@ -9,10 +9,10 @@ use Rattle.r4_base.specs.declared.things.TaskId.{TaskId}
 use Rattle.r4_buffer.specs.Changed.{in_turn, used}
 use Rattle.r4_buffer.specs.Seen.{BufferSeen, buffered, cells_of}
 use Rattle.r4_cell.specs.Seen.{CellSeen}
-use Rattle.r4_core.specs.Handing.{TakesNew, as_task}
+use Rattle.r4_core.specs.Handing.{as_task}
 use Rattle.r4_core.specs.declared.handing.Given.{Given}
 use Rattle.r4_history.specs.Held.{HoldsNew, names_of}
-use Rattle.r4_locks.specs.Locks.{LocksSeen, mode_with}
+use Rattle.r4_locks.specs.Locks.{LocksSeen, TakesNew, mode_with}
 use Rattle.r4_locks.specs.declared.things.Mode.TheVariants.{Reads, Writes}
 use Rattle.r4_turns.specs.Turns.{TurnsSeen, gone_out}
 use Rattle.r4_turns.specs.declared.out.Out.{Out}

@@ -345,8 +345,12 @@ module _ {D : Type 0} (disk : FitsOnDisk) (r : Naming) (d e : State) (x : CoreSe
         space = g.space;
         root = g.root;
         height = g.height;
+        root_stands = g.root_stands;
         buffered_names = g.buffered_names;
         reached_names = g.reached_names;
+        owned_names = λ i some. g.owned_names i (subst IsSome (owners i) some);
+        named = g.named;
+        given_cells = λ sound. g.given_cells refl;
         dirty = λ i f at. (
           (λ yes. subst IsSome (sym (owners i)) ((g.dirty i f at).0 yes)),
           (λ some. (g.dirty i f at).1 (subst IsSome (owners i) some)),
@@ -443,7 +447,9 @@ module _ {D : Type 0} (disk : FitsOnDisk) (r : Naming) (d e : State) (x : CoreSe
       drawn = h.tasks.drawn;
       apart = h.tasks.apart;
       unused = h.tasks.unused;
+      unnamed = h.tasks.unnamed;
       unreached = h.tasks.unreached;
+      unowned = λ q i n has is_n low high. owners i ∙ h.tasks.unowned q i n has is_n low high;
       given = h.tasks.given;
     };
     lender = λ l is_l. goes.lender ∙ h.lender l is_l;

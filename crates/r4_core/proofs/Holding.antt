@@ -3,9 +3,8 @@ use Rattle.std.proofs.Common.{Option, sym, ◌∙◌, ap, subst}
 use Rattle.std.specs.Prelude.{IsSome}
 use Rattle.r4_durable.specs.Meaning.{Beginning, IsNamed}
 use Rattle.r4_history.specs.Held.{TasksTell}
-use Rattle.r4_locks.specs.Locks.{LocksSeen, TaskSeen, mode_in}
+use Rattle.r4_locks.specs.Locks.{LocksSeen, SameTasks, TaskSeen, mode_in}
 use Rattle.r4_outside.specs.Device.{State}
-use Rattle.r4_core.specs.Handing.{HoldSame}
 use Rattle.r4_kept.specs.Accounts.{AreAccounts}
 use Rattle.r4_kept.specs.Cells.{AreCells}
 use Rattle.r4_kept.specs.History.{IsHistory}
@@ -15,7 +14,7 @@ use Rattle.r4_kept.specs.TasksOut.{AreOut}
 use Rattle.r4_kept.specs.View.{CoreSeen, tables_of}
 
 module _ {D : Type 0} (r : Naming) (d : State) (c : CoreSeen D) (k : IsKept r d c) (locks : LocksSeen)
-    (same : HoldSame c.locks locks) where
+    (same : SameTasks c.locks locks) where
   abbrev after : CoreSeen D
   after = record c { locks = locks }
 
@@ -72,8 +71,12 @@ module _ {D : Type 0} (r : Naming) (d : State) (c : CoreSeen D) (k : IsKept r d 
         space = g.space;
         root = g.root;
         height = g.height;
+        root_stands = g.root_stands;
         buffered_names = g.buffered_names;
         reached_names = g.reached_names;
+        owned_names = g.owned_names;
+        named = g.named;
+        given_cells = g.given_cells;
         dirty = g.dirty;
         fresh = g.fresh;
         clean = g.clean;
@@ -89,7 +92,9 @@ module _ {D : Type 0} (r : Naming) (d : State) (c : CoreSeen D) (k : IsKept r d 
         drawn = g.drawn;
         apart = g.apart;
         unused = g.unused;
+        unnamed = g.unnamed;
         unreached = g.unreached;
+        unowned = g.unowned;
         given = g.given;
       }
 

@@ -1,5 +1,4 @@
 mod AtStart
-mod Replayed
 mod Answered
 mod Ended
 mod Replied
@@ -7,17 +6,19 @@ mod RefusedOut
 mod Begun
 mod Pushed
 mod GivingBack
-mod NewTask
 mod HandedOut
 mod Holding
 mod Writing
 mod Parting
 mod Heading
 mod Joined
-mod FusingAll
+pub mod FusingAll
 mod Footing
 mod Emptied
 mod SealedEmpty
 mod Sparing
 mod Advanced
 mod Stepped
+mod MayDo
+mod DoneBy
+mod Roomier

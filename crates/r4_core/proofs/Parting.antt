@@ -181,8 +181,12 @@ module _ {D : Type 0} (disk : FitsOnDisk) (r : Naming) (d e : State) (x : CoreSe
         space = g.space;
         root = g.root;
         height = g.height;
+        root_stands = g.root_stands;
         buffered_names = g.buffered_names;
         reached_names = g.reached_names;
+        owned_names = g.owned_names;
+        named = g.named;
+        given_cells = λ sound. g.given_cells refl;
         dirty = g.dirty;
         fresh = g.fresh;
         clean = λ sound. readable_now disk r d e x k w dev h goes settles v steps;
@@ -242,7 +246,9 @@ module _ {D : Type 0} (disk : FitsOnDisk) (r : Naming) (d e : State) (x : CoreSe
       drawn = h.tasks.drawn;
       apart = h.tasks.apart;
       unused = h.tasks.unused;
+      unnamed = h.tasks.unnamed;
       unreached = h.tasks.unreached;
+      unowned = h.tasks.unowned;
       given = h.tasks.given;
     };
     lender = λ l is. goes.lender ∙ h.lender l is;

@@ -356,8 +356,12 @@ module _ {D : Type 0} (disk : FitsOnDisk) (r : Naming) (d e : State) (x : CoreSe
         space = g.space;
         root = g.root;
         height = g.height;
+        root_stands = g.root_stands;
         buffered_names = g.buffered_names;
         reached_names = g.reached_names;
+        owned_names = g.owned_names;
+        named = g.named;
+        given_cells = λ none. absurd (cc none);
         dirty = g.dirty;
         fresh = g.fresh;
         clean = λ none. absurd (cc none);
@@ -412,7 +416,9 @@ module _ {D : Type 0} (disk : FitsOnDisk) (r : Naming) (d e : State) (x : CoreSe
       drawn = h.tasks.drawn;
       apart = h.tasks.apart;
       unused = h.tasks.unused;
+      unnamed = h.tasks.unnamed;
       unreached = h.tasks.unreached;
+      unowned = h.tasks.unowned;
       given = h.tasks.given;
     };
     lender = λ l is. goes.lender ∙ h.lender l is;
@@ -436,17 +442,16 @@ module _ {D : Type 0} (disk : FitsOnDisk) (r : Naming) (d e : State) (c : CoreSe
   keeps_broken = kept_over disk r d e c k w dev (at_hand r d c k w h at) goes settles
 
   -- the same of parts that are as they are then
-  pub keeps_failed : (commit : Option Commit) (clock faults : ℕ) (entries : Told) → commit ≡ None → clock ≡ e.clock
-      → faults ≡ e.faults → entries ≡ with_entry c.trace (Broken clock faults)
-      → IsKept r e (record c { dev = dev; commit = commit; broken = Some clock; trace = entries })
-  keeps_failed commit clock faults entries is_none is_clock are_faults is_told =
-      subst (λ (o : Option Commit).
-      IsKept r e (record c { dev = dev; commit = o; broken = Some clock; trace = entries }))
+  pub keeps_failed : (commit : Option Commit) (broken : Option ℕ) (entries : Told) → commit ≡ None
+      → broken ≡ Some e.clock → entries ≡ with_entry c.trace (Broken e.clock e.faults)
+      → IsKept r e (record c { dev = dev; commit = commit; broken = broken; trace = entries })
+  keeps_failed commit broken entries is_none is_broken is_told =
+      subst (λ (o : Option Commit). IsKept r e (record c { dev = dev; commit = o; broken = broken; trace = entries }))
       (sym is_none)
-      (subst (λ (l : Told). IsKept r e (record c { dev = dev; commit = None; broken = Some clock; trace = l }))
-      (sym is_told)
-      (subst (λ (n : ℕ). IsKept r e (failed c dev n faults)) (sym is_clock)
-      (subst (λ (n : ℕ). IsKept r e (failed c dev e.clock n)) (sym are_faults) keeps_broken)))
+      (subst (λ (o : Option ℕ). IsKept r e (record c { dev = dev; commit = None; broken = o; trace = entries }))
+      (sym is_broken)
+      (subst (λ (l : Told). IsKept r e (record c { dev = dev; commit = None; broken = Some e.clock; trace = l }))
+      (sym is_told) keeps_broken))
 
 -- the commit and the plan that a core has are those that it writes
 pub writes_as : {D : Type 0} (c : CoreSeen D) → IsAtPlan c → (k : Commit) (w : CommitSeen)

@@ -1,14 +1,10 @@
 -- Other atoms with which one fuses.
-use Rattle.std.specs.Prelude.{◌≡◌, ◌≢◌, ◌+◌, ◌≤◌, ℕ, Contains, List, [], ◌∷◌, None, length, map, min}
+use Rattle.std.specs.Prelude.{◌≡◌, ◌≢◌, ◌+◌, ◌≤◌, ℕ, Contains, List, None}
+use Rattle.std.specs.Prelude.{length}
 use Rattle.r4_atoms.specs.Atoms.{IsOpenAtom}
-use Rattle.r4_core.specs.declared.fusing.Other.{Other}
 use Rattle.r4_history.specs.Serving.{Rise}
 use Rattle.r4_kept.specs.History.{owed, owed_for_commit}
 use Rattle.r4_kept.specs.View.{CoreSeen}
-
--- each of them with its node
-abbrev pub pairs_of : List Other → List (ℕ × ℕ)
-pairs_of others = map (λ (o : Other). (o.atom.0, o.node.0)) others
 
 -- An atom may fuse with these, one after another: all of them are open, and they are others and
 -- rise. There is room for an entry for each.
@@ -19,8 +15,3 @@ pub record CanFuseAll {D : Type 0} (c : CoreSeen D) (own : ℕ) (others : List (
     pub rise : Rise others
     pub each : (p : ℕ × ℕ) → Contains others p → IsOpenAtom c.atoms p.0 × (p.0 ≢ own)
     pub room : owed c.turns + owed_for_commit c.commit + length others ≤ c.trace.spare
-
--- what an atom becomes with these, the smallest of them
-abbrev pub least_of : (own : ℕ) → (others : List (ℕ × ℕ)) → ℕ
-least_of own [] = own
-least_of own (p ∷ rest) = least_of (min own p.0) rest

@@ -10,9 +10,8 @@ use Rattle.r4_turns.specs.declared.out.Out.{Out}
 
 -- Its task is given back, and then it is refused and its transaction ends.
 pub record IsRefusedOut
-    {D : Type 0} (old new : CoreSeen D) (script : ScriptNo) (txn : TxnNo) (reply : Reply) (out : Out)
-    : Type 0
-  where
-    pub between : CoreSeen D
-    pub back : IsTakenBack old between script.0 out
-    pub refused : new ≡ refused_single between script txn reply
+    {D : Type 0} (old new : CoreSeen D)
+    (script : ScriptNo) (txn : TxnNo) (reply : Reply) (out : Out) : Type 0 where
+  pub between : CoreSeen D
+  pub back : IsTakenBack old between script.0 out
+  pub refused : new ≡ refused_single between script txn reply

@@ -18,9 +18,9 @@ use r4_outside::{Device, Run};
 use r4_trace::Entry;
 
 impl<D: Device, R: Run> Core<D, R> {
-    // A `commit` is acknowledged, once each transaction of its script is in a committed atom. There
-    // is room for its entry.
-    pub(crate) fn acknowledge(&mut self, script: ScriptNo, txn: TxnNo)
+    /// A `commit` is acknowledged, once each transaction of its script is in a committed atom. There
+    /// is room for its entry.
+    pub fn acknowledge(&mut self, script: ScriptNo, txn: TxnNo)
         requires sound { self.old.broken ≡ None }
         requires stands { Stands self.old.turns script.0 None (Some asks.Commit) }
         requires last { IsLastOf self.old.atoms script.0 txn.0 }
@@ -33,9 +33,9 @@ impl<D: Device, R: Run> Core<D, R> {
         self.trace.push(Entry::Acked { script, txn, clock });
     }
 
-    // The next command of a script is refused: work, in the transaction that `begin` began or in
-    // none, or `commit`. A refused `commit` has its room.
-    pub(crate) fn refuse(&mut self, script: ScriptNo, txn: TxnNo, reply: Reply)
+    /// The next command of a script is refused: work, in the transaction that `begin` began or in
+    /// none, or `commit`. A refused `commit` has its room.
+    pub fn refuse(&mut self, script: ScriptNo, txn: TxnNo, reply: Reply)
         requires sound { self.old.broken ≡ None }
         requires refusable { IsRefusable self.old.turns script.0 txn }
         requires room { owed (answered_one self.old.turns script.0)
@@ -53,9 +53,9 @@ impl<D: Device, R: Run> Core<D, R> {
         });
     }
 
-    // A single command is refused, and the transaction that was begun for it ends: two entries as
-    // one step, since no other may come between.
-    pub(crate) fn refuse_single(&mut self, script: ScriptNo, txn: TxnNo, reply: Reply)
+    /// A single command is refused, and the transaction that was begun for it ends: two entries as
+    /// one step, since no other may come between.
+    pub fn refuse_single(&mut self, script: ScriptNo, txn: TxnNo, reply: Reply)
         requires sound { self.old.broken ≡ None }
         requires stands { StandsSingle self.old.turns script.0 txn }
         requires room { owed self.old.turns + owed_for_commit self.old.commit + 2
@@ -75,9 +75,9 @@ impl<D: Device, R: Run> Core<D, R> {
         self.trace.push(Entry::Ended { txn });
     }
 
-    // After a call of the device failed, the next command of a script is refused, in no
-    // transaction.
-    pub(crate) fn reopen(&mut self, script: ScriptNo, failed: u64)
+    /// After a call of the device failed, the next command of a script is refused, in no
+    /// transaction.
+    pub fn reopen(&mut self, script: ScriptNo, failed: u64)
         requires failed { self.old.broken ≡ Some failed }
         requires script { IsScript self.old.turns script.0 }
         requires next { IsSome (next_at self.old.turns script.0) }

@@ -1,6 +1,6 @@
 //! Transactions begin.
 
-ghost use Rattle.std.specs.Prelude.{◌≡◌, ◌+◌, ◌<◌, ◌≤◌, length, IfOk, None, OnErr, Some};
+ghost use Rattle.std.specs.Prelude.{◌≡◌, ◌+◌, ◌<◌, ◌≤◌, length, IfOk, IsOk, None, OnErr, Some};
 ghost use Rattle.r4_content.specs.declared.command.Command.TheVariants as asks;
 ghost use Rattle.r4_history.specs.Tables.{Stands};
 ghost use Rattle.r4_kept.specs.History.{owed, owed_for_commit};
@@ -13,9 +13,9 @@ use r4_trace::Entry;
 use std::alloc::Global;
 
 impl<D: Device, R: Run> Core<D, R> {
-    // A transaction begins by the `begin` that is the next command of a script. The only error is
-    // want of memory, and all is as before then.
-    pub(crate) fn begin(&mut self, alloc: Global, script: ScriptNo) -> Result<TxnNo, Memory>
+    /// A transaction begins by the `begin` that is the next command of a script. The only error is
+    /// want of memory, and all is as before then.
+    pub fn begin(&mut self, alloc: Global, script: ScriptNo) -> Result<TxnNo, Memory>
         requires sound { self.old.broken ≡ None }
         requires stands { Stands self.old.turns script.0 None (Some asks.Begin) }
         requires few { length self.old.atoms.txns < 4294967295 }
@@ -32,16 +32,17 @@ impl<D: Device, R: Run> Core<D, R> {
         Ok(txn)
     }
 
-    // A single command, work outside of transactions, gets a transaction of its own. The command is
-    // still the next one: it is answered later. The only error is want of memory, and all is as
-    // before then.
-    pub(crate) fn begin_single(&mut self, alloc: Global, script: ScriptNo) -> Result<TxnNo, Memory>
+    /// A single command, work outside of transactions, gets a transaction of its own. The command is
+    /// still the next one: it is answered later. The only error is want of memory, and all is as
+    /// before then.
+    pub fn begin_single(&mut self, alloc: Global, script: ScriptNo) -> Result<TxnNo, Memory>
         requires sound { self.old.broken ≡ None }
         requires alone { StandsAlone self.old.turns script.0 }
         requires few { length self.old.atoms.txns < 4294967295 }
         requires room { owed self.old.turns + owed_for_commit self.old.commit + 1
             ≤ self.old.trace.spare }
         ensures ok { IfOk result (λ txn. HasBegunSingle self.old self.new script txn) }
+        ensures enough { 1 ≤ self.old.atoms.txn_spare → IsOk result }
         ensures err { OnErr result (self.new ≡ self.old) }
     {
         self.atoms.lawful();

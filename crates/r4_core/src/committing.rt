@@ -13,18 +13,18 @@ ghost use Rattle.r4_kept.specs.Steps.{emptied};
 ghost use Rattle.r4_kept.specs.declared.parts.Commit.{Commit};
 
 use crate::core_state::Core;
+use crate::plan_ends::{fail, foot, head, volume_by};
 use r4_base::AtomNo;
 use r4_cell::on_disk_law;
 use r4_commit::step;
-use r4_kept::{Commit, Step, Volume};
+use r4_kept::{Commit, Step};
 use r4_outside::{Device, Failed, Run};
-use r4_trace::Entry;
 use r4_wander::Stage;
 
 impl<D: Device, R: Run> Core<D, R> {
-    // One step of the commit's plan. With the journal header the atom is committed, and the trace tells it with the
-    // clock then; with the journal footer the commit is over. Where a call of the device fails it is over too, since
-    // nothing more is known of its plan.
+    // One step of the commit's plan. With the journal header the atom is committed, and the trace
+    // tells it with the clock then; with the journal footer the commit is over. Where a call of the
+    // device fails it is over too, since nothing more is known of its plan.
     pub(crate) fn advance(&mut self) -> Step
         requires { IsAtPlan self.old }
         ensures goes { Goes (D.state self.old.dev) (D.state self.new.dev) }
@@ -48,42 +48,32 @@ impl<D: Device, R: Run> Core<D, R> {
             unreachable!();
         };
         let Commit { atom, nodes, work } = commit;
-        let Some(plan) = work else {
+        let Some(mut plan) = work else {
             unreachable!();
         };
-        let mut plan = plan;
         let stage = match step(&mut plan, &mut self.dev) {
             Ok(stage) => stage,
-            Err(Failed) => {
-                let clock = self.dev.clock();
-                let faults = self.dev.faults();
-                self.broken = Some(clock);
-                self.trace.push(Entry::Broken { clock, faults });
-                return Step::Broken { clock, faults };
-            }
+            Err(Failed) => return fail(&self.dev, &mut self.broken, &mut self.trace),
         };
         match stage {
             Stage::Headed => {
                 let clock = self.dev.clock();
-                self.atoms.commit(atom);
-                self.trace.push(Entry::Committed { atom, clock });
-                self.commit = Some(Commit {
-                    atom,
-                    nodes,
-                    work: Some(plan),
-                });
+                head(&mut self.atoms, &mut self.trace, atom, clock);
+                let work = Some(plan);
+                self.commit = Some(Commit { atom, nodes, work });
                 Step::Committed(atom)
             }
             Stage::Footed => {
                 self.space.lawful();
                 self.buffer.lawful();
-                self.space.settle(atom);
-                self.atoms.clean(atom);
-                self.buffer.clean(nodes.as_slice());
-                self.buffer.lawful();
-                let super40 = *plan.super40();
-                let prev = plan.head();
-                self.volume = Volume { super40, prev };
+                foot(
+                    &mut self.space,
+                    &mut self.atoms,
+                    &mut self.buffer,
+                    atom,
+                    nodes.as_slice(),
+                );
+                self.volume = volume_by(&plan);
                 Step::More
             }
             _ => {
@@ -94,7 +84,8 @@ impl<D: Device, R: Run> Core<D, R> {
         }
     }
 
-    // The commit of an atom without cells: it is committed, and the trace tells it, with no call of the device.
+    // The commit of an atom without cells: it is committed, and the trace tells it, with no call of
+    // the device.
     pub(crate) fn empty(&mut self) -> AtomNo
         requires { IsAtNothing self.old }
         ensures goes { Goes (D.state self.old.dev) (D.state self.new.dev) }
@@ -106,9 +97,8 @@ impl<D: Device, R: Run> Core<D, R> {
         };
         let atom = commit.atom;
         let clock = self.dev.clock();
-        self.atoms.commit(atom);
+        head(&mut self.atoms, &mut self.trace, atom, clock);
         self.atoms.clean(atom);
-        self.trace.push(Entry::Committed { atom, clock });
         atom
     }
 }

@@ -12,7 +12,11 @@ ghost use Rattle.r4_trace.specs.Folds.{after_first};
 ghost use Rattle.r4_history.specs.Tables.{asked};
 ghost use Rattle.r4_trace.specs.Legal.{IsLegal};
 ghost use Rattle.r4_trace.specs.Traced.{committed_in, latest};
+ghost use Rattle.r4_buffer.specs.Seen.{IsLawful};
+ghost use Rattle.r4_core.specs.Doing.{naming};
+ghost use Rattle.r4_kept.specs.Kept.{IsKept};
 ghost use Rattle.r4_kept.specs.Naming.{names_of};
+ghost use Rattle.r4_locks.specs.Locks.{AreHolds};
 
 use r4_atoms::Atoms;
 use r4_base::AtomNo;
@@ -100,6 +104,52 @@ impl<D: Device, R: Run> Core<D, R> {
         ensures { result.now ≡ self.now.turns.job }
     {
         self.turns.job()
+    }
+
+    /// The turns of the scripts. No memory.
+    pub fn turns(&self) -> &Turns
+        ensures { result.now ≡ self.now.turns }
+    {
+        &self.turns
+    }
+
+    /// The table of atoms. No memory.
+    pub fn atoms(&self) -> &Atoms
+        ensures { result.now ≡ self.now.atoms }
+    {
+        &self.atoms
+    }
+
+    /// The numbers that are drawn next.
+    pub fn numbers(&self) -> Numbers
+        ensures { result ≡ self.now.numbers }
+    {
+        self.numbers
+    }
+
+    /// The clock of the call of the device that failed, if one did.
+    pub fn broken(&self) -> Option<u64>
+        ensures { result ≡ self.now.broken }
+    {
+        self.broken
+    }
+
+    /// The atom whose commit is under way, if one is. No memory.
+    pub fn atom_under_way(&self) -> Option<AtomNo>
+        ensures { result ≡ option_map (λ k. k.atom) self.now.commit }
+    {
+        self.commit.as_ref().map(|k| k.atom)
+    }
+
+    /// What holds of every core. It changes nothing.
+    pub fn lawful(&self)
+        ensures kept { IsKept (naming R.start R.clock R.scripts R.lender) (D.state self.now.dev)
+            self.now }
+        ensures buffer { IsLawful self.now.buffer }
+        ensures holds { AreHolds self.now.locks }
+    {
+        self.buffer.lawful();
+        self.locks.lawful();
     }
 
     /// The smallest atom that was never sealed and has no open transaction. No memory.

@@ -2,26 +2,22 @@
 
 ghost use Rattle.std.specs.Prelude.{◌≡◌, ◌≢◌, ◌+◌, ◌<◌, ◌≤◌, None, max, min};
 ghost use Rattle.r4_atoms.specs.Atoms.{IsOpenAtom};
-ghost use Rattle.r4_core.specs.FusingAll.{CanFuseAll, least_of, pairs_of};
+ghost use Rattle.r4_core.specs.FusingAll.{CanFuseAll};
+ghost use Rattle.r4_history.specs.Serving.{least_of};
+ghost use Rattle.r4_others.specs.Others.{pairs_of};
 ghost use Rattle.r4_kept.specs.History.{owed, owed_for_commit};
 ghost use Rattle.r4_taking.specs.Fusing.{HasFused, HasFusedAll};
 
 use crate::core_state::Core;
 use r4_base::{AtomNo, NodeId};
+use r4_others::Other;
 use r4_outside::{Device, Run};
 use r4_trace::Entry;
 
-/// Another atom, which owns a node that a command reaches.
-#[derive(Clone, Copy, Debug, PartialEq, Eq)]
-pub struct Other {
-    pub atom: AtomNo,
-    pub node: NodeId,
-}
-
 impl<D: Device, R: Run> Core<D, R> {
-    // Other open atoms, which rise, fuse one after another with a command's own one; the smaller of
-    // two names what they become. Answers what all of them became. No memory.
-    pub(crate) fn fuse_all(&mut self, own: AtomNo, others: &[Other]) -> AtomNo
+    /// Other open atoms, which rise, fuse one after another with a command's own one; the smaller of
+    /// two names what they become. Answers what all of them became. No memory.
+    pub fn fuse_all(&mut self, own: AtomNo, others: &[Other]) -> AtomNo
         requires { CanFuseAll self.old own.0 (pairs_of others.now) }
         ensures fused { HasFusedAll self.old own.0 (pairs_of others.now) self.new }
         ensures least { result.0 ≡ least_of own.0 (pairs_of others.now) }

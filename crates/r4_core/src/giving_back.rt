@@ -10,8 +10,8 @@ use r4_base::ScriptNo;
 use r4_outside::{Device, Run};
 
 impl<D: Device, R: Run> Core<D, R> {
-    // The task of a script is given back: its command is the next one again.
-    pub(crate) fn take_back(&mut self, script: ScriptNo)
+    /// The task of a script is given back: its command is the next one again.
+    pub fn take_back(&mut self, script: ScriptNo)
         requires script { IsScript self.old.turns script.0 }
         requires is_out { IsSome (turn_at self.old.turns script.0).out }
         ensures { (out : Out) → (turn_at self.old.turns script.0).out ≡ Some out

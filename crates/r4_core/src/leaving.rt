@@ -11,8 +11,8 @@ use r4_outside::{Device, Run};
 use r4_trace::Entry;
 
 impl<D: Device, R: Run> Core<D, R> {
-    // The transaction of a script ends because the script has no further command.
-    pub(crate) fn leave(&mut self, script: ScriptNo, txn: TxnNo)
+    /// The transaction of a script ends because the script has no further command.
+    pub fn leave(&mut self, script: ScriptNo, txn: TxnNo)
         requires sound { self.old.broken ≡ None }
         requires stands { Stands self.old.turns script.0 (Some (inside txn)) None }
         requires room { owed self.old.turns + owed_for_commit self.old.commit + 1

@@ -4,22 +4,26 @@
 #![tactic(auto)]
 
 mod answering;
+mod asking;
 mod beginning;
 mod committing;
 mod core_state;
+mod doing;
 mod ending;
-mod fault;
 mod fusing;
 mod giving_back;
 mod handing;
 mod leaving;
 mod opening;
+mod plan_ends;
 mod pushing;
 mod refusing;
+mod rooms;
 mod sealing;
-mod starting;
 mod stepping;
 
 pub use core_state::{Core, goes_to_threads};
-pub use fault::{OpenFault, OpenWhy};
+pub use doing::Made;
+pub use handing::{Given, GoingOut};
 pub use r4_kept::{Commit, Numbers, Step, Volume};
+pub use r4_start::{OpenFault, OpenWhy};

@@ -9,16 +9,16 @@ ghost use Rattle.r4_outside.specs.Device.{Goes, IsQuiet, TellsCrashes, TellsRead
 ghost use Rattle.r4_script.specs.Spelling.{AreScripts};
 ghost use Rattle.r4_script.specs.Text.{job_of};
 ghost use Rattle.r4_kept.specs.Naming.{names_of};
-ghost use Rattle.r4_core.specs.Opening.{IsAtStart, IsOpenFault, OpensFrom};
+ghost use Rattle.r4_core.specs.Opening.{IsAtStart, OpensFrom};
+ghost use Rattle.r4_start.specs.Starting.{IsOpenFault};
 
 use crate::core_state::Core;
-use crate::fault::OpenFault;
-use crate::starting::{Start, start_of};
 use r4_atoms::Atoms;
 use r4_buffer::Buffer;
 use r4_locks::LockTable;
 use r4_outside::{Device, Run};
 use r4_script::Job;
+use r4_start::{OpenFault, Start, start_of};
 use std::alloc::Global;
 use std::marker::PhantomData;
 

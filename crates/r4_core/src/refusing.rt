@@ -12,9 +12,9 @@ use r4_content::Reply;
 use r4_outside::{Device, Run};
 
 impl<D: Device, R: Run> Core<D, R> {
-    // A single command whose task is out is refused. The task is given back first; then there is
-    // room for both entries, which no other call may have used.
-    pub(crate) fn refuse_out(&mut self, script: ScriptNo, txn: TxnNo, reply: Reply)
+    /// A single command whose task is out is refused. The task is given back first; then there is
+    /// room for both entries, which no other call may have used.
+    pub fn refuse_out(&mut self, script: ScriptNo, txn: TxnNo, reply: Reply)
         requires sound { self.old.broken ≡ None }
         requires script { IsScript self.old.turns script.0 }
         requires own { (turn_at self.old.turns script.0).transaction ≡ Some (single txn) }

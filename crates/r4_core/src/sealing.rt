@@ -13,8 +13,8 @@ use r4_trace::Entry;
 use r4_turns::Nodes;
 
 impl<D: Device, R: Run> Core<D, R> {
-    // An atom is sealed that owns no cell. Its commit is under way then, and writes nothing.
-    pub(crate) fn seal_empty(&mut self, atom: AtomNo, nodes: Nodes)
+    /// An atom is sealed that owns no cell. Its commit is under way then, and writes nothing.
+    pub fn seal_empty(&mut self, atom: AtomNo, nodes: Nodes)
         requires sound { self.old.broken ≡ None }
         requires rest { self.old.commit ≡ None }
         requires unsealed { IsOpenAtom self.old.atoms atom.0 }

@@ -20,14 +20,16 @@ use r4_kept::Step;
 use r4_outside::{Device, Run};
 
 impl<D: Device, R: Run> Core<D, R> {
-    /// Makes one step of the commit under way: from one to four writes and syncs, or none for an atom without cells. It
-    /// takes no memory. `Idle` comes where no commit is under way, `Committed` from the step that wrote and synced the
-    /// journal header, `Broken` where a call of the device failed (docs/core.md, "A commit").
+    /// Makes one step of the commit under way: from one to four writes and syncs, or none for an
+    /// atom without cells. It takes no memory. `Idle` comes where no commit is under way,
+    /// `Committed` from the step that wrote and synced the journal header, `Broken` where a call of
+    /// the device failed (docs/core.md, "A commit").
     pub fn commit_step(&mut self) -> Step
         ensures goes { Goes (D.state self.old.dev) (D.state self.new.dev) }
 
-        // It does nothing, or what its commit asks for: with the journal header and for an atom without cells comes
-        // the Committed entry, where a call fails the Broken one, each with the clock then.
+        // It does nothing, or what its commit asks for: with the journal header and for an atom
+        // without cells comes the Committed entry, where a call fails the Broken one, each with the
+        // clock then.
         ensures step { TakesStep (D.state self.old.dev) (D.state self.new.dev) self.old self.new
             self.old.commit result }
         ensures idle { (result ≡ Idle) ↔ (self.old.commit ≡ None) }
@@ -43,8 +45,8 @@ impl<D: Device, R: Run> Core<D, R> {
         ensures spares { (k : Commit) (w : CommitSeen) → Writes self.old k w
             → Spares (IsTarget (under_way w.work)) (D.state self.old.dev) (D.state self.new.dev) }
 
-        // But for the homes none falls on a block that an image needs which a crash meanwhile may leave, in a run that
-        // names its image and its clock, on a device that tells this.
+        // But for the homes none falls on a block that an image needs which a crash meanwhile may
+        // leave, in a run that names its image and its clock, on a device that tells this.
         ensures needed { (b : Beginning) (t : ℕ)
             → IsNamed (names_of R.start R.clock R.scripts) (D.state self.old.dev).blocks b
             → R.clock ≡ Some t → TellsCrashes (D.state self.old.dev)

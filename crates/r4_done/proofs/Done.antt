@@ -1,40 +1,35 @@
 -- A task is done: what holds of a core holds still.
-use Rattle.std.proofs.Common.{◌≡◌, ◌≢◌, ⊎_elim, ℕ, ◌+◌, ◌≤◌, ◌==◌, true, false, cond, List, [], ◌∷◌}
+use Rattle.std.proofs.Common.{◌≡◌, ◌≢◌, ℕ, ◌+◌, ◌<◌, ◌≤◌, ◌==◌, true, false, cond, List, ◌∷◌}
 use Rattle.std.proofs.Common.{Option, Some, None, Contains, get_or, length, option_map, ◌-◌, refl, sym, ◌∙◌, ap}
 use Rattle.std.proofs.Common.{subst, arith}
-use Rattle.std.specs.Prelude.{IsSome, nat_eq}
-use Rattle.std.specs.List.{AllByRecursion, IsDistinct}
 use Rattle.std.specs.Option.{unwrap_or}
-use Rattle.std.proofs.lemmas.Bool.{cond-true, eq-eqb, ne_eqb, or_cases}
-use Rattle.std.proofs.lemmas.List.Elements.{Contains-append_right}
-use Rattle.std.proofs.lemmas.Map.Keys.{IsDistinct-cons}
-use Rattle.r4_atoms.specs.Atoms.{AtomsSeen, TxnSeen, account_of, atom_of, is_sealed, new_atom, no_txn, numbers}
+use Rattle.std.proofs.lemmas.Bool.{cond-true, eq-eqb}
+use Rattle.r4_atoms.specs.Atoms.{AtomsSeen, TxnSeen, account_of, atom_of, is_sealed, new_atom, no_txn}
 use Rattle.r4_atoms.specs.Atoms.{owner_of, state_of, with_state}
 use Rattle.r4_atoms.specs.declared.things.Account.{Account}
 use Rattle.r4_atoms.specs.declared.things.AtomState.{AtomState}
+use Rattle.r4_base.specs.Tree.{Name}
 use Rattle.r4_base.specs.declared.things.AtomNo.{AtomNo}
 use Rattle.r4_base.specs.declared.things.ScriptNo.{ScriptNo}
 use Rattle.r4_base.specs.declared.things.TxnNo.{TxnNo}
-use Rattle.r4_buffer.specs.Changed.{Standing, has_name}
-use Rattle.r4_buffer.specs.Seen.{EntrySeen, buffered, is_dirty_by}
-use Rattle.r4_cell.specs.Patch.{HaveNames}
+use Rattle.r4_buffer.specs.Seen.{buffered, is_dirty_by}
+use Rattle.r4_cell.specs.Patch.{by_name, root_of_pair}
 use Rattle.r4_cell.specs.Seen.{CellSeen}
 use Rattle.r4_cell.specs.declared.change.Change.{Change}
-use Rattle.r4_content.specs.Counts.{born, gone}
 use Rattle.r4_content.specs.Locality.{commands}
-use Rattle.r4_content.specs.Meaning.{greatest_size}
+use Rattle.r4_content.specs.Meaning.{greatest_size, with_id}
 use Rattle.r4_content.specs.declared.command.Command.{Command}
 use Rattle.r4_content.specs.declared.reply.Reply.{Reply}
 use Rattle.r4_durable.specs.Kept.{IsSession}
 use Rattle.r4_durable.specs.Meaning.{Beginning, BeginsWith, IsNamed, means, start_of}
-use Rattle.r4_history.specs.Drawn.{numbers_in, numbers_of}
-use Rattle.r4_history.specs.Held.{IsOut, IsServed, names_of, need_of, nodes_of}
-use Rattle.r4_history.specs.Tables.{Stands, inside, single, with_ended}
+use Rattle.r4_history.specs.Drawn.{numbers_of}
+use Rattle.r4_history.specs.Held.{IsOut, IsServed, need_of, nodes_of}
+use Rattle.r4_history.specs.Tables.{Stands, inside, next_at, single, with_ended}
 use Rattle.r4_history.specs.Told.{HasReply}
 use Rattle.r4_history.proofs.RunSteps.{open_in_both}
 use Rattle.r4_outside.specs.Device.{State, TellsCrashes}
-use Rattle.r4_patch.specs.Joining.{ids_of, patch_of_change}
-use Rattle.r4_patch.proofs.Members.{Distinct, distinct, here, later}
+use Rattle.r4_patch.specs.Joining.{patch_of_change}
+use Rattle.r4_patch.specs.Part.{MeetsPart}
 use Rattle.r4_sets.specs.Atoms.{told}
 use Rattle.r4_trace.proofs.Safely.{safe_push}
 use Rattle.r4_trace.specs.Folds.{content_of, everything}
@@ -43,9 +38,11 @@ use Rattle.r4_trace.specs.Order.{IsOrdered}
 use Rattle.r4_trace.specs.Traced.{atom_in}
 use Rattle.r4_trace.specs.declared.entry.Entry.{Entry}
 use Rattle.r4_trace.specs.declared.entry.Entry.TheVariants.{Done, Ended}
-use Rattle.r4_turns.specs.Turns.{TurnsSeen, answered_at, answered_one, dropped, left, turn_at}
+use Rattle.r4_turns.specs.Turns.{IsScript, TurnsSeen, answered_at, answered_one, dropped, left, turn_at}
+use Rattle.r4_turns.specs.declared.out.Numbers.{Numbers}
 use Rattle.r4_turns.specs.declared.out.Out.{Out}
 use Rattle.r4_turns.specs.declared.turn.Open.{Open}
+use Rattle.r4_kept.specs.Cells.{NamesAt}
 use Rattle.r4_kept.specs.Durable.{IsDurable}
 use Rattle.r4_kept.specs.History.{IsHistory}
 use Rattle.r4_kept.specs.Kept.{IsKept}
@@ -53,9 +50,11 @@ use Rattle.r4_kept.specs.Meaning.{HasMeaning}
 use Rattle.r4_kept.specs.Naming.{Naming, job_named, names_in}
 use Rattle.r4_kept.specs.Steps.{with_entry}
 use Rattle.r4_kept.specs.Story.{Story}
+use Rattle.r4_kept.specs.TasksOut.{IsGiven}
 use Rattle.r4_kept.specs.View.{CoreSeen, tables_of}
 use Rattle.r4_kept.proofs.Carried.{at_told, session_told}
 use Rattle.r4_kept.proofs.States.{state_others, state_same, state_there}
+pub use Rattle.r4_done.specs.Right.{IsRight}
 use Rattle.r4_done.specs.Doing.{HasCaptured}
 use Rattle.r4_done.specs.Done.{CanBeDone, HasDone, HasDoneSingle, HasPut, IsChangeOf}
 use Rattle.r4_taking.proofs.EndedAtoms.{open_before, same_atom, same_count, same_owner}
@@ -63,50 +62,19 @@ use Rattle.r4_done.proofs.Beginning.{begins_at}
 use Rattle.r4_done.proofs.DoneAccounts.{accounts_done}
 use Rattle.r4_done.proofs.DoneCells.{cells_done}
 use Rattle.r4_done.proofs.DoneHistory.{history_done, history_single}
-use Rattle.r4_done.proofs.DoneMeaning.{IsBuiltFor, durable_done, meaning_done, story_done}
+use Rattle.r4_done.proofs.DoneMeaning.{durable_done, meaning_done, story_done}
+use Rattle.r4_done.proofs.DoneOnce.{given_done, unnamed_done}
 use Rattle.r4_done.proofs.DoneTables.{is_touched, tells_inside, tells_single, untouched}
 use Rattle.r4_done.proofs.DoneTasks.{tasks_done}
+use Rattle.r4_done.proofs.Doable.{given_it, is_served, once, own_task, touched_owned}
 use Rattle.r4_done.proofs.Dropped.{TurnsDrop, done_drops, last_drops}
-use Rattle.r4_done.proofs.Named.{number_of, one_named, one_of_ids}
-
--- ---- names that stand once
-
-none_later : (i : ℕ) (xs : List CellSeen) → ((y : CellSeen) → Contains xs y → i ≢ y.id)
-    → AllByRecursion (λ (j : ℕ). nat_eq i j ≡ false) (ids_of xs)
-none_later i [] h = tt
-none_later i (x ∷ xs) h = (ne_eqb i x.id (h x (here x xs)), none_later i xs (λ y has. h y (later x y xs has)))
-
-once_of : (xs : List CellSeen) → Distinct xs → IsDistinct nat_eq (ids_of xs)
-unfolding IsDistinct
-once_of [] h = tt
-once_of (x ∷ xs) (first, rest) =
-    IsDistinct-cons nat_eq x.id (ids_of xs) (none_later x.id xs first) (once_of xs rest)
-
-once : (xs : List CellSeen) → HaveNames xs → IsDistinct nat_eq (ids_of xs)
-once xs h = once_of xs (distinct xs h)
-
-some_of : (o : Option ℕ) → IsSome o → (n : ℕ) × (o ≡ Some n)
-some_of None h = absurd (cc h)
-some_of (Some n) h = (n, refl)
 
 -- ---- a core
 
--- In a run that names its beginning the change does what the command means, and the account has what it makes and
--- takes away.
-pub record IsRight {D : Type 0} (r : Naming) (d : State) (c new : CoreSeen D) (k : IsKept r d c) (s : ScriptNo)
-    (u : TxnNo) (x : Command) (reply : Reply) (change : Change) (a : AtomNo) (account : Account) (b : Beginning)
-    (named : IsNamed (names_in r) d.blocks b) : Type 0
-  where
-    pub built : IsBuiltFor b (job_named r.scripts) c.commit (k.story b named).story.session u s
-        (answered_at c.turns s.0 + 1) x reply (patch_of_change change) c.space new.space
-    pub made : account.born ≡ (account_of c.atoms a.0).born
-        + born greatest_size x (content_of (commands greatest_size) b.content everything c.trace.entries)
-    pub took : account.gone ≡ (account_of c.atoms a.0).gone
-        + gone greatest_size x (content_of (commands greatest_size) b.content everything c.trace.entries)
-
 module _ {D : Type 0} (r : Naming) (d : State) (c : CoreSeen D) (k : IsKept r d c) (s : ScriptNo)
     (within : Open) (out : Out) (x : Command) (reply : Reply) (change : Change) (a : AtomNo) (account : Account)
-    (can : CanBeDone c s within out x a) (of_it : IsChangeOf c out change) (new : CoreSeen D) (atoms : AtomsSeen)
+    (can : CanBeDone c s within out x a) (of_it : IsChangeOf c out x change)
+    (levels : (y : CellSeen) → Contains change.new y → y.level ≤ 8) (new : CoreSeen D) (atoms : AtomsSeen)
     (put : HasPut c new atoms out change a account)
     (right : (b : Beginning) (named : IsNamed (names_in r) d.blocks b)
     → IsRight r d c new k s within.txn x reply change a account b named) where
@@ -120,12 +88,18 @@ module _ {D : Type 0} (r : Naming) (d : State) (c : CoreSeen D) (k : IsKept r d 
   e = Done u s (answered_at c.turns s.0 + 1) x reply
 
   served : IsServed (tables_of c) s.0 out
-  served = k.tables.tasks.served s.0 out can.out_is
+  served = is_served r d c k s within out x change a can of_it
+
+  -- what its task was given
+  was_given : IsGiven c.tree x out
+  was_given = given_it r d c k s within out x change a can of_it
 
   own_out : atom_of c.atoms out.txn.0 ≡ a.0
-  own_out =
-      let same : served.within ≡ within = cc (sym served.transaction ∙ can.stands.transaction) in
-      ap (λ (t : TxnNo). atom_of c.atoms t.0) (sym served.txn ∙ ap (λ (o : Open). o.txn) same) ∙ can.own
+  own_out = own_task r d c k s within out x change a can of_it
+
+  own_dirty : (i : ℕ) → is_touched change.old change.new i ≡ true → is_dirty_by (buffered c.buffer i) ≡ true
+      → owner_of c.atoms i ≡ Some a.0
+  own_dirty = touched_owned r d c k s within out x change a can of_it
 
   own_in : atom_in trace u.0 ≡ a.0
   own_in =
@@ -192,50 +166,29 @@ module _ {D : Type 0} (r : Naming) (d : State) (c : CoreSeen D) (k : IsKept r d 
     spare = put.captures;
   }
 
-  old_owned : (y : CellSeen) → Contains change.old y → (n : ℕ) → owner_of c.atoms y.id ≡ Some n → n ≡ a.0
-  old_owned y there n owned =
-      served.owners y.id n
-      (Contains-append_right (numbers (names_of out.reads)) (numbers (names_of out.writes)) y.id
-      (number_of out.writes y (of_it.reached y there))) owned ∙ own_out
-
-  own_numbers : numbers_of (turn_at c.turns s.0) ≡ Some out.numbers
-  own_numbers = ap (λ (o : Option Out). numbers_in o (turn_at c.turns s.0).numbers) can.out_is.is_out
-
-  owned_by : (i n : ℕ) (f : EntrySeen) → buffered c.buffer i ≡ Some f → is_touched change.old change.new i ≡ true
-      → owner_of c.atoms i ≡ Some n → n ≡ a.0
-  owned_by i n f at hit owned =
-      ⊎_elim
-      (λ one.
-      (let y = one_named change.old i one in old_owned y.0 y.1 n (ap (owner_of c.atoms) y.2 ∙ owned)))
-      (λ two.
-      (let y = one_named change.new i two in
-      ⊎_elim
-      (λ of_old.
-      (let z = one_of_ids change.old y.0.id of_old in
-      old_owned z.0 z.1 n (ap (owner_of c.atoms) (z.2 ∙ y.2) ∙ owned)))
-      (λ fresh.
-      (let from = fresh.0 in
-      let to = fresh.1 in
-      let same = y.2 in
-      absurd (k.tasks.unused s.0 i out.numbers f can.out_is.is_script own_numbers at (omega (arith, from, same))
-      (omega (arith, to, same))))) (of_it.numbered y.0 y.1)))
-      (or_cases (has_name change.old i) (has_name change.new i) hit)
-
-  own_dirty : (i : ℕ) → is_touched change.old change.new i ≡ true → is_dirty_by (buffered c.buffer i) ≡ true
-      → owner_of c.atoms i ≡ Some a.0
-  own_dirty i hit dirty = by (buffered c.buffer i) refl dirty
-    where
-      by : (o : Standing) → buffered c.buffer i ≡ o → is_dirty_by o ≡ true → owner_of c.atoms i ≡ Some a.0
-      by None at h = absurd (cc h)
-      by (Some f) at h =
-          let o = some_of (owner_of c.atoms i) ((k.cells.dirty i f at).0 h) in
-          o.1 ∙ ap (λ (n : ℕ). Some n) (owned_by i o.0 f at hit o.1)
-
   spared : (q : ℕ) (o : Out) → q ≢ s.0 → IsOut c.turns q o → (node : ℕ) → Contains (nodes_of (need_of o)) node
       → is_touched change.old change.new node ≡ false
   spared =
       untouched r d c k s.0 out can.out_is change.old change.new of_it.reached of_it.numbered can.holds new.locks
       put.gone put.others a.0 atoms put.txns captured.owners
+
+  -- ---- what is named, and what other tasks were given
+
+  meets : MeetsPart (patch_of_change change) (by_name was_given.met) (root_of_pair was_given.root)
+  meets = of_it.meets was_given
+
+  module _ (turns : TurnsSeen) (on : TurnsDrop c.turns turns s.0 out) where
+    unnamed_then : (q i : ℕ) (n : Numbers) (m : Name) → IsScript turns q → numbers_of (turn_at turns q) ≡ Some n
+        → NamesAt new.buffer i m → n.fresh.next ≤ m.id → m.id < n.fresh.end → ⊥
+    unnamed_then =
+        unnamed_done r d c k s.0 out can.out_is change.old change.new change.root of_it.is of_it.reached of_it.numbered
+        can.sound x was_given meets new.buffer put.cells turns on
+
+    given_then : (q : ℕ) (o : Out) (y : Command) → IsOut turns q o → next_at turns q ≡ Some y
+        → IsGiven (unwrap_or change.root c.tree) (with_id o.numbers.oid y) o
+    given_then =
+        given_done r d c k s.0 out can.out_is change.old change.new change.root of_it.is of_it.reached of_it.numbered
+        can.sound x was_given meets new.buffer put.cells turns on spared
 
   one_more : (n : ℕ) → n + 1 ≤ cond {A = ℕ} (atom_of c.atoms u.0 == a.0) 1 0 + n
   one_more n =
@@ -285,9 +238,10 @@ module _ {D : Type 0} (r : Naming) (d : State) (c : CoreSeen D) (k : IsKept r d 
           (one_more _) put.one_made put.one_gone after refl;
       cells = cells_done r d c k s.0 out can.out_is change.old change.new change.root of_it.is of_it.reached
           of_it.numbered turns on a can.opened own_out atoms captured.owners new.buffer can.lawful put.cells
-          of_it.all of_it.low new.space put.count after refl;
+          can.sound x was_given meets levels spared new.space put.count after refl;
       tasks = tasks_done r d c k s.0 out can.out_is change.old change.new of_it.reached of_it.numbered turns on
-          new.buffer put.cells after refl;
+          new.buffer put.cells (unwrap_or change.root c.tree) atoms a.0 captured.owners (unnamed_then turns on)
+          (given_then turns on) after refl;
       lender = k.lender;
       story = λ b named.
           (let y = right b named in
@@ -419,9 +373,10 @@ module _ {D : Type 0} (r : Naming) (d : State) (c : CoreSeen D) (k : IsKept r d 
           (λ n. omega arith) (one_more _) put.one_made put.one_gone end refl;
       cells = cells_done r d c k s.0 out can.out_is change.old change.new change.root of_it.is of_it.reached
           of_it.numbered last leaves a can.opened own_out ended captured_end.owners new.buffer can.lawful put.cells
-          of_it.all of_it.low new.space put.count end refl;
+          can.sound x was_given meets levels spared new.space put.count end refl;
       tasks = tasks_done r d c k s.0 out can.out_is change.old change.new of_it.reached of_it.numbered last leaves
-          new.buffer put.cells end refl;
+          new.buffer put.cells (unwrap_or change.root c.tree) ended a.0 captured_end.owners
+          (unnamed_then last leaves) (given_then last leaves) end refl;
       lender = k.lender;
       story = λ b named. record {
         story = story_end b named;
@@ -432,16 +387,17 @@ module _ {D : Type 0} (r : Naming) (d : State) (c : CoreSeen D) (k : IsKept r d 
 
 module _ {D : Type 0} (r : Naming) (d : State) (c : CoreSeen D) (k : IsKept r d c) (s : ScriptNo) (u : TxnNo)
     (out : Out) (x : Command) (reply : Reply) (change : Change) (a : AtomNo) (account : Account)
-    (of_it : IsChangeOf c out change) (new : CoreSeen D)
+    (of_it : IsChangeOf c out x change) (levels : (y : CellSeen) → Contains change.new y → y.level ≤ 8)
+    (new : CoreSeen D)
     (right : (b : Beginning) (named : IsNamed (names_in r) d.blocks b)
     → IsRight r d c new k s u x reply change a account b named) where
   pub keeps_done : CanBeDone c s (inside u) out x a → HasDone c new s u out x reply change a account → IsKept r d new
   keeps_done can has =
       subst (IsKept r d) (sym has.same)
-      (keeps_inside r d c k s (inside u) out x reply change a account can of_it new new.atoms has.put right refl)
+      (keeps_inside r d c k s (inside u) out x reply change a account can of_it levels new new.atoms has.put right refl)
 
   pub keeps_done_single : CanBeDone c s (single u) out x a → HasDoneSingle c new s u out x reply change a account
       → IsKept r d new
   keeps_done_single can has =
       subst (IsKept r d) (sym has.same)
-      (keeps_single r d c k s (single u) out x reply change a account can of_it new has.atoms has.put right refl)
+      (keeps_single r d c k s (single u) out x reply change a account can of_it levels new has.atoms has.put right refl)

@@ -7,19 +7,25 @@ use Rattle.std.proofs.lemmas.Bool.{cases_Bool, cond-false, cond-true, or_cases, 
 use Rattle.std.proofs.lemmas.List.Elements.{Contains-append_right}
 use Rattle.r4_atoms.specs.Atoms.{AtomsSeen, IsOpenAtom, atom_of, numbers, owner_of}
 use Rattle.r4_base.proofs.Members.{no_member}
+use Rattle.r4_base.specs.Key.{rank}
+use Rattle.r4_base.specs.Tree.{Node}
+use Rattle.r4_base.specs.Value.{Value}
 use Rattle.r4_base.specs.declared.things.AtomNo.{AtomNo}
 use Rattle.r4_buffer.specs.Changed.{has_name, in_turn, replaced, unused}
 use Rattle.r4_buffer.specs.Seen.{BufferSeen, EntrySeen, IsLawful, buffered}
-use Rattle.r4_cell.specs.Patch.{IsChange, patch_of, root_of_pair}
+use Rattle.r4_cell.specs.Patch.{IsChange, by_name, patch_of, root_of_pair}
 use Rattle.r4_cell.specs.Seen.{CellSeen}
 use Rattle.r4_cell.specs.declared.change.Root.{Root as RootPair}
 use Rattle.r4_commit.specs.Planned.{CommitSeen}
 use Rattle.r4_content.specs.Locality.{commands}
 use Rattle.r4_content.specs.Meaning.{greatest_size}
+use Rattle.r4_content.specs.declared.command.Command.{Command}
 use Rattle.r4_history.specs.Drawn.{numbers_in}
-use Rattle.r4_history.specs.Held.{IsOut, IsServed, names_of}
+use Rattle.r4_history.specs.Held.{IsOut, IsServed, names_of, need_of, nodes_of}
 use Rattle.r4_history.proofs.RunSteps.{commit_is}
 use Rattle.r4_outside.specs.Device.{State}
+use Rattle.r4_patch.specs.Part.{MeetsPart}
+use Rattle.r4_patch.proofs.Members.{found}
 use Rattle.r4_patch.proofs.Placed.{rises}
 use Rattle.r4_space.specs.Space.{Space}
 use Rattle.r4_turns.specs.Turns.{TurnsSeen, turn_at}
@@ -27,12 +33,13 @@ use Rattle.r4_turns.specs.declared.out.Out.{Out}
 use Rattle.r4_kept.specs.Cells.{AreCells, FitsCommit, HasNames, IsAccepted, IsName, IsWriting, IsWritingOf}
 use Rattle.r4_kept.specs.Kept.{IsKept}
 use Rattle.r4_kept.specs.Naming.{Naming}
-use Rattle.r4_kept.specs.TasksOut.{WereDrawn}
-use Rattle.r4_kept.specs.View.{CoreSeen, blocks_of, committing, root_seen, tables_of}
+use Rattle.r4_kept.specs.TasksOut.{IsGiven, WereDrawn}
+use Rattle.r4_kept.specs.View.{CoreSeen, blocks_of, committing, tables_of}
 use Rattle.r4_kept.specs.declared.parts.Commit.{Commit}
 use Rattle.r4_taking.proofs.Fused.{sealed_differs}
-use Rattle.r4_done.specs.Meeting.{MeetsAll}
+use Rattle.r4_taking.proofs.MetInMemory.{says}
 use Rattle.r4_done.proofs.DoneNames.{found_name, names_done, readable_done}
+use Rattle.r4_done.proofs.DoneOnce.{given_there, named_done, new_in_place, old_stands, root_done}
 use Rattle.r4_done.proofs.DoneTables.{is_touched}
 use Rattle.r4_done.proofs.DoneTasks.{AreNumbered}
 use Rattle.r4_done.proofs.Dropped.{TurnsDrop}
@@ -47,8 +54,11 @@ module _ {D : Type 0} (r : Naming) (d : State) (c : CoreSeen D) (k : IsKept r d 
     (owners : (n : ℕ) → owner_of atoms n ≡ cond (is_touched old new n) (Some a.0) (owner_of c.atoms n))
     (buffer : BufferSeen) (lawful : IsLawful c.buffer)
     (cells : (i : ℕ) → buffered buffer i ≡ in_turn unused out.pins i (replaced old new i (buffered c.buffer i)))
-    (all : MeetsAll c.buffer (blocks_of c) (root_seen c.tree) (patch_of old new root))
-    (low : (x : RootPair) → root ≡ Some x → x.height ≤ 8) where
+    (sound : c.broken ≡ None) (x : Command) (g : IsGiven c.tree x out)
+    (meets : MeetsPart (patch_of old new root) (by_name g.met) (root_of_pair g.root))
+    (levels : (y : CellSeen) → Contains new y → y.level ≤ 8)
+    (spared : (q : ℕ) (o : Out) → q ≢ s → IsOut c.turns q o → (node : ℕ) → Contains (nodes_of (need_of o)) node
+    → is_touched old new node ≡ false) where
   abbrev blocks : ℕ
   blocks = blocks_of c
 
@@ -89,12 +99,19 @@ module _ {D : Type 0} (r : Naming) (d : State) (c : CoreSeen D) (k : IsKept r d 
     where
       by : (o : Option RootPair) → root ≡ o → (2 ≤ (unwrap_or o c.tree).height) × ((unwrap_or o c.tree).height ≤ 8)
       by None none = k.cells.height
-      by (Some x) some =
-          let more : c.tree.height ≤ x.height =
-          rises (patch_of old new root) all.tree (root_seen c.tree) is.patch all.part all.meets.meets (root_of_pair x)
-          (ap (λ (o : Option RootPair). option_map root_of_pair o) some) in
-          let two = k.cells.height.0 in
-          (omega (arith, more, two), low x some)
+      by (Some z) some =
+          let changes = ap (λ (o : Option RootPair). option_map root_of_pair o) some in
+          let more : g.root.height ≤ z.height =
+          rises (patch_of old new root) (by_name g.met) (root_of_pair g.root) is.patch g.reach.part meets.meets
+          (root_of_pair z) changes in
+          let two = g.reach.part.height in
+          let top = is.patch.new_root (root_of_pair z) changes in
+          let (y, there_y, named, says_y) = found new z.id.0 top.node top.is in
+          let high : y.level ≡ z.height =
+          sym (says y.level (rank y.lo) (rank y.hi) y.block).0 ∙ ap (λ (n : Node Value). n.level) (sym says_y)
+          ∙ top.level in
+          let low = levels y there_y in
+          (omega (arith, more, two), omega (arith, high, low))
 
   -- ---- owners
 
@@ -111,6 +128,23 @@ module _ {D : Type 0} (r : Naming) (d : State) (c : CoreSeen D) (k : IsKept r d 
 
   untouched : (i : ℕ) (f : EntrySeen) → Untouched c.buffer old new i f → is_touched old new i ≡ false
   untouched i f u = rw (u.not_old, u.not_new) refl
+
+  -- a node that the change touches has a name that a cell may have
+  touched_name : (i : ℕ) → is_touched old new i ≡ true → IsName blocks next i
+  touched_name i hit =
+      ⊎_elim
+      (λ one. (let x = one_named old i one in subst (IsName blocks next) x.2 (had x.0 x.1).own))
+      (λ two.
+      (let x = one_named new i two in
+      subst (IsName blocks next) x.2
+      (names_done blocks next old new root is out.numbers drawn numbered had x.0 x.1).own))
+      (or_cases (has_name old i) (has_name new i) hit)
+
+  owned_names_then : (i : ℕ) → IsSome (owner_of atoms i) → IsName blocks next i
+  owned_names_then i some = elim (cases_Bool (is_touched old new i)) [
+    | inl hit ↦ touched_name i hit
+    | inr miss ↦ k.cells.owned_names i (subst IsSome (owned_still i miss) some)
+  ]
 
   dirty_then : (i : ℕ) (f : EntrySeen) → buffered buffer i ≡ Some f → (f.dirty ≡ true) ↔ IsSome (owner_of atoms i)
   dirty_then i f at = (
@@ -241,18 +275,25 @@ module _ {D : Type 0} (r : Naming) (d : State) (c : CoreSeen D) (k : IsKept r d 
         broken = c.broken;
       } → AreCells d after
   cells_done space count after same =
-      let g = k.cells in
+      let h = k.cells in
       subst (AreCells d) (sym same) (record {
-        super40 = g.super40;
-        space = count ∙ g.space;
+        super40 = h.super40;
+        space = count ∙ h.space;
         root = root_name;
         height = root_height;
+        root_stands = root_done r d c k s out here old new root is reached numbered sound x g meets buffer cells;
         buffered_names = names_then;
-        reached_names = λ q o x has. g.reached_names q o x (on.outs q o has).1;
+        reached_names = λ q o y has. h.reached_names q o y (on.outs q o has).1;
+        owned_names = owned_names_then;
+        named = named_done r d c k s out here old new root is reached numbered sound x g meets buffer cells;
+        given_cells = λ still q o y. given_there r d c k s out here old new root is reached numbered sound x g meets
+            buffer cells turns on spared q o y;
         dirty = dirty_then;
         fresh = fresh_then;
-        clean = λ sound. readable_done d c.buffer buffer lawful old new root is out.pins cells blocks next
-            g.buffered_names g.fresh (root_seen c.tree) all (g.clean sound);
+        clean = λ still. readable_done d c.buffer buffer lawful old new root is out.pins cells blocks next
+            h.buffered_names h.fresh
+            (old_stands r d c k s out here old new root is reached numbered sound x g meets)
+            (new_in_place r d c k s out here old new root is reached numbered sound x g meets) (h.clean still);
         nodes = nodes_then;
         commit = commit_then;
       })

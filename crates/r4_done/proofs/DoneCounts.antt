@@ -23,7 +23,7 @@ use Rattle.r4_kept.specs.Accounts.{CountsCells}
 use Rattle.r4_taking.proofs.FusedCounts.{all_from, distinct_both}
 use Rattle.r4_done.specs.Doing.{is_less, is_more}
 use Rattle.r4_done.proofs.DoneTables.{is_touched}
-use Rattle.r4_done.proofs.Named.{has_one, one_named}
+use Rattle.r4_done.proofs.Named.{has_one, id_there, one_named}
 
 -- ---- one number less
 
@@ -133,19 +133,19 @@ rid_sum f (i ∷ is) ns once all =
 
 -- ---- the names of some cells of a list
 
-abbrev picked : (p : CellSeen → Bool) → List CellSeen → List ℕ
+abbrev pub picked : (p : CellSeen → Bool) → List CellSeen → List ℕ
 picked p [] = []
 picked p (x ∷ xs) = cond (p x) (x.id ∷ picked p xs) (picked p xs)
 
 -- a cell of the list that was picked
-abbrev IsPicked : (p : CellSeen → Bool) → List CellSeen → ℕ → Type 0
+abbrev pub IsPicked : (p : CellSeen → Bool) → List CellSeen → ℕ → Type 0
 IsPicked p xs i = (x : CellSeen) × Contains xs x × (x.id ≡ i) × (p x ≡ true)
 
 later_picked : (p : CellSeen → Bool) (x : CellSeen) (xs : List CellSeen) (i : ℕ) → IsPicked p xs i
     → IsPicked p (x ∷ xs) i
 later_picked p x xs i h = (h.0, cons_later x xs h.0 h.1, h.2, h.3)
 
-picked_is : (p : CellSeen → Bool) (xs : List CellSeen) (i : ℕ) → Contains (picked p xs) i → IsPicked p xs i
+pub picked_is : (p : CellSeen → Bool) (xs : List CellSeen) (i : ℕ) → Contains (picked p xs) i → IsPicked p xs i
 picked_is p [] i h = absurd (no_member i h)
 picked_is p (x ∷ xs) i h = elim (cases_Bool (p x)) [
   | inl is ↦
@@ -172,14 +172,8 @@ picked_has p (y ∷ ys) x h is =
 picked_within : (p : CellSeen → Bool) (xs : List CellSeen) (i : ℕ) → Contains (picked p xs) i → Contains (ids_of xs) i
 picked_within p xs i h =
     let x = picked_is p xs i h in subst (Contains (ids_of xs)) x.2 (id_there xs x.0 x.1)
-  where
-    id_there : (ys : List CellSeen) (x : CellSeen) → Contains ys x → Contains (ids_of ys) x.id
-    id_there [] x h = let lt = h.1 in absurd (omega (arith, lt))
-    id_there (y ∷ ys) x h =
-        ⊎_elim (λ e. member_here y.id (ids_of ys) x.id (ap (λ (z : CellSeen). z.id) (sym e)))
-        (λ rest. member_later y.id (ids_of ys) x.id (id_there ys x rest)) (cons_cases y ys x h)
 
-picked_once : (p : CellSeen → Bool) (xs : List CellSeen) → IsDistinct nat_eq (ids_of xs)
+pub picked_once : (p : CellSeen → Bool) (xs : List CellSeen) → IsDistinct nat_eq (ids_of xs)
     → IsDistinct nat_eq (picked p xs)
 picked_once p [] once = once
 picked_once p (x ∷ xs) once =
@@ -193,7 +187,7 @@ picked_once p (x ∷ xs) once =
       | inr not ↦ rw not tail
     ]
 
-picked_length : (p : CellSeen → Bool) (xs : List CellSeen) → length (picked p xs) ≡ count_by p xs
+pub picked_length : (p : CellSeen → Bool) (xs : List CellSeen) → length (picked p xs) ≡ count_by p xs
 picked_length p [] = refl
 picked_length p (x ∷ xs) =
     let rest = picked_length p xs in

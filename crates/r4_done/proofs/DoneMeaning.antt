@@ -4,8 +4,7 @@ use Rattle.std.proofs.Common.{Option, Some, None, Contains, inl, inr, option_map
 use Rattle.std.specs.Prelude.{IsSome, is_some}
 use Rattle.std.specs.Option.{unwrap_or}
 use Rattle.std.proofs.lemmas.Bool.{cases_Bool, cases_eq, cond-false, cond-true, eq-eqb, ne_eqb}
-use Rattle.std.proofs.lemmas.List.Elements.{Contains-append_cases, Contains-append_left, Contains-append_right}
-use Rattle.r4_atoms.specs.Atoms.{AtomsSeen, IsOpenAtom, account_of, is_sealed, numbers, owner_of}
+use Rattle.r4_atoms.specs.Atoms.{AtomsSeen, IsOpenAtom, account_of, is_sealed, owner_of}
 use Rattle.r4_atoms.specs.declared.things.Account.{Account}
 use Rattle.r4_base.specs.Tree.{Node, Store}
 use Rattle.r4_base.specs.Value.{Value}
@@ -25,19 +24,16 @@ use Rattle.r4_content.specs.declared.reply.Reply.{Reply}
 use Rattle.r4_content.proofs.CourseLaws.{local}
 use Rattle.r4_durable.specs.GoingOn.{GoesOn}
 use Rattle.r4_durable.specs.Kept.{IsSession}
-use Rattle.r4_durable.specs.Meaning.{Beginning, IsNamed, first_id, means}
-use Rattle.r4_durable.specs.Sealing.{start_in}
-use Rattle.r4_flushed.specs.Flushed.{OwnsBlocks}
-use Rattle.r4_history.specs.Held.{IsOut, names_of, need_of, nodes_of}
+use Rattle.r4_durable.specs.Meaning.{Beginning, IsNamed, means}
+use Rattle.r4_history.specs.Held.{IsOut, need_of, nodes_of}
 use Rattle.r4_outside.specs.Device.{State, TellsCrashes}
 use Rattle.r4_patch.proofs.Members.{distinct, there}
-use Rattle.r4_sets.specs.Change.{Applies, applied, touches}
+use Rattle.r4_sets.specs.Change.{touches}
 use Rattle.r4_sets.specs.Session.{Session, all_done}
 use Rattle.r4_sets.proofs.Applied.{applied_sets}
-use Rattle.r4_sets_told.specs.Runs.{IsLawfulRun, born_in, gone_in}
+use Rattle.r4_sets_told.specs.Runs.{born_in, gone_in}
 use Rattle.r4_space.specs.Space.{Space}
 use Rattle.r4_trace.specs.Folds.{content_of, everything}
-use Rattle.r4_trace.specs.Job.{Asked}
 use Rattle.r4_trace.specs.Order.{IsOrdered}
 use Rattle.r4_trace.specs.Traced.{atom_in}
 use Rattle.r4_trace.specs.declared.entry.Entry.{Entry}
@@ -52,33 +48,13 @@ use Rattle.r4_kept.specs.Naming.{Naming, job_named, names_in}
 use Rattle.r4_kept.specs.Steps.{with_entry}
 use Rattle.r4_kept.specs.Story.{Story}
 use Rattle.r4_kept.specs.View.{CoreSeen, root_seen}
-use Rattle.r4_kept.specs.declared.parts.Commit.{Commit}
-use Rattle.r4_taking.proofs.Going.{Follows, at_over}
+use Rattle.r4_taking.proofs.Going.{at_over}
 use Rattle.r4_done.specs.Doing.{HasCaptured}
-use Rattle.r4_done.proofs.DoneNames.{not_found}
 use Rattle.r4_done.proofs.DoneTables.{is_touched}
+pub use Rattle.r4_done.specs.Right.{IsBuiltFor, session_done}
 use Rattle.r4_done.proofs.Dropped.{TurnsDrop}
-use Rattle.r4_done.proofs.Named.{number_of, one_named}
+use Rattle.r4_done.proofs.Named.{node_of_need, not_found, one_named}
 use Rattle.r4_done.proofs.Replaced.{dirty_then, entries_then, none_before}
-
--- the session once a command is done by this change
-abbrev pub session_done :
-    Session → TxnNo → ScriptNo → (index : ℕ) → Command → Patch Value → Session
-session_done was u s index x p = applied (commands greatest_size) was u s index x p
-
--- What is to be shown of the command in a run that names its beginning: its change does in the tree of all atoms what
--- the command means, and the reply is the command's there; the run stays lawful; blocks that come to an atom are those
--- of cells under the open atoms; and the space defers what goes.
-pub record IsBuiltFor
-    (b : Beginning) (job : Option Asked) (commit : Option Commit) (was : Session) (u : TxnNo) (s : ScriptNo) (index : ℕ)
-    (x : Command) (reply : Reply) (p : Patch Value) (space later : Space) : Type 0
-  where
-    pub applies : Applies (commands greatest_size) was u.0 x p
-    pub reply_is : reply ≡ (commands greatest_size).reply x (all_done (commands greatest_size) was)
-    pub run : IsLawfulRun greatest_size (start_in (session_done was u s index x p) (first_id b)) job
-        (session_done was u s index x p).trace
-    pub owns : OwnsBlocks (session_done was u s index x p)
-    pub follows : Follows commit was (session_done was u s index x p) space later
 
 -- ---- cells by their names
 
@@ -91,16 +67,6 @@ some_named cells names i = elim (cases_Bool (has_name cells i)) [
       ∙ sym here
   | inr not ↦ ap is_some (not_found cells i not) ∙ sym not
 ]
-
-node_of_need : (o : Out) (x : CellSeen) → Contains (o.reads ++ o.writes) x → Contains (nodes_of (need_of o)) x.id
-node_of_need o x has =
-    ⊎_elim
-    (λ read.
-    Contains-append_left (numbers (names_of o.reads)) (numbers (names_of o.writes)) x.id (number_of o.reads x read))
-    (λ written.
-    Contains-append_right (numbers (names_of o.reads)) (numbers (names_of o.writes)) x.id
-    (number_of o.writes x written))
-    (Contains-append_cases o.reads o.writes x has)
 
 module _ (old new : List CellSeen) (root : Option RootPair) (is : IsChange old new root) (memory : Store Value) where
   abbrev p : Patch Value

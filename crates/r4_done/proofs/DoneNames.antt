@@ -4,41 +4,27 @@ use Rattle.std.proofs.Common.{Some, None, Contains, sym, ◌∙◌, ap, subst, a
 use Rattle.std.proofs.lemmas.Bool.{cases_Bool, cond-false, cond-true, lt-ltb, or_cases, or_left, or_right}
 use Rattle.std.proofs.lemmas.Option.{none-some}
 use Rattle.r4_base.specs.Key.{rank}
-use Rattle.r4_base.specs.Tree.{Node, Root}
+use Rattle.r4_base.specs.Tree.{Name, Node}
 use Rattle.r4_base.specs.Value.{Value}
 use Rattle.r4_base.specs.declared.things.NodeId.{NodeId}
-use Rattle.r4_buffer.specs.Changed.{Standing, has_name, in_turn, replaced, unused}
+use Rattle.r4_buffer.specs.Changed.{has_name, in_turn, replaced, unused}
 use Rattle.r4_buffer.specs.Reading.{NamesStand}
-use Rattle.r4_buffer.specs.Seen.{BufferSeen, EntrySeen, IsLawful, buffered, is_above_dirty, is_captured}
-use Rattle.r4_buffer.specs.Seen.{is_captured_by}
+use Rattle.r4_buffer.specs.Seen.{BufferSeen, EntrySeen, IsLawful, buffered, is_captured}
 use Rattle.r4_buffer.specs.Seen.{is_dirty_by}
 use Rattle.r4_buffer.proofs.Captured.{captured_is}
-use Rattle.r4_cell.specs.Patch.{IsChange, Patch, by_name, patch_of}
+use Rattle.r4_cell.specs.Patch.{IsChange, by_name}
 use Rattle.r4_cell.specs.Seen.{CellSeen, node_of}
 use Rattle.r4_cell.specs.declared.change.Root.{Root as RootPair}
 use Rattle.r4_cell.proofs.NamesBelow.{names_below}
 use Rattle.r4_outside.specs.Device.{State}
-use Rattle.r4_patch.proofs.Members.{absent, distinct, found, there}
-use Rattle.r4_patch.proofs.Placed.{still_there}
+use Rattle.r4_patch.proofs.Members.{distinct, found, there}
 use Rattle.r4_turns.specs.declared.out.Numbers.{Numbers}
-use Rattle.r4_kept.specs.Cells.{AreReadable, HasNames, IsAccepted, IsName}
+use Rattle.r4_kept.specs.Cells.{AreReadable, HasNames, IsAccepted, IsName, NamesAt}
 use Rattle.r4_kept.specs.TasksOut.{WereDrawn}
-use Rattle.r4_kept.proofs.Readable.{not_dirty}
-use Rattle.r4_done.specs.Meeting.{MeetsAll}
+use Rattle.r4_kept.proofs.Readable.{captured_dirty, not_dirty}
 use Rattle.r4_done.proofs.DoneTasks.{AreNumbered}
-use Rattle.r4_done.proofs.Named.{has_one, one_named, one_of_ids}
+use Rattle.r4_done.proofs.Named.{has_found, not_found, one_named, one_of_ids}
 use Rattle.r4_done.proofs.Replaced.{IsNewCell, Untouched, dirty_then, entries_then}
-
--- ---- cells of a list, by their names
-
-has_found : (cells : List CellSeen) (i : ℕ) (c : Node Value) → by_name cells i ≡ Some c → has_name cells i ≡ true
-has_found cells i c at =
-    let (x, has, is, says) = found cells i c at in
-    subst (λ (j : ℕ). has_name cells j ≡ true) is (has_one cells x has)
-
-pub not_found : (cells : List CellSeen) (i : ℕ) → has_name cells i ≡ false → by_name cells i ≡ None
-not_found cells i none =
-    absent cells i (λ x has is. cc (sym (subst (λ (j : ℕ). has_name cells j ≡ true) is (has_one cells x has)) ∙ none))
 
 -- ---- names
 
@@ -75,26 +61,19 @@ module _ (blocks next : ℕ) (old new : List CellSeen) (root : Option RootPair) 
 
 -- ---- what is captured
 
-captured_dirty : (x : BufferSeen) (i : ℕ) → is_dirty_by (buffered x i) ≡ true → is_captured x i ≡ true
-captured_dirty x i dirty = by (buffered x i) dirty
-  where
-    by : (o : Standing) → is_dirty_by o ≡ true → is_captured_by x o ≡ true
-    by None h = absurd (cc h)
-    by (Some e) h = or_left e.dirty (is_above_dirty x e.cell) h
+-- it is a block, or captured
+abbrev pub StandsIn : BufferSeen → (blocks : ℕ) → ℕ → Type 0
+StandsIn x blocks n = (nat_lt n blocks || is_captured x n) ≡ true
 
 module _ (d : State) (b now : BufferSeen) (lawful : IsLawful b) (old new : List CellSeen) (root : Option RootPair)
     (is : IsChange old new root) (pins : List NodeId)
     (cells : (i : ℕ) → buffered now i ≡ in_turn unused pins i (replaced old new i (buffered b i)))
     (blocks next : ℕ) (names : (i : ℕ) (e : EntrySeen) → buffered b i ≡ Some e → HasNames blocks next e.cell)
     (fresh : (i : ℕ) (e : EntrySeen) → buffered b i ≡ Some e → 2 ^ 63 ≤ i → e.dirty ≡ true)
-    (top : Root) (all : MeetsAll b blocks top (patch_of old new root)) where
-  abbrev p : Patch Value
-  p = patch_of old new root
-
-  -- it is a block, or captured
-  abbrev Stands : BufferSeen → ℕ → Type 0
-  Stands x n = (nat_lt n blocks || is_captured x n) ≡ true
-
+    (of_olds : (i : ℕ) (o : Node Value) (n : Name) → by_name old i ≡ Some o → Contains o.names n
+    → StandsIn b blocks n.id)
+    (has_new : (i : ℕ) (n : Name) → NamesAt b i n → by_name old i ≡ None → 2 ^ 63 ≤ n.id → (o : Node Value)
+    → by_name old n.id ≡ Some o → (c : Node Value) × (by_name new n.id ≡ Some c)) where
   -- what is captured and no block is dirty
   dirty_before : (n : ℕ) → is_captured b n ≡ true → nat_lt n blocks ≡ false → is_dirty_by (buffered b n) ≡ true
   dirty_before n held not =
@@ -116,17 +95,18 @@ module _ (d : State) (b now : BufferSeen) (lawful : IsLawful b) (old new : List 
         ]
   ]
 
-  stands_still : (n : ℕ) → Stands b n → (has_name old n ≡ true → has_name new n ≡ true) → Stands now n
+  stands_still : (n : ℕ) → StandsIn b blocks n
+      → (nat_lt n blocks ≡ false → has_name old n ≡ true → has_name new n ≡ true) → StandsIn now blocks n
   stands_still n stood stays = elim (cases_Bool (nat_lt n blocks)) [
     | inl low ↦ or_left (nat_lt n blocks) (is_captured now n) low
     | inr not ↦
         let held : is_captured b n ≡ true =
         ⊎_elim (λ low. absurd (cc (sym low ∙ not))) (λ h. h) (or_cases (nat_lt n blocks) (is_captured b n) stood) in
         or_right (nat_lt n blocks) (is_captured now n)
-        (captured_dirty now n (now_dirty n (dirty_before n held not) stays))
+        (captured_dirty now n (now_dirty n (dirty_before n held not) (stays not)))
   ]
 
-  stands_new : (n : ℕ) → has_name new n ≡ true → Stands now n
+  stands_new : (n : ℕ) → has_name new n ≡ true → StandsIn now blocks n
   stands_new n here =
       or_right (nat_lt n blocks) (is_captured now n) (captured_dirty now n (dirty_then b now old new pins cells n
       ∙ cond-true (has_name new n) true (cond (has_name old n) false (is_dirty_by (buffered b n))) here))
@@ -137,30 +117,31 @@ module _ (d : State) (b now : BufferSeen) (lawful : IsLawful b) (old new : List 
       ⊎_elim (λ fits. (let (c, at, fit) = fits in stands_new n.id (has_found new n.id c at)))
       (λ kept.
       (let (none, (i, o, at, names_o)) = kept in
-      stands_still n.id (all.stands i o n (all.meets.meets.has_old i o at) names_o)
-      (λ gone.
+      stands_still n.id (of_olds i o n at names_o)
+      (λ not gone.
       (let (y, there_y, named) = one_named old n.id gone in
       absurd (none-some (node_of y) (sym none
       ∙ subst (λ (j : ℕ). by_name old j ≡ Some (node_of y)) named
       (there old y (distinct old is.old_names) there_y)))))))
       (is.patch.named n (x.id, node_of x, there new x (distinct new is.new_names) has, names_n))
 
-  -- and one that was there and captured
-  names_of_held : (i : ℕ) (e : EntrySeen) → buffered b i ≡ Some e → has_name old i ≡ false → is_captured b i ≡ true
-      → NamesStand now blocks e.cell
-  names_of_held i e at kept held n names_n =
-      let in_tree = all.captured i e at held in
-      stands_still n.id (all.stands i (node_of e.cell) n in_tree names_n)
-      (λ gone.
-      (let (y, there_y, named) = one_named old n.id gone in
-      let was : by_name old n.id ≡ Some (node_of y) =
-      subst (λ (j : ℕ). by_name old j ≡ Some (node_of y)) named (there old y (distinct old is.old_names) there_y) in
-      let (c, now_c, fit) = still_there p all.tree top is.patch all.part all.meets.meets i (node_of e.cell) (node_of y)
-      n
-      in_tree names_n (not_found old i kept) was in
-      has_found new n.id c now_c))
-
   module _ (readable : AreReadable d b blocks) where
+    -- and one that was there and captured
+    names_of_held : (i : ℕ) (e : EntrySeen) → buffered b i ≡ Some e → has_name old i ≡ false → is_captured b i ≡ true
+        → NamesStand now blocks e.cell
+    names_of_held i e at kept held n names_n =
+        stands_still n.id (readable.names i e at held n names_n)
+        (λ not gone.
+        (let (y, there_y, named) = one_named old n.id gone in
+        let was : by_name old n.id ≡ Some (node_of y) =
+        subst (λ (j : ℕ). by_name old j ≡ Some (node_of y)) named (there old y (distinct old is.old_names) there_y) in
+        ⊎_elim (λ block. absurd (cc (sym (lt-ltb n.id blocks block.0) ∙ not)))
+        (λ number.
+        (let (c, now_c) = has_new i n (record { entry = e; is = at; among = names_n }) (not_found old i kept) number.0
+        (node_of y) was in
+        has_found new n.id c now_c))
+        ((names i e at).named n names_n)))
+
     names_of_clean : (i : ℕ) (e : EntrySeen) → buffered b i ≡ Some e → is_captured b i ≡ false
         → NamesStand now blocks e.cell
     names_of_clean i e at not n names_n =

@@ -91,7 +91,7 @@ module _ (was : Session) (sets : Sets (commands greatest_size) was) (owns : Owns
     (has_old : (i : ℕ) (n : Node Value) → by_name old i ≡ Some n → was.memory i ≡ Some n) (numbers : Numbers)
     (least : 2 ^ 63 ≤ numbers.fresh.next) (numbered : AreNumbered old new numbers) where
   -- an old cell that is a block's stands under the open atoms
-  old_under : (i : ℕ) → i < 2 ^ 63 → (y : CellSeen) → Contains old y → y.id ≡ i
+  pub old_under : (i : ℕ) → i < 2 ^ 63 → (y : CellSeen) → Contains old y → y.id ≡ i
       → (n : Node Value) × (was.under.cells i ≡ Some n)
   old_under i low y has named = by (was.owner i) refl
     where

@@ -1,25 +1,33 @@
 -- A task is done: what is said of the tasks that are still out.
-use Rattle.std.proofs.Common.{◌≡◌, ◌≢◌, ◌⊎◌, ⊎_elim, ℕ, ◌<◌, ◌≤◌, List, Option, Some}
+use Rattle.std.proofs.Common.{◌≡◌, ◌≢◌, ◌⊎◌, inl, inr, ⊎_elim, ℕ, ◌<◌, ◌≤◌, ◌||◌, true, cond, List, Option, Some, None}
 use Rattle.std.proofs.Common.{Contains, refl}
-use Rattle.std.proofs.Common.{sym}
-use Rattle.std.proofs.Common.{◌∙◌, ap, subst, arith}
+use Rattle.std.proofs.Common.{sym, ◌∙◌}
+use Rattle.std.proofs.Common.{ap, subst, arith}
+use Rattle.std.proofs.lemmas.Bool.{cases_Bool, cond-false, or_cases}
 use Rattle.std.proofs.lemmas.List.Elements.{Contains-append_right}
-use Rattle.r4_buffer.specs.Changed.{in_turn, replaced, unused}
+use Rattle.r4_atoms.specs.Atoms.{AtomsSeen, owner_of}
+use Rattle.r4_buffer.specs.Changed.{has_name, in_turn, replaced, unused}
 use Rattle.r4_buffer.specs.Seen.{BufferSeen, EntrySeen, buffered}
+use Rattle.r4_base.specs.Tree.{Name}
 use Rattle.r4_cell.specs.Seen.{CellSeen}
+use Rattle.r4_cell.specs.declared.change.Root.{Root as RootPair}
+use Rattle.r4_content.specs.Meaning.{with_id}
+use Rattle.r4_content.specs.declared.command.Command.{Command}
 use Rattle.r4_history.specs.Drawn.{numbers_in, numbers_of}
 use Rattle.r4_history.specs.Held.{IsOut}
+use Rattle.r4_history.specs.Tables.{next_at}
 use Rattle.r4_outside.specs.Device.{State}
 use Rattle.r4_patch.specs.Joining.{ids_of}
 use Rattle.r4_turns.specs.Turns.{IsScript, TurnsSeen, turn_at}
 use Rattle.r4_turns.specs.declared.out.Numbers.{Numbers}
 use Rattle.r4_turns.specs.declared.out.Out.{Out}
+use Rattle.r4_kept.specs.Cells.{NamesAt}
 use Rattle.r4_kept.specs.Kept.{IsKept}
 use Rattle.r4_kept.specs.Naming.{Naming}
-use Rattle.r4_kept.specs.TasksOut.{AreOut, pins_in}
+use Rattle.r4_kept.specs.TasksOut.{AreOut, IsGiven, pins_in}
 use Rattle.r4_kept.specs.View.{CoreSeen}
 use Rattle.r4_done.proofs.Dropped.{TurnsDrop}
-use Rattle.r4_done.proofs.Named.{one_of_ids}
+use Rattle.r4_done.proofs.Named.{id_there, one_named, one_of_ids}
 use Rattle.r4_done.proofs.Replaced.{entry_cases, uses_then}
 
 -- each new cell has the name of an old one, or a number of the task's
@@ -65,12 +73,45 @@ module _ {D : Type 0} (r : Naming) (d : State) (c : CoreSeen D) (k : IsKept r d 
         y.named (numbered f.cell y.there)) low high)
         (entry_cases c.buffer buffer old new out.pins cells i f at)
 
-    pub tasks_done : (after : CoreSeen D) → after ≡ record after {
-      turns = turns;
-      buffer = buffer;
-      numbers = c.numbers;
-    } → AreOut after
-    tasks_done after same =
+    -- a node of no next command is owned as it was, or the change touches it
+    unowned_done : (atoms : AtomsSeen) (a : ℕ)
+        → ((n : ℕ) → owner_of atoms n ≡ cond (has_name old n || has_name new n) (Some a) (owner_of c.atoms n))
+        → (q i : ℕ) (n : Numbers) → IsScript turns q → numbers_of (turn_at turns q) ≡ Some n
+        → n.fresh.next ≤ i → i < n.fresh.end → owner_of atoms i ≡ None
+    unowned_done atoms a owners q i n has is_n low high =
+        let was = on.numbers q n has is_n in
+        elim (cases_Bool (has_name old i || has_name new i)) [
+          | inl hit ↦ absurd (not_numbers q i n (on.scripts q has) was.0 was.1 (touched i hit) low high)
+          | inr miss ↦
+              owners i ∙ cond-false (has_name old i || has_name new i) (Some a) (owner_of c.atoms i) miss
+              ∙ k.tasks.unowned q i n (on.scripts q has) was.1 low high
+        ]
+      where
+        touched : (i : ℕ) → (has_name old i || has_name new i) ≡ true
+            → Contains (ids_of old) i ⊎ ((out.numbers.fresh.next ≤ i) × (i < out.numbers.fresh.end))
+        touched i hit =
+            ⊎_elim
+            (λ one. (let x = one_named old i one in inl (subst (Contains (ids_of old)) x.2 (id_there old x.0 x.1))))
+            (λ two.
+            (let x = one_named new i two in
+            subst (λ (j : ℕ). Contains (ids_of old) j ⊎ ((out.numbers.fresh.next ≤ j) × (j < out.numbers.fresh.end)))
+            x.2 (numbered x.0 x.1)))
+            (or_cases (has_name old i) (has_name new i) hit)
+
+    pub tasks_done : (tree : RootPair) (atoms : AtomsSeen) (a : ℕ)
+        → ((n : ℕ) → owner_of atoms n ≡ cond (has_name old n || has_name new n) (Some a) (owner_of c.atoms n))
+        → ((q i : ℕ) (n : Numbers) (m : Name) → IsScript turns q → numbers_of (turn_at turns q) ≡ Some n
+        → NamesAt buffer i m → n.fresh.next ≤ m.id → m.id < n.fresh.end → ⊥)
+        → ((q : ℕ) (o : Out) (x : Command) → IsOut turns q o → next_at turns q ≡ Some x
+        → IsGiven tree (with_id o.numbers.oid x) o)
+        → (after : CoreSeen D) → after ≡ record after {
+          turns = turns;
+          atoms = atoms;
+          buffer = buffer;
+          tree = tree;
+          numbers = c.numbers;
+        } → AreOut after
+    tasks_done tree atoms a owners unnamed given after same =
         let g = k.tasks in
         subst AreOut (sym same) (record {
           uses = λ i.
@@ -82,7 +123,9 @@ module _ {D : Type 0} (r : Naming) (d : State) (c : CoreSeen D) (k : IsKept r d 
           apart = λ q p n m has also other is_n is_m. g.apart q p n m (on.scripts q has) (on.scripts p also) other
               (on.numbers q n has is_n).1 (on.numbers p m also is_m).1;
           unused = unused_done;
+          unnamed = unnamed;
           unreached = λ q p n o x has is_n is_out. g.unreached q p n o x (on.scripts q has) (on.numbers q n has is_n).1
               (on.outs p o is_out).1;
-          given = λ q o x has next. g.given q o x (on.outs q o has).1 (sym (on.nexts q o has) ∙ next);
+          unowned = unowned_done atoms a owners;
+          given = given;
         })

@@ -8,9 +8,13 @@ pub mod Beginning
 pub mod Charged
 pub mod DoneCounts
 pub mod DoneAccounts
+pub mod PatchedNames
 pub mod DoneNames
+pub mod DoneOnce
 pub mod DoneCells
 pub mod DoneMeaning
+pub mod Doable
+pub mod FewCells
 pub mod Done
 pub mod FromBuilt
 pub mod DoneRun

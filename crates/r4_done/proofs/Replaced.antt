@@ -10,7 +10,7 @@ use Rattle.r4_buffer.specs.Changed.{Standing, has_name, in_turn, placed, replace
 use Rattle.r4_buffer.specs.Seen.{BufferSeen, EntrySeen, buffered, is_dirty_by}
 use Rattle.r4_cell.specs.Seen.{CellSeen}
 use Rattle.r4_history.proofs.ServingSteps.{cons_here, cons_later}
-use Rattle.r4_kept.proofs.Unused.{IsLike, unused_fewer, unused_like}
+use Rattle.r4_kept.proofs.Unused.{IsLike, like_dirty, unused_fewer, unused_like}
 
 or_false : (x : Bool) → (x || false) ≡ x
 or_false true = refl
@@ -130,12 +130,6 @@ uses_replaced old new i o = elim (cases_Bool (has_name new i)) [
 ]
 
 -- ---- what is dirty
-
-like_dirty : (o p : Standing) → IsLike o p → is_dirty_by p ≡ is_dirty_by o
-like_dirty None None h = refl
-like_dirty None (Some f) h = absurd h
-like_dirty (Some e) None h = absurd h
-like_dirty (Some e) (Some f) h = h.dirty
 
 placed_dirty : (xs : List CellSeen) (i : ℕ) (p : Standing)
     → is_dirty_by (in_turn placed xs i p) ≡ (is_dirty_by p || has_name xs i)
@@ -258,6 +252,14 @@ module _ (b now : BufferSeen) (old new : List CellSeen) (pins : List NodeId)
       by None is = is
       by (Some e) is =
           absurd (subst (λ (o : Standing). IsLike o None) (stays ∙ is) (subst (IsLike (mid i)) none (like_mid i)))
+
+  -- what the change does not touch stands as it stood, but for how often it is used
+  pub like_then : (i : ℕ) → has_name old i ≡ false → has_name new i ≡ false → IsLike (buffered b i) (buffered now i)
+  like_then i not_old not_new =
+      let stays : mid i ≡ buffered b i =
+      cond-false (has_name new i) (in_turn placed new i (buffered b i)) (cond (has_name old i) None (buffered b i))
+      not_new ∙ cond-false (has_name old i) None (buffered b i) not_old in
+      subst (λ (o : Standing). IsLike o (buffered now i)) stays (like_mid i)
 
   pub uses_then : (i : ℕ) → uses_of (buffered now i)
       ≤ uses_of (buffered b i) - count_by (λ (n : NodeId). n.0 == i) pins

@@ -1,6 +1,6 @@
 -- What changes of a core as a task is done.
 use Rattle.std.specs.Prelude.{◌≡◌, ◌⊎◌, ◌+◌, ◌<◌, ◌≤◌, ◌||◌, ℕ, Contains, Some, None}
-use Rattle.std.specs.Prelude.{if◌then◌else◌}
+use Rattle.std.specs.Prelude.{if◌then◌else◌, length}
 use Rattle.std.specs.Option.{unwrap_or}
 use Rattle.r4_atoms.specs.Atoms.{AtomsSeen, IsOpenAtom, account_of, atom_of, owner_of, state_of}
 use Rattle.r4_atoms.specs.Atoms.{with_state}
@@ -8,12 +8,12 @@ use Rattle.r4_atoms.specs.declared.things.Account.{Account}
 use Rattle.r4_base.specs.declared.things.AtomNo.{AtomNo}
 use Rattle.r4_base.specs.declared.things.ScriptNo.{ScriptNo}
 use Rattle.r4_base.specs.declared.things.TxnNo.{TxnNo}
+use Rattle.r4_build.specs.Building.{most_new}
 use Rattle.r4_buffer.specs.Changed.{has_name, in_turn, replaced, unused}
 use Rattle.r4_buffer.specs.Seen.{IsLawful, buffered}
-use Rattle.r4_cell.specs.Patch.{IsChange}
+use Rattle.r4_cell.specs.Patch.{IsChange, by_name, root_of_pair}
 use Rattle.r4_cell.specs.Seen.{CellSeen}
 use Rattle.r4_cell.specs.declared.change.Change.{Change}
-use Rattle.r4_cell.specs.declared.change.Root.{Root as RootPair}
 use Rattle.r4_content.specs.Meaning.{with_id}
 use Rattle.r4_content.specs.declared.command.Command.{Command}
 use Rattle.r4_content.specs.declared.reply.Reply.{Reply}
@@ -21,25 +21,34 @@ use Rattle.r4_history.specs.Held.{IsOut}
 use Rattle.r4_history.specs.Tables.{Stands, with_ended}
 use Rattle.r4_locks.specs.Locks.{AreHolds, OthersAsBefore, task_at}
 use Rattle.r4_patch.specs.Joining.{ids_of, patch_of_change}
+use Rattle.r4_patch.specs.Part.{MeetsPart}
+use Rattle.r4_reach.specs.Touched.{body_on, edits_on, reads_on}
 use Rattle.r4_trace.specs.Job.{IsWork}
 use Rattle.r4_trace.specs.declared.entry.Entry.TheVariants.{Done, Ended}
 use Rattle.r4_turns.specs.Turns.{answered_at, answered_one, dropped, left}
 use Rattle.r4_turns.specs.declared.out.Out.{Out}
 use Rattle.r4_turns.specs.declared.turn.Open.{Open}
 use Rattle.r4_kept.specs.Steps.{with_entry}
-use Rattle.r4_kept.specs.View.{CoreSeen, blocks_of, root_seen}
+use Rattle.r4_kept.specs.TasksOut.{IsGiven}
+use Rattle.r4_kept.specs.View.{CoreSeen}
 use Rattle.r4_done.specs.Doing.{HasCharged, IsCount}
-use Rattle.r4_done.specs.Meeting.{MeetsAll}
 
 -- The change is one of cells that the task writes, with their names or the task's numbers. It meets
--- the tree of all atoms, which is then of eight levels at most.
-pub record IsChangeOf {D : Type 0} (c : CoreSeen D) (out : Out) (change : Change) : Type 0 where
-  pub is : IsChange change.old change.new change.root
-  pub reached : (x : CellSeen) → Contains change.old x → Contains out.writes x
-  pub numbered : (x : CellSeen) → Contains change.new x → Contains (ids_of change.old) x.id
-      ⊎ ((out.numbers.fresh.next ≤ x.id) × (x.id < out.numbers.fresh.end))
-  pub all : MeetsAll c.buffer (blocks_of c) (root_seen c.tree) (patch_of_change change)
-  pub low : (x : RootPair) → change.root ≡ Some x → x.height ≤ 8
+-- the part of a tree in which the task's command was given these, and has no more new cells than
+-- the command asks for there.
+pub record IsChangeOf
+    {D : Type 0} (c : CoreSeen D) (out : Out) (x : Command) (change : Change) : Type 0
+  where
+    pub is : IsChange change.old change.new change.root
+    pub reached : (y : CellSeen) → Contains change.old y → Contains out.writes y
+    pub numbered : (y : CellSeen) → Contains change.new y → Contains (ids_of change.old) y.id
+        ⊎ ((out.numbers.fresh.next ≤ y.id) × (y.id < out.numbers.fresh.end))
+    pub meets : (g : IsGiven c.tree x out)
+        → MeetsPart (patch_of_change change) (by_name g.met) (root_of_pair g.root)
+    pub few : (g : IsGiven c.tree x out) → length change.new
+        ≤ most_new (body_on x g.reach.seen g.reach.in_extents) (edits_on x g.reach.seen)
+        (reads_on x g.reach.seen g.reach.in_extents) (by_name g.met) (root_of_pair g.root)
+        out.writes
 
 -- The task is that of a script's next command, in its transaction of this atom, which is open.
 pub record CanBeDone

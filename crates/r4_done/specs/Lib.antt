@@ -1,3 +1,3 @@
 pub mod Doing
-pub mod Meeting
 pub mod Done
+pub mod Right

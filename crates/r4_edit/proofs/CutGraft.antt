@@ -41,8 +41,11 @@ use Rattle.r4_path.proofs.Rising.{hi_is, id_member, level_is, lo_is}
 pub may_be_named : (id : ℕ) → 2 ^ 63 ≤ id → names_block true (2 ^ 64) (Some id) ≡ true
 may_be_named id high = rw (le-leb (2 ^ 63) id high) refl
 
-pub sound_node : (c : CellSeen) → IsSound c → c.level ≡ 1 → least ≤ rank c.lo → rank c.lo < rank c.hi → rank c.hi ≤ top → IsNode (node_of c)
-sound_node c ok level from some to = cell_node true (2 ^ 64) c.level (rank c.lo) (rank c.hi) c.block ok.whole (omega (arith, level)) from some to ok.accepted
+pub sound_node : (c : CellSeen) → IsSound c → c.level ≡ 1 → least ≤ rank c.lo
+    → rank c.lo < rank c.hi → rank c.hi ≤ top → IsNode (node_of c)
+sound_node c ok level from some to =
+    cell_node true (2 ^ 64) c.level (rank c.lo) (rank c.hi) c.block ok.whole (omega (arith, level))
+    from some to ok.accepted
 
 begins_low : (k from to : ℕ) (qs : List TwigPiece) → Follow from to qs → BeginsAt k qs → k < to
 begins_low k from to [] f begins = absurd begins

@@ -23,7 +23,8 @@ use Rattle.r4_edit.proofs.Gaps.{same_first}
 use Rattle.r4_path.proofs.Grown.{map_names, names_map}
 use Rattle.r4_patch.proofs.Members.{cases, here, later}
 
-pub exchange : {N P G C P' G' C' : Type 0} → N ↔ ((P × (G → ⊥)) ⊎ C) → P ↔ P' → G ↔ G' → C ↔ C' → N ↔ ((P' × (G' → ⊥)) ⊎ C')
+pub exchange : {N P G C P' G' C' : Type 0} → N ↔ ((P × (G → ⊥)) ⊎ C)
+    → P ↔ P' → G ↔ G' → C ↔ C' → N ↔ ((P' × (G' → ⊥)) ⊎ C')
 exchange all p g c = (
   (λ n. elim (all.0 n) [
     | inl stays ↦ inl (p.0 stays.0, λ gone. stays.1 (g.1 gone))

@@ -114,7 +114,8 @@ place_more k l (p ∷ ps) le = elim (cases_lt (rank p.key) k) [
   | inr ge ↦ let a = place_none k p ps ge in omega (arith, a)
 ]
 
-pub end_below : (from k : ℕ) (ps : List TwigPiece) → from ≤ k → ((p : TwigPiece) → Contains ps p → piece_end p ≤ k) → end_of from ps ≤ k
+pub end_below : (from k : ℕ) (ps : List TwigPiece) → from ≤ k
+    → ((p : TwigPiece) → Contains ps p → piece_end p ≤ k) → end_of from ps ≤ k
 end_below from k [] le each = le
 end_below from k (p ∷ ps) le each = end_below (piece_end p) k ps (each p (first_member p ps)) (λ q at. each q (later_member p ps q at))
 

@@ -32,7 +32,8 @@ use Rattle.r4_path.proofs.Rising.{hi_is, lo_is}
 use Rattle.r4_edit.proofs.Spread.{extent_level}
 
 -- the first unit from a key on
-pub first_there : (k : ℕ) (us : List LeafUnit) (n : ℕ) → first_from k us ≡ Some n → (v : Value) × Contains us (n, v) × (k ≤ n)
+pub first_there : (k : ℕ) (us : List LeafUnit) (n : ℕ) → first_from k us ≡ Some n
+    → (v : Value) × Contains us (n, v) × (k ≤ n)
 first_there k [] n is = absurd cc
 first_there k (u ∷ us) n is = elim (cases_lt u.0 k) [
   | inl lt ↦

@@ -89,11 +89,13 @@ item_some it given = by_pieces (item_pieces it) refl
         absurd (omega (arith, e))
     by_pieces (x ∷ xs) same = omega arith
 
-pub pointer_follows : (it : Item) (leaf : CellSeen) (right : Option CellSeen) → MayStandBehind it leaf right → Follow (item_end it) (rank leaf.hi) (pointer_to right)
+pub pointer_follows : (it : Item) (leaf : CellSeen) (right : Option CellSeen)
+    → MayStandBehind it leaf right → Follow (item_end it) (rank leaf.hi) (pointer_to right)
 pointer_follows it leaf None h = h
 pointer_follows it leaf (Some c) h = let high = h.high in (h.low, (h.whole_key, h.may_be_named), omega (arith, high))
 
-pub pointer_names : (it : Item) (leaf : CellSeen) (right : Option CellSeen) → MayStandBehind it leaf right → names_of (rank leaf.hi) (pointer_to right) ≡ map name_of (given_cells right)
+pub pointer_names : (it : Item) (leaf : CellSeen) (right : Option CellSeen) → MayStandBehind it leaf right
+    → names_of (rank leaf.hi) (pointer_to right) ≡ map name_of (given_cells right)
 unfolding names_of
 pointer_names it leaf None h = refl
 pointer_names it leaf (Some c) h = (λ i. record { id = c.id; level = sym h.level_is i; lo = rank c.lo; hi = rank (sym h.to i) } ∷ [])

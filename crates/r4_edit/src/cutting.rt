@@ -77,7 +77,8 @@ fn pointer_at(pieces: &[TwigPiece], at: usize, end: usize, id: NodeId) -> Option
     })
 }
 
-/// A twig's pieces, parted at both keys, of which the first lies at a border of blocks (docs/volume.md, "Twigs").
+/// A twig's pieces, parted at both keys, of which the first lies at a border of blocks
+/// (docs/volume.md, "Twigs").
 pub fn pieces_parted(
     alloc: Global,
     twig: &Cell,

@@ -51,7 +51,8 @@ pub(crate) fn part_leaf(
     Ok(LeafParts { left, right })
 }
 
-/// The part of a leaf before a key of its range, unless that is its first. It has the leaf's name (docs/volume.md, "Edits").
+/// The part of a leaf before a key of its range, unless that is its first. It has the leaf's name
+/// (docs/volume.md, "Edits").
 pub fn left_part(alloc: Global, leaf: &Cell, key: &Key) -> Result<Option<Arc<Cell>>, Memory>
     requires level { leaf.now.level ≡ 1 }
     requires from { rank leaf.now.lo ≤ rank key.now }
@@ -66,8 +67,9 @@ pub fn left_part(alloc: Global, leaf: &Cell, key: &Key) -> Result<Option<Arc<Cel
     Ok(Some(cell))
 }
 
-/// The part of a leaf from its first unit at or behind a key of its range on, where there is one. It has the leaf's name where
-/// the key is the leaf's first, and else takes a fresh number (docs/volume.md, "Edits").
+/// The part of a leaf from its first unit at or behind a key of its range on, where there is one.
+/// It has the leaf's name where the key is the leaf's first, and else takes a fresh number
+/// (docs/volume.md, "Edits").
 pub fn right_part(
     alloc: Global,
     leaf: &Cell,

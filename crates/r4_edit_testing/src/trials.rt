@@ -533,7 +533,8 @@ pub fn two_blocks_behind(key: &Key) -> Option<Key>
     })
 }
 
-/// Whether the extent has two blocks that have no place yet, the first two numbers behind those that may be taken.
+/// Whether the extent has two blocks that have no place yet, the first two numbers behind those
+/// that may be taken.
 pub fn are_new_blocks(body: &[u8]) -> bool
     ensures { IsTrue result → (length body.now ≡ 32) × (units_of body.now ≡ new_units) }
 {

@@ -10,7 +10,8 @@ ghost use Rattle.r4_base.specs.Node.{count_of, items_of, node_fault};
 ghost use Rattle.r4_node40.specs.Loan.{bytes_of, with_bytes};
 ghost use Rattle.r4_node40.specs.Laid.{IsLaid};
 ghost use Rattle.r4_node40.specs.View.{view_block, view_items};
-ghost use Rattle.r4_flush.specs.Anew.{AreItemsAnew, AreMade, BecomeBlocks, IsBlockAnew, IsCellAnew, IsWrittenAnew};
+ghost use Rattle.r4_flush.specs.Anew.{AreItemsAnew, AreMade, BecomeBlocks, IsBlockAnew};
+ghost use Rattle.r4_flush.specs.Anew.{IsCellAnew, IsWrittenAnew};
 ghost use Rattle.r4_flush.specs.Anew.{new_name};
 ghost use Rattle.r4_flush.specs.Prepared.{WasCell};
 

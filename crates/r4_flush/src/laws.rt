@@ -40,8 +40,8 @@ pub fn names_are_those_of_blocks()
         → IsRenamed g (node_of x) (node_of y) }
 {}
 
-/// Where nothing is unflushed, no cell in memory stands on a block that was chosen, if each owned block is that of a
-/// cell under the open atoms (`off`); so none of them names one (`named`).
+/// Where nothing is unflushed, no cell in memory stands on a block that was chosen, if each owned
+/// block is that of a cell under the open atoms (`off`); so none of them names one (`named`).
 pub fn chosen_blocks_are_free()
     ensures off { (w : Meaning Command Reply) (n : ℕ) (work : Flushing) (m : Content)
         (r : IsAtRest n work m) (c : Session) → Sets w c
@@ -54,10 +54,11 @@ pub fn chosen_blocks_are_free()
         → NameNoneChosen cells work.answers }
 {}
 
-/// What is prepared for the cells that an atom owns in memory is a flush of it, where nothing is unflushed, none of
-/// the cells names a block that was chosen, and each may stand in memory on 2^63 blocks (`flush`). The answers are
-/// those for the cells that are written, under the names that they had (`chosen`); the plan is that of the commit
-/// that follows (`plan`); and the root has the name that it gets (`root`).
+/// What is prepared for the cells that an atom owns in memory is a flush of it, where nothing is
+/// unflushed, none of the cells names a block that was chosen, and each may stand in memory on 2^63
+/// blocks (`flush`). The answers are those for the cells that are written, under the names that
+/// they had (`chosen`); the plan is that of the commit that follows (`plan`); and the root has the
+/// name that it gets (`root`).
 pub fn prepared_atoms_are_flushed()
     ensures flush { (given : List CellSeen) (atom : AtomNo) (next : Super40) (last : BlockNo)
         (space : Space)

@@ -1,4 +1,3 @@
-pub mod FreedSpace
-pub mod Following
-pub mod OwnClaims
+pub mod FreedClaims
 pub mod UsedCells
+pub mod DeferredThen

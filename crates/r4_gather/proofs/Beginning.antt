@@ -3,10 +3,9 @@ use Rattle.std.proofs.Common.{◌≡◌, ℕ, ◌+◌, [], ◌∷◌, ◌++◌, 
 use Rattle.std.proofs.Common.{length, length-append, reverse, take}
 use Rattle.std.proofs.Math.Seq.{drop-append_seam}
 use Rattle.std.proofs.lemmas.List.{reverse-append, take-append-drop}
-use Rattle.std.specs.Prelude.{◌-◌, Err, Ok, OnErr, OnOk, Result}
+use Rattle.std.specs.Prelude.{◌-◌, Err, Ok, OnErr, Result}
 use Rattle.r4_content.specs.Course.{Answer, Ask, Change, Course, Scan, Source, asked}
 use Rattle.r4_content.specs.Edited.{Intervals}
-use Rattle.r4_content.specs.Seen.{of_seen}
 use Rattle.r4_gather.specs.Asking.{EndsIn, IsLater, Sighting, asking}
 
 one_more : (r : ℕ × ℕ) (xs g : Intervals) → reverse xs ++ r ∷ g ≡ reverse (r ∷ xs) ++ g

@@ -1,6 +1,7 @@
 -- What a command's course asks for, one interval of keys after another, and how far it has come
 -- (docs/commands.md, "Asking"). A key is its rank.
-use Rattle.std.specs.Prelude.{◌≡◌, ◌⊎◌, ℕ, ◌+◌, ◌-◌, List, ◌∷◌, Bool, true, ◌&&◌, ◌==◌, drop, length, Option, Some}
+use Rattle.std.specs.Prelude.{◌≡◌, ◌⊎◌, ℕ, ◌+◌, ◌-◌, List, ◌∷◌, Bool, true, ◌&&◌, ◌==◌, drop}
+use Rattle.std.specs.Prelude.{length, Option, None, Some}
 use Rattle.std.specs.List.{list_any}
 use Rattle.std.specs.FinMap.{find}
 use Rattle.std.specs.Ordering.{nat_cmp}
@@ -14,7 +15,7 @@ use Rattle.r4_dir.specs.Coming.{last_of}
 use Rattle.r4_cell.specs.Seen.{CellSeen}
 use Rattle.r4_cell.specs.declared.change.Root.{Root}
 use Rattle.r4_outside.specs.Device.{State}
-use Rattle.r4_search.specs.Pool.{LeavesDevice, PoolState}
+use Rattle.r4_search.specs.Pool.{IsRead, LeavesDevice, PoolState}
 use Rattle.r4_search.specs.declared.pool.FetchFault.{FetchFault}
 use Rattle.r4_search.specs.declared.pool.FetchFault.TheVariants.{Memory}
 
@@ -29,7 +30,8 @@ pub record Over : Type 0 where
   pub root : Root
   pub pool : PoolState
 
--- Nothing was written, it is the same tree, and each name of its pool means what it meant.
+-- Nothing was written, it is the same tree, and each name of its pool means what it meant. What is
+-- kept besides is what its name meant.
 pub record IsSameTree (d e : State) (old new : Over) : Type 0 where
   pub device : LeavesDevice d e
   pub root : new.root ≡ old.root
@@ -37,6 +39,8 @@ pub record IsSameTree (d e : State) (old new : Over) : Type 0 where
   pub blocks : new.pool.blocks ≡ old.pool.blocks
   pub meant : (i : ℕ) → new.pool.meant i ≡ old.pool.meant i
   pub kept : (i : ℕ) (c : CellSeen) → old.pool.kept i ≡ Some c → new.pool.kept i ≡ Some c
+  pub added : (i : ℕ) (c : CellSeen) → new.pool.kept i ≡ Some c → old.pool.kept i ≡ None
+      → (c.id ≡ i) × IsRead old.pool.blocks (old.pool.meant i) c
   pub keeps : (level : ℕ) → new.pool.keeps level ≡ old.pool.keeps level
 
 -- the same, as one fact, which is not looked into on the way

@@ -19,10 +19,10 @@ pub enum Asked {
     Within(Interval),
 }
 
-/// What was seen of a content, to which more comes as it is asked for (docs/commands.md, "Asking"). What was seen at
-/// a key that was asked for stays, and so does the tree; nothing is written. Where a call ends with a fault, the
-/// interval may be among those that were asked for, and what stands there is not known; the fault is the one with
-/// which the look-up ended, or want of memory.
+/// What was seen of a content, to which more comes as it is asked for (docs/commands.md, "Asking").
+/// What was seen at a key that was asked for stays, and so does the tree; nothing is written. Where
+/// a call ends with a fault, the interval may be among those that were asked for, and what stands
+/// there is not known; the fault is the one with which the look-up ended, or want of memory.
 pub trait Sight {
     /// What was seen, what was asked for, the newest first, and the fault with which a look-up ended last.
     ghost state: { Self → Sighting };

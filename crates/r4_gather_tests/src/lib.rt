@@ -1,8 +1,14 @@
-//! What commands ask for of a new volume, key by key.
+//! Tests of what commands ask for of a volume and of what they see there, key by key
+//! (docs/commands.md, "Asking").
 #![tactic(auto)]
 
 #[cfg(test)]
-mod asking;
-mod whole;
-
-pub use whole::Whole;
+mod entries;
+#[cfg(test)]
+mod looked;
+#[cfg(test)]
+mod moves;
+#[cfg(test)]
+mod objects;
+#[cfg(test)]
+mod words;

@@ -1,72 +1,112 @@
-//! What commands reach that put more into a leaf than it has room for. A cell that needs up to 1,024 bytes too many
-//! asks for two pointers: so a new cell comes in the place of each that is written, and two beside it at most.
+//! What commands reach in trees whose nodes are full. A cell that needs up to 1,024 bytes too many
+//! asks for two pointers: so a new cell comes in the place of each that is written, two more for
+//! each, and a new root.
 
-ghost use Rattle.std.specs.Prelude.{IfOk};
-ghost use Rattle.r4_content.specs.Fields.{HasBytePaths};
-
-use crate::reached::{Wanted, expect};
-use r4_base::Oid;
-use r4_content::Command;
-use r4_tree_testing::{full, path, with_room};
-use std::alloc::Global;
+use crate::reaching::all_reach;
+use r4_reach_testing::Row;
+use r4_tree_testing::full;
 use std::test::Fail;
 
-// A file is made beside the other one: 50 bytes of an entry, and 82 of stat data.
-fn create(alloc: Global) -> Result<Command, Fail>
-    ensures { IfOk result (λ c. HasBytePaths c) }
-{
-    Ok(Command::Create {
-        path: path(alloc, b"b")?,
-        oid: Oid(65_537),
-    })
-}
+// Commands that put nothing more into the leaf. Each node of the tree but the leaf names block 40
+// many times, which is no node: no command asks for a key below it, so it is not damaged.
+static SAME: [Row; 30] = [
+    ("rename /a /c", "writes 23, 1 new"),
+    ("write /a 0 x", "writes 23, 1 new"),
+    ("write /a 3775 x", "writes 23, 1 new"),
+    ("fill /a 9 99 7", "writes 23, 1 new"),
+    ("truncate /a 9", "writes 23, 1 new"),
+    ("unlink /a", "writes 23, 1 new"),
+    ("chmod / 700", "writes 23, 1 new"),
+    ("chown /a 1 2", "writes 23, 1 new"),
+    ("times /a 1 2 3", "writes 23, 1 new"),
+    ("stat /", "reads 23"),
+    ("stat /a", "reads 23"),
+    ("names /", "reads 23"),
+    ("read /a 0 3776", "reads 23"),
+    ("write /a 0 ", "reads 23"),
+    ("truncate /a 16384", "reads 23"),
+    ("rename /a /a", "reads 23"),
+    // Refused.
+    ("create /a", "reads 23"),
+    ("mkdir /a/b", "reads 23"),
+    ("link / /b", "reads 23"),
+    ("link /a /a", "reads 23"),
+    ("rmdir /a", "reads 23"),
+    ("unlink /b", "reads 23"),
+    ("rename /b /c", "reads 23"),
+    ("names /a", "reads 23"),
+    ("stat /b", "reads 23"),
+    ("write /a 1073741824 x", "reads 23"),
+    ("unlink /", ""),
+    ("rmdir /", ""),
+    ("rename / /b", ""),
+    ("commit", ""),
+];
 
-// What is written, and nothing else read.
-fn writes<'a>(cells: &'a [u64], most: u64, rises: bool) -> Wanted<'a> {
-    Wanted {
-        reads: &[],
-        writes: cells,
-        most,
-        rises,
-    }
-}
+// Further bytes would make an extent.
+static TURNING: [Row; 3] = [
+    ("write /a 16384 x", "extent"),
+    ("fill /a 16383 2 7", "extent"),
+    ("truncate /a 16385", "extent"),
+];
+
+// Commands that put an entry, or an object with its entry, into the leaf, by the height.
+static LOW: [Row; 3] = [
+    ("create /b", "writes 23 24, root pair, 7 new"),
+    ("mkdir /b", "writes 23 24, root pair, 7 new"),
+    ("link /a /b", "writes 23 24, root pair, 7 new"),
+];
+
+static MIDDLE: [Row; 3] = [
+    ("create /b", "writes 23 24 25, root pair, 10 new"),
+    ("mkdir /b", "writes 23 24 25, root pair, 10 new"),
+    ("link /a /b", "writes 23 24 25, root pair, 10 new"),
+];
+
+static HIGH: [Row; 3] = [
+    ("create /b", "writes 23 24 25 26, root pair, 13 new"),
+    ("mkdir /b", "writes 23 24 25 26, root pair, 13 new"),
+    ("link /a /b", "writes 23 24 25 26, root pair, 13 new"),
+];
+
+static TALL: [Row; 3] = [
+    (
+        "create /b",
+        "writes 23 24 25 26 27 28 29 30, root pair, 25 new",
+    ),
+    (
+        "mkdir /b",
+        "writes 23 24 25 26 27 28 29 30, root pair, 25 new",
+    ),
+    (
+        "link /a /b",
+        "writes 23 24 25 26 27 28 29 30, root pair, 25 new",
+    ),
+];
 
 #[test]
-fn a_full_leaf_asks_for_its_parent(rt: HostRuntime) -> Result<(), Fail> {
+fn full_nodes_ask_up_to_the_root_pair(rt: HostRuntime) -> Result<(), Fail> {
     let alloc = rt.alloc();
-    for levels in 0..3 {
-        let mut tree = with_room(alloc, levels)?;
-        let wanted = writes(&[23, 22], 4, false);
-        expect(&rt, alloc, &mut tree, &create(alloc)?, &wanted, "create /b")?;
+    for (levels, rows) in [(1, &LOW), (2, &MIDDLE), (3, &HIGH), (7, &TALL)] {
+        all_reach(&rt, alloc, full(alloc, levels)?, rows.as_slice())?;
     }
     Ok(())
 }
 
 #[test]
-fn an_entry_in_the_place_of_another_asks_for_nothing(rt: HostRuntime) -> Result<(), Fail> {
+fn what_adds_nothing_asks_for_nothing(rt: HostRuntime) -> Result<(), Fail> {
     let alloc = rt.alloc();
-    let mut tree = with_room(alloc, 1)?;
-    let command = Command::Rename {
-        from: path(alloc, b"a")?,
-        to: path(alloc, b"c")?,
-    };
-    let wanted = writes(&[23], 1, false);
-    expect(&rt, alloc, &mut tree, &command, &wanted, "rename /a /c")
+    for levels in [1, 2, 3, 7] {
+        all_reach(&rt, alloc, full(alloc, levels)?, &SAME)?;
+    }
+    Ok(())
 }
 
 #[test]
-fn a_full_twig_asks_further_up(rt: HostRuntime) -> Result<(), Fail> {
+fn further_bytes_touch_an_extent(rt: HostRuntime) -> Result<(), Fail> {
     let alloc = rt.alloc();
-    let mut tree = full(alloc, 2)?;
-    let wanted = writes(&[23, 24, 25], 10, true);
-    expect(&rt, alloc, &mut tree, &create(alloc)?, &wanted, "create /b")
-}
-
-#[test]
-fn a_tall_tree_asks_up_to_its_root_pair(rt: HostRuntime) -> Result<(), Fail> {
-    let alloc = rt.alloc();
-    let mut tree = full(alloc, 7)?;
-    assert_eq!(rt; tree.1.height, 8);
-    let wanted = writes(&[23, 24, 25, 26, 27, 28, 29, 30], 25, true);
-    expect(&rt, alloc, &mut tree, &create(alloc)?, &wanted, "create /b")
+    for levels in [1, 2, 3, 7] {
+        all_reach(&rt, alloc, full(alloc, levels)?, &TURNING)?;
+    }
+    Ok(())
 }

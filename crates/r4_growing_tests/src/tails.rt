@@ -1,82 +1,34 @@
-//! What commands reach in a file of 16,384 bytes that stand in leaves.
+//! What commands reach in a file of 16,384 bytes that stand in five leaves, below a twig with room.
 
-ghost use Rattle.std.specs.Prelude.{IfOk};
-ghost use Rattle.r4_content.specs.Fields.{HasBytePaths};
-
-use crate::reached::{Wanted, expect, reach};
-use r4_base::Bytes;
-use r4_content::Command;
-use r4_tree_testing::{path, with_room};
-use std::alloc::Global;
+use crate::reaching::all_reach;
+use r4_reach_testing::Row;
+use r4_tree_testing::with_room;
 use std::test::Fail;
 
-// One byte is written into the file.
-fn write(alloc: Global, offset: u64) -> Result<Command, Fail>
-    ensures { IfOk result (λ c. HasBytePaths c) }
-{
-    Ok(Command::Write {
-        path: path(alloc, b"a")?,
-        offset,
-        text: Bytes::from_vec(alloc, Vec::from_array(alloc, *b"x")?)?,
-    })
-}
+static ROWS: [Row; 12] = [
+    // Bytes of two leaves share no cell that is written, and neither reads the last byte.
+    ("write /a 16383 x", "reads 23, writes 27, 1 new"),
+    ("write /a 8192 y", "reads 23, writes 25, 1 new"),
+    ("read /a 7805 2", "reads 23 24 25"),
+    ("fill /a 0 16384 7", "writes 23 24 25 26 27, 5 new"),
+    ("truncate /a 7806", "writes 23 25 26 27, 4 new"),
+    ("unlink /a", "writes 23 24 25 26 27, 5 new"),
+    // A file that grows past its leaves becomes an extent.
+    ("write /a 16384 x", "extent"),
+    // The full leaf asks its twig, which has room; an entry in the place of another needs none.
+    ("create /b", "writes 23 22, 4 new"),
+    ("mkdir /b", "writes 23 22, 4 new"),
+    ("link /a /b", "writes 23 22, 4 new"),
+    ("rename /a /c", "writes 23, 1 new"),
+    // A longer name needs a byte of its own for each of its bytes.
+    ("rename /a /aaaaaaaaaaaaaaaxxxxxxxca", "writes 23 22, 4 new"),
+];
 
 #[test]
-fn bytes_of_two_leaves_share_no_cell(rt: HostRuntime) -> Result<(), Fail> {
+fn bytes_in_leaves_are_reached_leaf_by_leaf(rt: HostRuntime) -> Result<(), Fail> {
     let alloc = rt.alloc();
-    let mut tree = with_room(alloc, 0)?;
-    for (offset, leaf) in [(16_383, 27), (8192, 25)] {
-        let wanted = Wanted {
-            reads: &[23],
-            writes: &[leaf],
-            most: 1,
-            rises: false,
-        };
-        let command = write(alloc, offset)?;
-        expect(&rt, alloc, &mut tree, &command, &wanted, "write /a x")?;
+    for levels in 0..3 {
+        all_reach(&rt, alloc, with_room(alloc, levels)?, &ROWS)?;
     }
     Ok(())
-}
-
-#[test]
-fn a_file_that_grows_past_its_leaves_touches_an_extent(rt: HostRuntime) -> Result<(), Fail> {
-    let alloc = rt.alloc();
-    let (mut dev, root) = with_room(alloc, 0)?;
-    let command = write(alloc, 16_384)?;
-    assert!(rt; reach(alloc, &mut dev, root, &command)?.is_none());
-    Ok(())
-}
-
-#[test]
-fn bytes_are_read_across_a_border(rt: HostRuntime) -> Result<(), Fail> {
-    let alloc = rt.alloc();
-    let mut tree = with_room(alloc, 0)?;
-    let command = Command::Read {
-        path: path(alloc, b"a")?,
-        offset: 7805,
-        len: 2,
-    };
-    let wanted = Wanted {
-        reads: &[23, 24, 25],
-        writes: &[],
-        most: 0,
-        rises: false,
-    };
-    expect(&rt, alloc, &mut tree, &command, &wanted, "read /a 7805 2")
-}
-
-#[test]
-fn a_file_that_goes_is_written_in_its_leaves(rt: HostRuntime) -> Result<(), Fail> {
-    let alloc = rt.alloc();
-    let mut tree = with_room(alloc, 0)?;
-    let command = Command::Unlink {
-        path: path(alloc, b"a")?,
-    };
-    let wanted = Wanted {
-        reads: &[],
-        writes: &[23, 24, 25, 26, 27],
-        most: 5,
-        rises: false,
-    };
-    expect(&rt, alloc, &mut tree, &command, &wanted, "unlink /a")
 }

@@ -16,9 +16,10 @@ abbrev pub is_inside : Within → Bool
 is_inside (Inside t) = true
 is_inside w = false
 
--- the single command of a transaction that is not answered is work
+-- the single command of a transaction that is not answered is there, and is work
 abbrev pub IsSingleWork : Within → Option Command → Type 0
 IsSingleWork (Single t) (Some c) = IsWork c
+IsSingleWork (Single t) None = ⊥
 IsSingleWork w o = Unit {0}
 
 drop_next : (cs : List Command) (n : ℕ) (c : Command) → slice_get cs n ≡ Some c → drop n cs ≡ c ∷ drop (suc n) cs

@@ -1,5 +1,5 @@
 -- What a script waits for.
-use Rattle.std.proofs.Common.{◌≡◌, ◌⊎◌, inl, inr, ⊎_elim, ℕ, zero, suc, ◌-◌, ◌<◌, ◌==◌, Bool, true, false, not, true≢false, cond, List, [], ◌∷◌, ◌++◌, length, get_or, slice_get, Option, Some, None, IsSome, refl, sym, ◌∙◌, ap, subst, arith}
+use Rattle.std.proofs.Common.{◌≡◌, ◌⊎◌, inl, inr, ⊎_elim, ℕ, zero, suc, ◌-◌, ◌<◌, ◌==◌, Bool, true, false, not, true≢false, cond, List, [], ◌∷◌, ◌++◌, drop, length, get_or, slice_get, Option, Some, None, IsSome, refl, sym, ◌∙◌, ap, subst, arith}
 use Rattle.std.specs.Option.{option_or}
 use Rattle.std.proofs.lemmas.Bool.{and_from, and_parts, cases_Bool, cases_lt, eq-eqb, eqb-true, false≢true, not-true, not_from_false}
 use Rattle.std.proofs.lemmas.List.{get_or_past}
@@ -17,11 +17,12 @@ use Rattle.r4_locks.specs.Modes.{conflicts}
 use Rattle.r4_locks.specs.declared.things.Mode.{Mode}
 use Rattle.r4_locks.specs.declared.things.Mode.TheVariants.{Reads, Writes}
 use Rattle.r4_locks.proofs.ConflictLaws.{first_is}
+use Rattle.r4_script.specs.Grammar.{Turns}
 use Rattle.r4_script.specs.Spelling.{AreInOrder, AreScripts, IsScript as IsTextScript}
 use Rattle.r4_script.specs.declared.job.Script.{Script}
 use Rattle.std.specs.List.{AllByRecursion}
 use Rattle.r4_trace.specs.Ids.{Start}
-use Rattle.r4_trace.specs.Job.{HasNoBegin, Inside, IsWork, Place, Single, commands_of, txn_in}
+use Rattle.r4_trace.specs.Job.{HasNoBegin, Inside, IsWork, Outside, Place, Single, commands_of, txn_in}
 use Rattle.r4_trace.specs.Traced.{IsOpen}
 use Rattle.r4_trace.specs.declared.entry.Entry.{Entry}
 use Rattle.r4_trace.proofs.FirstOnes.{sealed_committed}
@@ -33,7 +34,7 @@ use Rattle.r4_turns.specs.declared.turn.Turn.{Turn}
 use Rattle.r4_history.specs.declared.why.Why.{Why}
 use Rattle.r4_history.specs.declared.why.Why.TheVariants.{Held, Open, Sealed}
 use Rattle.r4_history.specs.Held.{AreOwners, IsOut, Need, TasksTell}
-use Rattle.r4_history.specs.Serving.{AreOrdered, AsksForFlush, IsAtWork, IsHeldUp, IsInTheWay, IsInTheWayOf, IsInTheWayOfCommit, IsPassedOver, IsReason, IsSealedOwner, IsServedNext, IsWaiting, WaitsFor}
+use Rattle.r4_history.specs.Serving.{AreOrdered, AsksForFlush, IsAtWork, IsHeldUp, IsInTheWay, IsInTheWayOf, IsInTheWayOfCommit, IsPassedOver, IsReason, IsSealedOwner, IsServedNext, IsWaiting, Suits, WaitsFor}
 use Rattle.r4_history.specs.Tables.{Stands, Tables, asked, next_at, place_at, within_of}
 use Rattle.r4_history.specs.Told.{IsCommitting, IsTold}
 use Rattle.r4_history.proofs.Ordered.{Fits, fits, in_order_next, in_order_pushed, IsSingleWork}
@@ -91,6 +92,58 @@ module _ (w : Meaning Command Reply) (start : Option Start) (clock : ℕ) (t : T
   owner_commits need a owners none is =
       let o = owners is.node a is.owner in
       h.commit.one a none o.0.begun is.sealed o.1
+
+  -- what comes next in a script suits its transaction
+  stands_fits : (s : ℕ) (o : Option OpenTxn) (c : Option Command) → AreOrdered t.turns → t.broken ≡ None
+      → Stands t.turns s o c → Fits (commands_of (asked t.turns.job) s) (stood (count_at t.turns s) o)
+  stands_fits s o c ordered none st =
+      let is = st.is_script in
+      subst (Fits (commands_of (asked t.turns.job) s)) (place_now w start clock t trace h s o c st)
+      (fits (asked t.turns.job) s
+      (subst (AreInOrder false) (sym (commands_are t.turns s is.0)) (ordered s is)) trace h.legal.order h.legal.answers
+      (sym h.broken ∙ none))
+
+  following : (s : ℕ) (o : Option OpenTxn) (c : Option Command) → Stands t.turns s o c
+      → slice_get (commands_of (asked t.turns.job) s) (count_at t.turns s) ≡ c
+  following s o c st =
+      ap (λ (l : List Command). slice_get l (count_at t.turns s)) (commands_are t.turns s st.is_script.0) ∙ st.next
+
+  turned : (s : ℕ) (b : Bool) (c : Command) → AreInOrder b (drop (count_at t.turns s) (commands_of (asked t.turns.job) s))
+      → slice_get (commands_of (asked t.turns.job) s) (count_at t.turns s) ≡ Some c
+      → (now : Bool) × Turns c b now
+  turned s b c ok at =
+      let step = in_order_next b (commands_of (asked t.turns.job) s) (count_at t.turns s) c ok at in
+      (step.0, step.1)
+
+  suits_in : (s : ℕ) (single : Bool) (m : ℕ) (c : Option Command)
+      → Fits (commands_of (asked t.turns.job) s)
+      (record { answered = count_at t.turns s; within = cond single (Single m) (Inside m) })
+      → slice_get (commands_of (asked t.turns.job) s) (count_at t.turns s) ≡ c
+      → (o : OpenTxn) → o.single ≡ single → Suits (Some o) c
+  suits_in s true m None ok at o is = absurd (subst (IsSingleWork (Single m)) at ok.1)
+  suits_in s true m (Some commands.Begin) ok at o is = absurd (subst (IsSingleWork (Single m)) at ok.1)
+  suits_in s true m (Some commands.End) ok at o is = absurd (subst (IsSingleWork (Single m)) at ok.1)
+  suits_in s true m (Some commands.Commit) ok at o is = absurd (subst (IsSingleWork (Single m)) at ok.1)
+  suits_in s false m None ok at o is = is
+  suits_in s false m (Some commands.End) ok at o is = is
+  suits_in s false m (Some commands.Begin) ok at o is =
+      absurd (true≢false (turned s true commands.Begin ok.0 at).1.0)
+  suits_in s false m (Some commands.Commit) ok at o is =
+      absurd (true≢false (turned s true commands.Commit ok.0 at).1.0)
+  suits_in s single m (Some c) ok at o is = tt
+
+  suits_out : (s : ℕ) (c : Option Command) → Fits (commands_of (asked t.turns.job) s)
+      (record { answered = count_at t.turns s; within = Outside })
+      → slice_get (commands_of (asked t.turns.job) s) (count_at t.turns s) ≡ c → Suits None c
+  suits_out s (Some commands.End) ok at = absurd (false≢true (turned s false commands.End ok.0 at).1.0)
+  suits_out s c ok at = tt
+
+  pub next_suits : (s : ℕ) (o : Option OpenTxn) (c : Option Command) → AreOrdered t.turns → t.broken ≡ None
+      → Stands t.turns s o c → Suits o c
+  next_suits s None c ordered none st =
+      suits_out s c (stands_fits s None c ordered none st) (following s None c st)
+  next_suits s (Some o) c ordered none st =
+      suits_in s o.single o.txn.0 c (stands_fits s (Some o) c ordered none st) (following s (Some o) c st) o refl
 
   -- no `commit` stands inside of a transaction
   pub no_commit_inside : (s : ℕ) (x : OpenTxn) → AreOrdered t.turns → IsScript t.turns s → t.broken ≡ None

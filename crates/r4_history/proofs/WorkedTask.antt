@@ -1,10 +1,13 @@
 -- A worked task, by the laws.
 use Rattle.std.proofs.Common.{◌≡◌, ◌≢◌, ⊎_elim, inl, inr, ℕ, zero, suc, ◌==◌, ◌||◌, false, [], ◌∷◌, get_or, Some, None, refl, sym, ◌∙◌, subst, arith}
 use Rattle.std.proofs.lemmas.Bool.{cases_eq, cond-false, cond-true, eq-eqb, ne_eqb, or_from, or_left}
+use Rattle.std.specs.Global.{Global}
+use Rattle.std.specs.declared.sync.Arc.{Arc}
 use Rattle.r4_base.specs.declared.key.Key.{Key}
 use Rattle.r4_content.specs.Locality.{Meaning}
 use Rattle.r4_content.specs.declared.command.Command.{Command}
 use Rattle.r4_content.specs.declared.reply.Reply.{Reply}
+use Rattle.r4_content.specs.declared.seen.Seen.{Seen}
 use Rattle.r4_atoms.specs.Atoms.{AtomsSeen, new_atom, new_txn}
 use Rattle.r4_locks.specs.Locks.{LocksSeen, TaskSeen, mode_of, mode_with}
 use Rattle.r4_locks.specs.declared.things.Mode.TheVariants.{Reads, Writes}
@@ -32,11 +35,11 @@ abbrev begun : Tables
 begun = with_single at_first 1 first_txn one_begun
 
 abbrev no_locks : LocksSeen
-no_locks = record { tasks = []; spare = 0 }
+no_locks = record { tasks = []; spare = 0; lets_in = false }
 
-holds_five : (k : Key) (n : ℕ) → mode_of make_locks 0 n
-    ≡ mode_with Reads (need_of (make_task k)).reads n (mode_with Writes (need_of (make_task k)).writes n None)
-holds_five k n = elim (cases_eq n 5) [
+holds_five : (k : Key) (y : Arc Seen Global) (n : ℕ) → mode_of make_locks 0 n
+    ≡ mode_with Reads (need_of (make_task k y)).reads n (mode_with Writes (need_of (make_task k y)).writes n None)
+holds_five k y n = elim (cases_eq n 5) [
   | inl same ↦
       cond-true (n == 5) (Some Writes) None (eq-eqb n 5 same)
       ∙ sym (cond-true ((5 == n) || false) (Some Writes) None (or_left (5 == n) false (eq-eqb 5 n (sym same))))
@@ -50,15 +53,15 @@ not_zero : (j : ℕ) → j ≢ 0 → (x : TaskSeen) → get_or (Some x ∷ []) j
 not_zero zero other x = absurd (other refl)
 not_zero (suc j) other x = refl
 
-new : (k : Key) → HoldsNew no_locks make_locks (make_task k)
-new k = record {
+new : (k : Key) (y : Arc Seen Global) → HoldsNew no_locks make_locks (make_task k y)
+new k y = record {
   unused = refl;
-  holds = record { stands = refl; modes = holds_five k };
+  holds = record { stands = refl; modes = holds_five k y };
   others = λ j other. not_zero j other (record { holds = (5, Writes) ∷ []; room = 0 });
 }
 
-served : (k : Key) → IsServed begun 1 (make_task k)
-served k = record {
+served : (k : Key) (y : Arc Seen Global) → IsServed begun 1 (make_task k y)
+served k y = record {
   within = single first_txn;
   transaction = refl;
   txn = refl;
@@ -68,10 +71,10 @@ served k = record {
   owners = λ node a reached owned. absurd (cc owned);
 }
 
-pub worked_task : (w : Meaning Command Reply) (clock : ℕ) (k : Key)
-    → IsTold w None clock (make_tables k) trace_begun × TasksTell (make_tables k) make_locks
-    × AreDrawn 65536 (make_tables k).turns 65537 trace_begun
-worked_task w clock k =
+pub worked_task : (w : Meaning Command Reply) (clock : ℕ) (k : Key) (y : Arc Seen Global)
+    → IsTold w None clock (make_tables k y) trace_begun × TasksTell (make_tables k y) make_locks
+    × AreDrawn 65536 (make_tables k y).turns 65537 trace_begun
+worked_task w clock k y =
     let t0 = told_first w None clock make_job 0 0 in
     let t1 =
     told_single w None clock at_first [] t0 first_txn first_script make one_begun refl
@@ -86,35 +89,36 @@ worked_task w clock k =
     let d0 = drawn_first 65536 make_job (omega arith) in
     let d1 = drawn_entered 65536 (started make_job) 65536 [] d0 1 (single first_txn) (omega arith, omega arith) in
     let d2 = drawn_entry 65536 begun.turns 65536 [] d1 (Begin first_txn first_script) tt in (
-      told_out w None clock begun trace_begun t1 1 (make_task k) (omega arith, omega arith),
-      tasks_out begun no_locks make_locks h2 1 (make_task k) (omega arith, omega arith) refl (new k) (served k),
-      drawn_out 65536 begun.turns 65536 trace_begun d2 1 make (make_task k) 65537 (omega arith, omega arith) refl refl
+      told_out w None clock begun trace_begun t1 1 (make_task k y) (omega arith, omega arith),
+      tasks_out begun no_locks make_locks h2 1 (make_task k y) (omega arith, omega arith) refl (new k y) (served k y),
+      drawn_out 65536 begun.turns 65536 trace_begun d2 1 make (make_task k y) 65537 (omega arith, omega arith) refl refl
           (record { kept = λ n is. absurd (cc is); drawn = λ none. (refl, λ makes. refl) }),
     )
 
 -- while it is out its script waits for it
-unfinished : (k : Key) → IsFinished (make_tables k) 1 → ⊥
-unfinished k is = let e : 0 ≡ 2 = is.answered in omega (arith, e)
+unfinished : (k : Key) (y : Arc Seen Global) → IsFinished (make_tables k y) 1 → ⊥
+unfinished k y is = let e : 0 ≡ 2 = is.answered in omega (arith, e)
 
-pub out_is_waited_for : (k : Key) → IsWaiting (make_tables k) make_locks (λ s. None) (Out (record { 0 = 0 }))
-out_is_waited_for k = record {
+pub out_is_waited_for : (k : Key) (y : Arc Seen Global)
+    → IsWaiting (make_tables k y) make_locks (λ s. None) (Out (record { 0 = 0 }))
+out_is_waited_for k y = record {
   script = 1;
   is_script = (omega arith, omega arith);
-  unfinished = unfinished k;
+  unfinished = unfinished k y;
   first = λ q is before.
       ⊎_elim (λ less. absurd (omega (arith, less, one q is)))
       (λ same. (let lt = same.1 in absurd (omega (arith, lt, one q is))))
-      (subst (λ (x : ℕ). IsBefore (make_tables k).turns x 1) (one q is) before);
+      (subst (λ (x : ℕ). IsBefore (make_tables k y).turns x 1) (one q is) before);
   reason = refl;
   all = λ q is.
-      subst (IsPassedOver (make_tables k) make_locks (λ s. None)) (sym (one q is))
-      (inr (inl (make_task k, record { is_script = (omega arith, omega arith); is_out = refl })));
+      subst (IsPassedOver (make_tables k y) make_locks (λ s. None)) (sym (one q is))
+      (inr (inl (make_task k y, record { is_script = (omega arith, omega arith); is_out = refl })));
 }
   where
-    one : (q : ℕ) → IsScript (make_tables k).turns q → q ≡ 1
+    one : (q : ℕ) → IsScript (make_tables k y).turns q → q ≡ 1
     one q is = omega (arith, is.0, is.1)
 
 -- who wants to read its node waits for its hold
-pub hold_is_in_the_way : (k : Key)
-    → IsInTheWay (make_tables k).atoms make_locks reads_five (Held (record { 0 = 5 }) (record { 0 = 0 }))
-hold_is_in_the_way k = (λ a is. cc is.owner, refl)
+pub hold_is_in_the_way : (k : Key) (y : Arc Seen Global)
+    → IsInTheWay (make_tables k y).atoms make_locks reads_five (Held (record { 0 = 5 }) (record { 0 = 0 }))
+hold_is_in_the_way k y = (λ a is. cc is.owner, refl)

@@ -13,6 +13,7 @@ use Rattle.r4_trace.specs.declared.entry.Entry.{Entry}
 use Rattle.r4_trace.specs.declared.entry.Entry.TheVariants.{Fuse}
 use Rattle.r4_turns.specs.Turns.{IsBefore, IsScript, TurnsSeen, commands_at, turn_at}
 use Rattle.r4_turns.specs.declared.out.Out.{Out as Task}
+use Rattle.r4_turns.specs.declared.turn.Open.{Open as OpenTxn}
 use Rattle.r4_history.specs.declared.why.Why.{Why}
 use Rattle.r4_history.specs.declared.why.Why.TheVariants.{Held, Open, Out, Sealed}
 use Rattle.r4_history.specs.Held.{IsOut, Need, nodes_of}
@@ -115,6 +116,17 @@ IsAtWork t = ((s : ℕ) × (out : Task) × IsOut t.turns s out) ⊎ IsSome t.com
 -- the scripts are those of a text: no `commit` stands inside of a transaction
 abbrev pub AreOrdered : TurnsSeen → Type 0
 AreOrdered t = (s : ℕ) → IsScript t s → AreInOrder false (commands_at t s)
+
+-- What may come next in a script with this open transaction, if it has one: `end` and the end of the
+-- script in one that `begin` began, work in any and outside, `begin` and `commit` outside.
+abbrev pub Suits : Option OpenTxn → Option Command → Type 0
+Suits None (Some commands.End) = ⊥
+Suits None c = Unit {0}
+Suits (Some o) (Some commands.Begin) = ⊥
+Suits (Some o) (Some commands.Commit) = ⊥
+Suits (Some o) (Some commands.End) = o.single ≡ false
+Suits (Some o) None = o.single ≡ false
+Suits (Some o) (Some c) = Unit {0}
 
 -- ---- which atoms fuse
 

@@ -1,7 +1,9 @@
 -- Worked examples (docs/histories.md): the run of one script, with a command that reads and a
 -- `commit`; a command that reads what another open atom owns; and one that makes a file, as it goes
 -- out.
-use Rattle.std.specs.Prelude.{ℕ, ◌+◌, ◌^◌, List, [], ◌∷◌, Some}
+use Rattle.std.specs.Prelude.{ℕ, ◌+◌, ◌^◌, List, [], ◌∷◌, Some, false}
+use Rattle.std.specs.Global.{Global}
+use Rattle.std.specs.declared.sync.Arc.{Arc}
 use Rattle.r4_atoms.specs.Atoms.{AtomsSeen, new_atom, new_txn}
 use Rattle.r4_base.specs.declared.things.AtomNo.{AtomNo}
 use Rattle.r4_base.specs.declared.things.ScriptNo.{ScriptNo}
@@ -10,6 +12,7 @@ use Rattle.r4_base.specs.declared.key.Key.{Key}
 use Rattle.r4_content.specs.declared.command.Command.{Command}
 use Rattle.r4_content.specs.declared.command.Command.TheVariants as commands
 use Rattle.r4_content.specs.declared.reply.Reply.{Reply}
+use Rattle.r4_content.specs.declared.seen.Seen.{Seen}
 use Rattle.r4_locks.specs.Locks.{LocksSeen}
 use Rattle.r4_locks.specs.declared.things.Mode.TheVariants.{Writes}
 use Rattle.r4_script.specs.declared.job.Job.{Job}
@@ -75,14 +78,15 @@ make = commands.Create ((97 ∷ []) ∷ []) (record { 0 = 0 })
 abbrev pub make_job : Job
 make_job = record { scripts = record { commands = make ∷ commands.Commit ∷ [] } ∷ [] }
 
--- Its task has number 0; it writes one node, and makes the object 65536.
-abbrev pub make_task : Key → Out
-make_task k = record {
+-- Its task has number 0; it writes one node, and makes the object 65536, whatever was seen.
+abbrev pub make_task : Key → Arc Seen Global → Out
+make_task k seen = record {
   task = record { 0 = 0 };
   txn = first_txn;
   reads = [];
   writes = record { id = 5; level = 1; lo = k; hi = k; block = [] } ∷ [];
   pins = [];
+  seen = seen;
   numbers = record {
     oid = record { 0 = 65536 };
     fresh = record { next = 2 ^ 63; end = 2 ^ 63 + 1 };
@@ -92,8 +96,8 @@ make_task k = record {
 }
 
 -- the tables once it is out, and what it holds
-abbrev pub make_tables : Key → Tables
-make_tables k =
+abbrev pub make_tables : Key → Arc Seen Global → Tables
+make_tables k seen =
     let begun = with_single (opened make_job 0 0) 1 first_txn (record {
       txns = new_txn 1 1 ∷ [];
       atoms = new_atom ∷ [];
@@ -101,10 +105,11 @@ make_tables k =
       spare = 0;
       txn_spare = 0;
     }) in
-    record begun { turns = gone_out begun.turns 1 (make_task k) }
+    record begun { turns = gone_out begun.turns 1 (make_task k seen) }
 
 abbrev pub make_locks : LocksSeen
 make_locks = record {
   tasks = Some (record { holds = (5, Writes) ∷ []; room = 0 }) ∷ [];
   spare = 0;
+  lets_in = false;
 }

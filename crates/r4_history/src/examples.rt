@@ -1,10 +1,13 @@
 //! Worked examples (docs/histories.md).
 
 ghost use Rattle.std.specs.Prelude.{◌∷◌, [], ℕ, None};
+ghost use Rattle.std.specs.Global.{Global};
+ghost use Rattle.std.specs.declared.sync.Arc.{Arc};
 ghost use Rattle.r4_base.specs.declared.key.Key.{Key};
 ghost use Rattle.r4_content.specs.Locality.{Meaning};
 ghost use Rattle.r4_content.specs.declared.command.Command.{Command};
 ghost use Rattle.r4_content.specs.declared.reply.Reply.{Reply};
+ghost use Rattle.r4_content.specs.declared.seen.Seen.{Seen};
 ghost use Rattle.r4_history.specs.Drawn.{AreDrawn};
 ghost use Rattle.r4_history.specs.Held.{TasksTell};
 ghost use Rattle.r4_history.specs.Serving.{AreOthers, IsInTheWay, IsWaiting};
@@ -29,11 +32,12 @@ pub fn reading_fuses()
 /// A command that makes a file is out, as the first of its run: its task holds the node that it
 /// writes, and its id is drawn. Its script waits for it, and so does who wants to read the node.
 pub fn one_task()
-    ensures out { (w : Meaning Command Reply) (clock : ℕ) (k : Key)
-        → IsTold w None clock (make_tables k) trace_begun × TasksTell (make_tables k) make_locks
-        × AreDrawn 65536 (make_tables k).turns 65537 trace_begun }
-    ensures waits { (k : Key) → IsWaiting (make_tables k) make_locks (λ s. None)
-        (Out (record { 0 = 0 })) }
-    ensures held { (k : Key) → IsInTheWay (make_tables k).atoms make_locks reads_five
+    ensures out { (w : Meaning Command Reply) (clock : ℕ) (k : Key) (y : Arc Seen Global)
+        → IsTold w None clock (make_tables k y) trace_begun × TasksTell (make_tables k y) make_locks
+        × AreDrawn 65536 (make_tables k y).turns 65537 trace_begun }
+    ensures waits { (k : Key) (y : Arc Seen Global)
+        → IsWaiting (make_tables k y) make_locks (λ s. None) (Out (record { 0 = 0 })) }
+    ensures held { (k : Key) (y : Arc Seen Global)
+        → IsInTheWay (make_tables k y).atoms make_locks reads_five
         (Held (record { 0 = 5 }) (record { 0 = 0 })) }
 {}

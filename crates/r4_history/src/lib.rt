@@ -26,6 +26,7 @@ pub use serving::{commands_fuse_atoms, one_script_is_served, others_are_exact};
 pub use tasks::{tasks_are_apart, tasks_come_and_go, tasks_keep_their_owners, tasks_stay_out};
 pub use transactions::{transactions_begin, transactions_end};
 pub use waiting::{
-    commits_have_answers, scripts_are_ordered, scripts_wait_for_one_reason, something_is_waited_for,
+    commits_have_answers, next_commands_suit, scripts_are_ordered, scripts_wait_for_one_reason,
+    something_is_waited_for,
 };
 pub use why::Why;

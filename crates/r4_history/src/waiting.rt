@@ -16,8 +16,9 @@ ghost use Rattle.r4_trace.specs.declared.entry.Entry.{Entry};
 ghost use Rattle.r4_turns.specs.Turns.{IsScript, TurnsSeen, commands_at, with_command};
 ghost use Rattle.r4_history.specs.declared.why.Why.{Why};
 ghost use Rattle.r4_history.specs.Held.{AreOwners, Need, TasksTell};
-ghost use Rattle.r4_history.specs.Serving.{AreOrdered, AsksForFlush, IsServedNext, IsAtWork, IsWaiting, WaitsFor};
-ghost use Rattle.r4_history.specs.Tables.{Tables};
+ghost use Rattle.r4_history.specs.Serving.{AreOrdered, AsksForFlush, IsServedNext, IsAtWork, IsWaiting, Suits, WaitsFor};
+ghost use Rattle.r4_history.specs.Tables.{Stands, Tables};
+ghost use Rattle.r4_turns.specs.declared.turn.Open.{Open};
 ghost use Rattle.r4_history.specs.Told.{IsTold};
 
 /// A script waits for one reason, and what is told where none can be served is one reason too. It
@@ -65,4 +66,12 @@ pub fn scripts_are_ordered()
     ensures pushed { (t : TurnsSeen) (s : ℕ) (c : Command) → IsScript t s
         → length t.turns ≡ length t.job.scripts → HasNoBegin (commands_at t s)
         → IsWork c ⊎ (c ≡ commands.Commit) → AreOrdered t → AreOrdered (with_command t s c) }
+{}
+
+/// What comes next in a script suits its open transaction.
+pub fn next_commands_suit()
+    ensures { (w : Meaning Command Reply) (start : Option Start) (clock : ℕ) (t : Tables)
+        (trace : List Entry) → IsTold w start clock t trace
+        → (s : ℕ) (o : Option Open) (c : Option Command) → AreOrdered t.turns → t.broken ≡ None
+        → Stands t.turns s o c → Suits o c }
 {}

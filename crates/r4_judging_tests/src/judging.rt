@@ -56,6 +56,17 @@ fn a_block_that_is_only_named_is_not_judged(rt: HostRuntime) -> Result<(), Fail>
 }
 
 #[test]
+fn a_block_beside_a_run_is_not_judged(rt: HostRuntime) -> Result<(), Fail> {
+    let alloc = rt.alloc();
+    let cells = [
+        leaf(alloc, 24, least(), byte(0))?,
+        leaf(alloc, 27, byte(0), top())?,
+        twig(alloc, whole(22, 2), (least(), 40), (byte(0), 25, 2))?,
+    ];
+    found(&rt, alloc, &cells, None, "before and behind the run")
+}
+
+#[test]
 fn a_leaf_that_is_named_twice_is_damage(rt: HostRuntime) -> Result<(), Fail> {
     let alloc = rt.alloc();
     let cells = [

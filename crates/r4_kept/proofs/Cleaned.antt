@@ -72,6 +72,14 @@ module _ (b new : BufferSeen) (ids : List NodeId)
   pub cleaned_now : (i : ℕ) → Contains (numbers ids) i → buffered new i ≡ clean (buffered b i)
   cleaned_now i has = cells i ∙ these_clean ids i (buffered b i) has
 
+  -- none of these is dirty
+  pub none_dirty : (i : ℕ) → Contains (numbers ids) i → is_dirty_by (buffered new i) ≡ false
+  none_dirty i has = ap is_dirty_by (cleaned_now i has) ∙ by (buffered b i)
+    where
+      by : (o : Standing) → is_dirty_by (clean o) ≡ false
+      by None = refl
+      by (Some e) = refl
+
   pub same_now : (i : ℕ) → (Contains (numbers ids) i → ⊥) → buffered new i ≡ buffered b i
   same_now i not = cells i ∙ others_stand ids i (buffered b i) not
 

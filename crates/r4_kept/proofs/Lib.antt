@@ -8,3 +8,4 @@ pub mod Cleaned
 pub mod States
 pub mod Dones
 pub mod Owing
+pub mod Staying

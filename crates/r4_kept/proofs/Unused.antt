@@ -8,8 +8,8 @@ use Rattle.std.proofs.lemmas.List.Sums.{sum_by-cons}
 use Rattle.r4_base.specs.declared.things.NodeId.{NodeId}
 use Rattle.r4_buffer.specs.Changed.{Standing, in_turn, one_less, unused, uses_of}
 use Rattle.r4_buffer.specs.Reading.{NamesStand}
-use Rattle.r4_buffer.specs.Seen.{BufferSeen, EntrySeen, IsCaptured, IsLawful, buffered, is_above, is_captured}
-use Rattle.r4_buffer.specs.Seen.{is_dirty_by}
+use Rattle.r4_buffer.specs.Seen.{BufferSeen, EntrySeen, IsCaptured, IsLawful, buffered, cell_at, is_above}
+use Rattle.r4_buffer.specs.Seen.{is_captured, is_dirty_by}
 use Rattle.r4_buffer.proofs.Captured.{captured_is, is_captured_from}
 use Rattle.r4_cell.specs.Seen.{CellSeen}
 use Rattle.r4_outside.specs.Device.{State}
@@ -75,6 +75,20 @@ unused_fewer (n ∷ ids) i o =
           omega (arith, rest, count, here, one)
     ]
 
+-- it is as dirty, and has the same cell
+pub like_dirty : (o p : Standing) → IsLike o p → is_dirty_by p ≡ is_dirty_by o
+like_dirty None None h = refl
+like_dirty None (Some f) h = absurd h
+like_dirty (Some e) None h = absurd h
+like_dirty (Some e) (Some f) h = h.dirty
+
+pub like_cell : (o p : Standing) → IsLike o p
+    → option_map (λ (e : EntrySeen). e.cell) p ≡ option_map (λ (e : EntrySeen). e.cell) o
+like_cell None None h = refl
+like_cell None (Some f) h = absurd h
+like_cell (Some e) None h = absurd h
+like_cell (Some e) (Some f) h = ap (λ (x : CellSeen). Some x) h.cell
+
 -- ---- all cells in memory
 
 abbrev pub AreLike : (b new : BufferSeen) → Type 0
@@ -111,13 +125,10 @@ none_there b new like i at = by (buffered b i) refl (subst (IsLike (buffered b i
 
 pub same_dirty : (b new : BufferSeen) → AreLike b new → (i : ℕ)
     → is_dirty_by (buffered new i) ≡ is_dirty_by (buffered b i)
-same_dirty b new like i = by (buffered b i) (buffered new i) (like i)
-  where
-    by : (o p : Standing) → IsLike o p → is_dirty_by p ≡ is_dirty_by o
-    by None None h = refl
-    by None (Some f) h = absurd h
-    by (Some e) None h = absurd h
-    by (Some e) (Some f) h = h.dirty
+same_dirty b new like i = like_dirty (buffered b i) (buffered new i) (like i)
+
+pub same_cell : (b new : BufferSeen) → AreLike b new → (i : ℕ) → cell_at new i ≡ cell_at b i
+same_cell b new like i = like_cell (buffered b i) (buffered new i) (like i)
 
 -- ---- which are captured
 

@@ -9,7 +9,7 @@ use Rattle.r4_base.specs.Key.{rank}
 use Rattle.r4_base.specs.Layout.{IsLawfulSuper}
 use Rattle.r4_base.specs.Tree.{Name}
 use Rattle.r4_buffer.specs.Reading.{NamesStand}
-use Rattle.r4_buffer.specs.Seen.{BufferSeen, EntrySeen, buffered, is_captured}
+use Rattle.r4_buffer.specs.Seen.{BufferSeen, EntrySeen, buffered, cell_at, is_captured, is_dirty_by}
 use Rattle.r4_cell.specs.Seen.{CellSeen, node_of}
 use Rattle.r4_commit.specs.Planned.{CommitSeen}
 use Rattle.r4_history.specs.Held.{IsOut}
@@ -33,6 +33,19 @@ pub record HasNames (blocks next : ℕ) (x : CellSeen) : Type 0 where
   pub own : IsName blocks next x.id
   pub named : (n : Name) → Contains (node_of x).names n → IsName blocks next n.id
 
+-- what stands in memory under this name names that
+pub record NamesAt (b : BufferSeen) (i : ℕ) (n : Name) : Type 0 where
+  pub entry : EntrySeen
+  pub is : buffered b i ≡ Some entry
+  pub among : Contains (node_of entry.cell).names n
+
+-- The number of a new cell is named by one cell in memory at most, and once; that of the root by
+-- none.
+pub record AreNamedOnce (b : BufferSeen) (root : ℕ) : Type 0 where
+  pub once : (i j : ℕ) (n m : Name) → NamesAt b i n → NamesAt b j m → n.id ≡ m.id → 2 ^ 63 ≤ n.id
+      → (i ≡ j) × (n ≡ m)
+  pub not_root : (i : ℕ) (n : Name) → NamesAt b i n → n.id ≡ root → 2 ^ 63 ≤ root → ⊥
+
 -- ---- a commit that is under way
 
 -- the block is a cell on disk, of the level and the range of this cell
@@ -40,9 +53,9 @@ abbrev pub IsAccepted : (blocks : ℕ) → CellSeen → Type 0
 IsAccepted blocks x = cell_fault false blocks x.level (rank x.lo) (rank x.hi) x.block ≡ None
 
 -- The plan of an atom that owns these nodes fits on the device and is not at its end; its
--- superblock is a lawful one, of as many blocks. Reading gives what it has written so far, on the image with
--- which it began. No cell stands under a block that it writes but a dirty one; and each cell of the
--- atom is a cell on disk, which at the end is the block of its name.
+-- superblock is a lawful one, of as many blocks. Reading gives what it has written so far, on the
+-- image with which it began. No cell stands under a block that it writes but a dirty one; and each
+-- cell of the atom is a cell on disk, which at the end is the block of its name.
 pub record IsWriting
     (d : State) (b : BufferSeen) (blocks : ℕ) (nodes : List ℕ) (c : CommitSeen) : Type 0 where
   pub fits : FitOn d.blocks c.work.plan
@@ -83,6 +96,14 @@ pub record AreReadable (d : State) (b : BufferSeen) (blocks : ℕ) : Type 0 wher
   pub names : (i : ℕ) (e : EntrySeen) → buffered b i ≡ Some e → is_captured b i ≡ true
       → NamesStand b blocks e.cell
 
+-- ---- cells that tasks were given
+
+-- Such a cell is as it was: the same one stands dirty in memory; or it has a block, and is accepted
+-- on disk.
+pub record IsStillThere (b : BufferSeen) (blocks : ℕ) (x : CellSeen) : Type 0 where
+  pub dirty : is_dirty_by (buffered b x.id) ≡ true → cell_at b x.id ≡ Some x
+  pub clean : is_dirty_by (buffered b x.id) ≡ false → (x.id < blocks) × IsAccepted blocks x
+
 -- ---- the group
 
 pub record AreCells {D : Type 0} (d : State) (c : CoreSeen D) : Type 0 where
@@ -92,11 +113,21 @@ pub record AreCells {D : Type 0} (d : State) (c : CoreSeen D) : Type 0 where
   -- the root has a name that a cell may have, and two to eight levels
   pub root : IsName (blocks_of c) c.numbers.next_name c.tree.id.0
   pub height : (2 ≤ c.tree.height) × (c.tree.height ≤ 8)
-  -- so have the cells in memory and those that tasks were given
+  -- one without a block stands dirty in memory
+  pub root_stands : 2 ^ 63 ≤ c.tree.id.0 → is_dirty_by (buffered c.buffer c.tree.id.0) ≡ true
+  -- such names have the cells in memory and those that tasks were given, too
   pub buffered_names : (i : ℕ) (e : EntrySeen) → buffered c.buffer i ≡ Some e
       → HasNames (blocks_of c) c.numbers.next_name e.cell
   pub reached_names : (s : ℕ) (out : Out) (x : CellSeen) → IsOut c.turns s out
       → Contains (out.reads ++ out.writes) x → HasNames (blocks_of c) c.numbers.next_name x
+  -- and nodes that atoms own
+  pub owned_names : (i : ℕ) → IsSome (owner_of c.atoms i)
+      → IsName (blocks_of c) c.numbers.next_name i
+  -- the number of a new cell is named once at most, and that of the root never
+  pub named : AreNamedOnce c.buffer c.tree.id.0
+  -- before a call of the device fails, what tasks were given is still there
+  pub given_cells : c.broken ≡ None → (s : ℕ) (out : Out) (x : CellSeen) → IsOut c.turns s out
+      → Contains (out.reads ++ out.writes) x → IsStillThere c.buffer (blocks_of c) x
   -- a cell in memory is dirty exactly where an atom owns it
   pub dirty : (i : ℕ) (e : EntrySeen) → buffered c.buffer i ≡ Some e
       → (e.dirty ≡ true) ↔ IsSome (owner_of c.atoms i)

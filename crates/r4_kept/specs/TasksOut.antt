@@ -2,6 +2,9 @@
 -- have (docs/volume.md, "Reach" and "Building").
 use Rattle.std.specs.Prelude.{◌≡◌, ◌≢◌, ◌⊎◌, ◌++◌, ℕ, ◌+◌, ◌^◌, ◌<◌, ◌≤◌, ◌==◌, Contains, List}
 use Rattle.std.specs.Prelude.{Option, Some, None, count_by, length, sum_by}
+use Rattle.std.specs.Arc.{arc_value}
+use Rattle.r4_atoms.specs.Atoms.{owner_of}
+use Rattle.r4_base.specs.Tree.{Name}
 use Rattle.r4_base.specs.declared.things.NodeId.{NodeId}
 use Rattle.r4_buffer.specs.Changed.{uses_of}
 use Rattle.r4_buffer.specs.Seen.{EntrySeen, buffered}
@@ -9,6 +12,7 @@ use Rattle.r4_build.specs.Building.{CanBuild, most_new}
 use Rattle.r4_cell.specs.Patch.{by_name, root_of_pair}
 use Rattle.r4_cell.specs.Seen.{CellSeen}
 use Rattle.r4_cell.specs.declared.change.Root.{Root}
+use Rattle.r4_content.specs.Held.{pairs_of}
 use Rattle.r4_content.specs.Meaning.{with_id}
 use Rattle.r4_content.specs.declared.command.Command.{Command}
 use Rattle.r4_history.specs.Drawn.{numbers_of}
@@ -16,26 +20,33 @@ use Rattle.r4_history.specs.Held.{IsOut}
 use Rattle.r4_history.specs.Tables.{next_at}
 use Rattle.r4_reach.specs.Answer.{IsReachOf}
 use Rattle.r4_reach.specs.Touched.{body_on, edits_on, reads_on}
+use Rattle.r4_suited.specs.Suited.{AreLawfulSeen}
 use Rattle.r4_turns.specs.Turns.{IsScript, turn_at}
 use Rattle.r4_turns.specs.declared.out.Numbers.{Numbers}
 use Rattle.r4_turns.specs.declared.out.Out.{Out}
 use Rattle.r4_turns.specs.declared.turn.Turn.{Turn}
+use Rattle.r4_kept.specs.Cells.{NamesAt}
 use Rattle.r4_kept.specs.View.{CoreSeen}
 
 -- ---- what a task was given
 
 -- The cells that a reading met were a part of a tree with this root pair. There the command reaches
--- what the task reads and writes, and its edits may be made with the task's numbers, none of which
--- stands or is named there. There is room for the cells that it captures and that may come, and for
--- a charge and its claims.
-pub record IsGiven (c : Command) (out : Out) : Type 0 where
+-- what the task reads and writes, and what was seen for it is lawful and goes out with the task. Its edits may be
+-- made with the task's numbers, none of which stands or is named there. Where it reaches the root,
+-- that is the root of the tree of all atoms now, which is given first. There is room for the cells
+-- that it captures and that may come, and for a charge and its claims.
+pub record IsGiven (tree : Root) (c : Command) (out : Out) : Type 0 where
   pub root : Root
   pub met : List CellSeen
   pub rises : Option Root
   pub reach : IsReachOf root c met out.reads out.writes rises
+  pub seen : reach.seen ≡ pairs_of (arc_value out.seen)
+  pub lawful : AreLawfulSeen c reach.seen
   pub can : CanBuild (body_on c reach.seen reach.in_extents) (edits_on c reach.seen)
       (reads_on c reach.seen reach.in_extents) (by_name met) (root_of_pair root)
       out.numbers.fresh out.writes
+  pub top : (x : CellSeen) → Contains (out.reads ++ out.writes) x → x.id ≡ root.id.0
+      → root ≡ tree
   pub cells : length out.writes
       + most_new (body_on c reach.seen reach.in_extents) (edits_on c reach.seen)
       (reads_on c reach.seen reach.in_extents) (by_name met) (root_of_pair root) out.writes
@@ -80,10 +91,18 @@ pub record AreOut {D : Type 0} (c : CoreSeen D) : Type 0 where
   pub unused : (s i : ℕ) (n : Numbers) (e : EntrySeen) → IsScript c.turns s
       → numbers_of (turn_at c.turns s) ≡ Some n → buffered c.buffer i ≡ Some e
       → n.fresh.next ≤ i → i < n.fresh.end → ⊥
-  -- nor has a cell that a task was given
+  -- nor does one name such a number
+  pub unnamed : (s i : ℕ) (n : Numbers) (m : Name) → IsScript c.turns s
+      → numbers_of (turn_at c.turns s) ≡ Some n → NamesAt c.buffer i m
+      → n.fresh.next ≤ m.id → m.id < n.fresh.end → ⊥
+  -- nor has a cell that a task was given one
   pub unreached : (s q : ℕ) (n : Numbers) (out : Out) (x : CellSeen) → IsScript c.turns s
       → numbers_of (turn_at c.turns s) ≡ Some n → IsOut c.turns q out
       → Contains (out.reads ++ out.writes) x → n.fresh.next ≤ x.id → x.id < n.fresh.end → ⊥
+  -- nor does an atom own one
+  pub unowned : (s i : ℕ) (n : Numbers) → IsScript c.turns s
+      → numbers_of (turn_at c.turns s) ≡ Some n → n.fresh.next ≤ i → i < n.fresh.end
+      → owner_of c.atoms i ≡ None
   -- each task was given what its script's next command reaches, with the id that was drawn for it
   pub given : (s : ℕ) (out : Out) (x : Command) → IsOut c.turns s out
-      → next_at c.turns s ≡ Some x → IsGiven (with_id out.numbers.oid x) out
+      → next_at c.turns s ≡ Some x → IsGiven c.tree (with_id out.numbers.oid x) out

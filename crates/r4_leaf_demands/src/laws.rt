@@ -18,9 +18,9 @@ ghost use Rattle.r4_reach.specs.Touched.{Body, body_on, changes_on, edits_on};
 ghost use Rattle.r4_search.specs.Pool.{StandsInMemory};
 ghost use Rattle.r4_suited.specs.Suited.{AreLawfulSeen};
 
-/// Where a command's edits are of leaves alone, what it reads and writes of the cells that were met is what the
-/// demand of leaves tells, and each of these cells asks for the same. What a node has fits into it where it may stand
-/// (docs/volume.md, "Reach").
+/// Where a command's edits are of leaves alone, what it reads and writes of the cells that were met
+/// is what the demand of leaves tells, and each of these cells asks for the same. What a node has
+/// fits into it where it may stand (docs/volume.md, "Reach").
 pub fn edits_of_leaves_are_enough()
     ensures marks { (b : Option Body) (e : Edits) (reads : Intervals) (met : List CellSeen)
         (root : Root) (rs ws : List CellSeen) (rises : Option Ask)

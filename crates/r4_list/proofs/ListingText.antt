@@ -1,10 +1,8 @@
 -- The text of a listing, put together from its parts.
-use Rattle.std.proofs.Common.{◌≡◌, ◌≢◌, ℕ, suc, ◌+◌, ◌<◌, List, [], ◌∷◌, ◌++◌, length, true, false, refl, sym, ap, subst, ◌∙◌, arith, append_assoc, append-nil}
-use Rattle.std.specs.Prelude.{Option, Some, None, Result, Ok, Err, IfErr, OnOk, OnErr, codes, min, ◌^◌, ◌==◌}
+use Rattle.std.proofs.Common.{◌≡◌, ◌≢◌, ℕ, suc, ◌+◌, List, [], ◌∷◌, ◌++◌, length, true, false, refl, sym, ap, subst, ◌∙◌, arith, append_assoc, append-nil}
+use Rattle.std.specs.Prelude.{Option, Some, None, Result, Ok, Err, IfErr, OnOk, OnErr, codes, min, ◌^◌}
 use Rattle.std.specs.Result.{IsErrAnd}
-use Rattle.std.specs.List.{list_all}
-use Rattle.std.proofs.lemmas.Bool.{eq-eqb}
-use Rattle.r4_base.specs.Image.{Image, IsImage}
+use Rattle.r4_base.specs.Image.{Image}
 use Rattle.r4_base.specs.Tree.{Name}
 use Rattle.r4_base.specs.Value.{Content}
 use Rattle.r4_base.specs.Volume.{HasContent, HasStat, IsReached, is_directory}
@@ -13,6 +11,7 @@ use Rattle.r4_base.specs.declared.items.Target.{Target}
 use Rattle.r4_content.specs.Walk.{Walked, At, attr_at, names_in, walk}
 use Rattle.r4_outside.specs.Sink.{SinkState, Appends, AppendsPart}
 use Rattle.r4_cell.specs.declared.change.Root.{Root}
+use Rattle.r4_search.proofs.FromDevice.{tells_image}
 use Rattle.r4_search.specs.Pool.{PoolState}
 use Rattle.r4_list.specs.Listing.{IsListing, file_text, lines_of, shown_path, text_at, bytes_from}
 use Rattle.r4_list.specs.Over.{IsOver}
@@ -120,20 +119,6 @@ some_bytes m o a file = rw (file) refl
 pub word_ended : {T : Type 0} (root : Root) (old mid : PoolState) (k0 k l : SinkState) (a b : State) (word : List ℕ) (r : Result T Stop) → Went old mid a b k0 k → Appends word k r l → IfErr r (λ e. e ≡ Sink) → Printed root old k0 r mid l a b
 word_ended {T} root old mid k0 k l a b word (Ok x) w ap why = ended_well _ _ _ _ _ _ _ (went_both _ _ _ _ _ _ _ _ _ w (went_written word mid b k l (Ok x) ap)) x
 word_ended {T} root old mid k0 k l a b word (Err e) w ap why = ended_writing _ _ _ _ _ _ _ w word l (Err e) e ap why
-
-all_images : (image : Image) → ((b : ℕ) → b < length image → length (block_at image b) ≡ 4096) → list_all (λ (b : List ℕ). length b == 4096) image ≡ true
-all_images [] whole = refl
-all_images (x ∷ image) whole =
-    let first : (length x == 4096) ≡ true = eq-eqb _ _ (whole 0 (omega arith)) in
-    let rest = all_images image (λ b lt. whole (suc b) (omega (arith, lt))) in
-    rw (first, rest) refl
-
-pub tells_image : (n : ℕ) (image : Image) → IsImage n image → is_image n image ≡ true
-tells_image n image is =
-    let size : (length image == n) ≡ true = eq-eqb _ _ is.blocks in
-    let blocks = is.blocks in
-    let all = all_images image (λ b lt. is.whole b (omega (arith, lt, blocks))) in
-    rw (size, all) refl
 
 -- ---- a fresh pool over a device, and what is answered where printing ended
 

@@ -23,7 +23,6 @@ use Rattle.r4_list.specs.Listing.{IsListing}
 use Rattle.r4_list.specs.declared.fault.ListFault.TheVariants.{Device, Size, Memory as NoMemory}
 use Rattle.std.specs.BTreeMap.{BTreeMap}
 use Rattle.std.specs.Borrow.{GName}
-use Rattle.r4_outside.proofs.Lent.{goes_lent}
 use Rattle.r4_outside.proofs.Moments.{goes_both}
 use Rattle.r4_outside.specs.Device.{State, Goes, Rose, TellsReads, lent_to}
 use Rattle.r4_search.specs.Pool.{LeavesDevice}
@@ -142,10 +141,6 @@ opening_stays a b i = record { goes = i.goes; idle = record { seen = i.seen; clo
 -- Nothing was written.
 pub stays_both : (a b c : State) → LeavesDevice a b → LeavesDevice b c → LeavesDevice a c
 stays_both a b c f g = record { goes = goes_both _ _ _ f.goes g.goes; idle = record { seen = g.idle.seen ∙ f.idle.seen; clock = g.idle.clock ∙ f.idle.clock } }
-
--- what was lent stays as it was
-pub lent_stays : (n n' : GName) (old new : State) → LeavesDevice (lent_to n old) (lent_to n' new) → LeavesDevice old new
-lent_stays n n' old new l = record { goes = goes_lent n n' old new l.goes; idle = record { seen = l.idle.seen; clock = l.idle.clock } }
 
 -- ---- where printing stopped
 

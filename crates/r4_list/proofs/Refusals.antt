@@ -15,13 +15,14 @@ use Rattle.r4_cell.specs.Seen.{CellSeen, IsReadFrom}
 use Rattle.r4_cell.specs.declared.change.Root.{Root}
 use Rattle.r4_search.specs.Path.{root_name}
 use Rattle.r4_search.specs.Pool.{FaultIs, Goes, IsFrom, IsNamed, IsNamedFrom, IsRead, PoolState}
+use Rattle.r4_search.proofs.FromDevice.{tells_image}
 use Rattle.r4_search.proofs.Walks.{goes_both, named_more}
 use Rattle.r4_list.specs.Lists.{IsNodeRefused, IsReached, root_name_of}
 use Rattle.r4_search.specs.Keeping.{Shared, met_in}
 use Rattle.r4_list.specs.Pool.{nodes_state}
 use Rattle.r4_list.specs.Printing.{IsDamaged}
 use Rattle.r4_list.proofs.Listings.{RefusesWell}
-use Rattle.r4_list.proofs.ListingText.{settled_is, tells_image}
+use Rattle.r4_list.proofs.ListingText.{settled_is}
 
 -- a pool that keeps nothing, over an image
 module _ (s : Super40) (image : Image) (root : Root) (old : PoolState) (blocks : old.blocks ≡ s.block_count) (root_is : old.root ≡ root_name root) (named : root_name root ≡ root_name_of s) (meant : (i : ℕ) → old.meant i ≡ Some (block_at image i)) (empty : (i : ℕ) → old.kept i ≡ None) where

@@ -253,14 +253,15 @@ kept_gone xs holders holders' who is stands held =
 
 -- ---- a task comes
 
-holds_nothing : (t : TaskSeen) (node : ℕ) → t.holds ≡ [] → mode_in (Some t) node ≡ None
+pub holds_nothing : (t : TaskSeen) (node : ℕ) → t.holds ≡ [] → mode_in (Some t) node ≡ None
 holds_nothing t node e = rw e refl
 
-pub kept_new : (xs ys : List (Option TaskSeen)) (holders : List (ℕ × Held)) (key : ℕ) (t : TaskSeen) → IsKept xs holders → key < 4294967295 → t.holds ≡ [] → get_or xs key None ≡ None → get_or ys key None ≡ Some t
+pub kept_new : (xs ys : List (Option TaskSeen)) (holders : List (ℕ × Held)) (key : ℕ) (t : TaskSeen) → IsKept xs holders → key < 4294967295
+    → ((node : ℕ) → mode_in (Some t) node ≡ None) → get_or xs key None ≡ None → get_or ys key None ≡ Some t
     → ((k : ℕ) → k ≢ key → get_or ys k None ≡ get_or xs k None) → IsKept ys holders
 kept_new xs ys holders key t is lt empty vacant new same = record {
   told = λ n. held_like xs ys n (held_in holders n) (λ k. elim (eq_cases k key) [
-    | inl e ↦ rw (e, new, vacant) (holds_nothing t n empty)
+    | inl e ↦ rw (e, new, vacant) (empty n)
     | inr ne ↦ rw (same k ne) refl
   ]) (is.told n);
   small = λ k. elim (eq_cases k key) [

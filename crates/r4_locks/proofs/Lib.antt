@@ -2,3 +2,4 @@ pub mod Counts
 pub mod HoldLaws
 pub mod CallLaws
 pub mod ConflictLaws
+mod Alone

@@ -22,6 +22,8 @@ pub record TaskSeen : Type 0 where
 pub record LocksSeen : Type 0 where
   pub tasks : List (Option TaskSeen)
   pub spare : ℕ
+  -- whether there is a place for one more task
+  pub lets_in : Bool
 
 abbrev pub task_at : LocksSeen → (task : ℕ) → Option TaskSeen
 task_at t task = slice_index_or t.tasks task None
@@ -147,6 +149,24 @@ pub record IsNew (t : LocksSeen) (task : ℕ) : Type 0 where
 -- All other tasks are as before.
 abbrev pub OthersAsBefore : (old new : LocksSeen) → (task : ℕ) → Type 0
 OthersAsBefore old new task = (k : ℕ) → k ≢ task → task_at new k ≡ task_at old k
+
+-- Each task is as it was.
+abbrev pub SameTasks : (old new : LocksSeen) → Type 0
+SameTasks old new = (task : ℕ) → task_at new task ≡ task_at old task
+
+-- There is a place for the new task, which has room for so many nodes, and so has the table.
+pub record CanLetIn (t : LocksSeen) (new names : ℕ) : Type 0 where
+  pub place : t.lets_in ≡ true
+  pub room : names ≤ t.spare
+  pub own_room : names ≤ new
+
+-- A new task holds these nodes, each in its mode, and nothing else; the others hold what they held.
+pub record TakesNew (old new : LocksSeen) (task : ℕ) (reads writes : List NodeId) : Type 0 where
+  pub unused : task_at old task ≡ None
+  pub stands : IsTask new task
+  pub modes : (node : ℕ) → mode_of new task node
+      ≡ mode_with Reads reads node (mode_with Writes writes node None)
+  pub others : OthersAsBefore old new task
 
 -- Each task stands with the same holds.
 abbrev pub AsBefore : (old new : LocksSeen) → Type 0

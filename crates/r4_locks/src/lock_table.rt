@@ -1,15 +1,15 @@
 //! The table of holds.
 
-ghost use Rattle.std.specs.Prelude.{◌≡◌, ◌≢◌, ℕ, ◌+◌, ◌<◌, ◌≤◌, [], length, slice_index_or, Option, None, Some, is_some, IsSome, IsOk, IfOk, OnOk, OnErr, IsTrue, nat_eq, true, false, if◌then◌else◌};
+ghost use Rattle.std.specs.Prelude.{◌≡◌, ◌≢◌, ℕ, ◌+◌, ◌<◌, ◌≤◌, [], length, min, slice_index_or, Option, None, Some, is_some, IsSome, IsOk, IfOk, OnOk, OnErr, IsTrue, nat_eq, true, false, if◌then◌else◌};
 ghost use Rattle.std.specs.Map.{lookup};
 ghost use Rattle.r4_locks.specs.Modes.{conflicts, freed, joined};
-ghost use Rattle.r4_locks.specs.Locks.{task_at, HasRoom, IsNew, IsTask, OthersAsBefore, Takes, UsesRoom, mode_in, mode_of, mode_with, is_named, room_of, IsHeld, IsClear, AreHolds, AsBefore, others, smallest_holder, first_conflict, conflict_of, busy_of};
+ghost use Rattle.r4_locks.specs.Locks.{CanLetIn, SameTasks, TakesNew, task_at, HasRoom, IsNew, IsTask, OthersAsBefore, Takes, UsesRoom, mode_in, mode_of, mode_with, is_named, room_of, IsHeld, IsClear, AreHolds, AsBefore, others, smallest_holder, first_conflict, conflict_of, busy_of};
 ghost use Rattle.r4_locks.specs.Kept.{held_in};
 ghost use Rattle.r4_locks.specs.declared.things.TakeFault.TheVariants.{Memory as no_memory};
 ghost use Rattle.r4_locks.specs.declared.things.Mode.TheVariants.{Reads, Writes};
 
 use crate::node_holds::NodeHolds;
-use crate::task_holds::TaskHolds;
+use crate::task_holds::{NewTask, TaskHolds};
 use crate::things::{Held, Mode, TakeFault, conflicts, held_with, joined};
 use r4_base::{Memory, NodeId, TaskId};
 use slab::Slab;
@@ -25,12 +25,18 @@ pub struct LockTable {
 }
 
 impl Model for LockTable {
+    ghost use Rattle.std.specs.Prelude.{◌&&◌, nat_lt};
+    ghost use Rattle.slab.specs.Slab.{slab_len};
     ghost use Rattle.r4_locks.specs.Locks.{LocksSeen};
     ghost use Rattle.r4_locks.specs.Kept.{IsKept};
 
     ghost Value = { LocksSeen };
 
-    ghost view = { λ t. record { tasks = t.tasks.slots; spare = t.nodes.room } };
+    ghost view = { λ t. record {
+      tasks = t.tasks.slots;
+      spare = t.nodes.room;
+      lets_in = nat_lt (slab_len t.tasks) t.tasks.capacity && nat_lt t.tasks.vacant_key 4294967295;
+    } };
 
     ghost invariant = { λ t. IsKept t.tasks.slots t.nodes.holders };
 }
@@ -53,7 +59,7 @@ impl LockTable {
         ensures holds { IfOk result (λ who. IsNew self.new who.0) }
         ensures others { IfOk result (λ who. OthersAsBefore self.old self.new who.0) }
         ensures spare { self.new.spare ≡ self.old.spare }
-        ensures err { OnErr result (self.new ≡ self.old) }
+        ensures err { OnErr result (self.new ≡ record self.old { lets_in = self.new.lets_in }) }
     {
         let key = self.tasks.vacant_key();
         if key as u64 >= u32::MAX as u64 {
@@ -63,6 +69,47 @@ impl LockTable {
             Ok(key) => Ok(TaskId(key as u32)),
             Err(_failed) => Err(Memory),
         }
+    }
+
+    /// Makes all room that a new task needs to hold so many nodes: `let_in` then takes no memory.
+    /// `Memory` comes where there is not enough, and where each number below 2^32 - 1 has a task.
+    pub fn prepare(&mut self, alloc: Global, names: u64) -> Result<NewTask, Memory>
+        ensures same { SameTasks self.old self.new }
+        ensures ok { IfOk result (λ new. CanLetIn self.new new names) }
+    {
+        if self.tasks.vacant_key() as u64 >= u32::MAX as u64 {
+            return Err(Memory);
+        }
+        self.nodes.room(names as usize)?;
+        self.tasks.reserve(1)?;
+        let mut holds = TaskHolds::new(alloc);
+        holds.room(names as usize)?;
+        Ok(NewTask { holds })
+    }
+
+    /// Lets a new task in, which takes all of these nodes; no other task is in its way. Its number
+    /// is one that no task has. No memory.
+    pub fn let_in(&mut self, new: NewTask, reads: &[NodeId], writes: &[NodeId]) -> TaskId
+        requires room { CanLetIn self.old new (length reads.now + length writes.now) }
+        requires clear { conflict_of self.old None reads.now writes.now ≡ None }
+        ensures { TakesNew self.old self.new result.0 reads.now writes.now }
+    {
+        let who = self.admit(new);
+        self.hold_all(who, writes, Mode::Writes);
+        self.hold_all(who, reads, Mode::Reads);
+        who
+    }
+
+    // The new task stands, and holds nothing yet.
+    fn admit(&mut self, new: NewTask) -> TaskId
+        requires { self.old.lets_in ≡ true }
+        ensures unused { task_at self.old result.0 ≡ None }
+        ensures holds { IsNew self.new result.0 }
+        ensures others { OthersAsBefore self.old self.new result.0 }
+        ensures room { min self.old.spare new ≤ room_of self.new result.0 }
+    {
+        let NewTask { holds } = new;
+        TaskId(self.tasks.insert_reserved(holds) as u32)
     }
 
     /// Makes room: a `take_all` of this task with at most so many names, in both lists together, then takes no memory.

@@ -58,3 +58,20 @@ impl TaskHolds {
         let _ = self.modes.insert(node.0, mode);
     }
 }
+
+/// A task to come, with room for the nodes that it is to hold; contracts see for how many.
+#[derive(Drop)]
+pub struct NewTask {
+    pub(crate) holds: TaskHolds,
+}
+
+impl Model for NewTask {
+    ghost use Rattle.std.specs.Prelude.{◌≡◌, ℕ, None, nat_eq};
+    ghost use Rattle.std.specs.Map.{lookup};
+
+    ghost Value = { ℕ };
+
+    ghost view = { λ t. t.holds.room };
+
+    ghost invariant = { λ t. (n : ℕ) → lookup (nat_eq n) t.holds.holds ≡ None };
+}

@@ -15,9 +15,9 @@ use std::alloc::{AllocError, Global};
 use std::collections::HashMap;
 use std::sync::Arc;
 
-/// The cells of those that were met which a change reads and which it writes, in the order in which they are given;
-/// what the root asks for, where it asks for something; and for how many pointers the cells ask in all that are
-/// written (docs/volume.md, "Reach").
+/// The cells of those that were met which a change reads and which it writes, in the order in which
+/// they are given; what the root asks for, where it asks for something; and for how many pointers
+/// the cells ask in all that are written (docs/volume.md, "Reach").
 #[derive(Drop)]
 pub struct Marks {
     pub reads: Vec<Arc<Cell>>,

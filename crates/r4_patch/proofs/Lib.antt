@@ -13,3 +13,4 @@ pub mod Followed
 pub mod LeftOut
 pub mod Holding
 pub mod Effects
+pub mod PartUnits

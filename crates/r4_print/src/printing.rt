@@ -39,9 +39,9 @@ impl From<Failed> for PrintFault {
     }
 }
 
-/// Writes the text of a trace, its oldest entry first, a line at a time. It holds one line in memory. Where it stops, a
-/// beginning of the text was written; `Sink` comes only where the sink's count of failed calls rose (docs/scripts.md,
-/// "The trace").
+/// Writes the text of a trace, its oldest entry first, a line at a time. It holds one line in
+/// memory. Where it stops, a beginning of the text was written; `Sink` comes only where the sink's
+/// count of failed calls rose (docs/scripts.md, "The trace").
 pub fn print_trace<K: Sink>(alloc: Global, out: &mut K, trace: &Trace) -> Result<(), PrintFault>
     ensures { Prints (trace_text trace.now.entries) (K.state out.old) result (K.state out.new) }
 {

@@ -1,9 +1,10 @@
 -- What is reached and seen by the cells that were met is so in a tree that has them.
-use Rattle.std.proofs.Common.{◌≡◌, ◌↔◌, inl, ℕ, Bool, true, false, List, [], ◌∷◌, ◌++◌, refl, sym}
+use Rattle.std.proofs.Common.{◌≡◌, ◌↔◌, inl, ℕ, ◌<◌, ◌≤◌, Bool, true, false, List, [], ◌∷◌, ◌++◌, refl, sym}
 use Rattle.std.proofs.Common.{arith}
 use Rattle.std.specs.Prelude.{Contains, Option, None, Some, ◌||◌}
 use Rattle.std.specs.FinMap.{find}
 use Rattle.std.specs.Ordering.{nat_cmp}
+use Rattle.r4_base.specs.Key.{least, top}
 use Rattle.r4_base.specs.Tree.{IsTree, Root, Store, UnitAt}
 use Rattle.r4_base.specs.Value.{Content, Value, at_key}
 use Rattle.r4_base.specs.Volume.{HasUnits}
@@ -17,6 +18,7 @@ use Rattle.r4_content.specs.Meaning.{course, greatest_size}
 use Rattle.r4_content.specs.Seen.{IsSeen, of_seen}
 use Rattle.r4_content.specs.declared.command.Command.{Command}
 use Rattle.r4_patch.proofs.PartCells.{tree_is_part}
+use Rattle.r4_patch.proofs.PartUnits.{held_unit}
 use Rattle.r4_reach.specs.Answer.{HasAll, IsReachOf}
 use Rattle.r4_reach.specs.Demand.{Demand, IsPlain}
 use Rattle.r4_reach.specs.Needs.{Ask, demand_on}
@@ -50,21 +52,37 @@ module _ (root : RootPair) (c : Command) (met reads writes : List CellSeen) (ris
   plain = demand_plain (body_on c h.seen h.in_extents) (edits_on c h.seen) (reads_on c h.seen h.in_extents)
       (changes_on c h.seen h.in_extents)
 
-  module _ (other : Root) (m : Content) (iu : IsTree u other) (all : HasAll met u) (units : HasUnits u m) where
-    unit_back : (k : ℕ) (v : Value) → is_in (asked (course greatest_size c) (of_seen h.seen)) k ≡ true → UnitAt u k v
-        → UnitAt (by_name met) k v
-    unit_back k v asks has =
-        let touch : Touches (demand_on c h.seen h.in_extents) k = inl
-        (in_first (asked (course greatest_size c) (of_seen h.seen)) (kind_reads (body_on c h.seen h.in_extents)) k
-        asks) in
-        let (from, to) = unit_range u other iu k v has in
-        let (i, n, tn, holds, reached) = held (demand_on c h.seen h.in_extents) (by_name met) (root_of_pair root)
-        h.part h.has k touch from to in
-        let (forth, back) = unit_iff u other iu i n k v (all i n tn) holds in
-        (i, n, tn, forth has)
+  module _ (other : Root) (iu : IsTree u other) (same : HasReached (demand_on c h.seen h.in_extents) (by_name met) u)
+    where
+      unit_back : (k : ℕ) (v : Value) → Touches D k → UnitAt u k v → UnitAt (by_name met) k v
+      unit_back k v touch has =
+          let (from, to) = unit_range u other iu k v has in
+          let (i, n, tn, holds, reached) = held D (by_name met) (root_of_pair root) h.part h.has k touch from to in
+          let (forth, back) = unit_iff u other iu i n k v (same i n reached tn) holds in
+          (i, n, tn, forth has)
 
-    unit_on : (k : ℕ) (v : Value) → UnitAt (by_name met) k v → UnitAt u k v
-    unit_on k v (i, n, tn, has) = (i, n, all i n tn, has)
+      unit_on : (k : ℕ) (v : Value) → Touches D k → UnitAt (by_name met) k v → UnitAt u k v
+      unit_on k v touch (j, d, td, has) =
+          let node = h.part.nodes j d td in
+          let at = node.unit_in k v has in
+          let least_is = node.from_least in
+          let top_is = node.to_top in
+          let from : least ≤ k = omega (arith, at, least_is) in
+          let to : k < top = omega (arith, at, top_is) in
+          let (i, n, tn, holds, reached) = held D (by_name met) (root_of_pair root) h.part h.has k touch from to in
+          let (forth, back) = held_unit (by_name met) (root_of_pair root) h.part i n k v tn holds in
+          (i, n, same i n reached tn, forth (j, d, td, has))
+
+      pub same_units : (k : ℕ) (v : Value) → Touches D k → UnitAt (by_name met) k v ↔ UnitAt u k v
+      same_units k v touch = (unit_on k v touch, unit_back k v touch)
+
+  module _ (other : Root) (m : Content) (iu : IsTree u other)
+      (same : HasReached (demand_on c h.seen h.in_extents) (by_name met) u) (units : HasUnits u m) where
+    asked_touched : (k : ℕ) → is_in (asked (course greatest_size c) (of_seen h.seen)) k ≡ true → Touches D k
+    asked_touched k asks =
+        inl
+        (in_first (asked (course greatest_size c) (of_seen h.seen)) (kind_reads (body_on c h.seen h.in_extents)) k
+        asks)
 
     pub is_seen : IsSeen greatest_size c h.seen m
     is_seen = record {
@@ -72,7 +90,8 @@ module _ (root : RootPair) (c : Command) (met reads writes : List CellSeen) (ris
       agrees = λ k asks. same_option (find nat_cmp k h.seen) (at_key m k) (λ v.
           let (s_to, s_from) = h.sees.agrees k v asks in
           let (u_to, u_from) = units k v in
-          (λ e. u_from (unit_on k v (s_to e)), λ e. s_from (unit_back k v asks (u_to e))));
+          let (on, back) = same_units other iu same k v (asked_touched k asks) in
+          (λ e. u_from (on (s_to e)), λ e. s_from (back (u_to e))));
     }
 
   module _ (iu : IsTree u (root_of_pair root)) (all : HasAll met u) where

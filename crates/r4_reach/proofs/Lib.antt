@@ -4,3 +4,4 @@ pub mod Trees
 pub mod Plain
 pub mod Enough
 pub mod Answers
+pub mod FirstKeys

@@ -11,7 +11,7 @@ ghost use Rattle.r4_reach.specs.Touched.{Body};
 ghost use Rattle.r4_reach.specs.Answer.{HasAll, IsReachOf};
 ghost use Rattle.r4_base.specs.Value.{Content};
 ghost use Rattle.r4_base.specs.Volume.{HasUnits};
-ghost use Rattle.r4_cell.specs.Patch.{root_of_pair};
+ghost use Rattle.r4_cell.specs.Patch.{by_name, root_of_pair};
 ghost use Rattle.r4_cell.specs.Seen.{CellSeen};
 ghost use Rattle.r4_cell.specs.declared.change.Root.{Root as RootPair};
 ghost use Rattle.r4_content.specs.Meaning.{greatest_size};
@@ -78,13 +78,20 @@ pub fn written_cells_suffice()
         × IsLongEnough root come c near }
 {}
 
-/// In a tree that has the cells which were met, what is reached is the answer, and what was seen is what the command
-/// asks of the tree's content.
+/// In a tree that has the cells which were met, what is reached is the answer. In one that has
+/// those that are read and written, the keys that the command touches have the same units, and what
+/// was seen is what the command asks of the tree's content.
 pub fn answers_hold_in_the_tree()
+    ensures units { (root : RootPair) (c : Command) (met reads writes : List CellSeen)
+        (rises : Option RootPair) (h : IsReachOf root c met reads writes rises)
+        (u : Store Value) (other : Root) (k : ℕ) (v : Value) → IsTree u other
+        → HasReached (demand_on c h.seen h.in_extents) (by_name met) u
+        → Touches (demand_on c h.seen h.in_extents) k → UnitAt (by_name met) k v ↔ UnitAt u k v }
     ensures seen { (root : RootPair) (c : Command) (met reads writes : List CellSeen)
         (rises : Option RootPair) (h : IsReachOf root c met reads writes rises)
-        (u : Store Value) (other : Root) (m : Content)
-        → IsTree u other → HasAll met u → HasUnits u m → IsSeen greatest_size c h.seen m }
+        (u : Store Value) (other : Root) (m : Content) → IsTree u other
+        → HasReached (demand_on c h.seen h.in_extents) (by_name met) u
+        → HasUnits u m → IsSeen greatest_size c h.seen m }
     ensures written { (root : RootPair) (c : Command) (met reads writes : List CellSeen)
         (rises : Option RootPair) (h : IsReachOf root c met reads writes rises)
         (u : Store Value) (x : CellSeen) → IsTree u (root_of_pair root) → HasAll met u

@@ -149,6 +149,7 @@ module _ (d e : State) (p q : PoolState) (r s : Root) (fresh met : List (ℕ × 
       blocks = h.blocks;
       meant = h.meant;
       kept = λ i x at. h.kept i x (ap (λ o. option_or o (p.kept i)) (none i) ∙ at);
+      added = λ i x at free. h.added i x at (ap (λ o. option_or o (p.kept i)) (none i) ∙ free);
       keeps = λ level. ap (λ (b : Bool). b || nat_lt 0 level) (sym keeps_all) ∙ h.keeps level;
     };
     answered = answered;

@@ -57,10 +57,20 @@ pub numbers_both : (x y : Pairs) → HaveObjectNumbers x → HaveObjectNumbers y
 numbers_both x y f g k a among = ⊎_elim (f k a) (g k a) (Contains-append_cases x y (k, Stat a) among)
 
 pub low_before : (x y : Pairs) → SeesLowObject x → SeesLowObject (x ++ y)
-low_before x y h = record { key = h.key; attr = h.attr; among = Contains-append_left x y (h.key, Stat h.attr) h.among; low = h.low }
+low_before x y h = record {
+  key = h.key;
+  attr = h.attr;
+  among = Contains-append_left x y (h.key, Stat h.attr) h.among;
+  low = h.low;
+}
 
 pub low_behind : (x y : Pairs) → SeesLowObject y → SeesLowObject (x ++ y)
-low_behind x y h = record { key = h.key; attr = h.attr; among = Contains-append_right x y (h.key, Stat h.attr) h.among; low = h.low }
+low_behind x y h = record {
+  key = h.key;
+  attr = h.attr;
+  among = Contains-append_right x y (h.key, Stat h.attr) h.among;
+  low = h.low;
+}
 
 -- ---- one part
 

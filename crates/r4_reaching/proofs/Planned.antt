@@ -72,7 +72,8 @@ module _ (below : PoolState) (all : Bool) (met : List (ℕ × Shared)) (answered
     extent = inl not;
   }
 
-  pub is_planned : ChangesLawfulKeys → HaveObjectNumbers (pairs_of s) → (read : Option Interval) → IsInLeaves (body_on c (pairs_of s) false)
+  pub is_planned : ChangesLawfulKeys → HaveObjectNumbers (pairs_of s) → (read : Option Interval)
+      → IsInLeaves (body_on c (pairs_of s) false)
       → reads_on c (pairs_of s) false ≡ asked (course greatest_size c) (of_seen (pairs_of s)) ++ intervals_of read
       → changes_on c (pairs_of s) false ≡ changed (edits_of e)
       → ((t : Store Value) → AreOfTree (pairs_of s) → LieInLeaves t (is_in (intervals_of read))

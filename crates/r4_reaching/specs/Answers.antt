@@ -67,7 +67,8 @@ pub record IsSeenIn (p : PoolState) (c : Command) (s : Pairs) : Type 0 where
 abbrev pub number_in : (key : ℕ) → ℕ
 number_in k = slice_index (key_of_rank k).el 2
 
--- Each object whose attributes were seen has a number from 42 on, that of the root directory, and a size of 64 bits.
+-- Each object whose attributes were seen has a number from 42 on, that of the root directory, and a
+-- size of 64 bits.
 abbrev pub HaveObjectNumbers : Pairs → Type 0
 HaveObjectNumbers s = (k : ℕ) (a : Attr) → Contains s (k, Stat a)
     → (42 ≤ number_in k) × (a.size < 2 ^ 64)
@@ -136,9 +137,10 @@ pub record IsSamePool (d e : State) (p q : PoolState) (root : Root) (met : List 
 
 -- ---- the answers
 
--- The cells that were met are a part of a tree with all that the command touches; those that it reads and writes, what
--- was seen, and how many new cells come at most. All are in order, each once, and each is a cell by itself. The keys
--- that change are keys of a tree and lie in leaves, and so does the body afterwards.
+-- The cells that were met are a part of a tree with all that the command touches; those that it
+-- reads and writes, what was seen, and how many new cells come at most. All are in order, each
+-- once, and each is a cell by itself. The keys that change are keys of a tree and lie in leaves,
+-- and so does the body afterwards.
 pub record IsReach (p : PoolState) (root : Root) (c : Command) (r : Reach) : Type 0 where
   pub answer : IsReachOf root c r.met r.reads r.writes r.root
   pub seen : answer.seen ≡ pairs_of r.seen
@@ -167,7 +169,8 @@ pub record IsFrom (root : Root) (seen : Seen) (met : List CellSeen) (m : Marks) 
     pub seen_is : r.seen ≡ seen
     pub most : r.most ≡ length m.writes.items + m.more + rise_of (option_map ask_seen m.rises)
 
--- On what was seen the body stands in extents afterwards, or a key that has to lie in a leaf lies in an extent.
+-- On what was seen the body stands in extents afterwards, or a key that has to lie in a leaf lies
+-- in an extent.
 pub record TouchesExtent (p : PoolState) (c : Command) : Type 0 where
   pub seen : Pairs
   pub saw : IsSeenIn p c seen

@@ -55,9 +55,9 @@ pub fn touched_cells_were_met<A>()
         → IsSeenPart t root known s → StaysInLeaves d t known → HasTouched d t }
 {}
 
-/// All cells that were met, as a list: they are the same part of a tree, by name. Where what was met hangs together
-/// with the root, and something was met, they hang together; and in order they are as `mark` takes them, where they
-/// are a part of a tree.
+/// All cells that were met, as a list: they are the same part of a tree, by name. Where what was
+/// met hangs together with the root, and something was met, they hang together; and in order they
+/// are as `mark` takes them, where they are a part of a tree.
 pub fn what_was_met_is_listed()
     ensures store { (p : PoolState) (root : RootPair) (cells : List CellSeen) → AreHung p root
         → AreAllMet p.met cells → (i : ℕ) → by_name cells i ≡ met_cells p i }

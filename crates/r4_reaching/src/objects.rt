@@ -11,8 +11,9 @@ ghost use Rattle.r4_reaching.specs.Answers.{HaveObjectNumbers, SeesLowObject};
 use r4_base::{Key, ROOT_OBJECT, Value};
 use r4_content::SeenPart;
 
-/// Whether attributes were seen of an object with a number below 42, that of the root directory, which no object of a
-/// volume has: a directory of such a number would have entries at keys that no tree has.
+/// Whether attributes were seen of an object with a number below 42, that of the root directory,
+/// which no object of a volume has: a directory of such a number would have entries at keys that no
+/// tree has.
 pub(crate) fn sees_low_object(seen: &[SeenPart]) -> bool
     ensures { MatchBool result (SeesLowObject (flat_map part_pairs seen.now))
         (HaveObjectNumbers (flat_map part_pairs seen.now)) }
@@ -39,7 +40,8 @@ fn is_low_object(part: &SeenPart) -> bool
     }
 }
 
-// Whether the number of an object is below 42, by the key of its stat data. Its size is one of 64 bits in any case.
+// Whether the number of an object is below 42, by the key of its stat data. Its size is one of 64
+// bits in any case.
 fn is_low_number(key: &Key, size: u64) -> bool
     ensures { (a : AttrSeen) → a.size ≡ size
         → MatchBool result (SeesLowObject ((rank key.now, Stat a) ∷ []))

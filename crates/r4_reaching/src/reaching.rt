@@ -45,11 +45,11 @@ use std::alloc::Global;
 /// one of these keys lies in an extent, or the last byte of a body that becomes longer: what such a command reads and
 /// writes is not told here.
 ///
-/// What the command asks for is seen first, in its order; then the cells are met that hold the keys which it changes,
-/// and the cells on the way to the least key where no other one was met. No cell is read twice, and no byte of a body
-/// is looked at that it does not ask for. `Read` and `Damaged` name the block with which that ended; `Damaged` comes
-/// also for the first cell that was met and that another one names with another level or range (docs/volume.md,
-/// "Reach").
+/// What the command asks for is seen first, in its order; then the cells are met that hold the keys
+/// which it changes, and the cells on the way to the least key where no other one was met. No cell
+/// is read twice, and no byte of a body is looked at that it does not ask for. `Read` and `Damaged`
+/// name the block with which that ended; `Damaged` comes also for the first cell that was met and
+/// that another one names with another level or range (docs/volume.md, "Reach").
 pub fn reach_in_leaves<P: Pool>(
     alloc: Global,
     pool: P,

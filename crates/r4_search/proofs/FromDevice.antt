@@ -1,9 +1,10 @@
 -- What is read from a device, as a pool answers it.
 use Rattle.std.proofs.Common.{◌≡◌, inr, ℕ, zero, suc, ◌^◌, ◌<◌, ◌≤◌, Bool, true, false, List, [], ◌∷◌, length, refl, sym, ap, subst, ◌∙◌, arith}
 use Rattle.std.specs.Prelude.{Option, Some, None, Result, Ok, Err, OnErr, OnOk, ◌==◌, if◌then◌else◌}
+use Rattle.std.specs.Borrow.{GName}
 use Rattle.std.specs.List.{list_all}
 use Rattle.std.specs.Result.{is_err}
-use Rattle.std.proofs.lemmas.Bool.{and_parts, eqb-true}
+use Rattle.std.proofs.lemmas.Bool.{and_parts, eq-eqb, eqb-true}
 use Rattle.std.proofs.lemmas.Option.{none-some, same_Some}
 use Rattle.r4_base.specs.Cell.{cell_fault}
 use Rattle.r4_base.specs.Image.{Image, IsImage, block_at}
@@ -11,11 +12,12 @@ use Rattle.r4_base.specs.Key.{rank}
 use Rattle.r4_base.specs.Tree.{Name}
 use Rattle.r4_base.specs.declared.items.CellFault.{CellFault}
 use Rattle.r4_base.specs.declared.things.BlockNo.{BlockNo}
-use Rattle.r4_outside.specs.Device.{State, TellsReads, Goes as DeviceGoes}
+use Rattle.r4_outside.specs.Device.{State, TellsReads, lent_to, Goes as DeviceGoes}
+use Rattle.r4_outside.proofs.Lent.{goes_lent}
 use Rattle.r4_cell.specs.Seen.{CellSeen}
 use Rattle.r4_cell.proofs.Faults.{cell_still}
 use Rattle.r4_cell.proofs.NamesBelow.{names_below}
-use Rattle.r4_search.specs.Pool.{PoolState, FaultIs, Fetches, Goes, IsAnswer, IsFrom, IsKeptOrRead, IsKnown, IsNamed, IsRead, IsRefused, KnowsNames, Rose}
+use Rattle.r4_search.specs.Pool.{PoolState, FaultIs, Fetches, Goes, IsAnswer, IsFrom, IsKeptOrRead, IsKnown, IsNamed, IsRead, IsRefused, KnowsNames, LeavesDevice, Rose}
 use Rattle.r4_search.specs.OnDevice.{IsMadeOf, Places, block_there, device_state, is_image}
 use Rattle.r4_search.specs.declared.pool.FetchFault.{FetchFault}
 use Rattle.r4_search.specs.declared.pool.FetchFault.TheVariants.{Read, Damaged, Memory}
@@ -34,6 +36,21 @@ is_whole n image h =
     let blocks : length image ≡ n = eqb-true _ _ both.0 in
     record { blocks = blocks; whole = λ b lt. all_whole image both.1 b (omega (arith, lt, blocks)) }
 
+all_images : (image : Image) → ((b : ℕ) → b < length image → length (block_at image b) ≡ 4096)
+    → list_all (λ (b : List ℕ). length b == 4096) image ≡ true
+all_images [] whole = refl
+all_images (x ∷ image) whole =
+    let first : (length x == 4096) ≡ true = eq-eqb _ _ (whole 0 (omega arith)) in
+    let rest = all_images image (λ b lt. whole (suc b) (omega (arith, lt))) in
+    rw (first, rest) refl
+
+pub tells_image : (n : ℕ) (image : Image) → IsImage n image → is_image n image ≡ true
+tells_image n image is =
+    let size : (length image == n) ≡ true = eq-eqb _ _ is.blocks in
+    let blocks = is.blocks in
+    let all = all_images image (λ b lt. is.whole b (omega (arith, lt, blocks))) in
+    rw (size, all) refl
+
 -- what is so of the block that reading gives, where the device tells it, is so of the one that is meant
 pub meant_too : (d : State) (home : ℕ → ℕ) (i : ℕ) (P : List ℕ → Type 0) → (TellsReads d → P (block_at d.seen (home i))) → (b : List ℕ) → block_there d home i ≡ Some b → P b
 meant_too d home i P p b h = told (is_image d.blocks d.seen) refl h
@@ -43,7 +60,7 @@ meant_too d home i P p b h = told (is_image d.blocks d.seen) refl h
     told false is g = absurd cc
 
 pub is_read : (d : State) (home : ℕ → ℕ) (i blocks : ℕ) (x : CellSeen) → (TellsReads d → x.block ≡ block_at d.seen (home i)) → cell_fault false blocks x.level (rank x.lo) (rank x.hi) x.block ≡ None → (o : Option (List ℕ)) → block_there d home i ≡ o → IsRead blocks o x
-is_read d home i blocks x same sound None h = tt
+is_read d home i blocks x same sound None h = sound
 is_read d home i blocks x same sound (Some b) h =
     let is = meant_too d home i (λ (y : List ℕ). x.block ≡ y) same b h in
     (is, subst (λ (y : List ℕ). cell_fault false blocks x.level (rank x.lo) (rank x.hi) y ≡ None) is sound)
@@ -164,3 +181,11 @@ well {T} {E} (Err e) P h p = absurd cc
 pub ill : {T E : Type 0} (r : Result T E) (P : Type 0) → is_err r ≡ true → OnErr r P → P
 ill {T} {E} (Ok x) P h p = absurd cc
 ill {T} {E} (Err e) P h p = p
+
+-- What was lent is left as it was.
+pub lent_stays : (n m : GName) (old new : State) → LeavesDevice (lent_to n old) (lent_to m new)
+    → LeavesDevice old new
+lent_stays n m old new l = record {
+  goes = goes_lent n m old new l.goes;
+  idle = record { seen = l.idle.seen; clock = l.idle.clock };
+}

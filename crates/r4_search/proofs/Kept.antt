@@ -7,6 +7,7 @@ use Rattle.std.specs.Option.{option_map, option_or}
 use Rattle.std.specs.Result.{IsErrAnd}
 use Rattle.std.proofs.lemmas.Bool.{eqb-true, eq-eqb, lt-ltb, ltb-true}
 use Rattle.std.proofs.lemmas.Option.{none-some, same_Some}
+use Rattle.r4_base.specs.Cell.{cell_fault}
 use Rattle.r4_base.specs.Key.{rank}
 use Rattle.r4_base.specs.Tree.{Name}
 use Rattle.r4_base.specs.declared.items.CellFault.TheVariants.{Level, Range}
@@ -35,7 +36,7 @@ of_answered : (p : PoolState) (i : ℕ) (c : CellSeen) → WasAnswered p i c →
 of_answered p i c was = subst (λ (j : ℕ). IsKeptOrRead p.blocks (p.kept j) (p.meant j) c) (sym was.id) (by (p.kept i) refl)
   where
     meant : (o : Option (List ℕ)) → p.meant i ≡ o → p.kept i ≡ None → IsRead p.blocks o c
-    meant None e none = tt
+    meant None e none = was.accepted none
     meant (Some b) e none = was.read none b e
 
     by : (o : Option CellSeen) → p.kept i ≡ o → IsKeptOrRead p.blocks o (p.meant i) c
@@ -124,6 +125,9 @@ module _ (p q : PoolState) (goes : Goes p q) (still : (i : ℕ) → q.kept i ≡
   answered_on i c h = record {
     id = h.id;
     kept = λ k e. h.kept k (sym (still i) ∙ e);
+    accepted = λ none.
+        subst (λ (n : ℕ). cell_fault false n c.level (rank c.lo) (rank c.hi) c.block ≡ None) (sym goes.blocks)
+        (h.accepted (sym (still i) ∙ none));
     read = λ none b e. subst (λ (n : ℕ). IsRead n (Some b) c) (sym goes.blocks) (h.read (sym (still i) ∙ none) b (sym (goes.meant i) ∙ e));
     stands = h.stands;
     names = names_on c h.names;
@@ -333,6 +337,8 @@ module _ {T : Type 0} (view : T → CellSeen) (p q : PoolState) (all : Bool) (me
     was_answered x answer = record {
       id = refl;
       kept = λ k e. subst (λ (o : Option CellSeen). IsKeptOrRead q.blocks o (q.meant x.id) x) e of;
+      accepted = λ none. is_accepted (q.meant x.id)
+          (subst (λ (o : Option CellSeen). IsKeptOrRead q.blocks o (q.meant x.id) x) none of);
       read = λ none b e. subst (λ (m : Option (List ℕ)). IsRead q.blocks m x) e (subst (λ (o : Option CellSeen). IsKeptOrRead q.blocks o (q.meant x.id) x) none of);
       stands = answer.stands;
       names = names;
@@ -340,6 +346,12 @@ module _ {T : Type 0} (view : T → CellSeen) (p q : PoolState) (all : Bool) (me
       where
         of : IsOf q x
         of = of_on p q goes still x answer.is_of
+
+        is_accepted : (o : Option (List ℕ)) → IsRead q.blocks o x
+            → cell_fault false q.blocks x.level (rank x.lo) (rank x.hi) x.block ≡ None
+        is_accepted None h = h
+        is_accepted (Some b) h =
+            subst (λ (y : List ℕ). cell_fault false q.blocks x.level (rank x.lo) (rank x.hi) y ≡ None) (sym h.0) h.1
 
         some_is : (o : Option CellSeen) → IsSome o → is_some o ≡ true
         some_is (Some k) h = refl

@@ -1,11 +1,13 @@
 -- A pool that keeps what it answers, over one that keeps nothing (docs/volume.md, "The tree"). A key is its rank.
-use Rattle.std.specs.Prelude.{◌≡◌, ℕ, ◌==◌, ◌||◌, nat_eq, nat_lt, true, List, Bool, Contains, Option, Some, None, is_some}
+use Rattle.std.specs.Prelude.{◌≡◌, ℕ, ◌==◌, ◌||◌, nat_eq, nat_lt, true, false, List, Bool, Contains, Option, Some, None, is_some}
 use Rattle.std.specs.Prelude.{Result, Ok, Err, if◌then◌else◌}
 use Rattle.std.specs.Arc.{arc_value}
 use Rattle.std.specs.declared.sync.Arc as arc_declared
 use Rattle.std.specs.Global.{Global}
 use Rattle.std.specs.Map.{lookup}
 use Rattle.std.specs.Option.{option_map, option_or}
+use Rattle.r4_base.specs.Cell.{cell_fault}
+use Rattle.r4_base.specs.Key.{rank}
 use Rattle.r4_base.specs.Tree.{Name}
 use Rattle.r4_cell.specs.Seen.{CellSeen, node_of}
 use Rattle.r4_search.specs.Pool.{IsRead, PoolState, StandsInMemory, place_fault}
@@ -41,6 +43,8 @@ NamesStand p c = (m : Name) → Contains (node_of c).names m
 pub record WasAnswered (p : PoolState) (i : ℕ) (c : CellSeen) : Type 0 where
   pub id : c.id ≡ i
   pub kept : (k : CellSeen) → p.kept i ≡ Some k → c ≡ k
+  pub accepted : p.kept i ≡ None
+      → cell_fault false p.blocks c.level (rank c.lo) (rank c.hi) c.block ≡ None
   pub read : p.kept i ≡ None → (b : List ℕ) → p.meant i ≡ Some b → IsRead p.blocks (Some b) c
   pub stands : StandsInMemory c
   pub names : NamesStand p c

@@ -50,9 +50,9 @@ FaultIs blocks n None None f = Unit {0}
 abbrev pub HasFault : PoolState → Name → Option CellFault → Type 0
 HasFault p n f = FaultIs p.blocks n (p.kept n.id) (p.meant n.id) f
 
--- the cell is of the block that is meant, which may stand there
+-- the cell may stand on a disk of so many blocks, and is of the block that is meant, where that is told
 abbrev pub IsRead : (blocks : ℕ) → (meant : Option (List ℕ)) → CellSeen → Type 0
-IsRead blocks None c = Unit {0}
+IsRead blocks None c = cell_fault false blocks c.level (rank c.lo) (rank c.hi) c.block ≡ None
 IsRead blocks (Some b) c = (c.block ≡ b) × (cell_fault false blocks c.level (rank c.lo) (rank c.hi) b ≡ None)
 
 -- the cell has this name, level and range

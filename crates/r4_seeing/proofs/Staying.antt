@@ -15,5 +15,6 @@ goes_stay d e p q r s same device g = record {
   blocks = g.blocks;
   meant = g.meant;
   kept = g.kept;
+  added = g.added;
   keeps = g.keeps;
 }

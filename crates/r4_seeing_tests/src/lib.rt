@@ -2,6 +2,4 @@
 #![tactic(auto)]
 
 #[cfg(test)]
-mod counting;
-#[cfg(test)]
 mod seeing;

@@ -1,2 +1,4 @@
 mod Owners
 mod Becoming
+mod Splitting
+mod Lent

@@ -8,9 +8,12 @@ use r4_reaching::Reach;
 /// What becomes of a command before its work (docs/core.md, "Asking").
 #[derive(Drop)]
 pub enum Asked {
-    /// What it reads ended at a block: `Readfault` or `Damaged`, which names it.
+    /// What it reads ended at a block: `Readfault` or `Damaged`, which names it. Or what it reads
+    /// has a block that no cell of a sound image has, since an atom took its cell away or the
+    /// commit under way writes there: `Damaged`, with the first such block.
     Refused { reply: Reply },
-    /// It touches a body that stands in extents. What such a command reads and writes is not told yet.
+    /// It touches a body that stands in extents. What such a command reads and writes is not told
+    /// yet.
     InExtents,
     /// It has to wait: this atom is sealed, and owns a cell that it reads or writes.
     Sealed { atom: AtomNo },

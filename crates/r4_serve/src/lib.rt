@@ -9,5 +9,5 @@ mod stray;
 
 pub use asked::{Asked, Ready};
 pub use asking::ask;
-pub use need::NodesNeeded;
+pub use need::{NodesNeeded, nodes_of};
 pub use parts::Parts;

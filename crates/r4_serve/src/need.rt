@@ -4,7 +4,7 @@ ghost use Rattle.std.specs.Prelude.{◌≡◌, ◌∷◌, [], IfOk, MatchOption,
 ghost use Rattle.std.specs.Arc.{arc_value};
 ghost use Rattle.r4_atoms.specs.Atoms.{numbers};
 ghost use Rattle.r4_history.specs.Held.{names_of};
-ghost use Rattle.r4_serve.specs.Serving.{IsSealedOwnerOf, NoneSealed, NeedsCells};
+ghost use Rattle.r4_serve.specs.Serving.{IsSealedOwnerOf, NoneSealed, need_in};
 
 use r4_atoms::Atoms;
 use r4_base::{AtomNo, Memory, NodeId};
@@ -32,7 +32,7 @@ impl Model for NodesNeeded {
 impl NodesNeeded {
     // Those of the cells of a reach. The only error is want of memory.
     pub(crate) fn of(alloc: Global, reach: &Reach) -> Result<NodesNeeded, Memory>
-        ensures { IfOk result (λ n. NeedsCells reach.now n) }
+        ensures { IfOk result (λ n. n ≡ need_in reach.now) }
     {
         Ok(NodesNeeded {
             reads: nodes_of(alloc, reach.reads.as_slice())?,
@@ -55,8 +55,8 @@ impl NodesNeeded {
     }
 }
 
-// The nodes of cells.
-fn nodes_of(alloc: Global, cells: &[Arc<Cell>]) -> Result<Vec<NodeId>, Memory>
+/// The nodes of cells. The only error is want of memory.
+pub fn nodes_of(alloc: Global, cells: &[Arc<Cell>]) -> Result<Vec<NodeId>, Memory>
     ensures { IfOk result (λ v. v.items ≡ names_of (map (λ c. arc_value c) cells.now)) }
 {
     let mut nodes = Vec::with_capacity(alloc, cells.len())?;

@@ -54,7 +54,7 @@ module _ (limit : ℕ) (lt : limit < 2 ^ 64) (start : Start) (job : Option Asked
     pub room : (n : ℕ) → RoomFor (dones_in trace + n) start.content → RoomFor n m
     pub known : (o : Target) (a : Attr) → HasStat m o a → IsKnown start trace o
 
-  names_unused : (older : List Entry) (m : Content) (x : Command)
+  pub names_unused : (older : List Entry) (m : Content) (x : Command)
       → ((i : ℕ) → id_of x ≡ Some i → IsNewId (Some start) job older i)
       → ((o : Target) (a : Attr) → HasStat m o a → IsKnown start older o) → NamesUnused m x
   names_unused older m x new known = of_command x new

@@ -30,7 +30,7 @@ use Rattle.r4_sets_told.proofs.Bounded.{bounded}
 
 -- ---- what edits put is there
 
-IsThere : Option Value → Type 0
+pub IsThere : Option Value → Type 0
 IsThere o = (v : Value) × (o ≡ Some v)
 
 put_some : (es : Pairs) (k : ℕ) (v : Value) → IsThere (last_put es k (Some v))
@@ -60,7 +60,7 @@ zero_there es k true o h = put_some es k (Byte 0)
 zero_there es k false o h = absurd (let f : false ≡ true = h in cc)
 
 -- a key that edits change has a value then, or is one that they take away
-changed_there : (e : Edits) (m : Content) (k : ℕ) → is_in (put_keys e.puts ++ (e.zeros ++ e.cuts)) k ≡ true
+pub changed_there : (e : Edits) (m : Content) (k : ℕ) → is_in (put_keys e.puts ++ (e.zeros ++ e.cuts)) k ≡ true
     → IsThere (at_key (edited e m) k) ⊎ (is_in e.cuts k ≡ true)
 changed_there e m k h = elim (or_cases (is_in (put_keys e.puts) k) (is_in (e.zeros ++ e.cuts) k)
     (sym (in_append (put_keys e.puts) (e.zeros ++ e.cuts) k) ∙ h)) [
@@ -72,7 +72,7 @@ changed_there e m k h = elim (or_cases (is_in (put_keys e.puts) k) (is_in (e.zer
     ]
 
 -- a value at a key of a body is a byte of a file, below its size
-body_value : (limit : ℕ) (m : Content) (o : Target) (z : ℕ) → HasBodies limit m → IsObject o → z < 2 ^ 64
+pub body_value : (limit : ℕ) (m : Content) (o : Target) (z : ℕ) → HasBodies limit m → IsObject o → z < 2 ^ 64
     → IsThere (at_key m (byte_rank o z))
     → (b : Attr) × HasStat m o b × (z < b.size)
 unfolding IsThere

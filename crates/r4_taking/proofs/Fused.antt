@@ -279,8 +279,12 @@ module _ {D : Type 0} (r : Naming) (d : State) (c : CoreSeen D) (k : IsKept r d 
         space = g.space;
         root = g.root;
         height = g.height;
+        root_stands = g.root_stands;
         buffered_names = g.buffered_names;
         reached_names = g.reached_names;
+        owned_names = λ i some. g.owned_names i (owner_before i some);
+        named = g.named;
+        given_cells = g.given_cells;
         dirty = λ i x at. (
           (λ yes. owner_after i ((g.dirty i x at).0 yes)),
           (λ some. (g.dirty i x at).1 (owner_before i some)),
@@ -306,7 +310,10 @@ module _ {D : Type 0} (r : Naming) (d : State) (c : CoreSeen D) (k : IsKept r d 
         drawn = g.drawn;
         apart = g.apart;
         unused = g.unused;
+        unnamed = g.unnamed;
         unreached = g.unreached;
+        unowned = λ q i n has is_n low high. owners i
+            ∙ ap (option_map as_renamed) (g.unowned q i n has is_n low high);
         given = g.given;
       }
 
@@ -480,7 +487,7 @@ module _ {D : Type 0} (r : Naming) (d : State) (c : CoreSeen D) (k : IsKept r d 
 
 module _ {D : Type 0} (r : Naming) (d : State) (c : CoreSeen D) (k : IsKept r d c) where
   -- an atom counts no more cells than the volume has blocks, nor more objects than its commands were done
-  small_account : (lawful : IsLawful c.space) (a : ℕ) → IsOpenAtom c.atoms a
+  pub small_account : (lawful : IsLawful c.space) (a : ℕ) → IsOpenAtom c.atoms a
       → ((account_of c.atoms a).cells ≤ 1048576) × ((account_of c.atoms a).fresh ≤ 1048576)
   small_account lawful a is =
       let atom : AtomNo = record { 0 = a } in

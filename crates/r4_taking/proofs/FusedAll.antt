@@ -41,7 +41,8 @@ module _ {D : Type 0} (r : Naming) (d : State) (old new : CoreSeen D) (k : IsKep
 -- ---- who is left
 
 -- an open atom that is not the one that goes stays one
-pub still_open : (old new : AtomsSeen) (a b : ℕ) → Fuses old new a b → (x : ℕ) → IsOpenAtom old x → x ≢ b → IsOpenAtom new x
+pub still_open : (old new : AtomsSeen) (a b : ℕ) → Fuses old new a b → (x : ℕ) → IsOpenAtom old x → x ≢ b
+    → IsOpenAtom new x
 still_open old new a b f x is other =
     let count = fused_count old new a b f in
     let within = is.atom.begun.within in

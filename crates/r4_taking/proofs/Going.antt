@@ -5,15 +5,12 @@ use Rattle.std.proofs.lemmas.List.{append_assoc}
 use Rattle.r4_base.specs.declared.things.AtomNo.{AtomNo}
 use Rattle.r4_commit.specs.Planned.{CommitSeen}
 use Rattle.r4_content.specs.Meaning.{greatest_size}
-use Rattle.r4_durable.specs.GoingOn.{GoesOn, MarksAlike, SealNothing}
+use Rattle.r4_durable.specs.GoingOn.{GoesOn, SealNothing}
 use Rattle.r4_durable.specs.Kept.{IsSession}
 use Rattle.r4_durable.specs.Meaning.{Beginning}
 use Rattle.r4_durable.proofs.Steps.{kept_after}
-use Rattle.r4_flushed.specs.Deferred.{AreDeferred, AreDeferredBut}
 use Rattle.r4_outside.specs.Device.{State}
-use Rattle.r4_sealed.specs.Commits.{IsLater}
 use Rattle.r4_sets.specs.Session.{Session}
-use Rattle.r4_space.specs.Lawful.{IsLawful}
 use Rattle.r4_space.specs.Space.{Space}
 use Rattle.r4_trace.specs.Job.{Asked}
 use Rattle.r4_trace.specs.Order.{IsOrdered}
@@ -22,6 +19,7 @@ use Rattle.r4_kept.specs.Meaning.{Comes, ComesFrom, IsAt, IsAtRest, IsFlushing, 
 use Rattle.r4_kept.specs.Story.{Flush, Headed}
 use Rattle.r4_kept.specs.declared.parts.Commit.{Commit}
 use Rattle.r4_kept.specs.declared.parts.Volume.{Volume}
+pub use Rattle.r4_taking.specs.Following.{Follows, FollowsFor}
 use Rattle.r4_taking.proofs.Merged.{lawful_settled}
 
 seal_none : (es more : List Entry) → SealNothing es → SealNothing more → SealNothing (es ++ more)
@@ -65,17 +63,6 @@ module _ (b : Beginning) (job : Option Asked) (c now : Session) (es : List Entry
         };
         in_part = part;
       }
-
--- What is deferred goes along, and so does the space of the commit of this atom.
-pub record FollowsFor (a : AtomNo) (c now : Session) (s later : Space) : Type 0 where
-  pub but : AreDeferredBut a c s → AreDeferredBut a now later
-  pub on : (x : Space) → IsLater x s a → IsLater x later a
-
-pub record Follows (commit : Option Commit) (c now : Session) (s later : Space) : Type 0 where
-  pub defers : AreDeferred c s → AreDeferred now later
-  pub alike : MarksAlike s later
-  pub lawful : IsLawful later
-  pub under_way : (k : Commit) → commit ≡ Some k → FollowsFor k.atom c now s later
 
 module _ (b : Beginning) (job : Option Asked) (c now : Session) (es : List Entry) (goes : GoesOn c now es)
     (s later : Space) (commit : Option Commit) (follows : Follows commit c now s later) (v : Volume) (d : State)

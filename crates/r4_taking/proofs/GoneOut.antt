@@ -9,6 +9,7 @@ use Rattle.std.proofs.lemmas.List.Sums.{sum_by-cons}
 use Rattle.r4_atoms.specs.Atoms.{numbers, owner_of}
 use Rattle.r4_base.specs.Image.{block_at}
 use Rattle.r4_base.specs.Key.{rank}
+use Rattle.r4_base.specs.Tree.{Name}
 use Rattle.r4_base.specs.declared.things.NodeId.{NodeId}
 use Rattle.r4_buffer.specs.Changed.{Standing, in_turn, used, uses_of}
 use Rattle.r4_buffer.specs.Reading.{NamesStand}
@@ -35,7 +36,8 @@ use Rattle.r4_turns.specs.Turns.{HasNext, IsScript, TurnsSeen, gone_out, turn_at
 use Rattle.r4_turns.specs.declared.out.Numbers.{Numbers}
 use Rattle.r4_turns.specs.declared.out.Out.{Out}
 use Rattle.r4_kept.specs.Accounts.{AreAccounts, CountsCells, cells_for, claims_for}
-use Rattle.r4_kept.specs.Cells.{AreCells, AreReadable, FitsCommit, HasNames, IsAccepted, IsName, IsWritingOf}
+use Rattle.r4_kept.specs.Cells.{AreCells, AreReadable, FitsCommit, HasNames, IsAccepted, IsName, IsStillThere}
+use Rattle.r4_kept.specs.Cells.{IsWritingOf, NamesAt}
 use Rattle.r4_kept.specs.History.{IsHistory}
 use Rattle.r4_kept.specs.Kept.{IsKept}
 use Rattle.r4_kept.specs.Meaning.{HasMeaning, Spares, SparesIn}
@@ -45,6 +47,8 @@ use Rattle.r4_kept.specs.TasksOut.{AreApart, AreOut, IsGiven, WereDrawn, pins_in
 use Rattle.r4_kept.specs.View.{CoreSeen, blocks_of, tables_of}
 use Rattle.r4_kept.specs.declared.parts.Commit.{Commit}
 use Rattle.r4_kept.specs.declared.parts.Numbers.{Numbers as Next}
+use Rattle.r4_kept.proofs.Readable.{captured_dirty}
+use Rattle.r4_kept.proofs.Staying.{named_on, names_as, still_on}
 use Rattle.r4_kept.proofs.Unused.{IsLike}
 use Rattle.r4_taking.specs.GoingOut.{CanGoOut, IsMet, IsOnDisk}
 use Rattle.r4_taking.proofs.NamesFree.{names_free}
@@ -203,6 +207,56 @@ module _ {D : Type 0} (d : State) (c : CoreSeen D) (lawful : IsLawful c.buffer) 
       by None at h = at
       by (Some e) at (inl h) = absurd (subst (λ (o : Standing). IsLike o None) at h)
       by (Some e) at (inr n) = absurd (cc n.is)
+
+  -- ---- what is named, and what tasks were given
+
+  -- what names the number of a new cell did so before
+  pub names_before : blocks_of c ≤ 2 ^ 63 → (i : ℕ) (n : Name) → NamesAt new i n → 2 ^ 63 ≤ n.id → NamesAt b i n
+  names_before small i n x high =
+      ⊎_elim (λ was. names_as b i was.entry x.entry was.is was.cell n x.among)
+      (λ read.
+      (let y = x.entry.cell in
+      let low = names_below (blocks_of c) y.level (rank y.lo) (rank y.hi) y.block n read.on_disk.accepted x.among in
+      absurd (omega (arith, low, small, high)))) (entry_cases i x.entry x.is)
+
+  same_cell : (i : ℕ) → is_dirty_by (buffered b i) ≡ true → cell_at new i ≡ cell_at b i
+  same_cell i dirty = by (buffered b i) refl dirty
+    where
+      by : (o : Standing) → buffered b i ≡ o → is_dirty_by o ≡ true
+          → cell_at new i ≡ option_map (λ (e : EntrySeen). e.cell) o
+      by None at h = absurd (true≢false (sym h))
+      by (Some e) at h =
+          let f = stays i e at (dirty_held i e at h) in
+          ap (option_map (λ (x : EntrySeen). x.cell)) f.is ∙ ap (λ (x : CellSeen). Some x) f.cell
+
+  pub still_there : (blocks : ℕ) (x : CellSeen) → IsStillThere b blocks x → IsStillThere new blocks x
+  still_there blocks x h = still_on b new blocks x (same_dirty x.id) (same_cell x.id) h
+
+  -- a cell that was met is there
+  module _ (next : ℕ) (readable : AreReadable d b (blocks_of c))
+      (names : (i : ℕ) (e : EntrySeen) → buffered b i ≡ Some e → HasNames (blocks_of c) next e.cell)
+      (fresh : (i : ℕ) (e : EntrySeen) → buffered b i ≡ Some e → 2 ^ 63 ≤ i → e.dirty ≡ true) where
+    clean_there : (x : CellSeen) (o : Standing) → buffered b x.id ≡ o
+        → option_map (λ (e : EntrySeen). e.cell) o ≡ Some x → is_dirty_by o ≡ false
+        → (x.id < blocks_of c) × IsAccepted (blocks_of c) x
+    clean_there x None at h not = absurd (cc h)
+    clean_there x (Some e) at h not =
+        let same : e.cell ≡ x = cc h in (
+          ⊎_elim (λ low. low.0) (λ high. absurd (true≢false (sym (fresh x.id e at high.0) ∙ not)))
+              (subst (λ (y : CellSeen). IsName (blocks_of c) next y.id) same (names x.id e at).own),
+          subst (IsAccepted (blocks_of c)) same (readable.accepted x.id e at not),
+        )
+
+    pub met_there : (x : CellSeen) → Contains met x → IsStillThere b (blocks_of c) x
+    met_there x there =
+        let m = are x there in
+        record {
+          dirty = λ yes. m.captured (captured_dirty b x.id yes);
+          clean = λ no. elim (cases_Bool (is_captured b x.id)) [
+            | inl held ↦ clean_there x (buffered b x.id) refl (m.captured held) no
+            | inr free ↦ (let on = m.on_disk free in (on.block, on.accepted))
+          ];
+        }
 
   -- ---- what can be read
 
@@ -404,6 +458,7 @@ module _ {D : Type 0} (r : Naming) (d : State) (c : CoreSeen D) (k : IsKept r d 
         space = g.space;
         root = later_name d c blocks c.numbers.next_name next.next_name c.tree.id.0 next_rises g.root;
         height = g.height;
+        root_stands = λ high. dirty_then c.tree.id.0 ∙ g.root_stands high;
         buffered_names = λ i f at.
             ⊎_elim (λ was.
             subst (HasNames blocks next.next_name) (sym was.cell)
@@ -416,6 +471,17 @@ module _ {D : Type 0} (r : Naming) (d : State) (c : CoreSeen D) (k : IsKept r d 
             (λ was. later_names d c blocks c.numbers.next_name next.next_name x next_rises
             (g.reached_names q o x was.1 there))
             (out_cases c.turns s is out q o has);
+        owned_names = λ i some. later_name d c blocks c.numbers.next_name next.next_name i next_rises
+            (g.owned_names i some);
+        named = named_on c.buffer buffer c.tree.id.0
+            (names_before d c lawful met can.met_are buffer still cells small) g.named;
+        given_cells = λ sound q o x has there.
+            still_there d c lawful met can.met_are buffer still cells blocks x
+            (⊎_elim (λ here.
+            met_there d c lawful met can.met_are buffer still cells c.numbers.next_name (g.clean sound)
+            g.buffered_names g.fresh x
+            (can.among x (subst (λ (y : Out). Contains (y.reads ++ y.writes) x) (sym here.1) there)))
+            (λ was. g.given_cells sound q o x was.1 there) (out_cases c.turns s is out q o has));
         dirty = λ i f at.
             ⊎_elim (λ was. (
               (λ yes. (g.dirty i was.entry was.is).0 (sym was.dirty ∙ yes)),
@@ -508,29 +574,42 @@ module _ {D : Type 0} (r : Naming) (d : State) (c : CoreSeen D) (k : IsKept r d 
   flipped n m (inl h) = inr h
   flipped n m (inr h) = inl h
 
+  -- a name that a cell had before is none of the numbers that were drawn now
+  had_before : (i : ℕ) → IsName (blocks_of c) c.numbers.next_name i → out.numbers.fresh.next ≤ i
+      → numbers_of (turn_at c.turns s) ≡ None → ⊥
+  had_before i (inl h) low none =
+      let lt = h.0 in
+      let first = (can.draws.drawn none).0 in
+      absurd (omega (arith, lt, first, small, low))
+  had_before i (inr h) low none =
+      let lt = h.1 in
+      let first = (can.draws.drawn none).1 in
+      absurd (omega (arith, lt, first, low))
+
   unused_now : (i : ℕ) (e : EntrySeen) → buffered c.buffer i ≡ Some e → out.numbers.fresh.next ≤ i
       → i < out.numbers.fresh.end → ⊥
   unused_now i e at low high = by (numbers_of (turn_at c.turns s)) refl
     where
-      named : e.cell.id ≡ i
-      named = lawful.named i e at
-
-      below : IsName (blocks_of c) c.numbers.next_name e.cell.id → numbers_of (turn_at c.turns s) ≡ None → ⊥
-      below (inl h) none =
-          let lt = h.0 in
-          let first = (can.draws.drawn none).0 in
-          absurd (omega (arith, lt, first, small, low, named))
-      below (inr h) none =
-          let lt = h.1 in
-          let first = (can.draws.drawn none).1 in
-          absurd (omega (arith, lt, first, low, named))
-
       by : (o : Option Numbers) → numbers_of (turn_at c.turns s) ≡ o → ⊥
-      by None none = below (k.cells.buffered_names i e at).own none
+      by None none =
+          had_before i (subst (IsName (blocks_of c) c.numbers.next_name) (lawful.named i e at)
+          (k.cells.buffered_names i e at).own) low none
       by (Some n) some =
           let same = ((can.gets can.served.command can.served.next).kept n some).0 in
           k.tasks.unused s i n e is some at (subst (λ (m : Numbers). m.fresh.next ≤ i) same low)
           (subst (λ (m : Numbers). i < m.fresh.end) same high)
+
+  -- nor does a cell name one of them
+  unnamed_now : (i : ℕ) (n : Name) → NamesAt c.buffer i n → out.numbers.fresh.next ≤ n.id
+      → n.id < out.numbers.fresh.end → ⊥
+  unnamed_now i n x low high = by (numbers_of (turn_at c.turns s)) refl
+    where
+      by : (o : Option Numbers) → numbers_of (turn_at c.turns s) ≡ o → ⊥
+      by None none = had_before n.id ((k.cells.buffered_names i x.entry x.is).named n x.among) low none
+      by (Some m) some =
+          let same = ((can.gets can.served.command can.served.next).kept m some).0 in
+          k.tasks.unnamed s i m n is some x (subst (λ (y : Numbers). y.fresh.next ≤ n.id) same low)
+          (subst (λ (y : Numbers). n.id < y.fresh.end) same high)
 
   drawn_of : (q : ℕ) (n : Numbers) → IsScript after.turns q → numbers_of (turn_at after.turns q) ≡ Some n
       → WereDrawn next.next_name n
@@ -563,18 +642,8 @@ module _ {D : Type 0} (r : Naming) (d : State) (c : CoreSeen D) (k : IsKept r d 
       → out.numbers.fresh.next ≤ x.id → x.id < out.numbers.fresh.end → ⊥
   reach_unused p o x was there low high = by (numbers_of (turn_at c.turns s)) refl
     where
-      below : IsName (blocks_of c) c.numbers.next_name x.id → numbers_of (turn_at c.turns s) ≡ None → ⊥
-      below (inl h) none =
-          let lt = h.0 in
-          let first = (can.draws.drawn none).0 in
-          absurd (omega (arith, lt, first, small, low))
-      below (inr h) none =
-          let lt = h.1 in
-          let first = (can.draws.drawn none).1 in
-          absurd (omega (arith, lt, first, low))
-
       by : (m : Option Numbers) → numbers_of (turn_at c.turns s) ≡ m → ⊥
-      by None none = below (k.cells.reached_names p o x was there).own none
+      by None none = had_before x.id (k.cells.reached_names p o x was there).own low none
       by (Some n) some =
           let same = ((can.gets can.served.command can.served.next).kept n some).0 in
           k.tasks.unreached s p n o x is some was there (subst (λ (m : Numbers). m.fresh.next ≤ x.id) same low)
@@ -595,12 +664,35 @@ module _ {D : Type 0} (r : Naming) (d : State) (c : CoreSeen D) (k : IsKept r d 
       (numbers_cases c.turns s is out q n has is_n))
       (out_cases c.turns s is out p o is_out)
 
+  -- nor does an atom own one
+  unowned_now : (i : ℕ) → out.numbers.fresh.next ≤ i → i < out.numbers.fresh.end → owner_of c.atoms i ≡ None
+  unowned_now i low high = by (numbers_of (turn_at c.turns s)) refl
+    where
+      by : (m : Option Numbers) → numbers_of (turn_at c.turns s) ≡ m → owner_of c.atoms i ≡ None
+      by None none = go (owner_of c.atoms i) refl
+        where
+          go : (o : Option ℕ) → owner_of c.atoms i ≡ o → owner_of c.atoms i ≡ None
+          go None at = at
+          go (Some a) at = absurd (had_before i (k.cells.owned_names i (subst IsSome (sym at) refl)) low none)
+      by (Some n) some =
+          let same = ((can.gets can.served.command can.served.next).kept n some).0 in
+          k.tasks.unowned s i n is some (subst (λ (m : Numbers). m.fresh.next ≤ i) same low)
+          (subst (λ (m : Numbers). i < m.fresh.end) same high)
+
+  unowned_then : (q i : ℕ) (n : Numbers) → IsScript after.turns q → numbers_of (turn_at after.turns q) ≡ Some n
+      → n.fresh.next ≤ i → i < n.fresh.end → owner_of c.atoms i ≡ None
+  unowned_then q i n has is_n low high =
+      ⊎_elim (λ here.
+      unowned_now i (subst (λ (m : Numbers). m.fresh.next ≤ i) (sym here.1) low)
+      (subst (λ (m : Numbers). i < m.fresh.end) (sym here.1) high))
+      (λ other. k.tasks.unowned q i n (scripts q has) other.1 low high) (numbers_cases c.turns s is out q n has is_n)
+
   given_then : (q : ℕ) (o : Out) (x : Command) → IsOut after.turns q o → next_at after.turns q ≡ Some x
-      → IsGiven (with_id o.numbers.oid x) o
+      → IsGiven c.tree (with_id o.numbers.oid x) o
   given_then q o x is_out next_is =
       let was : next_at c.turns q ≡ Some x = sym (next_same c.turns s is out q) ∙ next_is in
       ⊎_elim (λ here.
-      subst (λ (y : Out). IsGiven (with_id y.numbers.oid x) y) here.1
+      subst (λ (y : Out). IsGiven c.tree (with_id y.numbers.oid x) y) here.1
       (can.given x (ap (next_at c.turns) (sym here.0) ∙ was)))
       (λ old. k.tasks.given q o x old.1 was) (out_cases c.turns s is out q o is_out)
 
@@ -620,6 +712,17 @@ module _ {D : Type 0} (r : Naming) (d : State) (c : CoreSeen D) (k : IsKept r d 
       let first = (drawn_of q n has is_n).least in
       absurd (omega (arith, lt, named, first, small, low))))
       (cases i f at)
+
+  unnamed_then : (q i : ℕ) (n : Numbers) (m : Name) → IsScript after.turns q
+      → numbers_of (turn_at after.turns q) ≡ Some n → NamesAt buffer i m → n.fresh.next ≤ m.id → m.id < n.fresh.end → ⊥
+  unnamed_then q i n m has is_n x low high =
+      let least = (drawn_of q n has is_n).least in
+      let was = names_before d c lawful met can.met_are buffer still cells small i m x (omega (arith, least, low)) in
+      ⊎_elim (λ here.
+      unnamed_now i m was (subst (λ (y : Numbers). y.fresh.next ≤ m.id) (sym here.1) low)
+      (subst (λ (y : Numbers). m.id < y.fresh.end) (sym here.1) high))
+      (λ other. k.tasks.unnamed q i n m (scripts q has) other.1 was low high)
+      (numbers_cases c.turns s is out q n has is_n)
 
   tasks_then : AreOut after
   tasks_then =
@@ -646,7 +749,9 @@ module _ {D : Type 0} (r : Naming) (d : State) (c : CoreSeen D) (k : IsKept r d 
             (numbers_cases c.turns s is out p m also is_m))
             (numbers_cases c.turns s is out q n has is_n);
         unused = unused_then;
+        unnamed = unnamed_then;
         unreached = unreached_then;
+        unowned = unowned_then;
         given = given_then;
       }
 

@@ -29,7 +29,7 @@ use Rattle.r4_taking.specs.GoingOut.{IsMet, IsOnDisk}
 
 -- ---- what a cell says of itself
 
-says : (level lo hi : ℕ) (b : List ℕ) → ((cell_of level lo hi b).level ≡ level) × ((cell_of level lo hi b).lo ≡ lo)
+pub says : (level lo hi : ℕ) (b : List ℕ) → ((cell_of level lo hi b).level ≡ level) × ((cell_of level lo hi b).lo ≡ lo)
     × ((cell_of level lo hi b).hi ≡ hi)
 unfolding cell_of
 says zero lo hi b = (refl, refl, refl)

@@ -65,7 +65,8 @@ pub record CanGoOut
   where
     pub free : (turn_at c.turns s).out ≡ None
     pub served : IsServed (tables_of c) s out
-    pub given : (x : Command) → next_at c.turns s ≡ Some x → IsGiven (with_id out.numbers.oid x) out
+    pub given : (x : Command) → next_at c.turns s ≡ Some x
+        → IsGiven c.tree (with_id out.numbers.oid x) out
     pub gets : (x : Command) → next_at c.turns s ≡ Some x
         → GetsNumbers c.turns s x c.numbers.next_oid next.next_oid out.numbers
     pub draws : DrawsNames c.turns s c.numbers.next_name next.next_name out.numbers

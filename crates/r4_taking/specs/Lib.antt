@@ -1,3 +1,4 @@
 pub mod Fusing
 pub mod Refusing
 pub mod GoingOut
+pub mod Following

@@ -1,3 +1,4 @@
-//! What `take` changes of a core, one little step after another, and that what holds of a core holds
-//! after each (docs/core.md): atoms fuse, a single command is refused, a command goes out as a task.
+//! What `take` changes of a core, one little step after another, and that what holds of a core
+//! holds after each (docs/core.md): atoms fuse, a single command is refused, a command goes out as
+//! a task.
 #![tactic(auto)]

@@ -1,8 +1,12 @@
 //! What is said on standard error where a command fails (docs/program.md, "Standard error").
 
-ghost use Rattle.std.specs.Prelude.{◌≡◌, IfOk, IfSome, string_bytes};
+ghost use Rattle.std.specs.Prelude.{◌≡◌, ◌++◌, ◌^◌, ◌<◌, ◌≤◌, IfOk, IfSome, IsSome, IsSomeAnd};
+ghost use Rattle.std.specs.Prelude.{List, MatchOption, ℕ, codes, decimal, length, string_bytes};
 ghost use Rattle.std.specs.Io.{StartsWith};
-ghost use Rattle.r4_tool.specs.Complaints.{call_text, size_text};
+ghost use Rattle.std.specs.Str.Iter.{LacksByte};
+ghost use Rattle.r4_tool.specs.Complaints.{BeginsAt, IsLast, IsLastBlock, IsWord, LacksFrom};
+ghost use Rattle.r4_tool.specs.Complaints.{TellsImage, block_text, call_text, line_text};
+ghost use Rattle.r4_tool.specs.Complaints.{memory_text, size_text};
 
 use r4_base::Memory;
 use r4_devices::{FileCall, Trouble};
@@ -10,7 +14,7 @@ use std::alloc::Global;
 use std::str;
 
 /// What the line of a refused image begins with.
-const IMAGE: &str = "image: block ";
+const IMAGE: &[u8] = b"image: block ";
 
 /// Which call of the image's file failed, and what the system says of it.
 #[tactic(auto, using(crate::proofs::Starting::starts_with_front))]
@@ -40,13 +44,49 @@ fn words_of_call(alloc: Global, call: FileCall) -> Result<String, Memory>
 }
 
 /// Which block of the image is refused, and why, as the line that was printed last says it.
-pub fn of_image(alloc: Global, printed: &[u8]) -> Result<String, Memory> {
-    let line = last_line(printed);
-    let (block, word) = line.split_once(": ").unwrap_or(("", ""));
-    match meaning(word) {
-        Some(text) => format!(in alloc; "block {block}: {text}"),
+pub fn of_image(alloc: Global, printed: &[u8]) -> Result<String, Memory>
+    ensures named { IfOk result (λ s. TellsImage printed.now (string_bytes s)) }
+    ensures told { (block : ℕ) (word : List ℕ) → block < 2 ^ 64 → IsWord word
+        → IsLast printed.now (line_text block word)
+        → IfOk result (λ s. StartsWith (string_bytes s) (block_text block)) }
+{
+    match block_and_meaning(printed) {
+        Some((block, text)) => of_block(alloc, block, text),
         None => format!(in alloc; "the image is refused"),
     }
+}
+
+// The block, and what is said of it.
+fn of_block(alloc: Global, block: &str, text: &str) -> Result<String, Memory>
+    ensures { IfOk result (λ s. StartsWith (string_bytes s)
+        (codes "block " ++ (block.now ++ codes ": "))) }
+{
+    format!(in alloc; "block {block}: {text}")
+}
+
+// The block that the last line of an image names, and what its word means.
+fn block_and_meaning(printed: &[u8]) -> Option<(&str, &'static str)>
+    ensures named { IfSome result (λ t. IsLastBlock printed.now t.0.now) }
+    ensures told { (block : ℕ) (word : List ℕ) → block < 2 ^ 64 → IsWord word
+        → IsLast printed.now (line_text block word)
+        → IsSomeAnd result (λ t. t.0.now ≡ decimal block) }
+{
+    let line = str::from_utf8(last_line(printed)?).ok()?;
+    let (block, word) = block_and_word(line)?;
+    Some((block, meaning(word)?))
+}
+
+// The block that a line names, and its word.
+fn block_and_word(line: &str) -> Option<(&str, &str)>
+    ensures named { IfSome result (λ t. (rest : List ℕ)
+        × (line.now ≡ t.0.now ++ (codes ": " ++ rest))) }
+    ensures told { (block word : List ℕ) → LacksByte 58 block → LacksByte 10 word
+        → line.now ≡ block ++ (codes ": " ++ (word ++ codes "\n"))
+        → IsSomeAnd result (λ t. (t.0.now ≡ block) × (t.1.now ≡ word)) }
+{
+    let (block, rest) = line.split_once(':')?;
+    let (word, _) = rest.strip_prefix(' ')?.split_once('\n')?;
+    Some((block, word))
 }
 
 /// That the image has too few blocks or too many.
@@ -54,6 +94,13 @@ pub fn of_size(alloc: Global, blocks: u64) -> Result<String, Memory>
     ensures { IfOk result (λ s. string_bytes s ≡ size_text blocks) }
 {
     format!(in alloc; "it has {blocks} blocks of 4096 bytes, and a volume has from 64 to 1048576")
+}
+
+/// That no memory was found, for the command or for another of these texts.
+pub fn of_memory() -> &'static str
+    ensures { result.now ≡ memory_text }
+{
+    "there is not enough memory"
 }
 
 // What stands before a mark in a text, where it is there.
@@ -64,21 +111,31 @@ fn before<'a>(text: &'a str, mark: &str) -> &'a str {
     }
 }
 
-// What the last line of these bytes says of an image, without its end.
-fn last_line(printed: &[u8]) -> &str {
-    let mut places = (0..printed.len()).rev();
-    let line = places.find_map(|from| line_at(printed, from)).unwrap_or("");
-    before(line, "\n")
+// What the last line of an image among these bytes says of it.
+fn last_line(printed: &[u8]) -> Option<&[u8]>
+    ensures { MatchOption result (LacksFrom printed.now 0) (λ line. IsLast printed.now line.now) }
+{
+    for at in (0..printed.len()).rev() {
+        if let Some(line) = line_at(printed, at) {
+            return Some(line);
+        }
+    }
+    None
 }
 
 // What the line of an image says that begins at this byte, if one does.
-fn line_at(printed: &[u8], from: usize) -> Option<&str> {
-    let text = str::from_utf8(printed.get(from..)?).ok()?;
-    text.strip_prefix(IMAGE)
+fn line_at(printed: &[u8], at: usize) -> Option<&[u8]>
+    requires { at ≤ length printed.now }
+    ensures { MatchOption result ((line : List ℕ) → BeginsAt printed.now at line → ⊥)
+        (λ line. BeginsAt printed.now at line.now) }
+{
+    printed[at..].strip_prefix(IMAGE)
 }
 
 // What a word means of the block that the line names.
-fn meaning(word: &str) -> Option<&'static str> {
+fn meaning(word: &str) -> Option<&'static str>
+    ensures { IsWord word.now → IsSome result }
+{
     Some(match word {
         "range" => "it has a number of a block that the log may not use",
         "head magic" => "it is not the head of a transaction",

@@ -6,7 +6,8 @@ mod streams;
 #[cfg(test)]
 mod tests;
 
-use complaints::{of_device, of_image, of_size};
+use complaints::{of_device, of_image, of_memory, of_size};
+use r4_base::Memory;
 use r4_devices::FileDevice;
 use r4_outside::{Device, OpenGate, Unnamed};
 use r4_top::{Status, r4_main};
@@ -58,7 +59,7 @@ fn command_words(rt: &HostRuntime) -> io::Result<Vec<String>> {
 // Where there is no memory for the words or for what is printed.
 fn no_memory(rt: &HostRuntime) -> ExitCode {
     let _ = println!(rt; "memory");
-    let _ = eprintln!(rt; "r4: there is not enough memory");
+    let _ = eprintln!(rt; "r4: {}", of_memory());
     ExitCode::from(9)
 }
 
@@ -75,11 +76,11 @@ fn complain(
         6 => of_device(alloc, dev.trouble()),
         7 => of_image(alloc, out.last()),
         8 => of_size(alloc, dev.blocks().unwrap_or(0)),
-        9 => format!(in alloc; "there is not enough memory"),
+        9 => Err(Memory),
         _ => return,
     };
     let _ = match &text {
         Ok(text) => eprintln!(rt; "r4: {name}: {text}"),
-        Err(_) => eprintln!(rt; "r4: {name}: there is not enough memory"),
+        Err(_) => eprintln!(rt; "r4: {name}: {}", of_memory()),
     };
 }

@@ -98,7 +98,8 @@ impl<W: Write + Drop> Sink for OutputText<W> {
             (output_state self.old.faults) result (output_state self.new.faults) }
         ensures capacity { self.new.last.capacity ≡ self.old.last.capacity }
         ensures last { OnOk result
-            (self.new.last.items ≡ keep_last self.old.last.capacity (self.old.last.items ++ bytes.now)) }
+            (self.new.last.items
+            ≡ keep_last self.old.last.capacity (self.old.last.items ++ bytes.now)) }
     {
         let Ok(()) = self.out.write_all(bytes) else {
             return Err(missed(&mut self.faults));

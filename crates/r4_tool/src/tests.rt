@@ -1,6 +1,6 @@
 //! A file as a device, what is said on standard error, and the buffer of standard output.
 
-use crate::complaints::{of_device, of_image, of_size};
+use crate::complaints::{of_device, of_image, of_memory, of_size};
 use crate::streams::OutputText;
 use r4_base::{Block, BlockNo};
 use r4_devices::{FileCall, FileDevice, Trouble};
@@ -99,6 +99,12 @@ fn sizes_are_told(rt: HostRuntime) -> Result<(), Fail> {
     let said = of_size(rt.alloc(), 63)?;
     let wanted = "it has 63 blocks of 4096 bytes, and a volume has from 64 to 1048576";
     assert_eq!(rt; said.as_str(), wanted);
+    Ok(())
+}
+
+#[test]
+fn wanting_memory_is_told(rt: HostRuntime) -> Result<(), Fail> {
+    assert_eq!(rt; of_memory(), "there is not enough memory");
     Ok(())
 }
 

@@ -50,7 +50,21 @@ pub fn pointer(alloc: Global, key: Key, to: u64) -> Result<Item, Fail> {
     })
 }
 
-/// One entry of a directory, with a name of at most 23 bytes.
+/// An extent of these units, each a first block and how many there are; a hole begins at block 0.
+pub fn extent(alloc: Global, key: Key, units: &[(u64, u64)]) -> Result<Item, Fail> {
+    let mut body = Vec::new(alloc);
+    for (start, width) in units {
+        body.extend_from_slice(&start.to_le_bytes())?;
+        body.extend_from_slice(&width.to_le_bytes())?;
+    }
+    Ok(Item {
+        key,
+        plugin: 5,
+        body,
+    })
+}
+
+/// One entry of a directory.
 ///
 /// # Errors
 /// Where there is no memory, or the name is none.
@@ -69,6 +83,10 @@ pub fn entry(alloc: Global, dir: Oid, name: &[u8], target: &Target) -> Result<It
     body.extend_from_slice(&28u16.to_le_bytes())?;
     for number in [target.locality, target.ordering, target.oid.0] {
         body.extend_from_slice(&number.to_le_bytes())?;
+    }
+    if name.len() > 23 {
+        body.extend_from_slice(name)?;
+        body.push(0)?;
     }
     Ok(Item {
         key,

@@ -1,7 +1,7 @@
 //! Nodes of items, on a device.
 
 use crate::items::Item;
-use r4_base::{Block, BlockNo};
+use r4_base::{Block, BlockNo, Memory};
 use r4_outside::{Device, MemoryDevice};
 use std::alloc::Global;
 use std::test::Fail;
@@ -20,17 +20,11 @@ pub fn empty_device(alloc: Global) -> Result<MemoryDevice, Fail> {
     Ok(MemoryDevice::plain(alloc, BLOCKS)?)
 }
 
-/// Writes a node of these items, of a level, to a block (docs/layout.md, "Nodes"). What does not fit is left out.
+/// A node of these items, of a level (docs/layout.md, "Nodes"). What does not fit is left out.
 ///
 /// # Errors
-/// Where there is no memory, or the device fails.
-pub fn lay(
-    alloc: Global,
-    dev: &mut MemoryDevice,
-    at: u64,
-    level: u8,
-    items: &[Item],
-) -> Result<(), Fail> {
+/// Where there is no memory.
+pub fn node(alloc: Global, level: u8, items: &[Item]) -> Result<Block, Memory> {
     let mut block = Block::zeroed(alloc)?;
     let bytes = block.bytes_mut();
     let mut end: u16 = 28;
@@ -48,10 +42,39 @@ pub fn lay(
     set(bytes, 6, &end.to_le_bytes());
     set(bytes, 8, &MAGIC.to_le_bytes());
     set(bytes, 26, &[level]);
+    Ok(block)
+}
+
+/// Writes a node of these items, of a level, to a block, as `node` makes it.
+///
+/// # Errors
+/// Where there is no memory, or the device fails or has no such block.
+pub fn lay(
+    alloc: Global,
+    dev: &mut MemoryDevice,
+    at: u64,
+    level: u8,
+    items: &[Item],
+) -> Result<(), Fail> {
+    put(dev, at, &node(alloc, level, items)?)
+}
+
+/// Writes a block of equal bytes.
+///
+/// # Errors
+/// Where there is no memory, or the device fails or has no such block.
+pub fn lay_bytes(alloc: Global, dev: &mut MemoryDevice, at: u64, byte: u8) -> Result<(), Fail> {
+    let mut block = Block::zeroed(alloc)?;
+    block.bytes_mut().fill(byte);
+    put(dev, at, &block)
+}
+
+// Writes a block.
+fn put(dev: &mut MemoryDevice, at: u64, block: &Block) -> Result<(), Fail> {
     if at >= dev.blocks()? {
         return Err(Fail::from("the device has no such block"));
     }
-    dev.write(BlockNo(at), &block)?;
+    dev.write(BlockNo(at), block)?;
     Ok(())
 }
 

@@ -1,4 +1,5 @@
-//! Trees with a file: /a has 16,384 bytes in five leaves, each full but for the last: blocks 23 to 27.
+//! Trees with a file: /a has 16,384 bytes in five leaves, each full but for the last: blocks 23 to
+//! 27.
 
 use crate::items::{Item, entry, pointer, stat, tail};
 use crate::nodes::{empty_device, lay};
@@ -84,8 +85,8 @@ fn pointers(alloc: Global) -> Result<Vec<Item>, Fail> {
     Ok(items)
 }
 
-// So many pointers to block 40, which is no node, behind all keys of the file; those of a higher level come behind
-// those of a lower one.
+// So many pointers to block 40, which is no node, behind all keys of the file; those of a higher
+// level come behind those of a lower one.
 fn add_others(alloc: Global, items: &mut Vec<Item>, level: u8, count: u64) -> Result<(), Fail> {
     for i in 0..count {
         let key = Key {
@@ -96,8 +97,8 @@ fn add_others(alloc: Global, items: &mut Vec<Item>, level: u8, count: u64) -> Re
     Ok(())
 }
 
-/// The file below a twig with room, and so many further levels above it, each of one node with one pointer: the nodes
-/// are blocks 22, and 30 and above.
+/// The file below a twig with room, and so many further levels above it, each of one node with one
+/// pointer: the nodes are blocks 22, and 30 and above.
 pub fn with_room(alloc: Global, levels: u8) -> Result<(MemoryDevice, Root), Fail> {
     let mut dev = empty_device(alloc)?;
     first_leaf(alloc, &mut dev)?;
@@ -118,8 +119,9 @@ pub fn with_room(alloc: Global, levels: u8) -> Result<(MemoryDevice, Root), Fail
     Ok((dev, root))
 }
 
-/// The first leaf of the file below full nodes: of each of these levels, from 2 on, one with 88 pointers. They are
-/// blocks 24 and above, the twig first; all pointers but the first of each name block 40.
+/// The first leaf of the file below full nodes: of each of these levels, from 2 on, one with 88
+/// pointers. They are blocks 24 and above, the twig first; all pointers but the first of each name
+/// block 40.
 ///
 /// # Errors
 /// Where there is no memory, or the device has no such block.

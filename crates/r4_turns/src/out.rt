@@ -4,7 +4,9 @@ ghost use Rattle.std.specs.Prelude.{◌≡◌};
 
 use r4_base::{NodeId, Oid, TaskId, TxnNo};
 use r4_cell::{Cells, Fresh};
+use r4_content::Seen;
 use std::marker::Model;
+use std::sync::Arc;
 
 /// Nodes in their order, which contracts see as their list.
 #[derive(Drop)]
@@ -45,7 +47,8 @@ pub struct Numbers {
 }
 
 /// A command that is out as a task: its transaction, the cells that it was given to read and to write, the nodes that are
-/// kept for it, its numbers, and for how many cells and claims on blocks there is room for it.
+/// kept for it, what was seen at the keys that the command asks for, its numbers, and for how many cells and claims on
+/// blocks there is room for it.
 #[derive(Drop)]
 pub struct Out {
     pub task: TaskId,
@@ -53,6 +56,7 @@ pub struct Out {
     pub reads: Cells,
     pub writes: Cells,
     pub pins: Nodes,
+    pub seen: Arc<Seen>,
     pub numbers: Numbers,
     pub cells: u64,
     pub claims: u64,

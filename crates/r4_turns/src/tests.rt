@@ -3,10 +3,11 @@
 use crate::{Nodes, Numbers, Out, Pending, Turns};
 use r4_base::{Memory, Oid, ScriptNo, TaskId, TxnNo};
 use r4_cell::{Cells, Fresh};
-use r4_content::Command;
+use r4_content::{Command, Seen};
 use r4_script::{Commands, Job, Script, Scripts};
 use std::alloc::Global;
 use std::process::Abort;
+use std::sync::Arc;
 use std::test::Fail;
 
 // So many scripts of so many commands each.
@@ -75,13 +76,19 @@ fn order_of_serving(rt: HostRuntime) -> Result<(), Fail> {
 }
 
 // A task that is out.
-fn out_of(alloc: Global, task: u32) -> Out {
-    Out {
+fn out_of(alloc: Global, task: u32) -> Result<Out, Memory> {
+    Ok(Out {
         task: TaskId(task),
         txn: TxnNo(1),
         reads: Cells::new(alloc),
         writes: Cells::new(alloc),
         pins: Nodes::from_vec(Vec::new(alloc)),
+        seen: Arc::new(
+            alloc,
+            Seen {
+                parts: Vec::new(alloc),
+            },
+        )?,
         numbers: Numbers {
             oid: Oid(42),
             fresh: Fresh {
@@ -91,18 +98,19 @@ fn out_of(alloc: Global, task: u32) -> Out {
         },
         cells: 0,
         claims: 0,
-    }
+    })
 }
 
 // The next command of a script goes out, comes back, goes out again and is answered.
-fn out_and_back(rt: &impl Abort, alloc: Global, turns: &mut Turns, s: ScriptNo) {
+fn out_and_back(rt: &impl Abort, turns: &mut Turns, s: ScriptNo, out: Out) {
     assert!(rt; s.0 > 0 && s.0 <= turns.count());
     assert!(rt; turns.out(s).is_none());
     assert!(rt; !turns.is_answered_whole(s));
     let answered = turns.answered(s);
-    turns.take_out(s, out_of(alloc, 7));
-    assert_eq!(rt; turns.pending(s), Pending::Out { task: TaskId(7) });
-    assert_eq!(rt; turns.find(TaskId(7)).map(|found| found.0), Some(s.0));
+    let task = out.task;
+    turns.take_out(s, out);
+    assert_eq!(rt; turns.pending(s), Pending::Out { task });
+    assert_eq!(rt; turns.find(task).map(|found| found.0), Some(s.0));
     let back = turns.give_back(s);
     assert_eq!(rt;
         turns.numbers(s).map(|kept| kept.oid.0),
@@ -127,6 +135,6 @@ fn a_pushed_command(rt: HostRuntime) -> Result<(), Fail> {
     assert_eq!(rt; turns.pending(second), Pending::Next);
     turns.enter(second, TxnNo(1), true);
     assert_eq!(rt; turns.open(second).map(|open| open.txn.0), Some(1));
-    out_and_back(&rt, rt.alloc(), &mut turns, second);
+    out_and_back(&rt, &mut turns, second, out_of(rt.alloc(), 7)?);
     Ok(())
 }

@@ -1,5 +1,5 @@
 -- How a commit begins and ends.
-use Rattle.std.proofs.Common.{◌≡◌, inl, ℕ, ◌≤◌, List, [], ◌∷◌, take, refl, sym, ◌∙◌, ap, subst, arith, length}
+use Rattle.std.proofs.Common.{◌≡◌, inl, ℕ, ◌≤◌, List, [], ◌∷◌, take, sym, ◌∙◌, ap, subst, arith, length}
 use Rattle.std.proofs.lemmas.List.{take_all}
 use Rattle.r4_base.specs.Image.{Image, block_at, sector}
 use Rattle.r4_base.specs.Chain.{Txn, HasLog}

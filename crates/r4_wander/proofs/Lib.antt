@@ -9,5 +9,6 @@ pub mod Cutting
 pub mod Written
 pub mod Ending
 pub mod Boundary
+pub mod Found
 pub mod Instance
 pub mod Fitting

@@ -21,6 +21,10 @@ part plan (suc (suc zero)) = plan.homes
 part plan (suc (suc (suc zero))) = (20, plan.footer) ∷ []
 part plan (suc (suc (suc (suc more)))) = []
 
+-- a write falls on the block, in whichever part
+abbrev pub FallsOn : Parts → (block : ℕ) → Type 0
+FallsOn plan b = (p : ℕ) × IsTarget (part plan p) b
+
 -- the image as a part begins
 abbrev pub base_of : Parts → Image → ℕ → Image
 base_of plan base zero = base

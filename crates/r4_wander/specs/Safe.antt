@@ -1,5 +1,5 @@
 -- The plans for which a commit is safe, and what a crash then leaves (docs/commit.md, "Safe plans").
-use Rattle.std.specs.Prelude.{◌≡◌, ◌≢◌, ◌⊎◌, ℕ, zero, suc, ◌*◌, ◌<◌, ◌≤◌, List, [], ◌∷◌, length, Contains, All, Some}
+use Rattle.std.specs.Prelude.{◌≡◌, ◌≢◌, ◌⊎◌, ℕ, zero, suc, ◌*◌, ◌<◌, ◌≤◌, List, length, Contains, All, Some}
 use Rattle.r4_base.specs.Image.{AreDifferent, Image, IsImage, IsBlock, put_pairs}
 use Rattle.r4_base.specs.Log.{header_of, footer_of, head_of, head_block, record_of, record_block}
 use Rattle.r4_base.specs.Chain.{Txn, InRange, IsOriginalNumber, HasLog, SettlesTo, chain_pairs, originals, kept_blocks, committed, flushed}

@@ -1,13 +1,15 @@
 //! The writer of a commit, and its steps.
 
-ghost use Rattle.std.specs.Prelude.{ℕ, ◌≡◌, ◌≢◌, ◌+◌, ◌^◌, ◌<◌, ◌≤◌, length, OnOk, IfOk, IfSome, List};
+ghost use Rattle.std.specs.Prelude.{ℕ, ◌≡◌, ◌≢◌, ◌↔◌, ◌+◌, ◌^◌, ◌<◌, ◌≤◌, length, OnOk, IfOk, IfSome, IsTrue};
+ghost use Rattle.std.specs.Prelude.{List, MatchBool};
+ghost use Rattle.std.specs.List.Sorted.{IsNonDecreasingBy};
 ghost use Rattle.r4_base.specs.Image.{Image};
 ghost use Rattle.r4_base.specs.Chain.{Txn};
 ghost use Rattle.r4_base.specs.Value.{Content};
 ghost use Rattle.r4_base.specs.Volume.{HasVolume, Needs};
 ghost use Rattle.r4_outside.specs.Device.{Goes, HasCause, Writes, Spares, LeavesOnly, Rose, next};
 ghost use Rattle.r4_wander.specs.Torn.{IsTarget, IsTornBy};
-ghost use Rattle.r4_wander.specs.Parts.{base_of, IsOrderOf};
+ghost use Rattle.r4_wander.specs.Parts.{base_of, FallsOn, IsOrderOf};
 ghost use Rattle.r4_wander.specs.LogPlan.{first, parts_of, CanBeWritten};
 ghost use Rattle.r4_wander.specs.Needed.{SparesNeeded};
 ghost use Rattle.r4_wander.specs.Safe.{IsEncoded, ByPart};
@@ -39,13 +41,16 @@ pub struct Writer {
 
 impl Model for Writer {
     ghost use Rattle.std.specs.Prelude.{◌≤◌, length};
+    ghost use Rattle.std.specs.List.Sorted.{IsNonDecreasingBy};
     ghost use Rattle.r4_wander.specs.Progress.{Progress, under_way};
 
     ghost Value = { Progress };
 
     ghost view = { λ w. record { plan = record { first = w.first.items; header = w.header; homes = w.homes.items; footer = w.footer }; part = w.part; done = w.done } };
 
-    ghost invariant = { λ w. w.done ≤ length (under_way (record { plan = record { first = w.first.items; header = w.header; homes = w.homes.items; footer = w.footer }; part = w.part; done = w.done })) };
+    ghost invariant = { λ w. (w.done ≤ length (under_way (record { plan = record { first = w.first.items; header = w.header; homes = w.homes.items; footer = w.footer }; part = w.part; done = w.done })))
+        × IsNonDecreasingBy (λ v. v.0) w.first.items
+        × IsNonDecreasingBy (λ v. v.0) w.homes.items };
 }
 
 impl Writer {
@@ -74,6 +79,17 @@ impl Writer {
             part: 0,
             done: 0,
         })
+    }
+
+    /// Whether a write of the commit falls on a block, in whichever part: made or not. No memory.
+    pub fn falls_on(&self, block: BlockNo) -> bool
+        ensures { MatchBool result
+            (FallsOn self.now.plan block.0) (FallsOn self.now.plan block.0 → ⊥) }
+    {
+        if is_among(self.first.as_slice(), block) || is_among(self.homes.as_slice(), block) {
+            return true;
+        }
+        block == HEADER_BLOCK || block == FOOTER_BLOCK
     }
 
     /// Makes from one to four writes and syncs, and no other device call: up to four writes of the part that is under way
@@ -198,4 +214,14 @@ impl Writer {
             _ => Stage::Footed,
         }
     }
+}
+
+/// Whether one of these writes, which rise, falls on a block.
+fn is_among(writes: &[Entry], block: BlockNo) -> bool
+    requires { IsNonDecreasingBy (λ w. w.0) writes.now }
+    ensures { IsTrue result ↔ IsTarget writes.now block.0 }
+{
+    writes
+        .binary_search_by_key(&block.0, |write| write.at)
+        .is_ok()
 }

@@ -18,10 +18,11 @@ pub returns : goal.returns
 returns c =
     let task = c.args.task.now in
     let told = c.in_ok-change.ensures in
-    let same : edits_of c.in_ok-edits.edits ≡ edits_for task = ap (λ (x : Ending). x.edits) c.in_ok-edits.ensures.ending in
+    let ending = rw c.deref.ensures at c.in_ok-edits.ensures.ending in
+    let same : edits_of c.in_ok-edits.edits ≡ edits_for task = ap (λ (x : Ending). x.edits) ending in
     record {
-      reply = ap (λ (x : Ending). x.reply) c.in_ok-edits.ensures.ending;
-      born = c.born.ensures ∙ ap (λ (x : Reply). if makes_object task.command && is_okay x then 1 else 0) (ap (λ (x : Ending). x.reply) c.in_ok-edits.ensures.ending);
+      reply = ap (λ (x : Ending). x.reply) ending;
+      born = c.born.ensures ∙ ap (λ (x : Reply). if makes_object task.command && is_okay x then 1 else 0) (ap (λ (x : Ending). x.reply) ending);
       gone = c.gone.ensures ∙ ap (λ (e : Edits). stats_in e.cuts) same;
       change = told.change;
       meets = λ b reads t r is. told.meets b reads t r

@@ -10,7 +10,8 @@ use Rattle.r4_build_testing.proofs.small.built.Goals as goal
 
 pub build-requires-clause-task : goal.build-requires-clause-task
 build-requires-clause-task g c κs within =
-    let yes : IsTrue c.in_ok-has_room.field-0 = grind (arith, common_steps, c.if-not-branch.false) in (
+    let yes : IsTrue c.in_ok-has_room.field-0 = grind (arith, common_steps, c.if-not-branch.false) in
+    rw (c.in_ok-new.ensures.ok, c.writes.view_is) (
       None,
       (
         [],

@@ -115,7 +115,8 @@ returns c =
           ∙ ap (λ (o : Option BlockNo). spot_of o c.args.next.now.root_block) (same c.args.next.now.root_block);
       planned = subst (λ (s : Super40). IsPlannedByBlock
           (placed_all c.args.space.now c.in_ok-answers.answers.items) c.plan_renamed.new.space c.args.atom
-          c.in_ok-renamed.renamed.items c.in_ok-answers.answers.items s c.args.prev c.in_ok-plan.plan) c.with_root-next.ensures
+          c.in_ok-renamed.renamed.items c.in_ok-answers.answers.items s c.args.prev c.in_ok-plan.plan)
+          c.with_root-next.ensures
           (subst (λ (u : Space). IsPlannedByBlock u c.plan_renamed.new.space c.args.atom
           c.in_ok-renamed.renamed.items c.in_ok-answers.answers.items next c.args.prev c.in_ok-plan.plan) placed
           (subst (λ (l : List Placed). IsPlannedByBlock c.choose.new.space c.plan_renamed.new.space c.args.atom

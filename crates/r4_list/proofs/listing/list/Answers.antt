@@ -8,10 +8,11 @@ use Rattle.r4_outside.specs.Device.{TellsReads}
 use Rattle.r4_list.specs.Listing.{IsListing}
 use Rattle.r4_outside.proofs.Lent.{lent_name}
 use Rattle.r4_outside.proofs.Moments.{goes_both}
+use Rattle.r4_search.proofs.FromDevice.{lent_stays}
 use Rattle.r4_search.specs.Pool.{LeavesDevice}
 use Rattle.r4_list.specs.Lists.{Answers, IsListFault, PrintsText}
 use Rattle.r4_list.proofs.Stages.{prints_same}
-use Rattle.r4_list.proofs.Listings.{SettlesBy, image_opened, lent_answers, lent_stays, log_answer, log_text, open_answer, open_text, opening_stays, same_super, settled_by, stays_both}
+use Rattle.r4_list.proofs.Listings.{SettlesBy, image_opened, lent_answers, log_answer, log_text, open_answer, open_text, opening_stays, same_super, settled_by, stays_both}
 use Rattle.r4_list.proofs.listing.list.Goals as goal
 
 pub returns-in-Err-clause-answers : goal.returns-in-Err-clause-answers

@@ -6,6 +6,8 @@ use Rattle.r4_print.proofs.printing.print_line.Goals as goal
 
 pub returns : goal.returns
 returns g c =
-    let text = c.as_slice.ensures.value ∙ (c.in_ok-line.ensures.ok ∙ ap (λ (l : List ℕ). l ++ entry_text c.args.entry.now) c.clear.ensures.items) in
+    let text = c.as_slice.ensures.value
+    ∙ (c.in_ok-line.ensures.ok
+    ∙ ap (λ (l : List ℕ). l ++ entry_text c.args.entry.now) c.clear.ensures.items) in
     subst (λ (l : List ℕ). Adds l (g.K.Sink.state c.args.out.now) (Ok tt) (g.K.Sink.state c.write.new.self)) text
     (written c.as_slice.result.now _ _ c.in_ok-write.ensures)

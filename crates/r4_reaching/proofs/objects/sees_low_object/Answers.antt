@@ -10,7 +10,8 @@ returns-then-is_low_object c =
 
 pub loop-part-preserved : goal.loop-part-preserved
 loop-part-preserved c =
-    numbers_so_far c.args.seen.now c.loop-part.part-index c.part-item.result c.loop-part-test.true c.part-item.is c.loop-part.invariant
+    numbers_so_far c.args.seen.now c.loop-part.part-index c.part-item.result c.loop-part-test.true
+    c.part-item.is c.loop-part.invariant
     (good_numbers c.is_low_object.result (part_pairs c.part-item.result) c.if-is_low_object.false
     c.is_low_object.ensures)
 

@@ -12,7 +12,7 @@ returns g c =
     let d = g.E.Device.state in
     let parts = c.args.parts.now in
     let q = c.reach_in_leaves-pool.result.0 in
-    let p = parts_seen parts.buffer.now parts.locks.now parts.atoms.now parts.root parts.blocks in
+    let p = parts_seen parts in
     let after = device_state (reading_places (root_name q.root) q.buffer.now q.blocks) (d q.dev) in
     let before : device_state (reading_places (root_name c.new-pool.result.root) c.new-pool.result.buffer.now
     c.new-pool.result.blocks) (d c.new-pool.result.dev) ≡ read_over p (d c.args.dev) =

@@ -5,5 +5,4 @@ use Rattle.r4_serve.proofs.stray.stray_block.Given as goal
 
 abbrev pub invariant-loop-cell : goal.invariant-loop-cell
 invariant-loop-cell l =
-    NoneStray (parts_seen l.fn.parts.buffer.now l.fn.parts.locks.now l.fn.parts.atoms.now l.fn.parts.root
-    l.fn.parts.blocks) (map (λ c. arc_value c) (take l.cell-index l.fn.cells))
+    NoneStray (parts_seen l.fn.parts) (map (λ c. arc_value c) (take l.cell-index l.fn.cells))

@@ -21,7 +21,8 @@ returns-in_err-path-clause-err g c =
     (g.P.Pool.state c.cover.new.pool)) c.from_residual.result c.in_err-path.field-0.0 c.from_residual.ensures.1
     (stops_one (rank c.args.key) (g.P.Pool.state c.args.pool.now)
     (g.P.Pool.state c.cover.new.pool) c.in_err-path.field-0.0 c.requires.from c.requires.below
-    c.in_err-path.ensures.goes (way_stops c.args.root.now (rank c.args.key) _ c.in_err-path.field-0.0 _ c.requires.from c.requires.below
+    c.in_err-path.ensures.goes (way_stops c.args.root.now (rank c.args.key) _ c.in_err-path.field-0.0 _
+    c.requires.from c.requires.below
     c.in_err-path.ensures.err))
 
 pub returns-clause-touches : goal.returns-clause-touches

@@ -3,7 +3,8 @@ use Rattle.r4_base.specs.declared.things.NodeId.{NodeId}
 use Rattle.std.proofs.Common.{List}
 use Rattle.r4_buffer.specs.Changed.{cleaned, in_turn}
 use Rattle.r4_buffer.specs.Seen.{buffered}
-use Rattle.r4_core.proofs.Advanced.{at_footer, at_header, at_quiet, footed_now, for_plan, headed_now, written_now}
+use Rattle.r4_core.proofs.Advanced.{at_footer, at_header, at_quiet, footed_now, for_plan, headed_now, same_volume}
+use Rattle.r4_core.proofs.Advanced.{written_now}
 use Rattle.r4_core.proofs.Footing.{at_end, keeps_footed, may_clean}
 use Rattle.r4_core.proofs.Heading.{at_homes, keeps_headed, may_commit}
 use Rattle.r4_core.proofs.Parting.{keeps_part}
@@ -17,11 +18,11 @@ invariant_of-self g c =
     let x = writes_as _ asked c.in-Some.commit c.in-Some-work.plan (sym c.in-Some.ensures.value) c.in-Some-work.is in
     keeps_failed c.on_disk_law.ensures _ (g.D.Device.state c.self.inside.dev) (g.D.Device.state c.step.new.dev) _
     c.in-Some.commit c.in-Some-work.plan c.step.new.dev c.self.invariant x c.in-Err.ensures.goes
-    c.in-Err.ensures.settles c.take.new.self c.clock-clock.result c.faults-faults.result c.push.new.self
-    c.take.ensures.after c.clock-clock.ensures c.faults-faults.ensures c.push.ensures
+    c.in-Err.ensures.settles c.take.new.self c.fail.new.broken c.fail.new.trace c.take.ensures.after
+    c.fail.ensures.broken c.fail.ensures.told
 
-pub commit-requires-clause-atom : goal.commit-requires-clause-atom
-commit-requires-clause-atom g c =
+pub head-requires-clause-atom : goal.head-requires-clause-atom
+head-requires-clause-atom g c =
     let asked = rw (← c.self.view_is) at c.requires in
     let x = writes_as _ asked c.in-Some.commit c.in-Some-work.plan (sym c.in-Some.ensures.value) c.in-Some-work.is in
     let at = at_header _ _ _ c.in-Some.commit c.in-Some-work.plan c.self.invariant x c.step.new.plan
@@ -29,8 +30,8 @@ commit-requires-clause-atom g c =
     c.in-Ok.stage c.in-Ok.ensures.stage c.in-Headed.is in
     (may_commit _ _ _ c.in-Some.commit c.in-Some-work.plan c.self.invariant x at).0
 
-pub commit-requires-clause-sealed : goal.commit-requires-clause-sealed
-commit-requires-clause-sealed g c =
+pub head-requires-clause-sealed : goal.head-requires-clause-sealed
+head-requires-clause-sealed g c =
     let asked = rw (← c.self.view_is) at c.requires in
     let x = writes_as _ asked c.in-Some.commit c.in-Some-work.plan (sym c.in-Some.ensures.value) c.in-Some-work.is in
     let at = at_header _ _ _ c.in-Some.commit c.in-Some-work.plan c.self.invariant x c.step.new.plan
@@ -55,12 +56,11 @@ invariant_of-self-in-Headed g c =
       reads = c.in-Ok.ensures.reads;
       stands = c.in-Ok.ensures.stands;
     }) (let rose = c.in-Ok.ensures.clock.0 in omega (arith, rose))
-    c.clock-clock-in-Headed.result
-    c.commit.new.self c.push-in-Headed.new.self c.clock-clock-in-Headed.ensures c.commit.ensures
-    c.push-in-Headed.ensures
+    c.clock-clock.result c.head.new.atoms c.head.new.trace c.clock-clock.ensures c.head.ensures.atoms
+    c.head.ensures.told
 
-pub clean-requires-clause-atom : goal.clean-requires-clause-atom
-clean-requires-clause-atom g c =
+pub foot-requires-clause-atom : goal.foot-requires-clause-atom
+foot-requires-clause-atom g c =
     let asked = rw (← c.self.view_is) at c.requires in
     let x = writes_as _ asked c.in-Some.commit c.in-Some-work.plan (sym c.in-Some.ensures.value) c.in-Some-work.is in
     let at = at_footer _ _ _ c.in-Some.commit c.in-Some-work.plan c.self.invariant x c.step.new.plan
@@ -68,8 +68,8 @@ clean-requires-clause-atom g c =
     c.in-Ok.stage c.in-Ok.ensures.stage c.in-Footed.is in
     (may_clean _ _ _ c.in-Some.commit c.in-Some-work.plan c.self.invariant x at).0
 
-pub clean-requires-clause-sealed : goal.clean-requires-clause-sealed
-clean-requires-clause-sealed g c =
+pub foot-requires-clause-sealed : goal.foot-requires-clause-sealed
+foot-requires-clause-sealed g c =
     let asked = rw (← c.self.view_is) at c.requires in
     let x = writes_as _ asked c.in-Some.commit c.in-Some-work.plan (sym c.in-Some.ensures.value) c.in-Some-work.is in
     let at = at_footer _ _ _ c.in-Some.commit c.in-Some-work.plan c.self.invariant x c.step.new.plan
@@ -93,13 +93,13 @@ invariant_of-self-in-Footed-1 g c =
       next = c.in-Ok.ensures.next;
       reads = c.in-Ok.ensures.reads;
       stands = c.in-Ok.ensures.stands;
-    }) c.clean-in-Footed.new.self
-    (λ i. c.clean-in-Footed.ensures.buffered i
+    }) c.foot.new.buffer
+    (λ i. c.foot.ensures.cells i
     ∙ ap (λ (ids : List NodeId). in_turn cleaned ids i (buffered c.self.inside.buffer i)) c.as_slice.ensures)
-    c.clean-in-Footed.ensures.spare c.lawful-in-Footed.ensures c.lawful-in-Footed-2.ensures c.lawful.ensures
-    c.clean.new.self c.settle.new.self c.super40-super40.result.now c.head-prev.result c.take.new.self
-    c.clean.ensures.atoms c.clean.ensures.owners c.settle.ensures (c.super40-super40.ensures ∙ c.in-Ok.ensures.told.1)
-    (c.head-prev.ensures ∙ c.in-Ok.ensures.told.0) c.take.ensures.after
+    c.foot.ensures.spare c.lawful-in-Footed.ensures c.foot.ensures.lawful c.lawful.ensures
+    c.foot.new.atoms c.foot.new.space c.volume_by-self-inside.result c.take.new.self
+    c.foot.ensures.atoms c.foot.ensures.owners c.foot.ensures.space
+    (c.volume_by-self-inside.ensures ∙ same_volume c.in-Some-work.plan c.step.new.plan c.in-Ok.ensures.told) c.take.ensures.after
 
 pub invariant_of-self-in_default-stage : goal.invariant_of-self-in_default-stage
 invariant_of-self-in_default-stage g c =
@@ -138,8 +138,8 @@ returns-in-Headed-clause-advanced g c =
       next = c.in-Ok.ensures.next;
       reads = c.in-Ok.ensures.reads;
       stands = c.in-Ok.ensures.stands;
-    }) at) c.clock-clock-in-Headed.result c.commit.new.self c.push-in-Headed.new.self
-    c.clock-clock-in-Headed.ensures c.commit.ensures c.push-in-Headed.ensures))
+    }) at) c.clock-clock.result c.head.new.atoms c.head.new.trace c.clock-clock.ensures c.head.ensures.atoms
+    c.head.ensures.told))
 
 pub returns-in-Footed-clause-advanced : goal.returns-in-Footed-clause-advanced
 returns-in-Footed-clause-advanced g c =
@@ -161,13 +161,12 @@ returns-in-Footed-clause-advanced g c =
       next = c.in-Ok.ensures.next;
       reads = c.in-Ok.ensures.reads;
       stands = c.in-Ok.ensures.stands;
-    }) at) c.clean.new.self c.clean-in-Footed.new.self c.settle.new.self c.super40-super40.result.now
-    c.head-prev.result c.take.new.self c.clean.ensures.atoms c.settle.ensures
-    (c.super40-super40.ensures ∙ c.in-Ok.ensures.told.1) (c.head-prev.ensures ∙ c.in-Ok.ensures.told.0)
-    c.take.ensures.after
-    (λ i. c.clean-in-Footed.ensures.buffered i
+    }) at) c.foot.new.atoms c.foot.new.buffer c.foot.new.space c.volume_by-self-inside.result c.take.new.self
+    c.foot.ensures.atoms c.foot.ensures.space
+    (c.volume_by-self-inside.ensures ∙ same_volume c.in-Some-work.plan c.step.new.plan c.in-Ok.ensures.told) c.take.ensures.after
+    (λ i. c.foot.ensures.cells i
     ∙ ap (λ (ids : List NodeId). in_turn cleaned ids i (buffered c.self.inside.buffer i)) c.as_slice.ensures)
-    c.clean-in-Footed.ensures.spare))
+    c.foot.ensures.spare))
 
 pub returns-in_default-stage : goal.returns-in_default-stage
 returns-in_default-stage g c =

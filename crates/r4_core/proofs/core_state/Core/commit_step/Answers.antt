@@ -53,3 +53,11 @@ returns-then-writes-clause-comes_back g c = λ idle.
     (g.D.Device.state c.advance.new.self.dev) c.advance.new.self c.advance.result
     (sym c.is_some-writes.ensures ∙ c.if-writes.true) all).0 idle in
     absurd (cc (sym none ∙ c.in-Some.is)))
+
+pub returns-then-writes-clause-rests : goal.returns-then-writes-clause-rests
+returns-then-writes-clause-rests g c = λ idle.
+    (let all = rw (← c.self.view_is) at c.advance.ensures.advanced in
+    let none = (never_idle _ _ _ c.self.invariant c.in-Some.commit c.in-Some.is
+    (g.D.Device.state c.advance.new.self.dev) c.advance.new.self c.advance.result
+    (sym c.is_some-writes.ensures ∙ c.if-writes.true) all).0 idle in
+    absurd (cc (sym none ∙ c.in-Some.is)))

@@ -1,4 +1,4 @@
-use Rattle.r4_core.specs.FusingAll.{pairs_of}
+use Rattle.r4_others.specs.Others.{pairs_of}
 use Rattle.r4_core.proofs.FusingAll.{first_can, goes_later}
 use Rattle.r4_core.proofs.core_state.Core.fuse_all.Goals as goal
 

@@ -1,5 +1,5 @@
 use Rattle.std.proofs.Common.{length}
-use Rattle.r4_core.specs.FusingAll.{pairs_of}
+use Rattle.r4_others.specs.Others.{pairs_of}
 use Rattle.r4_core.proofs.FusingAll.{GoesAlong}
 use Rattle.r4_core.proofs.core_state.Core.fuse_all.Given as goal
 

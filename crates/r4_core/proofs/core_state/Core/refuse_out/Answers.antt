@@ -17,7 +17,8 @@ refuse_single-requires-clause-stands g c κs within =
     let own = rw (← c.self.view_is) at c.requires.own in
     let some = rw (← c.self.view_is) at c.requires.is_out in
     let back = rw (← c.self.view_is) at c.take_back.ensures in
-    (refusable_then _ _ _ c.self.invariant c.args.script.0 c.args.txn sound is own c.take_back.new.self some back).stands
+    (refusable_then _ _ _ c.self.invariant c.args.script.0 c.args.txn sound is own
+    c.take_back.new.self some back).stands
 
 pub refuse_single-requires-clause-room : goal.refuse_single-requires-clause-room
 refuse_single-requires-clause-room g c κs within =

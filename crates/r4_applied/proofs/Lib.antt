@@ -1,0 +1,9 @@
+pub mod OneBody
+pub mod Reached
+pub mod SeenThere
+pub mod BodiesThen
+pub mod BodyTold
+pub mod SpreadSpared
+pub mod KeysTouched
+pub mod Applied
+pub mod InSession

@@ -1,0 +1,2 @@
+mod Doable
+mod Answered

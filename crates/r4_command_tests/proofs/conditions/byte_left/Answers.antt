@@ -1,6 +1,0 @@
-use Rattle.r4_command_tests.proofs.FileAlone.{unlinked}
-use Rattle.r4_command_tests.proofs.Left.{but_padding, moved_but_padding, not_visible}
-use Rattle.r4_command_tests.proofs.conditions.byte_left.Goals as goal
-
-pub returns : goal.returns
-returns c = record { before = unlinked; moved = moved_but_padding; visible = not_visible; padding = but_padding }

@@ -1,0 +1,11 @@
+pub mod Blank
+pub mod NoLog
+pub mod OneWrite
+pub mod Atomic
+pub mod OneHome
+pub mod Tally
+pub mod GivenBack
+pub mod StillNeeded
+pub mod ToldEarly
+pub mod Counting
+pub mod Changed

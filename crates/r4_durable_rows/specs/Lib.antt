@@ -1,0 +1,4 @@
+pub mod Orders
+pub mod Spaces
+pub mod Counted
+pub mod OneChange

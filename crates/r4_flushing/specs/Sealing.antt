@@ -1,0 +1,150 @@
+-- What changes of a core as an open atom is sealed that owns cells (docs/core.md, "Sealing").
+use Rattle.std.specs.Prelude.{◌≡◌, ◌↔◌, ◌+◌, ◌-◌, ◌^◌, ◌<◌, ◌≤◌, ◌==◌, min, nat_eq, nat_le, ℕ, Bool}
+use Rattle.std.specs.Prelude.{List, [], ◌∷◌, map, Contains, Option, Some, None, true, false}
+use Rattle.std.specs.Prelude.{if◌then◌else◌}
+use Rattle.std.specs.Arc.{arc_value}
+use Rattle.std.specs.List.{IsDistinct, list_any}
+use Rattle.std.specs.Option.{option_map}
+use Rattle.r4_atoms.specs.Atoms.{AtomsSeen, IsOpenAtom, IsOpenIn, account_of, numbers, owner_of}
+use Rattle.r4_atoms.specs.Atoms.{owns, without_owner}
+use Rattle.r4_atoms.specs.declared.things.Account.{Account}
+use Rattle.r4_base.specs.declared.superblock.Super40.{Super40}
+use Rattle.r4_base.specs.declared.things.AtomNo.{AtomNo}
+use Rattle.r4_base.specs.declared.things.NodeId.{NodeId}
+use Rattle.r4_buffer.specs.Changed.{has_name}
+use Rattle.r4_buffer.specs.Seen.{BufferSeen, EntrySeen, buffered, cell_at}
+use Rattle.r4_cell.specs.Seen.{CellSeen}
+use Rattle.r4_cell.specs.declared.change.Root.{Root}
+use Rattle.r4_flush.specs.Prepared.{IsPrepared, cells_of}
+use Rattle.r4_flush.specs.declared.cells.RenamedCell.{RenamedCell}
+use Rattle.r4_flush.specs.declared.preparing.Prepared.{Prepared}
+use Rattle.r4_history.specs.Tables.{with_sealed}
+use Rattle.r4_space.specs.Space.{sealed_in}
+use Rattle.r4_trace.specs.declared.entry.Entry.TheVariants.{Sealed}
+use Rattle.r4_turns.specs.Turns.{TurnsSeen}
+use Rattle.r4_turns.specs.declared.out.Out.{Out}
+use Rattle.r4_turns.specs.declared.turn.Turn.{Turn}
+use Rattle.r4_kept.specs.History.{owed}
+use Rattle.r4_kept.specs.Steps.{with_entry}
+use Rattle.r4_kept.specs.View.{CoreSeen}
+
+-- ---- the superblock to come
+
+-- The root pair of what stands under the atom: that of the tree of all atoms exactly where the atom
+-- owns the root's cell, else the committed one.
+abbrev pub root_under : {D : Type 0} → CoreSeen D → (atom : ℕ) → Root
+root_under c a =
+    if owns c.atoms a c.tree.id.0 then c.tree else
+    record {
+      id = record { 0 = c.volume.super40.root_block };
+      height = c.volume.super40.tree_height;
+    }
+
+-- how many objects there are with what the atom made and took away; the count stands still at
+-- 2^64 - 1, which no volume comes to
+abbrev pub files_with : (files : ℕ) → Account → ℕ
+files_with files account = min (files + account.born) 18446744073709551615 - account.gone
+
+abbrev pub super_to_come : {D : Type 0} → CoreSeen D → (atom : ℕ) → Super40
+super_to_come c a = record c.volume.super40 {
+  root_block = (root_under c a).id.0;
+  tree_height = (root_under c a).height;
+  oid = c.numbers.next_oid;
+  file_count = files_with c.volume.super40.file_count (account_of c.atoms a);
+}
+
+-- ---- which atom is sealed
+
+-- The atom is open, none of its transactions is, and it owns cells in memory. Nothing is being
+-- committed, no call of the device failed, and there is room for its entries: that it is sealed,
+-- that it is committed, and that a call fails.
+pub record CanSeal {D : Type 0} (c : CoreSeen D) (a : AtomNo) : Type 0 where
+  pub sound : c.broken ≡ None
+  pub rest : c.commit ≡ None
+  pub opened : IsOpenAtom c.atoms a.0
+  pub closed : (t : ℕ) → IsOpenIn c.atoms a.0 t → ⊥
+  pub some : 0 < (account_of c.atoms a.0).cells
+  pub entries : owed c.turns + 3 ≤ c.trace.spare
+
+-- Just the cells in memory that the atom owns, each once.
+pub record AreCellsOf (b : BufferSeen) (s : AtomsSeen) (atom : ℕ) (cells : List CellSeen) : Type 0
+  where
+    pub different : IsDistinct nat_eq (map (λ (x : CellSeen). x.id) cells)
+    pub just : (x : CellSeen) → Contains cells x
+        ↔ ((owner_of s x.id ≡ Some atom) × (cell_at b x.id ≡ Some x))
+
+-- ---- new names
+
+-- a cell had this name
+abbrev pub was_named : List RenamedCell → ℕ → Bool
+was_named renamed i = list_any (λ (r : RenamedCell). r.was.0 == i) renamed
+
+-- what becomes of a name: that of the cell which had it, and all others stay
+abbrev pub name_then : List RenamedCell → ℕ → ℕ
+name_then [] i = i
+name_then (r ∷ rest) i = if r.was.0 == i then (arc_value r.cell).id else name_then rest i
+
+-- whose a node is then: the atom's, where a cell of it has that name; and no number of a new cell
+-- is the atom's any more
+abbrev pub owner_then : (atom : ℕ) → List RenamedCell → (node : ℕ) → Option ℕ → Option ℕ
+owner_then a renamed i was =
+    if has_name (cells_of renamed) i then Some a
+    else (if nat_le (2 ^ 63) i then without_owner a was else was)
+
+-- Each cell stands under its new name, with the uses of its old one and dirty as that was. A name
+-- that a cell had, and none has then, has nothing; and under each other name stands what stood
+-- there.
+pub record HaveNewNames (old new : BufferSeen) (renamed : List RenamedCell) : Type 0 where
+  pub there : (r : RenamedCell) (e : EntrySeen) → Contains renamed r
+      → buffered old r.was.0 ≡ Some e
+      → buffered new (arc_value r.cell).id ≡ Some (record e { cell = arc_value r.cell })
+  pub gone : (i : ℕ) → was_named renamed i ≡ true → has_name (cells_of renamed) i ≡ false
+      → buffered new i ≡ None
+  pub others : (i : ℕ) → was_named renamed i ≡ false → has_name (cells_of renamed) i ≡ false
+      → buffered new i ≡ buffered old i
+
+-- the nodes that are kept for tasks have their new names
+abbrev pub with_pins : (ℕ → ℕ) → Out → Out
+with_pins f out =
+    record out { pins = map (λ (n : NodeId). record { 0 = f n.0 }) out.pins }
+
+abbrev pub turn_with_pins : (ℕ → ℕ) → Turn → Turn
+turn_with_pins f turn = record turn { out = option_map (with_pins f) turn.out }
+
+abbrev pub turns_with_pins : (ℕ → ℕ) → TurnsSeen → TurnsSeen
+turns_with_pins f t = record t { turns = map (turn_with_pins f) t.turns }
+
+abbrev pub root_renamed : (ℕ → ℕ) → Root → Root
+root_renamed f root = record root { id = record { 0 = f root.id.0 } }
+
+-- ---- the step
+
+-- The atom is sealed, and the trace tells it. What was prepared for its cells, for the superblock
+-- to come and for the head that the journal header names takes effect: its cells have the names of
+-- their blocks, wherever they are named; the space has placed and held what it takes, and the atom
+-- is sealed there; and its commit is under way, with the nodes that the atom owns then and the
+-- plan. All else is as it was.
+pub record HasSealed
+    {D : Type 0} (old new : CoreSeen D) (a : AtomNo) (given : List CellSeen) (p : Prepared)
+    : Type 0
+  where
+    pub cells_are : AreCellsOf old.buffer old.atoms a.0 given
+    pub prepared : IsPrepared given a (super_to_come old a.0) old.volume.prev old.space p
+    pub txns : new.atoms.txns ≡ old.atoms.txns
+    pub states : new.atoms.atoms ≡ (with_sealed old.atoms a.0).atoms
+    pub owners : (i : ℕ) → owner_of new.atoms i
+        ≡ owner_then a.0 p.renamed.items i (owner_of old.atoms i)
+    pub captures : old.atoms.spare ≤ new.atoms.spare
+    pub cells : HaveNewNames old.buffer new.buffer p.renamed.items
+    pub places : old.buffer.spare ≤ new.buffer.spare
+    pub nodes : List NodeId
+    pub owned : (i : ℕ) → Contains (numbers nodes) i ↔ (owner_of new.atoms i ≡ Some a.0)
+    pub same : new ≡ record old {
+      turns = turns_with_pins (name_then p.renamed.items) old.turns;
+      atoms = new.atoms;
+      buffer = new.buffer;
+      space = sealed_in p.space a;
+      tree = root_renamed (name_then p.renamed.items) old.tree;
+      commit = Some (record { atom = a; nodes = nodes; work = Some p.plan });
+      trace = with_entry old.trace (Sealed a);
+    }

@@ -1,0 +1,13 @@
+//! Whether a task that comes back is the one that is out (docs/core.md, "Matching").
+#![tactic(auto)]
+
+mod cells;
+mod lists;
+mod matching;
+mod seen;
+
+pub use cells::Differs;
+pub use matching::{Mismatch, match_task};
+
+#[cfg(test)]
+mod tests;

@@ -1,0 +1,4 @@
+mod OfKind
+mod Read
+mod Found
+mod InTurn

@@ -1,0 +1,8 @@
+//! The other open atoms that own a node of a command's reach (docs/histories.md).
+#![tactic(auto)]
+
+mod finding;
+#[cfg(test)]
+mod tests;
+
+pub use finding::{Other, others};

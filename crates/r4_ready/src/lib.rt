@@ -1,0 +1,3 @@
+//! That a command which `ask` calls ready can go out as a task: what the core asks of one
+//! (docs/core.md, "Asking" and "Little steps").
+#![tactic(auto)]

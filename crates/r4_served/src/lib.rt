@@ -1,0 +1,8 @@
+//! A script's next command, work, is served (docs/core.md, "Serving").
+#![tactic(auto)]
+
+mod naming;
+mod refusing;
+mod serving;
+
+pub use serving::{Served, serve};

@@ -1,0 +1,2 @@
+mod FirstOwed
+mod Replayed

@@ -1,0 +1,5 @@
+pub mod Roomy
+mod Own
+mod SentOut
+pub mod Sent
+mod Buildable
