@@ -1,6 +1,6 @@
 //! A commit under way.
 
-ghost use Rattle.std.specs.Prelude.{ℕ, ◌≡◌, ◌≢◌, ◌+◌, ◌^◌, ◌<◌, ◌≤◌, OnOk, IfOk, List, MatchBool, true};
+ghost use Rattle.std.specs.Prelude.{ℕ, ◌≡◌, ◌≢◌, ◌+◌, ◌^◌, ◌<◌, ◌≤◌, OnOk, IfOk, List, MatchBool, map, true};
 ghost use Rattle.r4_base.specs.Image.{Image};
 ghost use Rattle.r4_base.specs.Chain.{Txn};
 ghost use Rattle.r4_base.specs.Value.{Content};
@@ -16,16 +16,17 @@ ghost use Rattle.r4_commit.specs.Plannable.{IsPlannable, is_spoken_for};
 ghost use Rattle.r4_commit.specs.Volumes.{VolumeByPart};
 ghost use Rattle.r4_outside.specs.Device.{Goes, HasCause, Spares, LeavesOnly, Rose};
 ghost use Rattle.r4_wander.specs.Parts.{FallsOn};
-ghost use Rattle.r4_wander.specs.Torn.{IsTarget};
+ghost use Rattle.r4_wander.specs.Torn.{IsTarget, targets};
 ghost use Rattle.r4_wander.specs.LogPlan.{first};
 ghost use Rattle.r4_wander.specs.Needed.{SparesNeeded};
 ghost use Rattle.r4_wander.specs.Safe.{ByPart};
 ghost use Rattle.r4_wander.specs.Progress.{under_way, FitOn, IsNext, stage_at, calls_left, ReadsAs, Stands, Commits};
 ghost use Rattle.r4_wander.specs.declared.plan.LogPlan.{LogPlan};
 
-use r4_base::{BlockNo, Super40};
+use r4_base::{BlockNo, Memory, Super40};
 use r4_outside::{Device, Failed};
 use r4_wander::{Stage, Writer};
+use std::alloc::Global;
 use std::marker::Model;
 
 /// The commit of an atom under way. Contracts see its writer's progress: what is written in each of its four parts, the
@@ -67,6 +68,14 @@ impl CommitPlan {
             (FallsOn self.now.work.plan block.0 → ⊥) }
     {
         self.writer.falls_on(block)
+    }
+
+    /// The blocks on which the writes of the first part fall, those of cells that get a block and those of the log, in
+    /// the order of the writes. The only error is want of memory.
+    pub fn first_blocks(&self, alloc: Global) -> Result<Vec<BlockNo>, Memory>
+        ensures { IfOk result (λ v. map (λ b. b.0) v.items ≡ targets self.now.work.plan.first) }
+    {
+        self.writer.first_blocks(alloc)
     }
 }
 

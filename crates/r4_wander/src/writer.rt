@@ -1,14 +1,14 @@
 //! The writer of a commit, and its steps.
 
 ghost use Rattle.std.specs.Prelude.{ℕ, ◌≡◌, ◌≢◌, ◌↔◌, ◌+◌, ◌^◌, ◌<◌, ◌≤◌, length, OnOk, IfOk, IfSome, IsTrue};
-ghost use Rattle.std.specs.Prelude.{List, MatchBool};
+ghost use Rattle.std.specs.Prelude.{List, MatchBool, map};
 ghost use Rattle.std.specs.List.Sorted.{IsNonDecreasingBy};
 ghost use Rattle.r4_base.specs.Image.{Image};
 ghost use Rattle.r4_base.specs.Chain.{Txn};
 ghost use Rattle.r4_base.specs.Value.{Content};
 ghost use Rattle.r4_base.specs.Volume.{HasVolume, Needs};
 ghost use Rattle.r4_outside.specs.Device.{Goes, HasCause, Writes, Spares, LeavesOnly, Rose, next};
-ghost use Rattle.r4_wander.specs.Torn.{IsTarget, IsTornBy};
+ghost use Rattle.r4_wander.specs.Torn.{IsTarget, IsTornBy, targets};
 ghost use Rattle.r4_wander.specs.Parts.{base_of, FallsOn, IsOrderOf};
 ghost use Rattle.r4_wander.specs.LogPlan.{first, parts_of, CanBeWritten};
 ghost use Rattle.r4_wander.specs.Needed.{SparesNeeded};
@@ -90,6 +90,18 @@ impl Writer {
             return true;
         }
         block == HEADER_BLOCK || block == FOOTER_BLOCK
+    }
+
+    /// The blocks on which the writes of the first part fall, those of cells that get a block and those of the log, in
+    /// the order of the writes. The only error is want of memory.
+    pub fn first_blocks(&self, alloc: Global) -> Result<Vec<BlockNo>, Memory>
+        ensures { IfOk result (λ v. map (λ b. b.0) v.items ≡ targets self.now.plan.first) }
+    {
+        let mut blocks = Vec::with_capacity(alloc, self.first.len())?;
+        for write in &self.first {
+            blocks.push(BlockNo(write.at))?;
+        }
+        Ok(blocks)
     }
 
     /// Makes from one to four writes and syncs, and no other device call: up to four writes of the part that is under way
