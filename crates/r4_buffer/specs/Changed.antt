@@ -74,6 +74,13 @@ renamed_by from c (Some was) i o =
 abbrev pub renamed : BufferSeen → (from : ℕ) → CellSeen → ℕ → Standing
 renamed b from c i = renamed_by from c (buffered b from) i (buffered b i)
 
+-- another cell stands in place of the one that has its name
+abbrev pub with_cell : CellSeen → EntrySeen → EntrySeen
+with_cell c e = record e { cell = c }
+
+abbrev pub renewed : CellSeen → ℕ → Standing → Standing
+renewed c i o = if c.id == i then option_map (with_cell c) o else o
+
 -- an entry that is not captured goes
 abbrev pub forgotten : BufferSeen → Standing → Standing
 forgotten b None = None

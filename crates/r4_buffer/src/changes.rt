@@ -4,7 +4,7 @@ ghost use Rattle.std.specs.Prelude.{◌≡◌, ◌≢◌, ℕ, ◌+◌, ◌-◌,
 ghost use Rattle.std.specs.Arc.{arc_value};
 ghost use Rattle.std.specs.Option.{option_map};
 ghost use Rattle.r4_buffer.specs.Seen.{EntrySeen, buffered, cells_of, is_captured, is_dirty_by};
-ghost use Rattle.r4_buffer.specs.Changed.{cleaned, dropped, forgotten, in_turn, laid_aside, marked, placed, renamed, replaced, taken, unused, used, uses_of};
+ghost use Rattle.r4_buffer.specs.Changed.{cleaned, dropped, forgotten, in_turn, laid_aside, marked, placed, renamed, renewed, replaced, taken, unused, used, uses_of};
 
 use crate::buffer::Buffer;
 use crate::entry::Entry;
@@ -181,6 +181,20 @@ impl Buffer {
             self.spare -= 1;
         } else {
             self.set(Entry::new(cell, uses, dirty));
+        }
+    }
+
+    /// A cell has another block now, and its name: it stands there in place of the one that had the
+    /// name, with the uses of that and dirty as that was. Where the name has no cell, all stays. It
+    /// takes no memory.
+    pub fn renew(&mut self, cell: Arc<Cell>)
+        ensures buffered { (i : ℕ) →
+            buffered self.new i ≡ renewed (arc_value cell) i (buffered self.old i) }
+        ensures spare { self.new.spare ≡ self.old.spare }
+    {
+        let id = cell.id();
+        if let Some(entry) = self.entries.get_mut(&id.0) {
+            entry.renew(cell);
         }
     }
 

@@ -63,4 +63,11 @@ impl Entry {
         self.uses = uses;
         self.dirty = dirty;
     }
+
+    /// Another cell stands in place of its own.
+    pub fn renew(&mut self, cell: Arc<Cell>)
+        ensures { self.new ≡ record self.old { cell = arc_value cell } }
+    {
+        self.cell = cell;
+    }
 }
