@@ -16,6 +16,7 @@ pub mod FusingAll
 mod Footing
 mod Emptied
 mod SealedEmpty
+mod SealedCells
 mod Sparing
 mod Advanced
 mod Stepped

@@ -120,6 +120,41 @@ impl<D: Device, R: Run> Core<D, R> {
         &self.atoms
     }
 
+    /// The cells in memory. No memory.
+    pub fn buffer(&self) -> &Buffer
+        ensures { result.now ≡ self.now.buffer }
+    {
+        &self.buffer
+    }
+
+    /// Which blocks are used, and for what. No memory.
+    pub fn space(&self) -> &SpaceMap
+        ensures { result.now ≡ self.now.space }
+    {
+        &self.space
+    }
+
+    /// What tasks hold. No memory.
+    pub fn locks(&self) -> &LockTable
+        ensures { result.now ≡ self.now.locks }
+    {
+        &self.locks
+    }
+
+    /// The committed superblock, and the head that the journal header names. No memory.
+    pub fn volume(&self) -> &Volume
+        ensures { result.now ≡ self.now.volume }
+    {
+        &self.volume
+    }
+
+    /// The root pair of the tree of all atoms.
+    pub fn tree(&self) -> Root
+        ensures { result ≡ self.now.tree }
+    {
+        self.tree
+    }
+
     /// The numbers that are drawn next.
     pub fn numbers(&self) -> Numbers
         ensures { result ≡ self.now.numbers }

@@ -5,12 +5,12 @@
 --     unknown, objects   nothing is begun, and no command is done
 --     holds     what is sealed and held is the atom's
 --     room      it is as it was
-use Rattle.std.proofs.Common.{◌≡◌, ◌≢◌, ◌⊎◌, inl, inr, ℕ, ◌+◌, ◌^◌, ◌<◌, ◌≤◌, ◌==◌, ◌||◌, not, Bool, true}
+use Rattle.std.proofs.Common.{◌≡◌, ◌≢◌, ◌⊎◌, inl, inr, ℕ, ◌+◌, ◌<◌, ◌≤◌, ◌==◌, ◌||◌, not, Bool, true}
 use Rattle.std.proofs.Common.{false, cond, List, [], ◌∷◌, ◌++◌, map, length, Option, Some, None, refl, sym}
 use Rattle.std.proofs.Common.{◌∙◌, ap, subst, arith}
-use Rattle.std.specs.Prelude.{All, IsSome, sum_by}
+use Rattle.std.specs.Prelude.{All, sum_by}
 use Rattle.std.specs.Option.{option_map}
-use Rattle.std.proofs.lemmas.Bool.{cases_lt, cond-false, eq-eqb, ne_eqb}
+use Rattle.std.proofs.lemmas.Bool.{cond-false, eq-eqb, ne_eqb}
 use Rattle.std.proofs.lemmas.List.{length-map}
 use Rattle.std.proofs.lemmas.List.Elements.{All-append, All-cons, All-contains, All-head, All-nil, All-tail}
 use Rattle.std.proofs.lemmas.List.Sorted.{length_permutation, sum_by-IsPermutation}
@@ -33,7 +33,7 @@ use Rattle.r4_place.proofs.ChosenCells.{rest_stays}
 use Rattle.r4_space.specs.Accounts.{EachOnce, account_at, dues, is_open, is_sealed, no_account, price_formula}
 use Rattle.r4_space.specs.Accounts.{price_of, with_atom, with_sealed as sealed_atoms, without_account}
 use Rattle.r4_space.specs.Lawful.{IsLawful}
-use Rattle.r4_space.specs.Space.{Space, claims_without, is_taken, sealed_in, unused_count}
+use Rattle.r4_space.specs.Space.{Space, claims_without, sealed_in, unused_count}
 use Rattle.r4_space.specs.declared.things.Account.{Account as SpaceAccount}
 use Rattle.r4_space.specs.declared.things.Claim.{Claim}
 use Rattle.r4_space.proofs.AccountLaws.{dues-without, once-without, other_account}
@@ -47,7 +47,9 @@ use Rattle.r4_kept.specs.Naming.{Naming}
 use Rattle.r4_kept.specs.View.{CoreSeen}
 use Rattle.r4_kept.specs.declared.parts.Commit.{Commit}
 use Rattle.r4_kept.proofs.Dones.{dones_stay}
-use Rattle.r4_flushing.specs.Sealing.{name_then, super_to_come, turns_with_pins, with_pins}
+use Rattle.r4_renaming.specs.Renaming.{name_then, turns_with_pins, with_pins}
+use Rattle.r4_flushing.specs.Sealable.{IsClear}
+use Rattle.r4_flushing.specs.Sealing.{super_to_come}
 use Rattle.r4_flushing.proofs.Facts as facts
 use Rattle.r4_flushing.proofs.Facts.{Sealing}
 use Rattle.r4_flushing.proofs.Paid.{held_left, log_blocks, placed_size, sealed_unused}
@@ -278,12 +280,8 @@ module _ {D : Type 0} (r : Naming) (d : State) (c new : CoreSeen D) (a : AtomNo)
     fresh_are = g.fresh_are;
   }
     where
-      stands : (i : ℕ) → owner_of c.atoms i ≡ Some n
-          → (is_taken c.space i ≡ true) ⊎ (2 ^ 63 ≤ i)
-      stands i own = elim (cases_lt i (2 ^ 63)) [
-        | inl low ↦ inl (z.sealable.used.owned i (subst IsSome (sym own) refl) low)
-        | inr high ↦ inr high
-      ]
+      stands : (i : ℕ) → owner_of c.atoms i ≡ Some n → IsClear c i → ⊥
+      stands i own clear = absurd (cc (sym clear.owner ∙ own))
 
   -- ---- what is held, and room
 

@@ -31,7 +31,8 @@ use Rattle.r4_kept.specs.Cells.{AreCells, AreNamedOnce, HasNames, IsName, IsStil
 use Rattle.r4_kept.specs.Naming.{Naming}
 use Rattle.r4_kept.specs.View.{CoreSeen, blocks_of}
 use Rattle.r4_kept.specs.declared.parts.Commit.{Commit}
-use Rattle.r4_flushing.specs.Sealing.{name_then, root_renamed, turns_with_pins, was_named}
+use Rattle.r4_renaming.specs.Renaming.{name_then, turns_with_pins, was_named}
+use Rattle.r4_flushing.specs.Sealing.{root_renamed}
 use Rattle.r4_flushing.proofs.Accepted.{has_names, names_blocks}
 use Rattle.r4_flushing.proofs.Facts as facts
 use Rattle.r4_flushing.proofs.Facts.{IsSame, Sealing}

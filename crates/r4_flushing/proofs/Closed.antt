@@ -12,13 +12,14 @@ use Rattle.r4_kept.specs.Cells.{NamesAt}
 use Rattle.r4_kept.specs.Kept.{IsKept}
 use Rattle.r4_kept.specs.Naming.{Naming}
 use Rattle.r4_kept.specs.View.{CoreSeen}
-use Rattle.r4_flushing.specs.Sealable.{AreNamedByOwn, NameEachOther}
+use Rattle.r4_closed.specs.Closed.{NameEachOther}
+use Rattle.r4_flushing.specs.Sealable.{AreNamedByOwn}
 use Rattle.r4_flushing.specs.Sealing.{AreCellsOf, CanSeal}
 use Rattle.r4_flushing.proofs.Preparing.{entry_of, is_given}
 
 module _ {D : Type 0} (r : Naming) (d : State) (c : CoreSeen D) (a : AtomNo) (given : List CellSeen)
     (k : IsKept r d c) (can : CanSeal c a) (cells : AreCellsOf c.buffer c.atoms a.0 given) (buffer : AreNamed c.buffer)
-    (closed : NameEachOther c given) where
+    (closed : NameEachOther c.tree.id.0 given) where
   module _ (i : ℕ) (n : Name) (h : NamesAt c.buffer i n) (high : 2 ^ 63 ≤ n.id) where
     names_own : owner_of c.atoms i ≡ Some a.0 → owner_of c.atoms n.id ≡ Some a.0
     names_own own =

@@ -5,7 +5,6 @@ use Rattle.std.specs.Prelude.{Contains, IsSome}
 use Rattle.std.specs.Arc.{arc_value}
 use Rattle.std.proofs.lemmas.Bool.{cases_Bool, cases_lt}
 use Rattle.r4_atoms.specs.Atoms.{owner_of}
-use Rattle.r4_base.proofs.Choices.{never_both}
 use Rattle.r4_base.specs.Bitmap.{is_fixed}
 use Rattle.r4_base.specs.declared.superblock.Super40.{Super40}
 use Rattle.r4_base.specs.declared.things.AtomNo.{AtomNo}
@@ -24,8 +23,9 @@ use Rattle.r4_kept.specs.Cells.{IsName}
 use Rattle.r4_kept.specs.Kept.{IsKept}
 use Rattle.r4_kept.specs.Naming.{Naming}
 use Rattle.r4_kept.specs.View.{CoreSeen, blocks_of}
-use Rattle.r4_flushing.specs.Sealable.{IsSealable}
-use Rattle.r4_flushing.specs.Sealing.{CanSeal, HasSealed, name_then, super_to_come, was_named}
+use Rattle.r4_flushing.specs.Sealable.{IsClear, IsSealable}
+use Rattle.r4_renaming.specs.Renaming.{name_then, was_named}
+use Rattle.r4_flushing.specs.Sealing.{CanSeal, HasSealed, super_to_come}
 use Rattle.r4_flushing.proofs.NewNames as names
 use Rattle.r4_flushing.proofs.Preparing as preparing
 
@@ -37,7 +37,7 @@ pub record Sealing
     pub kept : IsKept r d c
     pub can : CanSeal c a
     pub has : HasSealed c new a given p
-    pub sealable : IsSealable c new a given
+    pub sealable : IsSealable c new a given p
 
 module _ {D : Type 0} (r : Naming) (d : State) (c new : CoreSeen D) (a : AtomNo) (given : List CellSeen) (p : Prepared)
     (z : Sealing r d c new a given p) where
@@ -83,7 +83,7 @@ module _ {D : Type 0} (r : Naming) (d : State) (c new : CoreSeen D) (a : AtomNo)
       (λ block. (
         subst (λ (n : ℕ). y.id < n) (sym count) block.0,
         subst (λ (n : ℕ). is_fixed n y.id ≡ false) (sym count) block.1,
-        z.sealable.used.owned y.id (subst IsSome (sym (owned y has)) refl) low,
+        z.sealable.own y.id (owned y has) low,
       ))
       (λ fresh. (let high = fresh.0 in absurd (omega (arith, low, high)))) (own_name y has)
 
@@ -210,32 +210,27 @@ module _ {D : Type 0} (r : Naming) (d : State) (c new : CoreSeen D) (a : AtomNo)
       → buffered new.buffer i ≡ buffered c.buffer i
   same_there i miss other = z.has.cells.others i other miss
 
-  -- ---- who stands on a used block has no new name
+  -- ---- who stands on a block keeps it
 
-  -- a block that is used has a new name only where a cell of the atom keeps it
-  pub used_kept : (i : ℕ) → is_taken c.space i ≡ true → has_name (cells_of rs) i ≡ true
-      → (y : CellSeen) × Contains given y × (y.id ≡ i)
-  used_kept i taken hit =
-      let (y, has, named) = named_given i hit in
-      elim (cases_lt y.id (2 ^ 63)) [
-        | inl low ↦ (y, has, sym (old_stays y.id low) ∙ named)
-        | inr high ↦
-            absurd (never_both (is_taken c.space i) taken
-            (subst (λ (j : ℕ). is_taken c.space j ≡ false) named (fresh_clear y has high)))
-      ]
+  -- nothing stands on a block that a new cell of the atom gets
+  pub gets_clear : (y : CellSeen) → Contains given y → 2 ^ 63 ≤ y.id → IsClear c (f y.id)
+  gets_clear y has high =
+      let (q, in_rs, made) = comes_to y has in
+      subst (IsClear c) made.cell.id
+      (z.sealable.clear.renamed q in_rs (subst (λ (j : ℕ). 2 ^ 63 ≤ j) (sym made.was) high))
 
-  -- a node that another atom owns, or none, and that is used, or has no block, keeps what it has
-  pub other_misses : (i : ℕ) → (owner_of c.atoms i ≡ Some a.0 → ⊥) → (is_taken c.space i ≡ true) ⊎ (2 ^ 63 ≤ i)
+  -- a node that another atom owns, or none, and that is not clear, keeps what it has
+  pub other_misses : (i : ℕ) → (owner_of c.atoms i ≡ Some a.0 → ⊥) → (IsClear c i → ⊥)
       → (has_name (cells_of rs) i ≡ false) × (was_named rs i ≡ false)
   other_misses i not why = (
     elim (cases_Bool (has_name (cells_of rs) i)) [
       | inl hit ↦
-          absurd (⊎_elim
-          (λ taken. (let (y, has, same) = used_kept i taken hit in
-          not (ap (owner_of c.atoms) (sym same) ∙ owned y has)))
-          (λ high. (let (y, has, same) = named_given i hit in
-          let low = new_low y has in
-          absurd (omega (arith, high, low, same)))) why)
+          (let (y, has, named) = named_given i hit in
+          elim (cases_lt y.id (2 ^ 63)) [
+            | inl low ↦
+                absurd (not (ap (owner_of c.atoms) (sym named ∙ old_stays y.id low) ∙ owned y has))
+            | inr high ↦ absurd (why (subst (IsClear c) named (gets_clear y has high)))
+          ])
       | inr miss ↦ miss
     ],
     elim (cases_Bool (was_named rs i)) [

@@ -29,7 +29,7 @@ use Rattle.r4_kept.specs.Steps.{with_entry}
 use Rattle.r4_kept.specs.View.{CoreSeen, committing, tables_of}
 use Rattle.r4_kept.specs.declared.parts.Commit.{Commit}
 use Rattle.r4_kept.proofs.Owing.{owes_two}
-use Rattle.r4_flushing.specs.Sealing.{name_then, turns_with_pins}
+use Rattle.r4_renaming.specs.Renaming.{name_then, turns_with_pins}
 use Rattle.r4_flushing.proofs.Facts.{Sealing}
 use Rattle.r4_flushing.proofs.Pins.{drawn_then, owed_then, told_then}
 use Rattle.r4_flushing.proofs.SealedAtoms.{committed_then}

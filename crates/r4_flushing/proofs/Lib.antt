@@ -22,5 +22,6 @@ pub mod Memory
 pub mod Meaning
 pub mod Sealed
 pub mod Preparing
-pub mod Besides
 pub mod Closed
+pub mod Renames
+pub mod Keeping

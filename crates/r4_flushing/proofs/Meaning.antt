@@ -71,7 +71,8 @@ use Rattle.r4_kept.specs.Story.{Story}
 use Rattle.r4_kept.specs.View.{CoreSeen, blocks_of, root_seen}
 use Rattle.r4_kept.specs.declared.parts.Commit.{Commit}
 use Rattle.r4_flushing.specs.Sealable.{CountFits}
-use Rattle.r4_flushing.specs.Sealing.{name_then, root_renamed, turns_with_pins, was_named}
+use Rattle.r4_renaming.specs.Renaming.{name_then, turns_with_pins, was_named}
+use Rattle.r4_flushing.specs.Sealing.{root_renamed}
 use Rattle.r4_flushing.proofs.Accounts.{lawful_sealed, still}
 use Rattle.r4_flushing.proofs.Facts as facts
 use Rattle.r4_flushing.proofs.Facts.{Sealing}
@@ -252,7 +253,7 @@ module _ {D : Type 0} (r : Naming) (d : State) (c new : CoreSeen D) (a : AtomNo)
         cell_marked b.blocks work content (flush.rests r d c new a given p z b named) i n store in
         let taken = marked_taken r d c new a given p z b named disk i marked in (
           cell,
-          λ part has. spared r d c new a given p z disk i part taken
+          λ part has. spared r d c new a given p z disk i part (inr taken)
               (subst (λ (k : ℕ). is_fixed k i ≡ false) (facts.count r d c new a given p z) free) miss has,
         ))
   ]

@@ -34,7 +34,7 @@ use Rattle.r4_wander.proofs.Members.{in_map}
 use Rattle.r4_kept.specs.Meaning.{HasMeaning, if_open}
 use Rattle.r4_kept.specs.Naming.{Naming, job_named, names_in}
 use Rattle.r4_kept.specs.View.{CoreSeen}
-use Rattle.r4_flushing.specs.Sealing.{owner_then}
+use Rattle.r4_renaming.specs.Renaming.{owner_then}
 use Rattle.r4_flushing.proofs.Facts as facts
 use Rattle.r4_flushing.proofs.Facts.{Sealing}
 use Rattle.r4_flushing.proofs.Flush as flush

@@ -27,7 +27,7 @@ use Rattle.r4_flush.specs.declared.cells.RenamedCell.{RenamedCell}
 use Rattle.r4_flush.specs.declared.preparing.Prepared.{Prepared}
 use Rattle.r4_flush.proofs.Choosing.{made_from}
 use Rattle.r4_done.proofs.Named.{has_one, one_named}
-use Rattle.r4_flushing.specs.Sealing.{name_then, was_named}
+use Rattle.r4_renaming.specs.Renaming.{name_then, was_named}
 use Rattle.r4_flushing.proofs.Chosen.{fresh_free, fresh_name, not_fixed, old_name, same_fresh}
 use Rattle.r4_flushing.proofs.Counting.{different_from}
 

@@ -24,7 +24,7 @@ use Rattle.r4_history.specs.Tables.{Tables, asked, next_at, place_at, place_of}
 use Rattle.r4_history.specs.Told.{IsTold}
 use Rattle.r4_kept.specs.History.{owed, owed_by, owed_in}
 use Rattle.r4_kept.specs.TasksOut.{pins_in, pins_on}
-use Rattle.r4_flushing.specs.Sealing.{turn_with_pins, turns_with_pins, with_pins}
+use Rattle.r4_renaming.specs.Renaming.{turn_with_pins, turns_with_pins, with_pins}
 
 module _ (f : ℕ → ℕ) where
   -- ---- one turn

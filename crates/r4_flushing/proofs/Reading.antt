@@ -1,5 +1,5 @@
 -- What can be read once the atom's cells have their new names.
-use Rattle.std.proofs.Common.{◌≡◌, ◌⊎◌, inl, inr, ⊎_elim, ℕ, ◌^◌, ◌≤◌, ◌&&◌, true, List}
+use Rattle.std.proofs.Common.{◌≡◌, ◌⊎◌, inl, inr, ⊎_elim, ℕ, ◌^◌, ◌&&◌, true, List}
 use Rattle.std.proofs.Common.{Option, Some, None, refl, sym, ◌∙◌, ap, subst}
 use Rattle.std.specs.Prelude.{Contains, IsSome, nat_le, nat_lt}
 use Rattle.std.specs.Arc.{arc_value}
@@ -16,12 +16,11 @@ use Rattle.r4_flushed.proofs.FlushedCells.{FitsOnDisk}
 use Rattle.r4_flush.specs.declared.cells.RenamedCell.{RenamedCell}
 use Rattle.r4_flush.specs.declared.preparing.Prepared.{Prepared}
 use Rattle.r4_outside.specs.Device.{State}
-use Rattle.r4_space.specs.Space.{is_taken}
 use Rattle.r4_kept.specs.Cells.{AreReadable}
 use Rattle.r4_kept.specs.Naming.{Naming}
 use Rattle.r4_kept.specs.View.{CoreSeen, blocks_of}
 use Rattle.r4_kept.proofs.Readable.{captured_dirty}
-use Rattle.r4_flushing.specs.Sealing.{was_named}
+use Rattle.r4_renaming.specs.Renaming.{was_named}
 use Rattle.r4_flushing.proofs.Accepted.{names_blocks}
 use Rattle.r4_flushing.proofs.Facts as facts
 use Rattle.r4_flushing.proofs.Facts.{IsRenamed, IsSame, Sealing}
@@ -55,21 +54,17 @@ module _ {D : Type 0} (r : Naming) (d : State) (c new : CoreSeen D) (a : AtomNo)
         (let (n, own) = some_owner (owner_of c.atoms i) ((z.kept.cells.dirty i e at).0 dirty) in
         elim (cases_eq n a.0) [
           | inl mine ↦ inl (facts.is_given r d c new a given p z i e at (own ∙ ap (λ (j : ℕ). Some j) mine))
-          | inr other ↦
-              inr (stays (λ is. other (cc (sym own ∙ is))) (elim (cases_lt i (2 ^ 63)) [
-                | inl low ↦ inl (z.sealable.used.owned i (subst IsSome (sym own) refl) low)
-                | inr high ↦ inr high
-              ]))
+          | inr other ↦ inr (stays (λ is. other (cc (sym own ∙ is))))
         ])
     | inr clean ↦
         inr (stays
-        (λ is. never_both e.dirty ((z.kept.cells.dirty i e at).1 (subst IsSome (sym is) refl)) clean)
-        (inl (z.sealable.used.clean i e at clean)))
+        (λ is. never_both e.dirty ((z.kept.cells.dirty i e at).1 (subst IsSome (sym is) refl)) clean))
   ]
     where
-      stays : (owner_of c.atoms i ≡ Some a.0 → ⊥) → (is_taken c.space i ≡ true) ⊎ (2 ^ 63 ≤ i) → StaysThere i e
-      stays not why =
-          let (miss, old) = facts.other_misses r d c new a given p z i not why in
+      stays : (owner_of c.atoms i ≡ Some a.0 → ⊥) → StaysThere i e
+      stays not =
+          let (miss, old) =
+          facts.other_misses r d c new a given p z i not (λ clear. absurd (cc (sym clear.cell ∙ at))) in
           record {
             now = facts.same_there r d c new a given p z i miss old ∙ at;
             same = record { was = at; not_new = miss; not_old = old };

@@ -20,7 +20,8 @@ use Rattle.r4_kept.specs.Steps.{with_entry}
 use Rattle.r4_kept.specs.View.{CoreSeen}
 use Rattle.r4_kept.specs.declared.parts.Commit.{Commit}
 use Rattle.r4_flushing.specs.Sealable.{CountFits, IsSealable}
-use Rattle.r4_flushing.specs.Sealing.{CanSeal, HasSealed, name_then, root_renamed, turns_with_pins}
+use Rattle.r4_renaming.specs.Renaming.{name_then, turns_with_pins}
+use Rattle.r4_flushing.specs.Sealing.{CanSeal, HasSealed, root_renamed}
 use Rattle.r4_flushing.proofs.Accounts.{accounts_sealed}
 use Rattle.r4_flushing.proofs.Cells.{cells_sealed}
 use Rattle.r4_flushing.proofs.Facts.{Sealing}
@@ -31,7 +32,7 @@ use Rattle.r4_flushing.proofs.Tasks.{tasks_sealed}
 
 module _ {D : Type 0} (disk : FitsOnDisk) (r : Naming) (d : State) (c new : CoreSeen D) (a : AtomNo)
     (given : List CellSeen) (p : Prepared) (k : IsKept r d c) (can : CanSeal c a) (has : HasSealed c new a given p)
-    (with : IsSealable c new a given) (fits : CountFits r d c a) where
+    (with : IsSealable c new a given p) (fits : CountFits r d c a) where
   abbrev z : Sealing r d c new a given p
   z = record { kept = k; can = can; has = has; sealable = with }
 

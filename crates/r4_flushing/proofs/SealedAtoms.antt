@@ -12,7 +12,7 @@ use Rattle.r4_flush.specs.Prepared.{cells_of}
 use Rattle.r4_flush.specs.declared.cells.RenamedCell.{RenamedCell}
 use Rattle.r4_history.specs.Tables.{with_sealed}
 use Rattle.r4_kept.proofs.States.{state_others, state_same, state_there}
-use Rattle.r4_flushing.specs.Sealing.{owner_then}
+use Rattle.r4_renaming.specs.Renaming.{owner_then}
 
 -- ---- the states of atoms
 

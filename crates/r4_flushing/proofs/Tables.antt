@@ -15,7 +15,7 @@ use Rattle.r4_kept.specs.Naming.{Naming}
 use Rattle.r4_kept.specs.Tables.{AreTables}
 use Rattle.r4_kept.specs.View.{CoreSeen, committing, tables_of}
 use Rattle.r4_done.proofs.Named.{reached_one}
-use Rattle.r4_flushing.specs.Sealing.{name_then, turns_with_pins}
+use Rattle.r4_renaming.specs.Renaming.{name_then, turns_with_pins}
 use Rattle.r4_flushing.proofs.Facts.{Sealing}
 use Rattle.r4_flushing.proofs.Pins.{scripts_before, tasks_then}
 use Rattle.r4_flushing.proofs.SealedAtoms.{atom_then, owner_other}

@@ -30,7 +30,8 @@ use Rattle.r4_kept.specs.Cells.{NamesAt}
 use Rattle.r4_kept.specs.Naming.{Naming}
 use Rattle.r4_kept.specs.TasksOut.{AreOut, IsGiven, pins_on}
 use Rattle.r4_kept.specs.View.{CoreSeen}
-use Rattle.r4_flushing.specs.Sealing.{name_then, root_renamed, turns_with_pins, was_named, with_pins}
+use Rattle.r4_renaming.specs.Renaming.{name_then, turns_with_pins, was_named, with_pins}
+use Rattle.r4_flushing.specs.Sealing.{root_renamed}
 use Rattle.r4_flushing.proofs.Cells.{named_before}
 use Rattle.r4_flushing.proofs.Facts as facts
 use Rattle.r4_flushing.proofs.Facts.{Sealing}

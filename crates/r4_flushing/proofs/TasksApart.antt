@@ -1,14 +1,13 @@
 -- No task that is out was given a cell of an atom that may be sealed: its transaction is open.
-use Rattle.std.proofs.Common.{◌≡◌, ◌⊎◌, inl, inr, ℕ, ◌^◌, ◌≤◌, ◌++◌, true, false, List, Option}
+use Rattle.std.proofs.Common.{◌≡◌, ℕ, ◌++◌, false, List}
 use Rattle.std.proofs.Common.{Some, None, refl, sym, ◌∙◌, ap, subst}
 use Rattle.std.specs.Prelude.{Contains}
-use Rattle.std.proofs.lemmas.Bool.{cases_Bool, cases_lt}
 use Rattle.r4_atoms.specs.Atoms.{owner_of}
 use Rattle.r4_base.specs.declared.things.AtomNo.{AtomNo}
 use Rattle.r4_base.specs.declared.things.TxnNo.{TxnNo}
 use Rattle.r4_atoms.specs.Atoms.{IsBegun, txn_of}
 use Rattle.r4_buffer.specs.Changed.{has_name}
-use Rattle.r4_buffer.specs.Seen.{EntrySeen, buffered, is_dirty_by}
+use Rattle.r4_buffer.specs.Seen.{buffered}
 use Rattle.r4_cell.specs.Seen.{CellSeen}
 use Rattle.r4_content.specs.Locality.{commands}
 use Rattle.r4_content.specs.Meaning.{greatest_size}
@@ -17,12 +16,11 @@ use Rattle.r4_flush.specs.declared.preparing.Prepared.{Prepared}
 use Rattle.r4_history.specs.Held.{IsOut}
 use Rattle.r4_history.proofs.RunSteps.{open_in_both}
 use Rattle.r4_outside.specs.Device.{State}
-use Rattle.r4_space.specs.Space.{is_taken}
 use Rattle.r4_turns.specs.declared.out.Out.{Out}
 use Rattle.r4_kept.specs.Naming.{Naming}
 use Rattle.r4_kept.specs.View.{CoreSeen, tables_of}
 use Rattle.r4_done.proofs.Named.{node_of_need}
-use Rattle.r4_flushing.specs.Sealing.{was_named}
+use Rattle.r4_renaming.specs.Renaming.{was_named}
 use Rattle.r4_flushing.proofs.Facts as facts
 use Rattle.r4_flushing.proofs.Facts.{Sealing}
 
@@ -44,23 +42,9 @@ module _ {D : Type 0} (r : Naming) (d : State) (c new : CoreSeen D) (a : AtomNo)
         opened = ap (λ (t : ℕ). (txn_of c.atoms t).is_open) (sym txn) ∙ open_txn.1;
       })
 
-  -- it stands on a used block, or has none
-  stands : (is_taken c.space y.id ≡ true) ⊎ (2 ^ 63 ≤ y.id)
-  stands = by (buffered c.buffer y.id) refl
-    where
-      by : (o : Option EntrySeen) → buffered c.buffer y.id ≡ o → (is_taken c.space y.id ≡ true) ⊎ (2 ^ 63 ≤ y.id)
-      by None at = inl (z.sealable.used.given s out y is has (ap is_dirty_by at))
-      by (Some e) at = elim (cases_Bool e.dirty) [
-        | inl dirty ↦ elim (cases_lt y.id (2 ^ 63)) [
-          | inl low ↦ inl (z.sealable.used.owned y.id ((z.kept.cells.dirty y.id e at).0 dirty) low)
-          | inr high ↦ inr high
-        ]
-        | inr clean ↦ inl (z.sealable.used.given s out y is has (ap is_dirty_by at ∙ clean))
-      ]
-
-  -- so its name is none that a cell of the atom has, before or then
+  -- its name is none that a cell of the atom has, before or then
   pub reach_misses : (has_name (cells_of p.renamed.items) y.id ≡ false) × (was_named p.renamed.items y.id ≡ false)
-  reach_misses = facts.other_misses r d c new a given p z y.id not_mine stands
+  reach_misses = facts.other_misses r d c new a given p z y.id not_mine (λ clear. clear.given s out y is has refl)
 
   pub reach_stays : buffered new.buffer y.id ≡ buffered c.buffer y.id
   reach_stays =

@@ -2,7 +2,7 @@
 use Rattle.std.proofs.Common.{◌≡◌, inl, inr, ℕ, suc, ◌+◌, ◌-◌, ◌^◌, ◌<◌, ◌≤◌, ◌==◌, ◌||◌, ◌&&◌, Bool}
 use Rattle.std.proofs.Common.{true≢false, true, false, cond, List, [], ◌∷◌, Option, Some, None, refl, sym, ◌∙◌, ap}
 use Rattle.std.proofs.Common.{subst, arith}
-use Rattle.std.specs.Prelude.{Contains, IsSome, Ok, Result, min, nat_lt}
+use Rattle.std.specs.Prelude.{Contains, Ok, Result, min, nat_lt}
 use Rattle.std.proofs.lemmas.Bool.{cases_eq, cases_lt, cond-false, eq-eqb, eqb-true, ne_eqb}
 use Rattle.std.proofs.lemmas.Bool.Decides.{nat_tests}
 use Rattle.r4_atoms.specs.Atoms.{account_of, is_atom, is_sealed, owner_of, owns}
@@ -153,7 +153,7 @@ module _ {D : Type 0} (r : Naming) (d : State) (c new : CoreSeen D) (a : AtomNo)
 
     mine_off : owner_of c.atoms c.tree.id.0 ≡ Some a.0 → Contains fresh c.tree.id.0 → ⊥
     mine_off own = elim (cases_lt c.tree.id.0 (2 ^ 63)) [
-      | inl low ↦ off c.tree.id.0 (z.sealable.used.owned c.tree.id.0 (subst IsSome (sym own) refl) low)
+      | inl low ↦ off c.tree.id.0 (z.sealable.own c.tree.id.0 own low)
       | inr high ↦ off_high c.tree.id.0 high
     ]
 

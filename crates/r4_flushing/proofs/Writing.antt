@@ -44,7 +44,9 @@ use Rattle.r4_commit.specs.Places.{place_of}
 use Rattle.r4_kept.specs.Cells.{IsAccepted, IsWriting}
 use Rattle.r4_kept.specs.Naming.{Naming}
 use Rattle.r4_kept.specs.View.{CoreSeen, blocks_of}
-use Rattle.r4_flushing.specs.Sealing.{root_under, super_to_come, was_named}
+use Rattle.r4_renaming.specs.Renaming.{was_named}
+use Rattle.r4_flushing.specs.Sealable.{IsClear}
+use Rattle.r4_flushing.specs.Sealing.{root_under, super_to_come}
 use Rattle.r4_flushing.proofs.Accepted.{accepted}
 use Rattle.r4_flushing.proofs.Chosen.{fresh_free, given_itself, unused_before}
 use Rattle.r4_flushing.proofs.Facts as facts
@@ -203,14 +205,16 @@ module _ {D : Type 0} (r : Naming) (d : State) (c new : CoreSeen D) (a : AtomNo)
       absurd (never_both e.dirty (z.kept.cells.fresh i e at high) clean)))
       (z.kept.cells.buffered_names i e at).own
 
-  -- no write falls on a used block that is not fixed, but on those of the atom's cells
-  pub spared : (i n : ℕ) → is_taken c.space i ≡ true → is_fixed blocks i ≡ false → has_name cells i ≡ false
+  -- no write falls on a block that is not clear or was used, and is not fixed, but on those of the
+  -- atom's cells
+  pub spared : (i n : ℕ) → (IsClear c i → ⊥) ⊎ (is_taken c.space i ≡ true) → is_fixed blocks i ≡ false → has_name cells i ≡ false
       → IsTarget (part work.work.plan n) i → ⊥
-  spared i zero taken free miss has = never_both (is_taken c.space i) taken (first_clear i has)
-  spared i (suc zero) taken free miss has =
+  spared i zero stands free miss has = ⊎_elim (λ not. not (z.sealable.clear.written i has))
+      (λ taken. never_both (is_taken c.space i) taken (first_clear i has)) stands
+  spared i (suc zero) stands free miss has =
       let at = one_target (19, work.work.plan.header) i has in
       never_both (is_fixed blocks i) (fixed_low blocks i (omega (arith, at))) free
-  spared i (suc (suc zero)) taken free miss has = ⊎_elim
+  spared i (suc (suc zero)) stands free miss has = ⊎_elim
       (λ fixed. never_both (is_fixed blocks i) (subst (λ (n : ℕ). is_fixed n i ≡ true) count fixed) free)
       (λ kept.
       (let (y, in_cells, none, at) = kept in
@@ -218,10 +222,10 @@ module _ {D : Type 0} (r : Naming) (d : State) (c new : CoreSeen D) (a : AtomNo)
       miss))
       (home_of placed a cells (answers_by_block x.answers) _ c.volume.prev plan x.planned.is_for work.work.plan
       x.planned.order least (given_itself x.answers) i has)
-  spared i (suc (suc (suc zero))) taken free miss has =
+  spared i (suc (suc (suc zero))) stands free miss has =
       let at = one_target (20, work.work.plan.footer) i has in
       never_both (is_fixed blocks i) (fixed_low blocks i (omega (arith, at))) free
-  spared i (suc (suc (suc (suc n)))) taken free miss has = nothing_in i has
+  spared i (suc (suc (suc (suc n)))) stands free miss has = nothing_in i has
 
   apart : (i n : ℕ) (e : EntrySeen) → IsTarget (part work.work.plan n) i → buffered new.buffer i ≡ Some e
       → e.dirty ≡ true
@@ -232,7 +236,8 @@ module _ {D : Type 0} (r : Naming) (d : State) (c new : CoreSeen D) (a : AtomNo)
         | inl dirty ↦ dirty
         | inr clean ↦
             absurd
-            (spared i n (z.sealable.used.clean i e same.was clean) (not_fixed i e same.was clean) same.not_new has)
+            (spared i n (inl (λ clear. absurd (cc (sym clear.cell ∙ same.was)))) (not_fixed i e same.was clean)
+            same.not_new has)
       ])
       (facts.entry_cases r d c new a given p z i e at)
 

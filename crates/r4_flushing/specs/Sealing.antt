@@ -1,29 +1,23 @@
 -- What changes of a core as an open atom is sealed that owns cells (docs/core.md, "Sealing").
-use Rattle.std.specs.Prelude.{◌≡◌, ◌↔◌, ◌+◌, ◌-◌, ◌^◌, ◌<◌, ◌≤◌, ◌==◌, min, nat_eq, nat_le, ℕ, Bool}
-use Rattle.std.specs.Prelude.{List, [], ◌∷◌, map, Contains, Option, Some, None, true, false}
+use Rattle.std.specs.Prelude.{◌≡◌, ◌↔◌, ◌+◌, ◌-◌, ◌<◌, ◌≤◌, min, nat_eq, ℕ}
+use Rattle.std.specs.Prelude.{List, map, Contains, Some, None}
 use Rattle.std.specs.Prelude.{if◌then◌else◌}
-use Rattle.std.specs.Arc.{arc_value}
-use Rattle.std.specs.List.{IsDistinct, list_any}
-use Rattle.std.specs.Option.{option_map}
+use Rattle.std.specs.List.{IsDistinct}
 use Rattle.r4_atoms.specs.Atoms.{AtomsSeen, IsOpenAtom, IsOpenIn, account_of, numbers, owner_of}
-use Rattle.r4_atoms.specs.Atoms.{owns, without_owner}
+use Rattle.r4_atoms.specs.Atoms.{owns}
 use Rattle.r4_atoms.specs.declared.things.Account.{Account}
 use Rattle.r4_base.specs.declared.superblock.Super40.{Super40}
 use Rattle.r4_base.specs.declared.things.AtomNo.{AtomNo}
 use Rattle.r4_base.specs.declared.things.NodeId.{NodeId}
-use Rattle.r4_buffer.specs.Changed.{has_name}
-use Rattle.r4_buffer.specs.Seen.{BufferSeen, EntrySeen, buffered, cell_at}
+use Rattle.r4_buffer.specs.Seen.{BufferSeen, cell_at}
 use Rattle.r4_cell.specs.Seen.{CellSeen}
 use Rattle.r4_cell.specs.declared.change.Root.{Root}
-use Rattle.r4_flush.specs.Prepared.{IsPrepared, cells_of}
-use Rattle.r4_flush.specs.declared.cells.RenamedCell.{RenamedCell}
+use Rattle.r4_flush.specs.Prepared.{IsPrepared}
 use Rattle.r4_flush.specs.declared.preparing.Prepared.{Prepared}
 use Rattle.r4_history.specs.Tables.{with_sealed}
+use Rattle.r4_renaming.specs.Renaming.{HaveNewNames, name_then, owner_then, turns_with_pins}
 use Rattle.r4_space.specs.Space.{sealed_in}
 use Rattle.r4_trace.specs.declared.entry.Entry.TheVariants.{Sealed}
-use Rattle.r4_turns.specs.Turns.{TurnsSeen}
-use Rattle.r4_turns.specs.declared.out.Out.{Out}
-use Rattle.r4_turns.specs.declared.turn.Turn.{Turn}
 use Rattle.r4_kept.specs.History.{owed}
 use Rattle.r4_kept.specs.Steps.{with_entry}
 use Rattle.r4_kept.specs.View.{CoreSeen}
@@ -74,45 +68,6 @@ pub record AreCellsOf (b : BufferSeen) (s : AtomsSeen) (atom : ℕ) (cells : Lis
         ↔ ((owner_of s x.id ≡ Some atom) × (cell_at b x.id ≡ Some x))
 
 -- ---- new names
-
--- a cell had this name
-abbrev pub was_named : List RenamedCell → ℕ → Bool
-was_named renamed i = list_any (λ (r : RenamedCell). r.was.0 == i) renamed
-
--- what becomes of a name: that of the cell which had it, and all others stay
-abbrev pub name_then : List RenamedCell → ℕ → ℕ
-name_then [] i = i
-name_then (r ∷ rest) i = if r.was.0 == i then (arc_value r.cell).id else name_then rest i
-
--- whose a node is then: the atom's, where a cell of it has that name; and no number of a new cell
--- is the atom's any more
-abbrev pub owner_then : (atom : ℕ) → List RenamedCell → (node : ℕ) → Option ℕ → Option ℕ
-owner_then a renamed i was =
-    if has_name (cells_of renamed) i then Some a
-    else (if nat_le (2 ^ 63) i then without_owner a was else was)
-
--- Each cell stands under its new name, with the uses of its old one and dirty as that was. A name
--- that a cell had, and none has then, has nothing; and under each other name stands what stood
--- there.
-pub record HaveNewNames (old new : BufferSeen) (renamed : List RenamedCell) : Type 0 where
-  pub there : (r : RenamedCell) (e : EntrySeen) → Contains renamed r
-      → buffered old r.was.0 ≡ Some e
-      → buffered new (arc_value r.cell).id ≡ Some (record e { cell = arc_value r.cell })
-  pub gone : (i : ℕ) → was_named renamed i ≡ true → has_name (cells_of renamed) i ≡ false
-      → buffered new i ≡ None
-  pub others : (i : ℕ) → was_named renamed i ≡ false → has_name (cells_of renamed) i ≡ false
-      → buffered new i ≡ buffered old i
-
--- the nodes that are kept for tasks have their new names
-abbrev pub with_pins : (ℕ → ℕ) → Out → Out
-with_pins f out =
-    record out { pins = map (λ (n : NodeId). record { 0 = f n.0 }) out.pins }
-
-abbrev pub turn_with_pins : (ℕ → ℕ) → Turn → Turn
-turn_with_pins f turn = record turn { out = option_map (with_pins f) turn.out }
-
-abbrev pub turns_with_pins : (ℕ → ℕ) → TurnsSeen → TurnsSeen
-turns_with_pins f t = record t { turns = map (turn_with_pins f) t.turns }
 
 abbrev pub root_renamed : (ℕ → ℕ) → Root → Root
 root_renamed f root = record root { id = record { 0 = f root.id.0 } }
