@@ -1,6 +1,6 @@
 -- What the parts of a renaming read and leave.
-use Rattle.std.specs.Prelude.{◌≡◌, ◌⊎◌, ◌-◌, ◌^◌, ◌<◌, ◌≤◌, ◌==◌, nat_le, not, ℕ, Bool, List, [], ◌∷◌, map}
-use Rattle.std.specs.Prelude.{filter, length, slice_index_or, IsSome}
+use Rattle.std.specs.Prelude.{◌≡◌, ◌⊎◌, ◌-◌, ◌^◌, ◌<◌, ◌≤◌, ◌==◌, nat_le, not, ℕ, Bool, List, []}
+use Rattle.std.specs.Prelude.{◌∷◌, map, filter, length, slice_index_or, IsSome}
 use Rattle.std.specs.Prelude.{Option, Some, None, if◌then◌else◌}
 use Rattle.std.specs.Arc.{arc_value}
 use Rattle.std.specs.BTreeMap.{BTreeMap, get}

@@ -11,14 +11,20 @@ use Rattle.r4_renaming.proofs.cells.rename_cells.Goals as goal
 pub rename_cell-requires-clause-free : goal.rename_cell-requires-clause-free
 rename_cell-requires-clause-free c =
     let gives = c.into_iter-cell-iterator.ensures.into_iter_gives in
-    let t = YieldsList-turn (YieldsList-from_vec c.args.renamed.items gives.0 (gives.1 ∙ c.args.renamed.ok.0)) c.loop-cell.yielded _ c.loop-cell.yielded_by _ c.next.new.self c.in-Some.cell c.in-Some.is c.next.ensures.steps in
+    let t = YieldsList-turn
+    (YieldsList-from_vec c.args.renamed.items gives.0 (gives.1 ∙ c.args.renamed.ok.0))
+    c.loop-cell.yielded _ c.loop-cell.yielded_by _ c.next.new.self c.in-Some.cell c.in-Some.is
+    c.next.ensures.steps in
     free_next c.args.renamed.items c.requires.before c.requires.then c.args.buffer.now c.requires.there c.requires.free
     (length c.loop-cell.yielded) c.in-Some.cell t.0 t.1 c.loop-cell.buffer c.loop-cell.invariant.cells
 
 pub loop-cell-preserved : goal.loop-cell-preserved
 loop-cell-preserved c =
     let gives = c.into_iter-cell-iterator.ensures.into_iter_gives in
-    let t = YieldsList-turn (YieldsList-from_vec c.args.renamed.items gives.0 (gives.1 ∙ c.args.renamed.ok.0)) c.loop-cell.yielded _ c.loop-cell.yielded_by _ c.next.new.self c.in-Some.cell c.in-Some.is c.next.ensures.steps in
+    let t = YieldsList-turn
+    (YieldsList-from_vec c.args.renamed.items gives.0 (gives.1 ∙ c.args.renamed.ok.0))
+    c.loop-cell.yielded _ c.loop-cell.yielded_by _ c.next.new.self c.in-Some.cell c.in-Some.is
+    c.next.ensures.steps in
     let one_more = length_push c.loop-cell.yielded c.in-Some.cell in
     let kept = c.loop-cell.invariant.spare in
     let used = c.rename_cell.ensures.spare in

@@ -1,12 +1,14 @@
 use Rattle.std.proofs.Common.{◌≡◌, ℕ, ◌++◌, List, map, inl, inr, ⊎_elim, ap, ◌∙◌, arith}
-use Rattle.std.specs.Prelude.{Option, filter}
+use Rattle.std.specs.Prelude.{◌↔◌, Contains, Option, Some, filter}
 use Rattle.std.specs.BTreeMap.{BTreeMap}
+use Rattle.r4_atoms.specs.Atoms.{numbers, owner_of}
 use Rattle.r4_base.specs.declared.things.NodeId.{NodeId}
 use Rattle.r4_flush.specs.declared.cells.RenamedCell.{RenamedCell}
 use Rattle.r4_turns.specs.Turns.{TurnsSeen}
 use Rattle.r4_turns.specs.declared.turn.Turn.{Turn}
+use Rattle.r4_renaming.specs.Renamed.{CanRename, Parts}
 use Rattle.r4_renaming.specs.Renaming.{name_then, turns_with_pins}
-use Rattle.r4_renaming.specs.Steps.{is_placed, name_in, new_nodes, pins_then, turns_keeping}
+use Rattle.r4_renaming.specs.Steps.{IsFreeNode, is_placed, name_in, new_nodes, pins_then, turns_keeping}
 use Rattle.r4_renaming.proofs.Owned.{AreMovable, movable_by_first, nodes_are, owners_by_first}
 use Rattle.r4_renaming.proofs.Standing.{from_same}
 use Rattle.r4_renaming.proofs.Tasks.{can_keep, keeping_all}
@@ -23,40 +25,30 @@ turns_are t names pins rs qs are named same =
     ∙ ap (λ (f : ℕ → ℕ). turns_with_pins f t) by_name
     ∙ ap (λ (l : List RenamedCell). turns_with_pins (name_then l) t) same
 
+movable : (p : Parts) (a : ℕ) (rs : List RenamedCell) (owned : List NodeId) → CanRename p a rs
+    → ((i : ℕ) → Contains (numbers owned) i ↔ (owner_of p.atoms i ≡ Some a)) → AreMovable a p.atoms rs owned
+movable p a rs owned can mine = (can.some, (can.before, (can.own, (free, mine))))
+  where
+    free : (r : RenamedCell) → Contains rs r → IsFreeNode p.atoms r
+    free r has = ⊎_elim
+        (λ stays. inl stays)
+        (λ (high, low, there, none). inr (high, low, none))
+        (can.may r has)
+
 pub rename_owned-requires : goal.rename_owned-requires
 rename_owned-requires c =
     movable_by_first c.args.atom.0 c.args.atoms.now c.args.renamed.items c.as_slice-5.result.now
-    c.in_ok-owned.owned.items c.as_slice-4.result.now c.as_slice-5.ensures.value c.as_slice-4.ensures.value (
-      c.requires.some,
-      (
-        c.requires.before,
-        (
-          c.requires.own,
-          (
-            (λ r has. ⊎_elim (λ stays. inl stays) (λ (high, low, there, none). inr (high, low, none)) (c.requires.may r has)),
-            c.in_ok-owned.ensures.owned,
-          ),
-        ),
-      ),
-    )
+    c.in_ok-owned.owned.items c.as_slice-4.result.now c.as_slice-5.ensures.value c.as_slice-4.ensures.value
+    (movable (record { buffer = c.args.buffer.now; atoms = c.args.atoms.now; turns = c.args.turns.now }) c.args.atom.0
+    c.args.renamed.items c.in_ok-owned.owned.items c.requires c.in_ok-owned.ensures.owned)
 
 pub returns-clause-ok : goal.returns-clause-ok
 returns-clause-ok c =
-    let movable : AreMovable c.args.atom.0 c.args.atoms.now c.args.renamed.items c.in_ok-owned.owned.items = (
-      c.requires.some,
-      (
-        c.requires.before,
-        (
-          c.requires.own,
-          (
-            (λ r has. ⊎_elim (λ stays. inl stays) (λ (high, low, there, none). inr (high, low, none)) (c.requires.may r has)),
-            c.in_ok-owned.ensures.owned,
-          ),
-        ),
-      ),
-    ) in
+    let can = movable
+    (record { buffer = c.args.buffer.now; atoms = c.args.atoms.now; turns = c.args.turns.now }) c.args.atom.0
+    c.args.renamed.items c.in_ok-owned.owned.items c.requires c.in_ok-owned.ensures.owned in
     let owners = owners_by_first c.args.atom.0 c.args.atoms.now c.rename_owned.new.atoms c.args.renamed.items
-    c.as_slice-5.result.now c.in_ok-owned.owned.items c.as_slice-5.ensures.value movable
+    c.as_slice-5.result.now c.in_ok-owned.owned.items c.as_slice-5.ensures.value can
     c.rename_owned.ensures.owners in
     let room = c.in_ok-make_room.ensures.ok in
     let used = c.rename_cells.ensures.spare in
@@ -74,7 +66,7 @@ returns-clause-ok c =
           ∙ turns_are c.args.turns.now c.in_ok-names.names c.in_ok-pins.pins.items c.args.renamed.items
           c.as_slice-3.result.now c.in_ok-pins.ensures c.in_ok-names.ensures c.as_slice-3.ensures.value;
       owned = nodes_are c.args.atom.0 c.args.renamed.items c.args.atoms.now c.rename_owned.new.atoms
-          c.in_ok-owned.owned.items movable owners c.in_ok-nodes.nodes
+          c.in_ok-owned.owned.items can owners c.in_ok-nodes.nodes
           (c.in_ok-nodes.ensures
           ∙ ap (λ (l : List NodeId). filter is_placed l ++ new_nodes c.as_slice-2.result.now) c.as_slice.ensures.value
           ∙ ap (λ (l : List RenamedCell). filter is_placed c.in_ok-owned.owned.items ++ new_nodes l)
@@ -82,4 +74,5 @@ returns-clause-ok c =
     }
 
 pub put_pins-requires : goal.put_pins-requires
-put_pins-requires c = can_keep (name_in c.in_ok-names.names) c.args.turns.now c.in_ok-pins.pins.items c.in_ok-pins.ensures c.requires.next
+put_pins-requires c =
+    can_keep (name_in c.in_ok-names.names) c.args.turns.now c.in_ok-pins.pins.items c.in_ok-pins.ensures c.requires.next
