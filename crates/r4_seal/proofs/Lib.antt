@@ -1,0 +1,7 @@
+mod Taken
+mod Gathered
+mod Clear
+mod Roomy
+mod Refusing
+mod Judged
+mod Sealings

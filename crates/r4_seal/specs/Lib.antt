@@ -1,0 +1,4 @@
+pub mod Cells
+pub mod Checked
+pub mod Waiting
+pub mod Flushing
