@@ -1,14 +1,19 @@
-//! Tasks that come back after all of them were given back.
+//! Tasks that come back after all of them were given back, or after another task changed their cells.
 
 ghost use Rattle.std.specs.Prelude.{IfOk};
 ghost use Rattle.r4_take.specs.Sending.{CanBeBuilt};
 
+use crate::images::Image;
+use crate::pushing::push_all;
+use crate::running::{ONE, run};
 use crate::shared::{next, opened};
+use crate::telling::Log;
 use r4_apply::{Applied, apply};
-use r4_back::recall;
-use r4_base::ScriptNo;
-use r4_build::{Task, build};
+use r4_back::{give_back, recall};
+use r4_base::{NodeId, ScriptNo};
+use r4_build::{Built, Task, build};
 use r4_core::Core;
+use r4_matching::Differs;
 use r4_next::Taken;
 use r4_outside::{MemoryDevice, OpenGate, Unnamed};
 use std::alloc::Global;
@@ -27,6 +32,16 @@ fn sent(core: &mut Core<MemoryDevice, Unnamed>, alloc: Global) -> Result<Task, F
     }
 }
 
+// A task is built.
+fn built_of(alloc: Global, task: Task) -> Result<Built, Fail>
+    requires { CanBeBuilt task }
+{
+    match build(alloc, &OpenGate, task) {
+        Ok(built) => Ok(built),
+        Err(_) => Err(Fail::from("a task is not built")),
+    }
+}
+
 // A task that was given back is gone when it comes; then the same one goes out again.
 fn recalled(
     core: &mut Core<MemoryDevice, Unnamed>,
@@ -35,9 +50,7 @@ fn recalled(
     let task = sent(core, alloc)?;
     let first = told(&task);
     recall(core);
-    let Ok(built) = build(alloc, &OpenGate, task) else {
-        return Err(Fail::from("a task is not built"));
-    };
+    let built = built_of(alloc, task)?;
     let Applied::Gone { task } = apply(core, alloc, built) else {
         return Err(Fail::from("a task that was given back is applied"));
     };
@@ -52,11 +65,66 @@ fn told(task: &Task) -> Told {
 #[test]
 fn task_that_was_given_back_is_gone(rt: HostRuntime) -> Result<(), Fail> {
     let alloc = rt.alloc();
-    let mut core = opened(alloc, "script\ncreate /a\n")?;
+    let mut core = opened(alloc, Image::Fresh(64), "script\ncreate /a\n")?;
     let seen = recalled(&mut core, alloc);
     let _ = core.into_device();
     let (first, gone, again) = seen?;
     assert_eq!(&rt; gone, first);
     assert_eq!(&rt; again, first);
+    Ok(())
+}
+
+// A task is given back; a command comes that changes another file of its leaf, and is done; then the
+// task goes out again, and what was built of the first one comes. It is answered what differs.
+fn changed(
+    core: &mut Core<MemoryDevice, Unnamed>,
+    alloc: Global,
+) -> Result<(NodeId, Differs), Fail> {
+    run(core, alloc, ONE, &mut Log::new(alloc))?;
+    push_all(core, alloc, "script\nwrite /a 0 x\n")?;
+    let task = sent(core, alloc)?;
+    give_back(core, &task);
+    let old = built_of(alloc, task)?;
+    change(core, alloc)?;
+    let _again = sent(core, alloc)?;
+    match apply(core, alloc, old) {
+        Applied::Stale {
+            task: _,
+            node,
+            differs,
+        } => Ok((node, differs)),
+        _ => Err(Fail::from("the task is not stale")),
+    }
+}
+
+// The other file changes.
+fn change(core: &mut Core<MemoryDevice, Unnamed>, alloc: Global) -> Result<(), Fail> {
+    push_all(core, alloc, "script\nscript\nchmod /b 600\n")?;
+    let task = sent(core, alloc)?;
+    let built = built_of(alloc, task)?;
+    match apply(core, alloc, built) {
+        Applied::Done => Ok(()),
+        _ => Err(Fail::from("the other file does not change")),
+    }
+}
+
+#[test]
+fn task_with_earlier_cells_is_stale(rt: HostRuntime) -> Result<(), Fail> {
+    let alloc = rt.alloc();
+    let scripts = "script\ncreate /a\ncreate /b\nscript\n";
+    let mut core = opened(alloc, Image::Fresh(64), scripts)?;
+    let seen = changed(&mut core, alloc);
+    let _ = core.into_device();
+    let (node, differs) = seen?;
+    assert_eq!(&rt; node, NodeId(23));
+
+    // The low byte of the mode of `/b`: bodies begin at 28, and before its own stand 44 bytes of the
+    // root's stat data, 102 of two entries, 44 of `/a` and two of a mask.
+    let mode = Differs::Byte {
+        at: 220,
+        had: 0xa4,
+        has: 0x80,
+    };
+    assert_eq!(&rt; differs, mode);
     Ok(())
 }
