@@ -1,4 +1,5 @@
-//! Tasks that come back after all of them were given back, or after another task changed their cells.
+//! Tasks that come back after all of them were given back, or after another task changed their cells,
+//! and without a change.
 
 ghost use Rattle.std.specs.Prelude.{IfOk};
 ghost use Rattle.r4_take.specs.Sending.{CanBeBuilt};
@@ -9,7 +10,7 @@ use crate::running::{ONE, run};
 use crate::shared::{next, opened};
 use crate::telling::Log;
 use r4_apply::{Applied, apply};
-use r4_back::{give_back, recall};
+use r4_back::{give_back, recall, refuse_memory};
 use r4_base::{NodeId, ScriptNo};
 use r4_build::{Built, Task, build};
 use r4_core::Core;
@@ -21,6 +22,16 @@ use std::test::Fail;
 
 // What tells a task: its script, how many commands are answered there, and the first new number.
 type Told = (ScriptNo, u32, u64);
+
+// A command for which there was no memory, and one behind it.
+static STARVED: &str = "\
+begin t1 s1\n\
+refused t1 s1 c1 memory\n\
+ended t1\n\
+begin t2 s1\n\
+done t2 s1 c2 absent\n\
+ended t2\n\
+finished\n";
 
 // The task that goes out next.
 fn sent(core: &mut Core<MemoryDevice, Unnamed>, alloc: Global) -> Result<Task, Fail>
@@ -126,5 +137,29 @@ fn task_with_earlier_cells_is_stale(rt: HostRuntime) -> Result<(), Fail> {
         has: 0x80,
     };
     assert_eq!(&rt; differs, mode);
+    Ok(())
+}
+
+// A task comes back for which there was no memory, and then all else is done.
+fn starved(
+    core: &mut Core<MemoryDevice, Unnamed>,
+    alloc: Global,
+    log: &mut Log,
+) -> Result<(), Fail> {
+    let task = sent(core, alloc)?;
+    refuse_memory(core, &task);
+    run(core, alloc, ONE, log)
+}
+
+#[test]
+fn command_without_memory_is_refused(rt: HostRuntime) -> Result<(), Fail> {
+    let alloc = rt.alloc();
+    let mut core = opened(alloc, Image::Fresh(64), "script\ncreate /a\nstat /a\n")?;
+    let mut log = Log::new(alloc);
+    let done = starved(&mut core, alloc, &mut log);
+    let _ = core.into_device();
+    done?;
+    let told = String::from_utf8_lossy(alloc, log.lines.as_slice())?;
+    assert_eq!(&rt; told.as_str(), STARVED);
     Ok(())
 }

@@ -9,11 +9,12 @@ use std::alloc::Global;
 use std::test::Fail;
 
 /// A fresh volume of so many blocks; or one of 1,024 with two files in tails, `/a` and `/b`, of
-/// 16,384 bytes each, all of them the file's letter.
+/// 16,384 bytes each, all of them the file's letter; or a fresh one of 64 whose root names block 70.
 #[derive(Clone, Copy, Debug, PartialEq, Eq)]
 pub(crate) enum Image {
     Fresh(u64),
     TwoFiles,
+    Damaged,
 }
 
 // The root directory.
@@ -64,6 +65,11 @@ pub(crate) fn device(alloc: Global, image: Image) -> Result<MemoryDevice, Fail> 
         Image::TwoFiles => {
             let mut dev = fresh(alloc, 1024)?;
             put_files(alloc, &mut dev)?;
+            Ok(dev)
+        }
+        Image::Damaged => {
+            let mut dev = fresh(alloc, 64)?;
+            patch(alloc, &mut dev, 22, 28, &[70])?;
             Ok(dev)
         }
     }

@@ -31,7 +31,7 @@ const NEWEST: Way = Way {
     newest: true,
 };
 
-static ROWS: [Row; 14] = [
+static ROWS: [Row; 16] = [
     Row {
         name: "scripts in turn",
         image: Image::Fresh(4096),
@@ -494,6 +494,65 @@ fuse a1 a3 n22\n\
 refused t3 s1 c17 space 6 0\n\
 ended t3\n\
 flush a1\n",
+    },
+    Row {
+        name: "what is refused as it is done",
+        image: Image::Fresh(1024),
+        scripts: "\
+script\n\
+begin\n\
+mkdir /d\n\
+create /d/f\n\
+rename /d/f /d/f\n\
+rename /d /d/x\n\
+mkdir /e\n\
+rename /e /d\n\
+rmdir /\n\
+unlink /d\n\
+rmdir /d/f\n\
+stat /q\n\
+mkdir /d\n\
+create /a/\n\
+create /aaaaaaaaaaaaaaaxxxxxxxca\n\
+create /aaaaaaaaaaaaaaaxxxxxxxbl\n",
+        pushed: "",
+        way: ONE,
+        told: "\
+begin t1 s1\n\
+done t1 s1 c2 ok\n\
+done t1 s1 c3 ok\n\
+done t1 s1 c4 ok\n\
+done t1 s1 c5 loop\n\
+done t1 s1 c6 ok\n\
+done t1 s1 c7 notempty\n\
+done t1 s1 c8 loop\n\
+done t1 s1 c9 isdir\n\
+done t1 s1 c10 notdir\n\
+done t1 s1 c11 absent\n\
+done t1 s1 c12 exists\n\
+done t1 s1 c13 name\n\
+done t1 s1 c14 ok\n\
+done t1 s1 c15 clash aaaaaaaaaaaaaaaxxxxxxxca\n\
+ended t1\n\
+finished\n",
+    },
+    Row {
+        name: "a damaged volume",
+        image: Image::Damaged,
+        scripts: "\
+script\n\
+stat /\n\
+begin\n\
+stat /\n\
+end\n",
+        pushed: "",
+        way: ONE,
+        told: "\
+refused t0 s1 c1 damaged 22\n\
+begin t1 s1\n\
+refused t1 s1 c3 damaged 22\n\
+ended t1\n\
+finished\n",
     },
     Row {
         name: "64 scripts",
