@@ -9,5 +9,5 @@ mod refusing;
 
 pub use finding::{is_gone, is_out, matched};
 pub use giving::{give_back, recall};
-pub use next::{is_refusable, refuse_next};
+pub use next::{is_refusable, refusals_have_room, refuse_next};
 pub use refusing::{refuse_back, refuse_memory};

@@ -1,8 +1,12 @@
 //! The next command of a script is refused by itself.
 
-ghost use Rattle.std.specs.Prelude.{◌≡◌, MatchBool};
+ghost use Rattle.std.specs.Prelude.{◌≡◌, ℕ, MatchBool, Some, length};
 ghost use Rattle.r4_back.specs.NextRefused.{HasRoomForRefusal, IsRefusableNext, refused_next};
-ghost use Rattle.r4_turns.specs.Turns.{IsScript};
+ghost use Rattle.r4_content.specs.declared.command.Command.{Command as Asking};
+ghost use Rattle.r4_content.specs.declared.command.Command.TheVariants as asks;
+ghost use Rattle.r4_history.specs.Tables.{next_at};
+ghost use Rattle.r4_kept.specs.Steps.{pushed};
+ghost use Rattle.r4_turns.specs.Turns.{IsScript, answered_at, commands_at};
 
 use r4_base::{ScriptNo, TxnNo};
 use r4_content::{Command, Reply};
@@ -39,4 +43,17 @@ pub fn refuse_next<D: Device, R: Run>(core: &mut Core<D, R>, script: ScriptNo)
         Some(failed) => core.reopen(script, failed),
         None => core.refuse(script, TxnNo(0), Reply::Memory),
     }
+}
+
+/// There is room for the entry of a refusal: for that of a `commit` at any time, and for that of a
+/// command as it comes with `push`, where each before it is answered.
+pub fn refusals_have_room<D: Device, R: Run>(core: &Core<D, R>)
+    ensures commit { (s : ℕ) → IsScript core.now.turns s
+        → next_at core.now.turns s ≡ Some asks.Commit → HasRoomForRefusal core.now s }
+    ensures pushed { (s : ℕ) (x : Asking) → IsScript core.now.turns s
+        → answered_at core.now.turns s ≡ length (commands_at core.now.turns s)
+        → HasRoomForRefusal (pushed core.now s x) s }
+{
+    core.lawful();
+    let _ = core.turns().count();
 }

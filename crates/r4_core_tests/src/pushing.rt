@@ -84,7 +84,9 @@ fn is_plain(turns: &Turns, script: ScriptNo) -> bool
     if script.0 == 0 || script.0 > turns.count() {
         return false;
     }
-    let commands = turns.job().scripts.as_slice()[script.0 as usize - 1].commands.as_slice();
+    let commands = turns.job().scripts.as_slice()[script.0 as usize - 1]
+        .commands
+        .as_slice();
     commands.len() < u32::MAX as usize && has_no_begin(commands)
 }
 
