@@ -144,9 +144,18 @@ fn patch(
     }
     let mut block = Block::zeroed(alloc)?;
     dev.read(BlockNo(at), &mut block)?;
-    for (place, byte) in block.bytes_mut().iter_mut().skip(from).zip(bytes) {
-        *place = *byte;
-    }
+    set(block.bytes_mut(), from, bytes);
     dev.write(BlockNo(at), &block)?;
     Ok(())
+}
+
+// Puts these bytes over others from a place on, as far as there are some.
+fn set(bytes: &mut [u8], from: usize, put: &[u8]) {
+    let mut at = from;
+    for byte in put {
+        if let Some(there) = bytes.get_mut(at) {
+            *there = *byte;
+        }
+        at = at.saturating_add(1);
+    }
 }
