@@ -1,14 +1,20 @@
-//! Tasks that come back after all of them were given back.
+//! Tasks that come back after all of them were given back, or after another task changed their cells,
+//! and without a change.
 
 ghost use Rattle.std.specs.Prelude.{IfOk};
 ghost use Rattle.r4_take.specs.Sending.{CanBeBuilt};
 
+use crate::images::Image;
+use crate::pushing::push_all;
+use crate::running::{ONE, run};
 use crate::shared::{next, opened};
+use crate::telling::Log;
 use r4_apply::{Applied, apply};
-use r4_back::recall;
-use r4_base::ScriptNo;
-use r4_build::{Task, build};
+use r4_back::{give_back, recall, refuse_memory};
+use r4_base::{NodeId, ScriptNo};
+use r4_build::{Built, Task, build};
 use r4_core::Core;
+use r4_matching::Differs;
 use r4_next::Taken;
 use r4_outside::{MemoryDevice, OpenGate, Unnamed};
 use std::alloc::Global;
@@ -16,6 +22,16 @@ use std::test::Fail;
 
 // What tells a task: its script, how many commands are answered there, and the first new number.
 type Told = (ScriptNo, u32, u64);
+
+// A command for which there was no memory, and one behind it.
+static STARVED: &str = "\
+begin t1 s1\n\
+refused t1 s1 c1 memory\n\
+ended t1\n\
+begin t2 s1\n\
+done t2 s1 c2 absent\n\
+ended t2\n\
+finished\n";
 
 // The task that goes out next.
 fn sent(core: &mut Core<MemoryDevice, Unnamed>, alloc: Global) -> Result<Task, Fail>
@@ -27,6 +43,16 @@ fn sent(core: &mut Core<MemoryDevice, Unnamed>, alloc: Global) -> Result<Task, F
     }
 }
 
+// A task is built.
+fn built_of(alloc: Global, task: Task) -> Result<Built, Fail>
+    requires { CanBeBuilt task }
+{
+    match build(alloc, &OpenGate, task) {
+        Ok(built) => Ok(built),
+        Err(_) => Err(Fail::from("a task is not built")),
+    }
+}
+
 // A task that was given back is gone when it comes; then the same one goes out again.
 fn recalled(
     core: &mut Core<MemoryDevice, Unnamed>,
@@ -35,9 +61,7 @@ fn recalled(
     let task = sent(core, alloc)?;
     let first = told(&task);
     recall(core);
-    let Ok(built) = build(alloc, &OpenGate, task) else {
-        return Err(Fail::from("a task is not built"));
-    };
+    let built = built_of(alloc, task)?;
     let Applied::Gone { task } = apply(core, alloc, built) else {
         return Err(Fail::from("a task that was given back is applied"));
     };
@@ -52,11 +76,90 @@ fn told(task: &Task) -> Told {
 #[test]
 fn task_that_was_given_back_is_gone(rt: HostRuntime) -> Result<(), Fail> {
     let alloc = rt.alloc();
-    let mut core = opened(alloc, "script\ncreate /a\n")?;
+    let mut core = opened(alloc, Image::Fresh(64), "script\ncreate /a\n")?;
     let seen = recalled(&mut core, alloc);
     let _ = core.into_device();
     let (first, gone, again) = seen?;
     assert_eq!(&rt; gone, first);
     assert_eq!(&rt; again, first);
+    Ok(())
+}
+
+// A task is given back; a command comes that changes another file of its leaf, and is done; then the
+// task goes out again, and what was built of the first one comes. It is answered what differs.
+fn changed(
+    core: &mut Core<MemoryDevice, Unnamed>,
+    alloc: Global,
+) -> Result<(NodeId, Differs), Fail> {
+    run(core, alloc, ONE, &mut Log::new(alloc))?;
+    push_all(core, alloc, "script\nwrite /a 0 x\n")?;
+    let task = sent(core, alloc)?;
+    give_back(core, &task);
+    let old = built_of(alloc, task)?;
+    change(core, alloc)?;
+    let _again = sent(core, alloc)?;
+    match apply(core, alloc, old) {
+        Applied::Stale {
+            task: _,
+            node,
+            differs,
+        } => Ok((node, differs)),
+        _ => Err(Fail::from("the task is not stale")),
+    }
+}
+
+// The other file changes.
+fn change(core: &mut Core<MemoryDevice, Unnamed>, alloc: Global) -> Result<(), Fail> {
+    push_all(core, alloc, "script\nscript\nchmod /b 600\n")?;
+    let task = sent(core, alloc)?;
+    let built = built_of(alloc, task)?;
+    match apply(core, alloc, built) {
+        Applied::Done => Ok(()),
+        _ => Err(Fail::from("the other file does not change")),
+    }
+}
+
+#[test]
+fn task_with_earlier_cells_is_stale(rt: HostRuntime) -> Result<(), Fail> {
+    let alloc = rt.alloc();
+    let scripts = "script\ncreate /a\ncreate /b\nscript\n";
+    let mut core = opened(alloc, Image::Fresh(64), scripts)?;
+    let seen = changed(&mut core, alloc);
+    let _ = core.into_device();
+    let (node, differs) = seen?;
+    assert_eq!(&rt; node, NodeId(23));
+
+    // The low byte of the mode of `/b`: bodies begin at 28, and before its own stand 44 bytes of the
+    // root's stat data, 102 of two entries, 44 of `/a` and two of a mask.
+    let mode = Differs::Byte {
+        at: 220,
+        had: 0xa4,
+        has: 0x80,
+    };
+    assert_eq!(&rt; differs, mode);
+    Ok(())
+}
+
+// A task comes back for which there was no memory, and then all else is done.
+fn starved(
+    core: &mut Core<MemoryDevice, Unnamed>,
+    alloc: Global,
+    log: &mut Log,
+) -> Result<(), Fail> {
+    let task = sent(core, alloc)?;
+    refuse_memory(core, &task);
+    run(core, alloc, ONE, log)
+}
+
+#[test]
+fn command_without_memory_is_refused(rt: HostRuntime) -> Result<(), Fail> {
+    let alloc = rt.alloc();
+    let mut core = opened(alloc, Image::Fresh(64), "script\ncreate /a\nstat /a\n")?;
+    let mut log = Log::new(alloc);
+    let done = starved(&mut core, alloc, &mut log);
+    let _ = core.into_device();
+    done?;
+    let told = String::from_utf8_lossy(alloc, log.lines.as_slice())?;
+    assert_eq!(&rt; told.as_str(), STARVED);
     Ok(())
 }

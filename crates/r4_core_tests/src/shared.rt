@@ -1,25 +1,24 @@
-//! What the tests share: a core on a fresh volume, and what there is to do.
+//! What the tests share: a core on a volume, and what there is to do.
 
 ghost use Rattle.std.specs.Prelude.{IfOk};
 ghost use Rattle.r4_next.specs.Taking.{BuildsIfWork};
 
+use crate::images::{Image, device};
+use crate::pushing::job_of;
 use r4_core::{Core, OpenFault};
-use r4_mkfs::mkfs;
 use r4_next::{Taken, take};
 use r4_outside::{MemoryDevice, Unnamed};
-use r4_script::parse;
 use std::alloc::Global;
 use std::test::Fail;
 
-// The core of a fresh volume, and these scripts.
-pub(crate) fn opened(alloc: Global, scripts: &str) -> Result<Core<MemoryDevice, Unnamed>, Fail> {
-    let mut dev = MemoryDevice::plain(alloc, 4096)?;
-    if mkfs(alloc, &mut dev, b"").is_err() {
-        return Err(Fail::from("no volume is made"));
-    }
-    let Ok(job) = parse(alloc, scripts.as_bytes()) else {
-        return Err(Fail::from("the scripts are refused"));
-    };
+// The core of a volume, and these scripts.
+pub(crate) fn opened(
+    alloc: Global,
+    image: Image,
+    scripts: &str,
+) -> Result<Core<MemoryDevice, Unnamed>, Fail> {
+    let job = job_of(alloc, scripts)?;
+    let dev = device(alloc, image)?;
     match Core::open(alloc, dev, job, 1000) {
         Ok(core) => Ok(core),
         Err(OpenFault { dev: _, why: _ }) => Err(Fail::from("the core is not opened")),

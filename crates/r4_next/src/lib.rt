@@ -5,8 +5,10 @@ mod answering;
 mod committing;
 mod following;
 mod looking;
+mod standing;
 mod taken;
 mod taking;
 
+pub use standing::pending;
 pub use taken::Taken;
 pub use taking::take;
