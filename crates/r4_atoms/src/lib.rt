@@ -4,8 +4,6 @@
 mod atoms;
 mod forest;
 mod owners;
-#[cfg(test)]
-mod tests;
 mod things;
 
 pub use atoms::Atoms;

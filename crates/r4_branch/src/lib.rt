@@ -8,8 +8,6 @@ mod piece;
 mod placing;
 mod reading;
 mod spelling;
-#[cfg(test)]
-mod tests;
 mod twig;
 
 pub use packing::pack_twigs;

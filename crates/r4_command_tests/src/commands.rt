@@ -3,7 +3,7 @@
 use crate::contents::{perform, put};
 use r4_base::{Attr, Key, Memory, Oid, ScriptNo, TxnNo, Value};
 use r4_content::{Command, Reply, Seen};
-use r4_script::parse;
+use r4_script::{Job, parse};
 use r4_trace::{Entry, line};
 use std::alloc::Global;
 use std::process::Abort;
@@ -34,20 +34,64 @@ fn empty(alloc: Global) -> Result<Seen, Memory> {
     Ok(Seen { parts })
 }
 
-// The reply to the one command of a text.
-fn reply_to(alloc: Global, seen: &mut Seen, text: &str, oid: Oid) -> Result<Reply, Fail> {
+// The job of one command.
+fn job_of(alloc: Global, text: &str) -> Result<Job, Fail> {
     let mut script = Vec::from_slice(alloc, b"script\n")?;
     script.extend_from_slice(text.as_bytes())?;
-    let Ok(job) = parse(alloc, script.as_slice()) else {
-        return Err(Fail::from("the command is not read"));
-    };
-    let [script] = job.scripts.as_slice() else {
-        return Err(Fail::from("no script"));
-    };
-    let [command] = script.commands.as_slice() else {
-        return Err(Fail::from("no command"));
-    };
-    perform(alloc, seen, &command.copy(alloc)?, oid)
+    match parse(alloc, script.as_slice()) {
+        Ok(job) => Ok(job),
+        Err(_) => Err(Fail::from("the command is not read")),
+    }
+}
+
+// The one command of a job.
+fn command_of(job: &Job) -> Option<&Command> {
+    match job.scripts.as_slice() {
+        [script] => match script.commands.as_slice() {
+            [command] => Some(command),
+            _ => None,
+        },
+        _ => None,
+    }
+}
+
+// The reply to the one command of a text.
+fn reply_to(alloc: Global, seen: &mut Seen, text: &str, oid: Oid) -> Result<Reply, Fail> {
+    let job = job_of(alloc, text)?;
+    match command_of(&job) {
+        Some(command) => perform(alloc, seen, command, oid),
+        None => Err(Fail::from("no command")),
+    }
+}
+
+// A command that is done, with this reply.
+fn done(reply: Reply) -> Entry {
+    Entry::Done {
+        txn: TxnNo(1),
+        script: ScriptNo(1),
+        index: 1,
+        command: Command::Commit,
+        reply,
+    }
+}
+
+// The line of an entry.
+fn line_of(alloc: Global, entry: &Entry) -> Result<Vec<u8>, Memory> {
+    let mut out = Vec::new(alloc);
+    line(alloc, entry, &mut out)?;
+    Ok(out)
+}
+
+// Does the command of a row. The line that tells its reply, as its share.
+fn told(alloc: Global, seen: &mut Seen, row: usize, text: &str) -> Result<Vec<u8>, Fail> {
+    let reply = reply_to(alloc, seen, text, Oid(FIRST.wrapping_add(row as u64)))?;
+    Ok(line_of(alloc, &done(reply.share()?))?)
+}
+
+// What a line tells behind its numbers, without its end.
+fn reply_in(line: &[u8]) -> Option<&[u8]> {
+    line.strip_prefix(b"done t1 s1 c1 ".as_slice())?
+        .strip_suffix(b"\n".as_slice())
 }
 
 // Does the command of a row, and looks at the line that tells its reply.
@@ -58,18 +102,8 @@ fn answers<X: Abort>(
     row: usize,
     (text, reply): (&str, &str),
 ) -> Result<(), Fail> {
-    let oid = Oid(FIRST.wrapping_add(row as u64));
-    let entry = Entry::Done {
-        txn: TxnNo(1),
-        script: ScriptNo(1),
-        index: 1,
-        command: Command::Commit,
-        reply: reply_to(alloc, seen, text, oid)?.share()?,
-    };
-    let mut got = Vec::new(alloc);
-    line(alloc, &entry, &mut got)?;
-    let wanted = format!(in alloc; "done t1 s1 c1 {reply}\n")?;
-    assert_eq!(rt; got.as_slice(), wanted.as_bytes(), "{text}");
+    let line = told(alloc, seen, row, text)?;
+    assert_eq!(rt; reply_in(line.as_slice()), Some(reply.as_bytes()), "{text}");
     Ok(())
 }
 
@@ -236,26 +270,46 @@ fn other_values_are_no_entries(rt: HostRuntime) -> Result<(), Fail> {
     Ok(())
 }
 
+// Are there no numbers for what a command with this one makes?
+fn has_no_number(alloc: Global, seen: &mut Seen, oid: u64) -> Result<bool, Fail> {
+    let reply = reply_to(alloc, seen, "create /f", Oid(oid))?;
+    Ok(matches!(reply, Reply::Oids))
+}
+
 #[test]
 fn numbers_end(rt: HostRuntime) -> Result<(), Fail> {
     let alloc = rt.alloc();
     let mut seen = empty(alloc)?;
-    for (oid, word) in [((1 << 60) - 1, "oids"), ((1 << 60) - 2, "ok")] {
-        let reply = reply_to(alloc, &mut seen, "create /f", Oid(oid))?;
-        assert_eq!(&rt; matches!(reply, Reply::Oids), word == "oids");
-    }
-    assert_eq!(&rt; seen.parts.len(), 3);
+    let last = has_no_number(alloc, &mut seen, (1 << 60) - 1)?;
+    let before = has_no_number(alloc, &mut seen, (1 << 60) - 2)?;
+    assert_eq!(&rt; (last, before, seen.parts.len()), (true, false, 3));
     Ok(())
+}
+
+// Which of the commands without a path the copy of one is, by their order.
+fn copied(alloc: Global, command: &Command) -> Result<u8, Memory> {
+    Ok(match command.copy(alloc)? {
+        Command::Begin => 0,
+        Command::End => 1,
+        Command::Commit => 2,
+        _ => 3,
+    })
 }
 
 #[test]
 fn commands_without_a_path_are_copied(rt: HostRuntime) -> Result<(), Fail> {
     let alloc = rt.alloc();
-    assert!(&rt; matches!(Command::Begin.copy(alloc)?, Command::Begin));
-    assert!(&rt; matches!(Command::End.copy(alloc)?, Command::End));
-    assert!(&rt; matches!(Command::Commit.copy(alloc)?, Command::Commit));
-    assert!(&rt; Command::End.is_job(&Command::End, Oid(1)));
-    assert!(&rt; !Command::End.is_job(&Command::Commit, Oid(1)));
-    assert!(&rt; !Command::Begin.makes_object());
+    let copies = [
+        copied(alloc, &Command::Begin)?,
+        copied(alloc, &Command::End)?,
+        copied(alloc, &Command::Commit)?,
+    ];
+    assert_eq!(&rt; copies, [0, 1, 2]);
+    let facts = [
+        Command::End.is_job(&Command::End, Oid(1)),
+        Command::End.is_job(&Command::Commit, Oid(1)),
+        Command::Begin.makes_object(),
+    ];
+    assert_eq!(&rt; facts, [true, false, false]);
     Ok(())
 }

@@ -167,29 +167,41 @@ fn numbered(alloc: Global, command: &Command, oid: Oid) -> Result<Command, Memor
     })
 }
 
-/// Does a command on all that the content has. An object that it makes gets this number.
-pub fn perform(alloc: Global, seen: &mut Seen, command: &Command, oid: Oid) -> Result<Reply, Fail> {
+// What an answer's intervals and runs make.
+fn set_all(parts: &mut Vec<SeenPart>, edits: &Edits) -> Result<(), Memory> {
+    cut_all(parts, edits.cuts.as_slice());
+    zero_all(parts, edits.zeros.as_slice())?;
+    fill_all(parts, edits.fills.as_slice())?;
+    run_all(parts, edits.runs.as_slice())
+}
+
+// The values of an answer come, and its reply is given.
+fn finish(parts: &mut Vec<SeenPart>, edits: Edits) -> Result<Reply, Memory> {
+    let Edits { puts, reply, .. } = edits;
+    put_all(parts, puts)?;
+    Ok(reply)
+}
+
+// Is a command the job's with this number, and with no other one where it makes an object?
+fn is_numbered(command: &Command, job: &Command, oid: Oid) -> bool {
+    command.is_job(job, oid) && command.is_job(job, Oid(1)) != command.makes_object()
+}
+
+// What a command changes, and its reply. An object that it makes gets this number.
+fn planned(alloc: Global, seen: &Seen, job: &Command, oid: Oid) -> Result<Edits, Fail> {
     if !rises(seen) {
         return Err(Fail::from("the keys do not rise"));
     }
-    let job = command;
     let command = numbered(alloc, job, oid)?;
-    if !command.is_job(job, oid) || command.is_job(job, Oid(1)) == command.makes_object() {
+    if !is_numbered(&command, job, oid) {
         return Err(Fail::from("the command is not the job's"));
     }
-    let Edits {
-        cuts,
-        zeros,
-        fills,
-        runs,
-        puts,
-        reply,
-    } = plan(alloc, &command, seen)?;
-    let parts = &mut seen.parts;
-    cut_all(parts, cuts.as_slice());
-    zero_all(parts, zeros.as_slice())?;
-    fill_all(parts, fills.as_slice())?;
-    run_all(parts, runs.as_slice())?;
-    put_all(parts, puts)?;
-    Ok(reply)
+    Ok(plan(alloc, &command, seen)?)
+}
+
+/// Does a command on all that the content has. An object that it makes gets this number.
+pub fn perform(alloc: Global, seen: &mut Seen, command: &Command, oid: Oid) -> Result<Reply, Fail> {
+    let edits = planned(alloc, seen, command, oid)?;
+    set_all(&mut seen.parts, &edits)?;
+    Ok(finish(&mut seen.parts, edits)?)
 }

@@ -12,6 +12,3 @@ mod trouble;
 pub use file::FileDevice;
 pub use stop::{StopDevice, Unmade};
 pub use trouble::{FileCall, Trouble};
-
-#[cfg(test)]
-mod tests;

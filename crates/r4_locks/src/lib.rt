@@ -11,6 +11,3 @@ pub use laws::{conflict_law, no_holds_law};
 pub use lock_table::LockTable;
 pub use task_holds::NewTask;
 pub use things::{Held, Mode, TakeFault};
-
-#[cfg(test)]
-mod tests;

@@ -2,7 +2,5 @@
 #![tactic(auto)]
 
 mod finding;
-#[cfg(test)]
-mod tests;
 
 pub use finding::{Other, others};

@@ -17,6 +17,3 @@ pub use fault::{ParseFault, ScriptFault, What};
 pub use job::{Commands, Job, Script, Scripts};
 pub use laws::grammar_law;
 pub use text::parse;
-
-#[cfg(test)]
-mod tests;

@@ -48,61 +48,73 @@ pub fn read(
     SpaceMap::read(alloc, bitmaps, blocks, free)
 }
 
+// The space of a new volume.
+fn space_of(rt: &impl Abort, alloc: Global, blocks: u64, free: u64) -> Result<SpaceMap, Fail>
+    ensures open { IfOk result (λ s. s.sealed ≡ []) }
+    ensures size { IfOk result (λ s. 64 ≤ s.block_count) }
+{
+    let bitmaps = bitmaps(alloc, blocks)?;
+    match read(rt, alloc, &bitmaps, blocks, free) {
+        Ok(space) => Ok(space),
+        Err(_) => Err(Fail::from("no space")),
+    }
+}
+
+// The blocks, the byte that is made 0 in the last bitmap, how many blocks are free, and the bitmap that is at fault.
+static BITMAPS: [(u64, usize, u64, Option<u64>); 8] = [
+    (64, 4096, 40, None),
+    (64, 4096, 41, Some(18)),
+    (64, 4, 48, Some(18)),
+    (64, 4095, 48, Some(18)),
+    (32_737, 4096, 32_712, None),
+    (32_737, 4096, 32_713, Some(18)),
+    (32_737, 4, 32_720, Some(32_736)),
+    (32_737, 4095, 32_720, Some(32_736)),
+];
+
+// The bitmaps of a new volume, with a 0 for this byte of the last one.
+fn cleared(alloc: Global, blocks: u64, cleared: usize) -> Result<Vec<Block>, Fail> {
+    let mut bitmaps = bitmaps(alloc, blocks)?;
+    if let Some(last) = bitmaps.last_mut() {
+        if let Some(byte) = last.bytes_mut().get_mut(cleared) {
+            *byte = 0;
+        }
+    }
+    Ok(bitmaps)
+}
+
 #[test]
 fn the_bitmaps_are_read(rt: HostRuntime) -> Result<(), Fail> {
     let alloc = rt.alloc();
-    // The blocks, the byte that is made 0 in the last bitmap, how many blocks are free, and the fault.
-    let table = [
-        (64, 4096, 40, None),
-        (64, 4096, 41, Some(18)),
-        (64, 4, 48, Some(18)),
-        (64, 4095, 48, Some(18)),
-        (32_737, 4096, 32_712, None),
-        (32_737, 4096, 32_713, Some(18)),
-        (32_737, 4, 32_720, Some(32_736)),
-        (32_737, 4095, 32_720, Some(32_736)),
-    ];
-    for (row, &(blocks, cleared, free, fault)) in table.iter().enumerate() {
-        let mut bitmaps = bitmaps(alloc, blocks)?;
-        if let Some(last) = bitmaps.last_mut() {
-            if let Some(byte) = last.bytes_mut().get_mut(cleared) {
-                *byte = 0;
-            }
-        }
-        let fault = fault.map(|block| SpaceFault::Bitmap {
+    for (row, &(blocks, at, free, fault)) in BITMAPS.iter().enumerate() {
+        let bitmaps = cleared(alloc, blocks, at)?;
+        let found = read(&rt, alloc, &bitmaps, blocks, free).err();
+        let wanted = fault.map(|block| SpaceFault::Bitmap {
             block: BlockNo(block),
         });
-        same_in(
-            &rt,
-            &read(&rt, alloc, &bitmaps, blocks, free).err(),
-            &fault,
-            row,
-        );
+        same_in(&rt, &found, &wanted, row);
     }
     Ok(())
 }
 
+// How many cells and bitmaps, and the price.
+static PRICES: [(u64, u64, u64); 10] = [
+    (0, 1, 0),
+    (1, 1, 5),
+    (2, 1, 6),
+    (7, 1, 11),
+    (17, 1, 21),
+    (22, 1, 26),
+    (130, 1, 134),
+    (252, 1, 256),
+    (253, 1, 258),
+    (1, 33, 37),
+];
+
 #[test]
 fn prices_are_the_formula(rt: HostRuntime) -> Result<(), Fail> {
-    let table = [
-        (0u32, 1u32, 0),
-        (1, 1, 5),
-        (2, 1, 6),
-        (7, 1, 11),
-        (17, 1, 21),
-        (22, 1, 26),
-        (130, 1, 134),
-        (252, 1, 256),
-        (253, 1, 258),
-        (1, 33, 37),
-    ];
-    for (row, &(cells, bitmaps, blocks)) in table.iter().enumerate() {
-        same_in(
-            &rt,
-            &price(u64::from(cells), u64::from(bitmaps)),
-            &blocks,
-            row,
-        );
+    for (row, &(cells, bitmaps, blocks)) in PRICES.iter().enumerate() {
+        same_in(&rt, &price(cells, bitmaps), &blocks, row);
     }
     Ok(())
 }
@@ -201,65 +213,60 @@ fn finish_freed(alloc: Global, space: &mut SpaceMap, blocks: &[u8]) -> Result<()
     Ok(())
 }
 
-// A first atom fills a volume of 64 blocks with five cells, and a second one frees them.
-fn fill(rt: &impl Abort, alloc: Global, space: &mut SpaceMap) -> Result<(), Fail>
+// A first atom is charged three times and places five cells: what is short, and what is free before and after.
+fn place_five(alloc: Global, space: &mut SpaceMap) -> Result<([Option<Short>; 3], [u64; 2]), Fail>
+    requires { space.old.sealed ≡ [] }
+    ensures open { OnOk result (space.new.sealed ≡ []) }
+    ensures size { OnOk result (space.new.block_count ≡ space.old.block_count) }
+{
+    let little = charge(alloc, space, 1, 1, 0)?;
+    let much = charge(alloc, space, 1, 130, 128)?;
+    let more = charge(alloc, space, 1, 7, 5)?;
+    let before = space.free();
+    finish_placed(space, 5);
+    Ok(([little, much, more], [before, space.free()]))
+}
+
+// It is charged twice, and frees the five cells: what is short, and what is free then.
+fn free_five(alloc: Global, space: &mut SpaceMap) -> Result<([Option<Short>; 2], u64), Fail>
     requires open { space.old.sealed ≡ [] }
     requires size { 64 ≤ space.old.block_count }
     ensures { OnOk result (space.new.sealed ≡ []) }
 {
-    same(rt, &charge(alloc, space, 1, 1, 0)?, &None, "what is short");
-    same(
-        rt,
-        &charge(alloc, space, 1, 130, 128)?,
-        &Some(Short {
-            need: 257,
-            free: 35,
-        }),
-        "what is short",
-    );
-    same(rt, &charge(alloc, space, 1, 7, 5)?, &None, "what is short");
-    same(rt, &space.free(), &24, "free");
-    finish_placed(space, 5);
-    same(rt, &space.free(), &35, "free");
-    same(
-        rt,
-        &charge(alloc, space, 1, 22, 20)?,
-        &Some(Short { need: 46, free: 35 }),
-        "what is short",
-    );
-    same(rt, &charge(alloc, space, 1, 2, 0)?, &None, "what is short");
-    finish_freed(alloc, space, &[24, 25, 26, 27, 28])
+    let much = charge(alloc, space, 1, 22, 20)?;
+    let little = charge(alloc, space, 1, 2, 0)?;
+    finish_freed(alloc, space, &[24, 25, 26, 27, 28])?;
+    Ok(([much, little], space.free()))
+}
+
+// Two atoms are charged and become one, which is charged once more: what is short, and what is free after each.
+fn charge_both(alloc: Global, space: &mut SpaceMap) -> Result<([Option<Short>; 3], [u64; 3]), Fail>
+    requires { space.old.sealed ≡ [] }
+{
+    let first = charge(alloc, space, 1, 1, 0)?;
+    let second = charge(alloc, space, 2, 2, 0)?;
+    let apart = space.free();
+    merge(space);
+    let merged = space.free();
+    let third = charge(alloc, space, 1, 17, 15)?;
+    Ok(([first, second, third], [apart, merged, space.free()]))
 }
 
 #[test]
 fn a_full_volume_is_charged(rt: HostRuntime) -> Result<(), Fail> {
     let alloc = rt.alloc();
-    let bitmaps = bitmaps(alloc, 64)?;
-    let mut space = read(&rt, alloc, &bitmaps, 64, 40).map_err(|_| Fail::from("no space"))?;
-    fill(&rt, alloc, &mut space)?;
-    same(&rt, &space.free(), &40, "free");
-    same(
-        &rt,
-        &charge(alloc, &mut space, 1, 1, 0)?,
-        &None,
-        "what is short",
-    );
-    same(
-        &rt,
-        &charge(alloc, &mut space, 2, 2, 0)?,
-        &None,
-        "what is short",
-    );
-    same(&rt, &space.free(), &29, "free");
-    merge(&mut space);
-    same(&rt, &space.free(), &33, "free");
-    same(
-        &rt,
-        &charge(alloc, &mut space, 1, 17, 15)?,
-        &None,
-        "what is short",
-    );
-    same(&rt, &space.free(), &4, "free");
+    let mut space = space_of(&rt, alloc, 64, 40)?;
+    let placed = place_five(alloc, &mut space)?;
+    let freed = free_five(alloc, &mut space)?;
+    let both = charge_both(alloc, &mut space)?;
+    let much = Some(Short {
+        need: 257,
+        free: 35,
+    });
+    same(&rt, &placed, &([None, much, None], [24, 35]), "placed");
+    let again = Some(Short { need: 46, free: 35 });
+    same(&rt, &freed, &([again, None], 40), "freed");
+    same(&rt, &both, &([None; 3], [29, 33, 4]), "both");
     Ok(())
 }
 
@@ -273,14 +280,15 @@ fn written(alloc: Global, space: &SpaceMap, atom: u32) -> Result<u8, Fail>
 }
 
 // Places two blocks from 24 on, the last one, and some from behind it.
-fn place_around(rt: &impl Abort, space: &mut SpaceMap, last: u64)
+fn place_around(space: &mut SpaceMap, last: u64) -> [Option<u64>; 5]
     ensures { space.new.block_count ≡ space.old.block_count }
 {
-    // Where to look for a block, and which one is found.
-    let table = [(0, 24), (24, 25), (last, last), (last, 26), (u64::MAX, 27)];
-    for (row, &(near, found)) in table.iter().enumerate() {
-        same_in(rt, &place(space, near), &Some(found), row);
-    }
+    let first = place(space, 0);
+    let second = place(space, 24);
+    let third = place(space, last);
+    let fourth = place(space, last);
+    let fifth = place(space, u64::MAX);
+    [first, second, third, fourth, fifth]
 }
 
 // Seals two atoms.
@@ -291,75 +299,105 @@ fn seal_both(space: &mut SpaceMap)
     space.seal(AtomNo(2));
 }
 
-// Two atoms free blocks 24 and 25, the first of them holds block 28, and both are sealed.
-fn free_two(rt: &impl Abort, alloc: Global, space: &mut SpaceMap) -> Result<(), Fail>
+// Two atoms free blocks 24 and 25, the first of them holds a block, and both are sealed: that block, and the bits that each
+// writes.
+fn free_two(alloc: Global, space: &mut SpaceMap) -> Result<(Option<u64>, [u8; 2]), Fail>
     requires { 64 ≤ space.old.block_count }
 {
     defer(alloc, space, 1, 24)?;
     defer(alloc, space, 2, 25)?;
-    same(rt, &hold(alloc, space, 1, 24)?, &Some(28), "held");
+    let held = hold(alloc, space, 1, 24)?;
     seal_both(space);
-    same(rt, &written(alloc, space, 1)?, &0b1110, "bits");
-    same(rt, &written(alloc, space, 2)?, &0b1100, "bits");
-    Ok(())
+    let first = written(alloc, space, 1)?;
+    let second = written(alloc, space, 2)?;
+    Ok((held, [first, second]))
 }
 
-// What the space is after each of these atoms settled, the first one first.
-fn settle_both(rt: &impl Abort, alloc: Global, space: &mut SpaceMap) -> Result<(), Fail> {
-    same(rt, &place(space, 24), &Some(29), "placed");
+// The first of them settles, and in a copy the second: which blocks are placed before, between and after, and how many are
+// free more in the copy.
+fn settle_both(alloc: Global, space: &mut SpaceMap) -> Result<([Option<u64>; 4], u64), Fail> {
+    let before = place(space, 24);
     space.settle(AtomNo(1));
-    same(rt, &place(space, 25), &Some(28), "placed");
-    same(rt, &place(space, 23), &Some(24), "placed");
+    let given = place(space, 25);
+    let freed = place(space, 23);
     let mut copy = space.copy(alloc)?;
     copy.settle(AtomNo(2));
-    same(rt, &place(&mut copy, 25), &Some(25), "placed");
-    same(rt, &space.free(), &copy.free(), "free");
+    let last = place(&mut copy, 25);
+    Ok((
+        [before, given, freed, last],
+        copy.free().wrapping_sub(space.free()),
+    ))
+}
+
+// Atoms of a new volume settle, of which so many blocks are free.
+fn settle_in_order(
+    rt: &impl Abort,
+    alloc: Global,
+    blocks: u64,
+    last: u64,
+    free: u64,
+) -> Result<(), Fail> {
+    let mut space = space_of(rt, alloc, blocks, free)?;
+    let around = place_around(&mut space, last);
+    let placed = space.free();
+    space.settle(AtomNo(9));
+    let freed = free_two(alloc, &mut space)?;
+    let settled = settle_both(alloc, &mut space)?;
+    let found = [Some(24), Some(25), Some(last), Some(26), Some(27)];
+    same(rt, &around, &found, "around");
+    same(rt, &freed, &(Some(28), [0b1110, 0b1100]), "freed");
+    let found = [Some(29), Some(28), Some(24), Some(25)];
+    same(rt, &settled, &(found, 0), "settled");
+    same(
+        rt,
+        &[placed, space.free()],
+        &[free.wrapping_sub(5), free.wrapping_sub(7)],
+        "free",
+    );
     Ok(())
 }
 
 #[test]
 fn atoms_settle_in_order(rt: HostRuntime) -> Result<(), Fail> {
-    let alloc = rt.alloc();
-    for (blocks, last, free) in [(64, 63, 40), (32_737, 32_735, 32_712)] {
-        let bitmaps = bitmaps(alloc, blocks)?;
-        let mut space = read(&rt, alloc, &bitmaps, blocks, free).map_err(|_| Fail::from(
-            "no space",
-        ))?;
-        place_around(&rt, &mut space, last);
-        same(&rt, &space.free(), &(free - 5), "free");
-        space.settle(AtomNo(9));
-        free_two(&rt, alloc, &mut space)?;
-        settle_both(&rt, alloc, &mut space)?;
-        same(&rt, &space.free(), &(free - 7), "free");
-    }
-    Ok(())
+    settle_in_order(&rt, rt.alloc(), 64, 63, 40)?;
+    settle_in_order(&rt, rt.alloc(), 32_737, 32_735, 32_712)
 }
 
-// Two atoms defer a block, and settle one after the other.
-fn defer_twice(rt: &impl Abort, alloc: Global, space: &mut SpaceMap) -> Result<(), Fail>
+// Two atoms defer a block, and settle one after the other: what is free after each step, and whether the block is used still.
+fn defer_twice(alloc: Global, space: &mut SpaceMap) -> Result<([u64; 4], [bool; 2]), Fail>
     requires { 64 ≤ space.old.block_count }
 {
     defer(alloc, space, 1, 30)?;
-    same(rt, &space.free(), &39, "one");
+    let one = space.free();
     defer(alloc, space, 2, 30)?;
-    same(rt, &space.free(), &39, "two");
+    let two = space.free();
     space.settle(AtomNo(1));
-    same(rt, &space.is_used(BlockNo(30)), &true, "still deferred");
-    same(rt, &space.free(), &39, "one again");
+    let again = space.free();
+    let is_deferred = space.is_used(BlockNo(30));
     space.settle(AtomNo(2));
-    same(rt, &space.is_used(BlockNo(30)), &false, "given back");
-    Ok(())
+    let is_used = space.is_used(BlockNo(30));
+    Ok(([one, two, again, space.free()], [is_deferred, is_used]))
 }
 
 #[test]
 fn an_unmarked_block_is_deferred(rt: HostRuntime) -> Result<(), Fail> {
     let alloc = rt.alloc();
-    let bitmaps = bitmaps(alloc, 64)?;
-    let mut space = read(&rt, alloc, &bitmaps, 64, 40).map_err(|_| Fail::from("no space"))?;
-    same(&rt, &space.is_used(BlockNo(30)), &false, "unmarked");
-    same(&rt, &space.is_used(BlockNo(23)), &true, "marked");
-    same(&rt, &space.is_used(BlockNo(64)), &false, "past the end");
-    defer_twice(&rt, alloc, &mut space)?;
-    same(&rt, &space.free(), &40, "none");
+    let mut space = space_of(&rt, alloc, 64, 40)?;
+    let unmarked = space.is_used(BlockNo(30));
+    let marked = space.is_used(BlockNo(23));
+    let outside = space.is_used(BlockNo(64));
+    let deferred = defer_twice(alloc, &mut space)?;
+    same(
+        &rt,
+        &[unmarked, marked, outside],
+        &[false, true, false],
+        "used",
+    );
+    same(
+        &rt,
+        &deferred,
+        &([39, 39, 39, 40], [true, false]),
+        "deferred",
+    );
     Ok(())
 }

@@ -21,6 +21,3 @@ pub use safety::{
 };
 pub use text::line;
 pub use trace::Trace;
-
-#[cfg(test)]
-mod tests;

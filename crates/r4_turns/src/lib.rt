@@ -11,6 +11,3 @@ pub use laws::order_law;
 pub use out::{Nodes, Numbers, Out};
 pub use turn::{Open, Pending};
 pub use turns::Turns;
-
-#[cfg(test)]
-mod tests;

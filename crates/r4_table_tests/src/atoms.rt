@@ -3,7 +3,7 @@
 ghost use Rattle.std.specs.Prelude.{◌≡◌, ◌<◌, IsTrue};
 ghost use Rattle.r4_atoms.specs.Atoms.{FitTogether};
 
-use crate::{Account, Atoms, CaptureFault, StillOpen, Uncommitted};
+use r4_atoms::{Account, Atoms, CaptureFault, StillOpen, Uncommitted};
 use r4_base::{AtomNo, NodeId, ScriptNo, TxnNo};
 use std::alloc::Global;
 use std::process::Abort;
@@ -119,18 +119,27 @@ fn sealed(rt: &impl Abort, alloc: Global) -> Result<Atoms, Fail> {
     Ok(atoms)
 }
 
+// The owners of three nodes, how a script is uncommitted, and the next closed atom.
+fn told(atoms: &Atoms) -> ([Option<AtomNo>; 3], Uncommitted, Option<AtomNo>) {
+    let first = atoms.owner(NodeId(30));
+    let second = atoms.owner(NodeId(20));
+    let third = atoms.owner(NodeId(40));
+    (
+        [first, second, third],
+        atoms.uncommitted_of(ScriptNo(8)),
+        atoms.next_closed(),
+    )
+}
+
 #[test]
 fn a_fuse_keeps_the_smaller_atom(rt: HostRuntime) -> Result<(), Fail> {
     let atoms = three(&rt, rt.alloc())?;
-    assert!(rt; atoms.owner(NodeId(30)) == Some(AtomNo(1)));
-    assert!(rt; atoms.owner(NodeId(20)) == Some(AtomNo(2)));
-    assert!(rt; atoms.owner(NodeId(40)) == None);
     let open = Uncommitted::Open {
         atom: AtomNo(1),
         txn: TxnNo(1),
     };
-    assert!(rt; atoms.uncommitted_of(ScriptNo(8)) == open);
-    assert!(rt; atoms.next_closed() == None);
+    let owners = [Some(AtomNo(1)), Some(AtomNo(2)), None];
+    assert!(rt; told(&atoms) == (owners, open, None));
     Ok(())
 }
 
@@ -138,34 +147,47 @@ fn a_fuse_keeps_the_smaller_atom(rt: HostRuntime) -> Result<(), Fail> {
 fn a_node_is_captured_once(rt: HostRuntime) -> Result<(), Fail> {
     let mut atoms = three(&rt, rt.alloc())?;
     let refused = capture(&rt, rt.alloc(), &mut atoms, AtomNo(2), 30);
-    assert!(rt; refused == Err(CaptureFault::Owned { by: AtomNo(1) }));
     close(&rt, &mut atoms, TxnNo(1));
     let open = seal(&rt, &mut atoms, AtomNo(1));
+    assert!(rt; refused == Err(CaptureFault::Owned { by: AtomNo(1) }));
     assert!(rt; open == Err(StillOpen { txn: TxnNo(3) }));
     Ok(())
+}
+
+// Of a sealed atom one node is captured by another one, and then it is committed and cleaned: whether the capture went well,
+// whether its script is committed before and after, and the owners of its two nodes then.
+fn lose(rt: &impl Abort, alloc: Global, atoms: &mut Atoms) -> ([bool; 3], [Option<AtomNo>; 2]) {
+    let is_captured = capture(rt, alloc, atoms, AtomNo(2), 30).is_ok();
+    let before = atoms.all_committed(ScriptNo(8));
+    commit(rt, atoms, AtomNo(1));
+    let after = atoms.all_committed(ScriptNo(8));
+    clean(rt, atoms, AtomNo(1));
+    let first = atoms.owner(NodeId(10));
+    let second = atoms.owner(NodeId(30));
+    ([is_captured, before, after], [first, second])
 }
 
 #[test]
 fn a_sealed_atom_loses_a_node(rt: HostRuntime) -> Result<(), Fail> {
     let mut atoms = sealed(&rt, rt.alloc())?;
-    assert!(rt; capture(&rt, rt.alloc(), &mut atoms, AtomNo(2), 30).is_ok());
-    assert!(rt; !atoms.all_committed(ScriptNo(8)));
-    commit(&rt, &mut atoms, AtomNo(1));
-    assert!(rt; atoms.all_committed(ScriptNo(8)));
-    clean(&rt, &mut atoms, AtomNo(1));
-    assert!(rt; atoms.owner(NodeId(10)) == None);
-    assert!(rt; atoms.owner(NodeId(30)) == Some(AtomNo(2)));
+    let found = lose(&rt, rt.alloc(), &mut atoms);
+    assert!(rt; found == ([true, false, true], [None, Some(AtomNo(2))]));
     Ok(())
+}
+
+// Renames two nodes, the second to one that has another owner: the nodes of the first atom then.
+fn renamed(rt: &impl Abort, alloc: Global, atoms: &mut Atoms) -> Result<Vec<u64>, Fail> {
+    atoms.rename(NodeId(30), NodeId(40));
+    atoms.rename(NodeId(20), NodeId(10));
+    nodes(rt, alloc, atoms, AtomNo(1))
 }
 
 #[test]
 fn a_rename_leaves_an_owner(rt: HostRuntime) -> Result<(), Fail> {
     let mut atoms = three(&rt, rt.alloc())?;
-    atoms.rename(NodeId(30), NodeId(40));
-    atoms.rename(NodeId(20), NodeId(10));
-    let nodes = nodes(&rt, rt.alloc(), &atoms, AtomNo(1))?;
-    assert!(rt; nodes.as_slice() == [10, 40].as_slice());
-    assert!(rt; atoms.owner(NodeId(20)) == None);
+    let nodes = renamed(&rt, rt.alloc(), &mut atoms)?;
+    let has_none = atoms.owner(NodeId(20)) == None;
+    assert!(rt; has_none && nodes.as_slice() == [10, 40].as_slice());
     Ok(())
 }
 
@@ -181,42 +203,63 @@ fn charge(rt: &impl Abort, atoms: &mut Atoms, atom: AtomNo, cells: u64) {
     atoms.charge(atom, account);
 }
 
+// Charges two atoms and fuses them: the one that is left, and its account.
+fn added(rt: &impl Abort, alloc: Global, atoms: &mut Atoms) -> Result<(AtomNo, Account), Fail> {
+    let one = begin(rt, alloc, atoms, 1)?;
+    let two = begin(rt, alloc, atoms, 1)?;
+    charge(rt, atoms, one, 5);
+    charge(rt, atoms, two, 6);
+    let left = fuse(rt, atoms, two, one);
+    assert!(rt; atoms.is_atom(one));
+    Ok((left, atoms.account(one)))
+}
+
 #[test]
 fn accounts_are_added(rt: HostRuntime) -> Result<(), Fail> {
-    let alloc = rt.alloc();
-    let mut atoms = Atoms::new(alloc);
-    let one = begin(&rt, alloc, &mut atoms, 1)?;
-    let two = begin(&rt, alloc, &mut atoms, 1)?;
-    charge(&rt, &mut atoms, one, 5);
-    charge(&rt, &mut atoms, two, 6);
-    assert!(rt; fuse(&rt, &mut atoms, two, one).0 == 1);
-    assert!(rt; atoms.is_atom(one));
+    let mut atoms = Atoms::new(rt.alloc());
+    let found = added(&rt, rt.alloc(), &mut atoms)?;
     let sum = Account {
         cells: 11,
         fresh: 6,
         born: 4,
         gone: 2,
     };
-    assert!(rt; atoms.account(one) == sum);
+    assert!(rt; found == (AtomNo(1), sum));
     Ok(())
+}
+
+// Begins two thousand transactions with a node each.
+fn begin_all(rt: &impl Abort, alloc: Global, atoms: &mut Atoms) -> Result<(), Fail> {
+    for i in 0..2000 {
+        let atom = begin(rt, alloc, atoms, 1)?;
+        let _ = capture(rt, alloc, atoms, atom, i);
+    }
+    Ok(())
+}
+
+// Fuses the first thousand in a chain and the others in a star: the atom of the last one of each.
+fn fuse_all(rt: &impl Abort, atoms: &mut Atoms) -> [AtomNo; 2] {
+    for i in 1..1000u32 {
+        let _ = fuse(rt, atoms, AtomNo(1000 - i), AtomNo(1001 - i));
+    }
+    for i in 1002..2001u32 {
+        let _ = fuse(rt, atoms, AtomNo(i), AtomNo(1001));
+    }
+    [atom_of(rt, atoms, 1000), atom_of(rt, atoms, 2000)]
+}
+
+// How many nodes an atom has.
+fn node_count(rt: &impl Abort, alloc: Global, atoms: &Atoms, atom: AtomNo) -> Result<usize, Fail> {
+    let nodes = nodes(rt, alloc, atoms, atom)?;
+    Ok(nodes.len())
 }
 
 #[test]
 fn a_thousand_are_fused_in_a_chain_and_in_a_star(rt: HostRuntime) -> Result<(), Fail> {
-    let alloc = rt.alloc();
-    let mut atoms = Atoms::new(alloc);
-    for i in 0..2000 {
-        let atom = begin(&rt, alloc, &mut atoms, 1)?;
-        let _ = capture(&rt, alloc, &mut atoms, atom, i);
-    }
-    for i in 1..1000u32 {
-        let _ = fuse(&rt, &mut atoms, AtomNo(1000 - i), AtomNo(1001 - i));
-    }
-    for i in 1002..2001u32 {
-        let _ = fuse(&rt, &mut atoms, AtomNo(i), AtomNo(1001));
-    }
-    assert!(rt; atom_of(&rt, &atoms, 1000).0 == 1);
-    assert!(rt; atom_of(&rt, &atoms, 2000).0 == 1001);
-    assert!(rt; nodes(&rt, alloc, &atoms, AtomNo(1001))?.len() == 1000);
+    let mut atoms = Atoms::new(rt.alloc());
+    begin_all(&rt, rt.alloc(), &mut atoms)?;
+    let last = fuse_all(&rt, &mut atoms);
+    let count = node_count(&rt, rt.alloc(), &atoms, AtomNo(1001))?;
+    assert!(rt; last == [AtomNo(1), AtomNo(1001)] && count == 1000);
     Ok(())
 }

@@ -4,13 +4,11 @@ ghost use Rattle.std.specs.Prelude.{◌≡◌, ℕ, ◌+◌, ◌*◌, ◌^◌, �
 ghost use Rattle.r4_base.specs.Key.{IsKey, offset_of, rank};
 ghost use Rattle.r4_branch.specs.Pieces.{AreTwigPieces, IsSound, IsSoundPart, MayStand, part_end, piece_end};
 
-use crate::packing::pack_twigs;
-use crate::piece::{TwigPart, TwigPiece};
-use crate::reading::pieces_of;
-use crate::twig::Twig;
 use r4_base::{Key, NodeId, Unit};
+use r4_branch::{Twig, TwigPart, TwigPiece, pack_twigs, pieces_of};
 use r4_node40::NodeView;
 use std::alloc::Global;
+use std::process::Abort;
 use std::test::Fail;
 
 /// A piece: from which block of its object it stands, its number, and its width; a pointer has none.
@@ -133,20 +131,25 @@ static UNITS: [Row; 3] = [
     (4, UNPLACED + 2, 1),
 ];
 
+// Looks at how many items the twigs of a case have, and at the rows that are read.
+fn look<X: Abort>(rt: &X, case: usize, counts: &[u16], read: &[Row], items: &[u16], rows: &[Row]) {
+    assert_eq!(rt; counts, items, "items of case {case}");
+    assert_eq!(rt;
+        read.first(),
+        Some(&(0, UNPLACED, 0)),
+        "first piece of case {case}"
+    );
+    assert_eq!(rt; &read[1..], rows, "pieces of case {case}");
+}
+
 #[test]
 fn pieces_are_packed_and_read(rt: HostRuntime) -> Result<(), Fail> {
     let full = pointers(rt.alloc(), 88)?;
     let more = pointers(rt.alloc(), 89)?;
     let cases: [(&[Row], &[u16]); 3] = [(&UNITS, &[3]), (&full, &[88]), (&more, &[88, 1])];
-    for (row, (rows, items)) in cases.iter().enumerate() {
+    for (case, (rows, items)) in cases.iter().enumerate() {
         let (counts, read) = packed(rt.alloc(), rows)?;
-        assert_eq!(rt; counts.as_slice(), *items, "items of case {row}");
-        assert_eq!(rt;
-            read.first(),
-            Some(&(0, UNPLACED, 0)),
-            "first piece of case {row}"
-        );
-        assert_eq!(rt; &read[1..], *rows, "pieces of case {row}");
+        look(&rt, case, counts.as_slice(), read.as_slice(), items, rows);
     }
     Ok(())
 }

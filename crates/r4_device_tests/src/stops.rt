@@ -1,7 +1,7 @@
 //! A stop over a device in memory.
 
-use crate::StopDevice;
 use r4_base::{Block, BlockNo};
+use r4_devices::StopDevice;
 use r4_outside::{Device, MemoryDevice};
 use std::alloc::Global;
 use std::fmt::Debug;

@@ -1,8 +1,8 @@
 //! Which other atoms own a node of a reach.
 
-use crate::{Other, others};
 use r4_atoms::Atoms;
 use r4_base::{AtomNo, NodeId, ScriptNo, TxnNo};
+use r4_others::{Other, others};
 use std::alloc::Global;
 use std::process::Abort;
 use std::test::Fail;

@@ -5,7 +5,7 @@ use Rattle.r4_branch.specs.Twigs.{PacksTwigs}
 use Rattle.r4_branch.specs.declared.piece.TwigPiece.{TwigPiece}
 use Rattle.r4_branch.specs.declared.twig.Twig.{Twig}
 use Rattle.r4_branch.proofs.Packed.{packs_stand}
-use Rattle.r4_branch.proofs.tests.packed.Goals as goal
+use Rattle.r4_twig_tests.proofs.packing.packed.Goals as goal
 
 stands : (lo hi : ℕ) (ps : List TwigPiece) (twigs lent : List Twig) (i : ℕ) (x : Twig) → PacksTwigs lo hi ps twigs → lent ≡ twigs → i < length lent → x ≡ get_or lent i x → (from : ℕ) × (to : ℕ) × MayStand from to x.block
 stands lo hi ps twigs lent i x p same lt is =

@@ -1,6 +1,6 @@
 use Rattle.std.proofs.Common.{◌*◌, ◌^◌, ◌≤◌}
 use Rattle.r4_branch.specs.Pieces.{AreTwigPieces}
-use Rattle.r4_branch.proofs.tests.pieces_behind.Given as goal
+use Rattle.r4_twig_tests.proofs.packing.pieces_behind.Given as goal
 
 abbrev pub invariant-loop-row : goal.invariant-loop-row
 invariant-loop-row l = record {

@@ -3,7 +3,7 @@ use Rattle.r4_base.specs.Key.{rank}
 use Rattle.r4_branch.specs.Pieces.{AreTwigPieces, IsSound, piece_end}
 use Rattle.r4_branch.specs.declared.piece.TwigPiece.{TwigPiece}
 use Rattle.r4_branch.proofs.Following.{are_more, are_one, are_wider}
-use Rattle.r4_branch.proofs.tests.pieces_behind.Goals as goal
+use Rattle.r4_twig_tests.proofs.packing.pieces_behind.Goals as goal
 
 one : (none new : List TwigPiece) (p : TwigPiece) → none ≡ [] → new ≡ none ++ p ∷ [] → rank p.key ≡ 4096 * 0 → IsSound p → piece_end p ≤ 4096 * (0 + 1) → AreTwigPieces 0 (4096 * 1) new
 one none new p begins pushed at sound end =

@@ -1,10 +1,10 @@
 //! Tests of the turns.
 
-use crate::{Nodes, Numbers, Out, Pending, Turns};
 use r4_base::{Memory, Oid, ScriptNo, TaskId, TxnNo};
 use r4_cell::{Cells, Fresh};
 use r4_content::{Command, Seen};
 use r4_script::{Commands, Job, Script, Scripts};
+use r4_turns::{Nodes, Numbers, Out, Pending, Turns};
 use std::alloc::Global;
 use std::process::Abort;
 use std::sync::Arc;
@@ -101,28 +101,40 @@ fn out_of(alloc: Global, task: u32) -> Result<Out, Memory> {
     })
 }
 
+// What stood of a script while its next command was out and when it was answered.
+#[derive(Clone, Copy, Debug, PartialEq, Eq)]
+struct Stood {
+    pending: [Pending; 3],
+    found: Option<ScriptNo>,
+    keeps_numbers: bool,
+    has_numbers: bool,
+    more_answered: u32,
+}
+
 // The next command of a script goes out, comes back, goes out again and is answered.
-fn out_and_back(rt: &impl Abort, turns: &mut Turns, s: ScriptNo, out: Out) {
+fn out_and_back(rt: &impl Abort, turns: &mut Turns, s: ScriptNo, out: Out) -> Stood {
     assert!(rt; s.0 > 0 && s.0 <= turns.count());
     assert!(rt; turns.out(s).is_none());
     assert!(rt; !turns.is_answered_whole(s));
     let answered = turns.answered(s);
     let task = out.task;
     turns.take_out(s, out);
-    assert_eq!(rt; turns.pending(s), Pending::Out { task });
-    assert_eq!(rt; turns.find(task).map(|found| found.0), Some(s.0));
+    let first = turns.pending(s);
+    let found = turns.find(task);
     let back = turns.give_back(s);
-    assert_eq!(rt;
-        turns.numbers(s).map(|kept| kept.oid.0),
-        Some(back.numbers.oid.0)
-    );
-    assert_eq!(rt; turns.pending(s), Pending::Next);
+    let second = turns.pending(s);
+    let oid = back.numbers.oid;
+    let keeps_numbers = turns.numbers(s).map(|kept| kept.oid) == Some(oid);
     turns.take_out(s, back);
     let _out = turns.drop_out(s);
     turns.answer(s);
-    assert_eq!(rt; turns.answered(s), answered + 1);
-    assert!(rt; turns.numbers(s).is_none());
-    assert_eq!(rt; turns.pending(s), Pending::Nothing);
+    Stood {
+        pending: [first, second, turns.pending(s)],
+        found,
+        keeps_numbers,
+        has_numbers: turns.numbers(s).is_some(),
+        more_answered: turns.answered(s).wrapping_sub(answered),
+    }
 }
 
 #[test]
@@ -135,6 +147,18 @@ fn a_pushed_command(rt: HostRuntime) -> Result<(), Fail> {
     assert_eq!(rt; turns.pending(second), Pending::Next);
     turns.enter(second, TxnNo(1), true);
     assert_eq!(rt; turns.open(second).map(|open| open.txn.0), Some(1));
-    out_and_back(&rt, &mut turns, second, out_of(rt.alloc(), 7)?);
+    let stood = out_and_back(&rt, &mut turns, second, out_of(rt.alloc(), 7)?);
+    let wanted = Stood {
+        pending: [
+            Pending::Out { task: TaskId(7) },
+            Pending::Next,
+            Pending::Nothing,
+        ],
+        found: Some(second),
+        keeps_numbers: true,
+        has_numbers: false,
+        more_answered: 1,
+    };
+    assert_eq!(rt; stood, wanted);
     Ok(())
 }
