@@ -2,11 +2,11 @@
 //! they have (docs/volume.md, "Edits").
 #![tactic(auto)]
 
+#[cfg(test)]
 mod filling;
+#[cfg(test)]
 mod raising;
 #[cfg(test)]
 mod tests;
+#[cfg(test)]
 mod turning;
-
-pub use filling::{fill, fill_below};
-pub use turning::{turn_all, turn_below};

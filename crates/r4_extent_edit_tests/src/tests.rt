@@ -2,9 +2,10 @@
 
 ghost use Rattle.std.specs.Prelude.{◌≡◌, ◌≤◌, length};
 
-use crate::{fill, fill_below, turn_all, turn_below};
+use crate::filling::{fill, fill_below};
+use crate::turning::{turn_all, turn_below};
 use r4_base::{Block, Key, NodeId, put64};
-use r4_cell::{Cell, least, read_cell, top};
+use r4_cell::{Cell, Change, least, read_cell, top};
 use r4_edit_testing::{
     LEAF, ROOT, Row, TAIL, TWIG, UNPLACED, ZEROS, byte, empty_leaf, first, rows, twig_of_holes,
     with,
@@ -12,8 +13,30 @@ use r4_edit_testing::{
 use r4_node40::NodeMut;
 use r4_path::append;
 use std::alloc::Global;
+use std::process::Abort;
 use std::sync::Arc;
 use std::test::Fail;
+
+// What is looked at of a change: the cells that come, how many go, and whether the root stays.
+#[derive(Drop)]
+struct Looked {
+    rows: Vec<Row>,
+    gone: usize,
+    keeps_root: bool,
+}
+
+fn look_at(alloc: Global, change: &Change) -> Result<Looked, Fail> {
+    Ok(Looked {
+        rows: rows(alloc, change)?,
+        gone: change.old.as_slice().len(),
+        keeps_root: change.root.is_none(),
+    })
+}
+
+// Ends the test unless the cells that come are these.
+fn same_rows<X: Abort>(rt: &X, looked: &Looked, want: &[Row]) {
+    assert_eq!(rt; looked.rows.as_slice(), want);
+}
 
 // Spells the extent of two blocks that have no place.
 fn spell_new_blocks(body: &mut [u8])
@@ -45,49 +68,57 @@ static FILLS: [(u64, &[Row]); 5] = [
     (40960, &[(TWIG, 2, 3928)]),
 ];
 
-#[test]
-fn blocks_are_set_over_holes(rt: HostRuntime) -> Result<(), Fail> {
-    let alloc = rt.alloc();
-    let twig = holes(alloc)?;
+// What comes where two blocks are set over the holes from a byte on, in a tree of two levels or of three; `None` where they may
+// not be set there.
+fn filled(
+    alloc: Global,
+    twig: &Arc<Cell>,
+    offset: u64,
+    is_high: bool,
+) -> Result<Option<Looked>, Fail> {
     let mut body = [0; 32];
     spell_new_blocks(&mut body);
+    let key = least().with_offset(offset);
+    let change = if is_high {
+        fill_below(alloc, twig, &key, &body)?
+    } else {
+        fill(alloc, twig, &key, &body)?
+    };
+    match change {
+        Some(change) => Ok(Some(look_at(alloc, &change)?)),
+        None => Ok(None),
+    }
+}
+
+// Looks at what comes over the holes.
+fn look_at_fills<X: Abort>(rt: &X, alloc: Global, is_high: bool) -> Result<(), Fail> {
+    let twig = holes(alloc)?;
     for (offset, want) in FILLS {
-        let key = least().with_offset(offset);
-        let Some(change) = fill(alloc, &twig, &key, &body)? else {
+        let Some(looked) = filled(alloc, &twig, offset, is_high)? else {
             return Err(Fail::from("the blocks may not be set there"));
         };
-        assert_eq!(rt; rows(alloc, &change)?.as_slice(), want);
-        assert!(rt; change.root.is_none());
+        same_rows(rt, &looked, want);
+        assert!(rt; looked.keeps_root);
     }
     Ok(())
+}
+
+#[test]
+fn blocks_are_set_over_holes(rt: HostRuntime) -> Result<(), Fail> {
+    look_at_fills(&rt, rt.alloc(), false)
 }
 
 // In a tree of three levels the same cells come: the root stays.
 #[test]
 fn blocks_are_set_over_holes_below_a_root(rt: HostRuntime) -> Result<(), Fail> {
-    let alloc = rt.alloc();
-    let twig = holes(alloc)?;
-    let mut body = [0; 32];
-    spell_new_blocks(&mut body);
-    for (offset, want) in FILLS {
-        let key = least().with_offset(offset);
-        let Some(change) = fill_below(alloc, &twig, &key, &body)? else {
-            return Err(Fail::from("the blocks may not be set there"));
-        };
-        assert_eq!(rt; rows(alloc, &change)?.as_slice(), want);
-        assert!(rt; change.root.is_none());
-    }
-    Ok(())
+    look_at_fills(&rt, rt.alloc(), true)
 }
 
 #[test]
 fn no_block_is_set_within_another(rt: HostRuntime) -> Result<(), Fail> {
-    let alloc = rt.alloc();
-    let twig = holes(alloc)?;
-    let mut body = [0; 32];
-    spell_new_blocks(&mut body);
-    let key = least().with_offset(2048);
-    assert!(rt; fill(alloc, &twig, &key, &body)?.is_none());
+    let twig = holes(rt.alloc())?;
+    let found = filled(rt.alloc(), &twig, 2048, false)?;
+    assert!(rt; found.is_none());
     Ok(())
 }
 
@@ -122,117 +153,99 @@ fn three_leaves(alloc: Global) -> Result<[Arc<Cell>; 3], Fail> {
     ])
 }
 
+// What comes where two blocks come in the place of some leaves' bytes, from a key on, in a tree of two levels or of three.
+fn turned(alloc: Global, leaves: &[Arc<Cell>], key: Key, is_high: bool) -> Result<Looked, Fail> {
+    let mut body = [0; 32];
+    spell_new_blocks(&mut body);
+    let change = if is_high {
+        turn_below(alloc, leaves, &key, &body)?
+    } else {
+        turn_all(alloc, leaves, &key, &body)?
+    };
+    match change {
+        Some(change) => look_at(alloc, &change),
+        None => Err(Fail::from("the leaves may not be turned")),
+    }
+}
+
 // Of the first leaf the bytes before the range stay, of the last one those behind it, in a new
 // leaf.
 #[test]
 fn three_leaves_become_an_extent(rt: HostRuntime) -> Result<(), Fail> {
-    let alloc = rt.alloc();
-    let leaves = three_leaves(alloc)?;
-    let mut body = [0; 32];
-    spell_new_blocks(&mut body);
-    let Some(change) = turn_all(alloc, &leaves, &byte(4096), &body)? else {
-        return Err(Fail::from("the leaves may not be turned"));
-    };
-    assert_eq!(rt;
-        rows(alloc, &change)?.as_slice(),
-        [(LEAF, 1, 1934), (ROOT + 1, 1, 3318), (ROOT, 3, 3906)].as_slice()
-    );
-    assert_eq!(rt; change.old.as_slice().len(), 4);
+    let leaves = three_leaves(rt.alloc())?;
+    let looked = turned(rt.alloc(), &leaves, byte(4096), false)?;
+    let want = [(LEAF, 1, 1934), (ROOT + 1, 1, 3318), (ROOT, 3, 3906)];
+    same_rows(&rt, &looked, want.as_slice());
+    assert!(rt; looked.gone == 4);
     Ok(())
 }
 
 // In a tree of three levels the same cells come, but for a number: the root stays.
 #[test]
 fn three_leaves_below_a_root_and_a_twig_become_an_extent(rt: HostRuntime) -> Result<(), Fail> {
-    let alloc = rt.alloc();
-    let leaves = three_leaves(alloc)?;
-    let mut body = [0; 32];
-    spell_new_blocks(&mut body);
-    let Some(change) = turn_below(alloc, &leaves, &byte(4096), &body)? else {
-        return Err(Fail::from("the leaves may not be turned"));
-    };
-    assert_eq!(rt;
-        rows(alloc, &change)?.as_slice(),
-        [(LEAF, 1, 1934), (ROOT + 2, 1, 3318), (ROOT, 3, 3906)].as_slice()
-    );
-    assert_eq!(rt; change.old.as_slice().len(), 4);
+    let leaves = three_leaves(rt.alloc())?;
+    let looked = turned(rt.alloc(), &leaves, byte(4096), true)?;
+    let want = [(LEAF, 1, 1934), (ROOT + 2, 1, 3318), (ROOT, 3, 3906)];
+    same_rows(&rt, &looked, want.as_slice());
+    assert!(rt; looked.gone == 4);
     Ok(())
+}
+
+// What comes of one leaf.
+fn turned_one(alloc: Global, leaf: Arc<Cell>, key: Key, is_high: bool) -> Result<Looked, Fail> {
+    turned(alloc, &[leaf], key, is_high)
 }
 
 // The same of one leaf.
 #[test]
 fn a_leaf_below_a_root_and_a_twig_becomes_an_extent(rt: HostRuntime) -> Result<(), Fail> {
-    let alloc = rt.alloc();
-    let leaf = leaf_around(alloc)?;
-    let mut body = [0; 32];
-    spell_new_blocks(&mut body);
-    let Some(change) = turn_below(alloc, &[leaf], &byte(4096), &body)? else {
-        return Err(Fail::from("the leaf may not be turned"));
-    };
-    assert_eq!(rt;
-        rows(alloc, &change)?.as_slice(),
-        [(LEAF, 1, 3934), (ROOT + 2, 1, 3930), (ROOT, 3, 3906)].as_slice()
-    );
-    assert_eq!(rt; change.old.as_slice().len(), 2);
+    let leaf = leaf_around(rt.alloc())?;
+    let looked = turned_one(rt.alloc(), leaf, byte(4096), true)?;
+    let want = [(LEAF, 1, 3934), (ROOT + 2, 1, 3930), (ROOT, 3, 3906)];
+    same_rows(&rt, &looked, want.as_slice());
+    assert!(rt; looked.gone == 2);
     Ok(())
 }
 
 // No byte is behind the range.
 #[test]
 fn the_end_of_a_leaf_becomes_an_extent(rt: HostRuntime) -> Result<(), Fail> {
-    let alloc = rt.alloc();
-    let leaf = tail_leaf(alloc, 0, least(), top(), 2000, &ZEROS[..3000])?;
-    let mut body = [0; 32];
-    spell_new_blocks(&mut body);
-    let Some(change) = turn_all(alloc, &[leaf], &byte(4096), &body)? else {
-        return Err(Fail::from("the leaf may not be turned"));
-    };
-    assert_eq!(rt;
-        rows(alloc, &change)?.as_slice(),
-        [(LEAF, 1, 1934), (ROOT, 2, 3952)].as_slice()
-    );
+    let leaf = tail_leaf(rt.alloc(), 0, least(), top(), 2000, &ZEROS[..3000])?;
+    let looked = turned_one(rt.alloc(), leaf, byte(4096), false)?;
+    same_rows(&rt, &looked, &[(LEAF, 1, 1934), (ROOT, 2, 3952)]);
     Ok(())
 }
 
 // The range begins where the leaf does, and nothing is behind it.
 #[test]
 fn a_leaf_goes_for_an_extent(rt: HostRuntime) -> Result<(), Fail> {
-    let alloc = rt.alloc();
-    let leaf = empty_leaf(alloc, LEAF, least(), top())?;
-    let mut body = [0; 32];
-    spell_new_blocks(&mut body);
-    let Some(change) = turn_all(alloc, &[leaf], &least(), &body)? else {
-        return Err(Fail::from("the leaf may not be turned"));
-    };
-    assert_eq!(rt;
-        rows(alloc, &change)?.as_slice(),
-        [(ROOT, 1, 3998)].as_slice()
-    );
+    let leaf = empty_leaf(rt.alloc(), LEAF, least(), top())?;
+    let looked = turned_one(rt.alloc(), leaf, least(), false)?;
+    same_rows(&rt, &looked, &[(ROOT, 1, 3998)]);
     Ok(())
+}
+
+// The leaf with a tail behind all that it has.
+fn put_tail(alloc: Global, leaf: Arc<Cell>, offset: u64, bytes: &[u8]) -> Result<Arc<Cell>, Fail> {
+    let change = with(alloc, &[leaf], byte(offset), TAIL, bytes)?;
+    first(&change)
 }
 
 // The leaf of all keys with two tails: one goes on behind the byte where the range begins, and the
 // other begins behind the range.
 fn leaf_around(alloc: Global) -> Result<Arc<Cell>, Fail> {
-    let bare = [empty_leaf(alloc, LEAF, least(), top())?];
-    let one = [first(&with(alloc, &bare, byte(4000), TAIL, &ZEROS[..200])?)?];
-    first(&with(alloc, &one, byte(12_300), TAIL, &ZEROS[..100])?)
+    let bare = empty_leaf(alloc, LEAF, least(), top())?;
+    let one = put_tail(alloc, bare, 4000, &ZEROS[..200])?;
+    put_tail(alloc, one, 12_300, &ZEROS[..100])
 }
 
 // Of one leaf both ends stay, each in a leaf of its own.
 #[test]
 fn the_middle_of_a_leaf_becomes_an_extent(rt: HostRuntime) -> Result<(), Fail> {
-    let alloc = rt.alloc();
-    let leaf = leaf_around(alloc)?;
-    let mut body = [0; 32];
-    spell_new_blocks(&mut body);
-    let Some(change) = turn_all(alloc, &[leaf], &byte(4096), &body)? else {
-        return Err(Fail::from("the leaf may not be turned"));
-    };
-    assert_eq!(rt;
-        rows(alloc, &change)?.as_slice(),
-        [(LEAF, 1, 3934), (ROOT + 1, 1, 3930), (ROOT, 3, 3906)].as_slice()
-    );
-    assert_eq!(rt; change.old.as_slice().len(), 2);
+    let leaf = leaf_around(rt.alloc())?;
+    let looked = turned_one(rt.alloc(), leaf, byte(4096), false)?;
+    let want = [(LEAF, 1, 3934), (ROOT + 1, 1, 3930), (ROOT, 3, 3906)];
+    same_rows(&rt, &looked, want.as_slice());
+    assert!(rt; looked.gone == 2);
     Ok(())
 }

@@ -7,16 +7,66 @@ use r4_edit_testing::{
     name_key, raise, root_leaf, rows, take_out, with, with_between,
 };
 use std::alloc::Global;
+use std::process::Abort;
 use std::sync::Arc;
 use std::test::Fail;
 
-// What comes in the place of a leaf without some of its units.
-fn without(alloc: Global, leaf: &Arc<Cell>, from: Key, to: Key) -> Result<Change, Fail> {
+// Ends the test unless the cells that come are these.
+fn same_rows<X: Abort>(rt: &X, got: &[Row], want: &[Row]) {
+    assert_eq!(rt; got, want);
+}
+
+// The cells that come where some units of a leaf go.
+fn rows_without(alloc: Global, leaf: &Arc<Cell>, from: Key, to: Key) -> Result<Vec<Row>, Fail> {
     match take_out(alloc, &[Arc::try_clone(leaf)?], &from, &to) {
-        Ok(Some(change)) => Ok(change),
+        Ok(Some(change)) => rows(alloc, &change),
         Ok(None) => Err(Fail::from("the keys are not the leaf's")),
         Err(_) => Err(Fail::from("there is no memory")),
     }
+}
+
+// The cells that come where an item is put into a leaf behind all that it has.
+fn rows_with(
+    alloc: Global,
+    leaf: &Arc<Cell>,
+    key: Key,
+    plugin: u16,
+    body: &[u8],
+) -> Result<Vec<Row>, Fail> {
+    let change = with(alloc, &[Arc::try_clone(leaf)?], key, plugin, body)?;
+    rows(alloc, &change)
+}
+
+// The cells that come where it is put between others, up to a key.
+fn rows_between(
+    alloc: Global,
+    leaf: &Arc<Cell>,
+    key: Key,
+    end: Key,
+    plugin: u16,
+    body: &[u8],
+) -> Result<Vec<Row>, Fail> {
+    let change = with_between(alloc, &[Arc::try_clone(leaf)?], key, end, plugin, body)?;
+    rows(alloc, &change)
+}
+
+// The leaf with an item behind all that it has.
+fn put_in(
+    alloc: Global,
+    leaf: &Arc<Cell>,
+    key: Key,
+    plugin: u16,
+    body: &[u8],
+) -> Result<Arc<Cell>, Fail> {
+    let change = with(alloc, &[Arc::try_clone(leaf)?], key, plugin, body)?;
+    first(&change)
+}
+
+// The leaf with names of a directory, which rise.
+fn put_names(alloc: Global, leaf: &Arc<Cell>, dir: Oid, letters: &[u8]) -> Result<Arc<Cell>, Fail> {
+    let names = entries(alloc, dir, letters, 1)?;
+    let from = name_key(dir, LETTERS[0], 1)?;
+    put_in(alloc, leaf, from, ENTRIES, names.as_slice())
 }
 
 // How many bytes of a tail come into the leaf of a fresh volume, and the cells that come.
@@ -25,17 +75,23 @@ static TAILS: [(usize, &[Row]); 2] = [
     (3949, &[(LEAF, 2, 0), (ROOT + 1, 1, 4029), (ROOT, 2, 3976)]),
 ];
 
+// The cells that come where a leaf gets so many bytes of a tail, and whether the root stays.
+fn filled(alloc: Global, leaf: &Arc<Cell>, bytes: usize) -> Result<(Vec<Row>, bool), Fail> {
+    if bytes > 4030 {
+        return Err(Fail::from("no item has so many bytes"));
+    }
+    let leaves = [Arc::try_clone(leaf)?];
+    let change = with(alloc, &leaves, byte(0), TAIL, &ZEROS[..bytes])?;
+    Ok((rows(alloc, &change)?, change.root.is_none()))
+}
+
 #[test]
 fn a_leaf_is_filled_before_another_comes(rt: HostRuntime) -> Result<(), Fail> {
     let leaf = root_leaf(rt.alloc())?;
     for (bytes, want) in TAILS {
-        let leaves = [Arc::try_clone(&leaf)?];
-        if bytes > 4030 {
-            return Err(Fail::from("no item has so many bytes"));
-        }
-        let change = with(rt.alloc(), &leaves, byte(0), TAIL, &ZEROS[..bytes])?;
-        assert_eq!(rt; rows(rt.alloc(), &change)?.as_slice(), want);
-        assert!(rt; change.root.is_none());
+        let (rows, keeps_root) = filled(rt.alloc(), &leaf, bytes)?;
+        same_rows(&rt, rows.as_slice(), want);
+        assert!(rt; keeps_root);
     }
     Ok(())
 }
@@ -44,17 +100,17 @@ fn a_leaf_is_filled_before_another_comes(rt: HostRuntime) -> Result<(), Fail> {
 #[test]
 fn a_leaf_becomes_three(rt: HostRuntime) -> Result<(), Fail> {
     let alloc = rt.alloc();
-    let bare = [empty_leaf(alloc, LEAF, least(), top())?];
-    let low = [first(&with(alloc, &bare, byte(0), TAIL, &ZEROS[..2000])?)?];
-    let both = [first(&with(alloc, &low, byte(8000), TAIL, &ZEROS[..1992])?)?];
-    let change = with_between(alloc, &both, byte(3000), byte(7500), TAIL, &ZEROS)?;
+    let bare = empty_leaf(alloc, LEAF, least(), top())?;
+    let low = put_in(alloc, &bare, byte(0), TAIL, &ZEROS[..2000])?;
+    let both = put_in(alloc, &low, byte(8000), TAIL, &ZEROS[..1992])?;
+    let rows = rows_between(alloc, &both, byte(3000), byte(7500), TAIL, &ZEROS)?;
     let want = [
         (LEAF, 2, 0),
         (ROOT + 1, 2, 0),
         (ROOT + 2, 1, 3992),
         (ROOT, 3, 3930),
     ];
-    assert_eq!(rt; rows(alloc, &change)?.as_slice(), want.as_slice());
+    same_rows(&rt, rows.as_slice(), want.as_slice());
     Ok(())
 }
 
@@ -62,24 +118,21 @@ fn a_leaf_becomes_three(rt: HostRuntime) -> Result<(), Fail> {
 fn tails_are_joined_and_cut(rt: HostRuntime) -> Result<(), Fail> {
     let alloc = rt.alloc();
     let leaf = root_leaf(alloc)?;
-    let one = first(&with(alloc, &[leaf], byte(0), TAIL, &ZEROS[..100])?)?;
-    let one_leaf = [Arc::try_clone(&one)?];
-    let joined = with(alloc, &one_leaf, byte(100), TAIL, &ZEROS[..50])?;
-    assert_eq!(rt;
-        rows(alloc, &joined)?.as_slice(),
-        [(LEAF, 2, 3798)].as_slice()
-    );
-    let parted = without(alloc, &one, byte(40), byte(60))?;
-    assert_eq!(rt;
-        rows(alloc, &parted)?.as_slice(),
-        [(LEAF, 3, 3830)].as_slice()
-    );
-    let none = without(alloc, &one, least(), top())?;
-    assert_eq!(rt;
-        rows(alloc, &none)?.as_slice(),
-        [(LEAF, 0, 4068)].as_slice()
-    );
+    let one = put_in(alloc, &leaf, byte(0), TAIL, &ZEROS[..100])?;
+    let joined = rows_with(alloc, &one, byte(100), TAIL, &ZEROS[..50])?;
+    let parted = rows_without(alloc, &one, byte(40), byte(60))?;
+    let none = rows_without(alloc, &one, least(), top())?;
+    same_rows(&rt, joined.as_slice(), &[(LEAF, 2, 3798)]);
+    same_rows(&rt, parted.as_slice(), &[(LEAF, 3, 3830)]);
+    same_rows(&rt, none.as_slice(), &[(LEAF, 0, 4068)]);
     Ok(())
+}
+
+// A leaf of the short names of two directories.
+fn two_directories(alloc: Global) -> Result<Arc<Cell>, Fail> {
+    let bare = empty_leaf(alloc, LEAF, least(), top())?;
+    let some = put_names(alloc, &bare, Oid(42), &LETTERS[..39])?;
+    put_names(alloc, &some, Oid(44), &LETTERS)
 }
 
 // Long names between the short ones of two other directories: the first of them come behind those of the one, and the others
@@ -87,76 +140,78 @@ fn tails_are_joined_and_cut(rt: HostRuntime) -> Result<(), Fail> {
 #[test]
 fn a_leaf_of_entries_becomes_three(rt: HostRuntime) -> Result<(), Fail> {
     let alloc = rt.alloc();
-    let bare = [empty_leaf(alloc, LEAF, least(), top())?];
-    let low = entries(alloc, Oid(42), &LETTERS[..39], 1)?;
-    let from = name_key(Oid(42), LETTERS[0], 1)?;
-    let some = [first(&with(alloc, &bare, from, ENTRIES, low.as_slice())?)?];
-    let high = entries(alloc, Oid(44), &LETTERS, 1)?;
-    let end = name_key(Oid(44), LETTERS[0], 1)?;
-    let full = [first(&with(alloc, &some, end, ENTRIES, high.as_slice())?)?];
-    let long = entries(alloc, Oid(43), &LETTERS[..13], 255)?;
     let key = name_key(Oid(43), LETTERS[0], 255)?;
-    let change = with_between(alloc, &full, key, end, ENTRIES, long.as_slice())?;
+    let end = name_key(Oid(44), LETTERS[0], 1)?;
+    let full = two_directories(alloc)?;
+    let long = entries(alloc, Oid(43), &LETTERS[..13], 255)?;
+    let rows = rows_between(alloc, &full, key, end, ENTRIES, long.as_slice())?;
     let want = [
         (LEAF, 2, 202),
         (ROOT + 1, 2, 46),
         (ROOT + 2, 1, 3828),
         (ROOT, 3, 3930),
     ];
-    assert_eq!(rt; rows(alloc, &change)?.as_slice(), want.as_slice());
+    same_rows(&rt, rows.as_slice(), want.as_slice());
     Ok(())
 }
 
-// What comes where a leaf is parted.
-fn parts(alloc: Global, leaf: Arc<Cell>) -> Result<Change, Fail> {
+// The cells that come where a leaf is parted, and the first key of the second one.
+fn parts(alloc: Global, leaf: Arc<Cell>) -> Result<(Vec<Row>, Key), Fail> {
     match halve(alloc, &[leaf])? {
-        Some(change) => Ok(change),
+        Some(change) => told(alloc, &change),
         None => Err(Fail::from("the leaf has no two units")),
     }
+}
+
+// The cells that come, and the end of the first one.
+fn told(alloc: Global, change: &Change) -> Result<(Vec<Row>, Key), Fail> {
+    let end = first(change)?.hi();
+    Ok((rows(alloc, change)?, end))
 }
 
 // A leaf with one item is parted before the middle one of its bytes or entries.
 #[test]
 fn an_item_of_a_leaf_is_parted(rt: HostRuntime) -> Result<(), Fail> {
     let alloc = rt.alloc();
-    let bare = [empty_leaf(alloc, LEAF, least(), top())?];
-    let tail = first(&with(alloc, &bare, byte(7), TAIL, &ZEROS[..101])?)?;
-    let parted = parts(alloc, tail)?;
-    assert_eq!(rt;
-        rows(alloc, &parted)?.as_slice(),
-        [(LEAF, 1, 3980), (ROOT + 1, 1, 3979), (ROOT, 2, 3976)].as_slice()
-    );
-    assert!(rt; first(&parted)?.hi().is_same(byte(57)));
-    let names = entries(alloc, Oid(42), &LETTERS[..39], 1)?;
-    let from = name_key(Oid(42), LETTERS[0], 1)?;
-    let dir = first(&with(alloc, &bare, from, ENTRIES, names.as_slice())?)?;
-    let parted = parts(alloc, dir)?;
-    assert_eq!(rt;
-        rows(alloc, &parted)?.as_slice(),
-        [(LEAF, 1, 3078), (ROOT + 1, 1, 3028), (ROOT, 2, 3976)].as_slice()
-    );
     let middle = name_key(Oid(42), LETTERS[19], 1)?;
-    assert!(rt; first(&parted)?.hi().is_same(middle));
+    let bare = empty_leaf(alloc, LEAF, least(), top())?;
+    let tail = put_in(alloc, &bare, byte(7), TAIL, &ZEROS[..101])?;
+    let (of_tail, end) = parts(alloc, tail)?;
+    let dir = put_names(alloc, &bare, Oid(42), &LETTERS[..39])?;
+    let (of_dir, name) = parts(alloc, dir)?;
+    let want = [(LEAF, 1, 3980), (ROOT + 1, 1, 3979), (ROOT, 2, 3976)];
+    same_rows(&rt, of_tail.as_slice(), want.as_slice());
+    let want = [(LEAF, 1, 3078), (ROOT + 1, 1, 3028), (ROOT, 2, 3976)];
+    same_rows(&rt, of_dir.as_slice(), want.as_slice());
+    assert!(rt; end.is_same(byte(57)) && name.is_same(middle));
     Ok(())
+}
+
+// The cells that come where a root goes below another, and whether the tree has three levels then.
+fn raised(alloc: Global, root: Arc<Cell>) -> Result<(Vec<Row>, bool), Fail> {
+    match raise(alloc, &[root])? {
+        Some(change) => {
+            let is_higher = matches!(change.root, Some(root) if root.height == 3);
+            Ok((rows(alloc, &change)?, is_higher))
+        }
+        None => Err(Fail::from("it is no leaf of all keys")),
+    }
 }
 
 #[test]
 fn a_leaf_is_parted_and_a_root_goes_below_another(rt: HostRuntime) -> Result<(), Fail> {
     let alloc = rt.alloc();
-    let bare = [root_leaf(alloc)?];
-    let leaf = first(&with(alloc, &bare, byte(0), TAIL, &ZEROS[..100])?)?;
-    let parted = parts(alloc, leaf)?;
-    assert_eq!(rt;
-        rows(alloc, &parted)?.as_slice(),
-        [(LEAF, 1, 3986), (ROOT + 1, 1, 3930), (ROOT, 2, 3976)].as_slice()
+    let bare = root_leaf(alloc)?;
+    let leaf = put_in(alloc, &bare, byte(0), TAIL, &ZEROS[..100])?;
+    let (parted, _) = parts(alloc, leaf)?;
+    let (grown, is_higher) = raised(alloc, bare)?;
+    let want = [(LEAF, 1, 3986), (ROOT + 1, 1, 3930), (ROOT, 2, 3976)];
+    same_rows(&rt, parted.as_slice(), want.as_slice());
+    same_rows(
+        &rt,
+        grown.as_slice(),
+        &[(ROOT, 1, 4022), (ROOT + 1, 1, 4022)],
     );
-    let Some(grown) = raise(alloc, &bare)? else {
-        return Err(Fail::from("it is no leaf of all keys"));
-    };
-    assert_eq!(rt;
-        rows(alloc, &grown)?.as_slice(),
-        [(ROOT, 1, 4022), (ROOT + 1, 1, 4022)].as_slice()
-    );
-    assert_eq!(rt; grown.root.map(|root| root.height), Some(3));
+    assert!(rt; is_higher);
     Ok(())
 }

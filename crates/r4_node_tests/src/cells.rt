@@ -234,16 +234,12 @@ fn key(offset: u64) -> Key {
     Key::body(41, 0, Oid(42), offset)
 }
 
-// The block of a case, but for the numbers of its first body.
-fn block_of(alloc: Global, case: &Case) -> Result<Block, Fail> {
-    let mut block = Block::zeroed(alloc)?;
-    if case.made == 0 {
-        return Ok(block);
-    }
-    if case.made > 8 || !is_size(case.first.len) {
+// Lays the items of a case that is a node, but for the numbers of its first body.
+fn lay(block: &mut Block, case: &Case) -> Result<(), Fail> {
+    if case.made < 1 || case.made > 8 || !is_size(case.first.len) {
         return Err(Fail::from("there is no such node"));
     }
-    let mut node = NodeMut::format(&mut block, case.made, 0);
+    let mut node = NodeMut::format(block, case.made, 0);
     let Ok(()) = node.insert(0, key(case.first.from), case.first.plugin, case.first.len) else {
         return Err(Fail::from("there is no room for an item"));
     };
@@ -254,6 +250,18 @@ fn block_of(alloc: Global, case: &Case) -> Result<Block, Fail> {
         let Ok(()) = node.insert(1, key(item.from), item.plugin, item.len) else {
             return Err(Fail::from("there is no room for two items"));
         };
+    }
+    Ok(())
+}
+
+// The block of a case.
+fn block_of(alloc: Global, case: &Case) -> Result<Block, Fail> {
+    let mut block = Block::zeroed(alloc)?;
+    // The first body begins at byte 28; in a block of zeros there is none.
+    if case.made > 0 {
+        lay(&mut block, case)?;
+        put64(block.bytes_mut(), 28, case.body[0]);
+        put64(block.bytes_mut(), 36, case.body[1]);
     }
     Ok(block)
 }
@@ -267,12 +275,7 @@ fn is_size(len: u16) -> bool
 
 // Why the block of a case is no cell, or nothing where it is one.
 fn refusal(alloc: Global, case: &Case) -> Result<Option<CellRefused>, Fail> {
-    let mut block = block_of(alloc, case)?;
-    // The first body begins at byte 28; in a block of zeros there is none.
-    if case.made > 0 {
-        put64(block.bytes_mut(), 28, case.body[0]);
-        put64(block.bytes_mut(), 36, case.body[1]);
-    }
+    let block = block_of(alloc, case)?;
     let hi = match case.hi {
         Some(offset) => key(offset),
         None => Key::body(41, 0, Oid(43), 0),

@@ -397,13 +397,12 @@ fn is_size(len: u16) -> bool
     len >= 1 && len <= 1000
 }
 
-// The block of a node: its items, without what their bodies begin with.
-fn node_of(alloc: Global, made: &Made) -> Result<Block, Fail> {
-    let mut block = Block::zeroed(alloc)?;
+// Lays the items of a node, without what their bodies begin with.
+fn lay(block: &mut Block, made: &Made) -> Result<(), Fail> {
     if made.level < 1 || made.level > 8 || !is_size(made.first.len) {
         return Err(Fail::from("there is no such node"));
     }
-    let mut node = NodeMut::format(&mut block, made.level, 0);
+    let mut node = NodeMut::format(block, made.level, 0);
     let Ok(()) = node.insert(0, made.first.key, made.first.plugin, made.first.len) else {
         return Err(Fail::from("there is no room for an item"));
     };
@@ -415,16 +414,11 @@ fn node_of(alloc: Global, made: &Made) -> Result<Block, Fail> {
             return Err(Fail::from("there is no room for two items"));
         };
     }
-    Ok(block)
+    Ok(())
 }
 
-// The block of a cell.
-fn block_of(alloc: Global, made: &Made) -> Result<Block, Fail> {
-    if made.level == 0 {
-        return Ok(Block::zeroed(alloc)?);
-    }
-    let mut block = node_of(alloc, made)?;
-    // The first body begins at byte 28, and the second behind it.
+// Writes what the bodies begin with. The first one begins at byte 28, and the second behind it.
+fn put_numbers(block: &mut Block, made: &Made) -> Result<(), Fail> {
     let bytes = block.bytes_mut();
     put64(bytes, 28, made.first.numbers[0]);
     put64(bytes, 36, made.first.numbers[1]);
@@ -435,6 +429,16 @@ fn block_of(alloc: Global, made: &Made) -> Result<Block, Fail> {
         let at = 28 + made.first.len as usize;
         put64(bytes, at, item.numbers[0]);
         put64(bytes, at + 8, item.numbers[1]);
+    }
+    Ok(())
+}
+
+// The block of a cell.
+fn block_of(alloc: Global, made: &Made) -> Result<Block, Fail> {
+    let mut block = Block::zeroed(alloc)?;
+    if made.level > 0 {
+        lay(&mut block, made)?;
+        put_numbers(&mut block, made)?;
     }
     Ok(block)
 }
@@ -479,18 +483,29 @@ fn ids_of(alloc: Global, cells: &Cells) -> Result<Vec<u64>, Fail> {
     Ok(ids)
 }
 
+// Looks at a change that two are joined to.
+fn look_at_joined<X: Abort>(
+    rt: &X,
+    alloc: Global,
+    change: &Change,
+    case: &Case,
+    row: usize,
+) -> Result<(), Fail> {
+    let old = ids_of(alloc, &change.old)?;
+    let new = ids_of(alloc, &change.new)?;
+    same_in(rt, &None, &case.meet, row);
+    same_in(rt, &old.as_slice(), &case.old, row);
+    same_in(rt, &new.as_slice(), &case.new, row);
+    same_in(rt, &change.root, &case.root, row);
+    Ok(())
+}
+
 // Looks at what two changes are joined to, in a row of the table.
 fn look<X: Abort>(rt: &X, alloc: Global, case: &Case, row: usize) -> Result<(), Fail> {
     let one = change_of(alloc, &edit_of(case.one))?;
     let two = change_of(alloc, &edit_of(case.two))?;
     match join(alloc, &one, &two) {
-        Ok(change) => {
-            same_in(rt, &None, &case.meet, row);
-            same_in(rt, &ids_of(alloc, &change.old)?.as_slice(), &case.old, row);
-            same_in(rt, &ids_of(alloc, &change.new)?.as_slice(), &case.new, row);
-            same_in(rt, &change.root, &case.root, row);
-            Ok(())
-        }
+        Ok(change) => look_at_joined(rt, alloc, &change, case, row),
         Err(JoinFault::Meet { node }) => {
             same_in(rt, &Some(node.0), &case.meet, row);
             Ok(())

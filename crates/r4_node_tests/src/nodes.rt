@@ -7,10 +7,9 @@ use std::alloc::Global;
 use std::process::Abort;
 use std::test::Fail;
 
-// A leaf with the stat data of the root, of zeros, and a tail of two bytes. One byte of each is written, or none.
-fn leaf(alloc: Global, is_written: bool) -> Result<Block, Fail> {
-    let mut block = Block::zeroed(alloc)?;
-    let mut node = NodeMut::format(&mut block, 1, 0);
+// Makes a block a leaf with the stat data of the root, of zeros, and a tail of two bytes. One byte of each is written, or none.
+fn lay_leaf(block: &mut Block, is_written: bool) -> Result<(), Fail> {
+    let mut node = NodeMut::format(block, 1, 0);
     let Ok(()) = node.insert(0, Key::stat(41, 0, Oid(42)), 0, 44) else {
         return Err(Fail::from("there is no room for stat data"));
     };
@@ -26,6 +25,13 @@ fn leaf(alloc: Global, is_written: bool) -> Result<Block, Fail> {
         stat[3] = 7;
         tail[1] = 9;
     }
+    Ok(())
+}
+
+// Such a leaf.
+fn leaf(alloc: Global, is_written: bool) -> Result<Block, Fail> {
+    let mut block = Block::zeroed(alloc)?;
+    lay_leaf(&mut block, is_written)?;
     Ok(block)
 }
 
@@ -90,30 +96,23 @@ fn two_bodies_are_written_at_once(rt: HostRuntime) -> Result<(), Fail> {
     Ok(())
 }
 
-#[test]
-fn a_leaf_is_filled(rt: HostRuntime) -> Result<(), Fail> {
-    let mut block = Block::zeroed(rt.alloc())?;
-    let mut node = NodeMut::format(&mut block, 1, 0);
+// Fills a leaf, and takes the first of two items away then: what is answered where there is no room, to an insert past it, to a
+// second insert, and as a body is to grow.
+fn fill(block: &mut Block) -> Result<[Full; 3], Fail> {
+    let mut node = NodeMut::format(block, 1, 0);
     let key = Key::body(42, 0, Oid(70_000), 0);
-    let Err(full) = node.insert(0, key, 6, 4031) else {
+    let Err(past) = node.insert(0, key, 6, 4031) else {
         return Err(Fail::from("a body of 4031 bytes does not fit"));
     };
-    let wanted = Full {
-        need: 4069,
-        free: 4068,
-    };
-    same(&rt, &full, &wanted, "an insert past the room");
     let Ok(()) = node.insert(0, key, 6, 4030) else {
         return Err(Fail::from("a body of 4030 bytes fits"));
     };
-    let Err(full) = node.insert(1, key, 6, 1) else {
+    let Err(second) = node.insert(1, key, 6, 1) else {
         return Err(Fail::from("the leaf is full"));
     };
-    same(&rt, &full, &Full { need: 39, free: 0 }, "a second insert");
-    let Err(full) = node.resize(0, 4031) else {
+    let Err(grown) = node.resize(0, 4031) else {
         return Err(Fail::from("the body cannot grow"));
     };
-    same(&rt, &full, &Full { need: 1, free: 0 }, "a body that grows");
     let Ok(()) = node.resize(0, 10) else {
         return Err(Fail::from("the body can shrink"));
     };
@@ -121,6 +120,24 @@ fn a_leaf_is_filled(rt: HostRuntime) -> Result<(), Fail> {
         return Err(Fail::from("there is room again"));
     };
     node.remove(0);
+    Ok([past, second, grown])
+}
+
+// The answers.
+static FULL: [Full; 3] = [
+    Full {
+        need: 4069,
+        free: 4068,
+    },
+    Full { need: 39, free: 0 },
+    Full { need: 1, free: 0 },
+];
+
+#[test]
+fn a_leaf_is_filled(rt: HostRuntime) -> Result<(), Fail> {
+    let mut block = Block::zeroed(rt.alloc())?;
+    let answers = fill(&mut block)?;
+    same(&rt, &answers, &FULL, "answers");
     one_item(&rt, &block)
 }
 

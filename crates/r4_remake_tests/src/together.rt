@@ -10,6 +10,7 @@ use r4_leaf::{Given, KeyRange};
 use r4_meta::write_stat;
 use r4_patch::follow;
 use std::alloc::Global;
+use std::process::Abort;
 use std::sync::Arc;
 use std::test::Fail;
 
@@ -27,6 +28,23 @@ fn edited(
         Some(change) => Ok(change),
         None => Err(Fail::from("it may not be put there")),
     }
+}
+
+// The cells that come then.
+fn edited_rows(
+    alloc: Global,
+    leaf: &Arc<Cell>,
+    cuts: &[KeyRange],
+    items: &[Given<'_>],
+    ranges: &[KeyRange],
+) -> Result<Vec<Row>, Fail> {
+    let change = edited(alloc, leaf, cuts, items, ranges)?;
+    rows(alloc, &change)
+}
+
+// Ends the test unless the cells that come are these.
+fn same_rows<X: Abort>(rt: &X, got: &[Row], want: &[Row]) {
+    assert_eq!(rt; got, want);
 }
 
 // The keys of so many bytes of a file, from one on.
@@ -62,32 +80,34 @@ fn leaf_with_bytes(alloc: Global, count: usize) -> Result<Arc<Cell>, Fail> {
 fn a_byte_is_cut_out_of_a_full_leaf(rt: HostRuntime) -> Result<(), Fail> {
     let alloc = rt.alloc();
     let leaf = leaf_with_bytes(alloc, 3948)?;
-    let change = edited(alloc, &leaf, &[bytes(100, 101)], &[], &[])?;
-    assert_eq!(rt;
-        rows(alloc, &change)?.as_slice(),
-        [(LEAF, 3, 0), (ROOT + 1, 1, 3993), (ROOT, 2, 3976)].as_slice()
-    );
+    let rows = edited_rows(alloc, &leaf, &[bytes(100, 101)], &[], &[])?;
+    let want = [(LEAF, 3, 0), (ROOT + 1, 1, 3993), (ROOT, 2, 3976)];
+    same_rows(&rt, rows.as_slice(), want.as_slice());
     Ok(())
 }
 
 // How many bytes come in the place of the ten from 10 on, of a hundred, and the leaf then.
 static OVERWRITTEN: [(usize, Row); 2] = [(10, (LEAF, 2, 3848)), (4, (LEAF, 3, 3816))];
 
+// The cells that come where so many bytes come in the place of the ten.
+fn overwritten(alloc: Global, leaf: &Arc<Cell>, count: usize) -> Result<Vec<Row>, Fail> {
+    if count > 10 {
+        return Err(Fail::from("these are too many bytes"));
+    }
+    let tail = Given::Item {
+        key: byte(10),
+        plugin: TAIL,
+        body: &MANY_BYTES[..count],
+    };
+    edited_rows(alloc, leaf, &[bytes(10, 20)], &[tail], &[bytes(10, 20)])
+}
+
 #[test]
 fn bytes_are_overwritten_in_one_edit(rt: HostRuntime) -> Result<(), Fail> {
-    let alloc = rt.alloc();
-    let leaf = leaf_with_bytes(alloc, 100)?;
+    let leaf = leaf_with_bytes(rt.alloc(), 100)?;
     for (count, want) in OVERWRITTEN {
-        if count > 10 {
-            return Err(Fail::from("these are too many bytes"));
-        }
-        let tail = Given::Item {
-            key: byte(10),
-            plugin: TAIL,
-            body: &MANY_BYTES[..count],
-        };
-        let change = edited(alloc, &leaf, &[bytes(10, 20)], &[tail], &[bytes(10, 20)])?;
-        assert_eq!(rt; rows(alloc, &change)?.as_slice(), [want].as_slice());
+        let rows = overwritten(rt.alloc(), &leaf, count)?;
+        same_rows(&rt, rows.as_slice(), &[want]);
     }
     Ok(())
 }
@@ -107,7 +127,7 @@ fn a_whole_tail_comes_into_a_full_leaf(rt: HostRuntime) -> Result<(), Fail> {
         from: key,
         to: Key::body(41, 0, Oid(43), 16_384),
     };
-    let change = edited(alloc, &leaf, &[], &[tail], &[range])?;
+    let rows = edited_rows(alloc, &leaf, &[], &[tail], &[range])?;
     let want = [
         (LEAF, 2, 0),
         (ROOT + 1, 1, 0),
@@ -117,14 +137,24 @@ fn a_whole_tail_comes_into_a_full_leaf(rt: HostRuntime) -> Result<(), Fail> {
         (ROOT + 5, 1, 3766),
         (ROOT, 6, 3792),
     ];
-    assert_eq!(rt; rows(alloc, &change)?.as_slice(), want.as_slice());
+    same_rows(&rt, rows.as_slice(), want.as_slice());
     Ok(())
 }
 
-// Bytes that all have one value, of which none is held.
-#[test]
-fn a_fill_comes_into_two_leaves(rt: HostRuntime) -> Result<(), Fail> {
-    let alloc = rt.alloc();
+// The cells that come, and two bytes of the first body of one of them, at its place in the row.
+fn told(alloc: Global, change: &Change, cell: usize, at: usize) -> Result<(Vec<Row>, u16), Fail> {
+    let Some(cell) = change.new.as_slice().get(cell) else {
+        return Err(Fail::from("so many cells do not come"));
+    };
+    if at > 4094 {
+        return Err(Fail::from("there is no such place"));
+    }
+    let number = get16(cell.block().bytes(), at);
+    Ok((rows(alloc, change)?, number))
+}
+
+// What comes of a fill of 5000 bytes.
+fn filled(alloc: Global) -> Result<(Vec<Row>, u16), Fail> {
     let leaf = root_leaf(alloc)?;
     let fill = Given::Fill {
         key: byte(0),
@@ -132,22 +162,21 @@ fn a_fill_comes_into_two_leaves(rt: HostRuntime) -> Result<(), Fail> {
         byte: 7,
     };
     let change = edited(alloc, &leaf, &[], &[fill], &[bytes(0, 5000)])?;
-    assert_eq!(rt;
-        rows(alloc, &change)?.as_slice(),
-        [(LEAF, 2, 0), (ROOT + 1, 1, 2978), (ROOT, 2, 3976)].as_slice()
-    );
-    let filled = change.new.as_slice().get(1);
-    assert_eq!(rt;
-        filled.map(|cell| get16(cell.block().bytes(), 28)),
-        Some(0x0707)
-    );
+    told(alloc, &change, 1, 28)
+}
+
+// Bytes that all have one value, of which none is held.
+#[test]
+fn a_fill_comes_into_two_leaves(rt: HostRuntime) -> Result<(), Fail> {
+    let (rows, begins) = filled(rt.alloc())?;
+    let want = [(LEAF, 2, 0), (ROOT + 1, 1, 2978), (ROOT, 2, 3976)];
+    same_rows(&rt, rows.as_slice(), want.as_slice());
+    assert_eq!(rt; begins, 0x0707);
     Ok(())
 }
 
-// Other stat data comes in the place of the old.
-#[test]
-fn stat_data_is_overwritten(rt: HostRuntime) -> Result<(), Fail> {
-    let alloc = rt.alloc();
+// What comes of other stat data.
+fn with_other_stat(alloc: Global) -> Result<(Vec<Row>, u16), Fail> {
     let leaf = root_leaf(alloc)?;
     let mut body = [0; 44];
     write_stat(
@@ -164,26 +193,70 @@ fn stat_data_is_overwritten(rt: HostRuntime) -> Result<(), Fail> {
     };
     let range = only(least())?;
     let change = edited(alloc, &leaf, &[range], &[stat], &[range])?;
-    assert_eq!(rt;
-        rows(alloc, &change)?.as_slice(),
-        [(LEAF, 1, 3986)].as_slice()
-    );
-    assert_eq!(rt; get16(first(&change)?.block().bytes(), 30), 0o40711);
+    told(alloc, &change, 0, 30)
+}
+
+// Other stat data comes in the place of the old.
+#[test]
+fn stat_data_is_overwritten(rt: HostRuntime) -> Result<(), Fail> {
+    let (rows, mode) = with_other_stat(rt.alloc())?;
+    same_rows(&rt, rows.as_slice(), &[(LEAF, 1, 3986)]);
+    assert_eq!(rt; mode, 0o40711);
     Ok(())
 }
 
 // Letters that stand between those of the directory's names: three before "A", two before "a".
 static BETWEEN: [u8; 5] = *b":;<[`";
 
+// The leaf with the names of a directory behind all that it has.
+fn put_names(alloc: Global, leaf: Arc<Cell>, dir: Oid, letters: &[u8]) -> Result<Arc<Cell>, Fail> {
+    let from = name_key(dir, LETTERS[0], 1)?;
+    let names = entries(alloc, dir, letters, 1)?;
+    let change = with(alloc, &[leaf], from, ENTRIES, names.as_slice())?;
+    first(&change)
+}
+
 // A leaf of two directories, with no room for another entry's item.
 fn full_of_entries(alloc: Global) -> Result<Arc<Cell>, Fail> {
-    let bare = [empty_leaf(alloc, LEAF, least(), top())?];
-    let low = entries(alloc, Oid(42), &LETTERS[..39], 1)?;
-    let from = name_key(Oid(42), LETTERS[0], 1)?;
-    let some = [first(&with(alloc, &bare, from, ENTRIES, low.as_slice())?)?];
-    let high = entries(alloc, Oid(44), &LETTERS, 1)?;
-    let end = name_key(Oid(44), LETTERS[0], 1)?;
-    first(&with(alloc, &some, end, ENTRIES, high.as_slice())?)
+    let bare = empty_leaf(alloc, LEAF, least(), top())?;
+    let some = put_names(alloc, bare, Oid(42), &LETTERS[..39])?;
+    put_names(alloc, some, Oid(44), &LETTERS)
+}
+
+// The bodies of one entry each.
+fn entry_bodies(alloc: Global) -> Result<Vec<Vec<u8>>, Fail> {
+    let mut bodies = Vec::new(alloc);
+    for letter in BETWEEN {
+        bodies.push(entries(alloc, Oid(42), &[letter], 1)?)?;
+    }
+    Ok(bodies)
+}
+
+// The ranges of the entries.
+fn entry_ranges(alloc: Global) -> Result<Vec<KeyRange>, Fail> {
+    let mut ranges = Vec::new(alloc);
+    for letter in BETWEEN {
+        ranges.push(only(name_key(Oid(42), letter, 1)?)?)?;
+    }
+    Ok(ranges)
+}
+
+// The cells that come where the entries come into the leaf.
+fn with_entries(
+    alloc: Global,
+    leaf: &Arc<Cell>,
+    bodies: &[Vec<u8>],
+    ranges: &[KeyRange],
+) -> Result<Vec<Row>, Fail> {
+    let mut items = Vec::new(alloc);
+    for (range, body) in ranges.iter().zip(bodies) {
+        items.push(Given::Item {
+            key: range.from,
+            plugin: ENTRIES,
+            body: body.as_slice(),
+        })?;
+    }
+    edited_rows(alloc, leaf, &[], items.as_slice(), ranges)
 }
 
 // The entries of the one directory stay one item, and some of the other one's come into a second leaf.
@@ -191,26 +264,11 @@ fn full_of_entries(alloc: Global) -> Result<Arc<Cell>, Fail> {
 fn five_entries_come_into_a_full_leaf(rt: HostRuntime) -> Result<(), Fail> {
     let alloc = rt.alloc();
     let leaf = full_of_entries(alloc)?;
-    let mut bodies = Vec::new(alloc);
-    for letter in BETWEEN {
-        bodies.push(entries(alloc, Oid(42), &[letter], 1)?)?;
-    }
-    let mut items = Vec::new(alloc);
-    let mut ranges = Vec::new(alloc);
-    for (letter, body) in BETWEEN.iter().zip(bodies.as_slice()) {
-        let key = name_key(Oid(42), *letter, 1)?;
-        items.push(Given::Item {
-            key,
-            plugin: ENTRIES,
-            body: body.as_slice(),
-        })?;
-        ranges.push(only(key)?)?;
-    }
-    let change = edited(alloc, &leaf, &[], items.as_slice(), ranges.as_slice())?;
-    assert_eq!(rt;
-        rows(alloc, &change)?.as_slice(),
-        [(LEAF, 2, 38), (ROOT + 1, 1, 3778), (ROOT, 2, 3976)].as_slice()
-    );
+    let bodies = entry_bodies(alloc)?;
+    let ranges = entry_ranges(alloc)?;
+    let rows = with_entries(alloc, &leaf, bodies.as_slice(), ranges.as_slice())?;
+    let want = [(LEAF, 2, 38), (ROOT + 1, 1, 3778), (ROOT, 2, 3976)];
+    same_rows(&rt, rows.as_slice(), want.as_slice());
     Ok(())
 }
 
@@ -223,34 +281,48 @@ fn names(alloc: Global, cells: &[Arc<Cell>]) -> Result<Vec<u64>, Fail> {
     Ok(names)
 }
 
-// The first change fills the leaf, and the second one parts what it leaves. Of both as one, the first leaf goes and the last
-// ones come; the leaf between is in neither list.
-#[test]
-fn an_edit_follows_another(rt: HostRuntime) -> Result<(), Fail> {
-    let alloc = rt.alloc();
+// A change that fills the leaf of a fresh volume.
+fn filling(alloc: Global) -> Result<Change, Fail> {
     let leaf = root_leaf(alloc)?;
     let tail = Given::Item {
         key: byte(0),
         plugin: TAIL,
         body: &MANY_BYTES[..3948],
     };
-    let one = edited(alloc, &leaf, &[], &[tail], &[bytes(0, 3948)])?;
-    let two = edited(alloc, &first(&one)?, &[bytes(100, 101)], &[], &[])?;
-    let both = follow(alloc, &one, &two)?;
-    assert_eq!(rt;
-        names(alloc, both.old.as_slice())?.as_slice(),
-        [LEAF, ROOT].as_slice()
-    );
-    assert_eq!(rt;
-        rows(alloc, &both)?.as_slice(),
-        [(LEAF, 3, 0), (ROOT + 1, 1, 3993), (ROOT, 2, 3976)].as_slice()
-    );
-    assert_eq!(rt;
-        both.old
-            .as_slice()
-            .first()
-            .map(|cell| get16(cell.block().bytes(), 2)),
-        Some(1)
-    );
+    edited(alloc, &leaf, &[], &[tail], &[bytes(0, 3948)])
+}
+
+// A change that parts what it leaves.
+fn parting(alloc: Global, one: &Change) -> Result<Change, Fail> {
+    let leaf = first(one)?;
+    edited(alloc, &leaf, &[bytes(100, 101)], &[], &[])
+}
+
+// Both as one.
+fn both(alloc: Global) -> Result<Change, Fail> {
+    let one = filling(alloc)?;
+    let two = parting(alloc, &one)?;
+    Ok(follow(alloc, &one, &two)?)
+}
+
+// How many items the first cell has that goes.
+fn items_of_first(cells: &[Arc<Cell>]) -> Option<u16> {
+    match cells.first() {
+        Some(cell) => Some(get16(cell.block().bytes(), 2)),
+        None => None,
+    }
+}
+
+// The first change fills the leaf, and the second one parts what it leaves. Of both as one, the first leaf goes and the last
+// ones come; the leaf between is in neither list.
+#[test]
+fn an_edit_follows_another(rt: HostRuntime) -> Result<(), Fail> {
+    let change = both(rt.alloc())?;
+    let names = names(rt.alloc(), change.old.as_slice())?;
+    let rows = rows(rt.alloc(), &change)?;
+    let want = [(LEAF, 3, 0), (ROOT + 1, 1, 3993), (ROOT, 2, 3976)];
+    same_rows(&rt, rows.as_slice(), want.as_slice());
+    assert!(rt; names.as_slice() == [LEAF, ROOT].as_slice());
+    assert!(rt; items_of_first(change.old.as_slice()) == Some(1));
     Ok(())
 }
