@@ -53,20 +53,45 @@ fn built_of(alloc: Global, task: Task) -> Result<Built, Fail>
     }
 }
 
+// The task that goes out next is given back with all others, and built.
+fn given_back(
+    core: &mut Core<MemoryDevice, Unnamed>,
+    alloc: Global,
+) -> Result<(Told, Built), Fail> {
+    let task = sent(core, alloc)?;
+    let first = told(&task);
+    recall(core);
+    match build(alloc, &OpenGate, task) {
+        Ok(built) => Ok((first, built)),
+        Err(_) => Err(Fail::from("a task is not built")),
+    }
+}
+
+// What was built of a task comes, and the task is gone.
+fn gone(core: &mut Core<MemoryDevice, Unnamed>, alloc: Global, built: Built) -> Result<Told, Fail> {
+    match apply(core, alloc, built) {
+        Applied::Gone { task } => Ok(told(&task)),
+        _ => Err(Fail::from("a task that was given back is not gone")),
+    }
+}
+
+// What tells the task that goes out next.
+fn told_next(core: &mut Core<MemoryDevice, Unnamed>, alloc: Global) -> Result<Told, Fail> {
+    match next(core, alloc)? {
+        Taken::Work(task) => Ok(told(&task)),
+        _ => Err(Fail::from("no task goes out")),
+    }
+}
+
 // A task that was given back is gone when it comes; then the same one goes out again.
 fn recalled(
     core: &mut Core<MemoryDevice, Unnamed>,
     alloc: Global,
 ) -> Result<(Told, Told, Told), Fail> {
-    let task = sent(core, alloc)?;
-    let first = told(&task);
-    recall(core);
-    let built = built_of(alloc, task)?;
-    let Applied::Gone { task } = apply(core, alloc, built) else {
-        return Err(Fail::from("a task that was given back is applied"));
-    };
-    let again = sent(core, alloc)?;
-    Ok((first, told(&task), told(&again)))
+    let (first, built) = given_back(core, alloc)?;
+    let gone = gone(core, alloc, built)?;
+    let again = told_next(core, alloc)?;
+    Ok((first, gone, again))
 }
 
 fn told(task: &Task) -> Told {
@@ -85,38 +110,68 @@ fn task_that_was_given_back_is_gone(rt: HostRuntime) -> Result<(), Fail> {
     Ok(())
 }
 
-// A task is given back; a command comes that changes another file of its leaf, and is done; then the
-// task goes out again, and what was built of the first one comes. It is answered what differs.
-fn changed(
-    core: &mut Core<MemoryDevice, Unnamed>,
-    alloc: Global,
-) -> Result<(NodeId, Differs), Fail> {
-    run(core, alloc, ONE, &mut Log::new(alloc))?;
+// A command comes to the first script, and its task is given back and built.
+fn earlier(core: &mut Core<MemoryDevice, Unnamed>, alloc: Global) -> Result<Built, Fail> {
     push_all(core, alloc, "script\nwrite /a 0 x\n")?;
     let task = sent(core, alloc)?;
     give_back(core, &task);
-    let old = built_of(alloc, task)?;
-    change(core, alloc)?;
-    let _again = sent(core, alloc)?;
-    match apply(core, alloc, old) {
+    built_of(alloc, task)
+}
+
+// The next task is done.
+fn done(core: &mut Core<MemoryDevice, Unnamed>, alloc: Global) -> Result<(), Fail> {
+    let built = built_of(alloc, sent(core, alloc)?)?;
+    match apply(core, alloc, built) {
+        Applied::Done => Ok(()),
+        _ => Err(Fail::from("a task is not done")),
+    }
+}
+
+// A command comes to the second script that changes another file of the leaf, and is done; then the
+// first one goes out again.
+fn change(core: &mut Core<MemoryDevice, Unnamed>, alloc: Global) -> Result<(), Fail> {
+    push_all(core, alloc, "script\nscript\nchmod /b 600\n")?;
+    done(core, alloc)?;
+    let _ = told_next(core, alloc)?;
+    Ok(())
+}
+
+// What was built of a task comes: at which node it has another cell, and how it differs there.
+fn stale(
+    core: &mut Core<MemoryDevice, Unnamed>,
+    alloc: Global,
+    built: Built,
+) -> Result<(NodeId, Differs), Fail> {
+    match apply(core, alloc, built) {
         Applied::Stale {
             task: _,
             node,
             differs,
         } => Ok((node, differs)),
-        _ => Err(Fail::from("the task is not stale")),
+        _ => Err(Fail::from("a task is not stale")),
     }
 }
 
-// The other file changes.
-fn change(core: &mut Core<MemoryDevice, Unnamed>, alloc: Global) -> Result<(), Fail> {
-    push_all(core, alloc, "script\nscript\nchmod /b 600\n")?;
-    let task = sent(core, alloc)?;
-    let built = built_of(alloc, task)?;
-    match apply(core, alloc, built) {
-        Applied::Done => Ok(()),
-        _ => Err(Fail::from("the other file does not change")),
+// What was built of a task comes after its leaf changed, and the task went out again.
+fn changed(
+    core: &mut Core<MemoryDevice, Unnamed>,
+    alloc: Global,
+) -> Result<(NodeId, Differs), Fail> {
+    let built = earlier(core, alloc)?;
+    match change(core, alloc) {
+        Ok(()) => stale(core, alloc, built),
+        Err(fault) => Err(fault),
     }
+}
+
+// The first script makes two files, and then its next command comes.
+fn made_and_changed(
+    core: &mut Core<MemoryDevice, Unnamed>,
+    alloc: Global,
+    log: &mut Log,
+) -> Result<(NodeId, Differs), Fail> {
+    run(core, alloc, ONE, log)?;
+    changed(core, alloc)
 }
 
 #[test]
@@ -124,7 +179,8 @@ fn task_with_earlier_cells_is_stale(rt: HostRuntime) -> Result<(), Fail> {
     let alloc = rt.alloc();
     let scripts = "script\ncreate /a\ncreate /b\nscript\n";
     let mut core = opened(alloc, Image::Fresh(64), scripts)?;
-    let seen = changed(&mut core, alloc);
+    let mut log = Log::new(alloc);
+    let seen = made_and_changed(&mut core, alloc, &mut log);
     let _ = core.into_device();
     let (node, differs) = seen?;
     assert_eq!(&rt; node, NodeId(23));

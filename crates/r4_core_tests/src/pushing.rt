@@ -1,7 +1,8 @@
 //! Commands that come at the end of a script while a job runs.
 
-ghost use Rattle.std.specs.Prelude.{◌≡◌, ◌⊎◌, ◌<◌, IsTrue, length};
+ghost use Rattle.std.specs.Prelude.{◌≡◌, ◌⊎◌, ◌<◌, IfOk, IsTrue, length};
 ghost use Rattle.r4_content.specs.declared.command.Command.TheVariants as asks;
+ghost use Rattle.r4_script.specs.Spelling.{AreScripts};
 ghost use Rattle.r4_trace.specs.Job.{HasNoBegin, IsWork};
 ghost use Rattle.r4_turns.specs.Turns.{IsScript, commands_at};
 
@@ -54,7 +55,9 @@ pub(crate) fn push_all(
 }
 
 // The job of a text.
-pub(crate) fn job_of(alloc: Global, text: &str) -> Result<Job, Fail> {
+pub(crate) fn job_of(alloc: Global, text: &str) -> Result<Job, Fail>
+    ensures { IfOk result (λ job. AreScripts job.scripts) }
+{
     match parse(alloc, text.as_bytes()) {
         Ok(job) => Ok(job),
         Err(_) => Err(Fail::from("the scripts are refused")),

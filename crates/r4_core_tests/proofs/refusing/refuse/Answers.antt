@@ -1,6 +1,9 @@
-use Rattle.std.proofs.Common.{◌∙◌, arith}
+use Rattle.std.proofs.Common.{arith}
 use Rattle.r4_kept.proofs.Turning.{owed_answered}
 use Rattle.r4_core_tests.proofs.refusing.refuse.Goals as goal
 
 pub refuse_next-requires-clause-room : goal.refuse_next-requires-clause-room
-refuse_next-requires-clause-room g c = ?
+refuse_next-requires-clause-room c κs =
+    let is = c.if-not-is_refusable.ensures in
+    let less = owed_answered c.make_room.new.self.turns c.args.script.0 is.stands.is_script in
+    omega (arith, less, c.in_ok-make_room.ensures.ok.entries)
