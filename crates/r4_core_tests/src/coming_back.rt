@@ -6,12 +6,11 @@ ghost use Rattle.r4_take.specs.Sending.{CanBeBuilt};
 
 use crate::images::Image;
 use crate::pushing::push_all;
-use crate::running::{ONE, run};
+use crate::running::{After, ONE, Told, applied, run, told};
 use crate::shared::{next, opened};
 use crate::telling::Log;
-use r4_apply::{Applied, apply};
 use r4_back::{give_back, recall, refuse_memory};
-use r4_base::{NodeId, ScriptNo};
+use r4_base::NodeId;
 use r4_build::{Built, Task, build};
 use r4_core::Core;
 use r4_matching::Differs;
@@ -19,9 +18,6 @@ use r4_next::Taken;
 use r4_outside::{MemoryDevice, OpenGate, Unnamed};
 use std::alloc::Global;
 use std::test::Fail;
-
-// What tells a task: its script, how many commands are answered there, and the first new number.
-type Told = (ScriptNo, u32, u64);
 
 // A command for which there was no memory, and one behind it.
 static STARVED: &str = "\
@@ -69,8 +65,8 @@ fn given_back(
 
 // What was built of a task comes, and the task is gone.
 fn gone(core: &mut Core<MemoryDevice, Unnamed>, alloc: Global, built: Built) -> Result<Told, Fail> {
-    match apply(core, alloc, built) {
-        Applied::Gone { task } => Ok(told(&task)),
+    match applied(core, alloc, built) {
+        After::Gone(told) => Ok(told),
         _ => Err(Fail::from("a task that was given back is not gone")),
     }
 }
@@ -92,10 +88,6 @@ fn recalled(
     let gone = gone(core, alloc, built)?;
     let again = told_next(core, alloc)?;
     Ok((first, gone, again))
-}
-
-fn told(task: &Task) -> Told {
-    (task.script, task.index, task.fresh.next)
 }
 
 #[test]
@@ -121,8 +113,8 @@ fn earlier(core: &mut Core<MemoryDevice, Unnamed>, alloc: Global) -> Result<Buil
 // The next task is done.
 fn done(core: &mut Core<MemoryDevice, Unnamed>, alloc: Global) -> Result<(), Fail> {
     let built = built_of(alloc, sent(core, alloc)?)?;
-    match apply(core, alloc, built) {
-        Applied::Done => Ok(()),
+    match applied(core, alloc, built) {
+        After::Done => Ok(()),
         _ => Err(Fail::from("a task is not done")),
     }
 }
@@ -142,12 +134,8 @@ fn stale(
     alloc: Global,
     built: Built,
 ) -> Result<(NodeId, Differs), Fail> {
-    match apply(core, alloc, built) {
-        Applied::Stale {
-            task: _,
-            node,
-            differs,
-        } => Ok((node, differs)),
+    match applied(core, alloc, built) {
+        After::Stale(node, differs) => Ok((node, differs)),
         _ => Err(Fail::from("a task is not stale")),
     }
 }

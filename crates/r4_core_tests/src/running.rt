@@ -5,8 +5,10 @@ ghost use Rattle.r4_take.specs.Sending.{CanBeBuilt};
 use crate::shared::next;
 use crate::telling::Log;
 use r4_apply::{Applied, apply};
+use r4_base::{NodeId, ScriptNo};
 use r4_build::{Built, Task, build};
 use r4_core::Core;
+use r4_matching::Differs;
 use r4_next::Taken;
 use r4_outside::{MemoryDevice, OpenGate, Unnamed};
 use std::alloc::Global;
@@ -19,6 +21,17 @@ use std::test::Fail;
 pub(crate) struct Way {
     pub out: usize,
     pub newest: bool,
+}
+
+/// What tells a task: its script, how many commands are answered there, and the first new number.
+pub(crate) type Told = (ScriptNo, u32, u64);
+
+/// What becomes of a task that comes back.
+#[derive(Clone, Copy)]
+pub(crate) enum After {
+    Done,
+    Gone(Told),
+    Stale(NodeId, Differs),
 }
 
 /// Each task is applied before anything else is done.
@@ -95,9 +108,31 @@ fn come_back(
     let Some(built) = back else {
         return Err(Fail::from("no task is out"));
     };
-    match apply(core, alloc, built) {
-        Applied::Done => Ok(true),
-        Applied::Stale { .. } => Err(Fail::from("a task is stale")),
-        Applied::Gone { .. } => Err(Fail::from("a task is gone")),
+    match applied(core, alloc, built) {
+        After::Done => Ok(true),
+        After::Stale(..) => Err(Fail::from("a task is stale")),
+        After::Gone(_) => Err(Fail::from("a task is gone")),
     }
+}
+
+/// What was built of a task is applied.
+pub(crate) fn applied(
+    core: &mut Core<MemoryDevice, Unnamed>,
+    alloc: Global,
+    built: Built,
+) -> After {
+    match apply(core, alloc, built) {
+        Applied::Done => After::Done,
+        Applied::Gone { task } => After::Gone(told(&task)),
+        Applied::Stale {
+            task: _,
+            node,
+            differs,
+        } => After::Stale(node, differs),
+    }
+}
+
+/// What tells a task.
+pub(crate) fn told(task: &Task) -> Told {
+    (task.script, task.index, task.fresh.next)
 }
