@@ -88,8 +88,8 @@ module _ (b : BufferSeen) (lawful : IsLawful b) where
       none_same y id [] all = tt
       none_same y id (x ∷ xs) all = (
         ne_eqb y.id x.id (λ same.
-        (let up = above n.0 (numbers nodes) h x.id (under nodes x (all x (any_here x xs x refl))).0 in
-        omega (arith, up, same, id))),
+            (let up = above n.0 (numbers nodes) h x.id (under nodes x (all x (any_here x xs x refl))).0 in
+            omega (arith, up, same, id))),
         none_same y id xs (λ z has. all z (any_later x xs z has)),
       )
 

@@ -165,10 +165,13 @@ module _ {D : Type 0} (old new : CoreSeen D) (atom at : ℕ) (h : IsRefusedUpTo 
       rise = h.rise;
       just = λ x. (
         λ has. (((h.just x).0 has).0, (let low = ((h.just x).0 has).1 in omega (arith, low))),
-        λ both. (h.just x).1 (both.0, elim (cases_eq x.0 s.0) [
-          | inl same ↦ absurd (not (still_waits (subst (WaitsAtCommit old atom) same both.0)))
-          | inr other ↦ (let up = both.1 in omega (arith, up, other, is))
-        ]),
+        λ both. (h.just x).1 (
+          both.0,
+          elim (cases_eq x.0 s.0) [
+            | inl same ↦ absurd (not (still_waits (subst (WaitsAtCommit old atom) same both.0)))
+            | inr other ↦ (let up = both.1 in omega (arith, up, other, is))
+          ],
+        ),
       );
       same = h.same;
     }

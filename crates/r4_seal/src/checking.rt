@@ -12,7 +12,6 @@ use r4_locks::Held;
 use r4_outside::{Device, Run};
 use r4_space::SpaceMap;
 
-
 // Whether each of the nodes that is a block is used.
 pub(crate) fn are_used(space: &SpaceMap, nodes: &[NodeId]) -> bool
     ensures { result ≡ true → AreUsed space.now nodes.now }
@@ -57,10 +56,7 @@ pub(crate) fn are_clear<D: Device, R: Run>(core: &Core<D, R>, blocks: &[BlockNo]
 }
 
 // Whether nothing stands on any of the blocks that new cells get.
-pub(crate) fn names_are_clear<D: Device, R: Run>(
-    core: &Core<D, R>,
-    renamed: &[RenamedCell],
-) -> bool
+pub(crate) fn names_are_clear<D: Device, R: Run>(core: &Core<D, R>, renamed: &[RenamedCell]) -> bool
     ensures { result ≡ true → AreClearNames core.now renamed.now }
 {
     for one in renamed {

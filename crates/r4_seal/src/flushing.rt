@@ -47,11 +47,7 @@ pub fn flush<D: Device, R: Run>(
 }
 
 // The atom is sealed, if there is memory.
-fn seal<D: Device, R: Run>(
-    core: &mut Core<D, R>,
-    alloc: Global,
-    atom: AtomNo,
-) -> Result<(), Memory>
+fn seal<D: Device, R: Run>(core: &mut Core<D, R>, alloc: Global, atom: AtomNo) -> Result<(), Memory>
     requires sound { core.old.broken ≡ None }
     requires rest { core.old.commit ≡ None }
     requires closed { IsClosedAtom core.old.atoms atom.0 }

@@ -18,10 +18,10 @@ pub returns-clause-ok : goal.returns-clause-ok
 returns-clause-ok g c =
     on_ok c.seal.result
     ((cells : List CellSeen) → MaySeal c.make_room.new.self c.args.atom c.in_ok-prepared.prepared cells
-      → HasSealed c.make_room.new.self c.seal.new.self c.args.atom cells c.in_ok-prepared.prepared)
+    → HasSealed c.make_room.new.self c.seal.new.self c.args.atom cells c.in_ok-prepared.prepared)
     (IsFlushed c.args.core.now c.seal.new.self c.args.atom)
     (flushed_with c.args.core.now c.make_room.new.self c.seal.new.self c.args.atom c.in_ok-prepared.prepared
-      c.in_ok-make_room.ensures.more c.in_ok-prepared.ensures.0 c.in_ok-prepared.ensures.1)
+    c.in_ok-make_room.ensures.more c.in_ok-prepared.ensures.0 c.in_ok-prepared.ensures.1)
     c.seal.ensures.ok
 
 pub returns-clause-err : goal.returns-clause-err

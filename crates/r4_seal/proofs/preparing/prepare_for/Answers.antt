@@ -44,15 +44,16 @@ returns-then-names_are_clear g c =
       rising = c.requires.rising;
       owned = c.requires.owned;
       counted = c.if-not-are_counted.ensures refl;
-    } in
-    (cells_under c.args.core.now.buffer c.args.nodes.now,
-    may_seal _ _ c.args.core.now c.args.atom c.args.nodes.now kept lawful c.lawful.ensures.buffer looked
-    c.in_ok-prepared.prepared c.in_ok-blocks.blocks.items
-    (closed_so _ _ c.args.core.now c.args.atom c.args.nodes.now kept lawful c.lawful.ensures.buffer looked
-      c.in_ok-cells.cells.items c.tree.result.id c.in_ok-are_closed.field-0 cells (ap (λ (t : Root). t.id) c.tree.ensures) c.if-not-branch.false
-      (rw c.as_slice.ensures.value at c.in_ok-are_closed.ensures))
-    (rw c.space-else-not-are_counted.ensures at c.if-not-are_used.ensures refl)
-    (prepared_so _ _ c.args.core.now c.args.atom c.args.nodes.now kept lawful c.lawful.ensures.buffer looked
-      c.in_ok-cells.cells.items _ _ _ c.in_ok-prepared.prepared cells c.super_to_come-next.ensures
-      (ap (λ v. v.prev) c.volume.ensures) c.space-2.ensures c.in_ok-prepared.ensures)
-    c.in_ok-blocks.ensures (rw c.as_slice-2.ensures.value at c.if-are_clear.ensures refl) (rw c.as_slice-then-are_clear.ensures.value at c.if-names_are_clear.ensures refl))
+    } in (
+      cells_under c.args.core.now.buffer c.args.nodes.now,
+      may_seal _ _ c.args.core.now c.args.atom c.args.nodes.now kept lawful c.lawful.ensures.buffer looked
+          c.in_ok-prepared.prepared c.in_ok-blocks.blocks.items
+          (closed_so _ _ c.args.core.now c.args.atom c.args.nodes.now kept lawful c.lawful.ensures.buffer looked
+          c.in_ok-cells.cells.items c.tree.result.id c.in_ok-are_closed.field-0 cells (ap (λ (t : Root). t.id) c.tree.ensures) c.if-not-branch.false
+          (rw c.as_slice.ensures.value at c.in_ok-are_closed.ensures))
+          (rw c.space-else-not-are_counted.ensures at c.if-not-are_used.ensures refl)
+          (prepared_so _ _ c.args.core.now c.args.atom c.args.nodes.now kept lawful c.lawful.ensures.buffer looked
+          c.in_ok-cells.cells.items _ _ _ c.in_ok-prepared.prepared cells c.super_to_come-next.ensures
+          (ap (λ v. v.prev) c.volume.ensures) c.space-2.ensures c.in_ok-prepared.ensures)
+          c.in_ok-blocks.ensures (rw c.as_slice-2.ensures.value at c.if-are_clear.ensures refl) (rw c.as_slice-then-are_clear.ensures.value at c.if-names_are_clear.ensures refl),
+    )
