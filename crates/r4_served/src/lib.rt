@@ -5,4 +5,5 @@ mod naming;
 mod refusing;
 mod serving;
 
+pub use refusing::refuse;
 pub use serving::{Served, serve};
