@@ -1,26 +1,19 @@
 //! The top call.
 
-ghost use Rattle.std.specs.Prelude.{◌≡◌, Some, map, string_bytes};
+ghost use Rattle.std.specs.Prelude.{◌≡◌, map, string_bytes};
 ghost use Rattle.r4_outside.specs.Device.{Goes, IsQuiet};
-ghost use Rattle.r4_top.specs.Words.{CanBeDone, asked_by, asked_of};
-ghost use Rattle.r4_top.specs.Answers.{Answers, HasMoments, Prints};
-ghost use Rattle.r4_top.specs.Lines.{usage_line};
+ghost use Rattle.r4_lines.specs.Lines.{usage_line};
+ghost use Rattle.r4_lines.specs.Printed.{Prints};
+ghost use Rattle.r4_words.specs.Words.{asked_of};
+ghost use Rattle.r4_top.specs.Answers.{Answers, HasMoments};
 
-use crate::lines::write_usage;
-use crate::listing::print_listing;
-use crate::making::make_volume;
-use crate::replaying::replay_image;
-use crate::words::{Command, read_words};
+use r4_lines::write_usage;
+use r4_offline::{Status, obey};
 use r4_outside::{Device, Gate, Run, Sink, Source};
+use r4_words::{Command, read_words};
 use std::alloc::Global;
 use std::sync::Wait;
 use std::thread::Threads;
-
-/// How a call ended (docs/program.md, "Lines and statuses").
-#[derive(Clone, Copy, Debug, PartialEq, Eq)]
-pub struct Status {
-    pub code: u8,
-}
 
 /// Does what the words say, on a device, and prints a listing or one line. The words leave out the program's own name.
 pub fn r4_main<D: Device, S: Source, K: Sink, G: Gate, R: Run, X: Threads + Wait + Sync>(
@@ -46,7 +39,8 @@ pub fn r4_main<D: Device, S: Source, K: Sink, G: Gate, R: Run, X: Threads + Wait
     let _ = run;
     match read_words(words) {
         None => refuse_words(out),
-        Some(command) => obey(alloc, command, dev, out),
+        Some(Command::Offline(command)) => obey(alloc, command, dev, out),
+        Some(Command::Run { .. }) => refuse_words(out),
     }
 }
 
@@ -57,18 +51,4 @@ fn refuse_words<K: Sink>(out: &mut K) -> Status
 {
     let _ = write_usage(out);
     Status { code: 2 }
-}
-
-// Does a command.
-fn obey<D: Device, K: Sink>(alloc: Global, command: Command<'_>, dev: &mut D, out: &mut K) -> Status
-    requires { CanBeDone command }
-    ensures goes { Goes (D.state dev.old) (D.state dev.new) }
-    ensures answers { Answers (Some (asked_by command.entry)) (D.state dev.old) (K.state out.old) result.code (D.state dev.new) (K.state out.new) }
-    ensures any_moment { IsQuiet (D.state dev.old) → HasMoments (Some (asked_by command.entry)) (D.state dev.old) (D.state dev.new) }
-{
-    match command {
-        Command::Replay => replay_image(alloc, dev, out),
-        Command::Mkfs { label } => make_volume(alloc, label, dev, out),
-        Command::List { path } => print_listing(alloc, path, dev, out),
-    }
 }
