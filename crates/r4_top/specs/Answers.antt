@@ -2,6 +2,7 @@
 use Rattle.std.specs.Prelude.{◌≡◌, ℕ, Option, Some, None}
 use Rattle.r4_outside.specs.Device.{State, Untouched}
 use Rattle.r4_outside.specs.Sink.{SinkState}
+use Rattle.r4_outside.specs.Source.{SourceState}
 use Rattle.r4_replay.specs.Replay.{SettlesAlways}
 use Rattle.r4_lines.specs.Lines.{usage_line}
 use Rattle.r4_lines.specs.Printed.{Prints}
@@ -14,14 +15,26 @@ pub record RefusesWords (d : State) (k : SinkState) (code : ℕ) (d' : State) (k
   pub idle : Untouched d d'
   pub line : Prints usage_line k k'
 
--- What a call answers, by what its words ask for, or faulty words. (`run` is not there yet: its words are refused as faulty ones are.)
+-- the words ask for a run
+abbrev pub IsRun : Option Asked → Type 0
+IsRun None = ⊥
+IsRun (Some (AsksOffline asked)) = ⊥
+IsRun (Some (AsksRun threads)) = Unit {0}
+
+-- What a call answers, by what its words ask for, or faulty words. What a run answers, its trace tells.
 abbrev pub Answers : Option Asked → State → SinkState → ℕ → State → SinkState → Type 0
 Answers None d k code d' k' = RefusesWords d k code d' k'
 Answers (Some (AsksOffline asked)) d k code d' k' = AnswersOffline asked d k code d' k'
-Answers (Some (AsksRun threads)) d k code d' k' = RefusesWords d k code d' k'
+Answers (Some (AsksRun threads)) d k code d' k' = Unit {0}
 
--- What crashes leave at any moment of a call on a quiet device.
+-- only a run reads the source
+abbrev pub LeavesSource : Option Asked → (old new : SourceState) → Type 0
+LeavesSource None old new = new ≡ old
+LeavesSource (Some (AsksOffline asked)) old new = new ≡ old
+LeavesSource (Some (AsksRun threads)) old new = Unit {0}
+
+-- What crashes leave at any moment of a call on a quiet device; for a run its trace tells that.
 abbrev pub HasMoments : Option Asked → State → State → Type 0
 HasMoments None d d' = SettlesAlways d d'
 HasMoments (Some (AsksOffline asked)) d d' = HasMomentsOffline asked d d'
-HasMoments (Some (AsksRun threads)) d d' = SettlesAlways d d'
+HasMoments (Some (AsksRun threads)) d d' = Unit {0}

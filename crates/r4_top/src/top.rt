@@ -5,17 +5,25 @@ ghost use Rattle.r4_outside.specs.Device.{Goes, IsQuiet};
 ghost use Rattle.r4_lines.specs.Lines.{usage_line};
 ghost use Rattle.r4_lines.specs.Printed.{Prints};
 ghost use Rattle.r4_words.specs.Words.{asked_of};
-ghost use Rattle.r4_top.specs.Answers.{Answers, HasMoments};
+ghost use Rattle.r4_run.specs.Naming.{Begins};
+ghost use Rattle.r4_run.specs.Scripts.{Runs};
+ghost use Rattle.r4_top.specs.Answers.{Answers, HasMoments, IsRun, LeavesSource};
 
 use r4_lines::write_usage;
 use r4_offline::{Status, obey};
 use r4_outside::{Device, Gate, Run, Sink, Source};
+use r4_run::run_scripts;
 use r4_words::{Command, read_words};
 use std::alloc::Global;
 use std::sync::Wait;
 use std::thread::Threads;
 
-/// Does what the words say, on a device, and prints a listing or one line. The words leave out the program's own name.
+/// Does what the words say, on a device, and prints a listing, the trace of a run, or one line. The words leave out the
+/// program's own name. The source has the text of the scripts, and is read by `run` alone; so are the threads and the
+/// gate used by it alone (docs/program.md).
+///
+/// What `run` says of its beginning, for which `R` may name the image and the clock, it says where they are named as
+/// they are (`Begins`). A run of which nothing is named is legal for its scripts all the same, and whole at status 0.
 pub fn r4_main<D: Device, S: Source, K: Sink, G: Gate, R: Run, X: Threads + Wait + Sync>(
     rt: &X,
     alloc: Global,
@@ -26,21 +34,25 @@ pub fn r4_main<D: Device, S: Source, K: Sink, G: Gate, R: Run, X: Threads + Wait
     gate: &G,
     run: R,
 ) -> Status
+    requires begins { Begins R.start R.clock (D.state dev.old) }
     ensures goes { Goes (D.state dev.old) (D.state dev.new) }
-    ensures script { S.state script.new ≡ S.state script.old }
+    ensures script { LeavesSource (asked_of (map string_bytes words.now)) (S.state script.old) (S.state script.new) }
     ensures answers { Answers (asked_of (map string_bytes words.now)) (D.state dev.old) (K.state out.old) result.code (D.state dev.new) (K.state out.new) }
 
-    // What a crash at any moment of the call leaves.
+    // One trace tells what a run did, what it printed, and what a crash at any moment leaves.
+    ensures runs { IsRun (asked_of (map string_bytes words.now)) → Runs R.start R.clock
+        (S.state script.old) (S.state script.new)
+        (D.state dev.old) (K.state out.old) result.code (D.state dev.new) (K.state out.new) }
+
+    // What a crash at any moment of another call leaves.
     ensures any_moment { IsQuiet (D.state dev.old) → HasMoments (asked_of (map string_bytes words.now)) (D.state dev.old) (D.state dev.new) }
 {
-    let _ = rt;
-    let _ = script;
-    let _ = gate;
-    let _ = run;
     match read_words(words) {
         None => refuse_words(out),
         Some(Command::Offline(command)) => obey(alloc, command, dev, out),
-        Some(Command::Run { .. }) => refuse_words(out),
+        Some(Command::Run { threads }) => Status {
+            code: run_scripts(rt, alloc, threads, dev, script, out, gate, run),
+        },
     }
 }
 
