@@ -9,6 +9,7 @@ mod standing;
 mod taken;
 mod taking;
 
+pub use r4_served::{Core, OpenFault, Wanted};
 pub use standing::pending;
 pub use taken::Taken;
 pub use taking::take;

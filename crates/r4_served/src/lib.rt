@@ -5,4 +5,5 @@ mod naming;
 mod refusing;
 mod serving;
 
+pub use r4_take::{Core, OpenFault, Wanted};
 pub use serving::{Served, serve};
