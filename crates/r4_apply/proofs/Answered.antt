@@ -6,7 +6,7 @@ use Rattle.r4_base.specs.declared.things.ScriptNo.{ScriptNo}
 use Rattle.r4_build.specs.Built.{BuiltSeen}
 use Rattle.r4_content.specs.declared.reply.Reply.{Reply}
 use Rattle.r4_content.specs.declared.reply.Reply.TheVariants.{Memory}
-use Rattle.r4_kept.specs.View.{CoreSeen}
+use Rattle.r4_back.specs.r4_kept.View.{CoreSeen}
 use Rattle.r4_turns.specs.Turns.{TurnsSeen, turn_at}
 use Rattle.r4_turns.specs.declared.out.Out.{Out}
 use Rattle.r4_turns.specs.declared.turn.Open.{Open}

@@ -3,7 +3,7 @@ use Rattle.std.proofs.Common.{◌≡◌, ◌∙◌, ◌+◌, ◌≤◌, Bool, fa
 use Rattle.std.proofs.lemmas.Bool.{false_from_ne_true}
 use Rattle.std.specs.Arc.{arc_value}
 use Rattle.std.specs.Prelude.{flat_map}
-use Rattle.r4_accounting.specs.Accounting.{HasDeferred}
+use Rattle.r4_right.specs.r4_accounting.Accounting.{HasDeferred}
 use Rattle.r4_atoms.specs.Atoms.{IsBegun, IsOpenAtom, account_of, atom_of, is_sealed, txn_of}
 use Rattle.r4_atoms.specs.declared.things.Account.{Account}
 use Rattle.r4_back.specs.Backing.{IsCompared}
@@ -17,22 +17,22 @@ use Rattle.r4_content.specs.Held.{pairs_of, part_pairs}
 use Rattle.r4_content.specs.Locality.{commands}
 use Rattle.r4_content.specs.Meaning.{greatest_size}
 use Rattle.r4_content.specs.declared.command.Command.{Command}
-use Rattle.r4_core.specs.Doing.{CanDo, HasPaid, change_of}
-use Rattle.r4_core.specs.declared.doing.Made.{Made}
-use Rattle.r4_done.proofs.FromBuilt.{built_is_change, one_gone, one_made}
-use Rattle.r4_done.specs.Done.{CanBeDone, IsChangeOf}
-use Rattle.r4_done.specs.Right.{IsRight}
+use Rattle.r4_back.specs.r4_core.Doing.{CanDo, HasPaid, change_of}
+use Rattle.r4_back.specs.r4_core.declared.doing.Made.{Made}
+use Rattle.r4_right.proofs.r4_done.FromBuilt.{built_is_change, one_gone, one_made}
+use Rattle.r4_right.specs.r4_done.Done.{CanBeDone, IsChangeOf}
+use Rattle.r4_right.specs.r4_done.Right.{IsRight}
 use Rattle.r4_durable.specs.Meaning.{Beginning, IsNamed}
 use Rattle.r4_flushed.proofs.FlushedCells.{FitsOnDisk}
-use Rattle.r4_freed.specs.Freed.{HasFreed}
+use Rattle.r4_right.specs.r4_freed.Freed.{HasFreed}
 use Rattle.r4_history.proofs.RunSteps.{open_in_both}
 use Rattle.r4_history.proofs.Told.{atom_named}
 use Rattle.r4_history.specs.Held.{IsServed}
 use Rattle.r4_history.specs.Told.{IsTold}
-use Rattle.r4_kept.specs.Kept.{IsKept}
-use Rattle.r4_kept.specs.Naming.{Naming, names_in}
-use Rattle.r4_kept.specs.TasksOut.{IsGiven}
-use Rattle.r4_kept.specs.View.{CoreSeen, tables_of}
+use Rattle.r4_back.specs.r4_kept.Kept.{IsKept}
+use Rattle.r4_back.specs.r4_kept.Naming.{Naming, names_in}
+use Rattle.r4_back.specs.r4_kept.TasksOut.{IsGiven}
+use Rattle.r4_back.specs.r4_kept.View.{CoreSeen, tables_of}
 use Rattle.r4_suited.specs.Suited.{AreLawfulSeen}
 use Rattle.r4_locks.specs.Locks.{AreHolds}
 use Rattle.r4_matching.specs.Matching.{IsSameTask}

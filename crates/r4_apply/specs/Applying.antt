@@ -9,10 +9,10 @@ use Rattle.r4_base.specs.declared.things.TxnNo.{TxnNo}
 use Rattle.r4_buffer.specs.Seen.{cells_of}
 use Rattle.r4_build.specs.Built.{BuiltSeen}
 use Rattle.r4_content.specs.declared.reply.Reply.TheVariants.{Memory, Space}
-use Rattle.r4_core.specs.Doing.{IsDone, IsDoneSingle, IsRightDone, IsRightSingle, IsShort}
-use Rattle.r4_core.specs.declared.doing.Made.{Made}
-use Rattle.r4_kept.specs.Naming.{Naming}
-use Rattle.r4_kept.specs.View.{CoreSeen}
+use Rattle.r4_back.specs.r4_core.Doing.{IsDone, IsDoneSingle, IsRightDone, IsRightSingle, IsShort}
+use Rattle.r4_back.specs.r4_core.declared.doing.Made.{Made}
+use Rattle.r4_back.specs.r4_kept.Naming.{Naming}
+use Rattle.r4_back.specs.r4_kept.View.{CoreSeen}
 use Rattle.r4_matching.specs.declared.matching.Mismatch.{Mismatch}
 use Rattle.r4_matching.specs.declared.matching.Mismatch.TheVariants.{Gone, Stale}
 use Rattle.r4_outside.specs.Device.{State}

@@ -7,11 +7,10 @@ ghost use Rattle.r4_matching.specs.declared.matching.Mismatch.TheVariants.{Gone}
 
 use crate::making::{let_go, task_of};
 use crate::working::work;
-use r4_back::{is_gone, matched, refuse_back};
+use r4_back::{Core, is_gone, matched, refuse_back};
 use r4_base::NodeId;
 use r4_build::{Built, Task};
 use r4_content::Reply;
-use r4_core::Core;
 use r4_matching::{Differs, Mismatch};
 use r4_outside::{Device, Run};
 use std::alloc::Global;

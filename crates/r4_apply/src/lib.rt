@@ -6,3 +6,4 @@ mod making;
 mod working;
 
 pub use applying::{Applied, apply};
+pub use r4_back::{give_back, is_refusable, recall, refuse_memory, refuse_next};

@@ -4,12 +4,12 @@ use Rattle.std.specs.Prelude.{count_by}
 use Rattle.r4_content.specs.declared.command.Command.{Command}
 use Rattle.r4_content.specs.declared.command.Command.TheVariants as asks
 use Rattle.r4_history.specs.Tables.{next_at}
-use Rattle.r4_kept.proofs.Turning.{commit_owed}
-use Rattle.r4_kept.specs.History.{is_commit, owed, owed_by, owed_in}
-use Rattle.r4_kept.specs.Kept.{IsKept}
-use Rattle.r4_kept.specs.Naming.{Naming}
-use Rattle.r4_kept.specs.Steps.{pushed}
-use Rattle.r4_kept.specs.View.{CoreSeen}
+use Rattle.r4_core.proofs.r4_kept.Turning.{commit_owed}
+use Rattle.r4_core.specs.r4_kept.History.{is_commit, owed, owed_by, owed_in}
+use Rattle.r4_core.specs.r4_kept.Kept.{IsKept}
+use Rattle.r4_core.specs.r4_kept.Naming.{Naming}
+use Rattle.r4_core.specs.r4_kept.Steps.{pushed}
+use Rattle.r4_core.specs.r4_kept.View.{CoreSeen}
 use Rattle.r4_outside.specs.Device.{State}
 use Rattle.r4_script.specs.declared.job.Script.{Script}
 use Rattle.r4_turns.specs.Turns.{IsScript, TurnsSeen, answered_at, answered_one, commands_at, no_script, start, turn_at, with_command}

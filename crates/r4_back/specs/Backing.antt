@@ -10,8 +10,8 @@ use Rattle.r4_content.specs.declared.reply.Reply.TheVariants.{Memory, Reopen}
 use Rattle.r4_core.specs.RefusingOut.{IsRefusedOut}
 use Rattle.r4_history.specs.Held.{IsOut}
 use Rattle.r4_history.specs.Tables.{next_at}
-use Rattle.r4_kept.specs.Steps.{IsTakenBack, answered}
-use Rattle.r4_kept.specs.View.{CoreSeen}
+use Rattle.r4_core.specs.r4_kept.Steps.{IsTakenBack, answered}
+use Rattle.r4_core.specs.r4_kept.View.{CoreSeen}
 use Rattle.r4_matching.specs.Matching.{IsMismatch, IsSameTask}
 use Rattle.r4_matching.specs.declared.matching.Mismatch.{Mismatch}
 use Rattle.r4_matching.specs.declared.matching.Mismatch.TheVariants.{Gone}

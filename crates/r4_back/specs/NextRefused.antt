@@ -5,9 +5,9 @@ use Rattle.r4_content.specs.declared.command.Command.{Command}
 use Rattle.r4_content.specs.declared.reply.Reply.{Reply}
 use Rattle.r4_content.specs.declared.reply.Reply.TheVariants.{Memory, Reopen}
 use Rattle.r4_history.specs.Tables.{Stands}
-use Rattle.r4_kept.specs.History.{owed, owed_for_commit}
-use Rattle.r4_kept.specs.Steps.{MayBeRefused, answered}
-use Rattle.r4_kept.specs.View.{CoreSeen}
+use Rattle.r4_core.specs.r4_kept.History.{owed, owed_for_commit}
+use Rattle.r4_core.specs.r4_kept.Steps.{MayBeRefused, answered}
+use Rattle.r4_core.specs.r4_kept.View.{CoreSeen}
 use Rattle.r4_trace.specs.declared.entry.Entry.TheVariants.{Refused}
 use Rattle.r4_turns.specs.Turns.{TurnsSeen, answered_at, answered_one, turn_at}
 

@@ -10,4 +10,5 @@ mod refusing;
 pub use finding::{is_gone, is_out, matched};
 pub use giving::{give_back, recall};
 pub use next::{is_refusable, refusals_have_room, refuse_next};
+pub use r4_core::{Core, Made};
 pub use refusing::{refuse_back, refuse_memory};

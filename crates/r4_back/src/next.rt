@@ -5,7 +5,7 @@ ghost use Rattle.r4_back.specs.NextRefused.{HasRoomForRefusal, IsRefusableNext, 
 ghost use Rattle.r4_content.specs.declared.command.Command.{Command as Asking};
 ghost use Rattle.r4_content.specs.declared.command.Command.TheVariants as asks;
 ghost use Rattle.r4_history.specs.Tables.{next_at};
-ghost use Rattle.r4_kept.specs.Steps.{pushed};
+ghost use Rattle.r4_core.specs.r4_kept.Steps.{pushed};
 ghost use Rattle.r4_turns.specs.Turns.{IsScript, answered_at, commands_at};
 
 use r4_base::{ScriptNo, TxnNo};

@@ -21,11 +21,11 @@ use Rattle.r4_core.specs.Doing.{IsRightSingle, change_of}
 use Rattle.r4_content.specs.Locality.{commands}
 use Rattle.r4_content.specs.Meaning.{greatest_size}
 use Rattle.r4_core.specs.declared.doing.Made.{Made}
-use Rattle.r4_done.specs.Done.{HasPut}
-use Rattle.r4_done.proofs.Doable.{given_it, new_owned, old_owned}
-use Rattle.r4_done.proofs.Done.{keeps_done, keeps_done_single}
-use Rattle.r4_done.proofs.Dropped.{done_drops, done_is}
-use Rattle.r4_done.proofs.FewCells.{fewer_old, room_for_both}
+use Rattle.r4_accounting.specs.r4_done.Done.{HasPut}
+use Rattle.r4_accounting.proofs.r4_done.Doable.{given_it, new_owned, old_owned}
+use Rattle.r4_accounting.proofs.r4_done.Done.{keeps_done, keeps_done_single}
+use Rattle.r4_accounting.proofs.r4_done.Dropped.{done_drops, done_is}
+use Rattle.r4_accounting.proofs.r4_done.FewCells.{fewer_old, room_for_both}
 use Rattle.r4_history.specs.Held.{IsOut}
 use Rattle.r4_history.specs.Tables.{inside, single, with_ended}
 use Rattle.r4_history.proofs.Places.{next_there, turn_now}
@@ -40,8 +40,8 @@ use Rattle.r4_locks.specs.Locks.{LocksSeen, OthersAsBefore, task_at}
 use Rattle.r4_outside.specs.Device.{State}
 use Rattle.r4_space.specs.Lawful.{IsLawful}
 use Rattle.r4_space.specs.Space.{Space}
-use Rattle.r4_taking.proofs.Fused.{may_merge}
-use Rattle.r4_taking.proofs.RefusedSingle.{room_back}
+use Rattle.r4_ready.proofs.r4_taking.Fused.{may_merge}
+use Rattle.r4_ready.proofs.r4_taking.RefusedSingle.{room_back}
 use Rattle.r4_trace.specs.Kept.{Told}
 use Rattle.r4_trace.specs.declared.entry.Entry.TheVariants.{Done, Ended}
 use Rattle.r4_turns.specs.Turns.{HasNext, IsScript, TurnsSeen, answered_at, answered_one, commands_at, dropped, left}

@@ -12,8 +12,8 @@ use Rattle.r4_history.specs.Held.{AreOwners, Need}
 use Rattle.r4_history.specs.Serving.{AreOthers}
 use Rattle.r4_kept.specs.History.{owed, owed_for_commit}
 use Rattle.r4_kept.specs.View.{CoreSeen}
-use Rattle.r4_taking.specs.Fusing.{HasFused, HasFusedAll}
-use Rattle.r4_taking.proofs.FusedAll.{of_min, still_open}
+use Rattle.r4_ready.specs.r4_taking.Fusing.{HasFused, HasFusedAll}
+use Rattle.r4_ready.proofs.r4_taking.FusedAll.{of_min, still_open}
 
 -- At a place of the list: those that are left may fuse, and what comes of them from here is what
 -- comes of all.

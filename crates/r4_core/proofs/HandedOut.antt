@@ -18,7 +18,7 @@ use Rattle.r4_turns.specs.Turns.{TurnsSeen, gone_out}
 use Rattle.r4_turns.specs.declared.out.Out.{Out}
 use Rattle.r4_kept.specs.View.{CoreSeen}
 use Rattle.r4_kept.specs.declared.parts.Numbers.{Numbers as Next}
-use Rattle.r4_taking.specs.GoingOut.{HasGoneOut}
+use Rattle.r4_ready.specs.r4_taking.GoingOut.{HasGoneOut}
 
 pub as_many : (items : List (arc_declared.Arc CellSeen Global)) → length (cells_of items) ≡ length items
 as_many items = length-map items (λ c. arc_value c)

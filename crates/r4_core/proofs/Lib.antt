@@ -23,3 +23,8 @@ mod Stepped
 mod MayDo
 mod DoneBy
 mod Roomier
+-- what crates above name by way of this one
+pub use Rattle.r4_flushing.proofs as r4_flushing
+pub use Rattle.r4_kept.proofs as r4_kept
+pub use Rattle.r4_ready.proofs as r4_ready
+pub use Rattle.r4_ready.proofs.r4_taking

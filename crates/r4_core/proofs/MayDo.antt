@@ -17,14 +17,14 @@ use Rattle.r4_buffer.specs.Seen.{cells_of}
 use Rattle.r4_cell.specs.Seen.{CellSeen}
 use Rattle.r4_core.specs.Doing.{Becomes, CanDo, change_of}
 use Rattle.r4_core.specs.declared.doing.Made.{Made}
-use Rattle.r4_done.specs.Doing.{IsCount, is_less, is_more}
-use Rattle.r4_done.proofs.FewCells.{few_new, few_writes, fewer_objects, less_cells, less_fresh}
+use Rattle.r4_accounting.specs.r4_done.Doing.{IsCount, is_less, is_more}
+use Rattle.r4_accounting.proofs.r4_done.FewCells.{few_new, few_writes, fewer_objects, less_cells, less_fresh}
 use Rattle.r4_kept.specs.Kept.{IsKept}
 use Rattle.r4_kept.specs.Naming.{Naming}
 use Rattle.r4_kept.specs.View.{CoreSeen}
 use Rattle.r4_outside.specs.Device.{State}
 use Rattle.r4_space.specs.Lawful.{IsLawful}
-use Rattle.r4_taking.proofs.Fused.{small_account}
+use Rattle.r4_ready.proofs.r4_taking.Fused.{small_account}
 use Rattle.r4_turns.specs.declared.out.Out.{Out}
 use Rattle.r4_turns.specs.declared.turn.Open.{Open}
 

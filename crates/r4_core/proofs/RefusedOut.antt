@@ -11,8 +11,8 @@ use Rattle.r4_kept.specs.Naming.{Naming}
 use Rattle.r4_kept.specs.Steps.{IsTakenBack}
 use Rattle.r4_kept.specs.View.{CoreSeen, tables_of}
 use Rattle.r4_outside.specs.Device.{State}
-use Rattle.r4_taking.specs.Refusing.{StandsSingle}
-use Rattle.r4_taking.proofs.RefusedSingle.{room_back}
+use Rattle.r4_ready.specs.r4_taking.Refusing.{StandsSingle}
+use Rattle.r4_ready.proofs.r4_taking.RefusedSingle.{room_back}
 use Rattle.r4_turns.specs.Turns.{IsScript, commands_at, given_back, turn_at}
 use Rattle.r4_turns.specs.declared.out.Out.{Out}
 use Rattle.r4_turns.specs.declared.turn.Turn.{Turn}

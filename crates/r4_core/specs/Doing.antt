@@ -12,9 +12,9 @@ use Rattle.r4_base.specs.declared.things.TxnNo.{TxnNo}
 use Rattle.r4_buffer.specs.Seen.{cells_of}
 use Rattle.r4_cell.specs.declared.change.Change.{Change}
 use Rattle.r4_core.specs.declared.doing.Made.{Made}
-use Rattle.r4_done.specs.Doing.{IsCount}
-use Rattle.r4_done.specs.Done.{CanBeDone, HasDone, HasDoneSingle, IsChangeOf}
-use Rattle.r4_done.specs.Right.{IsRight}
+use Rattle.r4_accounting.specs.r4_done.Doing.{IsCount}
+use Rattle.r4_accounting.specs.r4_done.Done.{CanBeDone, HasDone, HasDoneSingle, IsChangeOf}
+use Rattle.r4_accounting.specs.r4_done.Right.{IsRight}
 use Rattle.r4_durable.specs.Meaning.{Beginning, IsNamed}
 use Rattle.r4_kept.specs.Kept.{IsKept}
 use Rattle.r4_kept.specs.Naming.{Naming, names_in}

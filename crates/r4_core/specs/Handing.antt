@@ -10,7 +10,7 @@ use Rattle.r4_kept.specs.View.{CoreSeen}
 use Rattle.r4_locks.specs.Locks.{CanLetIn, SameTasks, conflict_of}
 use Rattle.r4_outside.specs.Device.{State}
 use Rattle.r4_patch.specs.Part.{IsPart}
-use Rattle.r4_taking.specs.GoingOut.{CanGoOut}
+use Rattle.r4_ready.specs.r4_taking.GoingOut.{CanGoOut}
 use Rattle.r4_turns.specs.Turns.{IsScript}
 use Rattle.r4_turns.specs.declared.out.Out.{Out}
 

@@ -5,7 +5,7 @@ use Rattle.r4_base.specs.declared.things.TxnNo.{TxnNo}
 use Rattle.r4_content.specs.declared.reply.Reply.{Reply}
 use Rattle.r4_kept.specs.Steps.{IsTakenBack}
 use Rattle.r4_kept.specs.View.{CoreSeen}
-use Rattle.r4_taking.specs.Refusing.{refused_single}
+use Rattle.r4_ready.specs.r4_taking.Refusing.{refused_single}
 use Rattle.r4_turns.specs.declared.out.Out.{Out}
 
 -- Its task is given back, and then it is refused and its transaction ends.

@@ -9,7 +9,7 @@ ghost use Rattle.r4_trace.specs.declared.entry.Entry.TheVariants.{Acked, Refused
 ghost use Rattle.r4_turns.specs.Turns.{IsScript, answered_at, answered_one, turn_at};
 ghost use Rattle.r4_kept.specs.History.{owed, owed_for_commit};
 ghost use Rattle.r4_kept.specs.Steps.{IsRefusable, answered};
-ghost use Rattle.r4_taking.specs.Refusing.{StandsSingle, refused_single};
+ghost use Rattle.r4_ready.specs.r4_taking.Refusing.{StandsSingle, refused_single};
 
 use crate::core_state::Core;
 use r4_base::{ScriptNo, TxnNo};

@@ -5,7 +5,7 @@ ghost use Rattle.std.specs.Option.{option_map};
 ghost use Rattle.r4_content.specs.Fields.{HasBytePaths};
 ghost use Rattle.r4_ready.specs.Readiness.{parts_of, plan_of};
 ghost use Rattle.r4_search.specs.Pool.{LeavesDevice};
-ghost use Rattle.r4_serve.specs.Serving.{Asks};
+ghost use Rattle.r4_ready.specs.r4_serve.Serving.{Asks};
 
 use crate::core_state::Core;
 use r4_base::Memory;
@@ -13,7 +13,7 @@ use r4_commit::CommitPlan;
 use r4_content::Command;
 use r4_kept::Commit;
 use r4_outside::{Device, Run};
-use r4_serve::{Asked, Parts, ask};
+use r4_ready::{Asked, Parts, ask};
 use std::alloc::Global;
 
 impl<D: Device, R: Run> Core<D, R> {

@@ -6,7 +6,7 @@ ghost use Rattle.r4_core.specs.FusingAll.{CanFuseAll};
 ghost use Rattle.r4_history.specs.Serving.{least_of};
 ghost use Rattle.r4_others.specs.Others.{pairs_of};
 ghost use Rattle.r4_kept.specs.History.{owed, owed_for_commit};
-ghost use Rattle.r4_taking.specs.Fusing.{HasFused, HasFusedAll};
+ghost use Rattle.r4_ready.specs.r4_taking.Fusing.{HasFused, HasFusedAll};
 
 use crate::core_state::Core;
 use r4_base::{AtomNo, NodeId};

@@ -4,7 +4,7 @@ ghost use Rattle.std.specs.Prelude.{◌≡◌, IfOk};
 ghost use Rattle.r4_buffer.specs.Seen.{cells_of};
 ghost use Rattle.r4_core.specs.Handing.{CanHandOut, HasNoneOut, as_task};
 ghost use Rattle.r4_locks.specs.Locks.{CanLetIn};
-ghost use Rattle.r4_taking.specs.GoingOut.{HasGoneOut};
+ghost use Rattle.r4_ready.specs.r4_taking.GoingOut.{HasGoneOut};
 
 use crate::core_state::Core;
 use r4_base::{Memory, ScriptNo, TaskId, TxnNo};
@@ -13,7 +13,7 @@ use r4_content::Seen;
 use r4_kept::Numbers;
 use r4_locks::NewTask;
 use r4_outside::{Device, Run};
-use r4_serve::NodesNeeded;
+use r4_ready::NodesNeeded;
 use r4_turns::{Nodes, Numbers as Drawn, Out};
 use std::alloc::Global;
 use std::sync::Arc;

@@ -26,4 +26,6 @@ pub use core_state::{Core, goes_to_threads};
 pub use doing::Made;
 pub use handing::{Given, GoingOut};
 pub use r4_kept::{Commit, Numbers, Step, Volume};
+pub use r4_ready::{Asked, NodesNeeded, Reach, Ready, nodes_of};
+pub use r4_rooms::Wanted;
 pub use r4_start::{OpenFault, OpenWhy};

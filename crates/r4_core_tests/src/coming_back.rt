@@ -2,19 +2,18 @@
 //! and without a change.
 
 ghost use Rattle.std.specs.Prelude.{IfOk};
-ghost use Rattle.r4_take.specs.Sending.{CanBeBuilt};
+ghost use Rattle.r4_next.specs.r4_take.Sending.{CanBeBuilt};
 
 use crate::images::Image;
 use crate::pushing::push_all;
 use crate::running::{After, ONE, Told, applied, run, told};
 use crate::shared::{next, opened};
 use crate::telling::Log;
-use r4_back::{give_back, recall, refuse_memory};
+use r4_apply::{give_back, recall, refuse_memory};
 use r4_base::NodeId;
 use r4_build::{Built, Task, build};
-use r4_core::Core;
 use r4_matching::Differs;
-use r4_next::Taken;
+use r4_next::{Core, Taken};
 use r4_outside::{MemoryDevice, OpenGate, Unnamed};
 use std::alloc::Global;
 use std::test::Fail;

@@ -5,7 +5,7 @@ use crate::pushing::run_pushed;
 use crate::running::{ONE, Way, run};
 use crate::shared::opened;
 use crate::telling::Log;
-use r4_core::Core;
+use r4_next::Core;
 use r4_outside::{MemoryDevice, Unnamed};
 use std::alloc::Global;
 use std::test::Fail;

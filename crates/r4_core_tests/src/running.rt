@@ -1,15 +1,14 @@
 //! A job runs in a given way, until an atom is to be flushed or nothing is left to do.
 
-ghost use Rattle.r4_take.specs.Sending.{CanBeBuilt};
+ghost use Rattle.r4_next.specs.r4_take.Sending.{CanBeBuilt};
 
 use crate::shared::next;
 use crate::telling::Log;
 use r4_apply::{Applied, apply};
 use r4_base::{NodeId, ScriptNo};
 use r4_build::{Built, Task, build};
-use r4_core::Core;
 use r4_matching::Differs;
-use r4_next::Taken;
+use r4_next::{Core, Taken};
 use r4_outside::{MemoryDevice, OpenGate, Unnamed};
 use std::alloc::Global;
 use std::collections::VecDeque;

@@ -5,8 +5,7 @@ ghost use Rattle.r4_next.specs.Taking.{BuildsIfWork};
 
 use crate::images::{Image, device};
 use crate::pushing::job_of;
-use r4_core::{Core, OpenFault};
-use r4_next::{Taken, take};
+use r4_next::{Core, OpenFault, Taken, take};
 use r4_outside::{MemoryDevice, Unnamed};
 use std::alloc::Global;
 use std::test::Fail;

@@ -3,16 +3,15 @@
 
 ghost use Rattle.std.specs.Prelude.{IfOk};
 ghost use Rattle.r4_next.specs.Taking.{BuildsIfWork};
-ghost use Rattle.r4_take.specs.Sending.{CanBeBuilt};
+ghost use Rattle.r4_next.specs.r4_take.Sending.{CanBeBuilt};
 
 use r4_apply::{Applied, apply};
 use r4_base::AtomNo;
 use r4_build::{Task, build};
-use r4_core::{Core, OpenFault};
 use r4_devices::StopDevice;
 use r4_list::list;
 use r4_mkfs::mkfs;
-use r4_next::{Taken, take};
+use r4_next::{Core, OpenFault, Taken, take};
 use r4_outside::{MemoryDevice, MemorySink, OpenGate, Unnamed};
 use r4_script::parse;
 use r4_seal::flush;

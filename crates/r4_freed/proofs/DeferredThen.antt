@@ -28,14 +28,14 @@ use Rattle.r4_space.specs.Space.{Space, charged, claims_of, is_claimed, is_taken
 use Rattle.r4_space.specs.declared.things.Claim.{Claim}
 use Rattle.r4_trace.specs.Traced.{atom_in}
 use Rattle.r4_turns.specs.declared.out.Numbers.{Numbers}
-use Rattle.r4_kept.specs.declared.parts.Commit.{Commit}
+use Rattle.r4_accounting.specs.r4_kept.declared.parts.Commit.{Commit}
 use Rattle.r4_taking.specs.Following.{Follows}
-use Rattle.r4_done.specs.Right.{session_done}
-use Rattle.r4_done.proofs.DoneMeaning.{comes, goes_away, stays, touches_is}
-use Rattle.r4_done.proofs.DoneRun.{old_under}
-use Rattle.r4_done.proofs.DoneTables.{is_touched}
-use Rattle.r4_done.proofs.DoneTasks.{AreNumbered}
-use Rattle.r4_done.proofs.Named.{one_named, one_of_ids}
+use Rattle.r4_accounting.specs.r4_done.Right.{session_done}
+use Rattle.r4_accounting.proofs.r4_done.DoneMeaning.{comes, goes_away, stays, touches_is}
+use Rattle.r4_accounting.proofs.r4_done.DoneRun.{old_under}
+use Rattle.r4_accounting.proofs.r4_done.DoneTables.{is_touched}
+use Rattle.r4_accounting.proofs.r4_done.DoneTasks.{AreNumbered}
+use Rattle.r4_accounting.proofs.r4_done.Named.{one_named, one_of_ids}
 use Rattle.r4_freed.specs.Freed.{HasFreed}
 use Rattle.r4_freed.proofs.FreedClaims.{alike, gone, later_still, others_stay, own_then}
 use Rattle.r4_freed.proofs.UsedCells.{StandOnUsed}

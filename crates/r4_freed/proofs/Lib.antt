@@ -1,3 +1,6 @@
 pub mod FreedClaims
 pub mod UsedCells
 pub mod DeferredThen
+-- what crates above name by way of this one
+pub use Rattle.r4_accounting.proofs.r4_done
+pub use Rattle.r4_taking.proofs as r4_taking

@@ -26,10 +26,10 @@ use Rattle.r4_sets.proofs.Patches.{empty_sealed}
 use Rattle.r4_space.specs.Space.{Space, freed_by, is_claimed, is_marked_after, is_marked_by, is_taken, is_taken_by, up_to}
 use Rattle.r4_trace.specs.Job.{Asked}
 use Rattle.r4_trace.specs.Traced.{sealed_in}
-use Rattle.r4_kept.specs.Meaning.{ComesFrom, IsAt, IsAtRest, IsFlushing, IsInCommit, IsSealedEmpty}
-use Rattle.r4_kept.specs.Story.{Flush, Headed}
-use Rattle.r4_kept.specs.declared.parts.Commit.{Commit}
-use Rattle.r4_kept.specs.declared.parts.Volume.{Volume}
+use Rattle.r4_accounting.specs.r4_kept.Meaning.{ComesFrom, IsAt, IsAtRest, IsFlushing, IsInCommit, IsSealedEmpty}
+use Rattle.r4_accounting.specs.r4_kept.Story.{Flush, Headed}
+use Rattle.r4_accounting.specs.r4_kept.declared.parts.Commit.{Commit}
+use Rattle.r4_accounting.specs.r4_kept.declared.parts.Volume.{Volume}
 
 -- the block is used, and one of the volume
 pub record IsUsed (s : Space) (k : ℕ) : Type 0 where

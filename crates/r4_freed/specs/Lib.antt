@@ -1,1 +1,5 @@
 pub mod Freed
+-- what crates above name by way of this one
+pub use Rattle.r4_accounting.specs as r4_accounting
+pub use Rattle.r4_accounting.specs.r4_done
+pub use Rattle.r4_accounting.specs.r4_kept

@@ -16,31 +16,31 @@ use Rattle.r4_history.specs.Serving.{IsHeldUp, IsInTheWay, IsInTheWayOf, IsReaso
 use Rattle.r4_history.specs.Tables.{IsFinished, Stands, inside, next_at}
 use Rattle.r4_history.specs.declared.why.Why.{Why}
 use Rattle.r4_history.specs.declared.why.Why.TheVariants as why
-use Rattle.r4_kept.proofs.Turning.{owed_answered}
-use Rattle.r4_kept.specs.History.{owed, owed_for_commit}
-use Rattle.r4_kept.specs.Kept.{IsKept}
-use Rattle.r4_kept.specs.Naming.{Naming}
-use Rattle.r4_kept.specs.View.{CoreSeen, committing, tables_of}
-use Rattle.r4_kept.specs.declared.parts.Commit.{Commit}
+use Rattle.r4_served.proofs.r4_kept.Turning.{owed_answered}
+use Rattle.r4_served.specs.r4_kept.History.{owed, owed_for_commit}
+use Rattle.r4_served.specs.r4_kept.Kept.{IsKept}
+use Rattle.r4_served.specs.r4_kept.Naming.{Naming}
+use Rattle.r4_served.specs.r4_kept.View.{CoreSeen, committing, tables_of}
+use Rattle.r4_served.specs.r4_kept.declared.parts.Commit.{Commit}
 use Rattle.std.specs.Option.{option_map}
 use Rattle.r4_outside.specs.Device.{State}
-use Rattle.r4_ready.specs.Rooms.{HasMoreRoom}
+use Rattle.r4_served.specs.r4_ready.Rooms.{HasMoreRoom}
 use Rattle.r4_served.specs.Serving.{IsLeft, IsRead, IsServed, IsServedBy}
 use Rattle.r4_trace.specs.Job.{IsWork}
 use Rattle.r4_turns.specs.Turns.{IsScript, answered_at, answered_one, commands_at, turn_at}
 use Rattle.r4_turns.specs.declared.out.Out.{Out}
 use Rattle.r4_turns.specs.declared.turn.Open.{Open}
-use Rattle.r4_reaching.specs.Answers.{IsReach}
-use Rattle.r4_reaching.specs.declared.reached.Reach.{Reach}
+use Rattle.r4_served.specs.r4_reaching.Answers.{IsReach}
+use Rattle.r4_served.specs.r4_reaching.declared.reached.Reach.{Reach}
 use Rattle.r4_search.specs.Keeping.{keeping_state}
 use Rattle.r4_search.specs.Pool.{PoolState}
-use Rattle.r4_ready.specs.Readiness.{parts_of}
-use Rattle.r4_serve.specs.Serving.{IsAskedOf, PartsSeen, need_in}
-use Rattle.r4_serve.specs.declared.asked.Asked.{Asked}
-use Rattle.r4_serve.specs.declared.asked.Asked.TheVariants as asked
+use Rattle.r4_served.specs.r4_ready.Readiness.{parts_of}
+use Rattle.r4_served.specs.r4_serve.Serving.{IsAskedOf, PartsSeen, need_in}
+use Rattle.r4_served.specs.r4_serve.declared.asked.Asked.{Asked}
+use Rattle.r4_served.specs.r4_serve.declared.asked.Asked.TheVariants as asked
 use Rattle.r4_served.specs.declared.serving.Served.{Served}
 use Rattle.r4_served.specs.declared.serving.Served.TheVariants as served
-use Rattle.r4_take.specs.Sending.{IsNamed, IsServable}
+use Rattle.r4_served.specs.r4_take.Sending.{IsNamed, IsServable}
 use Rattle.r4_next.specs.Following.{looked_as}
 use Rattle.r4_next.specs.declared.taken.Looked.TheVariants as looked
 use Rattle.r4_next.specs.declared.taken.Taken.TheVariants as taken

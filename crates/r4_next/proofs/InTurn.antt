@@ -10,7 +10,7 @@ use Rattle.r4_history.specs.Held.{IsOut, Need}
 use Rattle.r4_history.specs.Serving.{IsPassedOver, IsReason, WaitsFor}
 use Rattle.r4_history.specs.Tables.{IsFinished}
 use Rattle.r4_history.specs.declared.why.Why.{Why}
-use Rattle.r4_kept.specs.View.{CoreSeen, tables_of}
+use Rattle.r4_served.specs.r4_kept.View.{CoreSeen, tables_of}
 use Rattle.r4_outside.specs.Device.{State}
 use Rattle.r4_served.specs.Serving.{IsRead}
 use Rattle.r4_turns.specs.Turns.{IsBefore, IsBehind, IsNext, IsScript, TurnsSeen, turn_at}

@@ -2,7 +2,7 @@
 use Rattle.std.proofs.Common.{◌∙◌, ℕ, Option, ap, arith, refl, subst}
 use Rattle.r4_content.specs.declared.command.Command.{Command}
 use Rattle.r4_history.specs.Held.{Need}
-use Rattle.r4_kept.specs.View.{CoreSeen}
+use Rattle.r4_served.specs.r4_kept.View.{CoreSeen}
 use Rattle.r4_outside.proofs.Moments.{goes_both}
 use Rattle.r4_outside.specs.Device.{State}
 use Rattle.r4_search.specs.Pool.{LeavesDevice}

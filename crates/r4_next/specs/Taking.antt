@@ -10,20 +10,20 @@ use Rattle.r4_history.specs.Held.{Need}
 use Rattle.r4_history.specs.Serving.{AsksForFlush, IsReason, IsServedNext, IsWaiting, WaitsFor}
 use Rattle.r4_history.specs.Tables.{IsFinished, IsLastOf, inside, next_at}
 use Rattle.r4_history.specs.declared.why.Why.{Why}
-use Rattle.r4_kept.specs.Steps.{HasBegun, answered, ended, ended_last}
-use Rattle.r4_kept.specs.View.{CoreSeen, tables_of}
+use Rattle.r4_served.specs.r4_kept.Steps.{HasBegun, answered, ended, ended_last}
+use Rattle.r4_served.specs.r4_kept.View.{CoreSeen, tables_of}
 use Rattle.r4_outside.specs.Device.{State}
-use Rattle.r4_reaching.specs.Answers.{IsReach, IsSamePool}
-use Rattle.r4_reaching.specs.declared.reached.Reach.{Reach}
-use Rattle.r4_ready.specs.Readiness.{parts_of}
-use Rattle.r4_ready.specs.Rooms.{HasMoreRoom}
+use Rattle.r4_served.specs.r4_reaching.Answers.{IsReach, IsSamePool}
+use Rattle.r4_served.specs.r4_reaching.declared.reached.Reach.{Reach}
+use Rattle.r4_served.specs.r4_ready.Readiness.{parts_of}
+use Rattle.r4_served.specs.r4_ready.Rooms.{HasMoreRoom}
 use Rattle.r4_search.specs.Keeping.{Shared, keeping_state}
 use Rattle.r4_search.specs.Pool.{LeavesDevice, PoolState}
-use Rattle.r4_serve.specs.Serving.{need_in, read_over}
+use Rattle.r4_served.specs.r4_serve.Serving.{need_in, read_over}
 use Rattle.r4_served.specs.Serving.{IsRead, IsServed}
 use Rattle.r4_served.specs.declared.serving.Served.TheVariants as served
-use Rattle.r4_take.specs.Sending.{CanBeBuilt, IsNamed, IsServable}
-use Rattle.r4_take.specs.declared.drawing.Draws.{Draws}
+use Rattle.r4_served.specs.r4_take.Sending.{CanBeBuilt, IsNamed, IsServable}
+use Rattle.r4_served.specs.r4_take.declared.drawing.Draws.{Draws}
 use Rattle.r4_trace.specs.declared.entry.Entry.TheVariants.{Acked, Refused}
 use Rattle.r4_turns.specs.Turns.{IsScript, answered_at, turn_at}
 use Rattle.r4_next.specs.declared.taken.Looked.{Looked}

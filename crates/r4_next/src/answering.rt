@@ -4,17 +4,16 @@ ghost use Rattle.std.specs.Prelude.{◌≡◌, ◌+◌, ◌<◌, IfOk, IsSome, N
 ghost use Rattle.r4_content.specs.declared.command.Command.TheVariants as asks;
 ghost use Rattle.r4_content.specs.declared.reply.Reply.TheVariants.{Reopen};
 ghost use Rattle.r4_history.specs.Tables.{IsLastOf, Stands, inside, next_at};
-ghost use Rattle.r4_kept.specs.Steps.{HasBegun, answered, ended, ended_last};
+ghost use Rattle.r4_served.specs.r4_kept.Steps.{HasBegun, answered, ended, ended_last};
 ghost use Rattle.r4_next.specs.Taking.{InRoom};
-ghost use Rattle.r4_ready.specs.Rooms.{HasMoreRoom};
+ghost use Rattle.r4_served.specs.r4_ready.Rooms.{HasMoreRoom};
 ghost use Rattle.r4_trace.specs.declared.entry.Entry.TheVariants.{Refused};
 ghost use Rattle.r4_turns.specs.Turns.{IsScript, answered_at, turn_at};
 
 use r4_atoms::Atoms;
 use r4_base::{Memory, ScriptNo, TxnNo};
-use r4_core::Core;
 use r4_outside::{Device, Run};
-use r4_rooms::Wanted;
+use r4_served::{Core, Wanted};
 use std::alloc::Global;
 
 // For one entry. There is room for one more transaction then, too.

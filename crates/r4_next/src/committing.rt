@@ -10,9 +10,9 @@ use crate::answering::last_of;
 use crate::taken::{Looked, Taken};
 use r4_atoms::Uncommitted;
 use r4_base::ScriptNo;
-use r4_core::Core;
 use r4_history::Why;
 use r4_outside::{Device, Run};
+use r4_served::Core;
 
 // It is acknowledged once all is committed; else an atom of the script is to be flushed, if one can
 // be; else it waits. It takes no memory.

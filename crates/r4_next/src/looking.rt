@@ -8,7 +8,7 @@ ghost use Rattle.r4_history.specs.Tables.{next_at};
 ghost use Rattle.r4_next.specs.Following.{looked_as as looked_for, what_follows as kind_of};
 ghost use Rattle.r4_next.specs.Taking.{IsLooked};
 ghost use Rattle.r4_served.specs.Serving.{IsLeft};
-ghost use Rattle.r4_take.specs.Sending.{IsServable};
+ghost use Rattle.r4_served.specs.r4_take.Sending.{IsServable};
 ghost use Rattle.r4_turns.specs.Turns.{IsScript, turn_at};
 
 use crate::answering::{begin, end, leave, reopen};
@@ -16,10 +16,9 @@ use crate::committing::look_at_commit;
 use crate::following::{Following, what_follows};
 use crate::taken::{Looked, Taken};
 use r4_base::{Memory, ScriptNo, TaskId};
-use r4_core::Core;
 use r4_history::Why;
 use r4_outside::{Device, Run};
-use r4_served::{Served, serve};
+use r4_served::{Core, Served, serve};
 use r4_turns::Turns;
 use std::alloc::Global;
 

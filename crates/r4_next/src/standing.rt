@@ -4,8 +4,8 @@ ghost use Rattle.std.specs.Prelude.{◌≡◌, length};
 ghost use Rattle.r4_turns.specs.Turns.{IsScript, commands_at, pending_in, turn_at};
 
 use r4_base::ScriptNo;
-use r4_core::Core;
 use r4_outside::{Device, Run};
+use r4_served::Core;
 use r4_turns::Pending;
 
 /// How the next command of a script stands: each is answered, or it is out as this task, or it is

@@ -10,9 +10,9 @@ ghost use Rattle.r4_turns.specs.Turns.{IsScript};
 use crate::looking::look_at;
 use crate::taken::{Looked, Taken};
 use r4_base::{Memory, ScriptNo};
-use r4_core::Core;
 use r4_history::Why;
 use r4_outside::{Device, Run};
+use r4_served::Core;
 use std::alloc::Global;
 
 /// What is to be done next. The scripts are looked at in the order of fewest answered commands, then

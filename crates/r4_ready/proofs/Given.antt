@@ -32,7 +32,7 @@ use Rattle.r4_reach.specs.Needs.{Ask, demand_on}
 use Rattle.r4_reach.specs.Demand.{Demand}
 use Rattle.r4_reach.specs.Reach.{IsRead, IsWritten}
 use Rattle.r4_reach.specs.Touched.{body_on, edits_on, reads_on}
-use Rattle.r4_reaching.proofs.Made.{none_spread}
+use Rattle.r4_serve.proofs.r4_reaching.Made.{none_spread}
 use Rattle.r4_judging.specs.Judging.{IsSound}
 use Rattle.r4_serve.specs.declared.asked.Ready.{Ready}
 use Rattle.r4_spared.specs.Spared.{HasNumbers, MayStandAll}

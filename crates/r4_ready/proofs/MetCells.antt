@@ -17,8 +17,8 @@ use Rattle.r4_commit.specs.Planned.{CommitSeen}
 use Rattle.r4_content.specs.declared.command.Command.{Command}
 use Rattle.r4_gather.specs.Asking.{StaysOver}
 use Rattle.r4_outside.specs.Device.{State, TellsReads}
-use Rattle.r4_reaching.specs.Answers.{IsReach}
-use Rattle.r4_reaching.specs.declared.reached.Reach.{Reach}
+use Rattle.r4_serve.specs.r4_reaching.Answers.{IsReach}
+use Rattle.r4_serve.specs.r4_reaching.declared.reached.Reach.{Reach}
 use Rattle.r4_search.specs.Keeping.{keeping_state}
 use Rattle.r4_search.specs.OnDevice.{block_there, is_image}
 use Rattle.r4_search.specs.Pool.{IsRead, PoolState}

@@ -10,7 +10,7 @@ use Rattle.r4_history.specs.Serving.{IsSealedOwner}
 use Rattle.r4_locks.specs.Locks.{conflict_of}
 use Rattle.r4_outside.specs.Device.{State}
 use Rattle.r4_patch.specs.Part.{IsPart}
-use Rattle.r4_reaching.specs.declared.reached.Reach.{Reach}
+use Rattle.r4_serve.specs.r4_reaching.declared.reached.Reach.{Reach}
 use Rattle.r4_serve.specs.Serving.{Asks, PartsSeen, need_in}
 use Rattle.r4_serve.specs.declared.asked.Asked.TheVariants as asked
 use Rattle.r4_serve.specs.declared.asked.Ready.{Ready}

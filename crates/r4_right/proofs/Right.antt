@@ -29,14 +29,14 @@ use Rattle.r4_content.specs.Locality.{commands}
 use Rattle.r4_content.specs.Meaning.{greatest_size, reply}
 use Rattle.r4_content.specs.declared.command.Command.{Command}
 use Rattle.r4_content.proofs.VolumeWidths.{volume_room}
-use Rattle.r4_done.specs.Done.{CanBeDone}
-use Rattle.r4_done.proofs.Beginning.{begins_at}
-use Rattle.r4_done.specs.Right.{IsRight, session_done}
-use Rattle.r4_done.proofs.DoneMeaning.{touches_is}
-use Rattle.r4_done.proofs.DoneRun.{owns_done, run_done}
-use Rattle.r4_done.proofs.DoneTables.{is_touched}
-use Rattle.r4_done.proofs.DoneTasks.{AreNumbered}
-use Rattle.r4_done.proofs.Named.{node_of_need}
+use Rattle.r4_freed.specs.r4_done.Done.{CanBeDone}
+use Rattle.r4_freed.proofs.r4_done.Beginning.{begins_at}
+use Rattle.r4_freed.specs.r4_done.Right.{IsRight, session_done}
+use Rattle.r4_freed.proofs.r4_done.DoneMeaning.{touches_is}
+use Rattle.r4_freed.proofs.r4_done.DoneRun.{owns_done, run_done}
+use Rattle.r4_freed.proofs.r4_done.DoneTables.{is_touched}
+use Rattle.r4_freed.proofs.r4_done.DoneTasks.{AreNumbered}
+use Rattle.r4_freed.proofs.r4_done.Named.{node_of_need}
 use Rattle.r4_durable.specs.Meaning.{Beginning, IsNamed, first_id, start_of}
 use Rattle.r4_durable.specs.Sealing.{start_in}
 use Rattle.r4_durable.proofs.Opened.{settled_at}
@@ -51,12 +51,12 @@ use Rattle.r4_history.specs.Tables.{asked}
 use Rattle.r4_history.proofs.DrawnSteps.{drawn_for}
 use Rattle.r4_history.proofs.RunSteps.{commit_is, open_in_both}
 use Rattle.r4_history.proofs.Told.{unsealed_is}
-use Rattle.r4_kept.specs.Kept.{IsKept}
-use Rattle.r4_kept.specs.Meaning.{HasMeaning, IsAt, if_open}
-use Rattle.r4_kept.specs.Naming.{Naming, job_named, names_in}
-use Rattle.r4_kept.specs.TasksOut.{IsGiven, WereDrawn}
-use Rattle.r4_kept.specs.View.{CoreSeen, committing, tables_of}
-use Rattle.r4_kept.specs.declared.parts.Commit.{Commit}
+use Rattle.r4_freed.specs.r4_kept.Kept.{IsKept}
+use Rattle.r4_freed.specs.r4_kept.Meaning.{HasMeaning, IsAt, if_open}
+use Rattle.r4_freed.specs.r4_kept.Naming.{Naming, job_named, names_in}
+use Rattle.r4_freed.specs.r4_kept.TasksOut.{IsGiven, WereDrawn}
+use Rattle.r4_freed.specs.r4_kept.View.{CoreSeen, committing, tables_of}
+use Rattle.r4_freed.specs.r4_kept.declared.parts.Commit.{Commit}
 use Rattle.r4_outside.specs.Device.{State}
 use Rattle.r4_patch.specs.Joining.{ids_of, patch_of_change}
 use Rattle.r4_path.specs.Steps.{IsFree}
@@ -66,7 +66,7 @@ use Rattle.r4_sets.specs.Session.{IsTreeOf, Session, all_done}
 use Rattle.r4_sets.proofs.Applied.{memory_stands}
 use Rattle.r4_sets_told.specs.Runs.{IsLawfulRun, dones_in}
 use Rattle.r4_sets_told.proofs.Counted.{Good, good, names_unused}
-use Rattle.r4_taking.proofs.Fused.{sealed_differs}
+use Rattle.r4_freed.proofs.r4_taking.Fused.{sealed_differs}
 use Rattle.r4_trace.specs.Folds.{content_of, everything}
 use Rattle.r4_trace.specs.Ids.{IsNewId, Start, id_of}
 use Rattle.r4_trace.specs.Traced.{IsSealed, atom_in}

@@ -16,7 +16,7 @@ use Rattle.r4_base.proofs.Members.{member_cases, member_here, member_later, no_m
 use Rattle.r4_base.specs.declared.things.NodeId.{NodeId}
 use Rattle.r4_buffer.specs.Seen.{BufferSeen, EntrySeen, IsLawful, buffered, cell_at}
 use Rattle.r4_cell.specs.Seen.{CellSeen}
-use Rattle.r4_flushing.specs.Sealing.{AreCellsOf}
+use Rattle.r4_core.specs.r4_flushing.Sealing.{AreCellsOf}
 use Rattle.r4_wander.proofs.Members.{any_cases, any_here, any_later}
 use Rattle.r4_seal.specs.Cells.{cells_under, one_cell}
 

@@ -19,19 +19,19 @@ use Rattle.r4_closed.specs.Closed.{AreClosed}
 use Rattle.r4_flush.specs.Asked.{StandsIn, fresh_count}
 use Rattle.r4_flush.specs.Prepared.{IsPrepared}
 use Rattle.r4_flush.specs.declared.preparing.Prepared.{Prepared}
-use Rattle.r4_flushing.proofs.Preparing.{all_stand, has_room}
-use Rattle.r4_flushing.specs.Sealable.{IsClear, MaySeal}
-use Rattle.r4_flushing.specs.Sealing.{AreCellsOf, CanSeal, super_to_come}
+use Rattle.r4_core.proofs.r4_flushing.Preparing.{all_stand, has_room}
+use Rattle.r4_core.specs.r4_flushing.Sealable.{IsClear, MaySeal}
+use Rattle.r4_core.specs.r4_flushing.Sealing.{AreCellsOf, CanSeal, super_to_come}
 use Rattle.r4_outside.specs.Device.{State}
 use Rattle.r4_space.specs.Accounts.{price_formula}
 use Rattle.r4_space.specs.Lawful.{IsLawful}
 use Rattle.r4_space.specs.Space.{Space, is_taken, unused_count}
 use Rattle.r4_wander.proofs.Members.{from_map}
 use Rattle.r4_wander.specs.Torn.{targets}
-use Rattle.r4_kept.specs.History.{owed}
-use Rattle.r4_kept.specs.Kept.{IsKept}
-use Rattle.r4_kept.specs.Naming.{Naming}
-use Rattle.r4_kept.specs.View.{CoreSeen}
+use Rattle.r4_core.specs.r4_kept.History.{owed}
+use Rattle.r4_core.specs.r4_kept.Kept.{IsKept}
+use Rattle.r4_core.specs.r4_kept.Naming.{Naming}
+use Rattle.r4_core.specs.r4_kept.View.{CoreSeen}
 use Rattle.r4_seal.specs.Cells.{cells_under}
 use Rattle.r4_seal.specs.Checked.{AreClearBlocks, AreClearNames, AreCounted, AreUsed, GetsClear, IsUsedNode}
 use Rattle.r4_seal.proofs.Clear.{none_open}

@@ -24,12 +24,12 @@ use Rattle.r4_script.specs.declared.job.Job.{Job}
 use Rattle.r4_turns.specs.Turns.{IsScript, answered_one, commands_at, no_script, turn_at}
 use Rattle.r4_turns.specs.declared.turn.Open.{Open}
 use Rattle.r4_turns.specs.declared.turn.Turn.{Turn}
-use Rattle.r4_kept.proofs.Turning.{commit_owed}
-use Rattle.r4_kept.specs.History.{owed, owed_for_commit}
-use Rattle.r4_kept.specs.Kept.{IsKept}
-use Rattle.r4_kept.specs.Naming.{Naming}
-use Rattle.r4_kept.specs.Steps.{IsRefusable}
-use Rattle.r4_kept.specs.View.{CoreSeen, tables_of}
+use Rattle.r4_core.proofs.r4_kept.Turning.{commit_owed}
+use Rattle.r4_core.specs.r4_kept.History.{owed, owed_for_commit}
+use Rattle.r4_core.specs.r4_kept.Kept.{IsKept}
+use Rattle.r4_core.specs.r4_kept.Naming.{Naming}
+use Rattle.r4_core.specs.r4_kept.Steps.{IsRefusable}
+use Rattle.r4_core.specs.r4_kept.View.{CoreSeen, tables_of}
 use Rattle.r4_wander.proofs.Members.{any_cases, any_here, any_later}
 use Rattle.r4_seal.specs.Waiting.{AreWaiting, HasTxnIn, RefusesIfWaiting, WaitsAtCommit}
 use Rattle.r4_seal.specs.Waiting.{all_refused, refused_memory}

@@ -1,7 +1,7 @@
 -- Room that is made twice.
 use Rattle.std.proofs.Common.{◌∙◌, ap, arith}
-use Rattle.r4_kept.specs.View.{CoreSeen}
-use Rattle.r4_ready.specs.Rooms.{HasMoreRoom}
+use Rattle.r4_core.specs.r4_kept.View.{CoreSeen}
+use Rattle.r4_core.specs.r4_ready.Rooms.{HasMoreRoom}
 
 pub more_and_more : {D : Type 0} (a b c : CoreSeen D) → HasMoreRoom a b → HasMoreRoom b c → HasMoreRoom a c
 more_and_more a b c one two = record {

@@ -10,11 +10,11 @@ use Rattle.r4_base.specs.declared.things.AtomNo.{AtomNo}
 use Rattle.r4_base.specs.declared.things.NodeId.{NodeId}
 use Rattle.r4_cell.specs.Seen.{CellSeen}
 use Rattle.r4_flush.specs.declared.preparing.Prepared.{Prepared}
-use Rattle.r4_flushing.specs.Sealable.{MaySeal}
-use Rattle.r4_flushing.specs.Sealing.{HasSealed}
-use Rattle.r4_kept.specs.Steps.{sealed_empty}
-use Rattle.r4_kept.specs.View.{CoreSeen}
-use Rattle.r4_ready.specs.Rooms.{HasMoreRoom}
+use Rattle.r4_core.specs.r4_flushing.Sealable.{MaySeal}
+use Rattle.r4_core.specs.r4_flushing.Sealing.{HasSealed}
+use Rattle.r4_core.specs.r4_kept.Steps.{sealed_empty}
+use Rattle.r4_core.specs.r4_kept.View.{CoreSeen}
+use Rattle.r4_core.specs.r4_ready.Rooms.{HasMoreRoom}
 use Rattle.r4_seal.specs.Flushing.{IsFlushed}
 
 pub on_ok : {A E : Type 0} (x : Result A E) (P Q : Type 0) → (P → Q) → OnOk x P → OnOk x Q

@@ -6,8 +6,8 @@ use Rattle.r4_base.specs.declared.things.AtomNo.{AtomNo}
 use Rattle.r4_base.specs.declared.things.BlockNo.{BlockNo}
 use Rattle.r4_base.specs.declared.things.NodeId.{NodeId}
 use Rattle.r4_flush.specs.declared.cells.RenamedCell.{RenamedCell}
-use Rattle.r4_flushing.specs.Sealable.{IsClear}
-use Rattle.r4_kept.specs.View.{CoreSeen}
+use Rattle.r4_core.specs.r4_flushing.Sealable.{IsClear}
+use Rattle.r4_core.specs.r4_kept.View.{CoreSeen}
 use Rattle.r4_space.specs.Space.{Space, is_taken}
 
 -- each of these nodes that is a block is used

@@ -5,11 +5,11 @@ use Rattle.r4_base.specs.declared.things.AtomNo.{AtomNo}
 use Rattle.r4_base.specs.declared.things.ScriptNo.{ScriptNo}
 use Rattle.r4_cell.specs.Seen.{CellSeen}
 use Rattle.r4_flush.specs.declared.preparing.Prepared.{Prepared}
-use Rattle.r4_flushing.specs.Sealable.{MaySeal}
-use Rattle.r4_flushing.specs.Sealing.{HasSealed}
-use Rattle.r4_kept.specs.Steps.{sealed_empty}
-use Rattle.r4_kept.specs.View.{CoreSeen}
-use Rattle.r4_ready.specs.Rooms.{HasMoreRoom}
+use Rattle.r4_core.specs.r4_flushing.Sealable.{MaySeal}
+use Rattle.r4_core.specs.r4_flushing.Sealing.{HasSealed}
+use Rattle.r4_core.specs.r4_kept.Steps.{sealed_empty}
+use Rattle.r4_core.specs.r4_kept.View.{CoreSeen}
+use Rattle.r4_core.specs.r4_ready.Rooms.{HasMoreRoom}
 use Rattle.r4_seal.specs.Waiting.{AreWaiting, all_refused}
 
 -- Room was made, and the atom is sealed that owns nothing: its commit writes nothing.

@@ -7,8 +7,8 @@ use Rattle.r4_base.specs.declared.things.ScriptNo.{ScriptNo}
 use Rattle.r4_content.specs.declared.command.Command.TheVariants as asks
 use Rattle.r4_content.specs.declared.reply.Reply.TheVariants.{Memory}
 use Rattle.r4_history.specs.Tables.{next_at}
-use Rattle.r4_kept.specs.Steps.{answered}
-use Rattle.r4_kept.specs.View.{CoreSeen}
+use Rattle.r4_core.specs.r4_kept.Steps.{answered}
+use Rattle.r4_core.specs.r4_kept.View.{CoreSeen}
 use Rattle.r4_trace.specs.declared.entry.Entry.TheVariants.{Refused}
 use Rattle.r4_turns.specs.Turns.{IsScript, answered_at, turn_at}
 

@@ -1,7 +1,7 @@
 //! What is looked up before an atom is sealed. On a volume all of it holds; on a damaged image it may not.
 
 ghost use Rattle.std.specs.Prelude.{◌≡◌, ◌^◌, ◌≤◌, true};
-ghost use Rattle.r4_flushing.specs.Sealable.{IsClear};
+ghost use Rattle.r4_core.specs.r4_flushing.Sealable.{IsClear};
 ghost use Rattle.r4_seal.specs.Checked.{AreClearBlocks, AreClearNames, AreUsed, GetsClear};
 ghost use Rattle.r4_seal.specs.Checked.{IsUsedNode};
 

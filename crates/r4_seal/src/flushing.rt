@@ -2,15 +2,14 @@
 
 ghost use Rattle.std.specs.Prelude.{◌≡◌, None, OnErr, OnOk};
 ghost use Rattle.r4_atoms.specs.Atoms.{IsClosedAtom};
-ghost use Rattle.r4_ready.specs.Rooms.{HasMoreRoom};
+ghost use Rattle.r4_core.specs.r4_ready.Rooms.{HasMoreRoom};
 ghost use Rattle.r4_seal.specs.Flushing.{IsFlushed, RefusesWaiting};
 
 use crate::preparing::prepare_for;
 use crate::waiting::refuse_waiting;
 use r4_base::{AtomNo, Memory};
-use r4_core::Core;
+use r4_core::{Core, Wanted};
 use r4_outside::{Device, Run};
-use r4_rooms::Wanted;
 use r4_turns::Nodes;
 use std::alloc::Global;
 

@@ -5,9 +5,9 @@ ghost use Rattle.std.specs.Prelude.{None, Some, true};
 ghost use Rattle.std.specs.List.Sorted.{IsStrictlyIncreasing};
 ghost use Rattle.r4_atoms.specs.Atoms.{IsAtom, IsClosedAtom, account_of, numbers, owner_of};
 ghost use Rattle.r4_cell.specs.Seen.{CellSeen};
-ghost use Rattle.r4_flushing.specs.Sealable.{MaySeal};
-ghost use Rattle.r4_flushing.specs.Sealing.{super_to_come};
-ghost use Rattle.r4_kept.specs.History.{owed};
+ghost use Rattle.r4_core.specs.r4_flushing.Sealable.{MaySeal};
+ghost use Rattle.r4_core.specs.r4_flushing.Sealing.{super_to_come};
+ghost use Rattle.r4_core.specs.r4_kept.History.{owed};
 ghost use Rattle.r4_seal.specs.Checked.{AreCounted};
 
 use crate::checking::{are_clear, are_used, names_are_clear};

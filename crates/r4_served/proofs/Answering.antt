@@ -7,21 +7,21 @@ use Rattle.r4_base.specs.declared.things.TxnNo.{TxnNo}
 use Rattle.r4_build.specs.declared.task.Task.{Task}
 use Rattle.r4_content.specs.declared.command.Command.{Command}
 use Rattle.r4_content.specs.declared.reply.Reply.{Reply}
-use Rattle.r4_kept.specs.View.{CoreSeen}
+use Rattle.r4_take.specs.r4_kept.View.{CoreSeen}
 use Rattle.r4_others.specs.Others.{pairs_of}
 use Rattle.r4_outside.specs.Device.{State}
-use Rattle.r4_ready.specs.Readiness.{parts_of}
-use Rattle.r4_ready.specs.Rooms.{HasMoreRoom}
+use Rattle.r4_take.specs.r4_ready.Readiness.{parts_of}
+use Rattle.r4_take.specs.r4_ready.Rooms.{HasMoreRoom}
 use Rattle.r4_search.specs.Pool.{LeavesDevice}
-use Rattle.r4_serve.specs.Serving.{Asks}
-use Rattle.r4_serve.specs.declared.asked.Asked.{Asked}
-use Rattle.r4_serve.specs.declared.asked.Asked.TheVariants as asked
-use Rattle.r4_serve.specs.declared.asked.Ready.{Ready}
+use Rattle.r4_take.specs.r4_serve.Serving.{Asks}
+use Rattle.r4_take.specs.r4_serve.declared.asked.Asked.{Asked}
+use Rattle.r4_take.specs.r4_serve.declared.asked.Asked.TheVariants as asked
+use Rattle.r4_take.specs.r4_serve.declared.asked.Ready.{Ready}
 use Rattle.r4_take.proofs.Roomy.{dev_same, roomier_same}
 use Rattle.r4_take.specs.Sending.{HasOwn, HasRoomier, IsNamed, IsSent, IsServable, own_in}
 use Rattle.r4_take.specs.declared.drawing.Draws.{Draws}
 use Rattle.r4_take.specs.declared.gathering.Own.{Own}
-use Rattle.r4_taking.proofs.FusedAll.{others_stay}
+use Rattle.r4_take.proofs.r4_taking.FusedAll.{others_stay}
 use Rattle.r4_turns.specs.Turns.{turn_at}
 use Rattle.r4_turns.specs.declared.turn.Open.{Open}
 use Rattle.r4_served.specs.Serving.{IsAnswered, IsLeft, IsRead, IsRefused, IsServed, IsServedBy, refused_by, refused_within}

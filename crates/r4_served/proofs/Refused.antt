@@ -2,10 +2,10 @@
 use Rattle.std.proofs.Common.{◌≡◌, ◌+◌, ◌≤◌, ℕ, Option, ap, arith, subst, sym}
 use Rattle.r4_base.specs.declared.things.ScriptNo.{ScriptNo}
 use Rattle.r4_content.specs.declared.reply.Reply.{Reply}
-use Rattle.r4_kept.proofs.Turning.{owed_answered}
-use Rattle.r4_kept.specs.History.{owed, owed_for_commit}
-use Rattle.r4_kept.specs.View.{CoreSeen}
-use Rattle.r4_ready.specs.Rooms.{HasMoreRoom}
+use Rattle.r4_take.proofs.r4_kept.Turning.{owed_answered}
+use Rattle.r4_take.specs.r4_kept.History.{owed, owed_for_commit}
+use Rattle.r4_take.specs.r4_kept.View.{CoreSeen}
+use Rattle.r4_take.specs.r4_ready.Rooms.{HasMoreRoom}
 use Rattle.r4_turns.specs.Turns.{IsScript, answered_one, turn_at}
 use Rattle.r4_turns.specs.declared.turn.Open.{Open}
 use Rattle.r4_served.specs.Serving.{refused_by}

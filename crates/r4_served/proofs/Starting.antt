@@ -2,16 +2,16 @@
 use Rattle.std.proofs.Common.{◌≡◌, inl, inr, ◌<◌, ◌≤◌, ◌^◌, ℕ, None, arith, subst, sym}
 use Rattle.r4_content.specs.Fields.{HasBytePaths}
 use Rattle.r4_content.specs.declared.command.Command.{Command}
-use Rattle.r4_kept.specs.Cells.{IsName}
-use Rattle.r4_kept.specs.Kept.{IsKept}
-use Rattle.r4_kept.specs.Naming.{Naming}
-use Rattle.r4_kept.specs.View.{CoreSeen, blocks_of}
+use Rattle.r4_take.specs.r4_kept.Cells.{IsName}
+use Rattle.r4_take.specs.r4_kept.Kept.{IsKept}
+use Rattle.r4_take.specs.r4_kept.Naming.{Naming}
+use Rattle.r4_take.specs.r4_kept.View.{CoreSeen, blocks_of}
 use Rattle.r4_outside.specs.Device.{State}
-use Rattle.r4_ready.proofs.Startable.{may_start}
-use Rattle.r4_ready.specs.Readiness.{parts_of}
-use Rattle.r4_serve.specs.Serving.{Asks}
-use Rattle.r4_serve.specs.declared.asked.Asked.TheVariants as asked
-use Rattle.r4_serve.specs.declared.asked.Ready.{Ready}
+use Rattle.r4_take.proofs.r4_ready.Startable.{may_start}
+use Rattle.r4_take.specs.r4_ready.Readiness.{parts_of}
+use Rattle.r4_take.specs.r4_serve.Serving.{Asks}
+use Rattle.r4_take.specs.r4_serve.declared.asked.Asked.TheVariants as asked
+use Rattle.r4_take.specs.r4_serve.declared.asked.Ready.{Ready}
 use Rattle.r4_take.specs.Sending.{IsNamed, IsServable, MaySend}
 use Rattle.r4_take.specs.declared.drawing.Draws.{Draws}
 

@@ -7,16 +7,16 @@ use Rattle.r4_content.specs.declared.command.Command.{Command}
 use Rattle.r4_content.specs.declared.reply.Reply.{Reply}
 use Rattle.r4_content.specs.declared.reply.Reply.TheVariants as replies
 use Rattle.r4_history.specs.declared.why.Why.TheVariants as why
-use Rattle.r4_kept.specs.Steps.{answered}
-use Rattle.r4_kept.specs.View.{CoreSeen}
+use Rattle.r4_take.specs.r4_kept.Steps.{answered}
+use Rattle.r4_take.specs.r4_kept.View.{CoreSeen}
 use Rattle.r4_outside.specs.Device.{State}
-use Rattle.r4_ready.specs.Readiness.{parts_of}
-use Rattle.r4_ready.specs.Rooms.{HasMoreRoom}
+use Rattle.r4_take.specs.r4_ready.Readiness.{parts_of}
+use Rattle.r4_take.specs.r4_ready.Rooms.{HasMoreRoom}
 use Rattle.r4_search.specs.Pool.{LeavesDevice}
-use Rattle.r4_serve.specs.Serving.{Asks}
-use Rattle.r4_serve.specs.declared.asked.Asked.{Asked}
-use Rattle.r4_serve.specs.declared.asked.Asked.TheVariants as asked
-use Rattle.r4_taking.specs.Refusing.{refused_single}
+use Rattle.r4_take.specs.r4_serve.Serving.{Asks}
+use Rattle.r4_take.specs.r4_serve.declared.asked.Asked.{Asked}
+use Rattle.r4_take.specs.r4_serve.declared.asked.Asked.TheVariants as asked
+use Rattle.r4_take.specs.r4_taking.Refusing.{refused_single}
 use Rattle.r4_take.specs.Sending.{HasRoomier, IsNamed, IsSent, IsServable}
 use Rattle.r4_take.specs.declared.drawing.Draws.{Draws}
 use Rattle.r4_trace.specs.declared.entry.Entry.TheVariants.{Refused}

@@ -6,4 +6,5 @@ mod refusing;
 mod serving;
 
 pub use refusing::refuse;
+pub use r4_take::{Core, OpenFault, OpenWhy, Step, Wanted};
 pub use serving::{Served, serve};

@@ -8,9 +8,8 @@ ghost use Rattle.r4_take.specs.Sending.{IsNamed, IsServable};
 
 use r4_base::{Memory, Oid, ScriptNo};
 use r4_content::Command;
-use r4_core::Core;
 use r4_outside::{Device, Run};
-use r4_take::{Draws, numbers_for};
+use r4_take::{Core, Draws, numbers_for};
 use std::alloc::{AllocError, Global};
 
 // The next command of a script under the id that it gets, if it makes an object, and its numbers.

@@ -2,19 +2,18 @@
 
 ghost use Rattle.std.specs.Prelude.{◌≡◌, ◌+◌, ◌≤◌, IfOk, None, OnErr};
 ghost use Rattle.r4_content.specs.declared.command.Command.{Command};
-ghost use Rattle.r4_kept.specs.History.{owed, owed_for_commit};
+ghost use Rattle.r4_take.specs.r4_kept.History.{owed, owed_for_commit};
 ghost use Rattle.r4_served.specs.Serving.{IsRefused, refused_by};
 ghost use Rattle.r4_served.specs.declared.serving.Served.TheVariants as served;
-ghost use Rattle.r4_ready.specs.Rooms.{HasMoreRoom};
+ghost use Rattle.r4_take.specs.r4_ready.Rooms.{HasMoreRoom};
 ghost use Rattle.r4_take.specs.Sending.{IsServable};
 ghost use Rattle.r4_turns.specs.Turns.{turn_at};
 
 use crate::serving::Served;
 use r4_base::{Memory, ScriptNo, TxnNo};
 use r4_content::Reply;
-use r4_core::Core;
 use r4_outside::{Device, Run};
-use r4_rooms::Wanted;
+use r4_take::{Core, Wanted};
 use r4_turns::Open;
 use std::alloc::Global;
 

@@ -2,7 +2,7 @@
 
 ghost use Rattle.std.specs.Prelude.{◌≡◌, ◌<◌, IfOk, None, OnErr, length};
 ghost use Rattle.r4_content.specs.declared.command.Command.{Command as Asking};
-ghost use Rattle.r4_ready.specs.Rooms.{HasMoreRoom};
+ghost use Rattle.r4_take.specs.r4_ready.Rooms.{HasMoreRoom};
 ghost use Rattle.r4_served.specs.Serving.{IsAnswered, IsLeft, IsNoTask, IsServed};
 ghost use Rattle.r4_take.specs.Sending.{IsServable};
 
@@ -11,11 +11,9 @@ use crate::refusing::refuse;
 use r4_base::{Memory, ScriptNo};
 use r4_build::Task;
 use r4_content::Reply;
-use r4_core::Core;
 use r4_history::Why;
 use r4_outside::{Device, Run};
-use r4_serve::Asked;
-use r4_take::send;
+use r4_take::{Asked, Core, send};
 use std::alloc::Global;
 
 /// What becomes of the next command of a script, work.

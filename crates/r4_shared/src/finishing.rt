@@ -7,10 +7,10 @@ ghost use Rattle.r4_trace.specs.Legal.{IsWhole};
 ghost use Rattle.r4_turns.specs.Turns.{IsScript};
 
 use crate::stepping::{Next, bring_back, next_step};
-use r4_back::recall;
+use r4_apply::recall;
 use r4_base::{Memory, ScriptNo};
 use r4_build::build;
-use r4_core::{Core, Step};
+use r4_next::{Core, Step};
 use r4_history::runs_are_whole;
 use r4_outside::{Device, Gate, Run};
 use r4_seal::flush;

@@ -6,19 +6,16 @@ ghost use Rattle.r4_atoms.specs.Atoms.{IsClosedAtom};
 ghost use Rattle.r4_content.specs.declared.command.Command.{Command};
 ghost use Rattle.r4_seal.specs.Flushing.{IsFlushed, RefusesWaiting};
 ghost use Rattle.r4_shared.specs.Stepping.{AppliesOr, BringsBack, BuildsNext, IsFlushedAs, IsNext, RefusesNext};
-ghost use Rattle.r4_take.specs.Sending.{IsServable};
+ghost use Rattle.r4_next.specs.r4_take.Sending.{IsServable};
 
-use r4_apply::{Applied, apply};
-use r4_back::{give_back, refuse_memory};
+use r4_apply::{Applied, apply, give_back, refuse_memory};
 use r4_base::{AtomNo, Memory, ScriptNo};
 use r4_build::{BuildFault, Built, Task};
 use r4_content::Reply;
-use r4_core::Core;
+use r4_next::{Core, Taken, refuse, take};
 use r4_history::Why;
-use r4_next::{Taken, take};
 use r4_outside::{Device, Run};
 use r4_seal::flush;
-use r4_served::refuse;
 use std::alloc::{AllocError, Global};
 
 /// What a step came to, and what there is to do behind it (docs/core.md, "Threads").

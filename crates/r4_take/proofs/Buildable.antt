@@ -17,15 +17,15 @@ use Rattle.r4_content.specs.declared.command.Command.{Command}
 use Rattle.r4_history.proofs.Places.{is_script_with, turn_now}
 use Rattle.r4_history.specs.Held.{IsOut}
 use Rattle.r4_history.specs.Tables.{next_at}
-use Rattle.r4_kept.specs.Kept.{IsKept}
-use Rattle.r4_kept.specs.Naming.{Naming}
-use Rattle.r4_kept.specs.TasksOut.{IsGiven}
-use Rattle.r4_kept.specs.View.{CoreSeen}
+use Rattle.r4_core.specs.r4_kept.Kept.{IsKept}
+use Rattle.r4_core.specs.r4_kept.Naming.{Naming}
+use Rattle.r4_core.specs.r4_kept.TasksOut.{IsGiven}
+use Rattle.r4_core.specs.r4_kept.View.{CoreSeen}
 use Rattle.r4_leaf_edits.specs.Suiting.{SuitLeaves}
 use Rattle.r4_outside.specs.Device.{State}
 use Rattle.r4_reach.specs.Touched.{body_on, edits_on, reads_on}
 use Rattle.r4_suited.proofs.Suits.{told_suits}
-use Rattle.r4_taking.specs.GoingOut.{HasGoneOut}
+use Rattle.r4_core.specs.r4_taking.GoingOut.{HasGoneOut}
 use Rattle.r4_turns.specs.Turns.{IsScript, commands_at, gone_out, turn_at}
 use Rattle.r4_turns.specs.declared.out.Out.{Out}
 use Rattle.r4_turns.specs.declared.turn.Turn.{Turn}

@@ -3,3 +3,7 @@ mod Own
 mod SentOut
 pub mod Sent
 mod Buildable
+-- what crates above name by way of this one
+pub use Rattle.r4_core.proofs.r4_kept
+pub use Rattle.r4_core.proofs.r4_ready
+pub use Rattle.r4_core.proofs.r4_taking

@@ -17,13 +17,13 @@ use Rattle.r4_history.specs.Held.{AreOwners, Need}
 use Rattle.r4_history.specs.Serving.{AreOthers, IsOwnerInReach, IsSealedOwner}
 use Rattle.r4_history.specs.Tables.{next_at, single}
 use Rattle.r4_history.specs.Told.{IsTold}
-use Rattle.r4_kept.proofs.Turning.{owed_less, summed}
-use Rattle.r4_kept.specs.Accounts.{cells_for, cells_owed, claims_for, claims_owed}
-use Rattle.r4_kept.specs.History.{owed}
-use Rattle.r4_kept.specs.Kept.{IsKept}
-use Rattle.r4_kept.specs.Naming.{Naming}
-use Rattle.r4_kept.specs.Steps.{HasBegunSingle}
-use Rattle.r4_kept.specs.View.{CoreSeen, tables_of}
+use Rattle.r4_core.proofs.r4_kept.Turning.{owed_less, summed}
+use Rattle.r4_core.specs.r4_kept.Accounts.{cells_for, cells_owed, claims_for, claims_owed}
+use Rattle.r4_core.specs.r4_kept.History.{owed}
+use Rattle.r4_core.specs.r4_kept.Kept.{IsKept}
+use Rattle.r4_core.specs.r4_kept.Naming.{Naming}
+use Rattle.r4_core.specs.r4_kept.Steps.{HasBegunSingle}
+use Rattle.r4_core.specs.r4_kept.View.{CoreSeen, tables_of}
 use Rattle.r4_outside.specs.Device.{State}
 use Rattle.r4_take.specs.Sending.{HasOwn, HasRoomier, own_in}
 use Rattle.r4_take.proofs.Roomy.{turns_same, txns_same}

@@ -3,7 +3,7 @@ use Rattle.std.proofs.Common.{◌≡◌, ◌∙◌, ℕ, List, [], ◌∷◌, Op
 use Rattle.r4_atoms.specs.Atoms.{owner_of}
 use Rattle.r4_base.specs.declared.things.NodeId.{NodeId}
 use Rattle.r4_buffer.specs.Seen.{buffered}
-use Rattle.r4_kept.specs.View.{CoreSeen}
+use Rattle.r4_core.specs.r4_kept.View.{CoreSeen}
 use Rattle.r4_locks.specs.Locks.{LocksSeen, SameTasks, TaskSeen, conflict_of, first_conflict, mode_in, smallest_holder}
 use Rattle.r4_locks.specs.Modes.{conflicts}
 use Rattle.r4_locks.specs.declared.things.Mode.{Mode}

@@ -7,11 +7,11 @@ use Rattle.r4_buffer.specs.Seen.{cells_of}
 use Rattle.r4_content.specs.declared.command.Command.{Command}
 use Rattle.r4_core.specs.Handing.{as_task}
 use Rattle.r4_core.specs.declared.handing.Given.{Given}
-use Rattle.r4_kept.specs.View.{CoreSeen}
+use Rattle.r4_core.specs.r4_kept.View.{CoreSeen}
 use Rattle.r4_others.specs.Others.{pairs_of}
-use Rattle.r4_serve.specs.declared.asked.Ready.{Ready}
-use Rattle.r4_taking.specs.Fusing.{HasFusedAll}
-use Rattle.r4_taking.specs.GoingOut.{HasGoneOut}
+use Rattle.r4_core.specs.r4_serve.declared.asked.Ready.{Ready}
+use Rattle.r4_core.specs.r4_taking.Fusing.{HasFusedAll}
+use Rattle.r4_core.specs.r4_taking.GoingOut.{HasGoneOut}
 use Rattle.r4_take.specs.Sending.{CanBeBuilt, HasOwn, HasRoomier, IsGathered, IsSent, own_in}
 use Rattle.r4_take.specs.declared.drawing.Draws.{Draws}
 use Rattle.r4_take.specs.declared.gathering.Gathered.{Gathered}

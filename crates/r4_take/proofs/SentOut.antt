@@ -26,25 +26,25 @@ use Rattle.r4_history.specs.Drawn.{GetsNumbers, numbers_of}
 use Rattle.r4_history.specs.Held.{AreOwners, IsServed, Need, names_of, need_of}
 use Rattle.r4_history.specs.Serving.{AreOthers, FusesAll}
 use Rattle.r4_history.specs.Tables.{next_at}
-use Rattle.r4_kept.proofs.Unused.{IsLike, same_captured}
-use Rattle.r4_kept.specs.Accounts.{cells_owed, claims_owed}
-use Rattle.r4_kept.specs.History.{owed, owed_for_commit}
-use Rattle.r4_kept.specs.Meaning.{Spares}
-use Rattle.r4_kept.specs.TasksOut.{IsGiven}
-use Rattle.r4_kept.specs.View.{CoreSeen, blocks_of, tables_of}
-use Rattle.r4_kept.specs.declared.parts.Numbers.{Numbers as Next}
+use Rattle.r4_core.proofs.r4_kept.Unused.{IsLike, same_captured}
+use Rattle.r4_core.specs.r4_kept.Accounts.{cells_owed, claims_owed}
+use Rattle.r4_core.specs.r4_kept.History.{owed, owed_for_commit}
+use Rattle.r4_core.specs.r4_kept.Meaning.{Spares}
+use Rattle.r4_core.specs.r4_kept.TasksOut.{IsGiven}
+use Rattle.r4_core.specs.r4_kept.View.{CoreSeen, blocks_of, tables_of}
+use Rattle.r4_core.specs.r4_kept.declared.parts.Numbers.{Numbers as Next}
 use Rattle.r4_locks.specs.Locks.{CanLetIn, LocksSeen, conflict_of}
 use Rattle.r4_locks.specs.declared.task_holds.NewTask.{NewTask}
 use Rattle.r4_others.specs.Others.{pairs_of}
 use Rattle.r4_outside.specs.Device.{State}
 use Rattle.r4_patch.specs.Part.{IsPart}
-use Rattle.r4_ready.specs.Readiness.{AreGotten, IsOfReach, MayStart}
-use Rattle.r4_rooms.specs.declared.making.Wanted.{Wanted}
-use Rattle.r4_serve.specs.Serving.{need_in}
-use Rattle.r4_serve.specs.declared.asked.Ready.{Ready}
-use Rattle.r4_taking.proofs.FusedAll.{atoms_fused, others_stay, spare_fused}
-use Rattle.r4_taking.specs.Fusing.{HasFusedAll}
-use Rattle.r4_taking.specs.GoingOut.{CanGoOut, DrawsNames, IsMet}
+use Rattle.r4_core.specs.r4_ready.Readiness.{AreGotten, IsOfReach, MayStart}
+use Rattle.r4_core.specs.r4_rooms.declared.making.Wanted.{Wanted}
+use Rattle.r4_core.specs.r4_serve.Serving.{need_in}
+use Rattle.r4_core.specs.r4_serve.declared.asked.Ready.{Ready}
+use Rattle.r4_core.proofs.r4_taking.FusedAll.{atoms_fused, others_stay, spare_fused}
+use Rattle.r4_core.specs.r4_taking.Fusing.{HasFusedAll}
+use Rattle.r4_core.specs.r4_taking.GoingOut.{CanGoOut, DrawsNames, IsMet}
 use Rattle.r4_take.specs.Drawing.{draws_for}
 use Rattle.r4_take.specs.Sending.{HasRoomier, IsGathered, MaySend, cells_of_reach}
 use Rattle.r4_take.specs.declared.drawing.Draws.{Draws}

@@ -6,7 +6,7 @@ ghost use Rattle.r4_take.specs.Drawing.{draws_for, names_drawn};
 
 use r4_base::Oid;
 use r4_cell::Fresh;
-use r4_kept::Numbers;
+use r4_core::Numbers;
 use r4_turns::Numbers as Drawn;
 
 /// How many numbers for new cells are drawn for a command, once: so many that they last.

@@ -1,5 +1,5 @@
 use Rattle.std.proofs.Common.{subst}
-use Rattle.r4_core.specs.Doing.{IsDoable}
+use Rattle.r4_back.specs.r4_core.Doing.{IsDoable}
 use Rattle.r4_apply.proofs.working.done_in.Goals as goal
 
 pub done_single-requires-clause-can : goal.done_single-requires-clause-can

@@ -4,9 +4,9 @@ use Rattle.r4_back.specs.Backing.{IsRefusedBack}
 use Rattle.r4_build.specs.declared.task.Task.{Task}
 use Rattle.r4_content.specs.Fields.{HasBytePaths}
 use Rattle.r4_content.specs.declared.reply.Reply.TheVariants.{Memory, Space}
-use Rattle.r4_core.specs.Doing.{CanDo}
+use Rattle.r4_back.specs.r4_core.Doing.{CanDo}
 use Rattle.r4_history.specs.Held.{IsOut}
-use Rattle.r4_kept.specs.View.{CoreSeen}
+use Rattle.r4_back.specs.r4_kept.View.{CoreSeen}
 use Rattle.r4_trace.specs.Kept.{Told}
 use Rattle.r4_turns.specs.declared.out.Out.{Out}
 use Rattle.r4_apply.specs.Applying.{IsCountable, IsDoneIn, IsRightIn}

@@ -7,7 +7,7 @@ use Rattle.r4_content.specs.declared.command.Command.TheVariants as asks
 use Rattle.r4_history.proofs.WaitingSteps.{all_committed}
 use Rattle.r4_history.specs.Tables.{IsLastOf}
 use Rattle.r4_history.specs.declared.why.Why.TheVariants as why
-use Rattle.r4_kept.specs.View.{tables_of}
+use Rattle.r4_served.specs.r4_kept.View.{tables_of}
 use Rattle.r4_next.proofs.Found.{acked_goes_on, can_take, cannot_take, commit_stands, flush_goes_on, takes_reply}
 use Rattle.r4_next.proofs.Found.{under_way, unfinished_by_next}
 use Rattle.r4_next.proofs.Read.{read_itself}

@@ -1,7 +1,7 @@
 use Rattle.std.proofs.Common.{◌∙◌, refl}
 use Rattle.r4_history.specs.Tables.{next_at}
 use Rattle.r4_served.specs.Serving.{IsLeft}
-use Rattle.r4_take.proofs.Sent.{on_any}
+use Rattle.r4_served.proofs.r4_take.Sent.{on_any}
 use Rattle.r4_next.proofs.Found.{can_after_failure, left_in_room, replied_after_failure}
 use Rattle.r4_next.proofs.OfKind.{some_of}
 use Rattle.r4_next.proofs.looking.look_after_failure.Goals as goal

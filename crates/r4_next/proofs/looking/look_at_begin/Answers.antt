@@ -1,7 +1,7 @@
 use Rattle.std.proofs.Common.{Some}
 use Rattle.r4_content.specs.declared.command.Command.TheVariants as asks
 use Rattle.r4_served.specs.Serving.{IsLeft}
-use Rattle.r4_take.proofs.Sent.{on_any}
+use Rattle.r4_served.proofs.r4_take.Sent.{on_any}
 use Rattle.r4_next.proofs.Found.{begin_stands, left_in_room, takes_reply, unfinished_by_next}
 use Rattle.r4_next.proofs.looking.look_at_begin.Goals as goal
 

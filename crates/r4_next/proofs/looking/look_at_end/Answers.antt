@@ -1,6 +1,6 @@
 use Rattle.std.proofs.Common.{◌∙◌, None, ap, sym}
 use Rattle.r4_served.specs.Serving.{IsLeft}
-use Rattle.r4_take.proofs.Sent.{on_any}
+use Rattle.r4_served.proofs.r4_take.Sent.{on_any}
 use Rattle.r4_turns.specs.Turns.{turn_at}
 use Rattle.r4_next.proofs.Found.{leave_stands, left_in_room, takes_reply, unfinished_by_txn}
 use Rattle.r4_next.proofs.looking.look_at_end.Goals as goal

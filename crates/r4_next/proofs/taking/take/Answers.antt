@@ -1,6 +1,6 @@
 use Rattle.std.proofs.Common.{ℕ, Some, subst, sym}
 use Rattle.r4_served.specs.Serving.{IsLeft}
-use Rattle.r4_take.proofs.Sent.{on_any}
+use Rattle.r4_served.proofs.r4_take.Sent.{on_any}
 use Rattle.r4_turns.specs.Turns.{IsBehind, IsNext}
 use Rattle.r4_next.specs.Taking.{IsLooked, Takes}
 use Rattle.r4_next.proofs.InTurn.{IsOn, begins, finished_before, goes_on, next_of_old, on_finished, on_waiting}

@@ -1,7 +1,7 @@
 use Rattle.std.proofs.lemmas.List.Elements.{All-more}
 use Rattle.r4_base.specs.declared.things.BlockNo.{BlockNo}
 use Rattle.r4_seal.proofs.Taken.{all_there}
-use Rattle.r4_flushing.specs.Sealable.{IsClear}
+use Rattle.r4_core.specs.r4_flushing.Sealable.{IsClear}
 use Rattle.r4_seal.proofs.checking.are_clear.Goals as goal
 
 pub loop-block-preserved : goal.loop-block-preserved

@@ -1,7 +1,7 @@
 use Rattle.std.specs.Arc.{arc_value}
 use Rattle.r4_base.specs.declared.things.AtomNo.{AtomNo}
 use Rattle.r4_buffer.specs.Seen.{EntrySeen}
-use Rattle.r4_kept.specs.View.{tables_of}
+use Rattle.r4_core.specs.r4_kept.View.{tables_of}
 use Rattle.r4_seal.proofs.Clear.{none_given, none_kept, none_named_so}
 use Rattle.r4_seal.proofs.checking.is_clear.Goals as goal
 

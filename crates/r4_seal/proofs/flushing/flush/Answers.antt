@@ -1,5 +1,5 @@
 use Rattle.std.proofs.Common.{sym}
-use Rattle.r4_ready.specs.Rooms.{HasMoreRoom}
+use Rattle.r4_core.specs.r4_ready.Rooms.{HasMoreRoom}
 use Rattle.r4_seal.proofs.Sealings.{any_err, at_err}
 use Rattle.r4_seal.specs.Flushing.{RefusesWaiting}
 use Rattle.r4_seal.proofs.flushing.flush.Goals as goal

@@ -1,8 +1,8 @@
 use Rattle.std.proofs.Common.{List, sym}
 use Rattle.r4_cell.specs.Seen.{CellSeen}
-use Rattle.r4_flushing.specs.Sealable.{MaySeal}
-use Rattle.r4_flushing.specs.Sealing.{HasSealed}
-use Rattle.r4_ready.specs.Rooms.{HasMoreRoom}
+use Rattle.r4_core.specs.r4_flushing.Sealable.{MaySeal}
+use Rattle.r4_core.specs.r4_flushing.Sealing.{HasSealed}
+use Rattle.r4_core.specs.r4_ready.Rooms.{HasMoreRoom}
 use Rattle.r4_seal.proofs.Roomy.{more_and_more}
 use Rattle.r4_seal.proofs.Sealings.{flushed_empty, flushed_with, none_of, on_err, on_ok}
 use Rattle.r4_seal.specs.Flushing.{IsFlushed}

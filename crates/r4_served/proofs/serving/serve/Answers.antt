@@ -1,7 +1,7 @@
 use Rattle.std.proofs.Common.{arith, refl, subst}
-use Rattle.r4_ready.specs.Readiness.{parts_of}
-use Rattle.r4_serve.specs.Serving.{Asks}
-use Rattle.r4_serve.specs.declared.asked.Asked.TheVariants as asked
+use Rattle.r4_take.specs.r4_ready.Readiness.{parts_of}
+use Rattle.r4_take.specs.r4_serve.Serving.{Asks}
+use Rattle.r4_take.specs.r4_serve.declared.asked.Asked.TheVariants as asked
 use Rattle.r4_take.proofs.Sent.{on_any}
 use Rattle.r4_served.specs.Serving.{IsLeft}
 use Rattle.r4_served.proofs.Answering.{left_answer, left_itself, left_read, left_there, sent_dev, served_answer}

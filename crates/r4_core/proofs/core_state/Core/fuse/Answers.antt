@@ -1,5 +1,5 @@
 use Rattle.std.proofs.Common.{arith}
-use Rattle.r4_taking.proofs.Fused.{keeps_fused_by, may_fuse, may_merge}
+use Rattle.r4_ready.proofs.r4_taking.Fused.{keeps_fused_by, may_fuse, may_merge}
 use Rattle.r4_core.proofs.Joined.{fuses_smaller, owners_smaller}
 use Rattle.r4_core.proofs.core_state.Core.fuse.Goals as goal
 
