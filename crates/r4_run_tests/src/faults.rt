@@ -16,7 +16,7 @@ const TOLD: &str = "begin t1 s1\ndone t1 s1 c1 ok\nended t1\nsealed a1\n";
 fn image_that_is_none_is_refused(rt: HostRuntime) -> Result<(), Fail> {
     let mut dev = MemoryDevice::plain(rt.alloc(), 64)?;
     let told = printed(&rt, rt.alloc(), &RUN, &mut dev, "", 7)?;
-    assert_eq!(&rt; told.as_slice(), b"image: block 16: magic\n");
+    assert_eq!(&rt; told.as_slice(), b"image: block 16: magic\n".as_slice());
     Ok(())
 }
 
@@ -24,7 +24,7 @@ fn image_that_is_none_is_refused(rt: HostRuntime) -> Result<(), Fail> {
 fn small_device_is_refused(rt: HostRuntime) -> Result<(), Fail> {
     let mut dev = MemoryDevice::plain(rt.alloc(), 63)?;
     let told = printed(&rt, rt.alloc(), &RUN, &mut dev, "", 8)?;
-    assert_eq!(&rt; told.as_slice(), b"size: 63 blocks\n");
+    assert_eq!(&rt; told.as_slice(), b"size: 63 blocks\n".as_slice());
     Ok(())
 }
 
@@ -51,7 +51,7 @@ fn source_that_fails_is_told(rt: HostRuntime) -> Result<(), Fail> {
         run,
     );
     assert_eq!(&rt; status.code, 4);
-    assert_eq!(&rt; out.written(), b"source: faults 1\n");
+    assert_eq!(&rt; out.written(), b"source: faults 1\n".as_slice());
     Ok(())
 }
 
@@ -64,7 +64,7 @@ fn sink_that_fails_leaves_the_volume(rt: HostRuntime) -> Result<(), Fail> {
     out.fail(alloc, 2)?;
     assert_eq!(&rt; call(&rt, alloc, &RUN, &mut dev, TEXT, &mut out)?, 5);
     let listed = printed(&rt, alloc, &LIST, &mut dev, "", 0)?;
-    assert_eq!(&rt; listed.as_slice(), b"d 0755 2 0 0 1 /\nf 0644 1 0 0 0 /a\n");
+    assert_eq!(&rt; listed.as_slice(), b"d 0755 2 0 0 1 /\nf 0644 1 0 0 0 /a\n".as_slice());
     Ok(())
 }
 
