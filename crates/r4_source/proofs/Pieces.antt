@@ -1,6 +1,6 @@
 -- What was read so far of a source.
-use Rattle.std.proofs.Common.{◌≡◌, ◌⊎◌, ℕ, ◌+◌, ◌-◌, ◌<◌, ◌≤◌, List, [], ◌++◌, length, take, drop, refl, sym, ap, subst, ◌∙◌, inl, inr, arith}
-use Rattle.std.proofs.Common.{take-add, drop-drop}
+use Rattle.std.proofs.Common.{◌≡◌, ◌⊎◌, ℕ, ◌+◌, ◌-◌, ◌<◌, ◌≤◌, List, [], ◌++◌, length, take, drop}
+use Rattle.std.proofs.Common.{refl, sym, ap, subst, ◌∙◌, inl, inr, arith, take-add, drop-drop}
 use Rattle.std.proofs.lemmas.List.{drop_all, length-drop, length-take, take_all}
 use Rattle.std.specs.Global.{Vec}
 use Rattle.std.specs.Prelude.{◌↔◌, IsSome, Ok, Err, Result, Some, min, vec_len}
@@ -21,8 +21,10 @@ pub record HasRead (old : SourceState) (text : List ℕ) (now : SourceState) : T
 
 -- Nothing more is to be read: the text is full, or the source is at its end.
 abbrev pub IsAtEnd : SourceState → List ℕ → Type 0
-IsAtEnd old text = (most ≤ length text) ⊎ ((rest : List ℕ) → old.rest ≡ Some rest → length rest ≤ length text)
+IsAtEnd old text =
+    (most ≤ length text) ⊎ ((rest : List ℕ) → old.rest ≡ Some rest → length rest ≤ length text)
 
+-- nothing yet
 pub nothing_read : (s : SourceState) (text : List ℕ) → text ≡ [] → HasRead s text s
 nothing_read s text none = subst (λ (l : List ℕ). HasRead s l s) (sym none) (record {
   told = (λ t. t, λ t. t);

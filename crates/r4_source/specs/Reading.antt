@@ -1,6 +1,6 @@
 -- What is read of a source as the text of the scripts (docs/scripts.md, "The text").
-use Rattle.std.specs.Prelude.{◌≡◌, ◌↔◌, ◌⊎◌, ◌+◌, ◌++◌, ℕ, ◌≤◌, List, length, take, drop, vec_len}
-use Rattle.std.specs.Prelude.{Option, Some, IsSome, Result, IfOk, IfErr}
+use Rattle.std.specs.Prelude.{◌≡◌, ◌↔◌, ◌⊎◌, ◌+◌, ◌++◌, ℕ, ◌≤◌, List, length, take, drop}
+use Rattle.std.specs.Prelude.{Option, Some, IsSome, Result, IfOk, IfErr, vec_len}
 use Rattle.std.specs.Global.{Vec}
 use Rattle.r4_outside.specs.Device.{Rose}
 use Rattle.r4_outside.specs.Source.{SourceState}
@@ -36,7 +36,8 @@ pub record Reads (old : SourceState) (result : Result (Vec ℕ) ReadFault) (new 
       → IfOk result (λ text. job_of text.items ≡ job_of rest)
 
 -- The first n bytes of the rest come behind the text; none only where no room or no rest is.
-pub record AddsFirst (n room : ℕ) (rest before text : List ℕ) (after : Option (List ℕ)) : Type 0 where
+pub record AddsFirst (n room : ℕ) (rest before text : List ℕ) (after : Option (List ℕ))
+    : Type 0 where
   pub bytes : text ≡ before ++ take n rest
   pub left : after ≡ Some (drop n rest)
   pub stops : n ≡ 0 → (room ≡ 0) ⊎ (length rest ≡ 0)

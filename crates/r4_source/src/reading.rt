@@ -35,15 +35,15 @@ impl From<Memory> for ReadFault {
 }
 
 /// The text of the scripts: all bytes that the source has, or, where these are more than a text may
-/// have, the first 16,777,217 of them. A source that does not tell its bytes gives 0 to 16,777,217.
-/// `parse` of the crate `r4_script` reads the same job or fault from that as from all (docs/scripts.md,
-/// "Faults").
+/// have, the first 16,777,217 of them. From that `parse` of the crate `r4_script` reads the job, or
+/// the fault, that it would read from all (docs/scripts.md, "The text"). No text has more bytes,
+/// also where the source does not tell its own.
 ///
 /// The source is read in pieces of up to 65,536 bytes, up to the first call that gives none, and not
-/// beyond the last byte that is answered. Beside the text one piece is held. `Source` comes only
-/// where the source's count of failed calls rose in this call, and no call comes behind the one that
-/// failed; `Memory` only where no memory was found for the text or the piece. What was read is lost
-/// then.
+/// beyond the last byte that is answered. One piece is held beside the text, whose room grows as
+/// that of each `Vec` does. `Source` comes only where the source's count of failed calls rose in
+/// this call, and no call comes behind the one that failed; `Memory` only where no memory was found
+/// for the text or the piece. What was read is lost then.
 pub fn read_text<S: Source>(alloc: Global, source: &mut S) -> Result<Vec<u8>, ReadFault>
     ensures { Reads (S.state source.old) result (S.state source.new) }
 {

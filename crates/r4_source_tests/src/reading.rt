@@ -64,7 +64,8 @@ fn a_read_that_fails_is_told(rt: HostRuntime) -> Result<(), Fail> {
     Ok(())
 }
 
-// How many bytes are read of a comment of so many, how many of them the source has still, and the fault of what was read.
+// How many bytes are read of a comment of so many, how many of them the source has still, and the
+// fault of what was read.
 fn read_comment(
     alloc: Global,
     count: usize,
