@@ -94,21 +94,32 @@ fn is_whole<X: Threads + Wait + Sync>(
     Ok(listed.as_slice() == before.as_bytes() || listed.as_slice() == after.as_bytes())
 }
 
-// Each call of the device fails in turn. Where the commit began, the trace tells that it broke, and
-// refuses what was left; nothing is acknowledged then.
+// Each call of the device fails in turn, from the first behind those that made the volume. Where one
+// fails as the volume is opened, its line is all that is printed. Where a read fails behind that, its
+// command is refused, and the run goes on. Where a call of the commit fails, the trace tells that it
+// broke, what was left is refused, and nothing is acknowledged.
 #[test]
 fn failing_calls_are_told(rt: HostRuntime) -> Result<(), Fail> {
     let alloc = rt.alloc();
     let mut broken = 0u32;
-    for nth in 60..100u64 {
+    for nth in 11..34u64 {
         let mut dev = fresh(&rt, alloc, 64)?;
         let (status, told) = failing(&rt, alloc, &mut dev, nth)?;
-        if told.starts_with(TOLD.as_bytes()) && status == 6 {
-            broken = broken.saturating_add(1);
-        }
         assert!(&rt; status == 0 || status == 6, "{nth}: {status}");
         assert!(&rt; is_whole(&rt, alloc, &mut dev)?, "{nth}");
+        if told.starts_with(TOLD.as_bytes()) && status == 6 {
+            broken = broken.saturating_add(1);
+            assert!(&rt; !has_line(&told, b"acked "), "{nth}");
+            assert!(&rt; has_line(&told, b"refused t0 s1 c3 reopen "), "{nth}");
+            assert!(&rt; has_line(&told, b"device: clock "), "{nth}");
+        }
     }
-    assert!(&rt; broken > 0, "{broken}");
+    assert_eq!(&rt; broken, 14);
     Ok(())
+}
+
+// Whether a line begins so.
+fn has_line(told: &[u8], word: &[u8]) -> bool {
+    told.split(|&byte| byte == b'\n')
+        .any(|line| line.starts_with(word))
 }

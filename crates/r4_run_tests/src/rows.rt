@@ -106,7 +106,6 @@ begin t1 s1\n\
 done t1 s1 c1 ok\n\
 ended t1\n\
 begin t2 s1\n\
-fuse a1 a2 n23\n\
 done t2 s1 c2 loop\n\
 ended t2\n\
 begin t3 s1\n\
@@ -122,7 +121,6 @@ fuse a1 a5 n23\n\
 done t5 s1 c5 exists\n\
 ended t5\n\
 begin t6 s1\n\
-fuse a1 a6 n23\n\
 done t6 s1 c6 name\n\
 ended t6\n\
 begin t7 s1\n\
@@ -130,7 +128,11 @@ fuse a1 a7 n23\n\
 done t7 s1 c7 loop\n\
 ended t7\n\
 sealed a1\n\
-committed a1\n",
+committed a1\n\
+sealed a2\n\
+committed a2\n\
+sealed a6\n\
+committed a6\n",
         listed: "d 0755 3 0 0 1 /\nd 0755 2 0 0 0 /d\n",
     },
     Row {

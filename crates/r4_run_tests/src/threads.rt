@@ -5,7 +5,7 @@ use std::alloc::Global;
 use std::test::Fail;
 
 // So many scripts, each of which makes a file, writes it and commits.
-const SCRIPTS: u32 = 12;
+const SCRIPTS: u32 = 6;
 
 static WORDS: [&str; 4] = ["run", "image", "--threads", "16"];
 
@@ -30,13 +30,11 @@ fn count(told: &[u8], word: &str) -> usize {
 fn many_threads_come_to_an_end(rt: HostRuntime) -> Result<(), Fail> {
     let alloc = rt.alloc();
     let scripts = text(alloc)?;
-    for _ in 0..5u32 {
-        let mut dev = fresh(&rt, alloc, 512)?;
-        let told = printed(&rt, alloc, &WORDS, &mut dev, scripts.as_str(), 0)?;
-        assert_eq!(&rt; count(&told, "acked"), 24);
-        assert_eq!(&rt; count(&told, "done"), 36);
-        let listed = printed(&rt, alloc, &LIST, &mut dev, "", 0)?;
-        assert_eq!(&rt; count(&listed, "f 0644 1 0 0 "), 12);
-    }
+    let mut dev = fresh(&rt, alloc, 256)?;
+    let told = printed(&rt, alloc, &WORDS, &mut dev, scripts.as_str(), 0)?;
+    assert_eq!(&rt; count(&told, "acked"), 12);
+    assert_eq!(&rt; count(&told, "done"), 18);
+    let listed = printed(&rt, alloc, &LIST, &mut dev, "", 0)?;
+    assert_eq!(&rt; count(&listed, "f 0644 1 0 0 "), 6);
     Ok(())
 }
