@@ -1,7 +1,5 @@
 -- What the status and the printed text tell of a run's end.
-use Rattle.std.proofs.Common.{◌≡◌, ◌⊎◌, ◌++◌, inl, inr, refl, sym, subst, ap, ◌∙◌, ℕ, List, [], Option, Some, None, Result, Ok, Err, IsSome}
-use Rattle.std.specs.Option.{option_map}
-use Rattle.r4_base.specs.Image.{Image}
+use Rattle.std.proofs.Common.{◌≡◌, ◌++◌, inl, inr, sym, subst, ℕ, List, [], Option, Some, None, Result, Ok, Err, IsSome}
 use Rattle.r4_base.specs.Volume.{HasVolume}
 use Rattle.r4_content.specs.Locality.{Meaning, commands}
 use Rattle.r4_content.specs.Meaning.{greatest_size}
@@ -58,7 +56,7 @@ module _ (text : List ℕ) (old mid new : SinkState) where
       subst (λ m. Prints (text ++ device_line e.clock e.faults) old m) (sym same) (inr (appends_stopped text _ old mid tt tt (gets_part q)))
 
 -- what is known of a run that stands so
-pub StandsFor : Names → Asked → List Entry → State → Standing → Type 0
+abbrev pub StandsFor : Names → Asked → List Entry → State → Standing → Type 0
 StandsFor r job trace e Whole = IsWholeRun r job trace e
 StandsFor r job trace e Broken = IsSome (broken_at trace)
 StandsFor r job trace e Unfinished = Unit {0}
