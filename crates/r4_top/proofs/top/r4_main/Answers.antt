@@ -1,12 +1,19 @@
 use Rattle.std.proofs.Common.{◌∙◌, ap, refl, subst, sym}
-use Rattle.std.specs.Prelude.{Option, option_map}
+use Rattle.std.specs.Prelude.{Option, Some, option_map}
 use Rattle.r4_outside.proofs.Moments.{goes_same}
 use Rattle.r4_replay.proofs.Idling.{idle_always}
 use Rattle.r4_top.specs.Answers.{HasMoments}
-use Rattle.r4_top.specs.Words.{Asked, asked_by}
+use Rattle.r4_words.specs.Words.{Asked, asked_by}
+use Rattle.r4_words.specs.declared.words.Command.{Command}
 use Rattle.r4_top.proofs.top.r4_main.Goals as goal
 
 pub returns-in-None-clause-any_moment : goal.returns-in-None-clause-any_moment
 returns-in-None-clause-any_moment g c = λ quiet.
     let d = g.D.Device.state c.args.dev.now in
     subst (λ (a : Option Asked). HasMoments a d d) (sym (ap (option_map asked_by) c.in-None.is) ∙ c.read_words.ensures.asked) (idle_always d d (goes_same d) refl quiet)
+
+pub returns-in-Some-Run-clause-any_moment : goal.returns-in-Some-Run-clause-any_moment
+returns-in-Some-Run-clause-any_moment g c = λ quiet.
+    let d = g.D.Device.state c.args.dev.now in
+    let run = ap (λ (command : Command). Some (asked_by command)) c.in-Some-Run.field-0-is in
+    subst (λ (a : Option Asked). HasMoments a d d) (sym run ∙ sym (ap (option_map asked_by) c.in-Some-Run.is) ∙ c.read_words.ensures.asked) (idle_always d d (goes_same d) refl quiet)
