@@ -1,5 +1,5 @@
 -- What becomes of a source's text, and what is said of a borrowed device is so of the device.
-use Rattle.std.proofs.Common.{◌≡◌, ◌⊎◌, ◌↔◌, ◌∙◌, ap, inl, inr, refl, sym, ℕ, ◌≤◌, List, Option, Some, IsSome, Ok, Err}
+use Rattle.std.proofs.Common.{◌≡◌, ◌⊎◌, ◌↔◌, ◌∙◌, ap, inl, inr, refl, sym, ℕ, ◌≤◌, List, Option, Some, IsSome, Ok}
 use Rattle.std.specs.Borrow.{GName}
 use Rattle.r4_base.specs.Image.{Image}
 use Rattle.r4_history.specs.Tables.{asked}
@@ -23,14 +23,17 @@ use Rattle.r4_run.specs.Scripts.{Runs, TellsFault}
 
 module _ (start : Option Image) (clock : Option ℕ) (job : Asked) (n m : GName) (d e : State) where
   replayed_lent : IsReplayed (lent_to n d) (lent_to m e) → IsReplayed d e
-  replayed_lent (count, p) = (count, record {
-    chain = p.chain;
-    log = p.log;
-    count = p.count;
-    settled = p.settled;
-    footer = p.footer;
-    equal = p.equal;
-  })
+  replayed_lent (count, p) = (
+    count,
+    record {
+      chain = p.chain;
+      log = p.log;
+      count = p.count;
+      settled = p.settled;
+      footer = p.footer;
+      equal = p.equal;
+    },
+  )
 
   fault_lent : (w : OpenWhy) → IsOpenFault (lent_to n d) w (lent_to m e) → IsOpenFault d w e
   fault_lent (why.Log block fault) (size, idle, refused) =

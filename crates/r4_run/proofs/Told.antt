@@ -21,15 +21,15 @@ module _ (before : ℕ) (e : State) (s : Standing) (printed : Result (Unit {0}) 
       → TellsEnd before e s printed 6 old new
   told_device clock faults is all rose now count line =
       let counted : Prints (device_line clock e.faults) old new =
-          subst (λ n. Prints (device_line clock n) old new) count line in
+      subst (λ n. Prints (device_line clock n) old new) count line in
       let told : Prints (device_line e.clock e.faults) old new =
-          subst (λ n. Prints (device_line n e.faults) old new) now counted in record {
-    codes = inr (inr (inl refl));
-    done = λ z. absurd (cc z);
-    sink = λ z. absurd (cc z);
-    device = λ z. (is, subst (λ n. Rose before n) count rose, subst (λ p. PrintsDevice e p old new) (sym all) told);
-    memory = λ z. absurd (cc z);
-  }
+      subst (λ n. Prints (device_line n e.faults) old new) now counted in record {
+        codes = inr (inr (inl refl));
+        done = λ z. absurd (cc z);
+        sink = λ z. absurd (cc z);
+        device = λ z. (is, subst (λ n. Rose before n) count rose, subst (λ p. PrintsDevice e p old new) (sym all) told);
+        memory = λ z. absurd (cc z);
+      }
 
   pub told_memory : Prints memory_line old new → TellsEnd before e s printed 9 old new
   told_memory line = record {

@@ -19,5 +19,5 @@ returns-clause-runs g c =
     c.in-Ok.text.items c.as_slice.result.now c.in-Ok.ensures.job c.as_slice.ensures.value _ _ _ c.in-Ok-parse.job
     c.in-Ok-parse.ensures.exact c.run_job-code.ensures.ran in
     subst (λ x. Runs g.R.Run.start g.R.Run.clock (g.S.Source.state c.args.script.now) (g.S.Source.state c.read_text.new.source)
-      (d c.args.dev.now) (k c.args.out.now) c.run_job-code.result.code (d x) (k c.run_job-code.new.out))
+    (d c.args.dev.now) (k c.args.out.now) c.run_job-code.result.code (d x) (k c.run_job-code.new.out))
     (grind (arith, c.run_job-code.ensures.goes.lender)) ran

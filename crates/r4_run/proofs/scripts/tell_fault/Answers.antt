@@ -11,7 +11,7 @@ returns-in-Script g c =
     fault_same _ (Script f) 3 _ _ c.in-Script.is (
       refl,
       printed_script f.line f.column c.word_of.result.now (script_word f.what) _ _ c.write_script.result
-      c.word_of.ensures c.write_script.ensures,
+          c.word_of.ensures c.write_script.ensures,
     )
 
 pub returns-in-Memory : goal.returns-in-Memory

@@ -10,7 +10,7 @@ returns-in-Log g c =
     why_same _ (Log c.in-Log.block c.in-Log.fault) 7 _ _ c.in-Log.is (
       refl,
       printed_image c.in-Log.block.0 c.word.result.now (log_word_of c.in-Log.fault) _ _ c.write_image.result
-      c.word.ensures c.write_image.ensures,
+          c.word.ensures c.write_image.ensures,
     )
 
 pub returns-in-Image : goal.returns-in-Image
@@ -18,7 +18,7 @@ returns-in-Image g c =
     why_same _ (Image c.in-Image.block c.in-Image.fault) 7 _ _ c.in-Image.is (
       refl,
       printed_image c.in-Image.block.0 c.word-in-Image.result.now (layout_word_of c.in-Image.fault) _ _
-      c.write_image-in-Image.result c.word-in-Image.ensures c.write_image-in-Image.ensures,
+          c.write_image-in-Image.result c.word-in-Image.ensures c.write_image-in-Image.ensures,
     )
 
 pub returns-in-Device : goal.returns-in-Device
