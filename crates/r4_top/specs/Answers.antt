@@ -14,7 +14,8 @@ pub record RefusesWords (d : State) (k : SinkState) (code : ℕ) (d' : State) (k
   pub idle : Untouched d d'
   pub line : Prints usage_line k k'
 
--- What a call answers, by what its words ask for, or faulty words. (`run` is not there yet: its words are refused as faulty ones are.)
+-- What a call answers, by what its words ask for, or faulty words. (`run` is not there yet: its words are refused as
+-- faulty ones are.)
 abbrev pub Answers : Option Asked → State → SinkState → ℕ → State → SinkState → Type 0
 Answers None d k code d' k' = RefusesWords d k code d' k'
 Answers (Some (AsksOffline asked)) d k code d' k' = AnswersOffline asked d k code d' k'

@@ -28,10 +28,12 @@ pub fn r4_main<D: Device, S: Source, K: Sink, G: Gate, R: Run, X: Threads + Wait
 ) -> Status
     ensures goes { Goes (D.state dev.old) (D.state dev.new) }
     ensures script { S.state script.new ≡ S.state script.old }
-    ensures answers { Answers (asked_of (map string_bytes words.now)) (D.state dev.old) (K.state out.old) result.code (D.state dev.new) (K.state out.new) }
+    ensures answers { Answers (asked_of (map string_bytes words.now)) (D.state dev.old) (K.state out.old)
+        result.code (D.state dev.new) (K.state out.new) }
 
     // What a crash at any moment of the call leaves.
-    ensures any_moment { IsQuiet (D.state dev.old) → HasMoments (asked_of (map string_bytes words.now)) (D.state dev.old) (D.state dev.new) }
+    ensures any_moment { IsQuiet (D.state dev.old)
+        → HasMoments (asked_of (map string_bytes words.now)) (D.state dev.old) (D.state dev.new) }
 {
     let _ = rt;
     let _ = script;
@@ -40,6 +42,7 @@ pub fn r4_main<D: Device, S: Source, K: Sink, G: Gate, R: Run, X: Threads + Wait
     match read_words(words) {
         None => refuse_words(out),
         Some(Command::Offline(command)) => obey(alloc, command, dev, out),
+        // `run` is not there yet.
         Some(Command::Run { .. }) => refuse_words(out),
     }
 }
