@@ -4,6 +4,7 @@ ghost use Rattle.std.specs.Prelude.{◌≡◌, ◌^◌, ◌<◌, IfOk, length, m
 ghost use Rattle.std.specs.Arc.{arc_value};
 
 use crate::same::{same, same_in};
+use crate::spaces::read;
 use r4_base::{AtomNo, Block, BlockNo, Key, NodeId, Oid};
 use r4_cell::{Cell, read_cell};
 use r4_place::{How, choose};
@@ -28,14 +29,12 @@ fn bitmap(alloc: Global, told: [u8; 5]) -> Result<Block, Fail> {
 }
 
 // The space of 64 blocks of which these are used.
-fn space(alloc: Global, told: [u8; 5], free: u64) -> Result<SpaceMap, Fail>
+fn space(rt: &impl Abort, alloc: Global, told: [u8; 5], free: u64) -> Result<SpaceMap, Fail>
     ensures { IfOk result (λ s. s.block_count ≡ 64) }
 {
-    let bitmaps = Vec::from_array(alloc, [bitmap(alloc, told)?])?;
-    let Ok(space) = SpaceMap::read(alloc, &bitmaps, 64, free) else {
-        return Err(Fail::from("a space is refused"));
-    };
-    Ok(space)
+    let mut bitmaps = Vec::new(alloc);
+    bitmaps.push(bitmap(alloc, told)?)?;
+    read(rt, alloc, &bitmaps, 64, free).map_err(|_| Fail::from("a space is refused"))
 }
 
 // A data block of this name.
@@ -92,7 +91,7 @@ fn look<X: Abort>(
 #[test]
 fn cells_without_a_block_get_the_next_ones(rt: HostRuntime) -> Result<(), Fail> {
     let alloc = rt.alloc();
-    let mut roomy = space(alloc, [4, 0, 0, 0, 0], 39)?;
+    let mut roomy = space(&rt, alloc, [4, 0, 0, 0, 0], 39)?;
     let wanted = [
         How::Fresh(BlockNo(24)),
         How::Fresh(BlockNo(25)),
@@ -101,7 +100,7 @@ fn cells_without_a_block_get_the_next_ones(rt: HostRuntime) -> Result<(), Fail> 
     ];
     look(&rt, alloc, &mut roomy, &slum(alloc, 23)?, &wanted, 36)?;
 
-    let mut sufficient = space(alloc, [0xf6, 0xff, 0xff, 0xff, 0x3f], 4)?;
+    let mut sufficient = space(&rt, alloc, [0xf6, 0xff, 0xff, 0xff, 0x3f], 4)?;
     let wanted = [
         How::Fresh(BlockNo(24)),
         How::Fresh(BlockNo(27)),
