@@ -7,3 +7,4 @@ pub use Rattle.r4_served.specs.r4_reaching
 pub use Rattle.r4_served.specs.r4_ready
 pub use Rattle.r4_served.specs.r4_serve
 pub use Rattle.r4_served.specs.r4_take
+pub use Rattle.r4_served.specs as r4_served

@@ -9,7 +9,7 @@ mod standing;
 mod taken;
 mod taking;
 
-pub use r4_served::{Core, OpenFault, Wanted};
+pub use r4_served::{Core, OpenFault, OpenWhy, Step, Wanted, refuse};
 pub use standing::pending;
 pub use taken::Taken;
 pub use taking::take;

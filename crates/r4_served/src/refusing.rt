@@ -17,10 +17,10 @@ use r4_take::{Core, Wanted};
 use r4_turns::Open;
 use std::alloc::Global;
 
-// It is refused: inside of a transaction that `begin` began, or in none, or as a single command
-// whose transaction was begun, and ends then. The only error is want of memory for the entries; then
-// there may be more room, and all else is as it was.
-pub(crate) fn refuse<D: Device, R: Run>(
+/// It is refused: inside of a transaction that `begin` began, or in none, or as a single command
+/// whose transaction was begun, and ends then. The only error is want of memory for the entries; then
+/// there may be more room, and all else is as it was.
+pub fn refuse<D: Device, R: Run>(
     core: &mut Core<D, R>,
     alloc: Global,
     script: ScriptNo,

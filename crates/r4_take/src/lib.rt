@@ -8,5 +8,5 @@ mod lending;
 mod sending;
 
 pub use drawing::{Draws, numbers_for};
-pub use r4_core::{Asked, Core, OpenFault, Wanted};
+pub use r4_core::{Asked, Core, OpenFault, OpenWhy, Step, Wanted};
 pub use sending::send;

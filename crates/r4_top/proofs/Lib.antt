@@ -1,4 +1,0 @@
-mod Texts
-mod Telling
-pub mod MkfsTold
-pub mod Listed

@@ -1,12 +1,7 @@
 //! The program's one call, over any device, source and sink (docs/program.md).
 #![tactic(auto)]
 
-mod lines;
-mod listing;
-mod making;
-mod replaying;
 mod top;
-mod words;
 
-pub use top::{Status, r4_main};
-pub use words::Command;
+pub use r4_offline::Status;
+pub use top::r4_main;

@@ -1,28 +1,29 @@
 //! The top call.
 
-ghost use Rattle.std.specs.Prelude.{◌≡◌, Some, map, string_bytes};
+ghost use Rattle.std.specs.Prelude.{◌≡◌, map, string_bytes};
 ghost use Rattle.r4_outside.specs.Device.{Goes, IsQuiet};
-ghost use Rattle.r4_top.specs.Words.{CanBeDone, asked_by, asked_of};
-ghost use Rattle.r4_top.specs.Answers.{Answers, HasMoments, Prints};
-ghost use Rattle.r4_top.specs.Lines.{usage_line};
+ghost use Rattle.r4_lines.specs.Lines.{usage_line};
+ghost use Rattle.r4_lines.specs.Printed.{Prints};
+ghost use Rattle.r4_words.specs.Words.{asked_of};
+ghost use Rattle.r4_run.specs.Naming.{Begins};
+ghost use Rattle.r4_run.specs.Scripts.{Runs};
+ghost use Rattle.r4_top.specs.Answers.{Answers, HasMoments, IsRun, LeavesSource};
 
-use crate::lines::write_usage;
-use crate::listing::print_listing;
-use crate::making::make_volume;
-use crate::replaying::replay_image;
-use crate::words::{Command, read_words};
+use r4_lines::write_usage;
+use r4_offline::{Status, obey};
 use r4_outside::{Device, Gate, Run, Sink, Source};
+use r4_run::run_scripts;
+use r4_words::{Command, read_words};
 use std::alloc::Global;
 use std::sync::Wait;
 use std::thread::Threads;
 
-/// How a call ended (docs/program.md, "Lines and statuses").
-#[derive(Clone, Copy, Debug, PartialEq, Eq)]
-pub struct Status {
-    pub code: u8,
-}
-
-/// Does what the words say, on a device, and prints a listing or one line. The words leave out the program's own name.
+/// Does what the words say, on a device, and prints a listing, the trace of a run, or one line. The words leave out the
+/// program's own name. The source has the text of the scripts, and is read by `run` alone; so are the threads and the
+/// gate used by it alone (docs/program.md).
+///
+/// What `run` says of its beginning, for which `R` may name the image and the clock, it says where they are named as
+/// they are (`Begins`). A run of which nothing is named is legal for its scripts all the same, and whole at status 0.
 pub fn r4_main<D: Device, S: Source, K: Sink, G: Gate, R: Run, X: Threads + Wait + Sync>(
     rt: &X,
     alloc: Global,
@@ -33,20 +34,25 @@ pub fn r4_main<D: Device, S: Source, K: Sink, G: Gate, R: Run, X: Threads + Wait
     gate: &G,
     run: R,
 ) -> Status
+    requires begins { Begins R.start R.clock (D.state dev.old) }
     ensures goes { Goes (D.state dev.old) (D.state dev.new) }
-    ensures script { S.state script.new ≡ S.state script.old }
+    ensures script { LeavesSource (asked_of (map string_bytes words.now)) (S.state script.old) (S.state script.new) }
     ensures answers { Answers (asked_of (map string_bytes words.now)) (D.state dev.old) (K.state out.old) result.code (D.state dev.new) (K.state out.new) }
 
-    // What a crash at any moment of the call leaves.
+    // One trace tells what a run did, what it printed, and what a crash at any moment leaves.
+    ensures runs { IsRun (asked_of (map string_bytes words.now)) → Runs R.start R.clock
+        (S.state script.old) (S.state script.new)
+        (D.state dev.old) (K.state out.old) result.code (D.state dev.new) (K.state out.new) }
+
+    // What a crash at any moment of another call leaves.
     ensures any_moment { IsQuiet (D.state dev.old) → HasMoments (asked_of (map string_bytes words.now)) (D.state dev.old) (D.state dev.new) }
 {
-    let _ = rt;
-    let _ = script;
-    let _ = gate;
-    let _ = run;
     match read_words(words) {
         None => refuse_words(out),
-        Some(command) => obey(alloc, command, dev, out),
+        Some(Command::Offline(command)) => obey(alloc, command, dev, out),
+        Some(Command::Run { threads }) => Status {
+            code: run_scripts(rt, alloc, threads, dev, script, out, gate, run),
+        },
     }
 }
 
@@ -57,18 +63,4 @@ fn refuse_words<K: Sink>(out: &mut K) -> Status
 {
     let _ = write_usage(out);
     Status { code: 2 }
-}
-
-// Does a command.
-fn obey<D: Device, K: Sink>(alloc: Global, command: Command<'_>, dev: &mut D, out: &mut K) -> Status
-    requires { CanBeDone command }
-    ensures goes { Goes (D.state dev.old) (D.state dev.new) }
-    ensures answers { Answers (Some (asked_by command.entry)) (D.state dev.old) (K.state out.old) result.code (D.state dev.new) (K.state out.new) }
-    ensures any_moment { IsQuiet (D.state dev.old) → HasMoments (Some (asked_by command.entry)) (D.state dev.old) (D.state dev.new) }
-{
-    match command {
-        Command::Replay => replay_image(alloc, dev, out),
-        Command::Mkfs { label } => make_volume(alloc, label, dev, out),
-        Command::List { path } => print_listing(alloc, path, dev, out),
-    }
 }

@@ -1,4 +1,4 @@
-use Rattle.r4_top.proofs.Texts.{printed}
+use Rattle.r4_lines.proofs.Texts.{printed}
 use Rattle.r4_top.proofs.top.refuse_words.Goals as goal
 
 pub returns-clause-line : goal.returns-clause-line

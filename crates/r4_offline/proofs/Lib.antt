@@ -1,0 +1,3 @@
+mod Telling
+pub mod MkfsTold
+pub mod Listed

@@ -1,0 +1,93 @@
+-- What the status and the printed text tell of a run's end.
+use Rattle.std.proofs.Common.{◌≡◌, ◌⊎◌, ◌++◌, inl, inr, refl, sym, subst, ap, ◌∙◌, ℕ, List, [], Option, Some, None, Result, Ok, Err, IsSome}
+use Rattle.std.specs.Option.{option_map}
+use Rattle.r4_base.specs.Image.{Image}
+use Rattle.r4_base.specs.Volume.{HasVolume}
+use Rattle.r4_content.specs.Locality.{Meaning, commands}
+use Rattle.r4_content.specs.Meaning.{greatest_size}
+use Rattle.r4_content.specs.declared.command.Command.{Command}
+use Rattle.r4_content.specs.declared.reply.Reply.{Reply}
+use Rattle.r4_durable.specs.Meaning.{Beginning, IsNamed, Names}
+use Rattle.r4_history.specs.Tables.{asked}
+use Rattle.r4_kept.specs.View.{CoreSeen}
+use Rattle.r4_lines.specs.Lines.{device_line}
+use Rattle.r4_lines.specs.Printed.{Gets, GetsPart, Prints}
+use Rattle.r4_outside.specs.Device.{State}
+use Rattle.r4_outside.specs.Sink.{SinkState}
+use Rattle.r4_outside.proofs.Texts.{appends_both, appends_stopped}
+use Rattle.r4_print.specs.Printing.{Prints as PrintsSome}
+use Rattle.r4_print.specs.declared.printing.PrintFault.{PrintFault}
+use Rattle.r4_print.specs.declared.printing.PrintFault.TheVariants.{Sink}
+use Rattle.r4_trace.specs.Folds.{after_first}
+use Rattle.r4_trace.specs.Ids.{Start}
+use Rattle.r4_trace.specs.Job.{Asked}
+use Rattle.r4_trace.specs.Legal.{IsLegal}
+use Rattle.r4_trace.specs.Text.{trace_text}
+use Rattle.r4_trace.specs.Traced.{broken_at, committed_in}
+use Rattle.r4_trace.specs.declared.entry.Entry.{Entry}
+use Rattle.r4_run.specs.Ending.{PrintsDevice, StandsSo, TellsEnd}
+use Rattle.r4_run.specs.Running.{Ends, IsWholeRun}
+use Rattle.r4_run.specs.declared.ending.Standing.{Standing}
+use Rattle.r4_run.specs.declared.ending.Standing.TheVariants.{Broken, Unfinished, Whole}
+
+-- a run without an entry
+pub empty_legal : (w : Meaning Command Reply) (start : Option Start) (job : Asked) → IsLegal w start (Some job) []
+empty_legal w None job = record {
+  so_far = record { order = tt; replies = tt; ids = tt; answers = tt };
+  closed = λ s t is. cc is;
+}
+empty_legal w (Some b) job = record {
+  so_far = record { order = tt; replies = tt; ids = tt; answers = tt };
+  closed = λ s t is. cc is;
+}
+
+module _ (text : List ℕ) (old mid new : SinkState) where
+  gets_of : PrintsSome {T = Unit {0}} text old (Ok tt) mid → Gets text old mid
+  gets_of p = record { told = p.told; faults = p.faults; cause = tt; whole = p.whole; part = λ before is. tt }
+
+  gets_part : PrintsSome {T = Unit {0}} text old (Err Sink) mid → GetsPart text old mid
+  gets_part p = record { told = p.told; faults = p.faults; cause = p.cause; whole = λ before is. tt; part = p.part }
+
+  -- the device's line behind the text
+  device_behind : (e : State) (printed : Result (Unit {0}) PrintFault) → PrintsSome text old printed mid
+      → PrintsDevice e printed mid new → Prints (text ++ device_line e.clock e.faults) old new
+  device_behind e (Ok tt) p (inl g) = inl (appends_both text _ old mid new tt (Ok tt) (gets_of p) g)
+  device_behind e (Ok tt) p (inr g) = inr (appends_both text _ old mid new tt (Err tt) (gets_of p) g)
+  device_behind e (Err f) p (is, same) =
+      let q : PrintsSome {T = Unit {0}} text old (Err Sink) mid = subst (λ x. PrintsSome {T = Unit {0}} text old (Err x) mid) is p in
+      subst (λ m. Prints (text ++ device_line e.clock e.faults) old m) (sym same) (inr (appends_stopped text _ old mid tt tt (gets_part q)))
+
+-- what is known of a run that stands so
+pub StandsFor : Names → Asked → List Entry → State → Standing → Type 0
+StandsFor r job trace e Whole = IsWholeRun r job trace e
+StandsFor r job trace e Broken = IsSome (broken_at trace)
+StandsFor r job trace e Unfinished = Unit {0}
+
+-- the trace is printed, and the status told
+pub ends_so : (r : Names) (job : Asked) (trace : List Entry) (before : ℕ) (e : State) (s : Standing)
+    (printed : Result (Unit {0}) PrintFault) (code : ℕ) (old mid new : SinkState)
+    → StandsFor r job trace e s → PrintsSome (trace_text trace) old printed mid → TellsEnd before e s printed code mid new
+    → Ends r job trace before old code e new
+ends_so r job trace before e s printed code old mid new stands prints tells = record {
+  codes = tells.codes;
+  done = λ z. let t = tells.done z in (
+    subst (λ x. StandsFor r job trace e x) t.0 stands,
+    subst (λ m. Gets (trace_text trace) old m) (sym t.2) (gets_of (trace_text trace) old mid new (subst (λ x. PrintsSome (trace_text trace) old x mid) t.1 prints)));
+  sink = λ z. let t = tells.sink z in (
+    subst (λ x. StandsFor r job trace e x) t.0 stands,
+    subst (λ m. GetsPart (trace_text trace) old m) (sym t.2) (gets_part (trace_text trace) old mid new (subst (λ x. PrintsSome (trace_text trace) old x mid) t.1 prints)));
+  device = λ z. let t = tells.device z in (
+    subst (λ x. StandsFor r job trace e x) t.0 stands,
+    t.1,
+    device_behind (trace_text trace) old mid new e printed prints t.2);
+  memory = λ z. (mid, record { result = printed; prints = prints }, tells.memory z);
+}
+
+-- what is known of a core that stands so, once its device is back
+pub stands_for : {D : Type 0} (r : Names) (c : CoreSeen D) (e : State) (s : Standing) → StandsSo c s
+    → ((b : Beginning) → IsNamed r e.blocks b → c.broken ≡ None → c.commit ≡ None → HasVolume e.blocks e.seen
+        (after_first (commands greatest_size) b.content c.trace.entries (committed_in c.trace.entries)))
+    → c.broken ≡ broken_at c.trace.entries → StandsFor r (asked c.turns.job) c.trace.entries e s
+stands_for r c e Whole so volume told = record { whole = so.whole; volume = λ b is. volume b is so.sound so.rests }
+stands_for r c e Broken so volume told = subst (λ (o : Option ℕ). IsSome o) told so
+stands_for r c e Unfinished so volume told = tt

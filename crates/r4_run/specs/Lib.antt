@@ -1,0 +1,4 @@
+pub mod Ending
+pub mod Naming
+pub mod Running
+pub mod Scripts

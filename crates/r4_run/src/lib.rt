@@ -1,0 +1,12 @@
+//! A run of scripts over a device: their text is read, the volume opened, shared by threads, served to
+//! its end, and the trace printed (docs/program.md, "Running").
+#![tactic(auto)]
+
+mod ending;
+mod naming;
+mod scripts;
+mod session;
+
+pub use naming::run_job;
+pub use scripts::run_scripts;
+pub use session::Ended;

@@ -1,0 +1,106 @@
+//! The scripts of a source are run.
+
+ghost use Rattle.std.specs.Prelude.{◌≡◌};
+ghost use Rattle.r4_outside.specs.Device.{Goes};
+ghost use Rattle.r4_run.specs.Naming.{Begins};
+ghost use Rattle.r4_run.specs.Scripts.{Runs, TellsFault, TellsUnread, script_word};
+
+use crate::naming::run_job;
+use crate::session::Ended;
+use r4_lines::{write_memory, write_script, write_source};
+use r4_outside::{Device, Gate, Run, Sink, Source};
+use r4_script::{ParseFault, ScriptFault, What, parse};
+use r4_source::{ReadFault, read_text};
+use std::alloc::Global;
+use std::sync::Wait;
+use std::thread::Threads;
+
+/// Runs the scripts of a source on the volume of a device, by so many threads, and prints the trace:
+/// the command `run`. The text is read whole before the device is called. The answer is the status
+/// (docs/program.md, "Running" and "Lines and statuses").
+pub fn run_scripts<D: Device, S: Source, K: Sink, G: Gate, R: Run, X: Threads + Wait + Sync>(
+    rt: &X,
+    alloc: Global,
+    threads: u32,
+    dev: &mut D,
+    script: &mut S,
+    out: &mut K,
+    gate: &G,
+    run: R,
+) -> u8
+    requires begins { Begins R.start R.clock (D.state dev.old) }
+    ensures goes { Goes (D.state dev.old) (D.state dev.new) }
+    ensures runs { Runs R.start R.clock (S.state script.old) (S.state script.new)
+        (D.state dev.old) (K.state out.old) result (D.state dev.new) (K.state out.new) }
+{
+    let text = match read_text(alloc, script) {
+        Ok(text) => text,
+        Err(fault) => return tell_unread(out, fault),
+    };
+    let job = match parse(alloc, text.as_slice()) {
+        Ok(job) => job,
+        Err(fault) => return tell_fault(out, fault),
+    };
+    let Ended { dev: _, code } = run_job(
+        rt,
+        alloc,
+        dev,
+        text.as_slice(),
+        job,
+        threads,
+        gate,
+        out,
+        run,
+    );
+    code
+}
+
+// Says why the text was not read. A sink that fails here does not change the status.
+fn tell_unread<K: Sink>(out: &mut K, fault: ReadFault) -> u8
+    ensures { TellsUnread fault result (K.state out.old) (K.state out.new) }
+{
+    match fault {
+        ReadFault::Source { faults } => {
+            let _ = write_source(out, faults);
+            4
+        }
+        ReadFault::Memory => {
+            let _ = write_memory(out);
+            9
+        }
+    }
+}
+
+// Says why the text is no job.
+fn tell_fault<K: Sink>(out: &mut K, fault: ParseFault) -> u8
+    ensures { TellsFault fault result (K.state out.old) (K.state out.new) }
+{
+    match fault {
+        ParseFault::Script(ScriptFault { line, column, what }) => {
+            let _ = write_script(out, line, column, word_of(what));
+            3
+        }
+        ParseFault::Memory => {
+            let _ = write_memory(out);
+            9
+        }
+    }
+}
+
+// What is wrong with a text, in the word that is printed.
+fn word_of(what: What) -> &'static str
+    ensures { result.now ≡ script_word what }
+{
+    match what {
+        What::Command => "command",
+        What::Field => "field",
+        What::Number => "number",
+        What::Path => "path",
+        What::Text => "text",
+        What::Nested => "nested",
+        What::Unopened => "unopened",
+        What::Open => "open",
+        What::Scripts => "scripts",
+        What::Long => "long",
+    }
+}

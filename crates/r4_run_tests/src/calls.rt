@@ -1,0 +1,65 @@
+//! The program's call, over memory.
+
+ghost use Rattle.r4_outside.specs.Device.{Goes};
+
+use r4_outside::{Device, MemoryDevice, MemorySink, MemorySource, OpenGate, Unnamed};
+use r4_top::r4_main;
+use std::alloc::Global;
+use std::sync::Wait;
+use std::test::Fail;
+use std::thread::Threads;
+
+/// The words that run scripts by one thread, and those that list the root.
+pub(crate) static RUN: [&str; 2] = ["run", "image"];
+pub(crate) static LIST: [&str; 2] = ["list", "image"];
+pub(crate) static REPLAY: [&str; 2] = ["replay", "image"];
+
+/// Calls the program with these words and this text of scripts, and gives its status.
+pub(crate) fn call<D: Device, X: Threads + Wait + Sync>(
+    rt: &X,
+    alloc: Global,
+    words: &[&str],
+    dev: &mut D,
+    text: &str,
+    out: &mut MemorySink,
+) -> Result<u8, Fail>
+    ensures { Goes (D.state dev.old) (D.state dev.new) }
+{
+    let mut owned = Vec::new(alloc);
+    for word in words {
+        owned.push(String::from_str(alloc, word)?)?;
+    }
+    let mut script = MemorySource::new(alloc, text.as_bytes())?;
+    let gate = &OpenGate;
+    let run = Unnamed::new();
+    Ok(r4_main(rt, alloc, &owned, dev, &mut script, out, gate, run).code)
+}
+
+/// What the program prints, with its status, which is the wanted one.
+pub(crate) fn printed<D: Device, X: Threads + Wait + Sync>(
+    rt: &X,
+    alloc: Global,
+    words: &[&str],
+    dev: &mut D,
+    text: &str,
+    status: u8,
+) -> Result<Vec<u8>, Fail>
+    ensures { Goes (D.state dev.old) (D.state dev.new) }
+{
+    let mut out = MemorySink::new(alloc, 1000)?;
+    if call(rt, alloc, words, dev, text, &mut out)? != status {
+        return Err(Fail::from("another status"));
+    }
+    Ok(out.written().to_vec(alloc)?)
+}
+
+/// A fresh volume of so many blocks.
+pub(crate) fn fresh<X: Threads + Wait + Sync>(
+    rt: &X,
+    alloc: Global,
+    blocks: u64,
+) -> Result<MemoryDevice, Fail> {
+    let mut dev = MemoryDevice::plain(alloc, blocks)?;
+    let _ = printed(rt, alloc, &["mkfs", "image"], &mut dev, "", 0)?;
+    Ok(dev)
+}

@@ -1,0 +1,125 @@
+//! Sources, sinks and devices that fail, and images that are none.
+
+use crate::calls::{LIST, REPLAY, RUN, call, fresh, printed};
+use r4_outside::{MemoryDevice, MemorySink, MemorySource, OpenGate, Unnamed};
+use r4_top::r4_main;
+use std::alloc::Global;
+use std::sync::Wait;
+use std::test::Fail;
+use std::thread::Threads;
+
+const TEXT: &str = "script\ncreate /a\ncommit\nstat /\n";
+
+const TOLD: &str = "begin t1 s1\ndone t1 s1 c1 ok\nended t1\nsealed a1\n";
+
+#[test]
+fn image_that_is_none_is_refused(rt: HostRuntime) -> Result<(), Fail> {
+    let mut dev = MemoryDevice::plain(rt.alloc(), 64)?;
+    let told = printed(&rt, rt.alloc(), &RUN, &mut dev, "", 7)?;
+    assert_eq!(&rt; told.as_slice(), b"image: block 16: magic\n".as_slice());
+    Ok(())
+}
+
+#[test]
+fn small_device_is_refused(rt: HostRuntime) -> Result<(), Fail> {
+    let mut dev = MemoryDevice::plain(rt.alloc(), 63)?;
+    let told = printed(&rt, rt.alloc(), &RUN, &mut dev, "", 8)?;
+    assert_eq!(&rt; told.as_slice(), b"size: 63 blocks\n".as_slice());
+    Ok(())
+}
+
+#[test]
+fn source_that_fails_is_told(rt: HostRuntime) -> Result<(), Fail> {
+    let alloc = rt.alloc();
+    let mut dev = fresh(&rt, alloc, 64)?;
+    let mut script = MemorySource::new(alloc, TEXT.as_bytes())?;
+    script.fail(alloc, 1)?;
+    let mut out = MemorySink::new(alloc, 100)?;
+    let words = [
+        String::from_str(alloc, "run")?,
+        String::from_str(alloc, "image")?,
+    ];
+    let (gate, run) = (&OpenGate, Unnamed::new());
+    let status = r4_main(
+        &rt,
+        alloc,
+        &words,
+        &mut dev,
+        &mut script,
+        &mut out,
+        gate,
+        run,
+    );
+    assert_eq!(&rt; status.code, 4);
+    assert_eq!(&rt; out.written(), b"source: faults 1\n".as_slice());
+    Ok(())
+}
+
+// A sink whose second write fails has a line, and the volume has the file all the same.
+#[test]
+fn sink_that_fails_leaves_the_volume(rt: HostRuntime) -> Result<(), Fail> {
+    let alloc = rt.alloc();
+    let mut dev = fresh(&rt, alloc, 64)?;
+    let mut out = MemorySink::new(alloc, 100)?;
+    out.fail(alloc, 2)?;
+    assert_eq!(&rt; call(&rt, alloc, &RUN, &mut dev, TEXT, &mut out)?, 5);
+    let listed = printed(&rt, alloc, &LIST, &mut dev, "", 0)?;
+    assert_eq!(&rt; listed.as_slice(), b"d 0755 2 0 0 1 /\nf 0644 1 0 0 0 /a\n".as_slice());
+    Ok(())
+}
+
+// The status of a run on a device of which a call fails, and what is printed.
+fn failing<X: Threads + Wait + Sync>(
+    rt: &X,
+    alloc: Global,
+    dev: &mut MemoryDevice,
+    nth: u64,
+) -> Result<(u8, Vec<u8>), Fail> {
+    dev.fail(alloc, nth)?;
+    let mut out = MemorySink::new(alloc, 1000)?;
+    let status = call(rt, alloc, &RUN, dev, TEXT, &mut out)?;
+    Ok((status, out.written().to_vec(alloc)?))
+}
+
+// After replay the volume of the run, whichever of its calls failed, is that before or behind it.
+fn is_whole<X: Threads + Wait + Sync>(
+    rt: &X,
+    alloc: Global,
+    dev: &mut MemoryDevice,
+) -> Result<bool, Fail> {
+    let mut out = MemorySink::new(alloc, 100)?;
+    let _ = call(rt, alloc, &REPLAY, dev, "", &mut out)?;
+    let listed = printed(rt, alloc, &LIST, dev, "", 0)?;
+    let (before, after) = ("d 0755 2 0 0 0 /\n", "d 0755 2 0 0 1 /\nf 0644 1 0 0 0 /a\n");
+    Ok(listed.as_slice() == before.as_bytes() || listed.as_slice() == after.as_bytes())
+}
+
+// Each call of the device fails in turn, from the first behind those that made the volume. Where one
+// fails as the volume is opened, its line is all that is printed. Where a read fails behind that, its
+// command is refused, and the run goes on. Where a call of the commit fails, the trace tells that it
+// broke, what was left is refused, and nothing is acknowledged.
+#[test]
+fn failing_calls_are_told(rt: HostRuntime) -> Result<(), Fail> {
+    let alloc = rt.alloc();
+    let mut broken = 0u32;
+    for nth in 11..34u64 {
+        let mut dev = fresh(&rt, alloc, 64)?;
+        let (status, told) = failing(&rt, alloc, &mut dev, nth)?;
+        assert!(&rt; status == 0 || status == 6, "{nth}: {status}");
+        assert!(&rt; is_whole(&rt, alloc, &mut dev)?, "{nth}");
+        if told.starts_with(TOLD.as_bytes()) && status == 6 {
+            broken = broken.saturating_add(1);
+            assert!(&rt; !has_line(&told, b"acked "), "{nth}");
+            assert!(&rt; has_line(&told, b"refused t0 s1 c3 reopen "), "{nth}");
+            assert!(&rt; has_line(&told, b"device: clock "), "{nth}");
+        }
+    }
+    assert_eq!(&rt; broken, 14);
+    Ok(())
+}
+
+// Whether a line begins so.
+fn has_line(told: &[u8], word: &[u8]) -> bool {
+    told.split(|&byte| byte == b'\n')
+        .any(|line| line.starts_with(word))
+}

@@ -1,0 +1,13 @@
+//! Tests of the command `run`, through the program's call (docs/program.md, "Running").
+#![tactic(auto)]
+
+#[cfg(test)]
+mod calls;
+#[cfg(test)]
+mod faults;
+#[cfg(test)]
+mod rows;
+#[cfg(test)]
+mod stops;
+#[cfg(test)]
+mod threads;

@@ -1,0 +1,182 @@
+//! Scripts that are run by one thread, what is printed, and what is listed then.
+
+use crate::calls::{LIST, RUN, fresh, printed};
+use std::alloc::Global;
+use std::sync::Wait;
+use std::test::Fail;
+use std::thread::Threads;
+
+/// The scripts of a run on a fresh volume of 64 blocks, its status, what it prints, and what is listed
+/// of `/` behind it.
+struct Row {
+    name: &'static str,
+    text: &'static str,
+    status: u8,
+    told: &'static str,
+    listed: &'static str,
+}
+
+const EMPTY: &str = "d 0755 2 0 0 0 /\n";
+
+static ROWS: [Row; 9] = [
+    Row {
+        name: "no scripts",
+        text: "",
+        status: 0,
+        told: "",
+        listed: EMPTY,
+    },
+    Row {
+        name: "a script that ends inside of a transaction",
+        text: "script\nbegin\ncreate /a\n",
+        status: 0,
+        told: "begin t1 s1\ndone t1 s1 c2 ok\nended t1\nsealed a1\ncommitted a1\n",
+        listed: "d 0755 2 0 0 1 /\nf 0644 1 0 0 0 /a\n",
+    },
+    Row {
+        name: "ordinary use",
+        text: "\
+script\n\
+mkdir /etc\n\
+create /etc/hosts\n\
+write /etc/hosts 0 127.0.0.1 localhost\n\
+commit\n",
+        status: 0,
+        told: "\
+begin t1 s1\n\
+done t1 s1 c1 ok\n\
+ended t1\n\
+begin t2 s1\n\
+fuse a1 a2 n23\n\
+done t2 s1 c2 ok\n\
+ended t2\n\
+begin t3 s1\n\
+fuse a1 a3 n23\n\
+done t3 s1 c3 ok\n\
+ended t3\n\
+sealed a1\n\
+committed a1\n\
+acked s1 t3\n",
+        listed: "d 0755 3 0 0 1 /\nd 0755 2 0 0 1 /etc\nf 0644 1 0 0 19 /etc/hosts\n",
+    },
+    Row {
+        name: "fusing and waiting",
+        text: "\
+script\n\
+begin\n\
+create /a\n\
+write /a 0 x\n\
+write /a 1 y\n\
+end\n\
+script\n\
+begin\n\
+stat /a\n\
+end\n\
+commit\n",
+        status: 0,
+        told: "\
+begin t1 s1\n\
+begin t2 s2\n\
+done t1 s1 c2 ok\n\
+fuse a1 a2 n23\n\
+done t2 s2 c2 attr 100644 1 0 0 0 0 0 0\n\
+done t1 s1 c3 ok\n\
+ended t2\n\
+done t1 s1 c4 ok\n\
+ended t1\n\
+sealed a1\n\
+committed a1\n\
+acked s2 t2\n",
+        listed: "d 0755 2 0 0 1 /\nf 0644 1 0 0 2 /a\n",
+    },
+    Row {
+        name: "refusals",
+        text: "\
+script\n\
+mkdir /d\n\
+rmdir /\n\
+unlink /d\n\
+stat /q\n\
+mkdir /d\n\
+create /a/\n\
+rename /d /d/x\n",
+        status: 0,
+        told: "\
+begin t1 s1\n\
+done t1 s1 c1 ok\n\
+ended t1\n\
+begin t2 s1\n\
+done t2 s1 c2 loop\n\
+ended t2\n\
+begin t3 s1\n\
+fuse a1 a3 n23\n\
+done t3 s1 c3 isdir\n\
+ended t3\n\
+begin t4 s1\n\
+fuse a1 a4 n23\n\
+done t4 s1 c4 absent\n\
+ended t4\n\
+begin t5 s1\n\
+fuse a1 a5 n23\n\
+done t5 s1 c5 exists\n\
+ended t5\n\
+begin t6 s1\n\
+done t6 s1 c6 name\n\
+ended t6\n\
+begin t7 s1\n\
+fuse a1 a7 n23\n\
+done t7 s1 c7 loop\n\
+ended t7\n\
+sealed a1\n\
+committed a1\n\
+sealed a2\n\
+committed a2\n\
+sealed a6\n\
+committed a6\n",
+        listed: "d 0755 3 0 0 1 /\nd 0755 2 0 0 0 /d\n",
+    },
+    Row {
+        name: "a field too many",
+        text: "script\ncommit now\n",
+        status: 3,
+        told: "script: line 2 column 8: field\n",
+        listed: EMPTY,
+    },
+    Row {
+        name: "an unknown word",
+        text: "script\nfrob /a\n",
+        status: 3,
+        told: "script: line 2 column 1: command\n",
+        listed: EMPTY,
+    },
+    Row {
+        name: "a field too few",
+        text: "script\nmkdir\n",
+        status: 3,
+        told: "script: line 2 column 6: field\n",
+        listed: EMPTY,
+    },
+    Row {
+        name: "an end without a beginning",
+        text: "script\nend\n",
+        status: 3,
+        told: "script: line 2 column 1: unopened\n",
+        listed: EMPTY,
+    },
+];
+
+// A row is as it says.
+fn holds<X: Threads + Wait + Sync>(rt: &X, alloc: Global, row: &Row) -> Result<bool, Fail> {
+    let mut dev = fresh(rt, alloc, 64)?;
+    let told = printed(rt, alloc, &RUN, &mut dev, row.text, row.status)?;
+    let listed = printed(rt, alloc, &LIST, &mut dev, "", 0)?;
+    Ok(told.as_slice() == row.told.as_bytes() && listed.as_slice() == row.listed.as_bytes())
+}
+
+#[test]
+fn scripts_are_run(rt: HostRuntime) -> Result<(), Fail> {
+    for row in &ROWS {
+        assert!(&rt; holds(&rt, rt.alloc(), row)?, "{}", row.name);
+    }
+    Ok(())
+}

@@ -1,0 +1,5 @@
+//! Tests of the text that a source gives.
+#![tactic(auto)]
+
+#[cfg(test)]
+mod reading;

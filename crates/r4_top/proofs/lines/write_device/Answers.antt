@@ -1,9 +1,0 @@
-use Rattle.std.proofs.Common.{◌++◌, decimal, codes}
-use Rattle.r4_top.proofs.Texts.{appends_both, appends_stopped}
-use Rattle.r4_top.proofs.lines.write_device.Goals as goal
-
-pub returns-in_err-write_number : goal.returns-in_err-write_number
-returns-in_err-write_number g c = appends_stopped (codes "device: clock " ++ decimal c.args.clock ++ codes " faults ") (decimal c.args.faults ++ codes "\n") _ _ _ c.from_residual.result c.from_residual.ensures.0 c.in_err-write_number.ensures
-
-pub returns : goal.returns
-returns g c = appends_both (codes "device: clock " ++ decimal c.args.clock ++ codes " faults ") (decimal c.args.faults ++ codes "\n") _ _ _ _ c.write_number-2.result c.in_ok-write_number.ensures c.write_number-2.ensures

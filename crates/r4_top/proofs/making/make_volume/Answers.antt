@@ -1,5 +1,0 @@
-use Rattle.r4_top.proofs.MkfsTold.{told_fault}
-use Rattle.r4_top.proofs.making.make_volume.Goals as goal
-
-pub returns-in-Err-clause-makes : goal.returns-in-Err-clause-makes
-returns-in-Err-clause-makes g c = told_fault c.args.label.now _ _ _ _ c.tell_fault.result.code c.in-Err.fault c.in-Err.ensures.answers c.tell_fault.ensures

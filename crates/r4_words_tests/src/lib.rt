@@ -1,0 +1,2 @@
+//! Tests of the words of the command line.
+#![tactic(auto)]
