@@ -1,11 +1,6 @@
 //! What is told of jobs that run up to their first flush.
 
-use crate::images::Image;
-use crate::pushing::run_pushed;
-use crate::running::{ONE, Way, run};
-use crate::shared::opened;
-use crate::telling::Log;
-use r4_next::Core;
+use r4_core_testing::{Core, Image, Log, ONE, Way, opened, run, run_pushed};
 use r4_outside::{MemoryDevice, Unnamed};
 use std::alloc::Global;
 use std::test::Fail;

@@ -1,13 +1,10 @@
 //! A command that came later is refused by itself.
 
-use crate::images::Image;
-use crate::pushing::{push_all, run_pushed};
-use crate::running::{ONE, run};
-use crate::shared::opened;
-use crate::telling::Log;
-use r4_apply::{is_refusable, refuse_next};
 use r4_base::ScriptNo;
-use r4_next::{Core, Wanted, pending};
+use r4_core_testing::{
+    Core, Image, Log, ONE, Wanted, is_refusable, opened, pending, push_all, refuse_next, run,
+    run_pushed,
+};
 use r4_outside::{MemoryDevice, Unnamed};
 use r4_turns::Pending;
 use std::alloc::Global;

@@ -2,7 +2,7 @@
 
 ghost use Rattle.r4_next.specs.r4_take.Sending.{CanBeBuilt};
 
-use crate::shared::next;
+use crate::opening::next;
 use crate::telling::Log;
 use r4_apply::{Applied, apply};
 use r4_base::{NodeId, ScriptNo};
@@ -17,30 +17,34 @@ use std::test::Fail;
 /// How many tasks are out at once, and whether the last one of them comes back first. One comes back
 /// where so many are out, and where nothing else can be done.
 #[derive(Clone, Copy, Debug, PartialEq, Eq)]
-pub(crate) struct Way {
+pub struct Way {
     pub out: usize,
     pub newest: bool,
 }
 
 /// What tells a task: its script, how many commands are answered there, and the first new number.
-pub(crate) type Told = (ScriptNo, u32, u64);
+pub type Told = (ScriptNo, u32, u64);
 
 /// What becomes of a task that comes back.
 #[derive(Clone, Copy)]
-pub(crate) enum After {
+pub enum After {
     Done,
     Gone(Told),
     Stale(NodeId, Differs),
 }
 
 /// Each task is applied before anything else is done.
-pub(crate) const ONE: Way = Way {
+pub const ONE: Way = Way {
     out: 1,
     newest: false,
 };
 
 /// All is done, up to the first flush or to the end.
-pub(crate) fn run(
+///
+/// # Errors
+/// Where there is no memory, a body is in extents, a task is not built or comes back gone or stale,
+/// or 1,000 steps are not enough.
+pub fn run(
     core: &mut Core<MemoryDevice, Unnamed>,
     alloc: Global,
     way: Way,
@@ -115,11 +119,7 @@ fn come_back(
 }
 
 /// What was built of a task is applied.
-pub(crate) fn applied(
-    core: &mut Core<MemoryDevice, Unnamed>,
-    alloc: Global,
-    built: Built,
-) -> After {
+pub fn applied(core: &mut Core<MemoryDevice, Unnamed>, alloc: Global, built: Built) -> After {
     match apply(core, alloc, built) {
         Applied::Done => After::Done,
         Applied::Gone { task } => After::Gone(told(&task)),
@@ -132,6 +132,6 @@ pub(crate) fn applied(
 }
 
 /// What tells a task.
-pub(crate) fn told(task: &Task) -> Told {
+pub fn told(task: &Task) -> Told {
     (task.script, task.index, task.fresh.next)
 }

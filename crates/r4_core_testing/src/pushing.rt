@@ -18,7 +18,10 @@ use std::alloc::Global;
 use std::test::Fail;
 
 /// The commands of these scripts come one after another, and after each of them all is done.
-pub(crate) fn run_pushed(
+///
+/// # Errors
+/// As with `push_all` and `run`.
+pub fn run_pushed(
     core: &mut Core<MemoryDevice, Unnamed>,
     alloc: Global,
     pushed: &str,
@@ -38,7 +41,11 @@ pub(crate) fn run_pushed(
 }
 
 /// The commands of these scripts come, and nothing is done.
-pub(crate) fn push_all(
+///
+/// # Errors
+/// Where there is no memory, the scripts are refused, the core has no such script, one that has a
+/// `begin` or `u32::MAX` commands, or the command is `begin` or `end`.
+pub fn push_all(
     core: &mut Core<MemoryDevice, Unnamed>,
     alloc: Global,
     pushed: &str,

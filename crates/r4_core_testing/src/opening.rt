@@ -1,4 +1,4 @@
-//! What the tests share: a core on a volume, and what there is to do.
+//! A core on a volume, and what there is to do.
 
 ghost use Rattle.std.specs.Prelude.{IfOk};
 ghost use Rattle.r4_next.specs.Taking.{BuildsIfWork};
@@ -10,8 +10,11 @@ use r4_outside::{MemoryDevice, Unnamed};
 use std::alloc::Global;
 use std::test::Fail;
 
-// The core of a volume, and these scripts.
-pub(crate) fn opened(
+/// The core of a volume, which serves these scripts.
+///
+/// # Errors
+/// Where there is no memory, the scripts are refused, or the volume is not opened.
+pub fn opened(
     alloc: Global,
     image: Image,
     scripts: &str,
@@ -24,8 +27,11 @@ pub(crate) fn opened(
     }
 }
 
-// What there is to do next.
-pub(crate) fn next(core: &mut Core<MemoryDevice, Unnamed>, alloc: Global) -> Result<Taken, Fail>
+/// What there is to do next.
+///
+/// # Errors
+/// Where there is no memory, or transactions have had all numbers up to `u32::MAX`.
+pub fn next(core: &mut Core<MemoryDevice, Unnamed>, alloc: Global) -> Result<Taken, Fail>
     ensures { IfOk result BuildsIfWork }
 {
     if core.atoms().begun() == u32::MAX {

@@ -1,6 +1,6 @@
 use Rattle.std.proofs.Common.{arith}
-use Rattle.r4_next.proofs.r4_kept.Turning.{owed_answered}
-use Rattle.r4_core_tests.proofs.refusing.refuse.Goals as goal
+use Rattle.r4_core_testing.proofs.r4_kept.Turning.{owed_answered}
+use Rattle.r4_back_tests.proofs.refusing.refuse.Goals as goal
 
 pub refuse_next-requires-clause-room : goal.refuse_next-requires-clause-room
 refuse_next-requires-clause-room c κs =

@@ -2,18 +2,15 @@
 //! and without a change.
 
 ghost use Rattle.std.specs.Prelude.{IfOk};
-ghost use Rattle.r4_next.specs.r4_take.Sending.{CanBeBuilt};
+ghost use Rattle.r4_core_testing.specs.r4_take.Sending.{CanBeBuilt};
 
-use crate::images::Image;
-use crate::pushing::push_all;
-use crate::running::{After, ONE, Told, applied, run, told};
-use crate::shared::{next, opened};
-use crate::telling::Log;
-use r4_apply::{give_back, recall, refuse_memory};
 use r4_base::NodeId;
 use r4_build::{Built, Task, build};
+use r4_core_testing::{
+    After, Core, Image, Log, ONE, Taken, Told, applied, give_back, next, opened, push_all, recall,
+    refuse_memory, run, told,
+};
 use r4_matching::Differs;
-use r4_next::{Core, Taken};
 use r4_outside::{MemoryDevice, OpenGate, Unnamed};
 use std::alloc::Global;
 use std::test::Fail;

@@ -10,14 +10,15 @@ use std::test::Fail;
 
 /// What was told so far, and how many entries of the trace are in it.
 #[derive(Drop)]
-pub(crate) struct Log {
+pub struct Log {
+    /// The lines, each ended by a line feed.
     pub lines: Vec<u8>,
     told: u64,
 }
 
 impl Log {
     /// Nothing was told.
-    pub(crate) fn new(alloc: Global) -> Log {
+    pub fn new(alloc: Global) -> Log {
         Log {
             lines: Vec::new(alloc),
             told: 0,

@@ -11,7 +11,7 @@ use std::test::Fail;
 /// A fresh volume of so many blocks; or one of 1,024 with two files in tails, `/a` and `/b`, of
 /// 16,384 bytes each, all of them the file's letter; or a fresh one of 64 whose root names block 70.
 #[derive(Clone, Copy, Debug, PartialEq, Eq)]
-pub(crate) enum Image {
+pub enum Image {
     Fresh(u64),
     TwoFiles,
     Damaged,
