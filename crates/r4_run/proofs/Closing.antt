@@ -1,7 +1,7 @@
 -- A session that was opened or not, in the words of a run.
 use Rattle.std.proofs.Common.{◌≡◌, ◌∙◌, ap, inl, inr, refl, sym, subst, arith, ℕ, ◌≤◌, List, [], Option, Some, None, Result, Ok}
 use Rattle.std.specs.Option.{option_map}
-use Rattle.r4_base.specs.Image.{Image}
+use Rattle.r4_base.specs.Image.{Image, IsLawful as IsSize}
 use Rattle.r4_base.specs.Volume.{HasVolume}
 use Rattle.r4_content.specs.Locality.{commands}
 use Rattle.r4_content.specs.Meaning.{greatest_size}
@@ -87,12 +87,12 @@ module _ (start : Option Image) (clock : Option ℕ) (scripts : Option (List ℕ
     ends = inl (record { why = why; is = is; tells = tells; empty = refl });
   }
 
-  pub ran_so : (before : ℕ) → before ≡ d.faults → Closed start clock scripts before old code e new
+  pub ran_so : (before : ℕ) → before ≡ d.faults → IsSize d.blocks → Closed start clock scripts before old code e new
       → Ran start clock (asked job) d old code e new
-  ran_so before at c = record {
+  ran_so before at size c = record {
     trace = c.trace;
     is = subst (λ (r : Names). IsTraceOf r e c.trace) names_are (c.is text scripts_are);
-    ends = inr (subst (λ (n : ℕ). Ends (named start clock (asked job)) (asked job) c.trace n old code e new) at
+    ends = inr (size, subst (λ (n : ℕ). Ends (named start clock (asked job)) (asked job) c.trace n old code e new) at
         (subst (λ (j : Asked). Ends (named start clock (asked job)) j c.trace before old code e new) same
         (subst (λ (r : Names). Ends r c.job c.trace before old code e new) names_are c.ends)));
   }

@@ -1,7 +1,7 @@
 -- What becomes of a source's text, and what is said of a borrowed device is so of the device.
 use Rattle.std.proofs.Common.{◌≡◌, ◌⊎◌, ◌↔◌, ◌∙◌, ap, inl, inr, refl, sym, ℕ, ◌≤◌, List, Option, Some, IsSome, Ok}
 use Rattle.std.specs.Borrow.{GName}
-use Rattle.r4_base.specs.Image.{Image}
+use Rattle.r4_base.specs.Image.{Image, IsLawful as IsSize}
 use Rattle.r4_history.specs.Tables.{asked}
 use Rattle.r4_outside.specs.Device.{State, lent_to}
 use Rattle.r4_outside.specs.Sink.{SinkState}
@@ -71,11 +71,12 @@ module _ (start : Option Image) (clock : Option ℕ) (job : Asked) (n m : GName)
 
   came_lent : (trace : List Entry) (code : ℕ) (old new : SinkState)
       → IsUnopened (lent_to n d) trace old code (lent_to m e) new
-      ⊎ Ends (named start clock job) job trace d.faults old code (lent_to m e) new
-      → IsUnopened d trace old code e new ⊎ Ends (named start clock job) job trace d.faults old code e new
+      ⊎ (IsSize d.blocks × Ends (named start clock job) job trace d.faults old code (lent_to m e) new)
+      → IsUnopened d trace old code e new
+      ⊎ (IsSize d.blocks × Ends (named start clock job) job trace d.faults old code e new)
   came_lent trace code old new (inl u) =
       inl (record { why = u.why; is = fault_lent u.why u.is; tells = u.tells; empty = u.empty })
-  came_lent trace code old new (inr f) = inr (ends_lent trace d.faults code old new f)
+  came_lent trace code old new (inr f) = inr (f.0, ends_lent trace d.faults code old new f.1)
 
   pub ran_lent : (code : ℕ) (old new : SinkState) → Ran start clock job (lent_to n d) old code (lent_to m e) new
       → Ran start clock job d old code e new

@@ -2,7 +2,7 @@
 --     Ran    one trace, which the device, the status and the sink agree with
 use Rattle.std.specs.Prelude.{◌≡◌, ◌⊎◌, ◌++◌, ℕ, ◌≤◌, List, [], Option, Some, IsSome, Result}
 use Rattle.std.specs.Option.{option_map}
-use Rattle.r4_base.specs.Image.{Image}
+use Rattle.r4_base.specs.Image.{Image, IsLawful as IsSize}
 use Rattle.r4_base.specs.Volume.{HasVolume}
 use Rattle.r4_base.specs.Words.{layout_word_of, log_word_of}
 use Rattle.r4_content.specs.Locality.{commands}
@@ -94,8 +94,9 @@ pub record Ran
   where
     pub trace : List Entry
     pub is : IsTraceOf (named start clock job) e trace
+    -- an unlawful number of blocks is not passed over
     pub ends : IsUnopened d trace old code e new
-        ⊎ Ends (named start clock job) job trace d.faults old code e new
+        ⊎ (IsSize d.blocks × Ends (named start clock job) job trace d.faults old code e new)
 
 -- ---- its end, as its core tells it
 

@@ -14,5 +14,5 @@ returns-in-Ok g c = record {
   ran = ran_so g.N.Run.start g.N.Run.clock g.N.Run.scripts c.args.text.now c.args.job
       c.requires.named.scripts_are c.requires.spells (g.E.Device.state c.args.dev)
       (g.E.Device.state c.close.result.dev) _ _ c.close.result.code c.faults-before.result c.faults-before.ensures
-      c.close.ensures;
+      c.in-Ok.ensures.opened.is_found.size c.close.ensures;
 }
