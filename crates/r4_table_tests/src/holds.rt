@@ -1,10 +1,20 @@
 //! Tests of the table of holds.
 
-use r4_base::NodeId;
+use r4_base::{NodeId, TaskId};
 use r4_locks::{Held, LockTable, TakeFault};
 use std::alloc::Global;
 use std::process::Abort;
 use std::test::Fail;
+
+// Ends the test unless a node is held so.
+fn same_hold<X: Abort>(rt: &X, table: &LockTable, node: u64, wanted: Held) {
+    assert_eq!(rt; table.held(NodeId(node)), wanted, "{node}");
+}
+
+// Ends the test unless this node, which a task holds, is what was found to stand in the way.
+fn same_conflict<X: Abort>(rt: &X, found: Option<(NodeId, TaskId)>, node: u64, holder: TaskId) {
+    assert_eq!(rt; found, Some((NodeId(node), holder)));
+}
 
 // A second task wants to write what a first one reads.
 fn refuse_a_writer<X: Abort>(rt: &X, alloc: Global, table: &mut LockTable) -> Result<(), Fail> {
@@ -20,8 +30,8 @@ fn refuse_a_writer<X: Abort>(rt: &X, alloc: Global, table: &mut LockTable) -> Re
         holder: first,
     });
     assert_eq!(rt; table.take_all(alloc, second, &[], &wanted), refused);
-    assert_eq!(rt; table.conflict(&[], &wanted), Some((NodeId(23), first)));
-    assert_eq!(rt; table.held(NodeId(23)), Held::Read { tasks: 1 });
+    same_conflict(rt, table.conflict(&[], &wanted), 23, first);
+    same_hold(rt, table, 23, Held::Read { tasks: 1 });
     Ok(())
 }
 
@@ -44,15 +54,13 @@ fn read_and_write<X: Abort>(rt: &X, alloc: Global, table: &mut LockTable) -> Res
         .take_all(alloc, second, &[NodeId(7)], &[NodeId(9)])
         .ok()
         .ok_or("second")?;
-    assert_eq!(rt; table.held(NodeId(7)), Held::Read { tasks: 2 });
-    assert_eq!(rt; table.held(NodeId(8)), Held::Write { by: first });
-    assert_eq!(rt;
-        table.conflict(&[NodeId(7), NodeId(9)], &[NodeId(10), NodeId(8)]),
-        Some((NodeId(8), first))
-    );
+    same_hold(rt, table, 7, Held::Read { tasks: 2 });
+    same_hold(rt, table, 8, Held::Write { by: first });
+    let found = table.conflict(&[NodeId(7), NodeId(9)], &[NodeId(10), NodeId(8)]);
+    same_conflict(rt, found, 8, first);
     table.release(first);
-    assert_eq!(rt; table.held(NodeId(8)), Held::Free);
-    assert_eq!(rt; table.held(NodeId(7)), Held::Read { tasks: 1 });
+    same_hold(rt, table, 8, Held::Free);
+    same_hold(rt, table, 7, Held::Read { tasks: 1 });
     Ok(())
 }
 
@@ -72,11 +80,11 @@ fn begin_a_thousand<X: Abort>(rt: &X, alloc: Global, table: &mut LockTable) -> R
             .ok()
             .ok_or("taken")?;
     }
-    assert_eq!(rt; table.held(NodeId(7)), Held::Read { tasks: 1000 });
+    same_hold(rt, table, 7, Held::Read { tasks: 1000 });
     let own = table.task(alloc)?;
     assert_eq!(rt; own.0, 1000);
     let refused = table.conflict(&[NodeId(1099)], &[NodeId(50)]);
-    assert_eq!(rt; refused.map(|found| (found.0.0, found.1.0)), Some((1099, 999)));
+    same_conflict(rt, refused, 1099, TaskId(999));
     Ok(())
 }
 

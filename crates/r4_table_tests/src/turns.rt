@@ -10,17 +10,22 @@ use std::process::Abort;
 use std::sync::Arc;
 use std::test::Fail;
 
+// A script of so many commands.
+fn script_of(alloc: Global, commands: u32) -> Result<Script, Memory> {
+    let mut items = Vec::new(alloc);
+    for _ in 0..commands {
+        items.push(Command::Commit)?;
+    }
+    Ok(Script {
+        commands: Commands::from_vec(items),
+    })
+}
+
 // So many scripts of so many commands each.
 fn job_of(alloc: Global, scripts: u32, commands: u32) -> Result<Job, Memory> {
     let mut all = Vec::new(alloc);
     for _ in 0..scripts {
-        let mut items = Vec::new(alloc);
-        for _ in 0..commands {
-            items.push(Command::Commit)?;
-        }
-        all.push(Script {
-            commands: Commands::from_vec(items),
-        })?;
+        all.push(script_of(alloc, commands)?)?;
     }
     Ok(Job {
         scripts: Scripts::from_vec(all),
