@@ -23,32 +23,33 @@ MOST_LINES = 120
 CALLS = {"r4_main"}
 
 # The promises, in reading order: what each says, and the definitions that its clauses cite.
-TOP, DEVICE, REPLAY, MKFS = "r4_top.Answers", "r4_outside.Device", "r4_replay.Replay", "r4_mkfs.Mkfs"
+TOP, OFFLINE, WORDS = "r4_top.Answers", "r4_offline.Answers", "r4_words.Words"
+DEVICE, REPLAY, MKFS = "r4_outside.Device", "r4_replay.Replay", "r4_mkfs.Mkfs"
 PROMISES = [
     (
         "`replay`",
         "`Replays` says for each status when it comes, what is printed and what the device holds; `SettlesAlways` what"
         " a crash leaves at any moment, from a device that is quiet (`IsQuiet`); `Goes` that clock and faults only"
         " rise.",
-        [(TOP, "Replays"), (REPLAY, "SettlesAlways"), (DEVICE, "IsQuiet"), (DEVICE, "Goes")],
+        [(OFFLINE, "Replays"), (REPLAY, "SettlesAlways"), (DEVICE, "IsQuiet"), (DEVICE, "Goes")],
     ),
     (
         "`mkfs`",
         "`Makes` says for each status when it comes, what is printed and what the device holds; `MakesInOrder` and"
         " `Spares` what a crash leaves at any moment.",
-        [(TOP, "Makes"), (MKFS, "MakesInOrder"), (MKFS, "IsWritten")]
+        [(OFFLINE, "Makes"), (MKFS, "MakesInOrder"), (MKFS, "IsWritten")]
         + [(DEVICE, "Spares"), (DEVICE, "IsQuiet"), (DEVICE, "Goes")],
     ),
     (
         "`list`",
         "`Lists` says for each status when it comes and what is printed, and that nothing is written.",
-        [(TOP, "Lists"), (REPLAY, "SettlesAlways"), (DEVICE, "IsQuiet"), (DEVICE, "Goes")],
+        [(OFFLINE, "Lists"), (REPLAY, "SettlesAlways"), (DEVICE, "IsQuiet"), (DEVICE, "Goes")],
     ),
     (
         "The words of the command line",
         "`Answers` and `HasMoments` pick the promise by what the words ask for (`asked_of`); `RefusesWords` speaks of"
         " faulty ones.",
-        [(TOP, "Answers"), (TOP, "HasMoments"), ("r4_top.Words", "asked_of")],
+        [(TOP, "Answers"), (TOP, "HasMoments"), (WORDS, "asked_of")],
     ),
 ]
 
@@ -63,7 +64,8 @@ class Definition:
         return re.findall(r"^  +pub (\w+) :", "\n".join(self.lines), re.M) if self.is_data else []
 
     def words(self):
-        code = "\n".join(line.split("--")[0] for line in self.lines if not line.lstrip().startswith("--"))
+        lines = (re.sub(r'"[^"]*"', '""', line) for line in self.lines if not line.lstrip().startswith("--"))
+        code = "\n".join(line.split("--")[0] for line in lines)
         code = re.sub(r"^(  +pub )\w+ :", r"\1:", code, flags=re.M)
         code = re.sub(r"([{;]\s*)\w+ =", r"\1=", code)
         bound = re.findall(r"λ ([^.]*)\.", code) + re.findall(r"\(([\w' ]+) :", code)

@@ -5,22 +5,14 @@ ghost use Rattle.r4_outside.specs.Device.{Goes};
 use r4_outside::{Device, MemorySink};
 use r4_testing::{REPLAY, call};
 use std::alloc::Global;
-use std::sync::Wait;
 use std::test::Fail;
-use std::thread::Threads;
 
 /// Replays a device, and fails unless these are the status and the line that is printed.
-pub fn replays<D: Device, X: Threads + Wait + Sync>(
-    rt: &X,
-    alloc: Global,
-    dev: &mut D,
-    status: u8,
-    line: &str,
-) -> Result<(), Fail>
+pub fn replays<D: Device>(alloc: Global, dev: &mut D, status: u8, line: &str) -> Result<(), Fail>
     ensures { Goes (D.state dev.old) (D.state dev.new) }
 {
     let mut out = MemorySink::new(alloc, 100)?;
-    let code = call(rt, alloc, &REPLAY, dev, &mut out)?;
+    let code = call(alloc, &REPLAY, dev, &mut out)?;
     if out.written() != line.as_bytes() {
         return Err(Fail::from("another line is printed"));
     }

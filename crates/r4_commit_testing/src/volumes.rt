@@ -11,22 +11,16 @@ use r4_outside::{Device, MemoryDevice, MemorySink};
 use r4_space::SpaceMap;
 use r4_testing::call;
 use std::alloc::Global;
-use std::sync::Wait;
 use std::test::Fail;
-use std::thread::Threads;
 
 /// A fresh volume of so many blocks, of which no call was made.
-pub fn volume<X: Threads + Wait + Sync>(
-    rt: &X,
-    alloc: Global,
-    blocks: u64,
-) -> Result<MemoryDevice, Fail>
+pub fn volume(alloc: Global, blocks: u64) -> Result<MemoryDevice, Fail>
     ensures tells { IfOk result (λ d. TellsCrashes (memory_state d)) }
     ensures blocks { IfOk result (λ d. (memory_state d).blocks ≡ blocks) }
 {
     let mut dev = MemoryDevice::new(alloc, blocks)?;
     let mut out = MemorySink::new(alloc, 100)?;
-    if call(rt, alloc, &["mkfs", "image"], &mut dev, &mut out)? != 0 {
+    if call(alloc, &["mkfs", "image"], &mut dev, &mut out)? != 0 {
         return Err(Fail::from("no volume is made"));
     }
     let mut made = dev.crash(alloc, dev.clock(), 0)?;

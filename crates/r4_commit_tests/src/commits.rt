@@ -16,9 +16,8 @@ use r4_wander::{
 };
 use std::alloc::Global;
 use std::process::Abort;
-use std::sync::{Arc, Wait};
+use std::sync::Arc;
 use std::test::Fail;
-use std::thread::Threads;
 
 // A data block of nines, to be placed.
 fn cell(alloc: Global) -> Result<Arc<Cell>, Fail> {
@@ -180,14 +179,14 @@ fn lines_at(moment: u64) -> [&'static [u8]; 2] {
 }
 
 // Replays what a crash at a moment left, and looks at the homes: all of them have their new content, or none has.
-fn settles_whole<X: Abort + Threads + Wait + Sync>(
+fn settles_whole<X: Abort>(
     rt: &X,
     alloc: Global,
     left: &mut MemoryDevice,
     moment: u64,
 ) -> Result<(), Fail> {
     let mut out = MemorySink::new(alloc, 100)?;
-    let status = call(rt, alloc, &REPLAY, left, &mut out)?;
+    let status = call(alloc, &REPLAY, left, &mut out)?;
     let row = moment as usize;
     same_in(rt, &status, &0, row);
     let lines = lines_at(moment);
@@ -204,11 +203,7 @@ fn settles_whole<X: Abort + Threads + Wait + Sync>(
 }
 
 // Lets the machine stop at each moment of the commit.
-fn look_at_crashes<X: Abort + Threads + Wait + Sync>(
-    rt: &X,
-    alloc: Global,
-    dev: &MemoryDevice,
-) -> Result<(), Fail>
+fn look_at_crashes<X: Abort>(rt: &X, alloc: Global, dev: &MemoryDevice) -> Result<(), Fail>
     requires { TellsCrashes (memory_state dev.now) }
 {
     for moment in 0..14 {
@@ -366,7 +361,7 @@ fn commits_fill_their_records(rt: HostRuntime) -> Result<(), Fail> {
         // The header was just synced.
         let mut left = dev.crash(alloc, pairs + records + 4, 0)?;
         are_home(&rt, alloc, &mut dev, count)?;
-        replays(&rt, alloc, &mut left, 0, "replayed 1\n")?;
+        replays(alloc, &mut left, 0, "replayed 1\n")?;
         are_home(&rt, alloc, &mut left, count)?;
     }
     Ok(())

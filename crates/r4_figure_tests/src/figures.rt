@@ -3,8 +3,9 @@
 ghost use Rattle.std.specs.Prelude.{◌≡◌, [], IfOk, OnOk};
 
 use crate::same::same;
+use crate::spaces::read;
 use r4_base::{AtomNo, Block, BlockNo};
-use r4_space::{SpaceFault, SpaceMap};
+use r4_space::SpaceMap;
 use std::alloc::Global;
 use std::process::Abort;
 use std::test::Fail;
@@ -32,21 +33,6 @@ fn large(rt: &impl Abort, alloc: Global) -> Result<SpaceMap, Fail>
         bitmaps.push(bitmap(alloc, n)?)?;
     }
     read(rt, alloc, &bitmaps, 1_048_576, 1_048_520).map_err(|_| Fail::from("no space"))
-}
-
-// The space that these bitmaps tell. The numbers are no constants here, with which its contract would be computed.
-fn read(
-    rt: &impl Abort,
-    alloc: Global,
-    bitmaps: &[Block],
-    blocks: u64,
-    free: u64,
-) -> Result<SpaceMap, SpaceFault>
-    ensures { IfOk result (λ s. s.sealed ≡ []) }
-{
-    assert!(rt; blocks >= 64 && blocks <= 1_048_576);
-    assert_eq!(rt; bitmaps.len() as u64, (blocks + 32_735) / 32_736);
-    SpaceMap::read(alloc, bitmaps, blocks, free)
 }
 
 // Charges 10,000 atoms so many cells each, one of them without a block.

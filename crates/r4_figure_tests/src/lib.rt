@@ -7,3 +7,5 @@ mod figures;
 mod places;
 #[cfg(test)]
 mod same;
+#[cfg(test)]
+mod spaces;

@@ -4,6 +4,7 @@ ghost use Rattle.std.specs.Prelude.{◌≡◌, ◌^◌, ◌<◌, IfOk, length, m
 ghost use Rattle.std.specs.Arc.{arc_value};
 
 use crate::same::{same, same_in};
+use crate::spaces::read;
 use r4_base::{AtomNo, Block, BlockNo, Key, NodeId, Oid};
 use r4_cell::{Cell, read_cell};
 use r4_place::{How, choose};
@@ -28,14 +29,12 @@ fn bitmap(alloc: Global, told: [u8; 5]) -> Result<Block, Fail> {
 }
 
 // The space of 64 blocks of which these are used.
-fn space(alloc: Global, told: [u8; 5], free: u64) -> Result<SpaceMap, Fail>
+fn space(rt: &impl Abort, alloc: Global, told: [u8; 5], free: u64) -> Result<SpaceMap, Fail>
     ensures { IfOk result (λ s. s.block_count ≡ 64) }
 {
-    let bitmaps = Vec::from_array(alloc, [bitmap(alloc, told)?])?;
-    let Ok(space) = SpaceMap::read(alloc, &bitmaps, 64, free) else {
-        return Err(Fail::from("a space is refused"));
-    };
-    Ok(space)
+    let mut bitmaps = Vec::new(alloc);
+    bitmaps.push(bitmap(alloc, told)?)?;
+    read(rt, alloc, &bitmaps, 64, free).map_err(|_| Fail::from("a space is refused"))
 }
 
 // A data block of this name.
@@ -89,34 +88,47 @@ fn look<X: Abort>(
     Ok(())
 }
 
+// The same of two cells without a block, a third one of this name, and one more without, in a space of 64 blocks of which
+// these are used: the space then.
+fn look_at<X: Abort>(
+    rt: &X,
+    alloc: Global,
+    told: [u8; 5],
+    third: u64,
+    wanted: &[How],
+    free: [u64; 2],
+) -> Result<SpaceMap, Fail>
+    requires within { third < 2 ^ 63 → third < 64 }
+{
+    let mut space = space(rt, alloc, told, free[0])?;
+    let cells = slum(alloc, third)?;
+    look(rt, alloc, &mut space, &cells, wanted, free[1])?;
+    Ok(space)
+}
+
 #[test]
 fn cells_without_a_block_get_the_next_ones(rt: HostRuntime) -> Result<(), Fail> {
-    let alloc = rt.alloc();
-    let mut roomy = space(alloc, [4, 0, 0, 0, 0], 39)?;
     let wanted = [
         How::Fresh(BlockNo(24)),
         How::Fresh(BlockNo(25)),
         How::Overwrite,
         How::Fresh(BlockNo(27)),
     ];
-    look(&rt, alloc, &mut roomy, &slum(alloc, 23)?, &wanted, 36)?;
+    let _space = look_at(&rt, rt.alloc(), [4, 0, 0, 0, 0], 23, &wanted, [39, 36])?;
+    Ok(())
+}
 
-    let mut sufficient = space(alloc, [0xf6, 0xff, 0xff, 0xff, 0x3f], 4)?;
+#[test]
+fn the_last_blocks_are_enough(rt: HostRuntime) -> Result<(), Fail> {
     let wanted = [
         How::Fresh(BlockNo(24)),
         How::Fresh(BlockNo(27)),
         How::Fresh(BlockNo(62)),
         How::Fresh(BlockNo(63)),
     ];
-    look(
-        &rt,
-        alloc,
-        &mut sufficient,
-        &slum(alloc, NEW + 3)?,
-        &wanted,
-        0,
-    )?;
+    let told = [0xf6, 0xff, 0xff, 0xff, 0x3f];
+    let mut full = look_at(&rt, rt.alloc(), told, NEW + 3, &wanted, [4, 0])?;
 
     // Nothing is left, and nothing is wanted.
-    look(&rt, alloc, &mut sufficient, &[], &[], 0)
+    look(&rt, rt.alloc(), &mut full, &[], &[], 0)
 }

@@ -7,12 +7,10 @@ use r4_outside::{Device, MemorySink};
 use r4_testing::{REPLAY, call};
 use std::alloc::Global;
 use std::process::Abort;
-use std::sync::Wait;
 use std::test::Fail;
-use std::thread::Threads;
 
 /// Calls the program with these words, and looks at the status and at the line that is printed.
-pub fn prints<D: Device, X: Abort + Threads + Wait + Sync>(
+pub fn prints<D: Device, X: Abort>(
     rt: &X,
     alloc: Global,
     words: &[&str],
@@ -23,14 +21,14 @@ pub fn prints<D: Device, X: Abort + Threads + Wait + Sync>(
     ensures { Goes (D.state dev.old) (D.state dev.new) }
 {
     let mut out = MemorySink::new(alloc, 100)?;
-    let code = call(rt, alloc, words, dev, &mut out)?;
+    let code = call(alloc, words, dev, &mut out)?;
     same(rt, &out.written(), &line.as_bytes(), line);
     same(rt, &code, &status, line);
     Ok(())
 }
 
 /// Replays a device, and looks at the status and at the line that is printed.
-pub fn replays<D: Device, X: Abort + Threads + Wait + Sync>(
+pub fn replays<D: Device, X: Abort>(
     rt: &X,
     alloc: Global,
     dev: &mut D,

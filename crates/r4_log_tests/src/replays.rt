@@ -13,9 +13,7 @@ use r4_replay::{LogFault, ReplayFault, read_log};
 use r4_testing::{LIST, REPLAY, call};
 use std::alloc::Global;
 use std::process::Abort;
-use std::sync::Wait;
 use std::test::Fail;
-use std::thread::Threads;
 
 // So many pairs, from original 300 and wandered block 600 on.
 fn pairs_from_300(alloc: Global, count: u32) -> Result<Vec<Pair>, Fail> {
@@ -47,12 +45,7 @@ fn a_record_is_filled(rt: HostRuntime) -> Result<(), Fail> {
     is_filled(&rt, alloc, &second_record(alloc)?, 255)
 }
 
-fn is_filled<X: Abort + Threads + Wait + Sync>(
-    rt: &X,
-    alloc: Global,
-    image: &Image,
-    count: u32,
-) -> Result<(), Fail> {
+fn is_filled<X: Abort>(rt: &X, alloc: Global, image: &Image, count: u32) -> Result<(), Fail> {
     let mut wanted = image.copy()?;
     wanted.place(&pairs_from_300(alloc, count)?)?;
     wanted.name_placed()?;
@@ -61,12 +54,7 @@ fn is_filled<X: Abort + Threads + Wait + Sync>(
 
 // Looks whether each damage of the image is refused with its line, by `replay` and by `list`. The clock tells that nothing was written, and at the
 // end each block is looked at.
-fn refuses<X: Abort + Threads + Wait + Sync>(
-    rt: &X,
-    alloc: Global,
-    image: &Image,
-    damages: &[Damage],
-) -> Result<(), Fail> {
+fn refuses<X: Abort>(rt: &X, alloc: Global, image: &Image, damages: &[Damage]) -> Result<(), Fail> {
     let mut dev = image.device()?;
     for (changes, line) in damages {
         change(alloc, &mut dev, changes)?;
@@ -80,7 +68,7 @@ fn refuses<X: Abort + Threads + Wait + Sync>(
 }
 
 // Replays the image, which is to end as the other.
-fn ends_as<X: Abort + Threads + Wait + Sync>(
+fn ends_as<X: Abort>(
     rt: &X,
     alloc: Global,
     image: &Image,
@@ -148,7 +136,7 @@ fn short_logs_are_replayed(rt: HostRuntime) -> Result<(), Fail> {
     Ok(())
 }
 
-fn short_ends<X: Abort + Threads + Wait + Sync>(
+fn short_ends<X: Abort>(
     rt: &X,
     alloc: Global,
     transactions: &[&[&[Pair]]],
@@ -171,7 +159,7 @@ fn short_logs_are_refused(rt: HostRuntime) -> Result<(), Fail> {
     Ok(())
 }
 
-fn short_refused<X: Abort + Threads + Wait + Sync>(
+fn short_refused<X: Abort>(
     rt: &X,
     alloc: Global,
     transactions: &[&[&[Pair]]],
@@ -192,7 +180,7 @@ fn unread_bytes_are_of_no_account(rt: HostRuntime) -> Result<(), Fail> {
     Ok(())
 }
 
-fn goes_unread<X: Abort + Threads + Wait + Sync>(
+fn goes_unread<X: Abort>(
     rt: &X,
     alloc: Global,
     image: &Image,
@@ -235,7 +223,7 @@ fn a_replay_that_failed_is_repeated(rt: HostRuntime) -> Result<(), Fail> {
 }
 
 // Replays the log of two with the last of these calls failing, and then again.
-fn is_repeated<X: Abort + Threads + Wait + Sync>(
+fn is_repeated<X: Abort>(
     rt: &X,
     alloc: Global,
     image: &Image,
@@ -273,7 +261,7 @@ fn a_crash_is_replayed_again(rt: HostRuntime) -> Result<(), Fail> {
 }
 
 // Replays what a crash left, whatever is printed.
-fn ends_whole<X: Abort + Threads + Wait + Sync>(
+fn ends_whole<X: Abort>(
     rt: &X,
     alloc: Global,
     left: &mut MemoryDevice,
@@ -281,7 +269,7 @@ fn ends_whole<X: Abort + Threads + Wait + Sync>(
     row: usize,
 ) -> Result<(), Fail> {
     let mut out = MemorySink::new(alloc, 100)?;
-    let status = call(rt, alloc, &REPLAY, left, &mut out)?;
+    let status = call(alloc, &REPLAY, left, &mut out)?;
     same_in(rt, &status, &0, row);
     same_in(rt, &wanted.first_difference(left)?, &None, row);
     Ok(())

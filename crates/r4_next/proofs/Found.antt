@@ -374,9 +374,9 @@ work_looked state c new s sound a is = by a is
             (refused_work (state c.dev) (state new.dev) c new s is.command is.servable.work is),
       ),
     )
-    by served.InExtents is = (can is.command is.servable, (refl, is))
+    by served.InExtents is = (can is.command is.servable, (sound, refl, is))
     by (served.Waits w) is = served_waits state c new s sound w is
-    by (served.Out task) is = (can is.command is.servable, is)
+    by (served.Out task) is = (can is.command is.servable, (sound, is))
 
 -- what is answered by a little step is taken
 module _ {D : Type 0} (state : D → State) (c new : CoreSeen D) (s : ScriptNo) (n : Option Command)

@@ -95,14 +95,15 @@ abbrev pub IsReplied :
     {D : Type 0} → (d e : State) → (old new : CoreSeen D) → ScriptNo → Type 0
 IsReplied d e old new s = RepliesTo d e old new s old.broken (next_at old.turns s.0)
 
--- what was done for a script that was served
+-- what was done for a script that was served; after a call of the device failed, nothing goes out
 abbrev pub IsDoneFor :
     {D : Type 0} → (d e : State) → (old new : CoreSeen D) → ScriptNo → Taken → Type 0
-IsDoneFor d e old new s (taken.Work task) = IsServed d e old new s (served.Out task)
+IsDoneFor d e old new s (taken.Work task) =
+    (old.broken ≡ None) × IsServed d e old new s (served.Out task)
 IsDoneFor d e old new s (taken.Replied script) = (script ≡ s) × IsReplied d e old new s
 IsDoneFor d e old new s (taken.Flush atom) = AsksForFlush (tables_of old) s.0 atom × (new ≡ old)
 IsDoneFor d e old new s (taken.InExtents script) =
-    (script ≡ s) × IsServed d e old new s served.InExtents
+    (old.broken ≡ None) × (script ≡ s) × IsServed d e old new s served.InExtents
 IsDoneFor d e old new s t = ⊥
 
 -- ---- one script

@@ -20,7 +20,8 @@ pub fn make_volume<D: Device, K: Sink>(
 ) -> Status
     requires { IsLabel label.now }
     ensures goes { Goes (D.state dev.old) (D.state dev.new) }
-    ensures makes { Makes label.now (D.state dev.old) (K.state out.old) result.code (D.state dev.new) (K.state out.new) }
+    ensures makes { Makes label.now (D.state dev.old) (K.state out.old)
+        result.code (D.state dev.new) (K.state out.new) }
     ensures spares { Spares (IsWritten (D.state dev.old).blocks) (D.state dev.old) (D.state dev.new) }
     ensures any_moment { IsQuiet (D.state dev.old) → MakesInOrder (D.state dev.old) (D.state dev.new) }
 {

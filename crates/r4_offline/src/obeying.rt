@@ -12,7 +12,7 @@ use r4_outside::{Device, Sink};
 use r4_words::Offline;
 use std::alloc::Global;
 
-/// Does a command, and prints a listing or one line.
+/// Does a command, and prints a listing or one line. A label is one that `mkfs` takes, and a path is not empty.
 pub fn obey<D: Device, K: Sink>(
     alloc: Global,
     command: Offline<'_>,
@@ -25,7 +25,8 @@ pub fn obey<D: Device, K: Sink>(
         result.code (D.state dev.new) (K.state out.new) }
 
     // What a crash at any moment of the call leaves.
-    ensures any_moment { IsQuiet (D.state dev.old) → HasMoments (asked_offline command.entry) (D.state dev.old) (D.state dev.new) }
+    ensures any_moment { IsQuiet (D.state dev.old)
+        → HasMoments (asked_offline command.entry) (D.state dev.old) (D.state dev.new) }
 {
     match command {
         Offline::Replay => replay_image(alloc, dev, out),

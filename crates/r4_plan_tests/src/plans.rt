@@ -17,9 +17,8 @@ use r4_space::SpaceMap;
 use r4_testing::{REPLAY, call};
 use std::alloc::Global;
 use std::process::Abort;
-use std::sync::{Arc, Wait};
+use std::sync::Arc;
 use std::test::Fail;
-use std::thread::Threads;
 
 // What is printed of the root directory.
 const BEFORE: &[u8] = b"d 0755 2 0 0 0 /\n";
@@ -77,7 +76,7 @@ fn is_listed<X: Abort>(
 }
 
 // Looks at what a crash leaves, as it is, and after a replay.
-fn is_whole<X: Abort + Threads + Wait + Sync>(
+fn is_whole<X: Abort>(
     rt: &X,
     alloc: Global,
     left: &mut MemoryDevice,
@@ -86,17 +85,13 @@ fn is_whole<X: Abort + Threads + Wait + Sync>(
 ) -> Result<(), Fail> {
     is_listed(rt, alloc, left, moment, texts)?;
     let mut out = MemorySink::new(alloc, 100)?;
-    let status = call(rt, alloc, &REPLAY, left, &mut out)?;
+    let status = call(alloc, &REPLAY, left, &mut out)?;
     same_in(rt, &status, &0, moment as usize);
     is_listed(rt, alloc, left, moment, texts)
 }
 
 // Lets the machine stop at each moment of the commit of the leaf.
-fn look_at_crashes<X: Abort + Threads + Wait + Sync>(
-    rt: &X,
-    alloc: Global,
-    dev: &MemoryDevice,
-) -> Result<(), Fail>
+fn look_at_crashes<X: Abort>(rt: &X, alloc: Global, dev: &MemoryDevice) -> Result<(), Fail>
     requires { TellsCrashes (memory_state dev.now) }
 {
     for moment in 0..15 {
@@ -109,11 +104,7 @@ fn look_at_crashes<X: Abort + Threads + Wait + Sync>(
 }
 
 // Lets the machine stop within each call of the commit of the leaf.
-fn look_at_torn_writes<X: Abort + Threads + Wait + Sync>(
-    rt: &X,
-    alloc: Global,
-    dev: &MemoryDevice,
-) -> Result<(), Fail>
+fn look_at_torn_writes<X: Abort>(rt: &X, alloc: Global, dev: &MemoryDevice) -> Result<(), Fail>
     requires { TellsCrashes (memory_state dev.now) }
 {
     for moment in 1..15 {
@@ -154,11 +145,7 @@ fn commit_leaf(alloc: Global, dev: &mut MemoryDevice, space: &mut SpaceMap) -> R
 }
 
 // Looks at the device of which the leaf's commit is made.
-fn look_at_leaf<X: Abort + Threads + Wait + Sync>(
-    rt: &X,
-    alloc: Global,
-    dev: &mut MemoryDevice,
-) -> Result<(), Fail>
+fn look_at_leaf<X: Abort>(rt: &X, alloc: Global, dev: &mut MemoryDevice) -> Result<(), Fail>
     requires { TellsCrashes (memory_state dev.old) }
 {
     same(rt, &dev.clock(), &14, "writes and syncs");
@@ -174,7 +161,7 @@ fn look_at_leaf<X: Abort + Threads + Wait + Sync>(
 #[test]
 fn a_leaf_is_committed(rt: HostRuntime) -> Result<(), Fail> {
     let alloc = rt.alloc();
-    let mut dev = volume(&rt, alloc, 64)?;
+    let mut dev = volume(alloc, 64)?;
     let mut space = space_of(alloc, &mut dev, 40)?;
     commit_leaf(alloc, &mut dev, &mut space)?;
     look_at_leaf(&rt, alloc, &mut dev)?;
@@ -249,7 +236,7 @@ fn look_at_second<X: Abort>(rt: &X, alloc: Global, dev: &mut MemoryDevice) -> Re
 #[test]
 fn commits_follow_each_other(rt: HostRuntime) -> Result<(), Fail> {
     let alloc = rt.alloc();
-    let mut dev = volume(&rt, alloc, 64)?;
+    let mut dev = volume(alloc, 64)?;
     let mut space = space_of(alloc, &mut dev, 40)?;
     commit_data(alloc, &mut dev, &mut space)?;
     same(&rt, &dev.clock(), &13, "writes and syncs");
@@ -307,17 +294,13 @@ fn commit_many(alloc: Global, dev: &mut MemoryDevice, space: &mut SpaceMap) -> R
 }
 
 // Lets the machine stop before the header is synced, and right after.
-fn look_at_stops<X: Abort + Threads + Wait + Sync>(
-    rt: &X,
-    alloc: Global,
-    dev: &MemoryDevice,
-) -> Result<(), Fail>
+fn look_at_stops<X: Abort>(rt: &X, alloc: Global, dev: &MemoryDevice) -> Result<(), Fail>
     requires { TellsCrashes (memory_state dev.now) }
 {
     // The header is synced by call 308.
     for (moment, line, byte) in [(200, "replayed 0\n", 0), (308, "replayed 1\n", 9)] {
         let mut left = dev.crash(alloc, moment, 1)?;
-        replays(rt, alloc, &mut left, 0, line)?;
+        replays(alloc, &mut left, 0, line)?;
         are_filled(rt, alloc, &mut left, byte)?;
     }
     Ok(())
@@ -326,7 +309,7 @@ fn look_at_stops<X: Abort + Threads + Wait + Sync>(
 #[test]
 fn many_cells_are_committed(rt: HostRuntime) -> Result<(), Fail> {
     let alloc = rt.alloc();
-    let mut dev = volume(&rt, alloc, 1024)?;
+    let mut dev = volume(alloc, 1024)?;
     let mut space = space_of(alloc, &mut dev, 1000)?;
     fill(&rt, &mut space);
     commit_many(alloc, &mut dev, &mut space)?;

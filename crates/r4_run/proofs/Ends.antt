@@ -1,7 +1,5 @@
 -- What the status and the printed text tell of a run's end.
-use Rattle.std.proofs.Common.{◌≡◌, ◌⊎◌, ◌++◌, inl, inr, refl, sym, subst, ap, ◌∙◌, ℕ, List, [], Option, Some, None, Result, Ok, Err, IsSome}
-use Rattle.std.specs.Option.{option_map}
-use Rattle.r4_base.specs.Image.{Image}
+use Rattle.std.proofs.Common.{◌≡◌, ◌++◌, inl, inr, sym, subst, ℕ, List, [], Option, Some, None, Result, Ok, Err, IsSome}
 use Rattle.r4_base.specs.Volume.{HasVolume}
 use Rattle.r4_content.specs.Locality.{Meaning, commands}
 use Rattle.r4_content.specs.Meaning.{greatest_size}
@@ -58,7 +56,7 @@ module _ (text : List ℕ) (old mid new : SinkState) where
       subst (λ m. Prints (text ++ device_line e.clock e.faults) old m) (sym same) (inr (appends_stopped text _ old mid tt tt (gets_part q)))
 
 -- what is known of a run that stands so
-pub StandsFor : Names → Asked → List Entry → State → Standing → Type 0
+abbrev pub StandsFor : Names → Asked → List Entry → State → Standing → Type 0
 StandsFor r job trace e Whole = IsWholeRun r job trace e
 StandsFor r job trace e Broken = IsSome (broken_at trace)
 StandsFor r job trace e Unfinished = Unit {0}
@@ -72,21 +70,24 @@ ends_so r job trace before e s printed code old mid new stands prints tells = re
   codes = tells.codes;
   done = λ z. let t = tells.done z in (
     subst (λ x. StandsFor r job trace e x) t.0 stands,
-    subst (λ m. Gets (trace_text trace) old m) (sym t.2) (gets_of (trace_text trace) old mid new (subst (λ x. PrintsSome (trace_text trace) old x mid) t.1 prints)));
+    subst (λ m. Gets (trace_text trace) old m) (sym t.2) (gets_of (trace_text trace) old mid new (subst (λ x. PrintsSome (trace_text trace) old x mid) t.1 prints)),
+  );
   sink = λ z. let t = tells.sink z in (
     subst (λ x. StandsFor r job trace e x) t.0 stands,
-    subst (λ m. GetsPart (trace_text trace) old m) (sym t.2) (gets_part (trace_text trace) old mid new (subst (λ x. PrintsSome (trace_text trace) old x mid) t.1 prints)));
+    subst (λ m. GetsPart (trace_text trace) old m) (sym t.2) (gets_part (trace_text trace) old mid new (subst (λ x. PrintsSome (trace_text trace) old x mid) t.1 prints)),
+  );
   device = λ z. let t = tells.device z in (
     subst (λ x. StandsFor r job trace e x) t.0 stands,
     t.1,
-    device_behind (trace_text trace) old mid new e printed prints t.2);
+    device_behind (trace_text trace) old mid new e printed prints t.2,
+  );
   memory = λ z. (mid, record { result = printed; prints = prints }, tells.memory z);
 }
 
 -- what is known of a core that stands so, once its device is back
 pub stands_for : {D : Type 0} (r : Names) (c : CoreSeen D) (e : State) (s : Standing) → StandsSo c s
     → ((b : Beginning) → IsNamed r e.blocks b → c.broken ≡ None → c.commit ≡ None → HasVolume e.blocks e.seen
-        (after_first (commands greatest_size) b.content c.trace.entries (committed_in c.trace.entries)))
+    (after_first (commands greatest_size) b.content c.trace.entries (committed_in c.trace.entries)))
     → c.broken ≡ broken_at c.trace.entries → StandsFor r (asked c.turns.job) c.trace.entries e s
 stands_for r c e Whole so volume told = record { whole = so.whole; volume = λ b is. volume b is so.sound so.rests }
 stands_for r c e Broken so volume told = subst (λ (o : Option ℕ). IsSome o) told so

@@ -1,1 +1,4 @@
 pub mod Ends
+pub mod Told
+pub mod Scripted
+pub mod Closing

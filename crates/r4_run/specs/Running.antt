@@ -1,8 +1,8 @@
 -- What a run leaves (docs/program.md, "Running").
 --     Ran    one trace, which the device, the status and the sink agree with
-use Rattle.std.specs.Prelude.{◌≡◌, ◌⊎◌, ◌++◌, ℕ, ◌≤◌, List, [], Option, Some, None, IsSome, Result}
+use Rattle.std.specs.Prelude.{◌≡◌, ◌⊎◌, ◌++◌, ℕ, ◌≤◌, List, [], Option, Some, IsSome, Result}
 use Rattle.std.specs.Option.{option_map}
-use Rattle.r4_base.specs.Image.{Image}
+use Rattle.r4_base.specs.Image.{Image, IsLawful as IsSize}
 use Rattle.r4_base.specs.Volume.{HasVolume}
 use Rattle.r4_base.specs.Words.{layout_word_of, log_word_of}
 use Rattle.r4_content.specs.Locality.{commands}
@@ -15,7 +15,7 @@ use Rattle.r4_outside.specs.Device.{Rose, State}
 use Rattle.r4_outside.specs.Sink.{SinkState}
 use Rattle.r4_print.specs.Printing.{Prints as PrintsSome}
 use Rattle.r4_print.specs.declared.printing.PrintFault.{PrintFault}
-use Rattle.r4_start.specs.Opening.{IsOpenFault}
+use Rattle.r4_start.specs.Starting.{IsOpenFault}
 use Rattle.r4_start.specs.declared.fault.OpenWhy.{OpenWhy}
 use Rattle.r4_start.specs.declared.fault.OpenWhy.TheVariants.{Device, Image as OfImage, Log, Memory, Size}
 use Rattle.r4_trace.specs.Folds.{after_first}
@@ -94,8 +94,9 @@ pub record Ran
   where
     pub trace : List Entry
     pub is : IsTraceOf (named start clock job) e trace
+    -- an unlawful number of blocks is not passed over
     pub ends : IsUnopened d trace old code e new
-        ⊎ Ends (named start clock job) job trace d.faults old code e new
+        ⊎ (IsSize d.blocks × Ends (named start clock job) job trace d.faults old code e new)
 
 -- ---- its end, as its core tells it
 

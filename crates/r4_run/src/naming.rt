@@ -62,7 +62,18 @@ fn begin<E: Device, K: Sink, G: Gate, N: Run, X: Threads + Wait + Sync>(
         (E.state result.dev) (K.state out.new) }
 {
     let _ = text;
-    go_on(rt, alloc, dev, text, job, threads, gate, out, names, Named::new())
+    go_on(
+        rt,
+        alloc,
+        dev,
+        text,
+        job,
+        threads,
+        gate,
+        out,
+        names,
+        Named::new(),
+    )
 }
 
 // The device is known to go on from here, wherever it comes back.
@@ -89,8 +100,9 @@ fn go_on<E: Device, K: Sink, G: Gate, N: Run, O: Origin, X: Threads + Wait + Syn
 {
     let _ = (names, origin);
     let dev: FromStart<E, O> = FromStart::new(dev);
-    let Ended { dev, code } =
-        session::<FromStart<E, O>, K, G, N, X>(rt, alloc, dev, text, job, threads, gate, out);
+    let Ended { dev, code } = session::<FromStart<E, O>, K, G, N, X>(
+        rt, alloc, dev, text, job, threads, gate, out,
+    );
     Ended {
         dev: dev.into_inner(),
         code,

@@ -11,7 +11,9 @@ use std::thread::Threads;
 
 /// The words that run scripts by one thread, and those that list the root.
 pub(crate) static RUN: [&str; 2] = ["run", "image"];
+
 pub(crate) static LIST: [&str; 2] = ["list", "image"];
+
 pub(crate) static REPLAY: [&str; 2] = ["replay", "image"];
 
 /// Calls the program with these words and this text of scripts, and gives its status.

@@ -64,7 +64,10 @@ fn sink_that_fails_leaves_the_volume(rt: HostRuntime) -> Result<(), Fail> {
     out.fail(alloc, 2)?;
     assert_eq!(&rt; call(&rt, alloc, &RUN, &mut dev, TEXT, &mut out)?, 5);
     let listed = printed(&rt, alloc, &LIST, &mut dev, "", 0)?;
-    assert_eq!(&rt; listed.as_slice(), b"d 0755 2 0 0 1 /\nf 0644 1 0 0 0 /a\n".as_slice());
+    assert_eq!(&rt;
+        listed.as_slice(),
+        b"d 0755 2 0 0 1 /\nf 0644 1 0 0 0 /a\n".as_slice()
+    );
     Ok(())
 }
 
@@ -90,7 +93,10 @@ fn is_whole<X: Threads + Wait + Sync>(
     let mut out = MemorySink::new(alloc, 100)?;
     let _ = call(rt, alloc, &REPLAY, dev, "", &mut out)?;
     let listed = printed(rt, alloc, &LIST, dev, "", 0)?;
-    let (before, after) = ("d 0755 2 0 0 0 /\n", "d 0755 2 0 0 1 /\nf 0644 1 0 0 0 /a\n");
+    let (before, after) = (
+        "d 0755 2 0 0 0 /\n",
+        "d 0755 2 0 0 1 /\nf 0644 1 0 0 0 /a\n",
+    );
     Ok(listed.as_slice() == before.as_bytes() || listed.as_slice() == after.as_bytes())
 }
 

@@ -55,7 +55,10 @@ fn whole_atoms_are_left_wherever_the_device_stops(rt: HostRuntime) -> Result<(),
         let (status, told, state) = stopped(&rt, rt.alloc(), writes, tear)?;
         let whole = state == Some(told) || state == Some(told.saturating_add(1));
         assert!(&rt; whole, "{writes}: {told} {state:?}");
-        assert!(&rt; status == 6 || (status == 0 && told == 2), "{writes}: {status} {told}");
+        assert!(&rt;
+            status == 6 || (status == 0 && told == 2),
+            "{writes}: {status} {told}"
+        );
     }
     Ok(())
 }

@@ -13,7 +13,9 @@ static WORDS: [&str; 4] = ["run", "image", "--threads", "16"];
 fn text(alloc: Global) -> Result<String, Fail> {
     let mut text = String::new(alloc);
     for i in 0..SCRIPTS {
-        let script = format!(in alloc; "script\ncreate /f{i}\nwrite /f{i} 0 {i}\ncommit\nstat /f{i}\ncommit\n")?;
+        let script = format!(in alloc;
+            "script\ncreate /f{i}\nwrite /f{i} 0 {i}\ncommit\nstat /f{i}\ncommit\n"
+        )?;
         text.push_str(script.as_str())?;
     }
     Ok(text)

@@ -9,7 +9,6 @@ use Rattle.r4_base.specs.declared.things.ScriptNo.{ScriptNo}
 use Rattle.r4_build.specs.declared.built.Built.{Built}
 use Rattle.r4_build.specs.declared.task.BuildFault.{BuildFault}
 use Rattle.r4_content.specs.declared.reply.Reply.TheVariants.{Memory}
-use Rattle.r4_history.specs.declared.why.Why.{Why}
 use Rattle.r4_next.specs.r4_kept.View.{CoreSeen}
 use Rattle.r4_next.specs.Taking.{Takes}
 use Rattle.r4_next.specs.declared.taken.Taken.TheVariants as taken

@@ -1,6 +1,7 @@
 //! What the threads left of a run is done by whoever has the core alone.
 
-ghost use Rattle.std.specs.Prelude.{◌≡◌, IsTrue, None};
+ghost use Rattle.std.specs.Prelude.{◌≡◌, ℕ, IsTrue, None};
+ghost use Rattle.r4_atoms.specs.Atoms.{IsClosedAtom};
 ghost use Rattle.r4_history.specs.Tables.{asked};
 ghost use Rattle.r4_shared.specs.Finishing.{AllAnswered, IsAnswered};
 ghost use Rattle.r4_trace.specs.Legal.{IsWhole};
@@ -10,8 +11,8 @@ use crate::stepping::{Next, bring_back, next_step};
 use r4_apply::recall;
 use r4_base::{Memory, ScriptNo};
 use r4_build::build;
-use r4_next::{Core, Step};
 use r4_history::runs_are_whole;
+use r4_next::{Core, Step};
 use r4_outside::{Device, Gate, Run};
 use r4_seal::flush;
 use r4_turns::Turns;
@@ -87,10 +88,16 @@ pub fn is_over<D: Device, R: Run>(core: &Core<D, R>) -> bool
 {
     core.lawful();
     runs_are_whole();
-    core.broken().is_none()
-        && core.atom_under_way().is_none()
-        && core.next_atom().is_none()
-        && are_answered(core.turns())
+    is_at_rest(core) && are_answered(core.turns())
+}
+
+// Whether no call of the device failed, no commit is under way, and no atom is left to be sealed.
+fn is_at_rest<D: Device, R: Run>(core: &Core<D, R>) -> bool
+    ensures sound { IsTrue result → core.now.broken ≡ None }
+    ensures rests { IsTrue result → core.now.commit ≡ None }
+    ensures none { IsTrue result → (a : ℕ) → IsClosedAtom core.now.atoms a → ⊥ }
+{
+    core.broken().is_none() && core.atom_under_way().is_none() && core.next_atom().is_none()
 }
 
 // Whether each script is answered whole, and stands outside of transactions.

@@ -1,19 +1,20 @@
 //! The steps of a run, each of which any core allows.
 
-ghost use Rattle.std.specs.Prelude.{◌≡◌, ◌⊎◌, IfOk, None};
+ghost use Rattle.std.specs.Prelude.{◌≡◌, ℕ, IfOk, None};
 ghost use Rattle.r4_apply.specs.declared.applying.Applied.{Applied as Answer};
-ghost use Rattle.r4_atoms.specs.Atoms.{IsClosedAtom};
+ghost use Rattle.r4_apply.specs.r4_back.Backing.{GivesBack, RefusesMemory};
 ghost use Rattle.r4_content.specs.declared.command.Command.{Command};
-ghost use Rattle.r4_seal.specs.Flushing.{IsFlushed, RefusesWaiting};
+ghost use Rattle.r4_history.specs.Serving.{AsksForFlush};
 ghost use Rattle.r4_shared.specs.Stepping.{AppliesOr, BringsBack, BuildsNext, IsFlushedAs, IsNext, RefusesNext};
+ghost use Rattle.r4_next.specs.r4_kept.View.{tables_of};
 ghost use Rattle.r4_next.specs.r4_take.Sending.{IsServable};
 
 use r4_apply::{Applied, apply, give_back, refuse_memory};
 use r4_base::{AtomNo, Memory, ScriptNo};
 use r4_build::{BuildFault, Built, Task};
 use r4_content::Reply;
-use r4_next::{Core, Taken, refuse, take};
 use r4_history::Why;
+use r4_next::{Core, Taken, refuse, take};
 use r4_outside::{Device, Run};
 use r4_seal::flush;
 use std::alloc::{AllocError, Global};
@@ -60,9 +61,10 @@ pub fn next_step<D: Device, R: Run>(core: &mut Core<D, R>, alloc: Global) -> Res
 fn flush_next<D: Device, R: Run>(core: &mut Core<D, R>, alloc: Global, atom: AtomNo) -> Next
     requires sound { core.old.broken ≡ None }
     requires rest { core.old.commit ≡ None }
-    requires closed { IsClosedAtom core.old.atoms atom.0 }
+    requires asked { (script : ℕ) × AsksForFlush (tables_of core.old) script atom }
     ensures { IsFlushedAs core.old core.new atom result }
 {
+    core.lawful();
     match flush(core, alloc, atom) {
         Ok(()) => Next::Flushed(atom),
         Err(AllocError) => Next::Unflushed(atom),
@@ -94,9 +96,16 @@ pub fn bring_back<D: Device, R: Run>(
     ensures { BringsBack core.old core.new built }
 {
     match built {
-        Err(BuildFault { task }) => refuse_memory(core, &task),
+        Err(BuildFault { task }) => refuse_task(core, task),
         Ok(built) => apply_built(core, alloc, built),
     }
+}
+
+// The command of a task is told that there is no memory.
+fn refuse_task<D: Device, R: Run>(core: &mut Core<D, R>, task: Task)
+    ensures { RefusesMemory core.old core.new task }
+{
+    refuse_memory(core, &task);
 }
 
 // What was built is applied.
@@ -105,6 +114,13 @@ fn apply_built<D: Device, R: Run>(core: &mut Core<D, R>, alloc: Global, built: B
 {
     match apply(core, alloc, built) {
         Applied::Done | Applied::Gone { .. } => (),
-        Applied::Stale { task, .. } => give_back(core, &task),
+        Applied::Stale { task, .. } => give_task_back(core, task),
     }
+}
+
+// A task is given back.
+fn give_task_back<D: Device, R: Run>(core: &mut Core<D, R>, task: Task)
+    ensures { GivesBack core.old core.new task }
+{
+    give_back(core, &task);
 }

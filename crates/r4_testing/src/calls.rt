@@ -1,13 +1,12 @@
-//! The program's call, over memory.
+//! An offline command, over memory.
 
 ghost use Rattle.r4_outside.specs.Device.{Goes};
 
-use r4_outside::{Device, MemorySink, MemorySource, OpenGate, Unnamed};
-use r4_top::r4_main;
+use r4_offline::{Status, obey};
+use r4_outside::{Device, MemorySink};
+use r4_words::{Command, read_words};
 use std::alloc::Global;
-use std::sync::Wait;
 use std::test::Fail;
-use std::thread::Threads;
 
 /// The words that replay an image.
 pub static REPLAY: [&str; 2] = ["replay", "image"];
@@ -15,9 +14,8 @@ pub static REPLAY: [&str; 2] = ["replay", "image"];
 /// The words that list the root of an image.
 pub static LIST: [&str; 2] = ["list", "image"];
 
-/// Calls the program with these words, and gives its status.
-pub fn call<D: Device, X: Threads + Wait + Sync>(
-    rt: &X,
+/// Does the offline command that these words spell, and gives its status; other words fail.
+pub fn call<D: Device>(
     alloc: Global,
     words: &[&str],
     dev: &mut D,
@@ -29,16 +27,11 @@ pub fn call<D: Device, X: Threads + Wait + Sync>(
     for word in words {
         owned.push(String::from_str(alloc, word)?)?;
     }
-    let mut script = MemorySource::new(alloc, b"")?;
-    let status = r4_main(
-        rt,
-        alloc,
-        &owned,
-        dev,
-        &mut script,
-        out,
-        &OpenGate,
-        Unnamed::new(),
-    );
-    Ok(status.code)
+    match read_words(&owned) {
+        Some(Command::Offline(command)) => {
+            let Status { code } = obey(alloc, command, dev, out);
+            Ok(code)
+        }
+        _ => Err(Fail::from("these words spell no offline command")),
+    }
 }

@@ -1,4 +1,4 @@
-//! What the crates of tests share: the program's call over memory.
+//! What the crates of tests share: the offline commands over memory, by their words.
 #![tactic(auto)]
 
 mod calls;

@@ -1,10 +1,12 @@
-//! A file as a device, what is said on standard error, and the buffer of standard output.
+//! A file as a device, what is said on standard error, the buffer of standard output, and faulty words.
 
 use crate::complaints::{of_device, of_image, of_memory, of_size};
 use crate::streams::OutputText;
 use r4_base::{Block, BlockNo};
 use r4_devices::{FileCall, FileDevice, Trouble};
-use r4_outside::{Device, Failed, Sink};
+use r4_outside::{Device, Failed, MemoryDevice, MemorySink, MemorySource, OpenGate, Sink, Unnamed};
+use r4_top::{Status, r4_main};
+use std::alloc::Global;
 use std::test::Fail;
 use std::{fs, io, process};
 
@@ -117,5 +119,50 @@ fn text_is_gathered(rt: HostRuntime) -> Result<(), Fail> {
     assert_eq!(rt; out.last(), b"memo".as_slice());
     assert_eq!(rt; out.flush(), Err(Failed));
     assert_eq!(rt; out.faults(), 1);
+    Ok(())
+}
+
+// Words that spell no command, and what is printed then.
+static FAULTY_WORDS: [&[&str]; 5] = [
+    &[],
+    &["replay"],
+    &["replay", "img", "more"],
+    &["run", "img", "--threads", "17"],
+    &["frob", "img"],
+];
+
+const USAGE: &[u8] = b"usage: r4_tool replay, mkfs, run, list or check, then IMAGE and options\n";
+
+// The words, each with memory of its own.
+fn owned(alloc: Global, words: &[&str]) -> Result<Vec<String>, Fail> {
+    let mut all = Vec::new(alloc);
+    for word in words {
+        all.push(String::from_str(alloc, word)?)?;
+    }
+    Ok(all)
+}
+
+#[test]
+fn faulty_words_are_refused(rt: HostRuntime) -> Result<(), Fail> {
+    let alloc = rt.alloc();
+    let mut dev = MemoryDevice::new(alloc, 64)?;
+    let mut script = MemorySource::new(alloc, b"")?;
+    for words in &FAULTY_WORDS {
+        let words = owned(alloc, words)?;
+        let mut out = MemorySink::new(alloc, 100)?;
+        let Status { code } = r4_main(
+            &rt,
+            alloc,
+            &words,
+            &mut dev,
+            &mut script,
+            &mut out,
+            &OpenGate,
+            Unnamed::new(),
+        );
+        assert_eq!(rt; code, 2);
+        assert_eq!(rt; out.written(), USAGE);
+    }
+    assert_eq!(rt; dev.clock(), 0);
     Ok(())
 }

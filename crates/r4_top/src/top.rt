@@ -36,8 +36,10 @@ pub fn r4_main<D: Device, S: Source, K: Sink, G: Gate, R: Run, X: Threads + Wait
 ) -> Status
     requires begins { Begins R.start R.clock (D.state dev.old) }
     ensures goes { Goes (D.state dev.old) (D.state dev.new) }
-    ensures script { LeavesSource (asked_of (map string_bytes words.now)) (S.state script.old) (S.state script.new) }
-    ensures answers { Answers (asked_of (map string_bytes words.now)) (D.state dev.old) (K.state out.old) result.code (D.state dev.new) (K.state out.new) }
+    ensures script { LeavesSource (asked_of (map string_bytes words.now))
+        (S.state script.old) (S.state script.new) }
+    ensures answers { Answers (asked_of (map string_bytes words.now)) (D.state dev.old) (K.state out.old)
+        result.code (D.state dev.new) (K.state out.new) }
 
     // One trace tells what a run did, what it printed, and what a crash at any moment leaves.
     ensures runs { IsRun (asked_of (map string_bytes words.now)) → Runs R.start R.clock
@@ -45,7 +47,8 @@ pub fn r4_main<D: Device, S: Source, K: Sink, G: Gate, R: Run, X: Threads + Wait
         (D.state dev.old) (K.state out.old) result.code (D.state dev.new) (K.state out.new) }
 
     // What a crash at any moment of another call leaves.
-    ensures any_moment { IsQuiet (D.state dev.old) → HasMoments (asked_of (map string_bytes words.now)) (D.state dev.old) (D.state dev.new) }
+    ensures any_moment { IsQuiet (D.state dev.old)
+        → HasMoments (asked_of (map string_bytes words.now)) (D.state dev.old) (D.state dev.new) }
 {
     match read_words(words) {
         None => refuse_words(out),

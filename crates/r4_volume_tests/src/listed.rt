@@ -10,9 +10,7 @@ use r4_outside::{Device, MemoryDevice, MemorySink};
 use r4_testing::call;
 use std::alloc::Global;
 use std::process::Abort;
-use std::sync::Wait;
 use std::test::Fail;
-use std::thread::Threads;
 
 const ROOT: Target = Target {
     locality: 41,
@@ -39,7 +37,7 @@ fn attr(mode: u16, nlink: u32, size: u64) -> Attr {
 }
 
 // Lists a path, and looks at the status and at what is printed; nothing is written.
-fn lists<X: Abort + Threads + Wait + Sync>(
+fn lists<X: Abort>(
     rt: &X,
     alloc: Global,
     dev: &mut MemoryDevice,
@@ -49,7 +47,7 @@ fn lists<X: Abort + Threads + Wait + Sync>(
 ) -> Result<(), Fail> {
     let mut out = MemorySink::new(alloc, 100)?;
     let before = dev.clock();
-    let code = call(rt, alloc, &["list", "image", path], dev, &mut out)?;
+    let code = call(alloc, &["list", "image", path], dev, &mut out)?;
     same(rt, &code, &status, path);
     same(rt, &out.written(), &text, path);
     same(rt, &dev.clock(), &before, path);
@@ -57,16 +55,13 @@ fn lists<X: Abort + Threads + Wait + Sync>(
 }
 
 // A tree of height 3 with the file /f, of 12000 bytes: a block of a, a hole, a block of b.
-fn with_extents<X: Abort + Threads + Wait + Sync>(
-    rt: &X,
-    alloc: Global,
-) -> Result<MemoryDevice, Fail> {
+fn with_extents(alloc: Global) -> Result<MemoryDevice, Fail> {
     let shape = Shape {
         height: 3,
         objects: 2,
         used: 0b0111,
     };
-    let mut dev = volume(rt, alloc, shape)?;
+    let mut dev = volume(alloc, shape)?;
     let f = object(Oid(42), b"f", 65_536)?;
     let leaf = [
         Item::stat(alloc, ROOT, &attr(0o40755, 2, 1))?,
@@ -99,7 +94,7 @@ static PATHS: [(&str, &str); 6] = [
 #[test]
 fn a_file_in_extents_is_listed(rt: HostRuntime) -> Result<(), Fail> {
     let alloc = rt.alloc();
-    let mut dev = with_extents(&rt, alloc)?;
+    let mut dev = with_extents(alloc)?;
     for &(path, text) in &PATHS {
         lists(&rt, alloc, &mut dev, path, 0, text.as_bytes())?;
     }
@@ -120,7 +115,7 @@ const READS: u64 = 9;
 fn failures_end_a_listing(rt: HostRuntime) -> Result<(), Fail> {
     let alloc = rt.alloc();
     for read in 1..READS + 2 {
-        let mut dev = with_extents(&rt, alloc)?;
+        let mut dev = with_extents(alloc)?;
         dev.fail(alloc, read)?;
         let (status, text) = if read > READS {
             (0, PATHS[0].1)
@@ -129,10 +124,10 @@ fn failures_end_a_listing(rt: HostRuntime) -> Result<(), Fail> {
         };
         lists(&rt, alloc, &mut dev, "/", status, text.as_bytes())?;
     }
-    let mut dev = with_extents(&rt, alloc)?;
+    let mut dev = with_extents(alloc)?;
     let mut out = MemorySink::new(alloc, 100)?;
     out.fail(alloc, 1)?;
-    let code = call(&rt, alloc, &["list", "image"], &mut dev, &mut out)?;
+    let code = call(alloc, &["list", "image"], &mut dev, &mut out)?;
     same(&rt, &code, &5, "status");
     same(&rt, &out.written(), &b"".as_slice(), "text");
     Ok(())
@@ -153,7 +148,7 @@ fn a_pointer_to_no_node_is_refused(rt: HostRuntime) -> Result<(), Fail> {
         used: 0,
     };
     for &(to, line) in &POINTERS {
-        let mut dev = volume(&rt, alloc, shape)?;
+        let mut dev = volume(alloc, shape)?;
         let root = [Item::pointer(alloc, LEAST, to)?];
         put(alloc, &mut dev, 22, node(alloc, 2, &root)?.as_slice())?;
         let mut dev = finished(alloc, dev)?;
@@ -180,7 +175,7 @@ fn a_high_tree_is_listed(rt: HostRuntime) -> Result<(), Fail> {
         objects: 1,
         used: 0b11_1111,
     };
-    let mut dev = volume(&rt, alloc, shape)?;
+    let mut dev = volume(alloc, shape)?;
     put_one(alloc, &mut dev, 22, 8, 24)?;
     put_one(alloc, &mut dev, 24, 7, 25)?;
     put_one(alloc, &mut dev, 25, 6, 26)?;
@@ -201,7 +196,7 @@ fn a_directory_is_listed_once(rt: HostRuntime) -> Result<(), Fail> {
         objects: 3,
         used: 0,
     };
-    let mut dev = volume(&rt, alloc, shape)?;
+    let mut dev = volume(alloc, shape)?;
     let d = object(Oid(42), b"a", 65_536)?;
     let x = object(Oid(65_536), b"x", 65_537)?;
     let leaf = [
@@ -226,7 +221,7 @@ fn a_long_name_is_listed(rt: HostRuntime) -> Result<(), Fail> {
         objects: 2,
         used: 0,
     };
-    let mut dev = volume(&rt, alloc, shape)?;
+    let mut dev = volume(alloc, shape)?;
     let name = [b'n'; 255];
     let f = object(Oid(42), &name, 65_536)?;
     let leaf = [

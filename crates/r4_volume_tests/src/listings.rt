@@ -11,15 +11,13 @@ use r4_outside::{Device, MemoryDevice, MemorySink};
 use r4_testing::call;
 use std::alloc::Global;
 use std::process::Abort;
-use std::sync::Wait;
 use std::test::Fail;
-use std::thread::Threads;
 
 // A fresh volume of 64 blocks, of which no call was made.
-fn volume<X: Abort + Threads + Wait + Sync>(rt: &X, alloc: Global) -> Result<MemoryDevice, Fail> {
+fn volume<X: Abort>(rt: &X, alloc: Global) -> Result<MemoryDevice, Fail> {
     let mut dev = MemoryDevice::new(alloc, 64)?;
     let mut out = MemorySink::new(alloc, 100)?;
-    let code = call(rt, alloc, &["mkfs", "image"], &mut dev, &mut out)?;
+    let code = call(alloc, &["mkfs", "image"], &mut dev, &mut out)?;
     same(rt, &code, &0, "made");
     Ok(dev.crash(alloc, dev.clock(), 0)?)
 }

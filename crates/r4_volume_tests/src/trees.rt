@@ -10,10 +10,7 @@ use r4_meta::write_stat;
 use r4_outside::{Device, MemoryDevice, MemorySink};
 use r4_testing::call;
 use std::alloc::Global;
-use std::process::Abort;
-use std::sync::Wait;
 use std::test::Fail;
-use std::thread::Threads;
 
 /// Bytes that are spelled one after the other.
 #[derive(Drop)]
@@ -265,16 +262,12 @@ pub struct Shape {
 }
 
 /// A fresh volume of 64 blocks whose superblock and bitmap say this.
-pub fn volume<X: Abort + Threads + Wait + Sync>(
-    rt: &X,
-    alloc: Global,
-    shape: Shape,
-) -> Result<MemoryDevice, Fail>
+pub fn volume(alloc: Global, shape: Shape) -> Result<MemoryDevice, Fail>
     ensures { IfOk result (λ d. TellsCrashes (memory_state d)) }
 {
     let mut dev = MemoryDevice::new(alloc, 64)?;
     let mut out = MemorySink::new(alloc, 100)?;
-    call(rt, alloc, &["mkfs", "image"], &mut dev, &mut out)?;
+    call(alloc, &["mkfs", "image"], &mut dev, &mut out)?;
     if dev.blocks()? != 64 {
         return Err(Fail::from("no volume was made"));
     }

@@ -46,7 +46,7 @@ fn volumes_are_made(rt: HostRuntime) -> Result<(), Fail> {
     for (row, &(blocks, status, line)) in SIZES.iter().enumerate() {
         let mut dev = MemoryDevice::plain(rt.alloc(), blocks)?;
         let mut out = MemorySink::new(rt.alloc(), 100)?;
-        let code = call(&rt, rt.alloc(), &MKFS, &mut dev, &mut out)?;
+        let code = call(rt.alloc(), &MKFS, &mut dev, &mut out)?;
         same_in(&rt, &code, &status, row);
         same_in(&rt, &out.written(), &line.as_bytes(), row);
     }
@@ -69,7 +69,7 @@ fn a_fresh_volume_has_these_bytes(rt: HostRuntime) -> Result<(), Fail> {
     let mut dev = MemoryDevice::new(rt.alloc(), 64)?;
     let mut out = MemorySink::new(rt.alloc(), 100)?;
     let words = ["mkfs", "image"];
-    call(&rt, rt.alloc(), &words, &mut dev, &mut out)?;
+    call(rt.alloc(), &words, &mut dev, &mut out)?;
     for (row, &(at, front, back)) in BLOCKS.iter().enumerate() {
         let fill = if at == 18 { 0xff } else { 0 };
         let good = at < 64 && is_block(dev.block(BlockNo(at)).bytes(), front, back, fill);
@@ -96,7 +96,7 @@ fn labels_are_written(rt: HostRuntime) -> Result<(), Fail> {
     let mut out = MemorySink::new(rt.alloc(), 100)?;
     for (row, &(words, label)) in LABELS.iter().enumerate() {
         let mut dev = MemoryDevice::new(rt.alloc(), 64)?;
-        let code = call(&rt, rt.alloc(), words, &mut dev, &mut out)?;
+        let code = call(rt.alloc(), words, &mut dev, &mut out)?;
         same_in(&rt, &code, &0, row);
         let written = dev.block(BlockNo(16)).bytes()[36..52].starts_with(label);
         same_in(&rt, &written, &true, row);
@@ -111,7 +111,7 @@ fn each_call_that_fails_is_told(rt: HostRuntime) -> Result<(), Fail> {
         let mut dev = MemoryDevice::new(rt.alloc(), 64)?;
         dev.fail(rt.alloc(), call_number)?;
         let mut out = MemorySink::new(rt.alloc(), 100)?;
-        let code = call(&rt, rt.alloc(), &MKFS, &mut dev, &mut out)?;
+        let code = call(rt.alloc(), &MKFS, &mut dev, &mut out)?;
         same_in(
             &rt,
             &(code, dev.clock(), dev.faults()),

@@ -5,7 +5,7 @@ use Rattle.std.specs.List.{list_all}
 use Rattle.std.specs.Str.Parse.{AllDigits, IsNumeral, digits_value, without_leading_plus}
 use Rattle.std.proofs.lemmas.Bool.{and_parts, and_right, cases_lt, lt-leb, ne_eqb}
 use Rattle.std.proofs.lemmas.Str.{digit_value_digit}
-use Rattle.r4_words.specs.Words.{is_numeral, as_threads}
+use Rattle.r4_words.specs.Words.{is_numeral, is_thread_count, as_threads}
 
 all_digits : (ds : List ℕ) → list_all is_ascii_digit ds ≡ true → AllDigits 10 ds
 all_digits [] all = tt
@@ -42,4 +42,4 @@ module _ (word : List ℕ) (numeral : is_numeral word ≡ true) where
       let unread : IsNumeral 10 word × (digits_value 10 word < 2 ^ 32) → ⊥ = subst (λ (w : List ℕ). IsNumeral 10 w × (digits_value 10 w < 2 ^ 32) → ⊥) read_whole refused in
       let above : 16 < digits_value 10 word = ⊎_elim (λ many. many) (λ few. absurd (unread ((some, all_digits word digits), omega (arith, few)))) (cases_lt 16 (digits_value 10 word)) in
       let high = lt-leb (digits_value 10 word) 16 above in
-      ap (λ b. cond b (Some (digits_value 10 word)) None) (sym (and_right (is_numeral word && nat_le 1 (digits_value 10 word)) (nat_le (digits_value 10 word) 16) high))
+      ap (λ b. cond b (Some (digits_value 10 word)) None) (sym (and_right (is_numeral word) (is_thread_count (digits_value 10 word)) (and_right (nat_le 1 (digits_value 10 word)) (nat_le (digits_value 10 word) 16) high)))

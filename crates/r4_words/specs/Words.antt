@@ -1,5 +1,6 @@
 -- What the words of a command line ask for (docs/program.md, "Words").
-use Rattle.std.specs.Prelude.{ℕ, ◌≤◌, Bool, false, not, nat_eq, nat_le, ◌&&◌, if◌then◌else◌, List, [], ◌∷◌, codes, bytes_eq, drop, length, Option, Some, None, option_map}
+use Rattle.std.specs.Prelude.{ℕ, ◌≤◌, Bool, false, not, nat_eq, nat_le, ◌&&◌, if◌then◌else◌, List, [], ◌∷◌}
+use Rattle.std.specs.Prelude.{codes, bytes_eq, drop, length, Option, Some, None, option_map}
 use Rattle.std.specs.Char.{is_ascii_digit}
 use Rattle.std.specs.List.{list_all, starts_with}
 use Rattle.std.specs.Str.Parse.{digits_value}
@@ -9,8 +10,8 @@ use Rattle.r4_words.specs.declared.words.Command.TheVariants.{Offline as Offline
 use Rattle.r4_words.specs.declared.words.Offline.{Offline}
 use Rattle.r4_words.specs.declared.words.Offline.TheVariants.{Replay, Mkfs, List as ListCommand}
 
--- A command on an image that no one else works on: `mkfs` has a label, which is empty where none was given, and `list` a
--- path.
+-- A command on an image that nobody else works on: `mkfs` has a label, which is empty where none was given, and
+-- `list` a path.
 pub data AskedOffline : Type 0 where
   AsksReplay : AskedOffline
   AsksMkfs : (label : List ℕ) → AskedOffline
@@ -53,7 +54,9 @@ is_image (byte ∷ rest) = not (nat_eq byte 45)
 
 -- A label that is given has 1 to 16 bytes, none of them zero, and does not begin with '-'.
 abbrev pub is_label : List ℕ → Bool
-is_label word = nat_le 1 (length word) && nat_le (length word) 16 && not (is_option word) && list_all (λ byte. not (nat_eq byte 0)) word
+is_label word =
+    nat_le 1 (length word) && nat_le (length word) 16 && not (is_option word)
+    && list_all (λ byte. not (nat_eq byte 0)) word
 
 abbrev pub as_label : List ℕ → Option (List ℕ)
 as_label word = if is_label word then Some word else None
@@ -83,12 +86,17 @@ path_of [] = Some (codes "/")
 path_of (word ∷ []) = as_path word
 path_of (word ∷ more ∷ words) = None
 
--- A number of threads has 1 to 20 decimal digits and nothing else, and is from 1 to 16.
+-- 1 to 20 decimal digits and nothing else
 abbrev pub is_numeral : List ℕ → Bool
 is_numeral word = nat_le 1 (length word) && nat_le (length word) 20 && list_all is_ascii_digit word
 
+-- A number of threads is from 1 to 16.
+abbrev pub is_thread_count : ℕ → Bool
+is_thread_count count = nat_le 1 count && nat_le count 16
+
 abbrev pub as_threads : List ℕ → Option ℕ
-as_threads word = if is_numeral word && nat_le 1 (digits_value 10 word) && nat_le (digits_value 10 word) 16 then Some (digits_value 10 word) else None
+as_threads word =
+    if is_numeral word && is_thread_count (digits_value 10 word) then Some (digits_value 10 word) else None
 
 -- the number in `--threads=N`
 abbrev pub threads_in : List ℕ → Option ℕ

@@ -1,2 +1,11 @@
-//! Tests of the words of the command line.
+//! Tests of the words of the command line, and of the lines that no other test prints.
 #![tactic(auto)]
+
+#[cfg(test)]
+mod chance;
+#[cfg(test)]
+mod commands;
+#[cfg(test)]
+mod lines;
+#[cfg(test)]
+mod same;

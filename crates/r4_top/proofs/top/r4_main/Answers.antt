@@ -3,7 +3,7 @@ use Rattle.std.specs.Prelude.{Option, option_map}
 use Rattle.r4_outside.proofs.Moments.{goes_same}
 use Rattle.r4_replay.proofs.Idling.{idle_always}
 use Rattle.r4_top.specs.Answers.{HasMoments}
-use Rattle.r4_top.specs.Words.{Asked, asked_by}
+use Rattle.r4_words.specs.Words.{Asked, asked_by}
 use Rattle.r4_top.proofs.top.r4_main.Goals as goal
 
 pub returns-in-None-clause-any_moment : goal.returns-in-None-clause-any_moment

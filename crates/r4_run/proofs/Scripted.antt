@@ -1,0 +1,122 @@
+-- What becomes of a source's text, and what is said of a borrowed device is so of the device.
+use Rattle.std.proofs.Common.{◌≡◌, ◌⊎◌, ◌↔◌, ◌∙◌, ap, inl, inr, refl, sym, ℕ, ◌≤◌, List, Option, Some, IsSome, Ok}
+use Rattle.std.specs.Borrow.{GName}
+use Rattle.r4_base.specs.Image.{Image, IsLawful as IsSize}
+use Rattle.r4_history.specs.Tables.{asked}
+use Rattle.r4_outside.specs.Device.{State, lent_to}
+use Rattle.r4_outside.specs.Sink.{SinkState}
+use Rattle.r4_outside.specs.Source.{SourceState}
+use Rattle.r4_script.specs.Text.{Faults, job_of}
+use Rattle.r4_script.specs.declared.fault.ParseFault.{ParseFault}
+use Rattle.r4_script.specs.declared.fault.ParseFault.TheVariants.{Memory, Script}
+use Rattle.r4_script.specs.declared.job.Job.{Job}
+use Rattle.r4_start.specs.Starting.{IsOpenFault, IsReplayed}
+use Rattle.r4_start.specs.declared.fault.OpenWhy.{OpenWhy}
+use Rattle.r4_start.specs.declared.fault.OpenWhy.TheVariants as why
+use Rattle.r4_trace.specs.Job.{Asked}
+use Rattle.r4_trace.specs.declared.entry.Entry.{Entry}
+use Rattle.r4_run.specs.Naming.{named}
+use Rattle.r4_run.specs.Running.{Ends, IsTraceOf, IsUnopened, IsWholeRun, Ran}
+use Rattle.r4_run.specs.Scripts.{Runs, TellsFault}
+
+-- ---- a borrowed device
+
+module _ (start : Option Image) (clock : Option ℕ) (job : Asked) (n m : GName) (d e : State) where
+  replayed_lent : IsReplayed (lent_to n d) (lent_to m e) → IsReplayed d e
+  replayed_lent (count, p) = (
+    count,
+    record {
+      chain = p.chain;
+      log = p.log;
+      count = p.count;
+      settled = p.settled;
+      footer = p.footer;
+      equal = p.equal;
+    },
+  )
+
+  fault_lent : (w : OpenWhy) → IsOpenFault (lent_to n d) w (lent_to m e) → IsOpenFault d w e
+  fault_lent (why.Log block fault) (size, idle, refused) =
+      (size, record { seen = idle.seen; clock = idle.clock }, refused)
+  fault_lent (why.Image block fault) (size, refused) =
+      (size, λ tells. let f = refused tells in (replayed_lent f.0, f.1))
+  fault_lent (why.Device clock faults) told = told
+  fault_lent (why.Size blocks) (is, unlawful, idle) =
+      (is, unlawful, record { seen = idle.seen; clock = idle.clock })
+  fault_lent why.Memory (size, inl idle) = (size, inl (record { seen = idle.seen; clock = idle.clock }))
+  fault_lent why.Memory (size, inr put) = (size, inr (λ tells. replayed_lent (put tells)))
+
+  trace_lent : (trace : List Entry) → IsTraceOf (named start clock job) (lent_to m e) trace
+      → IsTraceOf (named start clock job) e trace
+  trace_lent trace t = record {
+    legal = t.legal;
+    time = t.time;
+    safe = λ o is. record { each = (t.safe o is).each };
+  }
+
+  whole_lent : (trace : List Entry) → IsWholeRun (named start clock job) job trace (lent_to m e)
+      → IsWholeRun (named start clock job) job trace e
+  whole_lent trace w = record { whole = w.whole; volume = w.volume }
+
+  ends_lent : (trace : List Entry) (before code : ℕ) (old new : SinkState)
+      → Ends (named start clock job) job trace before old code (lent_to m e) new
+      → Ends (named start clock job) job trace before old code e new
+  ends_lent trace before code old new f = record {
+    codes = f.codes;
+    done = λ z. let t = f.done z in (whole_lent trace t.0, t.1);
+    sink = λ z. let t = f.sink z in (whole_lent trace t.0, t.1);
+    device = f.device;
+    memory = f.memory;
+  }
+
+  came_lent : (trace : List Entry) (code : ℕ) (old new : SinkState)
+      → IsUnopened (lent_to n d) trace old code (lent_to m e) new
+      ⊎ (IsSize d.blocks × Ends (named start clock job) job trace d.faults old code (lent_to m e) new)
+      → IsUnopened d trace old code e new
+      ⊎ (IsSize d.blocks × Ends (named start clock job) job trace d.faults old code e new)
+  came_lent trace code old new (inl u) =
+      inl (record { why = u.why; is = fault_lent u.why u.is; tells = u.tells; empty = u.empty })
+  came_lent trace code old new (inr f) = inr (f.0, ends_lent trace d.faults code old new f.1)
+
+  pub ran_lent : (code : ℕ) (old new : SinkState) → Ran start clock job (lent_to n d) old code (lent_to m e) new
+      → Ran start clock job d old code e new
+  ran_lent code old new r = record {
+    trace = r.trace;
+    is = trace_lent r.trace r.is;
+    ends = came_lent r.trace code old new r.ends;
+  }
+
+-- ---- the text
+
+module _ (start : Option Image) (clock : Option ℕ) (s s' : SourceState) (d e : State) (k k' : SinkState)
+    (told : IsSome s'.rest ↔ IsSome s.rest) (faults : s.faults ≤ s'.faults) (items text : List ℕ)
+    (job : (rest : List ℕ) → s.rest ≡ Some rest → job_of items ≡ job_of rest) (same : text ≡ items) where
+  pub no_job : (code : ℕ) (f : ParseFault) → Faults f (job_of text) → TellsFault f code k k'
+      → Runs start clock s s' d k code d k'
+  no_job code (Script f) is t = record {
+    told = told;
+    faults = faults;
+    came_to = inr (inl (record {
+      idle = record { seen = refl; clock = refl };
+      fault = f;
+      is = λ rest at. sym (job rest at) ∙ sym (ap job_of same) ∙ is;
+      told = t;
+    }));
+  }
+  no_job code Memory is t = record {
+    told = told;
+    faults = faults;
+    came_to = inl (record { idle = record { seen = refl; clock = refl }; told = inr t });
+  }
+
+  pub is_run : (n m : GName) (code : ℕ) (j : Job) → job_of text ≡ Ok j
+      → Ran start clock (asked j) (lent_to n d) k code (lent_to m e) k' → Runs start clock s s' d k code e k'
+  is_run n m code j is r = record {
+    told = told;
+    faults = faults;
+    came_to = inr (inr (record {
+      job = j;
+      is = λ rest at. sym (job rest at) ∙ sym (ap job_of same) ∙ is;
+      ran = ran_lent start clock (asked j) n m d e code k k' r;
+    }));
+  }

@@ -1,0 +1,143 @@
+//! Words that are picked by chance, and a second reader of them.
+
+use crate::commands::owned;
+use crate::same::same;
+use r4_words::{Command, Offline, read_words};
+use std::alloc::Global;
+use std::test::Fail;
+
+// What the first word is, the second, and each word behind them.
+static NAMES: [&str; 6] = ["run", "run", "mkfs", "list", "replay", "runs"];
+
+static IMAGES: [&str; 5] = ["i", "i", "/", "-h", ""];
+
+static OPTIONS: [&str; 13] = [
+    "--threads",
+    "--threads",
+    "--threads=",
+    "--threads=7",
+    "--threads=017",
+    "--label",
+    "--label=",
+    "--label=a",
+    "0",
+    "16",
+    "17",
+    "/a",
+    "-h",
+];
+
+// Another number by chance, of a generator of numbers.
+fn next(state: &mut u64) -> u64 {
+    *state = state
+        .wrapping_mul(6364136223846793005)
+        .wrapping_add(1442695040888963407);
+    *state >> 33
+}
+
+// What a reader finds.
+#[derive(Clone, Copy, Debug, PartialEq, Eq)]
+enum Found<'a> {
+    Replay,
+    Label(&'a [u8]),
+    Path(&'a [u8]),
+    Threads(usize),
+}
+
+// What the crate's reader finds.
+fn first(command: Command<'_>) -> Found<'_> {
+    match command {
+        Command::Offline(Offline::Replay) => Found::Replay,
+        Command::Offline(Offline::Mkfs { label }) => Found::Label(label),
+        Command::Offline(Offline::List { path }) => Found::Path(path),
+        Command::Run { threads } => Found::Threads(threads as usize),
+    }
+}
+
+// The value of an option that is given once, in one word or in two.
+fn value<'a>(name: &str, options: &[&'a str]) -> Option<&'a str> {
+    match options {
+        [word] => {
+            let (front, value) = word.split_once('=')?;
+            (front == name).then_some(value)
+        }
+        [word, value] => (*word == name).then_some(*value),
+        _ => None,
+    }
+}
+
+// The numbers of threads, each at its own place.
+static NUMERALS: [&str; 17] = [
+    "", "1", "2", "3", "4", "5", "6", "7", "8", "9", "10", "11", "12", "13", "14", "15", "16",
+];
+
+fn threads(value: &str) -> Option<Found<'static>> {
+    let digits = value.trim_start_matches('0');
+    let count = NUMERALS.iter().position(|numeral| *numeral == digits)?;
+    (count > 0 && value.len() <= 20).then_some(Found::Threads(count))
+}
+
+fn label(value: &str) -> Option<Found<'_>> {
+    let is_faulty = value.is_empty()
+        || value.len() > 16
+        || value.starts_with('-')
+        || value.contains('\0');
+    (!is_faulty).then_some(Found::Label(value.as_bytes()))
+}
+
+// What a second reader finds, which asks in another order.
+fn second<'a>(words: &[&'a str]) -> Option<Found<'a>> {
+    let (name, rest) = words.split_first()?;
+    let (image, options) = rest.split_first()?;
+    if image.is_empty() || image.starts_with('-') {
+        return None;
+    }
+    match (*name, options) {
+        ("replay", []) => Some(Found::Replay),
+        ("mkfs", []) => Some(Found::Label(b"")),
+        ("mkfs", _) => label(value("--label", options)?),
+        ("list", []) => Some(Found::Path(b"/")),
+        ("list", [path]) if path.starts_with('/') => Some(Found::Path(path.as_bytes())),
+        ("run", []) => Some(Found::Threads(1)),
+        ("run", _) => threads(value("--threads", options)?),
+        _ => None,
+    }
+}
+
+// One of these words by chance.
+fn pick<'a>(from: &[&'a str], state: &mut u64) -> &'a str {
+    match from.get(next(state) as usize % from.len().max(1)) {
+        Some(word) => word,
+        None => "",
+    }
+}
+
+// At most five words by chance.
+fn pick_words(alloc: Global, state: &mut u64) -> Result<Vec<&'static str>, Fail> {
+    let mut words = Vec::new(alloc);
+    for place in 0..next(state) % 6 {
+        let from = match place {
+            0 => NAMES.as_slice(),
+            1 => IMAGES.as_slice(),
+            _ => OPTIONS.as_slice(),
+        };
+        words.push(pick(from, state))?;
+    }
+    Ok(words)
+}
+
+#[test]
+fn two_readers_agree(rt: HostRuntime) -> Result<(), Fail> {
+    let alloc = rt.alloc();
+    let (mut state, mut commands) = (1, 0u32);
+    for _line in 0..1000u32 {
+        let words = pick_words(alloc, &mut state)?;
+        let owned = owned(alloc, &words)?;
+        let found = read_words(&owned).map(first);
+        let text = format!(in alloc; "{words:?}")?;
+        same(&rt, &found, &second(&words), text.as_str());
+        commands = commands.saturating_add(u32::from(found.is_some()));
+    }
+    same(&rt, &commands, &100, "commands");
+    Ok(())
+}
