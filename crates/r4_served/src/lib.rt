@@ -5,6 +5,6 @@ mod naming;
 mod refusing;
 mod serving;
 
-pub use refusing::refuse;
 pub use r4_take::{Core, OpenFault, OpenWhy, Step, Wanted};
+pub use refusing::refuse;
 pub use serving::{Served, serve};
