@@ -92,9 +92,12 @@ module _ (start : Option Image) (clock : Option ℕ) (scripts : Option (List ℕ
   ran_so before at size c = record {
     trace = c.trace;
     is = subst (λ (r : Names). IsTraceOf r e c.trace) names_are (c.is text scripts_are);
-    ends = inr (size, subst (λ (n : ℕ). Ends (named start clock (asked job)) (asked job) c.trace n old code e new) at
-        (subst (λ (j : Asked). Ends (named start clock (asked job)) j c.trace before old code e new) same
-        (subst (λ (r : Names). Ends r c.job c.trace before old code e new) names_are c.ends)));
+    ends = inr (
+      size,
+      subst (λ (n : ℕ). Ends (named start clock (asked job)) (asked job) c.trace n old code e new) at
+          (subst (λ (j : Asked). Ends (named start clock (asked job)) j c.trace before old code e new) same
+          (subst (λ (r : Names). Ends r c.job c.trace before old code e new) names_are c.ends)),
+    );
   }
     where
       same : c.job ≡ asked job
