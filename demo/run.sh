@@ -47,6 +47,38 @@ does replay volume.img "replayed 0"
 same "$work/before.img" "$work/volume.img" "the image is not what it was"
 
 echo
+echo "A script makes a directory and a file in it, and commits: the trace tells each command with its reply."
+cat >"$work/script" <<'END'
+script
+mkdir /etc
+create /etc/hosts
+write /etc/hosts 0 127.0.0.1 localhost
+commit
+END
+cat >"$work/wanted" <<'END'
+begin t1 s1
+done t1 s1 c1 ok
+ended t1
+begin t2 s1
+fuse a1 a2 n23
+done t2 s1 c2 ok
+ended t2
+begin t3 s1
+fuse a1 a3 n23
+done t3 s1 c3 ok
+ended t3
+sealed a1
+committed a1
+acked s1 t3
+END
+echo "\$ ./r4 run volume.img <script"
+"$tool" run "$work/volume.img" <"$work/script" | tee "$work/part"
+same "$work/wanted" "$work/part" "the trace is another one"
+does list volume.img "d 0755 3 0 0 1 /
+d 0755 2 0 0 1 /etc
+f 0644 1 0 0 19 /etc/hosts"
+
+echo
 echo "An image of 1,024 blocks: its log has one committed transaction, whose three blocks are put in place."
 sh "$here/make_image.sh" "$work/log.img" log
 does replay log.img "replayed 1"

@@ -25,6 +25,7 @@ CALLS = {"r4_main"}
 # The promises, in reading order: what each says, and the definitions that its clauses cite.
 TOP, OFFLINE, WORDS = "r4_top.Answers", "r4_offline.Answers", "r4_words.Words"
 DEVICE, REPLAY, MKFS = "r4_outside.Device", "r4_replay.Replay", "r4_mkfs.Mkfs"
+RUN, BEGINS = "r4_run.Scripts", "r4_run.Naming"
 PROMISES = [
     (
         "`replay`",
@@ -44,6 +45,13 @@ PROMISES = [
         "`list`",
         "`Lists` says for each status when it comes and what is printed, and that nothing is written.",
         [(OFFLINE, "Lists"), (REPLAY, "SettlesAlways"), (DEVICE, "IsQuiet"), (DEVICE, "Goes")],
+    ),
+    (
+        "`run`",
+        "`Runs` says for each status when it comes, and of a run that there is one trace (`Ran`): legal, crash-safe on the"
+        " device at each moment, by the status whole, and printed. `Begins` is what the caller owes who names with what"
+        " the run began.",
+        [(RUN, "Runs"), (BEGINS, "Begins"), (DEVICE, "Goes")],
     ),
     (
         "The words of the command line",

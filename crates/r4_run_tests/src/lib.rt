@@ -6,6 +6,8 @@ mod calls;
 #[cfg(test)]
 mod faults;
 #[cfg(test)]
+mod named;
+#[cfg(test)]
 mod rows;
 #[cfg(test)]
 mod stops;
