@@ -1,9 +1,7 @@
-//! Tests of tables: of holds, of turns and of a cache.
+//! Tests of tables: of holds and of a cache.
 #![tactic(auto)]
 
 #[cfg(test)]
 mod caches;
 #[cfg(test)]
 mod holds;
-#[cfg(test)]
-mod turns;
