@@ -1,8 +1,12 @@
 //! Many scripts on many threads.
 
 use crate::calls::{LIST, fresh, printed};
+use r4_base::ScriptNo;
+use r4_outside::{Gate, MemorySink, MemorySource, Unnamed};
+use r4_run::run_scripts;
 use std::alloc::Global;
 use std::test::Fail;
+use std::thread;
 
 // So many scripts, each of which makes a file, writes it and commits.
 const SCRIPTS: u32 = 6;
@@ -38,5 +42,33 @@ fn many_threads_come_to_an_end(rt: HostRuntime) -> Result<(), Fail> {
     assert_eq!(&rt; count(&told, "done"), 18);
     let listed = printed(&rt, alloc, &LIST, &mut dev, "", 0)?;
     assert_eq!(&rt; count(&listed, "f 0644 1 0 0 "), 6);
+    Ok(())
+}
+
+/// A gate at which others go first, so many times.
+struct Slow;
+
+impl Gate for Slow {
+    fn pass(&self, script: ScriptNo, index: u32) {
+        let _ = (script, index);
+        for _ in 0..2000u32 {
+            thread::yield_now();
+        }
+    }
+}
+
+// While one thread works at the only command, the others find nothing to do and wait; they end, since
+// whoever brings the task back wakes them.
+#[test]
+fn threads_that_wait_are_woken(rt: HostRuntime) -> Result<(), Fail> {
+    let alloc = rt.alloc();
+    for _ in 0..5u32 {
+        let mut dev = fresh(&rt, alloc, 64)?;
+        let mut script = MemorySource::new(alloc, b"script\ncreate /a\n")?;
+        let mut out = MemorySink::new(alloc, 100)?;
+        let (gate, run) = (&Slow, Unnamed::new());
+        let status = run_scripts(&rt, alloc, 4, &mut dev, &mut script, &mut out, gate, run);
+        assert_eq!(&rt; status, 0);
+    }
     Ok(())
 }
