@@ -1,0 +1,5 @@
+//! Tests of the generated workload.
+#![tactic(auto)]
+
+#[cfg(test)]
+mod parts;
