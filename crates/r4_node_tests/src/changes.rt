@@ -37,7 +37,6 @@ struct Made {
 }
 
 // The old cells and the new ones of a change, and the new root.
-#[derive(Clone, Copy)]
 struct Edit {
     old: &'static [Made],
     new: &'static [Made],
@@ -270,35 +269,35 @@ const NEW_ROOT: Root = Root {
 };
 
 // One link more.
-const LINK: Edit = Edit {
+static LINK: Edit = Edit {
     old: &[STATS],
     new: &[STATS_LINKED],
     root: None,
 };
 
 // The leaf of two tails becomes two.
-const SPLIT: Edit = Edit {
+static SPLIT: Edit = Edit {
     old: &[RIGHT, TAILS],
     new: &[RIGHT_FULLER, TAILS_FIRST, TAILS_SECOND],
     root: None,
 };
 
 // The extent gets a second block.
-const LENGTHEN: Edit = Edit {
+static LENGTHEN: Edit = Edit {
     old: &[LEFT],
     new: &[LEFT_LONGER, DATA_SECOND],
     root: None,
 };
 
 // The extent's block is written anew.
-const WRITE: Edit = Edit {
+static WRITE: Edit = Edit {
     old: &[DATA, LEFT],
     new: &[DATA, LEFT],
     root: None,
 };
 
 // A root over the root.
-const GROW: Edit = Edit {
+static GROW: Edit = Edit {
     old: &[ROOT],
     new: &[ROOT, HIGH],
     root: Some(NEW_ROOT),
@@ -380,13 +379,13 @@ static CASES: [Case; 9] = [
     },
 ];
 
-fn edit_of(which: Which) -> Edit {
+fn edit_of(which: Which) -> &'static Edit {
     match which {
-        Which::Link => LINK,
-        Which::Split => SPLIT,
-        Which::Lengthen => LENGTHEN,
-        Which::Write => WRITE,
-        Which::Grow => GROW,
+        Which::Link => &LINK,
+        Which::Split => &SPLIT,
+        Which::Lengthen => &LENGTHEN,
+        Which::Write => &WRITE,
+        Which::Grow => &GROW,
     }
 }
 
@@ -502,8 +501,8 @@ fn look_at_joined<X: Abort>(
 
 // Looks at what two changes are joined to, in a row of the table.
 fn look<X: Abort>(rt: &X, alloc: Global, case: &Case, row: usize) -> Result<(), Fail> {
-    let one = change_of(alloc, &edit_of(case.one))?;
-    let two = change_of(alloc, &edit_of(case.two))?;
+    let one = change_of(alloc, edit_of(case.one))?;
+    let two = change_of(alloc, edit_of(case.two))?;
     match join(alloc, &one, &two) {
         Ok(change) => look_at_joined(rt, alloc, &change, case, row),
         Err(JoinFault::Meet { node }) => {

@@ -2,8 +2,10 @@
 
 ghost use Rattle.std.specs.Prelude.{◌≡◌, ◌+◌, ◌≤◌, length};
 
+use crate::same::{same, same_in};
 use r4_base::{Key, NameFault, Oid, Target, put_bytes, put16, put64};
 use r4_cde::{DirView, cut, entry_key, insert, name_of_key, r5, split};
+use std::process::Abort;
 use std::test::Fail;
 
 // The directory that the names stand in.
@@ -16,71 +18,88 @@ const OBJECT: Target = Target {
     oid: Oid(65_536),
 };
 
-#[test]
-fn names_have_keys(rt: HostRuntime) -> Result<(), Fail> {
-    let first = 0x61_6263_6465_6667;
-    let second = 0x6869_6a6b_6c6d_6e6f;
-    // A name, and the ordering, object id and offset of its key.
-    let table: [(&[u8], u64, u64, u64); 4] = [
-        (
-            b"abcdefghijklmnopqrstuvw",
-            first,
-            second,
-            0x7071_7273_7475_7677,
-        ),
-        (
-            b"abcdefghijklmnopqrstuvwx",
-            first + (1 << 56),
-            second,
-            4_670_292_671_517,
-        ),
-        (b"a", 0x61 << 48, 0, 0),
-        (b"...", 0x2e2e_2e << 32, 0, 0),
-    ];
-    for (name, ordering, id, offset) in table {
-        let Ok(key) = entry_key(DIR, name) else {
-            return Err(Fail::from("a name is refused"));
-        };
-        assert_eq!(rt;
-            key,
-            Key {
-                el: [672, ordering, id, offset]
-            }
-        );
-        match name_of_key(&key) {
-            Some(short) => assert_eq!(rt; short.as_bytes(), name),
-            None => assert!(rt; name.len() == 24),
-        }
+// The first seven bytes of a long name, and the eight behind them.
+const FIRST: u64 = 0x61_6263_6465_6667;
+
+const SECOND: u64 = 0x6869_6a6b_6c6d_6e6f;
+
+// The bytes of a name.
+type Name = &'static [u8];
+
+// A name, and the ordering, object id and offset of its key.
+static KEYS: [(Name, [u64; 3]); 4] = [
+    (
+        b"abcdefghijklmnopqrstuvw",
+        [FIRST, SECOND, 0x7071_7273_7475_7677],
+    ),
+    (
+        b"abcdefghijklmnopqrstuvwx",
+        [FIRST + (1 << 56), SECOND, 4_670_292_671_517],
+    ),
+    (b"a", [0x61 << 48, 0, 0]),
+    (b"...", [0x2e2e_2e << 32, 0, 0]),
+];
+
+// Looks at the key of a name, and at the name of the key: there is one but for a name of 24 bytes.
+fn look_at_key<X: Abort>(rt: &X, name: &[u8], wanted: &Key, row: usize) -> Result<(), Fail> {
+    let Ok(key) = entry_key(DIR, name) else {
+        return Err(Fail::from("a name is refused"));
+    };
+    same_in(rt, &key, wanted, row);
+    match name_of_key(&key) {
+        Some(short) => same_in(rt, &short.as_bytes(), &name, row),
+        None => same_in(rt, &name.len(), &24, row),
     }
     Ok(())
 }
 
 #[test]
-fn bytes_that_are_no_names(rt: HostRuntime) -> Result<(), Fail> {
-    let table: [(&[u8], NameFault); 5] = [
-        (b"", NameFault::Empty),
-        (b".", NameFault::Dot),
-        (b"..", NameFault::Dot),
-        (b"a/b", NameFault::Byte(1)),
-        (b"ab\0", NameFault::Byte(2)),
-    ];
-    for (name, fault) in table {
-        assert_eq!(rt; entry_key(DIR, name).err(), Some(fault));
+fn names_have_keys(rt: HostRuntime) -> Result<(), Fail> {
+    for (row, &(name, [ordering, id, offset])) in KEYS.iter().enumerate() {
+        let wanted = Key {
+            el: [672, ordering, id, offset],
+        };
+        look_at_key(&rt, name, &wanted, row)?;
     }
+    Ok(())
+}
+
+// Bytes that are no name, and their fault.
+static NO_NAMES: [(Name, NameFault); 5] = [
+    (b"", NameFault::Empty),
+    (b".", NameFault::Dot),
+    (b"..", NameFault::Dot),
+    (b"a/b", NameFault::Byte(1)),
+    (b"ab\0", NameFault::Byte(2)),
+];
+
+#[test]
+fn bytes_that_are_no_names(rt: HostRuntime) -> Result<(), Fail> {
+    for (row, &(name, fault)) in NO_NAMES.iter().enumerate() {
+        same_in(&rt, &entry_key(DIR, name).err(), &Some(fault), row);
+    }
+    Ok(())
+}
+
+#[test]
+fn a_name_has_at_most_255_bytes(rt: HostRuntime) -> Result<(), Fail> {
     let long = [b'n'; 256];
-    assert_eq!(rt; entry_key(DIR, &long).err(), Some(NameFault::Long(256)));
-    assert!(rt; entry_key(DIR, &long[..255]).is_ok());
+    let fault = entry_key(DIR, &long).err();
+    same(&rt, &fault, &Some(NameFault::Long(256)), "256 bytes");
+    let is_key = entry_key(DIR, &long[..255]).is_ok();
+    same(&rt, &is_key, &true, "255 bytes");
     Ok(())
 }
 
 #[test]
 fn two_names_have_one_hash(rt: HostRuntime) -> Result<(), Fail> {
     let one = entry_key(DIR, b"aaaaaaaaaaaaaaaxxxxxxxca");
-    assert_eq!(rt; one, entry_key(DIR, b"aaaaaaaaaaaaaaaxxxxxxxbl"));
-    assert!(rt; one.is_ok());
-    assert_eq!(rt; r5(b"xxxxxxxca"), r5(b"xxxxxxxbl"));
-    assert_eq!(rt; r5(b""), 0);
-    assert_eq!(rt; r5(b"a"), 17_138);
+    let two = entry_key(DIR, b"aaaaaaaaaaaaaaaxxxxxxxbl");
+    same(&rt, &one, &two, "keys");
+    same(&rt, &one.is_ok(), &true, "key");
+    same(&rt, &r5(b"xxxxxxxca"), &r5(b"xxxxxxxbl"), "hashes");
+    same(&rt, &r5(b""), &0, "hash of no byte");
+    same(&rt, &r5(b"a"), &17_138, "hash of a byte");
     Ok(())
 }
 
@@ -113,33 +132,52 @@ fn spelled(body: &mut [u8], other: &[u8]) -> Option<usize>
     Some(127)
 }
 
+// Looks at a body of an entry "a" and one of another name: it is refused without its last byte; both entries are found,
+// and none of a name between the two.
+fn look_at_two<X: Abort>(
+    rt: &X,
+    body: &[u8],
+    other: &[u8],
+    between: &[u8],
+    row: usize,
+) -> Result<(), Fail> {
+    let (Ok(item), Ok(last), Ok(none)) = (
+        entry_key(DIR, b"a"),
+        entry_key(DIR, other),
+        entry_key(DIR, between),
+    ) else {
+        return Err(Fail::from("a name is refused"));
+    };
+    let Some((_, shorter)) = body.split_last() else {
+        return Err(Fail::from("there is no body"));
+    };
+    same_in(rt, &DirView::read(&item, shorter).is_err(), &true, row);
+    let Ok(view) = DirView::read(&item, body) else {
+        return Err(Fail::from("the body is refused"));
+    };
+    same_in(rt, &view.len(), &2, row);
+    same_in(rt, &view.find(&item), &Some(0), row);
+    same_in(rt, &view.find(&none), &None, row);
+    same_in(rt, &view.find(&last), &Some(1), row);
+    Ok(())
+}
+
+// The other name, how many bytes the body then has, and a name between the two.
+static PAIRS: [(Name, usize, Name); 2] = [
+    (b"b", 102, b"aa"),
+    (b"bcdefghijklmnopqrstuvwxy", 127, b"b"),
+];
+
 #[test]
 fn entries_are_found(rt: HostRuntime) -> Result<(), Fail> {
-    // The other name, how many bytes the body then has, and a name between the two.
-    let table: [(&[u8], usize, &[u8]); 2] = [
-        (b"b", 102, b"aa"),
-        (b"bcdefghijklmnopqrstuvwxy", 127, b"b"),
-    ];
-    for (other, long, between) in table {
+    for (row, &(other, long, between)) in PAIRS.iter().enumerate() {
         let mut body = [0u8; 127];
         let used = spelled(&mut body, other);
-        assert_eq!(rt; used, Some(long));
-        assert!(rt; long <= 127);
-        let (Ok(item), Ok(last), Ok(none)) = (
-            entry_key(DIR, b"a"),
-            entry_key(DIR, other),
-            entry_key(DIR, between),
-        ) else {
-            return Err(Fail::from("a name is refused"));
+        same_in(&rt, &used, &Some(long), row);
+        let Some(laid) = body.get(..long) else {
+            return Err(Fail::from("the body has at most 127 bytes"));
         };
-        assert!(rt; DirView::read(&item, &body[..long - 1]).is_err());
-        let Ok(view) = DirView::read(&item, &body[..long]) else {
-            return Err(Fail::from("the body is refused"));
-        };
-        assert_eq!(rt; view.len(), 2);
-        assert_eq!(rt; view.find(&item), Some(0));
-        assert_eq!(rt; view.find(&none), None);
-        assert_eq!(rt; view.find(&last), Some(1));
+        look_at_two(&rt, laid, other, between, row)?;
     }
     Ok(())
 }
@@ -185,15 +223,17 @@ fn begin_alike(left: &[u8], right: &[u8], used: usize) -> bool {
 fn entries_are_parted(rt: HostRuntime) -> Result<(), Fail> {
     let mut body = [0u8; 127];
     let used = spelled(&mut body, b"bcdefghijklmnopqrstuvwxy");
-    assert_eq!(rt; used, Some(127));
+    same(&rt, &used, &Some(127), "bytes used");
     let Ok(item) = entry_key(DIR, b"a") else {
         return Err(Fail::from("a name is refused"));
     };
     let mut left = [0u8; 127];
     let mut right = [0u8; 127];
-    assert_eq!(rt; parted(&item, &body, &mut left, &mut right), Some((52, 77)));
-    assert_eq!(rt; without_first(&item, &mut body), Some(77));
-    assert!(rt; begin_alike(&body, &right, 77));
+    let parts = parted(&item, &body, &mut left, &mut right);
+    same(&rt, &parts, &Some((52, 77)), "parts");
+    let rest = without_first(&item, &mut body);
+    same(&rt, &rest, &Some(77), "rest");
+    same(&rt, &begin_alike(&body, &right, 77), &true, "same bytes");
     Ok(())
 }
 
@@ -222,12 +262,13 @@ fn is_read(item: &Key, body: &[u8], used: usize) -> bool {
 #[test]
 fn an_entry_is_put_alone(rt: HostRuntime) -> Result<(), Fail> {
     let mut body = [0u8; 60];
-    assert_eq!(rt; put_alone(&mut body, b"a"), Some(52));
-    assert_eq!(rt; &body[..4], [1, 0, 0, 0].as_slice());
-    assert_eq!(rt; &body[8..9], [0x61].as_slice());
+    let used = put_alone(&mut body, b"a");
+    same(&rt, &used, &Some(52), "bytes used");
+    same(&rt, &&body[..4], &[1, 0, 0, 0].as_slice(), "first bytes");
+    same(&rt, &body[8], &0x61, "byte of the name");
     let Ok(item) = entry_key(DIR, b"a") else {
         return Err(Fail::from("a name is refused"));
     };
-    assert!(rt; is_read(&item, &body, 52));
+    same(&rt, &is_read(&item, &body, 52), &true, "is read");
     Ok(())
 }
