@@ -63,22 +63,29 @@ fn with_extents(alloc: Global) -> Result<MemoryDevice, Fail> {
     };
     let mut dev = volume(alloc, shape)?;
     let f = object(Oid(42), b"f", 65_536)?;
-    let leaf = [
+    put_one(alloc, &mut dev, 22, 3, 24)?;
+    put_node(alloc, &mut dev, 23, 1, &leaf_of_f(alloc, f)?)?;
+    put_node(alloc, &mut dev, 24, 2, &twig_of_f(alloc, f)?)?;
+    put_full(alloc, &mut dev, 25, b'a')?;
+    put_full(alloc, &mut dev, 26, b'b')?;
+    finished(alloc, dev)
+}
+
+// The leaf: the root, its entry f, and the stat data of f.
+fn leaf_of_f(alloc: Global, f: Target) -> Result<[Item; 3], Fail> {
+    Ok([
         Item::stat(alloc, ROOT, &attr(0o40755, 2, 1))?,
         Item::entries(alloc, Oid(42), &[(b"f", f)])?,
         Item::stat(alloc, f, &attr(0o100_644, 1, 12_000))?,
-    ];
-    let twig = [
+    ])
+}
+
+// The twig: a pointer to the leaf, and the extents of f: a block, a hole, a block.
+fn twig_of_f(alloc: Global, f: Target) -> Result<[Item; 2], Fail> {
+    Ok([
         Item::pointer(alloc, LEAST, 23)?,
         Item::extent(alloc, f, &[(25, 1), (0, 1), (26, 1)])?,
-    ];
-    let root = [Item::pointer(alloc, LEAST, 24)?];
-    put(alloc, &mut dev, 22, node(alloc, 3, &root)?.as_slice())?;
-    put(alloc, &mut dev, 23, node(alloc, 1, &leaf)?.as_slice())?;
-    put(alloc, &mut dev, 24, node(alloc, 2, &twig)?.as_slice())?;
-    put(alloc, &mut dev, 25, full(alloc, b'a')?.as_slice())?;
-    put(alloc, &mut dev, 26, full(alloc, b'b')?.as_slice())?;
-    finished(alloc, dev)
+    ])
 }
 
 // Paths there, and what is printed; of the file its line alone.
@@ -98,14 +105,18 @@ fn a_file_in_extents_is_listed(rt: HostRuntime) -> Result<(), Fail> {
     for &(path, text) in &PATHS {
         lists(&rt, alloc, &mut dev, path, 0, text.as_bytes())?;
     }
+    lists(&rt, alloc, &mut dev, "/f", 0, text_of_f(alloc)?.as_slice())
+}
+
+// The line of the file /f and its body.
+fn text_of_f(alloc: Global) -> Result<Spelling, Fail> {
     let mut text = Spelling::new(alloc);
     text.text(b"f 0644 1 0 0 12000 /f\n")?;
     text.fill(b'a', 4096)?;
     text.fill(0, 4096)?;
     text.fill(b'b', 3808)?;
     text.text(b"\n")?;
-    lists(&rt, alloc, &mut dev, "/f", 0, text.as_slice())?;
-    Ok(())
+    Ok(text)
 }
 
 // How many blocks are read for the root: header, footer, superblocks, bitmap, header again, and three nodes.
@@ -115,21 +126,37 @@ const READS: u64 = 9;
 fn failures_end_a_listing(rt: HostRuntime) -> Result<(), Fail> {
     let alloc = rt.alloc();
     for read in 1..READS + 2 {
-        let mut dev = with_extents(alloc)?;
-        dev.fail(alloc, read)?;
         let (status, text) = if read > READS {
             (0, PATHS[0].1)
         } else {
             (6, "device: clock 0 faults 1\n")
         };
-        lists(&rt, alloc, &mut dev, "/", status, text.as_bytes())?;
+        lists_where_a_read_fails(&rt, alloc, read, status, text)?;
     }
+    lists_where_a_print_fails(&rt, alloc)
+}
+
+// Lists the root where this read fails, counted from 1.
+fn lists_where_a_read_fails<X: Abort>(
+    rt: &X,
+    alloc: Global,
+    read: u64,
+    status: u8,
+    text: &str,
+) -> Result<(), Fail> {
+    let mut dev = with_extents(alloc)?;
+    dev.fail(alloc, read)?;
+    lists(rt, alloc, &mut dev, "/", status, text.as_bytes())
+}
+
+// Lists the root where the first print fails.
+fn lists_where_a_print_fails<X: Abort>(rt: &X, alloc: Global) -> Result<(), Fail> {
     let mut dev = with_extents(alloc)?;
     let mut out = MemorySink::new(alloc, 100)?;
     out.fail(alloc, 1)?;
     let code = call(alloc, &["list", "image"], &mut dev, &mut out)?;
-    same(&rt, &code, &5, "status");
-    same(&rt, &out.written(), &b"".as_slice(), "text");
+    same(rt, &code, &5, "status");
+    same(rt, &out.written(), &b"".as_slice(), "text");
     Ok(())
 }
 
@@ -142,19 +169,23 @@ static POINTERS: [(u64, &str); 2] = [
 #[test]
 fn a_pointer_to_no_node_is_refused(rt: HostRuntime) -> Result<(), Fail> {
     let alloc = rt.alloc();
+    for &(to, line) in &POINTERS {
+        let mut dev = with_root_to(alloc, to)?;
+        lists(&rt, alloc, &mut dev, "/", 7, line.as_bytes())?;
+    }
+    Ok(())
+}
+
+// A fresh volume but for its root, which has one pointer, to the block `to`.
+fn with_root_to(alloc: Global, to: u64) -> Result<MemoryDevice, Fail> {
     let shape = Shape {
         height: 2,
         objects: 1,
         used: 0,
     };
-    for &(to, line) in &POINTERS {
-        let mut dev = volume(alloc, shape)?;
-        let root = [Item::pointer(alloc, LEAST, to)?];
-        put(alloc, &mut dev, 22, node(alloc, 2, &root)?.as_slice())?;
-        let mut dev = finished(alloc, dev)?;
-        lists(&rt, alloc, &mut dev, "/", 7, line.as_bytes())?;
-    }
-    Ok(())
+    let mut dev = volume(alloc, shape)?;
+    put_one(alloc, &mut dev, 22, 2, to)?;
+    finished(alloc, dev)
 }
 
 // Puts a node of a level in a block's place that has one pointer, to the block `to`.
@@ -162,7 +193,39 @@ fn put_one(alloc: Global, dev: &mut MemoryDevice, at: u64, level: u64, to: u64) 
     ensures { TellsCrashes (memory_state dev.old) → TellsCrashes (memory_state dev.new) }
 {
     let items = [Item::pointer(alloc, LEAST, to)?];
-    put(alloc, dev, at, node(alloc, level, &items)?.as_slice())
+    put_node(alloc, dev, at, level, &items)
+}
+
+// Puts a node of a level in a block's place that has these items.
+fn put_node(
+    alloc: Global,
+    dev: &mut MemoryDevice,
+    at: u64,
+    level: u64,
+    items: &[Item],
+) -> Result<(), Fail>
+    ensures { TellsCrashes (memory_state dev.old) → TellsCrashes (memory_state dev.new) }
+{
+    put(alloc, dev, at, node(alloc, level, items)?.as_slice())
+}
+
+// Puts a block that is full of one byte in a block's place.
+fn put_full(alloc: Global, dev: &mut MemoryDevice, at: u64, byte: u8) -> Result<(), Fail>
+    ensures { TellsCrashes (memory_state dev.old) → TellsCrashes (memory_state dev.new) }
+{
+    put(alloc, dev, at, full(alloc, byte)?.as_slice())
+}
+
+// A fresh volume of so many objects but for its leaf, which has these items.
+fn with_leaf(alloc: Global, objects: u64, leaf: &[Item]) -> Result<MemoryDevice, Fail> {
+    let shape = Shape {
+        height: 2,
+        objects,
+        used: 0,
+    };
+    let mut dev = volume(alloc, shape)?;
+    put_node(alloc, &mut dev, 23, 1, leaf)?;
+    finished(alloc, dev)
 }
 
 // A tree of height 8, whose nodes have a pointer each: the root in block 22, the others from block 24 on, and the leaf of
@@ -191,59 +254,62 @@ fn a_high_tree_is_listed(rt: HostRuntime) -> Result<(), Fail> {
 #[test]
 fn a_directory_is_listed_once(rt: HostRuntime) -> Result<(), Fail> {
     let alloc = rt.alloc();
-    let shape = Shape {
-        height: 2,
-        objects: 3,
-        used: 0,
-    };
-    let mut dev = volume(alloc, shape)?;
+    let mut dev = with_leaf(alloc, 3, &leaf_of_a_and_b(alloc)?)?;
+    let text = "d 0755 4 0 0 2 /\nd 0700 2 0 0 1 /a\nf 4755 1 0 0 0 /a/x\nd 0700 2 0 0 1 /b\n";
+    lists(&rt, alloc, &mut dev, "/", 0, text.as_bytes())
+}
+
+// The root's entries a and b name the directory, whose entry x is the file.
+fn leaf_of_a_and_b(alloc: Global) -> Result<[Item; 5], Fail> {
     let d = object(Oid(42), b"a", 65_536)?;
     let x = object(Oid(65_536), b"x", 65_537)?;
-    let leaf = [
+    Ok([
         Item::stat(alloc, ROOT, &attr(0o40755, 4, 2))?,
         Item::entries(alloc, Oid(42), &[(b"a", d), (b"b", d)])?,
         Item::stat(alloc, d, &attr(0o40700, 2, 1))?,
         Item::entries(alloc, Oid(65_536), &[(b"x", x)])?,
         Item::stat(alloc, x, &attr(0o104_755, 1, 0))?,
-    ];
-    put(alloc, &mut dev, 23, node(alloc, 1, &leaf)?.as_slice())?;
-    let mut dev = finished(alloc, dev)?;
-    let text = "d 0755 4 0 0 2 /\nd 0700 2 0 0 1 /a\nf 4755 1 0 0 0 /a/x\nd 0700 2 0 0 1 /b\n";
-    lists(&rt, alloc, &mut dev, "/", 0, text.as_bytes())
+    ])
 }
 
 // The longest name, and a file of a tail.
 #[test]
 fn a_long_name_is_listed(rt: HostRuntime) -> Result<(), Fail> {
     let alloc = rt.alloc();
-    let shape = Shape {
-        height: 2,
-        objects: 2,
-        used: 0,
-    };
-    let mut dev = volume(alloc, shape)?;
     let name = [b'n'; 255];
-    let f = object(Oid(42), &name, 65_536)?;
-    let leaf = [
+    let mut dev = with_leaf(alloc, 2, &leaf_of_a_tail(alloc, &name)?)?;
+    let text = between(alloc, b"d 0755 2 0 0 1 /\nf 0600 1 0 0 5 /", &name, b"\n")?;
+    lists(&rt, alloc, &mut dev, "/", 0, text.as_slice())?;
+    let path = long_path(alloc)?;
+    let text = between(alloc, b"f 0600 1 0 0 5 ", path.as_bytes(), b"\nhello\n")?;
+    lists(&rt, alloc, &mut dev, &path, 0, text.as_slice())
+}
+
+// A file of this name whose body is a tail.
+fn leaf_of_a_tail(alloc: Global, name: &[u8]) -> Result<[Item; 4], Fail> {
+    let f = object(Oid(42), name, 65_536)?;
+    Ok([
         Item::stat(alloc, ROOT, &attr(0o40755, 2, 1))?,
-        Item::entries(alloc, Oid(42), &[(&name, f)])?,
+        Item::entries(alloc, Oid(42), &[(name, f)])?,
         Item::stat(alloc, f, &attr(0o100_600, 1, 5))?,
         Item::tail(alloc, f, b"hello")?,
-    ];
-    put(alloc, &mut dev, 23, node(alloc, 1, &leaf)?.as_slice())?;
-    let mut dev = finished(alloc, dev)?;
+    ])
+}
+
+// A text in three pieces.
+fn between(alloc: Global, front: &[u8], middle: &[u8], back: &[u8]) -> Result<Spelling, Fail> {
     let mut text = Spelling::new(alloc);
-    text.text(b"d 0755 2 0 0 1 /\nf 0600 1 0 0 5 /")?;
-    text.text(&name)?;
-    text.text(b"\n")?;
-    lists(&rt, alloc, &mut dev, "/", 0, text.as_slice())?;
+    text.text(front)?;
+    text.text(middle)?;
+    text.text(back)?;
+    Ok(text)
+}
+
+// A slash and the longest name.
+fn long_path(alloc: Global) -> Result<String, Fail> {
     let mut path = String::from_str(alloc, "/")?;
     for _byte in 0..255u8 {
         path.push('n')?;
     }
-    let mut text = Spelling::new(alloc);
-    text.text(b"f 0600 1 0 0 5 ")?;
-    text.text(path.as_bytes())?;
-    text.text(b"\nhello\n")?;
-    lists(&rt, alloc, &mut dev, &path, 0, text.as_slice())
+    Ok(path)
 }

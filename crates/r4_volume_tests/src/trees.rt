@@ -134,10 +134,7 @@ impl Item {
             let at = (26 * entries.len() as u64)
                 .wrapping_add(2)
                 .wrapping_add(before);
-            for number in [named.el[1], named.el[2], named.el[3]] {
-                headers.number(number, 8)?;
-            }
-            headers.number(at, 2)?;
+            spell_header(&mut headers, named, at)?;
             spell_target(&mut bodies, target, name)?;
         }
         headers.text(bodies.as_slice())?;
@@ -147,6 +144,14 @@ impl Item {
             body: headers,
         })
     }
+}
+
+// An entry's header: its key without the directory, and where its body begins.
+fn spell_header(headers: &mut Spelling, named: Key, at: u64) -> Result<(), Fail> {
+    for number in [named.el[1], named.el[2], named.el[3]] {
+        headers.number(number, 8)?;
+    }
+    headers.number(at, 2)
 }
 
 // An entry's body: what it names, and a long name.
@@ -207,29 +212,35 @@ pub fn node(alloc: Global, level: u64, items: &[Item]) -> Result<Spelling, Fail>
         .wrapping_sub(end)
         .wrapping_sub(38u64.wrapping_mul(items.len() as u64));
     let mut node = Spelling::new(alloc);
-    for (number, bytes) in [
-        (0, 2),
-        (items.len() as u64, 2),
-        (free, 2),
-        (end, 2),
-        (0x5234_4653, 4),
-        (1, 4),
-        (0, 8),
-        (0, 2),
-        (level, 1),
-        (0, 1),
-    ] {
-        node.number(number, bytes)?;
-    }
+    spell_front(&mut node, [items.len() as u64, free, end], level)?;
     node.text(bodies.as_slice())?;
     node.fill(0, free.min(4096) as usize)?;
     for (item, &start) in items.iter().zip(starts.as_slice()).rev() {
-        node.key(item.key)?;
-        node.number(start, 2)?;
-        node.number(0, 2)?;
-        node.number(item.plugin, 2)?;
+        spell_item(&mut node, item, start)?;
     }
     Ok(node)
+}
+
+// A node's header. The counts are how many items there are, how many bytes are free, and where those begin.
+fn spell_front(node: &mut Spelling, counts: [u64; 3], level: u64) -> Result<(), Fail> {
+    node.number(0, 2)?;
+    for count in counts {
+        node.number(count, 2)?;
+    }
+    node.number(0x5234_4653, 4)?;
+    node.number(1, 4)?;
+    node.number(0, 8)?;
+    node.number(0, 2)?;
+    node.number(level, 1)?;
+    node.number(0, 1)
+}
+
+// An item's header: its key, where its body begins, flags and its plugin.
+fn spell_item(node: &mut Spelling, item: &Item, start: u64) -> Result<(), Fail> {
+    node.key(item.key)?;
+    node.number(start, 2)?;
+    node.number(0, 2)?;
+    node.number(item.plugin, 2)
 }
 
 /// A block that is full of one byte.
