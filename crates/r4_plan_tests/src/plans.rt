@@ -40,20 +40,24 @@ const MASKS: [u8; 5] = [0, 1, 85, 254, 255];
 // The texts after a crash within the call before a moment, of which these sectors are left: the header's first sector
 // tells which log it is.
 fn texts_torn(moment: u64, mask: u8) -> [&'static [u8]; 2] {
-    match moment {
-        7 if mask & 1 == 1 => [AFTER, AFTER],
-        7 => [BEFORE, BEFORE],
-        _ => texts_at(moment),
+    if moment != 7 {
+        return texts_at(moment);
     }
+    let text = if mask & 1 == 1 { AFTER } else { BEFORE };
+    [text, text]
+}
+
+// The number of the call before: what is undone is times 6364136223846793005, plus 1442695040888963407.
+fn number_before(number: u64) -> u64 {
+    let product = number.wrapping_sub(1_442_695_040_888_963_407);
+    product.wrapping_mul(13_877_824_140_714_322_085)
 }
 
 // The pick with which these sectors are left of the write before a moment: the numbers of the calls are followed back.
 fn pick_of(moment: u64, mask: u8) -> u64 {
     let mut number = u64::from(mask) << 56;
     for _ in 0..moment {
-        // What is undone: times 6364136223846793005, plus 1442695040888963407.
-        let product = number.wrapping_sub(1_442_695_040_888_963_407);
-        number = product.wrapping_mul(13_877_824_140_714_322_085);
+        number = number_before(number);
     }
     number
 }
@@ -90,15 +94,45 @@ fn is_whole<X: Abort>(
     is_listed(rt, alloc, left, moment, texts)
 }
 
+// Lets the machine stop at a moment, and looks at what this pick leaves.
+fn look_at_crash<X: Abort>(
+    rt: &X,
+    alloc: Global,
+    dev: &MemoryDevice,
+    moment: u64,
+    pick: u64,
+    texts: &[&[u8]; 2],
+) -> Result<(), Fail>
+    requires { TellsCrashes (memory_state dev.now) }
+{
+    let mut left = dev.crash(alloc, moment, pick)?;
+    is_whole(rt, alloc, &mut left, moment, texts)
+}
+
 // Lets the machine stop at each moment of the commit of the leaf.
 fn look_at_crashes<X: Abort>(rt: &X, alloc: Global, dev: &MemoryDevice) -> Result<(), Fail>
     requires { TellsCrashes (memory_state dev.now) }
 {
     for moment in 0..15 {
-        for pick in 1..3 {
-            let mut left = dev.crash(alloc, moment, pick)?;
-            is_whole(rt, alloc, &mut left, moment, &texts_at(moment))?;
-        }
+        let texts = texts_at(moment);
+        look_at_crash(rt, alloc, dev, moment, 1, &texts)?;
+        look_at_crash(rt, alloc, dev, moment, 2, &texts)?;
+    }
+    Ok(())
+}
+
+// Lets the machine stop within the call before a moment.
+fn look_at_torn_write<X: Abort>(
+    rt: &X,
+    alloc: Global,
+    dev: &MemoryDevice,
+    moment: u64,
+) -> Result<(), Fail>
+    requires { TellsCrashes (memory_state dev.now) }
+{
+    for mask in MASKS {
+        let pick = pick_of(moment, mask);
+        look_at_crash(rt, alloc, dev, moment, pick, &texts_torn(moment, mask))?;
     }
     Ok(())
 }
@@ -108,10 +142,7 @@ fn look_at_torn_writes<X: Abort>(rt: &X, alloc: Global, dev: &MemoryDevice) -> R
     requires { TellsCrashes (memory_state dev.now) }
 {
     for moment in 1..15 {
-        for mask in MASKS {
-            let mut left = dev.crash(alloc, moment, pick_of(moment, mask))?;
-            is_whole(rt, alloc, &mut left, moment, &texts_torn(moment, mask))?;
-        }
+        look_at_torn_write(rt, alloc, dev, moment)?;
     }
     Ok(())
 }
@@ -144,6 +175,21 @@ fn commit_leaf(alloc: Global, dev: &mut MemoryDevice, space: &mut SpaceMap) -> R
     commit(alloc, 64, dev, &cells, &[placed], space)
 }
 
+// Looks at a number of a block, which stands in this row of its table.
+fn same_number<X: Abort>(
+    rt: &X,
+    alloc: Global,
+    dev: &mut MemoryDevice,
+    row: usize,
+    at: u64,
+    byte: usize,
+    wanted: u64,
+) -> Result<(), Fail> {
+    let block = read(alloc, dev, at)?;
+    same_in(rt, &number(&block, byte), &wanted, row);
+    Ok(())
+}
+
 // Looks at the device of which the leaf's commit is made.
 fn look_at_leaf<X: Abort>(rt: &X, alloc: Global, dev: &mut MemoryDevice) -> Result<(), Fail>
     requires { TellsCrashes (memory_state dev.old) }
@@ -152,8 +198,7 @@ fn look_at_leaf<X: Abort>(rt: &X, alloc: Global, dev: &mut MemoryDevice) -> Resu
     look_at_crashes(rt, alloc, dev)?;
     look_at_torn_writes(rt, alloc, dev)?;
     for (row, &(at, byte, wanted)) in NUMBERS.iter().enumerate() {
-        let block = read(alloc, dev, at)?;
-        same_in(rt, &number(&block, byte), &wanted, row);
+        same_number(rt, alloc, dev, row, at, byte, wanted)?;
     }
     Ok(())
 }
@@ -225,11 +270,9 @@ fn commit_data(alloc: Global, dev: &mut MemoryDevice, space: &mut SpaceMap) -> R
 
 // Looks at the device of which a second commit is made.
 fn look_at_second<X: Abort>(rt: &X, alloc: Global, dev: &mut MemoryDevice) -> Result<(), Fail> {
-    for (row, (at, wanted)) in [(19, 31), (20, 31), (31, 2)].iter().enumerate() {
-        let block = read(alloc, dev, *at)?;
-        let byte = if *at == 31 { 8 } else { 0 };
-        same_in(rt, &number(&block, byte), wanted, row);
-    }
+    same_number(rt, alloc, dev, 0, 19, 0, 31)?;
+    same_number(rt, alloc, dev, 1, 20, 0, 31)?;
+    same_number(rt, alloc, dev, 2, 31, 8, 2)?;
     is_filled(rt, alloc, dev, 24, 9)
 }
 
@@ -293,17 +336,28 @@ fn commit_many(alloc: Global, dev: &mut MemoryDevice, space: &mut SpaceMap) -> R
     commit(alloc, 1024, dev, &cells, &[], space)
 }
 
-// Lets the machine stop before the header is synced, and right after.
+// Lets the machine stop at a moment. A replay prints the line, and the data blocks are all of the byte.
+fn look_at_stop<X: Abort>(
+    rt: &X,
+    alloc: Global,
+    dev: &MemoryDevice,
+    moment: u64,
+    line: &str,
+    byte: u8,
+) -> Result<(), Fail>
+    requires { TellsCrashes (memory_state dev.now) }
+{
+    let mut left = dev.crash(alloc, moment, 1)?;
+    replays(alloc, &mut left, 0, line)?;
+    are_filled(rt, alloc, &mut left, byte)
+}
+
+// Lets the machine stop before the header is synced, which is by call 308, and right after.
 fn look_at_stops<X: Abort>(rt: &X, alloc: Global, dev: &MemoryDevice) -> Result<(), Fail>
     requires { TellsCrashes (memory_state dev.now) }
 {
-    // The header is synced by call 308.
-    for (moment, line, byte) in [(200, "replayed 0\n", 0), (308, "replayed 1\n", 9)] {
-        let mut left = dev.crash(alloc, moment, 1)?;
-        replays(alloc, &mut left, 0, line)?;
-        are_filled(rt, alloc, &mut left, byte)?;
-    }
-    Ok(())
+    look_at_stop(rt, alloc, dev, 200, "replayed 0\n", 0)?;
+    look_at_stop(rt, alloc, dev, 308, "replayed 1\n", 9)
 }
 
 #[test]
