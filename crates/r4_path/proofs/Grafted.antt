@@ -64,6 +64,7 @@ module _ (twig : CellSeen) (ups : List CellSeen) (qs : List TwigPiece) (f g : Fr
           climbs = up.climbs;
           keep = up.keep;
           needed = up.needed;
+          rows = up.rows;
           root_needed = up.root_needed;
           root_able = up.root_able;
           mkfs_ids = twigs_ids twig ups qs f g s is.row after d rises;

@@ -16,7 +16,8 @@ use Rattle.r4_cell.specs.declared.change.Change.{Change}
 use Rattle.r4_cell.specs.declared.change.Fresh.{Fresh}
 use Rattle.r4_patch.specs.Joining.{ids_of}
 use Rattle.r4_path.specs.Growing.{IsPathIn}
-use Rattle.r4_path.specs.Levels.{AreNeeded, HasLevels, HaveMkfsIdOf, IsLongEnough, IsRootNeeded, KeepMkfsIds, Keeps}
+use Rattle.r4_path.specs.Levels.{AreNeeded, AreRows, HasLevels, HaveMkfsIdOf, IsLongEnough, IsRootNeeded, KeepMkfsIds}
+use Rattle.r4_path.specs.Levels.{Keeps}
 use Rattle.r4_path.specs.Levels.{units_of_cells}
 use Rattle.r4_path.specs.Sharing.{IsSound}
 use Rattle.r4_path.specs.Steps.{AreNaming, Climbs, CountUp, Ends, Follow, IsFree, IsNameOf, Step, fresh_ids, name_of, news}
@@ -88,8 +89,9 @@ pub record IsGraftedIn (t : Store Value) (r : Root) (qs : List TwigPiece) (twig 
   pub numbers : fresh.next + (1 + length ups) + extra_twigs qs < fresh.end
 
 -- The lowest step puts one cell in the twig's place, or more, where its pieces do not fit into one; these have the pieces in
--- their order. The steps go up the path, with the next numbers. Where the path is long enough for a root, they end there. The
--- mkfs_ids are kept.
+-- their order. The steps go up the path, with the next numbers; each has the items that it had, with pointers to the new
+-- cells behind the one to the old cell below it. Where the path is long enough for a root, they end there. The mkfs_ids are
+-- kept.
 pub record Grafts (twig : CellSeen) (ups : List CellSeen) (qs : List TwigPiece) (before after : Fresh)
     (change : Change) : Type 0 where
   pub lowest : Step
@@ -102,6 +104,7 @@ pub record Grafts (twig : CellSeen) (ups : List CellSeen) (qs : List TwigPiece) 
   pub climbs : Climbs (Some lowest) more
   pub keep : (u : Step) → Contains more u → Keeps u
   pub needed : AreNeeded (lowest ∷ more)
+  pub rows : AreRows (lowest ∷ more) over
   pub root_needed : IsRootNeeded (lowest ∷ more) over
   pub root_able : (d : CellSeen) → over ≡ Some d → IsPointable d.id
   pub mkfs_ids : KeepMkfsIds (lowest ∷ more) over
