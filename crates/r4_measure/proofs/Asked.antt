@@ -20,7 +20,7 @@ use Rattle.r4_reach.specs.Needs.{Ask, all_gone, all_more, cell_asks, changes_pie
 use Rattle.r4_reach.specs.Needs.{leaf_asks, meets, moves, node_asks, node_need, over, pieces_after, twig_asks, twig_more}
 use Rattle.r4_reach.specs.Touched.{Body}
 use Rattle.r4_reach.proofs.Enough.{asks_some, node_needs, over_some, twig_needs}
-use Rattle.r4_measure.specs.Budget.{Bears, Budget, IsBudget, below, grows, of_item, of_target}
+use Rattle.r4_measure.specs.Budget.{AreSeen, Bears, Budget, IsBudget, below, grows, of_item, of_target}
 use Rattle.r4_reach.specs.Leaves.{more_of}
 use Rattle.r4_measure.specs.Asked.{asked_of}
 use Rattle.r4_measure.specs.Begin.{IsQuiet}
@@ -170,7 +170,7 @@ module _ (b : Option Body) (e : Edits) (reads rs : Intervals) (quiet : come_of b
 
 -- ---- so many are asked for
 
-over_enough : (n : ℕ) → 4068 < n → n ≤ 4068 + 1024 * over n
+pub over_enough : (n : ℕ) → 4068 < n → n ≤ 4068 + 1024 * over n
 over_enough n h = by_test (nat_lt 4068 n) refl
   where
     by_test : (v : Bool) → nat_lt 4068 n ≡ v → n ≤ 4068 + 1024 * (if v then 1 + (n - 4068 + 1023) / 1024 else 0)
@@ -184,6 +184,34 @@ some_asked (Some a) h = (a, refl)
 pub own_of : (d : Demand Ask) (t : Store Value) (i l : ℕ) (c : Node Value) → t i ≡ Some c → asked_of d t l i ≡ more_of (ask d t l c)
 own_of d t i l c at = ap (λ o. more_of (ask_of (ask d t l) o)) at
 
+-- ---- what comes below a node is what it hears
+
+module _ (d : Demand Ask) (t : Store Value) (seen : AreSeen t) (i l : ℕ) (c : Node Value) (at : t i ≡ Some c) (up : c.level ≡ suc l) (pos : 1 ≤ l) where
+  level_of : (seen i c at).0.level ≡ suc l
+  level_of = let (x, same) = seen i c at in sym (level_is x) ∙ (ap (λ (y : Node Value). y.level) (sym same) ∙ up)
+
+  names_of : c.names ≡ names_in (suc l) (rank (seen i c at).0.hi) (items_of (seen i c at).0.block)
+  names_of = let (x, same) = seen i c at in ap (λ (y : Node Value). y.names) same ∙ names_are x l level_of
+
+  block_of : c.block ≡ (seen i c at).0.block
+  block_of = let (x, same) = seen i c at in ap (λ (y : Node Value). y.block) same ∙ block_is x
+
+  pub below_is : below (asked_of d t l) (items_of c.block) ≤ all_more (heard (ask d t l) t c.names)
+  below_is =
+      let x = (seen i c at).0 in
+      let h = below_heard (ask d t l) t l (rank x.hi) (items_of x.block) pos in
+      let p = ap (λ (bytes : List ℕ). below (asked_of d t l) (items_of bytes)) block_of in
+      let q = ap (λ ns. all_more (heard (ask d t l) t ns)) names_of in
+      omega (arith, h, p, q)
+
+  pub grows_is : grows (asked_of d t l) (items_of c.block) ≤ growing (heard (ask d t l) t c.names)
+  grows_is =
+      let x = (seen i c at).0 in
+      let h = grows_heard (ask d t l) t l (rank x.hi) (items_of x.block) pos in
+      let p = ap (λ (bytes : List ℕ). grows (asked_of d t l) (items_of bytes)) block_of in
+      let q = ap (λ ns. growing (heard (ask d t l) t ns)) names_of in
+      omega (arith, h, p, q)
+
 module _ (bd : Option Body) (e : Edits) (reads rs : Intervals) (t : Store Value) (root : Root) (it : IsPart t root) (is : IsQuiet bd e reads rs t root) where
   abbrev d : Demand Ask
   d = demand_of bd e reads rs
@@ -195,40 +223,15 @@ module _ (bd : Option Body) (e : Edits) (reads rs : Intervals) (t : Store Value)
   own_is i l c at = ap (λ o. more_of (ask_of (ask d t l) o)) at
 
   module _ (i l : ℕ) (c : Node Value) (at : t i ≡ Some c) (up : c.level ≡ suc l) (pos : 1 ≤ l) where
-    level_of : (is.seen i c at).0.level ≡ suc l
-    level_of = let (x, same) = is.seen i c at in sym (level_is x) ∙ (ap (λ (y : Node Value). y.level) (sym same) ∙ up)
-
-    names_of : c.names ≡ names_in (suc l) (rank (is.seen i c at).0.hi) (items_of (is.seen i c at).0.block)
-    names_of = let (x, same) = is.seen i c at in ap (λ (y : Node Value). y.names) same ∙ names_are x l level_of
-
-    block_of : c.block ≡ (is.seen i c at).0.block
-    block_of = let (x, same) = is.seen i c at in ap (λ (y : Node Value). y.block) same ∙ block_is x
-
-    below_is : below (b l) (items_of c.block) ≤ all_more (heard (ask d t l) t c.names)
-    below_is =
-        let x = (is.seen i c at).0 in
-        let h = below_heard (ask d t l) t l (rank x.hi) (items_of x.block) pos in
-        let p = ap (λ (bytes : List ℕ). below (b l) (items_of bytes)) block_of in
-        let q = ap (λ ns. all_more (heard (ask d t l) t ns)) names_of in
-        omega (arith, h, p, q)
-
-    grows_is : grows (b l) (items_of c.block) ≤ growing (heard (ask d t l) t c.names)
-    grows_is =
-        let x = (is.seen i c at).0 in
-        let h = grows_heard (ask d t l) t l (rank x.hi) (items_of x.block) pos in
-        let p = ap (λ (bytes : List ℕ). grows (b l) (items_of bytes)) block_of in
-        let q = ap (λ ns. growing (heard (ask d t l) t ns)) names_of in
-        omega (arith, h, p, q)
-
     bears_of : (hs : List (Name × Ask)) → heard (ask d t l) t c.names ≡ hs → Bears (b l) (b (suc l)) (suc l) (items_of c.block) i
     unfolding Asks
     bears_of [] none =
         let z = ap all_more none in
-        let h = below_is in
+        let h = below_is d t is.seen i l c at up pos in
         inr (inl (omega (arith, h, z)))
     bears_of (x ∷ xs) some =
-        let h = below_is in
-        let k = grows_is in
+        let h = below_is d t is.seen i l c at up pos in
+        let k = grows_is d t is.seen i l c at up pos in
         let same = ap all_more some in
         let alike = ap growing some in
         elim (cases_lt 4068 (weight (items_of c.block) + 46 * all_more (x ∷ xs))) [

@@ -30,7 +30,7 @@ use Rattle.r4_measure.proofs.Climb.{in_left, in_right}
 use Rattle.r4_measure.proofs.Kept.{IsLift, IsLiftOf, lifted_budget, lifted_height, lifted_seen, not_named}
 
 -- of items below which nothing comes
-none_below : (u : ℕ → ℕ) → ((i : ℕ) → u i ≡ 0) → (items : List Item) → below u items ≡ 0
+pub none_below : (u : ℕ → ℕ) → ((i : ℕ) → u i ≡ 0) → (items : List Item) → below u items ≡ 0
 none_below u zero [] = refl
 none_below u zero (x ∷ xs) =
     let a = sum_by-cons (of_item u) x xs in

@@ -10,5 +10,6 @@ pub mod Turn
 pub mod TwigTurn
 pub mod Loop
 pub mod Asked
+pub mod AskedTwigs
 pub mod Begin
 pub mod FreshReach

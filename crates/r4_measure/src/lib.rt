@@ -13,4 +13,5 @@ pub use laws::{
 };
 pub use twig_laws::{
     a_budget_suffices_for_twigs, grafts_keep_a_budget, twig_turns_keep_the_measure,
+    what_is_asked_of_twigs_is_a_budget,
 };

@@ -1,6 +1,6 @@
 //! Laws of budgets where twigs are packed anew. Each is the contract of a function that does nothing.
 
-ghost use Rattle.std.specs.Prelude.{◌≡◌, ◌⊎◌, ℕ, ◌≤◌, List, ◌∷◌};
+ghost use Rattle.std.specs.Prelude.{◌≡◌, ◌⊎◌, ℕ, ◌≤◌, List, ◌∷◌, Option};
 ghost use Rattle.r4_base.specs.Tree.{Root, Store};
 ghost use Rattle.r4_base.specs.Value.{Value};
 ghost use Rattle.r4_branch.specs.Pieces.{twig_bytes};
@@ -8,11 +8,17 @@ ghost use Rattle.r4_branch.specs.declared.piece.TwigPiece.{TwigPiece};
 ghost use Rattle.r4_cell.specs.Seen.{CellSeen};
 ghost use Rattle.r4_cell.specs.declared.change.Change.{Change};
 ghost use Rattle.r4_cell.specs.declared.change.Fresh.{Fresh};
+ghost use Rattle.r4_content.specs.Edited.{Edits, Intervals};
+ghost use Rattle.r4_patch.specs.Part.{IsPart};
 ghost use Rattle.r4_path.specs.Grafts.{extra_twigs};
 ghost use Rattle.r4_path.specs.Levels.{IsLongEnough};
+ghost use Rattle.r4_reach.specs.Demand.{Demand};
+ghost use Rattle.r4_reach.specs.Needs.{Ask, demand_of};
+ghost use Rattle.r4_reach.specs.Touched.{Body};
 ghost use Rattle.r4_work.specs.Working.{root_of, twig_path_of};
 ghost use Rattle.r4_work.specs.declared.working.WorkingSet.{WorkingSet};
-ghost use Rattle.r4_measure.specs.Budget.{AreUnplaced, Budget};
+ghost use Rattle.r4_measure.specs.Asked.{AsksAbove, asked_above};
+ghost use Rattle.r4_measure.specs.Budget.{AreUnplaced, Budget, IsBudget};
 ghost use Rattle.r4_measure.specs.Grafting.{AreGraftsIn, Beside, IsQuietBelow, IsRegrafted};
 ghost use Rattle.r4_measure.specs.Grafting.{LeavesTwigBudget, LeavesTwigMeasure};
 ghost use Rattle.r4_measure.specs.Leaving.{HasBudget};
@@ -44,4 +50,13 @@ pub fn twig_turns_keep_the_measure()
         → IsMeasured t r before w b → IsQuietBelow b → AreUnplaced before
         → extra_twigs qs ≤ b 2 made.twig.id
         → LeavesTwigMeasure t r before after w now b x }
+{}
+
+/// What a command asks of twigs and of the nodes above them is a budget, of which nothing comes below twigs, where none
+/// of them goes, no cell asks for more than 87, and the root asks for something only below level 8.
+pub fn what_is_asked_of_twigs_is_a_budget()
+    ensures budget { (b : Option Body) (e : Edits) (reads rs : Intervals) (t : Store Value)
+        (r : Root) → IsPart t r → AsksAbove (demand_of b e reads rs) t r
+        → IsBudget t r (asked_above (demand_of b e reads rs) t) }
+    ensures quiet { (d : Demand Ask) (t : Store Value) → IsQuietBelow (asked_above d t) }
 {}
