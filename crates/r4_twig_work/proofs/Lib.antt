@@ -1,1 +1,2 @@
 pub mod Regrafted
+pub mod Renewed

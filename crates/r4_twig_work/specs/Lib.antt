@@ -1,1 +1,2 @@
 pub mod Regrafting
+pub mod Renewing
