@@ -14,7 +14,8 @@ use Rattle.r4_next.specs.Taking.{Takes}
 use Rattle.r4_next.specs.declared.taken.Taken.TheVariants as taken
 use Rattle.r4_outside.specs.Device.{State}
 use Rattle.r4_seal.specs.Flushing.{IsFlushed, RefusesWaiting}
-use Rattle.r4_next.specs.r4_served.Serving.{IsRefused}
+use Rattle.r4_next.specs.r4_ready.Rooms.{HasMoreRoom}
+use Rattle.r4_next.specs.r4_served.Serving.{IsLeft, IsRefused}
 use Rattle.r4_next.specs.r4_take.Sending.{CanBeBuilt}
 use Rattle.r4_shared.specs.declared.stepping.Next.{Next}
 use Rattle.r4_shared.specs.declared.stepping.Next.TheVariants as next
@@ -47,6 +48,16 @@ IsNext {D} state old new (next.Unflushed atom) = (mid : CoreSeen D)
     × Takes state old mid (taken.Flush atom) × RefusesWaiting mid new atom
 IsNext state old new (next.Wait why) = Takes state old new (taken.Wait why)
 IsNext state old new next.Finished = Takes state old new taken.Finished
+
+-- Nothing was done: all is as it was; or the device may have been read, and there may be more room.
+-- So it may also be once a command was found that touches a body in extents, where there was no
+-- memory to refuse it.
+abbrev pub IsNextLeft : {D : Type 0} → (D → State) → (old new : CoreSeen D) → Type 0
+IsNextLeft {D} state old new =
+    (new ≡ old)
+    ⊎ (IsLeft (state old.dev) (state new.dev) old new
+    ⊎ ((s : ScriptNo) × (mid : CoreSeen D) × Takes state old mid (taken.InExtents s)
+    × HasMoreRoom mid new))
 
 -- a task that is to be worked at can be built
 abbrev pub BuildsNext : Next → Type 0

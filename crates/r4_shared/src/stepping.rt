@@ -1,12 +1,14 @@
 //! The steps of a run, each of which any core allows.
 
-ghost use Rattle.std.specs.Prelude.{◌≡◌, ℕ, IfOk, None};
+ghost use Rattle.std.specs.Prelude.{◌≡◌, ℕ, IfOk, None, OnErr};
 ghost use Rattle.r4_apply.specs.declared.applying.Applied.{Applied as Answer};
 ghost use Rattle.r4_apply.specs.r4_back.Backing.{GivesBack, RefusesMemory};
 ghost use Rattle.r4_content.specs.declared.command.Command.{Command};
 ghost use Rattle.r4_history.specs.Serving.{AsksForFlush};
-ghost use Rattle.r4_shared.specs.Stepping.{AppliesOr, BringsBack, BuildsNext, IsFlushedAs, IsNext, RefusesNext};
+ghost use Rattle.r4_shared.specs.Stepping.{AppliesOr, BringsBack, BuildsNext, IsFlushedAs, IsNext};
+ghost use Rattle.r4_shared.specs.Stepping.{IsNextLeft, RefusesNext};
 ghost use Rattle.r4_next.specs.r4_kept.View.{tables_of};
+ghost use Rattle.r4_next.specs.r4_ready.Rooms.{HasMoreRoom};
 ghost use Rattle.r4_next.specs.r4_take.Sending.{IsServable};
 
 use r4_apply::{Applied, apply, give_back, refuse_memory};
@@ -39,10 +41,12 @@ pub enum Next {
 /// The next step: what there is to do is taken, and an atom that is to be flushed is flushed at once.
 /// A command that touches a body in extents is refused with `memory`, since nothing is built for it
 /// yet. The only error is want of memory, or of numbers for cells and transactions; then the device
-/// may have been read, there may be more room, and all else is as it was.
+/// may have been read, there may be more room, and all else is as it was, but that such a command may
+/// have been found.
 pub fn next_step<D: Device, R: Run>(core: &mut Core<D, R>, alloc: Global) -> Result<Next, Memory>
     ensures ok { IfOk result (IsNext D.state core.old core.new) }
     ensures builds { IfOk result BuildsNext }
+    ensures err { OnErr result (IsNextLeft D.state core.old core.new) }
 {
     if core.atoms().begun() == u32::MAX {
         return Err(AllocError);
@@ -79,7 +83,8 @@ fn refuse_in_extents<D: Device, R: Run>(
 ) -> Result<Next, Memory>
     requires sound { core.old.broken ≡ None }
     requires servable { (x : Command) × IsServable core.old script.0 x }
-    ensures { IfOk result (RefusesNext core.old core.new script) }
+    ensures ok { IfOk result (RefusesNext core.old core.new script) }
+    ensures err { OnErr result (HasMoreRoom core.old core.new) }
 {
     refuse(core, alloc, script, Reply::Memory)?;
     Ok(Next::Replied(script))
