@@ -5,9 +5,13 @@
 #[cfg(test)]
 mod atoms;
 #[cfg(test)]
+mod cells;
+#[cfg(test)]
 mod devices;
 #[cfg(test)]
 mod holds;
+#[cfg(test)]
+mod images;
 #[cfg(test)]
 mod same;
 #[cfg(test)]
