@@ -22,5 +22,5 @@ bounded x parts few =
     subst (λ (n : ℕ). calls_from parts 0 ≤ most_calls n (bitmap_count x.flush.space.block_count))
     (length-map x.flush.cells (named_by_block x.flush.answers))
     (subst
-      (λ (b : ℕ). calls_from parts 0 ≤ most_calls (length (cells_by_block x.flush.answers x.flush.cells)) (bitmap_count b))
-      (ap (λ (t : Space). t.block_count) (rest_stays x.flush.space x.flush.answers)) few)
+    (λ (b : ℕ). calls_from parts 0 ≤ most_calls (length (cells_by_block x.flush.answers x.flush.cells)) (bitmap_count b))
+    (ap (λ (t : Space). t.block_count) (rest_stays x.flush.space x.flush.answers)) few)
