@@ -1,5 +1,6 @@
-//! Memory is refused: what stands then is as before, and the same call goes on when it comes again. `tools/refuse.py` runs these
-//! tests once for each allocation, which it lets fail. They need few, so that this takes a minute.
+//! Memory is refused: what stands then is as before, and the same call goes on when it comes again.
+//! `tools/refuse.py` runs these tests once for each allocation, which it lets fail. They need few, so
+//! that this takes a minute.
 #![tactic(auto)]
 
 #[cfg(test)]
