@@ -3,7 +3,9 @@
 # Atoms: 100,000 transactions are begun, capture a node each and are fused, and then twice as many; twice the number is to
 # take at most 2.3 times the time. Space: 200,000 charges and as many deferrals on a volume of 1,048,576 blocks, by 1,000
 # atoms in turn and by 10,000; ten times the atoms are to take the same time. (What is no call is taken off: the time of the
-# same words with none.) The fastest round of each is printed.
+# same words with none.) The fastest round of each is printed. On four processors that proved crates meanwhile, of 15 rounds:
+# 45.6 and 98.2 ms, ratio 2.15; 57.8 and 62.9 ms, ratio 1.09, so 0.15 microseconds a call of the space. No merge of atoms is
+# among them: it looks through all blocks that are deferred.
 set -eu
 
 rounds=${1:-9}

@@ -55,6 +55,9 @@ fn room_is_made_again_where_memory_is_refused(rt: HostRuntime) -> Result<(), Fai
     let alloc = rt.alloc();
     let mut atoms = Atoms::new(alloc);
     same(&rt, &room(alloc, &mut atoms), &true, "room");
+    if atoms.begun() > 0 {
+        return Err(Fail::from("no transaction"));
+    }
     let txn = atoms.begin(alloc, ScriptNo(1));
     let (atom, node) = (AtomNo(1), NodeId(23));
     same(&rt, &txn.is_ok(), &true, "begun without memory");
