@@ -1,10 +1,11 @@
-# What the scripts of bench/ share; each reads it with `. "$here/common.sh"`, where $here is its directory.
-tool=$here/../out/r4_tool
+# What the scripts of bench/ share; each reads it with `. "$here/common.sh"`, where $here is its directory, and $tool the
+# program, where it is another one than r4's.
+tool=${tool:-$here/../out/r4_tool}
 work=$(mktemp -d "$here/work.XXXXXX")
 trap 'rm -rf -- "$work"' EXIT
 
 if [ ! -x "$tool" ]; then
-    echo "bench: there is no $tool: run ./r4 demo first" >&2
+    echo "bench: there is no $tool: build it first, as the head of this script says" >&2
     exit 1
 fi
 

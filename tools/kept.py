@@ -7,8 +7,9 @@
     tools/kept.py check [FLAG..]    from a crate's folder: a check with these flags of rattle's
 
 A library is made as the gate makes it, and kept in the folder R4_KEPT (/tmp/r4-kept where it is not set) under a sum of
-all files that it stands on: so clones and branches share what is the same, and to go back costs nothing. What a crate's
-check, tests or program printed stands in the folder's `logs`. Only `rt ci` is the gate.
+all files that it stands on: so clones and branches share what is the same, and to go back costs nothing. What the proof
+of a crate printed stands beside its library, in `log`, and that of its tests in `tests.log`: so no clone writes over
+another one's. Only `rt ci` is the gate.
 """
 import concurrent.futures
 import fcntl
@@ -88,9 +89,8 @@ def crates_at(top):
 
 def refusal(crate, words, tests=False):
     """Why the gate would not take what rattle says of a crate to these words, or None."""
-    os.makedirs(f"{KEPT}/logs", exist_ok=True)
     os.makedirs(f"{crate.folder}/out", exist_ok=True)
-    log = f"{KEPT}/logs/{crate.name}{'.tests' if tests else ''}"
+    log = f"{place(crate)}/{'tests.log' if tests else 'log'}"
     with open(log, "w", encoding="utf-8") as out:
         status = subprocess.run([*RATTLE, *words], cwd=crate.folder, stdin=subprocess.DEVNULL, stdout=out, stderr=out).returncode
     with open(log, encoding="utf-8", errors="replace") as opened:

@@ -3,9 +3,9 @@
 
 docs/trust.md lists the definitions on which the promises of the top call rest. They are found by their names in the
 text of specs/: a definition rests on each one of the repository that its own text names, but for its own variables and
-fields. --check looks besides whether each crate has its rows, whether README.md is short and names crates and clauses
-that docs/proved.md tells of, whether what docs/changing.md names is there, and whether each page and section that a
-source file names is.
+fields. (What stands behind `←` is handed on by `>>=`, so that one is named there too.) --check looks besides whether
+each crate has its rows, whether README.md is short and names crates and clauses that docs/proved.md tells of, whether
+what docs/changing.md names is there, and whether each page and section that a source file names is.
 """
 import collections
 import glob
@@ -14,7 +14,8 @@ import re
 import sys
 
 ROOT = os.path.dirname(os.path.dirname(os.path.abspath(__file__)))
-HEAD = re.compile(r"(?:(?:abbrev|unfoldable|opaque) )?(?:pub )?(record |data )?([A-Za-z_][\w']*)")
+HEAD = re.compile(r"(?:(?:abbrev|unfoldable|opaque) )?(?:pub )?(record |data )?((?!pub\b|infixl\b)[A-Za-z_][\w']*|◌\S*◌)")
+OPERATOR = re.compile(r"(?<=\s)[^\w\s(){}\[\].,:;'\"]+(?=\s)")
 WORD = re.compile(r"(?<![\w'.])[A-Za-z_][\w']*")
 IMPORT = re.compile(r"^use Rattle\.(\w+)\.specs\.([\w.]+)\.\{([^}]*)\}", re.M)
 
@@ -79,7 +80,8 @@ class Definition:
         bound = re.findall(r"λ ([^.]*)\.", code) + re.findall(r"\(([\w' ]+) :", code)
         bound += re.findall(rf"^{re.escape(self.name)}\b([^=]*)=", code, re.M)
         variables = {word for text in bound for word in WORD.findall(text) if word[0].islower()}
-        return set(WORD.findall(code)) - variables
+        signs = {f"◌{sign}◌" for sign in OPERATOR.findall(code.replace("←", ">>="))}
+        return set(WORD.findall(code)) - variables | signs
 
 
 def parts(module, text):
@@ -91,7 +93,7 @@ def parts(module, text):
             comment = []
         elif line.startswith("--"):
             comment.append(line)
-        elif line.startswith(" "):
+        elif line.startswith((" ", "(")):
             if found:
                 found[-1].lines += comment + [line]
             comment = []
@@ -136,7 +138,7 @@ class Specs:
             elif where.startswith("declared."):
                 kind = "constants" if where.endswith("TheConstants") else "types"
                 others[kind].add(where.split(".")[-2] if where.endswith("TheVariants") else name)
-            elif low == "std":
+            elif low == "std" and not name.startswith("◌"):
                 others["words"].add(name)
 
     def under(self, start, others):
@@ -196,7 +198,7 @@ def trust_page():
         "A proof says that the code does what the definitions say. That the definitions say what a reader takes them to"
         " say, no proof tells. This page lists, for each promise of the top call `r4_main` (`r4_top/src/top.rt`), the"
         " definitions on which it rests, so that they can be read and all else can be skipped: "
-        f"{len(read)} definitions, {lines_of(read)} lines with their comments, serve all three commands.",
+        f"{len(read)} definitions, {lines_of(read)} lines with their comments, serve all four commands.",
         "",
         "In each table the promise comes first, and then what it names. Within a file the definitions are best read in"
         " the order in which they stand. tools/pages.py makes this page; it finds the definitions by their names, so"

@@ -1,16 +1,18 @@
 #!/usr/bin/env python3
-"""Lets each allocation of the tests of r4_refusal_tests fail in turn: tools/refuse.py [COUNT], from the root of the repository.
+"""Lets each allocation of the tests of r4_refusal_tests fail in turn: tools/refuse.py [FROM TO], from the root of the
+repository.
 
 Each test makes a call again that memory was refused to, after it has looked at what stands; so all of them pass whichever
-allocation fails. The first COUNT allocations of each test are refused, 24 where no number is given, which is more than any
-of them makes.
+allocation fails. The allocations of each test from FROM to TO are refused one by one, from the first to the 24th where no
+numbers are given. That is more than any of them makes, but for the one that opens an image: that makes its device first,
+and its last ones, those of the opening, come by `tools/refuse.py 70 80`.
 """
 import subprocess
 import sys
 
 
-def main(count):
-    for number in range(1, count + 1):
+def main(first, last):
+    for number in range(first, last + 1):
         run = subprocess.run(
             ["rt", "try", "--test", "--fail-alloc", str(number)],
             cwd="crates/r4_refusal_tests", capture_output=True, text=True)
@@ -24,4 +26,4 @@ def main(count):
 
 
 if __name__ == "__main__":
-    sys.exit(main(int(sys.argv[1]) if sys.argv[1:] else 24))
+    sys.exit(main(int(sys.argv[1]), int(sys.argv[2])) if len(sys.argv) == 3 else main(1, 24))

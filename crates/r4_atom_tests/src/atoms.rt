@@ -99,18 +99,50 @@ fn nodes(rt: &impl Abort, alloc: Global, atoms: &Atoms, atom: AtomNo) -> Result<
     Ok(numbers)
 }
 
-// Three transactions with a node each, of which the first and the third are one atom.
-fn three(rt: &impl Abort, alloc: Global) -> Result<Atoms, Fail> {
+// Three transactions with a node each.
+fn apart(rt: &impl Abort, alloc: Global) -> Result<Atoms, Fail> {
     let mut atoms = Atoms::new(alloc);
     for i in 1..4u32 {
         let atom = begin(rt, alloc, &mut atoms, 7 + i % 2)?;
         let _ = capture(rt, alloc, &mut atoms, atom, 10 * u64::from(i));
     }
+    Ok(atoms)
+}
+
+// The same, where the first and the third are one atom.
+fn three(rt: &impl Abort, alloc: Global) -> Result<Atoms, Fail> {
+    let mut atoms = apart(rt, alloc)?;
     assert!(rt; fuse(rt, &mut atoms, AtomNo(3), AtomNo(1)).0 == 1);
     Ok(atoms)
 }
 
-// The same, where the first atom is sealed.
+// The owners of the three nodes.
+fn owners(atoms: &Atoms) -> [Option<AtomNo>; 3] {
+    let first = atoms.owner(NodeId(10));
+    let second = atoms.owner(NodeId(20));
+    let third = atoms.owner(NodeId(30));
+    [first, second, third]
+}
+
+// The owners before the first and the third atom are fused, and after it.
+fn owners_by_a_fuse(rt: &impl Abort, atoms: &mut Atoms) -> [[Option<AtomNo>; 3]; 2] {
+    let before = owners(atoms);
+    let _ = fuse(rt, atoms, AtomNo(3), AtomNo(1));
+    let after = owners(atoms);
+    [before, after]
+}
+
+#[test]
+fn nodes_of_the_gone_atom_are_the_kept_ones(rt: HostRuntime) -> Result<(), Fail> {
+    let mut atoms = apart(&rt, rt.alloc())?;
+    let found = owners_by_a_fuse(&rt, &mut atoms);
+    let before = [Some(AtomNo(1)), Some(AtomNo(2)), Some(AtomNo(3))];
+    let after = [Some(AtomNo(1)), Some(AtomNo(2)), Some(AtomNo(1))];
+    assert!(rt; found == [before, after]);
+    Ok(())
+}
+
+// The same, where that atom is sealed.
 fn sealed(rt: &impl Abort, alloc: Global) -> Result<Atoms, Fail> {
     let mut atoms = three(rt, alloc)?;
     close(rt, &mut atoms, TxnNo(1));

@@ -3,6 +3,7 @@ use Rattle.std.proofs.Common.{◌≡◌, ◌≢◌, inl, inr, ℕ, zero, suc, �
 use Rattle.std.specs.Prelude.{Some, replicate, slice_get, slice_index_or, slice_set, ◌==◌, ◌||◌}
 use Rattle.std.specs.Int.{bit_at}
 use Rattle.std.proofs.lemmas.Bool.{cases_eq, eq-eqb}
+use Rattle.std.proofs.lemmas.List.{get_or_default}
 use Rattle.std.proofs.lemmas.Bool.Decides.{nat_tests}
 use Rattle.std.proofs.lemmas.Nat.Bits.{bit_at-zero}
 use Rattle.std.proofs.lemmas.Option.{same_Some}
@@ -13,14 +14,8 @@ use Rattle.r4_base.proofs.Lent.{refilled_is}
 use Rattle.r4_space.specs.Bitmaps.{marks}
 use Rattle.r4_check.specs.Blocks.{MarksOneMore}
 
--- an element within, whatever stands for one past the end
-pub any_default : {X : Type 0} (xs : List X) (i : ℕ) (a b : X) → i < length xs → get_or xs i a ≡ get_or xs i b
-any_default {X} [] i a b lt = absurd (omega (arith, lt))
-any_default {X} (x ∷ xs) zero a b lt = refl
-any_default {X} (x ∷ xs) (suc i) a b lt = any_default xs i a b (omega (arith, lt))
-
 pub element : (bitmaps : List (List ℕ)) (i : ℕ) (e : List ℕ) → i < length bitmaps → e ≡ slice_index_or bitmaps i e → e ≡ slice_index_or bitmaps i []
-element bitmaps i e lt is = is ∙ any_default bitmaps i e [] lt
+element bitmaps i e lt is = is ∙ get_or_default bitmaps i e [] lt
 
 pub read_bit : (block other : List ℕ) (i : ℕ) (bit : Bool) → i < 32736 → slice_get (bits_of block) i ≡ Some bit → block ≡ other → bit ≡ is_used other i
 read_bit block other i bit lt at is = sym (same_Some (is_used block i) bit (sym (get-bits_of i block lt) ∙ at)) ∙ ap (λ (b : List ℕ). is_used b i) is

@@ -2,7 +2,7 @@
 use Rattle.std.proofs.Common.{◌≡◌, inl, inr, ℕ, zero, suc, ◌+◌, ◌*◌, ◌<◌, ◌≤◌, Bool, true, false, not, ◌&&◌, ◌||◌, List, [], ◌∷◌, refl, sym, ap, subst, ◌∙◌, arith}
 use Rattle.std.specs.Prelude.{Option, Some, None, Contains, nat_lt, ◌==◌, if◌then◌else◌}
 use Rattle.std.specs.Option.{is_none}
-use Rattle.std.proofs.lemmas.Bool.{cases_eq, eq-eqb, ltb-true}
+use Rattle.std.proofs.lemmas.Bool.{and_parts, cases_eq, eq-eqb, ltb-true, not-true, or_parts}
 use Rattle.std.proofs.lemmas.Bool.Decides.{nat_tests}
 use Rattle.std.proofs.lemmas.List.Elements.{Contains-append_cases}
 use Rattle.r4_base.proofs.Choices.{chosen}
@@ -30,15 +30,11 @@ use Rattle.r4_check.proofs.Kept.{look_keeps_with, meet_by, one_of}
 no_names : (n : Name) → Contains [] n → ⊥
 no_names n (k, lt, e) = omega (arith, lt)
 
-neither : (a b : Bool) → (a || b) ≡ false → (a ≡ false) × (b ≡ false)
-neither true b h = absurd cc
-neither false b h = (refl, h)
-
 run_fits : (blocks key start width : ℕ) → start + width ≤ blocks → holds_fixed blocks start width ≡ false → AreBlocks blocks (run_names key start width)
 unfolding holds_fixed
 run_fits blocks key start zero le spares n at = absurd (no_names n at)
 run_fits blocks key start (suc w) le spares n at =
-    let free = neither (is_fixed blocks start) (holds_fixed blocks (start + 1) w) spares in
+    let free = or_parts (is_fixed blocks start) (holds_fixed blocks (start + 1) w) spares in
     elim (one_of (record { id = start; level = 0; lo = key; hi = key + 4096 }) (run_names (key + 4096) (start + 1) w) n at) [
       | inl e ↦ let Q : Name → Type 0 = λ m. (m.id < blocks) × (is_fixed blocks m.id ≡ false) in subst Q e (omega (arith, le), free.0)
       | inr later ↦ run_fits blocks (key + 4096) (start + 1) w (omega (arith, le)) free.1 n later
@@ -58,21 +54,12 @@ units_fit blocks key (u ∷ us) h n at = elim (Contains-append_cases (if is_hole
   | inr later ↦ units_fit blocks (key + 4096 * u.width) us h.1 n later
 ]
 
-both : (a b : Bool) → (a && b) ≡ true → (a ≡ true) × (b ≡ true)
-both true true h = (refl, refl)
-both true false h = absurd cc
-both false b h = absurd cc
-
-is_not : (b : Bool) → not b ≡ true → b ≡ false
-is_not true h = absurd cc
-is_not false h = refl
-
 pointer_fits : (blocks level key next : ℕ) (o : Option ℕ) → names_block false blocks o ≡ true → AreBlocks blocks (pointer_names level key next o)
 pointer_fits blocks level key next None h n at = absurd (no_names n at)
 pointer_fits blocks level key next (Some to) h n at =
-    let parts = both (nat_lt to blocks) (not (is_fixed blocks to)) h in
+    let parts = and_parts (nat_lt to blocks) (not (is_fixed blocks to)) h in
     elim (one_of _ [] n at) [
-      | inl e ↦ let Q : Name → Type 0 = λ m. (m.id < blocks) × (is_fixed blocks m.id ≡ false) in subst Q e (ltb-true to blocks parts.0, is_not _ parts.1)
+      | inl e ↦ let Q : Name → Type 0 = λ m. (m.id < blocks) × (is_fixed blocks m.id ≡ false) in subst Q e (ltb-true to blocks parts.0, not-true _ parts.1)
       | inr later ↦ absurd (no_names n later)
     ]
 

@@ -2,7 +2,7 @@
 use Rattle.std.proofs.Common.{add-zero, get_or, ◌≡◌, ℕ, zero, suc, ◌+◌, ◌*◌, ◌≤◌, Bool, true, false, cond, List, [], ◌∷◌, ◌++◌, map, refl, sym, ap, ◌∙◌, arith}
 use Rattle.std.specs.Prelude.{Some, count_by, if◌then◌else◌, slice_get, take}
 use Rattle.std.proofs.lemmas.List.Sums.{count_by_more_no, count_by_more_yes, sum_by-append, sum_by-cons}
-use Rattle.std.proofs.lemmas.Option.{same_Some, slice_get_within}
+use Rattle.std.proofs.lemmas.Option.{get_or_from_slice_get, slice_get_within}
 use Rattle.r4_base.specs.Cell.{bytes_from, cell_of, entry_unit, hole_bytes, is_dir, is_extent, is_pointer, is_stat, item_units, units_in, zeros_from}
 use Rattle.r4_base.specs.Dir.{Entry as DirEntry, entries_of}
 use Rattle.r4_base.specs.Extents.{is_hole, units_of}
@@ -78,17 +78,12 @@ cell_stats zero lo hi b some = absurd (omega (arith, some))
 cell_stats (suc l) lo hi b some = items_stats (items_of b)
 
 -- one item more
-pub got : {X : Type 0} (xs : List X) (i : ℕ) (x d : X) → slice_get xs i ≡ Some x → get_or xs i d ≡ x
-got {X} [] i x d is = absurd cc
-got {X} (y ∷ xs) zero x d is = same_Some y x is
-got {X} (y ∷ xs) (suc i) x d is = got xs i x d is
-
 pub stat_more : (items : List Item) (i : ℕ) (it : Item) → slice_get items i ≡ Some it → count_by is_stat (take (i + 1) items) ≡ count_by is_stat (take i items) + once (is_stat it)
 stat_more items i it at = by (is_stat it) refl
   where
     by : (b : Bool) → is_stat it ≡ b → count_by is_stat (take (i + 1) items) ≡ count_by is_stat (take i items) + once b
-    by true is = count_by_more_yes is_stat items i it (slice_get_within items i it at) (ap is_stat (got items i it it at) ∙ is)
-    by false is = count_by_more_no is_stat items i it (slice_get_within items i it at) (ap is_stat (got items i it it at) ∙ is) ∙ sym (add-zero (count_by is_stat (take i items)))
+    by true is = count_by_more_yes is_stat items i it (slice_get_within items i it at) (ap is_stat (get_or_from_slice_get items i it it at) ∙ is)
+    by false is = count_by_more_no is_stat items i it (slice_get_within items i it at) (ap is_stat (get_or_from_slice_get items i it it at) ∙ is) ∙ sym (add-zero (count_by is_stat (take i items)))
 
 pub small : (b : Bool) → once b ≤ 1
 small true = omega arith

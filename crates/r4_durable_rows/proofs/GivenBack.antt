@@ -2,7 +2,7 @@
 use Rattle.std.proofs.Common.{◌≡◌, ◌≢◌, inl, inr, ⊎_elim, ℕ, ◌+◌, ◌<◌, ◌≤◌, Bool, true, false, not, ◌||◌, List, [], ◌∷◌}
 use Rattle.std.proofs.Common.{◌++◌, length, None, get_or, set, refl, sym, ap, ◌∙◌, subst, arith, get_or-set_same}
 use Rattle.std.specs.Prelude.{Contains, filter, map}
-use Rattle.std.proofs.lemmas.Bool.{cases_Bool, cases_eq, eq-eqb, ne_eqb, or_parts}
+use Rattle.std.proofs.lemmas.Bool.{cases_Bool, cases_eq, eq-eqb, ne_eqb, or_parts, or_right}
 use Rattle.std.proofs.lemmas.List.{append-nil, get_or-replicate}
 use Rattle.std.proofs.lemmas.List.Elements.{All-contains, filter-append}
 use Rattle.std.proofs.lemmas.List.Folds.{list_any-append}
@@ -59,19 +59,15 @@ own_gone : (atom : AtomNo) (bs : List ℕ) → claims_without atom (map (claim a
 own_gone atom [] = refl
 own_gone atom (b ∷ bs) = let same : is_atom atom atom ≡ true = eq-eqb atom.0 atom.0 refl in rw same (own_gone atom bs)
 
-or_second : (s t : Bool) → t ≡ true → (s || t) ≡ true
-or_second true t e = refl
-or_second false t e = e
-
 own_claimed : (atom : AtomNo) (bs : List ℕ) (b : ℕ) → Contains bs b → is_claimed (map (claim atom) bs) b ≡ true
 own_claimed atom [] b h = absurd (no_member b h)
 own_claimed atom (x ∷ bs) b h = ⊎_elim
     (λ is. let hit : is_block b (claim atom x) ≡ true = eq-eqb x b (sym is) in rw hit refl)
-    (λ later. or_second (is_block b (claim atom x)) (is_claimed (map (claim atom) bs) b) (own_claimed atom bs b later))
+    (λ later. or_right (is_block b (claim atom x)) (is_claimed (map (claim atom) bs) b) (own_claimed atom bs b later))
     (member_cases x bs b h)
 
 either_claimed : (xs ys : List Claim) (b : ℕ) → is_claimed ys b ≡ true → is_claimed (xs ++ ys) b ≡ true
-either_claimed xs ys b is = list_any-append (is_block b) xs ys ∙ or_second (is_claimed xs b) (is_claimed ys b) is
+either_claimed xs ys b is = list_any-append (is_block b) xs ys ∙ or_right (is_claimed xs b) (is_claimed ys b) is
 
 -- an atom's own claims stay where another atom settles
 own_stay : (atom other : AtomNo) (claims : List Claim) → atom.0 ≢ other.0
@@ -198,7 +194,7 @@ placed_is_lost n image m d s atom b count long (lt, clear, free) marked none =
     let (not_marked, not_placed, held, deferred) = all_false (get_or s.marked b false) (get_or s.placed b false)
     (is_claimed s.held b) (is_claimed s.deferred b) clear in
     let now : (get_or s.marked b false || get_or (set s.placed b true) b false) ≡ true =
-    or_second (get_or s.marked b false) (get_or (set s.placed b true) b false)
+    or_right (get_or s.marked b false) (get_or (set s.placed b true) b false)
     (get_or-set_same s.placed b true false (omega (arith, lt, long))) in (
       subst (λ (j : ℕ). b < j) (sym count) lt,
       marked ∙ stays_marked (with_placed s b) atom b now

@@ -8,4 +8,5 @@ pub mod GivenBack
 pub mod StillNeeded
 pub mod ToldEarly
 pub mod Counting
+pub mod Bounding
 pub mod Changed

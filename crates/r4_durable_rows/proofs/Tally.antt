@@ -3,7 +3,7 @@ use Rattle.std.proofs.Common.{◌≡◌, ◌≢◌, inl, inr, ⊎_elim, ℕ, zer
 use Rattle.std.proofs.Common.{cond, eqb, List, [], ◌∷◌, length, refl, sym, ap, ◌∙◌, subst, arith, add-one}
 use Rattle.std.specs.Prelude.{Contains, count_by, map, sum_by}
 use Rattle.std.specs.List.{range_with_len}
-use Rattle.std.proofs.lemmas.Bool.{cases_eq, eq-eqb, ne_eqb}
+use Rattle.std.proofs.lemmas.Bool.{cases_eq, eq-eqb, false_from_ne_true, ne_eqb}
 use Rattle.std.proofs.lemmas.List.FromFn.{sum_by-map-range_with_len_more}
 use Rattle.std.proofs.lemmas.List.Sums.{sum_by-cons}
 use Rattle.r4_base.specs.Image.{AreDifferent}
@@ -102,10 +102,6 @@ less f b n lt has = tally-one f (without f b) b n lt has (without_it f b) (witho
 
 -- ---- the numbers of a list
 
-not_true : (b : Bool) → (b ≡ true → ⊥) → b ≡ false
-not_true true h = absurd (h refl)
-not_true false h = refl
-
 nothing : (n : ℕ) → tally (λ k. false) n ≡ 0
 unfolding tally
 nothing zero = refl
@@ -116,7 +112,7 @@ pub tally-list : (bs : List ℕ) (f : ℕ → Bool) (n : ℕ) → AreDifferent b
     → (b < n) × (f b ≡ true))
     → ((k : ℕ) → k < n → f k ≡ true → Contains bs k) → tally f n ≡ length bs
 tally-list [] f n apart has only =
-    let none = tally-same f (λ k. false) n (λ k lt. not_true (f k) (λ is. no_member k (only k lt is))) in
+    let none = tally-same f (λ k. false) n (λ k lt. false_from_ne_true (f k) (λ is. no_member k (only k lt is))) in
     none ∙ nothing n
 tally-list (b ∷ bs) f n apart has only =
     let (lt, is) = has b (member_here b bs b refl) in

@@ -1,4 +1,5 @@
 pub mod Orders
 pub mod Spaces
 pub mod Counted
+pub mod Bounded
 pub mod OneChange

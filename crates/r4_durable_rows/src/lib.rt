@@ -1,13 +1,15 @@
-//! Why a commit is made as it is: laws that say of a wrong body what it breaks; and how many blocks
-//! a volume has left (docs/durable.md, "Wrong bodies" and "Space comes back"). Each law is the
-//! contract of a function that does nothing.
+//! Why a commit is made as it is: laws that say of a wrong body what it breaks; how many blocks a
+//! volume has left; and how long a commit takes (docs/durable.md, "Wrong bodies", "Space comes back"
+//! and "How long a commit takes"). Each law is the contract of a function that does nothing.
 #![tactic(auto)]
 
+mod bounded;
 mod counted;
 mod orders;
 mod spaces;
 mod told;
 
+pub use bounded::sealed_atoms_are_committed_soon;
 pub use counted::{blocks_are_counted, space_comes_back};
 pub use orders::{
     headers_are_written_behind_logs, homes_are_written_behind_headers, orders_are_atomic,

@@ -1,5 +1,7 @@
--- The generated workload (docs/scripts.md, "The generated workload"): 20000 files in 200 directories, by four scripts.
-use Rattle.std.specs.Prelude.{ℕ, ◌+◌, ◌-◌, ◌*◌, ◌/◌, ◌%◌, ◌==◌, if◌then◌else◌, List, [], ◌∷◌, ◌++◌, map, flat_map, codes}
+-- The generated workload (docs/scripts.md, "The generated workload"): 20000 files in 200 directories,
+-- by four scripts.
+use Rattle.std.specs.Prelude.{ℕ, ◌+◌, ◌-◌, ◌*◌, ◌/◌, ◌%◌, ◌==◌, if◌then◌else◌}
+use Rattle.std.specs.Prelude.{List, [], ◌∷◌, ◌++◌, map, flat_map, codes}
 use Rattle.std.specs.List.{enumerate_from, filter, range_with_len}
 use Rattle.r4_content.specs.declared.command.Command.{Command}
 use Rattle.r4_content.specs.declared.command.Command.TheVariants.{Begin, Create, Fill, End, Mkdir, Unlink, Commit}

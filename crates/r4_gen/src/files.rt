@@ -1,7 +1,8 @@
 //! One file or directory of the workload: its names, and the commands that make it.
 
 ghost use Rattle.std.specs.Prelude.{◌≡◌, ◌+◌, ◌*◌, ◌/◌, ◌%◌, ◌<◌, ◌++◌, IfOk};
-ghost use Rattle.r4_gen.specs.Workload.{directory_name, directory_path, file_made, file_name, file_path, size_of, byte_of};
+ghost use Rattle.r4_gen.specs.Workload.{byte_of, directory_name, directory_path, file_made};
+ghost use Rattle.r4_gen.specs.Workload.{file_name, file_path, size_of};
 
 use r4_base::{Memory, Oid};
 use r4_content::{Command, Name, Path};

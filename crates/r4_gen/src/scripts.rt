@@ -2,7 +2,8 @@
 
 ghost use Rattle.std.specs.Prelude.{◌≡◌, ◌≤◌, ◌<◌, ◌++◌, IfOk};
 ghost use Rattle.r4_script.specs.Spelling.{AreScripts};
-ghost use Rattle.r4_gen.specs.Workload.{commit_behind, directory_made, directory_thinned, each_directory, script_of, workload_of};
+ghost use Rattle.r4_gen.specs.Workload.{commit_behind, directory_made, directory_thinned};
+ghost use Rattle.r4_gen.specs.Workload.{each_directory, script_of, workload_of};
 
 use crate::files::{FILES, make_file, path_of_directory, path_of_file};
 use r4_base::{Memory, Oid};
@@ -63,7 +64,8 @@ fn make_directories(
 ) -> Result<(), Memory>
     requires first { 1 ≤ number }
     requires last { number ≤ 4 }
-    ensures { IfOk result (λ _. commands.new.items ≡ commands.old.items ++ each_directory (directory_made seed) number) }
+    ensures { IfOk result (λ _. commands.new.items
+        ≡ commands.old.items ++ each_directory (directory_made seed) number) }
 {
     for k in 0..DIRECTORIES {
         make_directory(alloc, commands, seed, SCRIPTS * k + (number - 1))?;

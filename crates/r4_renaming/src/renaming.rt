@@ -14,11 +14,12 @@ use r4_flush::RenamedCell;
 use r4_turns::{Nodes, Turns};
 use std::alloc::Global;
 
-/// The cells of an atom get their new names: in memory, as nodes that the atom owns, and where they are kept for tasks
-/// that are out. No number of a new cell is the atom's any more. Answers the nodes that it owns then, those of its cells
-/// and blocks of cells that are gone. All memory is taken before the first of these changes; where there is none, there
-/// may be more room for cells, and all else is as it was. It costs the cells, the nodes that the atom owns, and what is
-/// kept for tasks that are out (docs/core.md, "Sealing").
+/// The cells of an atom get their new names: in memory, as nodes that the atom owns, and where they are
+/// kept for tasks that are out. No number of a new cell is the atom's any more. Answers the nodes that it
+/// owns then, those of its cells and blocks of cells that are gone. All memory is taken before the first
+/// of these changes; where there is none, there may be more room for cells, and all else is as it was.
+/// It costs the cells, the nodes that any atom captured, the number of scripts, each of which is looked at
+/// for a task, and what is kept for tasks that are out (docs/core.md, "Sealing").
 pub fn rename_atom(
     alloc: Global,
     atom: AtomNo,

@@ -1,4 +1,5 @@
-//! What is looked up before an atom is sealed. On a volume all of it holds; on a damaged image it may not.
+//! What is looked up before an atom is sealed. On a damaged image it may not hold. That it holds on
+//! each volume is not proved; what is found here is proved to be so.
 
 ghost use Rattle.std.specs.Prelude.{◌≡◌, ◌^◌, ◌≤◌, true};
 ghost use Rattle.r4_core.specs.r4_flushing.Sealable.{IsClear};

@@ -21,12 +21,13 @@ const THREE_ENTRIES: Wanted = Wanted {
     claims: 0,
 };
 
-/// An atom that was never sealed and has no open transaction is sealed, and its commit is under way: its cells have the
-/// names of their blocks, the plan of the commit is made, and the space has placed and holds what it takes. All memory of
-/// the commit is taken; the device is not called. The only error is want of memory. Then each `commit` at which a script
-/// waits for the atom is refused with `memory`, by rising script; and but for room all else is as it was. On a damaged
-/// image `Memory` also comes where a block that the commit would write is one on which something stands that the image
-/// does not mark, or where cells do not name each other (docs/core.md, "Flushing").
+/// An atom that was never sealed and has no open transaction is sealed, and its commit is under way: its
+/// cells have the names of their blocks, the plan of the commit is made, and the space has placed and
+/// holds what it takes. All memory of the commit is taken; the device is not called. The only error is
+/// want of memory. Then each `commit` at which a script waits for the atom is refused with `memory`, by
+/// rising script; and but for room all else is as it was. On a damaged image `Memory` also comes where a
+/// block that the commit would write is one on which something stands that the image does not mark, or
+/// where cells do not name each other (docs/core.md, "Flushing").
 pub fn flush<D: Device, R: Run>(
     core: &mut Core<D, R>,
     alloc: Global,

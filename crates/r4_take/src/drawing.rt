@@ -4,7 +4,7 @@ ghost use Rattle.std.specs.Prelude.{◌≡◌, ◌+◌, ◌^◌, ◌≤◌, Matc
 ghost use Rattle.r4_trace.specs.Ids.{no_id};
 ghost use Rattle.r4_take.specs.Drawing.{draws_for, names_drawn};
 
-use r4_base::Oid;
+use r4_base::{OBJECT_END, Oid};
 use r4_cell::Fresh;
 use r4_core::Numbers;
 use r4_turns::Numbers as Drawn;
@@ -13,7 +13,7 @@ use r4_turns::Numbers as Drawn;
 const NAMES_DRAWN: u64 = 64 + 1_048_576;
 
 /// The greatest number that no object has.
-const NO_ID: u64 = (1 << 60) - 1;
+const NO_ID: u64 = OBJECT_END - 1;
 
 /// The numbers that a command gets, and those that are drawn next then.
 #[derive(Clone, Copy, Debug, PartialEq, Eq)]
