@@ -1,5 +1,6 @@
 -- The options of `run` (docs/program.md, "Words").
-use Rattle.std.specs.Prelude.{◌≡◌, ◌⊎◌, ℕ, ◌≤◌, ◌-◌, ◌^◌, Bool, true, false, nat_eq, nat_le, nat_lt, ◌&&◌, if◌then◌else◌}
+use Rattle.std.specs.Prelude.{◌≡◌, ◌⊎◌, ℕ, ◌≤◌, ◌-◌, ◌^◌, Bool, true, false, nat_eq, nat_le, nat_lt, ◌&&◌}
+use Rattle.std.specs.Prelude.{if◌then◌else◌}
 use Rattle.std.specs.Prelude.{List, [], ◌∷◌, codes, bytes_eq, filter_map, length, map, string_bytes}
 use Rattle.std.specs.Prelude.{Option, Some, None, IfSome, IsSome, option_and_then, option_map, unwrap_or}
 use Rattle.std.specs.Char.{is_ascii_digit}

@@ -104,20 +104,23 @@ fn number(value: &str) -> Option<usize> {
 #[derive(Clone, Copy)]
 struct Place {
     number: Option<usize>,
-    words: usize,
+    words: u8,
 }
 
 // Looks for an option in all words: in words that begin with its name.
 fn find(name: &str, options: &[&str]) -> Option<Place> {
     let is_name = |word: &&str| word.split('=').next() == Some(name);
     match options.iter().filter(|word| is_name(word)).count() {
-        0 => return Some(Place { number: None, words: 0 }),
+        0 => return Some(Place {
+            number: None,
+            words: 0,
+        }),
         1 => {}
         _ => return None,
     }
     let at = options.iter().position(|word| is_name(word))?;
     let words = if options[at] == name { 2 } else { 1 };
-    let number = number(value(name, options.get(at..at + words)?)?)?;
+    let number = number(value(name, options.get(at..at + usize::from(words))?)?)?;
     Some(Place {
         number: Some(number),
         words,
@@ -127,11 +130,12 @@ fn find(name: &str, options: &[&str]) -> Option<Place> {
 fn run(options: &[&str]) -> Option<Found<'static>> {
     let (pick, tear) = (find("--pick", options)?, find("--tear", options)?);
     let (stop, threads) = (find("--stop", options)?, find("--threads", options)?);
-    if pick.words + tear.words + stop.words + threads.words != options.len() {
+    let own = usize::from(pick.words) + usize::from(tear.words) + usize::from(stop.words);
+    if own + usize::from(threads.words) != options.len() {
         return None;
     }
     let count = threads.number.unwrap_or(1);
-    if !(1..=16).contains(&count) || stop.words == 0 && pick.words + tear.words > 0 {
+    if !(1..=16).contains(&count) || stop.words == 0 && (pick.words > 0 || tear.words > 0) {
         return None;
     }
     let stop = stop.number.map(|writes| Stop {
@@ -203,6 +207,11 @@ fn two_readers_agree(rt: HostRuntime) -> Result<(), Fail> {
         commands = commands.saturating_add(u32::from(found.is_some()));
         stops = stops.saturating_add(u32::from(matches!(found, Some(Found::Run(_, Some(_))))));
     }
-    same(&rt, &(commands, stops), &(149, 11), "commands, and stops among them");
+    same(
+        &rt,
+        &(commands, stops),
+        &(149, 11),
+        "commands, and stops among them",
+    );
     Ok(())
 }

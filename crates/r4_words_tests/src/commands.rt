@@ -32,11 +32,26 @@ static SPELLED: [(&[&str], &str); 19] = [
         &["list", "i", "/a"],
         "Some(Offline(List { path: [47, 97] }))",
     ),
-    (&["run", "i"], "Some(Run(RunWords { threads: 1, stop: None }))"),
-    (&["run", "i", "--threads", "1"], "Some(Run(RunWords { threads: 1, stop: None }))"),
-    (&["run", "i", "--threads", "9"], "Some(Run(RunWords { threads: 9, stop: None }))"),
-    (&["run", "i", "--threads=1"], "Some(Run(RunWords { threads: 1, stop: None }))"),
-    (&["run", "i", "--threads=16"], "Some(Run(RunWords { threads: 16, stop: None }))"),
+    (
+        &["run", "i"],
+        "Some(Run(RunWords { threads: 1, stop: None }))",
+    ),
+    (
+        &["run", "i", "--threads", "1"],
+        "Some(Run(RunWords { threads: 1, stop: None }))",
+    ),
+    (
+        &["run", "i", "--threads", "9"],
+        "Some(Run(RunWords { threads: 9, stop: None }))",
+    ),
+    (
+        &["run", "i", "--threads=1"],
+        "Some(Run(RunWords { threads: 1, stop: None }))",
+    ),
+    (
+        &["run", "i", "--threads=16"],
+        "Some(Run(RunWords { threads: 16, stop: None }))",
+    ),
     (
         &["run", "i", "--threads", "00000000000000000016"],
         "Some(Run(RunWords { threads: 16, stop: None }))",
@@ -63,12 +78,32 @@ static SPELLED: [(&[&str], &str); 19] = [
         "Some(Run(RunWords { threads: 1, stop: Some(StopWords { writes: 7, tear: 0, pick: Some(0) }) }))",
     ),
     (
-        &["run", "i", "--pick", "18446744073709551615", "--tear=000254", "--stop=1", "--threads", "16"],
+        &[
+            "run",
+            "i",
+            "--pick",
+            "18446744073709551615",
+            "--tear=000254",
+            "--stop=1",
+            "--threads",
+            "16",
+        ],
         "Some(Run(RunWords { threads: 16, stop: Some(StopWords { writes: 1, tear: 254, \
          pick: Some(18446744073709551615) }) }))",
     ),
     (
-        &["run", "i", "--stop", "1", "--threads", "3", "--pick", "2", "--tear", "1"],
+        &[
+            "run",
+            "i",
+            "--stop",
+            "1",
+            "--threads",
+            "3",
+            "--pick",
+            "2",
+            "--tear",
+            "1",
+        ],
         "Some(Run(RunWords { threads: 3, stop: Some(StopWords { writes: 1, tear: 1, pick: Some(2) }) }))",
     ),
 ];

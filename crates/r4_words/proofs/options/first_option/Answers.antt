@@ -11,7 +11,8 @@ returns-in_err-option-clause-first c =
     (signed c.deref.result.now c.split_once.result c.split_once.ensures.cases (name, value) c.in-Some.is) in
     is_none _ c.from_residual.result c.from_residual.ensures (
     one_here string_bytes c.args.words.now c.word-item.result c.in-len1-up.len_at_least c.word-item.is s.0
-    ∙ ap (λ o. put_before o (given_in (map string_bytes (take (length c.args.words.now - 1) (drop 1 c.args.words.now)))))
+    ∙ ap (λ o. put_before o (given_in
+    (map string_bytes (take (length c.args.words.now - 1) (drop 1 c.args.words.now)))))
     (s.1 ∙ unnamed name.now value.now (sym c.option_by.ensures ∙ c.in_err-option.was))
     )
 
@@ -22,14 +23,16 @@ returns-in-Some-clause-first c =
     let s = subst (λ w. (has_sign w ≡ true) × (given_in_one w ≡ given_by name.now value.now)) c.deref.ensures
     (signed c.deref.result.now c.split_once.result c.split_once.ensures.cases (name, value) c.in-Some.is) in
     one_here string_bytes c.args.words.now c.word-item.result c.in-len1-up.len_at_least c.word-item.is s.0
-    ∙ ap (λ o. put_before o (given_in (map string_bytes (take (length c.args.words.now - 1) (drop 1 c.args.words.now)))))
+    ∙ ap (λ o. put_before o (given_in
+    (map string_bytes (take (length c.args.words.now - 1) (drop 1 c.args.words.now)))))
     (s.1 ∙ named name.now value.now c.in_ok-option.option (sym c.option_by.ensures ∙ c.in_ok-option.was))
 
 pub returns-in_default-rest-clause-first : goal.returns-in_default-rest-clause-first
 returns-in_default-rest-clause-first c =
     let p = subst (λ w. has_sign w ≡ false) c.deref.ensures
     (plain c.deref.result.now c.split_once.result c.split_once.ensures.cases c.in_default-split_once.is) in
-    last_here string_bytes c.args.words.now _ c.word-item.result c.in-len1-up.len_at_least c.word-item.is p refl c.in_default-rest.len_below
+    last_here string_bytes c.args.words.now _ c.word-item.result c.in-len1-up.len_at_least c.word-item.is p refl
+    c.in_default-rest.len_below
 
 pub returns-in_err-option-2-clause-first : goal.returns-in_err-option-2-clause-first
 returns-in_err-option-2-clause-first c =
@@ -37,7 +40,8 @@ returns-in_err-option-2-clause-first c =
     (plain c.deref.result.now c.split_once.result c.split_once.ensures.cases c.in_default-split_once.is) in
     let rest = take (length c.args.words.now - 1) (drop 1 c.args.words.now) in
     is_none _ c.from_residual-in_err-option-2.result c.from_residual-in_err-option-2.ensures (
-    two_here string_bytes c.args.words.now rest c.word-item.result c.value-item.result c.in-len1-up.len_at_least c.word-item.is p
+    two_here string_bytes c.args.words.now rest c.word-item.result c.value-item.result c.in-len1-up.len_at_least
+    c.word-item.is p
     refl c.in-len1-up-rest.len_at_least c.value-item.is
     ∙ ap (λ o. put_before o (given_in (map string_bytes (take (length rest - 1) (drop 1 rest)))))
     (unnamed (string_bytes c.word-item.result) (string_bytes c.value-item.result)
@@ -49,7 +53,8 @@ returns-clause-first c =
     let p = subst (λ w. has_sign w ≡ false) c.deref.ensures
     (plain c.deref.result.now c.split_once.result c.split_once.ensures.cases c.in_default-split_once.is) in
     let rest = take (length c.args.words.now - 1) (drop 1 c.args.words.now) in
-    two_here string_bytes c.args.words.now rest c.word-item.result c.value-item.result c.in-len1-up.len_at_least c.word-item.is p
+    two_here string_bytes c.args.words.now rest c.word-item.result c.value-item.result c.in-len1-up.len_at_least
+    c.word-item.is p
     refl c.in-len1-up-rest.len_at_least c.value-item.is
     ∙ ap (λ o. put_before o (given_in (map string_bytes (take (length rest - 1) (drop 1 rest)))))
     (ap (λ v. given_by (string_bytes c.word-item.result) v) (sym c.as_str-2.ensures.value)

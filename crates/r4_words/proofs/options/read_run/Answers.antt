@@ -25,6 +25,7 @@ loop-rest-preserved c =
 pub returns-clause-found : goal.returns-clause-found
 returns-clause-found c =
     let words = map string_bytes c.args.options.now in
-    let all = subst (λ ws. IsSoFar words ws c.loop-rest.numbers) (none_left string_bytes c.loop-rest.rest.now c.loop-rest-test.ensures)
+    let all = subst (λ ws. IsSoFar words ws c.loop-rest.numbers)
+    (none_left string_bytes c.loop-rest.rest.now c.loop-rest-test.ensures)
     c.loop-rest.invariant.0 in
     c.run_asked.ensures.found ∙ sym (all_read words c.loop-rest.numbers all)
