@@ -2,7 +2,7 @@ use Rattle.std.proofs.Common.{◌∙◌, subst, sym}
 use Rattle.r4_outside.specs.Device.{Rose}
 use Rattle.r4_lines.proofs.Texts.{printed}
 use Rattle.r4_run.proofs.Told.{told_device, told_memory}
-use Rattle.r4_run.proofs.ending.tell_end.Goals as goal
+use Rattle.r4_run.proofs.ending.tell_served.Goals as goal
 
 pub returns-in-Broken-Ok : goal.returns-in-Broken-Ok
 returns-in-Broken-Ok g c =
@@ -14,4 +14,4 @@ returns-in-Broken-Ok g c =
     c.clock.ensures c.faults-in-Broken-Ok.ensures (printed _ _ _ c.write_device.result c.write_device.ensures)
 
 pub returns-in_default : goal.returns-in_default
-returns-in_default g c = told_memory _ _ _ _ _ _ (printed _ _ _ c.write_memory.result c.write_memory.ensures)
+returns-in_default g c = told_memory _ _ _ _ _ _ c.tell_memory.result c.tell_memory.ensures.code c.tell_memory.ensures.line
