@@ -19,6 +19,18 @@ does() {
     fi
 }
 
+# Runs the script over a copy of the empty volume, on a device that stops behind so many writes.
+cuts() {
+    cp -- "$work/empty.img" "$work/cut.img"
+    echo "\$ ./r4 run cut.img --stop $1 <script"
+    status=0
+    "$tool" run "$work/cut.img" --stop "$1" <"$work/script" 2>/dev/null || status=$?
+    if [ "$status" -ne 6 ]; then
+        echo "The demo failed: status $status, and 6 was wanted." >&2
+        exit 1
+    fi
+}
+
 # Copies so many blocks from a block on, for a look at them.
 blocks() {
     dd if="$work/$1" of="$work/part" bs=4096 skip="$2" count="$3" 2>/dev/null
@@ -35,6 +47,7 @@ same() {
 echo "A file of 64 blocks is made an empty volume: a root directory, and 40 blocks to fill."
 dd if=/dev/zero of="$work/volume.img" bs=4096 count=64 2>/dev/null
 does mkfs volume.img "made 64 blocks 40 free"
+cp -- "$work/volume.img" "$work/empty.img"
 blocks volume.img 16 1
 echo "Block 16, the master superblock, begins with: $(head -c 8 "$work/part")"
 echo
@@ -77,6 +90,24 @@ same "$work/wanted" "$work/part" "the trace is another one"
 does list volume.img "d 0755 3 0 0 1 /
 d 0755 2 0 0 1 /etc
 f 0644 1 0 0 19 /etc/hosts"
+
+echo
+echo "The power is cut in the middle of a commit. Of 10 writes 5 pass: the transaction lies in the log, and the"
+echo "journal header does not name it yet. Nothing was acknowledged, and the file is not there."
+cat >"$work/script" <<'END'
+script
+create /letter
+commit
+END
+cuts 5
+does replay cut.img "replayed 0"
+does list cut.img "d 0755 2 0 0 0 /"
+echo
+echo "One write more, and the header names it: its blocks are not in their place yet, and replay puts them there."
+cuts 6
+does replay cut.img "replayed 1"
+does list cut.img "d 0755 2 0 0 1 /
+f 0644 1 0 0 0 /letter"
 
 echo
 echo "An image of 1,024 blocks: its log has one committed transaction, whose three blocks are put in place."

@@ -1,5 +1,6 @@
 -- A session that was opened or not, in the words of a run.
-use Rattle.std.proofs.Common.{◌≡◌, ◌∙◌, ap, inl, inr, refl, sym, subst, arith, ℕ, ◌≤◌, List, [], Option, Some, None, Result, Ok}
+use Rattle.std.proofs.Common.{◌≡◌, ◌∙◌, ap, refl, sym, subst, arith, ℕ, ◌≤◌, List, [], Option, Some}
+use Rattle.std.proofs.Common.{None, Result, Ok}
 use Rattle.std.specs.Option.{option_map}
 use Rattle.r4_base.specs.Image.{Image, IsLawful as IsSize}
 use Rattle.r4_base.specs.Volume.{HasVolume}
@@ -22,11 +23,12 @@ use Rattle.r4_trace.specs.Job.{Asked}
 use Rattle.r4_trace.specs.Legal.{IsLegal}
 use Rattle.r4_trace.specs.Text.{trace_text}
 use Rattle.r4_trace.specs.Traced.{broken_at, committed_in, latest}
-use Rattle.r4_run.specs.Ending.{StandsSo, TellsEnd}
+use Rattle.r4_run.specs.Ending.{StandsSo}
 use Rattle.r4_run.specs.Naming.{named}
-use Rattle.r4_run.specs.Running.{Closed, Ends, IsTraceOf, Ran, TellsWhy}
+use Rattle.r4_run.specs.Running.{Closed, IsTraceOf, Served, StandsFor}
+use Rattle.r4_run.specs.declared.ending.End.TheVariants.{Opened, Unopened}
 use Rattle.r4_run.specs.declared.ending.Standing.{Standing}
-use Rattle.r4_run.proofs.Ends.{empty_legal, ends_so, stands_for}
+use Rattle.r4_run.proofs.Ends.{empty_legal, stands_for}
 
 -- the job that the scripts name
 pub job_is : (scripts : Option (List ℕ)) (text : List ℕ) (job : Job) → scripts ≡ Some text → job_of text ≡ Ok job
@@ -34,7 +36,8 @@ pub job_is : (scripts : Option (List ℕ)) (text : List ℕ) (job : Job) → scr
 job_is scripts text job is spells =
     subst (λ (x : Option (List ℕ)). job_named x ≡ Some (asked job)) (sym is) (ap job_read spells)
 
-module _ {D : Type 0} (start : Option Image) (clock : Option ℕ) (scripts : Option (List ℕ)) (c : CoreSeen D) (e : State)
+module _ {D : Type 0} (start : Option Image) (clock : Option ℕ) (scripts : Option (List ℕ)) (c : CoreSeen D)
+    (e : State)
     (legal : (o : Option Beginning) → BeginsWith (names_of start clock scripts) e.blocks o
     → IsLegal (commands greatest_size) (option_map start_of o) (Some (asked c.turns.job)) c.trace.entries)
     (time : latest c.trace.entries ≤ e.clock)
@@ -56,47 +59,46 @@ module _ {D : Type 0} (start : Option Image) (clock : Option ℕ) (scripts : Opt
     safe = safe;
   }
 
-  pub closed_so : (before : ℕ) (s : Standing) (printed : Result (Unit {0}) PrintFault) (code : ℕ)
-      (old mid new : SinkState) → StandsSo c s → PrintsSome (trace_text c.trace.entries) old printed mid
-      → TellsEnd before e s printed code mid new → Closed start clock scripts before old code e new
-  closed_so before s printed code old mid new so prints tells = record {
+  pub closed_so : (s : Standing) (printed : Result (Unit {0}) PrintFault) (old new : SinkState) → StandsSo c s
+      → PrintsSome (trace_text c.trace.entries) old printed new → Closed start clock scripts old s printed e new
+  closed_so s printed old new so prints = record {
     job = asked c.turns.job;
     trace = c.trace.entries;
     named_job = named_here;
     is = trace_is;
-    ends = ends_so (names_of start clock scripts) (asked c.turns.job) c.trace.entries before e s printed code old mid
-        new (stands_for (names_of start clock scripts) c e s so content broken) prints tells;
+    stands = stands_for (names_of start clock scripts) c e s so content broken;
+    prints = prints;
   }
 
 module _ (start : Option Image) (clock : Option ℕ) (scripts : Option (List ℕ)) (text : List ℕ) (job : Job)
-    (scripts_are : scripts ≡ Some text) (spells : job_of text ≡ Ok job) (d e : State) (old new : SinkState)
-    (code : ℕ) where
+    (scripts_are : scripts ≡ Some text) (spells : job_of text ≡ Ok job) (d e : State) (old new : SinkState) where
   names_are : names_of start clock scripts ≡ named start clock (asked job)
   names_are = ap (λ (j : Option Asked). record { start = start; clock = clock; job = j })
       (job_is scripts text job scripts_are spells)
 
-  pub unopened_so : (why : OpenWhy) → IsOpenFault d why e → TellsWhy why code old new
-      → IsSafeTrace greatest_size (names_of start clock scripts) [] e → Ran start clock (asked job) d old code e new
-  unopened_so why is tells safe = record {
+  pub unopened_so : (why : OpenWhy) → IsOpenFault d why e
+      → IsSafeTrace greatest_size (names_of start clock scripts) [] e
+      → Served start clock (asked job) d old (Unopened why) e old
+  unopened_so why is safe = record {
     trace = [];
     is = record {
       legal = λ o b. empty_legal (commands greatest_size) (option_map start_of o) (asked job);
       time = omega arith;
       safe = subst (λ (r : Names). IsSafeTrace greatest_size r [] e) names_are safe;
     };
-    ends = inl (record { why = why; is = is; tells = tells; empty = refl });
+    came_to = (is, refl, refl);
   }
 
-  pub ran_so : (before : ℕ) → before ≡ d.faults → IsSize d.blocks → Closed start clock scripts before old code e new
-      → Ran start clock (asked job) d old code e new
-  ran_so before at size c = record {
+  pub served_so : (s : Standing) (printed : Result (Unit {0}) PrintFault) → IsSize d.blocks
+      → Closed start clock scripts old s printed e new → Served start clock (asked job) d old (Opened s printed) e new
+  served_so s printed size c = record {
     trace = c.trace;
     is = subst (λ (r : Names). IsTraceOf r e c.trace) names_are (c.is text scripts_are);
-    ends = inr (
+    came_to = (
       size,
-      subst (λ (n : ℕ). Ends (named start clock (asked job)) (asked job) c.trace n old code e new) at
-          (subst (λ (j : Asked). Ends (named start clock (asked job)) j c.trace before old code e new) same
-          (subst (λ (r : Names). Ends r c.job c.trace before old code e new) names_are c.ends)),
+      subst (λ (j : Asked). StandsFor (named start clock (asked job)) j c.trace e s) same
+          (subst (λ (r : Names). StandsFor r c.job c.trace e s) names_are c.stands),
+      c.prints,
     );
   }
     where

@@ -1,5 +1,7 @@
 -- What the status and the printed text tell of a run's end.
-use Rattle.std.proofs.Common.{◌≡◌, ◌++◌, inl, inr, sym, subst, ℕ, List, [], Option, Some, None, Result, Ok, Err, IsSome}
+use Rattle.std.proofs.Common.{◌≡◌, ◌∙◌, ◌++◌, append-nil, ap, arith, inl, inr, sym, subst, ℕ, Bool, true}
+use Rattle.std.proofs.Common.{false, List, [], Option, Some, None, Result, Ok, Err, IsSome}
+use Rattle.r4_base.specs.Image.{Image}
 use Rattle.r4_base.specs.Volume.{HasVolume}
 use Rattle.r4_content.specs.Locality.{Meaning, commands}
 use Rattle.r4_content.specs.Meaning.{greatest_size}
@@ -8,7 +10,7 @@ use Rattle.r4_content.specs.declared.reply.Reply.{Reply}
 use Rattle.r4_durable.specs.Meaning.{Beginning, IsNamed, Names}
 use Rattle.r4_history.specs.Tables.{asked}
 use Rattle.r4_kept.specs.View.{CoreSeen}
-use Rattle.r4_lines.specs.Lines.{device_line}
+use Rattle.r4_lines.specs.Lines.{device_line, memory_line}
 use Rattle.r4_lines.specs.Printed.{Gets, GetsPart, Prints}
 use Rattle.r4_outside.specs.Device.{State}
 use Rattle.r4_outside.specs.Sink.{SinkState}
@@ -23,8 +25,12 @@ use Rattle.r4_trace.specs.Legal.{IsLegal}
 use Rattle.r4_trace.specs.Text.{trace_text}
 use Rattle.r4_trace.specs.Traced.{broken_at, committed_in}
 use Rattle.r4_trace.specs.declared.entry.Entry.{Entry}
-use Rattle.r4_run.specs.Ending.{PrintsDevice, StandsSo, TellsEnd}
-use Rattle.r4_run.specs.Running.{Ends, IsWholeRun}
+use Rattle.r4_run.specs.Ending.{PrintsDevice, StandsSo, TellsEnd, TellsServed, TellsWhy}
+use Rattle.r4_run.specs.Naming.{named}
+use Rattle.r4_run.specs.Running.{CameTo, Ends, EndsSo, IsPrinted, Ran, Served, StandsFor}
+use Rattle.r4_run.specs.declared.ending.End.{End}
+use Rattle.r4_run.specs.declared.ending.End.TheVariants.{Opened, Unopened}
+use Rattle.r4_run.specs.Stopping.{EndsOver, RanOver}
 use Rattle.r4_run.specs.declared.ending.Standing.{Standing}
 use Rattle.r4_run.specs.declared.ending.Standing.TheVariants.{Broken, Unfinished, Whole}
 
@@ -52,29 +58,28 @@ module _ (text : List ℕ) (old mid new : SinkState) where
   device_behind e (Ok tt) p (inl g) = inl (appends_both text _ old mid new tt (Ok tt) (gets_of p) g)
   device_behind e (Ok tt) p (inr g) = inr (appends_both text _ old mid new tt (Err tt) (gets_of p) g)
   device_behind e (Err f) p (is, same) =
-      let q : PrintsSome {T = Unit {0}} text old (Err Sink) mid = subst (λ x. PrintsSome {T = Unit {0}} text old (Err x) mid) is p in
-      subst (λ m. Prints (text ++ device_line e.clock e.faults) old m) (sym same) (inr (appends_stopped text _ old mid tt tt (gets_part q)))
-
--- what is known of a run that stands so
-abbrev pub StandsFor : Names → Asked → List Entry → State → Standing → Type 0
-StandsFor r job trace e Whole = IsWholeRun r job trace e
-StandsFor r job trace e Broken = IsSome (broken_at trace)
-StandsFor r job trace e Unfinished = Unit {0}
+      let q : PrintsSome {T = Unit {0}} text old (Err Sink) mid = subst (λ x. PrintsSome {T = Unit {0}} text old
+      (Err x) mid) is p in
+      subst (λ m. Prints (text ++ device_line e.clock e.faults) old m) (sym same)
+      (inr (appends_stopped text _ old mid tt tt (gets_part q)))
 
 -- the trace is printed, and the status told
 pub ends_so : (r : Names) (job : Asked) (trace : List Entry) (before : ℕ) (e : State) (s : Standing)
     (printed : Result (Unit {0}) PrintFault) (code : ℕ) (old mid new : SinkState)
-    → StandsFor r job trace e s → PrintsSome (trace_text trace) old printed mid → TellsEnd before e s printed code mid new
+    → StandsFor r job trace e s → PrintsSome (trace_text trace) old printed mid
+    → TellsServed before e s printed code mid new
     → Ends r job trace before old code e new
 ends_so r job trace before e s printed code old mid new stands prints tells = record {
   codes = tells.codes;
   done = λ z. let t = tells.done z in (
     subst (λ x. StandsFor r job trace e x) t.0 stands,
-    subst (λ m. Gets (trace_text trace) old m) (sym t.2) (gets_of (trace_text trace) old mid new (subst (λ x. PrintsSome (trace_text trace) old x mid) t.1 prints)),
+    subst (λ m. Gets (trace_text trace) old m) (sym t.2) (gets_of (trace_text trace) old mid new
+        (subst (λ x. PrintsSome (trace_text trace) old x mid) t.1 prints)),
   );
   sink = λ z. let t = tells.sink z in (
     subst (λ x. StandsFor r job trace e x) t.0 stands,
-    subst (λ m. GetsPart (trace_text trace) old m) (sym t.2) (gets_part (trace_text trace) old mid new (subst (λ x. PrintsSome (trace_text trace) old x mid) t.1 prints)),
+    subst (λ m. GetsPart (trace_text trace) old m) (sym t.2) (gets_part (trace_text trace) old mid new
+        (subst (λ x. PrintsSome (trace_text trace) old x mid) t.1 prints)),
   );
   device = λ z. let t = tells.device z in (
     subst (λ x. StandsFor r job trace e x) t.0 stands,
@@ -92,3 +97,68 @@ pub stands_for : {D : Type 0} (r : Names) (c : CoreSeen D) (e : State) (s : Stan
 stands_for r c e Whole so volume told = record { whole = so.whole; volume = λ b is. volume b is so.sound so.rests }
 stands_for r c e Broken so volume told = subst (λ (o : Option ℕ). IsSome o) told so
 stands_for r c e Unfinished so volume told = tt
+
+-- ---- a run that is told
+
+module _ (start : Option Image) (clock : Option ℕ) (job : Asked) (d e : State) (old mid new : SinkState) where
+  ends_told : (trace : List Entry) (before : ℕ) (end : End) (code : ℕ) → before ≡ d.faults
+      → CameTo start clock job trace d old end e mid → TellsEnd before e end code mid new
+      → EndsSo start clock job trace d old code e new
+  ends_told trace before (Unopened why) code at (is, empty, same) tells = inl (record {
+    why = why;
+    is = is;
+    tells = subst (λ (m : SinkState). TellsWhy why code m new) same tells;
+    empty = empty;
+  })
+  ends_told trace before (Opened s printed) code at (size, stands, prints) tells = inr (
+    size,
+    subst (λ (n : ℕ). Ends (named start clock job) job trace n old code e new) at
+        (ends_so (named start clock job) job trace before e s printed code old mid new stands prints tells),
+  )
+
+  pub ran_told : (before : ℕ) (end : End) (code : ℕ) → before ≡ d.faults → Served start clock job d old end e mid
+      → TellsEnd before e end code mid new → Ran start clock job d old code e new
+  ran_told before end code at s tells = record {
+    trace = s.trace;
+    is = s.is;
+    ends = ends_told s.trace before end code at s.came_to tells;
+  }
+
+  nothing_printed : (trace : List Entry) → trace ≡ [] → mid ≡ old → IsPrinted (trace_text trace) old mid
+  nothing_printed trace none same =
+      subst (λ (t : List Entry). IsPrinted (trace_text t) old mid) (sym none)
+      (subst (λ (m : SinkState). IsPrinted (trace_text []) old m) (sym same) (record {
+        result = Ok tt;
+        prints = record {
+          told = (λ w. w, λ w. w);
+          faults = omega arith;
+          cause = tt;
+          whole = λ before is. is ∙ ap Some (sym (append-nil before));
+          part = λ before is. tt;
+        };
+      }))
+
+  pub some_printed : (trace : List Entry) (end : End) → CameTo start clock job trace d old end e mid
+      → IsPrinted (trace_text trace) old mid
+  some_printed trace (Unopened why) (is, empty, same) = nothing_printed trace empty same
+  some_printed trace (Opened s printed) (size, stands, prints) = record { result = printed; prints = prints }
+
+  pub over_told : (before : ℕ) (end : End) (code : ℕ) (starved : Bool) → starved ≡ false → before ≡ d.faults
+      → Served start clock job d old end e mid → TellsEnd before e end code mid new
+      → RanOver start clock job d old starved code e new
+  over_told before end code starved is at s tells = record {
+    trace = s.trace;
+    is = s.is;
+    ends = subst (λ (b : Bool). EndsOver b start clock job s.trace d old code e new) (sym is)
+        (ends_told s.trace before end code at s.came_to tells);
+  }
+
+  pub over_starved : (end : End) (code : ℕ) (starved : Bool) → starved ≡ true → code ≡ 9
+      → Served start clock job d old end e mid → Prints memory_line mid new
+      → RanOver start clock job d old starved code e new
+  over_starved end code starved is nine s line = record {
+    trace = s.trace;
+    is = s.is;
+    ends = subst (λ (b : Bool). EndsOver b start clock job s.trace d old code e new) (sym is)
+        (record { nine = nine; mid = mid; printed = some_printed s.trace end s.came_to; line = line });
+  }

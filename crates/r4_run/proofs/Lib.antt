@@ -2,3 +2,4 @@ pub mod Ends
 pub mod Told
 pub mod Scripted
 pub mod Closing
+pub mod Stopped

@@ -1,7 +1,9 @@
 -- What becomes of a source's text, and what is said of a borrowed device is so of the device.
-use Rattle.std.proofs.Common.{◌≡◌, ◌⊎◌, ◌↔◌, ◌∙◌, ap, inl, inr, refl, sym, ℕ, ◌≤◌, List, Option, Some, IsSome, Ok}
+use Rattle.std.proofs.Common.{◌≡◌, ◌⊎◌, ◌↔◌, ◌∙◌, ap, inl, inr, refl, sym, ℕ, ◌≤◌, List, Option, Some, None}
+use Rattle.std.proofs.Common.{IsSome, Ok}
 use Rattle.std.specs.Borrow.{GName}
 use Rattle.r4_base.specs.Image.{Image, IsLawful as IsSize}
+use Rattle.r4_devices.specs.declared.torn.Stop.{Stop}
 use Rattle.r4_history.specs.Tables.{asked}
 use Rattle.r4_outside.specs.Device.{State, lent_to}
 use Rattle.r4_outside.specs.Sink.{SinkState}
@@ -16,8 +18,10 @@ use Rattle.r4_start.specs.declared.fault.OpenWhy.TheVariants as why
 use Rattle.r4_trace.specs.Job.{Asked}
 use Rattle.r4_trace.specs.declared.entry.Entry.{Entry}
 use Rattle.r4_run.specs.Naming.{named}
-use Rattle.r4_run.specs.Running.{Ends, IsTraceOf, IsUnopened, IsWholeRun, Ran}
+use Rattle.r4_words.specs.Options.{StopAsked}
+use Rattle.r4_run.specs.Running.{Ends, EndsSo, IsTraceOf, IsUnopened, IsWholeRun, Ran}
 use Rattle.r4_run.specs.Scripts.{Runs, TellsFault}
+use Rattle.r4_run.specs.Stopping.{EndsStarved, RanStopped, RunsBy, stopping}
 
 -- ---- a borrowed device
 
@@ -78,7 +82,7 @@ module _ (start : Option Image) (clock : Option ℕ) (job : Asked) (n m : GName)
       inl (record { why = u.why; is = fault_lent u.why u.is; tells = u.tells; empty = u.empty })
   came_lent trace code old new (inr f) = inr (f.0, ends_lent trace d.faults code old new f.1)
 
-  pub ran_lent : (code : ℕ) (old new : SinkState) → Ran start clock job (lent_to n d) old code (lent_to m e) new
+  ran_lent : (code : ℕ) (old new : SinkState) → Ran start clock job (lent_to n d) old code (lent_to m e) new
       → Ran start clock job d old code e new
   ran_lent code old new r = record {
     trace = r.trace;
@@ -86,13 +90,49 @@ module _ (start : Option Image) (clock : Option ℕ) (job : Asked) (n m : GName)
     ends = came_lent r.trace code old new r.ends;
   }
 
+module _ (start : Option Image) (clock : Option ℕ) (job : Asked) (n m : GName) (d e : State) where
+  ended_lent : (stop : StopAsked) (halt : Option Stop) (trace : List Entry) (code : ℕ) (old new : SinkState)
+      → EndsStarved trace old code new ⊎ EndsSo start clock job trace
+      (stopping stop (lent_to n d) (lent_to n d) None) old code
+      (stopping stop (lent_to n d) (lent_to m e) halt) new
+      → EndsStarved trace old code new ⊎ EndsSo start clock job trace (stopping stop d d None) old code
+      (stopping stop d e halt) new
+  ended_lent stop halt trace code old new (inl starved) = inl starved
+  ended_lent stop halt trace code old new (inr ends) =
+      inr (came_lent start clock job n m (stopping stop d d None) (stopping stop d e halt) trace code old new ends)
+
+  stopped_lent : (stop : StopAsked) (code : ℕ) (old new : SinkState)
+      → RanStopped stop start clock job (lent_to n d) old code (lent_to m e) new
+      → RanStopped stop start clock job d old code e new
+  stopped_lent stop code old new r = record {
+    halt = r.halt;
+    covered = record { each = r.covered.each };
+    trace = r.trace;
+    is = trace_lent start clock job n m (stopping stop d d None) (stopping stop d e r.halt) r.trace r.is;
+    safe = λ o is. record { each = (r.safe o is).each };
+    ends = ended_lent stop r.halt r.trace code old new r.ends;
+    cause = r.cause;
+  }
+
+  pub runs_lent : (stop : Option StopAsked) (code : ℕ) (old new : SinkState)
+      → RunsBy stop start clock job (lent_to n d) old code (lent_to m e) new
+      → RunsBy stop start clock job d old code e new
+  runs_lent None code old new r = ran_lent start clock job n m d e code old new r
+  runs_lent (Some stop) code old new (inl u) = inl (record {
+    nine = u.nine;
+    idle = record { seen = u.idle.seen; clock = u.idle.clock };
+    line = u.line;
+  })
+  runs_lent (Some stop) code old new (inr r) = inr (stopped_lent stop code old new r)
+
 -- ---- the text
 
-module _ (start : Option Image) (clock : Option ℕ) (s s' : SourceState) (d e : State) (k k' : SinkState)
+module _ (stop : Option StopAsked) (start : Option Image) (clock : Option ℕ) (s s' : SourceState) (d e : State)
+    (k k' : SinkState)
     (told : IsSome s'.rest ↔ IsSome s.rest) (faults : s.faults ≤ s'.faults) (items text : List ℕ)
     (job : (rest : List ℕ) → s.rest ≡ Some rest → job_of items ≡ job_of rest) (same : text ≡ items) where
   pub no_job : (code : ℕ) (f : ParseFault) → Faults f (job_of text) → TellsFault f code k k'
-      → Runs start clock s s' d k code d k'
+      → Runs stop start clock s s' d k code d k'
   no_job code (Script f) is t = record {
     told = told;
     faults = faults;
@@ -110,13 +150,14 @@ module _ (start : Option Image) (clock : Option ℕ) (s s' : SourceState) (d e :
   }
 
   pub is_run : (n m : GName) (code : ℕ) (j : Job) → job_of text ≡ Ok j
-      → Ran start clock (asked j) (lent_to n d) k code (lent_to m e) k' → Runs start clock s s' d k code e k'
+      → RunsBy stop start clock (asked j) (lent_to n d) k code (lent_to m e) k'
+      → Runs stop start clock s s' d k code e k'
   is_run n m code j is r = record {
     told = told;
     faults = faults;
     came_to = inr (inr (record {
       job = j;
       is = λ rest at. sym (job rest at) ∙ sym (ap job_of same) ∙ is;
-      ran = ran_lent start clock (asked j) n m d e code k k' r;
+      ran = runs_lent start clock (asked j) n m d e stop code k k' r;
     }));
   }

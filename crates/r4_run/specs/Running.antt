@@ -4,12 +4,11 @@ use Rattle.std.specs.Prelude.{◌≡◌, ◌⊎◌, ◌++◌, ℕ, ◌≤◌, Li
 use Rattle.std.specs.Option.{option_map}
 use Rattle.r4_base.specs.Image.{Image, IsLawful as IsSize}
 use Rattle.r4_base.specs.Volume.{HasVolume}
-use Rattle.r4_base.specs.Words.{layout_word_of, log_word_of}
 use Rattle.r4_content.specs.Locality.{commands}
 use Rattle.r4_content.specs.Meaning.{greatest_size}
 use Rattle.r4_durable.specs.Meaning.{Beginning, BeginsWith, IsNamed, IsSafeTrace, Names, start_of}
 use Rattle.r4_kept.specs.Naming.{job_named, names_of}
-use Rattle.r4_lines.specs.Lines.{device_line, image_line, memory_line, size_line}
+use Rattle.r4_lines.specs.Lines.{device_line, memory_line}
 use Rattle.r4_lines.specs.Printed.{Gets, GetsPart, Prints}
 use Rattle.r4_outside.specs.Device.{Rose, State}
 use Rattle.r4_outside.specs.Sink.{SinkState}
@@ -17,14 +16,18 @@ use Rattle.r4_print.specs.Printing.{Prints as PrintsSome}
 use Rattle.r4_print.specs.declared.printing.PrintFault.{PrintFault}
 use Rattle.r4_start.specs.Starting.{IsOpenFault}
 use Rattle.r4_start.specs.declared.fault.OpenWhy.{OpenWhy}
-use Rattle.r4_start.specs.declared.fault.OpenWhy.TheVariants.{Device, Image as OfImage, Log, Memory, Size}
 use Rattle.r4_trace.specs.Folds.{after_first}
 use Rattle.r4_trace.specs.Job.{Asked}
 use Rattle.r4_trace.specs.Legal.{IsLegal, IsWhole}
 use Rattle.r4_trace.specs.Text.{trace_text}
 use Rattle.r4_trace.specs.Traced.{broken_at, committed_in, latest}
 use Rattle.r4_trace.specs.declared.entry.Entry.{Entry}
+use Rattle.r4_run.specs.Ending.{TellsWhy}
 use Rattle.r4_run.specs.Naming.{named}
+use Rattle.r4_run.specs.declared.ending.End.{End}
+use Rattle.r4_run.specs.declared.ending.End.TheVariants.{Opened, Unopened}
+use Rattle.r4_run.specs.declared.ending.Standing.{Standing}
+use Rattle.r4_run.specs.declared.ending.Standing.TheVariants.{Broken, Unfinished, Whole}
 
 -- ---- the trace
 
@@ -64,17 +67,7 @@ pub record Ends
     pub memory : code ≡ 9 → (mid : SinkState)
         × IsPrinted (trace_text trace) old mid × Prints memory_line mid new
 
--- and why one was not opened
-abbrev pub TellsWhy : OpenWhy → (code : ℕ) → (old new : SinkState) → Type 0
-TellsWhy (Log block fault) code old new =
-    (code ≡ 7) × Prints (image_line block.0 (log_word_of fault)) old new
-TellsWhy (OfImage block fault) code old new =
-    (code ≡ 7) × Prints (image_line block.0 (layout_word_of fault)) old new
-TellsWhy (Device clock faults) code old new =
-    (code ≡ 6) × Prints (device_line clock faults) old new
-TellsWhy (Size blocks) code old new = (code ≡ 8) × Prints (size_line blocks) old new
-TellsWhy Memory code old new = (code ≡ 9) × Prints memory_line old new
-
+-- and of one that was not opened
 pub record IsUnopened
     (d : State) (trace : List Entry) (old : SinkState) (code : ℕ) (e : State) (new : SinkState)
     : Type 0
@@ -83,6 +76,12 @@ pub record IsUnopened
     pub is : IsOpenFault d why e
     pub tells : TellsWhy why code old new
     pub empty : trace ≡ []
+
+abbrev pub EndsSo : (start : Option Image) (clock : Option ℕ) → Asked → (trace : List Entry)
+    → (d : State) (old : SinkState) (code : ℕ) (e : State) (new : SinkState) → Type 0
+-- an unlawful number of blocks is not passed over
+EndsSo start clock job trace d old code e new = IsUnopened d trace old code e new
+    ⊎ (IsSize d.blocks × Ends (named start clock job) job trace d.faults old code e new)
 
 -- ---- the run
 
@@ -94,20 +93,43 @@ pub record Ran
   where
     pub trace : List Entry
     pub is : IsTraceOf (named start clock job) e trace
-    -- an unlawful number of blocks is not passed over
-    pub ends : IsUnopened d trace old code e new
-        ⊎ (IsSize d.blocks × Ends (named start clock job) job trace d.faults old code e new)
+    pub ends : EndsSo start clock job trace d old code e new
 
--- ---- its end, as its core tells it
+-- ---- the run before its last line
 
--- A run of the scripts that are named, which was opened.
+-- what is known of a run that came so far
+abbrev pub StandsFor : Names → Asked → List Entry → State → Standing → Type 0
+StandsFor r job trace e Whole = IsWholeRun r job trace e
+StandsFor r job trace e Broken = IsSome (broken_at trace)
+StandsFor r job trace e Unfinished = Unit {0}
+
+-- how it ended: it was not opened, or it came so far and so much of its trace is printed
+abbrev pub CameTo : (start : Option Image) (clock : Option ℕ) → Asked → (trace : List Entry)
+    → (d : State) (old : SinkState) → End → (e : State) (new : SinkState) → Type 0
+CameTo start clock job trace d old (Unopened why) e new =
+    IsOpenFault d why e × (trace ≡ []) × (new ≡ old)
+CameTo start clock job trace d old (Opened standing printed) e new =
+    IsSize d.blocks × StandsFor (named start clock job) job trace e standing
+    × PrintsSome (trace_text trace) old printed new
+
+pub record Served
+    (start : Option Image) (clock : Option ℕ) (job : Asked) (d : State) (old : SinkState)
+    (end : End) (e : State) (new : SinkState) : Type 0
+  where
+    pub trace : List Entry
+    pub is : IsTraceOf (named start clock job) e trace
+    pub came_to : CameTo start clock job trace d old end e new
+
+-- A run of the scripts that are named, which was opened, as its core tells it.
 pub record Closed
-    (start : Option Image) (clock : Option ℕ) (scripts : Option (List ℕ)) (before : ℕ)
-    (old : SinkState) (code : ℕ) (e : State) (new : SinkState) : Type 0
+    (start : Option Image) (clock : Option ℕ) (scripts : Option (List ℕ)) (old : SinkState)
+    (standing : Standing) (printed : Result (Unit {0}) PrintFault) (e : State) (new : SinkState)
+    : Type 0
   where
     pub job : Asked
     pub trace : List Entry
     pub named_job : (text : List ℕ) → scripts ≡ Some text → job_named scripts ≡ Some job
     pub is : (text : List ℕ) → scripts ≡ Some text
         → IsTraceOf (names_of start clock scripts) e trace
-    pub ends : Ends (names_of start clock scripts) job trace before old code e new
+    pub stands : StandsFor (names_of start clock scripts) job trace e standing
+    pub prints : PrintsSome (trace_text trace) old printed new

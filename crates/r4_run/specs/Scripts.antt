@@ -16,7 +16,8 @@ use Rattle.r4_script.specs.declared.fault.What.TheVariants as whats
 use Rattle.r4_script.specs.declared.job.Job.{Job}
 use Rattle.r4_source.specs.declared.reading.ReadFault.{ReadFault}
 use Rattle.r4_source.specs.declared.reading.ReadFault.TheVariants as reads
-use Rattle.r4_run.specs.Running.{Ran}
+use Rattle.r4_words.specs.Options.{StopAsked}
+use Rattle.r4_run.specs.Stopping.{RunsBy}
 
 -- ---- what is printed of a text
 
@@ -66,19 +67,19 @@ pub record IsNoJob
 
 -- It is a job, which was run.
 pub record IsRun
-    (start : Option Image) (clock : Option ℕ) (rest : Option (List ℕ))
+    (stop : Option StopAsked) (start : Option Image) (clock : Option ℕ) (rest : Option (List ℕ))
     (d : State) (k : SinkState) (code : ℕ) (d' : State) (k' : SinkState) : Type 0
   where
     pub job : Job
     pub is : (text : List ℕ) → rest ≡ Some text → job_of text ≡ Ok job
-    pub ran : Ran start clock (asked job) d k code d' k'
+    pub ran : RunsBy stop start clock (asked job) d k code d' k'
 
--- The source was read, and its text was run, or why it was not.
+-- The source was read, and its text was run, on a device that stops where that is asked for; or why it was not.
 pub record Runs
-    (start : Option Image) (clock : Option ℕ) (s s' : SourceState)
+    (stop : Option StopAsked) (start : Option Image) (clock : Option ℕ) (s s' : SourceState)
     (d : State) (k : SinkState) (code : ℕ) (d' : State) (k' : SinkState) : Type 0
   where
     pub told : IsSome s'.rest ↔ IsSome s.rest
     pub faults : s.faults ≤ s'.faults
     pub came_to : IsUnread s s' d k code d' k'
-        ⊎ (IsNoJob s.rest d k code d' k' ⊎ IsRun start clock s.rest d k code d' k')
+        ⊎ (IsNoJob s.rest d k code d' k' ⊎ IsRun stop start clock s.rest d k code d' k')

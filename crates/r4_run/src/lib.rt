@@ -4,9 +4,9 @@
 
 mod ending;
 mod naming;
+mod running;
 mod scripts;
 mod session;
 
-pub use naming::run_job;
+pub use running::{Ended, run_job};
 pub use scripts::run_scripts;
-pub use session::Ended;

@@ -1,27 +1,32 @@
 //! The scripts of a source are run.
 
 ghost use Rattle.std.specs.Prelude.{◌≡◌};
+ghost use Rattle.std.specs.Option.{option_map};
 ghost use Rattle.r4_outside.specs.Device.{Goes};
 ghost use Rattle.r4_run.specs.Naming.{Begins};
+ghost use Rattle.r4_words.specs.Options.{asked_stop};
 ghost use Rattle.r4_run.specs.Scripts.{Runs, TellsFault, TellsUnread, script_word};
 
-use crate::naming::run_job;
-use crate::session::Ended;
-use r4_lines::{write_memory, write_script, write_source};
+use crate::ending::tell_memory;
+use crate::running::{Ended, run_job};
+use r4_lines::{write_script, write_source};
 use r4_outside::{Device, Gate, Run, Sink, Source};
 use r4_script::{ParseFault, ScriptFault, What, parse};
 use r4_source::{ReadFault, read_text};
+use r4_words::StopWords;
 use std::alloc::Global;
 use std::sync::Wait;
 use std::thread::Threads;
 
 /// Runs the scripts of a source on the volume of a device, by so many threads, and prints the trace:
-/// the command `run`. The text is read whole before the device is called. The answer is the status
-/// (docs/program.md, "Running" and "Lines and statuses").
+/// the command `run`. The text is read whole before the device is called. Where a stop is asked for, the
+/// run is that of a device over this one which stops so. The answer is the status (docs/program.md,
+/// "Running" and "Lines and statuses").
 pub fn run_scripts<D: Device, S: Source, K: Sink, G: Gate, R: Run, X: Threads + Wait + Sync>(
     rt: &X,
     alloc: Global,
     threads: u32,
+    stop: Option<StopWords>,
     dev: &mut D,
     script: &mut S,
     out: &mut K,
@@ -30,7 +35,7 @@ pub fn run_scripts<D: Device, S: Source, K: Sink, G: Gate, R: Run, X: Threads + 
 ) -> u8
     requires begins { Begins R.start R.clock (D.state dev.old) }
     ensures goes { Goes (D.state dev.old) (D.state dev.new) }
-    ensures runs { Runs R.start R.clock (S.state script.old) (S.state script.new)
+    ensures runs { Runs (option_map asked_stop stop) R.start R.clock (S.state script.old) (S.state script.new)
         (D.state dev.old) (K.state out.old) result (D.state dev.new) (K.state out.new) }
 {
     let text = match read_text(alloc, script) {
@@ -48,6 +53,7 @@ pub fn run_scripts<D: Device, S: Source, K: Sink, G: Gate, R: Run, X: Threads + 
         text.as_slice(),
         job,
         threads,
+        stop,
         gate,
         out,
         run,
@@ -64,10 +70,7 @@ fn tell_unread<K: Sink>(out: &mut K, fault: ReadFault) -> u8
             let _ = write_source(out, faults);
             4
         }
-        ReadFault::Memory => {
-            let _ = write_memory(out);
-            9
-        }
+        ReadFault::Memory => tell_memory(out),
     }
 }
 
@@ -80,10 +83,7 @@ fn tell_fault<K: Sink>(out: &mut K, fault: ParseFault) -> u8
             let _ = write_script(out, line, column, word_of(what));
             3
         }
-        ParseFault::Memory => {
-            let _ = write_memory(out);
-            9
-        }
+        ParseFault::Memory => tell_memory(out),
     }
 }
 

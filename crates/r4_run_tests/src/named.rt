@@ -29,7 +29,17 @@ fn run_named<X: Threads + Wait + Sync>(
 {
     let mut script = MemorySource::new(alloc, text)?;
     let gate = &OpenGate;
-    Ok(run_scripts(rt, alloc, 2, dev, &mut script, out, gate, Named::new()))
+    Ok(run_scripts(
+        rt,
+        alloc,
+        2,
+        None,
+        dev,
+        &mut script,
+        out,
+        gate,
+        Named::new(),
+    ))
 }
 
 // A volume that is made on a device which tells what crashes leave, and is quiet then.

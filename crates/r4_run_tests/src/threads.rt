@@ -67,7 +67,17 @@ fn threads_that_wait_are_woken(rt: HostRuntime) -> Result<(), Fail> {
         let mut script = MemorySource::new(alloc, b"script\ncreate /a\n")?;
         let mut out = MemorySink::new(alloc, 100)?;
         let (gate, run) = (&Slow, Unnamed::new());
-        let status = run_scripts(&rt, alloc, 4, &mut dev, &mut script, &mut out, gate, run);
+        let status = run_scripts(
+            &rt,
+            alloc,
+            4,
+            None,
+            &mut dev,
+            &mut script,
+            &mut out,
+            gate,
+            run,
+        );
         assert_eq!(&rt; status, 0);
     }
     Ok(())

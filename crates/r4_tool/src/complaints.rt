@@ -23,7 +23,7 @@ pub fn of_device(alloc: Global, trouble: Option<Trouble>) -> Result<String, Memo
         (λ t. IfOk result (λ s. StartsWith (string_bytes s) (call_text t.call))) }
 {
     let Some(Trouble { call, error }) = trouble else {
-        return format!(in alloc; "the file failed");
+        return format!(in alloc; "it stopped, as it was asked to");
     };
     let said = format!(in alloc; "{error}")?;
     let mut text = words_of_call(alloc, call)?;

@@ -19,22 +19,22 @@ pub record RefusesWords (d : State) (k : SinkState) (code : ℕ) (d' : State) (k
 abbrev pub IsRun : Option Asked → Type 0
 IsRun None = ⊥
 IsRun (Some (AsksOffline asked)) = ⊥
-IsRun (Some (AsksRun threads)) = Unit {0}
+IsRun (Some (AsksRun run)) = Unit {0}
 
 -- What a call answers, by what its words ask for, or faulty words. What a run answers, its trace tells.
 abbrev pub Answers : Option Asked → State → SinkState → ℕ → State → SinkState → Type 0
 Answers None d k code d' k' = RefusesWords d k code d' k'
 Answers (Some (AsksOffline asked)) d k code d' k' = AnswersOffline asked d k code d' k'
-Answers (Some (AsksRun threads)) d k code d' k' = Unit {0}
+Answers (Some (AsksRun run)) d k code d' k' = Unit {0}
 
 -- only a run reads the source
 abbrev pub LeavesSource : Option Asked → (old new : SourceState) → Type 0
 LeavesSource None old new = new ≡ old
 LeavesSource (Some (AsksOffline asked)) old new = new ≡ old
-LeavesSource (Some (AsksRun threads)) old new = Unit {0}
+LeavesSource (Some (AsksRun run)) old new = Unit {0}
 
 -- What crashes leave at any moment of a call on a quiet device; for a run its trace tells that.
 abbrev pub HasMoments : Option Asked → State → State → Type 0
 HasMoments None d d' = SettlesAlways d d'
 HasMoments (Some (AsksOffline asked)) d d' = HasMomentsOffline asked d d'
-HasMoments (Some (AsksRun threads)) d d' = Unit {0}
+HasMoments (Some (AsksRun run)) d d' = Unit {0}

@@ -1,10 +1,11 @@
 //! The top call.
 
-ghost use Rattle.std.specs.Prelude.{◌≡◌, map, string_bytes};
+ghost use Rattle.std.specs.Prelude.{◌≡◌, Some, map, string_bytes};
 ghost use Rattle.r4_outside.specs.Device.{Goes, IsQuiet};
 ghost use Rattle.r4_lines.specs.Lines.{usage_line};
 ghost use Rattle.r4_lines.specs.Printed.{Prints};
-ghost use Rattle.r4_words.specs.Words.{asked_of};
+ghost use Rattle.r4_words.specs.Options.{RunAsked};
+ghost use Rattle.r4_words.specs.Words.{AsksRun, asked_of};
 ghost use Rattle.r4_run.specs.Naming.{Begins};
 ghost use Rattle.r4_run.specs.Scripts.{Runs};
 ghost use Rattle.r4_top.specs.Answers.{Answers, HasMoments, IsRun, LeavesSource};
@@ -13,7 +14,7 @@ use r4_lines::write_usage;
 use r4_offline::{Status, obey};
 use r4_outside::{Device, Gate, Run, Sink, Source};
 use r4_run::run_scripts;
-use r4_words::{Command, read_words};
+use r4_words::{Command, RunWords, read_words};
 use std::alloc::Global;
 use std::sync::Wait;
 use std::thread::Threads;
@@ -34,16 +35,17 @@ pub fn r4_main<D: Device, S: Source, K: Sink, G: Gate, R: Run, X: Threads + Wait
     gate: &G,
     run: R,
 ) -> Status
-    requires begins { Begins R.start R.clock (D.state dev.old) }
+    requires begins { IsRun (asked_of (map string_bytes words.now)) → Begins R.start R.clock (D.state dev.old) }
     ensures goes { Goes (D.state dev.old) (D.state dev.new) }
     ensures script { LeavesSource (asked_of (map string_bytes words.now))
         (S.state script.old) (S.state script.new) }
     ensures answers { Answers (asked_of (map string_bytes words.now)) (D.state dev.old) (K.state out.old)
         result.code (D.state dev.new) (K.state out.new) }
 
-    // One trace tells what a run did, what it printed, and what a crash at any moment leaves.
-    ensures runs { IsRun (asked_of (map string_bytes words.now)) → Runs R.start R.clock
-        (S.state script.old) (S.state script.new)
+    // One trace tells what a run did, what it printed, and what a crash at any moment leaves of this device, also where
+    // the run was asked to stop.
+    ensures runs { (asked : RunAsked) → asked_of (map string_bytes words.now) ≡ Some (AsksRun asked)
+        → Runs asked.stop R.start R.clock (S.state script.old) (S.state script.new)
         (D.state dev.old) (K.state out.old) result.code (D.state dev.new) (K.state out.new) }
 
     // What a crash at any moment of another call leaves.
@@ -53,8 +55,8 @@ pub fn r4_main<D: Device, S: Source, K: Sink, G: Gate, R: Run, X: Threads + Wait
     match read_words(words) {
         None => refuse_words(out),
         Some(Command::Offline(command)) => obey(alloc, command, dev, out),
-        Some(Command::Run { threads }) => Status {
-            code: run_scripts(rt, alloc, threads, dev, script, out, gate, run),
+        Some(Command::Run(RunWords { threads, stop })) => Status {
+            code: run_scripts(rt, alloc, threads, stop, dev, script, out, gate, run),
         },
     }
 }

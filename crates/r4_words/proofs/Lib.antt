@@ -1,2 +1,5 @@
 mod Numbers
 mod Grammar
+mod Ranges
+mod Splitting
+mod Taking

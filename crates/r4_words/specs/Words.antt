@@ -1,10 +1,9 @@
 -- What the words of a command line ask for (docs/program.md, "Words").
 use Rattle.std.specs.Prelude.{ℕ, ◌≤◌, Bool, false, not, nat_eq, nat_le, ◌&&◌, if◌then◌else◌, List, [], ◌∷◌}
 use Rattle.std.specs.Prelude.{codes, bytes_eq, drop, length, Option, Some, None, option_map}
-use Rattle.std.specs.Char.{is_ascii_digit}
 use Rattle.std.specs.List.{list_all, starts_with}
-use Rattle.std.specs.Str.Parse.{digits_value}
 use Rattle.r4_mkfs.specs.Mkfs.{IsLabel}
+use Rattle.r4_words.specs.Options.{RunAsked, asked_run, run_of}
 use Rattle.r4_words.specs.declared.words.Command.{Command}
 use Rattle.r4_words.specs.declared.words.Command.TheVariants.{Offline as OfflineCommand, Run}
 use Rattle.r4_words.specs.declared.words.Offline.{Offline}
@@ -17,10 +16,10 @@ pub data AskedOffline : Type 0 where
   AsksMkfs : (label : List ℕ) → AskedOffline
   AsksList : (path : List ℕ) → AskedOffline
 
--- What is asked for; `run` has a number of threads, which is 1 where none was given.
+-- What is asked for.
 pub data Asked : Type 0 where
   AsksOffline : AskedOffline → Asked
-  AsksRun : (threads : ℕ) → Asked
+  AsksRun : RunAsked → Asked
 
 abbrev pub asked_offline : Offline → AskedOffline
 asked_offline Replay = AsksReplay
@@ -29,7 +28,7 @@ asked_offline (ListCommand path) = AsksList path.now
 
 abbrev pub asked_by : Command → Asked
 asked_by (OfflineCommand command) = AsksOffline (asked_offline command)
-asked_by (Run threads) = AsksRun threads
+asked_by (Run run) = AsksRun (asked_run run)
 
 -- a command that can be done: `mkfs` has a label that it takes, and the path of `list` is not empty
 abbrev pub CanBeDoneOffline : Offline → Type 0
@@ -40,7 +39,7 @@ CanBeDoneOffline (ListCommand path) = 1 ≤ length path.now
 -- `run` has from 1 to 16 threads
 abbrev pub CanBeDone : Command → Type 0
 CanBeDone (OfflineCommand command) = CanBeDoneOffline command
-CanBeDone (Run threads) = (1 ≤ threads) × (threads ≤ 16)
+CanBeDone (Run run) = (1 ≤ run.threads) × (run.threads ≤ 16)
 
 -- whether a word begins with '-'
 abbrev pub is_option : List ℕ → Bool
@@ -86,29 +85,6 @@ path_of [] = Some (codes "/")
 path_of (word ∷ []) = as_path word
 path_of (word ∷ more ∷ words) = None
 
--- 1 to 20 decimal digits and nothing else
-abbrev pub is_numeral : List ℕ → Bool
-is_numeral word = nat_le 1 (length word) && nat_le (length word) 20 && list_all is_ascii_digit word
-
--- A number of threads is from 1 to 16.
-abbrev pub is_thread_count : ℕ → Bool
-is_thread_count count = nat_le 1 count && nat_le count 16
-
-abbrev pub as_threads : List ℕ → Option ℕ
-as_threads word =
-    if is_numeral word && is_thread_count (digits_value 10 word) then Some (digits_value 10 word) else None
-
--- the number in `--threads=N`
-abbrev pub threads_in : List ℕ → Option ℕ
-threads_in word = if starts_with nat_eq word (codes "--threads=") then as_threads (drop 10 word) else None
-
--- The words behind the IMAGE of `run`: none, for one thread, `--threads N` or `--threads=N`.
-abbrev pub threads_of : List (List ℕ) → Option ℕ
-threads_of [] = Some 1
-threads_of (word ∷ []) = threads_in word
-threads_of (word ∷ value ∷ []) = if bytes_eq word (codes "--threads") then as_threads value else None
-threads_of (word ∷ value ∷ more ∷ words) = None
-
 -- no word follows the IMAGE of `replay`
 abbrev pub replay_of : List (List ℕ) → Option Asked
 replay_of [] = Some (AsksOffline AsksReplay)
@@ -123,5 +99,5 @@ asked_of (name ∷ image ∷ words) =
     if bytes_eq name (codes "replay") then replay_of words else
     if bytes_eq name (codes "mkfs") then option_map (λ label. AsksOffline (AsksMkfs label)) (label_of words) else
     if bytes_eq name (codes "list") then option_map (λ path. AsksOffline (AsksList path)) (path_of words) else
-    if bytes_eq name (codes "run") then option_map AsksRun (threads_of words) else
+    if bytes_eq name (codes "run") then option_map AsksRun (run_of words) else
     None

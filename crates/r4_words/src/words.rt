@@ -2,22 +2,22 @@
 
 ghost use Rattle.std.specs.Prelude.{◌≡◌, ◌≢◌, ◌≤◌, length, map, not, nat_eq, string_bytes};
 ghost use Rattle.std.specs.Prelude.{All, IfSome, IsTrue, option_map};
-ghost use Rattle.std.specs.Char.{is_ascii_digit};
 ghost use Rattle.std.specs.List.{list_all};
 ghost use Rattle.r4_mkfs.specs.Mkfs.{IsLabel};
-ghost use Rattle.r4_words.specs.Words.{CanBeDone, as_label, as_path, as_threads, asked_by, asked_of};
+ghost use Rattle.r4_words.specs.Words.{CanBeDone, as_label, as_path, asked_by, asked_of};
 ghost use Rattle.r4_words.specs.Words.{is_image as is_image_name, is_label as is_label_word};
-ghost use Rattle.r4_words.specs.Words.{is_numeral as is_numeral_word, is_option as is_option_word};
-ghost use Rattle.r4_words.specs.Words.{is_path as is_path_word, label_in, label_of, path_of};
-ghost use Rattle.r4_words.specs.Words.{threads_in, threads_of};
+ghost use Rattle.r4_words.specs.Words.{is_option as is_option_word, is_path as is_path_word};
+ghost use Rattle.r4_words.specs.Words.{label_in, label_of, path_of};
+
+use crate::options::{RunWords, read_run};
 
 /// What is to be done.
 #[derive(Clone, Copy, Debug)]
 pub enum Command<'a> {
     /// A command on an image that nobody else works on.
     Offline(Offline<'a>),
-    /// `run`, with from 1 to 16 threads, and one where no number was given.
-    Run { threads: u32 },
+    /// `run`
+    Run(RunWords),
 }
 
 /// What is to be done with an image that nobody else works on.
@@ -48,7 +48,7 @@ pub fn read_words(words: &[String]) -> Option<Command<'_>>
             .then_some(Command::Offline(Offline::Replay)),
         "mkfs" => read_label(options).map(|label| Command::Offline(Offline::Mkfs { label })),
         "list" => read_path(options).map(|path| Command::Offline(Offline::List { path })),
-        "run" => read_threads(options).map(|threads| Command::Run { threads }),
+        "run" => read_run(options).map(|run| Command::Run(run)),
         _ => None,
     }
 }
@@ -151,55 +151,4 @@ fn has_no_zero(word: &[u8]) -> bool
     ensures all { IsTrue result → All (λ byte. byte ≢ 0) word.now }
 {
     word.iter().all(|&byte| byte != 0)
-}
-
-// The number of threads in the words behind an IMAGE; one where there are none.
-fn read_threads(options: &[String]) -> Option<u32>
-    ensures range { IfSome result (λ threads. (1 ≤ threads) × (threads ≤ 16)) }
-    ensures found { result ≡ threads_of (map string_bytes options.now) }
-{
-    match options {
-        [] => Some(1),
-        [word] => threads_in(word.as_str()),
-        [name, value] if name.as_str() == "--threads" => as_threads(value.as_str()),
-        _ => None,
-    }
-}
-
-// The number of threads in a word that gives its name too.
-fn threads_in(word: &str) -> Option<u32>
-    ensures range { IfSome result (λ threads. (1 ≤ threads) × (threads ≤ 16)) }
-    ensures found { result ≡ threads_in word.now }
-{
-    match word.strip_prefix("--threads=") {
-        Some(value) => as_threads(value),
-        None => None,
-    }
-}
-
-// The word as a number of threads, where it may be one.
-fn as_threads(word: &str) -> Option<u32>
-    ensures range { IfSome result (λ threads. (1 ≤ threads) × (threads ≤ 16)) }
-    ensures found { result ≡ as_threads word.now }
-{
-    if !is_numeral(word.as_bytes()) {
-        return None;
-    }
-    let Ok(threads) = word.parse::<u32>() else {
-        return None;
-    };
-    (1..=16).contains(&threads).then_some(threads)
-}
-
-// Has the word 1 to 20 bytes, all of them decimal digits?
-fn is_numeral(word: &[u8]) -> bool
-    ensures { result ≡ is_numeral_word word.now }
-{
-    !word.is_empty() && word.len() <= 20 && has_digits_alone(word)
-}
-
-fn has_digits_alone(word: &[u8]) -> bool
-    ensures { result ≡ list_all is_ascii_digit word.now }
-{
-    word.iter().all(|byte| byte.is_ascii_digit())
 }

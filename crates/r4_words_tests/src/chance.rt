@@ -2,21 +2,29 @@
 
 use crate::commands::owned;
 use crate::same::same;
-use r4_words::{Command, Offline, read_words};
+use r4_words::{Command, Offline, RunWords, StopWords, read_words};
 use std::alloc::Global;
 use std::test::Fail;
 
 // What the first word is, the second, and each word behind them.
-static NAMES: [&str; 6] = ["run", "run", "mkfs", "list", "replay", "runs"];
+static NAMES: [&str; 8] = ["run", "run", "run", "run", "mkfs", "list", "replay", "runs"];
 
 static IMAGES: [&str; 5] = ["i", "i", "/", "-h", ""];
 
-static OPTIONS: [&str; 13] = [
-    "--threads",
+static OPTIONS: [&str; 21] = [
     "--threads",
     "--threads=",
     "--threads=7",
     "--threads=017",
+    "--stop",
+    "--stop",
+    "--stop=3",
+    "--stop=03",
+    "--stop=0",
+    "--tear",
+    "--tear=16",
+    "--pick",
+    "--pick=17",
     "--label",
     "--label=",
     "--label=a",
@@ -41,7 +49,14 @@ enum Found<'a> {
     Replay,
     Label(&'a [u8]),
     Path(&'a [u8]),
-    Threads(usize),
+    Run(usize, Option<Stop>),
+}
+
+#[derive(Clone, Copy, Debug, PartialEq, Eq)]
+struct Stop {
+    writes: usize,
+    tear: usize,
+    pick: Option<usize>,
 }
 
 // What the crate's reader finds.
@@ -50,7 +65,15 @@ fn first(command: Command<'_>) -> Found<'_> {
         Command::Offline(Offline::Replay) => Found::Replay,
         Command::Offline(Offline::Mkfs { label }) => Found::Label(label),
         Command::Offline(Offline::List { path }) => Found::Path(path),
-        Command::Run { threads } => Found::Threads(threads as usize),
+        Command::Run(RunWords { threads, stop }) => Found::Run(threads as usize, stop.map(as_stop)),
+    }
+}
+
+fn as_stop(words: StopWords) -> Stop {
+    Stop {
+        writes: words.writes as usize,
+        tear: words.tear as usize,
+        pick: words.pick.map(|number| number as usize),
     }
 }
 
@@ -66,15 +89,61 @@ fn value<'a>(name: &str, options: &[&'a str]) -> Option<&'a str> {
     }
 }
 
-// The numbers of threads, each at its own place.
-static NUMERALS: [&str; 17] = [
-    "", "1", "2", "3", "4", "5", "6", "7", "8", "9", "10", "11", "12", "13", "14", "15", "16",
+// Small numbers, each at its own place.
+static NUMERALS: [&str; 18] = [
+    "", "1", "2", "3", "4", "5", "6", "7", "8", "9", "10", "11", "12", "13", "14", "15", "16", "17",
 ];
 
-fn threads(value: &str) -> Option<Found<'static>> {
+fn number(value: &str) -> Option<usize> {
     let digits = value.trim_start_matches('0');
-    let count = NUMERALS.iter().position(|numeral| *numeral == digits)?;
-    (count > 0 && value.len() <= 20).then_some(Found::Threads(count))
+    let number = NUMERALS.iter().position(|numeral| *numeral == digits)?;
+    (!value.is_empty() && value.len() <= 20).then_some(number)
+}
+
+// The number of an option, wherever it stands, and how many words it takes.
+#[derive(Clone, Copy)]
+struct Place {
+    number: Option<usize>,
+    words: u8,
+}
+
+// Looks for an option in all words: in words that begin with its name.
+fn find(name: &str, options: &[&str]) -> Option<Place> {
+    let is_name = |word: &&str| word.split('=').next() == Some(name);
+    match options.iter().filter(|word| is_name(word)).count() {
+        0 => return Some(Place {
+            number: None,
+            words: 0,
+        }),
+        1 => {}
+        _ => return None,
+    }
+    let at = options.iter().position(|word| is_name(word))?;
+    let words = if options[at] == name { 2 } else { 1 };
+    let number = number(value(name, options.get(at..at + usize::from(words))?)?)?;
+    Some(Place {
+        number: Some(number),
+        words,
+    })
+}
+
+fn run(options: &[&str]) -> Option<Found<'static>> {
+    let (pick, tear) = (find("--pick", options)?, find("--tear", options)?);
+    let (stop, threads) = (find("--stop", options)?, find("--threads", options)?);
+    let own = usize::from(pick.words) + usize::from(tear.words) + usize::from(stop.words);
+    if own + usize::from(threads.words) != options.len() {
+        return None;
+    }
+    let count = threads.number.unwrap_or(1);
+    if !(1..=16).contains(&count) || stop.words == 0 && (pick.words > 0 || tear.words > 0) {
+        return None;
+    }
+    let stop = stop.number.map(|writes| Stop {
+        writes,
+        tear: tear.number.unwrap_or(0),
+        pick: pick.number,
+    });
+    Some(Found::Run(count, stop))
 }
 
 fn label(value: &str) -> Option<Found<'_>> {
@@ -98,8 +167,7 @@ fn second<'a>(words: &[&'a str]) -> Option<Found<'a>> {
         ("mkfs", _) => label(value("--label", options)?),
         ("list", []) => Some(Found::Path(b"/")),
         ("list", [path]) if path.starts_with('/') => Some(Found::Path(path.as_bytes())),
-        ("run", []) => Some(Found::Threads(1)),
-        ("run", _) => threads(value("--threads", options)?),
+        ("run", _) => run(options),
         _ => None,
     }
 }
@@ -112,10 +180,10 @@ fn pick<'a>(from: &[&'a str], state: &mut u64) -> &'a str {
     }
 }
 
-// At most five words by chance.
+// At most six words by chance.
 fn pick_words(alloc: Global, state: &mut u64) -> Result<Vec<&'static str>, Fail> {
     let mut words = Vec::new(alloc);
-    for place in 0..next(state) % 6 {
+    for place in 0..next(state) % 7 {
         let from = match place {
             0 => NAMES.as_slice(),
             1 => IMAGES.as_slice(),
@@ -129,15 +197,21 @@ fn pick_words(alloc: Global, state: &mut u64) -> Result<Vec<&'static str>, Fail>
 #[test]
 fn two_readers_agree(rt: HostRuntime) -> Result<(), Fail> {
     let alloc = rt.alloc();
-    let (mut state, mut commands) = (1, 0u32);
-    for _line in 0..1000u32 {
+    let (mut state, mut commands, mut stops) = (1, 0u32, 0u32);
+    for _line in 0..2000u32 {
         let words = pick_words(alloc, &mut state)?;
         let owned = owned(alloc, &words)?;
         let found = read_words(&owned).map(first);
         let text = format!(in alloc; "{words:?}")?;
         same(&rt, &found, &second(&words), text.as_str());
         commands = commands.saturating_add(u32::from(found.is_some()));
+        stops = stops.saturating_add(u32::from(matches!(found, Some(Found::Run(_, Some(_))))));
     }
-    same(&rt, &commands, &100, "commands");
+    same(
+        &rt,
+        &(commands, stops),
+        &(149, 11),
+        "commands, and stops among them",
+    );
     Ok(())
 }

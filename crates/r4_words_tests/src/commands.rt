@@ -16,7 +16,7 @@ pub fn owned(alloc: Global, words: &[&str]) -> Result<Vec<String>, Fail> {
 }
 
 // Words of a command line, and the command that they spell.
-static SPELLED: [(&[&str], &str); 13] = [
+static SPELLED: [(&[&str], &str); 19] = [
     (&["replay", "i"], "Some(Offline(Replay))"),
     (&["mkfs", "i"], "Some(Offline(Mkfs { label: [] }))"),
     (
@@ -32,23 +32,84 @@ static SPELLED: [(&[&str], &str); 13] = [
         &["list", "i", "/a"],
         "Some(Offline(List { path: [47, 97] }))",
     ),
-    (&["run", "i"], "Some(Run { threads: 1 })"),
-    (&["run", "i", "--threads", "1"], "Some(Run { threads: 1 })"),
-    (&["run", "i", "--threads", "9"], "Some(Run { threads: 9 })"),
-    (&["run", "i", "--threads=1"], "Some(Run { threads: 1 })"),
-    (&["run", "i", "--threads=16"], "Some(Run { threads: 16 })"),
+    (
+        &["run", "i"],
+        "Some(Run(RunWords { threads: 1, stop: None }))",
+    ),
+    (
+        &["run", "i", "--threads", "1"],
+        "Some(Run(RunWords { threads: 1, stop: None }))",
+    ),
+    (
+        &["run", "i", "--threads", "9"],
+        "Some(Run(RunWords { threads: 9, stop: None }))",
+    ),
+    (
+        &["run", "i", "--threads=1"],
+        "Some(Run(RunWords { threads: 1, stop: None }))",
+    ),
+    (
+        &["run", "i", "--threads=16"],
+        "Some(Run(RunWords { threads: 16, stop: None }))",
+    ),
     (
         &["run", "i", "--threads", "00000000000000000016"],
-        "Some(Run { threads: 16 })",
+        "Some(Run(RunWords { threads: 16, stop: None }))",
     ),
     (
         &["run", "i", "--threads=00000000000000000001"],
-        "Some(Run { threads: 1 })",
+        "Some(Run(RunWords { threads: 1, stop: None }))",
+    ),
+    (
+        &["run", "i", "--stop", "0"],
+        "Some(Run(RunWords { threads: 1, stop: Some(StopWords { writes: 0, tear: 0, pick: None }) }))",
+    ),
+    (
+        &["run", "i", "--stop=18446744073709551615"],
+        "Some(Run(RunWords { threads: 1, \
+         stop: Some(StopWords { writes: 18446744073709551615, tear: 0, pick: None }) }))",
+    ),
+    (
+        &["run", "i", "--tear", "255", "--threads=2", "--stop", "7"],
+        "Some(Run(RunWords { threads: 2, stop: Some(StopWords { writes: 7, tear: 255, pick: None }) }))",
+    ),
+    (
+        &["run", "i", "--pick=0", "--stop=7"],
+        "Some(Run(RunWords { threads: 1, stop: Some(StopWords { writes: 7, tear: 0, pick: Some(0) }) }))",
+    ),
+    (
+        &[
+            "run",
+            "i",
+            "--pick",
+            "18446744073709551615",
+            "--tear=000254",
+            "--stop=1",
+            "--threads",
+            "16",
+        ],
+        "Some(Run(RunWords { threads: 16, stop: Some(StopWords { writes: 1, tear: 254, \
+         pick: Some(18446744073709551615) }) }))",
+    ),
+    (
+        &[
+            "run",
+            "i",
+            "--stop",
+            "1",
+            "--threads",
+            "3",
+            "--pick",
+            "2",
+            "--tear",
+            "1",
+        ],
+        "Some(Run(RunWords { threads: 3, stop: Some(StopWords { writes: 1, tear: 1, pick: Some(2) }) }))",
     ),
 ];
 
 // Words that spell no command.
-static FAULTY: [&[&str]; 49] = [
+static FAULTY: [&[&str]; 71] = [
     &[],
     &["replay"],
     &["replay", ""],
@@ -92,6 +153,28 @@ static FAULTY: [&[&str]; 49] = [
     &["run", "i", "--threads", "000000000000000000001"],
     &["run", "i", "--threads=000000000000000000016"],
     &["run", "i", "--thread", "1"],
+    &["run", "i", "--tear", "1"],
+    &["run", "i", "--pick=1"],
+    &["run", "i", "--tear=1", "--pick=1", "--threads=2"],
+    &["run", "i", "--stop"],
+    &["run", "i", "--stop="],
+    &["run", "i", "--stop=1="],
+    &["run", "i", "--stop", "=1"],
+    &["run", "i", "--stop", ""],
+    &["run", "i", "--stop", "-1"],
+    &["run", "i", "--stop", "18446744073709551616"],
+    &["run", "i", "--stop=000000000000000000001"],
+    &["run", "i", "--stop=1", "--stop=1"],
+    &["run", "i", "--stop", "1", "--stop=1"],
+    &["run", "i", "--stop=1", "--tear"],
+    &["run", "i", "--stop=1", "--tear=256"],
+    &["run", "i", "--stop=1", "--tear", "1", "--tear=1"],
+    &["run", "i", "--stop=1", "--pick=18446744073709551616"],
+    &["run", "i", "--stop=1", "--pick=1", "--pick", "1"],
+    &["run", "i", "--stop=1", "--threads=0"],
+    &["run", "i", "--stop=1", "1"],
+    &["run", "i", "--stop", "--tear", "1"],
+    &["mkfs", "i", "--stop=1"],
     &["run", "i", "--"],
     &["run", "i", "-h"],
     &["run", "i", "--help"],

@@ -1,17 +1,10 @@
-use Rattle.std.proofs.Common.{◌∙◌, subst, sym}
-use Rattle.r4_outside.specs.Device.{Rose}
-use Rattle.r4_lines.proofs.Texts.{printed}
-use Rattle.r4_run.proofs.Told.{told_device, told_memory}
+use Rattle.r4_run.specs.declared.ending.End.TheVariants.{Opened, Unopened}
+use Rattle.r4_run.proofs.Told.{end_same}
 use Rattle.r4_run.proofs.ending.tell_end.Goals as goal
 
-pub returns-in-Broken-Ok : goal.returns-in-Broken-Ok
-returns-in-Broken-Ok g c =
-    let e = g.D.Device.state c.args.dev.now in
-    told_device c.args.before e c.args.standing c.args.printed _ _ c.clock.result c.faults-in-Broken-Ok.result
-    c.in-Broken-Ok.is-0 c.in-Broken-Ok.is-1
-    (subst (λ n. Rose c.args.before n) (c.faults.ensures ∙ sym c.faults-in-Broken-Ok.ensures)
-    (c.has_risen.ensures c.if-has_risen.true))
-    c.clock.ensures c.faults-in-Broken-Ok.ensures (printed _ _ _ c.write_device.result c.write_device.ensures)
+pub returns-in-Unopened : goal.returns-in-Unopened
+returns-in-Unopened g c = end_same _ (Unopened c.in-Unopened.why) _ _ _ _ _ c.in-Unopened.is c.tell_why.ensures
 
-pub returns-in_default : goal.returns-in_default
-returns-in_default g c = told_memory _ _ _ _ _ _ (printed _ _ _ c.write_memory.result c.write_memory.ensures)
+pub returns-in-Opened : goal.returns-in-Opened
+returns-in-Opened g c =
+    end_same _ (Opened c.in-Opened.standing c.in-Opened.printed) _ _ _ _ _ c.in-Opened.is c.tell_served.ensures

@@ -1,5 +1,4 @@
 use Rattle.std.proofs.Common.{refl}
-use Rattle.r4_lines.proofs.Texts.{printed}
 use Rattle.r4_script.specs.declared.fault.ParseFault.TheVariants.{Memory, Script}
 use Rattle.r4_run.specs.Scripts.{script_word}
 use Rattle.r4_run.proofs.Told.{fault_same, printed_script}
@@ -16,5 +15,5 @@ returns-in-Script g c =
 
 pub returns-in-Memory : goal.returns-in-Memory
 returns-in-Memory g c =
-    fault_same _ Memory 9 _ _ c.in-Memory.is
-    (refl, printed _ _ _ c.write_memory.result c.write_memory.ensures)
+    fault_same _ Memory c.tell_memory.result _ _ c.in-Memory.is
+    (c.tell_memory.ensures.code, c.tell_memory.ensures.line)

@@ -11,5 +11,5 @@ returns-in-Source g c =
 
 pub returns-in-Memory : goal.returns-in-Memory
 returns-in-Memory g c =
-    unread_same _ Memory 9 _ _ c.in-Memory.is
-    (refl, printed _ _ _ c.write_memory.result c.write_memory.ensures)
+    unread_same _ Memory c.tell_memory.result _ _ c.in-Memory.is
+    (c.tell_memory.ensures.code, c.tell_memory.ensures.line)

@@ -13,5 +13,5 @@ returns g c =
     let prints = subst (λ t. Prints (trace_text t.entries) (g.K.Sink.state c.args.out.now) printed.result
     (g.K.Sink.state printed.new.out)) c.trace.ensures printed.ensures in
     closed_so g.N.Run.start g.N.Run.clock g.N.Run.scripts core (g.E.Device.state c.into_device-dev.result)
-    d.legal d.time d.safe d.content kept.job (kept.told None tt).broken c.args.before c.standing_of-standing.result
-    printed.result c.tell_end-code.result _ _ _ c.standing_of-standing.ensures prints c.tell_end-code.ensures
+    d.legal d.time d.safe d.content kept.job (kept.told None tt).broken c.standing_of-standing.result
+    printed.result _ _ c.standing_of-standing.ensures prints

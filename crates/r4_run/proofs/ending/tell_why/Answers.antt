@@ -3,7 +3,7 @@ use Rattle.r4_base.specs.Words.{layout_word_of, log_word_of}
 use Rattle.r4_lines.proofs.Texts.{printed, printed_image}
 use Rattle.r4_start.specs.declared.fault.OpenWhy.TheVariants.{Device, Image, Log, Memory, Size}
 use Rattle.r4_run.proofs.Told.{why_same}
-use Rattle.r4_run.proofs.session.tell_why.Goals as goal
+use Rattle.r4_run.proofs.ending.tell_why.Goals as goal
 
 pub returns-in-Log : goal.returns-in-Log
 returns-in-Log g c =
@@ -33,5 +33,5 @@ returns-in-Size g c =
 
 pub returns-in-Memory : goal.returns-in-Memory
 returns-in-Memory g c =
-    why_same _ Memory 9 _ _ c.in-Memory.is
-    (refl, printed _ _ _ c.write_memory.result c.write_memory.ensures)
+    why_same _ Memory c.tell_memory.result _ _ c.in-Memory.is
+    (c.tell_memory.ensures.code, c.tell_memory.ensures.line)

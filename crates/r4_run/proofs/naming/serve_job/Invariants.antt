@@ -1,5 +1,5 @@
 use Rattle.std.proofs.Common.{None, Some}
-use Rattle.r4_run.proofs.naming.run_job.Given as goal
+use Rattle.r4_run.proofs.naming.serve_job.Given as goal
 
 -- what the caller names, and the text
 abbrev pub ghosts-begin : goal.ghosts-begin

@@ -1,6 +1,0 @@
-use Rattle.std.proofs.Common.{rules}
-use Rattle.r4_words.proofs.Numbers.{too_large}
-use Rattle.r4_words.proofs.words.as_threads.Goals as goal
-
-pub returns-in_default-clause-found : goal.returns-in_default-clause-found
-returns-in_default-clause-found c = too_large c.args.word.now (search rules) c.in_default.ensures.value.0
