@@ -3,3 +3,4 @@ pub mod Told
 pub mod Scripted
 pub mod Closing
 pub mod Stopped
+pub mod Completed

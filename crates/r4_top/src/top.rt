@@ -1,11 +1,12 @@
 //! The top call.
 
-ghost use Rattle.std.specs.Prelude.{◌≡◌, Some, map, string_bytes};
+ghost use Rattle.std.specs.Prelude.{◌≡◌, ◌⊎◌, None, Some, map, string_bytes};
 ghost use Rattle.r4_outside.specs.Device.{Goes, IsQuiet};
 ghost use Rattle.r4_lines.specs.Lines.{usage_line};
 ghost use Rattle.r4_lines.specs.Printed.{Prints};
 ghost use Rattle.r4_words.specs.Options.{RunAsked};
 ghost use Rattle.r4_words.specs.Words.{AsksRun, asked_of};
+ghost use Rattle.r4_run.specs.Completing.{IsUnhindered};
 ghost use Rattle.r4_run.specs.Naming.{Begins};
 ghost use Rattle.r4_run.specs.Scripts.{Runs};
 ghost use Rattle.r4_top.specs.Answers.{Answers, HasMoments, IsRun, LeavesSource};
@@ -47,6 +48,12 @@ pub fn r4_main<D: Device, S: Source, K: Sink, G: Gate, R: Run, X: Threads + Wait
     ensures runs { (asked : RunAsked) → asked_of (map string_bytes words.now) ≡ Some (AsksRun asked)
         → Runs asked.stop R.start R.clock (S.state script.old) (S.state script.new)
         (D.state dev.old) (K.state out.old) result.code (D.state dev.new) (K.state out.new) }
+
+    // Where nothing stands against it, a run comes to its end, or there is no memory.
+    ensures complete { (asked : RunAsked) → asked_of (map string_bytes words.now) ≡ Some (AsksRun asked)
+        → asked.stop ≡ None → IsUnhindered (S.state script.old) (S.state script.new)
+        (D.state dev.old) (D.state dev.new) (K.state out.old) (K.state out.new)
+        → (result.code ≡ 0) ⊎ (result.code ≡ 9) }
 
     // What a crash at any moment of another call leaves.
     ensures any_moment { IsQuiet (D.state dev.old)
