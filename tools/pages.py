@@ -26,7 +26,7 @@ CALLS = {"r4_main"}
 # The promises, in reading order: what each says, and the definitions that its clauses cite.
 TOP, OFFLINE, WORDS = "r4_top.Answers", "r4_offline.Answers", "r4_words.Words"
 DEVICE, REPLAY, MKFS = "r4_outside.Device", "r4_replay.Replay", "r4_mkfs.Mkfs"
-RUN, BEGINS = "r4_run.Scripts", "r4_run.Naming"
+RUN, BEGINS, COMPLETE = "r4_run.Scripts", "r4_run.Naming", "r4_run.Completing"
 PROMISES = [
     (
         "`replay`",
@@ -51,14 +51,14 @@ PROMISES = [
         "`run`",
         "`Runs` says for each status when it comes, and of a run that there is one trace (`Ran`): legal, crash-safe on the"
         " device at each moment, by the status whole, and printed. `Begins` is what the caller owes who names with what"
-        " the run began.",
-        [(RUN, "Runs"), (BEGINS, "Begins"), (DEVICE, "Goes")],
+        " the run began. `IsUnhindered` is a run against which nothing stands.",
+        [(RUN, "Runs"), (BEGINS, "Begins"), (COMPLETE, "IsUnhindered"), (DEVICE, "Goes")],
     ),
     (
         "The words of the command line",
         "`Answers` and `HasMoments` pick the promise by what the words ask for (`asked_of`); `RefusesWords` speaks of"
         " faulty ones.",
-        [(TOP, "Answers"), (TOP, "HasMoments"), (WORDS, "asked_of")],
+        [(TOP, "Answers"), (TOP, "HasMoments"), (TOP, "IsRun"), (TOP, "LeavesSource"), (WORDS, "asked_of")],
     ),
 ]
 
