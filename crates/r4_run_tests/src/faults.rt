@@ -1,7 +1,7 @@
 //! Sources, sinks and devices that fail, and images that are none.
 
-use crate::calls::{LIST, REPLAY, RUN, call, fresh, printed};
-use r4_outside::{MemoryDevice, MemorySink, MemorySource, OpenGate, Unnamed};
+use r4_outside::{MemoryDevice, MemorySink, MemorySource, Unnamed};
+use r4_run_testing::{LIST, REPLAY, RUN, Slow, call, fresh, printed};
 use r4_top::r4_main;
 use std::alloc::Global;
 use std::sync::Wait;
@@ -39,7 +39,7 @@ fn source_that_fails_is_told(rt: HostRuntime) -> Result<(), Fail> {
         String::from_str(alloc, "run")?,
         String::from_str(alloc, "image")?,
     ];
-    let (gate, run) = (&OpenGate, Unnamed::new());
+    let (gate, run) = (&Slow { times: 0 }, Unnamed::new());
     let status = r4_main(
         &rt,
         alloc,

@@ -2,16 +2,10 @@
 #![tactic(auto)]
 
 #[cfg(test)]
-mod calls;
-#[cfg(test)]
-mod cuts;
-#[cfg(test)]
 mod faults;
 #[cfg(test)]
 mod named;
 #[cfg(test)]
 mod rows;
-#[cfg(test)]
-mod stops;
 #[cfg(test)]
 mod threads;

@@ -7,8 +7,9 @@ ghost use Rattle.r4_outside.specs.MemoryText.{sink_state};
 ghost use Rattle.r4_run_tests.specs.Named.{LeavesWhole};
 
 use r4_mkfs::mkfs;
-use r4_outside::{MemoryDevice, MemorySink, MemorySource, Named, NamedNew, OpenGate};
+use r4_outside::{MemoryDevice, MemorySink, MemorySource, Named, NamedNew};
 use r4_run::run_scripts;
+use r4_run_testing::Slow;
 use std::alloc::Global;
 use std::sync::Wait;
 use std::test::Fail;
@@ -28,7 +29,7 @@ fn run_named<X: Threads + Wait + Sync>(
         (sink_state out.old) (sink_state out.new)) }
 {
     let mut script = MemorySource::new(alloc, text)?;
-    let gate = &OpenGate;
+    let gate = &Slow { times: 0 };
     Ok(run_scripts(
         rt,
         alloc,

@@ -1,6 +1,6 @@
 //! Scripts that are run by one thread, what is printed, and what is listed then.
 
-use crate::calls::{LIST, RUN, fresh, printed};
+use r4_run_testing::{LIST, RUN, fresh, printed};
 use std::alloc::Global;
 use std::sync::Wait;
 use std::test::Fail;

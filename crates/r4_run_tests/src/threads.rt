@@ -1,12 +1,10 @@
 //! Many scripts on many threads.
 
-use crate::calls::{LIST, fresh, printed};
-use r4_base::ScriptNo;
-use r4_outside::{Gate, MemorySink, MemorySource, Unnamed};
+use r4_outside::{MemorySink, MemorySource, Unnamed};
 use r4_run::run_scripts;
+use r4_run_testing::{LIST, Slow, fresh, printed};
 use std::alloc::Global;
 use std::test::Fail;
-use std::thread;
 
 // So many scripts, each of which makes a file, writes it and commits.
 const SCRIPTS: u32 = 6;
@@ -45,18 +43,6 @@ fn many_threads_come_to_an_end(rt: HostRuntime) -> Result<(), Fail> {
     Ok(())
 }
 
-/// A gate at which others go first, so many times.
-struct Slow;
-
-impl Gate for Slow {
-    fn pass(&self, script: ScriptNo, index: u32) {
-        let _ = (script, index);
-        for _ in 0..2000u32 {
-            thread::yield_now();
-        }
-    }
-}
-
 // While one thread works at the only command, the others find nothing to do and wait; they end, since
 // whoever brings the task back wakes them.
 #[test]
@@ -66,7 +52,7 @@ fn threads_that_wait_are_woken(rt: HostRuntime) -> Result<(), Fail> {
         let mut dev = fresh(&rt, alloc, 64)?;
         let mut script = MemorySource::new(alloc, b"script\ncreate /a\n")?;
         let mut out = MemorySink::new(alloc, 100)?;
-        let (gate, run) = (&Slow, Unnamed::new());
+        let (gate, run) = (&Slow { times: 2000 }, Unnamed::new());
         let status = run_scripts(
             &rt,
             alloc,

@@ -1,8 +1,8 @@
 //! The power is cut in the middle of a commit, as the words of the program ask for it.
 
-use crate::calls::{LIST, REPLAY, call, fresh, printed};
 use r4_devices::StopDevice;
 use r4_outside::{MemoryDevice, MemorySink};
+use r4_run_testing::{LIST, REPLAY, call, fresh, printed};
 use std::alloc::Global;
 use std::sync::Wait;
 use std::test::Fail;

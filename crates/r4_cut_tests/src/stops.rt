@@ -1,8 +1,8 @@
 //! A run on a device that stops behind each of its writes.
 
-use crate::calls::{LIST, REPLAY, RUN, call, fresh, printed};
 use r4_devices::StopDevice;
 use r4_outside::MemorySink;
+use r4_run_testing::{LIST, REPLAY, RUN, call, fresh, printed};
 use std::alloc::Global;
 use std::sync::Wait;
 use std::test::Fail;

@@ -2,22 +2,25 @@
 
 ghost use Rattle.r4_outside.specs.Device.{Goes};
 
-use r4_outside::{Device, MemoryDevice, MemorySink, MemorySource, OpenGate, Unnamed};
+use crate::gate::Slow;
+use r4_outside::{Device, MemoryDevice, MemorySink, MemorySource, Unnamed};
 use r4_top::r4_main;
 use std::alloc::Global;
 use std::sync::Wait;
 use std::test::Fail;
 use std::thread::Threads;
 
-/// The words that run scripts by one thread, and those that list the root.
-pub(crate) static RUN: [&str; 2] = ["run", "image"];
+/// The words that run scripts by one thread.
+pub const RUN: [&str; 2] = ["run", "image"];
 
-pub(crate) static LIST: [&str; 2] = ["list", "image"];
+/// Those that list the root.
+pub const LIST: [&str; 2] = ["list", "image"];
 
-pub(crate) static REPLAY: [&str; 2] = ["replay", "image"];
+/// Those that replay the log.
+pub const REPLAY: [&str; 2] = ["replay", "image"];
 
 /// Calls the program with these words and this text of scripts, and gives its status.
-pub(crate) fn call<D: Device, X: Threads + Wait + Sync>(
+pub fn call<D: Device, X: Threads + Wait + Sync>(
     rt: &X,
     alloc: Global,
     words: &[&str],
@@ -32,13 +35,13 @@ pub(crate) fn call<D: Device, X: Threads + Wait + Sync>(
         owned.push(String::from_str(alloc, word)?)?;
     }
     let mut script = MemorySource::new(alloc, text.as_bytes())?;
-    let gate = &OpenGate;
+    let gate = &Slow { times: 0 };
     let run = Unnamed::new();
     Ok(r4_main(rt, alloc, &owned, dev, &mut script, out, gate, run).code)
 }
 
 /// What the program prints, with its status, which is the wanted one.
-pub(crate) fn printed<D: Device, X: Threads + Wait + Sync>(
+pub fn printed<D: Device, X: Threads + Wait + Sync>(
     rt: &X,
     alloc: Global,
     words: &[&str],
@@ -56,7 +59,7 @@ pub(crate) fn printed<D: Device, X: Threads + Wait + Sync>(
 }
 
 /// A fresh volume of so many blocks.
-pub(crate) fn fresh<X: Threads + Wait + Sync>(
+pub fn fresh<X: Threads + Wait + Sync>(
     rt: &X,
     alloc: Global,
     blocks: u64,
