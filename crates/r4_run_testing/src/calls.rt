@@ -30,12 +30,27 @@ pub fn call<D: Device, X: Threads + Wait + Sync>(
 ) -> Result<u8, Fail>
     ensures { Goes (D.state dev.old) (D.state dev.new) }
 {
+    let gate = Slow { times: 0 };
+    call_at(rt, alloc, &gate, words, dev, text, out)
+}
+
+/// The same, where tasks pass this gate.
+pub fn call_at<D: Device, X: Threads + Wait + Sync>(
+    rt: &X,
+    alloc: Global,
+    gate: &Slow,
+    words: &[&str],
+    dev: &mut D,
+    text: &str,
+    out: &mut MemorySink,
+) -> Result<u8, Fail>
+    ensures { Goes (D.state dev.old) (D.state dev.new) }
+{
     let mut owned = Vec::new(alloc);
     for word in words {
         owned.push(String::from_str(alloc, word)?)?;
     }
     let mut script = MemorySource::new(alloc, text.as_bytes())?;
-    let gate = &Slow { times: 0 };
     let run = Unnamed::new();
     Ok(r4_main(rt, alloc, &owned, dev, &mut script, out, gate, run).code)
 }

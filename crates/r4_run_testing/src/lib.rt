@@ -6,5 +6,6 @@
 mod calls;
 mod gate;
 
-pub use calls::{LIST, REPLAY, RUN, call, fresh, printed};
+pub use calls::{LIST, REPLAY, RUN, call, call_at, fresh, printed};
 pub use gate::Slow;
+pub use r4_top::r4_main;

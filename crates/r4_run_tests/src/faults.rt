@@ -1,8 +1,7 @@
 //! Sources, sinks and devices that fail, and images that are none.
 
 use r4_outside::{MemoryDevice, MemorySink, MemorySource, Unnamed};
-use r4_run_testing::{LIST, REPLAY, RUN, Slow, call, fresh, printed};
-use r4_top::r4_main;
+use r4_run_testing::{LIST, REPLAY, RUN, Slow, call, fresh, printed, r4_main};
 use std::alloc::Global;
 use std::sync::Wait;
 use std::test::Fail;

@@ -4,8 +4,6 @@
 #[cfg(test)]
 mod faults;
 #[cfg(test)]
-mod named;
-#[cfg(test)]
 mod rows;
 #[cfg(test)]
 mod threads;

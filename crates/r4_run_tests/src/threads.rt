@@ -1,8 +1,7 @@
 //! Many scripts on many threads.
 
-use r4_outside::{MemorySink, MemorySource, Unnamed};
-use r4_run::run_scripts;
-use r4_run_testing::{LIST, Slow, fresh, printed};
+use r4_outside::MemorySink;
+use r4_run_testing::{LIST, Slow, call_at, fresh, printed};
 use std::alloc::Global;
 use std::test::Fail;
 
@@ -10,6 +9,8 @@ use std::test::Fail;
 const SCRIPTS: u32 = 6;
 
 static WORDS: [&str; 4] = ["run", "image", "--threads", "16"];
+
+static FOUR: [&str; 4] = ["run", "image", "--threads", "4"];
 
 // The text of the scripts.
 fn text(alloc: Global) -> Result<String, Fail> {
@@ -50,20 +51,10 @@ fn threads_that_wait_are_woken(rt: HostRuntime) -> Result<(), Fail> {
     let alloc = rt.alloc();
     for _ in 0..5u32 {
         let mut dev = fresh(&rt, alloc, 64)?;
-        let mut script = MemorySource::new(alloc, b"script\ncreate /a\n")?;
         let mut out = MemorySink::new(alloc, 100)?;
-        let (gate, run) = (&Slow { times: 2000 }, Unnamed::new());
-        let status = run_scripts(
-            &rt,
-            alloc,
-            4,
-            None,
-            &mut dev,
-            &mut script,
-            &mut out,
-            gate,
-            run,
-        );
+        let gate = Slow { times: 2000 };
+        let text = "script\ncreate /a\n";
+        let status = call_at(&rt, alloc, &gate, &FOUR, &mut dev, text, &mut out)?;
         assert_eq!(&rt; status, 0);
     }
     Ok(())

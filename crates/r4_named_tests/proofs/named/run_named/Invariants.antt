@@ -1,6 +1,6 @@
 use Rattle.std.proofs.Common.{None, Some}
 use Rattle.r4_outside.specs.Memory.{memory_state}
-use Rattle.r4_run_tests.proofs.named.run_named.Given as goal
+use Rattle.r4_named_tests.proofs.named.run_named.Given as goal
 
 -- the image of the device, and its clock
 abbrev pub ghosts-run_scripts : goal.ghosts-run_scripts

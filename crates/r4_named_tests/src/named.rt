@@ -4,12 +4,11 @@ ghost use Rattle.std.specs.Prelude.{IfOk};
 ghost use Rattle.r4_outside.specs.Device.{IsQuiet};
 ghost use Rattle.r4_outside.specs.Memory.{memory_state};
 ghost use Rattle.r4_outside.specs.MemoryText.{sink_state};
-ghost use Rattle.r4_run_tests.specs.Named.{LeavesWhole};
+ghost use Rattle.r4_named_tests.specs.Named.{LeavesWhole};
 
 use r4_mkfs::mkfs;
-use r4_outside::{MemoryDevice, MemorySink, MemorySource, Named, NamedNew};
+use r4_outside::{MemoryDevice, MemorySink, MemorySource, Named, NamedNew, OpenGate};
 use r4_run::run_scripts;
-use r4_run_testing::Slow;
 use std::alloc::Global;
 use std::sync::Wait;
 use std::test::Fail;
@@ -29,7 +28,7 @@ fn run_named<X: Threads + Wait + Sync>(
         (sink_state out.old) (sink_state out.new)) }
 {
     let mut script = MemorySource::new(alloc, text)?;
-    let gate = &Slow { times: 0 };
+    let gate = &OpenGate;
     Ok(run_scripts(
         rt,
         alloc,
