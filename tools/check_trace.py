@@ -4,7 +4,8 @@
     tools/check_trace.py [--whole] [--first-atoms] SCRIPT TRACE [LISTING]
 
 A second reader of docs/traces.md, and no proof: it shares no code with the program, and each rule stands here under the
-name that its definition has in crates/r4_trace/specs, what commands mean in tools/trace_content.py. It looks at:
+name that its definition has in crates/r4_trace/specs. Lines are read by tools/trace_entries.py, scripts by
+tools/trace_job.py, and what commands mean stands in tools/trace_content.py. It looks at:
 
   Text       each line is one that an entry has (`entry_text`)
   Order      transactions, atoms, commits and acknowledgements (`MayFollow`, `MayComeNow`)
@@ -17,9 +18,9 @@ name that its definition has in crates/r4_trace/specs, what commands mean in too
              which the committed atoms made, or those and the one that was sealed (`Found`). Behind it the listings of
              all its files may stand, in its order
 
-It does not look at what no line shows: ids of objects, nor the clocks of `committed` and `acked`, for which the clock of
-`broken` will do (or 0), so that of clocks only those in `reopen` are left. No definition says which reply a refusal has
-before `broken`: any is let pass. That the atoms of a fusion both need its node is no rule of a legal trace either.
+It does not look at what no line shows: ids of objects, for which fresh ones will do, nor the clocks of `committed` and
+`acked`, for which 0 will do, so that of clocks only those in `reopen` are left. No definition says which reply a
+refusal has before `broken`: any is let pass. That both atoms of a fusion need its node is no rule of legal traces.
 
 It prints nothing and ends with 0 where all is so, with one line and 1 at the first line that is not, and with 2 at
 faulty words, scripts that are no job, and files that cannot be read. A fault of the whole trace is told with the number
@@ -27,135 +28,14 @@ of the line behind its last.
 """
 from __future__ import annotations
 
-import re
 import sys
 from dataclasses import dataclass, field
 from typing import NoReturn
 
-from trace_content import Command, Content, FaultyScript, course, job_of, listing_of, listing_with_files
-
-# ---- Text: the lines of entries
-
-
-@dataclass(frozen=True)
-class Begin:
-    txn: int
-    script: int
-
-
-@dataclass(frozen=True)
-class Fuse:
-    kept: int
-    gone: int
-    node: int
-
-
-@dataclass(frozen=True)
-class Done:
-    txn: int
-    script: int
-    index: int
-    reply: str
-
-
-@dataclass(frozen=True)
-class Refused:
-    txn: int
-    script: int
-    index: int
-    reply: str
-
-
-@dataclass(frozen=True)
-class Ended:
-    txn: int
-
-
-@dataclass(frozen=True)
-class Sealed:
-    atom: int
-
-
-@dataclass(frozen=True)
-class Committed:
-    atom: int
-
-
-@dataclass(frozen=True)
-class Acked:
-    script: int
-    txn: int
-
-
-@dataclass(frozen=True)
-class Broken:
-    clock: int
-    faults: int
-
-
-Entry = Begin | Fuse | Done | Refused | Ended | Sealed | Committed | Acked | Broken
-
-LINES = (
-    (Begin, "begin tN sN"),
-    (Fuse, "fuse aN aN nN"),
-    (Done, "done tN sN cN ..."),
-    (Refused, "refused tN sN cN ..."),
-    (Ended, "ended tN"),
-    (Sealed, "sealed aN"),
-    (Committed, "committed aN"),
-    (Acked, "acked sN tN"),
-    (Broken, "broken N N"),
-)
-NUMBER = "(?:0|[1-9][0-9]{0,19})"
-REPLY = "|".join((
-    "ok|name|notdir|absent|exists|oids|links|isdir|toobig|loop|notempty|memory",
-    f"data {NUMBER}(?: (?:[0-9a-f]{{2}})+)?",
-    f"attr (?:0|[1-7][0-7]*)(?: {NUMBER}){{7}}",
-    f"names {NUMBER}(?: [^\n]+)?",
-    "clash [^\n]+",
-    f"(?:space|readfault) {NUMBER} {NUMBER}",
-    f"(?:tall|damaged|reopen) {NUMBER}",
-))
-
-
-def form_of(line: str) -> re.Pattern[str]:
-    """What matches a line, with a group for each of its numbers and for its reply."""
-    return re.compile(line.replace("N", f"({NUMBER})").replace("...", f"({REPLY})"))
-
-
-FORMS = [(kind, form_of(line)) for kind, line in LINES]
-
-
-class Illegal(Exception):
-    """The trace is not legal at the line that is being read."""
-
-
-def demand(holds: bool, why: str) -> None:
-    if not holds:
-        raise Illegal(why)
-
-
-def is_told(reply: str) -> bool:
-    """What a reply counts is there as often."""
-    word, *rest = reply.split(" ")
-    if word == "data":
-        return int(rest[0]) * 2 == len("".join(rest[1:]))
-    if word == "names":
-        return int(rest[0]) <= len(rest) - 1 and (int(rest[0]) > 0 or len(rest) == 1)
-    return True
-
-
-def entry_of(line: str) -> Entry:
-    """The entry that a line tells."""
-    for kind, form in FORMS:
-        found = form.fullmatch(line)
-        if found:
-            fields = [part if kind in (Done, Refused) and i == 3 else int(part) for i, part in enumerate(found.groups())]
-            demand(all(isinstance(part, str) or part < 2**64 for part in fields), "a number of more than 64 bits")
-            demand(all(isinstance(part, int) or is_told(part) for part in fields), "a reply that counts wrongly")
-            return kind(*fields)
-    raise Illegal(f"no line of a trace: {line!r}")
-
+from trace_content import Content, course, listing_of, listing_with_files
+from trace_entries import Acked, Begin, Broken, Committed, Done, Ended, Entry, Fuse, Illegal, Refused, Sealed
+from trace_entries import demand, entry_of
+from trace_job import Command, FaultyScript, job_of
 
 # ---- Traced: what stands in a trace
 
@@ -419,7 +299,7 @@ class Reader:
     def is_whole(self) -> None:
         for script, commands in enumerate(self.answering.job, 1):
             count = self.answering.place(script).answered
-            demand(count == len(commands), f"script {script} has answers to {count} of {len(commands)} commands (IsWhole)")
+            demand(count == len(commands), f"script {script} has {count} of {len(commands)} answers (IsWhole)")
         demand(not self.older.open, f"transactions {sorted(self.older.open)} did not end (IsWhole)")
         late = {txn for txn, atom in self.older.atom_in.items() if atom not in self.older.committed}
         demand(not late, f"transactions {sorted(late)} are in no committed atom (IsWhole)")

@@ -3,8 +3,8 @@
 
 64 scripts, each with a directory of its own, where it makes files, writes, cuts, links, moves, reads and removes them.
 One new path in four is in one of eight directories that all scripts share, under one of a few names, which each of them
-may find, miss or take from another: so atoms fuse, and commands meet. Two of the names have one key. Some commands stand
-in transactions. No file gets more than 16,384 bytes.
+may find, miss or take from another: so atoms fuse, and commands meet. Two of the names have one key. Some commands
+stand in transactions. No file gets more than 16,384 bytes.
 """
 import random
 import sys

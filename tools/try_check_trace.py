@@ -1,16 +1,16 @@
 #!/usr/bin/env python3
 """Shows that tools/check_trace.py is no rubber stamp:  tools/try_check_trace.py SCRIPT TRACE
 
-TRACE is legal and whole for SCRIPT, and that of a job with commits and fusions. It is changed in each of the ways below,
-and each changed trace has to be refused by the rule that is named behind the way. So are small traces of their own: those
-that crates/r4_trace_rows proves to be legal, and not to be, as far as printed lines show why.
+TRACE is legal and whole for SCRIPT, and that of a job with commits and fusions. It is changed in each of the ways
+below, and each changed trace has to be refused by the rule that is named behind the way. So are small traces of their
+own: those that crates/r4_trace_rows proves to be legal, and not to be, as far as printed lines show why.
 
 Three ways make another legal trace, and that has to be let pass: with another node in a fusion, since no rule speaks of
 it; with a command that only reads refused, since a refusal may have any reply and changes nothing; and one that ends
 in a failed call, with all commands that were left refused. The last is changed in its turn.
 
-It prints a line for each way, and ends with 0 where all went so. A way that the trace has no place for is told and counts
-as missed.
+It prints a line for each way, and ends with 0 where all went so. A way that the trace has no place for is told and
+counts as missed.
 """
 from __future__ import annotations
 
@@ -19,7 +19,7 @@ import sys
 from typing import Callable, Iterator
 
 from check_trace import Answering, Reader, fault_of, text_of
-from trace_content import job_of
+from trace_job import job_of
 
 Lines = list[str]
 Way = Callable[[Lines], Lines]
@@ -229,7 +229,7 @@ BROKEN_WAYS: list[tuple[str, Way, str]] = [
     ("a clock less", replaced("refused .* reopen 7", "7$", "6"), "MayComeNow"),
     ("another reply behind broken", replaced("refused .* reopen 7", "reopen 7", "memory"), "MayComeNow"),
     ("a command is passed over behind broken", left_out("refused .* reopen 7"), "Answers, Refused"),
-    ("a refusal in a transaction behind broken", replaced("refused t0 .* reopen 7", "t0", "t1"), "MayFollow|MayComeNow"),
+    ("a refusal in a transaction behind broken", replaced("refused t0 .* reopen 7", "t0", "t1"), "MayComeNow"),
     ("broken twice", twice("broken .*"), "MayComeNow"),
     ("committed behind broken", inserted_behind("broken .*", lambda _: "committed a1"), "MayComeNow"),
 ]
@@ -259,8 +259,8 @@ STAT = "begin t1 s1;done t1 s1 c1 attr 40755 2 0 0 0 0 0 0;ended t1"
 TWO = "begin t1 s1;ended t1;begin t2 s2;ended t2"
 WAITING_JOB = "script;begin;create /a;write /a 0 x;write /a 1 y;end;script;begin;stat /a;end;commit"
 WAITING = (
-    "begin t1 s1;begin t2 s2;done t1 s1 c2 ok;fuse a1 a2 n23;done t2 s2 c2 attr 100644 1 0 0 0 0 0 0;done t1 s1 c3 ok;"
-    "ended t2;done t1 s1 c4 ok;ended t1;sealed a1;committed a1;acked s2 t2"
+    "begin t1 s1;begin t2 s2;done t1 s1 c2 ok;fuse a1 a2 n23;done t2 s2 c2 attr 100644 1 0 0 0 0 0 0;"
+    "done t1 s1 c3 ok;ended t2;done t1 s1 c4 ok;ended t1;sealed a1;committed a1;acked s2 t2"
 )
 OPEN_TWO = "script;begin;end;script;begin;end"
 EXAMPLES: list[tuple[str, str, str, str]] = [
@@ -274,7 +274,8 @@ EXAMPLES: list[tuple[str, str, str, str]] = [
     ("inside", "script;begin;create /a;script;stat /",
      "begin t1 s1;begin t2 s2;done t2 s2 c1 attr 40755 2 0 0 0 0 0 0;ended t2;fuse a1 a2 n23;done t1 s1 c2 ok;ended t1;"
      "sealed a1;committed a1", ""),
-    ("failing", "script;create /a;commit;stat /", MADE + ";broken 8 1;refused t0 s1 c2 reopen 8;refused t0 s1 c3 reopen 8",
+    ("failing", "script;create /a;commit;stat /",
+     MADE + ";broken 8 1;refused t0 s1 c2 reopen 8;refused t0 s1 c3 reopen 8",
      "in no committed atom .IsWhole"),
     ("seals_open", "script;create /a", "begin t1 s1;done t1 s1 c1 ok;sealed a1", "MayFollow, Sealed"),
     ("seals_none", "script", "sealed a0", "IsUnsealed"),
@@ -326,17 +327,20 @@ def main(words: list[str]) -> int:
     script, trace = map(text_of, words)
     lines = trace.split("\n")[:-1]
     broken = broken_trace(script, lines)
-    reads = DONE + "(data|attr|names) .*"
+    read_refused = replaced(DONE + "(data|attr|names) .*", "^done (t.* c[0-9]+) .*", r"refused \1 memory")
     results = [
         tried(script, lines, WHOLE, "as it is", list, ""),
         tried(script, lines, WHOLE, "another node", replaced("fuse .*", r"( n)(\d+)", one_more), ""),
-        tried(script, lines, WHOLE, "a read is refused", replaced(reads, "^done (t.* c[0-9]+) .*", r"refused \1 memory"), ""),
+        tried(script, lines, WHOLE, "a read is refused", read_refused, ""),
         told("the last line has no newline", fault_of(job_of(script), trace[:-1], None, set()), "does not end"),
         *(tried(script, lines, WHOLE, *way) for way in WAYS),
         tried(script, broken, [], "a call fails", list, ""),
         tried(script, broken, WHOLE, "a call fails, as a whole trace", list, "IsWhole"),
         *(tried(script, broken, [], *way) for way in BROKEN_WAYS),
-        *(tried(job.replace(";", "\n"), small.split(";"), WHOLE, name, list, wanted) for name, job, small, wanted in EXAMPLES),
+        *(
+            tried(job.replace(";", "\n"), small.split(";"), WHOLE, name, list, wanted)
+            for name, job, small, wanted in EXAMPLES
+        ),
     ]
     print(f"{results.count(True)} of {len(results)} as wanted")
     return 0 if all(results) else 1
