@@ -106,8 +106,9 @@ def may_commit(older: Traced, atom: int) -> None:
 
 def may_acknowledge(older: Traced, script: int, txn: int) -> None:
     demand(txn == older.last_of(script), f"script {script} began {older.last_of(script)} last (MayFollow, Acked)")
-    late = [own for own in older.of_script.get(script, []) if older.atom_in[own] not in older.committed]
-    demand(not late, f"transaction {late[:1]} of script {script} is not in a committed atom (MayFollow, Acked)")
+    for own in older.of_script.get(script, []):
+        is_durable = older.atom_in[own] in older.committed
+        demand(is_durable, f"transaction {own} is in no committed atom (MayFollow, Acked)")
 
 
 def may_follow(older: Traced, entry: Entry) -> None:

@@ -1,9 +1,10 @@
 #!/usr/bin/env python3
 """Shows that tools/check_trace.py is no rubber stamp:  tools/try_check_trace.py SCRIPT TRACE
 
-TRACE is legal and whole for SCRIPT, and that of a job with commits and fusions. It is changed in each of the ways
-below, and each changed trace has to be refused by the rule that is named behind the way. So are small traces of their
-own: those that crates/r4_trace_rows proves to be legal, and not to be, as far as printed lines show why.
+TRACE is legal and whole for SCRIPT, and that of a job with replies of many kinds, commits and fusions, as
+`tools/many_threads_job.py 1` prints one. It is changed in each of the ways below, and each changed trace has to be
+refused by the rule that is named behind the way. So are small traces of their own: those that crates/r4_trace_rows
+proves to be legal, and not to be, as far as printed lines show why.
 
 Three ways make another legal trace, and that has to be let pass: with another node in a fusion, since no rule speaks of
 it; with a command that only reads refused, since a refusal may have any reply and changes nothing; and one that ends
@@ -129,8 +130,7 @@ def two_sealed(lines: Lines) -> Lines:
     """The next atom is sealed before the commit of one."""
     commit = place(lines, r"committed a\d+")
     seal = commit + place(lines[commit:], r"sealed a\d+")
-    early = moved(lines, seal, commit)
-    return early[:commit + 1] + [line for line in early[commit + 1:] if line != early[commit]]
+    return moved(lines, seal, commit)
 
 
 def fused_when_sealed(lines: Lines) -> Lines:
