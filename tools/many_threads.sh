@@ -9,8 +9,9 @@
 # out/r4_tool, which ./r4 builds.
 #
 # A line of progress goes to standard error, and at the end one line to standard output: how many runs there were, how
-# many entries were checked, how many different traces there were, and how many commands were refused. The status is 0
-# where all are legal. At the first that is not it is 1; then its files are kept, and the line says where.
+# many entries were checked, how many different traces there were, how many runs had the trace of one thread (on a loaded
+# machine one of the sixteen may do it all), and how many commands were refused. The status is 0 where all are legal. At
+# the first that is not it is 1; then its files are kept, and the line says where.
 set -eu
 
 if [ "$#" -gt 2 ]; then
@@ -50,13 +51,18 @@ listing() {
     done
 }
 
+# Runs the job in a folder, over a fresh volume, by so many threads.
+run_job() {
+    truncate -s 16M "$1/image"
+    "$tool" mkfs "$1/image" >"$1/said" || fail "$1" "mkfs ends with $?"
+    timeout "$seconds" "$tool" run "$1/image" --threads "$2" <"$work/job" >"$1/trace" 2>"$1/said" \
+        || fail "$1" "run ends with $?"
+}
+
 # One round in the folder of a lane.
 round() {
     rm -f -- "$1"/*
-    truncate -s 16M "$1/image"
-    "$tool" mkfs "$1/image" >"$1/said" || fail "$1" "mkfs ends with $?"
-    timeout "$seconds" "$tool" run "$1/image" --threads 16 <"$work/job" >"$1/trace" 2>"$1/said" \
-        || fail "$1" "run ends with $?"
+    run_job "$1" 16
     listing "$1/image" "$1/root" >"$1/listing" || fail "$1" "list ends with $?"
     "$tools/check_trace.py" --whole --first-atoms "$work/job" "$1/trace" "$1/listing" >"$1/fault" 2>&1 \
         || fail "$1" "$(head -n 1 "$1/fault")"
@@ -74,6 +80,13 @@ lane() {
         i=$((i + lanes))
     done
 }
+
+mkdir -- "$work/one"
+(run_job "$work/one" 1) || {
+    cat -- "$work/failed" >&2
+    exit 1
+}
+one=$(sha256sum <"$work/one/trace" | cut -d ' ' -f 1)
 
 running=
 n=0
@@ -94,8 +107,9 @@ fi
     echo "many_threads: a lane ended early" >&2
     exit 1
 }
-awk '{ entries += $1; refused += $2; if (!($3 in seen)) { seen[$3]; different++ } }
+awk -v one="$one" '
+    { entries += $1; refused += $2; alone += $3 == one; if (!($3 in seen)) { seen[$3]; different++ } }
     END {
-        printf "%d runs on sixteen threads: %d entries checked, all legal, %d different traces, %d refusals\n",
-            NR, entries, different, refused
+        printf "%d runs on sixteen threads: %d entries checked, all legal, %d different traces, ", NR, entries, different
+        printf "%d runs with that of one thread, %d refusals\n", alone, refused
     }' "$work/rounds"
