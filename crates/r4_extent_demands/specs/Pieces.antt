@@ -1,0 +1,36 @@
+-- Pieces of twigs, as they are made from key to key (docs/volume.md, "Reach"). A key is its rank.
+use Rattle.std.specs.Prelude.{ℕ, ◌+◌, ◌*◌, ◌^◌, ◌≤◌, ◌==◌, List, [], ◌∷◌, Bool, ◌&&◌, ◌||◌, nat_lt, if◌then◌else◌}
+use Rattle.r4_base.specs.Key.{IsKey, offset_of}
+use Rattle.r4_base.specs.declared.items.Unit.{Unit as ExtentUnit}
+use Rattle.r4_base.specs.declared.key.Key.{Key}
+use Rattle.r4_branch.specs.declared.piece.TwigPart.{TwigPart}
+use Rattle.r4_branch.specs.declared.piece.TwigPart.TheVariants.{Blocks, Pointer}
+use Rattle.r4_branch.specs.declared.piece.TwigPiece.{TwigPiece}
+use Rattle.r4_content.specs.Edited.{Edits, put_keys}
+use Rattle.r4_reach.specs.Needs.{is_met}
+use Rattle.r4_reach.specs.Touched.{Body, first_byte, turns_out}
+
+-- one of so many blocks, from a key on, gets bytes
+abbrev pub gets_among : Body → Edits → (key blocks : ℕ) → Bool
+gets_among b e k n = is_met (put_keys e.puts) k (k + 4096 * n)
+    || (turns_out b && nat_lt k (first_byte b + b.was))
+
+-- so many blocks of a hole, if any, and a block that comes, at a key
+abbrev pub hole_at : Key → (blocks : ℕ) → List TwigPiece
+hole_at k n = if n == 0 then [] else record { key = k; part = Blocks (record { start = 0; width = n }) } ∷ []
+
+abbrev pub block_at : Key → TwigPiece
+block_at k = record { key = k; part = Blocks (record { start = 2 ^ 63; width = 1 }) }
+
+-- The blocks of a part end by offset 2^64 of their object; the numbers of several end by 2^64.
+pub record HasRoomFor (offset : ℕ) (u : ExtentUnit) : Type 0 where
+  pub bytes : offset + 4096 * u.width ≤ 2 ^ 64
+  pub numbers : 2 ≤ u.width → u.start + u.width ≤ 2 ^ 64
+
+abbrev pub PartHasRoom : (offset : ℕ) → TwigPart → Type 0
+PartHasRoom offset (Pointer to) = Unit {0}
+PartHasRoom offset (Blocks u) = HasRoomFor offset u
+
+pub record HasRoom (p : TwigPiece) : Type 0 where
+  pub key : IsKey p.key
+  pub part : PartHasRoom (offset_of p.key) p.part

@@ -1,0 +1,162 @@
+//! Pieces of a twig without the blocks that go (docs/volume.md, "Reach").
+
+ghost use Rattle.std.specs.Prelude.{◌≡◌, ◌-◌, ◌≤◌, ◌&&◌, ◌==◌, All, IfOk, None, drop, length, map, take};
+ghost use Rattle.std.specs.List.{list_any};
+ghost use Rattle.std.specs.Option.{option_map};
+ghost use Rattle.r4_base.specs.Key.{rank};
+ghost use Rattle.r4_base.specs.Tree.{Name};
+ghost use Rattle.r4_branch.specs.Pieces.{is_at, last_end, names_of, next_of, open_end};
+ghost use Rattle.r4_cell.specs.Seen.{node_of};
+ghost use Rattle.r4_marking.specs.Marks.{heard_seen};
+ghost use Rattle.r4_path.specs.TwigPieces.{ArePiecesOf};
+ghost use Rattle.r4_reach.specs.Needs.{cut_pieces, points_to, taken_up, without_gone};
+ghost use Rattle.r4_reach.specs.Touched.{going};
+ghost use Rattle.r4_extent_demands.specs.Pieces.{HasRoom};
+ghost use Rattle.r4_extent_demands.specs.Spreads.{IsSpreadBody};
+
+use crate::parting::part_each;
+use crate::spread_body::SpreadBody;
+use r4_base::{BLOCK_BYTES, Key, Memory, NodeId, UNPLACED};
+use r4_branch::{TwigPart, TwigPiece};
+use r4_cell::Cell;
+use r4_graft::{place_of, splice};
+use r4_marking::Heard;
+use std::alloc::Global;
+
+/// The pieces but for the pointers to those leaves that go.
+pub(crate) fn without_gone(
+    alloc: Global,
+    pieces: &[TwigPiece],
+    heard: &[Heard],
+) -> Result<Vec<TwigPiece>, Memory>
+    ensures { IfOk result (λ v. v.items
+        ≡ without_gone (map heard_seen heard.now) pieces.now) }
+{
+    let mut left = Vec::new(alloc);
+    for piece in pieces {
+        if !goes(&piece.part, heard) {
+            left.push(*piece)?;
+        }
+    }
+    Ok(left)
+}
+
+// Whether a part points to a leaf that goes.
+fn goes(part: &TwigPart, heard: &[Heard]) -> bool
+    ensures { result ≡ list_any (λ h. h.ask.gone && points_to h.child.id.0 part.now) heard.now }
+{
+    match part {
+        TwigPart::Pointer(to) => heard.iter().any(|h| h.ask.gone && to.0 == h.child.id.0),
+        TwigPart::Blocks(_) => false,
+    }
+}
+
+/// These of a twig's pieces without the blocks of the body that go. Their range goes to the extent or the leaf before
+/// them, or else to a new leaf. All pieces of the twig are given too.
+pub(crate) fn cut(
+    alloc: Global,
+    body: &SpreadBody,
+    twig: &Cell,
+    all: &[TwigPiece],
+    left: &[TwigPiece],
+) -> Result<Vec<TwigPiece>, Memory>
+    requires spread { IsSpreadBody body.now }
+    requires pieces { ArePiecesOf twig.now all.now }
+    requires room { All HasRoom left.now }
+    ensures items { IfOk result (λ v. v.items
+        ≡ cut_pieces (going body.now) (node_of twig.now) left.now) }
+    ensures room { IfOk result (λ v. All HasRoom v.items) }
+{
+    let going = body.going();
+    let parts = part_each(alloc, left, &going.from)?;
+    let parts = part_each(alloc, parts.as_slice(), &going.to)?;
+    let from = place_of(parts.as_slice(), &going.from);
+    let to = place_of(parts.as_slice(), &going.to);
+    let middle = taken_up(alloc, twig, all, parts.as_slice(), from, to)?;
+    splice(alloc, parts.as_slice(), from, to, middle.as_slice())
+}
+
+// What comes in the place of the pieces from one place up to another: nothing, or a pointer to a new leaf.
+fn taken_up(
+    alloc: Global,
+    twig: &Cell,
+    all: &[TwigPiece],
+    pieces: &[TwigPiece],
+    from: usize,
+    to: usize,
+) -> Result<Vec<TwigPiece>, Memory>
+    requires pieces { ArePiecesOf twig.now all.now }
+    requires room { All HasRoom pieces.now }
+    requires within { to ≤ length pieces.now }
+    ensures items { IfOk result (λ v. v.items ≡ taken_up (node_of twig.now) (take from pieces.now)
+        (take (to - from) (drop from pieces.now))) }
+    ensures room { IfOk result (λ v. All HasRoom v.items) }
+{
+    let mut middle = Vec::new(alloc);
+    if from < to {
+        let key = pieces[from].key;
+        if !ends_leaf(all, twig.hi(), key) && !ends_at(&pieces[..from], key) {
+            middle.push(TwigPiece {
+                key,
+                part: TwigPart::Pointer(NodeId(UNPLACED)),
+            })?;
+        }
+    }
+    Ok(middle)
+}
+
+// Whether a leaf to which one of the pieces points ends at a key; the last piece's range ends at `hi`.
+fn ends_leaf(pieces: &[TwigPiece], hi: Key, key: Key) -> bool
+    ensures { result ≡ list_any (λ (n : Name). (n.level == 1) && (n.hi == rank key))
+        (names_of (rank hi) pieces.now) }
+{
+    match pieces.split_first() {
+        None => false,
+        Some((first, rest)) => {
+            is_pointer(&first.part) && next_key(rest, hi).is_same(key) || ends_leaf(rest, hi, key)
+        }
+    }
+}
+
+// Whether a part is a pointer.
+fn is_pointer(part: &TwigPart) -> bool {
+    match part {
+        TwigPart::Pointer(_) => true,
+        TwigPart::Blocks(_) => false,
+    }
+}
+
+// The key of the first piece, or another one where there is none.
+fn next_key(pieces: &[TwigPiece], hi: Key) -> Key
+    ensures { rank result ≡ next_of (rank hi) pieces.now }
+{
+    match pieces.first() {
+        None => hi,
+        Some(first) => first.key,
+    }
+}
+
+// Whether the last piece is a unit that ends at a key, before the end of its object.
+fn ends_at(pieces: &[TwigPiece], key: Key) -> bool
+    ensures { result ≡ is_at (last_end None pieces.now) (rank key) }
+{
+    match pieces.last() {
+        None => false,
+        Some(last) => match unit_end(last) {
+            None => false,
+            Some(end) => end.is_same(key),
+        },
+    }
+}
+
+/// The key at which a piece's unit ends, where that is before the end of its object.
+pub(crate) fn unit_end(piece: &TwigPiece) -> Option<Key>
+    ensures { option_map rank result ≡ open_end piece.now }
+{
+    let TwigPart::Blocks(unit) = piece.part else {
+        return None;
+    };
+    let bytes = unit.width.checked_mul(BLOCK_BYTES)?;
+    let offset = piece.key.el[3].checked_add(bytes)?;
+    Some(piece.key.with_offset(offset))
+}

@@ -1,0 +1,23 @@
+//! What a command asks of a twig where a body stands in extents (docs/volume.md, "Reach").
+#![tactic(auto)]
+
+mod asking;
+mod changing;
+mod cutting;
+mod gaining;
+mod keys;
+mod parting;
+mod piecing;
+mod putting;
+mod running;
+mod spread_body;
+#[cfg(test)]
+mod tests;
+mod weighing;
+
+pub use asking::twig_asks;
+pub use changing::changes_pieces;
+pub use piecing::pieces_after;
+pub use putting::put_among;
+pub use spread_body::SpreadBody;
+pub use weighing::twig_bytes;

@@ -1,0 +1,135 @@
+//! The pieces of a twig after a command (docs/volume.md, "Reach").
+
+ghost use Rattle.std.specs.Prelude.{◌≡◌, ◌+◌, ◌*◌, ◌^◌, ◌≤◌, ◌++◌, ◌∷◌, [], All, IfOk, IfSome, OnOk, None, map};
+ghost use Rattle.std.specs.List.{flat_map};
+ghost use Rattle.std.specs.Option.{option_copied};
+ghost use Rattle.r4_base.specs.Key.{minor_of, offset_of, rank};
+ghost use Rattle.r4_cell.specs.Seen.{node_of};
+ghost use Rattle.r4_content.specs.Edited.{Edits};
+ghost use Rattle.r4_content.specs.Held.{edits_of};
+ghost use Rattle.r4_marking.specs.Marks.{heard_seen};
+ghost use Rattle.r4_reach.specs.Needs.{filled, gets_bytes, pieces_after, runs, with_coming};
+ghost use Rattle.r4_extent_demands.specs.Pieces.{HasRoom};
+ghost use Rattle.r4_extent_demands.specs.Spreads.{IsSpread, IsSpreadBody};
+
+use crate::cutting::{cut, without_gone};
+use crate::running::add_blocks;
+use crate::spread_body::SpreadBody;
+use r4_base::Memory;
+use r4_branch::{TwigPart, TwigPiece};
+use r4_cell::Cell;
+use r4_content::Edits;
+use r4_graft::{place_of, splice};
+use r4_leaf::KeyRange;
+use r4_leaf_edits::has;
+use r4_marking::Heard;
+use r4_path::pieces_of_cell;
+use std::alloc::Global;
+
+/// The pieces that a twig has after edits, where the leaves below it ask for this: without the pointers to leaves that
+/// go and without the blocks of the body that go; holes of the body with the blocks in them that get bytes; and with
+/// the blocks of the body that come, where the first of them lies in the twig's range. No step is taken for a byte, and
+/// none for each block of a hole. `Memory` where there was not enough (docs/volume.md, "Reach").
+pub fn pieces_after(
+    alloc: Global,
+    body: Option<&SpreadBody>,
+    edits: &Edits,
+    twig: &Cell,
+    heard: &[Heard],
+) -> Result<Vec<TwigPiece>, Memory>
+    requires twig { twig.now.level ≡ 2 }
+    requires spread { IsSpread (option_copied body) }
+    ensures { IfOk result (λ v. v.items ≡ pieces_after (option_copied body.entry)
+        (edits_of edits.now) (node_of twig.now) (map heard_seen heard.now)) }
+{
+    let all = pieces_of_cell(alloc, twig)?;
+    let left = without_gone(alloc, all.as_slice(), heard)?;
+    let Some(body) = body else {
+        return Ok(left);
+    };
+    let cut = cut(alloc, body, twig, all.as_slice(), left.as_slice())?;
+    let filled = fill_each(alloc, body, edits, cut.as_slice())?;
+    with_coming(alloc, body, edits, twig, filled)
+}
+
+// The pieces, with blocks in the holes of the body where bytes come.
+fn fill_each(
+    alloc: Global,
+    body: &SpreadBody,
+    edits: &Edits,
+    pieces: &[TwigPiece],
+) -> Result<Vec<TwigPiece>, Memory>
+    requires spread { IsSpreadBody body.now }
+    requires room { All HasRoom pieces.now }
+    ensures { IfOk result (λ v. v.items
+        ≡ flat_map (filled body.now (edits_of edits.now)) pieces.now) }
+{
+    let mut filled = Vec::new(alloc);
+    for piece in pieces {
+        add_filled(&mut filled, body, edits, piece)?;
+    }
+    Ok(filled)
+}
+
+// Puts a piece behind the others, or where it is a hole of the body, its blocks.
+fn add_filled(
+    pieces: &mut Vec<TwigPiece>,
+    body: &SpreadBody,
+    edits: &Edits,
+    piece: &TwigPiece,
+) -> Result<(), Memory>
+    requires spread { IsSpreadBody body.now }
+    requires room { HasRoom piece.now }
+    ensures { OnOk result (pieces.new.items
+        ≡ pieces.old.items ++ filled body.now (edits_of edits.now) piece.now) }
+{
+    match hole_of(body, piece) {
+        Some(width) => add_blocks(pieces, body, edits, piece.key, width),
+        None => {
+            pieces.push(*piece)?;
+            Ok(())
+        }
+    }
+}
+
+/// How many blocks a piece has, where it is a hole of the body.
+pub(crate) fn hole_of(body: &SpreadBody, piece: &TwigPiece) -> Option<u64>
+    requires spread { IsSpreadBody body.now }
+    requires room { HasRoom piece.now }
+    ensures none { result ≡ None → (e : Edits) → filled body.now e piece.now ≡ piece.now ∷ [] }
+    ensures hole { IfSome result (λ n. (e : Edits) → filled body.now e piece.now
+        ≡ runs (gets_bytes body.now e) (rank piece.now.key) n) }
+    ensures fits { IfSome result (λ n. (minor_of piece.now.key ≡ 4)
+        × (offset_of piece.now.key + 4096 * n ≤ 2 ^ 64)) }
+{
+    let TwigPart::Blocks(unit) = piece.part else {
+        return None;
+    };
+    (unit.start == 0 && body.has(piece.key)).then_some(unit.width)
+}
+
+// The pieces, with the blocks of the body that come, where the first of them lies in the twig's range.
+fn with_coming(
+    alloc: Global,
+    body: &SpreadBody,
+    edits: &Edits,
+    twig: &Cell,
+    pieces: Vec<TwigPiece>,
+) -> Result<Vec<TwigPiece>, Memory>
+    requires { IsSpreadBody body.now }
+    ensures { IfOk result (λ v. v.items
+        ≡ with_coming body.now (edits_of edits.now) (node_of twig.now) pieces.entry.items) }
+{
+    let from = body.coming().from;
+    let range = KeyRange {
+        from: twig.lo(),
+        to: twig.hi(),
+    };
+    if !has(&range, from) {
+        return Ok(pieces);
+    }
+    let mut blocks = Vec::new(alloc);
+    add_blocks(&mut blocks, body, edits, from, body.blocks_coming())?;
+    let at = place_of(pieces.as_slice(), &from);
+    splice(alloc, pieces.as_slice(), at, at, blocks.as_slice())
+}
