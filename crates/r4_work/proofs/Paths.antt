@@ -111,15 +111,32 @@ module _ (s : Store Value) (r : Root) (part : IsPart s r) where
     ascend zero below level h = tt
     ascend (suc n) below level h = with_first below level (cell_at cells level k) (ups_of n cells (level + 1) k) h refl (λ c g. ascend n (Some c) (level + 1) g)
 
-    pub path_ascends : Ascends s None (ups_of 8 cells 1 k)
+    -- from a level on
+    pub ascends_from : (n level : ℕ) → 1 ≤ level → Ascends s None (ups_of n cells level k)
     unfolding Fits
-    path_ascends = ascend 8 None 1 (omega arith)
+    ascends_from n level one = ascend n None level one
+
+    pub path_ascends : Ascends s None (ups_of 8 cells 1 k)
+    path_ascends = ascends_from 8 1 (omega arith)
+
+-- the lowest of the cells from a level on is of that level, and has the key
+pub lowest_from : (n : ℕ) (cells : List CellSeen) (level k : ℕ) (c : CellSeen) (ups : List CellSeen) → ups_of (suc n) cells level k ≡ c ∷ ups → IsAt cells level k c
+unfolding ups_of
+lowest_from n cells level k c ups e = first_is (cell_at cells level k) (ups_of n cells (level + 1) k) refl e
+  where
+    first_is : (o : Option CellSeen) (rest : List CellSeen) → cell_at cells level k ≡ o → first_and o rest ≡ c ∷ ups → IsAt cells level k c
+    first_is None rest is e = absurd cc
+    first_is (Some d) rest is e = let same : d ≡ c = cc in found_is cells level k c (is ∙ ap Some same)
+
+-- and those above it are the cells from the next level on
+pub ups_from : (n : ℕ) (cells : List CellSeen) (level k : ℕ) (c : CellSeen) (ups : List CellSeen) → ups_of (suc n) cells level k ≡ c ∷ ups → ups_of n cells (level + 1) k ≡ ups
+unfolding ups_of
+ups_from n cells level k c ups e = by_first (cell_at cells level k) (ups_of n cells (level + 1) k) e
+  where
+    by_first : (o : Option CellSeen) (rest : List CellSeen) → first_and o rest ≡ c ∷ ups → rest ≡ ups
+    by_first None rest e = absurd cc
+    by_first (Some d) rest e = cc
 
 -- the lowest of the path is a leaf that has the key
 pub lowest_is : (cells : List CellSeen) (k : ℕ) (leaf : CellSeen) (ups : List CellSeen) → ups_of 8 cells 1 k ≡ leaf ∷ ups → IsAt cells 1 k leaf
-unfolding ups_of
-lowest_is cells k leaf ups e = first_is (cell_at cells 1 k) (ups_of 7 cells 2 k) refl e
-  where
-    first_is : (o : Option CellSeen) (rest : List CellSeen) → cell_at cells 1 k ≡ o → first_and o rest ≡ leaf ∷ ups → IsAt cells 1 k leaf
-    first_is None rest is e = absurd cc
-    first_is (Some c) rest is e = let same : c ≡ leaf = cc in found_is cells 1 k leaf (is ∙ ap Some same)
+lowest_is cells k leaf ups e = lowest_from 7 cells 1 k leaf ups e

@@ -94,3 +94,7 @@ ups_of (suc n) cells level k = first_and (cell_at cells level k) (ups_of n cells
 -- the standing leaf that has the key, and the cells above it, the lowest first
 abbrev pub path_of : WorkingSet → (k : ℕ) → List CellSeen
 path_of w k = ups_of 8 (standing w) 1 k
+
+-- the standing twig that has the key, and the cells above it, the lowest first
+abbrev pub twig_path_of : WorkingSet → (k : ℕ) → List CellSeen
+twig_path_of w k = ups_of 7 (standing w) 2 k

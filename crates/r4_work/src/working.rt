@@ -9,7 +9,7 @@ ghost use Rattle.r4_base.specs.Value.{Value};
 ghost use Rattle.r4_cell.specs.declared.change.Fresh.{Fresh as FreshSeen};
 ghost use Rattle.r4_work.specs.Order.{AreNamedByPlace, AreRangesApart, IsAt, cell_at};
 ghost use Rattle.r4_work.specs.Working.{AreCellsIn, HasNoEffect, IsPutInPlace, IsStart, IsWorking};
-ghost use Rattle.r4_work.specs.Working.{path_of, standing, ups_of};
+ghost use Rattle.r4_work.specs.Working.{path_of, standing, twig_path_of, ups_of};
 
 use crate::ordered::OrderedCells;
 use r4_base::{Key, Memory};
@@ -74,8 +74,28 @@ impl WorkingSet {
             → IsWorking t r f self.now
             → map (λ c. arc_value c) v.items ≡ reverse (path_of self.now (rank key.now))) }
     {
+        self.path_from(alloc, 1, *key)
+    }
+
+    /// The standing twig that has a key and the cells above it, one level after another, from the top down. The only
+    /// error is want of memory.
+    pub fn twig_path(&self, alloc: Global, key: &Key) -> Result<Vec<Arc<Cell>>, Memory>
+        ensures { IfOk result (λ v. (t : Store Value) (r : TreeRoot) (f : FreshSeen)
+            → IsWorking t r f self.now
+            → map (λ c. arc_value c) v.items ≡ reverse (twig_path_of self.now (rank key.now))) }
+    {
+        self.path_from(alloc, 2, *key)
+    }
+
+    // The standing cells that have a key, from a level on, from the top down.
+    fn path_from(&self, alloc: Global, level: u8, key: Key) -> Result<Vec<Arc<Cell>>, Memory>
+        requires { level ≤ 9 }
+        ensures { IfOk result (λ v. (t : Store Value) (r : TreeRoot) (f : FreshSeen)
+            → IsWorking t r f self.now → map (λ c. arc_value c) v.items
+            ≡ reverse (ups_of (9 - level) (standing self.now) level (rank key))) }
+    {
         let mut path = Vec::new(alloc);
-        self.add_ups(1, *key, &mut path)?;
+        self.add_ups(level, key, &mut path)?;
         path.reverse();
         Ok(path)
     }
@@ -113,8 +133,9 @@ impl WorkingSet {
         }
     }
 
-    // Puts a change of what stands in place. Where memory is wanting the set is as it was.
-    pub(crate) fn put_in_place(&mut self, alloc: Global, change: &Change) -> Result<(), Memory>
+    /// Puts a change of what stands in place: a cell of it has the number of one that stands if it stands at its place,
+    /// and only then. The only error is want of memory: then the set is as it was.
+    pub fn put_in_place(&mut self, alloc: Global, change: &Change) -> Result<(), Memory>
         requires { AreNamedByPlace self.old.kept change.now.old }
         ensures done { OnOk result (IsPutInPlace self.old change.now self.new) }
         ensures same { OnErr result (self.new ≡ self.old) }
