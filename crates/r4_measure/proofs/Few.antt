@@ -95,10 +95,11 @@ of_level b k (c ∷ cs) level =
     omega (arith, a, z, rest, same)
 
 -- the cells of one step
-pub step_few : (b left : Budget) (below : Option Step) (s : Step) (steps : List Step) (l : ℕ) → s.old.level ≡ l → Climbs below (s ∷ steps) → spent_on (left l) s ≤ b l s.old.id → cells_from left s.new ≤ 1 + b s.old.level s.old.id
-step_few b left below s steps l level (step, climbs) spent =
-    let a = of_level left l s.new (λ x m. (follow_within s.old.level (rank s.old.lo) (rank s.old.hi) s.new x step.ranges m).level_as ∙ level) in
-    let n = long s.new step.first in
+pub step_few : (b left : Budget) (s : Step) (l : ℕ) → s.old.level ≡ l → ((x : CellSeen) → Contains s.new x → x.level ≡ l) → ids_of s.new ≡ s.old.id ∷ ids_of (drop 1 s.new) → spent_on (left l) s ≤ b l s.old.id
+    → cells_from left s.new ≤ 1 + b s.old.level s.old.id
+step_few b left s l level levels first spent =
+    let a = of_level left l s.new levels in
+    let n = long s.new first in
     let same = ap (λ k. b k s.old.id) level in
     omega (arith, a, n, same, spent)
   where
@@ -122,6 +123,6 @@ steps_few b left f below l [] (Some c) ups climbs spent top =
 steps_few b left f below l (u ∷ us) over (up, ups) (step, climbs) (one, spent) top =
     let a = sum_by-append (λ (x : CellSeen). 1 + left x.level x.id) u.new (news us over) in
     let z = sum_by-cons (λ (x : CellSeen). 1 + b x.level x.id) u.old (olds us) in
-    let h = step_few b left below u us (suc l) up.level (step, climbs) one in
+    let h = step_few b left u (suc l) up.level (λ x m. (follow_within u.old.level (rank u.old.lo) (rank u.old.hi) u.new x step.ranges m).level_as ∙ up.level) step.first one in
     let rest = steps_few b left f (Some u) (suc l) us over ups climbs spent top in
     omega (arith, a, z, h, rest)

@@ -1,4 +1,4 @@
--- What is left of a budget after all edits of a leaf.
+-- What is left of a budget after a change of a level and of those above it, and so after all edits of a leaf.
 use Rattle.std.proofs.Common.{◌≡◌, ◌⊎◌, inl, inr, ℕ, zero, suc, ◌+◌, ◌-◌, ◌^◌, ◌<◌, ◌≤◌, Bool, true, false, List, [], ◌∷◌, ◌++◌, drop, length, refl, ap, sym, subst, ◌∙◌, arith}
 use Rattle.std.specs.Prelude.{Contains, Option, None, Some, ◌==◌, if◌then◌else◌, min, sum_by}
 use Rattle.std.specs.Option.{option_map, unwrap_or}
@@ -12,17 +12,16 @@ use Rattle.r4_base.specs.Key.{rank}
 use Rattle.r4_base.specs.Node.{Item, items_of}
 use Rattle.r4_base.specs.Tree.{Name, Node, Root, Store}
 use Rattle.r4_base.specs.Value.{Value}
-use Rattle.r4_cell.specs.Patch.{by_name, over, place, root_after, root_of_pair}
+use Rattle.r4_cell.specs.Patch.{Patch, by_name, over, place, root_after, root_of_pair}
 use Rattle.r4_cell.specs.Seen.{CellSeen, node_of}
 use Rattle.r4_cell.specs.declared.change.Change.{Change}
 use Rattle.r4_cell.specs.declared.change.Fresh.{Fresh}
-use Rattle.r4_cell.specs.declared.change.Root.{Root as RootPair}
 use Rattle.r4_patch.specs.Joining.{ids_of, patch_of_change}
 use Rattle.r4_patch.specs.Part.{IsPart}
 use Rattle.r4_patch.proofs.PartCells.{root_high}
 use Rattle.r4_leaf.specs.Units.{LeafUnit, leaf_bytes}
 use Rattle.r4_edit.specs.Editing.{Edits, extra_cells}
-use Rattle.r4_path.specs.Levels.{IsLongEnough}
+use Rattle.r4_path.specs.Levels.{AreNeeded, AreRows, IsLongEnough, Keeps as StepKeeps}
 use Rattle.r4_path.specs.Nodes.{IsPointable}
 use Rattle.r4_path.specs.Steps.{Ascends, Climbs, Ends, IsFree, OnlyTakes, Step, fresh_ids, name_of, news, olds, root_pair}
 use Rattle.r4_path.proofs.Begun.{ascends_take}
@@ -128,6 +127,222 @@ not_named (x ∷ xs) i e member = elim (cases_eq x.id i) [
   ]
 ]
 
+-- The cells of a change of a level and of those above it: it begins at a cell that stands, with what is in the budget, and
+-- its new cells of that level suffice for what may come below them.
+pub record IsLift (now : Store Value) (r : Root) (f : Fresh) (b : Budget) (l : ℕ) (s : Step) (more : List Step) (over : Option CellSeen) : Type 0 where
+  pub low : 1 ≤ l
+  pub first : ids_of s.new ≡ s.old.id ∷ ids_of (drop 1 s.new)
+  pub level : s.old.level ≡ l
+  pub levels : (x : CellSeen) → Contains s.new x → x.level ≡ l
+  pub come : length (drop 1 s.new) ≤ b l s.old.id
+  pub fresh : (i : ℕ) → Contains (fresh_ids (s ∷ more) over) i → IsFresh f i
+  pub climbs : Climbs (Some s) more
+  pub keep : (u : Step) → Contains more u → StepKeeps u
+  pub needed : AreNeeded (s ∷ more)
+  pub rows : AreRows (s ∷ more) over
+  pub ends : Ends r (s ∷ more) over
+  pub stands : now s.old.id ≡ Some (node_of s.old)
+  pub ups : Ascends now (Some s.old) (olds more)
+  pub own : (x : CellSeen) (m : ℕ) → Contains s.new x → l ≡ suc m → 1 ≤ m → Bears (b m) (none_at s.new (b l)) l (items_of x.block) x.id
+
+-- The patch has these cells, and others below the twigs.
+pub record IsLiftOf (p : Patch Value) (others : List CellSeen) (s : Step) (more : List Step) (over : Option CellSeen) : Type 0 where
+  pub low : (x : CellSeen) → Contains others x → x.level ≤ 1
+  pub from : (i : ℕ) (n : Node Value) → p.new i ≡ Some n → (x : CellSeen) × (Contains others x ⊎ Contains (s.new ++ news more over) x) × (x.id ≡ i) × (n ≡ node_of x)
+  pub all : (i : ℕ) → p.new i ≡ None → Contains (ids_of (s.new ++ news more over)) i → ⊥
+  pub root : p.root ≡ option_map root_of_pair (root_pair over)
+
+module _ (now : Store Value) (r : Root) (it : IsPart now r) (seen : AreSeen now) (f : Fresh) (free : IsFree f.next f.end now) (unplaced : 2 ^ 63 ≤ f.next) (high : f.end < 2 ^ 64) (able : IsPointable r.id) (b : Budget) (is : IsBudget now r b)
+    (l : ℕ) (s : Step) (more : List Step) (over_root : Option CellSeen) (lift : IsLift now r f b l s more over_root) where
+  abbrev left : ℕ → ℕ
+  left = none_at s.new (b l)
+
+  zeros : (cells : List CellSeen) → ((c : CellSeen) → Contains cells c → left c.id ≡ 0) → sum_by (λ (c : CellSeen). left c.id) cells ≡ 0
+  zeros [] h = refl
+  zeros (c ∷ cs) h = let a = sum_by-cons (λ (x : CellSeen). left x.id) c cs in let z = h c (here c cs) in let rest = zeros cs (λ x m. h x (later c x cs m)) in omega (arith, a, z, rest)
+
+  spent : IsSpent f (b l) left s
+  spent = record {
+    less = λ i h. none_less s.new (b l) i;
+    spent = let z = zeros s.new (λ c m. none_member s.new (b l) c m) in let h = lift.come in omega (arith, z, h);
+    small = λ i. let h = none_less s.new (b l) i in let m = is.small l i in omega (arith, h, m);
+    others = λ i out. none_other s.new (b l) i out;
+    once = λ one c m. none_member s.new (b l) c m;
+  }
+
+  ups_are : AreUp f b l more
+  ups_are = up_path now r it seen f free b is l s.old more lift.low lift.level lift.ups
+
+  -- an old cell that is the root stands at its level
+  tops : (u : Step) → Contains (s ∷ more) u → u.old.id ≡ r.id → u.old.level ≡ r.height
+  tops u member is_root = elim (cases s u more member) [
+    | inl same ↦
+        let at : now u.old.id ≡ Some (node_of u.old) = subst (λ (v : Step). now v.old.id ≡ Some (node_of v.old)) (sym same) lift.stands in
+        let h = root_high now r it u.old.id (node_of u.old) at is_root in
+        let v = level_is u.old in
+        omega (arith, h, v)
+    | inr above ↦
+        let at = stands_old more (Some s.old) lift.ups u above in
+        let h = root_high now r it u.old.id (node_of u.old) at is_root in
+        let v = level_is u.old in
+        omega (arith, h, v)
+  ]
+    where
+      stands_old : (steps : List Step) (below : Option CellSeen) → Ascends now below (olds steps) → (u : Step) → Contains steps u → now u.old.id ≡ Some (node_of u.old)
+      stands_old [] below path u member = absurd (none u member)
+      stands_old (v ∷ vs) below (at, low, named, rest) u member = elim (cases v u vs member) [
+        | inl same ↦ subst (λ (x : Step). now x.old.id ≡ Some (node_of x.old)) (sym same) at
+        | inr above ↦ stands_old vs (Some v.old) rest u above
+      ]
+
+  pub rises : Rises r f b l left more over_root
+  rises = climbing f unplaced high r able b is.small is.root l left s more over_root lift.low lift.level spent lift.first lift.fresh lift.rows lift.needed lift.keep lift.climbs lift.ends tops ups_are
+
+  less : (k i : ℕ) → (IsFresh f i → ⊥) → rises.after k i ≤ b k i
+  less = rises.less
+
+  same_below : (k i : ℕ) → (Contains (ids_of (s.new ++ news more over_root)) i → ⊥) → rises.after k i ≡ b k i
+  same_below k i out = elim (cases_eq k l) [
+    | inl one ↦ subst (λ j. rises.after j i ≡ b j i) (sym one) (ap (λ g. g i) rises.at ∙ spent.others i (λ m. out (in_left s.new (news more over_root) i m)))
+    | inr ne ↦ rises.others k i ne (λ m. out (in_right s.new (news more over_root) i m))
+  ]
+
+  kept_node : (i : ℕ) (c : Node Value) (k : ℕ) → now i ≡ Some c → (Contains (ids_of (s.new ++ news more over_root)) i → ⊥) → c.level ≡ suc k → 1 ≤ k → Bears (rises.after k) (rises.after (suc k)) (suc k) (items_of c.block) i
+  kept_node i c k at out up low =
+      let clean = clean_node now seen f free i c k at up in
+      let a = less_below f (b k) (rises.after k) (less k) (items_of c.block) clean in
+      let g = less_grows f (b k) (rises.after k) (less k) (items_of c.block) clean in
+      let own = same_below (suc k) i out in
+      elim (is.bears i c k at up low) [
+        | inl fits ↦ inl (omega (arith, a, fits))
+        | inr rest ↦ elim rest [
+          | inl empty ↦ inr (inl (omega (arith, a, empty)))
+          | inr rest2 ↦ elim rest2 [
+            | inl twig ↦ let h = twig.1 in inr (inr (inl (twig.0, omega (arith, g, h, own))))
+            | inr node ↦ let h = node.1 in inr (inr (inr (node.0, omega (arith, a, h, own))))
+          ]
+        ]
+      ]
+
+  new_node : (x : CellSeen) (k : ℕ) → Contains (s.new ++ news more over_root) x → (node_of x).level ≡ suc k → 1 ≤ k → Bears (rises.after k) (rises.after (suc k)) (suc k) (items_of (node_of x).block) x.id
+  new_node x k member up low = elim (Contains-append_cases s.new (news more over_root) x member) [
+    | inl mine ↦
+        let v = level_is x in
+        let same : l ≡ suc k = sym (lift.levels x mine) ∙ (sym v ∙ up) in
+        subst (λ (bytes : List ℕ). Bears (rises.after k) (rises.after (suc k)) (suc k) (items_of bytes) x.id) (sym (block_is x))
+        (subst (λ j. Bears (rises.after k) (rises.after j) j (items_of x.block) x.id) same
+        (subst (λ g. Bears (rises.after k) g l (items_of x.block) x.id) (sym rises.at)
+        (subst (λ g. Bears g left l (items_of x.block) x.id) (sym (rises.low k (omega (arith, same)))) (lift.own x k mine same low))))
+    | inr upper ↦
+        let (j, le, xl, h) = bear_of f b rises.after r l s more over_root lift.level ups_are lift.climbs lift.ends rises.bear x upper in
+        let v = level_is x in
+        let same : j ≡ k = omega (arith, v, xl, up) in
+        subst (λ (bytes : List ℕ). Bears (rises.after k) (rises.after (suc k)) (suc k) (items_of bytes) x.id) (sym (block_is x))
+        (subst (λ j. Bears (rises.after j) (rises.after (suc j)) (suc j) (items_of x.block) x.id) same h)
+  ]
+
+  -- the new cells and what may come of them are in what the old ones had, and in a new root
+  pub lifted_few : cells_from rises.after (s.new ++ news more over_root) ≤ cells_from b (s.old ∷ olds more) + over_count over_root
+  lifted_few =
+      let x = sum_by-append (λ (c : CellSeen). 1 + rises.after c.level c.id) s.new (news more over_root) in
+      let y = sum_by-cons (λ (c : CellSeen). 1 + b c.level c.id) s.old (olds more) in
+      let one = step_few b rises.after s l lift.level lift.levels lift.first (subst (λ g. spent_on g s ≤ b l s.old.id) (sym rises.at) spent.spent) in
+      let above = steps_few b rises.after f (Some s) l more over_root ups_are lift.climbs rises.spent (λ c is_over. let (lt, le, none_left, some) = rises.new_root c is_over in none_left) in
+      omega (arith, x, y, one, above)
+
+  -- ---- with the change in place
+
+  module _ (p : Patch Value) (others : List CellSeen) (of : IsLiftOf p others s more over_root) where
+    all_nodes : (i : ℕ) (c : Node Value) (k : ℕ) → place p now i ≡ Some c → c.level ≡ suc k → 1 ≤ k → Bears (rises.after k) (rises.after (suc k)) (suc k) (items_of c.block) i
+    all_nodes i c k at up low = by_new (p.new i) refl (p.old i) at
+      where
+        by_new : (o : Option (Node Value)) → p.new i ≡ o → (q : Option (Node Value)) → over o q (now i) ≡ Some c → Bears (rises.after k) (rises.after (suc k)) (suc k) (items_of c.block) i
+        by_new (Some n) o q h =
+            let (x, member, id_is, says) = of.from i n o in
+            let same : c ≡ node_of x = sym (same_Some n c h) ∙ says in
+            let x_up : (node_of x).level ≡ suc k = ap (λ (z : Node Value). z.level) (sym same) ∙ up in
+            elim member [
+              | inl below ↦ let one = of.low x below in let v = level_is x in absurd (omega (arith, one, v, x_up, low))
+              | inr mine ↦
+                  subst (λ (z : Node Value). Bears (rises.after k) (rises.after (suc k)) (suc k) (items_of z.block) i) (sym same)
+                  (subst (λ j. Bears (rises.after k) (rises.after (suc k)) (suc k) (items_of (node_of x).block) j) id_is (new_node x k mine x_up low))
+            ]
+        by_new None o (Some q) h = absurd (none-some c h)
+        by_new None o None h = kept_node i c k h (of.all i o) up low
+
+    abbrev root2 : Root
+    root2 = root_after p r
+
+    abbrev HasTop : Option CellSeen → Type 0
+    HasTop o = (c : CellSeen) → o ≡ Some c → (l < c.level) × (c.level ≤ 8) × (rises.after c.level c.id ≡ 0) × (1 ≤ b r.height r.id)
+
+    root_same : (o : Option CellSeen) → p.root ≡ option_map root_of_pair (root_pair o) → root2 ≡ unwrap_or (option_map root_of_pair (root_pair o)) r
+    root_same o pair = ap (λ (q : Option Root). unwrap_or q r) pair
+
+    root_kept : 1 ≤ rises.after root2.height root2.id → root2.height < 8
+    root_kept = by_over over_root rises.new_root of.root
+      where
+        Low : Root → Type 0
+        Low q = 1 ≤ rises.after q.height q.id → q.height < 8
+
+        by_over : (o : Option CellSeen) → ((c : CellSeen) → o ≡ Some c → (l < c.level) × (c.level ≤ 8) × (rises.after c.level c.id ≡ 0) × (1 ≤ b r.height r.id)) → p.root ≡ option_map root_of_pair (root_pair o) → 1 ≤ rises.after root2.height root2.id → root2.height < 8
+        by_over None h pair = subst Low (sym (root_same None pair))
+            (λ some. is.root (let k = less r.height r.id (not_fresh now r it seen f free b is r.id it.root_node it.root_is) in omega (arith, some, k)))
+        by_over (Some c) h pair = subst Low (sym (root_same (Some c) pair))
+            (λ some. let z = (h c refl).2 in absurd (omega (arith, z, some)))
+
+    pub lifted_height : r.height ≤ 8 → root2.height ≤ 8
+    lifted_height low = by_over over_root rises.new_root of.root
+      where
+        by_over : (o : Option CellSeen) → ((c : CellSeen) → o ≡ Some c → (l < c.level) × (c.level ≤ 8) × (rises.after c.level c.id ≡ 0) × (1 ≤ b r.height r.id)) → p.root ≡ option_map root_of_pair (root_pair o) → root2.height ≤ 8
+        by_over None h pair = subst (λ (q : Root). q.height ≤ 8) (sym (root_same None pair)) low
+        by_over (Some c) h pair = subst (λ (q : Root). q.height ≤ 8) (sym (root_same (Some c) pair)) ((h c refl).1)
+
+    -- where nothing may come of the root, it stays
+    root_stays : b r.height r.id ≡ 0 → (root2 ≡ r) × (rises.after r.height r.id ≡ 0)
+    root_stays zero_root = (by_over over_root rises.new_root of.root, let k = less r.height r.id (not_fresh now r it seen f free b is r.id it.root_node it.root_is) in omega (arith, k, zero_root))
+      where
+        by_over : (o : Option CellSeen) → ((c : CellSeen) → o ≡ Some c → (l < c.level) × (c.level ≤ 8) × (rises.after c.level c.id ≡ 0) × (1 ≤ b r.height r.id)) → p.root ≡ option_map root_of_pair (root_pair o) → root2 ≡ r
+        by_over None h pair = root_same None pair
+        by_over (Some c) h pair = let some = (h c refl).3 in absurd (omega (arith, some, zero_root))
+
+    few : most_from rises.after root2 (s.new ++ news more over_root) ≤ most_from b r (s.old ∷ olds more)
+    few = by_over over_root rises.new_root of.root lifted_few
+      where
+        Few : Root → Type 0
+        Few q = most_from rises.after q (s.new ++ news more over_root) ≤ most_from b r (s.old ∷ olds more)
+
+        by_over : (o : Option CellSeen) → ((c : CellSeen) → o ≡ Some c → (l < c.level) × (c.level ≤ 8) × (rises.after c.level c.id ≡ 0) × (1 ≤ b r.height r.id)) → p.root ≡ option_map root_of_pair (root_pair o)
+            → cells_from rises.after (s.new ++ news more over_root) ≤ cells_from b (s.old ∷ olds more) + over_count o → Few root2
+        by_over None h pair cells = subst Few (sym (root_same None pair))
+            (let k = less r.height r.id (not_fresh now r it seen f free b is r.id it.root_node it.root_is) in kept_root (rises.after r.height r.id) (b r.height r.id) k cells)
+          where
+            kept_root : (x y : ℕ) → x ≤ y → cells_from rises.after (s.new ++ news more over_root) ≤ cells_from b (s.old ∷ olds more) + 0
+                → cells_from rises.after (s.new ++ news more over_root) + min 1 x ≤ cells_from b (s.old ∷ olds more) + min 1 y
+            kept_root x y le h = let m = min_less x y le in omega (arith, m, h)
+        by_over (Some c) h pair cells = subst Few (sym (root_same (Some c) pair))
+            (let (lt, le, none_left, some) = h c refl in other_root (rises.after c.level c.id) (b r.height r.id) none_left some cells)
+          where
+            other_root : (x y : ℕ) → x ≡ 0 → 1 ≤ y → cells_from rises.after (s.new ++ news more over_root) ≤ cells_from b (s.old ∷ olds more) + 1
+                → cells_from rises.after (s.new ++ news more over_root) + min 1 x ≤ cells_from b (s.old ∷ olds more) + min 1 y
+            other_root x y z some h =
+                let m : min 1 x ≡ 0 = ap (min 1) z in
+                let k = min_less 1 y some in
+                let o : min 1 1 ≡ 1 = refl in
+                omega (arith, m, k, o, h)
+
+    pub lifted_budget : (c2 : Budget) × IsBudget (place p now) root2 c2 × ((k i : ℕ) → (Contains (ids_of (s.new ++ news more over_root)) i → ⊥) → c2 k i ≡ b k i) × ((k i : ℕ) → (IsFresh f i → ⊥) → c2 k i ≤ b k i)
+        × (most_from c2 root2 (s.new ++ news more over_root) ≤ most_from b r (s.old ∷ olds more)) × (b r.height r.id ≡ 0 → (root2 ≡ r) × (c2 r.height r.id ≡ 0)) × ((k : ℕ) → k < l → c2 k ≡ b k)
+    lifted_budget = (rises.after, record { bears = all_nodes; small = rises.small; root = root_kept }, same_below, less, few, root_stays, rises.low)
+
+    pub lifted_seen : AreSeen (place p now)
+    lifted_seen i c at = by_new (p.new i) refl (p.old i) at
+      where
+        by_new : (o : Option (Node Value)) → p.new i ≡ o → (q : Option (Node Value)) → over o q (now i) ≡ Some c → (x : CellSeen) × (c ≡ node_of x)
+        by_new (Some n) o q h = let (x, member, id_is, says) = of.from i n o in (x, sym (same_Some n c h) ∙ says)
+        by_new None o (Some q) h = absurd (none-some c h)
+        by_new None o None h = seen i c h
+
 module _ (now : Store Value) (r : Root) (it : IsPart now r) (seen : AreSeen now) (f after : Fresh) (free : IsFree f.next f.end now) (unplaced : 2 ^ 63 ≤ f.next) (high : f.end < 2 ^ 64) (takes : OnlyTakes f after) (able : IsPointable r.id)
     (b : Budget) (is : IsBudget now r b) (us : List LeafUnit) (leaf : CellSeen) (ups : List CellSeen) (d : Change) (leaf_level : leaf.level ≡ 1) (path : Ascends now None (leaf ∷ ups))
     (enough : (leaf_bytes us ≤ 4068) ⊎ IsLongEnough r (extra_cells us) leaf ups) (has : (leaf_bytes us ≤ 4068) ⊎ (extra_cells us ≤ b 1 leaf.id)) (e : Edits leaf ups us f after d) where
@@ -139,13 +354,6 @@ module _ (now : Store Value) (r : Root) (it : IsPart now r) (seen : AreSeen now)
 
   s_level : s.old.level ≡ 1
   s_level = ap (λ (c : CellSeen). c.level) e.old ∙ leaf_level
-
-  abbrev left : ℕ → ℕ
-  left = none_at s.new (b 1)
-
-  zeros : (cells : List CellSeen) → ((c : CellSeen) → Contains cells c → left c.id ≡ 0) → sum_by (λ (c : CellSeen). left c.id) cells ≡ 0
-  zeros [] h = refl
-  zeros (c ∷ cs) h = let a = sum_by-cons (λ (x : CellSeen). left x.id) c cs in let z = h c (here c cs) in let rest = zeros cs (λ x m. h x (later c x cs m)) in omega (arith, a, z, rest)
 
   long : (cells : List CellSeen) → 1 ≤ length cells → length cells ≡ 1 + length (drop 1 cells)
   long [] h = absurd (omega (arith, h))
@@ -161,15 +369,6 @@ module _ (now : Store Value) (r : Root) (it : IsPart now r) (seen : AreSeen now)
             elim has [ inl fits ↦ absurd (omega (arith, over, fits)) | inr h ↦ omega (arith, n, l, h, same) ]
         | inr fits ↦ let n = e.one fits in let l = long s.new (omega (arith, n)) in omega (arith, n, l)
       ]
-
-  spent : IsSpent f (b 1) left s
-  spent = record {
-    less = λ i h. none_less s.new (b 1) i;
-    spent = let z = zeros s.new (λ c m. none_member s.new (b 1) c m) in let h = come in omega (arith, z, h);
-    small = λ i. let h = none_less s.new (b 1) i in let m = is.small 1 i in omega (arith, h, m);
-    others = λ i out. none_other s.new (b 1) i out;
-    once = λ l c m. none_member s.new (b 1) c m;
-  }
 
   fresh : (i : ℕ) → Contains (fresh_ids (s ∷ e.more) e.over) i → IsFresh f i
   fresh i member =
@@ -193,163 +392,50 @@ module _ (now : Store Value) (r : Root) (it : IsPart now r) (seen : AreSeen now)
   ups_stand : Ascends now (Some leaf) (olds e.more)
   ups_stand = subst (λ cells. Ascends now (Some leaf) cells) (sym e.ups_are) (ascends_take now (Some leaf) (length e.more) ups path.3)
 
-  ups_are : AreUp f b 1 e.more
-  ups_are = up_path now r it seen f free b is 1 leaf e.more (omega arith) leaf_level ups_stand
-
-  -- an old cell that is the root stands at its level
-  tops : (u : Step) → Contains (s ∷ e.more) u → u.old.id ≡ r.id → u.old.level ≡ r.height
-  tops u member is_root = elim (cases s u e.more member) [
-    | inl same ↦
-        let id : leaf.id ≡ r.id = ap (λ (c : CellSeen). c.id) (sym e.old) ∙ (ap (λ (v : Step). v.old.id) (sym same) ∙ is_root) in
-        let h = root_high now r it leaf.id (node_of leaf) path.0 id in
-        let v = level_is leaf in
-        let lv = ap (λ (w : Step). w.old.level) same in
-        omega (arith, h, v, lv, s_level, leaf_level)
-    | inr more ↦
-        let at = stands_old e.more (Some leaf) ups_stand u more in
-        let h = root_high now r it u.old.id (node_of u.old) at is_root in
-        let v = level_is u.old in
-        omega (arith, h, v)
-  ]
-    where
-      stands_old : (steps : List Step) (below : Option CellSeen) → Ascends now below (olds steps) → (u : Step) → Contains steps u → now u.old.id ≡ Some (node_of u.old)
-      stands_old [] below path u member = absurd (none u member)
-      stands_old (v ∷ vs) below (at, low, named, rest) u member = elim (cases v u vs member) [
-        | inl same ↦ subst (λ (x : Step). now x.old.id ≡ Some (node_of x.old)) (sym same) at
-        | inr more ↦ stands_old vs (Some v.old) rest u more
-      ]
-
-  rises : Rises r f b 1 left e.more e.over
-  rises = climbing f unplaced high r able b is.small is.root 1 left s e.more e.over (omega arith) s_level spent first fresh e.rows e.needed e.keep e.climbs.1 ends tops ups_are
-
-  abbrev now2 : Store Value
-  now2 = place (patch_of_change d) now
+  lift : IsLift now r f b 1 s e.more e.over
+  lift = record {
+    low = omega arith;
+    first = first;
+    level = s_level;
+    levels = λ x m. (follow_within s.old.level (rank s.old.lo) (rank s.old.hi) s.new x e.climbs.0.ranges m).level_as ∙ s_level;
+    come = come;
+    fresh = fresh;
+    climbs = e.climbs.1;
+    keep = e.keep;
+    needed = e.needed;
+    rows = e.rows;
+    ends = ends;
+    stands = subst (λ (c : CellSeen). now c.id ≡ Some (node_of c)) (sym e.old) path.0;
+    ups = subst (λ (c : CellSeen). Ascends now (Some c) (olds e.more)) (sym e.old) ups_stand;
+    own = λ x m member one some. absurd (omega (arith, one, some));
+  }
 
   pub new_are : d.new ≡ s.new ++ news e.more e.over
   new_are = e.levels.new
 
-  less : (k i : ℕ) → (IsFresh f i → ⊥) → rises.after k i ≤ b k i
-  less = rises.less
+  of : IsLiftOf (patch_of_change d) [] s e.more e.over
+  of = record {
+    low = λ x m. absurd (none x m);
+    from = λ i n o. let (x, member, id_is, says) = found d.new i n o in (x, inr (subst (λ cs. Contains cs x) new_are member), id_is, says);
+    all = λ i o m. not_named d.new i o (subst (λ cs. Contains (ids_of cs) i) (sym new_are) m);
+    root = ap (option_map root_of_pair) e.levels.pair;
+  }
 
-  same_below : (k i : ℕ) → (Contains (ids_of d.new) i → ⊥) → rises.after k i ≡ b k i
-  same_below k i out = elim (cases_eq k 1) [
-    | inl one ↦ subst (λ j. rises.after j i ≡ b j i) (sym one) (ap (λ g. g i) rises.at ∙ spent.others i (λ m. out (subst (λ cs. Contains (ids_of cs) i) (sym new_are) (in_left s.new (news e.more e.over) i m))))
-    | inr ne ↦ rises.others k i ne (λ m. out (subst (λ cs. Contains (ids_of cs) i) (sym new_are) (in_right s.new (news e.more e.over) i m)))
-  ]
+  pub height_kept : r.height ≤ 8 → (root_after (patch_of_change d) r).height ≤ 8
+  height_kept = lifted_height now r it seen f free unplaced high able b is 1 s e.more e.over lift (patch_of_change d) [] of
 
-  kept_node : (i : ℕ) (c : Node Value) (l : ℕ) → now i ≡ Some c → (Contains (ids_of d.new) i → ⊥) → c.level ≡ suc l → 1 ≤ l → Bears (rises.after l) (rises.after (suc l)) (suc l) (items_of c.block) i
-  kept_node i c l at out up low =
-      let clean = clean_node now seen f free i c l at up in
-      let a = less_below f (b l) (rises.after l) (less l) (items_of c.block) clean in
-      let g = less_grows f (b l) (rises.after l) (less l) (items_of c.block) clean in
-      let own = same_below (suc l) i out in
-      elim (is.bears i c l at up low) [
-        | inl fits ↦ inl (omega (arith, a, fits))
-        | inr rest ↦ elim rest [
-          | inl empty ↦ inr (inl (omega (arith, a, empty)))
-          | inr rest2 ↦ elim rest2 [
-            | inl twig ↦ let h = twig.1 in inr (inr (inl (twig.0, omega (arith, g, h, own))))
-            | inr node ↦ let h = node.1 in inr (inr (inr (node.0, omega (arith, a, h, own))))
-          ]
-        ]
-      ]
+  pub seen_kept : AreSeen (place (patch_of_change d) now)
+  seen_kept = lifted_seen now r it seen f free unplaced high able b is 1 s e.more e.over lift (patch_of_change d) [] of
 
-  new_node : (x : CellSeen) (l : ℕ) → Contains d.new x → (node_of x).level ≡ suc l → 1 ≤ l → Bears (rises.after l) (rises.after (suc l)) (suc l) (items_of (node_of x).block) x.id
-  new_node x l member up low = elim (Contains-append_cases s.new (news e.more e.over) x (subst (λ cs. Contains cs x) new_are member)) [
-    | inl leafs ↦
-        let w = (follow_within s.old.level (rank s.old.lo) (rank s.old.hi) s.new x e.climbs.0.ranges leafs).level_as in
-        let v = level_is x in
-        absurd (omega (arith, w, v, up, low, s_level))
-    | inr upper ↦
-        let (k, le, xl, h) = bear_of f b rises.after r 1 s e.more e.over s_level ups_are e.climbs.1 ends rises.bear x upper in
-        let v = level_is x in
-        let same : k ≡ l = omega (arith, v, xl, up) in
-        subst (λ (bytes : List ℕ). Bears (rises.after l) (rises.after (suc l)) (suc l) (items_of bytes) x.id) (sym (block_is x))
-        (subst (λ j. Bears (rises.after j) (rises.after (suc j)) (suc j) (items_of x.block) x.id) same h)
-  ]
-
-  all_nodes : (i : ℕ) (c : Node Value) (l : ℕ) → now2 i ≡ Some c → c.level ≡ suc l → 1 ≤ l → Bears (rises.after l) (rises.after (suc l)) (suc l) (items_of c.block) i
-  all_nodes i c l at up low = by_new (by_name d.new i) refl (by_name d.old i) at
-    where
-      by_new : (o : Option (Node Value)) → by_name d.new i ≡ o → (p : Option (Node Value)) → over o p (now i) ≡ Some c → Bears (rises.after l) (rises.after (suc l)) (suc l) (items_of c.block) i
-      by_new (Some n) o p h =
-          let (x, member, id_is, says) = found d.new i n o in
-          let same : c ≡ node_of x = sym (same_Some n c h) ∙ says in
-          subst (λ (z : Node Value). Bears (rises.after l) (rises.after (suc l)) (suc l) (items_of z.block) i) (sym same)
-          (subst (λ j. Bears (rises.after l) (rises.after (suc l)) (suc l) (items_of (node_of x).block) j) id_is (new_node x l member (ap (λ (z : Node Value). z.level) (sym same) ∙ up) low))
-      by_new None o (Some q) h = absurd (none-some c h)
-      by_new None o None h = kept_node i c l h (not_named d.new i o) up low
-
-  abbrev root2 : Root
-  root2 = root_after (patch_of_change d) r
-
-  root_kept : 1 ≤ rises.after root2.height root2.id → root2.height < 8
-  root_kept = by_over e.over rises.new_root e.levels.pair
-    where
-      Low : Root → Type 0
-      Low q = 1 ≤ rises.after q.height q.id → q.height < 8
-
-      by_over : (o : Option CellSeen) → ((c : CellSeen) → o ≡ Some c → (1 < c.level) × (c.level ≤ 8) × (rises.after c.level c.id ≡ 0) × (1 ≤ b r.height r.id)) → d.root ≡ root_pair o → 1 ≤ rises.after root2.height root2.id → root2.height < 8
-      by_over None h pair = subst Low (sym (ap (λ (q : Option RootPair). unwrap_or (option_map root_of_pair q) r) pair))
-          (λ some. is.root (let k = less r.height r.id (not_fresh now r it seen f free b is r.id it.root_node it.root_is) in omega (arith, some, k)))
-      by_over (Some c) h pair = subst Low (sym (ap (λ (q : Option RootPair). unwrap_or (option_map root_of_pair q) r) pair))
-          (λ some. let z = (h c refl).2 in absurd (omega (arith, z, some)))
-
-  pub height_kept : r.height ≤ 8 → root2.height ≤ 8
-  height_kept low = by_over e.over rises.new_root e.levels.pair
-    where
-      by_over : (o : Option CellSeen) → ((c : CellSeen) → o ≡ Some c → (1 < c.level) × (c.level ≤ 8) × (rises.after c.level c.id ≡ 0) × (1 ≤ b r.height r.id)) → d.root ≡ root_pair o → root2.height ≤ 8
-      by_over None h pair = subst (λ (q : Root). q.height ≤ 8) (sym (ap (λ (q : Option RootPair). unwrap_or (option_map root_of_pair q) r) pair)) low
-      by_over (Some c) h pair = subst (λ (q : Root). q.height ≤ 8) (sym (ap (λ (q : Option RootPair). unwrap_or (option_map root_of_pair q) r) pair)) ((h c refl).1)
-
-  -- where nothing may come of the root, it stays
-  root_stays : b r.height r.id ≡ 0 → (root2 ≡ r) × (rises.after r.height r.id ≡ 0)
-  root_stays zero_root = (by_over e.over rises.new_root e.levels.pair, let k = less r.height r.id (not_fresh now r it seen f free b is r.id it.root_node it.root_is) in omega (arith, k, zero_root))
-    where
-      by_over : (o : Option CellSeen) → ((c : CellSeen) → o ≡ Some c → (1 < c.level) × (c.level ≤ 8) × (rises.after c.level c.id ≡ 0) × (1 ≤ b r.height r.id)) → d.root ≡ root_pair o → root2 ≡ r
-      by_over None h pair = ap (λ (q : Option RootPair). unwrap_or (option_map root_of_pair q) r) pair
-      by_over (Some c) h pair = let some = (h c refl).3 in absurd (omega (arith, some, zero_root))
-
-  -- the new cells and what may come of them are in what the old ones had, and in a new root
-  cells_few : cells_from rises.after d.new ≤ cells_from b d.old + over_count e.over
-  cells_few =
-      let a = ap (cells_from rises.after) new_are in
-      let z = ap (cells_from b) e.levels.old in
-      let x = sum_by-append (λ (c : CellSeen). 1 + rises.after c.level c.id) s.new (news e.more e.over) in
-      let y = sum_by-cons (λ (c : CellSeen). 1 + b c.level c.id) s.old (olds e.more) in
-      let one = step_few b rises.after None s e.more 1 s_level e.climbs (subst (λ g. spent_on g s ≤ b 1 s.old.id) (sym rises.at) spent.spent) in
-      let more = steps_few b rises.after f (Some s) 1 e.more e.over ups_are e.climbs.1 rises.spent (λ c is_over. let (lt, le, none_left, some) = rises.new_root c is_over in none_left) in
-      omega (arith, a, z, x, y, one, more)
-
-  few : most_from rises.after root2 d.new ≤ most_from b r d.old
-  few = by_over e.over rises.new_root e.levels.pair cells_few
-    where
-      Few : Root → Type 0
-      Few q = most_from rises.after q d.new ≤ most_from b r d.old
-
-      by_over : (o : Option CellSeen) → ((c : CellSeen) → o ≡ Some c → (1 < c.level) × (c.level ≤ 8) × (rises.after c.level c.id ≡ 0) × (1 ≤ b r.height r.id)) → d.root ≡ root_pair o → cells_from rises.after d.new ≤ cells_from b d.old + over_count o → Few root2
-      by_over None h pair cells = subst Few (sym (ap (λ (q : Option RootPair). unwrap_or (option_map root_of_pair q) r) pair))
-          (let k = less r.height r.id (not_fresh now r it seen f free b is r.id it.root_node it.root_is) in kept_root (rises.after r.height r.id) (b r.height r.id) k cells)
-        where
-          kept_root : (x y : ℕ) → x ≤ y → cells_from rises.after d.new ≤ cells_from b d.old + 0 → cells_from rises.after d.new + min 1 x ≤ cells_from b d.old + min 1 y
-          kept_root x y le h = let m = min_less x y le in omega (arith, m, h)
-      by_over (Some c) h pair cells = subst Few (sym (ap (λ (q : Option RootPair). unwrap_or (option_map root_of_pair q) r) pair))
-          (let (lt, le, none_left, some) = h c refl in other_root (rises.after c.level c.id) (b r.height r.id) none_left some cells)
-        where
-          other_root : (x y : ℕ) → x ≡ 0 → 1 ≤ y → cells_from rises.after d.new ≤ cells_from b d.old + 1 → cells_from rises.after d.new + min 1 x ≤ cells_from b d.old + min 1 y
-          other_root x y z some h =
-              let m : min 1 x ≡ 0 = ap (min 1) z in
-              let k = min_less 1 y some in
-              let o : min 1 1 ≡ 1 = refl in
-              omega (arith, m, k, o, h)
-
-  pub budget_kept : (left : Budget) × IsBudget now2 root2 left × ((k i : ℕ) → (Contains (ids_of d.new) i → ⊥) → left k i ≡ b k i) × ((k i : ℕ) → (IsFresh f i → ⊥) → left k i ≤ b k i) × (most_from left root2 d.new ≤ most_from b r d.old) × (b r.height r.id ≡ 0 → (root2 ≡ r) × (left r.height r.id ≡ 0))
-  budget_kept = (rises.after, record { bears = all_nodes; small = rises.small; root = root_kept }, same_below, less, few, root_stays)
-
-  pub seen_kept : AreSeen now2
-  seen_kept i c at = by_new (by_name d.new i) refl (by_name d.old i) at
-    where
-      by_new : (o : Option (Node Value)) → by_name d.new i ≡ o → (p : Option (Node Value)) → over o p (now i) ≡ Some c → (x : CellSeen) × (c ≡ node_of x)
-      by_new (Some n) o p h = let (x, member, id_is, says) = found d.new i n o in (x, sym (same_Some n c h) ∙ says)
-      by_new None o (Some q) h = absurd (none-some c h)
-      by_new None o None h = seen i c h
+  pub budget_kept : (left : Budget) × IsBudget (place (patch_of_change d) now) (root_after (patch_of_change d) r) left × ((k i : ℕ) → (Contains (ids_of d.new) i → ⊥) → left k i ≡ b k i) × ((k i : ℕ) → (IsFresh f i → ⊥) → left k i ≤ b k i)
+      × (most_from left (root_after (patch_of_change d) r) d.new ≤ most_from b r d.old) × (b r.height r.id ≡ 0 → (root_after (patch_of_change d) r ≡ r) × (left r.height r.id ≡ 0))
+  budget_kept =
+      let (c2, budget, same, less, few, stays, low) = lifted_budget now r it seen f free unplaced high able b is 1 s e.more e.over lift (patch_of_change d) [] of in (
+        c2,
+        budget,
+        (λ k i out. same k i (λ m. out (subst (λ cs. Contains (ids_of cs) i) (sym new_are) m))),
+        less,
+        subst (λ cs. most_from c2 (root_after (patch_of_change d) r) cs ≤ most_from b r d.old) (sym new_are)
+            (subst (λ cs. most_from c2 (root_after (patch_of_change d) r) (s.new ++ news e.more e.over) ≤ most_from b r cs) (sym e.levels.old) few),
+        stays,
+      )

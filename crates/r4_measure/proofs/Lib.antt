@@ -4,7 +4,10 @@ pub mod Few
 pub mod Kept
 pub mod Suffices
 pub mod OldCells
+pub mod Placed
+pub mod Grafted
 pub mod Turn
+pub mod TwigTurn
 pub mod Loop
 pub mod Asked
 pub mod Begin

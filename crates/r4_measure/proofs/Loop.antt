@@ -36,7 +36,9 @@ use Rattle.r4_measure.specs.Budget.{Budget, IsFresh, cells_from, most_from}
 use Rattle.r4_measure.specs.Loop.{AreReady, CanRemakeAll, IsDone, IsReady, LeafTurn, StandAtMost, units_now}
 use Rattle.r4_measure.specs.Measured.{IsMeasured}
 use Rattle.r4_measure.proofs.Suffices.{finds}
-use Rattle.r4_measure.proofs.Turn.{cells_are, still_in, turn_enough, turn_kept}
+use Rattle.r4_measure.proofs.OldCells.{old_stands}
+use Rattle.r4_measure.proofs.Placed.{cells_are, still_in}
+use Rattle.r4_measure.proofs.Turn.{turn_enough, turn_kept}
 
 first_long : (o : Option CellSeen) (rest : List CellSeen) → length (first_and o rest) ≤ 1 + length rest
 first_long None rest = omega arith
@@ -248,12 +250,13 @@ module _ (t : Store Value) (r : Root) (f : Fresh) (w : WorkingSet) (b : Budget) 
         let old_none : by_name made.edit.old j ≡ None = absent made.edit.old j (λ y m id. not_old j ready2.node ready2.at ready2.level ne
         (subst (λ n. Contains (ids_of (olds (made.edits.lowest ∷ made.edits.more))) n) id (id_member (olds (made.edits.lowest ∷ made.edits.more)) y (subst (λ cs. Contains cs y) made.edits.levels.old m)))) in
         let was : place (patch_of_change made.edit) s j ≡ Some ready2.node = ap (λ o. over o (by_name made.edit.old j) (s j)) new_none ∙ (ap (λ o. over None o (s j)) old_none ∙ ready2.at) in
-        let same_cells = cells_are t r f w b is (rank e.key) made.leaf made.ups made.path v g (after_edits e.cuts e.items made.leaf) made.edit come unplaced high made.takes made.change made.meets made.edits made.put made.working in
+        let stood : (x : CellSeen) → Contains made.edit.old x → Contains (standing w) x = λ x at. old_stands w (rank e.key) made.leaf made.ups made.path (after_edits e.cuts e.items made.leaf) f g made.edit made.edits x at in
+        let same_cells = cells_are t r f w b is v g made.edit made.change made.meets stood made.put made.working in
         let (y, my, id) = ready2.stands in
         record {
           node = ready2.node;
           at = ap (λ (u : Store Value). u j) same_cells ∙ was;
-          stands = (y, still_in t r f w b is (rank e.key) made.leaf made.ups made.path v g (after_edits e.cuts e.items made.leaf) made.edit come unplaced high made.takes made.change made.meets made.edits made.put made.working j y id old_none my, id);
+          stands = (y, still_in t r f w b is v g made.edit made.change made.meets stood made.put made.working j y id old_none my, id);
           level = ready2.level;
           key = ready2.key;
           cuts_within = ready2.cuts_within;

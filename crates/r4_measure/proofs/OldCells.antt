@@ -15,7 +15,7 @@ use Rattle.r4_work.proofs.LeafEffect.{taken}
 use Rattle.r4_work.proofs.Paths.{found_is}
 
 -- the cells of a path are cells of those in which it was looked up
-path_among : (n : ℕ) (cells : List CellSeen) (level k : ℕ) (x : CellSeen) → Contains (ups_of n cells level k) x → Contains cells x
+pub path_among : (n : ℕ) (cells : List CellSeen) (level k : ℕ) (x : CellSeen) → Contains (ups_of n cells level k) x → Contains cells x
 unfolding ups_of
 path_among zero cells level k x h = absurd (none x h)
 path_among (suc n) cells level k x h = by_first (cell_at cells level k) (ups_of n cells (level + 1) k) refl (path_among n cells (level + 1) k x) h

@@ -5,3 +5,4 @@ pub mod Loop
 pub mod Asked
 pub mod Begin
 pub mod Examples
+pub mod Grafting
