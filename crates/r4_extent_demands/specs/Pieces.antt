@@ -1,14 +1,18 @@
 -- Pieces of twigs, as they are made from key to key (docs/volume.md, "Reach"). A key is its rank.
-use Rattle.std.specs.Prelude.{ℕ, ◌+◌, ◌*◌, ◌^◌, ◌≤◌, ◌==◌, List, [], ◌∷◌, Bool, ◌&&◌, ◌||◌, nat_lt, if◌then◌else◌}
+use Rattle.std.specs.Prelude.{ℕ, ◌+◌, ◌*◌, ◌^◌, ◌≤◌, ◌==◌, List, [], ◌∷◌, Bool, false, ◌&&◌, ◌||◌, nat_lt, if◌then◌else◌}
+use Rattle.std.specs.List.{flat_map}
 use Rattle.r4_base.specs.Key.{IsKey, offset_of}
+use Rattle.r4_base.specs.Tree.{Node}
+use Rattle.r4_base.specs.Value.{Value}
 use Rattle.r4_base.specs.declared.items.Unit.{Unit as ExtentUnit}
 use Rattle.r4_base.specs.declared.key.Key.{Key}
+use Rattle.r4_branch.specs.Pieces.{next_of}
 use Rattle.r4_branch.specs.declared.piece.TwigPart.{TwigPart}
 use Rattle.r4_branch.specs.declared.piece.TwigPart.TheVariants.{Blocks, Pointer}
 use Rattle.r4_branch.specs.declared.piece.TwigPiece.{TwigPiece}
 use Rattle.r4_content.specs.Edited.{Edits, put_keys}
-use Rattle.r4_reach.specs.Needs.{is_met}
-use Rattle.r4_reach.specs.Touched.{Body, first_byte, turns_out}
+use Rattle.r4_reach.specs.Needs.{cut_pieces, filled, is_met, with_coming}
+use Rattle.r4_reach.specs.Touched.{Body, first_byte, going, turns_out}
 
 -- one of so many blocks, from a key on, gets bytes
 abbrev pub gets_among : Body → Edits → (key blocks : ℕ) → Bool
@@ -34,3 +38,21 @@ PartHasRoom offset (Blocks u) = HasRoomFor offset u
 pub record HasRoom (p : TwigPiece) : Type 0 where
   pub key : IsKey p.key
   pub part : PartHasRoom (offset_of p.key) p.part
+
+-- ---- where leaves end
+
+-- the part points to a leaf, whose range ends at a key
+abbrev pub ends_leaf : (next key : ℕ) → TwigPart → Bool
+ends_leaf next k (Pointer to) = next == k
+ends_leaf next k (Blocks u) = false
+
+-- a leaf to which one of the pieces points ends at a key; the last piece's range ends at hi
+abbrev pub has_leaf_end : (hi key : ℕ) → List TwigPiece → Bool
+has_leaf_end hi k [] = false
+has_leaf_end hi k (p ∷ ps) = ends_leaf (next_of hi ps) k p.part || has_leaf_end hi k ps
+
+-- ---- all of it
+
+-- the pieces without the blocks that go, with those that holes get, and with those that come
+abbrev pub remade : Body → Edits → Node Value → List TwigPiece → List TwigPiece
+remade b e c ps = with_coming b e c (flat_map (filled b e) (cut_pieces (going b) c ps))

@@ -1,6 +1,17 @@
 //! What a twig asks for (docs/volume.md, "Reach").
 
-use crate::changing::changes_units;
+ghost use Rattle.std.specs.Prelude.{◌≡◌, ◌+◌, ◌*◌, ◌^◌, ◌<◌, ◌≤◌, ◌&&◌, IfOk, IfSome, length, map, nat_lt};
+ghost use Rattle.std.specs.Option.{option_copied, option_map};
+ghost use Rattle.r4_base.specs.Key.{rank};
+ghost use Rattle.r4_base.specs.Node.{items_of};
+ghost use Rattle.r4_cell.specs.Seen.{node_of};
+ghost use Rattle.r4_content.specs.Held.{edits_of};
+ghost use Rattle.r4_marking.specs.Marks.{AreSmall, ask_seen, heard_seen, most_for};
+ghost use Rattle.r4_reach.specs.Needs.{asking, come_of, growing, meets, moves, twig_asks};
+ghost use Rattle.r4_extent_demands.specs.Asking.{more_for};
+ghost use Rattle.r4_extent_demands.specs.Spreads.{AreExtentEdits, IsSpread, IsSpreadBody};
+
+use crate::changing::changes_some;
 use crate::piecing::pieces_after;
 use crate::putting::put_among;
 use crate::spread_body::SpreadBody;
@@ -13,65 +24,87 @@ use r4_leaf_edits::part_of;
 use r4_marking::{Asking, Heard};
 use std::alloc::Global;
 
-/// What a twig asks for after edits, where the leaves below it ask for this. One whose pieces change is packed anew, and
-/// needs what its pieces need; one that only gets pointers keeps its items (docs/volume.md, "Reach").
+/// What a twig asks for after edits, where the leaves below it ask for this, in the order of its names: at most one for
+/// each of its items. One whose pieces change, or into whose range blocks come, is packed anew, and needs what its
+/// pieces need; one that only gets pointers keeps its items. `Memory` where there was not enough (docs/volume.md,
+/// "Reach").
 pub fn twig_asks(
     alloc: Global,
     body: Option<&SpreadBody>,
     edits: &Edits,
     twig: &Cell,
     heard: &[Heard],
-) -> Result<Option<Asking>, Memory> {
+) -> Result<Option<Asking>, Memory>
+    requires twig { twig.now.level ≡ 2 }
+    requires edits { AreExtentEdits (option_copied body) (edits_of edits.now) }
+    requires few { length heard.now ≤ length (items_of twig.now.block) }
+    requires small { AreSmall (most_for 2) heard.now }
+    ensures asks { IfOk result (λ a. option_map ask_seen a
+        ≡ twig_asks (option_copied body.entry) (edits_of edits.now) (node_of twig.now)
+        (map heard_seen heard.now)) }
+    ensures small { IfOk result (λ o. IfSome o (λ a. a.more ≤ most_for 3)) }
+{
     let put = put_among(alloc, body, edits, twig)?;
     let comes = comes_into(body, twig);
     let moves = moves(body, twig);
     if !comes && put == 0 && !changes_some(alloc, body, edits, twig)? {
-        let more = twig_more(node_bytes(twig) + POINTER_ROOM * all_more(heard), heard);
+        let more = more_for(node_bytes(twig) + POINTER_ROOM * all_more(heard), heard);
         return Ok(asking(moves, more, false));
     }
     let pieces = pieces_after(alloc, body, edits, twig, heard)?;
     let need = twig_bytes(pieces.as_slice()) + POINTER_ROOM * (all_more(heard) + put);
-    Ok(asking(moves, twig_more(need, heard), comes && pieces.is_empty()))
+    Ok(asking(
+        moves,
+        more_for(need, heard),
+        comes && pieces.is_empty(),
+    ))
 }
 
-// Whether a unit of the body comes to a twig or goes, or is replaced, if there is a body.
-fn changes_some(
-    alloc: Global,
-    body: Option<&SpreadBody>,
-    edits: &Edits,
-    twig: &Cell,
-) -> Result<bool, Memory> {
-    match body {
-        Some(body) => changes_units(alloc, body, edits, twig),
-        None => Ok(false),
-    }
-}
-
-// Whether blocks of a body come into the range of a twig.
-fn comes_into(body: Option<&SpreadBody>, twig: &Cell) -> bool {
+// Whether blocks of a body come into the range of a twig, if there is a body.
+fn comes_into(body: Option<&SpreadBody>, twig: &Cell) -> bool
+    requires { IsSpread (option_copied body) }
+    ensures { result ≡ meets (rank twig.now.lo) (rank twig.now.hi)
+        (come_of (option_copied body.entry)) }
+{
     let Some(body) = body else {
         return false;
     };
-    let range = KeyRange { from: twig.lo(), to: twig.hi() };
+    let range = KeyRange {
+        from: twig.lo(),
+        to: twig.hi(),
+    };
     let coming = body.coming();
     part_of(&range, coming.from, coming.to).is_some()
 }
 
-// Whether a border of a twig lies within the blocks of a body that come.
-fn moves(body: Option<&SpreadBody>, twig: &Cell) -> bool {
+// Whether a border of a twig lies within the blocks of a body that come, if there is a body.
+fn moves(body: Option<&SpreadBody>, twig: &Cell) -> bool
+    requires { IsSpread (option_copied body) }
+    ensures { result ≡ moves (come_of (option_copied body.entry)) (node_of twig.now) }
+{
     match body {
-        Some(body) => is_within(twig.lo(), &body.coming()) || is_within(twig.hi(), &body.coming()),
+        Some(body) => {
+            let coming = body.coming();
+            is_within(&coming, twig.lo()) || is_within(&coming, twig.hi())
+        }
         None => false,
     }
 }
 
 // Whether a key lies in a range and does not begin it.
-fn is_within(key: Key, range: &KeyRange) -> bool {
+fn is_within(range: &KeyRange, key: Key) -> bool
+    ensures { result
+        ≡ (nat_lt (rank range.now.from) (rank key) && nat_lt (rank key) (rank range.now.to)) }
+{
     range.from.is_below(key) && key.is_below(range.to)
 }
 
 // How many pointers a twig asks for that needs so many bytes.
-fn twig_more(bytes: u64, heard: &[Heard]) -> u64 {
+fn more_for(bytes: u64, heard: &[Heard]) -> u64
+    requires bytes { bytes < 2 ^ 63 }
+    requires few { length heard.now < 2 ^ 63 }
+    ensures more { result ≡ more_for bytes (growing (map heard_seen heard.now)) }
+{
     if bytes > u64::from(NODE_ROOM) {
         over(bytes).max(growing(heard))
     } else {
@@ -80,6 +113,10 @@ fn twig_more(bytes: u64, heard: &[Heard]) -> u64 {
 }
 
 // What is asked for, if anything.
-fn asking(always: bool, more: u64, gone: bool) -> Option<Asking> {
+fn asking(always: bool, more: u64, gone: bool) -> Option<Asking>
+    ensures asks { option_map ask_seen result
+        ≡ asking always (record { more = more; gone = gone }) }
+    ensures more { IfSome result (λ a. a.more ≡ more) }
+{
     (always || more > 0 || gone).then_some(Asking { more, gone })
 }

@@ -1,17 +1,17 @@
 //! Pieces of a twig without the blocks that go (docs/volume.md, "Reach").
 
-ghost use Rattle.std.specs.Prelude.{◌≡◌, ◌-◌, ◌≤◌, ◌&&◌, ◌==◌, All, IfOk, None, drop, length, map, take};
+ghost use Rattle.std.specs.Prelude.{◌≡◌, ◌-◌, ◌≤◌, ◌&&◌, ◌++◌, ◌∷◌, [], All, IfOk, OnOk, None};
+ghost use Rattle.std.specs.Prelude.{drop, length, map, take};
 ghost use Rattle.std.specs.List.{list_any};
 ghost use Rattle.std.specs.Option.{option_map};
 ghost use Rattle.r4_base.specs.Key.{rank};
-ghost use Rattle.r4_base.specs.Tree.{Name};
-ghost use Rattle.r4_branch.specs.Pieces.{is_at, last_end, names_of, next_of, open_end};
+ghost use Rattle.r4_branch.specs.Pieces.{is_at, last_end, next_of, open_end};
 ghost use Rattle.r4_cell.specs.Seen.{node_of};
 ghost use Rattle.r4_marking.specs.Marks.{heard_seen};
 ghost use Rattle.r4_path.specs.TwigPieces.{ArePiecesOf};
 ghost use Rattle.r4_reach.specs.Needs.{cut_pieces, points_to, taken_up, without_gone};
 ghost use Rattle.r4_reach.specs.Touched.{going};
-ghost use Rattle.r4_extent_demands.specs.Pieces.{HasRoom};
+ghost use Rattle.r4_extent_demands.specs.Pieces.{HasRoom, ends_leaf, has_leaf_end};
 ghost use Rattle.r4_extent_demands.specs.Spreads.{IsSpreadBody};
 
 use crate::parting::part_each;
@@ -34,19 +34,46 @@ pub(crate) fn without_gone(
 {
     let mut left = Vec::new(alloc);
     for piece in pieces {
-        if !goes(&piece.part, heard) {
-            left.push(*piece)?;
-        }
+        add_unless_gone(&mut left, piece, heard)?;
     }
     Ok(left)
 }
 
+// Puts a piece behind the others, unless it points to a leaf that goes.
+fn add_unless_gone(
+    left: &mut Vec<TwigPiece>,
+    piece: &TwigPiece,
+    heard: &[Heard],
+) -> Result<(), Memory>
+    ensures { OnOk result (left.new.items
+        ≡ left.old.items ++ without_gone (map heard_seen heard.now) (piece.now ∷ [])) }
+{
+    if goes(&piece.part, heard) {
+        return Ok(());
+    }
+    left.push(*piece)?;
+    Ok(())
+}
+
 // Whether a part points to a leaf that goes.
 fn goes(part: &TwigPart, heard: &[Heard]) -> bool
-    ensures { result ≡ list_any (λ h. h.ask.gone && points_to h.child.id.0 part.now) heard.now }
+    ensures { result ≡ list_any (λ h. h.1.gone && points_to h.0.id part.now)
+        (map heard_seen heard.now) }
+{
+    match heard.split_first() {
+        None => false,
+        Some((first, rest)) => {
+            first.ask.gone && points_to(first.child.id, part) || goes(part, rest)
+        }
+    }
+}
+
+// Whether a part is a pointer to the node of a number.
+fn points_to(id: NodeId, part: &TwigPart) -> bool
+    ensures { result ≡ points_to id.0 part.now }
 {
     match part {
-        TwigPart::Pointer(to) => heard.iter().any(|h| h.ask.gone && to.0 == h.child.id.0),
+        TwigPart::Pointer(to) => to.0 == id.0,
         TwigPart::Blocks(_) => false,
     }
 }
@@ -73,7 +100,8 @@ pub(crate) fn cut(
     let from = place_of(parts.as_slice(), &going.from);
     let to = place_of(parts.as_slice(), &going.to);
     let middle = taken_up(alloc, twig, all, parts.as_slice(), from, to)?;
-    splice(alloc, parts.as_slice(), from, to, middle.as_slice())
+    let pieces = splice(alloc, parts.as_slice(), from, to, middle.as_slice())?;
+    Ok(pieces)
 }
 
 // What comes in the place of the pieces from one place up to another: nothing, or a pointer to a new leaf.
@@ -93,35 +121,41 @@ fn taken_up(
     ensures room { IfOk result (λ v. All HasRoom v.items) }
 {
     let mut middle = Vec::new(alloc);
-    if from < to {
-        let key = pieces[from].key;
-        if !ends_leaf(all, twig.hi(), key) && !ends_at(&pieces[..from], key) {
-            middle.push(TwigPiece {
-                key,
-                part: TwigPart::Pointer(NodeId(UNPLACED)),
-            })?;
-        }
+    if from >= to {
+        return Ok(middle);
     }
+    let key = pieces[from].key;
+    if has_leaf_end(all, twig.hi(), key) {
+        return Ok(middle);
+    }
+    if ends_at(&pieces[..from], key) {
+        return Ok(middle);
+    }
+    middle.push(TwigPiece {
+        key,
+        part: TwigPart::Pointer(NodeId(UNPLACED)),
+    })?;
     Ok(middle)
 }
 
 // Whether a leaf to which one of the pieces points ends at a key; the last piece's range ends at `hi`.
-fn ends_leaf(pieces: &[TwigPiece], hi: Key, key: Key) -> bool
-    ensures { result ≡ list_any (λ (n : Name). (n.level == 1) && (n.hi == rank key))
-        (names_of (rank hi) pieces.now) }
+fn has_leaf_end(pieces: &[TwigPiece], hi: Key, key: Key) -> bool
+    ensures { result ≡ has_leaf_end (rank hi) (rank key) pieces.now }
 {
     match pieces.split_first() {
         None => false,
         Some((first, rest)) => {
-            is_pointer(&first.part) && next_key(rest, hi).is_same(key) || ends_leaf(rest, hi, key)
+            ends_leaf(&first.part, next_key(rest, hi), key) || has_leaf_end(rest, hi, key)
         }
     }
 }
 
-// Whether a part is a pointer.
-fn is_pointer(part: &TwigPart) -> bool {
+// Whether a part points to a leaf, whose range ends at a key.
+fn ends_leaf(part: &TwigPart, next: Key, key: Key) -> bool
+    ensures { result ≡ ends_leaf (rank next) (rank key) part.now }
+{
     match part {
-        TwigPart::Pointer(_) => true,
+        TwigPart::Pointer(_) => next.is_same(key),
         TwigPart::Blocks(_) => false,
     }
 }
@@ -140,12 +174,12 @@ fn next_key(pieces: &[TwigPiece], hi: Key) -> Key
 fn ends_at(pieces: &[TwigPiece], key: Key) -> bool
     ensures { result ≡ is_at (last_end None pieces.now) (rank key) }
 {
-    match pieces.last() {
+    if pieces.is_empty() {
+        return false;
+    }
+    match unit_end(&pieces[pieces.len() - 1]) {
         None => false,
-        Some(last) => match unit_end(last) {
-            None => false,
-            Some(end) => end.is_same(key),
-        },
+        Some(end) => end.is_same(key),
     }
 }
 

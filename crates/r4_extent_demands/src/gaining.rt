@@ -28,7 +28,10 @@ pub(crate) fn blocks_before(body: &SpreadBody, edits: &Edits, from: Key, count: 
     ensures next { result < count
         → gets_bytes body.now (edits_of edits.now) (rank from + 4096 * result) ≡ true }
 {
-    if count == 0 || !gets_some(body, edits, from, count) {
+    if count == 0 {
+        return 0;
+    }
+    if !gets_some(body, edits, from, count) {
         return count;
     }
     if count == 1 {

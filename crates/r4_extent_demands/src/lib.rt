@@ -4,6 +4,7 @@
 mod asking;
 mod changing;
 mod cutting;
+mod extents;
 mod gaining;
 mod keys;
 mod parting;

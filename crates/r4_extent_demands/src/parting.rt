@@ -56,9 +56,9 @@ fn add_parts(parts: &mut Vec<TwigPiece>, piece: TwigPiece, key: &Key) -> Result<
     Ok(())
 }
 
-// How many whole blocks of so many, from a key on, end by another key, where this lies within them.
+/// How many whole blocks of so many, from a key on, end by another key, where this lies within them.
 #[tactic(auto, unfolding(r4_base::specs::Key::rank))]
-fn blocks_before(key: &Key, width: u64, end: &Key) -> Option<u64>
+pub(crate) fn blocks_before(key: &Key, width: u64, end: &Key) -> Option<u64>
     requires { offset_of key.now + 4096 * width ≤ 2 ^ 64 }
     ensures { result ≡ (if nat_lt (rank key.now) (rank end.now)
         && nat_lt (rank end.now) (rank key.now + 4096 * width)

@@ -1,15 +1,16 @@
 //! The pieces of a twig after a command (docs/volume.md, "Reach").
 
-ghost use Rattle.std.specs.Prelude.{◌≡◌, ◌+◌, ◌*◌, ◌^◌, ◌≤◌, ◌++◌, ◌∷◌, [], All, IfOk, IfSome, OnOk, None, map};
+ghost use Rattle.std.specs.Prelude.{◌≡◌, ◌+◌, ◌*◌, ◌^◌, ◌≤◌, ◌++◌, ◌∷◌, [], All, IfOk, IfSome, OnOk, None, map, true};
 ghost use Rattle.std.specs.List.{flat_map};
 ghost use Rattle.std.specs.Option.{option_copied};
 ghost use Rattle.r4_base.specs.Key.{minor_of, offset_of, rank};
 ghost use Rattle.r4_cell.specs.Seen.{node_of};
-ghost use Rattle.r4_content.specs.Edited.{Edits};
+ghost use Rattle.r4_content.specs.Edited.{Edits as Changes};
 ghost use Rattle.r4_content.specs.Held.{edits_of};
 ghost use Rattle.r4_marking.specs.Marks.{heard_seen};
-ghost use Rattle.r4_reach.specs.Needs.{filled, gets_bytes, pieces_after, runs, with_coming};
-ghost use Rattle.r4_extent_demands.specs.Pieces.{HasRoom};
+ghost use Rattle.r4_reach.specs.Needs.{filled, gets_bytes, is_hole_part, pieces_after, runs, with_coming};
+ghost use Rattle.r4_path.specs.TwigPieces.{ArePiecesOf};
+ghost use Rattle.r4_extent_demands.specs.Pieces.{HasRoom, remade};
 ghost use Rattle.r4_extent_demands.specs.Spreads.{IsSpread, IsSpreadBody};
 
 use crate::cutting::{cut, without_gone};
@@ -44,12 +45,34 @@ pub fn pieces_after(
 {
     let all = pieces_of_cell(alloc, twig)?;
     let left = without_gone(alloc, all.as_slice(), heard)?;
-    let Some(body) = body else {
-        return Ok(left);
-    };
-    let cut = cut(alloc, body, twig, all.as_slice(), left.as_slice())?;
+    match body {
+        None => Ok(left),
+        Some(body) => {
+            let pieces = remade(alloc, body, edits, twig, all.as_slice(), left.as_slice())?;
+            Ok(pieces)
+        }
+    }
+}
+
+// These of a twig's pieces without the blocks that go, and with those that come. All pieces of the twig are given too.
+fn remade(
+    alloc: Global,
+    body: &SpreadBody,
+    edits: &Edits,
+    twig: &Cell,
+    all: &[TwigPiece],
+    left: &[TwigPiece],
+) -> Result<Vec<TwigPiece>, Memory>
+    requires spread { IsSpreadBody body.now }
+    requires pieces { ArePiecesOf twig.now all.now }
+    requires room { All HasRoom left.now }
+    ensures { IfOk result (λ v. v.items
+        ≡ remade body.now (edits_of edits.now) (node_of twig.now) left.now) }
+{
+    let cut = cut(alloc, body, twig, all, left)?;
     let filled = fill_each(alloc, body, edits, cut.as_slice())?;
-    with_coming(alloc, body, edits, twig, filled)
+    let pieces = with_coming(alloc, body, edits, twig, filled.as_slice())?;
+    Ok(pieces)
 }
 
 // The pieces, with blocks in the holes of the body where bytes come.
@@ -96,16 +119,23 @@ fn add_filled(
 pub(crate) fn hole_of(body: &SpreadBody, piece: &TwigPiece) -> Option<u64>
     requires spread { IsSpreadBody body.now }
     requires room { HasRoom piece.now }
-    ensures none { result ≡ None → (e : Edits) → filled body.now e piece.now ≡ piece.now ∷ [] }
-    ensures hole { IfSome result (λ n. (e : Edits) → filled body.now e piece.now
+    ensures none { result ≡ None → (e : Changes) → filled body.now e piece.now ≡ piece.now ∷ [] }
+    ensures hole { IfSome result (λ n. (e : Changes) → filled body.now e piece.now
         ≡ runs (gets_bytes body.now e) (rank piece.now.key) n) }
     ensures fits { IfSome result (λ n. (minor_of piece.now.key ≡ 4)
         × (offset_of piece.now.key + 4096 * n ≤ 2 ^ 64)) }
+    ensures is { IfSome result (λ n. is_hole_part piece.now.part ≡ true) }
 {
     let TwigPart::Blocks(unit) = piece.part else {
         return None;
     };
-    (unit.start == 0 && body.has(piece.key)).then_some(unit.width)
+    if unit.start != 0 {
+        return None;
+    }
+    if !body.has(piece.key) {
+        return None;
+    }
+    Some(unit.width)
 }
 
 // The pieces, with the blocks of the body that come, where the first of them lies in the twig's range.
@@ -114,11 +144,11 @@ fn with_coming(
     body: &SpreadBody,
     edits: &Edits,
     twig: &Cell,
-    pieces: Vec<TwigPiece>,
+    pieces: &[TwigPiece],
 ) -> Result<Vec<TwigPiece>, Memory>
     requires { IsSpreadBody body.now }
     ensures { IfOk result (λ v. v.items
-        ≡ with_coming body.now (edits_of edits.now) (node_of twig.now) pieces.entry.items) }
+        ≡ with_coming body.now (edits_of edits.now) (node_of twig.now) pieces.now) }
 {
     let from = body.coming().from;
     let range = KeyRange {
@@ -126,10 +156,11 @@ fn with_coming(
         to: twig.hi(),
     };
     if !has(&range, from) {
-        return Ok(pieces);
+        return Ok(Vec::from_slice(alloc, pieces)?);
     }
     let mut blocks = Vec::new(alloc);
     add_blocks(&mut blocks, body, edits, from, body.blocks_coming())?;
-    let at = place_of(pieces.as_slice(), &from);
-    splice(alloc, pieces.as_slice(), at, at, blocks.as_slice())
+    let at = place_of(pieces, &from);
+    let pieces = splice(alloc, pieces, at, at, blocks.as_slice())?;
+    Ok(pieces)
 }

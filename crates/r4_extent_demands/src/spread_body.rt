@@ -1,11 +1,9 @@
 //! A body that stands in extents afterwards (docs/volume.md, "Reach").
 
-ghost use Rattle.std.specs.Prelude.{◌≡◌, ◌+◌, ◌-◌, ◌/◌, ◌^◌, ◌≤◌, ◌&&◌, Some, nat_lt, if◌then◌else◌};
+ghost use Rattle.std.specs.Prelude.{◌≡◌, ◌+◌, ◌-◌, ◌/◌, ◌^◌, ◌≤◌, ◌&&◌, true, nat_lt, if◌then◌else◌};
 ghost use Rattle.r4_base.specs.Key.{minor_of, offset_of, rank};
 ghost use Rattle.r4_base.specs.Volume.{blocks_for, object_of};
 ghost use Rattle.r4_content.specs.Edited.{is_between};
-ghost use Rattle.r4_content.specs.Held.{interval_of};
-ghost use Rattle.r4_leaf_edits.specs.Made.{spread_keys};
 ghost use Rattle.r4_reach.specs.Touched.{blocks_end, coming, first_byte, going, turns_out};
 ghost use Rattle.r4_extent_demands.specs.Spreads.{IsFirstKey, IsSpreadBody};
 
@@ -110,7 +108,9 @@ impl SpreadBody {
     /// All keys that the body may have.
     pub(crate) fn all_keys(&self) -> Interval
         requires { IsSpreadBody self.now }
-        ensures keys { Some (interval_of result) ≡ spread_keys (Some self.now) }
+        ensures from { rank result.from ≡ first_byte self.now }
+        ensures to { rank result.to ≡ first_byte self.now + 2 ^ 64 }
+        ensures first { IsFirstKey self.now result.from }
     {
         let from = self.first_byte();
         Interval {
@@ -122,8 +122,9 @@ impl SpreadBody {
     /// Whether a key may be one of the body's.
     pub(crate) fn has(&self, key: Key) -> bool
         requires { IsSpreadBody self.now }
-        ensures { result
+        ensures is { result
             ≡ is_between (first_byte self.now) (first_byte self.now + 2 ^ 64) (rank key) }
+        ensures body { result ≡ true → minor_of key ≡ 4 }
     {
         let all = self.all_keys();
         let range = KeyRange {

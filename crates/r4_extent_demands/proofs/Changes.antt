@@ -1,0 +1,77 @@
+-- Whether units of a body come to a twig or go.
+use Rattle.std.specs.Prelude.{◌≡◌, ◌⊎◌, ℕ, zero, suc, ◌≤◌, List, [], ◌∷◌, ◌++◌, length}
+use Rattle.std.specs.Prelude.{Bool, true, false, not, ◌&&◌, ◌||◌, ◌==◌, nat_lt, None, Some}
+use Rattle.std.proofs.Common.{arith, inl, inr, refl, sym, ap, subst, ◌∙◌}
+use Rattle.std.specs.List.{list_any}
+use Rattle.std.proofs.lemmas.Bool.{ne_eqb}
+use Rattle.r4_base.specs.Node.{items_of}
+use Rattle.r4_base.specs.Tree.{Node}
+use Rattle.r4_base.specs.Value.{Value}
+use Rattle.r4_base.specs.declared.key.Key.{Key}
+use Rattle.r4_branch.specs.Pieces.{pieces_in}
+use Rattle.r4_branch.specs.declared.piece.TwigPart.{TwigPart}
+use Rattle.r4_branch.specs.declared.piece.TwigPiece.{TwigPiece}
+use Rattle.r4_content.specs.Edited.{Edits}
+use Rattle.r4_reach.specs.Needs.{changes_pieces, filled, is_hole_part, put_among, runs}
+use Rattle.r4_reach.specs.Touched.{Body, going}
+use Rattle.r4_extent_demands.specs.Changing.{changes_units, comes_in, goes_from, is_other, is_refilled}
+use Rattle.r4_extent_demands.specs.Pieces.{block_at, hole_at}
+use Rattle.r4_extent_demands.proofs.Runs.{hole_some}
+
+any_same : {X : Type 0} (f g : X → Bool) (xs : List X) → ((x : X) → f x ≡ g x) → list_any f xs ≡ list_any g xs
+any_same f g [] same = refl
+any_same f g (x ∷ xs) same = (λ i. same x i || any_same f g xs same i)
+
+list_cases : (xs : List TwigPiece) → (xs ≡ []) ⊎ ((q : TwigPiece) × (qs : List TwigPiece) × (xs ≡ q ∷ qs))
+list_cases [] = inl refl
+list_cases (x ∷ xs) = inr (x, xs, refl)
+
+pub changes_is : (b : Body) (e : Edits) (c : Node Value)
+    → changes_pieces (Some b) e c ≡ (nat_lt 0 (put_among (Some b) e c) || changes_units (Some b) e c)
+changes_is b e c =
+    (λ i. nat_lt 0 (put_among (Some b) e c) || (list_any (comes_in b) c.spans
+    || (list_any (goes_from (going b)) (pieces_in (items_of c.block))
+    || any_same _ (is_refilled b e) (pieces_in (items_of c.block)) (λ p. elim
+    (list_cases (filled b e p)) [ inl is ↦ rw is refl | inr (q, qs, is) ↦ rw is refl ]) i)))
+
+-- ---- a piece
+
+no_other : (t : Bool) → (not (0 == 0) || (t && not t)) ≡ false
+no_other true = refl
+no_other false = refl
+
+pub same_piece : (p : TwigPiece) (xs : List TwigPiece) → xs ≡ p ∷ [] → is_other p xs ≡ false
+same_piece p xs is = ap (is_other p) is ∙ no_other (is_hole_part p.part)
+
+off_both : (t : Bool) → (not (0 == 0) || (t && false)) ≡ false
+off_both true = refl
+off_both false = refl
+
+-- a hole of which no block gets bytes is one, or nothing
+pub same_hole : (p : TwigPiece) (xs : List TwigPiece) (k : Key) (n : ℕ) → xs ≡ hole_at k n → is_other p xs ≡ false
+same_hole p xs k n is = by_count n refl
+  where
+    by_count : (m : ℕ) → n ≡ m → is_other p xs ≡ false
+    by_count zero none = ap (is_other p) (is ∙ ap (hole_at k) none)
+    by_count (suc m) some = ap (is_other p) (is ∙ hole_some k n (omega (arith, some))) ∙ off_both (is_hole_part p.part)
+
+more_first : (p q : TwigPiece) (qs : List TwigPiece) → 1 ≤ length qs → is_other p (q ∷ qs) ≡ true
+more_first p q qs some = let t : (length qs == 0) ≡ false = ne_eqb (length qs) 0 (λ e. omega (arith, e, some)) in rw t refl
+
+-- one of which a block gets bytes is several, or a block
+pub other_hole : (p : TwigPiece) (xs rest : List TwigPiece) (k j : Key) (n : ℕ) → is_hole_part p.part ≡ true
+    → xs ≡ hole_at k n ++ (block_at j ∷ rest) → is_other p xs ≡ true
+other_hole p xs rest k j n hole is = by_count n refl
+  where
+    block_only : (t : Bool) (m : ℕ) → t ≡ true → (not (m == 0) || (t && true)) ≡ true
+    block_only t m e = ap (λ (x : Bool). not (m == 0) || (x && true)) e ∙ by_test (m == 0)
+      where
+        by_test : (x : Bool) → (not x || (true && true)) ≡ true
+        by_test true = refl
+        by_test false = refl
+
+    by_count : (m : ℕ) → n ≡ m → is_other p xs ≡ true
+    by_count zero none = ap (is_other p) (is ∙ ap (λ (m : ℕ). hole_at k m ++ (block_at j ∷ rest)) none)
+        ∙ block_only (is_hole_part p.part) (length rest) hole
+    by_count (suc m) some = ap (is_other p) (is ∙ ap (λ (hs : List TwigPiece). hs ++ (block_at j ∷ rest))
+        (hole_some k n (omega (arith, some)))) ∙ more_first p _ (block_at j ∷ rest) (omega arith)
