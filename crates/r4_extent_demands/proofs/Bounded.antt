@@ -12,22 +12,23 @@ use Rattle.r4_base.specs.Key.{IsKey, key_of_rank, later, offset_of, rank}
 use Rattle.r4_base.specs.Tree.{Name, Node}
 use Rattle.r4_base.specs.Value.{Value}
 use Rattle.r4_base.specs.declared.key.Key.{Key}
-use Rattle.r4_branch.specs.Pieces.{Follow, bytes_behind, last_end, open_end, part_bytes, part_end, piece_end, twig_bytes}
+use Rattle.r4_branch.specs.Pieces.{Follow, bytes_behind, is_at, last_end, open_end, part_bytes, part_end, piece_end, twig_bytes}
 use Rattle.r4_branch.specs.declared.piece.TwigPart.{TwigPart}
 use Rattle.r4_branch.specs.declared.piece.TwigPart.TheVariants.{Blocks, Pointer}
 use Rattle.r4_branch.specs.declared.piece.TwigPiece.{TwigPiece}
 use Rattle.r4_branch.proofs.Counted.{behind_append, behind_most, costs}
 use Rattle.r4_content.specs.Edited.{Edits}
 use Rattle.r4_graft.specs.Splices.{blocks_past, first_blocks, halves, is_within, parted, parted_piece, place, spliced}
-use Rattle.r4_graft.proofs.Halves.{later_rank}
+use Rattle.r4_graft.proofs.Halves.{later_key, later_rank}
 use Rattle.r4_leaf.specs.Units.{is_between}
 use Rattle.r4_leaf_edits.specs.Suiting.{SuitLeaves}
 use Rattle.r4_leaf_edits.proofs.KeyRanks.{key_again}
-use Rattle.r4_reach.specs.Needs.{filled, gets_bytes, runs, widened}
-use Rattle.r4_reach.specs.Touched.{Body, first_byte}
-use Rattle.r4_extent_demands.specs.Pieces.{HasRoom, PartHasRoom, block_at, hole_at}
+use Rattle.r4_reach.specs.Needs.{cut_pieces, filled, gets_bytes, has_left_leaf, pointer_at, runs, taken_up, widened}
+use Rattle.r4_reach.specs.Touched.{Body, blocks_end, coming, first_byte, going}
+use Rattle.r4_extent_demands.specs.Pieces.{AreInOrder, HasRoom, PartHasRoom, block_at, hole_at, remade}
 use Rattle.r4_extent_demands.specs.Spreads.{IsFirstKey, IsSpreadBody}
 use Rattle.r4_extent_demands.proofs.Low.{at_offset, gets_low}
+use Rattle.r4_extent_demands.proofs.Rooms.{parted_room}
 use Rattle.r4_extent_demands.proofs.RunBytes.{behind_cons, behind_least, behind_nil, cost_least, runs_bytes, wider}
 use Rattle.r4_extent_demands.proofs.Runs.{AreQuiet, hole_some, quiet_runs}
 
@@ -85,10 +86,6 @@ module _ (gets : ℕ → Bool) where
 
 -- ---- pieces that stand in order
 
-abbrev Lies : (from : ℕ) → List TwigPiece → Type 0
-Lies from [] = Unit {0}
-Lies from (p ∷ ps) = (from ≤ rank p.key) × Lies (piece_end p) ps
-
 end_above : (p : TwigPiece) → rank p.key ≤ piece_end p
 end_above p = by_part p.part
   where
@@ -96,20 +93,20 @@ end_above p = by_part p.part
     by_part (Pointer to) = omega arith
     by_part (Blocks u) = omega arith
 
-lies_less : (low from : ℕ) (ps : List TwigPiece) → low ≤ from → Lies from ps → Lies low ps
+lies_less : (low from : ℕ) (ps : List TwigPiece) → low ≤ from → AreInOrder from ps → AreInOrder low ps
 lies_less low from [] le h = tt
 lies_less low from (p ∷ ps) le h = let a = h.0 in (omega (arith, a, le), h.1)
 
-pub follow_lies : (from to : ℕ) (ps : List TwigPiece) → Follow from to ps → Lies from ps
+pub follow_lies : (from to : ℕ) (ps : List TwigPiece) → Follow from to ps → AreInOrder from ps
 follow_lies from to [] f = tt
 follow_lies from to (p ∷ ps) f = (f.0, follow_lies (piece_end p) to ps f.2)
 
-pub lies_filter : (test : TwigPiece → Bool) (from : ℕ) (ps : List TwigPiece) → Lies from ps → Lies from (filter test ps)
+pub lies_filter : (test : TwigPiece → Bool) (from : ℕ) (ps : List TwigPiece) → AreInOrder from ps → AreInOrder from (filter test ps)
 lies_filter test from [] h = tt
 lies_filter test from (p ∷ ps) h = by_test (test p) (lies_filter test (piece_end p) ps h.1)
   where
-    by_test : (t : Bool) → Lies (piece_end p) (filter test ps)
-        → Lies from (if t then p ∷ filter test ps else filter test ps)
+    by_test : (t : Bool) → AreInOrder (piece_end p) (filter test ps)
+        → AreInOrder from (if t then p ∷ filter test ps else filter test ps)
     by_test true rest = (h.0, rest)
     by_test false rest =
         let a = h.0 in
@@ -126,8 +123,8 @@ filter_short test (p ∷ ps) = by_test (test p) (filter_short test ps)
     by_test false r = omega (arith, r)
 
 module _ (k : ℕ) where
-  parts_lie : (from : ℕ) (p : TwigPiece) (rest : List TwigPiece) → from ≤ rank p.key → Lies (piece_end p) rest
-      → Lies from (parted_piece k p ++ rest)
+  parts_lie : (from : ℕ) (p : TwigPiece) (rest : List TwigPiece) → from ≤ rank p.key → AreInOrder (piece_end p) rest
+      → AreInOrder from (parted_piece k p ++ rest)
   parts_lie from p rest low h = by_test (is_within k p) refl
     where
       by_part : (t : TwigPart) → p.part ≡ t → rank p.key < k → k < piece_end p
@@ -141,7 +138,7 @@ module _ (k : ℕ) where
           (refl, omega (arith, end, low, high))
 
       by_test : (t : Bool) → is_within k p ≡ t
-          → Lies from ((if t then halves ((k - rank p.key) / 4096) p else p ∷ []) ++ rest)
+          → AreInOrder from ((if t then halves ((k - rank p.key) / 4096) p else p ∷ []) ++ rest)
       by_test false e = (low, h)
       by_test true e =
           let (a, c) = and_parts (nat_lt (rank p.key) k) (nat_lt k (piece_end p)) e in
@@ -151,9 +148,9 @@ module _ (k : ℕ) where
           let at = later_rank p.key (4096 * ((k - rank p.key) / 4096)) in
           let end : part_end (rank (later p.key (4096 * ((k - rank p.key) / 4096)))) (blocks_past ((k - rank p.key) / 4096) p.part) ≡ piece_end p
           = ap (λ (j : ℕ). part_end j (blocks_past ((k - rank p.key) / 4096) p.part)) at ∙ two in
-          (low, omega (arith, one, at), subst (λ (j : ℕ). Lies j rest) (sym end) h)
+          (low, (omega (arith, one, at), subst (λ (j : ℕ). AreInOrder j rest) (sym end) h))
 
-  pub lies_parted : (from : ℕ) (ps : List TwigPiece) → Lies from ps → Lies from (parted k ps)
+  pub lies_parted : (from : ℕ) (ps : List TwigPiece) → AreInOrder from ps → AreInOrder from (parted k ps)
   lies_parted from [] h = tt
   lies_parted from (p ∷ ps) h = parts_lie from p (parted k ps) h.0 (lies_parted (piece_end p) ps h.1)
 
@@ -228,10 +225,10 @@ module _ (b : Body) (h : Key) (first : IsFirstKey b h) (spread : IsSpreadBody b)
         where
           by_test : (t : Bool) → (is_hole u && is_between (first_byte b) (first_byte b + 2 ^ 64) (rank p.key)) ≡ t
               → IsFew p (filled b e p)
-          by_test false no = subst (IsFew p)
-              (sym (front (Blocks u) is ∙ (rw no (ap (λ (x : TwigPart). record p { part = x } ∷ []) (sym is))))) (same_few p)
-          by_test true yes =
-              let (hole, between) = and_parts (is_hole u) (is_between (first_byte b) (first_byte b + 2 ^ 64) (rank p.key)) yes in
+          by_test false off = subst (IsFew p)
+              (sym (front (Blocks u) is ∙ (rw off (ap (λ (x : TwigPart). record p { part = x } ∷ []) (sym is))))) (same_few p)
+          by_test true on =
+              let (hole, between) = and_parts (is_hole u) (is_between (first_byte b) (first_byte b + 2 ^ 64) (rank p.key)) on in
               let (a, c) = and_parts (nat_le (first_byte b) (rank p.key)) (nat_lt (rank p.key) (first_byte b + 2 ^ 64)) between in
               let above = leb-true (first_byte b) (rank p.key) a in
               let below = ltb-true (rank p.key) (first_byte b + 2 ^ 64) c in
@@ -243,8 +240,10 @@ module _ (b : Body) (h : Key) (first : IsFirstKey b h) (spread : IsSpreadBody b)
               let long = run_long (rank p.key) u.width above (omega (arith, fits, at, above)) in
               let tight = runs_bytes (gets_bytes b e) p.key (rank p.key) u.width room.key refl fits in
               let least = behind_least (Some (rank p.key)) (runs (gets_bytes b e) (rank p.key) u.width) in
-              subst (IsFew p) (sym (front (Blocks u) is ∙ (rw yes refl)))
-              (record { bytes = omega (arith, tight, least); long = omega (arith, long, end) })
+              let is_runs : filled b e p ≡ runs (gets_bytes b e) (rank p.key) u.width = front (Blocks u) is ∙ (rw on refl) in
+              let few : IsFew p (runs (gets_bytes b e) (rank p.key) u.width)
+              = record { bytes = omega (arith, tight, least); long = omega (arith, long, end) } in
+              subst (IsFew p) (sym is_runs) few
 
   each_bytes : (qs : List TwigPiece) → All HasRoom qs
       → twig_bytes (flat_map (filled b e) qs) ≤ 38 * length qs + 16 * length (flat_map (filled b e) qs)
@@ -256,7 +255,7 @@ module _ (b : Body) (h : Key) (first : IsFirstKey b h) (spread : IsSpreadBody b)
       let long = length-append (filled b e q) (flat_map (filled b e) qs) in
       omega (arith, one, rest, both, long)
 
-  each_long : (from : ℕ) (qs : List TwigPiece) → All HasRoom qs → Lies from qs
+  each_long : (from : ℕ) (qs : List TwigPiece) → All HasRoom qs → AreInOrder from qs
       → 4096 * length (flat_map (filled b e) qs) ≤ 8192 * length qs + (2 ^ 30 + 4096 - (from - first_byte b))
   each_long from [] all lies = omega arith
   each_long from (q ∷ qs) all lies =
@@ -301,3 +300,132 @@ put_bytes n middle ps =
     let d = both_bytes (take n ps) (drop n ps) in
     let whole = ap twig_bytes (take-append-drop n ps) in
     omega (arith, a, c, d, whole)
+
+-- ---- all of it
+
+short_bytes : (ps : List TwigPiece) → twig_bytes ps ≤ 54 * length ps
+short_bytes [] = let z = behind_nil None in omega (arith, z)
+short_bytes (p ∷ ps) =
+    let one = one_bytes p in
+    let rest = short_bytes ps in
+    let both = bytes_both (p ∷ []) ps in
+    omega (arith, one, rest, both)
+
+pub without_bytes : (test : TwigPiece → Bool) (ps : List TwigPiece) → twig_bytes ps ≤ 4068
+    → (16 * length (filter test ps) ≤ 4068) × (twig_bytes (filter test ps) ≤ 12800000)
+without_bytes test ps fits =
+    let some = few_pieces None ps in
+    let less = filter_short test ps in
+    let most = short_bytes (filter test ps) in
+    (omega (arith, fits, some, less), omega (arith, fits, some, less, most))
+
+taken_few : (c : Node Value) (below between : List TwigPiece) → length (taken_up c below between) ≤ 1
+taken_few c below [] = omega arith
+taken_few c below (p ∷ ps) = by_test (has_left_leaf c (rank p.key) || is_at (last_end None below) (rank p.key))
+  where
+    by_test : (t : Bool) → length (if t then [] else pointer_at (rank p.key)) ≤ 1
+    by_test true = omega arith
+    by_test false = omega arith
+
+taken_same : (b : Body) (e : Edits) (c : Node Value) (below between : List TwigPiece)
+    → flat_map (filled b e) (taken_up c below between) ≡ taken_up c below between
+taken_same b e c below [] = refl
+taken_same b e c below (p ∷ ps) = by_test (has_left_leaf c (rank p.key) || is_at (last_end None below) (rank p.key))
+  where
+    by_test : (t : Bool) → flat_map (filled b e) (if t then [] else pointer_at (rank p.key))
+        ≡ (if t then [] else pointer_at (rank p.key))
+    by_test true = refl
+    by_test false = refl
+
+spliced_short : (i j : ℕ) (middle ps : List TwigPiece) → length middle ≤ 1
+    → length (spliced i j middle ps) ≤ 2 * length ps + 1
+spliced_short i j middle ps few =
+    let a = length-append (take i ps) (middle ++ drop j ps) in
+    let c = length-append middle (drop j ps) in
+    let d = length-append (take i ps) (drop i ps) in
+    let e = length-append (take j ps) (drop j ps) in
+    let f = ap length (take-append-drop i ps) in
+    let g = ap length (take-append-drop j ps) in
+    omega (arith, few, a, c, d, e, f, g)
+
+module _ (b : Body) (h : Key) (first : IsFirstKey b h) (spread : IsSpreadBody b) (e : Edits) (suit : SuitLeaves (2 ^ 30) e)
+    (c : Node Value) (from : ℕ) (ps : List TwigPiece) (short : 16 * length ps ≤ 4068) (order : AreInOrder from ps)
+    (room : All HasRoom ps) where
+  parts_count : length (parted (going b).1 (parted (going b).0 ps)) ≤ 1016
+  parts_count =
+      let one = parted_short (going b).0 ps in
+      let two = parted_short (going b).1 (parted (going b).0 ps) in
+      omega (arith, short, one, two)
+
+  parts_long : 4096 * length (flat_map (filled b e) (parted (going b).1 (parted (going b).0 ps))) ≤ 8192 * 1016 + (2 ^ 30 + 4096)
+  parts_long =
+      let count = parts_count in
+      let long = each_long b h first spread e suit from (parted (going b).1 (parted (going b).0 ps))
+      (parted_room (going b).1 (parted (going b).0 ps) (parted_room (going b).0 ps room))
+      (lies_parted (going b).1 from (parted (going b).0 ps) (lies_parted (going b).0 from ps order)) in
+      omega (arith, count, long)
+
+  cut_few : All HasRoom (cut_pieces (going b) c ps)
+      → twig_bytes (flat_map (filled b e) (cut_pieces (going b) c ps)) ≤ 8540000
+  cut_few has =
+      let qs = parted (going b).1 (parted (going b).0 ps) in
+      let i = place (going b).0 (parted (going b).1 (parted (going b).0 ps)) in
+      let j = place (going b).1 (parted (going b).1 (parted (going b).0 ps)) in
+      let below = take (place (going b).0 (parted (going b).1 (parted (going b).0 ps))) (parted (going b).1 (parted (going b).0 ps)) in
+      let between = take (place (going b).1 (parted (going b).1 (parted (going b).0 ps)) - place (going b).0 (parted (going b).1 (parted (going b).0 ps)))
+      (drop (place (going b).0 (parted (going b).1 (parted (going b).0 ps))) (parted (going b).1 (parted (going b).0 ps))) in
+      let most = taken_few c below between in
+      let bytes = cut_bytes b h first spread e suit i j (taken_up c below between) qs most has (taken_same b e c below between) in
+      let count = spliced_short i j (taken_up c below between) qs most in
+      let parts_few = parts_count in
+      let long = parts_long in
+      omega (arith, bytes, count, parts_few, long)
+
+  -- ---- the blocks that come
+
+  coming_is : coming b ≡ (if b.in_extents then blocks_end b b.was else first_byte b, blocks_end b b.now)
+  coming_is = ap (λ (t : Bool). if t then (if b.in_extents then blocks_end b b.was else first_byte b, blocks_end b b.now) else (0, 0))
+      spread.spread
+
+  from_low : (t : Bool) → (first_byte b ≤ (if t then blocks_end b b.was else first_byte b))
+      × ((if t then blocks_end b b.was else first_byte b) ≤ first_byte b + 2 ^ 30)
+  from_low true = let was = spread.was in (omega arith, omega (arith, was))
+  from_low false = (omega arith, omega arith)
+
+  come_bytes : twig_bytes (runs (gets_bytes b e) (coming b).0 (((coming b).1 - (coming b).0) / 4096)) ≤ 4194342
+  come_bytes =
+      let x : (coming b).0 ≡ (if b.in_extents then blocks_end b b.was else first_byte b) = ap (λ (p : ℕ × ℕ). p.0) coming_is in
+      let y : (coming b).1 ≡ blocks_end b b.now = ap (λ (p : ℕ × ℕ). p.1) coming_is in
+      let (low, high) = from_low b.in_extents in
+      let now = spread.now in
+      let begins = first.begins in
+      let at = first.at in
+      let above : first_byte b ≤ (coming b).0 = omega (arith, x, low) in
+      let below : (coming b).0 ≤ first_byte b + 2 ^ 30 = omega (arith, x, high) in
+      let end : (coming b).1 ≤ first_byte b + 2 ^ 30 = omega (arith, y, now) in
+      let r = later_rank h ((coming b).0 - first_byte b) in
+      let key = later_key h ((coming b).0 - first_byte b) first.key (omega (arith, begins, below)) in
+      let tight = runs_bytes (gets_bytes b e) (later h ((coming b).0 - first_byte b)) (coming b).0
+      (((coming b).1 - (coming b).0) / 4096) key (omega (arith, r, at, above))
+      (omega (arith, begins, above, below, end)) in
+      let least = behind_least (Some (coming b).0) (runs (gets_bytes b e) (coming b).0 (((coming b).1 - (coming b).0) / 4096)) in
+      let most = runs_most (gets_bytes b e) (coming b).0 (((coming b).1 - (coming b).0) / 4096) in
+      omega (arith, tight, least, most, above, end)
+
+  pub remade_few : All HasRoom (cut_pieces (going b) c ps) → twig_bytes (remade b e c ps) ≤ 12800000
+  remade_few has = by_test (is_between c.lo c.hi (coming b).0)
+    where
+      by_test : (t : Bool) → twig_bytes (if t then spliced
+          (place (coming b).0 (flat_map (filled b e) (cut_pieces (going b) c ps)))
+          (place (coming b).0 (flat_map (filled b e) (cut_pieces (going b) c ps)))
+          (runs (gets_bytes b e) (coming b).0 (((coming b).1 - (coming b).0) / 4096))
+          (flat_map (filled b e) (cut_pieces (going b) c ps))
+          else flat_map (filled b e) (cut_pieces (going b) c ps)) ≤ 12800000
+      by_test false = let few = cut_few has in omega (arith, few)
+      by_test true =
+          let few = cut_few has in
+          let come = come_bytes in
+          let put = put_bytes (place (coming b).0 (flat_map (filled b e) (cut_pieces (going b) c ps)))
+          (runs (gets_bytes b e) (coming b).0 (((coming b).1 - (coming b).0) / 4096))
+          (flat_map (filled b e) (cut_pieces (going b) c ps)) in
+          omega (arith, few, come, put)

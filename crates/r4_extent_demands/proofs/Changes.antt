@@ -3,13 +3,13 @@ use Rattle.std.specs.Prelude.{◌≡◌, ◌⊎◌, ℕ, zero, suc, ◌≤◌, L
 use Rattle.std.specs.Prelude.{Bool, true, false, not, ◌&&◌, ◌||◌, ◌==◌, nat_lt, None, Some}
 use Rattle.std.proofs.Common.{arith, inl, inr, refl, sym, ap, subst, ◌∙◌}
 use Rattle.std.specs.List.{list_any}
-use Rattle.std.proofs.lemmas.Bool.{ne_eqb}
+use Rattle.std.proofs.lemmas.Bool.{both_ways, ne_eqb, or_cases, or_left, or_parts, or_right}
 use Rattle.r4_base.specs.Node.{items_of}
 use Rattle.r4_base.specs.Tree.{Node}
 use Rattle.r4_base.specs.Value.{Value}
 use Rattle.r4_base.specs.declared.key.Key.{Key}
 use Rattle.r4_branch.specs.Pieces.{pieces_in}
-use Rattle.r4_branch.specs.declared.piece.TwigPart.{TwigPart}
+use Rattle.r4_branch.specs.declared.piece.TwigPart.TheVariants.{Blocks}
 use Rattle.r4_branch.specs.declared.piece.TwigPiece.{TwigPiece}
 use Rattle.r4_content.specs.Edited.{Edits}
 use Rattle.r4_reach.specs.Needs.{changes_pieces, filled, is_hole_part, put_among, runs}
@@ -18,21 +18,88 @@ use Rattle.r4_extent_demands.specs.Changing.{changes_units, comes_in, goes_from,
 use Rattle.r4_extent_demands.specs.Pieces.{block_at, hole_at}
 use Rattle.r4_extent_demands.proofs.Runs.{hole_some}
 
-any_same : {X : Type 0} (f g : X → Bool) (xs : List X) → ((x : X) → f x ≡ g x) → list_any f xs ≡ list_any g xs
-any_same f g [] same = refl
-any_same f g (x ∷ xs) same = (λ i. same x i || any_same f g xs same i)
+any_on : {X : Type 0} (f g : X → Bool) (xs : List X) → ((x : X) → g x ≡ true → f x ≡ true) → list_any g xs ≡ true
+    → list_any f xs ≡ true
+any_on f g [] more e = absurd (both_ways false refl e)
+any_on f g (x ∷ xs) more e = elim (or_cases (g x) (list_any g xs) e) [
+  | inl first ↦ or_left (f x) (list_any f xs) (more x first)
+  | inr rest ↦ or_right (f x) (list_any f xs) (any_on f g xs more rest)
+]
+
+any_off : {X : Type 0} (f g : X → Bool) (xs : List X) → ((x : X) → g x ≡ false → f x ≡ false) → list_any g xs ≡ false
+    → list_any f xs ≡ false
+any_off f g [] less e = refl
+any_off f g (x ∷ xs) less e =
+    let (first, rest) = or_parts (g x) (list_any g xs) e in
+    (λ i. less x first i || any_off f g xs less rest i)
 
 list_cases : (xs : List TwigPiece) → (xs ≡ []) ⊎ ((q : TwigPiece) × (qs : List TwigPiece) × (xs ≡ q ∷ qs))
 list_cases [] = inl refl
 list_cases (x ∷ xs) = inr (x, xs, refl)
 
-pub changes_is : (b : Body) (e : Edits) (c : Node Value)
-    → changes_pieces (Some b) e c ≡ (nat_lt 0 (put_among (Some b) e c) || changes_units (Some b) e c)
-changes_is b e c =
-    (λ i. nat_lt 0 (put_among (Some b) e c) || (list_any (comes_in b) c.spans
-    || (list_any (goes_from (going b)) (pieces_in (items_of c.block))
-    || any_same _ (is_refilled b e) (pieces_in (items_of c.block)) (λ p. elim
-    (list_cases (filled b e p)) [ inl is ↦ rw is refl | inr (q, qs, is) ↦ rw is refl ]) i)))
+all_off : (p q r s : Bool) → p ≡ false → q ≡ false → r ≡ false → s ≡ false → (p || (q || (r || s))) ≡ false
+all_off p q r s a b c d = (λ i. a i || (b i || (c i || d i)))
+
+fourth_on : (p q r s : Bool) → s ≡ true → (p || (q || (r || s))) ≡ true
+fourth_on p q r s d = or_right p (q || (r || s)) (or_right q (r || s) (or_right r s d))
+
+three_on : (p q r s : Bool) → (p || (q || r)) ≡ true → (p || (q || (r || s))) ≡ true
+three_on true q r s e = refl
+three_on false true r s e = refl
+three_on false false true s e = refl
+three_on false false false s e = absurd (both_ways false refl e)
+
+split_on : (p q r s : Bool) → (p || (q || (r || s))) ≡ true → ((p || (q || r)) ≡ true) ⊎ (s ≡ true)
+split_on true q r s e = inl refl
+split_on false true r s e = inl refl
+split_on false false true s e = inl refl
+split_on false false false s e = inr e
+
+module _ (b : Body) (e : Edits) (c : Node Value) where
+  abbrev ps : List TwigPiece
+  ps = pieces_in (items_of c.block)
+
+  abbrev put : Bool
+  put = nat_lt 0 (put_among (Some b) e c)
+
+  abbrev come : Bool
+  come = list_any (comes_in b) c.spans
+
+  abbrev go : Bool
+  go = list_any (goes_from (going b)) (pieces_in (items_of c.block))
+
+  is_off : (put || (come || (go || list_any (is_refilled b e) ps))) ≡ false → changes_pieces (Some b) e c ≡ false
+  is_off h =
+      let (one, rest) = or_parts put (come || (go || list_any (is_refilled b e) ps)) h in
+      let (two, more) = or_parts come (go || list_any (is_refilled b e) ps) rest in
+      let (three, four) = or_parts go (list_any (is_refilled b e) ps) more in
+      all_off (nat_lt 0 (put_among (Some b) e c)) (list_any (comes_in b) c.spans)
+      (list_any (goes_from (going b)) (pieces_in (items_of c.block))) _ one two three
+      (any_off _ (is_refilled b e) (pieces_in (items_of c.block))
+      (λ p no_more. elim (list_cases (filled b e p)) [
+        | inl is ↦ rw is refl
+        | inr (q, qs, is) ↦ rw is (sym (ap (is_other p) is) ∙ no_more)
+      ]) four)
+
+  is_on : (put || (come || (go || list_any (is_refilled b e) ps))) ≡ true → changes_pieces (Some b) e c ≡ true
+  is_on h = elim (split_on put come go (list_any (is_refilled b e) ps) h) [
+    | inl some ↦ three_on (nat_lt 0 (put_among (Some b) e c)) (list_any (comes_in b) c.spans)
+        (list_any (goes_from (going b)) (pieces_in (items_of c.block))) _ some
+    | inr last ↦ fourth_on (nat_lt 0 (put_among (Some b) e c)) (list_any (comes_in b) c.spans)
+        (list_any (goes_from (going b)) (pieces_in (items_of c.block))) _
+        (any_on _ (is_refilled b e) (pieces_in (items_of c.block))
+        (λ p more. elim (list_cases (filled b e p)) [
+          | inl is ↦ absurd (both_ways false refl (sym (ap (is_other p) is) ∙ more))
+          | inr (q, qs, is) ↦ rw is (sym (ap (is_other p) is) ∙ more)
+        ]) last)
+  ]
+
+  by_test : (t : Bool) → (put || (come || (go || list_any (is_refilled b e) ps))) ≡ t → changes_pieces (Some b) e c ≡ t
+  by_test true h = is_on h
+  by_test false h = is_off h
+
+  pub changes_is : changes_pieces (Some b) e c ≡ (nat_lt 0 (put_among (Some b) e c) || changes_units (Some b) e c)
+  changes_is = by_test (nat_lt 0 (put_among (Some b) e c) || changes_units (Some b) e c) refl
 
 -- ---- a piece
 
@@ -74,4 +141,5 @@ other_hole p xs rest k j n hole is = by_count n refl
     by_count zero none = ap (is_other p) (is ∙ ap (λ (m : ℕ). hole_at k m ++ (block_at j ∷ rest)) none)
         ∙ block_only (is_hole_part p.part) (length rest) hole
     by_count (suc m) some = ap (is_other p) (is ∙ ap (λ (hs : List TwigPiece). hs ++ (block_at j ∷ rest))
-        (hole_some k n (omega (arith, some)))) ∙ more_first p _ (block_at j ∷ rest) (omega arith)
+        (hole_some k n (omega (arith, some)))) ∙ more_first p
+        (record { key = k; part = Blocks (record { start = 0; width = n }) }) (block_at j ∷ rest) (omega arith)

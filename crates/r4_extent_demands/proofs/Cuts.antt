@@ -71,7 +71,9 @@ first_between : (from to : ℕ) (ps : List TwigPiece) (d : TwigPiece) → from <
     → take (to - from) (drop from ps) ≡ get_or ps from d ∷ take (to - from - 1) (drop (from + 1) ps)
 first_between from to ps d lt le =
     let count : to - from ≡ suc (to - from - 1) = omega (arith, lt) in
-    let first : drop from ps ≡ get_or ps from d ∷ drop (from + 1) ps = drop-cons ps from d (omega (arith, lt, le)) in
+    let next : suc from ≡ from + 1 = omega arith in
+    let first : drop from ps ≡ get_or ps from d ∷ drop (from + 1) ps = drop-cons ps from d (omega (arith, lt, le))
+    ∙ ap (λ (n : ℕ). get_or ps from d ∷ drop n ps) next in
     ap (λ (n : ℕ). take n (drop from ps)) count ∙ ap (take (suc (to - from - 1))) first
 
 pub taken_between : (c : Node Value) (from to : ℕ) (ps : List TwigPiece) (d : TwigPiece) → from < to → to ≤ length ps
@@ -96,3 +98,29 @@ cut_is r c ps qs middle from to parts f t m =
     (λ i. spliced (f i) (t i) ((m ∙ (λ j. taken_up c (take (f j) qs) (take (t j - f j) (drop (f j) qs)))) i) qs)
     ∙ ap (λ (xs : List TwigPiece). spliced (place r.0 xs) (place r.1 xs)
     (taken_up c (take (place r.0 xs) xs) (take (place r.1 xs - place r.0 xs) (drop (place r.0 xs) xs))) xs) parts
+
+-- the pieces of a twig tell which leaves end where
+module _ (twig : CellSeen) (all : List TwigPiece) (are : ArePiecesOf twig all) (from to : ℕ) (ps : List TwigPiece)
+    (d : TwigPiece) (lt : from < to) (le : to ≤ length ps) where
+  by_tests : (s t : Bool) → has_leaf_end (rank twig.hi) (rank (get_or ps from d).key) all ≡ s
+      → is_at (last_end None (take from ps)) (rank (get_or ps from d).key) ≡ t
+      → taken_up (node_of twig) (take from ps) (take (to - from) (drop from ps))
+      ≡ (if s || t then [] else pointer_at (rank (get_or ps from d).key))
+  by_tests s t e f =
+      taken_between (node_of twig) from to ps d lt le
+      ∙ (λ i. if (left_is (rank (get_or ps from d).key) twig all are ∙ e) i || f i then []
+      else pointer_at (rank (get_or ps from d).key))
+
+  pub taken_left : has_leaf_end (rank twig.hi) (rank (get_or ps from d).key) all ≡ true
+      → taken_up (node_of twig) (take from ps) (take (to - from) (drop from ps)) ≡ []
+  taken_left e = by_tests true (is_at (last_end None (take from ps)) (rank (get_or ps from d).key)) e refl
+
+  pub taken_at : has_leaf_end (rank twig.hi) (rank (get_or ps from d).key) all ≡ false
+      → is_at (last_end None (take from ps)) (rank (get_or ps from d).key) ≡ true
+      → taken_up (node_of twig) (take from ps) (take (to - from) (drop from ps)) ≡ []
+  taken_at e f = by_tests false true e f
+
+  pub taken_new : has_leaf_end (rank twig.hi) (rank (get_or ps from d).key) all ≡ false
+      → is_at (last_end None (take from ps)) (rank (get_or ps from d).key) ≡ false
+      → taken_up (node_of twig) (take from ps) (take (to - from) (drop from ps)) ≡ pointer_at (rank (get_or ps from d).key)
+  taken_new e f = by_tests false false e f

@@ -8,3 +8,4 @@ pub mod Cuts
 pub mod Changes
 pub mod Puts
 pub mod Bounded
+pub mod Asks

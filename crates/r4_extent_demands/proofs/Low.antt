@@ -1,7 +1,7 @@
 -- Blocks that get bytes lie below the greatest size of a file.
 use Rattle.std.specs.Prelude.{◌≡◌, ℕ, ◌+◌, ◌-◌, ◌^◌, ◌<◌, ◌≤◌, [], ◌∷◌, ◌++◌, All, true, false, ◌&&◌, nat_lt}
 use Rattle.std.proofs.Common.{arith, inl, inr, refl, sym, ap, ◌∙◌}
-use Rattle.std.specs.List.{filter}
+use Rattle.std.specs.List.{filter, flat_map}
 use Rattle.std.proofs.lemmas.Bool.{and_parts, both_ways, eq-eqb, eqb-true, ltb-true, or_cases, or_left, or_right}
 use Rattle.std.proofs.lemmas.Grind.{common_steps}
 use Rattle.std.proofs.lemmas.List.Elements.{All-append, All-head, All-tail}
@@ -84,7 +84,9 @@ module _ (b : Body) (h : Key) (first : IsFirstKey b h) where
         let (j, at, from, to) = met_key (put_keys e.puts) k (k + 4096) puts in
         let body = of_body j (omega (arith, low, from)) (omega (arith, high, to)) in
         let byte = bodies_are_bytes e.puts j suit.values body ∙ at in
-        let less = before_in (2 ^ 30) (filter (λ p. is_byte p.1) e.puts) j (all_behind (2 ^ 30) _ _ suit.bytes) byte in
+        let bytes = all_behind (2 ^ 30) (flat_map zero_pairs e.zeros) (filter (λ p. is_byte p.1) e.puts) suit.bytes in
+        let less : offset_of (key_of_rank j) < 2 ^ 30
+        = before_in (2 ^ 30) (filter (λ p. is_byte p.1) e.puts) j bytes byte in
         let offset = at_offset j (omega (arith, low, from)) (omega (arith, high, to)) in
         omega (arith, less, offset, low, from)
     | inr tails ↦

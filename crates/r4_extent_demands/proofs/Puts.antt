@@ -61,7 +61,7 @@ no_leaf_bytes = refl
 
 pub within_more : (lo hi end : ℕ) (gs : List Given) → hi ≤ end → AreWithin lo hi gs → AreWithin lo end gs
 within_more lo hi end [] le h = tt
-within_more lo hi end (g ∷ gs) le h = let a = h.1.0 in (h.0, omega (arith, a, le), within_more lo hi end gs le h.1.1)
+within_more lo hi end (g ∷ gs) le h = let a = h.1 in (h.0, omega (arith, a, le), within_more lo hi end gs le h.2)
 
 module _ (b : Option Body) (e : Edits) (ok : AreExtentEdits b e) (lo hi : ℕ) (cuts : List KeyRange) (gs : List Given)
     (m : MakesEdits lo hi (leaf_edits b e) cuts gs []) where

@@ -14,7 +14,7 @@ use Rattle.r4_extent_demands.specs.Pieces.{block_at, hole_at}
 hole_piece : Key → ℕ → TwigPiece
 hole_piece k n = record { key = k; part = Blocks (record { start = 0; width = n }) }
 
-hole_some : (k : Key) (n : ℕ) → 0 < n → hole_at k n ≡ record { key = k; part = Blocks (record { start = 0; width = n }) } ∷ []
+pub hole_some : (k : Key) (n : ℕ) → 0 < n → hole_at k n ≡ record { key = k; part = Blocks (record { start = 0; width = n }) } ∷ []
 hole_some k n some = let f : (n == 0) ≡ false = ne_eqb n 0 (λ e. omega (arith, e, some)) in rw f refl
 
 -- a block more before a hole

@@ -1,12 +1,12 @@
 -- Pieces of twigs, as they are made from key to key (docs/volume.md, "Reach"). A key is its rank.
 use Rattle.std.specs.Prelude.{ℕ, ◌+◌, ◌*◌, ◌^◌, ◌≤◌, ◌==◌, List, [], ◌∷◌, Bool, false, ◌&&◌, ◌||◌, nat_lt, if◌then◌else◌}
 use Rattle.std.specs.List.{flat_map}
-use Rattle.r4_base.specs.Key.{IsKey, offset_of}
+use Rattle.r4_base.specs.Key.{IsKey, offset_of, rank}
 use Rattle.r4_base.specs.Tree.{Node}
 use Rattle.r4_base.specs.Value.{Value}
 use Rattle.r4_base.specs.declared.items.Unit.{Unit as ExtentUnit}
 use Rattle.r4_base.specs.declared.key.Key.{Key}
-use Rattle.r4_branch.specs.Pieces.{next_of}
+use Rattle.r4_branch.specs.Pieces.{next_of, piece_end}
 use Rattle.r4_branch.specs.declared.piece.TwigPart.{TwigPart}
 use Rattle.r4_branch.specs.declared.piece.TwigPart.TheVariants.{Blocks, Pointer}
 use Rattle.r4_branch.specs.declared.piece.TwigPiece.{TwigPiece}
@@ -38,6 +38,11 @@ PartHasRoom offset (Blocks u) = HasRoomFor offset u
 pub record HasRoom (p : TwigPiece) : Type 0 where
   pub key : IsKey p.key
   pub part : PartHasRoom (offset_of p.key) p.part
+
+-- Each piece begins where the one before it ends, or behind that; the first from a key on.
+abbrev pub AreInOrder : (from : ℕ) → List TwigPiece → Type 0
+AreInOrder from [] = Unit {0}
+AreInOrder from (p ∷ ps) = (from ≤ rank p.key) × AreInOrder (piece_end p) ps
 
 -- ---- where leaves end
 

@@ -1,6 +1,6 @@
 //! What a twig asks for (docs/volume.md, "Reach").
 
-ghost use Rattle.std.specs.Prelude.{◌≡◌, ◌+◌, ◌*◌, ◌^◌, ◌<◌, ◌≤◌, ◌&&◌, IfOk, IfSome, length, map, nat_lt};
+ghost use Rattle.std.specs.Prelude.{◌≡◌, ◌+◌, ◌*◌, ◌^◌, ◌<◌, ◌≤◌, ◌&&◌, ◌||◌, IfOk, IfSome, length, map, nat_lt};
 ghost use Rattle.std.specs.Option.{option_copied, option_map};
 ghost use Rattle.r4_base.specs.Key.{rank};
 ghost use Rattle.r4_base.specs.Node.{items_of};
@@ -45,19 +45,29 @@ pub fn twig_asks(
     ensures small { IfOk result (λ o. IfSome o (λ a. a.more ≤ most_for 3)) }
 {
     let put = put_among(alloc, body, edits, twig)?;
+    let changes = changes_some(alloc, body, edits, twig)?;
     let comes = comes_into(body, twig);
     let moves = moves(body, twig);
-    if !comes && put == 0 && !changes_some(alloc, body, edits, twig)? {
-        let more = more_for(node_bytes(twig) + POINTER_ROOM * all_more(heard), heard);
-        return Ok(asking(moves, more, false));
+    let items = node_bytes(twig);
+    let more = all_more(heard);
+    if !is_packed(put, changes, comes) {
+        let need = items + POINTER_ROOM * more;
+        return Ok(asking(moves, more_for(need, heard), false));
     }
     let pieces = pieces_after(alloc, body, edits, twig, heard)?;
-    let need = twig_bytes(pieces.as_slice()) + POINTER_ROOM * (all_more(heard) + put);
+    let need = twig_bytes(pieces.as_slice()) + POINTER_ROOM * (more + put);
     Ok(asking(
         moves,
         more_for(need, heard),
         comes && pieces.is_empty(),
     ))
+}
+
+// Whether a twig is packed anew: where values are put among its extents, its units change, or blocks come.
+fn is_packed(put: u64, changes: bool, comes: bool) -> bool
+    ensures { result ≡ ((nat_lt 0 put || changes) || comes) }
+{
+    put > 0 || changes || comes
 }
 
 // Whether blocks of a body come into the range of a twig, if there is a body.
@@ -104,6 +114,7 @@ fn more_for(bytes: u64, heard: &[Heard]) -> u64
     requires bytes { bytes < 2 ^ 63 }
     requires few { length heard.now < 2 ^ 63 }
     ensures more { result ≡ more_for bytes (growing (map heard_seen heard.now)) }
+    ensures small { bytes ≤ 33557476 → length heard.now ≤ 107 → result ≤ 32768 }
 {
     if bytes > u64::from(NODE_ROOM) {
         over(bytes).max(growing(heard))

@@ -1,16 +1,18 @@
 //! The pieces of a twig after a command (docs/volume.md, "Reach").
 
-ghost use Rattle.std.specs.Prelude.{◌≡◌, ◌+◌, ◌*◌, ◌^◌, ◌≤◌, ◌++◌, ◌∷◌, [], All, IfOk, IfSome, OnOk, None, map, true};
+ghost use Rattle.std.specs.Prelude.{◌≡◌, ◌+◌, ◌*◌, ◌^◌, ◌≤◌, ◌++◌, ◌∷◌, [], All, IfOk, IfSome, OnOk, None, length, map, true};
 ghost use Rattle.std.specs.List.{flat_map};
 ghost use Rattle.std.specs.Option.{option_copied};
 ghost use Rattle.r4_base.specs.Key.{minor_of, offset_of, rank};
+ghost use Rattle.r4_branch.specs.Pieces.{twig_bytes};
 ghost use Rattle.r4_cell.specs.Seen.{node_of};
 ghost use Rattle.r4_content.specs.Edited.{Edits as Changes};
 ghost use Rattle.r4_content.specs.Held.{edits_of};
+ghost use Rattle.r4_leaf_edits.specs.Suiting.{SuitLeaves};
 ghost use Rattle.r4_marking.specs.Marks.{heard_seen};
 ghost use Rattle.r4_reach.specs.Needs.{filled, gets_bytes, is_hole_part, pieces_after, runs, with_coming};
 ghost use Rattle.r4_path.specs.TwigPieces.{ArePiecesOf};
-ghost use Rattle.r4_extent_demands.specs.Pieces.{HasRoom, remade};
+ghost use Rattle.r4_extent_demands.specs.Pieces.{AreInOrder, HasRoom, remade};
 ghost use Rattle.r4_extent_demands.specs.Spreads.{IsSpread, IsSpreadBody};
 
 use crate::cutting::{cut, without_gone};
@@ -30,7 +32,8 @@ use std::alloc::Global;
 /// The pieces that a twig has after edits, where the leaves below it ask for this: without the pointers to leaves that
 /// go and without the blocks of the body that go; holes of the body with the blocks in them that get bytes; and with
 /// the blocks of the body that come, where the first of them lies in the twig's range. No step is taken for a byte, and
-/// none for each block of a hole. `Memory` where there was not enough (docs/volume.md, "Reach").
+/// none for each block of a hole. They need no more than 12,800,000 bytes in twigs, where bytes are put below the
+/// greatest size of a file. `Memory` where there was not enough (docs/volume.md, "Reach").
 pub fn pieces_after(
     alloc: Global,
     body: Option<&SpreadBody>,
@@ -40,8 +43,10 @@ pub fn pieces_after(
 ) -> Result<Vec<TwigPiece>, Memory>
     requires twig { twig.now.level ≡ 2 }
     requires spread { IsSpread (option_copied body) }
-    ensures { IfOk result (λ v. v.items ≡ pieces_after (option_copied body.entry)
+    ensures pieces { IfOk result (λ v. v.items ≡ pieces_after (option_copied body.entry)
         (edits_of edits.now) (node_of twig.now) (map heard_seen heard.now)) }
+    ensures few { SuitLeaves (2 ^ 30) (edits_of edits.now)
+        → IfOk result (λ v. twig_bytes v.items ≤ 12800000) }
 {
     let all = pieces_of_cell(alloc, twig)?;
     let left = without_gone(alloc, all.as_slice(), heard)?;
@@ -66,9 +71,15 @@ fn remade(
     requires spread { IsSpreadBody body.now }
     requires pieces { ArePiecesOf twig.now all.now }
     requires room { All HasRoom left.now }
-    ensures { IfOk result (λ v. v.items
+    requires order { AreInOrder (rank twig.now.lo) left.now }
+    requires short { 16 * length left.now ≤ 4068 }
+    ensures pieces { IfOk result (λ v. v.items
         ≡ remade body.now (edits_of edits.now) (node_of twig.now) left.now) }
+    ensures few { SuitLeaves (2 ^ 30) (edits_of edits.now)
+        → IfOk result (λ v. twig_bytes v.items ≤ 12800000) }
 {
+    // Where the body begins tells how many pieces it makes at most.
+    let _ = body.first_byte();
     let cut = cut(alloc, body, twig, all, left)?;
     let filled = fill_each(alloc, body, edits, cut.as_slice())?;
     let pieces = with_coming(alloc, body, edits, twig, filled.as_slice())?;
@@ -107,7 +118,10 @@ fn add_filled(
         ≡ pieces.old.items ++ filled body.now (edits_of edits.now) piece.now) }
 {
     match hole_of(body, piece) {
-        Some(width) => add_blocks(pieces, body, edits, piece.key, width),
+        Some(width) => {
+            add_blocks(pieces, body, edits, piece.key, width)?;
+            Ok(())
+        }
         None => {
             pieces.push(*piece)?;
             Ok(())

@@ -1,5 +1,9 @@
 //! The pieces of small twigs after edits, compared with lists that were made by hand.
 
+ghost use Rattle.std.specs.Prelude.{◌≡◌, ◌^◌, ◌<◌, ◌≤◌};
+ghost use Rattle.r4_base.specs.Key.{minor_of};
+ghost use Rattle.r4_extent_demands.specs.Spreads.{IsSpreadBody};
+
 use crate::piecing::pieces_after;
 use crate::spread_body::SpreadBody;
 use crate::weighing::twig_bytes;
@@ -21,8 +25,29 @@ type Row = (u64, u64, u64);
 const NEW: u64 = 1 << 63;
 
 // The key of a byte of the file.
-fn byte(offset: u64) -> Key {
+fn byte(offset: u64) -> Key
+    ensures { minor_of result ≡ 4 }
+{
     Key::body(41, 0, Oid(70_000), offset)
+}
+
+// The file's body, which stood in extents.
+fn in_extents(first: u64, before: u64, after: u64) -> SpreadBody
+    requires before { before ≤ 2 ^ 30 }
+    requires after { after ≤ 2 ^ 30 }
+    ensures { IsSpreadBody result }
+{
+    SpreadBody::new(byte(first), before, after, true)
+}
+
+// The file's body, which stood in tails.
+fn in_tails(first: u64, before: u64, after: u64) -> SpreadBody
+    requires before { before ≤ 2 ^ 30 }
+    requires after { after ≤ 2 ^ 30 }
+    requires turns { 16384 < after }
+    ensures { IsSpreadBody result }
+{
+    SpreadBody::new(byte(first), before, after, false)
 }
 
 // Puts these bytes over others from a place on, as far as there are some.
@@ -124,7 +149,7 @@ fn is(piece: &TwigPiece, row: &Row) -> bool {
 fn a_block_comes_into_the_middle_of_a_hole(rt: HostRuntime) -> Result<(), Fail> {
     let alloc = rt.alloc();
     let twig = twig(alloc, &[(0, 0, 10)], 1 << 30)?;
-    let body = SpreadBody::new(byte(20_580), 40_960, 40_960, true);
+    let body = in_extents(20_580, 40_960, 40_960);
     let edits = edits(alloc, &[20_580], None)?;
     let pieces = pieces_after(alloc, Some(&body), &edits, &twig, &[])?;
     assert!(rt; are(&pieces, &[(0, 0, 5), (20_480, NEW, 1), (24_576, 0, 4)]));
@@ -136,7 +161,7 @@ fn a_block_comes_into_the_middle_of_a_hole(rt: HostRuntime) -> Result<(), Fail> 
 fn blocks_come_behind_the_others(rt: HostRuntime) -> Result<(), Fail> {
     let alloc = rt.alloc();
     let twig = twig(alloc, &[(0, 100, 2)], 1 << 30)?;
-    let body = SpreadBody::new(byte(16_384), 8192, 24_000, true);
+    let body = in_extents(16_384, 8192, 24_000);
     let edits = edits(alloc, &[16_384], None)?;
     let pieces = pieces_after(alloc, Some(&body), &edits, &twig, &[])?;
     assert!(rt; are(&pieces, &[(0, 100, 2), (8192, 0, 2), (16_384, NEW, 1), (20_480, 0, 1)]));
@@ -148,8 +173,8 @@ fn blocks_come_behind_the_others(rt: HostRuntime) -> Result<(), Fail> {
 fn blocks_go(rt: HostRuntime) -> Result<(), Fail> {
     let alloc = rt.alloc();
     let edits = edits(alloc, &[], None)?;
-    let shorter = SpreadBody::new(byte(5000), 40_960, 5000, true);
-    let none = SpreadBody::new(byte(0), 40_960, 0, true);
+    let shorter = in_extents(5000, 40_960, 5000);
+    let none = in_extents(0, 40_960, 0);
     // a run is parted, and its range goes to the extent before it
     let run = twig(alloc, &[(0, 100, 10)], 1 << 30)?;
     let pieces = pieces_after(alloc, Some(&shorter), &edits, &run, &[])?;
@@ -162,7 +187,7 @@ fn blocks_go(rt: HostRuntime) -> Result<(), Fail> {
     let pieces = pieces_after(alloc, Some(&shorter), &edits, &behind, &[])?;
     assert!(rt; are(&pieces, &[(0, 30, 0)]));
     // where nothing goes there is nothing to take up
-    let same = SpreadBody::new(byte(0), 40_960, 40_960, true);
+    let same = in_extents(0, 40_960, 40_960);
     let pieces = pieces_after(alloc, Some(&same), &edits, &behind, &[])?;
     assert!(rt; are(&pieces, &[(0, 30, 0), (8192, 0, 4), (24_576, 200, 4)]));
     Ok(())
@@ -172,7 +197,7 @@ fn blocks_go(rt: HostRuntime) -> Result<(), Fail> {
 fn a_body_turns(rt: HostRuntime) -> Result<(), Fail> {
     let alloc = rt.alloc();
     let twig = twig(alloc, &[(0, 30, 0), (4000, 31, 0), (100_000, 32, 0)], 1 << 30)?;
-    let body = SpreadBody::new(byte(28_000), 10_000, 30_000, false);
+    let body = in_tails(28_000, 10_000, 30_000);
     let edits = edits(alloc, &[], Some((28_000, 30_000)))?;
     let heard = [gone(30, 0, 4000), gone(31, 4000, 100_000)];
     let pieces = pieces_after(alloc, Some(&body), &edits, &twig, &heard)?;
