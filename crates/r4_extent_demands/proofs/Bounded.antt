@@ -1,18 +1,18 @@
 -- How many bytes the pieces of a twig need at most after a command.
 use Rattle.std.specs.Prelude.{◌≡◌, ℕ, zero, suc, ◌+◌, ◌-◌, ◌*◌, ◌/◌, ◌^◌, ◌<◌, ◌≤◌, List, [], ◌∷◌, ◌++◌, length, take, drop}
 use Rattle.std.specs.Prelude.{All, Bool, true, false, ◌&&◌, ◌||◌, None, Option, Some, nat_le, nat_lt, if◌then◌else◌}
-use Rattle.std.proofs.Common.{arith, absurd, inl, inr, refl, sym, ap, subst, ◌∙◌, length-append}
+use Rattle.std.proofs.Common.{arith, inl, inr, refl, sym, ap, subst, ◌∙◌, length-append}
 use Rattle.std.specs.List.{filter, flat_map}
-use Rattle.std.proofs.lemmas.Bool.{and_parts, both_ways, cases_lt, leb-true, ltb-true}
+use Rattle.std.proofs.lemmas.Bool.{and_parts, cases_lt, leb-true, ltb-true}
 use Rattle.std.proofs.lemmas.Grind.{flat_map-append}
 use Rattle.std.proofs.lemmas.List.{take-append-drop}
 use Rattle.std.proofs.lemmas.List.Elements.{All-head, All-tail}
 use Rattle.r4_base.specs.Extents.{is_hole}
-use Rattle.r4_base.specs.Key.{IsKey, key_of_rank, later, offset_of, rank}
-use Rattle.r4_base.specs.Tree.{Name, Node}
+use Rattle.r4_base.specs.Key.{key_of_rank, later, offset_of, rank}
+use Rattle.r4_base.specs.Tree.{Node}
 use Rattle.r4_base.specs.Value.{Value}
 use Rattle.r4_base.specs.declared.key.Key.{Key}
-use Rattle.r4_branch.specs.Pieces.{Follow, bytes_behind, is_at, last_end, open_end, part_bytes, part_end, piece_end, twig_bytes}
+use Rattle.r4_branch.specs.Pieces.{Follow, bytes_behind, is_at, last_end, open_end, part_end, piece_end, twig_bytes}
 use Rattle.r4_branch.specs.declared.piece.TwigPart.{TwigPart}
 use Rattle.r4_branch.specs.declared.piece.TwigPart.TheVariants.{Blocks, Pointer}
 use Rattle.r4_branch.specs.declared.piece.TwigPiece.{TwigPiece}

@@ -1,7 +1,7 @@
 -- Whether units of a body come to a twig or go.
 use Rattle.std.specs.Prelude.{◌≡◌, ◌⊎◌, ℕ, zero, suc, ◌≤◌, List, [], ◌∷◌, ◌++◌, length}
-use Rattle.std.specs.Prelude.{Bool, true, false, not, ◌&&◌, ◌||◌, ◌==◌, nat_lt, None, Some}
-use Rattle.std.proofs.Common.{arith, inl, inr, refl, sym, ap, subst, ◌∙◌}
+use Rattle.std.specs.Prelude.{Bool, true, false, not, ◌&&◌, ◌||◌, ◌==◌, nat_lt, Some}
+use Rattle.std.proofs.Common.{arith, inl, inr, refl, sym, ap, ◌∙◌}
 use Rattle.std.specs.List.{list_any}
 use Rattle.std.proofs.lemmas.Bool.{both_ways, ne_eqb, or_cases, or_left, or_parts, or_right}
 use Rattle.r4_base.specs.Node.{items_of}
@@ -12,7 +12,7 @@ use Rattle.r4_branch.specs.Pieces.{pieces_in}
 use Rattle.r4_branch.specs.declared.piece.TwigPart.TheVariants.{Blocks}
 use Rattle.r4_branch.specs.declared.piece.TwigPiece.{TwigPiece}
 use Rattle.r4_content.specs.Edited.{Edits}
-use Rattle.r4_reach.specs.Needs.{changes_pieces, filled, is_hole_part, put_among, runs}
+use Rattle.r4_reach.specs.Needs.{changes_pieces, filled, is_hole_part, put_among}
 use Rattle.r4_reach.specs.Touched.{Body, going}
 use Rattle.r4_extent_demands.specs.Changing.{changes_units, comes_in, goes_from, is_other, is_refilled}
 use Rattle.r4_extent_demands.specs.Pieces.{block_at, hole_at}

@@ -9,3 +9,4 @@ pub mod Changes
 pub mod Puts
 pub mod Bounded
 pub mod Asks
+pub mod OfCommands

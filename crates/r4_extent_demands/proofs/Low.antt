@@ -4,21 +4,20 @@ use Rattle.std.proofs.Common.{arith, inl, inr, refl, sym, ap, ◌∙◌}
 use Rattle.std.specs.List.{filter, flat_map}
 use Rattle.std.proofs.lemmas.Bool.{and_parts, both_ways, eq-eqb, eqb-true, ltb-true, or_cases, or_left, or_right}
 use Rattle.std.proofs.lemmas.Grind.{common_steps}
-use Rattle.std.proofs.lemmas.List.Elements.{All-append, All-head, All-tail}
+use Rattle.std.proofs.lemmas.List.Elements.{All-head, All-tail}
 use Rattle.r4_base.specs.Key.{key_of_rank, later, offset_of, rank}
 use Rattle.r4_base.specs.declared.key.Key.{Key}
 use Rattle.r4_content.specs.Bodies.{larger, smaller}
 use Rattle.r4_content.specs.Edited.{Edits, Intervals, Pairs, is_between, is_in, put_keys}
 use Rattle.r4_content.proofs.EditLaws.{one_key}
 use Rattle.r4_graft.proofs.Halves.{later_key, later_rank}
-use Rattle.r4_leaf_edits.specs.Suiting.{IsBefore, SuitLeaves, bytes_set, is_byte, zero_pairs}
+use Rattle.r4_leaf_edits.specs.Suiting.{IsBefore, SuitLeaves, is_byte, zero_pairs}
 use Rattle.r4_leaf_edits.proofs.KeyRanks.{body_is, key_again}
-use Rattle.r4_leaf_edits.proofs.Puts.{in_both}
 use Rattle.r4_leaf_edits.proofs.Whole.{bodies_are_bytes}
 use Rattle.r4_reach.specs.Needs.{gets_bytes, is_met, meets}
 use Rattle.r4_reach.specs.Reach.{is_body}
 use Rattle.r4_reach.specs.Touched.{Body, first_byte, turns_out}
-use Rattle.r4_extent_demands.specs.Spreads.{IsFirstKey, IsSpreadBody}
+use Rattle.r4_extent_demands.specs.Spreads.{IsFirstKey}
 
 -- a range that meets an interval has a key of it
 clip : (lo hi a b k : ℕ) → larger lo a ≤ k → k < smaller hi b → (lo ≤ k) × (k < hi) × (is_between a b k ≡ true)

@@ -1,21 +1,20 @@
 -- Values that are put into a range, measured as a leaf of their own.
-use Rattle.std.specs.Prelude.{◌≡◌, ℕ, suc, ◌+◌, ◌-◌, ◌*◌, ◌/◌, ◌^◌, ◌<◌, ◌≤◌, List, [], ◌∷◌, ◌++◌, drop, length, map, All}
-use Rattle.std.specs.Prelude.{true, None, Option, Some, min, nat_lt, slice_get, sum_by, if◌then◌else◌, Bool, false}
-use Rattle.std.proofs.Common.{arith, absurd, cc, refl, sym, ap, subst, ◌∙◌}
+use Rattle.std.specs.Prelude.{◌≡◌, ℕ, suc, ◌+◌, ◌-◌, ◌/◌, ◌^◌, ◌<◌, ◌≤◌, List, [], ◌∷◌, ◌++◌, drop}
+use Rattle.std.specs.Prelude.{true, None, Option, Some, min, nat_lt, slice_get, if◌then◌else◌, Bool, false}
+use Rattle.std.proofs.Common.{arith, refl, sym, ap, subst, ◌∙◌}
 use Rattle.std.specs.Option.{option_map}
-use Rattle.std.proofs.lemmas.Bool.{lt-ltb}
 use Rattle.std.proofs.lemmas.List.Elements.{All-nil}
 use Rattle.std.proofs.lemmas.List.Sums.{sum_by-cons}
-use Rattle.r4_base.specs.Cell.{item_end, next_key, spans_in, units_in}
+use Rattle.r4_base.specs.Cell.{next_key, spans_in, units_in}
 use Rattle.r4_base.specs.Key.{rank}
 use Rattle.r4_base.specs.Node.{Item, items_of}
-use Rattle.r4_base.specs.Tree.{Node, Span}
-use Rattle.r4_base.specs.Value.{Byte, Entry, Stat, Value}
+use Rattle.r4_base.specs.Tree.{Span}
+use Rattle.r4_base.specs.Value.{Byte, Entry, Stat}
 use Rattle.r4_cell.specs.Seen.{CellSeen, node_of}
 use Rattle.r4_content.specs.Edited.{Edits, is_between}
 use Rattle.r4_content.specs.Held.{interval_of}
 use Rattle.r4_content.specs.declared.edits.Interval.{Interval}
-use Rattle.r4_leaf.specs.Remade.{AreWithin, CanPutAll, cut_all, item_of, put_all, units_after as units_left}
+use Rattle.r4_leaf.specs.Remade.{AreWithin, CanPutAll, cut_all, put_all, units_after as units_left}
 use Rattle.r4_leaf.specs.Units.{LeafUnit, bytes_behind, leaf_bytes, unit_bytes}
 use Rattle.r4_leaf.specs.declared.remaking.Given.{Given}
 use Rattle.r4_leaf.specs.declared.remaking.KeyRange.{KeyRange}
@@ -26,7 +25,7 @@ use Rattle.r4_bodies.proofs.Premises.{suits_later}
 use Rattle.r4_node40.proofs.Following.{item_first}
 use Rattle.r4_path.proofs.CellNodes.{spans_are}
 use Rattle.r4_reach.specs.Needs.{leaf_edits, leaves_for, over}
-use Rattle.r4_reach.specs.Touched.{Body, first_byte, is_spread}
+use Rattle.r4_reach.specs.Touched.{Body, first_byte}
 use Rattle.r4_extent_demands.specs.Putting.{leaves_in, put_into}
 use Rattle.r4_extent_demands.specs.Spreads.{AreExtentEdits, IsSpread, end_of_bytes}
 

@@ -1,13 +1,12 @@
 -- Pieces that have room for their blocks.
-use Rattle.std.specs.Prelude.{◌≡◌, ℕ, suc, ◌+◌, ◌-◌, ◌*◌, ◌/◌, ◌^◌, ◌<◌, ◌≤◌, List, [], ◌∷◌, ◌++◌, All, Bool, true, false}
+use Rattle.std.specs.Prelude.{◌≡◌, ℕ, ◌+◌, ◌-◌, ◌*◌, ◌/◌, ◌^◌, ◌<◌, ◌≤◌, List, [], ◌∷◌, ◌++◌, All, Bool, true, false}
 use Rattle.std.specs.Prelude.{if◌then◌else◌, take, drop, nat_lt, Some}
 use Rattle.std.proofs.Common.{arith, inl, inr, refl, sym, ap, subst, ◌∙◌}
-use Rattle.std.specs.List.{filter}
 use Rattle.std.proofs.lemmas.Bool.{and_parts, lt-ltb, ltb-true}
 use Rattle.std.proofs.lemmas.List.Elements.{All-append, All-cons, All-drop, All-head, All-nil, All-tail}
 use Rattle.std.proofs.lemmas.List.Elements.{All-take}
-use Rattle.r4_base.specs.Extents.{IsHole, IsLawfulUnit, IsRun, IsUnplaced, is_hole, unit_past}
-use Rattle.r4_base.specs.Key.{IsKey, later, offset_of, rank}
+use Rattle.r4_base.specs.Extents.{IsLawfulUnit, is_hole, unit_past}
+use Rattle.r4_base.specs.Key.{later, offset_of, rank}
 use Rattle.r4_base.specs.declared.items.Unit.{Unit as ExtentUnit}
 use Rattle.r4_branch.specs.Pieces.{Follow, IsSound, IsSoundPart, open_end, part_end, piece_end}
 use Rattle.r4_branch.specs.declared.piece.TwigPart.{TwigPart}

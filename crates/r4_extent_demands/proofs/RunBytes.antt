@@ -2,7 +2,7 @@
 use Rattle.std.specs.Prelude.{◌≡◌, ◌⊎◌, ℕ, zero, suc, ◌+◌, ◌*◌, ◌^◌, ◌<◌, ◌≤◌, List, [], ◌∷◌, length, Bool, true, false}
 use Rattle.std.specs.Prelude.{None, Option, Some, ◌==◌, nat_lt, if◌then◌else◌}
 use Rattle.std.proofs.Common.{arith, inl, inr, refl, sym, ap, subst, ◌∙◌}
-use Rattle.std.proofs.lemmas.Bool.{both_ways, cases_lt, eq-eqb, lt-ltb}
+use Rattle.std.proofs.lemmas.Bool.{eq-eqb}
 use Rattle.r4_base.specs.Extents.{is_hole}
 use Rattle.r4_base.specs.Key.{IsKey, key_of_rank, later, offset_of, rank}
 use Rattle.r4_base.specs.declared.items.Unit.{Unit as ExtentUnit}
@@ -15,9 +15,8 @@ use Rattle.r4_branch.proofs.Counted.{costs}
 use Rattle.r4_graft.proofs.Halves.{later_key, later_rank}
 use Rattle.r4_leaf_edits.proofs.KeyRanks.{key_again}
 use Rattle.r4_reach.specs.Needs.{runs, widened}
-use Rattle.r4_extent_demands.specs.Pieces.{block_at, hole_at}
+use Rattle.r4_extent_demands.specs.Pieces.{block_at}
 use Rattle.r4_extent_demands.proofs.Rooms.{open_blocks}
-use Rattle.r4_extent_demands.proofs.Runs.{quiet_runs}
 
 -- ---- what a piece costs behind others
 

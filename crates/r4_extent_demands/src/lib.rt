@@ -7,6 +7,7 @@ mod cutting;
 mod extents;
 mod gaining;
 mod keys;
+mod laws;
 mod parting;
 mod piecing;
 mod putting;
@@ -18,6 +19,7 @@ mod weighing;
 
 pub use asking::twig_asks;
 pub use changing::changes_pieces;
+pub use laws::commands_of_extents_may_ask;
 pub use piecing::pieces_after;
 pub use putting::put_among;
 pub use spread_body::SpreadBody;
