@@ -1,7 +1,7 @@
 -- Pieces without blocks that go.
-use Rattle.std.specs.Prelude.{◌≡◌, ℕ, zero, suc, ◌+◌, ◌-◌, ◌<◌, ◌≤◌, List, [], ◌∷◌, ◌++◌, length, take, drop, All}
+use Rattle.std.specs.Prelude.{◌≡◌, ℕ, zero, suc, ◌+◌, ◌-◌, ◌<◌, ◌≤◌, List, [], ◌∷◌, length, take, drop}
 use Rattle.std.specs.Prelude.{Bool, true, false, ◌&&◌, ◌||◌, ◌==◌, None, if◌then◌else◌}
-use Rattle.std.proofs.Common.{arith, get_or, refl, sym, ap, subst, ◌∙◌, drop-cons}
+use Rattle.std.proofs.Common.{arith, get_or, refl, sym, ap, ◌∙◌, drop-cons}
 use Rattle.std.specs.List.{list_any}
 use Rattle.std.proofs.lemmas.List.{take_all, take_more}
 use Rattle.std.proofs.lemmas.List.Folds.{list_any-append}

@@ -1,5 +1,5 @@
 -- The edits of commands, where a body stands in extents afterwards.
-use Rattle.std.specs.Prelude.{◌≡◌, ℕ, ◌+◌, ◌^◌, ◌≤◌, ◌==◌, All, Bool, true, false, None, Option, Some, length, nat_lt}
+use Rattle.std.specs.Prelude.{ℕ, ◌+◌, ◌^◌, ◌≤◌, ◌==◌, All, Bool, true, false, None, Option, Some, length, nat_lt}
 use Rattle.std.specs.Prelude.{if◌then◌else◌}
 use Rattle.std.proofs.Common.{arith, inl, inr, refl, sym, subst}
 use Rattle.std.proofs.lemmas.List.Elements.{All-nil}
@@ -10,7 +10,6 @@ use Rattle.r4_content.specs.declared.command.Command.{Command}
 use Rattle.r4_leaf_edits.specs.Suiting.{IsBefore, SuitLeaves}
 use Rattle.r4_reach.specs.Touched.{Body, body_on, edits_on}
 use Rattle.r4_suited.specs.Suited.{AreLawfulSeen, end_of_bytes as end_suited}
-use Rattle.r4_suited.proofs.Few.{AreFew}
 use Rattle.r4_suited.proofs.Runs.{few_set, grown_end, sized_run, written_run, run_suits}
 use Rattle.r4_suited.proofs.Small.{leaf_small}
 use Rattle.r4_suited.proofs.Suits.{command_suits}

@@ -4,7 +4,8 @@ ghost use Rattle.std.specs.Prelude.{◌≡◌, ◌+◌, ◌-◌, ◌/◌, ◌^�
 ghost use Rattle.r4_base.specs.Key.{minor_of, offset_of, rank};
 ghost use Rattle.r4_base.specs.Volume.{blocks_for, object_of};
 ghost use Rattle.r4_content.specs.Edited.{is_between};
-ghost use Rattle.r4_reach.specs.Touched.{blocks_end, coming, first_byte, going, turns_out};
+ghost use Rattle.r4_reach.specs.Reach.{is_body};
+ghost use Rattle.r4_reach.specs.Touched.{Body, blocks_end, coming, first_byte, going, turns_out};
 ghost use Rattle.r4_extent_demands.specs.Spreads.{IsFirstKey, IsSpreadBody};
 
 use crate::keys::past_blocks;
@@ -148,7 +149,7 @@ impl SpreadBody {
         requires { IsSpreadBody self.now }
         ensures { IsFirstKey self.now result }
     {
-        self.first.with_offset(0)
+        first_of(self.first)
     }
 
     // The size of what stays in extents as it was, 0 where nothing stood in extents.
@@ -168,6 +169,14 @@ impl SpreadBody {
     {
         self.first_byte().behind(BLOCK_BYTES * blocks_for(size))
     }
+}
+
+// The key of the first byte of the body that has a key.
+fn first_of(key: Key) -> Key
+    requires { is_body (rank key) ≡ true }
+    ensures { (b : Body) → object_of key ≡ b.file → IsFirstKey b result }
+{
+    key.with_offset(0)
 }
 
 // How many blocks a body of so many bytes has.
