@@ -1,9 +1,10 @@
 -- Whether units of a body come to a twig or go.
-use Rattle.std.specs.Prelude.{◌≡◌, ◌⊎◌, ℕ, zero, suc, ◌≤◌, List, [], ◌∷◌, ◌++◌, length}
+use Rattle.std.specs.Prelude.{◌≡◌, ◌⊎◌, ℕ, zero, suc, ◌+◌, ◌-◌, ◌*◌, ◌<◌, ◌≤◌, List, [], ◌∷◌, ◌++◌, length}
 use Rattle.std.specs.Prelude.{Bool, true, false, not, ◌&&◌, ◌||◌, ◌==◌, nat_lt, Some}
 use Rattle.std.proofs.Common.{arith, inl, inr, refl, sym, ap, ◌∙◌}
 use Rattle.std.specs.List.{list_any}
-use Rattle.std.proofs.lemmas.Bool.{both_ways, ne_eqb, or_cases, or_left, or_parts, or_right}
+use Rattle.std.proofs.lemmas.Bool.{both_ways, cases_lt, le-ltb, lt-ltb, ne_eqb, or_cases, or_left, or_parts, or_right}
+use Rattle.r4_base.specs.Key.{key_of_rank}
 use Rattle.r4_base.specs.Node.{items_of}
 use Rattle.r4_base.specs.Tree.{Node}
 use Rattle.r4_base.specs.Value.{Value}
@@ -12,11 +13,11 @@ use Rattle.r4_branch.specs.Pieces.{pieces_in}
 use Rattle.r4_branch.specs.declared.piece.TwigPart.TheVariants.{Blocks}
 use Rattle.r4_branch.specs.declared.piece.TwigPiece.{TwigPiece}
 use Rattle.r4_content.specs.Edited.{Edits}
-use Rattle.r4_reach.specs.Needs.{changes_pieces, filled, is_hole_part, put_among}
+use Rattle.r4_reach.specs.Needs.{changes_pieces, filled, gets_bytes, is_hole_part, put_among, runs}
 use Rattle.r4_reach.specs.Touched.{Body, going}
 use Rattle.r4_extent_demands.specs.Changing.{changes_units, comes_in, goes_from, is_other, is_refilled}
 use Rattle.r4_extent_demands.specs.Pieces.{block_at, hole_at}
-use Rattle.r4_extent_demands.proofs.Runs.{hole_some}
+use Rattle.r4_extent_demands.proofs.Runs.{AreQuiet, hole_some, next_runs, quiet_runs}
 
 any_on : {X : Type 0} (f g : X → Bool) (xs : List X) → ((x : X) → g x ≡ true → f x ≡ true) → list_any g xs ≡ true
     → list_any f xs ≡ true
@@ -143,3 +144,20 @@ other_hole p xs rest k j n hole is = by_count n refl
     by_count (suc m) some = ap (is_other p) (is ∙ ap (λ (hs : List TwigPiece). hs ++ (block_at j ∷ rest))
         (hole_some k n (omega (arith, some)))) ∙ more_first p
         (record { key = k; part = Blocks (record { start = 0; width = n }) }) (block_at j ∷ rest) (omega arith)
+
+-- blocks of a hole, of which so many stand before the first one that gets bytes
+module _ (b : Body) (e : Edits) (p : TwigPiece) (k w m : ℕ) (le : m ≤ w) (none : AreQuiet (gets_bytes b e) k m)
+    (next : m < w → gets_bytes b e (k + 4096 * m) ≡ true) (hole : is_hole_part p.part ≡ true)
+    (fill : filled b e p ≡ runs (gets_bytes b e) k w) where
+  pub refill_is : nat_lt m w ≡ is_refilled b e p
+  refill_is = elim (cases_lt m w) [
+    | inl lt ↦
+        let count : w ≡ m + suc (w - m - 1) = omega (arith, lt) in
+        lt-ltb m w lt ∙ sym (other_hole p (filled b e p) (runs (gets_bytes b e) (k + 4096 * (m + 1)) (w - m - 1)) (key_of_rank k)
+        (key_of_rank (k + 4096 * m)) m hole
+        (fill ∙ ap (runs (gets_bytes b e) k) count ∙ next_runs (gets_bytes b e) k m (w - m - 1) none (next lt)))
+    | inr ge ↦
+        let same : w ≡ m = omega (arith, ge, le) in
+        le-ltb m w ge ∙ sym (same_hole p (filled b e p) (key_of_rank k) m
+        (fill ∙ ap (runs (gets_bytes b e) k) same ∙ quiet_runs (gets_bytes b e) k m none))
+  ]

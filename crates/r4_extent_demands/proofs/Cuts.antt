@@ -19,7 +19,7 @@ use Rattle.r4_cell.specs.Seen.{CellSeen, node_of}
 use Rattle.r4_graft.specs.Splices.{parted, place, spliced}
 use Rattle.r4_path.specs.TwigPieces.{ArePiecesOf}
 use Rattle.r4_reach.specs.Needs.{cut_pieces, has_left_leaf, pointer_at, taken_up}
-use Rattle.r4_extent_demands.specs.Pieces.{ends_leaf, has_leaf_end}
+use Rattle.r4_extent_demands.specs.Pieces.{ends_leaf, has_leaf_end, without_between}
 
 -- ---- leaves that end at a key
 
@@ -90,14 +90,17 @@ taken_none c from to ps le =
 
 -- ---- all of it
 
-pub cut_is : (r : ℕ × ℕ) (c : Node Value) (ps qs middle : List TwigPiece) (from to : ℕ)
-    → qs ≡ parted r.1 (parted r.0 ps) → from ≡ place r.0 qs → to ≡ place r.1 qs
+pub between_is : (c : Node Value) (f t : ℕ) (qs middle : List TwigPiece) (from to : ℕ) → from ≡ place f qs → to ≡ place t qs
     → middle ≡ taken_up c (take from qs) (take (to - from) (drop from qs))
-    → spliced from to middle qs ≡ cut_pieces r c ps
-cut_is r c ps qs middle from to parts f t m =
-    (λ i. spliced (f i) (t i) ((m ∙ (λ j. taken_up c (take (f j) qs) (take (t j - f j) (drop (f j) qs)))) i) qs)
-    ∙ ap (λ (xs : List TwigPiece). spliced (place r.0 xs) (place r.1 xs)
-    (taken_up c (take (place r.0 xs) xs) (take (place r.1 xs - place r.0 xs) (drop (place r.0 xs) xs))) xs) parts
+    → spliced from to middle qs ≡ without_between c f t qs
+between_is c f t qs middle from to p q m =
+    (λ i. spliced (p i) (q i) ((m ∙ (λ j. taken_up c (take (p j) qs) (take (q j - p j) (drop (p j) qs)))) i) qs)
+
+pub cut_is : (r : ℕ × ℕ) (c : Node Value) (ps qs : List TwigPiece) (f t : ℕ) → f ≡ r.0 → t ≡ r.1
+    → qs ≡ parted t (parted f ps) → without_between c f t qs ≡ cut_pieces r c ps
+cut_is r c ps qs f t p q parts =
+    (λ i. without_between c (p i) (q i) qs)
+    ∙ ap (without_between c r.0 r.1) (parts ∙ (λ i. parted (q i) (parted (p i) ps)))
 
 -- the pieces of a twig tell which leaves end where
 module _ (twig : CellSeen) (all : List TwigPiece) (are : ArePiecesOf twig all) (from to : ℕ) (ps : List TwigPiece)

@@ -10,3 +10,4 @@ pub mod Puts
 pub mod Bounded
 pub mod Asks
 pub mod OfCommands
+pub mod Nothing

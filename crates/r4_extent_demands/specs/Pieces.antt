@@ -1,5 +1,5 @@
 -- Pieces of twigs, as they are made from key to key (docs/volume.md, "Reach"). A key is its rank.
-use Rattle.std.specs.Prelude.{ℕ, ◌+◌, ◌*◌, ◌^◌, ◌≤◌, ◌==◌, List, [], ◌∷◌, Bool, false, ◌&&◌, ◌||◌, nat_lt, if◌then◌else◌}
+use Rattle.std.specs.Prelude.{ℕ, ◌+◌, ◌-◌, ◌*◌, ◌^◌, ◌≤◌, ◌==◌, List, [], ◌∷◌, Bool, false, ◌&&◌, ◌||◌, drop, nat_lt, take, if◌then◌else◌}
 use Rattle.std.specs.List.{flat_map}
 use Rattle.r4_base.specs.Key.{IsKey, offset_of, rank}
 use Rattle.r4_base.specs.Tree.{Node}
@@ -11,7 +11,8 @@ use Rattle.r4_branch.specs.declared.piece.TwigPart.{TwigPart}
 use Rattle.r4_branch.specs.declared.piece.TwigPart.TheVariants.{Blocks, Pointer}
 use Rattle.r4_branch.specs.declared.piece.TwigPiece.{TwigPiece}
 use Rattle.r4_content.specs.Edited.{Edits, put_keys}
-use Rattle.r4_reach.specs.Needs.{cut_pieces, filled, is_met, with_coming}
+use Rattle.r4_graft.specs.Splices.{place, spliced}
+use Rattle.r4_reach.specs.Needs.{cut_pieces, filled, is_met, taken_up, with_coming}
 use Rattle.r4_reach.specs.Touched.{Body, first_byte, going, turns_out}
 
 -- one of so many blocks, from a key on, gets bytes
@@ -55,6 +56,11 @@ ends_leaf next k (Blocks u) = false
 abbrev pub has_leaf_end : (hi key : ℕ) → List TwigPiece → Bool
 has_leaf_end hi k [] = false
 has_leaf_end hi k (p ∷ ps) = ends_leaf (next_of hi ps) k p.part || has_leaf_end hi k ps
+
+-- the pieces without those that begin from one key on and below another, and with what takes up their range
+abbrev pub without_between : Node Value → (from to : ℕ) → List TwigPiece → List TwigPiece
+without_between c from to ps = spliced (place from ps) (place to ps)
+    (taken_up c (take (place from ps) ps) (take (place to ps - place from ps) (drop (place from ps) ps))) ps
 
 -- ---- all of it
 

@@ -8,6 +8,7 @@ ghost use Rattle.r4_cell.specs.Seen.{node_of};
 ghost use Rattle.r4_content.specs.Held.{edits_of};
 ghost use Rattle.r4_marking.specs.Marks.{AreSmall, ask_seen, heard_seen, most_for};
 ghost use Rattle.r4_reach.specs.Needs.{asking, come_of, growing, meets, moves, twig_asks};
+ghost use Rattle.r4_reach.specs.Touched.{coming};
 ghost use Rattle.r4_extent_demands.specs.Asking.{more_for};
 ghost use Rattle.r4_extent_demands.specs.Spreads.{AreExtentEdits, IsSpread, IsSpreadBody};
 
@@ -93,12 +94,18 @@ fn moves(body: Option<&SpreadBody>, twig: &Cell) -> bool
     ensures { result ≡ moves (come_of (option_copied body.entry)) (node_of twig.now) }
 {
     match body {
-        Some(body) => {
-            let coming = body.coming();
-            is_within(&coming, twig.lo()) || is_within(&coming, twig.hi())
-        }
+        Some(body) => moves_by(body, twig),
         None => false,
     }
+}
+
+// Whether a border of a twig lies within the blocks of a body that come.
+fn moves_by(body: &SpreadBody, twig: &Cell) -> bool
+    requires { IsSpreadBody body.now }
+    ensures { result ≡ moves (coming body.now) (node_of twig.now) }
+{
+    let coming = body.coming();
+    is_within(&coming, twig.lo()) || is_within(&coming, twig.hi())
 }
 
 // Whether a key lies in a range and does not begin it.

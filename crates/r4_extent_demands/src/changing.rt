@@ -82,9 +82,15 @@ fn changes_units(
 {
     let pieces = pieces_of_cell(alloc, twig)?;
     let ranges = extents_of(alloc, twig)?;
-    Ok(comes_into(body, ranges.as_slice())
-        || (goes_some(&body.going(), pieces.as_slice())
-            || refills_some(body, edits, pieces.as_slice())))
+    if comes_into(body, ranges.as_slice()) {
+        return Ok(true);
+    }
+    let pieces = pieces.as_slice();
+    let going = body.going();
+    if goes_some(&going, pieces) {
+        return Ok(true);
+    }
+    Ok(refills_some(body, edits, pieces))
 }
 
 // Whether blocks come, and the first of them into one of these ranges.

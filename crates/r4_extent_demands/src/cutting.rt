@@ -11,7 +11,7 @@ ghost use Rattle.r4_marking.specs.Marks.{heard_seen};
 ghost use Rattle.r4_path.specs.TwigPieces.{ArePiecesOf};
 ghost use Rattle.r4_reach.specs.Needs.{cut_pieces, points_to, taken_up, without_gone};
 ghost use Rattle.r4_reach.specs.Touched.{going};
-ghost use Rattle.r4_extent_demands.specs.Pieces.{HasRoom, ends_leaf, has_leaf_end};
+ghost use Rattle.r4_extent_demands.specs.Pieces.{HasRoom, ends_leaf, has_leaf_end, without_between};
 ghost use Rattle.r4_extent_demands.specs.Spreads.{IsSpreadBody};
 
 use crate::parting::part_each;
@@ -20,6 +20,7 @@ use r4_base::{BLOCK_BYTES, Key, Memory, NodeId, UNPLACED};
 use r4_branch::{TwigPart, TwigPiece};
 use r4_cell::Cell;
 use r4_graft::{place_of, splice};
+use r4_leaf::KeyRange;
 use r4_marking::Heard;
 use std::alloc::Global;
 
@@ -95,13 +96,31 @@ pub(crate) fn cut(
     ensures room { IfOk result (λ v. All HasRoom v.items) }
 {
     let going = body.going();
-    let parts = part_each(alloc, left, &going.from)?;
-    let parts = part_each(alloc, parts.as_slice(), &going.to)?;
-    let from = place_of(parts.as_slice(), &going.from);
-    let to = place_of(parts.as_slice(), &going.to);
-    let middle = taken_up(alloc, twig, all, parts.as_slice(), from, to)?;
-    let pieces = splice(alloc, parts.as_slice(), from, to, middle.as_slice())?;
+    let first = part_each(alloc, left, &going.from)?;
+    let parts = part_each(alloc, first.as_slice(), &going.to)?;
+    let pieces = without_between(alloc, twig, all, parts.as_slice(), &going)?;
     Ok(pieces)
+}
+
+// The pieces without those that begin in a range; what takes up their range comes in their place.
+fn without_between(
+    alloc: Global,
+    twig: &Cell,
+    all: &[TwigPiece],
+    pieces: &[TwigPiece],
+    range: &KeyRange,
+) -> Result<Vec<TwigPiece>, Memory>
+    requires pieces { ArePiecesOf twig.now all.now }
+    requires room { All HasRoom pieces.now }
+    ensures items { IfOk result (λ v. v.items ≡ without_between (node_of twig.now)
+        (rank range.now.from) (rank range.now.to) pieces.now) }
+    ensures room { IfOk result (λ v. All HasRoom v.items) }
+{
+    let from = place_of(pieces, &range.from);
+    let to = place_of(pieces, &range.to);
+    let middle = taken_up(alloc, twig, all, pieces, from, to)?;
+    let left = splice(alloc, pieces, from, to, middle.as_slice())?;
+    Ok(left)
 }
 
 // What comes in the place of the pieces from one place up to another: nothing, or a pointer to a new leaf.

@@ -11,6 +11,8 @@ ghost use Rattle.r4_content.specs.Held.{edits_of};
 ghost use Rattle.r4_leaf_edits.specs.Suiting.{SuitLeaves};
 ghost use Rattle.r4_marking.specs.Marks.{heard_seen};
 ghost use Rattle.r4_reach.specs.Needs.{filled, gets_bytes, is_hole_part, pieces_after, runs, with_coming};
+ghost use Rattle.r4_leaf.specs.Units.{is_between};
+ghost use Rattle.r4_reach.specs.Touched.{coming};
 ghost use Rattle.r4_path.specs.TwigPieces.{ArePiecesOf};
 ghost use Rattle.r4_extent_demands.specs.Pieces.{AreInOrder, HasRoom, remade};
 ghost use Rattle.r4_extent_demands.specs.Spreads.{IsSpread, IsSpreadBody};
@@ -164,17 +166,34 @@ fn with_coming(
     ensures { IfOk result (λ v. v.items
         ≡ with_coming body.now (edits_of edits.now) (node_of twig.now) pieces.now) }
 {
-    let from = body.coming().from;
-    let range = KeyRange {
-        from: twig.lo(),
-        to: twig.hi(),
-    };
-    if !has(&range, from) {
-        return Ok(Vec::from_slice(alloc, pieces)?);
+    if !comes_first(body, twig) {
+        return copied(alloc, pieces);
     }
+    let from = body.coming().from;
     let mut blocks = Vec::new(alloc);
     add_blocks(&mut blocks, body, edits, from, body.blocks_coming())?;
     let at = place_of(pieces, &from);
     let pieces = splice(alloc, pieces, at, at, blocks.as_slice())?;
     Ok(pieces)
+}
+
+// Whether the first key of the blocks that come lies in a twig's range.
+fn comes_first(body: &SpreadBody, twig: &Cell) -> bool
+    requires { IsSpreadBody body.now }
+    ensures { result ≡ is_between (node_of twig.now).lo (node_of twig.now).hi (coming body.now).0 }
+{
+    let range = KeyRange {
+        from: twig.lo(),
+        to: twig.hi(),
+    };
+    has(&range, body.coming().from)
+}
+
+// The same pieces.
+fn copied(alloc: Global, pieces: &[TwigPiece]) -> Result<Vec<TwigPiece>, Memory>
+    ensures { IfOk result (λ v. v.items ≡ pieces.now) }
+{
+    let mut copies = Vec::new(alloc);
+    copies.extend_from_slice(pieces)?;
+    Ok(copies)
 }
