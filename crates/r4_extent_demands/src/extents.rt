@@ -18,6 +18,7 @@ pub(crate) fn extents_of(alloc: Global, twig: &Cell) -> Result<Vec<KeyRange>, Me
     requires { 1 ≤ twig.now.level }
     ensures spans { IfOk result (λ v. map span_of v.items ≡ (node_of twig.now).spans) }
     ensures few { IfOk result (λ v. length v.items ≤ length (items_of twig.now.block)) }
+    ensures short { IfOk result (λ v. length v.items < 65536) }
 {
     let mut ranges = Vec::new(alloc);
     let node = twig.node();

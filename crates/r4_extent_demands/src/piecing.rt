@@ -51,12 +51,14 @@ pub fn pieces_after(
         → IfOk result (λ v. twig_bytes v.items ≤ 12800000) }
 {
     let all = pieces_of_cell(alloc, twig)?;
-    let left = without_gone(alloc, all.as_slice(), heard)?;
+    let pieces = all.as_slice();
+    let left = without_gone(alloc, pieces, heard)?;
     match body {
         None => Ok(left),
         Some(body) => {
-            let pieces = remade(alloc, body, edits, twig, all.as_slice(), left.as_slice())?;
-            Ok(pieces)
+            let rest = left.as_slice();
+            let made = remade(alloc, body, edits, twig, pieces, rest)?;
+            Ok(made)
         }
     }
 }
