@@ -1,5 +1,5 @@
 -- What a twig needs, and asks for.
-use Rattle.std.specs.Prelude.{◌≡◌, ℕ, ◌+◌, ◌-◌, ◌*◌, ◌/◌, ◌≤◌, List, length, Bool, true, false, ◌&&◌, ◌||◌, ◌==◌}
+use Rattle.std.specs.Prelude.{◌≡◌, ℕ, ◌+◌, ◌-◌, ◌*◌, ◌/◌, ◌≤◌, List, length, Bool, true, false, ◌&&◌, ◌||◌, ◌==◌, ◌^◌, map, IfSome}
 use Rattle.std.specs.Prelude.{None, Option, Some, nat_lt, if◌then◌else◌}
 use Rattle.std.proofs.Common.{arith, refl, sym, ap, ◌∙◌}
 use Rattle.r4_base.specs.Key.{rank}
@@ -12,11 +12,17 @@ use Rattle.r4_content.specs.Bodies.{larger}
 use Rattle.r4_content.specs.Edited.{Edits}
 use Rattle.r4_path.specs.Nodes.{weight}
 use Rattle.r4_path.proofs.Rising.{hi_is, lo_is}
-use Rattle.r4_leaf_demands.proofs.Weighed.{block_is}
+use Rattle.r4_leaf_demands.proofs.Weighed.{block_is, little}
 use Rattle.r4_reach.specs.Needs.{Ask, all_more, asking, changes_pieces, come_of, growing, meets, moves, over, pieces_after}
 use Rattle.r4_reach.specs.Needs.{put_among, twig_asks, twig_need}
 use Rattle.r4_reach.specs.Touched.{Body}
+use Rattle.r4_bodies.proofs.Premises.{suits_later}
+use Rattle.r4_leaf_edits.specs.Suiting.{SuitLeaves}
+use Rattle.r4_marking.specs.Marks.{AreSmall, heard_seen, most_for}
+use Rattle.r4_marking.specs.declared.demands.Asking.{Asking}
+use Rattle.r4_marking.specs.declared.demands.Heard.{Heard}
 use Rattle.r4_extent_demands.specs.Asking.{more_for}
+use Rattle.r4_extent_demands.specs.Spreads.{end_of_bytes}
 use Rattle.r4_extent_demands.specs.Changing.{changes_units}
 use Rattle.r4_extent_demands.proofs.Changes.{changes_is}
 
@@ -81,3 +87,21 @@ more_few bytes leaves few less = by_test (nat_lt 4068 bytes)
     by_test : (t : Bool) → (if t then larger (over bytes) leaves else 0) ≤ 32768
     by_test true = larger_few (nat_lt (over bytes) leaves)
     by_test false = omega arith
+
+-- few pointers are asked for below, by few
+pub few_below : (heard : List Heard) (bytes items : ℕ) → bytes ≤ 4068 → 38 * items ≤ bytes → length heard ≤ items
+    → AreSmall (most_for 2) heard
+    → (all_more (map heard_seen heard) ≤ 438272) × (length heard ≤ 107) × (items ≤ 107)
+few_below heard bytes items fits few less small =
+    let m : most_for 2 ≡ 4096 = refl in
+    let all = (little 2 heard (omega arith) (omega (arith, fits, few, less)) small).all in
+    (omega (arith, m, all), omega (arith, fits, few, less), omega (arith, fits, few))
+
+pub some_few : (o : Option Asking) (n most : ℕ) → n ≤ most → IfSome o (λ a. a.more ≡ n) → IfSome o (λ a. a.more ≤ most)
+some_few None n most le is = tt
+some_few (Some a) n most le is = omega (arith, le, is)
+
+-- bytes are put below the greatest size of a file
+pub low_suit : (b : Option Body) (e : Edits) → SuitLeaves (end_of_bytes b) e → SuitLeaves (2 ^ 30) e
+low_suit None e suit = suits_later 16384 (2 ^ 30) e (omega arith) suit
+low_suit (Some b) e suit = suit

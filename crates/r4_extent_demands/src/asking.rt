@@ -1,6 +1,6 @@
 //! What a twig asks for (docs/volume.md, "Reach").
 
-ghost use Rattle.std.specs.Prelude.{◌≡◌, ◌+◌, ◌*◌, ◌^◌, ◌<◌, ◌≤◌, ◌&&◌, ◌||◌, IfOk, IfSome, length, map, nat_lt};
+ghost use Rattle.std.specs.Prelude.{◌≡◌, ◌+◌, ◌*◌, ◌^◌, ◌<◌, ◌≤◌, ◌&&◌, ◌||◌, ◌==◌, IfOk, IfSome, length, map, nat_lt};
 ghost use Rattle.std.specs.Option.{option_copied, option_map};
 ghost use Rattle.r4_base.specs.Key.{rank};
 ghost use Rattle.r4_base.specs.Node.{items_of};
@@ -18,6 +18,7 @@ use crate::putting::put_among;
 use crate::spread_body::SpreadBody;
 use crate::weighing::{POINTER_ROOM, all_more, growing, node_bytes, over, twig_bytes};
 use r4_base::{Key, Memory, NODE_ROOM};
+use r4_branch::TwigPiece;
 use r4_cell::Cell;
 use r4_content::Edits;
 use r4_leaf::KeyRange;
@@ -55,13 +56,18 @@ pub fn twig_asks(
         let need = items + POINTER_ROOM * more;
         return Ok(asking(moves, more_for(need, heard), false));
     }
-    let pieces = pieces_after(alloc, body, edits, twig, heard)?;
-    let need = twig_bytes(pieces.as_slice()) + POINTER_ROOM * (more + put);
-    Ok(asking(
-        moves,
-        more_for(need, heard),
-        comes && pieces.is_empty(),
-    ))
+    let made = pieces_after(alloc, body, edits, twig, heard)?;
+    let pieces = made.as_slice();
+    let gone = is_gone(comes, pieces);
+    let need = twig_bytes(pieces) + POINTER_ROOM * (more + put);
+    Ok(asking(moves, more_for(need, heard), gone))
+}
+
+// Whether a twig goes: blocks come into its range, and it has no pieces.
+fn is_gone(comes: bool, pieces: &[TwigPiece]) -> bool
+    ensures { result ≡ (comes && (length pieces.now == 0)) }
+{
+    comes && pieces.is_empty()
 }
 
 // Whether a twig is packed anew: where values are put among its extents, its units change, or blocks come.

@@ -67,7 +67,7 @@ returns-clause-pieces c =
     let e = edits_of c.args.edits.now in
     let n = node_of c.args.twig.now in
     let hs = map heard_seen c.args.heard.now in
-    c.in_ok-made.ensures.pieces
+    c.in_ok-made-in-Some.ensures.pieces
     ∙ ap (remade c.in-Some.body.now e n) (c.as_slice-rest.ensures.value ∙ c.in_ok-left.ensures
     ∙ ap (without_gone hs) (c.as_slice-pieces.ensures.value ∙ c.in_ok-all.ensures.is
     ∙ ap (λ bytes. pieces_in (items_of bytes)) (sym (block_is c.args.twig.now))))
