@@ -79,17 +79,17 @@ module _ (b : Body) (h : Key) (first : IsFirstKey b h) where
       → k + 4096 ≤ first_byte b + 2 ^ 64 → gets_bytes b e k ≡ true → k < first_byte b + 2 ^ 30
   gets_low e k suit was low high gets = elim
       (or_cases (is_met (put_keys e.puts) k (k + 4096)) (turns_out b && nat_lt k (first_byte b + b.was)) gets) [
-    | inl puts ↦
-        let (j, at, from, to) = met_key (put_keys e.puts) k (k + 4096) puts in
-        let body = of_body j (omega (arith, low, from)) (omega (arith, high, to)) in
-        let byte = bodies_are_bytes e.puts j suit.values body ∙ at in
-        let bytes = all_behind (2 ^ 30) (flat_map zero_pairs e.zeros) (filter (λ p. is_byte p.1) e.puts) suit.bytes in
-        let less : offset_of (key_of_rank j) < 2 ^ 30
-        = before_in (2 ^ 30) (filter (λ p. is_byte p.1) e.puts) j bytes byte in
-        let offset = at_offset j (omega (arith, low, from)) (omega (arith, high, to)) in
-        omega (arith, less, offset, low, from)
-    | inr tails ↦
-        let (turns, lt) = and_parts (turns_out b) (nat_lt k (first_byte b + b.was)) tails in
-        let below = ltb-true k (first_byte b + b.was) lt in
-        omega (arith, below, was)
-  ]
+        | inl puts ↦
+            let (j, at, from, to) = met_key (put_keys e.puts) k (k + 4096) puts in
+            let body = of_body j (omega (arith, low, from)) (omega (arith, high, to)) in
+            let byte = bodies_are_bytes e.puts j suit.values body ∙ at in
+            let bytes = all_behind (2 ^ 30) (flat_map zero_pairs e.zeros) (filter (λ p. is_byte p.1) e.puts) suit.bytes in
+            let less : offset_of (key_of_rank j) < 2 ^ 30
+            = before_in (2 ^ 30) (filter (λ p. is_byte p.1) e.puts) j bytes byte in
+            let offset = at_offset j (omega (arith, low, from)) (omega (arith, high, to)) in
+            omega (arith, less, offset, low, from)
+        | inr tails ↦
+            let (turns, lt) = and_parts (turns_out b) (nat_lt k (first_byte b + b.was)) tails in
+            let below = ltb-true k (first_byte b + b.was) lt in
+            omega (arith, below, was)
+      ]

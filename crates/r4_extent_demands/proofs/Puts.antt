@@ -31,16 +31,19 @@ use Rattle.r4_extent_demands.specs.Spreads.{AreExtentEdits, IsSpread, end_of_byt
 
 -- ---- edits
 
+not_both : (o : Option (ℕ × ℕ)) (r : ℕ × ℕ) → None ≡ o → o ≡ Some r → ⊥
+not_both None r none some = absurd cc
+not_both (Some x) r none some = absurd cc
+
 -- what is told of a body says where its bytes end
 pub told_suits : (b : Option Body) (spread : Option Interval) (e : Edits) → option_map interval_of spread ≡ spread_keys b
     → IsSpread b → SuitLeaves (end_of_bytes b) e → SuitLeaves (bytes_end spread) e
 told_suits None None e told is suit = suit
 told_suits None (Some i) e told is suit = absurd cc
 told_suits (Some b) (Some i) e told is suit = suits_later (2 ^ 30) (2 ^ 64) e (omega arith) suit
-told_suits (Some b) None e told is suit =
-    let none : None ≡ Some (first_byte b, first_byte b + 2 ^ 64)
-    = told ∙ ap (λ (x : Bool). if x then Some (first_byte b, first_byte b + 2 ^ 64) else None) is.spread in
-    absurd cc
+told_suits (Some b) None e told is suit = absurd
+    (not_both (spread_keys (Some b)) (first_byte b, first_byte b + 2 ^ 64) told
+    (ap (λ (x : Bool). if x then Some (first_byte b, first_byte b + 2 ^ 64) else None) is.spread))
 
 -- ---- no units
 
@@ -64,9 +67,6 @@ within_more lo hi end (g ∷ gs) le h = let a = h.1 in (h.0, omega (arith, a, le
 
 module _ (b : Option Body) (e : Edits) (ok : AreExtentEdits b e) (lo hi : ℕ) (cuts : List KeyRange) (gs : List Given)
     (m : MakesEdits lo hi (leaf_edits b e) cuts gs []) where
-
-
-
   few : leaf_bytes (put_into b e lo hi) < 58912
   few = ok.small (record { level = 1; lo = lo; hi = hi; block = []; names = []; spans = []; units = [] }) tt
       (let z = no_leaf_bytes in omega (arith, z))

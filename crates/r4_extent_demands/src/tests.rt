@@ -1,7 +1,7 @@
 //! The pieces of small twigs after edits, compared with lists that were made by hand.
 
 ghost use Rattle.std.specs.Prelude.{◌≡◌, ◌^◌, ◌<◌, ◌≤◌};
-ghost use Rattle.r4_base.specs.Key.{minor_of};
+ghost use Rattle.r4_base.specs.Key.{IsKey, minor_of};
 ghost use Rattle.r4_extent_demands.specs.Spreads.{IsSpreadBody};
 
 use crate::piecing::pieces_after;
@@ -26,7 +26,8 @@ const NEW: u64 = 1 << 63;
 
 // The key of a byte of the file.
 fn byte(offset: u64) -> Key
-    ensures { minor_of result ≡ 4 }
+    ensures minor { minor_of result ≡ 4 }
+    ensures key { IsKey result }
 {
     Key::body(41, 0, Oid(70_000), offset)
 }
@@ -74,7 +75,11 @@ fn set_item(bytes: &mut [u8], header: usize, from: u16, row: &Row) -> u16 {
     if width == 0 {
         return from.saturating_add(8);
     }
-    set(bytes, usize::from(from).saturating_add(8), &width.to_le_bytes());
+    set(
+        bytes,
+        usize::from(from).saturating_add(8),
+        &width.to_le_bytes(),
+    );
     from.saturating_add(16)
 }
 
@@ -106,11 +111,18 @@ fn edits(alloc: Global, at: &[u64], fill: Option<(u64, u64)>) -> Result<Edits, F
     let mut runs = Vec::new(alloc);
     for offset in at {
         let bytes = Bytes::from_vec(alloc, Vec::from_slice(alloc, b"abc")?)?;
-        runs.push(ByteRun { from: byte(*offset), bytes })?;
+        runs.push(ByteRun {
+            from: byte(*offset),
+            bytes,
+        })?;
     }
     let mut fills = Vec::new(alloc);
     if let Some((from, to)) = fill {
-        fills.push(FilledInterval { from: byte(from), to: byte(to), byte: 1 })?;
+        fills.push(FilledInterval {
+            from: byte(from),
+            to: byte(to),
+            byte: 1,
+        })?;
     }
     Ok(Edits {
         cuts: Vec::new(alloc),
@@ -125,8 +137,16 @@ fn edits(alloc: Global, at: &[u64], fill: Option<(u64, u64)>) -> Result<Edits, F
 // A leaf that goes.
 fn gone(id: u64, lo: u64, hi: u64) -> Heard {
     Heard {
-        child: Child { id: NodeId(id), level: 1, lo: byte(lo), hi: byte(hi) },
-        ask: Asking { more: 0, gone: true },
+        child: Child {
+            id: NodeId(id),
+            level: 1,
+            lo: byte(lo),
+            hi: byte(hi),
+        },
+        ask: Asking {
+            more: 0,
+            gone: true,
+        },
     }
 }
 
@@ -164,7 +184,12 @@ fn blocks_come_behind_the_others(rt: HostRuntime) -> Result<(), Fail> {
     let body = in_extents(16_384, 8192, 24_000);
     let edits = edits(alloc, &[16_384], None)?;
     let pieces = pieces_after(alloc, Some(&body), &edits, &twig, &[])?;
-    assert!(rt; are(&pieces, &[(0, 100, 2), (8192, 0, 2), (16_384, NEW, 1), (20_480, 0, 1)]));
+    assert!(rt;
+        are(
+            &pieces,
+            &[(0, 100, 2), (8192, 0, 2), (16_384, NEW, 1), (20_480, 0, 1)]
+        )
+    );
     assert_eq!(rt; twig_bytes(&pieces), 54 + 16 + 16 + 16);
     Ok(())
 }
@@ -183,7 +208,11 @@ fn blocks_go(rt: HostRuntime) -> Result<(), Fail> {
     let pieces = pieces_after(alloc, Some(&none), &edits, &run, &[])?;
     assert!(rt; are(&pieces, &[(0, NEW, 0)]));
     // behind a leaf it goes to that, also where the leaf is no leaf of the body
-    let behind = twig(alloc, &[(0, 30, 0), (8192, 0, 4), (24_576, 200, 4)], 1 << 30)?;
+    let behind = twig(
+        alloc,
+        &[(0, 30, 0), (8192, 0, 4), (24_576, 200, 4)],
+        1 << 30,
+    )?;
     let pieces = pieces_after(alloc, Some(&shorter), &edits, &behind, &[])?;
     assert!(rt; are(&pieces, &[(0, 30, 0)]));
     // where nothing goes there is nothing to take up
@@ -196,7 +225,11 @@ fn blocks_go(rt: HostRuntime) -> Result<(), Fail> {
 #[test]
 fn a_body_turns(rt: HostRuntime) -> Result<(), Fail> {
     let alloc = rt.alloc();
-    let twig = twig(alloc, &[(0, 30, 0), (4000, 31, 0), (100_000, 32, 0)], 1 << 30)?;
+    let twig = twig(
+        alloc,
+        &[(0, 30, 0), (4000, 31, 0), (100_000, 32, 0)],
+        1 << 30,
+    )?;
     let body = in_tails(28_000, 10_000, 30_000);
     let edits = edits(alloc, &[], Some((28_000, 30_000)))?;
     let heard = [gone(30, 0, 4000), gone(31, 4000, 100_000)];

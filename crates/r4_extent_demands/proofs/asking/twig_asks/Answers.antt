@@ -1,11 +1,10 @@
-use Rattle.std.proofs.Common.{◌≡◌, ◌+◌, ◌*◌, ◌≤◌, ap, arith, false, length, map, sym, true, ◌∙◌}
+use Rattle.std.proofs.Common.{◌≡◌, ◌+◌, ◌*◌, ap, arith, false, length, map, sym, true, ◌∙◌}
 use Rattle.std.specs.Option.{option_copied}
 use Rattle.std.specs.Prelude.{Bool, nat_lt, ◌&&◌, ◌||◌, ◌==◌}
 use Rattle.std.proofs.lemmas.Bool.{or_parts}
 use Rattle.r4_base.specs.Key.{rank}
 use Rattle.r4_base.specs.Node.{items_of}
 use Rattle.r4_branch.specs.Pieces.{twig_bytes}
-use Rattle.r4_branch.specs.declared.piece.TwigPiece.{TwigPiece}
 use Rattle.r4_cell.specs.Seen.{node_of}
 use Rattle.r4_content.specs.Held.{edits_of}
 use Rattle.r4_marking.specs.Marks.{heard_seen}

@@ -10,5 +10,5 @@ abbrev pub invariant-loop-i : goal.invariant-loop-i
 invariant-loop-i l = record {
   spans : map span_of l.ranges.items ++ spans_in (rank l.twig.hi) (drop l.i (items_of l.twig.block))
       ≡ spans_in (rank l.twig.hi) (items_of l.twig.block);
-  few : length l.ranges.items ≤ l.i
+  few : length l.ranges.items ≤ l.i;
 }

@@ -1,4 +1,4 @@
-use Rattle.std.proofs.Common.{◌≡◌, ◌*◌, ◌≤◌, List, ap, length, map, subst, sym, ◌∙◌}
+use Rattle.std.proofs.Common.{◌*◌, ◌≤◌, List, ap, length, map, subst, sym, ◌∙◌}
 use Rattle.std.specs.List.{list_any}
 use Rattle.std.specs.Option.{option_copied}
 use Rattle.std.specs.Prelude.{All, not, ◌&&◌}

@@ -8,7 +8,7 @@ abbrev pub invariant-loop-done : goal.invariant-loop-done
 invariant-loop-done l = record {
   within : l.done ≤ l.count;
   items : l.pieces.items ++ runs (gets_bytes l.body (edits_of l.edits)) (rank l.from + 4096 * l.done) (l.count - l.done)
-      ≡ l.fn.pieces.items ++ runs (gets_bytes l.body (edits_of l.edits)) (rank l.from) l.count
+      ≡ l.fn.pieces.items ++ runs (gets_bytes l.body (edits_of l.edits)) (rank l.from) l.count;
 }
 
 abbrev pub decreases-loop-done : goal.decreases-loop-done

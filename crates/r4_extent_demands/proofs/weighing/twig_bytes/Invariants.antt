@@ -9,5 +9,5 @@ abbrev pub invariant-loop-piece : goal.invariant-loop-piece
 invariant-loop-piece l = record {
   bytes : l.bytes ≡ twig_bytes (take l.piece-index l.pieces);
   end : option_map rank l.end ≡ last_end None (take l.piece-index l.pieces);
-  few : l.bytes ≤ 54 * l.piece-index
+  few : l.bytes ≤ 54 * l.piece-index;
 }
