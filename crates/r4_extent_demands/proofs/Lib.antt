@@ -1,0 +1,13 @@
+pub mod Runs
+pub mod Gains
+pub mod Rooms
+pub mod Firsts
+pub mod Low
+pub mod RunBytes
+pub mod Cuts
+pub mod Changes
+pub mod Puts
+pub mod Bounded
+pub mod Asks
+pub mod OfCommands
+pub mod Nothing

@@ -1,0 +1,24 @@
+use Rattle.std.proofs.Common.{◌≡◌, ℕ, false, ap, sym, ◌∙◌}
+use Rattle.std.specs.Prelude.{Bool, if◌then◌else◌}
+use Rattle.r4_base.specs.Key.{rank}
+use Rattle.r4_reach.specs.Touched.{Body, blocks_end, going}
+use Rattle.r4_extent_demands.proofs.spread_body.SpreadBody.going.Goals as goal
+
+-- nothing goes where the body stood in no extents
+none_goes : (b : Body) → b.in_extents ≡ false → going b ≡ (0, 0)
+none_goes b off = ap pair off
+  where
+    pair : Bool → ℕ × ℕ
+    pair t = if t then (blocks_end b b.now, blocks_end b b.was) else (0, 0)
+
+pub returns-then-not-self-clause-from : goal.returns-then-not-self-clause-from
+unfolding rank
+returns-then-not-self-clause-from c =
+    let off = sym (ap (λ (x : Body). x.in_extents) c.self.view_is) ∙ c.if-not-self.true in
+    sym (ap (λ (r : ℕ × ℕ). r.0) (none_goes c.args.self.now off))
+
+pub returns-then-not-self-clause-to : goal.returns-then-not-self-clause-to
+unfolding rank
+returns-then-not-self-clause-to c =
+    let off = sym (ap (λ (x : Body). x.in_extents) c.self.view_is) ∙ c.if-not-self.true in
+    sym (ap (λ (r : ℕ × ℕ). r.1) (none_goes c.args.self.now off))
