@@ -1,5 +1,6 @@
 -- Pieces of twigs, as they are made from key to key (docs/volume.md, "Reach"). A key is its rank.
-use Rattle.std.specs.Prelude.{ℕ, ◌+◌, ◌-◌, ◌*◌, ◌^◌, ◌≤◌, ◌==◌, List, [], ◌∷◌, Bool, false, ◌&&◌, ◌||◌, drop, nat_lt, take, if◌then◌else◌}
+use Rattle.std.specs.Prelude.{ℕ, ◌+◌, ◌-◌, ◌*◌, ◌^◌, ◌≤◌, ◌==◌, List, [], ◌∷◌, Bool, false, ◌&&◌}
+use Rattle.std.specs.Prelude.{◌||◌, drop, nat_lt, take, if◌then◌else◌}
 use Rattle.std.specs.List.{flat_map}
 use Rattle.r4_base.specs.Key.{IsKey, offset_of, rank}
 use Rattle.r4_base.specs.Tree.{Node}
