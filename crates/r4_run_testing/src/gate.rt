@@ -5,6 +5,7 @@ use r4_outside::Gate;
 use std::thread;
 
 /// A gate at which others go first, so many times.
+#[derive(Drop)]
 pub struct Slow {
     pub times: u32,
 }
