@@ -1,6 +1,7 @@
 //! The pieces of small twigs after edits, compared with lists that were made by hand.
 
-ghost use Rattle.std.specs.Prelude.{◌≡◌, ◌^◌, ◌<◌, ◌≤◌};
+ghost use Rattle.std.specs.Arc.{arc_value};
+ghost use Rattle.std.specs.Prelude.{◌≡◌, ◌^◌, ◌<◌, ◌≤◌, IfOk};
 ghost use Rattle.r4_base.specs.Key.{IsKey, minor_of};
 ghost use Rattle.r4_extent_demands.specs.Spreads.{IsSpreadBody};
 
@@ -84,7 +85,9 @@ fn set_item(bytes: &mut [u8], header: usize, from: u16, row: &Row) -> u16 {
 }
 
 // A twig of these items, of the keys from the first one's on and below another byte's.
-fn twig(alloc: Global, rows: &[Row], hi: u64) -> Result<Arc<Cell>, Fail> {
+fn twig(alloc: Global, rows: &[Row], hi: u64) -> Result<Arc<Cell>, Fail>
+    ensures { IfOk result (λ c. (arc_value c).level ≡ 2) }
+{
     let mut block = Block::zeroed(alloc)?;
     let bytes = block.bytes_mut();
     let mut end: u16 = 28;
