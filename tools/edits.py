@@ -9,8 +9,9 @@ among those whose own proof is refused. Of another function a proof reads the co
 edit hides another. A second edit of a function comes in a further check, over what the one before it kept. An edit whose
 function is not refused, or that changes none, is tried alone, as `rt must-fail` tries it: its caller must be refused.
 
-The crates come by their lines, the shortest first. With --until, a time in seconds since 1970, none is begun behind it,
-and those that were not tried are named.
+The crates come by their lines, the shortest first. With --until, a time in seconds since 1970, no check is begun behind
+it, and the crates and edits that were not tried are named. Where it is told to end (SIGTERM), it names what is not over,
+and its status is 1 where an edit was found before that is not refused.
 
 `rt ci` leaves the libraries that this takes in crates/*/out/rlib; so does `rt lib` in a crate's folder.
 """
@@ -22,6 +23,7 @@ import io
 import os
 import re
 import shutil
+import signal
 import sys
 import tempfile
 import time
@@ -114,12 +116,15 @@ def rounds_of(crate, edits):
     return rounds
 
 
-def tried_together(rt, crate, edits):
-    """Those of the edits whose functions are refused, in as few checks as there are edits of one function."""
+def tried_together(rt, crate, edits, late):
+    """Those of the edits whose functions are refused, in as few checks as there are edits of one function; where it is
+    late, no further check is begun."""
     refused = []
     with tempfile.TemporaryDirectory(prefix="r4-edits-") as kept:
         rounds = rounds_of(crate, edits)
         for texts, those in rounds:
+            if late():
+                break
             only = [word for edit in those for at in edit.functions for word in ("--only", at)]
             place = kept if len(rounds) > 1 else None
             ran = rt.checked(crate, texts, ["--jobs", "1", *only], place)
@@ -131,8 +136,8 @@ def tried_together(rt, crate, edits):
     return refused
 
 
-def tried(rt, crate):
-    """What is to be said of each edit of a crate, and whether all are refused."""
+def tried(rt, crate, late):
+    """What is to be said of each edit of a crate, and whether all that were tried are refused."""
     crate.out, said, is_well, edits = io.StringIO(), [], True, []
     folder = f"{crate.folder}/edits"
     for name in sorted(os.listdir(folder)):
@@ -142,10 +147,12 @@ def tried(rt, crate):
             is_well = False
         else:
             edits.append(Edit(crate, f"{folder}/{name}"))
-    refused = tried_together(rt, crate, [it for it in edits if None not in it.functions])
+    refused = tried_together(rt, crate, [it for it in edits if None not in it.functions], late)
     for edit in edits:
         if edit in refused:
             said.append(f"{edit.label}: refused, as it must be, at {', '.join(sorted(edit.functions))}")
+        elif late():
+            said.append(f"{edit.label}: not tried in this time")
         else:
             well, text = rt.must_fail(crate, edit.path, ["--jobs", "1"])
             said.append(f"{text.removeprefix('must-fail ')} (tried alone)")
@@ -154,15 +161,23 @@ def tried(rt, crate):
 
 
 def main(until, names):
+    failed, left, runs = [], [], {}
+
+    def ended(signal_number, frame):
+        over = {name for run, name in runs.items() if run.done()}
+        print(f"edits that must fail: stopped for want of time, in {', '.join(sorted({*runs.values()} - over)) or 'all'}")
+        print(f"NOT REFUSED in {', '.join(sorted(failed))}" if failed else "all that were over are refused", flush=True)
+        os._exit(1 if failed else 0)
+
+    signal.signal(signal.SIGTERM, ended)
     rt = kit()
     rt.rtlib.guarded()
     crates = [it for it in rt.rtlib.crates_below(os.getcwd()) if not names or it.name in names]
     crates = [it for it in crates if os.path.isdir(f"{it.folder}/edits")]
     crates.sort(key=lambda it: it.count(rb"\n"))
     late = lambda: until is not None and time.time() > until
-    failed, left = [], []
     with concurrent.futures.ThreadPoolExecutor(rt.processors()) as lanes:
-        runs = {lanes.submit(lambda it: None if late() else tried(rt, it), it): it.name for it in crates}
+        runs |= {lanes.submit(lambda it: None if late() else tried(rt, it, late), it): it.name for it in crates}
         for run in concurrent.futures.as_completed(runs):
             if run.result() is None:
                 left.append(runs[run])

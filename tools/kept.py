@@ -5,11 +5,13 @@
     tools/kept.py tests [CRATE..]   their tests, proved and run
     tools/kept.py edits [CRATE..]   their edits that must fail (tools/edits.py)
     tools/kept.py check [FLAG..]    from a crate's folder: a check with these flags of rattle's
+    tools/kept.py dear [FLAG..]     from a crate's folder: a check from nothing, and which modules took the longest
+    tools/kept.py times             from the root: a table of the processor minutes of what is kept
 
 A library is made as the gate makes it, and kept in the folder R4_KEPT (/tmp/r4-kept where it is not set) under a sum of
-all files that it stands on: so clones and branches share what is the same, and to go back costs nothing. What the proof
-of a crate printed stands beside its library, in `log`, and that of its tests in `tests.log`: so no clone writes over
-another one's. Only `rt ci` is the gate.
+all files that it stands on: so clones and branches share what is the same, and to go back costs nothing. It prints what
+processor time each took. What the proof of a crate printed stands beside its library, in `log`, and that of its tests in
+`tests.log`: so no clone writes over another one's. Only `rt ci` is the gate.
 """
 import concurrent.futures
 import fcntl
@@ -19,6 +21,7 @@ import importlib.util
 import io
 import os
 import re
+import shutil
 import subprocess
 import sys
 import tempfile
@@ -92,7 +95,10 @@ def refusal(crate, words, tests=False):
     os.makedirs(f"{crate.folder}/out", exist_ok=True)
     log = f"{place(crate)}/{'tests.log' if tests else 'log'}"
     with open(log, "w", encoding="utf-8") as out:
-        status = subprocess.run([*RATTLE, *words], cwd=crate.folder, stdin=subprocess.DEVNULL, stdout=out, stderr=out).returncode
+        made = subprocess.Popen([*RATTLE, *words], cwd=crate.folder, stdin=subprocess.DEVNULL, stdout=out, stderr=out)
+        _, status, used = os.wait4(made.pid, 0)
+        made.returncode = status
+    crate.seconds = used.ru_utime + used.ru_stime
     with open(log, encoding="utf-8", errors="replace") as opened:
         said = opened.read()
     lib, last = RT.rtlib, said.rstrip("\n").split("\n")[-1]
@@ -113,9 +119,10 @@ def once(crate, what, call):
         if os.path.exists(done):
             return True
         why = call()
-        print(f"{crate.name}: {what}: {why or 'well'}", flush=True)
+        print(f"{crate.name}: {what}: {why or 'well'}, {crate.seconds:.0f} processor seconds", flush=True)
         if why is None:
-            open(done, "w", encoding="utf-8").close()
+            with open(done, "w", encoding="utf-8") as note:
+                note.write(f"{crate.seconds:.0f}")
     return why is None
 
 
@@ -176,9 +183,47 @@ def check(flags):
     return subprocess.run([*RATTLE, *words], cwd=here).returncode
 
 
+def dear(flags):
+    """A check of the crate in this folder from nothing, by one job, and the seconds between one module's file and the
+    next: what is dear is mostly the `Lts` of a function that owns what has to be dropped and makes many calls."""
+    shutil.rmtree("out/incremental", ignore_errors=True)
+    status = check(["--jobs", "1", *flags])
+    stats = [(os.stat(f"{at}/{it}"), it) for at, _, files in os.walk("out/incremental") for it in files]
+    made = sorted((stat.st_mtime, stat.st_size, it) for stat, it in stats)
+    gaps = sorted(((new[0] - old[0], *new[1:]) for old, new in zip(made, made[1:])), reverse=True)
+    for seconds, size, it in gaps[:15]:
+        print(f"{seconds:.1f} s, {size // 1024} KiB: {it}")
+    return status
+
+
+def seconds(crate, what):
+    """The processor seconds that something took which is kept, or nothing where it is not."""
+    try:
+        with open(f"{place(crate)}/{what}", encoding="utf-8") as note:
+            return int(note.read())
+    except (OSError, ValueError):
+        return 0
+
+
+def times():
+    """A table of the processor minutes of all that is kept, in the form of docs/gate.md."""
+    found = crates_at(os.getcwd())
+    took = {it.name: (seconds(it, "stamp") + seconds(it, "program"), seconds(it, "tests.ok")) for it in found}
+    print("| crate | proofs | tests |\n|---|---|---|")
+    for name, (proofs, own) in sorted(took.items()):
+        print(f"| `{name}` | {proofs / 60:.1f} | {own / 60:.1f} |" if own else f"| `{name}` | {proofs / 60:.1f} | |")
+    proofs, own = (sum(it[at] for it in took.values()) / 60 for at in (0, 1))
+    print(f"| all | {proofs:.0f} | {own:.0f} |")
+    return 0
+
+
 def main(what, names):
+    if what == "times":
+        return times()
     if what == "check":
         return check(names)
+    if what == "dear":
+        return dear(names)
     if what not in ("prove", "tests", "edits"):
         sys.exit(__doc__)
     found = crates_at(os.getcwd())

@@ -25,6 +25,7 @@ CALLS = {"r4_main"}
 
 # The promises, in reading order: what each says, and the definitions that its clauses cite.
 TOP, OFFLINE, WORDS = "r4_top.Answers", "r4_offline.Answers", "r4_words.Words"
+CHECKS = "r4_offline.Checks"
 DEVICE, REPLAY, MKFS = "r4_outside.Device", "r4_replay.Replay", "r4_mkfs.Mkfs"
 RUN, BEGINS, COMPLETE = "r4_run.Scripts", "r4_run.Naming", "r4_run.Completing"
 PROMISES = [
@@ -46,6 +47,12 @@ PROMISES = [
         "`list`",
         "`Lists` says for each status when it comes and what is printed, and that nothing is written.",
         [(OFFLINE, "Lists"), (REPLAY, "SettlesAlways"), (DEVICE, "IsQuiet"), (DEVICE, "Goes")],
+    ),
+    (
+        "`check`",
+        "`ChecksImage` says for each status when it comes and what is printed, which faults there are, and that nothing"
+        " is written.",
+        [(CHECKS, "ChecksImage"), (REPLAY, "SettlesAlways"), (DEVICE, "IsQuiet"), (DEVICE, "Goes")],
     ),
     (
         "`run`",
@@ -198,7 +205,7 @@ def trust_page():
         "A proof says that the code does what the definitions say. That the definitions say what a reader takes them to"
         " say, no proof tells. This page lists, for each promise of the top call `r4_main` (`r4_top/src/top.rt`), the"
         " definitions on which it rests, so that they can be read and all else can be skipped: "
-        f"{len(read)} definitions, {lines_of(read)} lines with their comments, serve all four commands.",
+        f"{len(read)} definitions, {lines_of(read)} lines with their comments, serve all five commands.",
         "",
         "In each table the promise comes first, and then what it names. Within a file the definitions are best read in"
         " the order in which they stand. tools/pages.py makes this page; it finds the definitions by their names, so"

@@ -1,17 +1,14 @@
 //! Tasks that come back after all of them were given back, or after another task changed their cells,
 //! and without a change.
 
-ghost use Rattle.std.specs.Prelude.{IfOk};
-ghost use Rattle.r4_core_testing.specs.r4_take.Sending.{CanBeBuilt};
-
+use crate::sending::{Running, built, built_of, sent};
 use r4_base::NodeId;
-use r4_build::{Built, Task, build};
+use r4_build::Built;
 use r4_core_testing::{
-    After, Core, Image, Log, ONE, Taken, Told, applied, give_back, next, opened, push_all, recall,
+    After, Image, Log, ONE, Taken, Told, applied, give_back, next, opened, push_all, recall,
     refuse_memory, run, told,
 };
 use r4_matching::Differs;
-use r4_outside::{MemoryDevice, OpenGate, Unnamed};
 use std::alloc::Global;
 use std::test::Fail;
 
@@ -25,42 +22,17 @@ done t2 s1 c2 absent\n\
 ended t2\n\
 finished\n";
 
-// The task that goes out next.
-fn sent(core: &mut Core<MemoryDevice, Unnamed>, alloc: Global) -> Result<Task, Fail>
-    ensures { IfOk result CanBeBuilt }
-{
-    match next(core, alloc)? {
-        Taken::Work(task) => Ok(task),
-        _ => Err(Fail::from("no task goes out")),
-    }
-}
-
-// A task is built.
-fn built_of(alloc: Global, task: Task) -> Result<Built, Fail>
-    requires { CanBeBuilt task }
-{
-    match build(alloc, &OpenGate, task) {
-        Ok(built) => Ok(built),
-        Err(_) => Err(Fail::from("a task is not built")),
-    }
-}
-
 // The task that goes out next is given back with all others, and built.
-fn given_back(
-    core: &mut Core<MemoryDevice, Unnamed>,
-    alloc: Global,
-) -> Result<(Told, Built), Fail> {
+fn given_back(core: &mut Running, alloc: Global) -> Result<(Told, Built), Fail> {
     let task = sent(core, alloc)?;
     let first = told(&task);
     recall(core);
-    match build(alloc, &OpenGate, task) {
-        Ok(built) => Ok((first, built)),
-        Err(_) => Err(Fail::from("a task is not built")),
-    }
+    let built = built_of(alloc, task)?;
+    Ok((first, built))
 }
 
 // What was built of a task comes, and the task is gone.
-fn gone(core: &mut Core<MemoryDevice, Unnamed>, alloc: Global, built: Built) -> Result<Told, Fail> {
+fn gone(core: &mut Running, alloc: Global, built: Built) -> Result<Told, Fail> {
     match applied(core, alloc, built) {
         After::Gone(told) => Ok(told),
         _ => Err(Fail::from("a task that was given back is not gone")),
@@ -68,7 +40,7 @@ fn gone(core: &mut Core<MemoryDevice, Unnamed>, alloc: Global, built: Built) -> 
 }
 
 // What tells the task that goes out next.
-fn told_next(core: &mut Core<MemoryDevice, Unnamed>, alloc: Global) -> Result<Told, Fail> {
+fn told_next(core: &mut Running, alloc: Global) -> Result<Told, Fail> {
     match next(core, alloc)? {
         Taken::Work(task) => Ok(told(&task)),
         _ => Err(Fail::from("no task goes out")),
@@ -76,10 +48,7 @@ fn told_next(core: &mut Core<MemoryDevice, Unnamed>, alloc: Global) -> Result<To
 }
 
 // A task that was given back is gone when it comes; then the same one goes out again.
-fn recalled(
-    core: &mut Core<MemoryDevice, Unnamed>,
-    alloc: Global,
-) -> Result<(Told, Told, Told), Fail> {
+fn recalled(core: &mut Running, alloc: Global) -> Result<(Told, Told, Told), Fail> {
     let (first, built) = given_back(core, alloc)?;
     let gone = gone(core, alloc, built)?;
     let again = told_next(core, alloc)?;
@@ -99,16 +68,21 @@ fn task_that_was_given_back_is_gone(rt: HostRuntime) -> Result<(), Fail> {
 }
 
 // A command comes to the first script, and its task is given back and built.
-fn earlier(core: &mut Core<MemoryDevice, Unnamed>, alloc: Global) -> Result<Built, Fail> {
+fn earlier(core: &mut Running, alloc: Global) -> Result<Built, Fail> {
     push_all(core, alloc, "script\nwrite /a 0 x\n")?;
+    built_too_soon(core, alloc)
+}
+
+// The task that goes out next is given back alone, and built.
+fn built_too_soon(core: &mut Running, alloc: Global) -> Result<Built, Fail> {
     let task = sent(core, alloc)?;
     give_back(core, &task);
     built_of(alloc, task)
 }
 
 // The next task is done.
-fn done(core: &mut Core<MemoryDevice, Unnamed>, alloc: Global) -> Result<(), Fail> {
-    let built = built_of(alloc, sent(core, alloc)?)?;
+fn done(core: &mut Running, alloc: Global) -> Result<(), Fail> {
+    let built = built(core, alloc)?;
     match applied(core, alloc, built) {
         After::Done => Ok(()),
         _ => Err(Fail::from("a task is not done")),
@@ -117,7 +91,7 @@ fn done(core: &mut Core<MemoryDevice, Unnamed>, alloc: Global) -> Result<(), Fai
 
 // A command comes to the second script that changes another file of the leaf, and is done; then the
 // first one goes out again.
-fn change(core: &mut Core<MemoryDevice, Unnamed>, alloc: Global) -> Result<(), Fail> {
+fn change(core: &mut Running, alloc: Global) -> Result<(), Fail> {
     push_all(core, alloc, "script\nscript\nchmod /b 600\n")?;
     done(core, alloc)?;
     let _ = told_next(core, alloc)?;
@@ -125,11 +99,7 @@ fn change(core: &mut Core<MemoryDevice, Unnamed>, alloc: Global) -> Result<(), F
 }
 
 // What was built of a task comes: at which node it has another cell, and how it differs there.
-fn stale(
-    core: &mut Core<MemoryDevice, Unnamed>,
-    alloc: Global,
-    built: Built,
-) -> Result<(NodeId, Differs), Fail> {
+fn stale(core: &mut Running, alloc: Global, built: Built) -> Result<(NodeId, Differs), Fail> {
     match applied(core, alloc, built) {
         After::Stale(node, differs) => Ok((node, differs)),
         _ => Err(Fail::from("a task is not stale")),
@@ -137,20 +107,20 @@ fn stale(
 }
 
 // What was built of a task comes after its leaf changed, and the task went out again.
-fn changed(
-    core: &mut Core<MemoryDevice, Unnamed>,
-    alloc: Global,
-) -> Result<(NodeId, Differs), Fail> {
+fn changed(core: &mut Running, alloc: Global) -> Result<(NodeId, Differs), Fail> {
     let built = earlier(core, alloc)?;
     match change(core, alloc) {
         Ok(()) => stale(core, alloc, built),
-        Err(fault) => Err(fault),
+        Err(fault) => {
+            drop(built);
+            Err(fault)
+        }
     }
 }
 
 // The first script makes two files, and then its next command comes.
 fn made_and_changed(
-    core: &mut Core<MemoryDevice, Unnamed>,
+    core: &mut Running,
     alloc: Global,
     log: &mut Log,
 ) -> Result<(NodeId, Differs), Fail> {
@@ -180,14 +150,16 @@ fn task_with_earlier_cells_is_stale(rt: HostRuntime) -> Result<(), Fail> {
     Ok(())
 }
 
-// A task comes back for which there was no memory, and then all else is done.
-fn starved(
-    core: &mut Core<MemoryDevice, Unnamed>,
-    alloc: Global,
-    log: &mut Log,
-) -> Result<(), Fail> {
+// The task that goes out next comes back, since there was no memory for it.
+fn starve(core: &mut Running, alloc: Global) -> Result<(), Fail> {
     let task = sent(core, alloc)?;
     refuse_memory(core, &task);
+    Ok(())
+}
+
+// A task comes back for which there was no memory, and then all else is done.
+fn starved(core: &mut Running, alloc: Global, log: &mut Log) -> Result<(), Fail> {
+    starve(core, alloc)?;
     run(core, alloc, ONE, log)
 }
 

@@ -3,6 +3,10 @@
 #![tactic(auto)]
 
 #[cfg(test)]
+mod breaking;
+#[cfg(test)]
 mod coming_back;
 #[cfg(test)]
 mod refusing;
+#[cfg(test)]
+mod sending;

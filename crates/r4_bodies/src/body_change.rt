@@ -16,14 +16,15 @@ use r4_base::{Key, TAIL_END};
 use r4_content::{Edits, Interval, Seen};
 use std::marker::Model;
 
-/// A file whose body is changed, as it is where nothing of the body stands in extents before: the first of the body's
-/// keys that changes, and the file's size in bytes before and after, 0 where the file is not there (docs/volume.md,
-/// "Reach").
+/// A file whose body is changed, as it is where nothing of the body stands in extents before (docs/volume.md, "Reach").
 #[derive(Drop)]
 pub struct BodyChange {
-    first: Key,
-    before: u64,
-    after: u64,
+    /// The first of the body's keys that changes.
+    pub first: Key,
+    /// The file's size in bytes before, 0 where the file is not there.
+    pub before: u64,
+    /// The file's size in bytes afterwards, 0 where the file is not there.
+    pub after: u64,
 }
 
 impl Model for BodyChange {

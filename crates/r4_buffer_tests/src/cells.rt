@@ -23,21 +23,42 @@ pub fn key(offset: u64) -> Key {
 
 /// Spells a node: a leaf without items, or one of a higher level with a pointer at this offset.
 pub fn spell_node(block: &mut Block, level: u8, offset: u64, to: u64) {
+    spell_head(block, level);
+    if level > 1 {
+        put64(block.bytes_mut(), 28, to);
+        spell_key(block, offset);
+        spell_item(block);
+    }
+}
+
+// What a node says of itself, and of its free bytes.
+fn spell_head(block: &mut Block, level: u8) {
+    let (count, free, start) = if level > 1 {
+        (1, 4022, 36)
+    } else {
+        (0, 4068, 28)
+    };
     let bytes = block.bytes_mut();
-    let pointer = level > 1;
-    put16(bytes, 2, u16::from(pointer));
-    put16(bytes, 4, if pointer { 4022 } else { 4068 });
-    put16(bytes, 6, if pointer { 36 } else { 28 });
+    put16(bytes, 2, count);
+    put16(bytes, 4, free);
+    put16(bytes, 6, start);
     put32(bytes, 8, 0x5234_4653);
     bytes[26] = level;
-    if pointer {
-        put64(bytes, 28, to);
-        put64(bytes, 4058, 657);
-        put64(bytes, 4074, 42);
-        put64(bytes, 4082, offset);
-        put16(bytes, 4090, 28);
-        put16(bytes, 4094, 3);
-    }
+}
+
+// The key of the pointer, of the root directory.
+fn spell_key(block: &mut Block, offset: u64) {
+    let bytes = block.bytes_mut();
+    put64(bytes, 4058, 657);
+    put64(bytes, 4074, 42);
+    put64(bytes, 4082, offset);
+}
+
+// Where the pointer stands.
+fn spell_item(block: &mut Block) {
+    let bytes = block.bytes_mut();
+    put16(bytes, 4090, 28);
+    put16(bytes, 4094, 3);
 }
 
 /// A cell of a level, for the keys from one offset up to another.
@@ -62,6 +83,23 @@ pub fn use_one(alloc: Global, buffer: &mut Buffer, cell: Arc<Cell>) -> Result<()
     buffer.room(alloc, 1)?;
     buffer.use_all(met);
     Ok(())
+}
+
+/// One more task uses a cell that is made for it.
+pub fn use_made(
+    alloc: Global,
+    buffer: &mut Buffer,
+    id: u64,
+    level: u8,
+    lo: u64,
+    hi: u64,
+) -> Result<(), Fail> {
+    use_one(alloc, buffer, cell(alloc, id, level, lo, hi)?)
+}
+
+/// A leaf is made and comes where none goes.
+pub fn put_leaf(alloc: Global, buffer: &mut Buffer, id: u64, lo: u64, hi: u64) -> Result<(), Fail> {
+    put_one(alloc, buffer, &[], cell(alloc, id, 1, lo, hi)?)
 }
 
 /// A cell is put in place of others.
@@ -99,6 +137,17 @@ pub fn stands(buffer: &Buffer, id: u64) -> (bool, u32, bool) {
         buffer.uses(id),
         buffer.is_dirty(id),
     )
+}
+
+/// Ends the test unless a name stands as is wanted: `stands` says how.
+pub fn stands_as<X: Abort>(
+    rt: &X,
+    buffer: &Buffer,
+    id: u64,
+    wanted: (bool, u32, bool),
+    what: &str,
+) {
+    same(rt, &stands(buffer, id), &wanted, what);
 }
 
 /// Ends the test unless the two are equal. `what` says what they are.

@@ -55,10 +55,15 @@ impl Device for Counting {
 fn write_node(alloc: Global, dev: &mut Counting, at: u64, level: u8, to: u64) -> Result<(), Fail> {
     let mut block = Block::zeroed(alloc)?;
     spell_node(&mut block, level, 0, to);
+    write_block(dev, at, &block)
+}
+
+// Writes a block of the device.
+fn write_block<D: Device>(dev: &mut D, at: u64, block: &Block) -> Result<(), Fail> {
     if at >= dev.blocks()? {
         return Err(Fail::from("there is no such block"));
     }
-    dev.write(BlockNo(at), &block)?;
+    dev.write(BlockNo(at), block)?;
     Ok(())
 }
 
@@ -118,18 +123,21 @@ fn search_all<P: Pool>(
 
 #[test]
 fn each_block_is_read_once(rt: HostRuntime) -> Result<(), Fail> {
-    let alloc = rt.alloc();
-    let mut dev = high_tree(alloc)?;
+    let mut dev = high_tree(rt.alloc())?;
+    let found = found_without_cells(rt.alloc(), &mut dev)?;
+    same(&rt, &found, &Ok(8), "the cells on the way");
+    same(&rt, &dev.reads, &8, "reads");
+    Ok(())
+}
+
+// What a hundred searches find where no cell is in memory.
+fn found_without_cells(alloc: Global, dev: &mut Counting) -> Result<Result<u64, FetchFault>, Fail> {
     if dev.blocks()? != 64 {
         return Err(Fail::from("no device was made"));
     }
     let buffer = Buffer::new(alloc);
-    let mut reading = Keeping::all(alloc, Reading::new(&mut dev, &buffer, ROOT, 64));
-    let found = search_all(alloc, &mut reading, &ROOT, 100);
-    let _ = reading.into_pool().into_device();
-    same(&rt, &found, &Ok(8), "the cells on the way");
-    same(&rt, &dev.reads, &8, "reads");
-    Ok(())
+    let mut reading = Keeping::all(alloc, Reading::new(dev, &buffer, ROOT, 64));
+    Ok(search_all(alloc, &mut reading, &ROOT, 100))
 }
 
 // The leaf's block is a data block that an atom owns.

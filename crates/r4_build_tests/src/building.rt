@@ -1,6 +1,7 @@
 //! What is built on a fresh volume, and on it with a change in place: the reply, the cells and the task.
 
-ghost use Rattle.std.specs.Prelude.{◌≡◌};
+ghost use Rattle.std.specs.Prelude.{◌≡◌, IfOk};
+ghost use Rattle.r4_build_testing.specs.Small.{IsSmall};
 
 use r4_base::{Attr, Key, ScriptNo, TAIL, Target, TaskId, get16};
 use r4_build::{Built, ObjectCounts, Task};
@@ -8,7 +9,7 @@ use r4_build_testing::{
     ENTRY, FILE, FILE_STAT, NEW_FILE, ROOT, build_creation, build_refused, build_times,
     build_writing, fresh_cells, with_change,
 };
-use r4_cell::{Cell, Cells, Fresh, least};
+use r4_cell::{Cell, Cells, Change, Fresh, least};
 use r4_content::Reply;
 use r4_outside::Gate;
 use r4_units::{attr_in, target_in};
@@ -125,22 +126,41 @@ fn spelled(reply: &Reply) -> &'static str {
     }
 }
 
-// Ends the test unless just this is built.
-fn expect<X: Abort>(rt: &X, built: &Built, wanted: &Wanted) {
-    let change = built.change();
+// Ends the test unless just this is built, which is dropped here and nowhere else.
+fn expect<X: Abort>(rt: &X, built: Built, wanted: &Wanted) {
+    expect_reply(rt, &built, wanted);
+    expect_cells(rt, built.change(), wanted);
+}
+
+// Ends the test unless these are the reply, the objects and the numbers of cells.
+fn expect_reply<X: Abort>(rt: &X, built: &Built, wanted: &Wanted) {
     assert_eq!(rt; spelled(built.reply()), wanted.reply);
     assert_eq!(rt; built.objects(), wanted.objects);
     assert_eq!(rt; outcome(built), Some(wanted.rows));
+}
+
+// Ends the test unless the old cells and the new ones have this of the file.
+fn expect_cells<X: Abort>(rt: &X, change: &Change, wanted: &Wanted) {
     assert_eq!(rt; file_in(&change.old), wanted.old);
     assert_eq!(rt; file_in(&change.new), wanted.new);
+}
+
+// Ends the test unless this is built, with the bytes that were written.
+fn expect_hello<X: Abort>(rt: &X, built: Built, wanted: &Wanted) {
+    assert!(rt; has_bytes(&built.change().new, b"hello"));
+    expect(rt, built, wanted);
+}
+
+// What is built of the file's creation on a fresh volume.
+fn created(alloc: Global, gate: &Counter) -> Result<Built, Fail> {
+    let cells = fresh_cells(alloc)?;
+    build_creation(alloc, gate, cells)
 }
 
 // A file comes: the leaf alone is new, and has it.
 #[test]
 fn a_file_is_created(rt: HostRuntime) -> Result<(), Fail> {
-    let alloc = rt.alloc();
     let gate = Counter::new();
-    let built = build_creation(alloc, &gate, fresh_cells(alloc)?)?;
     let wanted = Wanted {
         reply: "ok",
         objects: ObjectCounts { born: 1, gone: 0 },
@@ -148,17 +168,21 @@ fn a_file_is_created(rt: HostRuntime) -> Result<(), Fail> {
         old: Some((Some(ROOT), None, None)),
         new: Some((Some(ROOT_WITH_FILE), Some(FILE), Some(NEW_FILE))),
     };
-    expect(&rt, &built, &wanted);
+    expect(&rt, created(rt.alloc(), &gate)?, &wanted);
     assert_eq!(rt; gate.count(), (1, 3005));
     Ok(())
+}
+
+// What is built where the root's times are set on a fresh volume.
+fn timed(alloc: Global, gate: &Counter) -> Result<Built, Fail> {
+    let cells = fresh_cells(alloc)?;
+    build_times(alloc, gate, cells)
 }
 
 // The root's times are set in its leaf.
 #[test]
 fn times_are_set(rt: HostRuntime) -> Result<(), Fail> {
-    let alloc = rt.alloc();
     let gate = Counter::new();
-    let built = build_times(alloc, &gate, fresh_cells(alloc)?)?;
     let root = Attr {
         atime: 11,
         mtime: 12,
@@ -172,17 +196,21 @@ fn times_are_set(rt: HostRuntime) -> Result<(), Fail> {
         old: Some((Some(ROOT), None, None)),
         new: Some((Some(root), None, None)),
     };
-    expect(&rt, &built, &wanted);
+    expect(&rt, timed(rt.alloc(), &gate)?, &wanted);
     assert_eq!(rt; gate.count(), (1, 3005));
     Ok(())
+}
+
+// What is built of a command that is refused on a fresh volume.
+fn refused(alloc: Global, gate: &Counter) -> Result<Built, Fail> {
+    let cells = fresh_cells(alloc)?;
+    build_refused(alloc, gate, cells)
 }
 
 // A command that is refused changes no cell.
 #[test]
 fn a_command_is_refused(rt: HostRuntime) -> Result<(), Fail> {
-    let alloc = rt.alloc();
     let gate = Counter::new();
-    let built = build_refused(alloc, &gate, fresh_cells(alloc)?)?;
     let wanted = Wanted {
         reply: "absent",
         objects: ObjectCounts { born: 0, gone: 0 },
@@ -190,17 +218,29 @@ fn a_command_is_refused(rt: HostRuntime) -> Result<(), Fail> {
         old: None,
         new: None,
     };
-    expect(&rt, &built, &wanted);
+    expect(&rt, refused(rt.alloc(), &gate)?, &wanted);
     assert_eq!(rt; gate.count(), (1, 3005));
     Ok(())
 }
 
+// The cells of a fresh volume, with a change in place.
+fn cells_with(alloc: Global, change: &Change) -> Result<Cells, Fail>
+    ensures { IfOk result IsSmall }
+{
+    let cells = fresh_cells(alloc)?;
+    with_change(alloc, &cells, change)
+}
+
+// What is built of the bytes, where this change was made before.
+fn written_behind(alloc: Global, gate: &Counter, change: &Change) -> Result<Built, Fail> {
+    let cells = cells_with(alloc, change)?;
+    build_writing(alloc, gate, cells)
+}
+
 // What is built of the bytes, where the file was created before.
 fn written(alloc: Global, gate: &Counter) -> Result<Built, Fail> {
-    let cells = fresh_cells(alloc)?;
-    let created = build_creation(alloc, gate, fresh_cells(alloc)?)?;
-    let cells = with_change(alloc, &cells, created.change())?;
-    build_writing(alloc, gate, cells)
+    let before = created(alloc, gate)?;
+    written_behind(alloc, gate, before.change())
 }
 
 // Whether the one leaf has four items, of which the last is the file's bytes.
@@ -225,9 +265,7 @@ fn ends_with(leaf: &Cell, bytes: &[u8]) -> bool
 // Bytes come into the file that the change before created: the leaf is new once more.
 #[test]
 fn bytes_are_written_into_a_new_file(rt: HostRuntime) -> Result<(), Fail> {
-    let alloc = rt.alloc();
     let gate = Counter::new();
-    let built = written(alloc, &gate)?;
     let file = Attr {
         size: 5,
         bytes: 5,
@@ -240,8 +278,7 @@ fn bytes_are_written_into_a_new_file(rt: HostRuntime) -> Result<(), Fail> {
         old: Some((Some(ROOT_WITH_FILE), Some(FILE), Some(NEW_FILE))),
         new: Some((Some(ROOT_WITH_FILE), Some(FILE), Some(file))),
     };
-    expect(&rt, &built, &wanted);
-    assert!(rt; has_bytes(&built.change().new, b"hello"));
+    expect_hello(&rt, written(rt.alloc(), &gate)?, &wanted);
     assert_eq!(rt; gate.count(), (2, 6010));
     Ok(())
 }

@@ -1,6 +1,6 @@
 //! What is built of a command in a tree on a device.
 
-ghost use Rattle.std.specs.Prelude.{All, IfOk, IsTrue, Option, map};
+ghost use Rattle.std.specs.Prelude.{◌<◌, ◌≤◌, All, IfOk, IsSome, IsTrue, Option, length, map};
 ghost use Rattle.std.specs.Arc.{arc_value};
 ghost use Rattle.r4_content.specs.Fields.{HasBytePaths};
 ghost use Rattle.r4_reaching.specs.Answers.{IsReach};
@@ -120,13 +120,30 @@ fn ready_task(alloc: Global, root: Root, command: Command, reach: Reach) -> Resu
 fn is_ready(alloc: Global, root: &Root, reach: &Reach) -> Result<bool, Memory>
     ensures { IfOk result (λ b. IsTrue b → IsReady root.now reach.now) }
 {
-    if root.id.0 < 22 || root.id.0 >= BLOCKS || root.height > 8 {
-        return Ok(false);
-    }
-    if (reach.root.is_some() && root.height == 8) || reach.writes.as_slice().len() > 64 {
+    if !is_on_device(root) || !may_rise(root, reach) {
         return Ok(false);
     }
     are_blocks(alloc, reach.met.as_slice())
+}
+
+// Whether the root is the device's, and has a height that a tree may have.
+fn is_on_device(root: &Root) -> bool
+    ensures from { IsTrue result → 22 ≤ root.now.id.0 }
+    ensures below { IsTrue result → root.now.id.0 < 64 }
+    ensures height { IsTrue result → root.now.height ≤ 8 }
+{
+    22 <= root.id.0 && root.id.0 < BLOCKS && root.height <= 8
+}
+
+// Whether the root may rise where it has to, and few cells are written.
+fn may_rise(root: &Root, reach: &Reach) -> bool
+    ensures low { IsTrue result → IsSome reach.now.root → root.now.height < 8 }
+    ensures few { IsTrue result → length reach.now.writes ≤ 64 }
+{
+    if reach.root.is_some() && root.height >= 8 {
+        return false;
+    }
+    reach.writes.as_slice().len() <= 64
 }
 
 // Whether cells are the device's.

@@ -29,10 +29,18 @@ fn printed(alloc: Global, volume: &mut Volume, path: &[u8]) -> Result<Vec<u8>, F
     requires { 1 ≤ length path.now }
 {
     let mut out = MemorySink::new(alloc, 100)?;
-    if list(alloc, &mut volume.dev, path, &mut out).is_err() {
-        return Err(Fail::from("the volume is not listed"));
-    }
+    print(alloc, volume, path, &mut out)?;
     Ok(out.written().to_vec(alloc)?)
+}
+
+// Prints a path.
+fn print(alloc: Global, volume: &mut Volume, path: &[u8], out: &mut MemorySink) -> Result<(), Fail>
+    requires { 1 ≤ length path.now }
+{
+    match list(alloc, &mut volume.dev, path, out) {
+        Ok(_) => Ok(()),
+        Err(_) => Err(Fail::from("the volume is not listed")),
+    }
 }
 
 // A line, and for a file its bytes.

@@ -70,12 +70,19 @@ fn pointer_at(block: &Block, from_end: usize) -> Option<usize>
     ensures { IfSome result (λ at. at + 8 ≤ 4096) }
 {
     let header = 4096usize.checked_sub(from_end)?;
-    if header + HEADER > 4096 || get16(block.bytes(), header + 36) != POINTER {
+    if header + HEADER > 4096 || number_at(block, header + 36) != POINTER {
         return None;
     }
-    let at = usize::from(get16(block.bytes(), header + 32));
+    let at = usize::from(number_at(block, header + 32));
     if at + 8 > 4096 {
         return None;
     }
     Some(at)
+}
+
+// The number of two bytes at a place.
+fn number_at(block: &Block, at: usize) -> u16
+    requires { at + 2 ≤ 4096 }
+{
+    get16(block.bytes(), at)
 }

@@ -26,14 +26,14 @@ use Rattle.r4_list.specs.declared.fault.ListFault.{ListFault}
 use Rattle.r4_list.specs.declared.fault.ListFault.TheVariants.{Device as NoDevice}
 use Rattle.r4_list.proofs.Listings.{image_refused, log_answer, open_answer}
 use Rattle.r4_list.proofs.Stages.{prints_same}
-use Rattle.r4_check.specs.Faults.{fault_lines}
+use Rattle.r4_check_objects.specs.Faults.{fault_lines}
 use Rattle.r4_check.specs.Looking.{IsStopCause, IsTally, Steps}
-use Rattle.r4_check.specs.Tree.{ChecksTree, IsNoNode, PrintsWalk, fault_of_stop}
-use Rattle.r4_check.specs.Walk.{Walk, nothing_met, walk_of}
+use Rattle.r4_check.specs.Tree.{Checks, IsNoNode, PrintsWalk, fault_of_stop}
+use Rattle.r4_check.specs.Walk.{Walk, nothing_met, check_of}
 use Rattle.r4_check.specs.declared.stop.Stop.{Stop}
 use Rattle.r4_check.specs.declared.stop.Stop.TheVariants.{Device, Sink, Memory}
 use Rattle.r4_check.specs.declared.tally.Tally.{Tally}
-use Rattle.r4_check.specs.declared.tree.TreeVerdict.{TreeVerdict}
+use Rattle.r4_check.specs.declared.tree.Verdict.{Verdict}
 
 -- ---- a walk from nothing
 
@@ -41,18 +41,18 @@ at_first : (before : List ℕ) (k : SinkState) → k.written ≡ Some before →
 at_first before k is = is ∙ ap (λ (l : List ℕ). Some l) (sym (append-nil before))
 
 module _ {S : Type 0} (blocks : ℕ) (w : Walk) (k l : SinkState) (t u : Tally) (step : Walk → Walk) (is : step nothing_met ≡ w) (none : IsTally blocks nothing_met t) where
-  pub walk_printed : (x : S) (v : TreeVerdict) → Steps blocks k t (Ok x) l u step → v.objects ≡ u.objects → v.faults ≡ u.faults → v.whole ≡ u.whole → PrintsWalk {E = Stop} w k (Ok v) l
-  walk_printed x v steps objects faults whole =
+  pub walk_printed : (x : S) (v : Verdict) → Steps blocks k t (Ok x) l u step → v.objects ≡ u.gathered.objects → v.faults ≡ u.faults → PrintsWalk {E = Stop} w k (Ok v) l
+  walk_printed x v steps objects faults =
       let tally = subst (λ (z : Walk). IsTally blocks z u) is (steps.tally nothing_met none) in
       record {
-        verdict = record { objects = objects ∙ tally.objects; faults = faults ∙ tally.faults; whole = whole ∙ tally.whole };
+        verdict = record { objects = objects ∙ tally.gathered.objects; faults = faults ∙ tally.faults };
         text = record {
           whole = λ before at. steps.whole nothing_met before none (at_first before k at) ∙ ap (λ (z : Walk). Some (before ++ fault_lines z.faults)) is;
           part = λ before at. tt;
         };
       }
 
-  pub walk_stopped : (e : Stop) (r : Result TreeVerdict Stop) → IsErrAnd r (λ y. y ≡ e) → Steps {T = S} blocks k t (Err e) l u step → PrintsWalk w k r l
+  pub walk_stopped : (e : Stop) (r : Result Verdict Stop) → IsErrAnd r (λ y. y ≡ e) → Steps {T = S} blocks k t (Err e) l u step → PrintsWalk w k r l
   walk_stopped e (Ok v) never steps = absurd never
   walk_stopped e (Err y) same steps = record {
     verdict = tt;
@@ -66,11 +66,11 @@ pub tally_of : (a b : ℕ) (t : Tally) → a ≡ b → IsTally a nothing_met t �
 tally_of a b t is h = subst (λ (n : ℕ). IsTally n nothing_met t) is h
 
 -- the same superblock
-pub same_walk : {E : Type 0} (s s' : Super40) (image : Image) (k l : SinkState) (r : Result TreeVerdict E) → s ≡ s' → PrintsWalk (walk_of s' image) k r l → PrintsWalk (walk_of s image) k r l
-same_walk {E} s s' image k l r is p = subst (λ (x : Super40). PrintsWalk {E = E} (walk_of x image) k r l) (sym is) p
+pub same_walk : {E : Type 0} (s s' : Super40) (image : Image) (k l : SinkState) (r : Result Verdict E) → s ≡ s' → PrintsWalk (check_of s' image) k r l → PrintsWalk (check_of s image) k r l
+same_walk {E} s s' image k l r is p = subst (λ (x : Super40). PrintsWalk {E = E} (check_of x image) k r l) (sym is) p
 
 -- the same verdict, or another error
-pub prints_ok : (w : Walk) (k l : SinkState) (v : TreeVerdict) → PrintsWalk {E = Stop} w k (Ok v) l → PrintsWalk {E = ListFault} w k (Ok v) l
+pub prints_ok : (w : Walk) (k l : SinkState) (v : Verdict) → PrintsWalk {E = Stop} w k (Ok v) l → PrintsWalk {E = ListFault} w k (Ok v) l
 prints_ok w k l v p = record { verdict = p.verdict; text = record { whole = p.text.whole; part = λ before at. tt } }
 
 pub prints_err : (w : Walk) (k l : SinkState) (e : Stop) (x : ListFault) → PrintsWalk {E = Stop} w k (Err e) l → PrintsWalk {E = ListFault} w k (Err x) l
@@ -97,18 +97,18 @@ unrefused_log first now (DeviceFailed clock faults) image f told settles = tt
 unrefused_log first now (BadSize blocks) image f told settles = tt
 unrefused_log first now NoRoomForLog image f told settles = tt
 
-pub log_checks : (first now : State) (k : SinkState) (e : ReplayFault) (x : ListFault) → x ≡ log_fault_of e → Faulted first e now → ChecksTree first k (Err x) now k
+pub log_checks : (first now : State) (k : SinkState) (e : ReplayFault) (x : ListFault) → x ≡ log_fault_of e → Faulted first e now → Checks first k (Err x) now k
 log_checks first now k e x is f = record {
   printed = prints_same k;
-  tree = λ image s told settles layout. (nothing_printed (walk_of s image) k x, subst IsUnrefused (sym is) (unrefused_log first now e image f told settles));
+  tree = λ image s told settles layout. (nothing_printed (check_of s image) k x, subst IsUnrefused (sym is) (unrefused_log first now e image f told settles));
   ok = tt;
   err = (subst (λ (y : ListFault). IsListFault first k y now k) (sym is) (log_answer first now k e f), subst IsNoNode (sym is) (no_node_log e));
 }
 
-pub device_checks : (first now : State) (k : SinkState) (x : ListFault) → x ≡ NoDevice now.clock now.faults → IsListFault first k (NoDevice now.clock now.faults) now k → ChecksTree first k (Err x) now k
+pub device_checks : (first now : State) (k : SinkState) (x : ListFault) → x ≡ NoDevice now.clock now.faults → IsListFault first k (NoDevice now.clock now.faults) now k → Checks first k (Err x) now k
 device_checks first now k x is f = record {
   printed = prints_same k;
-  tree = λ image s told settles layout. (nothing_printed (walk_of s image) k x, subst IsUnrefused (sym is) tt);
+  tree = λ image s told settles layout. (nothing_printed (check_of s image) k x, subst IsUnrefused (sym is) tt);
   ok = tt;
   err = (subst (λ (y : ListFault). IsListFault first k y now k) (sym is) f, subst IsNoNode (sym is) tt);
 }
@@ -133,10 +133,10 @@ module _ (first d : State) (log : Log) (goes : DeviceGoes first d) (seen : d.see
       absurd (no_misfit b.0 f (sym (image_refused first d log goes seen lawful tells b f now opens told image settles) ∙ layout_fits first.blocks image s layout))
   unrefused_open now NoBuffer image s opens told settles layout = tt
 
-  pub open_checks : (now : State) (k : SinkState) (e : Unopened) (x : ListFault) → x ≡ open_fault_of e now.clock now.faults → Opens d (home_in log.homes) (Err e) now → ChecksTree first k (Err x) now k
+  pub open_checks : (now : State) (k : SinkState) (e : Unopened) (x : ListFault) → x ≡ open_fault_of e now.clock now.faults → Opens d (home_in log.homes) (Err e) now → Checks first k (Err x) now k
   open_checks now k e x is opens = record {
     printed = prints_same k;
-    tree = λ image s told settles layout. (nothing_printed (walk_of s image) k x, subst IsUnrefused (sym is) (unrefused_open now e image s opens told settles layout));
+    tree = λ image s told settles layout. (nothing_printed (check_of s image) k x, subst IsUnrefused (sym is) (unrefused_open now e image s opens told settles layout));
     ok = tt;
     err = (subst (λ (y : ListFault). IsListFault first k y now k) (sym is) (open_answer first d log goes seen lawful tells now k e opens), subst IsNoNode (sym is) (no_node_open e now.clock now.faults));
   }
@@ -159,19 +159,19 @@ stop_answer first at now k l Sink low is c = (is, c, refl)
 stop_answer first at now k l Memory low is c = is.lawful
 
 pub stop_checks : (first at now : State) (k l : SinkState) (e : Stop) (x : ListFault) → x ≡ fault_of_stop e now.clock now.faults l.faults → first.faults ≤ at.faults → IsOpened first → Prints k l → IsStopCause at k e now l
-    → ((image : Image) (s : Super40) → TellsReads first → Settles first.blocks first.seen image → HasLayout first.blocks image s → PrintsWalk {E = Stop} (walk_of s image) k (Err e) l) → ChecksTree first k (Err x) now l
+    → ((image : Image) (s : Super40) → TellsReads first → Settles first.blocks first.seen image → HasLayout first.blocks image s → PrintsWalk {E = Stop} (check_of s image) k (Err e) l) → Checks first k (Err x) now l
 stop_checks first at now k l e x is low opened prints cause walks = record {
   printed = prints;
-  tree = λ image s told settles layout. (prints_err (walk_of s image) k l e x (walks image s told settles layout), subst IsUnrefused (sym is) (unrefused_stop e now.clock now.faults l.faults));
+  tree = λ image s told settles layout. (prints_err (check_of s image) k l e x (walks image s told settles layout), subst IsUnrefused (sym is) (unrefused_stop e now.clock now.faults l.faults));
   ok = tt;
   err = (subst (λ (y : ListFault). IsListFault first k y now l) (sym is) (stop_answer first at now k l e low opened cause), subst IsNoNode (sym is) (no_node_stop e now.clock now.faults l.faults));
 }
 
-pub walk_checks : (first now : State) (k l : SinkState) (v : TreeVerdict) → IsOpened first → Prints k l
-    → ((image : Image) (s : Super40) → TellsReads first → Settles first.blocks first.seen image → HasLayout first.blocks image s → PrintsWalk {E = Stop} (walk_of s image) k (Ok v) l) → ChecksTree first k (Ok v) now l
+pub walk_checks : (first now : State) (k l : SinkState) (v : Verdict) → IsOpened first → Prints k l
+    → ((image : Image) (s : Super40) → TellsReads first → Settles first.blocks first.seen image → HasLayout first.blocks image s → PrintsWalk {E = Stop} (check_of s image) k (Ok v) l) → Checks first k (Ok v) now l
 walk_checks first now k l v opened prints walks = record {
   printed = prints;
-  tree = λ image s told settles layout. (prints_ok (walk_of s image) k l v (walks image s told settles layout), tt);
+  tree = λ image s told settles layout. (prints_ok (check_of s image) k l v (walks image s told settles layout), tt);
   ok = opened;
   err = tt;
 }

@@ -11,11 +11,11 @@ use Rattle.r4_base.specs.Image.{AreDifferent, Image, block_at}
 use Rattle.r4_base.specs.Tree.{Name, Node}
 use Rattle.r4_base.specs.Value.{Value}
 use Rattle.r4_base.specs.declared.items.CellFault.{CellFault}
-use Rattle.r4_check.specs.Faults.{fault_at}
+use Rattle.r4_check_objects.specs.Faults.{fault_at}
 use Rattle.r4_check.specs.Rows.{IsAccepted, IsFirstNamed, IsSmall}
 use Rattle.r4_check.specs.Walk.{Walk, cell_at, faults_at, is_among, is_reached, look, meet, met_again, names_below, nothing_met, refusal_at, with_cell, with_fault, with_gap, with_reached, wrong_with}
-use Rattle.r4_check.specs.declared.fault.Fault.{Fault}
-use Rattle.r4_check.specs.declared.fault.What.TheVariants.{Cell, Twice, Unmarked}
+use Rattle.r4_check_objects.specs.declared.fault.Fault.{Fault}
+use Rattle.r4_check_objects.specs.declared.fault.What.TheVariants.{Cell, Twice, Unmarked}
 use Rattle.r4_check.proofs.Walks.{look_none}
 use Rattle.r4_check.proofs.Meets.{below_accepted, below_again, below_refused, meet_accepted, meet_again, meet_refused}
 

@@ -11,3 +11,4 @@ pub mod Placed
 pub mod Closed
 pub mod Nodes
 pub mod Parents
+pub mod Judged

@@ -1,7 +1,8 @@
 -- What becomes of a walk at one name: its block was reached before, or it is accepted, or refused.
-use Rattle.std.proofs.Common.{◌≡◌, ℕ, zero, suc, ◌+◌, ◌/◌, ◌%◌, ◌<◌, Bool, true, false, List, [], refl, sym, ap, subst, ◌∙◌, arith}
+use Rattle.std.proofs.Common.{◌≡◌, ℕ, zero, suc, ◌+◌, ◌/◌, ◌%◌, ◌<◌, Bool, true, false, List, [], ◌++◌, refl, sym, ap, subst, ◌∙◌, arith}
 use Rattle.std.specs.Prelude.{Option, Some, None, Result, not, if◌then◌else◌}
-use Rattle.std.specs.Option.{is_none}
+use Rattle.std.specs.Option.{is_none, option_or}
+use Rattle.std.proofs.lemmas.List.{append-nil}
 use Rattle.r4_base.specs.Bitmap.{is_marked, is_used}
 use Rattle.r4_base.specs.Cell.{cell_fault, cell_of}
 use Rattle.r4_base.specs.Image.{Image}
@@ -17,9 +18,12 @@ use Rattle.std.specs.Prelude.{IfSome}
 use Rattle.r4_check.specs.declared.reading.Named.{Named}
 use Rattle.r4_check.specs.declared.reading.Met.{Met}
 use Rattle.r4_check.specs.declared.reading.Met.TheVariants.{Cell, Refused}
-use Rattle.r4_check.specs.Looking.{IsAccepted, IsReadAs, IsTally, Steps, counted}
-use Rattle.r4_check.specs.Walk.{Walk, cell_at, is_reached, meet, met_again, met_first, names_below, refusal_at, stats_in, with_cell, with_fault, with_gap, with_reached, wrong_with}
-use Rattle.r4_check.specs.declared.fault.What.{What}
+use Rattle.r4_check.specs.Looking.{Gathers, IsAccepted, IsReadAs, IsTally, Steps}
+use Rattle.r4_check_objects.specs.Held.{counted, held_in}
+use Rattle.r4_check_objects.specs.declared.held.Held.{Held}
+use Rattle.r4_check.specs.declared.tally.Gathered.{Gathered}
+use Rattle.r4_check.specs.Walk.{Walk, cell_at, is_reached, leaf_at, meet, met_again, met_first, names_below, refusal_at, stats_in, with_cell, with_fault, with_gap, with_reached, wrong_with}
+use Rattle.r4_check_objects.specs.declared.fault.What.{What}
 use Rattle.r4_check.specs.declared.stop.Stop.{Stop}
 use Rattle.r4_check.specs.declared.tally.Tally.{Tally}
 use Rattle.r4_check.proofs.BlockSets.{within}
@@ -45,13 +49,35 @@ unfolding cell_fault
 data_sound blocks zero lo hi b is = refl
 data_sound blocks (suc l) lo hi b is = absurd (omega (arith, is))
 
-pub data_stats : (level lo hi : ℕ) (b : List ℕ) → level ≡ 0 → stats_in (cell_of level lo hi b) ≡ 0
+data_stats : (level lo hi : ℕ) (b : List ℕ) → level ≡ 0 → stats_in (cell_of level lo hi b) ≡ 0
 unfolding cell_of
 data_stats zero lo hi b is = no_bytes lo b
 data_stats (suc l) lo hi b is = absurd (omega (arith, is))
 
-pub none_more : (o m : ℕ) → o ≡ counted m → o ≡ counted (m + 0)
-none_more o m is = omega (arith, is)
+none_more : (o m s : ℕ) → s ≡ 0 → o ≡ counted m → o ≡ counted (m + s)
+none_more o m s none is = omega (arith, none, is)
+
+no_node_held : (b level lo hi : ℕ) (block : List ℕ) → level ≡ 0 → held_in b (cell_of level lo hi block) ≡ []
+unfolding cell_of
+no_node_held b zero lo hi block is = refl
+no_node_held b (suc l) lo hi block is = absurd (omega (arith, is))
+
+no_leaf : (b level lo hi : ℕ) (block : List ℕ) → level ≡ 0 → leaf_at b (cell_of level lo hi block) ≡ None
+unfolding cell_of
+no_leaf b zero lo hi block is = refl
+no_leaf b (suc l) lo hi block is = absurd (omega (arith, is))
+
+or_none : (o : Option ℕ) → o ≡ option_or o None
+or_none None = refl
+or_none (Some x) = refl
+
+-- a data block has nothing to gather
+pub data_gathers : (b level lo hi : ℕ) (block : List ℕ) (g : Gathered) → level ≡ 0 → Gathers b (cell_of level lo hi block) g g
+data_gathers b level lo hi block g is = record {
+  objects = λ n at. none_more g.objects n (stats_in (cell_of level lo hi block)) (data_stats level lo hi block is) at;
+  found = sym (append-nil g.found.items) ∙ ap (λ (l : List Held). g.found.items ++ l) (sym (no_node_held b level lo hi block is));
+  leaf = or_none g.leaf ∙ ap (option_or g.leaf) (sym (no_leaf b level lo hi block is));
+}
 
 -- ---- one name
 
@@ -111,7 +137,7 @@ below_refused blocks image w n f bad = below_not (is_reached w n.id) (refusal_at
 pub record Reaches (blocks b : ℕ) (t u : Tally) : Type 0 where
   pub within : b < blocks
   pub reached : MarksOneMore blocks b t.reached.items u.reached.items
-  pub objects : u.objects ≡ t.objects
+  pub gathered : u.gathered ≡ t.gathered
   pub faults : u.faults ≡ t.faults
   pub whole : u.whole ≡ t.whole
 
@@ -127,20 +153,20 @@ module _ {T : Type 0} (blocks b : ℕ) (image : Image) (n : Name) (id : n.id ≡
   steps_again is a = steps_as blocks k l t v r (met_again b) (λ w. meet blocks image w n)
       (λ w h. ap (λ (x : ℕ). met_again x w) (sym id) ∙ meet_again blocks image w n (reached_at w h ∙ is))
       (steps_then blocks k k l t u v (tt {0}) r (λ w. w) (met_again b)
-      (steps_noted blocks k t u (tt {0}) (λ w. w) (λ w. refl) (λ w h. tally_again blocks b w t u h is reaches.reached reaches.objects reaches.faults reaches.whole)) a)
+      (steps_noted blocks k t u (tt {0}) (λ w. w) (λ w. refl) (λ w h. tally_again blocks b w t u h is reaches.reached reaches.gathered reaches.faults reaches.whole)) a)
 
   -- it is accepted
-  pub steps_accepted : (z : Tally) (marked : Bool) (o : Option What) (more : ℕ) → marks t.reached.items b ≡ false → refusal_at blocks image n ≡ None → marked ≡ is_marked image b → o ≡ wrong_with marked None
-      → more ≡ stats_in (cell_at image n) → z.reached ≡ u.reached → ((n : ℕ) → u.objects ≡ counted n → z.objects ≡ counted (n + more)) → z.faults ≡ u.faults → z.whole ≡ u.whole
+  pub steps_accepted : (z : Tally) (marked : Bool) (o : Option What) → marks t.reached.items b ≡ false → refusal_at blocks image n ≡ None → marked ≡ is_marked image b → o ≡ wrong_with marked None
+      → z.reached ≡ u.reached → Gathers b (cell_at image n) u.gathered z.gathered → z.faults ≡ u.faults → z.whole ≡ u.whole
       → Steps blocks k z r l v (with_fault b o) → Steps blocks k t r l v (λ w. meet blocks image w n)
-  steps_accepted z marked o more is sound m wrong stats same objects faults whole a =
+  steps_accepted z marked o is sound m wrong same gathers faults whole a =
       let pre : Walk → Walk = λ w. with_cell b (cell_at image n) (with_reached b w) in
       steps_as blocks k l t v r (λ w. with_fault b o (pre w)) (λ w. meet blocks image w n)
       (λ w h. ap (λ (p : Option What). with_fault b p (pre w)) (wrong ∙ ap (λ (x : Bool). wrong_with x None) m)
       ∙ ap (λ (x : ℕ). with_fault x (wrong_with (is_marked image x) None) (with_cell x (cell_at image n) (with_reached x w))) (sym id)
       ∙ meet_accepted blocks image w n (reached_at w h ∙ is) sound)
       (steps_then blocks k k l t z v (tt {0}) r pre (with_fault b o)
-      (steps_noted blocks k t z (tt {0}) pre (λ w. refl) (λ w h. tally_cell blocks b more (cell_at image n) (with_reached b w) u z (tally_reached blocks b w t u h reaches.reached reaches.objects reaches.faults reaches.whole) stats same objects faults whole)) a)
+      (steps_noted blocks k t z (tt {0}) pre (λ w. refl) (λ w h. tally_cell blocks b (cell_at image n) (with_reached b w) u z (tally_reached blocks b w t u h reaches.reached reaches.gathered reaches.faults reaches.whole) same gathers faults whole)) a)
 
   -- it is refused
   pub steps_refused : (z : Tally) (marked : Bool) (o : Option What) (f : CellFault) → marks t.reached.items b ≡ false → refusal_at blocks image n ≡ Some f → marked ≡ is_marked image b → o ≡ wrong_with marked (Some f)
@@ -153,7 +179,7 @@ module _ {T : Type 0} (blocks b : ℕ) (image : Image) (n : Name) (id : n.id ≡
       ∙ ap (λ (x : ℕ). with_fault x (wrong_with (is_marked image x) (Some f)) (with_gap (with_reached x w))) (sym id)
       ∙ meet_refused blocks image w n f (reached_at w h ∙ is) bad)
       (steps_then blocks k k l t z v (tt {0}) r pre (with_fault b o)
-      (steps_noted blocks k t z (tt {0}) pre (λ w. refl) (λ w h. gap w (tally_reached blocks b w t u h reaches.reached reaches.objects reaches.faults reaches.whole))) a)
+      (steps_noted blocks k t z (tt {0}) pre (λ w. refl) (λ w h. gap w (tally_reached blocks b w t u h reaches.reached reaches.gathered reaches.faults reaches.whole))) a)
 
 -- what was read
 pub read_cell_as : (blocks : ℕ) (image : Image) (n : Name) (m : Met) (c : Shared) → m ≡ Cell c → IsReadAs blocks image n m → (refusal_at blocks image n ≡ None) × (node_of (arc_value c) ≡ cell_at image n)

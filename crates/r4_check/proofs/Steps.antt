@@ -9,13 +9,13 @@ use Rattle.r4_search.specs.Pool.{LeavesDevice}
 use Rattle.r4_search.proofs.Walks.{leaves_both, leaves_same}
 use Rattle.r4_list.specs.Printing.{Prints}
 use Rattle.r4_list.proofs.Stages.{prints_both, prints_same}
-use Rattle.r4_check.specs.Faults.{fault_line, fault_lines}
+use Rattle.r4_check_objects.specs.Faults.{fault_line, fault_lines}
 use Rattle.r4_base.specs.Image.{Image, block_at}
 use Rattle.r4_replay.specs.Homes.{home_in}
 use Rattle.r4_check.specs.declared.settled.Settled.{Settled}
 use Rattle.r4_check.specs.Looking.{Goes, IsGround, IsStopCause, IsTally, IsTellCause, Steps, Tells}
 use Rattle.r4_check.specs.Walk.{Walk}
-use Rattle.r4_check.specs.declared.fault.Fault.{Fault}
+use Rattle.r4_check_objects.specs.declared.fault.Fault.{Fault}
 use Rattle.r4_check.specs.declared.stop.Stop.{Stop}
 use Rattle.r4_check.specs.declared.stop.Stop.TheVariants.{Device, Sink, Memory}
 use Rattle.r4_check.specs.declared.tally.Tally.{Tally}

@@ -13,38 +13,49 @@ use Rattle.r4_base.specs.Value.{Value}
 use Rattle.r4_space.specs.Bitmaps.{marks}
 use Rattle.r4_list.proofs.Stages.{appended}
 use Rattle.r4_check.specs.Blocks.{MarksOneMore}
-use Rattle.r4_check.specs.Faults.{fault_at, fault_line, fault_lines}
-use Rattle.r4_check.specs.Looking.{IsTally, Steps, Tells, TellsOne, counted}
-use Rattle.r4_check.specs.Walk.{Walk, objects_met, stats_in, with_cell, with_fault, with_gap, with_reached}
-use Rattle.r4_check.specs.declared.fault.Fault.{Fault}
-use Rattle.r4_check.specs.declared.fault.What.{What}
+use Rattle.r4_check_objects.specs.Faults.{fault_at, fault_line, fault_lines}
+use Rattle.r4_check.specs.Looking.{Gathers, IsGathered, IsTally, Steps, Tells, TellsOne}
+use Rattle.r4_check_objects.specs.Held.{counted}
+use Rattle.r4_check.specs.Walk.{Walk, leaf_at, objects_met, stats_in, with_cell, with_fault, with_gap, with_reached}
+use Rattle.std.specs.Option.{option_or}
+use Rattle.r4_check_objects.specs.Held.{held_in}
+use Rattle.r4_check_objects.specs.declared.fault.Fault.{Fault}
+use Rattle.r4_check_objects.specs.declared.held.Held.{Held}
+use Rattle.r4_check_objects.specs.declared.fault.What.{What}
 use Rattle.r4_check.specs.declared.stop.Stop.TheVariants.{Sink}
 use Rattle.r4_check.specs.declared.tally.Tally.{Tally}
 use Rattle.r4_check.proofs.Steps.{lines_both, steps_noted}
 
-pub tally_reached : (blocks b : ℕ) (w : Walk) (t u : Tally) → IsTally blocks w t → MarksOneMore blocks b t.reached.items u.reached.items → u.objects ≡ t.objects → u.faults ≡ t.faults → u.whole ≡ t.whole → IsTally blocks (with_reached b w) u
+same_gathered : (cells : List (ℕ × Node Value)) (t u : Tally) → u.gathered ≡ t.gathered → IsGathered cells t.gathered → IsGathered cells u.gathered
+same_gathered cells t u same g = subst (IsGathered cells) (sym same) g
+
+pub tally_reached : (blocks b : ℕ) (w : Walk) (t u : Tally) → IsTally blocks w t → MarksOneMore blocks b t.reached.items u.reached.items → u.gathered ≡ t.gathered → u.faults ≡ t.faults → u.whole ≡ t.whole → IsTally blocks (with_reached b w) u
 tally_reached blocks b w t u h m o f l = record {
   reached = λ i lt. m.each i lt ∙ ap (λ (x : Bool). b == i || x) (h.reached i lt);
-  objects = o ∙ h.objects;
+  gathered = same_gathered w.cells t u o h.gathered;
   faults = f ∙ h.faults;
   whole = l ∙ h.whole;
 }
 
-pub tally_cell : (blocks b more : ℕ) (c : Node Value) (w : Walk) (t u : Tally) → IsTally blocks w t → more ≡ stats_in c → u.reached ≡ t.reached → ((n : ℕ) → t.objects ≡ counted n → u.objects ≡ counted (n + more)) → u.faults ≡ t.faults → u.whole ≡ t.whole → IsTally blocks (with_cell b c w) u
-tally_cell blocks b more c w t u h is r o f l =
+pub tally_cell : (blocks b : ℕ) (c : Node Value) (w : Walk) (t u : Tally) → IsTally blocks w t → u.reached ≡ t.reached → Gathers b c t.gathered u.gathered → u.faults ≡ t.faults → u.whole ≡ t.whole → IsTally blocks (with_cell b c w) u
+tally_cell blocks b c w t u h r g f l =
     let one = sum_by-cons (λ (x : ℕ × Node Value). stats_in x.1) (b, c) w.cells in
-    let sum : objects_met w + more ≡ objects_met (with_cell b c w) = omega (arith, is, one) in
+    let sum : objects_met w + stats_in c ≡ objects_met (with_cell b c w) = omega (arith, one) in
     record {
       reached = λ i lt. ap (λ x. marks x.items i) r ∙ h.reached i lt;
-      objects = o (objects_met w) h.objects ∙ ap counted sum;
+      gathered = record {
+        objects = g.objects (objects_met w) h.gathered.objects ∙ ap counted sum;
+        found = g.found ∙ ap (λ (l : List Held). l ++ held_in b c) h.gathered.found;
+        leaf = g.leaf ∙ ap (λ (o : Option ℕ). option_or o (leaf_at b c)) h.gathered.leaf;
+      };
       faults = f ∙ h.faults;
       whole = l ∙ h.whole;
     }
 
-pub tally_gap : (blocks : ℕ) (w : Walk) (t u : Tally) → IsTally blocks w t → u.reached ≡ t.reached → u.objects ≡ t.objects → u.faults ≡ t.faults → u.whole ≡ false → IsTally blocks (with_gap w) u
+pub tally_gap : (blocks : ℕ) (w : Walk) (t u : Tally) → IsTally blocks w t → u.reached ≡ t.reached → u.gathered ≡ t.gathered → u.faults ≡ t.faults → u.whole ≡ false → IsTally blocks (with_gap w) u
 tally_gap blocks w t u h r o f l = record {
   reached = λ i lt. ap (λ x. marks x.items i) r ∙ h.reached i lt;
-  objects = o ∙ h.objects;
+  gathered = same_gathered w.cells t u o h.gathered;
   faults = f ∙ h.faults;
   whole = l;
 }
@@ -57,7 +68,7 @@ tally_fault blocks b what w t u h m =
     let long : length w.faults + 1 ≡ length (w.faults ++ fault_at b what ∷ []) = sym (length-append w.faults (fault_at b what ∷ [])) in
     record {
       reached = λ i lt. ap (λ x. marks x.items i) m.reached ∙ h.reached i lt;
-      objects = m.objects ∙ h.objects;
+      gathered = same_gathered w.cells t u m.gathered h.gathered;
       faults = one_counted (length w.faults) t.faults u.faults h.faults m.faults ∙ ap counted long;
       whole = m.whole ∙ h.whole;
     }
@@ -67,7 +78,7 @@ no_more b w = append-nil w.faults
 
 pub steps_right : {T : Type 0} (blocks b : ℕ) (k : SinkState) (t : Tally) (x : T) → Steps blocks k t (Ok x) k t (with_fault b None)
 steps_right {T} blocks b k t x = steps_noted blocks k t t x (with_fault b None) (no_more b)
-    (λ w h. record { reached = h.reached; objects = h.objects; faults = h.faults ∙ ap (λ (l : List Fault). counted (length l)) (sym (no_more b w)); whole = h.whole })
+    (λ w h. record { reached = h.reached; gathered = h.gathered; faults = h.faults ∙ ap (λ (l : List Fault). counted (length l)) (sym (no_more b w)); whole = h.whole })
 
 one_line : (b : ℕ) (what : What) (w : Walk) (base : List ℕ) → (base ++ fault_lines w.faults) ++ fault_line (fault_at b what) ≡ base ++ fault_lines (with_fault b (Some what) w).faults
 one_line b what w base =
@@ -110,10 +121,10 @@ pub tells_cut : {T E : Type 0} (text : List ℕ) (k l : SinkState) (t u : Tally)
 tells_cut {T} {E} text k l t u e a m = record { prints = appended text k l (Err e) a; size = ap (λ r. length r.items) m.reached; cause = a.cause }
 
 -- a block that was reached before is reached again
-pub tally_again : (blocks b : ℕ) (w : Walk) (t u : Tally) → IsTally blocks w t → marks t.reached.items b ≡ true → MarksOneMore blocks b t.reached.items u.reached.items → u.objects ≡ t.objects → u.faults ≡ t.faults → u.whole ≡ t.whole → IsTally blocks w u
+pub tally_again : (blocks b : ℕ) (w : Walk) (t u : Tally) → IsTally blocks w t → marks t.reached.items b ≡ true → MarksOneMore blocks b t.reached.items u.reached.items → u.gathered ≡ t.gathered → u.faults ≡ t.faults → u.whole ≡ t.whole → IsTally blocks w u
 tally_again blocks b w t u h is m o f l = record {
   reached = λ i lt. m.each i lt ∙ same i ∙ h.reached i lt;
-  objects = o ∙ h.objects;
+  gathered = same_gathered w.cells t u o h.gathered;
   faults = f ∙ h.faults;
   whole = l ∙ h.whole;
 }

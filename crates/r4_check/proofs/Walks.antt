@@ -10,8 +10,8 @@ use Rattle.r4_base.specs.Tree.{Name, Node}
 use Rattle.r4_base.specs.Value.{Value}
 use Rattle.r4_base.specs.declared.items.CellFault.{CellFault}
 use Rattle.r4_check.specs.Walk.{Walk, cell_at, is_reached, look, look_at, meet, met_again, met_first, names_below, refusal_at, wrong_with, faults_at}
-use Rattle.r4_check.specs.Faults.{fault_at}
-use Rattle.r4_check.specs.declared.fault.What.TheVariants.{Twice}
+use Rattle.r4_check_objects.specs.Faults.{fault_at}
+use Rattle.r4_check_objects.specs.declared.fault.What.TheVariants.{Twice}
 use Rattle.r4_check.proofs.Steps.{Extends, extends_both, extends_same, steps_as, steps_then}
 use Rattle.r4_outside.specs.Sink.{SinkState}
 use Rattle.r4_check.specs.Looking.{Steps}

@@ -1,5 +1,5 @@
 -- How the calls of a walk go: what each of them reads, prints and counts (docs/check.md).
-use Rattle.std.specs.Prelude.{◌≡◌, ℕ, ◌+◌, ◌-◌, ◌^◌, ◌<◌, min, List, ◌++◌, drop, length, slice_get, false, Some}
+use Rattle.std.specs.Prelude.{◌≡◌, ℕ, ◌+◌, ◌-◌, ◌<◌, List, ◌++◌, drop, length, slice_get, false, Some}
 use Rattle.std.specs.Prelude.{None, Result, IfOk, IfErr, OnOk, OnErr}
 use Rattle.std.specs.Arc.{arc_value}
 use Rattle.r4_base.specs.Bitmap.{bitmap_count}
@@ -7,7 +7,8 @@ use Rattle.r4_base.specs.Cell.{cell_fault, item_names, next_key}
 use Rattle.r4_base.specs.Image.{Image}
 use Rattle.r4_base.specs.Key.{rank}
 use Rattle.r4_base.specs.Node.{Item, items_of}
-use Rattle.r4_base.specs.Tree.{Name}
+use Rattle.r4_base.specs.Tree.{Name, Node}
+use Rattle.r4_base.specs.Value.{Value}
 use Rattle.r4_outside.specs.Device.{State, TellsReads, Rose, next}
 use Rattle.r4_outside.specs.Sink.{SinkState, AppendsPart}
 use Rattle.r4_open.specs.Opening.{IsSettledBy}
@@ -15,9 +16,12 @@ use Rattle.r4_space.specs.Bitmaps.{AreBitmapsOf, marks}
 use Rattle.r4_cell.specs.Seen.{CellSeen, node_of}
 use Rattle.r4_search.specs.Pool.{LeavesDevice}
 use Rattle.r4_list.specs.Printing.{Prints}
-use Rattle.r4_check.specs.Faults.{fault_lines}
-use Rattle.r4_check.specs.Walk.{Walk, cell_at, is_reached, look_at, meet, names_below, objects_met, refusal_at}
+use Rattle.std.specs.Option.{option_or}
+use Rattle.r4_check_objects.specs.Faults.{fault_lines}
+use Rattle.r4_check_objects.specs.Held.{counted, held_in}
+use Rattle.r4_check.specs.Walk.{Walk, cell_at, found_in, is_reached, leaf_at, leaf_in, look_at, meet, names_below, refusal_at, stats_in, stats_met}
 use Rattle.r4_check.specs.declared.settled.Settled.{Settled}
+use Rattle.r4_check.specs.declared.tally.Gathered.{Gathered}
 use Rattle.r4_check.specs.declared.tally.Tally.{Tally}
 use Rattle.r4_check.specs.declared.reading.Named.{Named}
 use Rattle.r4_check.specs.declared.reading.Met.{Met}
@@ -67,21 +71,29 @@ IsReadCause d Device d' = Rose d.faults d'.faults
 IsReadCause d Sink d' = ⊥
 IsReadCause d Memory d' = Unit {0}
 
--- a number as it is counted: counts stand still at 2^64 - 1
-abbrev pub counted : ℕ → ℕ
-counted n = min n (2 ^ 64 - 1)
+-- What was gathered of cells.
+pub record IsGathered (cells : List (ℕ × Node Value)) (g : Gathered) : Type 0 where
+  pub objects : g.objects ≡ counted (stats_met cells)
+  pub found : g.found.items ≡ found_in cells
+  pub leaf : g.leaf ≡ leaf_in cells
+
+-- One cell more is gathered.
+pub record Gathers (block : ℕ) (c : Node Value) (old new : Gathered) : Type 0 where
+  pub objects : (n : ℕ) → old.objects ≡ counted n → new.objects ≡ counted (n + stats_in c)
+  pub found : new.found.items ≡ old.found.items ++ held_in block c
+  pub leaf : new.leaf ≡ option_or old.leaf (leaf_at block c)
 
 -- What is counted of a walk, on a volume of so many blocks.
 pub record IsTally (blocks : ℕ) (w : Walk) (t : Tally) : Type 0 where
   pub reached : (b : ℕ) → b < blocks → marks t.reached.items b ≡ is_reached w b
-  pub objects : t.objects ≡ counted (objects_met w)
+  pub gathered : IsGathered w.cells t.gathered
   pub faults : t.faults ≡ counted (length w.faults)
   pub whole : t.whole ≡ w.whole
 
 -- One fault more is counted.
 pub record TellsOne (old new : Tally) : Type 0 where
   pub reached : new.reached ≡ old.reached
-  pub objects : new.objects ≡ old.objects
+  pub gathered : new.gathered ≡ old.gathered
   pub faults : new.faults ≡ next old.faults
   pub whole : new.whole ≡ old.whole
 
@@ -100,6 +112,12 @@ abbrev pub IsTellCause : SinkState → Stop → SinkState → Type 0
 IsTellCause k Device k' = ⊥
 IsTellCause k Sink k' = Rose k.faults k'.faults
 IsTellCause k Memory k' = ⊥
+
+-- why telling the faults of objects stopped
+abbrev pub IsObjectsCause : SinkState → Stop → SinkState → Type 0
+IsObjectsCause k Device k' = ⊥
+IsObjectsCause k Sink k' = Rose k.faults k'.faults
+IsObjectsCause k Memory k' = Unit {0}
 
 -- A call that prints.
 pub record Tells {T : Type 0} (k : SinkState) (t : Tally) (result : Result T Stop) (k' : SinkState)

@@ -1,8 +1,8 @@
 -- The faults of a tree, in the order in which a walk from the left meets them, a node before its children
 -- (docs/check.md).
 use Rattle.std.specs.Prelude.{◌≡◌, ◌⊎◌, ℕ, zero, suc, List, [], ◌∷◌, ◌++◌, Bool, true, false, ◌||◌, ◌==◌, Option}
-use Rattle.std.specs.Prelude.{Some, None, if◌then◌else◌, Contains, count_by, fold, sum_by}
-use Rattle.std.specs.Option.{is_none}
+use Rattle.std.specs.Prelude.{Some, None, if◌then◌else◌, Contains, count_by, fold, sum_by, unwrap_or}
+use Rattle.std.specs.Option.{is_none, option_or}
 use Rattle.r4_base.specs.Bitmap.{is_marked}
 use Rattle.r4_base.specs.Cell.{cell_fault, cell_of}
 use Rattle.r4_base.specs.Image.{Image, block_at}
@@ -12,10 +12,13 @@ use Rattle.r4_base.specs.Volume.{is_stat_value}
 use Rattle.r4_base.specs.declared.items.CellFault.{CellFault}
 use Rattle.r4_base.specs.declared.superblock.Super40.{Super40}
 use Rattle.r4_list.specs.Lists.{root_name_of}
-use Rattle.r4_check.specs.Faults.{fault_at}
-use Rattle.r4_check.specs.declared.fault.Fault.{Fault}
-use Rattle.r4_check.specs.declared.fault.What.{What}
-use Rattle.r4_check.specs.declared.fault.What.TheVariants.{Cell, Twice, Unmarked}
+use Rattle.r4_check_objects.specs.Faults.{fault_at}
+use Rattle.r4_check_objects.specs.Held.{held_in}
+use Rattle.r4_check_objects.specs.Objects.{object_faults}
+use Rattle.r4_check_objects.specs.declared.fault.Fault.{Fault}
+use Rattle.r4_check_objects.specs.declared.held.Held.{Held}
+use Rattle.r4_check_objects.specs.declared.fault.What.{What}
+use Rattle.r4_check_objects.specs.declared.fault.What.TheVariants.{Cell, Twice, Unmarked}
 
 -- What a walk has met so far.
 pub record Walk : Type 0 where
@@ -109,8 +112,43 @@ walk_of s image = look s.tree_height s.block_count image nothing_met (root_name_
 abbrev pub stats_in : Node Value → ℕ
 stats_in c = count_by (λ u. is_stat_value u.1) c.units
 
+abbrev pub stats_met : List (ℕ × Node Value) → ℕ
+stats_met cells = sum_by (λ c. stats_in c.1) cells
+
 abbrev pub objects_met : Walk → ℕ
-objects_met w = sum_by (λ c. stats_in c.1) w.cells
+objects_met w = stats_met w.cells
+
+-- ---- the objects that the cells hold, and what is wrong with them
+
+-- what the cells hold, from the left
+abbrev pub found_in : List (ℕ × Node Value) → List Held
+found_in [] = []
+found_in (c ∷ cells) = found_in cells ++ held_in c.0 c.1
+
+-- the block of the leftmost leaf
+abbrev pub leaf_at : (block : ℕ) → Node Value → Option ℕ
+leaf_at b c = if c.level == 1 then Some b else None
+
+abbrev pub leaf_in : List (ℕ × Node Value) → Option ℕ
+leaf_in [] = None
+leaf_in (c ∷ cells) = option_or (leaf_in cells) (leaf_at c.0 c.1)
+
+-- the faults of objects, where the tree is whole; where it has no leaf, the root stands for the leftmost one
+abbrev pub objects_wrong : Super40 → Walk → List Fault
+objects_wrong s w = if w.whole then object_faults s (unwrap_or (leaf_in w.cells) s.root_block) (found_in w.cells) else []
+
+abbrev pub with_faults : List Fault → Walk → Walk
+with_faults more w = record w { faults = w.faults ++ more }
+
+abbrev pub judged : Super40 → Walk → Walk
+judged s w = with_faults (objects_wrong s w) w
+
+-- the walk over a tree and the faults of its objects, and all faults
+abbrev pub check_of : Super40 → Image → Walk
+check_of s image = judged s (walk_of s image)
+
+abbrev pub faults_of : Super40 → Image → List Fault
+faults_of s image = (check_of s image).faults
 
 -- the walk has the cell that a name means
 abbrev pub HasCell : Image → Walk → Name → Type 0

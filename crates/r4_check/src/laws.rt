@@ -11,10 +11,10 @@ ghost use Rattle.r4_base.specs.Volume.{IsPlace};
 ghost use Rattle.r4_base.specs.declared.items.CellFault.{CellFault};
 ghost use Rattle.r4_base.specs.declared.superblock.Super40.{Super40};
 ghost use Rattle.r4_list.specs.Lists.{root_name_of};
-ghost use Rattle.r4_check.specs.Faults.{fault_at};
+ghost use Rattle.r4_check_objects.specs.Faults.{fault_at};
 ghost use Rattle.r4_check.specs.Rows.{IsAccepted, IsFirstNamed, IsSmall};
 ghost use Rattle.r4_check.specs.Walk.{HasCell, IsNamedIn, cell_at, look, nothing_met, refusal_at, walk_of};
-ghost use Rattle.r4_check.specs.declared.fault.What.TheVariants.{Cell, Twice, Unmarked};
+ghost use Rattle.r4_check_objects.specs.declared.fault.What.TheVariants.{Cell, Twice, Unmarked};
 
 /// What a walk finds in trees of one and two nodes: nothing; a root that names itself; a root that is refused; a
 /// leaf whose bit is 0, of which the stat data are counted (docs/check.md).

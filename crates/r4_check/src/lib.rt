@@ -2,17 +2,17 @@
 #![tactic(auto)]
 
 mod blocks;
-mod fault;
 mod laws;
 mod lines;
 mod look;
+mod objects;
 mod reading;
 mod settled;
 mod stop;
 mod tally;
 mod tree;
 
-pub use fault::{Fault, What};
 pub use laws::{cells_are_read, small_trees, whole_walks_are_closed};
+pub use r4_check_objects::{Fault, What};
 pub use r4_list::ListFault;
-pub use tree::{TreeVerdict, check_tree};
+pub use tree::{Verdict, check};

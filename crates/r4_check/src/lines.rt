@@ -1,10 +1,10 @@
 //! The line of a fault, written piece by piece, without memory (docs/check.md).
 
 ghost use Rattle.r4_outside.specs.Sink.{Appends};
-ghost use Rattle.r4_check.specs.Faults.{fault_line};
+ghost use Rattle.r4_check_objects.specs.Faults.{fault_line};
 
-use crate::fault::Fault;
 use itoa::Buffer;
+use r4_check_objects::Fault;
 use r4_outside::{Failed, Sink};
 
 /// Writes the line of a fault.

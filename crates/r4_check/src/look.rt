@@ -20,13 +20,13 @@ ghost use Rattle.r4_check.specs.Looking.{Goes, HasBits, IsAccepted, IsBelow, Loo
 ghost use Rattle.r4_check.specs.Looking.{MeetsBlock, Steps, Tells, Walks, blocks_of, name_of, names_at};
 ghost use Rattle.r4_check.specs.Units.{below_of, names_of, unit_names};
 
-use crate::fault::What;
 use crate::reading::{Met, Named, read_named};
 use crate::settled::Settled;
 use crate::stop::Stop;
 use crate::tally::Tally;
 use r4_base::{BlockNo, CellFault, EXTENT, POINTER, STAT, Unit};
 use r4_cell::Cell;
+use r4_check_objects::What;
 use r4_node40::ItemView;
 use r4_outside::{Device, Sink};
 use r4_twig::{ExtentView, pointer};
@@ -66,8 +66,8 @@ fn wrong_with(marked: bool, fault: Option<CellFault>) -> Option<What>
     }
 }
 
-// Tells what is wrong with a block, if anything is.
-fn tell_wrong<K: Sink>(
+/// Tells what is wrong with a block, if anything is.
+pub(crate) fn tell_wrong<K: Sink>(
     out: &mut K,
     tally: &mut Tally,
     b: u64,
@@ -152,8 +152,8 @@ fn look_at_extent<K: Sink>(
     Ok(())
 }
 
-// How many stat data a node has.
-fn count_stats(cell: &Cell) -> u64
+/// How many stat data a node has.
+pub(crate) fn count_stats(cell: &Cell) -> u64
     requires level { 1 ≤ cell.now.level }
     ensures count { result ≡ stats_in (node_of cell.now) }
 {
@@ -202,7 +202,7 @@ fn meet_node<D: Device, K: Sink>(
     let marked = settled.is_marked(named.id);
     match read_named(alloc, dev, settled, named)? {
         Met::Cell(cell) => {
-            tally.add_objects(count_stats(&cell));
+            tally.gather(named.id, &cell)?;
             tell_wrong(out, tally, named.id, wrong_with(marked, None))?;
             Ok(Some(cell))
         }

@@ -1,28 +1,43 @@
 //! What a walk counts, and the faults that it prints.
 
-ghost use Rattle.std.specs.Prelude.{◌≡◌, ℕ, ◌+◌, ◌<◌, ◌≤◌, ◌/◌, not, length, IfOk};
+ghost use Rattle.std.specs.Prelude.{◌≡◌, ℕ, ◌+◌, ◌<◌, ◌≤◌, ◌/◌, not, length, IfOk, OnOk};
+ghost use Rattle.std.specs.Option.{option_or};
 ghost use Rattle.r4_base.specs.Bitmap.{bitmap_count};
+ghost use Rattle.r4_cell.specs.Seen.{node_of};
 ghost use Rattle.r4_outside.specs.Device.{next};
 ghost use Rattle.r4_outside.specs.Sink.{Appends};
 ghost use Rattle.r4_space.specs.Bitmaps.{marks};
 ghost use Rattle.r4_check.specs.Blocks.{MarksOneMore};
-ghost use Rattle.r4_check.specs.Faults.{fault_at, fault_line};
-ghost use Rattle.r4_check.specs.Looking.{IsTally, TellsOne, counted};
-ghost use Rattle.r4_check.specs.Walk.{nothing_met};
+ghost use Rattle.r4_check_objects.specs.Faults.{fault_at, fault_line};
+ghost use Rattle.r4_check.specs.Looking.{Gathers, IsTally, TellsOne};
+ghost use Rattle.r4_check_objects.specs.Held.{counted};
+ghost use Rattle.r4_check.specs.Walk.{leaf_at, nothing_met};
 
 use crate::blocks::{has_block, no_blocks, put_block};
-use crate::fault::{Fault, What};
 use crate::lines::write_fault;
-use r4_base::{Block, BlockNo, Memory};
+use crate::look::count_stats;
+use r4_base::{Block, BlockNo, LEAF, Memory};
+use r4_cell::Cell;
+use r4_check_gather::gather_node;
+use r4_check_objects::{Fault, Held, What};
 use r4_outside::{Failed, Sink};
 use std::alloc::Global;
 
-/// What a walk has met so far: which blocks were reached; the numbers of stat data and of faults, which stand still at
-/// 2^64 - 1; and whether no node was refused and no block was reached twice.
+/// What is gathered of the cells of a tree: the number of their stat data, which stands still at 2^64 - 1; what they hold,
+/// from the left; and the block of the leftmost leaf.
+#[derive(Drop)]
+pub struct Gathered {
+    pub objects: u64,
+    pub found: Vec<Held>,
+    pub leaf: Option<u64>,
+}
+
+/// What a walk has met so far: which blocks were reached; what was gathered; the number of faults, which stands still
+/// at 2^64 - 1; and whether no node was refused and no block was reached twice.
 #[derive(Drop)]
 pub struct Tally {
     pub reached: Vec<Block>,
-    pub objects: u64,
+    pub gathered: Gathered,
     pub faults: u64,
     pub whole: bool,
 }
@@ -36,7 +51,11 @@ impl Tally {
     {
         Ok(Tally {
             reached: no_blocks(alloc, blocks)?,
-            objects: 0,
+            gathered: Gathered {
+                objects: 0,
+                found: Vec::new(alloc),
+                leaf: None,
+            },
             faults: 0,
             whole: true,
         })
@@ -48,7 +67,7 @@ impl Tally {
         ensures first { result ≡ not (marks self.old.reached.items b) }
         ensures reached { (blocks : ℕ) → bitmap_count blocks ≡ length self.old.reached.items
             → MarksOneMore blocks b self.old.reached.items self.new.reached.items }
-        ensures objects { self.new.objects ≡ self.old.objects }
+        ensures gathered { self.new.gathered ≡ self.old.gathered }
         ensures faults { self.new.faults ≡ self.old.faults }
         ensures whole { self.new.whole ≡ self.old.whole }
     {
@@ -57,15 +76,20 @@ impl Tally {
         !before
     }
 
-    /// Adds stat data.
-    pub fn add_objects(&mut self, more: u64)
-        ensures objects { (n : ℕ) → self.old.objects ≡ counted n
-            → self.new.objects ≡ counted (n + more) }
+    /// Gathers what a node in this block holds.
+    pub fn gather(&mut self, block: u64, cell: &Cell) -> Result<(), Memory>
+        requires { 1 ≤ cell.now.level }
+        ensures gathers { OnOk result (Gathers block (node_of cell.now)
+            self.old.gathered self.new.gathered) }
         ensures reached { self.new.reached ≡ self.old.reached }
         ensures faults { self.new.faults ≡ self.old.faults }
         ensures whole { self.new.whole ≡ self.old.whole }
     {
-        self.objects = self.objects.saturating_add(more);
+        gather_node(&mut self.gathered.found, block, cell)?;
+        let stats = count_stats(cell);
+        self.gathered.objects = self.gathered.objects.saturating_add(stats);
+        self.gathered.leaf = first_leaf(self.gathered.leaf, block, cell);
+        Ok(())
     }
 
     /// Prints a fault and counts it.
@@ -77,5 +101,26 @@ impl Tally {
         self.faults = self.faults.saturating_add(1);
         let block = BlockNo(b);
         write_fault(out, Fault { block, what })
+    }
+}
+
+// The leftmost leaf, after one node more.
+fn first_leaf(before: Option<u64>, block: u64, cell: &Cell) -> Option<u64>
+    ensures { result ≡ option_or before (leaf_at block (node_of cell.now)) }
+{
+    match before {
+        Some(leaf) => Some(leaf),
+        None => leaf_at(block, cell),
+    }
+}
+
+// The block of a node, where that is a leaf.
+fn leaf_at(block: u64, cell: &Cell) -> Option<u64>
+    ensures { result ≡ leaf_at block (node_of cell.now) }
+{
+    if cell.level() == LEAF {
+        Some(block)
+    } else {
+        None
     }
 }

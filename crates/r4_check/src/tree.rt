@@ -1,4 +1,4 @@
-//! The check of the tree of a settled image (docs/check.md).
+//! The check of a settled image (docs/check.md).
 
 ghost use Rattle.std.specs.Prelude.{◌≡◌, ◌<◌, ◌≤◌, IfErr};
 ghost use Rattle.r4_base.specs.Image.{Image};
@@ -7,10 +7,11 @@ ghost use Rattle.r4_list.specs.Printing.{Prints};
 ghost use Rattle.r4_list.specs.declared.fault.ListFault.TheVariants.{Device as DeviceFailed};
 ghost use Rattle.r4_search.specs.Pool.{LeavesDevice};
 ghost use Rattle.r4_check.specs.Looking.{IsGround, IsStopCause, name_of};
-ghost use Rattle.r4_check.specs.Tree.{ChecksTree, PrintsWalk, fault_of_stop};
-ghost use Rattle.r4_check.specs.Walk.{walk_of};
+ghost use Rattle.r4_check.specs.Tree.{Checks, PrintsWalk, fault_of_stop};
+ghost use Rattle.r4_check.specs.Walk.{check_of};
 
 use crate::look::look_at_node;
+use crate::objects::tell_objects;
 use crate::reading::Named;
 use crate::settled::Settled;
 use crate::stop::Stop;
@@ -22,31 +23,33 @@ use r4_outside::{Device, Sink};
 use r4_replay::{ReplayFault, read_log};
 use std::alloc::Global;
 
-/// What a walk over a tree found: how many stat data were read, how many faults were printed, and whether no node was
-/// refused and no block was reached twice. Both numbers stand still at 2^64 - 1 (docs/check.md).
+/// What a check found: how many stat data were read, and how many faults were printed. Both numbers stand still at
+/// 2^64 - 1 (docs/check.md).
 #[derive(Clone, Copy, Debug, PartialEq, Eq)]
-pub struct TreeVerdict {
+pub struct Verdict {
     pub objects: u64,
     pub faults: u64,
-    pub whole: bool,
 }
 
 /// Walks over the tree of a device's settled image and prints the line of each fault: for each block that is
 /// named `twice` where it was reached before, else `unmarked` where its bit is 0, else for a node the word of
 /// its first fault at its level and range. A node comes before what it names, and all in order of keys. Each
-/// node is read once, and nothing below one that is refused or was reached before. Nothing is written to the
-/// device, and no other line is printed: the line that counts is the caller's (docs/check.md).
+/// node is read once, and nothing below one that is refused or was reached before. Where no node was refused and no
+/// block is named twice, the faults of objects follow by rising object id, each at most once an object: `size`,
+/// `links`, `lost`, `id`; and last `files`. Nothing is written to the device, and no other line is printed: the line
+/// that counts is the caller's. It needs memory for the bitmaps, a bit more for each block, and some tens of bytes for
+/// each thing that the nodes hold (docs/check.md).
 ///
 /// Answers `Size` only outside 64 to 1,048,576 blocks; `Log`, where the log is refused; `Image`, where the
 /// superblocks or the bitmaps of the settled image are refused, and never for a node; `Device` and `Sink`, only
 /// where their count rose; `Memory`, where a growth was refused.
-pub fn check_tree<D: Device, K: Sink>(
+pub fn check<D: Device, K: Sink>(
     alloc: Global,
     dev: &mut D,
     out: &mut K,
-) -> Result<TreeVerdict, ListFault>
+) -> Result<Verdict, ListFault>
     ensures device { LeavesDevice (D.state dev.old) (D.state dev.new) }
-    ensures checks { ChecksTree (D.state dev.old) (K.state out.old) result (D.state dev.new)
+    ensures checks { Checks (D.state dev.old) (K.state out.old) result (D.state dev.new)
         (K.state out.new) }
 {
     let log = match read_log(alloc, dev) {
@@ -71,28 +74,28 @@ pub fn check_tree<D: Device, K: Sink>(
     }
 }
 
-// Walks over the tree of an image that was opened.
+// Walks over the tree of an image that was opened, and looks at its objects.
 fn walk_settled<D: Device, K: Sink>(
     alloc: Global,
     dev: &mut D,
     out: &mut K,
     settled: &Settled,
-) -> Result<TreeVerdict, Stop>
+) -> Result<Verdict, Stop>
     requires { settled.now.device_blocks ≡ (D.state dev.old).blocks }
     ensures device { LeavesDevice (D.state dev.old) (D.state dev.new) }
     ensures prints { Prints (K.state out.old) (K.state out.new) }
     ensures cause { IfErr result (λ e.
         IsStopCause (D.state dev.old) (K.state out.old) e (D.state dev.new) (K.state out.new)) }
     ensures walk { (image : Image) → IsGround settled.now (D.state dev.old) image
-        → PrintsWalk (walk_of settled.now.found.super40 image) (K.state out.old)
+        → PrintsWalk (check_of settled.now.found.super40 image) (K.state out.old)
         result (K.state out.new) }
 {
     let mut tally = Tally::new(alloc, settled.blocks())?;
     look_at_node(alloc, dev, out, settled, &mut tally, &root_of(settled))?;
-    Ok(TreeVerdict {
-        objects: tally.objects,
+    tell_objects(alloc, out, settled, &mut tally)?;
+    Ok(Verdict {
+        objects: tally.gathered.objects,
         faults: tally.faults,
-        whole: tally.whole,
     })
 }
 

@@ -82,10 +82,20 @@ fn line_of(alloc: Global, entry: &Entry) -> Result<Vec<u8>, Memory> {
     Ok(out)
 }
 
+// The line of a command that is done.
+fn line_of_done(alloc: Global, reply: Reply) -> Result<Vec<u8>, Memory> {
+    line_of(alloc, &done(reply))
+}
+
+// The line that tells a share of a reply.
+fn line_of_share(alloc: Global, reply: &Reply) -> Result<Vec<u8>, Memory> {
+    line_of_done(alloc, reply.share()?)
+}
+
 // Does the command of a row. The line that tells its reply, as its share.
 fn told(alloc: Global, seen: &mut Seen, row: usize, text: &str) -> Result<Vec<u8>, Fail> {
     let reply = reply_to(alloc, seen, text, Oid(FIRST.wrapping_add(row as u64)))?;
-    Ok(line_of(alloc, &done(reply.share()?))?)
+    Ok(line_of_share(alloc, &reply)?)
 }
 
 // What a line tells behind its numbers, without its end.

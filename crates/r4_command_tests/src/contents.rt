@@ -187,16 +187,29 @@ fn is_numbered(command: &Command, job: &Command, oid: Oid) -> bool {
     command.is_job(job, oid) && command.is_job(job, Oid(1)) != command.makes_object()
 }
 
+// What the job's command changes where it is this one, and its reply.
+fn planned_as(
+    alloc: Global,
+    seen: &Seen,
+    job: &Command,
+    command: &Command,
+    oid: Oid,
+) -> Result<Edits, Fail>
+    requires { Rises (pairs_of seen.now) }
+{
+    if !is_numbered(command, job, oid) {
+        return Err(Fail::from("the command is not the job's"));
+    }
+    Ok(plan(alloc, command, seen)?)
+}
+
 // What a command changes, and its reply. An object that it makes gets this number.
 fn planned(alloc: Global, seen: &Seen, job: &Command, oid: Oid) -> Result<Edits, Fail> {
     if !rises(seen) {
         return Err(Fail::from("the keys do not rise"));
     }
     let command = numbered(alloc, job, oid)?;
-    if !is_numbered(&command, job, oid) {
-        return Err(Fail::from("the command is not the job's"));
-    }
-    Ok(plan(alloc, &command, seen)?)
+    planned_as(alloc, seen, job, &command, oid)
 }
 
 /// Does a command on all that the content has. An object that it makes gets this number.

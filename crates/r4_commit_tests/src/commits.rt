@@ -146,6 +146,21 @@ const WRITES: [Option<u64>; 13] = [
     None,
 ];
 
+// Looks whether a block is all of one byte, in this row of its table.
+fn is_all_of<X: Abort>(
+    rt: &X,
+    alloc: Global,
+    dev: &mut MemoryDevice,
+    at: u64,
+    byte: u8,
+    row: usize,
+) -> Result<(), Fail> {
+    let block = read(alloc, dev, at)?;
+    let whole = block.bytes().iter().all(|x| *x == byte);
+    same_in(rt, &whole, &true, row);
+    Ok(())
+}
+
 // Looks whether a crash at this moment leaves each block that was not yet written as it was.
 fn is_in_order<X: Abort>(
     rt: &X,
@@ -154,13 +169,10 @@ fn is_in_order<X: Abort>(
     moment: u64,
 ) -> Result<(), Fail> {
     for (call, write) in WRITES.iter().enumerate() {
-        let Some(at) = *write else {
-            continue;
-        };
-        if call as u64 >= moment {
-            let block = read(alloc, left, at)?;
-            let zeros = block.bytes().iter().all(|x| *x == 0);
-            same_in(rt, &zeros, &true, moment as usize);
+        if let Some(at) = *write
+            && call as u64 >= moment
+        {
+            is_all_of(rt, alloc, left, at, 0, moment as usize)?;
         }
     }
     Ok(())
@@ -178,6 +190,26 @@ fn lines_at(moment: u64) -> [&'static [u8]; 2] {
     }
 }
 
+// Looks at what a replay printed after a crash at a moment, and tells whether the commit is in place.
+fn is_told<X: Abort>(rt: &X, text: &[u8], moment: u64) -> bool {
+    let lines = lines_at(moment);
+    same_in(rt, &lines.contains(&text), &true, moment as usize);
+    (text == lines[1] && moment >= 7) || moment >= 12
+}
+
+// Replays what a crash at a moment left, and tells whether the commit is in place.
+fn is_replayed<X: Abort>(
+    rt: &X,
+    alloc: Global,
+    left: &mut MemoryDevice,
+    moment: u64,
+) -> Result<bool, Fail> {
+    let mut out = MemorySink::new(alloc, 100)?;
+    let status = call(alloc, &REPLAY, left, &mut out)?;
+    same_in(rt, &status, &0, moment as usize);
+    Ok(is_told(rt, out.written(), moment))
+}
+
 // Replays what a crash at a moment left, and looks at the homes: all of them have their new content, or none has.
 fn settles_whole<X: Abort>(
     rt: &X,
@@ -185,21 +217,27 @@ fn settles_whole<X: Abort>(
     left: &mut MemoryDevice,
     moment: u64,
 ) -> Result<(), Fail> {
-    let mut out = MemorySink::new(alloc, 100)?;
-    let status = call(alloc, &REPLAY, left, &mut out)?;
-    let row = moment as usize;
-    same_in(rt, &status, &0, row);
-    let lines = lines_at(moment);
-    let told = lines.contains(&out.written());
-    same_in(rt, &told, &true, row);
-    let with = out.written() == lines[1] && moment >= 7;
+    let in_place = is_replayed(rt, alloc, left, moment)?;
     for (at, byte) in [(17, 7), (30, 8)] {
-        let block = read(alloc, left, at)?;
-        let wanted = if with || moment >= 12 { byte } else { 0 };
-        let whole = block.bytes().iter().all(|x| *x == wanted);
-        same_in(rt, &whole, &true, row);
+        let wanted = if in_place { byte } else { 0 };
+        is_all_of(rt, alloc, left, at, wanted, moment as usize)?;
     }
     Ok(())
+}
+
+// Lets the machine stop at a moment of the commit, and looks at what this pick leaves.
+fn look_at_crash<X: Abort>(
+    rt: &X,
+    alloc: Global,
+    dev: &MemoryDevice,
+    moment: u64,
+    pick: u64,
+) -> Result<(), Fail>
+    requires { TellsCrashes (memory_state dev.now) }
+{
+    let mut left = dev.crash(alloc, moment, pick)?;
+    is_in_order(rt, alloc, &mut left, moment)?;
+    settles_whole(rt, alloc, &mut left, moment)
 }
 
 // Lets the machine stop at each moment of the commit.
@@ -208,18 +246,17 @@ fn look_at_crashes<X: Abort>(rt: &X, alloc: Global, dev: &MemoryDevice) -> Resul
 {
     for moment in 0..14 {
         for pick in 0..4 {
-            let mut left = dev.crash(alloc, moment, pick)?;
-            is_in_order(rt, alloc, &mut left, moment)?;
-            settles_whole(rt, alloc, &mut left, moment)?;
+            look_at_crash(rt, alloc, dev, moment, pick)?;
         }
     }
     Ok(())
 }
 
-#[test]
-fn a_commit_is_written(rt: HostRuntime) -> Result<(), Fail> {
-    let alloc = rt.alloc();
-    let mut dev = MemoryDevice::new(alloc, 64)?;
+// Writes the commit.
+fn write_commit<X: Abort>(rt: &X, alloc: Global, dev: &mut MemoryDevice) -> Result<(), Fail>
+    requires { (memory_state dev.old).blocks ≡ 64 }
+    ensures { Goes (memory_state dev.old) (memory_state dev.new) }
+{
     let mut writer = writer(alloc)?;
     let stages = [
         Stage::Copies,
@@ -228,19 +265,48 @@ fn a_commit_is_written(rt: HostRuntime) -> Result<(), Fail> {
         Stage::Homes,
         Stage::Footed,
     ];
-    make_steps(&rt, &mut writer, &mut dev, &stages)?;
-    same(&rt, &dev.clock(), &13, "writes and syncs");
-    look_at_crashes(&rt, alloc, &dev)?;
+    make_steps(rt, &mut writer, dev, &stages)
+}
+
+// Looks at a number of a block, which stands in this row of its table.
+fn same_number<X: Abort>(
+    rt: &X,
+    alloc: Global,
+    dev: &mut MemoryDevice,
+    row: usize,
+    at: u64,
+    byte: usize,
+    wanted: u64,
+) -> Result<(), Fail> {
+    let block = read(alloc, dev, at)?;
+    same_in(rt, &number(&block, byte), &wanted, row);
+    Ok(())
+}
+
+// Looks at the numbers that the commit wrote.
+fn look_at_numbers<X: Abort>(rt: &X, alloc: Global, dev: &mut MemoryDevice) -> Result<(), Fail> {
     for (row, &(at, byte, wanted)) in NUMBERS.iter().enumerate() {
-        let block = read(alloc, &mut dev, at)?;
-        same_in(&rt, &number(&block, byte), &wanted, row);
-    }
-    for (row, &(at, byte)) in FILLED.iter().enumerate() {
-        let block = read(alloc, &mut dev, at)?;
-        let whole = block.bytes().iter().all(|x| *x == byte);
-        same_in(&rt, &whole, &true, row);
+        same_number(rt, alloc, dev, row, at, byte, wanted)?;
     }
     Ok(())
+}
+
+// Looks at the blocks that are all of one byte.
+fn look_at_filled<X: Abort>(rt: &X, alloc: Global, dev: &mut MemoryDevice) -> Result<(), Fail> {
+    for (row, &(at, byte)) in FILLED.iter().enumerate() {
+        is_all_of(rt, alloc, dev, at, byte, row)?;
+    }
+    Ok(())
+}
+
+#[test]
+fn a_commit_is_written(rt: HostRuntime) -> Result<(), Fail> {
+    let mut dev = MemoryDevice::new(rt.alloc(), 64)?;
+    write_commit(&rt, rt.alloc(), &mut dev)?;
+    same(&rt, &dev.clock(), &13, "writes and syncs");
+    look_at_crashes(&rt, rt.alloc(), &dev)?;
+    look_at_numbers(&rt, rt.alloc(), &mut dev)?;
+    look_at_filled(&rt, rt.alloc(), &mut dev)
 }
 
 // The byte of which copy i is made.
@@ -326,43 +392,79 @@ fn finish(writer: &mut Writer, dev: &mut MemoryDevice) -> Result<(), Fail>
     Err(Fail::from("the commit does not end"))
 }
 
+// Looks whether an original has its copy's content.
+fn is_home<X: Abort>(rt: &X, alloc: Global, dev: &mut MemoryDevice, i: u64) -> Result<(), Fail>
+    requires { i < 255 }
+{
+    let block = read(alloc, dev, 300 + i)?;
+    let wanted = u64::from(byte_of(i)) * 0x0101_0101_0101_0101;
+    same_in(rt, &number(&block, 0), &wanted, i as usize);
+    same_in(rt, &number(&block, 4088), &wanted, i as usize);
+    Ok(())
+}
+
 // Looks whether each original has its copy's content.
-fn are_home<X: Abort>(
-    rt: &X,
-    alloc: Global,
-    dev: &mut MemoryDevice,
-    count: u32,
-) -> Result<(), Fail> {
+fn are_home<X: Abort>(rt: &X, alloc: Global, dev: &mut MemoryDevice, count: u32) -> Result<(), Fail>
+    requires { count ≤ 255 }
+{
     for i in 0..count {
-        let i = i as u64;
-        let block = read(alloc, dev, 300 + i)?;
-        let wanted = u64::from(byte_of(i)) * 0x0101_0101_0101_0101;
-        same_in(rt, &number(&block, 0), &wanted, i as usize);
-        same_in(rt, &number(&block, 4088), &wanted, i as usize);
+        is_home(rt, alloc, dev, u64::from(i))?;
     }
     Ok(())
 }
 
+// Writes a commit of so many pairs.
+fn write_wide(alloc: Global, dev: &mut MemoryDevice, count: u32) -> Result<(), Fail>
+    requires device { (memory_state dev.old).blocks ≡ 1024 }
+    requires some { 1 ≤ count }
+    requires few { count ≤ 255 }
+    ensures { Goes (memory_state dev.old) (memory_state dev.new) }
+{
+    let mut writer = wide_writer(alloc, count)?;
+    finish(&mut writer, dev)
+}
+
+// Lets the machine stop at a moment, and looks whether a replay puts the commit in place.
+fn is_home_after<X: Abort>(
+    rt: &X,
+    alloc: Global,
+    dev: &MemoryDevice,
+    moment: u64,
+    count: u32,
+) -> Result<(), Fail>
+    requires device { TellsCrashes (memory_state dev.now) }
+    requires few { count ≤ 255 }
+{
+    let mut left = dev.crash(alloc, moment, 0)?;
+    replays(alloc, &mut left, 0, "replayed 1\n")?;
+    are_home(rt, alloc, &mut left, count)
+}
+
+// Commits so many pairs, which need so many records.
+fn fills_records<X: Abort>(rt: &X, alloc: Global, count: u32, records: u32) -> Result<(), Fail>
+    requires some { 1 ≤ count }
+    requires few { count ≤ 255 }
+    requires records { records ≤ 2 }
+{
+    let mut dev = MemoryDevice::new(alloc, 1024)?;
+    write_wide(alloc, &mut dev, count)?;
+    let (pairs, records) = (u64::from(count), u64::from(records));
+    same(
+        rt,
+        &dev.clock(),
+        &(2 * pairs + records + 7),
+        "writes and syncs",
+    );
+    // The header was just synced.
+    is_home_after(rt, alloc, &dev, pairs + records + 4, count)?;
+    are_home(rt, alloc, &mut dev, count)
+}
+
 #[test]
 fn commits_fill_their_records(rt: HostRuntime) -> Result<(), Fail> {
-    let alloc = rt.alloc();
     // The pairs, and the records that they need.
-    for (count, records) in [(1u32, 1u32), (254, 1), (255, 2)] {
-        let mut dev = MemoryDevice::new(alloc, 1024)?;
-        let mut writer = wide_writer(alloc, count)?;
-        finish(&mut writer, &mut dev)?;
-        let (pairs, records) = (u64::from(count), u64::from(records));
-        same(
-            &rt,
-            &dev.clock(),
-            &(2 * pairs + records + 7),
-            "writes and syncs",
-        );
-        // The header was just synced.
-        let mut left = dev.crash(alloc, pairs + records + 4, 0)?;
-        are_home(&rt, alloc, &mut dev, count)?;
-        replays(alloc, &mut left, 0, "replayed 1\n")?;
-        are_home(&rt, alloc, &mut left, count)?;
+    for (count, records) in [(1, 1), (254, 1), (255, 2)] {
+        fills_records(&rt, rt.alloc(), count, records)?;
     }
     Ok(())
 }

@@ -58,8 +58,11 @@ static LEAVES: [(u64, Object, u64, u16); 9] = [
     (32, B, 15_000, 1384),
 ];
 
-// The device of a volume.
-pub(crate) fn device(alloc: Global, image: Image) -> Result<MemoryDevice, Fail> {
+/// The device of a volume.
+///
+/// # Errors
+/// Where there is no memory, or the volume is not made.
+pub fn device(alloc: Global, image: Image) -> Result<MemoryDevice, Fail> {
     match image {
         Image::Fresh(blocks) => fresh(alloc, blocks),
         Image::TwoFiles => {

@@ -9,8 +9,8 @@ mod pushing;
 mod running;
 mod telling;
 
-pub use images::Image;
-pub use opening::{next, opened};
+pub use images::{Image, device};
+pub use opening::{next, opened, opened_on};
 pub use pushing::{push_all, run_pushed};
 pub use r4_apply::{give_back, is_refusable, recall, refuse_memory, refuse_next};
 pub use r4_next::{Core, Taken, Wanted, pending};

@@ -19,8 +19,19 @@ pub fn opened(
     image: Image,
     scripts: &str,
 ) -> Result<Core<MemoryDevice, Unnamed>, Fail> {
+    opened_on(alloc, device(alloc, image)?, scripts)
+}
+
+/// The core of the volume of a device, which serves these scripts.
+///
+/// # Errors
+/// As with `opened`.
+pub fn opened_on(
+    alloc: Global,
+    dev: MemoryDevice,
+    scripts: &str,
+) -> Result<Core<MemoryDevice, Unnamed>, Fail> {
     let job = job_of(alloc, scripts)?;
-    let dev = device(alloc, image)?;
     match Core::open(alloc, dev, job, 1000) {
         Ok(core) => Ok(core),
         Err(OpenFault { dev: _, why: _ }) => Err(Fail::from("the core is not opened")),

@@ -4,6 +4,7 @@ use r4_devices::StopDevice;
 use r4_outside::{MemoryDevice, MemorySink};
 use r4_run_testing::{LIST, REPLAY, call, fresh, printed};
 use std::alloc::Global;
+use std::process::Abort;
 use std::sync::Wait;
 use std::test::Fail;
 use std::thread::Threads;
@@ -145,18 +146,38 @@ fn words(alloc: Global, options: &[&'static str]) -> Result<Vec<&'static str>, F
     Ok(words)
 }
 
+// Whether the program prints just this, and has this status.
+fn prints<X: Threads + Wait + Sync>(
+    rt: &X,
+    alloc: Global,
+    words: &[&str],
+    dev: &mut MemoryDevice,
+    text: &str,
+    status: u8,
+    wanted: &str,
+) -> Result<bool, Fail> {
+    let told = printed(rt, alloc, words, dev, text, status)?;
+    Ok(told.as_slice() == wanted.as_bytes())
+}
+
+// What a cut left is replayed and listed as it says.
+fn is_left<X: Threads + Wait + Sync>(
+    rt: &X,
+    alloc: Global,
+    dev: &mut MemoryDevice,
+    cut: &Cut,
+) -> Result<bool, Fail> {
+    let replayed = prints(rt, alloc, &REPLAY, dev, "", 0, cut.replayed)?;
+    let listed = prints(rt, alloc, &LIST, dev, "", 0, cut.listed)?;
+    Ok(replayed && listed)
+}
+
 // A cut is as it says.
 fn holds<X: Threads + Wait + Sync>(rt: &X, alloc: Global, cut: &Cut) -> Result<bool, Fail> {
     let mut dev = fresh(rt, alloc, 64)?;
     let words = words(alloc, cut.options)?;
-    let told = printed(rt, alloc, &words, &mut dev, TEXT, 6)?;
-    let replayed = printed(rt, alloc, &REPLAY, &mut dev, "", 0)?;
-    let listed = printed(rt, alloc, &LIST, &mut dev, "", 0)?;
-    Ok(
-        told.as_slice() == cut.told.as_bytes()
-            && replayed.as_slice() == cut.replayed.as_bytes()
-            && listed.as_slice() == cut.listed.as_bytes(),
-    )
+    let told = prints(rt, alloc, &words, &mut dev, TEXT, 6, cut.told)?;
+    Ok(is_left(rt, alloc, &mut dev, cut)? && told)
 }
 
 #[test]
@@ -167,17 +188,27 @@ fn power_is_cut(rt: HostRuntime) -> Result<(), Fail> {
     Ok(())
 }
 
+// Ends the test unless the program goes well and prints just this.
+fn tells<X: Abort + Threads + Wait + Sync>(
+    rt: &X,
+    alloc: Global,
+    words: &[&str],
+    dev: &mut MemoryDevice,
+    text: &str,
+    wanted: &str,
+) -> Result<(), Fail> {
+    let told = printed(rt, alloc, words, dev, text, 0)?;
+    assert_eq!(rt; told.as_slice(), wanted.as_bytes());
+    Ok(())
+}
+
 // A stop behind the last write is none.
 #[test]
 fn stop_that_is_not_reached_changes_nothing(rt: HostRuntime) -> Result<(), Fail> {
-    let alloc = rt.alloc();
-    let mut dev = fresh(&rt, alloc, 64)?;
+    let mut dev = fresh(&rt, rt.alloc(), 64)?;
     let words = ["run", "image", "--stop=10", "--tear=255", "--pick=1"];
-    let told = printed(&rt, alloc, &words, &mut dev, TEXT, 0)?;
-    assert_eq!(&rt; told.as_slice(), WHOLE.as_bytes());
-    let listed = printed(&rt, alloc, &LIST, &mut dev, "", 0)?;
-    assert_eq!(&rt; listed.as_slice(), AFTER.as_bytes());
-    Ok(())
+    tells(&rt, rt.alloc(), &words, &mut dev, TEXT, WHOLE)?;
+    tells(&rt, rt.alloc(), &LIST, &mut dev, "", AFTER)
 }
 
 // A replay on a device that stops behind so many writes.
@@ -195,22 +226,46 @@ fn replay_stopped<X: Threads + Wait + Sync>(
     Ok(dev.into_inner())
 }
 
+// What a cut at the first home leaves.
+fn cut_at_home<X: Threads + Wait + Sync>(rt: &X, alloc: Global) -> Result<MemoryDevice, Fail> {
+    let mut dev = fresh(rt, alloc, 64)?;
+    let words = ["run", "image", "--stop", "6", "--tear", "170"];
+    let _ = printed(rt, alloc, &words, &mut dev, TEXT, 6)?;
+    Ok(dev)
+}
+
+// Ends the test unless the volume behind the commit is listed.
+fn lists_after<X: Abort + Threads + Wait + Sync>(
+    rt: &X,
+    alloc: Global,
+    dev: &mut MemoryDevice,
+    writes: u64,
+) -> Result<(), Fail> {
+    let listed = printed(rt, alloc, &LIST, dev, "", 0)?;
+    assert_eq!(rt; listed.as_slice(), AFTER.as_bytes(), "{writes}");
+    Ok(())
+}
+
+// Stops a replay behind each of its four writes, one after the other.
+fn stop_each<X: Abort + Threads + Wait + Sync>(
+    rt: &X,
+    alloc: Global,
+    dev: MemoryDevice,
+) -> Result<MemoryDevice, Fail> {
+    let mut dev = dev;
+    for writes in 0..4u64 {
+        dev = replay_stopped(rt, alloc, dev, writes)?;
+        lists_after(rt, alloc, &mut dev, writes)?;
+    }
+    Ok(dev)
+}
+
 // A replay behind the cut at the first home is stopped behind each of its four writes, one after the
 // other, and then goes through.
 #[test]
 fn replays_are_stopped_too(rt: HostRuntime) -> Result<(), Fail> {
-    let alloc = rt.alloc();
-    let mut dev = fresh(&rt, alloc, 64)?;
-    let words = ["run", "image", "--stop", "6", "--tear", "170"];
-    let _ = printed(&rt, alloc, &words, &mut dev, TEXT, 6)?;
-    for writes in 0..4u64 {
-        dev = replay_stopped(&rt, alloc, dev, writes)?;
-        let listed = printed(&rt, alloc, &LIST, &mut dev, "", 0)?;
-        assert_eq!(&rt; listed.as_slice(), AFTER.as_bytes(), "{writes}");
-    }
-    let replayed = printed(&rt, alloc, &REPLAY, &mut dev, "", 0)?;
-    assert_eq!(&rt; replayed.as_slice(), b"replayed 1\n".as_slice());
-    let listed = printed(&rt, alloc, &LIST, &mut dev, "", 0)?;
-    assert_eq!(&rt; listed.as_slice(), AFTER.as_bytes());
-    Ok(())
+    let left = cut_at_home(&rt, rt.alloc())?;
+    let mut dev = stop_each(&rt, rt.alloc(), left)?;
+    tells(&rt, rt.alloc(), &REPLAY, &mut dev, "", "replayed 1\n")?;
+    tells(&rt, rt.alloc(), &LIST, &mut dev, "", AFTER)
 }

@@ -1,7 +1,7 @@
 //! A run on a device that stops behind each of its writes.
 
 use r4_devices::StopDevice;
-use r4_outside::MemorySink;
+use r4_outside::{MemoryDevice, MemorySink};
 use r4_run_testing::{LIST, REPLAY, RUN, call, fresh, printed};
 use std::alloc::Global;
 use std::sync::Wait;
@@ -24,6 +24,33 @@ fn committed(told: &[u8]) -> usize {
         .count()
 }
 
+// The status of a run, and how many commits it tells.
+fn run<X: Threads + Wait + Sync>(
+    rt: &X,
+    alloc: Global,
+    dev: &mut StopDevice<MemoryDevice>,
+) -> Result<(u8, usize), Fail> {
+    let mut out = MemorySink::new(alloc, 1000)?;
+    let status = call(rt, alloc, &RUN, dev, TEXT, &mut out)?;
+    Ok((status, committed(out.written())))
+}
+
+// Which of the states is left once the image is replayed.
+fn state_left<X: Threads + Wait + Sync>(
+    rt: &X,
+    alloc: Global,
+    dev: &mut MemoryDevice,
+) -> Result<Option<usize>, Fail> {
+    let mut line = MemorySink::new(alloc, 100)?;
+    let _ = call(rt, alloc, &REPLAY, dev, "", &mut line)?;
+    let listed = printed(rt, alloc, &LIST, dev, "", 0)?;
+    Ok(
+        STATES
+            .iter()
+            .position(|state| state.as_bytes() == listed.as_slice()),
+    )
+}
+
 // The status of a run on a device that stops behind so many writes, how many commits it tells, and
 // which of the states is left once the image is replayed.
 fn stopped<X: Threads + Wait + Sync>(
@@ -36,16 +63,9 @@ fn stopped<X: Threads + Wait + Sync>(
     let Ok(mut dev) = StopDevice::new(alloc, below, writes, tear, None) else {
         return Err(Fail::from("no memory for a torn write"));
     };
-    let mut out = MemorySink::new(alloc, 1000)?;
-    let status = call(rt, alloc, &RUN, &mut dev, TEXT, &mut out)?;
+    let (status, told) = run(rt, alloc, &mut dev)?;
     let mut below = dev.into_inner();
-    let mut line = MemorySink::new(alloc, 100)?;
-    let _ = call(rt, alloc, &REPLAY, &mut below, "", &mut line)?;
-    let listed = printed(rt, alloc, &LIST, &mut below, "", 0)?;
-    let state = STATES
-        .iter()
-        .position(|state| state.as_bytes() == listed.as_slice());
-    Ok((status, committed(out.written()), state))
+    Ok((status, told, state_left(rt, alloc, &mut below)?))
 }
 
 #[test]

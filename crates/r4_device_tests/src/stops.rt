@@ -55,6 +55,19 @@ fn three_blocks(alloc: Global) -> Result<MemoryDevice, Fail> {
     Ok(dev)
 }
 
+// Writes block 2, and block 1 twice, where the device stops at the third write.
+fn write_three<X: Abort>(
+    rt: &X,
+    alloc: Global,
+    dev: &mut StopDevice<MemoryDevice>,
+) -> Result<(), Fail> {
+    let first = put(alloc, dev, 2, 20)?;
+    let second = put(alloc, dev, 1, 21)?;
+    same(rt, &dev.starved(), &(!first || !second), "starved");
+    same(rt, &put(alloc, dev, 1, 31)?, &false, "torn");
+    Ok(())
+}
+
 // A device that passes two writes, of blocks 2 and 1, and stops at the third, of block 1 again: bits 0 and 2 are set.
 fn stopped<X: Abort>(
     rt: &X,
@@ -65,10 +78,7 @@ fn stopped<X: Abort>(
     let Ok(mut dev) = StopDevice::new(alloc, dev, 2, 5, pick) else {
         return Err(Fail::from("no memory for the torn write"));
     };
-    let first = put(alloc, &mut dev, 2, 20)?;
-    let second = put(alloc, &mut dev, 1, 21)?;
-    same(rt, &dev.starved(), &(!first || !second), "starved");
-    same(rt, &put(alloc, &mut dev, 1, 31)?, &false, "torn");
+    write_three(rt, alloc, &mut dev)?;
     Ok(dev)
 }
 
@@ -87,18 +97,29 @@ static LEFT: [(Option<u64>, [u8; 8], [u8; 8]); 3] = [
     ),
 ];
 
+// Looks at block 0, of which nothing was written, and at what is left of the other two.
+fn is_left<X: Abort>(
+    rt: &X,
+    alloc: Global,
+    dev: &mut MemoryDevice,
+    first: &[u8; 8],
+    second: &[u8; 8],
+) -> Result<(), Fail> {
+    same(rt, &sectors(alloc, dev, 0)?, &[10; 8], "block 0");
+    same(rt, &sectors(alloc, dev, 1)?, first, "block 1");
+    same(rt, &sectors(alloc, dev, 2)?, second, "block 2");
+    Ok(())
+}
+
 #[test]
 fn the_third_write_is_torn(rt: HostRuntime) -> Result<(), Fail> {
-    let alloc = rt.alloc();
     for (pick, first, second) in &LEFT {
-        let dev = stopped(&rt, alloc, three_blocks(alloc)?, *pick)?;
+        let dev = stopped(&rt, rt.alloc(), three_blocks(rt.alloc())?, *pick)?;
         if dev.starved() {
             continue;
         }
-        let mut dev = dev.into_inner();
-        same(&rt, &sectors(alloc, &mut dev, 0)?, &[10; 8], "block 0");
-        same(&rt, &sectors(alloc, &mut dev, 1)?, first, "block 1");
-        same(&rt, &sectors(alloc, &mut dev, 2)?, second, "block 2");
+        let mut left = dev.into_inner();
+        is_left(&rt, rt.alloc(), &mut left, first, second)?;
     }
     Ok(())
 }
@@ -113,23 +134,39 @@ fn each_call_after_the_stop_fails(rt: HostRuntime) -> Result<(), Fail> {
     Ok(())
 }
 
+// A device that passes one write, for which it cannot read what is below, and stops at the next.
+fn unread(alloc: Global) -> Result<StopDevice<MemoryDevice>, Fail> {
+    let mut below = three_blocks(alloc)?;
+    below.fail(alloc, 5)?;
+    let Ok(dev) = StopDevice::new(alloc, below, 1, 0, Some(1)) else {
+        return Err(Fail::from("no memory for the torn write"));
+    };
+    Ok(dev)
+}
+
+// Writes a block of such a device, and then another one, at which it stops.
+fn is_written<X: Abort>(
+    rt: &X,
+    alloc: Global,
+    dev: &mut StopDevice<MemoryDevice>,
+) -> Result<(), Fail> {
+    same(rt, &put(alloc, dev, 2, 20)?, &false, "answer");
+    same(rt, &[dev.clock(), dev.faults()], &[5, 1], "counts");
+    same(rt, &sectors(alloc, dev, 2)?, &[20; 8], "written");
+    same(rt, &put(alloc, dev, 1, 21)?, &false, "stop");
+    Ok(())
+}
+
 #[test]
 fn a_block_that_cannot_be_read_is_written(rt: HostRuntime) -> Result<(), Fail> {
     let alloc = rt.alloc();
-    let mut below = three_blocks(alloc)?;
-    below.fail(alloc, 5)?;
-    let Ok(mut dev) = StopDevice::new(alloc, below, 1, 0, Some(1)) else {
-        return Err(Fail::from("no memory for the torn write"));
-    };
-    same(&rt, &put(alloc, &mut dev, 2, 20)?, &false, "answer");
-    same(&rt, &[dev.clock(), dev.faults()], &[5, 1], "counts");
-    same(&rt, &sectors(alloc, &mut dev, 2)?, &[20; 8], "written");
-    same(&rt, &put(alloc, &mut dev, 1, 21)?, &false, "stop");
-    let mut dev = dev.into_inner();
-    same(&rt, &sectors(alloc, &mut dev, 1)?, &[11; 8], "not written");
+    let mut dev = unread(alloc)?;
+    is_written(&rt, alloc, &mut dev)?;
+    let mut left = dev.into_inner();
+    same(&rt, &sectors(alloc, &mut left, 1)?, &[11; 8], "not written");
     same(
         &rt,
-        &sectors(alloc, &mut dev, 2)?,
+        &sectors(alloc, &mut left, 2)?,
         &[20; 8],
         "not held back",
     );

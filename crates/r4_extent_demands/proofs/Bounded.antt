@@ -24,9 +24,9 @@ use Rattle.r4_leaf.specs.Units.{is_between}
 use Rattle.r4_leaf_edits.specs.Suiting.{SuitLeaves}
 use Rattle.r4_leaf_edits.proofs.KeyRanks.{key_again}
 use Rattle.r4_reach.specs.Needs.{cut_pieces, filled, gets_bytes, has_left_leaf, pointer_at, runs, taken_up, widened}
-use Rattle.r4_reach.specs.Touched.{Body, blocks_end, coming, first_byte, going}
+use Rattle.r4_reach.specs.Touched.{Body, blocks_end, coming, first_byte, going, is_spread}
 use Rattle.r4_extent_demands.specs.Pieces.{AreInOrder, HasRoom, PartHasRoom, block_at, hole_at, remade}
-use Rattle.r4_extent_demands.specs.Spreads.{IsFirstKey, IsSpreadBody}
+use Rattle.r4_extent_demands.specs.Sizes.{IsFirstKey, IsSizedBody}
 use Rattle.r4_extent_demands.proofs.Low.{at_offset, gets_low}
 use Rattle.r4_extent_demands.proofs.Rooms.{parted_room}
 use Rattle.r4_extent_demands.proofs.RunBytes.{behind_cons, behind_least, behind_nil, cost_least, runs_bytes, wider}
@@ -190,7 +190,7 @@ one_bytes p =
     let most = (costs None (rank p.key) p.part).most in
     omega (arith, c, z, most)
 
-module _ (b : Body) (h : Key) (first : IsFirstKey b h) (spread : IsSpreadBody b) (e : Edits) (suit : SuitLeaves (2 ^ 30) e) where
+module _ (b : Body) (h : Key) (first : IsFirstKey b h) (spread : IsSizedBody b) (e : Edits) (suit : SuitLeaves (2 ^ 30) e) where
   low : (k n : ℕ) → first_byte b ≤ k → k + 4096 * n ≤ first_byte b + 2 ^ 64
       → (j : ℕ) → k ≤ j → j + 4096 ≤ k + 4096 * n → gets_bytes b e j ≡ true → j < first_byte b + 2 ^ 30
   low k n above fits j from to gets = gets_low b h first e j suit spread.was (omega (arith, above, from)) (omega (arith, fits, to)) gets
@@ -337,6 +337,10 @@ taken_same b e c below (p ∷ ps) = by_test (has_left_leaf c (rank p.key) || is_
     by_test true = refl
     by_test false = refl
 
+no_bytes : twig_bytes [] ≡ 0
+unfolding bytes_behind
+no_bytes = refl
+
 spliced_short : (i j : ℕ) (middle ps : List TwigPiece) → length middle ≤ 1
     → length (spliced i j middle ps) ≤ 2 * length ps + 1
 spliced_short i j middle ps few =
@@ -348,7 +352,7 @@ spliced_short i j middle ps few =
     let g = ap length (take-append-drop j ps) in
     omega (arith, few, a, c, d, e, f, g)
 
-module _ (b : Body) (h : Key) (first : IsFirstKey b h) (spread : IsSpreadBody b) (e : Edits) (suit : SuitLeaves (2 ^ 30) e)
+module _ (b : Body) (h : Key) (first : IsFirstKey b h) (spread : IsSizedBody b) (e : Edits) (suit : SuitLeaves (2 ^ 30) e)
     (c : Node Value) (from : ℕ) (ps : List TwigPiece) (short : 16 * length ps ≤ 4068) (order : AreInOrder from ps)
     (room : All HasRoom ps) where
   parts_count : length (parted (going b).1 (parted (going b).0 ps)) ≤ 1016
@@ -383,19 +387,19 @@ module _ (b : Body) (h : Key) (first : IsFirstKey b h) (spread : IsSpreadBody b)
 
   -- ---- the blocks that come
 
-  coming_is : coming b ≡ (if b.in_extents then blocks_end b b.was else first_byte b, blocks_end b b.now)
-  coming_is = ap (λ (t : Bool). if t then (if b.in_extents then blocks_end b b.was else first_byte b, blocks_end b b.now) else (0, 0))
-      spread.spread
+  abbrev come_pair : Bool → ℕ × ℕ
+  come_pair t = if t then (if b.in_extents then blocks_end b b.was else first_byte b, blocks_end b b.now) else (0, 0)
 
   from_low : (t : Bool) → (first_byte b ≤ (if t then blocks_end b b.was else first_byte b))
       × ((if t then blocks_end b b.was else first_byte b) ≤ first_byte b + 2 ^ 30)
   from_low true = let was = spread.was in (omega arith, omega (arith, was))
   from_low false = (omega arith, omega arith)
 
-  come_bytes : twig_bytes (runs (gets_bytes b e) (coming b).0 (((coming b).1 - (coming b).0) / 4096)) ≤ 4194342
-  come_bytes =
-      let x : (coming b).0 ≡ (if b.in_extents then blocks_end b b.was else first_byte b) = ap (λ (p : ℕ × ℕ). p.0) coming_is in
-      let y : (coming b).1 ≡ blocks_end b b.now = ap (λ (p : ℕ × ℕ). p.1) coming_is in
+  come_spread : coming b ≡ come_pair true
+      → twig_bytes (runs (gets_bytes b e) (coming b).0 (((coming b).1 - (coming b).0) / 4096)) ≤ 4194342
+  come_spread is =
+      let x : (coming b).0 ≡ (if b.in_extents then blocks_end b b.was else first_byte b) = ap (λ (p : ℕ × ℕ). p.0) is in
+      let y : (coming b).1 ≡ blocks_end b b.now = ap (λ (p : ℕ × ℕ). p.1) is in
       let (low, high) = from_low b.in_extents in
       let now = spread.now in
       let begins = first.begins in
@@ -411,6 +415,21 @@ module _ (b : Body) (h : Key) (first : IsFirstKey b h) (spread : IsSpreadBody b)
       let least = behind_least (Some (coming b).0) (runs (gets_bytes b e) (coming b).0 (((coming b).1 - (coming b).0) / 4096)) in
       let most = runs_most (gets_bytes b e) (coming b).0 (((coming b).1 - (coming b).0) / 4096) in
       omega (arith, tight, least, most, above, end)
+
+  come_none : coming b ≡ (0, 0)
+      → twig_bytes (runs (gets_bytes b e) (coming b).0 (((coming b).1 - (coming b).0) / 4096)) ≤ 4194342
+  come_none is =
+      let none = ap (λ (p : ℕ × ℕ). twig_bytes (runs (gets_bytes b e) p.0 ((p.1 - p.0) / 4096))) is in
+      let z = no_bytes in
+      omega (arith, none, z)
+
+  come_bytes : twig_bytes (runs (gets_bytes b e) (coming b).0 (((coming b).1 - (coming b).0) / 4096)) ≤ 4194342
+  come_bytes = by_spread (is_spread b) refl
+    where
+      by_spread : (t : Bool) → is_spread b ≡ t
+          → twig_bytes (runs (gets_bytes b e) (coming b).0 (((coming b).1 - (coming b).0) / 4096)) ≤ 4194342
+      by_spread true on = come_spread (ap come_pair on)
+      by_spread false off = come_none (ap come_pair off)
 
   pub remade_few : All HasRoom (cut_pieces (going b) c ps) → twig_bytes (remade b e c ps) ≤ 12800000
   remade_few has = by_test (is_between c.lo c.hi (coming b).0)

@@ -1,21 +1,27 @@
 -- Whether units of a body come to a twig or go.
 use Rattle.std.specs.Prelude.{◌≡◌, ◌⊎◌, ℕ, zero, suc, ◌+◌, ◌-◌, ◌*◌, ◌<◌, ◌≤◌, List, [], ◌∷◌, ◌++◌, length}
-use Rattle.std.specs.Prelude.{Bool, true, false, not, ◌&&◌, ◌||◌, ◌==◌, nat_lt, Some}
+use Rattle.std.specs.Prelude.{Bool, true, false, not, ◌&&◌, ◌||◌, ◌==◌, nat_lt, drop, slice_get, None, Option, Some}
 use Rattle.std.proofs.Common.{arith, inl, inr, refl, sym, ap, ◌∙◌}
 use Rattle.std.specs.List.{list_any}
+use Rattle.std.proofs.lemmas.List.{drop_more}
+use Rattle.std.proofs.lemmas.List.Folds.{list_any-append}
+use Rattle.std.proofs.lemmas.Option.{get_or_from_slice_get, slice_get_within}
 use Rattle.std.proofs.lemmas.Bool.{both_ways, cases_lt, le-ltb, lt-ltb, ne_eqb, or_cases, or_left, or_parts, or_right}
 use Rattle.r4_base.specs.Key.{key_of_rank}
-use Rattle.r4_base.specs.Node.{items_of}
+use Rattle.r4_base.specs.Node.{Item, items_of}
 use Rattle.r4_base.specs.Tree.{Node}
 use Rattle.r4_base.specs.Value.{Value}
+use Rattle.r4_base.specs.declared.items.Unit.{Unit as ExtentUnit}
 use Rattle.r4_base.specs.declared.key.Key.{Key}
-use Rattle.r4_branch.specs.Pieces.{pieces_in}
+use Rattle.r4_branch.specs.Pieces.{item_pieces, pieces_in}
+use Rattle.r4_branch.proofs.ItemPieces.{pointer_pieces}
+use Rattle.r4_node40.proofs.Following.{item_first}
 use Rattle.r4_branch.specs.declared.piece.TwigPart.TheVariants.{Blocks}
 use Rattle.r4_branch.specs.declared.piece.TwigPiece.{TwigPiece}
 use Rattle.r4_content.specs.Edited.{Edits}
 use Rattle.r4_reach.specs.Needs.{changes_pieces, filled, gets_bytes, is_hole_part, put_among, runs}
 use Rattle.r4_reach.specs.Touched.{Body, going}
-use Rattle.r4_extent_demands.specs.Changing.{changes_units, comes_in, goes_from, is_other, is_refilled}
+use Rattle.r4_extent_demands.specs.Changing.{changes_units, comes_in, goes_from, is_changed, is_other, is_refilled}
 use Rattle.r4_extent_demands.specs.Pieces.{block_at, hole_at}
 use Rattle.r4_extent_demands.proofs.Runs.{AreQuiet, hole_some, next_runs, quiet_runs}
 
@@ -33,6 +39,18 @@ any_off f g [] less e = refl
 any_off f g (x ∷ xs) less e =
     let (first, rest) = or_parts (g x) (list_any g xs) e in
     (λ i. less x first i || any_off f g xs less rest i)
+
+any_both : {X : Type 0} (f g : X → Bool) (xs : List X) → list_any (λ x. f x || g x) xs
+    ≡ (list_any f xs || list_any g xs)
+any_both f g [] = refl
+any_both f g (x ∷ xs) = ap (λ (t : Bool). (f x || g x) || t) (any_both f g xs)
+    ∙ shuffle (f x) (g x) (list_any f xs) (list_any g xs)
+  where
+    shuffle : (p q r s : Bool) → ((p || q) || (r || s)) ≡ ((p || r) || (q || s))
+    shuffle true q r s = refl
+    shuffle false true true s = refl
+    shuffle false true false s = refl
+    shuffle false false r s = refl
 
 list_cases : (xs : List TwigPiece) → (xs ≡ []) ⊎ ((q : TwigPiece) × (qs : List TwigPiece) × (xs ≡ q ∷ qs))
 list_cases [] = inl refl
@@ -100,7 +118,35 @@ module _ (b : Body) (e : Edits) (c : Node Value) where
   by_test false h = is_off h
 
   pub changes_is : changes_pieces (Some b) e c ≡ (nat_lt 0 (put_among (Some b) e c) || changes_units (Some b) e c)
-  changes_is = by_test (nat_lt 0 (put_among (Some b) e c) || changes_units (Some b) e c) refl
+  changes_is = by_test (put || (come || (go || list_any (is_refilled b e) ps))) refl
+      ∙ ap (λ (t : Bool). put || (come || t)) (sym (any_both (goes_from (going b)) (is_refilled b e) ps))
+
+or_false : (t : Bool) → t ≡ (t || false)
+or_false true = refl
+or_false false = refl
+
+pub changes_both : (b : Option Body) (e : Edits) (c : Node Value)
+    → changes_pieces b e c ≡ (nat_lt 0 (put_among b e c) || changes_units b e c)
+changes_both None e c = or_false (nat_lt 0 (put_among None e c))
+changes_both (Some b) e c = changes_is b e c
+
+-- ---- items and units, one after the other
+
+pub items_any : (f : TwigPiece → Bool) (items : List Item) (i : ℕ) (it : Item) → slice_get items i ≡ Some it
+    → list_any f (pieces_in (drop i items))
+    ≡ (list_any f (item_pieces it) || list_any f (pieces_in (drop (i + 1) items)))
+items_any f items i it is = ap (λ (xs : List Item). list_any f (pieces_in xs)) (item_first items i it is)
+    ∙ list_any-append f (item_pieces it) (pieces_in (drop (i + 1) items))
+
+pub unit_first : (us : List ExtentUnit) (i : ℕ) (u : ExtentUnit) → slice_get us i ≡ Some u
+    → drop i us ≡ u ∷ drop (i + 1) us
+unit_first us i u is = drop_more us i u (slice_get_within us i u is)
+    ∙ ap (λ (x : ExtentUnit). x ∷ drop (i + 1) us) (get_or_from_slice_get us i u u is)
+
+-- a pointer stays
+pub pointer_still : (b : Body) (e : Edits) (it : Item) → it.plugin ≡ 3
+    → list_any (is_changed b e) (item_pieces it) ≡ false
+pointer_still b e it is = ap (list_any (is_changed b e)) (pointer_pieces it is)
 
 -- ---- a piece
 

@@ -10,7 +10,7 @@ use Rattle.r4_graft.proofs.Halves.{later_key, later_rank}
 use Rattle.r4_leaf_edits.proofs.KeyRanks.{body_is, key_again}
 use Rattle.r4_reach.specs.Reach.{is_body}
 use Rattle.r4_reach.specs.Touched.{Body}
-use Rattle.r4_extent_demands.specs.Spreads.{IsFirstKey}
+use Rattle.r4_extent_demands.specs.Sizes.{IsFirstKey}
 
 begin_key : (k : Key) → IsKey k → IsKey (with_offset k 0)
 begin_key k is = record { four = refl; small = by_place }

@@ -7,7 +7,9 @@ pub mod RunBytes
 pub mod Cuts
 pub mod Changes
 pub mod Puts
+pub mod Meets
+pub mod PutsInto
+pub mod Ahead
 pub mod Bounded
-pub mod Asks
 pub mod OfCommands
 pub mod Nothing

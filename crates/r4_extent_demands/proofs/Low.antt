@@ -17,7 +17,7 @@ use Rattle.r4_leaf_edits.proofs.Whole.{bodies_are_bytes}
 use Rattle.r4_reach.specs.Needs.{gets_bytes, is_met, meets}
 use Rattle.r4_reach.specs.Reach.{is_body}
 use Rattle.r4_reach.specs.Touched.{Body, first_byte, turns_out}
-use Rattle.r4_extent_demands.specs.Spreads.{IsFirstKey}
+use Rattle.r4_extent_demands.specs.Sizes.{IsFirstKey}
 
 -- a range that meets an interval has a key of it
 clip : (lo hi a b k : ℕ) → larger lo a ≤ k → k < smaller hi b → (lo ≤ k) × (k < hi) × (is_between a b k ≡ true)

@@ -8,13 +8,13 @@ use Rattle.r4_content.specs.Fields.{HasBytePaths}
 use Rattle.r4_content.specs.Seen.{Rises}
 use Rattle.r4_content.specs.declared.command.Command.{Command}
 use Rattle.r4_leaf_edits.specs.Suiting.{IsBefore, SuitLeaves}
-use Rattle.r4_reach.specs.Touched.{Body, body_on, edits_on}
+use Rattle.r4_reach.specs.Touched.{Body, body_on, edits_on, is_spread}
 use Rattle.r4_suited.specs.Suited.{AreLawfulSeen, end_of_bytes as end_suited}
 use Rattle.r4_suited.proofs.Runs.{few_set, grown_end, sized_run, written_run, run_suits}
 use Rattle.r4_suited.proofs.Small.{leaf_small}
 use Rattle.r4_suited.proofs.Suits.{command_suits}
 use Rattle.r4_suited.proofs.Walked.{AreMade, edits_made}
-use Rattle.r4_extent_demands.specs.Spreads.{AreExtentEdits, IsSpread, end_of_bytes}
+use Rattle.r4_extent_demands.specs.Sizes.{AreExtentEdits, IsSized, end_of_bytes}
 
 grown_low : (n : ℕ) (t : Bool) → n ≤ 2 ^ 30 → grown_end n t ≤ 2 ^ 30
 grown_low n true le = le
@@ -41,10 +41,14 @@ made_low s end e (inr (inr w)) suit = subst (SuitLeaves (2 ^ 30)) (sym w.is)
 by_body : (b : Option Body) (e : Edits) → SuitLeaves (end_suited b) e → SuitLeaves (2 ^ 30) e
     → SuitLeaves (end_of_bytes b) e
 by_body None e suit low = suit
-by_body (Some b) e suit low = low
+by_body (Some b) e suit low = by_test (is_spread b) suit
+  where
+    by_test : (t : Bool) → SuitLeaves (if t then 2 ^ 64 else 16384) e → SuitLeaves (if t then 2 ^ 30 else 16384) e
+    by_test true s = low
+    by_test false s = s
 
 pub command_asks : (c : Command) (s : Pairs) (in_extents : Bool) → HasBytePaths c → Rises s → AreLawfulSeen c s
-    → IsSpread (body_on c s in_extents) → AreExtentEdits (body_on c s in_extents) (edits_on c s)
+    → IsSized (body_on c s in_extents) → AreExtentEdits (body_on c s in_extents) (edits_on c s)
 command_asks c s in_extents paths rises lawful is =
     let suit = command_suits c s in_extents paths rises lawful in
     record {

@@ -25,9 +25,9 @@ use Rattle.r4_bodies.proofs.Premises.{suits_later}
 use Rattle.r4_node40.proofs.Following.{item_first}
 use Rattle.r4_path.proofs.CellNodes.{spans_are}
 use Rattle.r4_reach.specs.Needs.{leaf_edits, leaves_for, over}
-use Rattle.r4_reach.specs.Touched.{Body, first_byte}
+use Rattle.r4_reach.specs.Touched.{Body, first_byte, is_spread}
 use Rattle.r4_extent_demands.specs.Putting.{leaves_in, put_into}
-use Rattle.r4_extent_demands.specs.Spreads.{AreExtentEdits, IsSpread, end_of_bytes}
+use Rattle.r4_extent_demands.specs.Sizes.{AreExtentEdits, IsSized, end_of_bytes}
 
 -- ---- edits
 
@@ -37,13 +37,22 @@ not_both (Some x) r none some = absurd cc
 
 -- what is told of a body says where its bytes end
 pub told_suits : (b : Option Body) (spread : Option Interval) (e : Edits) → option_map interval_of spread ≡ spread_keys b
-    → IsSpread b → SuitLeaves (end_of_bytes b) e → SuitLeaves (bytes_end spread) e
+    → IsSized b → SuitLeaves (end_of_bytes b) e → SuitLeaves (bytes_end spread) e
 told_suits None None e told is suit = suit
 told_suits None (Some i) e told is suit = absurd cc
-told_suits (Some b) (Some i) e told is suit = suits_later (2 ^ 30) (2 ^ 64) e (omega arith) suit
-told_suits (Some b) None e told is suit = absurd
-    (not_both (spread_keys (Some b)) (first_byte b, first_byte b + 2 ^ 64) told
-    (ap (λ (x : Bool). if x then Some (first_byte b, first_byte b + 2 ^ 64) else None) is.spread))
+told_suits (Some b) (Some i) e told is suit = suits_later (end_of_bytes (Some b)) (2 ^ 64) e (low (is_spread b)) suit
+  where
+    low : (t : Bool) → (if t then 2 ^ 30 else 16384) ≤ 2 ^ 64
+    low true = omega arith
+    low false = omega arith
+told_suits (Some b) None e told is suit = by_test (is_spread b) told suit
+  where
+    keys : Bool → Option (ℕ × ℕ)
+    keys t = if t then Some (first_byte b, first_byte b + 2 ^ 64) else None
+
+    by_test : (t : Bool) → None ≡ keys t → SuitLeaves (if t then 2 ^ 30 else 16384) e → SuitLeaves 16384 e
+    by_test true none s = absurd (not_both (keys true) (first_byte b, first_byte b + 2 ^ 64) none refl)
+    by_test false none s = s
 
 -- ---- no units
 

@@ -6,14 +6,16 @@ use Rattle.std.proofs.lemmas.Bool.{and_parts, lt-ltb, ltb-true}
 use Rattle.std.proofs.lemmas.List.Elements.{All-append, All-cons, All-drop, All-head, All-nil, All-tail}
 use Rattle.std.proofs.lemmas.List.Elements.{All-take}
 use Rattle.r4_base.specs.Extents.{IsLawfulUnit, is_hole, unit_past}
-use Rattle.r4_base.specs.Key.{later, offset_of, rank}
+use Rattle.r4_base.specs.Key.{IsKey, later, offset_of, rank}
 use Rattle.r4_base.specs.declared.items.Unit.{Unit as ExtentUnit}
+use Rattle.r4_base.specs.declared.key.Key.{Key}
 use Rattle.r4_branch.specs.Pieces.{Follow, IsSound, IsSoundPart, open_end, part_end, piece_end}
 use Rattle.r4_branch.specs.declared.piece.TwigPart.{TwigPart}
 use Rattle.r4_branch.specs.declared.piece.TwigPart.TheVariants.{Blocks, Pointer}
 use Rattle.r4_branch.specs.declared.piece.TwigPiece.{TwigPiece}
 use Rattle.r4_graft.specs.Splices.{blocks_past, first_blocks, halves, is_within, parted, parted_piece, spliced}
-use Rattle.r4_graft.proofs.Halves.{later_key}
+use Rattle.r4_branch.proofs.UnitPieces.{some_width}
+use Rattle.r4_graft.proofs.Halves.{later_key, later_offset}
 use Rattle.r4_extent_demands.specs.Pieces.{HasRoom, HasRoomFor, PartHasRoom}
 
 -- ---- pieces that may make a twig
@@ -33,6 +35,18 @@ sound_room p h = record { key = h.0; part = sound_part (offset_of p.key) p.part 
 pub follow_room : (from to : ℕ) (ps : List TwigPiece) → Follow from to ps → All HasRoom ps
 follow_room from to [] f = All-nil HasRoom
 follow_room from to (p ∷ ps) f = All-cons HasRoom p ps (sound_room p f.1) (follow_room (piece_end p) to ps f.2)
+
+-- a unit so many blocks behind a key
+pub unit_room : (k : Key) (n : ℕ) (u : ExtentUnit) → IsKey k → IsLawfulUnit true (2 ^ 64) u
+    → offset_of k + 4096 * (n + u.width) ≤ 2 ^ 64
+    → HasRoom (record { key = later k (4096 * n); part = Blocks u })
+unit_room k n u key lawful fits =
+    let some = some_width u lawful in
+    let at = later_offset k (4096 * n) in
+    record {
+      key = later_key k (4096 * n) key (omega (arith, some, fits));
+      part = lawful_room (offset_of (later k (4096 * n))) u lawful (omega (arith, at, fits));
+    }
 
 -- ---- pieces that are parted
 

@@ -28,9 +28,12 @@ is_other p (q ∷ qs) = not (length qs == 0) || (is_hole_part p.part && not (is_
 abbrev pub is_refilled : Body → Edits → TwigPiece → Bool
 is_refilled b e p = is_other p (filled b e p)
 
+-- blocks of a piece go, or it is a hole of which a block gets bytes
+abbrev pub is_changed : Body → Edits → TwigPiece → Bool
+is_changed b e p = goes_from (going b) p || is_refilled b e p
+
 -- a unit of the body comes to a twig or goes, or is replaced
 abbrev pub changes_units : Option Body → Edits → Node Value → Bool
 changes_units None e c = false
 changes_units (Some b) e c = list_any (comes_in b) c.spans
-    || (list_any (goes_from (going b)) (pieces_in (items_of c.block))
-    || list_any (is_refilled b e) (pieces_in (items_of c.block)))
+    || list_any (is_changed b e) (pieces_in (items_of c.block))

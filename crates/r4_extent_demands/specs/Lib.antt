@@ -1,5 +1,5 @@
-pub mod Spreads
+pub mod Sizes
 pub mod Pieces
 pub mod Putting
 pub mod Changing
-pub mod Asking
+pub mod Ranges

@@ -12,10 +12,10 @@ ghost use Rattle.r4_path.specs.TwigPieces.{ArePiecesOf};
 ghost use Rattle.r4_reach.specs.Needs.{cut_pieces, points_to, taken_up, without_gone};
 ghost use Rattle.r4_reach.specs.Touched.{going};
 ghost use Rattle.r4_extent_demands.specs.Pieces.{HasRoom, ends_leaf, has_leaf_end, without_between};
-ghost use Rattle.r4_extent_demands.specs.Spreads.{IsSpreadBody};
+ghost use Rattle.r4_extent_demands.specs.Sizes.{IsSizedBody};
 
 use crate::parting::part_each;
-use crate::spread_body::SpreadBody;
+use crate::sized_body::SizedBody;
 use r4_base::{BLOCK_BYTES, Key, Memory, NodeId, UNPLACED};
 use r4_branch::{TwigPart, TwigPiece};
 use r4_cell::Cell;
@@ -80,15 +80,16 @@ fn points_to(id: NodeId, part: &TwigPart) -> bool
 }
 
 /// These of a twig's pieces without the blocks of the body that go. Their range goes to the extent or the leaf before
-/// them, or else to a new leaf. All pieces of the twig are given too.
-pub(crate) fn cut(
+/// them, or else to a new leaf. All pieces of the twig are given too. `Memory` where there was not enough
+/// (docs/volume.md, "Reach").
+pub fn cut(
     alloc: Global,
-    body: &SpreadBody,
+    body: &SizedBody,
     twig: &Cell,
     all: &[TwigPiece],
     left: &[TwigPiece],
 ) -> Result<Vec<TwigPiece>, Memory>
-    requires spread { IsSpreadBody body.now }
+    requires sized { IsSizedBody body.now }
     requires pieces { ArePiecesOf twig.now all.now }
     requires room { All HasRoom left.now }
     ensures items { IfOk result (λ v. v.items
@@ -123,8 +124,9 @@ fn without_between(
     Ok(left)
 }
 
-// What comes in the place of the pieces from one place up to another: nothing, or a pointer to a new leaf.
-fn taken_up(
+/// What comes in the place of the pieces from one place up to another: nothing, or a pointer to a new leaf. All pieces
+/// of the twig are given too. `Memory` where there was not enough (docs/volume.md, "Reach").
+pub fn taken_up(
     alloc: Global,
     twig: &Cell,
     all: &[TwigPiece],
@@ -203,7 +205,7 @@ fn ends_at(pieces: &[TwigPiece], key: Key) -> bool
 }
 
 /// The key at which a piece's unit ends, where that is before the end of its object.
-pub(crate) fn unit_end(piece: &TwigPiece) -> Option<Key>
+pub fn unit_end(piece: &TwigPiece) -> Option<Key>
     ensures { option_map rank result ≡ open_end piece.now }
 {
     let TwigPart::Blocks(unit) = piece.part else {

@@ -49,8 +49,8 @@ fn add_extent(
     }
 }
 
-// The range of the item at a place, where it is an extent.
-fn extent_at(twig: &Cell, node: &NodeView<'_>, place: u16) -> Option<KeyRange>
+/// The range of the item at a place, where it is an extent.
+pub(crate) fn extent_at(twig: &Cell, node: &NodeView<'_>, place: u16) -> Option<KeyRange>
     requires items { view_items node.now ≡ items_of twig.now.block }
     requires within { place < length (view_items node.now) }
     ensures { IsToldAt twig.now place (spans_told result) }

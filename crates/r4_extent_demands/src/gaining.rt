@@ -6,11 +6,11 @@ ghost use Rattle.r4_base.specs.Key.{minor_of, offset_of, rank};
 ghost use Rattle.r4_content.specs.Edited.{is_between, put_keys};
 ghost use Rattle.r4_content.specs.Held.{edits_of, pair_of, run_pairs};
 ghost use Rattle.r4_reach.specs.Needs.{gets_bytes, is_met};
-ghost use Rattle.r4_extent_demands.specs.Spreads.{IsSpreadBody};
+ghost use Rattle.r4_extent_demands.specs.Sizes.{IsSizedBody};
 ghost use Rattle.r4_extent_demands.specs.Pieces.{gets_among};
 
 use crate::keys::past_blocks;
-use crate::spread_body::SpreadBody;
+use crate::sized_body::SizedBody;
 use r4_base::{BLOCK_BYTES, Key, Value};
 use r4_content::Edits;
 use r4_leaf::KeyRange;
@@ -18,8 +18,8 @@ use r4_leaf_edits::{has, meets_fills, meets_runs};
 
 /// How many of so many blocks, from a key on, stand before the first one that gets bytes; all where none does. It is
 /// looked for by halves.
-pub(crate) fn blocks_before(body: &SpreadBody, edits: &Edits, from: Key, count: u64) -> u64
-    requires spread { IsSpreadBody body.now }
+pub(crate) fn blocks_before(body: &SizedBody, edits: &Edits, from: Key, count: u64) -> u64
+    requires sized { IsSizedBody body.now }
     requires body { minor_of from ≡ 4 }
     requires fits { offset_of from + 4096 * count ≤ 2 ^ 64 }
     ensures within { result ≤ count }
@@ -45,9 +45,10 @@ pub(crate) fn blocks_before(body: &SpreadBody, edits: &Edits, from: Key, count: 
     half + blocks_before(body, edits, from.behind(BLOCK_BYTES * half), count - half)
 }
 
-/// Whether one of so many blocks, from a key on, gets bytes: some are put there, or the first one had some in tails.
-pub(crate) fn gets_some(body: &SpreadBody, edits: &Edits, from: Key, count: u64) -> bool
-    requires spread { IsSpreadBody body.now }
+/// Whether one of so many blocks, from a key on, gets bytes: some are put there, or the first one had some in tails
+/// (docs/volume.md, "Reach").
+pub fn gets_some(body: &SizedBody, edits: &Edits, from: Key, count: u64) -> bool
+    requires sized { IsSizedBody body.now }
     requires body { minor_of from ≡ 4 }
     requires some { 1 ≤ count }
     requires fits { offset_of from + 4096 * count ≤ 2 ^ 64 }
@@ -60,8 +61,8 @@ pub(crate) fn gets_some(body: &SpreadBody, edits: &Edits, from: Key, count: u64)
     puts_in(&range, edits) || body.had_tails(from)
 }
 
-// Whether a key in a range gets a value.
-fn puts_in(range: &KeyRange, edits: &Edits) -> bool
+/// Whether a key in a range gets a value of its own.
+pub(crate) fn puts_in(range: &KeyRange, edits: &Edits) -> bool
     ensures { result ≡ is_met (put_keys (edits_of edits.now).puts)
         (rank range.now.from) (rank range.now.to) }
 {

@@ -1,9 +1,23 @@
-//! Keys of blocks of a body (docs/layout.md, "Keys").
+//! Keys of a body, and of its blocks (docs/layout.md, "Keys").
 
 ghost use Rattle.std.specs.Prelude.{◌≡◌, ◌+◌, ◌*◌, ◌^◌, ◌≤◌};
 ghost use Rattle.r4_base.specs.Key.{minor_of, offset_of, rank};
+ghost use Rattle.r4_reach.specs.Reach.{is_body};
 
 use r4_base::{BLOCK_BYTES, Key};
+
+/// The minor type of a body's keys.
+const BODY: u64 = 4;
+
+/// How many minor types there may be.
+const MINORS: u64 = 16;
+
+/// Whether a key is a body's (docs/layout.md, "Keys").
+pub fn is_of_body(key: Key) -> bool
+    ensures { result ≡ is_body (rank key) }
+{
+    key.el[0] % MINORS == BODY
+}
 
 /// The key so many blocks, at least one, behind a body's key: the one behind its last key, where the blocks end there.
 #[tactic(auto, unfolding(r4_base::specs::Key::rank))]

@@ -1,7 +1,6 @@
 //! What a command asks of a twig where a body stands in extents (docs/volume.md, "Reach").
 #![tactic(auto)]
 
-mod asking;
 mod changing;
 mod cutting;
 mod extents;
@@ -11,16 +10,17 @@ mod laws;
 mod parting;
 mod piecing;
 mod putting;
+mod ranges;
 mod running;
-mod spread_body;
-#[cfg(test)]
-mod tests;
-mod weighing;
+mod sized_body;
 
-pub use asking::twig_asks;
-pub use changing::changes_pieces;
+pub use changing::{changes_pieces, changes_some};
+pub use cutting::{cut, taken_up, unit_end};
+pub use gaining::gets_some;
+pub use keys::is_of_body;
 pub use laws::commands_of_extents_may_ask;
-pub use piecing::pieces_after;
-pub use putting::put_among;
-pub use spread_body::SpreadBody;
-pub use weighing::twig_bytes;
+pub use parting::part_each;
+pub use piecing::{comes_first, pieces_after};
+pub use putting::{keys_of, put_among};
+pub use ranges::{Way, extents_have};
+pub use sized_body::SizedBody;

@@ -13,11 +13,8 @@ use r4_branch::{TwigPart, TwigPiece};
 use std::alloc::Global;
 
 /// Pieces of which each is parted in two where the key lies within its blocks: before the block that has the key.
-pub(crate) fn part_each(
-    alloc: Global,
-    pieces: &[TwigPiece],
-    key: &Key,
-) -> Result<Vec<TwigPiece>, Memory>
+/// `Memory` where there was not enough (docs/volume.md, "Reach").
+pub fn part_each(alloc: Global, pieces: &[TwigPiece], key: &Key) -> Result<Vec<TwigPiece>, Memory>
     requires { All HasRoom pieces.now }
     ensures items { IfOk result (λ v. v.items ≡ parted (rank key.now) pieces.now) }
     ensures room { IfOk result (λ v. All HasRoom v.items) }

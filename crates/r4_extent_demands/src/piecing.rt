@@ -16,11 +16,11 @@ ghost use Rattle.r4_leaf.specs.Units.{is_between};
 ghost use Rattle.r4_reach.specs.Touched.{coming};
 ghost use Rattle.r4_path.specs.TwigPieces.{ArePiecesOf};
 ghost use Rattle.r4_extent_demands.specs.Pieces.{AreInOrder, HasRoom, remade};
-ghost use Rattle.r4_extent_demands.specs.Spreads.{IsSpread, IsSpreadBody};
+ghost use Rattle.r4_extent_demands.specs.Sizes.{IsSized, IsSizedBody};
 
 use crate::cutting::{cut, without_gone};
 use crate::running::add_blocks;
-use crate::spread_body::SpreadBody;
+use crate::sized_body::SizedBody;
 use r4_base::Memory;
 use r4_branch::{TwigPart, TwigPiece};
 use r4_cell::Cell;
@@ -39,13 +39,13 @@ use std::alloc::Global;
 /// greatest size of a file. `Memory` where there was not enough (docs/volume.md, "Reach").
 pub fn pieces_after(
     alloc: Global,
-    body: Option<&SpreadBody>,
+    body: Option<&SizedBody>,
     edits: &Edits,
     twig: &Cell,
     heard: &[Heard],
 ) -> Result<Vec<TwigPiece>, Memory>
     requires twig { twig.now.level ≡ 2 }
-    requires spread { IsSpread (option_copied body) }
+    requires sized { IsSized (option_copied body) }
     ensures pieces { IfOk result (λ v. v.items ≡ pieces_after (option_copied body.entry)
         (edits_of edits.now) (node_of twig.now) (map heard_seen heard.now)) }
     ensures few { SuitLeaves (2 ^ 30) (edits_of edits.now)
@@ -67,13 +67,13 @@ pub fn pieces_after(
 // These of a twig's pieces without the blocks that go, and with those that come. All pieces of the twig are given too.
 fn remade(
     alloc: Global,
-    body: &SpreadBody,
+    body: &SizedBody,
     edits: &Edits,
     twig: &Cell,
     all: &[TwigPiece],
     left: &[TwigPiece],
 ) -> Result<Vec<TwigPiece>, Memory>
-    requires spread { IsSpreadBody body.now }
+    requires sized { IsSizedBody body.now }
     requires pieces { ArePiecesOf twig.now all.now }
     requires room { All HasRoom left.now }
     requires order { AreInOrder (rank twig.now.lo) left.now }
@@ -94,11 +94,11 @@ fn remade(
 // The pieces, with blocks in the holes of the body where bytes come.
 fn fill_each(
     alloc: Global,
-    body: &SpreadBody,
+    body: &SizedBody,
     edits: &Edits,
     pieces: &[TwigPiece],
 ) -> Result<Vec<TwigPiece>, Memory>
-    requires spread { IsSpreadBody body.now }
+    requires sized { IsSizedBody body.now }
     requires room { All HasRoom pieces.now }
     ensures { IfOk result (λ v. v.items
         ≡ flat_map (filled body.now (edits_of edits.now)) pieces.now) }
@@ -113,11 +113,11 @@ fn fill_each(
 // Puts a piece behind the others, or where it is a hole of the body, its blocks.
 fn add_filled(
     pieces: &mut Vec<TwigPiece>,
-    body: &SpreadBody,
+    body: &SizedBody,
     edits: &Edits,
     piece: &TwigPiece,
 ) -> Result<(), Memory>
-    requires spread { IsSpreadBody body.now }
+    requires sized { IsSizedBody body.now }
     requires room { HasRoom piece.now }
     ensures { OnOk result (pieces.new.items
         ≡ pieces.old.items ++ filled body.now (edits_of edits.now) piece.now) }
@@ -135,8 +135,8 @@ fn add_filled(
 }
 
 /// How many blocks a piece has, where it is a hole of the body.
-pub(crate) fn hole_of(body: &SpreadBody, piece: &TwigPiece) -> Option<u64>
-    requires spread { IsSpreadBody body.now }
+pub(crate) fn hole_of(body: &SizedBody, piece: &TwigPiece) -> Option<u64>
+    requires sized { IsSizedBody body.now }
     requires room { HasRoom piece.now }
     ensures none { result ≡ None → (e : Changes) → filled body.now e piece.now ≡ piece.now ∷ [] }
     ensures hole { IfSome result (λ n. (e : Changes) → filled body.now e piece.now
@@ -160,16 +160,16 @@ pub(crate) fn hole_of(body: &SpreadBody, piece: &TwigPiece) -> Option<u64>
 // The pieces, with the blocks of the body that come, where the first of them lies in the twig's range.
 fn with_coming(
     alloc: Global,
-    body: &SpreadBody,
+    body: &SizedBody,
     edits: &Edits,
     twig: &Cell,
     pieces: &[TwigPiece],
 ) -> Result<Vec<TwigPiece>, Memory>
-    requires { IsSpreadBody body.now }
+    requires { IsSizedBody body.now }
     ensures { IfOk result (λ v. v.items
         ≡ with_coming body.now (edits_of edits.now) (node_of twig.now) pieces.now) }
 {
-    if !comes_first(body, twig) {
+    if !body.is_spread() || !comes_first(body, twig) {
         return copied(alloc, pieces);
     }
     let from = body.coming().from;
@@ -180,9 +180,9 @@ fn with_coming(
     Ok(pieces)
 }
 
-// Whether the first key of the blocks that come lies in a twig's range.
-fn comes_first(body: &SpreadBody, twig: &Cell) -> bool
-    requires { IsSpreadBody body.now }
+/// Whether the first key of the blocks that come lies in a twig's range (docs/volume.md, "Reach").
+pub fn comes_first(body: &SizedBody, twig: &Cell) -> bool
+    requires { IsSizedBody body.now }
     ensures { result ≡ is_between (node_of twig.now).lo (node_of twig.now).hi (coming body.now).0 }
 {
     let range = KeyRange {

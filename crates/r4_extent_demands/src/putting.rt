@@ -11,15 +11,15 @@ ghost use Rattle.r4_leaf_demands.specs.Touching.{span_of};
 ghost use Rattle.r4_leaf_edits.specs.Made.{spread_keys};
 ghost use Rattle.r4_reach.specs.Needs.{leaves_for, put_among};
 ghost use Rattle.r4_extent_demands.specs.Putting.{leaves_in, put_into};
-ghost use Rattle.r4_extent_demands.specs.Spreads.{AreExtentEdits, IsSpread};
+ghost use Rattle.r4_extent_demands.specs.Sizes.{AreExtentEdits, IsSized};
 
 use crate::extents::extents_of;
-use crate::spread_body::SpreadBody;
-use crate::weighing::over;
+use crate::sized_body::SizedBody;
 use r4_base::{Block, LEAF, Memory};
 use r4_cell::Cell;
 use r4_content::{Edits, Interval};
 use r4_leaf::{KeyRange, bytes_after};
+use r4_leaf_demands::over;
 use r4_leaf_edits::edits_of_leaf;
 use r4_node40::NodeMut;
 use std::alloc::Global;
@@ -28,7 +28,7 @@ use std::alloc::Global;
 /// one extent's range go to one new leaf, which may be too full (docs/volume.md, "Reach").
 pub fn put_among(
     alloc: Global,
-    body: Option<&SpreadBody>,
+    body: Option<&SizedBody>,
     edits: &Edits,
     twig: &Cell,
 ) -> Result<u64, Memory>
@@ -46,7 +46,7 @@ pub fn put_among(
 // How many come for the values that are put into these ranges.
 fn put_each(
     alloc: Global,
-    body: Option<&SpreadBody>,
+    body: Option<&SizedBody>,
     edits: &Edits,
     ranges: &[KeyRange],
 ) -> Result<u64, Memory>
@@ -69,7 +69,7 @@ fn put_each(
 // How many come for the values that are put into a range.
 fn leaves_for(
     alloc: Global,
-    body: Option<&SpreadBody>,
+    body: Option<&SizedBody>,
     edits: &Edits,
     range: &KeyRange,
 ) -> Result<u64, Memory>
@@ -89,7 +89,7 @@ fn leaves_for(
 // How many bytes the values that are put into a range have in a leaf of their own.
 fn bytes_put(
     alloc: Global,
-    body: Option<&SpreadBody>,
+    body: Option<&SizedBody>,
     edits: &Edits,
     range: &KeyRange,
 ) -> Result<u64, Memory>
@@ -108,13 +108,13 @@ fn bytes_put(
     Ok(bytes)
 }
 
-// All keys of a body, if there is one.
-fn keys_of(body: Option<&SpreadBody>) -> Option<Interval>
-    requires { IsSpread (option_copied body) }
+/// All keys of a body that stands in extents afterwards, if there is one (docs/volume.md, "Reach").
+pub fn keys_of(body: Option<&SizedBody>) -> Option<Interval>
+    requires { IsSized (option_copied body) }
     ensures { option_map interval_of result ≡ spread_keys (option_copied body.entry) }
 {
     match body {
-        Some(body) => Some(body.all_keys()),
+        Some(body) => body.spread_keys(),
         None => None,
     }
 }

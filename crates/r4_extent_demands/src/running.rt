@@ -5,10 +5,10 @@ ghost use Rattle.r4_base.specs.Key.{minor_of, offset_of, rank};
 ghost use Rattle.r4_content.specs.Held.{edits_of};
 ghost use Rattle.r4_reach.specs.Needs.{gets_bytes, runs};
 ghost use Rattle.r4_extent_demands.specs.Pieces.{block_at, hole_at};
-ghost use Rattle.r4_extent_demands.specs.Spreads.{IsSpreadBody};
+ghost use Rattle.r4_extent_demands.specs.Sizes.{IsSizedBody};
 
 use crate::gaining::blocks_before;
-use crate::spread_body::SpreadBody;
+use crate::sized_body::SizedBody;
 use r4_base::{BLOCK_BYTES, Key, Memory, UNPLACED, Unit};
 use r4_branch::{TwigPart, TwigPiece};
 use r4_content::Edits;
@@ -17,12 +17,12 @@ use r4_content::Edits;
 /// block, and what is between them is a hole.
 pub(crate) fn add_blocks(
     pieces: &mut Vec<TwigPiece>,
-    body: &SpreadBody,
+    body: &SizedBody,
     edits: &Edits,
     from: Key,
     count: u64,
 ) -> Result<(), Memory>
-    requires spread { IsSpreadBody body.now }
+    requires sized { IsSizedBody body.now }
     requires body { minor_of from ≡ 4 }
     requires fits { offset_of from + 4096 * count ≤ 2 ^ 64 }
     ensures { OnOk result (pieces.new.items ≡ pieces.old.items

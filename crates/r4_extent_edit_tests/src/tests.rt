@@ -1,6 +1,6 @@
 //! Extents over holes and in the place of leaves.
 
-ghost use Rattle.std.specs.Prelude.{◌≡◌, ◌≤◌, length};
+ghost use Rattle.std.specs.Prelude.{◌≡◌, ◌+◌, ◌≤◌, length};
 
 use crate::filling::{fill, fill_below};
 use crate::turning::{turn_all, turn_below};
@@ -38,14 +38,21 @@ fn same_rows<X: Abort>(rt: &X, looked: &Looked, want: &[Row]) {
     assert_eq!(rt; looked.rows.as_slice(), want);
 }
 
+// Spells a unit of one block at its place in an extent.
+fn spell_unit(body: &mut [u8], at: usize, start: u64)
+    requires { at + 16 ≤ length body.old }
+    ensures { length body.new ≡ length body.old }
+{
+    put64(body, at, start);
+    put64(body, at + 8, 1);
+}
+
 // Spells the extent of two blocks that have no place.
 fn spell_new_blocks(body: &mut [u8])
     requires { length body.old ≡ 32 }
 {
-    put64(body, 0, UNPLACED);
-    put64(body, 8, 1);
-    put64(body, 16, UNPLACED + 1);
-    put64(body, 24, 1);
+    spell_unit(body, 0, UNPLACED);
+    spell_unit(body, 16, UNPLACED + 1);
 }
 
 // The root of two holes, the first of one block and the second of two.

@@ -49,27 +49,42 @@ fn charge_all(alloc: Global, space: &mut SpaceMap, cells: u32) -> Result<(), Fai
     Ok(())
 }
 
-#[test]
-fn ten_thousand_atoms_are_charged(rt: HostRuntime) -> Result<(), Fail> {
-    let alloc = rt.alloc();
-    let mut space = large(&rt, alloc)?;
-    charge_all(alloc, &mut space, 1)?;
-    same(&rt, &space.free(), &668_520, "one cell each");
-    charge_all(alloc, &mut space, 2)?;
-    same(&rt, &space.free(), &658_520, "two cells each");
+// Charges the atoms of a large volume twice.
+fn charge_twice<X: Abort>(rt: &X, alloc: Global, space: &mut SpaceMap) -> Result<(), Fail>
+    requires { space.old.sealed ≡ [] }
+{
+    charge_all(alloc, space, 1)?;
+    same(rt, &space.free(), &668_520, "one cell each");
+    charge_all(alloc, space, 2)?;
+    same(rt, &space.free(), &658_520, "two cells each");
     Ok(())
 }
 
 #[test]
-fn thirty_thousand_blocks_are_placed(rt: HostRuntime) -> Result<(), Fail> {
-    let alloc = rt.alloc();
-    let mut space = large(&rt, alloc)?;
+fn ten_thousand_atoms_are_charged(rt: HostRuntime) -> Result<(), Fail> {
+    let mut space = large(&rt, rt.alloc())?;
+    charge_twice(&rt, rt.alloc(), &mut space)
+}
+
+// Places 30,000 blocks from block 22 on.
+fn place_all(space: &mut SpaceMap) {
     for _ in 0..30_000u64 {
         let _ = space.place(BlockNo(22));
     }
-    same(&rt, &space.free(), &1_018_520, "placed");
+}
+
+// Places the blocks on a large volume, for an atom that is settled then.
+fn place_and_settle<X: Abort>(rt: &X, space: &mut SpaceMap) {
+    place_all(space);
+    same(rt, &space.free(), &1_018_520, "placed");
     space.settle(AtomNo(1));
-    same(&rt, &space.free(), &1_018_520, "settled");
+    same(rt, &space.free(), &1_018_520, "settled");
+}
+
+#[test]
+fn thirty_thousand_blocks_are_placed(rt: HostRuntime) -> Result<(), Fail> {
+    let mut space = large(&rt, rt.alloc())?;
+    place_and_settle(&rt, &mut space);
     same(&rt, &space.is_used(BlockNo(30_023)), &true, "the last one");
     Ok(())
 }

@@ -7,7 +7,7 @@ use crate::same::{same, same_in};
 use crate::spaces::read;
 use r4_base::{AtomNo, Block, BlockNo, Key, NodeId, Oid};
 use r4_cell::{Cell, read_cell};
-use r4_place::{How, choose};
+use r4_place::{How, Placed, choose};
 use r4_space::SpaceMap;
 use std::alloc::Global;
 use std::process::Abort;
@@ -64,6 +64,17 @@ fn slum(alloc: Global, third: u64) -> Result<Vec<Arc<Cell>>, Fail>
     Ok(Vec::from_array(alloc, [one, two, three, four])?)
 }
 
+// Compares what is done with the cells of a slum, one by one.
+fn same_placed<X: Abort>(rt: &X, placed: &[Placed], slum: &[Arc<Cell>], wanted: &[How]) {
+    same(rt, &placed.len(), &wanted.len(), "cells");
+    for (row, (got, how)) in placed.iter().zip(wanted).enumerate() {
+        same_in(rt, &got.how, how, row);
+    }
+    for (row, (got, cell)) in placed.iter().zip(slum).enumerate() {
+        same_in(rt, &got.node, &cell.id(), row);
+    }
+}
+
 // Looks at what is done with the cells of a slum, and at how many blocks are free afterwards.
 fn look<X: Abort>(
     rt: &X,
@@ -77,19 +88,28 @@ fn look<X: Abort>(
 {
     assert!(rt; space.free() >= slum.len() as u64);
     let placed = choose(alloc, AtomNo(1), slum, 64, true, space)?;
-    same(rt, &placed.len(), &wanted.len(), "cells");
-    for (row, (got, how)) in placed.iter().zip(wanted).enumerate() {
-        same_in(rt, &got.how, how, row);
-    }
-    for (row, (got, cell)) in placed.iter().zip(slum).enumerate() {
-        same_in(rt, &got.node, &cell.id(), row);
-    }
+    same_placed(rt, &placed, slum, wanted);
     same(rt, &space.free(), &free, "free blocks");
     Ok(())
 }
 
-// The same of two cells without a block, a third one of this name, and one more without, in a space of 64 blocks of which
-// these are used: the space then.
+// The same of two cells without a block, a third one of this name, and one more without, in a space of 64 blocks.
+fn look_of_four<X: Abort>(
+    rt: &X,
+    alloc: Global,
+    space: &mut SpaceMap,
+    third: u64,
+    wanted: &[How],
+    free: u64,
+) -> Result<(), Fail>
+    requires blocks { space.old.block_count ≡ 64 }
+    requires within { third < 2 ^ 63 → third < 64 }
+{
+    let cells = slum(alloc, third)?;
+    look(rt, alloc, space, &cells, wanted, free)
+}
+
+// The same in a space of 64 blocks of which these are used: the space then.
 fn look_at<X: Abort>(
     rt: &X,
     alloc: Global,
@@ -101,8 +121,7 @@ fn look_at<X: Abort>(
     requires within { third < 2 ^ 63 → third < 64 }
 {
     let mut space = space(rt, alloc, told, free[0])?;
-    let cells = slum(alloc, third)?;
-    look(rt, alloc, &mut space, &cells, wanted, free[1])?;
+    look_of_four(rt, alloc, &mut space, third, wanted, free[1])?;
     Ok(space)
 }
 

@@ -149,26 +149,43 @@ fn counted(trace: &Trace) -> (usize, usize) {
 }
 
 // What is listed of a device.
-fn listed(alloc: Global, dev: MemoryDevice) -> Result<Vec<u8>, Fail> {
-    let mut dev = dev;
+fn listed(alloc: Global, dev: &mut MemoryDevice) -> Result<Vec<u8>, Fail> {
     let mut out = MemorySink::new(alloc, 100)?;
-    match list(alloc, &mut dev, b"/", &mut out) {
+    match list(alloc, dev, b"/", &mut out) {
         Ok(()) => Ok(out.written().to_vec(alloc)?),
         Err(_) => Err(Fail::from("the device is not listed")),
     }
 }
 
-// How many atoms were committed and acknowledged, and which of the states is left.
-fn left(alloc: Global, stop: Stop) -> Result<(usize, usize, Option<usize>), Fail> {
+// Which of the states is left on a device.
+fn state_on(alloc: Global, dev: &mut MemoryDevice) -> Result<Option<usize>, Fail> {
+    let text = listed(alloc, dev)?;
+    Ok(
+        STATES
+            .iter()
+            .position(|state| state.as_bytes() == text.as_slice()),
+    )
+}
+
+// How many atoms were committed and acknowledged, and the device that is left.
+fn ran(alloc: Global, stop: Stop) -> Result<((usize, usize), MemoryDevice), Fail> {
     let mut core = opened(alloc, stop)?;
     let done = run(&mut core, alloc);
-    let (committed, acked) = counted(core.trace());
+    let counts = counted(core.trace());
     let dev = core.into_device().into_inner();
-    done?;
-    let text = listed(alloc, dev)?;
-    let state = STATES
-        .iter()
-        .position(|state| state.as_bytes() == text.as_slice());
+    match done {
+        Ok(()) => Ok((counts, dev)),
+        Err(fault) => {
+            drop(dev);
+            Err(fault)
+        }
+    }
+}
+
+// How many atoms were committed and acknowledged, and which of the states is left.
+fn left(alloc: Global, stop: Stop) -> Result<(usize, usize, Option<usize>), Fail> {
+    let ((committed, acked), mut dev) = ran(alloc, stop)?;
+    let state = state_on(alloc, &mut dev)?;
     Ok((committed, acked, state))
 }
 

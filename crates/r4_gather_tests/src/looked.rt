@@ -52,6 +52,21 @@ fn look(alloc: Global, dev: &mut Counting, root: Root, command: &Command) -> Res
     Ok(Looked { asked, seen })
 }
 
+// Ends the test unless just what a row says was asked for and seen, and no block was read again.
+fn looked_so<X: Abort>(
+    rt: &X,
+    alloc: Global,
+    looked: &Looked,
+    row: &Row,
+    again: u64,
+) -> Result<(), Fail> {
+    let (text, wanted) = *row;
+    let got = words(alloc, looked.asked.as_slice(), &looked.seen)?;
+    assert_eq!(rt; got.as_str(), wanted, "{text}");
+    assert_eq!(rt; again, 0, "{text}: blocks that are read again");
+    Ok(())
+}
+
 // Ends the test unless the command of a row asks for just this and sees just this, and no block is
 // read twice.
 fn looks<X: Abort>(
@@ -61,13 +76,9 @@ fn looks<X: Abort>(
     row: &Row,
     made: Oid,
 ) -> Result<(), Fail> {
-    let (text, wanted) = *row;
-    let command = command(alloc, text, made)?;
+    let command = command(alloc, row.0, made)?;
     let looked = look(alloc, &mut tree.0, tree.1, &command)?;
-    let got = words(alloc, looked.asked.as_slice(), &looked.seen)?;
-    assert_eq!(rt; got.as_str(), wanted, "{text}");
-    assert_eq!(rt; tree.0.again, 0, "{text}: blocks that are read again");
-    Ok(())
+    looked_so(rt, alloc, &looked, row, tree.0.again)
 }
 
 // The rows in one tree.

@@ -1,12 +1,11 @@
 //! Which cells are named as others than they are.
 
-use crate::cells::{Place, branch, leaf, twig};
+use crate::cells::{Made, Place, cells};
 use r4_base::{BlockNo, CellFault, Key, Oid};
-use r4_cell::{Cell, least, top};
+use r4_cell::{least, top};
 use r4_judging::{Misfit, misnamed};
 use std::alloc::Global;
 use std::process::Abort;
-use std::sync::Arc;
 use std::test::Fail;
 
 // The place of a twig of the whole range.
@@ -28,11 +27,12 @@ fn byte(offset: u64) -> Key {
 fn found<X: Abort>(
     rt: &X,
     alloc: Global,
-    cells: &[Arc<Cell>],
+    made: &[Made],
     wanted: Option<Misfit>,
     what: &str,
 ) -> Result<(), Fail> {
-    let got = misnamed(alloc, cells)?;
+    let cells = cells(alloc, made)?;
+    let got = misnamed(alloc, cells.as_slice())?;
     assert_eq!(rt; got, wanted, "{what}");
     Ok(())
 }
@@ -49,64 +49,47 @@ fn misfit(block: u64, level: u8, lo: Key, fault: CellFault) -> Option<Misfit> {
 
 #[test]
 fn a_block_that_is_only_named_is_not_judged(rt: HostRuntime) -> Result<(), Fail> {
-    let alloc = rt.alloc();
-    let low = branch(alloc, whole(22, 2), [(least(), 40), (byte(0), 40)])?;
-    let high = branch(alloc, whole(24, 3), [(least(), 40), (byte(0), 40)])?;
-    found(&rt, alloc, &[low, high], None, "only named")
+    let to = [(least(), 40), (byte(0), 40)];
+    let made = [
+        Made::Branch(whole(22, 2), to),
+        Made::Branch(whole(24, 3), to),
+    ];
+    found(&rt, rt.alloc(), &made, None, "only named")
 }
 
 #[test]
 fn a_block_beside_a_run_is_not_judged(rt: HostRuntime) -> Result<(), Fail> {
-    let alloc = rt.alloc();
-    let cells = [
-        leaf(alloc, 24, least(), byte(0))?,
-        leaf(alloc, 27, byte(0), top())?,
-        twig(alloc, whole(22, 2), (least(), 40), (byte(0), 25, 2))?,
+    let made = [
+        Made::Leaf(24, least(), byte(0)),
+        Made::Leaf(27, byte(0), top()),
+        Made::Twig(whole(22, 2), (least(), 40), (byte(0), 25, 2)),
     ];
-    found(&rt, alloc, &cells, None, "before and behind the run")
+    found(&rt, rt.alloc(), &made, None, "before and behind the run")
 }
 
 #[test]
 fn a_leaf_that_is_named_twice_is_damage(rt: HostRuntime) -> Result<(), Fail> {
-    let alloc = rt.alloc();
-    let cells = [
-        leaf(alloc, 23, least(), byte(0))?,
-        branch(alloc, whole(22, 2), [(least(), 23), (byte(0), 23)])?,
+    let made = [
+        Made::Leaf(23, least(), byte(0)),
+        Made::Branch(whole(22, 2), [(least(), 23), (byte(0), 23)]),
     ];
     let range = CellFault::Range { item: 0 };
-    found(
-        &rt,
-        alloc,
-        &cells,
-        misfit(23, 1, least(), range),
-        "named twice",
-    )
+    let wanted = misfit(23, 1, least(), range);
+    found(&rt, rt.alloc(), &made, wanted, "named twice")
 }
 
 #[test]
 fn the_block_nearest_to_the_root_comes_first(rt: HostRuntime) -> Result<(), Fail> {
-    let alloc = rt.alloc();
-    let cells = [
-        leaf(alloc, 23, least(), byte(0))?,
-        leaf(alloc, 25, byte(0), top())?,
-        twig(alloc, whole(22, 2), (least(), 23), (byte(0), 25, 2))?,
-        branch(alloc, whole(24, 3), [(least(), 22), (byte(0), 40)])?,
+    let made = [
+        Made::Leaf(23, least(), byte(0)),
+        Made::Leaf(25, byte(0), top()),
+        Made::Twig(whole(22, 2), (least(), 23), (byte(0), 25, 2)),
+        Made::Branch(whole(24, 3), [(least(), 22), (byte(0), 40)]),
     ];
     let range = CellFault::Range { item: 0 };
-    found(
-        &rt,
-        alloc,
-        &cells,
-        misfit(22, 2, least(), range),
-        "the twig",
-    )?;
-    let level = CellFault::Level;
-    found(
-        &rt,
-        alloc,
-        &cells[..3],
-        misfit(25, 1, byte(0), level),
-        "the leaf in an extent",
-    )?;
-    found(&rt, alloc, &cells[..2], None, "leaves name nothing")
+    let twig = misfit(22, 2, least(), range);
+    found(&rt, rt.alloc(), &made, twig, "the twig")?;
+    let leaf = misfit(25, 1, byte(0), CellFault::Level);
+    found(&rt, rt.alloc(), &made[..3], leaf, "the leaf in an extent")?;
+    found(&rt, rt.alloc(), &made[..2], None, "leaves name nothing")
 }

@@ -18,8 +18,9 @@ const BODY: u64 = 4;
 /// How many minor types there may be.
 const MINORS: u64 = 16;
 
-/// Whether one of the intervals has a key in a range that is a body's, or is none's.
-pub(crate) fn intervals_have(range: &KeyRange, body: bool, intervals: &[Interval]) -> bool
+/// Whether one of the intervals has a key in a range that is a body's, or is none's. A step is taken for each interval
+/// (docs/volume.md, "Reach").
+pub fn intervals_have(range: &KeyRange, body: bool, intervals: &[Interval]) -> bool
     ensures { (result ≡ true) ↔ MeetsKind body (map interval_of intervals.now)
         (rank range.now.from) (rank range.now.to) }
 {

@@ -29,8 +29,8 @@ pub(crate) enum Way {
     Read,
 }
 
-/// The range of a leaf or a data block. Neither has extents.
-pub(crate) fn low_range(cell: &Cell) -> KeyRange
+/// The range of a leaf or a data block. Neither has extents (docs/volume.md, "Cells").
+pub fn low_range(cell: &Cell) -> KeyRange
     requires { cell.now.level ≤ 1 }
     ensures from { result.from ≡ cell.now.lo }
     ensures to { result.to ≡ cell.now.hi }

@@ -14,7 +14,7 @@ use r4_cell::Cell;
 use r4_marking::{Asking, Heard};
 
 /// How many bytes a pointer has, with its header.
-const POINTER_ROOM: u64 = 46;
+pub const POINTER_ROOM: u64 = 46;
 
 /// Bytes that are too many count for one more node each time that there are so many.
 const NODE_SHARE: u64 = 1024;
@@ -27,8 +27,9 @@ pub(crate) fn needing(more: u64) -> Option<Asking>
     (more > 0).then_some(Asking { more, gone: false })
 }
 
-/// How many new cells a cell counts for that needs so many bytes for its items: none where they fit.
-pub(crate) fn over(bytes: u64) -> u64
+/// How many new cells a cell counts for that needs so many bytes for its items: none where they fit (docs/volume.md,
+/// "Reach").
+pub fn over(bytes: u64) -> u64
     requires { bytes < 2 ^ 63 }
     ensures { result ≡ over bytes }
 {
@@ -59,8 +60,8 @@ pub(crate) fn node_more(cell: &Cell, heard: &[Heard]) -> u64
     }
 }
 
-// How many bytes the items of a node take up, with their headers.
-fn node_bytes(cell: &Cell) -> u64
+/// How many bytes the items of a node take up, with their headers (docs/volume.md, "Reach").
+pub fn node_bytes(cell: &Cell) -> u64
     requires { 1 ≤ cell.now.level }
     ensures weight { result ≡ weight (items_of cell.now.block) }
     ensures fits { result ≤ 4068 }
@@ -75,8 +76,8 @@ fn node_bytes(cell: &Cell) -> u64
     bytes
 }
 
-// How many pointers all of these ask for.
-fn all_more(heard: &[Heard]) -> u64
+/// How many pointers all of these ask for (docs/volume.md, "Reach").
+pub fn all_more(heard: &[Heard]) -> u64
     requires { all_more (map heard_seen heard.now) < 2 ^ 64 }
     ensures { result ≡ all_more (map heard_seen heard.now) }
 {
@@ -86,8 +87,8 @@ fn all_more(heard: &[Heard]) -> u64
     }
 }
 
-// How many of these ask for pointers.
-fn growing(heard: &[Heard]) -> u64
+/// How many of these ask for pointers (docs/volume.md, "Reach").
+pub fn growing(heard: &[Heard]) -> u64
     requires { length heard.now < 2 ^ 63 }
     ensures count { result ≡ growing (map heard_seen heard.now) }
     ensures few { result ≤ length heard.now }

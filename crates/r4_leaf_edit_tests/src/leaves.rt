@@ -96,13 +96,18 @@ fn a_leaf_is_filled_before_another_comes(rt: HostRuntime) -> Result<(), Fail> {
     Ok(())
 }
 
+// A leaf with two tails of one file.
+fn two_tails(alloc: Global) -> Result<Arc<Cell>, Fail> {
+    let bare = empty_leaf(alloc, LEAF, least(), top())?;
+    let low = put_in(alloc, &bare, byte(0), TAIL, &ZEROS[..2000])?;
+    put_in(alloc, &low, byte(8000), TAIL, &ZEROS[..1992])
+}
+
 // Bytes between two others of their file, so many that three leaves come.
 #[test]
 fn a_leaf_becomes_three(rt: HostRuntime) -> Result<(), Fail> {
     let alloc = rt.alloc();
-    let bare = empty_leaf(alloc, LEAF, least(), top())?;
-    let low = put_in(alloc, &bare, byte(0), TAIL, &ZEROS[..2000])?;
-    let both = put_in(alloc, &low, byte(8000), TAIL, &ZEROS[..1992])?;
+    let both = two_tails(alloc)?;
     let rows = rows_between(alloc, &both, byte(3000), byte(7500), TAIL, &ZEROS)?;
     let want = [
         (LEAF, 2, 0),
@@ -114,18 +119,38 @@ fn a_leaf_becomes_three(rt: HostRuntime) -> Result<(), Fail> {
     Ok(())
 }
 
+// The leaf with a tail of a hundred bytes.
+fn with_a_tail(alloc: Global, leaf: &Arc<Cell>) -> Result<Arc<Cell>, Fail> {
+    put_in(alloc, leaf, byte(0), TAIL, &ZEROS[..100])
+}
+
+// Looks at the cell that comes where some units of a leaf go.
+fn is_cut<X: Abort>(
+    rt: &X,
+    alloc: Global,
+    leaf: &Arc<Cell>,
+    range: (Key, Key),
+    want: Row,
+) -> Result<(), Fail> {
+    let rows = rows_without(alloc, leaf, range.0, range.1)?;
+    same_rows(rt, rows.as_slice(), &[want]);
+    Ok(())
+}
+
+// Looks at the cell that comes where bytes go on the tail of a leaf.
+fn is_joined<X: Abort>(rt: &X, alloc: Global, leaf: &Arc<Cell>, want: Row) -> Result<(), Fail> {
+    let rows = rows_with(alloc, leaf, byte(100), TAIL, &ZEROS[..50])?;
+    same_rows(rt, rows.as_slice(), &[want]);
+    Ok(())
+}
+
 #[test]
 fn tails_are_joined_and_cut(rt: HostRuntime) -> Result<(), Fail> {
     let alloc = rt.alloc();
-    let leaf = root_leaf(alloc)?;
-    let one = put_in(alloc, &leaf, byte(0), TAIL, &ZEROS[..100])?;
-    let joined = rows_with(alloc, &one, byte(100), TAIL, &ZEROS[..50])?;
-    let parted = rows_without(alloc, &one, byte(40), byte(60))?;
-    let none = rows_without(alloc, &one, least(), top())?;
-    same_rows(&rt, joined.as_slice(), &[(LEAF, 2, 3798)]);
-    same_rows(&rt, parted.as_slice(), &[(LEAF, 3, 3830)]);
-    same_rows(&rt, none.as_slice(), &[(LEAF, 0, 4068)]);
-    Ok(())
+    let one = with_a_tail(alloc, &root_leaf(alloc)?)?;
+    is_joined(&rt, alloc, &one, (LEAF, 2, 3798))?;
+    is_cut(&rt, alloc, &one, (byte(40), byte(60)), (LEAF, 3, 3830))?;
+    is_cut(&rt, alloc, &one, (least(), top()), (LEAF, 0, 4068))
 }
 
 // A leaf of the short names of two directories.
@@ -169,22 +194,32 @@ fn told(alloc: Global, change: &Change) -> Result<(Vec<Row>, Key), Fail> {
     Ok((rows(alloc, change)?, end))
 }
 
+// Looks at the cells that come where a leaf is parted, the first of which ends at a key.
+fn is_parted<X: Abort>(
+    rt: &X,
+    alloc: Global,
+    leaf: Arc<Cell>,
+    want: &[Row],
+    end: Key,
+) -> Result<(), Fail> {
+    let (rows, key) = parts(alloc, leaf)?;
+    same_rows(rt, rows.as_slice(), want);
+    assert!(rt; key.is_same(end));
+    Ok(())
+}
+
 // A leaf with one item is parted before the middle one of its bytes or entries.
 #[test]
 fn an_item_of_a_leaf_is_parted(rt: HostRuntime) -> Result<(), Fail> {
     let alloc = rt.alloc();
-    let middle = name_key(Oid(42), LETTERS[19], 1)?;
     let bare = empty_leaf(alloc, LEAF, least(), top())?;
     let tail = put_in(alloc, &bare, byte(7), TAIL, &ZEROS[..101])?;
-    let (of_tail, end) = parts(alloc, tail)?;
-    let dir = put_names(alloc, &bare, Oid(42), &LETTERS[..39])?;
-    let (of_dir, name) = parts(alloc, dir)?;
     let want = [(LEAF, 1, 3980), (ROOT + 1, 1, 3979), (ROOT, 2, 3976)];
-    same_rows(&rt, of_tail.as_slice(), want.as_slice());
+    is_parted(&rt, alloc, tail, want.as_slice(), byte(57))?;
+    let dir = put_names(alloc, &bare, Oid(42), &LETTERS[..39])?;
+    let middle = name_key(Oid(42), LETTERS[19], 1)?;
     let want = [(LEAF, 1, 3078), (ROOT + 1, 1, 3028), (ROOT, 2, 3976)];
-    same_rows(&rt, of_dir.as_slice(), want.as_slice());
-    assert!(rt; end.is_same(byte(57)) && name.is_same(middle));
-    Ok(())
+    is_parted(&rt, alloc, dir, want.as_slice(), middle)
 }
 
 // The cells that come where a root goes below another, and whether the tree has three levels then.
@@ -200,18 +235,25 @@ fn raised(alloc: Global, root: Arc<Cell>) -> Result<(Vec<Row>, bool), Fail> {
 
 #[test]
 fn a_leaf_is_parted_and_a_root_goes_below_another(rt: HostRuntime) -> Result<(), Fail> {
-    let alloc = rt.alloc();
-    let bare = root_leaf(alloc)?;
-    let leaf = put_in(alloc, &bare, byte(0), TAIL, &ZEROS[..100])?;
-    let (parted, _) = parts(alloc, leaf)?;
-    let (grown, is_higher) = raised(alloc, bare)?;
+    let bare = root_leaf(rt.alloc())?;
+    let leaf = with_a_tail(rt.alloc(), &bare)?;
+    becomes_two(&rt, rt.alloc(), leaf)?;
+    is_raised(&rt, rt.alloc(), bare)
+}
+
+// Looks at the cells that come where the leaf with a tail is parted.
+fn becomes_two<X: Abort>(rt: &X, alloc: Global, leaf: Arc<Cell>) -> Result<(), Fail> {
+    let (rows, _) = parts(alloc, leaf)?;
     let want = [(LEAF, 1, 3986), (ROOT + 1, 1, 3930), (ROOT, 2, 3976)];
-    same_rows(&rt, parted.as_slice(), want.as_slice());
-    same_rows(
-        &rt,
-        grown.as_slice(),
-        &[(ROOT, 1, 4022), (ROOT + 1, 1, 4022)],
-    );
+    same_rows(rt, rows.as_slice(), want.as_slice());
+    Ok(())
+}
+
+// Looks at the cells that come where the root goes below another.
+fn is_raised<X: Abort>(rt: &X, alloc: Global, root: Arc<Cell>) -> Result<(), Fail> {
+    let (rows, is_higher) = raised(alloc, root)?;
+    let want = [(ROOT, 1, 4022), (ROOT + 1, 1, 4022)];
+    same_rows(rt, rows.as_slice(), want.as_slice());
     assert!(rt; is_higher);
     Ok(())
 }

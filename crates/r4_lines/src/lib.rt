@@ -4,6 +4,6 @@
 mod lines;
 
 pub use lines::{
-    write_device, write_image, write_made, write_memory, write_replayed, write_script, write_size,
-    write_source, write_usage,
+    write_device, write_image, write_made, write_memory, write_number, write_replayed,
+    write_script, write_size, write_source, write_usage,
 };

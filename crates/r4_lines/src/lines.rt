@@ -85,8 +85,8 @@ fn write_what<K: Sink>(out: &mut K, what: &str) -> Result<(), Failed>
     out.write(b"\n")
 }
 
-// Writes a number between two texts.
-fn write_number<K: Sink>(
+/// Writes a number between two texts.
+pub fn write_number<K: Sink>(
     out: &mut K,
     before: &[u8],
     number: u64,

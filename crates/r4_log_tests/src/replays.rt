@@ -1,5 +1,9 @@
 //! The command `replay` over images with a log.
 
+ghost use Rattle.std.specs.Prelude.{◌<◌};
+ghost use Rattle.r4_outside.specs.Device.{TellsCrashes};
+ghost use Rattle.r4_outside.specs.Memory.{memory_state};
+
 use crate::calls::{prints, replays};
 use crate::logs::{Change, Field, Image, Pair, change};
 use crate::same::{same, same_in};
@@ -9,7 +13,7 @@ use crate::tables::{
 };
 use r4_base::BlockNo;
 use r4_outside::{Device, MemoryDevice, MemorySink};
-use r4_replay::{LogFault, ReplayFault, read_log};
+use r4_replay::{Log, LogFault, ReplayFault, read_log};
 use r4_testing::{LIST, REPLAY, call};
 use std::alloc::Global;
 use std::process::Abort;
@@ -38,6 +42,14 @@ fn second_record(alloc: Global) -> Result<Image, Fail> {
     Ok(image)
 }
 
+// Two transactions of one pair each.
+fn two_transactions(alloc: Global) -> Result<Image, Fail> {
+    let mut image = Image::new(alloc, 64)?;
+    image.commit(30, &[&[(50, 40)]])?;
+    image.commit(34, &[&[(51, 41)]])?;
+    Ok(image)
+}
+
 #[test]
 fn a_record_is_filled(rt: HostRuntime) -> Result<(), Fail> {
     let alloc = rt.alloc();
@@ -52,19 +64,51 @@ fn is_filled<X: Abort>(rt: &X, alloc: Global, image: &Image, count: u32) -> Resu
     ends_as(rt, alloc, image, "replayed 1\n", &wanted)
 }
 
-// Looks whether each damage of the image is refused with its line, by `replay` and by `list`. The clock tells that nothing was written, and at the
-// end each block is looked at.
+// Looks whether a device is refused with this line, by `replay` and by `list`. The clock tells that nothing was written.
+fn is_refused<X: Abort>(
+    rt: &X,
+    alloc: Global,
+    dev: &mut MemoryDevice,
+    line: &str,
+) -> Result<(), Fail> {
+    let before = dev.clock();
+    replays(rt, alloc, dev, 7, line)?;
+    prints(rt, alloc, &LIST, dev, 7, line)?;
+    same(rt, &dev.clock(), &before, line);
+    Ok(())
+}
+
+// Looks whether each damage of the image is refused with its line. At the end each block is looked at.
 fn refuses<X: Abort>(rt: &X, alloc: Global, image: &Image, damages: &[Damage]) -> Result<(), Fail> {
     let mut dev = image.device()?;
-    for (changes, line) in damages {
-        change(alloc, &mut dev, changes)?;
-        let before = dev.clock();
-        replays(rt, alloc, &mut dev, 7, line)?;
-        prints(rt, alloc, &LIST, &mut dev, 7, line)?;
-        same(rt, &dev.clock(), &before, line);
-        image.restore(&mut dev, changes)?;
-    }
+    refuse_each(rt, alloc, image, &mut dev, damages)?;
     is_left(rt, image, &mut dev, "at the end")
+}
+
+// Damages the image's device, and restores it, for each damage.
+fn refuse_each<X: Abort>(
+    rt: &X,
+    alloc: Global,
+    image: &Image,
+    dev: &mut MemoryDevice,
+    damages: &[Damage],
+) -> Result<(), Fail> {
+    for (changes, line) in damages {
+        change(alloc, dev, changes)?;
+        is_refused(rt, alloc, dev, line)?;
+        image.restore(dev, changes)?;
+    }
+    Ok(())
+}
+
+// The same, where the image could be made.
+fn made_refuses<X: Abort>(
+    rt: &X,
+    alloc: Global,
+    image: Result<Image, Fail>,
+    damages: &[Damage],
+) -> Result<(), Fail> {
+    refuses(rt, alloc, &image?, damages)
 }
 
 // Replays the image, which is to end as the other.
@@ -94,12 +138,9 @@ fn is_left<X: Abort>(
 #[test]
 fn a_damaged_log_is_refused(rt: HostRuntime) -> Result<(), Fail> {
     let alloc = rt.alloc();
-    refuses(&rt, alloc, &full_record(alloc)?, &OF_ONE_RECORD)?;
-    refuses(&rt, alloc, &second_record(alloc)?, &OF_TWO_RECORDS)?;
-    let mut image = Image::new(alloc, 64)?;
-    image.commit(30, &[&[(50, 40)]])?;
-    image.commit(34, &[&[(51, 41)]])?;
-    refuses(&rt, alloc, &image, &OF_TWO_TRANSACTIONS)
+    made_refuses(&rt, alloc, full_record(alloc), &OF_ONE_RECORD)?;
+    made_refuses(&rt, alloc, second_record(alloc), &OF_TWO_RECORDS)?;
+    made_refuses(&rt, alloc, two_transactions(alloc), &OF_TWO_TRANSACTIONS)
 }
 
 // A log on 64 blocks: the head of the first transaction in block 22, behind it its records, and so on.
@@ -199,13 +240,24 @@ fn equal_numbers_are_an_empty_log(rt: HostRuntime) -> Result<(), Fail> {
     let alloc = rt.alloc();
     let image = Image::new(alloc, 64)?;
     for number in [0, 5, 22, 63, 5000, u64::MAX] {
-        let changes = [(19, Field::Newest, number), (20, Field::Newest, number)];
         let mut dev = image.device()?;
-        change(alloc, &mut dev, &changes)?;
-        let before = dev.clock();
-        replays(&rt, alloc, &mut dev, 0, "replayed 0\n")?;
-        same(&rt, &dev.clock(), &before, "clock");
+        is_empty(&rt, alloc, &mut dev, number)?;
     }
+    Ok(())
+}
+
+// Replays a device whose journal header and footer name this head.
+fn is_empty<X: Abort>(
+    rt: &X,
+    alloc: Global,
+    dev: &mut MemoryDevice,
+    number: u64,
+) -> Result<(), Fail> {
+    let changes = [(19, Field::Newest, number), (20, Field::Newest, number)];
+    change(alloc, dev, &changes)?;
+    let before = dev.clock();
+    replays(rt, alloc, dev, 0, "replayed 0\n")?;
+    same(rt, &dev.clock(), &before, "clock");
     Ok(())
 }
 
@@ -214,12 +266,23 @@ fn a_replay_that_failed_is_repeated(rt: HostRuntime) -> Result<(), Fail> {
     let alloc = rt.alloc();
     let image = short_log(alloc, &TWO)?;
     let wanted = placed(&image, &TWO)?;
+    repeat_each(&rt, alloc, &image, &wanted)?;
+    ends_at_once(&rt, alloc, &image)
+}
+
+// Replays the log of two once with each call failing.
+fn repeat_each<X: Abort>(rt: &X, alloc: Global, image: &Image, wanted: &Image) -> Result<(), Fail> {
     for made in 1..CALLS.len() + 1 {
-        is_repeated(&rt, alloc, &image, &CALLS[..made], &wanted)?;
+        is_repeated(rt, alloc, image, &CALLS[..made], wanted)?;
     }
+    Ok(())
+}
+
+// Replays the log of two with a call failing that is not made.
+fn ends_at_once<X: Abort>(rt: &X, alloc: Global, image: &Image) -> Result<(), Fail> {
     let mut dev = image.fresh_device()?;
     dev.fail(alloc, CALLS.len() as u64 + 1)?;
-    replays(&rt, alloc, &mut dev, 0, "replayed 2\n")
+    replays(rt, alloc, &mut dev, 0, "replayed 2\n")
 }
 
 // Replays the log of two with the last of these calls failing, and then again.
@@ -232,14 +295,39 @@ fn is_repeated<X: Abort>(
 ) -> Result<(), Fail> {
     let mut dev = image.fresh_device()?;
     dev.fail(alloc, made.len() as u64)?;
-    let clock = made.iter().filter(|call| **call != b'r').count();
-    let line = format!(in alloc; "device: clock {clock} faults 1\n")?;
-    replays(rt, alloc, &mut dev, 6, line.as_str())?;
+    fails_and_goes(rt, alloc, &mut dev, made, wanted)
+}
 
+// Replays a device of which the last of these calls fails, and then again.
+fn fails_and_goes<X: Abort>(
+    rt: &X,
+    alloc: Global,
+    dev: &mut MemoryDevice,
+    made: &[u8],
+    wanted: &Image,
+) -> Result<(), Fail> {
+    let line = failing_line(alloc, made)?;
+    replays(rt, alloc, dev, 6, line.as_str())?;
+    goes_again(rt, alloc, dev, made)?;
+    is_left(rt, wanted, dev, line.as_str())
+}
+
+// The line of a replay of which the last of these calls fails.
+fn failing_line(alloc: Global, made: &[u8]) -> Result<String, Fail> {
+    let clock = made.iter().filter(|call| **call != b'r').count();
+    Ok(format!(in alloc; "device: clock {clock} faults 1\n")?)
+}
+
+// Replays what is left of the log of two behind these calls.
+fn goes_again<X: Abort>(
+    rt: &X,
+    alloc: Global,
+    dev: &mut MemoryDevice,
+    made: &[u8],
+) -> Result<(), Fail> {
     let named = made.iter().filter(|call| **call == b'f').count();
     let again = format!(in alloc; "replayed {}\n", 2usize.saturating_sub(named))?;
-    replays(rt, alloc, &mut dev, 0, again.as_str())?;
-    is_left(rt, wanted, &mut dev, line.as_str())
+    replays(rt, alloc, dev, 0, again.as_str())
 }
 
 #[test]
@@ -248,14 +336,41 @@ fn a_crash_is_replayed_again(rt: HostRuntime) -> Result<(), Fail> {
     let image = short_log(alloc, &THREE)?;
     let wanted = placed(&image, &THREE)?;
     let mut dev = image.fresh_device()?;
-    replays(&rt, alloc, &mut dev, 0, "replayed 3\n")?;
-    same(&rt, &dev.clock(), &14, "clock");
+    crash_each(&rt, alloc, &mut dev, &wanted)
+}
+
+// Replays the log of three, and again behind a crash at each moment.
+fn crash_each<X: Abort>(
+    rt: &X,
+    alloc: Global,
+    dev: &mut MemoryDevice,
+    wanted: &Image,
+) -> Result<(), Fail>
+    requires { TellsCrashes (memory_state dev.old) }
+{
+    replays(rt, alloc, dev, 0, "replayed 3\n")?;
+    same(rt, &dev.clock(), &14, "clock");
     for moment in 0..15 {
-        for pick in 0..8 {
-            let mut left = dev.crash(alloc, moment, pick)?;
-            let row = (8 * moment + pick) as usize;
-            ends_whole(&rt, alloc, &mut left, &wanted, row)?;
-        }
+        crash_at(rt, alloc, dev, wanted, moment)?;
+    }
+    Ok(())
+}
+
+// Replays what each of eight crashes at a moment leaves.
+fn crash_at<X: Abort>(
+    rt: &X,
+    alloc: Global,
+    dev: &MemoryDevice,
+    wanted: &Image,
+    moment: u64,
+) -> Result<(), Fail>
+    requires crashes { TellsCrashes (memory_state dev.now) }
+    requires moment { moment < 15 }
+{
+    for pick in 0..8 {
+        let mut left = dev.crash(alloc, moment, pick)?;
+        let row = (8 * moment + pick) as usize;
+        ends_whole(rt, alloc, &mut left, wanted, row)?;
     }
     Ok(())
 }
@@ -290,15 +405,20 @@ fn the_log_tells_where_blocks_stand(rt: HostRuntime) -> Result<(), Fail> {
     let alloc = rt.alloc();
     let mut dev = short_log(alloc, &THREE)?.device()?;
     let before = dev.clock();
-    let Ok(log) = read_log(alloc, &mut dev) else {
-        return Err(Fail::from("the log is refused"));
-    };
-    same(&rt, &log.count(), &3, "transactions");
-    for (row, &(at, home)) in HOMES.iter().enumerate() {
-        same_in(&rt, &log.home(BlockNo(at)), &BlockNo(home), row);
+    match read_log(alloc, &mut dev) {
+        Ok(log) => tells_homes(&rt, &log),
+        Err(_) => return Err(Fail::from("the log is refused")),
     }
     same(&rt, &dev.clock(), &before, "clock");
     Ok(())
+}
+
+// Looks at what the log of three tells.
+fn tells_homes<X: Abort>(rt: &X, log: &Log) {
+    same(rt, &log.count(), &3, "transactions");
+    for (row, &(at, home)) in HOMES.iter().enumerate() {
+        same_in(rt, &log.home(BlockNo(at)), &BlockNo(home), row);
+    }
 }
 
 #[test]

@@ -25,17 +25,36 @@ fn answers<D: Device, X: Abort>(
     Ok(())
 }
 
+// Replays a device twice, the second time behind a reference.
+fn call_twice(
+    alloc: Global,
+    mut dev: &mut MemoryDevice,
+    out: &mut MemorySink,
+) -> Result<[u8; 2], Fail> {
+    let first = call(alloc, &REPLAY, dev, out)?;
+    let again = call(alloc, &REPLAY, &mut dev, out)?;
+    Ok([first, again])
+}
+
+// Looks at what two replays of an empty log tell.
+fn is_replayed_twice<X: Abort>(
+    rt: &X,
+    alloc: Global,
+    dev: &mut MemoryDevice,
+    out: &mut MemorySink,
+) -> Result<(), Fail> {
+    same(rt, &call_twice(alloc, dev, out)?, &[0, 0], "statuses");
+    let lines = b"replayed 0\nreplayed 0\n";
+    same(rt, &out.written(), &lines.as_slice(), "text");
+    same(rt, &dev.clock(), &0, "clock");
+    Ok(())
+}
+
 #[test]
 fn an_empty_log_is_replayed(rt: HostRuntime) -> Result<(), Fail> {
     let mut dev = MemoryDevice::new(rt.alloc(), 64)?;
     let mut out = MemorySink::new(rt.alloc(), 100)?;
-    let first = call(rt.alloc(), &REPLAY, &mut dev, &mut out)?;
-    let again = call(rt.alloc(), &REPLAY, &mut &mut dev, &mut out)?;
-    same(&rt, &[first, again], &[0, 0], "statuses");
-    let lines = b"replayed 0\nreplayed 0\n";
-    same(&rt, &out.written(), &lines.as_slice(), "text");
-    same(&rt, &dev.clock(), &0, "clock");
-    Ok(())
+    is_replayed_twice(&rt, rt.alloc(), &mut dev, &mut out)
 }
 
 // How many blocks a device says that it has, unless it fails to; its counts; the status and the line.
@@ -72,9 +91,19 @@ fn a_closed_sink_is_told(rt: HostRuntime) -> Result<(), Fail> {
     let mut dev = MemoryDevice::new(rt.alloc(), 64)?;
     let mut closed = MemorySink::new(rt.alloc(), 100)?;
     closed.fail(rt.alloc(), 1)?;
-    let code = call(rt.alloc(), &REPLAY, &mut dev, &mut closed)?;
-    same(&rt, &code, &5, "status");
-    same(&rt, &closed.written(), &b"".as_slice(), "text");
+    finds_it_closed(&rt, rt.alloc(), &mut dev, &mut closed)
+}
+
+// Replays a device to a sink that is closed.
+fn finds_it_closed<X: Abort>(
+    rt: &X,
+    alloc: Global,
+    dev: &mut MemoryDevice,
+    closed: &mut MemorySink,
+) -> Result<(), Fail> {
+    let code = call(alloc, &REPLAY, dev, closed)?;
+    same(rt, &code, &5, "status");
+    same(rt, &closed.written(), &b"".as_slice(), "text");
     Ok(())
 }
 

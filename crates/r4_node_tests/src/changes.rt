@@ -503,7 +503,19 @@ fn look_at_joined<X: Abort>(
 fn look<X: Abort>(rt: &X, alloc: Global, case: &Case, row: usize) -> Result<(), Fail> {
     let one = change_of(alloc, edit_of(case.one))?;
     let two = change_of(alloc, edit_of(case.two))?;
-    match join(alloc, &one, &two) {
+    look_at_both(rt, alloc, &one, &two, case, row)
+}
+
+// The same of these two.
+fn look_at_both<X: Abort>(
+    rt: &X,
+    alloc: Global,
+    one: &Change,
+    two: &Change,
+    case: &Case,
+    row: usize,
+) -> Result<(), Fail> {
+    match join(alloc, one, two) {
         Ok(change) => look_at_joined(rt, alloc, &change, case, row),
         Err(JoinFault::Meet { node }) => {
             same_in(rt, &Some(node.0), &case.meet, row);

@@ -81,16 +81,22 @@ fn faults_of_a_leaf_are_named(rt: HostRuntime) -> Result<(), Fail> {
     Ok(())
 }
 
-#[test]
-fn two_bodies_are_written_at_once(rt: HostRuntime) -> Result<(), Fail> {
-    let before = leaf(rt.alloc(), false)?;
-    let after = leaf(rt.alloc(), true)?;
-    let mut changed = Vec::new(rt.alloc());
-    for (at, (old, new)) in before.bytes().iter().zip(after.bytes()).enumerate() {
+// The bytes that are others than before, each with its place.
+fn changed_in(alloc: Global, before: &[u8], after: &[u8]) -> Result<Vec<(usize, u8)>, Fail> {
+    let mut changed = Vec::new(alloc);
+    for (at, (old, new)) in before.iter().zip(after).enumerate() {
         if old != new {
             changed.push((at, *new))?;
         }
     }
+    Ok(changed)
+}
+
+#[test]
+fn two_bodies_are_written_at_once(rt: HostRuntime) -> Result<(), Fail> {
+    let before = leaf(rt.alloc(), false)?;
+    let after = leaf(rt.alloc(), true)?;
+    let changed = changed_in(rt.alloc(), before.bytes(), after.bytes())?;
     let wanted = [(31, 7), (73, 9)];
     same(&rt, &changed.as_slice(), &wanted.as_slice(), "bytes");
     Ok(())

@@ -82,7 +82,16 @@ fn change(alloc: Global, ids: &[u64], root: Option<Root>) -> Result<Change, Fail
 fn joined(alloc: Global, case: &Case) -> Result<Result<usize, JoinFault>, Fail> {
     let one = change(alloc, case.one, Some(ROOT))?;
     let two = change(alloc, case.two, None)?;
-    match join(alloc, &one, &two) {
+    joined_both(alloc, &one, &two)
+}
+
+// The same of these two.
+fn joined_both(
+    alloc: Global,
+    one: &Change,
+    two: &Change,
+) -> Result<Result<usize, JoinFault>, Fail> {
+    match join(alloc, one, two) {
         Ok(change) if change.root == Some(ROOT) => Ok(Ok(change.old.as_slice().len())),
         Ok(_) => Err(Fail::from("the root is lost")),
         Err(fault) => Ok(Err(fault)),

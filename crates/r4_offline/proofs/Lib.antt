@@ -1,3 +1,4 @@
 mod Telling
 pub mod MkfsTold
 pub mod Listed
+mod Checked

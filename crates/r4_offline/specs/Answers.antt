@@ -1,14 +1,12 @@
 -- What a command answers, prints and leaves on the device (docs/program.md, "Lines and statuses").
-use Rattle.std.specs.Prelude.{◌≡◌, ◌⊎◌, ℕ, ◌<◌, List, Some}
+use Rattle.std.specs.Prelude.{◌≡◌, ◌⊎◌, ℕ, List, Some}
 use Rattle.r4_base.specs.Fresh.{fresh_free}
 use Rattle.r4_base.specs.Refusal.{Refusal}
 use Rattle.r4_base.specs.Image.{AgreesOutside, IsLawful}
 use Rattle.r4_base.specs.Value.{Content}
 use Rattle.r4_base.specs.Volume.{HasVolume}
 use Rattle.r4_base.specs.declared.items.CellFault.{CellFault}
-use Rattle.r4_base.specs.declared.journal.LogFault.{LogFault}
-use Rattle.r4_base.specs.declared.superblock.LayoutFault.{LayoutFault}
-use Rattle.r4_base.specs.Words.{cell_word_of, layout_word_of, log_word_of}
+use Rattle.r4_base.specs.Words.{cell_word_of, log_word_of}
 use Rattle.r4_cell.specs.Words.{image_word_of}
 use Rattle.r4_outside.specs.Device.{State, Spares, TellsReads, Rose, Untouched}
 use Rattle.r4_outside.specs.Sink.{SinkState, AppendsPart}
@@ -17,7 +15,6 @@ use Rattle.r4_replay.specs.declared.fault.ReplayFault.{ReplayFault}
 use Rattle.r4_replay.specs.declared.fault.ReplayFault.TheVariants.{Log, Device, Size, Memory}
 use Rattle.r4_list.specs.Listing.{IsListing}
 use Rattle.r4_list.specs.Lists.{HasRefusedNode, IsOpened, OfSettled}
-use Rattle.r4_open.specs.Opening.{layout_misfit, misfit}
 use Rattle.r4_list.specs.Printing.{Prints as PrintsSome}
 use Rattle.r4_list.specs.declared.fault.ListFault.{ListFault}
 use Rattle.r4_list.specs.declared.fault.ListFault.TheVariants.{Log as ListLog, Image as ListImage}
@@ -30,11 +27,9 @@ use Rattle.r4_mkfs.specs.Mkfs.{IsMade, IsWritten, MakesInOrder, TakesCalls, call
 use Rattle.r4_mkfs.specs.declared.fault.MkfsFault.{MkfsFault}
 use Rattle.r4_mkfs.specs.declared.fault.MkfsFault.TheVariants.{Small, Large}
 use Rattle.r4_mkfs.specs.declared.fault.MkfsFault.TheVariants.{Device as MkfsDevice, Memory as MkfsMemory}
-use Rattle.r4_words.specs.Words.{AskedOffline, AsksReplay, AsksMkfs, AsksList}
-
--- fewer blocks than a volume may have, or more
-abbrev pub IsUnlawful : ℕ → Type 0
-IsUnlawful blocks = (blocks < 64) ⊎ (1048576 < blocks)
+use Rattle.r4_offline.specs.Checks.{ChecksImage}
+use Rattle.r4_offline.specs.Refused.{IsUnlawful, IsUnopened}
+use Rattle.r4_words.specs.Words.{AskedOffline, AsksReplay, AsksMkfs, AsksList, AsksCheck}
 
 -- The transactions of the log were put in place, so many. Where there was none, nothing was written.
 pub record PutAll (old : State) (count : ℕ) (new : State) : Type 0 where
@@ -98,15 +93,6 @@ pub record Makes
 
 -- ---- list
 
--- The log is refused at a block, in these words, or the superblocks and bitmaps of the image that the
--- device settles to are.
-abbrev pub IsUnopened : State → (block : ℕ) (what : List ℕ) → Type 0
-IsUnopened d block what =
-    ((f : LogFault) × (what ≡ log_word_of f)
-    × (TellsReads d → RefusedAs d.blocks d.seen (record { block = block; fault = f })))
-    ⊎ ((f : LayoutFault) × (what ≡ layout_word_of f)
-    × OfSettled d (λ image. layout_misfit d.blocks image ≡ misfit block f))
-
 -- A node of that image is refused.
 abbrev pub IsRefusedNode : State → (block : ℕ) (what : List ℕ) → Type 0
 IsRefusedNode d block what = (f : CellFault) × (what ≡ cell_word_of f)
@@ -155,6 +141,7 @@ abbrev pub Answers : AskedOffline → State → SinkState → ℕ → State → 
 Answers AsksReplay d k code d' k' = Replays d k code d' k'
 Answers (AsksMkfs label) d k code d' k' = Makes label d k code d' k'
 Answers (AsksList path) d k code d' k' = Lists path d k code d' k'
+Answers AsksCheck d k code d' k' = ChecksImage d k code d' k'
 
 -- What crashes leave at any moment of a command on a quiet device: an image that settles as before, but
 -- for the footer's block; for `mkfs`, the master superblock that was there, or all the rest of an empty
@@ -163,6 +150,7 @@ abbrev pub HasMoments : AskedOffline → State → State → Type 0
 HasMoments AsksReplay d d' = SettlesAlways d d'
 HasMoments (AsksMkfs label) d d' = MakesInOrder d d' × Spares (IsWritten d.blocks) d d'
 HasMoments (AsksList path) d d' = SettlesAlways d d'
+HasMoments AsksCheck d d' = SettlesAlways d d'
 
 -- The code and the line of a fault.
 abbrev pub TellsFault : ReplayFault → ℕ → SinkState → SinkState → Type 0

@@ -1,6 +1,7 @@
 //! The commands on an image that nobody else works on (docs/program.md).
 #![tactic(auto)]
 
+mod checking;
 mod listing;
 mod making;
 mod obeying;

@@ -29,8 +29,8 @@ pub fn print_listing<D: Device, K: Sink>(
     }
 }
 
-// Prints why the listing ended early. A sink that fails here does not change the status.
-fn tell_fault<K: Sink>(out: &mut K, fault: ListFault) -> Status
+/// Prints why a listing or a check ended early. A sink that fails here does not change the status.
+pub(crate) fn tell_fault<K: Sink>(out: &mut K, fault: ListFault) -> Status
     ensures { TellsListFault fault result.code (K.state out.old) (K.state out.new) }
 {
     match fault {

@@ -4,6 +4,7 @@ ghost use Rattle.r4_outside.specs.Device.{Goes, IsQuiet};
 ghost use Rattle.r4_words.specs.Words.{CanBeDoneOffline, asked_offline};
 ghost use Rattle.r4_offline.specs.Answers.{Answers, HasMoments};
 
+use crate::checking::check_image;
 use crate::listing::print_listing;
 use crate::making::make_volume;
 use crate::replaying::replay_image;
@@ -12,7 +13,7 @@ use r4_outside::{Device, Sink};
 use r4_words::Offline;
 use std::alloc::Global;
 
-/// Does a command, and prints a listing or one line. A label is one that `mkfs` takes, and a path is not empty.
+/// Does a command, and prints a listing, the lines of a check, or one line. A label is one that `mkfs` takes, and a path is not empty.
 pub fn obey<D: Device, K: Sink>(
     alloc: Global,
     command: Offline<'_>,
@@ -32,5 +33,6 @@ pub fn obey<D: Device, K: Sink>(
         Offline::Replay => replay_image(alloc, dev, out),
         Offline::Mkfs { label } => make_volume(alloc, label, dev, out),
         Offline::List { path } => print_listing(alloc, path, dev, out),
+        Offline::Check => check_image(alloc, dev, out),
     }
 }

@@ -190,6 +190,19 @@ fn same_number<X: Abort>(
     Ok(())
 }
 
+// Looks at the numbers of a table.
+fn same_numbers<X: Abort>(
+    rt: &X,
+    alloc: Global,
+    dev: &mut MemoryDevice,
+    numbers: &[(u64, usize, u64)],
+) -> Result<(), Fail> {
+    for (row, &(at, byte, wanted)) in numbers.iter().enumerate() {
+        same_number(rt, alloc, dev, row, at, byte, wanted)?;
+    }
+    Ok(())
+}
+
 // Looks at the device of which the leaf's commit is made.
 fn look_at_leaf<X: Abort>(rt: &X, alloc: Global, dev: &mut MemoryDevice) -> Result<(), Fail>
     requires { TellsCrashes (memory_state dev.old) }
@@ -197,22 +210,40 @@ fn look_at_leaf<X: Abort>(rt: &X, alloc: Global, dev: &mut MemoryDevice) -> Resu
     same(rt, &dev.clock(), &14, "writes and syncs");
     look_at_crashes(rt, alloc, dev)?;
     look_at_torn_writes(rt, alloc, dev)?;
-    for (row, &(at, byte, wanted)) in NUMBERS.iter().enumerate() {
-        same_number(rt, alloc, dev, row, at, byte, wanted)?;
-    }
-    Ok(())
+    same_numbers(rt, alloc, dev, &NUMBERS)
+}
+
+// The leaf is committed on a volume whose space this is.
+fn commit_the_leaf<X: Abort>(
+    rt: &X,
+    alloc: Global,
+    dev: &mut MemoryDevice,
+    space: &mut SpaceMap,
+) -> Result<(), Fail>
+    requires tells { TellsCrashes (memory_state dev.old) }
+    requires device { (memory_state dev.old).blocks ≡ 64 }
+    requires space { space.old.block_count ≡ 64 }
+{
+    commit_leaf(alloc, dev, space)?;
+    look_at_leaf(rt, alloc, dev)?;
+    // The log's blocks are held until the atom settles.
+    same(rt, &space.free(), &35, "free blocks");
+    settle(rt, alloc, dev, space, 40)
+}
+
+// The same, with the space that the volume has.
+fn commit_a_leaf<X: Abort>(rt: &X, alloc: Global, dev: &mut MemoryDevice) -> Result<(), Fail>
+    requires tells { TellsCrashes (memory_state dev.old) }
+    requires device { (memory_state dev.old).blocks ≡ 64 }
+{
+    let mut space = space_of(alloc, dev, 40)?;
+    commit_the_leaf(rt, alloc, dev, &mut space)
 }
 
 #[test]
 fn a_leaf_is_committed(rt: HostRuntime) -> Result<(), Fail> {
-    let alloc = rt.alloc();
-    let mut dev = volume(alloc, 64)?;
-    let mut space = space_of(alloc, &mut dev, 40)?;
-    commit_leaf(alloc, &mut dev, &mut space)?;
-    look_at_leaf(&rt, alloc, &mut dev)?;
-    // The log's blocks are held until the atom settles.
-    same(&rt, &space.free(), &35, "free blocks");
-    settle(&rt, alloc, &mut dev, &mut space, 40)
+    let mut dev = volume(rt.alloc(), 64)?;
+    commit_a_leaf(&rt, rt.alloc(), &mut dev)
 }
 
 // Looks whether a block is all of one byte.
@@ -240,11 +271,43 @@ fn settle<X: Abort>(
     ensures goes { Goes (memory_state dev.old) (memory_state dev.new) }
     ensures space { space.new.block_count ≡ space.old.block_count }
 {
+    settle_space(rt, space, free);
+    same_bitmap(rt, alloc, dev, free)?;
+    same_super(rt, alloc, dev, free)
+}
+
+// Settles atom 1 in the space, of which so many blocks are free then.
+fn settle_space<X: Abort>(rt: &X, space: &mut SpaceMap, free: u64)
+    ensures { space.new.block_count ≡ space.old.block_count }
+{
     space.seal(AtomNo(1));
     space.settle(AtomNo(1));
     same(rt, &space.free(), &free, "free blocks");
+}
+
+// Looks whether so many blocks are 0 in the bitmap of the device.
+fn same_bitmap<X: Abort>(
+    rt: &X,
+    alloc: Global,
+    dev: &mut MemoryDevice,
+    free: u64,
+) -> Result<(), Fail>
+    ensures { Goes (memory_state dev.old) (memory_state dev.new) }
+{
     let told = space_of(alloc, dev, free)?;
     same(rt, &told.free(), &free, "free blocks");
+    Ok(())
+}
+
+// Looks whether so many blocks are free by the superblock of the device.
+fn same_super<X: Abort>(
+    rt: &X,
+    alloc: Global,
+    dev: &mut MemoryDevice,
+    free: u64,
+) -> Result<(), Fail>
+    ensures { Goes (memory_state dev.old) (memory_state dev.new) }
+{
     let super40 = super_of(alloc, dev)?;
     same(rt, &super40.free_blocks, &free, "free blocks");
     Ok(())
@@ -268,28 +331,61 @@ fn commit_data(alloc: Global, dev: &mut MemoryDevice, space: &mut SpaceMap) -> R
     commit(alloc, 64, dev, &cells, &[placed], space)
 }
 
+// Where what number stands after a second commit.
+const SECOND: [(u64, usize, u64); 3] = [(19, 0, 31), (20, 0, 31), (31, 8, 2)];
+
 // Looks at the device of which a second commit is made.
 fn look_at_second<X: Abort>(rt: &X, alloc: Global, dev: &mut MemoryDevice) -> Result<(), Fail> {
-    same_number(rt, alloc, dev, 0, 19, 0, 31)?;
-    same_number(rt, alloc, dev, 1, 20, 0, 31)?;
-    same_number(rt, alloc, dev, 2, 31, 8, 2)?;
+    same_numbers(rt, alloc, dev, &SECOND)?;
     is_filled(rt, alloc, dev, 24, 9)
+}
+
+// A data block is committed, and its atom settles.
+fn commit_first<X: Abort>(
+    rt: &X,
+    alloc: Global,
+    dev: &mut MemoryDevice,
+    space: &mut SpaceMap,
+) -> Result<(), Fail>
+    requires device { (memory_state dev.old).blocks ≡ 64 }
+    requires space { space.old.block_count ≡ 64 }
+    ensures goes { Goes (memory_state dev.old) (memory_state dev.new) }
+    ensures space { OnOk result (space.new.block_count ≡ 64) }
+{
+    commit_data(alloc, dev, space)?;
+    same(rt, &dev.clock(), &13, "writes and syncs");
+    settle(rt, alloc, dev, space, 39)
+}
+
+// The first copy of the next commit stands on the last head, which the header names until it names the
+// new one.
+fn commit_second<X: Abort>(
+    rt: &X,
+    alloc: Global,
+    dev: &mut MemoryDevice,
+    space: &mut SpaceMap,
+) -> Result<(), Fail>
+    requires device { (memory_state dev.old).blocks ≡ 64 }
+    requires space { space.old.block_count ≡ 64 }
+{
+    commit(alloc, 64, dev, &[], &[], space)?;
+    look_at_second(rt, alloc, dev)?;
+    settle(rt, alloc, dev, space, 39)
+}
+
+// Both, on a volume with the space that it has.
+fn commit_twice<X: Abort>(rt: &X, alloc: Global, dev: &mut MemoryDevice) -> Result<(), Fail>
+    requires { (memory_state dev.old).blocks ≡ 64 }
+{
+    let mut space = space_of(alloc, dev, 40)?;
+    commit_first(rt, alloc, dev, &mut space)?;
+    commit_second(rt, alloc, dev, &mut space)
 }
 
 #[test]
 fn commits_follow_each_other(rt: HostRuntime) -> Result<(), Fail> {
-    let alloc = rt.alloc();
-    let mut dev = volume(alloc, 64)?;
-    let mut space = space_of(alloc, &mut dev, 40)?;
-    commit_data(alloc, &mut dev, &mut space)?;
-    same(&rt, &dev.clock(), &13, "writes and syncs");
-    settle(&rt, alloc, &mut dev, &mut space, 39)?;
-
-    // The first copy of the next commit stands on the last head, which the header names until it
-    // names the new one.
-    commit(alloc, 64, &mut dev, &[], &[], &mut space)?;
-    look_at_second(&rt, alloc, &mut dev)?;
-    settle(&rt, alloc, &mut dev, &mut space, 39)
+    let mut dev = volume(rt.alloc(), 64)?;
+    commit_twice(&rt, rt.alloc(), &mut dev)
 }
 
 // Places 600 blocks.
@@ -326,12 +422,18 @@ fn are_filled<X: Abort>(
     Ok(())
 }
 
-// Commits the data blocks.
-fn commit_many(alloc: Global, dev: &mut MemoryDevice, space: &mut SpaceMap) -> Result<(), Fail>
+// Commits the data blocks, after 600 blocks are placed.
+fn commit_many<X: Abort>(
+    rt: &X,
+    alloc: Global,
+    dev: &mut MemoryDevice,
+    space: &mut SpaceMap,
+) -> Result<(), Fail>
     requires device { (memory_state dev.old).blocks ≡ 1024 }
     requires space { space.old.block_count ≡ 1024 }
     ensures goes { Goes (memory_state dev.old) (memory_state dev.new) }
 {
+    fill(rt, space);
     let cells = many(alloc)?;
     commit(alloc, 1024, dev, &cells, &[], space)
 }
@@ -360,16 +462,43 @@ fn look_at_stops<X: Abort>(rt: &X, alloc: Global, dev: &MemoryDevice) -> Result<
     look_at_stop(rt, alloc, dev, 308, "replayed 1\n", 9)
 }
 
+// Looks at the device of which the data blocks' commit is made.
+fn look_at_many<X: Abort>(rt: &X, alloc: Global, dev: &mut MemoryDevice) -> Result<(), Fail>
+    requires { TellsCrashes (memory_state dev.old) }
+{
+    // 302 copies, 2 records, the head, header, footer and 302 homes, and 4 syncs.
+    same(rt, &dev.clock(), &613, "writes and syncs");
+    look_at_stops(rt, alloc, dev)?;
+    are_filled(rt, alloc, dev, 9)
+}
+
+// Many cells are committed on a volume whose space this is.
+fn commit_and_look<X: Abort>(
+    rt: &X,
+    alloc: Global,
+    dev: &mut MemoryDevice,
+    space: &mut SpaceMap,
+) -> Result<(), Fail>
+    requires tells { TellsCrashes (memory_state dev.old) }
+    requires device { (memory_state dev.old).blocks ≡ 1024 }
+    requires space { space.old.block_count ≡ 1024 }
+{
+    commit_many(rt, alloc, dev, space)?;
+    look_at_many(rt, alloc, dev)?;
+    settle(rt, alloc, dev, space, 400)
+}
+
+// The same, with the space that the volume has.
+fn commit_many_cells<X: Abort>(rt: &X, alloc: Global, dev: &mut MemoryDevice) -> Result<(), Fail>
+    requires tells { TellsCrashes (memory_state dev.old) }
+    requires device { (memory_state dev.old).blocks ≡ 1024 }
+{
+    let mut space = space_of(alloc, dev, 1000)?;
+    commit_and_look(rt, alloc, dev, &mut space)
+}
+
 #[test]
 fn many_cells_are_committed(rt: HostRuntime) -> Result<(), Fail> {
-    let alloc = rt.alloc();
-    let mut dev = volume(alloc, 1024)?;
-    let mut space = space_of(alloc, &mut dev, 1000)?;
-    fill(&rt, &mut space);
-    commit_many(alloc, &mut dev, &mut space)?;
-    // 302 copies, 2 records, the head, header, footer and 302 homes, and 4 syncs.
-    same(&rt, &dev.clock(), &613, "writes and syncs");
-    look_at_stops(&rt, alloc, &dev)?;
-    are_filled(&rt, alloc, &mut dev, 9)?;
-    settle(&rt, alloc, &mut dev, &mut space, 400)
+    let mut dev = volume(rt.alloc(), 1024)?;
+    commit_many_cells(&rt, rt.alloc(), &mut dev)
 }

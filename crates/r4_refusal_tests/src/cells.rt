@@ -5,6 +5,7 @@ use r4_base::{Block, Key, NodeId, Oid};
 use r4_buffer::Buffer;
 use r4_cell::{Cell, read_cell};
 use std::alloc::Global;
+use std::process::Abort;
 use std::sync::Arc;
 use std::test::Fail;
 
@@ -39,21 +40,36 @@ fn stands(alloc: Global, buffer: &mut Buffer) -> Result<(), Fail> {
     Ok(())
 }
 
+// Room for a cell; once more where memory was refused, and then all stands as before.
+fn room<X: Abort>(rt: &X, alloc: Global, buffer: &mut Buffer) {
+    if buffer.room(alloc, 1).is_err() {
+        same(rt, &buffer.spare(), &0, "the room, as before");
+        let again = buffer.room(alloc, 1).is_ok();
+        same(rt, &again, &true, "room when it comes again");
+    }
+}
+
+// The cell is swept; once more where memory was refused, and then all stands as before.
+fn sweep<X: Abort>(rt: &X, alloc: Global, buffer: &mut Buffer) {
+    if buffer.sweep(alloc, 0).is_err() {
+        same(rt, &buffer.get(ID).is_some(), &true, "the cell, as before");
+        let again = buffer.sweep(alloc, 0).is_ok();
+        same(rt, &again, &true, "swept when it comes again");
+    }
+    same(rt, &buffer.get(ID).is_none(), &true, "the cell is gone");
+}
+
+// A cell comes, and goes.
+fn put_and_sweep<X: Abort>(rt: &X, alloc: Global, buffer: &mut Buffer) -> Result<(), Fail> {
+    room(rt, alloc, buffer);
+    stands(alloc, buffer)?;
+    sweep(rt, alloc, buffer);
+    Ok(())
+}
+
 #[test]
 fn cells_stay_where_memory_is_refused(rt: HostRuntime) -> Result<(), Fail> {
     let alloc = rt.alloc();
     let mut buffer = Buffer::new(alloc);
-    if buffer.room(alloc, 1).is_err() {
-        same(&rt, &buffer.spare(), &0, "the room, as before");
-        let again = buffer.room(alloc, 1).is_ok();
-        same(&rt, &again, &true, "room when it comes again");
-    }
-    stands(alloc, &mut buffer)?;
-    if buffer.sweep(alloc, 0).is_err() {
-        same(&rt, &buffer.get(ID).is_some(), &true, "the cell, as before");
-        let again = buffer.sweep(alloc, 0).is_ok();
-        same(&rt, &again, &true, "swept when it comes again");
-    }
-    same(&rt, &buffer.get(ID).is_none(), &true, "the cell is gone");
-    Ok(())
+    put_and_sweep(&rt, alloc, &mut buffer)
 }

@@ -1,17 +1,18 @@
 //! A device that stops.
 
 use crate::same::same;
-use r4_base::{Block, BlockNo};
+use r4_base::{Block, BlockNo, Memory};
 use r4_devices::StopDevice;
 use r4_outside::{Device, MemoryDevice};
 use std::alloc::Global;
+use std::process::Abort;
 use std::test::Fail;
 
 // A device of two blocks; once more where memory was refused.
-fn two_blocks(alloc: Global) -> Result<MemoryDevice, Fail> {
+fn two_blocks(alloc: Global) -> Result<MemoryDevice, Memory> {
     match MemoryDevice::new(alloc, 2) {
         Ok(dev) => Ok(dev),
-        Err(_refused) => Ok(MemoryDevice::new(alloc, 2)?),
+        Err(_refused) => MemoryDevice::new(alloc, 2),
     }
 }
 
@@ -35,22 +36,37 @@ fn block(alloc: Global) -> Result<Block, Fail> {
     }
 }
 
+// The device stops at the write of a block, and reads nothing behind that.
+fn stops<X: Abort>(
+    rt: &X,
+    dev: &mut StopDevice<MemoryDevice>,
+    block: &mut Block,
+) -> Result<(), Fail> {
+    let Ok(2) = dev.blocks() else {
+        return Err(Fail::from("two blocks"));
+    };
+    let written = dev.write(BlockNo(1), block).is_ok();
+    same(rt, &written, &false, "the write at which it stops");
+    let read = dev.read(BlockNo(1), block).is_ok();
+    same(rt, &read, &false, "a read behind the stop");
+    Ok(())
+}
+
+// The device stops, and counts the calls that failed.
+fn stops_and_counts<X: Abort>(
+    rt: &X,
+    alloc: Global,
+    dev: &mut StopDevice<MemoryDevice>,
+) -> Result<(), Fail> {
+    let mut block = block(alloc)?;
+    stops(rt, dev, &mut block)?;
+    same(rt, &dev.faults(), &2, "calls that failed");
+    Ok(())
+}
+
 #[test]
 fn a_device_stops_where_memory_is_refused(rt: HostRuntime) -> Result<(), Fail> {
     let alloc = rt.alloc();
     let mut dev = stopping(alloc)?;
-    let mut block = block(alloc)?;
-    let Ok(2) = dev.blocks() else {
-        return Err(Fail::from("two blocks"));
-    };
-    let written = dev.write(BlockNo(1), &block).is_ok();
-    same(&rt, &written, &false, "the write at which it stops");
-    same(
-        &rt,
-        &dev.read(BlockNo(1), &mut block).is_ok(),
-        &false,
-        "a read behind the stop",
-    );
-    same(&rt, &dev.faults(), &2, "calls that failed");
-    Ok(())
+    stops_and_counts(&rt, alloc, &mut dev)
 }

@@ -6,6 +6,7 @@ use r4_mkfs::mkfs;
 use r4_open::{Unopened, open_in_place};
 use r4_outside::{Device, MemoryDevice};
 use std::alloc::Global;
+use std::process::Abort;
 use std::test::Fail;
 
 const BLOCKS: u64 = 64;
@@ -39,15 +40,20 @@ fn opened(alloc: Global, dev: &mut MemoryDevice) -> Result<Super40, Unopened> {
     Ok(found.super40)
 }
 
+// Opens the volume; once more where memory was refused, and then the device stands as before.
+fn open_again<X: Abort>(rt: &X, alloc: Global, dev: &mut MemoryDevice) {
+    let mut found = opened(alloc, dev).map(|s| s.free_blocks);
+    if found == Err(Unopened::Memory) {
+        same(rt, &dev.faults(), &0, "the device, as before");
+        found = opened(alloc, dev).map(|s| s.free_blocks);
+    }
+    same(rt, &found, &Ok(40), "the free blocks of the volume");
+}
+
 #[test]
 fn an_image_stays_where_memory_is_refused(rt: HostRuntime) -> Result<(), Fail> {
     let alloc = rt.alloc();
     let mut dev = volume(alloc)?;
-    let mut found = opened(alloc, &mut dev).map(|s| s.free_blocks);
-    if found == Err(Unopened::Memory) {
-        same(&rt, &dev.faults(), &0, "the device, as before");
-        found = opened(alloc, &mut dev).map(|s| s.free_blocks);
-    }
-    same(&rt, &found, &Ok(40), "the free blocks of the volume");
+    open_again(&rt, alloc, &mut dev);
     Ok(())
 }

@@ -16,6 +16,9 @@ use std::test::Fail;
 
 static MANY_BYTES: [u8; 16_384] = [1; 16_384];
 
+// As many bytes as fill the leaf of a fresh volume.
+static FILLING: [u8; 3948] = [1; 3948];
+
 // What comes where some units of a leaf of all keys go, and then these items come, each into its range.
 fn edited(
     alloc: Global,
@@ -287,7 +290,7 @@ fn filling(alloc: Global) -> Result<Change, Fail> {
     let tail = Given::Item {
         key: byte(0),
         plugin: TAIL,
-        body: &MANY_BYTES[..3948],
+        body: &FILLING,
     };
     edited(alloc, &leaf, &[], &[tail], &[bytes(0, 3948)])
 }

@@ -3,6 +3,7 @@
 use r4_outside::{MemoryDevice, MemorySink, MemorySource, Unnamed};
 use r4_run_testing::{LIST, REPLAY, RUN, Slow, call, fresh, printed, r4_main};
 use std::alloc::Global;
+use std::process::Abort;
 use std::sync::Wait;
 use std::test::Fail;
 use std::thread::Threads;
@@ -27,47 +28,75 @@ fn small_device_is_refused(rt: HostRuntime) -> Result<(), Fail> {
     Ok(())
 }
 
-#[test]
-fn source_that_fails_is_told(rt: HostRuntime) -> Result<(), Fail> {
-    let alloc = rt.alloc();
-    let mut dev = fresh(&rt, alloc, 64)?;
-    let mut script = MemorySource::new(alloc, TEXT.as_bytes())?;
-    script.fail(alloc, 1)?;
-    let mut out = MemorySink::new(alloc, 100)?;
+// The status of a run of the scripts of a source.
+fn run_from<X: Threads + Wait + Sync>(
+    rt: &X,
+    alloc: Global,
+    dev: &mut MemoryDevice,
+    script: &mut MemorySource,
+    out: &mut MemorySink,
+) -> Result<u8, Fail> {
     let words = [
         String::from_str(alloc, "run")?,
         String::from_str(alloc, "image")?,
     ];
     let (gate, run) = (&Slow { times: 0 }, Unnamed::new());
-    let status = r4_main(
-        &rt,
-        alloc,
-        &words,
-        &mut dev,
-        &mut script,
-        &mut out,
-        gate,
-        run,
+    Ok(r4_main(rt, alloc, &words, dev, script, out, gate, run).code)
+}
+
+// Runs the scripts of a source that fails.
+fn is_told<X: Abort + Threads + Wait + Sync>(
+    rt: &X,
+    alloc: Global,
+    dev: &mut MemoryDevice,
+    script: &mut MemorySource,
+) -> Result<(), Fail> {
+    let mut out = MemorySink::new(alloc, 100)?;
+    let code = run_from(rt, alloc, dev, script, &mut out)?;
+    assert_eq!(rt; code, 4);
+    assert_eq!(rt; out.written(), b"source: faults 1\n".as_slice());
+    Ok(())
+}
+
+#[test]
+fn source_that_fails_is_told(rt: HostRuntime) -> Result<(), Fail> {
+    let mut dev = fresh(&rt, rt.alloc(), 64)?;
+    let mut script = MemorySource::new(rt.alloc(), TEXT.as_bytes())?;
+    script.fail(rt.alloc(), 1)?;
+    is_told(&rt, rt.alloc(), &mut dev, &mut script)
+}
+
+// The status of a run whose second line cannot be written.
+fn run_unheard<X: Threads + Wait + Sync>(
+    rt: &X,
+    alloc: Global,
+    dev: &mut MemoryDevice,
+) -> Result<u8, Fail> {
+    let mut out = MemorySink::new(alloc, 100)?;
+    out.fail(alloc, 2)?;
+    call(rt, alloc, &RUN, dev, TEXT, &mut out)
+}
+
+// Looks whether the volume is listed with its file.
+fn lists_file<X: Abort + Threads + Wait + Sync>(
+    rt: &X,
+    alloc: Global,
+    dev: &mut MemoryDevice,
+) -> Result<(), Fail> {
+    let listed = printed(rt, alloc, &LIST, dev, "", 0)?;
+    assert_eq!(rt;
+        listed.as_slice(),
+        b"d 0755 2 0 0 1 /\nf 0644 1 0 0 0 /a\n".as_slice()
     );
-    assert_eq!(&rt; status.code, 4);
-    assert_eq!(&rt; out.written(), b"source: faults 1\n".as_slice());
     Ok(())
 }
 
 // A sink whose second write fails has a line, and the volume has the file all the same.
 #[test]
 fn sink_that_fails_leaves_the_volume(rt: HostRuntime) -> Result<(), Fail> {
-    let alloc = rt.alloc();
-    let mut dev = fresh(&rt, alloc, 64)?;
-    let mut out = MemorySink::new(alloc, 100)?;
-    out.fail(alloc, 2)?;
-    assert_eq!(&rt; call(&rt, alloc, &RUN, &mut dev, TEXT, &mut out)?, 5);
-    let listed = printed(&rt, alloc, &LIST, &mut dev, "", 0)?;
-    assert_eq!(&rt;
-        listed.as_slice(),
-        b"d 0755 2 0 0 1 /\nf 0644 1 0 0 0 /a\n".as_slice()
-    );
-    Ok(())
+    let mut dev = fresh(&rt, rt.alloc(), 64)?;
+    assert_eq!(&rt; run_unheard(&rt, rt.alloc(), &mut dev)?, 5);
+    lists_file(&rt, rt.alloc(), &mut dev)
 }
 
 // The status of a run on a device of which a call fails, and what is printed.
@@ -99,24 +128,51 @@ fn is_whole<X: Threads + Wait + Sync>(
     Ok(listed.as_slice() == before.as_bytes() || listed.as_slice() == after.as_bytes())
 }
 
+// Looks at what is told of a commit that broke.
+fn tells_break<X: Abort>(rt: &X, told: &[u8], nth: u64) {
+    assert!(rt; !has_line(told, b"acked "), "{nth}");
+    assert!(rt; has_line(told, b"refused t0 s1 c3 reopen "), "{nth}");
+    assert!(rt; has_line(told, b"device: clock "), "{nth}");
+}
+
+// Looks at a run of which a call of the device fails: whether its commit broke.
+fn breaks<X: Abort + Threads + Wait + Sync>(
+    rt: &X,
+    alloc: Global,
+    dev: &mut MemoryDevice,
+    nth: u64,
+) -> Result<bool, Fail> {
+    let (status, told) = failing(rt, alloc, dev, nth)?;
+    assert!(rt; status == 0 || status == 6, "{nth}: {status}");
+    let broke = told.starts_with(TOLD.as_bytes()) && status == 6;
+    if broke {
+        tells_break(rt, &told, nth);
+    }
+    Ok(broke)
+}
+
+// The same on a fresh volume, which is whole behind it.
+fn breaks_whole<X: Abort + Threads + Wait + Sync>(
+    rt: &X,
+    alloc: Global,
+    nth: u64,
+) -> Result<bool, Fail> {
+    let mut dev = fresh(rt, alloc, 64)?;
+    let broke = breaks(rt, alloc, &mut dev, nth)?;
+    assert!(rt; is_whole(rt, alloc, &mut dev)?, "{nth}");
+    Ok(broke)
+}
+
 // Each call of the device fails in turn, from the first behind those that made the volume. Where one
 // fails as the volume is opened, its line is all that is printed. Where a read fails behind that, its
 // command is refused, and the run goes on. Where a call of the commit fails, the trace tells that it
 // broke, what was left is refused, and nothing is acknowledged.
 #[test]
 fn failing_calls_are_told(rt: HostRuntime) -> Result<(), Fail> {
-    let alloc = rt.alloc();
     let mut broken = 0u32;
     for nth in 11..34u64 {
-        let mut dev = fresh(&rt, alloc, 64)?;
-        let (status, told) = failing(&rt, alloc, &mut dev, nth)?;
-        assert!(&rt; status == 0 || status == 6, "{nth}: {status}");
-        assert!(&rt; is_whole(&rt, alloc, &mut dev)?, "{nth}");
-        if told.starts_with(TOLD.as_bytes()) && status == 6 {
+        if breaks_whole(&rt, rt.alloc(), nth)? {
             broken = broken.saturating_add(1);
-            assert!(&rt; !has_line(&told, b"acked "), "{nth}");
-            assert!(&rt; has_line(&told, b"refused t0 s1 c3 reopen "), "{nth}");
-            assert!(&rt; has_line(&told, b"device: clock "), "{nth}");
         }
     }
     assert_eq!(&rt; broken, 14);

@@ -18,7 +18,7 @@ struct Row {
 
 const EMPTY: &str = "d 0755 2 0 0 0 /\n";
 
-static ROWS: [Row; 9] = [
+static ROWS: [Row; 10] = [
     Row {
         name: "no scripts",
         text: "",
@@ -134,6 +134,24 @@ committed a2\n\
 sealed a6\n\
 committed a6\n",
         listed: "d 0755 3 0 0 1 /\nd 0755 2 0 0 0 /d\n",
+    },
+    Row {
+        name: "a clash of hashes",
+        text: "\
+script\n\
+begin\n\
+create /aaaaaaaaaaaaaaaxxxxxxxca\n\
+create /aaaaaaaaaaaaaaaxxxxxxxbl\n\
+end\n",
+        status: 0,
+        told: "\
+begin t1 s1\n\
+done t1 s1 c2 ok\n\
+done t1 s1 c3 clash aaaaaaaaaaaaaaaxxxxxxxca\n\
+ended t1\n\
+sealed a1\n\
+committed a1\n",
+        listed: "d 0755 2 0 0 1 /\nf 0644 1 0 0 0 /aaaaaaaaaaaaaaaxxxxxxxca\n",
     },
     Row {
         name: "a field too many",

@@ -1,9 +1,12 @@
 //! Many scripts on many threads.
 
-use r4_outside::MemorySink;
+use r4_outside::{MemoryDevice, MemorySink};
 use r4_run_testing::{LIST, Slow, call_at, fresh, printed};
 use std::alloc::Global;
+use std::process::Abort;
+use std::sync::Wait;
 use std::test::Fail;
+use std::thread::Threads;
 
 // So many scripts, each of which makes a file, writes it and commits.
 const SCRIPTS: u32 = 6;
@@ -31,30 +34,52 @@ fn count(told: &[u8], word: &str) -> usize {
         .count()
 }
 
+// Ends the test unless so many lines begin so.
+fn counts<X: Abort>(rt: &X, told: &[u8], word: &str, wanted: usize) {
+    assert_eq!(rt; count(told, word), wanted);
+}
+
+// Runs the scripts on many threads.
+fn runs_all<X: Abort + Threads + Wait + Sync>(
+    rt: &X,
+    alloc: Global,
+    dev: &mut MemoryDevice,
+) -> Result<(), Fail> {
+    let scripts = text(alloc)?;
+    let told = printed(rt, alloc, &WORDS, dev, scripts.as_str(), 0)?;
+    counts(rt, &told, "acked", 12);
+    counts(rt, &told, "done", 18);
+    Ok(())
+}
+
 #[test]
 fn many_threads_come_to_an_end(rt: HostRuntime) -> Result<(), Fail> {
-    let alloc = rt.alloc();
-    let scripts = text(alloc)?;
-    let mut dev = fresh(&rt, alloc, 256)?;
-    let told = printed(&rt, alloc, &WORDS, &mut dev, scripts.as_str(), 0)?;
-    assert_eq!(&rt; count(&told, "acked"), 12);
-    assert_eq!(&rt; count(&told, "done"), 18);
-    let listed = printed(&rt, alloc, &LIST, &mut dev, "", 0)?;
-    assert_eq!(&rt; count(&listed, "f 0644 1 0 0 "), 6);
+    let mut dev = fresh(&rt, rt.alloc(), 256)?;
+    runs_all(&rt, rt.alloc(), &mut dev)?;
+    let listed = printed(&rt, rt.alloc(), &LIST, &mut dev, "", 0)?;
+    counts(&rt, &listed, "f 0644 1 0 0 ", 6);
     Ok(())
+}
+
+// The status of a run of one command, at which one of four threads works long.
+fn slow_status<X: Threads + Wait + Sync>(
+    rt: &X,
+    alloc: Global,
+    dev: &mut MemoryDevice,
+) -> Result<u8, Fail> {
+    let mut out = MemorySink::new(alloc, 100)?;
+    let gate = Slow { times: 2000 };
+    let text = "script\ncreate /a\n";
+    call_at(rt, alloc, &gate, &FOUR, dev, text, &mut out)
 }
 
 // While one thread works at the only command, the others find nothing to do and wait; they end, since
 // whoever brings the task back wakes them.
 #[test]
 fn threads_that_wait_are_woken(rt: HostRuntime) -> Result<(), Fail> {
-    let alloc = rt.alloc();
     for _ in 0..5u32 {
-        let mut dev = fresh(&rt, alloc, 64)?;
-        let mut out = MemorySink::new(alloc, 100)?;
-        let gate = Slow { times: 2000 };
-        let text = "script\ncreate /a\n";
-        let status = call_at(&rt, alloc, &gate, &FOUR, &mut dev, text, &mut out)?;
+        let mut dev = fresh(&rt, rt.alloc(), 64)?;
+        let status = slow_status(&rt, rt.alloc(), &mut dev)?;
         assert_eq!(&rt; status, 0);
     }
     Ok(())

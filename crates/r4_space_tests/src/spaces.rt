@@ -10,13 +10,12 @@ use std::process::Abort;
 use std::test::Fail;
 
 // A bitmap whose first 24 bits are 1, and those of its bytes from `used` on.
-fn bitmap(alloc: Global, used: usize) -> Result<Block, Fail> {
+fn bitmap(alloc: Global, used: usize) -> Result<Block, Fail>
+    requires { used ≤ 4096 }
+{
     let mut block = Block::zeroed(alloc)?;
-    for (i, byte) in block.bytes_mut().iter_mut().enumerate() {
-        if (4..7).contains(&i) || i >= used {
-            *byte = 0xff;
-        }
-    }
+    block.part_mut(4, 7).fill(0xff);
+    block.part_mut(used, 4096).fill(0xff);
     Ok(block)
 }
 
@@ -252,22 +251,56 @@ fn charge_both(alloc: Global, space: &mut SpaceMap) -> Result<([Option<Short>; 3
     Ok(([first, second, third], [apart, merged, space.free()]))
 }
 
-#[test]
-fn a_full_volume_is_charged(rt: HostRuntime) -> Result<(), Fail> {
-    let alloc = rt.alloc();
-    let mut space = space_of(&rt, alloc, 64, 40)?;
-    let placed = place_five(alloc, &mut space)?;
-    let freed = free_five(alloc, &mut space)?;
-    let both = charge_both(alloc, &mut space)?;
+// Looks at what a first atom is short of, and at what is free.
+fn five_are_placed(rt: &impl Abort, alloc: Global, space: &mut SpaceMap) -> Result<(), Fail>
+    requires { space.old.sealed ≡ [] }
+    ensures open { OnOk result (space.new.sealed ≡ []) }
+    ensures size { OnOk result (space.new.block_count ≡ space.old.block_count) }
+{
+    let placed = place_five(alloc, space)?;
     let much = Some(Short {
         need: 257,
         free: 35,
     });
-    same(&rt, &placed, &([None, much, None], [24, 35]), "placed");
-    let again = Some(Short { need: 46, free: 35 });
-    same(&rt, &freed, &([again, None], 40), "freed");
-    same(&rt, &both, &([None; 3], [29, 33, 4]), "both");
+    same(rt, &placed, &([None, much, None], [24, 35]), "placed");
     Ok(())
+}
+
+// Looks at what it is short of then, and at what is free.
+fn five_are_freed(rt: &impl Abort, alloc: Global, space: &mut SpaceMap) -> Result<(), Fail>
+    requires open { space.old.sealed ≡ [] }
+    requires size { 64 ≤ space.old.block_count }
+    ensures { OnOk result (space.new.sealed ≡ []) }
+{
+    let freed = free_five(alloc, space)?;
+    let again = Some(Short { need: 46, free: 35 });
+    same(rt, &freed, &([again, None], 40), "freed");
+    Ok(())
+}
+
+// Looks at what two atoms are short of, and at what is free.
+fn both_are_charged(rt: &impl Abort, alloc: Global, space: &mut SpaceMap) -> Result<(), Fail>
+    requires { space.old.sealed ≡ [] }
+{
+    let both = charge_both(alloc, space)?;
+    same(rt, &both, &([None; 3], [29, 33, 4]), "both");
+    Ok(())
+}
+
+// Charges atoms of a space of which 40 blocks are free.
+fn is_charged(rt: &impl Abort, alloc: Global, space: &mut SpaceMap) -> Result<(), Fail>
+    requires open { space.old.sealed ≡ [] }
+    requires size { 64 ≤ space.old.block_count }
+{
+    five_are_placed(rt, alloc, space)?;
+    five_are_freed(rt, alloc, space)?;
+    both_are_charged(rt, alloc, space)
+}
+
+#[test]
+fn a_full_volume_is_charged(rt: HostRuntime) -> Result<(), Fail> {
+    let mut space = space_of(&rt, rt.alloc(), 64, 40)?;
+    is_charged(&rt, rt.alloc(), &mut space)
 }
 
 // The bits of blocks 24 to 31, as the commit of an atom leaves them.
@@ -279,16 +312,15 @@ fn written(alloc: Global, space: &SpaceMap, atom: u32) -> Result<u8, Fail>
     Ok(block.bytes()[7])
 }
 
-// Places two blocks from 24 on, the last one, and some from behind it.
-fn place_around(space: &mut SpaceMap, last: u64) -> [Option<u64>; 5]
+// Places a block near each of these.
+fn place_near(space: &mut SpaceMap, nears: &[u64; 5]) -> [Option<u64>; 5]
     ensures { space.new.block_count ≡ space.old.block_count }
 {
-    let first = place(space, 0);
-    let second = place(space, 24);
-    let third = place(space, last);
-    let fourth = place(space, last);
-    let fifth = place(space, u64::MAX);
-    [first, second, third, fourth, fifth]
+    let mut placed = [None; 5];
+    for (block, &near) in placed.iter_mut().zip(nears) {
+        *block = place(space, near);
+    }
+    placed
 }
 
 // Seals two atoms.
@@ -313,20 +345,79 @@ fn free_two(alloc: Global, space: &mut SpaceMap) -> Result<(Option<u64>, [u8; 2]
     Ok((held, [first, second]))
 }
 
-// The first of them settles, and in a copy the second: which blocks are placed before, between and after, and how many are
-// free more in the copy.
-fn settle_both(alloc: Global, space: &mut SpaceMap) -> Result<([Option<u64>; 4], u64), Fail> {
+// The first of them settles: which blocks are placed before and after.
+fn settle_first(space: &mut SpaceMap) -> (Option<u64>, Option<u64>, Option<u64>) {
     let before = place(space, 24);
     space.settle(AtomNo(1));
     let given = place(space, 25);
-    let freed = place(space, 23);
+    (before, given, place(space, 23))
+}
+
+// The second of them settles: which block is placed then, and how many are free.
+fn settle_second(space: &mut SpaceMap) -> (Option<u64>, u64) {
+    space.settle(AtomNo(2));
+    (place(space, 25), space.free())
+}
+
+// The first of them settles, and in a copy the second: which blocks are placed before, between and after, and how many are
+// free more in the copy.
+fn settle_both(alloc: Global, space: &mut SpaceMap) -> Result<([Option<u64>; 4], u64), Fail> {
+    let (before, given, freed) = settle_first(space);
     let mut copy = space.copy(alloc)?;
-    copy.settle(AtomNo(2));
-    let last = place(&mut copy, 25);
+    let (last, free) = settle_second(&mut copy);
     Ok((
         [before, given, freed, last],
-        copy.free().wrapping_sub(space.free()),
+        free.wrapping_sub(space.free()),
     ))
+}
+
+// Looks at the places of two blocks from 24 on, of the last one, and of some behind it, and at what is free then.
+fn around_are_placed(rt: &impl Abort, space: &mut SpaceMap, last: u64, free: u64)
+    ensures { space.new.block_count ≡ space.old.block_count }
+{
+    let around = place_near(space, &[0, 24, last, last, u64::MAX]);
+    let found = [Some(24), Some(25), Some(last), Some(26), Some(27)];
+    same(rt, &around, &found, "around");
+    same(rt, &space.free(), &free, "free behind them");
+}
+
+// Looks at the block that is held, and at the bits that each of two atoms writes.
+fn two_are_freed(rt: &impl Abort, alloc: Global, space: &mut SpaceMap) -> Result<(), Fail>
+    requires { 64 ≤ space.old.block_count }
+{
+    let freed = free_two(alloc, space)?;
+    same(rt, &freed, &(Some(28), [0b1110, 0b1100]), "freed");
+    Ok(())
+}
+
+// Looks at the blocks that are placed while both settle, and at what is free then.
+fn both_settle(
+    rt: &impl Abort,
+    alloc: Global,
+    space: &mut SpaceMap,
+    free: u64,
+) -> Result<(), Fail> {
+    let settled = settle_both(alloc, space)?;
+    let found = [Some(29), Some(28), Some(24), Some(25)];
+    same(rt, &settled, &(found, 0), "settled");
+    same(rt, &space.free(), &free, "free at the end");
+    Ok(())
+}
+
+// Atoms of a space settle, of which so many blocks are free.
+fn settle_each(
+    rt: &impl Abort,
+    alloc: Global,
+    space: &mut SpaceMap,
+    last: u64,
+    free: u64,
+) -> Result<(), Fail>
+    requires { 64 ≤ space.old.block_count }
+{
+    around_are_placed(rt, space, last, free.wrapping_sub(5));
+    space.settle(AtomNo(9));
+    two_are_freed(rt, alloc, space)?;
+    both_settle(rt, alloc, space, free.wrapping_sub(7))
 }
 
 // Atoms of a new volume settle, of which so many blocks are free.
@@ -338,23 +429,7 @@ fn settle_in_order(
     free: u64,
 ) -> Result<(), Fail> {
     let mut space = space_of(rt, alloc, blocks, free)?;
-    let around = place_around(&mut space, last);
-    let placed = space.free();
-    space.settle(AtomNo(9));
-    let freed = free_two(alloc, &mut space)?;
-    let settled = settle_both(alloc, &mut space)?;
-    let found = [Some(24), Some(25), Some(last), Some(26), Some(27)];
-    same(rt, &around, &found, "around");
-    same(rt, &freed, &(Some(28), [0b1110, 0b1100]), "freed");
-    let found = [Some(29), Some(28), Some(24), Some(25)];
-    same(rt, &settled, &(found, 0), "settled");
-    same(
-        rt,
-        &[placed, space.free()],
-        &[free.wrapping_sub(5), free.wrapping_sub(7)],
-        "free",
-    );
-    Ok(())
+    settle_each(rt, alloc, &mut space, last, free)
 }
 
 #[test]
@@ -363,41 +438,54 @@ fn atoms_settle_in_order(rt: HostRuntime) -> Result<(), Fail> {
     settle_in_order(&rt, rt.alloc(), 32_737, 32_735, 32_712)
 }
 
+// An atom defers block 30: what is free then.
+fn defer_30(alloc: Global, space: &mut SpaceMap, atom: u32) -> Result<u64, Fail>
+    requires { 64 ≤ space.old.block_count }
+    ensures { OnOk result (space.new.block_count ≡ space.old.block_count) }
+{
+    defer(alloc, space, atom, 30)?;
+    Ok(space.free())
+}
+
+// An atom settles: what is free then, and whether block 30 is used still.
+fn settle_30(space: &mut SpaceMap, atom: u32) -> (u64, bool) {
+    space.settle(AtomNo(atom));
+    (space.free(), space.is_used(BlockNo(30)))
+}
+
 // Two atoms defer a block, and settle one after the other: what is free after each step, and whether the block is used still.
 fn defer_twice(alloc: Global, space: &mut SpaceMap) -> Result<([u64; 4], [bool; 2]), Fail>
     requires { 64 ≤ space.old.block_count }
 {
-    defer(alloc, space, 1, 30)?;
-    let one = space.free();
-    defer(alloc, space, 2, 30)?;
-    let two = space.free();
-    space.settle(AtomNo(1));
-    let again = space.free();
-    let is_deferred = space.is_used(BlockNo(30));
-    space.settle(AtomNo(2));
-    let is_used = space.is_used(BlockNo(30));
-    Ok(([one, two, again, space.free()], [is_deferred, is_used]))
+    let one = defer_30(alloc, space, 1)?;
+    let two = defer_30(alloc, space, 2)?;
+    let (again, is_deferred) = settle_30(space, 1);
+    let (free, is_used) = settle_30(space, 2);
+    Ok(([one, two, again, free], [is_deferred, is_used]))
+}
+
+// Looks at which of blocks 30, 23 and 64 are used.
+fn are_used(rt: &impl Abort, space: &SpaceMap) {
+    let unmarked = space.is_used(BlockNo(30));
+    let marked = space.is_used(BlockNo(23));
+    let outside = space.is_used(BlockNo(64));
+    let found = [unmarked, marked, outside];
+    same(rt, &found, &[false, true, false], "used");
+}
+
+// Looks at what is free while two atoms defer block 30.
+fn is_deferred(rt: &impl Abort, alloc: Global, space: &mut SpaceMap) -> Result<(), Fail>
+    requires { 64 ≤ space.old.block_count }
+{
+    are_used(rt, space);
+    let deferred = defer_twice(alloc, space)?;
+    let wanted = ([39, 39, 39, 40], [true, false]);
+    same(rt, &deferred, &wanted, "deferred");
+    Ok(())
 }
 
 #[test]
 fn an_unmarked_block_is_deferred(rt: HostRuntime) -> Result<(), Fail> {
-    let alloc = rt.alloc();
-    let mut space = space_of(&rt, alloc, 64, 40)?;
-    let unmarked = space.is_used(BlockNo(30));
-    let marked = space.is_used(BlockNo(23));
-    let outside = space.is_used(BlockNo(64));
-    let deferred = defer_twice(alloc, &mut space)?;
-    same(
-        &rt,
-        &[unmarked, marked, outside],
-        &[false, true, false],
-        "used",
-    );
-    same(
-        &rt,
-        &deferred,
-        &([39, 39, 39, 40], [true, false]),
-        "deferred",
-    );
-    Ok(())
+    let mut space = space_of(&rt, rt.alloc(), 64, 40)?;
+    is_deferred(&rt, rt.alloc(), &mut space)
 }

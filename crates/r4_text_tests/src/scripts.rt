@@ -2,8 +2,9 @@
 
 use r4_base::Memory;
 use r4_content::{Command, Path};
-use r4_script::{ParseFault, ScriptFault, What, parse};
+use r4_script::{ParseFault, Script, ScriptFault, What, parse};
 use std::alloc::Global;
+use std::process::Abort;
 use std::test::Fail;
 
 // The place of the first fault, where there is one.
@@ -99,17 +100,8 @@ fn faults_stand_at_their_places(rt: HostRuntime) {
     }
 }
 
-#[test]
-fn every_command_is_read(rt: HostRuntime) {
-    let text =
-        b"script\nbegin\ncreate /a\nmkdir /d\nwrite /a 0 \nwrite /a 1 x  y \nfill /a 00000000000000000002 1048576 255\ntruncate /a 18446744073709551615\nread /a 0 65536\nstat /\nnames /d//e/\nlink /a /b\nunlink /b\nrmdir /d\nrename /a /c\nchmod /c 7777\nchown /c 4294967295 0\ntimes /c 0 1 4294967295\nend\ncommit";
-    let job = parse(rt.alloc(), text.as_slice()).expect(&rt, "a job");
-    let [script] = job.scripts.as_slice() else {
-        assert!(rt; false, "one script");
-        return;
-    };
-    let commands = script.commands.as_slice();
-    assert_eq!(rt; commands.len(), 19);
+// Looks at the first five commands.
+fn first_are_read<X: Abort>(rt: &X, commands: &[Command]) {
     assert!(rt; matches!(commands.get(0), Some(Command::Begin)));
     assert!(rt;
         matches!(commands.get(1), Some(Command::Create { path, oid }) if has_names(path, &[b"a"]) && oid.0 == 0)
@@ -120,6 +112,10 @@ fn every_command_is_read(rt: HostRuntime) {
     assert!(rt;
         matches!(commands.get(4), Some(Command::Write { offset: 1, text, .. }) if text.as_slice() == b"x  y ".as_slice())
     );
+}
+
+// Looks at those behind them, up to the tenth.
+fn next_are_read<X: Abort>(rt: &X, commands: &[Command]) {
     assert!(rt;
         matches!(
             commands.get(5),
@@ -144,6 +140,10 @@ fn every_command_is_read(rt: HostRuntime) {
     assert!(rt;
         matches!(commands.get(9), Some(Command::Names { path }) if has_names(path, &[b"d", b"", b"e", b""]))
     );
+}
+
+// Looks at the last ones.
+fn last_are_read<X: Abort>(rt: &X, commands: &[Command]) {
     assert!(rt; matches!(commands.get(14), Some(Command::Chmod { mode: 4095, .. })));
     assert!(rt;
         matches!(
@@ -169,6 +169,27 @@ fn every_command_is_read(rt: HostRuntime) {
     assert!(rt; matches!(commands.get(18), Some(Command::Commit)));
 }
 
+// Looks at the script of all commands.
+fn is_read<X: Abort>(rt: &X, scripts: &[Script]) {
+    let [script] = scripts else {
+        assert!(rt; false, "one script");
+        return;
+    };
+    let commands = script.commands.as_slice();
+    assert_eq!(rt; commands.len(), 19);
+    first_are_read(rt, commands);
+    next_are_read(rt, commands);
+    last_are_read(rt, commands);
+}
+
+#[test]
+fn every_command_is_read(rt: HostRuntime) {
+    let text =
+        b"script\nbegin\ncreate /a\nmkdir /d\nwrite /a 0 \nwrite /a 1 x  y \nfill /a 00000000000000000002 1048576 255\ntruncate /a 18446744073709551615\nread /a 0 65536\nstat /\nnames /d//e/\nlink /a /b\nunlink /b\nrmdir /d\nrename /a /c\nchmod /c 7777\nchown /c 4294967295 0\ntimes /c 0 1 4294967295\nend\ncommit";
+    let job = parse(rt.alloc(), text.as_slice()).expect(&rt, "a job");
+    is_read(&rt, job.scripts.as_slice());
+}
+
 // What is judged of three pieces of text, one behind the other.
 fn fault_in(
     alloc: Global,
@@ -191,6 +212,13 @@ fn scripts(alloc: Global, count: usize) -> Result<Vec<u8>, Memory> {
     Ok(text)
 }
 
+// The column of the fault in a write of so many bytes.
+fn column_behind(alloc: Global, len: usize) -> Result<Option<u32>, Memory> {
+    let bytes = vec![in alloc; b'x'; len]?;
+    let fault = fault_in(alloc, b"script\n", b"write /a 0 ", bytes.as_slice())?;
+    Ok(fault.map(|fault| fault.column))
+}
+
 // The last piece behind 64 scripts, and the fault there.
 static SCRIPTS: [(&[u8], Option<ScriptFault>); 2] = [
     (b"", None),
@@ -208,9 +236,7 @@ static SCRIPTS: [(&[u8], Option<ScriptFault>); 2] = [
 fn limits_are_kept(rt: HostRuntime) -> Result<(), Fail> {
     let alloc = rt.alloc();
     for (len, want) in [(4096, None), (4097, Some(4108))] {
-        let bytes = vec![in alloc; b'x'; len]?;
-        let fault = fault_in(alloc, b"script\n", b"write /a 0 ", bytes.as_slice())?;
-        assert_eq!(rt; fault.map(|fault| fault.column), want);
+        assert_eq!(rt; column_behind(alloc, len)?, want);
     }
     let scripts = scripts(alloc, 64)?;
     for &(end, want) in &SCRIPTS {

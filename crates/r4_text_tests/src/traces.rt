@@ -4,6 +4,7 @@ use r4_base::{AtomNo, Attr, BlockNo, Memory, NodeId, ScriptNo, TxnNo};
 use r4_content::{Bytes, Command, Name, Names, Reply};
 use r4_trace::{Entry, Trace, line};
 use std::alloc::Global;
+use std::process::Abort;
 use std::test::Fail;
 
 // A refusal of the second command of script 3, in transaction 7.
@@ -21,6 +22,11 @@ fn line_of(alloc: Global, entry: &Entry) -> Result<Vec<u8>, Memory> {
     let mut out = Vec::new(alloc);
     line(alloc, entry, &mut out)?;
     Ok(out)
+}
+
+// Ends the test unless a line is this text.
+fn is_line<X: Abort>(rt: &X, got: &[u8], text: &str) {
+    assert_eq!(rt; got, text.as_bytes(), "{text}");
 }
 
 // Bytes that several owners have.
@@ -89,11 +95,16 @@ fn entry(row: usize) -> Entry {
     }
 }
 
+// Its line.
+fn entry_line(alloc: Global, row: usize) -> Result<Vec<u8>, Memory> {
+    line_of(alloc, &entry(row))
+}
+
 #[test]
 fn entries_have_lines(rt: HostRuntime) -> Result<(), Fail> {
     for (row, text) in ENTRIES.iter().enumerate() {
-        let got = line_of(rt.alloc(), &entry(row))?;
-        assert_eq!(rt; got.as_slice(), text.as_bytes(), "{text}");
+        let got = entry_line(rt.alloc(), row)?;
+        is_line(&rt, got.as_slice(), text);
     }
     Ok(())
 }
@@ -160,11 +171,21 @@ fn reply(alloc: Global, row: usize) -> Result<Reply, Memory> {
     })
 }
 
+// The line of a refusal.
+fn refused_line(alloc: Global, reply: Reply) -> Result<Vec<u8>, Memory> {
+    line_of(alloc, &refused(reply))
+}
+
+// The line of a refusal with the reply of a row.
+fn reply_line(alloc: Global, row: usize) -> Result<Vec<u8>, Memory> {
+    refused_line(alloc, reply(alloc, row)?)
+}
+
 #[test]
 fn replies_have_texts(rt: HostRuntime) -> Result<(), Fail> {
     for (row, text) in REPLIES.iter().enumerate() {
-        let got = line_of(rt.alloc(), &refused(reply(rt.alloc(), row)?))?;
-        assert_eq!(rt; got.as_slice(), text.as_bytes(), "{text}");
+        let got = reply_line(rt.alloc(), row)?;
+        is_line(&rt, got.as_slice(), text);
     }
     Ok(())
 }

@@ -44,7 +44,7 @@ fn main(rt: HostRuntime) -> ExitCode {
     );
     let is_printed = out.flush().is_ok();
     complain(&rt, name, code, &mut dev, &mut out);
-    ExitCode::from(if code == 0 && !is_printed { 5 } else { code })
+    ExitCode::from(if code <= 1 && !is_printed { 5 } else { code })
 }
 
 // The words of the command line, without the program's own name.

@@ -1,6 +1,6 @@
 //! Edits of a root that has an extent, and of a full one: which cells come, and how many items and free bytes they have.
 
-ghost use Rattle.std.specs.Prelude.{◌≡◌, length};
+ghost use Rattle.std.specs.Prelude.{◌≡◌, ◌+◌, ◌≤◌, length};
 
 use r4_base::{Block, Key, NodeId, Oid, put64};
 use r4_cell::{Cell, Change, least, read_cell, top};
@@ -48,9 +48,16 @@ fn same<X: Abort>(rt: &X, looked: &Looked, want: &[Row], height: Option<u8>) {
 
 // A leaf with those that fill up its root: 88 in all.
 fn beside(alloc: Global, first: Arc<Cell>) -> Result<Vec<Arc<Cell>>, Fail> {
+    let lo = first.hi();
     let mut leaves = Vec::new(alloc);
-    let mut lo = first.hi();
     leaves.push(first)?;
+    fill_up(alloc, &mut leaves, lo)?;
+    Ok(leaves)
+}
+
+// The other 87 leaves, from a key on.
+fn fill_up(alloc: Global, leaves: &mut Vec<Arc<Cell>>, lo: Key) -> Result<(), Fail> {
+    let mut lo = lo;
     for i in 1..88u64 {
         let hi = if i == 87 {
             top()
@@ -60,7 +67,7 @@ fn beside(alloc: Global, first: Arc<Cell>) -> Result<Vec<Arc<Cell>>, Fail> {
         leaves.push(empty_leaf(alloc, LEAF + i, lo, hi)?)?;
         lo = hi;
     }
-    Ok(leaves)
+    Ok(())
 }
 
 // How many cells come where the second tail fills up the leaf of a full root, and the height of the new root.
@@ -127,14 +134,21 @@ fn a_twig_is_packed_anew(rt: HostRuntime) -> Result<(), Fail> {
     Ok(())
 }
 
+// Spells a unit of one block at its place in an extent.
+fn spell_unit(body: &mut [u8], at: usize, start: u64)
+    requires { at + 16 ≤ length body.old }
+    ensures { length body.new ≡ length body.old }
+{
+    put64(body, at, start);
+    put64(body, at + 8, 1);
+}
+
 // Spells the extent of two blocks that have no place.
 fn spell_new_blocks(body: &mut [u8])
     requires { length body.old ≡ 32 }
 {
-    put64(body, 0, UNPLACED);
-    put64(body, 8, 1);
-    put64(body, 16, UNPLACED + 1);
-    put64(body, 24, 1);
+    spell_unit(body, 0, UNPLACED);
+    spell_unit(body, 16, UNPLACED + 1);
 }
 
 // What comes where an extent of two blocks without a place is put into the range of a leaf, which has all keys.

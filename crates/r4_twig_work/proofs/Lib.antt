@@ -1,2 +1,3 @@
 pub mod Regrafted
 pub mod Renewed
+pub mod Standing

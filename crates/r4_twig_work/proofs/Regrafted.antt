@@ -1,5 +1,5 @@
 -- A standing twig that is packed anew, as one step.
-use Rattle.std.proofs.Common.{◌≡◌, inl, inr, ℕ, ◌<◌, List, [], ◌∷◌, ◌++◌, reverse, refl, ap, sym, subst, ◌∙◌, arith}
+use Rattle.std.proofs.Common.{◌≡◌, ◌⊎◌, inl, inr, ℕ, ◌<◌, List, [], ◌∷◌, ◌++◌, reverse, refl, ap, sym, subst, ◌∙◌, arith}
 use Rattle.std.specs.Prelude.{Contains, None}
 use Rattle.std.proofs.lemmas.List.{reverse-reverse}
 use Rattle.std.proofs.lemmas.List.Elements.{Contains-append_cases, Contains-append_left, Contains-append_right}
@@ -13,6 +13,9 @@ use Rattle.r4_cell.specs.declared.change.Fresh.{Fresh}
 use Rattle.r4_extent_edit.proofs.GraftEffect.{IsRepacked, graft_effect, graft_names, graft_root}
 use Rattle.r4_extent_edit.specs.Effects.{patch_with}
 use Rattle.r4_measure.specs.Grafting.{Beside, IsRegrafted}
+use Rattle.r4_measure.proofs.Climb.{in_left}
+use Rattle.r4_measure.proofs.Kept.{not_named}
+use Rattle.r4_patch.specs.Joining.{ids_of}
 use Rattle.r4_patch.specs.Part.{IsPart, MeetsPart}
 use Rattle.r4_path.specs.Grafts.{Grafts, GraftsBelow, GraftsUp, IsGraftBelow, IsGraftBelowIn, IsGraftBelowUp, IsGraftIn, IsGraftedUp}
 use Rattle.r4_path.specs.Steps.{Ascends, OnlyTakes}
@@ -79,11 +82,17 @@ module _ (t : Store Value) (r : Root) (before : Fresh) (w : WorkingSet) (key : �
           made = record { change = change; meets = meets };
         }
 
+        -- a number that no old cell has was taken
+        taken_new : (y : CellSeen) → (patch_with c x.blocks).old y.id ≡ None → Contains (ids_of x.below.old) y.id ⊎ (y.id < before.next) → y.id < after.next
+        taken_new y gone (inr n) = omega (arith, n, takes)
+        taken_new y gone (inl old) =
+            absurd (not_named c.old y.id gone (subst (λ cs. Contains (ids_of cs) y.id) (sym grafts.below.old_is) (in_left x.below.old grafts.change.old y.id old)))
+
         names : (y : CellSeen) → Contains (c.new ++ x.blocks) y → (patch_with c x.blocks).old y.id ≡ None → y.id < after.next
         names y at gone = elim (Contains-append_cases c.new x.blocks y at) [
-          | inr block ↦ let n = is.taken y (Contains-append_right x.below.new x.blocks y block) in omega (arith, n, takes)
+          | inr block ↦ taken_new y gone (is.taken y (Contains-append_right x.below.new x.blocks y block))
           | inl mine ↦ elim (Contains-append_cases x.below.new grafts.change.new y (subst (λ cs. Contains cs y) grafts.below.new_is mine)) [
-            | inl leaf ↦ let n = is.taken y (Contains-append_left x.below.new x.blocks y leaf) in omega (arith, n, takes)
+            | inl leaf ↦ taken_new y gone (is.taken y (Contains-append_left x.below.new x.blocks y leaf))
             | inr node ↦ (graft_names repacked y node gone).1
           ]
         ]

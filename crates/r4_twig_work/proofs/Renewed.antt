@@ -10,16 +10,18 @@ use Rattle.r4_base.specs.Key.{rank}
 use Rattle.r4_base.specs.Tree.{IsNode, Name, Node, Root, Span, Store}
 use Rattle.r4_base.specs.Value.{Value}
 use Rattle.r4_cell.proofs.Nodes.{data_node}
-use Rattle.r4_cell.specs.Patch.{IsChange, IsPatch, NeedsName, Patch, SameRange, by_name, patch_of}
+use Rattle.r4_cell.specs.Patch.{HaveNames, IsChange, IsPatch, NeedsName, Patch, SameRange, by_name, patch_of}
 use Rattle.r4_cell.specs.Seen.{CellSeen, node_of}
 use Rattle.r4_cell.specs.declared.change.Change.{Change}
 use Rattle.r4_cell.specs.declared.change.Fresh.{Fresh}
+use Rattle.r4_patch.specs.Joining.{ids_of}
 use Rattle.r4_patch.specs.Part.{IsPart, MeetsPart}
 use Rattle.r4_path.specs.Levels.{units_of_cells}
 use Rattle.r4_patch.proofs.Members.{Distinct, cases, distinct, found, have_names, here, later, none, there}
 use Rattle.r4_path.proofs.Rising.{InCell, hi_is, in_node, level_is, lo_is}
 use Rattle.r4_patch.specs.Effect.{HasEffect, Placed, UnitIn, in_extent}
-use Rattle.r4_twig_work.specs.Renewing.{AreRenewals, DoesRenew, IsRenewable, Renewal, news_of, olds_of}
+use Rattle.r4_twig_work.specs.Renewing.{AreRenewals, DoesRenew, IsRenewable, IsRenewed, Renewal, news_of, olds_of}
+use Rattle.r4_twig_work.proofs.Standing.{as_before, stand_now}
 use Rattle.r4_work.proofs.InPlace.{now_effect, now_part, now_working}
 use Rattle.r4_work.specs.Working.{IsNextEdit, IsPutInPlace, IsWorking, now_of, root_of}
 use Rattle.r4_work.specs.declared.working.WorkingSet.{WorkingSet}
@@ -308,6 +310,16 @@ module _ (t : Store Value) (r : Root) (f : Fresh) (w : WorkingSet) (olds news : 
   }
 
   module _ (now : WorkingSet) (put : IsPutInPlace w (record { old = olds; new = news; root = None }) now) where
+    renewed_numbers : ids_of news ≡ ids_of olds
+    renewed_numbers = ap ids_of is.new_are ∙ (pair_numbers ps (λ p at. (is.are.each p at).number) ∙ ap ids_of (sym is.old_are))
+      where
+        pair_numbers : (qs : List Renewal) → ((p : Renewal) → Contains qs p → p.new.id ≡ p.old.id) → ids_of (news_of qs) ≡ ids_of (olds_of qs)
+        pair_numbers [] same = refl
+        pair_numbers (p ∷ qs) same = let one = same p (here p qs) in let rest = pair_numbers qs (λ x at. same x (later p x qs at)) in λ i. one i ∷ rest i
+
+    old_names_are : HaveNames olds
+    old_names_are = subst HaveNames (sym is.old_are) is.are.names
+
     pub renewed_working : IsWorking t r f now
     renewed_working = now_working t r w now f f (record { old = olds; new = news; root = None }) is.working renewed_next put
 
@@ -317,6 +329,17 @@ module _ (t : Store Value) (r : Root) (f : Fresh) (w : WorkingSet) (olds news : 
         (subst (λ xs. HasEffect (patch_of xs news None) at (λ k. in_extent (to k))) (sym is.old_are)
         (subst (λ xs. HasEffect (patch_of (olds_of ps) xs None) at (λ k. in_extent (to k))) (sym is.new_are)
         (renewed_effect (now_of w t) (root_of w r) part ps is.are at to does.held does.there does.others)))
+
+    pub renewed_made : IsRenewed t r f w now olds news
+    renewed_made = record {
+      numbers = renewed_numbers;
+      change = change;
+      meets = meets;
+      put = put;
+      stand = stand_now w now olds news renewed_numbers old_names_are is.working.made put;
+      as_before = as_before w now olds news renewed_numbers old_names_are is.working.made put;
+      working = renewed_working;
+    }
 
 -- the same cells, as they are held otherwise
 pub renewable_as : (t : Store Value) (r : Root) (f : Fresh) (w : WorkingSet) (olds news olds2 news2 : List CellSeen) (ps : List Renewal) → olds2 ≡ olds → news2 ≡ news

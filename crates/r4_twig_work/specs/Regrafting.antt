@@ -11,6 +11,7 @@ use Rattle.r4_cell.specs.declared.change.Fresh.{Fresh}
 use Rattle.r4_leaf.specs.Units.{LeafUnit}
 use Rattle.r4_measure.specs.Grafting.{Beside, comes_below}
 use Rattle.r4_patch.specs.Effect.{Placed}
+use Rattle.r4_patch.specs.Joining.{ids_of}
 use Rattle.r4_path.specs.Grafts.{IsGraftBelowUp}
 use Rattle.r4_twig_work.specs.declared.regrafting.Below.{Below}
 use Rattle.r4_work.specs.Remaking.{Changes}
@@ -18,8 +19,8 @@ use Rattle.r4_work.specs.Working.{IsWorking, now_of, root_of, standing, twig_pat
 use Rattle.r4_work.specs.declared.working.WorkingSet.{WorkingSet}
 
 -- The set is one of this part of a tree. The standing twig that has the key may get these pieces, while cells below it
--- that stand go, others come, and data blocks come. What comes has numbers that were taken before, leaves and twigs from
--- `first` on.
+-- that stand go, others come, and data blocks come. What comes has the number of a cell that goes, or one that was taken
+-- before, leaves and twigs from `first` on.
 pub record IsRegraftable (t : Store Value) (r : Root) (fresh : Fresh) (w : WorkingSet) (key : ℕ)
     (qs : List TwigPiece) (x : Beside) (first : ℕ) : Type 0 where
   pub working : IsWorking t r fresh w
@@ -27,7 +28,8 @@ pub record IsRegraftable (t : Store Value) (r : Root) (fresh : Fresh) (w : Worki
       (twig_path_of w key)
   pub goes : (c : CellSeen) → Contains x.below.old c → Contains (standing w) c
   pub low : (c : CellSeen) → Contains (comes_below x) c → c.level ≤ 1
-  pub taken : (c : CellSeen) → Contains (comes_below x) c → c.id < fresh.next
+  pub taken : (c : CellSeen) → Contains (comes_below x) c
+      → Contains (ids_of x.below.old) c.id ⊎ (c.id < fresh.next)
 
 -- what contracts see of what goes and comes
 abbrev pub beside_of : Below → Beside

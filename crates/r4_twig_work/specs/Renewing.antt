@@ -1,16 +1,20 @@
 -- Data blocks with other bytes in their place (docs/volume.md, "The working set").
-use Rattle.std.specs.Prelude.{◌≡◌, ◌↔◌, ℕ, ◌+◌, ◌≤◌, Bool, true, false, List, length, map, Contains, Option, Some}
+use Rattle.std.specs.Prelude.{◌≡◌, ◌↔◌, ◌⊎◌, ℕ, ◌+◌, ◌≤◌, Bool, true, false, List, length, map, Contains, Option}
+use Rattle.std.specs.Prelude.{None, Some}
 use Rattle.r4_base.specs.Key.{rank}
 use Rattle.r4_base.specs.Tree.{Root, Store}
 use Rattle.r4_base.specs.Value.{Value}
-use Rattle.r4_cell.specs.Patch.{HaveNames}
+use Rattle.r4_cell.specs.Patch.{HaveNames, IsChange}
 use Rattle.r4_cell.specs.Seen.{CellSeen, node_of}
+use Rattle.r4_cell.specs.declared.change.Change.{Change}
 use Rattle.r4_cell.specs.declared.change.Fresh.{Fresh}
 use Rattle.r4_patch.specs.Effect.{in_extent}
+use Rattle.r4_patch.specs.Joining.{ids_of, patch_of_change}
+use Rattle.r4_patch.specs.Part.{MeetsPart}
 use Rattle.r4_path.specs.Levels.{units_of_cells}
 use Rattle.r4_work.specs.Order.{HasKey}
 use Rattle.r4_work.specs.Remaking.{Changes}
-use Rattle.r4_work.specs.Working.{IsWorking, now_of}
+use Rattle.r4_work.specs.Working.{IsPutInPlace, IsWorking, now_of, root_of, standing}
 use Rattle.r4_work.specs.declared.working.WorkingSet.{WorkingSet}
 
 -- a data block, and the one that comes in its place
@@ -65,3 +69,38 @@ pub record Renews (ps : List Renewal) (at : ℕ → Bool) (to : ℕ → Option V
 abbrev pub DoesRenew : (w now : WorkingSet) → List Renewal → Type 0
 DoesRenew w now ps = (at : ℕ → Bool) (to : ℕ → Option Value) → Renews ps at to
     → Changes w now at (λ k. in_extent (to k))
+
+-- ---- what stands then
+
+-- these go and those come, under the same root
+abbrev pub renewing : (olds news : List CellSeen) → Change
+renewing olds news = record { old = olds; new = news; root = None }
+
+abbrev pub AllStand : WorkingSet → List CellSeen → Type 0
+AllStand w cells = (c : CellSeen) → Contains cells c → Contains (standing w) c
+
+-- No more cells stand than before, and where no two that stood had one number, as many. An old cell of the change was one
+-- before, or is one of the task's that was not replaced till then; those that were old cells are. A new cell has the
+-- number of an old one, or of one that was new before.
+pub record StandAsBefore (w now : WorkingSet) : Type 0 where
+  pub few : length (standing now) ≤ length (standing w)
+  pub as_many : HaveNames (standing w) → length (standing now) ≡ length (standing w)
+  pub old : (c : CellSeen) → Contains now.change.old c
+      → Contains w.change.old c ⊎ Contains w.kept c
+  pub still_old : (c : CellSeen) → Contains w.change.old c → Contains now.change.old c
+  pub kept : (c : CellSeen) → Contains now.kept c → Contains w.kept c
+  pub new : (c : CellSeen) → Contains now.change.new c
+      → Contains (ids_of now.change.old) c.id ⊎ Contains (ids_of w.change.new) c.id
+
+-- Cells came in the place of others, under their numbers, and that is put in place as one change: they stand now, and so
+-- do the cells that stood and have none of these numbers, and no other ones. The fresh numbers are as they were.
+pub record IsRenewed (t : Store Value) (r : Root) (f : Fresh) (w now : WorkingSet)
+    (olds news : List CellSeen) : Type 0 where
+  pub numbers : ids_of news ≡ ids_of olds
+  pub change : IsChange olds news None
+  pub meets : MeetsPart (patch_of_change (renewing olds news)) (now_of w t) (root_of w r)
+  pub put : IsPutInPlace w (renewing olds news) now
+  pub stand : (c : CellSeen) → Contains (standing now) c ↔ (Contains news c
+      ⊎ (Contains (standing w) c × (Contains (ids_of olds) c.id → ⊥)))
+  pub as_before : AllStand w olds → StandAsBefore w now
+  pub working : IsWorking t r f now

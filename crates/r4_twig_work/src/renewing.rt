@@ -5,7 +5,7 @@ ghost use Rattle.std.specs.Arc.{arc_value};
 ghost use Rattle.r4_base.specs.Tree.{Root as TreeRoot, Store};
 ghost use Rattle.r4_base.specs.Value.{Value};
 ghost use Rattle.r4_cell.specs.declared.change.Fresh.{Fresh as FreshSeen};
-ghost use Rattle.r4_twig_work.specs.Renewing.{DoesRenew, IsRenewable, Renewal};
+ghost use Rattle.r4_twig_work.specs.Renewing.{DoesRenew, IsRenewable, IsRenewed, Renewal};
 ghost use Rattle.r4_work.specs.Working.{IsWorking};
 
 use r4_base::Memory;
@@ -15,7 +15,8 @@ use std::alloc::Global;
 use std::sync::Arc;
 
 /// Puts data blocks in the place of others of the same names and ranges, as one change; the twigs that name them are not
-/// touched. The only error is want of memory: then the set is as it was.
+/// touched. No number is taken, and where the others stood, as many cells stand as before. The only error is want of
+/// memory: then the set is as it was.
 pub fn renew(
     alloc: Global,
     set: &mut WorkingSet,
@@ -31,6 +32,11 @@ pub fn renew(
     ensures effect { OnOk result ((t : Store Value) (r : TreeRoot) (f : FreshSeen)
         (ps : List Renewal) → IsRenewable t r f set.old (map (λ c. arc_value c) old.items)
         (map (λ c. arc_value c) new.items) ps → DoesRenew set.old set.new ps) }
+    ensures renewed { OnOk result ((t : Store Value) (r : TreeRoot) (f : FreshSeen)
+        (ps : List Renewal) → IsRenewable t r f set.old (map (λ c. arc_value c) old.items)
+        (map (λ c. arc_value c) new.items) ps
+        → IsRenewed t r f set.old set.new (map (λ c. arc_value c) old.items)
+        (map (λ c. arc_value c) new.items)) }
     ensures unchanged { OnErr result (set.new ≡ set.old) }
 {
     let change = Change {

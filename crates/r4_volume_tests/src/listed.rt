@@ -64,28 +64,35 @@ fn with_extents(alloc: Global) -> Result<MemoryDevice, Fail> {
     let mut dev = volume(alloc, shape)?;
     let f = object(Oid(42), b"f", 65_536)?;
     put_one(alloc, &mut dev, 22, 3, 24)?;
-    put_node(alloc, &mut dev, 23, 1, &leaf_of_f(alloc, f)?)?;
-    put_node(alloc, &mut dev, 24, 2, &twig_of_f(alloc, f)?)?;
+    put_nodes_of_f(alloc, &mut dev, f)?;
     put_full(alloc, &mut dev, 25, b'a')?;
     put_full(alloc, &mut dev, 26, b'b')?;
     finished(alloc, dev)
 }
 
+// Puts the leaf and the twig of f.
+fn put_nodes_of_f(alloc: Global, dev: &mut MemoryDevice, f: Target) -> Result<(), Fail>
+    ensures { TellsCrashes (memory_state dev.old) → TellsCrashes (memory_state dev.new) }
+{
+    put_node(alloc, dev, 23, 1, leaf_of_f(alloc, f)?.as_slice())?;
+    put_node(alloc, dev, 24, 2, twig_of_f(alloc, f)?.as_slice())
+}
+
 // The leaf: the root, its entry f, and the stat data of f.
-fn leaf_of_f(alloc: Global, f: Target) -> Result<[Item; 3], Fail> {
-    Ok([
-        Item::stat(alloc, ROOT, &attr(0o40755, 2, 1))?,
-        Item::entries(alloc, Oid(42), &[(b"f", f)])?,
-        Item::stat(alloc, f, &attr(0o100_644, 1, 12_000))?,
-    ])
+fn leaf_of_f(alloc: Global, f: Target) -> Result<Vec<Item>, Fail> {
+    let mut leaf = Vec::new(alloc);
+    leaf.push(Item::stat(alloc, ROOT, &attr(0o40755, 2, 1))?)?;
+    leaf.push(Item::entries(alloc, Oid(42), &[(b"f", f)])?)?;
+    leaf.push(Item::stat(alloc, f, &attr(0o100_644, 1, 12_000))?)?;
+    Ok(leaf)
 }
 
 // The twig: a pointer to the leaf, and the extents of f: a block, a hole, a block.
-fn twig_of_f(alloc: Global, f: Target) -> Result<[Item; 2], Fail> {
-    Ok([
-        Item::pointer(alloc, LEAST, 23)?,
-        Item::extent(alloc, f, &[(25, 1), (0, 1), (26, 1)])?,
-    ])
+fn twig_of_f(alloc: Global, f: Target) -> Result<Vec<Item>, Fail> {
+    let mut twig = Vec::new(alloc);
+    twig.push(Item::pointer(alloc, LEAST, 23)?)?;
+    twig.push(Item::extent(alloc, f, &[(25, 1), (0, 1), (26, 1)])?)?;
+    Ok(twig)
 }
 
 // Paths there, and what is printed; of the file its line alone.
@@ -192,8 +199,9 @@ fn with_root_to(alloc: Global, to: u64) -> Result<MemoryDevice, Fail> {
 fn put_one(alloc: Global, dev: &mut MemoryDevice, at: u64, level: u64, to: u64) -> Result<(), Fail>
     ensures { TellsCrashes (memory_state dev.old) → TellsCrashes (memory_state dev.new) }
 {
-    let items = [Item::pointer(alloc, LEAST, to)?];
-    put_node(alloc, dev, at, level, &items)
+    let mut items = Vec::new(alloc);
+    items.push(Item::pointer(alloc, LEAST, to)?)?;
+    put_node(alloc, dev, at, level, items.as_slice())
 }
 
 // Puts a node of a level in a block's place that has these items.
@@ -239,61 +247,115 @@ fn a_high_tree_is_listed(rt: HostRuntime) -> Result<(), Fail> {
         used: 0b11_1111,
     };
     let mut dev = volume(alloc, shape)?;
-    put_one(alloc, &mut dev, 22, 8, 24)?;
-    put_one(alloc, &mut dev, 24, 7, 25)?;
-    put_one(alloc, &mut dev, 25, 6, 26)?;
-    put_one(alloc, &mut dev, 26, 5, 27)?;
-    put_one(alloc, &mut dev, 27, 4, 28)?;
-    put_one(alloc, &mut dev, 28, 3, 29)?;
-    put_one(alloc, &mut dev, 29, 2, 23)?;
+    put_high(alloc, &mut dev)?;
     let mut dev = finished(alloc, dev)?;
     lists(&rt, alloc, &mut dev, "/", 0, b"d 0755 2 0 0 0 /\n")
+}
+
+// Puts the nodes of the high tree.
+fn put_high(alloc: Global, dev: &mut MemoryDevice) -> Result<(), Fail>
+    ensures { TellsCrashes (memory_state dev.old) → TellsCrashes (memory_state dev.new) }
+{
+    put_high_nodes(alloc, dev)?;
+    put_low_nodes(alloc, dev)
+}
+
+// Puts the nodes of levels 8 to 6.
+fn put_high_nodes(alloc: Global, dev: &mut MemoryDevice) -> Result<(), Fail>
+    ensures { TellsCrashes (memory_state dev.old) → TellsCrashes (memory_state dev.new) }
+{
+    put_one(alloc, dev, 22, 8, 24)?;
+    put_one(alloc, dev, 24, 7, 25)?;
+    put_one(alloc, dev, 25, 6, 26)
+}
+
+// Puts the nodes of levels 5 to 2.
+fn put_low_nodes(alloc: Global, dev: &mut MemoryDevice) -> Result<(), Fail>
+    ensures { TellsCrashes (memory_state dev.old) → TellsCrashes (memory_state dev.new) }
+{
+    put_one(alloc, dev, 26, 5, 27)?;
+    put_one(alloc, dev, 27, 4, 28)?;
+    put_one(alloc, dev, 28, 3, 29)?;
+    put_one(alloc, dev, 29, 2, 23)
 }
 
 // Two entries of the root name one directory, which has a file.
 #[test]
 fn a_directory_is_listed_once(rt: HostRuntime) -> Result<(), Fail> {
     let alloc = rt.alloc();
-    let mut dev = with_leaf(alloc, 3, &leaf_of_a_and_b(alloc)?)?;
+    let mut dev = with_leaf(alloc, 3, leaf_of_a_and_b(alloc)?.as_slice())?;
     let text = "d 0755 4 0 0 2 /\nd 0700 2 0 0 1 /a\nf 4755 1 0 0 0 /a/x\nd 0700 2 0 0 1 /b\n";
     lists(&rt, alloc, &mut dev, "/", 0, text.as_bytes())
 }
 
 // The root's entries a and b name the directory, whose entry x is the file.
-fn leaf_of_a_and_b(alloc: Global) -> Result<[Item; 5], Fail> {
+fn leaf_of_a_and_b(alloc: Global) -> Result<Vec<Item>, Fail> {
+    let mut leaf = Vec::new(alloc);
+    add_root_of_a_and_b(alloc, &mut leaf)?;
+    add_directory_of_x(alloc, &mut leaf)?;
+    Ok(leaf)
+}
+
+// The root, and its entries a and b.
+fn add_root_of_a_and_b(alloc: Global, leaf: &mut Vec<Item>) -> Result<(), Fail> {
     let d = object(Oid(42), b"a", 65_536)?;
+    leaf.push(Item::stat(alloc, ROOT, &attr(0o40755, 4, 2))?)?;
+    leaf.push(Item::entries(alloc, Oid(42), &[(b"a", d), (b"b", d)])?)?;
+    leaf.push(Item::stat(alloc, d, &attr(0o40700, 2, 1))?)?;
+    Ok(())
+}
+
+// The directory's entry x, and the file.
+fn add_directory_of_x(alloc: Global, leaf: &mut Vec<Item>) -> Result<(), Fail> {
     let x = object(Oid(65_536), b"x", 65_537)?;
-    Ok([
-        Item::stat(alloc, ROOT, &attr(0o40755, 4, 2))?,
-        Item::entries(alloc, Oid(42), &[(b"a", d), (b"b", d)])?,
-        Item::stat(alloc, d, &attr(0o40700, 2, 1))?,
-        Item::entries(alloc, Oid(65_536), &[(b"x", x)])?,
-        Item::stat(alloc, x, &attr(0o104_755, 1, 0))?,
-    ])
+    leaf.push(Item::entries(alloc, Oid(65_536), &[(b"x", x)])?)?;
+    leaf.push(Item::stat(alloc, x, &attr(0o104_755, 1, 0))?)?;
+    Ok(())
 }
 
 // The longest name, and a file of a tail.
 #[test]
 fn a_long_name_is_listed(rt: HostRuntime) -> Result<(), Fail> {
-    let alloc = rt.alloc();
     let name = [b'n'; 255];
-    let mut dev = with_leaf(alloc, 2, &leaf_of_a_tail(alloc, &name)?)?;
-    let text = between(alloc, b"d 0755 2 0 0 1 /\nf 0600 1 0 0 5 /", &name, b"\n")?;
-    lists(&rt, alloc, &mut dev, "/", 0, text.as_slice())?;
+    let leaf = leaf_of_a_tail(rt.alloc(), &name)?;
+    let mut dev = with_leaf(rt.alloc(), 2, leaf.as_slice())?;
+    lists_the_root(&rt, rt.alloc(), &mut dev, &name)?;
+    lists_the_file(&rt, rt.alloc(), &mut dev)
+}
+
+// Lists the root with the file of this name.
+fn lists_the_root<X: Abort>(
+    rt: &X,
+    alloc: Global,
+    dev: &mut MemoryDevice,
+    name: &[u8],
+) -> Result<(), Fail> {
+    let text = between(alloc, b"d 0755 2 0 0 1 /\nf 0600 1 0 0 5 /", name, b"\n")?;
+    lists(rt, alloc, dev, "/", 0, text.as_slice())
+}
+
+// Lists the file of the longest name.
+fn lists_the_file<X: Abort>(rt: &X, alloc: Global, dev: &mut MemoryDevice) -> Result<(), Fail> {
     let path = long_path(alloc)?;
     let text = between(alloc, b"f 0600 1 0 0 5 ", path.as_bytes(), b"\nhello\n")?;
-    lists(&rt, alloc, &mut dev, &path, 0, text.as_slice())
+    lists(rt, alloc, dev, &path, 0, text.as_slice())
 }
 
 // A file of this name whose body is a tail.
-fn leaf_of_a_tail(alloc: Global, name: &[u8]) -> Result<[Item; 4], Fail> {
+fn leaf_of_a_tail(alloc: Global, name: &[u8]) -> Result<Vec<Item>, Fail> {
     let f = object(Oid(42), name, 65_536)?;
-    Ok([
-        Item::stat(alloc, ROOT, &attr(0o40755, 2, 1))?,
-        Item::entries(alloc, Oid(42), &[(name, f)])?,
-        Item::stat(alloc, f, &attr(0o100_600, 1, 5))?,
-        Item::tail(alloc, f, b"hello")?,
-    ])
+    let mut leaf = Vec::new(alloc);
+    leaf.push(Item::stat(alloc, ROOT, &attr(0o40755, 2, 1))?)?;
+    leaf.push(Item::entries(alloc, Oid(42), &[(name, f)])?)?;
+    add_file_of_a_tail(alloc, &mut leaf, f)?;
+    Ok(leaf)
+}
+
+// The stat data of the file, and its tail.
+fn add_file_of_a_tail(alloc: Global, leaf: &mut Vec<Item>, f: Target) -> Result<(), Fail> {
+    leaf.push(Item::stat(alloc, f, &attr(0o100_600, 1, 5))?)?;
+    leaf.push(Item::tail(alloc, f, b"hello")?)?;
+    Ok(())
 }
 
 // A text in three pieces.

@@ -58,26 +58,40 @@ const READS: u64 = 8;
 
 #[test]
 fn a_fresh_volume_is_listed(rt: HostRuntime) -> Result<(), Fail> {
-    let alloc = rt.alloc();
+    lists_paths(&rt, rt.alloc())?;
+    lists_with_failures(&rt, rt.alloc())
+}
+
+// Lists each of the paths.
+fn lists_paths<X: Abort>(rt: &X, alloc: Global) -> Result<(), Fail> {
     for &(path, text) in &PATHS {
-        let mut dev = volume(&rt, alloc)?;
-        lists(&rt, alloc, &mut dev, path, Ok(()), text)?;
-    }
-    for call in 1..READS + 2 {
-        let mut dev = volume(&rt, alloc)?;
-        dev.fail(alloc, call)?;
-        let failed = Err(ListFault::Device {
-            clock: 0,
-            faults: 1,
-        });
-        let (wanted, text) = if call > READS {
-            (Ok(()), "d 0755 2 0 0 0 /\n")
-        } else {
-            (failed, "")
-        };
-        lists(&rt, alloc, &mut dev, "/", wanted, text)?;
+        let mut dev = volume(rt, alloc)?;
+        lists(rt, alloc, &mut dev, path, Ok(()), text)?;
     }
     Ok(())
+}
+
+// Lists the root where each of the reads fails in turn, and then none.
+fn lists_with_failures<X: Abort>(rt: &X, alloc: Global) -> Result<(), Fail> {
+    for call in 1..READS + 2 {
+        let mut dev = volume(rt, alloc)?;
+        dev.fail(alloc, call)?;
+        let (wanted, text) = where_fails(call);
+        lists(rt, alloc, &mut dev, "/", wanted, text)?;
+    }
+    Ok(())
+}
+
+// What is answered and printed where this call fails.
+fn where_fails(call: u64) -> (Result<(), ListFault>, &'static str) {
+    if call > READS {
+        return (Ok(()), "d 0755 2 0 0 0 /\n");
+    }
+    let failed = ListFault::Device {
+        clock: 0,
+        faults: 1,
+    };
+    (Err(failed), "")
 }
 
 // What is answered where a block is full of zeros.
@@ -95,14 +109,19 @@ fn without_block(at: u64) -> ListFault {
 
 #[test]
 fn a_damaged_volume_is_not_listed(rt: HostRuntime) -> Result<(), Fail> {
-    let alloc = rt.alloc();
     for at in [16u64, 17, 18, 22, 23] {
-        let mut dev = volume(&rt, alloc)?;
-        if dev.blocks()? != 64 || at > 63 {
-            return Err(Fail::from("there is no such block"));
-        }
-        dev.write(BlockNo(at), &Block::zeroed(alloc)?)?;
-        lists(&rt, alloc, &mut dev, "/", Err(without_block(at)), "")?;
+        let mut dev = volume(&rt, rt.alloc())?;
+        clear(&mut dev, at, &Block::zeroed(rt.alloc())?)?;
+        lists(&rt, rt.alloc(), &mut dev, "/", Err(without_block(at)), "")?;
     }
+    Ok(())
+}
+
+// Puts zeros in a block's place.
+fn clear(dev: &mut MemoryDevice, at: u64, zeros: &Block) -> Result<(), Fail> {
+    if at >= dev.blocks()? {
+        return Err(Fail::from("there is no such block"));
+    }
+    dev.write(BlockNo(at), zeros)?;
     Ok(())
 }

@@ -121,28 +121,55 @@ impl Item {
 
     /// Entries of a directory, in the order of their keys.
     pub fn entries(alloc: Global, dir: Oid, entries: &[(&[u8], Target)]) -> Result<Item, Fail> {
-        let mut headers = Spelling::new(alloc);
-        let mut bodies = Spelling::new(alloc);
-        headers.number(entries.len() as u64, 2)?;
-        let mut key = Key { el: [0; 4] };
-        for (i, &(name, target)) in entries.iter().enumerate() {
-            let named = name_key(dir, name)?;
-            if i == 0 {
-                key = named;
-            }
-            let before = bodies.bytes.len() as u64;
-            let at = (26 * entries.len() as u64)
-                .wrapping_add(2)
-                .wrapping_add(before);
-            spell_header(&mut headers, named, at)?;
-            spell_target(&mut bodies, target, name)?;
-        }
-        headers.text(bodies.as_slice())?;
+        let key = first_key(dir, entries)?;
+        let mut body = Spelling::new(alloc);
+        body.number(entries.len() as u64, 2)?;
+        spell_headers(&mut body, dir, entries)?;
+        spell_targets(&mut body, entries)?;
         Ok(Item {
             key,
             plugin: 2,
-            body: headers,
+            body,
         })
+    }
+}
+
+// The key of the first of the entries.
+fn first_key(dir: Oid, entries: &[(&[u8], Target)]) -> Result<Key, Fail> {
+    match entries.first() {
+        Some(entry) => name_key(dir, entry.0),
+        None => Ok(Key { el: [0; 4] }),
+    }
+}
+
+// The headers of entries.
+fn spell_headers(
+    headers: &mut Spelling,
+    dir: Oid,
+    entries: &[(&[u8], Target)],
+) -> Result<(), Fail> {
+    let mut at = (26 * entries.len() as u64).wrapping_add(2);
+    for &(name, _) in entries {
+        spell_header(headers, name_key(dir, name)?, at)?;
+        at = at.wrapping_add(target_len(name));
+    }
+    Ok(())
+}
+
+// The bodies of entries.
+fn spell_targets(bodies: &mut Spelling, entries: &[(&[u8], Target)]) -> Result<(), Fail> {
+    for &(name, target) in entries {
+        spell_target(bodies, target, name)?;
+    }
+    Ok(())
+}
+
+// How many bytes an entry's body has.
+fn target_len(name: &[u8]) -> u64 {
+    if name.len() > 23 {
+        (name.len() as u64).wrapping_add(25)
+    } else {
+        24
     }
 }
 
@@ -201,24 +228,48 @@ fn key_of(object: Target, minor: u64) -> Key {
 
 /// A node of a level.
 pub fn node(alloc: Global, level: u64, items: &[Item]) -> Result<Spelling, Fail> {
-    let mut bodies = Spelling::new(alloc);
-    let mut starts = Vec::new(alloc);
-    for item in items {
-        starts.push(28u64.wrapping_add(bodies.bytes.len() as u64))?;
-        bodies.text(item.body.as_slice())?;
-    }
-    let end = 28u64.wrapping_add(bodies.bytes.len() as u64);
+    let mut node = Spelling::new(alloc);
+    spell_node(&mut node, level, items)?;
+    Ok(node)
+}
+
+// Spells a node.
+fn spell_node(node: &mut Spelling, level: u64, items: &[Item]) -> Result<(), Fail> {
+    let end = end_of_bodies(items);
     let free = 4096u64
         .wrapping_sub(end)
         .wrapping_sub(38u64.wrapping_mul(items.len() as u64));
-    let mut node = Spelling::new(alloc);
-    spell_front(&mut node, [items.len() as u64, free, end], level)?;
-    node.text(bodies.as_slice())?;
+    spell_front(node, [items.len() as u64, free, end], level)?;
+    spell_bodies(node, items)?;
     node.fill(0, free.min(4096) as usize)?;
-    for (item, &start) in items.iter().zip(starts.as_slice()).rev() {
-        spell_item(&mut node, item, start)?;
+    spell_items(node, items, end)
+}
+
+// Where the bodies of a node's items end.
+fn end_of_bodies(items: &[Item]) -> u64 {
+    let mut end: u64 = 28;
+    for item in items {
+        end = end.wrapping_add(item.body.bytes.len() as u64);
     }
-    Ok(node)
+    end
+}
+
+// The bodies of a node's items.
+fn spell_bodies(node: &mut Spelling, items: &[Item]) -> Result<(), Fail> {
+    for item in items {
+        node.text(item.body.as_slice())?;
+    }
+    Ok(())
+}
+
+// The headers of a node's items, the last one first.
+fn spell_items(node: &mut Spelling, items: &[Item], end: u64) -> Result<(), Fail> {
+    let mut start = end;
+    for item in items.iter().rev() {
+        start = start.wrapping_sub(item.body.bytes.len() as u64);
+        spell_item(node, item, start)?;
+    }
+    Ok(())
 }
 
 // A node's header. The counts are how many items there are, how many bytes are free, and where those begin.
@@ -254,12 +305,33 @@ pub fn full(alloc: Global, byte: u8) -> Result<Spelling, Fail> {
 pub fn put(alloc: Global, dev: &mut MemoryDevice, at: u64, bytes: &[u8]) -> Result<(), Fail>
     ensures { TellsCrashes (memory_state dev.old) → TellsCrashes (memory_state dev.new) }
 {
+    if bytes.len() != 4096 {
+        return Err(Fail::from("this is no block"));
+    }
     let mut block = Block::zeroed(alloc)?;
-    if bytes.len() != 4096 || at >= dev.blocks()? {
+    block.bytes_mut().copy_from_slice(bytes);
+    put_block(dev, at, &block)
+}
+
+// Puts a block in another one's place.
+fn put_block(dev: &mut MemoryDevice, at: u64, block: &Block) -> Result<(), Fail>
+    ensures { TellsCrashes (memory_state dev.old) → TellsCrashes (memory_state dev.new) }
+{
+    if at >= dev.blocks()? {
         return Err(Fail::from("there is no such block"));
     }
-    block.bytes_mut().copy_from_slice(bytes);
-    dev.write(BlockNo(at), &block)?;
+    dev.write(BlockNo(at), block)?;
+    Ok(())
+}
+
+// Reads a block.
+fn get_block(dev: &mut MemoryDevice, at: u64, block: &mut Block) -> Result<(), Fail>
+    ensures { TellsCrashes (memory_state dev.old) → TellsCrashes (memory_state dev.new) }
+{
+    if at >= dev.blocks()? {
+        return Err(Fail::from("there is no such block"));
+    }
+    dev.read(BlockNo(at), block)?;
     Ok(())
 }
 
@@ -276,25 +348,41 @@ pub struct Shape {
 pub fn volume(alloc: Global, shape: Shape) -> Result<MemoryDevice, Fail>
     ensures { IfOk result (λ d. TellsCrashes (memory_state d)) }
 {
+    let mut dev = fresh(alloc)?;
+    reshape(&mut dev, &mut Block::zeroed(alloc)?, shape)?;
+    Ok(dev)
+}
+
+// A fresh volume of 64 blocks.
+fn fresh(alloc: Global) -> Result<MemoryDevice, Fail>
+    ensures { IfOk result (λ d. TellsCrashes (memory_state d)) }
+{
     let mut dev = MemoryDevice::new(alloc, 64)?;
     let mut out = MemorySink::new(alloc, 100)?;
     call(alloc, &["mkfs", "image"], &mut dev, &mut out)?;
-    if dev.blocks()? != 64 {
-        return Err(Fail::from("no volume was made"));
-    }
-    let mut block = Block::zeroed(alloc)?;
-    dev.read(BlockNo(17), &mut block)?;
+    Ok(dev)
+}
+
+// Makes the superblock and the bitmap say this, by way of a block.
+fn reshape(dev: &mut MemoryDevice, block: &mut Block, shape: Shape) -> Result<(), Fail>
+    ensures { TellsCrashes (memory_state dev.old) → TellsCrashes (memory_state dev.new) }
+{
+    get_block(dev, 17, block)?;
+    spell_super(block, shape);
+    put_block(dev, 17, block)?;
+    get_block(dev, 18, block)?;
+    block.bytes_mut()[7] = shape.used;
+    put_block(dev, 18, block)
+}
+
+// What a superblock says.
+fn spell_super(block: &mut Block, shape: Shape) {
     let bytes = block.bytes_mut();
     let used = u64::from(shape.used.count_ones());
     put64(bytes, 8, 40u64.wrapping_sub(used));
     put64(bytes, 24, 65_600);
     put64(bytes, 32, shape.objects);
     put16(bytes, 68, shape.height);
-    dev.write(BlockNo(17), &block)?;
-    dev.read(BlockNo(18), &mut block)?;
-    block.bytes_mut()[7] = shape.used;
-    dev.write(BlockNo(18), &block)?;
-    Ok(dev)
 }
 
 /// The device as it stands, synced, of which no call was made.

@@ -1,9 +1,14 @@
 //! The command `mkfs`.
 
+ghost use Rattle.r4_outside.specs.Device.{Goes};
+ghost use Rattle.r4_outside.specs.Memory.{memory_state};
+
 use crate::same::same_in;
 use r4_base::BlockNo;
 use r4_outside::{Device, MemoryDevice, MemorySink};
 use r4_testing::call;
+use std::alloc::Global;
+use std::process::Abort;
 use std::test::Fail;
 
 static MKFS: [&str; 2] = ["mkfs", "image"];
@@ -45,11 +50,23 @@ static BLOCKS: [(u64, &[u8], &[u8]); 7] = [
 fn volumes_are_made(rt: HostRuntime) -> Result<(), Fail> {
     for (row, &(blocks, status, line)) in SIZES.iter().enumerate() {
         let mut dev = MemoryDevice::plain(rt.alloc(), blocks)?;
-        let mut out = MemorySink::new(rt.alloc(), 100)?;
-        let code = call(rt.alloc(), &MKFS, &mut dev, &mut out)?;
-        same_in(&rt, &code, &status, row);
-        same_in(&rt, &out.written(), &line.as_bytes(), row);
+        makes(&rt, rt.alloc(), &mut dev, (status, line), row)?;
     }
+    Ok(())
+}
+
+// Makes a volume, and looks at the status and the line.
+fn makes<X: Abort>(
+    rt: &X,
+    alloc: Global,
+    dev: &mut MemoryDevice,
+    wanted: (u8, &str),
+    row: usize,
+) -> Result<(), Fail> {
+    let mut out = MemorySink::new(alloc, 100)?;
+    let code = call(alloc, &MKFS, dev, &mut out)?;
+    same_in(rt, &code, &wanted.0, row);
+    same_in(rt, &out.written(), &wanted.1.as_bytes(), row);
     Ok(())
 }
 
@@ -67,15 +84,21 @@ fn is_block(bytes: &[u8], front: &[u8], back: &[u8], fill: u8) -> bool {
 #[test]
 fn a_fresh_volume_has_these_bytes(rt: HostRuntime) -> Result<(), Fail> {
     let mut dev = MemoryDevice::new(rt.alloc(), 64)?;
-    let mut out = MemorySink::new(rt.alloc(), 100)?;
-    let words = ["mkfs", "image"];
-    call(rt.alloc(), &words, &mut dev, &mut out)?;
+    make(rt.alloc(), &mut dev, &MKFS)?;
     for (row, &(at, front, back)) in BLOCKS.iter().enumerate() {
         let fill = if at == 18 { 0xff } else { 0 };
         let good = at < 64 && is_block(dev.block(BlockNo(at)).bytes(), front, back, fill);
         same_in(&rt, &good, &true, row);
     }
     Ok(())
+}
+
+// The status with which these words are done.
+fn make(alloc: Global, dev: &mut MemoryDevice, words: &[&str]) -> Result<u8, Fail>
+    ensures { Goes (memory_state dev.old) (memory_state dev.new) }
+{
+    let mut out = MemorySink::new(alloc, 100)?;
+    call(alloc, words, dev, &mut out)
 }
 
 // The words, and the label that the volume then has.
@@ -93,10 +116,9 @@ static LABELS: [(&[&str], &[u8]); 3] = [
 
 #[test]
 fn labels_are_written(rt: HostRuntime) -> Result<(), Fail> {
-    let mut out = MemorySink::new(rt.alloc(), 100)?;
     for (row, &(words, label)) in LABELS.iter().enumerate() {
         let mut dev = MemoryDevice::new(rt.alloc(), 64)?;
-        let code = call(rt.alloc(), words, &mut dev, &mut out)?;
+        let code = make(rt.alloc(), &mut dev, words)?;
         same_in(&rt, &code, &0, row);
         let written = dev.block(BlockNo(16)).bytes()[36..52].starts_with(label);
         same_in(&rt, &written, &true, row);
@@ -110,8 +132,7 @@ fn each_call_that_fails_is_told(rt: HostRuntime) -> Result<(), Fail> {
     for call_number in 1..=10 {
         let mut dev = MemoryDevice::new(rt.alloc(), 64)?;
         dev.fail(rt.alloc(), call_number)?;
-        let mut out = MemorySink::new(rt.alloc(), 100)?;
-        let code = call(rt.alloc(), &MKFS, &mut dev, &mut out)?;
+        let code = make(rt.alloc(), &mut dev, &MKFS)?;
         same_in(
             &rt,
             &(code, dev.clock(), dev.faults()),

@@ -7,7 +7,7 @@ use Rattle.r4_words.specs.Options.{RunAsked, asked_run, run_of}
 use Rattle.r4_words.specs.declared.words.Command.{Command}
 use Rattle.r4_words.specs.declared.words.Command.TheVariants.{Offline as OfflineCommand, Run}
 use Rattle.r4_words.specs.declared.words.Offline.{Offline}
-use Rattle.r4_words.specs.declared.words.Offline.TheVariants.{Replay, Mkfs, List as ListCommand}
+use Rattle.r4_words.specs.declared.words.Offline.TheVariants.{Replay, Mkfs, List as ListCommand, Check}
 
 -- A command on an image that nobody else works on: `mkfs` has a label, which is empty where none was given, and
 -- `list` a path.
@@ -15,6 +15,7 @@ pub data AskedOffline : Type 0 where
   AsksReplay : AskedOffline
   AsksMkfs : (label : List ℕ) → AskedOffline
   AsksList : (path : List ℕ) → AskedOffline
+  AsksCheck : AskedOffline
 
 -- What is asked for.
 pub data Asked : Type 0 where
@@ -25,6 +26,7 @@ abbrev pub asked_offline : Offline → AskedOffline
 asked_offline Replay = AsksReplay
 asked_offline (Mkfs label) = AsksMkfs label.now
 asked_offline (ListCommand path) = AsksList path.now
+asked_offline Check = AsksCheck
 
 abbrev pub asked_by : Command → Asked
 asked_by (OfflineCommand command) = AsksOffline (asked_offline command)
@@ -35,6 +37,7 @@ abbrev pub CanBeDoneOffline : Offline → Type 0
 CanBeDoneOffline Replay = Unit {0}
 CanBeDoneOffline (Mkfs label) = IsLabel label.now
 CanBeDoneOffline (ListCommand path) = 1 ≤ length path.now
+CanBeDoneOffline Check = Unit {0}
 
 -- `run` has from 1 to 16 threads
 abbrev pub CanBeDone : Command → Type 0
@@ -85,10 +88,10 @@ path_of [] = Some (codes "/")
 path_of (word ∷ []) = as_path word
 path_of (word ∷ more ∷ words) = None
 
--- no word follows the IMAGE of `replay`
-abbrev pub replay_of : List (List ℕ) → Option Asked
-replay_of [] = Some (AsksOffline AsksReplay)
-replay_of (word ∷ words) = None
+-- no word follows the IMAGE of `replay`, or of `check`
+abbrev pub alone_of : AskedOffline → List (List ℕ) → Option Asked
+alone_of asked [] = Some (AsksOffline asked)
+alone_of asked (word ∷ words) = None
 
 -- The command's name, an IMAGE, and what the command has behind it.
 abbrev pub asked_of : List (List ℕ) → Option Asked
@@ -96,7 +99,8 @@ asked_of [] = None
 asked_of (name ∷ []) = None
 asked_of (name ∷ image ∷ words) =
     if not (is_image image) then None else
-    if bytes_eq name (codes "replay") then replay_of words else
+    if bytes_eq name (codes "replay") then alone_of AsksReplay words else
+    if bytes_eq name (codes "check") then alone_of AsksCheck words else
     if bytes_eq name (codes "mkfs") then option_map (λ label. AsksOffline (AsksMkfs label)) (label_of words) else
     if bytes_eq name (codes "list") then option_map (λ path. AsksOffline (AsksList path)) (path_of words) else
     if bytes_eq name (codes "run") then option_map AsksRun (run_of words) else

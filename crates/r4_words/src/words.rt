@@ -4,7 +4,8 @@ ghost use Rattle.std.specs.Prelude.{◌≡◌, ◌≢◌, ◌≤◌, length, map
 ghost use Rattle.std.specs.Prelude.{All, IfSome, IsTrue, option_map};
 ghost use Rattle.std.specs.List.{list_all};
 ghost use Rattle.r4_mkfs.specs.Mkfs.{IsLabel};
-ghost use Rattle.r4_words.specs.Words.{CanBeDone, as_label, as_path, asked_by, asked_of};
+ghost use Rattle.r4_words.specs.Words.{CanBeDone, CanBeDoneOffline, alone_of, as_label, as_path, asked_by, asked_of};
+ghost use Rattle.r4_words.specs.Words.{asked_offline};
 ghost use Rattle.r4_words.specs.Words.{is_image as is_image_name, is_label as is_label_word};
 ghost use Rattle.r4_words.specs.Words.{is_option as is_option_word, is_path as is_path_word};
 ghost use Rattle.r4_words.specs.Words.{label_in, label_of, path_of};
@@ -29,6 +30,8 @@ pub enum Offline<'a> {
     Mkfs { label: &'a [u8] },
     /// `list`, with a path that begins with a slash, and is that alone where none was given.
     List { path: &'a [u8] },
+    /// `check`
+    Check,
 }
 
 /// The command that the words spell, or none where they are faulty.
@@ -43,12 +46,24 @@ pub fn read_words(words: &[String]) -> Option<Command<'_>>
         return None;
     }
     match name.as_str() {
-        "replay" => options
-            .is_empty()
-            .then_some(Command::Offline(Offline::Replay)),
+        "replay" => read_none(options, Offline::Replay),
+        "check" => read_none(options, Offline::Check),
         "mkfs" => read_label(options).map(|label| Command::Offline(Offline::Mkfs { label })),
         "list" => read_path(options).map(|path| Command::Offline(Offline::List { path })),
         "run" => read_run(options).map(|run| Command::Run(run)),
+        _ => None,
+    }
+}
+
+// The command, where no words are behind its IMAGE.
+fn read_none<'a>(options: &[String], command: Offline<'a>) -> Option<Command<'a>>
+    requires { CanBeDoneOffline command }
+    ensures asked { option_map asked_by result
+        ≡ alone_of (asked_offline command.entry) (map string_bytes options.now) }
+    ensures can { IfSome result CanBeDone }
+{
+    match options {
+        [] => Some(Command::Offline(command)),
         _ => None,
     }
 }

@@ -47,6 +47,7 @@ fn next(state: &mut u64) -> u64 {
 #[derive(Clone, Copy, Debug, PartialEq, Eq)]
 enum Found<'a> {
     Replay,
+    Check,
     Label(&'a [u8]),
     Path(&'a [u8]),
     Run(usize, Option<Stop>),
@@ -63,6 +64,7 @@ struct Stop {
 fn first(command: Command<'_>) -> Found<'_> {
     match command {
         Command::Offline(Offline::Replay) => Found::Replay,
+        Command::Offline(Offline::Check) => Found::Check,
         Command::Offline(Offline::Mkfs { label }) => Found::Label(label),
         Command::Offline(Offline::List { path }) => Found::Path(path),
         Command::Run(RunWords { threads, stop }) => Found::Run(threads as usize, stop.map(as_stop)),
@@ -163,6 +165,7 @@ fn second<'a>(words: &[&'a str]) -> Option<Found<'a>> {
     }
     match (*name, options) {
         ("replay", []) => Some(Found::Replay),
+        ("check", []) => Some(Found::Check),
         ("mkfs", []) => Some(Found::Label(b"")),
         ("mkfs", _) => label(value("--label", options)?),
         ("list", []) => Some(Found::Path(b"/")),

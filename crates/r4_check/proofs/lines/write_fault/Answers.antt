@@ -3,7 +3,7 @@ use Rattle.std.specs.Prelude.{Result, Ok, Err, IsErr}
 use Rattle.r4_outside.specs.Sink.{SinkState, Appends}
 use Rattle.r4_outside.proofs.Texts.{appends_both, appends_stopped}
 use Rattle.r4_outside.specs.declared.device.Failed.{Failed}
-use Rattle.r4_check.specs.Faults.{fault_line, word_of}
+use Rattle.r4_check_objects.specs.Faults.{fault_line, word_of}
 use Rattle.r4_check.proofs.lines.write_fault.Goals as goal
 
 abbrev Written : Type 0

@@ -1,4 +1,4 @@
-use Rattle.r4_check.specs.Faults.{fault_at, fault_line}
+use Rattle.r4_check_objects.specs.Faults.{fault_at, fault_line}
 use Rattle.r4_check.specs.Walk.{with_fault}
 use Rattle.r4_check.specs.declared.stop.Stop.TheVariants.{Sink}
 use Rattle.r4_check.proofs.Steps.{extends_same, steps_ended, tells_ended}

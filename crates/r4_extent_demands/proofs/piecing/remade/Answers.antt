@@ -20,5 +20,5 @@ returns-clause-few c = λ suit.
     ∙ ap (flat_map (filled b e)) (c.as_slice.ensures.value ∙ c.in_ok-cut.ensures.items)) in
     let has = subst (λ (ps : List TwigPiece). All HasRoom ps) c.in_ok-cut.ensures.items c.in_ok-cut.ensures.room in
     subst (λ (ps : List TwigPiece). twig_bytes ps ≤ 12800000) (sym is)
-    (remade_few b c.first_byte.result c.first_byte.ensures c.requires.spread e suit n (rank c.args.twig.now.lo)
+    (remade_few b c.first_byte.result c.first_byte.ensures c.requires.sized e suit n (rank c.args.twig.now.lo)
     c.args.left.now c.requires.short c.requires.order c.requires.room has)

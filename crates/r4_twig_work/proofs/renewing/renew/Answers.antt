@@ -1,10 +1,12 @@
-use Rattle.std.proofs.Common.{map}
+use Rattle.std.proofs.Common.{map, subst}
 use Rattle.std.proofs.lemmas.Result.{on_ok_weaker}
 use Rattle.std.specs.Arc.{arc_value}
 use Rattle.std.specs.Prelude.{None}
-use Rattle.r4_twig_work.proofs.Renewed.{renewable_as, renewed_does, renewed_next, renewed_working}
+use Rattle.r4_twig_work.proofs.Renewed.{renewable_as, renewed_does, renewed_made, renewed_next, renewed_working}
 use Rattle.r4_twig_work.proofs.renewing.renew.Goals as goal
+use Rattle.r4_twig_work.specs.Renewing.{renewing}
 use Rattle.r4_work.proofs.Ranges.{kept_by_place}
+use Rattle.r4_work.specs.Working.{IsPutInPlace}
 
 pub put_in_place-requires : goal.put_in_place-requires
 put_in_place-requires c =
@@ -32,3 +34,13 @@ returns-clause-effect c =
     (renewable_as t r f w (map (λ x. arc_value x) c.args.old.items) (map (λ x. arc_value x) c.args.new.items)
     c.from_vec.result c.from_vec-2.result ps c.from_vec.ensures c.from_vec-2.ensures is)
     c.put_in_place.new.self put) c.put_in_place.ensures.done
+
+pub returns-clause-renewed : goal.returns-clause-renewed
+returns-clause-renewed c =
+    let w = c.args.set.now in
+    let olds = map (λ x. arc_value x) c.args.old.items in
+    let news = map (λ x. arc_value x) c.args.new.items in
+    on_ok_weaker c.put_in_place.result (λ put t r f ps is.
+    renewed_made t r f w olds news ps is c.put_in_place.new.self
+    (subst (λ xs. IsPutInPlace w (renewing xs news) c.put_in_place.new.self) c.from_vec.ensures
+    (subst (λ ys. IsPutInPlace w (renewing c.from_vec.result ys) c.put_in_place.new.self) c.from_vec-2.ensures put))) c.put_in_place.ensures.done

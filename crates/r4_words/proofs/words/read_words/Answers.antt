@@ -8,4 +8,4 @@ returns-in_default-clause-asked c = too_few string_bytes c.args.words.now c.in_d
 pub returns-in_default-as_str-clause-asked : goal.returns-in_default-as_str-clause-asked
 returns-in_default-as_str-clause-asked c =
     let other = c.in_default-as_str in
-    unknown string_bytes c.args.words.now c.name-item.result c.as_str-2.result.now c.name-item.is c.as_str-2.ensures.value other.not-replay other.not-mkfs other.not-list other.not-run
+    unknown string_bytes c.args.words.now c.name-item.result c.as_str-2.result.now c.name-item.is c.as_str-2.ensures.value other.not-replay other.not-check other.not-mkfs other.not-list other.not-run

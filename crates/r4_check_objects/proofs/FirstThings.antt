@@ -1,0 +1,130 @@
+-- The first things under ids, one more thing at a time.
+use Rattle.std.proofs.Common.{◌≡◌, ℕ, ◌+◌, ◌<◌, ◌==◌, inl, inr, Bool, true, false, cond, not, ◌&&◌, List, [], ◌∷◌, ◌++◌, length, take, get_or, Option, Some, None, refl, sym, ap, ◌∙◌, arith}
+use Rattle.std.specs.BTreeMap.{BTreeMap, get, is_at, Updates}
+use Rattle.std.specs.List.{find}
+use Rattle.std.specs.Map.{lookup}
+use Rattle.std.specs.Option.{option_or}
+use Rattle.std.specs.Ordering.{nat_cmp}
+use Rattle.std.proofs.lemmas.Bool.{cases_eq, cases_lt, eqb-true}
+use Rattle.std.proofs.lemmas.Bool.Decides.{nat_tests}
+use Rattle.std.proofs.lemmas.List.{take_more}
+use Rattle.std.proofs.lemmas.List.Folds.{find-append}
+use Rattle.r4_check_objects.specs.Held.{id_of, is_stat_data}
+use Rattle.r4_check_objects.specs.Known.{AreHeads, goes_first}
+use Rattle.r4_check_objects.specs.Objects.{head_of, is_of, is_stat_of, owner_of}
+use Rattle.r4_check_objects.specs.declared.held.Held.{Held}
+use Rattle.r4_check_objects.proofs.Finds.{find_none, find_true}
+
+pub at_is : (k b : ℕ) → is_at (nat_cmp k) b ≡ (k == b)
+at_is k b = elim (cases_eq b k) [
+  | inl is ↦ grind (arith, nat_tests)
+  | inr other ↦ elim (cases_lt k b) [ inl lt ↦ grind (arith, nat_tests) | inr ge ↦ grind (arith, nat_tests) ]
+]
+
+pub first_of_two : (s t : Bool) → (s && t) ≡ true → s ≡ true
+first_of_two true t both = refl
+first_of_two false t both = cc
+
+pub second_of_two : (s t : Bool) → (s && t) ≡ true → t ≡ true
+second_of_two true t both = both
+second_of_two false t both = cc
+
+-- the first stat data, and the first thing where there are none
+stat_first : (found : List Held) (q : ℕ) (h : Held) → find (is_stat_of q) found ≡ Some h → is_stat_data h ≡ true
+stat_first found q h is = first_of_two (is_stat_data h) (id_of h == q) (find_true (is_stat_of q) found h is)
+
+other_first : (found : List Held) (q : ℕ) (h : Held) → find (is_stat_of q) found ≡ None → find (is_of q) found ≡ Some h → is_stat_data h ≡ false
+other_first found q h none is = by (is_stat_data h) (find_none (is_stat_of q) (is_of q) found h none is) (find_true (is_of q) found h is)
+  where
+    by : (s : Bool) → (s && (id_of h == q)) ≡ false → (id_of h == q) ≡ true → s ≡ false
+    by true none is = cc
+    by false none is = refl
+
+-- what is first after one thing more
+merged : (h : Held) (a b : Option Held) (s o : Bool) → is_stat_data h ≡ s → ((f : Held) → a ≡ Some f → is_stat_data f ≡ true) → ((f : Held) → a ≡ None → b ≡ Some f → is_stat_data f ≡ false)
+    → option_or (option_or a (cond (s && o) (Some h) None)) (option_or b (cond o (Some h) None)) ≡ cond (o && goes_first (option_or a b) h) (Some h) (option_or a b)
+merged h (Some f) b s true is stat other = ap (λ (t : Bool). cond (not t && is_stat_data h) (Some h) (Some f)) (sym (stat f refl))
+merged h (Some f) b s false is stat other = refl
+merged h None (Some f) true true is stat other = sym (ap (λ (t : Bool). cond (not t && is_stat_data h) (Some h) (Some f)) (other f refl refl) ∙ ap (λ (t : Bool). cond t (Some h) (Some f)) is)
+merged h None (Some f) true false is stat other = refl
+merged h None (Some f) false true is stat other = sym (ap (λ (t : Bool). cond (not t && is_stat_data h) (Some h) (Some f)) (other f refl refl) ∙ ap (λ (t : Bool). cond t (Some h) (Some f)) is)
+merged h None (Some f) false false is stat other = refl
+merged h None None true true is stat other = refl
+merged h None None true false is stat other = refl
+merged h None None false true is stat other = refl
+merged h None None false false is stat other = refl
+
+head_push : (found : List Held) (h : Held) (q : ℕ) → head_of (found ++ h ∷ []) q ≡ cond ((id_of h == q) && goes_first (head_of found q) h) (Some h) (head_of found q)
+unfolding head_of owner_of
+head_push found h q =
+    ap (λ (a : Option Held). option_or a (find (is_of q) (found ++ h ∷ []))) (find-append (is_stat_of q) found (h ∷ []))
+    ∙ ap (λ (b : Option Held). option_or (option_or (find (is_stat_of q) found) (find (is_stat_of q) (h ∷ []))) b) (find-append (is_of q) found (h ∷ []))
+    ∙ merged h (find (is_stat_of q) found) (find (is_of q) found) (is_stat_data h) (id_of h == q) refl (stat_first found q) (other_first found q)
+
+head_more : (found : List Held) (i : ℕ) (d : Held) (q : ℕ) → i < length found
+    → head_of (take (i + 1) found) q ≡ cond ((id_of (get_or found i d) == q) && goes_first (head_of (take i found) q) (get_or found i d)) (Some (get_or found i d)) (head_of (take i found) q)
+head_more found i d q lt = ap (λ (l : List Held). head_of l q) (take_more found i d lt) ∙ head_push (take i found) (get_or found i d) q
+
+pub no_heads : (m : BTreeMap ℕ Held) → m.entries ≡ [] → AreHeads [] m
+unfolding head_of owner_of
+no_heads m none = record { each = λ q. ap (λ (es : List (ℕ × Held)). lookup (is_at (nat_cmp q)) es) none }
+
+put_or : (h : Held) (t f : Bool) (a b : Option Held) → a ≡ b → (t ≡ true → f ≡ true) → cond t (Some h) a ≡ cond (t && f) (Some h) b
+put_or h true f a b is first = ap (λ (x : Bool). cond x (Some h) b) (sym (first refl))
+put_or h false f a b is first = is
+
+kept_or : (h : Held) (t f : Bool) (b : Option Held) → (t ≡ true → f ≡ false) → b ≡ cond (t && f) (Some h) b
+kept_or h true f b first = ap (λ (x : Bool). cond x (Some h) b) (sym (first refl))
+kept_or h false f b first = refl
+
+module _ (found : List Held) (i : ℕ) (d : Held) (lt : i < length found) (now : BTreeMap ℕ Held) (so_far : AreHeads (take i found) now) where
+  at_id : (b : Bool) → goes_first (get nat_cmp now (id_of (get_or found i d))) (get_or found i d) ≡ b → (q : ℕ) → (id_of (get_or found i d) == q) ≡ true → goes_first (head_of (take i found) q) (get_or found i d) ≡ b
+  at_id b first q same =
+      let here : id_of (get_or found i d) ≡ q = eqb-true _ _ same in
+      ap (λ (o : Option Held). goes_first o (get_or found i d)) (sym (so_far.each q)) ∙ ap (λ (k : ℕ). goes_first (get nat_cmp now k) (get_or found i d)) (sym here) ∙ first
+
+  first_is : (k : ℕ) (o : Option Held) (r b : Bool) → k ≡ id_of (get_or found i d) → o ≡ get nat_cmp now k → r ≡ goes_first o (get_or found i d) → r ≡ b → goes_first (get nat_cmp now (id_of (get_or found i d))) (get_or found i d) ≡ b
+  first_is k o r b key is told was = ap (λ (x : ℕ). goes_first (get nat_cmp now x) (get_or found i d)) (sym key) ∙ ap (λ (x : Option Held). goes_first x (get_or found i d)) (sym is) ∙ sym told ∙ was
+
+  -- the thing goes first, or does not
+  pub heads_put : (k : ℕ) (o : Option Held) (r : Bool) (new after : BTreeMap ℕ Held) → k ≡ id_of (get_or found i d) → o ≡ get nat_cmp now k → r ≡ goes_first o (get_or found i d) → r ≡ true → after ≡ new
+      → Updates nat_cmp now new k (Some (get_or found i d)) → AreHeads (take (i + 1) found) after
+  heads_put k o r new after key is told was same u =
+      let h : Held = get_or found i d in
+      let first = first_is k o r true key is told was in
+      record {
+        each = λ q. ap (λ (m : BTreeMap ℕ Held). get nat_cmp m q) same ∙ u.0 q ∙ ap (λ (t : Bool). cond t (Some h) (get nat_cmp now q)) (at_is k q ∙ ap (λ (x : ℕ). x == q) key)
+            ∙ put_or h (id_of h == q) (goes_first (head_of (take i found) q) h) (get nat_cmp now q) (head_of (take i found) q) (so_far.each q) (at_id true first q) ∙ sym (head_more found i d q lt);
+      }
+
+  pub heads_kept : (k : ℕ) (o : Option Held) (r : Bool) (after : BTreeMap ℕ Held) → k ≡ id_of (get_or found i d) → o ≡ get nat_cmp now k → r ≡ goes_first o (get_or found i d) → r ≡ false → after ≡ now → AreHeads (take (i + 1) found) after
+  heads_kept k o r after key is told was same =
+      let h : Held = get_or found i d in
+      let first = first_is k o r false key is told was in
+      record {
+        each = λ q. ap (λ (m : BTreeMap ℕ Held). get nat_cmp m q) same ∙ so_far.each q ∙ kept_or h (id_of h == q) (goes_first (head_of (take i found) q) h) (head_of (take i found) q) (at_id false first q) ∙ sym (head_more found i d q lt);
+      }
+
+-- ---- owners
+
+stat_or_none : (found : List Held) (q : ℕ) (h : Held) → (a : Option Held) → owner_of found q ≡ a → head_of found q ≡ Some h → is_stat_data h ≡ true → a ≡ Some h
+unfolding head_of owner_of
+stat_or_none found q h (Some f) owner is stat = sym (ap (λ (o : Option Held). option_or o (find (is_of q) found)) owner) ∙ is
+stat_or_none found q h None owner is stat =
+    let first : find (is_of q) found ≡ Some h = sym (ap (λ (o : Option Held). option_or o (find (is_of q) found)) owner) ∙ is in
+    let fails : is_stat_data h ≡ false = other_first found q h owner first in
+    cc
+
+pub owner_stat : (found : List Held) (q : ℕ) (h : Held) → head_of found q ≡ Some h → is_stat_data h ≡ true → owner_of found q ≡ Some h
+owner_stat found q h is stat = stat_or_none found q h (owner_of found q) refl is stat
+
+other_is_none : (found : List Held) (q : ℕ) → (a : Option Held) → owner_of found q ≡ a → ((h : Held) → head_of found q ≡ Some h → is_stat_data h ≡ false) → a ≡ None
+unfolding head_of owner_of
+other_is_none found q None owner other = refl
+other_is_none found q (Some f) owner other =
+    let fails : is_stat_data f ≡ false = other f (ap (λ (o : Option Held). option_or o (find (is_of q) found)) owner) in
+    let holds : is_stat_data f ≡ true = stat_first found q f owner in
+    cc
+
+pub owner_none : (found : List Held) (q : ℕ) → ((h : Held) → head_of found q ≡ Some h → is_stat_data h ≡ false) → owner_of found q ≡ None
+owner_none found q other = other_is_none found q (owner_of found q) refl other

@@ -1,0 +1,5 @@
+pub mod Faults
+pub mod Held
+pub mod Known
+pub mod Objects
+pub mod Reach

@@ -1,0 +1,89 @@
+//! The faults of objects, in order.
+
+ghost use Rattle.std.specs.Prelude.{◌≡◌, ◌++◌, IfOk, OnOk};
+ghost use Rattle.r4_check_objects.specs.Known.{IsJudge};
+ghost use Rattle.r4_check_objects.specs.Objects.{count_faults, faults_under, ids_of, object_faults, stats_of};
+ghost use Rattle.std.specs.List.{flat_map};
+
+use crate::fault::{Fault, What};
+use crate::held::Held;
+use crate::judging::{Judge, totals_of};
+use crate::known::Known;
+use r4_base::{Memory, ROOT_OBJECT, SUPER_BLOCK, Super40};
+use std::alloc::Global;
+use std::collections::BTreeSet;
+
+/// The faults of the objects that a tree holds, `found` from the left, whose leftmost leaf is this block: by rising object
+/// id, at most once each in the order `Size`, `Links`, `Lost`, `Id`, and last `Files` (docs/check.md, "Objects"). It needs
+/// some hundred bytes for each id.
+pub fn object_faults(
+    alloc: Global,
+    super40: &Super40,
+    leaf: u64,
+    found: &[Held],
+) -> Result<Vec<Fault>, Memory>
+    ensures { IfOk result (λ v. v.items ≡ object_faults super40.now leaf found.now) }
+{
+    let known = Known::of(alloc, found)?;
+    let totals = totals_of(alloc, &known, found)?;
+    let _few = found.len();
+    let judge = Judge {
+        super40: *super40,
+        leaf,
+        known,
+        totals,
+    };
+    let mut faults = Vec::new(alloc);
+    add_under(&judge, found, ids_of(alloc, found)?, &mut faults)?;
+    add_count(&mut faults, super40, found)?;
+    Ok(faults)
+}
+
+// Adds the faults of ids.
+fn add_under(
+    judge: &Judge,
+    found: &[Held],
+    mut ids: BTreeSet<u64>,
+    faults: &mut Vec<Fault>,
+) -> Result<(), Memory>
+    requires { IsJudge found.now judge.now }
+    ensures { OnOk result (faults.new.items ≡ faults.old.items
+        ++ flat_map (faults_under judge.now.super40 judge.now.leaf found.now) ids.keys) }
+{
+    while let Some(id) = ids.pop_first() {
+        judge.add_faults(faults, id)?;
+    }
+    Ok(())
+}
+
+// The ids under which something stands, and the root's.
+fn ids_of(alloc: Global, found: &[Held]) -> Result<BTreeSet<u64>, Memory>
+    ensures { IfOk result (λ ids. ids.keys ≡ ids_of found.now) }
+{
+    let mut ids = BTreeSet::new(alloc);
+    ids.insert(ROOT_OBJECT.oid.0)?;
+    for held in found {
+        ids.insert(held.id())?;
+    }
+    Ok(ids)
+}
+
+// Adds the fault of the superblock, where it counts other than the objects.
+fn add_count(faults: &mut Vec<Fault>, super40: &Super40, found: &[Held]) -> Result<(), Memory>
+    ensures { OnOk result (faults.new.items
+        ≡ faults.old.items ++ count_faults super40.now found.now) }
+{
+    if super40.file_count != stats_of(found) {
+        let block = SUPER_BLOCK;
+        let what = What::Files;
+        faults.push(Fault { block, what })?;
+    }
+    Ok(())
+}
+
+// How many stat data there are.
+fn stats_of(found: &[Held]) -> u64
+    ensures { result ≡ stats_of found.now }
+{
+    found.iter().filter(|held| held.is_stat_data()).count() as u64
+}

@@ -1,0 +1,57 @@
+use Rattle.std.proofs.Common.{◌≡◌, ◌↔◌, true, arith, map, sym, subst, ◌∙◌}
+use Rattle.std.specs.Option.{option_copied}
+use Rattle.r4_base.specs.Key.{rank}
+use Rattle.r4_cell.specs.Seen.{node_of}
+use Rattle.r4_content.specs.Held.{edits_of, interval_of}
+use Rattle.r4_leaf_edits.proofs.Touched.{intervals_met}
+use Rattle.r4_reach.specs.Needs.{demand_of, is_met}
+use Rattle.r4_reach.specs.Reach.{IsReadAt}
+use Rattle.r4_extent_asks.specs.Demands.{DemandsSeen}
+use Rattle.r4_extent_asks.proofs.AtCells.{met_iff, read_both, read_low, read_on}
+use Rattle.r4_extent_asks.proofs.extent_demands.ExtentDemandsDemands.reads_at.Goals as goal
+
+pub returns-then-extents_have : goal.returns-then-extents_have
+returns-then-extents_have c =
+    let x = c.args.cell.now in
+    let b = option_copied c.self.inside.body in
+    let e = edits_of c.self.inside.edits.now in
+    let reads = map interval_of c.self.inside.reads.now in
+    let rs = map interval_of c.self.inside.changes.now in
+    let level = c.level.ensures in
+    let told = c.if-level-gt-LEAF.true in
+    subst (λ (d : DemandsSeen). (c.extents_have.result ≡ true)
+    ↔ IsReadAt (demand_of d.body (edits_of d.edits) d.reads d.changes) (node_of x)) c.self.view_is
+    (read_on b e reads rs x c.extents_have.result (omega (arith, level, told)) c.extents_have.ensures
+    c.if-extents_have.true)
+
+pub returns-else-extents_have : goal.returns-else-extents_have
+returns-else-extents_have c =
+    let x = c.args.cell.now in
+    let b = option_copied c.self.inside.body in
+    let e = edits_of c.self.inside.edits.now in
+    let reads = map interval_of c.self.inside.reads.now in
+    let rs = map interval_of c.self.inside.changes.now in
+    let level = c.level.ensures in
+    let told = c.if-level-gt-LEAF.true in
+    subst (λ (d : DemandsSeen). (c.extents_have-else-extents_have.result ≡ true)
+    ↔ IsReadAt (demand_of d.body (edits_of d.edits) d.reads d.changes) (node_of x)) c.self.view_is
+    (read_both b e reads rs x c.extents_have.result (omega (arith, level, told))
+    c.extents_have-else-extents_have.result c.extents_have.ensures c.extents_have-else-extents_have.ensures
+    c.if-extents_have.false)
+
+pub returns : goal.returns
+returns c =
+    let x = c.args.cell.now in
+    let b = option_copied c.self.inside.body in
+    let e = edits_of c.self.inside.edits.now in
+    let reads = map interval_of c.self.inside.reads.now in
+    let rs = map interval_of c.self.inside.changes.now in
+    let level = c.level.ensures in
+    let told = c.if-level-gt-LEAF.false in
+    subst (λ (d : DemandsSeen). (c.meets_intervals.result ≡ true)
+    ↔ IsReadAt (demand_of d.body (edits_of d.edits) d.reads d.changes) (node_of x)) c.self.view_is
+    (read_low b e reads rs x c.meets_intervals.result (omega (arith, level, told)) c.low_range.ensures.none
+    (met_iff c.meets_intervals.result reads (rank x.lo) (rank x.hi)
+    (c.meets_intervals.ensures
+    ∙ sym (intervals_met (rank c.low_range.result.from) (rank c.low_range.result.to) c.self.inside.reads.now)
+    ∙ (λ i. is_met reads (rank (c.low_range.ensures.from i)) (rank (c.low_range.ensures.to i))))))

@@ -1,0 +1,5 @@
+pub mod Numbering
+pub mod Growing
+pub mod Turns
+pub mod Setting
+pub mod Looping

@@ -1,0 +1,3 @@
+pub mod Own
+pub mod Made
+pub mod Told

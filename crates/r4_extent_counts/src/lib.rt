@@ -1,0 +1,7 @@
+//! How many new cells come to twigs where a body stands in extents (docs/volume.md, "Reach").
+#![tactic(auto)]
+
+mod coming;
+mod gaining;
+
+pub use coming::cells_coming;

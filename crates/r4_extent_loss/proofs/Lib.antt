@@ -1,0 +1,13 @@
+pub mod Clipped
+pub mod Calm
+pub mod LostPieces
+pub mod Replaced
+pub mod Taken
+pub mod LosingTurns
+pub mod LosingSets
+pub mod AllLost
+pub mod OneLoss
+pub mod EachLoss
+pub mod Ready
+pub mod InParts
+pub mod AllReady

@@ -1,0 +1,3 @@
+pub mod Standing
+pub mod Meeting
+pub mod Known

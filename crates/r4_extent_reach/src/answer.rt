@@ -1,0 +1,88 @@
+//! A reach, from the cells that were met and those that are read and written (docs/volume.md, "Reach").
+
+ghost use Rattle.std.specs.Prelude.{◌≡◌, ◌+◌, IfOk, length, map, sum_by};
+ghost use Rattle.std.specs.Arc.{arc_value};
+ghost use Rattle.std.specs.Option.{option_copied, option_map};
+ghost use Rattle.r4_content.specs.Edited.{Intervals};
+ghost use Rattle.r4_content.specs.Held.{edits_of};
+ghost use Rattle.r4_extent_counts.specs.Coming.{twig_cells};
+ghost use Rattle.r4_extent_demands.specs.Sizes.{AreExtentEdits};
+ghost use Rattle.r4_extent_reaching.specs.Meeting.{IsFrom};
+ghost use Rattle.r4_marking.specs.Marks.{ask_seen};
+ghost use Rattle.r4_reach.specs.Leaves.{rise_of};
+ghost use Rattle.r4_extent_reach.specs.Standing.{stood};
+
+use crate::known::Known;
+use r4_base::Memory;
+use r4_cell::{Cell, Cells, Root};
+use r4_content::Seen;
+use r4_extent_counts::cells_coming;
+use r4_extent_demands::SizedBody;
+use r4_extent_reaching::Reach;
+use r4_marking::Marks;
+use std::alloc::{AllocError, Global};
+use std::sync::Arc;
+
+/// The reach of a command with these cells. The only error is want of memory, where 2^64 new cells or more may come.
+pub(crate) fn reach_from(
+    alloc: Global,
+    root: &Root,
+    seen: Seen,
+    known: &Known,
+    met: Vec<Arc<Cell>>,
+    marks: Marks,
+) -> Result<Reach, Memory>
+    requires { AreExtentEdits known.now.body (edits_of known.now.edits) }
+    ensures { IfOk result (λ r. (changes : Intervals) → IsFrom root.now seen
+        (record {
+          edits = known.now.edits;
+          body = known.now.body;
+          in_extents = stood known.now.body;
+          changes = changes;
+        })
+        (map (λ c. arc_value c) met.items) marks r) }
+{
+    let most = most_in(alloc, known, &marks)?;
+    Ok(Reach {
+        reads: Cells::from_vec(marks.reads),
+        writes: Cells::from_vec(marks.writes),
+        met: Cells::from_vec(met),
+        root: marks.rises.map(|_| *root),
+        seen,
+        most,
+        in_extents: stood_in_extents(known.body.as_ref()),
+    })
+}
+
+// Whether a body stood in extents, if there is one.
+fn stood_in_extents(body: Option<&SizedBody>) -> bool
+    ensures { result ≡ stood (option_copied body.entry) }
+{
+    match body {
+        Some(body) => body.stood_in_extents(),
+        None => false,
+    }
+}
+
+// How many new cells come at most: one in the place of each that is written, those for which these ask, a new root, and
+// what comes to twigs.
+fn most_in(alloc: Global, known: &Known, marks: &Marks) -> Result<u64, Memory>
+    requires { AreExtentEdits known.now.body (edits_of known.now.edits) }
+    ensures { IfOk result (λ n. n ≡ length marks.now.writes.items + marks.now.more
+        + rise_of (option_map ask_seen marks.now.rises)
+        + sum_by (twig_cells known.now.body (edits_of known.now.edits))
+        (map (λ c. arc_value c) marks.now.writes.items)) }
+{
+    let below = (marks.writes.len() as u64)
+        .checked_add(marks.more)
+        .ok_or(AllocError)?;
+    let rise = u64::from(marks.rises.is_some());
+    let asked = below.checked_add(rise).ok_or(AllocError)?;
+    let come = cells_coming(
+        alloc,
+        known.body.as_ref(),
+        &known.edits,
+        marks.writes.as_slice(),
+    )?;
+    Ok(asked.checked_add(come).ok_or(AllocError)?)
+}

@@ -1,0 +1,4 @@
+pub mod Marked
+pub mod Assembled
+pub mod Told
+pub mod Within

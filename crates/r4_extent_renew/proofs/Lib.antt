@@ -1,0 +1,4 @@
+pub mod BlockUnits
+pub mod Overwritten
+pub mod Picked
+pub mod Staying

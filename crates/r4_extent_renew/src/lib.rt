@@ -1,0 +1,6 @@
+//! Data blocks that stand and get other bytes, as one step of a working set (docs/volume.md, "Bodies in extents").
+#![tactic(auto)]
+
+mod renewing;
+
+pub use renewing::{overwrite, overwrite_among};

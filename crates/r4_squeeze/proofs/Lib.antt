@@ -1,0 +1,12 @@
+pub mod Adding
+pub mod CellNumbers
+pub mod Cells
+pub mod LeafSlums
+pub mod Naming
+pub mod NodeCells
+pub mod PackedLeft
+pub mod Pointed
+pub mod Rewriting
+pub mod SqueezedSlums
+pub mod Standing
+pub mod TwigSlums

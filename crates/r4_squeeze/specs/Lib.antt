@@ -1,0 +1,4 @@
+pub mod Items
+pub mod Packing
+pub mod Over
+pub mod Squeezing

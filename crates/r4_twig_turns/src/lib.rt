@@ -1,0 +1,7 @@
+//! Twigs that are packed anew one after the other: each has its condition at its turn (docs/volume.md, "What may still
+//! come").
+#![tactic(auto)]
+
+mod laws;
+
+pub use laws::each_twig_has_its_turn;
