@@ -17,10 +17,13 @@ ROOT = os.path.dirname(os.path.dirname(os.path.abspath(__file__)))
 HEAD = re.compile(r"(?:(?:abbrev|unfoldable|opaque) )?(?:pub )?(record |data )?((?!pub\b|infixl\b)[A-Za-z_][\w']*|◌\S*◌)")
 OPERATOR = re.compile(r"(?<=\s)[^\w\s(){}\[\].,:;'\"]+(?=\s)")
 WORD = re.compile(r"(?<![\w'.])[A-Za-z_][\w']*")
-IMPORT = re.compile(r"^use Rattle\.(\w+)\.specs\.([\w.]+)\.\{([^}]*)\}", re.M)
+# (a crate may name another one's definitions by way of a third: then the last crate named is theirs)
+IMPORT = re.compile(r"^use Rattle\.(?:\w+\.specs\.(?=r4_))*(\w+)(?:\.specs)?\.([\w.]+)\.\{([^}]*)\}", re.M)
 
 # How long README.md may be, and calls that are named as crates are.
 MOST_LINES = 120
+# How many paths crates.txt may have: the gate reads a crate's files once for each that leads to it (docs/gate.md).
+MOST_PATHS = 160_000
 CALLS = {"r4_main"}
 
 # The promises, in reading order: what each says, and the definitions that its clauses cite.
@@ -250,6 +253,16 @@ def readme_faults():
                     yield f"README.md names {word}, of which docs/proved.md does not tell"
 
 
+def too_many_paths():
+    """The paths of crates.txt, from each crate down to each that it stands on, where these are too many for the gate."""
+    lines = re.findall(r"^(r4_\w+)[^:\n]*:(.*)", read("crates.txt"), re.M)
+    paths = {}
+    for name, low in lines:
+        paths[name] = 1 + sum(paths[it] for it in low.split() if it.startswith("r4_"))
+    if sum(paths.values()) > MOST_PATHS:
+        yield f"crates.txt has {sum(paths.values())} paths, and {MOST_PATHS} are enough: name crates by way of others"
+
+
 def has_section(page, section):
     return re.search(rf"^#+ {re.escape(section)}$", read(f"docs/{page}"), re.M)
 
@@ -285,7 +298,7 @@ def missing_sections():
 
 
 def check():
-    stale = [*crates_without_rows(), *readme_faults(), *stale_rules(), *missing_sections()]
+    stale = [*crates_without_rows(), *too_many_paths(), *readme_faults(), *stale_rules(), *missing_sections()]
     if not os.path.exists(f"{ROOT}/docs/trust.md") or read("docs/trust.md") != trust_page():
         stale.append("docs/trust.md is stale: run tools/pages.py")
     for line in stale:

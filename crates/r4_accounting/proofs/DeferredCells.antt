@@ -6,10 +6,10 @@ use Rattle.std.proofs.lemmas.Bool.{cond-true, eqb-true}
 use Rattle.std.proofs.lemmas.List.{append_assoc, length-append, map-append, take-append-drop}
 use Rattle.std.proofs.lemmas.List.Elements.{filter-append}
 use Rattle.r4_base.specs.declared.things.AtomNo.{AtomNo}
-use Rattle.r4_buffer.specs.Changed.{has_name}
-use Rattle.r4_buffer.specs.Seen.{cells_of}
+use Rattle.r4_done.specs.r4_buffer.Changed.{has_name}
+use Rattle.r4_done.specs.r4_buffer.Seen.{cells_of}
 use Rattle.r4_cell.specs.Seen.{CellSeen}
-use Rattle.r4_search.specs.Keeping.{Shared}
+use Rattle.r4_done.specs.r4_search.Keeping.{Shared}
 use Rattle.r4_space.specs.Accounts.{is_open, with_atom}
 use Rattle.r4_space.specs.Space.{Space, is_taken, with_deferred}
 use Rattle.r4_space.specs.declared.things.Account.{Account}

@@ -7,10 +7,10 @@ use Rattle.std.proofs.lemmas.List.Folds.{list_any-append}
 use Rattle.r4_atoms.specs.Atoms.{AtomsSeen, new_atom, owner_of, state_of, with_state}
 use Rattle.r4_atoms.specs.declared.things.Account.{Account}
 use Rattle.r4_atoms.specs.declared.things.AtomState.{AtomState}
-use Rattle.r4_buffer.specs.Changed.{has_name}
+use Rattle.r4_done.specs.r4_buffer.Changed.{has_name}
 use Rattle.r4_cell.specs.Seen.{CellSeen}
 use Rattle.r4_accounting.specs.Accounting.{HasOwned, HasTakenOver}
-use Rattle.r4_kept.proofs.States.{owners_same}
+use Rattle.r4_done.proofs.r4_kept.States.{owners_same}
 
 -- either of two tests, with the same outcome
 either : (x y : Bool) (a b : Option ℕ) → (if y then a else (if x then a else b)) ≡ (if x || y then a else b)

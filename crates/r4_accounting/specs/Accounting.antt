@@ -4,8 +4,8 @@ use Rattle.std.specs.Prelude.{◌++◌, filter, if◌then◌else◌, length, map
 use Rattle.r4_atoms.specs.Atoms.{AtomsSeen, owner_of, state_of, with_state}
 use Rattle.r4_atoms.specs.declared.things.Account.{Account}
 use Rattle.r4_base.specs.declared.things.AtomNo.{AtomNo}
-use Rattle.r4_buffer.specs.Changed.{has_name}
-use Rattle.r4_buffer.specs.Seen.{BufferSeen}
+use Rattle.r4_done.specs.r4_buffer.Changed.{has_name}
+use Rattle.r4_done.specs.r4_buffer.Seen.{BufferSeen}
 use Rattle.r4_cell.specs.Seen.{CellSeen}
 use Rattle.r4_done.specs.Doing.{is_less, is_more}
 use Rattle.r4_space.specs.Space.{Space, is_taken}

@@ -4,8 +4,8 @@ use Rattle.r4_atoms.specs.Atoms.{AtomsSeen, IsFreeFor, IsOpenAtom}
 use Rattle.r4_atoms.specs.declared.things.Account.{Account}
 use Rattle.r4_base.specs.Bitmap.{bitmap_count}
 use Rattle.r4_base.specs.declared.things.AtomNo.{AtomNo}
-use Rattle.r4_buffer.specs.Changed.{replaced}
-use Rattle.r4_buffer.specs.Seen.{BufferSeen, buffered}
+use Rattle.r4_done.specs.r4_buffer.Changed.{replaced}
+use Rattle.r4_done.specs.r4_buffer.Seen.{BufferSeen, buffered}
 use Rattle.r4_cell.specs.Seen.{CellSeen}
 use Rattle.r4_done.specs.Doing.{HasCharged}
 use Rattle.r4_space.specs.Accounts.{account_at, dues, is_sealed}

@@ -2,15 +2,15 @@
 
 ghost use Rattle.std.specs.Prelude.{◌≡◌, ◌+◌, ◌≤◌, count_by, length};
 ghost use Rattle.r4_atoms.specs.Atoms.{FitTogether};
-ghost use Rattle.r4_buffer.specs.Changed.{has_name};
-ghost use Rattle.r4_buffer.specs.Seen.{cells_of};
+ghost use Rattle.r4_done.specs.r4_buffer.Changed.{has_name};
+ghost use Rattle.r4_done.specs.r4_buffer.Seen.{cells_of};
 ghost use Rattle.r4_accounting.specs.Accounting.{added, is_fresh, is_fresh_less, is_fresh_more};
 ghost use Rattle.r4_done.specs.Doing.{IsCount, is_less, is_more};
 
 use r4_atoms::Account;
 use r4_base::{NodeId, UNPLACED};
-use r4_buffer::Buffer;
 use r4_cell::Cell;
+use r4_done::Buffer;
 use std::sync::Arc;
 
 // Whether one of these cells has the name.

@@ -3,7 +3,7 @@
 ghost use Rattle.std.specs.Prelude.{◌≡◌, ◌∷◌, ◌+◌, ◌<◌, ◌≤◌, ◌^◌, ℕ, [], Contains};
 ghost use Rattle.std.specs.Prelude.{IfErr, OnErr, OnOk, false, length, true};
 ghost use Rattle.r4_base.specs.Bitmap.{bitmap_count};
-ghost use Rattle.r4_buffer.specs.Seen.{cells_of};
+ghost use Rattle.r4_done.specs.r4_buffer.Seen.{cells_of};
 ghost use Rattle.r4_cell.specs.Seen.{CellSeen};
 ghost use Rattle.r4_accounting.specs.Accounting.{HasBlock, HasDeferred, freed, frees};
 ghost use Rattle.r4_done.specs.Doing.{HasCharged};

@@ -1,7 +1,7 @@
 //! The levels of cells.
 
 ghost use Rattle.std.specs.Prelude.{◌≤◌, Contains};
-ghost use Rattle.r4_buffer.specs.Seen.{cells_of};
+ghost use Rattle.r4_done.specs.r4_buffer.Seen.{cells_of};
 ghost use Rattle.r4_cell.specs.Seen.{CellSeen};
 
 use r4_cell::Cell;

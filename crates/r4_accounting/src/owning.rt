@@ -2,7 +2,7 @@
 
 ghost use Rattle.std.specs.Prelude.{◌∷◌, ◌+◌, ◌<◌, ◌≤◌, [], Contains, length};
 ghost use Rattle.r4_atoms.specs.Atoms.{IsFreeFor, IsOpenAtom};
-ghost use Rattle.r4_buffer.specs.Seen.{cells_of};
+ghost use Rattle.r4_done.specs.r4_buffer.Seen.{cells_of};
 ghost use Rattle.r4_cell.specs.Seen.{CellSeen};
 ghost use Rattle.r4_accounting.specs.Accounting.{HasOwned, HasTakenOver};
 

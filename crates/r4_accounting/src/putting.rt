@@ -2,15 +2,15 @@
 
 ghost use Rattle.std.specs.Prelude.{◌≡◌, ◌<◌, ◌≤◌, IfErr, OnOk};
 ghost use Rattle.r4_accounting.specs.Putting.{CanPut, HasNumbers, HasPlaced, IsPriceable};
-ghost use Rattle.r4_buffer.specs.Seen.{cells_of};
+ghost use Rattle.r4_done.specs.r4_buffer.Seen.{cells_of};
 ghost use Rattle.r4_space.specs.Space.{free_of, need_at};
 
 use crate::freeing::tell_space;
 use crate::owning::take_over;
 use r4_atoms::{Account, Atoms};
 use r4_base::{AtomNo, bitmap_count};
-use r4_buffer::Buffer;
 use r4_cell::Cell;
+use r4_done::Buffer;
 use r4_space::{Short, SpaceMap, price};
 use std::alloc::Global;
 use std::sync::Arc;

@@ -17,8 +17,8 @@ use Rattle.r4_build.specs.Built.{BuiltSeen, HasOldRoot, edits_for}
 use Rattle.r4_build.specs.declared.task.Task.{Task}
 use Rattle.r4_build.proofs.Contents.{built_born, built_gone, built_reply, edits_made}
 use Rattle.r4_build.proofs.Fitting.{built_meets}
-use Rattle.r4_cell.specs.Patch.{Patch, by_name, root_of_pair}
-use Rattle.r4_cell.specs.Seen.{CellSeen, node_of}
+use Rattle.r4_sets_told.specs.r4_cell.Patch.{Patch, by_name, root_of_pair}
+use Rattle.r4_sets_told.specs.r4_cell.Seen.{CellSeen, node_of}
 use Rattle.r4_content.specs.Course.{ending, of_content}
 use Rattle.r4_content.specs.Edited.{Edits, Intervals, Pairs, changed, edited, is_in}
 use Rattle.r4_content.specs.Counts.{born, gone}
@@ -31,20 +31,20 @@ use Rattle.r4_content.specs.declared.command.Command.{Command}
 use Rattle.r4_content.proofs.EditLaws.{edited_off, edited_on, in_append}
 use Rattle.r4_content.proofs.Keeping.{byte_key}
 use Rattle.r4_content.proofs.OneObject.{numbers_of}
-use Rattle.r4_patch.specs.Effect.{HasEffect, IsSetAt}
-use Rattle.r4_patch.specs.Joining.{patch_of_change}
-use Rattle.r4_patch.specs.Part.{MeetsPart}
-use Rattle.r4_patch.proofs.Members.{found}
-use Rattle.r4_patch.proofs.PartCells.{tree_is_part}
-use Rattle.r4_path.proofs.Rising.{hi_is, level_is, lo_is}
-use Rattle.r4_reach.specs.Needs.{demand_on}
-use Rattle.r4_reach.specs.Reach.{HasReached, Touches}
-use Rattle.r4_reach.specs.Touched.{edits_on, reads_on}
-use Rattle.r4_reach.proofs.Answers.{is_seen}
-use Rattle.r4_reach.proofs.Trees.{held}
-use Rattle.r4_sets.specs.Change.{BuiltChange, Does}
-use Rattle.r4_sets.proofs.Bodies.{in_kind}
-use Rattle.r4_sets.proofs.Carried.{byte_owner}
+use Rattle.r4_sets_told.specs.r4_patch.Effect.{HasEffect, IsSetAt}
+use Rattle.r4_sets_told.specs.r4_patch.Joining.{patch_of_change}
+use Rattle.r4_sets_told.specs.r4_patch.Part.{MeetsPart}
+use Rattle.r4_sets_told.proofs.r4_patch.Members.{found}
+use Rattle.r4_sets_told.proofs.r4_patch.PartCells.{tree_is_part}
+use Rattle.r4_build.proofs.r4_path.Rising.{hi_is, level_is, lo_is}
+use Rattle.r4_build.specs.r4_reach.Needs.{demand_on}
+use Rattle.r4_build.specs.r4_reach.Reach.{HasReached, Touches}
+use Rattle.r4_build.specs.r4_reach.Touched.{edits_on, reads_on}
+use Rattle.r4_build.proofs.r4_reach.Answers.{is_seen}
+use Rattle.r4_build.proofs.r4_reach.Trees.{held}
+use Rattle.r4_sets_told.specs.r4_sets.Change.{BuiltChange, Does}
+use Rattle.r4_sets_told.proofs.r4_sets.Bodies.{in_kind}
+use Rattle.r4_sets_told.proofs.r4_sets.Carried.{byte_owner}
 use Rattle.r4_sets_told.specs.Touched.{IsBuiltFor}
 use Rattle.r4_sets_told.proofs.BuiltFor as built_for
 use Rattle.r4_applied.specs.Applying.{IsBuiltOver, IsInReach, changed_by, touched_by}

@@ -16,22 +16,22 @@ use Rattle.r4_base.specs.declared.items.Attr.{Attr}
 use Rattle.r4_base.specs.declared.items.Target.{Target}
 use Rattle.r4_base.proofs.Trees.{one_cell}
 use Rattle.r4_base.proofs.Visible.{byte_back}
-use Rattle.r4_cell.specs.Patch.{Patch, place}
+use Rattle.r4_sets_told.specs.r4_cell.Patch.{Patch, place}
 use Rattle.r4_content.specs.Edited.{Edits, changed, edited, is_in}
 use Rattle.r4_content.specs.Lawful.{HasBodies, HasByte}
 use Rattle.r4_content.specs.Listed.{list_edited}
 use Rattle.r4_content.specs.Meaning.{greatest_size}
 use Rattle.r4_content.proofs.EditLaws.{edited_off, edited_on}
-use Rattle.r4_patch.specs.Effect.{HasEffect, Placed, UnitIn, in_leaf}
-use Rattle.r4_patch.specs.Part.{IsPart, MeetsPart}
-use Rattle.r4_patch.proofs.Effects.{changed_after, others_after}
-use Rattle.r4_patch.proofs.Holding.{one_holder, unit_held}
-use Rattle.r4_patch.proofs.PartCells.{tree_is_part}
-use Rattle.r4_sets.specs.Change.{TailsThere}
-use Rattle.r4_sets.specs.Units.{SameUnit}
-use Rattle.r4_sets.proofs.Bodies.{IsFile, file_or_not, no_body}
-use Rattle.r4_sets.proofs.BodyKinds.{extents_after, tails_after, tails_anew}
-use Rattle.r4_sets.proofs.Cells.{back_iff}
+use Rattle.r4_sets_told.specs.r4_patch.Effect.{HasEffect, Placed, UnitIn, in_leaf}
+use Rattle.r4_sets_told.specs.r4_patch.Part.{IsPart, MeetsPart}
+use Rattle.r4_sets_told.proofs.r4_patch.Effects.{changed_after, others_after}
+use Rattle.r4_sets_told.proofs.r4_patch.Holding.{one_holder, unit_held}
+use Rattle.r4_sets_told.proofs.r4_patch.PartCells.{tree_is_part}
+use Rattle.r4_sets_told.specs.r4_sets.Change.{TailsThere}
+use Rattle.r4_sets_told.specs.r4_sets.Units.{SameUnit}
+use Rattle.r4_sets_told.proofs.r4_sets.Bodies.{IsFile, file_or_not, no_body}
+use Rattle.r4_sets_told.proofs.r4_sets.BodyKinds.{extents_after, tails_after, tails_anew}
+use Rattle.r4_sets_told.proofs.r4_sets.Cells.{back_iff}
 use Rattle.r4_build.specs.Building.{set_by}
 use Rattle.r4_build.proofs.Contents.{edits_made}
 use Rattle.r4_applied.proofs.SeenThere.{stat_seen, stat_stands}
@@ -169,7 +169,7 @@ module _ (p : Patch Value) (u : Store Value) (root : Root) (e : Edits) (raw n : 
           where
             owner : (x : ℕ) → x < 2 ^ 64
                 → Rattle.r4_base.specs.Volume.object_of (key_of_rank (byte_rank o x)) ≡ o
-            owner x lt = Rattle.r4_sets.proofs.Carried.byte_owner o x stat.0 lt
+            owner x lt = Rattle.r4_sets_told.proofs.r4_sets.Carried.byte_owner o x stat.0 lt
 
     -- one that was there
     module _ (a : Attr) (was : HasStat n o a) (kind : is_directory a ≡ false) where

@@ -29,11 +29,11 @@ use Rattle.r4_content.proofs.Ranks.{between_is}
 use Rattle.r4_content.proofs.SeenLaws.{at_content, content_of, edited_list, seen}
 use Rattle.r4_content.proofs.StatsAsked.{stats_asked}
 use Rattle.r4_content.proofs.Staying.{lawful_stays}
-use Rattle.r4_reach.specs.Reach.{is_body}
-use Rattle.r4_reach.specs.Touched.{Body, body_key, body_of, body_on, edits_on, grows, kind_reads, last_byte, reads_on}
-use Rattle.r4_reach.specs.Touched.{shown_at, size_in}
-use Rattle.r4_reach.proofs.FirstKeys.{first_is}
-use Rattle.r4_sets.proofs.Carried.{byte_owner}
+use Rattle.r4_build.specs.r4_reach.Reach.{is_body}
+use Rattle.r4_build.specs.r4_reach.Touched.{Body, body_key, body_of, body_on, edits_on, grows, kind_reads, last_byte, reads_on}
+use Rattle.r4_build.specs.r4_reach.Touched.{shown_at, size_in}
+use Rattle.r4_build.proofs.r4_reach.FirstKeys.{first_is}
+use Rattle.r4_sets_told.proofs.r4_sets.Carried.{byte_owner}
 use Rattle.r4_sets_told.proofs.Bounded.{bounded}
 use Rattle.r4_sets_told.proofs.Showing.{body_value, changed_there}
 use Rattle.r4_applied.proofs.OneBody.{IsOneBody, file_is, first_of, of_file, one_body}

@@ -6,16 +6,16 @@ use Rattle.std.proofs.lemmas.List.Elements.{Contains-append_right}
 use Rattle.r4_base.specs.Tree.{Node}
 use Rattle.r4_base.specs.Value.{Value}
 use Rattle.r4_build.specs.Built.{BuiltSeen}
-use Rattle.r4_cell.specs.Patch.{Patch}
-use Rattle.r4_cell.specs.Seen.{CellSeen, node_of}
+use Rattle.r4_sets_told.specs.r4_cell.Patch.{Patch}
+use Rattle.r4_sets_told.specs.r4_cell.Seen.{CellSeen, node_of}
 use Rattle.r4_content.specs.Locality.{commands}
 use Rattle.r4_content.specs.Meaning.{greatest_size}
-use Rattle.r4_measure.proofs.Loop.{of_id}
-use Rattle.r4_patch.specs.Joining.{patch_of_change}
-use Rattle.r4_patch.proofs.Members.{found}
-use Rattle.r4_sets.specs.Change.{Applies, IsFree as IsFreeFor, touches}
-use Rattle.r4_sets.specs.Session.{Session}
-use Rattle.r4_trace.specs.Traced.{atom_in}
+use Rattle.r4_build.proofs.r4_measure.Loop.{of_id}
+use Rattle.r4_sets_told.specs.r4_patch.Joining.{patch_of_change}
+use Rattle.r4_sets_told.proofs.r4_patch.Members.{found}
+use Rattle.r4_sets_told.specs.r4_sets.Change.{Applies, IsFree as IsFreeFor, touches}
+use Rattle.r4_sets_told.specs.r4_sets.Session.{Session}
+use Rattle.r4_sets_told.specs.r4_trace.Traced.{atom_in}
 use Rattle.r4_applied.specs.Applying.{CanApply, changed_by, touched_by}
 use Rattle.r4_applied.proofs.Applied.{does, in_reach}
 

@@ -15,9 +15,9 @@ use Rattle.r4_content.specs.Meaning.{course, greatest_size}
 use Rattle.r4_content.specs.Seen.{IsSeen, of_seen}
 use Rattle.r4_content.specs.declared.command.Command.{Command}
 use Rattle.r4_content.proofs.EditLaws.{edited_off, in_append}
-use Rattle.r4_reach.specs.Touched.{Body, body_key, body_of, body_on, edits_on, kind_reads, last_byte, reads_on}
-use Rattle.r4_sets.proofs.Bodies.{one_attr}
-use Rattle.r4_sets.proofs.Carried.{byte_owner}
+use Rattle.r4_build.specs.r4_reach.Touched.{Body, body_key, body_of, body_on, edits_on, kind_reads, last_byte, reads_on}
+use Rattle.r4_sets_told.proofs.r4_sets.Bodies.{one_attr}
+use Rattle.r4_sets_told.proofs.r4_sets.Carried.{byte_owner}
 use Rattle.r4_sets_told.specs.Touched.{IsTouchedBy}
 use Rattle.r4_applied.proofs.BodyTold.{bodies_then, changes_alike, grows_where, key, kind_stat, last_is, reads_alike}
 use Rattle.r4_applied.proofs.BodyTold.{same_edits, told}

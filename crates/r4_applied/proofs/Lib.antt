@@ -7,3 +7,6 @@ pub mod SpreadSpared
 pub mod KeysTouched
 pub mod Applied
 pub mod InSession
+-- what crates above name by way of this one
+pub use Rattle.r4_sets_told.proofs.r4_sets
+pub use Rattle.r4_sets_told.proofs as r4_sets_told

@@ -33,9 +33,9 @@ use Rattle.r4_content.proofs.OneObject.{stat_was}
 use Rattle.r4_content.proofs.Ranks.{between_is, byte_after, in_body, root_is_object}
 use Rattle.r4_content.proofs.SameWay.{IsThere}
 use Rattle.r4_content.proofs.Shapes.{entry_dir, stat_back}
-use Rattle.r4_reach.specs.Reach.{is_body}
-use Rattle.r4_reach.specs.Touched.{body_key}
-use Rattle.r4_sets.proofs.Carried.{byte_owner}
+use Rattle.r4_build.specs.r4_reach.Reach.{is_body}
+use Rattle.r4_build.specs.r4_reach.Touched.{body_key}
+use Rattle.r4_sets_told.proofs.r4_sets.Carried.{byte_owner}
 
 -- The interval is one key that is no body's, or it is of the bytes of this file.
 abbrev IsOwn : Target → ℕ × ℕ → Type 0

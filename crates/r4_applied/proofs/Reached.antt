@@ -6,14 +6,14 @@ use Rattle.std.proofs.lemmas.List.Elements.{Contains-append_left, Contains-appen
 use Rattle.std.proofs.lemmas.Option.{same_Some}
 use Rattle.r4_base.specs.Tree.{Node, Store}
 use Rattle.r4_base.specs.Value.{Value}
-use Rattle.r4_cell.specs.Patch.{by_name}
-use Rattle.r4_cell.specs.Seen.{CellSeen, node_of}
-use Rattle.r4_cell.specs.declared.change.Root.{Root as RootPair}
+use Rattle.r4_sets_told.specs.r4_cell.Patch.{by_name}
+use Rattle.r4_sets_told.specs.r4_cell.Seen.{CellSeen, node_of}
+use Rattle.r4_sets_told.specs.r4_cell.declared.change.Root.{Root as RootPair}
 use Rattle.r4_content.specs.declared.command.Command.{Command}
-use Rattle.r4_patch.proofs.Members.{cases, found, here, later, none}
-use Rattle.r4_reach.specs.Answer.{IsReachOf}
-use Rattle.r4_reach.specs.Needs.{demand_on}
-use Rattle.r4_reach.specs.Reach.{HasReached, IsReached, IsWritten}
+use Rattle.r4_sets_told.proofs.r4_patch.Members.{cases, found, here, later, none}
+use Rattle.r4_build.specs.r4_reach.Answer.{IsReachOf}
+use Rattle.r4_build.specs.r4_reach.Needs.{demand_on}
+use Rattle.r4_build.specs.r4_reach.Reach.{HasReached, IsReached, IsWritten}
 
 -- one of the cells has the number, or none has
 named_or_none : (cells : List CellSeen) (i : ℕ)

@@ -18,7 +18,7 @@ use Rattle.r4_content.specs.declared.command.Command.{Command}
 use Rattle.r4_content.proofs.CourseLaws.{same_course}
 use Rattle.r4_content.proofs.SeenLaws.{at_content, content_of, same_source}
 use Rattle.r4_content.proofs.StatsAsked.{bytes_asked}
-use Rattle.r4_sets.proofs.Bodies.{one_attr}
+use Rattle.r4_sets_told.proofs.r4_sets.Bodies.{one_attr}
 
 -- the same is asked for on what was seen
 pub asked_alike : (c : Command) (s : Pairs) (m : Content) → IsSeen greatest_size c s m

@@ -11,26 +11,26 @@ use Rattle.r4_base.specs.Volume.{HasExtents, HasStat, byte_rank, blocks_for, is_
 use Rattle.r4_base.specs.declared.items.Attr.{Attr}
 use Rattle.r4_base.specs.declared.items.Target.{Target}
 use Rattle.r4_base.proofs.Trees.{one_cell, unit_range}
-use Rattle.r4_cell.specs.Patch.{by_name, root_of_pair}
-use Rattle.r4_cell.specs.Seen.{CellSeen}
-use Rattle.r4_cell.specs.declared.change.Root.{Root as RootPair}
+use Rattle.r4_sets_told.specs.r4_cell.Patch.{by_name, root_of_pair}
+use Rattle.r4_sets_told.specs.r4_cell.Seen.{CellSeen}
+use Rattle.r4_sets_told.specs.r4_cell.declared.change.Root.{Root as RootPair}
 use Rattle.r4_content.specs.Edited.{Intervals, changed, is_in}
 use Rattle.r4_content.specs.Fields.{HasBytePaths, NamesUnused}
 use Rattle.r4_content.specs.Lawful.{IsLawful}
 use Rattle.r4_content.specs.Meaning.{greatest_size}
 use Rattle.r4_content.specs.Seen.{IsSeen}
 use Rattle.r4_content.specs.declared.command.Command.{Command}
-use Rattle.r4_leaf_edits.specs.Made.{spread_keys}
-use Rattle.r4_patch.proofs.Holding.{one_holder, unit_held}
-use Rattle.r4_patch.proofs.Members.{cases, none}
-use Rattle.r4_patch.proofs.PartCells.{tree_is_part}
-use Rattle.r4_reach.specs.Answer.{IsReachOf}
-use Rattle.r4_reach.specs.Needs.{demand_on}
-use Rattle.r4_reach.specs.Reach.{HasReached, Touches}
-use Rattle.r4_reach.specs.Touched.{Body, IsKindIn, body_of, body_on, changes_on, edits_on, first_byte, has_unit}
-use Rattle.r4_reach.specs.Touched.{is_spread}
-use Rattle.r4_reach.specs.Touched.{coming, raw_changes, shown_at, turns_out, with_blocks}
-use Rattle.r4_reach.proofs.Trees.{held}
+use Rattle.r4_build.specs.r4_leaf_edits.Made.{spread_keys}
+use Rattle.r4_sets_told.proofs.r4_patch.Holding.{one_holder, unit_held}
+use Rattle.r4_sets_told.proofs.r4_patch.Members.{cases, none}
+use Rattle.r4_sets_told.proofs.r4_patch.PartCells.{tree_is_part}
+use Rattle.r4_build.specs.r4_reach.Answer.{IsReachOf}
+use Rattle.r4_build.specs.r4_reach.Needs.{demand_on}
+use Rattle.r4_build.specs.r4_reach.Reach.{HasReached, Touches}
+use Rattle.r4_build.specs.r4_reach.Touched.{Body, IsKindIn, body_of, body_on, changes_on, edits_on, first_byte, has_unit}
+use Rattle.r4_build.specs.r4_reach.Touched.{is_spread}
+use Rattle.r4_build.specs.r4_reach.Touched.{coming, raw_changes, shown_at, turns_out, with_blocks}
+use Rattle.r4_build.proofs.r4_reach.Trees.{held}
 use Rattle.r4_applied.proofs.BodyTold.{key, shown, told, was_is}
 
 -- where no body is spread, what changes is what edits set or take away

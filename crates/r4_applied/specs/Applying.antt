@@ -6,21 +6,21 @@ use Rattle.r4_base.specs.Value.{Content, Value}
 use Rattle.r4_build.specs.Building.{CanBuild}
 use Rattle.r4_build.specs.Built.{BuiltSeen, IsBuilt, edits_for}
 use Rattle.r4_build.specs.declared.task.Task.{Task}
-use Rattle.r4_cell.specs.Patch.{by_name, root_of_pair}
-use Rattle.r4_cell.specs.Seen.{CellSeen, node_of}
-use Rattle.r4_cell.specs.declared.change.Root.{Root as RootPair}
+use Rattle.r4_sets_told.specs.r4_cell.Patch.{by_name, root_of_pair}
+use Rattle.r4_sets_told.specs.r4_cell.Seen.{CellSeen, node_of}
+use Rattle.r4_sets_told.specs.r4_cell.declared.change.Root.{Root as RootPair}
 use Rattle.r4_content.specs.Edited.{Intervals, changed}
 use Rattle.r4_content.specs.Fields.{HasBytePaths, NamesUnused}
 use Rattle.r4_content.specs.Held.{pairs_of}
 use Rattle.r4_content.specs.Lawful.{IsLawful}
 use Rattle.r4_content.specs.Locality.{commands}
 use Rattle.r4_content.specs.Meaning.{greatest_size}
-use Rattle.r4_path.specs.Steps.{IsFree}
-use Rattle.r4_reach.specs.Answer.{IsReachOf}
-use Rattle.r4_reach.specs.Touched.{body_on, reads_on}
-use Rattle.r4_sets.specs.Change.{IsFree as IsFreeFor}
-use Rattle.r4_sets.specs.Session.{IsTreeOf, Session, all_done}
-use Rattle.r4_trace.specs.Traced.{IsSealed, atom_in}
+use Rattle.r4_build.specs.r4_path.Steps.{IsFree}
+use Rattle.r4_build.specs.r4_reach.Answer.{IsReachOf}
+use Rattle.r4_build.specs.r4_reach.Touched.{body_on, reads_on}
+use Rattle.r4_sets_told.specs.r4_sets.Change.{IsFree as IsFreeFor}
+use Rattle.r4_sets_told.specs.r4_sets.Session.{IsTreeOf, Session, all_done}
+use Rattle.r4_sets_told.specs.r4_trace.Traced.{IsSealed, atom_in}
 
 -- ---- the task
 

@@ -11,9 +11,9 @@ ghost use Rattle.r4_content.specs.Counts.{born, gone};
 ghost use Rattle.r4_content.specs.Edited.{is_in};
 ghost use Rattle.r4_content.specs.Locality.{commands};
 ghost use Rattle.r4_content.specs.Meaning.{greatest_size, reply};
-ghost use Rattle.r4_patch.specs.Joining.{patch_of_change};
-ghost use Rattle.r4_sets.specs.Change.{Applies, Does};
-ghost use Rattle.r4_sets.specs.Session.{Session};
+ghost use Rattle.r4_sets_told.specs.r4_patch.Joining.{patch_of_change};
+ghost use Rattle.r4_sets_told.specs.r4_sets.Change.{Applies, Does};
+ghost use Rattle.r4_sets_told.specs.r4_sets.Session.{Session};
 
 /// What was built of a command does in the tree of all atoms what the command means, whatever was
 /// changed there since its task went out, where the cells of the task's reach still stand: its

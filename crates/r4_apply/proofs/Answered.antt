@@ -3,10 +3,10 @@ use Rattle.std.proofs.Common.{◌≡◌, ◌∙◌, ℕ, None, Option, Some, ap,
 use Rattle.std.specs.Prelude.{IsSome}
 use Rattle.r4_back.specs.Backing.{IsRefusedBack, IsRefusedIn}
 use Rattle.r4_base.specs.declared.things.ScriptNo.{ScriptNo}
-use Rattle.r4_build.specs.Built.{BuiltSeen}
+use Rattle.r4_back.specs.r4_build.Built.{BuiltSeen}
 use Rattle.r4_content.specs.declared.reply.Reply.{Reply}
 use Rattle.r4_content.specs.declared.reply.Reply.TheVariants.{Memory}
-use Rattle.r4_back.specs.r4_kept.View.{CoreSeen}
+use Rattle.r4_right.specs.r4_kept.View.{CoreSeen}
 use Rattle.r4_turns.specs.Turns.{TurnsSeen, turn_at}
 use Rattle.r4_turns.specs.declared.out.Out.{Out}
 use Rattle.r4_turns.specs.declared.turn.Open.{Open}

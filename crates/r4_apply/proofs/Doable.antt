@@ -9,9 +9,9 @@ use Rattle.r4_atoms.specs.declared.things.Account.{Account}
 use Rattle.r4_back.specs.Backing.{IsCompared}
 use Rattle.r4_base.specs.declared.things.AtomNo.{AtomNo}
 use Rattle.r4_base.specs.declared.things.ScriptNo.{ScriptNo}
-use Rattle.r4_buffer.specs.Seen.{IsLawful, cells_of}
-use Rattle.r4_build.specs.Built.{BuiltSeen, IsBuilt}
-use Rattle.r4_build.specs.declared.counting.ObjectCounts.{ObjectCounts}
+use Rattle.r4_back.specs.r4_buffer.Seen.{IsLawful, cells_of}
+use Rattle.r4_back.specs.r4_build.Built.{BuiltSeen, IsBuilt}
+use Rattle.r4_back.specs.r4_build.declared.counting.ObjectCounts.{ObjectCounts}
 use Rattle.r4_content.specs.Fields.{HasBytePaths}
 use Rattle.r4_content.specs.Held.{pairs_of, part_pairs}
 use Rattle.r4_content.specs.Locality.{commands}
@@ -22,20 +22,20 @@ use Rattle.r4_back.specs.r4_core.declared.doing.Made.{Made}
 use Rattle.r4_right.proofs.r4_done.FromBuilt.{built_is_change, one_gone, one_made}
 use Rattle.r4_right.specs.r4_done.Done.{CanBeDone, IsChangeOf}
 use Rattle.r4_right.specs.r4_done.Right.{IsRight}
-use Rattle.r4_durable.specs.Meaning.{Beginning, IsNamed}
-use Rattle.r4_flushed.proofs.FlushedCells.{FitsOnDisk}
+use Rattle.r4_right.specs.r4_durable.Meaning.{Beginning, IsNamed}
+use Rattle.r4_right.proofs.r4_flushed.FlushedCells.{FitsOnDisk}
 use Rattle.r4_right.specs.r4_freed.Freed.{HasFreed}
-use Rattle.r4_history.proofs.RunSteps.{open_in_both}
-use Rattle.r4_history.proofs.Told.{atom_named}
-use Rattle.r4_history.specs.Held.{IsServed}
-use Rattle.r4_history.specs.Told.{IsTold}
-use Rattle.r4_back.specs.r4_kept.Kept.{IsKept}
-use Rattle.r4_back.specs.r4_kept.Naming.{Naming, names_in}
-use Rattle.r4_back.specs.r4_kept.TasksOut.{IsGiven}
-use Rattle.r4_back.specs.r4_kept.View.{CoreSeen, tables_of}
-use Rattle.r4_suited.specs.Suited.{AreLawfulSeen}
+use Rattle.r4_back.proofs.r4_history.RunSteps.{open_in_both}
+use Rattle.r4_back.proofs.r4_history.Told.{atom_named}
+use Rattle.r4_back.specs.r4_history.Held.{IsServed}
+use Rattle.r4_back.specs.r4_history.Told.{IsTold}
+use Rattle.r4_right.specs.r4_kept.Kept.{IsKept}
+use Rattle.r4_right.specs.r4_kept.Naming.{Naming, names_in}
+use Rattle.r4_right.specs.r4_kept.TasksOut.{IsGiven}
+use Rattle.r4_right.specs.r4_kept.View.{CoreSeen, tables_of}
+use Rattle.r4_right.specs.r4_suited.Suited.{AreLawfulSeen}
 use Rattle.r4_locks.specs.Locks.{AreHolds}
-use Rattle.r4_matching.specs.Matching.{IsSameTask}
+use Rattle.r4_back.specs.r4_matching.Matching.{IsSameTask}
 use Rattle.r4_outside.specs.Device.{State}
 use Rattle.r4_right.proofs.Right.{right}
 use Rattle.r4_space.specs.Space.{charged}

@@ -6,15 +6,15 @@ use Rattle.r4_back.specs.Backing.{IsCompared, IsGone, IsMatched, IsRefusedBack, 
 use Rattle.r4_base.specs.declared.things.AtomNo.{AtomNo}
 use Rattle.r4_base.specs.declared.things.ScriptNo.{ScriptNo}
 use Rattle.r4_base.specs.declared.things.TxnNo.{TxnNo}
-use Rattle.r4_buffer.specs.Seen.{cells_of}
-use Rattle.r4_build.specs.Built.{BuiltSeen}
+use Rattle.r4_back.specs.r4_buffer.Seen.{cells_of}
+use Rattle.r4_back.specs.r4_build.Built.{BuiltSeen}
 use Rattle.r4_content.specs.declared.reply.Reply.TheVariants.{Memory, Space}
 use Rattle.r4_back.specs.r4_core.Doing.{IsDone, IsDoneSingle, IsRightDone, IsRightSingle, IsShort}
 use Rattle.r4_back.specs.r4_core.declared.doing.Made.{Made}
-use Rattle.r4_back.specs.r4_kept.Naming.{Naming}
-use Rattle.r4_back.specs.r4_kept.View.{CoreSeen}
-use Rattle.r4_matching.specs.declared.matching.Mismatch.{Mismatch}
-use Rattle.r4_matching.specs.declared.matching.Mismatch.TheVariants.{Gone, Stale}
+use Rattle.r4_right.specs.r4_kept.Naming.{Naming}
+use Rattle.r4_right.specs.r4_kept.View.{CoreSeen}
+use Rattle.r4_back.specs.r4_matching.declared.matching.Mismatch.{Mismatch}
+use Rattle.r4_back.specs.r4_matching.declared.matching.Mismatch.TheVariants.{Gone, Stale}
 use Rattle.r4_outside.specs.Device.{State}
 use Rattle.r4_space.specs.declared.things.Short.{Short}
 use Rattle.r4_turns.specs.Turns.{turn_at}

@@ -3,15 +3,13 @@
 ghost use Rattle.std.specs.Prelude.{◌≡◌, Err, IsSome, None};
 ghost use Rattle.r4_apply.specs.Applying.{Applies};
 ghost use Rattle.r4_back.specs.Backing.{IsCompared};
-ghost use Rattle.r4_matching.specs.declared.matching.Mismatch.TheVariants.{Gone};
+ghost use Rattle.r4_back.specs.r4_matching.declared.matching.Mismatch.TheVariants.{Gone};
 
 use crate::making::{let_go, task_of};
 use crate::working::work;
-use r4_back::{Core, is_gone, matched, refuse_back};
+use r4_back::{Built, Core, Differs, Mismatch, Task, is_gone, matched, refuse_back};
 use r4_base::NodeId;
-use r4_build::{Built, Task};
 use r4_content::Reply;
-use r4_matching::{Differs, Mismatch};
 use r4_outside::{Device, Run};
 use std::alloc::Global;
 

@@ -6,4 +6,7 @@ mod making;
 mod working;
 
 pub use applying::{Applied, apply};
-pub use r4_back::{give_back, is_refusable, recall, refuse_memory, refuse_next};
+pub use r4_back::{
+    BuildFault, Built, Core, Differs, OpenFault, OpenWhy, Step, Taken, Task, Wanted, build, flush,
+    give_back, is_refusable, pending, recall, refuse, refuse_memory, refuse_next, take,
+};

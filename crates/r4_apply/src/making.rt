@@ -2,10 +2,9 @@
 
 ghost use Rattle.std.specs.Prelude.{◌≡◌, MatchBool, length};
 ghost use Rattle.r4_apply.specs.Applying.{IsCountable, IsMadeOf};
-ghost use Rattle.r4_build.specs.Built.{IsBuilt};
+ghost use Rattle.r4_back.specs.r4_build.Built.{IsBuilt};
 
-use r4_back::Made;
-use r4_build::{Built, Task};
+use r4_back::{Built, Made, Task};
 use r4_trace::Trace;
 
 // How many entries a trace may have, so that two more can be counted.

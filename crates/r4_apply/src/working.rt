@@ -4,13 +4,12 @@ ghost use Rattle.std.specs.Prelude.{◌≡◌, IfErr, None, Ok, OnErr, OnOk};
 ghost use Rattle.r4_apply.specs.Applying.{IsDoneIn, IsRightIn, IsWorked};
 ghost use Rattle.r4_back.specs.Backing.{IsCompared};
 ghost use Rattle.r4_back.specs.r4_core.Doing.{IsDoable, IsShort, naming};
-ghost use Rattle.r4_history.specs.Held.{IsOut};
+ghost use Rattle.r4_back.specs.r4_history.Held.{IsOut};
 ghost use Rattle.r4_turns.specs.declared.out.Out.{Out as Given};
 
 use crate::making::{is_countable, let_go, made_of};
-use r4_back::{Core, Made, refuse_back};
+use r4_back::{Built, Core, Made, refuse_back};
 use r4_base::{AtomNo, ScriptNo};
-use r4_build::Built;
 use r4_cell::on_disk_law;
 use r4_content::Reply;
 use r4_outside::{Device, Run};

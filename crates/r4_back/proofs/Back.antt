@@ -4,22 +4,22 @@ use Rattle.std.specs.Prelude.{IsSome, MatchBool, MatchResult, slice_get}
 use Rattle.std.proofs.lemmas.List.{length-set}
 use Rattle.r4_base.specs.declared.things.ScriptNo.{ScriptNo}
 use Rattle.r4_base.specs.declared.things.TxnNo.{TxnNo}
-use Rattle.r4_build.specs.declared.task.Task.{Task}
+use Rattle.r4_matching.specs.r4_build.declared.task.Task.{Task}
 use Rattle.r4_content.specs.declared.command.Command.{Command}
-use Rattle.r4_history.proofs.Places.{is_script_with, turn_now}
-use Rattle.r4_history.specs.Held.{IsOut, IsServed}
-use Rattle.r4_history.specs.Tables.{inside, next_at}
-use Rattle.r4_core.proofs.r4_kept.Turning.{owed_answered}
-use Rattle.r4_core.specs.r4_kept.History.{owed, owed_for_commit}
-use Rattle.r4_core.specs.r4_kept.Kept.{IsKept}
-use Rattle.r4_core.specs.r4_kept.Naming.{Naming}
-use Rattle.r4_core.specs.r4_kept.Steps.{IsRefusable, IsTakenBack}
-use Rattle.r4_core.specs.r4_kept.View.{CoreSeen, tables_of}
+use Rattle.r4_next.proofs.r4_history.Places.{is_script_with, turn_now}
+use Rattle.r4_next.specs.r4_history.Held.{IsOut, IsServed}
+use Rattle.r4_next.specs.r4_history.Tables.{inside, next_at}
+use Rattle.r4_next.proofs.r4_kept.Turning.{owed_answered}
+use Rattle.r4_next.specs.r4_kept.History.{owed, owed_for_commit}
+use Rattle.r4_next.specs.r4_kept.Kept.{IsKept}
+use Rattle.r4_next.specs.r4_kept.Naming.{Naming}
+use Rattle.r4_next.specs.r4_kept.Steps.{IsRefusable, IsTakenBack}
+use Rattle.r4_next.specs.r4_kept.View.{CoreSeen, tables_of}
 use Rattle.r4_matching.specs.Matching.{IsMismatch, IsSameTask}
 use Rattle.r4_matching.specs.declared.matching.Mismatch.{Mismatch}
 use Rattle.r4_matching.specs.declared.matching.Mismatch.TheVariants.{Gone}
 use Rattle.r4_outside.specs.Device.{State}
-use Rattle.r4_core.proofs.r4_taking.RefusedSingle.{room_back}
+use Rattle.r4_next.proofs.r4_taking.RefusedSingle.{room_back}
 use Rattle.r4_turns.specs.Turns.{IsScript, answered_one, commands_at, given_back, turn_at}
 use Rattle.r4_turns.specs.declared.out.Out.{Out}
 use Rattle.r4_turns.specs.declared.turn.Turn.{Turn}

@@ -3,15 +3,15 @@ use Rattle.std.proofs.Common.{◌≡◌, ℕ, zero, suc, ◌+◌, ◌-◌, ◌�
 use Rattle.std.specs.Prelude.{count_by}
 use Rattle.r4_content.specs.declared.command.Command.{Command}
 use Rattle.r4_content.specs.declared.command.Command.TheVariants as asks
-use Rattle.r4_history.specs.Tables.{next_at}
-use Rattle.r4_core.proofs.r4_kept.Turning.{commit_owed}
-use Rattle.r4_core.specs.r4_kept.History.{is_commit, owed, owed_by, owed_in}
-use Rattle.r4_core.specs.r4_kept.Kept.{IsKept}
-use Rattle.r4_core.specs.r4_kept.Naming.{Naming}
-use Rattle.r4_core.specs.r4_kept.Steps.{pushed}
-use Rattle.r4_core.specs.r4_kept.View.{CoreSeen}
+use Rattle.r4_next.specs.r4_history.Tables.{next_at}
+use Rattle.r4_next.proofs.r4_kept.Turning.{commit_owed}
+use Rattle.r4_next.specs.r4_kept.History.{is_commit, owed, owed_by, owed_in}
+use Rattle.r4_next.specs.r4_kept.Kept.{IsKept}
+use Rattle.r4_next.specs.r4_kept.Naming.{Naming}
+use Rattle.r4_next.specs.r4_kept.Steps.{pushed}
+use Rattle.r4_next.specs.r4_kept.View.{CoreSeen}
 use Rattle.r4_outside.specs.Device.{State}
-use Rattle.r4_script.specs.declared.job.Script.{Script}
+use Rattle.r4_turns.specs.r4_script.declared.job.Script.{Script}
 use Rattle.r4_turns.specs.Turns.{IsScript, TurnsSeen, answered_at, answered_one, commands_at, no_script, start, turn_at, with_command}
 use Rattle.r4_turns.specs.declared.turn.Turn.{Turn}
 use Rattle.r4_back.specs.NextRefused.{HasRoomForRefusal}

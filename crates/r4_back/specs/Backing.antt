@@ -3,19 +3,19 @@ use Rattle.std.specs.Prelude.{◌≡◌, ◌⊎◌, ◌+◌, ℕ, Bool, true, fa
 use Rattle.std.specs.Prelude.{Result, Ok, Err}
 use Rattle.r4_base.specs.declared.things.ScriptNo.{ScriptNo}
 use Rattle.r4_base.specs.declared.things.TxnNo.{TxnNo}
-use Rattle.r4_build.specs.declared.task.Task.{Task}
+use Rattle.r4_matching.specs.r4_build.declared.task.Task.{Task}
 use Rattle.r4_content.specs.declared.command.Command.{Command}
 use Rattle.r4_content.specs.declared.reply.Reply.{Reply}
 use Rattle.r4_content.specs.declared.reply.Reply.TheVariants.{Memory, Reopen}
-use Rattle.r4_core.specs.RefusingOut.{IsRefusedOut}
-use Rattle.r4_history.specs.Held.{IsOut}
-use Rattle.r4_history.specs.Tables.{next_at}
-use Rattle.r4_core.specs.r4_kept.Steps.{IsTakenBack, answered}
-use Rattle.r4_core.specs.r4_kept.View.{CoreSeen}
+use Rattle.r4_next.specs.r4_core.RefusingOut.{IsRefusedOut}
+use Rattle.r4_next.specs.r4_history.Held.{IsOut}
+use Rattle.r4_next.specs.r4_history.Tables.{next_at}
+use Rattle.r4_next.specs.r4_kept.Steps.{IsTakenBack, answered}
+use Rattle.r4_next.specs.r4_kept.View.{CoreSeen}
 use Rattle.r4_matching.specs.Matching.{IsMismatch, IsSameTask}
 use Rattle.r4_matching.specs.declared.matching.Mismatch.{Mismatch}
 use Rattle.r4_matching.specs.declared.matching.Mismatch.TheVariants.{Gone}
-use Rattle.r4_trace.specs.declared.entry.Entry.TheVariants.{Refused}
+use Rattle.r4_next.specs.r4_trace.declared.entry.Entry.TheVariants.{Refused}
 use Rattle.r4_turns.specs.Turns.{answered_at, turn_at}
 use Rattle.r4_turns.specs.declared.out.Out.{Out}
 use Rattle.r4_turns.specs.declared.turn.Open.{Open}

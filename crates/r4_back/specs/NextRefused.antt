@@ -4,11 +4,11 @@ use Rattle.r4_base.specs.declared.things.ScriptNo.{ScriptNo}
 use Rattle.r4_content.specs.declared.command.Command.{Command}
 use Rattle.r4_content.specs.declared.reply.Reply.{Reply}
 use Rattle.r4_content.specs.declared.reply.Reply.TheVariants.{Memory, Reopen}
-use Rattle.r4_history.specs.Tables.{Stands}
-use Rattle.r4_core.specs.r4_kept.History.{owed, owed_for_commit}
-use Rattle.r4_core.specs.r4_kept.Steps.{MayBeRefused, answered}
-use Rattle.r4_core.specs.r4_kept.View.{CoreSeen}
-use Rattle.r4_trace.specs.declared.entry.Entry.TheVariants.{Refused}
+use Rattle.r4_next.specs.r4_history.Tables.{Stands}
+use Rattle.r4_next.specs.r4_kept.History.{owed, owed_for_commit}
+use Rattle.r4_next.specs.r4_kept.Steps.{MayBeRefused, answered}
+use Rattle.r4_next.specs.r4_kept.View.{CoreSeen}
+use Rattle.r4_next.specs.r4_trace.declared.entry.Entry.TheVariants.{Refused}
 use Rattle.r4_turns.specs.Turns.{TurnsSeen, answered_at, answered_one, turn_at}
 
 -- The next command of a script is work or `commit`, and not out; no transaction of the script is

@@ -7,9 +7,8 @@ ghost use Rattle.r4_back.specs.Backing.{IsGone, IsMatched, IsThere};
 ghost use Rattle.r4_turns.specs.declared.out.Out.{Out as Given};
 
 use r4_base::ScriptNo;
-use r4_build::Task;
-use r4_core::Core;
-use r4_matching::{Mismatch, match_task};
+use r4_matching::{Mismatch, Task, match_task};
+use r4_next::Core;
 use r4_outside::{Device, Run};
 use r4_turns::Turns;
 

@@ -6,8 +6,8 @@ ghost use Rattle.std.specs.Prelude.{length};
 
 use crate::finding::is_out;
 use r4_base::ScriptNo;
-use r4_build::Task;
-use r4_core::Core;
+use r4_matching::Task;
+use r4_next::Core;
 use r4_outside::{Device, Run};
 
 /// A task is given back: its holds are dropped, and its command is again its script's next, with the

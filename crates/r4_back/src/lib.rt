@@ -10,5 +10,8 @@ mod refusing;
 pub use finding::{is_gone, is_out, matched};
 pub use giving::{give_back, recall};
 pub use next::{is_refusable, refusals_have_room, refuse_next};
-pub use r4_core::{Core, Made};
+pub use r4_matching::{BuildFault, Built, Differs, Mismatch, Task, build};
+pub use r4_next::{
+    Core, Made, OpenFault, OpenWhy, Step, Taken, Wanted, flush, pending, refuse, take,
+};
 pub use refusing::{refuse_back, refuse_memory};

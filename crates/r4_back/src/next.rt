@@ -4,13 +4,13 @@ ghost use Rattle.std.specs.Prelude.{◌≡◌, ℕ, MatchBool, Some, length};
 ghost use Rattle.r4_back.specs.NextRefused.{HasRoomForRefusal, IsRefusableNext, refused_next};
 ghost use Rattle.r4_content.specs.declared.command.Command.{Command as Asking};
 ghost use Rattle.r4_content.specs.declared.command.Command.TheVariants as asks;
-ghost use Rattle.r4_history.specs.Tables.{next_at};
-ghost use Rattle.r4_core.specs.r4_kept.Steps.{pushed};
+ghost use Rattle.r4_next.specs.r4_history.Tables.{next_at};
+ghost use Rattle.r4_next.specs.r4_kept.Steps.{pushed};
 ghost use Rattle.r4_turns.specs.Turns.{IsScript, answered_at, commands_at};
 
 use r4_base::{ScriptNo, TxnNo};
 use r4_content::{Command, Reply};
-use r4_core::Core;
+use r4_next::Core;
 use r4_outside::{Device, Run};
 
 /// Whether the next command of a script may be refused by itself, as `refuse_next` asks: it is work

@@ -3,16 +3,16 @@
 ghost use Rattle.std.specs.Prelude.{◌≡◌, None, Some, false};
 ghost use Rattle.r4_back.specs.Backing.{IsRefusedBack, IsRefusedIn, RefusesMemory};
 ghost use Rattle.r4_content.specs.declared.reply.Reply.TheVariants.{Memory};
-ghost use Rattle.r4_history.specs.Held.{IsOut};
-ghost use Rattle.r4_history.specs.Tables.{inside};
+ghost use Rattle.r4_next.specs.r4_history.Held.{IsOut};
+ghost use Rattle.r4_next.specs.r4_history.Tables.{inside};
 ghost use Rattle.r4_turns.specs.Turns.{turn_at};
 ghost use Rattle.r4_turns.specs.declared.out.Out.{Out as Given};
 
 use crate::finding::is_out;
 use r4_base::{ScriptNo, TxnNo};
-use r4_build::Task;
 use r4_content::Reply;
-use r4_core::Core;
+use r4_matching::Task;
+use r4_next::Core;
 use r4_outside::{Device, Run};
 use r4_turns::Open;
 

@@ -4,9 +4,8 @@ use crate::sending::{Running, built, sent};
 use r4_base::AtomNo;
 use r4_build::{Built, Task};
 use r4_core_testing::{
-    After, Image, Log, ONE, Taken, applied, device, next, opened_on, refuse_memory, run,
+    After, Image, Log, ONE, Taken, applied, device, flush, next, opened_on, refuse_memory, run,
 };
-use r4_seal::flush;
 use std::alloc::Global;
 use std::test::Fail;
 

@@ -11,8 +11,8 @@ use Rattle.r4_base.specs.declared.key.Key.{Key}
 use Rattle.r4_content.specs.Edited.{Edits, Pairs}
 use Rattle.r4_content.specs.Listed.{list_edited}
 use Rattle.r4_content.proofs.Ranks.{byte_after}
-use Rattle.r4_leaf_edits.proofs.KeyRanks.{key_again}
-use Rattle.r4_reach.specs.Touched.{Body, body_of, kind_reads, last_byte, size_in}
+use Rattle.r4_leaf_demands.proofs.r4_leaf_edits.KeyRanks.{key_again}
+use Rattle.r4_leaf_demands.specs.r4_reach.Touched.{Body, body_of, kind_reads, last_byte, size_in}
 
 -- the body of a key, with sizes before and after
 abbrev pub body_at : (first : Key) → (was now : ℕ) → Body

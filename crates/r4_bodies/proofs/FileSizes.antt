@@ -18,15 +18,15 @@ use Rattle.r4_content.specs.Seen.{Rises}
 use Rattle.r4_content.specs.declared.edits.Edits.{Edits as HeldEdits}
 use Rattle.r4_content.specs.declared.edits.Interval.{Interval}
 use Rattle.r4_content.proofs.EditLaws.{last_put, put_off}
-use Rattle.r4_leaf_edits.specs.Making.{bytes_of}
-use Rattle.r4_leaf_edits.specs.Suiting.{SuitLeaves, zero_pairs}
-use Rattle.r4_leaf_edits.proofs.Lookups.{edited_rises, found}
-use Rattle.r4_leaf_edits.proofs.Meant.{bytes_before}
-use Rattle.r4_leaf_edits.proofs.Puts.{in_both, last_of_both}
-use Rattle.r4_leaf_edits.proofs.Whole.{bodies_only, zeros_keys}
-use Rattle.r4_reach.specs.Reach.{is_body}
-use Rattle.r4_reach.specs.Touched.{size_in}
-use Rattle.r4_suited.proofs.Few.{stat_off}
+use Rattle.r4_leaf_demands.specs.r4_leaf_edits.Making.{bytes_of}
+use Rattle.r4_leaf_demands.specs.r4_leaf_edits.Suiting.{SuitLeaves, zero_pairs}
+use Rattle.r4_leaf_demands.proofs.r4_leaf_edits.Lookups.{edited_rises, found}
+use Rattle.r4_leaf_demands.proofs.r4_leaf_edits.Meant.{bytes_before}
+use Rattle.r4_leaf_demands.proofs.r4_leaf_edits.Puts.{in_both, last_of_both}
+use Rattle.r4_leaf_demands.proofs.r4_leaf_edits.Whole.{bodies_only, zeros_keys}
+use Rattle.r4_leaf_demands.specs.r4_reach.Reach.{is_body}
+use Rattle.r4_leaf_demands.specs.r4_reach.Touched.{size_in}
+use Rattle.r4_leaf_demands.proofs.r4_suited.Few.{stat_off}
 
 -- ---- values are put
 

@@ -14,11 +14,11 @@ use Rattle.r4_content.specs.Held.{fill_pairs, run_pairs}
 use Rattle.r4_content.specs.Objects.{byte_pairs}
 use Rattle.r4_content.specs.declared.edits.ByteRun.{ByteRun}
 use Rattle.r4_content.specs.declared.edits.FilledInterval.{FilledInterval}
-use Rattle.r4_leaf_edits.specs.Suiting.{IsBefore}
-use Rattle.r4_leaf_edits.proofs.Puts.{put_keys_append}
-use Rattle.r4_reach.specs.Reach.{is_body}
-use Rattle.r4_reach.specs.Touched.{body_key}
-use Rattle.r4_suited.proofs.Suits.{first_body}
+use Rattle.r4_leaf_demands.specs.r4_leaf_edits.Suiting.{IsBefore}
+use Rattle.r4_leaf_demands.proofs.r4_leaf_edits.Puts.{put_keys_append}
+use Rattle.r4_leaf_demands.specs.r4_reach.Reach.{is_body}
+use Rattle.r4_leaf_demands.specs.r4_reach.Touched.{body_key}
+use Rattle.r4_leaf_demands.proofs.r4_suited.Suits.{first_body}
 
 -- ---- lists of intervals
 

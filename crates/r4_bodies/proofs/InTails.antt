@@ -13,11 +13,11 @@ use Rattle.r4_base.specs.Value.{Value}
 use Rattle.r4_base.specs.Volume.{byte_rank, object_of, stat_rank}
 use Rattle.r4_content.specs.Edited.{Edits, Intervals, Pairs, changed, is_between, is_in}
 use Rattle.r4_content.proofs.EditLaws.{one_key}
-use Rattle.r4_reach.proofs.FirstKeys.{first_is}
-use Rattle.r4_reach.specs.Reach.{is_body}
-use Rattle.r4_reach.specs.Leaves.{LieInLeaves}
-use Rattle.r4_reach.specs.Touched.{Body, IsKindIn, body_key, body_of, grows, has_unit, kind_reads, last_byte, shown_at}
-use Rattle.r4_reach.specs.Touched.{size_in}
+use Rattle.r4_leaf_demands.proofs.r4_reach.FirstKeys.{first_is}
+use Rattle.r4_leaf_demands.specs.r4_reach.Reach.{is_body}
+use Rattle.r4_leaf_demands.specs.r4_reach.Leaves.{LieInLeaves}
+use Rattle.r4_leaf_demands.specs.r4_reach.Touched.{Body, IsKindIn, body_key, body_of, grows, has_unit, kind_reads, last_byte, shown_at}
+use Rattle.r4_leaf_demands.specs.r4_reach.Touched.{size_in}
 use Rattle.r4_bodies.specs.Told.{AreOfTree}
 
 -- ---- keys of a tree

@@ -6,10 +6,10 @@ use Rattle.r4_content.specs.Edited.{Edits, Pairs}
 use Rattle.r4_content.specs.Fields.{HasBytePaths}
 use Rattle.r4_content.specs.Seen.{Rises}
 use Rattle.r4_content.specs.declared.command.Command.{Command}
-use Rattle.r4_leaf_edits.specs.Suiting.{IsBefore, SuitLeaves}
-use Rattle.r4_reach.specs.Touched.{body_on, edits_on}
-use Rattle.r4_suited.specs.Suited.{AreLawfulSeen, end_of_bytes}
-use Rattle.r4_suited.proofs.Suits.{command_suits, end_most}
+use Rattle.r4_leaf_demands.specs.r4_leaf_edits.Suiting.{IsBefore, SuitLeaves}
+use Rattle.r4_leaf_demands.specs.r4_reach.Touched.{body_on, edits_on}
+use Rattle.r4_leaf_demands.specs.r4_suited.Suited.{AreLawfulSeen, end_of_bytes}
+use Rattle.r4_leaf_demands.proofs.r4_suited.Suits.{command_suits, end_most}
 
 before_later : (end last : ℕ) (ps : Pairs) → end ≤ last → All (IsBefore end) ps → All (IsBefore last) ps
 before_later end last [] le all = All-nil (IsBefore last)

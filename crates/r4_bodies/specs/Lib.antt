@@ -1,1 +1,5 @@
 pub mod Told
+-- what crates above name by way of this one
+pub use Rattle.r4_leaf_demands.specs as r4_leaf_demands
+pub use Rattle.r4_leaf_demands.specs.r4_marking
+pub use Rattle.r4_leaf_demands.specs.r4_suited

@@ -5,8 +5,8 @@ ghost use Rattle.std.specs.Option.{option_map};
 ghost use Rattle.r4_content.specs.Edited.{changed};
 ghost use Rattle.r4_content.specs.Held.{edits_of, pairs_of};
 ghost use Rattle.r4_content.specs.Seen.{Rises};
-ghost use Rattle.r4_leaf_edits.specs.Suiting.{SuitLeaves};
-ghost use Rattle.r4_reach.specs.Touched.{body_key, body_of, is_spread, kind_reads};
+ghost use Rattle.r4_leaf_demands.specs.r4_leaf_edits.Suiting.{SuitLeaves};
+ghost use Rattle.r4_leaf_demands.specs.r4_reach.Touched.{body_key, body_of, is_spread, kind_reads};
 ghost use Rattle.r4_bodies.specs.Told.{intervals_of};
 
 use crate::finding::first_key;
@@ -31,7 +31,7 @@ impl Model for BodyChange {
     ghost use Rattle.std.specs.Prelude.{false};
     ghost use Rattle.r4_base.specs.Key.{rank};
     ghost use Rattle.r4_base.specs.Volume.{object_of};
-    ghost use Rattle.r4_reach.specs.Touched.{Body};
+    ghost use Rattle.r4_leaf_demands.specs.r4_reach.Touched.{Body};
 
     ghost Value = { Body };
 

@@ -6,8 +6,8 @@ ghost use Rattle.std.specs.Option.{option_map};
 ghost use Rattle.r4_base.specs.Key.{rank};
 ghost use Rattle.r4_content.specs.Edited.{changed, put_keys};
 ghost use Rattle.r4_content.specs.Held.{edits_of, fill_pairs, interval_of, pair_of, run_pairs};
-ghost use Rattle.r4_leaf_edits.specs.Suiting.{IsBefore, SuitLeaves};
-ghost use Rattle.r4_reach.specs.Touched.{body_key};
+ghost use Rattle.r4_leaf_demands.specs.r4_leaf_edits.Suiting.{IsBefore, SuitLeaves};
+ghost use Rattle.r4_leaf_demands.specs.r4_reach.Touched.{body_key};
 
 use crate::keys::is_of_body;
 use r4_base::{Key, Value};

@@ -3,7 +3,7 @@
 ghost use Rattle.std.specs.Prelude.{◌≡◌, false};
 ghost use Rattle.r4_base.specs.Key.{IsKey, rank};
 ghost use Rattle.r4_base.specs.Volume.{byte_rank, object_of, stat_rank};
-ghost use Rattle.r4_reach.specs.Reach.{is_body};
+ghost use Rattle.r4_leaf_demands.specs.r4_reach.Reach.{is_body};
 
 use r4_base::{Key, Oid};
 

@@ -5,9 +5,9 @@ ghost use Rattle.r4_content.specs.Edited.{Pairs};
 ghost use Rattle.r4_content.specs.Fields.{HasBytePaths};
 ghost use Rattle.r4_content.specs.Seen.{Rises};
 ghost use Rattle.r4_content.specs.declared.command.Command.{Command};
-ghost use Rattle.r4_leaf_edits.specs.Suiting.{SuitLeaves};
-ghost use Rattle.r4_reach.specs.Touched.{edits_on};
-ghost use Rattle.r4_suited.specs.Suited.{AreLawfulSeen};
+ghost use Rattle.r4_leaf_demands.specs.r4_leaf_edits.Suiting.{SuitLeaves};
+ghost use Rattle.r4_leaf_demands.specs.r4_reach.Touched.{edits_on};
+ghost use Rattle.r4_leaf_demands.specs.r4_suited.Suited.{AreLawfulSeen};
 
 /// The bytes that a command sets, whose paths are of bytes, are bytes of bodies, where what was seen is lawful: so its
 /// body may be asked for, also where that stands in extents afterwards (docs/volume.md, "Reach").

@@ -10,9 +10,9 @@ ghost use Rattle.r4_content.specs.Edited.{Pairs, is_between};
 ghost use Rattle.r4_content.specs.Held.{edits_of, pair_of, pairs_of};
 ghost use Rattle.r4_content.specs.Listed.{list_edited, list_put};
 ghost use Rattle.r4_content.specs.Seen.{Rises};
-ghost use Rattle.r4_leaf_edits.specs.Suiting.{SuitLeaves};
-ghost use Rattle.r4_reach.specs.Reach.{is_body};
-ghost use Rattle.r4_reach.specs.Touched.{size_in};
+ghost use Rattle.r4_leaf_demands.specs.r4_leaf_edits.Suiting.{SuitLeaves};
+ghost use Rattle.r4_leaf_demands.specs.r4_reach.Reach.{is_body};
+ghost use Rattle.r4_leaf_demands.specs.r4_reach.Touched.{size_in};
 
 use r4_base::{Key, Value};
 use r4_content::{Edits, Interval, Seen};

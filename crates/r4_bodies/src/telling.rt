@@ -10,9 +10,9 @@ ghost use Rattle.r4_content.specs.Meaning.{course, greatest_size};
 ghost use Rattle.r4_content.specs.Seen.{Rises, of_seen};
 ghost use Rattle.r4_content.specs.declared.command.Command.{Command};
 ghost use Rattle.r4_leaf_demands.specs.Leaves.{IsInLeaves};
-ghost use Rattle.r4_leaf_edits.specs.Suiting.{SuitLeaves};
-ghost use Rattle.r4_reach.specs.Leaves.{LieInLeaves};
-ghost use Rattle.r4_reach.specs.Touched.{IsKindIn, body_on, changes_on, edits_on, reads_on};
+ghost use Rattle.r4_leaf_demands.specs.r4_leaf_edits.Suiting.{SuitLeaves};
+ghost use Rattle.r4_leaf_demands.specs.r4_reach.Leaves.{LieInLeaves};
+ghost use Rattle.r4_leaf_demands.specs.r4_reach.Touched.{IsKindIn, body_on, changes_on, edits_on, reads_on};
 ghost use Rattle.r4_bodies.specs.Told.{AreOfTree, intervals_of};
 
 use crate::body_change::body_changed;

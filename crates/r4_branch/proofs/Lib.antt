@@ -13,3 +13,5 @@ pub mod Putting
 pub mod Packed
 pub mod Counted
 pub mod ItemPieces
+-- what crates above name by way of this one
+pub use Rattle.r4_twig.proofs as r4_twig

@@ -8,7 +8,7 @@ use Rattle.std.proofs.lemmas.Bool.{and_parts, eqb-true}
 use Rattle.std.proofs.lemmas.List.Folds.{list_any_at}
 use Rattle.std.proofs.lemmas.Map.Made.{Contains-from_values_of, Contains-values_of}
 use Rattle.std.proofs.lemmas.Map.Views.{Contains-from_lookup, lookup-from_Contains}
-use Rattle.r4_cell.specs.Seen.{CellSeen}
+use Rattle.r4_search.specs.r4_cell.Seen.{CellSeen}
 use Rattle.r4_buffer.specs.Seen.{BufferSeen, EntrySeen, IsAncestor, IsCaptured, IsLawful, buffered, is_above, is_above_dirty, is_captured, is_captured_by}
 
 found : (p : EntrySeen → Bool) (vs : List EntrySeen) → list_any p vs ≡ true → (v : EntrySeen) × Contains vs v × (p v ≡ true)

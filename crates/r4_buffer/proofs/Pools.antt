@@ -13,8 +13,8 @@ use Rattle.r4_base.specs.declared.items.CellFault.{CellFault}
 use Rattle.r4_base.specs.declared.things.BlockNo.{BlockNo}
 use Rattle.r4_outside.specs.Device.{State, TellsReads, Goes as DeviceGoes}
 use Rattle.r4_outside.proofs.Moments.{goes_same as device_same}
-use Rattle.r4_cell.specs.Seen.{CellSeen, node_of}
-use Rattle.r4_cell.proofs.NamesBelow.{names_below}
+use Rattle.r4_search.specs.r4_cell.Seen.{CellSeen, node_of}
+use Rattle.r4_search.proofs.r4_cell.NamesBelow.{names_below}
 use Rattle.r4_search.specs.Pool.{FaultIs, Fetches, IsAnswer, IsFrom, IsKeptOrRead, IsKnown, IsNamed, IsOf, KnowsNames, StandsInMemory, place_fault}
 use Rattle.r4_search.specs.OnDevice.{block_there, device_state}
 use Rattle.r4_search.specs.declared.pool.FetchFault.{FetchFault}

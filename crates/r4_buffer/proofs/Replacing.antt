@@ -2,7 +2,7 @@
 use Rattle.std.proofs.Common.{◌≡◌, ℕ, Bool, true, false, cond, List, [], ◌∷◌, refl, ap, ◌∙◌}
 use Rattle.std.specs.Prelude.{Option, Some, None, ◌==◌, ◌||◌}
 use Rattle.std.specs.Option.{option_map}
-use Rattle.r4_cell.specs.Seen.{CellSeen}
+use Rattle.r4_search.specs.r4_cell.Seen.{CellSeen}
 use Rattle.r4_buffer.specs.Seen.{EntrySeen}
 use Rattle.r4_buffer.specs.Changed.{has_name, if_dirty, in_turn, laid_aside, not_dirty, placed, replaced, taken, uses_of}
 

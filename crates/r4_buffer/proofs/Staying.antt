@@ -3,7 +3,7 @@ use Rattle.std.proofs.Common.{◌≡◌, ◌≢◌, ℕ, suc, Bool, true, false,
 use Rattle.std.specs.Prelude.{Contains, Option, Some, None, ◌==◌}
 use Rattle.std.proofs.lemmas.Bool.{eqb-true}
 use Rattle.r4_base.specs.declared.things.NodeId.{NodeId}
-use Rattle.r4_cell.specs.Seen.{CellSeen}
+use Rattle.r4_search.specs.r4_cell.Seen.{CellSeen}
 use Rattle.r4_buffer.specs.Seen.{BufferSeen, EntrySeen, StandsAs, Stays, buffered, is_above_dirty, is_idle}
 use Rattle.r4_buffer.specs.Changed.{cleaned, forgotten, in_turn, renamed, renamed_by, swept, unused, used, used_entry}
 

@@ -3,7 +3,7 @@ use Rattle.std.specs.Prelude.{ℕ, ◌+◌, ◌-◌, ◌==◌, min, List, [], �
 use Rattle.std.specs.List.{list_any}
 use Rattle.std.specs.Option.{option_map}
 use Rattle.r4_base.specs.declared.things.NodeId.{NodeId}
-use Rattle.r4_cell.specs.Seen.{CellSeen}
+use Rattle.r4_search.specs.r4_cell.Seen.{CellSeen}
 use Rattle.r4_buffer.specs.Seen.{BufferSeen, EntrySeen, buffered, is_captured_by, is_idle, is_loose}
 
 -- what stands under a name, and what a step leaves there

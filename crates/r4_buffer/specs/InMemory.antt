@@ -3,7 +3,7 @@ use Rattle.std.specs.Prelude.{◌≡◌, true, false, Some, None}
 use Rattle.std.specs.Arc.{arc_value}
 use Rattle.r4_base.specs.Tree.{Name}
 use Rattle.r4_search.specs.Pool.{place_fault}
-use Rattle.r4_cell.specs.Seen.{CellSeen}
+use Rattle.r4_search.specs.r4_cell.Seen.{CellSeen}
 use Rattle.r4_buffer.specs.Seen.{BufferSeen, cell_at, is_captured}
 use Rattle.r4_buffer.specs.declared.reading.InMemory.{InMemory}
 use Rattle.r4_buffer.specs.declared.reading.InMemory.TheVariants.{Absent, Fits, Refused}

@@ -5,7 +5,7 @@ use Rattle.r4_base.specs.Image.{block_at}
 use Rattle.r4_base.specs.Key.{rank}
 use Rattle.r4_base.specs.Tree.{Name}
 use Rattle.r4_outside.specs.Device.{State, TellsReads}
-use Rattle.r4_cell.specs.Seen.{CellSeen, node_of}
+use Rattle.r4_search.specs.r4_cell.Seen.{CellSeen, node_of}
 use Rattle.r4_search.specs.OnDevice.{Places}
 use Rattle.r4_buffer.specs.Seen.{BufferSeen, EntrySeen, buffered, cell_at, is_captured}
 

@@ -7,7 +7,7 @@ use Rattle.std.specs.List.{list_any, IsDistinct}
 use Rattle.std.specs.Map.{keys_of, values_of, lookup}
 use Rattle.std.specs.Option.{option_map}
 use Rattle.r4_base.specs.Key.{rank}
-use Rattle.r4_cell.specs.Seen.{CellSeen}
+use Rattle.r4_search.specs.r4_cell.Seen.{CellSeen}
 
 -- a cell, how many tasks that are out use it, and whether an atom owns it
 pub record EntrySeen : Type 0 where

@@ -8,7 +8,7 @@ ghost use Rattle.r4_buffer.specs.Changed.{uses_of};
 
 use crate::entry::Entry;
 use r4_base::{Memory, NodeId};
-use r4_cell::Cell;
+use r4_search::Cell;
 use std::alloc::Global;
 use std::collections::HashMap;
 use std::marker::Model;

@@ -9,7 +9,7 @@ ghost use Rattle.r4_buffer.specs.Changed.{cleaned, dropped, forgotten, in_turn, 
 use crate::buffer::Buffer;
 use crate::entry::Entry;
 use r4_base::{BlockNo, NodeId};
-use r4_cell::Cell;
+use r4_search::Cell;
 use std::sync::Arc;
 
 impl Buffer {

@@ -4,7 +4,7 @@ ghost use Rattle.std.specs.Prelude.{◌≡◌};
 ghost use Rattle.std.specs.Arc.{arc_value};
 ghost use Rattle.r4_buffer.specs.Seen.{EntrySeen, is_idle};
 
-use r4_cell::Cell;
+use r4_search::Cell;
 use std::marker::Model;
 use std::sync::Arc;
 

@@ -2,7 +2,7 @@
 
 ghost use Rattle.std.specs.Prelude.{◌≡◌, ◌≢◌, ◌↔◌, ℕ, List, Contains, Some, true};
 ghost use Rattle.r4_base.specs.declared.things.NodeId.{NodeId};
-ghost use Rattle.r4_cell.specs.Seen.{CellSeen};
+ghost use Rattle.r4_search.specs.r4_cell.Seen.{CellSeen};
 ghost use Rattle.r4_buffer.specs.Seen.{BufferSeen, EntrySeen, IsCaptured, IsLawful, Stays, StandsAs, buffered, is_above_dirty, is_captured};
 ghost use Rattle.r4_buffer.specs.Changed.{cleaned, forgotten, in_turn, renamed, swept, unused, used};
 

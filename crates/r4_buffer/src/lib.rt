@@ -11,5 +11,5 @@ mod sweeping;
 pub use buffer::Buffer;
 pub use laws::{ancestors_law, captured_law};
 pub use r4_base::{BlockNo, NodeId};
-pub use r4_cell::Cell;
+pub use r4_search::Cell;
 pub use reading::Reading;

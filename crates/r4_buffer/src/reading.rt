@@ -8,9 +8,8 @@ ghost use Rattle.r4_buffer.specs.InMemory.{IsInMemory};
 
 use crate::buffer::Buffer;
 use r4_base::{Block, BlockNo, CellFault, Key, Memory, NodeId};
-use r4_cell::{Cell, Root};
 use r4_outside::Device;
-use r4_search::{FetchFault, Pool, cell_from, fault_of_place};
+use r4_search::{Cell, FetchFault, Pool, Root, cell_from, fault_of_place};
 use std::alloc::Global;
 use std::sync::Arc;
 

@@ -10,7 +10,7 @@ ghost use Rattle.r4_buffer.specs.Changed.{dropped, in_turn, swept};
 use crate::buffer::Buffer;
 use crate::entry::Entry;
 use r4_base::{Memory, NodeId};
-use r4_cell::Cell;
+use r4_search::Cell;
 use std::alloc::Global;
 
 impl Buffer {

@@ -8,7 +8,7 @@ use Rattle.std.specs.Arc.{arc_value}
 use Rattle.r4_base.specs.Tree.{Root, Store}
 use Rattle.r4_base.specs.Value.{Content, Value, at_key}
 use Rattle.r4_base.specs.Volume.{HasUnits}
-use Rattle.r4_cell.specs.Patch.{Patch, place}
+use Rattle.r4_measure.specs.r4_cell.Patch.{Patch, place}
 use Rattle.r4_content.specs.Counts.{born, gone, is_okay, stats_in}
 use Rattle.r4_content.specs.Course.{Ending}
 use Rattle.r4_content.specs.Edited.{Edits, changed, edited, is_in}
@@ -18,10 +18,10 @@ use Rattle.r4_content.specs.Meaning.{after, greatest_size, makes_object, reply}
 use Rattle.r4_content.specs.Seen.{IsSeen}
 use Rattle.r4_content.proofs.EditLaws.{edited_off}
 use Rattle.r4_content.proofs.SeenLaws.{seen}
-use Rattle.r4_patch.specs.Effect.{HasEffect, in_leaf}
-use Rattle.r4_patch.specs.Joining.{patch_of_change}
-use Rattle.r4_patch.specs.Part.{IsPart, MeetsPart}
-use Rattle.r4_patch.proofs.Effects.{content_after}
+use Rattle.r4_measure.specs.r4_patch.Effect.{HasEffect, in_leaf}
+use Rattle.r4_measure.specs.r4_patch.Joining.{patch_of_change}
+use Rattle.r4_measure.specs.r4_patch.Part.{IsPart, MeetsPart}
+use Rattle.r4_measure.proofs.r4_patch.Effects.{content_after}
 use Rattle.r4_build.specs.Building.{set_by}
 use Rattle.r4_build.specs.Built.{BuiltSeen, IsBuilt, edits_for}
 use Rattle.r4_build.proofs.LeafKeys.{listed_on}

@@ -4,12 +4,12 @@ use Rattle.std.specs.Prelude.{Contains, None, Some}
 use Rattle.std.proofs.lemmas.Option.{none-some}
 use Rattle.r4_base.specs.Tree.{Node, Root, Store}
 use Rattle.r4_base.specs.Value.{Value}
-use Rattle.r4_cell.specs.Patch.{Patch}
-use Rattle.r4_cell.specs.Seen.{CellSeen, node_of}
-use Rattle.r4_patch.specs.Joining.{patch_of_change}
-use Rattle.r4_patch.specs.Part.{MeetsPart}
-use Rattle.r4_patch.proofs.Members.{distinct, found, there}
-use Rattle.r4_path.specs.Steps.{IsFree}
+use Rattle.r4_measure.specs.r4_cell.Patch.{Patch}
+use Rattle.r4_measure.specs.r4_cell.Seen.{CellSeen, node_of}
+use Rattle.r4_measure.specs.r4_patch.Joining.{patch_of_change}
+use Rattle.r4_measure.specs.r4_patch.Part.{MeetsPart}
+use Rattle.r4_measure.proofs.r4_patch.Members.{distinct, found, there}
+use Rattle.r4_measure.specs.r4_path.Steps.{IsFree}
 use Rattle.r4_measure.proofs.Loop.{of_id}
 use Rattle.r4_build.specs.Built.{BuiltSeen, HasOldRoot, IsBuilt}
 

@@ -12,16 +12,16 @@ use Rattle.r4_base.specs.Value.{Stat, Value}
 use Rattle.r4_base.specs.Volume.{root_attr}
 use Rattle.r4_base.specs.declared.items.Attr.{Attr}
 use Rattle.r4_base.proofs.FreshTree.{fresh_leaf, least_below, only}
-use Rattle.r4_cell.specs.Patch.{HaveNames, by_name}
-use Rattle.r4_cell.specs.Seen.{CellSeen, node_of}
+use Rattle.r4_measure.specs.r4_cell.Patch.{HaveNames, by_name}
+use Rattle.r4_measure.specs.r4_cell.Seen.{CellSeen, node_of}
 use Rattle.r4_content.specs.Edited.{changed, is_in}
-use Rattle.r4_leaf.specs.Units.{bytes_behind, leaf_bytes, unit_bytes}
+use Rattle.r4_measure.specs.r4_leaf.Units.{bytes_behind, leaf_bytes, unit_bytes}
 use Rattle.r4_leaf_edits.specs.Suiting.{IsBefore, IsLawfulPut, SuitLeaves}
-use Rattle.r4_patch.proofs.Members.{cases, have_names, here, later, none}
-use Rattle.r4_reach.specs.Needs.{units_after}
-use Rattle.r4_reach.specs.Reach.{is_body}
-use Rattle.r4_work.proofs.Remade.{or_true}
-use Rattle.r4_work.proofs.UnitMembers.{between}
+use Rattle.r4_measure.proofs.r4_patch.Members.{cases, have_names, here, later, none}
+use Rattle.r4_measure.specs.r4_reach.Needs.{units_after}
+use Rattle.r4_measure.specs.r4_reach.Reach.{is_body}
+use Rattle.r4_measure.proofs.r4_work.Remade.{or_true}
+use Rattle.r4_measure.proofs.r4_work.UnitMembers.{between}
 use Rattle.r4_measure.specs.Examples.{fresh_cells, fresh_root, set_root, some_numbers}
 use Rattle.r4_measure.proofs.FreshReach.{fresh_reached, highest, leaf_cell, leaf_is, lowest, twig_cell}
 use Rattle.r4_build.specs.Building.{CanBuild, LiesInLeaf}

@@ -14,16 +14,16 @@ use Rattle.r4_content.specs.Listed.{list_edited}
 use Rattle.r4_content.specs.Seen.{Rises}
 use Rattle.r4_content.proofs.EditLaws.{edited_off, edited_on}
 use Rattle.r4_content.proofs.SeenLaws.{at_content, content_of, edited_list}
-use Rattle.r4_leaf.specs.Remade.{AreWithin, cut_all, put_all}
-use Rattle.r4_leaf.specs.Units.{LeafUnit}
-use Rattle.r4_leaf.specs.declared.remaking.Given.{Given}
-use Rattle.r4_leaf.specs.declared.remaking.KeyRange.{KeyRange}
+use Rattle.r4_measure.specs.r4_leaf.Remade.{AreWithin, cut_all, put_all}
+use Rattle.r4_measure.specs.r4_leaf.Units.{LeafUnit}
+use Rattle.r4_measure.specs.r4_leaf.declared.remaking.Given.{Given}
+use Rattle.r4_measure.specs.r4_leaf.declared.remaking.KeyRange.{KeyRange}
 use Rattle.r4_leaf_edits.specs.Made.{AreOfLeaf, MakesEdits}
 use Rattle.r4_leaf_edits.proofs.Lookups.{edited_rises, kept_found, kept_rises}
-use Rattle.r4_patch.proofs.Members.{here, none}
-use Rattle.r4_work.specs.Remaking.{CutsWithin, HaveKeys, cut_keys, item_value, remade_keys}
-use Rattle.r4_work.proofs.Halving.{true_or_false}
-use Rattle.r4_work.proofs.Remade.{InItems, cuts_in, from_cuts, from_items, items_in, items_value, or_true, some_of, to_cuts, to_items, value_in_items}
+use Rattle.r4_measure.proofs.r4_patch.Members.{here, none}
+use Rattle.r4_measure.specs.r4_work.Remaking.{CutsWithin, HaveKeys, cut_keys, item_value, remade_keys}
+use Rattle.r4_measure.proofs.r4_work.Halving.{true_or_false}
+use Rattle.r4_measure.proofs.r4_work.Remade.{InItems, cuts_in, from_cuts, from_items, items_in, items_value, or_true, some_of, to_cuts, to_items, value_in_items}
 use Rattle.r4_build.proofs.Pairs.{found_in, rising_found}
 
 -- ---- of pairs, what edits make of them

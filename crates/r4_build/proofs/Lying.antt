@@ -4,13 +4,13 @@ use Rattle.std.specs.Prelude.{Option, Some}
 use Rattle.r4_base.specs.Tree.{Node, Root, Store}
 use Rattle.r4_base.specs.Value.{Value}
 use Rattle.r4_base.proofs.Trees.{one_cell}
-use Rattle.r4_cell.specs.Seen.{CellSeen, node_of}
-use Rattle.r4_cell.specs.declared.change.Fresh.{Fresh}
+use Rattle.r4_measure.specs.r4_cell.Seen.{CellSeen, node_of}
+use Rattle.r4_measure.specs.r4_cell.declared.change.Fresh.{Fresh}
 use Rattle.r4_content.specs.Edited.{Edits, Intervals, changed, is_in}
-use Rattle.r4_path.proofs.Rising.{in_cell, level_is}
-use Rattle.r4_reach.specs.Needs.{demand_of}
-use Rattle.r4_reach.specs.Reach.{HasTouched}
-use Rattle.r4_reach.specs.Touched.{Body}
+use Rattle.r4_measure.proofs.r4_path.Rising.{in_cell, level_is}
+use Rattle.r4_measure.specs.r4_reach.Needs.{demand_of}
+use Rattle.r4_measure.specs.r4_reach.Reach.{HasTouched}
+use Rattle.r4_measure.specs.r4_reach.Touched.{Body}
 use Rattle.r4_measure.specs.Begin.{IsReachedFor}
 use Rattle.r4_build.specs.Building.{HaveLawfulKeys, LiesInLeaf, SparesExtents}
 use Rattle.r4_build.proofs.MetKeys.{key_met}

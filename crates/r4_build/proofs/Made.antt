@@ -11,33 +11,33 @@ use Rattle.r4_base.specs.Key.{rank}
 use Rattle.r4_base.specs.Tree.{Root, Store}
 use Rattle.r4_base.specs.Value.{Value}
 use Rattle.r4_base.specs.declared.key.Key.{Key}
-use Rattle.r4_cell.specs.Seen.{CellSeen, node_of}
-use Rattle.r4_cell.specs.declared.change.Fresh.{Fresh}
+use Rattle.r4_measure.specs.r4_cell.Seen.{CellSeen, node_of}
+use Rattle.r4_measure.specs.r4_cell.declared.change.Fresh.{Fresh}
 use Rattle.r4_content.specs.Held.{edits_of}
 use Rattle.r4_content.specs.declared.edits.Edits.{Edits as HeldEdits}
 use Rattle.r4_content.specs.Edited.{Edits, changed, is_between, is_in}
-use Rattle.r4_leaf.specs.Leaves.{MayStand}
-use Rattle.r4_leaf.specs.Remade.{AreWithin}
-use Rattle.r4_leaf.specs.Units.{LeafUnit}
-use Rattle.r4_leaf.specs.declared.remaking.Given.{Given}
-use Rattle.r4_leaf.specs.declared.remaking.KeyRange.{KeyRange}
-use Rattle.r4_leaf.proofs.Rising.{Rise, rise_order}
+use Rattle.r4_measure.specs.r4_leaf.Leaves.{MayStand}
+use Rattle.r4_measure.specs.r4_leaf.Remade.{AreWithin}
+use Rattle.r4_measure.specs.r4_leaf.Units.{LeafUnit}
+use Rattle.r4_measure.specs.r4_leaf.declared.remaking.Given.{Given}
+use Rattle.r4_measure.specs.r4_leaf.declared.remaking.KeyRange.{KeyRange}
+use Rattle.r4_measure.proofs.r4_leaf.Rising.{Rise, rise_order}
 use Rattle.r4_leaf_edits.specs.Made.{AreItems, AreOfLeaf, CutsWithin as Within, HaveKeys as Have, MakesEdits, cuts_in as made_cuts, spread_keys}
 use Rattle.r4_leaf_edits.specs.declared.leaf_edits.LeafEdits.{LeafEdits}
-use Rattle.r4_patch.specs.Effect.{HasEffect, in_leaf}
-use Rattle.r4_patch.specs.Joining.{patch_of_change}
-use Rattle.r4_patch.proofs.Members.{cases, none}
-use Rattle.r4_reach.specs.Needs.{is_met, leaf_edits}
-use Rattle.r4_reach.specs.Touched.{Body}
-use Rattle.r4_edit.proofs.HalvedLeaf.{lent_stands}
-use Rattle.r4_edit.proofs.PartedLeaf.{units_rise}
-use Rattle.r4_work.specs.Remaking.{Changes, CutsWithin, HaveKeys, IsRemakable, remade_keys, remade_values}
-use Rattle.r4_work.specs.Order.{HasKey}
-use Rattle.r4_work.specs.Working.{HasNoEffect, IsStart, IsWorking, standing}
-use Rattle.r4_work.specs.declared.working.WorkingSet.{WorkingSet}
-use Rattle.r4_work.proofs.Halving.{true_or_false}
-use Rattle.r4_work.proofs.Remade.{or_true}
-use Rattle.r4_work.proofs.UnitMembers.{between}
+use Rattle.r4_measure.specs.r4_patch.Effect.{HasEffect, in_leaf}
+use Rattle.r4_measure.specs.r4_patch.Joining.{patch_of_change}
+use Rattle.r4_measure.proofs.r4_patch.Members.{cases, none}
+use Rattle.r4_measure.specs.r4_reach.Needs.{is_met, leaf_edits}
+use Rattle.r4_measure.specs.r4_reach.Touched.{Body}
+use Rattle.r4_measure.proofs.r4_edit.HalvedLeaf.{lent_stands}
+use Rattle.r4_measure.proofs.r4_edit.PartedLeaf.{units_rise}
+use Rattle.r4_measure.specs.r4_work.Remaking.{Changes, CutsWithin, HaveKeys, IsRemakable, remade_keys, remade_values}
+use Rattle.r4_measure.specs.r4_work.Order.{HasKey}
+use Rattle.r4_measure.specs.r4_work.Working.{HasNoEffect, IsStart, IsWorking, standing}
+use Rattle.r4_measure.specs.r4_work.declared.working.WorkingSet.{WorkingSet}
+use Rattle.r4_measure.proofs.r4_work.Halving.{true_or_false}
+use Rattle.r4_measure.proofs.r4_work.Remade.{or_true}
+use Rattle.r4_measure.proofs.r4_work.UnitMembers.{between}
 use Rattle.r4_measure.specs.Loop.{IsDone, LeafTurn}
 use Rattle.r4_build.specs.Building.{LiesInLeaf, set_by}
 use Rattle.r4_build.specs.Making.{AreMadeIn, AreTurnsOf, CanMake, IsMadeIn, IsOf, IsTurnOf, StaysOf, changed_among, changed_in}

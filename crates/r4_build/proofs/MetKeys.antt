@@ -4,8 +4,8 @@ use Rattle.std.specs.Prelude.{◌||◌, nat_lt}
 use Rattle.std.proofs.lemmas.Grind.{common_steps}
 use Rattle.r4_content.specs.Bodies.{larger, smaller}
 use Rattle.r4_content.specs.Edited.{Intervals, is_between, is_in}
-use Rattle.r4_reach.specs.Needs.{is_met, meets}
-use Rattle.r4_work.proofs.Remade.{or_true}
+use Rattle.r4_measure.specs.r4_reach.Needs.{is_met, meets}
+use Rattle.r4_measure.proofs.r4_work.Remade.{or_true}
 
 first_in : (lo hi a b : ℕ) → nat_lt (larger lo a) (smaller hi b) ≡ true → is_between a b (larger lo a) ≡ true
 first_in lo hi a b h = grind (arith, common_steps, h)

@@ -8,19 +8,19 @@ use Rattle.r4_base.specs.Key.{rank}
 use Rattle.r4_base.specs.Tree.{Root, Store}
 use Rattle.r4_base.specs.Value.{Value}
 use Rattle.r4_base.specs.declared.key.Key.{Key}
-use Rattle.r4_cell.specs.Seen.{CellSeen}
-use Rattle.r4_cell.specs.declared.change.Fresh.{Fresh}
-use Rattle.r4_leaf.specs.declared.remaking.Given.{Given}
-use Rattle.r4_leaf.specs.declared.remaking.KeyRange.{KeyRange}
-use Rattle.r4_patch.specs.Following.{is_among, without}
-use Rattle.r4_patch.specs.Joining.{ids_of}
-use Rattle.r4_patch.proofs.Followed.{among_cell, among_or_not, cell_among, in_without, to_without}
-use Rattle.r4_path.specs.Steps.{Step, fresh_ids, olds}
-use Rattle.r4_path.proofs.Rising.{count_within, id_member}
-use Rattle.r4_work.specs.Remaking.{IsRemade}
-use Rattle.r4_work.specs.Working.{standing}
-use Rattle.r4_work.specs.declared.working.WorkingSet.{WorkingSet}
-use Rattle.r4_edit.specs.Remaking.{after_edits}
+use Rattle.r4_measure.specs.r4_cell.Seen.{CellSeen}
+use Rattle.r4_measure.specs.r4_cell.declared.change.Fresh.{Fresh}
+use Rattle.r4_measure.specs.r4_leaf.declared.remaking.Given.{Given}
+use Rattle.r4_measure.specs.r4_leaf.declared.remaking.KeyRange.{KeyRange}
+use Rattle.r4_measure.specs.r4_patch.Following.{is_among, without}
+use Rattle.r4_measure.specs.r4_patch.Joining.{ids_of}
+use Rattle.r4_measure.proofs.r4_patch.Followed.{among_cell, among_or_not, cell_among, in_without, to_without}
+use Rattle.r4_measure.specs.r4_path.Steps.{Step, fresh_ids, olds}
+use Rattle.r4_measure.proofs.r4_path.Rising.{count_within, id_member}
+use Rattle.r4_measure.specs.r4_work.Remaking.{IsRemade}
+use Rattle.r4_measure.specs.r4_work.Working.{standing}
+use Rattle.r4_measure.specs.r4_work.declared.working.WorkingSet.{WorkingSet}
+use Rattle.r4_measure.specs.r4_edit.Remaking.{after_edits}
 use Rattle.r4_measure.proofs.Loop.{from_new, of_id}
 use Rattle.r4_measure.proofs.OldCells.{old_stands}
 use Rattle.r4_build.specs.Making.{IsOf, StaysOf}

@@ -11,8 +11,8 @@ use Rattle.r4_base.specs.Value.{Value}
 use Rattle.r4_content.specs.Edited.{Pairs}
 use Rattle.r4_content.specs.Seen.{Rises}
 use Rattle.r4_content.proofs.Counting.{both_hold, first_holds, none_below, second_holds}
-use Rattle.r4_leaf.proofs.Rising.{Rise}
-use Rattle.r4_patch.proofs.Members.{cases, here, later, none}
+use Rattle.r4_measure.proofs.r4_leaf.Rising.{Rise}
+use Rattle.r4_measure.proofs.r4_patch.Members.{cases, here, later, none}
 
 pub found_in : (k : ℕ) (s : Pairs) (v : Value) → find nat_cmp k s ≡ Some v → Contains s (k, v)
 found_in k [] v h = absurd cc

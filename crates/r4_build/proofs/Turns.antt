@@ -7,23 +7,23 @@ use Rattle.std.proofs.lemmas.Option.{none-some}
 use Rattle.r4_base.specs.Key.{rank}
 use Rattle.r4_base.specs.Tree.{Root, Span, Store}
 use Rattle.r4_base.specs.Value.{Value}
-use Rattle.r4_cell.specs.Seen.{CellSeen, node_of}
-use Rattle.r4_cell.specs.declared.change.Fresh.{Fresh}
+use Rattle.r4_measure.specs.r4_cell.Seen.{CellSeen, node_of}
+use Rattle.r4_measure.specs.r4_cell.declared.change.Fresh.{Fresh}
 use Rattle.r4_content.specs.Edited.{Edits, Intervals, changed, is_between}
 use Rattle.r4_content.specs.Listed.{list_edited}
-use Rattle.r4_leaf.specs.Remade.{AreWithin}
-use Rattle.r4_leaf.specs.Units.{LeafUnit, leaf_bytes}
+use Rattle.r4_measure.specs.r4_leaf.Remade.{AreWithin}
+use Rattle.r4_measure.specs.r4_leaf.Units.{LeafUnit, leaf_bytes}
 use Rattle.r4_leaf_edits.specs.Made.{spread_keys}
-use Rattle.r4_patch.specs.Joining.{ids_of}
-use Rattle.r4_patch.proofs.Members.{Distinct, cases, distinct, here, later}
-use Rattle.r4_path.proofs.Rising.{hi_is, in_node, level_is, lo_is}
-use Rattle.r4_reach.specs.Needs.{is_met, leaf_edits, units_after}
-use Rattle.r4_reach.specs.Reach.{is_body}
-use Rattle.r4_reach.specs.Touched.{Body, first_byte, is_spread}
-use Rattle.r4_work.specs.Remaking.{CutsWithin}
-use Rattle.r4_work.specs.Working.{IsStart}
-use Rattle.r4_work.specs.declared.working.WorkingSet.{WorkingSet}
-use Rattle.r4_work.proofs.Starting.{start_working}
+use Rattle.r4_measure.specs.r4_patch.Joining.{ids_of}
+use Rattle.r4_measure.proofs.r4_patch.Members.{Distinct, cases, distinct, here, later}
+use Rattle.r4_measure.proofs.r4_path.Rising.{hi_is, in_node, level_is, lo_is}
+use Rattle.r4_measure.specs.r4_reach.Needs.{is_met, leaf_edits, units_after}
+use Rattle.r4_measure.specs.r4_reach.Reach.{is_body}
+use Rattle.r4_measure.specs.r4_reach.Touched.{Body, first_byte, is_spread}
+use Rattle.r4_measure.specs.r4_work.Remaking.{CutsWithin}
+use Rattle.r4_measure.specs.r4_work.Working.{IsStart}
+use Rattle.r4_measure.specs.r4_work.declared.working.WorkingSet.{WorkingSet}
+use Rattle.r4_measure.proofs.r4_work.Starting.{start_working}
 use Rattle.r4_measure.specs.Begin.{AreEditsOf, IsEditOf}
 use Rattle.r4_measure.specs.Loop.{LeafTurn, units_now}
 use Rattle.r4_measure.proofs.Begin.{reach_few, reach_turns}

@@ -6,20 +6,20 @@ use Rattle.std.specs.Ordering.{nat_cmp}
 use Rattle.r4_base.specs.Key.{least, rank, top}
 use Rattle.r4_base.specs.Tree.{Node, Root, Span, Store}
 use Rattle.r4_base.specs.Value.{Value}
-use Rattle.r4_cell.specs.Patch.{HaveNames}
-use Rattle.r4_cell.specs.Seen.{CellSeen, node_of}
-use Rattle.r4_cell.specs.declared.change.Change.{Change}
-use Rattle.r4_cell.specs.declared.change.Fresh.{Fresh}
+use Rattle.r4_measure.specs.r4_cell.Patch.{HaveNames}
+use Rattle.r4_measure.specs.r4_cell.Seen.{CellSeen, node_of}
+use Rattle.r4_measure.specs.r4_cell.declared.change.Change.{Change}
+use Rattle.r4_measure.specs.r4_cell.declared.change.Fresh.{Fresh}
 use Rattle.r4_content.specs.Edited.{Edits, Intervals, changed, is_in}
 use Rattle.r4_content.specs.Listed.{list_edited}
-use Rattle.r4_leaf.specs.Units.{leaf_bytes}
+use Rattle.r4_measure.specs.r4_leaf.Units.{leaf_bytes}
 use Rattle.r4_leaf_edits.specs.Made.{spread_keys}
-use Rattle.r4_patch.specs.Effect.{Placed, in_leaf}
-use Rattle.r4_patch.specs.Joining.{ids_of}
-use Rattle.r4_reach.specs.Leaves.{most_of}
-use Rattle.r4_reach.specs.Needs.{demand_of, is_met, units_after}
-use Rattle.r4_reach.specs.Touched.{Body}
-use Rattle.r4_work.specs.Order.{HasKey}
+use Rattle.r4_measure.specs.r4_patch.Effect.{Placed, in_leaf}
+use Rattle.r4_measure.specs.r4_patch.Joining.{ids_of}
+use Rattle.r4_measure.specs.r4_reach.Leaves.{most_of}
+use Rattle.r4_measure.specs.r4_reach.Needs.{demand_of, is_met, units_after}
+use Rattle.r4_measure.specs.r4_reach.Touched.{Body}
+use Rattle.r4_measure.specs.r4_work.Order.{HasKey}
 use Rattle.r4_measure.specs.Begin.{IsReachedFor}
 use Rattle.r4_measure.specs.Budget.{AreUnplaced}
 

@@ -3,9 +3,9 @@ use Rattle.std.specs.Prelude.{◌≡◌, ◌⊎◌, ℕ, ◌<◌, ◌≤◌, ◌
 use Rattle.std.specs.Arc.{arc_value}
 use Rattle.r4_base.specs.Tree.{Node, Root, Store}
 use Rattle.r4_base.specs.Value.{Value}
-use Rattle.r4_cell.specs.Patch.{IsChange}
-use Rattle.r4_cell.specs.Seen.{CellSeen}
-use Rattle.r4_cell.specs.declared.change.Change.{Change}
+use Rattle.r4_measure.specs.r4_cell.Patch.{IsChange}
+use Rattle.r4_measure.specs.r4_cell.Seen.{CellSeen}
+use Rattle.r4_measure.specs.r4_cell.declared.change.Change.{Change}
 use Rattle.r4_content.specs.Counts.{is_okay, stats_in}
 use Rattle.r4_content.specs.Course.{ending}
 use Rattle.r4_content.specs.Edited.{Edits, Intervals, changed, is_in}
@@ -13,10 +13,10 @@ use Rattle.r4_content.specs.Held.{pairs_of}
 use Rattle.r4_content.specs.Meaning.{course, greatest_size, makes_object}
 use Rattle.r4_content.specs.Seen.{of_seen}
 use Rattle.r4_content.specs.declared.reply.Reply.{Reply}
-use Rattle.r4_patch.specs.Effect.{HasEffect}
-use Rattle.r4_patch.specs.Joining.{ids_of, patch_of_change}
-use Rattle.r4_patch.specs.Part.{MeetsPart}
-use Rattle.r4_reach.specs.Touched.{Body, edits_on}
+use Rattle.r4_measure.specs.r4_patch.Effect.{HasEffect}
+use Rattle.r4_measure.specs.r4_patch.Joining.{ids_of, patch_of_change}
+use Rattle.r4_measure.specs.r4_patch.Part.{MeetsPart}
+use Rattle.r4_measure.specs.r4_reach.Touched.{Body, edits_on}
 use Rattle.r4_build.specs.Building.{CanBuild, most_new, set_by}
 use Rattle.r4_build.specs.declared.counting.ObjectCounts.{ObjectCounts}
 use Rattle.r4_build.specs.declared.task.Task.{Task}

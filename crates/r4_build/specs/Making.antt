@@ -4,16 +4,16 @@ use Rattle.std.specs.Prelude.{Contains, length}
 use Rattle.r4_base.specs.Key.{rank}
 use Rattle.r4_base.specs.Tree.{Root, Store}
 use Rattle.r4_base.specs.Value.{Value}
-use Rattle.r4_cell.specs.Seen.{CellSeen, node_of}
-use Rattle.r4_cell.specs.declared.change.Fresh.{Fresh}
+use Rattle.r4_measure.specs.r4_cell.Seen.{CellSeen, node_of}
+use Rattle.r4_measure.specs.r4_cell.declared.change.Fresh.{Fresh}
 use Rattle.r4_content.specs.Edited.{Edits, changed, is_between, is_in}
-use Rattle.r4_leaf.specs.Remade.{AreWithin}
+use Rattle.r4_measure.specs.r4_leaf.Remade.{AreWithin}
 use Rattle.r4_leaf_edits.specs.Made.{MakesEdits}
-use Rattle.r4_patch.specs.Joining.{ids_of}
-use Rattle.r4_reach.specs.Needs.{is_met}
-use Rattle.r4_work.specs.Remaking.{Changes, CutsWithin, HaveKeys}
-use Rattle.r4_work.specs.Working.{IsWorking, standing}
-use Rattle.r4_work.specs.declared.working.WorkingSet.{WorkingSet}
+use Rattle.r4_measure.specs.r4_patch.Joining.{ids_of}
+use Rattle.r4_measure.specs.r4_reach.Needs.{is_met}
+use Rattle.r4_measure.specs.r4_work.Remaking.{Changes, CutsWithin, HaveKeys}
+use Rattle.r4_measure.specs.r4_work.Working.{IsWorking, standing}
+use Rattle.r4_measure.specs.r4_work.declared.working.WorkingSet.{WorkingSet}
 use Rattle.r4_measure.specs.Loop.{CanRemakeAll, LeafTurn, StandAtMost}
 use Rattle.r4_build.specs.Building.{set_by}
 

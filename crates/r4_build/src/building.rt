@@ -6,25 +6,24 @@ ghost use Rattle.std.specs.Arc.{arc_value};
 ghost use Rattle.r4_base.specs.Key.{rank};
 ghost use Rattle.r4_base.specs.Tree.{Root as TreeRoot, Store};
 ghost use Rattle.r4_base.specs.Value.{Value};
-ghost use Rattle.r4_cell.specs.Patch.{IsChange};
-ghost use Rattle.r4_cell.specs.Seen.{CellSeen};
+ghost use Rattle.r4_measure.specs.r4_cell.Patch.{IsChange};
+ghost use Rattle.r4_measure.specs.r4_cell.Seen.{CellSeen};
 ghost use Rattle.r4_content.specs.Edited.{Intervals, changed, is_in};
 ghost use Rattle.r4_content.specs.Held.{edits_of};
 ghost use Rattle.r4_leaf_edits.specs.Suiting.{SuitLeaves};
-ghost use Rattle.r4_patch.specs.Effect.{HasEffect};
-ghost use Rattle.r4_patch.specs.Joining.{patch_of_change};
-ghost use Rattle.r4_patch.specs.Part.{MeetsPart};
-ghost use Rattle.r4_path.specs.Steps.{OnlyTakes};
-ghost use Rattle.r4_reach.specs.Needs.{is_met};
-ghost use Rattle.r4_reach.specs.Touched.{Body};
+ghost use Rattle.r4_measure.specs.r4_patch.Effect.{HasEffect};
+ghost use Rattle.r4_measure.specs.r4_patch.Joining.{patch_of_change};
+ghost use Rattle.r4_measure.specs.r4_patch.Part.{MeetsPart};
+ghost use Rattle.r4_measure.specs.r4_path.Steps.{OnlyTakes};
+ghost use Rattle.r4_measure.specs.r4_reach.Needs.{is_met};
+ghost use Rattle.r4_measure.specs.r4_reach.Touched.{Body};
 ghost use Rattle.r4_build.specs.Building.{AreNumbered, CanBuild, most_new, set_by};
 ghost use Rattle.r4_build.specs.Making.{AreMadeIn, CanMake, IsMadeIn};
 
 use r4_base::Memory;
-use r4_cell::{Cell, Change, Fresh};
 use r4_content::Edits;
 use r4_leaf_edits::{edits_of_leaf, touches_leaf};
-use r4_work::WorkingSet;
+use r4_measure::{Cell, Change, Fresh, WorkingSet};
 use std::alloc::Global;
 use std::sync::Arc;
 
@@ -66,8 +65,10 @@ pub fn change_of(
     Ok(set.into_change())
 }
 
-// The edits of each leaf among the cells, one after another.
-fn make_each(
+/// Makes the edits that lie in leaves among these cells, one leaf after another, in a set of which their part of a tree
+/// is known; numbers of new cells are taken as they are needed. The only error is want of memory: then the set and the
+/// numbers may have changed (docs/volume.md, "Building").
+pub fn make_each(
     alloc: Global,
     set: &mut WorkingSet,
     cells: &[Arc<Cell>],

@@ -8,16 +8,16 @@ ghost use Rattle.r4_content.specs.Edited.{Intervals};
 ghost use Rattle.r4_content.specs.Held.{pairs_of};
 ghost use Rattle.r4_content.specs.Seen.{Rises};
 ghost use Rattle.r4_leaf_edits.specs.Suiting.{SuitLeaves};
-ghost use Rattle.r4_reach.specs.Touched.{Body};
+ghost use Rattle.r4_measure.specs.r4_reach.Touched.{Body};
 ghost use Rattle.r4_build.specs.Built.{IsBuilt, IsTaskIn, edits_for};
 
 use crate::building::change_of;
 use crate::counting::{ObjectCounts, born, gone};
 use crate::task::{BuildFault, Task};
 use r4_base::Memory;
-use r4_cell::Change;
 use r4_content::{Edits, Reply};
 use r4_file::plan;
+use r4_measure::Change;
 use r4_outside::Gate;
 use std::alloc::Global;
 use std::marker::Model;

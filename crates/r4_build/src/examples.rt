@@ -6,7 +6,7 @@ ghost use Rattle.r4_base.specs.Fresh.{HasOneItem};
 ghost use Rattle.r4_base.specs.Stat.{kind_is_good, stat_body};
 ghost use Rattle.r4_base.specs.Volume.{root_attr};
 ghost use Rattle.r4_base.specs.declared.items.Attr.{Attr};
-ghost use Rattle.r4_cell.specs.Patch.{by_name};
+ghost use Rattle.r4_measure.specs.r4_cell.Patch.{by_name};
 ghost use Rattle.r4_leaf_edits.specs.Suiting.{SuitLeaves};
 ghost use Rattle.r4_measure.specs.Examples.{fresh_cells, fresh_root, set_root, some_numbers};
 ghost use Rattle.r4_build.specs.Building.{CanBuild};

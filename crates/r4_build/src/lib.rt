@@ -9,7 +9,7 @@ mod examples;
 mod laws;
 mod task;
 
-pub use building::change_of;
+pub use building::{change_of, make_each};
 pub use built::{Built, build};
 pub use counting::ObjectCounts;
 pub use examples::fresh_volumes_can_be_built_on;
@@ -17,4 +17,6 @@ pub use laws::{
     built_changes_fit, edits_are_made, reach_suffices_to_build, spared_extents_leave_leaves,
     what_is_built_is_meant,
 };
+pub use r4_file::plan;
+pub use r4_measure::by_place;
 pub use task::{BuildFault, Task};

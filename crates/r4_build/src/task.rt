@@ -1,8 +1,8 @@
 //! A command that is to be built (docs/volume.md, "Building").
 
 use r4_base::{ScriptNo, TaskId, TxnNo};
-use r4_cell::{Cells, Fresh};
 use r4_content::{Command, Seen};
+use r4_measure::{Cells, Fresh};
 use std::sync::Arc;
 
 /// A command of a script with all that it takes to make its change, and no more: the cells that it reads and writes,

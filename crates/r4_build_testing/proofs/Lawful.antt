@@ -11,8 +11,8 @@ use Rattle.r4_content.specs.Seen.{Rises}
 use Rattle.r4_content.specs.Ways.{to_file, to_free, to_object, to_parent}
 use Rattle.r4_leaf_edits.specs.Suiting.{bytes_set, IsBefore, IsLawfulPut, SuitLeaves}
 use Rattle.r4_reach.specs.Touched.{edits_on}
-use Rattle.r4_work.proofs.Remade.{or_true}
-use Rattle.r4_work.proofs.UnitMembers.{between}
+use Rattle.r4_build.proofs.r4_work.Remade.{or_true}
+use Rattle.r4_build.proofs.r4_work.UnitMembers.{between}
 use Rattle.r4_build_testing.specs.Commands.{chmod_file, create_file, file_seen, fresh_seen, mixed}
 use Rattle.r4_build_testing.specs.Commands.{set_times, write_file}
 use Rattle.r4_build_testing.specs.Small.{AreLawful}

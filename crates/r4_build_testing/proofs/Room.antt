@@ -14,7 +14,7 @@ use Rattle.r4_leaf.specs.Units.{LeafUnit, is_between, leaf_bytes}
 use Rattle.r4_leaf.specs.declared.remaking.Given.{Given}
 use Rattle.r4_leaf.specs.declared.remaking.KeyRange.{KeyRange}
 use Rattle.r4_leaf_edits.specs.Made.{MakesEdits}
-use Rattle.r4_path.proofs.Rising.{hi_is, lo_is}
+use Rattle.r4_reach.proofs.r4_path.Rising.{hi_is, lo_is}
 use Rattle.r4_reach.specs.Needs.{units_after}
 use Rattle.r4_build_testing.specs.Small.{HasRoomFor, IsSmall}
 

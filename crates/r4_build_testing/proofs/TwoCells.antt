@@ -17,13 +17,13 @@ use Rattle.r4_content.specs.Edited.{Edits, changed, is_in}
 use Rattle.r4_leaf.specs.Units.{leaf_bytes}
 use Rattle.r4_patch.specs.Part.{IsPart}
 use Rattle.r4_patch.proofs.Members.{Distinct, cases, found, have_names, here, later, none, there}
-use Rattle.r4_path.proofs.Rising.{hi_is, level_is, lo_is}
+use Rattle.r4_reach.proofs.r4_path.Rising.{hi_is, level_is, lo_is}
 use Rattle.r4_reach.specs.Demand.{Demand, ask, ask_of, heard, heard_one}
 use Rattle.r4_reach.specs.Needs.{Ask, cell_asks, changes_pieces, demand_of, leaf_asks, put_among, units_after}
 use Rattle.r4_reach.specs.Leaves.{more_of}
-use Rattle.r4_measure.specs.Asked.{asked_of}
-use Rattle.r4_measure.specs.Begin.{IsQuiet, IsReachedFor}
-use Rattle.r4_measure.specs.Examples.{fresh_root, some_numbers}
+use Rattle.r4_build.specs.r4_measure.Asked.{asked_of}
+use Rattle.r4_build.specs.r4_measure.Begin.{IsQuiet, IsReachedFor}
+use Rattle.r4_build.specs.r4_measure.Examples.{fresh_root, some_numbers}
 use Rattle.r4_build.specs.Building.{CanBuild, HaveLawfulKeys, LiesInLeaf}
 use Rattle.r4_build_testing.specs.Small.{AreLawful, HasAllKeys, HasRoomFor, IsSmall}
 

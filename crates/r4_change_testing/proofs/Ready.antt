@@ -16,22 +16,22 @@ use Rattle.r4_content.specs.Fields.{HasBytePaths}
 use Rattle.r4_content.specs.Held.{pairs_of}
 use Rattle.r4_content.specs.Seen.{Rises}
 use Rattle.r4_content.specs.declared.command.Command.{Command}
-use Rattle.r4_judging.specs.Judging.{IsSound}
-use Rattle.r4_leaf_edits.specs.Made.{spread_keys}
-use Rattle.r4_leaf_edits.specs.Suiting.{SuitLeaves}
+use Rattle.r4_reaching.specs.r4_judging.Judging.{IsSound}
+use Rattle.r4_build.specs.r4_leaf_edits.Made.{spread_keys}
+use Rattle.r4_build.specs.r4_leaf_edits.Suiting.{SuitLeaves}
 use Rattle.r4_leaf_demands.specs.Leaves.{AreLeafEdits, IsInLeaves}
 use Rattle.r4_patch.proofs.Members.{absent, found}
-use Rattle.r4_path.specs.Nodes.{IsPointable}
-use Rattle.r4_path.specs.Steps.{IsFree}
-use Rattle.r4_reach.specs.Leaves.{LieInLeaves}
-use Rattle.r4_reach.specs.Touched.{Body, body_on, edits_on, reads_on}
+use Rattle.r4_build.specs.r4_path.Nodes.{IsPointable}
+use Rattle.r4_build.specs.r4_path.Steps.{IsFree}
+use Rattle.r4_build.specs.r4_reach.Leaves.{LieInLeaves}
+use Rattle.r4_build.specs.r4_reach.Touched.{Body, body_on, edits_on, reads_on}
 use Rattle.r4_reaching.proofs.Made.{none_spread}
 use Rattle.r4_reaching.specs.Answers.{IsReach}
 use Rattle.r4_reaching.specs.declared.reached.Reach.{Reach}
 use Rattle.r4_search.specs.Pool.{PoolState}
-use Rattle.r4_spared.proofs.Answered.{answer_builds, changes_leaves}
-use Rattle.r4_spared.specs.Spared.{ChangesLeaves, HasNumbers, MayStandAll}
-use Rattle.r4_suited.specs.Suited.{AreLawfulSeen, IsAccepted}
+use Rattle.r4_reaching.proofs.r4_spared.Answered.{answer_builds, changes_leaves}
+use Rattle.r4_reaching.specs.r4_spared.Spared.{ChangesLeaves, HasNumbers, MayStandAll}
+use Rattle.r4_leaf_demands.specs.r4_suited.Suited.{AreLawfulSeen, IsAccepted}
 use Rattle.r4_change_testing.specs.Ready.{IsBlock, IsReady, numbers}
 
 -- none of the numbers is a block's, or is named

@@ -11,8 +11,8 @@ ghost use Rattle.r4_build.specs.Built.{IsTaskIn, edits_for};
 ghost use Rattle.r4_content.specs.Edited.{Intervals};
 ghost use Rattle.r4_content.specs.Held.{pairs_of};
 ghost use Rattle.r4_content.specs.Seen.{Rises};
-ghost use Rattle.r4_leaf_edits.specs.Suiting.{SuitLeaves};
-ghost use Rattle.r4_reach.specs.Touched.{Body};
+ghost use Rattle.r4_build.specs.r4_leaf_edits.Suiting.{SuitLeaves};
+ghost use Rattle.r4_build.specs.r4_reach.Touched.{Body};
 ghost use Rattle.r4_change_testing.specs.Ready.{IsBlock, IsReady};
 
 use r4_base::{Memory, ScriptNo, TaskId, TxnNo, UNPLACED};

@@ -20,7 +20,7 @@ use Rattle.std.proofs.Common.{inl, inr}
 use Rattle.std.proofs.lemmas.Bool.{cases_eq}
 use Rattle.std.proofs.lemmas.Option.{same_Some}
 use Rattle.r4_cell.proofs.NodesAt.{node_at, plugins_at}
-use Rattle.r4_search.proofs.Places.{body_at}
+use Rattle.r4_list.proofs.r4_search.Places.{body_at}
 use Rattle.r4_base.specs.Image.{Image}
 use Rattle.r4_outside.specs.Sink.{SinkState}
 use Rattle.std.specs.Prelude.{Result, Ok}

@@ -12,3 +12,6 @@ pub mod Closed
 pub mod Nodes
 pub mod Parents
 pub mod Judged
+-- what crates above name by way of this one
+pub use Rattle.r4_cell.proofs as r4_cell
+pub use Rattle.r4_list.proofs as r4_list

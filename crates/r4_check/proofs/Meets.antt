@@ -13,7 +13,7 @@ use Rattle.r4_space.specs.Bitmaps.{AreBitmapsOf, marks}
 use Rattle.r4_check.specs.Blocks.{MarksOneMore}
 use Rattle.std.specs.Arc.{arc_value}
 use Rattle.r4_cell.specs.Seen.{node_of}
-use Rattle.r4_search.specs.Keeping.{Shared}
+use Rattle.r4_list.specs.r4_search.Keeping.{Shared}
 use Rattle.std.specs.Prelude.{IfSome}
 use Rattle.r4_check.specs.declared.reading.Named.{Named}
 use Rattle.r4_check.specs.declared.reading.Met.{Met}

@@ -5,8 +5,8 @@ use Rattle.std.specs.Result.{IsErrAnd}
 use Rattle.std.proofs.lemmas.List.{append-nil, append_assoc}
 use Rattle.r4_outside.specs.Device.{State}
 use Rattle.r4_outside.specs.Sink.{SinkState, AppendsPart}
-use Rattle.r4_search.specs.Pool.{LeavesDevice}
-use Rattle.r4_search.proofs.Walks.{leaves_both, leaves_same}
+use Rattle.r4_list.specs.r4_search.Pool.{LeavesDevice}
+use Rattle.r4_list.proofs.r4_search.Walks.{leaves_both, leaves_same}
 use Rattle.r4_list.specs.Printing.{Prints}
 use Rattle.r4_list.proofs.Stages.{prints_both, prints_same}
 use Rattle.r4_check_objects.specs.Faults.{fault_line, fault_lines}

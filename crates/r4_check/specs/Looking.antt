@@ -14,7 +14,7 @@ use Rattle.r4_outside.specs.Sink.{SinkState, AppendsPart}
 use Rattle.r4_open.specs.Opening.{IsSettledBy}
 use Rattle.r4_space.specs.Bitmaps.{AreBitmapsOf, marks}
 use Rattle.r4_cell.specs.Seen.{CellSeen, node_of}
-use Rattle.r4_search.specs.Pool.{LeavesDevice}
+use Rattle.r4_list.specs.r4_search.Pool.{LeavesDevice}
 use Rattle.r4_list.specs.Printing.{Prints}
 use Rattle.std.specs.Option.{option_or}
 use Rattle.r4_check_objects.specs.Faults.{fault_lines}

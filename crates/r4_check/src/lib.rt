@@ -14,5 +14,5 @@ mod tree;
 
 pub use laws::{cells_are_read, small_trees, whole_walks_are_closed};
 pub use r4_check_objects::{Fault, What};
-pub use r4_list::ListFault;
+pub use r4_list::{ListFault, list};
 pub use tree::{Verdict, check};

@@ -4,7 +4,7 @@ ghost use Rattle.std.specs.Prelude.{◌≡◌, ℕ, ◌<◌, None, false, IfOk, 
 ghost use Rattle.r4_base.specs.Cell.{cell_fault};
 ghost use Rattle.r4_base.specs.Image.{Image};
 ghost use Rattle.r4_base.specs.Key.{rank};
-ghost use Rattle.r4_search.specs.Pool.{LeavesDevice};
+ghost use Rattle.r4_list.specs.r4_search.Pool.{LeavesDevice};
 ghost use Rattle.r4_check.specs.Looking.{IsGround, IsReadCause, IsReadAs, StandsAs, blocks_of, name_of};
 
 use crate::settled::Settled;

@@ -5,7 +5,7 @@ ghost use Rattle.r4_base.specs.Image.{Image};
 ghost use Rattle.r4_list.specs.Lists.{log_fault_of, open_fault_of, root_name_of};
 ghost use Rattle.r4_list.specs.Printing.{Prints};
 ghost use Rattle.r4_list.specs.declared.fault.ListFault.TheVariants.{Device as DeviceFailed};
-ghost use Rattle.r4_search.specs.Pool.{LeavesDevice};
+ghost use Rattle.r4_list.specs.r4_search.Pool.{LeavesDevice};
 ghost use Rattle.r4_check.specs.Looking.{IsGround, IsStopCause, name_of};
 ghost use Rattle.r4_check.specs.Tree.{Checks, PrintsWalk, fault_of_stop};
 ghost use Rattle.r4_check.specs.Walk.{check_of};

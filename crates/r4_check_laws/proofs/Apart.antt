@@ -7,8 +7,8 @@ use Rattle.r4_base.specs.Extents.{units_of}
 use Rattle.r4_base.specs.Key.{rank}
 use Rattle.r4_base.specs.Node.{Item, PluginsFit, fits_level, items_of}
 use Rattle.r4_base.specs.Value.{Value}
-use Rattle.r4_cell.proofs.Faults.{cell_still}
-use Rattle.r4_cell.proofs.NodesAt.{node_at, plugins_at}
+use Rattle.r4_check.proofs.r4_cell.Faults.{cell_still}
+use Rattle.r4_check.proofs.r4_cell.NodesAt.{node_at, plugins_at}
 use Rattle.r4_leaf.proofs.LeafItems.{lie_rise}
 use Rattle.r4_leaf.proofs.Rising.{Rise}
 use Rattle.r4_leaf.proofs.Standing.{stand_lie}

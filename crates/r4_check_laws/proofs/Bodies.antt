@@ -15,9 +15,9 @@ use Rattle.r4_base.specs.declared.items.Unit.{Unit as ExtentUnit}
 use Rattle.r4_branch.proofs.SoundItems.{extent_item}
 use Rattle.r4_branch.specs.Items.{IsSoundItem as IsOfTwig}
 use Rattle.r4_branch.proofs.Standing.{stand_lie as twig_lie}
-use Rattle.r4_cell.proofs.Faults.{cell_still}
-use Rattle.r4_cell.proofs.ItemRows.{extent_row}
-use Rattle.r4_cell.proofs.NodesAt.{node_at, plugins_at}
+use Rattle.r4_check.proofs.r4_cell.Faults.{cell_still}
+use Rattle.r4_check.proofs.r4_cell.ItemRows.{extent_row}
+use Rattle.r4_check.proofs.r4_cell.NodesAt.{node_at, plugins_at}
 use Rattle.r4_check.specs.Walk.{found_in}
 use Rattle.r4_check_objects.specs.Held.{counted, held_at, held_by, held_in}
 use Rattle.r4_check_objects.specs.declared.held.Held.{Held}

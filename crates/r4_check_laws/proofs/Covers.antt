@@ -12,7 +12,7 @@ use Rattle.r4_base.specs.Node.{Item, items_of}
 use Rattle.r4_base.specs.Stat.{attr_of}
 use Rattle.r4_base.specs.Tree.{InNode, Node}
 use Rattle.r4_base.specs.Value.{Value}
-use Rattle.r4_cell.proofs.NodesAt.{node_at, plugins_at}
+use Rattle.r4_check.proofs.r4_cell.NodesAt.{node_at, plugins_at}
 use Rattle.r4_check.specs.Walk.{found_in}
 use Rattle.r4_check_objects.specs.Held.{counted, facts_of, held_at, held_by, held_entry, held_in}
 use Rattle.r4_check_objects.specs.Objects.{once}
@@ -25,7 +25,7 @@ use Rattle.r4_branch.proofs.Filled.{item_has_end as twig_item_ends, lie_order as
 use Rattle.r4_branch.proofs.SoundItems.{extent_item}
 use Rattle.r4_branch.proofs.Standing.{stand_lie as twig_lie}
 use Rattle.r4_branch.specs.Items.{IsSoundItem as IsOfTwig, Lie as LieInTwig}
-use Rattle.r4_cell.proofs.Faults.{cell_still}
+use Rattle.r4_check.proofs.r4_cell.Faults.{cell_still}
 use Rattle.r4_leaf.proofs.Packed.{lie_order as leaf_order}
 use Rattle.r4_leaf.proofs.SoundItems.{item_has_end as leaf_item_ends, tail_item}
 use Rattle.r4_leaf.proofs.Standing.{stand_lie as leaf_lie}

@@ -12,7 +12,7 @@ use Rattle.r4_check.proofs.Kept.{IsSoundWhole, look_keeps, sound_kept}
 use Rattle.r4_check.specs.Walk.{faults_of, found_in, leaf_in, nothing_met, objects_wrong, walk_of}
 use Rattle.r4_check_objects.specs.Objects.{object_faults}
 use Rattle.r4_check_objects.specs.declared.fault.Fault.{Fault}
-use Rattle.r4_list.specs.Lists.{root_name_of}
+use Rattle.r4_check.specs.r4_list.Lists.{root_name_of}
 use Rattle.r4_check_laws.proofs.Stores.{in_cells, store_of}
 use Rattle.r4_check_laws.proofs.Trees.{is_tree}
 use Rattle.r4_check_laws.proofs.Walked.{are_cells, are_linked, are_places, are_read}

@@ -26,3 +26,5 @@ pub mod Faultless
 pub mod Filled
 pub mod Unfaulted
 pub mod Clear
+-- what crates above name by way of this one
+pub use Rattle.r4_check.proofs.r4_list

@@ -11,8 +11,8 @@ use Rattle.r4_base.specs.Key.{rank}
 use Rattle.r4_base.specs.Node.{Item, PluginsFit, items_of}
 use Rattle.r4_base.specs.Tree.{Name}
 use Rattle.r4_base.specs.declared.items.Unit.{Unit as ExtentUnit}
-use Rattle.r4_cell.proofs.Items.{good_item}
-use Rattle.r4_cell.proofs.NodesAt.{node_at, plugins_at}
+use Rattle.r4_check.proofs.r4_cell.Items.{good_item}
+use Rattle.r4_check.proofs.r4_cell.NodesAt.{node_at, plugins_at}
 use Rattle.r4_check_laws.proofs.Apart.{is_lower, is_upper}
 use Rattle.r4_check_laws.proofs.Bodies.{names_of_extent, names_of_pointer}
 use Rattle.r4_check_laws.proofs.Lists.{none_in, one_of}

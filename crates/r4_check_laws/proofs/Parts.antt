@@ -13,8 +13,8 @@ use Rattle.r4_base.specs.Value.{Value}
 use Rattle.r4_branch.proofs.SoundItems.{IsExtentItem, extent_item}
 use Rattle.r4_branch.proofs.Standing.{stand_lie as twig_lie}
 use Rattle.r4_branch.specs.Items.{IsSoundItem as IsOfTwig, Lie as LieInTwig}
-use Rattle.r4_cell.proofs.Faults.{cell_still}
-use Rattle.r4_cell.proofs.NodesAt.{node_at, plugins_at}
+use Rattle.r4_check.proofs.r4_cell.Faults.{cell_still}
+use Rattle.r4_check.proofs.r4_cell.NodesAt.{node_at, plugins_at}
 use Rattle.r4_check.specs.Walk.{found_in}
 use Rattle.r4_check_objects.specs.Held.{counted, facts_of, held_at, held_by, held_entry, held_in}
 use Rattle.r4_check_objects.specs.declared.held.Held.{Held}

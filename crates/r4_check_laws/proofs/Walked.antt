@@ -9,7 +9,7 @@ use Rattle.r4_base.specs.Tree.{Fits, IsNode, Name, Node}
 use Rattle.r4_base.specs.Value.{Value}
 use Rattle.r4_base.specs.Volume.{IsPlace}
 use Rattle.r4_base.specs.declared.superblock.Super40.{Super40}
-use Rattle.r4_list.specs.Lists.{root_name_of}
+use Rattle.r4_check.specs.r4_list.Lists.{root_name_of}
 use Rattle.r4_check.specs.Walk.{Walk, cell_at, is_reached, meet, nothing_met, walk_of}
 use Rattle.r4_check.proofs.Closed.{look_grows, look_keeps_low}
 use Rattle.r4_check.proofs.Kept.{AreCells, AreMarked, IsSoundWhole, cells_kept, look_keeps, marked_kept, meet_by, no_cell, sound_kept}

@@ -5,7 +5,7 @@ use Rattle.r4_base.specs.Bitmap.{bitmap_count}
 use Rattle.r4_base.specs.declared.superblock.Super40.{Super40}
 use Rattle.r4_base.specs.declared.things.AtomNo.{AtomNo}
 use Rattle.r4_base.specs.declared.things.BlockNo.{BlockNo}
-use Rattle.r4_cell.specs.Seen.{CellSeen}
+use Rattle.r4_place.specs.r4_cell.Seen.{CellSeen}
 use Rattle.r4_space.specs.Space.{Space}
 use Rattle.r4_place.specs.declared.placed.Placed.{Placed}
 use Rattle.r4_wander.specs.Seen.{Copy, Placed as PlacedCell}

@@ -7,7 +7,7 @@ use Rattle.std.proofs.lemmas.Bool.{cases_eq, cases_lt}
 use Rattle.std.proofs.lemmas.Bool.Decides.{nat_tests}
 use Rattle.std.proofs.lemmas.List.{map-append, take_more}
 use Rattle.r4_base.specs.declared.things.BlockNo.{BlockNo}
-use Rattle.r4_cell.specs.Seen.{CellSeen}
+use Rattle.r4_place.specs.r4_cell.Seen.{CellSeen}
 use Rattle.r4_place.specs.declared.placed.Placed.{Placed}
 use Rattle.r4_wander.specs.Seen.{Placed as PlacedCell}
 use Rattle.r4_commit.specs.Places.{block_given, place_of, placed_at, kept_at, placed_cells, overwritten}

@@ -6,7 +6,7 @@ use Rattle.r4_base.specs.Image.{AreDifferent}
 use Rattle.r4_base.specs.declared.things.BlockNo.{BlockNo}
 use Rattle.r4_base.proofs.Members.{member_cases, member_here, member_later, no_member}
 use Rattle.r4_base.proofs.Choices.{nothing_in}
-use Rattle.r4_cell.specs.Seen.{CellSeen}
+use Rattle.r4_place.specs.r4_cell.Seen.{CellSeen}
 use Rattle.r4_place.specs.Chosen.{block_of, fresh_blocks}
 use Rattle.r4_place.specs.declared.placed.Placed.{Placed}
 use Rattle.r4_wander.specs.Seen.{Placed as PlacedCell}

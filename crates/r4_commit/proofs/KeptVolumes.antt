@@ -8,7 +8,7 @@ use Rattle.r4_base.specs.declared.superblock.Super40.{Super40}
 use Rattle.r4_base.specs.declared.things.AtomNo.{AtomNo}
 use Rattle.r4_base.specs.declared.things.BlockNo.{BlockNo}
 use Rattle.r4_base.proofs.Choices.{never_both}
-use Rattle.r4_cell.specs.Seen.{CellSeen}
+use Rattle.r4_place.specs.r4_cell.Seen.{CellSeen}
 use Rattle.r4_outside.specs.Device.{Goes, State, LeavesOnly}
 use Rattle.r4_space.specs.Space.{Space}
 use Rattle.r4_place.specs.declared.placed.Placed.{Placed}

@@ -18,7 +18,7 @@ use Rattle.r4_base.proofs.Bitmaps.{IsMarkedWhole, without_fault}
 use Rattle.r4_base.proofs.Frame.{length-put_pairs}
 use Rattle.r4_base.proofs.Superblocks.{lawful_read, magic_stands, mark_stands, read_lawful}
 use Rattle.r4_base.proofs.Choices.{never_both}
-use Rattle.r4_cell.specs.Seen.{CellSeen}
+use Rattle.r4_place.specs.r4_cell.Seen.{CellSeen}
 use Rattle.r4_space.specs.Bitmaps.{AreBitmapsOf, bitmaps_fault, first_unheld_of, free_bits}
 use Rattle.r4_space.specs.Space.{Space, is_marked_after, is_marked_by}
 use Rattle.r4_space.proofs.BitmapLaws.{same_fault}

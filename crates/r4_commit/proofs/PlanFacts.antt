@@ -10,7 +10,7 @@ use Rattle.r4_base.specs.Bitmap.{bitmap_block, bitmap_count}
 use Rattle.r4_base.specs.declared.superblock.Super40.{Super40}
 use Rattle.r4_base.specs.declared.things.BlockNo.{BlockNo}
 use Rattle.r4_base.proofs.Members.{member_cases, member_here, no_member}
-use Rattle.r4_cell.specs.Seen.{CellSeen}
+use Rattle.r4_place.specs.r4_cell.Seen.{CellSeen}
 use Rattle.r4_place.specs.Chosen.{block_of, fresh_blocks}
 use Rattle.r4_place.specs.declared.placed.How.{How}
 use Rattle.r4_place.specs.declared.placed.How.TheVariants.{Fresh, Relocate, Overwrite}

@@ -5,7 +5,7 @@ use Rattle.r4_base.specs.Bitmap.{is_fixed}
 use Rattle.r4_base.specs.Chain.{Txn, HasLog, committed, kept_blocks, originals}
 use Rattle.r4_base.specs.declared.superblock.Super40.{Super40}
 use Rattle.r4_base.specs.declared.things.BlockNo.{BlockNo}
-use Rattle.r4_cell.specs.Seen.{CellSeen}
+use Rattle.r4_place.specs.r4_cell.Seen.{CellSeen}
 use Rattle.r4_space.specs.Lawful.{IsLawful}
 use Rattle.r4_space.specs.Space.{Space, is_claimed}
 use Rattle.r4_place.specs.Chosen.{fresh_blocks}

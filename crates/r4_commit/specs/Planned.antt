@@ -6,7 +6,7 @@ use Rattle.r4_base.specs.Layout.{super_block, super_fields}
 use Rattle.r4_base.specs.declared.superblock.Super40.{Super40}
 use Rattle.r4_base.specs.declared.things.AtomNo.{AtomNo}
 use Rattle.r4_base.specs.declared.things.BlockNo.{BlockNo}
-use Rattle.r4_cell.specs.Seen.{CellSeen}
+use Rattle.r4_place.specs.r4_cell.Seen.{CellSeen}
 use Rattle.r4_space.specs.Accounts.{with_atom}
 use Rattle.r4_space.specs.Bitmaps.{free_bits}
 use Rattle.r4_space.specs.Space.{Space, is_marked_by, is_taken}

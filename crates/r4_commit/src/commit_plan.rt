@@ -8,7 +8,7 @@ ghost use Rattle.r4_base.specs.Volume.{HasVolume, Needs};
 ghost use Rattle.r4_base.specs.declared.superblock.Super40.{Super40};
 ghost use Rattle.r4_base.specs.declared.things.AtomNo.{AtomNo};
 ghost use Rattle.r4_base.specs.declared.things.BlockNo.{BlockNo};
-ghost use Rattle.r4_cell.specs.Seen.{CellSeen};
+ghost use Rattle.r4_place.specs.r4_cell.Seen.{CellSeen};
 ghost use Rattle.r4_space.specs.Space.{Space};
 ghost use Rattle.r4_place.specs.declared.placed.Placed.{Placed};
 ghost use Rattle.r4_commit.specs.Planned.{IsPlanFor};

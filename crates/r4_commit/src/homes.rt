@@ -11,8 +11,8 @@ ghost use Rattle.r4_commit.specs.Planned.{AreNewBitmaps, bitmap_writes, new_home
 
 use crate::places::{Places, place_of};
 use r4_base::{AtomNo, Block, BlockNo, Memory, SUPER_BLOCK, Super40, bitmap_block, bitmap_count};
-use r4_cell::Cell;
 use r4_layout::write_super;
+use r4_place::Cell;
 use r4_space::{SpaceMap, count_all_free};
 use std::alloc::Global;
 use std::marker::Model;

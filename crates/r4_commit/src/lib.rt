@@ -14,3 +14,4 @@ pub use laws::{
     plans_keep_off_the_new_tree, plans_spare_the_volume,
 };
 pub use planning::plan;
+pub use r4_place::on_disk_law;

@@ -7,8 +7,7 @@ ghost use Rattle.std.specs.BTreeMap.{get};
 ghost use Rattle.r4_commit.specs.Places.{block_given, place_of, placed_cells};
 
 use r4_base::{BlockNo, Memory};
-use r4_cell::Cell;
-use r4_place::{How, Placed};
+use r4_place::{Cell, How, Placed};
 use r4_wander::PlacedCell;
 use std::alloc::Global;
 use std::collections::BTreeMap;

@@ -3,8 +3,8 @@ use Rattle.std.proofs.Common.{◌≡◌, inl, inr, ℕ, ◌+◌, ◌-◌, Option
 use Rattle.r4_atoms.specs.Atoms.{AtomsSeen}
 use Rattle.r4_buffer.specs.Changed.{cleaned, in_turn}
 use Rattle.r4_buffer.specs.Seen.{BufferSeen, buffered}
-use Rattle.r4_commit.specs.Planned.{CommitSeen}
-use Rattle.r4_history.specs.Tables.{with_cleaned, with_committed}
+use Rattle.r4_ready.specs.r4_commit.Planned.{CommitSeen}
+use Rattle.r4_others.specs.r4_history.Tables.{with_cleaned, with_committed}
 use Rattle.r4_outside.specs.Device.{State}
 use Rattle.r4_space.specs.Space.{Space, settled}
 use Rattle.r4_trace.specs.Kept.{Told}
@@ -12,14 +12,14 @@ use Rattle.r4_trace.specs.declared.entry.Entry.TheVariants.{Committed}
 use Rattle.r4_wander.specs.Progress.{IsNext, calls_from, calls_left, stage_at}
 use Rattle.r4_wander.specs.declared.stage.Stage.{Stage}
 use Rattle.r4_wander.specs.declared.stage.Stage.TheVariants.{Footed, Headed}
-use Rattle.r4_kept.specs.Kept.{IsKept}
-use Rattle.r4_kept.specs.Naming.{Naming}
-use Rattle.r4_kept.specs.Steps.{IsAdvanced, IsQuietPart, Writes}
-use Rattle.r4_kept.specs.Steps.{with_entry, writing}
-use Rattle.r4_kept.specs.View.{CoreSeen}
-use Rattle.r4_kept.specs.declared.parts.Commit.{Commit}
-use Rattle.r4_kept.specs.declared.parts.Volume.{Volume}
-use Rattle.r4_kept.specs.declared.parts.Step.TheVariants as steps
+use Rattle.r4_ready.specs.r4_kept.Kept.{IsKept}
+use Rattle.r4_ready.specs.r4_kept.Naming.{Naming}
+use Rattle.r4_ready.specs.r4_kept.Steps.{IsAdvanced, IsQuietPart, Writes}
+use Rattle.r4_ready.specs.r4_kept.Steps.{with_entry, writing}
+use Rattle.r4_ready.specs.r4_kept.View.{CoreSeen}
+use Rattle.r4_ready.specs.r4_kept.declared.parts.Commit.{Commit}
+use Rattle.r4_ready.specs.r4_kept.declared.parts.Volume.{Volume}
+use Rattle.r4_ready.specs.r4_kept.declared.parts.Step.TheVariants as steps
 use Rattle.r4_core.proofs.Writing.{at_hand, footer_told, header_told, quiet_told}
 
 -- ---- in which part it was

@@ -10,22 +10,22 @@ use Rattle.r4_base.specs.declared.things.ScriptNo.{ScriptNo}
 use Rattle.r4_content.specs.Locality.{commands}
 use Rattle.r4_content.specs.Meaning.{greatest_size}
 use Rattle.r4_content.specs.declared.command.Command.{Command}
-use Rattle.r4_durable.specs.Meaning.{Beginning, BeginsWith, IsNamed, means, start_of}
-use Rattle.r4_history.specs.Drawn.{AreDrawn, IsNoDone, numbers_in, numbers_of}
-use Rattle.r4_history.specs.Held.{IsOut, TasksTell}
-use Rattle.r4_history.specs.Serving.{AreOrdered}
-use Rattle.r4_history.specs.Tables.{next_at}
-use Rattle.r4_history.specs.Told.{IsTold}
-use Rattle.r4_history.proofs.DrawnSteps.{drawn_answered, drawn_entry, turn_other}
-use Rattle.r4_history.proofs.Places.{turn_now}
-use Rattle.r4_history.proofs.TaskSteps.{tasks_answered}
+use Rattle.r4_ready.specs.r4_durable.Meaning.{Beginning, BeginsWith, IsNamed, means, start_of}
+use Rattle.r4_others.specs.r4_history.Drawn.{AreDrawn, IsNoDone, numbers_in, numbers_of}
+use Rattle.r4_others.specs.r4_history.Held.{IsOut, TasksTell}
+use Rattle.r4_others.specs.r4_history.Serving.{AreOrdered}
+use Rattle.r4_others.specs.r4_history.Tables.{next_at}
+use Rattle.r4_others.specs.r4_history.Told.{IsTold}
+use Rattle.r4_others.proofs.r4_history.DrawnSteps.{drawn_answered, drawn_entry, turn_other}
+use Rattle.r4_others.proofs.r4_history.Places.{turn_now}
+use Rattle.r4_others.proofs.r4_history.TaskSteps.{tasks_answered}
 use Rattle.r4_outside.specs.Device.{State, TellsCrashes}
 use Rattle.r4_script.specs.Spelling.{AreInOrder}
 use Rattle.r4_script.specs.declared.job.Job.{Job}
 use Rattle.r4_base.specs.Value.{Content}
-use Rattle.r4_sets_told.specs.Runs.{born_in, gone_in}
+use Rattle.r4_flushing.specs.r4_sets_told.Runs.{born_in, gone_in}
 use Rattle.r4_trace.specs.Traced.{atom_in}
-use Rattle.r4_sets.specs.Atoms.{ChangesNoCell, told}
+use Rattle.r4_flushing.specs.r4_sets.Atoms.{ChangesNoCell, told}
 use Rattle.r4_trace.specs.Job.{IsWork}
 use Rattle.r4_trace.specs.Kept.{Told}
 use Rattle.r4_trace.specs.Order.{IsOrdered}
@@ -38,21 +38,21 @@ use Rattle.r4_turns.specs.Turns.{turn_at, with_turn}
 use Rattle.r4_turns.specs.declared.out.Numbers.{Numbers}
 use Rattle.r4_turns.specs.declared.out.Out.{Out}
 use Rattle.r4_turns.specs.declared.turn.Turn.{Turn}
-use Rattle.r4_kept.specs.Accounts.{AreAccounts, CountsCells, cells_for, claims_for, dones_in}
-use Rattle.r4_kept.specs.Cells.{AreCells}
-use Rattle.r4_kept.specs.Durable.{IsDurable}
-use Rattle.r4_kept.specs.History.{IsHistory, owed, owed_for_commit}
-use Rattle.r4_kept.specs.Kept.{HasStory, IsKept}
-use Rattle.r4_kept.specs.Meaning.{HasMeaning, if_open}
-use Rattle.r4_kept.specs.Naming.{Naming, job_named, names_in}
-use Rattle.r4_kept.specs.Steps.{answered, with_entry}
-use Rattle.r4_kept.specs.Story.{Story}
-use Rattle.r4_kept.specs.Tables.{AreTables}
-use Rattle.r4_kept.specs.TasksOut.{AreOut, pins_in}
-use Rattle.r4_kept.specs.View.{CoreSeen, tables_of}
-use Rattle.r4_kept.proofs.Carried.{at_told, commits_nothing, session_told}
-use Rattle.r4_kept.proofs.Dones.{changes_none, dones_on}
-use Rattle.r4_kept.proofs.Turning.{is_script_before, out_before, same_of, summed}
+use Rattle.r4_ready.specs.r4_kept.Accounts.{AreAccounts, CountsCells, cells_for, claims_for, dones_in}
+use Rattle.r4_ready.specs.r4_kept.Cells.{AreCells}
+use Rattle.r4_ready.specs.r4_kept.Durable.{IsDurable}
+use Rattle.r4_ready.specs.r4_kept.History.{IsHistory, owed, owed_for_commit}
+use Rattle.r4_ready.specs.r4_kept.Kept.{HasStory, IsKept}
+use Rattle.r4_ready.specs.r4_kept.Meaning.{HasMeaning, if_open}
+use Rattle.r4_ready.specs.r4_kept.Naming.{Naming, job_named, names_in}
+use Rattle.r4_ready.specs.r4_kept.Steps.{answered, with_entry}
+use Rattle.r4_ready.specs.r4_kept.Story.{Story}
+use Rattle.r4_ready.specs.r4_kept.Tables.{AreTables}
+use Rattle.r4_ready.specs.r4_kept.TasksOut.{AreOut, pins_in}
+use Rattle.r4_ready.specs.r4_kept.View.{CoreSeen, tables_of}
+use Rattle.r4_ready.proofs.r4_kept.Carried.{at_told, commits_nothing, session_told}
+use Rattle.r4_ready.proofs.r4_kept.Dones.{changes_none, dones_on}
+use Rattle.r4_ready.proofs.r4_kept.Turning.{is_script_before, out_before, same_of, summed}
 
 -- ---- what the turns keep
 

@@ -17,20 +17,20 @@ use Rattle.r4_buffer.specs.Seen.{BufferSeen}
 use Rattle.r4_cell.specs.declared.change.Root.{Root as RootPair}
 use Rattle.r4_content.specs.Locality.{commands}
 use Rattle.r4_content.specs.Meaning.{greatest_size}
-use Rattle.r4_durable.specs.Kept.{Means as MeansAtRest, session_of, space_of}
-use Rattle.r4_durable.specs.Meaning.{Beginning, IsNamed, IsOn, first_id, means, start_of}
-use Rattle.r4_durable.proofs.Opened.{begins_lawfully, kept_now, none_in, opens_safely}
-use Rattle.r4_history.proofs.DrawnSteps.{drawn_first}
-use Rattle.r4_history.proofs.RunSteps.{told_first}
-use Rattle.r4_history.proofs.TaskSteps.{tasks_first}
-use Rattle.r4_history.proofs.WaitingSteps.{text_ordered}
-use Rattle.r4_history.specs.Drawn.{numbers_of}
-use Rattle.r4_history.specs.Held.{IsOut}
+use Rattle.r4_ready.specs.r4_durable.Kept.{Means as MeansAtRest, session_of, space_of}
+use Rattle.r4_ready.specs.r4_durable.Meaning.{Beginning, IsNamed, IsOn, first_id, means, start_of}
+use Rattle.r4_ready.proofs.r4_durable.Opened.{begins_lawfully, kept_now, none_in, opens_safely}
+use Rattle.r4_others.proofs.r4_history.DrawnSteps.{drawn_first}
+use Rattle.r4_others.proofs.r4_history.RunSteps.{told_first}
+use Rattle.r4_others.proofs.r4_history.TaskSteps.{tasks_first}
+use Rattle.r4_others.proofs.r4_history.WaitingSteps.{text_ordered}
+use Rattle.r4_others.specs.r4_history.Drawn.{numbers_of}
+use Rattle.r4_others.specs.r4_history.Held.{IsOut}
 use Rattle.r4_locks.specs.Locks.{LocksSeen}
-use Rattle.r4_open.specs.Opening.{IsOpening}
-use Rattle.r4_open.specs.declared.opened.Opened.{Opened}
+use Rattle.r4_start.specs.r4_open.Opening.{IsOpening}
+use Rattle.r4_start.specs.r4_open.declared.opened.Opened.{Opened}
 use Rattle.r4_outside.specs.Device.{Goes, IsQuiet, State, TellsCrashes, TellsReads}
-use Rattle.r4_replay.specs.Replay.{PutInPlace, SettlesAlways}
+use Rattle.r4_start.specs.r4_replay.Replay.{PutInPlace, SettlesAlways}
 use Rattle.r4_script.specs.Spelling.{AreScripts}
 use Rattle.r4_script.specs.Text.{job_of}
 use Rattle.r4_script.specs.declared.job.Job.{Job}
@@ -44,20 +44,20 @@ use Rattle.r4_turns.specs.Turns.{TurnsSeen, start, started, turn_at}
 use Rattle.r4_turns.specs.declared.out.Numbers.{Numbers}
 use Rattle.r4_turns.specs.declared.out.Out.{Out}
 use Rattle.r4_turns.specs.declared.turn.Turn.{Turn}
-use Rattle.r4_kept.specs.Accounts.{AreAccounts, cells_for, claims_for}
-use Rattle.r4_kept.specs.Cells.{AreCells, IsName}
-use Rattle.r4_kept.specs.Durable.{IsDurable}
-use Rattle.r4_kept.specs.History.{IsHistory, owed}
-use Rattle.r4_kept.specs.Kept.{IsKept}
-use Rattle.r4_kept.specs.Meaning.{HasMeaning}
-use Rattle.r4_kept.specs.Naming.{Naming, job_named, names_in}
+use Rattle.r4_ready.specs.r4_kept.Accounts.{AreAccounts, cells_for, claims_for}
+use Rattle.r4_ready.specs.r4_kept.Cells.{AreCells, IsName}
+use Rattle.r4_ready.specs.r4_kept.Durable.{IsDurable}
+use Rattle.r4_ready.specs.r4_kept.History.{IsHistory, owed}
+use Rattle.r4_ready.specs.r4_kept.Kept.{IsKept}
+use Rattle.r4_ready.specs.r4_kept.Meaning.{HasMeaning}
+use Rattle.r4_ready.specs.r4_kept.Naming.{Naming, job_named, names_in}
 use Rattle.r4_start.specs.Starting.{IsFound, first_numbers, first_volume}
-use Rattle.r4_kept.specs.Story.{Story}
-use Rattle.r4_kept.specs.Tables.{AreTables}
-use Rattle.r4_kept.specs.TasksOut.{AreOut}
-use Rattle.r4_kept.specs.View.{CoreSeen, root_seen}
-use Rattle.r4_kept.specs.declared.parts.Numbers.{Numbers as CoreNumbers}
-use Rattle.r4_kept.specs.declared.parts.Volume.{Volume}
+use Rattle.r4_ready.specs.r4_kept.Story.{Story}
+use Rattle.r4_ready.specs.r4_kept.Tables.{AreTables}
+use Rattle.r4_ready.specs.r4_kept.TasksOut.{AreOut}
+use Rattle.r4_ready.specs.r4_kept.View.{CoreSeen, root_seen}
+use Rattle.r4_ready.specs.r4_kept.declared.parts.Numbers.{Numbers as CoreNumbers}
+use Rattle.r4_ready.specs.r4_kept.declared.parts.Volume.{Volume}
 
 -- ---- turns before any command
 

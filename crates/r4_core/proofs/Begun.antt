@@ -15,20 +15,20 @@ use Rattle.r4_base.specs.declared.things.TxnNo.{TxnNo}
 use Rattle.r4_content.specs.Locality.{commands}
 use Rattle.r4_content.specs.Meaning.{greatest_size}
 use Rattle.r4_content.specs.declared.command.Command.TheVariants as asks
-use Rattle.r4_durable.specs.Meaning.{Beginning, BeginsWith, IsNamed, means, start_of}
-use Rattle.r4_history.specs.Drawn.{AreDrawn}
-use Rattle.r4_history.specs.Held.{AreOwners, TasksTell}
-use Rattle.r4_history.specs.Tables.{Begins, Stands, inside, single, with_begin, with_single}
-use Rattle.r4_history.specs.Told.{IsTold}
-use Rattle.r4_history.proofs.AtomSteps.{begun_or_new, count_after, state_after, state_before, txn_before}
-use Rattle.r4_history.proofs.DrawnSteps.{drawn_answered, drawn_entered, drawn_entry}
-use Rattle.r4_history.proofs.Places.{is_script_with, next_there, turn_now}
-use Rattle.r4_history.proofs.TaskSteps.{begun_follow, tasks_answered, tasks_entered}
-use Rattle.r4_history.proofs.RunSteps.{commit_is}
-use Rattle.r4_history.proofs.Told.{told_begin, told_single}
+use Rattle.r4_ready.specs.r4_durable.Meaning.{Beginning, BeginsWith, IsNamed, means, start_of}
+use Rattle.r4_others.specs.r4_history.Drawn.{AreDrawn}
+use Rattle.r4_others.specs.r4_history.Held.{AreOwners, TasksTell}
+use Rattle.r4_others.specs.r4_history.Tables.{Begins, Stands, inside, single, with_begin, with_single}
+use Rattle.r4_others.specs.r4_history.Told.{IsTold}
+use Rattle.r4_others.proofs.r4_history.AtomSteps.{begun_or_new, count_after, state_after, state_before, txn_before}
+use Rattle.r4_others.proofs.r4_history.DrawnSteps.{drawn_answered, drawn_entered, drawn_entry}
+use Rattle.r4_others.proofs.r4_history.Places.{is_script_with, next_there, turn_now}
+use Rattle.r4_others.proofs.r4_history.TaskSteps.{begun_follow, tasks_answered, tasks_entered}
+use Rattle.r4_others.proofs.r4_history.RunSteps.{commit_is}
+use Rattle.r4_others.proofs.r4_history.Told.{told_begin, told_single}
 use Rattle.r4_outside.specs.Device.{State, TellsCrashes}
-use Rattle.r4_sets.specs.Atoms.{told}
-use Rattle.r4_sets_told.specs.Runs.{born_in, gone_in}
+use Rattle.r4_flushing.specs.r4_sets.Atoms.{told}
+use Rattle.r4_flushing.specs.r4_sets_told.Runs.{born_in, gone_in}
 use Rattle.r4_space.specs.declared.things.Account.{Account as SpaceAccount}
 use Rattle.r4_trace.specs.Kept.{Told}
 use Rattle.r4_trace.specs.Order.{IsOrdered}
@@ -39,22 +39,22 @@ use Rattle.r4_trace.proofs.FirstOnes.{begun_counted}
 use Rattle.r4_trace.proofs.Safely.{safe_push}
 use Rattle.r4_turns.specs.Turns.{HasNext, IsScript, TurnsSeen, answered_one, entered, turn_at}
 use Rattle.r4_turns.specs.declared.turn.Turn.{Turn}
-use Rattle.r4_kept.specs.Accounts.{AreAccounts, CountsCells, cells_for, claims_for}
-use Rattle.r4_kept.specs.Cells.{AreCells}
-use Rattle.r4_kept.specs.Durable.{IsDurable}
-use Rattle.r4_kept.specs.History.{IsHistory, owed, owed_for_commit}
-use Rattle.r4_kept.specs.Kept.{HasStory, IsKept}
-use Rattle.r4_kept.specs.Meaning.{HasMeaning, if_open}
-use Rattle.r4_kept.specs.Naming.{Naming, job_named, names_in}
-use Rattle.r4_kept.specs.Steps.{StandsAlone, with_entry}
-use Rattle.r4_kept.specs.Story.{Story}
-use Rattle.r4_kept.specs.Tables.{AreTables}
-use Rattle.r4_kept.specs.TasksOut.{AreOut, pins_in}
-use Rattle.r4_kept.specs.View.{CoreSeen, committing, tables_of}
+use Rattle.r4_ready.specs.r4_kept.Accounts.{AreAccounts, CountsCells, cells_for, claims_for}
+use Rattle.r4_ready.specs.r4_kept.Cells.{AreCells}
+use Rattle.r4_ready.specs.r4_kept.Durable.{IsDurable}
+use Rattle.r4_ready.specs.r4_kept.History.{IsHistory, owed, owed_for_commit}
+use Rattle.r4_ready.specs.r4_kept.Kept.{HasStory, IsKept}
+use Rattle.r4_ready.specs.r4_kept.Meaning.{HasMeaning, if_open}
+use Rattle.r4_ready.specs.r4_kept.Naming.{Naming, job_named, names_in}
+use Rattle.r4_ready.specs.r4_kept.Steps.{StandsAlone, with_entry}
+use Rattle.r4_ready.specs.r4_kept.Story.{Story}
+use Rattle.r4_ready.specs.r4_kept.Tables.{AreTables}
+use Rattle.r4_ready.specs.r4_kept.TasksOut.{AreOut, pins_in}
+use Rattle.r4_ready.specs.r4_kept.View.{CoreSeen, committing, tables_of}
 use Rattle.r4_core.proofs.Answered.{TurnsGoOn, answered_goes_on, goes_on_twice, none_outside, not_out, turned_goes_on}
-use Rattle.r4_kept.proofs.Carried.{at_told, session_told}
-use Rattle.r4_kept.proofs.Dones.{atom_stays, dones_on}
-use Rattle.r4_kept.proofs.Turning.{owed_answered, owed_less, same_of}
+use Rattle.r4_ready.proofs.r4_kept.Carried.{at_told, session_told}
+use Rattle.r4_ready.proofs.r4_kept.Dones.{atom_stays, dones_on}
+use Rattle.r4_ready.proofs.r4_kept.Turning.{owed_answered, owed_less, same_of}
 
 -- ---- no command of a new transaction was done
 

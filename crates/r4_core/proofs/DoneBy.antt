@@ -5,8 +5,8 @@ use Rattle.std.specs.Option.{unwrap_or}
 use Rattle.std.proofs.lemmas.Bool.{le-leb}
 use Rattle.std.proofs.lemmas.List.Sums.{count_by-le-length, length-filter}
 use Rattle.std.proofs.lemmas.List.Elements.{Contains-append_right}
-use Rattle.r4_accounting.specs.Accounting.{HasBlock, freed, frees}
-use Rattle.r4_accounting.specs.Putting.{CanPut, HasPlaced}
+use Rattle.r4_flushing.specs.r4_accounting.Accounting.{HasBlock, freed, frees}
+use Rattle.r4_flushing.specs.r4_accounting.Putting.{CanPut, HasPlaced}
 use Rattle.r4_atoms.specs.Atoms.{AtomsSeen, IsBegun, TxnSeen, no_txn, txn_of}
 use Rattle.r4_atoms.specs.declared.things.Account.{Account}
 use Rattle.r4_base.specs.declared.things.AtomNo.{AtomNo}
@@ -21,21 +21,21 @@ use Rattle.r4_core.specs.Doing.{IsRightSingle, change_of}
 use Rattle.r4_content.specs.Locality.{commands}
 use Rattle.r4_content.specs.Meaning.{greatest_size}
 use Rattle.r4_core.specs.declared.doing.Made.{Made}
-use Rattle.r4_accounting.specs.r4_done.Done.{HasPut}
-use Rattle.r4_accounting.proofs.r4_done.Doable.{given_it, new_owned, old_owned}
-use Rattle.r4_accounting.proofs.r4_done.Done.{keeps_done, keeps_done_single}
-use Rattle.r4_accounting.proofs.r4_done.Dropped.{done_drops, done_is}
-use Rattle.r4_accounting.proofs.r4_done.FewCells.{fewer_old, room_for_both}
-use Rattle.r4_history.specs.Held.{IsOut}
-use Rattle.r4_history.specs.Tables.{inside, single, with_ended}
-use Rattle.r4_history.proofs.Places.{next_there, turn_now}
-use Rattle.r4_history.proofs.RunSteps.{open_in_both}
-use Rattle.r4_kept.specs.Accounts.{cells_for, cells_owed, claims_for, claims_owed}
-use Rattle.r4_kept.specs.Cells.{IsName}
-use Rattle.r4_kept.specs.Kept.{IsKept}
-use Rattle.r4_kept.specs.Naming.{Naming}
-use Rattle.r4_kept.specs.Steps.{with_entry}
-use Rattle.r4_kept.specs.View.{CoreSeen, blocks_of, tables_of}
+use Rattle.r4_flushing.specs.r4_done.Done.{HasPut}
+use Rattle.r4_flushing.proofs.r4_done.Doable.{given_it, new_owned, old_owned}
+use Rattle.r4_flushing.proofs.r4_done.Done.{keeps_done, keeps_done_single}
+use Rattle.r4_flushing.proofs.r4_done.Dropped.{done_drops, done_is}
+use Rattle.r4_flushing.proofs.r4_done.FewCells.{fewer_old, room_for_both}
+use Rattle.r4_others.specs.r4_history.Held.{IsOut}
+use Rattle.r4_others.specs.r4_history.Tables.{inside, single, with_ended}
+use Rattle.r4_others.proofs.r4_history.Places.{next_there, turn_now}
+use Rattle.r4_others.proofs.r4_history.RunSteps.{open_in_both}
+use Rattle.r4_ready.specs.r4_kept.Accounts.{cells_for, cells_owed, claims_for, claims_owed}
+use Rattle.r4_ready.specs.r4_kept.Cells.{IsName}
+use Rattle.r4_ready.specs.r4_kept.Kept.{IsKept}
+use Rattle.r4_ready.specs.r4_kept.Naming.{Naming}
+use Rattle.r4_ready.specs.r4_kept.Steps.{with_entry}
+use Rattle.r4_ready.specs.r4_kept.View.{CoreSeen, blocks_of, tables_of}
 use Rattle.r4_locks.specs.Locks.{LocksSeen, OthersAsBefore, task_at}
 use Rattle.r4_outside.specs.Device.{State}
 use Rattle.r4_space.specs.Lawful.{IsLawful}

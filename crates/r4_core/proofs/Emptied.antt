@@ -10,23 +10,23 @@ use Rattle.r4_atoms.specs.declared.things.AtomState.{AtomState}
 use Rattle.r4_base.proofs.Members.{no_member}
 use Rattle.r4_base.specs.Value.{Content}
 use Rattle.r4_base.specs.declared.things.AtomNo.{AtomNo}
-use Rattle.r4_commit.specs.Planned.{CommitSeen}
+use Rattle.r4_ready.specs.r4_commit.Planned.{CommitSeen}
 use Rattle.r4_content.specs.Locality.{commands}
 use Rattle.r4_content.specs.Meaning.{greatest_size}
-use Rattle.r4_durable.specs.Kept.{IsSession}
-use Rattle.r4_durable.specs.Meaning.{Beginning, IsNamed, means, start_of}
-use Rattle.r4_durable.proofs.Empty.{empty_kept}
-use Rattle.r4_durable.proofs.Steps.{counts_stay}
-use Rattle.r4_history.specs.Tables.{with_cleaned, with_committed}
-use Rattle.r4_history.proofs.DrawnSteps.{drawn_entry}
-use Rattle.r4_history.proofs.RunSteps.{commit_is}
-use Rattle.r4_history.proofs.TaskSteps.{cleaned_follow, state_follow, tasks_other}
-use Rattle.r4_history.proofs.Told.{told_committed, told_settled}
+use Rattle.r4_ready.specs.r4_durable.Kept.{IsSession}
+use Rattle.r4_ready.specs.r4_durable.Meaning.{Beginning, IsNamed, means, start_of}
+use Rattle.r4_ready.proofs.r4_durable.Empty.{empty_kept}
+use Rattle.r4_ready.proofs.r4_durable.Steps.{counts_stay}
+use Rattle.r4_others.specs.r4_history.Tables.{with_cleaned, with_committed}
+use Rattle.r4_others.proofs.r4_history.DrawnSteps.{drawn_entry}
+use Rattle.r4_others.proofs.r4_history.RunSteps.{commit_is}
+use Rattle.r4_others.proofs.r4_history.TaskSteps.{cleaned_follow, state_follow, tasks_other}
+use Rattle.r4_others.proofs.r4_history.Told.{told_committed, told_settled}
 use Rattle.r4_outside.specs.Device.{State, TellsCrashes}
-use Rattle.r4_sets.specs.Atoms.{committed, sealed}
-use Rattle.r4_sets.specs.Session.{Layer, Session}
-use Rattle.r4_sets.proofs.Patches.{empty_sealed}
-use Rattle.r4_sets_told.proofs.OneContent.{adds_nothing}
+use Rattle.r4_flushing.specs.r4_sets.Atoms.{committed, sealed}
+use Rattle.r4_flushing.specs.r4_sets.Session.{Layer, Session}
+use Rattle.r4_flushing.proofs.r4_sets.Patches.{empty_sealed}
+use Rattle.r4_flushing.proofs.r4_sets_told.OneContent.{adds_nothing}
 use Rattle.r4_space.specs.Space.{Space}
 use Rattle.r4_trace.specs.Job.{Asked}
 use Rattle.r4_trace.specs.Kept.{Told}
@@ -36,19 +36,19 @@ use Rattle.r4_trace.specs.Traced.{committed_in, sealed_in}
 use Rattle.r4_trace.specs.declared.entry.Entry.{Entry}
 use Rattle.r4_trace.specs.declared.entry.Entry.TheVariants.{Committed}
 use Rattle.r4_trace.proofs.Safely.{safe_empty}
-use Rattle.r4_kept.specs.Accounts.{AreAccounts, CountsCells}
-use Rattle.r4_kept.specs.Cells.{AreCells}
-use Rattle.r4_kept.specs.Durable.{IsDurable}
-use Rattle.r4_kept.specs.History.{IsHistory}
-use Rattle.r4_kept.specs.Kept.{HasStory, IsKept}
-use Rattle.r4_kept.specs.Meaning.{HasMeaning, IsAtRest, IsSealedEmpty, if_open}
-use Rattle.r4_kept.specs.Naming.{Naming, job_named, names_in}
-use Rattle.r4_kept.specs.Steps.{IsAtNothing, WritesNothing, emptied, with_entry}
-use Rattle.r4_kept.specs.Story.{Story}
-use Rattle.r4_kept.specs.View.{CoreSeen, tables_of}
-use Rattle.r4_kept.specs.declared.parts.Commit.{Commit}
-use Rattle.r4_kept.specs.declared.parts.Volume.{Volume}
-use Rattle.r4_kept.proofs.States.{opens_same, owners_same, state_same, state_there}
+use Rattle.r4_ready.specs.r4_kept.Accounts.{AreAccounts, CountsCells}
+use Rattle.r4_ready.specs.r4_kept.Cells.{AreCells}
+use Rattle.r4_ready.specs.r4_kept.Durable.{IsDurable}
+use Rattle.r4_ready.specs.r4_kept.History.{IsHistory}
+use Rattle.r4_ready.specs.r4_kept.Kept.{HasStory, IsKept}
+use Rattle.r4_ready.specs.r4_kept.Meaning.{HasMeaning, IsAtRest, IsSealedEmpty, if_open}
+use Rattle.r4_ready.specs.r4_kept.Naming.{Naming, job_named, names_in}
+use Rattle.r4_ready.specs.r4_kept.Steps.{IsAtNothing, WritesNothing, emptied, with_entry}
+use Rattle.r4_ready.specs.r4_kept.Story.{Story}
+use Rattle.r4_ready.specs.r4_kept.View.{CoreSeen, tables_of}
+use Rattle.r4_ready.specs.r4_kept.declared.parts.Commit.{Commit}
+use Rattle.r4_ready.specs.r4_kept.declared.parts.Volume.{Volume}
+use Rattle.r4_ready.proofs.r4_kept.States.{opens_same, owners_same, state_same, state_there}
 use Rattle.r4_core.proofs.Footing.{without_cases}
 
 -- ---- in a run that names its beginning

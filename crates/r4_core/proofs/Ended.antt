@@ -12,29 +12,29 @@ use Rattle.r4_base.specs.declared.things.TxnNo.{TxnNo}
 use Rattle.r4_content.specs.Locality.{commands}
 use Rattle.r4_content.specs.Meaning.{greatest_size}
 use Rattle.r4_content.specs.declared.command.Command.TheVariants as asks
-use Rattle.r4_durable.specs.Meaning.{start_of}
-use Rattle.r4_history.specs.Held.{TasksTell}
-use Rattle.r4_history.specs.Tables.{Stands, inside, with_ended}
-use Rattle.r4_history.proofs.AtomSteps.{kept_by_set}
-use Rattle.r4_history.proofs.DrawnSteps.{drawn_answered, drawn_entry, drawn_left}
-use Rattle.r4_history.proofs.Places.{is_script_with, next_there, turn_now}
-use Rattle.r4_history.proofs.RunSteps.{open_in_both}
-use Rattle.r4_history.proofs.TaskSteps.{ended_follow, tasks_answered, tasks_left}
-use Rattle.r4_history.proofs.Told.{told_end, told_last}
+use Rattle.r4_ready.specs.r4_durable.Meaning.{start_of}
+use Rattle.r4_others.specs.r4_history.Held.{TasksTell}
+use Rattle.r4_others.specs.r4_history.Tables.{Stands, inside, with_ended}
+use Rattle.r4_others.proofs.r4_history.AtomSteps.{kept_by_set}
+use Rattle.r4_others.proofs.r4_history.DrawnSteps.{drawn_answered, drawn_entry, drawn_left}
+use Rattle.r4_others.proofs.r4_history.Places.{is_script_with, next_there, turn_now}
+use Rattle.r4_others.proofs.r4_history.RunSteps.{open_in_both}
+use Rattle.r4_others.proofs.r4_history.TaskSteps.{ended_follow, tasks_answered, tasks_left}
+use Rattle.r4_others.proofs.r4_history.Told.{told_end, told_last}
 use Rattle.r4_outside.specs.Device.{State}
 use Rattle.r4_trace.specs.Kept.{Told}
 use Rattle.r4_trace.specs.declared.entry.Entry.{Entry}
 use Rattle.r4_trace.specs.declared.entry.Entry.TheVariants.{Ended}
 use Rattle.r4_turns.specs.Turns.{HasNext, IsScript, TurnsSeen, answered_one, left, turn_at}
 use Rattle.r4_turns.specs.declared.turn.Turn.{Turn}
-use Rattle.r4_kept.specs.History.{owed, owed_for_commit}
-use Rattle.r4_kept.specs.Kept.{IsKept}
-use Rattle.r4_kept.specs.Naming.{Naming}
-use Rattle.r4_kept.specs.Steps.{ended, ended_last, with_entry}
-use Rattle.r4_kept.specs.View.{CoreSeen, tables_of}
+use Rattle.r4_ready.specs.r4_kept.History.{owed, owed_for_commit}
+use Rattle.r4_ready.specs.r4_kept.Kept.{IsKept}
+use Rattle.r4_ready.specs.r4_kept.Naming.{Naming}
+use Rattle.r4_ready.specs.r4_kept.Steps.{ended, ended_last, with_entry}
+use Rattle.r4_ready.specs.r4_kept.View.{CoreSeen, tables_of}
 use Rattle.r4_core.proofs.Answered.{TurnsGoOn, answered_goes_on, goes_on_twice, keeps_after, not_out, nothing_left}
 use Rattle.r4_core.proofs.Answered.{turned_goes_on}
-use Rattle.r4_kept.proofs.Turning.{owed_answered, owed_less, same_of}
+use Rattle.r4_ready.proofs.r4_kept.Turning.{owed_answered, owed_less, same_of}
 
 -- ---- the table of atoms
 

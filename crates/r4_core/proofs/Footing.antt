@@ -27,30 +27,30 @@ use Rattle.r4_buffer.specs.Reading.{NamesStand}
 use Rattle.r4_buffer.specs.Seen.{BufferSeen, EntrySeen, IsLawful as AreNamed, buffered, is_captured, is_dirty_by}
 use Rattle.r4_buffer.proofs.Captured.{captured_is, is_captured_from}
 use Rattle.r4_cell.specs.Seen.{CellSeen, node_of}
-use Rattle.r4_commit.specs.Planned.{CommitSeen}
+use Rattle.r4_ready.specs.r4_commit.Planned.{CommitSeen}
 use Rattle.r4_content.specs.Locality.{commands}
 use Rattle.r4_content.specs.Meaning.{greatest_size}
-use Rattle.r4_durable.specs.Kept.{HasSettled, IsSession, Means as MeansAtRest, sealing_of}
-use Rattle.r4_durable.specs.Meaning.{Beginning, IsNamed, first_id, start_of}
-use Rattle.r4_durable.specs.Sealing.{IsSealing, Sealing, commit_in, made_by, session_after}
-use Rattle.r4_durable.proofs.Flushes.{is_sealing}
-use Rattle.r4_durable.proofs.GoingOn.{again}
-use Rattle.r4_durable.proofs.SealedContent.{new_content, ok}
-use Rattle.r4_durable.proofs.Steps.{kept_after}
-use Rattle.r4_flushed.proofs.FlushedCells.{FitsOnDisk}
-use Rattle.r4_history.specs.Tables.{with_cleaned}
-use Rattle.r4_history.proofs.RunSteps.{commit_is, told_later}
-use Rattle.r4_history.proofs.TaskSteps.{cleaned_follow, tasks_other}
-use Rattle.r4_history.proofs.Told.{told_settled}
+use Rattle.r4_ready.specs.r4_durable.Kept.{HasSettled, IsSession, Means as MeansAtRest, sealing_of}
+use Rattle.r4_ready.specs.r4_durable.Meaning.{Beginning, IsNamed, first_id, start_of}
+use Rattle.r4_ready.specs.r4_durable.Sealing.{IsSealing, Sealing, commit_in, made_by, session_after}
+use Rattle.r4_ready.proofs.r4_durable.Flushes.{is_sealing}
+use Rattle.r4_ready.proofs.r4_durable.GoingOn.{again}
+use Rattle.r4_ready.proofs.r4_durable.SealedContent.{new_content, ok}
+use Rattle.r4_ready.proofs.r4_durable.Steps.{kept_after}
+use Rattle.r4_flushing.proofs.r4_flushed.FlushedCells.{FitsOnDisk}
+use Rattle.r4_others.specs.r4_history.Tables.{with_cleaned}
+use Rattle.r4_others.proofs.r4_history.RunSteps.{commit_is, told_later}
+use Rattle.r4_others.proofs.r4_history.TaskSteps.{cleaned_follow, tasks_other}
+use Rattle.r4_others.proofs.r4_history.Told.{told_settled}
 use Rattle.r4_outside.specs.Device.{Goes, IsQuiet, State, TellsCrashes, TellsReads}
-use Rattle.r4_sealed.specs.Commits.{image_after, super_after}
-use Rattle.r4_sealed.specs.Contents.{HasContentWith}
-use Rattle.r4_placed.specs.Flushing.{commit_by_block}
-use Rattle.r4_sealed.proofs.Kept.{ended}
-use Rattle.r4_sealed.proofs.NewCells.{or_second}
-use Rattle.r4_sealed.proofs.Resting.{Rests, rested}
-use Rattle.r4_sets.specs.Atoms.{committed}
-use Rattle.r4_sets.specs.Session.{Session}
+use Rattle.r4_flushing.specs.r4_sealed.Commits.{image_after, super_after}
+use Rattle.r4_flushing.specs.r4_sealed.Contents.{HasContentWith}
+use Rattle.r4_flushing.specs.r4_placed.Flushing.{commit_by_block}
+use Rattle.r4_flushing.proofs.r4_sealed.Kept.{ended}
+use Rattle.r4_flushing.proofs.r4_sealed.NewCells.{or_second}
+use Rattle.r4_flushing.proofs.r4_sealed.Resting.{Rests, rested}
+use Rattle.r4_flushing.specs.r4_sets.Atoms.{committed}
+use Rattle.r4_flushing.specs.r4_sets.Session.{Session}
 use Rattle.r4_space.specs.Accounts.{account_at}
 use Rattle.r4_space.specs.Lawful.{IsLawful}
 use Rattle.r4_space.specs.Space.{Space, settled}
@@ -66,24 +66,24 @@ use Rattle.r4_wander.specs.Torn.{put_writes}
 use Rattle.r4_wander.specs.declared.plan.LogPlan.{LogPlan}
 use Rattle.r4_wander.proofs.Ending.{ends_reading, quiet_between}
 use Rattle.r4_wander.proofs.Settling.{length-put_writes}
-use Rattle.r4_kept.specs.Accounts.{AreAccounts, CountsCells}
-use Rattle.r4_kept.specs.Cells.{AreCells, AreReadable, HasNames, IsAccepted, IsName, IsStillThere, NamesAt}
-use Rattle.r4_kept.specs.Durable.{IsDurable, StandsAt}
-use Rattle.r4_kept.specs.History.{IsHistory}
-use Rattle.r4_kept.specs.Kept.{HasStory, IsKept}
-use Rattle.r4_kept.specs.Meaning.{ComesFrom, HasMeaning, IsAtRest, IsFlushing, IsInCommit, IsInPart, if_open}
-use Rattle.r4_kept.specs.Naming.{Naming, job_named, names_in}
-use Rattle.r4_kept.specs.Steps.{Writes, writing}
-use Rattle.r4_kept.specs.Story.{Flush, Headed, Story}
-use Rattle.r4_kept.specs.Tables.{AreTables}
-use Rattle.r4_kept.specs.TasksOut.{AreOut}
-use Rattle.r4_kept.specs.View.{CoreSeen, blocks_of, tables_of}
-use Rattle.r4_kept.specs.declared.parts.Commit.{Commit}
-use Rattle.r4_kept.specs.declared.parts.Volume.{Volume}
-use Rattle.r4_kept.proofs.Cleaned.{Was, captured_before, none_before, same_now, was_there}
-use Rattle.r4_kept.proofs.Settling.{deferred_then, fewer_dues, more_unused, settled_alike, still_then}
-use Rattle.r4_kept.proofs.States.{opens_same, state_same}
-use Rattle.r4_kept.proofs.Staying.{named_on, names_as, still_cleaned}
+use Rattle.r4_ready.specs.r4_kept.Accounts.{AreAccounts, CountsCells}
+use Rattle.r4_ready.specs.r4_kept.Cells.{AreCells, AreReadable, HasNames, IsAccepted, IsName, IsStillThere, NamesAt}
+use Rattle.r4_ready.specs.r4_kept.Durable.{IsDurable, StandsAt}
+use Rattle.r4_ready.specs.r4_kept.History.{IsHistory}
+use Rattle.r4_ready.specs.r4_kept.Kept.{HasStory, IsKept}
+use Rattle.r4_ready.specs.r4_kept.Meaning.{ComesFrom, HasMeaning, IsAtRest, IsFlushing, IsInCommit, IsInPart, if_open}
+use Rattle.r4_ready.specs.r4_kept.Naming.{Naming, job_named, names_in}
+use Rattle.r4_ready.specs.r4_kept.Steps.{Writes, writing}
+use Rattle.r4_ready.specs.r4_kept.Story.{Flush, Headed, Story}
+use Rattle.r4_ready.specs.r4_kept.Tables.{AreTables}
+use Rattle.r4_ready.specs.r4_kept.TasksOut.{AreOut}
+use Rattle.r4_ready.specs.r4_kept.View.{CoreSeen, blocks_of, tables_of}
+use Rattle.r4_ready.specs.r4_kept.declared.parts.Commit.{Commit}
+use Rattle.r4_ready.specs.r4_kept.declared.parts.Volume.{Volume}
+use Rattle.r4_ready.proofs.r4_kept.Cleaned.{Was, captured_before, none_before, same_now, was_there}
+use Rattle.r4_ready.proofs.r4_kept.Settling.{deferred_then, fewer_dues, more_unused, settled_alike, still_then}
+use Rattle.r4_ready.proofs.r4_kept.States.{opens_same, state_same}
+use Rattle.r4_ready.proofs.r4_kept.Staying.{named_on, names_as, still_cleaned}
 use Rattle.r4_core.proofs.Writing.{small, Settles, Steps, at_hand, begun_before, named_before, same_read, still_safe}
 use Rattle.r4_core.proofs.Writing.{was}
 

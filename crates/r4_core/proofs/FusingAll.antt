@@ -3,15 +3,15 @@ use Rattle.std.proofs.Common.{◌≡◌, ◌≢◌, ℕ, ◌-◌, ◌<◌, ◌�
 use Rattle.std.proofs.Common.{None, ◌+◌, ◌∙◌, ap, subst, arith, slice_index_or}
 use Rattle.std.proofs.lemmas.List.{take_all}
 use Rattle.r4_atoms.specs.Atoms.{IsOpenAtom}
-use Rattle.r4_history.proofs.ServingSteps.{cons_here, cons_later}
+use Rattle.r4_others.proofs.r4_history.ServingSteps.{cons_here, cons_later}
 use Rattle.r4_core.specs.FusingAll.{CanFuseAll}
-use Rattle.r4_history.specs.Serving.{least_of}
+use Rattle.r4_others.specs.r4_history.Serving.{least_of}
 use Rattle.r4_others.specs.Others.{pairs_of}
 use Rattle.r4_others.specs.declared.finding.Other.{Other}
-use Rattle.r4_history.specs.Held.{AreOwners, Need}
-use Rattle.r4_history.specs.Serving.{AreOthers}
-use Rattle.r4_kept.specs.History.{owed, owed_for_commit}
-use Rattle.r4_kept.specs.View.{CoreSeen}
+use Rattle.r4_others.specs.r4_history.Held.{AreOwners, Need}
+use Rattle.r4_others.specs.r4_history.Serving.{AreOthers}
+use Rattle.r4_ready.specs.r4_kept.History.{owed, owed_for_commit}
+use Rattle.r4_ready.specs.r4_kept.View.{CoreSeen}
 use Rattle.r4_ready.specs.r4_taking.Fusing.{HasFused, HasFusedAll}
 use Rattle.r4_ready.proofs.r4_taking.FusedAll.{of_min, still_open}
 

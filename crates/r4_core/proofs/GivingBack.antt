@@ -8,36 +8,36 @@ use Rattle.r4_base.specs.Tree.{Name}
 use Rattle.r4_buffer.specs.Changed.{in_turn, unused, uses_of}
 use Rattle.r4_buffer.specs.Seen.{BufferSeen, IsLawful, buffered}
 use Rattle.r4_cell.specs.Seen.{CellSeen, node_of}
-use Rattle.r4_commit.specs.Planned.{CommitSeen}
+use Rattle.r4_ready.specs.r4_commit.Planned.{CommitSeen}
 use Rattle.r4_content.specs.Locality.{commands}
 use Rattle.r4_content.specs.Meaning.{greatest_size}
-use Rattle.r4_durable.specs.Meaning.{Beginning, start_of}
-use Rattle.r4_history.specs.Drawn.{numbers_in, numbers_of}
-use Rattle.r4_history.specs.Held.{IsOut}
-use Rattle.r4_history.specs.Tables.{next_at}
-use Rattle.r4_history.proofs.DrawnSteps.{drawn_back, turn_other}
-use Rattle.r4_history.proofs.Places.{turn_now}
-use Rattle.r4_history.proofs.RunSteps.{told_back}
-use Rattle.r4_history.proofs.TaskSteps.{tasks_back}
+use Rattle.r4_ready.specs.r4_durable.Meaning.{Beginning, start_of}
+use Rattle.r4_others.specs.r4_history.Drawn.{numbers_in, numbers_of}
+use Rattle.r4_others.specs.r4_history.Held.{IsOut}
+use Rattle.r4_others.specs.r4_history.Tables.{next_at}
+use Rattle.r4_others.proofs.r4_history.DrawnSteps.{drawn_back, turn_other}
+use Rattle.r4_others.proofs.r4_history.Places.{turn_now}
+use Rattle.r4_others.proofs.r4_history.RunSteps.{told_back}
+use Rattle.r4_others.proofs.r4_history.TaskSteps.{tasks_back}
 use Rattle.r4_locks.specs.Locks.{IsTask, LocksSeen, OthersAsBefore, task_at}
 use Rattle.r4_outside.specs.Device.{State}
 use Rattle.r4_turns.specs.Turns.{IsScript, TurnsSeen, commands_at, given_back, turn_at}
 use Rattle.r4_turns.specs.declared.out.Out.{Out}
 use Rattle.r4_turns.specs.declared.turn.Turn.{Turn}
-use Rattle.r4_kept.specs.Accounts.{AreAccounts, CountsCells, cells_for, claims_for}
-use Rattle.r4_kept.specs.Cells.{AreCells, FitsCommit, HasNames, IsAccepted, IsWritingOf, NamesAt}
-use Rattle.r4_kept.specs.History.{IsHistory}
-use Rattle.r4_kept.specs.Kept.{HasStory, IsKept}
-use Rattle.r4_kept.specs.Meaning.{HasMeaning}
-use Rattle.r4_kept.specs.Naming.{Naming, job_named}
-use Rattle.r4_kept.specs.Tables.{AreTables}
-use Rattle.r4_kept.specs.TasksOut.{AreOut, pins_in}
-use Rattle.r4_kept.specs.View.{CoreSeen, blocks_of, tables_of}
-use Rattle.r4_kept.specs.declared.parts.Commit.{Commit}
-use Rattle.r4_kept.proofs.Staying.{named_on, names_as, still_like}
-use Rattle.r4_kept.proofs.Turning.{is_script_before, out_of_others, owed_less, same_of, summed}
-use Rattle.r4_kept.proofs.Unused.{AreLike, IsLike, none_there, readable_like, same_dirty, unused_fewer}
-use Rattle.r4_kept.proofs.Unused.{unused_like, was_there}
+use Rattle.r4_ready.specs.r4_kept.Accounts.{AreAccounts, CountsCells, cells_for, claims_for}
+use Rattle.r4_ready.specs.r4_kept.Cells.{AreCells, FitsCommit, HasNames, IsAccepted, IsWritingOf, NamesAt}
+use Rattle.r4_ready.specs.r4_kept.History.{IsHistory}
+use Rattle.r4_ready.specs.r4_kept.Kept.{HasStory, IsKept}
+use Rattle.r4_ready.specs.r4_kept.Meaning.{HasMeaning}
+use Rattle.r4_ready.specs.r4_kept.Naming.{Naming, job_named}
+use Rattle.r4_ready.specs.r4_kept.Tables.{AreTables}
+use Rattle.r4_ready.specs.r4_kept.TasksOut.{AreOut, pins_in}
+use Rattle.r4_ready.specs.r4_kept.View.{CoreSeen, blocks_of, tables_of}
+use Rattle.r4_ready.specs.r4_kept.declared.parts.Commit.{Commit}
+use Rattle.r4_ready.proofs.r4_kept.Staying.{named_on, names_as, still_like}
+use Rattle.r4_ready.proofs.r4_kept.Turning.{is_script_before, out_of_others, owed_less, same_of, summed}
+use Rattle.r4_ready.proofs.r4_kept.Unused.{AreLike, IsLike, none_there, readable_like, same_dirty, unused_fewer}
+use Rattle.r4_ready.proofs.r4_kept.Unused.{unused_like, was_there}
 
 module _ (t : TurnsSeen) (s : ℕ) (out : Out) (is : IsScript t s) (was : (turn_at t s).out ≡ Some out) where
   abbrev back : Turn

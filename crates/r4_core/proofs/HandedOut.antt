@@ -11,13 +11,13 @@ use Rattle.r4_buffer.specs.Seen.{BufferSeen, buffered, cells_of}
 use Rattle.r4_cell.specs.Seen.{CellSeen}
 use Rattle.r4_core.specs.Handing.{as_task}
 use Rattle.r4_core.specs.declared.handing.Given.{Given}
-use Rattle.r4_history.specs.Held.{HoldsNew, names_of}
+use Rattle.r4_others.specs.r4_history.Held.{HoldsNew, names_of}
 use Rattle.r4_locks.specs.Locks.{LocksSeen, TakesNew, mode_with}
 use Rattle.r4_locks.specs.declared.things.Mode.TheVariants.{Reads, Writes}
 use Rattle.r4_turns.specs.Turns.{TurnsSeen, gone_out}
 use Rattle.r4_turns.specs.declared.out.Out.{Out}
-use Rattle.r4_kept.specs.View.{CoreSeen}
-use Rattle.r4_kept.specs.declared.parts.Numbers.{Numbers as Next}
+use Rattle.r4_ready.specs.r4_kept.View.{CoreSeen}
+use Rattle.r4_ready.specs.r4_kept.declared.parts.Numbers.{Numbers as Next}
 use Rattle.r4_ready.specs.r4_taking.GoingOut.{HasGoneOut}
 
 pub as_many : (items : List (arc_declared.Arc CellSeen Global)) → length (cells_of items) ≡ length items

@@ -10,28 +10,28 @@ use Rattle.r4_atoms.specs.declared.things.AtomState.{AtomState}
 use Rattle.r4_base.specs.Cell.{IsCellOf}
 use Rattle.r4_base.specs.Image.{Image}
 use Rattle.r4_base.specs.declared.things.AtomNo.{AtomNo}
-use Rattle.r4_commit.specs.Planned.{CommitSeen}
+use Rattle.r4_ready.specs.r4_commit.Planned.{CommitSeen}
 use Rattle.r4_content.specs.Locality.{commands}
 use Rattle.r4_content.specs.Meaning.{greatest_size}
-use Rattle.r4_durable.specs.Kept.{IsSession}
-use Rattle.r4_durable.specs.Meaning.{Beginning, IsNamed, means, start_of}
-use Rattle.r4_durable.specs.Sealing.{session_after}
-use Rattle.r4_durable.proofs.GoingOn.{header_step}
-use Rattle.r4_durable.proofs.Steps.{counts_stay}
-use Rattle.r4_flushed.specs.Deferred.{AreDeferredBut}
-use Rattle.r4_flushed.proofs.FlushedCells.{FitsOnDisk}
-use Rattle.r4_flushed.proofs.Owned.{committed_owns}
-use Rattle.r4_history.specs.Tables.{with_committed}
-use Rattle.r4_history.proofs.DrawnSteps.{drawn_entry}
-use Rattle.r4_history.proofs.RunSteps.{commit_is}
-use Rattle.r4_history.proofs.TaskSteps.{state_follow}
-use Rattle.r4_history.proofs.Told.{told_committed}
+use Rattle.r4_ready.specs.r4_durable.Kept.{IsSession}
+use Rattle.r4_ready.specs.r4_durable.Meaning.{Beginning, IsNamed, means, start_of}
+use Rattle.r4_ready.specs.r4_durable.Sealing.{session_after}
+use Rattle.r4_ready.proofs.r4_durable.GoingOn.{header_step}
+use Rattle.r4_ready.proofs.r4_durable.Steps.{counts_stay}
+use Rattle.r4_flushing.specs.r4_flushed.Deferred.{AreDeferredBut}
+use Rattle.r4_flushing.proofs.r4_flushed.FlushedCells.{FitsOnDisk}
+use Rattle.r4_flushing.proofs.r4_flushed.Owned.{committed_owns}
+use Rattle.r4_others.specs.r4_history.Tables.{with_committed}
+use Rattle.r4_others.proofs.r4_history.DrawnSteps.{drawn_entry}
+use Rattle.r4_others.proofs.r4_history.RunSteps.{commit_is}
+use Rattle.r4_others.proofs.r4_history.TaskSteps.{state_follow}
+use Rattle.r4_others.proofs.r4_history.Told.{told_committed}
 use Rattle.r4_outside.specs.Device.{Goes, Leaves, LeavesOnly, State, TellsCrashes}
-use Rattle.r4_placed.specs.Flushing.{commit_by_block}
-use Rattle.r4_sealed.specs.Commits.{LeftInPart}
-use Rattle.r4_sets.specs.Atoms.{committed}
-use Rattle.r4_sets.specs.Session.{Session}
-use Rattle.r4_sets.proofs.Gathered.{committed_sets}
+use Rattle.r4_flushing.specs.r4_placed.Flushing.{commit_by_block}
+use Rattle.r4_flushing.specs.r4_sealed.Commits.{LeftInPart}
+use Rattle.r4_flushing.specs.r4_sets.Atoms.{committed}
+use Rattle.r4_flushing.specs.r4_sets.Session.{Session}
+use Rattle.r4_flushing.proofs.r4_sets.Gathered.{committed_sets}
 use Rattle.r4_space.specs.Space.{Space}
 use Rattle.r4_trace.specs.Job.{Asked}
 use Rattle.r4_trace.specs.Kept.{Told}
@@ -46,20 +46,20 @@ use Rattle.r4_wander.specs.Parts.{IsOrderOf, part}
 use Rattle.r4_wander.specs.Progress.{Commits, Stands}
 use Rattle.r4_wander.proofs.Encoding.{has_homes}
 use Rattle.r4_wander.proofs.Standing.{settles_now}
-use Rattle.r4_kept.specs.Accounts.{AreAccounts, CountsCells}
-use Rattle.r4_kept.specs.Cells.{AreCells}
-use Rattle.r4_kept.specs.Durable.{IsDurable, StandsAt}
-use Rattle.r4_kept.specs.History.{IsHistory, is_headed}
-use Rattle.r4_kept.specs.Kept.{HasStory, IsKept}
-use Rattle.r4_kept.specs.Meaning.{Comes, ComesFrom, HasMeaning, IsFlushing, IsInCommit, IsInPart, if_open}
-use Rattle.r4_kept.specs.Naming.{Naming, job_named, names_in}
-use Rattle.r4_kept.specs.Steps.{Writes, headed, with_entry, writing}
-use Rattle.r4_kept.specs.Story.{Flush, Headed, Story, sealing_in}
-use Rattle.r4_kept.specs.View.{CoreSeen, blocks_of, tables_of}
-use Rattle.r4_kept.specs.declared.parts.Commit.{Commit}
-use Rattle.r4_kept.specs.declared.parts.Volume.{Volume}
-use Rattle.r4_kept.proofs.Owing.{owes_last, owes_two}
-use Rattle.r4_kept.proofs.States.{opens_same, owners_same, state_same, state_there}
+use Rattle.r4_ready.specs.r4_kept.Accounts.{AreAccounts, CountsCells}
+use Rattle.r4_ready.specs.r4_kept.Cells.{AreCells}
+use Rattle.r4_ready.specs.r4_kept.Durable.{IsDurable, StandsAt}
+use Rattle.r4_ready.specs.r4_kept.History.{IsHistory, is_headed}
+use Rattle.r4_ready.specs.r4_kept.Kept.{HasStory, IsKept}
+use Rattle.r4_ready.specs.r4_kept.Meaning.{Comes, ComesFrom, HasMeaning, IsFlushing, IsInCommit, IsInPart, if_open}
+use Rattle.r4_ready.specs.r4_kept.Naming.{Naming, job_named, names_in}
+use Rattle.r4_ready.specs.r4_kept.Steps.{Writes, headed, with_entry, writing}
+use Rattle.r4_ready.specs.r4_kept.Story.{Flush, Headed, Story, sealing_in}
+use Rattle.r4_ready.specs.r4_kept.View.{CoreSeen, blocks_of, tables_of}
+use Rattle.r4_ready.specs.r4_kept.declared.parts.Commit.{Commit}
+use Rattle.r4_ready.specs.r4_kept.declared.parts.Volume.{Volume}
+use Rattle.r4_ready.proofs.r4_kept.Owing.{owes_last, owes_two}
+use Rattle.r4_ready.proofs.r4_kept.States.{opens_same, owners_same, state_same, state_there}
 use Rattle.r4_core.proofs.Writing.{small, Settles, Steps, apart_on, at_hand, begun_before, in_time, lawful_super}
 use Rattle.r4_core.proofs.Writing.{named_before}
 use Rattle.r4_core.proofs.Writing.{readable_now, same_read, was, writing_now}

@@ -1,17 +1,17 @@
 -- The table of holds changes, and each task holds what it held: what holds of a core holds still.
 use Rattle.std.proofs.Common.{Option, sym, ◌∙◌, ap, subst}
 use Rattle.std.specs.Prelude.{IsSome}
-use Rattle.r4_durable.specs.Meaning.{Beginning, IsNamed}
-use Rattle.r4_history.specs.Held.{TasksTell}
+use Rattle.r4_ready.specs.r4_durable.Meaning.{Beginning, IsNamed}
+use Rattle.r4_others.specs.r4_history.Held.{TasksTell}
 use Rattle.r4_locks.specs.Locks.{LocksSeen, SameTasks, TaskSeen, mode_in}
 use Rattle.r4_outside.specs.Device.{State}
-use Rattle.r4_kept.specs.Accounts.{AreAccounts}
-use Rattle.r4_kept.specs.Cells.{AreCells}
-use Rattle.r4_kept.specs.History.{IsHistory}
-use Rattle.r4_kept.specs.Kept.{HasStory, IsKept}
-use Rattle.r4_kept.specs.Naming.{Naming, names_in}
-use Rattle.r4_kept.specs.TasksOut.{AreOut}
-use Rattle.r4_kept.specs.View.{CoreSeen, tables_of}
+use Rattle.r4_ready.specs.r4_kept.Accounts.{AreAccounts}
+use Rattle.r4_ready.specs.r4_kept.Cells.{AreCells}
+use Rattle.r4_ready.specs.r4_kept.History.{IsHistory}
+use Rattle.r4_ready.specs.r4_kept.Kept.{HasStory, IsKept}
+use Rattle.r4_ready.specs.r4_kept.Naming.{Naming, names_in}
+use Rattle.r4_ready.specs.r4_kept.TasksOut.{AreOut}
+use Rattle.r4_ready.specs.r4_kept.View.{CoreSeen, tables_of}
 
 module _ {D : Type 0} (r : Naming) (d : State) (c : CoreSeen D) (k : IsKept r d c) (locks : LocksSeen)
     (same : SameTasks c.locks locks) where

@@ -3,7 +3,7 @@ use Rattle.std.proofs.Common.{◌≡◌, ◌≢◌, ℕ, ◌-◌, ◌<◌, map, 
 use Rattle.std.specs.Option.{option_map}
 use Rattle.r4_atoms.specs.Atoms.{AtomsSeen, joined, owner_of, renamed_txn}
 use Rattle.r4_atoms.specs.Names.{renamed}
-use Rattle.r4_history.specs.Tables.{Fuses}
+use Rattle.r4_others.specs.r4_history.Tables.{Fuses}
 
 module _ (old new : AtomsSeen) (kept gone : ℕ) (less : kept < gone) where
   smaller : min kept gone ≡ kept

@@ -25,6 +25,11 @@ mod DoneBy
 mod Roomier
 -- what crates above name by way of this one
 pub use Rattle.r4_flushing.proofs as r4_flushing
-pub use Rattle.r4_kept.proofs as r4_kept
+pub use Rattle.r4_others.proofs.r4_history
+pub use Rattle.r4_ready.proofs.r4_kept
+pub use Rattle.r4_start.proofs.r4_open
 pub use Rattle.r4_ready.proofs as r4_ready
+pub use Rattle.r4_ready.proofs.r4_suited
 pub use Rattle.r4_ready.proofs.r4_taking
+pub use Rattle.r4_trace.proofs as r4_trace
+pub use Rattle.r4_wander.proofs as r4_wander

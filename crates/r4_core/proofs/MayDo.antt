@@ -7,8 +7,8 @@ use Rattle.std.proofs.lemmas.List.Sums.{count_by-le-length}
 use Rattle.std.specs.Arc.{arc_value}
 use Rattle.std.specs.Global.{Global}
 use Rattle.std.specs.declared.sync.Arc as arc_declared
-use Rattle.r4_accounting.specs.Accounting.{added, is_fresh_less}
-use Rattle.r4_accounting.specs.Putting.{IsPriceable}
+use Rattle.r4_flushing.specs.r4_accounting.Accounting.{added, is_fresh_less}
+use Rattle.r4_flushing.specs.r4_accounting.Putting.{IsPriceable}
 use Rattle.r4_atoms.specs.Atoms.{FitTogether, account_of}
 use Rattle.r4_atoms.specs.declared.things.Account.{Account}
 use Rattle.r4_base.specs.declared.things.AtomNo.{AtomNo}
@@ -17,11 +17,11 @@ use Rattle.r4_buffer.specs.Seen.{cells_of}
 use Rattle.r4_cell.specs.Seen.{CellSeen}
 use Rattle.r4_core.specs.Doing.{Becomes, CanDo, change_of}
 use Rattle.r4_core.specs.declared.doing.Made.{Made}
-use Rattle.r4_accounting.specs.r4_done.Doing.{IsCount, is_less, is_more}
-use Rattle.r4_accounting.proofs.r4_done.FewCells.{few_new, few_writes, fewer_objects, less_cells, less_fresh}
-use Rattle.r4_kept.specs.Kept.{IsKept}
-use Rattle.r4_kept.specs.Naming.{Naming}
-use Rattle.r4_kept.specs.View.{CoreSeen}
+use Rattle.r4_flushing.specs.r4_done.Doing.{IsCount, is_less, is_more}
+use Rattle.r4_flushing.proofs.r4_done.FewCells.{few_new, few_writes, fewer_objects, less_cells, less_fresh}
+use Rattle.r4_ready.specs.r4_kept.Kept.{IsKept}
+use Rattle.r4_ready.specs.r4_kept.Naming.{Naming}
+use Rattle.r4_ready.specs.r4_kept.View.{CoreSeen}
 use Rattle.r4_outside.specs.Device.{State}
 use Rattle.r4_space.specs.Lawful.{IsLawful}
 use Rattle.r4_ready.proofs.r4_taking.Fused.{small_account}

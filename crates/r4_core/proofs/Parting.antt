@@ -9,14 +9,14 @@ use Rattle.r4_base.specs.Cell.{IsCellOf}
 use Rattle.r4_base.specs.Chain.{Txn}
 use Rattle.r4_base.specs.Image.{Image}
 use Rattle.r4_base.specs.declared.things.AtomNo.{AtomNo}
-use Rattle.r4_commit.specs.Planned.{CommitSeen}
+use Rattle.r4_ready.specs.r4_commit.Planned.{CommitSeen}
 use Rattle.r4_content.specs.Locality.{commands}
 use Rattle.r4_content.specs.Meaning.{greatest_size}
-use Rattle.r4_durable.specs.Meaning.{Beginning, IsNamed, start_of}
-use Rattle.r4_flushed.proofs.FlushedCells.{FitsOnDisk}
-use Rattle.r4_history.proofs.RunSteps.{told_later}
+use Rattle.r4_ready.specs.r4_durable.Meaning.{Beginning, IsNamed, start_of}
+use Rattle.r4_flushing.proofs.r4_flushed.FlushedCells.{FitsOnDisk}
+use Rattle.r4_others.proofs.r4_history.RunSteps.{told_later}
 use Rattle.r4_outside.specs.Device.{Goes, State, TellsCrashes}
-use Rattle.r4_sets.specs.Session.{Session}
+use Rattle.r4_flushing.specs.r4_sets.Session.{Session}
 use Rattle.r4_space.specs.Space.{Space}
 use Rattle.r4_trace.specs.Job.{Asked}
 use Rattle.r4_trace.specs.declared.entry.Entry.{Entry}
@@ -24,19 +24,19 @@ use Rattle.r4_wander.specs.LogPlan.{parts_of}
 use Rattle.r4_wander.specs.Parts.{IsOrderOf}
 use Rattle.r4_wander.specs.Progress.{Commits}
 use Rattle.r4_wander.specs.declared.plan.LogPlan.{LogPlan}
-use Rattle.r4_kept.specs.Accounts.{AreAccounts}
-use Rattle.r4_kept.specs.Cells.{AreCells}
-use Rattle.r4_kept.specs.Durable.{IsDurable, StandsAt}
-use Rattle.r4_kept.specs.History.{IsHistory, is_headed, owed_for_work}
-use Rattle.r4_kept.specs.Kept.{HasStory, IsKept}
-use Rattle.r4_kept.specs.Meaning.{Comes, HasMeaning, IsInCommit, IsInPart}
-use Rattle.r4_kept.specs.Naming.{Naming, job_named, names_in}
-use Rattle.r4_kept.specs.Steps.{IsQuietPart, Writes, writing, written}
-use Rattle.r4_kept.specs.Story.{Flush, Headed}
-use Rattle.r4_kept.specs.View.{CoreSeen, blocks_of, tables_of}
-use Rattle.r4_kept.specs.declared.parts.Commit.{Commit}
-use Rattle.r4_kept.specs.declared.parts.Volume.{Volume}
-use Rattle.r4_kept.proofs.Owing.{owes_last, owes_two}
+use Rattle.r4_ready.specs.r4_kept.Accounts.{AreAccounts}
+use Rattle.r4_ready.specs.r4_kept.Cells.{AreCells}
+use Rattle.r4_ready.specs.r4_kept.Durable.{IsDurable, StandsAt}
+use Rattle.r4_ready.specs.r4_kept.History.{IsHistory, is_headed, owed_for_work}
+use Rattle.r4_ready.specs.r4_kept.Kept.{HasStory, IsKept}
+use Rattle.r4_ready.specs.r4_kept.Meaning.{Comes, HasMeaning, IsInCommit, IsInPart}
+use Rattle.r4_ready.specs.r4_kept.Naming.{Naming, job_named, names_in}
+use Rattle.r4_ready.specs.r4_kept.Steps.{IsQuietPart, Writes, writing, written}
+use Rattle.r4_ready.specs.r4_kept.Story.{Flush, Headed}
+use Rattle.r4_ready.specs.r4_kept.View.{CoreSeen, blocks_of, tables_of}
+use Rattle.r4_ready.specs.r4_kept.declared.parts.Commit.{Commit}
+use Rattle.r4_ready.specs.r4_kept.declared.parts.Volume.{Volume}
+use Rattle.r4_ready.proofs.r4_kept.Owing.{owes_last, owes_two}
 use Rattle.r4_core.proofs.Writing.{Settles, Steps, apart_on, at_hand, begun_before, lawful_super, named_before}
 use Rattle.r4_core.proofs.Writing.{readable_now, same_read, still_safe, was, writing_now}
 

@@ -8,13 +8,13 @@ use Rattle.r4_content.specs.Locality.{commands}
 use Rattle.r4_content.specs.Meaning.{greatest_size}
 use Rattle.r4_content.specs.declared.command.Command.{Command}
 use Rattle.r4_content.specs.declared.command.Command.TheVariants as asks
-use Rattle.r4_durable.specs.Meaning.{Beginning, IsNamed, start_of}
-use Rattle.r4_history.specs.Held.{IsOut}
-use Rattle.r4_history.proofs.DrawnSteps.{drawn_pushed}
-use Rattle.r4_history.proofs.Places.{next_pushed, next_there}
-use Rattle.r4_history.proofs.RunSteps.{told_pushed}
-use Rattle.r4_history.proofs.TaskSteps.{tasks_pushed}
-use Rattle.r4_history.proofs.WaitingSteps.{pushed_ordered}
+use Rattle.r4_ready.specs.r4_durable.Meaning.{Beginning, IsNamed, start_of}
+use Rattle.r4_others.specs.r4_history.Held.{IsOut}
+use Rattle.r4_others.proofs.r4_history.DrawnSteps.{drawn_pushed}
+use Rattle.r4_others.proofs.r4_history.Places.{next_pushed, next_there}
+use Rattle.r4_others.proofs.r4_history.RunSteps.{told_pushed}
+use Rattle.r4_others.proofs.r4_history.TaskSteps.{tasks_pushed}
+use Rattle.r4_others.proofs.r4_history.WaitingSteps.{pushed_ordered}
 use Rattle.r4_outside.specs.Device.{State}
 use Rattle.r4_script.specs.declared.job.Script.{Script}
 use Rattle.r4_trace.specs.Job.{HasNoBegin, IsWork}
@@ -22,11 +22,11 @@ use Rattle.r4_trace.specs.Kept.{Told}
 use Rattle.r4_turns.specs.Turns.{HasNext, IsScript, TurnsSeen, commands_at, no_script, with_command}
 use Rattle.r4_turns.specs.declared.out.Out.{Out}
 use Rattle.r4_turns.specs.declared.turn.Turn.{Turn}
-use Rattle.r4_kept.specs.History.{IsHistory, is_commit, owed, owed_for_commit, owed_in}
-use Rattle.r4_kept.specs.Kept.{HasStory, IsKept}
-use Rattle.r4_kept.specs.Naming.{Naming, names_in}
-use Rattle.r4_kept.specs.Tables.{AreTables}
-use Rattle.r4_kept.specs.View.{CoreSeen, tables_of}
+use Rattle.r4_ready.specs.r4_kept.History.{IsHistory, is_commit, owed, owed_for_commit, owed_in}
+use Rattle.r4_ready.specs.r4_kept.Kept.{HasStory, IsKept}
+use Rattle.r4_ready.specs.r4_kept.Naming.{Naming, names_in}
+use Rattle.r4_ready.specs.r4_kept.Tables.{AreTables}
+use Rattle.r4_ready.specs.r4_kept.View.{CoreSeen, tables_of}
 use Rattle.r4_core.proofs.Answered.{TurnsGoOn, accounts_after, cells_after, tasks_after}
 
 -- ---- entries for which room is kept

@@ -2,14 +2,14 @@
 use Rattle.std.proofs.Common.{◌≡◌, ℕ, ◌+◌, ◌≤◌, Option, Some, None, refl, sym, ◌∙◌, ap, subst, arith}
 use Rattle.std.specs.Prelude.{IsSome, slice_get}
 use Rattle.r4_base.specs.declared.things.TxnNo.{TxnNo}
-use Rattle.r4_history.specs.Held.{IsServed}
-use Rattle.r4_history.specs.Tables.{single}
-use Rattle.r4_history.proofs.Places.{is_script_with, turn_now}
-use Rattle.r4_kept.specs.History.{owed, owed_for_commit}
-use Rattle.r4_kept.specs.Kept.{IsKept}
-use Rattle.r4_kept.specs.Naming.{Naming}
-use Rattle.r4_kept.specs.Steps.{IsTakenBack}
-use Rattle.r4_kept.specs.View.{CoreSeen, tables_of}
+use Rattle.r4_others.specs.r4_history.Held.{IsServed}
+use Rattle.r4_others.specs.r4_history.Tables.{single}
+use Rattle.r4_others.proofs.r4_history.Places.{is_script_with, turn_now}
+use Rattle.r4_ready.specs.r4_kept.History.{owed, owed_for_commit}
+use Rattle.r4_ready.specs.r4_kept.Kept.{IsKept}
+use Rattle.r4_ready.specs.r4_kept.Naming.{Naming}
+use Rattle.r4_ready.specs.r4_kept.Steps.{IsTakenBack}
+use Rattle.r4_ready.specs.r4_kept.View.{CoreSeen, tables_of}
 use Rattle.r4_outside.specs.Device.{State}
 use Rattle.r4_ready.specs.r4_taking.Refusing.{StandsSingle}
 use Rattle.r4_ready.proofs.r4_taking.RefusedSingle.{room_back}

@@ -12,12 +12,12 @@ use Rattle.r4_content.specs.declared.command.Command.{Command}
 use Rattle.r4_content.specs.declared.command.Command.TheVariants as asks
 use Rattle.r4_content.specs.declared.reply.Reply.{Reply}
 use Rattle.r4_content.specs.declared.reply.Reply.TheVariants.{Reopen}
-use Rattle.r4_durable.specs.Meaning.{Beginning, BeginsWith, start_of}
-use Rattle.r4_history.specs.Tables.{IsLastOf, Stands, next_at}
-use Rattle.r4_history.specs.Told.{IsTold}
-use Rattle.r4_history.proofs.Places.{next_there, turn_now}
-use Rattle.r4_history.proofs.Told.{told_acked, told_refused_commit, told_refused_inside, told_refused_outside}
-use Rattle.r4_history.proofs.Told.{told_reopen}
+use Rattle.r4_ready.specs.r4_durable.Meaning.{Beginning, BeginsWith, start_of}
+use Rattle.r4_others.specs.r4_history.Tables.{IsLastOf, Stands, next_at}
+use Rattle.r4_others.specs.r4_history.Told.{IsTold}
+use Rattle.r4_others.proofs.r4_history.Places.{next_there, turn_now}
+use Rattle.r4_others.proofs.r4_history.Told.{told_acked, told_refused_commit, told_refused_inside, told_refused_outside}
+use Rattle.r4_others.proofs.r4_history.Told.{told_reopen}
 use Rattle.r4_outside.specs.Device.{State}
 use Rattle.r4_trace.specs.Job.{IsWork}
 use Rattle.r4_trace.specs.Kept.{Told}
@@ -25,13 +25,13 @@ use Rattle.r4_trace.specs.declared.entry.Entry.TheVariants.{Acked, Refused}
 use Rattle.r4_turns.specs.Turns.{HasNext, IsScript, TurnsSeen, answered_at, answered_one, turn_at}
 use Rattle.r4_turns.specs.declared.turn.Open.{Open}
 use Rattle.r4_turns.specs.declared.turn.Turn.{Turn}
-use Rattle.r4_kept.specs.History.{owed, owed_for_commit}
-use Rattle.r4_kept.specs.Kept.{IsKept}
-use Rattle.r4_kept.specs.Naming.{Naming, names_in}
-use Rattle.r4_kept.specs.Steps.{IsRefusable, MayBeRefused, NamesTxn, with_entry}
-use Rattle.r4_kept.specs.View.{CoreSeen, tables_of}
+use Rattle.r4_ready.specs.r4_kept.History.{owed, owed_for_commit}
+use Rattle.r4_ready.specs.r4_kept.Kept.{IsKept}
+use Rattle.r4_ready.specs.r4_kept.Naming.{Naming, names_in}
+use Rattle.r4_ready.specs.r4_kept.Steps.{IsRefusable, MayBeRefused, NamesTxn, with_entry}
+use Rattle.r4_ready.specs.r4_kept.View.{CoreSeen, tables_of}
 use Rattle.r4_core.proofs.Answered.{keeps_answered, not_out}
-use Rattle.r4_kept.proofs.Turning.{commit_owed}
+use Rattle.r4_ready.proofs.r4_kept.Turning.{commit_owed}
 
 -- one command more is answered then
 pub now_answered : (t : TurnsSeen) (s : ℕ) → IsScript t s → answered_at (answered_one t s) s ≡ answered_at t s + 1

@@ -2,9 +2,9 @@
 use Rattle.std.proofs.Common.{◌≡◌, ◌∙◌, ap}
 use Rattle.r4_atoms.specs.Atoms.{AtomsSeen, TxnSeen}
 use Rattle.r4_buffer.specs.Seen.{BufferSeen}
-use Rattle.r4_kept.specs.View.{CoreSeen}
+use Rattle.r4_ready.specs.r4_kept.View.{CoreSeen}
 use Rattle.r4_ready.specs.Rooms.{HasMoreRoom}
-use Rattle.r4_rooms.specs.Rooms.{HasMoreCaptures, HasMoreClaims, HasMoreEntries, HasMorePlaces}
+use Rattle.r4_start.specs.r4_rooms.Rooms.{HasMoreCaptures, HasMoreClaims, HasMoreEntries, HasMorePlaces}
 use Rattle.r4_space.specs.Space.{Space}
 use Rattle.r4_trace.specs.Kept.{Told}
 

@@ -8,20 +8,20 @@ use Rattle.r4_base.specs.declared.things.NodeId.{NodeId}
 use Rattle.r4_buffer.specs.Seen.{BufferSeen}
 use Rattle.r4_cell.specs.Seen.{CellSeen}
 use Rattle.r4_cell.specs.declared.change.Root.{Root}
-use Rattle.r4_flush.specs.declared.preparing.Prepared.{Prepared}
+use Rattle.r4_flushing.specs.r4_flush.declared.preparing.Prepared.{Prepared}
 use Rattle.r4_flushing.specs.Sealable.{MaySeal}
 use Rattle.r4_flushing.specs.Sealing.{HasSealed, root_renamed}
-use Rattle.r4_history.specs.Tables.{with_sealed}
-use Rattle.r4_renaming.specs.Renamed.{HasNewNames, Parts, StaysNamed}
-use Rattle.r4_renaming.specs.Renaming.{name_then, turns_with_pins}
+use Rattle.r4_others.specs.r4_history.Tables.{with_sealed}
+use Rattle.r4_flushing.specs.r4_renaming.Renamed.{HasNewNames, Parts, StaysNamed}
+use Rattle.r4_flushing.specs.r4_renaming.Renaming.{name_then, turns_with_pins}
 use Rattle.r4_space.specs.Space.{Space, sealed_in}
 use Rattle.r4_trace.specs.Kept.{Told}
 use Rattle.r4_trace.specs.declared.entry.Entry.TheVariants.{Sealed}
 use Rattle.r4_turns.specs.Turns.{TurnsSeen}
-use Rattle.r4_kept.specs.Steps.{with_entry}
-use Rattle.r4_kept.specs.View.{CoreSeen}
-use Rattle.r4_kept.specs.declared.parts.Commit.{Commit}
-use Rattle.r4_kept.proofs.States.{owners_same}
+use Rattle.r4_ready.specs.r4_kept.Steps.{with_entry}
+use Rattle.r4_ready.specs.r4_kept.View.{CoreSeen}
+use Rattle.r4_ready.specs.r4_kept.declared.parts.Commit.{Commit}
+use Rattle.r4_ready.proofs.r4_kept.States.{owners_same}
 use Rattle.r4_ready.specs.Rooms.{HasMoreRoom}
 
 pub on_err : {A E : Type 0} (r : Result A E) (P : Type 0) → P → OnErr r P

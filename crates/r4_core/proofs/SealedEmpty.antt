@@ -13,18 +13,18 @@ use Rattle.r4_base.specs.declared.things.AtomNo.{AtomNo}
 use Rattle.r4_base.specs.declared.things.NodeId.{NodeId}
 use Rattle.r4_content.specs.Locality.{commands}
 use Rattle.r4_content.specs.Meaning.{greatest_size}
-use Rattle.r4_durable.specs.Kept.{IsSession}
-use Rattle.r4_durable.specs.Meaning.{Beginning, IsNamed, means, start_of}
-use Rattle.r4_durable.proofs.Empty.{empty_deferred, empty_session}
-use Rattle.r4_flushed.specs.Deferred.{AreDeferred}
-use Rattle.r4_history.specs.Tables.{with_sealed}
-use Rattle.r4_history.proofs.AtomSteps.{committed_sealed}
-use Rattle.r4_history.proofs.DrawnSteps.{drawn_entry}
-use Rattle.r4_history.proofs.TaskSteps.{state_follow, tasks_other}
-use Rattle.r4_history.proofs.Told.{told_sealed}
+use Rattle.r4_ready.specs.r4_durable.Kept.{IsSession}
+use Rattle.r4_ready.specs.r4_durable.Meaning.{Beginning, IsNamed, means, start_of}
+use Rattle.r4_ready.proofs.r4_durable.Empty.{empty_deferred, empty_session}
+use Rattle.r4_flushing.specs.r4_flushed.Deferred.{AreDeferred}
+use Rattle.r4_others.specs.r4_history.Tables.{with_sealed}
+use Rattle.r4_others.proofs.r4_history.AtomSteps.{committed_sealed}
+use Rattle.r4_others.proofs.r4_history.DrawnSteps.{drawn_entry}
+use Rattle.r4_others.proofs.r4_history.TaskSteps.{state_follow, tasks_other}
+use Rattle.r4_others.proofs.r4_history.Told.{told_sealed}
 use Rattle.r4_outside.specs.Device.{State, TellsCrashes}
-use Rattle.r4_sets.specs.Atoms.{sealed, without}
-use Rattle.r4_sets.specs.Session.{Session}
+use Rattle.r4_flushing.specs.r4_sets.Atoms.{sealed, without}
+use Rattle.r4_flushing.specs.r4_sets.Session.{Session}
 use Rattle.r4_space.specs.Space.{Space}
 use Rattle.r4_trace.specs.Job.{Asked}
 use Rattle.r4_trace.specs.Kept.{Told}
@@ -32,19 +32,19 @@ use Rattle.r4_trace.specs.Order.{IsOrdered}
 use Rattle.r4_trace.specs.declared.entry.Entry.{Entry}
 use Rattle.r4_trace.specs.declared.entry.Entry.TheVariants.{Sealed}
 use Rattle.r4_trace.proofs.Safely.{safe_push}
-use Rattle.r4_kept.specs.Accounts.{AreAccounts, CountsCells}
-use Rattle.r4_kept.specs.Cells.{AreCells}
-use Rattle.r4_kept.specs.Durable.{IsDurable}
-use Rattle.r4_kept.specs.History.{IsHistory, is_headed, owed}
-use Rattle.r4_kept.specs.Kept.{HasStory, IsKept}
-use Rattle.r4_kept.specs.Meaning.{HasMeaning, IsAtRest, IsSealedEmpty, if_open}
-use Rattle.r4_kept.specs.Naming.{Naming, job_named, names_in}
-use Rattle.r4_kept.specs.Steps.{sealed_empty, with_entry}
-use Rattle.r4_kept.specs.Story.{Story}
-use Rattle.r4_kept.specs.View.{CoreSeen, tables_of}
-use Rattle.r4_kept.specs.declared.parts.Commit.{Commit}
-use Rattle.r4_kept.specs.declared.parts.Volume.{Volume}
-use Rattle.r4_kept.proofs.States.{owners_same, state_others, state_same, state_there}
+use Rattle.r4_ready.specs.r4_kept.Accounts.{AreAccounts, CountsCells}
+use Rattle.r4_ready.specs.r4_kept.Cells.{AreCells}
+use Rattle.r4_ready.specs.r4_kept.Durable.{IsDurable}
+use Rattle.r4_ready.specs.r4_kept.History.{IsHistory, is_headed, owed}
+use Rattle.r4_ready.specs.r4_kept.Kept.{HasStory, IsKept}
+use Rattle.r4_ready.specs.r4_kept.Meaning.{HasMeaning, IsAtRest, IsSealedEmpty, if_open}
+use Rattle.r4_ready.specs.r4_kept.Naming.{Naming, job_named, names_in}
+use Rattle.r4_ready.specs.r4_kept.Steps.{sealed_empty, with_entry}
+use Rattle.r4_ready.specs.r4_kept.Story.{Story}
+use Rattle.r4_ready.specs.r4_kept.View.{CoreSeen, tables_of}
+use Rattle.r4_ready.specs.r4_kept.declared.parts.Commit.{Commit}
+use Rattle.r4_ready.specs.r4_kept.declared.parts.Volume.{Volume}
+use Rattle.r4_ready.proofs.r4_kept.States.{owners_same, state_others, state_same, state_there}
 
 -- ---- in a run that names its beginning
 

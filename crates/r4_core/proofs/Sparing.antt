@@ -6,19 +6,19 @@ use Rattle.r4_base.specs.Image.{Image}
 use Rattle.r4_base.specs.Value.{Content}
 use Rattle.r4_base.specs.Volume.{HasVolume, Needs}
 use Rattle.r4_base.specs.declared.things.AtomNo.{AtomNo}
-use Rattle.r4_commit.specs.Plannable.{is_spoken_for}
-use Rattle.r4_commit.specs.Planned.{CommitSeen}
-use Rattle.r4_commit.proofs.Safety.{first_free}
+use Rattle.r4_ready.specs.r4_commit.Plannable.{is_spoken_for}
+use Rattle.r4_ready.specs.r4_commit.Planned.{CommitSeen}
+use Rattle.r4_ready.proofs.r4_commit.Safety.{first_free}
 use Rattle.r4_content.specs.Meaning.{greatest_size}
-use Rattle.r4_durable.specs.Kept.{sealing_of}
-use Rattle.r4_durable.specs.Meaning.{Beginning, IsNamed, first_id}
-use Rattle.r4_durable.specs.Sealing.{IsSealing, Sealing, commit_in, made_by}
-use Rattle.r4_durable.proofs.Flushes.{is_sealing}
-use Rattle.r4_durable.proofs.SealedContent.{here, ok}
-use Rattle.r4_flushed.proofs.FlushedCells.{FitsOnDisk}
+use Rattle.r4_ready.specs.r4_durable.Kept.{sealing_of}
+use Rattle.r4_ready.specs.r4_durable.Meaning.{Beginning, IsNamed, first_id}
+use Rattle.r4_ready.specs.r4_durable.Sealing.{IsSealing, Sealing, commit_in, made_by}
+use Rattle.r4_ready.proofs.r4_durable.Flushes.{is_sealing}
+use Rattle.r4_ready.proofs.r4_durable.SealedContent.{here, ok}
+use Rattle.r4_flushing.proofs.r4_flushed.FlushedCells.{FitsOnDisk}
 use Rattle.r4_outside.specs.Device.{State, TellsCrashes}
-use Rattle.r4_sealed.proofs.Kept.{needed}
-use Rattle.r4_sets.specs.Session.{Session}
+use Rattle.r4_flushing.proofs.r4_sealed.Kept.{needed}
+use Rattle.r4_flushing.specs.r4_sets.Session.{Session}
 use Rattle.r4_space.specs.Space.{Space}
 use Rattle.r4_trace.specs.Job.{Asked}
 use Rattle.r4_trace.specs.Traced.{committed_in}
@@ -27,15 +27,15 @@ use Rattle.r4_wander.specs.Needed.{SparesNeeded}
 use Rattle.r4_wander.specs.Progress.{Commits, Stands}
 use Rattle.r4_wander.specs.Torn.{IsTarget}
 use Rattle.r4_wander.specs.declared.plan.LogPlan.{LogPlan}
-use Rattle.r4_kept.specs.Durable.{StandsAt}
-use Rattle.r4_kept.specs.Kept.{IsKept}
-use Rattle.r4_kept.specs.Meaning.{IsFlushing, IsInCommit}
-use Rattle.r4_kept.specs.Naming.{Naming, job_named, names_in}
-use Rattle.r4_kept.specs.Steps.{Writes}
-use Rattle.r4_kept.specs.Story.{Flush}
-use Rattle.r4_kept.specs.View.{CoreSeen}
-use Rattle.r4_kept.specs.declared.parts.Commit.{Commit}
-use Rattle.r4_kept.specs.declared.parts.Volume.{Volume}
+use Rattle.r4_ready.specs.r4_kept.Durable.{StandsAt}
+use Rattle.r4_ready.specs.r4_kept.Kept.{IsKept}
+use Rattle.r4_ready.specs.r4_kept.Meaning.{IsFlushing, IsInCommit}
+use Rattle.r4_ready.specs.r4_kept.Naming.{Naming, job_named, names_in}
+use Rattle.r4_ready.specs.r4_kept.Steps.{Writes}
+use Rattle.r4_ready.specs.r4_kept.Story.{Flush}
+use Rattle.r4_ready.specs.r4_kept.View.{CoreSeen}
+use Rattle.r4_ready.specs.r4_kept.declared.parts.Commit.{Commit}
+use Rattle.r4_ready.specs.r4_kept.declared.parts.Volume.{Volume}
 use Rattle.r4_core.proofs.Writing.{at_hand, small}
 
 -- what a step of the writer says of needed blocks

@@ -2,15 +2,15 @@
 use Rattle.std.proofs.Common.{◌≡◌, ℕ, true, false, Option, Some, None, refl, sym, ◌∙◌, ap, subst}
 use Rattle.std.specs.Option.{is_some}
 use Rattle.r4_base.specs.declared.things.AtomNo.{AtomNo}
-use Rattle.r4_commit.specs.Planned.{CommitSeen}
+use Rattle.r4_ready.specs.r4_commit.Planned.{CommitSeen}
 use Rattle.r4_outside.specs.Device.{State}
-use Rattle.r4_kept.specs.Kept.{IsKept}
-use Rattle.r4_kept.specs.Naming.{Naming}
-use Rattle.r4_kept.specs.Steps.{IsAdvanced, IsAtNothing, IsAtPlan, StepsBy, TakesStep, Writes, WritesNothing, emptied}
-use Rattle.r4_kept.specs.View.{CoreSeen, committing}
-use Rattle.r4_kept.specs.declared.parts.Commit.{Commit}
-use Rattle.r4_kept.specs.declared.parts.Step.{Step}
-use Rattle.r4_kept.specs.declared.parts.Step.TheVariants.{Committed, Idle}
+use Rattle.r4_ready.specs.r4_kept.Kept.{IsKept}
+use Rattle.r4_ready.specs.r4_kept.Naming.{Naming}
+use Rattle.r4_ready.specs.r4_kept.Steps.{IsAdvanced, IsAtNothing, IsAtPlan, StepsBy, TakesStep, Writes, WritesNothing, emptied}
+use Rattle.r4_ready.specs.r4_kept.View.{CoreSeen, committing}
+use Rattle.r4_ready.specs.r4_kept.declared.parts.Commit.{Commit}
+use Rattle.r4_ready.specs.r4_kept.declared.parts.Step.{Step}
+use Rattle.r4_ready.specs.r4_kept.declared.parts.Step.TheVariants.{Committed, Idle}
 
 module _ {D : Type 0} (r : Naming) (d : State) (c : CoreSeen D) (h : IsKept r d c) (k : Commit)
     (at : c.commit ≡ Some k) where

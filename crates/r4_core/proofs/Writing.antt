@@ -10,21 +10,21 @@ use Rattle.r4_base.specs.Layout.{IsLawfulSuper}
 use Rattle.r4_base.specs.declared.superblock.Super40.{Super40}
 use Rattle.r4_base.specs.declared.things.AtomNo.{AtomNo}
 use Rattle.r4_base.proofs.Choices.{nothing_in}
-use Rattle.r4_commit.specs.Planned.{CommitSeen}
+use Rattle.r4_ready.specs.r4_commit.Planned.{CommitSeen}
 use Rattle.r4_content.specs.Locality.{commands}
 use Rattle.r4_content.specs.Meaning.{greatest_size}
-use Rattle.r4_durable.specs.Meaning.{Beginning, BeginsWith, IsNamed, means, start_of}
-use Rattle.r4_durable.proofs.GoingOn.{part_step, step_behind}
-use Rattle.r4_durable.proofs.Staying.{ordered_before}
-use Rattle.r4_flushed.proofs.FlushedCells.{FitsOnDisk}
-use Rattle.r4_history.proofs.DrawnSteps.{drawn_entry}
-use Rattle.r4_history.proofs.TaskSteps.{tasks_other}
-use Rattle.r4_history.proofs.Told.{told_broken}
+use Rattle.r4_ready.specs.r4_durable.Meaning.{Beginning, BeginsWith, IsNamed, means, start_of}
+use Rattle.r4_ready.proofs.r4_durable.GoingOn.{part_step, step_behind}
+use Rattle.r4_ready.proofs.r4_durable.Staying.{ordered_before}
+use Rattle.r4_flushing.proofs.r4_flushed.FlushedCells.{FitsOnDisk}
+use Rattle.r4_others.proofs.r4_history.DrawnSteps.{drawn_entry}
+use Rattle.r4_others.proofs.r4_history.TaskSteps.{tasks_other}
+use Rattle.r4_others.proofs.r4_history.Told.{told_broken}
 use Rattle.r4_outside.specs.Device.{Goes, LeavesOnly, State, TellsCrashes, TellsReads}
-use Rattle.r4_placed.specs.Flushing.{commit_by_block}
-use Rattle.r4_sealed.specs.Commits.{LeftInPart}
-use Rattle.r4_sets.specs.Atoms.{told}
-use Rattle.r4_sets.specs.Session.{Session}
+use Rattle.r4_flushing.specs.r4_placed.Flushing.{commit_by_block}
+use Rattle.r4_flushing.specs.r4_sealed.Commits.{LeftInPart}
+use Rattle.r4_flushing.specs.r4_sets.Atoms.{told}
+use Rattle.r4_flushing.specs.r4_sets.Session.{Session}
 use Rattle.r4_space.specs.Space.{Space}
 use Rattle.r4_trace.specs.Job.{Asked}
 use Rattle.r4_trace.specs.Kept.{Told}
@@ -44,20 +44,20 @@ use Rattle.r4_wander.specs.declared.plan.LogPlan.{LogPlan}
 use Rattle.r4_base.specs.Chain.{Txn}
 use Rattle.r4_wander.proofs.Members.{any_cases, any_here, any_later}
 use Rattle.r4_wander.proofs.Settling.{put_writes_other}
-use Rattle.r4_kept.specs.Accounts.{AreAccounts}
-use Rattle.r4_kept.specs.Cells.{AreCells, AreReadable, IsWriting}
-use Rattle.r4_kept.specs.Durable.{IsDurable, StandsAt}
-use Rattle.r4_kept.specs.History.{IsHistory}
-use Rattle.r4_kept.specs.Kept.{HasStory, IsKept}
-use Rattle.r4_kept.specs.Meaning.{ComesFrom, HasMeaning, IsFlushing, IsInCommit, IsInPart}
-use Rattle.r4_kept.specs.Naming.{Naming, job_named, names_in}
-use Rattle.r4_kept.specs.Steps.{IsAtPlan, IsQuietPart, Writes, failed, with_entry, writing}
-use Rattle.r4_kept.specs.Story.{Flush, Headed as HeadedThen, Story}
-use Rattle.r4_kept.specs.View.{CoreSeen, blocks_of, tables_of}
-use Rattle.r4_kept.specs.declared.parts.Commit.{Commit}
-use Rattle.r4_kept.specs.declared.parts.Volume.{Volume}
-use Rattle.r4_kept.proofs.Carried.{session_told}
-use Rattle.r4_kept.proofs.Owing.{owes_one}
+use Rattle.r4_ready.specs.r4_kept.Accounts.{AreAccounts}
+use Rattle.r4_ready.specs.r4_kept.Cells.{AreCells, AreReadable, IsWriting}
+use Rattle.r4_ready.specs.r4_kept.Durable.{IsDurable, StandsAt}
+use Rattle.r4_ready.specs.r4_kept.History.{IsHistory}
+use Rattle.r4_ready.specs.r4_kept.Kept.{HasStory, IsKept}
+use Rattle.r4_ready.specs.r4_kept.Meaning.{ComesFrom, HasMeaning, IsFlushing, IsInCommit, IsInPart}
+use Rattle.r4_ready.specs.r4_kept.Naming.{Naming, job_named, names_in}
+use Rattle.r4_ready.specs.r4_kept.Steps.{IsAtPlan, IsQuietPart, Writes, failed, with_entry, writing}
+use Rattle.r4_ready.specs.r4_kept.Story.{Flush, Headed as HeadedThen, Story}
+use Rattle.r4_ready.specs.r4_kept.View.{CoreSeen, blocks_of, tables_of}
+use Rattle.r4_ready.specs.r4_kept.declared.parts.Commit.{Commit}
+use Rattle.r4_ready.specs.r4_kept.declared.parts.Volume.{Volume}
+use Rattle.r4_ready.proofs.r4_kept.Carried.{session_told}
+use Rattle.r4_ready.proofs.r4_kept.Owing.{owes_one}
 
 -- ---- blocks that no part writes
 

@@ -1,8 +1,8 @@
 -- What a command is done by whose task is out, and what that leaves.
 use Rattle.std.specs.Prelude.{◌≡◌, ◌+◌, ◌<◌, ◌≤◌, ℕ, List, Option}
 use Rattle.std.specs.Borrow.{GName}
-use Rattle.r4_accounting.specs.Accounting.{HasDeferred}
-use Rattle.r4_accounting.specs.Putting.{IsPriceable}
+use Rattle.r4_flushing.specs.r4_accounting.Accounting.{HasDeferred}
+use Rattle.r4_flushing.specs.r4_accounting.Putting.{IsPriceable}
 use Rattle.r4_atoms.specs.Atoms.{account_of}
 use Rattle.r4_atoms.specs.declared.things.Account.{Account}
 use Rattle.r4_base.specs.Image.{Image}
@@ -12,13 +12,13 @@ use Rattle.r4_base.specs.declared.things.TxnNo.{TxnNo}
 use Rattle.r4_buffer.specs.Seen.{cells_of}
 use Rattle.r4_cell.specs.declared.change.Change.{Change}
 use Rattle.r4_core.specs.declared.doing.Made.{Made}
-use Rattle.r4_accounting.specs.r4_done.Doing.{IsCount}
-use Rattle.r4_accounting.specs.r4_done.Done.{CanBeDone, HasDone, HasDoneSingle, IsChangeOf}
-use Rattle.r4_accounting.specs.r4_done.Right.{IsRight}
-use Rattle.r4_durable.specs.Meaning.{Beginning, IsNamed}
-use Rattle.r4_kept.specs.Kept.{IsKept}
-use Rattle.r4_kept.specs.Naming.{Naming, names_in}
-use Rattle.r4_kept.specs.View.{CoreSeen}
+use Rattle.r4_flushing.specs.r4_done.Doing.{IsCount}
+use Rattle.r4_flushing.specs.r4_done.Done.{CanBeDone, HasDone, HasDoneSingle, IsChangeOf}
+use Rattle.r4_flushing.specs.r4_done.Right.{IsRight}
+use Rattle.r4_ready.specs.r4_durable.Meaning.{Beginning, IsNamed}
+use Rattle.r4_ready.specs.r4_kept.Kept.{IsKept}
+use Rattle.r4_ready.specs.r4_kept.Naming.{Naming, names_in}
+use Rattle.r4_ready.specs.r4_kept.View.{CoreSeen}
 use Rattle.r4_outside.specs.Device.{State}
 use Rattle.r4_space.specs.Lawful.{IsLawful}
 use Rattle.r4_space.specs.Space.{charged, free_of, need_at}

@@ -2,9 +2,9 @@
 use Rattle.std.specs.Prelude.{◌≡◌, ◌≢◌, ◌+◌, ◌≤◌, ℕ, Contains, List, None}
 use Rattle.std.specs.Prelude.{length}
 use Rattle.r4_atoms.specs.Atoms.{IsOpenAtom}
-use Rattle.r4_history.specs.Serving.{Rise}
-use Rattle.r4_kept.specs.History.{owed, owed_for_commit}
-use Rattle.r4_kept.specs.View.{CoreSeen}
+use Rattle.r4_others.specs.r4_history.Serving.{Rise}
+use Rattle.r4_ready.specs.r4_kept.History.{owed, owed_for_commit}
+use Rattle.r4_ready.specs.r4_kept.View.{CoreSeen}
 
 -- An atom may fuse with these, one after another: all of them are open, and they are others and
 -- rise. There is room for an entry for each.

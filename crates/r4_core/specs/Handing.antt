@@ -5,11 +5,11 @@ use Rattle.r4_buffer.specs.Seen.{cells_of}
 use Rattle.r4_cell.specs.Patch.{HaveNames, by_name, root_of_pair}
 use Rattle.r4_core.specs.declared.handing.Given.{Given}
 use Rattle.r4_core.specs.declared.handing.GoingOut.{GoingOut}
-use Rattle.r4_history.specs.Held.{names_of}
-use Rattle.r4_kept.specs.View.{CoreSeen}
+use Rattle.r4_others.specs.r4_history.Held.{names_of}
+use Rattle.r4_ready.specs.r4_kept.View.{CoreSeen}
 use Rattle.r4_locks.specs.Locks.{CanLetIn, SameTasks, conflict_of}
 use Rattle.r4_outside.specs.Device.{State}
-use Rattle.r4_patch.specs.Part.{IsPart}
+use Rattle.r4_ready.specs.r4_patch.Part.{IsPart}
 use Rattle.r4_ready.specs.r4_taking.GoingOut.{CanGoOut}
 use Rattle.r4_turns.specs.Turns.{IsScript}
 use Rattle.r4_turns.specs.declared.out.Out.{Out}

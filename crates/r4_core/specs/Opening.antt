@@ -2,12 +2,12 @@
 -- there is none (docs/core.md, "Opening").
 use Rattle.std.specs.Prelude.{◌≡◌, ℕ, [], None}
 use Rattle.r4_base.specs.Volume.{root_of}
-use Rattle.r4_durable.specs.Kept.{space_of}
-use Rattle.r4_open.specs.declared.opened.Opened.{Opened}
+use Rattle.r4_ready.specs.r4_durable.Kept.{space_of}
+use Rattle.r4_start.specs.r4_open.declared.opened.Opened.{Opened}
 use Rattle.r4_outside.specs.Device.{State}
 use Rattle.r4_script.specs.declared.job.Job.{Job}
 use Rattle.r4_turns.specs.Turns.{started}
-use Rattle.r4_kept.specs.View.{CoreSeen, root_seen}
+use Rattle.r4_ready.specs.r4_kept.View.{CoreSeen, root_seen}
 use Rattle.r4_start.specs.Starting.{IsFound, first_numbers, first_volume}
 
 -- ---- a core at its start

@@ -3,8 +3,8 @@ use Rattle.std.specs.Prelude.{◌≡◌}
 use Rattle.r4_base.specs.declared.things.ScriptNo.{ScriptNo}
 use Rattle.r4_base.specs.declared.things.TxnNo.{TxnNo}
 use Rattle.r4_content.specs.declared.reply.Reply.{Reply}
-use Rattle.r4_kept.specs.Steps.{IsTakenBack}
-use Rattle.r4_kept.specs.View.{CoreSeen}
+use Rattle.r4_ready.specs.r4_kept.Steps.{IsTakenBack}
+use Rattle.r4_ready.specs.r4_kept.View.{CoreSeen}
 use Rattle.r4_ready.specs.r4_taking.Refusing.{refused_single}
 use Rattle.r4_turns.specs.declared.out.Out.{Out}
 

@@ -1,9 +1,9 @@
 -- For what a core has room (docs/core.md, "Room").
 use Rattle.std.specs.Prelude.{◌+◌, ◌≤◌}
-use Rattle.r4_kept.specs.Accounts.{cells_owed, claims_owed}
-use Rattle.r4_kept.specs.History.{owed, owed_for_commit}
-use Rattle.r4_kept.specs.View.{CoreSeen}
-use Rattle.r4_rooms.specs.declared.making.Wanted.{Wanted}
+use Rattle.r4_ready.specs.r4_kept.Accounts.{cells_owed, claims_owed}
+use Rattle.r4_ready.specs.r4_kept.History.{owed, owed_for_commit}
+use Rattle.r4_ready.specs.r4_kept.View.{CoreSeen}
+use Rattle.r4_start.specs.r4_rooms.declared.making.Wanted.{Wanted}
 
 -- It has room for what is wanted, beside the entries that may not want memory and what tasks that
 -- are out may still use up; and for one more transaction.

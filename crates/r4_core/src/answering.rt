@@ -4,11 +4,11 @@ ghost use Rattle.std.specs.Prelude.{◌≡◌, ◌+◌, ◌≤◌, IsSome, None,
 ghost use Rattle.r4_atoms.specs.Atoms.{AllCommitted};
 ghost use Rattle.r4_content.specs.declared.command.Command.TheVariants as asks;
 ghost use Rattle.r4_content.specs.declared.reply.Reply.TheVariants.{Reopen};
-ghost use Rattle.r4_history.specs.Tables.{IsLastOf, Stands, next_at};
+ghost use Rattle.r4_others.specs.r4_history.Tables.{IsLastOf, Stands, next_at};
 ghost use Rattle.r4_trace.specs.declared.entry.Entry.TheVariants.{Acked, Refused};
 ghost use Rattle.r4_turns.specs.Turns.{IsScript, answered_at, answered_one, turn_at};
-ghost use Rattle.r4_kept.specs.History.{owed, owed_for_commit};
-ghost use Rattle.r4_kept.specs.Steps.{IsRefusable, answered};
+ghost use Rattle.r4_ready.specs.r4_kept.History.{owed, owed_for_commit};
+ghost use Rattle.r4_ready.specs.r4_kept.Steps.{IsRefusable, answered};
 ghost use Rattle.r4_ready.specs.r4_taking.Refusing.{StandsSingle, refused_single};
 
 use crate::core_state::Core;

@@ -4,16 +4,14 @@ ghost use Rattle.std.specs.Prelude.{◌≡◌, IfOk, None};
 ghost use Rattle.std.specs.Option.{option_map};
 ghost use Rattle.r4_content.specs.Fields.{HasBytePaths};
 ghost use Rattle.r4_ready.specs.Readiness.{parts_of, plan_of};
-ghost use Rattle.r4_search.specs.Pool.{LeavesDevice};
+ghost use Rattle.r4_buffer.specs.r4_search.Pool.{LeavesDevice};
 ghost use Rattle.r4_ready.specs.r4_serve.Serving.{Asks};
 
 use crate::core_state::Core;
 use r4_base::Memory;
-use r4_commit::CommitPlan;
 use r4_content::Command;
-use r4_kept::Commit;
 use r4_outside::{Device, Run};
-use r4_ready::{Asked, Parts, ask};
+use r4_ready::{Asked, Commit, CommitPlan, Parts, ask};
 use std::alloc::Global;
 
 impl<D: Device, R: Run> Core<D, R> {

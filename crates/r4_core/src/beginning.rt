@@ -2,9 +2,9 @@
 
 ghost use Rattle.std.specs.Prelude.{◌≡◌, ◌+◌, ◌<◌, ◌≤◌, length, IfOk, IsOk, None, OnErr, Some};
 ghost use Rattle.r4_content.specs.declared.command.Command.TheVariants as asks;
-ghost use Rattle.r4_history.specs.Tables.{Stands};
-ghost use Rattle.r4_kept.specs.History.{owed, owed_for_commit};
-ghost use Rattle.r4_kept.specs.Steps.{HasBegun, HasBegunSingle, StandsAlone};
+ghost use Rattle.r4_others.specs.r4_history.Tables.{Stands};
+ghost use Rattle.r4_ready.specs.r4_kept.History.{owed, owed_for_commit};
+ghost use Rattle.r4_ready.specs.r4_kept.Steps.{HasBegun, HasBegunSingle, StandsAlone};
 
 use crate::core_state::Core;
 use r4_base::{Memory, ScriptNo, TxnNo};

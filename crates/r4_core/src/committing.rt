@@ -1,24 +1,23 @@
 //! A commit goes on.
 
 ghost use Rattle.std.specs.Prelude.{◌≡◌, ◌≢◌, ◌+◌, ◌≤◌, ℕ, Some};
-ghost use Rattle.r4_commit.specs.Planned.{CommitSeen};
+ghost use Rattle.r4_ready.specs.r4_commit.Planned.{CommitSeen};
 ghost use Rattle.r4_outside.specs.Device.{Goes, Rose, Spares, TellsCrashes};
 ghost use Rattle.r4_wander.specs.Progress.{calls_left, under_way};
-ghost use Rattle.r4_durable.specs.Meaning.{Beginning, IsNamed};
+ghost use Rattle.r4_ready.specs.r4_durable.Meaning.{Beginning, IsNamed};
 ghost use Rattle.r4_wander.specs.Needed.{SparesNeeded};
 ghost use Rattle.r4_wander.specs.Torn.{IsTarget};
-ghost use Rattle.r4_kept.specs.Naming.{names_of};
-ghost use Rattle.r4_kept.specs.Steps.{IsAdvanced, IsAtNothing, IsAtPlan, Writes, WritesNothing};
-ghost use Rattle.r4_kept.specs.Steps.{emptied};
-ghost use Rattle.r4_kept.specs.declared.parts.Commit.{Commit};
+ghost use Rattle.r4_ready.specs.r4_kept.Naming.{names_of};
+ghost use Rattle.r4_ready.specs.r4_kept.Steps.{IsAdvanced, IsAtNothing, IsAtPlan, Writes, WritesNothing};
+ghost use Rattle.r4_ready.specs.r4_kept.Steps.{emptied};
+ghost use Rattle.r4_ready.specs.r4_kept.declared.parts.Commit.{Commit};
 
 use crate::core_state::Core;
 use crate::plan_ends::{fail, foot, head, volume_by};
 use r4_base::AtomNo;
 use r4_cell::on_disk_law;
-use r4_commit::step;
-use r4_kept::{Commit, Step};
 use r4_outside::{Device, Failed, Run};
+use r4_ready::{Commit, Step, step};
 use r4_wander::Stage;
 
 impl<D: Device, R: Run> Core<D, R> {

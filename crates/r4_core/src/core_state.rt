@@ -6,25 +6,25 @@ ghost use Rattle.std.specs.Option.{option_map};
 ghost use Rattle.r4_atoms.specs.Atoms.{IsClosedAtom, IsSmallestClosed};
 ghost use Rattle.r4_content.specs.Locality.{commands};
 ghost use Rattle.r4_content.specs.Meaning.{greatest_size};
-ghost use Rattle.r4_durable.specs.Meaning.{Beginning, BeginsWith, IsNamed, IsSafeTrace, start_of};
+ghost use Rattle.r4_ready.specs.r4_durable.Meaning.{Beginning, BeginsWith, IsNamed, IsSafeTrace, start_of};
 ghost use Rattle.r4_base.specs.Volume.{HasVolume};
 ghost use Rattle.r4_trace.specs.Folds.{after_first};
-ghost use Rattle.r4_history.specs.Tables.{asked};
+ghost use Rattle.r4_others.specs.r4_history.Tables.{asked};
 ghost use Rattle.r4_trace.specs.Legal.{IsLegal};
 ghost use Rattle.r4_trace.specs.Traced.{committed_in, latest};
 ghost use Rattle.r4_buffer.specs.Seen.{IsLawful};
 ghost use Rattle.r4_core.specs.Doing.{naming};
-ghost use Rattle.r4_kept.specs.Kept.{IsKept};
-ghost use Rattle.r4_kept.specs.Naming.{names_of};
+ghost use Rattle.r4_ready.specs.r4_kept.Kept.{IsKept};
+ghost use Rattle.r4_ready.specs.r4_kept.Naming.{names_of};
 ghost use Rattle.r4_locks.specs.Locks.{AreHolds};
 
 use r4_atoms::Atoms;
 use r4_base::AtomNo;
 use r4_buffer::Buffer;
 use r4_cell::Root;
-use r4_kept::{Commit, Numbers, Volume};
 use r4_locks::LockTable;
 use r4_outside::{Device, Run};
+use r4_ready::{Commit, Numbers, Volume};
 use r4_script::Job;
 use r4_space::SpaceMap;
 use r4_trace::Trace;
@@ -50,8 +50,8 @@ pub struct Core<D: Device, R: Run> {
 }
 
 impl<D: Device, R: Run> Model for Core<D, R> {
-    ghost use Rattle.r4_kept.specs.View.{CoreSeen};
-    ghost use Rattle.r4_kept.specs.Kept.{IsKept};
+    ghost use Rattle.r4_ready.specs.r4_kept.View.{CoreSeen};
+    ghost use Rattle.r4_ready.specs.r4_kept.Kept.{IsKept};
 
     ghost Value = { CoreSeen D };
 

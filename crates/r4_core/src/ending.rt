@@ -2,9 +2,9 @@
 
 ghost use Rattle.std.specs.Prelude.{◌≡◌, ◌+◌, ◌≤◌, Some, None};
 ghost use Rattle.r4_content.specs.declared.command.Command.TheVariants as asks;
-ghost use Rattle.r4_history.specs.Tables.{Stands, inside};
-ghost use Rattle.r4_kept.specs.History.{owed, owed_for_commit};
-ghost use Rattle.r4_kept.specs.Steps.{ended};
+ghost use Rattle.r4_others.specs.r4_history.Tables.{Stands, inside};
+ghost use Rattle.r4_ready.specs.r4_kept.History.{owed, owed_for_commit};
+ghost use Rattle.r4_ready.specs.r4_kept.Steps.{ended};
 
 use crate::core_state::Core;
 use r4_base::{ScriptNo, TxnNo};

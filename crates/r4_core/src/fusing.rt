@@ -3,9 +3,9 @@
 ghost use Rattle.std.specs.Prelude.{◌≡◌, ◌≢◌, ◌+◌, ◌<◌, ◌≤◌, None, max, min};
 ghost use Rattle.r4_atoms.specs.Atoms.{IsOpenAtom};
 ghost use Rattle.r4_core.specs.FusingAll.{CanFuseAll};
-ghost use Rattle.r4_history.specs.Serving.{least_of};
+ghost use Rattle.r4_others.specs.r4_history.Serving.{least_of};
 ghost use Rattle.r4_others.specs.Others.{pairs_of};
-ghost use Rattle.r4_kept.specs.History.{owed, owed_for_commit};
+ghost use Rattle.r4_ready.specs.r4_kept.History.{owed, owed_for_commit};
 ghost use Rattle.r4_ready.specs.r4_taking.Fusing.{HasFused, HasFusedAll};
 
 use crate::core_state::Core;

@@ -3,7 +3,7 @@
 ghost use Rattle.std.specs.Prelude.{◌≡◌, IsSome, Some};
 ghost use Rattle.r4_turns.specs.Turns.{IsScript, turn_at};
 ghost use Rattle.r4_turns.specs.declared.out.Out.{Out};
-ghost use Rattle.r4_kept.specs.Steps.{IsTakenBack};
+ghost use Rattle.r4_ready.specs.r4_kept.Steps.{IsTakenBack};
 
 use crate::core_state::Core;
 use r4_base::ScriptNo;

@@ -25,7 +25,9 @@ mod stepping;
 pub use core_state::{Core, goes_to_threads};
 pub use doing::Made;
 pub use handing::{Given, GoingOut};
-pub use r4_kept::{Commit, Numbers, Step, Volume};
-pub use r4_ready::{Asked, NodesNeeded, Reach, Ready, nodes_of};
-pub use r4_rooms::Wanted;
-pub use r4_start::{OpenFault, OpenWhy};
+pub use r4_flushing::{Prepared, RenamedCell, prepare};
+pub use r4_others::{Other, Why, others};
+pub use r4_ready::{
+    Asked, Commit, NodesNeeded, Numbers, Reach, Ready, Step, Task, Volume, nodes_of,
+};
+pub use r4_start::{OpenFault, OpenWhy, Wanted};

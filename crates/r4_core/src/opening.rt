@@ -4,11 +4,11 @@ ghost use Rattle.std.specs.Prelude.{◌≡◌, ℕ, [], List, IfErr, IfOk, IsSom
 ghost use Rattle.std.specs.Borrow.{GName};
 ghost use Rattle.r4_base.specs.Image.{Image};
 ghost use Rattle.r4_content.specs.Meaning.{greatest_size};
-ghost use Rattle.r4_durable.specs.Meaning.{IsSafeTrace};
+ghost use Rattle.r4_ready.specs.r4_durable.Meaning.{IsSafeTrace};
 ghost use Rattle.r4_outside.specs.Device.{Goes, IsQuiet, TellsCrashes, TellsReads};
 ghost use Rattle.r4_script.specs.Spelling.{AreScripts};
 ghost use Rattle.r4_script.specs.Text.{job_of};
-ghost use Rattle.r4_kept.specs.Naming.{names_of};
+ghost use Rattle.r4_ready.specs.r4_kept.Naming.{names_of};
 ghost use Rattle.r4_core.specs.Opening.{IsAtStart, OpensFrom};
 ghost use Rattle.r4_start.specs.Starting.{IsOpenFault};
 

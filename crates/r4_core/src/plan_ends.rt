@@ -4,16 +4,15 @@ ghost use Rattle.std.specs.Prelude.{◌≡◌, ◌<◌, ℕ, Some, false, true};
 ghost use Rattle.r4_atoms.specs.Atoms.{IsAtom, is_committed, is_sealed, owner_of, without_owner};
 ghost use Rattle.r4_buffer.specs.Changed.{cleaned, in_turn};
 ghost use Rattle.r4_buffer.specs.Seen.{IsLawful, buffered};
-ghost use Rattle.r4_history.specs.Tables.{with_cleaned, with_committed};
-ghost use Rattle.r4_kept.specs.Steps.{with_entry};
+ghost use Rattle.r4_others.specs.r4_history.Tables.{with_cleaned, with_committed};
+ghost use Rattle.r4_ready.specs.r4_kept.Steps.{with_entry};
 ghost use Rattle.r4_space.specs.Space.{settled};
 
 use r4_atoms::Atoms;
 use r4_base::{AtomNo, NodeId};
 use r4_buffer::Buffer;
-use r4_commit::CommitPlan;
-use r4_kept::{Step, Volume};
 use r4_outside::Device;
+use r4_ready::{CommitPlan, Step, Volume};
 use r4_space::SpaceMap;
 use r4_trace::{Entry, Trace};
 

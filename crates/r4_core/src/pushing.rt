@@ -4,8 +4,8 @@ ghost use Rattle.std.specs.Prelude.{◌≡◌, ◌⊎◌, ◌≤◌, ◌<◌, �
 ghost use Rattle.r4_content.specs.declared.command.Command.TheVariants as asks;
 ghost use Rattle.r4_trace.specs.Job.{HasNoBegin, IsWork};
 ghost use Rattle.r4_turns.specs.Turns.{IsScript, commands_at};
-ghost use Rattle.r4_kept.specs.History.{owed, owed_for_commit};
-ghost use Rattle.r4_kept.specs.Steps.{IsRoomier, pushed, with_room};
+ghost use Rattle.r4_ready.specs.r4_kept.History.{owed, owed_for_commit};
+ghost use Rattle.r4_ready.specs.r4_kept.Steps.{IsRoomier, pushed, with_room};
 
 use crate::core_state::Core;
 use r4_base::{Memory, ScriptNo};

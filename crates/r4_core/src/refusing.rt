@@ -2,7 +2,7 @@
 
 ghost use Rattle.std.specs.Prelude.{◌≡◌, IsSome, None, Some};
 ghost use Rattle.r4_core.specs.RefusingOut.{IsRefusedOut};
-ghost use Rattle.r4_history.specs.Tables.{single};
+ghost use Rattle.r4_others.specs.r4_history.Tables.{single};
 ghost use Rattle.r4_turns.specs.Turns.{IsScript, turn_at};
 ghost use Rattle.r4_turns.specs.declared.out.Out.{Out};
 

@@ -7,7 +7,7 @@ ghost use Rattle.r4_ready.specs.Rooms.{HasMoreRoom};
 use crate::core_state::Core;
 use r4_base::Memory;
 use r4_outside::{Device, Run};
-use r4_rooms::{Wanted, make_room};
+use r4_start::{Wanted, make_room};
 use std::alloc::Global;
 
 impl<D: Device, R: Run> Core<D, R> {

@@ -2,22 +2,22 @@
 
 ghost use Rattle.std.specs.Prelude.{◌≡◌, ◌≢◌, ◌↔◌, ◌+◌, ◌≤◌, ℕ, None, Some, false, true};
 ghost use Rattle.std.specs.Prelude.{slice_index_or};
-ghost use Rattle.r4_commit.specs.Planned.{CommitSeen};
+ghost use Rattle.r4_ready.specs.r4_commit.Planned.{CommitSeen};
 ghost use Rattle.r4_outside.specs.Device.{Goes, Rose, Spares, TellsCrashes};
 ghost use Rattle.r4_wander.specs.Progress.{calls_left, under_way};
-ghost use Rattle.r4_durable.specs.Meaning.{Beginning, IsNamed};
+ghost use Rattle.r4_ready.specs.r4_durable.Meaning.{Beginning, IsNamed};
 ghost use Rattle.r4_space.specs.Space.{is_claimed};
 ghost use Rattle.r4_wander.specs.Needed.{SparesNeeded};
 ghost use Rattle.r4_wander.specs.Torn.{IsTarget};
-ghost use Rattle.r4_kept.specs.Naming.{names_of};
-ghost use Rattle.r4_kept.specs.Accounts.{IsStill};
-ghost use Rattle.r4_kept.specs.Steps.{TakesStep, Writes};
-ghost use Rattle.r4_kept.specs.declared.parts.Commit.{Commit};
-ghost use Rattle.r4_kept.specs.declared.parts.Step.TheVariants.{Idle};
+ghost use Rattle.r4_ready.specs.r4_kept.Naming.{names_of};
+ghost use Rattle.r4_ready.specs.r4_kept.Accounts.{IsStill};
+ghost use Rattle.r4_ready.specs.r4_kept.Steps.{TakesStep, Writes};
+ghost use Rattle.r4_ready.specs.r4_kept.declared.parts.Commit.{Commit};
+ghost use Rattle.r4_ready.specs.r4_kept.declared.parts.Step.TheVariants.{Idle};
 
 use crate::core_state::Core;
-use r4_kept::Step;
 use r4_outside::{Device, Run};
+use r4_ready::Step;
 
 impl<D: Device, R: Run> Core<D, R> {
     /// Makes one step of the commit under way: from one to four writes and syncs, or none for an

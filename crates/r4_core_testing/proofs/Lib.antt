@@ -1,2 +1,2 @@
 -- what crates above name by way of this one
-pub use Rattle.r4_next.proofs.r4_kept
+pub use Rattle.r4_apply.proofs.r4_kept

@@ -1,2 +1,2 @@
 -- what crates above name by way of this one
-pub use Rattle.r4_next.specs.r4_take
+pub use Rattle.r4_apply.specs.r4_take

@@ -12,7 +12,9 @@ mod telling;
 pub use images::{Image, device};
 pub use opening::{next, opened, opened_on};
 pub use pushing::{push_all, run_pushed};
-pub use r4_apply::{give_back, is_refusable, recall, refuse_memory, refuse_next};
-pub use r4_next::{Core, Taken, Wanted, pending};
+pub use r4_apply::{
+    Core, Taken, Wanted, flush, give_back, is_refusable, pending, recall, refuse_memory,
+    refuse_next,
+};
 pub use running::{After, ONE, Told, Way, applied, run, told};
 pub use telling::Log;

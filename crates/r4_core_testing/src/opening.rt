@@ -1,11 +1,11 @@
 //! A core on a volume, and what there is to do.
 
 ghost use Rattle.std.specs.Prelude.{IfOk};
-ghost use Rattle.r4_next.specs.Taking.{BuildsIfWork};
+ghost use Rattle.r4_apply.specs.r4_next.Taking.{BuildsIfWork};
 
 use crate::images::{Image, device};
 use crate::pushing::job_of;
-use r4_next::{Core, OpenFault, Taken, take};
+use r4_apply::{Core, OpenFault, Taken, take};
 use r4_outside::{MemoryDevice, Unnamed};
 use std::alloc::Global;
 use std::test::Fail;

@@ -8,9 +8,9 @@ ghost use Rattle.r4_turns.specs.Turns.{IsScript, commands_at};
 
 use crate::running::{Way, run};
 use crate::telling::Log;
+use r4_apply::Core;
 use r4_base::ScriptNo;
 use r4_content::Command;
-use r4_next::Core;
 use r4_outside::{MemoryDevice, Unnamed};
 use r4_script::{Job, parse};
 use r4_turns::Turns;

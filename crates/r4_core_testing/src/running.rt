@@ -1,14 +1,11 @@
 //! A job runs in a given way, until an atom is to be flushed or nothing is left to do.
 
-ghost use Rattle.r4_next.specs.r4_take.Sending.{CanBeBuilt};
+ghost use Rattle.r4_apply.specs.r4_take.Sending.{CanBeBuilt};
 
 use crate::opening::next;
 use crate::telling::Log;
-use r4_apply::{Applied, apply};
+use r4_apply::{Applied, Built, Core, Differs, Taken, Task, apply, build};
 use r4_base::{NodeId, ScriptNo};
-use r4_build::{Built, Task, build};
-use r4_matching::Differs;
-use r4_next::{Core, Taken};
 use r4_outside::{MemoryDevice, OpenGate, Unnamed};
 use std::alloc::Global;
 use std::collections::VecDeque;

@@ -1,8 +1,8 @@
 //! What is told of a run: the lines of its trace, and between them where it had to wait.
 
+use r4_apply::Core;
 use r4_base::TaskId;
 use r4_history::Why;
-use r4_next::Core;
 use r4_outside::{MemoryDevice, Unnamed};
 use r4_trace::{Trace, line};
 use std::alloc::Global;

@@ -16,7 +16,7 @@ use Rattle.r4_content.specs.Objects.{link_less, set_attr, set_entry, sized, unna
 use Rattle.r4_content.specs.declared.command.Command.{Command}
 use Rattle.r4_content.proofs.Found.{small_object}
 use Rattle.r4_content.proofs.Shapes.{entry_dir, stat_back}
-use Rattle.r4_reach.specs.Touched.{edits_on}
+use Rattle.r4_suited.specs.r4_reach.Touched.{edits_on}
 use Rattle.r4_suited.specs.Suited.{AreLawfulSeen}
 use Rattle.r4_suited.proofs.Few.{IsHere, IsName}
 use Rattle.r4_suited.proofs.Walked.{HoldsOfEdits, edits_hold}

@@ -1,0 +1,4 @@
+-- what crates above name by way of this one
+pub use Rattle.r4_suited.specs.r4_patch
+pub use Rattle.r4_suited.specs.r4_reach
+pub use Rattle.r4_suited.specs as r4_suited

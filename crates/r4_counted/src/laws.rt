@@ -6,7 +6,7 @@ ghost use Rattle.r4_content.specs.Counts.{stats_in};
 ghost use Rattle.r4_content.specs.Edited.{Pairs};
 ghost use Rattle.r4_content.specs.Fields.{HasBytePaths};
 ghost use Rattle.r4_content.specs.declared.command.Command.{Command};
-ghost use Rattle.r4_reach.specs.Touched.{edits_on};
+ghost use Rattle.r4_suited.specs.r4_reach.Touched.{edits_on};
 ghost use Rattle.r4_suited.specs.Suited.{AreLawfulSeen};
 
 /// A command whose paths are of bytes takes at most one object away, where what was seen is lawful.

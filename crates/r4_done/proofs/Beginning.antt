@@ -5,13 +5,13 @@ use Rattle.r4_base.specs.Value.{Stat}
 use Rattle.r4_base.specs.Volume.{stat_rank}
 use Rattle.r4_base.specs.declared.things.Oid.{Oid}
 use Rattle.r4_content.specs.Fields.{IsUnused}
-use Rattle.r4_durable.specs.Meaning.{Beginning, BeginsWith, first_id, start_of}
-use Rattle.r4_history.specs.Drawn.{BeginsAt}
+use Rattle.r4_taking.specs.r4_durable.Meaning.{Beginning, BeginsWith, first_id, start_of}
+use Rattle.r4_taking.specs.r4_history.Drawn.{BeginsAt}
 use Rattle.r4_outside.specs.Device.{State}
-use Rattle.r4_trace.specs.Ids.{Start}
-use Rattle.r4_kept.specs.Kept.{IsKept}
-use Rattle.r4_kept.specs.Naming.{Naming, names_in}
-use Rattle.r4_kept.specs.View.{CoreSeen}
+use Rattle.r4_taking.specs.r4_trace.Ids.{Start}
+use Rattle.r4_taking.specs.r4_kept.Kept.{IsKept}
+use Rattle.r4_taking.specs.r4_kept.Naming.{Naming, names_in}
+use Rattle.r4_taking.specs.r4_kept.View.{CoreSeen}
 
 -- what a beginning draws from on
 begins_there : (b : Beginning) → BeginsAt (first_id b) (Some (start_of b))

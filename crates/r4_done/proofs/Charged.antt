@@ -11,14 +11,14 @@ use Rattle.std.proofs.lemmas.List.Sums.{count_by-le-length}
 use Rattle.r4_base.specs.Bitmap.{bitmap_count}
 use Rattle.r4_base.specs.declared.things.AtomNo.{AtomNo}
 use Rattle.r4_base.specs.declared.things.BlockNo.{BlockNo}
-use Rattle.r4_space.specs.Accounts.{account_at, due_of, dues, is_account_of, is_open, is_sealed, no_account}
-use Rattle.r4_space.specs.Accounts.{with_atom}
-use Rattle.r4_space.specs.Books.{IsBooks}
-use Rattle.r4_space.specs.Lawful.{IsLawful}
-use Rattle.r4_space.specs.Space.{Space, charged, free_of, is_taken, need_at, unused_count, with_deferred}
-use Rattle.r4_space.specs.declared.things.Account.{Account}
-use Rattle.r4_space.proofs.AccountLaws.{books_charged, due_small, dues-add}
-use Rattle.r4_space.proofs.UsedLaws.{deferred_used}
+use Rattle.r4_taking.specs.r4_space.Accounts.{account_at, due_of, dues, is_account_of, is_open, is_sealed, no_account}
+use Rattle.r4_taking.specs.r4_space.Accounts.{with_atom}
+use Rattle.r4_taking.specs.r4_space.Books.{IsBooks}
+use Rattle.r4_taking.specs.r4_space.Lawful.{IsLawful}
+use Rattle.r4_taking.specs.r4_space.Space.{Space, charged, free_of, is_taken, need_at, unused_count, with_deferred}
+use Rattle.r4_taking.specs.r4_space.declared.things.Account.{Account}
+use Rattle.r4_taking.proofs.r4_space.AccountLaws.{books_charged, due_small, dues-add}
+use Rattle.r4_taking.proofs.r4_space.UsedLaws.{deferred_used}
 use Rattle.r4_taking.proofs.Merged.{account_put, account_stays}
 
 abbrev bits : Space → ℕ

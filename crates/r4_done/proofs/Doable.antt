@@ -12,24 +12,24 @@ use Rattle.r4_atoms.specs.Atoms.{owner_of}
 use Rattle.r4_base.specs.declared.things.AtomNo.{AtomNo}
 use Rattle.r4_base.specs.declared.things.ScriptNo.{ScriptNo}
 use Rattle.r4_base.specs.declared.things.TxnNo.{TxnNo}
-use Rattle.r4_buffer.specs.Changed.{Standing, has_name}
-use Rattle.r4_buffer.specs.Seen.{buffered, is_dirty_by}
-use Rattle.r4_cell.specs.Patch.{HaveNames}
-use Rattle.r4_cell.specs.Seen.{CellSeen}
-use Rattle.r4_cell.specs.declared.change.Change.{Change}
+use Rattle.r4_taking.specs.r4_buffer.Changed.{Standing, has_name}
+use Rattle.r4_taking.specs.r4_buffer.Seen.{buffered, is_dirty_by}
+use Rattle.r4_taking.specs.r4_cell.Patch.{HaveNames}
+use Rattle.r4_taking.specs.r4_cell.Seen.{CellSeen}
+use Rattle.r4_taking.specs.r4_cell.declared.change.Change.{Change}
 use Rattle.r4_content.specs.declared.command.Command.{Command}
-use Rattle.r4_history.specs.Drawn.{numbers_in, numbers_of}
-use Rattle.r4_history.specs.Held.{IsServed, names_of}
+use Rattle.r4_taking.specs.r4_history.Drawn.{numbers_in, numbers_of}
+use Rattle.r4_taking.specs.r4_history.Held.{IsServed, names_of}
 use Rattle.r4_outside.specs.Device.{State}
-use Rattle.r4_patch.specs.Joining.{ids_of}
-use Rattle.r4_patch.proofs.Members.{Distinct, distinct, here, later}
-use Rattle.r4_turns.specs.Turns.{turn_at}
-use Rattle.r4_turns.specs.declared.out.Out.{Out}
-use Rattle.r4_turns.specs.declared.turn.Open.{Open}
-use Rattle.r4_kept.specs.Kept.{IsKept}
-use Rattle.r4_kept.specs.Naming.{Naming}
-use Rattle.r4_kept.specs.TasksOut.{IsGiven}
-use Rattle.r4_kept.specs.View.{CoreSeen, tables_of}
+use Rattle.r4_counted.specs.r4_patch.Joining.{ids_of}
+use Rattle.r4_counted.proofs.r4_patch.Members.{Distinct, distinct, here, later}
+use Rattle.r4_taking.specs.r4_turns.Turns.{turn_at}
+use Rattle.r4_taking.specs.r4_turns.declared.out.Out.{Out}
+use Rattle.r4_taking.specs.r4_turns.declared.turn.Open.{Open}
+use Rattle.r4_taking.specs.r4_kept.Kept.{IsKept}
+use Rattle.r4_taking.specs.r4_kept.Naming.{Naming}
+use Rattle.r4_taking.specs.r4_kept.TasksOut.{IsGiven}
+use Rattle.r4_taking.specs.r4_kept.View.{CoreSeen, tables_of}
 use Rattle.r4_done.specs.Done.{CanBeDone, IsChangeOf}
 use Rattle.r4_done.proofs.DoneTables.{is_touched}
 use Rattle.r4_done.proofs.Named.{number_of, one_named, one_of_ids}

@@ -12,48 +12,48 @@ use Rattle.r4_base.specs.Tree.{Name}
 use Rattle.r4_base.specs.declared.things.AtomNo.{AtomNo}
 use Rattle.r4_base.specs.declared.things.ScriptNo.{ScriptNo}
 use Rattle.r4_base.specs.declared.things.TxnNo.{TxnNo}
-use Rattle.r4_buffer.specs.Seen.{buffered, is_dirty_by}
-use Rattle.r4_cell.specs.Patch.{by_name, root_of_pair}
-use Rattle.r4_cell.specs.Seen.{CellSeen}
-use Rattle.r4_cell.specs.declared.change.Change.{Change}
+use Rattle.r4_taking.specs.r4_buffer.Seen.{buffered, is_dirty_by}
+use Rattle.r4_taking.specs.r4_cell.Patch.{by_name, root_of_pair}
+use Rattle.r4_taking.specs.r4_cell.Seen.{CellSeen}
+use Rattle.r4_taking.specs.r4_cell.declared.change.Change.{Change}
 use Rattle.r4_content.specs.Locality.{commands}
 use Rattle.r4_content.specs.Meaning.{greatest_size, with_id}
 use Rattle.r4_content.specs.declared.command.Command.{Command}
 use Rattle.r4_content.specs.declared.reply.Reply.{Reply}
-use Rattle.r4_durable.specs.Kept.{IsSession}
-use Rattle.r4_durable.specs.Meaning.{Beginning, BeginsWith, IsNamed, means, start_of}
-use Rattle.r4_history.specs.Drawn.{numbers_of}
-use Rattle.r4_history.specs.Held.{IsOut, IsServed, need_of, nodes_of}
-use Rattle.r4_history.specs.Tables.{Stands, inside, next_at, single, with_ended}
-use Rattle.r4_history.specs.Told.{HasReply}
-use Rattle.r4_history.proofs.RunSteps.{open_in_both}
+use Rattle.r4_taking.specs.r4_durable.Kept.{IsSession}
+use Rattle.r4_taking.specs.r4_durable.Meaning.{Beginning, BeginsWith, IsNamed, means, start_of}
+use Rattle.r4_taking.specs.r4_history.Drawn.{numbers_of}
+use Rattle.r4_taking.specs.r4_history.Held.{IsOut, IsServed, need_of, nodes_of}
+use Rattle.r4_taking.specs.r4_history.Tables.{Stands, inside, next_at, single, with_ended}
+use Rattle.r4_taking.specs.r4_history.Told.{HasReply}
+use Rattle.r4_taking.proofs.r4_history.RunSteps.{open_in_both}
 use Rattle.r4_outside.specs.Device.{State, TellsCrashes}
-use Rattle.r4_patch.specs.Joining.{patch_of_change}
-use Rattle.r4_patch.specs.Part.{MeetsPart}
-use Rattle.r4_sets.specs.Atoms.{told}
-use Rattle.r4_trace.proofs.Safely.{safe_push}
-use Rattle.r4_trace.specs.Folds.{content_of, everything}
-use Rattle.r4_trace.specs.Ids.{Start}
-use Rattle.r4_trace.specs.Order.{IsOrdered}
-use Rattle.r4_trace.specs.Traced.{atom_in}
-use Rattle.r4_trace.specs.declared.entry.Entry.{Entry}
-use Rattle.r4_trace.specs.declared.entry.Entry.TheVariants.{Done, Ended}
-use Rattle.r4_turns.specs.Turns.{IsScript, TurnsSeen, answered_at, answered_one, dropped, left, turn_at}
-use Rattle.r4_turns.specs.declared.out.Numbers.{Numbers}
-use Rattle.r4_turns.specs.declared.out.Out.{Out}
-use Rattle.r4_turns.specs.declared.turn.Open.{Open}
-use Rattle.r4_kept.specs.Cells.{NamesAt}
-use Rattle.r4_kept.specs.Durable.{IsDurable}
-use Rattle.r4_kept.specs.History.{IsHistory}
-use Rattle.r4_kept.specs.Kept.{IsKept}
-use Rattle.r4_kept.specs.Meaning.{HasMeaning}
-use Rattle.r4_kept.specs.Naming.{Naming, job_named, names_in}
-use Rattle.r4_kept.specs.Steps.{with_entry}
-use Rattle.r4_kept.specs.Story.{Story}
-use Rattle.r4_kept.specs.TasksOut.{IsGiven}
-use Rattle.r4_kept.specs.View.{CoreSeen, tables_of}
-use Rattle.r4_kept.proofs.Carried.{at_told, session_told}
-use Rattle.r4_kept.proofs.States.{state_others, state_same, state_there}
+use Rattle.r4_counted.specs.r4_patch.Joining.{patch_of_change}
+use Rattle.r4_counted.specs.r4_patch.Part.{MeetsPart}
+use Rattle.r4_taking.specs.r4_sets.Atoms.{told}
+use Rattle.r4_taking.proofs.r4_trace.Safely.{safe_push}
+use Rattle.r4_taking.specs.r4_trace.Folds.{content_of, everything}
+use Rattle.r4_taking.specs.r4_trace.Ids.{Start}
+use Rattle.r4_taking.specs.r4_trace.Order.{IsOrdered}
+use Rattle.r4_taking.specs.r4_trace.Traced.{atom_in}
+use Rattle.r4_taking.specs.r4_trace.declared.entry.Entry.{Entry}
+use Rattle.r4_taking.specs.r4_trace.declared.entry.Entry.TheVariants.{Done, Ended}
+use Rattle.r4_taking.specs.r4_turns.Turns.{IsScript, TurnsSeen, answered_at, answered_one, dropped, left, turn_at}
+use Rattle.r4_taking.specs.r4_turns.declared.out.Numbers.{Numbers}
+use Rattle.r4_taking.specs.r4_turns.declared.out.Out.{Out}
+use Rattle.r4_taking.specs.r4_turns.declared.turn.Open.{Open}
+use Rattle.r4_taking.specs.r4_kept.Cells.{NamesAt}
+use Rattle.r4_taking.specs.r4_kept.Durable.{IsDurable}
+use Rattle.r4_taking.specs.r4_kept.History.{IsHistory}
+use Rattle.r4_taking.specs.r4_kept.Kept.{IsKept}
+use Rattle.r4_taking.specs.r4_kept.Meaning.{HasMeaning}
+use Rattle.r4_taking.specs.r4_kept.Naming.{Naming, job_named, names_in}
+use Rattle.r4_taking.specs.r4_kept.Steps.{with_entry}
+use Rattle.r4_taking.specs.r4_kept.Story.{Story}
+use Rattle.r4_taking.specs.r4_kept.TasksOut.{IsGiven}
+use Rattle.r4_taking.specs.r4_kept.View.{CoreSeen, tables_of}
+use Rattle.r4_taking.proofs.r4_kept.Carried.{at_told, session_told}
+use Rattle.r4_taking.proofs.r4_kept.States.{state_others, state_same, state_there}
 pub use Rattle.r4_done.specs.Right.{IsRight}
 use Rattle.r4_done.specs.Doing.{HasCaptured}
 use Rattle.r4_done.specs.Done.{CanBeDone, HasDone, HasDoneSingle, HasPut, IsChangeOf}

@@ -8,22 +8,22 @@ use Rattle.std.proofs.lemmas.Bool.{cases_eq}
 use Rattle.r4_atoms.specs.Atoms.{AtomsSeen, IsBegun as IsTxn, IsOpenAtom, account_of, owner_of}
 use Rattle.r4_atoms.specs.declared.things.Account.{Account}
 use Rattle.r4_base.specs.declared.things.AtomNo.{AtomNo}
-use Rattle.r4_buffer.specs.Changed.{has_name, in_turn, replaced, unused}
-use Rattle.r4_buffer.specs.Seen.{BufferSeen, buffered, is_dirty_by}
-use Rattle.r4_cell.specs.Seen.{CellSeen}
+use Rattle.r4_taking.specs.r4_buffer.Changed.{has_name, in_turn, replaced, unused}
+use Rattle.r4_taking.specs.r4_buffer.Seen.{BufferSeen, buffered, is_dirty_by}
+use Rattle.r4_taking.specs.r4_cell.Seen.{CellSeen}
 use Rattle.r4_outside.specs.Device.{State}
-use Rattle.r4_patch.specs.Joining.{ids_of}
-use Rattle.r4_space.specs.Accounts.{account_at}
-use Rattle.r4_space.specs.Space.{Space}
-use Rattle.r4_space.specs.declared.things.Account.{Account as SpaceAccount}
-use Rattle.r4_space.specs.declared.things.Claim.{Claim}
-use Rattle.r4_trace.specs.declared.entry.Entry.{Entry}
-use Rattle.r4_turns.specs.Turns.{TurnsSeen}
-use Rattle.r4_turns.specs.declared.out.Out.{Out}
-use Rattle.r4_kept.specs.Accounts.{AreAccounts, CountsCells, HoldsOf, cells_for, claims_for, dones_in, dones_of}
-use Rattle.r4_kept.specs.Kept.{IsKept}
-use Rattle.r4_kept.specs.Naming.{Naming}
-use Rattle.r4_kept.specs.View.{CoreSeen}
+use Rattle.r4_counted.specs.r4_patch.Joining.{ids_of}
+use Rattle.r4_taking.specs.r4_space.Accounts.{account_at}
+use Rattle.r4_taking.specs.r4_space.Space.{Space}
+use Rattle.r4_taking.specs.r4_space.declared.things.Account.{Account as SpaceAccount}
+use Rattle.r4_taking.specs.r4_space.declared.things.Claim.{Claim}
+use Rattle.r4_taking.specs.r4_trace.declared.entry.Entry.{Entry}
+use Rattle.r4_taking.specs.r4_turns.Turns.{TurnsSeen}
+use Rattle.r4_taking.specs.r4_turns.declared.out.Out.{Out}
+use Rattle.r4_taking.specs.r4_kept.Accounts.{AreAccounts, CountsCells, HoldsOf, cells_for, claims_for, dones_in, dones_of}
+use Rattle.r4_taking.specs.r4_kept.Kept.{IsKept}
+use Rattle.r4_taking.specs.r4_kept.Naming.{Naming}
+use Rattle.r4_taking.specs.r4_kept.View.{CoreSeen}
 use Rattle.r4_done.specs.Doing.{HasCaptured, HasCharged, IsCount}
 use Rattle.r4_done.proofs.DoneCounts.{counts_done, counts_stay}
 use Rattle.r4_done.proofs.DoneTables.{is_touched}

@@ -11,31 +11,31 @@ use Rattle.r4_base.specs.Key.{rank}
 use Rattle.r4_base.specs.Tree.{Node}
 use Rattle.r4_base.specs.Value.{Value}
 use Rattle.r4_base.specs.declared.things.AtomNo.{AtomNo}
-use Rattle.r4_buffer.specs.Changed.{has_name, in_turn, replaced, unused}
-use Rattle.r4_buffer.specs.Seen.{BufferSeen, EntrySeen, IsLawful, buffered}
-use Rattle.r4_cell.specs.Patch.{IsChange, by_name, patch_of, root_of_pair}
-use Rattle.r4_cell.specs.Seen.{CellSeen}
-use Rattle.r4_cell.specs.declared.change.Root.{Root as RootPair}
-use Rattle.r4_commit.specs.Planned.{CommitSeen}
+use Rattle.r4_taking.specs.r4_buffer.Changed.{has_name, in_turn, replaced, unused}
+use Rattle.r4_taking.specs.r4_buffer.Seen.{BufferSeen, EntrySeen, IsLawful, buffered}
+use Rattle.r4_taking.specs.r4_cell.Patch.{IsChange, by_name, patch_of, root_of_pair}
+use Rattle.r4_taking.specs.r4_cell.Seen.{CellSeen}
+use Rattle.r4_taking.specs.r4_cell.declared.change.Root.{Root as RootPair}
+use Rattle.r4_taking.specs.r4_commit.Planned.{CommitSeen}
 use Rattle.r4_content.specs.Locality.{commands}
 use Rattle.r4_content.specs.Meaning.{greatest_size}
 use Rattle.r4_content.specs.declared.command.Command.{Command}
-use Rattle.r4_history.specs.Drawn.{numbers_in}
-use Rattle.r4_history.specs.Held.{IsOut, IsServed, names_of, need_of, nodes_of}
-use Rattle.r4_history.proofs.RunSteps.{commit_is}
+use Rattle.r4_taking.specs.r4_history.Drawn.{numbers_in}
+use Rattle.r4_taking.specs.r4_history.Held.{IsOut, IsServed, names_of, need_of, nodes_of}
+use Rattle.r4_taking.proofs.r4_history.RunSteps.{commit_is}
 use Rattle.r4_outside.specs.Device.{State}
-use Rattle.r4_patch.specs.Part.{MeetsPart}
-use Rattle.r4_patch.proofs.Members.{found}
-use Rattle.r4_patch.proofs.Placed.{rises}
-use Rattle.r4_space.specs.Space.{Space}
-use Rattle.r4_turns.specs.Turns.{TurnsSeen, turn_at}
-use Rattle.r4_turns.specs.declared.out.Out.{Out}
-use Rattle.r4_kept.specs.Cells.{AreCells, FitsCommit, HasNames, IsAccepted, IsName, IsWriting, IsWritingOf}
-use Rattle.r4_kept.specs.Kept.{IsKept}
-use Rattle.r4_kept.specs.Naming.{Naming}
-use Rattle.r4_kept.specs.TasksOut.{IsGiven, WereDrawn}
-use Rattle.r4_kept.specs.View.{CoreSeen, blocks_of, committing, tables_of}
-use Rattle.r4_kept.specs.declared.parts.Commit.{Commit}
+use Rattle.r4_counted.specs.r4_patch.Part.{MeetsPart}
+use Rattle.r4_counted.proofs.r4_patch.Members.{found}
+use Rattle.r4_counted.proofs.r4_patch.Placed.{rises}
+use Rattle.r4_taking.specs.r4_space.Space.{Space}
+use Rattle.r4_taking.specs.r4_turns.Turns.{TurnsSeen, turn_at}
+use Rattle.r4_taking.specs.r4_turns.declared.out.Out.{Out}
+use Rattle.r4_taking.specs.r4_kept.Cells.{AreCells, FitsCommit, HasNames, IsAccepted, IsName, IsWriting, IsWritingOf}
+use Rattle.r4_taking.specs.r4_kept.Kept.{IsKept}
+use Rattle.r4_taking.specs.r4_kept.Naming.{Naming}
+use Rattle.r4_taking.specs.r4_kept.TasksOut.{IsGiven, WereDrawn}
+use Rattle.r4_taking.specs.r4_kept.View.{CoreSeen, blocks_of, committing, tables_of}
+use Rattle.r4_taking.specs.r4_kept.declared.parts.Commit.{Commit}
 use Rattle.r4_taking.proofs.Fused.{sealed_differs}
 use Rattle.r4_taking.proofs.MetInMemory.{says}
 use Rattle.r4_done.proofs.DoneNames.{found_name, names_done, readable_done}

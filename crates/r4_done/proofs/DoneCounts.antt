@@ -14,12 +14,12 @@ use Rattle.std.proofs.lemmas.List.{length-append}
 use Rattle.std.proofs.lemmas.Map.Keys.{IsDistinct-cons, IsDistinct-head, IsDistinct-tail}
 use Rattle.r4_atoms.specs.Atoms.{AtomsSeen, owner_of}
 use Rattle.r4_base.proofs.Members.{member_cases, member_here, member_later, no_member}
-use Rattle.r4_buffer.specs.Changed.{has_name}
-use Rattle.r4_buffer.specs.Seen.{BufferSeen, buffered, is_dirty_by}
-use Rattle.r4_cell.specs.Seen.{CellSeen}
-use Rattle.r4_history.proofs.ServingSteps.{cons_cases, cons_here, cons_later}
-use Rattle.r4_patch.specs.Joining.{ids_of}
-use Rattle.r4_kept.specs.Accounts.{CountsCells}
+use Rattle.r4_taking.specs.r4_buffer.Changed.{has_name}
+use Rattle.r4_taking.specs.r4_buffer.Seen.{BufferSeen, buffered, is_dirty_by}
+use Rattle.r4_taking.specs.r4_cell.Seen.{CellSeen}
+use Rattle.r4_taking.proofs.r4_history.ServingSteps.{cons_cases, cons_here, cons_later}
+use Rattle.r4_counted.specs.r4_patch.Joining.{ids_of}
+use Rattle.r4_taking.specs.r4_kept.Accounts.{CountsCells}
 use Rattle.r4_taking.proofs.FusedCounts.{all_from, distinct_both}
 use Rattle.r4_done.specs.Doing.{is_less, is_more}
 use Rattle.r4_done.proofs.DoneTables.{is_touched}

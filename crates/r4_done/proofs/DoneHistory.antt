@@ -12,31 +12,31 @@ use Rattle.r4_content.specs.Locality.{commands}
 use Rattle.r4_content.specs.Meaning.{greatest_size, with_id}
 use Rattle.r4_content.specs.declared.command.Command.{Command}
 use Rattle.r4_content.specs.declared.reply.Reply.{Reply}
-use Rattle.r4_durable.specs.Meaning.{Beginning, BeginsWith, start_of}
-use Rattle.r4_history.specs.Drawn.{AreDrawn, BeginsAt}
-use Rattle.r4_history.specs.Held.{IsOut}
-use Rattle.r4_history.specs.Tables.{Stands, Tables, asked, inside, single, with_ended}
-use Rattle.r4_history.specs.Told.{HasNewId, HasReply, IsTold}
-use Rattle.r4_history.proofs.AtomSteps.{state_kept}
-use Rattle.r4_history.proofs.DrawnSteps.{drawn_done, drawn_entry, drawn_for, drawn_left}
-use Rattle.r4_history.proofs.Places.{is_script_with, turn_now}
-use Rattle.r4_history.proofs.RunSteps.{told_charged, told_dropped, told_owners}
-use Rattle.r4_history.proofs.Told.{told_done, told_done_single, without_same}
+use Rattle.r4_taking.specs.r4_durable.Meaning.{Beginning, BeginsWith, start_of}
+use Rattle.r4_taking.specs.r4_history.Drawn.{AreDrawn, BeginsAt}
+use Rattle.r4_taking.specs.r4_history.Held.{IsOut}
+use Rattle.r4_taking.specs.r4_history.Tables.{Stands, Tables, asked, inside, single, with_ended}
+use Rattle.r4_taking.specs.r4_history.Told.{HasNewId, HasReply, IsTold}
+use Rattle.r4_taking.proofs.r4_history.AtomSteps.{state_kept}
+use Rattle.r4_taking.proofs.r4_history.DrawnSteps.{drawn_done, drawn_entry, drawn_for, drawn_left}
+use Rattle.r4_taking.proofs.r4_history.Places.{is_script_with, turn_now}
+use Rattle.r4_taking.proofs.r4_history.RunSteps.{told_charged, told_dropped, told_owners}
+use Rattle.r4_taking.proofs.r4_history.Told.{told_done, told_done_single, without_same}
 use Rattle.r4_outside.specs.Device.{State}
-use Rattle.r4_trace.specs.Job.{IsWork}
-use Rattle.r4_trace.specs.declared.entry.Entry.{Entry}
-use Rattle.r4_trace.specs.declared.entry.Entry.TheVariants.{Done, Ended}
-use Rattle.r4_turns.specs.Turns.{IsScript, TurnsSeen, answered_at, answered_one, commands_at, dropped, left, turn_at}
-use Rattle.r4_turns.specs.declared.out.Out.{Out}
-use Rattle.r4_turns.specs.declared.turn.Open.{Open}
-use Rattle.r4_turns.specs.declared.turn.Turn.{Turn}
-use Rattle.r4_kept.specs.History.{IsHistory, is_headed, owed}
-use Rattle.r4_kept.specs.Kept.{IsKept}
-use Rattle.r4_kept.specs.Naming.{Naming, names_in}
-use Rattle.r4_kept.specs.Steps.{with_entry}
-use Rattle.r4_kept.specs.View.{CoreSeen, tables_of}
-use Rattle.r4_kept.specs.declared.parts.Commit.{Commit}
-use Rattle.r4_kept.proofs.Turning.{owed_answered}
+use Rattle.r4_taking.specs.r4_trace.Job.{IsWork}
+use Rattle.r4_taking.specs.r4_trace.declared.entry.Entry.{Entry}
+use Rattle.r4_taking.specs.r4_trace.declared.entry.Entry.TheVariants.{Done, Ended}
+use Rattle.r4_taking.specs.r4_turns.Turns.{IsScript, TurnsSeen, answered_at, answered_one, commands_at, dropped, left, turn_at}
+use Rattle.r4_taking.specs.r4_turns.declared.out.Out.{Out}
+use Rattle.r4_taking.specs.r4_turns.declared.turn.Open.{Open}
+use Rattle.r4_taking.specs.r4_turns.declared.turn.Turn.{Turn}
+use Rattle.r4_taking.specs.r4_kept.History.{IsHistory, is_headed, owed}
+use Rattle.r4_taking.specs.r4_kept.Kept.{IsKept}
+use Rattle.r4_taking.specs.r4_kept.Naming.{Naming, names_in}
+use Rattle.r4_taking.specs.r4_kept.Steps.{with_entry}
+use Rattle.r4_taking.specs.r4_kept.View.{CoreSeen, tables_of}
+use Rattle.r4_taking.specs.r4_kept.declared.parts.Commit.{Commit}
+use Rattle.r4_taking.proofs.r4_kept.Turning.{owed_answered}
 use Rattle.r4_taking.proofs.OutTurns.{owed_dropped}
 use Rattle.r4_taking.proofs.Turned.{owed_last, there}
 

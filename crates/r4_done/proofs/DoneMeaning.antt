@@ -11,43 +11,43 @@ use Rattle.r4_base.specs.Value.{Value}
 use Rattle.r4_base.specs.declared.things.AtomNo.{AtomNo}
 use Rattle.r4_base.specs.declared.things.ScriptNo.{ScriptNo}
 use Rattle.r4_base.specs.declared.things.TxnNo.{TxnNo}
-use Rattle.r4_buffer.specs.Changed.{has_name, in_turn, replaced, unused}
-use Rattle.r4_buffer.specs.Seen.{BufferSeen, EntrySeen, buffered, is_dirty_by}
-use Rattle.r4_cell.specs.Patch.{HaveNames, IsChange, Patch, by_name, over, patch_of, place, root_of_pair}
-use Rattle.r4_cell.specs.Seen.{CellSeen, node_of}
-use Rattle.r4_cell.specs.declared.change.Root.{Root as RootPair}
+use Rattle.r4_taking.specs.r4_buffer.Changed.{has_name, in_turn, replaced, unused}
+use Rattle.r4_taking.specs.r4_buffer.Seen.{BufferSeen, EntrySeen, buffered, is_dirty_by}
+use Rattle.r4_taking.specs.r4_cell.Patch.{HaveNames, IsChange, Patch, by_name, over, patch_of, place, root_of_pair}
+use Rattle.r4_taking.specs.r4_cell.Seen.{CellSeen, node_of}
+use Rattle.r4_taking.specs.r4_cell.declared.change.Root.{Root as RootPair}
 use Rattle.r4_content.specs.Counts.{born, gone}
 use Rattle.r4_content.specs.Locality.{commands}
 use Rattle.r4_content.specs.Meaning.{greatest_size}
 use Rattle.r4_content.specs.declared.command.Command.{Command}
 use Rattle.r4_content.specs.declared.reply.Reply.{Reply}
 use Rattle.r4_content.proofs.CourseLaws.{local}
-use Rattle.r4_durable.specs.GoingOn.{GoesOn}
-use Rattle.r4_durable.specs.Kept.{IsSession}
-use Rattle.r4_durable.specs.Meaning.{Beginning, IsNamed, means}
-use Rattle.r4_history.specs.Held.{IsOut, need_of, nodes_of}
+use Rattle.r4_taking.specs.r4_durable.GoingOn.{GoesOn}
+use Rattle.r4_taking.specs.r4_durable.Kept.{IsSession}
+use Rattle.r4_taking.specs.r4_durable.Meaning.{Beginning, IsNamed, means}
+use Rattle.r4_taking.specs.r4_history.Held.{IsOut, need_of, nodes_of}
 use Rattle.r4_outside.specs.Device.{State, TellsCrashes}
-use Rattle.r4_patch.proofs.Members.{distinct, there}
-use Rattle.r4_sets.specs.Change.{touches}
-use Rattle.r4_sets.specs.Session.{Session, all_done}
-use Rattle.r4_sets.proofs.Applied.{applied_sets}
-use Rattle.r4_sets_told.specs.Runs.{born_in, gone_in}
-use Rattle.r4_space.specs.Space.{Space}
-use Rattle.r4_trace.specs.Folds.{content_of, everything}
-use Rattle.r4_trace.specs.Order.{IsOrdered}
-use Rattle.r4_trace.specs.Traced.{atom_in}
-use Rattle.r4_trace.specs.declared.entry.Entry.{Entry}
-use Rattle.r4_trace.specs.declared.entry.Entry.TheVariants.{Done}
-use Rattle.r4_trace.proofs.Safely.{safe_push}
-use Rattle.r4_turns.specs.Turns.{TurnsSeen}
-use Rattle.r4_turns.specs.declared.out.Out.{Out}
-use Rattle.r4_kept.specs.Durable.{IsDurable}
-use Rattle.r4_kept.specs.Kept.{HasStory, IsKept}
-use Rattle.r4_kept.specs.Meaning.{HasMeaning, if_open}
-use Rattle.r4_kept.specs.Naming.{Naming, job_named, names_in}
-use Rattle.r4_kept.specs.Steps.{with_entry}
-use Rattle.r4_kept.specs.Story.{Story}
-use Rattle.r4_kept.specs.View.{CoreSeen, root_seen}
+use Rattle.r4_counted.proofs.r4_patch.Members.{distinct, there}
+use Rattle.r4_taking.specs.r4_sets.Change.{touches}
+use Rattle.r4_taking.specs.r4_sets.Session.{Session, all_done}
+use Rattle.r4_taking.proofs.r4_sets.Applied.{applied_sets}
+use Rattle.r4_taking.specs.r4_sets_told.Runs.{born_in, gone_in}
+use Rattle.r4_taking.specs.r4_space.Space.{Space}
+use Rattle.r4_taking.specs.r4_trace.Folds.{content_of, everything}
+use Rattle.r4_taking.specs.r4_trace.Order.{IsOrdered}
+use Rattle.r4_taking.specs.r4_trace.Traced.{atom_in}
+use Rattle.r4_taking.specs.r4_trace.declared.entry.Entry.{Entry}
+use Rattle.r4_taking.specs.r4_trace.declared.entry.Entry.TheVariants.{Done}
+use Rattle.r4_taking.proofs.r4_trace.Safely.{safe_push}
+use Rattle.r4_taking.specs.r4_turns.Turns.{TurnsSeen}
+use Rattle.r4_taking.specs.r4_turns.declared.out.Out.{Out}
+use Rattle.r4_taking.specs.r4_kept.Durable.{IsDurable}
+use Rattle.r4_taking.specs.r4_kept.Kept.{HasStory, IsKept}
+use Rattle.r4_taking.specs.r4_kept.Meaning.{HasMeaning, if_open}
+use Rattle.r4_taking.specs.r4_kept.Naming.{Naming, job_named, names_in}
+use Rattle.r4_taking.specs.r4_kept.Steps.{with_entry}
+use Rattle.r4_taking.specs.r4_kept.Story.{Story}
+use Rattle.r4_taking.specs.r4_kept.View.{CoreSeen, root_seen}
 use Rattle.r4_taking.proofs.Going.{at_over}
 use Rattle.r4_done.specs.Doing.{HasCaptured}
 use Rattle.r4_done.proofs.DoneTables.{is_touched}

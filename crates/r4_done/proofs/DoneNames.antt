@@ -7,21 +7,21 @@ use Rattle.r4_base.specs.Key.{rank}
 use Rattle.r4_base.specs.Tree.{Name, Node}
 use Rattle.r4_base.specs.Value.{Value}
 use Rattle.r4_base.specs.declared.things.NodeId.{NodeId}
-use Rattle.r4_buffer.specs.Changed.{has_name, in_turn, replaced, unused}
-use Rattle.r4_buffer.specs.Reading.{NamesStand}
-use Rattle.r4_buffer.specs.Seen.{BufferSeen, EntrySeen, IsLawful, buffered, is_captured}
-use Rattle.r4_buffer.specs.Seen.{is_dirty_by}
-use Rattle.r4_buffer.proofs.Captured.{captured_is}
-use Rattle.r4_cell.specs.Patch.{IsChange, by_name}
-use Rattle.r4_cell.specs.Seen.{CellSeen, node_of}
-use Rattle.r4_cell.specs.declared.change.Root.{Root as RootPair}
-use Rattle.r4_cell.proofs.NamesBelow.{names_below}
+use Rattle.r4_taking.specs.r4_buffer.Changed.{has_name, in_turn, replaced, unused}
+use Rattle.r4_taking.specs.r4_buffer.Reading.{NamesStand}
+use Rattle.r4_taking.specs.r4_buffer.Seen.{BufferSeen, EntrySeen, IsLawful, buffered, is_captured}
+use Rattle.r4_taking.specs.r4_buffer.Seen.{is_dirty_by}
+use Rattle.r4_taking.proofs.r4_buffer.Captured.{captured_is}
+use Rattle.r4_taking.specs.r4_cell.Patch.{IsChange, by_name}
+use Rattle.r4_taking.specs.r4_cell.Seen.{CellSeen, node_of}
+use Rattle.r4_taking.specs.r4_cell.declared.change.Root.{Root as RootPair}
+use Rattle.r4_taking.proofs.r4_cell.NamesBelow.{names_below}
 use Rattle.r4_outside.specs.Device.{State}
-use Rattle.r4_patch.proofs.Members.{distinct, found, there}
-use Rattle.r4_turns.specs.declared.out.Numbers.{Numbers}
-use Rattle.r4_kept.specs.Cells.{AreReadable, HasNames, IsAccepted, IsName, NamesAt}
-use Rattle.r4_kept.specs.TasksOut.{WereDrawn}
-use Rattle.r4_kept.proofs.Readable.{captured_dirty, not_dirty}
+use Rattle.r4_counted.proofs.r4_patch.Members.{distinct, found, there}
+use Rattle.r4_taking.specs.r4_turns.declared.out.Numbers.{Numbers}
+use Rattle.r4_taking.specs.r4_kept.Cells.{AreReadable, HasNames, IsAccepted, IsName, NamesAt}
+use Rattle.r4_taking.specs.r4_kept.TasksOut.{WereDrawn}
+use Rattle.r4_taking.proofs.r4_kept.Readable.{captured_dirty, not_dirty}
 use Rattle.r4_done.proofs.DoneTasks.{AreNumbered}
 use Rattle.r4_done.proofs.Named.{has_found, not_found, one_named, one_of_ids}
 use Rattle.r4_done.proofs.Replaced.{IsNewCell, Untouched, dirty_then, entries_then}

@@ -9,33 +9,33 @@ use Rattle.std.proofs.lemmas.Option.{none-some}
 use Rattle.r4_base.specs.Key.{rank}
 use Rattle.r4_base.specs.Tree.{Name, Node, Root, Store}
 use Rattle.r4_base.specs.Value.{Value}
-use Rattle.r4_buffer.specs.Changed.{Standing, has_name, in_turn, replaced, unused}
-use Rattle.r4_buffer.specs.Seen.{BufferSeen, EntrySeen, buffered, is_captured, is_dirty_by}
-use Rattle.r4_cell.specs.Patch.{IsChange, Patch, by_name, patch_of, root_of_pair}
-use Rattle.r4_cell.specs.Seen.{CellSeen, node_of}
-use Rattle.r4_cell.specs.declared.change.Root.{Root as RootPair}
-use Rattle.r4_cell.proofs.NamesBelow.{names_below}
+use Rattle.r4_taking.specs.r4_buffer.Changed.{Standing, has_name, in_turn, replaced, unused}
+use Rattle.r4_taking.specs.r4_buffer.Seen.{BufferSeen, EntrySeen, buffered, is_captured, is_dirty_by}
+use Rattle.r4_taking.specs.r4_cell.Patch.{IsChange, Patch, by_name, patch_of, root_of_pair}
+use Rattle.r4_taking.specs.r4_cell.Seen.{CellSeen, node_of}
+use Rattle.r4_taking.specs.r4_cell.declared.change.Root.{Root as RootPair}
+use Rattle.r4_taking.proofs.r4_cell.NamesBelow.{names_below}
 use Rattle.r4_content.specs.Meaning.{with_id}
 use Rattle.r4_content.specs.declared.command.Command.{Command}
-use Rattle.r4_history.specs.Drawn.{numbers_in, numbers_of}
-use Rattle.r4_history.specs.Held.{IsOut, need_of, nodes_of}
-use Rattle.r4_history.specs.Tables.{next_at}
+use Rattle.r4_taking.specs.r4_history.Drawn.{numbers_in, numbers_of}
+use Rattle.r4_taking.specs.r4_history.Held.{IsOut, need_of, nodes_of}
+use Rattle.r4_taking.specs.r4_history.Tables.{next_at}
 use Rattle.r4_outside.specs.Device.{State}
-use Rattle.r4_patch.specs.Joining.{ids_of}
-use Rattle.r4_patch.specs.Part.{MeetsPart}
-use Rattle.r4_patch.proofs.Members.{distinct, found, there}
-use Rattle.r4_patch.proofs.Placed.{some_of}
-use Rattle.r4_turns.specs.Turns.{IsScript, TurnsSeen, turn_at}
-use Rattle.r4_turns.specs.declared.out.Numbers.{Numbers}
-use Rattle.r4_turns.specs.declared.out.Out.{Out}
-use Rattle.r4_kept.specs.Cells.{AreNamedOnce, IsStillThere, NamesAt}
-use Rattle.r4_kept.specs.Kept.{IsKept}
-use Rattle.r4_kept.specs.Naming.{Naming}
-use Rattle.r4_kept.specs.TasksOut.{IsGiven}
-use Rattle.r4_kept.specs.View.{CoreSeen, blocks_of}
-use Rattle.r4_kept.proofs.Readable.{captured_dirty}
-use Rattle.r4_kept.proofs.Staying.{names_as, still_on}
-use Rattle.r4_kept.proofs.Unused.{like_cell, like_dirty}
+use Rattle.r4_counted.specs.r4_patch.Joining.{ids_of}
+use Rattle.r4_counted.specs.r4_patch.Part.{MeetsPart}
+use Rattle.r4_counted.proofs.r4_patch.Members.{distinct, found, there}
+use Rattle.r4_counted.proofs.r4_patch.Placed.{some_of}
+use Rattle.r4_taking.specs.r4_turns.Turns.{IsScript, TurnsSeen, turn_at}
+use Rattle.r4_taking.specs.r4_turns.declared.out.Numbers.{Numbers}
+use Rattle.r4_taking.specs.r4_turns.declared.out.Out.{Out}
+use Rattle.r4_taking.specs.r4_kept.Cells.{AreNamedOnce, IsStillThere, NamesAt}
+use Rattle.r4_taking.specs.r4_kept.Kept.{IsKept}
+use Rattle.r4_taking.specs.r4_kept.Naming.{Naming}
+use Rattle.r4_taking.specs.r4_kept.TasksOut.{IsGiven}
+use Rattle.r4_taking.specs.r4_kept.View.{CoreSeen, blocks_of}
+use Rattle.r4_taking.proofs.r4_kept.Readable.{captured_dirty}
+use Rattle.r4_taking.proofs.r4_kept.Staying.{names_as, still_on}
+use Rattle.r4_taking.proofs.r4_kept.Unused.{like_cell, like_dirty}
 use Rattle.r4_done.proofs.DoneNames.{StandsIn}
 use Rattle.r4_done.proofs.DoneTables.{is_touched}
 use Rattle.r4_done.proofs.DoneTasks.{AreNumbered, not_numbers}

@@ -4,18 +4,18 @@ use Rattle.std.proofs.Common.{◌≡◌, ℕ, ◌+◌, ◌<◌, ◌≤◌, ◌^�
 use Rattle.std.proofs.Common.{Contains, refl, sym, ◌∙◌, ap, subst, arith}
 use Rattle.std.proofs.lemmas.Bool.{cases_Bool, cond-false, or_cases}
 use Rattle.r4_base.specs.Tree.{Node, Store}
-use Rattle.r4_buffer.specs.Changed.{has_name}
-use Rattle.r4_cell.specs.Patch.{IsChange, by_name, patch_of}
-use Rattle.r4_cell.specs.Seen.{CellSeen, node_of}
-use Rattle.r4_cell.specs.declared.change.Root.{Root as RootPair}
+use Rattle.r4_taking.specs.r4_buffer.Changed.{has_name}
+use Rattle.r4_taking.specs.r4_cell.Patch.{IsChange, by_name, patch_of}
+use Rattle.r4_taking.specs.r4_cell.Seen.{CellSeen, node_of}
+use Rattle.r4_taking.specs.r4_cell.declared.change.Root.{Root as RootPair}
 use Rattle.r4_content.specs.Locality.{commands}
-use Rattle.r4_flushed.specs.Flushed.{OwnsBlocks}
-use Rattle.r4_patch.proofs.Members.{distinct, there}
-use Rattle.r4_sets.specs.Session.{Sets, picks}
-use Rattle.r4_sets.proofs.Applied.{memory_cells}
-use Rattle.r4_trace.specs.Folds.{everything}
-use Rattle.r4_trace.specs.Traced.{atom_in}
-use Rattle.r4_turns.specs.declared.out.Numbers.{Numbers}
+use Rattle.r4_taking.specs.r4_flushed.Flushed.{OwnsBlocks}
+use Rattle.r4_counted.proofs.r4_patch.Members.{distinct, there}
+use Rattle.r4_taking.specs.r4_sets.Session.{Sets, picks}
+use Rattle.r4_taking.proofs.r4_sets.Applied.{memory_cells}
+use Rattle.r4_taking.specs.r4_trace.Folds.{everything}
+use Rattle.r4_taking.specs.r4_trace.Traced.{atom_in}
+use Rattle.r4_taking.specs.r4_turns.declared.out.Numbers.{Numbers}
 use Rattle.r4_done.proofs.DoneMeaning.{touches_is}
 use Rattle.r4_done.proofs.DoneTables.{is_touched}
 use Rattle.r4_done.proofs.DoneTasks.{AreNumbered}
@@ -23,24 +23,24 @@ use Rattle.r4_done.proofs.Named.{one_named, one_of_ids}
 use Rattle.r4_base.specs.Value.{Content}
 use Rattle.r4_base.specs.declared.things.ScriptNo.{ScriptNo}
 use Rattle.r4_base.specs.declared.things.TxnNo.{TxnNo}
-use Rattle.r4_cell.specs.Patch.{Patch}
+use Rattle.r4_taking.specs.r4_cell.Patch.{Patch}
 use Rattle.r4_base.specs.Value.{Value}
 use Rattle.r4_content.specs.Fields.{HasBytePaths, IsUnused}
 use Rattle.r4_content.specs.Lawful.{RoomFor}
 use Rattle.r4_content.specs.Meaning.{greatest_size}
 use Rattle.r4_content.specs.declared.command.Command.{Command}
-use Rattle.r4_durable.specs.Meaning.{Beginning, IsNamed, first_id, start_of}
-use Rattle.r4_durable.specs.Sealing.{start_in}
-use Rattle.r4_history.specs.Tables.{asked}
+use Rattle.r4_taking.specs.r4_durable.Meaning.{Beginning, IsNamed, first_id, start_of}
+use Rattle.r4_taking.specs.r4_durable.Sealing.{start_in}
+use Rattle.r4_taking.specs.r4_history.Tables.{asked}
 use Rattle.r4_outside.specs.Device.{State}
-use Rattle.r4_sets.specs.Session.{Session}
-use Rattle.r4_sets_told.specs.Runs.{IsLawfulRun, dones_in}
-use Rattle.r4_trace.specs.Ids.{IsDrawn, IsInBounds, IsNewId, id_of}
-use Rattle.r4_trace.specs.Job.{Asked}
-use Rattle.r4_trace.specs.declared.entry.Entry.{Entry}
-use Rattle.r4_kept.specs.Kept.{HasStory, IsKept}
-use Rattle.r4_kept.specs.Naming.{Naming, job_named, job_read, names_in}
-use Rattle.r4_kept.specs.View.{CoreSeen}
+use Rattle.r4_taking.specs.r4_sets.Session.{Session}
+use Rattle.r4_taking.specs.r4_sets_told.Runs.{IsLawfulRun, dones_in}
+use Rattle.r4_taking.specs.r4_trace.Ids.{IsDrawn, IsInBounds, IsNewId, id_of}
+use Rattle.r4_taking.specs.r4_trace.Job.{Asked}
+use Rattle.r4_taking.specs.r4_trace.declared.entry.Entry.{Entry}
+use Rattle.r4_taking.specs.r4_kept.Kept.{HasStory, IsKept}
+use Rattle.r4_taking.specs.r4_kept.Naming.{Naming, job_named, job_read, names_in}
+use Rattle.r4_taking.specs.r4_kept.View.{CoreSeen}
 use Rattle.r4_done.proofs.DoneMeaning.{session_done}
 
 module _ {D : Type 0} (r : Naming) (d : State) (c : CoreSeen D) (k : IsKept r d c) (b : Beginning)

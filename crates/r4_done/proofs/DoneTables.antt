@@ -3,22 +3,22 @@ use Rattle.std.proofs.Common.{◌≡◌, ◌≢◌, ⊎_elim, ℕ, ◌||◌, Boo
 use Rattle.std.proofs.Common.{◌-◌, get_or, Option, Some, None, Contains, refl, sym, ◌∙◌, ap, subst, arith}
 use Rattle.std.proofs.lemmas.Bool.{cond-false, false_from_ne_true, or_cases}
 use Rattle.r4_atoms.specs.Atoms.{AtomsSeen, TxnSeen, no_txn, numbers, owner_of}
-use Rattle.r4_buffer.specs.Changed.{has_name}
-use Rattle.r4_cell.specs.Seen.{CellSeen}
-use Rattle.r4_history.specs.Drawn.{numbers_in}
-use Rattle.r4_history.specs.Held.{IsOut, OwnersFollow, TasksTell, names_of, need_of, nodes_of}
-use Rattle.r4_history.specs.Tables.{Tables, with_ended}
-use Rattle.r4_history.proofs.TaskSteps.{ended_follow, held_apart, tasks_answered, tasks_dropped, tasks_left}
-use Rattle.r4_history.proofs.TaskSteps.{tasks_owned}
-use Rattle.r4_history.proofs.Places.{is_script_with, turn_now}
-use Rattle.r4_locks.specs.Locks.{AreHolds, LocksSeen, OthersAsBefore, task_at}
+use Rattle.r4_taking.specs.r4_buffer.Changed.{has_name}
+use Rattle.r4_taking.specs.r4_cell.Seen.{CellSeen}
+use Rattle.r4_taking.specs.r4_history.Drawn.{numbers_in}
+use Rattle.r4_taking.specs.r4_history.Held.{IsOut, OwnersFollow, TasksTell, names_of, need_of, nodes_of}
+use Rattle.r4_taking.specs.r4_history.Tables.{Tables, with_ended}
+use Rattle.r4_taking.proofs.r4_history.TaskSteps.{ended_follow, held_apart, tasks_answered, tasks_dropped, tasks_left}
+use Rattle.r4_taking.proofs.r4_history.TaskSteps.{tasks_owned}
+use Rattle.r4_taking.proofs.r4_history.Places.{is_script_with, turn_now}
+use Rattle.r4_taking.specs.r4_locks.Locks.{AreHolds, LocksSeen, OthersAsBefore, task_at}
 use Rattle.r4_outside.specs.Device.{State}
-use Rattle.r4_turns.specs.Turns.{IsScript, answered_one, dropped, left, turn_at}
-use Rattle.r4_turns.specs.declared.out.Out.{Out}
-use Rattle.r4_turns.specs.declared.turn.Turn.{Turn}
-use Rattle.r4_kept.specs.Kept.{IsKept}
-use Rattle.r4_kept.specs.Naming.{Naming}
-use Rattle.r4_kept.specs.View.{CoreSeen, tables_of}
+use Rattle.r4_taking.specs.r4_turns.Turns.{IsScript, answered_one, dropped, left, turn_at}
+use Rattle.r4_taking.specs.r4_turns.declared.out.Out.{Out}
+use Rattle.r4_taking.specs.r4_turns.declared.turn.Turn.{Turn}
+use Rattle.r4_taking.specs.r4_kept.Kept.{IsKept}
+use Rattle.r4_taking.specs.r4_kept.Naming.{Naming}
+use Rattle.r4_taking.specs.r4_kept.View.{CoreSeen, tables_of}
 use Rattle.r4_done.proofs.DoneTasks.{AreNumbered}
 use Rattle.r4_taking.proofs.Turned.{free_then, there}
 use Rattle.r4_done.proofs.Dropped.{outs_before}

@@ -6,26 +6,26 @@ use Rattle.std.proofs.Common.{ap, subst, arith}
 use Rattle.std.proofs.lemmas.Bool.{cases_Bool, cond-false, or_cases}
 use Rattle.std.proofs.lemmas.List.Elements.{Contains-append_right}
 use Rattle.r4_atoms.specs.Atoms.{AtomsSeen, owner_of}
-use Rattle.r4_buffer.specs.Changed.{has_name, in_turn, replaced, unused}
-use Rattle.r4_buffer.specs.Seen.{BufferSeen, EntrySeen, buffered}
+use Rattle.r4_taking.specs.r4_buffer.Changed.{has_name, in_turn, replaced, unused}
+use Rattle.r4_taking.specs.r4_buffer.Seen.{BufferSeen, EntrySeen, buffered}
 use Rattle.r4_base.specs.Tree.{Name}
-use Rattle.r4_cell.specs.Seen.{CellSeen}
-use Rattle.r4_cell.specs.declared.change.Root.{Root as RootPair}
+use Rattle.r4_taking.specs.r4_cell.Seen.{CellSeen}
+use Rattle.r4_taking.specs.r4_cell.declared.change.Root.{Root as RootPair}
 use Rattle.r4_content.specs.Meaning.{with_id}
 use Rattle.r4_content.specs.declared.command.Command.{Command}
-use Rattle.r4_history.specs.Drawn.{numbers_in, numbers_of}
-use Rattle.r4_history.specs.Held.{IsOut}
-use Rattle.r4_history.specs.Tables.{next_at}
+use Rattle.r4_taking.specs.r4_history.Drawn.{numbers_in, numbers_of}
+use Rattle.r4_taking.specs.r4_history.Held.{IsOut}
+use Rattle.r4_taking.specs.r4_history.Tables.{next_at}
 use Rattle.r4_outside.specs.Device.{State}
-use Rattle.r4_patch.specs.Joining.{ids_of}
-use Rattle.r4_turns.specs.Turns.{IsScript, TurnsSeen, turn_at}
-use Rattle.r4_turns.specs.declared.out.Numbers.{Numbers}
-use Rattle.r4_turns.specs.declared.out.Out.{Out}
-use Rattle.r4_kept.specs.Cells.{NamesAt}
-use Rattle.r4_kept.specs.Kept.{IsKept}
-use Rattle.r4_kept.specs.Naming.{Naming}
-use Rattle.r4_kept.specs.TasksOut.{AreOut, IsGiven, pins_in}
-use Rattle.r4_kept.specs.View.{CoreSeen}
+use Rattle.r4_counted.specs.r4_patch.Joining.{ids_of}
+use Rattle.r4_taking.specs.r4_turns.Turns.{IsScript, TurnsSeen, turn_at}
+use Rattle.r4_taking.specs.r4_turns.declared.out.Numbers.{Numbers}
+use Rattle.r4_taking.specs.r4_turns.declared.out.Out.{Out}
+use Rattle.r4_taking.specs.r4_kept.Cells.{NamesAt}
+use Rattle.r4_taking.specs.r4_kept.Kept.{IsKept}
+use Rattle.r4_taking.specs.r4_kept.Naming.{Naming}
+use Rattle.r4_taking.specs.r4_kept.TasksOut.{AreOut, IsGiven, pins_in}
+use Rattle.r4_taking.specs.r4_kept.View.{CoreSeen}
 use Rattle.r4_done.proofs.Dropped.{TurnsDrop}
 use Rattle.r4_done.proofs.Named.{id_there, one_named, one_of_ids}
 use Rattle.r4_done.proofs.Replaced.{entry_cases, uses_then}

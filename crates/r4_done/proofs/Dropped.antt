@@ -4,16 +4,16 @@ use Rattle.std.proofs.Common.{subst, arith}
 use Rattle.std.specs.Prelude.{slice_get, sum_by}
 use Rattle.std.proofs.lemmas.Bool.{cases_eq}
 use Rattle.std.proofs.lemmas.List.{set-set}
-use Rattle.r4_history.specs.Drawn.{numbers_of}
-use Rattle.r4_history.specs.Held.{IsOut}
-use Rattle.r4_history.specs.Tables.{next_at}
-use Rattle.r4_history.proofs.DrawnSteps.{turn_other}
-use Rattle.r4_history.proofs.Places.{turn_now}
-use Rattle.r4_turns.specs.Turns.{IsScript, TurnsSeen, answered_one, commands_at, dropped, left, turn_at, with_turn}
-use Rattle.r4_turns.specs.declared.out.Numbers.{Numbers}
-use Rattle.r4_turns.specs.declared.out.Out.{Out}
-use Rattle.r4_turns.specs.declared.turn.Turn.{Turn}
-use Rattle.r4_kept.proofs.Turning.{is_script_before, summed}
+use Rattle.r4_taking.specs.r4_history.Drawn.{numbers_of}
+use Rattle.r4_taking.specs.r4_history.Held.{IsOut}
+use Rattle.r4_taking.specs.r4_history.Tables.{next_at}
+use Rattle.r4_taking.proofs.r4_history.DrawnSteps.{turn_other}
+use Rattle.r4_taking.proofs.r4_history.Places.{turn_now}
+use Rattle.r4_taking.specs.r4_turns.Turns.{IsScript, TurnsSeen, answered_one, commands_at, dropped, left, turn_at, with_turn}
+use Rattle.r4_taking.specs.r4_turns.declared.out.Numbers.{Numbers}
+use Rattle.r4_taking.specs.r4_turns.declared.out.Out.{Out}
+use Rattle.r4_taking.specs.r4_turns.declared.turn.Turn.{Turn}
+use Rattle.r4_taking.proofs.r4_kept.Turning.{is_script_before, summed}
 
 -- the task of one script is out no more, nor has it numbers; all else of the turns was so before
 pub record TurnsDrop (old new : TurnsSeen) (s : ℕ) (out : Out) : Type 0 where

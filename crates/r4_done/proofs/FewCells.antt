@@ -17,32 +17,32 @@ use Rattle.r4_base.specs.Value.{Value}
 use Rattle.r4_base.specs.declared.things.AtomNo.{AtomNo}
 use Rattle.r4_base.specs.declared.things.ScriptNo.{ScriptNo}
 use Rattle.r4_atoms.specs.Atoms.{account_of, atom_of}
-use Rattle.r4_buffer.specs.Changed.{has_name}
-use Rattle.r4_buffer.specs.Seen.{buffered, is_dirty_by}
-use Rattle.r4_build.specs.Building.{CanBuild, most_new}
-use Rattle.r4_cell.specs.Patch.{by_name, root_of_pair}
-use Rattle.r4_cell.specs.Seen.{CellSeen, node_of}
-use Rattle.r4_cell.specs.declared.change.Change.{Change}
-use Rattle.r4_cell.specs.declared.change.Fresh.{Fresh}
+use Rattle.r4_taking.specs.r4_buffer.Changed.{has_name}
+use Rattle.r4_taking.specs.r4_buffer.Seen.{buffered, is_dirty_by}
+use Rattle.r4_taking.specs.r4_build.Building.{CanBuild, most_new}
+use Rattle.r4_taking.specs.r4_cell.Patch.{by_name, root_of_pair}
+use Rattle.r4_taking.specs.r4_cell.Seen.{CellSeen, node_of}
+use Rattle.r4_taking.specs.r4_cell.declared.change.Change.{Change}
+use Rattle.r4_taking.specs.r4_cell.declared.change.Fresh.{Fresh}
 use Rattle.r4_content.specs.Edited.{Edits, Intervals, changed}
 use Rattle.r4_content.specs.declared.command.Command.{Command}
 use Rattle.r4_outside.specs.Device.{State}
-use Rattle.r4_patch.specs.Joining.{ids_of}
-use Rattle.r4_reach.specs.Demand.{Demand, ask, ask_of}
-use Rattle.r4_reach.specs.Leaves.{more_in, more_of, rise_of}
-use Rattle.r4_reach.specs.Needs.{Ask, demand_of}
-use Rattle.r4_reach.specs.Touched.{Body, body_on, edits_on, reads_on}
-use Rattle.r4_trace.specs.Traced.{begun_in}
-use Rattle.r4_trace.specs.declared.entry.Entry.{Entry}
-use Rattle.r4_trace.specs.declared.entry.Entry.TheVariants.{Acked, Begin, Broken, Committed, Done, Ended, Fuse}
-use Rattle.r4_trace.specs.declared.entry.Entry.TheVariants.{Refused, Sealed}
-use Rattle.r4_turns.specs.declared.out.Out.{Out}
-use Rattle.r4_turns.specs.declared.turn.Open.{Open}
-use Rattle.r4_kept.specs.Accounts.{CountsCells, dones_of}
-use Rattle.r4_kept.specs.Kept.{IsKept}
-use Rattle.r4_kept.specs.Naming.{Naming}
-use Rattle.r4_kept.specs.TasksOut.{IsGiven}
-use Rattle.r4_kept.specs.View.{CoreSeen, blocks_of}
+use Rattle.r4_counted.specs.r4_patch.Joining.{ids_of}
+use Rattle.r4_counted.specs.r4_reach.Demand.{Demand, ask, ask_of}
+use Rattle.r4_counted.specs.r4_reach.Leaves.{more_in, more_of, rise_of}
+use Rattle.r4_counted.specs.r4_reach.Needs.{Ask, demand_of}
+use Rattle.r4_counted.specs.r4_reach.Touched.{Body, body_on, edits_on, reads_on}
+use Rattle.r4_taking.specs.r4_trace.Traced.{begun_in}
+use Rattle.r4_taking.specs.r4_trace.declared.entry.Entry.{Entry}
+use Rattle.r4_taking.specs.r4_trace.declared.entry.Entry.TheVariants.{Acked, Begin, Broken, Committed, Done, Ended, Fuse}
+use Rattle.r4_taking.specs.r4_trace.declared.entry.Entry.TheVariants.{Refused, Sealed}
+use Rattle.r4_taking.specs.r4_turns.declared.out.Out.{Out}
+use Rattle.r4_taking.specs.r4_turns.declared.turn.Open.{Open}
+use Rattle.r4_taking.specs.r4_kept.Accounts.{CountsCells, dones_of}
+use Rattle.r4_taking.specs.r4_kept.Kept.{IsKept}
+use Rattle.r4_taking.specs.r4_kept.Naming.{Naming}
+use Rattle.r4_taking.specs.r4_kept.TasksOut.{IsGiven}
+use Rattle.r4_taking.specs.r4_kept.View.{CoreSeen, blocks_of}
 use Rattle.r4_done.specs.Doing.{is_less}
 use Rattle.r4_done.specs.Done.{CanBeDone, IsChangeOf}
 use Rattle.r4_done.proofs.Doable.{dirty_owned, given_it, once, touched_owned, write_owned}

@@ -2,12 +2,12 @@
 use Rattle.std.proofs.Common.{◌≡◌, ◌⊎◌, ◌∙◌, ◌<◌, ◌≤◌, ◌&&◌, Bool, true, false, List, Contains, sym, subst}
 use Rattle.std.proofs.Common.{ap, arith, if◌then◌else◌, length, Option}
 use Rattle.std.specs.Arc.{arc_value}
-use Rattle.r4_build.specs.Building.{CanBuild, most_new}
-use Rattle.r4_build.specs.Built.{BuiltSeen, IsBuilt, IsTaskIn, edits_for, reply_for}
-use Rattle.r4_cell.specs.Patch.{by_name, root_of_pair}
-use Rattle.r4_cell.specs.Seen.{CellSeen}
-use Rattle.r4_cell.specs.declared.change.Fresh.{Fresh}
-use Rattle.r4_cell.specs.declared.change.Root.{Root}
+use Rattle.r4_taking.specs.r4_build.Building.{CanBuild, most_new}
+use Rattle.r4_taking.specs.r4_build.Built.{BuiltSeen, IsBuilt, IsTaskIn, edits_for, reply_for}
+use Rattle.r4_taking.specs.r4_cell.Patch.{by_name, root_of_pair}
+use Rattle.r4_taking.specs.r4_cell.Seen.{CellSeen}
+use Rattle.r4_taking.specs.r4_cell.declared.change.Fresh.{Fresh}
+use Rattle.r4_taking.specs.r4_cell.declared.change.Root.{Root}
 use Rattle.r4_content.specs.Counts.{is_okay}
 use Rattle.r4_content.specs.Edited.{Edits, Intervals}
 use Rattle.r4_content.specs.Fields.{HasBytePaths}
@@ -15,12 +15,12 @@ use Rattle.r4_content.specs.Held.{pairs_of}
 use Rattle.r4_content.specs.Meaning.{makes_object}
 use Rattle.r4_content.specs.declared.command.Command.{Command}
 use Rattle.r4_counted.proofs.Taken.{takes_one}
-use Rattle.r4_patch.specs.Joining.{ids_of}
-use Rattle.r4_reach.specs.Touched.{Body, body_on, edits_on, reads_on}
-use Rattle.r4_suited.specs.Suited.{AreLawfulSeen}
-use Rattle.r4_turns.specs.declared.out.Out.{Out}
-use Rattle.r4_kept.specs.TasksOut.{IsGiven}
-use Rattle.r4_kept.specs.View.{CoreSeen}
+use Rattle.r4_counted.specs.r4_patch.Joining.{ids_of}
+use Rattle.r4_counted.specs.r4_reach.Touched.{Body, body_on, edits_on, reads_on}
+use Rattle.r4_counted.specs.r4_suited.Suited.{AreLawfulSeen}
+use Rattle.r4_taking.specs.r4_turns.declared.out.Out.{Out}
+use Rattle.r4_taking.specs.r4_kept.TasksOut.{IsGiven}
+use Rattle.r4_taking.specs.r4_kept.View.{CoreSeen}
 use Rattle.r4_done.specs.Done.{IsChangeOf}
 
 -- The built task is the one that is out: its command, the cells that it writes, its numbers, and what was seen for it.

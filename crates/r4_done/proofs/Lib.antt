@@ -18,3 +18,12 @@ pub mod FewCells
 pub mod Done
 pub mod FromBuilt
 pub mod DoneRun
+-- what crates above name by way of this one
+pub use Rattle.r4_taking.proofs.r4_durable
+pub use Rattle.r4_taking.proofs.r4_flushed
+pub use Rattle.r4_taking.proofs.r4_history
+pub use Rattle.r4_taking.proofs.r4_kept
+pub use Rattle.r4_counted.proofs.r4_patch
+pub use Rattle.r4_taking.proofs.r4_sealed
+pub use Rattle.r4_taking.proofs.r4_sets
+pub use Rattle.r4_taking.proofs as r4_taking

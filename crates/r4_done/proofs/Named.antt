@@ -7,14 +7,14 @@ use Rattle.r4_atoms.specs.Atoms.{numbers}
 use Rattle.r4_base.proofs.Members.{member_cases, member_here, member_later, no_member}
 use Rattle.r4_base.specs.Tree.{Node}
 use Rattle.r4_base.specs.Value.{Value}
-use Rattle.r4_buffer.specs.Changed.{has_name}
-use Rattle.r4_cell.specs.Patch.{by_name}
-use Rattle.r4_cell.specs.Seen.{CellSeen}
-use Rattle.r4_history.specs.Held.{names_of, need_of, nodes_of}
-use Rattle.r4_history.proofs.ServingSteps.{cons_cases, cons_here, cons_later}
-use Rattle.r4_patch.specs.Joining.{ids_of}
-use Rattle.r4_patch.proofs.Members.{absent, found}
-use Rattle.r4_turns.specs.declared.out.Out.{Out}
+use Rattle.r4_taking.specs.r4_buffer.Changed.{has_name}
+use Rattle.r4_taking.specs.r4_cell.Patch.{by_name}
+use Rattle.r4_taking.specs.r4_cell.Seen.{CellSeen}
+use Rattle.r4_taking.specs.r4_history.Held.{names_of, need_of, nodes_of}
+use Rattle.r4_taking.proofs.r4_history.ServingSteps.{cons_cases, cons_here, cons_later}
+use Rattle.r4_counted.specs.r4_patch.Joining.{ids_of}
+use Rattle.r4_counted.proofs.r4_patch.Members.{absent, found}
+use Rattle.r4_taking.specs.r4_turns.declared.out.Out.{Out}
 
 -- a cell of the list with this name
 abbrev pub IsOne : List CellSeen → (name : ℕ) → Type 0

@@ -6,12 +6,12 @@ use Rattle.std.specs.Option.{unwrap_or}
 use Rattle.r4_base.proofs.Trees.{not_both, one_cell}
 use Rattle.r4_base.specs.Tree.{InName, IsNode, Name, Node, Root, Store}
 use Rattle.r4_base.specs.Value.{Value}
-use Rattle.r4_buffer.specs.Seen.{BufferSeen}
-use Rattle.r4_cell.specs.Patch.{IsPatch, Patch, over, place, root_after}
-use Rattle.r4_patch.specs.Part.{IsPart, MeetsPart}
-use Rattle.r4_patch.proofs.PartCells.{in_namer, named_once, root_unnamed}
-use Rattle.r4_patch.proofs.Placed.{over_kept, over_new, placed_part, some_or_none, still_there}
-use Rattle.r4_kept.specs.Cells.{AreNamedOnce, NamesAt}
+use Rattle.r4_taking.specs.r4_buffer.Seen.{BufferSeen}
+use Rattle.r4_taking.specs.r4_cell.Patch.{IsPatch, Patch, over, place, root_after}
+use Rattle.r4_counted.specs.r4_patch.Part.{IsPart, MeetsPart}
+use Rattle.r4_counted.proofs.r4_patch.PartCells.{in_namer, named_once, root_unnamed}
+use Rattle.r4_counted.proofs.r4_patch.Placed.{over_kept, over_new, placed_part, some_or_none, still_there}
+use Rattle.r4_taking.specs.r4_kept.Cells.{AreNamedOnce, NamesAt}
 
 -- what it says of a cell's level that it names a name
 namer_level : (c d : Node Value) (n : Name) → IsNode c → IsNode d → Contains c.names n → Contains d.names n

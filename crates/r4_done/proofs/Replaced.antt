@@ -6,11 +6,11 @@ use Rattle.std.proofs.Common.{Contains, refl, sym, ◌∙◌, ap, subst, arith}
 use Rattle.std.specs.Prelude.{count_by}
 use Rattle.std.proofs.lemmas.Bool.{cases_Bool, cond-false, cond-true, eqb-true}
 use Rattle.r4_base.specs.declared.things.NodeId.{NodeId}
-use Rattle.r4_buffer.specs.Changed.{Standing, has_name, in_turn, placed, replaced, unused, uses_of}
-use Rattle.r4_buffer.specs.Seen.{BufferSeen, EntrySeen, buffered, is_dirty_by}
-use Rattle.r4_cell.specs.Seen.{CellSeen}
-use Rattle.r4_history.proofs.ServingSteps.{cons_here, cons_later}
-use Rattle.r4_kept.proofs.Unused.{IsLike, like_dirty, unused_fewer, unused_like}
+use Rattle.r4_taking.specs.r4_buffer.Changed.{Standing, has_name, in_turn, placed, replaced, unused, uses_of}
+use Rattle.r4_taking.specs.r4_buffer.Seen.{BufferSeen, EntrySeen, buffered, is_dirty_by}
+use Rattle.r4_taking.specs.r4_cell.Seen.{CellSeen}
+use Rattle.r4_taking.proofs.r4_history.ServingSteps.{cons_here, cons_later}
+use Rattle.r4_taking.proofs.r4_kept.Unused.{IsLike, like_dirty, unused_fewer, unused_like}
 
 or_false : (x : Bool) → (x || false) ≡ x
 or_false true = refl

@@ -5,11 +5,11 @@ use Rattle.r4_atoms.specs.Atoms.{AtomsSeen, IsBegun, IsOpenAtom, account_of, ato
 use Rattle.r4_atoms.specs.declared.things.Account.{Account}
 use Rattle.r4_base.specs.Bitmap.{bitmap_count}
 use Rattle.r4_base.specs.declared.things.AtomNo.{AtomNo}
-use Rattle.r4_buffer.specs.Changed.{has_name}
-use Rattle.r4_buffer.specs.Seen.{BufferSeen, buffered, is_dirty_by}
-use Rattle.r4_cell.specs.Seen.{CellSeen}
-use Rattle.r4_space.specs.Accounts.{account_at, dues}
-use Rattle.r4_space.specs.Space.{Space, unused_count}
+use Rattle.r4_taking.specs.r4_buffer.Changed.{has_name}
+use Rattle.r4_taking.specs.r4_buffer.Seen.{BufferSeen, buffered, is_dirty_by}
+use Rattle.r4_taking.specs.r4_cell.Seen.{CellSeen}
+use Rattle.r4_taking.specs.r4_space.Accounts.{account_at, dues}
+use Rattle.r4_taking.specs.r4_space.Space.{Space, unused_count}
 
 -- The atom owns each node that the change touches, and has this account; of the other atoms and of
 -- all transactions the table says what it said. At most so many places were used up.

@@ -8,29 +8,29 @@ use Rattle.r4_atoms.specs.declared.things.Account.{Account}
 use Rattle.r4_base.specs.declared.things.AtomNo.{AtomNo}
 use Rattle.r4_base.specs.declared.things.ScriptNo.{ScriptNo}
 use Rattle.r4_base.specs.declared.things.TxnNo.{TxnNo}
-use Rattle.r4_build.specs.Building.{most_new}
-use Rattle.r4_buffer.specs.Changed.{has_name, in_turn, replaced, unused}
-use Rattle.r4_buffer.specs.Seen.{IsLawful, buffered}
-use Rattle.r4_cell.specs.Patch.{IsChange, by_name, root_of_pair}
-use Rattle.r4_cell.specs.Seen.{CellSeen}
-use Rattle.r4_cell.specs.declared.change.Change.{Change}
+use Rattle.r4_taking.specs.r4_build.Building.{most_new}
+use Rattle.r4_taking.specs.r4_buffer.Changed.{has_name, in_turn, replaced, unused}
+use Rattle.r4_taking.specs.r4_buffer.Seen.{IsLawful, buffered}
+use Rattle.r4_taking.specs.r4_cell.Patch.{IsChange, by_name, root_of_pair}
+use Rattle.r4_taking.specs.r4_cell.Seen.{CellSeen}
+use Rattle.r4_taking.specs.r4_cell.declared.change.Change.{Change}
 use Rattle.r4_content.specs.Meaning.{with_id}
 use Rattle.r4_content.specs.declared.command.Command.{Command}
 use Rattle.r4_content.specs.declared.reply.Reply.{Reply}
-use Rattle.r4_history.specs.Held.{IsOut}
-use Rattle.r4_history.specs.Tables.{Stands, with_ended}
-use Rattle.r4_locks.specs.Locks.{AreHolds, OthersAsBefore, task_at}
-use Rattle.r4_patch.specs.Joining.{ids_of, patch_of_change}
-use Rattle.r4_patch.specs.Part.{MeetsPart}
-use Rattle.r4_reach.specs.Touched.{body_on, edits_on, reads_on}
-use Rattle.r4_trace.specs.Job.{IsWork}
-use Rattle.r4_trace.specs.declared.entry.Entry.TheVariants.{Done, Ended}
-use Rattle.r4_turns.specs.Turns.{answered_at, answered_one, dropped, left}
-use Rattle.r4_turns.specs.declared.out.Out.{Out}
-use Rattle.r4_turns.specs.declared.turn.Open.{Open}
-use Rattle.r4_kept.specs.Steps.{with_entry}
-use Rattle.r4_kept.specs.TasksOut.{IsGiven}
-use Rattle.r4_kept.specs.View.{CoreSeen}
+use Rattle.r4_taking.specs.r4_history.Held.{IsOut}
+use Rattle.r4_taking.specs.r4_history.Tables.{Stands, with_ended}
+use Rattle.r4_taking.specs.r4_locks.Locks.{AreHolds, OthersAsBefore, task_at}
+use Rattle.r4_counted.specs.r4_patch.Joining.{ids_of, patch_of_change}
+use Rattle.r4_counted.specs.r4_patch.Part.{MeetsPart}
+use Rattle.r4_counted.specs.r4_reach.Touched.{body_on, edits_on, reads_on}
+use Rattle.r4_taking.specs.r4_trace.Job.{IsWork}
+use Rattle.r4_taking.specs.r4_trace.declared.entry.Entry.TheVariants.{Done, Ended}
+use Rattle.r4_taking.specs.r4_turns.Turns.{answered_at, answered_one, dropped, left}
+use Rattle.r4_taking.specs.r4_turns.declared.out.Out.{Out}
+use Rattle.r4_taking.specs.r4_turns.declared.turn.Open.{Open}
+use Rattle.r4_taking.specs.r4_kept.Steps.{with_entry}
+use Rattle.r4_taking.specs.r4_kept.TasksOut.{IsGiven}
+use Rattle.r4_taking.specs.r4_kept.View.{CoreSeen}
 use Rattle.r4_done.specs.Doing.{HasCharged, IsCount}
 
 -- The change is one of cells that the task writes, with their names or the task's numbers. It meets

@@ -6,29 +6,29 @@ use Rattle.r4_base.specs.Value.{Value}
 use Rattle.r4_base.specs.declared.things.AtomNo.{AtomNo}
 use Rattle.r4_base.specs.declared.things.ScriptNo.{ScriptNo}
 use Rattle.r4_base.specs.declared.things.TxnNo.{TxnNo}
-use Rattle.r4_cell.specs.Patch.{Patch}
-use Rattle.r4_cell.specs.declared.change.Change.{Change}
+use Rattle.r4_taking.specs.r4_cell.Patch.{Patch}
+use Rattle.r4_taking.specs.r4_cell.declared.change.Change.{Change}
 use Rattle.r4_content.specs.Counts.{born, gone}
 use Rattle.r4_content.specs.Locality.{commands}
 use Rattle.r4_content.specs.Meaning.{greatest_size}
 use Rattle.r4_content.specs.declared.command.Command.{Command}
 use Rattle.r4_content.specs.declared.reply.Reply.{Reply}
-use Rattle.r4_durable.specs.Meaning.{Beginning, IsNamed, first_id}
-use Rattle.r4_durable.specs.Sealing.{start_in}
-use Rattle.r4_flushed.specs.Flushed.{OwnsBlocks}
+use Rattle.r4_taking.specs.r4_durable.Meaning.{Beginning, IsNamed, first_id}
+use Rattle.r4_taking.specs.r4_durable.Sealing.{start_in}
+use Rattle.r4_taking.specs.r4_flushed.Flushed.{OwnsBlocks}
 use Rattle.r4_outside.specs.Device.{State}
-use Rattle.r4_patch.specs.Joining.{patch_of_change}
-use Rattle.r4_sets.specs.Change.{Applies, applied}
-use Rattle.r4_sets.specs.Session.{Session, all_done}
-use Rattle.r4_sets_told.specs.Runs.{IsLawfulRun}
-use Rattle.r4_space.specs.Space.{Space}
-use Rattle.r4_trace.specs.Folds.{content_of, everything}
-use Rattle.r4_trace.specs.Job.{Asked}
-use Rattle.r4_turns.specs.Turns.{answered_at}
-use Rattle.r4_kept.specs.Kept.{IsKept}
-use Rattle.r4_kept.specs.Naming.{Naming, job_named, names_in}
-use Rattle.r4_kept.specs.View.{CoreSeen}
-use Rattle.r4_kept.specs.declared.parts.Commit.{Commit}
+use Rattle.r4_counted.specs.r4_patch.Joining.{patch_of_change}
+use Rattle.r4_taking.specs.r4_sets.Change.{Applies, applied}
+use Rattle.r4_taking.specs.r4_sets.Session.{Session, all_done}
+use Rattle.r4_taking.specs.r4_sets_told.Runs.{IsLawfulRun}
+use Rattle.r4_taking.specs.r4_space.Space.{Space}
+use Rattle.r4_taking.specs.r4_trace.Folds.{content_of, everything}
+use Rattle.r4_taking.specs.r4_trace.Job.{Asked}
+use Rattle.r4_taking.specs.r4_turns.Turns.{answered_at}
+use Rattle.r4_taking.specs.r4_kept.Kept.{IsKept}
+use Rattle.r4_taking.specs.r4_kept.Naming.{Naming, job_named, names_in}
+use Rattle.r4_taking.specs.r4_kept.View.{CoreSeen}
+use Rattle.r4_taking.specs.r4_kept.declared.parts.Commit.{Commit}
 use Rattle.r4_taking.specs.Following.{Follows}
 
 -- the session once a command is done by this change

@@ -7,20 +7,20 @@ use Rattle.r4_base.specs.Value.{Content, Value}
 use Rattle.r4_base.specs.Volume.{IsLost}
 use Rattle.r4_base.specs.declared.superblock.Super40.{Super40}
 use Rattle.r4_content.specs.Locality.{commands}
-use Rattle.r4_space.specs.Space.{Space, settled}
-use Rattle.r4_trace.specs.declared.entry.Entry.{Entry}
-use Rattle.r4_trace.specs.Job.{Asked}
-use Rattle.r4_trace.specs.Traced.{committed_in, sealed_in}
-use Rattle.r4_wander.specs.Kept.{IsVolumeOf}
-use Rattle.r4_sets.specs.Atoms.{committed}
-use Rattle.r4_sets.specs.Session.{Layer, Session}
-use Rattle.r4_sets.proofs.Gathered.{committed_sets}
-use Rattle.r4_sealed.specs.Commits.{image_after, super_after}
-use Rattle.r4_sealed.specs.Contents.{HasContentWith}
-use Rattle.r4_sealed.specs.Written.{IsSpaceOf}
-use Rattle.r4_sealed.proofs.Kept.{ended}
-use Rattle.r4_sealed.proofs.Resting.{Rests, lost_rested, rested}
-use Rattle.r4_sealed.proofs.Settled.{settled_space}
+use Rattle.r4_open.specs.r4_space.Space.{Space, settled}
+use Rattle.r4_flushed.specs.r4_trace.declared.entry.Entry.{Entry}
+use Rattle.r4_flushed.specs.r4_trace.Job.{Asked}
+use Rattle.r4_flushed.specs.r4_trace.Traced.{committed_in, sealed_in}
+use Rattle.r4_flushed.specs.r4_wander.Kept.{IsVolumeOf}
+use Rattle.r4_flushed.specs.r4_sets.Atoms.{committed}
+use Rattle.r4_flushed.specs.r4_sets.Session.{Layer, Session}
+use Rattle.r4_flushed.proofs.r4_sets.Gathered.{committed_sets}
+use Rattle.r4_flushed.specs.r4_sealed.Commits.{image_after, super_after}
+use Rattle.r4_flushed.specs.r4_sealed.Contents.{HasContentWith}
+use Rattle.r4_flushed.specs.r4_sealed.Written.{IsSpaceOf}
+use Rattle.r4_flushed.proofs.r4_sealed.Kept.{ended}
+use Rattle.r4_flushed.proofs.r4_sealed.Resting.{Rests, lost_rested, rested}
+use Rattle.r4_flushed.proofs.r4_sealed.Settled.{settled_space}
 use Rattle.r4_flushed.specs.Deferred.{AreDeferredBut}
 use Rattle.r4_flushed.proofs.Deferring.{deferred_settled}
 use Rattle.r4_flushed.proofs.FlushedCells.{FitsOnDisk}

@@ -4,14 +4,14 @@ use Rattle.std.proofs.Common.{◌∙◌, subst, arith}
 use Rattle.r4_base.specs.Image.{Image, IsImage}
 use Rattle.r4_base.specs.Volume.{HasContent, IsLost}
 use Rattle.r4_content.specs.Locality.{commands}
-use Rattle.r4_trace.specs.Job.{Asked}
-use Rattle.r4_trace.specs.Safe.{HasFirst, HasNow}
-use Rattle.r4_trace.specs.Traced.{committed_in, sealed_in}
-use Rattle.r4_wander.specs.Kept.{IsVolumeOf}
-use Rattle.r4_sets.specs.Session.{Session}
-use Rattle.r4_sealed.specs.Commits.{LeftInPart, image_after}
-use Rattle.r4_sealed.specs.Contents.{HasEither}
-use Rattle.r4_sealed.proofs.Kept.{by_part}
+use Rattle.r4_flushed.specs.r4_trace.Job.{Asked}
+use Rattle.r4_flushed.specs.r4_trace.Safe.{HasFirst, HasNow}
+use Rattle.r4_flushed.specs.r4_trace.Traced.{committed_in, sealed_in}
+use Rattle.r4_flushed.specs.r4_wander.Kept.{IsVolumeOf}
+use Rattle.r4_flushed.specs.r4_sets.Session.{Session}
+use Rattle.r4_flushed.specs.r4_sealed.Commits.{LeftInPart, image_after}
+use Rattle.r4_flushed.specs.r4_sealed.Contents.{HasEither}
+use Rattle.r4_flushed.proofs.r4_sealed.Kept.{by_part}
 use Rattle.r4_flushed.proofs.FlushedCells.{FitsOnDisk}
 use Rattle.r4_durable.specs.Meaning.{Beginning, IsNextId, IsVolumeLike, WasLost, means}
 use Rattle.r4_durable.specs.Sealing.{IsSealing, MeansFirst, MeansInPart, Sealing, commit_in, made_by, session_after}

@@ -9,19 +9,19 @@ use Rattle.r4_base.specs.Value.{Content, Value}
 use Rattle.r4_base.specs.Volume.{IsLost}
 use Rattle.r4_base.specs.declared.things.AtomNo.{AtomNo}
 use Rattle.r4_content.specs.Locality.{commands}
-use Rattle.r4_space.specs.Lawful.{IsLawful}
-use Rattle.r4_space.specs.Space.{Space}
-use Rattle.r4_trace.specs.declared.entry.Entry.{Entry}
-use Rattle.r4_trace.specs.Job.{Asked}
-use Rattle.r4_trace.specs.Safe.{AddsNothing}
-use Rattle.r4_trace.specs.Traced.{committed_in, sealed_in}
-use Rattle.r4_sets.specs.Atoms.{committed, sealed, without}
-use Rattle.r4_sets.specs.Session.{Layer, Session}
-use Rattle.r4_sets.proofs.Gathered.{committed_sets, sealed_sets}
-use Rattle.r4_sets.proofs.Patches.{empty_sealed}
-use Rattle.r4_sets_told.proofs.OneContent.{adds_nothing}
-use Rattle.r4_sealed.specs.Contents.{HasContentWith}
-use Rattle.r4_sealed.specs.Written.{IsSpaceOf}
+use Rattle.r4_open.specs.r4_space.Lawful.{IsLawful}
+use Rattle.r4_open.specs.r4_space.Space.{Space}
+use Rattle.r4_flushed.specs.r4_trace.declared.entry.Entry.{Entry}
+use Rattle.r4_flushed.specs.r4_trace.Job.{Asked}
+use Rattle.r4_flushed.specs.r4_trace.Safe.{AddsNothing}
+use Rattle.r4_flushed.specs.r4_trace.Traced.{committed_in, sealed_in}
+use Rattle.r4_flushed.specs.r4_sets.Atoms.{committed, sealed, without}
+use Rattle.r4_flushed.specs.r4_sets.Session.{Layer, Session}
+use Rattle.r4_flushed.proofs.r4_sets.Gathered.{committed_sets, sealed_sets}
+use Rattle.r4_flushed.proofs.r4_sets.Patches.{empty_sealed}
+use Rattle.r4_flushed.proofs.r4_sets_told.OneContent.{adds_nothing}
+use Rattle.r4_flushed.specs.r4_sealed.Contents.{HasContentWith}
+use Rattle.r4_flushed.specs.r4_sealed.Written.{IsSpaceOf}
 use Rattle.r4_flushed.specs.Deferred.{AreDeferred, AreDeferredBut}
 use Rattle.r4_flushed.proofs.Owned.{committed_owns, still_owned}
 use Rattle.r4_durable.specs.GoingOn.{GoesOn, MarksAlike}

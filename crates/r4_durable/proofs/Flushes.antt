@@ -8,20 +8,20 @@ use Rattle.r4_base.specs.Volume.{IsLost}
 use Rattle.r4_base.specs.declared.superblock.Super40.{Super40}
 use Rattle.r4_base.proofs.Superblocks.{read_lawful}
 use Rattle.r4_content.specs.Locality.{commands}
-use Rattle.r4_space.specs.Space.{Space}
-use Rattle.r4_trace.specs.Job.{Asked}
-use Rattle.r4_trace.specs.Safe.{HasNow}
-use Rattle.r4_trace.specs.Traced.{committed_in}
-use Rattle.r4_wander.specs.declared.plan.LogPlan.{LogPlan}
-use Rattle.r4_sets.specs.Session.{Layer, Session}
-use Rattle.r4_sealed.specs.Contents.{RenewsSuper}
-use Rattle.r4_place.specs.Chosen.{placed_all}
+use Rattle.r4_open.specs.r4_space.Space.{Space}
+use Rattle.r4_flushed.specs.r4_trace.Job.{Asked}
+use Rattle.r4_flushed.specs.r4_trace.Safe.{HasNow}
+use Rattle.r4_flushed.specs.r4_trace.Traced.{committed_in}
+use Rattle.r4_flushed.specs.r4_wander.declared.plan.LogPlan.{LogPlan}
+use Rattle.r4_flushed.specs.r4_sets.Session.{Layer, Session}
+use Rattle.r4_flushed.specs.r4_sealed.Contents.{RenewsSuper}
+use Rattle.r4_flushed.specs.r4_place.Chosen.{placed_all}
 use Rattle.r4_flushed.specs.Deferred.{AreDeferredBut}
 use Rattle.r4_flushed.specs.Flushed.{AreFlushed, AreUnowned, IsSealedTo, OwnsBlocks, sealed_to, with_flushed}
-use Rattle.r4_placed.specs.Flushing.{Flushing, IsAtRest}
+use Rattle.r4_flushed.specs.r4_placed.Flushing.{Flushing, IsAtRest}
 use Rattle.r4_flushed.proofs.Deferring.{deferred_sealed, freed_is_gone}
 use Rattle.r4_flushed.proofs.Owned.{sealed_owns}
-use Rattle.r4_placed.proofs.Planning.{unowned_from}
+use Rattle.r4_flushed.proofs.r4_placed.Planning.{unowned_from}
 use Rattle.r4_flushed.proofs.Remembering.{sealed_cells}
 use Rattle.r4_durable.specs.Kept.{CanSeal, Means, sealing_of}
 use Rattle.r4_durable.specs.Meaning.{Beginning, IsNextId, WasLost, first_id, means}

@@ -4,20 +4,20 @@ use Rattle.r4_base.specs.Image.{Image, IsImage}
 use Rattle.r4_base.specs.Value.{Content}
 use Rattle.r4_content.specs.Locality.{commands}
 use Rattle.r4_outside.specs.Device.{Goes, Leaves, LeavesOnly, State}
-use Rattle.r4_space.specs.Space.{Space, settled}
-use Rattle.r4_trace.specs.declared.entry.Entry.{Entry}
-use Rattle.r4_trace.specs.declared.entry.Entry.TheVariants.{Committed, Sealed}
-use Rattle.r4_trace.specs.Order.{IsOrdered}
-use Rattle.r4_trace.specs.Job.{Asked}
-use Rattle.r4_trace.specs.Safe.{CommitStep, HasFirst, HasNow, Step}
-use Rattle.r4_trace.specs.Traced.{committed_in, latest, sealed_in}
-use Rattle.r4_trace.proofs.Safely.{has_push}
-use Rattle.r4_wander.specs.declared.plan.LogPlan.{LogPlan}
-use Rattle.r4_sets.specs.Atoms.{committed}
-use Rattle.r4_sets.specs.Session.{Session}
-use Rattle.r4_sealed.specs.Commits.{LeftInPart}
+use Rattle.r4_open.specs.r4_space.Space.{Space, settled}
+use Rattle.r4_flushed.specs.r4_trace.declared.entry.Entry.{Entry}
+use Rattle.r4_flushed.specs.r4_trace.declared.entry.Entry.TheVariants.{Committed, Sealed}
+use Rattle.r4_flushed.specs.r4_trace.Order.{IsOrdered}
+use Rattle.r4_flushed.specs.r4_trace.Job.{Asked}
+use Rattle.r4_flushed.specs.r4_trace.Safe.{CommitStep, HasFirst, HasNow, Step}
+use Rattle.r4_flushed.specs.r4_trace.Traced.{committed_in, latest, sealed_in}
+use Rattle.r4_flushed.proofs.r4_trace.Safely.{has_push}
+use Rattle.r4_flushed.specs.r4_wander.declared.plan.LogPlan.{LogPlan}
+use Rattle.r4_flushed.specs.r4_sets.Atoms.{committed}
+use Rattle.r4_flushed.specs.r4_sets.Session.{Session}
+use Rattle.r4_flushed.specs.r4_sealed.Commits.{LeftInPart}
 use Rattle.r4_flushed.specs.Deferred.{AreDeferredBut}
-use Rattle.r4_placed.specs.Flushing.{Flushing, commit_by_block}
+use Rattle.r4_flushed.specs.r4_placed.Flushing.{Flushing, commit_by_block}
 use Rattle.r4_flushed.proofs.FlushedCells.{FitsOnDisk}
 use Rattle.r4_durable.specs.GoingOn.{GoesOn, SealNothing}
 use Rattle.r4_durable.specs.Kept.{CanSeal, HasSettled, IsSession, IsUnderWay, Means, sealing_of}

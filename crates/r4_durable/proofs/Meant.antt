@@ -8,12 +8,12 @@ use Rattle.r4_base.proofs.Images.{one_volume}
 use Rattle.r4_base.proofs.Superblocks.{read_lawful}
 use Rattle.r4_content.specs.Locality.{commands}
 use Rattle.r4_outside.specs.Device.{State, TellsCrashes}
-use Rattle.r4_trace.specs.declared.entry.Entry.{Entry}
-use Rattle.r4_trace.specs.Order.{IsOrdered}
-use Rattle.r4_trace.specs.Safe.{IsSafeFrom}
-use Rattle.r4_trace.proofs.Safely.{crash_safe}
-use Rattle.r4_wander.specs.Kept.{IsVolumeOf}
-use Rattle.r4_sealed.proofs.Kept.{id_alike, lost_alike}
+use Rattle.r4_flushed.specs.r4_trace.declared.entry.Entry.{Entry}
+use Rattle.r4_flushed.specs.r4_trace.Order.{IsOrdered}
+use Rattle.r4_flushed.specs.r4_trace.Safe.{IsSafeFrom}
+use Rattle.r4_flushed.proofs.r4_trace.Safely.{crash_safe}
+use Rattle.r4_flushed.specs.r4_wander.Kept.{IsVolumeOf}
+use Rattle.r4_flushed.proofs.r4_sealed.Kept.{id_alike, lost_alike}
 use Rattle.r4_durable.specs.Meaning.{Beginning, IsNamed, IsNextId, IsSafeTrace, IsVolumeLike, Names}
 use Rattle.r4_durable.specs.Meaning.{WasLost}
 use Rattle.r4_durable.specs.Meaning.{first_id, meaning_of, means}

@@ -17,18 +17,18 @@ use Rattle.r4_content.specs.Locality.{commands}
 use Rattle.r4_content.specs.Meaning.{greatest_size}
 use Rattle.r4_content.proofs.VolumeWidths.{volume_lawful, volume_room}
 use Rattle.r4_outside.specs.Device.{Goes, IsQuiet, State, TellsCrashes, TellsReads}
-use Rattle.r4_replay.specs.Replay.{PutInPlace, SettlesAlike, SettlesAlways}
-use Rattle.r4_space.specs.Bitmaps.{AreBitmapsOf, marks, told_space}
+use Rattle.r4_open.specs.r4_replay.Replay.{PutInPlace, SettlesAlike, SettlesAlways}
+use Rattle.r4_open.specs.r4_space.Bitmaps.{AreBitmapsOf, marks, told_space}
 use Rattle.r4_open.specs.declared.opened.Opened.{Opened}
-use Rattle.r4_trace.specs.Job.{Asked}
-use Rattle.r4_trace.specs.Safe.{IsSafeFrom}
-use Rattle.r4_wander.specs.Kept.{IsVolumeOf}
-use Rattle.r4_sets.specs.Session.{IsTreeOf}
-use Rattle.r4_sets.proofs.Answered.{opened_sets}
-use Rattle.r4_sets_told.specs.Runs.{IsLawfulRun}
-use Rattle.r4_sealed.specs.Written.{IsSpaceOf}
-use Rattle.r4_sealed.proofs.Kept.{from_footer}
-use Rattle.r4_sealed.proofs.Resting.{Rests, lost_rested, rested}
+use Rattle.r4_flushed.specs.r4_trace.Job.{Asked}
+use Rattle.r4_flushed.specs.r4_trace.Safe.{IsSafeFrom}
+use Rattle.r4_flushed.specs.r4_wander.Kept.{IsVolumeOf}
+use Rattle.r4_flushed.specs.r4_sets.Session.{IsTreeOf}
+use Rattle.r4_flushed.proofs.r4_sets.Answered.{opened_sets}
+use Rattle.r4_flushed.specs.r4_sets_told.Runs.{IsLawfulRun}
+use Rattle.r4_flushed.specs.r4_sealed.Written.{IsSpaceOf}
+use Rattle.r4_flushed.proofs.r4_sealed.Kept.{from_footer}
+use Rattle.r4_flushed.proofs.r4_sealed.Resting.{Rests, lost_rested, rested}
 use Rattle.r4_flushed.proofs.Deferring.{deferred_begun}
 use Rattle.r4_flushed.proofs.Owned.{opened_owns}
 use Rattle.r4_durable.specs.Kept.{HasOpened, IsKept, Means, session_of, space_of}

@@ -11,25 +11,25 @@ use Rattle.r4_base.specs.declared.things.AtomNo.{AtomNo}
 use Rattle.r4_content.specs.Locality.{Meaning, commands}
 use Rattle.r4_content.specs.declared.command.Command.{Command}
 use Rattle.r4_content.specs.declared.reply.Reply.{Reply}
-use Rattle.r4_trace.specs.declared.entry.Entry.{Entry}
-use Rattle.r4_trace.specs.declared.entry.Entry.TheVariants.{Sealed}
-use Rattle.r4_trace.specs.Folds.{HasFirstReplies, after_first, content_of}
-use Rattle.r4_trace.specs.Ids.{Start}
-use Rattle.r4_trace.specs.Job.{Asked}
-use Rattle.r4_trace.specs.Traced.{atom_in, committed_in, in_first, is_first, sealed_in}
-use Rattle.r4_sets.specs.Session.{IsTreeOf, Session, Sets, Stands, in_under}
-use Rattle.r4_sets.proofs.Gathered.{under_stands}
-use Rattle.r4_sets_told.specs.Runs.{IsLawfulRun}
-use Rattle.r4_sets_told.proofs.Counted.{good, has_ids}
-use Rattle.r4_sealed.specs.Commits.{IsCommitOn, image_after, super_after}
-use Rattle.r4_sealed.specs.Contents.{HasContentWith, IsTreeFor}
-use Rattle.r4_sealed.specs.Written.{AreWritten, ComesFrom, Frees, IsSpaceOf}
-use Rattle.r4_sealed.proofs.Coming.{are_written, new_tree}
-use Rattle.r4_sealed.proofs.LostBlocks.{lost}
-use Rattle.r4_sealed.proofs.NewContent.{content}
-use Rattle.r4_placed.proofs.ByBlock.{comes_by, frees_by, is_commit_by}
+use Rattle.r4_flushed.specs.r4_trace.declared.entry.Entry.{Entry}
+use Rattle.r4_flushed.specs.r4_trace.declared.entry.Entry.TheVariants.{Sealed}
+use Rattle.r4_flushed.specs.r4_trace.Folds.{HasFirstReplies, after_first, content_of}
+use Rattle.r4_flushed.specs.r4_trace.Ids.{Start}
+use Rattle.r4_flushed.specs.r4_trace.Job.{Asked}
+use Rattle.r4_flushed.specs.r4_trace.Traced.{atom_in, committed_in, in_first, is_first, sealed_in}
+use Rattle.r4_flushed.specs.r4_sets.Session.{IsTreeOf, Session, Sets, Stands, in_under}
+use Rattle.r4_flushed.proofs.r4_sets.Gathered.{under_stands}
+use Rattle.r4_flushed.specs.r4_sets_told.Runs.{IsLawfulRun}
+use Rattle.r4_flushed.proofs.r4_sets_told.Counted.{good, has_ids}
+use Rattle.r4_flushed.specs.r4_sealed.Commits.{IsCommitOn, image_after, super_after}
+use Rattle.r4_flushed.specs.r4_sealed.Contents.{HasContentWith, IsTreeFor}
+use Rattle.r4_flushed.specs.r4_sealed.Written.{AreWritten, ComesFrom, Frees, IsSpaceOf}
+use Rattle.r4_flushed.proofs.r4_sealed.Coming.{are_written, new_tree}
+use Rattle.r4_flushed.proofs.r4_sealed.LostBlocks.{lost}
+use Rattle.r4_flushed.proofs.r4_sealed.NewContent.{content}
+use Rattle.r4_flushed.proofs.r4_placed.ByBlock.{comes_by, frees_by, is_commit_by}
 use Rattle.r4_flushed.proofs.FlushedCells.{FitsOnDisk, comes, frees}
-use Rattle.r4_placed.proofs.Planning.{space_placed}
+use Rattle.r4_flushed.proofs.r4_placed.Planning.{space_placed}
 use Rattle.r4_flushed.proofs.Sealing.{sets_sealed}
 use Rattle.r4_durable.specs.Sealing.{IsSealing, Sealing, commit_in, made_by, session_after, start_in}
 

@@ -6,14 +6,14 @@ use Rattle.r4_content.specs.Locality.{Meaning}
 use Rattle.r4_content.specs.declared.command.Command.{Command}
 use Rattle.r4_content.specs.declared.reply.Reply.{Reply}
 use Rattle.r4_outside.specs.Device.{State}
-use Rattle.r4_trace.specs.declared.entry.Entry.{Entry}
-use Rattle.r4_trace.specs.declared.entry.Entry.TheVariants.{Committed, Sealed}
-use Rattle.r4_trace.specs.Folds.{after_first}
-use Rattle.r4_trace.specs.Order.{IsOrdered}
-use Rattle.r4_trace.specs.Safe.{HasFirst, HasNow, IsNoCommit, IsSafeFrom}
-use Rattle.r4_trace.specs.Traced.{committed_in, sealed_in}
-use Rattle.r4_trace.proofs.Folded.{after_stays}
-use Rattle.r4_trace.proofs.Safely.{has_push, safe_push}
+use Rattle.r4_flushed.specs.r4_trace.declared.entry.Entry.{Entry}
+use Rattle.r4_flushed.specs.r4_trace.declared.entry.Entry.TheVariants.{Committed, Sealed}
+use Rattle.r4_flushed.specs.r4_trace.Folds.{after_first}
+use Rattle.r4_flushed.specs.r4_trace.Order.{IsOrdered}
+use Rattle.r4_flushed.specs.r4_trace.Safe.{HasFirst, HasNow, IsNoCommit, IsSafeFrom}
+use Rattle.r4_flushed.specs.r4_trace.Traced.{committed_in, sealed_in}
+use Rattle.r4_flushed.proofs.r4_trace.Folded.{after_stays}
+use Rattle.r4_flushed.proofs.r4_trace.Safely.{has_push, safe_push}
 use Rattle.r4_durable.specs.GoingOn.{SealNothing, SealsNothing}
 
 one_count : (e : Entry) (trace : List Entry) → SealsNothing e

@@ -7,16 +7,16 @@ use Rattle.r4_base.specs.Value.{Content, Value}
 use Rattle.r4_base.specs.Volume.{IsLost}
 use Rattle.r4_content.specs.Locality.{commands}
 use Rattle.r4_outside.specs.Device.{State, TellsReads}
-use Rattle.r4_space.specs.Lawful.{IsLawful}
-use Rattle.r4_space.specs.Space.{Space}
-use Rattle.r4_trace.specs.declared.entry.Entry.{Entry}
-use Rattle.r4_trace.specs.Folds.{after_first}
-use Rattle.r4_trace.specs.Safe.{IsSafeFrom}
-use Rattle.r4_trace.specs.Job.{Asked}
-use Rattle.r4_trace.specs.Traced.{committed_in, sealed_in}
-use Rattle.r4_sets.specs.Session.{Layer, Session}
-use Rattle.r4_sealed.specs.Contents.{HasContentWith}
-use Rattle.r4_sealed.specs.Written.{IsSpaceOf}
+use Rattle.r4_open.specs.r4_space.Lawful.{IsLawful}
+use Rattle.r4_open.specs.r4_space.Space.{Space}
+use Rattle.r4_flushed.specs.r4_trace.declared.entry.Entry.{Entry}
+use Rattle.r4_flushed.specs.r4_trace.Folds.{after_first}
+use Rattle.r4_flushed.specs.r4_trace.Safe.{IsSafeFrom}
+use Rattle.r4_flushed.specs.r4_trace.Job.{Asked}
+use Rattle.r4_flushed.specs.r4_trace.Traced.{committed_in, sealed_in}
+use Rattle.r4_flushed.specs.r4_sets.Session.{Layer, Session}
+use Rattle.r4_flushed.specs.r4_sealed.Contents.{HasContentWith}
+use Rattle.r4_flushed.specs.r4_sealed.Written.{IsSpaceOf}
 use Rattle.r4_flushed.specs.Deferred.{AreDeferred}
 use Rattle.r4_durable.specs.GoingOn.{GoesOn, MarksAlike}
 use Rattle.r4_durable.specs.Kept.{IsKept, IsSession, Means}

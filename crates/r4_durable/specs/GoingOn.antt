@@ -1,10 +1,10 @@
 -- Steps of a run that seal and commit nothing (docs/durable.md).
 use Rattle.std.specs.Prelude.{◌≡◌, List, [], ◌∷◌, ◌++◌}
-use Rattle.r4_space.specs.Space.{Space}
-use Rattle.r4_trace.specs.declared.entry.Entry.{Entry}
-use Rattle.r4_trace.specs.declared.entry.Entry.TheVariants.{Committed, Sealed}
-use Rattle.r4_trace.specs.Order.{IsOrdered}
-use Rattle.r4_sets.specs.Session.{Session}
+use Rattle.r4_open.specs.r4_space.Space.{Space}
+use Rattle.r4_flushed.specs.r4_trace.declared.entry.Entry.{Entry}
+use Rattle.r4_flushed.specs.r4_trace.declared.entry.Entry.TheVariants.{Committed, Sealed}
+use Rattle.r4_flushed.specs.r4_trace.Order.{IsOrdered}
+use Rattle.r4_flushed.specs.r4_sets.Session.{Session}
 
 -- the entry seals no atom and commits none
 abbrev pub SealsNothing : Entry → Type 0

@@ -10,26 +10,26 @@ use Rattle.r4_base.specs.Volume.{IsLost, root_of}
 use Rattle.r4_base.specs.declared.superblock.Super40.{Super40}
 use Rattle.r4_content.specs.Locality.{commands}
 use Rattle.r4_outside.specs.Device.{IsQuiet, State, TellsCrashes, TellsReads}
-use Rattle.r4_space.specs.Lawful.{IsLawful}
-use Rattle.r4_space.specs.Bitmaps.{told_space}
-use Rattle.r4_space.specs.Space.{Space, settled}
+use Rattle.r4_open.specs.r4_space.Lawful.{IsLawful}
+use Rattle.r4_open.specs.r4_space.Bitmaps.{told_space}
+use Rattle.r4_open.specs.r4_space.Space.{Space, settled}
 use Rattle.r4_open.specs.Opening.{IsOpening}
 use Rattle.r4_open.specs.declared.opened.Opened.{Opened}
-use Rattle.r4_place.specs.Chosen.{AreChosen, placed_all}
-use Rattle.r4_trace.specs.Job.{Asked}
-use Rattle.r4_trace.specs.Safe.{IsSafeFrom}
-use Rattle.r4_trace.specs.Traced.{committed_in, sealed_in}
-use Rattle.r4_wander.specs.Safe.{WithAtom}
-use Rattle.r4_wander.specs.declared.plan.LogPlan.{LogPlan}
-use Rattle.r4_sets.specs.Atoms.{opened}
-use Rattle.r4_sets.specs.Session.{Session, Sets, in_under}
-use Rattle.r4_sets_told.specs.Runs.{CountsObjects, IsLawfulRun}
-use Rattle.r4_sealed.specs.Commits.{HasPlan, IsLater}
-use Rattle.r4_sealed.specs.Contents.{HasContentWith, RenewsSuper}
-use Rattle.r4_sealed.specs.Written.{IsSpaceOf}
+use Rattle.r4_flushed.specs.r4_place.Chosen.{AreChosen, placed_all}
+use Rattle.r4_flushed.specs.r4_trace.Job.{Asked}
+use Rattle.r4_flushed.specs.r4_trace.Safe.{IsSafeFrom}
+use Rattle.r4_flushed.specs.r4_trace.Traced.{committed_in, sealed_in}
+use Rattle.r4_flushed.specs.r4_wander.Safe.{WithAtom}
+use Rattle.r4_flushed.specs.r4_wander.declared.plan.LogPlan.{LogPlan}
+use Rattle.r4_flushed.specs.r4_sets.Atoms.{opened}
+use Rattle.r4_flushed.specs.r4_sets.Session.{Session, Sets, in_under}
+use Rattle.r4_flushed.specs.r4_sets_told.Runs.{CountsObjects, IsLawfulRun}
+use Rattle.r4_flushed.specs.r4_sealed.Commits.{HasPlan, IsLater}
+use Rattle.r4_flushed.specs.r4_sealed.Contents.{HasContentWith, RenewsSuper}
+use Rattle.r4_flushed.specs.r4_sealed.Written.{IsSpaceOf}
 use Rattle.r4_flushed.specs.Deferred.{AreDeferred}
 use Rattle.r4_flushed.specs.Flushed.{IsFlush, OwnsBlocks, with_flushed}
-use Rattle.r4_placed.specs.Flushing.{Flushing, commit_by_block}
+use Rattle.r4_flushed.specs.r4_placed.Flushing.{Flushing, commit_by_block}
 use Rattle.r4_durable.specs.Meaning.{Beginning, IsNextId, WasLost, first_id, means as meant, start_of}
 use Rattle.r4_durable.specs.Sealing.{Sealing, commit_in, made_by, session_after, start_in}
 

@@ -8,18 +8,18 @@ use Rattle.r4_base.specs.Tree.{Store}
 use Rattle.r4_base.specs.Value.{Content, Value}
 use Rattle.r4_base.specs.Volume.{HasContent, root_of}
 use Rattle.r4_content.specs.Locality.{commands}
-use Rattle.r4_trace.specs.Folds.{after_first}
-use Rattle.r4_trace.specs.Ids.{Start}
-use Rattle.r4_trace.specs.Job.{Asked}
-use Rattle.r4_trace.specs.Safe.{HasFirst}
-use Rattle.r4_trace.specs.Traced.{committed_in, sealed_in}
-use Rattle.r4_wander.specs.declared.plan.LogPlan.{LogPlan}
-use Rattle.r4_sets.specs.Session.{Session, Sets, in_under}
-use Rattle.r4_sets_told.specs.Runs.{CountsObjects, IsLawfulRun}
-use Rattle.r4_sealed.specs.Commits.{Commit, HasPlan}
-use Rattle.r4_sealed.specs.Contents.{RenewsSuper}
+use Rattle.r4_flushed.specs.r4_trace.Folds.{after_first}
+use Rattle.r4_flushed.specs.r4_trace.Ids.{Start}
+use Rattle.r4_flushed.specs.r4_trace.Job.{Asked}
+use Rattle.r4_flushed.specs.r4_trace.Safe.{HasFirst}
+use Rattle.r4_flushed.specs.r4_trace.Traced.{committed_in, sealed_in}
+use Rattle.r4_flushed.specs.r4_wander.declared.plan.LogPlan.{LogPlan}
+use Rattle.r4_flushed.specs.r4_sets.Session.{Session, Sets, in_under}
+use Rattle.r4_flushed.specs.r4_sets_told.Runs.{CountsObjects, IsLawfulRun}
+use Rattle.r4_flushed.specs.r4_sealed.Commits.{Commit, HasPlan}
+use Rattle.r4_flushed.specs.r4_sealed.Contents.{RenewsSuper}
 use Rattle.r4_flushed.specs.Flushed.{IsSealedTo, sealed_to}
-use Rattle.r4_placed.specs.Flushing.{Flushing, IsAtRest, commit_by_block}
+use Rattle.r4_flushed.specs.r4_placed.Flushing.{Flushing, IsAtRest, commit_by_block}
 use Rattle.r4_durable.specs.Meaning.{IsVolumeLike}
 
 pub record Sealing : Type 0 where

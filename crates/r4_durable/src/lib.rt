@@ -11,4 +11,5 @@ pub use kept::{
     moments_of_commits, openings_keep_volumes, steps_are_kept, steps_are_kept_on_devices,
 };
 pub use meaning::{images_mean_volumes, named_runs_are_crash_safe};
+pub use r4_flushed::CommitPlan;
 pub use sealing::{crashes_keep_contents, sealed_atoms_have_their_content};

@@ -6,10 +6,10 @@ ghost use Rattle.r4_base.specs.Value.{Content};
 ghost use Rattle.r4_base.specs.Volume.{HasContent, IsLost};
 ghost use Rattle.r4_content.specs.Locality.{commands};
 ghost use Rattle.r4_outside.specs.Device.{TellsCrashes};
-ghost use Rattle.r4_trace.specs.declared.entry.Entry.{Entry};
-ghost use Rattle.r4_trace.specs.Order.{IsOrdered};
-ghost use Rattle.r4_trace.specs.Safe.{IsSafeFrom};
-ghost use Rattle.r4_wander.specs.Kept.{IsVolumeOf};
+ghost use Rattle.r4_flushed.specs.r4_trace.declared.entry.Entry.{Entry};
+ghost use Rattle.r4_flushed.specs.r4_trace.Order.{IsOrdered};
+ghost use Rattle.r4_flushed.specs.r4_trace.Safe.{IsSafeFrom};
+ghost use Rattle.r4_flushed.specs.r4_wander.Kept.{IsVolumeOf};
 ghost use Rattle.r4_durable.specs.Meaning.{Beginning, IsNamed, IsNextId, IsSafeTrace, IsVolumeLike};
 ghost use Rattle.r4_durable.specs.Meaning.{Names, WasLost, means};
 

@@ -5,18 +5,18 @@ ghost use Rattle.std.specs.Prelude.{◌≡◌, ◌↔◌, ◌+◌, ◌≤◌, �
 ghost use Rattle.r4_base.specs.Image.{Image, IsImage};
 ghost use Rattle.r4_base.specs.Volume.{HasContent, IsLost};
 ghost use Rattle.r4_content.specs.Locality.{commands};
-ghost use Rattle.r4_trace.specs.Folds.{HasFirstReplies};
-ghost use Rattle.r4_trace.specs.Job.{Asked};
-ghost use Rattle.r4_trace.specs.Safe.{HasFirst, HasNow};
-ghost use Rattle.r4_trace.specs.Traced.{committed_in, sealed_in};
-ghost use Rattle.r4_sets.specs.Session.{Sets};
-ghost use Rattle.r4_sealed.specs.Commits.{IsCommitOn, LeftInPart, image_after, super_after};
-ghost use Rattle.r4_sealed.specs.Contents.{HasContentWith};
+ghost use Rattle.r4_flushed.specs.r4_trace.Folds.{HasFirstReplies};
+ghost use Rattle.r4_flushed.specs.r4_trace.Job.{Asked};
+ghost use Rattle.r4_flushed.specs.r4_trace.Safe.{HasFirst, HasNow};
+ghost use Rattle.r4_flushed.specs.r4_trace.Traced.{committed_in, sealed_in};
+ghost use Rattle.r4_flushed.specs.r4_sets.Session.{Sets};
+ghost use Rattle.r4_flushed.specs.r4_sealed.Commits.{IsCommitOn, LeftInPart, image_after, super_after};
+ghost use Rattle.r4_flushed.specs.r4_sealed.Contents.{HasContentWith};
 ghost use Rattle.r4_durable.specs.Meaning.{Beginning, IsNextId, WasLost, means};
 ghost use Rattle.r4_durable.specs.Sealing.{IsSealing, MeansInPart, Sealing, commit_in, made_by};
 ghost use Rattle.r4_durable.specs.Sealing.{session_after};
 
-use r4_cell::on_disk_law;
+use r4_flushed::on_disk_law;
 
 /// An open atom is sealed under the names of its blocks: the session means what it meant (`sets`), and the plan is safe
 /// on its image (`commits`). The image with the atom's cells has the content of all that is sealed, with the superblock

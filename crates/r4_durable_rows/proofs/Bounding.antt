@@ -9,7 +9,7 @@ use Rattle.r4_place.proofs.ChosenCells.{rest_stays}
 use Rattle.r4_wander.specs.LogPlan.{parts_of}
 use Rattle.r4_wander.specs.Parts.{IsOrderOf, Parts}
 use Rattle.r4_wander.specs.Progress.{calls_from}
-use Rattle.r4_placed.specs.Flushing.{cells_by_block, named_by_block}
+use Rattle.r4_durable.specs.r4_placed.Flushing.{cells_by_block, named_by_block}
 use Rattle.r4_sealed.specs.Commits.{HasPlan}
 use Rattle.r4_durable.specs.Sealing.{IsSealing, Sealing, commit_in}
 use Rattle.r4_durable_rows.specs.Bounded.{most_calls}

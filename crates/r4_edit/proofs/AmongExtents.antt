@@ -4,7 +4,7 @@ use Rattle.std.specs.Prelude.{Contains}
 use Rattle.std.proofs.lemmas.Bool.{cases_lt}
 use Rattle.r4_base.specs.Tree.{IsData, IsNode, Name, Span}
 use Rattle.r4_base.specs.Value.{Value}
-use Rattle.r4_cell.specs.Seen.{CellSeen, node_of}
+use Rattle.r4_path.specs.r4_cell.Seen.{CellSeen, node_of}
 use Rattle.r4_edit.specs.Extents.{AreAmongExtents}
 use Rattle.r4_path.proofs.Rising.{hi_is, lo_is}
 

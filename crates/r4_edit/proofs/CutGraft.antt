@@ -12,16 +12,16 @@ use Rattle.r4_base.specs.Node.{mkfs_id_of}
 use Rattle.r4_base.specs.Tree.{IsNode, Name, Node, Root, Store}
 use Rattle.r4_base.specs.Value.{Value}
 use Rattle.r4_base.specs.declared.key.Key.{Key}
-use Rattle.r4_branch.specs.Pieces.{AreTwigPieces, Follow, last_end, names_of, next_of, piece_end, twig_bytes, units_of}
-use Rattle.r4_branch.specs.declared.piece.TwigPiece.{TwigPiece}
-use Rattle.r4_cell.specs.Patch.{HaveNames}
-use Rattle.r4_cell.specs.Seen.{CellSeen, node_of}
-use Rattle.r4_cell.specs.declared.change.Fresh.{Fresh}
-use Rattle.r4_cell.proofs.Nodes.{cell_node}
-use Rattle.r4_graft.proofs.FoundPlaces.{next_lower}
-use Rattle.r4_graft.proofs.Placed.{follow_end, has_end, not_in_none}
-use Rattle.r4_leaf.specs.Units.{cut_units}
-use Rattle.r4_patch.specs.Joining.{ids_of}
+use Rattle.r4_path.specs.r4_branch.Pieces.{AreTwigPieces, Follow, last_end, names_of, next_of, piece_end, twig_bytes, units_of}
+use Rattle.r4_path.specs.r4_branch.declared.piece.TwigPiece.{TwigPiece}
+use Rattle.r4_path.specs.r4_cell.Patch.{HaveNames}
+use Rattle.r4_path.specs.r4_cell.Seen.{CellSeen, node_of}
+use Rattle.r4_path.specs.r4_cell.declared.change.Fresh.{Fresh}
+use Rattle.r4_path.proofs.r4_cell.Nodes.{cell_node}
+use Rattle.r4_path.proofs.r4_graft.FoundPlaces.{next_lower}
+use Rattle.r4_path.proofs.r4_graft.Placed.{follow_end, has_end, not_in_none}
+use Rattle.r4_path.specs.r4_leaf.Units.{cut_units}
+use Rattle.r4_path.specs.r4_patch.Joining.{ids_of}
 use Rattle.r4_edit.specs.CutBlocks.{BeginsAt, IsCutIn, IsLeftOf, IsTakenUp, after_leaves, cut_pieces, end_key, new_pointer, numbers_for, parted_twice, pieces_behind, pieces_below, pieces_between}
 use Rattle.r4_edit.specs.Extents.{given_cells}
 use Rattle.r4_path.specs.TwigPieces.{ArePiecesOf, twig_pieces}
@@ -34,7 +34,7 @@ use Rattle.r4_edit.proofs.CutOut.{IsLed, cut_bytes, cut_names, cut_twigs, cut_un
 use Rattle.r4_edit.proofs.CutParts.{AreSplit, split, twice_bytes, twice_follow, twice_names, twice_next, twice_units}
 use Rattle.r4_edit.proofs.CutTaken.{AreNew, next_higher, next_is, over_few, over_new}
 use Rattle.r4_path.proofs.GraftBelow.{path_later}
-use Rattle.r4_patch.proofs.Members.{cases, have_names, here, none}
+use Rattle.r4_path.proofs.r4_patch.Members.{cases, have_names, here, none}
 use Rattle.r4_path.proofs.Rising.{hi_is, id_member, level_is, lo_is}
 
 -- a fresh number may stand in a pointer

@@ -10,12 +10,12 @@ use Rattle.r4_base.specs.Key.{rank}
 use Rattle.r4_base.specs.Tree.{Root, Store}
 use Rattle.r4_base.specs.Value.{Value}
 use Rattle.r4_base.specs.declared.key.Key.{Key}
-use Rattle.r4_cell.specs.Seen.{CellSeen, node_of}
-use Rattle.r4_branch.specs.declared.piece.TwigPiece.{TwigPiece}
-use Rattle.r4_cell.specs.declared.change.Change.{Change}
-use Rattle.r4_cell.specs.declared.change.Fresh.{Fresh}
-use Rattle.r4_graft.specs.Splices.{place}
-use Rattle.r4_graft.proofs.Placed.{first_member, first_or_later, later_member, not_in_none, place_none, place_some}
+use Rattle.r4_path.specs.r4_cell.Seen.{CellSeen, node_of}
+use Rattle.r4_path.specs.r4_branch.declared.piece.TwigPiece.{TwigPiece}
+use Rattle.r4_path.specs.r4_cell.declared.change.Change.{Change}
+use Rattle.r4_path.specs.r4_cell.declared.change.Fresh.{Fresh}
+use Rattle.r4_path.specs.r4_graft.Splices.{place}
+use Rattle.r4_path.proofs.r4_graft.Placed.{first_member, first_or_later, later_member, not_in_none, place_none, place_some}
 use Rattle.r4_edit.specs.CutBlocks.{BeginsAt, IsCutUp, IsLeftOf, IsOutOfExtentsIn, IsOutOfLeafIn, IsTakenOutIn, is_in_range, leaf_first, parted_twice, pieces_between, rest_behind, trunk, CutsUp}
 use Rattle.r4_edit.specs.Editing.{IsCutOutUp}
 use Rattle.r4_edit.specs.Extents.{given_cells}

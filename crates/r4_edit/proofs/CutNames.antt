@@ -6,17 +6,17 @@ use Rattle.r4_base.specs.Cell.{run_names, zeros_from}
 use Rattle.r4_base.specs.Extents.{is_hole}
 use Rattle.r4_base.specs.Key.{rank}
 use Rattle.r4_base.specs.Tree.{Name}
-use Rattle.r4_branch.proofs.ItemPieces.{units_append}
-use Rattle.r4_branch.specs.Pieces.{Follow, names_of, next_of, part_end, part_names, part_units, piece_end, units_of}
-use Rattle.r4_branch.specs.declared.piece.TwigPart.{TwigPart}
-use Rattle.r4_branch.specs.declared.piece.TwigPart.TheVariants.{Pointer, Blocks}
-use Rattle.r4_branch.specs.declared.piece.TwigPiece.{TwigPiece}
-use Rattle.r4_graft.proofs.FoundPlaces.{next_lower, runs_level}
-use Rattle.r4_graft.proofs.Joined.{names_join, next_join}
-use Rattle.r4_graft.proofs.Placed.{first_or_later, follow_above, follow_end, has_end, first_member, not_in_none}
-use Rattle.r4_graft.proofs.SplicedNames.{names_begin}
-use Rattle.r4_leaf.specs.Units.{cut_units}
-use Rattle.r4_leaf.proofs.Rising.{Rise, cut_all, cut_high, cut_low, rise_append, rise_lower}
+use Rattle.r4_path.proofs.r4_branch.ItemPieces.{units_append}
+use Rattle.r4_path.specs.r4_branch.Pieces.{Follow, names_of, next_of, part_end, part_names, part_units, piece_end, units_of}
+use Rattle.r4_path.specs.r4_branch.declared.piece.TwigPart.{TwigPart}
+use Rattle.r4_path.specs.r4_branch.declared.piece.TwigPart.TheVariants.{Pointer, Blocks}
+use Rattle.r4_path.specs.r4_branch.declared.piece.TwigPiece.{TwigPiece}
+use Rattle.r4_path.proofs.r4_graft.FoundPlaces.{next_lower, runs_level}
+use Rattle.r4_path.proofs.r4_graft.Joined.{names_join, next_join}
+use Rattle.r4_path.proofs.r4_graft.Placed.{first_or_later, follow_above, follow_end, has_end, first_member, not_in_none}
+use Rattle.r4_path.proofs.r4_graft.SplicedNames.{names_begin}
+use Rattle.r4_path.specs.r4_leaf.Units.{cut_units}
+use Rattle.r4_path.proofs.r4_leaf.Rising.{Rise, cut_all, cut_high, cut_low, rise_append, rise_lower}
 use Rattle.r4_edit.proofs.CutParts.{AreSplit}
 
 -- ---- what a part names

@@ -6,13 +6,13 @@ use Rattle.r4_base.specs.Cell.{names_block}
 use Rattle.r4_base.specs.Key.{rank}
 use Rattle.r4_base.specs.Tree.{Name}
 use Rattle.r4_base.specs.declared.key.Key.{Key}
-use Rattle.r4_branch.specs.Pieces.{AreTwigPieces, Follow, bytes_behind, last_end, names_of, next_of, part_names, twig_bytes, units_of}
-use Rattle.r4_branch.specs.declared.piece.TwigPiece.{TwigPiece}
-use Rattle.r4_cell.specs.Seen.{CellSeen}
-use Rattle.r4_graft.proofs.Joined.{follow_join, spliced_bytes}
-use Rattle.r4_graft.proofs.Placed.{follow_end, not_in_none}
-use Rattle.r4_graft.proofs.SplicedNames.{spliced_names}
-use Rattle.r4_leaf.specs.Units.{cut_units}
+use Rattle.r4_path.specs.r4_branch.Pieces.{AreTwigPieces, Follow, bytes_behind, last_end, names_of, next_of, part_names, twig_bytes, units_of}
+use Rattle.r4_path.specs.r4_branch.declared.piece.TwigPiece.{TwigPiece}
+use Rattle.r4_path.specs.r4_cell.Seen.{CellSeen}
+use Rattle.r4_path.proofs.r4_graft.Joined.{follow_join, spliced_bytes}
+use Rattle.r4_path.proofs.r4_graft.Placed.{follow_end, not_in_none}
+use Rattle.r4_path.proofs.r4_graft.SplicedNames.{spliced_names}
+use Rattle.r4_path.specs.r4_leaf.Units.{cut_units}
 use Rattle.r4_edit.specs.CutBlocks.{BeginsAt, IsTakenUp, pointer_for}
 use Rattle.r4_edit.specs.Extents.{given_cells}
 use Rattle.r4_path.specs.Steps.{IsNameOf, name_of}
@@ -21,7 +21,7 @@ use Rattle.r4_edit.proofs.CutParts.{AreSplit}
 use Rattle.r4_edit.proofs.CutTaken.{name_append, over_bytes, over_follow, over_left, over_new, over_next, over_units}
 use Rattle.r4_edit.proofs.Gaps.{same_first}
 use Rattle.r4_path.proofs.Grown.{map_names, names_map}
-use Rattle.r4_patch.proofs.Members.{cases, here, later}
+use Rattle.r4_path.proofs.r4_patch.Members.{cases, here, later}
 
 pub exchange : {N P G C P' G' C' : Type 0} → N ↔ ((P × (G → ⊥)) ⊎ C)
     → P ↔ P' → G ↔ G' → C ↔ C' → N ↔ ((P' × (G' → ⊥)) ⊎ C')

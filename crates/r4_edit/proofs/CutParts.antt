@@ -6,13 +6,13 @@ use Rattle.std.proofs.lemmas.Bool.{cases_lt}
 use Rattle.std.proofs.lemmas.List.{drop-drop, take-append-drop}
 use Rattle.std.proofs.lemmas.List.Elements.{Contains-append_cases, Contains-append_left, Contains-append_right}
 use Rattle.r4_base.specs.Key.{rank, later}
-use Rattle.r4_branch.specs.Pieces.{Follow, IsSound, names_of, next_of, part_end, piece_end, twig_bytes, units_of}
-use Rattle.r4_branch.specs.declared.piece.TwigPiece.{TwigPiece}
-use Rattle.r4_graft.specs.Splices.{IsBorder, blocks_past, first_blocks, parted, parted_piece, place}
-use Rattle.r4_graft.proofs.Halves.{later_rank}
-use Rattle.r4_graft.proofs.Joined.{end_of, follow_parts}
-use Rattle.r4_graft.proofs.Parted.{IsHalved, halved_or_not, parted_apart, parted_bytes, parted_follow, parted_names, parted_next, parted_units}
-use Rattle.r4_graft.proofs.Placed.{first_member, first_or_later, later_member, next_above, not_in_none, place_none, place_some, take_below}
+use Rattle.r4_path.specs.r4_branch.Pieces.{Follow, IsSound, names_of, next_of, part_end, piece_end, twig_bytes, units_of}
+use Rattle.r4_path.specs.r4_branch.declared.piece.TwigPiece.{TwigPiece}
+use Rattle.r4_path.specs.r4_graft.Splices.{IsBorder, blocks_past, first_blocks, parted, parted_piece, place}
+use Rattle.r4_path.proofs.r4_graft.Halves.{later_rank}
+use Rattle.r4_path.proofs.r4_graft.Joined.{end_of, follow_parts}
+use Rattle.r4_path.proofs.r4_graft.Parted.{IsHalved, halved_or_not, parted_apart, parted_bytes, parted_follow, parted_names, parted_next, parted_units}
+use Rattle.r4_path.proofs.r4_graft.Placed.{first_member, first_or_later, later_member, next_above, not_in_none, place_none, place_some, take_below}
 use Rattle.r4_edit.specs.CutBlocks.{parted_twice, pieces_behind, pieces_below, pieces_between}
 
 -- ---- a later border of pieces that are parted

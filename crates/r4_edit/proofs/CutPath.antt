@@ -6,12 +6,12 @@ use Rattle.r4_base.specs.Key.{rank}
 use Rattle.r4_base.specs.Node.{mkfs_id_of}
 use Rattle.r4_base.specs.Tree.{Root, Store}
 use Rattle.r4_base.specs.Value.{Value}
-use Rattle.r4_branch.specs.declared.piece.TwigPiece.{TwigPiece}
-use Rattle.r4_cell.specs.Patch.{IsChange, patch_of}
-use Rattle.r4_cell.specs.Seen.{CellSeen}
-use Rattle.r4_cell.specs.declared.change.Change.{Change}
-use Rattle.r4_cell.specs.declared.change.Fresh.{Fresh}
-use Rattle.r4_patch.specs.Part.{MeetsPart}
+use Rattle.r4_path.specs.r4_branch.declared.piece.TwigPiece.{TwigPiece}
+use Rattle.r4_path.specs.r4_cell.Patch.{IsChange, patch_of}
+use Rattle.r4_path.specs.r4_cell.Seen.{CellSeen}
+use Rattle.r4_path.specs.r4_cell.declared.change.Change.{Change}
+use Rattle.r4_path.specs.r4_cell.declared.change.Fresh.{Fresh}
+use Rattle.r4_path.specs.r4_patch.Part.{MeetsPart}
 use Rattle.r4_edit.specs.CutBlocks.{CutsUp, IsCutIn, IsCutUp, IsTakenUp, after_leaves, cut_pieces, end_key, new_pointer, parted_twice}
 use Rattle.r4_edit.specs.Extents.{given_cells}
 use Rattle.r4_path.specs.TwigPieces.{ArePiecesOf, twig_pieces}

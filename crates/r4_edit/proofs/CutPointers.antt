@@ -2,9 +2,9 @@
 use Rattle.std.proofs.Common.{◌≡◌, ℕ, zero, suc, ◌-◌, ◌<◌, ◌≤◌, Bool, true, false, List, [], ◌∷◌, length, take, drop, slice_index_or, refl, sym, ap, ◌∙◌, arith}
 use Rattle.std.specs.Prelude.{Option, None, if◌then◌else◌}
 use Rattle.r4_base.specs.Key.{rank}
-use Rattle.r4_branch.specs.Pieces.{is_at, last_end, open_end}
-use Rattle.r4_branch.specs.declared.piece.TwigPart.TheVariants.{Pointer}
-use Rattle.r4_branch.specs.declared.piece.TwigPiece.{TwigPiece}
+use Rattle.r4_path.specs.r4_branch.Pieces.{is_at, last_end, open_end}
+use Rattle.r4_path.specs.r4_branch.declared.piece.TwigPart.TheVariants.{Pointer}
+use Rattle.r4_path.specs.r4_branch.declared.piece.TwigPiece.{TwigPiece}
 use Rattle.r4_edit.specs.CutBlocks.{pointer_over}
 
 last_at : (before : Option ℕ) (ps : List TwigPiece) (n : ℕ) (d : TwigPiece) → n < length ps → last_end before (take (suc n) ps) ≡ open_end (slice_index_or ps n d)

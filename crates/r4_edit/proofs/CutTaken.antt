@@ -6,18 +6,18 @@ use Rattle.r4_base.specs.Cell.{names_block}
 use Rattle.r4_base.specs.Key.{rank}
 use Rattle.r4_base.specs.Tree.{Name}
 use Rattle.r4_base.specs.declared.key.Key.{Key}
-use Rattle.r4_branch.specs.Pieces.{Follow, bytes_behind, is_at, last_end, names_of, next_of, piece_end, twig_bytes, units_of}
-use Rattle.r4_branch.specs.declared.piece.TwigPart.TheVariants.{Pointer}
-use Rattle.r4_branch.specs.declared.piece.TwigPiece.{TwigPiece}
-use Rattle.r4_cell.specs.Seen.{CellSeen}
-use Rattle.r4_graft.proofs.Placed.{follow_end, has_end}
-use Rattle.r4_patch.specs.Joining.{ids_of}
+use Rattle.r4_path.specs.r4_branch.Pieces.{Follow, bytes_behind, is_at, last_end, names_of, next_of, piece_end, twig_bytes, units_of}
+use Rattle.r4_path.specs.r4_branch.declared.piece.TwigPart.TheVariants.{Pointer}
+use Rattle.r4_path.specs.r4_branch.declared.piece.TwigPiece.{TwigPiece}
+use Rattle.r4_path.specs.r4_cell.Seen.{CellSeen}
+use Rattle.r4_path.proofs.r4_graft.Placed.{follow_end, has_end}
+use Rattle.r4_path.specs.r4_patch.Joining.{ids_of}
 use Rattle.r4_edit.specs.CutBlocks.{IsTakenUp, next_key, pointer_over}
 use Rattle.r4_edit.specs.LeafParts.{IsEmptyLeaf}
 use Rattle.r4_path.specs.Sharing.{IsSound}
 use Rattle.r4_path.specs.Steps.{CountUp, IsNameOf, name_of}
 use Rattle.r4_path.proofs.CutEnds.{open_names}
-use Rattle.r4_patch.proofs.Members.{Distinct, cases, none}
+use Rattle.r4_path.proofs.r4_patch.Members.{Distinct, cases, none}
 
 -- ---- names of cells
 

@@ -8,15 +8,15 @@ use Rattle.std.proofs.lemmas.List.{length-drop}
 use Rattle.r4_base.specs.Key.{rank}
 use Rattle.r4_base.specs.Tree.{Root, Store}
 use Rattle.r4_base.specs.Value.{Value}
-use Rattle.r4_cell.specs.Seen.{CellSeen}
-use Rattle.r4_cell.specs.Patch.{IsChange}
-use Rattle.r4_cell.specs.declared.change.Change.{Change}
-use Rattle.r4_cell.specs.declared.change.Fresh.{Fresh}
-use Rattle.r4_leaf.specs.Leaves.{AreFew, Packs}
-use Rattle.r4_leaf.specs.Units.{LeafUnit, leaf_bytes}
-use Rattle.r4_leaf.specs.declared.leaf.Leaf.{Leaf}
-use Rattle.r4_patch.specs.Joining.{patch_of_change}
-use Rattle.r4_patch.specs.Part.{MeetsPart}
+use Rattle.r4_path.specs.r4_cell.Seen.{CellSeen}
+use Rattle.r4_path.specs.r4_cell.Patch.{IsChange}
+use Rattle.r4_path.specs.r4_cell.declared.change.Change.{Change}
+use Rattle.r4_path.specs.r4_cell.declared.change.Fresh.{Fresh}
+use Rattle.r4_path.specs.r4_leaf.Leaves.{AreFew, Packs}
+use Rattle.r4_path.specs.r4_leaf.Units.{LeafUnit, leaf_bytes}
+use Rattle.r4_path.specs.r4_leaf.declared.leaf.Leaf.{Leaf}
+use Rattle.r4_path.specs.r4_patch.Joining.{patch_of_change}
+use Rattle.r4_path.specs.r4_patch.Part.{MeetsPart}
 use Rattle.r4_edit.specs.Editing.{Edits, IsEditedIn, IsReplacedIn, IsReplacedUp, extra_cells}
 use Rattle.r4_path.specs.LeafSteps.{IsLeafStep}
 use Rattle.r4_path.specs.Levels.{CanClimb, IsLongEnough, Rises}

@@ -9,11 +9,11 @@ use Rattle.r4_base.specs.Extents.{IsRun, holds_fixed}
 use Rattle.r4_base.specs.Fresh.{root_key}
 use Rattle.r4_base.specs.Key.{rank}
 use Rattle.r4_base.specs.Tree.{IsNode, Name}
-use Rattle.r4_branch.specs.Pieces.{AreTwigPieces, bytes_behind, names_of, twig_bytes}
-use Rattle.r4_cell.specs.Seen.{CellSeen, node_of}
-use Rattle.r4_patch.specs.SecondRoot.{small_root}
-use Rattle.r4_patch.proofs.PartCells.{tree_is_part}
-use Rattle.r4_patch.proofs.SecondRoot.{small_is_tree}
+use Rattle.r4_path.specs.r4_branch.Pieces.{AreTwigPieces, bytes_behind, names_of, twig_bytes}
+use Rattle.r4_path.specs.r4_cell.Seen.{CellSeen, node_of}
+use Rattle.r4_path.specs.r4_patch.SecondRoot.{small_root}
+use Rattle.r4_path.proofs.r4_patch.PartCells.{tree_is_part}
+use Rattle.r4_path.proofs.r4_patch.SecondRoot.{small_is_tree}
 use Rattle.r4_edit.specs.ExtentGraft.{all_fresh, put_below, put_blocks, put_pieces}
 use Rattle.r4_path.specs.ExtentPut.{data_cell, extent_tree, file_key, last_key, leaf_cell, pointer_block, stat_block, twig_cell}
 use Rattle.r4_path.specs.Grafts.{AreCountedBelow, IsGraftBelow, IsGraftOf, IsGraftedIn, IsUnusedBeside, extra_twigs}
@@ -22,7 +22,7 @@ use Rattle.r4_path.specs.Steps.{IsFree, IsNameOf, name_of}
 use Rattle.r4_path.proofs.Counted.{count_once}
 use Rattle.r4_path.proofs.ExtentChange.{file_top, from_least, goes_name, least_file, old_name, only, sound_node, to_top, unused}
 use Rattle.r4_path.proofs.Instance.{leaf_sound, old_leaf, old_twig}
-use Rattle.r4_patch.proofs.Members.{cases, have_names, here, later, none}
+use Rattle.r4_path.proofs.r4_patch.Members.{cases, have_names, here, later, none}
 
 abbrev twig : CellSeen
 twig = twig_cell pointer_block

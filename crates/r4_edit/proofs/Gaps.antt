@@ -5,15 +5,15 @@ use Rattle.std.proofs.Math.Seq.{drop-append_seam, take-append_seam}
 use Rattle.std.proofs.lemmas.List.{length-append}
 use Rattle.r4_base.specs.Key.{rank}
 use Rattle.r4_base.specs.Tree.{Name}
-use Rattle.r4_branch.specs.Pieces.{AreTwigPieces, Follow, names_of, next_of, twig_bytes}
-use Rattle.r4_branch.specs.declared.piece.TwigPiece.{TwigPiece}
-use Rattle.r4_cell.specs.Seen.{CellSeen, node_of}
-use Rattle.r4_graft.specs.Places.{HasGap}
-use Rattle.r4_graft.specs.Splices.{place, spliced}
-use Rattle.r4_graft.proofs.FoundPlaces.{find_gap}
-use Rattle.r4_graft.proofs.Joined.{follow_join, spliced_bytes}
-use Rattle.r4_graft.proofs.Placed.{not_in_none}
-use Rattle.r4_graft.proofs.SplicedNames.{spliced_names}
+use Rattle.r4_path.specs.r4_branch.Pieces.{AreTwigPieces, Follow, names_of, next_of, twig_bytes}
+use Rattle.r4_path.specs.r4_branch.declared.piece.TwigPiece.{TwigPiece}
+use Rattle.r4_path.specs.r4_cell.Seen.{CellSeen, node_of}
+use Rattle.r4_path.specs.r4_graft.Places.{HasGap}
+use Rattle.r4_path.specs.r4_graft.Splices.{place, spliced}
+use Rattle.r4_path.proofs.r4_graft.FoundPlaces.{find_gap}
+use Rattle.r4_path.proofs.r4_graft.Joined.{follow_join, spliced_bytes}
+use Rattle.r4_path.proofs.r4_graft.Placed.{not_in_none}
+use Rattle.r4_path.proofs.r4_graft.SplicedNames.{spliced_names}
 use Rattle.r4_edit.specs.Extents.{AreAmongExtents}
 use Rattle.r4_path.specs.TwigPieces.{ArePiecesOf}
 

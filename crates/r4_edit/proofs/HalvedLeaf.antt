@@ -9,18 +9,18 @@ use Rattle.r4_base.specs.Key.{rank}
 use Rattle.r4_base.specs.Node.{Item, items_of, mkfs_id_of}
 use Rattle.r4_base.specs.Tree.{IsNode as IsTreeNode}
 use Rattle.r4_base.specs.declared.key.Key.{Key}
-use Rattle.r4_cell.specs.Seen.{CellSeen, node_of}
-use Rattle.r4_cell.specs.declared.change.Fresh.{Fresh}
-use Rattle.r4_leaf.specs.Leaves.{MayStand}
-use Rattle.r4_leaf.specs.Units.{IsMiddle, LeafUnit}
-use Rattle.r4_leaf.proofs.Rising.{Rise, rise_order}
+use Rattle.r4_path.specs.r4_cell.Seen.{CellSeen, node_of}
+use Rattle.r4_path.specs.r4_cell.declared.change.Fresh.{Fresh}
+use Rattle.r4_path.specs.r4_leaf.Leaves.{MayStand}
+use Rattle.r4_path.specs.r4_leaf.Units.{IsMiddle, LeafUnit}
+use Rattle.r4_path.proofs.r4_leaf.Rising.{Rise, rise_order}
 use Rattle.r4_edit.specs.Extents.{given_cells}
 use Rattle.r4_edit.specs.LeafParts.{HasLeft, HasRight, IsLeftPart, IsRightPart, PartsLeaf, first_from, right_id, right_takes, units_below, units_from}
 use Rattle.r4_path.specs.Sharing.{IsSound}
 use Rattle.r4_edit.specs.Splitting.{IsParted, unit_count}
 use Rattle.r4_path.specs.Steps.{Follow}
 use Rattle.r4_path.proofs.CellNodes.{units_are}
-use Rattle.r4_patch.proofs.Members.{cases, none}
+use Rattle.r4_path.proofs.r4_patch.Members.{cases, none}
 use Rattle.r4_path.proofs.NewNodes.{leaf_step}
 use Rattle.r4_edit.proofs.PartedLeaf.{units_rise}
 use Rattle.r4_path.proofs.Rising.{hi_is, lo_is}

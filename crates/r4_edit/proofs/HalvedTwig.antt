@@ -6,23 +6,23 @@ use Rattle.std.proofs.lemmas.List.{append-nil, take-append-drop, length-take, le
 use Rattle.r4_base.specs.Key.{rank}
 use Rattle.r4_base.specs.Node.{items_of, mkfs_id_of}
 use Rattle.r4_base.specs.declared.key.Key.{Key}
-use Rattle.r4_branch.proofs.ItemPieces.{units_append}
-use Rattle.r4_branch.specs.Pieces.{AreTwigPieces, Follow as FollowPieces, last_end, names_of, next_of, part_bytes, twig_bytes, units_of}
-use Rattle.r4_branch.specs.Pieces.{bytes_behind}
-use Rattle.r4_branch.specs.Twigs.{IsTwig}
-use Rattle.r4_branch.specs.declared.piece.TwigPart.{TwigPart}
-use Rattle.r4_branch.specs.declared.piece.TwigPart.TheVariants.{Blocks, Pointer}
-use Rattle.r4_branch.specs.declared.piece.TwigPiece.{TwigPiece}
-use Rattle.r4_branch.proofs.Following.{follow_wider}
-use Rattle.r4_cell.specs.Seen.{CellSeen, node_of}
-use Rattle.r4_cell.specs.declared.change.Fresh.{Fresh}
-use Rattle.r4_graft.proofs.Joined.{bytes_any, bytes_join, end_of, follow_parts, names_join}
+use Rattle.r4_path.proofs.r4_branch.ItemPieces.{units_append}
+use Rattle.r4_path.specs.r4_branch.Pieces.{AreTwigPieces, Follow as FollowPieces, last_end, names_of, next_of, part_bytes, twig_bytes, units_of}
+use Rattle.r4_path.specs.r4_branch.Pieces.{bytes_behind}
+use Rattle.r4_path.specs.r4_branch.Twigs.{IsTwig}
+use Rattle.r4_path.specs.r4_branch.declared.piece.TwigPart.{TwigPart}
+use Rattle.r4_path.specs.r4_branch.declared.piece.TwigPart.TheVariants.{Blocks, Pointer}
+use Rattle.r4_path.specs.r4_branch.declared.piece.TwigPiece.{TwigPiece}
+use Rattle.r4_path.proofs.r4_branch.Following.{follow_wider}
+use Rattle.r4_path.specs.r4_cell.Seen.{CellSeen, node_of}
+use Rattle.r4_path.specs.r4_cell.declared.change.Fresh.{Fresh}
+use Rattle.r4_path.proofs.r4_graft.Joined.{bytes_any, bytes_join, end_of, follow_parts, names_join}
 use Rattle.r4_path.specs.TwigPieces.{ArePiecesOf, twig_pieces}
 use Rattle.r4_path.specs.Grafts.{IsTwigRow}
 use Rattle.r4_path.specs.Sharing.{IsSound}
 use Rattle.r4_edit.specs.Splitting.{IsParted}
 use Rattle.r4_path.proofs.CellNodes.{names_are, units_are}
-use Rattle.r4_patch.proofs.Members.{cases, none}
+use Rattle.r4_path.proofs.r4_patch.Members.{cases, none}
 use Rattle.r4_path.proofs.TwigCells.{has_items, in_naming, naming_in, twig_wide}
 
 -- ---- pieces in two parts, each of which has one

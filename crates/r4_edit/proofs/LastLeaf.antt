@@ -5,12 +5,12 @@ use Rattle.r4_base.specs.Node.{Item, mkfs_id_of}
 use Rattle.r4_base.specs.Tree.{Root, Store}
 use Rattle.r4_base.specs.Value.{Value}
 use Rattle.r4_base.specs.declared.key.Key.{Key}
-use Rattle.r4_cell.specs.Seen.{CellSeen}
-use Rattle.r4_cell.specs.declared.change.Change.{Change}
-use Rattle.r4_cell.specs.declared.change.Fresh.{Fresh}
-use Rattle.r4_leaf.specs.Leaves.{HaveMkfsId}
-use Rattle.r4_leaf.specs.Units.{LeafUnit}
-use Rattle.r4_leaf.specs.declared.leaf.Leaf.{Leaf}
+use Rattle.r4_path.specs.r4_cell.Seen.{CellSeen}
+use Rattle.r4_path.specs.r4_cell.declared.change.Change.{Change}
+use Rattle.r4_path.specs.r4_cell.declared.change.Fresh.{Fresh}
+use Rattle.r4_path.specs.r4_leaf.Leaves.{HaveMkfsId}
+use Rattle.r4_path.specs.r4_leaf.Units.{LeafUnit}
+use Rattle.r4_path.specs.r4_leaf.declared.leaf.Leaf.{Leaf}
 use Rattle.r4_edit.specs.Editing.{AreLeavesOf, EditsUp, IsCutOfLeafIn, IsCutOutIn, IsCutOutUp, IsEditedIn, IsInsertIn, IsInsertedIn}
 use Rattle.r4_edit.specs.Editing.{IsInsertedUp, IsReplacedUp, extra_for, extra_up}
 use Rattle.r4_path.proofs.Upwards.{last_first, long_above}

@@ -9,12 +9,12 @@ use Rattle.r4_base.specs.Node.{Item}
 use Rattle.r4_base.specs.Tree.{IsNode, Root, Store}
 use Rattle.r4_base.specs.Value.{Value}
 use Rattle.r4_base.specs.declared.key.Key.{Key}
-use Rattle.r4_branch.specs.Pieces.{Follow, bytes_behind, names_of, next_of, piece_end, twig_bytes}
-use Rattle.r4_branch.specs.declared.piece.TwigPiece.{TwigPiece}
-use Rattle.r4_cell.specs.Seen.{CellSeen, node_of}
-use Rattle.r4_cell.specs.declared.change.Fresh.{Fresh}
-use Rattle.r4_graft.specs.Splices.{place}
-use Rattle.r4_graft.proofs.Placed.{first_member, first_or_later, follow_end, has_end, not_in_none}
+use Rattle.r4_path.specs.r4_branch.Pieces.{Follow, bytes_behind, names_of, next_of, piece_end, twig_bytes}
+use Rattle.r4_path.specs.r4_branch.declared.piece.TwigPiece.{TwigPiece}
+use Rattle.r4_path.specs.r4_cell.Seen.{CellSeen, node_of}
+use Rattle.r4_path.specs.r4_cell.declared.change.Fresh.{Fresh}
+use Rattle.r4_path.specs.r4_graft.Splices.{place}
+use Rattle.r4_path.proofs.r4_graft.Placed.{first_member, first_or_later, follow_end, has_end, not_in_none}
 use Rattle.r4_edit.specs.Extents.{AreAmongExtents, IsLeafPutIn, IsLeafPutUp, leaf_pointer}
 use Rattle.r4_path.specs.TwigPieces.{ArePiecesOf, put_pieces, twig_pieces}
 use Rattle.r4_path.specs.Grafts.{AreBlocksOf, AreCountedBelow, IsGraftBelow, IsGraftBelowIn, IsGraftBelowUp, IsGraftIn, IsGraftOf, IsGraftedIn, IsGraftedUp}
@@ -25,7 +25,7 @@ use Rattle.r4_path.proofs.GraftBelow.{path_later}
 use Rattle.r4_edit.proofs.Gaps.{gap, spread_bytes, spread_names, spread_pieces}
 use Rattle.r4_path.proofs.Grown.{map_names, names_map}
 use Rattle.r4_path.proofs.LastCell.{last_up, up_last, up_some}
-use Rattle.r4_patch.proofs.Members.{have_names}
+use Rattle.r4_path.proofs.r4_patch.Members.{have_names}
 use Rattle.r4_edit.proofs.OverLeaf.{leaf_node}
 
 -- the next piece begins before the range ends

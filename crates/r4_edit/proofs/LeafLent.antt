@@ -5,10 +5,10 @@ use Rattle.r4_base.specs.Cell.{cell_fault, units_in}
 use Rattle.r4_base.specs.Key.{rank}
 use Rattle.r4_base.specs.Node.{Item, items_of}
 use Rattle.r4_base.specs.declared.key.Key.{Key}
-use Rattle.r4_cell.specs.Seen.{CellSeen, node_of}
-use Rattle.r4_leaf.specs.Leaves.{AreFew, MayStand, Packs}
-use Rattle.r4_leaf.specs.Units.{LeafUnit}
-use Rattle.r4_leaf.specs.declared.leaf.Leaf.{Leaf}
+use Rattle.r4_path.specs.r4_cell.Seen.{CellSeen, node_of}
+use Rattle.r4_path.specs.r4_leaf.Leaves.{AreFew, MayStand, Packs}
+use Rattle.r4_path.specs.r4_leaf.Units.{LeafUnit}
+use Rattle.r4_path.specs.r4_leaf.declared.leaf.Leaf.{Leaf}
 use Rattle.r4_edit.specs.Editing.{AreLeavesOf}
 use Rattle.r4_path.proofs.CellNodes.{units_are}
 

@@ -29,3 +29,7 @@ pub mod PutUnits
 pub mod SidesOfKey
 pub mod Spread
 pub mod Remade
+-- what crates above name by way of this one
+pub use Rattle.r4_path.proofs.r4_leaf
+pub use Rattle.r4_path.proofs.r4_patch
+pub use Rattle.r4_path.proofs as r4_path

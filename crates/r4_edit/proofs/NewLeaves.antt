@@ -16,22 +16,22 @@ use Rattle.r4_base.specs.declared.items.CellFault.TheVariants.{Dir, Stat, Tail}
 use Rattle.r4_base.specs.declared.key.Key.{Key}
 use Rattle.r4_base.proofs.Dirs.{accepted}
 use Rattle.r4_base.proofs.Choices.{chosen, none_under}
-use Rattle.r4_cell.specs.Seen.{CellSeen, node_of}
-use Rattle.r4_cell.proofs.Nodes.{cell_node}
-use Rattle.r4_leaf.specs.Leaves.{IsGiven, MayStand}
-use Rattle.r4_leaf.specs.Units.{LeafUnit}
-use Rattle.r4_leaf.proofs.Lying.{units_cons, units_nil}
-use Rattle.r4_leaf.proofs.Packed.{lie_good}
-use Rattle.r4_leaf.proofs.SoundItems.{stat_long}
-use Rattle.r4_leaf.proofs.Standing.{given_sound}
-use Rattle.r4_node40.proofs.Laid.{get-items_of, key_fits, length-items_of}
+use Rattle.r4_path.specs.r4_cell.Seen.{CellSeen, node_of}
+use Rattle.r4_path.proofs.r4_cell.Nodes.{cell_node}
+use Rattle.r4_path.specs.r4_leaf.Leaves.{IsGiven, MayStand}
+use Rattle.r4_path.specs.r4_leaf.Units.{LeafUnit}
+use Rattle.r4_path.proofs.r4_leaf.Lying.{units_cons, units_nil}
+use Rattle.r4_path.proofs.r4_leaf.Packed.{lie_good}
+use Rattle.r4_path.proofs.r4_leaf.SoundItems.{stat_long}
+use Rattle.r4_path.proofs.r4_leaf.Standing.{given_sound}
+use Rattle.r4_path.proofs.r4_node40.Laid.{get-items_of, key_fits, length-items_of}
 use Rattle.r4_edit.specs.LeafParts.{IsLeftPart, IsNewLeaf, IsRightPart, IsWidened, first_from}
 use Rattle.r4_path.specs.Nodes.{IsNodeOf}
 use Rattle.r4_path.specs.Sharing.{IsSound}
 use Rattle.r4_path.proofs.CellNodes.{units_are}
 use Rattle.r4_edit.proofs.LeafLent.{lent_stands}
 use Rattle.r4_path.proofs.Lying.{Good, good_nil, sound}
-use Rattle.r4_patch.proofs.Members.{here, later}
+use Rattle.r4_path.proofs.r4_patch.Members.{here, later}
 use Rattle.r4_edit.proofs.PartedLeaf.{stands_level, stands_wider}
 use Rattle.r4_path.proofs.Rising.{hi_is, lo_is}
 

@@ -9,14 +9,14 @@ use Rattle.r4_base.specs.Key.{rank}
 use Rattle.r4_base.specs.Node.{Item}
 use Rattle.r4_base.specs.Tree.{IsNode, Name, Root, Store}
 use Rattle.r4_base.specs.Value.{Value}
-use Rattle.r4_branch.specs.Pieces.{names_of, next_of}
-use Rattle.r4_cell.specs.Patch.{HaveNames}
-use Rattle.r4_cell.specs.Seen.{CellSeen, node_of}
-use Rattle.r4_cell.specs.declared.change.Fresh.{Fresh}
-use Rattle.r4_cell.proofs.Nodes.{cell_node}
-use Rattle.r4_leaf.specs.Units.{LeafUnit}
-use Rattle.r4_graft.proofs.Placed.{first_member, first_or_later, later_member, not_in_none}
-use Rattle.r4_patch.specs.Joining.{ids_of}
+use Rattle.r4_path.specs.r4_branch.Pieces.{names_of, next_of}
+use Rattle.r4_path.specs.r4_cell.Patch.{HaveNames}
+use Rattle.r4_path.specs.r4_cell.Seen.{CellSeen, node_of}
+use Rattle.r4_path.specs.r4_cell.declared.change.Fresh.{Fresh}
+use Rattle.r4_path.proofs.r4_cell.Nodes.{cell_node}
+use Rattle.r4_path.specs.r4_leaf.Units.{LeafUnit}
+use Rattle.r4_path.proofs.r4_graft.Placed.{first_member, first_or_later, later_member, not_in_none}
+use Rattle.r4_path.specs.r4_patch.Joining.{ids_of}
 use Rattle.r4_edit.specs.Extents.{HasRoomFor, IsOverIn, given_cells, item_blocks, over_pieces}
 use Rattle.r4_path.specs.TwigPieces.{ArePiecesOf, twig_pieces}
 use Rattle.r4_path.specs.Grafts.{AreBlocksOf, AreCountedBelow, IsGraftBelow, IsGraftOf, IsGraftedIn, IsUnusedBeside}
@@ -26,7 +26,7 @@ use Rattle.r4_path.specs.Steps.{CountUp, IsFree, IsNameOf, name_of}
 use Rattle.r4_path.specs.Twigs.{Below}
 use Rattle.r4_path.proofs.GraftBelow.{path_later}
 use Rattle.r4_path.proofs.Grown.{map_names, names_map}
-use Rattle.r4_patch.proofs.Members.{have_names}
+use Rattle.r4_path.proofs.r4_patch.Members.{have_names}
 use Rattle.r4_edit.proofs.OverPieces.{MayStandBehind, comes, comes_names, found, leaf_pointed, over_bytes, over_names, over_twigs}
 use Rattle.r4_path.proofs.Rising.{hi_is, lo_is}
 use Rattle.r4_edit.proofs.Spread.{extent_level}

@@ -6,10 +6,10 @@ use Rattle.r4_base.specs.Key.{rank}
 use Rattle.r4_base.specs.Node.{Item}
 use Rattle.r4_base.specs.Tree.{Root, Store}
 use Rattle.r4_base.specs.Value.{Value}
-use Rattle.r4_branch.specs.declared.piece.TwigPiece.{TwigPiece}
-use Rattle.r4_branch.proofs.Filled.{item_has_end}
-use Rattle.r4_cell.specs.Seen.{CellSeen}
-use Rattle.r4_cell.specs.declared.change.Fresh.{Fresh}
+use Rattle.r4_path.specs.r4_branch.declared.piece.TwigPiece.{TwigPiece}
+use Rattle.r4_path.proofs.r4_branch.Filled.{item_has_end}
+use Rattle.r4_path.specs.r4_cell.Seen.{CellSeen}
+use Rattle.r4_path.specs.r4_cell.declared.change.Fresh.{Fresh}
 use Rattle.r4_edit.specs.Extents.{IsOverIn, IsOverUp}
 use Rattle.r4_path.specs.Grafts.{IsGraftBelow, IsGraftBelowIn, IsGraftBelowUp, IsGraftIn, IsGraftedIn, IsGraftedUp}
 use Rattle.r4_path.specs.Twigs.{Below}

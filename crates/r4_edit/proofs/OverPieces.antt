@@ -8,15 +8,15 @@ use Rattle.r4_base.specs.Cell.{item_end, names_block}
 use Rattle.r4_base.specs.Key.{IsKey, offset_of, rank}
 use Rattle.r4_base.specs.Node.{Item}
 use Rattle.r4_base.specs.Tree.{Name}
-use Rattle.r4_branch.specs.Pieces.{AreTwigPieces, Follow, IsSoundPart, bytes_behind, item_pieces, last_end, names_of, next_of, part_bytes, part_end, part_names, piece_end, twig_bytes}
-use Rattle.r4_branch.specs.declared.piece.TwigPiece.{TwigPiece}
-use Rattle.r4_branch.proofs.ItemPieces.{bytes_of_item, follow_item, names_of_item, next_of_item}
-use Rattle.r4_cell.specs.Seen.{CellSeen, node_of}
-use Rattle.r4_graft.specs.Places.{HasPointer}
-use Rattle.r4_graft.specs.Splices.{place, spliced}
-use Rattle.r4_graft.proofs.FoundPlaces.{find_pointer}
-use Rattle.r4_graft.proofs.Joined.{bytes_join, bytes_most, end_of, follow_join, follow_parts, names_join, next_join, spliced_bytes}
-use Rattle.r4_graft.proofs.SplicedNames.{spliced_names}
+use Rattle.r4_path.specs.r4_branch.Pieces.{AreTwigPieces, Follow, IsSoundPart, bytes_behind, item_pieces, last_end, names_of, next_of, part_bytes, part_end, part_names, piece_end, twig_bytes}
+use Rattle.r4_path.specs.r4_branch.declared.piece.TwigPiece.{TwigPiece}
+use Rattle.r4_path.proofs.r4_branch.ItemPieces.{bytes_of_item, follow_item, names_of_item, next_of_item}
+use Rattle.r4_path.specs.r4_cell.Seen.{CellSeen, node_of}
+use Rattle.r4_path.specs.r4_graft.Places.{HasPointer}
+use Rattle.r4_path.specs.r4_graft.Splices.{place, spliced}
+use Rattle.r4_path.proofs.r4_graft.FoundPlaces.{find_pointer}
+use Rattle.r4_path.proofs.r4_graft.Joined.{bytes_join, bytes_most, end_of, follow_join, follow_parts, names_join, next_join, spliced_bytes}
+use Rattle.r4_path.proofs.r4_graft.SplicedNames.{spliced_names}
 use Rattle.r4_edit.specs.Extents.{IsGivenExtent, given_cells, item_blocks, over_pieces, pointer_to}
 use Rattle.r4_path.specs.TwigPieces.{ArePiecesOf}
 use Rattle.r4_path.specs.Steps.{name_of}

@@ -7,15 +7,15 @@ use Rattle.r4_base.specs.Key.{rank}
 use Rattle.r4_base.specs.Node.{Item}
 use Rattle.r4_base.specs.Tree.{Root, Store}
 use Rattle.r4_base.specs.Value.{Value}
-use Rattle.r4_branch.specs.Pieces.{item_pieces, part_units, units_of}
-use Rattle.r4_branch.specs.declared.piece.TwigPiece.{TwigPiece}
-use Rattle.r4_branch.proofs.ItemPieces.{follow_item, units_append, units_of_item}
-use Rattle.r4_cell.specs.Seen.{CellSeen, node_of}
-use Rattle.r4_cell.specs.declared.change.Change.{Change}
-use Rattle.r4_cell.specs.declared.change.Fresh.{Fresh}
-use Rattle.r4_graft.proofs.Joined.{end_of}
-use Rattle.r4_leaf.specs.Units.{put_units}
-use Rattle.r4_leaf.proofs.Rising.{Rise, put_run, rise_lower, rise_wider}
+use Rattle.r4_path.specs.r4_branch.Pieces.{item_pieces, part_units, units_of}
+use Rattle.r4_path.specs.r4_branch.declared.piece.TwigPiece.{TwigPiece}
+use Rattle.r4_path.proofs.r4_branch.ItemPieces.{follow_item, units_append, units_of_item}
+use Rattle.r4_path.specs.r4_cell.Seen.{CellSeen, node_of}
+use Rattle.r4_path.specs.r4_cell.declared.change.Change.{Change}
+use Rattle.r4_path.specs.r4_cell.declared.change.Fresh.{Fresh}
+use Rattle.r4_path.proofs.r4_graft.Joined.{end_of}
+use Rattle.r4_path.specs.r4_leaf.Units.{put_units}
+use Rattle.r4_path.proofs.r4_leaf.Rising.{Rise, put_run, rise_lower, rise_wider}
 use Rattle.r4_edit.specs.Extents.{IsGivenExtent, IsOverIn, IsOverUp, PutsOverUp, given_cells, over_pieces, pointer_to}
 use Rattle.r4_path.specs.TwigPieces.{ArePiecesOf, twig_pieces}
 use Rattle.r4_path.specs.Grafts.{GraftsBelow}

@@ -4,12 +4,12 @@ use Rattle.std.specs.Prelude.{reverse}
 use Rattle.std.proofs.lemmas.List.{length-drop}
 use Rattle.r4_base.specs.Tree.{Root, Store}
 use Rattle.r4_base.specs.Value.{Value}
-use Rattle.r4_cell.specs.Seen.{CellSeen}
-use Rattle.r4_cell.specs.Patch.{IsChange}
-use Rattle.r4_cell.specs.declared.change.Change.{Change}
-use Rattle.r4_cell.specs.declared.change.Fresh.{Fresh}
-use Rattle.r4_patch.specs.Joining.{patch_of_change}
-use Rattle.r4_patch.specs.Part.{MeetsPart}
+use Rattle.r4_path.specs.r4_cell.Seen.{CellSeen}
+use Rattle.r4_path.specs.r4_cell.Patch.{IsChange}
+use Rattle.r4_path.specs.r4_cell.declared.change.Change.{Change}
+use Rattle.r4_path.specs.r4_cell.declared.change.Fresh.{Fresh}
+use Rattle.r4_path.specs.r4_patch.Joining.{patch_of_change}
+use Rattle.r4_path.specs.r4_patch.Part.{MeetsPart}
 use Rattle.r4_path.specs.Levels.{CanClimb, IsLongEnough, Rises}
 use Rattle.r4_edit.specs.Splitting.{IsParted, IsPartedIn, IsPartedUp, IsSharedOut, Parts}
 use Rattle.r4_path.specs.Steps.{Step}

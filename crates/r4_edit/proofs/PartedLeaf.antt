@@ -12,20 +12,20 @@ use Rattle.r4_base.specs.declared.items.CellFault.TheVariants.{Node, Level}
 use Rattle.r4_base.specs.declared.key.Key.{Key}
 use Rattle.r4_base.specs.declared.node.NodeFault.{NodeFault}
 use Rattle.r4_base.proofs.Choices.{chosen, none_of_node, or_none}
-use Rattle.r4_cell.specs.Seen.{CellSeen, node_of}
-use Rattle.r4_leaf.specs.Items.{Lie}
-use Rattle.r4_leaf.specs.Leaves.{HaveMkfsId, MayStand}
-use Rattle.r4_leaf.specs.Measure.{last_or}
-use Rattle.r4_leaf.specs.Units.{LeafUnit, bytes_behind, cut_units, leaf_bytes}
-use Rattle.r4_leaf.specs.declared.leaf.Leaf.{Leaf}
-use Rattle.r4_leaf.proofs.LeafItems.{lie_narrower, lie_rise, no_bytes, spread}
-use Rattle.r4_leaf.proofs.Lying.{units_cons, units_nil}
-use Rattle.r4_leaf.proofs.Packed.{lie_good}
-use Rattle.r4_leaf.proofs.Rising.{Rise}
-use Rattle.r4_leaf.proofs.Standing.{is_node, stand_lie}
-use Rattle.r4_leaf.proofs.Weighed.{behind_append}
-use Rattle.r4_node40.specs.Laid.{room_of}
-use Rattle.r4_node40.proofs.Accepted.{space}
+use Rattle.r4_path.specs.r4_cell.Seen.{CellSeen, node_of}
+use Rattle.r4_path.specs.r4_leaf.Items.{Lie}
+use Rattle.r4_path.specs.r4_leaf.Leaves.{HaveMkfsId, MayStand}
+use Rattle.r4_path.specs.r4_leaf.Measure.{last_or}
+use Rattle.r4_path.specs.r4_leaf.Units.{LeafUnit, bytes_behind, cut_units, leaf_bytes}
+use Rattle.r4_path.specs.r4_leaf.declared.leaf.Leaf.{Leaf}
+use Rattle.r4_path.proofs.r4_leaf.LeafItems.{lie_narrower, lie_rise, no_bytes, spread}
+use Rattle.r4_path.proofs.r4_leaf.Lying.{units_cons, units_nil}
+use Rattle.r4_path.proofs.r4_leaf.Packed.{lie_good}
+use Rattle.r4_path.proofs.r4_leaf.Rising.{Rise}
+use Rattle.r4_path.proofs.r4_leaf.Standing.{is_node, stand_lie}
+use Rattle.r4_path.proofs.r4_leaf.Weighed.{behind_append}
+use Rattle.r4_path.specs.r4_node40.Laid.{room_of}
+use Rattle.r4_path.proofs.r4_node40.Accepted.{space}
 use Rattle.r4_edit.specs.Editing.{AreLeavesOf}
 use Rattle.r4_edit.specs.LeafParts.{HasUnits, IsLeftPart, IsRightPart, first_from, first_item_key, units_below, units_from}
 use Rattle.r4_path.specs.Nodes.{weight}

@@ -6,12 +6,12 @@ use Rattle.r4_base.specs.Cell.{cell_fault, names_in, spans_in, units_in}
 use Rattle.r4_base.specs.Key.{rank}
 use Rattle.r4_base.specs.Node.{KeysRise, PluginsFit, items_of, level_of, mkfs_id_of}
 use Rattle.r4_base.specs.Tree.{IsNode as IsTreeNode}
-use Rattle.r4_cell.specs.Seen.{CellSeen, node_of}
-use Rattle.r4_cell.specs.declared.change.Fresh.{Fresh}
-use Rattle.r4_cell.proofs.NodesAt.{IsNodeAt, plugins_at}
-use Rattle.r4_node40.specs.Laid.{IsNode}
-use Rattle.r4_node40.specs.View.{view_block, view_items}
-use Rattle.r4_node40.proofs.Accepted.{good}
+use Rattle.r4_path.specs.r4_cell.Seen.{CellSeen, node_of}
+use Rattle.r4_path.specs.r4_cell.declared.change.Fresh.{Fresh}
+use Rattle.r4_path.proofs.r4_cell.NodesAt.{IsNodeAt, plugins_at}
+use Rattle.r4_path.specs.r4_node40.Laid.{IsNode}
+use Rattle.r4_path.specs.r4_node40.View.{view_block, view_items}
+use Rattle.r4_path.proofs.r4_node40.Accepted.{good}
 use Rattle.r4_path.specs.Levels.{units_of_cells}
 use Rattle.r4_edit.specs.Splitting.{IsParted}
 use Rattle.r4_path.specs.Nodes.{weight, weight_of}

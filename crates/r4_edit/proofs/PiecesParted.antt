@@ -5,14 +5,14 @@ use Rattle.std.proofs.lemmas.List.{length-drop}
 use Rattle.r4_base.specs.Node.{items_of}
 use Rattle.r4_base.specs.Tree.{Root, Store}
 use Rattle.r4_base.specs.Value.{Value}
-use Rattle.r4_branch.specs.Pieces.{pieces_in}
-use Rattle.r4_branch.specs.declared.piece.TwigPiece.{TwigPiece}
-use Rattle.r4_cell.specs.Patch.{IsChange, patch_of}
-use Rattle.r4_cell.specs.Seen.{CellSeen, node_of}
-use Rattle.r4_cell.specs.declared.change.Change.{Change}
-use Rattle.r4_cell.specs.declared.change.Fresh.{Fresh}
-use Rattle.r4_patch.specs.Joining.{patch_of_change}
-use Rattle.r4_patch.specs.Part.{MeetsPart}
+use Rattle.r4_path.specs.r4_branch.Pieces.{pieces_in}
+use Rattle.r4_path.specs.r4_branch.declared.piece.TwigPiece.{TwigPiece}
+use Rattle.r4_path.specs.r4_cell.Patch.{IsChange, patch_of}
+use Rattle.r4_path.specs.r4_cell.Seen.{CellSeen, node_of}
+use Rattle.r4_path.specs.r4_cell.declared.change.Change.{Change}
+use Rattle.r4_path.specs.r4_cell.declared.change.Fresh.{Fresh}
+use Rattle.r4_path.specs.r4_patch.Joining.{patch_of_change}
+use Rattle.r4_path.specs.r4_patch.Part.{MeetsPart}
 use Rattle.r4_path.specs.Grafts.{HaveGraftNumbers, IsGraftOf}
 use Rattle.r4_path.specs.Levels.{CanClimb, IsLongEnough, Rises, units_of_cells}
 use Rattle.r4_path.specs.Sharing.{AreSome}
@@ -20,7 +20,7 @@ use Rattle.r4_edit.specs.Splitting.{ArePiecesShared, IsPartedIn, Parts}
 use Rattle.r4_path.specs.Steps.{Step, news, olds}
 use Rattle.r4_path.specs.Twigs.{Below, IsTwigChange}
 use Rattle.r4_path.proofs.GraftLaw.{twig_change}
-use Rattle.r4_patch.proofs.Members.{have_names, none}
+use Rattle.r4_path.proofs.r4_patch.Members.{have_names, none}
 use Rattle.r4_path.proofs.TwigPatch.{change_is, part_meets}
 use Rattle.r4_path.proofs.TwigRose.{EnoughTwigs, TwigRose, twigs_end, twigs_ids, twigs_rose, twigs_start}
 

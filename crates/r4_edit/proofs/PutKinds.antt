@@ -5,9 +5,9 @@ use Rattle.r4_base.specs.Cell.{item_names}
 use Rattle.r4_base.specs.Node.{Item}
 use Rattle.r4_base.specs.Tree.{Root, Store}
 use Rattle.r4_base.specs.Value.{Value}
-use Rattle.r4_cell.specs.Seen.{CellSeen}
-use Rattle.r4_cell.specs.declared.change.Fresh.{Fresh}
-use Rattle.r4_leaf.specs.Leaves.{IsGiven}
+use Rattle.r4_path.specs.r4_cell.Seen.{CellSeen}
+use Rattle.r4_path.specs.r4_cell.declared.change.Fresh.{Fresh}
+use Rattle.r4_path.specs.r4_leaf.Leaves.{IsGiven}
 use Rattle.r4_edit.specs.Editing.{IsInsertedUp}
 use Rattle.r4_edit.specs.Extents.{IsIntoLeafIn, IsLeafPutUp, IsOverUp, IsPutIn, IsSpreadUp, item_blocks}
 use Rattle.r4_path.specs.Grafts.{AreBlocksOf}

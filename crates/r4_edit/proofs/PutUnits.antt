@@ -7,15 +7,15 @@ use Rattle.r4_base.specs.Node.{Item, mkfs_id_of}
 use Rattle.r4_base.specs.Tree.{Root, Store}
 use Rattle.r4_base.specs.Value.{Value}
 use Rattle.r4_base.specs.declared.key.Key.{Key}
-use Rattle.r4_branch.specs.Pieces.{Follow, item_pieces, next_of, units_of}
-use Rattle.r4_branch.specs.declared.piece.TwigPiece.{TwigPiece}
-use Rattle.r4_branch.proofs.ItemPieces.{follow_item, units_append, units_of_item}
-use Rattle.r4_cell.specs.Seen.{CellSeen, node_of}
-use Rattle.r4_cell.specs.declared.change.Change.{Change}
-use Rattle.r4_cell.specs.declared.change.Fresh.{Fresh}
-use Rattle.r4_graft.specs.Splices.{place}
-use Rattle.r4_leaf.specs.Units.{put_units}
-use Rattle.r4_leaf.proofs.Rising.{put_run}
+use Rattle.r4_path.specs.r4_branch.Pieces.{Follow, item_pieces, next_of, units_of}
+use Rattle.r4_path.specs.r4_branch.declared.piece.TwigPiece.{TwigPiece}
+use Rattle.r4_path.proofs.r4_branch.ItemPieces.{follow_item, units_append, units_of_item}
+use Rattle.r4_path.specs.r4_cell.Seen.{CellSeen, node_of}
+use Rattle.r4_path.specs.r4_cell.declared.change.Change.{Change}
+use Rattle.r4_path.specs.r4_cell.declared.change.Fresh.{Fresh}
+use Rattle.r4_path.specs.r4_graft.Splices.{place}
+use Rattle.r4_path.specs.r4_leaf.Units.{put_units}
+use Rattle.r4_path.proofs.r4_leaf.Rising.{put_run}
 use Rattle.r4_edit.specs.Extents.{AreAmongExtents, IsLeafPutIn, IsLeafPutUp, IsSpreadIn, IsSpreadUp, PutsLeafUp, SpreadsUp, leaf_pointer}
 use Rattle.r4_path.specs.TwigPieces.{ArePiecesOf, put_pieces, twig_pieces}
 use Rattle.r4_path.specs.Grafts.{GraftsBelow}

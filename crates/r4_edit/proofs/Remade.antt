@@ -4,10 +4,10 @@ use Rattle.std.specs.Prelude.{reverse}
 use Rattle.r4_base.specs.Key.{rank}
 use Rattle.r4_base.specs.Tree.{Root, Store}
 use Rattle.r4_base.specs.Value.{Value}
-use Rattle.r4_cell.specs.Seen.{CellSeen, node_of}
-use Rattle.r4_cell.specs.declared.change.Fresh.{Fresh}
-use Rattle.r4_leaf.specs.declared.remaking.Given.{Given}
-use Rattle.r4_leaf.specs.declared.remaking.KeyRange.{KeyRange}
+use Rattle.r4_path.specs.r4_cell.Seen.{CellSeen, node_of}
+use Rattle.r4_path.specs.r4_cell.declared.change.Fresh.{Fresh}
+use Rattle.r4_path.specs.r4_leaf.declared.remaking.Given.{Given}
+use Rattle.r4_path.specs.r4_leaf.declared.remaking.KeyRange.{KeyRange}
 use Rattle.r4_edit.specs.Remaking.{IsRemadeIn, IsRemadeUp, IsRemakeIn}
 use Rattle.r4_path.proofs.Rising.{hi_is, lo_is}
 use Rattle.r4_path.proofs.Upwards.{last_first}

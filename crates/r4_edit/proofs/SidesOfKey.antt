@@ -4,9 +4,9 @@ use Rattle.std.specs.Prelude.{Some, None, nat_le, nat_lt, if◌then◌else◌}
 use Rattle.std.proofs.lemmas.Bool.{cases_lt, le-leb, lt-ltb}
 use Rattle.std.proofs.lemmas.Bool.Decides.{nat_tests}
 use Rattle.r4_base.specs.Value.{Byte, Entry as EntryValue, Stat as StatValue}
-use Rattle.r4_leaf.specs.Units.{LeafUnit, bytes_behind, cut_units, leaf_bytes, unit_bytes}
-use Rattle.r4_leaf.proofs.Rising.{Rise, above_kept, below_kept, between_cut, rise_order}
-use Rattle.r4_leaf.proofs.Weighed.{behind_append, headed, stat_cost}
+use Rattle.r4_path.specs.r4_leaf.Units.{LeafUnit, bytes_behind, cut_units, leaf_bytes, unit_bytes}
+use Rattle.r4_path.proofs.r4_leaf.Rising.{Rise, above_kept, below_kept, between_cut, rise_order}
+use Rattle.r4_path.proofs.r4_leaf.Weighed.{behind_append, headed, stat_cost}
 use Rattle.r4_edit.specs.LeafParts.{first_from, units_below, units_from}
 
 not_from : (k j : ℕ) → j < k → nat_le k j ≡ false

@@ -9,20 +9,20 @@ use Rattle.r4_base.specs.Node.{Item}
 use Rattle.r4_base.specs.Tree.{IsData, Name, Root, Store}
 use Rattle.r4_base.specs.Value.{Value}
 use Rattle.r4_base.specs.declared.items.Unit.{Unit as ExtentUnit}
-use Rattle.r4_branch.specs.Pieces.{item_pieces, names_of, next_of}
-use Rattle.r4_branch.specs.declared.piece.TwigPiece.{TwigPiece}
-use Rattle.r4_branch.proofs.ItemPieces.{bytes_of_item, follow_item, names_of_item}
-use Rattle.r4_cell.specs.Seen.{CellSeen, node_of}
-use Rattle.r4_cell.specs.declared.change.Fresh.{Fresh}
-use Rattle.r4_graft.proofs.FoundPlaces.{runs_level}
-use Rattle.r4_graft.proofs.Placed.{not_in_none}
+use Rattle.r4_path.specs.r4_branch.Pieces.{item_pieces, names_of, next_of}
+use Rattle.r4_path.specs.r4_branch.declared.piece.TwigPiece.{TwigPiece}
+use Rattle.r4_path.proofs.r4_branch.ItemPieces.{bytes_of_item, follow_item, names_of_item}
+use Rattle.r4_path.specs.r4_cell.Seen.{CellSeen, node_of}
+use Rattle.r4_path.specs.r4_cell.declared.change.Fresh.{Fresh}
+use Rattle.r4_path.proofs.r4_graft.FoundPlaces.{runs_level}
+use Rattle.r4_path.proofs.r4_graft.Placed.{not_in_none}
 use Rattle.r4_edit.specs.Extents.{HasRoomFor, IsSpreadIn, IsSpreadUp, item_blocks}
 use Rattle.r4_path.specs.TwigPieces.{ArePiecesOf, put_pieces, twig_pieces}
 use Rattle.r4_path.specs.Grafts.{AreBlocksOf, AreCountedBelow, IsGraftBelow, IsGraftBelowIn, IsGraftBelowUp, IsGraftIn, IsGraftOf, IsGraftedIn, IsGraftedUp}
 use Rattle.r4_path.specs.Steps.{IsNameOf}
 use Rattle.r4_path.specs.Twigs.{Below}
 use Rattle.r4_path.proofs.LastCell.{last_up, up_last, up_some}
-use Rattle.r4_patch.proofs.Members.{have_names}
+use Rattle.r4_path.proofs.r4_patch.Members.{have_names}
 use Rattle.r4_edit.proofs.Gaps.{gap, spread_bytes, spread_names, spread_pieces}
 
 -- An extent's names are those of its blocks.

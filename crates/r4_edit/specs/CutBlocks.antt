@@ -5,15 +5,15 @@ use Rattle.r4_base.specs.Node.{mkfs_id_of}
 use Rattle.r4_base.specs.Tree.{Name, Root, Store}
 use Rattle.r4_base.specs.Value.{Value}
 use Rattle.r4_base.specs.declared.key.Key.{Key}
-use Rattle.r4_branch.specs.Pieces.{is_at, last_end, units_of}
-use Rattle.r4_branch.specs.declared.piece.TwigPart.TheVariants.{Pointer}
-use Rattle.r4_branch.specs.declared.piece.TwigPiece.{TwigPiece}
-use Rattle.r4_cell.specs.Patch.{HaveNames}
-use Rattle.r4_cell.specs.Seen.{CellSeen, node_of}
-use Rattle.r4_cell.specs.declared.change.Change.{Change}
-use Rattle.r4_cell.specs.declared.change.Fresh.{Fresh}
-use Rattle.r4_graft.specs.Splices.{IsBorder, parted, place, spliced}
-use Rattle.r4_leaf.specs.Units.{cut_units}
+use Rattle.r4_path.specs.r4_branch.Pieces.{is_at, last_end, units_of}
+use Rattle.r4_path.specs.r4_branch.declared.piece.TwigPart.TheVariants.{Pointer}
+use Rattle.r4_path.specs.r4_branch.declared.piece.TwigPiece.{TwigPiece}
+use Rattle.r4_path.specs.r4_cell.Patch.{HaveNames}
+use Rattle.r4_path.specs.r4_cell.Seen.{CellSeen, node_of}
+use Rattle.r4_path.specs.r4_cell.declared.change.Change.{Change}
+use Rattle.r4_path.specs.r4_cell.declared.change.Fresh.{Fresh}
+use Rattle.r4_path.specs.r4_graft.Splices.{IsBorder, parted, place, spliced}
+use Rattle.r4_path.specs.r4_leaf.Units.{cut_units}
 use Rattle.r4_edit.specs.Editing.{IsCutOfLeafIn, after_cut, extra_for}
 use Rattle.r4_edit.specs.Extents.{HasRoomFor, given_cells}
 use Rattle.r4_path.specs.TwigPieces.{twig_pieces}

@@ -7,13 +7,13 @@ use Rattle.r4_base.specs.Node.{Item, mkfs_id_of}
 use Rattle.r4_base.specs.Tree.{Root, Store}
 use Rattle.r4_base.specs.Value.{Value}
 use Rattle.r4_base.specs.declared.key.Key.{Key}
-use Rattle.r4_cell.specs.Seen.{CellSeen, node_of}
-use Rattle.r4_cell.specs.declared.change.Change.{Change}
-use Rattle.r4_cell.specs.declared.change.Fresh.{Fresh}
-use Rattle.r4_leaf.specs.Leaves.{AreApart, AreFew, HaveMkfsId, Packs}
-use Rattle.r4_leaf.specs.Units.{LeafUnit, cut_units, leaf_bytes, put_units}
-use Rattle.r4_leaf.specs.declared.leaf.Leaf.{Leaf}
-use Rattle.r4_patch.specs.Joining.{ids_of}
+use Rattle.r4_path.specs.r4_cell.Seen.{CellSeen, node_of}
+use Rattle.r4_path.specs.r4_cell.declared.change.Change.{Change}
+use Rattle.r4_path.specs.r4_cell.declared.change.Fresh.{Fresh}
+use Rattle.r4_path.specs.r4_leaf.Leaves.{AreApart, AreFew, HaveMkfsId, Packs}
+use Rattle.r4_path.specs.r4_leaf.Units.{LeafUnit, cut_units, leaf_bytes, put_units}
+use Rattle.r4_path.specs.r4_leaf.declared.leaf.Leaf.{Leaf}
+use Rattle.r4_path.specs.r4_patch.Joining.{ids_of}
 use Rattle.r4_path.specs.Growing.{IsPathIn}
 use Rattle.r4_path.specs.Levels.{AreNeeded, AreRows, HasLevels, HaveMkfsIdOf, IsLongEnough, IsRootNeeded, KeepMkfsIds, Keeps}
 use Rattle.r4_path.specs.Levels.{units_of_cells}

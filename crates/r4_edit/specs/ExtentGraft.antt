@@ -1,10 +1,10 @@
 -- The small change of a twig, by pieces: behind the item of a fresh volume's leaf comes an extent (docs/volume.md, "Edits").
 use Rattle.std.specs.Prelude.{◌-◌, ◌^◌, List, [], ◌∷◌}
 use Rattle.r4_base.specs.Fresh.{root_key}
-use Rattle.r4_branch.specs.declared.piece.TwigPart.TheVariants.{Blocks, Pointer}
-use Rattle.r4_branch.specs.declared.piece.TwigPiece.{TwigPiece}
-use Rattle.r4_cell.specs.Seen.{CellSeen}
-use Rattle.r4_cell.specs.declared.change.Fresh.{Fresh}
+use Rattle.r4_path.specs.r4_branch.declared.piece.TwigPart.TheVariants.{Blocks, Pointer}
+use Rattle.r4_path.specs.r4_branch.declared.piece.TwigPiece.{TwigPiece}
+use Rattle.r4_path.specs.r4_cell.Seen.{CellSeen}
+use Rattle.r4_path.specs.r4_cell.declared.change.Fresh.{Fresh}
 use Rattle.r4_path.specs.ExtentPut.{data_cell, file_key, last_key, leaf_cell}
 use Rattle.r4_path.specs.Twigs.{Below}
 

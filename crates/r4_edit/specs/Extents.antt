@@ -7,17 +7,17 @@ use Rattle.r4_base.specs.Node.{Item, items_of, mkfs_id_of}
 use Rattle.r4_base.specs.Tree.{Name, Root, Store}
 use Rattle.r4_base.specs.Value.{Value}
 use Rattle.r4_base.specs.declared.key.Key.{Key}
-use Rattle.r4_branch.specs.Items.{IsSoundItem}
-use Rattle.r4_branch.specs.Pieces.{AreTwigPieces, item_pieces, names_of, next_of, pieces_in, twig_bytes, units_of}
-use Rattle.r4_branch.specs.declared.piece.TwigPart.TheVariants.{Pointer}
-use Rattle.r4_branch.specs.declared.piece.TwigPiece.{TwigPiece}
-use Rattle.r4_cell.specs.Seen.{CellSeen, node_of}
-use Rattle.r4_cell.specs.declared.change.Change.{Change}
-use Rattle.r4_cell.specs.declared.change.Fresh.{Fresh}
-use Rattle.r4_graft.specs.Places.{AreClear}
-use Rattle.r4_graft.specs.Splices.{place, spliced}
-use Rattle.r4_leaf.specs.Leaves.{IsGiven}
-use Rattle.r4_leaf.specs.Units.{put_units}
+use Rattle.r4_path.specs.r4_branch.Items.{IsSoundItem}
+use Rattle.r4_path.specs.r4_branch.Pieces.{AreTwigPieces, item_pieces, names_of, next_of, pieces_in, twig_bytes, units_of}
+use Rattle.r4_path.specs.r4_branch.declared.piece.TwigPart.TheVariants.{Pointer}
+use Rattle.r4_path.specs.r4_branch.declared.piece.TwigPiece.{TwigPiece}
+use Rattle.r4_path.specs.r4_cell.Seen.{CellSeen, node_of}
+use Rattle.r4_path.specs.r4_cell.declared.change.Change.{Change}
+use Rattle.r4_path.specs.r4_cell.declared.change.Fresh.{Fresh}
+use Rattle.r4_path.specs.r4_graft.Places.{AreClear}
+use Rattle.r4_path.specs.r4_graft.Splices.{place, spliced}
+use Rattle.r4_path.specs.r4_leaf.Leaves.{IsGiven}
+use Rattle.r4_path.specs.r4_leaf.Units.{put_units}
 use Rattle.r4_edit.specs.Editing.{IsInsertIn, after_insert, extra_for}
 use Rattle.r4_path.specs.Grafts.{GraftsBelow, IsUnusedBeside, extra_twigs}
 use Rattle.r4_path.specs.Growing.{IsPathIn}

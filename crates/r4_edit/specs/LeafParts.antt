@@ -5,10 +5,10 @@ use Rattle.r4_base.specs.Cell.{item_units, units_in}
 use Rattle.r4_base.specs.Key.{IsKey, rank}
 use Rattle.r4_base.specs.Node.{Item, items_of, mkfs_id_of}
 use Rattle.r4_base.specs.declared.key.Key.{Key}
-use Rattle.r4_cell.specs.Seen.{CellSeen, node_of}
-use Rattle.r4_cell.specs.declared.change.Fresh.{Fresh}
-use Rattle.r4_leaf.specs.Leaves.{MayStand}
-use Rattle.r4_leaf.specs.Units.{LeafUnit}
+use Rattle.r4_path.specs.r4_cell.Seen.{CellSeen, node_of}
+use Rattle.r4_path.specs.r4_cell.declared.change.Fresh.{Fresh}
+use Rattle.r4_path.specs.r4_leaf.Leaves.{MayStand}
+use Rattle.r4_path.specs.r4_leaf.Units.{LeafUnit}
 use Rattle.r4_path.specs.Sharing.{IsSound}
 
 -- ---- the units of a leaf on the two sides of a key

@@ -3,12 +3,12 @@ use Rattle.std.specs.Prelude.{◌<◌, List, [], ◌∷◌, reverse}
 use Rattle.r4_base.specs.Key.{rank}
 use Rattle.r4_base.specs.Tree.{Root, Store}
 use Rattle.r4_base.specs.Value.{Value}
-use Rattle.r4_cell.specs.Seen.{CellSeen, node_of}
-use Rattle.r4_cell.specs.declared.change.Fresh.{Fresh}
-use Rattle.r4_leaf.specs.Remade.{AreWithin, CanPutAll, cut_all, put_all}
-use Rattle.r4_leaf.specs.Units.{LeafUnit, leaf_bytes}
-use Rattle.r4_leaf.specs.declared.remaking.Given.{Given}
-use Rattle.r4_leaf.specs.declared.remaking.KeyRange.{KeyRange}
+use Rattle.r4_path.specs.r4_cell.Seen.{CellSeen, node_of}
+use Rattle.r4_path.specs.r4_cell.declared.change.Fresh.{Fresh}
+use Rattle.r4_path.specs.r4_leaf.Remade.{AreWithin, CanPutAll, cut_all, put_all}
+use Rattle.r4_path.specs.r4_leaf.Units.{LeafUnit, leaf_bytes}
+use Rattle.r4_path.specs.r4_leaf.declared.remaking.Given.{Given}
+use Rattle.r4_path.specs.r4_leaf.declared.remaking.KeyRange.{KeyRange}
 use Rattle.r4_edit.specs.Editing.{IsEditedIn}
 
 -- the leaf's units without those of some ranges, and with those of some items

@@ -4,10 +4,10 @@ ghost use Rattle.std.specs.Prelude.{◌≡◌, ℕ, ◌++◌, ◌^◌, ◌≤◌
 ghost use Rattle.std.specs.Arc.{arc_value};
 ghost use Rattle.r4_base.specs.Tree.{Root as TreeRoot, Store};
 ghost use Rattle.r4_base.specs.Value.{Value};
-ghost use Rattle.r4_branch.specs.Pieces.{item_pieces};
-ghost use Rattle.r4_cell.specs.Patch.{IsChange, patch_of};
-ghost use Rattle.r4_cell.specs.Seen.{CellSeen};
-ghost use Rattle.r4_patch.specs.Part.{MeetsPart};
+ghost use Rattle.r4_path.specs.r4_branch.Pieces.{item_pieces};
+ghost use Rattle.r4_path.specs.r4_cell.Patch.{IsChange, patch_of};
+ghost use Rattle.r4_path.specs.r4_cell.Seen.{CellSeen};
+ghost use Rattle.r4_path.specs.r4_patch.Part.{MeetsPart};
 ghost use Rattle.r4_edit.specs.Editing.{given_item};
 ghost use Rattle.r4_edit.specs.Extents.{IsLeafPutUp, IsSpreadUp, PutsLeafUp, SpreadsUp, item_blocks};
 ghost use Rattle.r4_path.specs.Grafts.{AreBlocksOf};
@@ -15,9 +15,10 @@ ghost use Rattle.r4_path.specs.Steps.{OnlyTakes};
 
 use crate::leaf_parts::leaf_of;
 use r4_base::{Key, Memory, get32};
-use r4_branch::{TwigPart, TwigPiece, extent_pieces};
-use r4_cell::{Cell, Change, Fresh};
-use r4_path::{end_behind, graft_below, pieces_of_cell, pieces_with, put_among, take_number};
+use r4_path::{
+    Cell, Change, Fresh, TwigPart, TwigPiece, end_behind, extent_pieces, graft_below,
+    pieces_of_cell, pieces_with, put_among, take_number,
+};
 use std::alloc::Global;
 use std::sync::Arc;
 

@@ -7,11 +7,11 @@ ghost use Rattle.r4_base.specs.Key.{rank};
 ghost use Rattle.r4_base.specs.Node.{mkfs_id_of};
 ghost use Rattle.r4_base.specs.Tree.{Root as TreeRoot, Store};
 ghost use Rattle.r4_base.specs.Value.{Value};
-ghost use Rattle.r4_branch.specs.Pieces.{is_at, last_end, open_end};
-ghost use Rattle.r4_cell.specs.Patch.{IsChange, patch_of};
-ghost use Rattle.r4_cell.specs.Seen.{CellSeen};
-ghost use Rattle.r4_graft.specs.Splices.{IsBorder, spliced};
-ghost use Rattle.r4_patch.specs.Part.{MeetsPart};
+ghost use Rattle.r4_path.specs.r4_branch.Pieces.{is_at, last_end, open_end};
+ghost use Rattle.r4_path.specs.r4_cell.Patch.{IsChange, patch_of};
+ghost use Rattle.r4_path.specs.r4_cell.Seen.{CellSeen};
+ghost use Rattle.r4_path.specs.r4_graft.Splices.{IsBorder, spliced};
+ghost use Rattle.r4_path.specs.r4_patch.Part.{MeetsPart};
 ghost use Rattle.r4_edit.specs.CutBlocks.{CutsUp, IsCutUp, IsTakenUp, after_leaves, cut_pieces};
 ghost use Rattle.r4_edit.specs.CutBlocks.{end_key, new_pointer, next_key, numbers_for, parted_twice, pieces_behind, pieces_without, pointer_for, pointer_over};
 ghost use Rattle.r4_edit.specs.Extents.{given_cells};
@@ -20,10 +20,10 @@ ghost use Rattle.r4_path.specs.Steps.{OnlyTakes};
 
 use crate::leaf_parts::{empty_leaf, widened};
 use r4_base::{BLOCK_BYTES, Key, Memory, NodeId, get32};
-use r4_branch::{TwigPart, TwigPiece};
-use r4_cell::{Cell, Change, Fresh};
-use r4_graft::{part_at, place_of, splice};
-use r4_path::{add, graft_below, pieces_of_cell, take_number};
+use r4_path::{
+    Cell, Change, Fresh, TwigPart, TwigPiece, add, graft_below, part_at, pieces_of_cell, place_of,
+    splice, take_number,
+};
 use std::alloc::Global;
 use std::sync::Arc;
 

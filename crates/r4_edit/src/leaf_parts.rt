@@ -6,8 +6,8 @@ ghost use Rattle.std.specs.Option.{option_map};
 ghost use Rattle.r4_base.specs.Cell.{item_end};
 ghost use Rattle.r4_base.specs.Key.{rank};
 ghost use Rattle.r4_base.specs.Node.{items_of, mkfs_id_of, node_fault};
-ghost use Rattle.r4_cell.specs.Seen.{node_of};
-ghost use Rattle.r4_leaf.specs.Leaves.{IsGiven};
+ghost use Rattle.r4_path.specs.r4_cell.Seen.{node_of};
+ghost use Rattle.r4_path.specs.r4_leaf.Leaves.{IsGiven};
 ghost use Rattle.r4_edit.specs.Editing.{given_item};
 ghost use Rattle.r4_edit.specs.LeafParts.{HasLeft, HasRight, HasUnits, IsEmptyLeaf, IsLeafOf, IsWidened, PartsLeaf};
 ghost use Rattle.r4_edit.specs.LeafParts.{first_item_key, right_id, right_takes, units_below, units_from};
@@ -15,10 +15,7 @@ ghost use Rattle.r4_path.specs.Nodes.{IsNodeOf};
 ghost use Rattle.r4_path.specs.Steps.{OnlyTakes};
 
 use r4_base::{Block, Key, LEAF, Memory, NodeId, get32};
-use r4_cell::{Cell, Fresh, new_cell};
-use r4_leaf::{Leaf, cut_out};
-use r4_node40::{NodeMut, NodeView};
-use r4_path::{append, take_number};
+use r4_path::{Cell, Fresh, Leaf, NodeMut, NodeView, append, cut_out, new_cell, take_number};
 use std::alloc::Global;
 use std::sync::Arc;
 

@@ -18,5 +18,6 @@ pub use graft_laws::{
 };
 pub use leaf_parts::{LeafParts, left_part, right_part};
 pub use over::{add_pointer, cells_of};
+pub use r4_path::{Cell, Cells, Change, Fresh, Given, KeyRange, follow};
 pub use remaking::change_leaf;
 pub use splitting::split;

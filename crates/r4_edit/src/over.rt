@@ -6,12 +6,12 @@ ghost use Rattle.std.specs.Option.{option_map};
 ghost use Rattle.r4_base.specs.Key.{rank};
 ghost use Rattle.r4_base.specs.Tree.{Root as TreeRoot, Store};
 ghost use Rattle.r4_base.specs.Value.{Value};
-ghost use Rattle.r4_branch.specs.Items.{IsSoundItem};
-ghost use Rattle.r4_branch.specs.Pieces.{item_pieces};
-ghost use Rattle.r4_cell.specs.Patch.{IsChange, patch_of};
-ghost use Rattle.r4_cell.specs.Seen.{CellSeen, node_of};
-ghost use Rattle.r4_graft.specs.Splices.{place, spliced};
-ghost use Rattle.r4_patch.specs.Part.{MeetsPart};
+ghost use Rattle.r4_path.specs.r4_branch.Items.{IsSoundItem};
+ghost use Rattle.r4_path.specs.r4_branch.Pieces.{item_pieces};
+ghost use Rattle.r4_path.specs.r4_cell.Patch.{IsChange, patch_of};
+ghost use Rattle.r4_path.specs.r4_cell.Seen.{CellSeen, node_of};
+ghost use Rattle.r4_path.specs.r4_graft.Splices.{place, spliced};
+ghost use Rattle.r4_path.specs.r4_patch.Part.{MeetsPart};
 ghost use Rattle.r4_edit.specs.Editing.{given_item};
 ghost use Rattle.r4_edit.specs.Extents.{IsOverUp, PutsOverUp, given_cells, item_blocks, over_pieces, pointer_to};
 ghost use Rattle.r4_path.specs.TwigPieces.{ArePiecesOf, twig_pieces};
@@ -20,10 +20,10 @@ ghost use Rattle.r4_path.specs.Steps.{OnlyTakes, name_of};
 
 use crate::leaf_parts::{LeafParts, part_leaf};
 use r4_base::{Key, Memory};
-use r4_branch::{TwigPart, TwigPiece, extent_pieces};
-use r4_cell::{Cell, Change, Fresh};
-use r4_graft::{place_of, splice};
-use r4_path::{graft_below, pieces_of_cell};
+use r4_path::{
+    Cell, Change, Fresh, TwigPart, TwigPiece, extent_pieces, graft_below, pieces_of_cell, place_of,
+    splice,
+};
 use std::alloc::Global;
 use std::sync::Arc;
 

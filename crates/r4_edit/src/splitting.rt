@@ -6,12 +6,12 @@ ghost use Rattle.r4_base.specs.Key.{rank};
 ghost use Rattle.r4_base.specs.Node.{items_of, mkfs_id_of};
 ghost use Rattle.r4_base.specs.Tree.{IsNode, Root as TreeRoot, Store};
 ghost use Rattle.r4_base.specs.Value.{Value};
-ghost use Rattle.r4_branch.specs.Pieces.{AreTwigPieces, twig_bytes};
-ghost use Rattle.r4_branch.specs.Twigs.{IsTwig};
-ghost use Rattle.r4_cell.specs.Seen.{node_of};
-ghost use Rattle.r4_cell.specs.Patch.{IsChange};
-ghost use Rattle.r4_patch.specs.Joining.{patch_of_change};
-ghost use Rattle.r4_patch.specs.Part.{MeetsPart};
+ghost use Rattle.r4_path.specs.r4_branch.Pieces.{AreTwigPieces, twig_bytes};
+ghost use Rattle.r4_path.specs.r4_branch.Twigs.{IsTwig};
+ghost use Rattle.r4_path.specs.r4_cell.Seen.{node_of};
+ghost use Rattle.r4_path.specs.r4_cell.Patch.{IsChange};
+ghost use Rattle.r4_path.specs.r4_patch.Joining.{patch_of_change};
+ghost use Rattle.r4_path.specs.r4_patch.Part.{MeetsPart};
 ghost use Rattle.r4_path.specs.TwigPieces.{twig_pieces};
 ghost use Rattle.r4_path.specs.Levels.{step_of};
 ghost use Rattle.r4_edit.specs.Splitting.{IsParted, IsSplitIn, Splits, unit_count};
@@ -20,10 +20,10 @@ ghost use Rattle.r4_path.specs.Steps.{OnlyTakes};
 use crate::leaf_parts::part_leaf;
 use crate::over::cells_of;
 use r4_base::{Block, Key, LEAF, Memory, TWIG, get32};
-use r4_branch::{TwigPiece, pack_twigs};
-use r4_cell::{Cell, Cells, Change, Fresh, new_cell};
-use r4_leaf::middle_key;
-use r4_path::{Level, Row, pair, pieces_of_cell, rise, take_number, two};
+use r4_path::{
+    Cell, Cells, Change, Fresh, Level, Row, TwigPiece, middle_key, new_cell, pack_twigs, pair,
+    pieces_of_cell, rise, take_number, two,
+};
 use std::alloc::Global;
 use std::sync::Arc;
 

@@ -6,3 +6,6 @@ pub mod Naming
 pub mod Adding
 pub mod Widened
 pub mod Asks
+-- what crates above name by way of this one
+pub use Rattle.r4_leaf_edits.proofs as r4_leaf_edits
+pub use Rattle.r4_path.proofs as r4_path

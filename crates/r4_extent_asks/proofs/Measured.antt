@@ -26,7 +26,7 @@ use Rattle.r4_path.proofs.CellNodes.{units_are}
 use Rattle.r4_path.proofs.Rising.{hi_is, lo_is}
 use Rattle.r4_reach.specs.Needs.{leaf_edits, units_after}
 use Rattle.r4_reach.specs.Touched.{Body}
-use Rattle.r4_suited.proofs.Cells.{IsFitting, leaf_fits}
+use Rattle.r4_leaf_demands.proofs.r4_suited.Cells.{IsFitting, leaf_fits}
 use Rattle.r4_extent_demands.specs.Sizes.{AreExtentEdits}
 
 -- ---- units that rise lie in their range

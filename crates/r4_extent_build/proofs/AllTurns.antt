@@ -9,12 +9,12 @@ use Rattle.r4_branch.specs.declared.piece.TwigPiece.{TwigPiece}
 use Rattle.r4_cell.specs.Seen.{CellSeen, node_of}
 use Rattle.r4_cell.specs.declared.change.Fresh.{Fresh}
 use Rattle.r4_content.specs.Edited.{Edits}
-use Rattle.r4_measure.specs.Grafting.{Beside, comes_below}
+use Rattle.r4_twig_turns.specs.r4_measure.Grafting.{Beside, comes_below}
 use Rattle.r4_patch.specs.Effect.{Placed}
 use Rattle.r4_patch.proofs.Members.{here, later}
 use Rattle.r4_reach.specs.Touched.{Body}
 use Rattle.r4_twig_turns.specs.Turning.{CanRegraftAll, TurnAtMost, TwigTurn, behind}
-use Rattle.r4_twig_work.specs.Regrafting.{SetsBelow, StandsBelow}
+use Rattle.r4_twig_turns.specs.r4_twig_work.Regrafting.{SetsBelow, StandsBelow}
 use Rattle.r4_work.specs.Remaking.{Changes}
 use Rattle.r4_work.specs.Working.{IsWorking, standing}
 use Rattle.r4_work.specs.declared.working.WorkingSet.{WorkingSet}

@@ -9,7 +9,7 @@ use Rattle.r4_content.specs.Edited.{Edits}
 use Rattle.r4_patch.proofs.Members.{here, later}
 use Rattle.r4_reach.specs.Touched.{Body}
 use Rattle.r4_twig_turns.specs.Turning.{IsTurned, TwigTurn, behind, own_of}
-use Rattle.r4_twig_work.specs.Regrafting.{DoesBelow, IsRegraftable}
+use Rattle.r4_twig_turns.specs.r4_twig_work.Regrafting.{DoesBelow, IsRegraftable}
 use Rattle.r4_work.specs.declared.working.WorkingSet.{WorkingSet}
 use Rattle.r4_extent_build.specs.Looping.{AreTurned, CanTurnAll, IsTwigFor, turns_of}
 use Rattle.r4_extent_build.specs.Turns.{growing_turn}

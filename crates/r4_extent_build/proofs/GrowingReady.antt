@@ -11,7 +11,7 @@ use Rattle.r4_cell.specs.Seen.{CellSeen, node_of}
 use Rattle.r4_cell.specs.declared.change.Fresh.{Fresh}
 use Rattle.r4_content.specs.Edited.{Edits}
 use Rattle.r4_graft.proofs.Placed.{follow_end, has_end}
-use Rattle.r4_measure.specs.Budget.{Budget}
+use Rattle.r4_twig_turns.specs.r4_measure.Budget.{Budget}
 use Rattle.r4_patch.proofs.Members.{none}
 use Rattle.r4_path.specs.Grafts.{extra_twigs}
 use Rattle.r4_path.specs.TwigPieces.{twig_pieces}

@@ -14,3 +14,5 @@ pub mod OneTurn
 pub mod Changing
 pub mod AllTurns
 pub mod GrowingReady
+-- what crates above name by way of this one
+pub use Rattle.r4_twig_turns.proofs as r4_twig_turns

@@ -14,7 +14,7 @@ use Rattle.r4_cell.specs.Seen.{CellSeen, node_of}
 use Rattle.r4_content.specs.Edited.{Edits, is_between}
 use Rattle.r4_graft.specs.Splices.{place, spliced}
 use Rattle.r4_graft.proofs.Halves.{later_key, later_rank}
-use Rattle.r4_measure.proofs.Kept.{block_is}
+use Rattle.r4_twig_turns.proofs.r4_measure.Kept.{block_is}
 use Rattle.r4_path.specs.TwigPieces.{twig_pieces}
 use Rattle.r4_path.proofs.Rising.{hi_is, lo_is}
 use Rattle.r4_reach.specs.Needs.{cut_pieces, filled, gets_bytes, pieces_after, runs, with_coming, without_gone}

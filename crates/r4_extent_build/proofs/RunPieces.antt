@@ -11,7 +11,7 @@ use Rattle.r4_branch.specs.declared.piece.TwigPart.{TwigPart}
 use Rattle.r4_branch.specs.declared.piece.TwigPart.TheVariants.{Blocks, Pointer}
 use Rattle.r4_branch.specs.declared.piece.TwigPiece.{TwigPiece}
 use Rattle.r4_graft.proofs.Halves.{later_key, later_rank}
-use Rattle.r4_leaf_edits.proofs.KeyRanks.{key_again}
+use Rattle.r4_extent_demands.proofs.r4_leaf_edits.KeyRanks.{key_again}
 use Rattle.r4_reach.specs.Needs.{runs, widened}
 use Rattle.r4_extent_demands.specs.Pieces.{block_at}
 use Rattle.r4_extent_build.specs.Numbering.{block_name, has_block_at, is_coming, is_told_block, names_coming, with_numbers}

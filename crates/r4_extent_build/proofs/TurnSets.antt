@@ -23,7 +23,7 @@ use Rattle.r4_patch.specs.Effect.{Placed}
 use Rattle.r4_path.specs.TwigPieces.{twig_pieces}
 use Rattle.r4_reach.specs.Needs.{filled, gets_bytes, pieces_after, runs}
 use Rattle.r4_reach.specs.Touched.{Body}
-use Rattle.r4_twig_work.specs.Regrafting.{SetsBelow, StandsBelow}
+use Rattle.r4_twig_turns.specs.r4_twig_work.Regrafting.{SetsBelow, StandsBelow}
 use Rattle.r4_extent_build.specs.Growing.{IsClearFor, IsGrowing, end_after, end_before}
 use Rattle.r4_extent_build.specs.Numbering.{cells_coming, coming_count, with_numbers}
 use Rattle.r4_extent_build.specs.Setting.{AreKeysOf, byte_after, bytes_after, in_coming, in_hole_of, is_hole_of}

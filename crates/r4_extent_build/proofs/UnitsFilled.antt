@@ -21,7 +21,7 @@ use Rattle.r4_patch.proofs.Members.{here, later, none}
 use Rattle.r4_patch.specs.Effect.{Placed}
 use Rattle.r4_reach.specs.Needs.{filled, gets_bytes, is_hole_part, runs}
 use Rattle.r4_reach.specs.Touched.{Body, first_byte}
-use Rattle.r4_twig_work.specs.Regrafting.{StandsBelow}
+use Rattle.r4_twig_turns.specs.r4_twig_work.Regrafting.{StandsBelow}
 use Rattle.r4_extent_build.specs.Numbering.{cells_coming, coming_count}
 use Rattle.r4_extent_build.specs.Setting.{byte_after, in_hole_of, is_hole_of}
 use Rattle.r4_extent_build.proofs.FilledHoles.{hole_free, stays}

@@ -15,11 +15,11 @@ use Rattle.r4_cell.specs.Seen.{CellSeen, node_of}
 use Rattle.r4_content.specs.Edited.{Edits}
 use Rattle.r4_extent_blocks.specs.Setting.{byte_set, new_bytes, new_cell}
 use Rattle.r4_graft.proofs.Halves.{later_key, later_rank}
-use Rattle.r4_leaf_edits.proofs.KeyRanks.{key_again}
+use Rattle.r4_extent_demands.proofs.r4_leaf_edits.KeyRanks.{key_again}
 use Rattle.r4_patch.proofs.Members.{cases, here, later as later_in, none}
 use Rattle.r4_patch.specs.Effect.{Placed}
 use Rattle.r4_reach.specs.Needs.{runs, widened}
-use Rattle.r4_twig_work.specs.Regrafting.{StandsBelow}
+use Rattle.r4_twig_turns.specs.r4_twig_work.Regrafting.{StandsBelow}
 use Rattle.r4_extent_demands.specs.Pieces.{block_at}
 use Rattle.r4_extent_build.specs.Numbering.{cells_coming, has_block_at, is_told_block}
 use Rattle.r4_extent_build.specs.Setting.{byte_after}

@@ -13,7 +13,7 @@ use Rattle.r4_path.specs.TwigPieces.{twig_pieces}
 use Rattle.r4_reach.specs.Needs.{pieces_after}
 use Rattle.r4_reach.specs.Touched.{Body}
 use Rattle.r4_twig_turns.specs.Turning.{CanRegraftAll, IsTurned, TwigTurn, behind, numbers_for}
-use Rattle.r4_twig_work.specs.Regrafting.{DoesBelow}
+use Rattle.r4_twig_turns.specs.r4_twig_work.Regrafting.{DoesBelow}
 use Rattle.r4_work.specs.declared.working.WorkingSet.{WorkingSet}
 use Rattle.r4_extent_build.specs.Growing.{IsClearFor}
 use Rattle.r4_extent_build.specs.Numbering.{is_coming}

@@ -18,7 +18,7 @@ use Rattle.r4_content.specs.Objects.{set_attr, set_entry, unnamed}
 use Rattle.r4_content.specs.Seen.{of_seen}
 use Rattle.r4_content.specs.declared.command.Command.{Command}
 use Rattle.r4_content.proofs.Found.{small_object}
-use Rattle.r4_reach.specs.Touched.{edits_on}
+use Rattle.r4_suited.specs.r4_reach.Touched.{edits_on}
 use Rattle.r4_suited.specs.Suited.{AreLawfulSeen}
 use Rattle.r4_suited.proofs.Few.{IsHere, IsName, stat_off}
 use Rattle.r4_suited.proofs.Walked.{HoldsOfEdits, IsMet, edits_hold, made_object}

@@ -20,8 +20,8 @@ use Rattle.r4_content.specs.Objects.{is_same, link_less, one_more, set_attr, set
 use Rattle.r4_content.specs.Entries.{moved, set_parents}
 use Rattle.r4_content.proofs.Ranks.{byte_after}
 use Rattle.r4_content.proofs.Shapes.{entry_dir}
-use Rattle.r4_reach.specs.Reach.{is_body}
-use Rattle.r4_reach.specs.Touched.{size_in}
+use Rattle.r4_suited.specs.r4_reach.Reach.{is_body}
+use Rattle.r4_suited.specs.r4_reach.Touched.{size_in}
 use Rattle.r4_suited.proofs.Few.{stat_off}
 
 -- The key is no body's.

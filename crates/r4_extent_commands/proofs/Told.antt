@@ -20,9 +20,9 @@ use Rattle.r4_content.specs.Seen.{Rises}
 use Rattle.r4_content.specs.declared.command.Command.{Command}
 use Rattle.r4_content.proofs.EditLaws.{last_put}
 use Rattle.r4_content.proofs.Ranks.{byte_after}
-use Rattle.r4_leaf_edits.proofs.Lookups.{found}
-use Rattle.r4_reach.specs.Reach.{is_body}
-use Rattle.r4_reach.specs.Touched.{Body, body_key, body_of, body_on, edits_on, first_byte, size_in}
+use Rattle.r4_suited.proofs.r4_leaf_edits.Lookups.{found}
+use Rattle.r4_suited.specs.r4_reach.Reach.{is_body}
+use Rattle.r4_suited.specs.r4_reach.Touched.{Body, body_key, body_of, body_on, edits_on, first_byte, size_in}
 use Rattle.r4_suited.specs.Suited.{AreLawfulSeen}
 use Rattle.r4_extent_commands.specs.Bodies.{HaveSizes, KeepsFileSize, LieInBody, LiesInBody}
 use Rattle.r4_extent_commands.proofs.Made.{AreOfOne, IsOfFile, command_of_one}

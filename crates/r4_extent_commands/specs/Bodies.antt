@@ -12,8 +12,8 @@ use Rattle.r4_content.specs.Edited.{Intervals, Pairs, is_in}
 use Rattle.r4_content.specs.Meaning.{course, greatest_size}
 use Rattle.r4_content.specs.Seen.{of_seen}
 use Rattle.r4_content.specs.declared.command.Command.{Command}
-use Rattle.r4_reach.specs.Reach.{is_body}
-use Rattle.r4_reach.specs.Touched.{Body, first_byte}
+use Rattle.r4_suited.specs.r4_reach.Reach.{is_body}
+use Rattle.r4_suited.specs.r4_reach.Touched.{Body, first_byte}
 
 -- Each object that a command finds in what was seen has a size of 64 bits.
 abbrev pub HaveSizes : Command → Pairs → Type 0

@@ -5,7 +5,7 @@ ghost use Rattle.r4_content.specs.Edited.{Pairs, changed};
 ghost use Rattle.r4_content.specs.Fields.{HasBytePaths};
 ghost use Rattle.r4_content.specs.Seen.{Rises};
 ghost use Rattle.r4_content.specs.declared.command.Command.{Command};
-ghost use Rattle.r4_reach.specs.Touched.{body_on, edits_on};
+ghost use Rattle.r4_suited.specs.r4_reach.Touched.{body_on, edits_on};
 ghost use Rattle.r4_suited.specs.Suited.{AreLawfulSeen};
 ghost use Rattle.r4_extent_commands.specs.Bodies.{HaveSizes, KeepsFileSize, LiesInBody};
 

@@ -18,10 +18,10 @@ use Rattle.r4_cell.specs.Seen.{CellSeen, node_of}
 use Rattle.r4_content.specs.Edited.{Edits}
 use Rattle.r4_graft.specs.Splices.{parted, place}
 use Rattle.r4_leaf.specs.Units.{is_between}
-use Rattle.r4_leaf_demands.proofs.Weighed.{block_is}
+use Rattle.r4_extent_demands.proofs.r4_leaf_demands.Weighed.{block_is}
 use Rattle.r4_path.specs.TwigPieces.{twig_pieces}
-use Rattle.r4_reach.specs.Touched.{Body, blocks_end, coming, first_byte, going, is_spread}
-use Rattle.r4_reach.specs.Needs.{cut_pieces, gets_bytes, taken_up}
+use Rattle.r4_extent_demands.specs.r4_reach.Touched.{Body, blocks_end, coming, first_byte, going, is_spread}
+use Rattle.r4_extent_demands.specs.r4_reach.Needs.{cut_pieces, gets_bytes, taken_up}
 use Rattle.r4_extent_counts.specs.Coming.{body_cells, come_to, filled_in, gaining, leaf_taking_up}
 
 module _ (gets : ℕ → Bool) where

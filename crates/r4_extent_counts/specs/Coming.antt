@@ -14,10 +14,10 @@ use Rattle.r4_cell.specs.Seen.{CellSeen, node_of}
 use Rattle.r4_content.specs.Edited.{Edits}
 use Rattle.r4_graft.specs.Splices.{parted, place}
 use Rattle.r4_leaf.specs.Units.{is_between}
-use Rattle.r4_reach.specs.Demand.{Demand}
-use Rattle.r4_reach.specs.Leaves.{most_of}
-use Rattle.r4_reach.specs.Needs.{Ask, cut_pieces, gets_bytes, put_among, taken_up}
-use Rattle.r4_reach.specs.Touched.{Body, coming, first_byte, going}
+use Rattle.r4_extent_demands.specs.r4_reach.Demand.{Demand}
+use Rattle.r4_extent_demands.specs.r4_reach.Leaves.{most_of}
+use Rattle.r4_extent_demands.specs.r4_reach.Needs.{Ask, cut_pieces, gets_bytes, put_among, taken_up}
+use Rattle.r4_extent_demands.specs.r4_reach.Touched.{Body, coming, first_byte, going}
 
 -- so many of some blocks, from a key on, get bytes
 abbrev pub gaining : (gets : ℕ → Bool) → (key blocks : ℕ) → ℕ

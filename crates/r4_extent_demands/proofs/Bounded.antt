@@ -23,8 +23,8 @@ use Rattle.r4_graft.proofs.Halves.{later_key, later_rank}
 use Rattle.r4_leaf.specs.Units.{is_between}
 use Rattle.r4_leaf_edits.specs.Suiting.{SuitLeaves}
 use Rattle.r4_leaf_edits.proofs.KeyRanks.{key_again}
-use Rattle.r4_reach.specs.Needs.{cut_pieces, filled, gets_bytes, has_left_leaf, pointer_at, runs, taken_up, widened}
-use Rattle.r4_reach.specs.Touched.{Body, blocks_end, coming, first_byte, going, is_spread}
+use Rattle.r4_leaf_edits.specs.r4_reach.Needs.{cut_pieces, filled, gets_bytes, has_left_leaf, pointer_at, runs, taken_up, widened}
+use Rattle.r4_leaf_edits.specs.r4_reach.Touched.{Body, blocks_end, coming, first_byte, going, is_spread}
 use Rattle.r4_extent_demands.specs.Pieces.{AreInOrder, HasRoom, PartHasRoom, block_at, hole_at, remade}
 use Rattle.r4_extent_demands.specs.Sizes.{IsFirstKey, IsSizedBody}
 use Rattle.r4_extent_demands.proofs.Low.{at_offset, gets_low}

@@ -17,8 +17,8 @@ use Rattle.r4_branch.specs.declared.piece.TwigPiece.{TwigPiece}
 use Rattle.r4_branch.proofs.Following.{last_more}
 use Rattle.r4_cell.specs.Seen.{CellSeen, node_of}
 use Rattle.r4_graft.specs.Splices.{parted, place, spliced}
-use Rattle.r4_path.specs.TwigPieces.{ArePiecesOf}
-use Rattle.r4_reach.specs.Needs.{cut_pieces, has_left_leaf, pointer_at, taken_up}
+use Rattle.r4_leaf_edits.specs.r4_path.TwigPieces.{ArePiecesOf}
+use Rattle.r4_leaf_edits.specs.r4_reach.Needs.{cut_pieces, has_left_leaf, pointer_at, taken_up}
 use Rattle.r4_extent_demands.specs.Pieces.{ends_leaf, has_leaf_end, without_between}
 
 -- ---- leaves that end at a key

@@ -13,3 +13,7 @@ pub mod Ahead
 pub mod Bounded
 pub mod OfCommands
 pub mod Nothing
+-- what crates above name by way of this one
+pub use Rattle.r4_bodies.proofs as r4_bodies
+pub use Rattle.r4_bodies.proofs.r4_leaf_demands
+pub use Rattle.r4_leaf_edits.proofs as r4_leaf_edits

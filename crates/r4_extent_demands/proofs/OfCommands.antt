@@ -8,12 +8,12 @@ use Rattle.r4_content.specs.Fields.{HasBytePaths}
 use Rattle.r4_content.specs.Seen.{Rises}
 use Rattle.r4_content.specs.declared.command.Command.{Command}
 use Rattle.r4_leaf_edits.specs.Suiting.{IsBefore, SuitLeaves}
-use Rattle.r4_reach.specs.Touched.{Body, body_on, edits_on, is_spread}
-use Rattle.r4_suited.specs.Suited.{AreLawfulSeen, end_of_bytes as end_suited}
-use Rattle.r4_suited.proofs.Runs.{few_set, grown_end, sized_run, written_run, run_suits}
-use Rattle.r4_suited.proofs.Small.{leaf_small}
-use Rattle.r4_suited.proofs.Suits.{command_suits}
-use Rattle.r4_suited.proofs.Walked.{AreMade, edits_made}
+use Rattle.r4_leaf_edits.specs.r4_reach.Touched.{Body, body_on, edits_on, is_spread}
+use Rattle.r4_bodies.specs.r4_suited.Suited.{AreLawfulSeen, end_of_bytes as end_suited}
+use Rattle.r4_bodies.proofs.r4_suited.Runs.{few_set, grown_end, sized_run, written_run, run_suits}
+use Rattle.r4_bodies.proofs.r4_suited.Small.{leaf_small}
+use Rattle.r4_bodies.proofs.r4_suited.Suits.{command_suits}
+use Rattle.r4_bodies.proofs.r4_suited.Walked.{AreMade, edits_made}
 use Rattle.r4_extent_demands.specs.Sizes.{AreExtentEdits, IsSized, end_of_bytes}
 
 grown_low : (n : ℕ) (t : Bool) → n ≤ 2 ^ 30 → grown_end n t ≤ 2 ^ 30

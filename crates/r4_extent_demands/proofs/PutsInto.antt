@@ -26,10 +26,10 @@ use Rattle.r4_leaf_edits.proofs.Touched.{values_met}
 use Rattle.r4_leaf_edits.proofs.Whole.{fills_filter, runs_filter}
 use Rattle.r4_extent_demands.proofs.Meets.{keys_meet, met_keys}
 use Rattle.r4_leaf.specs.Units.{LeafUnit}
-use Rattle.r4_patch.proofs.Members.{cases, here, later, none}
-use Rattle.r4_reach.specs.Needs.{is_met, leaf_edits, leaves_for}
-use Rattle.r4_reach.specs.Reach.{is_body}
-use Rattle.r4_reach.specs.Touched.{Body, first_byte, is_spread}
+use Rattle.r4_leaf_edits.proofs.r4_patch.Members.{cases, here, later, none}
+use Rattle.r4_leaf_edits.specs.r4_reach.Needs.{is_met, leaf_edits, leaves_for}
+use Rattle.r4_leaf_edits.specs.r4_reach.Reach.{is_body}
+use Rattle.r4_leaf_edits.specs.r4_reach.Touched.{Body, first_byte, is_spread}
 use Rattle.r4_extent_demands.specs.Putting.{leaves_in, put_into}
 use Rattle.r4_extent_demands.specs.Ranges.{puts_into}
 use Rattle.r4_extent_demands.proofs.Puts.{leaves_more}

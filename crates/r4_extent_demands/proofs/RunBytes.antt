@@ -14,7 +14,7 @@ use Rattle.r4_branch.specs.declared.piece.TwigPiece.{TwigPiece}
 use Rattle.r4_branch.proofs.Counted.{costs}
 use Rattle.r4_graft.proofs.Halves.{later_key, later_rank}
 use Rattle.r4_leaf_edits.proofs.KeyRanks.{key_again}
-use Rattle.r4_reach.specs.Needs.{runs, widened}
+use Rattle.r4_leaf_edits.specs.r4_reach.Needs.{runs, widened}
 use Rattle.r4_extent_demands.specs.Pieces.{block_at}
 use Rattle.r4_extent_demands.proofs.Rooms.{open_blocks}
 

@@ -8,7 +8,7 @@ use Rattle.r4_base.specs.Key.{key_of_rank}
 use Rattle.r4_base.specs.declared.key.Key.{Key}
 use Rattle.r4_branch.specs.declared.piece.TwigPart.TheVariants.{Blocks}
 use Rattle.r4_branch.specs.declared.piece.TwigPiece.{TwigPiece}
-use Rattle.r4_reach.specs.Needs.{runs, widened}
+use Rattle.r4_leaf_edits.specs.r4_reach.Needs.{runs, widened}
 use Rattle.r4_extent_demands.specs.Pieces.{block_at, hole_at}
 
 hole_piece : Key → ℕ → TwigPiece

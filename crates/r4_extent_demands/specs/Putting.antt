@@ -8,9 +8,9 @@ use Rattle.r4_content.specs.Edited.{Edits, is_between}
 use Rattle.r4_content.specs.Listed.{list_edited}
 use Rattle.r4_leaf.specs.Units.{LeafUnit}
 use Rattle.r4_leaf.specs.declared.remaking.KeyRange.{KeyRange}
-use Rattle.r4_leaf_demands.specs.Touching.{span_of, spans_at}
-use Rattle.r4_reach.specs.Needs.{leaf_edits, leaves_for}
-use Rattle.r4_reach.specs.Touched.{Body}
+use Rattle.r4_bodies.specs.r4_leaf_demands.Touching.{span_of, spans_at}
+use Rattle.r4_leaf_edits.specs.r4_reach.Needs.{leaf_edits, leaves_for}
+use Rattle.r4_leaf_edits.specs.r4_reach.Touched.{Body}
 
 -- the values that are put into a range, as units of a leaf
 abbrev pub put_into : Option Body → Edits → (lo hi : ℕ) → List LeafUnit

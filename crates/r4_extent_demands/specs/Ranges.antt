@@ -6,9 +6,9 @@ use Rattle.r4_base.specs.Tree.{Span}
 use Rattle.r4_cell.specs.Seen.{CellSeen, node_of}
 use Rattle.r4_content.specs.Edited.{Edits, put_keys}
 use Rattle.r4_content.specs.Held.{edits_of, interval_of}
-use Rattle.r4_leaf_demands.specs.Touching.{MeetsKind, spans_at}
-use Rattle.r4_reach.specs.Needs.{is_met, leaf_edits}
-use Rattle.r4_reach.specs.Touched.{Body}
+use Rattle.r4_bodies.specs.r4_leaf_demands.Touching.{MeetsKind, spans_at}
+use Rattle.r4_leaf_edits.specs.r4_reach.Needs.{is_met, leaf_edits}
+use Rattle.r4_leaf_edits.specs.r4_reach.Touched.{Body}
 use Rattle.r4_extent_demands.specs.Changing.{comes_in}
 use Rattle.r4_extent_demands.specs.Sizes.{AreExtentEdits, IsSizedBody}
 use Rattle.r4_extent_demands.specs.declared.ranges.Way.{Way}

@@ -12,7 +12,7 @@ ghost use Rattle.r4_branch.specs.declared.piece.TwigPart.TheVariants.{Blocks};
 ghost use Rattle.r4_cell.specs.Seen.{node_of};
 ghost use Rattle.r4_content.specs.Held.{edits_of};
 ghost use Rattle.r4_node40.specs.View.{item_shown};
-ghost use Rattle.r4_reach.specs.Needs.{changes_pieces, put_among};
+ghost use Rattle.r4_leaf_edits.specs.r4_reach.Needs.{changes_pieces, put_among};
 ghost use Rattle.r4_extent_demands.specs.Changing.{changes_units, comes_in, goes_from, is_changed};
 ghost use Rattle.r4_extent_demands.specs.Changing.{is_refilled};
 ghost use Rattle.r4_extent_demands.specs.Pieces.{HasRoom};

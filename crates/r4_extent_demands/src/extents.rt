@@ -3,7 +3,7 @@
 ghost use Rattle.std.specs.Prelude.{◌≡◌, ◌+◌, ◌<◌, ◌≤◌, IfOk, OnOk, length, map};
 ghost use Rattle.r4_base.specs.Node.{items_of};
 ghost use Rattle.r4_cell.specs.Seen.{node_of};
-ghost use Rattle.r4_leaf_demands.specs.Touching.{IsToldAt, span_of, spans_told};
+ghost use Rattle.r4_bodies.specs.r4_leaf_demands.Touching.{IsToldAt, span_of, spans_told};
 ghost use Rattle.r4_node40.specs.View.{view_items};
 ghost use Rattle.r4_extent_demands.specs.Putting.{AddsSpans};
 

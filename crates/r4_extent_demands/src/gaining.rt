@@ -5,7 +5,7 @@ ghost use Rattle.std.specs.List.{flat_map, list_any};
 ghost use Rattle.r4_base.specs.Key.{minor_of, offset_of, rank};
 ghost use Rattle.r4_content.specs.Edited.{is_between, put_keys};
 ghost use Rattle.r4_content.specs.Held.{edits_of, pair_of, run_pairs};
-ghost use Rattle.r4_reach.specs.Needs.{gets_bytes, is_met};
+ghost use Rattle.r4_leaf_edits.specs.r4_reach.Needs.{gets_bytes, is_met};
 ghost use Rattle.r4_extent_demands.specs.Sizes.{IsSizedBody};
 ghost use Rattle.r4_extent_demands.specs.Pieces.{gets_among};
 

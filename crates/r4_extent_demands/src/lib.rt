@@ -22,5 +22,6 @@ pub use laws::commands_of_extents_may_ask;
 pub use parting::part_each;
 pub use piecing::{comes_first, pieces_after};
 pub use putting::{keys_of, put_among};
+pub use r4_bodies::{POINTER_ROOM, all_more, growing, node_bytes, over};
 pub use ranges::{Way, extents_have};
 pub use sized_body::SizedBody;

@@ -10,11 +10,11 @@ ghost use Rattle.r4_cell.specs.Seen.{node_of};
 ghost use Rattle.r4_content.specs.Edited.{Edits as Changes};
 ghost use Rattle.r4_content.specs.Held.{edits_of};
 ghost use Rattle.r4_leaf_edits.specs.Suiting.{SuitLeaves};
-ghost use Rattle.r4_marking.specs.Marks.{heard_seen};
-ghost use Rattle.r4_reach.specs.Needs.{filled, gets_bytes, is_hole_part, pieces_after, runs, with_coming};
+ghost use Rattle.r4_bodies.specs.r4_marking.Marks.{heard_seen};
+ghost use Rattle.r4_leaf_edits.specs.r4_reach.Needs.{filled, gets_bytes, is_hole_part, pieces_after, runs, with_coming};
 ghost use Rattle.r4_leaf.specs.Units.{is_between};
-ghost use Rattle.r4_reach.specs.Touched.{coming};
-ghost use Rattle.r4_path.specs.TwigPieces.{ArePiecesOf};
+ghost use Rattle.r4_leaf_edits.specs.r4_reach.Touched.{coming};
+ghost use Rattle.r4_leaf_edits.specs.r4_path.TwigPieces.{ArePiecesOf};
 ghost use Rattle.r4_extent_demands.specs.Pieces.{AreInOrder, HasRoom, remade};
 ghost use Rattle.r4_extent_demands.specs.Sizes.{IsSized, IsSizedBody};
 
@@ -22,14 +22,13 @@ use crate::cutting::{cut, without_gone};
 use crate::running::add_blocks;
 use crate::sized_body::SizedBody;
 use r4_base::Memory;
+use r4_bodies::Heard;
 use r4_branch::{TwigPart, TwigPiece};
 use r4_cell::Cell;
 use r4_content::Edits;
 use r4_graft::{place_of, splice};
 use r4_leaf::KeyRange;
-use r4_leaf_edits::has;
-use r4_marking::Heard;
-use r4_path::pieces_of_cell;
+use r4_leaf_edits::{has, pieces_of_cell};
 use std::alloc::Global;
 
 /// The pieces that a twig has after edits, where the leaves below it ask for this: without the pointers to leaves that

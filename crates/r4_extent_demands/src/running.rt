@@ -3,7 +3,7 @@
 ghost use Rattle.std.specs.Prelude.{◌≡◌, ◌+◌, ◌*◌, ◌^◌, ◌≤◌, ◌++◌, [], ◌∷◌, OnOk};
 ghost use Rattle.r4_base.specs.Key.{minor_of, offset_of, rank};
 ghost use Rattle.r4_content.specs.Held.{edits_of};
-ghost use Rattle.r4_reach.specs.Needs.{gets_bytes, runs};
+ghost use Rattle.r4_leaf_edits.specs.r4_reach.Needs.{gets_bytes, runs};
 ghost use Rattle.r4_extent_demands.specs.Pieces.{block_at, hole_at};
 ghost use Rattle.r4_extent_demands.specs.Sizes.{IsSizedBody};
 

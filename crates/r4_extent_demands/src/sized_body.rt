@@ -7,8 +7,8 @@ ghost use Rattle.r4_base.specs.Volume.{blocks_for, object_of};
 ghost use Rattle.r4_content.specs.Edited.{is_between};
 ghost use Rattle.r4_content.specs.Held.{interval_of};
 ghost use Rattle.r4_leaf_edits.specs.Made.{spread_keys};
-ghost use Rattle.r4_reach.specs.Reach.{is_body};
-ghost use Rattle.r4_reach.specs.Touched.{Body, blocks_end, coming, first_byte, going, is_spread, turns_out};
+ghost use Rattle.r4_leaf_edits.specs.r4_reach.Reach.{is_body};
+ghost use Rattle.r4_leaf_edits.specs.r4_reach.Touched.{Body, blocks_end, coming, first_byte, going, is_spread, turns_out};
 ghost use Rattle.r4_extent_demands.specs.Sizes.{IsFirstKey, IsSizedBody};
 
 use crate::keys::past_blocks;
@@ -37,7 +37,7 @@ pub struct SizedBody {
 impl Model for SizedBody {
     ghost use Rattle.r4_base.specs.Key.{rank};
     ghost use Rattle.r4_base.specs.Volume.{object_of};
-    ghost use Rattle.r4_reach.specs.Touched.{Body};
+    ghost use Rattle.r4_leaf_edits.specs.r4_reach.Touched.{Body};
 
     ghost Value = { Body };
 

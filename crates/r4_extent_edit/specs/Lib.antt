@@ -3,3 +3,5 @@ pub mod Effects
 pub mod Setting
 pub mod Spans
 pub mod Turning
+-- what crates above name by way of this one
+pub use Rattle.r4_leaf.specs as r4_leaf

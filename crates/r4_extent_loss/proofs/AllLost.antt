@@ -13,7 +13,7 @@ use Rattle.r4_measure.specs.Grafting.{Beside, comes_below}
 use Rattle.r4_patch.specs.Effect.{Placed}
 use Rattle.r4_patch.proofs.Members.{here, later}
 use Rattle.r4_reach.specs.Touched.{Body}
-use Rattle.r4_twig_turns.specs.Turning.{CanRegraftAll, behind}
+use Rattle.r4_extent_build.specs.r4_twig_turns.Turning.{CanRegraftAll, behind}
 use Rattle.r4_twig_work.specs.Regrafting.{SetsBelow, StandsBelow}
 use Rattle.r4_work.specs.Remaking.{Changes}
 use Rattle.r4_work.specs.declared.working.WorkingSet.{WorkingSet}

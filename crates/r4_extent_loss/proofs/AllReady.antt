@@ -14,8 +14,8 @@ use Rattle.r4_patch.proofs.Members.{Distinct, distinct, here, later}
 use Rattle.r4_path.specs.Grafts.{extra_twigs}
 use Rattle.r4_reach.specs.Needs.{pieces_after}
 use Rattle.r4_reach.specs.Touched.{Body}
-use Rattle.r4_twig_turns.specs.Turning.{AreReady, TurnAtMost, come_at_most}
-use Rattle.r4_twig_turns.proofs.TurnByTurn.{all_turns, few_stand}
+use Rattle.r4_extent_build.specs.r4_twig_turns.Turning.{AreReady, TurnAtMost, come_at_most}
+use Rattle.r4_extent_build.proofs.r4_twig_turns.TurnByTurn.{all_turns, few_stand}
 use Rattle.r4_work.specs.Working.{IsWorking, root_of, standing}
 use Rattle.r4_work.specs.declared.working.WorkingSet.{WorkingSet}
 use Rattle.r4_extent_loss.specs.Losing.{IsLosing, Loss}

@@ -7,7 +7,7 @@ use Rattle.r4_cell.specs.declared.change.Fresh.{Fresh}
 use Rattle.r4_content.specs.Edited.{Edits}
 use Rattle.r4_patch.proofs.Members.{here, later}
 use Rattle.r4_reach.specs.Touched.{Body}
-use Rattle.r4_twig_turns.specs.Turning.{IsTurned, TwigTurn, behind, own_of}
+use Rattle.r4_extent_build.specs.r4_twig_turns.Turning.{IsTurned, TwigTurn, behind, own_of}
 use Rattle.r4_twig_work.specs.Regrafting.{DoesBelow, IsRegraftable}
 use Rattle.r4_work.specs.declared.working.WorkingSet.{WorkingSet}
 use Rattle.r4_extent_build.specs.Looping.{AreTurned}

@@ -11,7 +11,7 @@ use Rattle.r4_cell.specs.Patch.{HaveNames}
 use Rattle.r4_cell.specs.Seen.{CellSeen, node_of}
 use Rattle.r4_cell.specs.declared.change.Fresh.{Fresh}
 use Rattle.r4_edit.specs.Extents.{given_cells}
-use Rattle.r4_extent_edit.proofs.ExtentEffect.{is_on}
+use Rattle.r4_twig_work.proofs.r4_extent_edit.ExtentEffect.{is_on}
 use Rattle.r4_patch.specs.Part.{IsPart}
 use Rattle.r4_patch.proofs.Members.{cases, distinct, distinct_append, have_names, none}
 use Rattle.r4_path.specs.Steps.{name_of}

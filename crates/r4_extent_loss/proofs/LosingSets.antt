@@ -16,9 +16,9 @@ use Rattle.r4_cell.specs.Seen.{CellSeen, node_of}
 use Rattle.r4_content.specs.Edited.{Edits}
 use Rattle.r4_edit.specs.Extents.{given_cells}
 use Rattle.r4_edit.proofs.NewLeaves.{leaf_node}
-use Rattle.r4_extent_edit.proofs.ExtentEffect.{both_ways, is_off, is_on}
-use Rattle.r4_extent_edit.proofs.PutEffect.{cut_members}
-use Rattle.r4_extent_edit.proofs.WholeBlocks.{whole_blocks}
+use Rattle.r4_twig_work.proofs.r4_extent_edit.ExtentEffect.{both_ways, is_off, is_on}
+use Rattle.r4_twig_work.proofs.r4_extent_edit.PutEffect.{cut_members}
+use Rattle.r4_twig_work.proofs.r4_extent_edit.WholeBlocks.{whole_blocks}
 use Rattle.r4_leaf.specs.Units.{cut_units}
 use Rattle.r4_leaf.proofs.Lying.{units_nil}
 use Rattle.r4_patch.specs.Effect.{Placed}

@@ -30,7 +30,7 @@ use Rattle.r4_path.specs.Steps.{CountUp, IsNameOf, name_of}
 use Rattle.r4_path.proofs.Rising.{hi_is, id_member, lo_is}
 use Rattle.r4_reach.specs.Needs.{pieces_after}
 use Rattle.r4_reach.specs.Touched.{Body}
-use Rattle.r4_twig_turns.specs.Turning.{IsTurnOf}
+use Rattle.r4_extent_build.specs.r4_twig_turns.Turning.{IsTurnOf}
 use Rattle.r4_extent_loss.specs.Losing.{IsLeft, IsLosing, IsLossOf, Loss, gone_to, leaf_at, losing_turn, parted_pieces, taken_block, taken_from, with_leaf}
 use Rattle.r4_extent_loss.proofs.LostPieces.{after_is, all_bytes, all_first, all_follow, all_names, rest, some}
 use Rattle.r4_extent_loss.proofs.Replaced.{IsTaker, cells_of, each_taker, few_takers, replaced_bytes, replaced_names, replaced_pieces}

@@ -12,7 +12,7 @@ use Rattle.r4_measure.specs.Grafting.{Beside, IsRegrafted}
 use Rattle.r4_path.specs.Sharing.{IsSound}
 use Rattle.r4_reach.specs.Needs.{pieces_after}
 use Rattle.r4_reach.specs.Touched.{Body}
-use Rattle.r4_twig_turns.specs.Turning.{IsTurned, TwigTurn, own_of}
+use Rattle.r4_extent_build.specs.r4_twig_turns.Turning.{IsTurned, TwigTurn, own_of}
 use Rattle.r4_twig_work.specs.Regrafting.{DoesBelow, IsRegraftable}
 use Rattle.r4_work.specs.declared.working.WorkingSet.{WorkingSet}
 use Rattle.r4_extent_loss.specs.Losing.{IsLosing, IsLossOf, Loss, leaf_at, losing_turn, taken_block, taken_from, with_leaf}

@@ -13,7 +13,7 @@ use Rattle.r4_path.specs.Grafts.{extra_twigs}
 use Rattle.r4_path.proofs.Rising.{hi_is, level_is, lo_is}
 use Rattle.r4_reach.specs.Needs.{pieces_after}
 use Rattle.r4_reach.specs.Touched.{Body}
-use Rattle.r4_twig_turns.specs.Turning.{IsReady}
+use Rattle.r4_extent_build.specs.r4_twig_turns.Turning.{IsReady}
 use Rattle.r4_work.specs.Working.{IsWorking}
 use Rattle.r4_work.specs.declared.working.WorkingSet.{WorkingSet}
 use Rattle.r4_work.proofs.InPlace.{standing_is}

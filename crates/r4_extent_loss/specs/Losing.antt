@@ -24,7 +24,7 @@ use Rattle.r4_path.specs.Steps.{IsNameOf, name_of}
 use Rattle.r4_path.specs.TwigPieces.{ArePiecesOf, twig_pieces}
 use Rattle.r4_reach.specs.Needs.{gets_bytes, pieces_after}
 use Rattle.r4_reach.specs.Touched.{Body, first_byte}
-use Rattle.r4_twig_turns.specs.Turning.{TwigTurn}
+use Rattle.r4_extent_build.specs.r4_twig_turns.Turning.{TwigTurn}
 use Rattle.r4_extent_demands.specs.Sizes.{IsFirstKey, IsSizedBody}
 use Rattle.r4_extent_build.specs.Growing.{end_after, end_before}
 

@@ -25,7 +25,7 @@ use Rattle.r4_path.specs.Steps.{IsNameOf}
 use Rattle.r4_path.specs.TwigPieces.{ArePiecesOf, twig_pieces}
 use Rattle.r4_reach.specs.Needs.{pieces_after}
 use Rattle.r4_reach.specs.Touched.{Body}
-use Rattle.r4_twig_turns.specs.Turning.{CanRegraftAll, TwigTurn, numbers_for}
+use Rattle.r4_extent_build.specs.r4_twig_turns.Turning.{CanRegraftAll, TwigTurn, numbers_for}
 use Rattle.r4_work.specs.Working.{standing}
 use Rattle.r4_work.specs.declared.working.WorkingSet.{WorkingSet}
 use Rattle.r4_extent_loss.specs.Losing.{IsLeft, IsLosing, IsLossOf, Loss, gone_from, gone_to}

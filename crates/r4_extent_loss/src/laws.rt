@@ -11,7 +11,7 @@ ghost use Rattle.r4_measure.specs.Budget.{Budget, most_from};
 ghost use Rattle.r4_path.specs.Grafts.{extra_twigs};
 ghost use Rattle.r4_reach.specs.Needs.{pieces_after};
 ghost use Rattle.r4_reach.specs.Touched.{Body};
-ghost use Rattle.r4_twig_turns.specs.Turning.{IsReady, IsTurnOf, TurnAtMost, come_at_most};
+ghost use Rattle.r4_extent_build.specs.r4_twig_turns.Turning.{IsReady, IsTurnOf, TurnAtMost, come_at_most};
 ghost use Rattle.r4_twig_work.specs.Regrafting.{SetsBelow};
 ghost use Rattle.r4_work.specs.Remaking.{Changes};
 ghost use Rattle.r4_work.specs.Working.{IsWorking, root_of, standing};

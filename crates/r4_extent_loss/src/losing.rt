@@ -17,7 +17,7 @@ ghost use Rattle.r4_edit.specs.Extents.{given_cells};
 ghost use Rattle.r4_node40.specs.Laid.{fresh_node};
 ghost use Rattle.r4_path.specs.Sharing.{IsSound};
 ghost use Rattle.r4_reach.specs.Needs.{pieces_after};
-ghost use Rattle.r4_twig_turns.specs.Turning.{IsTurned, behind, own_of};
+ghost use Rattle.r4_extent_build.specs.r4_twig_turns.Turning.{IsTurned, behind, own_of};
 ghost use Rattle.r4_twig_work.specs.Regrafting.{DoesBelow, IsRegraftable};
 ghost use Rattle.r4_extent_demands.specs.Sizes.{IsSizedBody};
 ghost use Rattle.r4_extent_build.specs.Looping.{AreTurned, behind_all};

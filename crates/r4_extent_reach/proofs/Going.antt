@@ -10,8 +10,8 @@ use Rattle.r4_content.specs.declared.seen.Seen.{Seen}
 use Rattle.r4_gather.specs.Asking.{StaysOver}
 use Rattle.r4_outside.specs.Device.{State}
 use Rattle.r4_reach.specs.Touched.{Body}
-use Rattle.r4_reaching.specs.Answers.{IsAllSeen}
-use Rattle.r4_reaching.proofs.Standing.{found_on}
+use Rattle.r4_extent_reaching.specs.r4_reaching.Answers.{IsAllSeen}
+use Rattle.r4_extent_reaching.proofs.r4_reaching.Standing.{found_on}
 use Rattle.r4_search.specs.Pool.{LeavesDevice, PoolState}
 use Rattle.r4_search.proofs.Walks.{goes_both, goes_same, leaves_both, leaves_same}
 use Rattle.r4_seeing.proofs.Staying.{goes_stay}

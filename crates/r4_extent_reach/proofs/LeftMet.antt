@@ -13,15 +13,15 @@ use Rattle.r4_base.specs.Tree.{Name}
 use Rattle.r4_cell.specs.Seen.{CellSeen, node_of}
 use Rattle.r4_cell.specs.declared.change.Root.{Root}
 use Rattle.r4_content.specs.Edited.{Edits, Intervals}
-use Rattle.r4_extent_touching.specs.Holding.{AreLeftMet, StopsLeft}
-use Rattle.r4_extent_touching.proofs.Left.{left_stops}
-use Rattle.r4_judging.proofs.Below.{name_below}
+use Rattle.r4_extent_reaching.specs.r4_extent_touching.Holding.{AreLeftMet, StopsLeft}
+use Rattle.r4_extent_reaching.proofs.r4_extent_touching.Left.{left_stops}
+use Rattle.r4_extent_reaching.proofs.r4_judging.Below.{name_below}
 use Rattle.r4_outside.specs.Device.{State}
 use Rattle.r4_patch.proofs.Members.{cases, here, later, none}
-use Rattle.r4_path.proofs.Rising.{level_is}
+use Rattle.r4_extent_asks.proofs.r4_path.Rising.{level_is}
 use Rattle.r4_reach.specs.Needs.{changes_pieces, going_of, is_touched}
 use Rattle.r4_reach.specs.Touched.{Body}
-use Rattle.r4_reaching.specs.Gathering.{AreAllMet}
+use Rattle.r4_extent_reaching.specs.r4_reaching.Gathering.{AreAllMet}
 use Rattle.r4_search.specs.Pool.{Goes, IsNamed, LeavesDevice, PoolState}
 use Rattle.r4_search.specs.declared.pool.FetchFault.{FetchFault}
 use Rattle.r4_search.proofs.Walks.{goes_same}

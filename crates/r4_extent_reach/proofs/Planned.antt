@@ -21,18 +21,18 @@ use Rattle.r4_extent_reaching.specs.Meeting.{AreReadKeys, IsTouched, Planned}
 use Rattle.r4_extent_reaching.specs.Standing.{HasFileSizes, IsTooLong}
 use Rattle.r4_extent_reaching.proofs.Told.{told_is_so}
 use Rattle.r4_reach.specs.Touched.{Body, IsKindIn, body_key, body_of, body_on, changes_on, edits_on, kind_reads, raw_changes}
-use Rattle.r4_reaching.specs.Answers.{HaveObjectNumbers, IsAllSeen, SeesLowObject}
-use Rattle.r4_reaching.specs.Gathering.{IsPartMet}
-use Rattle.r4_reaching.proofs.Found.{found_inside, found_lawful}
-use Rattle.r4_reaching.proofs.Planned.{ChangesLawfulKeys, suits}
-use Rattle.r4_reaching.proofs.Touched.{seen_in}
+use Rattle.r4_extent_reaching.specs.r4_reaching.Answers.{HaveObjectNumbers, IsAllSeen, SeesLowObject}
+use Rattle.r4_extent_reaching.specs.r4_reaching.Gathering.{IsPartMet}
+use Rattle.r4_extent_reaching.proofs.r4_reaching.Found.{found_inside, found_lawful}
+use Rattle.r4_extent_reaching.proofs.r4_reaching.Planned.{ChangesLawfulKeys, suits}
+use Rattle.r4_extent_reaching.proofs.r4_reaching.Touched.{seen_in}
 use Rattle.r4_search.specs.Keeping.{Shared, WereAnswered, keeping_state}
 use Rattle.r4_search.specs.Pool.{PoolState}
 use Rattle.r4_search.specs.declared.pool.FetchFault.{FetchFault}
 use Rattle.r4_search.specs.declared.pool.FetchFault.TheVariants.{Damaged}
 use Rattle.r4_seeing.specs.Looking.{met_cells}
-use Rattle.r4_spared.specs.Spared.{AreObjectsSeen}
-use Rattle.r4_suited.specs.Suited.{AreLawfulSeen}
+use Rattle.r4_extent_reaching.specs.r4_spared.Spared.{AreObjectsSeen}
+use Rattle.r4_extent_commands.specs.r4_suited.Suited.{AreLawfulSeen}
 use Rattle.r4_extent_reach.specs.Known.{HasBody, HasEdits, IsMetFor}
 use Rattle.r4_extent_reach.specs.Standing.{IsStood, IsTold, MayBeShown, stood}
 use Rattle.r4_extent_reach.proofs.Numbers.{objects_seen, stops_at_object}

@@ -12,12 +12,12 @@ use Rattle.r4_content.specs.declared.command.Command.{Command}
 use Rattle.r4_content.specs.declared.edits.Edits.{Edits as HeldEdits}
 use Rattle.r4_content.specs.declared.seen.Seen.{Seen}
 use Rattle.r4_extent_reaching.specs.Answers.{StopsWriting, is_met_besides}
-use Rattle.r4_extent_touching.specs.Holding.{StopsLeft}
+use Rattle.r4_extent_reaching.specs.r4_extent_touching.Holding.{StopsLeft}
 use Rattle.r4_reach.specs.Needs.{going_of, twig_turns}
 use Rattle.r4_reach.specs.Touched.{Body, body_key, body_of, body_on, changes_on, edits_on, kind_reads, raw_changes}
-use Rattle.r4_reaching.specs.Answers.{IsAllSeen, IsSeenIn, StopsJudging}
-use Rattle.r4_reaching.proofs.Standing.{found_on}
-use Rattle.r4_reaching.proofs.Touched.{seen_in}
+use Rattle.r4_extent_reaching.specs.r4_reaching.Answers.{IsAllSeen, IsSeenIn, StopsJudging}
+use Rattle.r4_extent_reaching.proofs.r4_reaching.Standing.{found_on}
+use Rattle.r4_extent_reaching.proofs.r4_reaching.Touched.{seen_in}
 use Rattle.r4_search.specs.Pool.{Goes, PoolState}
 use Rattle.r4_search.specs.declared.pool.FetchFault.{FetchFault}
 use Rattle.r4_search.specs.declared.pool.FetchFault.TheVariants.{Memory}

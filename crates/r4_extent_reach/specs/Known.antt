@@ -1,7 +1,7 @@
 -- What is known of a command, step by step (docs/volume.md, "Reach"). A key is its rank.
 use Rattle.std.specs.Prelude.{◌≡◌, ℕ, ◌^◌, ◌<◌, ◌≤◌, Bool, true, Option}
 use Rattle.r4_base.specs.Key.{least, top}
-use Rattle.r4_build.specs.Building.{HaveLawfulKeys}
+use Rattle.r4_extent_reaching.specs.r4_build.Building.{HaveLawfulKeys}
 use Rattle.r4_cell.specs.declared.change.Root.{Root}
 use Rattle.r4_content.specs.Edited.{Intervals, changed, is_in}
 use Rattle.r4_content.specs.Held.{edits_of, pairs_of}
@@ -11,9 +11,9 @@ use Rattle.r4_content.specs.declared.seen.Seen.{Seen}
 use Rattle.r4_extent_commands.specs.Bodies.{KeepsFileSize, LiesInBody}
 use Rattle.r4_extent_demands.specs.Sizes.{AreExtentEdits, IsSized}
 use Rattle.r4_extent_reaching.specs.Standing.{HasFileSizes}
-use Rattle.r4_leaf_edits.specs.Suiting.{SuitLeaves}
+use Rattle.r4_extent_asks.specs.r4_leaf_edits.Suiting.{SuitLeaves}
 use Rattle.r4_reach.specs.Touched.{Body, body_on, changes_on, edits_on, raw_changes}
-use Rattle.r4_reaching.specs.Answers.{IsAllSeen}
+use Rattle.r4_extent_reaching.specs.r4_reaching.Answers.{IsAllSeen}
 use Rattle.r4_search.specs.Pool.{PoolState}
 use Rattle.r4_extent_reach.specs.Meeting.{HasMet}
 use Rattle.r4_extent_reach.specs.Standing.{IsTold, stood}

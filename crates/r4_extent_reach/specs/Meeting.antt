@@ -7,11 +7,11 @@ use Rattle.r4_cell.specs.declared.change.Root.{Root}
 use Rattle.r4_content.specs.Edited.{Edits, Intervals, is_in}
 use Rattle.r4_extent_asks.specs.Demands.{DemandsSeen}
 use Rattle.r4_content.specs.Held.{edits_of}
-use Rattle.r4_extent_touching.specs.Holding.{AreHeld, AreLeftMet, StopsLeft}
+use Rattle.r4_extent_reaching.specs.r4_extent_touching.Holding.{AreHeld, AreLeftMet, StopsLeft}
 use Rattle.r4_outside.specs.Device.{State}
 use Rattle.r4_reach.specs.Needs.{going_of, twig_turns}
 use Rattle.r4_reach.specs.Touched.{Body, kind_reads}
-use Rattle.r4_reaching.specs.Gathering.{IsOneMet}
+use Rattle.r4_extent_reaching.specs.r4_reaching.Gathering.{IsOneMet}
 use Rattle.r4_search.specs.Path.{root_name}
 use Rattle.r4_search.specs.Pool.{Goes, IsKnown, IsNamed, LeavesDevice, PoolState}
 use Rattle.r4_search.specs.declared.pool.FetchFault.{FetchFault}

@@ -6,7 +6,7 @@ ghost use Rattle.r4_base.specs.Key.{rank};
 ghost use Rattle.r4_base.specs.Value.{Stat};
 ghost use Rattle.r4_base.specs.declared.items.Attr.{Attr as AttrSeen};
 ghost use Rattle.r4_content.specs.Held.{part_pairs};
-ghost use Rattle.r4_reaching.specs.Answers.{HaveObjectNumbers, SeesLowObject};
+ghost use Rattle.r4_extent_reaching.specs.r4_reaching.Answers.{HaveObjectNumbers, SeesLowObject};
 
 use r4_base::{Key, ROOT_OBJECT, Value};
 use r4_content::SeenPart;

@@ -9,7 +9,7 @@ ghost use Rattle.r4_content.specs.declared.command.Command.{Command as CommandSe
 ghost use Rattle.r4_gather.specs.Asking.{StaysOver};
 ghost use Rattle.r4_gather.specs.Finding.{asked_keys};
 ghost use Rattle.r4_reach.specs.Touched.{kind_reads};
-ghost use Rattle.r4_reaching.specs.Answers.{IsAllSeen, IsSamePool, StopsJudging};
+ghost use Rattle.r4_extent_reaching.specs.r4_reaching.Answers.{IsAllSeen, IsSamePool, StopsJudging};
 ghost use Rattle.r4_search.specs.Keeping.{Shared, keeping_state};
 ghost use Rattle.r4_search.specs.Path.{root_name};
 ghost use Rattle.r4_search.specs.Pool.{IsKnown, KeepsNone};
@@ -32,14 +32,12 @@ use r4_content::{Command, Edits, Interval, Seen};
 use r4_extent_asks::{ExtentDemands, changes_of};
 use r4_extent_commands::{bodies_keep_file_sizes, edits_lie_in_one_body};
 use r4_extent_demands::commands_of_extents_may_ask;
-use r4_extent_reaching::Reach;
+use r4_extent_reaching::{Reach, commands_change_lawful_keys, part_met};
 use r4_file::plan;
 use r4_gather::{Asked, see_for};
 use r4_marking::mark;
-use r4_reaching::part_met;
 use r4_search::{FetchFault, Keeping, Pool};
 use r4_seeing::Seeing;
-use r4_spared::commands_change_lawful_keys;
 use r4_touching::keys_asked;
 use std::alloc::Global;
 

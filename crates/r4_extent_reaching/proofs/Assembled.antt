@@ -20,13 +20,13 @@ use Rattle.r4_content.specs.Held.{edits_of, pairs_of}
 use Rattle.r4_content.specs.declared.command.Command.{Command}
 use Rattle.r4_content.specs.declared.seen.Seen.{Seen}
 use Rattle.r4_content.proofs.EditLaws.{in_append}
-use Rattle.r4_extent_demands.proofs.Meets.{keys_meet, met_keys}
-use Rattle.r4_extent_demands.proofs.PutsInto.{same_bool}
+use Rattle.r4_extent_counts.proofs.r4_extent_demands.Meets.{keys_meet, met_keys}
+use Rattle.r4_extent_counts.proofs.r4_extent_demands.PutsInto.{same_bool}
 use Rattle.r4_extent_touching.specs.Holding.{HoldsTouched, IsHeld}
 use Rattle.r4_extent_touching.proofs.Touched.{all_there}
-use Rattle.r4_marking.specs.Marks.{AreMarks, AreMarksOf, ask_seen}
-use Rattle.r4_marking.specs.declared.demands.Asking.{Asking}
-use Rattle.r4_marking.specs.declared.marking.Marks.{Marks}
+use Rattle.r4_extent_touching.specs.r4_marking.Marks.{AreMarks, AreMarksOf, ask_seen}
+use Rattle.r4_extent_touching.specs.r4_marking.declared.demands.Asking.{Asking}
+use Rattle.r4_extent_touching.specs.r4_marking.declared.marking.Marks.{Marks}
 use Rattle.r4_patch.specs.Part.{IsPart}
 use Rattle.r4_patch.proofs.Members.{cases, here, later, none}
 use Rattle.r4_patch.proofs.Members.{found as named}
@@ -43,7 +43,7 @@ use Rattle.r4_reaching.proofs.Found.{found_listed}
 use Rattle.r4_reaching.proofs.Made.{chosen_once, chosen_rise}
 use Rattle.r4_reaching.proofs.Standing.{seen_stands}
 use Rattle.r4_search.specs.Pool.{PoolState}
-use Rattle.r4_seeing.specs.Looking.{AreFound, met_cells}
+use Rattle.r4_reaching.specs.r4_seeing.Looking.{AreFound, met_cells}
 use Rattle.r4_extent_reaching.specs.Alike.{AreAlike}
 use Rattle.r4_extent_reaching.specs.Answers.{IsReach}
 use Rattle.r4_extent_counts.specs.Coming.{most_with, twig_cells}

@@ -6,7 +6,7 @@ use Rattle.r4_base.specs.Tree.{InNode, Name, Node, Root, Store}
 use Rattle.r4_base.specs.Value.{Value}
 use Rattle.r4_cell.specs.Patch.{by_name}
 use Rattle.r4_cell.specs.Seen.{CellSeen}
-use Rattle.r4_marking.specs.Marks.{AreChosen, AreMarks}
+use Rattle.r4_extent_touching.specs.r4_marking.Marks.{AreChosen, AreMarks}
 use Rattle.r4_patch.specs.Part.{IsPart}
 use Rattle.r4_reach.specs.Demand.{Demand, Spans, ask, ask_of, heard, heard_one}
 use Rattle.r4_reach.specs.Needs.{Ask}

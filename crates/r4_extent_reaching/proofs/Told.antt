@@ -14,16 +14,16 @@ use Rattle.r4_content.specs.Edited.{Pairs, is_between, is_in}
 use Rattle.r4_content.specs.Held.{part_pairs}
 use Rattle.r4_content.specs.Seen.{pairs_in}
 use Rattle.r4_content.specs.declared.seen.SeenPart.{SeenPart}
-use Rattle.r4_judging.proofs.Below.{node_says}
+use Rattle.r4_reaching.proofs.r4_judging.Below.{node_says}
 use Rattle.r4_patch.proofs.PartCells.{leaf_or_extent}
 use Rattle.r4_reach.specs.Touched.{Body, IsKindIn, has_unit, shown_at}
 use Rattle.r4_reaching.specs.Gathering.{IsPartMet}
 use Rattle.r4_search.specs.Pool.{Goes, IsOf, PoolState}
-use Rattle.r4_seeing.specs.Looking.{met_cells}
+use Rattle.r4_reaching.specs.r4_seeing.Looking.{met_cells}
 use Rattle.r4_sight.specs.Parts.{AreFull, all_pairs}
 use Rattle.r4_sight.specs.Stretches.{IsStretch}
 use Rattle.r4_sight.specs.declared.stretch.Stretch.{Stretch}
-use Rattle.r4_touching.specs.Touching.{AreHeld, IsInExtent}
+use Rattle.r4_reaching.specs.r4_touching.Touching.{AreHeld, IsInExtent}
 use Rattle.r4_extent_reaching.specs.Telling.{IsKindTold}
 
 -- ---- one key

@@ -10,7 +10,7 @@ use Rattle.r4_content.specs.Edited.{Intervals, Pairs, changed, is_in}
 use Rattle.r4_content.specs.Held.{pairs_of}
 use Rattle.r4_content.specs.declared.command.Command.{Command}
 use Rattle.r4_extent_touching.specs.Holding.{StopsLeft}
-use Rattle.r4_judging.specs.Judging.{IsSound}
+use Rattle.r4_reaching.specs.r4_judging.Judging.{IsSound}
 use Rattle.r4_reach.specs.Answer.{IsReachOf}
 use Rattle.r4_reach.specs.Needs.{demand_on, going_of, twig_turns}
 use Rattle.r4_reach.specs.Touched.{body_on, changes_on, edits_on, kind_reads}
@@ -19,8 +19,8 @@ use Rattle.r4_reaching.specs.Gathering.{AreAllMet}
 use Rattle.r4_search.specs.Pool.{PoolState}
 use Rattle.r4_search.specs.declared.pool.FetchFault.{FetchFault}
 use Rattle.r4_search.specs.declared.pool.FetchFault.TheVariants.{Damaged}
-use Rattle.r4_touching.specs.Touching.{StopsFor}
-use Rattle.r4_work.specs.Order.{AreInOrder}
+use Rattle.r4_reaching.specs.r4_touching.Touching.{StopsFor}
+use Rattle.r4_reaching.specs.r4_work.Order.{AreInOrder}
 use Rattle.r4_extent_counts.specs.Coming.{most_with}
 use Rattle.r4_extent_reaching.specs.Standing.{HasFileSizes, IsTooLong}
 use Rattle.r4_extent_reaching.specs.declared.reached.Reach.{Reach}

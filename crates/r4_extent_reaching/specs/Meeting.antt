@@ -12,14 +12,14 @@ use Rattle.r4_content.specs.declared.command.Command.{Command}
 use Rattle.r4_content.specs.declared.edits.Edits.{Edits as HeldEdits}
 use Rattle.r4_content.specs.declared.seen.Seen.{Seen}
 use Rattle.r4_extent_touching.specs.Holding.{AreHeld, AreLeftMet}
-use Rattle.r4_marking.specs.Marks.{ask_seen}
-use Rattle.r4_marking.specs.declared.marking.Marks.{Marks}
+use Rattle.r4_extent_touching.specs.r4_marking.Marks.{ask_seen}
+use Rattle.r4_extent_touching.specs.r4_marking.declared.marking.Marks.{Marks}
 use Rattle.r4_reach.specs.Leaves.{rise_of}
 use Rattle.r4_reach.specs.Needs.{demand_of, going_of}
 use Rattle.r4_reach.specs.Touched.{Body, IsKindIn, body_on, changes_on, edits_on, kind_reads}
 use Rattle.r4_reaching.specs.Answers.{IsAllSeen}
 use Rattle.r4_search.specs.Pool.{PoolState}
-use Rattle.r4_seeing.specs.Looking.{met_cells}
+use Rattle.r4_reaching.specs.r4_seeing.Looking.{met_cells}
 use Rattle.r4_extent_counts.specs.Coming.{twig_cells}
 use Rattle.r4_extent_reaching.specs.Standing.{HasFileSizes}
 use Rattle.r4_extent_reaching.specs.declared.reached.Reach.{Reach}

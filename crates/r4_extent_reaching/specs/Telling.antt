@@ -5,7 +5,7 @@ use Rattle.r4_base.specs.Tree.{Holds}
 use Rattle.r4_cell.specs.Seen.{CellSeen, node_of}
 use Rattle.r4_reach.specs.Touched.{has_unit}
 use Rattle.r4_search.specs.Pool.{PoolState}
-use Rattle.r4_touching.specs.Touching.{IsInExtent, IsInLeaf}
+use Rattle.r4_reaching.specs.r4_touching.Touching.{IsInExtent, IsInLeaf}
 
 -- The key is in the range of an extent, and a cell that was met holds it: whether that has a unit there.
 pub record IsShownBeside (p : PoolState) (key : ℕ) (in_extents : Bool) : Type 0 where

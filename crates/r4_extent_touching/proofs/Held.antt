@@ -13,8 +13,8 @@ use Rattle.r4_content.specs.Edited.{is_between, is_in}
 use Rattle.r4_content.specs.Held.{interval_of}
 use Rattle.r4_content.specs.declared.edits.Interval.{Interval}
 use Rattle.r4_search.specs.Pool.{Goes, IsOf, PoolState}
-use Rattle.r4_seeing.proofs.Hanging.{met_for, still_hung}
-use Rattle.r4_seeing.specs.Looking.{met_cells}
+use Rattle.r4_touching.proofs.r4_seeing.Hanging.{met_for, still_hung}
+use Rattle.r4_touching.specs.r4_seeing.Looking.{met_cells}
 use Rattle.r4_sight.specs.Stretches.{IsStretch, Looks}
 use Rattle.r4_sight.specs.declared.stretch.Stretch.{Stretch}
 use Rattle.r4_touching.specs.Touching.{Touches}

@@ -9,7 +9,7 @@ use Rattle.r4_base.specs.Node.{Item, items_of}
 use Rattle.r4_base.specs.Tree.{Name}
 use Rattle.r4_cell.specs.Seen.{CellSeen, node_of}
 use Rattle.r4_marking.specs.Marks.{IsChildAt, NoChildAt}
-use Rattle.r4_path.proofs.CellNodes.{names_are}
+use Rattle.r4_marking.proofs.r4_path.CellNodes.{names_are}
 use Rattle.r4_patch.proofs.Members.{here}
 use Rattle.r4_search.proofs.Walks.{goes_both}
 use Rattle.r4_search.specs.Place.{child_name}

@@ -9,8 +9,8 @@ use Rattle.r4_base.proofs.Trees.{one_cell}
 use Rattle.r4_patch.specs.Part.{IsPart}
 use Rattle.r4_patch.proofs.Holding.{block_twig, one_name, one_span}
 use Rattle.r4_patch.proofs.PartCells.{leaf_or_extent}
-use Rattle.r4_reach.specs.Demand.{Covers, Demand}
-use Rattle.r4_reach.specs.Reach.{HasTouched}
+use Rattle.r4_marking.specs.r4_reach.Demand.{Covers, Demand}
+use Rattle.r4_marking.specs.r4_reach.Reach.{HasTouched}
 use Rattle.r4_extent_touching.specs.Holding.{HoldsTouched, IsHeld}
 
 module _ (t : Store Value) (root : Root) (part : IsPart t root) where

@@ -6,11 +6,11 @@ use Rattle.r4_base.specs.Tree.{Holds, Name, Node, Store}
 use Rattle.r4_base.specs.Value.{Value}
 use Rattle.r4_cell.specs.Seen.{CellSeen, node_of}
 use Rattle.r4_marking.specs.Marks.{names_at}
-use Rattle.r4_reach.specs.Demand.{Demand}
-use Rattle.r4_reach.specs.Reach.{Touches}
+use Rattle.r4_marking.specs.r4_reach.Demand.{Demand}
+use Rattle.r4_marking.specs.r4_reach.Reach.{Touches}
 use Rattle.r4_search.specs.Pool.{Goes, IsNamed, IsRefused, PoolState}
 use Rattle.r4_search.specs.declared.pool.FetchFault.{FetchFault}
-use Rattle.r4_seeing.specs.Looking.{met_cells}
+use Rattle.r4_touching.specs.r4_seeing.Looking.{met_cells}
 
 -- A cell of the store holds the key: a leaf, a data block, or a twig with an extent of which no block has it.
 abbrev pub IsHeld : Store Value → (key : ℕ) → Type 0

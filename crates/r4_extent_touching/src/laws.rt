@@ -3,8 +3,8 @@
 ghost use Rattle.r4_base.specs.Tree.{Root, Store};
 ghost use Rattle.r4_base.specs.Value.{Value};
 ghost use Rattle.r4_patch.specs.Part.{IsPart};
-ghost use Rattle.r4_reach.specs.Demand.{Demand};
-ghost use Rattle.r4_reach.specs.Reach.{HasTouched};
+ghost use Rattle.r4_marking.specs.r4_reach.Demand.{Demand};
+ghost use Rattle.r4_marking.specs.r4_reach.Reach.{HasTouched};
 ghost use Rattle.r4_extent_touching.specs.Holding.{HoldsTouched};
 
 /// Where a part of a tree has a cell for each key that is touched which holds it, and beside each twig that turns the

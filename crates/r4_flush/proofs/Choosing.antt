@@ -19,13 +19,13 @@ use Rattle.r4_place.specs.declared.placed.How.{How}
 use Rattle.r4_place.specs.declared.placed.How.TheVariants.{Fresh, Relocate, Overwrite}
 use Rattle.r4_place.specs.declared.placed.Placed.{Placed}
 use Rattle.r4_place.proofs.ChosenCells.{fresh_unused}
-use Rattle.r4_wander.proofs.Members.{any_cases, any_here, any_later}
-use Rattle.r4_commit.specs.Places.{place_of}
-use Rattle.r4_commit.specs.Plannable.{is_marked_in}
-use Rattle.r4_commit.proofs.PlanFacts.{given_fresh, in_fresh}
-use Rattle.r4_commit.proofs.Safety.{not_taken}
-use Rattle.r4_sealed.specs.Commits.{spot_of}
-use Rattle.r4_placed.proofs.Planning.{below_or, fresh_given, old_kept, or_first}
+use Rattle.r4_flushed.proofs.r4_wander.Members.{any_cases, any_here, any_later}
+use Rattle.r4_flushed.specs.r4_commit.Places.{place_of}
+use Rattle.r4_flushed.specs.r4_commit.Plannable.{is_marked_in}
+use Rattle.r4_flushed.proofs.r4_commit.PlanFacts.{given_fresh, in_fresh}
+use Rattle.r4_flushed.proofs.r4_commit.Safety.{not_taken}
+use Rattle.r4_flushed.specs.r4_sealed.Commits.{spot_of}
+use Rattle.r4_flushed.proofs.r4_placed.Planning.{below_or, fresh_given, old_kept, or_first}
 use Rattle.r4_flush.specs.Anew.{AreMade, BecomeBlocks, new_name}
 use Rattle.r4_flush.specs.Asked.{StandsIn, fresh_cell}
 

@@ -21,13 +21,13 @@ use Rattle.r4_place.specs.Chosen.{AreChosen, IsChosen, behind, fresh_blocks, pla
 use Rattle.r4_place.specs.declared.placed.How.{How}
 use Rattle.r4_place.specs.declared.placed.How.TheVariants.{Fresh, Relocate, Overwrite}
 use Rattle.r4_place.specs.declared.placed.Placed.{Placed}
-use Rattle.r4_wander.proofs.Members.{any_cases, any_here, any_later}
-use Rattle.r4_commit.specs.Places.{place_of}
-use Rattle.r4_commit.specs.Planned.{IsPlanFor}
-use Rattle.r4_sealed.specs.Commits.{HasPlan}
-use Rattle.r4_sets.specs.Renaming.{IsRenamed}
-use Rattle.r4_sets.specs.Session.{Session}
-use Rattle.r4_placed.specs.Flushing.{Flushing, IsAtRest, answers_by_block, cells_by_block, commit_by_block, name_after}
+use Rattle.r4_flushed.proofs.r4_wander.Members.{any_cases, any_here, any_later}
+use Rattle.r4_flushed.specs.r4_commit.Places.{place_of}
+use Rattle.r4_flushed.specs.r4_commit.Planned.{IsPlanFor}
+use Rattle.r4_flushed.specs.r4_sealed.Commits.{HasPlan}
+use Rattle.r4_flushed.specs.r4_sets.Renaming.{IsRenamed}
+use Rattle.r4_flushed.specs.r4_sets.Session.{Session}
+use Rattle.r4_flushed.specs.r4_placed.Flushing.{Flushing, IsAtRest, answers_by_block, cells_by_block, commit_by_block, name_after}
 use Rattle.r4_flushed.specs.Flushed.{IsFlush, MayStand}
 use Rattle.r4_flush.specs.Anew.{AreMade, BecomeBlocks, IsCellAnew, new_name}
 use Rattle.r4_flush.specs.Joined.{AreOwnCells, NameNoneChosen, flushed_cell, flushed_cells, flushing_of}

@@ -22,15 +22,15 @@ use Rattle.r4_space.specs.Space.{Space}
 use Rattle.r4_place.specs.Chosen.{AreChosen, behind, fresh_blocks, placed_in}
 use Rattle.r4_place.specs.declared.placed.Placed.{Placed}
 use Rattle.r4_twig.proofs.Faults.{body_lawful}
-use Rattle.r4_wander.proofs.Members.{any_here, any_later, from_map, in_map}
-use Rattle.r4_commit.specs.Places.{block_given, place_of}
-use Rattle.r4_sealed.specs.Commits.{spot, spot_of}
-use Rattle.r4_sets.specs.Renaming.{IsRenamed}
-use Rattle.r4_placed.specs.Flushing.{Flushing, IsAtRest, moves, name_after}
-use Rattle.r4_placed.specs.RenamedItems.{AreItemsRenamed, AreUnitsRenamed, IsItemRenamed, IsUnitRenamed}
-use Rattle.r4_placed.proofs.Planning.{below_or, fresh_spot, from_pairs, none_or, old_spot, renamed_cell}
-use Rattle.r4_placed.proofs.RenamingItems.{cell_renamed}
-use Rattle.r4_placed.proofs.Swapped.{swap_stays}
+use Rattle.r4_flushed.proofs.r4_wander.Members.{any_here, any_later, from_map, in_map}
+use Rattle.r4_flushed.specs.r4_commit.Places.{block_given, place_of}
+use Rattle.r4_flushed.specs.r4_sealed.Commits.{spot, spot_of}
+use Rattle.r4_flushed.specs.r4_sets.Renaming.{IsRenamed}
+use Rattle.r4_flushed.specs.r4_placed.Flushing.{Flushing, IsAtRest, moves, name_after}
+use Rattle.r4_flushed.specs.r4_placed.RenamedItems.{AreItemsRenamed, AreUnitsRenamed, IsItemRenamed, IsUnitRenamed}
+use Rattle.r4_flushed.proofs.r4_placed.Planning.{below_or, fresh_spot, from_pairs, none_or, old_spot, renamed_cell}
+use Rattle.r4_flushed.proofs.r4_placed.RenamingItems.{cell_renamed}
+use Rattle.r4_flushed.proofs.r4_placed.Swapped.{swap_stays}
 use Rattle.r4_flush.specs.Anew.{AreItemsAnew, BecomeBlocks, IsCellAnew, IsItemAnew, new_name, unit_anew}
 use Rattle.r4_flush.proofs.Faults.{extent_fault_on, high_fixed, not_kind}
 

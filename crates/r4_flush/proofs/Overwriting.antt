@@ -8,9 +8,9 @@ use Rattle.r4_cell.specs.Seen.{CellSeen}
 use Rattle.r4_space.specs.Accounts.{price_formula}
 use Rattle.r4_place.specs.Chosen.{block_of, fresh_blocks}
 use Rattle.r4_place.specs.declared.placed.Placed.{Placed}
-use Rattle.r4_commit.specs.Places.{kept_at, overwritten, overwritten_blocks, place_of}
-use Rattle.r4_placed.specs.Flushing.{answers_by_block}
-use Rattle.r4_placed.proofs.Planning.{kept_from}
+use Rattle.r4_flushed.specs.r4_commit.Places.{kept_at, overwritten, overwritten_blocks, place_of}
+use Rattle.r4_flushed.specs.r4_placed.Flushing.{answers_by_block}
+use Rattle.r4_flushed.proofs.r4_placed.Planning.{kept_from}
 use Rattle.r4_flush.proofs.Choosing.{all_of}
 
 -- the same blocks are placed

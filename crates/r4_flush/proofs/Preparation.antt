@@ -16,8 +16,8 @@ use Rattle.r4_space.specs.Lawful.{IsLawful}
 use Rattle.r4_space.specs.Space.{Space, unused_count}
 use Rattle.r4_place.specs.Chosen.{AreChosen, placed_all}
 use Rattle.r4_place.specs.declared.placed.Placed.{Placed}
-use Rattle.r4_wander.proofs.Members.{any_cases, any_here, any_later}
-use Rattle.r4_commit.specs.Places.{place_of}
+use Rattle.r4_flushed.proofs.r4_wander.Members.{any_cases, any_here, any_later}
+use Rattle.r4_flushed.specs.r4_commit.Places.{place_of}
 use Rattle.r4_flush.specs.Anew.{AreMade, BecomeBlocks, new_name}
 use Rattle.r4_flush.specs.Asked.{StandsIn, fresh_cell, fresh_count}
 use Rattle.r4_flush.specs.Prepared.{WasCell, cells_of}

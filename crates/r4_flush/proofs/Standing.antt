@@ -10,12 +10,12 @@ use Rattle.r4_content.specs.Locality.{Meaning}
 use Rattle.r4_content.specs.declared.command.Command.{Command}
 use Rattle.r4_content.specs.declared.reply.Reply.{Reply}
 use Rattle.r4_place.specs.Chosen.{fresh_blocks}
-use Rattle.r4_commit.specs.Plannable.{is_marked_in}
-use Rattle.r4_sealed.specs.Commits.{spot, spot_of}
-use Rattle.r4_sets.specs.Session.{Session, Sets}
-use Rattle.r4_sets.proofs.Applied.{memory_stands}
-use Rattle.r4_placed.specs.Flushing.{Flushing, IsAtRest}
-use Rattle.r4_placed.proofs.Planning.{cell_marked, fresh_free, fresh_of, unowned_from}
+use Rattle.r4_flushed.specs.r4_commit.Plannable.{is_marked_in}
+use Rattle.r4_flushed.specs.r4_sealed.Commits.{spot, spot_of}
+use Rattle.r4_flushed.specs.r4_sets.Session.{Session, Sets}
+use Rattle.r4_flushed.proofs.r4_sets.Applied.{memory_stands}
+use Rattle.r4_flushed.specs.r4_placed.Flushing.{Flushing, IsAtRest}
+use Rattle.r4_flushed.proofs.r4_placed.Planning.{cell_marked, fresh_free, fresh_of, unowned_from}
 use Rattle.r4_flushed.specs.Flushed.{OwnsBlocks}
 use Rattle.r4_flush.specs.Joined.{NameNoneChosen}
 

@@ -15,7 +15,7 @@ use Rattle.r4_base.specs.declared.limits.TheConstants.{UNPLACED}
 use Rattle.r4_base.specs.declared.things.BlockNo.{BlockNo}
 use Rattle.r4_cell.specs.Seen.{CellSeen}
 use Rattle.r4_node40.specs.Laid.{KeepsFree, SameHead, WritesBody, room_of}
-use Rattle.r4_sealed.specs.Commits.{spot_of}
+use Rattle.r4_flushed.specs.r4_sealed.Commits.{spot_of}
 
 -- ---- names
 

@@ -13,8 +13,8 @@ use Rattle.r4_cell.specs.Seen.{CellSeen, node_of}
 use Rattle.r4_space.specs.Space.{Space}
 use Rattle.r4_place.specs.Chosen.{fresh_blocks}
 use Rattle.r4_place.specs.declared.placed.Placed.{Placed}
-use Rattle.r4_sets.specs.Session.{Session}
-use Rattle.r4_placed.specs.Flushing.{Flushing}
+use Rattle.r4_flushed.specs.r4_sets.Session.{Session}
+use Rattle.r4_flushed.specs.r4_placed.Flushing.{Flushing}
 use Rattle.r4_flush.specs.declared.cells.RenamedCell.{RenamedCell}
 use Rattle.r4_flush.specs.declared.preparing.Prepared.{Prepared}
 

@@ -9,9 +9,9 @@ use Rattle.r4_cell.specs.Seen.{CellSeen}
 use Rattle.r4_space.specs.Space.{Space}
 use Rattle.r4_place.specs.Chosen.{AreChosen, placed_all}
 use Rattle.r4_place.specs.declared.placed.Placed.{Placed}
-use Rattle.r4_commit.specs.Places.{place_of}
-use Rattle.r4_commit.specs.Planned.{CommitSeen, IsPlanned}
-use Rattle.r4_placed.specs.Flushing.{answers_by_block}
+use Rattle.r4_flushed.specs.r4_commit.Places.{place_of}
+use Rattle.r4_flushed.specs.r4_commit.Planned.{CommitSeen, IsPlanned}
+use Rattle.r4_flushed.specs.r4_placed.Flushing.{answers_by_block}
 use Rattle.r4_work.specs.Order.{AreInOrder}
 use Rattle.r4_flush.specs.Anew.{AreMade, IsCellAnew, new_name}
 use Rattle.r4_flush.specs.declared.cells.RenamedCell.{RenamedCell}

@@ -3,8 +3,8 @@
 ghost use Rattle.std.specs.Prelude.{◌≡◌, ℕ, IfOk};
 ghost use Rattle.std.specs.Ordering.{nat_cmp};
 ghost use Rattle.std.specs.BTreeMap.{get};
-ghost use Rattle.r4_commit.specs.Places.{block_given, place_of};
-ghost use Rattle.r4_placed.specs.Flushing.{answer_by_block, answers_by_block};
+ghost use Rattle.r4_flushed.specs.r4_commit.Places.{block_given, place_of};
+ghost use Rattle.r4_flushed.specs.r4_placed.Flushing.{answer_by_block, answers_by_block};
 ghost use Rattle.r4_flush.specs.Anew.{new_name};
 
 use r4_base::{BlockNo, Memory, NodeId};

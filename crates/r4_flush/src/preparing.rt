@@ -13,7 +13,7 @@ use crate::cells::{RenamedCell, rename_cells};
 use crate::names::{by_block, new_name, read_names};
 use r4_base::{AtomNo, BlockNo, Memory, NodeId, Super40};
 use r4_cell::Cell;
-use r4_commit::{CommitPlan, plan};
+use r4_flushed::{CommitPlan, plan};
 use r4_place::{Placed, choose};
 use r4_space::SpaceMap;
 use r4_work::by_place;

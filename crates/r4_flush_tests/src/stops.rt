@@ -2,19 +2,17 @@
 //! torn or go back. What is left is the volume of the first atoms that were committed.
 
 ghost use Rattle.std.specs.Prelude.{IfOk};
-ghost use Rattle.r4_next.specs.Taking.{BuildsIfWork};
-ghost use Rattle.r4_next.specs.r4_take.Sending.{CanBeBuilt};
+ghost use Rattle.r4_apply.specs.r4_next.Taking.{BuildsIfWork};
+ghost use Rattle.r4_apply.specs.r4_take.Sending.{CanBeBuilt};
 
-use r4_apply::{Applied, apply};
+use r4_apply::{Applied, Core, OpenFault, Taken, apply, flush, take};
 use r4_base::AtomNo;
 use r4_build::{Task, build};
 use r4_devices::StopDevice;
 use r4_list::list;
 use r4_mkfs::mkfs;
-use r4_next::{Core, OpenFault, Taken, take};
 use r4_outside::{MemoryDevice, MemorySink, OpenGate, Unnamed};
 use r4_script::parse;
-use r4_seal::flush;
 use r4_trace::{Entry, Trace};
 use std::alloc::Global;
 use std::process::Abort;

@@ -10,23 +10,23 @@ use Rattle.r4_base.specs.Value.{Content, Value}
 use Rattle.r4_base.specs.declared.things.AtomNo.{AtomNo}
 use Rattle.r4_base.specs.declared.things.NodeId.{NodeId}
 use Rattle.r4_base.proofs.Choices.{never_both}
-use Rattle.r4_space.specs.Accounts.{is_atom}
-use Rattle.r4_space.specs.Space.{Space, claims_of, claims_without, is_block, is_claimed, merged, renamed, settled}
-use Rattle.r4_space.specs.declared.things.Claim.{Claim}
-use Rattle.r4_trace.specs.Traced.{renamed_atom}
-use Rattle.r4_place.specs.Chosen.{placed_all}
-use Rattle.r4_place.proofs.ChosenCells.{rest_stays}
-use Rattle.r4_sets.specs.Atoms.{committed, fused, opened, without}
-use Rattle.r4_sets.specs.Session.{Session, only, picks}
-use Rattle.r4_sealed.specs.Commits.{is_freed}
-use Rattle.r4_sealed.proofs.Settled.{freed_alone}
+use Rattle.r4_placed.specs.r4_space.Accounts.{is_atom}
+use Rattle.r4_placed.specs.r4_space.Space.{Space, claims_of, claims_without, is_block, is_claimed, merged, renamed, settled}
+use Rattle.r4_placed.specs.r4_space.declared.things.Claim.{Claim}
+use Rattle.r4_placed.specs.r4_trace.Traced.{renamed_atom}
+use Rattle.r4_placed.specs.r4_place.Chosen.{placed_all}
+use Rattle.r4_placed.proofs.r4_place.ChosenCells.{rest_stays}
+use Rattle.r4_placed.specs.r4_sets.Atoms.{committed, fused, opened, without}
+use Rattle.r4_placed.specs.r4_sets.Session.{Session, only, picks}
+use Rattle.r4_placed.specs.r4_sealed.Commits.{is_freed}
+use Rattle.r4_placed.proofs.r4_sealed.Settled.{freed_alone}
 use Rattle.r4_flushed.specs.Deferred.{AreDeferred, AreDeferredBut, IsDeferred}
 use Rattle.r4_flushed.specs.Flushed.{AreFlushed, AreUnowned, IsGone, sealed_to, with_flushed}
 use Rattle.r4_placed.specs.Flushing.{Flushing, IsAtRest}
 use Rattle.r4_flushed.proofs.Gathering.{spot_or_not}
 use Rattle.r4_flushed.proofs.Owned.{no_owner, still_owned}
 use Rattle.r4_placed.proofs.Planning.{below_or, old_spot}
-use Rattle.r4_sealed.proofs.NewCells.{or_second}
+use Rattle.r4_placed.proofs.r4_sealed.NewCells.{or_second}
 
 -- ---- claims of an atom
 

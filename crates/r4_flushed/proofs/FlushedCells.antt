@@ -11,20 +11,20 @@ use Rattle.r4_base.specs.Bitmap.{is_fixed}
 use Rattle.r4_base.specs.Key.{rank}
 use Rattle.r4_base.specs.Tree.{IsTree, Node, Root, Store}
 use Rattle.r4_base.specs.Value.{Content, Value}
-use Rattle.r4_cell.specs.OnDisk.{AreBlocks}
-use Rattle.r4_cell.specs.Seen.{CellSeen, node_of}
-use Rattle.r4_space.specs.Space.{Space}
-use Rattle.r4_sets.proofs.Carried.{not_true}
-use Rattle.r4_place.specs.Chosen.{placed_all}
-use Rattle.r4_place.proofs.ChosenCells.{rest_stays}
-use Rattle.r4_wander.specs.declared.plan.LogPlan.{LogPlan}
-use Rattle.r4_commit.specs.Places.{place_of}
-use Rattle.r4_commit.specs.Plannable.{is_marked_in}
-use Rattle.r4_sets.specs.Session.{Session, only, picks, cells as cells_with}
+use Rattle.r4_placed.specs.r4_cell.OnDisk.{AreBlocks}
+use Rattle.r4_placed.specs.r4_cell.Seen.{CellSeen, node_of}
+use Rattle.r4_placed.specs.r4_space.Space.{Space}
+use Rattle.r4_placed.proofs.r4_sets.Carried.{not_true}
+use Rattle.r4_placed.specs.r4_place.Chosen.{placed_all}
+use Rattle.r4_placed.proofs.r4_place.ChosenCells.{rest_stays}
+use Rattle.r4_placed.specs.r4_wander.declared.plan.LogPlan.{LogPlan}
+use Rattle.r4_placed.specs.r4_commit.Places.{place_of}
+use Rattle.r4_placed.specs.r4_commit.Plannable.{is_marked_in}
+use Rattle.r4_placed.specs.r4_sets.Session.{Session, only, picks, cells as cells_with}
 use Rattle.r4_placed.specs.Flushing.{Flushing, IsAtRest, commit_of, name_after}
 use Rattle.r4_flushed.specs.Flushed.{IsFlushed}
-use Rattle.r4_sealed.specs.Written.{ComesFrom, Frees}
-use Rattle.r4_sealed.specs.Commits.{is_freed, spot}
+use Rattle.r4_placed.specs.r4_sealed.Written.{ComesFrom, Frees}
+use Rattle.r4_placed.specs.r4_sealed.Commits.{is_freed, spot}
 use Rattle.r4_placed.proofs.Planning.{below_or, cell_marked, fresh_free, kept_from, old_spot, placed_spot}
 use Rattle.r4_placed.proofs.Planning.{renamed_cell, renamed_not, renamed_twice, same_count, same_marks, spot_block}
 

@@ -10,15 +10,15 @@ use Rattle.r4_base.specs.Image.{AreDifferent}
 use Rattle.r4_base.specs.Tree.{Name, Node, Store}
 use Rattle.r4_base.specs.Value.{Content, Value}
 use Rattle.r4_base.proofs.Members.{member_or_not}
-use Rattle.r4_cell.specs.Seen.{CellSeen, node_of}
-use Rattle.r4_place.specs.declared.placed.Placed.{Placed}
-use Rattle.r4_commit.specs.Plannable.{is_marked_in}
-use Rattle.r4_wander.proofs.Members.{any_cases, any_here, any_later, from_map, in_map}
-use Rattle.r4_sets.specs.Renaming.{IsRenamed, renamed_name}
-use Rattle.r4_sets.specs.Session.{Session, only, picks, cells as cells_with}
+use Rattle.r4_placed.specs.r4_cell.Seen.{CellSeen, node_of}
+use Rattle.r4_placed.specs.r4_place.declared.placed.Placed.{Placed}
+use Rattle.r4_placed.specs.r4_commit.Plannable.{is_marked_in}
+use Rattle.r4_placed.proofs.r4_wander.Members.{any_cases, any_here, any_later, from_map, in_map}
+use Rattle.r4_placed.specs.r4_sets.Renaming.{IsRenamed, renamed_name}
+use Rattle.r4_placed.specs.r4_sets.Session.{Session, only, picks, cells as cells_with}
 use Rattle.r4_flushed.specs.Flushed.{AreFlushed, IsFlushed, cell_at, with_flushed}
 use Rattle.r4_placed.specs.Flushing.{Flushing, IsAtRest, name_after}
-use Rattle.r4_sealed.specs.Commits.{spot}
+use Rattle.r4_placed.specs.r4_sealed.Commits.{spot}
 use Rattle.r4_flushed.proofs.FlushedCells.{picks_cases}
 use Rattle.r4_placed.proofs.Planning.{below_or, cell_marked, fresh_free, low_spot, old_spot, renamed_cell}
 use Rattle.r4_placed.proofs.Planning.{renamed_not, renamed_twice, same_spot}

@@ -9,16 +9,16 @@ use Rattle.r4_base.specs.Tree.{Name, Node, Store}
 use Rattle.r4_base.specs.Value.{Content, Value}
 use Rattle.r4_base.specs.Volume.{HasContent, root_of}
 use Rattle.r4_base.proofs.Members.{no_member}
-use Rattle.r4_cell.specs.Seen.{CellSeen, node_of}
-use Rattle.r4_space.specs.Space.{freed_by, is_claimed, up_to}
-use Rattle.r4_space.specs.declared.things.Claim.{Claim}
-use Rattle.r4_wander.proofs.Members.{any_cases, any_here}
-use Rattle.r4_sets.specs.Renaming.{IsRenamed, IsRenaming, renamed_name}
-use Rattle.r4_sets.specs.Session.{Session, only, picks, cells as cells_with}
+use Rattle.r4_placed.specs.r4_cell.Seen.{CellSeen, node_of}
+use Rattle.r4_placed.specs.r4_space.Space.{freed_by, is_claimed, up_to}
+use Rattle.r4_placed.specs.r4_space.declared.things.Claim.{Claim}
+use Rattle.r4_placed.proofs.r4_wander.Members.{any_cases, any_here}
+use Rattle.r4_placed.specs.r4_sets.Renaming.{IsRenamed, IsRenaming, renamed_name}
+use Rattle.r4_placed.specs.r4_sets.Session.{Session, only, picks, cells as cells_with}
 use Rattle.r4_flushed.specs.Flushed.{IsSealedTo, MayStand}
 use Rattle.r4_placed.specs.Flushing.{Flushing, IsAtRest, swapped, moves, name_after}
 use Rattle.r4_flushed.specs.Sample.{IsOfOne, overwrites, took, with_one}
-use Rattle.r4_sealed.specs.Commits.{is_freed, spot, spot_of}
+use Rattle.r4_placed.specs.r4_sealed.Commits.{is_freed, spot, spot_of}
 
 one_of : (x y : CellSeen) → Contains (x ∷ []) y → y ≡ x
 one_of x y one = ⊎_elim (λ is. is) (λ no. absurd (nothing_in y no)) (any_cases x [] y one)

@@ -5,7 +5,7 @@ use Rattle.std.specs.Option.{option_map}
 use Rattle.std.proofs.lemmas.Bool.{eq-eqb}
 use Rattle.r4_base.specs.Tree.{Node, Root, Store}
 use Rattle.r4_base.specs.Value.{Content, Value}
-use Rattle.r4_cell.specs.Patch.{Patch}
+use Rattle.r4_placed.specs.r4_cell.Patch.{Patch}
 use Rattle.r4_content.specs.Locality.{Meaning}
 use Rattle.r4_content.specs.declared.command.Command.{Command}
 use Rattle.r4_content.specs.declared.reply.Reply.{Reply}
@@ -13,10 +13,10 @@ use Rattle.r4_base.specs.declared.things.AtomNo.{AtomNo}
 use Rattle.r4_base.specs.declared.things.NodeId.{NodeId}
 use Rattle.r4_base.specs.declared.things.ScriptNo.{ScriptNo}
 use Rattle.r4_base.specs.declared.things.TxnNo.{TxnNo}
-use Rattle.r4_trace.specs.Traced.{atom_in, renamed_atom}
-use Rattle.r4_sets.specs.Atoms.{committed, fused, opened, without}
-use Rattle.r4_sets.specs.Change.{Applies, IsFree, applied, touches}
-use Rattle.r4_sets.specs.Session.{Session, Sets}
+use Rattle.r4_placed.specs.r4_trace.Traced.{atom_in, renamed_atom}
+use Rattle.r4_placed.specs.r4_sets.Atoms.{committed, fused, opened, without}
+use Rattle.r4_placed.specs.r4_sets.Change.{Applies, IsFree, applied, touches}
+use Rattle.r4_placed.specs.r4_sets.Session.{Session, Sets}
 use Rattle.r4_flushed.specs.Flushed.{AreFlushed, OwnsBlocks, sealed_to, with_flushed}
 use Rattle.r4_placed.specs.Flushing.{Flushing, IsAtRest}
 use Rattle.r4_flushed.proofs.FlushedCells.{picks_cases}

@@ -9,19 +9,19 @@ use Rattle.r4_base.proofs.Choices.{never_both}
 use Rattle.r4_base.specs.Tree.{Fits, IsData, IsTree, Name, Node, Store}
 use Rattle.r4_base.specs.Value.{Content, Value}
 use Rattle.r4_base.proofs.Trees.{has_parent}
-use Rattle.r4_cell.specs.Seen.{CellSeen, node_of}
+use Rattle.r4_placed.specs.r4_cell.Seen.{CellSeen, node_of}
 use Rattle.r4_content.specs.Locality.{Meaning}
 use Rattle.r4_content.specs.declared.command.Command.{Command}
 use Rattle.r4_content.specs.declared.reply.Reply.{Reply}
-use Rattle.r4_commit.specs.Plannable.{is_marked_in}
-use Rattle.r4_sets.specs.Atoms.{without}
-use Rattle.r4_sets.specs.Renaming.{IsRenamed, renamed_name}
-use Rattle.r4_sets.specs.Session.{Session, Sets, only, picks, root_with, cells as cells_with}
-use Rattle.r4_sets.proofs.Applied.{memory_stands}
-use Rattle.r4_sets.proofs.Gathered.{under_stands}
+use Rattle.r4_placed.specs.r4_commit.Plannable.{is_marked_in}
+use Rattle.r4_placed.specs.r4_sets.Atoms.{without}
+use Rattle.r4_placed.specs.r4_sets.Renaming.{IsRenamed, renamed_name}
+use Rattle.r4_placed.specs.r4_sets.Session.{Session, Sets, only, picks, root_with, cells as cells_with}
+use Rattle.r4_placed.proofs.r4_sets.Applied.{memory_stands}
+use Rattle.r4_placed.proofs.r4_sets.Gathered.{under_stands}
 use Rattle.r4_flushed.specs.Flushed.{AreFlushed, AreUnowned, IsSealedTo, cell_at, with_flushed}
 use Rattle.r4_placed.specs.Flushing.{Flushing, IsAtRest, moves, name_after}
-use Rattle.r4_sealed.specs.Commits.{spot}
+use Rattle.r4_placed.specs.r4_sealed.Commits.{spot}
 use Rattle.r4_flushed.proofs.FlushedCells.{none_some, picks_cases}
 use Rattle.r4_flushed.proofs.Gathering.{flushed, found_in, spot_or_not}
 use Rattle.r4_placed.proofs.Planning.{below_or, cell_marked, fresh_free, from_pairs, old_spot, renamed_cell}

@@ -4,15 +4,15 @@ use Rattle.std.specs.Prelude.{Contains}
 use Rattle.std.proofs.lemmas.Bool.{eq-eqb}
 use Rattle.r4_base.specs.Tree.{Store}
 use Rattle.r4_base.specs.Value.{Content, Value}
-use Rattle.r4_cell.specs.Seen.{CellSeen}
+use Rattle.r4_placed.specs.r4_cell.Seen.{CellSeen}
 use Rattle.r4_content.specs.Locality.{Meaning}
 use Rattle.r4_content.specs.declared.command.Command.{Command}
 use Rattle.r4_content.specs.declared.reply.Reply.{Reply}
-use Rattle.r4_sets.specs.Atoms.{sealed, without}
-use Rattle.r4_sets.specs.Session.{Session, Sets}
-use Rattle.r4_sets.proofs.Gathered.{sealed_sets}
-use Rattle.r4_sets.proofs.Renamed.{renamed_sets}
-use Rattle.r4_sealed.specs.Commits.{spot}
+use Rattle.r4_placed.specs.r4_sets.Atoms.{sealed, without}
+use Rattle.r4_placed.specs.r4_sets.Session.{Session, Sets}
+use Rattle.r4_placed.proofs.r4_sets.Gathered.{sealed_sets}
+use Rattle.r4_placed.proofs.r4_sets.Renamed.{renamed_sets}
+use Rattle.r4_placed.specs.r4_sealed.Commits.{spot}
 use Rattle.r4_flushed.specs.Flushed.{IsSealedTo, sealed_to}
 use Rattle.r4_placed.specs.Flushing.{Flushing, IsAtRest, moves, name_after}
 use Rattle.r4_placed.proofs.Planning.{below_or, from_pairs, old_spot}

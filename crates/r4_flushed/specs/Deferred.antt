@@ -1,8 +1,8 @@
 -- Which blocks are deferred for the open atoms of a session (docs/durable.md).
 use Rattle.std.specs.Prelude.{◌≡◌, ◌≢◌, ◌↔◌, ℕ, true, Some}
 use Rattle.r4_base.specs.declared.things.AtomNo.{AtomNo}
-use Rattle.r4_space.specs.Space.{Space, claims_of, is_claimed}
-use Rattle.r4_sets.specs.Session.{Session}
+use Rattle.r4_placed.specs.r4_space.Space.{Space, claims_of, is_claimed}
+use Rattle.r4_placed.specs.r4_sets.Session.{Session}
 use Rattle.r4_flushed.specs.Flushed.{IsGone}
 
 -- the block is deferred for the atom

@@ -7,12 +7,12 @@ use Rattle.r4_base.specs.Key.{rank}
 use Rattle.r4_base.specs.Tree.{Node, Store}
 use Rattle.r4_base.specs.Value.{Value}
 use Rattle.r4_base.specs.declared.things.AtomNo.{AtomNo}
-use Rattle.r4_cell.specs.Seen.{CellSeen, node_of}
-use Rattle.r4_place.specs.declared.placed.Placed.{Placed}
-use Rattle.r4_sets.specs.Atoms.{sealed, without}
-use Rattle.r4_sets.specs.Renaming.{IsRenamed, IsRenaming, renamed}
-use Rattle.r4_sets.specs.Session.{Session, only, picks, cells as cells_with}
-use Rattle.r4_sealed.specs.Commits.{is_freed, spot}
+use Rattle.r4_placed.specs.r4_cell.Seen.{CellSeen, node_of}
+use Rattle.r4_placed.specs.r4_place.declared.placed.Placed.{Placed}
+use Rattle.r4_placed.specs.r4_sets.Atoms.{sealed, without}
+use Rattle.r4_placed.specs.r4_sets.Renaming.{IsRenamed, IsRenaming, renamed}
+use Rattle.r4_placed.specs.r4_sets.Session.{Session, only, picks, cells as cells_with}
+use Rattle.r4_placed.specs.r4_sealed.Commits.{is_freed, spot}
 use Rattle.r4_placed.specs.Flushing.{Flushing, name_after}
 
 -- the cell may stand in memory

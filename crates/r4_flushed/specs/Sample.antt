@@ -6,13 +6,13 @@ use Rattle.r4_base.specs.Tree.{Root, Store}
 use Rattle.r4_base.specs.Value.{Content, Value}
 use Rattle.r4_base.specs.Volume.{HasContent}
 use Rattle.r4_base.specs.declared.things.AtomNo.{AtomNo}
-use Rattle.r4_cell.specs.Seen.{CellSeen, node_of}
-use Rattle.r4_space.specs.Lawful.{IsLawful}
-use Rattle.r4_place.specs.declared.placed.How.TheVariants.{Overwrite}
-use Rattle.r4_place.specs.declared.placed.Placed.{Placed}
-use Rattle.r4_sets.specs.Atoms.{opened}
-use Rattle.r4_sets.specs.Session.{Session}
-use Rattle.r4_sealed.specs.Written.{IsSpaceOf}
+use Rattle.r4_placed.specs.r4_cell.Seen.{CellSeen, node_of}
+use Rattle.r4_placed.specs.r4_space.Lawful.{IsLawful}
+use Rattle.r4_placed.specs.r4_place.declared.placed.How.TheVariants.{Overwrite}
+use Rattle.r4_placed.specs.r4_place.declared.placed.Placed.{Placed}
+use Rattle.r4_placed.specs.r4_sets.Atoms.{opened}
+use Rattle.r4_placed.specs.r4_sets.Session.{Session}
+use Rattle.r4_placed.specs.r4_sealed.Written.{IsSpaceOf}
 use Rattle.r4_placed.specs.Flushing.{Flushing}
 
 abbrev pub overwrites : CellSeen → List Placed

@@ -8,24 +8,24 @@ ghost use Rattle.r4_base.specs.declared.things.AtomNo.{AtomNo};
 ghost use Rattle.r4_base.specs.declared.things.NodeId.{NodeId};
 ghost use Rattle.r4_base.specs.declared.things.ScriptNo.{ScriptNo};
 ghost use Rattle.r4_base.specs.declared.things.TxnNo.{TxnNo};
-ghost use Rattle.r4_cell.specs.Patch.{Patch};
+ghost use Rattle.r4_placed.specs.r4_cell.Patch.{Patch};
 ghost use Rattle.r4_content.specs.Locality.{Meaning};
 ghost use Rattle.r4_content.specs.declared.command.Command.{Command};
 ghost use Rattle.r4_content.specs.declared.reply.Reply.{Reply};
-ghost use Rattle.r4_place.specs.Chosen.{placed_all};
-ghost use Rattle.r4_wander.specs.declared.plan.LogPlan.{LogPlan};
-ghost use Rattle.r4_sets.specs.Atoms.{committed, fused, opened};
-ghost use Rattle.r4_sets.specs.Change.{Applies, applied, touches};
-ghost use Rattle.r4_sets.specs.Session.{Session, Sets};
-ghost use Rattle.r4_sealed.specs.Commits.{is_freed};
-ghost use Rattle.r4_space.specs.Space.{Space, merged, settled};
+ghost use Rattle.r4_placed.specs.r4_place.Chosen.{placed_all};
+ghost use Rattle.r4_placed.specs.r4_wander.declared.plan.LogPlan.{LogPlan};
+ghost use Rattle.r4_placed.specs.r4_sets.Atoms.{committed, fused, opened};
+ghost use Rattle.r4_placed.specs.r4_sets.Change.{Applies, applied, touches};
+ghost use Rattle.r4_placed.specs.r4_sets.Session.{Session, Sets};
+ghost use Rattle.r4_placed.specs.r4_sealed.Commits.{is_freed};
+ghost use Rattle.r4_placed.specs.r4_space.Space.{Space, merged, settled};
 ghost use Rattle.r4_flushed.specs.Deferred.{AreDeferred, AreDeferredBut};
-ghost use Rattle.r4_sealed.specs.Written.{ComesFrom, Frees};
+ghost use Rattle.r4_placed.specs.r4_sealed.Written.{ComesFrom, Frees};
 ghost use Rattle.r4_flushed.specs.Flushed.{AreFlushed, AreUnowned, IsFlushed, IsGone, IsSealedTo};
 ghost use Rattle.r4_flushed.specs.Flushed.{OwnsBlocks, sealed_to, with_flushed};
 ghost use Rattle.r4_placed.specs.Flushing.{Flushing, IsAtRest, commit_by_block, commit_of};
 
-use r4_cell::on_disk_law;
+use r4_placed::on_disk_law;
 
 /// The committed cells with the atom's in place, where each of its own has its names renamed, are those of the atom in
 /// place under their new names (`gathered`). Each of them is written by the atom's commit or is a committed one that

@@ -9,4 +9,5 @@ pub use flushing::{
     deferred_blocks_are_gone, flushed_atoms_are_sealed, flushed_cells_are_written,
     owned_blocks_stand,
 };
+pub use r4_placed::{CommitPlan, on_disk_law, plan};
 pub use sample::one_cell_can_be_flushed;

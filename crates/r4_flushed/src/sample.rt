@@ -3,7 +3,7 @@
 ghost use Rattle.std.specs.Prelude.{ℕ};
 ghost use Rattle.r4_base.specs.Value.{Content};
 ghost use Rattle.r4_base.specs.Volume.{HasContent, root_of};
-ghost use Rattle.r4_cell.specs.Seen.{CellSeen};
+ghost use Rattle.r4_placed.specs.r4_cell.Seen.{CellSeen};
 ghost use Rattle.r4_flushed.specs.Flushed.{IsSealedTo, MayStand};
 ghost use Rattle.r4_placed.specs.Flushing.{Flushing, IsAtRest};
 ghost use Rattle.r4_flushed.specs.Sample.{IsOfOne, took, with_one};

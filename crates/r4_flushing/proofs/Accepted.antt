@@ -9,23 +9,23 @@ use Rattle.r4_base.specs.Cell.{cell_fault}
 use Rattle.r4_base.specs.Key.{rank}
 use Rattle.r4_base.specs.Tree.{Name}
 use Rattle.r4_base.specs.declared.things.AtomNo.{AtomNo}
-use Rattle.r4_buffer.specs.Seen.{EntrySeen, buffered, is_captured, is_captured_by, is_dirty_by}
-use Rattle.r4_cell.specs.Seen.{CellSeen, node_of}
-use Rattle.r4_flushed.proofs.FlushedCells.{FitsOnDisk}
-use Rattle.r4_flush.specs.Anew.{BecomeBlocks}
-use Rattle.r4_flush.specs.Prepared.{IsPrepared, WasCell}
-use Rattle.r4_flush.specs.declared.cells.RenamedCell.{RenamedCell}
-use Rattle.r4_flush.specs.declared.preparing.Prepared.{Prepared}
-use Rattle.r4_flush.proofs.Choosing.{names_become}
-use Rattle.r4_flush.proofs.Faults.{block_stands}
-use Rattle.r4_flush.proofs.Joining.{cell_agrees}
+use Rattle.r4_renaming.specs.r4_buffer.Seen.{EntrySeen, buffered, is_captured, is_captured_by, is_dirty_by}
+use Rattle.r4_accounting.specs.r4_cell.Seen.{CellSeen, node_of}
+use Rattle.r4_renaming.proofs.r4_flushed.FlushedCells.{FitsOnDisk}
+use Rattle.r4_renaming.specs.r4_flush.Anew.{BecomeBlocks}
+use Rattle.r4_renaming.specs.r4_flush.Prepared.{IsPrepared, WasCell}
+use Rattle.r4_renaming.specs.r4_flush.declared.cells.RenamedCell.{RenamedCell}
+use Rattle.r4_renaming.specs.r4_flush.declared.preparing.Prepared.{Prepared}
+use Rattle.r4_renaming.proofs.r4_flush.Choosing.{names_become}
+use Rattle.r4_renaming.proofs.r4_flush.Faults.{block_stands}
+use Rattle.r4_renaming.proofs.r4_flush.Joining.{cell_agrees}
 use Rattle.r4_outside.specs.Device.{State}
-use Rattle.r4_cell.proofs.Faults.{cell_still}
-use Rattle.r4_sets.specs.Renaming.{IsRenamed}
-use Rattle.r4_kept.specs.Cells.{HasNames, IsAccepted, IsName}
-use Rattle.r4_kept.specs.Naming.{Naming}
-use Rattle.r4_kept.specs.View.{CoreSeen, blocks_of}
-use Rattle.r4_kept.proofs.Readable.{captured_dirty}
+use Rattle.r4_accounting.proofs.r4_cell.Faults.{cell_still}
+use Rattle.r4_renaming.specs.r4_sets.Renaming.{IsRenamed}
+use Rattle.r4_accounting.specs.r4_kept.Cells.{HasNames, IsAccepted, IsName}
+use Rattle.r4_accounting.specs.r4_kept.Naming.{Naming}
+use Rattle.r4_accounting.specs.r4_kept.View.{CoreSeen, blocks_of}
+use Rattle.r4_accounting.proofs.r4_kept.Readable.{captured_dirty}
 use Rattle.r4_flushing.specs.Sealing.{super_to_come}
 use Rattle.r4_flushing.proofs.Facts as facts
 use Rattle.r4_flushing.proofs.Facts.{Sealing}

@@ -18,18 +18,18 @@ use Rattle.r4_atoms.specs.Atoms.{IsBegun, IsOpenAtom, account_of, owner_of}
 use Rattle.r4_atoms.specs.declared.things.Account.{Account}
 use Rattle.r4_base.specs.Bitmap.{bitmap_count}
 use Rattle.r4_base.specs.declared.things.AtomNo.{AtomNo}
-use Rattle.r4_buffer.specs.Seen.{is_dirty_by}
-use Rattle.r4_cell.specs.Seen.{CellSeen}
-use Rattle.r4_commit.specs.Planned.{IsUnused, blocks_of, with_all_held}
-use Rattle.r4_flush.specs.Asked.{fresh_cell}
-use Rattle.r4_flush.specs.Prepared.{IsPrepared, cells_of}
-use Rattle.r4_flush.specs.declared.preparing.Prepared.{Prepared}
-use Rattle.r4_flush.proofs.Choosing.{same_count, unused_left}
-use Rattle.r4_flush.proofs.Made.{made_long}
+use Rattle.r4_renaming.specs.r4_buffer.Seen.{is_dirty_by}
+use Rattle.r4_accounting.specs.r4_cell.Seen.{CellSeen}
+use Rattle.r4_renaming.specs.r4_commit.Planned.{IsUnused, blocks_of, with_all_held}
+use Rattle.r4_renaming.specs.r4_flush.Asked.{fresh_cell}
+use Rattle.r4_renaming.specs.r4_flush.Prepared.{IsPrepared, cells_of}
+use Rattle.r4_renaming.specs.r4_flush.declared.preparing.Prepared.{Prepared}
+use Rattle.r4_renaming.proofs.r4_flush.Choosing.{same_count, unused_left}
+use Rattle.r4_renaming.proofs.r4_flush.Made.{made_long}
 use Rattle.r4_outside.specs.Device.{State}
-use Rattle.r4_place.specs.Chosen.{placed_all}
-use Rattle.r4_place.specs.declared.placed.Placed.{Placed}
-use Rattle.r4_place.proofs.ChosenCells.{rest_stays}
+use Rattle.r4_renaming.specs.r4_place.Chosen.{placed_all}
+use Rattle.r4_renaming.specs.r4_place.declared.placed.Placed.{Placed}
+use Rattle.r4_renaming.proofs.r4_place.ChosenCells.{rest_stays}
 use Rattle.r4_space.specs.Accounts.{EachOnce, account_at, dues, is_open, is_sealed, no_account, price_formula}
 use Rattle.r4_space.specs.Accounts.{price_of, with_atom, with_sealed as sealed_atoms, without_account}
 use Rattle.r4_space.specs.Lawful.{IsLawful}
@@ -38,15 +38,15 @@ use Rattle.r4_space.specs.declared.things.Account.{Account as SpaceAccount}
 use Rattle.r4_space.specs.declared.things.Claim.{Claim}
 use Rattle.r4_space.proofs.AccountLaws.{dues-without, once-without, other_account}
 use Rattle.r4_trace.specs.declared.entry.Entry.TheVariants.{Sealed}
-use Rattle.r4_turns.specs.Turns.{TurnsSeen}
-use Rattle.r4_turns.specs.declared.out.Out.{Out}
-use Rattle.r4_kept.specs.Steps.{with_entry}
-use Rattle.r4_kept.specs.Accounts.{AreAccounts, CountsCells, HoldsOf, IsFor, IsStill, cells_for, cells_owed, claims_for}
-use Rattle.r4_kept.specs.Accounts.{claims_owed}
-use Rattle.r4_kept.specs.Naming.{Naming}
-use Rattle.r4_kept.specs.View.{CoreSeen}
-use Rattle.r4_kept.specs.declared.parts.Commit.{Commit}
-use Rattle.r4_kept.proofs.Dones.{dones_stay}
+use Rattle.r4_renaming.specs.r4_turns.Turns.{TurnsSeen}
+use Rattle.r4_renaming.specs.r4_turns.declared.out.Out.{Out}
+use Rattle.r4_accounting.specs.r4_kept.Steps.{with_entry}
+use Rattle.r4_accounting.specs.r4_kept.Accounts.{AreAccounts, CountsCells, HoldsOf, IsFor, IsStill, cells_for, cells_owed, claims_for}
+use Rattle.r4_accounting.specs.r4_kept.Accounts.{claims_owed}
+use Rattle.r4_accounting.specs.r4_kept.Naming.{Naming}
+use Rattle.r4_accounting.specs.r4_kept.View.{CoreSeen}
+use Rattle.r4_accounting.specs.r4_kept.declared.parts.Commit.{Commit}
+use Rattle.r4_accounting.proofs.r4_kept.Dones.{dones_stay}
 use Rattle.r4_renaming.specs.Renaming.{name_then, turns_with_pins, with_pins}
 use Rattle.r4_flushing.specs.Sealable.{IsClear}
 use Rattle.r4_flushing.specs.Sealing.{super_to_come}

@@ -14,23 +14,23 @@ use Rattle.r4_atoms.specs.Atoms.{numbers, owner_of}
 use Rattle.r4_base.proofs.Choices.{never_both}
 use Rattle.r4_base.specs.Tree.{Name}
 use Rattle.r4_base.specs.declared.things.AtomNo.{AtomNo}
-use Rattle.r4_buffer.specs.Changed.{Standing, has_name}
-use Rattle.r4_buffer.specs.Seen.{EntrySeen, buffered, is_dirty_by}
-use Rattle.r4_cell.specs.Seen.{CellSeen, node_of}
-use Rattle.r4_flush.specs.Prepared.{cells_of}
-use Rattle.r4_flush.specs.declared.cells.RenamedCell.{RenamedCell}
-use Rattle.r4_flush.specs.declared.preparing.Prepared.{Prepared}
-use Rattle.r4_flush.proofs.Choosing.{same_count}
-use Rattle.r4_flushed.proofs.FlushedCells.{FitsOnDisk}
-use Rattle.r4_history.specs.Held.{IsOut}
+use Rattle.r4_renaming.specs.r4_buffer.Changed.{Standing, has_name}
+use Rattle.r4_renaming.specs.r4_buffer.Seen.{EntrySeen, buffered, is_dirty_by}
+use Rattle.r4_accounting.specs.r4_cell.Seen.{CellSeen, node_of}
+use Rattle.r4_renaming.specs.r4_flush.Prepared.{cells_of}
+use Rattle.r4_renaming.specs.r4_flush.declared.cells.RenamedCell.{RenamedCell}
+use Rattle.r4_renaming.specs.r4_flush.declared.preparing.Prepared.{Prepared}
+use Rattle.r4_renaming.proofs.r4_flush.Choosing.{same_count}
+use Rattle.r4_renaming.proofs.r4_flushed.FlushedCells.{FitsOnDisk}
+use Rattle.r4_accounting.specs.r4_history.Held.{IsOut}
 use Rattle.r4_outside.specs.Device.{State}
 use Rattle.r4_space.specs.Space.{Space, sealed_in}
-use Rattle.r4_turns.specs.Turns.{TurnsSeen}
-use Rattle.r4_turns.specs.declared.out.Out.{Out}
-use Rattle.r4_kept.specs.Cells.{AreCells, AreNamedOnce, HasNames, IsName, IsStillThere, NamesAt}
-use Rattle.r4_kept.specs.Naming.{Naming}
-use Rattle.r4_kept.specs.View.{CoreSeen, blocks_of}
-use Rattle.r4_kept.specs.declared.parts.Commit.{Commit}
+use Rattle.r4_renaming.specs.r4_turns.Turns.{TurnsSeen}
+use Rattle.r4_renaming.specs.r4_turns.declared.out.Out.{Out}
+use Rattle.r4_accounting.specs.r4_kept.Cells.{AreCells, AreNamedOnce, HasNames, IsName, IsStillThere, NamesAt}
+use Rattle.r4_accounting.specs.r4_kept.Naming.{Naming}
+use Rattle.r4_accounting.specs.r4_kept.View.{CoreSeen, blocks_of}
+use Rattle.r4_accounting.specs.r4_kept.declared.parts.Commit.{Commit}
 use Rattle.r4_renaming.specs.Renaming.{name_then, turns_with_pins, was_named}
 use Rattle.r4_flushing.specs.Sealing.{root_renamed}
 use Rattle.r4_flushing.proofs.Accepted.{has_names, names_blocks}

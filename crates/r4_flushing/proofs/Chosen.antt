@@ -10,25 +10,25 @@ use Rattle.r4_base.proofs.Members.{member_or_not}
 use Rattle.r4_base.specs.Bitmap.{is_fixed}
 use Rattle.r4_base.specs.Image.{AreDifferent}
 use Rattle.r4_base.specs.declared.things.BlockNo.{BlockNo}
-use Rattle.r4_cell.specs.Seen.{CellSeen}
+use Rattle.r4_accounting.specs.r4_cell.Seen.{CellSeen}
 use Rattle.r4_space.specs.Lawful.{IsLawful}
 use Rattle.r4_space.specs.Space.{Space, is_claimed, is_taken, is_taken_by}
-use Rattle.r4_place.specs.Chosen.{AreChosen, fresh_blocks, placed_all}
-use Rattle.r4_place.specs.declared.placed.How.{How}
-use Rattle.r4_place.specs.declared.placed.How.TheVariants.{Fresh, Relocate, Overwrite}
-use Rattle.r4_place.specs.declared.placed.Placed.{Placed}
-use Rattle.r4_place.proofs.ChosenCells.{fresh_different, fresh_unused, fresh_used, others_stay, rest_stays}
-use Rattle.r4_wander.specs.Seen.{Placed as PlacedCell}
-use Rattle.r4_commit.specs.Places.{block_given, place_of, placed_cells}
-use Rattle.r4_commit.specs.Plannable.{is_marked_in}
-use Rattle.r4_commit.proofs.Differing.{placed_different}
-use Rattle.r4_commit.proofs.PlanFacts.{given_fresh, in_fresh}
-use Rattle.r4_commit.proofs.Safety.{not_taken}
-use Rattle.r4_sealed.specs.Commits.{spot_of}
-use Rattle.r4_sealed.proofs.NewCells.{placed_in}
-use Rattle.r4_placed.specs.Flushing.{answers_by_block}
-use Rattle.r4_placed.proofs.Planning.{fresh_given, old_kept, or_first}
-use Rattle.r4_flush.specs.Anew.{new_name}
+use Rattle.r4_renaming.specs.r4_place.Chosen.{AreChosen, fresh_blocks, placed_all}
+use Rattle.r4_renaming.specs.r4_place.declared.placed.How.{How}
+use Rattle.r4_renaming.specs.r4_place.declared.placed.How.TheVariants.{Fresh, Relocate, Overwrite}
+use Rattle.r4_renaming.specs.r4_place.declared.placed.Placed.{Placed}
+use Rattle.r4_renaming.proofs.r4_place.ChosenCells.{fresh_different, fresh_unused, fresh_used, others_stay, rest_stays}
+use Rattle.r4_renaming.specs.r4_wander.Seen.{Placed as PlacedCell}
+use Rattle.r4_renaming.specs.r4_commit.Places.{block_given, place_of, placed_cells}
+use Rattle.r4_renaming.specs.r4_commit.Plannable.{is_marked_in}
+use Rattle.r4_renaming.proofs.r4_commit.Differing.{placed_different}
+use Rattle.r4_renaming.proofs.r4_commit.PlanFacts.{given_fresh, in_fresh}
+use Rattle.r4_renaming.proofs.r4_commit.Safety.{not_taken}
+use Rattle.r4_renaming.specs.r4_sealed.Commits.{spot_of}
+use Rattle.r4_renaming.proofs.r4_sealed.NewCells.{placed_in}
+use Rattle.r4_renaming.specs.r4_placed.Flushing.{answers_by_block}
+use Rattle.r4_renaming.proofs.r4_placed.Planning.{fresh_given, old_kept, or_first}
+use Rattle.r4_renaming.specs.r4_flush.Anew.{new_name}
 use Rattle.r4_flushing.proofs.Counting.{one_of}
 
 -- what is not taken with blocks placed was not taken before

@@ -4,14 +4,14 @@ use Rattle.std.specs.Prelude.{Contains, IsSome}
 use Rattle.r4_atoms.specs.Atoms.{owner_of}
 use Rattle.r4_base.specs.Tree.{Name}
 use Rattle.r4_base.specs.declared.things.AtomNo.{AtomNo}
-use Rattle.r4_buffer.specs.Seen.{EntrySeen, IsLawful as AreNamed, buffered}
-use Rattle.r4_cell.specs.Seen.{CellSeen, node_of}
+use Rattle.r4_renaming.specs.r4_buffer.Seen.{EntrySeen, IsLawful as AreNamed, buffered}
+use Rattle.r4_accounting.specs.r4_cell.Seen.{CellSeen, node_of}
 use Rattle.r4_outside.specs.Device.{State}
-use Rattle.r4_wander.proofs.Members.{from_map}
-use Rattle.r4_kept.specs.Cells.{NamesAt}
-use Rattle.r4_kept.specs.Kept.{IsKept}
-use Rattle.r4_kept.specs.Naming.{Naming}
-use Rattle.r4_kept.specs.View.{CoreSeen}
+use Rattle.r4_renaming.proofs.r4_wander.Members.{from_map}
+use Rattle.r4_accounting.specs.r4_kept.Cells.{NamesAt}
+use Rattle.r4_accounting.specs.r4_kept.Kept.{IsKept}
+use Rattle.r4_accounting.specs.r4_kept.Naming.{Naming}
+use Rattle.r4_accounting.specs.r4_kept.View.{CoreSeen}
 use Rattle.r4_closed.specs.Closed.{NameEachOther}
 use Rattle.r4_flushing.specs.Sealable.{AreNamedByOwn}
 use Rattle.r4_flushing.specs.Sealing.{AreCellsOf, CanSeal}

@@ -10,7 +10,7 @@ use Rattle.std.proofs.lemmas.Map.Keys.{IsDistinct-head, IsDistinct-tail}
 use Rattle.r4_base.specs.Image.{AreDifferent}
 use Rattle.r4_base.proofs.Choices.{nothing_in}
 use Rattle.r4_base.proofs.Members.{member_cases, member_here, member_later, no_member}
-use Rattle.r4_wander.proofs.Members.{any_cases, any_here, any_later, in_map}
+use Rattle.r4_renaming.proofs.r4_wander.Members.{any_cases, any_here, any_later, in_map}
 
 -- ---- different numbers
 

@@ -8,21 +8,21 @@ use Rattle.r4_atoms.specs.Atoms.{owner_of}
 use Rattle.r4_base.specs.Bitmap.{is_fixed}
 use Rattle.r4_base.specs.declared.superblock.Super40.{Super40}
 use Rattle.r4_base.specs.declared.things.AtomNo.{AtomNo}
-use Rattle.r4_buffer.specs.Changed.{has_name}
-use Rattle.r4_buffer.specs.Seen.{EntrySeen, buffered}
-use Rattle.r4_cell.specs.Seen.{CellSeen}
-use Rattle.r4_commit.specs.Places.{place_of}
-use Rattle.r4_flush.specs.Anew.{new_name}
-use Rattle.r4_flush.specs.Prepared.{IsPrepared, WasCell, cells_of}
-use Rattle.r4_flush.specs.declared.cells.RenamedCell.{RenamedCell}
-use Rattle.r4_flush.specs.declared.preparing.Prepared.{Prepared}
+use Rattle.r4_renaming.specs.r4_buffer.Changed.{has_name}
+use Rattle.r4_renaming.specs.r4_buffer.Seen.{EntrySeen, buffered}
+use Rattle.r4_accounting.specs.r4_cell.Seen.{CellSeen}
+use Rattle.r4_renaming.specs.r4_commit.Places.{place_of}
+use Rattle.r4_renaming.specs.r4_flush.Anew.{new_name}
+use Rattle.r4_renaming.specs.r4_flush.Prepared.{IsPrepared, WasCell, cells_of}
+use Rattle.r4_renaming.specs.r4_flush.declared.cells.RenamedCell.{RenamedCell}
+use Rattle.r4_renaming.specs.r4_flush.declared.preparing.Prepared.{Prepared}
 use Rattle.r4_outside.specs.Device.{State}
-use Rattle.r4_place.specs.Chosen.{fresh_blocks}
+use Rattle.r4_renaming.specs.r4_place.Chosen.{fresh_blocks}
 use Rattle.r4_space.specs.Space.{is_taken}
-use Rattle.r4_kept.specs.Cells.{IsName}
-use Rattle.r4_kept.specs.Kept.{IsKept}
-use Rattle.r4_kept.specs.Naming.{Naming}
-use Rattle.r4_kept.specs.View.{CoreSeen, blocks_of}
+use Rattle.r4_accounting.specs.r4_kept.Cells.{IsName}
+use Rattle.r4_accounting.specs.r4_kept.Kept.{IsKept}
+use Rattle.r4_accounting.specs.r4_kept.Naming.{Naming}
+use Rattle.r4_accounting.specs.r4_kept.View.{CoreSeen, blocks_of}
 use Rattle.r4_flushing.specs.Sealable.{IsClear, IsSealable}
 use Rattle.r4_renaming.specs.Renaming.{name_then, was_named}
 use Rattle.r4_flushing.specs.Sealing.{CanSeal, HasSealed, super_to_come}

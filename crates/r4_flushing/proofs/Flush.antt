@@ -10,32 +10,32 @@ use Rattle.r4_base.specs.Tree.{Node, Store}
 use Rattle.r4_base.specs.Value.{Content, Value}
 use Rattle.r4_base.specs.Volume.{HasContent}
 use Rattle.r4_base.specs.declared.things.AtomNo.{AtomNo}
-use Rattle.r4_buffer.specs.Seen.{EntrySeen, buffered, is_dirty_by}
-use Rattle.r4_cell.specs.Seen.{CellSeen, node_of}
+use Rattle.r4_renaming.specs.r4_buffer.Seen.{EntrySeen, buffered, is_dirty_by}
+use Rattle.r4_accounting.specs.r4_cell.Seen.{CellSeen, node_of}
 use Rattle.r4_content.specs.Locality.{commands}
 use Rattle.r4_content.specs.Meaning.{greatest_size}
-use Rattle.r4_durable.specs.Kept.{HasChosen, Means as MeansAtRest}
-use Rattle.r4_durable.specs.Meaning.{Beginning, IsNamed}
-use Rattle.r4_durable.specs.Sealing.{made_by}
-use Rattle.r4_flush.specs.Anew.{AreMade}
-use Rattle.r4_flush.specs.Joined.{AreOwnCells, NameNoneChosen, flushed_cell, flushed_cells, flushing_of}
-use Rattle.r4_flush.specs.Prepared.{IsPrepared, WasCell}
-use Rattle.r4_flush.specs.declared.cells.RenamedCell.{RenamedCell}
-use Rattle.r4_flush.specs.declared.preparing.Prepared.{Prepared}
-use Rattle.r4_flush.proofs.Flushed.{chosen_flushed, is_flush}
-use Rattle.r4_flush.proofs.Standing.{name_none}
-use Rattle.r4_flushed.specs.Flushed.{IsFlush}
+use Rattle.r4_accounting.specs.r4_durable.Kept.{HasChosen, Means as MeansAtRest}
+use Rattle.r4_accounting.specs.r4_durable.Meaning.{Beginning, IsNamed}
+use Rattle.r4_accounting.specs.r4_durable.Sealing.{made_by}
+use Rattle.r4_renaming.specs.r4_flush.Anew.{AreMade}
+use Rattle.r4_renaming.specs.r4_flush.Joined.{AreOwnCells, NameNoneChosen, flushed_cell, flushed_cells, flushing_of}
+use Rattle.r4_renaming.specs.r4_flush.Prepared.{IsPrepared, WasCell}
+use Rattle.r4_renaming.specs.r4_flush.declared.cells.RenamedCell.{RenamedCell}
+use Rattle.r4_renaming.specs.r4_flush.declared.preparing.Prepared.{Prepared}
+use Rattle.r4_renaming.proofs.r4_flush.Flushed.{chosen_flushed, is_flush}
+use Rattle.r4_renaming.proofs.r4_flush.Standing.{name_none}
+use Rattle.r4_renaming.specs.r4_flushed.Flushed.{IsFlush}
 use Rattle.r4_outside.specs.Device.{State}
-use Rattle.r4_placed.specs.Flushing.{Flushing, IsAtRest as IsAtRestFor}
-use Rattle.r4_sets.specs.Session.{Layer, Session}
+use Rattle.r4_renaming.specs.r4_placed.Flushing.{Flushing, IsAtRest as IsAtRestFor}
+use Rattle.r4_renaming.specs.r4_sets.Session.{Layer, Session}
 use Rattle.r4_trace.specs.Job.{Asked}
 use Rattle.r4_trace.specs.Traced.{committed_in}
-use Rattle.r4_wander.specs.declared.plan.LogPlan.{LogPlan}
-use Rattle.r4_kept.specs.Kept.{HasStory}
-use Rattle.r4_kept.specs.Meaning.{HasMeaning, IsAt, IsAtRest, if_open}
-use Rattle.r4_kept.specs.Naming.{Naming, job_named, names_in}
-use Rattle.r4_kept.specs.View.{CoreSeen, blocks_of}
-use Rattle.r4_kept.specs.declared.parts.Commit.{Commit}
+use Rattle.r4_renaming.specs.r4_wander.declared.plan.LogPlan.{LogPlan}
+use Rattle.r4_accounting.specs.r4_kept.Kept.{HasStory}
+use Rattle.r4_accounting.specs.r4_kept.Meaning.{HasMeaning, IsAt, IsAtRest, if_open}
+use Rattle.r4_accounting.specs.r4_kept.Naming.{Naming, job_named, names_in}
+use Rattle.r4_accounting.specs.r4_kept.View.{CoreSeen, blocks_of}
+use Rattle.r4_accounting.specs.r4_kept.declared.parts.Commit.{Commit}
 use Rattle.r4_flushing.specs.Sealing.{super_to_come}
 use Rattle.r4_flushing.proofs.Accounts.{fair}
 use Rattle.r4_flushing.proofs.Counting.{from_mapped}

@@ -7,28 +7,28 @@ use Rattle.std.specs.Prelude.{nat_le}
 use Rattle.std.specs.Option.{option_map}
 use Rattle.r4_atoms.specs.Atoms.{is_committed}
 use Rattle.r4_base.specs.declared.things.AtomNo.{AtomNo}
-use Rattle.r4_cell.specs.Seen.{CellSeen}
+use Rattle.r4_accounting.specs.r4_cell.Seen.{CellSeen}
 use Rattle.r4_content.specs.Locality.{commands}
 use Rattle.r4_content.specs.Meaning.{greatest_size}
-use Rattle.r4_durable.specs.Meaning.{Beginning, BeginsWith, start_of}
-use Rattle.r4_flush.specs.declared.preparing.Prepared.{Prepared}
-use Rattle.r4_history.specs.Tables.{Tables, with_sealed}
-use Rattle.r4_history.specs.Told.{IsTold}
-use Rattle.r4_history.proofs.AtomSteps.{committed_sealed}
-use Rattle.r4_history.proofs.DrawnSteps.{drawn_entry}
-use Rattle.r4_history.proofs.RunSteps.{told_owners}
-use Rattle.r4_history.proofs.Told.{told_sealed}
+use Rattle.r4_accounting.specs.r4_durable.Meaning.{Beginning, BeginsWith, start_of}
+use Rattle.r4_renaming.specs.r4_flush.declared.preparing.Prepared.{Prepared}
+use Rattle.r4_accounting.specs.r4_history.Tables.{Tables, with_sealed}
+use Rattle.r4_accounting.specs.r4_history.Told.{IsTold}
+use Rattle.r4_accounting.proofs.r4_history.AtomSteps.{committed_sealed}
+use Rattle.r4_accounting.proofs.r4_history.DrawnSteps.{drawn_entry}
+use Rattle.r4_accounting.proofs.r4_history.RunSteps.{told_owners}
+use Rattle.r4_accounting.proofs.r4_history.Told.{told_sealed}
 use Rattle.r4_outside.specs.Device.{State}
 use Rattle.r4_trace.specs.Order.{IsOrdered}
 use Rattle.r4_trace.specs.declared.entry.Entry.{Entry}
 use Rattle.r4_trace.specs.declared.entry.Entry.TheVariants.{Sealed}
-use Rattle.r4_turns.specs.Turns.{TurnsSeen}
-use Rattle.r4_kept.specs.History.{IsHistory, is_headed}
-use Rattle.r4_kept.specs.Naming.{Naming, names_in}
-use Rattle.r4_kept.specs.Steps.{with_entry}
-use Rattle.r4_kept.specs.View.{CoreSeen, committing, tables_of}
-use Rattle.r4_kept.specs.declared.parts.Commit.{Commit}
-use Rattle.r4_kept.proofs.Owing.{owes_two}
+use Rattle.r4_renaming.specs.r4_turns.Turns.{TurnsSeen}
+use Rattle.r4_accounting.specs.r4_kept.History.{IsHistory, is_headed}
+use Rattle.r4_accounting.specs.r4_kept.Naming.{Naming, names_in}
+use Rattle.r4_accounting.specs.r4_kept.Steps.{with_entry}
+use Rattle.r4_accounting.specs.r4_kept.View.{CoreSeen, committing, tables_of}
+use Rattle.r4_accounting.specs.r4_kept.declared.parts.Commit.{Commit}
+use Rattle.r4_accounting.proofs.r4_kept.Owing.{owes_two}
 use Rattle.r4_renaming.specs.Renaming.{name_then, turns_with_pins}
 use Rattle.r4_flushing.proofs.Facts.{Sealing}
 use Rattle.r4_flushing.proofs.Pins.{drawn_then, owed_then, told_then}

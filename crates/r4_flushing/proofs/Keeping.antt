@@ -1,16 +1,16 @@
 -- An open atom that may be sealed is sealed: what holds of a core holds still.
 use Rattle.std.specs.Prelude.{List}
 use Rattle.r4_base.specs.declared.things.AtomNo.{AtomNo}
-use Rattle.r4_buffer.specs.Seen.{IsLawful as AreNamed}
-use Rattle.r4_cell.specs.Seen.{CellSeen}
-use Rattle.r4_flush.specs.declared.preparing.Prepared.{Prepared}
-use Rattle.r4_flushed.proofs.FlushedCells.{FitsOnDisk}
-use Rattle.r4_history.specs.Held.{AreOwners}
+use Rattle.r4_renaming.specs.r4_buffer.Seen.{IsLawful as AreNamed}
+use Rattle.r4_accounting.specs.r4_cell.Seen.{CellSeen}
+use Rattle.r4_renaming.specs.r4_flush.declared.preparing.Prepared.{Prepared}
+use Rattle.r4_renaming.proofs.r4_flushed.FlushedCells.{FitsOnDisk}
+use Rattle.r4_accounting.specs.r4_history.Held.{AreOwners}
 use Rattle.r4_outside.specs.Device.{State}
 use Rattle.r4_space.specs.Lawful.{IsLawful}
-use Rattle.r4_kept.specs.Kept.{IsKept}
-use Rattle.r4_kept.specs.Naming.{Naming}
-use Rattle.r4_kept.specs.View.{CoreSeen}
+use Rattle.r4_accounting.specs.r4_kept.Kept.{IsKept}
+use Rattle.r4_accounting.specs.r4_kept.Naming.{Naming}
+use Rattle.r4_accounting.specs.r4_kept.View.{CoreSeen}
 use Rattle.r4_flushing.specs.Sealable.{MaySeal}
 use Rattle.r4_flushing.specs.Sealing.{HasSealed}
 use Rattle.r4_flushing.proofs.Closed.{named_when_closed}

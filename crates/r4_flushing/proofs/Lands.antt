@@ -11,23 +11,23 @@ use Rattle.r4_base.specs.Layout.{super_block}
 use Rattle.r4_base.specs.declared.superblock.Super40.{Super40}
 use Rattle.r4_base.specs.declared.things.AtomNo.{AtomNo}
 use Rattle.r4_base.specs.declared.things.BlockNo.{BlockNo}
-use Rattle.r4_cell.specs.Seen.{CellSeen}
+use Rattle.r4_accounting.specs.r4_cell.Seen.{CellSeen}
 use Rattle.r4_space.specs.Space.{Space}
-use Rattle.r4_place.specs.declared.placed.Placed.{Placed}
-use Rattle.r4_wander.specs.LogPlan.{first, news, parts_of, placed_writes, scratch}
-use Rattle.r4_wander.specs.Parts.{IsOrderOf, Parts, base_of, part}
-use Rattle.r4_wander.specs.Seen.{Placed as PlacedCell}
-use Rattle.r4_wander.specs.Torn.{IsTarget, Write}
-use Rattle.r4_wander.specs.declared.plan.LogPlan.{LogPlan}
-use Rattle.r4_wander.proofs.Members.{any_cases, any_here, any_later, in_map}
-use Rattle.r4_wander.proofs.Order.{part_member, part_target, put_member}
-use Rattle.r4_wander.proofs.Settling.{length-put_writes, one_target, put_writes_other}
-use Rattle.r4_commit.specs.Places.{kept_at, overwritten, place_of, placed_at, placed_cells}
-use Rattle.r4_commit.specs.Planned.{IsPlanFor, bitmap_writes, blocks_of, new_homes, new_super}
-use Rattle.r4_commit.proofs.PlanFacts.{bitmap_target, home_cases}
-use Rattle.r4_commit.proofs.Safety.{fixed_bitmap, fixed_low, in_scratch}
-use Rattle.r4_sealed.proofs.NewCells.{kept_in, placed_in}
-use Rattle.r4_placed.proofs.Planning.{kept_from}
+use Rattle.r4_renaming.specs.r4_place.declared.placed.Placed.{Placed}
+use Rattle.r4_renaming.specs.r4_wander.LogPlan.{first, news, parts_of, placed_writes, scratch}
+use Rattle.r4_renaming.specs.r4_wander.Parts.{IsOrderOf, Parts, base_of, part}
+use Rattle.r4_renaming.specs.r4_wander.Seen.{Placed as PlacedCell}
+use Rattle.r4_renaming.specs.r4_wander.Torn.{IsTarget, Write}
+use Rattle.r4_renaming.specs.r4_wander.declared.plan.LogPlan.{LogPlan}
+use Rattle.r4_renaming.proofs.r4_wander.Members.{any_cases, any_here, any_later, in_map}
+use Rattle.r4_renaming.proofs.r4_wander.Order.{part_member, part_target, put_member}
+use Rattle.r4_renaming.proofs.r4_wander.Settling.{length-put_writes, one_target, put_writes_other}
+use Rattle.r4_renaming.specs.r4_commit.Places.{kept_at, overwritten, place_of, placed_at, placed_cells}
+use Rattle.r4_renaming.specs.r4_commit.Planned.{IsPlanFor, bitmap_writes, blocks_of, new_homes, new_super}
+use Rattle.r4_renaming.proofs.r4_commit.PlanFacts.{bitmap_target, home_cases}
+use Rattle.r4_renaming.proofs.r4_commit.Safety.{fixed_bitmap, fixed_low, in_scratch}
+use Rattle.r4_renaming.proofs.r4_sealed.NewCells.{kept_in, placed_in}
+use Rattle.r4_renaming.proofs.r4_placed.Planning.{kept_from}
 use Rattle.r4_flushing.proofs.Counting.{from_mapped, one_of}
 
 -- ---- members

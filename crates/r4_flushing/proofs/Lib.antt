@@ -25,3 +25,9 @@ pub mod Preparing
 pub mod Closed
 pub mod Renames
 pub mod Keeping
+-- what crates above name by way of this one
+pub use Rattle.r4_accounting.proofs.r4_done
+pub use Rattle.r4_renaming.proofs.r4_flushed
+pub use Rattle.r4_renaming.proofs.r4_sealed
+pub use Rattle.r4_renaming.proofs.r4_sets
+pub use Rattle.r4_renaming.proofs.r4_sets_told

@@ -19,57 +19,57 @@ use Rattle.r4_base.specs.Image.{block_at}
 use Rattle.r4_base.specs.Tree.{Node, Root}
 use Rattle.r4_base.specs.Value.{Content, Value}
 use Rattle.r4_base.specs.declared.things.AtomNo.{AtomNo}
-use Rattle.r4_buffer.specs.Changed.{has_name}
-use Rattle.r4_buffer.specs.Seen.{EntrySeen, buffered, is_dirty_by}
-use Rattle.r4_cell.specs.Seen.{CellSeen, node_of}
-use Rattle.r4_commit.specs.Places.{place_of}
-use Rattle.r4_commit.proofs.Safety.{is_safe_alone}
+use Rattle.r4_renaming.specs.r4_buffer.Changed.{has_name}
+use Rattle.r4_renaming.specs.r4_buffer.Seen.{EntrySeen, buffered, is_dirty_by}
+use Rattle.r4_accounting.specs.r4_cell.Seen.{CellSeen, node_of}
+use Rattle.r4_renaming.specs.r4_commit.Places.{place_of}
+use Rattle.r4_renaming.proofs.r4_commit.Safety.{is_safe_alone}
 use Rattle.r4_content.specs.Locality.{commands}
 use Rattle.r4_content.specs.Meaning.{greatest_size}
-use Rattle.r4_durable.specs.Kept.{IsSession, IsUnderWay, sealing_of}
-use Rattle.r4_durable.specs.Meaning.{Beginning, IsNamed, first_id}
-use Rattle.r4_durable.specs.Sealing.{Sealing as SealingOf, session_after}
-use Rattle.r4_durable.proofs.Flushes.{is_sealing, still_deferred}
-use Rattle.r4_durable.proofs.GoingOn.{session_sealed}
-use Rattle.r4_durable.proofs.SealedContent.{ok}
-use Rattle.r4_flush.specs.Joined.{flushed_cell}
-use Rattle.r4_flush.specs.Prepared.{WasCell, cells_of}
-use Rattle.r4_flush.specs.declared.cells.RenamedCell.{RenamedCell}
-use Rattle.r4_flush.specs.declared.preparing.Prepared.{Prepared}
-use Rattle.r4_flush.proofs.Standing.{stands_off}
-use Rattle.r4_flushed.specs.Deferred.{AreDeferredBut}
-use Rattle.r4_flushed.specs.Flushed.{IsGone}
-use Rattle.r4_flushed.proofs.FlushedCells.{FitsOnDisk}
-use Rattle.r4_history.specs.Held.{IsOut}
+use Rattle.r4_accounting.specs.r4_durable.Kept.{IsSession, IsUnderWay, sealing_of}
+use Rattle.r4_accounting.specs.r4_durable.Meaning.{Beginning, IsNamed, first_id}
+use Rattle.r4_accounting.specs.r4_durable.Sealing.{Sealing as SealingOf, session_after}
+use Rattle.r4_accounting.proofs.r4_durable.Flushes.{is_sealing, still_deferred}
+use Rattle.r4_accounting.proofs.r4_durable.GoingOn.{session_sealed}
+use Rattle.r4_accounting.proofs.r4_durable.SealedContent.{ok}
+use Rattle.r4_renaming.specs.r4_flush.Joined.{flushed_cell}
+use Rattle.r4_renaming.specs.r4_flush.Prepared.{WasCell, cells_of}
+use Rattle.r4_renaming.specs.r4_flush.declared.cells.RenamedCell.{RenamedCell}
+use Rattle.r4_renaming.specs.r4_flush.declared.preparing.Prepared.{Prepared}
+use Rattle.r4_renaming.proofs.r4_flush.Standing.{stands_off}
+use Rattle.r4_renaming.specs.r4_flushed.Deferred.{AreDeferredBut}
+use Rattle.r4_renaming.specs.r4_flushed.Flushed.{IsGone}
+use Rattle.r4_renaming.proofs.r4_flushed.FlushedCells.{FitsOnDisk}
+use Rattle.r4_accounting.specs.r4_history.Held.{IsOut}
 use Rattle.r4_outside.specs.Device.{State}
-use Rattle.r4_place.specs.Chosen.{fresh_blocks, placed_all}
-use Rattle.r4_place.proofs.ChosenCells.{rest_stays}
-use Rattle.r4_placed.specs.Flushing.{Flushing, commit_by_block, moves, name_after}
-use Rattle.r4_placed.proofs.Planning.{cell_marked, from_pairs, renamed_cell}
-use Rattle.r4_placed.proofs.Swapped.{goes}
-use Rattle.r4_sealed.specs.Commits.{IsLater, spot, spot_of}
-use Rattle.r4_sealed.proofs.Settled.{freed_alone}
-use Rattle.r4_sets.specs.Session.{Session}
-use Rattle.r4_sets.proofs.Applied.{memory_stands}
+use Rattle.r4_renaming.specs.r4_place.Chosen.{fresh_blocks, placed_all}
+use Rattle.r4_renaming.proofs.r4_place.ChosenCells.{rest_stays}
+use Rattle.r4_renaming.specs.r4_placed.Flushing.{Flushing, commit_by_block, moves, name_after}
+use Rattle.r4_renaming.proofs.r4_placed.Planning.{cell_marked, from_pairs, renamed_cell}
+use Rattle.r4_renaming.proofs.r4_placed.Swapped.{goes}
+use Rattle.r4_renaming.specs.r4_sealed.Commits.{IsLater, spot, spot_of}
+use Rattle.r4_renaming.proofs.r4_sealed.Settled.{freed_alone}
+use Rattle.r4_renaming.specs.r4_sets.Session.{Session}
+use Rattle.r4_renaming.proofs.r4_sets.Applied.{memory_stands}
 use Rattle.r4_space.specs.Space.{Space, claims_of, is_claimed, sealed_in}
 use Rattle.r4_space.specs.declared.things.Claim.{Claim}
-use Rattle.r4_taking.proofs.Merged.{lawful_settled}
+use Rattle.r4_accounting.proofs.r4_taking.Merged.{lawful_settled}
 use Rattle.r4_trace.specs.Job.{Asked}
 use Rattle.r4_trace.specs.Order.{IsOrdered}
 use Rattle.r4_trace.specs.declared.entry.Entry.{Entry}
 use Rattle.r4_trace.specs.declared.entry.Entry.TheVariants.{Sealed}
-use Rattle.r4_turns.specs.Turns.{TurnsSeen}
-use Rattle.r4_turns.specs.declared.out.Out.{Out}
-use Rattle.r4_wander.proofs.Ending.{reads_first}
-use Rattle.r4_wander.proofs.Members.{in_map}
-use Rattle.r4_wander.proofs.Standing.{commits_alone}
-use Rattle.r4_wander.specs.declared.plan.LogPlan.{LogPlan}
-use Rattle.r4_kept.specs.Meaning.{HasMeaning, IsAt, IsFlushing, Spares, if_open}
-use Rattle.r4_kept.specs.Naming.{Naming, job_named, names_in}
-use Rattle.r4_kept.specs.Steps.{with_entry}
-use Rattle.r4_kept.specs.Story.{Story}
-use Rattle.r4_kept.specs.View.{CoreSeen, blocks_of, root_seen}
-use Rattle.r4_kept.specs.declared.parts.Commit.{Commit}
+use Rattle.r4_renaming.specs.r4_turns.Turns.{TurnsSeen}
+use Rattle.r4_renaming.specs.r4_turns.declared.out.Out.{Out}
+use Rattle.r4_renaming.proofs.r4_wander.Ending.{reads_first}
+use Rattle.r4_renaming.proofs.r4_wander.Members.{in_map}
+use Rattle.r4_renaming.proofs.r4_wander.Standing.{commits_alone}
+use Rattle.r4_renaming.specs.r4_wander.declared.plan.LogPlan.{LogPlan}
+use Rattle.r4_accounting.specs.r4_kept.Meaning.{HasMeaning, IsAt, IsFlushing, Spares, if_open}
+use Rattle.r4_accounting.specs.r4_kept.Naming.{Naming, job_named, names_in}
+use Rattle.r4_accounting.specs.r4_kept.Steps.{with_entry}
+use Rattle.r4_accounting.specs.r4_kept.Story.{Story}
+use Rattle.r4_accounting.specs.r4_kept.View.{CoreSeen, blocks_of, root_seen}
+use Rattle.r4_accounting.specs.r4_kept.declared.parts.Commit.{Commit}
 use Rattle.r4_flushing.specs.Sealable.{CountFits}
 use Rattle.r4_renaming.specs.Renaming.{name_then, turns_with_pins, was_named}
 use Rattle.r4_flushing.specs.Sealing.{root_renamed}

@@ -10,30 +10,30 @@ use Rattle.r4_base.proofs.Choices.{never_both}
 use Rattle.r4_base.specs.Tree.{Node, Store}
 use Rattle.r4_base.specs.Value.{Value}
 use Rattle.r4_base.specs.declared.things.AtomNo.{AtomNo}
-use Rattle.r4_buffer.specs.Changed.{has_name}
-use Rattle.r4_cell.specs.Seen.{CellSeen, node_of}
-use Rattle.r4_commit.specs.Places.{place_of}
+use Rattle.r4_renaming.specs.r4_buffer.Changed.{has_name}
+use Rattle.r4_accounting.specs.r4_cell.Seen.{CellSeen, node_of}
+use Rattle.r4_renaming.specs.r4_commit.Places.{place_of}
 use Rattle.r4_content.specs.Meaning.{greatest_size}
-use Rattle.r4_durable.specs.Kept.{IsUnderWay}
-use Rattle.r4_durable.specs.Meaning.{Beginning, IsNamed}
-use Rattle.r4_durable.proofs.Flushes.{sealed_now}
-use Rattle.r4_flush.specs.Joined.{flushed_cell}
-use Rattle.r4_flush.specs.Prepared.{WasCell, cells_of}
-use Rattle.r4_flush.specs.declared.cells.RenamedCell.{RenamedCell}
-use Rattle.r4_flush.specs.declared.preparing.Prepared.{Prepared}
-use Rattle.r4_flushed.specs.Flushed.{cell_at, with_flushed}
-use Rattle.r4_flushed.proofs.FlushedCells.{picks_cases}
-use Rattle.r4_flushed.proofs.Gathering.{spot_or_not}
+use Rattle.r4_accounting.specs.r4_durable.Kept.{IsUnderWay}
+use Rattle.r4_accounting.specs.r4_durable.Meaning.{Beginning, IsNamed}
+use Rattle.r4_accounting.proofs.r4_durable.Flushes.{sealed_now}
+use Rattle.r4_renaming.specs.r4_flush.Joined.{flushed_cell}
+use Rattle.r4_renaming.specs.r4_flush.Prepared.{WasCell, cells_of}
+use Rattle.r4_renaming.specs.r4_flush.declared.cells.RenamedCell.{RenamedCell}
+use Rattle.r4_renaming.specs.r4_flush.declared.preparing.Prepared.{Prepared}
+use Rattle.r4_renaming.specs.r4_flushed.Flushed.{cell_at, with_flushed}
+use Rattle.r4_renaming.proofs.r4_flushed.FlushedCells.{picks_cases}
+use Rattle.r4_renaming.proofs.r4_flushed.Gathering.{spot_or_not}
 use Rattle.r4_outside.specs.Device.{State}
-use Rattle.r4_placed.specs.Flushing.{Flushing}
-use Rattle.r4_sealed.specs.Commits.{spot, spot_of}
-use Rattle.r4_sets.specs.Atoms.{without}
-use Rattle.r4_sets.specs.Session.{Session, only, picks}
-use Rattle.r4_wander.specs.declared.plan.LogPlan.{LogPlan}
-use Rattle.r4_wander.proofs.Members.{in_map}
-use Rattle.r4_kept.specs.Meaning.{HasMeaning, if_open}
-use Rattle.r4_kept.specs.Naming.{Naming, job_named, names_in}
-use Rattle.r4_kept.specs.View.{CoreSeen}
+use Rattle.r4_renaming.specs.r4_placed.Flushing.{Flushing}
+use Rattle.r4_renaming.specs.r4_sealed.Commits.{spot, spot_of}
+use Rattle.r4_renaming.specs.r4_sets.Atoms.{without}
+use Rattle.r4_renaming.specs.r4_sets.Session.{Session, only, picks}
+use Rattle.r4_renaming.specs.r4_wander.declared.plan.LogPlan.{LogPlan}
+use Rattle.r4_renaming.proofs.r4_wander.Members.{in_map}
+use Rattle.r4_accounting.specs.r4_kept.Meaning.{HasMeaning, if_open}
+use Rattle.r4_accounting.specs.r4_kept.Naming.{Naming, job_named, names_in}
+use Rattle.r4_accounting.specs.r4_kept.View.{CoreSeen}
 use Rattle.r4_renaming.specs.Renaming.{owner_then}
 use Rattle.r4_flushing.proofs.Facts as facts
 use Rattle.r4_flushing.proofs.Facts.{Sealing}

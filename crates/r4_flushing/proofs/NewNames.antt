@@ -14,19 +14,19 @@ use Rattle.r4_base.specs.Image.{AreDifferent}
 use Rattle.r4_base.specs.declared.superblock.Super40.{Super40}
 use Rattle.r4_base.specs.declared.things.AtomNo.{AtomNo}
 use Rattle.r4_base.specs.declared.things.BlockNo.{BlockNo}
-use Rattle.r4_buffer.specs.Changed.{has_name}
-use Rattle.r4_cell.specs.Seen.{CellSeen}
+use Rattle.r4_renaming.specs.r4_buffer.Changed.{has_name}
+use Rattle.r4_accounting.specs.r4_cell.Seen.{CellSeen}
 use Rattle.r4_space.specs.Lawful.{IsLawful}
 use Rattle.r4_space.specs.Space.{Space, is_taken}
-use Rattle.r4_place.specs.Chosen.{fresh_blocks}
-use Rattle.r4_wander.proofs.Members.{any_cases, any_here, any_later, from_map, in_map}
-use Rattle.r4_commit.specs.Places.{place_of}
-use Rattle.r4_flush.specs.Anew.{AreMade, new_name}
-use Rattle.r4_flush.specs.Prepared.{IsPrepared, WasCell, cells_of}
-use Rattle.r4_flush.specs.declared.cells.RenamedCell.{RenamedCell}
-use Rattle.r4_flush.specs.declared.preparing.Prepared.{Prepared}
-use Rattle.r4_flush.proofs.Choosing.{made_from}
-use Rattle.r4_done.proofs.Named.{has_one, one_named}
+use Rattle.r4_renaming.specs.r4_place.Chosen.{fresh_blocks}
+use Rattle.r4_renaming.proofs.r4_wander.Members.{any_cases, any_here, any_later, from_map, in_map}
+use Rattle.r4_renaming.specs.r4_commit.Places.{place_of}
+use Rattle.r4_renaming.specs.r4_flush.Anew.{AreMade, new_name}
+use Rattle.r4_renaming.specs.r4_flush.Prepared.{IsPrepared, WasCell, cells_of}
+use Rattle.r4_renaming.specs.r4_flush.declared.cells.RenamedCell.{RenamedCell}
+use Rattle.r4_renaming.specs.r4_flush.declared.preparing.Prepared.{Prepared}
+use Rattle.r4_renaming.proofs.r4_flush.Choosing.{made_from}
+use Rattle.r4_accounting.proofs.r4_done.Named.{has_one, one_named}
 use Rattle.r4_renaming.specs.Renaming.{name_then, was_named}
 use Rattle.r4_flushing.proofs.Chosen.{fresh_free, fresh_name, not_fixed, old_name, same_fresh}
 use Rattle.r4_flushing.proofs.Counting.{different_from}

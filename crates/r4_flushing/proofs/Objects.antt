@@ -7,9 +7,9 @@ use Rattle.r4_base.specs.Volume.{HasContent, HasIds, objects_in, root_of, stat_r
 use Rattle.r4_base.specs.declared.superblock.Super40.{Super40}
 use Rattle.r4_content.specs.Counts.{born, gone}
 use Rattle.r4_content.specs.Locality.{commands}
-use Rattle.r4_sets.specs.Session.{IsTreeOf}
-use Rattle.r4_sets_told.specs.Runs.{born_in, gone_in}
-use Rattle.r4_sets_told.proofs.Blocks.{raw_ids}
+use Rattle.r4_renaming.specs.r4_sets.Session.{IsTreeOf}
+use Rattle.r4_renaming.specs.r4_sets_told.Runs.{born_in, gone_in}
+use Rattle.r4_renaming.proofs.r4_sets_told.Blocks.{raw_ids}
 use Rattle.r4_trace.specs.Folds.{content_of, everything}
 use Rattle.r4_trace.specs.Ids.{HasNewIds, IsDrawn, IsWithin, Start, makers, no_id}
 use Rattle.r4_trace.specs.Job.{Asked}

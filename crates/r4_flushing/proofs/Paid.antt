@@ -11,23 +11,23 @@ use Rattle.r4_base.specs.Image.{AreDifferent}
 use Rattle.r4_base.specs.declared.superblock.Super40.{Super40}
 use Rattle.r4_base.specs.declared.things.AtomNo.{AtomNo}
 use Rattle.r4_base.specs.declared.things.BlockNo.{BlockNo}
-use Rattle.r4_cell.specs.Seen.{CellSeen}
+use Rattle.r4_accounting.specs.r4_cell.Seen.{CellSeen}
 use Rattle.r4_space.specs.Accounts.{price_formula}
 use Rattle.r4_space.specs.Lawful.{IsLawful}
 use Rattle.r4_space.specs.Space.{Space, is_claimed, is_taken_by, sealed_in, unused_count, with_held}
 use Rattle.r4_space.specs.declared.things.Claim.{Claim}
 use Rattle.r4_space.proofs.ClaimLaws.{claimed-old}
 use Rattle.r4_space.proofs.UsedLaws.{held_fewer}
-use Rattle.r4_place.specs.Chosen.{placed_all, placed_in}
-use Rattle.r4_place.specs.declared.placed.How.{How}
-use Rattle.r4_place.specs.declared.placed.How.TheVariants.{Fresh, Overwrite, Relocate}
-use Rattle.r4_place.specs.declared.placed.Placed.{Placed}
-use Rattle.r4_wander.specs.Torn.{Write}
-use Rattle.r4_wander.specs.Seen.{Copy}
-use Rattle.r4_wander.specs.declared.plan.LogPlan.{LogPlan}
-use Rattle.r4_commit.specs.Places.{overwritten, place_of}
-use Rattle.r4_commit.specs.Planned.{IsPlanFor, IsUnused, blocks_of, new_super, with_all_held}
-use Rattle.r4_commit.proofs.PlanFacts.{length-both, length-new_homes}
+use Rattle.r4_renaming.specs.r4_place.Chosen.{placed_all, placed_in}
+use Rattle.r4_renaming.specs.r4_place.declared.placed.How.{How}
+use Rattle.r4_renaming.specs.r4_place.declared.placed.How.TheVariants.{Fresh, Overwrite, Relocate}
+use Rattle.r4_renaming.specs.r4_place.declared.placed.Placed.{Placed}
+use Rattle.r4_renaming.specs.r4_wander.Torn.{Write}
+use Rattle.r4_renaming.specs.r4_wander.Seen.{Copy}
+use Rattle.r4_renaming.specs.r4_wander.declared.plan.LogPlan.{LogPlan}
+use Rattle.r4_renaming.specs.r4_commit.Places.{overwritten, place_of}
+use Rattle.r4_renaming.specs.r4_commit.Planned.{IsPlanFor, IsUnused, blocks_of, new_super, with_all_held}
+use Rattle.r4_renaming.proofs.r4_commit.PlanFacts.{length-both, length-new_homes}
 
 -- ---- one block held
 

@@ -11,19 +11,19 @@ use Rattle.r4_content.specs.Locality.{Meaning}
 use Rattle.r4_content.specs.declared.command.Command.{Command}
 use Rattle.r4_content.specs.declared.reply.Reply.{Reply}
 use Rattle.r4_locks.specs.Locks.{LocksSeen}
-use Rattle.r4_script.specs.declared.job.Script.{Script}
+use Rattle.r4_renaming.specs.r4_script.declared.job.Script.{Script}
 use Rattle.r4_trace.specs.Ids.{Start}
 use Rattle.r4_trace.specs.declared.entry.Entry.{Entry}
-use Rattle.r4_turns.specs.Turns.{IsScript, TurnsSeen, commands_at, start, turn_at}
-use Rattle.r4_turns.specs.declared.out.Numbers.{Numbers}
-use Rattle.r4_turns.specs.declared.out.Out.{Out}
-use Rattle.r4_turns.specs.declared.turn.Turn.{Turn}
-use Rattle.r4_history.specs.Drawn.{AreDrawn, ahead_at, ahead_by, drawn_at, id_for, makers_by, numbers_in, numbers_of}
-use Rattle.r4_history.specs.Held.{Holds, IsOut, IsServed, TasksTell}
-use Rattle.r4_history.specs.Tables.{Tables, asked, next_at, place_at, place_of}
-use Rattle.r4_history.specs.Told.{IsTold}
-use Rattle.r4_kept.specs.History.{owed, owed_by, owed_in}
-use Rattle.r4_kept.specs.TasksOut.{pins_in, pins_on}
+use Rattle.r4_renaming.specs.r4_turns.Turns.{IsScript, TurnsSeen, commands_at, start, turn_at}
+use Rattle.r4_renaming.specs.r4_turns.declared.out.Numbers.{Numbers}
+use Rattle.r4_renaming.specs.r4_turns.declared.out.Out.{Out}
+use Rattle.r4_renaming.specs.r4_turns.declared.turn.Turn.{Turn}
+use Rattle.r4_accounting.specs.r4_history.Drawn.{AreDrawn, ahead_at, ahead_by, drawn_at, id_for, makers_by, numbers_in, numbers_of}
+use Rattle.r4_accounting.specs.r4_history.Held.{Holds, IsOut, IsServed, TasksTell}
+use Rattle.r4_accounting.specs.r4_history.Tables.{Tables, asked, next_at, place_at, place_of}
+use Rattle.r4_accounting.specs.r4_history.Told.{IsTold}
+use Rattle.r4_accounting.specs.r4_kept.History.{owed, owed_by, owed_in}
+use Rattle.r4_accounting.specs.r4_kept.TasksOut.{pins_in, pins_on}
 use Rattle.r4_renaming.specs.Renaming.{turn_with_pins, turns_with_pins, with_pins}
 
 module _ (f : ℕ → ℕ) where

@@ -12,21 +12,21 @@ use Rattle.r4_atoms.specs.Atoms.{account_of, owner_of}
 use Rattle.r4_base.proofs.Choices.{never_both}
 use Rattle.r4_base.specs.Bitmap.{bitmap_count, is_fixed}
 use Rattle.r4_base.specs.declared.things.AtomNo.{AtomNo}
-use Rattle.r4_buffer.specs.Seen.{EntrySeen, IsLawful as AreNamed, buffered, is_dirty_by}
-use Rattle.r4_cell.specs.Seen.{CellSeen}
-use Rattle.r4_commit.proofs.Safety.{fixed_low}
-use Rattle.r4_flush.specs.Asked.{StandsIn, fresh_cell, fresh_count}
-use Rattle.r4_flush.proofs.Choosing.{all_of}
+use Rattle.r4_renaming.specs.r4_buffer.Seen.{EntrySeen, IsLawful as AreNamed, buffered, is_dirty_by}
+use Rattle.r4_accounting.specs.r4_cell.Seen.{CellSeen}
+use Rattle.r4_renaming.proofs.r4_commit.Safety.{fixed_low}
+use Rattle.r4_renaming.specs.r4_flush.Asked.{StandsIn, fresh_cell, fresh_count}
+use Rattle.r4_renaming.proofs.r4_flush.Choosing.{all_of}
 use Rattle.r4_outside.specs.Device.{State}
 use Rattle.r4_space.specs.Accounts.{account_at, price_formula, price_of}
 use Rattle.r4_space.specs.Lawful.{IsLawful}
 use Rattle.r4_space.specs.Space.{unused_count}
 use Rattle.r4_space.proofs.AccountLaws.{dues-without}
-use Rattle.r4_wander.proofs.Members.{from_map, in_map}
-use Rattle.r4_kept.specs.Accounts.{CountsCells}
-use Rattle.r4_kept.specs.Kept.{IsKept}
-use Rattle.r4_kept.specs.Naming.{Naming}
-use Rattle.r4_kept.specs.View.{CoreSeen}
+use Rattle.r4_renaming.proofs.r4_wander.Members.{from_map, in_map}
+use Rattle.r4_accounting.specs.r4_kept.Accounts.{CountsCells}
+use Rattle.r4_accounting.specs.r4_kept.Kept.{IsKept}
+use Rattle.r4_accounting.specs.r4_kept.Naming.{Naming}
+use Rattle.r4_accounting.specs.r4_kept.View.{CoreSeen}
 use Rattle.r4_flushing.specs.Sealing.{AreCellsOf, CanSeal, super_to_come}
 use Rattle.r4_flushing.proofs.Counting.{count_same, different_from, length_same}
 

@@ -8,18 +8,18 @@ use Rattle.r4_atoms.specs.Atoms.{owner_of}
 use Rattle.r4_base.proofs.Choices.{never_both}
 use Rattle.r4_base.specs.Key.{rank}
 use Rattle.r4_base.specs.declared.things.AtomNo.{AtomNo}
-use Rattle.r4_buffer.specs.Reading.{NamesStand}
-use Rattle.r4_buffer.specs.Seen.{EntrySeen, IsAncestor, buffered, is_above, is_captured, is_dirty_by}
-use Rattle.r4_buffer.proofs.Captured.{captured_is, is_captured_from}
-use Rattle.r4_cell.specs.Seen.{CellSeen, node_of}
-use Rattle.r4_flushed.proofs.FlushedCells.{FitsOnDisk}
-use Rattle.r4_flush.specs.declared.cells.RenamedCell.{RenamedCell}
-use Rattle.r4_flush.specs.declared.preparing.Prepared.{Prepared}
+use Rattle.r4_renaming.specs.r4_buffer.Reading.{NamesStand}
+use Rattle.r4_renaming.specs.r4_buffer.Seen.{EntrySeen, IsAncestor, buffered, is_above, is_captured, is_dirty_by}
+use Rattle.r4_renaming.proofs.r4_buffer.Captured.{captured_is, is_captured_from}
+use Rattle.r4_accounting.specs.r4_cell.Seen.{CellSeen, node_of}
+use Rattle.r4_renaming.proofs.r4_flushed.FlushedCells.{FitsOnDisk}
+use Rattle.r4_renaming.specs.r4_flush.declared.cells.RenamedCell.{RenamedCell}
+use Rattle.r4_renaming.specs.r4_flush.declared.preparing.Prepared.{Prepared}
 use Rattle.r4_outside.specs.Device.{State}
-use Rattle.r4_kept.specs.Cells.{AreReadable}
-use Rattle.r4_kept.specs.Naming.{Naming}
-use Rattle.r4_kept.specs.View.{CoreSeen, blocks_of}
-use Rattle.r4_kept.proofs.Readable.{captured_dirty}
+use Rattle.r4_accounting.specs.r4_kept.Cells.{AreReadable}
+use Rattle.r4_accounting.specs.r4_kept.Naming.{Naming}
+use Rattle.r4_accounting.specs.r4_kept.View.{CoreSeen, blocks_of}
+use Rattle.r4_accounting.proofs.r4_kept.Readable.{captured_dirty}
 use Rattle.r4_renaming.specs.Renaming.{was_named}
 use Rattle.r4_flushing.proofs.Accepted.{names_blocks}
 use Rattle.r4_flushing.proofs.Facts as facts

@@ -11,24 +11,24 @@ use Rattle.r4_base.proofs.Members.{member_here, member_later}
 use Rattle.r4_base.specs.Bitmap.{is_fixed}
 use Rattle.r4_base.specs.Image.{AreDifferent}
 use Rattle.r4_base.specs.declared.things.AtomNo.{AtomNo}
-use Rattle.r4_buffer.specs.Seen.{IsLawful as AreNamed, buffered}
-use Rattle.r4_cell.specs.Seen.{CellSeen}
-use Rattle.r4_commit.specs.Places.{place_of}
-use Rattle.r4_flush.specs.Anew.{AreMade, new_name}
-use Rattle.r4_flush.specs.Prepared.{WasCell, cells_of}
-use Rattle.r4_flush.specs.declared.cells.RenamedCell.{RenamedCell}
-use Rattle.r4_flush.specs.declared.preparing.Prepared.{Prepared}
-use Rattle.r4_history.proofs.Places.{next_there}
+use Rattle.r4_renaming.specs.r4_buffer.Seen.{IsLawful as AreNamed, buffered}
+use Rattle.r4_accounting.specs.r4_cell.Seen.{CellSeen}
+use Rattle.r4_renaming.specs.r4_commit.Places.{place_of}
+use Rattle.r4_renaming.specs.r4_flush.Anew.{AreMade, new_name}
+use Rattle.r4_renaming.specs.r4_flush.Prepared.{WasCell, cells_of}
+use Rattle.r4_renaming.specs.r4_flush.declared.cells.RenamedCell.{RenamedCell}
+use Rattle.r4_renaming.specs.r4_flush.declared.preparing.Prepared.{Prepared}
+use Rattle.r4_accounting.proofs.r4_history.Places.{next_there}
 use Rattle.r4_outside.specs.Device.{State}
 use Rattle.r4_renaming.specs.Renamed.{CanRename, MayGet}
 use Rattle.r4_space.specs.Lawful.{IsLawful}
 use Rattle.r4_space.specs.Space.{is_taken}
-use Rattle.r4_turns.specs.Turns.{HasNext, IsScript, turn_at}
-use Rattle.r4_turns.specs.declared.out.Out.{Out}
-use Rattle.r4_wander.proofs.Members.{any_here}
-use Rattle.r4_kept.specs.Kept.{IsKept}
-use Rattle.r4_kept.specs.Naming.{Naming}
-use Rattle.r4_kept.specs.View.{CoreSeen}
+use Rattle.r4_renaming.specs.r4_turns.Turns.{HasNext, IsScript, turn_at}
+use Rattle.r4_renaming.specs.r4_turns.declared.out.Out.{Out}
+use Rattle.r4_renaming.proofs.r4_wander.Members.{any_here}
+use Rattle.r4_accounting.specs.r4_kept.Kept.{IsKept}
+use Rattle.r4_accounting.specs.r4_kept.Naming.{Naming}
+use Rattle.r4_accounting.specs.r4_kept.View.{CoreSeen}
 use Rattle.r4_flushing.specs.Sealable.{MaySeal}
 use Rattle.r4_flushing.specs.Sealing.{super_to_come}
 use Rattle.r4_flushing.proofs.NewNames as names

@@ -2,23 +2,23 @@
 -- that seals changes nothing of what an image means, and the device is quiet, where the plan begins.
 use Rattle.std.proofs.Common.{◌≡◌, ℕ, List, Option, Some, None, refl, sym, subst}
 use Rattle.r4_base.specs.declared.things.AtomNo.{AtomNo}
-use Rattle.r4_cell.specs.Seen.{CellSeen}
+use Rattle.r4_accounting.specs.r4_cell.Seen.{CellSeen}
 use Rattle.r4_content.specs.Locality.{commands}
 use Rattle.r4_content.specs.Meaning.{greatest_size}
-use Rattle.r4_durable.specs.Meaning.{Beginning, IsNamed, means}
-use Rattle.r4_flush.specs.declared.preparing.Prepared.{Prepared}
-use Rattle.r4_flushed.proofs.FlushedCells.{FitsOnDisk}
+use Rattle.r4_accounting.specs.r4_durable.Meaning.{Beginning, IsNamed, means}
+use Rattle.r4_renaming.specs.r4_flush.declared.preparing.Prepared.{Prepared}
+use Rattle.r4_renaming.proofs.r4_flushed.FlushedCells.{FitsOnDisk}
 use Rattle.r4_outside.specs.Device.{IsQuiet, State, TellsCrashes}
 use Rattle.r4_space.specs.Space.{sealed_in}
 use Rattle.r4_trace.specs.declared.entry.Entry.TheVariants.{Sealed}
 use Rattle.r4_trace.proofs.Safely.{safe_push}
-use Rattle.r4_wander.proofs.Ending.{stands_first}
-use Rattle.r4_kept.specs.Durable.{IsDurable, LeavesNow}
-use Rattle.r4_kept.specs.Kept.{IsKept}
-use Rattle.r4_kept.specs.Naming.{Naming, names_in}
-use Rattle.r4_kept.specs.Steps.{with_entry}
-use Rattle.r4_kept.specs.View.{CoreSeen}
-use Rattle.r4_kept.specs.declared.parts.Commit.{Commit}
+use Rattle.r4_renaming.proofs.r4_wander.Ending.{stands_first}
+use Rattle.r4_accounting.specs.r4_kept.Durable.{IsDurable, LeavesNow}
+use Rattle.r4_accounting.specs.r4_kept.Kept.{IsKept}
+use Rattle.r4_accounting.specs.r4_kept.Naming.{Naming, names_in}
+use Rattle.r4_accounting.specs.r4_kept.Steps.{with_entry}
+use Rattle.r4_accounting.specs.r4_kept.View.{CoreSeen}
+use Rattle.r4_accounting.specs.r4_kept.declared.parts.Commit.{Commit}
 use Rattle.r4_flushing.specs.Sealable.{CountFits, IsSealable}
 use Rattle.r4_renaming.specs.Renaming.{name_then, turns_with_pins}
 use Rattle.r4_flushing.specs.Sealing.{CanSeal, HasSealed, root_renamed}

@@ -7,11 +7,11 @@ use Rattle.std.proofs.lemmas.Bool.{ne_eqb}
 use Rattle.r4_atoms.specs.Atoms.{AtomsSeen, IsBegun, IsOpenAtom, TxnSeen, account_of, atom_of, is_committed, is_sealed}
 use Rattle.r4_atoms.specs.Atoms.{new_atom, no_txn, state_of, without_owner}
 use Rattle.r4_atoms.specs.declared.things.AtomState.{AtomState}
-use Rattle.r4_buffer.specs.Changed.{has_name}
-use Rattle.r4_flush.specs.Prepared.{cells_of}
-use Rattle.r4_flush.specs.declared.cells.RenamedCell.{RenamedCell}
-use Rattle.r4_history.specs.Tables.{with_sealed}
-use Rattle.r4_kept.proofs.States.{state_others, state_same, state_there}
+use Rattle.r4_renaming.specs.r4_buffer.Changed.{has_name}
+use Rattle.r4_renaming.specs.r4_flush.Prepared.{cells_of}
+use Rattle.r4_renaming.specs.r4_flush.declared.cells.RenamedCell.{RenamedCell}
+use Rattle.r4_accounting.specs.r4_history.Tables.{with_sealed}
+use Rattle.r4_accounting.proofs.r4_kept.States.{state_others, state_same, state_there}
 use Rattle.r4_renaming.specs.Renaming.{owner_then}
 
 -- ---- the states of atoms

@@ -4,17 +4,17 @@ use Rattle.std.proofs.Common.{◌≡◌, List, None, sym, ◌∙◌, ap}
 use Rattle.std.proofs.Common.{subst}
 use Rattle.r4_atoms.specs.Atoms.{owner_of}
 use Rattle.r4_base.specs.declared.things.AtomNo.{AtomNo}
-use Rattle.r4_cell.specs.Seen.{CellSeen}
-use Rattle.r4_flush.specs.declared.cells.RenamedCell.{RenamedCell}
-use Rattle.r4_flush.specs.declared.preparing.Prepared.{Prepared}
-use Rattle.r4_history.specs.Held.{OwnersFollow}
-use Rattle.r4_history.proofs.TaskSteps.{tasks_other, tasks_owned}
+use Rattle.r4_accounting.specs.r4_cell.Seen.{CellSeen}
+use Rattle.r4_renaming.specs.r4_flush.declared.cells.RenamedCell.{RenamedCell}
+use Rattle.r4_renaming.specs.r4_flush.declared.preparing.Prepared.{Prepared}
+use Rattle.r4_accounting.specs.r4_history.Held.{OwnersFollow}
+use Rattle.r4_accounting.proofs.r4_history.TaskSteps.{tasks_other, tasks_owned}
 use Rattle.r4_outside.specs.Device.{State}
-use Rattle.r4_turns.specs.Turns.{TurnsSeen}
-use Rattle.r4_kept.specs.Naming.{Naming}
-use Rattle.r4_kept.specs.Tables.{AreTables}
-use Rattle.r4_kept.specs.View.{CoreSeen, committing, tables_of}
-use Rattle.r4_done.proofs.Named.{reached_one}
+use Rattle.r4_renaming.specs.r4_turns.Turns.{TurnsSeen}
+use Rattle.r4_accounting.specs.r4_kept.Naming.{Naming}
+use Rattle.r4_accounting.specs.r4_kept.Tables.{AreTables}
+use Rattle.r4_accounting.specs.r4_kept.View.{CoreSeen, committing, tables_of}
+use Rattle.r4_accounting.proofs.r4_done.Named.{reached_one}
 use Rattle.r4_renaming.specs.Renaming.{name_then, turns_with_pins}
 use Rattle.r4_flushing.proofs.Facts.{Sealing}
 use Rattle.r4_flushing.proofs.Pins.{scripts_before, tasks_then}

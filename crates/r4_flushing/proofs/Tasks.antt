@@ -9,27 +9,27 @@ use Rattle.std.proofs.lemmas.Bool.{cases_Bool}
 use Rattle.r4_atoms.specs.Atoms.{owner_of, without_owner}
 use Rattle.r4_base.specs.Tree.{Name}
 use Rattle.r4_base.specs.declared.things.AtomNo.{AtomNo}
-use Rattle.r4_buffer.specs.Changed.{Standing, has_name, uses_of}
-use Rattle.r4_buffer.specs.Seen.{EntrySeen, buffered}
-use Rattle.r4_cell.specs.Seen.{CellSeen}
-use Rattle.r4_cell.specs.declared.change.Root.{Root}
+use Rattle.r4_renaming.specs.r4_buffer.Changed.{Standing, has_name, uses_of}
+use Rattle.r4_renaming.specs.r4_buffer.Seen.{EntrySeen, buffered}
+use Rattle.r4_accounting.specs.r4_cell.Seen.{CellSeen}
+use Rattle.r4_accounting.specs.r4_cell.declared.change.Root.{Root}
 use Rattle.r4_content.specs.Meaning.{with_id}
 use Rattle.r4_content.specs.declared.command.Command.{Command}
-use Rattle.r4_flush.specs.Prepared.{cells_of}
-use Rattle.r4_flush.specs.declared.cells.RenamedCell.{RenamedCell}
-use Rattle.r4_flush.specs.declared.preparing.Prepared.{Prepared}
-use Rattle.r4_flushed.proofs.FlushedCells.{FitsOnDisk}
-use Rattle.r4_history.specs.Drawn.{numbers_of}
-use Rattle.r4_history.specs.Held.{IsOut}
-use Rattle.r4_history.specs.Tables.{next_at}
+use Rattle.r4_renaming.specs.r4_flush.Prepared.{cells_of}
+use Rattle.r4_renaming.specs.r4_flush.declared.cells.RenamedCell.{RenamedCell}
+use Rattle.r4_renaming.specs.r4_flush.declared.preparing.Prepared.{Prepared}
+use Rattle.r4_renaming.proofs.r4_flushed.FlushedCells.{FitsOnDisk}
+use Rattle.r4_accounting.specs.r4_history.Drawn.{numbers_of}
+use Rattle.r4_accounting.specs.r4_history.Held.{IsOut}
+use Rattle.r4_accounting.specs.r4_history.Tables.{next_at}
 use Rattle.r4_outside.specs.Device.{State}
-use Rattle.r4_turns.specs.Turns.{IsScript, TurnsSeen, turn_at}
-use Rattle.r4_turns.specs.declared.out.Numbers.{Numbers}
-use Rattle.r4_turns.specs.declared.out.Out.{Out}
-use Rattle.r4_kept.specs.Cells.{NamesAt}
-use Rattle.r4_kept.specs.Naming.{Naming}
-use Rattle.r4_kept.specs.TasksOut.{AreOut, IsGiven, pins_on}
-use Rattle.r4_kept.specs.View.{CoreSeen}
+use Rattle.r4_renaming.specs.r4_turns.Turns.{IsScript, TurnsSeen, turn_at}
+use Rattle.r4_renaming.specs.r4_turns.declared.out.Numbers.{Numbers}
+use Rattle.r4_renaming.specs.r4_turns.declared.out.Out.{Out}
+use Rattle.r4_accounting.specs.r4_kept.Cells.{NamesAt}
+use Rattle.r4_accounting.specs.r4_kept.Naming.{Naming}
+use Rattle.r4_accounting.specs.r4_kept.TasksOut.{AreOut, IsGiven, pins_on}
+use Rattle.r4_accounting.specs.r4_kept.View.{CoreSeen}
 use Rattle.r4_renaming.specs.Renaming.{name_then, turns_with_pins, was_named, with_pins}
 use Rattle.r4_flushing.specs.Sealing.{root_renamed}
 use Rattle.r4_flushing.proofs.Cells.{named_before}

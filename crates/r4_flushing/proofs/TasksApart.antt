@@ -6,20 +6,20 @@ use Rattle.r4_atoms.specs.Atoms.{owner_of}
 use Rattle.r4_base.specs.declared.things.AtomNo.{AtomNo}
 use Rattle.r4_base.specs.declared.things.TxnNo.{TxnNo}
 use Rattle.r4_atoms.specs.Atoms.{IsBegun, txn_of}
-use Rattle.r4_buffer.specs.Changed.{has_name}
-use Rattle.r4_buffer.specs.Seen.{buffered}
-use Rattle.r4_cell.specs.Seen.{CellSeen}
+use Rattle.r4_renaming.specs.r4_buffer.Changed.{has_name}
+use Rattle.r4_renaming.specs.r4_buffer.Seen.{buffered}
+use Rattle.r4_accounting.specs.r4_cell.Seen.{CellSeen}
 use Rattle.r4_content.specs.Locality.{commands}
 use Rattle.r4_content.specs.Meaning.{greatest_size}
-use Rattle.r4_flush.specs.Prepared.{cells_of}
-use Rattle.r4_flush.specs.declared.preparing.Prepared.{Prepared}
-use Rattle.r4_history.specs.Held.{IsOut}
-use Rattle.r4_history.proofs.RunSteps.{open_in_both}
+use Rattle.r4_renaming.specs.r4_flush.Prepared.{cells_of}
+use Rattle.r4_renaming.specs.r4_flush.declared.preparing.Prepared.{Prepared}
+use Rattle.r4_accounting.specs.r4_history.Held.{IsOut}
+use Rattle.r4_accounting.proofs.r4_history.RunSteps.{open_in_both}
 use Rattle.r4_outside.specs.Device.{State}
-use Rattle.r4_turns.specs.declared.out.Out.{Out}
-use Rattle.r4_kept.specs.Naming.{Naming}
-use Rattle.r4_kept.specs.View.{CoreSeen, tables_of}
-use Rattle.r4_done.proofs.Named.{node_of_need}
+use Rattle.r4_renaming.specs.r4_turns.declared.out.Out.{Out}
+use Rattle.r4_accounting.specs.r4_kept.Naming.{Naming}
+use Rattle.r4_accounting.specs.r4_kept.View.{CoreSeen, tables_of}
+use Rattle.r4_accounting.proofs.r4_done.Named.{node_of_need}
 use Rattle.r4_renaming.specs.Renaming.{was_named}
 use Rattle.r4_flushing.proofs.Facts as facts
 use Rattle.r4_flushing.proofs.Facts.{Sealing}

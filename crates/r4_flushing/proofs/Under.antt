@@ -14,32 +14,32 @@ use Rattle.r4_base.specs.Volume.{HasStat, objects_in, root_of, stat_rank}
 use Rattle.r4_base.specs.declared.superblock.LayoutFault.{LayoutFault}
 use Rattle.r4_base.specs.declared.superblock.Super40.{Super40}
 use Rattle.r4_base.specs.declared.things.AtomNo.{AtomNo}
-use Rattle.r4_cell.specs.Seen.{CellSeen}
-use Rattle.r4_cell.specs.declared.change.Root.{Root as RootPair}
-use Rattle.r4_commit.specs.Plannable.{is_marked_in}
-use Rattle.r4_commit.proofs.Safety.{not_taken}
+use Rattle.r4_accounting.specs.r4_cell.Seen.{CellSeen}
+use Rattle.r4_accounting.specs.r4_cell.declared.change.Root.{Root as RootPair}
+use Rattle.r4_renaming.specs.r4_commit.Plannable.{is_marked_in}
+use Rattle.r4_renaming.proofs.r4_commit.Safety.{not_taken}
 use Rattle.r4_content.specs.Locality.{commands}
 use Rattle.r4_content.specs.Meaning.{greatest_size}
-use Rattle.r4_durable.specs.Kept.{CanSeal as CanBeSealed, IsUnderWay, Means as MeansAtRest, sealing_of}
-use Rattle.r4_durable.specs.Meaning.{Beginning, IsNamed, IsNextId, first_id, ids_for, start_of}
-use Rattle.r4_durable.specs.Sealing.{Sealing as SealingOf, session_after, start_in}
-use Rattle.r4_flush.specs.declared.preparing.Prepared.{Prepared}
-use Rattle.r4_flush.proofs.Flushed.{plan_is_for, root_agrees}
-use Rattle.r4_flushed.proofs.FlushedCells.{FitsOnDisk}
-use Rattle.r4_history.specs.Drawn.{ahead_at}
-use Rattle.r4_history.specs.Tables.{asked}
-use Rattle.r4_history.proofs.Drawing.{from_few}
+use Rattle.r4_accounting.specs.r4_durable.Kept.{CanSeal as CanBeSealed, IsUnderWay, Means as MeansAtRest, sealing_of}
+use Rattle.r4_accounting.specs.r4_durable.Meaning.{Beginning, IsNamed, IsNextId, first_id, ids_for, start_of}
+use Rattle.r4_accounting.specs.r4_durable.Sealing.{Sealing as SealingOf, session_after, start_in}
+use Rattle.r4_renaming.specs.r4_flush.declared.preparing.Prepared.{Prepared}
+use Rattle.r4_renaming.proofs.r4_flush.Flushed.{plan_is_for, root_agrees}
+use Rattle.r4_renaming.proofs.r4_flushed.FlushedCells.{FitsOnDisk}
+use Rattle.r4_accounting.specs.r4_history.Drawn.{ahead_at}
+use Rattle.r4_accounting.specs.r4_history.Tables.{asked}
+use Rattle.r4_accounting.proofs.r4_history.Drawing.{from_few}
 use Rattle.r4_outside.specs.Device.{State}
-use Rattle.r4_place.specs.Chosen.{fresh_blocks}
-use Rattle.r4_placed.specs.Flushing.{Flushing, name_after}
-use Rattle.r4_placed.proofs.Planning.{cell_marked, or_first}
-use Rattle.r4_script.specs.Text.{job_of}
-use Rattle.r4_script.specs.declared.fault.ScriptFault.{ScriptFault}
-use Rattle.r4_script.specs.declared.job.Job.{Job}
-use Rattle.r4_sealed.specs.Contents.{RenewsSuper}
-use Rattle.r4_sets.specs.Session.{Layer, Session, in_base, in_set, in_under, only, picks}
-use Rattle.r4_sets_told.specs.Runs.{CountsObjects, IsLawfulRun, born_in, gone_in}
-use Rattle.r4_sets_told.proofs.Counted.{counted}
+use Rattle.r4_renaming.specs.r4_place.Chosen.{fresh_blocks}
+use Rattle.r4_renaming.specs.r4_placed.Flushing.{Flushing, name_after}
+use Rattle.r4_renaming.proofs.r4_placed.Planning.{cell_marked, or_first}
+use Rattle.r4_renaming.specs.r4_script.Text.{job_of}
+use Rattle.r4_renaming.specs.r4_script.declared.fault.ScriptFault.{ScriptFault}
+use Rattle.r4_renaming.specs.r4_script.declared.job.Job.{Job}
+use Rattle.r4_renaming.specs.r4_sealed.Contents.{RenewsSuper}
+use Rattle.r4_renaming.specs.r4_sets.Session.{Layer, Session, in_base, in_set, in_under, only, picks}
+use Rattle.r4_renaming.specs.r4_sets_told.Runs.{CountsObjects, IsLawfulRun, born_in, gone_in}
+use Rattle.r4_renaming.proofs.r4_sets_told.Counted.{counted}
 use Rattle.r4_trace.specs.Folds.{content_of}
 use Rattle.r4_trace.specs.Ids.{IsDrawn, Start, makers, no_id}
 use Rattle.r4_trace.specs.Job.{Asked}
@@ -48,10 +48,10 @@ use Rattle.r4_trace.specs.declared.entry.Entry.{Entry}
 use Rattle.r4_space.specs.Space.{is_claimed, is_taken}
 use Rattle.r4_trace.specs.declared.entry.Entry.TheVariants.{Acked, Begin, Broken, Committed, Done, Ended, Fuse, Refused}
 use Rattle.r4_trace.specs.declared.entry.Entry.TheVariants.{Sealed}
-use Rattle.r4_wander.specs.declared.plan.LogPlan.{LogPlan}
-use Rattle.r4_kept.specs.Meaning.{HasMeaning, if_open}
-use Rattle.r4_kept.specs.Naming.{Naming, job_named, job_read, names_in}
-use Rattle.r4_kept.specs.View.{CoreSeen, root_seen}
+use Rattle.r4_renaming.specs.r4_wander.declared.plan.LogPlan.{LogPlan}
+use Rattle.r4_accounting.specs.r4_kept.Meaning.{HasMeaning, if_open}
+use Rattle.r4_accounting.specs.r4_kept.Naming.{Naming, job_named, job_read, names_in}
+use Rattle.r4_accounting.specs.r4_kept.View.{CoreSeen, root_seen}
 use Rattle.r4_flushing.specs.Sealable.{CountFits}
 use Rattle.r4_flushing.specs.Sealing.{root_under, super_to_come}
 use Rattle.r4_flushing.proofs.Accounts.{still}

@@ -14,36 +14,36 @@ use Rattle.r4_base.specs.Layout.{IsLawfulSuper}
 use Rattle.r4_base.specs.declared.superblock.Super40.{Super40}
 use Rattle.r4_base.specs.declared.things.AtomNo.{AtomNo}
 use Rattle.r4_base.specs.declared.things.BlockNo.{BlockNo}
-use Rattle.r4_buffer.specs.Changed.{has_name}
-use Rattle.r4_buffer.specs.Seen.{EntrySeen, buffered, is_dirty_by}
-use Rattle.r4_cell.specs.Seen.{CellSeen}
-use Rattle.r4_cell.specs.declared.change.Root.{Root}
-use Rattle.r4_commit.specs.Planned.{CommitSeen, IsUnused, blocks_of as log_of}
-use Rattle.r4_commit.proofs.PlanFacts.{given_fresh, in_fresh, placed_fresh}
-use Rattle.r4_commit.proofs.Safety.{first_are, fixed_low, not_fixed_range}
-use Rattle.r4_flush.specs.Prepared.{IsPrepared, cells_of}
-use Rattle.r4_flush.specs.declared.preparing.Prepared.{Prepared}
-use Rattle.r4_flush.proofs.Choosing.{same_count}
-use Rattle.r4_flush.proofs.Overwriting.{placed_by_block}
-use Rattle.r4_flushed.proofs.FlushedCells.{FitsOnDisk}
+use Rattle.r4_renaming.specs.r4_buffer.Changed.{has_name}
+use Rattle.r4_renaming.specs.r4_buffer.Seen.{EntrySeen, buffered, is_dirty_by}
+use Rattle.r4_accounting.specs.r4_cell.Seen.{CellSeen}
+use Rattle.r4_accounting.specs.r4_cell.declared.change.Root.{Root}
+use Rattle.r4_renaming.specs.r4_commit.Planned.{CommitSeen, IsUnused, blocks_of as log_of}
+use Rattle.r4_renaming.proofs.r4_commit.PlanFacts.{given_fresh, in_fresh, placed_fresh}
+use Rattle.r4_renaming.proofs.r4_commit.Safety.{first_are, fixed_low, not_fixed_range}
+use Rattle.r4_renaming.specs.r4_flush.Prepared.{IsPrepared, cells_of}
+use Rattle.r4_renaming.specs.r4_flush.declared.preparing.Prepared.{Prepared}
+use Rattle.r4_renaming.proofs.r4_flush.Choosing.{same_count}
+use Rattle.r4_renaming.proofs.r4_flush.Overwriting.{placed_by_block}
+use Rattle.r4_renaming.proofs.r4_flushed.FlushedCells.{FitsOnDisk}
 use Rattle.r4_outside.specs.Device.{State, TellsReads}
-use Rattle.r4_place.specs.Chosen.{fresh_blocks, placed_all}
-use Rattle.r4_placed.specs.Flushing.{answers_by_block}
+use Rattle.r4_renaming.specs.r4_place.Chosen.{fresh_blocks, placed_all}
+use Rattle.r4_renaming.specs.r4_placed.Flushing.{answers_by_block}
 use Rattle.r4_space.specs.Space.{Space, is_taken}
-use Rattle.r4_wander.specs.LogPlan.{parts_of}
-use Rattle.r4_wander.specs.Parts.{base_of, part}
-use Rattle.r4_wander.specs.Progress.{FitOn}
-use Rattle.r4_wander.specs.Seen.{Placed as PlacedCell}
-use Rattle.r4_wander.specs.Torn.{IsTarget}
-use Rattle.r4_wander.specs.declared.plan.LogPlan.{LogPlan}
-use Rattle.r4_wander.proofs.Ending.{reads_first}
-use Rattle.r4_wander.proofs.Fitting.{fits}
-use Rattle.r4_wander.proofs.Order.{part_target}
-use Rattle.r4_wander.proofs.Settling.{one_target}
-use Rattle.r4_commit.specs.Places.{place_of}
-use Rattle.r4_kept.specs.Cells.{IsAccepted, IsWriting}
-use Rattle.r4_kept.specs.Naming.{Naming}
-use Rattle.r4_kept.specs.View.{CoreSeen, blocks_of}
+use Rattle.r4_renaming.specs.r4_wander.LogPlan.{parts_of}
+use Rattle.r4_renaming.specs.r4_wander.Parts.{base_of, part}
+use Rattle.r4_renaming.specs.r4_wander.Progress.{FitOn}
+use Rattle.r4_renaming.specs.r4_wander.Seen.{Placed as PlacedCell}
+use Rattle.r4_renaming.specs.r4_wander.Torn.{IsTarget}
+use Rattle.r4_renaming.specs.r4_wander.declared.plan.LogPlan.{LogPlan}
+use Rattle.r4_renaming.proofs.r4_wander.Ending.{reads_first}
+use Rattle.r4_renaming.proofs.r4_wander.Fitting.{fits}
+use Rattle.r4_renaming.proofs.r4_wander.Order.{part_target}
+use Rattle.r4_renaming.proofs.r4_wander.Settling.{one_target}
+use Rattle.r4_renaming.specs.r4_commit.Places.{place_of}
+use Rattle.r4_accounting.specs.r4_kept.Cells.{IsAccepted, IsWriting}
+use Rattle.r4_accounting.specs.r4_kept.Naming.{Naming}
+use Rattle.r4_accounting.specs.r4_kept.View.{CoreSeen, blocks_of}
 use Rattle.r4_renaming.specs.Renaming.{was_named}
 use Rattle.r4_flushing.specs.Sealable.{IsClear}
 use Rattle.r4_flushing.specs.Sealing.{root_under, super_to_come}
@@ -54,7 +54,7 @@ use Rattle.r4_flushing.proofs.Facts.{IsRenamed, Sealing}
 use Rattle.r4_flushing.proofs.Lands.{home_of, lands}
 use Rattle.r4_flushing.proofs.NewNames.{cell_in, once_then}
 use Rattle.r4_flushing.proofs.SealedAtoms.{owner_mine}
-use Rattle.r4_done.proofs.Named.{has_one}
+use Rattle.r4_accounting.proofs.r4_done.Named.{has_one}
 
 module _ {D : Type 0} (r : Naming) (d : State) (c new : CoreSeen D) (a : AtomNo) (given : List CellSeen) (p : Prepared)
     (z : Sealing r d c new a given p) (disk : FitsOnDisk) where

@@ -6,23 +6,23 @@ use Rattle.std.specs.Arc.{arc_value}
 use Rattle.r4_atoms.specs.Atoms.{account_of, owner_of}
 use Rattle.r4_base.specs.Tree.{Name}
 use Rattle.r4_base.specs.declared.things.AtomNo.{AtomNo}
-use Rattle.r4_buffer.specs.Seen.{IsLawful as AreNamed, buffered}
-use Rattle.r4_cell.specs.Seen.{CellSeen}
+use Rattle.r4_renaming.specs.r4_buffer.Seen.{IsLawful as AreNamed, buffered}
+use Rattle.r4_accounting.specs.r4_cell.Seen.{CellSeen}
 use Rattle.r4_closed.specs.Closed.{AreClosed, MayBeNamed}
-use Rattle.r4_durable.specs.Meaning.{Beginning, IsNamed}
-use Rattle.r4_flush.specs.Prepared.{IsPrepared}
-use Rattle.r4_flush.specs.declared.cells.RenamedCell.{RenamedCell}
-use Rattle.r4_flush.specs.declared.preparing.Prepared.{Prepared}
-use Rattle.r4_history.specs.Held.{AreOwners, IsOut}
+use Rattle.r4_accounting.specs.r4_durable.Meaning.{Beginning, IsNamed}
+use Rattle.r4_renaming.specs.r4_flush.Prepared.{IsPrepared}
+use Rattle.r4_renaming.specs.r4_flush.declared.cells.RenamedCell.{RenamedCell}
+use Rattle.r4_renaming.specs.r4_flush.declared.preparing.Prepared.{Prepared}
+use Rattle.r4_accounting.specs.r4_history.Held.{AreOwners, IsOut}
 use Rattle.r4_outside.specs.Device.{State}
 use Rattle.r4_space.specs.Lawful.{IsLawful}
 use Rattle.r4_space.specs.Space.{is_taken}
-use Rattle.r4_turns.specs.declared.out.Out.{Out}
-use Rattle.r4_wander.specs.Parts.{part}
-use Rattle.r4_wander.specs.Torn.{IsTarget}
-use Rattle.r4_kept.specs.Cells.{NamesAt}
-use Rattle.r4_kept.specs.Naming.{Naming, names_in}
-use Rattle.r4_kept.specs.View.{CoreSeen}
+use Rattle.r4_renaming.specs.r4_turns.declared.out.Out.{Out}
+use Rattle.r4_renaming.specs.r4_wander.Parts.{part}
+use Rattle.r4_renaming.specs.r4_wander.Torn.{IsTarget}
+use Rattle.r4_accounting.specs.r4_kept.Cells.{NamesAt}
+use Rattle.r4_accounting.specs.r4_kept.Naming.{Naming, names_in}
+use Rattle.r4_accounting.specs.r4_kept.View.{CoreSeen}
 use Rattle.r4_flushing.specs.Sealing.{AreCellsOf, CanSeal, super_to_come}
 
 -- ---- what can be looked up as an atom is sealed

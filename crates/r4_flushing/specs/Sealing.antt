@@ -9,18 +9,18 @@ use Rattle.r4_atoms.specs.declared.things.Account.{Account}
 use Rattle.r4_base.specs.declared.superblock.Super40.{Super40}
 use Rattle.r4_base.specs.declared.things.AtomNo.{AtomNo}
 use Rattle.r4_base.specs.declared.things.NodeId.{NodeId}
-use Rattle.r4_buffer.specs.Seen.{BufferSeen, cell_at}
-use Rattle.r4_cell.specs.Seen.{CellSeen}
-use Rattle.r4_cell.specs.declared.change.Root.{Root}
-use Rattle.r4_flush.specs.Prepared.{IsPrepared}
-use Rattle.r4_flush.specs.declared.preparing.Prepared.{Prepared}
-use Rattle.r4_history.specs.Tables.{with_sealed}
+use Rattle.r4_renaming.specs.r4_buffer.Seen.{BufferSeen, cell_at}
+use Rattle.r4_accounting.specs.r4_cell.Seen.{CellSeen}
+use Rattle.r4_accounting.specs.r4_cell.declared.change.Root.{Root}
+use Rattle.r4_renaming.specs.r4_flush.Prepared.{IsPrepared}
+use Rattle.r4_renaming.specs.r4_flush.declared.preparing.Prepared.{Prepared}
+use Rattle.r4_accounting.specs.r4_history.Tables.{with_sealed}
 use Rattle.r4_renaming.specs.Renaming.{HaveNewNames, name_then, owner_then, turns_with_pins}
 use Rattle.r4_space.specs.Space.{sealed_in}
 use Rattle.r4_trace.specs.declared.entry.Entry.TheVariants.{Sealed}
-use Rattle.r4_kept.specs.History.{owed}
-use Rattle.r4_kept.specs.Steps.{with_entry}
-use Rattle.r4_kept.specs.View.{CoreSeen}
+use Rattle.r4_accounting.specs.r4_kept.History.{owed}
+use Rattle.r4_accounting.specs.r4_kept.Steps.{with_entry}
+use Rattle.r4_accounting.specs.r4_kept.View.{CoreSeen}
 
 -- ---- the superblock to come
 

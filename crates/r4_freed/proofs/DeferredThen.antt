@@ -12,24 +12,24 @@ use Rattle.r4_base.specs.Value.{Value}
 use Rattle.r4_base.specs.declared.things.AtomNo.{AtomNo}
 use Rattle.r4_base.specs.declared.things.ScriptNo.{ScriptNo}
 use Rattle.r4_base.specs.declared.things.TxnNo.{TxnNo}
-use Rattle.r4_buffer.specs.Changed.{has_name}
-use Rattle.r4_cell.specs.Patch.{IsChange, by_name, patch_of}
-use Rattle.r4_cell.specs.Seen.{CellSeen, node_of}
-use Rattle.r4_cell.specs.declared.change.Root.{Root as RootPair}
+use Rattle.r4_accounting.specs.r4_buffer.Changed.{has_name}
+use Rattle.r4_accounting.specs.r4_cell.Patch.{IsChange, by_name, patch_of}
+use Rattle.r4_accounting.specs.r4_cell.Seen.{CellSeen, node_of}
+use Rattle.r4_accounting.specs.r4_cell.declared.change.Root.{Root as RootPair}
 use Rattle.r4_content.specs.Locality.{commands}
 use Rattle.r4_content.specs.Meaning.{greatest_size}
 use Rattle.r4_content.specs.declared.command.Command.{Command}
-use Rattle.r4_flushed.specs.Deferred.{AreDeferred, AreDeferredBut, IsDeferred}
-use Rattle.r4_flushed.specs.Flushed.{IsGone, OwnsBlocks}
-use Rattle.r4_patch.proofs.Members.{distinct, there}
-use Rattle.r4_sets.specs.Change.{IsFree as IsFreeFor}
-use Rattle.r4_sets.specs.Session.{Session, Sets}
+use Rattle.r4_accounting.specs.r4_flushed.Deferred.{AreDeferred, AreDeferredBut, IsDeferred}
+use Rattle.r4_accounting.specs.r4_flushed.Flushed.{IsGone, OwnsBlocks}
+use Rattle.r4_accounting.proofs.r4_patch.Members.{distinct, there}
+use Rattle.r4_accounting.specs.r4_sets.Change.{IsFree as IsFreeFor}
+use Rattle.r4_accounting.specs.r4_sets.Session.{Session, Sets}
 use Rattle.r4_space.specs.Space.{Space, charged, claims_of, is_claimed, is_taken}
 use Rattle.r4_space.specs.declared.things.Claim.{Claim}
-use Rattle.r4_trace.specs.Traced.{atom_in}
-use Rattle.r4_turns.specs.declared.out.Numbers.{Numbers}
+use Rattle.r4_accounting.specs.r4_trace.Traced.{atom_in}
+use Rattle.r4_accounting.specs.r4_turns.declared.out.Numbers.{Numbers}
 use Rattle.r4_accounting.specs.r4_kept.declared.parts.Commit.{Commit}
-use Rattle.r4_taking.specs.Following.{Follows}
+use Rattle.r4_accounting.specs.r4_taking.Following.{Follows}
 use Rattle.r4_accounting.specs.r4_done.Right.{session_done}
 use Rattle.r4_accounting.proofs.r4_done.DoneMeaning.{comes, goes_away, stays, touches_is}
 use Rattle.r4_accounting.proofs.r4_done.DoneRun.{old_under}

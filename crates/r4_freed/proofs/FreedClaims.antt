@@ -7,10 +7,10 @@ use Rattle.std.proofs.lemmas.List.Elements.{filter-append}
 use Rattle.std.proofs.lemmas.List.Folds.{list_any-append}
 use Rattle.r4_accounting.specs.Accounting.{claim_of, deferring, freed}
 use Rattle.r4_base.specs.declared.things.AtomNo.{AtomNo}
-use Rattle.r4_buffer.specs.Changed.{has_name}
-use Rattle.r4_cell.specs.Seen.{CellSeen}
-use Rattle.r4_durable.specs.GoingOn.{MarksAlike}
-use Rattle.r4_sealed.specs.Commits.{IsLater}
+use Rattle.r4_accounting.specs.r4_buffer.Changed.{has_name}
+use Rattle.r4_accounting.specs.r4_cell.Seen.{CellSeen}
+use Rattle.r4_accounting.specs.r4_durable.GoingOn.{MarksAlike}
+use Rattle.r4_accounting.specs.r4_sealed.Commits.{IsLater}
 use Rattle.r4_space.specs.Accounts.{is_atom}
 use Rattle.r4_space.specs.Space.{Space, charged, claims_of, is_block, is_claimed}
 use Rattle.r4_space.specs.declared.things.Claim.{Claim}

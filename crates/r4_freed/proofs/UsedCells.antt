@@ -9,23 +9,23 @@ use Rattle.r4_base.specs.Image.{Image}
 use Rattle.r4_base.specs.Tree.{Node, Store}
 use Rattle.r4_base.specs.Value.{Value}
 use Rattle.r4_base.specs.declared.things.AtomNo.{AtomNo}
-use Rattle.r4_commit.specs.Planned.{CommitSeen}
+use Rattle.r4_accounting.specs.r4_commit.Planned.{CommitSeen}
 use Rattle.r4_content.specs.Meaning.{greatest_size}
-use Rattle.r4_durable.specs.Kept.{Means, sealing_of}
-use Rattle.r4_durable.specs.Meaning.{Beginning, first_id}
-use Rattle.r4_durable.specs.Sealing.{IsSealing, Sealing, commit_in, made_by, session_after}
-use Rattle.r4_durable.proofs.Flushes.{is_sealing}
-use Rattle.r4_durable.proofs.SealedContent.{count_is, new_content, ok}
-use Rattle.r4_flushed.proofs.FlushedCells.{FitsOnDisk}
+use Rattle.r4_accounting.specs.r4_durable.Kept.{Means, sealing_of}
+use Rattle.r4_accounting.specs.r4_durable.Meaning.{Beginning, first_id}
+use Rattle.r4_accounting.specs.r4_durable.Sealing.{IsSealing, Sealing, commit_in, made_by, session_after}
+use Rattle.r4_accounting.proofs.r4_durable.Flushes.{is_sealing}
+use Rattle.r4_accounting.proofs.r4_durable.SealedContent.{count_is, new_content, ok}
+use Rattle.r4_accounting.proofs.r4_flushed.FlushedCells.{FitsOnDisk}
 use Rattle.r4_outside.specs.Device.{State}
-use Rattle.r4_sealed.specs.Commits.{image_after, super_after}
-use Rattle.r4_sealed.specs.Contents.{HasContentWith}
-use Rattle.r4_sealed.proofs.NewCells.{marks_after, or_first, or_second}
-use Rattle.r4_sets.specs.Session.{Layer, Session}
-use Rattle.r4_sets.proofs.Patches.{empty_sealed}
+use Rattle.r4_accounting.specs.r4_sealed.Commits.{image_after, super_after}
+use Rattle.r4_accounting.specs.r4_sealed.Contents.{HasContentWith}
+use Rattle.r4_accounting.proofs.r4_sealed.NewCells.{marks_after, or_first, or_second}
+use Rattle.r4_accounting.specs.r4_sets.Session.{Layer, Session}
+use Rattle.r4_accounting.proofs.r4_sets.Patches.{empty_sealed}
 use Rattle.r4_space.specs.Space.{Space, freed_by, is_claimed, is_marked_after, is_marked_by, is_taken, is_taken_by, up_to}
-use Rattle.r4_trace.specs.Job.{Asked}
-use Rattle.r4_trace.specs.Traced.{sealed_in}
+use Rattle.r4_accounting.specs.r4_trace.Job.{Asked}
+use Rattle.r4_accounting.specs.r4_trace.Traced.{sealed_in}
 use Rattle.r4_accounting.specs.r4_kept.Meaning.{ComesFrom, IsAt, IsAtRest, IsFlushing, IsInCommit, IsSealedEmpty}
 use Rattle.r4_accounting.specs.r4_kept.Story.{Flush, Headed}
 use Rattle.r4_accounting.specs.r4_kept.declared.parts.Commit.{Commit}

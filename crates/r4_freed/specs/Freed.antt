@@ -2,7 +2,7 @@
 use Rattle.std.specs.Prelude.{ℕ, List}
 use Rattle.r4_accounting.specs.Accounting.{HasDeferred}
 use Rattle.r4_base.specs.declared.things.AtomNo.{AtomNo}
-use Rattle.r4_cell.specs.Seen.{CellSeen}
+use Rattle.r4_accounting.specs.r4_cell.Seen.{CellSeen}
 use Rattle.r4_space.specs.Lawful.{IsLawful}
 use Rattle.r4_space.specs.Space.{Space, charged}
 

@@ -1,7 +1,7 @@
 -- A tree stays the same over calls that follow one another.
 use Rattle.std.proofs.Common.{◌≡◌, ℕ, List, Option, None, Some, ◌∙◌, refl, subst, sym}
 use Rattle.std.proofs.lemmas.Option.{none-some, same_Some}
-use Rattle.r4_cell.specs.Seen.{CellSeen}
+use Rattle.r4_search.specs.r4_cell.Seen.{CellSeen}
 use Rattle.r4_gather.specs.Asking.{Over, StaysOver}
 use Rattle.r4_outside.specs.Device.{State}
 use Rattle.r4_search.specs.Pool.{IsRead}

@@ -12,8 +12,8 @@ use Rattle.r4_content.specs.Seen.{of_seen}
 use Rattle.r4_content.specs.Ways.{Place, to_ends, to_entry, to_free, to_parent}
 use Rattle.r4_content.specs.declared.reply.Reply.{Reply}
 use Rattle.r4_dir.specs.Coming.{last_of}
-use Rattle.r4_cell.specs.Seen.{CellSeen}
-use Rattle.r4_cell.specs.declared.change.Root.{Root}
+use Rattle.r4_search.specs.r4_cell.Seen.{CellSeen}
+use Rattle.r4_search.specs.r4_cell.declared.change.Root.{Root}
 use Rattle.r4_outside.specs.Device.{State}
 use Rattle.r4_search.specs.Pool.{IsRead, LeavesDevice, PoolState}
 use Rattle.r4_search.specs.declared.pool.FetchFault.{FetchFault}

@@ -9,7 +9,7 @@ use Rattle.r4_base.specs.Key.{IsKey, offset_of, rank, later}
 use Rattle.r4_base.specs.Tree.{Name}
 use Rattle.r4_base.specs.declared.items.Unit.{Unit as ExtentUnit}
 use Rattle.r4_base.specs.declared.key.Key.{Key}
-use Rattle.r4_twig.proofs.Cuts.{lawful-cut_at}
+use Rattle.r4_branch.proofs.r4_twig.Cuts.{lawful-cut_at}
 use Rattle.r4_branch.specs.Pieces.{IsSoundPart, part_names, part_units}
 use Rattle.r4_branch.specs.declared.piece.TwigPart.TheVariants.{Blocks}
 

@@ -6,3 +6,5 @@ pub mod Halves
 pub mod Parted
 pub mod SplicedNames
 pub mod FoundPlaces
+-- what crates above name by way of this one
+pub use Rattle.r4_branch.proofs as r4_branch

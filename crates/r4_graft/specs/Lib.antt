@@ -1,2 +1,4 @@
 pub mod Splices
 pub mod Places
+-- what crates above name by way of this one
+pub use Rattle.r4_branch.specs as r4_branch

@@ -9,7 +9,7 @@ use Rattle.r4_content.specs.Meaning.{makes_object, with_id}
 use Rattle.r4_content.specs.declared.command.Command.{Command}
 use Rattle.r4_content.specs.declared.command.Command.TheVariants as commands
 use Rattle.r4_content.specs.declared.reply.Reply.{Reply}
-use Rattle.r4_script.specs.declared.job.Job.{Job}
+use Rattle.r4_turns.specs.r4_script.declared.job.Job.{Job}
 use Rattle.r4_trace.specs.Ids.{IsDrawn, IsFree, IsInBounds, IsNewId, Start, id_of, no_id}
 use Rattle.r4_trace.specs.Job.{Asked, commands_of, pushed}
 use Rattle.r4_trace.specs.declared.entry.Entry.{Entry}

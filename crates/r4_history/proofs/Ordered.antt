@@ -3,8 +3,8 @@ use Rattle.std.proofs.Common.{◌≡◌, ◌⊎◌, inl, inr, ⊎_elim, ℕ, zer
 use Rattle.std.proofs.lemmas.Bool.{cases_eq, cond-false, cond-true, eq-eqb, false≢true, ne_eqb}
 use Rattle.r4_content.specs.declared.command.Command.{Command}
 use Rattle.r4_content.specs.declared.command.Command.TheVariants as commands
-use Rattle.r4_script.specs.Grammar.{Turns}
-use Rattle.r4_script.specs.Spelling.{AreInOrder}
+use Rattle.r4_turns.specs.r4_script.Grammar.{Turns}
+use Rattle.r4_turns.specs.r4_script.Spelling.{AreInOrder}
 use Rattle.r4_trace.specs.Job.{Answered, Asked, EndsOf, HasNoBegin, Inside, IsAnswered, IsWork, MayBeDone, MayBeRefused, MayBegin, MayEnd, Outside, Place, Single, Within, answered_at, answered_in, begun_at, begun_for, commands_of, end_of, ended_at, next_of, place, refused_at, txn_in}
 use Rattle.r4_trace.specs.Order.{IsOrdered}
 use Rattle.r4_trace.specs.Traced.{broken_at}

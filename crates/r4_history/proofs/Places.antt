@@ -3,7 +3,7 @@ use Rattle.std.proofs.Common.{◌≡◌, ℕ, zero, suc, ◌+◌, ◌-◌, ◌<�
 use Rattle.std.proofs.lemmas.Bool.{cases_eq, cond-true, cond-false, eq-eqb, ne_eqb}
 use Rattle.std.proofs.lemmas.List.{get_or-set_same, get_or-set_other, length-set}
 use Rattle.r4_content.specs.declared.command.Command.{Command}
-use Rattle.r4_script.specs.declared.job.Script.{Script}
+use Rattle.r4_turns.specs.r4_script.declared.job.Script.{Script}
 use Rattle.r4_trace.specs.Job.{Place, at_start, commands_at as commands_in, commands_of}
 use Rattle.r4_turns.specs.Turns.{HasNext, IsScript, TurnsSeen, answered_at, answered_one, commands_at, entered, left, no_script, start, turn_at, with_command, with_turn}
 use Rattle.r4_turns.specs.declared.turn.Open.{Open}

@@ -10,8 +10,8 @@ use Rattle.r4_atoms.specs.declared.things.AtomState.{AtomState}
 use Rattle.r4_content.specs.Locality.{Meaning}
 use Rattle.r4_content.specs.declared.command.Command.{Command}
 use Rattle.r4_content.specs.declared.reply.Reply.{Reply}
-use Rattle.r4_script.specs.declared.job.Job.{Job}
-use Rattle.r4_script.specs.declared.job.Script.{Script}
+use Rattle.r4_turns.specs.r4_script.declared.job.Job.{Job}
+use Rattle.r4_turns.specs.r4_script.declared.job.Script.{Script}
 use Rattle.r4_trace.specs.Ids.{Start}
 use Rattle.r4_trace.specs.Job.{AllClosed, Answered, Asked, HasNoBegin, Outside, Place, at_start, commands_of, place, pushed, pushed_at, txn_in, Single, Inside}
 use Rattle.r4_trace.specs.Legal.{IsLegal, IsLegalSoFar, IsWhole, RepliesFrom}

@@ -19,7 +19,7 @@ use Rattle.r4_locks.specs.Locks.{AreHolds, IsNew, IsTask, LocksSeen, OthersAsBef
 use Rattle.r4_locks.specs.Modes.{joined}
 use Rattle.r4_locks.specs.declared.things.Mode.{Mode}
 use Rattle.r4_locks.specs.declared.things.Mode.TheVariants.{Reads, Writes}
-use Rattle.r4_script.specs.declared.job.Job.{Job}
+use Rattle.r4_turns.specs.r4_script.declared.job.Job.{Job}
 use Rattle.r4_turns.specs.Turns.{IsScript, answered_at, answered_one, dropped, entered, given_back, gone_out, left, start as no_turn, started, turn_at, with_command, with_turn, commands_at}
 use Rattle.r4_turns.specs.declared.out.Out.{Out}
 use Rattle.r4_turns.specs.declared.turn.Open.{Open}

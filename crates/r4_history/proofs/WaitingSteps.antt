@@ -17,9 +17,9 @@ use Rattle.r4_locks.specs.Modes.{conflicts}
 use Rattle.r4_locks.specs.declared.things.Mode.{Mode}
 use Rattle.r4_locks.specs.declared.things.Mode.TheVariants.{Reads, Writes}
 use Rattle.r4_locks.proofs.ConflictLaws.{first_is}
-use Rattle.r4_script.specs.Grammar.{Turns}
-use Rattle.r4_script.specs.Spelling.{AreInOrder, AreScripts, IsScript as IsTextScript}
-use Rattle.r4_script.specs.declared.job.Script.{Script}
+use Rattle.r4_turns.specs.r4_script.Grammar.{Turns}
+use Rattle.r4_turns.specs.r4_script.Spelling.{AreInOrder, AreScripts, IsScript as IsTextScript}
+use Rattle.r4_turns.specs.r4_script.declared.job.Script.{Script}
 use Rattle.std.specs.List.{AllByRecursion}
 use Rattle.r4_trace.specs.Ids.{Start}
 use Rattle.r4_trace.specs.Job.{HasNoBegin, Inside, IsWork, Outside, Place, Single, commands_of, txn_in}

@@ -2,7 +2,7 @@
 use Rattle.std.specs.Prelude.{◌≡◌, ℕ, Contains, List, map, ◌++◌, false, Some, None}
 use Rattle.r4_atoms.specs.Atoms.{AtomsSeen, IsAtom, atom_of, is_cleaned, numbers, owner_of}
 use Rattle.r4_base.specs.declared.things.NodeId.{NodeId}
-use Rattle.r4_cell.specs.Seen.{CellSeen}
+use Rattle.r4_turns.specs.r4_cell.Seen.{CellSeen}
 use Rattle.r4_content.specs.declared.command.Command.{Command}
 use Rattle.r4_locks.specs.Locks.{IsTask, LocksSeen, OthersAsBefore, mode_of, mode_with, task_at}
 use Rattle.r4_locks.specs.declared.things.Mode.TheVariants.{Reads, Writes}

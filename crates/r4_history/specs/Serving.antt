@@ -8,7 +8,7 @@ use Rattle.r4_base.specs.declared.things.AtomNo.{AtomNo}
 use Rattle.r4_content.specs.declared.command.Command.{Command}
 use Rattle.r4_content.specs.declared.command.Command.TheVariants as commands
 use Rattle.r4_locks.specs.Locks.{LocksSeen, conflict_of}
-use Rattle.r4_script.specs.Spelling.{AreInOrder}
+use Rattle.r4_turns.specs.r4_script.Spelling.{AreInOrder}
 use Rattle.r4_trace.specs.declared.entry.Entry.{Entry}
 use Rattle.r4_trace.specs.declared.entry.Entry.TheVariants.{Fuse}
 use Rattle.r4_turns.specs.Turns.{IsBefore, IsScript, TurnsSeen, commands_at, turn_at}

@@ -6,8 +6,8 @@ use Rattle.r4_atoms.specs.Atoms.{AtomsSeen, IsBegun as IsTxn, IsClosedAtom, join
 use Rattle.r4_atoms.specs.Atoms.{state_of, txn_of, with_state}
 use Rattle.r4_base.specs.declared.things.TxnNo.{TxnNo}
 use Rattle.r4_content.specs.declared.command.Command.{Command}
-use Rattle.r4_script.specs.declared.job.Job.{Job}
-use Rattle.r4_script.specs.declared.job.Script.{Script}
+use Rattle.r4_turns.specs.r4_script.declared.job.Job.{Job}
+use Rattle.r4_turns.specs.r4_script.declared.job.Script.{Script}
 use Rattle.r4_trace.specs.Job.{Asked, Inside, Outside, Place, Single, Within, at_start}
 use Rattle.r4_turns.specs.Turns.{IsScript, TurnsSeen, answered_at, answered_one, commands_at, entered, left, start}
 use Rattle.r4_turns.specs.Turns.{started, turn_at}

@@ -15,7 +15,7 @@ use Rattle.r4_content.specs.declared.reply.Reply.{Reply}
 use Rattle.r4_content.specs.declared.seen.Seen.{Seen}
 use Rattle.r4_locks.specs.Locks.{LocksSeen}
 use Rattle.r4_locks.specs.declared.things.Mode.TheVariants.{Writes}
-use Rattle.r4_script.specs.declared.job.Job.{Job}
+use Rattle.r4_turns.specs.r4_script.declared.job.Job.{Job}
 use Rattle.r4_trace.specs.declared.entry.Entry.{Entry}
 use Rattle.r4_trace.specs.declared.entry.Entry.TheVariants.{Acked, Begin, Committed, Done, Ended, Sealed}
 use Rattle.r4_turns.specs.Turns.{gone_out}

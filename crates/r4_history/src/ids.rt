@@ -6,7 +6,7 @@ ghost use Rattle.r4_base.specs.declared.things.TxnNo.{TxnNo};
 ghost use Rattle.r4_content.specs.Meaning.{with_id};
 ghost use Rattle.r4_content.specs.declared.command.Command.{Command};
 ghost use Rattle.r4_content.specs.declared.reply.Reply.{Reply};
-ghost use Rattle.r4_script.specs.declared.job.Job.{Job};
+ghost use Rattle.r4_turns.specs.r4_script.declared.job.Job.{Job};
 ghost use Rattle.r4_trace.specs.Ids.{Start, no_id};
 ghost use Rattle.r4_trace.specs.declared.entry.Entry.{Entry};
 ghost use Rattle.r4_trace.specs.declared.entry.Entry.TheVariants.{Done};

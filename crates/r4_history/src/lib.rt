@@ -18,6 +18,7 @@ pub use atoms::{atoms_are_committed, two_atoms_fuse};
 pub use commands::{commands_are_done, commands_are_refused, commits_are_acknowledged};
 pub use examples::{one_run, one_task, reading_fuses};
 pub use ids::{drawn_ids_are_new, ids_are_drawn_once, ids_stay};
+pub use r4_turns::Nodes;
 pub use refused::{
     early_commits_are_not_acknowledged, failed_runs_answer_reopen, open_atoms_are_not_sealed,
 };

@@ -7,7 +7,7 @@ ghost use Rattle.r4_atoms.specs.declared.things.Account.{Account};
 ghost use Rattle.r4_content.specs.Locality.{Meaning};
 ghost use Rattle.r4_content.specs.declared.command.Command.{Command};
 ghost use Rattle.r4_content.specs.declared.reply.Reply.{Reply};
-ghost use Rattle.r4_script.specs.declared.job.Job.{Job};
+ghost use Rattle.r4_turns.specs.r4_script.declared.job.Job.{Job};
 ghost use Rattle.r4_trace.specs.Ids.{Start};
 ghost use Rattle.r4_trace.specs.Job.{HasNoBegin};
 ghost use Rattle.r4_trace.specs.Legal.{IsLegal, IsWhole};

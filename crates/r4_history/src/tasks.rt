@@ -10,7 +10,7 @@ ghost use Rattle.r4_content.specs.Locality.{Meaning};
 ghost use Rattle.r4_content.specs.declared.command.Command.{Command};
 ghost use Rattle.r4_content.specs.declared.reply.Reply.{Reply};
 ghost use Rattle.r4_locks.specs.Locks.{AreHolds, IsNew, IsTask, LocksSeen, OthersAsBefore, Takes, task_at};
-ghost use Rattle.r4_script.specs.declared.job.Job.{Job};
+ghost use Rattle.r4_turns.specs.r4_script.declared.job.Job.{Job};
 ghost use Rattle.r4_trace.specs.Ids.{Start};
 ghost use Rattle.r4_trace.specs.declared.entry.Entry.{Entry};
 ghost use Rattle.r4_turns.specs.Turns.{IsScript, answered_one, dropped, entered, given_back, gone_out, left};

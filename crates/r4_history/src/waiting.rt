@@ -9,7 +9,7 @@ ghost use Rattle.r4_content.specs.declared.command.Command.{Command};
 ghost use Rattle.r4_content.specs.declared.command.Command.TheVariants as commands;
 ghost use Rattle.r4_content.specs.declared.reply.Reply.{Reply};
 ghost use Rattle.r4_locks.specs.Locks.{LocksSeen};
-ghost use Rattle.r4_script.specs.Spelling.{AreScripts};
+ghost use Rattle.r4_turns.specs.r4_script.Spelling.{AreScripts};
 ghost use Rattle.r4_trace.specs.Ids.{Start};
 ghost use Rattle.r4_trace.specs.Job.{HasNoBegin, IsWork};
 ghost use Rattle.r4_trace.specs.declared.entry.Entry.{Entry};

@@ -9,7 +9,7 @@ use Rattle.r4_cell.specs.Seen.{CellSeen, node_of}
 use Rattle.r4_cell.proofs.NodesAt.{node_at, plugins_at}
 use Rattle.r4_marking.proofs.Children.{data_nameless, leaf_names}
 use Rattle.r4_search.specs.Pool.{StandsInMemory}
-use Rattle.r4_units.proofs.ExtentUnits.{names_of}
+use Rattle.r4_sight.proofs.r4_units.ExtentUnits.{names_of}
 use Rattle.r4_judging.specs.Judging.{IsJudged}
 use Rattle.r4_judging.proofs.Firsts.{no_names}
 

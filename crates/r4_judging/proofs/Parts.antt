@@ -12,8 +12,8 @@ use Rattle.r4_cell.specs.Patch.{NamesId, by_name, root_of_pair}
 use Rattle.r4_cell.specs.Seen.{CellSeen, node_of}
 use Rattle.r4_cell.specs.declared.change.Root.{Root}
 use Rattle.r4_cell.proofs.Nodes.{cell_node, data_node}
-use Rattle.r4_patch.specs.Part.{IsPart}
-use Rattle.r4_patch.proofs.Members.{cases, distinct, found, none, there}
+use Rattle.r4_marking.specs.r4_patch.Part.{IsPart}
+use Rattle.r4_marking.proofs.r4_patch.Members.{cases, distinct, found, none, there}
 use Rattle.r4_search.specs.Path.{root_name}
 use Rattle.r4_search.specs.Pool.{IsNamed, place_fault}
 use Rattle.r4_search.proofs.Kept.{fits}

@@ -6,9 +6,9 @@ use Rattle.r4_base.specs.Key.{rank}
 use Rattle.r4_base.specs.Tree.{Name}
 use Rattle.r4_base.proofs.Choices.{nothing_in}
 use Rattle.r4_base.proofs.FreshTree.{only}
-use Rattle.r4_patch.proofs.Members.{cases, here, later}
+use Rattle.r4_marking.proofs.r4_patch.Members.{cases, here, later}
 use Rattle.r4_search.specs.Place.{child_name}
-use Rattle.r4_units.specs.Extent.{block_name}
+use Rattle.r4_sight.specs.r4_units.Extent.{block_name}
 use Rattle.r4_judging.specs.Judging.{names_meant, number_count, number_from}
 use Rattle.r4_judging.specs.declared.named.Named.{Named}
 use Rattle.r4_judging.specs.declared.named.Named.TheVariants.{Blocks, Child}

@@ -1,1 +1,3 @@
 pub mod Judging
+-- what crates above name by way of this one
+pub use Rattle.r4_marking.specs as r4_marking

@@ -4,7 +4,7 @@ ghost use Rattle.std.specs.Prelude.{◌≡◌, All, Err, IfOk, MatchResult, None
 ghost use Rattle.std.specs.Arc.{arc_value};
 ghost use Rattle.std.specs.List.Sorted.{IsNonDecreasingBy, IsPermutation};
 ghost use Rattle.r4_cell.specs.Patch.{by_name, root_of_pair};
-ghost use Rattle.r4_patch.specs.Part.{IsPart};
+ghost use Rattle.r4_marking.specs.r4_patch.Part.{IsPart};
 ghost use Rattle.r4_judging.specs.Judging.{HangTogether, IsJudged, IsRefusal, IsSound, all_names};
 
 use crate::misfit::{Misfit, first_of};

@@ -10,3 +10,5 @@ mod nodes;
 pub use judging::{judge, misnamed};
 pub use laws::what_was_met_is_a_part;
 pub use misfit::Misfit;
+pub use r4_marking::{Marks, mark};
+pub use r4_sight::key_after;

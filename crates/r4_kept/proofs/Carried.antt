@@ -7,21 +7,21 @@ use Rattle.r4_durable.specs.GoingOn.{GoesOn, SealsNothing}
 use Rattle.r4_durable.specs.Kept.{IsSession}
 use Rattle.r4_durable.specs.Meaning.{Beginning}
 use Rattle.r4_durable.proofs.Steps.{kept_after}
-use Rattle.r4_flushed.specs.Deferred.{AreDeferred, AreDeferredBut}
-use Rattle.r4_commit.specs.Planned.{CommitSeen}
+use Rattle.r4_durable.specs.r4_flushed.Deferred.{AreDeferred, AreDeferredBut}
+use Rattle.r4_durable.specs.r4_commit.Planned.{CommitSeen}
 use Rattle.r4_outside.specs.Device.{State}
-use Rattle.r4_sets.specs.Atoms.{ChangesNoCell, told}
-use Rattle.r4_sets.specs.Session.{Session}
-use Rattle.r4_sets.proofs.Gathered.{told_sets}
-use Rattle.r4_sets_told.specs.Runs.{IsLawfulRun}
-use Rattle.r4_space.specs.Space.{Space}
-use Rattle.r4_trace.specs.Ids.{Start}
-use Rattle.r4_trace.specs.Job.{Asked}
-use Rattle.r4_trace.specs.Order.{IsOrdered}
-use Rattle.r4_trace.specs.Safe.{IsNoCommit}
-use Rattle.r4_trace.specs.declared.entry.Entry.{Entry}
-use Rattle.r4_trace.specs.declared.entry.Entry.TheVariants.{Begin, Fuse, Done, Refused, Ended, Sealed, Committed}
-use Rattle.r4_trace.specs.declared.entry.Entry.TheVariants.{Acked, Broken}
+use Rattle.r4_durable.specs.r4_sets.Atoms.{ChangesNoCell, told}
+use Rattle.r4_durable.specs.r4_sets.Session.{Session}
+use Rattle.r4_durable.proofs.r4_sets.Gathered.{told_sets}
+use Rattle.r4_durable.specs.r4_sets_told.Runs.{IsLawfulRun}
+use Rattle.r4_durable.specs.r4_space.Space.{Space}
+use Rattle.r4_history.specs.r4_trace.Ids.{Start}
+use Rattle.r4_history.specs.r4_trace.Job.{Asked}
+use Rattle.r4_history.specs.r4_trace.Order.{IsOrdered}
+use Rattle.r4_history.specs.r4_trace.Safe.{IsNoCommit}
+use Rattle.r4_history.specs.r4_trace.declared.entry.Entry.{Entry}
+use Rattle.r4_history.specs.r4_trace.declared.entry.Entry.TheVariants.{Begin, Fuse, Done, Refused, Ended, Sealed, Committed}
+use Rattle.r4_history.specs.r4_trace.declared.entry.Entry.TheVariants.{Acked, Broken}
 use Rattle.r4_kept.specs.Meaning.{Comes, ComesFrom, IsAt, IsAtRest, IsInCommit, IsInPart}
 use Rattle.r4_kept.specs.Story.{Flush, Headed}
 use Rattle.r4_kept.specs.declared.parts.Commit.{Commit}

@@ -4,12 +4,12 @@ use Rattle.std.proofs.Common.{None, refl, sym, ◌∙◌, ap}
 use Rattle.std.specs.Prelude.{Contains}
 use Rattle.std.specs.Option.{option_map}
 use Rattle.std.proofs.lemmas.Bool.{cases_Bool, cond-true, cond-false, eq-eqb, eqb-true, ne_eqb}
-use Rattle.r4_atoms.specs.Atoms.{numbers}
+use Rattle.r4_history.specs.r4_atoms.Atoms.{numbers}
 use Rattle.r4_base.proofs.Members.{member_cases, member_here, member_later, member_or_not, no_member}
 use Rattle.r4_base.specs.declared.things.NodeId.{NodeId}
 use Rattle.r4_buffer.specs.Changed.{Standing, cleaned, in_turn, not_dirty}
 use Rattle.r4_buffer.specs.Seen.{BufferSeen, EntrySeen, IsCaptured, buffered, is_above, is_dirty_by}
-use Rattle.r4_cell.specs.Seen.{CellSeen}
+use Rattle.r4_history.specs.r4_cell.Seen.{CellSeen}
 
 -- ---- one name after another
 

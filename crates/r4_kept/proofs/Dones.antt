@@ -2,13 +2,13 @@
 use Rattle.std.proofs.Common.{◌≡◌, ℕ, zero, suc, ◌<◌, ◌≤◌, ◌==◌, Bool, true, false, cond, List, [], ◌∷◌, ◌++◌}
 use Rattle.std.proofs.Common.{◌-◌, get_or, refl, subst, sym, arith}
 use Rattle.std.proofs.lemmas.Bool.{eq-eqb, eqb-true}
-use Rattle.r4_atoms.specs.Atoms.{AtomsSeen, TxnSeen, atom_of, no_txn}
+use Rattle.r4_history.specs.r4_atoms.Atoms.{AtomsSeen, TxnSeen, atom_of, no_txn}
 use Rattle.r4_history.specs.Drawn.{IsNoDone}
 use Rattle.r4_history.specs.Tables.{Begins}
-use Rattle.r4_sets.specs.Atoms.{ChangesNoCell}
-use Rattle.r4_trace.specs.declared.entry.Entry.{Entry}
-use Rattle.r4_trace.specs.declared.entry.Entry.TheVariants.{Begin, Fuse, Done, Refused, Ended, Sealed, Committed}
-use Rattle.r4_trace.specs.declared.entry.Entry.TheVariants.{Acked, Broken}
+use Rattle.r4_durable.specs.r4_sets.Atoms.{ChangesNoCell}
+use Rattle.r4_history.specs.r4_trace.declared.entry.Entry.{Entry}
+use Rattle.r4_history.specs.r4_trace.declared.entry.Entry.TheVariants.{Begin, Fuse, Done, Refused, Ended, Sealed, Committed}
+use Rattle.r4_history.specs.r4_trace.declared.entry.Entry.TheVariants.{Acked, Broken}
 use Rattle.r4_kept.specs.Accounts.{dones_in, dones_of}
 
 -- an entry of another kind is none

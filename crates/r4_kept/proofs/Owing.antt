@@ -2,7 +2,7 @@
 use Rattle.std.proofs.Common.{◌≡◌, ℕ, ◌<◌, ◌≤◌, Bool, true, false, cond, Option, Some, None, arith}
 use Rattle.std.proofs.Common.{nat_lt}
 use Rattle.std.proofs.lemmas.Bool.{cond-false, cond-true, le-ltb, lt-ltb}
-use Rattle.r4_commit.specs.Planned.{CommitSeen}
+use Rattle.r4_durable.specs.r4_commit.Planned.{CommitSeen}
 use Rattle.r4_kept.specs.History.{owed_for_work}
 
 one_or_two : (b : Bool) → 1 ≤ cond {A = ℕ} b 2 1

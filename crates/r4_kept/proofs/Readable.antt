@@ -7,7 +7,7 @@ use Rattle.std.proofs.lemmas.Bool.{cond-true, or_left}
 use Rattle.r4_buffer.specs.Reading.{IsReadable, captured_in}
 use Rattle.r4_buffer.specs.Seen.{BufferSeen, EntrySeen, buffered, cell_at, is_above_dirty, is_captured, is_captured_by}
 use Rattle.r4_buffer.specs.Seen.{is_dirty_by}
-use Rattle.r4_cell.specs.Seen.{CellSeen}
+use Rattle.r4_history.specs.r4_cell.Seen.{CellSeen}
 use Rattle.r4_outside.specs.Device.{State}
 use Rattle.r4_kept.specs.Cells.{AreCells, AreReadable}
 use Rattle.r4_kept.specs.View.{CoreSeen, blocks_of}

@@ -14,14 +14,14 @@ use Rattle.r4_content.specs.Meaning.{greatest_size}
 use Rattle.r4_durable.specs.Meaning.{Beginning, IsNamed}
 use Rattle.r4_durable.specs.Sealing.{made_by}
 use Rattle.r4_outside.specs.Device.{State}
-use Rattle.r4_sealed.proofs.NewCells.{or_second}
-use Rattle.r4_sets.specs.Session.{Layer}
-use Rattle.r4_space.specs.Accounts.{is_atom}
-use Rattle.r4_space.specs.Space.{claims_of, is_block, is_claimed}
-use Rattle.r4_space.specs.declared.things.Claim.{Claim}
-use Rattle.r4_trace.specs.Folds.{after_first}
-use Rattle.r4_trace.specs.Traced.{committed_in}
-use Rattle.r4_trace.specs.declared.entry.Entry.{Entry}
+use Rattle.r4_durable.proofs.r4_sealed.NewCells.{or_second}
+use Rattle.r4_durable.specs.r4_sets.Session.{Layer}
+use Rattle.r4_durable.specs.r4_space.Accounts.{is_atom}
+use Rattle.r4_durable.specs.r4_space.Space.{claims_of, is_block, is_claimed}
+use Rattle.r4_durable.specs.r4_space.declared.things.Claim.{Claim}
+use Rattle.r4_history.specs.r4_trace.Folds.{after_first}
+use Rattle.r4_history.specs.r4_trace.Traced.{committed_in}
+use Rattle.r4_history.specs.r4_trace.declared.entry.Entry.{Entry}
 use Rattle.r4_kept.specs.Kept.{HasStory, IsKept}
 use Rattle.r4_kept.specs.Meaning.{IsAt, IsAtRest}
 use Rattle.r4_kept.specs.Naming.{Naming, job_named, names_in}

@@ -13,17 +13,17 @@ use Rattle.r4_base.specs.Bitmap.{is_fixed}
 use Rattle.r4_base.specs.declared.things.AtomNo.{AtomNo}
 use Rattle.r4_durable.specs.GoingOn.{MarksAlike}
 use Rattle.r4_durable.proofs.Opened.{none_in}
-use Rattle.r4_flushed.specs.Deferred.{AreDeferred, AreDeferredBut}
-use Rattle.r4_flushed.proofs.Deferring.{deferred_settled}
-use Rattle.r4_sealed.specs.Commits.{IsLater}
-use Rattle.r4_sealed.proofs.NewCells.{or_second}
-use Rattle.r4_sets.specs.Session.{Session}
-use Rattle.r4_space.specs.Accounts.{dues, is_atom, without_account, without_atom}
-use Rattle.r4_space.specs.Lawful.{IsLawful}
-use Rattle.r4_space.specs.Space.{Space, claims_of, claims_without, is_block, is_claimed, is_marked_after, is_taken}
-use Rattle.r4_space.specs.Space.{is_taken_by, settled, unused_count}
-use Rattle.r4_space.specs.declared.things.Claim.{Claim}
-use Rattle.r4_space.proofs.AccountLaws.{dues-without}
+use Rattle.r4_durable.specs.r4_flushed.Deferred.{AreDeferred, AreDeferredBut}
+use Rattle.r4_durable.proofs.r4_flushed.Deferring.{deferred_settled}
+use Rattle.r4_durable.specs.r4_sealed.Commits.{IsLater}
+use Rattle.r4_durable.proofs.r4_sealed.NewCells.{or_second}
+use Rattle.r4_durable.specs.r4_sets.Session.{Session}
+use Rattle.r4_durable.specs.r4_space.Accounts.{dues, is_atom, without_account, without_atom}
+use Rattle.r4_durable.specs.r4_space.Lawful.{IsLawful}
+use Rattle.r4_durable.specs.r4_space.Space.{Space, claims_of, claims_without, is_block, is_claimed, is_marked_after, is_taken}
+use Rattle.r4_durable.specs.r4_space.Space.{is_taken_by, settled, unused_count}
+use Rattle.r4_durable.specs.r4_space.declared.things.Claim.{Claim}
+use Rattle.r4_durable.proofs.r4_space.AccountLaws.{dues-without}
 use Rattle.r4_kept.specs.Accounts.{IsFor, IsStill}
 
 -- ---- blocks that are unused

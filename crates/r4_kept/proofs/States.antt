@@ -1,10 +1,10 @@
 -- Where the state of one atom changes.
 use Rattle.std.proofs.Common.{◌≡◌, ℕ, ◌-◌, ◌<◌, Bool, cond, Option, Some, None, length, refl, sym, ◌∙◌, ap, arith}
 use Rattle.std.proofs.lemmas.List.{get_or-set_other, get_or-set_same}
-use Rattle.r4_atoms.specs.Atoms.{AtomsSeen, IsBegun, IsOpenAtom, atom_of, new_atom, owner_by, owner_of, state_of}
-use Rattle.r4_atoms.specs.Atoms.{with_state}
-use Rattle.r4_atoms.specs.Owned.{label_of}
-use Rattle.r4_atoms.specs.declared.things.AtomState.{AtomState}
+use Rattle.r4_history.specs.r4_atoms.Atoms.{AtomsSeen, IsBegun, IsOpenAtom, atom_of, new_atom, owner_by, owner_of, state_of}
+use Rattle.r4_history.specs.r4_atoms.Atoms.{with_state}
+use Rattle.r4_history.specs.r4_atoms.Owned.{label_of}
+use Rattle.r4_history.specs.r4_atoms.declared.things.AtomState.{AtomState}
 use Rattle.r4_history.proofs.AtomSteps.{kept_by_set}
 
 module _ (s : AtomsSeen) (a : ℕ) (x : AtomState) where

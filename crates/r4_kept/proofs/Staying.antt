@@ -3,13 +3,13 @@ use Rattle.std.proofs.Common.{◌≡◌, inl, inr, ⊎_elim, ℕ, ◌<◌, ◌�
 use Rattle.std.proofs.Common.{ap, subst, true≢false}
 use Rattle.std.specs.Option.{option_map}
 use Rattle.std.proofs.lemmas.Bool.{cases_Bool}
-use Rattle.r4_atoms.specs.Atoms.{numbers}
+use Rattle.r4_history.specs.r4_atoms.Atoms.{numbers}
 use Rattle.r4_base.proofs.Members.{member_or_not}
 use Rattle.r4_base.specs.Tree.{Name}
 use Rattle.r4_base.specs.declared.things.NodeId.{NodeId}
 use Rattle.r4_buffer.specs.Changed.{Standing, cleaned, in_turn}
 use Rattle.r4_buffer.specs.Seen.{BufferSeen, EntrySeen, buffered, cell_at, is_dirty_by}
-use Rattle.r4_cell.specs.Seen.{CellSeen, node_of}
+use Rattle.r4_history.specs.r4_cell.Seen.{CellSeen, node_of}
 use Rattle.r4_kept.specs.Cells.{AreNamedOnce, IsAccepted, IsStillThere, NamesAt}
 use Rattle.r4_kept.proofs.Cleaned.{none_dirty, same_now}
 use Rattle.r4_kept.proofs.Unused.{AreLike, same_cell, same_dirty}

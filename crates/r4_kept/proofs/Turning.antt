@@ -12,10 +12,10 @@ use Rattle.r4_history.specs.Tables.{next_at}
 use Rattle.r4_history.proofs.AtomSteps.{kept_by_set}
 use Rattle.r4_history.proofs.DrawnSteps.{turn_other}
 use Rattle.r4_history.proofs.Places.{turn_now}
-use Rattle.r4_script.specs.declared.job.Script.{Script}
-use Rattle.r4_turns.specs.Turns.{IsScript, TurnsSeen, answered_one, commands_at, no_script, start, turn_at, with_turn}
-use Rattle.r4_turns.specs.declared.out.Out.{Out}
-use Rattle.r4_turns.specs.declared.turn.Turn.{Turn}
+use Rattle.r4_history.specs.r4_script.declared.job.Script.{Script}
+use Rattle.r4_history.specs.r4_turns.Turns.{IsScript, TurnsSeen, answered_one, commands_at, no_script, start, turn_at, with_turn}
+use Rattle.r4_history.specs.r4_turns.declared.out.Out.{Out}
+use Rattle.r4_history.specs.r4_turns.declared.turn.Turn.{Turn}
 use Rattle.r4_kept.specs.History.{is_commit, owed, owed_by, owed_in}
 
 -- further on in a list there are no more that pass

@@ -11,7 +11,7 @@ use Rattle.r4_buffer.specs.Reading.{NamesStand}
 use Rattle.r4_buffer.specs.Seen.{BufferSeen, EntrySeen, IsCaptured, IsLawful, buffered, cell_at, is_above}
 use Rattle.r4_buffer.specs.Seen.{is_captured, is_dirty_by}
 use Rattle.r4_buffer.proofs.Captured.{captured_is, is_captured_from}
-use Rattle.r4_cell.specs.Seen.{CellSeen}
+use Rattle.r4_history.specs.r4_cell.Seen.{CellSeen}
 use Rattle.r4_outside.specs.Device.{State}
 use Rattle.r4_kept.specs.Cells.{AreReadable, IsAccepted}
 

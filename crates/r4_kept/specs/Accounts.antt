@@ -4,18 +4,18 @@ use Rattle.std.specs.Prelude.{false, true, if◌then◌else◌, List, []}
 use Rattle.std.specs.Prelude.{◌∷◌, length, count_by, sum_by, Contains, slice_index_or}
 use Rattle.std.specs.Prelude.{Option, Some, None}
 use Rattle.std.specs.List.{IsDistinct}
-use Rattle.r4_atoms.specs.Atoms.{AtomsSeen, IsBegun, IsOpenAtom, account_of, atom_of, owner_of}
+use Rattle.r4_history.specs.r4_atoms.Atoms.{AtomsSeen, IsBegun, IsOpenAtom, account_of, atom_of, owner_of}
 use Rattle.r4_base.specs.Bitmap.{bitmap_count}
 use Rattle.r4_base.specs.declared.things.AtomNo.{AtomNo}
 use Rattle.r4_buffer.specs.Seen.{BufferSeen, buffered, is_dirty_by}
-use Rattle.r4_space.specs.Accounts.{account_at, dues, no_account}
-use Rattle.r4_commit.specs.Planned.{CommitSeen}
-use Rattle.r4_space.specs.Space.{claims_without, unused_count}
-use Rattle.r4_space.specs.declared.things.Claim.{Claim}
-use Rattle.r4_trace.specs.declared.entry.Entry.{Entry}
-use Rattle.r4_trace.specs.declared.entry.Entry.TheVariants.{Done}
-use Rattle.r4_turns.specs.declared.out.Out.{Out}
-use Rattle.r4_turns.specs.declared.turn.Turn.{Turn}
+use Rattle.r4_durable.specs.r4_space.Accounts.{account_at, dues, no_account}
+use Rattle.r4_durable.specs.r4_commit.Planned.{CommitSeen}
+use Rattle.r4_durable.specs.r4_space.Space.{claims_without, unused_count}
+use Rattle.r4_durable.specs.r4_space.declared.things.Claim.{Claim}
+use Rattle.r4_history.specs.r4_trace.declared.entry.Entry.{Entry}
+use Rattle.r4_history.specs.r4_trace.declared.entry.Entry.TheVariants.{Done}
+use Rattle.r4_history.specs.r4_turns.declared.out.Out.{Out}
+use Rattle.r4_history.specs.r4_turns.declared.turn.Turn.{Turn}
 use Rattle.r4_kept.specs.View.{CoreSeen}
 use Rattle.r4_kept.specs.declared.parts.Commit.{Commit}
 

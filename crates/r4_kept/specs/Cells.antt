@@ -1,7 +1,7 @@
 -- Group D, the cells in memory, on every image (docs/buffer.md).
 use Rattle.std.specs.Prelude.{◌≡◌, ◌⊎◌, ◌↔◌, ◌++◌, ℕ, ◌^◌, ◌<◌, ◌≤◌, true, false, Contains}
 use Rattle.std.specs.Prelude.{List, [], length, Option, Some, None, IsSome}
-use Rattle.r4_atoms.specs.Atoms.{numbers, owner_of}
+use Rattle.r4_history.specs.r4_atoms.Atoms.{numbers, owner_of}
 use Rattle.r4_base.specs.Bitmap.{is_fixed}
 use Rattle.r4_base.specs.Cell.{cell_fault}
 use Rattle.r4_base.specs.Image.{Image, block_at}
@@ -10,14 +10,14 @@ use Rattle.r4_base.specs.Layout.{IsLawfulSuper}
 use Rattle.r4_base.specs.Tree.{Name}
 use Rattle.r4_buffer.specs.Reading.{NamesStand}
 use Rattle.r4_buffer.specs.Seen.{BufferSeen, EntrySeen, buffered, cell_at, is_captured, is_dirty_by}
-use Rattle.r4_cell.specs.Seen.{CellSeen, node_of}
-use Rattle.r4_commit.specs.Planned.{CommitSeen}
+use Rattle.r4_history.specs.r4_cell.Seen.{CellSeen, node_of}
+use Rattle.r4_durable.specs.r4_commit.Planned.{CommitSeen}
 use Rattle.r4_history.specs.Held.{IsOut}
 use Rattle.r4_outside.specs.Device.{State, TellsReads}
-use Rattle.r4_turns.specs.declared.out.Out.{Out}
-use Rattle.r4_wander.specs.Parts.{base_of, part}
-use Rattle.r4_wander.specs.Progress.{FitOn, ReadsAs, under_way}
-use Rattle.r4_wander.specs.Torn.{IsTarget}
+use Rattle.r4_history.specs.r4_turns.declared.out.Out.{Out}
+use Rattle.r4_durable.specs.r4_wander.Parts.{base_of, part}
+use Rattle.r4_durable.specs.r4_wander.Progress.{FitOn, ReadsAs, under_way}
+use Rattle.r4_durable.specs.r4_wander.Torn.{IsTarget}
 use Rattle.r4_kept.specs.View.{CoreSeen, blocks_of}
 use Rattle.r4_kept.specs.declared.parts.Commit.{Commit}
 

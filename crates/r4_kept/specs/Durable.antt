@@ -1,13 +1,13 @@
 -- Group G, what a crash leaves, in a run that names its beginning and the clock of then, on a
 -- device that tells it (docs/durable.md).
 use Rattle.std.specs.Prelude.{ℕ, Option, Some, None}
-use Rattle.r4_commit.specs.Planned.{CommitSeen}
+use Rattle.r4_durable.specs.r4_commit.Planned.{CommitSeen}
 use Rattle.r4_content.specs.Locality.{commands}
 use Rattle.r4_content.specs.Meaning.{greatest_size}
 use Rattle.r4_durable.specs.Meaning.{Beginning, means}
 use Rattle.r4_outside.specs.Device.{IsQuiet, State}
-use Rattle.r4_trace.specs.Safe.{IsSafeFrom}
-use Rattle.r4_wander.specs.Progress.{Stands}
+use Rattle.r4_history.specs.r4_trace.Safe.{IsSafeFrom}
+use Rattle.r4_durable.specs.r4_wander.Progress.{Stands}
 use Rattle.r4_kept.specs.Story.{Flush, Story}
 use Rattle.r4_kept.specs.View.{CoreSeen}
 use Rattle.r4_kept.specs.declared.parts.Commit.{Commit}

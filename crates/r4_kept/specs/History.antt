@@ -1,8 +1,8 @@
 -- Group A, the history: the trace, and what the tables tell of it (docs/histories.md).
 use Rattle.std.specs.Prelude.{◌≡◌, ℕ, ◌+◌, ◌≤◌, Bool, true, false, List, [], ◌∷◌, drop, count_by}
 use Rattle.std.specs.Prelude.{Option, Some, None, Ok, nat_le, nat_lt, if◌then◌else◌}
-use Rattle.r4_atoms.specs.Atoms.{is_committed}
-use Rattle.r4_commit.specs.Planned.{CommitSeen}
+use Rattle.r4_history.specs.r4_atoms.Atoms.{is_committed}
+use Rattle.r4_durable.specs.r4_commit.Planned.{CommitSeen}
 use Rattle.std.specs.Option.{option_map}
 use Rattle.r4_content.specs.Locality.{commands}
 use Rattle.r4_content.specs.Meaning.{greatest_size}
@@ -12,11 +12,11 @@ use Rattle.r4_durable.specs.Meaning.{Beginning, BeginsWith, IsNamed, first_id, s
 use Rattle.r4_history.specs.Drawn.{AreDrawn}
 use Rattle.r4_history.specs.Told.{IsTold}
 use Rattle.r4_outside.specs.Device.{State}
-use Rattle.r4_script.specs.Text.{job_of}
-use Rattle.r4_script.specs.declared.job.Script.{Script}
-use Rattle.r4_turns.specs.Turns.{TurnsSeen}
-use Rattle.r4_turns.specs.declared.out.Out.{Out}
-use Rattle.r4_turns.specs.declared.turn.Turn.{Turn}
+use Rattle.r4_history.specs.r4_script.Text.{job_of}
+use Rattle.r4_history.specs.r4_script.declared.job.Script.{Script}
+use Rattle.r4_history.specs.r4_turns.Turns.{TurnsSeen}
+use Rattle.r4_history.specs.r4_turns.declared.out.Out.{Out}
+use Rattle.r4_history.specs.r4_turns.declared.turn.Turn.{Turn}
 use Rattle.r4_kept.specs.Naming.{Naming, names_in}
 use Rattle.r4_kept.specs.View.{CoreSeen, tables_of}
 use Rattle.r4_kept.specs.declared.parts.Commit.{Commit}

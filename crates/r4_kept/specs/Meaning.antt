@@ -1,7 +1,7 @@
 -- Group F, what the cells mean, in a run that names an image with a volume (docs/durable.md).
 use Rattle.std.specs.Prelude.{◌≡◌, ◌++◌, ℕ, ◌<◌, ◌≤◌, ◌==◌, true, if◌then◌else◌, Contains, Option}
 use Rattle.std.specs.Prelude.{Some, None, IsSome, List, [], Ok}
-use Rattle.r4_atoms.specs.Atoms.{AtomsSeen, IsOpenAtom, account_of, is_sealed, owner_of}
+use Rattle.r4_history.specs.r4_atoms.Atoms.{AtomsSeen, IsOpenAtom, account_of, is_sealed, owner_of}
 use Rattle.r4_base.specs.Cell.{IsCellOf}
 use Rattle.r4_base.specs.Chain.{committed as head_named}
 use Rattle.r4_base.specs.Image.{block_at}
@@ -11,30 +11,30 @@ use Rattle.r4_base.specs.Value.{Value}
 use Rattle.r4_base.specs.declared.things.AtomNo.{AtomNo}
 use Rattle.r4_base.specs.declared.limits.TheConstants.{SUPER_BLOCK}
 use Rattle.r4_buffer.specs.Seen.{EntrySeen, buffered, is_dirty_by}
-use Rattle.r4_cell.specs.Seen.{CellSeen, node_of}
-use Rattle.r4_commit.specs.Planned.{CommitSeen}
+use Rattle.r4_history.specs.r4_cell.Seen.{CellSeen, node_of}
+use Rattle.r4_durable.specs.r4_commit.Planned.{CommitSeen}
 use Rattle.r4_content.specs.Meaning.{greatest_size}
 use Rattle.r4_durable.specs.GoingOn.{GoesOn, MarksAlike}
 use Rattle.r4_durable.specs.Kept.{IsSession, IsUnderWay, Means as MeansAtRest}
 use Rattle.r4_durable.specs.Meaning.{Beginning}
 use Rattle.r4_durable.specs.Sealing.{session_after}
-use Rattle.r4_flushed.specs.Deferred.{AreDeferred, AreDeferredBut}
+use Rattle.r4_durable.specs.r4_flushed.Deferred.{AreDeferred, AreDeferredBut}
 use Rattle.r4_history.specs.Held.{IsOut}
 use Rattle.r4_outside.specs.Device.{State, TellsReads}
-use Rattle.r4_placed.specs.Flushing.{commit_by_block}
-use Rattle.r4_sealed.specs.Commits.{IsLater, super_after}
-use Rattle.r4_sets.specs.Atoms.{committed, sealed}
-use Rattle.r4_sets.specs.Session.{Session}
-use Rattle.r4_sets_told.specs.Runs.{born_in, gone_in}
-use Rattle.r4_space.specs.Lawful.{IsLawful}
-use Rattle.r4_space.specs.Space.{Space, settled}
-use Rattle.r4_trace.specs.Job.{Asked}
-use Rattle.r4_trace.specs.Traced.{atom_in}
-use Rattle.r4_trace.specs.declared.entry.Entry.{Entry}
-use Rattle.r4_turns.specs.declared.out.Out.{Out}
-use Rattle.r4_wander.specs.Parts.{part}
-use Rattle.r4_wander.specs.Progress.{Commits, ReadsAs}
-use Rattle.r4_wander.specs.Torn.{IsTarget}
+use Rattle.r4_durable.specs.r4_placed.Flushing.{commit_by_block}
+use Rattle.r4_durable.specs.r4_sealed.Commits.{IsLater, super_after}
+use Rattle.r4_durable.specs.r4_sets.Atoms.{committed, sealed}
+use Rattle.r4_durable.specs.r4_sets.Session.{Session}
+use Rattle.r4_durable.specs.r4_sets_told.Runs.{born_in, gone_in}
+use Rattle.r4_durable.specs.r4_space.Lawful.{IsLawful}
+use Rattle.r4_durable.specs.r4_space.Space.{Space, settled}
+use Rattle.r4_history.specs.r4_trace.Job.{Asked}
+use Rattle.r4_history.specs.r4_trace.Traced.{atom_in}
+use Rattle.r4_history.specs.r4_trace.declared.entry.Entry.{Entry}
+use Rattle.r4_history.specs.r4_turns.declared.out.Out.{Out}
+use Rattle.r4_durable.specs.r4_wander.Parts.{part}
+use Rattle.r4_durable.specs.r4_wander.Progress.{Commits, ReadsAs}
+use Rattle.r4_durable.specs.r4_wander.Torn.{IsTarget}
 use Rattle.r4_kept.specs.Story.{Flush, Headed, Story, sealing_in}
 use Rattle.r4_kept.specs.View.{CoreSeen, blocks_of, root_seen}
 use Rattle.r4_kept.specs.declared.parts.Commit.{Commit}

@@ -4,10 +4,10 @@ use Rattle.std.specs.Borrow.{GName}
 use Rattle.r4_base.specs.Image.{Image}
 use Rattle.r4_durable.specs.Meaning.{Names}
 use Rattle.r4_history.specs.Tables.{asked}
-use Rattle.r4_script.specs.Text.{job_of}
-use Rattle.r4_script.specs.declared.fault.ScriptFault.{ScriptFault}
-use Rattle.r4_script.specs.declared.job.Job.{Job}
-use Rattle.r4_trace.specs.Job.{Asked}
+use Rattle.r4_history.specs.r4_script.Text.{job_of}
+use Rattle.r4_history.specs.r4_script.declared.fault.ScriptFault.{ScriptFault}
+use Rattle.r4_history.specs.r4_script.declared.job.Job.{Job}
+use Rattle.r4_history.specs.r4_trace.Job.{Asked}
 
 -- the image, the clock of the device, the text of the scripts, and to whom the device goes back
 pub record Naming : Type 0 where

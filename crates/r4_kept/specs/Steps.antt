@@ -1,30 +1,30 @@
 -- What the little steps of a core change.
 use Rattle.std.specs.Prelude.{◌≡◌, ◌⊎◌, ℕ, ◌+◌, ◌-◌, [], ◌∷◌, ◌≤◌, length, Option, Some, None}
-use Rattle.r4_atoms.specs.Atoms.{owner_of}
+use Rattle.r4_history.specs.r4_atoms.Atoms.{owner_of}
 use Rattle.r4_base.specs.declared.things.AtomNo.{AtomNo}
 use Rattle.r4_base.specs.declared.things.ScriptNo.{ScriptNo}
 use Rattle.r4_base.specs.declared.things.TxnNo.{TxnNo}
 use Rattle.r4_buffer.specs.Changed.{cleaned, in_turn, unused}
 use Rattle.r4_buffer.specs.Seen.{buffered}
-use Rattle.r4_commit.specs.Planned.{CommitSeen}
+use Rattle.r4_durable.specs.r4_commit.Planned.{CommitSeen}
 use Rattle.r4_content.specs.declared.command.Command.{Command}
 use Rattle.r4_content.specs.declared.command.Command.TheVariants as asks
 use Rattle.r4_history.specs.Tables.{Begins, Stands, inside, single, with_cleaned}
 use Rattle.r4_history.specs.Tables.{with_committed, with_ended, with_sealed}
-use Rattle.r4_locks.specs.Locks.{OthersAsBefore, task_at}
-use Rattle.r4_space.specs.Space.{settled}
-use Rattle.r4_trace.specs.Job.{IsWork}
-use Rattle.r4_trace.specs.Kept.{Told}
-use Rattle.r4_trace.specs.declared.entry.Entry.{Entry}
-use Rattle.r4_trace.specs.declared.entry.Entry.TheVariants.{Begin, Broken as TellsBroken}
-use Rattle.r4_trace.specs.declared.entry.Entry.TheVariants.{Committed as TellsCommitted, Ended}
-use Rattle.r4_trace.specs.declared.entry.Entry.TheVariants.{Sealed as TellsSealed}
-use Rattle.r4_turns.specs.Turns.{TurnsSeen, answered_one, entered, given_back, left, turn_at}
-use Rattle.r4_turns.specs.Turns.{with_command}
-use Rattle.r4_turns.specs.declared.out.Out.{Out}
-use Rattle.r4_turns.specs.declared.turn.Open.{Open}
+use Rattle.r4_history.specs.r4_locks.Locks.{OthersAsBefore, task_at}
+use Rattle.r4_durable.specs.r4_space.Space.{settled}
+use Rattle.r4_history.specs.r4_trace.Job.{IsWork}
+use Rattle.r4_history.specs.r4_trace.Kept.{Told}
+use Rattle.r4_history.specs.r4_trace.declared.entry.Entry.{Entry}
+use Rattle.r4_history.specs.r4_trace.declared.entry.Entry.TheVariants.{Begin, Broken as TellsBroken}
+use Rattle.r4_history.specs.r4_trace.declared.entry.Entry.TheVariants.{Committed as TellsCommitted, Ended}
+use Rattle.r4_history.specs.r4_trace.declared.entry.Entry.TheVariants.{Sealed as TellsSealed}
+use Rattle.r4_history.specs.r4_turns.Turns.{TurnsSeen, answered_one, entered, given_back, left, turn_at}
+use Rattle.r4_history.specs.r4_turns.Turns.{with_command}
+use Rattle.r4_history.specs.r4_turns.declared.out.Out.{Out}
+use Rattle.r4_history.specs.r4_turns.declared.turn.Open.{Open}
 use Rattle.r4_outside.specs.Device.{Rose, State}
-use Rattle.r4_wander.specs.Progress.{IsNext, calls_left}
+use Rattle.r4_durable.specs.r4_wander.Progress.{IsNext, calls_left}
 use Rattle.r4_kept.specs.View.{CoreSeen}
 use Rattle.r4_kept.specs.declared.parts.Commit.{Commit}
 use Rattle.r4_kept.specs.declared.parts.Step.{Step}

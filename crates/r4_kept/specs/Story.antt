@@ -3,11 +3,11 @@
 use Rattle.std.specs.Prelude.{ℕ, List, Option}
 use Rattle.r4_durable.specs.Sealing.{Sealing}
 use Rattle.r4_durable.specs.Kept.{sealing_of}
-use Rattle.r4_placed.specs.Flushing.{Flushing}
-use Rattle.r4_sets.specs.Session.{Session}
-use Rattle.r4_space.specs.Space.{Space}
-use Rattle.r4_trace.specs.declared.entry.Entry.{Entry}
-use Rattle.r4_wander.specs.declared.plan.LogPlan.{LogPlan}
+use Rattle.r4_durable.specs.r4_placed.Flushing.{Flushing}
+use Rattle.r4_durable.specs.r4_sets.Session.{Session}
+use Rattle.r4_durable.specs.r4_space.Space.{Space}
+use Rattle.r4_history.specs.r4_trace.declared.entry.Entry.{Entry}
+use Rattle.r4_durable.specs.r4_wander.declared.plan.LogPlan.{LogPlan}
 
 -- the session before the atom was sealed, what was flushed, and the plan
 pub record Flush : Type 0 where

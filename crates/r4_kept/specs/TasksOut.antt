@@ -3,28 +3,28 @@
 use Rattle.std.specs.Prelude.{◌≡◌, ◌≢◌, ◌⊎◌, ◌++◌, ℕ, ◌+◌, ◌^◌, ◌<◌, ◌≤◌, ◌==◌, Contains, List}
 use Rattle.std.specs.Prelude.{Option, Some, None, count_by, length, sum_by}
 use Rattle.std.specs.Arc.{arc_value}
-use Rattle.r4_atoms.specs.Atoms.{owner_of}
+use Rattle.r4_history.specs.r4_atoms.Atoms.{owner_of}
 use Rattle.r4_base.specs.Tree.{Name}
 use Rattle.r4_base.specs.declared.things.NodeId.{NodeId}
 use Rattle.r4_buffer.specs.Changed.{uses_of}
 use Rattle.r4_buffer.specs.Seen.{EntrySeen, buffered}
 use Rattle.r4_build.specs.Building.{CanBuild, most_new}
-use Rattle.r4_cell.specs.Patch.{by_name, root_of_pair}
-use Rattle.r4_cell.specs.Seen.{CellSeen}
-use Rattle.r4_cell.specs.declared.change.Root.{Root}
+use Rattle.r4_history.specs.r4_cell.Patch.{by_name, root_of_pair}
+use Rattle.r4_history.specs.r4_cell.Seen.{CellSeen}
+use Rattle.r4_history.specs.r4_cell.declared.change.Root.{Root}
 use Rattle.r4_content.specs.Held.{pairs_of}
 use Rattle.r4_content.specs.Meaning.{with_id}
 use Rattle.r4_content.specs.declared.command.Command.{Command}
 use Rattle.r4_history.specs.Drawn.{numbers_of}
 use Rattle.r4_history.specs.Held.{IsOut}
 use Rattle.r4_history.specs.Tables.{next_at}
-use Rattle.r4_reach.specs.Answer.{IsReachOf}
-use Rattle.r4_reach.specs.Touched.{body_on, edits_on, reads_on}
+use Rattle.r4_build.specs.r4_reach.Answer.{IsReachOf}
+use Rattle.r4_build.specs.r4_reach.Touched.{body_on, edits_on, reads_on}
 use Rattle.r4_suited.specs.Suited.{AreLawfulSeen}
-use Rattle.r4_turns.specs.Turns.{IsScript, turn_at}
-use Rattle.r4_turns.specs.declared.out.Numbers.{Numbers}
-use Rattle.r4_turns.specs.declared.out.Out.{Out}
-use Rattle.r4_turns.specs.declared.turn.Turn.{Turn}
+use Rattle.r4_history.specs.r4_turns.Turns.{IsScript, turn_at}
+use Rattle.r4_history.specs.r4_turns.declared.out.Numbers.{Numbers}
+use Rattle.r4_history.specs.r4_turns.declared.out.Out.{Out}
+use Rattle.r4_history.specs.r4_turns.declared.turn.Turn.{Turn}
 use Rattle.r4_kept.specs.Cells.{NamesAt}
 use Rattle.r4_kept.specs.View.{CoreSeen}
 

@@ -1,15 +1,15 @@
 -- What contracts see of a core: its device and its parts (docs/core.md).
 use Rattle.std.specs.Prelude.{ℕ, Option}
 use Rattle.std.specs.Option.{option_map}
-use Rattle.r4_atoms.specs.Atoms.{AtomsSeen}
+use Rattle.r4_history.specs.r4_atoms.Atoms.{AtomsSeen}
 use Rattle.r4_base.specs.Tree.{Root}
 use Rattle.r4_buffer.specs.Seen.{BufferSeen}
-use Rattle.r4_cell.specs.declared.change.Root.{Root as RootPair}
+use Rattle.r4_history.specs.r4_cell.declared.change.Root.{Root as RootPair}
 use Rattle.r4_history.specs.Tables.{Tables}
-use Rattle.r4_locks.specs.Locks.{LocksSeen}
-use Rattle.r4_space.specs.Space.{Space}
-use Rattle.r4_trace.specs.Kept.{Told}
-use Rattle.r4_turns.specs.Turns.{TurnsSeen}
+use Rattle.r4_history.specs.r4_locks.Locks.{LocksSeen}
+use Rattle.r4_durable.specs.r4_space.Space.{Space}
+use Rattle.r4_history.specs.r4_trace.Kept.{Told}
+use Rattle.r4_history.specs.r4_turns.Turns.{TurnsSeen}
 use Rattle.r4_kept.specs.declared.parts.Commit.{Commit}
 use Rattle.r4_kept.specs.declared.parts.Numbers.{Numbers}
 use Rattle.r4_kept.specs.declared.parts.Volume.{Volume}

@@ -5,3 +5,5 @@
 mod parts;
 
 pub use parts::{Commit, Numbers, Step, Volume};
+pub use r4_buffer::Buffer;
+pub use r4_build::{ObjectCounts, Task};

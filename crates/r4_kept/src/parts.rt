@@ -1,8 +1,8 @@
 //! The small parts of a core.
 
 use r4_base::{AtomNo, BlockNo, Super40};
-use r4_commit::CommitPlan;
-use r4_turns::Nodes;
+use r4_durable::CommitPlan;
+use r4_history::Nodes;
 
 /// The numbers that are drawn next.
 #[derive(Clone, Copy, Debug, PartialEq, Eq)]

@@ -21,3 +21,5 @@ mod Bounded
 mod Counted
 mod Halved
 pub mod Measured
+-- what crates above name by way of this one
+pub use Rattle.r4_node40.proofs as r4_node40

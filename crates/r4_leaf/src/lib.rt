@@ -21,4 +21,7 @@ mod run;
 pub use edits::{cut_out, put_in};
 pub use leaf::Leaf;
 pub use middle::middle_key;
+pub use r4_cde::insert;
+pub use r4_meta::{tail_part, write_stat};
+pub use r4_node40::{ItemView, NodeMut, NodeView};
 pub use remaking::{Given, KeyRange, bytes_after, remake};

@@ -16,17 +16,17 @@ use Rattle.r4_content.specs.Listed.{list_edited}
 use Rattle.r4_leaf.specs.Units.{leaf_bytes}
 use Rattle.r4_marking.specs.Marks.{AreChosen, AreMarks}
 use Rattle.r4_marking.proofs.Asked.{node_level}
-use Rattle.r4_patch.proofs.Members.{distinct, found, there}
-use Rattle.r4_path.specs.Nodes.{weight}
-use Rattle.r4_reach.specs.Demand.{Demand, ask, ask_of, heard, heard_one}
-use Rattle.r4_reach.specs.Needs.{Ask, all_gone, asking, cell_asks, changes_pieces, come_of, demand_of, growing, is_met}
-use Rattle.r4_reach.specs.Needs.{is_touched, leaf_asks, leaf_edits, meets, moves, node_asks, node_need, over}
-use Rattle.r4_reach.specs.Needs.{pieces_after, twig_asks}
-use Rattle.r4_reach.specs.Needs.{twig_more, units_after}
-use Rattle.r4_reach.specs.Reach.{IsRead, IsRootAsking, IsWritten}
-use Rattle.r4_reach.specs.Touched.{Body, blocks_end, first_byte, raw_changes}
-use Rattle.r4_reach.proofs.Enough.{node_needs, none_meet, twig_needs}
-use Rattle.r4_reach.proofs.Heard.{choose, here, later, split}
+use Rattle.r4_marking.proofs.r4_patch.Members.{distinct, found, there}
+use Rattle.r4_marking.specs.r4_path.Nodes.{weight}
+use Rattle.r4_marking.specs.r4_reach.Demand.{Demand, ask, ask_of, heard, heard_one}
+use Rattle.r4_marking.specs.r4_reach.Needs.{Ask, all_gone, asking, cell_asks, changes_pieces, come_of, demand_of, growing, is_met}
+use Rattle.r4_marking.specs.r4_reach.Needs.{is_touched, leaf_asks, leaf_edits, meets, moves, node_asks, node_need, over}
+use Rattle.r4_marking.specs.r4_reach.Needs.{pieces_after, twig_asks}
+use Rattle.r4_marking.specs.r4_reach.Needs.{twig_more, units_after}
+use Rattle.r4_marking.specs.r4_reach.Reach.{IsRead, IsRootAsking, IsWritten}
+use Rattle.r4_marking.specs.r4_reach.Touched.{Body, blocks_end, first_byte, raw_changes}
+use Rattle.r4_marking.proofs.r4_reach.Enough.{node_needs, none_meet, twig_needs}
+use Rattle.r4_marking.proofs.r4_reach.Heard.{choose, here, later, split}
 use Rattle.r4_leaf_demands.specs.Leaves.{AreOfLeaves, IsInLeaves, bearing, leaf_change_asks, leaf_demand, needing}
 use Rattle.r4_leaf_demands.specs.Leaves.{node_more}
 use Rattle.r4_leaf_demands.proofs.Weighed.{block_is}

@@ -11,11 +11,11 @@ use Rattle.r4_cell.specs.Seen.{CellSeen, node_of}
 use Rattle.r4_cell.proofs.NodesAt.{node_at, plugins_at}
 use Rattle.r4_content.specs.Edited.{Edits, Intervals, changed}
 use Rattle.r4_marking.proofs.Asked.{node_level}
-use Rattle.r4_patch.proofs.Members.{none}
-use Rattle.r4_path.proofs.CellNodes.{spans_are}
-use Rattle.r4_path.proofs.Rising.{hi_is, lo_is}
-use Rattle.r4_reach.specs.Demand.{Spans}
-use Rattle.r4_reach.specs.Reach.{IsReadAt, IsWrittenAt}
+use Rattle.r4_marking.proofs.r4_patch.Members.{none}
+use Rattle.r4_marking.proofs.r4_path.CellNodes.{spans_are}
+use Rattle.r4_marking.proofs.r4_path.Rising.{hi_is, lo_is}
+use Rattle.r4_marking.specs.r4_reach.Demand.{Spans}
+use Rattle.r4_marking.specs.r4_reach.Reach.{IsReadAt, IsWrittenAt}
 use Rattle.r4_leaf_demands.specs.Leaves.{leaf_demand}
 use Rattle.r4_leaf_demands.specs.Touching.{IsTouchedIn, item_spans}
 use Rattle.r4_leaf_demands.specs.declared.touching.Way.TheVariants.{Change, Read}

@@ -9,8 +9,8 @@ use Rattle.r4_base.specs.declared.key.Key.{Key}
 use Rattle.r4_content.specs.Bodies.{larger, smaller}
 use Rattle.r4_content.specs.Edited.{Intervals, is_between, is_in}
 use Rattle.r4_content.proofs.EditLaws.{in_append}
-use Rattle.r4_leaf_edits.proofs.KeyRanks.{key_again}
-use Rattle.r4_reach.specs.Reach.{is_body}
+use Rattle.r4_suited.proofs.r4_leaf_edits.KeyRanks.{key_again}
+use Rattle.r4_marking.specs.r4_reach.Reach.{is_body}
 use Rattle.r4_leaf_demands.specs.Touching.{HasKind, MeetsKind}
 
 -- ---- tests

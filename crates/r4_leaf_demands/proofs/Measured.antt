@@ -22,11 +22,11 @@ use Rattle.r4_leaf.specs.declared.remaking.KeyRange.{KeyRange}
 use Rattle.r4_leaf.proofs.LeafItems.{lie_rise}
 use Rattle.r4_leaf.proofs.Rising.{Rise}
 use Rattle.r4_leaf.proofs.Standing.{stand_lie}
-use Rattle.r4_leaf_edits.specs.Made.{AreOfLeaf, MakesEdits}
+use Rattle.r4_suited.specs.r4_leaf_edits.Made.{AreOfLeaf, MakesEdits}
 use Rattle.r4_marking.proofs.Asked.{node_level}
-use Rattle.r4_path.proofs.CellNodes.{units_are}
-use Rattle.r4_path.proofs.Rising.{hi_is, lo_is}
-use Rattle.r4_reach.specs.Needs.{Ask, is_met, over, units_after}
+use Rattle.r4_marking.proofs.r4_path.CellNodes.{units_are}
+use Rattle.r4_marking.proofs.r4_path.Rising.{hi_is, lo_is}
+use Rattle.r4_marking.specs.r4_reach.Needs.{Ask, is_met, over, units_after}
 use Rattle.r4_suited.proofs.Cells.{IsFitting, leaf_fits}
 use Rattle.r4_leaf_demands.specs.Leaves.{AreLeafEdits, leaf_change_asks, needing}
 

@@ -9,11 +9,11 @@ use Rattle.r4_content.specs.Edited.{Intervals, Pairs, changed, is_between, is_in
 use Rattle.r4_content.specs.Held.{edits_of, fill_pairs, interval_of, pair_of, run_pairs}
 use Rattle.r4_content.specs.declared.edits.Edits.{Edits as HeldEdits}
 use Rattle.r4_content.proofs.EditLaws.{in_append}
-use Rattle.r4_leaf_edits.specs.Suiting.{SuitLeaves, bytes_set, is_byte, zero_pairs}
-use Rattle.r4_leaf_edits.proofs.Puts.{in_both}
-use Rattle.r4_leaf_edits.proofs.Whole.{bodies_only, fills_filter, runs_filter, zeros_keys}
-use Rattle.r4_reach.specs.Needs.{is_met, meets}
-use Rattle.r4_reach.specs.Reach.{is_body}
+use Rattle.r4_suited.specs.r4_leaf_edits.Suiting.{SuitLeaves, bytes_set, is_byte, zero_pairs}
+use Rattle.r4_suited.proofs.r4_leaf_edits.Puts.{in_both}
+use Rattle.r4_suited.proofs.r4_leaf_edits.Whole.{bodies_only, fills_filter, runs_filter, zeros_keys}
+use Rattle.r4_marking.specs.r4_reach.Needs.{is_met, meets}
+use Rattle.r4_marking.specs.r4_reach.Reach.{is_body}
 use Rattle.r4_leaf_demands.specs.Touching.{MeetsKind}
 use Rattle.r4_leaf_demands.proofs.BodyKeys.{clip_in, clip_out, meets_cases, meets_first, meets_rest}
 

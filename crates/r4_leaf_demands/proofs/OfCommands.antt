@@ -8,8 +8,8 @@ use Rattle.r4_content.specs.Listed.{list_edited}
 use Rattle.r4_content.specs.Seen.{Rises}
 use Rattle.r4_content.specs.declared.command.Command.{Command}
 use Rattle.r4_leaf.specs.Units.{leaf_bytes}
-use Rattle.r4_leaf_edits.specs.Suiting.{SuitLeaves}
-use Rattle.r4_reach.specs.Touched.{Body, body_on, edits_on}
+use Rattle.r4_suited.specs.r4_leaf_edits.Suiting.{SuitLeaves}
+use Rattle.r4_marking.specs.r4_reach.Touched.{Body, body_on, edits_on}
 use Rattle.r4_suited.specs.Suited.{AreLawfulSeen, end_of_bytes}
 use Rattle.r4_suited.proofs.Small.{leaf_small}
 use Rattle.r4_suited.proofs.Suits.{command_suits}

@@ -11,9 +11,9 @@ use Rattle.r4_base.specs.Tree.{Span}
 use Rattle.r4_cell.specs.Seen.{CellSeen, node_of}
 use Rattle.r4_content.specs.Edited.{Edits, Intervals}
 use Rattle.r4_node40.proofs.Following.{item_first}
-use Rattle.r4_patch.proofs.Members.{cases, here, none}
-use Rattle.r4_path.proofs.CellNodes.{spans_are}
-use Rattle.r4_search.proofs.Places.{item_in, spans_at as in_spans}
+use Rattle.r4_marking.proofs.r4_patch.Members.{cases, here, none}
+use Rattle.r4_marking.proofs.r4_path.CellNodes.{spans_are}
+use Rattle.r4_marking.proofs.r4_search.Places.{item_in, spans_at as in_spans}
 use Rattle.r4_leaf_demands.specs.Touching.{IsToldAt, IsTouched, IsTouchedAt, IsTouchedIn, item_spans, spans_at}
 use Rattle.r4_leaf_demands.specs.declared.touching.Way.{Way}
 

@@ -20,10 +20,10 @@ use Rattle.r4_marking.specs.Marks.{AreSmall, heard_seen, most_for}
 use Rattle.r4_marking.specs.declared.demands.Heard.{Heard}
 use Rattle.r4_marking.proofs.Asked.{node_level}
 use Rattle.r4_node40.proofs.Accepted.{good}
-use Rattle.r4_path.specs.Nodes.{weight, weight_of}
-use Rattle.r4_path.proofs.Filling.{take_more, weight_one}
-use Rattle.r4_path.proofs.Finding.{node_weighs, weighs_length}
-use Rattle.r4_reach.specs.Needs.{Ask, all_more, growing, over}
+use Rattle.r4_marking.specs.r4_path.Nodes.{weight, weight_of}
+use Rattle.r4_marking.proofs.r4_path.Filling.{take_more, weight_one}
+use Rattle.r4_marking.proofs.r4_path.Finding.{node_weighs, weighs_length}
+use Rattle.r4_marking.specs.r4_reach.Needs.{Ask, all_more, growing, over}
 use Rattle.r4_leaf_demands.specs.Leaves.{bearing, leaf_change_asks, needing, node_more}
 
 -- ---- items

@@ -12,13 +12,13 @@ use Rattle.r4_content.specs.Edited.{Edits, Intervals, changed, is_in}
 use Rattle.r4_content.specs.Seen.{Rises}
 use Rattle.r4_content.specs.declared.edits.Edits.{Edits as HeldEdits}
 use Rattle.r4_leaf.specs.Units.{leaf_bytes}
-use Rattle.r4_leaf_edits.specs.Suiting.{SuitLeaves}
-use Rattle.r4_patch.specs.Part.{IsPart}
-use Rattle.r4_path.specs.Nodes.{weight}
-use Rattle.r4_reach.specs.Demand.{Demand}
-use Rattle.r4_reach.specs.Needs.{Ask, all_more, asking, changes_pieces, growing}
-use Rattle.r4_reach.specs.Needs.{is_met, over, units_after}
-use Rattle.r4_reach.specs.Touched.{Body, is_spread}
+use Rattle.r4_suited.specs.r4_leaf_edits.Suiting.{SuitLeaves}
+use Rattle.r4_marking.specs.r4_patch.Part.{IsPart}
+use Rattle.r4_marking.specs.r4_path.Nodes.{weight}
+use Rattle.r4_marking.specs.r4_reach.Demand.{Demand}
+use Rattle.r4_marking.specs.r4_reach.Needs.{Ask, all_more, asking, changes_pieces, growing}
+use Rattle.r4_marking.specs.r4_reach.Needs.{is_met, over, units_after}
+use Rattle.r4_marking.specs.r4_reach.Touched.{Body, is_spread}
 
 -- ---- what cells ask for
 

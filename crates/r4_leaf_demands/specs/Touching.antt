@@ -9,7 +9,7 @@ use Rattle.r4_base.specs.Tree.{Span}
 use Rattle.r4_cell.specs.Seen.{CellSeen, node_of}
 use Rattle.r4_content.specs.Edited.{Edits, Intervals, changed, is_in}
 use Rattle.r4_leaf.specs.declared.remaking.KeyRange.{KeyRange}
-use Rattle.r4_reach.specs.Reach.{is_body}
+use Rattle.r4_marking.specs.r4_reach.Reach.{is_body}
 use Rattle.r4_leaf_demands.specs.declared.touching.Way.{Way}
 use Rattle.r4_leaf_demands.specs.declared.touching.Way.TheVariants.{Change, Read}
 

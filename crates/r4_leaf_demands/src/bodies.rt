@@ -5,12 +5,12 @@ ghost use Rattle.r4_base.specs.Key.{IsKey, rank};
 ghost use Rattle.r4_content.specs.Held.{interval_of, pair_of};
 ghost use Rattle.r4_content.specs.Edited.{put_keys};
 ghost use Rattle.r4_leaf_demands.specs.Touching.{HasKind, MeetsKind};
-ghost use Rattle.r4_reach.specs.Reach.{is_body};
+ghost use Rattle.r4_marking.specs.r4_reach.Reach.{is_body};
 
 use r4_base::{Key, Value};
 use r4_content::Interval;
 use r4_leaf::KeyRange;
-use r4_leaf_edits::{has, part_of};
+use r4_suited::{has, part_of};
 
 /// The minor type of a body's keys.
 const BODY: u64 = 4;

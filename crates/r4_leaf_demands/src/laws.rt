@@ -11,11 +11,11 @@ ghost use Rattle.r4_content.specs.Seen.{Rises};
 ghost use Rattle.r4_content.specs.declared.command.Command.{Command};
 ghost use Rattle.r4_leaf_demands.specs.Leaves.{AreLeafEdits, AreOfLeaves, IsInLeaves, leaf_demand};
 ghost use Rattle.r4_marking.specs.Marks.{AreMarks};
-ghost use Rattle.r4_path.specs.Nodes.{weight};
-ghost use Rattle.r4_reach.specs.Demand.{ask};
-ghost use Rattle.r4_reach.specs.Needs.{Ask, demand_of};
-ghost use Rattle.r4_reach.specs.Touched.{Body, body_on, changes_on, edits_on};
-ghost use Rattle.r4_search.specs.Pool.{StandsInMemory};
+ghost use Rattle.r4_marking.specs.r4_path.Nodes.{weight};
+ghost use Rattle.r4_marking.specs.r4_reach.Demand.{ask};
+ghost use Rattle.r4_marking.specs.r4_reach.Needs.{Ask, demand_of};
+ghost use Rattle.r4_marking.specs.r4_reach.Touched.{Body, body_on, changes_on, edits_on};
+ghost use Rattle.r4_marking.specs.r4_search.Pool.{StandsInMemory};
 ghost use Rattle.r4_suited.specs.Suited.{AreLawfulSeen};
 
 /// Where a command's edits are of leaves alone, what it reads and writes of the cells that were met

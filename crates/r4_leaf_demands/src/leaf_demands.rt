@@ -10,8 +10,8 @@ use crate::weighing::{needing, node_more};
 use r4_base::{LEAF, Memory};
 use r4_cell::Cell;
 use r4_content::{Edits, Interval};
-use r4_leaf_edits::{meets_intervals, touches_leaf};
 use r4_marking::{Asking, Demands, Heard};
+use r4_suited::{meets_intervals, touches_leaf};
 use std::alloc::Global;
 use std::marker::Model;
 

@@ -11,5 +11,6 @@ mod weighing;
 pub use bodies::intervals_have;
 pub use laws::{commands_of_leaves_may_ask, edits_of_leaves_are_enough};
 pub use leaf_demands::LeafDemands;
+pub use r4_marking::Heard;
 pub use touching::low_range;
 pub use weighing::{POINTER_ROOM, all_more, growing, node_bytes, over};

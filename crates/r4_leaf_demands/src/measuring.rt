@@ -9,15 +9,15 @@ ghost use Rattle.r4_content.specs.Held.{edits_of};
 ghost use Rattle.r4_leaf.specs.Units.{leaf_bytes};
 ghost use Rattle.r4_leaf_demands.specs.Leaves.{AreLeafEdits, leaf_change_asks};
 ghost use Rattle.r4_marking.specs.Marks.{ask_seen};
-ghost use Rattle.r4_reach.specs.Needs.{Ask, units_after};
+ghost use Rattle.r4_marking.specs.r4_reach.Needs.{Ask, units_after};
 
 use crate::weighing::{needing, over};
 use r4_base::Memory;
 use r4_cell::Cell;
 use r4_content::Edits;
 use r4_leaf::bytes_after;
-use r4_leaf_edits::{edits_of_leaf, touches_leaf};
 use r4_marking::Asking;
+use r4_suited::{edits_of_leaf, touches_leaf};
 use std::alloc::Global;
 
 /// What a leaf asks for: nothing where no key of its range is changed, and then it is not looked at.

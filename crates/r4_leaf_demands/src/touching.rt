@@ -9,17 +9,17 @@ ghost use Rattle.r4_content.specs.Edited.{changed, put_keys};
 ghost use Rattle.r4_content.specs.Held.{edits_of, fill_pairs, interval_of, pair_of, run_pairs};
 ghost use Rattle.r4_leaf_demands.specs.Touching.{IsToldAt, IsTouched, IsTouchedAt, IsTouchedIn};
 ghost use Rattle.r4_leaf_demands.specs.Touching.{MeetsKind, span_of, spans_told};
-ghost use Rattle.r4_leaf_edits.specs.Suiting.{SuitLeaves};
+ghost use Rattle.r4_suited.specs.r4_leaf_edits.Suiting.{SuitLeaves};
 ghost use Rattle.r4_node40.specs.View.{view_items};
-ghost use Rattle.r4_reach.specs.Needs.{is_met};
+ghost use Rattle.r4_marking.specs.r4_reach.Needs.{is_met};
 
 use crate::bodies::{intervals_have, values_have};
 use r4_base::{EXTENT, LEAF};
 use r4_cell::Cell;
 use r4_content::{Edits, Interval};
 use r4_leaf::KeyRange;
-use r4_leaf_edits::{meets_fills, meets_intervals, meets_runs};
 use r4_node40::NodeView;
+use r4_suited::{meets_fills, meets_intervals, meets_runs};
 
 /// What is asked of the keys of an extent: whether one is changed that is no body's; or whether one is read, or is a
 /// body's and changed.

@@ -6,8 +6,8 @@ ghost use Rattle.r4_base.specs.Node.{items_of};
 ghost use Rattle.r4_cell.specs.Seen.{node_of};
 ghost use Rattle.r4_leaf_demands.specs.Leaves.{bearing, needing, node_more};
 ghost use Rattle.r4_marking.specs.Marks.{AreSmall, ask_seen, heard_seen, most_for};
-ghost use Rattle.r4_path.specs.Nodes.{weight};
-ghost use Rattle.r4_reach.specs.Needs.{all_more, growing, over};
+ghost use Rattle.r4_marking.specs.r4_path.Nodes.{weight};
+ghost use Rattle.r4_marking.specs.r4_reach.Needs.{all_more, growing, over};
 
 use r4_base::{ITEM_HEADER, NODE_ROOM, TWIG};
 use r4_cell::Cell;

@@ -12,7 +12,7 @@ use Rattle.r4_content.specs.Edited.{Pairs, is_between, is_in, put_keys}
 use Rattle.r4_content.specs.Objects.{byte_pairs}
 use Rattle.r4_content.proofs.BytePairs.{keys_in}
 use Rattle.r4_content.proofs.Ranks.{between_is}
-use Rattle.r4_leaf.specs.declared.remaking.KeyRange.{KeyRange}
+use Rattle.r4_reach.specs.r4_leaf.declared.remaking.KeyRange.{KeyRange}
 use Rattle.r4_leaf_edits.specs.Made.{cuts_in, items_in}
 use Rattle.r4_leaf_edits.specs.Making.{Gains, IsUnit, Sets}
 use Rattle.r4_leaf_edits.specs.Suiting.{IsBefore}

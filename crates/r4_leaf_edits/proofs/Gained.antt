@@ -9,8 +9,8 @@ use Rattle.r4_base.specs.Key.{rank}
 use Rattle.r4_base.specs.Node.{Item}
 use Rattle.r4_content.specs.Edited.{Intervals, Pairs, is_between, is_in, put_keys}
 use Rattle.r4_content.proofs.EditLaws.{in_append}
-use Rattle.r4_leaf.specs.declared.remaking.KeyRange.{KeyRange}
-use Rattle.r4_leaf.proofs.Lying.{units_cons, units_nil}
+use Rattle.r4_reach.specs.r4_leaf.declared.remaking.KeyRange.{KeyRange}
+use Rattle.r4_reach.proofs.r4_leaf.Lying.{units_cons, units_nil}
 use Rattle.r4_leaf_edits.specs.Made.{CutsWithin, cuts_in, items_in}
 use Rattle.r4_leaf_edits.specs.Making.{Gains, IsOfRange, Sets, range_of}
 use Rattle.r4_leaf_edits.specs.declared.leaf_edits.LeafEdits.{LeafEdits}

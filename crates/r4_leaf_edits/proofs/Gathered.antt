@@ -10,11 +10,11 @@ use Rattle.r4_content.specs.Edited.{Intervals, Pairs, is_between, is_in}
 use Rattle.r4_content.specs.Held.{edits_of, interval_of}
 use Rattle.r4_content.specs.declared.edits.Edits.{Edits as HeldEdits}
 use Rattle.r4_content.specs.declared.edits.Interval.{Interval}
-use Rattle.r4_leaf.specs.Remade.{AreWithin, item_of}
-use Rattle.r4_leaf.specs.Units.{LeafUnit}
-use Rattle.r4_leaf.specs.declared.remaking.Given.{Given}
-use Rattle.r4_leaf.specs.declared.remaking.KeyRange.{KeyRange}
-use Rattle.r4_leaf.proofs.Lying.{units_nil}
+use Rattle.r4_reach.specs.r4_leaf.Remade.{AreWithin, item_of}
+use Rattle.r4_reach.specs.r4_leaf.Units.{LeafUnit}
+use Rattle.r4_reach.specs.r4_leaf.declared.remaking.Given.{Given}
+use Rattle.r4_reach.specs.r4_leaf.declared.remaking.KeyRange.{KeyRange}
+use Rattle.r4_reach.proofs.r4_leaf.Lying.{units_nil}
 use Rattle.r4_reach.specs.Needs.{leaf_edits}
 use Rattle.r4_reach.specs.Touched.{Body}
 use Rattle.r4_leaf_edits.specs.Made.{AreItems, AreOfLeaf, CutsWithin, HaveKeys, MakesEdits, bytes_end, cuts_in, items_in, spread_keys}

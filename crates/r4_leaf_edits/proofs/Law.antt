@@ -12,10 +12,10 @@ use Rattle.r4_content.specs.Edited.{Edits, Intervals, Pairs, changed, is_between
 use Rattle.r4_content.specs.Listed.{list_edited}
 use Rattle.r4_content.specs.Seen.{Rises}
 use Rattle.r4_content.proofs.EditLaws.{in_changed, last_put, one_key, put_on}
-use Rattle.r4_leaf.specs.Remade.{cut_all, item_of, put_all}
-use Rattle.r4_leaf.specs.Units.{LeafUnit}
-use Rattle.r4_leaf.specs.declared.remaking.Given.{Given}
-use Rattle.r4_leaf.specs.declared.remaking.KeyRange.{KeyRange}
+use Rattle.r4_reach.specs.r4_leaf.Remade.{cut_all, item_of, put_all}
+use Rattle.r4_reach.specs.r4_leaf.Units.{LeafUnit}
+use Rattle.r4_reach.specs.r4_leaf.declared.remaking.Given.{Given}
+use Rattle.r4_reach.specs.r4_leaf.declared.remaking.KeyRange.{KeyRange}
 use Rattle.r4_leaf_edits.specs.Made.{AreOfLeaf, MakesEdits}
 use Rattle.r4_leaf_edits.specs.Making.{range_of}
 use Rattle.r4_leaf_edits.specs.Suiting.{AreOnce}

@@ -12,3 +12,10 @@ pub mod Meant
 pub mod Touched
 pub mod Gathered
 pub mod Few
+-- what crates above name by way of this one
+pub use Rattle.r4_reach.proofs.r4_cell
+pub use Rattle.r4_reach.proofs.r4_graft
+pub use Rattle.r4_reach.proofs.r4_leaf
+pub use Rattle.r4_reach.proofs.r4_node40
+pub use Rattle.r4_reach.proofs.r4_patch
+pub use Rattle.r4_reach.proofs.r4_path

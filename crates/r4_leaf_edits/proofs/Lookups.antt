@@ -14,9 +14,9 @@ use Rattle.r4_content.specs.Listed.{list_cut, list_edited}
 use Rattle.r4_content.specs.Seen.{Rises}
 use Rattle.r4_content.proofs.EditLaws.{at_edited, last_put, one_key, same_content}
 use Rattle.r4_content.proofs.SeenLaws.{at_content, content_of, edited_list}
-use Rattle.r4_leaf.specs.Remade.{cut_all}
-use Rattle.r4_leaf.specs.Units.{LeafUnit, cut_units}
-use Rattle.r4_leaf.specs.declared.remaking.KeyRange.{KeyRange}
+use Rattle.r4_reach.specs.r4_leaf.Remade.{cut_all}
+use Rattle.r4_reach.specs.r4_leaf.Units.{LeafUnit, cut_units}
+use Rattle.r4_reach.specs.r4_leaf.declared.remaking.KeyRange.{KeyRange}
 use Rattle.r4_base.specs.Key.{rank}
 use Rattle.r4_leaf_edits.specs.Making.{range_of}
 

@@ -13,10 +13,10 @@ use Rattle.r4_base.specs.Value.{Value}
 use Rattle.r4_content.specs.Edited.{Pairs, is_between, is_in, put_keys}
 use Rattle.r4_content.specs.Seen.{Rises}
 use Rattle.r4_content.proofs.EditLaws.{in_append, last_put, one_key, put_off}
-use Rattle.r4_leaf.specs.Leaves.{AreApart, MayBePut}
-use Rattle.r4_leaf.specs.Remade.{CanPutAll, item_of, put_all}
-use Rattle.r4_leaf.specs.Units.{LeafUnit, put_unit, put_units}
-use Rattle.r4_leaf.specs.declared.remaking.Given.{Given}
+use Rattle.r4_reach.specs.r4_leaf.Leaves.{AreApart, MayBePut}
+use Rattle.r4_reach.specs.r4_leaf.Remade.{CanPutAll, item_of, put_all}
+use Rattle.r4_reach.specs.r4_leaf.Units.{LeafUnit, put_unit, put_units}
+use Rattle.r4_reach.specs.r4_leaf.declared.remaking.Given.{Given}
 use Rattle.r4_leaf_edits.specs.Suiting.{AreOnce}
 use Rattle.r4_leaf_edits.proofs.Lookups.{contains_in, here, in_is_found, none_in}
 

@@ -17,10 +17,10 @@ use Rattle.r4_base.specs.declared.items.CellFault.TheVariants.{Dir, Stat as Stat
 use Rattle.r4_base.specs.declared.key.Key.{Key}
 use Rattle.r4_base.proofs.Dirs.{get-entries_of, length-entries_of}
 use Rattle.r4_content.specs.Objects.{byte_pairs}
-use Rattle.r4_leaf.specs.Filling.{HasEntry, Receives}
-use Rattle.r4_leaf.specs.Leaves.{MayBePut}
-use Rattle.r4_leaf.proofs.CutPieces.{rank_is}
-use Rattle.r4_leaf.proofs.EntryWritten.{no_count}
+use Rattle.r4_reach.specs.r4_leaf.Filling.{HasEntry, Receives}
+use Rattle.r4_reach.specs.r4_leaf.Leaves.{MayBePut}
+use Rattle.r4_reach.proofs.r4_leaf.CutPieces.{rank_is}
+use Rattle.r4_reach.proofs.r4_leaf.EntryWritten.{no_count}
 use Rattle.r4_leaf_edits.specs.Making.{IsUnit}
 use Rattle.r4_leaf_edits.proofs.Clipped.{same_bytes}
 

@@ -9,10 +9,10 @@ use Rattle.r4_content.specs.Listed.{list_edited}
 use Rattle.r4_content.specs.Seen.{Rises}
 use Rattle.r4_content.specs.declared.edits.Edits.{Edits as HeldEdits}
 use Rattle.r4_content.specs.declared.edits.Interval.{Interval}
-use Rattle.r4_leaf.specs.Remade.{CanPutAll, cut_all, filled_tail, item_of, put_all}
-use Rattle.r4_leaf.specs.Units.{LeafUnit}
-use Rattle.r4_leaf.specs.declared.remaking.Given.{Given}
-use Rattle.r4_leaf.specs.declared.remaking.KeyRange.{KeyRange}
+use Rattle.r4_reach.specs.r4_leaf.Remade.{CanPutAll, cut_all, filled_tail, item_of, put_all}
+use Rattle.r4_reach.specs.r4_leaf.Units.{LeafUnit}
+use Rattle.r4_reach.specs.r4_leaf.declared.remaking.Given.{Given}
+use Rattle.r4_reach.specs.r4_leaf.declared.remaking.KeyRange.{KeyRange}
 use Rattle.r4_leaf_edits.specs.declared.leaf_edits.LeafEdits.{LeafEdits}
 use Rattle.r4_leaf_edits.specs.declared.leaf_edits.LeafItem.{LeafItem}
 use Rattle.r4_leaf_edits.specs.declared.leaf_edits.LeafItem.TheVariants.{Filled, Lent, Spelled}

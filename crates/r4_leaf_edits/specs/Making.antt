@@ -12,8 +12,8 @@ use Rattle.r4_content.specs.Edited.{Intervals, Pairs, is_between, is_in, put_key
 use Rattle.r4_content.specs.Held.{fill_pairs, interval_of, pair_of, run_pairs}
 use Rattle.r4_content.specs.declared.edits.Edits.{Edits as HeldEdits}
 use Rattle.r4_content.specs.declared.edits.Interval.{Interval}
-use Rattle.r4_leaf.specs.Leaves.{MayBePut}
-use Rattle.r4_leaf.specs.declared.remaking.KeyRange.{KeyRange}
+use Rattle.r4_reach.specs.r4_leaf.Leaves.{MayBePut}
+use Rattle.r4_reach.specs.r4_leaf.declared.remaking.KeyRange.{KeyRange}
 use Rattle.r4_leaf_edits.specs.Made.{CutsWithin, cuts_in, items_in}
 use Rattle.r4_leaf_edits.specs.declared.leaf_edits.LeafEdits.{LeafEdits}
 use Rattle.r4_leaf_edits.specs.Suiting.{zero_pairs}

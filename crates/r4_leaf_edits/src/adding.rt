@@ -13,8 +13,7 @@ use crate::leaf_edits::{LeafEdits, LeafItem};
 use crate::values::item_of_value;
 use r4_base::{Key, Memory, Value};
 use r4_content::Interval;
-use r4_leaf::KeyRange;
-use r4_meta::tail_part;
+use r4_reach::{KeyRange, tail_part};
 use std::alloc::Global;
 
 /// What lies in the leaf's range of an interval goes.

@@ -7,7 +7,7 @@ ghost use Rattle.r4_content.specs.Edited.{is_between};
 ghost use Rattle.r4_leaf_edits.specs.Making.{range_of};
 
 use r4_base::Key;
-use r4_leaf::KeyRange;
+use r4_reach::KeyRange;
 
 /// Whether a key lies in a range (docs/volume.md, "Which edits a leaf gets").
 pub fn has(range: &KeyRange, key: Key) -> bool

@@ -1,11 +1,11 @@
 //! The edits of one leaf (docs/volume.md, "Which edits a leaf gets").
 
 ghost use Rattle.std.specs.Prelude.{◌≡◌, ◌++◌, ◌∷◌, [], IfOk, OnOk};
-ghost use Rattle.r4_leaf.specs.Remade.{item_of};
+ghost use Rattle.r4_reach.specs.r4_leaf.Remade.{item_of};
 ghost use Rattle.r4_leaf_edits.specs.Made.{AreItems, cuts_in, items_in, made_item};
 
 use r4_base::{Key, Memory, TAIL};
-use r4_leaf::{Given, KeyRange};
+use r4_reach::{Given, KeyRange};
 use std::alloc::Global;
 
 /// What one leaf gets of a command's edits: ranges of keys that are cut out of it, and then items that are put in. The

@@ -11,4 +11,5 @@ mod values;
 pub use keys::{has, part_of};
 pub use leaf_edits::LeafEdits;
 pub use making::edits_of_leaf;
+pub use r4_reach::pieces_of_cell;
 pub use touching::{meets_fills, meets_intervals, meets_runs, touches_leaf};

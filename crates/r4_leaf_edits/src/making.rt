@@ -9,9 +9,9 @@ ghost use Rattle.r4_base.specs.Key.{IsKey, rank};
 ghost use Rattle.r4_base.specs.Value.{value_of};
 ghost use Rattle.r4_content.specs.Edited.{is_in, put_keys};
 ghost use Rattle.r4_content.specs.Held.{edits_of, fill_pairs, interval_of, pair_of, run_pairs};
-ghost use Rattle.r4_leaf.specs.Remade.{AreWithin};
-ghost use Rattle.r4_leaf.specs.Units.{LeafUnit};
-ghost use Rattle.r4_leaf.specs.declared.remaking.Given.{Given as GivenItem};
+ghost use Rattle.r4_reach.specs.r4_leaf.Remade.{AreWithin};
+ghost use Rattle.r4_reach.specs.r4_leaf.Units.{LeafUnit};
+ghost use Rattle.r4_reach.specs.r4_leaf.declared.remaking.Given.{Given as GivenItem};
 ghost use Rattle.r4_reach.specs.Needs.{leaf_edits};
 ghost use Rattle.r4_reach.specs.Reach.{is_body};
 ghost use Rattle.r4_reach.specs.Touched.{Body};
@@ -26,7 +26,7 @@ use crate::adding::{cut, fill, set_run, set_value};
 use crate::leaf_edits::LeafEdits;
 use r4_base::{Key, Memory, Value};
 use r4_content::{ByteRun, Edits, FilledInterval, Interval};
-use r4_leaf::KeyRange;
+use r4_reach::KeyRange;
 use std::alloc::Global;
 
 /// What the leaf of the keys from `lo` on and below `hi` gets of a command's edits: what it is to have afterwards is

@@ -10,7 +10,7 @@ ghost use Rattle.r4_reach.specs.Needs.{is_met, meets};
 use crate::keys::{has, higher, next_key, part_of};
 use r4_base::{Key, Value};
 use r4_content::{ByteRun, Edits, FilledInterval, Interval};
-use r4_leaf::KeyRange;
+use r4_reach::KeyRange;
 
 /// Whether a key that a command sets or takes away lies in the range of a leaf, from `lo` on and below `hi`. It takes
 /// no time for each byte (docs/volume.md, "Which edits a leaf gets").

@@ -6,16 +6,15 @@ ghost use Rattle.r4_base.specs.Entries.{IsLawfulEntry};
 ghost use Rattle.r4_base.specs.Key.{offset_of, rank};
 ghost use Rattle.r4_base.specs.Stat.{kind_is_good};
 ghost use Rattle.r4_base.specs.Value.{Entry, Stat, value_of};
-ghost use Rattle.r4_cde.specs.Edits.{used_with};
-ghost use Rattle.r4_leaf.specs.Filling.{long_of};
+ghost use Rattle.r4_reach.specs.r4_cde.Edits.{used_with};
+ghost use Rattle.r4_reach.specs.r4_leaf.Filling.{long_of};
 ghost use Rattle.r4_leaf_edits.specs.Made.{made_item};
 ghost use Rattle.r4_leaf_edits.specs.Making.{IsUnit};
 ghost use Rattle.r4_leaf_edits.specs.Suiting.{IsLawfulPut, is_byte};
 
 use crate::leaf_edits::LeafItem;
 use r4_base::{Attr, ENTRIES, Key, Memory, Name, STAT, Target, Value};
-use r4_cde::insert;
-use r4_meta::write_stat;
+use r4_reach::{insert, write_stat};
 use std::alloc::Global;
 
 /// How many bytes stat data have.

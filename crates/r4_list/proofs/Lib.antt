@@ -29,3 +29,5 @@ pub mod BelowBegins
 pub mod Listings
 pub mod ListingText
 pub mod Refusals
+-- what crates above name by way of this one
+pub use Rattle.r4_search.proofs as r4_search

@@ -9,3 +9,5 @@ pub mod Over
 pub mod Lists
 pub mod OverWalks
 pub mod Printed
+-- what crates above name by way of this one
+pub use Rattle.r4_search.specs as r4_search

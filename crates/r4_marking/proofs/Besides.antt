@@ -4,9 +4,9 @@ use Rattle.std.specs.Prelude.{Bool, Contains, Some, if◌then◌else◌, slice_g
 use Rattle.std.proofs.lemmas.List.{append-nil}
 use Rattle.std.proofs.lemmas.List.Elements.{Contains-append_cases, Contains-append_left, Contains-append_right}
 use Rattle.r4_base.specs.Tree.{Name}
-use Rattle.r4_cell.specs.Patch.{by_name}
-use Rattle.r4_cell.specs.Seen.{CellSeen, node_of}
-use Rattle.r4_patch.proofs.Members.{cases, found, here, later, none}
+use Rattle.r4_search.specs.r4_cell.Patch.{by_name}
+use Rattle.r4_search.specs.r4_cell.Seen.{CellSeen, node_of}
+use Rattle.r4_reach.proofs.r4_patch.Members.{cases, found, here, later, none}
 use Rattle.r4_reach.specs.Demand.{Demand}
 use Rattle.r4_reach.specs.Needs.{Ask}
 use Rattle.r4_reach.specs.Reach.{IsBeside}

@@ -12,10 +12,10 @@ use Rattle.r4_base.specs.Key.{rank}
 use Rattle.r4_base.specs.Node.{Item, PluginsFit, fits_level, items_of}
 use Rattle.r4_base.specs.Tree.{Name}
 use Rattle.r4_base.proofs.Choices.{nothing_in}
-use Rattle.r4_cell.specs.Seen.{CellSeen, node_of}
-use Rattle.r4_cell.proofs.ItemRows.{extent_data}
-use Rattle.r4_cell.proofs.NodesAt.{node_at, plugins_at}
-use Rattle.r4_patch.proofs.Members.{here, later, none}
+use Rattle.r4_search.specs.r4_cell.Seen.{CellSeen, node_of}
+use Rattle.r4_search.proofs.r4_cell.ItemRows.{extent_data}
+use Rattle.r4_search.proofs.r4_cell.NodesAt.{node_at, plugins_at}
+use Rattle.r4_reach.proofs.r4_patch.Members.{here, later, none}
 use Rattle.r4_reach.specs.Demand.{heard_one}
 use Rattle.r4_reach.specs.Needs.{Ask}
 use Rattle.r4_search.specs.Place.{child_name}

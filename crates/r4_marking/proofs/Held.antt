@@ -5,10 +5,10 @@ use Rattle.std.proofs.lemmas.Bool.{cases_eq, eqb-true}
 use Rattle.std.proofs.lemmas.Option.{same_Some}
 use Rattle.r4_base.specs.Tree.{Fits, Name, Node, Root, Store}
 use Rattle.r4_base.specs.Value.{Value}
-use Rattle.r4_cell.specs.Patch.{HaveNames, by_name}
-use Rattle.r4_cell.specs.Seen.{CellSeen, node_of}
-use Rattle.r4_patch.specs.Part.{IsPart}
-use Rattle.r4_patch.proofs.Members.{absent, found, here, later}
+use Rattle.r4_search.specs.r4_cell.Patch.{HaveNames, by_name}
+use Rattle.r4_search.specs.r4_cell.Seen.{CellSeen, node_of}
+use Rattle.r4_reach.specs.r4_patch.Part.{IsPart}
+use Rattle.r4_reach.proofs.r4_patch.Members.{absent, found, here, later}
 use Rattle.r4_reach.specs.Demand.{Demand, ask, ask_of, heard, heard_one}
 use Rattle.r4_reach.specs.Needs.{Ask}
 use Rattle.r4_marking.specs.Marks.{AreAsks, AreLevels, AreMet, IsNoted, heard_by_id}

@@ -8,9 +8,9 @@ use Rattle.std.proofs.lemmas.List.Sums.{sum_by-cons}
 use Rattle.std.proofs.lemmas.Option.{same_Some}
 use Rattle.r4_base.specs.Tree.{Name, Node, Root, Store}
 use Rattle.r4_base.specs.Value.{Value}
-use Rattle.r4_cell.specs.Patch.{by_name}
-use Rattle.r4_cell.specs.Seen.{CellSeen, node_of}
-use Rattle.r4_patch.proofs.Members.{found, here, later, none}
+use Rattle.r4_search.specs.r4_cell.Patch.{by_name}
+use Rattle.r4_search.specs.r4_cell.Seen.{CellSeen, node_of}
+use Rattle.r4_reach.proofs.r4_patch.Members.{found, here, later, none}
 use Rattle.r4_reach.specs.Demand.{Demand, ask, heard}
 use Rattle.r4_reach.specs.Leaves.{more_in, more_of}
 use Rattle.r4_reach.specs.Needs.{Ask}

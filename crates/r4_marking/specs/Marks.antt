@@ -10,9 +10,9 @@ use Rattle.r4_base.specs.Key.{rank}
 use Rattle.r4_base.specs.Node.{Item, items_of}
 use Rattle.r4_base.specs.Tree.{Name, Node, Root, Store}
 use Rattle.r4_base.specs.Value.{Value}
-use Rattle.r4_cell.specs.Patch.{HaveNames, by_name}
-use Rattle.r4_cell.specs.Seen.{CellSeen, node_of}
-use Rattle.r4_patch.specs.Part.{IsPart}
+use Rattle.r4_search.specs.r4_cell.Patch.{HaveNames, by_name}
+use Rattle.r4_search.specs.r4_cell.Seen.{CellSeen, node_of}
+use Rattle.r4_reach.specs.r4_patch.Part.{IsPart}
 use Rattle.r4_reach.specs.Demand.{Demand, ask, heard_one}
 use Rattle.r4_reach.specs.Needs.{Ask}
 use Rattle.r4_reach.specs.Reach.{IsRead, IsReadAt, IsRootAsking, IsWritten, IsWrittenAt}

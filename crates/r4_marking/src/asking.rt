@@ -3,14 +3,14 @@
 ghost use Rattle.std.specs.Prelude.{map, IfOk, OnOk};
 ghost use Rattle.std.specs.Arc.{arc_value};
 ghost use Rattle.r4_base.specs.Tree.{Root};
-ghost use Rattle.r4_cell.specs.Patch.{by_name};
-ghost use Rattle.r4_cell.specs.Seen.{node_of};
+ghost use Rattle.r4_search.specs.r4_cell.Patch.{by_name};
+ghost use Rattle.r4_search.specs.r4_cell.Seen.{node_of};
 ghost use Rattle.r4_marking.specs.Marks.{AreAsks, HearsLittle, AreMet, IsNoted, asks_seen, most_for};
 
 use crate::demands::{Asking, Demands};
 use crate::hearing::heard_by;
 use r4_base::Memory;
-use r4_cell::Cell;
+use r4_search::Cell;
 use std::alloc::Global;
 use std::collections::HashMap;
 use std::sync::Arc;

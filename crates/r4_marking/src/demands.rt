@@ -3,15 +3,14 @@
 ghost use Rattle.std.specs.Prelude.{◌≡◌, ◌+◌, ◌≤◌, ◌↔◌, length, map, true, IfOk, IfSome};
 ghost use Rattle.std.specs.Option.{option_map};
 ghost use Rattle.r4_base.specs.Node.{items_of};
-ghost use Rattle.r4_cell.specs.Seen.{node_of};
+ghost use Rattle.r4_search.specs.r4_cell.Seen.{node_of};
 ghost use Rattle.r4_marking.specs.Marks.{AreSmall, ask_seen, heard_seen, most_for};
 ghost use Rattle.r4_reach.specs.Demand.{Demand};
 ghost use Rattle.r4_reach.specs.Needs.{Ask};
 ghost use Rattle.r4_reach.specs.Reach.{IsReadAt, IsWrittenAt};
 
 use r4_base::Memory;
-use r4_cell::Cell;
-use r4_search::Child;
+use r4_search::{Cell, Child};
 use std::alloc::Global;
 
 /// What a cell asks of the one that names it: so many pointers more, and that the one to it goes

@@ -2,7 +2,7 @@
 
 ghost use Rattle.std.specs.Prelude.{◌≡◌, ◌++◌, ◌≤◌, ◌<◌, [], length, map, IfOk, IfSome, IfNone, OnOk};
 ghost use Rattle.r4_base.specs.Node.{items_of};
-ghost use Rattle.r4_cell.specs.Seen.{node_of};
+ghost use Rattle.r4_search.specs.r4_cell.Seen.{node_of};
 ghost use Rattle.r4_marking.specs.Marks.{HearsAt, IsChildAt, NoChildAt, asks_seen, heard_by_id, heard_seen};
 ghost use Rattle.r4_node40.specs.View.{view_items};
 ghost use Rattle.r4_reach.specs.Demand.{heard_one};
@@ -10,9 +10,8 @@ ghost use Rattle.r4_search.specs.Place.{child_name};
 
 use crate::demands::{Asking, Heard};
 use r4_base::{BlockNo, LEAF, Memory, NodeId, POINTER};
-use r4_cell::Cell;
 use r4_node40::NodeView;
-use r4_search::Child;
+use r4_search::{Cell, Child};
 use r4_twig::pointer;
 use std::alloc::Global;
 use std::collections::HashMap;

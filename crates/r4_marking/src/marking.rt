@@ -2,7 +2,7 @@
 
 ghost use Rattle.std.specs.Prelude.{◌≡◌, ◌↔◌, map, true, IfOk, OnOk, sum_by};
 ghost use Rattle.std.specs.Arc.{arc_value};
-ghost use Rattle.r4_cell.specs.Patch.{by_name, root_of_pair};
+ghost use Rattle.r4_search.specs.r4_cell.Patch.{by_name, root_of_pair};
 ghost use Rattle.r4_reach.specs.Leaves.{more_in, more_of};
 ghost use Rattle.r4_marking.specs.Marks.{AddsBeside, AreBeside, AreMarksOf, AreMet, IsWrittenBy, MarksOne, asks_seen};
 
@@ -10,7 +10,7 @@ use crate::asking::asked_up;
 use crate::demands::{Asking, Demands};
 use crate::hearing::heard_by;
 use r4_base::Memory;
-use r4_cell::{Cell, Root};
+use r4_search::{Cell, Root};
 use std::alloc::{AllocError, Global};
 use std::collections::HashMap;
 use std::sync::Arc;

@@ -11,3 +11,5 @@ pub use matching::{Mismatch, match_task};
 
 #[cfg(test)]
 mod tests;
+
+pub use r4_build::{BuildFault, Built, Task, build};

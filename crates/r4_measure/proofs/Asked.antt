@@ -9,11 +9,11 @@ use Rattle.r4_base.specs.Key.{rank}
 use Rattle.r4_base.specs.Node.{Item, items_of}
 use Rattle.r4_base.specs.Tree.{Name, Node, Root, Store}
 use Rattle.r4_base.specs.Value.{Value}
-use Rattle.r4_patch.specs.Part.{IsPart}
+use Rattle.r4_reach.specs.r4_patch.Part.{IsPart}
 use Rattle.r4_content.specs.Edited.{Edits, Intervals}
-use Rattle.r4_path.specs.Nodes.{weight}
-use Rattle.r4_path.proofs.CellNodes.{names_are}
-use Rattle.r4_path.proofs.Rising.{level_is}
+use Rattle.r4_reach.specs.r4_path.Nodes.{weight}
+use Rattle.r4_reach.proofs.r4_path.CellNodes.{names_are}
+use Rattle.r4_reach.proofs.r4_path.Rising.{level_is}
 use Rattle.r4_reach.specs.Demand.{Demand, ask, ask_of, heard, heard_one}
 use Rattle.r4_content.specs.Bodies.{larger}
 use Rattle.r4_reach.specs.Needs.{Ask, all_gone, all_more, cell_asks, changes_pieces, come_of, demand_of, growing, is_touched}

@@ -7,8 +7,8 @@ use Rattle.r4_base.specs.Node.{items_of}
 use Rattle.r4_base.specs.Tree.{Name, Node, Root, Store}
 use Rattle.r4_base.specs.Value.{Value}
 use Rattle.r4_content.specs.Edited.{Edits, Intervals}
-use Rattle.r4_patch.specs.Part.{IsPart}
-use Rattle.r4_path.specs.Nodes.{weight}
+use Rattle.r4_reach.specs.r4_patch.Part.{IsPart}
+use Rattle.r4_reach.specs.r4_path.Nodes.{weight}
 use Rattle.r4_reach.proofs.Enough.{asks_some, over_some}
 use Rattle.r4_reach.specs.Demand.{Demand, ask, ask_of, heard, heard_one}
 use Rattle.r4_reach.specs.Leaves.{more_of}

@@ -4,14 +4,14 @@ use Rattle.std.specs.Prelude.{Contains, Option, None, Some, not, ◌||◌, ◌==
 use Rattle.std.proofs.lemmas.Bool.{cases_lt, eq-eqb}
 use Rattle.r4_base.specs.Tree.{Name, Node, Root, Store}
 use Rattle.r4_base.specs.Value.{Value}
-use Rattle.r4_cell.specs.Patch.{Patch, patch_of, place, root_after}
-use Rattle.r4_cell.specs.Seen.{CellSeen, node_of}
-use Rattle.r4_cell.specs.declared.change.Fresh.{Fresh}
+use Rattle.r4_reach.specs.r4_cell.Patch.{Patch, patch_of, place, root_after}
+use Rattle.r4_reach.specs.r4_cell.Seen.{CellSeen, node_of}
+use Rattle.r4_reach.specs.r4_cell.declared.change.Fresh.{Fresh}
 use Rattle.r4_content.specs.Edited.{Edits, Intervals}
-use Rattle.r4_patch.specs.Joining.{patch_of_change}
-use Rattle.r4_patch.proofs.Members.{here, later}
-use Rattle.r4_leaf.specs.Units.{leaf_bytes}
-use Rattle.r4_edit.specs.Editing.{extra_cells}
+use Rattle.r4_reach.specs.r4_patch.Joining.{patch_of_change}
+use Rattle.r4_reach.proofs.r4_patch.Members.{here, later}
+use Rattle.r4_reach.specs.r4_leaf.Units.{leaf_bytes}
+use Rattle.r4_work.specs.r4_edit.Editing.{extra_cells}
 use Rattle.r4_work.specs.Working.{IsStart}
 use Rattle.r4_work.specs.Working.{IsWorking, now_of, root_of, standing}
 use Rattle.r4_work.specs.declared.working.WorkingSet.{WorkingSet}

@@ -6,15 +6,15 @@ use Rattle.std.proofs.lemmas.List.Elements.{Contains-append_left, Contains-appen
 use Rattle.std.proofs.lemmas.Option.{none-some, same_Some}
 use Rattle.r4_base.specs.Node.{items_of}
 use Rattle.r4_base.specs.Tree.{Root}
-use Rattle.r4_cell.specs.Seen.{CellSeen}
-use Rattle.r4_cell.specs.declared.change.Fresh.{Fresh}
-use Rattle.r4_patch.specs.Joining.{ids_of}
-use Rattle.r4_path.specs.Levels.{AreNeeded, AreRows, Keeps}
-use Rattle.r4_path.specs.Nodes.{IsPointable, pointer_item, weight}
-use Rattle.r4_path.specs.Steps.{Climbs, Ends, Step, fresh_ids, news}
-use Rattle.r4_patch.proofs.Members.{cases, here, later, none}
-use Rattle.r4_path.proofs.Pointers.{pointers_weigh}
-use Rattle.r4_path.proofs.Rising.{id_member}
+use Rattle.r4_reach.specs.r4_cell.Seen.{CellSeen}
+use Rattle.r4_reach.specs.r4_cell.declared.change.Fresh.{Fresh}
+use Rattle.r4_reach.specs.r4_patch.Joining.{ids_of}
+use Rattle.r4_reach.specs.r4_path.Levels.{AreNeeded, AreRows, Keeps}
+use Rattle.r4_reach.specs.r4_path.Nodes.{IsPointable, pointer_item, weight}
+use Rattle.r4_reach.specs.r4_path.Steps.{Climbs, Ends, Step, fresh_ids, news}
+use Rattle.r4_reach.proofs.r4_patch.Members.{cases, here, later, none}
+use Rattle.r4_reach.proofs.r4_path.Pointers.{pointers_weigh}
+use Rattle.r4_reach.proofs.r4_path.Rising.{id_member}
 use Rattle.r4_measure.specs.Budget.{AllBear, AreSpent, AreUp, Bears, Budget, IsFresh, IsSpent, Rises, below, none_at, spent_on}
 use Rattle.r4_measure.proofs.Parent.{parent_bears, pointable, pointers_below}
 

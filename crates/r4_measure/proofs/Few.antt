@@ -4,14 +4,14 @@ use Rattle.std.specs.Prelude.{Contains, Option, None, Some, ◌||◌, ◌==◌, 
 use Rattle.std.proofs.lemmas.Bool.{eq-eqb}
 use Rattle.std.proofs.lemmas.List.Sums.{sum_by-append, sum_by-cons}
 use Rattle.r4_base.specs.Key.{rank}
-use Rattle.r4_cell.specs.Seen.{CellSeen}
-use Rattle.r4_cell.specs.declared.change.Fresh.{Fresh}
-use Rattle.r4_patch.specs.Following.{is_among, without}
-use Rattle.r4_patch.specs.Joining.{ids_of}
-use Rattle.r4_patch.proofs.Followed.{among_or_not, cell_among}
-use Rattle.r4_patch.proofs.Members.{Distinct, cases, here, later, none}
-use Rattle.r4_path.specs.Steps.{Climbs, Step, news, olds}
-use Rattle.r4_path.proofs.Rising.{follow_within}
+use Rattle.r4_reach.specs.r4_cell.Seen.{CellSeen}
+use Rattle.r4_reach.specs.r4_cell.declared.change.Fresh.{Fresh}
+use Rattle.r4_reach.specs.r4_patch.Following.{is_among, without}
+use Rattle.r4_reach.specs.r4_patch.Joining.{ids_of}
+use Rattle.r4_reach.proofs.r4_patch.Followed.{among_or_not, cell_among}
+use Rattle.r4_reach.proofs.r4_patch.Members.{Distinct, cases, here, later, none}
+use Rattle.r4_reach.specs.r4_path.Steps.{Climbs, Step, news, olds}
+use Rattle.r4_reach.proofs.r4_path.Rising.{follow_within}
 use Rattle.r4_measure.specs.Budget.{AreSpent, AreUp, Budget, cells_from, spent_on}
 
 -- ---- sums over cells

@@ -14,13 +14,13 @@ use Rattle.r4_base.specs.Volume.{root_attr}
 use Rattle.r4_base.specs.declared.items.Attr.{Attr}
 use Rattle.r4_base.proofs.FreshTree.{down, fresh_cell, fresh_is_tree, fresh_leaf, fresh_root as tree_root, fresh_store, fresh_twig, leaf_says, leaf_there, only, twig_says, twig_there}
 use Rattle.r4_base.proofs.Choices.{nothing_in}
-use Rattle.r4_cell.specs.Patch.{NamesId, by_name}
-use Rattle.r4_cell.specs.Seen.{CellSeen, node_of}
+use Rattle.r4_reach.specs.r4_cell.Patch.{NamesId, by_name}
+use Rattle.r4_reach.specs.r4_cell.Seen.{CellSeen, node_of}
 use Rattle.r4_content.specs.Edited.{changed}
-use Rattle.r4_patch.specs.Part.{IsPart}
-use Rattle.r4_patch.proofs.Members.{absent, cases, here, later}
-use Rattle.r4_patch.proofs.PartCells.{tree_is_part}
-use Rattle.r4_leaf.specs.Units.{bytes_behind, unit_bytes}
+use Rattle.r4_reach.specs.r4_patch.Part.{IsPart}
+use Rattle.r4_reach.proofs.r4_patch.Members.{absent, cases, here, later}
+use Rattle.r4_reach.proofs.r4_patch.PartCells.{tree_is_part}
+use Rattle.r4_reach.specs.r4_leaf.Units.{bytes_behind, unit_bytes}
 use Rattle.r4_reach.specs.Demand.{Demand, ask, ask_of, heard, heard_one}
 use Rattle.r4_reach.specs.Needs.{Ask, cell_asks, changes_pieces, demand_of}
 use Rattle.r4_reach.specs.Leaves.{more_of}

@@ -12,22 +12,22 @@ use Rattle.r4_base.specs.Key.{rank}
 use Rattle.r4_base.specs.Node.{Item, items_of}
 use Rattle.r4_base.specs.Tree.{Name, Node, Root, Store}
 use Rattle.r4_base.specs.Value.{Value}
-use Rattle.r4_cell.specs.Patch.{Patch, by_name, over, place, root_after, root_of_pair}
-use Rattle.r4_cell.specs.Seen.{CellSeen, node_of}
-use Rattle.r4_cell.specs.declared.change.Change.{Change}
-use Rattle.r4_cell.specs.declared.change.Fresh.{Fresh}
-use Rattle.r4_patch.specs.Joining.{ids_of, patch_of_change}
-use Rattle.r4_patch.specs.Part.{IsPart}
-use Rattle.r4_patch.proofs.PartCells.{root_high}
-use Rattle.r4_leaf.specs.Units.{LeafUnit, leaf_bytes}
-use Rattle.r4_edit.specs.Editing.{Edits, extra_cells}
-use Rattle.r4_path.specs.Levels.{AreNeeded, AreRows, IsLongEnough, Keeps as StepKeeps}
-use Rattle.r4_path.specs.Nodes.{IsPointable}
-use Rattle.r4_path.specs.Steps.{Ascends, Climbs, Ends, IsFree, OnlyTakes, Step, fresh_ids, name_of, news, olds, root_pair}
-use Rattle.r4_path.proofs.Begun.{ascends_take}
-use Rattle.r4_path.proofs.CellNodes.{names_are}
-use Rattle.r4_patch.proofs.Members.{cases, found, here, here_named, later, later_named, none}
-use Rattle.r4_path.proofs.Rising.{count_within, follow_within, level_is}
+use Rattle.r4_reach.specs.r4_cell.Patch.{Patch, by_name, over, place, root_after, root_of_pair}
+use Rattle.r4_reach.specs.r4_cell.Seen.{CellSeen, node_of}
+use Rattle.r4_reach.specs.r4_cell.declared.change.Change.{Change}
+use Rattle.r4_reach.specs.r4_cell.declared.change.Fresh.{Fresh}
+use Rattle.r4_reach.specs.r4_patch.Joining.{ids_of, patch_of_change}
+use Rattle.r4_reach.specs.r4_patch.Part.{IsPart}
+use Rattle.r4_reach.proofs.r4_patch.PartCells.{root_high}
+use Rattle.r4_reach.specs.r4_leaf.Units.{LeafUnit, leaf_bytes}
+use Rattle.r4_work.specs.r4_edit.Editing.{Edits, extra_cells}
+use Rattle.r4_reach.specs.r4_path.Levels.{AreNeeded, AreRows, IsLongEnough, Keeps as StepKeeps}
+use Rattle.r4_reach.specs.r4_path.Nodes.{IsPointable}
+use Rattle.r4_reach.specs.r4_path.Steps.{Ascends, Climbs, Ends, IsFree, OnlyTakes, Step, fresh_ids, name_of, news, olds, root_pair}
+use Rattle.r4_reach.proofs.r4_path.Begun.{ascends_take}
+use Rattle.r4_reach.proofs.r4_path.CellNodes.{names_are}
+use Rattle.r4_reach.proofs.r4_patch.Members.{cases, found, here, here_named, later, later_named, none}
+use Rattle.r4_reach.proofs.r4_path.Rising.{count_within, follow_within, level_is}
 use Rattle.r4_measure.specs.Budget.{AllBear, AreSeen, AreUp, Bears, Budget, HasNoFresh, IsBudget, IsFresh, IsSpent, Rises, below, cells_from, most_from, none_at, spent_on}
 use Rattle.r4_measure.proofs.Climb.{climbing, in_left, in_right, none_less, none_member, none_other}
 use Rattle.r4_measure.proofs.Few.{over_count, step_few, steps_few}

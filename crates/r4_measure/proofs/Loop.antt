@@ -10,21 +10,21 @@ use Rattle.r4_base.specs.Key.{rank}
 use Rattle.r4_base.specs.Tree.{Node, Root, Store}
 use Rattle.r4_base.specs.Value.{Value}
 use Rattle.r4_base.proofs.Trees.{one_cell}
-use Rattle.r4_cell.specs.Patch.{by_name, over, place}
-use Rattle.r4_cell.specs.Seen.{CellSeen, node_of}
-use Rattle.r4_cell.specs.declared.change.Fresh.{Fresh}
-use Rattle.r4_patch.specs.Joining.{ids_of, patch_of_change}
-use Rattle.r4_patch.specs.Part.{IsPart}
-use Rattle.r4_patch.proofs.PartCells.{apart}
-use Rattle.r4_leaf.specs.Remade.{AreWithin, CanPutAll, cut_all}
-use Rattle.r4_leaf.specs.Units.{leaf_bytes}
-use Rattle.r4_edit.specs.Editing.{extra_cells}
-use Rattle.r4_path.specs.Levels.{Keeps}
-use Rattle.r4_edit.specs.Remaking.{after_edits}
-use Rattle.r4_path.specs.Steps.{Ascends, Climbs, Step, fresh_ids, news, olds}
-use Rattle.r4_path.proofs.Begun.{ascends_take}
-use Rattle.r4_patch.proofs.Members.{absent, cases, here, later, none}
-use Rattle.r4_path.proofs.Rising.{InCell, count_within, hi_is, id_member, in_node, level_is, lo_is}
+use Rattle.r4_reach.specs.r4_cell.Patch.{by_name, over, place}
+use Rattle.r4_reach.specs.r4_cell.Seen.{CellSeen, node_of}
+use Rattle.r4_reach.specs.r4_cell.declared.change.Fresh.{Fresh}
+use Rattle.r4_reach.specs.r4_patch.Joining.{ids_of, patch_of_change}
+use Rattle.r4_reach.specs.r4_patch.Part.{IsPart}
+use Rattle.r4_reach.proofs.r4_patch.PartCells.{apart}
+use Rattle.r4_reach.specs.r4_leaf.Remade.{AreWithin, CanPutAll, cut_all}
+use Rattle.r4_reach.specs.r4_leaf.Units.{leaf_bytes}
+use Rattle.r4_work.specs.r4_edit.Editing.{extra_cells}
+use Rattle.r4_reach.specs.r4_path.Levels.{Keeps}
+use Rattle.r4_work.specs.r4_edit.Remaking.{after_edits}
+use Rattle.r4_reach.specs.r4_path.Steps.{Ascends, Climbs, Step, fresh_ids, news, olds}
+use Rattle.r4_reach.proofs.r4_path.Begun.{ascends_take}
+use Rattle.r4_reach.proofs.r4_patch.Members.{absent, cases, here, later, none}
+use Rattle.r4_reach.proofs.r4_path.Rising.{InCell, count_within, hi_is, id_member, in_node, level_is, lo_is}
 use Rattle.r4_work.specs.Remaking.{CanRemakeUp, CutsWithin, IsRemakable}
 use Rattle.r4_work.specs.Order.{cell_at}
 use Rattle.r4_work.specs.Working.{first_and, now_of, path_of, root_of, standing, ups_of}

@@ -1,13 +1,13 @@
 -- The old cells of an edit stand.
 use Rattle.std.proofs.Common.{◌≡◌, ◌∙◌, inl, inr, ℕ, zero, suc, ◌+◌, List, ◌∷◌, length, refl, sym, subst}
 use Rattle.std.specs.Prelude.{Contains, None, Option, Some}
-use Rattle.r4_cell.specs.Seen.{CellSeen}
-use Rattle.r4_cell.specs.declared.change.Change.{Change}
-use Rattle.r4_cell.specs.declared.change.Fresh.{Fresh}
-use Rattle.r4_leaf.specs.Units.{LeafUnit}
-use Rattle.r4_patch.proofs.Members.{cases, here, later, none}
-use Rattle.r4_edit.specs.Editing.{Edits}
-use Rattle.r4_path.specs.Steps.{olds}
+use Rattle.r4_reach.specs.r4_cell.Seen.{CellSeen}
+use Rattle.r4_reach.specs.r4_cell.declared.change.Change.{Change}
+use Rattle.r4_reach.specs.r4_cell.declared.change.Fresh.{Fresh}
+use Rattle.r4_reach.specs.r4_leaf.Units.{LeafUnit}
+use Rattle.r4_reach.proofs.r4_patch.Members.{cases, here, later, none}
+use Rattle.r4_work.specs.r4_edit.Editing.{Edits}
+use Rattle.r4_reach.specs.r4_path.Steps.{olds}
 use Rattle.r4_work.specs.Order.{cell_at}
 use Rattle.r4_work.specs.Working.{first_and, path_of, standing, ups_of}
 use Rattle.r4_work.specs.declared.working.WorkingSet.{WorkingSet}

@@ -5,17 +5,17 @@ use Rattle.std.proofs.lemmas.Bool.{cases_lt, eq-eqb, eqb-true, ne_eqb}
 use Rattle.std.proofs.lemmas.List.Sums.{sum_by-append, sum_by-cons}
 use Rattle.r4_base.specs.Extents.{pointer_of}
 use Rattle.r4_base.specs.Node.{Item, items_of}
-use Rattle.r4_cell.specs.Seen.{CellSeen}
-use Rattle.r4_cell.specs.declared.change.Fresh.{Fresh}
-use Rattle.r4_patch.specs.Joining.{ids_of}
-use Rattle.r4_path.specs.Levels.{HasRow, Keeps}
-use Rattle.r4_path.specs.Nodes.{IsPointable, pointer_item, weight, weight_of}
-use Rattle.r4_path.specs.Sharing.{items_of_cells}
-use Rattle.r4_path.specs.Steps.{Step}
-use Rattle.r4_patch.proofs.Members.{cases, here, later, none}
-use Rattle.r4_path.proofs.PointerNodes.{pointer_is}
-use Rattle.r4_path.proofs.Pointers.{pointers_weigh}
-use Rattle.r4_path.proofs.Upwards.{numbered}
+use Rattle.r4_reach.specs.r4_cell.Seen.{CellSeen}
+use Rattle.r4_reach.specs.r4_cell.declared.change.Fresh.{Fresh}
+use Rattle.r4_reach.specs.r4_patch.Joining.{ids_of}
+use Rattle.r4_reach.specs.r4_path.Levels.{HasRow, Keeps}
+use Rattle.r4_reach.specs.r4_path.Nodes.{IsPointable, pointer_item, weight, weight_of}
+use Rattle.r4_reach.specs.r4_path.Sharing.{items_of_cells}
+use Rattle.r4_reach.specs.r4_path.Steps.{Step}
+use Rattle.r4_reach.proofs.r4_patch.Members.{cases, here, later, none}
+use Rattle.r4_reach.proofs.r4_path.PointerNodes.{pointer_is}
+use Rattle.r4_reach.proofs.r4_path.Pointers.{pointers_weigh}
+use Rattle.r4_reach.proofs.r4_path.Upwards.{numbered}
 use Rattle.r4_measure.specs.Budget.{Bears, HasNoFresh, IsFresh, IsSpent, below, grows, of_item, of_target}
 
 -- ---- two functions

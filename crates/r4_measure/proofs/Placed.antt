@@ -6,21 +6,21 @@ use Rattle.std.proofs.lemmas.List.Sorted.{Contains-permutation, IsPermutation-sy
 use Rattle.std.proofs.lemmas.List.Sums.{sum_by-append}
 use Rattle.std.proofs.lemmas.Option.{none-some}
 use Rattle.r4_base.specs.Tree.{Name, Node}
-use Rattle.r4_cell.specs.Patch.{IsChange, by_name, over, place, root_after}
-use Rattle.r4_cell.specs.declared.change.Change.{Change}
-use Rattle.r4_patch.specs.Joining.{ids_of, patch_of_change}
-use Rattle.r4_patch.specs.Part.{IsPart, MeetsPart}
-use Rattle.r4_patch.proofs.Members.{found}
-use Rattle.r4_patch.specs.Following.{AreInTurn, is_among, without}
+use Rattle.r4_reach.specs.r4_cell.Patch.{IsChange, by_name, over, place, root_after}
+use Rattle.r4_reach.specs.r4_cell.declared.change.Change.{Change}
+use Rattle.r4_reach.specs.r4_patch.Joining.{ids_of, patch_of_change}
+use Rattle.r4_reach.specs.r4_patch.Part.{IsPart, MeetsPart}
+use Rattle.r4_reach.proofs.r4_patch.Members.{found}
+use Rattle.r4_reach.specs.r4_patch.Following.{AreInTurn, is_among, without}
 use Rattle.r4_work.specs.Working.{IsPutInPlace, IsWorking}
-use Rattle.r4_patch.proofs.Followed.{followed_cells, followed_root, some_by_name, to_without}
-use Rattle.r4_patch.proofs.Members.{distinct}
+use Rattle.r4_reach.proofs.r4_patch.Followed.{followed_cells, followed_root, some_by_name, to_without}
+use Rattle.r4_reach.proofs.r4_patch.Members.{distinct}
 use Rattle.r4_measure.specs.Budget.{AreSeen, IsBudget, IsFresh}
 use Rattle.r4_measure.proofs.Few.{members_and_others, outside, sum_without, sums_less}
 use Rattle.r4_base.specs.Tree.{Root, Store}
 use Rattle.r4_base.specs.Value.{Value}
-use Rattle.r4_cell.specs.Seen.{CellSeen, node_of}
-use Rattle.r4_cell.specs.declared.change.Fresh.{Fresh}
+use Rattle.r4_reach.specs.r4_cell.Seen.{CellSeen, node_of}
+use Rattle.r4_reach.specs.r4_cell.declared.change.Fresh.{Fresh}
 use Rattle.r4_work.specs.Working.{now_of, root_of, standing}
 use Rattle.r4_work.specs.declared.working.WorkingSet.{WorkingSet}
 use Rattle.r4_work.proofs.InPlace.{now_part, standing_is}

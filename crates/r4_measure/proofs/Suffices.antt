@@ -10,16 +10,16 @@ use Rattle.r4_base.specs.Node.{Item, items_of}
 use Rattle.r4_base.specs.Tree.{Name, Node, Root, Store}
 use Rattle.r4_base.specs.Value.{Value}
 use Rattle.r4_base.proofs.Trees.{one_cell}
-use Rattle.r4_cell.specs.Seen.{CellSeen, node_of}
-use Rattle.r4_patch.specs.Part.{IsPart}
-use Rattle.r4_patch.proofs.PartCells.{in_name, in_namer, one_above, parent, root_high}
-use Rattle.r4_path.specs.Levels.{IsLongEnough}
-use Rattle.r4_path.specs.Nodes.{weight}
-use Rattle.r4_path.specs.Steps.{name_of}
-use Rattle.r4_path.proofs.CellNodes.{names_are}
-use Rattle.r4_path.proofs.Finding.{find}
-use Rattle.r4_patch.proofs.Members.{cases, none}
-use Rattle.r4_path.proofs.Rising.{InCell, hi_is, in_node, level_is, lo_is}
+use Rattle.r4_reach.specs.r4_cell.Seen.{CellSeen, node_of}
+use Rattle.r4_reach.specs.r4_patch.Part.{IsPart}
+use Rattle.r4_reach.proofs.r4_patch.PartCells.{in_name, in_namer, one_above, parent, root_high}
+use Rattle.r4_reach.specs.r4_path.Levels.{IsLongEnough}
+use Rattle.r4_reach.specs.r4_path.Nodes.{weight}
+use Rattle.r4_reach.specs.r4_path.Steps.{name_of}
+use Rattle.r4_reach.proofs.r4_path.CellNodes.{names_are}
+use Rattle.r4_reach.proofs.r4_path.Finding.{find}
+use Rattle.r4_reach.proofs.r4_patch.Members.{cases, none}
+use Rattle.r4_reach.proofs.r4_path.Rising.{InCell, hi_is, in_node, level_is, lo_is}
 use Rattle.std.specs.Option.{option_or}
 use Rattle.r4_work.specs.Order.{IsAt, cell_at, is_at}
 use Rattle.r4_work.specs.Working.{first_and, ups_of}

@@ -2,12 +2,12 @@
 use Rattle.std.proofs.Common.{◌≡◌, ◌⊎◌, inl, inr, ℕ, ◌+◌, ◌^◌, ◌<◌, ◌≤◌, List, ◌∷◌, subst, arith}
 use Rattle.std.specs.Prelude.{Contains, None}
 use Rattle.std.proofs.lemmas.Bool.{cases_lt}
-use Rattle.r4_cell.specs.Patch.{IsChange, over, place, root_after}
-use Rattle.r4_cell.specs.declared.change.Change.{Change}
-use Rattle.r4_patch.specs.Joining.{ids_of, patch_of_change}
-use Rattle.r4_patch.specs.Part.{IsPart, MeetsPart}
-use Rattle.r4_edit.specs.Editing.{Edits}
-use Rattle.r4_path.specs.Steps.{Ascends, OnlyTakes}
+use Rattle.r4_reach.specs.r4_cell.Patch.{IsChange, over, place, root_after}
+use Rattle.r4_reach.specs.r4_cell.declared.change.Change.{Change}
+use Rattle.r4_reach.specs.r4_patch.Joining.{ids_of, patch_of_change}
+use Rattle.r4_reach.specs.r4_patch.Part.{IsPart, MeetsPart}
+use Rattle.r4_work.specs.r4_edit.Editing.{Edits}
+use Rattle.r4_reach.specs.r4_path.Steps.{Ascends, OnlyTakes}
 use Rattle.r4_work.specs.Working.{IsPutInPlace, IsWorking}
 use Rattle.r4_work.proofs.Paths.{path_ascends}
 use Rattle.r4_measure.specs.Budget.{AreSeen, IsBudget, IsFresh}
@@ -16,11 +16,11 @@ use Rattle.r4_measure.proofs.Kept.{budget_kept, height_kept, seen_kept}
 use Rattle.r4_measure.proofs.Placed.{placed_few, placed_measured, placed_root}
 use Rattle.r4_base.specs.Tree.{Root, Store}
 use Rattle.r4_base.specs.Value.{Value}
-use Rattle.r4_cell.specs.Seen.{CellSeen}
-use Rattle.r4_cell.specs.declared.change.Fresh.{Fresh}
-use Rattle.r4_leaf.specs.Units.{LeafUnit, leaf_bytes}
-use Rattle.r4_edit.specs.Editing.{extra_cells}
-use Rattle.r4_path.specs.Levels.{IsLongEnough}
+use Rattle.r4_reach.specs.r4_cell.Seen.{CellSeen}
+use Rattle.r4_reach.specs.r4_cell.declared.change.Fresh.{Fresh}
+use Rattle.r4_reach.specs.r4_leaf.Units.{LeafUnit, leaf_bytes}
+use Rattle.r4_work.specs.r4_edit.Editing.{extra_cells}
+use Rattle.r4_reach.specs.r4_path.Levels.{IsLongEnough}
 use Rattle.r4_work.specs.Working.{now_of, path_of, root_of, standing}
 use Rattle.r4_work.specs.declared.working.WorkingSet.{WorkingSet}
 use Rattle.r4_work.proofs.InPlace.{now_part, standing_is}

@@ -5,17 +5,17 @@ use Rattle.std.proofs.lemmas.Bool.{cases_lt}
 use Rattle.std.proofs.lemmas.List.Elements.{Contains-append_cases}
 use Rattle.r4_base.specs.Tree.{Root, Store}
 use Rattle.r4_base.specs.Value.{Value}
-use Rattle.r4_branch.specs.Pieces.{twig_bytes}
-use Rattle.r4_branch.specs.declared.piece.TwigPiece.{TwigPiece}
-use Rattle.r4_cell.specs.Seen.{CellSeen}
-use Rattle.r4_cell.specs.declared.change.Change.{Change}
-use Rattle.r4_cell.specs.declared.change.Fresh.{Fresh}
-use Rattle.r4_patch.proofs.Members.{cases, here, later}
-use Rattle.r4_patch.specs.Part.{IsPart}
+use Rattle.r4_reach.specs.r4_branch.Pieces.{twig_bytes}
+use Rattle.r4_reach.specs.r4_branch.declared.piece.TwigPiece.{TwigPiece}
+use Rattle.r4_reach.specs.r4_cell.Seen.{CellSeen}
+use Rattle.r4_reach.specs.r4_cell.declared.change.Change.{Change}
+use Rattle.r4_reach.specs.r4_cell.declared.change.Fresh.{Fresh}
+use Rattle.r4_reach.proofs.r4_patch.Members.{cases, here, later}
+use Rattle.r4_reach.specs.r4_patch.Part.{IsPart}
 use Rattle.r4_work.proofs.LeafEffect.{taken}
-use Rattle.r4_path.specs.Grafts.{extra_twigs}
-use Rattle.r4_path.specs.Levels.{IsLongEnough}
-use Rattle.r4_path.specs.Steps.{Ascends, olds}
+use Rattle.r4_reach.specs.r4_path.Grafts.{extra_twigs}
+use Rattle.r4_reach.specs.r4_path.Levels.{IsLongEnough}
+use Rattle.r4_reach.specs.r4_path.Steps.{Ascends, olds}
 use Rattle.r4_work.proofs.InPlace.{now_part, standing_is}
 use Rattle.r4_work.proofs.Paths.{ascends_from, lowest_from, ups_from}
 use Rattle.r4_work.specs.Working.{now_of, root_of, standing, twig_path_of}

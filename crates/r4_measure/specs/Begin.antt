@@ -3,11 +3,11 @@ use Rattle.std.specs.Prelude.{◌≡◌, ◌≢◌, ℕ, ◌<◌, ◌≤◌, Lis
 use Rattle.r4_base.specs.Key.{rank}
 use Rattle.r4_base.specs.Tree.{Node, Root, Store}
 use Rattle.r4_base.specs.Value.{Value}
-use Rattle.r4_cell.specs.Seen.{CellSeen}
-use Rattle.r4_cell.specs.declared.change.Fresh.{Fresh}
+use Rattle.r4_reach.specs.r4_cell.Seen.{CellSeen}
+use Rattle.r4_reach.specs.r4_cell.declared.change.Fresh.{Fresh}
 use Rattle.r4_content.specs.Edited.{Edits, Intervals}
-use Rattle.r4_leaf.specs.Remade.{AreWithin, CanPutAll, cut_all}
-use Rattle.r4_leaf.specs.Units.{leaf_bytes}
+use Rattle.r4_reach.specs.r4_leaf.Remade.{AreWithin, CanPutAll, cut_all}
+use Rattle.r4_reach.specs.r4_leaf.Units.{leaf_bytes}
 use Rattle.r4_reach.specs.Needs.{Ask, changes_pieces, come_of, demand_of, is_touched, units_after}
 use Rattle.r4_reach.specs.Reach.{IsRootAsking, IsWritten}
 use Rattle.r4_reach.specs.Touched.{Body}

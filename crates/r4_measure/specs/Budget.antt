@@ -5,11 +5,11 @@ use Rattle.r4_base.specs.Extents.{pointer_of}
 use Rattle.r4_base.specs.Node.{Item, items_of}
 use Rattle.r4_base.specs.Tree.{Node, Root, Store}
 use Rattle.r4_base.specs.Value.{Value}
-use Rattle.r4_cell.specs.Seen.{CellSeen, node_of}
-use Rattle.r4_cell.specs.declared.change.Fresh.{Fresh}
-use Rattle.r4_patch.specs.Joining.{ids_of}
-use Rattle.r4_path.specs.Nodes.{weight}
-use Rattle.r4_path.specs.Steps.{Step, news}
+use Rattle.r4_reach.specs.r4_cell.Seen.{CellSeen, node_of}
+use Rattle.r4_reach.specs.r4_cell.declared.change.Fresh.{Fresh}
+use Rattle.r4_reach.specs.r4_patch.Joining.{ids_of}
+use Rattle.r4_reach.specs.r4_path.Nodes.{weight}
+use Rattle.r4_reach.specs.r4_path.Steps.{Step, news}
 
 -- by its level and its number, how many cells may still come in the place of a cell
 abbrev pub Budget : Type 0

@@ -6,8 +6,8 @@ use Rattle.r4_base.specs.Key.{key_of_rank, least}
 use Rattle.r4_base.specs.Tree.{Root}
 use Rattle.r4_base.specs.Value.{Stat}
 use Rattle.r4_base.specs.declared.items.Attr.{Attr}
-use Rattle.r4_cell.specs.Seen.{CellSeen}
-use Rattle.r4_cell.specs.declared.change.Fresh.{Fresh}
+use Rattle.r4_reach.specs.r4_cell.Seen.{CellSeen}
+use Rattle.r4_reach.specs.r4_cell.declared.change.Fresh.{Fresh}
 use Rattle.r4_content.specs.Edited.{Edits}
 
 -- the root, a twig, and its one leaf

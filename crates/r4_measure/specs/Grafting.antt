@@ -2,18 +2,18 @@
 use Rattle.std.specs.Prelude.{◌≡◌, ◌⊎◌, ℕ, ◌+◌, ◌≤◌, List, ◌∷◌, ◌++◌, Contains, None, length}
 use Rattle.r4_base.specs.Tree.{Root, Store}
 use Rattle.r4_base.specs.Value.{Value}
-use Rattle.r4_branch.specs.Pieces.{twig_bytes}
-use Rattle.r4_branch.specs.declared.piece.TwigPiece.{TwigPiece}
-use Rattle.r4_cell.specs.Patch.{IsChange, place, root_after}
-use Rattle.r4_cell.specs.Seen.{CellSeen}
-use Rattle.r4_cell.specs.declared.change.Change.{Change}
-use Rattle.r4_cell.specs.declared.change.Fresh.{Fresh}
-use Rattle.r4_patch.specs.Joining.{patch_of_change}
-use Rattle.r4_patch.specs.Part.{MeetsPart}
-use Rattle.r4_path.specs.Grafts.{Grafts, HasBelow, extra_twigs}
-use Rattle.r4_path.specs.Levels.{IsLongEnough}
-use Rattle.r4_path.specs.Steps.{Ascends, OnlyTakes}
-use Rattle.r4_path.specs.Twigs.{Below}
+use Rattle.r4_reach.specs.r4_branch.Pieces.{twig_bytes}
+use Rattle.r4_reach.specs.r4_branch.declared.piece.TwigPiece.{TwigPiece}
+use Rattle.r4_reach.specs.r4_cell.Patch.{IsChange, place, root_after}
+use Rattle.r4_reach.specs.r4_cell.Seen.{CellSeen}
+use Rattle.r4_reach.specs.r4_cell.declared.change.Change.{Change}
+use Rattle.r4_reach.specs.r4_cell.declared.change.Fresh.{Fresh}
+use Rattle.r4_reach.specs.r4_patch.Joining.{patch_of_change}
+use Rattle.r4_reach.specs.r4_patch.Part.{MeetsPart}
+use Rattle.r4_reach.specs.r4_path.Grafts.{Grafts, HasBelow, extra_twigs}
+use Rattle.r4_reach.specs.r4_path.Levels.{IsLongEnough}
+use Rattle.r4_reach.specs.r4_path.Steps.{Ascends, OnlyTakes}
+use Rattle.r4_reach.specs.r4_path.Twigs.{Below}
 use Rattle.r4_work.specs.Working.{IsPutInPlace, IsWorking, now_of, root_of, standing, twig_path_of}
 use Rattle.r4_work.specs.declared.working.WorkingSet.{WorkingSet}
 use Rattle.r4_measure.specs.Budget.{Budget, IsBudget, IsFresh, most_from}

@@ -2,17 +2,17 @@
 use Rattle.std.specs.Prelude.{◌≡◌, ◌⊎◌, ℕ, ◌≤◌, List, ◌∷◌, Contains, None}
 use Rattle.r4_base.specs.Tree.{Root, Store}
 use Rattle.r4_base.specs.Value.{Value}
-use Rattle.r4_cell.specs.Patch.{place, root_after}
-use Rattle.r4_cell.specs.Seen.{CellSeen}
-use Rattle.r4_cell.specs.declared.change.Change.{Change}
-use Rattle.r4_cell.specs.declared.change.Fresh.{Fresh}
-use Rattle.r4_leaf.specs.Units.{LeafUnit, leaf_bytes}
-use Rattle.r4_patch.specs.Joining.{ids_of, patch_of_change}
-use Rattle.r4_patch.specs.Part.{IsPart}
-use Rattle.r4_path.specs.Levels.{IsLongEnough}
-use Rattle.r4_path.specs.Nodes.{IsPointable}
-use Rattle.r4_path.specs.Steps.{Ascends, IsFree, OnlyTakes}
-use Rattle.r4_edit.specs.Editing.{Edits, extra_cells}
+use Rattle.r4_reach.specs.r4_cell.Patch.{place, root_after}
+use Rattle.r4_reach.specs.r4_cell.Seen.{CellSeen}
+use Rattle.r4_reach.specs.r4_cell.declared.change.Change.{Change}
+use Rattle.r4_reach.specs.r4_cell.declared.change.Fresh.{Fresh}
+use Rattle.r4_reach.specs.r4_leaf.Units.{LeafUnit, leaf_bytes}
+use Rattle.r4_reach.specs.r4_patch.Joining.{ids_of, patch_of_change}
+use Rattle.r4_reach.specs.r4_patch.Part.{IsPart}
+use Rattle.r4_reach.specs.r4_path.Levels.{IsLongEnough}
+use Rattle.r4_reach.specs.r4_path.Nodes.{IsPointable}
+use Rattle.r4_reach.specs.r4_path.Steps.{Ascends, IsFree, OnlyTakes}
+use Rattle.r4_work.specs.r4_edit.Editing.{Edits, extra_cells}
 use Rattle.r4_measure.specs.Budget.{AreSeen, AreUnplaced, Budget, IsBudget, IsFresh, most_from}
 
 -- A part of a tree of cells, where these numbers are free, has a budget.

@@ -4,13 +4,13 @@ use Rattle.r4_base.specs.Key.{rank}
 use Rattle.r4_base.specs.Tree.{Node, Root, Store}
 use Rattle.r4_base.specs.Value.{Value}
 use Rattle.r4_base.specs.declared.key.Key.{Key}
-use Rattle.r4_cell.specs.Seen.{CellSeen}
-use Rattle.r4_cell.specs.declared.change.Fresh.{Fresh}
-use Rattle.r4_leaf.specs.Remade.{AreWithin, CanPutAll, cut_all, put_all}
-use Rattle.r4_leaf.specs.Units.{LeafUnit, leaf_bytes}
-use Rattle.r4_leaf.specs.declared.remaking.Given.{Given}
-use Rattle.r4_leaf.specs.declared.remaking.KeyRange.{KeyRange}
-use Rattle.r4_edit.specs.Editing.{extra_cells}
+use Rattle.r4_reach.specs.r4_cell.Seen.{CellSeen}
+use Rattle.r4_reach.specs.r4_cell.declared.change.Fresh.{Fresh}
+use Rattle.r4_reach.specs.r4_leaf.Remade.{AreWithin, CanPutAll, cut_all, put_all}
+use Rattle.r4_reach.specs.r4_leaf.Units.{LeafUnit, leaf_bytes}
+use Rattle.r4_reach.specs.r4_leaf.declared.remaking.Given.{Given}
+use Rattle.r4_reach.specs.r4_leaf.declared.remaking.KeyRange.{KeyRange}
+use Rattle.r4_work.specs.r4_edit.Editing.{extra_cells}
 use Rattle.r4_work.specs.Remaking.{CutsWithin, HaveKeys, IsRemade, IsRemakable}
 use Rattle.r4_work.specs.Working.{now_of, standing}
 use Rattle.r4_work.specs.declared.working.WorkingSet.{WorkingSet}

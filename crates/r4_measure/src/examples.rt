@@ -6,7 +6,7 @@ ghost use Rattle.r4_base.specs.Fresh.{HasOneItem};
 ghost use Rattle.r4_base.specs.Stat.{stat_body};
 ghost use Rattle.r4_base.specs.Volume.{root_attr};
 ghost use Rattle.r4_base.specs.declared.items.Attr.{Attr};
-ghost use Rattle.r4_cell.specs.Patch.{by_name};
+ghost use Rattle.r4_reach.specs.r4_cell.Patch.{by_name};
 ghost use Rattle.r4_content.specs.Edited.{changed};
 ghost use Rattle.r4_measure.specs.Begin.{IsReachedFor};
 ghost use Rattle.r4_measure.specs.Examples.{fresh_cells, fresh_root, set_root, some_numbers};

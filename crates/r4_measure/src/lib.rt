@@ -11,6 +11,8 @@ pub use laws::{
     a_budget_suffices, each_leaf_has_its_turn, edits_keep_a_budget, reach_suffices_for_all_edits,
     turns_keep_the_measure, what_is_asked_is_a_budget,
 };
+pub use r4_reach::{Cell, Cells, Change, Fresh};
+pub use r4_work::{WorkingSet, by_place};
 pub use twig_laws::{
     a_budget_suffices_for_twigs, grafts_keep_a_budget, twig_turns_keep_the_measure,
     what_is_asked_of_twigs_is_a_budget,

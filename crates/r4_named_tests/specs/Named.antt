@@ -3,7 +3,7 @@ use Rattle.std.specs.Prelude.{◌≡◌, ◌++◌, ℕ, List, Some, Ok}
 use Rattle.r4_base.specs.Volume.{HasVolume}
 use Rattle.r4_content.specs.Locality.{commands}
 use Rattle.r4_content.specs.Meaning.{greatest_size}
-use Rattle.r4_durable.specs.Meaning.{Beginning, IsNamed}
+use Rattle.r4_run.specs.r4_durable.Meaning.{Beginning, IsNamed}
 use Rattle.r4_history.specs.Tables.{asked}
 use Rattle.r4_outside.specs.Device.{State}
 use Rattle.r4_outside.specs.Sink.{SinkState}

@@ -26,14 +26,14 @@ use Rattle.std.specs.Option.{option_map}
 use Rattle.r4_outside.specs.Device.{State}
 use Rattle.r4_served.specs.r4_ready.Rooms.{HasMoreRoom}
 use Rattle.r4_served.specs.Serving.{IsLeft, IsRead, IsServed, IsServedBy}
-use Rattle.r4_trace.specs.Job.{IsWork}
+use Rattle.r4_history.specs.r4_trace.Job.{IsWork}
 use Rattle.r4_turns.specs.Turns.{IsScript, answered_at, answered_one, commands_at, turn_at}
 use Rattle.r4_turns.specs.declared.out.Out.{Out}
 use Rattle.r4_turns.specs.declared.turn.Open.{Open}
 use Rattle.r4_served.specs.r4_reaching.Answers.{IsReach}
 use Rattle.r4_served.specs.r4_reaching.declared.reached.Reach.{Reach}
-use Rattle.r4_search.specs.Keeping.{keeping_state}
-use Rattle.r4_search.specs.Pool.{PoolState}
+use Rattle.r4_served.specs.r4_search.Keeping.{keeping_state}
+use Rattle.r4_served.specs.r4_search.Pool.{PoolState}
 use Rattle.r4_served.specs.r4_ready.Readiness.{parts_of}
 use Rattle.r4_served.specs.r4_serve.Serving.{IsAskedOf, PartsSeen, need_in}
 use Rattle.r4_served.specs.r4_serve.declared.asked.Asked.{Asked}

@@ -2,7 +2,7 @@
 use Rattle.std.proofs.Common.{◌≡◌, None, Option, Some, refl}
 use Rattle.r4_content.specs.declared.command.Command.{Command}
 use Rattle.r4_content.specs.declared.command.Command.TheVariants as asks
-use Rattle.r4_trace.specs.Job.{IsWork}
+use Rattle.r4_history.specs.r4_trace.Job.{IsWork}
 use Rattle.r4_next.specs.Following.{what_follows}
 use Rattle.r4_next.specs.declared.following.Following.TheVariants as next
 

@@ -5,7 +5,7 @@ use Rattle.r4_history.specs.Held.{Need}
 use Rattle.r4_served.specs.r4_kept.View.{CoreSeen}
 use Rattle.r4_outside.proofs.Moments.{goes_both}
 use Rattle.r4_outside.specs.Device.{State}
-use Rattle.r4_search.specs.Pool.{LeavesDevice}
+use Rattle.r4_served.specs.r4_search.Pool.{LeavesDevice}
 use Rattle.r4_served.specs.Serving.{IsLeft, IsRead}
 use Rattle.r4_next.specs.Taking.{CanBeTaken, CannotBeTaken, IsReadAs, WasRead}
 use Rattle.r4_history.specs.declared.why.Why.{Why}

@@ -17,14 +17,14 @@ use Rattle.r4_served.specs.r4_reaching.Answers.{IsReach, IsSamePool}
 use Rattle.r4_served.specs.r4_reaching.declared.reached.Reach.{Reach}
 use Rattle.r4_served.specs.r4_ready.Readiness.{parts_of}
 use Rattle.r4_served.specs.r4_ready.Rooms.{HasMoreRoom}
-use Rattle.r4_search.specs.Keeping.{Shared, keeping_state}
-use Rattle.r4_search.specs.Pool.{LeavesDevice, PoolState}
+use Rattle.r4_served.specs.r4_search.Keeping.{Shared, keeping_state}
+use Rattle.r4_served.specs.r4_search.Pool.{LeavesDevice, PoolState}
 use Rattle.r4_served.specs.r4_serve.Serving.{need_in, read_over}
 use Rattle.r4_served.specs.Serving.{IsRead, IsServed}
 use Rattle.r4_served.specs.declared.serving.Served.TheVariants as served
 use Rattle.r4_served.specs.r4_take.Sending.{CanBeBuilt, IsNamed, IsServable}
 use Rattle.r4_served.specs.r4_take.declared.drawing.Draws.{Draws}
-use Rattle.r4_trace.specs.declared.entry.Entry.TheVariants.{Acked, Refused}
+use Rattle.r4_history.specs.r4_trace.declared.entry.Entry.TheVariants.{Acked, Refused}
 use Rattle.r4_turns.specs.Turns.{IsScript, answered_at, turn_at}
 use Rattle.r4_next.specs.declared.taken.Looked.{Looked}
 use Rattle.r4_next.specs.declared.taken.Looked.TheVariants as looked

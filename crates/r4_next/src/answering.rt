@@ -7,7 +7,7 @@ ghost use Rattle.r4_history.specs.Tables.{IsLastOf, Stands, inside, next_at};
 ghost use Rattle.r4_served.specs.r4_kept.Steps.{HasBegun, answered, ended, ended_last};
 ghost use Rattle.r4_next.specs.Taking.{InRoom};
 ghost use Rattle.r4_served.specs.r4_ready.Rooms.{HasMoreRoom};
-ghost use Rattle.r4_trace.specs.declared.entry.Entry.TheVariants.{Refused};
+ghost use Rattle.r4_history.specs.r4_trace.declared.entry.Entry.TheVariants.{Refused};
 ghost use Rattle.r4_turns.specs.Turns.{IsScript, answered_at, turn_at};
 
 use r4_atoms::Atoms;

@@ -9,7 +9,7 @@ mod standing;
 mod taken;
 mod taking;
 
-pub use r4_served::{Core, OpenFault, OpenWhy, Step, Wanted, refuse};
+pub use r4_served::{Core, Made, OpenFault, OpenWhy, Step, Wanted, flush, refuse};
 pub use standing::pending;
 pub use taken::Taken;
 pub use taking::take;

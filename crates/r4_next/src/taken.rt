@@ -1,8 +1,8 @@
 //! What is to be done next.
 
 use r4_base::{AtomNo, ScriptNo};
-use r4_build::Task;
 use r4_history::Why;
+use r4_served::Task;
 
 /// What there is to do (docs/core.md, "Taking").
 #[derive(Drop)]

@@ -8,23 +8,23 @@ use Rattle.r4_base.specs.Value.{Content}
 use Rattle.r4_base.specs.Volume.{HasLayout, HasVolume}
 use Rattle.r4_base.specs.declared.superblock.LayoutFault.{LayoutFault}
 use Rattle.r4_base.specs.declared.superblock.Master.{Master}
-use Rattle.r4_open.specs.Opening.{bitmaps_misfit, format_misfit, layout_misfit, master_misfit}
+use Rattle.r4_check_laws.specs.r4_open.Opening.{bitmaps_misfit, format_misfit, layout_misfit, master_misfit}
 use Rattle.r4_check_laws.proofs.Found.{volume_there}
 use Rattle.r4_check_laws.proofs.Clear.{volume_clear}
 use Rattle.r4_base.specs.declared.superblock.Super40.{Super40}
 use Rattle.r4_base.specs.Words.{layout_word_of, log_word_of}
 use Rattle.r4_outside.specs.Device.{Rose, State, TellsReads}
 use Rattle.r4_outside.specs.Sink.{SinkState, AppendsPart}
-use Rattle.r4_cell.specs.declared.refused.ImageFault.TheVariants.{Layout, Cell}
-use Rattle.r4_search.specs.Pool.{LeavesDevice}
-use Rattle.r4_list.proofs.Stages.{appended, prints_both}
-use Rattle.r4_list.specs.declared.fault.ListFault.{ListFault}
-use Rattle.r4_list.specs.declared.fault.ListFault.TheVariants.{Log, Image as Refused, Device, Size, Sink, Memory}
+use Rattle.r4_mkfs.specs.r4_cell.declared.refused.ImageFault.TheVariants.{Layout, Cell}
+use Rattle.r4_check_laws.specs.r4_search.Pool.{LeavesDevice}
+use Rattle.r4_check_laws.proofs.r4_list.Stages.{appended, prints_both}
+use Rattle.r4_check_laws.specs.r4_list.declared.fault.ListFault.{ListFault}
+use Rattle.r4_check_laws.specs.r4_list.declared.fault.ListFault.TheVariants.{Log, Image as Refused, Device, Size, Sink, Memory}
 use Rattle.r4_lines.specs.Lines.{device_line, image_line, size_line}
 use Rattle.r4_lines.specs.Printed.{Gets, GetsPart, Prints}
-use Rattle.r4_check.specs.Tree.{Checks, PrintsWalk}
-use Rattle.r4_check.specs.Walk.{check_of, faults_of, objects_met, walk_of}
-use Rattle.r4_check.specs.declared.tree.Verdict.{Verdict}
+use Rattle.r4_check_laws.specs.r4_check.Tree.{Checks, PrintsWalk}
+use Rattle.r4_check_laws.specs.r4_check.Walk.{check_of, faults_of, objects_met, walk_of}
+use Rattle.r4_check_laws.specs.r4_check.declared.tree.Verdict.{Verdict}
 use Rattle.r4_check_objects.specs.Faults.{fault_lines}
 use Rattle.r4_check_objects.specs.Held.{counted}
 use Rattle.r4_check_objects.specs.declared.fault.Fault.{Fault}

@@ -4,13 +4,13 @@ use Rattle.r4_base.specs.Value.{Content}
 use Rattle.r4_base.specs.Volume.{HasVolume}
 use Rattle.r4_outside.specs.Device.{Rose, State, TellsReads}
 use Rattle.r4_outside.specs.Sink.{SinkState, AppendsPart}
-use Rattle.r4_cell.specs.declared.refused.ImageFault.TheVariants.{Layout, Cell}
-use Rattle.r4_search.specs.Pool.{LeavesDevice}
-use Rattle.r4_list.proofs.LinesOfPath.{some_listing}
-use Rattle.r4_list.specs.Lists.{Answers as ListAnswers, IsUnrefused, PrintsText}
-use Rattle.r4_list.specs.Printing.{Prints as PrintsSome}
-use Rattle.r4_list.specs.declared.fault.ListFault.{ListFault}
-use Rattle.r4_list.specs.declared.fault.ListFault.TheVariants.{Log, Image, Device, Size, Sink, Memory}
+use Rattle.r4_mkfs.specs.r4_cell.declared.refused.ImageFault.TheVariants.{Layout, Cell}
+use Rattle.r4_check_laws.specs.r4_search.Pool.{LeavesDevice}
+use Rattle.r4_check_laws.proofs.r4_list.LinesOfPath.{some_listing}
+use Rattle.r4_check_laws.specs.r4_list.Lists.{Answers as ListAnswers, IsUnrefused, PrintsText}
+use Rattle.r4_check_laws.specs.r4_list.Printing.{Prints as PrintsSome}
+use Rattle.r4_check_laws.specs.r4_list.declared.fault.ListFault.{ListFault}
+use Rattle.r4_check_laws.specs.r4_list.declared.fault.ListFault.TheVariants.{Log, Image, Device, Size, Sink, Memory}
 use Rattle.r4_lines.specs.Printed.{Gets, GetsPart, Prints}
 use Rattle.r4_offline.specs.Answers.{Lists, OfListing, TellsListFault}
 use Rattle.r4_base.specs.Words.{cell_word_of, layout_word_of, log_word_of}

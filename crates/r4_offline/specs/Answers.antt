@@ -7,19 +7,19 @@ use Rattle.r4_base.specs.Value.{Content}
 use Rattle.r4_base.specs.Volume.{HasVolume}
 use Rattle.r4_base.specs.declared.items.CellFault.{CellFault}
 use Rattle.r4_base.specs.Words.{cell_word_of, log_word_of}
-use Rattle.r4_cell.specs.Words.{image_word_of}
+use Rattle.r4_mkfs.specs.r4_cell.Words.{image_word_of}
 use Rattle.r4_outside.specs.Device.{State, Spares, TellsReads, Rose, Untouched}
 use Rattle.r4_outside.specs.Sink.{SinkState, AppendsPart}
 use Rattle.r4_replay.specs.Replay.{PutInPlace, RefusedAs, SettlesAlways}
 use Rattle.r4_replay.specs.declared.fault.ReplayFault.{ReplayFault}
 use Rattle.r4_replay.specs.declared.fault.ReplayFault.TheVariants.{Log, Device, Size, Memory}
-use Rattle.r4_list.specs.Listing.{IsListing}
-use Rattle.r4_list.specs.Lists.{HasRefusedNode, IsOpened, OfSettled}
-use Rattle.r4_list.specs.Printing.{Prints as PrintsSome}
-use Rattle.r4_list.specs.declared.fault.ListFault.{ListFault}
-use Rattle.r4_list.specs.declared.fault.ListFault.TheVariants.{Log as ListLog, Image as ListImage}
-use Rattle.r4_list.specs.declared.fault.ListFault.TheVariants.{Device as ListDevice, Size as ListSize}
-use Rattle.r4_list.specs.declared.fault.ListFault.TheVariants.{Sink as ListSink, Memory as ListMemory}
+use Rattle.r4_check_laws.specs.r4_list.Listing.{IsListing}
+use Rattle.r4_check_laws.specs.r4_list.Lists.{HasRefusedNode, IsOpened, OfSettled}
+use Rattle.r4_check_laws.specs.r4_list.Printing.{Prints as PrintsSome}
+use Rattle.r4_check_laws.specs.r4_list.declared.fault.ListFault.{ListFault}
+use Rattle.r4_check_laws.specs.r4_list.declared.fault.ListFault.TheVariants.{Log as ListLog, Image as ListImage}
+use Rattle.r4_check_laws.specs.r4_list.declared.fault.ListFault.TheVariants.{Device as ListDevice, Size as ListSize}
+use Rattle.r4_check_laws.specs.r4_list.declared.fault.ListFault.TheVariants.{Sink as ListSink, Memory as ListMemory}
 use Rattle.r4_lines.specs.Lines.{device_line, size_line, image_line}
 use Rattle.r4_lines.specs.Lines.{made_line, memory_line, replayed_line}
 use Rattle.r4_lines.specs.Printed.{Gets, GetsPart, Prints}

@@ -7,13 +7,13 @@ use Rattle.r4_base.specs.Volume.{HasLayout, HasVolume}
 use Rattle.r4_base.specs.declared.superblock.Super40.{Super40}
 use Rattle.r4_outside.specs.Device.{State, TellsReads, Rose, Untouched}
 use Rattle.r4_outside.specs.Sink.{SinkState, AppendsPart}
-use Rattle.r4_list.specs.Lists.{IsOpened}
-use Rattle.r4_list.specs.Printing.{Prints as PrintsSome}
+use Rattle.r4_check_laws.specs.r4_list.Lists.{IsOpened}
+use Rattle.r4_check_laws.specs.r4_list.Printing.{Prints as PrintsSome}
 use Rattle.r4_lines.specs.Lines.{device_line, image_line, memory_line, size_line}
 use Rattle.r4_lines.specs.Printed.{Gets, GetsPart, Prints}
 use Rattle.r4_offline.specs.Refused.{IsUnlawful, IsUnopened}
-use Rattle.r4_check.specs.Walk.{faults_of, objects_met, walk_of}
-use Rattle.r4_check.specs.declared.tree.Verdict.{Verdict}
+use Rattle.r4_check_laws.specs.r4_check.Walk.{faults_of, objects_met, walk_of}
+use Rattle.r4_check_laws.specs.r4_check.declared.tree.Verdict.{Verdict}
 use Rattle.r4_check_objects.specs.Faults.{fault_lines}
 use Rattle.r4_check_objects.specs.Held.{counted}
 

@@ -5,8 +5,8 @@ use Rattle.r4_base.specs.declared.journal.LogFault.{LogFault}
 use Rattle.r4_base.specs.declared.superblock.LayoutFault.{LayoutFault}
 use Rattle.r4_outside.specs.Device.{State, TellsReads}
 use Rattle.r4_replay.specs.Replay.{RefusedAs}
-use Rattle.r4_list.specs.Lists.{OfSettled}
-use Rattle.r4_open.specs.Opening.{layout_misfit, misfit}
+use Rattle.r4_check_laws.specs.r4_list.Lists.{OfSettled}
+use Rattle.r4_check_laws.specs.r4_open.Opening.{layout_misfit, misfit}
 
 -- fewer blocks than a volume may have, or more
 abbrev pub IsUnlawful : ℕ → Type 0

@@ -7,7 +7,7 @@ ghost use Rattle.r4_offline.specs.Checks.{ChecksImage, TellsVerdict, count_line}
 
 use crate::listing::tell_fault;
 use crate::status::Status;
-use r4_check::{Verdict, check};
+use r4_check_laws::{Verdict, check};
 use r4_lines::write_number;
 use r4_outside::{Device, Failed, Sink};
 use std::alloc::Global;

@@ -6,8 +6,8 @@ ghost use Rattle.r4_replay.specs.Replay.{SettlesAlways};
 ghost use Rattle.r4_offline.specs.Answers.{Lists, TellsListFault};
 
 use crate::status::Status;
+use r4_check_laws::{ListFault, list};
 use r4_lines::{write_device, write_image, write_memory, write_size};
-use r4_list::{ListFault, list};
 use r4_outside::{Device, Sink};
 use std::alloc::Global;
 

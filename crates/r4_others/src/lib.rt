@@ -4,3 +4,4 @@
 mod finding;
 
 pub use finding::{Other, others};
+pub use r4_history::Why;

@@ -14,3 +14,5 @@ pub mod LeftOut
 pub mod Holding
 pub mod Effects
 pub mod PartUnits
+-- what crates above name by way of this one
+pub use Rattle.r4_cell.proofs as r4_cell

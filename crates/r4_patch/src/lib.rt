@@ -15,3 +15,4 @@ pub use laws::{
     root_has_to_be_old, trees_differ_by_patches,
 };
 pub use parts::{joined_change_of_a_part, part_law, placing_keeps_a_part, trees_and_parts};
+pub use r4_cell::{Cell, Cells, Change, Fresh, Root, least, new_cell, put_pointer, top};

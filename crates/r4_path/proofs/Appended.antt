@@ -9,12 +9,12 @@ use Rattle.r4_base.specs.Lending.{written}
 use Rattle.r4_base.specs.Node.{Item, count_of, fits_level, item_at, items_of, key_at, level_of, offset_at, plugin_at}
 use Rattle.r4_base.specs.declared.key.Key.{Key}
 use Rattle.r4_base.proofs.Choices.{get_end}
-use Rattle.r4_node40.specs.Edits.{GoesBetween, InsertsItem}
-use Rattle.r4_node40.specs.Laid.{IsLaid, IsNode, WritesBody, room_of, span_at}
-use Rattle.r4_node40.proofs.Accepted.{space}
-use Rattle.r4_node40.proofs.Bodies.{body_lent}
-use Rattle.r4_node40.proofs.Kept.{node_inserted, node_written}
-use Rattle.r4_node40.proofs.Laid.{get_or-items_of, length-items_of}
+use Rattle.r4_leaf.specs.r4_node40.Edits.{GoesBetween, InsertsItem}
+use Rattle.r4_leaf.specs.r4_node40.Laid.{IsLaid, IsNode, WritesBody, room_of, span_at}
+use Rattle.r4_leaf.proofs.r4_node40.Accepted.{space}
+use Rattle.r4_leaf.proofs.r4_node40.Bodies.{body_lent}
+use Rattle.r4_leaf.proofs.r4_node40.Kept.{node_inserted, node_written}
+use Rattle.r4_leaf.proofs.r4_node40.Laid.{get_or-items_of, length-items_of}
 use Rattle.r4_path.specs.Nodes.{IsAppended}
 
 module _ (b0 b1 body : List ℕ) (n plugin : ℕ) (key : Key) (counted : n ≡ count_of b0) (node : IsNode b0)

@@ -5,8 +5,8 @@ use Rattle.r4_base.specs.Cell.{cell_fault, cell_of, names_in, spans_in, units_in
 use Rattle.r4_base.specs.Key.{least, rank, top}
 use Rattle.r4_base.specs.Node.{items_of, mkfs_id_of}
 use Rattle.r4_base.proofs.FreshTree.{least_below}
-use Rattle.r4_cell.proofs.Nodes.{cell_node}
-use Rattle.r4_cell.specs.Seen.{CellSeen, node_of}
+use Rattle.r4_patch.proofs.r4_cell.Nodes.{cell_node}
+use Rattle.r4_patch.specs.r4_cell.Seen.{CellSeen, node_of}
 use Rattle.r4_path.specs.Nodes.{IsNodeOf, IsPointable, IsPointingTo, pointer_item}
 use Rattle.r4_path.specs.Steps.{Follow}
 use Rattle.r4_path.proofs.Lying.{Good, sound}

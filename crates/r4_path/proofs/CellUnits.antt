@@ -3,7 +3,7 @@ use Rattle.std.proofs.Common.{◌≡◌, ℕ, zero, suc, ◌≤◌, List, [], �
 use Rattle.r4_base.specs.Cell.{units_in}
 use Rattle.r4_base.specs.Key.{rank}
 use Rattle.r4_base.specs.Node.{items_of}
-use Rattle.r4_cell.specs.Seen.{CellSeen, node_of}
+use Rattle.r4_patch.specs.r4_cell.Seen.{CellSeen, node_of}
 use Rattle.r4_path.specs.Levels.{units_of_cells}
 use Rattle.r4_path.specs.Sharing.{items_of_cells}
 use Rattle.r4_path.specs.Steps.{Follow}

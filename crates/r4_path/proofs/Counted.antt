@@ -5,7 +5,7 @@ use Rattle.std.proofs.lemmas.List.Kept.{AllPairs-cons}
 use Rattle.std.specs.List.{slice_index_or}
 use Rattle.r4_base.specs.Tree.{Store}
 use Rattle.r4_base.specs.Value.{Value}
-use Rattle.r4_cell.specs.Patch.{HaveNames}
+use Rattle.r4_patch.specs.r4_cell.Patch.{HaveNames}
 use Rattle.r4_path.specs.Steps.{CountUp, IsFree}
 use Rattle.r4_patch.proofs.Members.{here, later}
 use Rattle.r4_path.proofs.Rising.{count_within}

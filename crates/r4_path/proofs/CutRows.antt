@@ -5,7 +5,7 @@ use Rattle.std.specs.Arc.{arc_value}
 use Rattle.std.proofs.lemmas.Bool.Decides.{nat_tests}
 use Rattle.std.proofs.lemmas.List.{length-drop}
 use Rattle.r4_base.specs.Node.{Item}
-use Rattle.r4_node40.specs.View.{view_items}
+use Rattle.r4_leaf.specs.r4_node40.View.{view_items}
 use Rattle.r4_path.specs.Nodes.{weight}
 use Rattle.r4_path.specs.Rows.{IsCut, IsNarrow, IsRow, row_items, row_level, row_more, row_part}
 use Rattle.r4_path.specs.declared.row.Row.{Row}

@@ -6,7 +6,7 @@ use Rattle.std.proofs.lemmas.List.{append_assoc, length-append, length-drop}
 use Rattle.std.proofs.lemmas.List.Elements.{All-head, All-tail, All-take, All-drop}
 use Rattle.std.proofs.lemmas.List.Sums.{sum_by-append, sum_by-take-drop}
 use Rattle.r4_base.specs.Node.{Item}
-use Rattle.r4_cell.specs.Seen.{CellSeen}
+use Rattle.r4_patch.specs.r4_cell.Seen.{CellSeen}
 use Rattle.r4_path.specs.Nodes.{pointer_item, weight, weight_of}
 use Rattle.r4_path.specs.Rows.{with_pointers}
 use Rattle.r4_path.proofs.CellNodes.{long_pointers}

@@ -4,8 +4,8 @@ use Rattle.std.specs.Prelude.{Contains, None, Some}
 use Rattle.r4_base.specs.Fresh.{root_key}
 use Rattle.r4_base.specs.Key.{rank}
 use Rattle.r4_base.specs.Tree.{IsNode, Name}
-use Rattle.r4_cell.specs.Patch.{IsChange, Patch, patch_of}
-use Rattle.r4_cell.specs.Seen.{CellSeen, node_of}
+use Rattle.r4_patch.specs.r4_cell.Patch.{IsChange, Patch, patch_of}
+use Rattle.r4_patch.specs.r4_cell.Seen.{CellSeen, node_of}
 use Rattle.r4_base.specs.Value.{Value}
 use Rattle.r4_patch.specs.Part.{IsPart, MeetsPart}
 use Rattle.r4_patch.specs.SecondRoot.{small_root}

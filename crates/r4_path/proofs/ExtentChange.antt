@@ -9,8 +9,8 @@ use Rattle.r4_base.specs.Fresh.{root_key}
 use Rattle.r4_base.specs.Key.{least, rank, top}
 use Rattle.r4_base.specs.Tree.{IsNode, Name, Node}
 use Rattle.r4_base.specs.Value.{Value}
-use Rattle.r4_cell.specs.Seen.{CellSeen, node_of}
-use Rattle.r4_cell.proofs.Nodes.{cell_node, data_node}
+use Rattle.r4_patch.specs.r4_cell.Seen.{CellSeen, node_of}
+use Rattle.r4_patch.proofs.r4_cell.Nodes.{cell_node, data_node}
 use Rattle.r4_patch.specs.SecondRoot.{small_root}
 use Rattle.r4_patch.proofs.PartCells.{tree_is_part}
 use Rattle.r4_patch.proofs.SecondRoot.{small_is_tree}

@@ -7,10 +7,10 @@ use Rattle.std.proofs.lemmas.Option.{slice_get_within, same_Some}
 use Rattle.r4_base.specs.Key.{IsBelow}
 use Rattle.r4_base.specs.Node.{Item, KeysRise, PluginsFit, count_of, fits_level, items_of, level_of}
 use Rattle.r4_base.proofs.Choices.{none_at}
-use Rattle.r4_node40.specs.Edits.{GoesBetween}
-use Rattle.r4_node40.specs.Laid.{IsFresh, room_of}
-use Rattle.r4_node40.proofs.Accepted.{space}
-use Rattle.r4_node40.proofs.Laid.{length-items_of}
+use Rattle.r4_leaf.specs.r4_node40.Edits.{GoesBetween}
+use Rattle.r4_leaf.specs.r4_node40.Laid.{IsFresh, room_of}
+use Rattle.r4_leaf.proofs.r4_node40.Accepted.{space}
+use Rattle.r4_leaf.proofs.r4_node40.Laid.{length-items_of}
 use Rattle.r4_path.specs.Nodes.{IsAppended, IsNodeOf, weight, weight_of}
 
 module _ {A : Type 0} where

@@ -12,12 +12,12 @@ use Rattle.r4_base.specs.Key.{rank}
 use Rattle.r4_base.specs.Node.{Item, count_of, edge_at, item_at, items_of, offset_at}
 use Rattle.r4_base.specs.Tree.{Name}
 use Rattle.r4_base.proofs.Numbers.{length-slice_range}
-use Rattle.r4_node40.proofs.LaidItems.{item_bodied}
-use Rattle.r4_cell.specs.Seen.{CellSeen}
-use Rattle.r4_cell.proofs.ItemRows.{extent_data}
-use Rattle.r4_node40.specs.Laid.{IsLaid}
-use Rattle.r4_node40.proofs.Laid.{edge_next, edge_stands, edge_step, get_or-items_of, length-items_of}
-use Rattle.r4_node40.proofs.Accepted.{space}
+use Rattle.r4_leaf.proofs.r4_node40.LaidItems.{item_bodied}
+use Rattle.r4_patch.specs.r4_cell.Seen.{CellSeen}
+use Rattle.r4_patch.proofs.r4_cell.ItemRows.{extent_data}
+use Rattle.r4_leaf.specs.r4_node40.Laid.{IsLaid}
+use Rattle.r4_leaf.proofs.r4_node40.Laid.{edge_next, edge_stands, edge_step, get_or-items_of, length-items_of}
+use Rattle.r4_leaf.proofs.r4_node40.Accepted.{space}
 use Rattle.r4_path.specs.Nodes.{pointer_item, weight, weight_of}
 use Rattle.r4_path.specs.Rows.{with_pointers}
 use Rattle.r4_path.proofs.Filling.{weight_cons}

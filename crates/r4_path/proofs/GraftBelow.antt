@@ -3,11 +3,11 @@ use Rattle.std.proofs.Common.{◌≡◌, ◌≢◌, ℕ, ◌-◌, ◌≤◌, Lis
 use Rattle.std.specs.Prelude.{reverse}
 use Rattle.r4_base.specs.Tree.{Root, Store}
 use Rattle.r4_base.specs.Value.{Value}
-use Rattle.r4_branch.specs.declared.piece.TwigPiece.{TwigPiece}
-use Rattle.r4_cell.specs.Patch.{IsChange, patch_of}
-use Rattle.r4_cell.specs.Seen.{CellSeen}
-use Rattle.r4_cell.specs.declared.change.Change.{Change}
-use Rattle.r4_cell.specs.declared.change.Fresh.{Fresh}
+use Rattle.r4_graft.specs.r4_branch.declared.piece.TwigPiece.{TwigPiece}
+use Rattle.r4_patch.specs.r4_cell.Patch.{IsChange, patch_of}
+use Rattle.r4_patch.specs.r4_cell.Seen.{CellSeen}
+use Rattle.r4_patch.specs.r4_cell.declared.change.Change.{Change}
+use Rattle.r4_patch.specs.r4_cell.declared.change.Fresh.{Fresh}
 use Rattle.r4_patch.specs.Part.{MeetsPart}
 use Rattle.r4_path.specs.Grafts.{Grafts, GraftsAt, GraftsUp, HasBelow, IsGraft, IsGraftBelowUp, IsGraftIn, IsGraftedIn, IsGraftedUp}
 use Rattle.r4_path.specs.Growing.{IsPathIn}

@@ -8,15 +8,15 @@ use Rattle.r4_base.specs.Extents.{is_hole}
 use Rattle.r4_base.specs.Key.{least, rank, top}
 use Rattle.r4_base.specs.Tree.{IsNode, Name, Root, Store}
 use Rattle.r4_base.specs.Value.{Value}
-use Rattle.r4_branch.specs.Pieces.{names_of, next_of, part_names}
-use Rattle.r4_branch.specs.declared.piece.TwigPart.{TwigPart}
-use Rattle.r4_branch.specs.declared.piece.TwigPart.TheVariants.{Blocks, Pointer}
-use Rattle.r4_branch.specs.declared.piece.TwigPiece.{TwigPiece}
-use Rattle.r4_cell.proofs.Nodes.{data_node}
-use Rattle.r4_cell.specs.Patch.{HaveNames, IsChange, patch_of}
-use Rattle.r4_cell.specs.Seen.{CellSeen, node_of}
-use Rattle.r4_cell.specs.declared.change.Change.{Change}
-use Rattle.r4_cell.specs.declared.change.Fresh.{Fresh}
+use Rattle.r4_graft.specs.r4_branch.Pieces.{names_of, next_of, part_names}
+use Rattle.r4_graft.specs.r4_branch.declared.piece.TwigPart.{TwigPart}
+use Rattle.r4_graft.specs.r4_branch.declared.piece.TwigPart.TheVariants.{Blocks, Pointer}
+use Rattle.r4_graft.specs.r4_branch.declared.piece.TwigPiece.{TwigPiece}
+use Rattle.r4_patch.proofs.r4_cell.Nodes.{data_node}
+use Rattle.r4_patch.specs.r4_cell.Patch.{HaveNames, IsChange, patch_of}
+use Rattle.r4_patch.specs.r4_cell.Seen.{CellSeen, node_of}
+use Rattle.r4_patch.specs.r4_cell.declared.change.Change.{Change}
+use Rattle.r4_patch.specs.r4_cell.declared.change.Fresh.{Fresh}
 use Rattle.r4_patch.specs.Part.{MeetsPart}
 use Rattle.r4_path.specs.Grafts.{AreBlocksOf, Grafts, HasBelow, HaveGraftNumbers, IsGraft, IsGraftOf, IsTwigGraft}
 use Rattle.r4_path.specs.Growing.{IsPathIn}

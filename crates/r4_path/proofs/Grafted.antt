@@ -6,11 +6,11 @@ use Rattle.std.proofs.lemmas.Bool.{cases_lt}
 use Rattle.std.proofs.lemmas.List.{length-drop}
 use Rattle.r4_base.specs.Tree.{Root, Store}
 use Rattle.r4_base.specs.Value.{Value}
-use Rattle.r4_branch.specs.Pieces.{twig_bytes}
-use Rattle.r4_branch.specs.declared.piece.TwigPiece.{TwigPiece}
-use Rattle.r4_cell.specs.Seen.{CellSeen}
-use Rattle.r4_cell.specs.declared.change.Change.{Change}
-use Rattle.r4_cell.specs.declared.change.Fresh.{Fresh}
+use Rattle.r4_graft.specs.r4_branch.Pieces.{twig_bytes}
+use Rattle.r4_graft.specs.r4_branch.declared.piece.TwigPiece.{TwigPiece}
+use Rattle.r4_patch.specs.r4_cell.Seen.{CellSeen}
+use Rattle.r4_patch.specs.r4_cell.declared.change.Change.{Change}
+use Rattle.r4_patch.specs.r4_cell.declared.change.Fresh.{Fresh}
 use Rattle.r4_path.specs.Grafts.{Grafts, IsGraftedIn, IsGraftedUp, IsTwigLevel, extra_twigs}
 use Rattle.r4_path.specs.Levels.{CanClimb, Climbed, IsLongEnough, Rises}
 use Rattle.r4_path.specs.Steps.{Step}

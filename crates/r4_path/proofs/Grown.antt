@@ -5,10 +5,10 @@ use Rattle.std.proofs.lemmas.Option.{same_Some}
 use Rattle.r4_base.specs.Key.{least, rank, top}
 use Rattle.r4_base.specs.Tree.{IsNode, Name, Node, Root, Store}
 use Rattle.r4_base.specs.Value.{Value}
-use Rattle.r4_cell.specs.Seen.{CellSeen, node_of}
-use Rattle.r4_cell.specs.declared.change.Fresh.{Fresh}
-use Rattle.r4_cell.specs.Patch.{IsChange, patch_of}
-use Rattle.r4_cell.specs.declared.change.Change.{Change}
+use Rattle.r4_patch.specs.r4_cell.Seen.{CellSeen, node_of}
+use Rattle.r4_patch.specs.r4_cell.declared.change.Fresh.{Fresh}
+use Rattle.r4_patch.specs.r4_cell.Patch.{IsChange, patch_of}
+use Rattle.r4_patch.specs.r4_cell.declared.change.Change.{Change}
 use Rattle.r4_patch.specs.Joining.{patch_of_change}
 use Rattle.r4_patch.specs.Part.{MeetsPart}
 use Rattle.r4_path.specs.Growing.{Grows, HasNewRoot, IsRootIn}

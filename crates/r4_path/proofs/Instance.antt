@@ -8,7 +8,7 @@ use Rattle.r4_base.specs.Key.{least, rank, top}
 use Rattle.r4_base.specs.Node.{edge_at, header_fault, item_at, item_fault, items_fault, items_from, items_of, key_at}
 use Rattle.r4_base.specs.Node.{node_fault, offset_at, plugin_at}
 use Rattle.r4_base.specs.Stat.{attr_of, stat_body, stat_of}
-use Rattle.r4_cell.specs.Seen.{node_of}
+use Rattle.r4_patch.specs.r4_cell.Seen.{node_of}
 use Rattle.r4_patch.specs.SecondRoot.{whole_leaf, whole_twig}
 use Rattle.r4_path.specs.Sharing.{IsSound}
 use Rattle.r4_path.specs.Steps.{name_of}

@@ -2,7 +2,7 @@
 use Rattle.std.proofs.Common.{ap, ◌∙◌, ◌≡◌, ◌≢◌, ◌-◌, ◌≤◌, List, [], ◌∷◌, length, map, take, get_or, sym, subst, arith}
 use Rattle.std.specs.Prelude.{reverse}
 use Rattle.std.proofs.lemmas.List.{get_or-take, length-take}
-use Rattle.r4_cell.specs.Seen.{CellSeen}
+use Rattle.r4_patch.specs.r4_cell.Seen.{CellSeen}
 use Rattle.r4_path.proofs.Upwards.{last_first}
 
 module _ {A : Type 0} (h : A → CellSeen) (P : List CellSeen → Type 0) (never : P [] → ⊥) where

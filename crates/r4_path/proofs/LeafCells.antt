@@ -9,9 +9,9 @@ use Rattle.r4_base.specs.Key.{rank}
 use Rattle.r4_base.specs.Node.{Item, items_of, mkfs_id_of}
 use Rattle.r4_base.specs.Tree.{IsNode}
 use Rattle.r4_base.specs.declared.key.Key.{Key}
-use Rattle.r4_cell.proofs.NodesAt.{node_at}
-use Rattle.r4_cell.specs.Seen.{CellSeen, node_of}
-use Rattle.r4_cell.specs.declared.change.Fresh.{Fresh}
+use Rattle.r4_patch.proofs.r4_cell.NodesAt.{node_at}
+use Rattle.r4_patch.specs.r4_cell.Seen.{CellSeen, node_of}
+use Rattle.r4_patch.specs.r4_cell.declared.change.Fresh.{Fresh}
 use Rattle.r4_leaf.specs.Leaves.{HaveMkfsId, IsLeaf, Packs}
 use Rattle.r4_leaf.specs.Units.{LeafUnit}
 use Rattle.r4_leaf.specs.declared.leaf.Leaf.{Leaf}

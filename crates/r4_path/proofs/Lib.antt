@@ -43,3 +43,10 @@ pub mod TwigNames
 pub mod TwigPatch
 pub mod TwigRose
 pub mod Upwards
+-- what crates above name by way of this one
+pub use Rattle.r4_graft.proofs.r4_branch
+pub use Rattle.r4_patch.proofs.r4_cell
+pub use Rattle.r4_graft.proofs as r4_graft
+pub use Rattle.r4_leaf.proofs as r4_leaf
+pub use Rattle.r4_leaf.proofs.r4_node40
+pub use Rattle.r4_patch.proofs as r4_patch

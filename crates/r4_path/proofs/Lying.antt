@@ -10,8 +10,8 @@ use Rattle.r4_base.specs.Node.{Item, count_of, is_empty_branch, items_of, level_
 use Rattle.r4_base.specs.declared.items.CellFault.TheVariants.{Range}
 use Rattle.r4_base.specs.declared.node.NodeFault.TheVariants.{Empty}
 use Rattle.r4_base.proofs.Choices.{chosen, or_none}
-use Rattle.r4_node40.proofs.Accepted.{accepted}
-use Rattle.r4_node40.proofs.Laid.{length-items_of}
+use Rattle.r4_leaf.proofs.r4_node40.Accepted.{accepted}
+use Rattle.r4_leaf.proofs.r4_node40.Laid.{length-items_of}
 use Rattle.r4_path.specs.Nodes.{IsNodeOf}
 
 -- the items may stand in a cell of this level and range, from place i on

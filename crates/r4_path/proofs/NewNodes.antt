@@ -3,8 +3,8 @@ use Rattle.std.proofs.Common.{◌≡◌, inl, inr, true, ◌^◌, ◌≤◌, Lis
 use Rattle.std.specs.Prelude.{Contains, drop, None}
 use Rattle.r4_base.specs.Key.{rank}
 use Rattle.r4_base.specs.Tree.{IsNode, Name, Span}
-use Rattle.r4_cell.specs.Seen.{CellSeen, node_of}
-use Rattle.r4_cell.proofs.Nodes.{cell_node}
+use Rattle.r4_patch.specs.r4_cell.Seen.{CellSeen, node_of}
+use Rattle.r4_patch.proofs.r4_cell.Nodes.{cell_node}
 use Rattle.r4_patch.specs.Joining.{ids_of}
 use Rattle.r4_path.specs.Sharing.{IsSound}
 use Rattle.r4_path.specs.Steps.{Follow, IsStep}

@@ -7,7 +7,7 @@ use Rattle.std.proofs.lemmas.List.{length-append}
 use Rattle.std.proofs.lemmas.Option.{none-some, same_Some}
 use Rattle.r4_base.specs.Tree.{Name, Node, Root, Store}
 use Rattle.r4_base.specs.Value.{Value}
-use Rattle.r4_cell.specs.Seen.{CellSeen, node_of}
+use Rattle.r4_patch.specs.r4_cell.Seen.{CellSeen, node_of}
 use Rattle.r4_patch.specs.Joining.{ids_of}
 use Rattle.r4_patch.specs.Part.{IsPart}
 use Rattle.r4_patch.proofs.PartCells.{one_above}

@@ -14,10 +14,10 @@ use Rattle.r4_base.specs.Node.{Item, PluginsFit, count_of, fits_level, is_empty_
 use Rattle.r4_base.specs.Tree.{Name, Span}
 use Rattle.r4_base.specs.declared.items.CellFault.TheVariants.{Pointer}
 use Rattle.r4_base.proofs.Choices.{chosen}
-use Rattle.r4_cell.specs.Seen.{CellSeen, node_of}
-use Rattle.r4_cell.proofs.NodesAt.{IsNodeAt, node_at}
-use Rattle.r4_node40.proofs.Accepted.{good}
-use Rattle.r4_node40.proofs.Laid.{length-items_of}
+use Rattle.r4_patch.specs.r4_cell.Seen.{CellSeen, node_of}
+use Rattle.r4_patch.proofs.r4_cell.NodesAt.{IsNodeAt, node_at}
+use Rattle.r4_leaf.proofs.r4_node40.Accepted.{good}
+use Rattle.r4_leaf.proofs.r4_node40.Laid.{length-items_of}
 use Rattle.r4_path.specs.Nodes.{weight_of}
 use Rattle.r4_path.specs.Sharing.{IsSound, items_of_cells}
 use Rattle.r4_path.specs.Steps.{AreNaming, AreSpanning, Follow}

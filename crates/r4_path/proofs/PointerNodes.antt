@@ -14,7 +14,7 @@ use Rattle.r4_base.specs.Extents.{pointer_of}
 use Rattle.r4_base.specs.Key.{rank}
 use Rattle.r4_base.specs.Node.{Item, KeysRise}
 use Rattle.r4_base.proofs.Numbers.{length-number_bytes, number_at-bytes}
-use Rattle.r4_cell.specs.Seen.{CellSeen}
+use Rattle.r4_patch.specs.r4_cell.Seen.{CellSeen}
 use Rattle.r4_path.specs.Nodes.{IsPointable, pointer_item}
 use Rattle.r4_path.specs.Steps.{Follow, name_of}
 use Rattle.r4_path.proofs.Lying.{Good, Lies, good_cons, good_nil}

@@ -8,7 +8,7 @@ use Rattle.r4_base.specs.Bytes.{number_bytes}
 use Rattle.r4_base.specs.Node.{Item, PluginsFit, fits_level}
 use Rattle.r4_base.specs.declared.key.Key.{Key}
 use Rattle.r4_base.proofs.Numbers.{length-number_bytes}
-use Rattle.r4_cell.specs.Seen.{CellSeen}
+use Rattle.r4_patch.specs.r4_cell.Seen.{CellSeen}
 use Rattle.r4_path.specs.Nodes.{pointer_item, weight}
 use Rattle.r4_path.proofs.Filling.{weight_cons}
 

@@ -4,8 +4,8 @@ use Rattle.std.proofs.Common.{ap, subst, ◌∙◌, arith}
 use Rattle.std.specs.Prelude.{slice_get, Some}
 use Rattle.std.proofs.lemmas.List.Sums.{sum_by-append}
 use Rattle.r4_base.specs.Node.{Item, KeysRise, PluginsFit, count_of, fits_level, items_of, level_of}
-use Rattle.r4_node40.specs.Edits.{GoesBetween}
-use Rattle.r4_node40.specs.Laid.{room_of}
+use Rattle.r4_leaf.specs.r4_node40.Edits.{GoesBetween}
+use Rattle.r4_leaf.specs.r4_node40.Laid.{room_of}
 use Rattle.r4_path.specs.Nodes.{IsAppended, IsNodeOf, weight, weight_of}
 use Rattle.r4_path.proofs.Filling.{above, counted, next, plugin, room, take_more, weight_one}
 use Rattle.r4_path.proofs.RowPlaces.{fit_drop, get_drop, rise_drop}

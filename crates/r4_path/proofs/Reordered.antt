@@ -5,9 +5,9 @@ use Rattle.std.proofs.lemmas.Option.{none-some}
 use Rattle.std.specs.Option.{option_map}
 use Rattle.r4_base.specs.Tree.{Node, Root, Store}
 use Rattle.r4_base.specs.Value.{Value}
-use Rattle.r4_cell.specs.Patch.{HaveNames, IsChange, IsPatch, Meets, Patch, by_name, patch_of, root_of_pair}
-use Rattle.r4_cell.specs.Seen.{CellSeen}
-use Rattle.r4_cell.specs.declared.change.Root.{Root as RootPair}
+use Rattle.r4_patch.specs.r4_cell.Patch.{HaveNames, IsChange, IsPatch, Meets, Patch, by_name, patch_of, root_of_pair}
+use Rattle.r4_patch.specs.r4_cell.Seen.{CellSeen}
+use Rattle.r4_patch.specs.r4_cell.declared.change.Root.{Root as RootPair}
 use Rattle.r4_patch.specs.Part.{MeetsPart}
 use Rattle.r4_patch.proofs.Members.{Distinct, found, there}
 use Rattle.r4_path.specs.Twigs.{IsReordered}

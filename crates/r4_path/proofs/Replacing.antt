@@ -10,8 +10,8 @@ use Rattle.r4_base.specs.Extents.{pointer_of}
 use Rattle.r4_base.specs.Key.{rank}
 use Rattle.r4_base.specs.Node.{Item, PluginsFit, fits_level}
 use Rattle.r4_base.specs.Tree.{Name}
-use Rattle.r4_cell.specs.Seen.{CellSeen}
-use Rattle.r4_cell.proofs.Items.{items_part}
+use Rattle.r4_patch.specs.r4_cell.Seen.{CellSeen}
+use Rattle.r4_patch.proofs.r4_cell.Items.{items_part}
 use Rattle.r4_path.specs.Nodes.{IsPointable, pointer_item}
 use Rattle.r4_path.specs.Steps.{Follow, IsNameOf, name_of}
 use Rattle.r4_path.proofs.Grown.{map_names, names_map}

@@ -5,7 +5,7 @@ use Rattle.std.specs.Prelude.{slice_get, option_map}
 use Rattle.std.proofs.lemmas.List.{length-append, length-drop}
 use Rattle.std.proofs.lemmas.Option.{slice_get-map}
 use Rattle.r4_base.specs.Node.{Item, KeysRise, PluginsFit}
-use Rattle.r4_cell.specs.Seen.{CellSeen}
+use Rattle.r4_patch.specs.r4_cell.Seen.{CellSeen}
 use Rattle.r4_path.specs.Nodes.{pointer_item}
 use Rattle.r4_path.specs.Rows.{with_pointers}
 use Rattle.r4_path.proofs.CellNodes.{long_pointers}

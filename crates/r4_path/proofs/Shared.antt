@@ -8,10 +8,10 @@ use Rattle.r4_base.specs.Cell.{cell_fault}
 use Rattle.r4_base.specs.Key.{rank}
 use Rattle.r4_base.specs.Node.{Item, items_of, mkfs_id_of}
 use Rattle.r4_base.specs.declared.key.Key.{Key}
-use Rattle.r4_cell.specs.Seen.{CellSeen}
+use Rattle.r4_patch.specs.r4_cell.Seen.{CellSeen}
 use Rattle.r4_path.specs.Nodes.{IsNodeOf, weight}
 use Rattle.r4_path.specs.Rows.{IsCut, row_items, row_level, row_part}
-use Rattle.r4_cell.specs.declared.change.Fresh.{Fresh}
+use Rattle.r4_patch.specs.r4_cell.declared.change.Fresh.{Fresh}
 use Rattle.r4_path.specs.Sharing.{AreFilled, AreSome, HasItems, IsRowOf, IsSound, Shares}
 use Rattle.r4_path.specs.declared.row.Row.{Row}
 use Rattle.r4_path.proofs.Cuts.{both_parts, cut_parts, take_whole}

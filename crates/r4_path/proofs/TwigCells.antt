@@ -11,16 +11,16 @@ use Rattle.r4_base.specs.Node.{Item, count_of, items_of, level_of, mkfs_id_of}
 use Rattle.r4_base.specs.Tree.{Name}
 use Rattle.r4_base.specs.declared.key.Key.{Key}
 use Rattle.r4_base.proofs.Choices.{some_items}
-use Rattle.r4_branch.proofs.ItemPieces.{units_append}
-use Rattle.r4_branch.specs.Pieces.{MayStand, names_of, next_of, part_names, part_units, twig_bytes, units_of}
-use Rattle.r4_branch.specs.Twigs.{AreFewTwigs, IsTwig, PacksTwigs}
-use Rattle.r4_branch.specs.declared.piece.TwigPiece.{TwigPiece}
-use Rattle.r4_branch.specs.declared.twig.Twig.{Twig}
-use Rattle.r4_cell.proofs.NodesAt.{node_at}
-use Rattle.r4_cell.specs.Seen.{CellSeen, node_of}
-use Rattle.r4_cell.specs.declared.change.Fresh.{Fresh}
-use Rattle.r4_node40.proofs.Accepted.{good}
-use Rattle.r4_node40.proofs.Laid.{length-items_of}
+use Rattle.r4_graft.proofs.r4_branch.ItemPieces.{units_append}
+use Rattle.r4_graft.specs.r4_branch.Pieces.{MayStand, names_of, next_of, part_names, part_units, twig_bytes, units_of}
+use Rattle.r4_graft.specs.r4_branch.Twigs.{AreFewTwigs, IsTwig, PacksTwigs}
+use Rattle.r4_graft.specs.r4_branch.declared.piece.TwigPiece.{TwigPiece}
+use Rattle.r4_graft.specs.r4_branch.declared.twig.Twig.{Twig}
+use Rattle.r4_patch.proofs.r4_cell.NodesAt.{node_at}
+use Rattle.r4_patch.specs.r4_cell.Seen.{CellSeen, node_of}
+use Rattle.r4_patch.specs.r4_cell.declared.change.Fresh.{Fresh}
+use Rattle.r4_leaf.proofs.r4_node40.Accepted.{good}
+use Rattle.r4_leaf.proofs.r4_node40.Laid.{length-items_of}
 use Rattle.r4_patch.specs.Joining.{ids_of}
 use Rattle.r4_path.specs.Grafts.{IsTwigLevel, TwigsHaveMkfsId, twig_cells}
 use Rattle.r4_path.specs.Levels.{units_of_cells}

@@ -4,9 +4,9 @@ use Rattle.std.specs.Prelude.{None}
 use Rattle.r4_base.specs.Cell.{cell_fault, names_in, units_in}
 use Rattle.r4_base.specs.Key.{rank}
 use Rattle.r4_base.specs.Node.{Item, items_of}
-use Rattle.r4_branch.specs.Pieces.{AreTwigPieces, MayStand, names_of, pieces_in, twig_bytes, units_of}
-use Rattle.r4_branch.specs.declared.piece.TwigPiece.{TwigPiece}
-use Rattle.r4_cell.specs.Seen.{CellSeen}
+use Rattle.r4_graft.specs.r4_branch.Pieces.{AreTwigPieces, MayStand, names_of, pieces_in, twig_bytes, units_of}
+use Rattle.r4_graft.specs.r4_branch.declared.piece.TwigPiece.{TwigPiece}
+use Rattle.r4_patch.specs.r4_cell.Seen.{CellSeen}
 use Rattle.r4_path.specs.TwigPieces.{ArePiecesOf}
 use Rattle.r4_path.proofs.CellNodes.{names_are, units_are}
 

@@ -8,9 +8,9 @@ use Rattle.r4_base.specs.Tree.{Store}
 use Rattle.r4_base.specs.Value.{Value}
 use Rattle.r4_base.specs.Volume.{root_attr}
 use Rattle.r4_base.specs.declared.key.Key.{Key}
-use Rattle.r4_cell.specs.Patch.{patch_of, place}
-use Rattle.r4_cell.specs.Seen.{CellSeen}
-use Rattle.r4_node40.specs.Edits.{header_fields}
+use Rattle.r4_patch.specs.r4_cell.Patch.{patch_of, place}
+use Rattle.r4_patch.specs.r4_cell.Seen.{CellSeen}
+use Rattle.r4_leaf.specs.r4_node40.Edits.{header_fields}
 use Rattle.r4_patch.specs.SecondRoot.{small_tree}
 use Rattle.r4_path.specs.Steps.{Step}
 use Rattle.r4_path.specs.Twigs.{Below}

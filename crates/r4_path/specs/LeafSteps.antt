@@ -2,8 +2,8 @@
 use Rattle.std.specs.Prelude.{◌≡◌, ℕ, ◌+◌, ◌-◌, ◌/◌, List, [], ◌∷◌, Contains, drop, length}
 use Rattle.std.specs.Prelude.{None, Some}
 use Rattle.r4_base.specs.declared.key.Key.{Key}
-use Rattle.r4_cell.specs.Seen.{CellSeen}
-use Rattle.r4_cell.specs.declared.change.Fresh.{Fresh}
+use Rattle.r4_patch.specs.r4_cell.Seen.{CellSeen}
+use Rattle.r4_patch.specs.r4_cell.declared.change.Fresh.{Fresh}
 use Rattle.r4_leaf.specs.Leaves.{Packs}
 use Rattle.r4_leaf.specs.Units.{LeafUnit}
 use Rattle.r4_leaf.specs.declared.leaf.Leaf.{Leaf}

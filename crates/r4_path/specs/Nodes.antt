@@ -5,8 +5,8 @@ use Rattle.r4_base.specs.Cell.{names_block}
 use Rattle.r4_base.specs.Key.{least, rank, top}
 use Rattle.r4_base.specs.Node.{Item, items_of, level_of, mkfs_id_of}
 use Rattle.r4_base.specs.Tree.{IsNode as IsTreeNode}
-use Rattle.r4_cell.specs.Seen.{CellSeen, node_of}
-use Rattle.r4_node40.specs.Laid.{IsNode, room_of}
+use Rattle.r4_patch.specs.r4_cell.Seen.{CellSeen, node_of}
+use Rattle.r4_leaf.specs.r4_node40.Laid.{IsNode, room_of}
 use Rattle.r4_path.specs.Steps.{name_of}
 
 -- The node has one item more, the last, and its mkfs_id stays.

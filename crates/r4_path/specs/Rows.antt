@@ -2,8 +2,8 @@
 use Rattle.std.specs.Prelude.{◌≡◌, ℕ, ◌+◌, ◌-◌, ◌^◌, ◌<◌, ◌≤◌, List, All, ◌++◌, length, map, take, drop, slice_get, Some}
 use Rattle.std.specs.Arc.{arc_value}
 use Rattle.r4_base.specs.Node.{Item, KeysRise, PluginsFit, level_of}
-use Rattle.r4_cell.specs.Seen.{CellSeen}
-use Rattle.r4_node40.specs.View.{item_shown, view_block, view_items}
+use Rattle.r4_patch.specs.r4_cell.Seen.{CellSeen}
+use Rattle.r4_leaf.specs.r4_node40.View.{item_shown, view_block, view_items}
 use Rattle.r4_path.specs.Nodes.{pointer_item, weight, weight_of}
 use Rattle.r4_path.specs.declared.row.Row.{Row}
 use Rattle.r4_path.specs.declared.row.RowItem.{RowItem}

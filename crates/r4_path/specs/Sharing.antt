@@ -3,8 +3,8 @@ use Rattle.std.specs.Prelude.{◌≡◌, ℕ, ◌+◌, ◌^◌, ◌<◌, ◌≤�
 use Rattle.r4_base.specs.Cell.{cell_fault, items_in_fault}
 use Rattle.r4_base.specs.Key.{rank}
 use Rattle.r4_base.specs.Node.{Item, items_of, mkfs_id_of}
-use Rattle.r4_cell.specs.Seen.{CellSeen}
-use Rattle.r4_cell.specs.declared.change.Fresh.{Fresh}
+use Rattle.r4_patch.specs.r4_cell.Seen.{CellSeen}
+use Rattle.r4_patch.specs.r4_cell.declared.change.Fresh.{Fresh}
 use Rattle.r4_patch.specs.Joining.{ids_of}
 use Rattle.r4_path.specs.Nodes.{weight}
 use Rattle.r4_path.specs.Rows.{IsNarrow, IsRow, row_items, row_level}

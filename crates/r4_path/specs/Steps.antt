@@ -5,10 +5,10 @@ use Rattle.std.specs.Option.{option_map}
 use Rattle.r4_base.specs.Key.{least, rank, top}
 use Rattle.r4_base.specs.Tree.{IsNode, Name, Root, Span, Store}
 use Rattle.r4_base.specs.Value.{Value}
-use Rattle.r4_cell.specs.Patch.{NamesId}
-use Rattle.r4_cell.specs.Seen.{CellSeen, node_of}
-use Rattle.r4_cell.specs.declared.change.Fresh.{Fresh}
-use Rattle.r4_cell.specs.declared.change.Root.{Root as RootPair}
+use Rattle.r4_patch.specs.r4_cell.Patch.{NamesId}
+use Rattle.r4_patch.specs.r4_cell.Seen.{CellSeen, node_of}
+use Rattle.r4_patch.specs.r4_cell.declared.change.Fresh.{Fresh}
+use Rattle.r4_patch.specs.r4_cell.declared.change.Root.{Root as RootPair}
 use Rattle.r4_patch.specs.Joining.{ids_of}
 use Rattle.r4_patch.specs.Part.{IsPart}
 

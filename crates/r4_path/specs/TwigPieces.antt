@@ -4,9 +4,9 @@ use Rattle.std.specs.Prelude.{◌-◌}
 use Rattle.r4_base.specs.Key.{rank}
 use Rattle.r4_base.specs.Node.{items_of}
 use Rattle.r4_base.specs.declared.key.Key.{Key}
-use Rattle.r4_branch.specs.Pieces.{AreTwigPieces, names_of, pieces_in, twig_bytes, units_of}
-use Rattle.r4_branch.specs.declared.piece.TwigPiece.{TwigPiece}
-use Rattle.r4_cell.specs.Seen.{CellSeen, node_of}
+use Rattle.r4_graft.specs.r4_branch.Pieces.{AreTwigPieces, names_of, pieces_in, twig_bytes, units_of}
+use Rattle.r4_graft.specs.r4_branch.declared.piece.TwigPiece.{TwigPiece}
+use Rattle.r4_patch.specs.r4_cell.Seen.{CellSeen, node_of}
 use Rattle.r4_graft.specs.Splices.{place, spliced}
 
 abbrev pub twig_pieces : CellSeen → List TwigPiece

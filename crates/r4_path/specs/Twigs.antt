@@ -4,8 +4,8 @@ use Rattle.std.specs.Prelude.{Some}
 use Rattle.r4_base.specs.Key.{rank}
 use Rattle.r4_base.specs.Tree.{InNode, InSpan, IsNode, Name, Root, Span, Store}
 use Rattle.r4_base.specs.Value.{Value}
-use Rattle.r4_cell.specs.Patch.{HaveNames, NamesId}
-use Rattle.r4_cell.specs.Seen.{CellSeen, node_of}
+use Rattle.r4_patch.specs.r4_cell.Patch.{HaveNames, NamesId}
+use Rattle.r4_patch.specs.r4_cell.Seen.{CellSeen, node_of}
 use Rattle.r4_patch.specs.Joining.{ids_of}
 use Rattle.r4_patch.specs.Part.{IsPart}
 use Rattle.r4_path.specs.Steps.{AreNaming, AreSpanning, Ascends, Climbs, CountUp, Ends, Follow, IsFree, IsNameOf, Step}

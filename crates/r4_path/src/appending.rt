@@ -2,13 +2,13 @@
 
 ghost use Rattle.std.specs.Prelude.{◌≡◌, ◌+◌, ◌≤◌, ◌++◌, [], ◌∷◌, length, true};
 ghost use Rattle.r4_base.specs.Node.{count_of, fits_level, items_of, level_of};
-ghost use Rattle.r4_node40.specs.Edits.{GoesBetween};
-ghost use Rattle.r4_node40.specs.Laid.{IsNode, room_of};
-ghost use Rattle.r4_node40.specs.Loan.{bytes_of, with_bytes};
+ghost use Rattle.r4_leaf.specs.r4_node40.Edits.{GoesBetween};
+ghost use Rattle.r4_leaf.specs.r4_node40.Laid.{IsNode, room_of};
+ghost use Rattle.r4_leaf.specs.r4_node40.Loan.{bytes_of, with_bytes};
 ghost use Rattle.r4_path.specs.Nodes.{IsAppended};
 
 use r4_base::Key;
-use r4_node40::NodeMut;
+use r4_leaf::NodeMut;
 
 /// Puts an item behind the `count` items that the node has. There is room for it, and its key is above theirs.
 pub fn append(node: &mut NodeMut<'_>, count: u16, key: Key, plugin: u16, body: &[u8])

@@ -9,7 +9,7 @@ use crate::climbing::climb;
 use crate::gathering::gather;
 use crate::level::Level;
 use r4_base::Memory;
-use r4_cell::{Cell, Change, Fresh};
+use r4_patch::{Cell, Change, Fresh};
 use std::alloc::Global;
 use std::sync::Arc;
 

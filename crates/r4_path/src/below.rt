@@ -6,7 +6,7 @@ ghost use Rattle.r4_path.specs.Grafts.{HasBelow};
 
 use crate::gathering::add;
 use r4_base::Memory;
-use r4_cell::{Cell, Cells, Change};
+use r4_patch::{Cell, Cells, Change};
 use std::sync::Arc;
 
 /// The change with these old cells before its own, and these new cells before its own; the root is as in the change.

@@ -4,7 +4,7 @@ ghost use Rattle.std.specs.Prelude.{◌≡◌, ℕ, ◌<◌, ◌≤◌, drop, le
 ghost use Rattle.std.specs.Arc.{arc_value};
 ghost use Rattle.r4_base.specs.Key.{rank};
 ghost use Rattle.r4_base.specs.Node.{Item};
-ghost use Rattle.r4_node40.specs.View.{view_items};
+ghost use Rattle.r4_leaf.specs.r4_node40.View.{view_items};
 ghost use Rattle.r4_path.specs.Levels.{CanClimb, Climbed, IsStepOver, IsUnder, step_of};
 ghost use Rattle.r4_path.specs.Steps.{OnlyTakes};
 
@@ -13,8 +13,8 @@ use crate::level::Level;
 use crate::row::Row;
 use crate::sharing::share;
 use r4_base::{Key, Memory, get32};
-use r4_cell::{Cell, Cells, Fresh};
-use r4_node40::NodeView;
+use r4_leaf::NodeView;
+use r4_patch::{Cell, Cells, Fresh};
 use std::alloc::Global;
 use std::sync::Arc;
 

@@ -7,7 +7,7 @@ ghost use Rattle.r4_path.specs.Steps.{news, olds};
 
 use crate::level::Level;
 use r4_base::Memory;
-use r4_cell::{Cell, Cells, Change, Root};
+use r4_patch::{Cell, Cells, Change, Root};
 use std::alloc::Global;
 use std::sync::Arc;
 

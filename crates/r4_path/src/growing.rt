@@ -5,7 +5,7 @@ ghost use Rattle.std.specs.Arc.{arc_value};
 ghost use Rattle.r4_base.specs.Key.{least, top};
 ghost use Rattle.r4_base.specs.Tree.{Root as TreeRoot, Store};
 ghost use Rattle.r4_base.specs.Value.{Value};
-ghost use Rattle.r4_cell.specs.Patch.{IsChange};
+ghost use Rattle.r4_patch.specs.r4_cell.Patch.{IsChange};
 ghost use Rattle.r4_patch.specs.Joining.{patch_of_change};
 ghost use Rattle.r4_patch.specs.Part.{MeetsPart};
 ghost use Rattle.r4_path.specs.Growing.{Grows, HasNewRoot, IsRootIn};
@@ -15,7 +15,7 @@ ghost use Rattle.r4_path.specs.Steps.{Follow, OnlyTakes};
 use crate::numbers::take_number;
 use crate::pointing::fill_pointers;
 use r4_base::{Block, Memory, get32};
-use r4_cell::{Cell, Cells, Change, Fresh, Root, least, new_cell, top};
+use r4_patch::{Cell, Cells, Change, Fresh, Root, least, new_cell, top};
 use std::alloc::Global;
 use std::sync::Arc;
 

@@ -3,8 +3,8 @@
 ghost use Rattle.std.specs.Prelude.{ℕ, List, Option};
 ghost use Rattle.r4_base.specs.Tree.{Root, Store};
 ghost use Rattle.r4_base.specs.Value.{Value};
-ghost use Rattle.r4_cell.specs.Patch.{IsChange, patch_of};
-ghost use Rattle.r4_cell.specs.Seen.{CellSeen};
+ghost use Rattle.r4_patch.specs.r4_cell.Patch.{IsChange, patch_of};
+ghost use Rattle.r4_patch.specs.r4_cell.Seen.{CellSeen};
 ghost use Rattle.r4_patch.specs.Part.{MeetsPart};
 ghost use Rattle.r4_path.specs.Steps.{IsPathChange, Step, news, olds, root_pair};
 

@@ -1,6 +1,6 @@
 //! One level of a change (docs/volume.md, "Edits").
 
-use r4_cell::{Cell, Cells};
+use r4_patch::{Cell, Cells};
 use std::sync::Arc;
 
 /// A cell of the path, and those that come in its place.

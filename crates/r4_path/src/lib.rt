@@ -30,6 +30,12 @@ pub use leaves::leaf_level;
 pub use level::Level;
 pub use numbers::take_number;
 pub use pieces::{end_behind, pieces_of_cell, pieces_with, put_among};
+pub use r4_graft::{TwigPart, TwigPiece, extent_pieces, pack_twigs, part_at, place_of, splice};
+pub use r4_leaf::{
+    Given, KeyRange, Leaf, NodeMut, NodeView, cut_out, insert, middle_key, put_in, remake,
+    tail_part, write_stat,
+};
+pub use r4_patch::{Cell, Cells, Change, Fresh, follow, new_cell};
 pub use row::Row;
 pub use sharing::{pair, two};
 pub use twig_laws::{

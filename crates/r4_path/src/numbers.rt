@@ -3,7 +3,7 @@
 ghost use Rattle.std.specs.Prelude.{◌≡◌, ◌+◌, ◌<◌};
 
 use r4_base::NodeId;
-use r4_cell::Fresh;
+use r4_patch::Fresh;
 
 /// The next number for a new node.
 pub fn take_number(fresh: &mut Fresh) -> NodeId

@@ -2,14 +2,13 @@
 
 ghost use Rattle.std.specs.Prelude.{◌≡◌, drop, IfOk};
 ghost use Rattle.r4_base.specs.Key.{rank};
-ghost use Rattle.r4_branch.specs.Pieces.{next_of};
+ghost use Rattle.r4_graft.specs.r4_branch.Pieces.{next_of};
 ghost use Rattle.r4_graft.specs.Splices.{place};
 ghost use Rattle.r4_path.specs.TwigPieces.{ArePiecesOf, put_pieces, twig_pieces};
 
 use r4_base::{Key, Memory};
-use r4_branch::{TwigPiece, pieces_of};
-use r4_cell::Cell;
-use r4_graft::{place_of, splice};
+use r4_graft::{TwigPiece, pieces_of, place_of, splice};
+use r4_patch::Cell;
 use std::alloc::Global;
 
 /// The pieces of a twig.

@@ -8,9 +8,8 @@ ghost use Rattle.r4_path.specs.Nodes.{IsNodeOf, pointer_item};
 
 use crate::appending::append;
 use r4_base::{Block, BlockNo, NodeId, POINTER};
-use r4_cell::Cell;
-use r4_node40::NodeMut;
-use r4_twig::put_pointer;
+use r4_leaf::NodeMut;
+use r4_patch::{Cell, put_pointer};
 use std::sync::Arc;
 
 /// The body of a pointer to a node.

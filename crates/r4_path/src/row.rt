@@ -3,14 +3,14 @@
 ghost use Rattle.std.specs.Prelude.{◌≡◌, ◌+◌, ◌<◌, ◌≤◌, length, nat_le, slice_get, Some, IfOk, IfSome};
 ghost use Rattle.std.specs.Arc.{arc_value};
 ghost use Rattle.r4_base.specs.Node.{mkfs_id_of};
-ghost use Rattle.r4_node40.specs.Loan.{bytes_of, with_bytes};
+ghost use Rattle.r4_leaf.specs.r4_node40.Loan.{bytes_of, with_bytes};
 ghost use Rattle.r4_path.specs.Nodes.{IsNodeOf, pointer_item, weight, weight_of};
 
 use crate::appending::append;
 use crate::pointing::pointer_body;
 use r4_base::{Block, ITEM_HEADER, Key, Memory, NODE_ROOM, POINTER, TWIG};
-use r4_cell::Cell;
-use r4_node40::{ItemView, NodeMut, NodeView};
+use r4_leaf::{ItemView, NodeMut, NodeView};
+use r4_patch::Cell;
 use std::alloc::Global;
 use std::sync::Arc;
 

@@ -10,7 +10,7 @@ ghost use Rattle.r4_path.specs.Steps.{OnlyTakes};
 use crate::numbers::take_number;
 use crate::row::Row;
 use r4_base::{Memory, NODE_ROOM};
-use r4_cell::{Cell, Cells, Fresh, new_cell};
+use r4_patch::{Cell, Cells, Fresh, new_cell};
 use std::alloc::Global;
 use std::sync::Arc;
 

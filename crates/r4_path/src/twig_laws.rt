@@ -3,9 +3,9 @@
 ghost use Rattle.std.specs.Prelude.{◌≡◌, ◌≤◌, ◌↔◌, ◌++◌, ◌∷◌, [], ℕ, Contains, List, None, Option};
 ghost use Rattle.r4_base.specs.Tree.{Root, Store};
 ghost use Rattle.r4_base.specs.Value.{Value};
-ghost use Rattle.r4_cell.specs.Patch.{HaveNames, IsChange, Meets, patch_of};
-ghost use Rattle.r4_cell.specs.Seen.{CellSeen};
-ghost use Rattle.r4_cell.specs.declared.change.Root.{Root as RootPair};
+ghost use Rattle.r4_patch.specs.r4_cell.Patch.{HaveNames, IsChange, Meets, patch_of};
+ghost use Rattle.r4_patch.specs.r4_cell.Seen.{CellSeen};
+ghost use Rattle.r4_patch.specs.r4_cell.declared.change.Root.{Root as RootPair};
 ghost use Rattle.r4_patch.specs.Part.{MeetsPart};
 ghost use Rattle.r4_patch.specs.SecondRoot.{small_root};
 ghost use Rattle.r4_path.specs.Sharing.{IsSound};

@@ -6,3 +6,4 @@ mod placed;
 
 pub use choosing::choose;
 pub use placed::{How, Placed};
+pub use r4_cell::{Cell, on_disk_law};

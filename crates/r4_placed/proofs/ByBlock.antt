@@ -12,18 +12,18 @@ use Rattle.r4_base.specs.Tree.{Node, Store}
 use Rattle.r4_base.specs.Value.{Content, Value}
 use Rattle.r4_base.specs.declared.things.BlockNo.{BlockNo}
 use Rattle.r4_base.proofs.Members.{member_here, member_later, member_or_not, no_member}
-use Rattle.r4_cell.specs.Seen.{CellSeen}
-use Rattle.r4_space.specs.Space.{is_taken}
-use Rattle.r4_place.specs.Chosen.{block_of, fresh_blocks, placed_all}
-use Rattle.r4_place.specs.declared.placed.How.{How}
-use Rattle.r4_place.specs.declared.placed.How.TheVariants.{Fresh, Relocate, Overwrite}
-use Rattle.r4_place.specs.declared.placed.Placed.{Placed}
-use Rattle.r4_place.proofs.ChosenCells.{fresh_unused}
-use Rattle.r4_wander.proofs.Members.{any_cases, any_here, any_later, from_map, in_map}
-use Rattle.r4_wander.specs.declared.plan.LogPlan.{LogPlan}
-use Rattle.r4_commit.specs.Places.{block_given, kept_at, overwritten, overwritten_blocks, place_of}
-use Rattle.r4_commit.specs.Plannable.{IsPlannable, is_marked_in, is_spoken_for}
-use Rattle.r4_commit.proofs.Safety.{not_taken}
+use Rattle.r4_sealed.specs.r4_cell.Seen.{CellSeen}
+use Rattle.r4_sealed.specs.r4_space.Space.{is_taken}
+use Rattle.r4_sealed.specs.r4_place.Chosen.{block_of, fresh_blocks, placed_all}
+use Rattle.r4_sealed.specs.r4_place.declared.placed.How.{How}
+use Rattle.r4_sealed.specs.r4_place.declared.placed.How.TheVariants.{Fresh, Relocate, Overwrite}
+use Rattle.r4_sealed.specs.r4_place.declared.placed.Placed.{Placed}
+use Rattle.r4_sealed.proofs.r4_place.ChosenCells.{fresh_unused}
+use Rattle.r4_sealed.proofs.r4_wander.Members.{any_cases, any_here, any_later, from_map, in_map}
+use Rattle.r4_sealed.specs.r4_wander.declared.plan.LogPlan.{LogPlan}
+use Rattle.r4_sealed.specs.r4_commit.Places.{block_given, kept_at, overwritten, overwritten_blocks, place_of}
+use Rattle.r4_sealed.specs.r4_commit.Plannable.{IsPlannable, is_marked_in, is_spoken_for}
+use Rattle.r4_sealed.proofs.r4_commit.Safety.{not_taken}
 use Rattle.r4_sealed.specs.Written.{ComesFrom, Frees}
 use Rattle.r4_placed.specs.Flushing.{Flushing, IsAtRest, answers_by_block, cells_by_block, commit_by_block, commit_of}
 use Rattle.r4_placed.specs.Flushing.{named_by_block}

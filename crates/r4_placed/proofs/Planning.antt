@@ -12,21 +12,21 @@ use Rattle.r4_base.specs.Tree.{Node}
 use Rattle.r4_base.specs.Value.{Content, Value}
 use Rattle.r4_base.specs.declared.things.BlockNo.{BlockNo}
 use Rattle.r4_base.proofs.Members.{member_here, member_later, member_or_not, no_member}
-use Rattle.r4_cell.specs.Seen.{CellSeen}
-use Rattle.r4_space.specs.Space.{Space, is_taken}
-use Rattle.r4_sets.proofs.Carried.{not_true}
-use Rattle.r4_place.specs.Chosen.{AreChosen, IsChosen, behind, block_of, fresh_blocks, placed_all, placed_in}
-use Rattle.r4_place.specs.declared.placed.How.{How}
-use Rattle.r4_place.specs.declared.placed.How.TheVariants.{Fresh, Relocate, Overwrite}
-use Rattle.r4_place.specs.declared.placed.Placed.{Placed}
-use Rattle.r4_place.proofs.ChosenCells.{fresh_different, fresh_unused, fresh_used, others_stay, rest_stays}
-use Rattle.r4_wander.proofs.Members.{any_cases, any_here, any_later, in_map}
-use Rattle.r4_wander.specs.declared.plan.LogPlan.{LogPlan}
-use Rattle.r4_commit.specs.Places.{block_given, kept_at, overwritten, overwritten_blocks, place_of}
-use Rattle.r4_commit.specs.Plannable.{IsPlannable, is_marked_in, is_spoken_for}
-use Rattle.r4_commit.proofs.PlanFacts.{given_fresh, in_fresh}
-use Rattle.r4_commit.proofs.Safety.{not_taken}
-use Rattle.r4_commit.proofs.Differing.{different_apart, different_right}
+use Rattle.r4_sealed.specs.r4_cell.Seen.{CellSeen}
+use Rattle.r4_sealed.specs.r4_space.Space.{Space, is_taken}
+use Rattle.r4_sealed.proofs.r4_sets.Carried.{not_true}
+use Rattle.r4_sealed.specs.r4_place.Chosen.{AreChosen, IsChosen, behind, block_of, fresh_blocks, placed_all, placed_in}
+use Rattle.r4_sealed.specs.r4_place.declared.placed.How.{How}
+use Rattle.r4_sealed.specs.r4_place.declared.placed.How.TheVariants.{Fresh, Relocate, Overwrite}
+use Rattle.r4_sealed.specs.r4_place.declared.placed.Placed.{Placed}
+use Rattle.r4_sealed.proofs.r4_place.ChosenCells.{fresh_different, fresh_unused, fresh_used, others_stay, rest_stays}
+use Rattle.r4_sealed.proofs.r4_wander.Members.{any_cases, any_here, any_later, in_map}
+use Rattle.r4_sealed.specs.r4_wander.declared.plan.LogPlan.{LogPlan}
+use Rattle.r4_sealed.specs.r4_commit.Places.{block_given, kept_at, overwritten, overwritten_blocks, place_of}
+use Rattle.r4_sealed.specs.r4_commit.Plannable.{IsPlannable, is_marked_in, is_spoken_for}
+use Rattle.r4_sealed.proofs.r4_commit.PlanFacts.{given_fresh, in_fresh}
+use Rattle.r4_sealed.proofs.r4_commit.Safety.{not_taken}
+use Rattle.r4_sealed.proofs.r4_commit.Differing.{different_apart, different_right}
 use Rattle.r4_sealed.specs.Written.{IsSpaceOf}
 use Rattle.r4_placed.specs.Flushing.{Flushing, IsAtRest, commit_of, moves, name_after}
 use Rattle.r4_sealed.specs.Commits.{HasPlan, IsCommitOn, spot, spot_of}

@@ -16,9 +16,9 @@ use Rattle.r4_base.specs.Tree.{Name, Node, Span}
 use Rattle.r4_base.specs.Value.{Value}
 use Rattle.r4_base.specs.declared.items.Unit.{Unit as ExtentUnit}
 use Rattle.r4_base.specs.declared.key.Key.{Key}
-use Rattle.r4_cell.specs.Seen.{CellSeen, node_of}
-use Rattle.r4_wander.proofs.Members.{any_cases, any_here, any_later, in_map}
-use Rattle.r4_sets.specs.Renaming.{IsRenamed, renamed_name}
+use Rattle.r4_sealed.specs.r4_cell.Seen.{CellSeen, node_of}
+use Rattle.r4_sealed.proofs.r4_wander.Members.{any_cases, any_here, any_later, in_map}
+use Rattle.r4_sealed.specs.r4_sets.Renaming.{IsRenamed, renamed_name}
 use Rattle.r4_placed.specs.RenamedItems.{AreItemsRenamed, AreUnitsRenamed, IsItemRenamed, IsUnitRenamed}
 
 not_kind : (n i j : ℕ) → i ≢ j → eqb n i ≡ true → eqb n j ≡ false

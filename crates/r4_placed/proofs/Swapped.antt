@@ -4,7 +4,7 @@ use Rattle.std.proofs.Common.{subst}
 use Rattle.std.specs.Prelude.{Contains}
 use Rattle.std.proofs.lemmas.Bool.{cases_eq, eq-eqb, ne_eqb}
 use Rattle.r4_base.proofs.Choices.{nothing_in}
-use Rattle.r4_wander.proofs.Members.{any_cases, any_here, any_later}
+use Rattle.r4_sealed.proofs.r4_wander.Members.{any_cases, any_here, any_later}
 use Rattle.r4_placed.specs.Flushing.{swapped}
 
 -- the two pairs have no number in common

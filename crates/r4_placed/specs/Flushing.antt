@@ -12,13 +12,13 @@ use Rattle.r4_base.specs.Volume.{HasContent}
 use Rattle.r4_base.specs.declared.superblock.Super40.{Super40}
 use Rattle.r4_base.specs.declared.things.AtomNo.{AtomNo}
 use Rattle.r4_base.specs.declared.things.BlockNo.{BlockNo}
-use Rattle.r4_cell.specs.Seen.{CellSeen}
-use Rattle.r4_space.specs.Lawful.{IsLawful}
-use Rattle.r4_space.specs.Space.{Space}
-use Rattle.r4_place.specs.Chosen.{AreChosen, placed_all}
-use Rattle.r4_place.specs.declared.placed.Placed.{Placed}
-use Rattle.r4_wander.specs.declared.plan.LogPlan.{LogPlan}
-use Rattle.r4_commit.specs.Places.{block_given}
+use Rattle.r4_sealed.specs.r4_cell.Seen.{CellSeen}
+use Rattle.r4_sealed.specs.r4_space.Lawful.{IsLawful}
+use Rattle.r4_sealed.specs.r4_space.Space.{Space}
+use Rattle.r4_sealed.specs.r4_place.Chosen.{AreChosen, placed_all}
+use Rattle.r4_sealed.specs.r4_place.declared.placed.Placed.{Placed}
+use Rattle.r4_sealed.specs.r4_wander.declared.plan.LogPlan.{LogPlan}
+use Rattle.r4_sealed.specs.r4_commit.Places.{block_given}
 use Rattle.r4_sealed.specs.Commits.{Commit, spot, spot_of}
 use Rattle.r4_sealed.specs.Written.{IsSpaceOf}
 

@@ -7,3 +7,4 @@ mod plans;
 
 pub use naming::{cells_have_places, names_become_blocks, renamed_blocks_are_cells};
 pub use plans::plans_can_be_made;
+pub use r4_sealed::{CommitPlan, on_disk_law, plan};

@@ -5,9 +5,9 @@ ghost use Rattle.std.specs.Prelude.{◌≡◌, ◌≢◌, ◌≤◌, ◌<◌, �
 ghost use Rattle.r4_base.specs.Node.{items_of};
 ghost use Rattle.r4_base.specs.Tree.{Node};
 ghost use Rattle.r4_base.specs.Value.{Content, Value};
-ghost use Rattle.r4_cell.specs.Seen.{CellSeen, node_of};
-ghost use Rattle.r4_place.specs.Chosen.{fresh_blocks, placed_all};
-ghost use Rattle.r4_sets.specs.Renaming.{IsRenamed};
+ghost use Rattle.r4_sealed.specs.r4_cell.Seen.{CellSeen, node_of};
+ghost use Rattle.r4_sealed.specs.r4_place.Chosen.{fresh_blocks, placed_all};
+ghost use Rattle.r4_sealed.specs.r4_sets.Renaming.{IsRenamed};
 ghost use Rattle.r4_sealed.specs.Commits.{spot};
 ghost use Rattle.r4_sealed.specs.Written.{IsSpaceOf};
 ghost use Rattle.r4_placed.specs.Flushing.{Flushing, IsAtRest, name_after};

@@ -3,9 +3,9 @@
 
 ghost use Rattle.std.specs.Prelude.{ℕ, []};
 ghost use Rattle.r4_base.specs.Value.{Content};
-ghost use Rattle.r4_place.specs.Chosen.{placed_all};
-ghost use Rattle.r4_wander.specs.declared.plan.LogPlan.{LogPlan};
-ghost use Rattle.r4_commit.specs.Plannable.{IsPlannable};
+ghost use Rattle.r4_sealed.specs.r4_place.Chosen.{placed_all};
+ghost use Rattle.r4_sealed.specs.r4_wander.declared.plan.LogPlan.{LogPlan};
+ghost use Rattle.r4_sealed.specs.r4_commit.Plannable.{IsPlannable};
 ghost use Rattle.r4_sealed.specs.Commits.{HasPlan, IsCommitOn};
 ghost use Rattle.r4_placed.specs.Flushing.{Flushing, IsAtRest, commit_by_block, commit_of};
 

@@ -9,16 +9,16 @@ use Rattle.r4_base.specs.Tree.{IsTree, Root, Store, UnitAt}
 use Rattle.r4_base.specs.Value.{Content, Value, at_key}
 use Rattle.r4_base.specs.Volume.{HasUnits}
 use Rattle.r4_base.proofs.Trees.{unit_iff, unit_range}
-use Rattle.r4_cell.specs.Patch.{by_name, root_of_pair}
-use Rattle.r4_cell.specs.Seen.{CellSeen}
-use Rattle.r4_cell.specs.declared.change.Root.{Root as RootPair}
+use Rattle.r4_path.specs.r4_cell.Patch.{by_name, root_of_pair}
+use Rattle.r4_path.specs.r4_cell.Seen.{CellSeen}
+use Rattle.r4_path.specs.r4_cell.declared.change.Root.{Root as RootPair}
 use Rattle.r4_content.specs.Course.{asked}
 use Rattle.r4_content.specs.Edited.{Intervals, is_between, is_in}
 use Rattle.r4_content.specs.Meaning.{course, greatest_size}
 use Rattle.r4_content.specs.Seen.{IsSeen, of_seen}
 use Rattle.r4_content.specs.declared.command.Command.{Command}
-use Rattle.r4_patch.proofs.PartCells.{tree_is_part}
-use Rattle.r4_patch.proofs.PartUnits.{held_unit}
+use Rattle.r4_path.proofs.r4_patch.PartCells.{tree_is_part}
+use Rattle.r4_path.proofs.r4_patch.PartUnits.{held_unit}
 use Rattle.r4_reach.specs.Answer.{HasAll, IsReachOf}
 use Rattle.r4_reach.specs.Demand.{Demand, IsPlain}
 use Rattle.r4_reach.specs.Needs.{Ask, demand_on}

@@ -9,10 +9,10 @@ use Rattle.std.proofs.lemmas.List.Sums.{sum_by-cons}
 use Rattle.r4_base.specs.Node.{items_of}
 use Rattle.r4_base.specs.Tree.{Name, Node, Root, Store}
 use Rattle.r4_base.specs.Value.{Value}
-use Rattle.r4_branch.specs.Pieces.{twig_bytes}
+use Rattle.r4_path.specs.r4_branch.Pieces.{twig_bytes}
 use Rattle.r4_content.specs.Edited.{Edits, Intervals}
-use Rattle.r4_patch.specs.Part.{IsPart}
-use Rattle.r4_patch.proofs.PartCells.{one_above, root_high}
+use Rattle.r4_path.specs.r4_patch.Part.{IsPart}
+use Rattle.r4_path.proofs.r4_patch.PartCells.{one_above, root_high}
 use Rattle.r4_reach.specs.Demand.{Demand, ask, ask_of, heard, heard_one}
 use Rattle.r4_reach.specs.Enough.{IsLongEnough, LeadsUp, Numbered}
 use Rattle.r4_content.specs.Bodies.{larger}

@@ -6,9 +6,9 @@ use Rattle.std.proofs.lemmas.Option.{none-some}
 use Rattle.r4_base.specs.Tree.{InNode, IsData, Name, Node, Root, Store}
 use Rattle.r4_base.specs.Value.{Value}
 use Rattle.r4_base.proofs.Trees.{one_cell}
-use Rattle.r4_patch.specs.Part.{IsPart}
-use Rattle.r4_patch.proofs.PartCells.{in_name, in_namer, in_twig, level_above, named_once, one_above, one_piece}
-use Rattle.r4_patch.proofs.PartCells.{parent, root_high, root_unnamed}
+use Rattle.r4_path.specs.r4_patch.Part.{IsPart}
+use Rattle.r4_path.proofs.r4_patch.PartCells.{in_name, in_namer, in_twig, level_above, named_once, one_above, one_piece}
+use Rattle.r4_path.proofs.r4_patch.PartCells.{parent, root_high, root_unnamed}
 use Rattle.r4_reach.specs.Demand.{Covers, Demand, IsPlain, ask, ask_of, heard, heard_one}
 use Rattle.r4_reach.specs.Reach.{HasReached, HasRoot, HasTouched, IsAsked, IsAt, IsBeside, IsReadAt}
 use Rattle.r4_reach.specs.Reach.{IsReached, IsRootAsking, IsWritten, IsWrittenAt, Touches, is_body}

@@ -9,10 +9,10 @@ use Rattle.r4_base.specs.Key.{least, top}
 use Rattle.r4_base.specs.Tree.{Holds, InName, InNode, IsData, IsTree, Name, Node, Root, Store, UnitAt}
 use Rattle.r4_base.specs.Value.{Value}
 use Rattle.r4_base.proofs.Trees.{covered_low, unit_iff, unit_range}
-use Rattle.r4_cell.specs.Patch.{IsPatch, Leaves, Meets, Patch, over, place, root_after}
-use Rattle.r4_patch.specs.Part.{IsPart}
-use Rattle.r4_patch.proofs.PartCells.{root_high, to_piece, tree_is_part}
-use Rattle.r4_patch.proofs.Placed.{placed_tree}
+use Rattle.r4_path.specs.r4_cell.Patch.{IsPatch, Leaves, Meets, Patch, over, place, root_after}
+use Rattle.r4_path.specs.r4_patch.Part.{IsPart}
+use Rattle.r4_path.proofs.r4_patch.PartCells.{root_high, to_piece, tree_is_part}
+use Rattle.r4_path.proofs.r4_patch.Placed.{placed_tree}
 use Rattle.r4_reach.specs.Demand.{Covers, Demand, IsPlain, ask, heard}
 use Rattle.r4_reach.specs.Reach.{HasReached, HasRoot, HasTouched, IsReached, IsRootAsking}
 use Rattle.r4_reach.specs.Reach.{Touches}

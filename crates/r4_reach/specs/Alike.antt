@@ -2,9 +2,9 @@
 use Rattle.std.specs.Prelude.{◌≡◌, ℕ, ◌<◌, ◌≤◌, List, All, Some, Option, false}
 use Rattle.r4_base.specs.Tree.{IsTree, Root, Store}
 use Rattle.r4_base.specs.Value.{Value}
-use Rattle.r4_cell.specs.Patch.{IsPatch, Leaves, Meets, Patch, place}
+use Rattle.r4_path.specs.r4_cell.Patch.{IsPatch, Leaves, Meets, Patch, place}
 use Rattle.r4_content.specs.Edited.{Edits, Intervals}
-use Rattle.r4_patch.specs.Part.{IsPart}
+use Rattle.r4_path.specs.r4_patch.Part.{IsPart}
 use Rattle.r4_reach.specs.Demand.{Demand, IsPlain, ask}
 use Rattle.r4_reach.specs.Enough.{LeadsUp, Numbered}
 use Rattle.r4_reach.specs.Needs.{Ask, changes_pieces, come_of, demand_of}

@@ -4,15 +4,15 @@ use Rattle.std.specs.FinMap.{find}
 use Rattle.std.specs.Ordering.{nat_cmp}
 use Rattle.r4_base.specs.Tree.{Node, Store, UnitAt}
 use Rattle.r4_base.specs.Value.{Value}
-use Rattle.r4_cell.specs.Patch.{by_name, root_of_pair}
-use Rattle.r4_cell.specs.Seen.{CellSeen}
-use Rattle.r4_cell.specs.declared.change.Root.{Root}
+use Rattle.r4_path.specs.r4_cell.Patch.{by_name, root_of_pair}
+use Rattle.r4_path.specs.r4_cell.Seen.{CellSeen}
+use Rattle.r4_path.specs.r4_cell.declared.change.Root.{Root}
 use Rattle.r4_content.specs.Edited.{Pairs, is_in}
 use Rattle.r4_content.specs.Course.{asked}
 use Rattle.r4_content.specs.Meaning.{course, greatest_size}
 use Rattle.r4_content.specs.Seen.{Rises, of_seen}
 use Rattle.r4_content.specs.declared.command.Command.{Command}
-use Rattle.r4_patch.specs.Part.{IsPart}
+use Rattle.r4_path.specs.r4_patch.Part.{IsPart}
 use Rattle.r4_reach.specs.Needs.{Ask, demand_on}
 use Rattle.r4_reach.specs.Reach.{HasTouched, IsRead, IsRootAsking, IsWritten}
 use Rattle.r4_reach.specs.Touched.{IsKindIn, body_on}

@@ -6,12 +6,12 @@ use Rattle.r4_base.specs.Key.{key_of_rank, rank}
 use Rattle.r4_base.specs.Tree.{Name, Node}
 use Rattle.r4_base.specs.Value.{Byte, Value}
 use Rattle.r4_base.specs.Volume.{byte_rank}
-use Rattle.r4_branch.specs.declared.piece.TwigPart.TheVariants.{Blocks, Pointer}
-use Rattle.r4_branch.specs.declared.piece.TwigPiece.{TwigPiece}
+use Rattle.r4_path.specs.r4_branch.declared.piece.TwigPart.TheVariants.{Blocks, Pointer}
+use Rattle.r4_path.specs.r4_branch.declared.piece.TwigPiece.{TwigPiece}
 use Rattle.r4_content.specs.Edited.{Edits}
 use Rattle.r4_content.specs.Examples.{f, made}
 use Rattle.r4_base.specs.declared.key.Key.{Key}
-use Rattle.r4_node40.specs.Edits.{header_fields}
+use Rattle.r4_path.specs.r4_node40.Edits.{header_fields}
 use Rattle.r4_reach.specs.Needs.{Ask}
 use Rattle.r4_reach.specs.Touched.{Body}
 

@@ -4,7 +4,7 @@ use Rattle.std.specs.Prelude.{Option, None, Some}
 use Rattle.r4_base.specs.Key.{least, top}
 use Rattle.r4_base.specs.Tree.{Covers, Root, Store}
 use Rattle.r4_base.specs.Value.{Value}
-use Rattle.r4_cell.specs.Seen.{CellSeen, node_of}
+use Rattle.r4_path.specs.r4_cell.Seen.{CellSeen, node_of}
 use Rattle.r4_reach.specs.Demand.{Demand, ask, ask_of}
 use Rattle.r4_reach.specs.Needs.{Ask}
 

@@ -9,16 +9,16 @@ use Rattle.r4_base.specs.Key.{key_of_rank, rank}
 use Rattle.r4_base.specs.Node.{items_of}
 use Rattle.r4_base.specs.Tree.{Name, Node, Span}
 use Rattle.r4_base.specs.Value.{Value}
-use Rattle.r4_branch.specs.Pieces.{is_at, last_end, pieces_in, twig_bytes}
-use Rattle.r4_branch.specs.declared.piece.TwigPart.{TwigPart}
-use Rattle.r4_branch.specs.declared.piece.TwigPart.TheVariants.{Blocks, Pointer}
-use Rattle.r4_branch.specs.declared.piece.TwigPiece.{TwigPiece}
+use Rattle.r4_path.specs.r4_branch.Pieces.{is_at, last_end, pieces_in, twig_bytes}
+use Rattle.r4_path.specs.r4_branch.declared.piece.TwigPart.{TwigPart}
+use Rattle.r4_path.specs.r4_branch.declared.piece.TwigPart.TheVariants.{Blocks, Pointer}
+use Rattle.r4_path.specs.r4_branch.declared.piece.TwigPiece.{TwigPiece}
 use Rattle.r4_content.specs.Bodies.{larger, smaller}
 use Rattle.r4_content.specs.Edited.{Edits, Intervals, Pairs, is_in, put_keys}
 use Rattle.r4_content.specs.Listed.{list_edited}
 use Rattle.r4_content.specs.declared.command.Command.{Command}
-use Rattle.r4_graft.specs.Splices.{parted, place, spliced}
-use Rattle.r4_leaf.specs.Units.{LeafUnit, is_between, leaf_bytes}
+use Rattle.r4_path.specs.r4_graft.Splices.{parted, place, spliced}
+use Rattle.r4_path.specs.r4_leaf.Units.{LeafUnit, is_between, leaf_bytes}
 use Rattle.r4_path.specs.Nodes.{weight}
 use Rattle.r4_reach.specs.Demand.{Demand}
 use Rattle.r4_reach.specs.Reach.{is_body}

@@ -5,7 +5,7 @@ ghost use Rattle.r4_base.specs.Fresh.{root_key};
 ghost use Rattle.r4_base.specs.Key.{least, rank};
 ghost use Rattle.r4_base.specs.Value.{Byte};
 ghost use Rattle.r4_base.specs.Volume.{root_object, stat_rank};
-ghost use Rattle.r4_branch.specs.Pieces.{twig_bytes};
+ghost use Rattle.r4_path.specs.r4_branch.Pieces.{twig_bytes};
 ghost use Rattle.r4_content.specs.Examples.{at, at_key_of, f, made, three_bytes, way_to_f};
 ghost use Rattle.r4_content.specs.declared.command.Command.TheVariants.{Truncate, Write};
 ghost use Rattle.r4_reach.specs.Examples.{behind, byte, hole_twig, leaf_gone, left_leaf, no_puts, other_file};

@@ -9,3 +9,6 @@ pub use laws::{
     answers_hold_in_the_tree, commands_ask_plainly, reach_is_the_same_without_others,
     reach_rests_on_its_cells, touched_keys_are_held, written_cells_suffice,
 };
+pub use r4_path::{
+    Cell, Cells, Change, Fresh, Given, KeyRange, insert, pieces_of_cell, tail_part, write_stat,
+};

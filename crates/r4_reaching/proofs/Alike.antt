@@ -6,11 +6,11 @@ use Rattle.r4_base.specs.Tree.{Node, Root, Store}
 use Rattle.r4_base.specs.Value.{Value}
 use Rattle.r4_cell.specs.Patch.{by_name}
 use Rattle.r4_cell.specs.Seen.{CellSeen}
-use Rattle.r4_marking.specs.Marks.{AreChosen, AreMarks}
-use Rattle.r4_patch.specs.Part.{IsPart}
-use Rattle.r4_reach.specs.Demand.{Demand, ask, heard}
-use Rattle.r4_reach.specs.Needs.{Ask}
-use Rattle.r4_reach.specs.Reach.{IsAt, IsRead, IsReadAt, IsRootAsking, IsWritten}
+use Rattle.r4_judging.specs.r4_marking.Marks.{AreChosen, AreMarks}
+use Rattle.r4_touching.specs.r4_patch.Part.{IsPart}
+use Rattle.r4_touching.specs.r4_reach.Demand.{Demand, ask, heard}
+use Rattle.r4_touching.specs.r4_reach.Needs.{Ask}
+use Rattle.r4_touching.specs.r4_reach.Reach.{IsAt, IsRead, IsReadAt, IsRootAsking, IsWritten}
 
 -- another one, but for the keys that are read
 abbrev pub reading : Demand Ask → (ℕ → Bool) → Demand Ask

@@ -6,7 +6,7 @@ use Rattle.std.specs.Option.{option_map}
 use Rattle.std.proofs.lemmas.List.{length-map}
 use Rattle.std.proofs.lemmas.Option.{none-some, same_Some}
 use Rattle.r4_base.specs.Key.{least, top}
-use Rattle.r4_build.specs.Building.{HaveLawfulKeys}
+use Rattle.r4_spared.specs.r4_build.Building.{HaveLawfulKeys}
 use Rattle.r4_cell.specs.Patch.{by_name, root_of_pair}
 use Rattle.r4_cell.specs.Seen.{CellSeen}
 use Rattle.r4_cell.specs.declared.change.Root.{Root}
@@ -17,15 +17,15 @@ use Rattle.r4_content.specs.declared.edits.Edits.{Edits as HeldEdits}
 use Rattle.r4_content.specs.declared.edits.Interval.{Interval}
 use Rattle.r4_content.specs.declared.seen.Seen.{Seen}
 use Rattle.r4_content.proofs.EditLaws.{in_append}
-use Rattle.r4_leaf_demands.specs.Leaves.{IsInLeaves, leaf_demand}
-use Rattle.r4_marking.specs.Marks.{AreMarks, AreMarksOf, ask_seen}
-use Rattle.r4_marking.specs.declared.demands.Asking.{Asking}
-use Rattle.r4_marking.specs.declared.marking.Marks.{Marks}
-use Rattle.r4_reach.specs.Leaves.{LieInLeaves, more_in, most_of}
-use Rattle.r4_reach.specs.Needs.{demand_on}
-use Rattle.r4_reach.specs.Touched.{body_on, edits_on, kind_reads, reads_on}
+use Rattle.r4_bodies.specs.r4_leaf_demands.Leaves.{IsInLeaves, leaf_demand}
+use Rattle.r4_judging.specs.r4_marking.Marks.{AreMarks, AreMarksOf, ask_seen}
+use Rattle.r4_judging.specs.r4_marking.declared.demands.Asking.{Asking}
+use Rattle.r4_judging.specs.r4_marking.declared.marking.Marks.{Marks}
+use Rattle.r4_touching.specs.r4_reach.Leaves.{LieInLeaves, more_in, most_of}
+use Rattle.r4_touching.specs.r4_reach.Needs.{demand_on}
+use Rattle.r4_touching.specs.r4_reach.Touched.{body_on, edits_on, kind_reads, reads_on}
 use Rattle.r4_search.specs.Pool.{PoolState}
-use Rattle.r4_seeing.specs.Looking.{met_cells}
+use Rattle.r4_touching.specs.r4_seeing.Looking.{met_cells}
 use Rattle.r4_reaching.specs.Answers.{AreReadKeys, IsFrom, IsReach, IsTouched, asked_by, has_to_lie}
 use Rattle.r4_reaching.specs.Gathering.{IsPartMet}
 use Rattle.r4_reaching.specs.declared.reached.Reach.{Reach}

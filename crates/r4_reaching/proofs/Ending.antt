@@ -12,15 +12,15 @@ use Rattle.r4_content.specs.Held.{pairs_of}
 use Rattle.r4_content.specs.declared.command.Command.{Command}
 use Rattle.r4_content.specs.declared.seen.Seen.{Seen}
 use Rattle.r4_content.proofs.EditLaws.{in_append}
-use Rattle.r4_gather.specs.Asking.{EndsIn, StaysOver}
-use Rattle.r4_gather.proofs.Staying.{stays_both}
+use Rattle.r4_touching.specs.r4_gather.Asking.{EndsIn, StaysOver}
+use Rattle.r4_touching.proofs.r4_gather.Staying.{stays_both}
 use Rattle.r4_outside.specs.Device.{State}
 use Rattle.r4_search.specs.Keeping.{Shared, WereAnswered, keeping_state, met_in}
 use Rattle.r4_search.specs.Pool.{IsFrom, IsKnown, PoolState}
 use Rattle.r4_search.specs.declared.pool.FetchFault.{FetchFault}
 use Rattle.r4_search.specs.declared.pool.FetchFault.TheVariants.{Memory}
-use Rattle.r4_seeing.specs.Looking.{IsLooking}
-use Rattle.r4_seeing.specs.Seeing.{IsSeeing}
+use Rattle.r4_touching.specs.r4_seeing.Looking.{IsLooking}
+use Rattle.r4_touching.specs.r4_seeing.Seeing.{IsSeeing}
 use Rattle.r4_reaching.specs.Answers.{IsAllSeen, IsReach, IsSamePool, StopsAsking, StopsReach, StopsWriting, TouchesExtent, asked_by}
 use Rattle.r4_reaching.specs.declared.reached.Reach.{Reach}
 

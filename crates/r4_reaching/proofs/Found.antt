@@ -11,13 +11,13 @@ use Rattle.r4_cell.specs.Patch.{by_name}
 use Rattle.r4_cell.specs.Seen.{CellSeen, node_of}
 use Rattle.r4_content.specs.Edited.{Intervals, Pairs, is_in}
 use Rattle.r4_content.specs.declared.command.Command.{Command}
-use Rattle.r4_path.proofs.Rising.{hi_is, level_is, lo_is}
-use Rattle.r4_reach.specs.Leaves.{LieInLeaves}
+use Rattle.r4_touching.proofs.r4_path.Rising.{hi_is, level_is, lo_is}
+use Rattle.r4_touching.specs.r4_reach.Leaves.{LieInLeaves}
 use Rattle.r4_search.specs.Keeping.{Shared, WereAnswered, keeping_state, met_in}
 use Rattle.r4_search.specs.Pool.{PoolState}
-use Rattle.r4_seeing.specs.Looking.{AreFound, IsFoundAt, met_cells}
-use Rattle.r4_suited.specs.Suited.{AreLawfulSeen, IsLawfulSeen}
-use Rattle.r4_suited.proofs.Cells.{cell_lawful}
+use Rattle.r4_touching.specs.r4_seeing.Looking.{AreFound, IsFoundAt, met_cells}
+use Rattle.r4_spared.specs.r4_suited.Suited.{AreLawfulSeen, IsLawfulSeen}
+use Rattle.r4_spared.proofs.r4_suited.Cells.{cell_lawful}
 use Rattle.r4_touching.specs.Touching.{AreInLeaves}
 
 true_or_false : (b : Bool) → (b ≡ true) ⊎ (b ≡ false)

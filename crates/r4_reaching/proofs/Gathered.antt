@@ -16,7 +16,7 @@ use Rattle.std.proofs.lemmas.Map.Made.{AllPairs-from_IsDistinct, Contains-from_v
 use Rattle.std.proofs.lemmas.Map.Views.{Contains-from_lookup, lookup-from_Contains}
 use Rattle.r4_cell.specs.Patch.{HaveNames}
 use Rattle.r4_cell.specs.Seen.{CellSeen}
-use Rattle.r4_patch.proofs.Members.{cases, here, later, none}
+use Rattle.r4_touching.proofs.r4_patch.Members.{cases, here, later, none}
 use Rattle.r4_search.specs.Keeping.{Shared, met_in}
 use Rattle.r4_reaching.specs.Gathering.{AreAllMet, HaveNumbers}
 

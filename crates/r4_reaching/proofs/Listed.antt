@@ -9,14 +9,14 @@ use Rattle.r4_cell.specs.Patch.{by_name, root_of_pair}
 use Rattle.r4_cell.specs.Seen.{CellSeen, node_of}
 use Rattle.r4_cell.specs.declared.change.Root.{Root as RootPair}
 use Rattle.r4_judging.specs.Judging.{HangTogether}
-use Rattle.r4_marking.specs.Marks.{AreLevels, AreMet}
-use Rattle.r4_patch.specs.Part.{IsPart}
-use Rattle.r4_patch.proofs.Members.{absent, distinct, there}
-use Rattle.r4_path.proofs.Rising.{lo_is}
+use Rattle.r4_judging.specs.r4_marking.Marks.{AreLevels, AreMet}
+use Rattle.r4_touching.specs.r4_patch.Part.{IsPart}
+use Rattle.r4_touching.proofs.r4_patch.Members.{absent, distinct, there}
+use Rattle.r4_touching.proofs.r4_path.Rising.{lo_is}
 use Rattle.r4_search.specs.Pool.{PoolState}
-use Rattle.r4_seeing.specs.Looking.{AreHung, met_cells}
-use Rattle.r4_work.specs.Order.{AreInOrder, place, place_of}
-use Rattle.r4_work.proofs.Places.{top_small}
+use Rattle.r4_touching.specs.r4_seeing.Looking.{AreHung, met_cells}
+use Rattle.r4_spared.specs.r4_work.Order.{AreInOrder, place, place_of}
+use Rattle.r4_spared.proofs.r4_work.Places.{top_small}
 use Rattle.r4_reaching.specs.Gathering.{AreAllMet, IsOneMet}
 
 pub same_store : (p : PoolState) (root : RootPair) (cells : List CellSeen) → AreHung p root → AreAllMet p.met cells

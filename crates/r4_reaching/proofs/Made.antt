@@ -18,27 +18,27 @@ use Rattle.r4_content.specs.Edited.{Edits, Intervals, Pairs, changed, is_in}
 use Rattle.r4_content.specs.declared.command.Command.{Command}
 use Rattle.r4_content.proofs.EditLaws.{in_append}
 use Rattle.r4_judging.specs.Judging.{IsSound}
-use Rattle.r4_leaf_demands.specs.Leaves.{AreOfLeaves, IsInLeaves, leaf_demand}
-use Rattle.r4_leaf_demands.proofs.Alike.{asks_as, marks_same}
-use Rattle.r4_leaf_demands.proofs.Weighed.{sound as weighed}
-use Rattle.r4_leaf_edits.specs.Made.{spread_keys}
-use Rattle.r4_marking.specs.Marks.{AreMarks, KeepsOrder}
-use Rattle.r4_patch.specs.Part.{IsPart}
-use Rattle.r4_patch.proofs.Members.{distinct, here, later, there}
-use Rattle.r4_path.proofs.Rising.{level_is}
-use Rattle.r4_reach.specs.Answer.{IsSeenIn as SeesAll}
-use Rattle.r4_reach.specs.Demand.{Demand, ask, ask_of}
-use Rattle.r4_reach.specs.Leaves.{LieInLeaves, more_in, more_of, rise_of}
-use Rattle.r4_reach.specs.Needs.{Ask, changes_pieces, demand_of, demand_on, is_touched, twig_turns}
-use Rattle.r4_reach.specs.Reach.{HasTouched, IsRootAsking}
-use Rattle.r4_reach.specs.Touched.{Body, body_on, changes_on, edits_on, kind_reads, reads_on}
+use Rattle.r4_bodies.specs.r4_leaf_demands.Leaves.{AreOfLeaves, IsInLeaves, leaf_demand}
+use Rattle.r4_bodies.proofs.r4_leaf_demands.Alike.{asks_as, marks_same}
+use Rattle.r4_bodies.proofs.r4_leaf_demands.Weighed.{sound as weighed}
+use Rattle.r4_touching.specs.r4_leaf_edits.Made.{spread_keys}
+use Rattle.r4_judging.specs.r4_marking.Marks.{AreMarks, KeepsOrder}
+use Rattle.r4_touching.specs.r4_patch.Part.{IsPart}
+use Rattle.r4_touching.proofs.r4_patch.Members.{distinct, here, later, there}
+use Rattle.r4_touching.proofs.r4_path.Rising.{level_is}
+use Rattle.r4_touching.specs.r4_reach.Answer.{IsSeenIn as SeesAll}
+use Rattle.r4_touching.specs.r4_reach.Demand.{Demand, ask, ask_of}
+use Rattle.r4_touching.specs.r4_reach.Leaves.{LieInLeaves, more_in, more_of, rise_of}
+use Rattle.r4_touching.specs.r4_reach.Needs.{Ask, changes_pieces, demand_of, demand_on, is_touched, twig_turns}
+use Rattle.r4_touching.specs.r4_reach.Reach.{HasTouched, IsRootAsking}
+use Rattle.r4_touching.specs.r4_reach.Touched.{Body, body_on, changes_on, edits_on, kind_reads, reads_on}
 use Rattle.r4_search.specs.Pool.{PoolState}
-use Rattle.r4_seeing.specs.Looking.{AreFound, met_cells}
+use Rattle.r4_touching.specs.r4_seeing.Looking.{AreFound, met_cells}
 use Rattle.r4_spared.specs.Spared.{MayStandAll, Spares}
 use Rattle.r4_spared.proofs.Answered.{all_accepted}
 use Rattle.r4_spared.proofs.Spared.{all_spared}
-use Rattle.r4_suited.specs.Suited.{IsAccepted}
-use Rattle.r4_work.specs.Order.{AreInOrder, place}
+use Rattle.r4_spared.specs.r4_suited.Suited.{IsAccepted}
+use Rattle.r4_spared.specs.r4_work.Order.{AreInOrder, place}
 use Rattle.r4_reaching.specs.Answers.{asked_by, has_to_lie}
 use Rattle.r4_reaching.specs.Gathering.{IsPartMet}
 use Rattle.r4_reaching.specs.Reaching.{IsSeenPart, StaysInLeaves}

@@ -8,7 +8,7 @@ use Rattle.r4_bodies.proofs.Premises.{command_bytes}
 use Rattle.r4_bodies.specs.Told.{AreOfTree, intervals_of}
 use Rattle.r4_cell.specs.declared.change.Root.{Root}
 use Rattle.r4_content.specs.Course.{asked}
-use Rattle.r4_build.specs.Building.{HaveLawfulKeys}
+use Rattle.r4_spared.specs.r4_build.Building.{HaveLawfulKeys}
 use Rattle.r4_content.specs.Edited.{Edits, Intervals, Pairs, changed, is_in}
 use Rattle.r4_content.specs.Fields.{HasBytePaths}
 use Rattle.r4_content.specs.Held.{edits_of, pairs_of}
@@ -18,16 +18,16 @@ use Rattle.r4_content.specs.declared.command.Command.{Command}
 use Rattle.r4_content.specs.declared.edits.Edits.{Edits as HeldEdits}
 use Rattle.r4_content.specs.declared.edits.Interval.{Interval}
 use Rattle.r4_content.specs.declared.seen.Seen.{Seen}
-use Rattle.r4_leaf_demands.proofs.OfCommands.{leaf_edits_of}
-use Rattle.r4_leaf_demands.specs.Leaves.{AreLeafEdits, IsInLeaves}
-use Rattle.r4_leaf_edits.specs.Suiting.{SuitLeaves}
-use Rattle.r4_reach.specs.Leaves.{LieInLeaves}
-use Rattle.r4_reach.specs.Touched.{IsKindIn, body_on, changes_on, edits_on, kind_reads, reads_on}
+use Rattle.r4_bodies.proofs.r4_leaf_demands.OfCommands.{leaf_edits_of}
+use Rattle.r4_bodies.specs.r4_leaf_demands.Leaves.{AreLeafEdits, IsInLeaves}
+use Rattle.r4_touching.specs.r4_leaf_edits.Suiting.{SuitLeaves}
+use Rattle.r4_touching.specs.r4_reach.Leaves.{LieInLeaves}
+use Rattle.r4_touching.specs.r4_reach.Touched.{IsKindIn, body_on, changes_on, edits_on, kind_reads, reads_on}
 use Rattle.r4_search.specs.Keeping.{Shared, WereAnswered, keeping_state}
 use Rattle.r4_search.specs.Pool.{PoolState}
 use Rattle.r4_spared.specs.Spared.{AreObjectsSeen}
-use Rattle.r4_suited.specs.Suited.{AreLawfulSeen}
-use Rattle.r4_seeing.specs.Looking.{met_cells}
+use Rattle.r4_spared.specs.r4_suited.Suited.{AreLawfulSeen}
+use Rattle.r4_touching.specs.r4_seeing.Looking.{met_cells}
 use Rattle.r4_reaching.specs.Answers.{HaveObjectNumbers, IsAllSeen, IsPlanned, TouchesExtent}
 use Rattle.r4_reaching.proofs.Found.{found_inside, found_lawful}
 use Rattle.r4_reaching.proofs.Numbers.{objects_seen}

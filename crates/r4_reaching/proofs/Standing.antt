@@ -12,12 +12,12 @@ use Rattle.r4_base.specs.Value.{Value}
 use Rattle.r4_base.proofs.Trees.{one_cell}
 use Rattle.r4_cell.specs.Seen.{CellSeen, node_of}
 use Rattle.r4_content.specs.Edited.{Intervals, Pairs, is_in}
-use Rattle.r4_patch.proofs.Holding.{block_twig, one_holder, one_name, one_span, unit_held}
-use Rattle.r4_patch.proofs.PartCells.{leaf_or_extent}
-use Rattle.r4_reach.specs.Demand.{Covers, Demand}
-use Rattle.r4_reach.specs.Reach.{HasTouched}
+use Rattle.r4_touching.proofs.r4_patch.Holding.{block_twig, one_holder, one_name, one_span, unit_held}
+use Rattle.r4_touching.proofs.r4_patch.PartCells.{leaf_or_extent}
+use Rattle.r4_touching.specs.r4_reach.Demand.{Covers, Demand}
+use Rattle.r4_touching.specs.r4_reach.Reach.{HasTouched}
 use Rattle.r4_search.specs.Pool.{Goes, PoolState}
-use Rattle.r4_seeing.specs.Looking.{AreFound, IsFoundAt, met_cells}
+use Rattle.r4_touching.specs.r4_seeing.Looking.{AreFound, IsFoundAt, met_cells}
 use Rattle.r4_reaching.specs.Reaching.{IsSeenPart, StaysInLeaves}
 
 -- ---- over a pool that has met more

@@ -14,12 +14,12 @@ use Rattle.r4_content.specs.declared.command.Command.{Command}
 use Rattle.r4_content.specs.declared.edits.Edits.{Edits as HeldEdits}
 use Rattle.r4_content.specs.declared.edits.Interval.{Interval}
 use Rattle.r4_content.specs.declared.seen.Seen.{Seen}
-use Rattle.r4_gather.specs.Asking.{StaysOver}
-use Rattle.r4_gather.proofs.Staying.{stays_both}
+use Rattle.r4_touching.specs.r4_gather.Asking.{StaysOver}
+use Rattle.r4_touching.proofs.r4_gather.Staying.{stays_both}
 use Rattle.r4_outside.specs.Device.{State}
 use Rattle.r4_search.specs.Pool.{Goes, LeavesDevice, PoolState}
 use Rattle.r4_search.specs.declared.pool.FetchFault.{FetchFault}
-use Rattle.r4_seeing.proofs.Staying.{goes_stay}
+use Rattle.r4_touching.proofs.r4_seeing.Staying.{goes_stay}
 use Rattle.r4_touching.specs.Touching.{AreHeld, AreInLeaves, StopsFor, Touches}
 use Rattle.r4_reaching.specs.Answers.{IsAllSeen, IsPlanned, IsSeenIn, IsTouched, StopsOnWay, TouchesExtent, has_to_lie}
 use Rattle.r4_reaching.specs.Gathering.{IsOneMet}

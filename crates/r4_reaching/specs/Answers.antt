@@ -11,7 +11,7 @@ use Rattle.r4_base.specs.Tree.{Store}
 use Rattle.r4_base.specs.Value.{Stat, Value}
 use Rattle.r4_base.specs.declared.items.Attr.{Attr}
 use Rattle.r4_base.specs.declared.items.CellFault.TheVariants.{Range}
-use Rattle.r4_build.specs.Building.{HaveLawfulKeys}
+use Rattle.r4_spared.specs.r4_build.Building.{HaveLawfulKeys}
 use Rattle.r4_bodies.specs.Told.{AreOfTree, intervals_of}
 use Rattle.r4_cell.specs.Patch.{HaveNames, by_name, root_of_pair}
 use Rattle.r4_cell.specs.Seen.{CellSeen}
@@ -25,25 +25,25 @@ use Rattle.r4_content.specs.declared.command.Command.{Command}
 use Rattle.r4_content.specs.declared.edits.Edits.{Edits as HeldEdits}
 use Rattle.r4_content.specs.declared.edits.Interval.{Interval}
 use Rattle.r4_content.specs.declared.seen.Seen.{Seen}
-use Rattle.r4_gather.specs.Asking.{EndsIn, StaysOver}
+use Rattle.r4_touching.specs.r4_gather.Asking.{EndsIn, StaysOver}
 use Rattle.r4_judging.specs.Judging.{IsSound}
-use Rattle.r4_leaf_demands.specs.Leaves.{AreLeafEdits, IsInLeaves}
+use Rattle.r4_bodies.specs.r4_leaf_demands.Leaves.{AreLeafEdits, IsInLeaves}
 use Rattle.r4_outside.specs.Device.{State}
-use Rattle.r4_reach.specs.Answer.{IsReachOf}
-use Rattle.r4_marking.specs.Marks.{ask_seen}
-use Rattle.r4_marking.specs.declared.marking.Marks.{Marks}
-use Rattle.r4_reach.specs.Leaves.{LieInLeaves, most_of, rise_of}
-use Rattle.r4_reach.specs.Needs.{demand_on}
-use Rattle.r4_reach.specs.Touched.{IsKindIn, body_on, changes_on, edits_on, kind_reads}
+use Rattle.r4_touching.specs.r4_reach.Answer.{IsReachOf}
+use Rattle.r4_judging.specs.r4_marking.Marks.{ask_seen}
+use Rattle.r4_judging.specs.r4_marking.declared.marking.Marks.{Marks}
+use Rattle.r4_touching.specs.r4_reach.Leaves.{LieInLeaves, most_of, rise_of}
+use Rattle.r4_touching.specs.r4_reach.Needs.{demand_on}
+use Rattle.r4_touching.specs.r4_reach.Touched.{IsKindIn, body_on, changes_on, edits_on, kind_reads}
 use Rattle.r4_search.specs.Keeping.{Shared, WereAnswered, keeping_state}
 use Rattle.r4_search.specs.Path.{root_name}
 use Rattle.r4_search.specs.Pool.{IsKnown, PoolState}
 use Rattle.r4_search.specs.declared.pool.FetchFault.{FetchFault}
 use Rattle.r4_search.specs.declared.pool.FetchFault.TheVariants.{Damaged, Memory}
-use Rattle.r4_seeing.specs.Looking.{AreFound, AreHung, IsFoundAt, met_cells}
-use Rattle.r4_seeing.specs.Seeing.{IsStopped}
+use Rattle.r4_touching.specs.r4_seeing.Looking.{AreFound, AreHung, IsFoundAt, met_cells}
+use Rattle.r4_touching.specs.r4_seeing.Seeing.{IsStopped}
 use Rattle.r4_touching.specs.Touching.{AreInLeaves, IsInExtent, StopsFor}
-use Rattle.r4_work.specs.Order.{AreInOrder}
+use Rattle.r4_spared.specs.r4_work.Order.{AreInOrder}
 use Rattle.r4_reaching.specs.Gathering.{AreAllMet, IsOneMet, IsRefusedFor}
 use Rattle.r4_reaching.specs.declared.reached.Reach.{Reach}
 

@@ -4,12 +4,12 @@ use Rattle.r4_cell.specs.Patch.{HaveNames, by_name, root_of_pair}
 use Rattle.r4_cell.specs.Seen.{CellSeen}
 use Rattle.r4_cell.specs.declared.change.Root.{Root as RootPair}
 use Rattle.r4_judging.specs.Judging.{IsRefusal, IsSound}
-use Rattle.r4_marking.specs.Marks.{AreMet}
+use Rattle.r4_judging.specs.r4_marking.Marks.{AreMet}
 use Rattle.r4_search.specs.Pool.{PoolState}
 use Rattle.r4_search.specs.declared.pool.FetchFault.{FetchFault}
 use Rattle.r4_search.specs.declared.pool.FetchFault.TheVariants.{Damaged, Memory, Read}
-use Rattle.r4_seeing.specs.Looking.{met_cells}
-use Rattle.r4_work.specs.Order.{AreInOrder}
+use Rattle.r4_touching.specs.r4_seeing.Looking.{met_cells}
+use Rattle.r4_spared.specs.r4_work.Order.{AreInOrder}
 
 -- A cell that was met under a number has that number.
 abbrev pub HaveNumbers : (met : ℕ → Option CellSeen) → Type 0

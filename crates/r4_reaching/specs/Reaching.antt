@@ -4,10 +4,10 @@ use Rattle.r4_base.specs.Key.{least, top}
 use Rattle.r4_base.specs.Tree.{Covers, Node, Root, Store}
 use Rattle.r4_base.specs.Value.{Value}
 use Rattle.r4_content.specs.Edited.{Intervals, Pairs, is_in}
-use Rattle.r4_patch.specs.Part.{IsPart}
-use Rattle.r4_reach.specs.Demand.{Demand}
-use Rattle.r4_reach.specs.Leaves.{LieInLeaves}
-use Rattle.r4_seeing.specs.Looking.{AreFound}
+use Rattle.r4_touching.specs.r4_patch.Part.{IsPart}
+use Rattle.r4_touching.specs.r4_reach.Demand.{Demand}
+use Rattle.r4_touching.specs.r4_reach.Leaves.{LieInLeaves}
+use Rattle.r4_touching.specs.r4_seeing.Looking.{AreFound}
 
 -- The cells are a part of a tree, and at the keys that are known this was seen of them.
 pub record IsSeenPart (t : Store Value) (root : Root) (known : Intervals) (s : Pairs) : Type 0 where

@@ -3,15 +3,15 @@
 ghost use Rattle.std.specs.Prelude.{◌≡◌, ◌+◌, IfOk, length, map};
 ghost use Rattle.std.specs.Arc.{arc_value};
 ghost use Rattle.std.specs.Option.{option_map};
-ghost use Rattle.r4_marking.specs.Marks.{ask_seen};
-ghost use Rattle.r4_reach.specs.Leaves.{rise_of};
+ghost use Rattle.r4_judging.specs.r4_marking.Marks.{ask_seen};
+ghost use Rattle.r4_touching.specs.r4_reach.Leaves.{rise_of};
 ghost use Rattle.r4_reaching.specs.Answers.{IsFrom};
 
 use crate::reached::Reach;
 use r4_base::Memory;
 use r4_cell::{Cell, Cells, Root};
 use r4_content::Seen;
-use r4_marking::Marks;
+use r4_judging::Marks;
 use std::alloc::AllocError;
 use std::sync::Arc;
 

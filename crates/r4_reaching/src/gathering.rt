@@ -5,12 +5,12 @@ ghost use Rattle.std.specs.Arc.{arc_value};
 ghost use Rattle.std.specs.List.{IsDistinct};
 ghost use Rattle.std.specs.Map.{keys_of, values_of};
 ghost use Rattle.r4_search.specs.Keeping.{met_in};
-ghost use Rattle.r4_work.specs.Order.{AreInOrder};
+ghost use Rattle.r4_spared.specs.r4_work.Order.{AreInOrder};
 ghost use Rattle.r4_reaching.specs.Gathering.{AreAllMet, HaveNumbers};
 
 use r4_base::Memory;
 use r4_cell::Cell;
-use r4_work::by_place;
+use r4_spared::by_place;
 use std::alloc::Global;
 use std::collections::HashMap;
 use std::sync::Arc;

@@ -15,5 +15,7 @@ pub use laws::{
     what_was_seen_stands,
 };
 pub use parting::part_met;
+pub use r4_spared::commands_change_lawful_keys;
+pub use r4_touching::touch;
 pub use reached::Reach;
 pub use reaching::reach_in_leaves;

@@ -3,7 +3,7 @@
 ghost use Rattle.std.specs.Prelude.{◌≤◌, MatchResult, map};
 ghost use Rattle.std.specs.Arc.{arc_value};
 ghost use Rattle.r4_search.specs.Keeping.{keeping_state};
-ghost use Rattle.r4_seeing.specs.Looking.{AreHung};
+ghost use Rattle.r4_touching.specs.r4_seeing.Looking.{AreHung};
 ghost use Rattle.r4_reaching.specs.Gathering.{IsOneMet, IsPartMet, IsRefusedFor};
 
 use crate::gathering::in_order;

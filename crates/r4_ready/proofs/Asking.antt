@@ -1,9 +1,9 @@
 -- Each core may be asked, as long as no call of the device failed.
 use Rattle.std.proofs.Common.{◌≡◌, None}
-use Rattle.r4_kept.specs.Kept.{IsKept}
-use Rattle.r4_kept.specs.Naming.{Naming}
-use Rattle.r4_kept.specs.View.{CoreSeen, blocks_of}
-use Rattle.r4_kept.proofs.Readable.{readable, root_there}
+use Rattle.r4_taking.specs.r4_kept.Kept.{IsKept}
+use Rattle.r4_taking.specs.r4_kept.Naming.{Naming}
+use Rattle.r4_taking.specs.r4_kept.View.{CoreSeen, blocks_of}
+use Rattle.r4_taking.proofs.r4_kept.Readable.{readable, root_there}
 use Rattle.r4_outside.specs.Device.{State}
 use Rattle.r4_serve.specs.Serving.{CanAsk}
 use Rattle.r4_ready.specs.Readiness.{parts_of}

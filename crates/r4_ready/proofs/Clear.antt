@@ -3,17 +3,17 @@ use Rattle.std.proofs.Common.{◌≡◌, ⊎_elim, ◌++◌, Option, Some, None,
 use Rattle.std.proofs.lemmas.List.Elements.{Contains-append_cases}
 use Rattle.r4_base.specs.declared.things.NodeId.{NodeId}
 use Rattle.r4_base.specs.declared.things.TaskId.{TaskId}
-use Rattle.r4_cell.specs.Seen.{CellSeen}
+use Rattle.r4_serve.specs.r4_cell.Seen.{CellSeen}
 use Rattle.r4_content.specs.declared.command.Command.{Command}
-use Rattle.r4_history.specs.Serving.{IsSealedOwner}
-use Rattle.r4_history.specs.declared.why.Why.TheVariants as why
+use Rattle.r4_serve.specs.r4_history.Serving.{IsSealedOwner}
+use Rattle.r4_serve.specs.r4_history.declared.why.Why.TheVariants as why
 use Rattle.r4_locks.specs.Locks.{conflict_of}
 use Rattle.r4_outside.specs.Device.{State}
 use Rattle.r4_serve.specs.Serving.{need_in}
 use Rattle.r4_serve.specs.declared.asked.Ready.{Ready}
-use Rattle.r4_kept.specs.Kept.{IsKept}
-use Rattle.r4_kept.specs.Naming.{Naming}
-use Rattle.r4_kept.specs.View.{CoreSeen}
+use Rattle.r4_taking.specs.r4_kept.Kept.{IsKept}
+use Rattle.r4_taking.specs.r4_kept.Naming.{Naming}
+use Rattle.r4_taking.specs.r4_kept.View.{CoreSeen}
 use Rattle.r4_ready.specs.Readiness.{IsReady}
 use Rattle.r4_ready.proofs.MetCells.{clear, is_reach}
 

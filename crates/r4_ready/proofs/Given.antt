@@ -11,42 +11,42 @@ use Rattle.r4_base.specs.Bitmap.{is_fixed}
 use Rattle.r4_base.specs.Key.{rank}
 use Rattle.r4_base.specs.Tree.{Name, Node}
 use Rattle.r4_base.specs.Value.{Value}
-use Rattle.r4_build.specs.Building.{CanBuild, HaveLawfulKeys, most_new}
-use Rattle.r4_buffer.specs.Seen.{EntrySeen, buffered, is_captured, is_captured_by}
-use Rattle.r4_cell.specs.Patch.{by_name, root_of_pair}
-use Rattle.r4_cell.specs.Seen.{CellSeen, node_of}
-use Rattle.r4_cell.proofs.NamesBelow.{names_below}
+use Rattle.r4_taking.specs.r4_build.Building.{CanBuild, HaveLawfulKeys, most_new}
+use Rattle.r4_serve.specs.r4_buffer.Seen.{EntrySeen, buffered, is_captured, is_captured_by}
+use Rattle.r4_serve.specs.r4_cell.Patch.{by_name, root_of_pair}
+use Rattle.r4_serve.specs.r4_cell.Seen.{CellSeen, node_of}
+use Rattle.r4_serve.proofs.r4_cell.NamesBelow.{names_below}
 use Rattle.r4_content.specs.Edited.{Pairs, changed, is_in}
 use Rattle.r4_content.specs.Fields.{HasBytePaths}
 use Rattle.r4_content.specs.Held.{pairs_of}
 use Rattle.r4_content.specs.declared.command.Command.{Command}
-use Rattle.r4_history.specs.Drawn.{numbers_of}
-use Rattle.r4_leaf_edits.specs.Made.{spread_keys}
+use Rattle.r4_serve.specs.r4_history.Drawn.{numbers_of}
+use Rattle.r4_serve.specs.r4_leaf_edits.Made.{spread_keys}
 use Rattle.r4_outside.specs.Device.{State}
-use Rattle.r4_patch.proofs.Members.{found}
-use Rattle.r4_path.specs.Nodes.{IsPointable}
-use Rattle.r4_path.specs.Steps.{IsFree}
-use Rattle.r4_reach.specs.Answer.{IsReachOf}
-use Rattle.r4_reach.specs.Leaves.{LieInLeaves, most_of}
-use Rattle.r4_reach.specs.Needs.{Ask, demand_on}
-use Rattle.r4_reach.specs.Demand.{Demand}
-use Rattle.r4_reach.specs.Reach.{IsRead, IsWritten}
-use Rattle.r4_reach.specs.Touched.{body_on, edits_on, reads_on}
+use Rattle.r4_serve.proofs.r4_patch.Members.{found}
+use Rattle.r4_serve.specs.r4_path.Nodes.{IsPointable}
+use Rattle.r4_serve.specs.r4_path.Steps.{IsFree}
+use Rattle.r4_serve.specs.r4_reach.Answer.{IsReachOf}
+use Rattle.r4_serve.specs.r4_reach.Leaves.{LieInLeaves, most_of}
+use Rattle.r4_serve.specs.r4_reach.Needs.{Ask, demand_on}
+use Rattle.r4_serve.specs.r4_reach.Demand.{Demand}
+use Rattle.r4_serve.specs.r4_reach.Reach.{IsRead, IsWritten}
+use Rattle.r4_serve.specs.r4_reach.Touched.{body_on, edits_on, reads_on}
 use Rattle.r4_serve.proofs.r4_reaching.Made.{none_spread}
-use Rattle.r4_judging.specs.Judging.{IsSound}
+use Rattle.r4_serve.specs.r4_judging.Judging.{IsSound}
 use Rattle.r4_serve.specs.declared.asked.Ready.{Ready}
-use Rattle.r4_spared.specs.Spared.{HasNumbers, MayStandAll}
-use Rattle.r4_spared.proofs.Answered.{answer_builds}
-use Rattle.r4_spared.proofs.Spared.{asked_in_leaves}
-use Rattle.r4_suited.proofs.Cells.{reach_lawful}
-use Rattle.r4_turns.specs.Turns.{IsScript, turn_at}
-use Rattle.r4_turns.specs.declared.out.Numbers.{Numbers}
-use Rattle.r4_turns.specs.declared.out.Out.{Out}
-use Rattle.r4_kept.specs.Cells.{IsName}
-use Rattle.r4_kept.specs.Kept.{IsKept}
-use Rattle.r4_kept.specs.Naming.{Naming}
-use Rattle.r4_kept.specs.TasksOut.{IsGiven}
-use Rattle.r4_kept.specs.View.{CoreSeen, blocks_of}
+use Rattle.r4_serve.specs.r4_spared.Spared.{HasNumbers, MayStandAll}
+use Rattle.r4_serve.proofs.r4_spared.Answered.{answer_builds}
+use Rattle.r4_serve.proofs.r4_spared.Spared.{asked_in_leaves}
+use Rattle.r4_taking.proofs.r4_suited.Cells.{reach_lawful}
+use Rattle.r4_serve.specs.r4_turns.Turns.{IsScript, turn_at}
+use Rattle.r4_serve.specs.r4_turns.declared.out.Numbers.{Numbers}
+use Rattle.r4_serve.specs.r4_turns.declared.out.Out.{Out}
+use Rattle.r4_taking.specs.r4_kept.Cells.{IsName}
+use Rattle.r4_taking.specs.r4_kept.Kept.{IsKept}
+use Rattle.r4_taking.specs.r4_kept.Naming.{Naming}
+use Rattle.r4_taking.specs.r4_kept.TasksOut.{IsGiven}
+use Rattle.r4_taking.specs.r4_kept.View.{CoreSeen, blocks_of}
 use Rattle.r4_ready.specs.Readiness.{AreGotten, IsOfReach, IsReady}
 use Rattle.r4_ready.proofs.MetCells.{accepted, is_captured_one, is_reach, low, on_disk_low}
 

@@ -7,31 +7,31 @@ use Rattle.r4_base.specs.Layout.{IsLawfulSuper, super_of}
 use Rattle.r4_base.specs.declared.limits.TheConstants.{SUPER_BLOCK}
 use Rattle.r4_base.specs.declared.things.AtomNo.{AtomNo}
 use Rattle.r4_atoms.specs.Atoms.{numbers}
-use Rattle.r4_buffer.specs.Seen.{BufferSeen}
-use Rattle.r4_commit.specs.Planned.{CommitSeen}
+use Rattle.r4_serve.specs.r4_buffer.Seen.{BufferSeen}
+use Rattle.r4_serve.specs.r4_commit.Planned.{CommitSeen}
 use Rattle.r4_content.specs.Locality.{commands}
 use Rattle.r4_content.specs.Meaning.{greatest_size}
-use Rattle.r4_durable.specs.Kept.{Means as MeansAtRest}
-use Rattle.r4_durable.specs.Meaning.{Beginning, BeginsWith, IsNamed, start_of}
+use Rattle.r4_taking.specs.r4_durable.Kept.{Means as MeansAtRest}
+use Rattle.r4_taking.specs.r4_durable.Meaning.{Beginning, BeginsWith, IsNamed, start_of}
 use Rattle.r4_outside.specs.Device.{Goes, State, TellsReads, Untouched}
 use Rattle.r4_outside.proofs.Moments.{left_before, quiet_on, tells_on}
-use Rattle.r4_sets.specs.Session.{Session}
-use Rattle.r4_space.specs.Space.{Space}
-use Rattle.r4_trace.specs.Job.{Asked}
-use Rattle.r4_wander.specs.Progress.{FitOn, under_way}
-use Rattle.r4_wander.specs.Parts.{base_of}
-use Rattle.r4_wander.proofs.Standing.{made_read, reads_read}
-use Rattle.r4_kept.specs.Cells.{AreReadable, FitsCommit, IsWriting, IsWritingOf}
-use Rattle.r4_kept.specs.Durable.{LeavesNow, StandsAt}
-use Rattle.r4_kept.specs.Kept.{HasStory, IsKept}
-use Rattle.r4_kept.specs.Meaning.{IsAt, IsAtRest, IsFlushing, IsInCommit}
-use Rattle.r4_kept.specs.Naming.{Naming, job_named, names_in}
-use Rattle.r4_kept.specs.Story.{Flush}
-use Rattle.r4_kept.specs.View.{CoreSeen, blocks_of, tables_of}
-use Rattle.r4_kept.specs.declared.parts.Commit.{Commit}
-use Rattle.r4_kept.specs.declared.parts.Volume.{Volume}
+use Rattle.r4_taking.specs.r4_sets.Session.{Session}
+use Rattle.r4_serve.specs.r4_space.Space.{Space}
+use Rattle.r4_serve.specs.r4_trace.Job.{Asked}
+use Rattle.r4_serve.specs.r4_wander.Progress.{FitOn, under_way}
+use Rattle.r4_serve.specs.r4_wander.Parts.{base_of}
+use Rattle.r4_serve.proofs.r4_wander.Standing.{made_read, reads_read}
+use Rattle.r4_taking.specs.r4_kept.Cells.{AreReadable, FitsCommit, IsWriting, IsWritingOf}
+use Rattle.r4_taking.specs.r4_kept.Durable.{LeavesNow, StandsAt}
+use Rattle.r4_taking.specs.r4_kept.Kept.{HasStory, IsKept}
+use Rattle.r4_taking.specs.r4_kept.Meaning.{IsAt, IsAtRest, IsFlushing, IsInCommit}
+use Rattle.r4_taking.specs.r4_kept.Naming.{Naming, job_named, names_in}
+use Rattle.r4_taking.specs.r4_kept.Story.{Flush}
+use Rattle.r4_taking.specs.r4_kept.View.{CoreSeen, blocks_of, tables_of}
+use Rattle.r4_taking.specs.r4_kept.declared.parts.Commit.{Commit}
+use Rattle.r4_taking.specs.r4_kept.declared.parts.Volume.{Volume}
 use Rattle.std.specs.Option.{option_map}
-use Rattle.r4_history.specs.Told.{IsTold}
+use Rattle.r4_serve.specs.r4_history.Told.{IsTold}
 
 module _ (d e : State) (goes : Goes d e) (idle : Untouched d e) where
   told_before : TellsReads e → TellsReads d

@@ -4,36 +4,36 @@ use Rattle.std.specs.Prelude.{IsSome}
 use Rattle.std.specs.Option.{option_map}
 use Rattle.r4_atoms.specs.Atoms.{AtomsSeen, numbers, owner_of, IsBegun, IsOpenAtom}
 use Rattle.r4_base.specs.Tree.{Name}
-use Rattle.r4_buffer.specs.Seen.{BufferSeen, IsLawful, buffered, is_dirty_by}
-use Rattle.r4_commit.specs.Planned.{CommitSeen}
+use Rattle.r4_serve.specs.r4_buffer.Seen.{BufferSeen, IsLawful, buffered, is_dirty_by}
+use Rattle.r4_serve.specs.r4_commit.Planned.{CommitSeen}
 use Rattle.r4_content.specs.Locality.{commands}
 use Rattle.r4_content.specs.Meaning.{greatest_size}
-use Rattle.r4_durable.specs.GoingOn.{GoesOn}
-use Rattle.r4_durable.specs.Meaning.{Beginning, start_of, IsNamed}
-use Rattle.r4_history.specs.Held.{IsServed}
-use Rattle.r4_history.proofs.RunSteps.{told_owners}
+use Rattle.r4_taking.specs.r4_durable.GoingOn.{GoesOn}
+use Rattle.r4_taking.specs.r4_durable.Meaning.{Beginning, start_of, IsNamed}
+use Rattle.r4_serve.specs.r4_history.Held.{IsServed}
+use Rattle.r4_serve.proofs.r4_history.RunSteps.{told_owners}
 use Rattle.r4_outside.specs.Device.{State}
-use Rattle.r4_sets.specs.Session.{Session}
-use Rattle.r4_space.specs.Lawful.{IsLawful as IsLawfulSpace}
-use Rattle.r4_space.specs.Space.{Space, unused_count}
-use Rattle.r4_trace.specs.Order.{IsOrdered}
-use Rattle.r4_kept.specs.Accounts.{CountsCells}
-use Rattle.r4_kept.specs.Cells.{FitsCommit, IsWritingOf, NamesAt}
-use Rattle.r4_kept.specs.Kept.{HasStory, IsKept}
-use Rattle.r4_kept.specs.Meaning.{if_open}
-use Rattle.r4_kept.specs.Naming.{Naming, job_named, names_in}
-use Rattle.r4_kept.specs.View.{CoreSeen, blocks_of, tables_of}
-use Rattle.r4_kept.specs.declared.parts.Commit.{Commit}
-use Rattle.r4_kept.proofs.Staying.{named_on, still_like}
-use Rattle.r4_kept.proofs.Unused.{AreLike, IsLike, readable_like}
+use Rattle.r4_taking.specs.r4_sets.Session.{Session}
+use Rattle.r4_serve.specs.r4_space.Lawful.{IsLawful as IsLawfulSpace}
+use Rattle.r4_serve.specs.r4_space.Space.{Space, unused_count}
+use Rattle.r4_serve.specs.r4_trace.Order.{IsOrdered}
+use Rattle.r4_taking.specs.r4_kept.Accounts.{CountsCells}
+use Rattle.r4_taking.specs.r4_kept.Cells.{FitsCommit, IsWritingOf, NamesAt}
+use Rattle.r4_taking.specs.r4_kept.Kept.{HasStory, IsKept}
+use Rattle.r4_taking.specs.r4_kept.Meaning.{if_open}
+use Rattle.r4_taking.specs.r4_kept.Naming.{Naming, job_named, names_in}
+use Rattle.r4_taking.specs.r4_kept.View.{CoreSeen, blocks_of, tables_of}
+use Rattle.r4_taking.specs.r4_kept.declared.parts.Commit.{Commit}
+use Rattle.r4_taking.proofs.r4_kept.Staying.{named_on, still_like}
+use Rattle.r4_taking.proofs.r4_kept.Unused.{AreLike, IsLike, readable_like}
 use Rattle.r4_taking.specs.Following.{Follows}
 use Rattle.r4_taking.proofs.Going.{at_over}
 use Rattle.r4_ready.specs.Rooms.{HasMoreRoom}
 use Rattle.r4_base.specs.declared.things.AtomNo.{AtomNo}
-use Rattle.r4_buffer.specs.Changed.{uses_of, Standing}
-use Rattle.r4_sealed.specs.Commits.{IsLater}
-use Rattle.r4_turns.specs.declared.out.Out.{Out}
-use Rattle.r4_kept.specs.TasksOut.{pins_on}
+use Rattle.r4_serve.specs.r4_buffer.Changed.{uses_of, Standing}
+use Rattle.r4_taking.specs.r4_sealed.Commits.{IsLater}
+use Rattle.r4_serve.specs.r4_turns.declared.out.Out.{Out}
+use Rattle.r4_taking.specs.r4_kept.TasksOut.{pins_on}
 
 like_itself : (o : Standing) → IsLike o o
 like_itself None = tt

@@ -9,39 +9,39 @@ use Rattle.r4_atoms.specs.Atoms.{owner_of, numbers}
 use Rattle.r4_base.specs.Cell.{cell_fault}
 use Rattle.r4_base.specs.Image.{block_at, Image}
 use Rattle.r4_base.specs.Key.{rank}
-use Rattle.r4_buffer.specs.Reading.{captured_in}
-use Rattle.r4_buffer.specs.Seen.{EntrySeen, buffered, cell_at, is_captured, is_captured_by}
-use Rattle.r4_cell.specs.Patch.{by_name}
-use Rattle.r4_cell.specs.Seen.{CellSeen, node_of}
-use Rattle.r4_commit.specs.Planned.{CommitSeen}
+use Rattle.r4_serve.specs.r4_buffer.Reading.{captured_in}
+use Rattle.r4_serve.specs.r4_buffer.Seen.{EntrySeen, buffered, cell_at, is_captured, is_captured_by}
+use Rattle.r4_serve.specs.r4_cell.Patch.{by_name}
+use Rattle.r4_serve.specs.r4_cell.Seen.{CellSeen, node_of}
+use Rattle.r4_serve.specs.r4_commit.Planned.{CommitSeen}
 use Rattle.r4_content.specs.declared.command.Command.{Command}
-use Rattle.r4_gather.specs.Asking.{StaysOver}
+use Rattle.r4_serve.specs.r4_gather.Asking.{StaysOver}
 use Rattle.r4_outside.specs.Device.{State, TellsReads}
 use Rattle.r4_serve.specs.r4_reaching.Answers.{IsReach}
 use Rattle.r4_serve.specs.r4_reaching.declared.reached.Reach.{Reach}
-use Rattle.r4_search.specs.Keeping.{keeping_state}
-use Rattle.r4_search.specs.OnDevice.{block_there, is_image}
-use Rattle.r4_search.specs.Pool.{IsRead, PoolState}
+use Rattle.r4_serve.specs.r4_search.Keeping.{keeping_state}
+use Rattle.r4_serve.specs.r4_search.OnDevice.{block_there, is_image}
+use Rattle.r4_serve.specs.r4_search.Pool.{IsRead, PoolState}
 use Rattle.r4_serve.specs.Serving.{IsClear, IsOverwritten, IsTall, NoneStray}
 use Rattle.r4_serve.specs.declared.asked.Ready.{Ready}
 use Rattle.r4_taking.specs.GoingOut.{IsMet}
-use Rattle.r4_wander.specs.Parts.{part}
-use Rattle.r4_wander.specs.Torn.{IsTarget}
-use Rattle.r4_kept.specs.Cells.{IsWritingOf, FitsCommit, IsWriting, IsName}
-use Rattle.r4_kept.specs.Kept.{IsKept}
-use Rattle.r4_kept.specs.Meaning.{Spares, SparesIn}
-use Rattle.r4_kept.specs.Naming.{Naming}
-use Rattle.r4_kept.specs.View.{CoreSeen, blocks_of}
-use Rattle.r4_kept.specs.declared.parts.Commit.{Commit}
-use Rattle.r4_kept.proofs.Readable.{not_dirty, root_there}
+use Rattle.r4_serve.specs.r4_wander.Parts.{part}
+use Rattle.r4_serve.specs.r4_wander.Torn.{IsTarget}
+use Rattle.r4_taking.specs.r4_kept.Cells.{IsWritingOf, FitsCommit, IsWriting, IsName}
+use Rattle.r4_taking.specs.r4_kept.Kept.{IsKept}
+use Rattle.r4_taking.specs.r4_kept.Meaning.{Spares, SparesIn}
+use Rattle.r4_taking.specs.r4_kept.Naming.{Naming}
+use Rattle.r4_taking.specs.r4_kept.View.{CoreSeen, blocks_of}
+use Rattle.r4_taking.specs.r4_kept.declared.parts.Commit.{Commit}
+use Rattle.r4_taking.proofs.r4_kept.Readable.{not_dirty, root_there}
 use Rattle.r4_ready.specs.Readiness.{IsReady, parts_of, plan_of}
 use Rattle.r4_base.specs.Bitmap.{is_fixed}
 use Rattle.r4_base.specs.Tree.{Name, Node}
 use Rattle.r4_base.specs.Value.{Value}
-use Rattle.r4_cell.proofs.NamesBelow.{names_below}
-use Rattle.r4_patch.proofs.Members.{distinct, found, there}
+use Rattle.r4_serve.proofs.r4_cell.NamesBelow.{names_below}
+use Rattle.r4_serve.proofs.r4_patch.Members.{distinct, found, there}
 use Rattle.r4_taking.proofs.NamesFree.{names_free}
-use Rattle.r4_search.proofs.FromDevice.{tells_image}
+use Rattle.r4_serve.proofs.r4_search.FromDevice.{tells_image}
 
 module _ {D : Type 0} (r : Naming) (d e : State) (c : CoreSeen D) (k : IsKept r d c) (x : Command) (ready : Ready)
     (is : IsReady d e c x ready) where

@@ -1,16 +1,16 @@
 -- A command that is ready may start, on the core whose device was read.
 use Rattle.std.proofs.Common.{◌≡◌, ◌∙◌, ℕ, ◌<◌, ◌^◌, ap, sym}
-use Rattle.r4_cell.specs.Seen.{CellSeen}
+use Rattle.r4_serve.specs.r4_cell.Seen.{CellSeen}
 use Rattle.r4_content.specs.Fields.{HasBytePaths}
 use Rattle.r4_content.specs.declared.command.Command.{Command}
 use Rattle.r4_outside.specs.Device.{State}
 use Rattle.r4_serve.specs.Serving.{need_in}
 use Rattle.r4_serve.specs.declared.asked.Ready.{Ready}
 use Rattle.r4_taking.specs.GoingOut.{IsMet}
-use Rattle.r4_turns.specs.declared.out.Out.{Out}
-use Rattle.r4_kept.specs.Kept.{IsKept}
-use Rattle.r4_kept.specs.Naming.{Naming}
-use Rattle.r4_kept.specs.View.{CoreSeen}
+use Rattle.r4_serve.specs.r4_turns.declared.out.Out.{Out}
+use Rattle.r4_taking.specs.r4_kept.Kept.{IsKept}
+use Rattle.r4_taking.specs.r4_kept.Naming.{Naming}
+use Rattle.r4_taking.specs.r4_kept.View.{CoreSeen}
 use Rattle.r4_ready.specs.Readiness.{AreGotten, IsOfReach, IsReady, MayStart}
 use Rattle.r4_ready.proofs.Clear.{among_met, none_holds, none_sealed}
 use Rattle.r4_ready.proofs.Given.{is_given}

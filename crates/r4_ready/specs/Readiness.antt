@@ -1,26 +1,26 @@
 -- What `ask` calls ready, and what its task is given of it (docs/core.md, "Asking").
 use Rattle.std.specs.Prelude.{◌≡◌, ℕ, ◌+◌, ◌*◌, ◌^◌, ◌<◌, ◌≤◌, ◌++◌, length, Contains, Option, None, Some}
 use Rattle.std.specs.Arc.{arc_value}
-use Rattle.r4_cell.specs.Patch.{HaveNames, by_name, root_of_pair}
-use Rattle.r4_cell.specs.Seen.{CellSeen}
-use Rattle.r4_commit.specs.Planned.{CommitSeen}
+use Rattle.r4_serve.specs.r4_cell.Patch.{HaveNames, by_name, root_of_pair}
+use Rattle.r4_serve.specs.r4_cell.Seen.{CellSeen}
+use Rattle.r4_serve.specs.r4_commit.Planned.{CommitSeen}
 use Rattle.r4_content.specs.declared.command.Command.{Command}
-use Rattle.r4_history.specs.Drawn.{numbers_of}
-use Rattle.r4_history.specs.Serving.{IsSealedOwner}
+use Rattle.r4_serve.specs.r4_history.Drawn.{numbers_of}
+use Rattle.r4_serve.specs.r4_history.Serving.{IsSealedOwner}
 use Rattle.r4_locks.specs.Locks.{conflict_of}
 use Rattle.r4_outside.specs.Device.{State}
-use Rattle.r4_patch.specs.Part.{IsPart}
+use Rattle.r4_serve.specs.r4_patch.Part.{IsPart}
 use Rattle.r4_serve.specs.r4_reaching.declared.reached.Reach.{Reach}
 use Rattle.r4_serve.specs.Serving.{Asks, PartsSeen, need_in}
 use Rattle.r4_serve.specs.declared.asked.Asked.TheVariants as asked
 use Rattle.r4_serve.specs.declared.asked.Ready.{Ready}
 use Rattle.r4_taking.specs.GoingOut.{IsMet}
-use Rattle.r4_turns.specs.Turns.{IsScript, turn_at}
-use Rattle.r4_turns.specs.declared.out.Numbers.{Numbers}
-use Rattle.r4_turns.specs.declared.out.Out.{Out}
-use Rattle.r4_kept.specs.TasksOut.{IsGiven}
-use Rattle.r4_kept.specs.View.{CoreSeen, blocks_of}
-use Rattle.r4_kept.specs.declared.parts.Commit.{Commit}
+use Rattle.r4_serve.specs.r4_turns.Turns.{IsScript, turn_at}
+use Rattle.r4_serve.specs.r4_turns.declared.out.Numbers.{Numbers}
+use Rattle.r4_serve.specs.r4_turns.declared.out.Out.{Out}
+use Rattle.r4_taking.specs.r4_kept.TasksOut.{IsGiven}
+use Rattle.r4_taking.specs.r4_kept.View.{CoreSeen, blocks_of}
+use Rattle.r4_taking.specs.r4_kept.declared.parts.Commit.{Commit}
 
 -- what the commit under way writes
 abbrev pub plan_of : Option Commit → Option CommitSeen

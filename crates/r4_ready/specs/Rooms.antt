@@ -1,8 +1,8 @@
 -- Room that a core makes before a step that may not want memory (docs/core.md, "Little steps").
 use Rattle.std.specs.Prelude.{◌≡◌, ◌≤◌, ℕ}
 use Rattle.r4_atoms.specs.Atoms.{owner_of}
-use Rattle.r4_buffer.specs.Seen.{buffered}
-use Rattle.r4_kept.specs.View.{CoreSeen}
+use Rattle.r4_serve.specs.r4_buffer.Seen.{buffered}
+use Rattle.r4_taking.specs.r4_kept.View.{CoreSeen}
 
 -- There is more room, or as much, for entries, captures, cells in memory and claims; all else is as
 -- it was.

@@ -2,4 +2,5 @@
 //! (docs/core.md, "Asking" and "Little steps").
 #![tactic(auto)]
 
-pub use r4_serve::{Asked, NodesNeeded, Parts, Reach, Ready, ask, nodes_of};
+pub use r4_serve::{Asked, CommitPlan, NodesNeeded, Parts, Reach, Ready, ask, nodes_of, step};
+pub use r4_taking::{Commit, Numbers, ObjectCounts, Step, Task, Volume};

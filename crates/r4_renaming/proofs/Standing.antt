@@ -12,7 +12,7 @@ use Rattle.std.proofs.lemmas.List.Elements.{Contains-push_cases}
 use Rattle.r4_base.proofs.Choices.{never_both}
 use Rattle.r4_buffer.specs.Changed.{Standing, has_name, joined, renamed, renamed_by, renewed, with_cell}
 use Rattle.r4_buffer.specs.Seen.{BufferSeen, EntrySeen, buffered}
-use Rattle.r4_cell.specs.Seen.{CellSeen}
+use Rattle.r4_flush.specs.r4_cell.Seen.{CellSeen}
 use Rattle.r4_flush.specs.Prepared.{cells_of}
 use Rattle.r4_flush.specs.declared.cells.RenamedCell.{RenamedCell}
 use Rattle.r4_renaming.specs.Renaming.{HaveNewNames, was_named}

@@ -8,4 +8,5 @@ mod owners;
 mod pins;
 mod renaming;
 
+pub use r4_flush::{Prepared, RenamedCell, prepare};
 pub use renaming::rename_atom;

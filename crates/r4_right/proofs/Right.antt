@@ -14,12 +14,12 @@ use Rattle.r4_base.specs.Value.{Content, Value}
 use Rattle.r4_base.specs.declared.things.AtomNo.{AtomNo}
 use Rattle.r4_base.specs.declared.things.ScriptNo.{ScriptNo}
 use Rattle.r4_base.specs.declared.things.TxnNo.{TxnNo}
-use Rattle.r4_build.specs.Building.{CanBuild}
-use Rattle.r4_build.specs.Built.{BuiltSeen}
-use Rattle.r4_build.specs.declared.task.Task.{Task}
-use Rattle.r4_cell.specs.Patch.{by_name, root_of_pair}
-use Rattle.r4_cell.specs.Seen.{CellSeen}
-use Rattle.r4_cell.specs.declared.change.Fresh.{Fresh}
+use Rattle.r4_applied.specs.r4_build.Building.{CanBuild}
+use Rattle.r4_applied.specs.r4_build.Built.{BuiltSeen}
+use Rattle.r4_applied.specs.r4_build.declared.task.Task.{Task}
+use Rattle.r4_freed.specs.r4_cell.Patch.{by_name, root_of_pair}
+use Rattle.r4_freed.specs.r4_cell.Seen.{CellSeen}
+use Rattle.r4_freed.specs.r4_cell.declared.change.Fresh.{Fresh}
 use Rattle.r4_content.specs.Counts.{born, gone}
 use Rattle.r4_content.specs.Edited.{Edits}
 use Rattle.r4_content.specs.Fields.{HasBytePaths, NamesUnused}
@@ -37,20 +37,20 @@ use Rattle.r4_freed.proofs.r4_done.DoneRun.{owns_done, run_done}
 use Rattle.r4_freed.proofs.r4_done.DoneTables.{is_touched}
 use Rattle.r4_freed.proofs.r4_done.DoneTasks.{AreNumbered}
 use Rattle.r4_freed.proofs.r4_done.Named.{node_of_need}
-use Rattle.r4_durable.specs.Meaning.{Beginning, IsNamed, first_id, start_of}
-use Rattle.r4_durable.specs.Sealing.{start_in}
-use Rattle.r4_durable.proofs.Opened.{settled_at}
-use Rattle.r4_flushed.specs.Flushed.{OwnsBlocks}
-use Rattle.r4_flushed.proofs.FlushedCells.{FitsOnDisk}
+use Rattle.r4_freed.specs.r4_durable.Meaning.{Beginning, IsNamed, first_id, start_of}
+use Rattle.r4_freed.specs.r4_durable.Sealing.{start_in}
+use Rattle.r4_freed.proofs.r4_durable.Opened.{settled_at}
+use Rattle.r4_freed.specs.r4_flushed.Flushed.{OwnsBlocks}
+use Rattle.r4_freed.proofs.r4_flushed.FlushedCells.{FitsOnDisk}
 use Rattle.r4_freed.specs.Freed.{HasFreed}
 use Rattle.r4_freed.proofs.DeferredThen.{follows}
 use Rattle.r4_freed.proofs.UsedCells.{StandOnUsed, stand_on_used}
-use Rattle.r4_history.specs.Drawn.{numbers_in, numbers_of}
-use Rattle.r4_history.specs.Held.{IsServed}
-use Rattle.r4_history.specs.Tables.{asked}
-use Rattle.r4_history.proofs.DrawnSteps.{drawn_for}
-use Rattle.r4_history.proofs.RunSteps.{commit_is, open_in_both}
-use Rattle.r4_history.proofs.Told.{unsealed_is}
+use Rattle.r4_freed.specs.r4_history.Drawn.{numbers_in, numbers_of}
+use Rattle.r4_freed.specs.r4_history.Held.{IsServed}
+use Rattle.r4_freed.specs.r4_history.Tables.{asked}
+use Rattle.r4_freed.proofs.r4_history.DrawnSteps.{drawn_for}
+use Rattle.r4_freed.proofs.r4_history.RunSteps.{commit_is, open_in_both}
+use Rattle.r4_freed.proofs.r4_history.Told.{unsealed_is}
 use Rattle.r4_freed.specs.r4_kept.Kept.{IsKept}
 use Rattle.r4_freed.specs.r4_kept.Meaning.{HasMeaning, IsAt, if_open}
 use Rattle.r4_freed.specs.r4_kept.Naming.{Naming, job_named, names_in}
@@ -58,23 +58,23 @@ use Rattle.r4_freed.specs.r4_kept.TasksOut.{IsGiven, WereDrawn}
 use Rattle.r4_freed.specs.r4_kept.View.{CoreSeen, committing, tables_of}
 use Rattle.r4_freed.specs.r4_kept.declared.parts.Commit.{Commit}
 use Rattle.r4_outside.specs.Device.{State}
-use Rattle.r4_patch.specs.Joining.{ids_of, patch_of_change}
-use Rattle.r4_path.specs.Steps.{IsFree}
-use Rattle.r4_reach.specs.Touched.{body_on, edits_on, reads_on}
-use Rattle.r4_sets.specs.Change.{Applies, IsFree as IsFreeFor}
-use Rattle.r4_sets.specs.Session.{IsTreeOf, Session, all_done}
-use Rattle.r4_sets.proofs.Applied.{memory_stands}
-use Rattle.r4_sets_told.specs.Runs.{IsLawfulRun, dones_in}
-use Rattle.r4_sets_told.proofs.Counted.{Good, good, names_unused}
+use Rattle.r4_applied.specs.r4_patch.Joining.{ids_of, patch_of_change}
+use Rattle.r4_applied.specs.r4_path.Steps.{IsFree}
+use Rattle.r4_applied.specs.r4_reach.Touched.{body_on, edits_on, reads_on}
+use Rattle.r4_applied.specs.r4_sets.Change.{Applies, IsFree as IsFreeFor}
+use Rattle.r4_applied.specs.r4_sets.Session.{IsTreeOf, Session, all_done}
+use Rattle.r4_applied.proofs.r4_sets.Applied.{memory_stands}
+use Rattle.r4_applied.specs.r4_sets_told.Runs.{IsLawfulRun, dones_in}
+use Rattle.r4_applied.proofs.r4_sets_told.Counted.{Good, good, names_unused}
 use Rattle.r4_freed.proofs.r4_taking.Fused.{sealed_differs}
-use Rattle.r4_trace.specs.Folds.{content_of, everything}
-use Rattle.r4_trace.specs.Ids.{IsNewId, Start, id_of}
-use Rattle.r4_trace.specs.Traced.{IsSealed, atom_in}
-use Rattle.r4_trace.specs.declared.entry.Entry.{Entry}
-use Rattle.r4_trace.specs.declared.entry.Entry.TheVariants.{Done}
-use Rattle.r4_turns.specs.Turns.{answered_at, turn_at}
-use Rattle.r4_turns.specs.declared.out.Out.{Out}
-use Rattle.r4_turns.specs.declared.turn.Open.{Open}
+use Rattle.r4_applied.specs.r4_trace.Folds.{content_of, everything}
+use Rattle.r4_applied.specs.r4_trace.Ids.{IsNewId, Start, id_of}
+use Rattle.r4_applied.specs.r4_trace.Traced.{IsSealed, atom_in}
+use Rattle.r4_applied.specs.r4_trace.declared.entry.Entry.{Entry}
+use Rattle.r4_applied.specs.r4_trace.declared.entry.Entry.TheVariants.{Done}
+use Rattle.r4_freed.specs.r4_turns.Turns.{answered_at, turn_at}
+use Rattle.r4_freed.specs.r4_turns.declared.out.Out.{Out}
+use Rattle.r4_freed.specs.r4_turns.declared.turn.Open.{Open}
 use Rattle.r4_right.specs.Built.{IsBuiltOf}
 
 small : greatest_size < 2 ^ 64

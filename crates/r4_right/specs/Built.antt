@@ -1,10 +1,10 @@
 -- What was built of a task that is out (docs/core.md, "Little steps").
 use Rattle.std.specs.Prelude.{◌≡◌}
 use Rattle.std.specs.Arc.{arc_value}
-use Rattle.r4_build.specs.Built.{BuiltSeen, IsBuilt}
+use Rattle.r4_applied.specs.r4_build.Built.{BuiltSeen, IsBuilt}
 use Rattle.r4_content.specs.Held.{pairs_of}
 use Rattle.r4_content.specs.declared.command.Command.{Command}
-use Rattle.r4_turns.specs.declared.out.Out.{Out}
+use Rattle.r4_freed.specs.r4_turns.declared.out.Out.{Out}
 
 -- It was built of this command, of the cells that the task was given and what was seen for it, with
 -- its numbers.

@@ -1,7 +1,7 @@
 -- Room in the parts of a core for a step that may not want memory (docs/core.md, "Room").
 use Rattle.std.specs.Prelude.{◌≡◌, ◌+◌, ◌≤◌, ℕ, List}
 use Rattle.r4_atoms.specs.Atoms.{AtomsSeen, owner_of}
-use Rattle.r4_buffer.specs.Seen.{BufferSeen, buffered}
+use Rattle.r4_kept.specs.r4_buffer.Seen.{BufferSeen, buffered}
 use Rattle.r4_kept.specs.Accounts.{cells_owed, claims_owed}
 use Rattle.r4_rooms.specs.declared.making.Wanted.{Wanted}
 use Rattle.r4_rooms.specs.declared.owing.Owed.{Owed}

@@ -7,3 +7,5 @@ mod owing;
 
 pub use making::{Wanted, make_room};
 pub use owing::{Owed, tasks_owe};
+pub use r4_kept::{Numbers, Volume};
+pub use r4_turns::Turns;

@@ -7,7 +7,7 @@ ghost use Rattle.r4_rooms.specs.Rooms.{HasMorePlaces, HasRooms};
 use crate::owing::tasks_owe;
 use r4_atoms::Atoms;
 use r4_base::Memory;
-use r4_buffer::Buffer;
+use r4_kept::Buffer;
 use r4_space::SpaceMap;
 use r4_trace::Trace;
 use r4_turns::Turns;

@@ -9,15 +9,15 @@ use Rattle.r4_base.specs.Image.{AgreesOutside, Image, IsImage, put_pairs}
 use Rattle.r4_base.specs.Value.{Content}
 use Rattle.r4_base.specs.Volume.{HasContent, HasVolume}
 use Rattle.r4_base.specs.declared.superblock.LayoutFault.{LayoutFault}
-use Rattle.r4_open.proofs.Openings.{layout_is}
-use Rattle.r4_open.specs.Opening.{bitmaps_misfit, layout_misfit, misfit}
+use Rattle.r4_shared.proofs.r4_open.Openings.{layout_is}
+use Rattle.r4_shared.specs.r4_open.Opening.{bitmaps_misfit, layout_misfit, misfit}
 use Rattle.r4_outside.specs.Device.{Goes, State, TellsReads}
 use Rattle.r4_outside.specs.Sink.{SinkState}
 use Rattle.r4_outside.specs.Source.{SourceState}
 use Rattle.r4_replay.specs.Replay.{PutInPlace}
-use Rattle.r4_start.specs.Starting.{IsOpenFault}
-use Rattle.r4_start.specs.declared.fault.OpenWhy.{OpenWhy}
-use Rattle.r4_start.specs.declared.fault.OpenWhy.TheVariants as why
+use Rattle.r4_shared.specs.r4_start.Starting.{IsOpenFault}
+use Rattle.r4_shared.specs.r4_start.declared.fault.OpenWhy.{OpenWhy}
+use Rattle.r4_shared.specs.r4_start.declared.fault.OpenWhy.TheVariants as why
 use Rattle.r4_trace.specs.Job.{Asked}
 use Rattle.r4_run.specs.Completing.{IsUnhindered}
 use Rattle.r4_run.specs.Ending.{TellsWhy}

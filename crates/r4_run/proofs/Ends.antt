@@ -7,9 +7,9 @@ use Rattle.r4_content.specs.Locality.{Meaning, commands}
 use Rattle.r4_content.specs.Meaning.{greatest_size}
 use Rattle.r4_content.specs.declared.command.Command.{Command}
 use Rattle.r4_content.specs.declared.reply.Reply.{Reply}
-use Rattle.r4_durable.specs.Meaning.{Beginning, IsNamed, Names}
-use Rattle.r4_history.specs.Tables.{asked}
-use Rattle.r4_kept.specs.View.{CoreSeen}
+use Rattle.r4_shared.specs.r4_durable.Meaning.{Beginning, IsNamed, Names}
+use Rattle.r4_shared.specs.r4_history.Tables.{asked}
+use Rattle.r4_shared.specs.r4_kept.View.{CoreSeen}
 use Rattle.r4_lines.specs.Lines.{device_line, memory_line}
 use Rattle.r4_lines.specs.Printed.{Gets, GetsPart, Prints}
 use Rattle.r4_outside.specs.Device.{State}

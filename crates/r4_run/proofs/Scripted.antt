@@ -4,7 +4,7 @@ use Rattle.std.proofs.Common.{IsSome, Ok}
 use Rattle.std.specs.Borrow.{GName}
 use Rattle.r4_base.specs.Image.{Image, IsLawful as IsSize}
 use Rattle.r4_devices.specs.declared.torn.Stop.{Stop}
-use Rattle.r4_history.specs.Tables.{asked}
+use Rattle.r4_shared.specs.r4_history.Tables.{asked}
 use Rattle.r4_outside.specs.Device.{State, lent_to}
 use Rattle.r4_outside.specs.Sink.{SinkState}
 use Rattle.r4_outside.specs.Source.{SourceState}
@@ -12,9 +12,9 @@ use Rattle.r4_script.specs.Text.{Faults, job_of}
 use Rattle.r4_script.specs.declared.fault.ParseFault.{ParseFault}
 use Rattle.r4_script.specs.declared.fault.ParseFault.TheVariants.{Memory, Script}
 use Rattle.r4_script.specs.declared.job.Job.{Job}
-use Rattle.r4_start.specs.Starting.{IsOpenFault, IsReplayed}
-use Rattle.r4_start.specs.declared.fault.OpenWhy.{OpenWhy}
-use Rattle.r4_start.specs.declared.fault.OpenWhy.TheVariants as why
+use Rattle.r4_shared.specs.r4_start.Starting.{IsOpenFault, IsReplayed}
+use Rattle.r4_shared.specs.r4_start.declared.fault.OpenWhy.{OpenWhy}
+use Rattle.r4_shared.specs.r4_start.declared.fault.OpenWhy.TheVariants as why
 use Rattle.r4_trace.specs.Job.{Asked}
 use Rattle.r4_trace.specs.declared.entry.Entry.{Entry}
 use Rattle.r4_run.specs.Naming.{named}

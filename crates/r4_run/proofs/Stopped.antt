@@ -11,14 +11,14 @@ use Rattle.r4_content.specs.declared.reply.Reply.{Reply}
 use Rattle.r4_devices.specs.Stop.{Begins as BeginsOver, IsCovered, StopView, stop_state, stopped_after, told}
 use Rattle.r4_devices.specs.declared.torn.Stop.{Stop}
 use Rattle.r4_devices.proofs.Stopping.{begins_quiet, tells_in}
-use Rattle.r4_durable.specs.Meaning.{IsSafeTrace, Names}
+use Rattle.r4_shared.specs.r4_durable.Meaning.{IsSafeTrace, Names}
 use Rattle.r4_lines.specs.Lines.{memory_line}
 use Rattle.r4_lines.specs.Printed.{Prints}
 use Rattle.r4_outside.specs.Device.{Goes, Rose, State, TellsCrashes, Untouched}
 use Rattle.r4_outside.specs.Sink.{SinkState}
-use Rattle.r4_start.specs.Starting.{IsOpenFault}
-use Rattle.r4_start.specs.declared.fault.OpenWhy.{OpenWhy}
-use Rattle.r4_start.specs.declared.fault.OpenWhy.TheVariants as why
+use Rattle.r4_shared.specs.r4_start.Starting.{IsOpenFault}
+use Rattle.r4_shared.specs.r4_start.declared.fault.OpenWhy.{OpenWhy}
+use Rattle.r4_shared.specs.r4_start.declared.fault.OpenWhy.TheVariants as why
 use Rattle.r4_trace.proofs.FirstOnes.{all_by}
 use Rattle.r4_trace.proofs.Stepping.{said_is_acked}
 use Rattle.r4_trace.specs.Job.{Asked}

@@ -8,7 +8,7 @@ use Rattle.r4_outside.specs.Sink.{SinkState}
 use Rattle.r4_print.specs.declared.printing.PrintFault.{PrintFault}
 use Rattle.r4_script.specs.declared.fault.ParseFault.{ParseFault}
 use Rattle.r4_source.specs.declared.reading.ReadFault.{ReadFault}
-use Rattle.r4_start.specs.declared.fault.OpenWhy.{OpenWhy}
+use Rattle.r4_shared.specs.r4_start.declared.fault.OpenWhy.{OpenWhy}
 use Rattle.r4_run.specs.Scripts.{TellsFault, TellsUnread}
 use Rattle.r4_run.specs.Ending.{PrintsDevice, TellsEnd, TellsServed, TellsWhy}
 use Rattle.r4_run.specs.declared.ending.End.{End}

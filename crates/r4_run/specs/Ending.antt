@@ -1,16 +1,16 @@
 -- How far a run came, and what is printed of that (docs/program.md, "Running").
 use Rattle.std.specs.Prelude.{◌≡◌, ◌⊎◌, ℕ, None, Result, Ok, Err, IsSome}
 use Rattle.r4_base.specs.Words.{layout_word_of, log_word_of}
-use Rattle.r4_history.specs.Tables.{asked}
-use Rattle.r4_kept.specs.View.{CoreSeen}
+use Rattle.r4_shared.specs.r4_history.Tables.{asked}
+use Rattle.r4_shared.specs.r4_kept.View.{CoreSeen}
 use Rattle.r4_lines.specs.Lines.{device_line, image_line, memory_line, size_line}
 use Rattle.r4_lines.specs.Printed.{Prints}
 use Rattle.r4_outside.specs.Device.{Rose, State}
 use Rattle.r4_outside.specs.Sink.{SinkState}
 use Rattle.r4_print.specs.declared.printing.PrintFault.{PrintFault}
 use Rattle.r4_print.specs.declared.printing.PrintFault.TheVariants.{Sink}
-use Rattle.r4_start.specs.declared.fault.OpenWhy.{OpenWhy}
-use Rattle.r4_start.specs.declared.fault.OpenWhy.TheVariants.{Device, Image as OfImage, Log, Memory, Size}
+use Rattle.r4_shared.specs.r4_start.declared.fault.OpenWhy.{OpenWhy}
+use Rattle.r4_shared.specs.r4_start.declared.fault.OpenWhy.TheVariants.{Device, Image as OfImage, Log, Memory, Size}
 use Rattle.r4_trace.specs.Legal.{IsWhole}
 use Rattle.r4_run.specs.declared.ending.End.{End}
 use Rattle.r4_run.specs.declared.ending.End.TheVariants.{Opened, Unopened}

@@ -4,3 +4,5 @@ pub mod Naming
 pub mod Running
 pub mod Scripts
 pub mod Stopping
+-- what crates above name by way of this one
+pub use Rattle.r4_shared.specs.r4_durable

@@ -2,7 +2,7 @@
 use Rattle.std.specs.Prelude.{◌≡◌, ℕ, List, Option, Some, None, IsSome}
 use Rattle.std.specs.Borrow.{GName}
 use Rattle.r4_base.specs.Image.{Image}
-use Rattle.r4_durable.specs.Meaning.{Names}
+use Rattle.r4_shared.specs.r4_durable.Meaning.{Names}
 use Rattle.r4_outside.specs.Device.{IsQuiet, State, TellsCrashes, TellsReads}
 use Rattle.r4_trace.specs.Job.{Asked}
 

@@ -6,16 +6,16 @@ use Rattle.r4_base.specs.Image.{Image, IsLawful as IsSize}
 use Rattle.r4_base.specs.Volume.{HasVolume}
 use Rattle.r4_content.specs.Locality.{commands}
 use Rattle.r4_content.specs.Meaning.{greatest_size}
-use Rattle.r4_durable.specs.Meaning.{Beginning, BeginsWith, IsNamed, IsSafeTrace, Names, start_of}
-use Rattle.r4_kept.specs.Naming.{job_named, names_of}
+use Rattle.r4_shared.specs.r4_durable.Meaning.{Beginning, BeginsWith, IsNamed, IsSafeTrace, Names, start_of}
+use Rattle.r4_shared.specs.r4_kept.Naming.{job_named, names_of}
 use Rattle.r4_lines.specs.Lines.{device_line, memory_line}
 use Rattle.r4_lines.specs.Printed.{Gets, GetsPart, Prints}
 use Rattle.r4_outside.specs.Device.{Rose, State}
 use Rattle.r4_outside.specs.Sink.{SinkState}
 use Rattle.r4_print.specs.Printing.{Prints as PrintsSome}
 use Rattle.r4_print.specs.declared.printing.PrintFault.{PrintFault}
-use Rattle.r4_start.specs.Starting.{IsOpenFault}
-use Rattle.r4_start.specs.declared.fault.OpenWhy.{OpenWhy}
+use Rattle.r4_shared.specs.r4_start.Starting.{IsOpenFault}
+use Rattle.r4_shared.specs.r4_start.declared.fault.OpenWhy.{OpenWhy}
 use Rattle.r4_trace.specs.Folds.{after_first}
 use Rattle.r4_trace.specs.Job.{Asked}
 use Rattle.r4_trace.specs.Legal.{IsLegal, IsWhole}

@@ -1,7 +1,7 @@
 -- What the command `run` answers (docs/program.md, "Running" and "Lines and statuses").
 use Rattle.std.specs.Prelude.{◌≡◌, ◌⊎◌, ◌↔◌, ℕ, ◌≤◌, List, codes, Option, Some, IsSome, Ok, Err}
 use Rattle.r4_base.specs.Image.{Image}
-use Rattle.r4_history.specs.Tables.{asked}
+use Rattle.r4_shared.specs.r4_history.Tables.{asked}
 use Rattle.r4_lines.specs.Lines.{memory_line, script_line, source_line}
 use Rattle.r4_lines.specs.Printed.{Prints}
 use Rattle.r4_outside.specs.Device.{Rose, State, Untouched}

@@ -6,7 +6,7 @@ use Rattle.r4_base.specs.Image.{Image}
 use Rattle.r4_content.specs.Meaning.{greatest_size}
 use Rattle.r4_devices.specs.Stop.{IsCovered, stop_state}
 use Rattle.r4_devices.specs.declared.torn.Stop.{Stop}
-use Rattle.r4_durable.specs.Meaning.{IsSafeTrace}
+use Rattle.r4_shared.specs.r4_durable.Meaning.{IsSafeTrace}
 use Rattle.r4_lines.specs.Lines.{memory_line}
 use Rattle.r4_lines.specs.Printed.{Prints}
 use Rattle.r4_outside.specs.Device.{Rose, State, Untouched}

@@ -1,7 +1,7 @@
 //! A run's names: with what it began, as contracts say it.
 
 ghost use Rattle.std.specs.Prelude.{◌≡◌, Ok};
-ghost use Rattle.r4_history.specs.Tables.{asked};
+ghost use Rattle.r4_shared.specs.r4_history.Tables.{asked};
 ghost use Rattle.r4_outside.specs.Device.{Goes};
 ghost use Rattle.r4_run.specs.Naming.{Begins, IsNamedSo};
 ghost use Rattle.r4_run.specs.Running.{Served};

@@ -3,7 +3,7 @@
 ghost use Rattle.std.specs.Prelude.{◌≡◌, Ok, Some};
 ghost use Rattle.std.specs.Option.{option_map};
 ghost use Rattle.r4_devices.specs.Stop.{told};
-ghost use Rattle.r4_history.specs.Tables.{asked};
+ghost use Rattle.r4_shared.specs.r4_history.Tables.{asked};
 ghost use Rattle.r4_outside.specs.Device.{Goes};
 ghost use Rattle.r4_run.specs.Naming.{Begins};
 ghost use Rattle.r4_run.specs.Running.{Ran};

@@ -1,7 +1,7 @@
 //! A session: a core is opened on the device, served to its end, and gives the device back.
 
 ghost use Rattle.std.specs.Prelude.{◌≡◌, Ok};
-ghost use Rattle.r4_history.specs.Tables.{asked};
+ghost use Rattle.r4_shared.specs.r4_history.Tables.{asked};
 ghost use Rattle.r4_run.specs.Naming.{Begins, IsNamedSo};
 ghost use Rattle.r4_run.specs.Running.{Closed, Served};
 ghost use Rattle.r4_script.specs.Spelling.{AreScripts};

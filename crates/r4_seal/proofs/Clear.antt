@@ -10,15 +10,15 @@ use Rattle.r4_atoms.specs.Atoms.{AtomsSeen, IsClosedAtom, IsOpenIn, is_open_in, 
 use Rattle.r4_base.proofs.Members.{member_cases, no_member}
 use Rattle.r4_base.specs.declared.things.NodeId.{NodeId}
 use Rattle.r4_cell.specs.Seen.{CellSeen}
-use Rattle.r4_history.specs.Held.{IsOut, TasksTell, names_of, need_of}
-use Rattle.r4_history.specs.Tables.{Tables}
+use Rattle.r4_core.specs.r4_history.Held.{IsOut, TasksTell, names_of, need_of}
+use Rattle.r4_core.specs.r4_history.Tables.{Tables}
 use Rattle.r4_locks.proofs.Counts.{count_at}
 use Rattle.r4_locks.specs.Locks.{LocksSeen, TaskSeen, is_named, mode_in, mode_of, mode_with, readers, writers}
 use Rattle.r4_locks.specs.Modes.{is_reading, is_writing, joined}
 use Rattle.r4_locks.specs.declared.things.Mode.{Mode}
 use Rattle.r4_locks.specs.declared.things.Mode.TheVariants.{Reads, Writes}
 use Rattle.r4_turns.specs.declared.out.Out.{Out}
-use Rattle.r4_wander.proofs.Members.{in_map}
+use Rattle.r4_core.proofs.r4_wander.Members.{in_map}
 
 -- ---- holds
 

@@ -17,7 +17,7 @@ use Rattle.r4_base.specs.declared.things.NodeId.{NodeId}
 use Rattle.r4_buffer.specs.Seen.{BufferSeen, EntrySeen, IsLawful, buffered, cell_at}
 use Rattle.r4_cell.specs.Seen.{CellSeen}
 use Rattle.r4_core.specs.r4_flushing.Sealing.{AreCellsOf}
-use Rattle.r4_wander.proofs.Members.{any_cases, any_here, any_later}
+use Rattle.r4_core.proofs.r4_wander.Members.{any_cases, any_here, any_later}
 use Rattle.r4_seal.specs.Cells.{cells_under, one_cell}
 
 -- ---- rising numbers

@@ -16,9 +16,9 @@ use Rattle.r4_base.specs.declared.things.NodeId.{NodeId}
 use Rattle.r4_buffer.specs.Seen.{IsLawful as AreNamed}
 use Rattle.r4_cell.specs.Seen.{CellSeen}
 use Rattle.r4_closed.specs.Closed.{AreClosed}
-use Rattle.r4_flush.specs.Asked.{StandsIn, fresh_count}
-use Rattle.r4_flush.specs.Prepared.{IsPrepared}
-use Rattle.r4_flush.specs.declared.preparing.Prepared.{Prepared}
+use Rattle.r4_core.specs.r4_flush.Asked.{StandsIn, fresh_count}
+use Rattle.r4_core.specs.r4_flush.Prepared.{IsPrepared}
+use Rattle.r4_core.specs.r4_flush.declared.preparing.Prepared.{Prepared}
 use Rattle.r4_core.proofs.r4_flushing.Preparing.{all_stand, has_room}
 use Rattle.r4_core.specs.r4_flushing.Sealable.{IsClear, MaySeal}
 use Rattle.r4_core.specs.r4_flushing.Sealing.{AreCellsOf, CanSeal, super_to_come}
@@ -26,8 +26,8 @@ use Rattle.r4_outside.specs.Device.{State}
 use Rattle.r4_space.specs.Accounts.{price_formula}
 use Rattle.r4_space.specs.Lawful.{IsLawful}
 use Rattle.r4_space.specs.Space.{Space, is_taken, unused_count}
-use Rattle.r4_wander.proofs.Members.{from_map}
-use Rattle.r4_wander.specs.Torn.{targets}
+use Rattle.r4_core.proofs.r4_wander.Members.{from_map}
+use Rattle.r4_core.specs.r4_wander.Torn.{targets}
 use Rattle.r4_core.specs.r4_kept.History.{owed}
 use Rattle.r4_core.specs.r4_kept.Kept.{IsKept}
 use Rattle.r4_core.specs.r4_kept.Naming.{Naming}

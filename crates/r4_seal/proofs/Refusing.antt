@@ -14,13 +14,13 @@ use Rattle.r4_base.specs.declared.things.ScriptNo.{ScriptNo}
 use Rattle.r4_content.specs.Locality.{commands}
 use Rattle.r4_content.specs.Meaning.{greatest_size}
 use Rattle.r4_content.specs.declared.command.Command.TheVariants as asks
-use Rattle.r4_history.proofs.DrawnSteps.{turn_other}
-use Rattle.r4_history.proofs.Places.{is_script_with}
-use Rattle.r4_history.proofs.WaitingSteps.{next_suits}
-use Rattle.r4_history.specs.Serving.{Suits}
-use Rattle.r4_history.specs.Tables.{next_at}
+use Rattle.r4_core.proofs.r4_history.DrawnSteps.{turn_other}
+use Rattle.r4_core.proofs.r4_history.Places.{is_script_with}
+use Rattle.r4_core.proofs.r4_history.WaitingSteps.{next_suits}
+use Rattle.r4_core.specs.r4_history.Serving.{Suits}
+use Rattle.r4_core.specs.r4_history.Tables.{next_at}
 use Rattle.r4_outside.specs.Device.{State}
-use Rattle.r4_script.specs.declared.job.Job.{Job}
+use Rattle.r4_core.specs.r4_script.declared.job.Job.{Job}
 use Rattle.r4_turns.specs.Turns.{IsScript, answered_one, commands_at, no_script, turn_at}
 use Rattle.r4_turns.specs.declared.turn.Open.{Open}
 use Rattle.r4_turns.specs.declared.turn.Turn.{Turn}
@@ -30,7 +30,7 @@ use Rattle.r4_core.specs.r4_kept.Kept.{IsKept}
 use Rattle.r4_core.specs.r4_kept.Naming.{Naming}
 use Rattle.r4_core.specs.r4_kept.Steps.{IsRefusable}
 use Rattle.r4_core.specs.r4_kept.View.{CoreSeen, tables_of}
-use Rattle.r4_wander.proofs.Members.{any_cases, any_here, any_later}
+use Rattle.r4_core.proofs.r4_wander.Members.{any_cases, any_here, any_later}
 use Rattle.r4_seal.specs.Waiting.{AreWaiting, HasTxnIn, RefusesIfWaiting, WaitsAtCommit}
 use Rattle.r4_seal.specs.Waiting.{all_refused, refused_memory}
 

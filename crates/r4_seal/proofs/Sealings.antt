@@ -9,7 +9,7 @@ use Rattle.r4_base.proofs.Members.{no_member}
 use Rattle.r4_base.specs.declared.things.AtomNo.{AtomNo}
 use Rattle.r4_base.specs.declared.things.NodeId.{NodeId}
 use Rattle.r4_cell.specs.Seen.{CellSeen}
-use Rattle.r4_flush.specs.declared.preparing.Prepared.{Prepared}
+use Rattle.r4_core.specs.r4_flush.declared.preparing.Prepared.{Prepared}
 use Rattle.r4_core.specs.r4_flushing.Sealable.{MaySeal}
 use Rattle.r4_core.specs.r4_flushing.Sealing.{HasSealed}
 use Rattle.r4_core.specs.r4_kept.Steps.{sealed_empty}

@@ -5,7 +5,7 @@ use Rattle.r4_atoms.specs.Atoms.{account_of}
 use Rattle.r4_base.specs.declared.things.AtomNo.{AtomNo}
 use Rattle.r4_base.specs.declared.things.BlockNo.{BlockNo}
 use Rattle.r4_base.specs.declared.things.NodeId.{NodeId}
-use Rattle.r4_flush.specs.declared.cells.RenamedCell.{RenamedCell}
+use Rattle.r4_core.specs.r4_flush.declared.cells.RenamedCell.{RenamedCell}
 use Rattle.r4_core.specs.r4_flushing.Sealable.{IsClear}
 use Rattle.r4_core.specs.r4_kept.View.{CoreSeen}
 use Rattle.r4_space.specs.Space.{Space, is_taken}

@@ -6,10 +6,10 @@ use Rattle.r4_atoms.specs.Atoms.{AtomsSeen, IsBegun, atom_of, txn_of}
 use Rattle.r4_base.specs.declared.things.ScriptNo.{ScriptNo}
 use Rattle.r4_content.specs.declared.command.Command.TheVariants as asks
 use Rattle.r4_content.specs.declared.reply.Reply.TheVariants.{Memory}
-use Rattle.r4_history.specs.Tables.{next_at}
+use Rattle.r4_core.specs.r4_history.Tables.{next_at}
 use Rattle.r4_core.specs.r4_kept.Steps.{answered}
 use Rattle.r4_core.specs.r4_kept.View.{CoreSeen}
-use Rattle.r4_trace.specs.declared.entry.Entry.TheVariants.{Refused}
+use Rattle.r4_core.specs.r4_trace.declared.entry.Entry.TheVariants.{Refused}
 use Rattle.r4_turns.specs.Turns.{IsScript, answered_at, turn_at}
 
 -- a transaction of the script is in the atom

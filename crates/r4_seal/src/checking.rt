@@ -7,8 +7,7 @@ ghost use Rattle.r4_seal.specs.Checked.{AreClearBlocks, AreClearNames, AreUsed, 
 ghost use Rattle.r4_seal.specs.Checked.{IsUsedNode};
 
 use r4_base::{BlockNo, NodeId, UNPLACED};
-use r4_core::Core;
-use r4_flush::RenamedCell;
+use r4_core::{Core, RenamedCell};
 use r4_locks::Held;
 use r4_outside::{Device, Run};
 use r4_space::SpaceMap;

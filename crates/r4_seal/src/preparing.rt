@@ -14,8 +14,7 @@ use crate::checking::{are_clear, are_used, names_are_clear};
 use crate::gathering::cells_under;
 use r4_base::{AtomNo, FIRST_OBJECT, Memory, NodeId, Super40};
 use r4_closed::are_closed;
-use r4_core::Core;
-use r4_flush::{Prepared, prepare};
+use r4_core::{Core, Prepared, prepare};
 use r4_outside::{Device, Run};
 use std::alloc::Global;
 

@@ -13,9 +13,9 @@ use Rattle.r4_base.specs.declared.superblock.Super40.{Super40}
 use Rattle.r4_base.proofs.Frame.{home_cases}
 use Rattle.r4_base.proofs.Needed.{footer_not_made}
 use Rattle.r4_base.proofs.Spare.{same_content, same_store, same_super}
-use Rattle.r4_wander.specs.Kept.{IsVolumeOf}
-use Rattle.r4_wander.specs.Safe.{WithAtom, WithoutAtom, is_scratch}
-use Rattle.r4_wander.proofs.Needed.{not_made}
+use Rattle.r4_commit.specs.r4_wander.Kept.{IsVolumeOf}
+use Rattle.r4_commit.specs.r4_wander.Safe.{WithAtom, WithoutAtom, is_scratch}
+use Rattle.r4_commit.proofs.r4_wander.Needed.{not_made}
 use Rattle.r4_commit.specs.Plannable.{is_spoken_for}
 use Rattle.r4_commit.proofs.NewImage.{keeps_off}
 use Rattle.r4_commit.proofs.PlanFacts.{bitmap_within}

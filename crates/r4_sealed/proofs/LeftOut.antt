@@ -10,11 +10,11 @@ use Rattle.r4_base.specs.Value.{Content, Value}
 use Rattle.r4_base.specs.Volume.{HasContent, HasIds, IsLost, objects_in, root_of, stat_rank}
 use Rattle.r4_base.specs.declared.superblock.Super40.{Super40}
 use Rattle.r4_base.proofs.Superblocks.{read_lawful}
-use Rattle.r4_space.specs.Space.{is_marked_by}
-use Rattle.r4_wander.specs.Torn.{Write}
-use Rattle.r4_wander.proofs.Members.{any_here}
+use Rattle.r4_commit.specs.r4_space.Space.{is_marked_by}
+use Rattle.r4_commit.specs.r4_wander.Torn.{Write}
+use Rattle.r4_commit.proofs.r4_wander.Members.{any_here}
 use Rattle.r4_commit.specs.Planned.{new_super}
-use Rattle.r4_sets.specs.Session.{IsTreeOf}
+use Rattle.r4_sets_told.specs.r4_sets.Session.{IsTreeOf}
 use Rattle.r4_sets_told.proofs.Blocks.{raw_ids}
 use Rattle.r4_sealed.specs.Commits.{Commit, IsCommitOn, image_after, image_before, is_freed, super_after}
 use Rattle.r4_sealed.specs.Written.{IsSpaceOf}

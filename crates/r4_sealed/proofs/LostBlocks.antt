@@ -11,8 +11,8 @@ use Rattle.r4_base.specs.Value.{Content, Value}
 use Rattle.r4_base.specs.Volume.{HasContent, IsLost}
 use Rattle.r4_base.specs.declared.superblock.Super40.{Super40}
 use Rattle.r4_base.specs.declared.things.AtomNo.{AtomNo}
-use Rattle.r4_sets.proofs.Carried.{not_true}
-use Rattle.r4_space.specs.Space.{Space, is_marked_after, is_marked_by}
+use Rattle.r4_sets_told.proofs.r4_sets.Carried.{not_true}
+use Rattle.r4_commit.specs.r4_space.Space.{Space, is_marked_after, is_marked_by}
 use Rattle.r4_commit.specs.Plannable.{is_marked_in}
 use Rattle.r4_sealed.specs.Commits.{Commit, IsCommitOn, image_after, image_before, is_freed}
 use Rattle.r4_sealed.specs.Written.{Frees, IsSpaceOf}

@@ -15,16 +15,16 @@ use Rattle.r4_base.specs.Volume.{IsPlace}
 use Rattle.r4_base.specs.declared.things.AtomNo.{AtomNo}
 use Rattle.r4_base.specs.declared.things.BlockNo.{BlockNo}
 use Rattle.r4_base.proofs.Frame.{length-put_pairs}
-use Rattle.r4_cell.specs.Seen.{CellSeen}
-use Rattle.r4_space.specs.Space.{Space, is_marked_after, is_marked_by}
-use Rattle.r4_place.specs.Chosen.{fresh_blocks}
-use Rattle.r4_wander.specs.Seen.{Placed as PlacedCell}
-use Rattle.r4_wander.specs.Torn.{IsTarget, Write, put_writes, targets}
-use Rattle.r4_wander.specs.LogPlan.{news, placed_writes}
-use Rattle.r4_wander.proofs.Encoding.{news_are}
-use Rattle.r4_wander.proofs.Members.{any_cases, any_here, any_later, in_map}
-use Rattle.r4_wander.proofs.Order.{put_at}
-use Rattle.r4_wander.proofs.Settling.{length-put_writes, put_writes_other}
+use Rattle.r4_commit.specs.r4_cell.Seen.{CellSeen}
+use Rattle.r4_commit.specs.r4_space.Space.{Space, is_marked_after, is_marked_by}
+use Rattle.r4_commit.specs.r4_place.Chosen.{fresh_blocks}
+use Rattle.r4_commit.specs.r4_wander.Seen.{Placed as PlacedCell}
+use Rattle.r4_commit.specs.r4_wander.Torn.{IsTarget, Write, put_writes, targets}
+use Rattle.r4_commit.specs.r4_wander.LogPlan.{news, placed_writes}
+use Rattle.r4_commit.proofs.r4_wander.Encoding.{news_are}
+use Rattle.r4_commit.proofs.r4_wander.Members.{any_cases, any_here, any_later, in_map}
+use Rattle.r4_commit.proofs.r4_wander.Order.{put_at}
+use Rattle.r4_commit.proofs.r4_wander.Settling.{length-put_writes, put_writes_other}
 use Rattle.r4_commit.specs.Places.{kept_at, overwritten, overwritten_blocks, place_of, placed_at, placed_cells}
 use Rattle.r4_commit.specs.Planned.{bitmap_writes, new_super}
 use Rattle.r4_commit.specs.Plannable.{is_marked_in, is_spoken_for}

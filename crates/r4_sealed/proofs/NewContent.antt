@@ -12,7 +12,7 @@ use Rattle.r4_commit.specs.Plannable.{is_spoken_for}
 use Rattle.r4_commit.proofs.NewImage.{bitmaps_sound, super_sound}
 use Rattle.r4_commit.proofs.PlanFacts.{later_bitmap}
 use Rattle.r4_commit.proofs.Safety.{fixed_low, marked_spoken}
-use Rattle.r4_sets.specs.Session.{IsTreeOf}
+use Rattle.r4_sets_told.specs.r4_sets.Session.{IsTreeOf}
 use Rattle.r4_sets_told.proofs.Blocks.{raw_ids, raw_objects}
 use Rattle.r4_sealed.specs.Commits.{Commit, IsCommitOn, image_after, image_before, super_after}
 use Rattle.r4_sealed.specs.Contents.{HasContentWith, IsNewTree}

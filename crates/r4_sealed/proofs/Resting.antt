@@ -8,8 +8,8 @@ use Rattle.r4_base.specs.Value.{Content}
 use Rattle.r4_base.specs.Volume.{HasContent, IsLost}
 use Rattle.r4_base.specs.declared.superblock.Super40.{Super40}
 use Rattle.r4_base.proofs.Logs.{one_log}
-use Rattle.r4_space.specs.Space.{Space}
-use Rattle.r4_wander.specs.Kept.{IsVolumeOf}
+use Rattle.r4_commit.specs.r4_space.Space.{Space}
+use Rattle.r4_commit.specs.r4_wander.Kept.{IsVolumeOf}
 use Rattle.r4_sealed.specs.Contents.{HasContentWith}
 use Rattle.r4_sealed.specs.Written.{IsSpaceOf}
 

@@ -11,10 +11,10 @@ use Rattle.r4_base.specs.Bitmap.{is_fixed}
 use Rattle.r4_base.specs.Value.{Content}
 use Rattle.r4_base.specs.Volume.{HasContent}
 use Rattle.r4_base.specs.declared.things.AtomNo.{AtomNo}
-use Rattle.r4_space.specs.Accounts.{is_atom, is_sealed}
-use Rattle.r4_space.specs.Space.{Space, claims_of, freed_by, is_claimed, is_marked_after, is_marked_by, settled}
-use Rattle.r4_space.specs.Space.{up_to}
-use Rattle.r4_space.specs.declared.things.Claim.{Claim}
+use Rattle.r4_commit.specs.r4_space.Accounts.{is_atom, is_sealed}
+use Rattle.r4_commit.specs.r4_space.Space.{Space, claims_of, freed_by, is_claimed, is_marked_after, is_marked_by, settled}
+use Rattle.r4_commit.specs.r4_space.Space.{up_to}
+use Rattle.r4_commit.specs.r4_space.declared.things.Claim.{Claim}
 use Rattle.r4_commit.specs.Plannable.{is_marked_in}
 use Rattle.r4_sealed.specs.Commits.{Commit, IsCommitOn, IsLater, image_after, is_freed}
 use Rattle.r4_sealed.specs.Written.{IsSpaceOf}

@@ -7,11 +7,11 @@ use Rattle.r4_base.specs.Image.{Image, put_pairs}
 use Rattle.r4_base.specs.declared.superblock.Super40.{Super40}
 use Rattle.r4_base.specs.declared.things.AtomNo.{AtomNo}
 use Rattle.r4_base.specs.declared.things.BlockNo.{BlockNo}
-use Rattle.r4_cell.specs.Seen.{CellSeen}
-use Rattle.r4_space.specs.Space.{Space, claims_of, freed_by, is_claimed, up_to}
-use Rattle.r4_place.specs.declared.placed.Placed.{Placed}
-use Rattle.r4_wander.specs.Safe.{ByPart, with_atom}
-use Rattle.r4_wander.specs.declared.plan.LogPlan.{LogPlan}
+use Rattle.r4_commit.specs.r4_cell.Seen.{CellSeen}
+use Rattle.r4_commit.specs.r4_space.Space.{Space, claims_of, freed_by, is_claimed, up_to}
+use Rattle.r4_commit.specs.r4_place.declared.placed.Placed.{Placed}
+use Rattle.r4_commit.specs.r4_wander.Safe.{ByPart, with_atom}
+use Rattle.r4_commit.specs.r4_wander.declared.plan.LogPlan.{LogPlan}
 use Rattle.r4_commit.specs.Places.{place_of}
 use Rattle.r4_commit.specs.Plannable.{IsPlannable}
 use Rattle.r4_commit.specs.Planned.{IsPlanFor}

@@ -8,8 +8,8 @@ use Rattle.r4_base.specs.Value.{Content, Value}
 use Rattle.r4_base.specs.Volume.{HasContent, HasIds, HasObjects, root_of}
 use Rattle.r4_base.specs.declared.superblock.Master.{Master}
 use Rattle.r4_base.specs.declared.superblock.Super40.{Super40}
-use Rattle.r4_wander.specs.Kept.{IsVolumeOf}
-use Rattle.r4_sets.specs.Session.{IsTreeOf}
+use Rattle.r4_commit.specs.r4_wander.Kept.{IsVolumeOf}
+use Rattle.r4_sets_told.specs.r4_sets.Session.{IsTreeOf}
 use Rattle.r4_sealed.specs.Commits.{Commit, image_before}
 
 -- The image has the content, with this superblock and just these cells.

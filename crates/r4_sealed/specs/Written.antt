@@ -6,8 +6,8 @@ use Rattle.r4_base.specs.Image.{Image, block_at}
 use Rattle.r4_base.specs.Tree.{Node, Store}
 use Rattle.r4_base.specs.Value.{Content, Value}
 use Rattle.r4_base.specs.Volume.{HasContent, IsPlace}
-use Rattle.r4_cell.specs.Seen.{CellSeen}
-use Rattle.r4_space.specs.Space.{Space}
+use Rattle.r4_commit.specs.r4_cell.Seen.{CellSeen}
+use Rattle.r4_commit.specs.r4_space.Space.{Space}
 use Rattle.r4_commit.specs.Places.{overwritten_blocks}
 use Rattle.r4_commit.specs.Plannable.{is_marked_in}
 use Rattle.r4_sealed.specs.Commits.{Commit, image_before, is_freed, spot}

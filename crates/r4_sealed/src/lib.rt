@@ -12,4 +12,5 @@ pub use contents::{
     trees_of_contents_are_written,
 };
 pub use lost::{lost_blocks_stay, space_settles};
+pub use r4_commit::{CommitPlan, on_disk_law, plan};
 pub use wrong::{freed_blocks_have_to_be_deferred, new_contents_are_as_planned};

@@ -6,7 +6,7 @@ ghost use Rattle.r4_base.specs.Image.{Image};
 ghost use Rattle.r4_base.specs.Value.{Content};
 ghost use Rattle.r4_base.specs.Volume.{HasContent, IsLost};
 ghost use Rattle.r4_base.specs.declared.things.AtomNo.{AtomNo};
-ghost use Rattle.r4_space.specs.Space.{Space, claims_of, is_claimed, settled};
+ghost use Rattle.r4_commit.specs.r4_space.Space.{Space, claims_of, is_claimed, settled};
 ghost use Rattle.r4_sealed.specs.Commits.{Commit, IsCommitOn, IsLater, image_after, image_before};
 ghost use Rattle.r4_sealed.specs.Commits.{is_freed};
 ghost use Rattle.r4_sealed.specs.Written.{Frees, IsSpaceOf};

@@ -4,7 +4,7 @@ ghost use Rattle.std.specs.Prelude.{◌≡◌, ◌≢◌, ◌⊎◌, ℕ, true, 
 ghost use Rattle.r4_base.specs.Tree.{Node};
 ghost use Rattle.r4_base.specs.Value.{Content, Value};
 ghost use Rattle.r4_base.specs.Volume.{HasContent, IsLost, objects_in};
-ghost use Rattle.r4_space.specs.Space.{is_marked_by};
+ghost use Rattle.r4_commit.specs.r4_space.Space.{is_marked_by};
 ghost use Rattle.r4_sealed.specs.Commits.{Commit, IsCommitOn, image_after, image_before, is_freed};
 ghost use Rattle.r4_sealed.specs.Commits.{super_after};
 ghost use Rattle.r4_sealed.specs.Written.{IsSpaceOf};

@@ -2,3 +2,6 @@ pub mod Places
 pub mod Walks
 pub mod Kept
 pub mod FromDevice
+-- what crates above name by way of this one
+pub use Rattle.r4_cell.proofs as r4_cell
+pub use Rattle.r4_cell.proofs.r4_node40

@@ -16,9 +16,9 @@ use Rattle.r4_base.specs.declared.node.NodeFault.{NodeFault}
 use Rattle.r4_base.specs.declared.items.CellFault.{CellFault}
 use Rattle.r4_base.specs.declared.items.CellFault.TheVariants.{Level, Node, Pointer}
 use Rattle.r4_base.proofs.Choices.{chosen, or_none, some_items}
-use Rattle.r4_node40.proofs.Accepted.{good}
-use Rattle.r4_node40.proofs.Following.{item_first}
-use Rattle.r4_node40.proofs.Laid.{length-items_of}
+use Rattle.r4_cell.proofs.r4_node40.Accepted.{good}
+use Rattle.r4_cell.proofs.r4_node40.Following.{item_first}
+use Rattle.r4_cell.proofs.r4_node40.Laid.{length-items_of}
 use Rattle.r4_cell.specs.Seen.{CellSeen}
 use Rattle.r4_search.specs.Path.{LeadsTo, EndsAt}
 use Rattle.r4_search.specs.Place.{IsPlace}

@@ -4,14 +4,12 @@ ghost use Rattle.std.specs.Prelude.{◌≡◌, ◌+◌, ◌^◌, ◌<◌, ◌≤
 ghost use Rattle.r4_base.specs.Cell.{cell_fault, next_key};
 ghost use Rattle.r4_base.specs.Key.{rank};
 ghost use Rattle.r4_base.specs.Node.{items_of};
-ghost use Rattle.r4_node40.specs.View.{item_shown, view_items};
+ghost use Rattle.r4_cell.specs.r4_node40.View.{item_shown, view_items};
 ghost use Rattle.r4_search.specs.Path.{LeadsTo, EndsAt};
 ghost use Rattle.r4_search.specs.Place.{IsPlace, child_name};
 
 use r4_base::{BlockNo, Key, LEAF, NodeId, POINTER};
-use r4_cell::Cell;
-use r4_node40::NodeView;
-use r4_twig::pointer;
+use r4_cell::{Cell, NodeView, pointer};
 
 /// A node as a pointer names it (docs/volume.md, "The tree").
 #[derive(Clone, Copy, Debug)]

@@ -1,7 +1,7 @@
 -- From what was found of a command to what becomes of it.
 use Rattle.std.proofs.Common.{◌≡◌, inl, inr, Option, Some, None, true, false, refl, subst, sym}
 use Rattle.std.specs.Prelude.{IfOk, IsSome, Result, Ok, Err, is_some}
-use Rattle.r4_gather.specs.Asking.{StaysOver}
+use Rattle.r4_reaching.specs.r4_gather.Asking.{StaysOver}
 use Rattle.r4_content.specs.declared.command.Command.{Command}
 use Rattle.r4_outside.specs.Device.{State}
 use Rattle.r4_reaching.specs.Answers.{IsReach}

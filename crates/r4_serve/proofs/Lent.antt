@@ -2,7 +2,7 @@
 use Rattle.std.specs.Prelude.{IfOk, Result, Ok, Err}
 use Rattle.std.specs.Borrow.{GName}
 use Rattle.r4_content.specs.declared.command.Command.{Command}
-use Rattle.r4_gather.specs.Asking.{IsSameTree, StaysOver}
+use Rattle.r4_reaching.specs.r4_gather.Asking.{IsSameTree, StaysOver}
 use Rattle.r4_outside.specs.Device.{State, lent_to}
 use Rattle.r4_reaching.specs.Answers.{IsSamePool}
 use Rattle.r4_search.proofs.FromDevice.{lent_stays}

@@ -27,7 +27,7 @@ use Rattle.r4_search.specs.Path.{root_name}
 use Rattle.r4_search.specs.Pool.{PoolState}
 use Rattle.r4_search.specs.declared.pool.FetchFault.{FetchFault}
 use Rattle.r4_search.specs.declared.pool.FetchFault.TheVariants as fetching
-use Rattle.r4_wander.specs.Parts.{FallsOn}
+use Rattle.r4_commit.specs.r4_wander.Parts.{FallsOn}
 use Rattle.r4_serve.specs.declared.asked.Asked.{Asked}
 use Rattle.r4_serve.specs.declared.asked.Asked.TheVariants as asked
 use Rattle.r4_serve.specs.declared.parts.Parts.{Parts}

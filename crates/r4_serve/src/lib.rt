@@ -11,4 +11,5 @@ pub use asked::{Asked, Ready};
 pub use asking::ask;
 pub use need::{NodesNeeded, nodes_of};
 pub use parts::Parts;
+pub use r4_commit::{CommitPlan, step};
 pub use r4_reaching::Reach;

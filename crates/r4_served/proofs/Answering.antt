@@ -4,15 +4,15 @@ use Rattle.std.specs.Prelude.{IfOk, OnErr}
 use Rattle.std.specs.declared.alloc.AllocError.{AllocError}
 use Rattle.r4_base.specs.declared.things.ScriptNo.{ScriptNo}
 use Rattle.r4_base.specs.declared.things.TxnNo.{TxnNo}
-use Rattle.r4_build.specs.declared.task.Task.{Task}
+use Rattle.r4_take.specs.r4_build.declared.task.Task.{Task}
 use Rattle.r4_content.specs.declared.command.Command.{Command}
 use Rattle.r4_content.specs.declared.reply.Reply.{Reply}
 use Rattle.r4_take.specs.r4_kept.View.{CoreSeen}
-use Rattle.r4_others.specs.Others.{pairs_of}
+use Rattle.r4_take.specs.r4_others.Others.{pairs_of}
 use Rattle.r4_outside.specs.Device.{State}
 use Rattle.r4_take.specs.r4_ready.Readiness.{parts_of}
 use Rattle.r4_take.specs.r4_ready.Rooms.{HasMoreRoom}
-use Rattle.r4_search.specs.Pool.{LeavesDevice}
+use Rattle.r4_take.specs.r4_search.Pool.{LeavesDevice}
 use Rattle.r4_take.specs.r4_serve.Serving.{Asks}
 use Rattle.r4_take.specs.r4_serve.declared.asked.Asked.{Asked}
 use Rattle.r4_take.specs.r4_serve.declared.asked.Asked.TheVariants as asked

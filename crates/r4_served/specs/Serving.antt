@@ -2,24 +2,24 @@
 use Rattle.std.specs.Prelude.{◌≡◌, ◌+◌, Bool, true, false, Option, Some, None}
 use Rattle.r4_base.specs.declared.things.ScriptNo.{ScriptNo}
 use Rattle.r4_base.specs.declared.things.TxnNo.{TxnNo}
-use Rattle.r4_build.specs.declared.task.Task.{Task}
+use Rattle.r4_take.specs.r4_build.declared.task.Task.{Task}
 use Rattle.r4_content.specs.declared.command.Command.{Command}
 use Rattle.r4_content.specs.declared.reply.Reply.{Reply}
 use Rattle.r4_content.specs.declared.reply.Reply.TheVariants as replies
-use Rattle.r4_history.specs.declared.why.Why.TheVariants as why
+use Rattle.r4_take.specs.r4_history.declared.why.Why.TheVariants as why
 use Rattle.r4_take.specs.r4_kept.Steps.{answered}
 use Rattle.r4_take.specs.r4_kept.View.{CoreSeen}
 use Rattle.r4_outside.specs.Device.{State}
 use Rattle.r4_take.specs.r4_ready.Readiness.{parts_of}
 use Rattle.r4_take.specs.r4_ready.Rooms.{HasMoreRoom}
-use Rattle.r4_search.specs.Pool.{LeavesDevice}
+use Rattle.r4_take.specs.r4_search.Pool.{LeavesDevice}
 use Rattle.r4_take.specs.r4_serve.Serving.{Asks}
 use Rattle.r4_take.specs.r4_serve.declared.asked.Asked.{Asked}
 use Rattle.r4_take.specs.r4_serve.declared.asked.Asked.TheVariants as asked
 use Rattle.r4_take.specs.r4_taking.Refusing.{refused_single}
 use Rattle.r4_take.specs.Sending.{HasRoomier, IsNamed, IsSent, IsServable}
 use Rattle.r4_take.specs.declared.drawing.Draws.{Draws}
-use Rattle.r4_trace.specs.declared.entry.Entry.TheVariants.{Refused}
+use Rattle.r4_take.specs.r4_trace.declared.entry.Entry.TheVariants.{Refused}
 use Rattle.r4_turns.specs.Turns.{answered_at, turn_at}
 use Rattle.r4_turns.specs.declared.turn.Open.{Open}
 use Rattle.r4_served.specs.declared.serving.Served.{Served}

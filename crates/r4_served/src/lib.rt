@@ -5,6 +5,6 @@ mod naming;
 mod refusing;
 mod serving;
 
-pub use r4_take::{Core, OpenFault, OpenWhy, Step, Wanted};
+pub use r4_take::{Core, Made, OpenFault, OpenWhy, Step, Task, Wanted, flush};
 pub use refusing::refuse;
 pub use serving::{Served, serve};

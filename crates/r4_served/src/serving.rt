@@ -9,11 +9,9 @@ ghost use Rattle.r4_take.specs.Sending.{IsServable};
 use crate::naming::{named, next_name};
 use crate::refusing::refuse;
 use r4_base::{Memory, ScriptNo};
-use r4_build::Task;
 use r4_content::Reply;
-use r4_history::Why;
 use r4_outside::{Device, Run};
-use r4_take::{Asked, Core, send};
+use r4_take::{Asked, Core, Task, Why, send};
 use std::alloc::Global;
 
 /// What becomes of the next command of a script, work.

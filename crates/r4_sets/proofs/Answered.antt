@@ -5,7 +5,7 @@ use Rattle.std.proofs.lemmas.Option.{none-some}
 use Rattle.r4_base.specs.Value.{Value, Content}
 use Rattle.r4_base.specs.Tree.{Store, Root}
 use Rattle.r4_base.specs.Volume.{HasStat, IsVisible}
-use Rattle.r4_cell.specs.Patch.{IsPatch}
+use Rattle.r4_patch.specs.r4_cell.Patch.{IsPatch}
 use Rattle.r4_content.specs.Locality.{IsLocal, Meaning}
 use Rattle.r4_content.proofs.EditLaws.{same_content}
 use Rattle.r4_content.specs.declared.command.Command.{Command}

@@ -6,7 +6,7 @@ use Rattle.std.proofs.lemmas.Option.{none-some, same_Some}
 use Rattle.r4_base.specs.Key.{least, top}
 use Rattle.r4_base.specs.Value.{Value}
 use Rattle.r4_base.specs.Tree.{Root}
-use Rattle.r4_cell.specs.Patch.{Patch, Meets, over, place, root_after}
+use Rattle.r4_patch.specs.r4_cell.Patch.{Patch, Meets, over, place, root_after}
 use Rattle.r4_patch.proofs.Placed.{root_or_not, some_of}
 use Rattle.r4_content.specs.Edited.{is_in}
 use Rattle.r4_content.specs.Locality.{IsLocal, Meaning}

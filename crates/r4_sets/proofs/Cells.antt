@@ -8,7 +8,7 @@ use Rattle.r4_base.specs.Key.{least, top}
 use Rattle.r4_base.specs.Value.{Value}
 use Rattle.r4_base.specs.Tree.{Node, Store, Root, IsTree, UnitAt, Holds}
 use Rattle.r4_base.proofs.Trees.{one_cell, not_both, holder, holder_once, holds_in}
-use Rattle.r4_cell.specs.Patch.{Patch, place, root_after, IsPatch, Meets}
+use Rattle.r4_patch.specs.r4_cell.Patch.{Patch, place, root_after, IsPatch, Meets}
 use Rattle.r4_patch.proofs.Placed.{over_from, over_kept, over_new, some_or_none, placed_tree}
 use Rattle.r4_patch.specs.Effect.{Placed, UnitIn}
 use Rattle.r4_sets.specs.Units.{SameUnit}

@@ -4,7 +4,7 @@ use Rattle.std.proofs.Common.{inl, inr, refl, sym, ap, subst, ◌∙◌}
 use Rattle.std.proofs.lemmas.Option.{none-some}
 use Rattle.r4_base.specs.Value.{Value, Content, at_key}
 use Rattle.r4_base.specs.Tree.{Node, Store, Root}
-use Rattle.r4_cell.specs.Patch.{Leaves, Patch, place}
+use Rattle.r4_patch.specs.r4_cell.Patch.{Leaves, Patch, place}
 use Rattle.r4_patch.proofs.Sets.{left}
 use Rattle.r4_content.specs.Locality.{Meaning, Touches}
 use Rattle.r4_sets.specs.Change.{touches}

@@ -5,7 +5,7 @@ use Rattle.std.specs.Option.{unwrap_or}
 use Rattle.std.proofs.lemmas.Option.{none-some}
 use Rattle.r4_base.specs.Value.{Value, Content}
 use Rattle.r4_base.specs.Tree.{IsTree, Root, Store}
-use Rattle.r4_cell.specs.Patch.{Meets, Patch, over, place, root_after}
+use Rattle.r4_patch.specs.r4_cell.Patch.{Meets, Patch, over, place, root_after}
 use Rattle.r4_patch.proofs.Placed.{placed_tree, root_or_not, some_of}
 use Rattle.r4_content.specs.Locality.{Meaning}
 use Rattle.r4_content.specs.declared.command.Command.{Command}

@@ -8,7 +8,7 @@ use Rattle.r4_base.specs.Tree.{Store, Root, IsTree}
 use Rattle.r4_base.specs.Volume.{HasStat, HasUnits, byte_rank, is_directory, stat_rank}
 use Rattle.r4_base.specs.declared.items.Attr.{Attr}
 use Rattle.r4_base.specs.declared.items.Target.{Target}
-use Rattle.r4_cell.specs.Patch.{Patch, place, root_after, Meets}
+use Rattle.r4_patch.specs.r4_cell.Patch.{Patch, place, root_after, Meets}
 use Rattle.r4_patch.proofs.Placed.{placed_tree}
 use Rattle.r4_content.specs.Edited.{Intervals, is_in}
 use Rattle.r4_content.specs.Locality.{Agree, IsLocal, Meaning, Touches}

@@ -14,3 +14,6 @@ pub mod FilesAfter
 pub mod Promised
 pub mod Shown
 pub mod BodyKinds
+-- what crates above name by way of this one
+pub use Rattle.r4_patch.proofs as r4_patch
+pub use Rattle.r4_trace.proofs as r4_trace

@@ -5,7 +5,7 @@ use Rattle.std.specs.Option.{option_map, option_or, unwrap_or}
 use Rattle.std.proofs.lemmas.Bool.{eq-eqb, eqb-true}
 use Rattle.r4_base.specs.Value.{Value, Content, at_key}
 use Rattle.r4_base.specs.Tree.{Node, Root, Store}
-use Rattle.r4_cell.specs.Patch.{Apart, over, place, root_after}
+use Rattle.r4_patch.specs.r4_cell.Patch.{Apart, over, place, root_after}
 use Rattle.r4_content.specs.Locality.{Meaning}
 use Rattle.r4_content.specs.declared.command.Command.{Command}
 use Rattle.r4_content.specs.declared.reply.Reply.{Reply}
@@ -23,7 +23,7 @@ use Rattle.std.specs.Prelude.{◌≤◌, IsSome}
 use Rattle.std.proofs.lemmas.Bool.{ne_eqb}
 use Rattle.std.proofs.lemmas.Option.{none-some}
 use Rattle.r4_base.specs.Tree.{IsTree}
-use Rattle.r4_cell.specs.Patch.{IsPatch, Meets}
+use Rattle.r4_patch.specs.r4_cell.Patch.{IsPatch, Meets}
 use Rattle.r4_patch.proofs.Converse.{patch_from_trees}
 use Rattle.r4_sets.specs.Atoms.{sealed, without}
 use Rattle.r4_sets.specs.Session.{Sets}

@@ -3,7 +3,7 @@ use Rattle.std.specs.Prelude.{◌≡◌, ℕ, false}
 use Rattle.r4_base.specs.Tree.{Root, Store}
 use Rattle.r4_base.specs.Value.{Content, Value, at_key}
 use Rattle.r4_base.specs.Volume.{HasUnits}
-use Rattle.r4_cell.specs.Patch.{place}
+use Rattle.r4_patch.specs.r4_cell.Patch.{place}
 use Rattle.r4_content.specs.Edited.{is_in}
 use Rattle.r4_content.specs.Locality.{IsLocal, Meaning}
 use Rattle.r4_content.specs.declared.command.Command.{Command}

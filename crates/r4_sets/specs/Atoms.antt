@@ -5,7 +5,7 @@ use Rattle.r4_base.specs.Tree.{Store, Root}
 use Rattle.r4_base.specs.Value.{Value, Content}
 use Rattle.r4_base.specs.declared.things.AtomNo.{AtomNo}
 use Rattle.r4_base.specs.declared.things.NodeId.{NodeId}
-use Rattle.r4_cell.specs.Patch.{Patch, place, root_after, IsPatch, Meets}
+use Rattle.r4_patch.specs.r4_cell.Patch.{Patch, place, root_after, IsPatch, Meets}
 use Rattle.r4_trace.specs.Traced.{renamed_atom}
 use Rattle.r4_trace.specs.declared.entry.Entry.{Entry}
 use Rattle.r4_trace.specs.declared.entry.Entry.TheVariants.{Begin, Refused, Ended, Fuse, Sealed, Committed, Acked}

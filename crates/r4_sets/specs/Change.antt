@@ -12,7 +12,7 @@ use Rattle.r4_base.specs.declared.items.Attr.{Attr}
 use Rattle.r4_base.specs.declared.items.Target.{Target}
 use Rattle.r4_base.specs.declared.things.ScriptNo.{ScriptNo}
 use Rattle.r4_base.specs.declared.things.TxnNo.{TxnNo}
-use Rattle.r4_cell.specs.Patch.{Patch, place, root_after, IsPatch, Meets}
+use Rattle.r4_patch.specs.r4_cell.Patch.{Patch, place, root_after, IsPatch, Meets}
 use Rattle.r4_patch.specs.Effect.{HasEffect, IsSetAt, Placed}
 use Rattle.r4_content.specs.Edited.{Intervals, is_in}
 use Rattle.r4_content.specs.Locality.{Meaning}

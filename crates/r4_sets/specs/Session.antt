@@ -8,7 +8,7 @@ use Rattle.std.specs.Prelude.{◌≡◌, ◌⊎◌, ◌≤◌, ℕ, Bool, true, 
 use Rattle.r4_base.specs.Tree.{Store, Root, IsTree}
 use Rattle.r4_base.specs.Value.{Value, Content, at_key}
 use Rattle.r4_base.specs.Volume.{HasUnits, HasFiles, IsVisible}
-use Rattle.r4_cell.specs.Patch.{Patch}
+use Rattle.r4_patch.specs.r4_cell.Patch.{Patch}
 use Rattle.r4_content.specs.Locality.{Meaning, Touches}
 use Rattle.r4_content.specs.declared.command.Command.{Command}
 use Rattle.r4_content.specs.declared.reply.Reply.{Reply}

@@ -8,7 +8,7 @@ ghost use Rattle.r4_base.specs.Volume.{HasExtents, HasFiles, HasStat, HasTails, 
 ghost use Rattle.r4_base.specs.Volume.{InTail, IsVisible, blocks_for, byte_rank, is_directory};
 ghost use Rattle.r4_base.specs.declared.items.Attr.{Attr};
 ghost use Rattle.r4_base.specs.declared.items.Target.{Target};
-ghost use Rattle.r4_cell.specs.Patch.{Patch};
+ghost use Rattle.r4_patch.specs.r4_cell.Patch.{Patch};
 ghost use Rattle.r4_content.specs.Edited.{Intervals, is_in};
 ghost use Rattle.r4_content.specs.Lawful.{HasBodies};
 ghost use Rattle.r4_content.specs.Locality.{IsLocal, Meaning};

@@ -8,7 +8,7 @@ ghost use Rattle.r4_base.specs.declared.things.AtomNo.{AtomNo};
 ghost use Rattle.r4_base.specs.declared.things.NodeId.{NodeId};
 ghost use Rattle.r4_base.specs.declared.things.ScriptNo.{ScriptNo};
 ghost use Rattle.r4_base.specs.declared.things.TxnNo.{TxnNo};
-ghost use Rattle.r4_cell.specs.Patch.{Apart, IsPatch, Meets, Patch, place, root_after};
+ghost use Rattle.r4_patch.specs.r4_cell.Patch.{Apart, IsPatch, Meets, Patch, place, root_after};
 ghost use Rattle.r4_content.specs.Locality.{IsLocal, Meaning};
 ghost use Rattle.r4_content.specs.declared.command.Command.{Command};
 ghost use Rattle.r4_content.specs.declared.reply.Reply.{Reply};

@@ -39,7 +39,7 @@ use Rattle.r4_content.proofs.Ranks.{byte_after, entry_not_byte, in_body, same_by
 use Rattle.r4_content.proofs.Refusals.{nothing_or_okay}
 use Rattle.r4_content.proofs.SameWay.{IsThere}
 use Rattle.r4_content.proofs.Widths.{EachStat, each_append, each_byte, each_edited}
-use Rattle.r4_trace.specs.Ids.{id_of, no_id}
+use Rattle.r4_sets.specs.r4_trace.Ids.{id_of, no_id}
 use Rattle.r4_sets.proofs.Bodies.{one_attr}
 
 no_true : false ≡ true → ⊥

@@ -3,7 +3,7 @@ use Rattle.std.specs.Prelude.{◌≡◌, ℕ, ◌^◌, ◌<◌, ◌≤◌, false
 use Rattle.std.proofs.Common.{arith}
 use Rattle.r4_base.specs.Tree.{Root, Store}
 use Rattle.r4_base.specs.Value.{Content, Value, at_key}
-use Rattle.r4_cell.specs.Patch.{place}
+use Rattle.r4_sets.specs.r4_cell.Patch.{place}
 use Rattle.r4_content.specs.Course.{ending, of_content}
 use Rattle.r4_content.specs.Edited.{is_in}
 use Rattle.r4_content.specs.Fields.{HasBytePaths, NamesUnused}

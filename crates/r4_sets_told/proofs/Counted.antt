@@ -20,11 +20,11 @@ use Rattle.r4_content.proofs.CourseLaws.{same_course}
 use Rattle.r4_content.proofs.ObjectsMade.{as_number, objects_after}
 use Rattle.r4_content.proofs.Staying.{lawful_stays}
 use Rattle.r4_content.proofs.Widths.{links_after, room_after}
-use Rattle.r4_trace.specs.Folds.{HasItsReplies, content_of, everything}
-use Rattle.r4_trace.specs.Ids.{HasNewIds, IsDrawn, IsNewId, Start, id_of, no_id}
-use Rattle.r4_trace.specs.Job.{Asked}
-use Rattle.r4_trace.specs.declared.entry.Entry.{Entry}
-use Rattle.r4_trace.specs.declared.entry.Entry.TheVariants.{Done}
+use Rattle.r4_sets.specs.r4_trace.Folds.{HasItsReplies, content_of, everything}
+use Rattle.r4_sets.specs.r4_trace.Ids.{HasNewIds, IsDrawn, IsNewId, Start, id_of, no_id}
+use Rattle.r4_sets.specs.r4_trace.Job.{Asked}
+use Rattle.r4_sets.specs.r4_trace.declared.entry.Entry.{Entry}
+use Rattle.r4_sets.specs.r4_trace.declared.entry.Entry.TheVariants.{Done}
 use Rattle.r4_sets.specs.Session.{FindsAlike}
 use Rattle.r4_sets_told.specs.Runs.{CountsObjects, HavePaths, IsKnown, IsLawfulRun, born_in, dones_in, gone_in}
 use Rattle.r4_sets_told.proofs.Bounded.{was_or_drawn}

@@ -8,9 +8,9 @@ use Rattle.r4_content.specs.Locality.{Meaning}
 use Rattle.r4_content.specs.declared.command.Command.{Command}
 use Rattle.r4_content.specs.declared.reply.Reply.{Reply}
 use Rattle.r4_content.proofs.EditLaws.{same_content}
-use Rattle.r4_trace.specs.Folds.{HasFirstReplies, after_first}
-use Rattle.r4_trace.specs.Safe.{AddsNothing}
-use Rattle.r4_trace.specs.Traced.{committed_in, sealed_in}
+use Rattle.r4_sets.specs.r4_trace.Folds.{HasFirstReplies, after_first}
+use Rattle.r4_sets.specs.r4_trace.Safe.{AddsNothing}
+use Rattle.r4_sets.specs.r4_trace.Traced.{committed_in, sealed_in}
 use Rattle.r4_sets.specs.Session.{IsTreeOf, Session, Sets}
 use Rattle.r4_sets.proofs.Bodies.{same_option}
 use Rattle.r4_sets.proofs.Cells.{back_iff, then_iff}

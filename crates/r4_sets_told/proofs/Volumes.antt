@@ -5,11 +5,11 @@ use Rattle.r4_base.specs.Image.{Image}
 use Rattle.r4_base.specs.Volume.{HasContent}
 use Rattle.r4_base.specs.declared.superblock.Super40.{Super40}
 use Rattle.r4_content.specs.Locality.{commands}
-use Rattle.r4_trace.specs.Folds.{content_of}
-use Rattle.r4_trace.specs.Ids.{Start}
-use Rattle.r4_trace.specs.Job.{Asked}
-use Rattle.r4_trace.specs.Safe.{HasFirst}
-use Rattle.r4_trace.specs.Traced.{committed_in, is_first, sealed_in}
+use Rattle.r4_sets.specs.r4_trace.Folds.{content_of}
+use Rattle.r4_sets.specs.r4_trace.Ids.{Start}
+use Rattle.r4_sets.specs.r4_trace.Job.{Asked}
+use Rattle.r4_sets.specs.r4_trace.Safe.{HasFirst}
+use Rattle.r4_sets.specs.r4_trace.Traced.{committed_in, is_first, sealed_in}
 use Rattle.r4_sets.specs.Session.{IsTreeOf, Layer, Session, Sets, Stands}
 use Rattle.r4_sets.proofs.Gathered.{under_stands}
 use Rattle.r4_sets_told.specs.Images.{StandsIn}

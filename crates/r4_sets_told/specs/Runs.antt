@@ -9,11 +9,11 @@ use Rattle.r4_content.specs.Counts.{born, gone}
 use Rattle.r4_content.specs.Fields.{HasBytePaths}
 use Rattle.r4_content.specs.Lawful.{IsLawful, RoomFor}
 use Rattle.r4_content.specs.Locality.{commands}
-use Rattle.r4_trace.specs.Folds.{content_of, everything}
-use Rattle.r4_trace.specs.Ids.{HasNewIds, IsDrawn, Start, no_id}
-use Rattle.r4_trace.specs.Job.{Asked}
-use Rattle.r4_trace.specs.declared.entry.Entry.{Entry}
-use Rattle.r4_trace.specs.declared.entry.Entry.TheVariants.{Done}
+use Rattle.r4_sets.specs.r4_trace.Folds.{content_of, everything}
+use Rattle.r4_sets.specs.r4_trace.Ids.{HasNewIds, IsDrawn, Start, no_id}
+use Rattle.r4_sets.specs.r4_trace.Job.{Asked}
+use Rattle.r4_sets.specs.r4_trace.declared.entry.Entry.{Entry}
+use Rattle.r4_sets.specs.r4_trace.declared.entry.Entry.TheVariants.{Done}
 
 -- how many commands were done
 abbrev pub dones_in : List Entry → ℕ

@@ -6,14 +6,14 @@ use Rattle.r4_base.specs.Value.{Content, Value}
 use Rattle.r4_base.specs.Volume.{HasExtents, HasStat, HasTails, byte_rank, is_directory, object_of, stat_rank}
 use Rattle.r4_base.specs.declared.items.Attr.{Attr}
 use Rattle.r4_base.specs.declared.items.Target.{Target}
-use Rattle.r4_cell.specs.Patch.{IsPatch, Meets, place}
+use Rattle.r4_sets.specs.r4_cell.Patch.{IsPatch, Meets, place}
 use Rattle.r4_content.specs.Course.{ending, of_content}
 use Rattle.r4_content.specs.Edited.{Intervals, is_in}
 use Rattle.r4_content.specs.Locality.{Touches, commands}
 use Rattle.r4_content.specs.Meaning.{course}
 use Rattle.r4_content.specs.Units.{MovesUnits}
 use Rattle.r4_content.specs.declared.command.Command.{Command}
-use Rattle.r4_patch.specs.Effect.{HasEffect, IsSetAt}
+use Rattle.r4_sets.specs.r4_patch.Effect.{HasEffect, IsSetAt}
 use Rattle.r4_sets.specs.Change.{BuiltChange, IsTouched}
 
 -- `changed` are the keys that the command changes, and of bodies that it changes others too, where blocks are put or

@@ -10,10 +10,10 @@ ghost use Rattle.r4_content.specs.Lawful.{IsLawful};
 ghost use Rattle.r4_content.specs.Locality.{IsLocal, Meaning, commands};
 ghost use Rattle.r4_content.specs.declared.command.Command.{Command};
 ghost use Rattle.r4_content.specs.declared.reply.Reply.{Reply};
-ghost use Rattle.r4_trace.specs.Folds.{HasItsReplies, content_of, everything};
-ghost use Rattle.r4_trace.specs.Ids.{Start};
-ghost use Rattle.r4_trace.specs.Job.{Asked};
-ghost use Rattle.r4_trace.specs.declared.entry.Entry.{Entry};
+ghost use Rattle.r4_sets.specs.r4_trace.Folds.{HasItsReplies, content_of, everything};
+ghost use Rattle.r4_sets.specs.r4_trace.Ids.{Start};
+ghost use Rattle.r4_sets.specs.r4_trace.Job.{Asked};
+ghost use Rattle.r4_sets.specs.r4_trace.declared.entry.Entry.{Entry};
 ghost use Rattle.r4_sets.specs.Session.{FindsAlike};
 ghost use Rattle.r4_sets_told.specs.Runs.{CountsObjects, IsKnown, IsLawfulRun, born_in, gone_in};
 

@@ -7,11 +7,11 @@ use Rattle.r4_history.specs.Tables.{IsOver}
 use Rattle.r4_shared.specs.Finishing.{AllAnswered}
 use Rattle.r4_base.specs.declared.things.AtomNo.{AtomNo}
 use Rattle.r4_base.specs.declared.things.ScriptNo.{ScriptNo}
-use Rattle.r4_next.specs.Taking.{Takes}
-use Rattle.r4_next.specs.declared.taken.Taken.TheVariants as taken
-use Rattle.r4_next.specs.r4_kept.View.{CoreSeen, committing, tables_of}
+use Rattle.r4_apply.specs.r4_next.Taking.{Takes}
+use Rattle.r4_apply.specs.r4_next.declared.taken.Taken.TheVariants as taken
+use Rattle.r4_apply.specs.r4_kept.View.{CoreSeen, committing, tables_of}
 use Rattle.r4_outside.specs.Device.{State}
-use Rattle.r4_next.specs.r4_ready.Rooms.{HasMoreRoom}
+use Rattle.r4_apply.specs.r4_ready.Rooms.{HasMoreRoom}
 use Rattle.r4_shared.specs.Stepping.{IsFlushedAs, IsNext, IsNextLeft, RefusesNext}
 use Rattle.r4_shared.specs.declared.stepping.Next.{Next}
 

@@ -6,17 +6,17 @@ use Rattle.r4_apply.specs.declared.applying.Applied.TheVariants as applied
 use Rattle.r4_apply.specs.r4_back.Backing.{GivesBack, RefusesMemory}
 use Rattle.r4_base.specs.declared.things.AtomNo.{AtomNo}
 use Rattle.r4_base.specs.declared.things.ScriptNo.{ScriptNo}
-use Rattle.r4_build.specs.declared.built.Built.{Built}
-use Rattle.r4_build.specs.declared.task.BuildFault.{BuildFault}
+use Rattle.r4_apply.specs.r4_build.declared.built.Built.{Built}
+use Rattle.r4_apply.specs.r4_build.declared.task.BuildFault.{BuildFault}
 use Rattle.r4_content.specs.declared.reply.Reply.TheVariants.{Memory}
-use Rattle.r4_next.specs.r4_kept.View.{CoreSeen}
-use Rattle.r4_next.specs.Taking.{Takes}
-use Rattle.r4_next.specs.declared.taken.Taken.TheVariants as taken
+use Rattle.r4_apply.specs.r4_kept.View.{CoreSeen}
+use Rattle.r4_apply.specs.r4_next.Taking.{Takes}
+use Rattle.r4_apply.specs.r4_next.declared.taken.Taken.TheVariants as taken
 use Rattle.r4_outside.specs.Device.{State}
-use Rattle.r4_seal.specs.Flushing.{IsFlushed, RefusesWaiting}
-use Rattle.r4_next.specs.r4_ready.Rooms.{HasMoreRoom}
-use Rattle.r4_next.specs.r4_served.Serving.{IsLeft, IsRefused}
-use Rattle.r4_next.specs.r4_take.Sending.{CanBeBuilt}
+use Rattle.r4_apply.specs.r4_seal.Flushing.{IsFlushed, RefusesWaiting}
+use Rattle.r4_apply.specs.r4_ready.Rooms.{HasMoreRoom}
+use Rattle.r4_apply.specs.r4_served.Serving.{IsLeft, IsRefused}
+use Rattle.r4_apply.specs.r4_take.Sending.{CanBeBuilt}
 use Rattle.r4_shared.specs.declared.stepping.Next.{Next}
 use Rattle.r4_shared.specs.declared.stepping.Next.TheVariants as next
 

@@ -6,6 +6,6 @@ mod shared;
 mod stepping;
 
 pub use finishing::{finish, is_over};
-pub use r4_next::{Core, OpenFault, OpenWhy, Step};
+pub use r4_apply::{Core, OpenFault, OpenWhy, Step};
 pub use shared::{Shared, share_out};
 pub use stepping::{Next, bring_back, next_step};

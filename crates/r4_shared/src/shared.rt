@@ -1,11 +1,10 @@
 //! The lock round a core.
 
-ghost use Rattle.r4_next.specs.r4_take.Sending.{CanBeBuilt};
+ghost use Rattle.r4_apply.specs.r4_take.Sending.{CanBeBuilt};
 
 use crate::stepping::{Next, bring_back, next_step};
+use r4_apply::{Core, Step, Task, build};
 use r4_base::Memory;
-use r4_build::{Task, build};
-use r4_next::{Core, Step};
 use r4_outside::{Device, Gate, Run};
 use std::alloc::Global;
 use std::sync::{Condvar, Mutex, Wait};

@@ -7,18 +7,18 @@ ghost use Rattle.r4_content.specs.declared.command.Command.{Command};
 ghost use Rattle.r4_history.specs.Serving.{AsksForFlush};
 ghost use Rattle.r4_shared.specs.Stepping.{AppliesOr, BringsBack, BuildsNext, IsFlushedAs, IsNext};
 ghost use Rattle.r4_shared.specs.Stepping.{IsNextLeft, RefusesNext};
-ghost use Rattle.r4_next.specs.r4_kept.View.{tables_of};
-ghost use Rattle.r4_next.specs.r4_ready.Rooms.{HasMoreRoom};
-ghost use Rattle.r4_next.specs.r4_take.Sending.{IsServable};
+ghost use Rattle.r4_apply.specs.r4_kept.View.{tables_of};
+ghost use Rattle.r4_apply.specs.r4_ready.Rooms.{HasMoreRoom};
+ghost use Rattle.r4_apply.specs.r4_take.Sending.{IsServable};
 
-use r4_apply::{Applied, apply, give_back, refuse_memory};
+use r4_apply::{
+    Applied, BuildFault, Built, Core, Taken, Task, apply, flush, give_back, refuse, refuse_memory,
+    take,
+};
 use r4_base::{AtomNo, Memory, ScriptNo};
-use r4_build::{BuildFault, Built, Task};
 use r4_content::Reply;
 use r4_history::Why;
-use r4_next::{Core, Taken, refuse, take};
 use r4_outside::{Device, Run};
-use r4_seal::flush;
 use std::alloc::{AllocError, Global};
 
 /// What a step came to, and what there is to do behind it (docs/core.md, "Threads").

@@ -7,14 +7,14 @@ use Rattle.r4_base.specs.Cell.{bytes_from}
 use Rattle.r4_base.specs.Extents.{units_of}
 use Rattle.r4_base.specs.Key.{least, rank, top}
 use Rattle.r4_base.specs.Tree.{InName, Name}
-use Rattle.r4_cell.specs.Seen.{CellSeen, node_of}
-use Rattle.r4_cell.specs.declared.change.Root.{Root}
+use Rattle.r4_units.specs.r4_cell.Seen.{CellSeen, node_of}
+use Rattle.r4_units.specs.r4_cell.declared.change.Root.{Root}
 use Rattle.r4_content.specs.Seen.{pairs_in}
-use Rattle.r4_search.specs.Path.{Descends, EndsAt, Follows, IsPath, KnowsOn, MeetsOn, Stops, last_of}
-use Rattle.r4_search.specs.Pool.{Goes, IsAnswer, IsKeptOrRead, IsKnown, IsMet, IsNamed, IsOf, IsRead, IsRefused, PoolState}
-use Rattle.r4_search.specs.declared.pool.FetchFault.{FetchFault}
-use Rattle.r4_search.specs.declared.pool.FetchFault.TheVariants.{Read, Damaged, Memory}
-use Rattle.r4_search.proofs.Walks.{goes_both, goes_same, is_of_before, last_pushed, met_on}
+use Rattle.r4_units.specs.r4_search.Path.{Descends, EndsAt, Follows, IsPath, KnowsOn, MeetsOn, Stops, last_of}
+use Rattle.r4_units.specs.r4_search.Pool.{Goes, IsAnswer, IsKeptOrRead, IsKnown, IsMet, IsNamed, IsOf, IsRead, IsRefused, PoolState}
+use Rattle.r4_units.specs.r4_search.declared.pool.FetchFault.{FetchFault}
+use Rattle.r4_units.specs.r4_search.declared.pool.FetchFault.TheVariants.{Read, Damaged, Memory}
+use Rattle.r4_units.proofs.r4_search.Walks.{goes_both, goes_same, is_of_before, last_pushed, met_on}
 use Rattle.r4_sight.specs.Parts.{AreFull, all_pairs}
 use Rattle.r4_sight.specs.Stretches.{IsBlockOf, IsBorder, IsItOrOf, IsStretch, IsWaysEnd, Looks, MeetsBlock, StopsAt}
 use Rattle.r4_sight.specs.declared.stretch.DataBlock.{DataBlock}

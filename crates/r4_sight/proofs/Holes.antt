@@ -10,8 +10,8 @@ use Rattle.r4_base.specs.Tree.{InName, Name}
 use Rattle.r4_base.specs.Value.{Byte}
 use Rattle.r4_base.specs.declared.items.Unit.{Unit as ExtentUnit}
 use Rattle.r4_base.proofs.Choices.{nothing_in}
-use Rattle.r4_cell.proofs.ItemRows.{extent_row}
-use Rattle.r4_cell.proofs.Rows.{row_zeros}
+use Rattle.r4_units.proofs.r4_cell.ItemRows.{extent_row}
+use Rattle.r4_units.proofs.r4_cell.Rows.{row_zeros}
 use Rattle.r4_content.specs.Edited.{Pairs}
 use Rattle.r4_content.specs.Seen.{pairs_in}
 use Rattle.r4_sight.proofs.Between.{both_in, pairs_high, pairs_low}

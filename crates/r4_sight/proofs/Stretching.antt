@@ -11,18 +11,18 @@ use Rattle.r4_base.specs.Tree.{Holds, InName, Name, Span}
 use Rattle.r4_base.specs.declared.key.Key.{Key}
 use Rattle.r4_base.specs.declared.items.CellFault.TheVariants.{Range}
 use Rattle.r4_base.proofs.Choices.{chosen, or_none}
-use Rattle.r4_cell.specs.Seen.{CellSeen, node_of}
-use Rattle.r4_cell.proofs.ItemRows.{extent_row}
-use Rattle.r4_cell.proofs.Items.{good_item, items_part}
+use Rattle.r4_units.specs.r4_cell.Seen.{CellSeen, node_of}
+use Rattle.r4_units.proofs.r4_cell.ItemRows.{extent_row}
+use Rattle.r4_units.proofs.r4_cell.Items.{good_item, items_part}
 use Rattle.r4_content.specs.Edited.{Pairs}
 use Rattle.r4_content.specs.Held.{part_pairs}
 use Rattle.r4_content.specs.Seen.{Rises, pairs_in}
 use Rattle.r4_content.specs.declared.seen.SeenPart.{SeenPart}
 use Rattle.r4_node40.proofs.Following.{item_first}
-use Rattle.r4_search.specs.Path.{EndsAt}
-use Rattle.r4_search.specs.Place.{IsPlace}
-use Rattle.r4_search.specs.Pool.{StandsInMemory}
-use Rattle.r4_search.proofs.Places.{IsBranch, branch, extent_span, place_key, spans_at}
+use Rattle.r4_units.specs.r4_search.Path.{EndsAt}
+use Rattle.r4_units.specs.r4_search.Place.{IsPlace}
+use Rattle.r4_units.specs.r4_search.Pool.{StandsInMemory}
+use Rattle.r4_units.proofs.r4_search.Places.{IsBranch, branch, extent_span, place_key, spans_at}
 use Rattle.r4_sight.specs.Parts.{AreFull, all_pairs}
 use Rattle.r4_sight.specs.Stretches.{IsBorder, IsStretchOf}
 use Rattle.r4_sight.specs.declared.stretch.Stretch.{Stretch}

@@ -12,12 +12,12 @@ use Rattle.r4_base.specs.Tree.{InName, InSpan, IsData, Name, Span}
 use Rattle.r4_base.specs.Value.{Value}
 use Rattle.r4_base.proofs.Choices.{nothing_in}
 use Rattle.r4_base.proofs.FreshTree.{only}
-use Rattle.r4_cell.proofs.ItemRows.{extent_row}
-use Rattle.r4_cell.proofs.Items.{IsGoodItem, good_item, items_part}
-use Rattle.r4_cell.proofs.Parts.{IsPart}
+use Rattle.r4_units.proofs.r4_cell.ItemRows.{extent_row}
+use Rattle.r4_units.proofs.r4_cell.Items.{IsGoodItem, good_item, items_part}
+use Rattle.r4_units.proofs.r4_cell.Parts.{IsPart}
 use Rattle.r4_content.specs.Edited.{Pairs}
 use Rattle.r4_content.specs.Seen.{pairs_in}
-use Rattle.r4_search.proofs.Places.{extent_span}
+use Rattle.r4_units.proofs.r4_search.Places.{extent_span}
 use Rattle.r4_sight.proofs.Between.{both_in, pairs_high, pairs_low}
 
 -- ---- one item

@@ -6,13 +6,13 @@ use Rattle.r4_base.specs.Key.{offset_of, rank}
 use Rattle.r4_base.specs.Node.{Item, items_of}
 use Rattle.r4_base.specs.Tree.{Holds, InName, Name, Node}
 use Rattle.r4_base.specs.Value.{Value}
-use Rattle.r4_cell.specs.Seen.{CellSeen, node_of}
-use Rattle.r4_cell.specs.declared.change.Root.{Root}
+use Rattle.r4_units.specs.r4_cell.Seen.{CellSeen, node_of}
+use Rattle.r4_units.specs.r4_cell.declared.change.Root.{Root}
 use Rattle.r4_content.specs.Seen.{Rises, pairs_in}
-use Rattle.r4_search.specs.Path.{EndsAt, MeetsOn}
-use Rattle.r4_search.specs.Pool.{Goes, IsKnown, IsMet, IsNamed, IsOf, IsRefused, KnowsNames, PoolState, StandsInMemory}
-use Rattle.r4_search.specs.declared.pool.FetchFault.{FetchFault}
-use Rattle.r4_search.specs.declared.pool.FetchFault.TheVariants.{Read, Damaged, Memory}
+use Rattle.r4_units.specs.r4_search.Path.{EndsAt, MeetsOn}
+use Rattle.r4_units.specs.r4_search.Pool.{Goes, IsKnown, IsMet, IsNamed, IsOf, IsRefused, KnowsNames, PoolState, StandsInMemory}
+use Rattle.r4_units.specs.r4_search.declared.pool.FetchFault.{FetchFault}
+use Rattle.r4_units.specs.r4_search.declared.pool.FetchFault.TheVariants.{Read, Damaged, Memory}
 use Rattle.r4_sight.specs.Parts.{AreFull, all_pairs}
 use Rattle.r4_sight.specs.declared.stretch.DataBlock.{DataBlock}
 use Rattle.r4_sight.specs.declared.stretch.Stretch.{Stretch}

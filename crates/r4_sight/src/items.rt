@@ -3,7 +3,7 @@
 ghost use Rattle.std.specs.Prelude.{◌≡◌, ◌+◌, ◌-◌, ◌≤◌, length, min, OnOk, IfOk};
 ghost use Rattle.r4_base.specs.Cell.{item_units};
 ghost use Rattle.r4_base.specs.Key.{offset_of, rank};
-ghost use Rattle.r4_cell.specs.Seen.{node_of};
+ghost use Rattle.r4_units.specs.r4_cell.Seen.{node_of};
 ghost use Rattle.r4_cde.specs.Shown.{entry_shown};
 ghost use Rattle.r4_content.specs.Edited.{is_between};
 ghost use Rattle.r4_content.specs.Held.{part_pairs};
@@ -15,11 +15,10 @@ ghost use Rattle.r4_sight.specs.Parts.{Adds, AreFull, all_pairs, entry_pair};
 
 use r4_base::{Bytes, ENTRIES, Key, Memory, Name, STAT, Value};
 use r4_cde::{DirView, EntryRef};
-use r4_cell::Cell;
 use r4_content::{ByteRun, Interval, SeenPart};
 use r4_meta::read_stat;
 use r4_node40::ItemView;
-use r4_units::name_bytes;
+use r4_units::{Cell, name_bytes};
 use std::alloc::Global;
 
 /// What a leaf has at the keys of an interval, in their order: stat data, entries, and the bytes of tails in runs

@@ -5,22 +5,20 @@ ghost use Rattle.std.specs.Prelude.{None, IfErr, IfNone, IfOk, IfSome};
 ghost use Rattle.r4_base.specs.Cell.{bytes_from};
 ghost use Rattle.r4_base.specs.Extents.{blocks_in, body_fault, units_of};
 ghost use Rattle.r4_base.specs.Key.{IsKey, least, offset_of, rank, top};
-ghost use Rattle.r4_cell.specs.Seen.{node_of};
+ghost use Rattle.r4_units.specs.r4_cell.Seen.{node_of};
 ghost use Rattle.r4_content.specs.Seen.{pairs_in};
 ghost use Rattle.r4_node40.specs.View.{item_shown};
-ghost use Rattle.r4_search.specs.Path.{root_name};
-ghost use Rattle.r4_search.specs.Pool.{Goes, IsKnown, IsMet, IsOf, KnowsNames, LeavesDevice, StandsInMemory};
+ghost use Rattle.r4_units.specs.r4_search.Path.{root_name};
+ghost use Rattle.r4_units.specs.r4_search.Pool.{Goes, IsKnown, IsMet, IsOf, KnowsNames, LeavesDevice, StandsInMemory};
 ghost use Rattle.r4_sight.specs.Parts.{AreFull, all_pairs};
 ghost use Rattle.r4_sight.specs.Stretches.{IsBlockAt, IsBlockOf, IsItOrOf, IsStretch, IsStretchOf, IsWaysEnd};
 ghost use Rattle.r4_sight.specs.Stretches.{Looks, MeetsBlock, StopsAt};
 
 use crate::items::{parts_of, run_of};
 use r4_base::{BLOCK_BYTES, Block, Key, LEAF, Memory, NodeId, Unit};
-use r4_cell::{Cell, Root};
 use r4_content::{Interval, SeenPart};
 use r4_node40::ItemView;
-use r4_search::{FetchFault, Pool, cover, place_of};
-use r4_units::unit_of;
+use r4_units::{Cell, FetchFault, Pool, Root, cover, place_of, unit_of};
 use std::alloc::Global;
 
 /// What stands at the keys from one on, up to but without an end (docs/volume.md, "Sight").

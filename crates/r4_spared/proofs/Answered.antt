@@ -4,20 +4,20 @@ use Rattle.std.proofs.Common.{sym, subst}
 use Rattle.std.proofs.lemmas.List.Elements.{All-contains}
 use Rattle.r4_base.specs.Tree.{Node}
 use Rattle.r4_base.specs.Value.{Value}
-use Rattle.r4_cell.specs.Patch.{by_name, root_of_pair}
-use Rattle.r4_cell.specs.Seen.{CellSeen}
-use Rattle.r4_cell.specs.declared.change.Fresh.{Fresh}
-use Rattle.r4_cell.specs.declared.change.Root.{Root as RootPair}
+use Rattle.r4_search.specs.r4_cell.Patch.{by_name, root_of_pair}
+use Rattle.r4_search.specs.r4_cell.Seen.{CellSeen}
+use Rattle.r4_search.specs.r4_cell.declared.change.Fresh.{Fresh}
+use Rattle.r4_search.specs.r4_cell.declared.change.Root.{Root as RootPair}
 use Rattle.r4_content.specs.Edited.{changed, is_in}
 use Rattle.r4_content.specs.Fields.{HasBytePaths}
 use Rattle.r4_content.specs.declared.command.Command.{Command}
-use Rattle.r4_leaf_edits.specs.Made.{spread_keys}
-use Rattle.r4_patch.proofs.Members.{distinct, found, there}
-use Rattle.r4_reach.specs.Answer.{IsReachOf}
-use Rattle.r4_reach.specs.Leaves.{LieInLeaves}
-use Rattle.r4_reach.specs.Needs.{demand_on}
-use Rattle.r4_reach.specs.Reach.{IsWritten}
-use Rattle.r4_reach.specs.Touched.{body_on, edits_on, reads_on}
+use Rattle.r4_build.specs.r4_leaf_edits.Made.{spread_keys}
+use Rattle.r4_build.proofs.r4_patch.Members.{distinct, found, there}
+use Rattle.r4_build.specs.r4_reach.Answer.{IsReachOf}
+use Rattle.r4_build.specs.r4_reach.Leaves.{LieInLeaves}
+use Rattle.r4_build.specs.r4_reach.Needs.{demand_on}
+use Rattle.r4_build.specs.r4_reach.Reach.{IsWritten}
+use Rattle.r4_build.specs.r4_reach.Touched.{body_on, edits_on, reads_on}
 use Rattle.r4_suited.specs.Suited.{IsAccepted}
 use Rattle.r4_suited.proofs.Cells.{reach_lawful}
 use Rattle.r4_build.specs.Building.{CanBuild, HaveLawfulKeys}

@@ -18,16 +18,16 @@ use Rattle.r4_content.specs.Objects.{byte_pairs}
 use Rattle.r4_content.specs.Seen.{Rises}
 use Rattle.r4_content.proofs.EditLaws.{in_changed, last_put}
 use Rattle.r4_content.proofs.SeenLaws.{content_of}
-use Rattle.r4_leaf.specs.Units.{bytes_behind, leaf_bytes}
-use Rattle.r4_leaf_edits.proofs.Clipped.{no_bytes, part_bytes, part_keys, part_of_bytes}
-use Rattle.r4_leaf_edits.proofs.Puts.{in_both}
-use Rattle.r4_leaf_edits.proofs.Lookups.{edited_rises, found, kept_found, kept_rises, same_rising}
-use Rattle.r4_reach.specs.Needs.{meets, over}
+use Rattle.r4_build.specs.r4_leaf.Units.{bytes_behind, leaf_bytes}
+use Rattle.r4_build.proofs.r4_leaf_edits.Clipped.{no_bytes, part_bytes, part_keys, part_of_bytes}
+use Rattle.r4_build.proofs.r4_leaf_edits.Puts.{in_both}
+use Rattle.r4_build.proofs.r4_leaf_edits.Lookups.{edited_rises, found, kept_found, kept_rises, same_rising}
+use Rattle.r4_build.specs.r4_reach.Needs.{meets, over}
 use Rattle.r4_suited.proofs.Few.{IsValue}
 use Rattle.r4_suited.proofs.Small.{put_append}
 use Rattle.r4_suited.proofs.Weights.{Grows, cuts_grow, grows_both, grows_none, run_grows, values_grow, zeros_grow}
-use Rattle.r4_work.proofs.Halving.{true_or_false}
-use Rattle.r4_work.proofs.Remade.{or_true}
+use Rattle.r4_build.proofs.r4_work.Halving.{true_or_false}
+use Rattle.r4_build.proofs.r4_work.Remade.{or_true}
 use Rattle.r4_build.proofs.LeafKeys.{listed_off, listed_on}
 use Rattle.r4_spared.proofs.Climbing.{over_cases}
 

@@ -18,27 +18,27 @@ use Rattle.r4_base.specs.Node.{Item, PluginsFit, fits_level, items_of, node_faul
 use Rattle.r4_base.specs.Tree.{Name, Node, Root, Store}
 use Rattle.r4_base.specs.Value.{Value}
 use Rattle.r4_base.specs.declared.items.Unit.{Unit as ExtentUnit}
-use Rattle.r4_cell.specs.Seen.{CellSeen, node_of}
-use Rattle.r4_cell.proofs.Items.{good_item}
+use Rattle.r4_search.specs.r4_cell.Seen.{CellSeen, node_of}
+use Rattle.r4_search.proofs.r4_cell.Items.{good_item}
 use Rattle.r4_content.specs.Bodies.{larger}
 use Rattle.r4_content.specs.Edited.{Edits, Intervals}
-use Rattle.r4_leaf.specs.Units.{leaf_bytes}
-use Rattle.r4_node40.proofs.Accepted.{good, space}
-use Rattle.r4_patch.specs.Part.{IsPart}
-use Rattle.r4_patch.proofs.Members.{here}
-use Rattle.r4_path.specs.Nodes.{weight}
-use Rattle.r4_path.proofs.CellNodes.{names_are}
-use Rattle.r4_path.proofs.Rising.{level_is, lo_is, hi_is}
-use Rattle.r4_reach.specs.Demand.{Demand, ask, ask_of, heard, heard_one}
-use Rattle.r4_reach.specs.Needs.{Ask, all_more, asking, cell_asks, changes_pieces, come_of, cut_in_two, demand_of}
-use Rattle.r4_reach.specs.Needs.{growing, is_gone, is_touched, leaf_asks}
-use Rattle.r4_reach.specs.Needs.{meets, moves, node_asks, node_need, over, twig_asks, twig_more, units_after}
-use Rattle.r4_reach.specs.Touched.{Body}
-use Rattle.r4_reach.proofs.Enough.{node_needs, twig_needs}
+use Rattle.r4_build.specs.r4_leaf.Units.{leaf_bytes}
+use Rattle.r4_search.proofs.r4_node40.Accepted.{good, space}
+use Rattle.r4_build.specs.r4_patch.Part.{IsPart}
+use Rattle.r4_build.proofs.r4_patch.Members.{here}
+use Rattle.r4_build.specs.r4_path.Nodes.{weight}
+use Rattle.r4_build.proofs.r4_path.CellNodes.{names_are}
+use Rattle.r4_build.proofs.r4_path.Rising.{level_is, lo_is, hi_is}
+use Rattle.r4_build.specs.r4_reach.Demand.{Demand, ask, ask_of, heard, heard_one}
+use Rattle.r4_build.specs.r4_reach.Needs.{Ask, all_more, asking, cell_asks, changes_pieces, come_of, cut_in_two, demand_of}
+use Rattle.r4_build.specs.r4_reach.Needs.{growing, is_gone, is_touched, leaf_asks}
+use Rattle.r4_build.specs.r4_reach.Needs.{meets, moves, node_asks, node_need, over, twig_asks, twig_more, units_after}
+use Rattle.r4_build.specs.r4_reach.Touched.{Body}
+use Rattle.r4_build.proofs.r4_reach.Enough.{node_needs, twig_needs}
 use Rattle.r4_search.proofs.Places.{IsBranch, branch}
-use Rattle.r4_reach.specs.Leaves.{more_of}
-use Rattle.r4_measure.specs.Asked.{asked_of}
-use Rattle.r4_measure.proofs.Kept.{block_is}
+use Rattle.r4_build.specs.r4_reach.Leaves.{more_of}
+use Rattle.r4_build.specs.r4_measure.Asked.{asked_of}
+use Rattle.r4_build.proofs.r4_measure.Kept.{block_is}
 use Rattle.r4_suited.specs.Suited.{IsAccepted}
 use Rattle.r4_spared.specs.Spared.{AreAccepted}
 

@@ -10,7 +10,7 @@ use Rattle.r4_content.specs.Lawful.{IsLawful}
 use Rattle.r4_content.specs.Meaning.{greatest_size}
 use Rattle.r4_content.specs.Seen.{IsSeen}
 use Rattle.r4_content.specs.declared.command.Command.{Command}
-use Rattle.r4_patch.specs.Part.{IsPart}
+use Rattle.r4_build.specs.r4_patch.Part.{IsPart}
 use Rattle.r4_spared.specs.Spared.{AreObjectsSeen, HasGoodObjects}
 
 pub found_good : (c : Command) (s : Pairs) (m : Content) (t : Store Value) (root : Root) → IsSeen greatest_size c s m

@@ -17,22 +17,22 @@ use Rattle.r4_base.specs.declared.items.Attr.{Attr}
 use Rattle.r4_base.specs.declared.items.Target.{Target}
 use Rattle.r4_base.proofs.FreshTree.{down, fresh_leaf, fresh_twig, leaf_says, leaf_sound, only, twig_says, twig_sound}
 use Rattle.r4_base.proofs.Choices.{nothing_in}
-use Rattle.r4_cell.specs.Patch.{by_name}
-use Rattle.r4_cell.specs.Seen.{CellSeen, node_of}
-use Rattle.r4_cell.proofs.Faults.{cell_still}
+use Rattle.r4_search.specs.r4_cell.Patch.{by_name}
+use Rattle.r4_search.specs.r4_cell.Seen.{CellSeen, node_of}
+use Rattle.r4_search.proofs.r4_cell.Faults.{cell_still}
 use Rattle.r4_content.specs.Edited.{Edits, changed, is_in}
 use Rattle.r4_content.specs.Ways.{to_object}
 use Rattle.r4_content.proofs.Ranks.{root_is_object, same_stat}
 use Rattle.r4_content.specs.declared.command.Command.TheVariants.{Chmod}
-use Rattle.r4_leaf_edits.specs.Made.{spread_keys}
-use Rattle.r4_patch.proofs.Members.{cases, distinct, there}
-use Rattle.r4_path.proofs.Rising.{in_node, level_is}
-use Rattle.r4_reach.specs.Leaves.{LieInLeaves}
-use Rattle.r4_reach.specs.Touched.{body_on, edits_on}
+use Rattle.r4_build.specs.r4_leaf_edits.Made.{spread_keys}
+use Rattle.r4_build.proofs.r4_patch.Members.{cases, distinct, there}
+use Rattle.r4_build.proofs.r4_path.Rising.{in_node, level_is}
+use Rattle.r4_build.specs.r4_reach.Leaves.{LieInLeaves}
+use Rattle.r4_build.specs.r4_reach.Touched.{body_on, edits_on}
 use Rattle.r4_suited.specs.Suited.{AreLawfulSeen, IsAccepted, IsLawfulSeen}
 use Rattle.r4_suited.proofs.Walked.{at_found}
-use Rattle.r4_measure.specs.Examples.{fresh_cells, fresh_root, set_root, some_numbers}
-use Rattle.r4_measure.proofs.FreshReach.{highest, leaf_cell, lowest, twig_cell}
+use Rattle.r4_build.specs.r4_measure.Examples.{fresh_cells, fresh_root, set_root, some_numbers}
+use Rattle.r4_build.proofs.r4_measure.FreshReach.{highest, leaf_cell, lowest, twig_cell}
 use Rattle.r4_build.specs.Building.{CanBuild, HaveLawfulKeys}
 use Rattle.r4_build.proofs.FreshBuilt.{fresh_built}
 use Rattle.r4_spared.specs.Examples.{root_seen}

@@ -27,8 +27,8 @@ use Rattle.r4_content.specs.declared.command.Command.{Command}
 use Rattle.r4_content.proofs.EditLaws.{in_append, in_changed}
 use Rattle.r4_content.proofs.Found.{small_object}
 use Rattle.r4_content.proofs.Ranks.{byte_after, first_of_name, in_body, name_fits, stat_fits}
-use Rattle.r4_leaf_edits.proofs.Puts.{in_both}
-use Rattle.r4_reach.specs.Touched.{edits_on}
+use Rattle.r4_build.proofs.r4_leaf_edits.Puts.{in_both}
+use Rattle.r4_build.specs.r4_reach.Touched.{edits_on}
 use Rattle.r4_suited.specs.Suited.{AreLawfulSeen}
 use Rattle.r4_suited.proofs.Few.{IsName}
 use Rattle.r4_suited.proofs.Walked.{HoldsOfEdits, IsMet, edits_hold, made_object}

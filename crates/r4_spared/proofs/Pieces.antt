@@ -11,17 +11,17 @@ use Rattle.r4_base.specs.Node.{Item}
 use Rattle.r4_base.specs.Tree.{InSpan, IsData, Name, Span}
 use Rattle.r4_base.specs.declared.items.Unit.{Unit as ExtentUnit}
 use Rattle.r4_base.specs.declared.key.Key.{Key}
-use Rattle.r4_branch.specs.Items.{IsSoundItem, Lie}
-use Rattle.r4_branch.specs.Pieces.{Follow, IsSound, IsSoundPart, item_pieces, names_of, next_of, part_names, piece_end}
-use Rattle.r4_branch.specs.Pieces.{pieces_in, unit_pieces}
-use Rattle.r4_branch.specs.declared.piece.TwigPart.{TwigPart}
-use Rattle.r4_branch.specs.declared.piece.TwigPart.TheVariants.{Blocks, Pointer}
-use Rattle.r4_branch.specs.declared.piece.TwigPiece.{TwigPiece}
-use Rattle.r4_branch.proofs.ItemPieces.{extent_pieces, pointer_pieces}
-use Rattle.r4_branch.proofs.SoundItems.{extent_item}
-use Rattle.r4_branch.proofs.UnitPieces.{rank_later, some_width}
-use Rattle.r4_patch.proofs.Members.{cases, here, none}
-use Rattle.r4_reach.specs.Needs.{runs, widened}
+use Rattle.r4_build.specs.r4_branch.Items.{IsSoundItem, Lie}
+use Rattle.r4_build.specs.r4_branch.Pieces.{Follow, IsSound, IsSoundPart, item_pieces, names_of, next_of, part_names, piece_end}
+use Rattle.r4_build.specs.r4_branch.Pieces.{pieces_in, unit_pieces}
+use Rattle.r4_build.specs.r4_branch.declared.piece.TwigPart.{TwigPart}
+use Rattle.r4_build.specs.r4_branch.declared.piece.TwigPart.TheVariants.{Blocks, Pointer}
+use Rattle.r4_build.specs.r4_branch.declared.piece.TwigPiece.{TwigPiece}
+use Rattle.r4_build.proofs.r4_branch.ItemPieces.{extent_pieces, pointer_pieces}
+use Rattle.r4_build.proofs.r4_branch.SoundItems.{extent_item}
+use Rattle.r4_build.proofs.r4_branch.UnitPieces.{rank_later, some_width}
+use Rattle.r4_build.proofs.r4_patch.Members.{cases, here, none}
+use Rattle.r4_build.specs.r4_reach.Needs.{runs, widened}
 
 -- ---- blocks lie in the range of their extent
 

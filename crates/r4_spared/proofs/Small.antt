@@ -11,25 +11,25 @@ use Rattle.r4_base.specs.Key.{rank}
 use Rattle.r4_base.specs.Tree.{Node, Root, Store}
 use Rattle.r4_base.specs.Value.{Value}
 use Rattle.r4_base.proofs.Trees.{one_cell}
-use Rattle.r4_cell.specs.Seen.{CellSeen, node_of}
-use Rattle.r4_cell.specs.declared.change.Fresh.{Fresh}
+use Rattle.r4_search.specs.r4_cell.Seen.{CellSeen, node_of}
+use Rattle.r4_search.specs.r4_cell.declared.change.Fresh.{Fresh}
 use Rattle.r4_content.specs.Edited.{Edits, Intervals, Pairs, changed, is_between, is_in}
 use Rattle.r4_content.specs.Listed.{list_edited}
 use Rattle.r4_content.specs.declared.command.Command.{Command}
-use Rattle.r4_leaf.specs.Leaves.{MayStand}
-use Rattle.r4_leaf.specs.Units.{leaf_bytes}
-use Rattle.r4_leaf_edits.specs.Made.{spread_keys}
-use Rattle.r4_patch.specs.Part.{IsPart}
-use Rattle.r4_path.proofs.Rising.{hi_is, in_cell, level_is, lo_is}
-use Rattle.r4_reach.specs.Demand.{Demand}
-use Rattle.r4_reach.specs.Needs.{Ask, demand_of, demand_on, over, units_after}
-use Rattle.r4_reach.specs.Touched.{Body, body_on, edits_on, reads_on}
+use Rattle.r4_build.specs.r4_leaf.Leaves.{MayStand}
+use Rattle.r4_build.specs.r4_leaf.Units.{leaf_bytes}
+use Rattle.r4_build.specs.r4_leaf_edits.Made.{spread_keys}
+use Rattle.r4_build.specs.r4_patch.Part.{IsPart}
+use Rattle.r4_build.proofs.r4_path.Rising.{hi_is, in_cell, level_is, lo_is}
+use Rattle.r4_build.specs.r4_reach.Demand.{Demand}
+use Rattle.r4_build.specs.r4_reach.Needs.{Ask, demand_of, demand_on, over, units_after}
+use Rattle.r4_build.specs.r4_reach.Touched.{Body, body_on, edits_on, reads_on}
 use Rattle.r4_suited.specs.Suited.{end_of_bytes}
 use Rattle.r4_suited.proofs.Cells.{IsFitting, leaf_fits}
 use Rattle.r4_suited.proofs.Small.{leaf_small}
 use Rattle.r4_suited.proofs.Walked.{edits_made}
-use Rattle.r4_measure.specs.Asked.{asked_of}
-use Rattle.r4_measure.specs.Begin.{IsQuiet}
+use Rattle.r4_build.specs.r4_measure.Asked.{asked_of}
+use Rattle.r4_build.specs.r4_measure.Begin.{IsQuiet}
 use Rattle.r4_build.specs.Building.{CanBuild, HaveLawfulKeys, LiesInLeaf}
 use Rattle.r4_build.proofs.Pairs.{found_in}
 use Rattle.r4_spared.specs.Spared.{AreAccepted, ChangesLeaves, HasTask, IsAskedInLeaves, MayRise, Spares}

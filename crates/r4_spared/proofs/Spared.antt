@@ -15,33 +15,33 @@ use Rattle.r4_base.specs.Tree.{InSpan, Name, Node, Root, Span, Store}
 use Rattle.r4_base.specs.Value.{Value}
 use Rattle.r4_base.specs.declared.items.Unit.{Unit as ExtentUnit}
 use Rattle.r4_base.specs.declared.key.Key.{Key}
-use Rattle.r4_branch.specs.Pieces.{MayStand, pieces_in}
-use Rattle.r4_branch.specs.declared.piece.TwigPart.{TwigPart}
-use Rattle.r4_branch.specs.declared.piece.TwigPart.TheVariants.{Blocks, Pointer}
-use Rattle.r4_branch.specs.declared.piece.TwigPiece.{TwigPiece}
-use Rattle.r4_branch.proofs.Standing.{stand_lie}
-use Rattle.r4_cell.specs.Seen.{CellSeen, node_of}
+use Rattle.r4_build.specs.r4_branch.Pieces.{MayStand, pieces_in}
+use Rattle.r4_build.specs.r4_branch.declared.piece.TwigPart.{TwigPart}
+use Rattle.r4_build.specs.r4_branch.declared.piece.TwigPart.TheVariants.{Blocks, Pointer}
+use Rattle.r4_build.specs.r4_branch.declared.piece.TwigPiece.{TwigPiece}
+use Rattle.r4_build.proofs.r4_branch.Standing.{stand_lie}
+use Rattle.r4_search.specs.r4_cell.Seen.{CellSeen, node_of}
 use Rattle.r4_content.specs.Edited.{Edits, Intervals, Pairs, changed, is_between, is_in, put_keys}
 use Rattle.r4_content.specs.Listed.{list_edited}
 use Rattle.r4_content.specs.declared.command.Command.{Command}
 use Rattle.r4_content.proofs.EditLaws.{in_append}
-use Rattle.r4_leaf_edits.specs.Made.{spread_keys}
-use Rattle.r4_leaf_edits.proofs.Lookups.{edited_rises}
-use Rattle.r4_patch.specs.Part.{IsPart}
-use Rattle.r4_patch.proofs.Members.{here, later}
-use Rattle.r4_patch.proofs.PartCells.{leaf_or_extent}
-use Rattle.r4_measure.proofs.Kept.{block_is}
-use Rattle.r4_path.proofs.CellNodes.{spans_are as cell_spans}
-use Rattle.r4_path.proofs.Rising.{level_is}
-use Rattle.r4_reach.specs.Leaves.{LieInLeaves}
-use Rattle.r4_reach.specs.Needs.{changes_pieces, come_of, demand_of, filled, gets_bytes, goes_in, going_of, is_met}
-use Rattle.r4_reach.specs.Needs.{is_hole_part, leaf_edits, leaves_for}
-use Rattle.r4_reach.specs.Needs.{put_among, runs}
-use Rattle.r4_reach.specs.Touched.{Body, blocks_end, body_on, coming, edits_on, first_byte, going, is_spread}
-use Rattle.r4_reach.specs.Touched.{raw_changes, reads_on, turns_out}
-use Rattle.r4_reach.specs.Touched.{with_blocks}
+use Rattle.r4_build.specs.r4_leaf_edits.Made.{spread_keys}
+use Rattle.r4_build.proofs.r4_leaf_edits.Lookups.{edited_rises}
+use Rattle.r4_build.specs.r4_patch.Part.{IsPart}
+use Rattle.r4_build.proofs.r4_patch.Members.{here, later}
+use Rattle.r4_build.proofs.r4_patch.PartCells.{leaf_or_extent}
+use Rattle.r4_build.proofs.r4_measure.Kept.{block_is}
+use Rattle.r4_build.proofs.r4_path.CellNodes.{spans_are as cell_spans}
+use Rattle.r4_build.proofs.r4_path.Rising.{level_is}
+use Rattle.r4_build.specs.r4_reach.Leaves.{LieInLeaves}
+use Rattle.r4_build.specs.r4_reach.Needs.{changes_pieces, come_of, demand_of, filled, gets_bytes, goes_in, going_of, is_met}
+use Rattle.r4_build.specs.r4_reach.Needs.{is_hole_part, leaf_edits, leaves_for}
+use Rattle.r4_build.specs.r4_reach.Needs.{put_among, runs}
+use Rattle.r4_build.specs.r4_reach.Touched.{Body, blocks_end, body_on, coming, edits_on, first_byte, going, is_spread}
+use Rattle.r4_build.specs.r4_reach.Touched.{raw_changes, reads_on, turns_out}
+use Rattle.r4_build.specs.r4_reach.Touched.{with_blocks}
 use Rattle.r4_suited.proofs.Left.{without_body}
-use Rattle.r4_work.proofs.Halving.{true_or_false}
+use Rattle.r4_build.proofs.r4_work.Halving.{true_or_false}
 use Rattle.r4_build.specs.Building.{SparesExtents}
 use Rattle.r4_build.proofs.LeafKeys.{listed_off}
 use Rattle.r4_build.proofs.MetKeys.{key_met, met_key}

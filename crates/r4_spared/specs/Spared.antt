@@ -9,27 +9,27 @@ use Rattle.r4_base.specs.Value.{Content, Stat, Value}
 use Rattle.r4_base.specs.Volume.{HasStat, IsObject, stat_rank}
 use Rattle.r4_base.specs.declared.items.Attr.{Attr}
 use Rattle.r4_base.specs.declared.items.Target.{Target}
-use Rattle.r4_cell.specs.Patch.{HaveNames}
-use Rattle.r4_cell.specs.Seen.{CellSeen, node_of}
-use Rattle.r4_cell.specs.declared.change.Fresh.{Fresh}
+use Rattle.r4_search.specs.r4_cell.Patch.{HaveNames}
+use Rattle.r4_search.specs.r4_cell.Seen.{CellSeen, node_of}
+use Rattle.r4_search.specs.r4_cell.declared.change.Fresh.{Fresh}
 use Rattle.r4_content.specs.Course.{asked}
 use Rattle.r4_content.specs.Edited.{Edits, Pairs, changed, is_in}
 use Rattle.r4_content.specs.Fields.{HasBytePaths}
 use Rattle.r4_content.specs.Meaning.{course, greatest_size}
 use Rattle.r4_content.specs.Seen.{Rises, of_seen}
 use Rattle.r4_content.specs.declared.command.Command.{Command}
-use Rattle.r4_leaf_edits.specs.Made.{spread_keys}
-use Rattle.r4_patch.specs.Part.{IsPart}
-use Rattle.r4_path.specs.Nodes.{IsPointable}
-use Rattle.r4_path.specs.Steps.{IsFree}
-use Rattle.r4_reach.specs.Demand.{Demand}
-use Rattle.r4_reach.specs.Leaves.{LieInLeaves}
-use Rattle.r4_reach.specs.Needs.{Ask, changes_pieces, come_of, demand_of, demand_on, going_of}
-use Rattle.r4_reach.specs.Reach.{IsRootAsking, IsWritten}
-use Rattle.r4_reach.specs.Touched.{Body, body_on, edits_on, reads_on}
+use Rattle.r4_build.specs.r4_leaf_edits.Made.{spread_keys}
+use Rattle.r4_build.specs.r4_patch.Part.{IsPart}
+use Rattle.r4_build.specs.r4_path.Nodes.{IsPointable}
+use Rattle.r4_build.specs.r4_path.Steps.{IsFree}
+use Rattle.r4_build.specs.r4_reach.Demand.{Demand}
+use Rattle.r4_build.specs.r4_reach.Leaves.{LieInLeaves}
+use Rattle.r4_build.specs.r4_reach.Needs.{Ask, changes_pieces, come_of, demand_of, demand_on, going_of}
+use Rattle.r4_build.specs.r4_reach.Reach.{IsRootAsking, IsWritten}
+use Rattle.r4_build.specs.r4_reach.Touched.{Body, body_on, edits_on, reads_on}
 use Rattle.r4_suited.specs.Suited.{AreLawfulSeen, IsAccepted}
-use Rattle.r4_work.specs.Working.{AreCellsIn}
-use Rattle.r4_measure.specs.Budget.{AreUnplaced}
+use Rattle.r4_build.specs.r4_work.Working.{AreCellsIn}
+use Rattle.r4_build.specs.r4_measure.Budget.{AreUnplaced}
 use Rattle.r4_build.specs.Building.{SparesExtents}
 
 -- What stands is cells that may stand, in memory.

@@ -2,10 +2,10 @@
 use Rattle.std.proofs.Common.{◌≡◌, List, [], ◌∷◌, length, replicate, refl, arith}
 use Rattle.std.specs.Prelude.{count_by, sum_by}
 use Rattle.std.proofs.lemmas.List.Sums.{sum_by-cons}
-use Rattle.r4_kept.specs.History.{is_commit, owed, owed_in}
+use Rattle.r4_rooms.specs.r4_kept.History.{is_commit, owed, owed_in}
 use Rattle.r4_script.specs.declared.job.Job.{Job}
 use Rattle.r4_script.specs.declared.job.Script.{Script}
-use Rattle.r4_turns.specs.Turns.{start, started}
+use Rattle.r4_rooms.specs.r4_turns.Turns.{start, started}
 
 -- each `commit` of a job needs an entry
 owed_first : (scripts : List Script) → sum_by (λ (x : Script). count_by is_commit x.commands) scripts

@@ -6,7 +6,7 @@ use Rattle.r4_base.specs.Layout.{IsLawfulSuper}
 use Rattle.r4_base.specs.Refusal.{IsRefused}
 use Rattle.r4_base.specs.Volume.{root_of}
 use Rattle.r4_base.specs.declared.limits.TheConstants.{LEAST_BLOCKS, MOST_BLOCKS}
-use Rattle.r4_durable.specs.Kept.{space_of}
+use Rattle.r4_rooms.specs.r4_durable.Kept.{space_of}
 use Rattle.r4_open.specs.Opening.{AreAccepted, IsOpening, layout_misfit, misfit}
 use Rattle.r4_open.specs.declared.opened.Opened.{Opened}
 use Rattle.r4_open.specs.declared.opened.Unopened.{Unopened}
@@ -17,13 +17,13 @@ use Rattle.r4_replay.specs.declared.fault.ReplayFault.{ReplayFault}
 use Rattle.r4_replay.specs.declared.fault.ReplayFault.TheVariants as replays
 use Rattle.r4_script.specs.declared.job.Job.{Job}
 use Rattle.r4_space.specs.Lawful.{IsLawful}
-use Rattle.r4_turns.specs.Turns.{started}
-use Rattle.r4_kept.specs.History.{owed}
-use Rattle.r4_kept.specs.View.{root_seen}
+use Rattle.r4_rooms.specs.r4_turns.Turns.{started}
+use Rattle.r4_rooms.specs.r4_kept.History.{owed}
+use Rattle.r4_rooms.specs.r4_kept.View.{root_seen}
 use Rattle.r4_start.specs.declared.fault.OpenWhy.{OpenWhy}
 use Rattle.r4_start.specs.declared.fault.OpenWhy.TheVariants.{Device, Image, Log, Memory, Size}
-use Rattle.r4_kept.specs.declared.parts.Numbers.{Numbers}
-use Rattle.r4_kept.specs.declared.parts.Volume.{Volume}
+use Rattle.r4_rooms.specs.r4_kept.declared.parts.Numbers.{Numbers}
+use Rattle.r4_rooms.specs.r4_kept.declared.parts.Volume.{Volume}
 use Rattle.r4_start.specs.declared.starting.Start.{Start}
 
 -- ---- what is found

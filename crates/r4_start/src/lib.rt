@@ -6,4 +6,5 @@ mod fault;
 mod starting;
 
 pub use fault::{OpenFault, OpenWhy};
+pub use r4_rooms::{Wanted, make_room};
 pub use starting::{Start, start_of};

@@ -4,28 +4,27 @@ ghost use Rattle.std.specs.Prelude.{◌≡◌, ◌≤◌, IfErr, IfOk, IfSome, O
 ghost use Rattle.r4_base.specs.Volume.{root_of};
 ghost use Rattle.r4_outside.specs.Device.{Goes, IsQuiet};
 ghost use Rattle.r4_replay.specs.Replay.{SettlesAlways};
-ghost use Rattle.r4_durable.specs.Kept.{space_of};
+ghost use Rattle.r4_rooms.specs.r4_durable.Kept.{space_of};
 ghost use Rattle.r4_open.specs.Opening.{AreAccepted};
 ghost use Rattle.r4_space.specs.Lawful.{IsLawful};
-ghost use Rattle.r4_turns.specs.Turns.{started};
-ghost use Rattle.r4_kept.specs.History.{is_commit, owed};
+ghost use Rattle.r4_rooms.specs.r4_turns.Turns.{started};
+ghost use Rattle.r4_rooms.specs.r4_kept.History.{is_commit, owed};
 ghost use Rattle.r4_start.specs.Starting.{HasStarted, IsFound, IsOpenFault};
 ghost use Rattle.r4_start.specs.Starting.{fault_of_image, fault_of_log};
-ghost use Rattle.r4_kept.specs.View.{root_seen};
+ghost use Rattle.r4_rooms.specs.r4_kept.View.{root_seen};
 ghost use Rattle.r4_start.specs.declared.fault.OpenWhy.TheVariants.{Device as HasFailed};
 
 use crate::fault::OpenWhy;
 use r4_base::{Memory, NodeId, Super40, UNPLACED};
 use r4_cell::Root;
 use r4_content::Command;
-use r4_kept::{Numbers, Volume};
 use r4_open::{Opened, Unopened, open_in_place};
 use r4_outside::Device;
 use r4_replay::{ReplayFault, replay};
+use r4_rooms::{Numbers, Turns, Volume};
 use r4_script::{Job, Script};
 use r4_space::{SpaceFault, SpaceMap};
 use r4_trace::Trace;
-use r4_turns::Turns;
 use std::alloc::{AllocError, Global};
 
 /// What a core is made of, beside its device, and what is empty at its start (docs/core.md,

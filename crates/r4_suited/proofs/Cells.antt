@@ -27,26 +27,26 @@ use Rattle.r4_base.specs.declared.items.StatFault.TheVariants.{Kind, Length, Mas
 use Rattle.r4_base.specs.declared.items.Unit.{Unit as ExtentUnit}
 use Rattle.r4_base.specs.declared.key.Key.{Key}
 use Rattle.r4_base.proofs.Numbers.{number_at-lt}
-use Rattle.r4_cell.specs.Seen.{CellSeen, node_of}
-use Rattle.r4_cell.specs.declared.change.Root.{Root}
-use Rattle.r4_cell.proofs.Items.{good_item}
-use Rattle.r4_cell.proofs.NodesAt.{node_at}
+use Rattle.r4_leaf_edits.specs.r4_cell.Seen.{CellSeen, node_of}
+use Rattle.r4_leaf_edits.specs.r4_cell.declared.change.Root.{Root}
+use Rattle.r4_leaf_edits.proofs.r4_cell.Items.{good_item}
+use Rattle.r4_leaf_edits.proofs.r4_cell.NodesAt.{node_at}
 use Rattle.r4_content.specs.Edited.{Pairs}
 use Rattle.r4_content.specs.Seen.{Rises}
 use Rattle.r4_content.specs.declared.command.Command.{Command}
 use Rattle.r4_content.proofs.Counting.{both_hold}
-use Rattle.r4_leaf.specs.Items.{Lie}
-use Rattle.r4_leaf.specs.Leaves.{MayStand}
-use Rattle.r4_leaf.specs.Measure.{last_or}
-use Rattle.r4_leaf.specs.Units.{LeafUnit, bytes_behind, leaf_bytes}
-use Rattle.r4_leaf.proofs.LeafItems.{lie_rise, no_bytes, spread}
-use Rattle.r4_leaf.proofs.Lying.{units_cons, units_nil}
-use Rattle.r4_leaf.proofs.Rising.{Rise}
-use Rattle.r4_leaf.proofs.Standing.{is_node, stand_lie}
-use Rattle.r4_leaf.proofs.Weighed.{behind_append}
-use Rattle.r4_node40.proofs.Accepted.{space, takes}
-use Rattle.r4_patch.proofs.Members.{found}
-use Rattle.r4_reach.specs.Answer.{IsReachOf}
+use Rattle.r4_leaf_edits.specs.r4_leaf.Items.{Lie}
+use Rattle.r4_leaf_edits.specs.r4_leaf.Leaves.{MayStand}
+use Rattle.r4_leaf_edits.specs.r4_leaf.Measure.{last_or}
+use Rattle.r4_leaf_edits.specs.r4_leaf.Units.{LeafUnit, bytes_behind, leaf_bytes}
+use Rattle.r4_leaf_edits.proofs.r4_leaf.LeafItems.{lie_rise, no_bytes, spread}
+use Rattle.r4_leaf_edits.proofs.r4_leaf.Lying.{units_cons, units_nil}
+use Rattle.r4_leaf_edits.proofs.r4_leaf.Rising.{Rise}
+use Rattle.r4_leaf_edits.proofs.r4_leaf.Standing.{is_node, stand_lie}
+use Rattle.r4_leaf_edits.proofs.r4_leaf.Weighed.{behind_append}
+use Rattle.r4_leaf_edits.proofs.r4_node40.Accepted.{space, takes}
+use Rattle.r4_leaf_edits.proofs.r4_patch.Members.{found}
+use Rattle.r4_leaf_edits.specs.r4_reach.Answer.{IsReachOf}
 use Rattle.r4_suited.specs.Suited.{AreLawfulSeen, IsAccepted, IsLawfulSeen}
 
 -- ---- one item

@@ -21,7 +21,7 @@ use Rattle.r4_content.specs.Walk.{may_be_object}
 use Rattle.r4_content.proofs.Found.{small_object}
 use Rattle.r4_content.proofs.Shapes.{entry_back, entry_dir, stat_back}
 use Rattle.r4_leaf_edits.specs.Suiting.{IsLawfulPut, is_byte}
-use Rattle.r4_reach.specs.Reach.{is_body}
+use Rattle.r4_leaf_edits.specs.r4_reach.Reach.{is_body}
 
 -- a name, of bytes
 abbrev pub IsName : List ℕ → Type 0

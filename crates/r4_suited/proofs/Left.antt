@@ -11,7 +11,7 @@ use Rattle.r4_content.specs.Bodies.{larger}
 use Rattle.r4_content.specs.Edited.{Edits, Intervals, Pairs, and_also}
 use Rattle.r4_content.specs.Objects.{Object, byte_pairs, set_body}
 use Rattle.r4_content.proofs.Ranks.{byte_after}
-use Rattle.r4_reach.specs.Reach.{is_body}
+use Rattle.r4_leaf_edits.specs.r4_reach.Reach.{is_body}
 use Rattle.r4_suited.proofs.Few.{AreFew, IsHere, IsValue}
 use Rattle.r4_suited.proofs.Runs.{byte_body, gap_on, gap_puts, size_on, sized_by}
 use Rattle.r4_suited.proofs.Suits.{size_few}

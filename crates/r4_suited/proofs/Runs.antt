@@ -18,7 +18,7 @@ use Rattle.r4_content.specs.Objects.{Object, byte_pairs, cut_body, set_attr, set
 use Rattle.r4_content.proofs.BytePairs.{keys_in}
 use Rattle.r4_content.proofs.Ranks.{byte_after}
 use Rattle.r4_leaf_edits.specs.Suiting.{AreOnce, IsBefore, IsLawfulPut, SuitLeaves, bytes_set, is_byte, zero_pairs}
-use Rattle.r4_reach.specs.Reach.{is_body}
+use Rattle.r4_leaf_edits.specs.r4_reach.Reach.{is_body}
 use Rattle.r4_suited.proofs.Few.{AreFew, IsValue}
 
 -- ---- a run

@@ -8,7 +8,7 @@ use Rattle.r4_base.specs.Tree.{Node}
 use Rattle.r4_base.specs.Value.{Value}
 use Rattle.r4_base.specs.Volume.{byte_rank}
 use Rattle.r4_base.specs.declared.items.Target.{Target}
-use Rattle.r4_cell.specs.Seen.{CellSeen, node_of}
+use Rattle.r4_leaf_edits.specs.r4_cell.Seen.{CellSeen, node_of}
 use Rattle.r4_content.specs.Bodies.{larger, truncated, written}
 use Rattle.r4_content.specs.Edited.{Edits, Pairs, and_also}
 use Rattle.r4_content.specs.Fields.{HasBytePaths}
@@ -17,10 +17,10 @@ use Rattle.r4_content.specs.Objects.{Object, byte_pairs, set_body}
 use Rattle.r4_content.specs.Seen.{Rises}
 use Rattle.r4_content.specs.declared.command.Command.{Command}
 use Rattle.r4_content.proofs.Ranks.{byte_after}
-use Rattle.r4_leaf.specs.Leaves.{MayStand}
-use Rattle.r4_leaf.specs.Units.{leaf_bytes}
-use Rattle.r4_reach.specs.Needs.{leaf_edits, units_after}
-use Rattle.r4_reach.specs.Touched.{Body, body_on, edits_on, first_byte, is_spread}
+use Rattle.r4_leaf_edits.specs.r4_leaf.Leaves.{MayStand}
+use Rattle.r4_leaf_edits.specs.r4_leaf.Units.{leaf_bytes}
+use Rattle.r4_leaf_edits.specs.r4_reach.Needs.{leaf_edits, units_after}
+use Rattle.r4_leaf_edits.specs.r4_reach.Touched.{Body, body_on, edits_on, first_byte, is_spread}
 use Rattle.r4_suited.specs.Suited.{AreLawfulSeen, end_of_bytes}
 use Rattle.r4_suited.proofs.Cells.{leaf_fits}
 use Rattle.r4_suited.proofs.Few.{AreFew, IsHere}

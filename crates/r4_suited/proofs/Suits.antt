@@ -28,8 +28,8 @@ use Rattle.r4_content.proofs.SeenLaws.{at_content, content_of, edited_list}
 use Rattle.r4_content.proofs.Writing.{truncate_edits, write_edits}
 use Rattle.r4_leaf_edits.specs.Made.{bytes_end, spread_keys}
 use Rattle.r4_leaf_edits.specs.Suiting.{AreOnce, IsBefore, IsLawfulPut, SuitLeaves}
-use Rattle.r4_reach.specs.Reach.{is_body}
-use Rattle.r4_reach.specs.Touched.{Body, body_key, body_of, body_on, edits_on, first_byte, is_spread, size_in}
+use Rattle.r4_leaf_edits.specs.r4_reach.Reach.{is_body}
+use Rattle.r4_leaf_edits.specs.r4_reach.Touched.{Body, body_key, body_of, body_on, edits_on, first_byte, is_spread, size_in}
 use Rattle.r4_suited.specs.Suited.{AreLawfulSeen, end_of_bytes}
 use Rattle.r4_suited.proofs.Few.{AreFew, IsHere, few_attr, few_less, few_none, stat_off}
 use Rattle.r4_suited.proofs.Runs.{byte_body, few_lawful, few_set, gap_on, grown_end, run_lawful, run_suits, size_on}

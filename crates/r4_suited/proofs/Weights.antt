@@ -24,9 +24,9 @@ use Rattle.r4_content.specs.Objects.{byte_pairs}
 use Rattle.r4_content.specs.Seen.{Rises}
 use Rattle.r4_content.proofs.EditLaws.{last_put}
 use Rattle.r4_content.proofs.Counting.{below_lt, first_holds, second_holds}
-use Rattle.r4_leaf.specs.Units.{LeafUnit, bytes_behind, entry_bytes, leaf_bytes, unit_bytes}
-use Rattle.r4_leaf.proofs.Rising.{Rise, below_kept, between_cut, cut_high}
-use Rattle.r4_leaf.proofs.Weighed.{byte_cost, entry_weighs, headed, stat_cost}
+use Rattle.r4_leaf_edits.specs.r4_leaf.Units.{LeafUnit, bytes_behind, entry_bytes, leaf_bytes, unit_bytes}
+use Rattle.r4_leaf_edits.proofs.r4_leaf.Rising.{Rise, below_kept, between_cut, cut_high}
+use Rattle.r4_leaf_edits.proofs.r4_leaf.Weighed.{byte_cost, entry_weighs, headed, stat_cost}
 use Rattle.r4_leaf_edits.proofs.Lookups.{edited_rises, found, kept_rises, same_rising}
 use Rattle.r4_suited.proofs.Few.{IsValue}
 

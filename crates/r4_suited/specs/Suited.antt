@@ -6,13 +6,13 @@ use Rattle.r4_base.specs.Cell.{cell_fault}
 use Rattle.r4_base.specs.Key.{rank}
 use Rattle.r4_base.specs.Stat.{kind_is_good}
 use Rattle.r4_base.specs.Value.{Byte, Entry, Stat, Value}
-use Rattle.r4_cell.specs.Seen.{CellSeen}
+use Rattle.r4_leaf_edits.specs.r4_cell.Seen.{CellSeen}
 use Rattle.r4_content.specs.Course.{asked}
 use Rattle.r4_content.specs.Edited.{Pairs, is_in}
 use Rattle.r4_content.specs.Meaning.{course, greatest_size}
 use Rattle.r4_content.specs.Seen.{of_seen}
 use Rattle.r4_content.specs.declared.command.Command.{Command}
-use Rattle.r4_reach.specs.Touched.{Body, is_spread}
+use Rattle.r4_leaf_edits.specs.r4_reach.Touched.{Body, is_spread}
 
 -- Attributes are a directory's or a file's, and what an entry names has an ordering of 64 bits.
 abbrev pub IsLawfulSeen : ℕ × Value → Type 0

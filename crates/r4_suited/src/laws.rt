@@ -6,21 +6,21 @@ ghost use Rattle.r4_base.specs.Cell.{cell_fault, cell_of};
 ghost use Rattle.r4_base.specs.Key.{rank};
 ghost use Rattle.r4_base.specs.Tree.{Node};
 ghost use Rattle.r4_base.specs.Value.{Value};
-ghost use Rattle.r4_cell.specs.Seen.{CellSeen, node_of};
-ghost use Rattle.r4_cell.specs.declared.change.Root.{Root as RootPair};
+ghost use Rattle.r4_leaf_edits.specs.r4_cell.Seen.{CellSeen, node_of};
+ghost use Rattle.r4_leaf_edits.specs.r4_cell.declared.change.Root.{Root as RootPair};
 ghost use Rattle.r4_content.specs.Edited.{Pairs};
 ghost use Rattle.r4_content.specs.Fields.{HasBytePaths};
 ghost use Rattle.r4_content.specs.Held.{interval_of};
 ghost use Rattle.r4_content.specs.Seen.{Rises};
 ghost use Rattle.r4_content.specs.declared.command.Command.{Command};
 ghost use Rattle.r4_content.specs.declared.edits.Interval.{Interval};
-ghost use Rattle.r4_leaf.specs.Leaves.{MayStand};
-ghost use Rattle.r4_leaf.specs.Units.{leaf_bytes};
+ghost use Rattle.r4_leaf_edits.specs.r4_leaf.Leaves.{MayStand};
+ghost use Rattle.r4_leaf_edits.specs.r4_leaf.Units.{leaf_bytes};
 ghost use Rattle.r4_leaf_edits.specs.Made.{bytes_end, spread_keys};
 ghost use Rattle.r4_leaf_edits.specs.Suiting.{SuitLeaves};
-ghost use Rattle.r4_reach.specs.Answer.{IsReachOf};
-ghost use Rattle.r4_reach.specs.Needs.{units_after};
-ghost use Rattle.r4_reach.specs.Touched.{body_on, edits_on};
+ghost use Rattle.r4_leaf_edits.specs.r4_reach.Answer.{IsReachOf};
+ghost use Rattle.r4_leaf_edits.specs.r4_reach.Needs.{units_after};
+ghost use Rattle.r4_leaf_edits.specs.r4_reach.Touched.{body_on, edits_on};
 ghost use Rattle.r4_suited.specs.Suited.{AreLawfulSeen, IsAccepted, IsLawfulSeen, end_of_bytes};
 
 /// The edits of a command, whose paths are of bytes, are such as leaves can take, where what was seen is lawful. So

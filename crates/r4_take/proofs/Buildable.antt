@@ -2,9 +2,9 @@
 use Rattle.std.proofs.Common.{◌≡◌, ◌∙◌, ℕ, List, None, Some, ap, subst, sym}
 use Rattle.std.specs.Arc.{arc_value}
 use Rattle.std.specs.Prelude.{slice_get}
-use Rattle.r4_build.specs.Building.{CanBuild}
-use Rattle.r4_build.specs.Built.{IsTaskIn, edits_for}
-use Rattle.r4_build.specs.declared.task.Task.{Task}
+use Rattle.r4_seal.specs.r4_build.Building.{CanBuild}
+use Rattle.r4_seal.specs.r4_build.Built.{IsTaskIn, edits_for}
+use Rattle.r4_seal.specs.r4_build.declared.task.Task.{Task}
 use Rattle.r4_cell.specs.Patch.{by_name, root_of_pair}
 use Rattle.r4_cell.specs.Seen.{CellSeen}
 use Rattle.r4_cell.specs.declared.change.Fresh.{Fresh}
@@ -14,18 +14,18 @@ use Rattle.r4_content.specs.Held.{pairs_of}
 use Rattle.r4_content.specs.Meaning.{with_id}
 use Rattle.r4_content.specs.Seen.{Rises}
 use Rattle.r4_content.specs.declared.command.Command.{Command}
-use Rattle.r4_history.proofs.Places.{is_script_with, turn_now}
-use Rattle.r4_history.specs.Held.{IsOut}
-use Rattle.r4_history.specs.Tables.{next_at}
-use Rattle.r4_core.specs.r4_kept.Kept.{IsKept}
-use Rattle.r4_core.specs.r4_kept.Naming.{Naming}
-use Rattle.r4_core.specs.r4_kept.TasksOut.{IsGiven}
-use Rattle.r4_core.specs.r4_kept.View.{CoreSeen}
-use Rattle.r4_leaf_edits.specs.Suiting.{SuitLeaves}
+use Rattle.r4_seal.proofs.r4_history.Places.{is_script_with, turn_now}
+use Rattle.r4_seal.specs.r4_history.Held.{IsOut}
+use Rattle.r4_seal.specs.r4_history.Tables.{next_at}
+use Rattle.r4_seal.specs.r4_kept.Kept.{IsKept}
+use Rattle.r4_seal.specs.r4_kept.Naming.{Naming}
+use Rattle.r4_seal.specs.r4_kept.TasksOut.{IsGiven}
+use Rattle.r4_seal.specs.r4_kept.View.{CoreSeen}
+use Rattle.r4_seal.specs.r4_leaf_edits.Suiting.{SuitLeaves}
 use Rattle.r4_outside.specs.Device.{State}
-use Rattle.r4_reach.specs.Touched.{body_on, edits_on, reads_on}
-use Rattle.r4_suited.proofs.Suits.{told_suits}
-use Rattle.r4_core.specs.r4_taking.GoingOut.{HasGoneOut}
+use Rattle.r4_seal.specs.r4_reach.Touched.{body_on, edits_on, reads_on}
+use Rattle.r4_seal.proofs.r4_suited.Suits.{told_suits}
+use Rattle.r4_seal.specs.r4_taking.GoingOut.{HasGoneOut}
 use Rattle.r4_turns.specs.Turns.{IsScript, commands_at, gone_out, turn_at}
 use Rattle.r4_turns.specs.declared.out.Out.{Out}
 use Rattle.r4_turns.specs.declared.turn.Turn.{Turn}

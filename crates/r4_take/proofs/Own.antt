@@ -8,28 +8,28 @@ use Rattle.r4_atoms.specs.declared.things.AtomState.{AtomState}
 use Rattle.r4_base.specs.declared.things.TxnNo.{TxnNo}
 use Rattle.r4_content.specs.Locality.{commands}
 use Rattle.r4_content.specs.Meaning.{greatest_size}
-use Rattle.r4_history.proofs.AtomSteps.{count_after, state_after, state_before, txn_after}
-use Rattle.r4_history.proofs.Places.{is_script_with, turn_now}
-use Rattle.r4_history.proofs.RunSteps.{open_in_both}
-use Rattle.r4_history.proofs.Told.{atom_named}
-use Rattle.r4_history.specs.Drawn.{numbers_of}
-use Rattle.r4_history.specs.Held.{AreOwners, Need}
-use Rattle.r4_history.specs.Serving.{AreOthers, IsOwnerInReach, IsSealedOwner}
-use Rattle.r4_history.specs.Tables.{next_at, single}
-use Rattle.r4_history.specs.Told.{IsTold}
-use Rattle.r4_core.proofs.r4_kept.Turning.{owed_less, summed}
-use Rattle.r4_core.specs.r4_kept.Accounts.{cells_for, cells_owed, claims_for, claims_owed}
-use Rattle.r4_core.specs.r4_kept.History.{owed}
-use Rattle.r4_core.specs.r4_kept.Kept.{IsKept}
-use Rattle.r4_core.specs.r4_kept.Naming.{Naming}
-use Rattle.r4_core.specs.r4_kept.Steps.{HasBegunSingle}
-use Rattle.r4_core.specs.r4_kept.View.{CoreSeen, tables_of}
+use Rattle.r4_seal.proofs.r4_history.AtomSteps.{count_after, state_after, state_before, txn_after}
+use Rattle.r4_seal.proofs.r4_history.Places.{is_script_with, turn_now}
+use Rattle.r4_seal.proofs.r4_history.RunSteps.{open_in_both}
+use Rattle.r4_seal.proofs.r4_history.Told.{atom_named}
+use Rattle.r4_seal.specs.r4_history.Drawn.{numbers_of}
+use Rattle.r4_seal.specs.r4_history.Held.{AreOwners, Need}
+use Rattle.r4_seal.specs.r4_history.Serving.{AreOthers, IsOwnerInReach, IsSealedOwner}
+use Rattle.r4_seal.specs.r4_history.Tables.{next_at, single}
+use Rattle.r4_seal.specs.r4_history.Told.{IsTold}
+use Rattle.r4_seal.proofs.r4_kept.Turning.{owed_less, summed}
+use Rattle.r4_seal.specs.r4_kept.Accounts.{cells_for, cells_owed, claims_for, claims_owed}
+use Rattle.r4_seal.specs.r4_kept.History.{owed}
+use Rattle.r4_seal.specs.r4_kept.Kept.{IsKept}
+use Rattle.r4_seal.specs.r4_kept.Naming.{Naming}
+use Rattle.r4_seal.specs.r4_kept.Steps.{HasBegunSingle}
+use Rattle.r4_seal.specs.r4_kept.View.{CoreSeen, tables_of}
 use Rattle.r4_outside.specs.Device.{State}
 use Rattle.r4_take.specs.Sending.{HasOwn, HasRoomier, own_in}
 use Rattle.r4_take.proofs.Roomy.{turns_same, txns_same}
 use Rattle.r4_take.specs.declared.gathering.Own.{Own}
-use Rattle.r4_trace.proofs.FirstOnes.{open_unsealed}
-use Rattle.r4_trace.specs.Traced.{IsOpen, IsSealed}
+use Rattle.r4_seal.proofs.r4_trace.FirstOnes.{open_unsealed}
+use Rattle.r4_seal.specs.r4_trace.Traced.{IsOpen, IsSealed}
 use Rattle.r4_turns.specs.Turns.{IsScript, commands_at, entered, turn_at}
 use Rattle.r4_turns.specs.declared.turn.Open.{Open}
 use Rattle.r4_turns.specs.declared.turn.Turn.{Turn}

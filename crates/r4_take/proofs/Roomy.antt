@@ -2,8 +2,8 @@
 use Rattle.std.proofs.Common.{◌≡◌, ◌∙◌, ℕ, List, [], ◌∷◌, Option, None, ap, refl, sym, subst, arith}
 use Rattle.r4_atoms.specs.Atoms.{owner_of}
 use Rattle.r4_base.specs.declared.things.NodeId.{NodeId}
-use Rattle.r4_buffer.specs.Seen.{buffered}
-use Rattle.r4_core.specs.r4_kept.View.{CoreSeen}
+use Rattle.r4_seal.specs.r4_buffer.Seen.{buffered}
+use Rattle.r4_seal.specs.r4_kept.View.{CoreSeen}
 use Rattle.r4_locks.specs.Locks.{LocksSeen, SameTasks, TaskSeen, conflict_of, first_conflict, mode_in, smallest_holder}
 use Rattle.r4_locks.specs.Modes.{conflicts}
 use Rattle.r4_locks.specs.declared.things.Mode.{Mode}

@@ -2,16 +2,16 @@
 use Rattle.std.proofs.Common.{◌≡◌, ◌∙◌, ℕ, Result, Ok, Err, ap, subst, sym}
 use Rattle.std.specs.Arc.{arc_value}
 use Rattle.std.specs.Prelude.{OnErr}
-use Rattle.r4_build.specs.declared.task.Task.{Task}
-use Rattle.r4_buffer.specs.Seen.{cells_of}
+use Rattle.r4_seal.specs.r4_build.declared.task.Task.{Task}
+use Rattle.r4_seal.specs.r4_buffer.Seen.{cells_of}
 use Rattle.r4_content.specs.declared.command.Command.{Command}
-use Rattle.r4_core.specs.Handing.{as_task}
-use Rattle.r4_core.specs.declared.handing.Given.{Given}
-use Rattle.r4_core.specs.r4_kept.View.{CoreSeen}
-use Rattle.r4_others.specs.Others.{pairs_of}
-use Rattle.r4_core.specs.r4_serve.declared.asked.Ready.{Ready}
-use Rattle.r4_core.specs.r4_taking.Fusing.{HasFusedAll}
-use Rattle.r4_core.specs.r4_taking.GoingOut.{HasGoneOut}
+use Rattle.r4_seal.specs.r4_core.Handing.{as_task}
+use Rattle.r4_seal.specs.r4_core.declared.handing.Given.{Given}
+use Rattle.r4_seal.specs.r4_kept.View.{CoreSeen}
+use Rattle.r4_seal.specs.r4_others.Others.{pairs_of}
+use Rattle.r4_seal.specs.r4_serve.declared.asked.Ready.{Ready}
+use Rattle.r4_seal.specs.r4_taking.Fusing.{HasFusedAll}
+use Rattle.r4_seal.specs.r4_taking.GoingOut.{HasGoneOut}
 use Rattle.r4_take.specs.Sending.{CanBeBuilt, HasOwn, HasRoomier, IsGathered, IsSent, own_in}
 use Rattle.r4_take.specs.declared.drawing.Draws.{Draws}
 use Rattle.r4_take.specs.declared.gathering.Gathered.{Gathered}

@@ -6,8 +6,8 @@ use Rattle.std.proofs.lemmas.List.{length-map}
 use Rattle.r4_atoms.specs.Atoms.{AtomsSeen, IsAtom, atom_of, is_sealed, owner_of}
 use Rattle.r4_atoms.specs.Names.{renamed}
 use Rattle.r4_base.specs.declared.things.TaskId.{TaskId}
-use Rattle.r4_buffer.specs.Changed.{Standing}
-use Rattle.r4_buffer.specs.Seen.{EntrySeen, IsLawful, buffered, cell_at, cells_of, is_captured}
+use Rattle.r4_seal.specs.r4_buffer.Changed.{Standing}
+use Rattle.r4_seal.specs.r4_buffer.Seen.{EntrySeen, IsLawful, buffered, cell_at, cells_of, is_captured}
 use Rattle.r4_base.specs.Bitmap.{is_fixed}
 use Rattle.r4_base.specs.Cell.{cell_fault}
 use Rattle.r4_base.specs.Key.{rank}
@@ -15,36 +15,36 @@ use Rattle.r4_cell.specs.Patch.{HaveNames, by_name, root_of_pair}
 use Rattle.r4_cell.specs.Seen.{CellSeen}
 use Rattle.r4_content.specs.Meaning.{makes_object, with_id}
 use Rattle.r4_content.specs.declared.command.Command.{Command}
-use Rattle.r4_core.proofs.FusingAll.{can_fuse_others}
-use Rattle.r4_core.specs.FusingAll.{CanFuseAll}
-use Rattle.r4_core.specs.Handing.{CanHandOut, as_task}
-use Rattle.r4_core.specs.Rooms.{HasRoomFor}
-use Rattle.r4_core.specs.declared.handing.Given.{Given}
-use Rattle.r4_core.specs.declared.handing.GoingOut.{GoingOut}
-use Rattle.r4_history.proofs.Fusing.{served_behind}
-use Rattle.r4_history.specs.Drawn.{GetsNumbers, numbers_of}
-use Rattle.r4_history.specs.Held.{AreOwners, IsServed, Need, names_of, need_of}
-use Rattle.r4_history.specs.Serving.{AreOthers, FusesAll}
-use Rattle.r4_history.specs.Tables.{next_at}
-use Rattle.r4_core.proofs.r4_kept.Unused.{IsLike, same_captured}
-use Rattle.r4_core.specs.r4_kept.Accounts.{cells_owed, claims_owed}
-use Rattle.r4_core.specs.r4_kept.History.{owed, owed_for_commit}
-use Rattle.r4_core.specs.r4_kept.Meaning.{Spares}
-use Rattle.r4_core.specs.r4_kept.TasksOut.{IsGiven}
-use Rattle.r4_core.specs.r4_kept.View.{CoreSeen, blocks_of, tables_of}
-use Rattle.r4_core.specs.r4_kept.declared.parts.Numbers.{Numbers as Next}
+use Rattle.r4_seal.proofs.r4_core.FusingAll.{can_fuse_others}
+use Rattle.r4_seal.specs.r4_core.FusingAll.{CanFuseAll}
+use Rattle.r4_seal.specs.r4_core.Handing.{CanHandOut, as_task}
+use Rattle.r4_seal.specs.r4_core.Rooms.{HasRoomFor}
+use Rattle.r4_seal.specs.r4_core.declared.handing.Given.{Given}
+use Rattle.r4_seal.specs.r4_core.declared.handing.GoingOut.{GoingOut}
+use Rattle.r4_seal.proofs.r4_history.Fusing.{served_behind}
+use Rattle.r4_seal.specs.r4_history.Drawn.{GetsNumbers, numbers_of}
+use Rattle.r4_seal.specs.r4_history.Held.{AreOwners, IsServed, Need, names_of, need_of}
+use Rattle.r4_seal.specs.r4_history.Serving.{AreOthers, FusesAll}
+use Rattle.r4_seal.specs.r4_history.Tables.{next_at}
+use Rattle.r4_seal.proofs.r4_kept.Unused.{IsLike, same_captured}
+use Rattle.r4_seal.specs.r4_kept.Accounts.{cells_owed, claims_owed}
+use Rattle.r4_seal.specs.r4_kept.History.{owed, owed_for_commit}
+use Rattle.r4_seal.specs.r4_kept.Meaning.{Spares}
+use Rattle.r4_seal.specs.r4_kept.TasksOut.{IsGiven}
+use Rattle.r4_seal.specs.r4_kept.View.{CoreSeen, blocks_of, tables_of}
+use Rattle.r4_seal.specs.r4_kept.declared.parts.Numbers.{Numbers as Next}
 use Rattle.r4_locks.specs.Locks.{CanLetIn, LocksSeen, conflict_of}
 use Rattle.r4_locks.specs.declared.task_holds.NewTask.{NewTask}
-use Rattle.r4_others.specs.Others.{pairs_of}
+use Rattle.r4_seal.specs.r4_others.Others.{pairs_of}
 use Rattle.r4_outside.specs.Device.{State}
-use Rattle.r4_patch.specs.Part.{IsPart}
-use Rattle.r4_core.specs.r4_ready.Readiness.{AreGotten, IsOfReach, MayStart}
-use Rattle.r4_core.specs.r4_rooms.declared.making.Wanted.{Wanted}
-use Rattle.r4_core.specs.r4_serve.Serving.{need_in}
-use Rattle.r4_core.specs.r4_serve.declared.asked.Ready.{Ready}
-use Rattle.r4_core.proofs.r4_taking.FusedAll.{atoms_fused, others_stay, spare_fused}
-use Rattle.r4_core.specs.r4_taking.Fusing.{HasFusedAll}
-use Rattle.r4_core.specs.r4_taking.GoingOut.{CanGoOut, DrawsNames, IsMet}
+use Rattle.r4_seal.specs.r4_patch.Part.{IsPart}
+use Rattle.r4_seal.specs.r4_ready.Readiness.{AreGotten, IsOfReach, MayStart}
+use Rattle.r4_seal.specs.r4_rooms.declared.making.Wanted.{Wanted}
+use Rattle.r4_seal.specs.r4_serve.Serving.{need_in}
+use Rattle.r4_seal.specs.r4_serve.declared.asked.Ready.{Ready}
+use Rattle.r4_seal.proofs.r4_taking.FusedAll.{atoms_fused, others_stay, spare_fused}
+use Rattle.r4_seal.specs.r4_taking.Fusing.{HasFusedAll}
+use Rattle.r4_seal.specs.r4_taking.GoingOut.{CanGoOut, DrawsNames, IsMet}
 use Rattle.r4_take.specs.Drawing.{draws_for}
 use Rattle.r4_take.specs.Sending.{HasRoomier, IsGathered, MaySend, cells_of_reach}
 use Rattle.r4_take.specs.declared.drawing.Draws.{Draws}

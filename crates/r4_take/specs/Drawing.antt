@@ -1,8 +1,8 @@
 -- The numbers that a command gets (docs/core.md, "Going out").
 use Rattle.std.specs.Prelude.{◌+◌, ℕ, Bool, None, Option, Some, if◌then◌else◌, min}
-use Rattle.r4_core.specs.r4_kept.declared.parts.Numbers.{Numbers as Next}
+use Rattle.r4_seal.specs.r4_kept.declared.parts.Numbers.{Numbers as Next}
 use Rattle.r4_take.specs.declared.drawing.Draws.{Draws}
-use Rattle.r4_trace.specs.Ids.{no_id}
+use Rattle.r4_seal.specs.r4_trace.Ids.{no_id}
 use Rattle.r4_turns.specs.declared.out.Numbers.{Numbers}
 
 -- how many numbers for new cells a command gets

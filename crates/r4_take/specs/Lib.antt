@@ -1,8 +1,18 @@
 pub mod Drawing
 pub mod Sending
 -- what crates above name by way of this one
-pub use Rattle.r4_core.specs.r4_kept
-pub use Rattle.r4_core.specs.r4_reaching
-pub use Rattle.r4_core.specs.r4_ready
-pub use Rattle.r4_core.specs.r4_serve
-pub use Rattle.r4_core.specs.r4_taking
+pub use Rattle.r4_seal.specs.r4_buffer
+pub use Rattle.r4_seal.specs.r4_build
+pub use Rattle.r4_seal.specs.r4_core
+pub use Rattle.r4_seal.specs.r4_history
+pub use Rattle.r4_seal.specs.r4_kept
+pub use Rattle.r4_seal.specs.r4_open
+pub use Rattle.r4_seal.specs.r4_others
+pub use Rattle.r4_seal.specs.r4_reaching
+pub use Rattle.r4_seal.specs.r4_ready
+pub use Rattle.r4_seal.specs as r4_seal
+pub use Rattle.r4_seal.specs.r4_search
+pub use Rattle.r4_seal.specs.r4_serve
+pub use Rattle.r4_seal.specs.r4_start
+pub use Rattle.r4_seal.specs.r4_taking
+pub use Rattle.r4_seal.specs.r4_trace

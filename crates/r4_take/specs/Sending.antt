@@ -2,42 +2,42 @@
 use Rattle.std.specs.Prelude.{Bool, List, ◌≡◌, ◌+◌, ◌*◌, ◌^◌, ◌<◌, ◌≤◌, ℕ, true, false, None, Option, Some, length}
 use Rattle.std.specs.Arc.{arc_value}
 use Rattle.r4_atoms.specs.Atoms.{AtomsSeen, atom_of}
-use Rattle.r4_build.specs.Built.{IsTaskIn, edits_for}
-use Rattle.r4_build.specs.declared.task.Task.{Task}
+use Rattle.r4_seal.specs.r4_build.Built.{IsTaskIn, edits_for}
+use Rattle.r4_seal.specs.r4_build.declared.task.Task.{Task}
 use Rattle.r4_cell.specs.Patch.{by_name, root_of_pair}
 use Rattle.r4_cell.specs.declared.change.Root.{Root}
 use Rattle.r4_content.specs.Edited.{Intervals}
 use Rattle.r4_content.specs.Held.{pairs_of as seen_pairs}
 use Rattle.r4_content.specs.Seen.{Rises}
-use Rattle.r4_leaf_edits.specs.Suiting.{SuitLeaves}
-use Rattle.r4_reach.specs.Touched.{Body}
-use Rattle.r4_buffer.specs.Seen.{cells_of}
+use Rattle.r4_seal.specs.r4_leaf_edits.Suiting.{SuitLeaves}
+use Rattle.r4_seal.specs.r4_reach.Touched.{Body}
+use Rattle.r4_seal.specs.r4_buffer.Seen.{cells_of}
 use Rattle.r4_content.specs.Meaning.{makes_object, with_id}
 use Rattle.r4_cell.specs.Seen.{CellSeen}
 use Rattle.r4_content.specs.declared.command.Command.{Command}
 use Rattle.r4_content.specs.declared.seen.Seen.{Seen}
-use Rattle.r4_core.specs.Handing.{HasNoneOut, as_task}
-use Rattle.r4_core.specs.declared.handing.Given.{Given}
-use Rattle.r4_history.specs.Drawn.{numbers_of}
-use Rattle.r4_history.specs.Held.{names_of}
-use Rattle.r4_history.specs.Serving.{AreOthers}
-use Rattle.r4_history.specs.Tables.{Stands}
-use Rattle.r4_core.specs.r4_kept.Steps.{HasBegunSingle}
-use Rattle.r4_core.specs.r4_kept.View.{CoreSeen}
-use Rattle.r4_others.specs.Others.{pairs_of}
+use Rattle.r4_seal.specs.r4_core.Handing.{HasNoneOut, as_task}
+use Rattle.r4_seal.specs.r4_core.declared.handing.Given.{Given}
+use Rattle.r4_seal.specs.r4_history.Drawn.{numbers_of}
+use Rattle.r4_seal.specs.r4_history.Held.{names_of}
+use Rattle.r4_seal.specs.r4_history.Serving.{AreOthers}
+use Rattle.r4_seal.specs.r4_history.Tables.{Stands}
+use Rattle.r4_seal.specs.r4_kept.Steps.{HasBegunSingle}
+use Rattle.r4_seal.specs.r4_kept.View.{CoreSeen}
+use Rattle.r4_seal.specs.r4_others.Others.{pairs_of}
 use Rattle.r4_outside.specs.Device.{State}
-use Rattle.r4_core.specs.r4_reaching.declared.reached.Reach.{Reach}
-use Rattle.r4_core.specs.r4_ready.Readiness.{MayStart}
-use Rattle.r4_core.specs.r4_ready.Rooms.{HasMoreRoom}
-use Rattle.r4_core.specs.r4_serve.declared.asked.Ready.{Ready}
-use Rattle.r4_core.specs.r4_taking.Fusing.{HasFusedAll}
-use Rattle.r4_core.specs.r4_taking.GoingOut.{HasGoneOut}
+use Rattle.r4_seal.specs.r4_reaching.declared.reached.Reach.{Reach}
+use Rattle.r4_seal.specs.r4_ready.Readiness.{MayStart}
+use Rattle.r4_seal.specs.r4_ready.Rooms.{HasMoreRoom}
+use Rattle.r4_seal.specs.r4_serve.declared.asked.Ready.{Ready}
+use Rattle.r4_seal.specs.r4_taking.Fusing.{HasFusedAll}
+use Rattle.r4_seal.specs.r4_taking.GoingOut.{HasGoneOut}
 use Rattle.r4_take.specs.Drawing.{draws_for}
 use Rattle.r4_take.specs.declared.drawing.Draws.{Draws}
 use Rattle.r4_take.specs.declared.gathering.Gathered.{Gathered}
 use Rattle.r4_take.specs.declared.gathering.Own.{Own}
 use Rattle.r4_take.specs.declared.lending.Lent.{Lent}
-use Rattle.r4_trace.specs.Job.{IsWork}
+use Rattle.r4_seal.specs.r4_trace.Job.{IsWork}
 use Rattle.r4_turns.specs.Turns.{answered_at, turn_at}
 use Rattle.r4_turns.specs.declared.turn.Open.{Open}
 

@@ -1,12 +1,12 @@
 //! Numbers are drawn for a command.
 
 ghost use Rattle.std.specs.Prelude.{◌≡◌, ◌+◌, ◌^◌, ◌≤◌, MatchOption, None, if◌then◌else◌, min};
-ghost use Rattle.r4_trace.specs.Ids.{no_id};
+ghost use Rattle.r4_seal.specs.r4_trace.Ids.{no_id};
 ghost use Rattle.r4_take.specs.Drawing.{draws_for, names_drawn};
 
 use r4_base::{OBJECT_END, Oid};
 use r4_cell::Fresh;
-use r4_core::Numbers;
+use r4_seal::Numbers;
 use r4_turns::Numbers as Drawn;
 
 /// How many numbers for new cells are drawn for a command, once: so many that they last.

@@ -2,7 +2,7 @@
 
 ghost use Rattle.std.specs.Prelude.{length, ◌≡◌, ◌*◌, ◌+◌, ◌<◌, ◌≤◌, ◌^◌, IfOk, IfSome, IsTrue};
 ghost use Rattle.r4_atoms.specs.Atoms.{IsBegun};
-ghost use Rattle.r4_core.specs.r4_serve.Serving.{need_in};
+ghost use Rattle.r4_seal.specs.r4_serve.Serving.{need_in};
 ghost use Rattle.r4_take.specs.Sending.{IsGathered, own_in};
 
 use crate::drawing::Draws;
@@ -10,8 +10,7 @@ use crate::lending::{Lent, lent_of};
 use r4_atoms::Atoms;
 use r4_base::{AtomNo, Memory, NodeId, TxnNo, UNPLACED};
 use r4_cell::{Cell, Fresh};
-use r4_core::{Given, NodesNeeded, Reach, Ready, Wanted, nodes_of};
-use r4_others::{Other, others};
+use r4_seal::{Given, NodesNeeded, Other, Reach, Ready, Wanted, nodes_of, others};
 use r4_turns::{Nodes, Open};
 use std::alloc::{AllocError, Global};
 use std::sync::Arc;

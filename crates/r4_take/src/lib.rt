@@ -8,5 +8,5 @@ mod lending;
 mod sending;
 
 pub use drawing::{Draws, numbers_for};
-pub use r4_core::{Asked, Core, OpenFault, OpenWhy, Step, Wanted};
+pub use r4_seal::{Asked, Core, Made, OpenFault, OpenWhy, Step, Task, Wanted, Why, flush};
 pub use sending::send;

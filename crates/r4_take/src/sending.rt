@@ -2,20 +2,19 @@
 
 ghost use Rattle.std.specs.Prelude.{◌≡◌, ◌+◌, ◌≤◌, None, true, ◌<◌, IfOk, OnErr, OnOk, length};
 ghost use Rattle.r4_locks.specs.Locks.{CanLetIn};
-ghost use Rattle.r4_core.specs.Rooms.{HasRoomFor};
-ghost use Rattle.r4_core.specs.r4_kept.History.{owed, owed_for_commit};
-ghost use Rattle.r4_core.specs.r4_kept.Steps.{StandsAlone};
+ghost use Rattle.r4_seal.specs.r4_core.Rooms.{HasRoomFor};
+ghost use Rattle.r4_seal.specs.r4_kept.History.{owed, owed_for_commit};
+ghost use Rattle.r4_seal.specs.r4_kept.Steps.{StandsAlone};
 ghost use Rattle.r4_take.specs.Sending.{HasOwn, HasRoomier, IsSent, MaySend};
 ghost use Rattle.r4_turns.specs.Turns.{IsScript};
 
 use crate::drawing::Draws;
 use crate::gathering::{Gathered, Own, gather, own_of};
 use r4_base::{Memory, ScriptNo};
-use r4_build::Task;
 use r4_content::Command;
-use r4_core::{Core, GoingOut, Ready, Wanted};
 use r4_locks::NewTask;
 use r4_outside::{Device, Run};
+use r4_seal::{Core, GoingOut, Ready, Task, Wanted};
 use std::alloc::Global;
 
 /// A command that is ready goes out as a task: all that it needs is gathered and made room for;

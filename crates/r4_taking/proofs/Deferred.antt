@@ -5,14 +5,14 @@ use Rattle.std.specs.Option.{option_map}
 use Rattle.std.proofs.lemmas.Bool.{cases_Bool, cases_eq, cond-false, cond-true}
 use Rattle.r4_base.specs.declared.things.AtomNo.{AtomNo}
 use Rattle.r4_base.specs.declared.things.NodeId.{NodeId}
-use Rattle.r4_flushed.specs.Deferred.{AreDeferred, AreDeferredBut}
-use Rattle.r4_flushed.proofs.Deferring.{deferred_fused}
-use Rattle.r4_sealed.specs.Commits.{IsLater}
-use Rattle.r4_sets.specs.Atoms.{fused}
-use Rattle.r4_sets.specs.Session.{Session}
-use Rattle.r4_space.specs.Space.{Space, claims_of, claims_without, is_claimed, merged, renamed}
-use Rattle.r4_space.specs.declared.things.Claim.{Claim}
-use Rattle.r4_trace.specs.Traced.{renamed_atom}
+use Rattle.r4_kept.specs.r4_flushed.Deferred.{AreDeferred, AreDeferredBut}
+use Rattle.r4_kept.proofs.r4_flushed.Deferring.{deferred_fused}
+use Rattle.r4_kept.specs.r4_sealed.Commits.{IsLater}
+use Rattle.r4_kept.specs.r4_sets.Atoms.{fused}
+use Rattle.r4_kept.specs.r4_sets.Session.{Session}
+use Rattle.r4_kept.specs.r4_space.Space.{Space, claims_of, claims_without, is_claimed, merged, renamed}
+use Rattle.r4_kept.specs.r4_space.declared.things.Claim.{Claim}
+use Rattle.r4_kept.specs.r4_trace.Traced.{renamed_atom}
 use Rattle.r4_taking.proofs.Merged.{claims_left, claims_other, none_left, without_renamed}
 
 module _ (c : Session) (s : Space) (kept gone atom : AtomNo) (node : NodeId) (not_kept : atom.0 ≢ kept.0)

@@ -4,8 +4,8 @@ use Rattle.std.proofs.lemmas.List.{length-set}
 use Rattle.r4_atoms.specs.Atoms.{AtomsSeen, IsOpenAtom, TxnSeen, atom_of, is_cleaned, no_txn, owner_by, owner_of}
 use Rattle.r4_atoms.specs.Atoms.{txn_of}
 use Rattle.r4_atoms.specs.Owned.{label_of}
-use Rattle.r4_history.specs.Tables.{with_ended}
-use Rattle.r4_history.proofs.AtomSteps.{kept_by_set}
+use Rattle.r4_kept.specs.r4_history.Tables.{with_ended}
+use Rattle.r4_kept.proofs.r4_history.AtomSteps.{kept_by_set}
 
 module _ (s : AtomsSeen) (t : ℕ) where
   pub same_atom : (n : ℕ) → atom_of (with_ended s t) n ≡ atom_of s n

@@ -11,35 +11,35 @@ use Rattle.r4_atoms.specs.declared.things.Account.{Account}
 use Rattle.r4_atoms.specs.declared.things.AtomState.{AtomState}
 use Rattle.r4_base.specs.declared.things.AtomNo.{AtomNo}
 use Rattle.r4_base.specs.declared.things.NodeId.{NodeId}
-use Rattle.r4_commit.specs.Planned.{CommitSeen}
+use Rattle.r4_kept.specs.r4_commit.Planned.{CommitSeen}
 use Rattle.r4_content.specs.Locality.{commands}
 use Rattle.r4_content.specs.Meaning.{greatest_size}
-use Rattle.r4_durable.specs.GoingOn.{GoesOn}
-use Rattle.r4_durable.specs.Kept.{IsSession}
-use Rattle.r4_durable.specs.Meaning.{Beginning, IsNamed, means, start_of}
-use Rattle.r4_flushed.proofs.Deferring.{deferred_fused}
-use Rattle.r4_flushed.proofs.Owned.{fused_owns}
-use Rattle.r4_history.specs.Tables.{Fuses}
-use Rattle.r4_history.proofs.AtomSteps.{fused_count, fused_states}
-use Rattle.r4_history.proofs.DrawnSteps.{drawn_entry}
-use Rattle.r4_history.proofs.RunSteps.{commit_is}
-use Rattle.r4_history.proofs.TaskSteps.{fused_follow}
-use Rattle.r4_history.proofs.Told.{told_fuse, unsealed_is}
+use Rattle.r4_kept.specs.r4_durable.GoingOn.{GoesOn}
+use Rattle.r4_kept.specs.r4_durable.Kept.{IsSession}
+use Rattle.r4_kept.specs.r4_durable.Meaning.{Beginning, IsNamed, means, start_of}
+use Rattle.r4_kept.proofs.r4_flushed.Deferring.{deferred_fused}
+use Rattle.r4_kept.proofs.r4_flushed.Owned.{fused_owns}
+use Rattle.r4_kept.specs.r4_history.Tables.{Fuses}
+use Rattle.r4_kept.proofs.r4_history.AtomSteps.{fused_count, fused_states}
+use Rattle.r4_kept.proofs.r4_history.DrawnSteps.{drawn_entry}
+use Rattle.r4_kept.proofs.r4_history.RunSteps.{commit_is}
+use Rattle.r4_kept.proofs.r4_history.TaskSteps.{fused_follow}
+use Rattle.r4_kept.proofs.r4_history.Told.{told_fuse, unsealed_is}
 use Rattle.r4_outside.specs.Device.{State, TellsCrashes}
-use Rattle.r4_sets.specs.Atoms.{fused}
-use Rattle.r4_sets.specs.Session.{Session}
-use Rattle.r4_sets.proofs.Gathered.{fused_sets}
-use Rattle.r4_sets_told.specs.Runs.{born_in, gone_in}
-use Rattle.r4_space.specs.Accounts.{account_at, is_sealed as is_sealed_in}
-use Rattle.r4_space.specs.Lawful.{IsLawful}
-use Rattle.r4_space.specs.Space.{Space, merged}
-use Rattle.r4_space.specs.declared.things.Account.{Account as SpaceAccount}
-use Rattle.r4_trace.specs.Kept.{Told}
-use Rattle.r4_trace.specs.Order.{IsOrdered}
-use Rattle.r4_trace.specs.Traced.{IsSealed, atom_in, renamed_atom}
-use Rattle.r4_trace.specs.declared.entry.Entry.{Entry}
-use Rattle.r4_trace.specs.declared.entry.Entry.TheVariants.{Fuse}
-use Rattle.r4_trace.proofs.Safely.{safe_push}
+use Rattle.r4_kept.specs.r4_sets.Atoms.{fused}
+use Rattle.r4_kept.specs.r4_sets.Session.{Session}
+use Rattle.r4_kept.proofs.r4_sets.Gathered.{fused_sets}
+use Rattle.r4_kept.specs.r4_sets_told.Runs.{born_in, gone_in}
+use Rattle.r4_kept.specs.r4_space.Accounts.{account_at, is_sealed as is_sealed_in}
+use Rattle.r4_kept.specs.r4_space.Lawful.{IsLawful}
+use Rattle.r4_kept.specs.r4_space.Space.{Space, merged}
+use Rattle.r4_kept.specs.r4_space.declared.things.Account.{Account as SpaceAccount}
+use Rattle.r4_kept.specs.r4_trace.Kept.{Told}
+use Rattle.r4_kept.specs.r4_trace.Order.{IsOrdered}
+use Rattle.r4_kept.specs.r4_trace.Traced.{IsSealed, atom_in, renamed_atom}
+use Rattle.r4_kept.specs.r4_trace.declared.entry.Entry.{Entry}
+use Rattle.r4_kept.specs.r4_trace.declared.entry.Entry.TheVariants.{Fuse}
+use Rattle.r4_kept.proofs.r4_trace.Safely.{safe_push}
 use Rattle.r4_kept.specs.Accounts.{AreAccounts, CountsCells, HoldsFor, HoldsOf, dones_of}
 use Rattle.r4_kept.specs.Cells.{AreCells}
 use Rattle.r4_kept.specs.Durable.{IsDurable}

@@ -9,13 +9,13 @@ use Rattle.r4_atoms.specs.Names.{renamed}
 use Rattle.r4_atoms.specs.declared.things.AtomState.{AtomState}
 use Rattle.r4_base.specs.declared.things.AtomNo.{AtomNo}
 use Rattle.r4_base.specs.declared.things.NodeId.{NodeId}
-use Rattle.r4_history.specs.Held.{AreOwners, Need}
-use Rattle.r4_history.specs.Serving.{AreOthers, FusesAll, IsOwnerInReach, Rise, fused}
-use Rattle.r4_history.specs.Tables.{Fuses}
-use Rattle.r4_history.proofs.AtomSteps.{fused_count, fused_states, fused_txn}
-use Rattle.r4_history.proofs.ServingSteps.{cons_cases, cons_here, cons_later}
+use Rattle.r4_kept.specs.r4_history.Held.{AreOwners, Need}
+use Rattle.r4_kept.specs.r4_history.Serving.{AreOthers, FusesAll, IsOwnerInReach, Rise, fused}
+use Rattle.r4_kept.specs.r4_history.Tables.{Fuses}
+use Rattle.r4_kept.proofs.r4_history.AtomSteps.{fused_count, fused_states, fused_txn}
+use Rattle.r4_kept.proofs.r4_history.ServingSteps.{cons_cases, cons_here, cons_later}
 use Rattle.r4_outside.specs.Device.{State}
-use Rattle.r4_space.specs.Lawful.{IsLawful}
+use Rattle.r4_kept.specs.r4_space.Lawful.{IsLawful}
 use Rattle.r4_kept.specs.History.{owed, owed_for_commit}
 use Rattle.r4_kept.specs.Kept.{IsKept}
 use Rattle.r4_kept.specs.Naming.{Naming}

@@ -7,8 +7,8 @@ use Rattle.r4_atoms.specs.Atoms.{AtomsSeen, IsOpenAtom, TxnSeen, account_of, ato
 use Rattle.r4_atoms.specs.Atoms.{no_txn, renamed_txn, sum_of, with_account}
 use Rattle.r4_atoms.specs.Names.{renamed}
 use Rattle.r4_atoms.specs.declared.things.AtomState.{AtomState}
-use Rattle.r4_history.specs.Tables.{Fuses}
-use Rattle.r4_history.proofs.AtomSteps.{fused_count, fused_states}
+use Rattle.r4_kept.specs.r4_history.Tables.{Fuses}
+use Rattle.r4_kept.proofs.r4_history.AtomSteps.{fused_count, fused_states}
 
 module _ (old new : AtomsSeen) (k g : ℕ) (less : k < g) (f : Fuses old new k g) where
   named : (xs : List TxnSeen) (i : ℕ)

@@ -14,13 +14,13 @@ use Rattle.r4_base.proofs.Members.{member_here, member_later}
 use Rattle.r4_base.specs.Value.{Content}
 use Rattle.r4_content.specs.Counts.{born, gone}
 use Rattle.r4_content.specs.Locality.{commands}
-use Rattle.r4_trace.specs.Folds.{content_of, everything}
-use Rattle.r4_trace.specs.Traced.{renamed_atom}
-use Rattle.r4_trace.specs.declared.entry.Entry.{Entry}
-use Rattle.r4_trace.specs.declared.entry.Entry.TheVariants.{Done}
-use Rattle.r4_sets_told.specs.Runs.{born_in, gone_in}
+use Rattle.r4_kept.specs.r4_trace.Folds.{content_of, everything}
+use Rattle.r4_kept.specs.r4_trace.Traced.{renamed_atom}
+use Rattle.r4_kept.specs.r4_trace.declared.entry.Entry.{Entry}
+use Rattle.r4_kept.specs.r4_trace.declared.entry.Entry.TheVariants.{Done}
+use Rattle.r4_kept.specs.r4_sets_told.Runs.{born_in, gone_in}
 use Rattle.r4_atoms.specs.Atoms.{AtomsSeen, owner_of}
-use Rattle.r4_buffer.specs.Seen.{BufferSeen}
+use Rattle.r4_kept.specs.r4_buffer.Seen.{BufferSeen}
 use Rattle.r4_kept.specs.Accounts.{CountsCells, dones_of}
 
 -- ---- one transaction

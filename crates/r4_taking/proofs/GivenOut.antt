@@ -1,15 +1,15 @@
 -- A command goes out with the cells that a reading of the tree met: what holds of a core holds still.
 use Rattle.std.proofs.Common.{◌≡◌, ◌∙◌, ℕ, ◌+◌, List, None, length, refl, sym, ap, subst}
-use Rattle.r4_buffer.specs.Changed.{in_turn, used}
-use Rattle.r4_buffer.specs.Seen.{BufferSeen, IsLawful, buffered}
-use Rattle.r4_cell.specs.Patch.{HaveNames, by_name, root_of_pair}
-use Rattle.r4_cell.specs.Seen.{CellSeen}
-use Rattle.r4_history.specs.Held.{HoldsNew}
-use Rattle.r4_locks.specs.Locks.{LocksSeen}
+use Rattle.r4_kept.specs.r4_buffer.Changed.{in_turn, used}
+use Rattle.r4_kept.specs.r4_buffer.Seen.{BufferSeen, IsLawful, buffered}
+use Rattle.r4_kept.specs.r4_cell.Patch.{HaveNames, by_name, root_of_pair}
+use Rattle.r4_kept.specs.r4_cell.Seen.{CellSeen}
+use Rattle.r4_kept.specs.r4_history.Held.{HoldsNew}
+use Rattle.r4_kept.specs.r4_locks.Locks.{LocksSeen}
 use Rattle.r4_outside.specs.Device.{State}
-use Rattle.r4_patch.specs.Part.{IsPart}
-use Rattle.r4_turns.specs.Turns.{IsScript, TurnsSeen, gone_out}
-use Rattle.r4_turns.specs.declared.out.Out.{Out}
+use Rattle.r4_kept.specs.r4_patch.Part.{IsPart}
+use Rattle.r4_kept.specs.r4_turns.Turns.{IsScript, TurnsSeen, gone_out}
+use Rattle.r4_kept.specs.r4_turns.declared.out.Out.{Out}
 use Rattle.r4_kept.specs.Kept.{IsKept}
 use Rattle.r4_kept.specs.Naming.{Naming}
 use Rattle.r4_kept.specs.View.{CoreSeen}

@@ -3,18 +3,18 @@
 use Rattle.std.proofs.Common.{◌≡◌, ℕ, List, [], ◌∷◌, ◌++◌, Option, Some, None, refl, sym, ◌∙◌, ap, subst}
 use Rattle.std.proofs.lemmas.List.{append_assoc}
 use Rattle.r4_base.specs.declared.things.AtomNo.{AtomNo}
-use Rattle.r4_commit.specs.Planned.{CommitSeen}
+use Rattle.r4_kept.specs.r4_commit.Planned.{CommitSeen}
 use Rattle.r4_content.specs.Meaning.{greatest_size}
-use Rattle.r4_durable.specs.GoingOn.{GoesOn, SealNothing}
-use Rattle.r4_durable.specs.Kept.{IsSession}
-use Rattle.r4_durable.specs.Meaning.{Beginning}
-use Rattle.r4_durable.proofs.Steps.{kept_after}
+use Rattle.r4_kept.specs.r4_durable.GoingOn.{GoesOn, SealNothing}
+use Rattle.r4_kept.specs.r4_durable.Kept.{IsSession}
+use Rattle.r4_kept.specs.r4_durable.Meaning.{Beginning}
+use Rattle.r4_kept.proofs.r4_durable.Steps.{kept_after}
 use Rattle.r4_outside.specs.Device.{State}
-use Rattle.r4_sets.specs.Session.{Session}
-use Rattle.r4_space.specs.Space.{Space}
-use Rattle.r4_trace.specs.Job.{Asked}
-use Rattle.r4_trace.specs.Order.{IsOrdered}
-use Rattle.r4_trace.specs.declared.entry.Entry.{Entry}
+use Rattle.r4_kept.specs.r4_sets.Session.{Session}
+use Rattle.r4_kept.specs.r4_space.Space.{Space}
+use Rattle.r4_kept.specs.r4_trace.Job.{Asked}
+use Rattle.r4_kept.specs.r4_trace.Order.{IsOrdered}
+use Rattle.r4_kept.specs.r4_trace.declared.entry.Entry.{Entry}
 use Rattle.r4_kept.specs.Meaning.{Comes, ComesFrom, IsAt, IsAtRest, IsFlushing, IsInCommit, IsInPart}
 use Rattle.r4_kept.specs.Story.{Flush, Headed}
 use Rattle.r4_kept.specs.declared.parts.Commit.{Commit}

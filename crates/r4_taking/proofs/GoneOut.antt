@@ -11,30 +11,30 @@ use Rattle.r4_base.specs.Image.{block_at}
 use Rattle.r4_base.specs.Key.{rank}
 use Rattle.r4_base.specs.Tree.{Name}
 use Rattle.r4_base.specs.declared.things.NodeId.{NodeId}
-use Rattle.r4_buffer.specs.Changed.{Standing, in_turn, used, uses_of}
-use Rattle.r4_buffer.specs.Reading.{NamesStand}
-use Rattle.r4_buffer.specs.Seen.{BufferSeen, EntrySeen, IsLawful, buffered, cell_at, is_above, is_captured}
-use Rattle.r4_buffer.specs.Seen.{is_dirty_by}
-use Rattle.r4_buffer.proofs.Captured.{captured_is, is_captured_from}
-use Rattle.r4_cell.specs.Seen.{CellSeen, node_of}
-use Rattle.r4_cell.proofs.NamesBelow.{names_below}
-use Rattle.r4_commit.specs.Planned.{CommitSeen}
+use Rattle.r4_kept.specs.r4_buffer.Changed.{Standing, in_turn, used, uses_of}
+use Rattle.r4_kept.specs.r4_buffer.Reading.{NamesStand}
+use Rattle.r4_kept.specs.r4_buffer.Seen.{BufferSeen, EntrySeen, IsLawful, buffered, cell_at, is_above, is_captured}
+use Rattle.r4_kept.specs.r4_buffer.Seen.{is_dirty_by}
+use Rattle.r4_kept.proofs.r4_buffer.Captured.{captured_is, is_captured_from}
+use Rattle.r4_kept.specs.r4_cell.Seen.{CellSeen, node_of}
+use Rattle.r4_kept.proofs.r4_cell.NamesBelow.{names_below}
+use Rattle.r4_kept.specs.r4_commit.Planned.{CommitSeen}
 use Rattle.r4_content.specs.Locality.{commands}
 use Rattle.r4_content.specs.Meaning.{greatest_size, with_id}
 use Rattle.r4_content.specs.declared.command.Command.{Command}
-use Rattle.r4_durable.specs.Meaning.{Beginning, IsNamed, start_of}
-use Rattle.r4_history.specs.Drawn.{numbers_of}
-use Rattle.r4_history.specs.Held.{HoldsNew, IsOut, names_of}
-use Rattle.r4_history.specs.Tables.{next_at}
-use Rattle.r4_history.proofs.DrawnSteps.{drawn_out}
-use Rattle.r4_history.proofs.Places.{next_there}
-use Rattle.r4_history.proofs.RunSteps.{told_out}
-use Rattle.r4_history.proofs.TaskSteps.{tasks_out}
-use Rattle.r4_locks.specs.Locks.{LocksSeen}
+use Rattle.r4_kept.specs.r4_durable.Meaning.{Beginning, IsNamed, start_of}
+use Rattle.r4_kept.specs.r4_history.Drawn.{numbers_of}
+use Rattle.r4_kept.specs.r4_history.Held.{HoldsNew, IsOut, names_of}
+use Rattle.r4_kept.specs.r4_history.Tables.{next_at}
+use Rattle.r4_kept.proofs.r4_history.DrawnSteps.{drawn_out}
+use Rattle.r4_kept.proofs.r4_history.Places.{next_there}
+use Rattle.r4_kept.proofs.r4_history.RunSteps.{told_out}
+use Rattle.r4_kept.proofs.r4_history.TaskSteps.{tasks_out}
+use Rattle.r4_kept.specs.r4_locks.Locks.{LocksSeen}
 use Rattle.r4_outside.specs.Device.{State}
-use Rattle.r4_turns.specs.Turns.{HasNext, IsScript, TurnsSeen, gone_out, turn_at}
-use Rattle.r4_turns.specs.declared.out.Numbers.{Numbers}
-use Rattle.r4_turns.specs.declared.out.Out.{Out}
+use Rattle.r4_kept.specs.r4_turns.Turns.{HasNext, IsScript, TurnsSeen, gone_out, turn_at}
+use Rattle.r4_kept.specs.r4_turns.declared.out.Numbers.{Numbers}
+use Rattle.r4_kept.specs.r4_turns.declared.out.Out.{Out}
 use Rattle.r4_kept.specs.Accounts.{AreAccounts, CountsCells, cells_for, claims_for}
 use Rattle.r4_kept.specs.Cells.{AreCells, AreReadable, FitsCommit, HasNames, IsAccepted, IsName, IsStillThere}
 use Rattle.r4_kept.specs.Cells.{IsWritingOf, NamesAt}

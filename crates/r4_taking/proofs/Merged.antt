@@ -8,19 +8,19 @@ use Rattle.std.proofs.lemmas.List.{get_or-map, length-map, length-replicate}
 use Rattle.std.proofs.lemmas.List.FromFn.{get_or-map-range_with_len, length-map-range_with_len}
 use Rattle.r4_base.specs.Bitmap.{bitmap_count, is_fixed}
 use Rattle.r4_base.specs.declared.things.AtomNo.{AtomNo}
-use Rattle.r4_space.specs.Accounts.{EachOnce, account_at, dues, in_place, is_account_of, is_atom, is_open, sum_account}
-use Rattle.r4_space.specs.Accounts.{with_account, with_merged, without_account, due_of}
-use Rattle.r4_space.specs.Books.{IsBooks}
-use Rattle.r4_space.specs.Lawful.{IsLawful}
-use Rattle.r4_space.specs.Space.{Space, claims_of, claims_without, is_claimed, is_marked_after, is_taken, is_taken_by}
-use Rattle.r4_space.specs.Space.{merged, renamed}
-use Rattle.r4_space.specs.Space.{settled, unused_count}
-use Rattle.r4_space.specs.declared.things.Account.{Account}
-use Rattle.r4_space.specs.declared.things.Claim.{Claim}
-use Rattle.r4_space.proofs.AccountLaws.{books_merged, due_small, due_together, dues-without, no_account_at}
-use Rattle.r4_space.proofs.AccountLaws.{once-without}
-use Rattle.r4_space.proofs.AccountLaws.{other_account}
-use Rattle.r4_space.proofs.ClaimLaws.{claimed-renamed, renamed_block, within-without}
+use Rattle.r4_kept.specs.r4_space.Accounts.{EachOnce, account_at, dues, in_place, is_account_of, is_atom, is_open, sum_account}
+use Rattle.r4_kept.specs.r4_space.Accounts.{with_account, with_merged, without_account, due_of}
+use Rattle.r4_kept.specs.r4_space.Books.{IsBooks}
+use Rattle.r4_kept.specs.r4_space.Lawful.{IsLawful}
+use Rattle.r4_kept.specs.r4_space.Space.{Space, claims_of, claims_without, is_claimed, is_marked_after, is_taken, is_taken_by}
+use Rattle.r4_kept.specs.r4_space.Space.{merged, renamed}
+use Rattle.r4_kept.specs.r4_space.Space.{settled, unused_count}
+use Rattle.r4_kept.specs.r4_space.declared.things.Account.{Account}
+use Rattle.r4_kept.specs.r4_space.declared.things.Claim.{Claim}
+use Rattle.r4_kept.proofs.r4_space.AccountLaws.{books_merged, due_small, due_together, dues-without, no_account_at}
+use Rattle.r4_kept.proofs.r4_space.AccountLaws.{once-without}
+use Rattle.r4_kept.proofs.r4_space.AccountLaws.{other_account}
+use Rattle.r4_kept.proofs.r4_space.ClaimLaws.{claimed-renamed, renamed_block, within-without}
 
 -- ---- which blocks are used
 

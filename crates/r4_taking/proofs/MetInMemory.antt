@@ -10,17 +10,17 @@ use Rattle.r4_base.specs.Image.{block_at}
 use Rattle.r4_base.specs.Key.{rank}
 use Rattle.r4_base.specs.Tree.{Fits, IsNode, IsTree, Name, Node}
 use Rattle.r4_base.specs.Value.{Value}
-use Rattle.r4_buffer.specs.Seen.{EntrySeen, buffered, is_captured}
-use Rattle.r4_cell.specs.Patch.{HaveNames, NamesId, by_name, root_of_pair}
-use Rattle.r4_cell.specs.Seen.{CellSeen, node_of}
+use Rattle.r4_kept.specs.r4_buffer.Seen.{EntrySeen, buffered, is_captured}
+use Rattle.r4_kept.specs.r4_cell.Patch.{HaveNames, NamesId, by_name, root_of_pair}
+use Rattle.r4_kept.specs.r4_cell.Seen.{CellSeen, node_of}
 use Rattle.r4_content.specs.Locality.{commands}
 use Rattle.r4_content.specs.Meaning.{greatest_size}
-use Rattle.r4_durable.specs.Meaning.{Beginning, IsNamed}
+use Rattle.r4_kept.specs.r4_durable.Meaning.{Beginning, IsNamed}
 use Rattle.r4_outside.specs.Device.{State}
-use Rattle.r4_patch.specs.Part.{IsPart}
-use Rattle.r4_patch.proofs.Members.{distinct, found, there}
-use Rattle.r4_sets.specs.Session.{Session}
-use Rattle.r4_sets.proofs.Applied.{memory_stands}
+use Rattle.r4_kept.specs.r4_patch.Part.{IsPart}
+use Rattle.r4_kept.proofs.r4_patch.Members.{distinct, found, there}
+use Rattle.r4_kept.specs.r4_sets.Session.{Session}
+use Rattle.r4_kept.proofs.r4_sets.Applied.{memory_stands}
 use Rattle.r4_kept.specs.Kept.{HasStory, IsKept}
 use Rattle.r4_kept.specs.Naming.{Naming, names_in}
 use Rattle.r4_kept.specs.View.{CoreSeen}

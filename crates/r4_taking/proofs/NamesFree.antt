@@ -20,9 +20,9 @@ use Rattle.r4_base.specs.declared.items.CellFault.{CellFault}
 use Rattle.r4_base.specs.declared.items.CellFault.TheVariants.{Extent, Pointer}
 use Rattle.r4_base.proofs.FreshTree.{only}
 use Rattle.r4_base.proofs.Choices.{nothing_in}
-use Rattle.r4_twig.proofs.Faults.{body_lawful}
-use Rattle.r4_cell.proofs.Items.{good_item}
-use Rattle.r4_cell.proofs.NodesAt.{node_at}
+use Rattle.r4_kept.proofs.r4_twig.Faults.{body_lawful}
+use Rattle.r4_kept.proofs.r4_cell.Items.{good_item}
+use Rattle.r4_kept.proofs.r4_cell.NodesAt.{node_at}
 
 neither_of : (a b : Bool) → (a || b) ≡ false → (a ≡ false) × (b ≡ false)
 neither_of true b e = absurd (cc e)

@@ -3,18 +3,18 @@ use Rattle.std.proofs.Common.{◌≡◌, ◌≢◌, ◌⊎◌, inl, inr, ℕ, ze
 use Rattle.std.proofs.Common.{get_or, set, length, refl, sym, ◌∙◌, ap, arith}
 use Rattle.std.specs.Prelude.{slice_get, sum_by}
 use Rattle.std.proofs.lemmas.Bool.{cases_eq}
-use Rattle.r4_history.specs.Drawn.{numbers_of}
-use Rattle.r4_history.specs.Held.{IsOut}
-use Rattle.r4_history.specs.Tables.{next_at}
-use Rattle.r4_history.proofs.DrawnSteps.{turn_other}
-use Rattle.r4_history.proofs.Places.{turn_now}
-use Rattle.r4_script.specs.declared.job.Script.{Script}
-use Rattle.r4_turns.specs.Turns.{IsScript, TurnsSeen, commands_at, dropped, given_back, gone_out, no_script, start}
-use Rattle.r4_turns.specs.Turns.{turn_at}
-use Rattle.r4_turns.specs.Turns.{with_turn}
-use Rattle.r4_turns.specs.declared.out.Numbers.{Numbers}
-use Rattle.r4_turns.specs.declared.out.Out.{Out}
-use Rattle.r4_turns.specs.declared.turn.Turn.{Turn}
+use Rattle.r4_kept.specs.r4_history.Drawn.{numbers_of}
+use Rattle.r4_kept.specs.r4_history.Held.{IsOut}
+use Rattle.r4_kept.specs.r4_history.Tables.{next_at}
+use Rattle.r4_kept.proofs.r4_history.DrawnSteps.{turn_other}
+use Rattle.r4_kept.proofs.r4_history.Places.{turn_now}
+use Rattle.r4_kept.specs.r4_script.declared.job.Script.{Script}
+use Rattle.r4_kept.specs.r4_turns.Turns.{IsScript, TurnsSeen, commands_at, dropped, given_back, gone_out, no_script, start}
+use Rattle.r4_kept.specs.r4_turns.Turns.{turn_at}
+use Rattle.r4_kept.specs.r4_turns.Turns.{with_turn}
+use Rattle.r4_kept.specs.r4_turns.declared.out.Numbers.{Numbers}
+use Rattle.r4_kept.specs.r4_turns.declared.out.Out.{Out}
+use Rattle.r4_kept.specs.r4_turns.declared.turn.Turn.{Turn}
 use Rattle.r4_kept.specs.History.{owed, owed_by, owed_for_task, owed_in}
 use Rattle.r4_kept.proofs.Turning.{is_script_before, same_of, summed}
 

@@ -9,25 +9,25 @@ use Rattle.r4_base.specs.declared.things.TxnNo.{TxnNo}
 use Rattle.r4_content.specs.Locality.{commands}
 use Rattle.r4_content.specs.Meaning.{greatest_size}
 use Rattle.r4_content.specs.declared.reply.Reply.{Reply}
-use Rattle.r4_durable.specs.Kept.{IsSession}
-use Rattle.r4_durable.specs.Meaning.{Beginning, IsNamed, means, start_of}
-use Rattle.r4_history.specs.Held.{IsOut}
-use Rattle.r4_history.specs.Tables.{single, with_ended}
-use Rattle.r4_history.proofs.DrawnSteps.{drawn_answered, drawn_entry, drawn_left}
-use Rattle.r4_history.proofs.Places.{next_there}
-use Rattle.r4_history.proofs.RunSteps.{open_in_both}
-use Rattle.r4_history.proofs.TaskSteps.{ended_follow, tasks_answered, tasks_left}
-use Rattle.r4_history.proofs.Told.{told_refused_single}
+use Rattle.r4_kept.specs.r4_durable.Kept.{IsSession}
+use Rattle.r4_kept.specs.r4_durable.Meaning.{Beginning, IsNamed, means, start_of}
+use Rattle.r4_kept.specs.r4_history.Held.{IsOut}
+use Rattle.r4_kept.specs.r4_history.Tables.{single, with_ended}
+use Rattle.r4_kept.proofs.r4_history.DrawnSteps.{drawn_answered, drawn_entry, drawn_left}
+use Rattle.r4_kept.proofs.r4_history.Places.{next_there}
+use Rattle.r4_kept.proofs.r4_history.RunSteps.{open_in_both}
+use Rattle.r4_kept.proofs.r4_history.TaskSteps.{ended_follow, tasks_answered, tasks_left}
+use Rattle.r4_kept.proofs.r4_history.Told.{told_refused_single}
 use Rattle.r4_outside.specs.Device.{State, TellsCrashes}
-use Rattle.r4_sets.specs.Atoms.{told}
-use Rattle.r4_sets.specs.Session.{Session}
-use Rattle.r4_trace.specs.Kept.{Told}
-use Rattle.r4_trace.specs.Order.{IsOrdered}
-use Rattle.r4_trace.specs.declared.entry.Entry.{Entry}
-use Rattle.r4_trace.specs.declared.entry.Entry.TheVariants.{Ended, Refused}
-use Rattle.r4_trace.proofs.Safely.{safe_push}
-use Rattle.r4_turns.specs.Turns.{HasNext, IsScript, TurnsSeen, answered_at, answered_one, given_back, left}
-use Rattle.r4_turns.specs.declared.out.Out.{Out}
+use Rattle.r4_kept.specs.r4_sets.Atoms.{told}
+use Rattle.r4_kept.specs.r4_sets.Session.{Session}
+use Rattle.r4_kept.specs.r4_trace.Kept.{Told}
+use Rattle.r4_kept.specs.r4_trace.Order.{IsOrdered}
+use Rattle.r4_kept.specs.r4_trace.declared.entry.Entry.{Entry}
+use Rattle.r4_kept.specs.r4_trace.declared.entry.Entry.TheVariants.{Ended, Refused}
+use Rattle.r4_kept.proofs.r4_trace.Safely.{safe_push}
+use Rattle.r4_kept.specs.r4_turns.Turns.{HasNext, IsScript, TurnsSeen, answered_at, answered_one, given_back, left}
+use Rattle.r4_kept.specs.r4_turns.declared.out.Out.{Out}
 use Rattle.r4_kept.specs.Accounts.{AreAccounts, CountsCells, cells_for, claims_for, dones_of}
 use Rattle.r4_kept.specs.Cells.{AreCells}
 use Rattle.r4_kept.specs.Durable.{IsDurable}

@@ -4,10 +4,10 @@ use Rattle.std.proofs.Common.{Some, None, Contains, refl, sym, ◌∙◌, ap, su
 use Rattle.std.specs.Prelude.{count_by}
 use Rattle.std.proofs.lemmas.Bool.{and_parts, cases_Bool, cond-false, cond-true, eqb-true}
 use Rattle.std.proofs.lemmas.List.Sums.{sum_by-cons}
-use Rattle.r4_history.proofs.ServingSteps.{cons_here, cons_later}
-use Rattle.r4_buffer.specs.Changed.{Standing, in_turn, used, used_entry, uses_of}
-use Rattle.r4_buffer.specs.Seen.{EntrySeen, is_idle}
-use Rattle.r4_cell.specs.Seen.{CellSeen}
+use Rattle.r4_kept.proofs.r4_history.ServingSteps.{cons_here, cons_later}
+use Rattle.r4_kept.specs.r4_buffer.Changed.{Standing, in_turn, used, used_entry, uses_of}
+use Rattle.r4_kept.specs.r4_buffer.Seen.{EntrySeen, is_idle}
+use Rattle.r4_kept.specs.r4_cell.Seen.{CellSeen}
 use Rattle.r4_kept.proofs.Unused.{IsLike}
 
 abbrev pub IsClean : Standing → Type 0

@@ -1,12 +1,12 @@
 -- What is deferred goes along with a run.
 use Rattle.std.specs.Prelude.{◌≡◌, Option, Some}
 use Rattle.r4_base.specs.declared.things.AtomNo.{AtomNo}
-use Rattle.r4_durable.specs.GoingOn.{MarksAlike}
-use Rattle.r4_flushed.specs.Deferred.{AreDeferred, AreDeferredBut}
-use Rattle.r4_sealed.specs.Commits.{IsLater}
-use Rattle.r4_sets.specs.Session.{Session}
-use Rattle.r4_space.specs.Lawful.{IsLawful}
-use Rattle.r4_space.specs.Space.{Space}
+use Rattle.r4_kept.specs.r4_durable.GoingOn.{MarksAlike}
+use Rattle.r4_kept.specs.r4_flushed.Deferred.{AreDeferred, AreDeferredBut}
+use Rattle.r4_kept.specs.r4_sealed.Commits.{IsLater}
+use Rattle.r4_kept.specs.r4_sets.Session.{Session}
+use Rattle.r4_kept.specs.r4_space.Lawful.{IsLawful}
+use Rattle.r4_kept.specs.r4_space.Space.{Space}
 use Rattle.r4_kept.specs.declared.parts.Commit.{Commit}
 
 -- What is deferred goes along, and so does the space of the commit of this atom.

@@ -5,9 +5,9 @@ use Rattle.r4_atoms.specs.Atoms.{owner_of}
 use Rattle.r4_atoms.specs.Names.{renamed}
 use Rattle.r4_base.specs.declared.things.AtomNo.{AtomNo}
 use Rattle.r4_base.specs.declared.things.NodeId.{NodeId}
-use Rattle.r4_history.specs.Tables.{Fuses}
-use Rattle.r4_space.specs.Space.{merged}
-use Rattle.r4_trace.specs.declared.entry.Entry.TheVariants.{Fuse}
+use Rattle.r4_kept.specs.r4_history.Tables.{Fuses}
+use Rattle.r4_kept.specs.r4_space.Space.{merged}
+use Rattle.r4_kept.specs.r4_trace.declared.entry.Entry.TheVariants.{Fuse}
 use Rattle.r4_kept.specs.Steps.{with_entry}
 use Rattle.r4_kept.specs.View.{CoreSeen}
 

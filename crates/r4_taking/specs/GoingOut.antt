@@ -6,18 +6,18 @@ use Rattle.r4_base.specs.Bitmap.{is_fixed}
 use Rattle.r4_base.specs.Cell.{cell_fault}
 use Rattle.r4_base.specs.Image.{block_at}
 use Rattle.r4_base.specs.Key.{rank}
-use Rattle.r4_buffer.specs.Changed.{in_turn, used}
-use Rattle.r4_buffer.specs.Seen.{buffered, cell_at, is_captured}
-use Rattle.r4_cell.specs.Seen.{CellSeen}
+use Rattle.r4_kept.specs.r4_buffer.Changed.{in_turn, used}
+use Rattle.r4_kept.specs.r4_buffer.Seen.{buffered, cell_at, is_captured}
+use Rattle.r4_kept.specs.r4_cell.Seen.{CellSeen}
 use Rattle.r4_content.specs.Meaning.{with_id}
 use Rattle.r4_content.specs.declared.command.Command.{Command}
-use Rattle.r4_history.specs.Drawn.{GetsNumbers, numbers_of}
-use Rattle.r4_history.specs.Held.{HoldsNew, IsServed, names_of}
-use Rattle.r4_history.specs.Tables.{next_at}
+use Rattle.r4_kept.specs.r4_history.Drawn.{GetsNumbers, numbers_of}
+use Rattle.r4_kept.specs.r4_history.Held.{HoldsNew, IsServed, names_of}
+use Rattle.r4_kept.specs.r4_history.Tables.{next_at}
 use Rattle.r4_outside.specs.Device.{State, TellsReads}
-use Rattle.r4_turns.specs.Turns.{TurnsSeen, gone_out, turn_at}
-use Rattle.r4_turns.specs.declared.out.Numbers.{Numbers}
-use Rattle.r4_turns.specs.declared.out.Out.{Out}
+use Rattle.r4_kept.specs.r4_turns.Turns.{TurnsSeen, gone_out, turn_at}
+use Rattle.r4_kept.specs.r4_turns.declared.out.Numbers.{Numbers}
+use Rattle.r4_kept.specs.r4_turns.declared.out.Out.{Out}
 use Rattle.r4_kept.specs.Accounts.{cells_owed, claims_owed}
 use Rattle.r4_kept.specs.History.{owed, owed_for_commit}
 use Rattle.r4_kept.specs.Meaning.{Spares}

@@ -4,10 +4,10 @@ use Rattle.r4_base.specs.declared.things.ScriptNo.{ScriptNo}
 use Rattle.r4_base.specs.declared.things.TxnNo.{TxnNo}
 use Rattle.r4_content.specs.declared.command.Command.{Command}
 use Rattle.r4_content.specs.declared.reply.Reply.{Reply}
-use Rattle.r4_history.specs.Tables.{Stands, single, with_ended}
-use Rattle.r4_trace.specs.Job.{IsWork}
-use Rattle.r4_trace.specs.declared.entry.Entry.TheVariants.{Ended, Refused}
-use Rattle.r4_turns.specs.Turns.{TurnsSeen, answered_at, answered_one, left, turn_at}
+use Rattle.r4_kept.specs.r4_history.Tables.{Stands, single, with_ended}
+use Rattle.r4_kept.specs.r4_trace.Job.{IsWork}
+use Rattle.r4_kept.specs.r4_trace.declared.entry.Entry.TheVariants.{Ended, Refused}
+use Rattle.r4_kept.specs.r4_turns.Turns.{TurnsSeen, answered_at, answered_one, left, turn_at}
 use Rattle.r4_kept.specs.Steps.{with_entry}
 use Rattle.r4_kept.specs.View.{CoreSeen}
 

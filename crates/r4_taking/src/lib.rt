@@ -2,3 +2,5 @@
 //! holds after each (docs/core.md): atoms fuse, a single command is refused, a command goes out as
 //! a task.
 #![tactic(auto)]
+
+pub use r4_kept::{Buffer, Commit, Numbers, ObjectCounts, Step, Task, Volume};

@@ -12,12 +12,12 @@ use Rattle.r4_cell.specs.declared.change.Root.{Root}
 use Rattle.r4_content.specs.Edited.{is_between, is_in}
 use Rattle.r4_content.specs.Held.{interval_of}
 use Rattle.r4_content.specs.declared.edits.Interval.{Interval}
-use Rattle.r4_search.specs.Path.{MeetsOn}
-use Rattle.r4_search.specs.Pool.{Goes, PoolState}
-use Rattle.r4_search.specs.declared.pool.FetchFault.{FetchFault}
-use Rattle.r4_search.proofs.Walks.{goes_both, goes_same}
-use Rattle.r4_sight.specs.Stretches.{IsWaysEnd, Looks, StopsAt}
-use Rattle.r4_sight.proofs.Fetching.{looks_only}
+use Rattle.r4_seeing.specs.r4_search.Path.{MeetsOn}
+use Rattle.r4_seeing.specs.r4_search.Pool.{Goes, PoolState}
+use Rattle.r4_seeing.specs.r4_search.declared.pool.FetchFault.{FetchFault}
+use Rattle.r4_seeing.proofs.r4_search.Walks.{goes_both, goes_same}
+use Rattle.r4_seeing.specs.r4_sight.Stretches.{IsWaysEnd, Looks, StopsAt}
+use Rattle.r4_seeing.proofs.r4_sight.Fetching.{looks_only}
 use Rattle.r4_seeing.proofs.Hanging.{met_for, still_hung}
 use Rattle.r4_touching.specs.Touching.{AreHeld, AreInLeaves, EndsLeaf, IsInLeaf, StopsFor, Touches}
 

@@ -4,10 +4,10 @@ use Rattle.r4_base.specs.Key.{least, rank, top}
 use Rattle.r4_base.specs.Tree.{InSpan, Span}
 use Rattle.r4_cell.specs.Seen.{CellSeen, node_of}
 use Rattle.r4_cell.specs.declared.change.Root.{Root}
-use Rattle.r4_search.specs.Pool.{Goes, PoolState}
-use Rattle.r4_search.specs.declared.pool.FetchFault.{FetchFault}
+use Rattle.r4_seeing.specs.r4_search.Pool.{Goes, PoolState}
+use Rattle.r4_seeing.specs.r4_search.declared.pool.FetchFault.{FetchFault}
 use Rattle.r4_seeing.specs.Looking.{AreHung}
-use Rattle.r4_sight.specs.Stretches.{StopsAt}
+use Rattle.r4_seeing.specs.r4_sight.Stretches.{StopsAt}
 
 -- ---- one key
 

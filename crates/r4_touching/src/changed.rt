@@ -6,15 +6,14 @@ ghost use Rattle.r4_base.specs.Key.{least, rank, top};
 ghost use Rattle.r4_content.specs.Edited.{changed, is_in, put_keys};
 ghost use Rattle.r4_content.specs.Held.{edits_of, fill_pairs, interval_of, pair_of, run_pairs};
 ghost use Rattle.r4_content.specs.Objects.{byte_pairs};
-ghost use Rattle.r4_gather.specs.Finding.{asked_keys};
+ghost use Rattle.r4_seeing.specs.r4_gather.Finding.{asked_keys};
 ghost use Rattle.r4_leaf_edits.specs.Suiting.{IsBefore, SuitLeaves};
 ghost use Rattle.r4_touching.specs.Changed.{AddsKeys};
 
 use r4_base::{Key, Memory, Value};
 use r4_cell::{least, top};
 use r4_content::{ByteRun, Edits, FilledInterval, Interval};
-use r4_gather::Asked;
-use r4_sight::key_after;
+use r4_seeing::{Asked, key_after};
 use std::alloc::Global;
 
 /// The keys of a tree that a command changes: one interval for each of its intervals, fills, runs and values. The edits

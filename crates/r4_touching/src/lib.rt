@@ -5,4 +5,5 @@ mod changed;
 mod touching;
 
 pub use changed::{changed_keys, keys_asked};
+pub use r4_seeing::{Asked, Seeing, see_for};
 pub use touching::touch;

@@ -5,14 +5,14 @@ ghost use Rattle.std.specs.Option.{option_map};
 ghost use Rattle.r4_base.specs.Key.{least, rank, top};
 ghost use Rattle.r4_content.specs.Edited.{is_between, is_in};
 ghost use Rattle.r4_content.specs.Held.{interval_of};
-ghost use Rattle.r4_search.specs.Path.{root_name};
-ghost use Rattle.r4_search.specs.Pool.{IsKnown, LeavesDevice};
+ghost use Rattle.r4_seeing.specs.r4_search.Path.{root_name};
+ghost use Rattle.r4_seeing.specs.r4_search.Pool.{IsKnown, LeavesDevice};
 ghost use Rattle.r4_touching.specs.Touching.{AreHeld, EndsLeaf, StopsFor, Touches};
 
 use r4_base::{Key, LEAF};
 use r4_cell::{Cell, Root, least, top};
 use r4_content::Interval;
-use r4_search::{FetchFault, Pool, cover};
+use r4_seeing::{FetchFault, Pool, cover};
 use std::alloc::Global;
 
 /// Meets the leaves that hold the keys of some intervals, in their order, each by one way from the root; no byte is

@@ -10,13 +10,13 @@ use Rattle.r4_branch.specs.Pieces.{twig_bytes}
 use Rattle.r4_cell.specs.Seen.{CellSeen, node_of}
 use Rattle.r4_content.specs.Bodies.{larger}
 use Rattle.r4_content.specs.Edited.{Edits}
-use Rattle.r4_path.specs.Nodes.{weight}
-use Rattle.r4_path.proofs.Rising.{hi_is, lo_is}
-use Rattle.r4_leaf_demands.proofs.Weighed.{block_is, little}
-use Rattle.r4_reach.specs.Needs.{Ask, all_more, asking, changes_pieces, come_of, growing, meets, moves, over, pieces_after}
-use Rattle.r4_reach.specs.Needs.{put_among, twig_asks, twig_need}
-use Rattle.r4_reach.specs.Touched.{Body, is_spread}
-use Rattle.r4_bodies.proofs.Premises.{suits_later}
+use Rattle.r4_marking.specs.r4_path.Nodes.{weight}
+use Rattle.r4_marking.proofs.r4_path.Rising.{hi_is, lo_is}
+use Rattle.r4_extent_demands.proofs.r4_leaf_demands.Weighed.{block_is, little}
+use Rattle.r4_marking.specs.r4_reach.Needs.{Ask, all_more, asking, changes_pieces, come_of, growing, meets, moves, over, pieces_after}
+use Rattle.r4_marking.specs.r4_reach.Needs.{put_among, twig_asks, twig_need}
+use Rattle.r4_marking.specs.r4_reach.Touched.{Body, is_spread}
+use Rattle.r4_extent_demands.proofs.r4_bodies.Premises.{suits_later}
 use Rattle.r4_leaf_edits.specs.Suiting.{SuitLeaves}
 use Rattle.r4_marking.specs.Marks.{AreSmall, heard_seen, most_for}
 use Rattle.r4_marking.specs.declared.demands.Asking.{Asking}

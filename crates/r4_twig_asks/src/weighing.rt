@@ -7,8 +7,7 @@ ghost use Rattle.r4_branch.specs.Pieces.{part_bytes, twig_bytes};
 
 use r4_base::{ITEM_HEADER, Key};
 use r4_branch::{TwigPart, TwigPiece};
-use r4_extent_demands::unit_end;
-use r4_leaf_demands::POINTER_ROOM;
+use r4_extent_demands::{POINTER_ROOM, unit_end};
 
 /// How many bytes a unit of an extent has, without a header.
 const UNIT_BYTES: u64 = 16;

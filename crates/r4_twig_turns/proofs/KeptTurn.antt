@@ -17,15 +17,15 @@ use Rattle.r4_work.proofs.InPlace.{now_part, standing_is}
 use Rattle.r4_work.proofs.Paths.{ascends_from}
 use Rattle.r4_work.specs.Working.{now_of, root_of, standing}
 use Rattle.r4_work.specs.declared.working.WorkingSet.{WorkingSet}
-use Rattle.r4_measure.specs.Budget.{Budget, most_from}
+use Rattle.r4_twig_work.specs.r4_measure.Budget.{Budget, most_from}
 use Rattle.r4_patch.specs.Joining.{ids_of}
-use Rattle.r4_measure.specs.Grafting.{AreGraftsIn, Beside, IsQuietBelow, IsRegrafted, comes_below}
-use Rattle.r4_measure.specs.Measured.{IsMeasured}
-use Rattle.r4_measure.proofs.Grafted.{graft_height, graft_seen}
-use Rattle.r4_measure.proofs.TwigTurn.{twig_enough}
+use Rattle.r4_twig_work.specs.r4_measure.Grafting.{AreGraftsIn, Beside, IsQuietBelow, IsRegrafted, comes_below}
+use Rattle.r4_twig_work.specs.r4_measure.Measured.{IsMeasured}
+use Rattle.r4_twig_work.proofs.r4_measure.Grafted.{graft_height, graft_seen}
+use Rattle.r4_twig_work.proofs.r4_measure.TwigTurn.{twig_enough}
 use Rattle.r4_twig_turns.proofs.Left.{left_budget}
-use Rattle.r4_measure.proofs.OldCells.{path_among}
-use Rattle.r4_measure.proofs.Placed.{placed_few, placed_measured}
+use Rattle.r4_twig_work.proofs.r4_measure.OldCells.{path_among}
+use Rattle.r4_twig_work.proofs.r4_measure.Placed.{placed_few, placed_measured}
 
 module _ (t : Store Value) (r : Root) (fresh after : Fresh) (w now : WorkingSet) (b : Budget) (is : IsMeasured t r fresh w b) (quiet : IsQuietBelow b) (key : ℕ) (qs : List TwigPiece) (x : Beside) (made : IsRegrafted t r fresh after w now key qs x)
     (fits : extra_twigs qs ≤ b 2 made.twig.id) (unplaced : 2 ^ 63 ≤ fresh.next) (high : fresh.end < 2 ^ 64) where

@@ -23,11 +23,11 @@ use Rattle.r4_path.proofs.Begun.{ascends_take}
 use Rattle.r4_path.proofs.Rising.{count_within, follow_within}
 use Rattle.r4_path.specs.Nodes.{IsPointable}
 use Rattle.r4_path.specs.Steps.{Ascends, IsFree, Step, fresh_ids, news, olds}
-use Rattle.r4_measure.specs.Budget.{AreSeen, Budget, IsBudget, IsFresh, cells_from, most_from}
-use Rattle.r4_measure.specs.Grafting.{AreGraftsIn, Beside, IsQuietBelow, comes_below}
-use Rattle.r4_measure.proofs.Climb.{in_left, in_right}
-use Rattle.r4_measure.proofs.Grafted.{none_below}
-use Rattle.r4_measure.proofs.Kept.{IsLift, IsLiftOf, lifted_budget, not_named}
+use Rattle.r4_twig_work.specs.r4_measure.Budget.{AreSeen, Budget, IsBudget, IsFresh, cells_from, most_from}
+use Rattle.r4_twig_work.specs.r4_measure.Grafting.{AreGraftsIn, Beside, IsQuietBelow, comes_below}
+use Rattle.r4_twig_work.proofs.r4_measure.Climb.{in_left, in_right}
+use Rattle.r4_twig_work.proofs.r4_measure.Grafted.{none_below}
+use Rattle.r4_twig_work.proofs.r4_measure.Kept.{IsLift, IsLiftOf, lifted_budget, not_named}
 
 module _ (now : Store Value) (r : Root) (it : IsPart now r) (seen : AreSeen now) (f after : Fresh) (free : IsFree f.next f.end now) (unplaced : 2 ^ 63 ≤ f.next) (high : f.end < 2 ^ 64) (able : IsPointable r.id)
     (b : Budget) (is : IsBudget now r b) (twig : CellSeen) (ups : List CellSeen) (qs : List TwigPiece) (x : Beside) (d : Change) (g : AreGraftsIn now r b twig ups qs x f after d) where

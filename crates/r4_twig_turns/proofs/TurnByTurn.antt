@@ -15,14 +15,14 @@ use Rattle.r4_cell.specs.Patch.{by_name, over, place}
 use Rattle.r4_cell.specs.Seen.{CellSeen, node_of}
 use Rattle.r4_cell.specs.declared.change.Fresh.{Fresh}
 use Rattle.r4_cell.specs.declared.change.Root.{Root as RootPair}
-use Rattle.r4_measure.specs.Budget.{Budget, cells_from, most_from}
-use Rattle.r4_measure.specs.Grafting.{Beside, IsQuietBelow, comes_below}
-use Rattle.r4_measure.specs.Measured.{IsMeasured}
-use Rattle.r4_measure.proofs.Loop.{from_new, of_id}
-use Rattle.r4_measure.proofs.Placed.{cells_are, still_in}
-use Rattle.r4_measure.proofs.Kept.{not_named}
-use Rattle.r4_measure.proofs.Suffices.{finds}
-use Rattle.r4_measure.proofs.TwigTurn.{twig_enough}
+use Rattle.r4_twig_work.specs.r4_measure.Budget.{Budget, cells_from, most_from}
+use Rattle.r4_twig_work.specs.r4_measure.Grafting.{Beside, IsQuietBelow, comes_below}
+use Rattle.r4_twig_work.specs.r4_measure.Measured.{IsMeasured}
+use Rattle.r4_twig_work.proofs.r4_measure.Loop.{from_new, of_id}
+use Rattle.r4_twig_work.proofs.r4_measure.Placed.{cells_are, still_in}
+use Rattle.r4_twig_work.proofs.r4_measure.Kept.{not_named}
+use Rattle.r4_twig_work.proofs.r4_measure.Suffices.{finds}
+use Rattle.r4_twig_work.proofs.r4_measure.TwigTurn.{twig_enough}
 use Rattle.r4_patch.specs.Joining.{ids_of, patch_of_change}
 use Rattle.r4_patch.specs.Part.{IsPart}
 use Rattle.r4_patch.proofs.Members.{absent, cases, here, later, none}

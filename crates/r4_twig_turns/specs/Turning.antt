@@ -8,8 +8,8 @@ use Rattle.r4_branch.specs.declared.piece.TwigPiece.{TwigPiece}
 use Rattle.r4_cell.specs.Patch.{HaveNames}
 use Rattle.r4_cell.specs.Seen.{CellSeen, node_of}
 use Rattle.r4_cell.specs.declared.change.Fresh.{Fresh}
-use Rattle.r4_measure.specs.Budget.{Budget}
-use Rattle.r4_measure.specs.Grafting.{Beside, IsRegrafted, comes_below}
+use Rattle.r4_twig_work.specs.r4_measure.Budget.{Budget}
+use Rattle.r4_twig_work.specs.r4_measure.Grafting.{Beside, IsRegrafted, comes_below}
 use Rattle.r4_patch.specs.Joining.{ids_of}
 use Rattle.r4_path.specs.Grafts.{AreBlocksOf, extra_twigs}
 use Rattle.r4_path.specs.Steps.{CountUp, IsNameOf, name_of}

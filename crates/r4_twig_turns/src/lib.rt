@@ -5,3 +5,4 @@
 mod laws;
 
 pub use laws::each_twig_has_its_turn;
+pub use r4_twig_work::{Below, regraft};

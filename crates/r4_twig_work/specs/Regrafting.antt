@@ -8,7 +8,7 @@ use Rattle.r4_branch.specs.Pieces.{units_of}
 use Rattle.r4_branch.specs.declared.piece.TwigPiece.{TwigPiece}
 use Rattle.r4_cell.specs.Seen.{CellSeen, node_of}
 use Rattle.r4_cell.specs.declared.change.Fresh.{Fresh}
-use Rattle.r4_leaf.specs.Units.{LeafUnit}
+use Rattle.r4_extent_edit.specs.r4_leaf.Units.{LeafUnit}
 use Rattle.r4_measure.specs.Grafting.{Beside, comes_below}
 use Rattle.r4_patch.specs.Effect.{Placed}
 use Rattle.r4_patch.specs.Joining.{ids_of}

@@ -13,7 +13,7 @@ use Rattle.r4_base.specs.Tree.{Name}
 use Rattle.r4_base.specs.declared.items.Unit.{Unit as ExtentUnit}
 use Rattle.r4_base.specs.declared.key.Key.{Key}
 use Rattle.r4_node40.proofs.Following.{item_first}
-use Rattle.r4_cell.specs.Seen.{CellSeen, node_of}
+use Rattle.r4_search.specs.r4_cell.Seen.{CellSeen, node_of}
 use Rattle.r4_search.proofs.Places.{names_at}
 use Rattle.r4_units.specs.Extent.{IsUnitAt, block_name, unit_block, unit_names}
 

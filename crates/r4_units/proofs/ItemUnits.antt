@@ -23,8 +23,8 @@ use Rattle.r4_base.proofs.Numbers.{number_at-lt}
 use Rattle.r4_node40.proofs.Laid.{get-items_of, length-items_of}
 use Rattle.r4_base.proofs.FreshTree.{only}
 use Rattle.r4_base.proofs.Choices.{nothing_in}
-use Rattle.r4_cell.proofs.Items.{good_item}
-use Rattle.r4_cell.proofs.ItemRows.{dir_row}
+use Rattle.r4_search.proofs.r4_cell.Items.{good_item}
+use Rattle.r4_search.proofs.r4_cell.ItemRows.{dir_row}
 use Rattle.r4_search.proofs.Places.{item_in}
 use Rattle.r4_units.specs.Leaf.{AreUpTo}
 

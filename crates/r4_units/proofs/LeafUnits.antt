@@ -20,8 +20,8 @@ use Rattle.r4_base.specs.declared.key.Key.{Key}
 use Rattle.r4_base.proofs.Keys.{equal}
 use Rattle.r4_cde.specs.Shown.{view_body, view_entries, view_key}
 use Rattle.r4_cde.specs.declared.view.DirView.{DirView}
-use Rattle.r4_cell.specs.Seen.{CellSeen, node_of}
-use Rattle.r4_cell.proofs.NodesAt.{node_at}
+use Rattle.r4_search.specs.r4_cell.Seen.{CellSeen, node_of}
+use Rattle.r4_search.proofs.r4_cell.NodesAt.{node_at}
 use Rattle.r4_units.specs.Leaf.{AreUpTo}
 use Rattle.r4_search.specs.Pool.{StandsInMemory}
 use Rattle.r4_units.proofs.Leaves.{body_of, dir_good, keys_rise}

@@ -13,8 +13,8 @@ use Rattle.r4_base.specs.declared.items.DirFault.{DirFault}
 use Rattle.r4_base.specs.declared.items.ExtentFault.{ExtentFault}
 use Rattle.r4_base.specs.declared.items.CellFault.TheVariants.{Dir, Extent}
 use Rattle.r4_node40.proofs.Accepted.{good}
-use Rattle.r4_cell.specs.Seen.{CellSeen}
-use Rattle.r4_cell.proofs.NodesAt.{node_at}
+use Rattle.r4_search.specs.r4_cell.Seen.{CellSeen}
+use Rattle.r4_search.proofs.r4_cell.NodesAt.{node_at}
 use Rattle.r4_search.proofs.Places.{body_at}
 use Rattle.r4_search.specs.Pool.{StandsInMemory}
 

@@ -1,2 +1,5 @@
 pub mod Leaf
 pub mod Extent
+-- what crates above name by way of this one
+pub use Rattle.r4_search.specs.r4_cell
+pub use Rattle.r4_search.specs as r4_search

@@ -8,14 +8,14 @@ ghost use Rattle.r4_base.specs.declared.items.Attr.{Attr as Attributes};
 ghost use Rattle.r4_base.specs.declared.items.Target.{Target as Named};
 ghost use Rattle.r4_node40.specs.View.{item_shown, view_items};
 ghost use Rattle.r4_cde.specs.Shown.{name_bytes};
-ghost use Rattle.r4_cell.specs.Seen.{CellSeen, node_of};
+ghost use Rattle.r4_search.specs.r4_cell.Seen.{CellSeen, node_of};
 ghost use Rattle.r4_units.specs.Leaf.{AreUpTo};
 
 use r4_base::{Attr, ENTRIES, Key, STAT, Target};
 use r4_cde::{DirView, NameRef};
-use r4_cell::Cell;
 use r4_meta::read_stat;
 use r4_node40::{ItemView, NodeView};
+use r4_search::Cell;
 
 /// How many items have a key that is not above this one: those that stand before the rest.
 pub fn items_up_to(node: &NodeView<'_>, key: Key) -> u16

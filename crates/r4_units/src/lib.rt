@@ -6,3 +6,4 @@ mod leaf;
 
 pub use extent::unit_of;
 pub use leaf::{attr_in, items_up_to, last_item, name_bytes, target_in};
+pub use r4_search::{Cell, FetchFault, Pool, Root, cover, place_of};

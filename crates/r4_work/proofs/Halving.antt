@@ -14,9 +14,9 @@ use Rattle.std.proofs.Math.Nat.{lt_of_not-le}
 use Rattle.std.proofs.lemmas.Bool.{eq-eqb, ne_eqb}
 use Rattle.std.proofs.lemmas.List.{get_or-map, map-append, take_more, take-append-drop}
 use Rattle.r4_base.specs.Key.{rank}
-use Rattle.r4_cell.specs.Seen.{CellSeen}
-use Rattle.r4_patch.specs.Following.{is_among}
-use Rattle.r4_patch.proofs.Members.{here, later, none}
+use Rattle.r4_edit.specs.r4_cell.Seen.{CellSeen}
+use Rattle.r4_edit.specs.r4_patch.Following.{is_among}
+use Rattle.r4_edit.proofs.r4_patch.Members.{here, later, none}
 use Rattle.r4_work.specs.Order.{AreInOrder, AreRangesApart, IsAt, cell_at, is_at, place, place_of, places_of, without_places}
 use Rattle.r4_work.proofs.Paths.{found_is, stands_at}
 use Rattle.r4_work.proofs.Places.{between, no_higher, top_small}

@@ -7,25 +7,25 @@ use Rattle.std.specs.Option.{option_map, unwrap_or}
 use Rattle.r4_base.specs.Tree.{Node, Root, Store}
 use Rattle.r4_base.specs.Value.{Value}
 use Rattle.r4_base.proofs.Trees.{not_both}
-use Rattle.r4_cell.specs.Patch.{NamesId, Patch, by_name, place, root_of_pair}
-use Rattle.r4_cell.specs.Seen.{CellSeen, node_of}
-use Rattle.r4_cell.specs.declared.change.Change.{Change}
-use Rattle.r4_cell.specs.declared.change.Fresh.{Fresh}
-use Rattle.r4_cell.specs.declared.change.Root.{Root as RootPair}
-use Rattle.r4_patch.specs.Joining.{ids_of, patch_of_change}
-use Rattle.r4_patch.specs.Part.{IsPart}
-use Rattle.r4_patch.proofs.Placed.{over_from, over_kept, over_new, placed_part, some_or_none}
-use Rattle.r4_path.specs.Nodes.{IsPointable}
-use Rattle.r4_path.specs.Steps.{IsFree}
-use Rattle.r4_patch.proofs.Members.{distinct, found, there}
+use Rattle.r4_edit.specs.r4_cell.Patch.{NamesId, Patch, by_name, place, root_of_pair}
+use Rattle.r4_edit.specs.r4_cell.Seen.{CellSeen, node_of}
+use Rattle.r4_edit.specs.r4_cell.declared.change.Change.{Change}
+use Rattle.r4_edit.specs.r4_cell.declared.change.Fresh.{Fresh}
+use Rattle.r4_edit.specs.r4_cell.declared.change.Root.{Root as RootPair}
+use Rattle.r4_edit.specs.r4_patch.Joining.{ids_of, patch_of_change}
+use Rattle.r4_edit.specs.r4_patch.Part.{IsPart}
+use Rattle.r4_edit.proofs.r4_patch.Placed.{over_from, over_kept, over_new, placed_part, some_or_none}
+use Rattle.r4_edit.specs.r4_path.Nodes.{IsPointable}
+use Rattle.r4_edit.specs.r4_path.Steps.{IsFree}
+use Rattle.r4_edit.proofs.r4_patch.Members.{distinct, found, there}
 use Rattle.std.proofs.lemmas.List.Elements.{Contains-append_cases}
 use Rattle.std.proofs.lemmas.List.Sorted.{Contains-permutation, IsPermutation-sym}
-use Rattle.r4_patch.specs.Effect.{HasEffect, Placed, either, later}
-use Rattle.r4_patch.specs.Following.{AreInTurn}
+use Rattle.r4_edit.specs.r4_patch.Effect.{HasEffect, Placed, either, later}
+use Rattle.r4_edit.specs.r4_patch.Following.{AreInTurn}
 use Rattle.r4_work.specs.Working.{IsNextEdit, IsPutInPlace, IsWorking, now_of, root_of, standing}
 use Rattle.r4_work.specs.declared.working.WorkingSet.{WorkingSet}
-use Rattle.r4_patch.proofs.Effects.{effects_follow}
-use Rattle.r4_patch.proofs.Followed.{followed_cells, followed_change, followed_meets, followed_root, followed_same, in_without, none_by_name}
+use Rattle.r4_edit.proofs.r4_patch.Effects.{effects_follow}
+use Rattle.r4_edit.proofs.r4_patch.Followed.{followed_cells, followed_change, followed_meets, followed_root, followed_same, in_without, none_by_name}
 
 root_pair_number : (o : Option RootPair) (r : Root) → IsPointable r.id → ((x : RootPair) → o ≡ Some x → IsPointable x.id.0) → IsPointable (unwrap_or (option_map root_of_pair o) r).id
 root_pair_number None r was new = was

@@ -9,28 +9,28 @@ use Rattle.std.proofs.lemmas.Option.{none-some, same_Some}
 use Rattle.r4_base.specs.Key.{rank}
 use Rattle.r4_base.specs.Tree.{Holds, Node, Root, Store, UnitAt}
 use Rattle.r4_base.specs.Value.{Value}
-use Rattle.r4_cell.specs.Patch.{HaveNames, IsChange, Patch, by_name, place, root_after}
-use Rattle.r4_cell.specs.Seen.{CellSeen, node_of}
-use Rattle.r4_cell.specs.declared.change.Change.{Change}
-use Rattle.r4_cell.specs.declared.change.Fresh.{Fresh}
-use Rattle.r4_cell.specs.declared.change.Root.{Root as RootPair}
-use Rattle.r4_patch.specs.Joining.{ids_of, patch_of_change}
-use Rattle.r4_patch.specs.Part.{IsPart, MeetsPart}
-use Rattle.r4_patch.proofs.PartCells.{one_above}
-use Rattle.r4_patch.proofs.Placed.{over_new, placed_part}
+use Rattle.r4_edit.specs.r4_cell.Patch.{HaveNames, IsChange, Patch, by_name, place, root_after}
+use Rattle.r4_edit.specs.r4_cell.Seen.{CellSeen, node_of}
+use Rattle.r4_edit.specs.r4_cell.declared.change.Change.{Change}
+use Rattle.r4_edit.specs.r4_cell.declared.change.Fresh.{Fresh}
+use Rattle.r4_edit.specs.r4_cell.declared.change.Root.{Root as RootPair}
+use Rattle.r4_edit.specs.r4_patch.Joining.{ids_of, patch_of_change}
+use Rattle.r4_edit.specs.r4_patch.Part.{IsPart, MeetsPart}
+use Rattle.r4_edit.proofs.r4_patch.PartCells.{one_above}
+use Rattle.r4_edit.proofs.r4_patch.Placed.{over_new, placed_part}
 use Rattle.std.proofs.lemmas.Bool.{eq-eqb, ne_eqb}
-use Rattle.r4_leaf.specs.Units.{LeafUnit}
+use Rattle.r4_edit.specs.r4_leaf.Units.{LeafUnit}
 use Rattle.r4_edit.specs.Editing.{Edits}
-use Rattle.r4_path.specs.Levels.{Keeps, units_of_cells}
-use Rattle.r4_path.specs.Nodes.{IsPointable}
-use Rattle.r4_path.specs.Steps.{Ascends, OnlyTakes, Step, fresh_ids, name_of, news, olds, root_pair}
-use Rattle.r4_patch.proofs.Members.{Distinct, cases, found, here, later, none, there}
-use Rattle.r4_path.proofs.OnPath.{new_id, new_stands, stands_old, stands_step}
-use Rattle.r4_path.proofs.Rising.{InCell, count_within, follow_within, in_cell, in_node, level_is}
-use Rattle.r4_path.proofs.Upwards.{numbered}
-use Rattle.r4_patch.specs.Effect.{HasEffect, Placed, UnitIn, in_leaf}
-use Rattle.r4_patch.proofs.Holding.{one_holder, unit_held, unit_once}
-use Rattle.r4_patch.proofs.Members.{distinct}
+use Rattle.r4_edit.specs.r4_path.Levels.{Keeps, units_of_cells}
+use Rattle.r4_edit.specs.r4_path.Nodes.{IsPointable}
+use Rattle.r4_edit.specs.r4_path.Steps.{Ascends, OnlyTakes, Step, fresh_ids, name_of, news, olds, root_pair}
+use Rattle.r4_edit.proofs.r4_patch.Members.{Distinct, cases, found, here, later, none, there}
+use Rattle.r4_edit.proofs.r4_path.OnPath.{new_id, new_stands, stands_old, stands_step}
+use Rattle.r4_edit.proofs.r4_path.Rising.{InCell, count_within, follow_within, in_cell, in_node, level_is}
+use Rattle.r4_edit.proofs.r4_path.Upwards.{numbered}
+use Rattle.r4_edit.specs.r4_patch.Effect.{HasEffect, Placed, UnitIn, in_leaf}
+use Rattle.r4_edit.proofs.r4_patch.Holding.{one_holder, unit_held, unit_once}
+use Rattle.r4_edit.proofs.r4_patch.Members.{distinct}
 
 -- ---- units of cells
 

@@ -10,12 +10,12 @@ use Rattle.r4_base.specs.Key.{rank}
 use Rattle.r4_base.specs.Tree.{Name, Node, Root, Store}
 use Rattle.r4_base.specs.Value.{Value}
 use Rattle.r4_base.proofs.Trees.{one_cell}
-use Rattle.r4_cell.specs.Seen.{CellSeen, node_of}
-use Rattle.r4_patch.specs.Part.{IsPart}
-use Rattle.r4_patch.proofs.PartCells.{apart, in_name, in_namer, one_above, parent, root_high}
-use Rattle.r4_path.specs.Steps.{Ascends, IsNamedBy, name_of}
-use Rattle.r4_patch.proofs.Members.{here, later}
-use Rattle.r4_path.proofs.Rising.{InCell, hi_is, in_node, level_is, lo_is}
+use Rattle.r4_edit.specs.r4_cell.Seen.{CellSeen, node_of}
+use Rattle.r4_edit.specs.r4_patch.Part.{IsPart}
+use Rattle.r4_edit.proofs.r4_patch.PartCells.{apart, in_name, in_namer, one_above, parent, root_high}
+use Rattle.r4_edit.specs.r4_path.Steps.{Ascends, IsNamedBy, name_of}
+use Rattle.r4_edit.proofs.r4_patch.Members.{here, later}
+use Rattle.r4_edit.proofs.r4_path.Rising.{InCell, hi_is, in_node, level_is, lo_is}
 use Rattle.r4_work.specs.Order.{IsAt, cell_at, is_at}
 use Rattle.r4_work.specs.Working.{first_and, ups_of}
 

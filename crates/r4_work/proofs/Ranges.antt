@@ -12,16 +12,16 @@ use Rattle.r4_base.specs.Key.{rank, top}
 use Rattle.r4_base.specs.Tree.{Node, Root, Store}
 use Rattle.r4_base.specs.Value.{Value}
 use Rattle.r4_base.proofs.Trees.{one_cell}
-use Rattle.r4_cell.specs.Seen.{CellSeen, node_of}
-use Rattle.r4_cell.specs.declared.change.Change.{Change}
-use Rattle.r4_cell.specs.declared.change.Fresh.{Fresh}
-use Rattle.r4_patch.specs.Following.{is_among, without}
-use Rattle.r4_patch.specs.Joining.{ids_of}
-use Rattle.r4_patch.specs.Part.{IsPart}
-use Rattle.r4_patch.proofs.Holding.{one_holder}
-use Rattle.r4_patch.proofs.Members.{distinct, here, later, there}
-use Rattle.r4_patch.proofs.PartCells.{apart}
-use Rattle.r4_path.proofs.Rising.{hi_is, in_node, level_is, lo_is}
+use Rattle.r4_edit.specs.r4_cell.Seen.{CellSeen, node_of}
+use Rattle.r4_edit.specs.r4_cell.declared.change.Change.{Change}
+use Rattle.r4_edit.specs.r4_cell.declared.change.Fresh.{Fresh}
+use Rattle.r4_edit.specs.r4_patch.Following.{is_among, without}
+use Rattle.r4_edit.specs.r4_patch.Joining.{ids_of}
+use Rattle.r4_edit.specs.r4_patch.Part.{IsPart}
+use Rattle.r4_edit.proofs.r4_patch.Holding.{one_holder}
+use Rattle.r4_edit.proofs.r4_patch.Members.{distinct, here, later, there}
+use Rattle.r4_edit.proofs.r4_patch.PartCells.{apart}
+use Rattle.r4_edit.proofs.r4_path.Rising.{hi_is, in_node, level_is, lo_is}
 use Rattle.r4_work.specs.Order.{AreNamedByPlace, AreRangesApart, HasKey, IsAt, place, place_of, places_of, without_places}
 use Rattle.r4_work.specs.Working.{IsNextEdit, IsWorking, now_of, root_of, standing}
 use Rattle.r4_work.specs.declared.working.WorkingSet.{WorkingSet}

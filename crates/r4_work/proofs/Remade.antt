@@ -11,23 +11,23 @@ use Rattle.r4_base.specs.Key.{rank}
 use Rattle.r4_base.specs.Tree.{Root, Store}
 use Rattle.r4_base.specs.Value.{Value}
 use Rattle.r4_base.specs.declared.key.Key.{Key}
-use Rattle.r4_cell.specs.Patch.{IsChange}
-use Rattle.r4_cell.specs.Seen.{CellSeen, node_of}
-use Rattle.r4_cell.specs.declared.change.Change.{Change}
-use Rattle.r4_cell.specs.declared.change.Fresh.{Fresh}
-use Rattle.r4_patch.specs.Joining.{patch_of_change}
-use Rattle.r4_patch.specs.Part.{IsPart, MeetsPart}
-use Rattle.r4_leaf.specs.Remade.{AreWithin, CanPutAll, cut_all, item_of, put_all}
-use Rattle.r4_leaf.specs.Units.{LeafUnit, cut_units, is_between, put_units}
-use Rattle.r4_leaf.specs.declared.remaking.Given.{Given}
-use Rattle.r4_leaf.specs.declared.remaking.KeyRange.{KeyRange}
-use Rattle.r4_leaf.proofs.Standing.{put_sound}
+use Rattle.r4_edit.specs.r4_cell.Patch.{IsChange}
+use Rattle.r4_edit.specs.r4_cell.Seen.{CellSeen, node_of}
+use Rattle.r4_edit.specs.r4_cell.declared.change.Change.{Change}
+use Rattle.r4_edit.specs.r4_cell.declared.change.Fresh.{Fresh}
+use Rattle.r4_edit.specs.r4_patch.Joining.{patch_of_change}
+use Rattle.r4_edit.specs.r4_patch.Part.{IsPart, MeetsPart}
+use Rattle.r4_edit.specs.r4_leaf.Remade.{AreWithin, CanPutAll, cut_all, item_of, put_all}
+use Rattle.r4_edit.specs.r4_leaf.Units.{LeafUnit, cut_units, is_between, put_units}
+use Rattle.r4_edit.specs.r4_leaf.declared.remaking.Given.{Given}
+use Rattle.r4_edit.specs.r4_leaf.declared.remaking.KeyRange.{KeyRange}
+use Rattle.r4_edit.proofs.r4_leaf.Standing.{put_sound}
 use Rattle.r4_edit.specs.Editing.{Edits, EditsUp, extra_cells, extra_for, extra_up}
 use Rattle.r4_edit.specs.Remaking.{IsRemadeUp, IsRemakeIn, after_edits}
-use Rattle.r4_path.specs.Steps.{Ascends, OnlyTakes}
-use Rattle.r4_leaf.proofs.LeafItems.{spread}
-use Rattle.r4_path.proofs.Rising.{InCell}
-use Rattle.r4_patch.specs.Effect.{HasEffect}
+use Rattle.r4_edit.specs.r4_path.Steps.{Ascends, OnlyTakes}
+use Rattle.r4_edit.proofs.r4_leaf.LeafItems.{spread}
+use Rattle.r4_edit.proofs.r4_path.Rising.{InCell}
+use Rattle.r4_edit.specs.r4_patch.Effect.{HasEffect}
 use Rattle.r4_work.specs.Remaking.{CanRemake, CanRemakeUp, Changes, CutsWithin, HaveKeys, IsRemade, IsRemakable, cut_keys, item_value, remade_keys}
 use Rattle.r4_work.specs.Remaking.{remade_values, value_in}
 use Rattle.r4_work.specs.Working.{IsNextEdit, IsPutInPlace, IsWorking, now_of, path_of, root_of, standing}

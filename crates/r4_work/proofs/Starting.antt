@@ -8,14 +8,14 @@ use Rattle.std.proofs.lemmas.List.Sorted.{Contains-permutation, IsPermutation-re
 use Rattle.std.proofs.lemmas.Option.{none-some}
 use Rattle.r4_base.specs.Tree.{Root, Store}
 use Rattle.r4_base.specs.Value.{Value}
-use Rattle.r4_cell.specs.Patch.{IsChange, IsPatch, Patch, patch_of, place, root_after}
-use Rattle.r4_cell.specs.Seen.{CellSeen, node_of}
-use Rattle.r4_cell.specs.declared.change.Fresh.{Fresh}
-use Rattle.r4_patch.specs.Effect.{HasEffect}
-use Rattle.r4_patch.specs.Joining.{patch_of_change}
-use Rattle.r4_patch.specs.Part.{MeetsPart}
-use Rattle.r4_path.specs.Nodes.{IsPointable}
-use Rattle.r4_path.specs.Steps.{IsFree}
+use Rattle.r4_edit.specs.r4_cell.Patch.{IsChange, IsPatch, Patch, patch_of, place, root_after}
+use Rattle.r4_edit.specs.r4_cell.Seen.{CellSeen, node_of}
+use Rattle.r4_edit.specs.r4_cell.declared.change.Fresh.{Fresh}
+use Rattle.r4_edit.specs.r4_patch.Effect.{HasEffect}
+use Rattle.r4_edit.specs.r4_patch.Joining.{patch_of_change}
+use Rattle.r4_edit.specs.r4_patch.Part.{MeetsPart}
+use Rattle.r4_edit.specs.r4_path.Nodes.{IsPointable}
+use Rattle.r4_edit.specs.r4_path.Steps.{IsFree}
 use Rattle.r4_work.specs.Working.{AreCellsIn, IsStart, IsWorking, now_of, root_of}
 use Rattle.r4_work.specs.declared.working.WorkingSet.{WorkingSet}
 

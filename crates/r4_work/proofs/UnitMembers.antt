@@ -8,9 +8,9 @@ use native.Mathlib.Omega.{arith}
 use Rattle.std.proofs.lemmas.Bool.{eq-eqb, eqb-true}
 use Rattle.std.proofs.lemmas.Option.{none-some, same_Some}
 use Rattle.r4_base.specs.Value.{Value}
-use Rattle.r4_leaf.specs.Units.{LeafUnit, is_between, put_unit, put_units}
-use Rattle.r4_leaf.proofs.Rising.{Rise, rise_order}
-use Rattle.r4_patch.proofs.Members.{cases, here, later, none}
+use Rattle.r4_edit.specs.r4_leaf.Units.{LeafUnit, is_between, put_unit, put_units}
+use Rattle.r4_edit.proofs.r4_leaf.Rising.{Rise, rise_order}
+use Rattle.r4_edit.proofs.r4_patch.Members.{cases, here, later, none}
 use Rattle.r4_work.specs.Remaking.{value_in}
 
 -- ---- members

@@ -2,7 +2,7 @@
 use Rattle.std.proofs.Common.{◌≡◌, ℕ, suc, ◌+◌, ◌-◌, ◌<◌, List, [], ◌∷◌, ◌++◌, map, reverse, sym, ap, ◌∙◌, arith, refl, append_assoc}
 use Rattle.std.specs.Prelude.{None, Some}
 use Rattle.std.proofs.lemmas.List.{map-append, reverse-append}
-use Rattle.r4_cell.specs.Seen.{CellSeen}
+use Rattle.r4_edit.specs.r4_cell.Seen.{CellSeen}
 use Rattle.r4_work.specs.Order.{cell_at}
 use Rattle.r4_work.specs.Working.{first_and, ups_of}
 

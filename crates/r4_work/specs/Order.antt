@@ -6,8 +6,8 @@ use Rattle.std.specs.List.{filter}
 use Rattle.std.specs.List.Sorted.{IsNonDecreasingBy}
 use Rattle.std.specs.Option.{option_or}
 use Rattle.r4_base.specs.Key.{rank, top}
-use Rattle.r4_cell.specs.Seen.{CellSeen}
-use Rattle.r4_patch.specs.Following.{is_among}
+use Rattle.r4_edit.specs.r4_cell.Seen.{CellSeen}
+use Rattle.r4_edit.specs.r4_patch.Following.{is_among}
 
 -- where a cell of a level that begins with a key stands: the level counts first
 unfoldable pub place_of : (level key : ℕ) → ℕ

@@ -7,19 +7,19 @@ use Rattle.r4_base.specs.Key.{IsKey, rank}
 use Rattle.r4_base.specs.Tree.{Root, Store}
 use Rattle.r4_base.specs.Value.{Value}
 use Rattle.r4_base.specs.declared.key.Key.{Key}
-use Rattle.r4_cell.specs.Patch.{IsChange}
-use Rattle.r4_cell.specs.Seen.{CellSeen, node_of}
-use Rattle.r4_cell.specs.declared.change.Change.{Change}
-use Rattle.r4_cell.specs.declared.change.Fresh.{Fresh}
-use Rattle.r4_leaf.specs.Remade.{AreWithin, CanPutAll, cut_all, item_of}
-use Rattle.r4_leaf.specs.Units.{LeafUnit, is_between, leaf_bytes}
-use Rattle.r4_leaf.specs.declared.remaking.Given.{Given}
-use Rattle.r4_leaf.specs.declared.remaking.KeyRange.{KeyRange}
-use Rattle.r4_patch.specs.Effect.{HasEffect, Placed, either, in_leaf, later}
-use Rattle.r4_patch.specs.Joining.{patch_of_change}
-use Rattle.r4_patch.specs.Part.{MeetsPart}
-use Rattle.r4_path.specs.Levels.{IsLongEnough}
-use Rattle.r4_path.specs.Steps.{OnlyTakes}
+use Rattle.r4_edit.specs.r4_cell.Patch.{IsChange}
+use Rattle.r4_edit.specs.r4_cell.Seen.{CellSeen, node_of}
+use Rattle.r4_edit.specs.r4_cell.declared.change.Change.{Change}
+use Rattle.r4_edit.specs.r4_cell.declared.change.Fresh.{Fresh}
+use Rattle.r4_edit.specs.r4_leaf.Remade.{AreWithin, CanPutAll, cut_all, item_of}
+use Rattle.r4_edit.specs.r4_leaf.Units.{LeafUnit, is_between, leaf_bytes}
+use Rattle.r4_edit.specs.r4_leaf.declared.remaking.Given.{Given}
+use Rattle.r4_edit.specs.r4_leaf.declared.remaking.KeyRange.{KeyRange}
+use Rattle.r4_edit.specs.r4_patch.Effect.{HasEffect, Placed, either, in_leaf, later}
+use Rattle.r4_edit.specs.r4_patch.Joining.{patch_of_change}
+use Rattle.r4_edit.specs.r4_patch.Part.{MeetsPart}
+use Rattle.r4_edit.specs.r4_path.Levels.{IsLongEnough}
+use Rattle.r4_edit.specs.r4_path.Steps.{OnlyTakes}
 use Rattle.r4_edit.specs.Editing.{Edits, extra_cells}
 use Rattle.r4_edit.specs.Remaking.{after_edits}
 use Rattle.r4_work.specs.Working.{IsPutInPlace, IsWorking, now_of, path_of, root_of}

@@ -3,17 +3,17 @@ use Rattle.std.specs.Prelude.{◌≡◌, ℕ, zero, suc, ◌+◌, ◌<◌, ◌++
 use Rattle.std.specs.List.Sorted.{IsPermutation}
 use Rattle.r4_base.specs.Tree.{Root, Store}
 use Rattle.r4_base.specs.Value.{Value}
-use Rattle.r4_cell.specs.Patch.{IsChange, place, root_after}
-use Rattle.r4_cell.specs.Seen.{CellSeen, node_of}
-use Rattle.r4_cell.specs.declared.change.Change.{Change}
-use Rattle.r4_cell.specs.declared.change.Fresh.{Fresh}
-use Rattle.r4_cell.specs.declared.change.Root.{Root as RootPair}
-use Rattle.r4_patch.specs.Effect.{HasEffect}
-use Rattle.r4_patch.specs.Following.{IsFollowed, without}
-use Rattle.r4_patch.specs.Joining.{ids_of, patch_of_change}
-use Rattle.r4_patch.specs.Part.{IsPart, MeetsPart}
-use Rattle.r4_path.specs.Nodes.{IsPointable}
-use Rattle.r4_path.specs.Steps.{IsFree, OnlyTakes}
+use Rattle.r4_edit.specs.r4_cell.Patch.{IsChange, place, root_after}
+use Rattle.r4_edit.specs.r4_cell.Seen.{CellSeen, node_of}
+use Rattle.r4_edit.specs.r4_cell.declared.change.Change.{Change}
+use Rattle.r4_edit.specs.r4_cell.declared.change.Fresh.{Fresh}
+use Rattle.r4_edit.specs.r4_cell.declared.change.Root.{Root as RootPair}
+use Rattle.r4_edit.specs.r4_patch.Effect.{HasEffect}
+use Rattle.r4_edit.specs.r4_patch.Following.{IsFollowed, without}
+use Rattle.r4_edit.specs.r4_patch.Joining.{ids_of, patch_of_change}
+use Rattle.r4_edit.specs.r4_patch.Part.{IsPart, MeetsPart}
+use Rattle.r4_edit.specs.r4_path.Nodes.{IsPointable}
+use Rattle.r4_edit.specs.r4_path.Steps.{IsFree, OnlyTakes}
 use Rattle.r4_work.specs.Order.{AreInOrder, cell_at}
 use Rattle.r4_work.specs.declared.working.WorkingSet.{WorkingSet}
 

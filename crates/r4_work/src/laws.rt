@@ -3,10 +3,10 @@
 ghost use Rattle.std.specs.Prelude.{◌≡◌, ◌+◌, ◌≤◌, ℕ, Contains, None, Some};
 ghost use Rattle.r4_base.specs.Tree.{Root, Store};
 ghost use Rattle.r4_base.specs.Value.{Value};
-ghost use Rattle.r4_cell.specs.Seen.{CellSeen, node_of};
-ghost use Rattle.r4_cell.specs.declared.change.Fresh.{Fresh};
-ghost use Rattle.r4_patch.specs.Part.{IsPart};
-ghost use Rattle.r4_path.specs.Steps.{Ascends, name_of};
+ghost use Rattle.r4_edit.specs.r4_cell.Seen.{CellSeen, node_of};
+ghost use Rattle.r4_edit.specs.r4_cell.declared.change.Fresh.{Fresh};
+ghost use Rattle.r4_edit.specs.r4_patch.Part.{IsPart};
+ghost use Rattle.r4_edit.specs.r4_path.Steps.{Ascends, name_of};
 ghost use Rattle.r4_work.specs.Order.{AreRangesApart, HasKey};
 ghost use Rattle.r4_work.specs.Working.{IsWorking, now_of, path_of, standing};
 ghost use Rattle.r4_work.specs.declared.working.WorkingSet.{WorkingSet};

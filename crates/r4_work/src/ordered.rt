@@ -11,7 +11,7 @@ ghost use Rattle.r4_work.specs.Order.{AreInOrder, AreRangesApart, IsAt, cell_at,
 ghost use Rattle.r4_work.specs.Order.{places_of, without_places};
 
 use r4_base::{Key, Memory};
-use r4_cell::Cell;
+use r4_edit::Cell;
 use std::alloc::Global;
 use std::cmp::Ordering;
 use std::marker::Model;
@@ -26,7 +26,7 @@ pub struct OrderedCells {
 impl Model for OrderedCells {
     ghost use Rattle.std.specs.Prelude.{List, map};
     ghost use Rattle.std.specs.Arc.{arc_value};
-    ghost use Rattle.r4_cell.specs.Seen.{CellSeen};
+    ghost use Rattle.r4_edit.specs.r4_cell.Seen.{CellSeen};
     ghost use Rattle.r4_work.specs.Order.{AreInOrder};
 
     ghost Value = { List CellSeen };

@@ -3,15 +3,13 @@
 ghost use Rattle.std.specs.Prelude.{◌≡◌, ◌^◌, ◌≤◌, ℕ, OnErr, OnOk};
 ghost use Rattle.r4_base.specs.Tree.{Root as TreeRoot, Store};
 ghost use Rattle.r4_base.specs.Value.{Value};
-ghost use Rattle.r4_path.specs.Steps.{OnlyTakes};
+ghost use Rattle.r4_edit.specs.r4_path.Steps.{OnlyTakes};
 ghost use Rattle.r4_work.specs.Remaking.{Changes, IsRemade, IsRemakable, remade_keys, remade_values};
 ghost use Rattle.r4_work.specs.Working.{IsWorking};
 
 use crate::working::WorkingSet;
 use r4_base::{Key, Memory};
-use r4_cell::Fresh;
-use r4_edit::change_leaf;
-use r4_leaf::{Given, KeyRange};
+use r4_edit::{Fresh, Given, KeyRange, change_leaf};
 use std::alloc::Global;
 
 impl WorkingSet {

@@ -6,15 +6,14 @@ ghost use Rattle.std.specs.Option.{option_copied, option_map};
 ghost use Rattle.r4_base.specs.Key.{rank};
 ghost use Rattle.r4_base.specs.Tree.{Root as TreeRoot, Store};
 ghost use Rattle.r4_base.specs.Value.{Value};
-ghost use Rattle.r4_cell.specs.declared.change.Fresh.{Fresh as FreshSeen};
+ghost use Rattle.r4_edit.specs.r4_cell.declared.change.Fresh.{Fresh as FreshSeen};
 ghost use Rattle.r4_work.specs.Order.{AreNamedByPlace, AreRangesApart, IsAt, cell_at};
 ghost use Rattle.r4_work.specs.Working.{AreCellsIn, HasNoEffect, IsPutInPlace, IsStart, IsWorking};
 ghost use Rattle.r4_work.specs.Working.{path_of, standing, twig_path_of, ups_of};
 
 use crate::ordered::OrderedCells;
 use r4_base::{Key, Memory};
-use r4_cell::{Cell, Cells, Change};
-use r4_patch::follow;
+use r4_edit::{Cell, Cells, Change, follow};
 use std::alloc::Global;
 use std::sync::Arc;
 

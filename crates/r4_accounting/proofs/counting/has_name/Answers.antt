@@ -3,7 +3,7 @@ use Rattle.std.proofs.lemmas.Iterator.{YieldsList-from_slice}
 use Rattle.std.proofs.lemmas.Iterator.Search.{any_from_yields_List}
 use Rattle.std.specs.Arc.{arc_value}
 use Rattle.r4_cell.specs.Seen.{CellSeen}
-use Rattle.r4_search.specs.Keeping.{Shared}
+use Rattle.r4_done.specs.r4_search.Keeping.{Shared}
 use Rattle.r4_accounting.proofs.CellLists.{any_cell}
 use Rattle.r4_accounting.proofs.counting.has_name.Goals as goal
 

@@ -3,9 +3,9 @@ use Rattle.std.proofs.lemmas.Iterator.{YieldsList-from_slice}
 use Rattle.std.proofs.lemmas.Iterator.Consumers.{YieldsList-from_filter, count_from_yields_List}
 use Rattle.std.proofs.lemmas.List.Sums.{length-filter}
 use Rattle.std.specs.Arc.{arc_value}
-use Rattle.r4_buffer.specs.Seen.{cells_of}
+use Rattle.r4_done.specs.r4_buffer.Seen.{cells_of}
 use Rattle.r4_done.specs.Doing.{is_less}
-use Rattle.r4_search.specs.Keeping.{Shared}
+use Rattle.r4_done.specs.r4_search.Keeping.{Shared}
 use Rattle.r4_accounting.proofs.CellLists.{count_cells}
 use Rattle.r4_accounting.proofs.counting.less.Goals as goal
 

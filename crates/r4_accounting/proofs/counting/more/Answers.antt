@@ -4,7 +4,7 @@ use Rattle.std.proofs.lemmas.Iterator.Consumers.{YieldsList-from_filter, count_f
 use Rattle.std.proofs.lemmas.List.Sums.{length-filter}
 use Rattle.std.specs.Arc.{arc_value}
 use Rattle.r4_done.specs.Doing.{is_more}
-use Rattle.r4_search.specs.Keeping.{Shared}
+use Rattle.r4_done.specs.r4_search.Keeping.{Shared}
 use Rattle.r4_accounting.proofs.CellLists.{count_cells}
 use Rattle.r4_accounting.proofs.counting.more.Goals as goal
 

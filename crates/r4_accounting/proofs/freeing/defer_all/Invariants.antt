@@ -1,5 +1,5 @@
 use Rattle.std.proofs.Common.{take}
-use Rattle.r4_buffer.specs.Seen.{cells_of}
+use Rattle.r4_done.specs.r4_buffer.Seen.{cells_of}
 use Rattle.r4_accounting.specs.Accounting.{HasDeferred}
 use Rattle.r4_accounting.proofs.freeing.defer_all.Given as goal
 

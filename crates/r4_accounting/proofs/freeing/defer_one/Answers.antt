@@ -1,5 +1,5 @@
 use Rattle.std.proofs.Common.{ℕ, ◌∙◌, ap, sym}
-use Rattle.r4_buffer.specs.Seen.{cells_of}
+use Rattle.r4_done.specs.r4_buffer.Seen.{cells_of}
 use Rattle.r4_space.specs.Space.{with_deferred}
 use Rattle.r4_accounting.proofs.DeferredCells.{deferred_one}
 use Rattle.r4_accounting.proofs.freeing.defer_one.Goals as goal

@@ -1,5 +1,5 @@
 use Rattle.std.proofs.Common.{◌∙◌, ap, subst}
-use Rattle.r4_buffer.specs.Seen.{cells_of}
+use Rattle.r4_done.specs.r4_buffer.Seen.{cells_of}
 use Rattle.r4_accounting.specs.Accounting.{HasDeferred}
 use Rattle.r4_accounting.proofs.ChargedCells.{charged_open, has_charged}
 use Rattle.r4_space.specs.Accounts.{is_open}

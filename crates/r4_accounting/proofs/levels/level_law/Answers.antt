@@ -1,7 +1,7 @@
 use Rattle.std.proofs.Common.{arith, true, ◌^◌}
 use Rattle.r4_base.specs.Key.{rank}
 use Rattle.r4_cell.proofs.NodesAt.{node_at}
-use Rattle.r4_node40.proofs.Accepted.{good}
+use Rattle.r4_cell.proofs.r4_node40.Accepted.{good}
 use Rattle.r4_accounting.proofs.levels.level_law.Goals as goal
 
 pub returns-then-level-gt0 : goal.returns-then-level-gt0

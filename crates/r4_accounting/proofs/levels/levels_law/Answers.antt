@@ -3,9 +3,9 @@ use Rattle.std.specs.Arc.{arc_value}
 use Rattle.std.specs.Prelude.{Contains}
 use Rattle.std.proofs.lemmas.List.{take_all}
 use Rattle.std.proofs.lemmas.List.Elements.{Contains-append_cases}
-use Rattle.r4_buffer.specs.Seen.{cells_of}
+use Rattle.r4_done.specs.r4_buffer.Seen.{cells_of}
 use Rattle.r4_cell.specs.Seen.{CellSeen}
-use Rattle.r4_search.specs.Keeping.{Shared}
+use Rattle.r4_done.specs.r4_search.Keeping.{Shared}
 use Rattle.r4_accounting.proofs.CellLists.{cells_more, only_cell}
 use Rattle.r4_accounting.proofs.levels.levels_law.Goals as goal
 

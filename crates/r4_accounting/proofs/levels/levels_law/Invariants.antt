@@ -1,5 +1,5 @@
 use Rattle.std.proofs.Common.{◌≤◌, Contains, take}
-use Rattle.r4_buffer.specs.Seen.{cells_of}
+use Rattle.r4_done.specs.r4_buffer.Seen.{cells_of}
 use Rattle.r4_cell.specs.Seen.{CellSeen}
 use Rattle.r4_accounting.proofs.levels.levels_law.Given as goal
 

@@ -1,8 +1,8 @@
 use Rattle.std.proofs.Common.{List, [], ◌∷◌, ◌∙◌, ap, get_or, subst, sym, take}
 use Rattle.std.specs.Arc.{arc_value}
-use Rattle.r4_buffer.specs.Seen.{cells_of}
+use Rattle.r4_done.specs.r4_buffer.Seen.{cells_of}
 use Rattle.r4_cell.specs.Seen.{CellSeen}
-use Rattle.r4_search.specs.Keeping.{Shared}
+use Rattle.r4_done.specs.r4_search.Keeping.{Shared}
 use Rattle.r4_accounting.specs.Accounting.{HasOwned}
 use Rattle.r4_accounting.proofs.CellLists.{cells_more}
 use Rattle.r4_accounting.proofs.OwnedCells.{owned_both}

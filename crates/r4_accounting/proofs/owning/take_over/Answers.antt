@@ -1,6 +1,6 @@
 use Rattle.std.proofs.Common.{subst, sym}
 use Rattle.r4_atoms.specs.Atoms.{AtomsSeen}
-use Rattle.r4_buffer.specs.Seen.{cells_of}
+use Rattle.r4_done.specs.r4_buffer.Seen.{cells_of}
 use Rattle.r4_accounting.specs.Accounting.{HasTakenOver}
 use Rattle.r4_accounting.proofs.OwnedCells.{taken_over}
 use Rattle.r4_accounting.proofs.owning.take_over.Goals as goal

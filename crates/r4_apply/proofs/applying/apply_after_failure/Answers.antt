@@ -1,8 +1,8 @@
 use Rattle.std.proofs.Common.{ap, subst, sym}
 use Rattle.r4_back.specs.Backing.{IsRefusedBack}
-use Rattle.r4_build.specs.declared.task.Task.{Task}
+use Rattle.r4_back.specs.r4_build.declared.task.Task.{Task}
 use Rattle.r4_content.specs.declared.reply.Reply.TheVariants.{Memory}
-use Rattle.r4_history.specs.Held.{IsOut}
+use Rattle.r4_back.specs.r4_history.Held.{IsOut}
 use Rattle.r4_apply.proofs.Answered.{applied_by, sound_is}
 use Rattle.r4_apply.proofs.applying.apply_after_failure.Goals as goal
 

@@ -1,12 +1,12 @@
 use Rattle.std.proofs.Common.{◌∙◌, ap, inl, inr, length, subst, sym}
 use Rattle.r4_atoms.specs.Atoms.{IsBegun, atom_of}
 use Rattle.r4_back.specs.Backing.{IsRefusedBack}
-use Rattle.r4_build.specs.declared.task.Task.{Task}
+use Rattle.r4_back.specs.r4_build.declared.task.Task.{Task}
 use Rattle.r4_content.specs.Fields.{HasBytePaths}
 use Rattle.r4_content.specs.declared.reply.Reply.TheVariants.{Memory, Space}
 use Rattle.r4_back.specs.r4_core.Doing.{CanDo}
-use Rattle.r4_history.specs.Held.{IsOut}
-use Rattle.r4_back.specs.r4_kept.View.{CoreSeen}
+use Rattle.r4_back.specs.r4_history.Held.{IsOut}
+use Rattle.r4_right.specs.r4_kept.View.{CoreSeen}
 use Rattle.r4_trace.specs.Kept.{Told}
 use Rattle.r4_turns.specs.declared.out.Out.{Out}
 use Rattle.r4_apply.specs.Applying.{IsCountable, IsDoneIn, IsRightIn}

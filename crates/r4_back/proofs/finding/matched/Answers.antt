@@ -1,5 +1,5 @@
 use Rattle.std.proofs.Common.{◌∙◌, ap, inl, subst, sym}
-use Rattle.r4_history.specs.Tables.{next_at}
+use Rattle.r4_next.specs.r4_history.Tables.{next_at}
 use Rattle.r4_turns.specs.Turns.{IsScript, answered_at, turn_at}
 use Rattle.r4_back.specs.Backing.{IsAnswer}
 use Rattle.r4_back.proofs.Back.{answer_of}

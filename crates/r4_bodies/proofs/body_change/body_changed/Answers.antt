@@ -5,7 +5,7 @@ use Rattle.std.specs.Option.{option_map}
 use Rattle.std.specs.Ordering.{nat_cmp}
 use Rattle.r4_content.specs.Held.{edits_of, pairs_of}
 use Rattle.r4_content.specs.Listed.{list_edited}
-use Rattle.r4_reach.specs.Touched.{Body, body_of, size_in}
+use Rattle.r4_leaf_demands.specs.r4_reach.Touched.{Body, body_of, size_in}
 use Rattle.r4_bodies.proofs.BodyKeys.{same_body}
 use Rattle.r4_bodies.proofs.body_change.body_changed.Goals as goal
 

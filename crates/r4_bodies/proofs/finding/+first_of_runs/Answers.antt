@@ -4,8 +4,8 @@ use Rattle.std.specs.Prelude.{All, ◌==◌}
 use Rattle.r4_base.specs.Key.{rank}
 use Rattle.r4_content.specs.Edited.{put_keys}
 use Rattle.r4_content.specs.Held.{run_pairs}
-use Rattle.r4_leaf_edits.specs.Suiting.{IsBefore}
-use Rattle.r4_leaf_edits.proofs.Clipped.{all_left, all_right}
+use Rattle.r4_leaf_demands.specs.r4_leaf_edits.Suiting.{IsBefore}
+use Rattle.r4_leaf_demands.proofs.r4_leaf_edits.Clipped.{all_left, all_right}
 use Rattle.r4_bodies.proofs.FirstKeys.{here, keys_both, run_first, some_bytes}
 use Rattle.r4_bodies.proofs.finding.+first_of_runs.Goals as goal
 

@@ -4,7 +4,7 @@ use Rattle.std.specs.Option.{option_map}
 use Rattle.r4_base.specs.Key.{rank}
 use Rattle.r4_content.specs.Edited.{changed, put_keys}
 use Rattle.r4_content.specs.Held.{edits_of, interval_of}
-use Rattle.r4_reach.specs.Touched.{body_key}
+use Rattle.r4_leaf_demands.specs.r4_reach.Touched.{body_key}
 use Rattle.r4_bodies.proofs.FirstKeys.{behind, here}
 use Rattle.r4_bodies.proofs.finding.first_key.Goals as goal
 

@@ -1,6 +1,6 @@
 use Rattle.std.proofs.Common.{◌≡◌, drop, map}
 use Rattle.r4_content.specs.Held.{interval_of}
-use Rattle.r4_reach.specs.Touched.{body_key}
+use Rattle.r4_leaf_demands.specs.r4_reach.Touched.{body_key}
 use Rattle.r4_bodies.proofs.finding.first_of_intervals.Given as goal
 
 abbrev pub invariant-loop-interval : goal.invariant-loop-interval

@@ -1,7 +1,7 @@
 use Rattle.std.proofs.Common.{◌≡◌, drop, map}
 use Rattle.r4_content.specs.Edited.{put_keys}
 use Rattle.r4_content.specs.Held.{pair_of}
-use Rattle.r4_reach.specs.Touched.{body_key}
+use Rattle.r4_leaf_demands.specs.r4_reach.Touched.{body_key}
 use Rattle.r4_bodies.proofs.finding.first_of_values.Given as goal
 
 abbrev pub invariant-loop-key : goal.invariant-loop-key

@@ -5,11 +5,11 @@ use Rattle.std.specs.Option.{option_map}
 use Rattle.r4_base.specs.Key.{rank}
 use Rattle.r4_content.specs.Edited.{put_keys}
 use Rattle.r4_content.specs.Held.{fill_pairs, interval_of, pair_of, run_pairs}
-use Rattle.r4_leaf_edits.specs.Suiting.{IsBefore, zero_pairs}
-use Rattle.r4_leaf_edits.proofs.Clipped.{all_left, all_right}
-use Rattle.r4_leaf_edits.proofs.Meant.{bytes_before}
-use Rattle.r4_leaf_edits.proofs.Puts.{put_keys_append}
-use Rattle.r4_reach.specs.Touched.{body_key}
+use Rattle.r4_leaf_demands.specs.r4_leaf_edits.Suiting.{IsBefore, zero_pairs}
+use Rattle.r4_leaf_demands.proofs.r4_leaf_edits.Clipped.{all_left, all_right}
+use Rattle.r4_leaf_demands.proofs.r4_leaf_edits.Meant.{bytes_before}
+use Rattle.r4_leaf_demands.proofs.r4_leaf_edits.Puts.{put_keys_append}
+use Rattle.r4_leaf_demands.specs.r4_reach.Touched.{body_key}
 use Rattle.r4_bodies.proofs.FirstKeys.{behind, here}
 use Rattle.r4_bodies.proofs.finding.first_put.Goals as goal
 

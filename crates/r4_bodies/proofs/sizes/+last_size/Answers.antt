@@ -8,7 +8,7 @@ use Rattle.r4_base.specs.declared.key.Key.{Key}
 use Rattle.r4_base.specs.declared.values.Value.{Value as HeldValue}
 use Rattle.r4_content.specs.Held.{pair_of}
 use Rattle.r4_content.specs.Listed.{list_put}
-use Rattle.r4_reach.specs.Touched.{size_in}
+use Rattle.r4_leaf_demands.specs.r4_reach.Touched.{size_in}
 use Rattle.r4_bodies.proofs.FileSizes.{put_rises, put_size}
 use Rattle.r4_bodies.proofs.sizes.+last_size.Goals as goal
 use Rattle.r4_bodies.proofs.sizes.+last_size.Goals.{then-is_same, else-is_same}

@@ -8,7 +8,7 @@ use Rattle.r4_content.specs.Edited.{is_between, is_in}
 use Rattle.r4_content.specs.Held.{interval_of, pair_of}
 use Rattle.r4_content.specs.Listed.{list_put}
 use Rattle.r4_content.specs.declared.edits.Interval.{Interval}
-use Rattle.r4_reach.specs.Touched.{size_in}
+use Rattle.r4_leaf_demands.specs.r4_reach.Touched.{size_in}
 use Rattle.r4_bodies.proofs.FileSizes.{cut_any, emptied, emptied_rises, emptied_size, found_after}
 use Rattle.r4_bodies.proofs.sizes.size_after.Goals as goal
 use Rattle.r4_bodies.proofs.sizes.size_after.Goals.{then-has_key, else-has_key}

@@ -2,8 +2,8 @@ use Rattle.std.proofs.Common.{subst, false}
 use Rattle.std.specs.Option.{option_map}
 use Rattle.r4_content.specs.Edited.{Edits, Intervals, changed, is_in}
 use Rattle.r4_content.specs.Held.{edits_of, pairs_of}
-use Rattle.r4_reach.specs.Leaves.{LieInLeaves}
-use Rattle.r4_reach.specs.Touched.{IsKindIn, body_key, body_of}
+use Rattle.r4_leaf_demands.specs.r4_reach.Leaves.{LieInLeaves}
+use Rattle.r4_leaf_demands.specs.r4_reach.Touched.{IsKindIn, body_key, body_of}
 use Rattle.r4_bodies.proofs.InTails.{told_in_tails}
 use Rattle.r4_bodies.proofs.telling.told_by_body.Goals as goal
 

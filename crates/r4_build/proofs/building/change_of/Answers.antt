@@ -1,13 +1,13 @@
 use Rattle.std.proofs.Common.{◌≤◌, arith, length, map, subst, sym}
 use Rattle.std.specs.Arc.{arc_value}
 use Rattle.std.specs.Prelude.{Contains}
-use Rattle.r4_cell.specs.Patch.{IsChange}
-use Rattle.r4_cell.specs.declared.change.Change.{Change}
+use Rattle.r4_measure.specs.r4_cell.Patch.{IsChange}
+use Rattle.r4_measure.specs.r4_cell.declared.change.Change.{Change}
 use Rattle.r4_content.specs.Edited.{changed, is_in}
 use Rattle.r4_content.specs.Held.{edits_of}
-use Rattle.r4_patch.specs.Effect.{HasEffect}
-use Rattle.r4_patch.specs.Joining.{patch_of_change}
-use Rattle.r4_patch.specs.Part.{MeetsPart}
+use Rattle.r4_measure.specs.r4_patch.Effect.{HasEffect}
+use Rattle.r4_measure.specs.r4_patch.Joining.{patch_of_change}
+use Rattle.r4_measure.specs.r4_patch.Part.{MeetsPart}
 use Rattle.r4_build.specs.Building.{AreNumbered, most_new, set_by}
 use Rattle.r4_build.proofs.Made.{few_new, start_of, whole_effect}
 use Rattle.r4_build.proofs.Turns.{can_make, few_made}

@@ -2,7 +2,7 @@ use Rattle.std.proofs.Common.{◌∙◌, sym, arith}
 use Rattle.r4_base.specs.Key.{rank}
 use Rattle.r4_content.specs.Edited.{changed}
 use Rattle.r4_content.specs.Held.{edits_of}
-use Rattle.r4_reach.specs.Needs.{is_met}
+use Rattle.r4_measure.specs.r4_reach.Needs.{is_met}
 use Rattle.r4_build.proofs.Made.{none_here}
 use Rattle.r4_build.proofs.building.make_in.Goals as goal
 use Rattle.r4_build.proofs.building.make_in.Goals.{else-level-eq1-via-then-level-eq1+else-touches_leaf, else-level-eq1-via-else-level-eq1}

@@ -1,15 +1,15 @@
 use Rattle.std.proofs.Common.{◌≡◌, ◌∙◌, ◌≤◌, inl, inr, ap, arith, length, map, subst, sym}
 use Rattle.std.specs.Arc.{arc_value}
 use Rattle.std.specs.Prelude.{◌&&◌, Contains, List, if◌then◌else◌}
-use Rattle.r4_cell.specs.Seen.{CellSeen}
+use Rattle.r4_measure.specs.r4_cell.Seen.{CellSeen}
 use Rattle.r4_content.specs.Counts.{is_okay, stats_in}
 use Rattle.r4_content.specs.Course.{Ending}
 use Rattle.r4_content.specs.Edited.{Edits, changed, is_in}
 use Rattle.r4_content.specs.Held.{edits_of}
 use Rattle.r4_content.specs.Meaning.{makes_object}
 use Rattle.r4_content.specs.declared.reply.Reply.{Reply}
-use Rattle.r4_patch.specs.Effect.{HasEffect}
-use Rattle.r4_patch.specs.Joining.{patch_of_change}
+use Rattle.r4_measure.specs.r4_patch.Effect.{HasEffect}
+use Rattle.r4_measure.specs.r4_patch.Joining.{patch_of_change}
 use Rattle.r4_build.specs.Building.{CanBuild, most_new, set_by}
 use Rattle.r4_build.specs.Built.{edits_for}
 use Rattle.r4_build.proofs.built.parts_of.Goals as goal

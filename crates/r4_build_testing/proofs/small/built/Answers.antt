@@ -3,7 +3,7 @@ use Rattle.std.specs.Prelude.{IsTrue, None}
 use Rattle.std.proofs.lemmas.Grind.{common_steps}
 use Rattle.r4_cell.specs.Patch.{by_name}
 use Rattle.r4_content.specs.Held.{pairs_of}
-use Rattle.r4_measure.specs.Examples.{fresh_root}
+use Rattle.r4_build.specs.r4_measure.Examples.{fresh_root}
 use Rattle.r4_reach.specs.Touched.{edits_on}
 use Rattle.r4_build_testing.proofs.TwoCells.{can_build}
 use Rattle.r4_build_testing.proofs.small.built.Goals as goal

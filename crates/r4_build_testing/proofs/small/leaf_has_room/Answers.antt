@@ -11,7 +11,7 @@ use Rattle.r4_leaf.specs.Remade.{AreWithin, CanPutAll, cut_all}
 use Rattle.r4_leaf.specs.Units.{LeafUnit}
 use Rattle.r4_leaf.proofs.Standing.{stand_lie}
 use Rattle.r4_node40.specs.View.{view_items}
-use Rattle.r4_edit.proofs.LeafLent.{lent_stands, lent_units}
+use Rattle.r4_build.proofs.r4_edit.LeafLent.{lent_stands, lent_units}
 use Rattle.r4_build.proofs.Made.{gets_of, units_of_leaf}
 use Rattle.r4_build_testing.proofs.Room.{room_for}
 use Rattle.r4_build_testing.proofs.small.leaf_has_room.Goals as goal

@@ -6,7 +6,7 @@ use Rattle.r4_base.specs.Node.{Item, items_of}
 use Rattle.r4_cell.proofs.Faults.{body_short}
 use Rattle.r4_cell.specs.Seen.{CellSeen, node_of}
 use Rattle.r4_node40.specs.View.{item_shown}
-use Rattle.r4_search.proofs.Places.{item_in}
+use Rattle.r4_list.proofs.r4_search.Places.{item_in}
 use Rattle.r4_twig.proofs.Faults.{body_lawful}
 use Rattle.r4_twig.specs.View.{view_units}
 use Rattle.r4_check.specs.Looking.{name_of}

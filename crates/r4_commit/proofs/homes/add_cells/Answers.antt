@@ -3,7 +3,7 @@ use Rattle.std.specs.Arc.{arc_value}
 use Rattle.std.specs.Ordering.{nat_cmp}
 use Rattle.std.specs.BTreeMap.{get}
 use Rattle.std.proofs.lemmas.List.{map-append}
-use Rattle.r4_cell.specs.Seen.{CellSeen}
+use Rattle.r4_place.specs.r4_cell.Seen.{CellSeen}
 use Rattle.r4_wander.specs.Torn.{Write}
 use Rattle.r4_commit.specs.Places.{overwritten}
 use Rattle.r4_commit.proofs.CellPlaces.{kept_more, kept_none, none_is, some_is}

@@ -2,7 +2,7 @@ use Rattle.std.proofs.Common.{◌≡◌, ◌++◌, map, take}
 use Rattle.std.specs.Arc.{arc_value}
 use Rattle.std.specs.Ordering.{nat_cmp}
 use Rattle.std.specs.BTreeMap.{get}
-use Rattle.r4_cell.specs.Seen.{CellSeen}
+use Rattle.r4_place.specs.r4_cell.Seen.{CellSeen}
 use Rattle.r4_commit.specs.Places.{overwritten}
 use Rattle.r4_commit.proofs.homes.add_cells.Given as goal
 

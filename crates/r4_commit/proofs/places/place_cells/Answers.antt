@@ -2,7 +2,7 @@ use Rattle.std.proofs.Common.{◌≡◌, ◌++◌, [], ◌∷◌, sym, ap, ◌�
 use Rattle.std.specs.Arc.{arc_value}
 use Rattle.std.specs.Ordering.{nat_cmp}
 use Rattle.std.specs.BTreeMap.{get}
-use Rattle.r4_cell.specs.Seen.{CellSeen}
+use Rattle.r4_place.specs.r4_cell.Seen.{CellSeen}
 use Rattle.r4_commit.proofs.CellPlaces.{placed_more, placed_none}
 use Rattle.r4_commit.proofs.places.place_cells.Goals as goal
 use Rattle.r4_commit.proofs.places.place_cells.Goals.{in-Some+in_ok-cell+in_ok-push, in_default}

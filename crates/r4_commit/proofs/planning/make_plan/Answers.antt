@@ -3,7 +3,7 @@ use Rattle.std.specs.Arc.{arc_value}
 use Rattle.std.specs.Ordering.{nat_cmp}
 use Rattle.std.specs.BTreeMap.{get}
 use Rattle.std.proofs.lemmas.List.{length-map}
-use Rattle.r4_cell.specs.Seen.{CellSeen}
+use Rattle.r4_place.specs.r4_cell.Seen.{CellSeen}
 use Rattle.r4_space.specs.Space.{unused_count}
 use Rattle.r4_wander.specs.Seen.{Copy}
 use Rattle.r4_wander.specs.Torn.{Write}

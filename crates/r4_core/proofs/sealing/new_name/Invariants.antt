@@ -1,5 +1,5 @@
 use Rattle.std.proofs.Common.{◌≡◌, drop}
-use Rattle.r4_renaming.specs.Renaming.{name_then}
+use Rattle.r4_flushing.specs.r4_renaming.Renaming.{name_then}
 use Rattle.r4_core.proofs.sealing.new_name.Given as goal
 
 abbrev pub invariant-loop-one : goal.invariant-loop-one

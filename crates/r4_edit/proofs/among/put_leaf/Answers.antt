@@ -7,11 +7,11 @@ use Rattle.r4_base.specs.Key.{rank}
 use Rattle.r4_base.specs.Node.{Item, mkfs_id_of}
 use Rattle.r4_base.specs.Tree.{Root as TreeRoot, Store}
 use Rattle.r4_base.specs.Value.{Value}
-use Rattle.r4_branch.specs.Pieces.{next_of}
-use Rattle.r4_graft.specs.Splices.{place}
-use Rattle.r4_cell.specs.Patch.{IsChange, patch_of}
-use Rattle.r4_patch.specs.Part.{MeetsPart}
-use Rattle.r4_cell.specs.Seen.{CellSeen}
+use Rattle.r4_path.specs.r4_branch.Pieces.{next_of}
+use Rattle.r4_path.specs.r4_graft.Splices.{place}
+use Rattle.r4_path.specs.r4_cell.Patch.{IsChange, patch_of}
+use Rattle.r4_path.specs.r4_patch.Part.{MeetsPart}
+use Rattle.r4_path.specs.r4_cell.Seen.{CellSeen}
 use Rattle.r4_edit.specs.Editing.{given_item}
 use Rattle.r4_edit.specs.Extents.{IsLeafPutUp, leaf_pointer}
 use Rattle.r4_path.specs.TwigPieces.{ArePiecesOf, put_pieces, twig_pieces}

@@ -1,7 +1,7 @@
 use Rattle.std.proofs.Common.{◌≤◌, drop, sym, subst, ◌∙◌, arith}
 use Rattle.r4_base.specs.Key.{rank}
 use Rattle.r4_base.specs.declared.key.Key.{Key}
-use Rattle.r4_graft.proofs.Placed.{place_within}
+use Rattle.r4_path.proofs.r4_graft.Placed.{place_within}
 use Rattle.r4_edit.specs.CutBlocks.{next_key}
 use Rattle.r4_edit.proofs.cutting.cut_parted.Goals as goal
 

@@ -1,8 +1,8 @@
 use Rattle.std.proofs.Common.{◌*◌, ◌∙◌, sym, ap, arith}
 use Rattle.std.specs.Prelude.{◌==◌}
 use Rattle.r4_base.specs.Key.{rank}
-use Rattle.r4_branch.specs.Pieces.{is_at}
-use Rattle.r4_branch.proofs.UnitPieces.{rank_later}
+use Rattle.r4_path.specs.r4_branch.Pieces.{is_at}
+use Rattle.r4_path.proofs.r4_branch.UnitPieces.{rank_later}
 use Rattle.r4_path.proofs.CutEnds.{open_within}
 use Rattle.r4_edit.proofs.cutting.ends_at.Goals as goal
 

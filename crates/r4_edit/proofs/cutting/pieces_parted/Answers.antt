@@ -1,8 +1,8 @@
 use Rattle.std.proofs.Common.{sym, ap, subst, ◌∙◌}
 use Rattle.r4_base.specs.Key.{rank}
-use Rattle.r4_branch.specs.Pieces.{Follow}
-use Rattle.r4_graft.specs.Splices.{parted}
-use Rattle.r4_graft.proofs.Parted.{parted_follow}
+use Rattle.r4_path.specs.r4_branch.Pieces.{Follow}
+use Rattle.r4_path.specs.r4_graft.Splices.{parted}
+use Rattle.r4_path.proofs.r4_graft.Parted.{parted_follow}
 use Rattle.r4_path.specs.TwigPieces.{twig_pieces}
 use Rattle.r4_edit.proofs.cutting.pieces_parted.Goals as goal
 

@@ -1,6 +1,6 @@
 use Rattle.std.proofs.Common.{◌∙◌, [], sym, arith}
-use Rattle.r4_branch.specs.declared.piece.TwigPart.TheVariants.{Pointer}
-use Rattle.r4_branch.specs.declared.piece.TwigPiece.{TwigPiece}
+use Rattle.r4_path.specs.r4_branch.declared.piece.TwigPart.TheVariants.{Pointer}
+use Rattle.r4_path.specs.r4_branch.declared.piece.TwigPiece.{TwigPiece}
 use Rattle.r4_edit.proofs.CutPointers.{over_first, over_none, over_some}
 use Rattle.r4_edit.proofs.cutting.pointer_at.Goals as goal
 use Rattle.r4_edit.proofs.cutting.pointer_at.Goals.{else-at-gt0-via-then-at-gt0+else-ends_at, else-at-gt0-via-else-at-gt0}

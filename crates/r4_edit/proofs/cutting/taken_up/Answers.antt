@@ -1,7 +1,7 @@
 use Rattle.std.proofs.Common.{◌≡◌, sym, ap, subst}
 use Rattle.std.specs.Arc.{arc_value}
 use Rattle.std.specs.Option.{option_copied, option_map}
-use Rattle.r4_cell.specs.Seen.{CellSeen}
+use Rattle.r4_path.specs.r4_cell.Seen.{CellSeen}
 use Rattle.r4_edit.proofs.cutting.taken_up.Goals as goal
 
 pub widened-requires-clause-level : goal.widened-requires-clause-level

@@ -6,7 +6,7 @@ use Rattle.std.proofs.lemmas.Result.{IfOk-weaker}
 use Rattle.r4_base.specs.Key.{rank}
 use Rattle.r4_base.specs.Tree.{Root as TreeRoot, Store}
 use Rattle.r4_base.specs.Value.{Value}
-use Rattle.r4_cell.specs.declared.change.Change.{Change}
+use Rattle.r4_path.specs.r4_cell.declared.change.Change.{Change}
 use Rattle.r4_edit.specs.CutBlocks.{CutsUp, IsCutUp, IsTakenOutIn, is_in_range, leaf_first, rest_behind, trunk}
 use Rattle.r4_path.proofs.CellNodes.{long_map}
 use Rattle.r4_edit.proofs.CutKinds.{cut_up, cuts_up, map_drop, map_take, no_leaf, not_in_leaf, of_extents, of_leaf, trunk_within}

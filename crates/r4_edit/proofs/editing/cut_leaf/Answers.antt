@@ -1,7 +1,7 @@
 use Rattle.std.proofs.Common.{◌≡◌, sym, subst}
 use Rattle.std.proofs.lemmas.Result.{IfOk-weaker}
 use Rattle.std.specs.Arc.{arc_value}
-use Rattle.r4_cell.specs.Seen.{CellSeen}
+use Rattle.r4_path.specs.r4_cell.Seen.{CellSeen}
 use Rattle.r4_edit.specs.Editing.{after_cut}
 use Rattle.r4_edit.proofs.LastLeaf.{cut_out, cut_some, edited, replaced}
 use Rattle.r4_edit.proofs.editing.cut_leaf.Goals as goal

@@ -3,9 +3,9 @@ use Rattle.std.specs.Prelude.{map, reverse}
 use Rattle.std.specs.Arc.{arc_value}
 use Rattle.std.proofs.lemmas.List.{append-nil}
 use Rattle.std.proofs.lemmas.Result.{IfOk-weaker}
-use Rattle.r4_cell.specs.Patch.{IsChange, patch_of}
-use Rattle.r4_cell.specs.Seen.{CellSeen}
-use Rattle.r4_patch.specs.Part.{MeetsPart}
+use Rattle.r4_path.specs.r4_cell.Patch.{IsChange, patch_of}
+use Rattle.r4_path.specs.r4_cell.Seen.{CellSeen}
+use Rattle.r4_path.specs.r4_patch.Part.{MeetsPart}
 use Rattle.r4_edit.specs.Editing.{given_item}
 use Rattle.r4_edit.specs.Extents.{IsOverUp, IsSpreadUp, PutsOverUp, SpreadsUp, item_blocks}
 use Rattle.r4_path.specs.Grafts.{AreBlocksOf}

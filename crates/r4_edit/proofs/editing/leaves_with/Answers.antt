@@ -2,9 +2,9 @@ use Rattle.std.proofs.Common.{sym, subst}
 use Rattle.std.proofs.lemmas.Result.{IfOk-weaker}
 use Rattle.r4_base.specs.Cell.{item_units}
 use Rattle.r4_base.specs.Key.{rank}
-use Rattle.r4_leaf.specs.Leaves.{AreApart}
-use Rattle.r4_leaf.specs.Units.{put_units}
-use Rattle.r4_node40.specs.View.{view_block, view_items}
+use Rattle.r4_path.specs.r4_leaf.Leaves.{AreApart}
+use Rattle.r4_path.specs.r4_leaf.Units.{put_units}
+use Rattle.r4_path.specs.r4_node40.View.{view_block, view_items}
 use Rattle.r4_edit.proofs.LeafLent.{lent_leaves, lent_stands, lent_units}
 use Rattle.r4_path.proofs.Results.{and_ok}
 use Rattle.r4_edit.proofs.editing.leaves_with.Goals as goal

@@ -1,7 +1,7 @@
 use Rattle.std.proofs.lemmas.Result.{IfOk-weaker}
 use Rattle.r4_base.specs.Key.{rank}
-use Rattle.r4_leaf.specs.Units.{cut_units}
-use Rattle.r4_node40.specs.View.{view_block, view_items}
+use Rattle.r4_path.specs.r4_leaf.Units.{cut_units}
+use Rattle.r4_path.specs.r4_node40.View.{view_block, view_items}
 use Rattle.r4_edit.proofs.LeafLent.{lent_leaves, lent_stands}
 use Rattle.r4_path.proofs.Results.{and_ok}
 use Rattle.r4_edit.proofs.editing.leaves_without.Goals as goal

@@ -3,8 +3,8 @@ use Rattle.std.proofs.lemmas.Result.{IfOk-weaker}
 use Rattle.std.specs.Arc.{arc_value}
 use Rattle.r4_base.specs.Cell.{item_end, item_units}
 use Rattle.r4_base.specs.Key.{rank}
-use Rattle.r4_cell.specs.Seen.{CellSeen, node_of}
-use Rattle.r4_leaf.specs.Leaves.{AreApart}
+use Rattle.r4_path.specs.r4_cell.Seen.{CellSeen, node_of}
+use Rattle.r4_path.specs.r4_leaf.Leaves.{AreApart}
 use Rattle.r4_edit.specs.Editing.{after_insert}
 use Rattle.r4_edit.proofs.LastLeaf.{edited, insert_some, inserted, replaced}
 use Rattle.r4_edit.proofs.editing.put_into.Goals as goal

@@ -1,8 +1,8 @@
 use Rattle.std.proofs.Common.{◌∙◌, ap, refl}
 use Rattle.r4_base.specs.Key.{rank}
 use Rattle.r4_base.specs.Node.{mkfs_id_of}
-use Rattle.r4_leaf.specs.Units.{cut_units}
-use Rattle.r4_node40.specs.View.{view_block, view_items}
+use Rattle.r4_path.specs.r4_leaf.Units.{cut_units}
+use Rattle.r4_path.specs.r4_node40.View.{view_block, view_items}
 use Rattle.r4_edit.proofs.LeafLent.{lent_leaves, lent_stands}
 use Rattle.r4_edit.proofs.PartedLeaf.{behind_is, behind_one, has_units, some_range}
 use Rattle.r4_edit.proofs.leaf_parts.block_below.Goals as goal

@@ -1,7 +1,7 @@
 use Rattle.std.proofs.Common.{◌∙◌}
 use Rattle.std.specs.Arc.{arc_value}
 use Rattle.std.proofs.lemmas.Result.{IfOk-weaker}
-use Rattle.r4_node40.specs.View.{view_block}
+use Rattle.r4_path.specs.r4_node40.View.{view_block}
 use Rattle.r4_edit.proofs.NewLeaves.{wide_fits, wide_leaf}
 use Rattle.r4_edit.proofs.leaf_parts.widened.Goals as goal
 

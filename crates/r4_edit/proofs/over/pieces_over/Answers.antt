@@ -4,7 +4,7 @@ use Rattle.std.specs.Arc.{arc_value}
 use Rattle.std.specs.Option.{option_map}
 use Rattle.r4_base.specs.Key.{rank}
 use Rattle.r4_base.specs.declared.key.Key.{Key}
-use Rattle.r4_graft.specs.Splices.{place, spliced}
+use Rattle.r4_path.specs.r4_graft.Splices.{place, spliced}
 use Rattle.r4_edit.specs.Extents.{pointer_to}
 use Rattle.r4_path.specs.TwigPieces.{ArePiecesOf}
 use Rattle.r4_edit.proofs.OverPieces.{place_before_end}

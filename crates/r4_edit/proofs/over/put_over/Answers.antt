@@ -6,7 +6,7 @@ use Rattle.std.proofs.lemmas.Result.{IfOk-weaker}
 use Rattle.r4_base.specs.Node.{Item}
 use Rattle.r4_base.specs.Tree.{Root as TreeRoot, Store}
 use Rattle.r4_base.specs.Value.{Value}
-use Rattle.r4_cell.specs.Seen.{CellSeen, node_of}
+use Rattle.r4_path.specs.r4_cell.Seen.{CellSeen, node_of}
 use Rattle.r4_edit.specs.Editing.{given_item}
 use Rattle.r4_edit.specs.Extents.{IsOverUp, given_cells, item_blocks, over_pieces}
 use Rattle.r4_path.specs.TwigPieces.{ArePiecesOf, twig_pieces}

@@ -2,9 +2,9 @@ use Rattle.std.proofs.Common.{◌≡◌, ◌≤◌, ◌<◌, sym, subst}
 use Rattle.std.proofs.lemmas.Result.{IfOk-weaker}
 use Rattle.std.specs.Arc.{arc_value}
 use Rattle.r4_base.specs.Key.{rank}
-use Rattle.r4_cell.specs.Seen.{CellSeen, node_of}
-use Rattle.r4_leaf.specs.Remade.{AreWithin, CanPutAll, cut_all}
-use Rattle.r4_leaf.specs.Units.{leaf_bytes}
+use Rattle.r4_path.specs.r4_cell.Seen.{CellSeen, node_of}
+use Rattle.r4_path.specs.r4_leaf.Remade.{AreWithin, CanPutAll, cut_all}
+use Rattle.r4_path.specs.r4_leaf.Units.{leaf_bytes}
 use Rattle.r4_edit.specs.Remaking.{after_edits}
 use Rattle.r4_edit.proofs.LastLeaf.{edited, replaced}
 use Rattle.r4_edit.proofs.Remade.{has_range, remade, remake_some}

@@ -3,11 +3,11 @@ use Rattle.std.specs.Prelude.{List}
 use Rattle.std.proofs.lemmas.Result.{IfOk-weaker}
 use Rattle.r4_base.specs.Key.{rank}
 use Rattle.r4_base.specs.declared.key.Key.{Key}
-use Rattle.r4_leaf.specs.Items.{Lie}
-use Rattle.r4_leaf.specs.Remade.{AreWithin, CanPutAll, cut_all, put_all}
-use Rattle.r4_leaf.specs.Units.{LeafUnit, leaf_bytes}
-use Rattle.r4_leaf.proofs.Standing.{stand_lie}
-use Rattle.r4_node40.specs.View.{view_items}
+use Rattle.r4_path.specs.r4_leaf.Items.{Lie}
+use Rattle.r4_path.specs.r4_leaf.Remade.{AreWithin, CanPutAll, cut_all, put_all}
+use Rattle.r4_path.specs.r4_leaf.Units.{LeafUnit, leaf_bytes}
+use Rattle.r4_path.proofs.r4_leaf.Standing.{stand_lie}
+use Rattle.r4_path.specs.r4_node40.View.{view_items}
 use Rattle.r4_edit.proofs.LeafLent.{lent_leaves, lent_stands, lent_units}
 use Rattle.r4_path.proofs.Results.{and_ok}
 use Rattle.r4_edit.proofs.remaking.leaves_remade.Goals as goal

@@ -1,7 +1,7 @@
 use Rattle.std.proofs.Common.{◌<◌, ◌∙◌, ap, sym, subst, length}
 use Rattle.std.specs.Arc.{arc_value}
 use Rattle.r4_base.specs.Node.{items_of}
-use Rattle.r4_cell.specs.Seen.{CellSeen}
+use Rattle.r4_path.specs.r4_cell.Seen.{CellSeen}
 use Rattle.r4_edit.proofs.HalvedLeaf.{one_item, unit_count_leaf}
 use Rattle.r4_edit.proofs.splitting.part.Goals as goal
 

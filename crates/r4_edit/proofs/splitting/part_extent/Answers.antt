@@ -5,9 +5,9 @@ use Rattle.r4_base.specs.Cell.{cell_fault}
 use Rattle.r4_base.specs.Key.{rank}
 use Rattle.r4_base.specs.Node.{mkfs_id_of}
 use Rattle.r4_base.specs.declared.key.Key.{Key}
-use Rattle.r4_branch.specs.Pieces.{AreTwigPieces}
-use Rattle.r4_branch.specs.Twigs.{IsTwig}
-use Rattle.r4_cell.specs.Seen.{CellSeen}
+use Rattle.r4_path.specs.r4_branch.Pieces.{AreTwigPieces}
+use Rattle.r4_path.specs.r4_branch.Twigs.{IsTwig}
+use Rattle.r4_path.specs.r4_cell.Seen.{CellSeen}
 use Rattle.r4_path.specs.TwigPieces.{ArePiecesOf}
 use Rattle.r4_edit.proofs.HalvedTwig.{halves_of, no_piece, left_fits, left_pieces, right_fits, right_pieces, twig_parted}
 use Rattle.r4_edit.proofs.splitting.part_extent.Goals as goal

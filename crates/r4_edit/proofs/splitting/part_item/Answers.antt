@@ -1,7 +1,7 @@
 use Rattle.std.proofs.Common.{◌≤◌, length, subst, sym, ◌∙◌, arith}
 use Rattle.std.specs.Arc.{arc_value}
 use Rattle.std.specs.Option.{option_map}
-use Rattle.r4_leaf.specs.Units.{IsMiddle}
+use Rattle.r4_path.specs.r4_leaf.Units.{IsMiddle}
 use Rattle.r4_edit.proofs.HalvedLeaf.{key_before, key_behind, leaf_parted, lent_stands, lent_units}
 use Rattle.r4_edit.proofs.splitting.part_item.Goals as goal
 

@@ -1,7 +1,7 @@
 use Rattle.std.proofs.Common.{◌∙◌, ap, map, refl, sym}
 use Rattle.std.specs.Arc.{arc_value}
 use Rattle.r4_base.specs.Node.{mkfs_id_of}
-use Rattle.r4_cell.specs.Seen.{CellSeen}
+use Rattle.r4_path.specs.r4_cell.Seen.{CellSeen}
 use Rattle.r4_edit.proofs.Parting.{lent_parted, lent_row, lent_two}
 use Rattle.r4_edit.proofs.splitting.part_items.Goals as goal
 

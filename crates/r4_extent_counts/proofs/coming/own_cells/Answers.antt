@@ -4,8 +4,8 @@ use Rattle.r4_base.specs.Key.{rank}
 use Rattle.r4_branch.specs.declared.piece.TwigPiece.{TwigPiece}
 use Rattle.r4_cell.specs.Seen.{node_of}
 use Rattle.r4_content.specs.Held.{edits_of}
-use Rattle.r4_reach.specs.Needs.{cut_pieces}
-use Rattle.r4_reach.specs.Touched.{going}
+use Rattle.r4_extent_demands.specs.r4_reach.Needs.{cut_pieces}
+use Rattle.r4_extent_demands.specs.r4_reach.Touched.{going}
 use Rattle.r4_extent_counts.specs.Coming.{filled_in}
 use Rattle.r4_extent_demands.specs.Pieces.{HasRoom}
 use Rattle.r4_extent_demands.proofs.Rooms.{follow_room}

@@ -9,7 +9,7 @@ use Rattle.r4_branch.specs.Pieces.{pieces_in}
 use Rattle.r4_branch.proofs.Lying.{lie_sound}
 use Rattle.r4_branch.proofs.Standing.{stand_lie}
 use Rattle.r4_content.specs.Held.{edits_of}
-use Rattle.r4_leaf_demands.proofs.Weighed.{block_is}
+use Rattle.r4_bodies.proofs.r4_leaf_demands.Weighed.{block_is}
 use Rattle.r4_node40.specs.View.{item_shown}
 use Rattle.r4_extent_demands.specs.Changing.{is_changed}
 use Rattle.r4_extent_demands.proofs.Changes.{items_any}

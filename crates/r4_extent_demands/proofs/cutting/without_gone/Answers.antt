@@ -4,8 +4,8 @@ use Rattle.std.proofs.lemmas.List.{take_more}
 use Rattle.std.proofs.lemmas.List.Elements.{filter-append}
 use Rattle.r4_branch.specs.declared.piece.TwigPart.TheVariants.{Pointer}
 use Rattle.r4_branch.specs.declared.piece.TwigPiece.{TwigPiece}
-use Rattle.r4_marking.specs.Marks.{heard_seen}
-use Rattle.r4_reach.specs.Needs.{points_to, without_gone}
+use Rattle.r4_bodies.specs.r4_marking.Marks.{heard_seen}
+use Rattle.r4_leaf_edits.specs.r4_reach.Needs.{points_to, without_gone}
 use Rattle.r4_extent_demands.proofs.cutting.without_gone.Goals as goal
 
 -- what stands for no piece

@@ -5,7 +5,7 @@ use Rattle.std.proofs.lemmas.List.{append-nil, take_more}
 use Rattle.r4_branch.specs.declared.piece.TwigPart.TheVariants.{Pointer}
 use Rattle.r4_branch.specs.declared.piece.TwigPiece.{TwigPiece}
 use Rattle.r4_content.specs.Held.{edits_of}
-use Rattle.r4_reach.specs.Needs.{filled}
+use Rattle.r4_leaf_edits.specs.r4_reach.Needs.{filled}
 use Rattle.r4_extent_demands.proofs.piecing.fill_each.Goals as goal
 
 -- what stands for no piece

@@ -9,9 +9,9 @@ use Rattle.r4_branch.specs.Pieces.{pieces_in, twig_bytes}
 use Rattle.r4_branch.specs.declared.piece.TwigPiece.{TwigPiece}
 use Rattle.r4_cell.specs.Seen.{node_of}
 use Rattle.r4_content.specs.Held.{edits_of}
-use Rattle.r4_leaf_demands.proofs.Weighed.{block_is}
-use Rattle.r4_marking.specs.Marks.{heard_seen}
-use Rattle.r4_reach.specs.Needs.{pieces_after, points_to, without_gone}
+use Rattle.r4_bodies.proofs.r4_leaf_demands.Weighed.{block_is}
+use Rattle.r4_bodies.specs.r4_marking.Marks.{heard_seen}
+use Rattle.r4_leaf_edits.specs.r4_reach.Needs.{pieces_after, points_to, without_gone}
 use Rattle.r4_extent_demands.specs.Pieces.{AreInOrder, HasRoom, remade}
 use Rattle.r4_extent_demands.proofs.Bounded.{follow_lies, lies_filter, without_bytes}
 use Rattle.r4_extent_demands.proofs.Rooms.{follow_room}

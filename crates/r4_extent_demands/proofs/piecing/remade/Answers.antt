@@ -6,7 +6,7 @@ use Rattle.r4_branch.specs.Pieces.{twig_bytes}
 use Rattle.r4_branch.specs.declared.piece.TwigPiece.{TwigPiece}
 use Rattle.r4_cell.specs.Seen.{node_of}
 use Rattle.r4_content.specs.Held.{edits_of}
-use Rattle.r4_reach.specs.Needs.{filled, with_coming}
+use Rattle.r4_leaf_edits.specs.r4_reach.Needs.{filled, with_coming}
 use Rattle.r4_extent_demands.specs.Pieces.{HasRoom}
 use Rattle.r4_extent_demands.proofs.Bounded.{remade_few}
 use Rattle.r4_extent_demands.proofs.piecing.remade.Goals as goal

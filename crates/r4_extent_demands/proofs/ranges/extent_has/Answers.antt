@@ -1,6 +1,6 @@
 use Rattle.std.proofs.Common.{length, ap, arith, false, refl}
 use Rattle.std.proofs.lemmas.Bool.{both_ways}
-use Rattle.r4_leaf_demands.specs.Touching.{span_of}
+use Rattle.r4_bodies.specs.r4_leaf_demands.Touching.{span_of}
 use Rattle.r4_extent_demands.proofs.Ahead.{holds_one, none_holds, one_holds}
 use Rattle.r4_extent_demands.proofs.ranges.extent_has.Goals as goal
 

@@ -5,7 +5,7 @@ use Rattle.r4_branch.specs.declared.piece.TwigPiece.{TwigPiece}
 use Rattle.r4_content.specs.Held.{edits_of}
 use Rattle.r4_graft.proofs.Halves.{later_key, later_rank}
 use Rattle.r4_leaf_edits.proofs.KeyRanks.{key_again}
-use Rattle.r4_reach.specs.Needs.{gets_bytes, runs}
+use Rattle.r4_leaf_edits.specs.r4_reach.Needs.{gets_bytes, runs}
 use Rattle.r4_extent_demands.specs.Pieces.{block_at}
 use Rattle.r4_extent_demands.proofs.Firsts.{key_at}
 use Rattle.r4_extent_demands.proofs.Runs.{last_stretch, next_stretch}

@@ -3,10 +3,10 @@ use Rattle.std.proofs.lemmas.Result.{IfErr-weaker, on_ok_weaker}
 use Rattle.std.specs.Prelude.{Contains, Option, nat_lt}
 use Rattle.r4_base.specs.Key.{rank}
 use Rattle.r4_content.specs.Held.{edits_of, interval_of}
-use Rattle.r4_extent_touching.specs.Holding.{AreLeftMet}
+use Rattle.r4_extent_reaching.specs.r4_extent_touching.Holding.{AreLeftMet}
 use Rattle.r4_reach.specs.Needs.{going_of}
 use Rattle.r4_reach.specs.Touched.{Body}
-use Rattle.r4_reaching.specs.Gathering.{AreAllMet}
+use Rattle.r4_extent_reaching.specs.r4_reaching.Gathering.{AreAllMet}
 use Rattle.r4_search.specs.Keeping.{Shared, keeping_state, met_in}
 use Rattle.r4_search.specs.declared.pool.FetchFault.TheVariants.{Memory as NoMemory}
 use Rattle.r4_extent_reach.specs.Meeting.{MeetsBeside, StopsAtLeft, StopsBesideOf, turns_by, turns_of}

@@ -2,7 +2,7 @@ use Rattle.std.proofs.Common.{◌≡◌, arith, sym, true, ◌∙◌}
 use Rattle.std.proofs.lemmas.Result.{IfErr-weaker}
 use Rattle.r4_base.specs.Key.{rank}
 use Rattle.r4_content.specs.Held.{edits_of}
-use Rattle.r4_extent_touching.specs.Holding.{StopsLeft}
+use Rattle.r4_extent_reaching.specs.r4_extent_touching.Holding.{StopsLeft}
 use Rattle.r4_extent_reach.specs.Meeting.{turns_of}
 use Rattle.r4_extent_reach.proofs.LeftMet.{turns_twig}
 use Rattle.r4_extent_reach.proofs.beside.meet_beside_one.Goals as goal

@@ -4,7 +4,7 @@ use Rattle.r4_base.specs.Key.{least, rank}
 use Rattle.r4_base.proofs.FreshTree.{least_below}
 use Rattle.r4_content.specs.Edited.{is_in}
 use Rattle.r4_content.specs.Held.{interval_of}
-use Rattle.r4_reaching.proofs.Some.{one_kept}
+use Rattle.r4_extent_reaching.proofs.r4_reaching.Some.{one_kept}
 use Rattle.r4_search.specs.Keeping.{keeping_state}
 use Rattle.r4_search.proofs.Walks.{goes_same}
 use Rattle.r4_touching.specs.Touching.{StopsFor}

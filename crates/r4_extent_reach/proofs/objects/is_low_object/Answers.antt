@@ -4,7 +4,7 @@ use Rattle.r4_base.specs.Key.{rank}
 use Rattle.r4_content.specs.Held.{part_pairs}
 use Rattle.r4_content.specs.declared.seen.SeenPart.{SeenPart}
 use Rattle.r4_content.specs.declared.seen.SeenPart.TheVariants.{One}
-use Rattle.r4_reaching.specs.Answers.{HaveObjectNumbers, SeesLowObject}
+use Rattle.r4_extent_reaching.specs.r4_reaching.Answers.{HaveObjectNumbers, SeesLowObject}
 use Rattle.r4_extent_reach.proofs.Numbers.{run_numbers}
 use Rattle.r4_extent_reach.proofs.objects.is_low_object.Goals as goal
 

@@ -1,7 +1,7 @@
 use Rattle.std.proofs.Common.{take}
 use Rattle.std.specs.List.{flat_map}
 use Rattle.r4_content.specs.Held.{part_pairs}
-use Rattle.r4_reaching.specs.Answers.{HaveObjectNumbers}
+use Rattle.r4_extent_reaching.specs.r4_reaching.Answers.{HaveObjectNumbers}
 use Rattle.r4_extent_reach.proofs.objects.sees_low_object.Given as goal
 
 abbrev pub invariant-loop-part : goal.invariant-loop-part

@@ -9,8 +9,8 @@ use Rattle.r4_gather.specs.Asking.{EndsIn, StaysOver}
 use Rattle.r4_gather.specs.Finding.{asked_keys}
 use Rattle.r4_search.specs.Keeping.{keeping_state, met_in}
 use Rattle.r4_search.specs.declared.keeping.Keeping.{Keeping}
-use Rattle.r4_reaching.specs.Answers.{IsAllSeen, IsSamePool, StopsAsking, asked_by}
-use Rattle.r4_reaching.proofs.Ending.{is_all_seen, keeps_all, root_stays, same_pool, stays_joined, stops_asking}
+use Rattle.r4_extent_reaching.specs.r4_reaching.Answers.{IsAllSeen, IsSamePool, StopsAsking, asked_by}
+use Rattle.r4_extent_reaching.proofs.r4_reaching.Ending.{is_all_seen, keeps_all, root_stays, same_pool, stays_joined, stops_asking}
 use Rattle.r4_extent_reach.proofs.Ending.{IsAnswered, stops_wider}
 use Rattle.r4_extent_reach.proofs.reaching.reach.Goals.{in-Ok, in-Err}
 use Rattle.r4_extent_reach.proofs.reaching.reach.Goals as goal

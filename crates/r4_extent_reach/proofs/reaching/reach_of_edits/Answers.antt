@@ -5,7 +5,7 @@ use Rattle.r4_extent_reaching.specs.Answers.{IsReach, StopsWriting}
 use Rattle.r4_extent_reaching.specs.Standing.{IsTooLong}
 use Rattle.r4_gather.specs.Finding.{asked_keys}
 use Rattle.r4_reach.specs.Touched.{Body, kind_reads}
-use Rattle.r4_reaching.proofs.Touched.{handed_match}
+use Rattle.r4_extent_reaching.proofs.r4_reaching.Touched.{handed_match}
 use Rattle.r4_search.specs.Keeping.{keeping_state}
 use Rattle.r4_touching.specs.Touching.{StopsFor}
 use Rattle.r4_extent_reach.specs.Standing.{IsStood, MayBeShown, shown_keys}

@@ -5,7 +5,7 @@ use Rattle.r4_content.specs.Held.{pairs_of, part_pairs}
 use Rattle.r4_content.specs.declared.seen.SeenPart.{SeenPart}
 use Rattle.r4_gather.proofs.Staying.{stays_same}
 use Rattle.r4_gather.specs.Finding.{asked_keys}
-use Rattle.r4_reaching.specs.Answers.{HaveObjectNumbers, SeesLowObject}
+use Rattle.r4_extent_reaching.specs.r4_reaching.Answers.{HaveObjectNumbers, SeesLowObject}
 use Rattle.r4_search.specs.Keeping.{keeping_state}
 use Rattle.r4_extent_reach.proofs.Going.{on_stays}
 use Rattle.r4_extent_reach.proofs.Numbers.{good_numbers, low_object}

@@ -1,5 +1,5 @@
 use Rattle.r4_flush.proofs.Flushed.{chosen_flushed, is_flush, plan_is_for, root_agrees}
-use Rattle.r4_commit.specs.Places.{place_of}
+use Rattle.r4_flushed.specs.r4_commit.Places.{place_of}
 use Rattle.r4_flush.specs.Anew.{new_name}
 use Rattle.r4_flush.proofs.laws.prepared_atoms_are_flushed.Goals as goal
 

@@ -1,5 +1,5 @@
 use Rattle.std.proofs.Common.{◌≡◌, map, take}
-use Rattle.r4_placed.specs.Flushing.{answer_by_block}
+use Rattle.r4_flushed.specs.r4_placed.Flushing.{answer_by_block}
 use Rattle.r4_flush.proofs.names.by_block.Given as goal
 
 abbrev pub invariant-loop-answer : goal.invariant-loop-answer

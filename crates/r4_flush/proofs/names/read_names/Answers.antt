@@ -1,4 +1,4 @@
-use Rattle.r4_commit.proofs.CellPlaces.{places_given, places_kept}
+use Rattle.r4_flushed.proofs.r4_commit.CellPlaces.{places_given, places_kept}
 use Rattle.r4_flush.proofs.names.read_names.Goals as goal
 use Rattle.r4_flush.proofs.names.read_names.Goals.{in-Some+in_ok-insert, in_default}
 

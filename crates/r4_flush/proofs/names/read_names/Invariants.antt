@@ -1,7 +1,7 @@
 use Rattle.std.proofs.Common.{◌≡◌, ℕ, take}
 use Rattle.std.specs.Ordering.{nat_cmp}
 use Rattle.std.specs.BTreeMap.{get}
-use Rattle.r4_commit.specs.Places.{place_of}
+use Rattle.r4_flushed.specs.r4_commit.Places.{place_of}
 use Rattle.r4_flush.proofs.names.read_names.Given as goal
 
 abbrev pub invariant-loop-answer : goal.invariant-loop-answer

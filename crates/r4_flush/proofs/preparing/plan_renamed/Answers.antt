@@ -8,7 +8,7 @@ use Rattle.r4_cell.specs.Seen.{CellSeen}
 use Rattle.r4_space.specs.Accounts.{price_formula}
 use Rattle.r4_space.specs.Space.{unused_count}
 use Rattle.r4_place.specs.Chosen.{fresh_blocks}
-use Rattle.r4_commit.specs.Places.{overwritten_blocks}
+use Rattle.r4_flushed.specs.r4_commit.Places.{overwritten_blocks}
 use Rattle.r4_flush.specs.Prepared.{cells_of}
 use Rattle.r4_flush.proofs.Overwriting.{overwritten_stand, placed_by_block, price_pays}
 use Rattle.r4_flush.proofs.preparing.plan_renamed.Goals as goal

@@ -8,13 +8,13 @@ use Rattle.std.proofs.lemmas.List.Sorted.{IsNonDecreasingBy-from_sort_by, IsPerm
 use Rattle.r4_space.specs.Space.{Space, unused_count}
 use Rattle.r4_place.specs.Chosen.{AreChosen, placed_all}
 use Rattle.r4_place.specs.declared.placed.Placed.{Placed}
-use Rattle.r4_commit.specs.Places.{place_of}
+use Rattle.r4_flushed.specs.r4_commit.Places.{place_of}
 use Rattle.r4_work.specs.Order.{place}
 use Rattle.r4_work.proofs.Halving.{order_shown}
 use Rattle.r4_flush.specs.Anew.{AreMade, new_name}
 use Rattle.r4_flush.specs.Prepared.{IsPlannedByBlock, WasCell, cells_of}
 use Rattle.r4_flush.specs.declared.cells.RenamedCell.{RenamedCell}
-use Rattle.r4_sealed.specs.Commits.{spot_of}
+use Rattle.r4_flushed.specs.r4_sealed.Commits.{spot_of}
 use Rattle.r4_base.specs.Bitmap.{bitmap_count}
 use Rattle.r4_base.specs.declared.superblock.Super40.{Super40}
 use Rattle.r4_base.specs.declared.things.BlockNo.{BlockNo}

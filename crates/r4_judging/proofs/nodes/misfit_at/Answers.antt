@@ -11,8 +11,8 @@ use Rattle.r4_base.proofs.Keys.{is_key}
 use Rattle.r4_cell.proofs.Faults.{body_short}
 use Rattle.r4_marking.specs.Marks.{names_at}
 use Rattle.r4_node40.specs.View.{item_shown}
-use Rattle.r4_units.proofs.ExtentUnits.{extent_names}
-use Rattle.r4_units.proofs.Leaves.{body_of, extent_good}
+use Rattle.r4_sight.proofs.r4_units.ExtentUnits.{extent_names}
+use Rattle.r4_sight.proofs.r4_units.Leaves.{body_of, extent_good}
 use Rattle.r4_sight.proofs.Bodies.{up_to_top}
 use Rattle.r4_sight.proofs.Stretching.{ends_below, offsets_in}
 use Rattle.r4_judging.specs.Judging.{IsJudged}

@@ -6,7 +6,7 @@ use Rattle.r4_base.specs.Node.{Item, items_of}
 use Rattle.r4_base.specs.Tree.{Name}
 use Rattle.r4_marking.proofs.Children.{names_next}
 use Rattle.r4_search.proofs.Places.{item_in}
-use Rattle.r4_units.proofs.ExtentUnits.{names_of}
+use Rattle.r4_sight.proofs.r4_units.ExtentUnits.{names_of}
 use Rattle.r4_judging.specs.Judging.{IsJudged}
 use Rattle.r4_judging.proofs.Walked.{AreJudged, all_judged, more_judged, no_items_left, none_judged}
 use Rattle.r4_judging.proofs.nodes.misfit_in.Goals as goal

@@ -6,8 +6,8 @@ use Rattle.r4_base.specs.Cell.{block_names, run_names}
 use Rattle.r4_base.specs.Extents.{AreLawfulUnits, body_fault, blocks_in, is_hole, units_of}
 use Rattle.r4_base.specs.Key.{offset_of, rank}
 use Rattle.r4_base.specs.declared.items.Unit.{Unit as ExtentUnit}
-use Rattle.r4_branch.proofs.UnitPieces.{lawful_at, some_width}
-use Rattle.r4_graft.proofs.Halves.{later_offset, later_rank}
+use Rattle.r4_marking.proofs.r4_branch.UnitPieces.{lawful_at, some_width}
+use Rattle.r4_marking.proofs.r4_graft.Halves.{later_offset, later_rank}
 use Rattle.r4_twig.specs.View.{view_units}
 use Rattle.r4_twig.proofs.Faults.{body_lawful}
 use Rattle.r4_judging.specs.Judging.{IsJudged}

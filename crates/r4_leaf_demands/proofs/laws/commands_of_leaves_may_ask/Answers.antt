@@ -1,5 +1,5 @@
 use Rattle.r4_content.specs.Edited.{changed}
-use Rattle.r4_reach.specs.Touched.{body_on, edits_on}
+use Rattle.r4_marking.specs.r4_reach.Touched.{body_on, edits_on}
 use Rattle.r4_leaf_demands.proofs.Alike.{in_leaves_changes}
 use Rattle.r4_leaf_demands.proofs.OfCommands.{leaf_edits_of}
 use Rattle.r4_leaf_demands.proofs.laws.commands_of_leaves_may_ask.Goals as goal

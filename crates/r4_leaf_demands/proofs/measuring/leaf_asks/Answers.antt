@@ -2,7 +2,7 @@ use Rattle.std.proofs.Common.{◌≡◌, ap, sym, ◌∙◌, arith}
 use Rattle.r4_base.specs.Key.{rank}
 use Rattle.r4_content.specs.Edited.{changed}
 use Rattle.r4_content.specs.Held.{edits_of}
-use Rattle.r4_reach.specs.Needs.{is_met, over}
+use Rattle.r4_marking.specs.r4_reach.Needs.{is_met, over}
 use Rattle.r4_leaf_demands.specs.Leaves.{needing}
 use Rattle.r4_leaf_demands.proofs.Measured.{leaf_busy, leaf_quiet}
 use Rattle.r4_leaf_demands.proofs.Meets.{met_keys}

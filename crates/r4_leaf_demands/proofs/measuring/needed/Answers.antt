@@ -8,7 +8,7 @@ use Rattle.r4_content.specs.Held.{edits_of}
 use Rattle.r4_leaf.specs.Items.{Lie}
 use Rattle.r4_leaf.specs.Remade.{AreWithin}
 use Rattle.r4_leaf.specs.declared.remaking.Given.{Given}
-use Rattle.r4_leaf_edits.specs.Made.{cuts_in}
+use Rattle.r4_suited.specs.r4_leaf_edits.Made.{cuts_in}
 use Rattle.r4_node40.specs.View.{view_items}
 use Rattle.r4_leaf_demands.proofs.Measured.{can, lie, makes, measured, measured_few}
 use Rattle.r4_leaf_demands.proofs.measuring.needed.Goals as goal

@@ -2,7 +2,7 @@ use Rattle.std.proofs.Common.{◌≡◌, ◌⊎◌, ◌↔◌, inl, inr, true, m
 use Rattle.r4_base.specs.Key.{rank}
 use Rattle.r4_content.specs.Edited.{changed}
 use Rattle.r4_content.specs.Held.{edits_of, interval_of}
-use Rattle.r4_leaf_edits.proofs.Touched.{intervals_met}
+use Rattle.r4_suited.proofs.r4_leaf_edits.Touched.{intervals_met}
 use Rattle.r4_leaf_demands.specs.Touching.{IsTouched, MeetsKind, span_of}
 use Rattle.r4_leaf_demands.specs.declared.touching.Way.{Way}
 use Rattle.r4_leaf_demands.proofs.BodyKeys.{else_iff, then_iff}

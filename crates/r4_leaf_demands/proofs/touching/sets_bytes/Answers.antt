@@ -3,8 +3,8 @@ use Rattle.std.specs.List.{flat_map}
 use Rattle.r4_base.specs.Key.{rank}
 use Rattle.r4_content.specs.Edited.{put_keys}
 use Rattle.r4_content.specs.Held.{fill_pairs, interval_of, run_pairs}
-use Rattle.r4_reach.specs.Needs.{is_met}
-use Rattle.r4_leaf_edits.proofs.Touched.{intervals_met, met_both, or_false, or_true}
+use Rattle.r4_marking.specs.r4_reach.Needs.{is_met}
+use Rattle.r4_suited.proofs.r4_leaf_edits.Touched.{intervals_met, met_both, or_false, or_true}
 use Rattle.r4_leaf_demands.proofs.touching.sets_bytes.Goals as goal
 
 pub returns-then-meets_intervals : goal.returns-then-meets_intervals

@@ -3,8 +3,8 @@ use Rattle.std.specs.List.{flat_map}
 use Rattle.r4_base.specs.Key.{rank}
 use Rattle.r4_content.specs.Edited.{put_keys}
 use Rattle.r4_content.specs.Held.{fill_pairs, run_pairs}
-use Rattle.r4_reach.specs.Needs.{is_met}
-use Rattle.r4_leaf_edits.proofs.Touched.{fills_met, keys_met, or_false, or_true}
+use Rattle.r4_marking.specs.r4_reach.Needs.{is_met}
+use Rattle.r4_suited.proofs.r4_leaf_edits.Touched.{fills_met, keys_met, or_false, or_true}
 use Rattle.r4_leaf_demands.proofs.touching.sets_runs.Goals as goal
 
 pub returns-then-meets_fills : goal.returns-then-meets_fills

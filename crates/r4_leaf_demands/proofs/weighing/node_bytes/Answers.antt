@@ -3,8 +3,8 @@ use Rattle.std.specs.Prelude.{Some, slice_get}
 use Rattle.std.proofs.lemmas.List.{take_all}
 use Rattle.r4_base.specs.Node.{Item, items_of}
 use Rattle.r4_node40.specs.View.{item_shown}
-use Rattle.r4_path.specs.Nodes.{weight}
-use Rattle.r4_path.proofs.Filling.{weight_take}
+use Rattle.r4_marking.specs.r4_path.Nodes.{weight}
+use Rattle.r4_marking.proofs.r4_path.Filling.{weight_take}
 use Rattle.r4_leaf_demands.proofs.Weighed.{sound, weight_next}
 use Rattle.r4_leaf_demands.proofs.weighing.node_bytes.Goals as goal
 

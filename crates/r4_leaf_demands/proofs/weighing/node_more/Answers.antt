@@ -2,7 +2,7 @@ use Rattle.std.proofs.Common.{◌≡◌, ◌+◌, ◌*◌, map, ap, sym, ◌∙�
 use Rattle.r4_cell.specs.Seen.{node_of}
 use Rattle.r4_content.specs.Bodies.{larger}
 use Rattle.r4_marking.specs.Marks.{heard_seen, most_for}
-use Rattle.r4_reach.specs.Needs.{growing, over}
+use Rattle.r4_marking.specs.r4_reach.Needs.{growing, over}
 use Rattle.r4_leaf_demands.specs.Leaves.{bearing, node_more}
 use Rattle.r4_leaf_demands.proofs.Weighed.{bearing_is, larger_little, little, max_larger, more_above, more_full}
 use Rattle.r4_leaf_demands.proofs.Weighed.{more_none, over_little}

@@ -2,7 +2,7 @@ use Rattle.std.proofs.Common.{Bool, true, false, Option, sym, subst}
 use Rattle.std.specs.Prelude.{IfSome}
 use Rattle.std.specs.Bool.{then_some}
 use Rattle.r4_base.specs.Key.{IsKey}
-use Rattle.r4_leaf.specs.declared.remaking.KeyRange.{KeyRange}
+use Rattle.r4_reach.specs.r4_leaf.declared.remaking.KeyRange.{KeyRange}
 use Rattle.r4_leaf_edits.proofs.keys.part_of.Goals as goal
 
 if_some : (b : Bool) (r : KeyRange) → IsKey r.from → IfSome (then_some b r) (λ (x : KeyRange). IsKey x.from)

@@ -12,9 +12,9 @@ use Rattle.r4_base.specs.declared.items.Target.{Target}
 use Rattle.r4_base.proofs.Keys.{is_key}
 use Rattle.r4_base.proofs.Names.{is_name}
 use Rattle.r4_base.proofs.Numbers.{AreBytes}
-use Rattle.r4_cde.specs.Edits.{given_entry, used_with}
-use Rattle.r4_leaf.specs.Filling.{long_of}
-use Rattle.r4_leaf.proofs.EntryWritten.{form, given, goes_between, has_entry, used_is}
+use Rattle.r4_reach.specs.r4_cde.Edits.{given_entry, used_with}
+use Rattle.r4_reach.specs.r4_leaf.Filling.{long_of}
+use Rattle.r4_reach.proofs.r4_leaf.EntryWritten.{form, given, goes_between, has_entry, used_is}
 use Rattle.r4_leaf_edits.specs.Making.{IsUnit}
 use Rattle.r4_leaf_edits.proofs.Spelled.{empty_item, entry_unit_is, receives}
 use Rattle.r4_leaf_edits.proofs.values.item_of_entry.Goals as goal

@@ -8,7 +8,7 @@ use Rattle.r4_base.specs.declared.values.Name.{Name}
 use Rattle.r4_base.specs.declared.values.Value.{Value}
 use Rattle.r4_base.specs.declared.values.Value.TheVariants.{Byte, Entry}
 use Rattle.r4_base.proofs.Keys.{is_key}
-use Rattle.r4_leaf.specs.Remade.{filled_tail}
+use Rattle.r4_reach.specs.r4_leaf.Remade.{filled_tail}
 use Rattle.r4_leaf_edits.specs.Making.{IsUnit}
 use Rattle.r4_leaf_edits.specs.Suiting.{IsLawfulPut, is_byte}
 use Rattle.r4_leaf_edits.proofs.KeyRanks.{key_again}

@@ -1,6 +1,6 @@
 use Rattle.std.proofs.Common.{◌≡◌, map, ap, ◌∙◌, subst, sym}
 use Rattle.std.specs.Arc.{arc_value}
-use Rattle.r4_cell.specs.Seen.{CellSeen, node_of}
+use Rattle.r4_search.specs.r4_cell.Seen.{CellSeen, node_of}
 use Rattle.r4_marking.specs.Marks.{HearsLittle, asks_seen, most_for}
 use Rattle.r4_marking.proofs.Asked.{at_place, hears_little, noted_next}
 use Rattle.r4_marking.proofs.asking.asked_up.Goals as goal

@@ -1,6 +1,6 @@
 use Rattle.std.proofs.Common.{map, take}
 use Rattle.std.specs.Arc.{arc_value}
-use Rattle.r4_cell.specs.Patch.{by_name}
+use Rattle.r4_search.specs.r4_cell.Patch.{by_name}
 use Rattle.r4_marking.specs.Marks.{AreAsks, asks_seen}
 use Rattle.r4_marking.proofs.asking.asked_up.Given as goal
 

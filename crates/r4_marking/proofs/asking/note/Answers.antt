@@ -1,5 +1,5 @@
 use Rattle.std.proofs.Common.{◌≡◌, length, map, subst, sym, ◌∙◌, ap, arith, List}
-use Rattle.r4_cell.specs.Seen.{node_of}
+use Rattle.r4_search.specs.r4_cell.Seen.{node_of}
 use Rattle.r4_marking.specs.Marks.{AreSmall, asks_seen, heard_seen, most_for}
 use Rattle.r4_marking.specs.declared.demands.Heard.{Heard}
 use Rattle.r4_marking.proofs.Children.{heard_few, small_heard}

@@ -1,6 +1,6 @@
 use Rattle.std.proofs.Common.{◌≡◌, map, refl, ap, ◌∙◌, ◌∷◌, [], ◌++◌}
 use Rattle.std.specs.Arc.{arc_value}
-use Rattle.r4_cell.specs.Seen.{CellSeen}
+use Rattle.r4_search.specs.r4_cell.Seen.{CellSeen}
 use Rattle.r4_search.proofs.Walks.{map_push}
 use Rattle.r4_marking.specs.Marks.{asks_seen}
 use Rattle.r4_marking.proofs.Marked.{one_left, one_read, one_written}

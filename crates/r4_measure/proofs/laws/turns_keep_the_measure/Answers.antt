@@ -1,5 +1,5 @@
 use Rattle.r4_base.specs.Key.{rank}
-use Rattle.r4_edit.specs.Remaking.{after_edits}
+use Rattle.r4_work.specs.r4_edit.Remaking.{after_edits}
 use Rattle.r4_measure.proofs.Turn.{turn_kept}
 use Rattle.r4_measure.proofs.laws.turns_keep_the_measure.Goals as goal
 

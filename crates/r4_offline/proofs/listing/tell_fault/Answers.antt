@@ -1,7 +1,7 @@
 use Rattle.std.proofs.Common.{refl}
-use Rattle.r4_list.specs.declared.fault.ListFault.TheVariants.{Log, Image, Device, Size, Memory}
+use Rattle.r4_check_laws.specs.r4_list.declared.fault.ListFault.TheVariants.{Log, Image, Device, Size, Memory}
 use Rattle.r4_base.specs.Words.{log_word_of}
-use Rattle.r4_cell.specs.Words.{image_word_of}
+use Rattle.r4_mkfs.specs.r4_cell.Words.{image_word_of}
 use Rattle.r4_lines.proofs.Texts.{printed, printed_image}
 use Rattle.r4_offline.proofs.Listed.{tells_same}
 use Rattle.r4_offline.proofs.listing.tell_fault.Goals as goal

@@ -2,8 +2,8 @@ use Rattle.std.proofs.Common.{arith, sym, ap, ◌∙◌, length, subst, List, �
 use Rattle.r4_base.specs.Lending.{written}
 use Rattle.r4_base.specs.Node.{offset_at}
 use Rattle.r4_base.proofs.Choices.{went_well}
-use Rattle.r4_node40.proofs.LaidItems.{room_small}
-use Rattle.r4_node40.specs.Loan.{bytes_of}
+use Rattle.r4_leaf.proofs.r4_node40.LaidItems.{room_small}
+use Rattle.r4_leaf.specs.r4_node40.Loan.{bytes_of}
 use Rattle.r4_path.specs.Nodes.{IsAppended}
 use Rattle.r4_path.proofs.Appended.{appended, same_length}
 use Rattle.r4_path.proofs.appending.append.Goals as goal

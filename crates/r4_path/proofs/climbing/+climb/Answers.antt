@@ -2,7 +2,7 @@ use Rattle.std.proofs.Common.{◌≡◌, ◌∙◌, ◌+◌, ◌-◌, ap, sym, s
 use Rattle.std.proofs.lemmas.Result.{IfOk-weaker}
 use Rattle.std.specs.Prelude.{option_map, reverse, Some}
 use Rattle.std.specs.Arc.{arc_value}
-use Rattle.r4_cell.specs.Seen.{CellSeen}
+use Rattle.r4_patch.specs.r4_cell.Seen.{CellSeen}
 use Rattle.r4_path.specs.Levels.{CanClimb, Climbed, step_of}
 use Rattle.r4_path.specs.Nodes.{IsPointingTo}
 use Rattle.r4_path.specs.Steps.{Step}

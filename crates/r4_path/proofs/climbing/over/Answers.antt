@@ -1,7 +1,7 @@
 use Rattle.std.proofs.Common.{◌∙◌, ap, sym}
 use Rattle.std.specs.Arc.{arc_value}
 use Rattle.r4_base.specs.Node.{mkfs_id_of}
-use Rattle.r4_cell.specs.Seen.{CellSeen}
+use Rattle.r4_patch.specs.r4_cell.Seen.{CellSeen}
 use Rattle.r4_path.specs.Levels.{step_of}
 use Rattle.r4_path.proofs.Stepping.{over_row, over_step}
 use Rattle.r4_path.proofs.climbing.over.Goals as goal

@@ -2,7 +2,7 @@ use Rattle.std.proofs.Common.{◌-◌, sym, subst, arith, length, map, take}
 use Rattle.std.proofs.lemmas.Result.{IfOk-weaker}
 use Rattle.std.specs.Prelude.{reverse}
 use Rattle.std.specs.Arc.{arc_value}
-use Rattle.r4_cell.specs.Seen.{CellSeen}
+use Rattle.r4_patch.specs.r4_cell.Seen.{CellSeen}
 use Rattle.r4_path.specs.Grafts.{AreTwigsOf, GraftsUp, IsGraftedUp}
 use Rattle.r4_path.specs.Levels.{step_of}
 use Rattle.r4_path.proofs.Grafted.{graft_grafts, graft_starts, some_grafted}

@@ -3,7 +3,7 @@ use Rattle.std.proofs.lemmas.Result.{IfOk-weaker}
 use Rattle.std.specs.Arc.{arc_value}
 use Rattle.r4_base.specs.Key.{least, top}
 use Rattle.r4_base.proofs.FreshTree.{least_below}
-use Rattle.r4_cell.specs.Seen.{CellSeen}
+use Rattle.r4_patch.specs.r4_cell.Seen.{CellSeen}
 use Rattle.r4_path.specs.Steps.{Follow}
 use Rattle.r4_path.proofs.Grown.{grown_change, grown_meets, grows_of, points_at, root_keys}
 use Rattle.r4_path.proofs.growing.grow.Goals as goal

@@ -5,7 +5,7 @@ use Rattle.std.proofs.lemmas.Result.{IfOk-weaker}
 use Rattle.std.specs.Arc.{arc_value}
 use Rattle.r4_base.specs.Key.{least, rank, top}
 use Rattle.r4_base.specs.Node.{Item, KeysRise, mkfs_id_of}
-use Rattle.r4_cell.specs.Seen.{CellSeen}
+use Rattle.r4_patch.specs.r4_cell.Seen.{CellSeen}
 use Rattle.r4_path.specs.Nodes.{IsNodeOf, pointer_item}
 use Rattle.r4_path.proofs.CellNodes.{long_map, map_twice, root_is, root_sound}
 use Rattle.r4_path.proofs.PointerNodes.{pointers_rise}

@@ -2,9 +2,9 @@ use Rattle.std.proofs.Common.{◌∙◌, ◌+◌, ap, sym, subst, arith, length,
 use Rattle.std.specs.Arc.{arc_value}
 use Rattle.r4_base.specs.Bytes.{number_bytes}
 use Rattle.r4_base.specs.Node.{items_of}
-use Rattle.r4_node40.specs.Edits.{GoesBetween}
+use Rattle.r4_leaf.specs.r4_node40.Edits.{GoesBetween}
 use Rattle.r4_base.proofs.Numbers.{length-number_bytes}
-use Rattle.r4_node40.specs.Loan.{bytes_of, with_bytes}
+use Rattle.r4_leaf.specs.r4_node40.Loan.{bytes_of, with_bytes}
 use Rattle.r4_path.specs.Nodes.{IsAppended, pointer_item}
 use Rattle.r4_path.proofs.Filling.{above, counted, next, room, weight_take}
 use Rattle.r4_path.proofs.Pointers.{at_map, pointed, pointers_fit, pointers_weigh}

@@ -1,7 +1,7 @@
 use Rattle.std.proofs.Common.{◌≡◌, map, take}
 use Rattle.std.specs.Arc.{arc_value}
 use Rattle.r4_base.specs.Node.{mkfs_id_of}
-use Rattle.r4_node40.specs.Loan.{bytes_of, with_bytes}
+use Rattle.r4_leaf.specs.r4_node40.Loan.{bytes_of, with_bytes}
 use Rattle.r4_path.specs.Nodes.{IsNodeOf, pointer_item}
 use Rattle.r4_path.proofs.pointing.fill_pointers.Given as goal
 

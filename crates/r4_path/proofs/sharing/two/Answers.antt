@@ -2,7 +2,7 @@ use Rattle.std.proofs.Common.{◌≡◌, ◌∙◌, ap, sym, subst, refl, length
 use Rattle.std.proofs.lemmas.Result.{IfOk-weaker}
 use Rattle.std.specs.Arc.{arc_value}
 use Rattle.r4_base.specs.Node.{mkfs_id_of}
-use Rattle.r4_cell.specs.Seen.{CellSeen}
+use Rattle.r4_patch.specs.r4_cell.Seen.{CellSeen}
 use Rattle.r4_path.specs.Nodes.{IsNodeOf}
 use Rattle.r4_path.specs.Rows.{row_items, row_level, row_part}
 use Rattle.r4_path.specs.Sharing.{AreFilled, AreSome, HasItems}

@@ -4,8 +4,8 @@ use Rattle.r4_base.specs.Extents.{units_from, units_of}
 use Rattle.r4_base.specs.Key.{key_of_rank, least, rank}
 use Rattle.r4_base.specs.Name.{key_of_name, packed, r5_from}
 use Rattle.r4_base.specs.Node.{edge_at, item_at, items_from, items_of, key_at, offset_at, plugin_at}
-use Rattle.r4_branch.specs.Pieces.{bytes_behind}
-use Rattle.r4_leaf.specs.Units.{bytes_behind as leaf_bytes_behind, unit_bytes}
+use Rattle.r4_path.specs.r4_branch.Pieces.{bytes_behind}
+use Rattle.r4_path.specs.r4_leaf.Units.{bytes_behind as leaf_bytes_behind, unit_bytes}
 use Rattle.r4_reach.proofs.examples.leaf_examples.Goals as goal
 
 pub returns : goal.returns

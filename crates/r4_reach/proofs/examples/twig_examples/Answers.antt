@@ -4,7 +4,7 @@ use Rattle.r4_base.specs.Extents.{units_from, units_of}
 use Rattle.r4_base.specs.Key.{key_of_rank, least, rank}
 use Rattle.r4_base.specs.Name.{key_of_name, packed, r5_from}
 use Rattle.r4_base.specs.Node.{edge_at, item_at, items_from, items_of, key_at, offset_at, plugin_at}
-use Rattle.r4_branch.specs.Pieces.{bytes_behind}
+use Rattle.r4_path.specs.r4_branch.Pieces.{bytes_behind}
 use Rattle.r4_reach.proofs.examples.twig_examples.Goals as goal
 
 pub returns : goal.returns

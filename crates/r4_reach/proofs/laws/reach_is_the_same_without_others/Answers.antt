@@ -1,5 +1,5 @@
-use Rattle.r4_cell.specs.Patch.{place, root_after}
-use Rattle.r4_patch.proofs.PartCells.{tree_is_part}
+use Rattle.r4_path.specs.r4_cell.Patch.{place, root_after}
+use Rattle.r4_path.proofs.r4_patch.PartCells.{tree_is_part}
 use Rattle.r4_reach.proofs.Same.{reached_from, reached_to, root_from, root_to, written_from, written_to}
 use Rattle.r4_reach.proofs.Trees.{it, kept, same_root, tree_has}
 use Rattle.r4_reach.proofs.laws.reach_is_the_same_without_others.Goals as goal

@@ -2,8 +2,8 @@ use Rattle.std.proofs.Common.{map, rules, subst}
 use Rattle.std.specs.Arc.{arc_value}
 use Rattle.std.specs.List.Sorted.{IsPermutation}
 use Rattle.std.proofs.lemmas.List.Sorted.{IsNonDecreasingBy-from_sort_by, IsPermutation-map}
-use Rattle.r4_work.specs.Order.{place}
-use Rattle.r4_work.proofs.Halving.{order_shown}
+use Rattle.r4_spared.specs.r4_work.Order.{place}
+use Rattle.r4_spared.proofs.r4_work.Halving.{order_shown}
 use Rattle.r4_reaching.proofs.Gathered.{all_met}
 use Rattle.r4_reaching.proofs.gathering.in_order.Goals as goal
 

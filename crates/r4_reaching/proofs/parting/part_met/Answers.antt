@@ -3,7 +3,7 @@ use Rattle.std.specs.Arc.{arc_value}
 use Rattle.r4_cell.specs.Patch.{by_name, root_of_pair}
 use Rattle.std.specs.Prelude.{All}
 use Rattle.r4_judging.specs.Judging.{HangTogether, IsSound}
-use Rattle.r4_patch.specs.Part.{IsPart}
+use Rattle.r4_touching.specs.r4_patch.Part.{IsPart}
 use Rattle.r4_search.specs.Keeping.{keeping_state, met_in}
 use Rattle.r4_reaching.specs.Gathering.{AreAllMet}
 use Rattle.r4_reaching.proofs.Listed.{as_marked, hang_as_met, same_store}

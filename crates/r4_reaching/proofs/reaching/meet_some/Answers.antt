@@ -3,9 +3,9 @@ use Rattle.r4_base.specs.Key.{rank}
 use Rattle.r4_base.proofs.FreshTree.{least_below}
 use Rattle.r4_content.specs.Edited.{is_in}
 use Rattle.r4_content.specs.Held.{interval_of}
-use Rattle.r4_gather.proofs.Staying.{stays_same}
+use Rattle.r4_touching.proofs.r4_gather.Staying.{stays_same}
 use Rattle.r4_search.specs.Keeping.{keeping_state}
-use Rattle.r4_seeing.proofs.Staying.{goes_stay}
+use Rattle.r4_touching.proofs.r4_seeing.Staying.{goes_stay}
 use Rattle.r4_reaching.proofs.Some.{held_some, is_first, one_kept}
 use Rattle.r4_reaching.proofs.reaching.meet_some.Goals as goal
 

@@ -5,8 +5,8 @@ use Rattle.r4_bodies.specs.Told.{intervals_of}
 use Rattle.r4_content.specs.Edited.{changed, is_in}
 use Rattle.r4_content.specs.Held.{edits_of, interval_of}
 use Rattle.r4_content.specs.declared.edits.Interval.{Interval}
-use Rattle.r4_gather.proofs.Staying.{stays_same}
-use Rattle.r4_gather.specs.Finding.{asked_keys}
+use Rattle.r4_touching.proofs.r4_gather.Staying.{stays_same}
+use Rattle.r4_touching.specs.r4_gather.Finding.{asked_keys}
 use Rattle.r4_search.specs.Keeping.{keeping_state}
 use Rattle.r4_touching.specs.Touching.{AreHeld}
 use Rattle.r4_reaching.specs.Answers.{IsReach, StopsWriting, TouchesExtent}

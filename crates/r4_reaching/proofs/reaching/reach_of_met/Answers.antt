@@ -8,10 +8,10 @@ use Rattle.r4_content.specs.Edited.{Intervals, is_in}
 use Rattle.r4_content.specs.Held.{edits_of, interval_of}
 use Rattle.r4_content.specs.declared.edits.Edits.{Edits as HeldEdits}
 use Rattle.r4_content.specs.declared.edits.Interval.{Interval}
-use Rattle.r4_gather.specs.Finding.{asked_keys}
-use Rattle.r4_leaf_demands.specs.Leaves.{leaf_demand}
-use Rattle.r4_marking.specs.Marks.{AreMarksOf}
-use Rattle.r4_reach.specs.Leaves.{more_in}
+use Rattle.r4_touching.specs.r4_gather.Finding.{asked_keys}
+use Rattle.r4_bodies.specs.r4_leaf_demands.Leaves.{leaf_demand}
+use Rattle.r4_judging.specs.r4_marking.Marks.{AreMarksOf}
+use Rattle.r4_touching.specs.r4_reach.Leaves.{more_in}
 use Rattle.r4_search.specs.Keeping.{keeping_state}
 use Rattle.r4_reaching.proofs.Answering.{is_reach}
 use Rattle.r4_reaching.proofs.reaching.reach_of_met.Goals as goal

@@ -6,8 +6,8 @@ use Rattle.r4_content.specs.declared.seen.SeenPart.{SeenPart}
 use Rattle.r4_reaching.specs.Answers.{HaveObjectNumbers, SeesLowObject}
 use Rattle.r4_reaching.proofs.Numbers.{good_numbers, low_object, stops_at_object}
 use Rattle.r4_reaching.proofs.Touched.{seen_in}
-use Rattle.r4_gather.proofs.Staying.{stays_same}
-use Rattle.r4_gather.specs.Finding.{asked_keys}
+use Rattle.r4_touching.proofs.r4_gather.Staying.{stays_same}
+use Rattle.r4_touching.specs.r4_gather.Finding.{asked_keys}
 use Rattle.r4_search.specs.Keeping.{keeping_state}
 use Rattle.r4_reaching.proofs.Planned.{holds, holds_not, is_planned, spreads, suits}
 use Rattle.r4_reaching.proofs.reaching.reach_of_seen.Goals as goal

@@ -1,7 +1,7 @@
 use Rattle.std.proofs.Common.{refl}
 use Rattle.r4_base.specs.Words.{layout_word_of, log_word_of}
 use Rattle.r4_lines.proofs.Texts.{printed, printed_image}
-use Rattle.r4_start.specs.declared.fault.OpenWhy.TheVariants.{Device, Image, Log, Memory, Size}
+use Rattle.r4_shared.specs.r4_start.declared.fault.OpenWhy.TheVariants.{Device, Image, Log, Memory, Size}
 use Rattle.r4_run.proofs.Told.{why_same}
 use Rattle.r4_run.proofs.ending.tell_why.Goals as goal
 

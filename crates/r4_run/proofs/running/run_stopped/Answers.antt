@@ -1,6 +1,6 @@
 use Rattle.std.proofs.Common.{◌≡◌, ◌∙◌, inr, subst, sym}
 use Rattle.r4_devices.specs.Stop.{stopped_after}
-use Rattle.r4_history.specs.Tables.{asked}
+use Rattle.r4_shared.specs.r4_history.Tables.{asked}
 use Rattle.r4_words.specs.Options.{asked_stop}
 use Rattle.r4_run.specs.Stopping.{RanStopped}
 use Rattle.r4_run.proofs.Stopped.{stopped_view}

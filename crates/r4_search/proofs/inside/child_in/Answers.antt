@@ -4,7 +4,7 @@ use Rattle.r4_base.specs.Cell.{next_key}
 use Rattle.r4_base.specs.Key.{rank}
 use Rattle.r4_base.specs.Node.{Item, items_of}
 use Rattle.r4_base.specs.declared.key.Key.{Key}
-use Rattle.r4_node40.specs.View.{view_items}
+use Rattle.r4_cell.specs.r4_node40.View.{view_items}
 use Rattle.r4_search.specs.Path.{LeadsTo}
 use Rattle.r4_search.proofs.Places.{branch, leads, ends_at, named, place_key}
 use Rattle.r4_search.proofs.inside.child_in.Goals as goal

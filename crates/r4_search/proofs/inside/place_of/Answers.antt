@@ -2,8 +2,8 @@ use Rattle.std.proofs.Common.{arith, sym, subst, ◌∙◌, ℕ, ◌+◌, ◌-�
 use Rattle.std.proofs.lemmas.Bool.{ltb-true, ltb-false}
 use Rattle.r4_base.specs.Cell.{next_key}
 use Rattle.r4_base.specs.Key.{rank}
-use Rattle.r4_node40.specs.View.{view_items}
-use Rattle.r4_node40.proofs.Following.{next_is}
+use Rattle.r4_cell.specs.r4_node40.View.{view_items}
+use Rattle.r4_cell.proofs.r4_node40.Following.{next_is}
 use Rattle.r4_search.proofs.Places.{item_in}
 use Rattle.r4_search.proofs.inside.place_of.Goals as goal
 

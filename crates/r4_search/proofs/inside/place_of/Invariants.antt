@@ -1,7 +1,7 @@
 use Rattle.std.proofs.Common.{◌<◌, ◌≤◌, length, drop, ◌-◌}
 use Rattle.r4_base.specs.Cell.{next_key}
 use Rattle.r4_base.specs.Key.{rank}
-use Rattle.r4_node40.specs.View.{view_items}
+use Rattle.r4_cell.specs.r4_node40.View.{view_items}
 use Rattle.r4_search.proofs.inside.place_of.Given as goal
 
 abbrev pub invariant-loop-high : goal.invariant-loop-high

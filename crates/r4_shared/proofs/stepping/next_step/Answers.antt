@@ -1,5 +1,5 @@
 use Rattle.std.proofs.Common.{subst}
-use Rattle.r4_next.specs.Taking.{Takes}
+use Rattle.r4_apply.specs.r4_next.Taking.{Takes}
 use Rattle.r4_shared.proofs.Steps.{flush_asked, left_in_extents, next_flush, next_in_extents}
 use Rattle.r4_shared.proofs.stepping.next_step.Goals as goal
 

@@ -3,9 +3,9 @@ use Rattle.std.specs.Arc.{arc_value}
 use Rattle.std.specs.Prelude.{None, Some, ◌==◌, if◌then◌else◌}
 use Rattle.r4_base.specs.Cell.{bytes_from}
 use Rattle.r4_base.specs.Key.{rank}
-use Rattle.r4_cell.specs.Seen.{CellSeen}
+use Rattle.r4_units.specs.r4_cell.Seen.{CellSeen}
 use Rattle.r4_content.specs.Seen.{pairs_in}
-use Rattle.r4_search.proofs.Walks.{handed}
+use Rattle.r4_units.proofs.r4_search.Walks.{handed}
 use Rattle.r4_sight.proofs.Bodies.{end_at, end_of, lesser_above}
 use Rattle.r4_sight.proofs.Fetching.{block_named, block_stretch, has_key, meets_block, refused_at}
 use Rattle.r4_sight.proofs.Stretching.{hole_far, hole_stretch}

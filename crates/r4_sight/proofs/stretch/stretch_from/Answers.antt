@@ -1,9 +1,9 @@
 use Rattle.std.proofs.Common.{sym, subst}
 use Rattle.std.specs.Arc.{arc_value}
 use Rattle.r4_base.specs.Key.{rank}
-use Rattle.r4_cell.specs.Seen.{CellSeen}
-use Rattle.r4_search.proofs.Walks.{goes_both, handed, map_push}
-use Rattle.r4_search.specs.Pool.{IsOf}
+use Rattle.r4_units.specs.r4_cell.Seen.{CellSeen}
+use Rattle.r4_units.proofs.r4_search.Walks.{goes_both, handed, map_push}
+use Rattle.r4_units.specs.r4_search.Pool.{IsOf}
 use Rattle.r4_sight.specs.Stretches.{IsWaysEnd}
 use Rattle.r4_sight.proofs.Fetching.{end_of_pool, err_before, looks_only, ok_before, way_stops, ways_end}
 use Rattle.r4_sight.proofs.stretch.stretch_from.Goals as goal

@@ -6,9 +6,9 @@ use Rattle.r4_base.specs.Key.{rank, top}
 use Rattle.r4_base.specs.Node.{Item, items_of}
 use Rattle.r4_base.specs.declared.key.Key.{Key}
 use Rattle.r4_base.proofs.Keys.{is_key}
-use Rattle.r4_cell.proofs.Faults.{body_short}
+use Rattle.r4_units.proofs.r4_cell.Faults.{body_short}
 use Rattle.r4_node40.specs.View.{item_shown, view_items}
-use Rattle.r4_search.proofs.Places.{branch, place_key}
+use Rattle.r4_units.proofs.r4_search.Places.{branch, place_key}
 use Rattle.r4_units.proofs.ItemUnits.{item_is_key}
 use Rattle.r4_units.proofs.Leaves.{body_of, extent_good}
 use Rattle.r4_sight.proofs.Bodies.{above_leaf, end_of, lesser_above, up_to_top}

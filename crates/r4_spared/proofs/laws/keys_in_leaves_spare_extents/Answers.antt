@@ -1,4 +1,4 @@
-use Rattle.r4_reach.specs.Touched.{body_on, edits_on}
+use Rattle.r4_build.specs.r4_reach.Touched.{body_on, edits_on}
 use Rattle.r4_spared.proofs.Spared.{all_spared, asked_in_leaves}
 use Rattle.r4_spared.proofs.laws.keys_in_leaves_spare_extents.Goals as goal
 

@@ -2,7 +2,7 @@ use Rattle.std.proofs.Common.{◌≤◌, List, ap, length, subst, ◌∙◌}
 use Rattle.std.specs.Prelude.{count_by, sum_by}
 use Rattle.std.proofs.lemmas.List.{take_all}
 use Rattle.r4_script.specs.declared.job.Script.{Script}
-use Rattle.r4_kept.specs.History.{is_commit}
+use Rattle.r4_rooms.specs.r4_kept.History.{is_commit}
 use Rattle.r4_start.proofs.FirstOwed.{first_owed}
 use Rattle.r4_start.proofs.starting.all_commits.Goals as goal
 

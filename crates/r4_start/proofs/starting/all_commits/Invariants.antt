@@ -1,7 +1,7 @@
 use Rattle.std.proofs.Common.{◌≡◌, take}
 use Rattle.std.specs.Prelude.{count_by, sum_by}
 use Rattle.r4_script.specs.declared.job.Script.{Script}
-use Rattle.r4_kept.specs.History.{is_commit}
+use Rattle.r4_rooms.specs.r4_kept.History.{is_commit}
 use Rattle.r4_start.proofs.starting.all_commits.Given as goal
 
 abbrev pub invariant-loop-script : goal.invariant-loop-script

@@ -2,7 +2,7 @@ use Rattle.std.proofs.Common.{rules, tests, ◌∙◌}
 use Rattle.std.proofs.lemmas.Iterator.{YieldsList-from_slice}
 use Rattle.std.proofs.lemmas.Iterator.Consumers.{YieldsList-from_filter, count_from_yields_List}
 use Rattle.std.proofs.lemmas.List.Sums.{length-filter}
-use Rattle.r4_kept.specs.History.{is_commit}
+use Rattle.r4_rooms.specs.r4_kept.History.{is_commit}
 use Rattle.r4_start.proofs.starting.commits.Goals as goal
 
 pub returns : goal.returns

@@ -1,19 +1,19 @@
 use Rattle.std.proofs.Common.{refl, ◌∙◌, ap, subst, sym}
 use Rattle.std.specs.Prelude.{IfSome}
 use Rattle.r4_atoms.specs.Atoms.{IsBegun}
-use Rattle.r4_core.specs.FusingAll.{CanFuseAll}
-use Rattle.r4_core.specs.Handing.{CanHandOut, as_task}
-use Rattle.r4_history.specs.Held.{AreOwners}
-use Rattle.r4_others.specs.Others.{pairs_of}
+use Rattle.r4_seal.specs.r4_core.FusingAll.{CanFuseAll}
+use Rattle.r4_seal.specs.r4_core.Handing.{CanHandOut, as_task}
+use Rattle.r4_seal.specs.r4_history.Held.{AreOwners}
+use Rattle.r4_seal.specs.r4_others.Others.{pairs_of}
 use Rattle.r4_take.specs.Sending.{HasRoomier, IsGathered, own_in}
 use Rattle.r4_take.proofs.Own.{begun_if, has_txn}
 use Rattle.r4_take.proofs.Roomy.{roomier_same}
 use Rattle.r4_take.proofs.Sent.{is_sent, on_any}
 use Rattle.r4_take.proofs.Buildable.{can_be_built, is_out_then, next_still}
 use Rattle.r4_take.proofs.SentOut.{can_fuse, can_hand_out, dev_is, next_is, turns_are}
-use Rattle.r4_buffer.specs.Seen.{cells_of}
+use Rattle.r4_seal.specs.r4_buffer.Seen.{cells_of}
 use Rattle.r4_content.specs.Meaning.{with_id}
-use Rattle.r4_core.specs.declared.handing.Given.{Given}
+use Rattle.r4_seal.specs.r4_core.declared.handing.Given.{Given}
 use Rattle.r4_turns.specs.declared.out.Numbers.{Numbers}
 use Rattle.r4_turns.specs.Turns.{IsScript, answered_at, turn_at}
 use Rattle.r4_take.proofs.sending.send.Goals as goal

@@ -1,6 +1,6 @@
 use Rattle.std.proofs.Common.{map, ◌∷◌, [], ap}
 use Rattle.std.proofs.lemmas.Result.{on_ok_weaker}
-use Rattle.r4_gather.specs.Finding.{asked_keys}
+use Rattle.r4_seeing.specs.r4_gather.Finding.{asked_keys}
 use Rattle.r4_touching.proofs.Adding.{adds_both, adds_none, adds_one, nothing_of}
 use Rattle.r4_touching.proofs.changed.+add_asked.Goals as goal
 

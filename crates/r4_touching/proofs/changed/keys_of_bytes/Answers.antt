@@ -5,7 +5,7 @@ use Rattle.r4_base.specs.Key.{rank}
 use Rattle.r4_base.proofs.Keys.{is_key}
 use Rattle.r4_content.specs.Edited.{is_between}
 use Rattle.r4_content.proofs.BytePairs.{keys_in}
-use Rattle.r4_graft.proofs.Halves.{later_rank}
+use Rattle.r4_leaf_edits.proofs.r4_graft.Halves.{later_rank}
 use Rattle.r4_leaf_edits.proofs.Added.{run_short}
 use Rattle.r4_touching.proofs.changed.keys_of_bytes.Goals as goal
 

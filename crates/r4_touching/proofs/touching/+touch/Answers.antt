@@ -2,7 +2,7 @@ use Rattle.std.proofs.Common.{◌≡◌, ◌⊎◌, map, subst}
 use Rattle.r4_base.specs.Key.{rank}
 use Rattle.r4_content.specs.Edited.{is_between, is_in}
 use Rattle.r4_content.specs.Held.{interval_of}
-use Rattle.r4_search.proofs.Walks.{goes_same, handed}
+use Rattle.r4_seeing.proofs.r4_search.Walks.{goes_same, handed}
 use Rattle.r4_touching.specs.Touching.{StopsFor}
 use Rattle.r4_touching.proofs.Touched.{first_all, held_first, held_rest, in_first_or_rest, rest_all, stops_wider}
 use Rattle.r4_touching.proofs.Touched.{touches_both, touches_wider}

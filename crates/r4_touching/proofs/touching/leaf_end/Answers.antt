@@ -3,9 +3,9 @@ use Rattle.std.specs.Arc.{arc_value}
 use Rattle.r4_base.specs.Key.{rank}
 use Rattle.r4_cell.specs.Seen.{CellSeen}
 use Rattle.r4_content.specs.Edited.{is_between}
-use Rattle.r4_search.proofs.Walks.{handed, map_push}
-use Rattle.r4_sight.specs.Stretches.{IsWaysEnd}
-use Rattle.r4_sight.proofs.Fetching.{way_stops, ways_end}
+use Rattle.r4_seeing.proofs.r4_search.Walks.{handed, map_push}
+use Rattle.r4_seeing.specs.r4_sight.Stretches.{IsWaysEnd}
+use Rattle.r4_seeing.proofs.r4_sight.Fetching.{way_stops, ways_end}
 use Rattle.r4_touching.specs.Touching.{StopsFor}
 use Rattle.r4_touching.proofs.Touched.{ends_of, stops_one, touches_one}
 use Rattle.r4_touching.proofs.touching.leaf_end.Goals as goal

@@ -3,7 +3,7 @@ use Rattle.std.specs.Option.{option_map}
 use Rattle.std.proofs.lemmas.Bool.Decides.{nat_tests}
 use Rattle.r4_base.specs.Key.{rank}
 use Rattle.r4_content.specs.Edited.{is_between}
-use Rattle.r4_search.proofs.Walks.{handed, leaves_both}
+use Rattle.r4_seeing.proofs.r4_search.Walks.{handed, leaves_both}
 use Rattle.r4_touching.specs.Touching.{EndsLeaf, StopsFor}
 use Rattle.r4_touching.proofs.Touched.{so_far_on, stops_wider, touches_both, touches_none, touches_wider, within}
 use Rattle.r4_touching.proofs.touching.touch_keys.Goals as goal

@@ -1,5 +1,5 @@
 use Rattle.std.proofs.Common.{◌+◌, arith}
-use Rattle.r4_measure.specs.Budget.{most_from}
+use Rattle.r4_twig_work.specs.r4_measure.Budget.{most_from}
 use Rattle.r4_twig_turns.proofs.TurnByTurn.{all_turns, few_stand}
 use Rattle.r4_twig_turns.specs.Turning.{come_at_most}
 use Rattle.r4_work.specs.Working.{root_of, standing}

@@ -5,7 +5,7 @@ use Rattle.r4_base.specs.Dir.{Entry, entries_of}
 use Rattle.r4_base.specs.Key.{rank}
 use Rattle.r4_base.specs.Value.{Entry as NamedEntry}
 use Rattle.r4_cde.specs.Shown.{entry_shown}
-use Rattle.r4_cell.specs.Seen.{node_of}
+use Rattle.r4_search.specs.r4_cell.Seen.{node_of}
 use Rattle.r4_units.specs.Leaf.{AreUpTo}
 use Rattle.r4_units.proofs.ItemUnits.{item_is_key}
 use Rattle.r4_units.proofs.LeafUnits.{entries_same, entry_found, found_key, if_none, no_entry, no_other_entry, not_found, same_item}

@@ -1,7 +1,7 @@
 use Rattle.std.proofs.Common.{◌≡◌, subst, [], ◌∷◌}
 use Rattle.std.specs.Prelude.{Some}
 use Rattle.r4_base.specs.Key.{rank}
-use Rattle.r4_reach.specs.Touched.{Body, kind_reads}
+use Rattle.r4_leaf_demands.specs.r4_reach.Touched.{Body, kind_reads}
 use Rattle.r4_bodies.proofs.BodyKeys.{last_read}
 use Rattle.r4_bodies.proofs.body_change.BodyChange.kind_read.Goals as goal
 

@@ -1,6 +1,6 @@
 use Rattle.std.proofs.Common.{◌∙◌, ap, get_or, sym}
 use Rattle.std.specs.Arc.{arc_value}
-use Rattle.r4_cell.specs.Seen.{CellSeen}
+use Rattle.r4_search.specs.r4_cell.Seen.{CellSeen}
 use Rattle.r4_buffer.specs.Changed.{taken}
 use Rattle.r4_search.specs.Keeping.{Shared}
 use Rattle.r4_buffer.specs.Seen.{buffered}

@@ -1,8 +1,8 @@
 use Rattle.std.proofs.Common.{sym, ◌∙◌, subst}
-use Rattle.r4_kept.specs.Steps.{TakesStep}
-use Rattle.r4_kept.specs.View.{CoreSeen}
-use Rattle.r4_kept.specs.declared.parts.Step.TheVariants.{Committed}
-use Rattle.r4_kept.proofs.Resting.{deferred_is_marked}
+use Rattle.r4_ready.specs.r4_kept.Steps.{TakesStep}
+use Rattle.r4_ready.specs.r4_kept.View.{CoreSeen}
+use Rattle.r4_ready.specs.r4_kept.declared.parts.Step.TheVariants.{Committed}
+use Rattle.r4_ready.proofs.r4_kept.Resting.{deferred_is_marked}
 use Rattle.r4_core.proofs.Stepped.{at_nothing, at_plan, ended, never_idle, stepped}
 use Rattle.r4_core.proofs.core_state.Core.commit_step.Goals as goal
 

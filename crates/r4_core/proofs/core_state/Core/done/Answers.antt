@@ -2,7 +2,7 @@ use Rattle.std.proofs.Common.{List, arith, ap, ◌∙◌}
 use Rattle.r4_base.specs.declared.things.NodeId.{NodeId}
 use Rattle.r4_buffer.specs.Changed.{in_turn, unused}
 use Rattle.r4_buffer.specs.Seen.{buffered}
-use Rattle.r4_history.specs.Tables.{inside}
+use Rattle.r4_others.specs.r4_history.Tables.{inside}
 use Rattle.r4_core.proofs.DoneBy.{doable_as, is_done_as, keeps_done_by, may_answer, may_put, may_tell}
 use Rattle.r4_core.proofs.core_state.Core.done.Goals as goal
 

@@ -2,7 +2,7 @@ use Rattle.std.proofs.Common.{List, arith, ap, ◌∙◌}
 use Rattle.r4_base.specs.declared.things.NodeId.{NodeId}
 use Rattle.r4_buffer.specs.Changed.{in_turn, unused}
 use Rattle.r4_buffer.specs.Seen.{buffered}
-use Rattle.r4_history.specs.Tables.{single}
+use Rattle.r4_others.specs.r4_history.Tables.{single}
 use Rattle.r4_trace.specs.Kept.{Told}
 use Rattle.r4_core.proofs.DoneBy.{doable_as, is_single_as, keeps_single_by, may_answer, may_close, may_put, may_tell}
 use Rattle.r4_core.proofs.core_state.Core.done_single.Goals as goal

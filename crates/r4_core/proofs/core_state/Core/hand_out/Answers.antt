@@ -2,7 +2,7 @@ use Rattle.std.proofs.Common.{◌∙◌, ap, arith}
 use Rattle.r4_buffer.specs.Seen.{cells_of}
 use Rattle.r4_core.specs.Handing.{as_task}
 use Rattle.r4_core.proofs.HandedOut.{as_many, has_gone_out, holds_new}
-use Rattle.r4_history.proofs.Places.{next_there}
+use Rattle.r4_others.proofs.r4_history.Places.{next_there}
 use Rattle.r4_ready.proofs.r4_taking.GivenOut.{keeps_given_by}
 use Rattle.r4_turns.specs.Turns.{gone_out}
 use Rattle.r4_turns.specs.declared.out.Out.{Out}

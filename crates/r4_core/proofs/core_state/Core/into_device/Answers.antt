@@ -2,10 +2,10 @@ use Rattle.std.proofs.Common.{None}
 use Rattle.std.specs.Option.{option_map}
 use Rattle.r4_content.specs.Locality.{commands}
 use Rattle.r4_content.specs.Meaning.{greatest_size}
-use Rattle.r4_durable.specs.Meaning.{start_of}
-use Rattle.r4_durable.proofs.Meant.{safe_trace}
-use Rattle.r4_history.proofs.RunSteps.{told_legal}
-use Rattle.r4_kept.proofs.Resting.{has_content}
+use Rattle.r4_ready.specs.r4_durable.Meaning.{start_of}
+use Rattle.r4_ready.proofs.r4_durable.Meant.{safe_trace}
+use Rattle.r4_others.proofs.r4_history.RunSteps.{told_legal}
+use Rattle.r4_ready.proofs.r4_kept.Resting.{has_content}
 use Rattle.r4_core.proofs.core_state.Core.into_device.Goals as goal
 
 pub returns-clause-legal : goal.returns-clause-legal

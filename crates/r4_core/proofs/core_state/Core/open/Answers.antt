@@ -1,8 +1,8 @@
 use Rattle.std.proofs.Common.{[], subst}
 use Rattle.r4_content.specs.Meaning.{greatest_size}
-use Rattle.r4_durable.proofs.Meant.{safe_trace}
+use Rattle.r4_ready.proofs.r4_durable.Meant.{safe_trace}
 use Rattle.r4_space.specs.Lawful.{IsLawful}
-use Rattle.r4_kept.specs.Naming.{Naming, names_in}
+use Rattle.r4_ready.specs.r4_kept.Naming.{Naming, names_in}
 use Rattle.r4_core.proofs.AtStart.{keeps_start, safe_begun}
 use Rattle.r4_core.proofs.core_state.Core.open.Goals as goal
 

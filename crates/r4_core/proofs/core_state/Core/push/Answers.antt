@@ -1,7 +1,7 @@
 use Rattle.std.proofs.Common.{sym, subst}
 use Rattle.r4_trace.specs.Job.{HasNoBegin}
 use Rattle.r4_turns.specs.Turns.{IsScript, commands_at}
-use Rattle.r4_kept.specs.View.{CoreSeen}
+use Rattle.r4_ready.specs.r4_kept.View.{CoreSeen}
 use Rattle.r4_core.proofs.Pushed.{keeps_pushed}
 use Rattle.r4_core.proofs.core_state.Core.push.Goals as goal
 

@@ -2,7 +2,7 @@ use Rattle.std.proofs.Common.{ap, ◌∙◌}
 use Rattle.r4_turns.specs.Turns.{TurnsSeen, answered_at, left}
 use Rattle.r4_trace.specs.Kept.{Told}
 use Rattle.r4_trace.specs.declared.entry.Entry.TheVariants.{Ended}
-use Rattle.r4_kept.specs.Steps.{with_entry}
+use Rattle.r4_ready.specs.r4_kept.Steps.{with_entry}
 use Rattle.r4_ready.proofs.r4_taking.RefusedSingle.{keeps_single_by, may_close}
 use Rattle.r4_core.proofs.Replied.{now_answered}
 use Rattle.r4_core.proofs.core_state.Core.refuse_single.Goals as goal

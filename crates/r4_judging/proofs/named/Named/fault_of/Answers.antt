@@ -3,10 +3,10 @@ use Rattle.std.specs.Prelude.{Contains}
 use Rattle.r4_base.specs.Key.{rank}
 use Rattle.r4_base.specs.Tree.{Name}
 use Rattle.r4_base.proofs.FreshTree.{only}
-use Rattle.r4_graft.proofs.Halves.{later_rank}
+use Rattle.r4_marking.proofs.r4_graft.Halves.{later_rank}
 use Rattle.r4_search.specs.Place.{child_name}
 use Rattle.r4_search.specs.Pool.{place_fault}
-use Rattle.r4_units.specs.Extent.{block_name}
+use Rattle.r4_sight.specs.r4_units.Extent.{block_name}
 use Rattle.r4_judging.specs.Judging.{FitKeys, names_meant, number_count, number_from}
 use Rattle.r4_judging.proofs.Runs.{run_block}
 use Rattle.r4_judging.specs.declared.named.Named.{Named}

@@ -3,7 +3,7 @@ use Rattle.std.proofs.lemmas.Option.{same_Some}
 use Rattle.r4_base.specs.Key.{rank}
 use Rattle.r4_base.proofs.FreshTree.{only}
 use Rattle.r4_cell.specs.Seen.{CellSeen}
-use Rattle.r4_patch.proofs.Members.{here}
+use Rattle.r4_marking.proofs.r4_patch.Members.{here}
 use Rattle.r4_search.specs.Pool.{place_fault}
 use Rattle.r4_judging.specs.Judging.{turn}
 use Rattle.r4_judging.proofs.Runs.{meant_has}

@@ -3,8 +3,8 @@ use Rattle.r4_base.specs.Key.{rank}
 use Rattle.r4_cell.specs.Seen.{node_of}
 use Rattle.r4_content.specs.Edited.{changed}
 use Rattle.r4_content.specs.Held.{edits_of, interval_of}
-use Rattle.r4_reach.specs.Needs.{is_met}
-use Rattle.r4_reach.specs.Reach.{IsWrittenAt}
+use Rattle.r4_marking.specs.r4_reach.Needs.{is_met}
+use Rattle.r4_marking.specs.r4_reach.Reach.{IsWrittenAt}
 use Rattle.r4_leaf_demands.specs.Leaves.{DemandsSeen, leaf_demand}
 use Rattle.r4_leaf_demands.proofs.AtCells.{written_high, written_low}
 use Rattle.r4_leaf_demands.proofs.Meets.{met_iff}

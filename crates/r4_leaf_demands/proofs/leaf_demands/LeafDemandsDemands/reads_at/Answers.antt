@@ -2,9 +2,9 @@ use Rattle.std.proofs.Common.{◌≡◌, ◌↔◌, true, arith, map, sym, subst
 use Rattle.r4_base.specs.Key.{rank}
 use Rattle.r4_cell.specs.Seen.{node_of}
 use Rattle.r4_content.specs.Held.{edits_of, interval_of}
-use Rattle.r4_leaf_edits.proofs.Touched.{intervals_met}
-use Rattle.r4_reach.specs.Needs.{is_met}
-use Rattle.r4_reach.specs.Reach.{IsReadAt}
+use Rattle.r4_suited.proofs.r4_leaf_edits.Touched.{intervals_met}
+use Rattle.r4_marking.specs.r4_reach.Needs.{is_met}
+use Rattle.r4_marking.specs.r4_reach.Reach.{IsReadAt}
 use Rattle.r4_leaf_demands.specs.Leaves.{DemandsSeen, leaf_demand}
 use Rattle.r4_leaf_demands.proofs.AtCells.{read_high, read_low}
 use Rattle.r4_leaf_demands.proofs.Meets.{met_iff}

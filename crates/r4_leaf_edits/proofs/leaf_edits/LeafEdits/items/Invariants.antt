@@ -1,5 +1,5 @@
 use Rattle.std.proofs.Common.{◌≡◌, map, take}
-use Rattle.r4_leaf.specs.Remade.{item_of}
+use Rattle.r4_reach.specs.r4_leaf.Remade.{item_of}
 use Rattle.r4_leaf_edits.specs.Made.{made_item}
 use Rattle.r4_leaf_edits.proofs.leaf_edits.LeafEdits.items.Given as goal
 

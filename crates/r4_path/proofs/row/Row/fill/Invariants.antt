@@ -1,6 +1,6 @@
 use Rattle.std.proofs.Common.{◌≡◌}
 use Rattle.r4_base.specs.Node.{mkfs_id_of}
-use Rattle.r4_node40.specs.Loan.{bytes_of, with_bytes}
+use Rattle.r4_leaf.specs.r4_node40.Loan.{bytes_of, with_bytes}
 use Rattle.r4_path.specs.Nodes.{IsNodeOf}
 use Rattle.r4_path.specs.Rows.{row_level, row_part}
 use Rattle.r4_path.proofs.row.Row.fill.Given as goal

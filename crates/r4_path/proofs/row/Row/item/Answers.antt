@@ -2,7 +2,7 @@ use Rattle.std.proofs.Common.{◌∙◌, ◌-◌, ap, refl, arith, length}
 use Rattle.std.specs.Prelude.{option_map, slice_get}
 use Rattle.std.specs.Arc.{arc_value}
 use Rattle.std.proofs.lemmas.Option.{slice_get-map, slice_get_read}
-use Rattle.r4_node40.specs.View.{view_items}
+use Rattle.r4_leaf.specs.r4_node40.View.{view_items}
 use Rattle.r4_path.specs.Nodes.{pointer_item}
 use Rattle.r4_path.specs.Rows.{row_more}
 use Rattle.r4_path.proofs.CellNodes.{long_map}

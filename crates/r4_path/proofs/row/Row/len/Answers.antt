@@ -1,6 +1,6 @@
 use Rattle.std.proofs.Common.{arith}
 use Rattle.std.specs.Arc.{arc_value}
-use Rattle.r4_node40.specs.View.{view_items}
+use Rattle.r4_leaf.specs.r4_node40.View.{view_items}
 use Rattle.r4_path.specs.Rows.{row_more}
 use Rattle.r4_path.proofs.CellNodes.{long_map}
 use Rattle.r4_path.proofs.RowPlaces.{row_length}

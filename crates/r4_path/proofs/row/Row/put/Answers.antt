@@ -3,9 +3,9 @@ use Rattle.r4_base.specs.Bytes.{number_bytes}
 use Rattle.r4_base.specs.Node.{items_of}
 use Rattle.r4_base.proofs.Numbers.{length-number_bytes}
 use Rattle.std.specs.Arc.{arc_value}
-use Rattle.r4_node40.specs.Edits.{GoesBetween}
-use Rattle.r4_node40.specs.Loan.{bytes_of}
-use Rattle.r4_node40.specs.View.{item_shown}
+use Rattle.r4_leaf.specs.r4_node40.Edits.{GoesBetween}
+use Rattle.r4_leaf.specs.r4_node40.Loan.{bytes_of}
+use Rattle.r4_leaf.specs.r4_node40.View.{item_shown}
 use Rattle.r4_path.specs.Nodes.{IsAppended, pointer_item}
 use Rattle.r4_path.specs.Rows.{row_items, row_level}
 use Rattle.r4_path.proofs.Pointers.{pointed}

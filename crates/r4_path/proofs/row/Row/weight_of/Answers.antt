@@ -2,7 +2,7 @@ use Rattle.std.proofs.Common.{◌≡◌, sym, subst, arith}
 use Rattle.std.specs.Prelude.{IfSome}
 use Rattle.std.specs.Arc.{arc_value}
 use Rattle.r4_base.proofs.Numbers.{length-number_bytes}
-use Rattle.r4_node40.specs.View.{item_shown}
+use Rattle.r4_leaf.specs.r4_node40.View.{item_shown}
 use Rattle.r4_path.specs.Nodes.{pointer_item, weight_of}
 use Rattle.r4_path.proofs.row.Row.weight_of.Goals as goal
 

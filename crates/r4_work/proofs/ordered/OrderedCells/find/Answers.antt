@@ -2,7 +2,7 @@ use Rattle.std.proofs.Common.{◌∙◌, List, rules, subst, sym, ap}
 use Rattle.std.specs.Arc.{arc_value}
 use Rattle.r4_base.specs.Key.{rank}
 use Rattle.r4_base.proofs.Keys.{is_key}
-use Rattle.r4_cell.specs.Seen.{CellSeen}
+use Rattle.r4_edit.specs.r4_cell.Seen.{CellSeen}
 use Rattle.r4_work.specs.Order.{AreRangesApart, IsAt, cell_at, is_at, place_of}
 use Rattle.r4_work.proofs.Halving.{bound_in, ends_by, found, found_none, found_one, no_one}
 use Rattle.r4_work.proofs.Places.{rank_small}

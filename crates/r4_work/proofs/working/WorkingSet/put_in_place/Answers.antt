@@ -1,6 +1,6 @@
 use Rattle.std.proofs.Common.{◌∙◌, ap, subst, List}
 use Rattle.std.specs.List.Sorted.{IsPermutation}
-use Rattle.r4_cell.specs.Seen.{CellSeen}
+use Rattle.r4_edit.specs.r4_cell.Seen.{CellSeen}
 use Rattle.r4_work.specs.Order.{places_of, without_places}
 use Rattle.r4_work.proofs.Ranges.{left_alike}
 use Rattle.r4_work.proofs.working.WorkingSet.put_in_place.Goals as goal

@@ -1,6 +1,6 @@
 use Rattle.std.proofs.Common.{◌∙◌, ap, arith, map}
 use Rattle.std.specs.Arc.{arc_value}
-use Rattle.r4_path.proofs.CellNodes.{long_map}
+use Rattle.r4_edit.proofs.r4_path.CellNodes.{long_map}
 use Rattle.r4_work.specs.Working.{now_of, root_of}
 use Rattle.r4_work.proofs.Ranges.{kept_by_place}
 use Rattle.r4_work.proofs.Remade.{remake_effects, remake_made, remake_next, remake_numbers, remake_path, remake_working}
