@@ -1,20 +1,18 @@
 -- Ids that are reached, one after the other.
-use Rattle.std.proofs.Common.{◌≡◌, ◌⊎◌, inl, inr, ℕ, zero, suc, ◌+◌, ◌<◌, ◌≤◌, ◌==◌, Bool, true, false, cond, not, ◌||◌, ◌&&◌, nat_eq, List, [], ◌∷◌, ◌++◌, length, take, get_or, Option, Some, None, refl, sym, ap, ◌∙◌, subst, arith}
+use Rattle.std.proofs.Common.{◌≡◌, ◌⊎◌, inl, inr, ℕ, zero, suc, ◌+◌, ◌<◌, ◌≤◌, ◌==◌, Bool, true, false, cond, ◌||◌, nat_eq, List, [], ◌∷◌, ◌++◌, length, take, get_or, Some, refl, sym, ap, ◌∙◌, subst, arith}
 use Rattle.std.specs.Prelude.{slice_get}
-use Rattle.std.specs.BTreeSet.{BTreeSet, contains, Updates}
 use Rattle.std.specs.Cmp.{nat_eq_equiv}
 use Rattle.std.specs.Global.{Vec}
-use Rattle.std.specs.List.{IsDistinct, list_any}
-use Rattle.std.specs.Ordering.{nat_cmp}
+use Rattle.std.specs.List.{IsDistinct}
 use Rattle.std.proofs.lemmas.Bool.{cases_eq, eq-eqb, eqb-true}
 use Rattle.std.proofs.lemmas.Bool.Decides.{nat_tests}
 use Rattle.std.proofs.lemmas.List.{length-append, take_more}
 use Rattle.std.proofs.lemmas.List.Folds.{list_any-append}
 use Rattle.std.proofs.lemmas.Map.Keys.{IsDistinct-push, any_passes_from_place}
-use Rattle.std.proofs.lemmas.Option.{slice_get_within}
 use Rattle.r4_check_objects.specs.Reach.{Adds, Grows, IsReach, is_among}
+use Rattle.r4_check_objects.specs.Table.{value_at}
 use Rattle.r4_check_objects.specs.declared.reach.Reach.{Reach}
-use Rattle.r4_check_objects.proofs.FirstThings.{at_is}
+use Rattle.r4_check_objects.specs.declared.table.Table.{Table}
 
 -- ---- lists of numbers
 
@@ -67,28 +65,31 @@ get_push (x ∷ xs) y (suc k) q at = by (get_push xs y k q at)
 
 -- ---- an id is added
 
-not_true : (t : Bool) → not t ≡ true → t ≡ false
-not_true true is = cc
-not_true false is = refl
-
 or_swapped : (t s : Bool) → cond t true s ≡ (s || t)
 or_swapped true true = refl
 or_swapped true false = refl
 or_swapped false true = refl
 or_swapped false false = refl
 
-pub adds_new : (id : ℕ) (old : Reach) (added : Bool) (ids : BTreeSet ℕ) (order : Vec ℕ) → IsReach old → added ≡ not (contains nat_cmp old.ids id) → added ≡ true → Updates nat_cmp old.ids ids id true → order.items ≡ old.order.items ++ id ∷ []
+pub adds_new : (id : ℕ) (old : Reach) (ids : Table Bool) (order : Vec ℕ) → IsReach old → value_at old.ids id ≡ false
+    → ((q : ℕ) → value_at ids q ≡ cond (id == q) true (value_at old.ids q)) → order.items ≡ old.order.items ++ id ∷ []
     → Adds id old (record { ids = ids; order = order })
-adds_new id old added ids order good told was u items =
-    let absent : is_among id old.order.items ≡ false = sym (good.same id) ∙ not_true (contains nat_cmp old.ids id) (sym told ∙ was) in
+adds_new id old ids order good none u items =
+    let absent : is_among id old.order.items ≡ false = sym (good.same id) ∙ none in
     record {
       good = record {
-        same = λ q. u.0 q ∙ ap (λ (t : Bool). cond t true (contains nat_cmp old.ids q)) (at_is id q ∙ swapped id q) ∙ or_swapped (q == id) (contains nat_cmp old.ids q)
+        same = λ q. u q ∙ ap (λ (t : Bool). cond t true (value_at old.ids q)) (swapped id q) ∙ or_swapped (q == id) (value_at old.ids q)
             ∙ ap (λ (s : Bool). s || q == id) (good.same q) ∙ sym (among_push q id old.order.items) ∙ ap (is_among q) (sym items);
         once = subst (IsDistinct nat_eq) (sym items) (IsDistinct-push nat_eq_equiv old.order.items id good.once absent);
       };
       order = items ∙ ap (λ (t : Bool). cond t old.order.items (old.order.items ++ id ∷ [])) (sym absent);
     }
+
+pub adds_none : (id : ℕ) (old : Reach) → IsReach old → value_at old.ids id ≡ true → Adds id old old
+adds_none id old good there = record {
+  good = good;
+  order = ap (λ (t : Bool). cond t old.order.items (old.order.items ++ id ∷ [])) (sym (sym (good.same id) ∙ there));
+}
 
 -- what an added id leaves
 added_among : (id : ℕ) (old new : List ℕ) (b : Bool) → is_among id old ≡ b → new ≡ cond b old (old ++ id ∷ []) → (q : ℕ) → is_among q new ≡ (is_among q old || q == id)

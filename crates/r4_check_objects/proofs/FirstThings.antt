@@ -1,25 +1,17 @@
 -- The first things under ids, one more thing at a time.
-use Rattle.std.proofs.Common.{◌≡◌, ℕ, ◌+◌, ◌<◌, ◌==◌, inl, inr, Bool, true, false, cond, not, ◌&&◌, List, [], ◌∷◌, ◌++◌, length, take, get_or, Option, Some, None, refl, sym, ap, ◌∙◌, arith}
-use Rattle.std.specs.BTreeMap.{BTreeMap, get, is_at, Updates}
+use Rattle.std.proofs.Common.{◌≡◌, ℕ, ◌+◌, ◌<◌, ◌==◌, Bool, true, false, cond, not, ◌&&◌, List, [], ◌∷◌, ◌++◌, length, take, get_or, Option, Some, None, refl, sym, ap, ◌∙◌}
 use Rattle.std.specs.List.{find}
-use Rattle.std.specs.Map.{lookup}
 use Rattle.std.specs.Option.{option_or}
-use Rattle.std.specs.Ordering.{nat_cmp}
-use Rattle.std.proofs.lemmas.Bool.{cases_eq, cases_lt, eqb-true}
-use Rattle.std.proofs.lemmas.Bool.Decides.{nat_tests}
+use Rattle.std.proofs.lemmas.Bool.{eqb-true}
 use Rattle.std.proofs.lemmas.List.{take_more}
 use Rattle.std.proofs.lemmas.List.Folds.{find-append}
 use Rattle.r4_check_objects.specs.Held.{id_of, is_stat_data}
 use Rattle.r4_check_objects.specs.Known.{AreHeads, goes_first}
 use Rattle.r4_check_objects.specs.Objects.{head_of, is_of, is_stat_of, owner_of}
+use Rattle.r4_check_objects.specs.Table.{value_at}
 use Rattle.r4_check_objects.specs.declared.held.Held.{Held}
+use Rattle.r4_check_objects.specs.declared.table.Table.{Table}
 use Rattle.r4_check_objects.proofs.Finds.{find_none, find_true}
-
-pub at_is : (k b : ℕ) → is_at (nat_cmp k) b ≡ (k == b)
-at_is k b = elim (cases_eq b k) [
-  | inl is ↦ grind (arith, nat_tests)
-  | inr other ↦ elim (cases_lt k b) [ inl lt ↦ grind (arith, nat_tests) | inr ge ↦ grind (arith, nat_tests) ]
-]
 
 pub first_of_two : (s t : Bool) → (s && t) ≡ true → s ≡ true
 first_of_two true t both = refl
@@ -65,9 +57,9 @@ head_more : (found : List Held) (i : ℕ) (d : Held) (q : ℕ) → i < length fo
     → head_of (take (i + 1) found) q ≡ cond ((id_of (get_or found i d) == q) && goes_first (head_of (take i found) q) (get_or found i d)) (Some (get_or found i d)) (head_of (take i found) q)
 head_more found i d q lt = ap (λ (l : List Held). head_of l q) (take_more found i d lt) ∙ head_push (take i found) (get_or found i d) q
 
-pub no_heads : (m : BTreeMap ℕ Held) → m.entries ≡ [] → AreHeads [] m
+pub no_heads : (m : Table (Option Held)) → ((q : ℕ) → value_at m q ≡ None) → AreHeads [] m
 unfolding head_of owner_of
-no_heads m none = record { each = λ q. ap (λ (es : List (ℕ × Held)). lookup (is_at (nat_cmp q)) es) none }
+no_heads m none = record { each = none }
 
 put_or : (h : Held) (t f : Bool) (a b : Option Held) → a ≡ b → (t ≡ true → f ≡ true) → cond t (Some h) a ≡ cond (t && f) (Some h) b
 put_or h true f a b is first = ap (λ (x : Bool). cond x (Some h) b) (sym (first refl))
@@ -77,32 +69,32 @@ kept_or : (h : Held) (t f : Bool) (b : Option Held) → (t ≡ true → f ≡ fa
 kept_or h true f b first = ap (λ (x : Bool). cond x (Some h) b) (sym (first refl))
 kept_or h false f b first = refl
 
-module _ (found : List Held) (i : ℕ) (d : Held) (lt : i < length found) (now : BTreeMap ℕ Held) (so_far : AreHeads (take i found) now) where
-  at_id : (b : Bool) → goes_first (get nat_cmp now (id_of (get_or found i d))) (get_or found i d) ≡ b → (q : ℕ) → (id_of (get_or found i d) == q) ≡ true → goes_first (head_of (take i found) q) (get_or found i d) ≡ b
+module _ (found : List Held) (i : ℕ) (d : Held) (lt : i < length found) (now : Table (Option Held)) (so_far : AreHeads (take i found) now) where
+  at_id : (b : Bool) → goes_first (value_at now (id_of (get_or found i d))) (get_or found i d) ≡ b → (q : ℕ) → (id_of (get_or found i d) == q) ≡ true → goes_first (head_of (take i found) q) (get_or found i d) ≡ b
   at_id b first q same =
       let here : id_of (get_or found i d) ≡ q = eqb-true _ _ same in
-      ap (λ (o : Option Held). goes_first o (get_or found i d)) (sym (so_far.each q)) ∙ ap (λ (k : ℕ). goes_first (get nat_cmp now k) (get_or found i d)) (sym here) ∙ first
+      ap (λ (o : Option Held). goes_first o (get_or found i d)) (sym (so_far.each q)) ∙ ap (λ (k : ℕ). goes_first (value_at now k) (get_or found i d)) (sym here) ∙ first
 
-  first_is : (k : ℕ) (o : Option Held) (r b : Bool) → k ≡ id_of (get_or found i d) → o ≡ get nat_cmp now k → r ≡ goes_first o (get_or found i d) → r ≡ b → goes_first (get nat_cmp now (id_of (get_or found i d))) (get_or found i d) ≡ b
-  first_is k o r b key is told was = ap (λ (x : ℕ). goes_first (get nat_cmp now x) (get_or found i d)) (sym key) ∙ ap (λ (x : Option Held). goes_first x (get_or found i d)) (sym is) ∙ sym told ∙ was
+  first_is : (k : ℕ) (o : Option Held) (r b : Bool) → k ≡ id_of (get_or found i d) → o ≡ value_at now k → r ≡ goes_first o (get_or found i d) → r ≡ b → goes_first (value_at now (id_of (get_or found i d))) (get_or found i d) ≡ b
+  first_is k o r b key is told was = ap (λ (x : ℕ). goes_first (value_at now x) (get_or found i d)) (sym key) ∙ ap (λ (x : Option Held). goes_first x (get_or found i d)) (sym is) ∙ sym told ∙ was
 
   -- the thing goes first, or does not
-  pub heads_put : (k : ℕ) (o : Option Held) (r : Bool) (new after : BTreeMap ℕ Held) → k ≡ id_of (get_or found i d) → o ≡ get nat_cmp now k → r ≡ goes_first o (get_or found i d) → r ≡ true → after ≡ new
-      → Updates nat_cmp now new k (Some (get_or found i d)) → AreHeads (take (i + 1) found) after
+  pub heads_put : (k : ℕ) (o : Option Held) (r : Bool) (new after : Table (Option Held)) → k ≡ id_of (get_or found i d) → o ≡ value_at now k → r ≡ goes_first o (get_or found i d) → r ≡ true → after ≡ new
+      → ((q : ℕ) → value_at new q ≡ cond (k == q) (Some (get_or found i d)) (value_at now q)) → AreHeads (take (i + 1) found) after
   heads_put k o r new after key is told was same u =
       let h : Held = get_or found i d in
       let first = first_is k o r true key is told was in
       record {
-        each = λ q. ap (λ (m : BTreeMap ℕ Held). get nat_cmp m q) same ∙ u.0 q ∙ ap (λ (t : Bool). cond t (Some h) (get nat_cmp now q)) (at_is k q ∙ ap (λ (x : ℕ). x == q) key)
-            ∙ put_or h (id_of h == q) (goes_first (head_of (take i found) q) h) (get nat_cmp now q) (head_of (take i found) q) (so_far.each q) (at_id true first q) ∙ sym (head_more found i d q lt);
+        each = λ q. ap (λ (m : Table (Option Held)). value_at m q) same ∙ u q ∙ ap (λ (x : ℕ). cond (x == q) (Some h) (value_at now q)) key
+            ∙ put_or h (id_of h == q) (goes_first (head_of (take i found) q) h) (value_at now q) (head_of (take i found) q) (so_far.each q) (at_id true first q) ∙ sym (head_more found i d q lt);
       }
 
-  pub heads_kept : (k : ℕ) (o : Option Held) (r : Bool) (after : BTreeMap ℕ Held) → k ≡ id_of (get_or found i d) → o ≡ get nat_cmp now k → r ≡ goes_first o (get_or found i d) → r ≡ false → after ≡ now → AreHeads (take (i + 1) found) after
+  pub heads_kept : (k : ℕ) (o : Option Held) (r : Bool) (after : Table (Option Held)) → k ≡ id_of (get_or found i d) → o ≡ value_at now k → r ≡ goes_first o (get_or found i d) → r ≡ false → after ≡ now → AreHeads (take (i + 1) found) after
   heads_kept k o r after key is told was same =
       let h : Held = get_or found i d in
       let first = first_is k o r false key is told was in
       record {
-        each = λ q. ap (λ (m : BTreeMap ℕ Held). get nat_cmp m q) same ∙ so_far.each q ∙ kept_or h (id_of h == q) (goes_first (head_of (take i found) q) h) (head_of (take i found) q) (at_id false first q) ∙ sym (head_more found i d q lt);
+        each = λ q. ap (λ (m : Table (Option Held)). value_at m q) same ∙ so_far.each q ∙ kept_or h (id_of h == q) (goes_first (head_of (take i found) q) h) (head_of (take i found) q) (at_id false first q) ∙ sym (head_more found i d q lt);
       }
 
 -- ---- owners

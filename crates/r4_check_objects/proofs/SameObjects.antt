@@ -1,15 +1,13 @@
 -- Objects, and where their stat data stand.
-use Rattle.std.proofs.Common.{◌≡◌, ℕ, ◌==◌, Bool, true, false, not, ◌&&◌, List, Option, Some, None, refl, sym, ap, ◌∙◌}
+use Rattle.std.proofs.Common.{◌≡◌, ℕ, ◌==◌, Bool, true, false, not, ◌&&◌, List, Some, refl, ap, ◌∙◌}
 use Rattle.std.specs.Prelude.{is_some, option_and_then}
 use Rattle.std.specs.List.{filter, find}
-use Rattle.std.specs.Option.{option_map_or}
 use Rattle.std.proofs.lemmas.Bool.{eq-eqb, eqb-true}
 use Rattle.r4_base.specs.Volume.{object_of}
 use Rattle.r4_base.specs.declared.items.Target.{Target}
 use Rattle.r4_check_objects.specs.Held.{id_of, is_placed, is_stat_data}
 use Rattle.r4_check_objects.specs.Known.{is_other}
 use Rattle.r4_check_objects.specs.Objects.{facts_as, facts_at, facts_in, is_object_at, is_owner, is_same, is_stat_of, owner_of}
-use Rattle.r4_check_objects.specs.declared.held.Facts.{Facts}
 use Rattle.r4_check_objects.specs.declared.held.Held.{Held}
 use Rattle.r4_check_objects.specs.declared.held.Thing.{Thing}
 use Rattle.r4_check_objects.specs.declared.held.Thing.TheVariants.{Stat, Entry, Tail, Extent}

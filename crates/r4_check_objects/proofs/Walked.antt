@@ -1,8 +1,7 @@
 -- What the root reaches, as it is found.
-use Rattle.std.proofs.Common.{◌≡◌, ◌⊎◌, inl, inr, ℕ, zero, suc, ◌+◌, ◌-◌, ◌<◌, ◌≤◌, ◌==◌, Bool, true, false, cond, ◌||◌, ◌&&◌, nat_eq, List, [], ◌∷◌, ◌++◌, length, map, get_or, Option, Some, None, refl, sym, ap, ◌∙◌, subst, arith}
-use Rattle.std.specs.Prelude.{IsSome, slice_get, slice_index}
-use Rattle.std.specs.BTreeMap.{BTreeMap, get, is_at}
-use Rattle.std.specs.BTreeSet.{contains}
+use Rattle.std.proofs.Common.{◌≡◌, ◌⊎◌, inl, inr, ℕ, zero, suc, ◌+◌, ◌-◌, ◌<◌, ◌≤◌, ◌==◌, Bool, true, false, cond, ◌&&◌, nat_eq, List, [], ◌∷◌, ◌++◌, length, map, get_or, Option, Some, None, refl, sym, ap, ◌∙◌, subst, arith}
+use Rattle.std.specs.Prelude.{IsSome, slice_get}
+use Rattle.std.specs.BTreeMap.{BTreeMap, get}
 use Rattle.std.specs.Cmp.{nat_eq_equiv}
 use Rattle.std.specs.Global.{Vec}
 use Rattle.std.specs.List.{IsDistinct, list_any}
@@ -15,6 +14,7 @@ use Rattle.std.proofs.lemmas.Option.{slice_get_within}
 use Rattle.r4_check_objects.specs.Held.{id_of}
 use Rattle.r4_check_objects.specs.Objects.{is_reached, is_reached_by, leads_to}
 use Rattle.r4_check_objects.specs.Reach.{Adds, AreNamed, Grows, IsReach, is_among, is_named, leads}
+use Rattle.r4_check_objects.specs.Table.{value_at}
 use Rattle.r4_check_objects.specs.declared.held.Held.{Held}
 use Rattle.r4_check_objects.specs.declared.held.Thing.{Thing}
 use Rattle.r4_check_objects.specs.declared.held.Thing.TheVariants.{Stat, Entry, Tail, Extent}
@@ -142,7 +142,7 @@ module _ (found : List Held) (named : BTreeMap ℕ (Vec ℕ)) (r : Reach) (i : �
           let leads_there : list_any (leads (id_of h) q) found ≡ true = one.2 (leads (id_of h) q) (both (leads_to q h.thing) (id_of h == id_of h) (first_of_two (leads_to q h.thing) (is_reached_by n found (id_of h)) one.1) (eq-eqb (id_of h) (id_of h) refl)) in
           w.closed at.0 (id_of h) q (omega (arith, within, end)) at.1 (names.each (id_of h) q ∙ leads_there)
 
-  pub all_reached : AreNamed found named → length r.order.items ≤ i → (q : ℕ) → contains nat_cmp r.ids q ≡ is_reached found q
+  pub all_reached : AreNamed found named → length r.order.items ≤ i → (q : ℕ) → value_at r.ids q ≡ is_reached found q
   all_reached names end q = w.good.same q ∙ same (is_among q r.order.items) (is_reached found q)
       (λ is. let at = among_place q r.order.items is in let within = slice_get_within r.order.items at.0 q at.1 in by_at_most (length found) at.0 found q (omega (arith, within, few_ids)) (w.sound at.0 q at.1))
       (reached_are_there names end (length found) q)
@@ -160,10 +160,10 @@ get_place [] i d lt = absurd (omega (arith, lt))
 get_place (x ∷ xs) zero d lt = refl
 get_place (x ∷ xs) (suc i) d lt = get_place xs i d (omega (arith, lt))
 
-pub no_ids : (r : Reach) → r.ids.keys ≡ [] → r.order.items ≡ [] → IsReach r
+pub no_ids : (r : Reach) → ((q : ℕ) → value_at r.ids q ≡ false) → r.order.items ≡ [] → IsReach r
 unfolding IsDistinct
 no_ids r ids order = record {
-  same = λ q. ap (list_any (λ k. is_at (nat_cmp q) k)) ids ∙ sym (ap (is_among q) order);
+  same = λ q. ids q ∙ sym (ap (is_among q) order);
   once = subst (IsDistinct nat_eq) (sym order) tt;
 }
 

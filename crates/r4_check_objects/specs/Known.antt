@@ -1,23 +1,21 @@
 -- What is known of the things that a tree holds, to judge each of them at once (docs/check.md, "Objects").
-use Rattle.std.specs.Prelude.{◌≡◌, ◌≢◌, ℕ, ◌+◌, ◌^◌, ◌<◌, List, [], ◌++◌, ◌∷◌, length, Bool, true, false, not, ◌&&◌, ◌==◌, Option, filter, is_some, unwrap_or}
-use Rattle.std.specs.BTreeMap.{BTreeMap, get}
-use Rattle.std.specs.BTreeSet.{BTreeSet, contains}
-use Rattle.std.specs.List.{list_any}
+use Rattle.std.specs.Prelude.{◌≡◌, ◌≢◌, ℕ, ◌+◌, ◌^◌, ◌<◌, List, length, Bool, true, not, ◌&&◌, Option, filter, is_some}
 use Rattle.std.specs.Option.{option_map_or}
-use Rattle.std.specs.Ordering.{nat_cmp}
 use Rattle.r4_base.specs.Volume.{object_of}
-use Rattle.r4_check_objects.specs.Held.{counted, id_of, is_stat_data}
-use Rattle.r4_check_objects.specs.Objects.{facts_in, head_of, is_owner, is_reached, leads_to, sum_of}
+use Rattle.r4_check_objects.specs.Held.{counted, is_stat_data}
+use Rattle.r4_check_objects.specs.Objects.{facts_in, head_of, is_owner, is_reached, sum_of}
 use Rattle.r4_check_objects.specs.declared.held.Held.{Held}
 use Rattle.r4_check_objects.specs.declared.judging.Judge.{Judge}
 use Rattle.r4_check_objects.specs.declared.judging.Totals.{Totals}
 use Rattle.r4_check_objects.specs.declared.known.Known.{Known}
+use Rattle.r4_check_objects.specs.declared.table.Table.{Table}
+use Rattle.r4_check_objects.specs.Table.{value_at}
 use Rattle.r4_check_objects.specs.declared.sums.Part.{Part}
 use Rattle.r4_check_objects.specs.declared.sums.Part.TheVariants.{Entries, Directories, Links, Reached, Tails, Blocks, Past, Strays}
 
 -- These are the first things under their ids.
-pub record AreHeads (found : List Held) (heads : BTreeMap ℕ Held) : Type 0 where
-  pub each : (q : ℕ) → get nat_cmp heads q ≡ head_of found q
+pub record AreHeads (found : List Held) (heads : Table (Option Held)) : Type 0 where
+  pub each : (q : ℕ) → value_at heads q ≡ head_of found q
 
 -- whether a thing comes first, where this one did so far
 abbrev pub goes_first : (before : Option Held) → Held → Bool
@@ -31,20 +29,16 @@ is_other found h = is_some (facts_in h) && not (is_owner found (object_of h.key)
 pub record IsKnown (found : List Held) (k : Known) : Type 0 where
   pub heads : AreHeads found k.heads
   pub others : k.others.items ≡ filter (is_other found) found
-  pub reached : (q : ℕ) → contains nat_cmp k.reached q ≡ is_reached found q
-
--- the sum that stands under an id
-abbrev pub sum_in : BTreeMap ℕ ℕ → (q : ℕ) → ℕ
-sum_in sums q = unwrap_or (get nat_cmp sums q) 0
+  pub reached : (q : ℕ) → value_at k.reached q ≡ is_reached found q
 
 -- These are the sums of a part, as they are counted.
-pub record AreSums (part : Part) (found : List Held) (sums : BTreeMap ℕ ℕ) : Type 0 where
-  pub each : (q : ℕ) → sum_in sums q ≡ counted (sum_of part found q)
+pub record AreSums (part : Part) (found : List Held) (sums : Table ℕ) : Type 0 where
+  pub each : (q : ℕ) → value_at sums q ≡ counted (sum_of part found q)
 
 -- A number is added under an id, and nothing under the others.
-pub record AddsUnder (id more : ℕ) (old new : BTreeMap ℕ ℕ) : Type 0 where
-  pub here : sum_in new id ≡ counted (sum_in old id + more)
-  pub others : (q : ℕ) → q ≢ id → sum_in new q ≡ sum_in old q
+pub record AddsUnder (id more : ℕ) (old new : Table ℕ) : Type 0 where
+  pub here : value_at new id ≡ counted (value_at old id + more)
+  pub others : (q : ℕ) → q ≢ id → value_at new q ≡ value_at old q
 
 -- These are the sums of each part.
 pub record AreTotals (found : List Held) (t : Totals) : Type 0 where

@@ -3,3 +3,4 @@ pub mod Held
 pub mod Known
 pub mod Objects
 pub mod Reach
+pub mod Table

@@ -1,13 +1,13 @@
 -- How the ids are found that the root reaches (docs/check.md, "Objects").
-use Rattle.std.specs.Prelude.{◌≡◌, ◌⊎◌, ℕ, ◌<◌, ◌≤◌, List, [], ◌∷◌, ◌++◌, length, slice_get, Bool, true, false, ◌&&◌, ◌||◌, ◌==◌, nat_eq, Some, if◌then◌else◌}
+use Rattle.std.specs.Prelude.{◌≡◌, ◌⊎◌, ℕ, ◌≤◌, List, [], ◌∷◌, ◌++◌, length, slice_get, Bool, true, false, ◌&&◌, ◌||◌, ◌==◌, nat_eq, Some, if◌then◌else◌}
 use Rattle.std.specs.BTreeMap.{BTreeMap, get}
-use Rattle.std.specs.BTreeSet.{contains}
 use Rattle.std.specs.List.{IsDistinct, list_any}
 use Rattle.std.specs.Option.{option_map_or}
 use Rattle.std.specs.Ordering.{nat_cmp}
 use Rattle.std.specs.Global.{Vec}
 use Rattle.r4_check_objects.specs.Held.{id_of}
 use Rattle.r4_check_objects.specs.Objects.{leads_to}
+use Rattle.r4_check_objects.specs.Table.{value_at}
 use Rattle.r4_check_objects.specs.declared.held.Held.{Held}
 use Rattle.r4_check_objects.specs.declared.reach.Reach.{Reach}
 
@@ -30,9 +30,9 @@ pub record AreNamed (found : List Held) (named : BTreeMap ℕ (Vec ℕ)) : Type 
 pub record AddsName (from to : ℕ) (old new : BTreeMap ℕ (Vec ℕ)) : Type 0 where
   pub each : (p q : ℕ) → is_named new p q ≡ ((to == q && from == p) || is_named old p q)
 
--- The set has the ids of the list, which are different.
+-- The ids of the list are noted, which are different.
 pub record IsReach (r : Reach) : Type 0 where
-  pub same : (q : ℕ) → contains nat_cmp r.ids q ≡ is_among q r.order.items
+  pub same : (q : ℕ) → value_at r.ids q ≡ is_among q r.order.items
   pub once : IsDistinct nat_eq r.order.items
 
 -- An id is added where it is not there.

@@ -1,29 +1,27 @@
 //! The first things under ids.
 
 ghost use Rattle.std.specs.Prelude.{◌≡◌, ℕ, List, IfOk};
-ghost use Rattle.std.specs.BTreeMap.{get};
-ghost use Rattle.std.specs.Ordering.{nat_cmp};
 ghost use Rattle.r4_check_objects.specs.Known.{AreHeads, goes_first};
 ghost use Rattle.r4_check_objects.specs.Objects.{owner_of};
 ghost use Rattle.r4_check_objects.specs.declared.held.Held.{Held as Found};
 
 use crate::held::Held;
+use crate::table::Table;
 use r4_base::Memory;
 use std::alloc::Global;
-use std::collections::BTreeMap;
 
 /// Under each id the first stat data, or else the first thing.
-pub(crate) type Heads = BTreeMap<u64, Held>;
+pub(crate) type Heads = Table<Option<Held>>;
 
-/// The first things.
-pub(crate) fn heads_of(alloc: Global, found: &[Held]) -> Result<Heads, Memory>
+/// The first things, in a table with room for so many ids in its list.
+pub(crate) fn heads_of(alloc: Global, found: &[Held], low: usize) -> Result<Heads, Memory>
     ensures { IfOk result (AreHeads found.now) }
 {
-    let mut heads = BTreeMap::new(alloc);
+    let mut heads = Table::new(alloc, None, low)?;
     for held in found {
         let id = held.id();
-        if goes_first(heads.get(&id).copied(), held) {
-            heads.insert(id, *held)?;
+        if goes_first(heads.get(id), held) {
+            heads.put(id, Some(*held))?;
         }
     }
     Ok(heads)
@@ -43,7 +41,7 @@ fn goes_first(before: Option<Held>, held: &Held) -> bool
 pub(crate) fn owner_of(heads: &Heads, id: u64) -> Option<Held>
     ensures { (found : List Found) → AreHeads found heads.now → result ≡ owner_of found id }
 {
-    match heads.get(&id).copied() {
+    match heads.get(id) {
         Some(first) if first.is_stat_data() => Some(first),
         _ => None,
     }

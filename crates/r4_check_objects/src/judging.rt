@@ -11,7 +11,7 @@ use crate::fault::{Fault, What};
 use crate::heads::owner_of;
 use crate::held::{Facts, Held, is_same};
 use crate::known::Known;
-use crate::sums::{Part, Sums, sum_at, sum_up};
+use crate::sums::{Part, Sums, sum_up};
 use r4_base::{BLOCK_BYTES, BlockNo, GREATEST_SIZE, Memory, ROOT_OBJECT, Super40};
 use std::alloc::Global;
 
@@ -37,20 +37,25 @@ pub(crate) struct Judge {
     pub(crate) totals: Totals,
 }
 
-/// The sums over these things.
-pub(crate) fn totals_of(alloc: Global, known: &Known, found: &[Held]) -> Result<Totals, Memory>
+/// The sums over these things, in tables with room for so many ids in their lists.
+pub(crate) fn totals_of(
+    alloc: Global,
+    known: &Known,
+    found: &[Held],
+    low: usize,
+) -> Result<Totals, Memory>
     requires { IsKnown found.now known.now }
     ensures { IfOk result (AreTotals found.now) }
 {
     Ok(Totals {
-        entries: sum_up(alloc, known, found, Part::Entries)?,
-        directories: sum_up(alloc, known, found, Part::Directories)?,
-        links: sum_up(alloc, known, found, Part::Links)?,
-        reached: sum_up(alloc, known, found, Part::Reached)?,
-        tails: sum_up(alloc, known, found, Part::Tails)?,
-        blocks: sum_up(alloc, known, found, Part::Blocks)?,
-        past: sum_up(alloc, known, found, Part::Past)?,
-        strays: sum_up(alloc, known, found, Part::Strays)?,
+        entries: sum_up(alloc, known, found, Part::Entries, low)?,
+        directories: sum_up(alloc, known, found, Part::Directories, low)?,
+        links: sum_up(alloc, known, found, Part::Links, low)?,
+        reached: sum_up(alloc, known, found, Part::Reached, low)?,
+        tails: sum_up(alloc, known, found, Part::Tails, low)?,
+        blocks: sum_up(alloc, known, found, Part::Blocks, low)?,
+        past: sum_up(alloc, known, found, Part::Past, low)?,
+        strays: sum_up(alloc, known, found, Part::Strays, low)?,
     })
 }
 
@@ -73,7 +78,7 @@ impl Judge {
         ensures { (found : List Found) → IsJudge found self.now
             → result ≡ block_of self.now.leaf found id }
     {
-        match self.known.heads.get(&id).copied() {
+        match self.known.heads.get(id) {
             Some(head) => self.block_under(id, &head),
             None => self.leaf,
         }
@@ -122,7 +127,7 @@ impl Judge {
     fn is_lost(&self, id: u64) -> bool
         ensures { (found : List Found) → IsJudge found self.now → result ≡ is_lost found id }
     {
-        sum_at(&self.totals.strays, id) > 0
+        self.totals.strays.get(id) > 0
             || self.is_unmet(id)
             || id == ROOT_OBJECT.oid.0 && self.known.facts_at(&ROOT_OBJECT).is_none()
     }
@@ -132,7 +137,7 @@ impl Judge {
         ensures { (found : List Found) → IsJudge found self.now → result ≡ is_unmet found id }
     {
         match self.owner(id) {
-            Some((root, _)) => !root && sum_at(&self.totals.reached, id) == 0,
+            Some((root, _)) => !root && self.totals.reached.get(id) == 0,
             None => false,
         }
     }
@@ -153,14 +158,14 @@ impl Judge {
             return false;
         }
         if facts.directory {
-            return facts.size == sum_at(&self.totals.entries, id);
+            return facts.size == self.totals.entries.get(id);
         }
         facts.size <= GREATEST_SIZE
-            && sum_at(&self.totals.past, id) == 0
+            && self.totals.past.get(id) == 0
             && body_fits(
                 facts.size,
-                sum_at(&self.totals.tails, id),
-                sum_at(&self.totals.blocks, id),
+                self.totals.tails.get(id),
+                self.totals.blocks.get(id),
             )
     }
 
@@ -168,13 +173,13 @@ impl Judge {
         ensures { (found : List Found) → IsJudge found self.now
             → result ≡ links_fit found id root facts }
     {
-        let links = sum_at(&self.totals.links, id);
+        let links = self.totals.links.get(id);
         let nlink = u64::from(facts.nlink);
         if !facts.directory {
             return nlink == links;
         }
         nlink >= 2
-            && nlink - 2 == sum_at(&self.totals.directories, id)
+            && nlink - 2 == self.totals.directories.get(id)
             && (links == 0 || !root && links == 1)
     }
 }

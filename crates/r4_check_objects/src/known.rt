@@ -9,9 +9,9 @@ ghost use Rattle.r4_check_objects.specs.declared.held.Held.{Held as Found};
 use crate::heads::{Heads, heads_of, owner_of};
 use crate::held::{Facts, Held, is_same};
 use crate::reach::reached_ids;
+use crate::table::Table;
 use r4_base::{Memory, Target};
 use std::alloc::Global;
-use std::collections::BTreeSet;
 
 /// The first thing under each id; the objects that do not own their ids, of which a volume has none; and the ids that the
 /// root reaches.
@@ -19,17 +19,17 @@ use std::collections::BTreeSet;
 pub(crate) struct Known {
     pub(crate) heads: Heads,
     pub(crate) others: Vec<Held>,
-    pub(crate) reached: BTreeSet<u64>,
+    pub(crate) reached: Table<bool>,
 }
 
 impl Known {
-    /// What is known of these things.
-    pub(crate) fn of(alloc: Global, found: &[Held]) -> Result<Known, Memory>
+    /// What is known of these things; tables have room for so many ids in their lists.
+    pub(crate) fn of(alloc: Global, found: &[Held], low: usize) -> Result<Known, Memory>
         ensures { IfOk result (IsKnown found.now) }
     {
-        let heads = heads_of(alloc, found)?;
+        let heads = heads_of(alloc, found, low)?;
         let others = others_in(alloc, &heads, found)?;
-        let reached = reached_ids(alloc, found)?;
+        let reached = reached_ids(alloc, found, low)?;
         Ok(Known {
             heads,
             others,

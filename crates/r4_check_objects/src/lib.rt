@@ -9,6 +9,7 @@ mod known;
 mod objects;
 mod reach;
 mod sums;
+mod table;
 
 pub use fault::{Fault, What};
 pub use held::{Facts, Held, Thing};

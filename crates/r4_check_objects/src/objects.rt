@@ -24,8 +24,9 @@ pub fn object_faults(
 ) -> Result<Vec<Fault>, Memory>
     ensures { IfOk result (λ v. v.items ≡ object_faults super40.now leaf found.now) }
 {
-    let known = Known::of(alloc, found)?;
-    let totals = totals_of(alloc, &known, found)?;
+    let low = low_ids(found);
+    let known = Known::of(alloc, found, low)?;
+    let totals = totals_of(alloc, &known, found, low)?;
     let _few = found.len();
     let judge = Judge {
         super40: *super40,
@@ -79,6 +80,11 @@ fn add_count(faults: &mut Vec<Fault>, super40: &Super40, found: &[Held]) -> Resu
         faults.push(Fault { block, what })?;
     }
     Ok(())
+}
+
+// How many ids a volume with so many objects has, if none of them was removed.
+fn low_ids(found: &[Held]) -> usize {
+    (stats_of(found) as usize).saturating_add(ROOT_OBJECT.oid.0 as usize)
 }
 
 // How many stat data there are.

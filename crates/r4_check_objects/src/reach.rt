@@ -1,33 +1,34 @@
 //! The ids that the root reaches.
 
 ghost use Rattle.std.specs.Prelude.{◌≡◌, ℕ, IfOk, OnOk};
-ghost use Rattle.std.specs.BTreeSet.{contains};
-ghost use Rattle.std.specs.Ordering.{nat_cmp};
 ghost use Rattle.r4_check_objects.specs.Objects.{is_reached};
 ghost use Rattle.r4_check_objects.specs.Reach.{Adds, AddsName, AreNamed, Grows, IsReach};
+ghost use Rattle.r4_check_objects.specs.Table.{value_at};
 
 use crate::held::Held;
+use crate::table::Table;
 use r4_base::{Memory, ROOT_OBJECT};
 use std::alloc::Global;
-use std::collections::{BTreeMap, BTreeSet};
+use std::collections::BTreeMap;
 
 /// Under each id the ids that its entries name.
 pub(crate) type Named = BTreeMap<u64, Vec<u64>>;
 
-/// The ids that are reached so far, also in the order in which they were.
+/// Whether an id is reached so far, and those that are in the order in which they were.
 #[derive(Drop)]
 pub(crate) struct Reach {
-    pub(crate) ids: BTreeSet<u64>,
+    pub(crate) ids: Table<bool>,
     pub(crate) order: Vec<u64>,
 }
 
-/// The ids that the root reaches: its own, and each that an entry under a reached one names.
-pub(crate) fn reached_ids(alloc: Global, found: &[Held]) -> Result<BTreeSet<u64>, Memory>
-    ensures { IfOk result (λ ids. (q : ℕ) → contains nat_cmp ids q ≡ is_reached found.now q) }
+/// The ids that the root reaches: its own, and each that an entry under a reached one names. The table has room for so
+/// many ids in its list.
+pub(crate) fn reached_ids(alloc: Global, found: &[Held], low: usize) -> Result<Table<bool>, Memory>
+    ensures { IfOk result (λ ids. (q : ℕ) → value_at ids q ≡ is_reached found.now q) }
 {
     let named = named_ids(alloc, found)?;
     let mut reach = Reach {
-        ids: BTreeSet::new(alloc),
+        ids: Table::new(alloc, false, low)?,
         order: Vec::new(alloc),
     };
     reach.add(ROOT_OBJECT.oid.0)?;
@@ -73,7 +74,8 @@ impl Reach {
         requires { IsReach self.old }
         ensures { OnOk result (Adds id self.old self.new) }
     {
-        if self.ids.insert(id)? {
+        if !self.ids.get(id) {
+            self.ids.put(id, true)?;
             self.order.push(id)?;
         }
         Ok(())

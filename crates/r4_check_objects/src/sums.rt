@@ -2,16 +2,16 @@
 
 ghost use Rattle.std.specs.Prelude.{◌≡◌, ◌≤◌, List, IfOk, OnOk, if◌then◌else◌};
 ghost use Rattle.r4_base.specs.Key.{offset_of};
-ghost use Rattle.r4_check_objects.specs.Known.{AddsUnder, AreSums, IsKnown, sum_in};
+ghost use Rattle.r4_check_objects.specs.Known.{AddsUnder, AreSums, IsKnown};
 ghost use Rattle.r4_check_objects.specs.Objects.{ends_past, is_directory_at, is_own, is_owner, is_past, is_stray, names_one};
 ghost use Rattle.r4_check_objects.specs.Objects.{once, place_of, share_of, strays};
 ghost use Rattle.r4_check_objects.specs.declared.held.Held.{Held as Found};
 
 use crate::held::{Held, Thing, is_same};
 use crate::known::{Known, is_directory};
+use crate::table::Table;
 use r4_base::{BLOCK_BYTES, GREATEST_SIZE, Memory, ROOT_OBJECT};
 use std::alloc::Global;
-use std::collections::BTreeMap;
 
 /// What is added up: entries under their directory; those that name directories; under each id the entries that name its
 /// owner; those of them in reached directories; the bytes of its tails, and the blocks of its extents; its parts of a body
@@ -29,19 +29,20 @@ pub(crate) enum Part {
 }
 
 /// A number under each id: none is 0.
-pub(crate) type Sums = BTreeMap<u64, u64>;
+pub(crate) type Sums = Table<u64>;
 
-/// Adds up one part. The sums stand still at 2^64 - 1.
+/// Adds up one part, in a table with room for so many ids in its list. The sums stand still at 2^64 - 1.
 pub(crate) fn sum_up(
     alloc: Global,
     known: &Known,
     found: &[Held],
     part: Part,
+    low: usize,
 ) -> Result<Sums, Memory>
     requires { IsKnown found.now known.now }
     ensures { IfOk result (AreSums part found.now) }
 {
-    let mut sums = BTreeMap::new(alloc);
+    let mut sums = Table::new(alloc, 0, low)?;
     for held in found {
         let more = share_of(part, known, held);
         if more > 0 {
@@ -55,16 +56,9 @@ pub(crate) fn sum_up(
 fn add_under(sums: &mut Sums, id: u64, more: u64) -> Result<(), Memory>
     ensures { OnOk result (AddsUnder id more sums.old sums.new) }
 {
-    let sum = sum_at(sums, id).saturating_add(more);
-    sums.insert(id, sum)?;
+    let sum = sums.get(id).saturating_add(more);
+    sums.put(id, sum)?;
     Ok(())
-}
-
-/// The sum under an id.
-pub(crate) fn sum_at(sums: &Sums, id: u64) -> u64
-    ensures { result ≡ sum_in sums.now id }
-{
-    sums.get(&id).copied().unwrap_or(0)
 }
 
 // The id under which a thing counts for a part.
@@ -88,7 +82,7 @@ fn share_of(part: Part, known: &Known, held: &Held) -> u64
         Part::Entries => once(held.target().is_some()),
         Part::Directories => once(names_directory(known, held)),
         Part::Links => once(names_owner(known, held)),
-        Part::Reached => { once(names_owner(known, held) && known.reached.contains(&held.id())) }
+        Part::Reached => once(names_owner(known, held) && known.reached.get(held.id())),
         Part::Tails => number_if(is_own(known, held), held.tail_bytes()),
         Part::Blocks => number_if(is_own(known, held), held.extent_blocks()),
         Part::Past => once(is_past(known, held)),

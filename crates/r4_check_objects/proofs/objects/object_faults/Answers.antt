@@ -1,4 +1,4 @@
-use Rattle.std.proofs.Common.{ℕ, List, ◌++◌, ◌∙◌, ap}
+use Rattle.std.proofs.Common.{List, ◌++◌, ◌∙◌, ap}
 use Rattle.std.specs.List.{flat_map}
 use Rattle.r4_check_objects.specs.Objects.{count_faults, faults_under, object_faults}
 use Rattle.r4_check_objects.specs.declared.fault.Fault.{Fault}

@@ -1,4 +1,4 @@
-use Rattle.std.proofs.Common.{◌≡◌, ◌+◌, ◌<◌, ℕ, List, sym, arith, length, subst}
+use Rattle.std.proofs.Common.{◌+◌, ◌<◌, ℕ, List, sym, arith, length, subst}
 use Rattle.r4_check_objects.specs.Reach.{Grows}
 use Rattle.r4_check_objects.specs.declared.reach.Reach.{Reach}
 use Rattle.r4_check_objects.proofs.Walked.{IsWalked, all_reached, few_ids, no_ids, walked_first, walked_more, walked_none}
@@ -6,7 +6,7 @@ use Rattle.r4_check_objects.proofs.reach.reached_ids.Goals as goal
 use Rattle.r4_check_objects.proofs.reach.reached_ids.Goals.{in-Some+in_ok-add_all, in_default}
 
 pub add-requires : goal.add-requires
-add-requires c = no_ids _ c.new.ensures.empty c.new-2.ensures.items
+add-requires c = no_ids _ c.in_ok-new.ensures c.new-2.ensures.items
 
 pub loop-i-init : goal.loop-i-init
 loop-i-init c = walked_first c.args.found.now c.in_ok-named.named _ c.add.new.self c.new-2.ensures.items c.in_ok-add.ensures

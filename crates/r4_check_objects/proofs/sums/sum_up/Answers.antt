@@ -6,7 +6,7 @@ use Rattle.r4_check_objects.proofs.sums.sum_up.Goals as goal
 use Rattle.r4_check_objects.proofs.sums.sum_up.Goals.{then-more-gt0+in_ok-add_under, else-more-gt0}
 
 pub loop-held-init : goal.loop-held-init
-loop-held-init c = no_sums c.args.part c.args.found.now c.new-sums.result c.new-sums.ensures.empty
+loop-held-init c = no_sums c.args.part c.args.found.now c.in_ok-sums.sums c.in_ok-sums.ensures
 
 pub loop-held-preserved : goal.loop-held-preserved
 loop-held-preserved c =

@@ -4,5 +4,5 @@ use Rattle.r4_check_objects.proofs.judging.Judge.size_fits.Goals as goal
 
 pub returns-then-facts-2 : goal.returns-then-facts-2
 returns-then-facts-2 c found j =
-    ap (λ (n : ℕ). c.args.facts.size == n) (c.sum_at.ensures ∙ j.totals.entries.each c.args.id ∙ few_entries found c.args.id j.few)
+    ap (λ (n : ℕ). c.args.facts.size == n) (c.get.ensures ∙ j.totals.entries.each c.args.id ∙ few_entries found c.args.id j.few)
     ∙ sym (directory_size found c.args.id c.args.facts c.if-facts.false c.if-facts-2.true)
