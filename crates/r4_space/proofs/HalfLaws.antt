@@ -1,17 +1,22 @@
 -- The bits of a bitmap, 32 at a time.
-use Rattle.std.proofs.Common.{◌≡◌, ℕ, zero, suc, ◌+◌, ◌-◌, ◌*◌, ◌/◌, ◌%◌, ◌^◌, ◌<◌, ◌≤◌, Bool, true, false, not, ◌||◌, cond, eqb, List, length, take, get_or, refl, sym, ap, ◌∙◌, arith, inl, inr}
+use Rattle.std.proofs.Common.{◌≡◌, ◌⊎◌, ℕ, zero, suc, ◌+◌, ◌-◌, ◌*◌, ◌/◌, ◌%◌, ◌^◌, ◌<◌, ◌≤◌, Bool, true, false, not, ◌||◌, cond, eqb, List, [], ◌∷◌, ◌++◌, length, take, map, get_or, refl, sym, ap, ◌∙◌, arith, inl, inr}
 use Rattle.std.specs.Prelude.{bit_or, nat_le, count_by, count_ones}
 use Rattle.std.specs.Int.{bit_at}
 use Rattle.std.proofs.lemmas.Bool.{cases_lt, le-leb, lt-leb}
-use Rattle.std.proofs.lemmas.List.{take-append-le, take-take, length-take-le}
+use Rattle.std.specs.List.{range_with_len}
+use Rattle.std.proofs.lemmas.List.{get_or_append_left, get_or_at, length-append, take-append-le, take-take, length-take-le}
+use Rattle.std.proofs.lemmas.List.FromFn.{fill_by_all}
 use Rattle.std.proofs.lemmas.Nat.{mod-pow-add, one_shl, pow_pos, mod_below}
-use Rattle.std.proofs.lemmas.Nat.Bits.{bit_at-lt, bit_at-zero, bit_at_ones, bit_at_mask_inside, bit_at_mask_below}
+use Rattle.std.proofs.lemmas.Nat.Bits.{bit_at-lt, bit_at-zero, bit_at_ones, bit_at_mask_inside, bit_at_mask_below, bit_at_cat_low, bit_at_cat_high}
 use lib.Count.{ones_cat, ones-ones}
 use Rattle.r4_base.specs.Bytes.{number_at, number_bytes, overwrite}
 use Rattle.r4_base.specs.Bitmap.{is_used, bits_of}
 use Rattle.r4_base.proofs.Numbers.{length-number_bytes, get_or-overwrite_below, number_at-overwrite}
 use Rattle.r4_bitmap.proofs.WordLaws.{bit_at-number_at}
-use Rattle.r4_space.proofs.WordLaws.{or_bit}
+use Rattle.r4_space.specs.Bitmaps.{marks}
+use Rattle.r4_space.specs.Words.{first_bits, is_set}
+use Rattle.r4_space.proofs.TakenLaws.{get_or-first_bits, length-first_bits}
+use Rattle.r4_space.proofs.WordLaws.{at_bit, or_bit}
 use Rattle.r4_space.proofs.BitmapLaws.{count_more}
 
 -- ---- ones from a bit on
@@ -118,7 +123,7 @@ count_run (suc k) i x block le each =
     let step = zero_or_one (bit_at x k) (count_by not (take (i + k) (bits_of block))) (count_by not (take (i + k + 1) (bits_of block))) (bit_at-lt x k) (more ∙ ap (λ (m : ℕ). count_by not (take (i + k) (bits_of block)) + m) bit) in
     rw (next, same) (omega (arith, ih, ones, step))
 
-used_bit : (j t x : ℕ) (block : List ℕ) → t < 32 → x ≡ number_at 4 (4 + 4 * j) block → is_used block (32 * j + t) ≡ eqb (bit_at x t) 1
+pub used_bit : (j t x : ℕ) (block : List ℕ) → t < 32 → x ≡ number_at 4 (4 + 4 * j) block → is_used block (32 * j + t) ≡ eqb (bit_at x t) 1
 unfolding is_used
 used_bit j t x block below is =
     let byte : 4 + 4 * j + t / 8 ≡ 4 + (32 * j + t) / 8 = omega arith in
@@ -132,3 +137,92 @@ count_half j x block lt small is =
     let run = count_run 32 (32 * j) x block (omega arith) (λ t below. used_bit j t x block below is) in
     let next : 32 * (j + 1) ≡ 32 * j + 32 = omega arith in
     rw next (ap (λ (n : ℕ). count_by not (take (32 * j + 32) (bits_of block)) + count_ones n) (sym whole) ∙ run)
+
+-- ---- 32 bits that are 1
+
+pub all_used : (j k x : ℕ) (block : List ℕ) → x ≡ number_at 4 (4 + 4 * j) block → x ≡ 4294967295 → 32 * j ≤ k
+    → k < 32 * j + 32 → is_used block k ≡ true
+all_used j k x block is ones from to =
+    let at : 32 * j + (k - 32 * j) ≡ k = omega (arith, from) in
+    let within : k - 32 * j < 32 = omega (arith, from, to) in
+    let bit : bit_at x (k - 32 * j) ≡ 1 = ap (λ (n : ℕ). bit_at n (k - 32 * j)) ones ∙ bit_at_ones 32 (k - 32 * j) within in
+    ap (is_used block) (sym at) ∙ used_bit j (k - 32 * j) x block within is ∙ ap (λ (n : ℕ). eqb n 1) bit
+
+pub marks_half : (bitmaps : List (List ℕ)) (h j x : ℕ) (block : List ℕ) → get_or bitmaps (h / 1023) [] ≡ block → j < 32
+    → x ≡ number_at 4 (4 + 4 * (h % 1023)) block → eqb (bit_at x j) 1 ≡ marks bitmaps (32 * h + j)
+marks_half bitmaps h j x block at lt is =
+    let q : (32 * h + j) / 32736 ≡ h / 1023 = omega (arith, lt) in
+    let r : (32 * h + j) % 32736 ≡ 32 * (h % 1023) + j = omega (arith, lt) in
+    sym (used_bit (h % 1023) j x block lt is) ∙ ap (λ (b : List ℕ). is_used b (32 * (h % 1023) + j)) (sym at)
+    ∙ ap (λ (n : ℕ). is_used (get_or bitmaps n []) (32 * (h % 1023) + j)) (sym q)
+    ∙ ap (is_used (get_or bitmaps ((32 * h + j) / 32736) [])) (sym r)
+
+-- ---- words of two times 32 bits
+
+-- one word more, of the halves behind those that stand
+module _ (words : List ℕ) (low high : ℕ) (small : low < 2 ^ 32) (w : ℕ) (size : length words ≡ w) where
+  abbrev word : ℕ
+  word = high * 4294967296 + low
+
+  pub word_before : (k : ℕ) → k < 64 * w → is_set (words ++ word ∷ []) k ≡ is_set words k
+  unfolding is_set
+  word_before k lt =
+      ap (λ (x : ℕ). eqb (bit_at x (k % 64)) 1) (get_or_append_left words (word ∷ []) 0 (k / 64) (omega (arith, lt, size)))
+
+  last : get_or (words ++ word ∷ []) w 0 ≡ word
+  last = get_or_at words word [] 0 w size
+
+  pub word_low : (j : ℕ) → j < 32 → is_set (words ++ word ∷ []) (64 * w + j) ≡ eqb (bit_at low j) 1
+  word_low j lt =
+      at_bit (words ++ word ∷ []) w j (64 * w + j) (omega (arith, lt)) refl
+      ∙ ap (λ (x : ℕ). eqb (bit_at x j) 1) last ∙ ap (λ (b : ℕ). eqb b 1) (bit_at_cat_low high 32 low j lt)
+
+  pub word_high : (j : ℕ) → j < 32 → is_set (words ++ word ∷ []) (64 * w + (32 + j)) ≡ eqb (bit_at high j) 1
+  word_high j lt =
+      let back : 32 + j - 32 ≡ j = omega arith in
+      at_bit (words ++ word ∷ []) w (32 + j) (64 * w + (32 + j)) (omega (arith, lt)) refl
+      ∙ ap (λ (x : ℕ). eqb (bit_at x (32 + j)) 1) last
+      ∙ ap (λ (b : ℕ). eqb b 1) (bit_at_cat_high high 32 low (32 + j) small (omega arith) ∙ ap (bit_at high) back)
+
+-- ---- what bitmaps mark, in words
+
+-- The first words tell what bitmaps mark.
+pub record AreRead (bitmaps : List (List ℕ)) (words : List ℕ) (w : ℕ) : Type 0 where
+  pub size : length words ≡ w
+  pub done : (k : ℕ) → k < 64 * w → k < 32736 * length bitmaps → is_set words k ≡ marks bitmaps k
+
+pub none_read : (bitmaps : List (List ℕ)) (words : List ℕ) → words ≡ [] → AreRead bitmaps words 0
+none_read bitmaps words none = record { size = ap (length {A = ℕ}) none; done = λ k lt within. absurd (omega (arith, lt)) }
+
+pub read_more : (bitmaps : List (List ℕ)) (words new : List ℕ) (w low high : ℕ) → AreRead bitmaps words w → low < 2 ^ 32
+    → new ≡ words ++ (high * 4294967296 + low) ∷ []
+    → ((j : ℕ) → j < 32 → 32 * (2 * w) + j < 32736 * length bitmaps → eqb (bit_at low j) 1 ≡ marks bitmaps (32 * (2 * w) + j))
+    → ((j : ℕ) → j < 32 → 32 * (2 * w + 1) + j < 32736 * length bitmaps
+    → eqb (bit_at high j) 1 ≡ marks bitmaps (32 * (2 * w + 1) + j)) → AreRead bitmaps new (w + 1)
+read_more bitmaps words new w low high are small is one two = record {
+  size = let long = length-append words ((high * 4294967296 + low) ∷ []) in omega (arith, ap (length {A = ℕ}) is, long, are.size);
+  done = λ k lt within. ap (λ (xs : List ℕ). is_set xs k) is ∙ by k lt within (cases_lt k (64 * w)) (cases_lt k (64 * w + 32));
+}
+  where
+    by : (k : ℕ) → k < 64 * (w + 1) → k < 32736 * length bitmaps → (k < 64 * w) ⊎ (64 * w ≤ k)
+        → (k < 64 * w + 32) ⊎ (64 * w + 32 ≤ k) → is_set (words ++ (high * 4294967296 + low) ∷ []) k ≡ marks bitmaps k
+    by k lt within (inl old) _ = word_before words low high small w are.size k old ∙ are.done k old within
+    by k lt within (inr new) (inl first) =
+        let at : 64 * w + (k - 64 * w) ≡ k = omega (arith, new) in
+        let from : 32 * (2 * w) + (k - 64 * w) ≡ k = omega (arith, new) in
+        let j_lt : k - 64 * w < 32 = omega (arith, new, first) in
+        ap (is_set (words ++ (high * 4294967296 + low) ∷ [])) (sym at) ∙ word_low words low high small w are.size (k - 64 * w) j_lt
+        ∙ one (k - 64 * w) j_lt (omega (arith, from, within)) ∙ ap (marks bitmaps) from
+    by k lt within (inr new) (inr second) =
+        let at : 64 * w + (32 + (k - (64 * w + 32))) ≡ k = omega (arith, second) in
+        let from : 32 * (2 * w + 1) + (k - (64 * w + 32)) ≡ k = omega (arith, second) in
+        let j_lt : k - (64 * w + 32) < 32 = omega (arith, second, lt) in
+        ap (is_set (words ++ (high * 4294967296 + low) ∷ [])) (sym at)
+        ∙ word_high words low high small w are.size (k - (64 * w + 32)) j_lt
+        ∙ two (k - (64 * w + 32)) j_lt (omega (arith, from, within)) ∙ ap (marks bitmaps) from
+
+pub read_all : (bitmaps : List (List ℕ)) (words : List ℕ) (w blocks : ℕ) → AreRead bitmaps words w → blocks ≤ 64 * w
+    → blocks ≤ 32736 * length bitmaps → first_bits blocks words ≡ map (marks bitmaps) (range_with_len 0 blocks)
+read_all bitmaps words w blocks are covers within =
+    fill_by_all (marks bitmaps) (first_bits blocks words) blocks false (length-first_bits blocks words)
+    (λ k lt. get_or-first_bits blocks k false words lt ∙ are.done k (omega (arith, lt, covers)) (omega (arith, lt, within)))

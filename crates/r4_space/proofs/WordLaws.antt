@@ -31,7 +31,7 @@ seen word from lt =
 
 -- ---- the bits of one word
 
-at_bit : (words : List ℕ) (w j k : ℕ) → j < 64 → k ≡ 64 * w + j → is_set words k ≡ eqb (bit_at (get_or words w 0) j) 1
+pub at_bit : (words : List ℕ) (w j k : ℕ) → j < 64 → k ≡ 64 * w + j → is_set words k ≡ eqb (bit_at (get_or words w 0) j) 1
 unfolding is_set
 at_bit words w j k lt is =
     let word : k / 64 ≡ w = omega arith in

@@ -1,9 +1,9 @@
 -- The bitmaps of a volume, block by block: what is wrong with them, and the space that they tell (docs/layout.md, "Bitmaps").
-use Rattle.std.specs.Prelude.{◌≡◌, ℕ, ◌+◌, ◌*◌, ◌/◌, ◌%◌, ◌<◌, List, [], ◌∷◌, length, map, replicate, count_by, sum_by, slice_index_or, Option, Some, None, Bool, false, not, ◌==◌, if◌then◌else◌}
+use Rattle.std.specs.Prelude.{◌≡◌, ℕ, ◌+◌, ◌*◌, ◌/◌, ◌%◌, ◌<◌, ◌≤◌, List, [], ◌∷◌, length, map, replicate, count_by, sum_by, slice_index_or, Option, Some, None, Bool, true, false, not, ◌==◌, if◌then◌else◌}
 use Rattle.std.specs.List.{range_with_len}
 use Rattle.std.specs.Option.{option_or}
 use Rattle.r4_base.specs.Image.{Image, block_at}
-use Rattle.r4_base.specs.Bitmap.{are_held, bitmap_block, bitmap_count, bits_of, is_used}
+use Rattle.r4_base.specs.Bitmap.{are_held, bitmap_block, bitmap_count, bits_of, is_always_used, is_used}
 use Rattle.r4_space.specs.Space.{Space}
 
 -- the number of 0 bits among these bitmaps
@@ -22,6 +22,16 @@ first_unheld_of block_count n (block ∷ rest) =
 abbrev pub bitmaps_fault : (block_count free_blocks : ℕ) → List (List ℕ) → Option ℕ
 bitmaps_fault block_count free_blocks bitmaps =
     option_or (first_unheld_of block_count 0 bitmaps) (if free_bits bitmaps == free_blocks then None else Some 18)
+
+-- Of a bitmap's bits from one on up to another, those are 1 that stand for blocks that are always used; and one of its
+-- bits that does is 0. Its first bit stands for this block.
+abbrev pub IsHeldIn : (block_count first from end : ℕ) → List ℕ → Type 0
+IsHeldIn block_count first from end block = (k : ℕ) → from ≤ k → k < end
+    → is_always_used block_count (first + k) ≡ true → is_used block k ≡ true
+
+abbrev pub HasUnheld : (block_count first : ℕ) → List ℕ → Type 0
+HasUnheld block_count first block = (k : ℕ) × (k < 32736)
+    × (is_always_used block_count (first + k) ≡ true) × (is_used block k ≡ false)
 
 -- whether these bitmaps mark block b as used
 abbrev pub marks : List (List ℕ) → ℕ → Bool

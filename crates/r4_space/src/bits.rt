@@ -2,6 +2,8 @@
 
 ghost use Rattle.std.specs.Prelude.{◌≡◌, ℕ, ◌+◌, ◌*◌, ◌<◌, ◌≤◌, length, replicate, true, false, ◌==◌, ◌||◌, slice_set, slice_index_or, IfOk};
 ghost use Rattle.std.specs.Int.{bit_at};
+ghost use Rattle.r4_space.specs.TakenWords.{AreWords};
+ghost use Rattle.r4_space.specs.Words.{first_bits};
 
 use crate::taken::zeros;
 use crate::words::{clear_bit, get_bit, half_of, join_words, set_bit, wipe};
@@ -39,6 +41,14 @@ impl Bits {
             size,
             words: zeros(alloc, (size / 64 + 1) as usize)?,
         })
+    }
+
+    /// The set whose bits stand in these words.
+    pub(crate) fn of_words(size: u64, words: Vec<u64>) -> Bits
+        requires { AreWords size words.items }
+        ensures { result ≡ first_bits size words.items }
+    {
+        Bits { size, words }
     }
 
     /// The same set.

@@ -1,9 +1,10 @@
 //! What the bitmaps of a volume tell.
 
-ghost use Rattle.std.specs.Prelude.{◌≡◌, ℕ, ◌+◌, ◌*◌, ◌/◌, ◌<◌, ◌≤◌, length, map, count_by, not, IfOk, if◌then◌else◌};
+ghost use Rattle.std.specs.Prelude.{◌≡◌, ℕ, ◌+◌, ◌*◌, ◌/◌, ◌<◌, ◌≤◌, length, map, count_by, not, true, false, ◌==◌, IfOk, if◌then◌else◌};
+ghost use Rattle.std.specs.Int.{bit_at};
 ghost use Rattle.std.specs.List.{range_with_len};
 ghost use Rattle.r4_base.specs.Bitmap.{are_held, bits_of, bitmap_block, bitmap_count, is_always_used, is_used};
-ghost use Rattle.r4_space.specs.Bitmaps.{bitmaps_fault, first_unheld_of, free_bits, marks};
+ghost use Rattle.r4_space.specs.Bitmaps.{HasUnheld, IsHeldIn, bitmaps_fault, first_unheld_of, free_bits, marks};
 
 use crate::bits::Bits;
 use crate::marks::HALVES;
@@ -26,14 +27,37 @@ fn is_always_used(blocks: u64, b: u64) -> bool
     is_fixed(blocks, b) || blocks <= b
 }
 
-/// Whether the bits of a bitmap are 1 where they always are; `first` is the number of its first bit.
-fn is_held(block: &[u8], blocks: u64, first: u64) -> bool
+/// Whether the bits of bitmap `n` are 1 where they always are.
+fn is_held(block: &[u8], blocks: u64, n: u64) -> bool
     requires whole { length block.now ≡ 4096 }
-    requires few { first < 4294967296 }
-    ensures { result ≡ are_held blocks first (bits_of block.now) }
+    requires few { n < 64 }
+    ensures { result ≡ are_held blocks (n * 32736) (bits_of block.now) }
 {
-    for i in 0..BITMAP_BITS {
-        if !is_used(block, i) && is_always_used(blocks, first + i) {
+    for j in 0..HALVES {
+        if !is_half_held(block, blocks, n, j) {
+            return false;
+        }
+    }
+    true
+}
+
+/// Whether the 32 bits of bitmap `n` from bit `32 * j` on are 1 where they always are. They are looked at together, unless
+/// some of them are 0 and some may stand for fixed blocks, which only the first ones do, or for numbers past the last block.
+fn is_half_held(block: &[u8], blocks: u64, n: u64, j: u64) -> bool
+    requires whole { length block.now ≡ 4096 }
+    requires few { n < 64 }
+    requires within { j < 1023 }
+    ensures held { result ≡ true → IsHeldIn blocks (n * 32736) (32 * j) (32 * j + 32) block.now }
+    ensures clear { result ≡ false → HasUnheld blocks (n * 32736) block.now }
+{
+    if j > 0 && 32 * (n * HALVES + j + 1) <= blocks {
+        return true;
+    }
+    if get32(block, 4 + 4 * j as usize) == u32::MAX {
+        return true;
+    }
+    for i in 32 * j..32 * j + 32 {
+        if !is_used(block, i) && is_always_used(blocks, n * BITMAP_BITS + i) {
             return false;
         }
     }
@@ -72,7 +96,7 @@ fn find_unheld(bitmaps: &[Block], blocks: u64) -> Option<u64>
     ensures { result ≡ first_unheld_of blocks 0 bitmaps.now }
 {
     for (n, bitmap) in bitmaps.iter().enumerate() {
-        if !is_held(bitmap.bytes(), blocks, n as u64 * BITMAP_BITS) {
+        if !is_held(bitmap.bytes(), blocks, n as u64) {
             return Some(bitmap_block(n as u64).0);
         }
     }
@@ -96,18 +120,29 @@ pub fn find_fault(bitmaps: &[Block], blocks: u64, free_blocks: u64) -> Option<u6
     }
 }
 
-/// For each block whether it is marked.
+/// For each block whether it is marked, read 32 bits at a time.
 pub fn read_marks(alloc: Global, bitmaps: &[Block], blocks: u64) -> Result<Bits, Memory>
     requires most { blocks ≤ 1048576 }
     requires each { length bitmaps.now ≡ bitmap_count blocks }
     ensures { IfOk result (λ v. v ≡ map (marks bitmaps.now) (range_with_len 0 blocks)) }
 {
-    let mut marked = Bits::new(alloc, blocks)?;
-    for b in 0..blocks {
-        let bitmap = &bitmaps[(b / BITMAP_BITS) as usize];
-        if is_used(bitmap.bytes(), b % BITMAP_BITS) {
-            marked.put(b);
-        }
+    let count = blocks / 64 + 1;
+    let mut words = Vec::with_capacity(alloc, count as usize)?;
+    for w in 0..count {
+        let low = half_at(bitmaps, 2 * w);
+        let high = half_at(bitmaps, 2 * w + 1);
+        words.push(u64::from(high) * (1 << 32) + u64::from(low))?;
     }
-    Ok(marked)
+    Ok(Bits::of_words(blocks, words))
+}
+
+/// The 32 bits of the bitmaps from that of block `32 * h` on; none is 1 past the last bitmap.
+fn half_at(bitmaps: &[Block], h: u64) -> u32
+    ensures { (j : ℕ) → j < 32 → 32 * h + j < 32736 * length bitmaps.now
+        → (bit_at result j == 1) ≡ marks bitmaps.now (32 * h + j) }
+{
+    match bitmaps.get((h / HALVES) as usize) {
+        Some(bitmap) => get32(bitmap.bytes(), 4 + 4 * (h % HALVES) as usize),
+        None => 0,
+    }
 }

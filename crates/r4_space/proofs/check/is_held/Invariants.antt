@@ -1,6 +1,6 @@
-use Rattle.std.proofs.Common.{◌≡◌, ℕ, ◌+◌, ◌<◌, true}
-use Rattle.r4_base.specs.Bitmap.{is_always_used, is_used}
+use Rattle.std.proofs.Common.{◌*◌}
+use Rattle.r4_space.specs.Bitmaps.{IsHeldIn}
 use Rattle.r4_space.proofs.check.is_held.Given as goal
 
-abbrev pub invariant-loop-i : goal.invariant-loop-i
-invariant-loop-i l = (k : ℕ) → k < l.i → is_always_used l.blocks (l.first + k) ≡ true → is_used l.block k ≡ true
+abbrev pub invariant-loop-j : goal.invariant-loop-j
+invariant-loop-j l = IsHeldIn l.blocks (l.n * 32736) 0 (32 * l.j) l.block
