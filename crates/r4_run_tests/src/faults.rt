@@ -40,7 +40,7 @@ fn run_from<X: Threads + Wait + Sync>(
         String::from_str(alloc, "run")?,
         String::from_str(alloc, "image")?,
     ];
-    let (gate, run) = (&Slow { times: 0 }, Unnamed::new());
+    let (gate, run) = (&Slow::open(), Unnamed::new());
     Ok(r4_main(rt, alloc, &words, dev, script, out, gate, run).code)
 }
 

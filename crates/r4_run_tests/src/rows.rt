@@ -1,20 +1,10 @@
 //! Scripts that are run by one thread, what is printed, and what is listed then.
 
-use r4_run_testing::{LIST, RUN, fresh, printed};
+use r4_run_testing::{LIST, RUN, Row, fresh, printed};
 use std::alloc::Global;
 use std::sync::Wait;
 use std::test::Fail;
 use std::thread::Threads;
-
-/// The scripts of a run on a fresh volume of 64 blocks, its status, what it prints, and what is listed
-/// of `/` behind it.
-struct Row {
-    name: &'static str,
-    text: &'static str,
-    status: u8,
-    told: &'static str,
-    listed: &'static str,
-}
 
 const EMPTY: &str = "d 0755 2 0 0 0 /\n";
 
