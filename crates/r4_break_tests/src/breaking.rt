@@ -191,13 +191,7 @@ fn told(alloc: Global, call: u64) -> Result<(Log, Log), Fail> {
 }
 
 // Ends the test unless these lines were told.
-fn is_told<X: Abort>(
-    rt: &X,
-    alloc: Global,
-    log: &Log,
-    lines: &str,
-    call: u64,
-) -> Result<(), Fail> {
+fn is_told<X: Abort>(rt: &X, alloc: Global, log: &Log, lines: &str, call: u64) -> Result<(), Fail> {
     let told = String::from_utf8_lossy(alloc, log.lines.as_slice())?;
     assert_eq!(rt; told.as_str(), lines, "{call}");
     Ok(())

@@ -1,8 +1,9 @@
 //! Steps of a core, each by itself.
 
 ghost use Rattle.std.specs.Prelude.{IfOk};
+ghost use Rattle.r4_core_testing.specs.r4_take.Sending.{CanBeBuilt};
 
-use r4_build::{Built, build};
+use r4_build::{Built, Task, build};
 use r4_core_testing::{After, Core, Taken, applied, flush, next};
 use r4_outside::{MemoryDevice, OpenGate, Unnamed};
 use std::alloc::Global;
@@ -13,9 +14,24 @@ pub type Running = Core<MemoryDevice, Unnamed>;
 
 /// The task that goes out next, built.
 pub fn built(core: &mut Running, alloc: Global) -> Result<Built, Fail> {
-    let Taken::Work(task) = next(core, alloc)? else {
-        return Err(Fail::from("no task goes out"));
-    };
+    let task = sent(core, alloc)?;
+    built_of(alloc, task)
+}
+
+// The task that goes out next.
+fn sent(core: &mut Running, alloc: Global) -> Result<Task, Fail>
+    ensures { IfOk result CanBeBuilt }
+{
+    match next(core, alloc)? {
+        Taken::Work(task) => Ok(task),
+        _ => Err(Fail::from("no task goes out")),
+    }
+}
+
+// A task is built.
+fn built_of(alloc: Global, task: Task) -> Result<Built, Fail>
+    requires { CanBeBuilt task }
+{
     match build(alloc, &OpenGate, task) {
         Ok(built) => Ok(built),
         Err(_) => Err(Fail::from("a task is not built")),

@@ -142,11 +142,7 @@ committed a1\n",
 ];
 
 // The image of a row.
-fn image<X: Threads + Wait + Sync>(
-    rt: &X,
-    alloc: Global,
-    row: &Row,
-) -> Result<MemoryDevice, Fail> {
+fn image<X: Threads + Wait + Sync>(rt: &X, alloc: Global, row: &Row) -> Result<MemoryDevice, Fail> {
     let mut dev = fresh(rt, alloc, row.blocks)?;
     let _ = printed(rt, alloc, &RUN, &mut dev, row.made, 0)?;
     change(alloc, &mut dev, row.changes)?;

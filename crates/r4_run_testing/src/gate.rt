@@ -8,6 +8,7 @@ use std::thread;
 // So often a task that is held looks whether the other one came, and after so many looks it lets other
 // threads go first.
 const LOOKS: u32 = 200_000_000;
+
 const LOOKS_A_TURN: u32 = 100_000;
 
 /// A task: its script, and how many of the script's commands stand before its own.
