@@ -1,4 +1,4 @@
-use Rattle.r4_run.proofs.running.run_job.Given as goal
+use Rattle.r4_run.proofs.running.run_named.Given as goal
 
 -- where the device stands now
 abbrev pub ghosts-run_stopped : goal.ghosts-run_stopped
