@@ -1,0 +1,7 @@
+mod AtStart
+mod TwigTurn
+mod AllTurned
+mod LeafTurns
+mod NoBytes
+mod Effects
+mod Whole
