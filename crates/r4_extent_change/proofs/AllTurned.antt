@@ -54,6 +54,14 @@ of_all b e t r u f w twigs is = record {
   numbers = is.numbers;
 }
 
+-- what the turn of the first leaves for the others
+record AreLeft (b : Body) (e : Edits) (t : Store Value) (r : Root) (u : Budget) (f : Fresh) (w v : WorkingSet) (c : CellSeen) (cs : List CellSeen) : Type 0 where
+  left : Budget
+  are : AreOf b e t r left (behind (growing_turn b e c) f) v cs
+  few : most_from left (root_of v r) (standing v) ≤ most_from u (root_of w r) (standing w) + (growing_turn b e c).blocks
+  leaves : (d : CellSeen) → Contains (standing w) d → d.level ≡ 1 → Contains (standing v) d
+  of_cells : (cells : List CellSeen) (from : ℕ) → from ≤ f.next → IsOf cells from f w → IsOf cells from (behind (growing_turn b e c) f) v
+
 module _ (b : Body) (first : Key) (e : Edits) (t : Store Value) (r : Root) (growing : IsGrowing b first) where
   -- ---- each has its condition at its turn
 
@@ -74,14 +82,7 @@ module _ (b : Body) (first : Key) (e : Edits) (t : Store Value) (r : Root) (grow
     numbers = is.numbers;
   }
 
-  -- ---- one turn, and what it leaves for the others
-
-  record AreLeft (u : Budget) (f : Fresh) (w v : WorkingSet) (c : CellSeen) (cs : List CellSeen) : Type 0 where
-    left : Budget
-    are : AreOf b e t r left (behind (growing_turn b e c) f) v cs
-    few : most_from left (root_of v r) (standing v) ≤ most_from u (root_of w r) (standing w) + (growing_turn b e c).blocks
-    leaves : (d : CellSeen) → Contains (standing w) d → d.level ≡ 1 → Contains (standing v) d
-    of_cells : (cells : List CellSeen) (from : ℕ) → from ≤ f.next → IsOf cells from f w → IsOf cells from (behind (growing_turn b e c) f) v
+  -- ---- one turn
 
   module _ (u : Budget) (f : Fresh) (w : WorkingSet) (c : CellSeen) (cs : List CellSeen) (is : AreOf b e t r u f w (c ∷ cs)) (after : Fresh) (v : WorkingSet) (turned : IsTurned t r (growing_turn b e c) f after w v) where
     fits : (f.next + ((growing_turn b e c).blocks + ((growing_turn b e c).leaves + 64)) ≤ f.end) × ((behind (growing_turn b e c) f).next + numbers_for (turns_of b e cs) ≤ f.end)
@@ -115,7 +116,7 @@ module _ (b : Body) (first : Key) (e : Edits) (t : Store Value) (r : Root) (grow
     may_still : (left : Budget) (d : CellSeen) → MayTurn b e u d → left 2 d.id ≡ u 2 d.id → MayTurn b e left d
     may_still left d may same = record { twig = may.twig; clear = may.clear; bytes = may.bytes; come = let n = may.come in omega (arith, n, same) }
 
-    are_left : AreLeft u f w v c cs
+    are_left : AreLeft b e t r u f w v c cs
     are_left =
         let may = is.each c (here c cs) in
         let (left, measured, quiet, same, few) = now_measured b first e u t r f w c growing is.measured is.quiet may c_stands is.low is.high fits.0 after v turned in

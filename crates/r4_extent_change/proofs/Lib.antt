@@ -5,3 +5,4 @@ mod LeafTurns
 mod NoBytes
 mod Effects
 mod Whole
+mod Steps

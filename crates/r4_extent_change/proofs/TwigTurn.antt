@@ -4,6 +4,7 @@ use Rattle.std.specs.Prelude.{Contains, None, Some, true, false}
 use Rattle.std.proofs.lemmas.List.Elements.{Contains-append_cases, Contains-append_left, Contains-append_right}
 use Rattle.std.proofs.lemmas.List.Sorted.{Contains-permutation, IsPermutation-sym}
 use Rattle.std.proofs.lemmas.Option.{none-some}
+use Rattle.r4_base.specs.Key.{rank}
 use Rattle.r4_base.specs.Tree.{Name, Node, Root, Store}
 use Rattle.r4_base.specs.Value.{Value}
 use Rattle.r4_base.specs.declared.key.Key.{Key}
@@ -23,7 +24,7 @@ use Rattle.r4_measure.proofs.r4_patch.Followed.{among_cell, among_or_not, cell_a
 use Rattle.r4_measure.proofs.r4_patch.Members.{absent, cases, here, later, none}
 use Rattle.r4_measure.proofs.r4_patch.PartCells.{apart, one_above}
 use Rattle.r4_measure.proofs.r4_path.Begun.{ascends_take}
-use Rattle.r4_measure.proofs.r4_path.Rising.{InCell, count_within, hi_is, id_member, in_node, level_is, lo_is}
+use Rattle.r4_measure.proofs.r4_path.Rising.{count_within, hi_is, id_member, in_node, level_is, lo_is}
 use Rattle.r4_measure.proofs.r4_work.InPlace.{now_part, standing_is}
 use Rattle.r4_measure.proofs.r4_work.Paths.{ascends_from, lowest_from}
 use Rattle.r4_measure.specs.Budget.{Budget, most_from}
@@ -117,6 +118,15 @@ module _ (b : Body) (first : Key) (ed : Edits) (u : Budget) (t : Store Value) (r
 
     -- ---- the twig that is packed anew
 
+    some_keys : rank c.lo < rank c.hi
+    some_keys =
+        let lo = ap (λ (z : Node Value). z.lo) ready.node_is in
+        let hi = ap (λ (z : Node Value). z.hi) ready.node_is in
+        let own_lo = lo_is c in
+        let own_hi = hi_is c in
+        let key = ready.key in
+        omega (arith, lo, hi, own_lo, own_hi, key)
+
     twig_at : s made.twig.id ≡ Some (node_of made.twig)
     twig_at = let at = lowest_from 6 (standing w) 2 e.key made.twig made.ups made.path in standing_is t r f w is.working made.twig at.among
 
@@ -127,9 +137,8 @@ module _ (b : Body) (first : Key) (ed : Edits) (u : Budget) (t : Store Value) (r
         let m = level_is c in
         let two = at.level_is in
         let low = may.twig.level in
-        let key = ready.key in
         apart s root part made.twig.id c.id (node_of made.twig) (node_of c) e.key twig_at c_at (omega (arith, l, m, two, low)) (omega (arith, l, two))
-        (in_node made.twig e.key at.range) (in_node c e.key (let lo = lo_is c in let hi = hi_is c in let k = key in (omega (arith, lo, k), omega (arith, hi, k))))
+        (in_node made.twig e.key at.range) (in_node c e.key (omega arith, some_keys))
 
     fits : extra_twigs qs ≤ u 2 made.twig.id
     fits = subst (λ j. extra_twigs qs ≤ u 2 j) (sym twig_id) (ready.come f.next)

@@ -1,6 +1,6 @@
 -- The whole change, step by step: what each step needs, and what it leaves for the next one.
-use Rattle.std.proofs.Common.{◌≡◌, ℕ, ◌+◌, ◌*◌, ◌^◌, ◌<◌, ◌≤◌, Bool, true, List, [], ◌∷◌, length, sym, ap, subst, ◌∙◌, arith}
-use Rattle.std.specs.Prelude.{◌==◌, ◌&&◌, Contains, None, Option, Some}
+use Rattle.std.proofs.Common.{◌≡◌, ◌≢◌, inl, inr, ℕ, ◌+◌, ◌*◌, ◌^◌, ◌<◌, ◌≤◌, Bool, true, false, List, [], ◌∷◌, length, refl, sym, ap, subst, ◌∙◌, arith}
+use Rattle.std.specs.Prelude.{◌==◌, ◌&&◌, Contains, Some, if◌then◌else◌}
 use Rattle.std.specs.List.{filter}
 use Rattle.std.proofs.lemmas.Bool.{and_parts, eqb-true}
 use Rattle.r4_base.specs.Tree.{Root, Store}
@@ -32,27 +32,24 @@ use Rattle.r4_extent_change.proofs.LeafTurns.{can_make, few_made}
 
 -- ---- cells of which a test holds
 
-by_test : {A : Type 0} (p : A → Bool) (y x : A) (ys : List A) → Contains (filter p (y ∷ ys)) x → ((x ≡ y) × (p y ≡ true)) ⊎ Contains (filter p ys) x
-by_test {A} p y x ys at = by (p y) refl at
-  where
-    by : (v : Bool) → p y ≡ v → Contains (if v then y ∷ filter p ys else filter p ys) x → ((x ≡ y) × (p y ≡ true)) ⊎ Contains (filter p ys) x
-    by true is m = elim (cases y x (filter p ys) m) [ inl e ↦ inl (e, is) | inr more ↦ inr more ]
-    by false is m = inr m
-
-pub picked : {A : Type 0} (p : A → Bool) (ys : List A) (x : A) → Contains (filter p ys) x → Contains ys x × (p x ≡ true)
-picked p [] x at = absurd (none x at)
-picked p (y ∷ ys) x at = elim (by_test p y x ys at) [
-  | inl h ↦ (subst (λ z. Contains (y ∷ ys) z) (sym h.0) (here y ys), ap p h.0 ∙ h.1)
-  | inr more ↦ let (m, is) = picked p ys x more in (later y x ys m, is)
+pass_one : (v : Bool) (p : CellSeen → Bool) (x y : CellSeen) (xs rest : List CellSeen) → p x ≡ v → (Contains rest y → Contains xs y × (p y ≡ true)) → Contains (if v then x ∷ rest else rest) y → Contains (x ∷ xs) y × (p y ≡ true)
+pass_one true p x y xs rest is more at = elim (cases x y rest at) [
+  | inl same ↦ (subst (Contains (x ∷ xs)) (sym same) (here x xs), ap p same ∙ is)
+  | inr m ↦ let (a, b) = more m in (later x y xs a, b)
 ]
+pass_one false p x y xs rest is more at = let (a, b) = more at in (later x y xs a, b)
 
-picked_apart : (p : CellSeen → Bool) (cells : List CellSeen) → Distinct cells → Distinct (filter p cells)
+picked : (p : CellSeen → Bool) (xs : List CellSeen) (y : CellSeen) → Contains (filter p xs) y → Contains xs y × (p y ≡ true)
+picked p [] y at = absurd (none y at)
+picked p (x ∷ xs) y at = pass_one (p x) p x y xs (filter p xs) refl (picked p xs y) at
+
+apart_one : (v : Bool) (x : CellSeen) (xs rest : List CellSeen) → ((y : CellSeen) → Contains xs y → x.id ≢ y.id) → ((y : CellSeen) → Contains rest y → Contains xs y) → Distinct rest → Distinct (if v then x ∷ rest else rest)
+apart_one true x xs rest first among apart = (λ y m. first y (among y m), apart)
+apart_one false x xs rest first among apart = apart
+
+picked_apart : (p : CellSeen → Bool) (xs : List CellSeen) → Distinct xs → Distinct (filter p xs)
 picked_apart p [] apart = tt
-picked_apart p (c ∷ cs) (first, apart) = by (p c)
-  where
-    by : (v : Bool) → Distinct (if v then c ∷ filter p cs else filter p cs)
-    by true = (λ y m. first y (picked p cs y m).0, picked_apart p cs apart)
-    by false = picked_apart p cs apart
+picked_apart p (x ∷ xs) (first, apart) = apart_one (p x) x xs (filter p xs) first (λ y m. (picked p xs y m).0) (picked_apart p xs apart)
 
 module _ (b : Body) (e : Edits) (u : Budget) (t : Store Value) (r : Root) (f : Fresh) (cells : List CellSeen) (is : CanGrow b e u t r f cells) (w0 : WorkingSet) (start : IsStart cells w0) where
   abbrev twigs : List CellSeen

@@ -1,6 +1,6 @@
 -- A command's change of the cells of its task, where its body stands in extents and loses no blocks (docs/volume.md,
 -- "Bodies in extents"). A key is its rank.
-use Rattle.std.specs.Prelude.{◌≡◌, ◌×◌, ℕ, ◌+◌, ◌*◌, ◌<◌, ◌≤◌, ◌||◌, if◌then◌else◌, Bool, true, List, [], length}
+use Rattle.std.specs.Prelude.{◌≡◌, ℕ, ◌+◌, ◌*◌, ◌≤◌, ◌||◌, if◌then◌else◌, Bool, true, List, length}
 use Rattle.std.specs.Prelude.{Contains, None, Option, Some}
 use Rattle.r4_base.specs.Key.{rank}
 use Rattle.r4_base.specs.Tree.{Name, Node, Root, Store}

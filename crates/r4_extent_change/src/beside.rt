@@ -1,6 +1,6 @@
 //! The edits of a command that lie in leaves, where its body stands in extents (docs/volume.md, "Bodies in extents").
 
-ghost use Rattle.std.specs.Prelude.{◌≡◌, ◌++◌, map, not, IfOk, OnOk};
+ghost use Rattle.std.specs.Prelude.{◌≡◌, ◌++◌, ◌∷◌, [], map, not, IfOk, OnOk};
 ghost use Rattle.std.specs.List.{filter};
 ghost use Rattle.r4_base.specs.Value.{value_of};
 ghost use Rattle.r4_content.specs.Held.{edits_of, interval_of, pair_of};
@@ -41,12 +41,22 @@ fn cut_each(cuts: &mut Vec<Interval>, all: &[Interval]) -> Result<(), Memory>
     match all.split_first() {
         None => Ok(()),
         Some((first, rest)) => {
-            if !is_of_body(first.from) {
-                cuts.push(*first)?;
-            }
+            cut(cuts, first)?;
             cut_each(cuts, rest)
         }
     }
+}
+
+// Puts an interval behind others, where it does not begin with a body's key.
+fn cut(cuts: &mut Vec<Interval>, interval: &Interval) -> Result<(), Memory>
+    ensures { OnOk result (map interval_of cuts.new.items ≡ map interval_of cuts.old.items
+        ++ filter (λ r. not (is_body r.0)) (interval_of interval.now ∷ [])) }
+{
+    if is_of_body(interval.from) {
+        return Ok(());
+    }
+    cuts.push(*interval)?;
+    Ok(())
 }
 
 // Puts those values behind others that are no bytes.
@@ -68,12 +78,12 @@ fn put(puts: &mut Vec<(Key, Value)>, pair: &(Key, Value)) -> Result<(), Memory>
     ensures { OnOk result (map pair_of puts.new.items ≡ map pair_of puts.old.items
         ++ filter (λ p. not (is_byte p.1)) (pair_of pair.now ∷ [])) }
 {
-    match pair.1 {
-        Value::Attr(attr) => puts.push((pair.0, Value::Attr(attr)))?,
-        Value::Entry(ref name, target) => {
-            puts.push((pair.0, Value::Entry(name.share()?, target)))?
-        }
-        Value::Byte(_) => (),
-    }
+    let (key, value) = pair;
+    let shared = match value {
+        Value::Attr(attr) => Value::Attr(*attr),
+        Value::Entry(name, target) => Value::Entry(name.share()?, *target),
+        Value::Byte(_) => return Ok(()),
+    };
+    puts.push((*key, shared))?;
     Ok(())
 }

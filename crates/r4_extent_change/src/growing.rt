@@ -1,7 +1,8 @@
 //! All edits of a command whose body stands in extents and loses no blocks, as one change (docs/volume.md, "Bodies in
 //! extents").
 
-ghost use Rattle.std.specs.Prelude.{◌≡◌, ◌++◌, ◌≤◌, ℕ, Bool, Contains, IfErr, IfOk, List, OnOk, Some, length, map};
+ghost use Rattle.std.specs.Prelude.{◌≡◌, ◌++◌, ◌∷◌, ◌≤◌, [], ℕ, Bool, Contains, IfErr, IfOk, List, OnOk, Some};
+ghost use Rattle.std.specs.Prelude.{length, map};
 ghost use Rattle.std.specs.Arc.{arc_value};
 ghost use Rattle.r4_base.specs.Tree.{Root as TreeRoot, Store};
 ghost use Rattle.r4_base.specs.Value.{Value};
@@ -112,8 +113,12 @@ fn pick(
         ≡ map (λ c. arc_value c) twigs.old.items
         ++ turning_among body.now (edits_of edits.now) (arc_value cell.now ∷ [])) }
 {
-    if cell.level() == 2 && changes_pieces(Some(body), edits, cell) {
-        twigs.push(Arc::try_clone(cell)?)?;
+    if cell.level() != 2 {
+        return Ok(());
     }
+    if !changes_pieces(Some(body), edits, cell) {
+        return Ok(());
+    }
+    twigs.push(Arc::try_clone(cell)?)?;
     Ok(())
 }
