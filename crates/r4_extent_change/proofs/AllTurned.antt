@@ -14,7 +14,7 @@ use Rattle.r4_extent_build.specs.Looping.{AreTurned, CanTurnAll, behind_all, tur
 use Rattle.r4_extent_build.specs.Turns.{growing_turn}
 use Rattle.r4_extent_build.specs.r4_twig_turns.Turning.{AreReady, IsTurned, TwigTurn, behind, numbers_for}
 use Rattle.r4_measure.proofs.Loop.{of_id}
-use Rattle.r4_measure.proofs.r4_patch.Members.{Distinct, distinct, here, later, none}
+use Rattle.r4_measure.proofs.r4_patch.Members.{Distinct, distinct, here, later}
 use Rattle.r4_measure.proofs.r4_path.Rising.{level_is}
 use Rattle.r4_measure.proofs.r4_work.InPlace.{standing_is}
 use Rattle.r4_measure.specs.Budget.{Budget, most_from}
@@ -23,12 +23,10 @@ use Rattle.r4_measure.specs.Measured.{IsMeasured}
 use Rattle.r4_measure.specs.r4_cell.Seen.{CellSeen, node_of}
 use Rattle.r4_measure.specs.r4_cell.declared.change.Fresh.{Fresh}
 use Rattle.r4_measure.specs.r4_patch.Joining.{ids_of}
-use Rattle.r4_measure.specs.r4_path.Grafts.{extra_twigs}
-use Rattle.r4_measure.specs.r4_reach.Needs.{pieces_after}
 use Rattle.r4_measure.specs.r4_reach.Touched.{Body}
 use Rattle.r4_measure.specs.r4_work.Working.{now_of, root_of, standing}
 use Rattle.r4_measure.specs.r4_work.declared.working.WorkingSet.{WorkingSet}
-use Rattle.r4_extent_change.specs.Turned.{LeavesLeaves, MayTurn, MayTurnAll, blocks_coming}
+use Rattle.r4_extent_change.specs.Turned.{LeavesLeaves, MayTurn, MayTurnAll}
 use Rattle.r4_extent_change.proofs.TwigTurn.{now_measured, now_of_cells, ready, stays}
 
 -- what is asked of the twigs

@@ -1,19 +1,19 @@
 -- A working set at its start, where the cells are measured, and once data blocks among them got other bytes.
-use Rattle.std.proofs.Common.{◌≡◌, inl, inr, ℕ, ◌+◌, ◌≤◌, List, [], sym, ap, subst, ◌∙◌, arith}
+use Rattle.std.proofs.Common.{◌≡◌, inl, inr, ◌+◌, ◌≤◌, List, [], ◌∷◌, length, sym, ap, subst, ◌∙◌, arith}
 use Rattle.std.specs.Prelude.{Contains, None, Some, min}
 use Rattle.std.proofs.lemmas.List.Elements.{Contains-append_right}
 use Rattle.std.proofs.lemmas.List.Sorted.{Contains-permutation, sum_by-IsPermutation}
 use Rattle.std.proofs.lemmas.List.Sums.{sum_by-append}
 use Rattle.r4_base.specs.Key.{rank}
-use Rattle.r4_base.specs.Tree.{Name, Node, Root, Store}
+use Rattle.r4_base.specs.Tree.{Root, Store}
 use Rattle.r4_base.specs.Value.{Value}
 use Rattle.r4_build.proofs.Made.{start_of}
 use Rattle.r4_build.specs.Making.{IsOf}
 use Rattle.r4_content.specs.Edited.{Edits}
-use Rattle.r4_extent_renew.specs.Overwriting.{AreSetAmong, AreStandingCells, StaysMeasured}
+use Rattle.r4_extent_renew.specs.Overwriting.{AreSetAmong, AreStandingCells}
 use Rattle.r4_extent_renew.proofs.Picked.{of_cells}
 use Rattle.r4_measure.proofs.Loop.{of_id}
-use Rattle.r4_measure.proofs.r4_patch.Members.{Distinct, cases, distinct, later, none}
+use Rattle.r4_measure.proofs.r4_patch.Members.{Distinct, cases, distinct, none}
 use Rattle.r4_measure.proofs.r4_work.Starting.{start_working}
 use Rattle.r4_measure.specs.Budget.{AreSeen, Budget, IsBudget, cells_from, most_from}
 use Rattle.r4_measure.specs.Measured.{IsMeasured}
@@ -23,7 +23,6 @@ use Rattle.r4_measure.specs.r4_cell.declared.change.Fresh.{Fresh}
 use Rattle.r4_measure.specs.r4_patch.Joining.{ids_of, patch_of_change}
 use Rattle.r4_measure.specs.r4_work.Working.{AreCellsIn, IsStart, IsWorking, now_of, root_of, standing}
 use Rattle.r4_measure.specs.r4_work.declared.working.WorkingSet.{WorkingSet}
-use Rattle.r4_extent_renew.specs.Overwriting.{IsStandingBlock}
 use Rattle.r4_extent_build.specs.r4_twig_turns.r4_twig_work.Renewing.{IsRenewed, StandAsBefore}
 use Rattle.r4_extent_change.specs.Changing.{AreMeasured}
 

@@ -1,6 +1,6 @@
 -- What all three kinds of steps do to units, as one effect.
-use Rattle.std.proofs.Common.{◌≡◌, ℕ, Bool, true, false, List, refl, sym, ap, ◌∙◌}
-use Rattle.std.specs.Prelude.{◌&&◌, ◌||◌, Option, None, Some, if◌then◌else◌, unwrap_or}
+use Rattle.std.proofs.Common.{◌≡◌, ℕ, Bool, true, false, List, refl}
+use Rattle.std.specs.Prelude.{◌||◌, Option, None, Some, if◌then◌else◌, unwrap_or}
 use Rattle.std.specs.Option.{is_some, option_map}
 use Rattle.std.proofs.lemmas.Bool.{and_parts}
 use Rattle.r4_base.specs.Value.{Byte, Value}

@@ -1,6 +1,5 @@
 -- What the calls of the whole change say, one after the other, and what follows of them.
-use Rattle.std.proofs.Common.{◌≡◌, ℕ, ◌+◌, ◌^◌, ◌≤◌, Bool, true, List, length, refl, sym, ap, subst, ◌∙◌, arith}
-use Rattle.std.specs.Prelude.{Contains}
+use Rattle.std.proofs.Common.{◌≡◌, ℕ, ◌^◌, ◌≤◌, Bool, List, length, sym, ap, subst, ◌∙◌, arith}
 use Rattle.r4_base.specs.Tree.{Root, Store}
 use Rattle.r4_base.specs.Value.{Value}
 use Rattle.r4_build.proofs.Made.{few_new}
@@ -17,7 +16,7 @@ use Rattle.r4_measure.specs.r4_patch.Joining.{patch_of_change}
 use Rattle.r4_measure.specs.r4_path.Steps.{OnlyTakes}
 use Rattle.r4_measure.specs.r4_reach.Touched.{Body}
 use Rattle.r4_measure.specs.r4_work.Remaking.{Changes}
-use Rattle.r4_measure.specs.r4_work.Working.{HasNoEffect, IsStart, IsWorking}
+use Rattle.r4_measure.specs.r4_work.Working.{HasNoEffect, IsStart}
 use Rattle.r4_measure.specs.r4_work.declared.working.WorkingSet.{WorkingSet}
 use Rattle.r4_extent_build.specs.r4_twig_turns.r4_twig_work.Renewing.{IsRenewed, StandAsBefore}
 use Rattle.r4_extent_change.specs.Beside.{turning_among, without_bytes}

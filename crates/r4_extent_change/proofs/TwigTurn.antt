@@ -28,7 +28,7 @@ use Rattle.r4_measure.proofs.r4_path.Rising.{count_within, hi_is, id_member, in_
 use Rattle.r4_measure.proofs.r4_work.InPlace.{now_part, standing_is}
 use Rattle.r4_measure.proofs.r4_work.Paths.{ascends_from, lowest_from}
 use Rattle.r4_measure.specs.Budget.{Budget, most_from}
-use Rattle.r4_measure.specs.Grafting.{Beside, IsQuietBelow, comes_below}
+use Rattle.r4_measure.specs.Grafting.{Beside, IsQuietBelow}
 use Rattle.r4_measure.specs.Measured.{IsMeasured}
 use Rattle.r4_measure.specs.r4_branch.declared.piece.TwigPiece.{TwigPiece}
 use Rattle.r4_measure.specs.r4_cell.Seen.{CellSeen, node_of}

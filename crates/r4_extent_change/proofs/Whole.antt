@@ -1,6 +1,6 @@
 -- The whole change, step by step: what each step needs, and what it leaves for the next one.
 use Rattle.std.proofs.Common.{◌≡◌, ◌≢◌, inl, inr, ℕ, ◌+◌, ◌*◌, ◌^◌, ◌<◌, ◌≤◌, Bool, true, false, List, [], ◌∷◌, length, refl, sym, ap, subst, ◌∙◌, arith}
-use Rattle.std.specs.Prelude.{◌==◌, ◌&&◌, Contains, Some, if◌then◌else◌}
+use Rattle.std.specs.Prelude.{◌==◌, Contains, Some, if◌then◌else◌}
 use Rattle.std.specs.List.{filter}
 use Rattle.std.proofs.lemmas.Bool.{and_parts, eqb-true}
 use Rattle.r4_base.specs.Tree.{Root, Store}
@@ -12,15 +12,14 @@ use Rattle.r4_extent_build.specs.Looping.{AreKeysOfEach, AreTurned, CanTurnAll, 
 use Rattle.r4_extent_build.specs.Setting.{bytes_after}
 use Rattle.r4_extent_renew.specs.Overwriting.{AreSetAmong, AreStandingCells, StaysMeasured}
 use Rattle.r4_measure.proofs.r4_patch.Members.{Distinct, cases, distinct, have_names, here, later, none}
-use Rattle.r4_measure.specs.Budget.{Budget, most_from}
+use Rattle.r4_measure.specs.Budget.{Budget}
 use Rattle.r4_measure.specs.Measured.{IsMeasured}
-use Rattle.r4_measure.specs.r4_cell.Patch.{HaveNames}
 use Rattle.r4_measure.specs.r4_cell.Seen.{CellSeen, node_of}
 use Rattle.r4_measure.specs.r4_cell.declared.change.Fresh.{Fresh}
 use Rattle.r4_measure.specs.r4_reach.Needs.{changes_pieces}
 use Rattle.r4_measure.specs.r4_reach.Touched.{Body}
 use Rattle.r4_measure.specs.r4_work.Remaking.{Changes}
-use Rattle.r4_measure.specs.r4_work.Working.{IsStart, root_of, standing}
+use Rattle.r4_measure.specs.r4_work.Working.{IsStart, standing}
 use Rattle.r4_measure.specs.r4_work.declared.working.WorkingSet.{WorkingSet}
 use Rattle.r4_extent_build.specs.r4_twig_turns.r4_twig_work.Renewing.{IsRenewed, StandAsBefore}
 use Rattle.r4_extent_change.specs.Beside.{is_turning, turning_among, without_bytes}

@@ -20,8 +20,8 @@ use Rattle.r4_extent_build.specs.Looping.{IsTwigFor, behind_all, turns_of}
 use Rattle.r4_extent_build.specs.Turns.{growing_turn}
 use Rattle.r4_extent_build.specs.r4_twig_turns.Turning.{numbers_for}
 
--- Nothing stands in the twig where blocks of the body come; its pieces need no more than 16000 bytes afterwards, and what
--- comes beside it is in the budget.
+-- Nothing stands in the twig where blocks of the body come; its pieces need no more than 16000 bytes afterwards, and
+-- what comes beside it is in the budget.
 pub record MayTurn (b : Body) (e : Edits) (u : Budget) (c : CellSeen) : Type 0 where
   pub twig : IsTwigFor b e c
   pub clear : IsClearFor b c
@@ -32,8 +32,8 @@ pub record MayTurn (b : Body) (e : Edits) (u : Budget) (c : CellSeen) : Type 0 w
 abbrev pub blocks_coming : Body → Edits → List CellSeen → ℕ
 blocks_coming b e twigs = sum_by (λ (c : CellSeen). (growing_turn b e c).blocks) twigs
 
--- The set is measured, nothing more comes below twigs, and these twigs of it may have their turns; no two have one name,
--- and there are numbers for them.
+-- The set is measured, nothing more comes below twigs, and these twigs of it may have their turns; no two have one
+-- name, and there are numbers for them.
 pub record MayTurnAll (b : Body) (e : Edits) (u : Budget) (t : Store Value) (r : Root) (f : Fresh)
     (w : WorkingSet) (twigs : List CellSeen) : Type 0 where
   pub measured : IsMeasured t r f w u
@@ -44,8 +44,8 @@ pub record MayTurnAll (b : Body) (e : Edits) (u : Budget) (t : Store Value) (r :
   pub unplaced : AreUnplaced f
   pub numbers : f.next + numbers_for (turns_of b e twigs) ≤ f.end
 
--- The set after it is measured for the numbers that are left, and still nothing more comes below twigs. In the end there
--- may be no more cells than before, and the blocks that came; each leaf that stood stands.
+-- The set after it is measured for the numbers that are left, and still nothing more comes below twigs. In the end
+-- there may be no more cells than before, and the blocks that came; each leaf that stood stands.
 pub record LeavesLeaves (b : Body) (e : Edits) (u : Budget) (t : Store Value) (r : Root) (f : Fresh)
     (w now : WorkingSet) (twigs : List CellSeen) : Type 0 where
   pub left : Budget

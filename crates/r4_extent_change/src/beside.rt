@@ -2,7 +2,6 @@
 
 ghost use Rattle.std.specs.Prelude.{◌≡◌, ◌++◌, ◌∷◌, [], map, not, IfOk, OnOk};
 ghost use Rattle.std.specs.List.{filter};
-ghost use Rattle.r4_base.specs.Value.{value_of};
 ghost use Rattle.r4_content.specs.Held.{edits_of, interval_of, pair_of};
 ghost use Rattle.r4_leaf_edits.specs.Suiting.{is_byte};
 ghost use Rattle.r4_measure.specs.r4_reach.Reach.{is_body};

@@ -1,7 +1,7 @@
 //! All edits of a command whose body stands in extents and loses no blocks, as one change (docs/volume.md, "Bodies in
 //! extents").
 
-ghost use Rattle.std.specs.Prelude.{◌≡◌, ◌++◌, ◌∷◌, ◌≤◌, [], ℕ, Bool, Contains, IfErr, IfOk, List, OnOk, Some};
+ghost use Rattle.std.specs.Prelude.{◌≡◌, ◌++◌, ◌∷◌, ◌≤◌, [], ℕ, Bool, Contains, IfErr, IfOk, OnOk, Some};
 ghost use Rattle.std.specs.Prelude.{length, map};
 ghost use Rattle.std.specs.Arc.{arc_value};
 ghost use Rattle.r4_base.specs.Tree.{Root as TreeRoot, Store};
@@ -33,10 +33,10 @@ use std::sync::Arc;
 
 /// Makes all edits of a command whose body stands in extents and loses no blocks, and gives them as one change of the
 /// cells of its task. Data blocks that stand get the bytes that are set in them, and their twigs are not touched; each
-/// twig whose pieces change is packed anew once, with the data blocks that come, of the bytes that are set and of zeros;
-/// and each leaf with attributes or entries that change is edited once. What is cut of the body stays. It has no more new
-/// cells than the budget has, and the blocks that come. The only error is want of memory: then the numbers are as they
-/// were (docs/volume.md, "Bodies in extents").
+/// twig whose pieces change is packed anew once, with the data blocks that come, of the bytes that are set and of
+/// zeros; and each leaf with attributes or entries that change is edited once. What is cut of the body stays. It has no
+/// more new cells than the budget has, and the blocks that come. The only error is want of memory: then the numbers are
+/// as they were (docs/volume.md, "Bodies in extents").
 pub fn change_of_growing(
     alloc: Global,
     cells: &[Arc<Cell>],

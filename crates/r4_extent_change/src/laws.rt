@@ -14,9 +14,9 @@ ghost use Rattle.r4_measure.specs.r4_reach.Touched.{Body};
 ghost use Rattle.r4_measure.specs.r4_work.declared.working.WorkingSet.{WorkingSet};
 ghost use Rattle.r4_extent_change.specs.Turned.{LeavesLeaves, MayTurnAll};
 
-/// Twigs of a growing body that had their turns leave a measured set, in which the leaves stand that stood: so the edits
-/// of leaves may follow, with the numbers that are left. No more cells may stand in the end than before, and the blocks
-/// that came.
+/// Twigs of a growing body that had their turns leave a measured set, in which the leaves stand that stood: so the
+/// edits of leaves may follow, with the numbers that are left. No more cells may stand in the end than before, and the
+/// blocks that came.
 pub fn turned_twigs_leave_leaves()
     ensures { (b : Body) (first : Key) (e : Edits) (u : Budget) (t : Store Value) (r : TreeRoot)
         (f : Fresh) (w now : WorkingSet) (twigs : List CellSeen) → IsGrowing b first

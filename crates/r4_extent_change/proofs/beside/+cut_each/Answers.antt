@@ -14,6 +14,6 @@ returns-in_ok-cut-in-Some t c =
     let rest = map interval_of c.in-Some.rest.now in
     let is = ap (map interval_of) c.in-Some.ensures.cases.0 in
     on_ok_weaker c.cut_each.result (λ done.
-        done ∙ (ap (λ xs. xs ++ filter (λ r. not (is_body r.0)) rest) c.in_ok-cut-in-Some.ensures ∙ (append_assoc old (filter (λ r. not (is_body r.0)) (first ∷ [])) (filter (λ r. not (is_body r.0)) rest)
-        ∙ ap (λ xs. old ++ xs) (sym (filter-append (λ r. not (is_body r.0)) (first ∷ []) rest) ∙ ap (filter (λ r. not (is_body r.0))) (sym is)))))
+    done ∙ (ap (λ xs. xs ++ filter (λ r. not (is_body r.0)) rest) c.in_ok-cut-in-Some.ensures ∙ (append_assoc old (filter (λ r. not (is_body r.0)) (first ∷ [])) (filter (λ r. not (is_body r.0)) rest)
+    ∙ ap (λ xs. old ++ xs) (sym (filter-append (λ r. not (is_body r.0)) (first ∷ []) rest) ∙ ap (filter (λ r. not (is_body r.0))) (sym is)))))
     c.cut_each.ensures

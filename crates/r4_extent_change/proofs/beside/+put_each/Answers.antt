@@ -14,6 +14,6 @@ returns-in_ok-put-in-Some t c =
     let rest = map pair_of c.in-Some.rest.now in
     let is = ap (map pair_of) c.in-Some.ensures.cases.0 in
     on_ok_weaker c.put_each.result (λ done.
-        done ∙ (ap (λ xs. xs ++ filter (λ p. not (is_byte p.1)) rest) c.in_ok-put-in-Some.ensures ∙ (append_assoc old (filter (λ p. not (is_byte p.1)) (first ∷ [])) (filter (λ p. not (is_byte p.1)) rest)
-        ∙ ap (λ xs. old ++ xs) (sym (filter-append (λ p. not (is_byte p.1)) (first ∷ []) rest) ∙ ap (filter (λ p. not (is_byte p.1))) (sym is)))))
+    done ∙ (ap (λ xs. xs ++ filter (λ p. not (is_byte p.1)) rest) c.in_ok-put-in-Some.ensures ∙ (append_assoc old (filter (λ p. not (is_byte p.1)) (first ∷ [])) (filter (λ p. not (is_byte p.1)) rest)
+    ∙ ap (λ xs. old ++ xs) (sym (filter-append (λ p. not (is_byte p.1)) (first ∷ []) rest) ∙ ap (filter (λ p. not (is_byte p.1))) (sym is)))))
     c.put_each.ensures

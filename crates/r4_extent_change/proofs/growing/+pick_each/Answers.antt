@@ -16,6 +16,6 @@ returns-in_ok-pick-in-Some t c =
     let rest = map (λ x. arc_value x) c.in-Some.rest.now in
     let is = ap (map (λ x. arc_value x)) c.in-Some.ensures.cases.0 in
     on_ok_weaker c.pick_each.result (λ done.
-        done ∙ (ap (λ xs. xs ++ turning_among b e rest) c.in_ok-pick-in-Some.ensures ∙ (append_assoc old (turning_among b e (first ∷ [])) (turning_among b e rest)
-        ∙ ap (λ xs. old ++ xs) (sym (filter-append (is_turning b e) (first ∷ []) rest) ∙ ap (turning_among b e) (sym is)))))
+    done ∙ (ap (λ xs. xs ++ turning_among b e rest) c.in_ok-pick-in-Some.ensures ∙ (append_assoc old (turning_among b e (first ∷ [])) (turning_among b e rest)
+    ∙ ap (λ xs. old ++ xs) (sym (filter-append (is_turning b e) (first ∷ []) rest) ∙ ap (turning_among b e) (sym is)))))
     c.pick_each.ensures
