@@ -1,10 +1,10 @@
 -- A run against which nothing stands comes to its end, or there was no memory.
-use Rattle.std.proofs.Common.{◌≡◌, ◌⊎◌, inl, inr, ℕ, ◌+◌, ◌<◌, ◌≤◌, List, []}
-use Rattle.std.proofs.Common.{Option, Some, None, Ok, Err, refl, ap, sym, subst, ◌∙◌, arith}
+use Rattle.std.proofs.Common.{◌≡◌, ◌⊎◌, inl, inr, ℕ, List, []}
+use Rattle.std.proofs.Common.{Option, None, refl, ap, sym, subst, ◌∙◌, arith}
 use Rattle.r4_base.proofs.Logs.{not_refused, one_log}
 use Rattle.r4_base.proofs.Members.{no_member}
 use Rattle.r4_base.proofs.Needed.{replayed_volume}
-use Rattle.r4_base.specs.Chain.{HasLog, Txn, chain_pairs, is_footer}
+use Rattle.r4_base.specs.Chain.{Txn, chain_pairs, is_footer}
 use Rattle.r4_base.specs.Image.{AgreesOutside, Image, IsImage, put_pairs}
 use Rattle.r4_base.specs.Value.{Content}
 use Rattle.r4_base.specs.Volume.{HasContent, HasVolume}
@@ -27,7 +27,7 @@ use Rattle.r4_shared.specs.r4_history.Tables.{asked}
 use Rattle.r4_run.specs.Completing.{IsClear, IsUnhindered}
 use Rattle.r4_run.specs.Generated.{RunsWorkload}
 use Rattle.r4_run.specs.Ending.{TellsWhy}
-use Rattle.r4_run.specs.Running.{Ends, Ran}
+use Rattle.r4_run.specs.Running.{Ran}
 use Rattle.r4_run.specs.Scripts.{Runs}
 
 no_misfit : (b : ℕ) (f : LayoutFault) → misfit b f ≡ None → ⊥

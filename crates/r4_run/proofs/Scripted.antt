@@ -1,8 +1,13 @@
 -- What becomes of a source's text, and what is said of a borrowed device is so of the device.
-use Rattle.std.proofs.Common.{◌≡◌, ◌⊎◌, ◌↔◌, ◌∙◌, ap, inl, inr, refl, sym, ℕ, ◌≤◌, List, Option, Some, None}
+use Rattle.std.proofs.Common.{◌≡◌, ◌⊎◌, ◌↔◌, ◌∙◌, ap, inl, inr, refl, sym, subst, ℕ, ◌≤◌, List, Option, Some, None}
 use Rattle.std.proofs.Common.{IsSome, Ok}
 use Rattle.std.specs.Borrow.{GName}
 use Rattle.r4_base.specs.Image.{Image, IsLawful as IsSize}
+use Rattle.r4_gen.specs.Workload.{workload_of}
+use Rattle.r4_lines.specs.Lines.{memory_line}
+use Rattle.r4_lines.specs.Printed.{Prints}
+use Rattle.r4_summary.specs.Totals.{summary_text}
+use Rattle.r4_run.specs.Generated.{RunsWorkload}
 use Rattle.r4_devices.specs.declared.torn.Stop.{Stop}
 use Rattle.r4_shared.specs.r4_history.Tables.{asked}
 use Rattle.r4_outside.specs.Device.{State, lent_to}
@@ -18,7 +23,8 @@ use Rattle.r4_shared.specs.r4_start.declared.fault.OpenWhy.TheVariants as why
 use Rattle.r4_trace.specs.Job.{Asked}
 use Rattle.r4_trace.specs.Text.{trace_text}
 use Rattle.r4_trace.specs.declared.entry.Entry.{Entry}
-use Rattle.r4_run.specs.Naming.{named}
+use Rattle.r4_outside.proofs.Lent.{lent_quiet}
+use Rattle.r4_run.specs.Naming.{Begins, named}
 use Rattle.r4_words.specs.Options.{StopAsked}
 use Rattle.r4_run.specs.Running.{Ends, EndsSo, IsTraceOf, IsUnopened, IsWholeRun, Ran}
 use Rattle.r4_run.specs.Scripts.{Runs, TellsFault}
@@ -128,6 +134,14 @@ module _ (shown : List Entry → List ℕ) (start : Option Image) (clock : Optio
   })
   runs_lent (Some stop) code old new (inr r) = inr (stopped_lent stop code old new r)
 
+pub begins_lent : (start : Option Image) (clock : Option ℕ) (n : GName) (d : State) → Begins start clock d
+    → Begins start clock (lent_to n d)
+begins_lent start clock n d b = record {
+  start_is = b.start_is;
+  clock_is = b.clock_is;
+  quiet = λ s t tells. lent_quiet n d (b.quiet s t tells);
+}
+
 -- ---- the text
 
 module _ (stop : Option StopAsked) (start : Option Image) (clock : Option ℕ) (s s' : SourceState) (d e : State)
@@ -164,3 +178,17 @@ module _ (stop : Option StopAsked) (start : Option Image) (clock : Option ℕ) (
       ran = runs_lent trace_text start clock (asked j) n m d e stop code k k' r;
     }));
   }
+
+-- ---- a workload
+
+module _ (stop : Option StopAsked) (start : Option Image) (clock : Option ℕ) (seed : ℕ) (d e : State)
+    (k k' : SinkState) (code : ℕ) where
+  pub workload_unmade : code ≡ 9 → Prints memory_line k k' → RunsWorkload seed stop start clock d k code d k'
+  workload_unmade nine line = inl (record { nine = nine; idle = record { seen = refl; clock = refl }; line = line })
+
+  pub workload_run : (n m : GName) (job : Job) → job ≡ workload_of seed
+      → RunsBy (summary_text seed) stop start clock (asked job) (lent_to n d) k code (lent_to m e) k'
+      → RunsWorkload seed stop start clock d k code e k'
+  workload_run n m job is r = inr (subst
+      (λ (j : Job). RunsBy (summary_text seed) stop start clock (asked j) d k code e k') is
+      (runs_lent (summary_text seed) start clock (asked job) n m d e stop code k k' r))

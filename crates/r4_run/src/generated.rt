@@ -10,7 +10,7 @@ use crate::ending::tell_memory;
 use crate::running::{Ended, run_job};
 use crate::showing::Shown;
 use r4_gen::workload;
-use r4_outside::{Device, Gate, Run, Sink};
+use r4_outside::{Device, Gate, Named, NamedNew, Run, Sink};
 use r4_words::StopWords;
 use std::alloc::Global;
 use std::sync::Wait;
@@ -39,6 +39,9 @@ pub fn run_generated<D: Device, K: Sink, G: Gate, R: Run, X: Threads + Wait + Sy
         return tell_memory(out);
     };
     let shown = Shown::Summary { seed };
-    let Ended { dev: _, code } = run_job(rt, alloc, dev, job, shown, threads, stop, gate, out, run);
+    let names = Named::new();
+    let Ended { dev: _, code } = run_job(
+        rt, alloc, dev, job, shown, threads, stop, gate, out, run, names,
+    );
     code
 }

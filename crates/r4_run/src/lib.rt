@@ -9,8 +9,10 @@ mod running;
 mod scripts;
 mod session;
 mod showing;
+mod spelling;
 
 pub use generated::run_generated;
 pub use running::{Ended, run_job};
 pub use scripts::run_scripts;
 pub use showing::Shown;
+pub use spelling::Spelling;

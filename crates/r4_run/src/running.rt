@@ -1,6 +1,6 @@
 //! A job is run, on its device or on one over it that stops, and its end is told.
 
-ghost use Rattle.std.specs.Prelude.{◌≡◌, ℕ, List, Ok, Some};
+ghost use Rattle.std.specs.Prelude.{◌≡◌, Ok, Some};
 ghost use Rattle.std.specs.Option.{option_map};
 ghost use Rattle.r4_devices.specs.Stop.{told};
 ghost use Rattle.r4_shared.specs.r4_history.Tables.{asked};
@@ -17,6 +17,7 @@ use crate::ending::{tell_end, tell_memory};
 use crate::naming::serve_job;
 use crate::session::Outcome;
 use crate::showing::Shown;
+use crate::spelling::Spelling;
 use r4_devices::{StopDevice, Unmade};
 use r4_origin::{FromStart, Origin};
 use r4_outside::{Device, Gate, Named, NamedNew, Run, Sink};
@@ -38,7 +39,7 @@ pub struct Ended<E> {
 /// that of a device over it which stops so.
 ///
 /// The job is one that some text spells, by which contracts name it. No code needs that text.
-pub fn run_job<E: Device, K: Sink, G: Gate, R: Run, X: Threads + Wait + Sync>(
+pub fn run_job<E: Device, K: Sink, G: Gate, R: Run, S: Spelling, X: Threads + Wait + Sync>(
     rt: &X,
     alloc: Global,
     dev: E,
@@ -49,16 +50,16 @@ pub fn run_job<E: Device, K: Sink, G: Gate, R: Run, X: Threads + Wait + Sync>(
     gate: &G,
     out: &mut K,
     run: R,
+    spelling: S,
 ) -> Ended<E>
-    ghost text: { List ℕ }
     requires begins { Begins R.start R.clock (E.state dev) }
     requires scripts { AreScripts job.scripts }
-    requires spells { job_of text ≡ Ok job }
+    requires spells { job_of S.text ≡ Ok job }
     ensures goes { Goes (E.state dev) (E.state result.dev) }
     ensures ran { RunsBy (text_shown shown) (option_map asked_stop stop) R.start R.clock (asked job)
         (E.state dev) (K.state out.old) result.code (E.state result.dev) (K.state out.new) }
 {
-    let _ = run;
+    let _ = (run, spelling);
     let names = Named::new();
     run_named(rt, alloc, dev, job, shown, threads, stop, gate, out, names)
 }

@@ -1,6 +1,6 @@
 //! The scripts of a source are run.
 
-ghost use Rattle.std.specs.Prelude.{◌≡◌, ℕ, List, Ok};
+ghost use Rattle.std.specs.Prelude.{◌≡◌, Ok};
 ghost use Rattle.std.specs.Option.{option_map};
 ghost use Rattle.r4_outside.specs.Device.{Goes};
 ghost use Rattle.r4_run.specs.Naming.{Begins};
@@ -15,8 +15,9 @@ ghost use Rattle.r4_words.specs.Options.{asked_stop};
 use crate::ending::tell_memory;
 use crate::running::{Ended, run_job};
 use crate::showing::Shown;
+use crate::spelling::Spelling;
 use r4_lines::{write_script, write_source};
-use r4_outside::{Device, Gate, Run, Sink, Source};
+use r4_outside::{Device, Gate, Named, NamedNew, Run, Sink, Source};
 use r4_script::{Job, ParseFault, ScriptFault, What, parse};
 use r4_source::{ReadFault, read_text};
 use r4_words::StopWords;
@@ -63,12 +64,13 @@ pub fn run_scripts<D: Device, S: Source, K: Sink, G: Gate, R: Run, X: Threads + 
         gate,
         out,
         run,
+        Named::new(),
     );
     code
 }
 
 // Runs the job that a text spells, and prints its trace. The text only names the job.
-fn run_text<E: Device, K: Sink, G: Gate, R: Run, X: Threads + Wait + Sync>(
+fn run_text<E: Device, K: Sink, G: Gate, R: Run, S: Spelling, X: Threads + Wait + Sync>(
     rt: &X,
     alloc: Global,
     dev: E,
@@ -79,19 +81,20 @@ fn run_text<E: Device, K: Sink, G: Gate, R: Run, X: Threads + Wait + Sync>(
     gate: &G,
     out: &mut K,
     run: R,
+    spelling: S,
 ) -> Ended<E>
-    ghost named: { List ℕ }
     requires begins { Begins R.start R.clock (E.state dev) }
     requires scripts { AreScripts job.scripts }
-    requires spells { job_of text.now ≡ Ok job }
-    requires named { named ≡ text.now }
+    requires spells { job_of S.text ≡ Ok job }
     ensures goes { Goes (E.state dev) (E.state result.dev) }
     ensures ran { RunsBy trace_text (option_map asked_stop stop) R.start R.clock (asked job)
         (E.state dev) (K.state out.old) result.code (E.state result.dev) (K.state out.new) }
 {
     let _ = text;
     let shown = Shown::Trace;
-    run_job(rt, alloc, dev, job, shown, threads, stop, gate, out, run)
+    run_job(
+        rt, alloc, dev, job, shown, threads, stop, gate, out, run, spelling,
+    )
 }
 
 // Says why the text was not read. A sink that fails here does not change the status.

@@ -4,6 +4,8 @@
 #[cfg(test)]
 mod limits;
 #[cfg(test)]
+mod generated;
+#[cfg(test)]
 mod rows;
 #[cfg(test)]
 mod threads;

@@ -6,6 +6,6 @@ abbrev pub ghosts-run_named : goal.ghosts-run_named
 ghosts-run_named g a = record {
   start = g.R.Run.start;
   clock = g.R.Run.clock;
-  scripts = Some g.text;
+  scripts = Some g.S.Spelling.text;
   lender = None;
 }

@@ -1,5 +1,5 @@
 use Rattle.r4_run.proofs.scripts.run_scripts.Given as goal
 
 -- the text that was read
-abbrev pub ghost-run_text : goal.ghost-run_text
-ghost-run_text g a = a.text.now
+abbrev pub ghosts-run_text : goal.ghosts-run_text
+ghosts-run_text g a = record { text = a.text.now }
