@@ -1,5 +1,5 @@
 -- A run without a stop comes to its end where nothing stands against it.
-use Rattle.std.proofs.Common.{◌≡◌, ◌⊎◌, ◌∙◌, ℕ, Option, Some, None, subst, sym}
+use Rattle.std.proofs.Common.{◌≡◌, ◌⊎◌, ◌∙◌, ℕ, Option, Some, None, subst}
 use Rattle.r4_base.specs.Image.{Image}
 use Rattle.r4_outside.specs.Device.{Goes, State}
 use Rattle.r4_outside.specs.Sink.{SinkState}

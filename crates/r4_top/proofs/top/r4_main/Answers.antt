@@ -1,4 +1,4 @@
-use Rattle.std.proofs.Common.{◌∙◌, ap, refl, subst, sym}
+use Rattle.std.proofs.Common.{◌∙◌, Some, ap, refl, subst, sym}
 use Rattle.std.specs.Prelude.{Option, option_map}
 use Rattle.r4_outside.proofs.Moments.{goes_same}
 use Rattle.r4_replay.proofs.Idling.{idle_always}
@@ -15,12 +15,12 @@ returns-in-None-clause-any_moment g c = λ quiet.
 
 pub returns-in-Some-Run-clause-runs : goal.returns-in-Some-Run-clause-runs
 returns-in-Some-Run-clause-runs g c = λ asked is.
-    let words = asked_run c.in-Some-Run.field-0 in
-    runs_so words asked (one_run words asked _ (sym (ap (option_map asked_by) c.in-Some-Run.is) ∙ c.read_words.ensures.asked) is)
+    let words = asked_run c.in-Some-Run.words in
+    runs_so words asked (one_run words asked _ (sym (ap (option_map asked_by) (c.in-Some-Run.is ∙ ap Some c.in-Some-Run.field-0-is)) ∙ c.read_words.ensures.asked) is)
     _ _ _ _ _ _ _ _ _ c.run_asked.ensures.runs
 
 pub returns-in-Some-Run-clause-complete : goal.returns-in-Some-Run-clause-complete
 returns-in-Some-Run-clause-complete g c = λ asked is.
-    let words = asked_run c.in-Some-Run.field-0 in
-    completes_so words asked (one_run words asked _ (sym (ap (option_map asked_by) c.in-Some-Run.is) ∙ c.read_words.ensures.asked) is)
+    let words = asked_run c.in-Some-Run.words in
+    completes_so words asked (one_run words asked _ (sym (ap (option_map asked_by) (c.in-Some-Run.is ∙ ap Some c.in-Some-Run.field-0-is)) ∙ c.read_words.ensures.asked) is)
     _ _ _ _ _ _ _ c.run_asked.ensures.complete
