@@ -30,7 +30,8 @@ CALLS = {"r4_main"}
 TOP, OFFLINE, WORDS = "r4_top.Answers", "r4_offline.Answers", "r4_words.Words"
 CHECKS = "r4_offline.Checks"
 DEVICE, REPLAY, MKFS = "r4_outside.Device", "r4_replay.Replay", "r4_mkfs.Mkfs"
-RUN, BEGINS, COMPLETE = "r4_run.Scripts", "r4_run.Naming", "r4_run.Completing"
+RUN, WORKLOAD, BEGINS = "r4_run.Scripts", "r4_run.Generated", "r4_run.Naming"
+COMPLETE = "r4_run.Completing"
 PROMISES = [
     (
         "`replay`",
@@ -61,14 +62,16 @@ PROMISES = [
         "`run`",
         "`Runs` says for each status when it comes, and of a run that there is one trace (`Ran`): legal, crash-safe on the"
         " device at each moment, by the status whole, and printed. `Begins` is what the caller owes who names with what"
-        " the run began. `IsUnhindered` is a run against which nothing stands.",
-        [(RUN, "Runs"), (BEGINS, "Begins"), (COMPLETE, "IsUnhindered"), (DEVICE, "Goes")],
+        " the run began. `IsUnhindered` is a run against which nothing stands. `RunsWorkload` and `IsClear` are the same for"
+        " a generated workload, of whose trace the summary is printed.",
+        [(RUN, "Runs"), (WORKLOAD, "RunsWorkload"), (BEGINS, "Begins"), (COMPLETE, "IsUnhindered"), (DEVICE, "Goes")],
     ),
     (
         "The words of the command line",
         "`Answers` and `HasMoments` pick the promise by what the words ask for (`asked_of`); `RefusesWords` speaks of"
-        " faulty ones.",
-        [(TOP, "Answers"), (TOP, "HasMoments"), (TOP, "IsRun"), (TOP, "LeavesSource"), (WORDS, "asked_of")],
+        " faulty ones. `RunsAsked` and `IsFree` say whether a run is one of scripts or of a generated workload.",
+        [(TOP, "Answers"), (TOP, "HasMoments"), (TOP, "IsRun"), (TOP, "LeavesSource"), (WORDS, "asked_of")]
+        + [(TOP, "RunsAsked"), (TOP, "IsFree")],
     ),
 ]
 

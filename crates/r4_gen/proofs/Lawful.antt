@@ -103,7 +103,7 @@ script_is_lawful seed s =
     (each_is_whole directory_thinned (λ d. unlinks_are_whole (filter (λ i. i % 2 == 0) (files_in d))) s) in
     (whole.each, subst (AreInOrder false) (append-nil (made ++ thinned)) (whole.before [] tt))
 
-workload_is_lawful : (seed : ℕ) → AreScripts (workload_of seed).scripts
+pub workload_is_lawful : (seed : ℕ) → AreScripts (workload_of seed).scripts
 workload_is_lawful seed = record {
   few = omega arith;
   each = (

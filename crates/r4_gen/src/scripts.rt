@@ -1,7 +1,8 @@
 //! The scripts of the workload.
 
-ghost use Rattle.std.specs.Prelude.{◌≡◌, ◌≤◌, ◌<◌, ◌++◌, IfOk};
-ghost use Rattle.r4_script.specs.Spelling.{AreScripts};
+ghost use Rattle.std.specs.Prelude.{◌≡◌, ◌≤◌, ◌<◌, ◌++◌, IfOk, Ok};
+ghost use Rattle.r4_script.specs.Spelling.{AreScripts, job_text};
+ghost use Rattle.r4_script.specs.Text.{job_of};
 ghost use Rattle.r4_gen.specs.Workload.{commit_behind, directory_made, directory_thinned};
 ghost use Rattle.r4_gen.specs.Workload.{each_directory, script_of, workload_of};
 
@@ -22,10 +23,12 @@ const COMMITTED: u64 = 5;
 /// generated workload"). No object is drawn yet, as in a job that `parse` of `r4_script` reads. `Memory`
 /// comes where there is not enough for the job.
 ///
-/// The job keeps the rules: its commands keep their limits, and its transactions are in order.
+/// The job keeps the rules: its commands keep their limits, and its transactions are in order. It is one
+/// that a text spells: its own text, line by line, has fewer than 16 MiB, and is read as this job.
 pub fn workload(alloc: Global, seed: u64) -> Result<Job, Memory>
     ensures job { IfOk result (λ job. job ≡ workload_of seed) }
     ensures lawful { IfOk result (λ job. AreScripts job.scripts) }
+    ensures spelled { IfOk result (λ job. job_of (job_text job) ≡ Ok job) }
 {
     all_scripts(alloc, seed)
 }

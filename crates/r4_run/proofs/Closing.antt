@@ -21,7 +21,7 @@ use Rattle.r4_shared.specs.r4_start.declared.fault.OpenWhy.{OpenWhy}
 use Rattle.r4_trace.specs.Folds.{after_first}
 use Rattle.r4_trace.specs.Job.{Asked}
 use Rattle.r4_trace.specs.Legal.{IsLegal}
-use Rattle.r4_trace.specs.Text.{trace_text}
+use Rattle.r4_trace.specs.declared.entry.Entry.{Entry}
 use Rattle.r4_trace.specs.Traced.{broken_at, committed_in, latest}
 use Rattle.r4_run.specs.Ending.{StandsSo}
 use Rattle.r4_run.specs.Naming.{named}
@@ -36,8 +36,8 @@ pub job_is : (scripts : Option (List ℕ)) (text : List ℕ) (job : Job) → scr
 job_is scripts text job is spells =
     subst (λ (x : Option (List ℕ)). job_named x ≡ Some (asked job)) (sym is) (ap job_read spells)
 
-module _ {D : Type 0} (start : Option Image) (clock : Option ℕ) (scripts : Option (List ℕ)) (c : CoreSeen D)
-    (e : State)
+module _ {D : Type 0} (shown : List Entry → List ℕ) (start : Option Image) (clock : Option ℕ)
+    (scripts : Option (List ℕ)) (c : CoreSeen D) (e : State)
     (legal : (o : Option Beginning) → BeginsWith (names_of start clock scripts) e.blocks o
     → IsLegal (commands greatest_size) (option_map start_of o) (Some (asked c.turns.job)) c.trace.entries)
     (time : latest c.trace.entries ≤ e.clock)
@@ -60,7 +60,7 @@ module _ {D : Type 0} (start : Option Image) (clock : Option ℕ) (scripts : Opt
   }
 
   pub closed_so : (s : Standing) (printed : Result (Unit {0}) PrintFault) (old new : SinkState) → StandsSo c s
-      → PrintsSome (trace_text c.trace.entries) old printed new → Closed start clock scripts old s printed e new
+      → PrintsSome (shown c.trace.entries) old printed new → Closed shown start clock scripts old s printed e new
   closed_so s printed old new so prints = record {
     job = asked c.turns.job;
     trace = c.trace.entries;
@@ -70,15 +70,16 @@ module _ {D : Type 0} (start : Option Image) (clock : Option ℕ) (scripts : Opt
     prints = prints;
   }
 
-module _ (start : Option Image) (clock : Option ℕ) (scripts : Option (List ℕ)) (text : List ℕ) (job : Job)
-    (scripts_are : scripts ≡ Some text) (spells : job_of text ≡ Ok job) (d e : State) (old new : SinkState) where
+module _ (shown : List Entry → List ℕ) (start : Option Image) (clock : Option ℕ) (scripts : Option (List ℕ))
+    (text : List ℕ) (job : Job) (scripts_are : scripts ≡ Some text) (spells : job_of text ≡ Ok job) (d e : State)
+    (old new : SinkState) where
   names_are : names_of start clock scripts ≡ named start clock (asked job)
   names_are = ap (λ (j : Option Asked). record { start = start; clock = clock; job = j })
       (job_is scripts text job scripts_are spells)
 
   pub unopened_so : (why : OpenWhy) → IsOpenFault d why e
       → IsSafeTrace greatest_size (names_of start clock scripts) [] e
-      → Served start clock (asked job) d old (Unopened why) e old
+      → Served shown start clock (asked job) d old (Unopened why) e old
   unopened_so why is safe = record {
     trace = [];
     is = record {
@@ -90,7 +91,8 @@ module _ (start : Option Image) (clock : Option ℕ) (scripts : Option (List ℕ
   }
 
   pub served_so : (s : Standing) (printed : Result (Unit {0}) PrintFault) → IsSize d.blocks
-      → Closed start clock scripts old s printed e new → Served start clock (asked job) d old (Opened s printed) e new
+      → Closed shown start clock scripts old s printed e new
+      → Served shown start clock (asked job) d old (Opened s printed) e new
   served_so s printed size c = record {
     trace = c.trace;
     is = subst (λ (r : Names). IsTraceOf r e c.trace) names_are (c.is text scripts_are);

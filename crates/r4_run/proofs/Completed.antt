@@ -1,10 +1,10 @@
 -- A run against which nothing stands comes to its end, or there was no memory.
-use Rattle.std.proofs.Common.{◌≡◌, ◌⊎◌, inl, inr, ℕ, ◌+◌, ◌<◌, ◌≤◌, List, []}
-use Rattle.std.proofs.Common.{Option, Some, None, Ok, Err, refl, ap, sym, subst, ◌∙◌, arith}
+use Rattle.std.proofs.Common.{◌≡◌, ◌⊎◌, inl, inr, ℕ, List, []}
+use Rattle.std.proofs.Common.{Option, None, refl, ap, sym, subst, ◌∙◌, arith}
 use Rattle.r4_base.proofs.Logs.{not_refused, one_log}
 use Rattle.r4_base.proofs.Members.{no_member}
 use Rattle.r4_base.proofs.Needed.{replayed_volume}
-use Rattle.r4_base.specs.Chain.{HasLog, Txn, chain_pairs, is_footer}
+use Rattle.r4_base.specs.Chain.{Txn, chain_pairs, is_footer}
 use Rattle.r4_base.specs.Image.{AgreesOutside, Image, IsImage, put_pairs}
 use Rattle.r4_base.specs.Value.{Content}
 use Rattle.r4_base.specs.Volume.{HasContent, HasVolume}
@@ -19,9 +19,15 @@ use Rattle.r4_shared.specs.r4_start.Starting.{IsOpenFault}
 use Rattle.r4_shared.specs.r4_start.declared.fault.OpenWhy.{OpenWhy}
 use Rattle.r4_shared.specs.r4_start.declared.fault.OpenWhy.TheVariants as why
 use Rattle.r4_trace.specs.Job.{Asked}
-use Rattle.r4_run.specs.Completing.{IsUnhindered}
+use Rattle.r4_trace.specs.Text.{trace_text}
+use Rattle.r4_trace.specs.declared.entry.Entry.{Entry}
+use Rattle.r4_gen.specs.Workload.{workload_of}
+use Rattle.r4_summary.specs.Totals.{summary_text}
+use Rattle.r4_shared.specs.r4_history.Tables.{asked}
+use Rattle.r4_run.specs.Completing.{IsClear, IsUnhindered}
+use Rattle.r4_run.specs.Generated.{RunsWorkload}
 use Rattle.r4_run.specs.Ending.{TellsWhy}
-use Rattle.r4_run.specs.Running.{Ends, Ran}
+use Rattle.r4_run.specs.Running.{Ran}
 use Rattle.r4_run.specs.Scripts.{Runs}
 
 no_misfit : (b : ℕ) (f : LayoutFault) → misfit b f ≡ None → ⊥
@@ -44,8 +50,8 @@ module _ (d e : State) (goes : Goes d e) (reads : TellsReads d) (m : Content) (v
       let c : HasContent d.blocks e.seen m = subst (λ (ch : List Txn). HasContent d.blocks (put_pairs (chain_pairs ch) e.seen) m) empty w.content in
       no_misfit block f (sym is ∙ (ap (λ n. layout_misfit n e.seen) goes.blocks ∙ layout_none d.blocks e.seen m c))
 
-module _ (start : Option Image) (clock : Option ℕ) (s s' : SourceState) (d : State) (k : SinkState) (code : ℕ) (d' : State) (k' : SinkState)
-    (goes : Goes d d') (u : IsUnhindered s s' d d' k k') where
+module _ (d : State) (k : SinkState) (code : ℕ) (d' : State) (k' : SinkState) (goes : Goes d d')
+    (u : IsClear d d' k k') where
   abbrev Comes : Type 0
   Comes = (code ≡ 0) ⊎ (code ≡ 9)
 
@@ -58,8 +64,9 @@ module _ (start : Option Image) (clock : Option ℕ) (s s' : SourceState) (d : S
   unopened (why.Size blocks) is tells = absurd (let low = u.size in let h = is.1 in elim h [ inl few ↦ omega (arith, low, few) | inr many ↦ omega (arith, low, many) ])
   unopened why.Memory is tells = inr tells.0
 
-  opened : (job : Asked) (r : Ran start clock job d k code d' k') → Comes
-  opened job r = elim r.ends [
+  ran_comes : (shown : List Entry → List ℕ) (start : Option Image) (clock : Option ℕ) (job : Asked)
+      → Ran shown start clock job d k code d' k' → Comes
+  ran_comes shown start clock job r = elim r.ends [
     | inl none ↦ unopened none.why none.is none.tells
     | inr (size, ends) ↦ elim ends.codes [
       | inl zero_code ↦ inl zero_code
@@ -73,7 +80,14 @@ module _ (start : Option Image) (clock : Option ℕ) (s s' : SourceState) (d : S
     ]
   ]
 
-  pub completed : Runs None start clock s s' d k code d' k' → Comes
+  pub workload_comes : (seed : ℕ) (start : Option Image) (clock : Option ℕ)
+      → RunsWorkload seed None start clock d k code d' k' → Comes
+  workload_comes seed start clock (inl unmade) = inr unmade.nine
+  workload_comes seed start clock (inr ran) = ran_comes (summary_text seed) start clock (asked (workload_of seed)) ran
+
+module _ (start : Option Image) (clock : Option ℕ) (s s' : SourceState) (d : State) (k : SinkState) (code : ℕ)
+    (d' : State) (k' : SinkState) (goes : Goes d d') (u : IsUnhindered s s' d d' k k') where
+  pub completed : Runs None start clock s s' d k code d' k' → (code ≡ 0) ⊎ (code ≡ 9)
   completed r = elim r.came_to [
     | inl unread ↦ elim unread.told [
       | inl four ↦ absurd (u.source four.1)
@@ -81,6 +95,6 @@ module _ (start : Option Image) (clock : Option ℕ) (s s' : SourceState) (d : S
     ]
     | inr rest ↦ elim rest [
       | inl no_job ↦ absurd (let fault = no_job.is u.text u.told in let spelled = u.spelled in cc)
-      | inr run ↦ opened _ run.ran
+      | inr run ↦ ran_comes d k code d' k' goes u.clear trace_text start clock (asked run.job) run.ran
     ]
   ]

@@ -1,5 +1,5 @@
 -- What the status and the printed text tell of a run's end.
-use Rattle.std.proofs.Common.{◌≡◌, ◌∙◌, ◌++◌, append-nil, ap, arith, inl, inr, sym, subst, ℕ, Bool, true}
+use Rattle.std.proofs.Common.{◌≡◌, ◌∙◌, ◌++◌, append-nil, ap, arith, inl, inr, refl, sym, subst, ℕ, Bool, true}
 use Rattle.std.proofs.Common.{false, List, [], Option, Some, None, Result, Ok, Err, IsSome}
 use Rattle.r4_base.specs.Image.{Image}
 use Rattle.r4_base.specs.Volume.{HasVolume}
@@ -17,12 +17,11 @@ use Rattle.r4_outside.specs.Sink.{SinkState}
 use Rattle.r4_outside.proofs.Texts.{appends_both, appends_stopped}
 use Rattle.r4_print.specs.Printing.{Prints as PrintsSome}
 use Rattle.r4_print.specs.declared.printing.PrintFault.{PrintFault}
-use Rattle.r4_print.specs.declared.printing.PrintFault.TheVariants.{Sink}
+use Rattle.r4_print.specs.declared.printing.PrintFault.TheVariants.{Memory, Sink}
 use Rattle.r4_trace.specs.Folds.{after_first}
 use Rattle.r4_trace.specs.Ids.{Start}
 use Rattle.r4_trace.specs.Job.{Asked}
 use Rattle.r4_trace.specs.Legal.{IsLegal}
-use Rattle.r4_trace.specs.Text.{trace_text}
 use Rattle.r4_trace.specs.Traced.{broken_at, committed_in}
 use Rattle.r4_trace.specs.declared.entry.Entry.{Entry}
 use Rattle.r4_run.specs.Ending.{PrintsDevice, StandsSo, TellsEnd, TellsServed, TellsWhy}
@@ -63,28 +62,28 @@ module _ (text : List ℕ) (old mid new : SinkState) where
       subst (λ m. Prints (text ++ device_line e.clock e.faults) old m) (sym same)
       (inr (appends_stopped text _ old mid tt tt (gets_part q)))
 
--- the trace is printed, and the status told
-pub ends_so : (r : Names) (job : Asked) (trace : List Entry) (before : ℕ) (e : State) (s : Standing)
+-- what is shown of the trace is printed, and the status told
+pub ends_so : (shown : List Entry → List ℕ) (r : Names) (job : Asked) (trace : List Entry) (before : ℕ) (e : State) (s : Standing)
     (printed : Result (Unit {0}) PrintFault) (code : ℕ) (old mid new : SinkState)
-    → StandsFor r job trace e s → PrintsSome (trace_text trace) old printed mid
+    → StandsFor r job trace e s → PrintsSome (shown trace) old printed mid
     → TellsServed before e s printed code mid new
-    → Ends r job trace before old code e new
-ends_so r job trace before e s printed code old mid new stands prints tells = record {
+    → Ends shown r job trace before old code e new
+ends_so shown r job trace before e s printed code old mid new stands prints tells = record {
   codes = tells.codes;
   done = λ z. let t = tells.done z in (
     subst (λ x. StandsFor r job trace e x) t.0 stands,
-    subst (λ m. Gets (trace_text trace) old m) (sym t.2) (gets_of (trace_text trace) old mid new
-        (subst (λ x. PrintsSome (trace_text trace) old x mid) t.1 prints)),
+    subst (λ m. Gets (shown trace) old m) (sym t.2) (gets_of (shown trace) old mid new
+        (subst (λ x. PrintsSome (shown trace) old x mid) t.1 prints)),
   );
   sink = λ z. let t = tells.sink z in (
     subst (λ x. StandsFor r job trace e x) t.0 stands,
-    subst (λ m. GetsPart (trace_text trace) old m) (sym t.2) (gets_part (trace_text trace) old mid new
-        (subst (λ x. PrintsSome (trace_text trace) old x mid) t.1 prints)),
+    subst (λ m. GetsPart (shown trace) old m) (sym t.2) (gets_part (shown trace) old mid new
+        (subst (λ x. PrintsSome (shown trace) old x mid) t.1 prints)),
   );
   device = λ z. let t = tells.device z in (
     subst (λ x. StandsFor r job trace e x) t.0 stands,
     t.1,
-    device_behind (trace_text trace) old mid new e printed prints t.2,
+    device_behind (shown trace) old mid new e printed prints t.2,
   );
   memory = λ z. (mid, record { result = printed; prints = prints }, tells.memory z);
 }
@@ -100,10 +99,11 @@ stands_for r c e Unfinished so volume told = tt
 
 -- ---- a run that is told
 
-module _ (start : Option Image) (clock : Option ℕ) (job : Asked) (d e : State) (old mid new : SinkState) where
+module _ (shown : List Entry → List ℕ) (start : Option Image) (clock : Option ℕ) (job : Asked) (d e : State)
+    (old mid new : SinkState) where
   ends_told : (trace : List Entry) (before : ℕ) (end : End) (code : ℕ) → before ≡ d.faults
-      → CameTo start clock job trace d old end e mid → TellsEnd before e end code mid new
-      → EndsSo start clock job trace d old code e new
+      → CameTo shown start clock job trace d old end e mid → TellsEnd before e end code mid new
+      → EndsSo shown start clock job trace d old code e new
   ends_told trace before (Unopened why) code at (is, empty, same) tells = inl (record {
     why = why;
     is = is;
@@ -112,53 +112,59 @@ module _ (start : Option Image) (clock : Option ℕ) (job : Asked) (d e : State)
   })
   ends_told trace before (Opened s printed) code at (size, stands, prints) tells = inr (
     size,
-    subst (λ (n : ℕ). Ends (named start clock job) job trace n old code e new) at
-        (ends_so (named start clock job) job trace before e s printed code old mid new stands prints tells),
+    subst (λ (n : ℕ). Ends shown (named start clock job) job trace n old code e new) at
+        (ends_so shown (named start clock job) job trace before e s printed code old mid new stands prints tells),
   )
 
-  pub ran_told : (before : ℕ) (end : End) (code : ℕ) → before ≡ d.faults → Served start clock job d old end e mid
-      → TellsEnd before e end code mid new → Ran start clock job d old code e new
+  pub ran_told : (before : ℕ) (end : End) (code : ℕ) → before ≡ d.faults
+      → Served shown start clock job d old end e mid → TellsEnd before e end code mid new
+      → Ran shown start clock job d old code e new
   ran_told before end code at s tells = record {
     trace = s.trace;
     is = s.is;
     ends = ends_told s.trace before end code at s.came_to tells;
   }
 
-  nothing_printed : (trace : List Entry) → trace ≡ [] → mid ≡ old → IsPrinted (trace_text trace) old mid
-  nothing_printed trace none same =
-      subst (λ (t : List Entry). IsPrinted (trace_text t) old mid) (sym none)
-      (subst (λ (m : SinkState). IsPrinted (trace_text []) old m) (sym same) (record {
-        result = Ok tt;
+  -- nothing is a beginning of each text
+  nothing_printed : (text : List ℕ) → mid ≡ old → IsPrinted text old mid
+  nothing_printed text same =
+      subst (λ (m : SinkState). IsPrinted text old m) (sym same) (record {
+        result = Err Memory;
         prints = record {
           told = (λ w. w, λ w. w);
           faults = omega arith;
           cause = tt;
-          whole = λ before is. is ∙ ap Some (sym (append-nil before));
-          part = λ before is. tt;
+          whole = λ before is. tt;
+          part = λ before is. record {
+            part = [];
+            rest = text;
+            splits = refl;
+            written = is ∙ ap Some (sym (append-nil before));
+          };
         };
-      }))
+      })
 
-  pub some_printed : (trace : List Entry) (end : End) → CameTo start clock job trace d old end e mid
-      → IsPrinted (trace_text trace) old mid
-  some_printed trace (Unopened why) (is, empty, same) = nothing_printed trace empty same
+  pub some_printed : (trace : List Entry) (end : End) → CameTo shown start clock job trace d old end e mid
+      → IsPrinted (shown trace) old mid
+  some_printed trace (Unopened why) (is, empty, same) = nothing_printed (shown trace) same
   some_printed trace (Opened s printed) (size, stands, prints) = record { result = printed; prints = prints }
 
   pub over_told : (before : ℕ) (end : End) (code : ℕ) (starved : Bool) → starved ≡ false → before ≡ d.faults
-      → Served start clock job d old end e mid → TellsEnd before e end code mid new
-      → RanOver start clock job d old starved code e new
+      → Served shown start clock job d old end e mid → TellsEnd before e end code mid new
+      → RanOver shown start clock job d old starved code e new
   over_told before end code starved is at s tells = record {
     trace = s.trace;
     is = s.is;
-    ends = subst (λ (b : Bool). EndsOver b start clock job s.trace d old code e new) (sym is)
+    ends = subst (λ (b : Bool). EndsOver b shown start clock job s.trace d old code e new) (sym is)
         (ends_told s.trace before end code at s.came_to tells);
   }
 
   pub over_starved : (end : End) (code : ℕ) (starved : Bool) → starved ≡ true → code ≡ 9
-      → Served start clock job d old end e mid → Prints memory_line mid new
-      → RanOver start clock job d old starved code e new
+      → Served shown start clock job d old end e mid → Prints memory_line mid new
+      → RanOver shown start clock job d old starved code e new
   over_starved end code starved is nine s line = record {
     trace = s.trace;
     is = s.is;
-    ends = subst (λ (b : Bool). EndsOver b start clock job s.trace d old code e new) (sym is)
+    ends = subst (λ (b : Bool). EndsOver b shown start clock job s.trace d old code e new) (sym is)
         (record { nine = nine; mid = mid; printed = some_printed s.trace end s.came_to; line = line });
   }

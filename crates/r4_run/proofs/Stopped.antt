@@ -115,9 +115,8 @@ module _ (r : Names) (trace : List Entry) (u : ℕ) (halt : Option Stop) (e : St
 
 -- ---- the cause of a failure
 
-module _ (start : Option Image) (clock : Option ℕ) (job : Asked) (trace : List Entry) (d e : State)
-    (old new : SinkState)
-    (code : ℕ) (six : code ≡ 6) where
+module _ (shown : List Entry → List ℕ) (start : Option Image) (clock : Option ℕ) (job : Asked) (trace : List Entry)
+    (d e : State) (old new : SinkState) (code : ℕ) (six : code ≡ 6) where
   unopened_rose : (w : OpenWhy) → IsOpenFault d w e → TellsWhy w code old new → Rose d.faults e.faults
   unopened_rose (why.Log block fault) is tells = absurd (cc (sym six ∙ tells.0))
   unopened_rose (why.Image block fault) is tells = absurd (cc (sym six ∙ tells.0))
@@ -125,38 +124,37 @@ module _ (start : Option Image) (clock : Option ℕ) (job : Asked) (trace : List
   unopened_rose (why.Size blocks) is tells = absurd (cc (sym six ∙ tells.0))
   unopened_rose why.Memory is tells = absurd (cc (sym six ∙ tells.0))
 
-  ends_rose : EndsSo start clock job trace d old code e new → Rose d.faults e.faults
+  ends_rose : EndsSo shown start clock job trace d old code e new → Rose d.faults e.faults
   ends_rose (inl u) = unopened_rose u.why u.is u.tells
   ends_rose (inr ends) = (ends.1.device six).1
 
-module _ (start : Option Image) (clock : Option ℕ) (job : Asked) (trace : List Entry) (u : ℕ) (d e : State)
-    (old new : SinkState) (code : ℕ) where
+module _ (shown : List Entry → List ℕ) (start : Option Image) (clock : Option ℕ) (job : Asked) (trace : List Entry)
+    (u : ℕ) (d e : State) (old new : SinkState) (code : ℕ) where
   may_fail : (starved : Bool) (halt : Option Stop)
-      → EndsOver starved start clock job trace (stop_state u None d) old code (stop_state u halt e) new
+      → EndsOver starved shown start clock job trace (stop_state u None d) old code (stop_state u halt e) new
       → (IsSome halt → starved ≡ false → u ≤ e.clock) → code ≡ 6 → Rose d.faults e.faults ⊎ (u ≤ e.clock)
   may_fail true halt starves reached six = absurd (cc (sym six ∙ starves.nine))
   may_fail false None ends reached six =
-      inl (ends_rose start clock job trace (stop_state u None d) (stop_state u None e) old new code six ends)
+      inl (ends_rose shown start clock job trace (stop_state u None d) (stop_state u None e) old new code six ends)
   may_fail false (Some s) ends reached six = inr (reached refl refl)
 
   ends_either : (starved : Bool) (halt : Option Stop)
-      → EndsOver starved start clock job trace (stop_state u None d) old code (stop_state u halt e) new
-      → EndsStarved trace old code new ⊎ EndsSo start clock job trace (stop_state u None d) old code
+      → EndsOver starved shown start clock job trace (stop_state u None d) old code (stop_state u halt e) new
+      → EndsStarved shown trace old code new ⊎ EndsSo shown start clock job trace (stop_state u None d) old code
       (stop_state u halt e) new
   ends_either true halt ends = inl ends
   ends_either false halt ends = inr ends
 
 -- ---- the run
 
-module _ (stop : StopAsked) (start : Option Image) (clock : Option ℕ) (job : Asked) (d e : State)
-    (old new : SinkState)
-    (code : ℕ) where
+module _ (shown : List Entry → List ℕ) (stop : StopAsked) (start : Option Image) (clock : Option ℕ) (job : Asked)
+    (d e : State) (old new : SinkState) (code : ℕ) where
   stopped_so : (halt : Option Stop) (starved : Bool) → Begins start clock d
       → Goes (stopping stop d d None) (stopping stop d e halt) → IsCovered e (stopping stop d e halt)
       → (TellsCrashes (stopping stop d e halt) ↔ TellsCrashes e)
       → (IsSome halt → starved ≡ false → first_stop stop d ≤ e.clock)
-      → RanOver start clock job (stopping stop d d None) old starved code (stopping stop d e halt) new
-      → RanStopped stop start clock job d old code e new
+      → RanOver shown start clock job (stopping stop d d None) old starved code (stopping stop d e halt) new
+      → RanStopped shown stop start clock job d old code e new
   stopped_so halt starved begins goes covered tells reached ran = record {
     halt = halt;
     covered = covered;
@@ -165,8 +163,8 @@ module _ (stop : StopAsked) (start : Option Image) (clock : Option ℕ) (job : A
     safe = safe_below (named start clock job) ran.trace (first_stop stop d) halt e covered tells
         (ran.is.legal None tt).so_far.order ran.is.time
         (λ t at. omega (arith, begins.clock_is t at, goes.time)) ran.is.safe;
-    ends = ends_either start clock job ran.trace (first_stop stop d) d e old new code starved halt ran.ends;
-    cause = may_fail start clock job ran.trace (first_stop stop d) d e old new code starved halt ran.ends reached;
+    ends = ends_either shown start clock job ran.trace (first_stop stop d) d e old new code starved halt ran.ends;
+    cause = may_fail shown start clock job ran.trace (first_stop stop d) d e old new code starved halt ran.ends reached;
   }
 
   same_until : {n m : ℕ} → Some n ≡ Some m → n ≡ m
@@ -175,39 +173,39 @@ module _ (stop : StopAsked) (start : Option Image) (clock : Option ℕ) (job : A
   stopped_at : (u : ℕ) (halt : Option Stop) (starved : Bool) → u ≡ first_stop stop d → Begins start clock d
       → Goes (stopping stop d d None) (stop_state u halt e) → IsCovered e (stop_state u halt e)
       → (TellsCrashes (stop_state u halt e) ↔ TellsCrashes e) → (IsSome halt → starved ≡ false → u ≤ e.clock)
-      → RanOver start clock job (stopping stop d d None) old starved code (stop_state u halt e) new
-      → RanStopped stop start clock job d old code e new
+      → RanOver shown start clock job (stopping stop d d None) old starved code (stop_state u halt e) new
+      → RanStopped shown stop start clock job d old code e new
   stopped_at u halt starved at begins goes covered tells reached ran = stopped_so halt starved begins
       (subst (λ n. Goes (stopping stop d d None) (stop_state n halt e)) at goes)
       (subst (λ n. IsCovered e (stop_state n halt e)) at covered)
       (subst (λ n. TellsCrashes (stop_state n halt e) ↔ TellsCrashes e) at tells)
       (λ some fed. subst (λ n. n ≤ e.clock) at (reached some fed))
-      (subst (λ n. RanOver start clock job (stopping stop d d None) old starved code (stop_state n halt e) new) at
+      (subst (λ n. RanOver shown start clock job (stopping stop d d None) old starved code (stop_state n halt e) new) at
       ran)
 
-module _ {D : Type 0} (state : D → State) (stop : StopAsked) (start : Option Image) (clock : Option ℕ) (job : Asked)
-    (dev : D) (device after : StopView D) (old new : SinkState) (code : ℕ) where
+module _ {D : Type 0} (state : D → State) (shown : List Entry → List ℕ) (stop : StopAsked) (start : Option Image)
+    (clock : Option ℕ) (job : Asked) (dev : D) (device after : StopView D) (old new : SinkState) (code : ℕ) where
   pub stopped_view : device ≡ stopped_after dev (state dev).clock stop.writes stop.tear stop.pick
       → Begins start clock (state dev) → Goes (told state device) (told state after)
       → IsCovered (state after.dev) (told state after)
       → (TellsCrashes (told state after) ↔ TellsCrashes (state after.dev))
       → (IsSome after.stop → after.starved ≡ false → after.until ≤ (state after.dev).clock)
-      → RanOver start clock job (told state device) old after.starved code (told state after) new
-      → RanStopped stop start clock job (state dev) old code (state after.dev) new
+      → RanOver shown start clock job (told state device) old after.starved code (told state after) new
+      → RanStopped shown stop start clock job (state dev) old code (state after.dev) new
   stopped_view made begins goes covered tells reached ran =
       let went : Goes (stopping stop (state dev) (state dev) None) (told state after) = subst
       (λ v. Goes (told state v) (told state after)) made goes in
-      stopped_at stop start clock job (state dev) (state after.dev) old new code after.until after.stop after.starved
-      (same_until stop start clock job (state dev) (state after.dev) old new code went.stop) begins went covered
+      stopped_at shown stop start clock job (state dev) (state after.dev) old new code after.until after.stop after.starved
+      (same_until shown stop start clock job (state dev) (state after.dev) old new code went.stop) begins went covered
       tells reached
-      (subst (λ v. RanOver start clock job (told state v) old after.starved code (told state after) new) made ran)
+      (subst (λ v. RanOver shown start clock job (told state v) old after.starved code (told state after) new) made ran)
 
 -- what comes back untouched
-pub unmade : {D : Type 0} (state : D → State) (stop : StopAsked) (start : Option Image) (clock : Option ℕ)
+pub unmade : {D : Type 0} (state : D → State) (shown : List Entry → List ℕ) (stop : StopAsked) (start : Option Image) (clock : Option ℕ)
     (job : Asked)
     (dev back : D) (old new : SinkState) (code : ℕ) → back ≡ dev → code ≡ 9 → Prints memory_line old new
-    → RunsBy (Some stop) start clock job (state dev) old code (state back) new
-unmade state stop start clock job dev back old new code same nine line = inl (record {
+    → RunsBy shown (Some stop) start clock job (state dev) old code (state back) new
+unmade state shown stop start clock job dev back old new code same nine line = inl (record {
   nine = nine;
   idle = subst (λ x. Untouched (state dev) (state x)) (sym same) (record { seen = refl; clock = refl });
   line = line;

@@ -1,4 +1,4 @@
--- What a run leaves (docs/program.md, "Running").
+-- What a run leaves (docs/program.md, "Running"), of whose trace the sink gets what is shown of it.
 --     Ran    one trace, which the device, the status and the sink agree with
 use Rattle.std.specs.Prelude.{◌≡◌, ◌⊎◌, ◌++◌, ℕ, ◌≤◌, List, [], Option, Some, IsSome, Result}
 use Rattle.std.specs.Option.{option_map}
@@ -19,7 +19,6 @@ use Rattle.r4_shared.specs.r4_start.declared.fault.OpenWhy.{OpenWhy}
 use Rattle.r4_trace.specs.Folds.{after_first}
 use Rattle.r4_trace.specs.Job.{Asked}
 use Rattle.r4_trace.specs.Legal.{IsLegal, IsWhole}
-use Rattle.r4_trace.specs.Text.{trace_text}
 use Rattle.r4_trace.specs.Traced.{broken_at, committed_in, latest}
 use Rattle.r4_trace.specs.declared.entry.Entry.{Entry}
 use Rattle.r4_run.specs.Ending.{TellsWhy}
@@ -55,17 +54,17 @@ pub record IsPrinted (text : List ℕ) (old new : SinkState) : Type 0 where
 
 -- of a run that was opened
 pub record Ends
-    (r : Names) (job : Asked) (trace : List Entry) (before : ℕ) (old : SinkState) (code : ℕ)
-    (e : State) (new : SinkState) : Type 0
+    (shown : List Entry → List ℕ) (r : Names) (job : Asked) (trace : List Entry) (before : ℕ)
+    (old : SinkState) (code : ℕ) (e : State) (new : SinkState) : Type 0
   where
     pub codes : (code ≡ 0) ⊎ ((code ≡ 5) ⊎ ((code ≡ 6) ⊎ (code ≡ 9)))
-    pub done : code ≡ 0 → IsWholeRun r job trace e × Gets (trace_text trace) old new
-    pub sink : code ≡ 5 → IsWholeRun r job trace e × GetsPart (trace_text trace) old new
-    -- a call of the device failed: its count rose, and its line stands behind the trace
+    pub done : code ≡ 0 → IsWholeRun r job trace e × Gets (shown trace) old new
+    pub sink : code ≡ 5 → IsWholeRun r job trace e × GetsPart (shown trace) old new
+    -- a call of the device failed: its count rose, and its line stands behind what is shown
     pub device : code ≡ 6 → IsSome (broken_at trace) × Rose before e.faults
-        × Prints (trace_text trace ++ device_line e.clock e.faults) old new
+        × Prints (shown trace ++ device_line e.clock e.faults) old new
     pub memory : code ≡ 9 → (mid : SinkState)
-        × IsPrinted (trace_text trace) old mid × Prints memory_line mid new
+        × IsPrinted (shown trace) old mid × Prints memory_line mid new
 
 -- and of one that was not opened
 pub record IsUnopened
@@ -77,23 +76,24 @@ pub record IsUnopened
     pub tells : TellsWhy why code old new
     pub empty : trace ≡ []
 
-abbrev pub EndsSo : (start : Option Image) (clock : Option ℕ) → Asked → (trace : List Entry)
-    → (d : State) (old : SinkState) (code : ℕ) (e : State) (new : SinkState) → Type 0
+abbrev pub EndsSo : (shown : List Entry → List ℕ) (start : Option Image) (clock : Option ℕ) → Asked
+    → (trace : List Entry) → (d : State) (old : SinkState) (code : ℕ) (e : State) (new : SinkState)
+    → Type 0
 -- an unlawful number of blocks is not passed over
-EndsSo start clock job trace d old code e new = IsUnopened d trace old code e new
-    ⊎ (IsSize d.blocks × Ends (named start clock job) job trace d.faults old code e new)
+EndsSo shown start clock job trace d old code e new = IsUnopened d trace old code e new
+    ⊎ (IsSize d.blocks × Ends shown (named start clock job) job trace d.faults old code e new)
 
 -- ---- the run
 
 -- A run of this job that began with this image and this clock, on a device from d to e, with this
 -- status and on a sink from old to new.
 pub record Ran
-    (start : Option Image) (clock : Option ℕ) (job : Asked) (d : State) (old : SinkState)
-    (code : ℕ) (e : State) (new : SinkState) : Type 0
+    (shown : List Entry → List ℕ) (start : Option Image) (clock : Option ℕ) (job : Asked) (d : State)
+    (old : SinkState) (code : ℕ) (e : State) (new : SinkState) : Type 0
   where
     pub trace : List Entry
     pub is : IsTraceOf (named start clock job) e trace
-    pub ends : EndsSo start clock job trace d old code e new
+    pub ends : EndsSo shown start clock job trace d old code e new
 
 -- ---- the run before its last line
 
@@ -103,28 +103,28 @@ StandsFor r job trace e Whole = IsWholeRun r job trace e
 StandsFor r job trace e Broken = IsSome (broken_at trace)
 StandsFor r job trace e Unfinished = Unit {0}
 
--- how it ended: it was not opened, or it came so far and so much of its trace is printed
-abbrev pub CameTo : (start : Option Image) (clock : Option ℕ) → Asked → (trace : List Entry)
-    → (d : State) (old : SinkState) → End → (e : State) (new : SinkState) → Type 0
-CameTo start clock job trace d old (Unopened why) e new =
+-- how it ended: it was not opened, or it came so far and so much of what is shown is printed
+abbrev pub CameTo : (shown : List Entry → List ℕ) (start : Option Image) (clock : Option ℕ) → Asked
+    → (trace : List Entry) → (d : State) (old : SinkState) → End → (e : State) (new : SinkState) → Type 0
+CameTo shown start clock job trace d old (Unopened why) e new =
     IsOpenFault d why e × (trace ≡ []) × (new ≡ old)
-CameTo start clock job trace d old (Opened standing printed) e new =
+CameTo shown start clock job trace d old (Opened standing printed) e new =
     IsSize d.blocks × StandsFor (named start clock job) job trace e standing
-    × PrintsSome (trace_text trace) old printed new
+    × PrintsSome (shown trace) old printed new
 
 pub record Served
-    (start : Option Image) (clock : Option ℕ) (job : Asked) (d : State) (old : SinkState)
-    (end : End) (e : State) (new : SinkState) : Type 0
+    (shown : List Entry → List ℕ) (start : Option Image) (clock : Option ℕ) (job : Asked) (d : State)
+    (old : SinkState) (end : End) (e : State) (new : SinkState) : Type 0
   where
     pub trace : List Entry
     pub is : IsTraceOf (named start clock job) e trace
-    pub came_to : CameTo start clock job trace d old end e new
+    pub came_to : CameTo shown start clock job trace d old end e new
 
 -- A run of the scripts that are named, which was opened, as its core tells it.
 pub record Closed
-    (start : Option Image) (clock : Option ℕ) (scripts : Option (List ℕ)) (old : SinkState)
-    (standing : Standing) (printed : Result (Unit {0}) PrintFault) (e : State) (new : SinkState)
-    : Type 0
+    (shown : List Entry → List ℕ) (start : Option Image) (clock : Option ℕ)
+    (scripts : Option (List ℕ)) (old : SinkState) (standing : Standing)
+    (printed : Result (Unit {0}) PrintFault) (e : State) (new : SinkState) : Type 0
   where
     pub job : Asked
     pub trace : List Entry
@@ -132,4 +132,4 @@ pub record Closed
     pub is : (text : List ℕ) → scripts ≡ Some text
         → IsTraceOf (names_of start clock scripts) e trace
     pub stands : StandsFor (names_of start clock scripts) job trace e standing
-    pub prints : PrintsSome (trace_text trace) old printed new
+    pub prints : PrintsSome (shown trace) old printed new

@@ -1,4 +1,4 @@
--- What the command `run` answers (docs/program.md, "Running" and "Lines and statuses").
+-- What the command `run` answers of scripts (docs/program.md, "Running" and "Lines and statuses").
 use Rattle.std.specs.Prelude.{◌≡◌, ◌⊎◌, ◌↔◌, ℕ, ◌≤◌, List, codes, Option, Some, IsSome, Ok, Err}
 use Rattle.r4_base.specs.Image.{Image}
 use Rattle.r4_shared.specs.r4_history.Tables.{asked}
@@ -16,6 +16,7 @@ use Rattle.r4_script.specs.declared.fault.What.TheVariants as whats
 use Rattle.r4_script.specs.declared.job.Job.{Job}
 use Rattle.r4_source.specs.declared.reading.ReadFault.{ReadFault}
 use Rattle.r4_source.specs.declared.reading.ReadFault.TheVariants as reads
+use Rattle.r4_trace.specs.Text.{trace_text}
 use Rattle.r4_words.specs.Options.{StopAsked}
 use Rattle.r4_run.specs.Stopping.{RunsBy}
 
@@ -65,14 +66,14 @@ pub record IsNoJob
     pub is : (text : List ℕ) → rest ≡ Some text → job_of text ≡ Err fault
     pub told : TellsFault (faults.Script fault) code k k'
 
--- It is a job, which was run.
+-- It is a job, which was run, and the text of its trace is what is shown.
 pub record IsRun
     (stop : Option StopAsked) (start : Option Image) (clock : Option ℕ) (rest : Option (List ℕ))
     (d : State) (k : SinkState) (code : ℕ) (d' : State) (k' : SinkState) : Type 0
   where
     pub job : Job
     pub is : (text : List ℕ) → rest ≡ Some text → job_of text ≡ Ok job
-    pub ran : RunsBy stop start clock (asked job) d k code d' k'
+    pub ran : RunsBy trace_text stop start clock (asked job) d k code d' k'
 
 -- The source was read, and its text was run, on a device that stops where that is asked for; or why it was not.
 pub record Runs

@@ -1,17 +1,24 @@
 //! The scripts of a source are run.
 
-ghost use Rattle.std.specs.Prelude.{◌≡◌};
+ghost use Rattle.std.specs.Prelude.{◌≡◌, Ok};
 ghost use Rattle.std.specs.Option.{option_map};
 ghost use Rattle.r4_outside.specs.Device.{Goes};
 ghost use Rattle.r4_run.specs.Naming.{Begins};
-ghost use Rattle.r4_words.specs.Options.{asked_stop};
 ghost use Rattle.r4_run.specs.Scripts.{Runs, TellsFault, TellsUnread, script_word};
+ghost use Rattle.r4_run.specs.Stopping.{RunsBy};
+ghost use Rattle.r4_script.specs.Spelling.{AreScripts};
+ghost use Rattle.r4_script.specs.Text.{job_of};
+ghost use Rattle.r4_shared.specs.r4_history.Tables.{asked};
+ghost use Rattle.r4_trace.specs.Text.{trace_text};
+ghost use Rattle.r4_words.specs.Options.{asked_stop};
 
 use crate::ending::tell_memory;
 use crate::running::{Ended, run_job};
+use crate::showing::Shown;
+use crate::spelling::Spelling;
 use r4_lines::{write_script, write_source};
-use r4_outside::{Device, Gate, Run, Sink, Source};
-use r4_script::{ParseFault, ScriptFault, What, parse};
+use r4_outside::{Device, Gate, Named, NamedNew, Run, Sink, Source};
+use r4_script::{Job, ParseFault, ScriptFault, What, parse};
 use r4_source::{ReadFault, read_text};
 use r4_words::StopWords;
 use std::alloc::Global;
@@ -46,7 +53,7 @@ pub fn run_scripts<D: Device, S: Source, K: Sink, G: Gate, R: Run, X: Threads + 
         Ok(job) => job,
         Err(fault) => return tell_fault(out, fault),
     };
-    let Ended { dev: _, code } = run_job(
+    let Ended { dev: _, code } = run_text(
         rt,
         alloc,
         dev,
@@ -57,8 +64,37 @@ pub fn run_scripts<D: Device, S: Source, K: Sink, G: Gate, R: Run, X: Threads + 
         gate,
         out,
         run,
+        Named::new(),
     );
     code
+}
+
+// Runs the job that a text spells, and prints its trace. The text only names the job.
+fn run_text<E: Device, K: Sink, G: Gate, R: Run, S: Spelling, X: Threads + Wait + Sync>(
+    rt: &X,
+    alloc: Global,
+    dev: E,
+    text: &[u8],
+    job: Job,
+    threads: u32,
+    stop: Option<StopWords>,
+    gate: &G,
+    out: &mut K,
+    run: R,
+    spelling: S,
+) -> Ended<E>
+    requires begins { Begins R.start R.clock (E.state dev) }
+    requires scripts { AreScripts job.scripts }
+    requires spells { job_of S.text ≡ Ok job }
+    ensures goes { Goes (E.state dev) (E.state result.dev) }
+    ensures ran { RunsBy trace_text (option_map asked_stop stop) R.start R.clock (asked job)
+        (E.state dev) (K.state out.old) result.code (E.state result.dev) (K.state out.new) }
+{
+    let _ = text;
+    let shown = Shown::Trace;
+    run_job(
+        rt, alloc, dev, job, shown, threads, stop, gate, out, run, spelling,
+    )
 }
 
 // Says why the text was not read. A sink that fails here does not change the status.

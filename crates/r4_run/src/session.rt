@@ -1,15 +1,15 @@
 //! A session: a core is opened on the device, served to its end, and gives the device back.
 
-ghost use Rattle.std.specs.Prelude.{◌≡◌, Ok};
 ghost use Rattle.r4_shared.specs.r4_history.Tables.{asked};
 ghost use Rattle.r4_run.specs.Naming.{Begins, IsNamedSo};
 ghost use Rattle.r4_run.specs.Running.{Closed, Served};
+ghost use Rattle.r4_run.specs.Showing.{text_shown};
 ghost use Rattle.r4_script.specs.Spelling.{AreScripts};
-ghost use Rattle.r4_script.specs.Text.{job_of};
 
 use crate::ending::{End, Standing, standing_of};
+use crate::showing::{Shown, print_shown};
 use r4_outside::{Device, Gate, Run, Sink};
-use r4_print::{PrintFault, print_trace};
+use r4_print::PrintFault;
 use r4_script::Job;
 use r4_shared::{Core, OpenFault, finish, share_out};
 use std::alloc::Global;
@@ -30,20 +30,18 @@ pub(crate) fn session<E: Device, K: Sink, G: Gate, N: Run, X: Threads + Wait + S
     rt: &X,
     alloc: Global,
     dev: E,
-    text: &[u8],
     job: Job,
+    shown: Shown,
     threads: u32,
     gate: &G,
     out: &mut K,
 ) -> Outcome<E>
     requires begins { Begins N.start N.clock (E.state dev) }
     requires scripts { AreScripts job.scripts }
-    requires named { IsNamedSo N.scripts N.lender text.now }
-    requires spells { job_of text.now ≡ Ok job }
-    ensures served { Served N.start N.clock (asked job) (E.state dev) (K.state out.old) result.end
-        (E.state result.dev) (K.state out.new) }
+    requires named { IsNamedSo N.scripts N.lender job }
+    ensures served { Served (text_shown shown) N.start N.clock (asked job) (E.state dev) (K.state out.old)
+        result.end (E.state result.dev) (K.state out.new) }
 {
-    let _ = text;
     match Core::<E, N>::open(alloc, dev, job, RELOCATED) {
         Err(OpenFault { dev, why }) => Outcome {
             dev,
@@ -52,7 +50,7 @@ pub(crate) fn session<E: Device, K: Sink, G: Gate, N: Run, X: Threads + Wait + S
         Ok(core) => {
             let mut core = share_out(rt, alloc, core, threads, gate);
             finish(rt, alloc, &mut core, gate);
-            let (dev, standing, printed) = close(alloc, core, out);
+            let (dev, standing, printed) = close(alloc, core, shown, out);
             Outcome {
                 dev,
                 end: End::Opened { standing, printed },
@@ -61,18 +59,19 @@ pub(crate) fn session<E: Device, K: Sink, G: Gate, N: Run, X: Threads + Wait + S
     }
 }
 
-// The trace is printed, and the device goes back.
+// What is shown of the trace is printed, and the device goes back.
 fn close<E: Device, K: Sink, N: Run>(
     alloc: Global,
     core: Core<E, N>,
+    shown: Shown,
     out: &mut K,
 ) -> (E, Standing, Result<(), PrintFault>)
-    ensures { Closed N.start N.clock N.scripts (K.state out.old) result.1 result.2
+    ensures { Closed (text_shown shown) N.start N.clock N.scripts (K.state out.old) result.1 result.2
         (E.state result.0) (K.state out.new) }
 {
     core.lawful();
     let standing = standing_of(&core);
-    let printed = print_trace(alloc, out, core.trace());
+    let printed = print_shown(alloc, out, shown, core.trace());
     let dev = core.into_device();
     (dev, standing, printed)
 }

@@ -30,7 +30,7 @@ pub fn call<D: Device, X: Threads + Wait + Sync>(
 ) -> Result<u8, Fail>
     ensures { Goes (D.state dev.old) (D.state dev.new) }
 {
-    let gate = Slow { times: 0 };
+    let gate = Slow::open();
     call_at(rt, alloc, &gate, words, dev, text, out)
 }
 

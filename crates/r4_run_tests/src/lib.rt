@@ -2,7 +2,9 @@
 #![tactic(auto)]
 
 #[cfg(test)]
-mod faults;
+mod generated;
+#[cfg(test)]
+mod limits;
 #[cfg(test)]
 mod rows;
 #[cfg(test)]

@@ -1,24 +1,14 @@
 //! Scripts that are run by one thread, what is printed, and what is listed then.
 
-use r4_run_testing::{LIST, RUN, fresh, printed};
+use r4_run_testing::{LIST, RUN, Row, fresh, printed};
 use std::alloc::Global;
 use std::sync::Wait;
 use std::test::Fail;
 use std::thread::Threads;
 
-/// The scripts of a run on a fresh volume of 64 blocks, its status, what it prints, and what is listed
-/// of `/` behind it.
-struct Row {
-    name: &'static str,
-    text: &'static str,
-    status: u8,
-    told: &'static str,
-    listed: &'static str,
-}
-
 const EMPTY: &str = "d 0755 2 0 0 0 /\n";
 
-static ROWS: [Row; 10] = [
+static ROWS: [Row; 16] = [
     Row {
         name: "no scripts",
         text: "",
@@ -154,6 +144,72 @@ committed a1\n",
         listed: "d 0755 2 0 0 1 /\nf 0644 1 0 0 0 /aaaaaaaaaaaaaaaxxxxxxxca\n",
     },
     Row {
+        name: "scripts without commands",
+        text: "# nothing\n\nscript\nscript\n",
+        status: 0,
+        told: "",
+        listed: EMPTY,
+    },
+    Row {
+        name: "a volume that gets full",
+        text: "\
+script\n\
+begin\n\
+create /a\n\
+create /b\n\
+create /c\n\
+create /d\n\
+create /e\n\
+fill /a 0 16384 97\n\
+fill /b 0 16384 98\n\
+fill /c 0 16384 99\n\
+fill /d 0 16384 100\n\
+fill /e 0 16384 101\n\
+stat /e\n\
+end\n\
+commit\n\
+fill /e 0 16384 101\n\
+commit\n\
+unlink /a\n\
+commit\n",
+        status: 0,
+        told: "\
+begin t1 s1\n\
+done t1 s1 c2 ok\n\
+done t1 s1 c3 ok\n\
+done t1 s1 c4 ok\n\
+done t1 s1 c5 ok\n\
+done t1 s1 c6 ok\n\
+done t1 s1 c7 ok\n\
+done t1 s1 c8 ok\n\
+done t1 s1 c9 ok\n\
+done t1 s1 c10 ok\n\
+refused t1 s1 c11 space 8 2\n\
+done t1 s1 c12 attr 100644 1 0 0 0 0 0 0\n\
+ended t1\n\
+sealed a1\n\
+committed a1\n\
+acked s1 t1\n\
+begin t2 s1\n\
+done t2 s1 c15 ok\n\
+ended t2\n\
+sealed a2\n\
+committed a2\n\
+acked s1 t2\n\
+begin t3 s1\n\
+done t3 s1 c17 ok\n\
+ended t3\n\
+sealed a3\n\
+committed a3\n\
+acked s1 t3\n",
+        listed: "\
+d 0755 2 0 0 4 /\n\
+f 0644 1 0 0 16384 /b\n\
+f 0644 1 0 0 16384 /c\n\
+f 0644 1 0 0 16384 /d\n\
+f 0644 1 0 0 16384 /e\n",
+    },
+    Row {
         name: "a field too many",
         text: "script\ncommit now\n",
         status: 3,
@@ -179,6 +235,34 @@ committed a1\n",
         text: "script\nend\n",
         status: 3,
         told: "script: line 2 column 1: unopened\n",
+        listed: EMPTY,
+    },
+    Row {
+        name: "a number past its greatest",
+        text: "script\nfill /a 0 1 256\n",
+        status: 3,
+        told: "script: line 2 column 13: number\n",
+        listed: EMPTY,
+    },
+    Row {
+        name: "a path without a slash",
+        text: "script\n\n# x\nmkdir a\n",
+        status: 3,
+        told: "script: line 4 column 7: path\n",
+        listed: EMPTY,
+    },
+    Row {
+        name: "a transaction inside of another one",
+        text: "script\nbegin\nbegin\n",
+        status: 3,
+        told: "script: line 3 column 1: nested\n",
+        listed: EMPTY,
+    },
+    Row {
+        name: "a commit inside of a transaction",
+        text: "script\nbegin\ncommit\n",
+        status: 3,
+        told: "script: line 3 column 1: open\n",
         listed: EMPTY,
     },
 ];

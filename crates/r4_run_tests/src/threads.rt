@@ -68,7 +68,7 @@ fn slow_status<X: Threads + Wait + Sync>(
     dev: &mut MemoryDevice,
 ) -> Result<u8, Fail> {
     let mut out = MemorySink::new(alloc, 100)?;
-    let gate = Slow { times: 2000 };
+    let gate = Slow::by(2000);
     let text = "script\ncreate /a\n";
     call_at(rt, alloc, &gate, &FOUR, dev, text, &mut out)
 }

@@ -4,7 +4,7 @@ use Rattle.std.specs.Prelude.{ℕ, ◌-◌, ◌^◌, min, List, ◌++◌, codes,
 use Rattle.std.specs.Prelude.{if◌then◌else◌}
 use Rattle.std.specs.FinMap.{entries}
 use Rattle.r4_base.specs.Value.{Value, Stat, Entry, Byte, Content, value_of}
-use Rattle.r4_base.specs.Volume.{empty_volume, is_directory, is_stat_value}
+use Rattle.r4_base.specs.Volume.{empty_volume, is_directory, is_stat_value, objects_in}
 use Rattle.r4_content.specs.Locality.{commands}
 use Rattle.r4_content.specs.Meaning.{greatest_size}
 use Rattle.r4_content.specs.declared.seen.SeenPart.{SeenPart}
@@ -49,6 +49,11 @@ totals_text objects bytes refused = decimal objects ++ codes " bytes " ++ refuse
 abbrev pub summary_line : (seed objects bytes refused : ℕ) → List ℕ
 summary_line seed objects bytes refused = codes "gen " ++ decimal seed ++ codes ": objects "
     ++ totals_text objects bytes refused
+
+-- the summary of a trace
+abbrev pub summary_text : (seed : ℕ) → (trace : List TraceEntry) → List ℕ
+summary_text seed trace =
+    summary_line seed (objects_in (made_by trace)) (counted (bytes_in (made_by trace))) (refused_in trace)
 
 -- ---- of the parts in which a content is kept: whether one is stat data, and of a file of what size
 

@@ -18,6 +18,7 @@ use r4_trace::{Entry, Trace};
 use std::alloc::Global;
 
 /// What a run made of the empty volume, and how much it refused.
+#[derive(Clone, Copy, Debug, PartialEq, Eq)]
 pub struct Summary {
     /// The number of objects, the root among them.
     pub objects: u64,

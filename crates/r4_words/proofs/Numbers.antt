@@ -7,7 +7,7 @@ use Rattle.std.specs.Str.Parse.{AllDigits, IsNumeral, digits_value, without_lead
 use Rattle.std.proofs.lemmas.Bool.{and_parts, and_right, cases_lt, lt-leb, ne_eqb}
 use Rattle.std.proofs.lemmas.Str.{digit_value_digit}
 use Rattle.r4_words.specs.declared.options.RunOption.{RunOption}
-use Rattle.r4_words.specs.declared.options.RunOption.TheVariants.{Threads, Stop, Tear, Pick}
+use Rattle.r4_words.specs.declared.options.RunOption.TheVariants.{Threads, Stop, Tear, Pick, Gen}
 use Rattle.r4_words.specs.Options.{is_numeral, is_in_range, greatest, least, number_for}
 
 all_digits : (ds : List ℕ) → list_all is_ascii_digit ds ≡ true → AllDigits 10 ds
@@ -33,6 +33,7 @@ below_all Threads n above = omega (arith, above)
 below_all Stop n above = above
 below_all Tear n above = omega (arith, above)
 below_all Pick n above = above
+below_all Gen n above = above
 
 module _ (word : List ℕ) (numeral : is_numeral word ≡ true) where
   digits : list_all is_ascii_digit word ≡ true

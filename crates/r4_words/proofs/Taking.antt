@@ -7,7 +7,7 @@ use Rattle.std.proofs.lemmas.List.Elements.{filter_map-append}
 use Rattle.std.specs.List.{cons_option}
 use Rattle.r4_words.specs.declared.options.Numbers.{Numbers}
 use Rattle.r4_words.specs.declared.options.RunOption.{RunOption}
-use Rattle.r4_words.specs.declared.options.RunOption.TheVariants.{Threads, Stop, Tear, Pick}
+use Rattle.r4_words.specs.declared.options.RunOption.TheVariants.{Threads, Stop, Tear, Pick, Gen}
 use Rattle.r4_words.specs.Options.{AreOf, Given, Takes, asks_for, given_in, is_same, number_for, number_in}
 use Rattle.r4_words.specs.Options.{number_of, one_number, put_before, run_by, run_of, values_of}
 
@@ -18,7 +18,7 @@ pub record IsSoFar (words rest : List (List ℕ)) (numbers : Numbers) : Type 0 w
   pub numbers_are : AreOf read numbers
 
 pub none_so_far : (words : List (List ℕ))
-    → IsSoFar words words (record { threads = None; stop = None; tear = None; pick = None })
+    → IsSoFar words words (record { threads = None; stop = None; tear = None; pick = None; seed = None })
 none_so_far words = record { read = []; split = whole (given_in words); numbers_are = λ option. none option }
   where
     whole : (o : Option (List Given)) → o ≡ option_map (λ others. [] ++ others) o
@@ -27,34 +27,38 @@ none_so_far words = record { read = []; split = whole (given_in words); numbers_
 
     none : (option : RunOption)
         → number_of option [] ≡ Some
-        (number_in option (record { threads = None; stop = None; tear = None; pick = None }))
+        (number_in option (record { threads = None; stop = None; tear = None; pick = None; seed = None }))
     none Threads = refl
     none Stop = refl
     none Tear = refl
     none Pick = refl
+    none Gen = refl
 
 -- ---- one option without a number: the words ask for nothing
 
-asks_none : (option : RunOption) (a b c d : Option (Option ℕ)) → (option ≡ Threads → a ≡ None)
-    → (option ≡ Stop → b ≡ None) → (option ≡ Tear → c ≡ None) → (option ≡ Pick → d ≡ None) → None ≡ asks_for a b c d
-asks_none Threads a b c d is _ _ _ = subst (λ (x : Option (Option ℕ)). None ≡ asks_for x b c d) (sym (is refl)) refl
-asks_none Stop a b c d _ is _ _ = subst (λ (x : Option (Option ℕ)). None ≡ asks_for a x c d) (sym (is refl)) (stop a)
+asks_none : (option : RunOption) (a b c d e : Option (Option ℕ)) → (option ≡ Threads → a ≡ None)
+    → (option ≡ Stop → b ≡ None) → (option ≡ Tear → c ≡ None) → (option ≡ Pick → d ≡ None)
+    → (option ≡ Gen → e ≡ None) → None ≡ asks_for a b c d e
+asks_none Threads a b c d e is _ _ _ _ =
+    subst (λ (x : Option (Option ℕ)). None ≡ asks_for x b c d e) (sym (is refl)) refl
+asks_none Stop a b c d e _ is _ _ _ =
+    subst (λ (x : Option (Option ℕ)). None ≡ asks_for a x c d e) (sym (is refl)) (stop a)
   where
-    stop : (x : Option (Option ℕ)) → None ≡ asks_for x None c d
+    stop : (x : Option (Option ℕ)) → None ≡ asks_for x None c d e
     stop None = refl
     stop (Some x) = refl
-asks_none Tear a b c d _ _ is _ = subst (λ (x : Option (Option ℕ)). None ≡ asks_for a b x d) (sym (is refl))
-    (tear a b)
+asks_none Tear a b c d e _ _ is _ _ =
+    subst (λ (x : Option (Option ℕ)). None ≡ asks_for a b x d e) (sym (is refl)) (tear a b)
   where
-    tear : (x y : Option (Option ℕ)) → None ≡ asks_for x y None d
+    tear : (x y : Option (Option ℕ)) → None ≡ asks_for x y None d e
     tear None y = refl
     tear (Some x) None = refl
     tear (Some x) (Some None) = refl
     tear (Some x) (Some (Some y)) = refl
-asks_none Pick a b c d _ _ _ is = subst (λ (x : Option (Option ℕ)). None ≡ asks_for a b c x) (sym (is refl))
-    (pick a b c)
+asks_none Pick a b c d e _ _ _ is _ =
+    subst (λ (x : Option (Option ℕ)). None ≡ asks_for a b c x e) (sym (is refl)) (pick a b c)
   where
-    pick : (x y z : Option (Option ℕ)) → None ≡ asks_for x y z None
+    pick : (x y z : Option (Option ℕ)) → None ≡ asks_for x y z None e
     pick None y z = refl
     pick (Some x) None z = refl
     pick (Some x) (Some None) None = refl
@@ -62,10 +66,24 @@ asks_none Pick a b c d _ _ _ is = subst (λ (x : Option (Option ℕ)). None ≡ 
     pick (Some x) (Some None) (Some (Some z)) = refl
     pick (Some x) (Some (Some y)) None = refl
     pick (Some x) (Some (Some y)) (Some z) = refl
+asks_none Gen a b c d e _ _ _ _ is =
+    subst (λ (x : Option (Option ℕ)). None ≡ asks_for a b c d x) (sym (is refl)) (gen a b c d)
+  where
+    gen : (x y z w : Option (Option ℕ)) → None ≡ asks_for x y z w None
+    gen None y z w = refl
+    gen (Some x) None z w = refl
+    gen (Some x) (Some None) None w = refl
+    gen (Some x) (Some None) (Some None) None = refl
+    gen (Some x) (Some None) (Some None) (Some None) = refl
+    gen (Some x) (Some None) (Some None) (Some (Some w)) = refl
+    gen (Some x) (Some None) (Some (Some z)) w = refl
+    gen (Some x) (Some (Some y)) None w = refl
+    gen (Some x) (Some (Some y)) (Some z) None = refl
+    gen (Some x) (Some (Some y)) (Some z) (Some w) = refl
 
 pub run_none : (option : RunOption) (given : List Given) → number_of option given ≡ None → None ≡ run_by given
-run_none option given is = asks_none option _ _ _ _ (λ e. by Threads e) (λ e. by Stop e) (λ e. by Tear e)
-    (λ e. by Pick e)
+run_none option given is = asks_none option _ _ _ _ _ (λ e. by Threads e) (λ e. by Stop e) (λ e. by Tear e)
+    (λ e. by Pick e) (λ e. by Gen e)
   where
     by : (o : RunOption) → option ≡ o → number_of o given ≡ None
     by o e = subst (λ (x : RunOption). number_of x given ≡ None) e is
@@ -77,12 +95,14 @@ same_self Threads = refl
 same_self Stop = refl
 same_self Tear = refl
 same_self Pick = refl
+same_self Gen = refl
 
 same_is : (a b : RunOption) → is_same a b ≡ true → a ≡ b
 same_is Threads Threads is = refl
 same_is Stop Stop is = refl
 same_is Tear Tear is = refl
 same_is Pick Pick is = refl
+same_is Gen Gen is = refl
 same_is Threads Stop is = absurd (cc is)
 same_is Threads Tear is = absurd (cc is)
 same_is Threads Pick is = absurd (cc is)
@@ -95,6 +115,14 @@ same_is Tear Pick is = absurd (cc is)
 same_is Pick Threads is = absurd (cc is)
 same_is Pick Stop is = absurd (cc is)
 same_is Pick Tear is = absurd (cc is)
+same_is Threads Gen is = absurd (cc is)
+same_is Stop Gen is = absurd (cc is)
+same_is Tear Gen is = absurd (cc is)
+same_is Pick Gen is = absurd (cc is)
+same_is Gen Threads is = absurd (cc is)
+same_is Gen Stop is = absurd (cc is)
+same_is Gen Tear is = absurd (cc is)
+same_is Gen Pick is = absurd (cc is)
 
 values_append : (option : RunOption) (before after : List Given)
     → values_of option (before ++ after) ≡ values_of option before ++ values_of option after
@@ -233,12 +261,17 @@ module _ (words rest : List (List ℕ)) (numbers : Numbers) (so : IsSoFar words 
 -- all words are read
 pub all_read : (words : List (List ℕ)) (numbers : Numbers) → IsSoFar words [] numbers
     → run_of words ≡ asks_for (Some numbers.threads) (Some numbers.stop) (Some numbers.tear) (Some numbers.pick)
+    (Some numbers.seed)
 unfolding given_in
 all_read words numbers so =
     ap (option_and_then run_by) (so.split ∙ ap Some (append-nil so.read))
-    ∙ ap (λ o. asks_for o (number_of Stop so.read) (number_of Tear so.read) (number_of Pick so.read))
-    (so.numbers_are Threads)
-    ∙ ap (λ o. asks_for (Some numbers.threads) o (number_of Tear so.read) (number_of Pick so.read))
-    (so.numbers_are Stop)
-    ∙ ap (λ o. asks_for (Some numbers.threads) (Some numbers.stop) o (number_of Pick so.read)) (so.numbers_are Tear)
-    ∙ ap (λ o. asks_for (Some numbers.threads) (Some numbers.stop) (Some numbers.tear) o) (so.numbers_are Pick)
+    ∙ ap (λ o. asks_for o (number_of Stop so.read) (number_of Tear so.read) (number_of Pick so.read)
+    (number_of Gen so.read)) (so.numbers_are Threads)
+    ∙ ap (λ o. asks_for (Some numbers.threads) o (number_of Tear so.read) (number_of Pick so.read)
+    (number_of Gen so.read)) (so.numbers_are Stop)
+    ∙ ap (λ o. asks_for (Some numbers.threads) (Some numbers.stop) o (number_of Pick so.read)
+    (number_of Gen so.read)) (so.numbers_are Tear)
+    ∙ ap (λ o. asks_for (Some numbers.threads) (Some numbers.stop) (Some numbers.tear) o
+    (number_of Gen so.read)) (so.numbers_are Pick)
+    ∙ ap (λ o. asks_for (Some numbers.threads) (Some numbers.stop) (Some numbers.tear) (Some numbers.pick) o)
+    (so.numbers_are Gen)

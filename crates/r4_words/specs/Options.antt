@@ -9,7 +9,7 @@ use Rattle.std.specs.Str.Parse.{digits_value}
 use Rattle.r4_words.specs.declared.options.First.{First}
 use Rattle.r4_words.specs.declared.options.Numbers.{Numbers}
 use Rattle.r4_words.specs.declared.options.RunOption.{RunOption}
-use Rattle.r4_words.specs.declared.options.RunOption.TheVariants.{Threads, Stop, Tear, Pick}
+use Rattle.r4_words.specs.declared.options.RunOption.TheVariants.{Threads, Stop, Tear, Pick, Gen}
 use Rattle.r4_words.specs.declared.options.RunWords.{RunWords}
 use Rattle.r4_words.specs.declared.options.StopWords.{StopWords}
 
@@ -22,16 +22,19 @@ pub record StopAsked : Type 0 where
   pub tear : ℕ
   pub pick : Option ℕ
 
--- A run by so many threads, on a device that stops where that is asked for.
+-- A run by so many threads, on a device that stops where that is asked for: of the scripts of the source, or of
+-- the generated workload of a seed.
 pub record RunAsked : Type 0 where
   pub threads : ℕ
   pub stop : Option StopAsked
+  pub seed : Option ℕ
 
 abbrev pub asked_stop : StopWords → StopAsked
 asked_stop words = record { writes = words.writes; tear = words.tear; pick = words.pick }
 
 abbrev pub asked_run : RunWords → RunAsked
-asked_run words = record { threads = words.threads; stop = option_map asked_stop words.stop }
+asked_run words =
+    record { threads = words.threads; stop = option_map asked_stop words.stop; seed = words.seed }
 
 -- ---- the numbers of the options
 
@@ -41,12 +44,14 @@ least Threads = 1
 least Stop = 0
 least Tear = 0
 least Pick = 0
+least Gen = 0
 
 abbrev pub greatest : RunOption → ℕ
 greatest Threads = 16
 greatest Stop = 2 ^ 64 - 1
 greatest Tear = 255
 greatest Pick = 2 ^ 64 - 1
+greatest Gen = 2 ^ 64 - 1
 
 abbrev pub is_in_range : RunOption → ℕ → Bool
 is_in_range option number = nat_le (least option) number && nat_le number (greatest option)
@@ -75,6 +80,7 @@ option_named name =
     if bytes_eq name (codes "--stop") then Some Stop else
     if bytes_eq name (codes "--tear") then Some Tear else
     if bytes_eq name (codes "--pick") then Some Pick else
+    if bytes_eq name (codes "--gen") then Some Gen else
     None
 
 abbrev pub given_by : (name value : List ℕ) → Option Given
@@ -107,6 +113,7 @@ is_same Threads Threads = true
 is_same Stop Stop = true
 is_same Tear Tear = true
 is_same Pick Pick = true
+is_same Gen Gen = true
 is_same a b = false
 
 -- all words that are given as an option's value
@@ -124,18 +131,20 @@ number_of option given = one_number option (values_of option given)
 
 -- One thread where no number is given, and no sector of the write at the stop. `--tear` and `--pick` stand only
 -- with `--stop`.
-abbrev pub asks_for : (threads stop tear pick : Option (Option ℕ)) → Option RunAsked
-asks_for (Some threads) (Some None) (Some None) (Some None) =
-    Some (record { threads = unwrap_or threads 1; stop = None })
-asks_for (Some threads) (Some (Some writes)) (Some tear) (Some pick) = Some (record {
+abbrev pub asks_for : (threads stop tear pick seed : Option (Option ℕ)) → Option RunAsked
+asks_for (Some threads) (Some None) (Some None) (Some None) (Some seed) =
+    Some (record { threads = unwrap_or threads 1; stop = None; seed = seed })
+asks_for (Some threads) (Some (Some writes)) (Some tear) (Some pick) (Some seed) = Some (record {
   threads = unwrap_or threads 1;
   stop = Some (record { writes = writes; tear = unwrap_or tear 0; pick = pick });
+  seed = seed;
 })
-asks_for threads stop tear pick = None
+asks_for threads stop tear pick seed = None
 
 abbrev pub run_by : List Given → Option RunAsked
 run_by given =
     asks_for (number_of Threads given) (number_of Stop given) (number_of Tear given) (number_of Pick given)
+    (number_of Gen given)
 
 -- What the words behind the IMAGE of `run` ask for.
 abbrev pub run_of : List (List ℕ) → Option RunAsked
@@ -148,6 +157,7 @@ number_in Threads numbers = numbers.threads
 number_in Stop numbers = numbers.stop
 number_in Tear numbers = numbers.tear
 number_in Pick numbers = numbers.pick
+number_in Gen numbers = numbers.seed
 
 -- The numbers are those of the options that are given.
 abbrev pub AreOf : List Given → Numbers → Type 0

@@ -16,6 +16,8 @@ pub struct RunWords {
     pub threads: u32,
     /// Where its device is to stop, if it is.
     pub stop: Option<StopWords>,
+    /// Of which seed the generated workload is run in place of scripts, if it is.
+    pub seed: Option<u64>,
 }
 
 /// A stop of the device that is asked for.
@@ -36,6 +38,7 @@ pub(crate) enum RunOption {
     Stop,
     Tear,
     Pick,
+    Gen,
 }
 
 /// The numbers that are given with options.
@@ -45,6 +48,7 @@ pub(crate) struct Numbers {
     pub(crate) stop: Option<u64>,
     pub(crate) tear: Option<u64>,
     pub(crate) pick: Option<u64>,
+    pub(crate) seed: Option<u64>,
 }
 
 /// What the words behind the IMAGE of `run` ask for, or none where they are faulty.
@@ -57,6 +61,7 @@ pub(crate) fn read_run(options: &[String]) -> Option<RunWords>
         stop: None,
         tear: None,
         pick: None,
+        seed: None,
     };
     let mut rest = options;
     while !rest.is_empty() {
@@ -115,6 +120,7 @@ fn option_by(name: &str) -> Option<RunOption>
         "--stop" => Some(RunOption::Stop),
         "--tear" => Some(RunOption::Tear),
         "--pick" => Some(RunOption::Pick),
+        "--gen" => Some(RunOption::Gen),
         _ => None,
     }
 }
@@ -145,6 +151,10 @@ fn take(numbers: Numbers, option: RunOption, value: &str) -> Option<Numbers>
             pick: number,
             ..numbers
         },
+        RunOption::Gen => Numbers {
+            seed: number,
+            ..numbers
+        },
     })
 }
 
@@ -157,6 +167,7 @@ fn number_in(numbers: Numbers, option: RunOption) -> Option<u64>
         RunOption::Stop => numbers.stop,
         RunOption::Tear => numbers.tear,
         RunOption::Pick => numbers.pick,
+        RunOption::Gen => numbers.seed,
     }
 }
 
@@ -181,7 +192,7 @@ fn least(option: RunOption) -> u64
 {
     match option {
         RunOption::Threads => 1,
-        RunOption::Stop | RunOption::Tear | RunOption::Pick => 0,
+        RunOption::Stop | RunOption::Tear | RunOption::Pick | RunOption::Gen => 0,
     }
 }
 
@@ -191,7 +202,7 @@ fn greatest(option: RunOption) -> u64
     match option {
         RunOption::Threads => 16,
         RunOption::Tear => 255,
-        RunOption::Stop | RunOption::Pick => u64::MAX,
+        RunOption::Stop | RunOption::Pick | RunOption::Gen => u64::MAX,
     }
 }
 
@@ -213,7 +224,7 @@ fn run_asked(numbers: Numbers) -> Option<RunWords>
     requires { AreInRange numbers }
     ensures range { IfSome result (λ run. (1 ≤ run.threads) × (run.threads ≤ 16)) }
     ensures found { option_map asked_run result ≡ asks_for (Some numbers.threads) (Some numbers.stop)
-        (Some numbers.tear) (Some numbers.pick) }
+        (Some numbers.tear) (Some numbers.pick) (Some numbers.seed) }
 {
     let threads = numbers.threads.unwrap_or(1) as u32;
     match numbers.stop {
@@ -224,10 +235,12 @@ fn run_asked(numbers: Numbers) -> Option<RunWords>
                 tear: numbers.tear.unwrap_or(0) as u8,
                 pick: numbers.pick,
             }),
+            seed: numbers.seed,
         }),
         None if numbers.tear.is_none() && numbers.pick.is_none() => Some(RunWords {
             threads,
             stop: None,
+            seed: numbers.seed,
         }),
         None => None,
     }

@@ -11,7 +11,7 @@ static NAMES: [&str; 8] = ["run", "run", "run", "run", "mkfs", "list", "replay",
 
 static IMAGES: [&str; 5] = ["i", "i", "/", "-h", ""];
 
-static OPTIONS: [&str; 21] = [
+static OPTIONS: [&str; 24] = [
     "--threads",
     "--threads=",
     "--threads=7",
@@ -25,6 +25,9 @@ static OPTIONS: [&str; 21] = [
     "--tear=16",
     "--pick",
     "--pick=17",
+    "--gen",
+    "--gen=5",
+    "--gen=",
     "--label",
     "--label=",
     "--label=a",
@@ -50,7 +53,7 @@ enum Found<'a> {
     Check,
     Label(&'a [u8]),
     Path(&'a [u8]),
-    Run(usize, Option<Stop>),
+    Run(usize, Option<Stop>, Option<usize>),
 }
 
 #[derive(Clone, Copy, Debug, PartialEq, Eq)]
@@ -67,7 +70,16 @@ fn first(command: Command<'_>) -> Found<'_> {
         Command::Offline(Offline::Check) => Found::Check,
         Command::Offline(Offline::Mkfs { label }) => Found::Label(label),
         Command::Offline(Offline::List { path }) => Found::Path(path),
-        Command::Run(RunWords { threads, stop }) => Found::Run(threads as usize, stop.map(as_stop)),
+        Command::Run(
+            RunWords {
+                threads,
+                stop,
+                seed,
+            },
+        ) => {
+            let seed = seed.map(|number| number as usize);
+            Found::Run(threads as usize, stop.map(as_stop), seed)
+        }
     }
 }
 
@@ -132,8 +144,9 @@ fn find(name: &str, options: &[&str]) -> Option<Place> {
 fn run(options: &[&str]) -> Option<Found<'static>> {
     let (pick, tear) = (find("--pick", options)?, find("--tear", options)?);
     let (stop, threads) = (find("--stop", options)?, find("--threads", options)?);
+    let seed = find("--gen", options)?;
     let own = usize::from(pick.words) + usize::from(tear.words) + usize::from(stop.words);
-    if own + usize::from(threads.words) != options.len() {
+    if own + usize::from(threads.words) + usize::from(seed.words) != options.len() {
         return None;
     }
     let count = threads.number.unwrap_or(1);
@@ -145,7 +158,7 @@ fn run(options: &[&str]) -> Option<Found<'static>> {
         tear: tear.number.unwrap_or(0),
         pick: pick.number,
     });
-    Some(Found::Run(count, stop))
+    Some(Found::Run(count, stop, seed.number))
 }
 
 fn label(value: &str) -> Option<Found<'_>> {
@@ -200,7 +213,7 @@ fn pick_words(alloc: Global, state: &mut u64) -> Result<Vec<&'static str>, Fail>
 #[test]
 fn two_readers_agree(rt: HostRuntime) -> Result<(), Fail> {
     let alloc = rt.alloc();
-    let (mut state, mut commands, mut stops) = (1, 0u32, 0u32);
+    let (mut state, mut commands, mut stops, mut seeds) = (1, 0u32, 0u32, 0u32);
     for _line in 0..2000u32 {
         let words = pick_words(alloc, &mut state)?;
         let owned = owned(alloc, &words)?;
@@ -208,13 +221,14 @@ fn two_readers_agree(rt: HostRuntime) -> Result<(), Fail> {
         let text = format!(in alloc; "{words:?}")?;
         same(&rt, &found, &second(&words), text.as_str());
         commands = commands.saturating_add(u32::from(found.is_some()));
-        stops = stops.saturating_add(u32::from(matches!(found, Some(Found::Run(_, Some(_))))));
+        stops = stops.saturating_add(u32::from(matches!(found, Some(Found::Run(_, Some(_), _)))));
+        seeds = seeds.saturating_add(u32::from(matches!(found, Some(Found::Run(_, _, Some(_))))));
     }
     same(
         &rt,
-        &(commands, stops),
-        &(149, 11),
-        "commands, and stops among them",
+        &(commands, stops, seeds),
+        &(149, 13, 4),
+        "commands, and stops and seeds among them",
     );
     Ok(())
 }

@@ -16,7 +16,7 @@ pub fn owned(alloc: Global, words: &[&str]) -> Result<Vec<String>, Fail> {
 }
 
 // Words of a command line, and the command that they spell.
-static SPELLED: [(&[&str], &str); 20] = [
+static SPELLED: [(&[&str], &str); 23] = [
     (&["replay", "i"], "Some(Offline(Replay))"),
     (&["check", "i"], "Some(Offline(Check))"),
     (&["mkfs", "i"], "Some(Offline(Mkfs { label: [] }))"),
@@ -35,48 +35,48 @@ static SPELLED: [(&[&str], &str); 20] = [
     ),
     (
         &["run", "i"],
-        "Some(Run(RunWords { threads: 1, stop: None }))",
+        "Some(Run(RunWords { threads: 1, stop: None, seed: None }))",
     ),
     (
         &["run", "i", "--threads", "1"],
-        "Some(Run(RunWords { threads: 1, stop: None }))",
+        "Some(Run(RunWords { threads: 1, stop: None, seed: None }))",
     ),
     (
         &["run", "i", "--threads", "9"],
-        "Some(Run(RunWords { threads: 9, stop: None }))",
+        "Some(Run(RunWords { threads: 9, stop: None, seed: None }))",
     ),
     (
         &["run", "i", "--threads=1"],
-        "Some(Run(RunWords { threads: 1, stop: None }))",
+        "Some(Run(RunWords { threads: 1, stop: None, seed: None }))",
     ),
     (
         &["run", "i", "--threads=16"],
-        "Some(Run(RunWords { threads: 16, stop: None }))",
+        "Some(Run(RunWords { threads: 16, stop: None, seed: None }))",
     ),
     (
         &["run", "i", "--threads", "00000000000000000016"],
-        "Some(Run(RunWords { threads: 16, stop: None }))",
+        "Some(Run(RunWords { threads: 16, stop: None, seed: None }))",
     ),
     (
         &["run", "i", "--threads=00000000000000000001"],
-        "Some(Run(RunWords { threads: 1, stop: None }))",
+        "Some(Run(RunWords { threads: 1, stop: None, seed: None }))",
     ),
     (
         &["run", "i", "--stop", "0"],
-        "Some(Run(RunWords { threads: 1, stop: Some(StopWords { writes: 0, tear: 0, pick: None }) }))",
+        "Some(Run(RunWords { threads: 1, stop: Some(StopWords { writes: 0, tear: 0, pick: None }), seed: None }))",
     ),
     (
         &["run", "i", "--stop=18446744073709551615"],
         "Some(Run(RunWords { threads: 1, \
-         stop: Some(StopWords { writes: 18446744073709551615, tear: 0, pick: None }) }))",
+         stop: Some(StopWords { writes: 18446744073709551615, tear: 0, pick: None }), seed: None }))",
     ),
     (
         &["run", "i", "--tear", "255", "--threads=2", "--stop", "7"],
-        "Some(Run(RunWords { threads: 2, stop: Some(StopWords { writes: 7, tear: 255, pick: None }) }))",
+        "Some(Run(RunWords { threads: 2, stop: Some(StopWords { writes: 7, tear: 255, pick: None }), seed: None }))",
     ),
     (
         &["run", "i", "--pick=0", "--stop=7"],
-        "Some(Run(RunWords { threads: 1, stop: Some(StopWords { writes: 7, tear: 0, pick: Some(0) }) }))",
+        "Some(Run(RunWords { threads: 1, stop: Some(StopWords { writes: 7, tear: 0, pick: Some(0) }), seed: None }))",
     ),
     (
         &[
@@ -90,7 +90,7 @@ static SPELLED: [(&[&str], &str); 20] = [
             "16",
         ],
         "Some(Run(RunWords { threads: 16, stop: Some(StopWords { writes: 1, tear: 254, \
-         pick: Some(18446744073709551615) }) }))",
+         pick: Some(18446744073709551615) }), seed: None }))",
     ),
     (
         &[
@@ -105,12 +105,25 @@ static SPELLED: [(&[&str], &str); 20] = [
             "--tear",
             "1",
         ],
-        "Some(Run(RunWords { threads: 3, stop: Some(StopWords { writes: 1, tear: 1, pick: Some(2) }) }))",
+        "Some(Run(RunWords { threads: 3, stop: Some(StopWords { writes: 1, tear: 1, pick: Some(2) }), seed: None }))",
+    ),
+    (
+        &["run", "i", "--gen", "7"],
+        "Some(Run(RunWords { threads: 1, stop: None, seed: Some(7) }))",
+    ),
+    (
+        &["run", "i", "--gen=18446744073709551615", "--threads=4"],
+        "Some(Run(RunWords { threads: 4, stop: None, seed: Some(18446744073709551615) }))",
+    ),
+    (
+        &["run", "i", "--tear=1", "--gen", "00", "--stop", "2"],
+        "Some(Run(RunWords { threads: 1, stop: Some(StopWords { writes: 2, tear: 1, pick: None }), \
+         seed: Some(0) }))",
     ),
 ];
 
 // Words that spell no command.
-static FAULTY: [&[&str]; 74] = [
+static FAULTY: [&[&str]; 86] = [
     &[],
     &["check"],
     &["check", "i", "/"],
@@ -178,6 +191,18 @@ static FAULTY: [&[&str]; 74] = [
     &["run", "i", "--stop=1", "1"],
     &["run", "i", "--stop", "--tear", "1"],
     &["mkfs", "i", "--stop=1"],
+    &["run", "i", "--gen"],
+    &["run", "i", "--gen="],
+    &["run", "i", "--gen", ""],
+    &["run", "i", "--gen", "x"],
+    &["run", "i", "--gen=-1"],
+    &["run", "i", "--gen", "18446744073709551616"],
+    &["run", "i", "--gen=000000000000000000001"],
+    &["run", "i", "--gen=1", "--gen", "1"],
+    &["run", "i", "--gen", "1", "2"],
+    &["run", "i", "--gen=1", "--pick=1"],
+    &["run", "i", "--seed=1"],
+    &["replay", "i", "--gen=1"],
     &["run", "i", "--"],
     &["run", "i", "-h"],
     &["run", "i", "--help"],

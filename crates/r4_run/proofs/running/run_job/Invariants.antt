@@ -1,5 +1,11 @@
+use Rattle.std.proofs.Common.{None, Some}
 use Rattle.r4_run.proofs.running.run_job.Given as goal
 
--- where the device stands now
-abbrev pub ghosts-run_stopped : goal.ghosts-run_stopped
-ghosts-run_stopped g a = record { began = g.E.Device.state a.dev }
+-- what the caller names, and a text that spells the job
+abbrev pub ghosts-run_named : goal.ghosts-run_named
+ghosts-run_named g a = record {
+  start = g.R.Run.start;
+  clock = g.R.Run.clock;
+  scripts = Some g.S.Spelling.text;
+  lender = None;
+}

@@ -17,10 +17,10 @@ returns-clause-runs g c =
     let r = c.read_text.ensures in
     let d = g.D.Device.state in
     let k = g.K.Sink.state in
-    let ran = is_run _ _ _ _ _ (d c.args.dev.now) (d c.run_job-code.result.dev.now) _ _ r.told r.faults
+    let ran = is_run _ _ _ _ _ (d c.args.dev.now) (d c.run_text-code.result.dev.now) _ _ r.told r.faults
     c.in-Ok.text.items c.as_slice.result.now c.in-Ok.ensures.job c.as_slice.ensures.value _ _ _ c.in-Ok-parse.job
-    c.in-Ok-parse.ensures.exact c.run_job-code.ensures.ran in
+    c.in-Ok-parse.ensures.exact c.run_text-code.ensures.ran in
     subst (λ x. Runs (option_map asked_stop c.args.stop) g.R.Run.start g.R.Run.clock
     (g.S.Source.state c.args.script.now) (g.S.Source.state c.read_text.new.source)
-    (d c.args.dev.now) (k c.args.out.now) c.run_job-code.result.code (d x) (k c.run_job-code.new.out))
-    (grind (arith, c.run_job-code.ensures.goes.lender)) ran
+    (d c.args.dev.now) (k c.args.out.now) c.run_text-code.result.code (d x) (k c.run_text-code.new.out))
+    (grind (arith, c.run_text-code.ensures.goes.lender)) ran

@@ -40,7 +40,7 @@ fn run_from<X: Threads + Wait + Sync>(
         String::from_str(alloc, "run")?,
         String::from_str(alloc, "image")?,
     ];
-    let (gate, run) = (&Slow { times: 0 }, Unnamed::new());
+    let (gate, run) = (&Slow::open(), Unnamed::new());
     Ok(r4_main(rt, alloc, &words, dev, script, out, gate, run).code)
 }
 
@@ -66,14 +66,15 @@ fn source_that_fails_is_told(rt: HostRuntime) -> Result<(), Fail> {
     is_told(&rt, rt.alloc(), &mut dev, &mut script)
 }
 
-// The status of a run whose second line cannot be written.
+// The status of a run of which this write to the sink fails.
 fn run_unheard<X: Threads + Wait + Sync>(
     rt: &X,
     alloc: Global,
     dev: &mut MemoryDevice,
+    nth: u64,
 ) -> Result<u8, Fail> {
     let mut out = MemorySink::new(alloc, 100)?;
-    out.fail(alloc, 2)?;
+    out.fail(alloc, nth)?;
     call(rt, alloc, &RUN, dev, TEXT, &mut out)
 }
 
@@ -91,12 +92,15 @@ fn lists_file<X: Abort + Threads + Wait + Sync>(
     Ok(())
 }
 
-// A sink whose second write fails has a line, and the volume has the file all the same.
+// A sink whose first or second write fails has no line, or one, and the volume has the file all the same.
 #[test]
 fn sink_that_fails_leaves_the_volume(rt: HostRuntime) -> Result<(), Fail> {
-    let mut dev = fresh(&rt, rt.alloc(), 64)?;
-    assert_eq!(&rt; run_unheard(&rt, rt.alloc(), &mut dev)?, 5);
-    lists_file(&rt, rt.alloc(), &mut dev)
+    for nth in 1..=2u64 {
+        let mut dev = fresh(&rt, rt.alloc(), 64)?;
+        assert_eq!(&rt; run_unheard(&rt, rt.alloc(), &mut dev, nth)?, 5);
+        lists_file(&rt, rt.alloc(), &mut dev)?;
+    }
+    Ok(())
 }
 
 // The status of a run on a device of which a call fails, and what is printed.
@@ -176,6 +180,27 @@ fn failing_calls_are_told(rt: HostRuntime) -> Result<(), Fail> {
         }
     }
     assert_eq!(&rt; broken, 14);
+    Ok(())
+}
+
+// What is told where the sync behind the journal header's write fails, which is the eighth call that
+// changes the volume, behind ten that made it.
+const BROKEN: &str = "\
+begin t1 s1\n\
+done t1 s1 c1 ok\n\
+ended t1\n\
+sealed a1\n\
+broken 18 1\n\
+refused t0 s1 c2 reopen 18\n\
+refused t0 s1 c3 reopen 18\n\
+device: clock 18 faults 1\n";
+
+#[test]
+fn failing_sync_of_the_header_is_told(rt: HostRuntime) -> Result<(), Fail> {
+    let mut dev = fresh(&rt, rt.alloc(), 64)?;
+    let (status, told) = failing(&rt, rt.alloc(), &mut dev, 26)?;
+    assert_eq!(&rt; status, 6);
+    assert_eq!(&rt; told.as_slice(), BROKEN.as_bytes());
     Ok(())
 }
 

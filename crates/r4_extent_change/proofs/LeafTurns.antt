@@ -1,0 +1,96 @@
+-- The edits of leaves in a measured set, of which each leaf stays one.
+use Rattle.std.proofs.Common.{◌≡◌, inl, inr, ℕ, ◌+◌, ◌*◌, ◌^◌, ◌<◌, ◌≤◌, List, [], ◌∷◌, length, refl, ap, sym, subst, ◌∙◌, arith}
+use Rattle.std.specs.Prelude.{Contains, None, true}
+use Rattle.std.specs.List.{filter}
+use Rattle.r4_base.specs.Key.{rank}
+use Rattle.r4_base.specs.Tree.{Root, Store}
+use Rattle.r4_base.specs.Value.{Value}
+use Rattle.r4_build.proofs.MetKeys.{met_key}
+use Rattle.r4_build.specs.Making.{AreTurnsOf, CanMake, IsTurnOf, MakeAtMost}
+use Rattle.r4_content.specs.Edited.{Edits, changed, is_between}
+use Rattle.r4_content.specs.Listed.{list_edited}
+use Rattle.r4_measure.proofs.Loop.{all_turns, few_stand, of_id}
+use Rattle.r4_measure.proofs.r4_patch.Members.{Distinct, cases, distinct, here, later}
+use Rattle.r4_measure.proofs.r4_path.Rising.{hi_is, level_is, lo_is}
+use Rattle.r4_measure.proofs.r4_work.InPlace.{standing_is}
+use Rattle.r4_measure.specs.Budget.{Budget, most_from}
+use Rattle.r4_measure.specs.Loop.{AreReady, IsReady, LeafTurn, units_now}
+use Rattle.r4_measure.specs.Measured.{IsMeasured}
+use Rattle.r4_measure.specs.r4_cell.Patch.{HaveNames}
+use Rattle.r4_measure.specs.r4_cell.Seen.{CellSeen, node_of}
+use Rattle.r4_measure.specs.r4_cell.declared.change.Fresh.{Fresh}
+use Rattle.r4_measure.specs.r4_edit.Editing.{extra_cells}
+use Rattle.r4_measure.specs.r4_leaf.Remade.{AreWithin}
+use Rattle.r4_measure.specs.r4_leaf.Units.{LeafUnit, leaf_bytes}
+use Rattle.r4_measure.specs.r4_patch.Joining.{ids_of}
+use Rattle.r4_measure.specs.r4_reach.Needs.{is_met, units_after}
+use Rattle.r4_measure.specs.r4_work.Remaking.{CutsWithin}
+use Rattle.r4_measure.specs.r4_work.Working.{root_of, standing}
+use Rattle.r4_measure.specs.r4_work.declared.working.WorkingSet.{WorkingSet}
+
+module _ (e : Edits) (t : Store Value) (r : Root) (f : Fresh) (w : WorkingSet) (u : Budget) (is : IsMeasured t r f w u) (cells : List CellSeen) (names : HaveNames cells)
+    (stand : (c : CellSeen) → Contains cells c → c.level ≡ 1 → Contains (standing w) c)
+    (room : (c : CellSeen) → Contains cells c → c.level ≡ 1 → is_met (changed e) (rank c.lo) (rank c.hi) ≡ true → leaf_bytes (units_after None e (node_of c)) ≤ 4068) where
+  units : (c : CellSeen) (turn : LeafTurn) → IsTurnOf e c turn → units_after None e (node_of c) ≡ units_now turn (node_of c)
+  units c turn of =
+      let lo = lo_is c in
+      let hi = hi_is c in
+      (λ i. filter (λ v. is_between (lo i) (hi i) v.0) (list_edited e (node_of c).units)) ∙ sym of.makes.units
+
+  ready_one : (c : CellSeen) → Contains cells c → (turn : LeafTurn) → IsTurnOf e c turn → IsReady t w u turn c.id
+  ready_one c at turn of =
+      let stands = stand c at of.level in
+      let (k, on, low, high) = met_key (changed e) (rank c.lo) (rank c.hi) of.touched in
+      let lo = lo_is c in
+      let hi = hi_is c in
+      let key : rank turn.key ≡ rank c.lo = ap rank of.key in
+      let few : leaf_bytes (units_now turn (node_of c)) ≤ 4068 = subst (λ (us : List LeafUnit). leaf_bytes us ≤ 4068) (units c turn of) (room c at of.level of.touched) in
+      let none : extra_cells (units_now turn (node_of c)) ≤ 0 = omega (arith, few) in
+      record {
+        node = node_of c;
+        at = standing_is t r f w is.working c stands;
+        stands = (c, stands, refl);
+        level = level_is c ∙ of.level;
+        key = (omega (arith, lo, key), omega (arith, hi, key, low, high));
+        cuts_within = subst (λ x. CutsWithin x (node_of c).hi turn.cuts) (sym lo) (subst (λ y. CutsWithin (rank c.lo) y turn.cuts) (sym hi) of.cuts_within);
+        within = subst (λ x. AreWithin x (node_of c).hi turn.items) (sym lo) (subst (λ y. AreWithin (rank c.lo) y turn.items) (sym hi) of.within);
+        keys = of.keys;
+        can = of.makes.can;
+        small = omega (arith, few);
+        come = omega (arith, none);
+      }
+
+  -- those of a leaf each, by the leaves' numbers
+  abbrev Numbered : List CellSeen → List LeafTurn → Type 0
+  Numbered cs us = (ids : List ℕ) × AreReady t w u us ids × ((i : ℕ) → Contains ids i → Contains (ids_of cs) i) × (length us ≤ length cs)
+
+  numbered : (cs : List CellSeen) (us : List LeafTurn) → Distinct cs → ((c : CellSeen) → Contains cs c → Contains cells c) → AreTurnsOf e cs us → Numbered cs us
+  numbered [] us apart among none_is = subst (Numbered []) (sym none_is) ([], tt, λ i m. m, omega arith)
+  numbered (c ∷ cs) us (first, apart) among (inl h) =
+      let (ids, ready, are, long) = numbered cs us apart (λ x m. among x (later c x cs m)) h in
+      (ids, ready, λ i m. later c.id i (ids_of cs) (are i m), omega (arith, long))
+  numbered (c ∷ cs) us (first, apart) among (inr (turn, rest, same, of, h)) =
+      let (ids, ready, are, long) = numbered cs rest apart (λ x m. among x (later c x cs m)) h in
+      subst (Numbered (c ∷ cs)) (sym same) (
+        c.id ∷ ids,
+        (ready_one c (among c (here c cs)) turn of, λ j m e2. (let (x, at, id) = of_id cs j (are j m) in first x at (sym (id ∙ e2))), ready),
+        λ i m. elim (cases c.id i ids m) [
+          | inl g ↦ subst (Contains (ids_of (c ∷ cs))) (sym g) (here c.id (ids_of cs))
+          | inr g ↦ later c.id i (ids_of cs) (are i g)
+        ],
+        omega (arith, long),
+      )
+
+  module _ (low : 2 ^ 63 ≤ f.next) (high : f.end < 2 ^ 64) (numbers : f.next + 64 * length cells ≤ f.end) where
+    pub can_make : CanMake t r e cells f w
+    can_make = record {
+      working = is.working;
+      turns = λ us h.
+          let (ids, ready, are, long) = numbered cells us (distinct cells names) (λ c m. m) h in
+          all_turns t r us ids f w u is ready low high (omega (arith, numbers, long));
+    }
+
+    pub few_made : (most : ℕ) → most_from u (root_of w r) (standing w) ≤ most → MakeAtMost most t r e cells f w
+    few_made most few us h =
+        let (ids, ready, are, long) = numbered cells us (distinct cells names) (λ c m. m) h in
+        few_stand most t r us ids f w u is ready low high (omega (arith, numbers, long)) few

@@ -1,0 +1,25 @@
+//! A law of twigs that have their turns. It is the contract of a function that does nothing.
+
+ghost use Rattle.std.specs.Prelude.{List};
+ghost use Rattle.r4_base.specs.Tree.{Root as TreeRoot, Store};
+ghost use Rattle.r4_base.specs.Value.{Value};
+ghost use Rattle.r4_base.specs.declared.key.Key.{Key};
+ghost use Rattle.r4_content.specs.Edited.{Edits};
+ghost use Rattle.r4_extent_build.specs.Growing.{IsGrowing};
+ghost use Rattle.r4_extent_build.specs.Looping.{AreTurned, turns_of};
+ghost use Rattle.r4_measure.specs.Budget.{Budget};
+ghost use Rattle.r4_measure.specs.r4_cell.Seen.{CellSeen};
+ghost use Rattle.r4_measure.specs.r4_cell.declared.change.Fresh.{Fresh};
+ghost use Rattle.r4_measure.specs.r4_reach.Touched.{Body};
+ghost use Rattle.r4_measure.specs.r4_work.declared.working.WorkingSet.{WorkingSet};
+ghost use Rattle.r4_extent_change.specs.Turned.{LeavesLeaves, MayTurnAll};
+
+/// Twigs of a growing body that had their turns leave a measured set, in which the leaves stand that stood: so the
+/// edits of leaves may follow, with the numbers that are left. No more cells may stand in the end than before, and the
+/// blocks that came.
+pub fn turned_twigs_leave_leaves()
+    ensures { (b : Body) (first : Key) (e : Edits) (u : Budget) (t : Store Value) (r : TreeRoot)
+        (f : Fresh) (w now : WorkingSet) (twigs : List CellSeen) → IsGrowing b first
+        → MayTurnAll b e u t r f w twigs → AreTurned t r (turns_of b e twigs) f w now
+        → LeavesLeaves b e u t r f w now twigs }
+{}

@@ -1,0 +1,11 @@
+//! A command's whole change of the cells of its task, where its body stands in extents and loses no blocks
+//! (docs/volume.md, "Bodies in extents").
+#![tactic(auto)]
+
+mod beside;
+mod growing;
+mod laws;
+
+pub use beside::without_bytes;
+pub use growing::change_of_growing;
+pub use laws::turned_twigs_leave_leaves;

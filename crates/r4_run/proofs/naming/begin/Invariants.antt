@@ -1,5 +1,0 @@
-use Rattle.r4_run.proofs.naming.begin.Given as goal
-
--- where the device stands now
-abbrev pub ghosts-go_on : goal.ghosts-go_on
-ghosts-go_on g a = record { began = g.E.Device.state a.dev }
