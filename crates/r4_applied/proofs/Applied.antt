@@ -1,5 +1,5 @@
 -- What was built of a command does in the tree of all atoms what the command means.
-use Rattle.std.proofs.Common.{◌≡◌, inl, inr, ℕ, ◌*◌, ◌<◌, ◌≤◌, true, false, ◌++◌}
+use Rattle.std.proofs.Common.{◌≡◌, inl, inr, ℕ, ◌*◌, ◌<◌, ◌≤◌, Bool, true, false, ◌++◌}
 use Rattle.std.proofs.Common.{Some, None, sym, ap, subst, ◌∙◌, arith}
 use Rattle.std.specs.Prelude.{Contains}
 use Rattle.std.specs.Arc.{arc_value}
@@ -12,7 +12,7 @@ use Rattle.r4_base.specs.Volume.{HasExtents, HasStat, InExtent, InTail, byte_ran
 use Rattle.r4_base.specs.Volume.{blocks_for, object_of}
 use Rattle.r4_base.specs.declared.items.Attr.{Attr}
 use Rattle.r4_base.specs.declared.items.Target.{Target}
-use Rattle.r4_build.specs.Building.{set_by}
+use Rattle.r4_build.specs.Building.{CanBuild, set_by}
 use Rattle.r4_build.specs.Built.{BuiltSeen, HasOldRoot, edits_for}
 use Rattle.r4_build.specs.declared.task.Task.{Task}
 use Rattle.r4_build.proofs.Contents.{built_born, built_gone, built_reply, edits_made}
@@ -39,7 +39,7 @@ use Rattle.r4_sets_told.proofs.r4_patch.PartCells.{tree_is_part}
 use Rattle.r4_build.proofs.r4_path.Rising.{hi_is, level_is, lo_is}
 use Rattle.r4_build.specs.r4_reach.Needs.{demand_on}
 use Rattle.r4_build.specs.r4_reach.Reach.{HasReached, Touches}
-use Rattle.r4_build.specs.r4_reach.Touched.{edits_on, reads_on}
+use Rattle.r4_build.specs.r4_reach.Touched.{body_on, edits_on, reads_on}
 use Rattle.r4_build.proofs.r4_reach.Answers.{is_seen}
 use Rattle.r4_build.proofs.r4_reach.Trees.{held}
 use Rattle.r4_sets_told.specs.r4_sets.Change.{BuiltChange, Does}
@@ -75,8 +75,20 @@ module _ (x : BuiltSeen) (u : Store Value) (root : Root) (n : Content) (h : IsBu
   ours : edits_on x.task.command h.task.reach.seen ≡ edits_for x.task
   ours = ap (edits_on x.task.command) h.task.seen
 
+  -- its edits may be made in leaves
+  in_leaves : CanBuild (body_on x.task.command h.task.reach.seen h.task.reach.in_extents) (edits_for x.task)
+      (reads_on x.task.command h.task.reach.seen h.task.reach.in_extents) (by_name h.met) (root_of_pair h.pair)
+      x.task.fresh x.task.writes
+  in_leaves =
+      subst (λ (l : Pairs). CanBuild (body_on x.task.command l h.task.reach.in_extents) (edits_for x.task)
+      (reads_on x.task.command l h.task.reach.in_extents) (by_name h.met) (root_of_pair h.pair) x.task.fresh x.task.writes)
+      (sym h.task.seen)
+      (subst (λ (b : Bool). CanBuild (body_on x.task.command (pairs_of (arc_value x.task.seen)) b) (edits_for x.task)
+      (reads_on x.task.command (pairs_of (arc_value x.task.seen)) b) (by_name h.met) (root_of_pair h.pair) x.task.fresh
+      x.task.writes) (sym h.task.kind) (h.task.can.leaves h.built.leaves))
+
   named : (y : CellSeen) → Contains x.task.writes y → by_name h.met y.id ≡ Some (node_of y)
-  named y has = h.task.can.reached.cells_in.stand y has
+  named y has = h.task.can.cells_in.stand y has
 
   same : HasReached (demand_on x.task.command h.task.reach.seen h.task.reach.in_extents) (by_name h.met) u
   same =
@@ -109,7 +121,7 @@ module _ (x : BuiltSeen) (u : Store Value) (root : Root) (n : Content) (h : IsBu
   old_root : HasOldRoot x root
   old_root some =
       let (d, at) =
-      (h.built.meets _ _ (by_name h.met) (root_of_pair h.pair) h.task.can).meets.root_old some in
+      (h.built.meets (by_name h.met) (root_of_pair h.pair) h.task.can).meets.root_old some in
       let (y, has, id, says) = found x.change.old (root_of_pair h.pair).id d at in
       let is = h.there.top y (Contains-append_right x.task.reads x.task.writes y (h.built.old y has)) id in
       (d, ap (λ (r : Root). p.old r.id) is ∙ at)
@@ -129,7 +141,7 @@ module _ (x : BuiltSeen) (u : Store Value) (root : Root) (n : Content) (h : IsBu
   lie : (k : ℕ) → is_in (changed (edits_on x.task.command h.task.reach.seen)) k ≡ true → LiesInLeafOf u k
   lie k on =
       let (y, has, level, at) =
-      h.task.can.lie k (ap (λ (e : Edits). is_in (changed e) k) (sym ours) ∙ on) in
+      in_leaves.lie k (ap (λ (e : Edits). is_in (changed e) k) (sym ours) ∙ on) in
       let low = lo_is y in
       let high = hi_is y in (
         y.id,
@@ -248,7 +260,7 @@ module _ (x : BuiltSeen) (u : Store Value) (root : Root) (n : Content) (h : IsBu
         meets effect lie h.lawful.bodies
         (bodies_then x.task.command h.task.reach.seen n saw h.lawful h.paths h.unused)
         (λ q a was kind some extents y lt on. not_changed h.pair x.task.command h.met x.task.reads x.task.writes
-        h.rises h.task.reach u root h.tree.tree same h.task.can.tails n saw h.lawful h.paths h.unused q a was kind some
+        h.rises h.task.reach u root h.tree.tree same in_leaves.tails n saw h.lawful h.paths h.unused q a was kind some
         extents y lt on) o b stat file;
   }
 
@@ -280,7 +292,7 @@ module _ (x : BuiltSeen) (u : Store Value) (root : Root) (n : Content) (h : IsBu
         | inr change ↦
             inr (ap (λ (rs : Intervals). is_in rs k)
             (changes_are h.pair x.task.command h.met x.task.reads x.task.writes h.rises h.task.reach u root h.tree.tree
-            same h.task.can.tails n saw h.lawful h.paths h.unused) ∙ change)
+            same in_leaves.tails n saw h.lawful h.paths h.unused) ∙ change)
       ]
 
   pub in_reach : (k : ℕ) → is_in (touched_by x.task) k ≡ true → least ≤ k → k < top → IsInReach x.task k

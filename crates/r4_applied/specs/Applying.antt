@@ -3,8 +3,7 @@ use Rattle.std.specs.Prelude.{◌≡◌, ℕ, ◌<◌, ◌≤◌, ◌++◌, Cont
 use Rattle.std.specs.Arc.{arc_value}
 use Rattle.r4_base.specs.Tree.{Holds, Root, Store}
 use Rattle.r4_base.specs.Value.{Content, Value}
-use Rattle.r4_build.specs.Building.{CanBuild}
-use Rattle.r4_build.specs.Built.{BuiltSeen, IsBuilt, edits_for}
+use Rattle.r4_build.specs.Built.{BuiltSeen, IsBuilt, IsTaskIn, edits_for}
 use Rattle.r4_build.specs.declared.task.Task.{Task}
 use Rattle.r4_sets_told.specs.r4_cell.Patch.{by_name, root_of_pair}
 use Rattle.r4_sets_told.specs.r4_cell.Seen.{CellSeen, node_of}
@@ -17,7 +16,7 @@ use Rattle.r4_content.specs.Locality.{commands}
 use Rattle.r4_content.specs.Meaning.{greatest_size}
 use Rattle.r4_build.specs.r4_path.Steps.{IsFree}
 use Rattle.r4_build.specs.r4_reach.Answer.{IsReachOf}
-use Rattle.r4_build.specs.r4_reach.Touched.{body_on, reads_on}
+use Rattle.r4_build.specs.r4_reach.Touched.{reads_on}
 use Rattle.r4_sets_told.specs.r4_sets.Change.{IsFree as IsFreeFor}
 use Rattle.r4_sets_told.specs.r4_sets.Session.{IsTreeOf, Session, all_done}
 use Rattle.r4_sets_told.specs.r4_trace.Traced.{IsSealed, atom_in}
@@ -29,14 +28,13 @@ abbrev pub IsOfTask : Task → CellSeen → Type 0
 IsOfTask task c = Contains (task.reads ++ task.writes) c
 
 -- The task was given what its command reaches, and has seen, among the cells that a reading met in
--- the tree of that time; there its edits may be made.
+-- the tree of that time, and where the body that it changes stood; there it may be built.
 pub record IsTaskOf
     (pair : RootPair) (met : List CellSeen) (rises : Option RootPair) (task : Task) : Type 0 where
   pub reach : IsReachOf pair task.command met task.reads task.writes rises
   pub seen : reach.seen ≡ pairs_of (arc_value task.seen)
-  pub can : CanBuild (body_on task.command reach.seen reach.in_extents) (edits_for task)
-      (reads_on task.command reach.seen reach.in_extents) (by_name met) (root_of_pair pair)
-      task.fresh task.writes
+  pub kind : reach.in_extents ≡ task.scope.in_extents
+  pub can : IsTaskIn (by_name met) (root_of_pair pair) task
 
 -- The tree has the cells of the task's reach, and none of its numbers; where the task has the cell
 -- of the root that was met, the tree has that root.

@@ -138,7 +138,7 @@ module _ {D : Type 0} (r : Naming) (d : State) (c : CoreSeen D) (k : IsKept r d 
         can = subst (λ z. CanBeDone c s within out z a) (sym of_it.command) can;
         change = subst (λ z. IsChangeOf c out z (change_of made)) (sym of_it.command)
             (subst (IsChangeOf c out x) change_is
-            (built_is_change out x y built refl same.writes same.is_out.fresh seen c));
+            (built_is_change out x y built refl same.writes same.is_out.fresh same.is_out.scope seen c));
         one_born = subst (λ (o : ObjectCounts). o.born ≤ 1) (sym of_it.objects) (one_made y built);
         one_gone = subst (λ (o : ObjectCounts). o.gone ≤ 1) (sym of_it.objects) (one_gone y built paths lawful_seen);
       }
@@ -167,6 +167,7 @@ module _ {D : Type 0} (r : Naming) (d : State) (c : CoreSeen D) (k : IsKept r d 
               writes = same.writes;
               seen = seen;
               fresh = same.is_out.fresh;
+              scope = same.is_out.scope;
             }) disk b named paths count new account freed
             (paid.becomes.born ∙ ap (λ (o : ObjectCounts). (account_of c.atoms a.0).born + o.born) of_it.objects)
             (paid.becomes.gone ∙ ap (λ (o : ObjectCounts). (account_of c.atoms a.0).gone + o.gone) of_it.objects))))

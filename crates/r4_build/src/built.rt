@@ -1,14 +1,12 @@
 //! A command's change and its reply (docs/volume.md, "Building").
 
-ghost use Rattle.std.specs.Prelude.{◌≡◌, IfOk, MatchResult, Option};
+ghost use Rattle.std.specs.Prelude.{◌≡◌, IfOk, MatchResult, true};
 ghost use Rattle.std.specs.Arc.{arc_value};
 ghost use Rattle.r4_base.specs.Tree.{Root as TreeRoot, Store};
 ghost use Rattle.r4_base.specs.Value.{Value};
-ghost use Rattle.r4_content.specs.Edited.{Intervals};
 ghost use Rattle.r4_content.specs.Held.{pairs_of};
 ghost use Rattle.r4_content.specs.Seen.{Rises};
 ghost use Rattle.r4_leaf_edits.specs.Suiting.{SuitLeaves};
-ghost use Rattle.r4_measure.specs.r4_reach.Touched.{Body};
 ghost use Rattle.r4_build.specs.Built.{IsBuilt, IsTaskIn, edits_for};
 
 use crate::building::change_of;
@@ -96,12 +94,12 @@ impl Built {
 
 /// Makes of a task the change and the reply that its command means, where its edits lie in leaves, and counts the
 /// objects that come and go. First the gate is passed; no lock is taken. In both answers the task is as it was given,
-/// its numbers included; the only error is want of memory (docs/volume.md, "Building").
+/// its numbers included; the only error is want of memory, but that a command whose edits do not all lie in leaves has
+/// that answer too, since its change is not made yet (docs/volume.md, "Building").
 pub fn build<G: Gate>(alloc: Global, gate: &G, task: Task) -> Result<Built, BuildFault>
-    requires task { (b : Option Body) × ((reads : Intervals) × ((t : Store Value)
-        × ((r : TreeRoot) × IsTaskIn b reads t r task))) }
+    requires task { (t : Store Value) × ((r : TreeRoot) × IsTaskIn t r task) }
     requires rises { Rises (pairs_of (arc_value task.seen)) }
-    requires suits { SuitLeaves 16384 (edits_for task) }
+    requires suits { task.scope.in_leaves ≡ true → SuitLeaves 16384 (edits_for task) }
     ensures { MatchResult result (λ b. b.task ≡ task) (λ e. e.task ≡ task) }
 {
     gate.pass(task.script, task.index);
@@ -118,9 +116,31 @@ pub fn build<G: Gate>(alloc: Global, gate: &G, task: Task) -> Result<Built, Buil
 
 // The change and the reply of a task, and the numbers of objects.
 fn parts_of(alloc: Global, task: &Task) -> Result<(Change, Reply, ObjectCounts), Memory>
-    requires task { (b : Option Body) × ((reads : Intervals) × ((t : Store Value)
-        × ((r : TreeRoot) × IsTaskIn b reads t r task.now))) }
+    requires task { (t : Store Value) × ((r : TreeRoot) × IsTaskIn t r task.now) }
     requires rises { Rises (pairs_of (arc_value task.now.seen)) }
+    requires suits { task.now.scope.in_leaves ≡ true → SuitLeaves 16384 (edits_for task.now) }
+    ensures { IfOk result (λ p. IsBuilt (record {
+      task = task.now;
+      change = p.0;
+      reply = p.1;
+      objects = p.2;
+    })) }
+{
+    if task.scope.in_leaves {
+        parts_in_leaves(alloc, task)
+    } else {
+        Err(Memory)
+    }
+}
+
+// The same of a task whose edits all lie in leaves.
+fn parts_in_leaves(
+    alloc: Global,
+    task: &Task,
+) -> Result<(Change, Reply, ObjectCounts), Memory>
+    requires task { (t : Store Value) × ((r : TreeRoot) × IsTaskIn t r task.now) }
+    requires rises { Rises (pairs_of (arc_value task.now.seen)) }
+    requires leaves { task.now.scope.in_leaves ≡ true }
     requires suits { SuitLeaves 16384 (edits_for task.now) }
     ensures { IfOk result (λ p. IsBuilt (record {
       task = task.now;

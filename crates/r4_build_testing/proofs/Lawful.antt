@@ -1,6 +1,6 @@
 -- The edits of these commands are such as leaves can take.
 use Rattle.std.proofs.Common.{◌≡◌, inl, inr, ◌⊎◌, ℕ, ◌<◌, ◌≤◌, true, false, List, [], ◌∷◌, refl, arith}
-use Rattle.std.specs.Prelude.{All}
+use Rattle.std.specs.Prelude.{All, None}
 use Rattle.std.proofs.Math.Dec.{lit<}
 use Rattle.std.proofs.lemmas.List.Elements.{All-cons, All-nil}
 use Rattle.r4_base.specs.Key.{key_of_rank, least, rank, top}
@@ -10,7 +10,8 @@ use Rattle.r4_content.specs.Edited.{Intervals, Pairs, changed, is_in}
 use Rattle.r4_content.specs.Seen.{Rises}
 use Rattle.r4_content.specs.Ways.{to_file, to_free, to_object, to_parent}
 use Rattle.r4_leaf_edits.specs.Suiting.{bytes_set, IsBefore, IsLawfulPut, SuitLeaves}
-use Rattle.r4_reach.specs.Touched.{edits_on}
+use Rattle.r4_leaf_edits.specs.Made.{spread_keys}
+use Rattle.r4_reach.specs.Touched.{body_on, edits_on}
 use Rattle.r4_build.proofs.r4_work.Remade.{or_true}
 use Rattle.r4_build.proofs.r4_work.UnitMembers.{between}
 use Rattle.r4_build_testing.specs.Commands.{chmod_file, create_file, file_seen, fresh_seen, mixed}
@@ -93,3 +94,21 @@ mixed_suits = record {
   bytes = all_of (IsBefore 16384) (bytes_set mixed) ((refl, lit< tt), ((refl, lit< tt), ((refl, lit< tt), ((refl, lit< tt), ((refl, lit< tt), ((refl, lit< tt), ((refl, lit< tt), ((refl, lit< tt), ((refl, lit< tt), tt)))))))));
   values = all_of IsLawfulPut mixed.puts (tt, (tt, (tt, (tt, (tt, (tt, (tt, (tt, (tt, ((refl, refl), tt))))))))));
 }
+
+-- ---- no body stands in extents
+
+pub chmod_tails : spread_keys (body_on chmod_file fresh_seen false) ≡ None
+unfolding to_object name_fault bad_byte rank least key_of_name packed
+chmod_tails = refl
+
+pub times_tails : spread_keys (body_on set_times fresh_seen false) ≡ None
+unfolding to_object rank least top key_of_rank
+times_tails = refl
+
+pub create_tails : spread_keys (body_on create_file fresh_seen false) ≡ None
+unfolding to_object to_parent to_free name_fault bad_byte key_of_name packed rank least top key_of_rank
+create_tails = refl
+
+pub write_tails : spread_keys (body_on write_file file_seen false) ≡ None
+unfolding to_object to_file name_fault bad_byte key_of_name packed rank least top key_of_rank
+write_tails = refl

@@ -1,11 +1,14 @@
 -- The root and the one leaf of a small volume, and edits for which the leaf has room.
 use Rattle.std.proofs.Common.{◌≡◌, inl, inr, ℕ, zero, suc, ◌+◌, ◌^◌, ◌<◌, ◌≤◌, ◌⊎◌, Bool, true, false, List, [], ◌∷◌, length, refl, ap, sym, subst, ◌∙◌, arith, if◌then◌else◌, ◌||◌, ◌==◌, not}
-use Rattle.std.specs.Prelude.{Contains, Option, None, Some, nat_lt, sum_by}
+use Rattle.std.specs.Prelude.{Contains, Option, None, Some, filter, nat_lt, sum_by}
+use Rattle.std.specs.List.{list_any}
 use Rattle.std.proofs.Math.Dec.{lit<}
 use Rattle.std.proofs.lemmas.Grind.{common_steps}
 use Rattle.r4_base.specs.Bytes.{number_bytes}
 use Rattle.r4_base.specs.Cell.{cell_fault, cell_of}
-use Rattle.r4_base.specs.Fresh.{HasOneItem}
+use Rattle.r4_base.specs.Bytes.{number_at}
+use Rattle.r4_base.specs.Fresh.{HasOneItem, root_key}
+use Rattle.r4_base.specs.Node.{items_of}
 use Rattle.r4_base.specs.Key.{least, rank, top}
 use Rattle.r4_base.specs.Tree.{Fits, IsNode, Name, Node, Store}
 use Rattle.r4_base.specs.Value.{Value}
@@ -13,35 +16,58 @@ use Rattle.r4_base.proofs.FreshTree.{down, fresh_is_tree, fresh_twig, least_belo
 use Rattle.r4_cell.specs.Patch.{HaveNames, NamesId, by_name}
 use Rattle.r4_cell.specs.Seen.{CellSeen, node_of}
 use Rattle.r4_cell.proofs.Nodes.{cell_node}
-use Rattle.r4_content.specs.Edited.{Edits, changed, is_in}
-use Rattle.r4_leaf.specs.Units.{leaf_bytes}
+use Rattle.r4_content.specs.Edited.{Edits, Intervals, Pairs, changed, is_in}
+use Rattle.r4_content.specs.Listed.{list_edited}
+use Rattle.r4_content.specs.declared.command.Command.{Command}
+use Rattle.r4_leaf.specs.Units.{LeafUnit, is_between, leaf_bytes}
 use Rattle.r4_patch.specs.Part.{IsPart}
 use Rattle.r4_patch.proofs.Members.{Distinct, cases, found, have_names, here, later, none, there}
 use Rattle.r4_reach.proofs.r4_path.Rising.{hi_is, level_is, lo_is}
 use Rattle.r4_reach.specs.Demand.{Demand, ask, ask_of, heard, heard_one}
-use Rattle.r4_reach.specs.Needs.{Ask, cell_asks, changes_pieces, demand_of, leaf_asks, put_among, units_after}
-use Rattle.r4_reach.specs.Leaves.{more_of}
+use Rattle.r4_reach.specs.Needs.{Ask, asking, cell_asks, changes_pieces, cut_in_two, demand_of, is_gone, leaf_asks, meets, over, put_among, units_after}
+use Rattle.r4_reach.specs.Touched.{Body, body_on, edits_on, reads_on}
+use Rattle.r4_reach.specs.Leaves.{more_of, rise_of}
+use Rattle.r4_build.specs.r4_branch.Pieces.{pieces_in}
+use Rattle.r4_build.specs.r4_branch.declared.piece.TwigPart.TheVariants.{Pointer}
 use Rattle.r4_build.specs.r4_measure.Asked.{asked_of}
 use Rattle.r4_build.specs.r4_measure.Begin.{IsQuiet, IsReachedFor}
 use Rattle.r4_build.specs.r4_measure.Examples.{fresh_root, some_numbers}
-use Rattle.r4_build.specs.Building.{CanBuild, HaveLawfulKeys, LiesInLeaf}
-use Rattle.r4_build_testing.specs.Small.{AreLawful, HasAllKeys, HasRoomFor, IsSmall}
+use Rattle.r4_build.specs.Building.{CanBuild, HaveLawfulKeys, LiesInLeaf, most_new}
+use Rattle.r4_build.specs.Built.{IsBuildable}
+use Rattle.r4_build.specs.r4_leaf_edits.Made.{spread_keys}
+use Rattle.r4_spared.proofs.Spared.{none_come, own_edits}
+use Rattle.r4_build_testing.specs.Small.{AreLawful, HasAllKeys, HasRoomFor, IsSmall, small_scope}
+
+rise_one : (o : Option Ask) → rise_of o ≤ 1
+rise_one None = omega arith
+rise_one (Some a) = omega arith
 
 no_members : {A : Type 0} (xs : List A) → ((x : A) → Contains xs x → ⊥) → xs ≡ []
 no_members [] h = refl
 no_members (x ∷ xs) h = absurd (h x (here x xs))
 
 -- a leaf of all keys, without names, asks for nothing where its units fit
-module _ (e : Edits) (c : Node Value) (one : c.level ≡ 1) (lo : c.lo ≡ least) (hi : c.hi ≡ top) (room : leaf_bytes (units_after None e c) ≤ 4068) where
-  no_ask : leaf_asks None e c ≡ None
+module _ (b : Option Body) (tails : spread_keys b ≡ None) (e : Edits) (c : Node Value) (one : c.level ≡ 1) (lo : c.lo ≡ least) (hi : c.hi ≡ top)
+    (room : leaf_bytes (units_after None e c) ≤ 4068) where
+  no_ask_alone : leaf_asks None e c ≡ None
   unfolding least top
-  no_ask = grind (arith, common_steps, lo, hi, room)
+  no_ask_alone = grind (arith, common_steps, lo, hi, room)
+
+  abbrev asks_where : ℕ × ℕ → Edits → Option Ask
+  asks_where come edits =
+      let us = filter (λ (u : LeafUnit). is_between c.lo c.hi u.0) (list_edited edits c.units) in
+      if meets c.lo c.hi come then asking true
+      (record { more = over (leaf_bytes us) + cut_in_two come c us; gone = is_gone come c us })
+      else asking false (record { more = over (leaf_bytes us); gone = false })
+
+  no_ask : leaf_asks b e c ≡ None
+  no_ask = (λ i. asks_where (none_come b tails i) (own_edits b e tails i)) ∙ no_ask_alone
 
   if_at_all : (b : Bool) (o p : Option Ask) → o ≡ None → (if b then (if c.level == 1 then o else p) else None) ≡ None
   if_at_all false o p h = refl
   if_at_all true o p h = grind (arith, common_steps, one, h)
 
-  pub no_cell_ask : cell_asks None e (changed e) c [] ≡ None
+  pub no_cell_ask : cell_asks b e (changed e) c [] ≡ None
   no_cell_ask = if_at_all _ _ _ no_ask
 
 module _ (twig leaf : CellSeen) (above : HasAllKeys 22 2 twig) (below : HasAllKeys 23 1 leaf) (pointer : HasOneItem twig.block 2 3 (number_bytes 8 23)) (whole : length leaf.block ≡ 4096)
@@ -198,14 +224,14 @@ module _ (twig leaf : CellSeen) (above : HasAllKeys 22 2 twig) (below : HasAllKe
       let number : n.id ≡ 23 = ap (λ (x : Name). x.id) (named_down j c n e at) in
       absurd (omega (arith, number, id, high))
 
-  module _ (e : Edits) (lawful : HaveLawfulKeys e) (room : HasRoomFor e leaf) where
+  module _ (b : Option Body) (tails : spread_keys b ≡ None) (reads : Intervals) (e : Edits) (lawful : HaveLawfulKeys e) (room : HasRoomFor e leaf) where
     abbrev d : Demand Ask
-    d = demand_of None e [] (changed e)
+    d = demand_of b e reads (changed e)
 
     leaf_asks_none : (l : ℕ) → ask d tree l (node_of leaf) ≡ None
     leaf_asks_none zero = refl
-    leaf_asks_none (suc l) = ap (λ (ns : List Name). cell_asks None e (changed e) (node_of leaf) (heard (ask d tree l) tree ns)) no_names
-        ∙ no_cell_ask e (node_of leaf) leaf_level leaf_lo leaf_hi room
+    leaf_asks_none (suc l) = ap (λ (ns : List Name). cell_asks b e (changed e) (node_of leaf) (heard (ask d tree l) tree ns)) no_names
+        ∙ no_cell_ask b tails e (node_of leaf) leaf_level leaf_lo leaf_hi room
 
     twig_hears : (l : ℕ) → heard (ask d tree l) tree (down ∷ []) ≡ []
     unfolding down
@@ -214,7 +240,7 @@ module _ (twig leaf : CellSeen) (above : HasAllKeys 22 2 twig) (below : HasAllKe
     twig_asks_none : (l : ℕ) → ask d tree l (fresh_twig twig.block) ≡ None
     unfolding fresh_twig
     twig_asks_none zero = refl
-    twig_asks_none (suc l) = ap (λ hs. cell_asks None e (changed e) (fresh_twig twig.block) hs) (twig_hears l)
+    twig_asks_none (suc l) = ap (λ hs. cell_asks b e (changed e) (fresh_twig twig.block) hs) (twig_hears l)
 
     small : (l i : ℕ) → asked_of d tree l i ≤ 87
     small l i = by_node (tree i) refl
@@ -226,32 +252,33 @@ module _ (twig leaf : CellSeen) (above : HasAllKeys 22 2 twig) (below : HasAllKe
           | inr h ↦ let nothing = ap more_of (ap (ask d tree l) h.1 ∙ leaf_asks_none l) in omega (arith, nothing)
         ]
 
-    twig_still : changes_pieces None e (fresh_twig twig.block) ≡ false
+    one_pointer : pieces_in (items_of twig.block) ≡ record { key = root_key; part = Pointer (record { 0 = number_at 8 0 (number_bytes 8 23) }) } ∷ []
+    one_pointer = ap pieces_in pointer.items
+
+    twig_still : (o : Option Body) → changes_pieces o e (fresh_twig twig.block) ≡ false
     unfolding fresh_twig
-    twig_still = refl
+    twig_still None = refl
+    twig_still (Some body) = rw one_pointer refl
 
-    spanless : (c : Node Value) → c.spans ≡ [] → changes_pieces None e c ≡ false
-    spanless c h = rw h refl
-
-    still : (i : ℕ) (c : Node Value) → tree i ≡ Some c → changes_pieces None e c ≡ false
-    still i c at = elim (each i c at) [
-      | inl h ↦ ap (changes_pieces None e) (h.1 ∙ twig_is) ∙ twig_still
-      | inr h ↦ ap (changes_pieces None e) h.1 ∙ spanless (node_of leaf) no_spans
+    still : (i : ℕ) (c : Node Value) → tree i ≡ Some c → c.level ≡ 2 → changes_pieces b e c ≡ false
+    still i c at two = elim (each i c at) [
+      | inl h ↦ ap (changes_pieces b e) (h.1 ∙ twig_is) ∙ twig_still b
+      | inr h ↦ let one = ap (λ (x : Node Value). x.level) h.1 ∙ leaf_level in absurd (omega (arith, two, one))
     ]
 
     of_tree : (i : ℕ) (c : Node Value) → tree i ≡ Some c → (x : CellSeen) × Contains cells x × (x.id ≡ i) × (c ≡ node_of x)
     of_tree i c at = let (x, in_cells, id, is) = found cells i c at in (x, in_cells, id, is)
 
-    quiet : IsQuiet None e [] (changed e) tree fresh_root
+    quiet : IsQuiet b e reads (changed e) tree fresh_root
     quiet = record {
-      quiet = refl;
+      quiet = none_come b tails;
       seen = λ i c at. let (x, in_cells, id, is) = of_tree i c at in (x, is);
-      still = λ i c at twig. still i c at;
+      still = still;
       small = small;
       low = λ x h. omega arith;
     }
 
-    is_reached : IsReachedFor None e [] (changed e) tree fresh_root some_numbers cells
+    is_reached : IsReachedFor b e reads (changed e) tree fresh_root some_numbers cells
     is_reached = record {
       quiet = quiet;
       height = omega arith;
@@ -271,16 +298,21 @@ module _ (twig leaf : CellSeen) (above : HasAllKeys 22 2 twig) (below : HasAllKe
         let hi = below.hi in
         (leaf, in_leaf, below.level_is, (omega (arith, lo, from), omega (arith, hi, to)))
 
-    small_leaf : (c : CellSeen) → Contains cells c → c.level ≡ 1 → leaf_bytes (units_after None e (node_of c)) < 58912
+    own_bytes : leaf_bytes (units_after b e (node_of leaf)) ≡ leaf_bytes (units_after None e (node_of leaf))
+    own_bytes = ap (λ (x : Edits). leaf_bytes (filter (λ (u : LeafUnit). is_between (node_of leaf).lo (node_of leaf).hi u.0)
+        (list_edited x (node_of leaf).units))) (own_edits b e tails)
+
+    small_leaf : (c : CellSeen) → Contains cells c → c.level ≡ 1 → leaf_bytes (units_after b e (node_of c)) < 58912
     small_leaf c at level = elim (cases twig c (leaf ∷ []) at) [
       | inl h ↦ let two = ap (λ (z : CellSeen). z.level) h in let l = above.level_is in absurd (omega (arith, two, level, l))
-      | inr h ↦ subst (λ (z : CellSeen). leaf_bytes (units_after None e (node_of z)) < 58912) (sym (only leaf c h)) (let r = room in omega (arith, r))
+      | inr h ↦ subst (λ (z : CellSeen). leaf_bytes (units_after b e (node_of z)) < 58912) (sym (only leaf c h))
+          (let r = room in let same = own_bytes in omega (arith, r, same))
     ]
 
-    pub can_build_two : CanBuild None e [] tree fresh_root some_numbers cells
+    can_build_two : CanBuild b e reads tree fresh_root some_numbers cells
     can_build_two = record {
       reached = is_reached;
-      tails = refl;
+      tails = tails;
       names = have_names cells distinct;
       lie = lie;
       small = λ c at level met. small_leaf c at level;
@@ -288,7 +320,44 @@ module _ (twig leaf : CellSeen) (above : HasAllKeys 22 2 twig) (below : HasAllKe
       numbers = lit< tt;
     }
 
--- the edits may be made in a small volume
-pub can_build : (e : Edits) (cells : List CellSeen) → (small : IsSmall cells) → AreLawful e → HasRoomFor e small.leaf → CanBuild None e [] (by_name cells) fresh_root some_numbers cells
-can_build e cells small lawful room = subst (λ (cs : List CellSeen). CanBuild None e [] (by_name cs) fresh_root some_numbers cs) (sym small.are)
-    (can_build_two small.twig small.leaf small.above small.below small.pointer small.whole small.stands e lawful.keys room)
+    no_more : (c : CellSeen) → Contains cells c → more_of (ask d tree c.level (node_of c)) ≡ 0
+    no_more c at = elim (cases twig c (leaf ∷ []) at) [
+      | inl h ↦ ap (λ (z : CellSeen). more_of (ask d tree z.level (node_of z))) h
+          ∙ ap (λ (z : Node Value). more_of (ask d tree twig.level z)) twig_is ∙ ap more_of (twig_asks_none twig.level)
+      | inr h ↦ ap (λ (z : CellSeen). more_of (ask d tree z.level (node_of z))) (only leaf c h)
+          ∙ ap more_of (leaf_asks_none leaf.level)
+    ]
+
+    -- no more new cells come than the two
+    few : most_new b e reads tree fresh_root cells ≤ 3
+    few =
+        let one = no_more twig in_twig in
+        let two = no_more leaf in_leaf in
+        let rise = rise_one (ask_of (ask d tree 2) (tree 22)) in
+        omega (arith, one, two, rise)
+
+    pub buildable_two : (c : Command) (s : Pairs) → b ≡ body_on c s false → e ≡ edits_on c s → reads ≡ reads_on c s false
+        → IsBuildable c s small_scope tree fresh_root some_numbers cells
+    buildable_two c s is same asked = record {
+      root = refl;
+      height = omega arith;
+      cells_in = is_reached.cells_in;
+      names = have_names cells distinct;
+      unplaced = (lit< tt, lit< tt);
+      numbers = lit< tt;
+      leaves = λ leaves. subst (λ (o : Option Body). CanBuild o (edits_on c s) (reads_on c s false) tree fresh_root some_numbers cells) is
+          (subst (λ (x : Edits). CanBuild b x (reads_on c s false) tree fresh_root some_numbers cells) same
+          (subst (λ (rs : Intervals). CanBuild b e rs tree fresh_root some_numbers cells) asked can_build_two));
+      few = λ leaves. subst (λ (o : Option Body). most_new o (edits_on c s) (reads_on c s false) tree fresh_root cells ≤ 3) is
+          (subst (λ (x : Edits). most_new b x (reads_on c s false) tree fresh_root cells ≤ 3) same
+          (subst (λ (rs : Intervals). most_new b e rs tree fresh_root cells ≤ 3) asked few));
+    }
+
+-- the command may be built in a small volume
+pub buildable : (c : Command) (s : Pairs) (cells : List CellSeen) → (small : IsSmall cells) → spread_keys (body_on c s false) ≡ None
+    → AreLawful (edits_on c s) → HasRoomFor (edits_on c s) small.leaf
+    → IsBuildable c s small_scope (by_name cells) fresh_root some_numbers cells
+buildable c s cells small tails lawful room =
+    subst (λ (cs : List CellSeen). IsBuildable c s small_scope (by_name cs) fresh_root some_numbers cs) (sym small.are)
+    (buildable_two small.twig small.leaf small.above small.below small.pointer small.whole small.stands
+    (body_on c s false) tails (reads_on c s false) (edits_on c s) lawful.keys room c s refl refl refl)

@@ -1,5 +1,5 @@
 -- A volume of two cells, and commands for which its leaf has room (docs/volume.md, "Building").
-use Rattle.std.specs.Prelude.{◌≡◌, ℕ, ◌^◌, ◌≤◌, List, [], ◌∷◌, length, None, true}
+use Rattle.std.specs.Prelude.{◌≡◌, ℕ, ◌^◌, ◌≤◌, List, [], ◌∷◌, length, None, false, true}
 use Rattle.r4_base.specs.Bytes.{number_bytes}
 use Rattle.r4_base.specs.Cell.{cell_fault}
 use Rattle.r4_base.specs.Fresh.{HasOneItem}
@@ -10,6 +10,7 @@ use Rattle.r4_leaf.specs.Units.{leaf_bytes}
 use Rattle.r4_leaf_edits.specs.Suiting.{SuitLeaves}
 use Rattle.r4_reach.specs.Needs.{units_after}
 use Rattle.r4_build.specs.Building.{HaveLawfulKeys}
+use Rattle.r4_turns.specs.declared.out.Scope.{Scope}
 
 -- a cell of this number and level that has all keys
 pub record HasAllKeys (id level : ℕ) (c : CellSeen) : Type 0 where
@@ -33,6 +34,15 @@ pub record IsSmall (cells : List CellSeen) : Type 0 where
 pub record AreLawful (e : Edits) : Type 0 where
   pub suit : SuitLeaves 16384 e
   pub keys : HaveLawfulKeys e
+
+-- all that is changed there lies in the leaf, and no more cells come than the two and a root
+abbrev pub small_scope : Scope
+small_scope = record {
+  root = record { id = record { 0 = 22 }; height = 2 };
+  in_leaves = true;
+  in_extents = false;
+  most = 3;
+}
 
 -- With the edits the leaf's units fit in one leaf.
 abbrev pub HasRoomFor : Edits → CellSeen → Type 0

@@ -1,6 +1,6 @@
 //! A fresh volume of 64 blocks, its two cells as those of a task, and commands on them.
 
-ghost use Rattle.std.specs.Prelude.{◌≡◌, ◌<◌, ◌∷◌, [], IfOk, IsTrue};
+ghost use Rattle.std.specs.Prelude.{◌≡◌, ◌<◌, ◌∷◌, [], IfOk, IsTrue, None, false};
 ghost use Rattle.std.specs.Arc.{arc_value};
 ghost use Rattle.r4_base.specs.Key.{least};
 ghost use Rattle.r4_base.specs.Value.{Entry, Stat};
@@ -13,10 +13,11 @@ ghost use Rattle.r4_base.specs.Fresh.{HasOneItem};
 ghost use Rattle.r4_base.specs.Image.{block_at};
 ghost use Rattle.r4_content.specs.Held.{edits_of, pairs_of, part_pairs};
 ghost use Rattle.r4_content.specs.Seen.{Rises};
+ghost use Rattle.r4_leaf_edits.specs.Made.{spread_keys};
 ghost use Rattle.r4_leaf_edits.specs.Suiting.{SuitLeaves};
 ghost use Rattle.r4_outside.specs.Device.{TellsReads};
 ghost use Rattle.r4_outside.specs.Memory.{memory_state};
-ghost use Rattle.r4_reach.specs.Touched.{edits_on};
+ghost use Rattle.r4_reach.specs.Touched.{body_on, edits_on};
 ghost use Rattle.r4_build_testing.specs.Small.{AreLawful, HasAllKeys, HasRoomFor, IsSmall};
 
 use r4_base::{
@@ -24,13 +25,14 @@ use r4_base::{
     Value,
 };
 use r4_build::{Built, Task, build};
-use r4_cell::{Cell, Cells, Change, Fresh, least, read_cell, top};
+use r4_cell::{Cell, Cells, Change, Fresh, Root, least, read_cell, top};
 use r4_content::{Command, Edits, Path, Seen, SeenPart};
 use r4_file::plan;
 use r4_leaf::bytes_after;
 use r4_leaf_edits::edits_of_leaf;
 use r4_mkfs::mkfs;
 use r4_outside::{Device, Gate, MemoryDevice};
+use r4_turns::Scope;
 use std::alloc::Global;
 use std::sync::Arc;
 use std::test::Fail;
@@ -46,6 +48,17 @@ pub const ROOT: Attr = Attr {
     mtime: 0,
     ctime: 0,
     bytes: 0,
+};
+
+// All that is changed there lies in the leaf, and no more cells come than the two and a root.
+const SCOPE: Scope = Scope {
+    root: Root {
+        id: NodeId(22),
+        height: 2,
+    },
+    in_leaves: true,
+    in_extents: false,
+    most: 3,
 };
 
 /// What a new file has.
@@ -156,6 +169,7 @@ pub fn built<G: Gate>(
 ) -> Result<Built, Fail>
     requires small { IsSmall writes }
     requires lawful { AreLawful (edits_on command (pairs_of seen)) }
+    requires tails { spread_keys (body_on command (pairs_of seen) false) ≡ None }
     requires rises { Rises (pairs_of seen) }
 {
     if !has_room(alloc, &writes, &command, &seen)? {
@@ -170,6 +184,7 @@ pub fn built<G: Gate>(
         reads: Cells::new(alloc),
         writes,
         seen: Arc::new(alloc, seen)?,
+        scope: SCOPE,
         fresh: Fresh {
             next: 9_223_372_036_854_775_808,
             end: 9_223_372_036_854_776_808,

@@ -1,17 +1,18 @@
 -- What is reached on the tests' device can be built (docs/volume.md, "Building").
-use Rattle.std.proofs.Common.{◌≡◌, ℕ, ◌<◌, ◌≤◌, ◌%◌, List, Bool, false, sym, subst, arith}
-use Rattle.std.specs.Prelude.{All, Contains, None, Option}
+use Rattle.std.proofs.Common.{◌≡◌, ◌∙◌, ℕ, ◌<◌, ◌≤◌, ◌%◌, List, Bool, true, false, ap, refl, sym, subst, arith}
+use Rattle.std.specs.Prelude.{All, Contains, None}
 use Rattle.std.proofs.lemmas.Bool.Decides.{nat_tests}
 use Rattle.std.proofs.lemmas.List.Elements.{All-contains, All-weaker}
 use Rattle.r4_base.specs.Key.{rank}
 use Rattle.r4_base.specs.Tree.{Node, Root as TreeRoot, Store}
 use Rattle.r4_base.specs.Value.{Value}
-use Rattle.r4_build.specs.Building.{CanBuild, HaveLawfulKeys}
+use Rattle.r4_build.specs.Building.{CanBuild, HaveLawfulKeys, most_new}
+use Rattle.r4_build.specs.Built.{IsBuildable}
 use Rattle.r4_cell.proofs.NamesBelow.{names_below}
 use Rattle.r4_cell.specs.Patch.{by_name, root_of_pair}
 use Rattle.r4_cell.specs.Seen.{CellSeen}
 use Rattle.r4_cell.specs.declared.change.Root.{Root}
-use Rattle.r4_content.specs.Edited.{Intervals, Pairs, changed, is_in}
+use Rattle.r4_content.specs.Edited.{Pairs, changed, is_in}
 use Rattle.r4_content.specs.Fields.{HasBytePaths}
 use Rattle.r4_content.specs.Held.{pairs_of}
 use Rattle.r4_content.specs.Seen.{Rises}
@@ -23,15 +24,19 @@ use Rattle.r4_leaf_demands.specs.Leaves.{AreLeafEdits, IsInLeaves}
 use Rattle.r4_patch.proofs.Members.{absent, found}
 use Rattle.r4_build.specs.r4_path.Nodes.{IsPointable}
 use Rattle.r4_build.specs.r4_path.Steps.{IsFree}
-use Rattle.r4_build.specs.r4_reach.Leaves.{LieInLeaves}
-use Rattle.r4_build.specs.r4_reach.Touched.{Body, body_on, edits_on, reads_on}
+use Rattle.r4_build.specs.r4_reach.Demand.{Demand}
+use Rattle.r4_build.specs.r4_reach.Leaves.{LieInLeaves, most_of}
+use Rattle.r4_build.specs.r4_reach.Needs.{Ask, demand_of, demand_on}
+use Rattle.r4_build.specs.r4_reach.Touched.{body_on, edits_on, reads_on}
 use Rattle.r4_reaching.proofs.Made.{none_spread}
 use Rattle.r4_reaching.specs.Answers.{IsReach}
 use Rattle.r4_reaching.specs.declared.reached.Reach.{Reach}
 use Rattle.r4_search.specs.Pool.{PoolState}
 use Rattle.r4_reaching.proofs.r4_spared.Answered.{answer_builds, changes_leaves}
+use Rattle.r4_reaching.proofs.r4_spared.Spared.{asked_in_leaves}
 use Rattle.r4_reaching.specs.r4_spared.Spared.{ChangesLeaves, HasNumbers, MayStandAll}
 use Rattle.r4_leaf_demands.specs.r4_suited.Suited.{AreLawfulSeen, IsAccepted}
+use Rattle.r4_turns.specs.declared.out.Scope.{Scope}
 use Rattle.r4_change_testing.specs.Ready.{IsBlock, IsReady, numbers}
 
 -- none of the numbers is a block's, or is named
@@ -90,22 +95,53 @@ module _ (p : PoolState) (root : Root) (c : Command) (reach : Reach) (h : IsReac
     numbers = let few = ready.few in omega (arith, few);
   }
 
-  abbrev can_on : Pairs → Type 0
-  can_on s = CanBuild (body_on c h.answer.seen h.answer.in_extents) (edits_on c s)
-      (reads_on c h.answer.seen h.answer.in_extents) (by_name reach.met) (root_of_pair root) numbers
-      reach.writes
-
-  can_on_seen : can_on h.answer.seen
-  can_on_seen = answer_builds root c reach.met reach.reads reach.writes reach.root h.answer stand paths tails lie
+  can_build_seen : CanBuild (body_on c h.answer.seen h.answer.in_extents) (edits_on c h.answer.seen)
+      (reads_on c h.answer.seen h.answer.in_extents) (by_name reach.met) (root_of_pair root) numbers reach.writes
+  can_build_seen = answer_builds root c reach.met reach.reads reach.writes reach.root h.answer stand paths tails lie
       numbers ready.height ready.low has_numbers keys
 
-  pub can_build : (b : Option Body) × ((reads : Intervals) × ((t : Store Value) × ((r : TreeRoot)
-      × CanBuild b (edits_on c (pairs_of reach.seen)) reads t r numbers reach.writes)))
-  can_build = (
-    body_on c h.answer.seen h.answer.in_extents,
+  abbrev scope : Scope
+  scope = record { root = root; in_leaves = true; in_extents = false; most = reach.most }
+
+  asked : demand_of (body_on c h.answer.seen h.answer.in_extents) (edits_on c h.answer.seen)
+      (reads_on c h.answer.seen h.answer.in_extents) (changed (edits_on c h.answer.seen))
+      ≡ demand_on c (pairs_of reach.seen) false
+  asked =
+      sym (asked_in_leaves c h.answer.seen h.answer.in_extents tails)
+      ∙ ap (λ (v : Pairs). demand_on c v h.answer.in_extents) h.seen
+      ∙ ap (demand_on c (pairs_of reach.seen)) h.in_leaves
+
+  few_come : most_new (body_on c h.answer.seen h.answer.in_extents) (edits_on c h.answer.seen)
+      (reads_on c h.answer.seen h.answer.in_extents) (by_name reach.met) (root_of_pair root) reach.writes ≤ reach.most
+  few_come =
+      let same = ap (λ (q : Demand Ask). most_of q (by_name reach.met) (root_of_pair root) reach.writes) asked in
+      let most = h.most in
+      omega (arith, same, most)
+
+  buildable_seen : IsBuildable c h.answer.seen scope (by_name reach.met) (root_of_pair root) numbers reach.writes
+  buildable_seen = record {
+    root = refl;
+    height = ready.height;
+    cells_in = can_build_seen.reached.cells_in;
+    names = has_numbers.names;
+    unplaced = has_numbers.unplaced;
+    numbers = has_numbers.numbers;
+    leaves = λ leaves. subst (λ (b : Bool). CanBuild (body_on c h.answer.seen b) (edits_on c h.answer.seen)
+        (reads_on c h.answer.seen b) (by_name reach.met) (root_of_pair root) numbers reach.writes) h.in_leaves
+        can_build_seen;
+    few = λ leaves. subst (λ (b : Bool). most_new (body_on c h.answer.seen b) (edits_on c h.answer.seen)
+        (reads_on c h.answer.seen b) (by_name reach.met) (root_of_pair root) reach.writes ≤ reach.most) h.in_leaves
+        few_come;
+  }
+
+  pub buildable : (t : Store Value) × ((r : TreeRoot)
+      × IsBuildable c (pairs_of reach.seen) scope t r numbers reach.writes)
+  buildable = (
+    by_name reach.met,
     (
-      reads_on c h.answer.seen h.answer.in_extents,
-      (by_name reach.met, (root_of_pair root, subst can_on h.seen can_on_seen)),
+      root_of_pair root,
+      subst (λ (s : Pairs). IsBuildable c s scope (by_name reach.met) (root_of_pair root) numbers reach.writes) h.seen
+      buildable_seen,
     ),
   )
 

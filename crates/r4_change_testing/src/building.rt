@@ -8,11 +8,9 @@ ghost use Rattle.r4_search.specs.Pool.{PoolState};
 ghost use Rattle.r4_base.specs.Tree.{Root as TreeRoot, Store};
 ghost use Rattle.r4_base.specs.Value.{Value};
 ghost use Rattle.r4_build.specs.Built.{IsTaskIn, edits_for};
-ghost use Rattle.r4_content.specs.Edited.{Intervals};
 ghost use Rattle.r4_content.specs.Held.{pairs_of};
 ghost use Rattle.r4_content.specs.Seen.{Rises};
 ghost use Rattle.r4_build.specs.r4_leaf_edits.Suiting.{SuitLeaves};
-ghost use Rattle.r4_build.specs.r4_reach.Touched.{Body};
 ghost use Rattle.r4_change_testing.specs.Ready.{IsBlock, IsReady};
 
 use r4_base::{Memory, ScriptNo, TaskId, TxnNo, UNPLACED};
@@ -24,6 +22,7 @@ use r4_leaf_demands::commands_of_leaves_may_ask;
 use r4_outside::{Device, MemoryDevice, OpenGate};
 use r4_reaching::{Reach, reach_in_leaves};
 use r4_tree_testing::BLOCKS;
+use r4_turns::Scope;
 use std::alloc::Global;
 use std::sync::Arc;
 use std::test::Fail;
@@ -85,18 +84,16 @@ fn ready_task(alloc: Global, root: Root, command: Command, reach: Reach) -> Resu
     requires reach { (p : PoolState) × IsReach p root command reach }
     requires ready { IsReady root reach }
     requires paths { HasBytePaths command }
-    ensures can { IfOk result (λ x. (b : Option Body) × ((reads : Intervals)
-        × ((t : Store Value) × ((r : TreeRoot) × IsTaskIn b reads t r x)))) }
+    ensures can { IfOk result (λ x. (t : Store Value) × ((r : TreeRoot) × IsTaskIn t r x)) }
     ensures rises { IfOk result (λ x. Rises (pairs_of (arc_value x.seen))) }
     ensures suits { IfOk result (λ x. SuitLeaves 16384 (edits_for x)) }
 {
     commands_of_leaves_may_ask();
-    // The contract speaks of it alone.
-    let _ = root;
     let Reach {
         reads,
         writes,
         seen,
+        most,
         ..
     } = reach;
     Ok(Task {
@@ -108,6 +105,12 @@ fn ready_task(alloc: Global, root: Root, command: Command, reach: Reach) -> Resu
         reads,
         writes,
         seen: Arc::new(alloc, seen)?,
+        scope: Scope {
+            root,
+            in_leaves: true,
+            in_extents: false,
+            most,
+        },
         fresh: Fresh {
             next: UNPLACED,
             end: UNPLACED + 64 * BLOCKS,

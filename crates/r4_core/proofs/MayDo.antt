@@ -18,7 +18,7 @@ use Rattle.r4_cell.specs.Seen.{CellSeen}
 use Rattle.r4_core.specs.Doing.{Becomes, CanDo, change_of}
 use Rattle.r4_core.specs.declared.doing.Made.{Made}
 use Rattle.r4_flushing.specs.r4_done.Doing.{IsCount, is_less, is_more}
-use Rattle.r4_flushing.proofs.r4_done.FewCells.{few_new, few_writes, fewer_objects, less_cells, less_fresh}
+use Rattle.r4_flushing.proofs.r4_done.FewCells.{few_new, fewer_objects, less_cells, less_fresh}
 use Rattle.r4_ready.specs.r4_kept.Kept.{IsKept}
 use Rattle.r4_ready.specs.r4_kept.Naming.{Naming}
 use Rattle.r4_ready.specs.r4_kept.View.{CoreSeen}
@@ -78,10 +78,7 @@ module _ {D : Type 0} (r : Naming) (d : State) (c : CoreSeen D) (k : IsKept r d 
     new_small : length new ≤ 200000000
     new_small =
         let few = few_new r d c k s within out made.command (change_of made) a h.can h.change in
-        let writes = few_writes r d c k s within out made.command (change_of made) a h.can h.change in
-        let cells = small_before.0 in
-        let blocks = k.cells.super40.blocks.1 in
-        omega (arith, few, writes, cells, blocks)
+        omega (arith, few)
 
     pub fits : length c.trace.entries < 2 ^ 64
         → FitTogether before (added (length made.new.items) made.objects.born made.objects.gone)

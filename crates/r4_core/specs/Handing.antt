@@ -23,6 +23,7 @@ as_task given task = record {
   writes = given.writes;
   pins = given.pins;
   seen = given.seen;
+  scope = given.scope;
   numbers = given.numbers;
   cells = given.cells;
   claims = given.claims;

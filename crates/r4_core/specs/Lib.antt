@@ -15,6 +15,7 @@ pub use Rattle.r4_start.specs.r4_open
 pub use Rattle.r4_others.specs as r4_others
 pub use Rattle.r4_ready.specs.r4_patch
 pub use Rattle.r4_ready.specs.r4_reach
+pub use Rattle.r4_ready.specs.r4_extent_reaching
 pub use Rattle.r4_ready.specs.r4_reaching
 pub use Rattle.r4_ready.specs as r4_ready
 pub use Rattle.r4_start.specs.r4_rooms

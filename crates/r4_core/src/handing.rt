@@ -13,13 +13,13 @@ use r4_content::Seen;
 use r4_locks::NewTask;
 use r4_outside::{Device, Run};
 use r4_ready::{NodesNeeded, Numbers};
-use r4_turns::{Nodes, Numbers as Drawn, Out};
+use r4_turns::{Nodes, Numbers as Drawn, Out, Scope};
 use std::alloc::Global;
 use std::sync::Arc;
 
 /// What a command is given that goes out as a task: its transaction, the cells that it reads and
 /// those that it writes, the nodes that are kept for it, what was seen at the keys that it asks
-/// for, its numbers, and for how many cells and claims on blocks there is room for it.
+/// for, what is known of its reach besides, its numbers, and for how many cells and claims on blocks there is room for it.
 #[derive(Drop)]
 pub struct Given {
     pub txn: TxnNo,
@@ -27,6 +27,7 @@ pub struct Given {
     pub writes: Cells,
     pub pins: Nodes,
     pub seen: Arc<Seen>,
+    pub scope: Scope,
     pub numbers: Drawn,
     pub cells: u64,
     pub claims: u64,
@@ -43,6 +44,7 @@ impl Given {
             writes,
             pins,
             seen,
+            scope,
             numbers,
             cells,
             claims,
@@ -54,6 +56,7 @@ impl Given {
             writes,
             pins,
             seen,
+            scope,
             numbers,
             cells,
             claims,

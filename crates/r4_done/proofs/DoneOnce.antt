@@ -301,7 +301,9 @@ module _ {D : Type 0} (r : Naming) (d : State) (c : CoreSeen D) (k : IsKept r d 
               reach = f.reach;
               seen = f.seen;
               lawful = f.lawful;
+              kind = f.kind;
               can = f.can;
+              small = f.small;
               top = top_still q o is_out (with_id o.numbers.oid z) f;
               cells = f.cells;
               claims = f.claims;

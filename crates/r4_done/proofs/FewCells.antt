@@ -19,7 +19,6 @@ use Rattle.r4_base.specs.declared.things.ScriptNo.{ScriptNo}
 use Rattle.r4_atoms.specs.Atoms.{account_of, atom_of}
 use Rattle.r4_taking.specs.r4_buffer.Changed.{has_name}
 use Rattle.r4_taking.specs.r4_buffer.Seen.{buffered, is_dirty_by}
-use Rattle.r4_taking.specs.r4_build.Building.{CanBuild, most_new}
 use Rattle.r4_taking.specs.r4_cell.Patch.{by_name, root_of_pair}
 use Rattle.r4_taking.specs.r4_cell.Seen.{CellSeen, node_of}
 use Rattle.r4_taking.specs.r4_cell.declared.change.Change.{Change}
@@ -37,6 +36,7 @@ use Rattle.r4_taking.specs.r4_trace.declared.entry.Entry.{Entry}
 use Rattle.r4_taking.specs.r4_trace.declared.entry.Entry.TheVariants.{Acked, Begin, Broken, Committed, Done, Ended, Fuse}
 use Rattle.r4_taking.specs.r4_trace.declared.entry.Entry.TheVariants.{Refused, Sealed}
 use Rattle.r4_taking.specs.r4_turns.declared.out.Out.{Out}
+use Rattle.r4_taking.specs.r4_turns.declared.out.TheConstants.{MOST_NEW}
 use Rattle.r4_taking.specs.r4_turns.declared.turn.Open.{Open}
 use Rattle.r4_taking.specs.r4_kept.Accounts.{CountsCells, dones_of}
 use Rattle.r4_taking.specs.r4_kept.Kept.{IsKept}
@@ -102,36 +102,6 @@ dones_begun chosen (Committed atom clock ∷ older) = let rest = dones_begun cho
 dones_begun chosen (Acked script txn clock ∷ older) = let rest = dones_begun chosen older in omega (arith, rest)
 dones_begun chosen (Broken clock faults ∷ older) = let rest = dones_begun chosen older in omega (arith, rest)
 
--- ---- new cells
-
--- a cell asks for 87 others at most
-module _ (d : Demand Ask) (t : Store Value) (small : (l i : ℕ) → more_of (ask_of (ask d t l) (t i)) ≤ 87) where
-  more_few : (xs : List CellSeen) → ((x : CellSeen) → Contains xs x → t x.id ≡ Some (node_of x))
-      → more_in d t xs ≤ 87 * length xs
-  more_few [] stand = omega arith
-  more_few (x ∷ xs) stand =
-      let all = sum_by-cons (λ (y : CellSeen). more_of (ask d t y.level (node_of y))) x xs in
-      let one : more_of (ask d t x.level (node_of x)) ≤ 87 =
-      subst (λ (o : Option (Node Value)). more_of (ask_of (ask d t x.level) o) ≤ 87)
-      (stand x (zero, omega arith, refl)) (small x.level x.id) in
-      let rest = more_few xs (λ y has. stand y (later y has)) in
-      omega (arith, all, one, rest)
-    where
-      later : (y : CellSeen) → Contains xs y → Contains (x ∷ xs) y
-      later y h = (suc h.0, (let lt = h.1 in omega (arith, lt)), h.2)
-
-rise_one : (o : Option Ask) → rise_of o ≤ 1
-rise_one None = omega arith
-rise_one (Some a) = omega arith
-
-most_few : (b : Option Body) (e : Edits) (reads : Intervals) (t : Store Value) (r : Root) (f : Fresh)
-    (xs : List CellSeen) → CanBuild b e reads t r f xs → most_new b e reads t r xs ≤ 88 * length xs + 1
-most_few b e reads t r f xs can =
-    let d = demand_of b e reads (changed e) in
-    let more : more_in d t xs ≤ 87 * length xs = more_few d t can.reached.quiet.small xs can.reached.cells_in.stand in
-    let rise : rise_of (ask_of (ask d t r.height) (t r.id)) ≤ 1 = rise_one (ask_of (ask d t r.height) (t r.id)) in
-    omega (arith, more, rise)
-
 -- ---- a task
 
 module _ {D : Type 0} (r : Naming) (d : State) (c : CoreSeen D) (k : IsKept r d c) (s : ScriptNo)
@@ -149,16 +119,11 @@ module _ {D : Type 0} (r : Naming) (d : State) (c : CoreSeen D) (k : IsKept r d 
       let all = as_many out.writes in
       omega (arith, few, old, all)
 
-  abbrev most : ℕ
-  most =
-      most_new (body_on x g.reach.seen g.reach.in_extents) (edits_on x g.reach.seen)
-      (reads_on x g.reach.seen g.reach.in_extents) (by_name g.met) (root_of_pair g.root) out.writes
-
   -- there is room for all
   pub room_for_both : length change.old + length change.new ≤ out.cells
   room_for_both =
       let old = fewer_old in
-      let new = of_it.few g in
+      let new = of_it.few in
       let enough = g.cells in
       omega (arith, old, new, enough)
 
@@ -198,13 +163,11 @@ module _ {D : Type 0} (r : Naming) (d : State) (c : CoreSeen D) (k : IsKept r d 
       let cells = counted.cells_are in
       omega (arith, few, all, both, blocks, cells)
 
-  pub few_new : length change.new ≤ 88 * length out.writes + 1
+  pub few_new : length change.new ≤ MOST_NEW
   few_new =
-      let new = of_it.few g in
-      let few = most_few (body_on x g.reach.seen g.reach.in_extents) (edits_on x g.reach.seen)
-      (reads_on x g.reach.seen g.reach.in_extents) (by_name g.met) (root_of_pair g.root) out.numbers.fresh out.writes
-      g.can in
-      omega (arith, new, few)
+      let new = of_it.few in
+      let small = g.small in
+      omega (arith, new, small)
 
   -- ---- cells that go
 

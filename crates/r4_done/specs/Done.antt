@@ -8,7 +8,6 @@ use Rattle.r4_atoms.specs.declared.things.Account.{Account}
 use Rattle.r4_base.specs.declared.things.AtomNo.{AtomNo}
 use Rattle.r4_base.specs.declared.things.ScriptNo.{ScriptNo}
 use Rattle.r4_base.specs.declared.things.TxnNo.{TxnNo}
-use Rattle.r4_taking.specs.r4_build.Building.{most_new}
 use Rattle.r4_taking.specs.r4_buffer.Changed.{has_name, in_turn, replaced, unused}
 use Rattle.r4_taking.specs.r4_buffer.Seen.{IsLawful, buffered}
 use Rattle.r4_taking.specs.r4_cell.Patch.{IsChange, by_name, root_of_pair}
@@ -22,7 +21,6 @@ use Rattle.r4_taking.specs.r4_history.Tables.{Stands, with_ended}
 use Rattle.r4_taking.specs.r4_locks.Locks.{AreHolds, OthersAsBefore, task_at}
 use Rattle.r4_counted.specs.r4_patch.Joining.{ids_of, patch_of_change}
 use Rattle.r4_counted.specs.r4_patch.Part.{MeetsPart}
-use Rattle.r4_counted.specs.r4_reach.Touched.{body_on, edits_on, reads_on}
 use Rattle.r4_taking.specs.r4_trace.Job.{IsWork}
 use Rattle.r4_taking.specs.r4_trace.declared.entry.Entry.TheVariants.{Done, Ended}
 use Rattle.r4_taking.specs.r4_turns.Turns.{answered_at, answered_one, dropped, left}
@@ -35,7 +33,7 @@ use Rattle.r4_done.specs.Doing.{HasCharged, IsCount}
 
 -- The change is one of cells that the task writes, with their names or the task's numbers. It meets
 -- the part of a tree in which the task's command was given these, and has no more new cells than
--- the command asks for there.
+-- the task was told.
 pub record IsChangeOf
     {D : Type 0} (c : CoreSeen D) (out : Out) (x : Command) (change : Change) : Type 0
   where
@@ -45,10 +43,7 @@ pub record IsChangeOf
         ⊎ ((out.numbers.fresh.next ≤ y.id) × (y.id < out.numbers.fresh.end))
     pub meets : (g : IsGiven c.tree x out)
         → MeetsPart (patch_of_change change) (by_name g.met) (root_of_pair g.root)
-    pub few : (g : IsGiven c.tree x out) → length change.new
-        ≤ most_new (body_on x g.reach.seen g.reach.in_extents) (edits_on x g.reach.seen)
-        (reads_on x g.reach.seen g.reach.in_extents) (by_name g.met) (root_of_pair g.root)
-        out.writes
+    pub few : length change.new ≤ out.scope.most
 
 -- The task is that of a script's next command, in its transaction of this atom, which is open.
 pub record CanBeDone

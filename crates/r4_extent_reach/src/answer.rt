@@ -1,22 +1,25 @@
 //! A reach, from the cells that were met and those that are read and written (docs/volume.md, "Reach").
 
-ghost use Rattle.std.specs.Prelude.{◌≡◌, ◌+◌, IfOk, length, map, sum_by};
+ghost use Rattle.std.specs.Prelude.{◌≡◌, ◌+◌, Contains, IfOk, false, length, map, sum_by, true};
 ghost use Rattle.std.specs.Arc.{arc_value};
 ghost use Rattle.std.specs.Option.{option_copied, option_map};
-ghost use Rattle.r4_content.specs.Edited.{Intervals};
-ghost use Rattle.r4_content.specs.Held.{edits_of};
+ghost use Rattle.r4_base.specs.Tree.{Span};
+ghost use Rattle.r4_bodies.specs.r4_leaf_demands.Leaves.{IsInLeaves};
+ghost use Rattle.r4_cell.specs.Seen.{CellSeen, node_of};
+ghost use Rattle.r4_content.specs.Held.{edits_of, interval_of};
 ghost use Rattle.r4_extent_reaching.specs.r4_extent_counts.Coming.{twig_cells};
 ghost use Rattle.r4_extent_demands.specs.Sizes.{AreExtentEdits};
-ghost use Rattle.r4_extent_reaching.specs.Meeting.{IsFrom};
+ghost use Rattle.r4_extent_reaching.specs.Meeting.{IsFrom, IsOfLeaves};
 ghost use Rattle.r4_marking.specs.Marks.{ask_seen};
 ghost use Rattle.r4_reach.specs.Leaves.{rise_of};
+ghost use Rattle.r4_reach.specs.Needs.{is_met};
 ghost use Rattle.r4_extent_reach.specs.Standing.{stood};
 
 use crate::known::Known;
 use r4_base::Memory;
 use r4_cell::{Cell, Cells, Root};
-use r4_content::Seen;
-use r4_extent_demands::SizedBody;
+use r4_content::{Interval, Seen};
+use r4_extent_demands::{SizedBody, Way, extents_have};
 use r4_extent_reaching::{Reach, cells_coming};
 use r4_marking::Marks;
 use std::alloc::{AllocError, Global};
@@ -28,20 +31,22 @@ pub(crate) fn reach_from(
     root: &Root,
     seen: Seen,
     known: &Known,
+    changes: &[Interval],
     met: Vec<Arc<Cell>>,
     marks: Marks,
 ) -> Result<Reach, Memory>
     requires { AreExtentEdits known.now.body (edits_of known.now.edits) }
-    ensures { IfOk result (λ r. (changes : Intervals) → IsFrom root.now seen
+    ensures { IfOk result (IsFrom root.now seen
         (record {
           edits = known.now.edits;
           body = known.now.body;
           in_extents = stood known.now.body;
-          changes = changes;
+          changes = map interval_of changes.now;
         })
-        (map (λ c. arc_value c) met.items) marks r) }
+        (map (λ c. arc_value c) met.items) marks) }
 {
     let most = most_in(alloc, known, &marks)?;
+    let in_leaves = is_of_leaves(known.body.as_ref(), changes, met.as_slice());
     Ok(Reach {
         reads: Cells::from_vec(marks.reads),
         writes: Cells::from_vec(marks.writes),
@@ -50,7 +55,52 @@ pub(crate) fn reach_from(
         seen,
         most,
         in_extents: stood_in_extents(known.body.as_ref()),
+        in_leaves,
     })
+}
+
+// Whether no body stands in extents, before or afterwards, and none of the cells has an extent with one of these keys.
+fn is_of_leaves(body: Option<&SizedBody>, changes: &[Interval], met: &[Arc<Cell>]) -> bool
+    ensures { result ≡ true → IsOfLeaves (option_copied body.entry) (stood (option_copied body.entry))
+        (map interval_of changes.now) (map (λ c. arc_value c) met.now) }
+{
+    !is_spread(body) && spare_extents(changes, met)
+}
+
+// Whether a body stands in extents afterwards, if there is one.
+fn is_spread(body: Option<&SizedBody>) -> bool
+    ensures { result ≡ false → IsInLeaves (option_copied body.entry)
+        × (stood (option_copied body.entry) ≡ false) }
+{
+    match body {
+        Some(body) => body.is_spread(),
+        None => false,
+    }
+}
+
+// Whether none of the cells has an extent with one of these keys.
+fn spare_extents(changes: &[Interval], cells: &[Arc<Cell>]) -> bool
+    ensures { result ≡ true → (x : CellSeen) (s : Span)
+        → Contains (map (λ c. arc_value c) cells.now) x → Contains (node_of x).spans s
+        → is_met (map interval_of changes.now) s.lo s.hi ≡ false }
+{
+    match cells.split_first() {
+        None => true,
+        Some((first, rest)) => {
+            if !spares_extents(changes, first) {
+                return false;
+            }
+            spare_extents(changes, rest)
+        }
+    }
+}
+
+// Whether a cell has no extent with one of these keys; a data block has none.
+fn spares_extents(changes: &[Interval], cell: &Cell) -> bool
+    ensures { result ≡ true → (s : Span) → Contains (node_of cell.now).spans s
+        → is_met (map interval_of changes.now) s.lo s.hi ≡ false }
+{
+    cell.level() == 0 || !extents_have(Way::Meets(changes), cell)
 }
 
 // Whether a body stood in extents, if there is one.

@@ -10,4 +10,5 @@ mod objects;
 mod reaching;
 mod standing;
 
+pub use r4_extent_reaching::Reach;
 pub use reaching::reach;

@@ -221,5 +221,7 @@ fn reach_of_met<P: Pool>(
     add_read(&mut reads, known.read)?;
     let demands = ExtentDemands::new(known.body.as_ref(), &known.edits, &reads, changes);
     let marks = mark(alloc, &demands, root, &met)?;
-    Ok(reach_from(alloc, root, seen, known, met, marks)?)
+    Ok(reach_from(
+        alloc, root, seen, known, changes, met, marks,
+    )?)
 }

@@ -10,12 +10,12 @@ use Rattle.std.proofs.lemmas.List.{length-map}
 use Rattle.std.proofs.lemmas.List.Sums.{sum_by-cons}
 use Rattle.std.proofs.lemmas.Option.{none-some, same_Some}
 use Rattle.r4_base.specs.Key.{least, top}
-use Rattle.r4_base.specs.Tree.{Name, Node, Root as TreeRoot, Span, Store}
+use Rattle.r4_base.specs.Tree.{Covers as CoversOf, Name, Node, Root as TreeRoot, Span, Store}
 use Rattle.r4_base.specs.Value.{Value}
 use Rattle.r4_cell.specs.Patch.{by_name, root_of_pair}
 use Rattle.r4_cell.specs.Seen.{CellSeen, node_of}
 use Rattle.r4_cell.specs.declared.change.Root.{Root}
-use Rattle.r4_content.specs.Edited.{Intervals, Pairs, is_in}
+use Rattle.r4_content.specs.Edited.{Intervals, Pairs, changed, is_in}
 use Rattle.r4_content.specs.Held.{edits_of, pairs_of}
 use Rattle.r4_content.specs.declared.command.Command.{Command}
 use Rattle.r4_content.specs.declared.seen.Seen.{Seen}
@@ -32,12 +32,14 @@ use Rattle.r4_patch.proofs.Members.{cases, here, later, none}
 use Rattle.r4_patch.proofs.Members.{found as named}
 use Rattle.r4_patch.proofs.Members.{distinct, there}
 use Rattle.r4_reach.specs.Answer.{IsSeenIn as SeesAll}
-use Rattle.r4_reach.specs.Demand.{Demand, ask, ask_of}
-use Rattle.r4_reach.specs.Leaves.{more_in, more_of, rise_of}
+use Rattle.r4_reach.specs.Demand.{Demand, Spans, ask, ask_of}
+use Rattle.r4_reach.specs.Leaves.{LieInLeaves, more_in, more_of, rise_of}
 use Rattle.r4_reach.specs.Needs.{Ask, cell_asks, changes_pieces, demand_of, demand_on, going_of, is_met, is_touched, leaf_asks, left_leaves, node_asks, twig_asks, twig_turns}
 use Rattle.r4_reach.specs.Reach.{HasTouched, IsRootAsking}
-use Rattle.r4_reach.specs.Touched.{Body, IsKindIn, body_on, changes_on, edits_on, kind_reads, reads_on}
+use Rattle.r4_reach.specs.Touched.{Body, IsKindIn, body_on, changes_on, coming, edits_on, kind_reads, raw_changes, reads_on}
+use Rattle.r4_reach.specs.Touched.{turns_out, with_blocks}
 use Rattle.r4_reaching.specs.Answers.{asked_by}
+use Rattle.r4_reaching.specs.r4_bodies.r4_leaf_demands.Leaves.{IsInLeaves}
 use Rattle.r4_reaching.specs.Gathering.{IsPartMet}
 use Rattle.r4_reaching.proofs.Found.{found_listed}
 use Rattle.r4_reaching.proofs.Made.{chosen_once, chosen_rise}
@@ -45,9 +47,9 @@ use Rattle.r4_reaching.proofs.Standing.{seen_stands}
 use Rattle.r4_search.specs.Pool.{PoolState}
 use Rattle.r4_reaching.specs.r4_seeing.Looking.{AreFound, met_cells}
 use Rattle.r4_extent_reaching.specs.Alike.{AreAlike}
-use Rattle.r4_extent_reaching.specs.Answers.{IsReach}
+use Rattle.r4_extent_reaching.specs.Answers.{IsReach, LiesInLeaves}
 use Rattle.r4_extent_counts.specs.Coming.{most_with, twig_cells}
-use Rattle.r4_extent_reaching.specs.Meeting.{AreReadKeys, IsFrom, IsTouched, Planned}
+use Rattle.r4_extent_reaching.specs.Meeting.{AreReadKeys, IsFrom, IsOfLeaves, IsTouched, Planned}
 use Rattle.r4_extent_reaching.specs.Standing.{HasFileSizes}
 use Rattle.r4_extent_reaching.specs.declared.reached.Reach.{Reach}
 use Rattle.r4_extent_reaching.proofs.Marked.{ask_same, marks_alike}
@@ -343,6 +345,49 @@ module _ (p : PoolState) (root : Root) (c : Command) (seen : Seen) (known questi
       (λ i. sum_by (twig_cells (h.planned.body i) (h.planned.edits i)) (sym from.writes i)) in
       from.most ∙ (λ i. count i + asked i + rise i + come i)
 
+  -- ---- what lies in leaves
+
+  -- a key that changes counts as changed
+  no_blocks : (b : Option Body) (rs : Intervals) → IsInLeaves b → raw_changes b rs ≡ rs
+  no_blocks None rs h = refl
+  no_blocks (Some b) rs h =
+      ap (λ (t : Bool). if t then (if turns_out b then coming b ∷ map (with_blocks b) rs else map (with_blocks b) rs)
+      else rs) h
+
+  in_leaf : IsOfLeaves n.body n.in_extents n.changes met → (k : ℕ)
+      → is_in (changed (edits_on c (pairs_of seen))) k ≡ true → least ≤ k → k < top → CoversOf (by_name r.met) 1 k
+  in_leaf leaves k on low high =
+      let stays : IsInLeaves (body_on c (pairs_of seen) n.in_extents) = subst IsInLeaves h.planned.body leaves.body in
+      let counts : is_in (changes_on c (pairs_of seen) n.in_extents) k ≡ true =
+      ap (λ (rs : Intervals). is_in rs k)
+      (no_blocks (body_on c (pairs_of seen) n.in_extents) (changed (edits_on c (pairs_of seen))) stays) ∙ on in
+      let (i, d, is, covers) =
+      (has p root c seen known questions n h r.met its_met).piece k (inr counts) low high in
+      elim covers [
+        | inl leaf ↦ (i, d, is, leaf.0, leaf.1)
+        | inr spans ↦ absurd (outside i d is spans (h.planned.changes k high ∙ counts))
+      ]
+    where
+      outside : (i : ℕ) (d : Node Value) → by_name r.met i ≡ Some d → Spans d k → is_in n.changes k ≡ true → ⊥
+      outside i d is (s, among, within) counts =
+          let (x, there_is, id, says) = named r.met i d is in
+          let off = leaves.spared x s (subst (λ (l : List CellSeen). Contains l x) from.met_are there_is)
+          (subst (λ (e : Node Value). Contains e.spans s) says among) in
+          absurd (let on = keys_meet n.changes s.lo s.hi (k, counts, within.0, within.1) in
+          let f : true ≡ false = sym on ∙ off in cc)
+
+  leaves_alone : r.in_leaves ≡ true → LiesInLeaves c r
+  leaves_alone on =
+      let leaves = from.leaves on in
+      let seen_then = sym (ap pairs_of from.seen_is) in record {
+        kind = from.kind_is ∙ leaves.kind;
+        body = subst (λ (v : Pairs). IsInLeaves (body_on c v r.in_extents)) seen_then
+            (subst (λ (t : Bool). IsInLeaves (body_on c (pairs_of seen) t)) (sym from.kind_is)
+            (subst IsInLeaves h.planned.body leaves.body));
+        lie = subst (λ (v : Pairs). LieInLeaves (by_name r.met) (is_in (changed (edits_on c v)))) seen_then
+            (in_leaf leaves);
+      }
+
   as_seen : Seen → Bool → Type 0
   as_seen v b = r.most ≡ most_with (body_on c (pairs_of v) b) (edits_on c (pairs_of v)) (demand_on c (pairs_of v) b)
       (by_name r.met) (root_of_pair root) r.writes
@@ -365,6 +410,7 @@ module _ (p : PoolState) (root : Root) (c : Command) (seen : Seen) (known questi
     };
     seen = sym (ap pairs_of from.seen_is);
     kind = sym from.kind_is;
+    leaves = leaves_alone;
     sizes = subst (λ (v : Seen). HasFileSizes (body_on c (pairs_of v) r.in_extents)) (sym from.seen_is)
         (subst (λ (b : Bool). HasFileSizes (body_on c (pairs_of seen) b)) (sym from.kind_is)
         (subst HasFileSizes h.planned.body h.planned.sizes));

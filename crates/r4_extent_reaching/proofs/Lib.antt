@@ -6,3 +6,4 @@ pub mod Within
 pub use Rattle.r4_extent_touching.proofs as r4_extent_touching
 pub use Rattle.r4_reaching.proofs.r4_judging
 pub use Rattle.r4_reaching.proofs as r4_reaching
+pub use Rattle.r4_reaching.proofs.r4_spared

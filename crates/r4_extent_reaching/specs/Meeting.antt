@@ -1,9 +1,11 @@
 -- A command whose edits are known, and the cells that were met for it, bodies in extents included (docs/volume.md,
 -- "Reach"). A key is its rank.
-use Rattle.std.specs.Prelude.{◌≡◌, ℕ, ◌+◌, ◌<◌, ◌≤◌, ◌||◌, Bool, true, List, [], Option, Some, length, map, nat_lt, sum_by}
+use Rattle.std.specs.Prelude.{◌≡◌, ℕ, ◌+◌, ◌<◌, ◌≤◌, ◌||◌, Bool, true, false, List, [], Contains, Option, Some}
+use Rattle.std.specs.Prelude.{length, map, nat_lt, sum_by}
 use Rattle.std.specs.Arc.{arc_value}
 use Rattle.std.specs.Option.{option_map}
 use Rattle.r4_base.specs.Key.{least, top}
+use Rattle.r4_base.specs.Tree.{Span}
 use Rattle.r4_cell.specs.Seen.{CellSeen, node_of}
 use Rattle.r4_cell.specs.declared.change.Root.{Root}
 use Rattle.r4_content.specs.Edited.{Intervals, is_in}
@@ -15,9 +17,10 @@ use Rattle.r4_extent_touching.specs.Holding.{AreHeld, AreLeftMet}
 use Rattle.r4_extent_touching.specs.r4_marking.Marks.{ask_seen}
 use Rattle.r4_extent_touching.specs.r4_marking.declared.marking.Marks.{Marks}
 use Rattle.r4_reach.specs.Leaves.{rise_of}
-use Rattle.r4_reach.specs.Needs.{demand_of, going_of}
+use Rattle.r4_reach.specs.Needs.{demand_of, going_of, is_met}
 use Rattle.r4_reach.specs.Touched.{Body, IsKindIn, body_on, changes_on, edits_on, kind_reads}
 use Rattle.r4_reaching.specs.Answers.{IsAllSeen}
+use Rattle.r4_reaching.specs.r4_bodies.r4_leaf_demands.Leaves.{IsInLeaves}
 use Rattle.r4_search.specs.Pool.{PoolState}
 use Rattle.r4_reaching.specs.r4_seeing.Looking.{met_cells}
 use Rattle.r4_extent_counts.specs.Coming.{twig_cells}
@@ -63,6 +66,15 @@ abbrev pub AreReadKeys : (held questions : Intervals) → Option Body → Type 0
 AreReadKeys held questions b = (k : ℕ) → least ≤ k → k < top
     → is_in held k ≡ (is_in questions k || is_in (kind_reads b) k)
 
+-- No body stands in extents, before or afterwards, and none of the cells has an extent with one of these keys.
+pub record IsOfLeaves (b : Option Body) (in_extents : Bool) (changes : Intervals) (cells : List CellSeen)
+    : Type 0
+  where
+    pub kind : in_extents ≡ false
+    pub body : IsInLeaves b
+    pub spared : (x : CellSeen) (s : Span) → Contains cells x → Contains (node_of x).spans s
+        → is_met changes s.lo s.hi ≡ false
+
 -- The answer is made of these cells and marks.
 pub record IsFrom (root : Root) (seen : Seen) (n : Planned) (met : List CellSeen) (m : Marks) (r : Reach)
     : Type 0
@@ -73,5 +85,6 @@ pub record IsFrom (root : Root) (seen : Seen) (n : Planned) (met : List CellSeen
     pub root_is : r.root ≡ option_map (λ a. root) m.rises
     pub seen_is : r.seen ≡ seen
     pub kind_is : r.in_extents ≡ n.in_extents
+    pub leaves : r.in_leaves ≡ true → IsOfLeaves n.body n.in_extents n.changes met
     pub most : r.most ≡ length m.writes.items + m.more + rise_of (option_map ask_seen m.rises)
         + sum_by (twig_cells n.body (edits_of n.edits)) (map (λ c. arc_value c) m.writes.items)

@@ -20,4 +20,7 @@ pub struct Reach {
     pub most: u64,
     /// Whether the body that it changes stood in extents before.
     pub in_extents: bool,
+    /// Whether all that it changes lies in leaves: no body stands in extents afterwards, and of the cells that were met
+    /// none has an extent with a key that counts as changed.
+    pub in_leaves: bool,
 }

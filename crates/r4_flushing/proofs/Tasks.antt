@@ -140,7 +140,9 @@ module _ {D : Type 0} (r : Naming) (d : State) (c new : CoreSeen D) (a : AtomNo)
             reach = h.reach;
             seen = h.seen;
             lawful = h.lawful;
+            kind = h.kind;
             can = h.can;
+            small = h.small;
             top = λ y has top.
                 (let tree = h.top y has top in
                 let (miss, old) = reach_misses r d c new a given p z s was there y has in

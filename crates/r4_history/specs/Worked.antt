@@ -1,7 +1,7 @@
 -- Worked examples (docs/histories.md): the run of one script, with a command that reads and a
 -- `commit`; a command that reads what another open atom owns; and one that makes a file, as it goes
 -- out.
-use Rattle.std.specs.Prelude.{ℕ, ◌+◌, ◌^◌, List, [], ◌∷◌, Some, false}
+use Rattle.std.specs.Prelude.{ℕ, ◌+◌, ◌^◌, List, [], ◌∷◌, Some, false, true}
 use Rattle.std.specs.Global.{Global}
 use Rattle.std.specs.declared.sync.Arc.{Arc}
 use Rattle.r4_atoms.specs.Atoms.{AtomsSeen, new_atom, new_txn}
@@ -87,6 +87,12 @@ make_task k seen = record {
   writes = record { id = 5; level = 1; lo = k; hi = k; block = [] } ∷ [];
   pins = [];
   seen = seen;
+  scope = record {
+    root = record { id = record { 0 = 22 }; height = 2 };
+    in_leaves = true;
+    in_extents = false;
+    most = 1;
+  };
   numbers = record {
     oid = record { 0 = 65536 };
     fresh = record { next = 2 ^ 63; end = 2 ^ 63 + 1 };

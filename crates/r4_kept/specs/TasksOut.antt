@@ -8,7 +8,7 @@ use Rattle.r4_base.specs.Tree.{Name}
 use Rattle.r4_base.specs.declared.things.NodeId.{NodeId}
 use Rattle.r4_buffer.specs.Changed.{uses_of}
 use Rattle.r4_buffer.specs.Seen.{EntrySeen, buffered}
-use Rattle.r4_build.specs.Building.{CanBuild, most_new}
+use Rattle.r4_build.specs.Built.{IsBuildable}
 use Rattle.r4_history.specs.r4_cell.Patch.{by_name, root_of_pair}
 use Rattle.r4_history.specs.r4_cell.Seen.{CellSeen}
 use Rattle.r4_history.specs.r4_cell.declared.change.Root.{Root}
@@ -19,11 +19,11 @@ use Rattle.r4_history.specs.Drawn.{numbers_of}
 use Rattle.r4_history.specs.Held.{IsOut}
 use Rattle.r4_history.specs.Tables.{next_at}
 use Rattle.r4_build.specs.r4_reach.Answer.{IsReachOf}
-use Rattle.r4_build.specs.r4_reach.Touched.{body_on, edits_on, reads_on}
 use Rattle.r4_suited.specs.Suited.{AreLawfulSeen}
 use Rattle.r4_history.specs.r4_turns.Turns.{IsScript, turn_at}
 use Rattle.r4_history.specs.r4_turns.declared.out.Numbers.{Numbers}
 use Rattle.r4_history.specs.r4_turns.declared.out.Out.{Out}
+use Rattle.r4_history.specs.r4_turns.declared.out.TheConstants.{MOST_NEW}
 use Rattle.r4_history.specs.r4_turns.declared.turn.Turn.{Turn}
 use Rattle.r4_kept.specs.Cells.{NamesAt}
 use Rattle.r4_kept.specs.View.{CoreSeen}
@@ -31,8 +31,8 @@ use Rattle.r4_kept.specs.View.{CoreSeen}
 -- ---- what a task was given
 
 -- The cells that a reading met were a part of a tree with this root pair. There the command reaches
--- what the task reads and writes, and what was seen for it is lawful and goes out with the task. Its edits may be
--- made with the task's numbers, none of which stands or is named there. Where it reaches the root,
+-- what the task reads and writes, and what was seen for it is lawful and goes out with the task. It may be
+-- built there with the task's numbers, none of which stands or is named there. Where it reaches the root,
 -- that is the root of the tree of all atoms now, which is given first. There is room for the cells
 -- that it captures and that may come, and for a charge and its claims.
 pub record IsGiven (tree : Root) (c : Command) (out : Out) : Type 0 where
@@ -42,15 +42,13 @@ pub record IsGiven (tree : Root) (c : Command) (out : Out) : Type 0 where
   pub reach : IsReachOf root c met out.reads out.writes rises
   pub seen : reach.seen ≡ pairs_of (arc_value out.seen)
   pub lawful : AreLawfulSeen c reach.seen
-  pub can : CanBuild (body_on c reach.seen reach.in_extents) (edits_on c reach.seen)
-      (reads_on c reach.seen reach.in_extents) (by_name met) (root_of_pair root)
+  pub kind : reach.in_extents ≡ out.scope.in_extents
+  pub can : IsBuildable c reach.seen out.scope (by_name met) (root_of_pair root)
       out.numbers.fresh out.writes
   pub top : (x : CellSeen) → Contains (out.reads ++ out.writes) x → x.id ≡ root.id.0
       → root ≡ tree
-  pub cells : length out.writes
-      + most_new (body_on c reach.seen reach.in_extents) (edits_on c reach.seen)
-      (reads_on c reach.seen reach.in_extents) (by_name met) (root_of_pair root) out.writes
-      ≤ out.cells
+  pub small : out.scope.most ≤ MOST_NEW
+  pub cells : length out.writes + out.scope.most ≤ out.cells
   pub claims : length out.writes + 1 ≤ out.claims
 
 -- ---- pins

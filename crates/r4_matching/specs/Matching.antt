@@ -58,7 +58,7 @@ pub record IsFirstDifference (had has : List CellSeen) (node : ℕ) (d : Differs
 -- ---- whether it is the task that is out
 
 -- It is the task that is out, of the command at this place of the script, but for its cells: with
--- the numbers that were drawn for it, and with what was seen for it.
+-- the numbers that were drawn for it, its scope, and with what was seen for it.
 pub record IsTaskOut (out : Out) (script : ScriptNo) (index : ℕ) (command : Command) (task : Task)
     : Type 0
   where
@@ -68,6 +68,7 @@ pub record IsTaskOut (out : Out) (script : ScriptNo) (index : ℕ) (command : Co
     pub index_is : task.index ≡ index
     pub command_is : task.command ≡ with_id out.numbers.oid command
     pub fresh : task.fresh ≡ out.numbers.fresh
+    pub scope : task.scope ≡ out.scope
     pub seen : (arc_value task.seen).parts.items ≡ (arc_value out.seen).parts.items
 
 -- it is that task, with the cells that it was given

@@ -16,7 +16,7 @@ use r4_turns::Out;
 #[derive(Clone, Copy, Debug, PartialEq, Eq)]
 pub enum Mismatch {
     /// It is not out: it has another number, script, place in the script, transaction or command,
-    /// or other numbers for new nodes, or something else was seen for it. Or its cells stand in
+    /// or other numbers for new nodes, or another scope, or something else was seen for it. Or its cells stand in
     /// another order than those that were kept for it, or one of them twice.
     Gone,
     /// It is out, and this is the smallest node whose cell is not the one that was kept for it,
@@ -60,6 +60,7 @@ fn is_out(out: &Out, script: ScriptNo, index: u32, command: &Command, task: &Tas
         && task.script == script
         && task.index == index
         && task.fresh == out.numbers.fresh
+        && task.scope == out.scope
         && task.command.is_job(command, out.numbers.oid)
         && is_same_seen(&task.seen, &out.seen)
 }

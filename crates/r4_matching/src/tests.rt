@@ -3,9 +3,9 @@
 use crate::{Differs, Mismatch, match_task};
 use r4_base::{Block, Key, Memory, NodeId, Oid, ScriptNo, TaskId, TxnNo};
 use r4_build::Task;
-use r4_cell::{Cell, Cells, Fresh, read_cell};
+use r4_cell::{Cell, Cells, Fresh, Root, read_cell};
 use r4_content::{Command, Seen};
-use r4_turns::{Nodes, Numbers, Out};
+use r4_turns::{Nodes, Numbers, Out, Scope};
 use std::alloc::Global;
 use std::sync::Arc;
 use std::test::Fail;
@@ -13,6 +13,16 @@ use std::test::Fail;
 const FRESH: Fresh = Fresh {
     next: 9223372036854775808,
     end: 9223372036854775809,
+};
+
+const SCOPE: Scope = Scope {
+    root: Root {
+        id: NodeId(22),
+        height: 2,
+    },
+    in_leaves: true,
+    in_extents: false,
+    most: 1,
 };
 
 // One cell, a data block of zeros but for the byte at place 100.
@@ -44,6 +54,7 @@ fn out_of(alloc: Global) -> Result<Out, Memory> {
         writes: one_cell(alloc, 7)?,
         pins: Nodes::from_vec(Vec::new(alloc)),
         seen: nothing_seen(alloc)?,
+        scope: SCOPE,
         numbers: Numbers {
             oid: Oid(42),
             fresh: FRESH,
@@ -64,6 +75,7 @@ fn task_of(alloc: Global, index: u32, byte: u8) -> Result<Task, Memory> {
         reads: Cells::new(alloc),
         writes: one_cell(alloc, byte)?,
         seen: nothing_seen(alloc)?,
+        scope: SCOPE,
         fresh: FRESH,
     })
 }

@@ -210,7 +210,6 @@ module _ {D : Type 0} (state : D → State) (c new : CoreSeen D) (s : ScriptNo) 
       by : (told : Asked) → is.told ≡ told → CannotBeTaken state d e c s.0 w × IsRead d e c new
       by (asked.Refused reply) at = let h = answer (asked.Refused reply) at in absurd (cc h.0)
       by (asked.Tall height) at = let h = answer (asked.Tall height) at in absurd (cc h.0)
-      by asked.InExtents at = let h = answer asked.InExtents at in absurd (cc h.0)
       by (asked.Ready ready) at = let h = answer (asked.Ready ready) at in absurd (cc h.1)
       by (asked.Sealed atom) at =
           let h = answer (asked.Sealed atom) at in
@@ -374,7 +373,6 @@ work_looked state c new s sound a is = by a is
             (refused_work (state c.dev) (state new.dev) c new s is.command is.servable.work is),
       ),
     )
-    by served.InExtents is = (can is.command is.servable, (sound, refl, is))
     by (served.Waits w) is = served_waits state c new s sound w is
     by (served.Out task) is = (can is.command is.servable, (sound, is))
 

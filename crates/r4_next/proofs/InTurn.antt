@@ -357,7 +357,6 @@ module _ {D : Type 0} (state : D → State) (old : CoreSeen D) where
   takes_served new (taken.Work task) is = is
   takes_served new (taken.Replied script) is = is
   takes_served new (taken.Flush atom) is = is
-  takes_served new (taken.InExtents script) is = is
   takes_served new (taken.Wait w) is = absurd is.done
   takes_served new taken.Finished is = absurd is.done
 

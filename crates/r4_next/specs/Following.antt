@@ -23,7 +23,6 @@ what_follows (Some x) = next.Work
 -- what is found of a script whose next command, work, was served so
 abbrev pub looked_as : ScriptNo → Served → Looked
 looked_as s served.Refused = looked.Takes (taken.Replied s)
-looked_as s served.InExtents = looked.Takes (taken.InExtents s)
 looked_as s (served.Waits why) = looked.Waits why
 looked_as s (served.Out task) = looked.Takes (taken.Work task)
 

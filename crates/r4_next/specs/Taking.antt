@@ -13,8 +13,9 @@ use Rattle.r4_history.specs.declared.why.Why.{Why}
 use Rattle.r4_served.specs.r4_kept.Steps.{HasBegun, answered, ended, ended_last}
 use Rattle.r4_served.specs.r4_kept.View.{CoreSeen, tables_of}
 use Rattle.r4_outside.specs.Device.{State}
-use Rattle.r4_served.specs.r4_reaching.Answers.{IsReach, IsSamePool}
-use Rattle.r4_served.specs.r4_reaching.declared.reached.Reach.{Reach}
+use Rattle.r4_served.specs.r4_extent_reaching.Answers.{IsReach}
+use Rattle.r4_served.specs.r4_reaching.Answers.{IsSamePool}
+use Rattle.r4_served.specs.r4_extent_reaching.declared.reached.Reach.{Reach}
 use Rattle.r4_served.specs.r4_ready.Readiness.{parts_of}
 use Rattle.r4_served.specs.r4_ready.Rooms.{HasMoreRoom}
 use Rattle.r4_served.specs.r4_search.Keeping.{Shared, keeping_state}
@@ -102,8 +103,6 @@ IsDoneFor d e old new s (taken.Work task) =
     (old.broken ≡ None) × IsServed d e old new s (served.Out task)
 IsDoneFor d e old new s (taken.Replied script) = (script ≡ s) × IsReplied d e old new s
 IsDoneFor d e old new s (taken.Flush atom) = AsksForFlush (tables_of old) s.0 atom × (new ≡ old)
-IsDoneFor d e old new s (taken.InExtents script) =
-    (old.broken ≡ None) × (script ≡ s) × IsServed d e old new s served.InExtents
 IsDoneFor d e old new s t = ⊥
 
 -- ---- one script

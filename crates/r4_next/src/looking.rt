@@ -191,7 +191,6 @@ fn looked_as(script: ScriptNo, served: Served) -> Looked
 {
     match served {
         Served::Refused => Looked::Takes(Taken::Replied(script)),
-        Served::InExtents => Looked::Takes(Taken::InExtents(script)),
         Served::Waits { why } => Looked::Waits(why),
         Served::Out { task } => Looked::Takes(Taken::Work(task)),
     }

@@ -17,9 +17,6 @@ pub enum Taken {
     Wait(Why),
     /// All scripts are finished.
     Finished,
-    /// The next command of this script touches a body that stands in extents. Nothing is done for
-    /// such a command yet.
-    InExtents(ScriptNo),
 }
 
 /// What is found of one script.

@@ -2,6 +2,7 @@ pub mod Reaching
 pub mod Gathering
 pub mod Answers
 -- what crates above name by way of this one
+pub use Rattle.r4_bodies.specs as r4_bodies
 pub use Rattle.r4_spared.specs.r4_build
 pub use Rattle.r4_touching.specs.r4_gather
 pub use Rattle.r4_judging.specs as r4_judging

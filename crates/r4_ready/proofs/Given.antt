@@ -12,42 +12,46 @@ use Rattle.r4_base.specs.Key.{rank}
 use Rattle.r4_base.specs.Tree.{Name, Node}
 use Rattle.r4_base.specs.Value.{Value}
 use Rattle.r4_taking.specs.r4_build.Building.{CanBuild, HaveLawfulKeys, most_new}
+use Rattle.r4_taking.specs.r4_build.Built.{IsBuildable}
 use Rattle.r4_serve.specs.r4_buffer.Seen.{EntrySeen, buffered, is_captured, is_captured_by}
 use Rattle.r4_serve.specs.r4_cell.Patch.{by_name, root_of_pair}
 use Rattle.r4_serve.specs.r4_cell.Seen.{CellSeen, node_of}
 use Rattle.r4_serve.proofs.r4_cell.NamesBelow.{names_below}
-use Rattle.r4_content.specs.Edited.{Pairs, changed, is_in}
+use Rattle.r4_content.specs.Edited.{Intervals, Pairs, changed, is_in}
 use Rattle.r4_content.specs.Fields.{HasBytePaths}
 use Rattle.r4_content.specs.Held.{pairs_of}
 use Rattle.r4_content.specs.declared.command.Command.{Command}
 use Rattle.r4_serve.specs.r4_history.Drawn.{numbers_of}
 use Rattle.r4_serve.specs.r4_leaf_edits.Made.{spread_keys}
 use Rattle.r4_outside.specs.Device.{State}
-use Rattle.r4_serve.proofs.r4_patch.Members.{found}
+use Rattle.r4_serve.proofs.r4_patch.Members.{distinct, found, there}
 use Rattle.r4_serve.specs.r4_path.Nodes.{IsPointable}
 use Rattle.r4_serve.specs.r4_path.Steps.{IsFree}
 use Rattle.r4_serve.specs.r4_reach.Answer.{IsReachOf}
 use Rattle.r4_serve.specs.r4_reach.Leaves.{LieInLeaves, most_of}
-use Rattle.r4_serve.specs.r4_reach.Needs.{Ask, demand_on}
+use Rattle.r4_serve.specs.r4_reach.Needs.{Ask, demand_of, demand_on}
 use Rattle.r4_serve.specs.r4_reach.Demand.{Demand}
 use Rattle.r4_serve.specs.r4_reach.Reach.{IsRead, IsWritten}
-use Rattle.r4_serve.specs.r4_reach.Touched.{body_on, edits_on, reads_on}
+use Rattle.r4_serve.specs.r4_reach.Touched.{body_on, changes_on, edits_on, reads_on}
 use Rattle.r4_serve.proofs.r4_reaching.Made.{none_spread}
 use Rattle.r4_serve.specs.r4_judging.Judging.{IsSound}
+use Rattle.r4_serve.specs.r4_extent_reaching.Answers.{LiesInLeaves}
 use Rattle.r4_serve.specs.declared.asked.Ready.{Ready}
 use Rattle.r4_serve.specs.r4_spared.Spared.{HasNumbers, MayStandAll}
 use Rattle.r4_serve.proofs.r4_spared.Answered.{answer_builds}
-use Rattle.r4_serve.proofs.r4_spared.Spared.{asked_in_leaves}
+use Rattle.r4_serve.proofs.r4_spared.Spared.{asked_in_leaves, own_changes}
 use Rattle.r4_taking.proofs.r4_suited.Cells.{reach_lawful}
 use Rattle.r4_serve.specs.r4_turns.Turns.{IsScript, turn_at}
 use Rattle.r4_serve.specs.r4_turns.declared.out.Numbers.{Numbers}
 use Rattle.r4_serve.specs.r4_turns.declared.out.Out.{Out}
+use Rattle.r4_serve.specs.r4_turns.declared.out.Scope.{Scope}
+use Rattle.r4_serve.specs.r4_turns.declared.out.TheConstants.{MOST_NEW}
 use Rattle.r4_taking.specs.r4_kept.Cells.{IsName}
 use Rattle.r4_taking.specs.r4_kept.Kept.{IsKept}
 use Rattle.r4_taking.specs.r4_kept.Naming.{Naming}
 use Rattle.r4_taking.specs.r4_kept.TasksOut.{IsGiven}
 use Rattle.r4_taking.specs.r4_kept.View.{CoreSeen, blocks_of}
-use Rattle.r4_ready.specs.Readiness.{AreGotten, IsOfReach, IsReady}
+use Rattle.r4_ready.specs.Readiness.{AreGotten, IsOfReach, IsReady, scope_of}
 use Rattle.r4_ready.proofs.MetCells.{accepted, is_captured_one, is_reach, low, on_disk_low}
 
 free_fixed : (count b : ℕ) → b < count → is_fixed count b ≡ false → is_fixed (2 ^ 64) b ≡ false
@@ -55,7 +59,7 @@ free_fixed count b lt h = grind (arith, nat_tests)
 
 module _ {D : Type 0} (r : Naming) (d e : State) (c : CoreSeen D) (k : IsKept r d c) (x : Command) (ready : Ready)
     (is : IsReady d e c x ready) (s : ℕ) (is_script : IsScript c.turns s) (out : Out)
-    (of_reach : IsOfReach ready.reach out) (gotten : AreGotten c s out.numbers) where
+    (of_reach : IsOfReach c.tree ready.reach out) (gotten : AreGotten c s out.numbers) where
   abbrev met : List CellSeen
   met = ready.reach.met
 
@@ -174,8 +178,8 @@ module _ {D : Type 0} (r : Naming) (d e : State) (c : CoreSeen D) (k : IsKept r 
     seen_is : answer.seen ≡ pairs_of ready.reach.seen
     seen_is = (is_reach r d e c k x ready is).seen
 
-    in_leaves : answer.in_extents ≡ false
-    in_leaves = (is_reach r d e c k x ready is).in_leaves
+    kind_is : answer.in_extents ≡ ready.reach.in_extents
+    kind_is = (is_reach r d e c k x ready is).kind
 
     stand : MayStandAll met
     stand = record {
@@ -183,20 +187,6 @@ module _ {D : Type 0} (r : Naming) (d e : State) (c : CoreSeen D) (k : IsKept r 
       whole = λ y has. (All-contains IsSound met y (is_reach r d e c k x ready is).sound has).whole;
       names = (is_reach r d e c k x ready is).all.names;
     }
-
-    tails : spread_keys (body_on x answer.seen answer.in_extents) ≡ None
-    tails =
-        subst (λ (v : Pairs). spread_keys (body_on x v answer.in_extents) ≡ None) (sym seen_is)
-        (subst (λ (b : Bool). spread_keys (body_on x (pairs_of ready.reach.seen) b) ≡ None) (sym in_leaves)
-        (none_spread (body_on x (pairs_of ready.reach.seen) false) (is_reach r d e c k x ready is).body))
-
-    lie : LieInLeaves (by_name met) (is_in (changed (edits_on x answer.seen)))
-    lie =
-        subst (λ (v : Pairs). LieInLeaves (by_name met) (is_in (changed (edits_on x v)))) (sym seen_is)
-        (is_reach r d e c k x ready is).lie
-
-    keys : HaveLawfulKeys (edits_on x answer.seen)
-    keys = subst (λ (v : Pairs). HaveLawfulKeys (edits_on x v)) (sym seen_is) (is_reach r d e c k x ready is).keys
 
     rises_low : IsSome ready.reach.root → c.tree.height < 8
     rises_low some = elim (cases_lt c.tree.height 8) [
@@ -213,22 +203,73 @@ module _ {D : Type 0} (r : Naming) (d e : State) (c : CoreSeen D) (k : IsKept r 
       numbers = of_reach.numbers;
     }
 
-    can_build : CanBuild (body_on x answer.seen answer.in_extents) (edits_on x answer.seen)
-        (reads_on x answer.seen answer.in_extents) (by_name met) (root_of_pair c.tree) out.numbers.fresh
-        ready.reach.writes
-    can_build =
-        answer_builds c.tree x met ready.reach.reads ready.reach.writes ready.reach.root answer stand paths tails lie
-        out.numbers.fresh k.cells.height.1 rises_low numbers keys
+    module _ (leaves : ready.reach.in_leaves ≡ true) where
+      lies : LiesInLeaves x ready.reach
+      lies = (is_reach r d e c k x ready is).leaves leaves
 
-    most_is : most_new (body_on x answer.seen answer.in_extents) (edits_on x answer.seen)
-        (reads_on x answer.seen answer.in_extents) (by_name met) (root_of_pair c.tree) ready.reach.writes
-        ≡ ready.reach.most
-    most_is =
-        ap (λ (q : Demand Ask). most_of q (by_name met) (root_of_pair c.tree) ready.reach.writes)
-        (sym (asked_in_leaves x answer.seen answer.in_extents tails)
-        ∙ ap (λ (v : Pairs). demand_on x v answer.in_extents) seen_is
-        ∙ ap (demand_on x (pairs_of ready.reach.seen)) in_leaves)
-        ∙ sym (is_reach r d e c k x ready is).most
+      tails : spread_keys (body_on x answer.seen answer.in_extents) ≡ None
+      tails =
+          subst (λ (v : Pairs). spread_keys (body_on x v answer.in_extents) ≡ None) (sym seen_is)
+          (subst (λ (b : Bool). spread_keys (body_on x (pairs_of ready.reach.seen) b) ≡ None) (sym kind_is)
+          (none_spread (body_on x (pairs_of ready.reach.seen) ready.reach.in_extents) lies.body))
+
+      lie : LieInLeaves (by_name met) (is_in (changed (edits_on x answer.seen)))
+      lie = subst (λ (v : Pairs). LieInLeaves (by_name met) (is_in (changed (edits_on x v)))) (sym seen_is) lies.lie
+
+      own : changes_on x (pairs_of ready.reach.seen) ready.reach.in_extents ≡ changed (edits_on x answer.seen)
+      own =
+          sym (ap (changes_on x (pairs_of ready.reach.seen)) kind_is)
+          ∙ sym (ap (λ (v : Pairs). changes_on x v answer.in_extents) seen_is)
+          ∙ own_changes (body_on x answer.seen answer.in_extents) (changed (edits_on x answer.seen)) tails
+
+      keys : HaveLawfulKeys (edits_on x answer.seen)
+      keys j on =
+          (is_reach r d e c k x ready is).keys j (ap (λ (rs : Intervals). is_in rs j) own ∙ on)
+
+      can_build : CanBuild (body_on x answer.seen answer.in_extents) (edits_on x answer.seen)
+          (reads_on x answer.seen answer.in_extents) (by_name met) (root_of_pair c.tree) out.numbers.fresh
+          ready.reach.writes
+      can_build =
+          answer_builds c.tree x met ready.reach.reads ready.reach.writes ready.reach.root answer stand paths tails lie
+          out.numbers.fresh k.cells.height.1 rises_low numbers keys
+
+      asked : demand_of (body_on x answer.seen answer.in_extents) (edits_on x answer.seen)
+          (reads_on x answer.seen answer.in_extents) (changed (edits_on x answer.seen))
+          ≡ demand_on x (pairs_of ready.reach.seen) ready.reach.in_extents
+      asked =
+          sym (asked_in_leaves x answer.seen answer.in_extents tails)
+          ∙ ap (λ (v : Pairs). demand_on x v answer.in_extents) seen_is
+          ∙ ap (demand_on x (pairs_of ready.reach.seen)) kind_is
+
+      few_come : most_new (body_on x answer.seen answer.in_extents) (edits_on x answer.seen)
+          (reads_on x answer.seen answer.in_extents) (by_name met) (root_of_pair c.tree) ready.reach.writes
+          ≤ ready.reach.most
+      few_come =
+          let same = ap (λ (q : Demand Ask). most_of q (by_name met) (root_of_pair c.tree) ready.reach.writes) asked in
+          let most = (is_reach r d e c k x ready is).most in
+          omega (arith, same, most)
+
+    buildable : IsBuildable x answer.seen (scope_of c.tree ready.reach) (by_name met) (root_of_pair c.tree)
+        out.numbers.fresh ready.reach.writes
+    buildable = record {
+      root = refl;
+      height = k.cells.height.1;
+      cells_in = record {
+        part = answer.part;
+        stand = λ y at. there met y (distinct met stand.names) ((answer.written y).0 at).0;
+        free = free;
+        root_number = numbers.root_number;
+      };
+      names = numbers.names;
+      unplaced = numbers.unplaced;
+      numbers = numbers.numbers;
+      leaves = λ leaves. subst (λ (b : Bool). CanBuild (body_on x answer.seen b) (edits_on x answer.seen)
+          (reads_on x answer.seen b) (by_name met) (root_of_pair c.tree) out.numbers.fresh ready.reach.writes) kind_is
+          (can_build leaves);
+      few = λ leaves. subst (λ (b : Bool). most_new (body_on x answer.seen b) (edits_on x answer.seen)
+          (reads_on x answer.seen b) (by_name met) (root_of_pair c.tree) ready.reach.writes ≤ ready.reach.most) kind_is
+          (few_come leaves);
+    }
 
     reach_given : IsReachOf c.tree x met out.reads out.writes ready.reach.root
     reach_given = record {
@@ -256,15 +297,15 @@ module _ {D : Type 0} (r : Naming) (d e : State) (c : CoreSeen D) (k : IsKept r 
       seen = seen_is ∙ ap pairs_of (sym of_reach.seen);
       lawful = reach_lawful c.tree x met ready.reach.reads ready.reach.writes ready.reach.root answer
           (λ i z lt. ((is_reach r d e c k x ready is).sound i z lt).stands);
-      can = subst (λ (l : List CellSeen). CanBuild (body_on x answer.seen answer.in_extents)
-          (edits_on x answer.seen) (reads_on x answer.seen answer.in_extents) (by_name met) (root_of_pair c.tree)
-          out.numbers.fresh l) (sym of_reach.writes) can_build;
+      kind = kind_is ∙ sym (ap (λ (z : Scope). z.in_extents) of_reach.scope);
+      can = subst (λ (z : Scope). IsBuildable x answer.seen z (by_name met) (root_of_pair c.tree) out.numbers.fresh
+          out.writes) (sym of_reach.scope)
+          (subst (λ (l : List CellSeen). IsBuildable x answer.seen (scope_of c.tree ready.reach) (by_name met)
+          (root_of_pair c.tree) out.numbers.fresh l) (sym of_reach.writes) buildable);
       top = λ y has same. refl;
+      small = subst (λ (z : Scope). z.most ≤ MOST_NEW) (sym of_reach.scope) of_reach.few;
       cells =
-          subst (λ (l : List CellSeen). length l
-          + most_new (body_on x answer.seen answer.in_extents) (edits_on x answer.seen)
-          (reads_on x answer.seen answer.in_extents) (by_name met) (root_of_pair c.tree) l ≤ out.cells)
-          (sym of_reach.writes)
-          (let same = most_is in let room = of_reach.cells in omega (arith, same, room));
+          subst (λ (l : List CellSeen). length l + out.scope.most ≤ out.cells) (sym of_reach.writes)
+          (subst (λ (z : Scope). length ready.reach.writes + z.most ≤ out.cells) (sym of_reach.scope) of_reach.cells);
       claims = subst (λ (l : List CellSeen). length l + 1 ≤ out.claims) (sym of_reach.writes) of_reach.claims;
     }

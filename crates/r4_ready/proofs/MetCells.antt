@@ -17,8 +17,8 @@ use Rattle.r4_serve.specs.r4_commit.Planned.{CommitSeen}
 use Rattle.r4_content.specs.declared.command.Command.{Command}
 use Rattle.r4_serve.specs.r4_gather.Asking.{StaysOver}
 use Rattle.r4_outside.specs.Device.{State, TellsReads}
-use Rattle.r4_serve.specs.r4_reaching.Answers.{IsReach}
-use Rattle.r4_serve.specs.r4_reaching.declared.reached.Reach.{Reach}
+use Rattle.r4_serve.specs.r4_extent_reaching.Answers.{IsReach}
+use Rattle.r4_serve.specs.r4_extent_reaching.declared.reached.Reach.{Reach}
 use Rattle.r4_serve.specs.r4_search.Keeping.{keeping_state}
 use Rattle.r4_serve.specs.r4_search.OnDevice.{block_there, is_image}
 use Rattle.r4_serve.specs.r4_search.Pool.{IsRead, PoolState}

@@ -3,6 +3,7 @@ use Rattle.std.specs.Prelude.{◌≡◌, ℕ, ◌+◌, ◌*◌, ◌^◌, ◌<◌
 use Rattle.std.specs.Arc.{arc_value}
 use Rattle.r4_serve.specs.r4_cell.Patch.{HaveNames, by_name, root_of_pair}
 use Rattle.r4_serve.specs.r4_cell.Seen.{CellSeen}
+use Rattle.r4_serve.specs.r4_cell.declared.change.Root.{Root}
 use Rattle.r4_serve.specs.r4_commit.Planned.{CommitSeen}
 use Rattle.r4_content.specs.declared.command.Command.{Command}
 use Rattle.r4_serve.specs.r4_history.Drawn.{numbers_of}
@@ -10,7 +11,7 @@ use Rattle.r4_serve.specs.r4_history.Serving.{IsSealedOwner}
 use Rattle.r4_locks.specs.Locks.{conflict_of}
 use Rattle.r4_outside.specs.Device.{State}
 use Rattle.r4_serve.specs.r4_patch.Part.{IsPart}
-use Rattle.r4_serve.specs.r4_reaching.declared.reached.Reach.{Reach}
+use Rattle.r4_serve.specs.r4_extent_reaching.declared.reached.Reach.{Reach}
 use Rattle.r4_serve.specs.Serving.{Asks, PartsSeen, need_in}
 use Rattle.r4_serve.specs.declared.asked.Asked.TheVariants as asked
 use Rattle.r4_serve.specs.declared.asked.Ready.{Ready}
@@ -18,6 +19,8 @@ use Rattle.r4_taking.specs.GoingOut.{IsMet}
 use Rattle.r4_serve.specs.r4_turns.Turns.{IsScript, turn_at}
 use Rattle.r4_serve.specs.r4_turns.declared.out.Numbers.{Numbers}
 use Rattle.r4_serve.specs.r4_turns.declared.out.Out.{Out}
+use Rattle.r4_serve.specs.r4_turns.declared.out.Scope.{Scope}
+use Rattle.r4_serve.specs.r4_turns.declared.out.TheConstants.{MOST_NEW}
 use Rattle.r4_taking.specs.r4_kept.TasksOut.{IsGiven}
 use Rattle.r4_taking.specs.r4_kept.View.{CoreSeen, blocks_of}
 use Rattle.r4_taking.specs.r4_kept.declared.parts.Commit.{Commit}
@@ -50,12 +53,24 @@ pub record AreGotten {D : Type 0} (c : CoreSeen D) (s : ℕ) (n : Numbers) : Typ
   pub kept : (k : Numbers) → numbers_of (turn_at c.turns s) ≡ Some k → n ≡ k
   pub drawn : numbers_of (turn_at c.turns s) ≡ None → c.numbers.next_name ≤ n.fresh.next
 
+-- what is known of a reach in this tree besides its cells
+abbrev pub scope_of : Root → Reach → Scope
+scope_of tree r = record {
+  root = tree;
+  in_leaves = r.in_leaves;
+  in_extents = r.in_extents;
+  most = r.most;
+}
+
 -- The task is given the reach and what was seen, with 64 numbers for each cell that it writes, and
--- room for the cells that it captures and that may come, for a charge and its claims.
-pub record IsOfReach (r : Reach) (out : Out) : Type 0 where
+-- room for the cells that it captures and that may come, of which there are few, for a charge and
+-- its claims.
+pub record IsOfReach (tree : Root) (r : Reach) (out : Out) : Type 0 where
   pub reads : out.reads ≡ r.reads
   pub writes : out.writes ≡ r.writes
   pub seen : arc_value out.seen ≡ r.seen
+  pub scope : out.scope ≡ scope_of tree r
+  pub few : r.most ≤ MOST_NEW
   pub least : 2 ^ 63 ≤ out.numbers.fresh.next
   pub most : out.numbers.fresh.end < 2 ^ 64
   pub numbers : out.numbers.fresh.next + 64 * length r.writes ≤ out.numbers.fresh.end
@@ -69,7 +84,7 @@ pub record MayStart
     {D : Type 0} (d : State) (c : CoreSeen D) (x : Command) (ready : Ready) : Type 0
   where
     pub sound : c.broken ≡ None
-    pub given : (s : ℕ) → IsScript c.turns s → (out : Out) → IsOfReach ready.reach out
+    pub given : (s : ℕ) → IsScript c.turns s → (out : Out) → IsOfReach c.tree ready.reach out
         → AreGotten c s out.numbers → IsGiven c.tree x out
     pub met : (y : CellSeen) → Contains ready.reach.met y → IsMet d c y
     pub among : (y : CellSeen) → Contains (ready.reach.reads ++ ready.reach.writes) y

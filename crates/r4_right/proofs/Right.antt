@@ -14,14 +14,13 @@ use Rattle.r4_base.specs.Value.{Content, Value}
 use Rattle.r4_base.specs.declared.things.AtomNo.{AtomNo}
 use Rattle.r4_base.specs.declared.things.ScriptNo.{ScriptNo}
 use Rattle.r4_base.specs.declared.things.TxnNo.{TxnNo}
-use Rattle.r4_applied.specs.r4_build.Building.{CanBuild}
-use Rattle.r4_applied.specs.r4_build.Built.{BuiltSeen}
+use Rattle.r4_applied.specs.r4_build.Built.{BuiltSeen, IsBuildable}
 use Rattle.r4_applied.specs.r4_build.declared.task.Task.{Task}
 use Rattle.r4_freed.specs.r4_cell.Patch.{by_name, root_of_pair}
 use Rattle.r4_freed.specs.r4_cell.Seen.{CellSeen}
 use Rattle.r4_freed.specs.r4_cell.declared.change.Fresh.{Fresh}
 use Rattle.r4_content.specs.Counts.{born, gone}
-use Rattle.r4_content.specs.Edited.{Edits}
+use Rattle.r4_content.specs.Edited.{Pairs}
 use Rattle.r4_content.specs.Fields.{HasBytePaths, NamesUnused}
 use Rattle.r4_content.specs.Held.{pairs_of}
 use Rattle.r4_content.specs.Lawful.{RoomFor}
@@ -60,7 +59,6 @@ use Rattle.r4_freed.specs.r4_kept.declared.parts.Commit.{Commit}
 use Rattle.r4_outside.specs.Device.{State}
 use Rattle.r4_applied.specs.r4_patch.Joining.{ids_of, patch_of_change}
 use Rattle.r4_applied.specs.r4_path.Steps.{IsFree}
-use Rattle.r4_applied.specs.r4_reach.Touched.{body_on, edits_on, reads_on}
 use Rattle.r4_applied.specs.r4_sets.Change.{Applies, IsFree as IsFreeFor}
 use Rattle.r4_applied.specs.r4_sets.Session.{IsTreeOf, Session, all_done}
 use Rattle.r4_applied.proofs.r4_sets.Applied.{memory_stands}
@@ -74,6 +72,7 @@ use Rattle.r4_applied.specs.r4_trace.declared.entry.Entry.{Entry}
 use Rattle.r4_applied.specs.r4_trace.declared.entry.Entry.TheVariants.{Done}
 use Rattle.r4_freed.specs.r4_turns.Turns.{answered_at, turn_at}
 use Rattle.r4_freed.specs.r4_turns.declared.out.Out.{Out}
+use Rattle.r4_freed.specs.r4_turns.declared.out.Scope.{Scope}
 use Rattle.r4_freed.specs.r4_turns.declared.turn.Open.{Open}
 use Rattle.r4_right.specs.Built.{IsBuiltOf}
 
@@ -94,6 +93,7 @@ given_task task out x = record task {
   reads = out.reads;
   writes = out.writes;
   fresh = out.numbers.fresh;
+  scope = out.scope;
 }
 
 is_given : (out : Out) (x : Command) (y : BuiltSeen) → IsBuiltOf out x y → y.task ≡ given_task y.task out x
@@ -102,6 +102,8 @@ is_given out x y h =
     ∙ ap (λ (l : List CellSeen). record y.task { command = x; reads = l }) h.reads
     ∙ ap (λ (l : List CellSeen). record y.task { command = x; reads = out.reads; writes = l }) h.writes
     ∙ ap (λ (f : Fresh). record y.task { command = x; reads = out.reads; writes = out.writes; fresh = f }) h.fresh
+    ∙ ap (λ (z : Scope). record y.task { command = x; reads = out.reads; writes = out.writes; fresh = out.numbers.fresh; scope = z })
+    h.scope
 
 -- ---- a core
 
@@ -124,9 +126,9 @@ module _ {D : Type 0} (r : Naming) (d : State) (c : CoreSeen D) (k : IsKept r d 
   task_is = subst (IsTaskOf g.root g.met g.rises) (sym (is_given out x y of_it)) (record {
     reach = g.reach;
     seen = seen;
-    can = subst (λ (e : Edits). CanBuild (body_on x g.reach.seen g.reach.in_extents) e
-        (reads_on x g.reach.seen g.reach.in_extents) (by_name g.met) (root_of_pair g.root) out.numbers.fresh
-        out.writes) (ap (edits_on x) seen) g.can;
+    kind = g.kind;
+    can = subst (λ (z : Pairs). IsBuildable x z out.scope (by_name g.met) (root_of_pair g.root) out.numbers.fresh
+        out.writes) seen g.can;
   })
 
   served : IsServed (tables_of c) s.0 out

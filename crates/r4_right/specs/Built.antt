@@ -7,7 +7,7 @@ use Rattle.r4_content.specs.declared.command.Command.{Command}
 use Rattle.r4_freed.specs.r4_turns.declared.out.Out.{Out}
 
 -- It was built of this command, of the cells that the task was given and what was seen for it, with
--- its numbers.
+-- its numbers, within its scope.
 pub record IsBuiltOf (out : Out) (x : Command) (y : BuiltSeen) : Type 0 where
   pub built : IsBuilt y
   pub command : y.task.command ≡ x
@@ -15,3 +15,4 @@ pub record IsBuiltOf (out : Out) (x : Command) (y : BuiltSeen) : Type 0 where
   pub writes : y.task.writes ≡ out.writes
   pub seen : pairs_of (arc_value y.task.seen) ≡ pairs_of (arc_value out.seen)
   pub fresh : y.task.fresh ≡ out.numbers.fresh
+  pub scope : y.task.scope ≡ out.scope

@@ -13,6 +13,7 @@ pub use Rattle.r4_core.specs.r4_open
 pub use Rattle.r4_core.specs.r4_others
 pub use Rattle.r4_core.specs.r4_patch
 pub use Rattle.r4_core.specs.r4_reach
+pub use Rattle.r4_core.specs.r4_extent_reaching
 pub use Rattle.r4_core.specs.r4_reaching
 pub use Rattle.r4_core.specs.r4_ready
 pub use Rattle.r4_core.specs.r4_rooms

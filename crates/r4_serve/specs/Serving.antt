@@ -19,8 +19,9 @@ use Rattle.r4_history.specs.declared.why.Why.{Why}
 use Rattle.r4_history.specs.declared.why.Why.TheVariants as why
 use Rattle.r4_locks.specs.Locks.{LocksSeen}
 use Rattle.r4_outside.specs.Device.{State}
-use Rattle.r4_reaching.specs.Answers.{IsReach, IsSamePool, StopsReach, TouchesExtent}
-use Rattle.r4_reaching.specs.declared.reached.Reach.{Reach}
+use Rattle.r4_extent_reach.specs.r4_reaching.Answers.{IsSamePool}
+use Rattle.r4_extent_reach.specs.r4_extent_reaching.Answers.{IsReach, StopsReach}
+use Rattle.r4_extent_reach.specs.r4_extent_reaching.declared.reached.Reach.{Reach}
 use Rattle.r4_search.specs.Keeping.{Shared, keeping_state}
 use Rattle.r4_search.specs.OnDevice.{device_state}
 use Rattle.r4_search.specs.Path.{root_name}
@@ -69,15 +70,14 @@ read_over p d = device_state (reading_places (root_name p.root) p.buffer p.block
 -- What a command reaches there, over the cells that were met. The pool afterwards is over the same
 -- tree.
 pub record Reaches
-    (d e : State) (p : PartsSeen) (c : Command) (r : Result (Option Reach) FetchFault)
+    (d e : State) (p : PartsSeen) (c : Command) (r : Result Reach FetchFault)
     : Type 0
   where
     pub after : PoolState
     pub met : List (ℕ × Shared)
     pub same : IsSamePool d e (read_over p d) after p.root met
     pub is : MatchResult r
-        (λ found. MatchOption found (TouchesExtent (keeping_state after true met) c)
-        (IsReach (keeping_state after true met) p.root c))
+        (IsReach (keeping_state after true met) p.root c)
         (StopsReach (keeping_state after true met) p.root c)
 
 -- ---- what it needs
@@ -142,7 +142,6 @@ pub record IsStrayReply (p : PartsSeen) (xs : List CellSeen) (reply : Reply) : T
 -- sealed atom or a hold stands in the way; the tree would have to grow; else it is ready.
 abbrev pub IsWeighed : PartsSeen → Reach → Asked → Type 0
 IsWeighed p r (asked.Refused reply) = ⊥
-IsWeighed p r asked.InExtents = ⊥
 IsWeighed p r (asked.Sealed atom) = IsInTheWay p.atoms p.locks (need_in r) (why.Sealed atom)
 IsWeighed p r (asked.Busy node holder) =
     IsInTheWay p.atoms p.locks (need_in r) (why.Held node holder)
@@ -164,7 +163,6 @@ abbrev pub IsAskedOf : PoolState → PartsSeen → Command → Asked → Type 0
 IsAskedOf q p c (asked.Refused reply) =
     IsStoppedWith q p c reply
     ⊎ ((r : Reach) × IsReach q p.root c r × IsDecided p r (asked.Refused reply))
-IsAskedOf q p c asked.InExtents = TouchesExtent q c
 IsAskedOf q p c a = (r : Reach) × IsReach q p.root c r × IsDecided p r a
 
 -- The cells that were met are those of the tree of all atoms, as the cells in memory and the device
@@ -176,7 +174,6 @@ pub record Asks (d e : State) (p : PartsSeen) (c : Command) (a : Asked) : Type 0
   pub is : IsAskedOf (keeping_state after true met) p c a
 
 -- the answer where this was found
-abbrev pub IsAnswerTo : PartsSeen → Result (Option Reach) FetchFault → Asked → Type 0
-IsAnswerTo p (Ok (Some r)) a = IsDecided p r a
-IsAnswerTo p (Ok None) a = a ≡ asked.InExtents
+abbrev pub IsAnswerTo : PartsSeen → Result Reach FetchFault → Asked → Type 0
+IsAnswerTo p (Ok r) a = IsDecided p r a
 IsAnswerTo p (Err e) a = (reply : Reply) × (a ≡ asked.Refused reply) × IsReplyTo e reply

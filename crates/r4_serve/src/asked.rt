@@ -3,7 +3,7 @@
 use crate::need::NodesNeeded;
 use r4_base::{AtomNo, NodeId, TaskId};
 use r4_content::Reply;
-use r4_reaching::Reach;
+use r4_extent_reach::Reach;
 
 /// What becomes of a command before its work (docs/core.md, "Asking").
 #[derive(Drop)]
@@ -12,9 +12,6 @@ pub enum Asked {
     /// has a block that no cell of a sound image has, since an atom took its cell away or the
     /// commit under way writes there: `Damaged`, with the first such block.
     Refused { reply: Reply },
-    /// It touches a body that stands in extents. What such a command reads and writes is not told
-    /// yet.
-    InExtents,
     /// It has to wait: this atom is sealed, and owns a cell that it reads or writes.
     Sealed { atom: AtomNo },
     /// It has to wait: another task holds this cell, in a mode that conflicts.

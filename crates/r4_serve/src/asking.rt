@@ -15,17 +15,17 @@ use r4_base::{MOST_LEVELS, Memory};
 use r4_buffer::Reading;
 use r4_content::{Command, Reply};
 use r4_outside::Device;
-use r4_reaching::{Reach, reach_in_leaves};
+use r4_extent_reach::{Reach, reach};
 use r4_search::FetchFault;
 use std::alloc::Global;
 
 /// What becomes of a command, the first of these that holds: it is refused, since what it reads
-/// ended at a block, or has a block that no cell of a volume has; it touches a body that
-/// stands in extents; it waits for a sealed atom that owns a cell of its reach; it waits for a task
-/// that holds one in a mode that conflicts; the tree would have to grow, and is as high as it may
-/// be; else it may be worked at. Its reach is that in the tree of all atoms, as the cells in memory
-/// and the device have it. The device is read, no block of it twice, and nothing else changes.
-/// The only error is want of memory (docs/core.md, "Asking").
+/// ended at a block, or has a block that no cell of a volume has; it waits for a sealed atom that
+/// owns a cell of its reach; it waits for a task that holds one in a mode that conflicts; the tree
+/// would have to grow, and is as high as it may be; else it may be worked at. Its reach is that in
+/// the tree of all atoms, as the cells in memory and the device have it. The device is read, no
+/// block of it twice, and nothing else changes. The only error is want of memory (docs/core.md,
+/// "Asking").
 pub fn ask<D: Device>(
     alloc: Global,
     dev: &mut D,
@@ -68,14 +68,14 @@ fn reach_over<E: Device>(
     dev: E,
     parts: &Parts<'_>,
     command: &Command,
-) -> (E, Result<Option<Reach>, FetchFault>)
+) -> (E, Result<Reach, FetchFault>)
     requires can { CanAsk (E.state dev) (parts_seen parts.now) }
     requires paths { HasBytePaths command.now }
     ensures { Reaches (E.state dev) (E.state result.0) (parts_seen parts.now) command.now
         result.1 }
 {
     let pool = Reading::new(dev, parts.buffer, parts.root, parts.blocks);
-    let (pool, found) = reach_in_leaves(alloc, pool, &parts.root, command);
+    let (pool, found) = reach(alloc, pool, &parts.root, command);
     (pool.into_device(), found)
 }
 
@@ -83,13 +83,12 @@ fn reach_over<E: Device>(
 fn answer_to(
     alloc: Global,
     parts: &Parts<'_>,
-    found: Result<Option<Reach>, FetchFault>,
+    found: Result<Reach, FetchFault>,
 ) -> Result<Asked, Memory>
     ensures { IfOk result (IsAnswerTo (parts_seen parts.now) found) }
 {
     match found {
-        Ok(Some(reach)) => decide(alloc, parts, reach),
-        Ok(None) => Ok(Asked::InExtents),
+        Ok(reach) => decide(alloc, parts, reach),
         Err(fault) => Ok(Asked::Refused {
             reply: reply_to(fault)?,
         }),

@@ -12,4 +12,4 @@ pub use asking::ask;
 pub use need::{NodesNeeded, nodes_of};
 pub use parts::Parts;
 pub use r4_commit::{CommitPlan, step};
-pub use r4_reaching::Reach;
+pub use r4_extent_reach::Reach;

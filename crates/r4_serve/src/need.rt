@@ -9,7 +9,7 @@ ghost use Rattle.r4_serve.specs.Serving.{IsSealedOwnerOf, NoneSealed, need_in};
 use r4_atoms::Atoms;
 use r4_base::{AtomNo, Memory, NodeId};
 use r4_cell::Cell;
-use r4_reaching::Reach;
+use r4_extent_reach::Reach;
 use std::alloc::Global;
 use std::marker::Model;
 use std::sync::Arc;

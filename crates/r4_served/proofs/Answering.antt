@@ -76,7 +76,6 @@ module _ {D : Type 0} where
       → new.dev ≡ old.dev
   answer_dev old new s (asked.Refused reply) a is = refusal_dev old new s reply is.1
   answer_dev old new s (asked.Tall height) a is = refusal_dev old new s _ is.1
-  answer_dev old new s asked.InExtents a is = ap (λ (x : CoreSeen D). x.dev) is.1
   answer_dev old new s (asked.Sealed atom) a is = ap (λ (x : CoreSeen D). x.dev) is.1
   answer_dev old new s (asked.Busy node holder) a is = ap (λ (x : CoreSeen D). x.dev) is.1
   answer_dev old new s (asked.Ready ready) a is = absurd is
@@ -85,7 +84,6 @@ module _ {D : Type 0} where
       → IsAnswered mid new s told a → IsServedBy mid new s named draws told a
   served_by mid new s named draws (asked.Refused reply) a is = is
   served_by mid new s named draws (asked.Tall height) a is = is
-  served_by mid new s named draws asked.InExtents a is = is
   served_by mid new s named draws (asked.Sealed atom) a is = is
   served_by mid new s named draws (asked.Busy node holder) a is = is
   served_by mid new s named draws (asked.Ready ready) a is = absurd is

@@ -4,6 +4,7 @@ pub use Rattle.r4_take.specs.r4_buffer
 pub use Rattle.r4_take.specs.r4_core
 pub use Rattle.r4_take.specs.r4_kept
 pub use Rattle.r4_take.specs.r4_open
+pub use Rattle.r4_take.specs.r4_extent_reaching
 pub use Rattle.r4_take.specs.r4_reaching
 pub use Rattle.r4_take.specs.r4_ready
 pub use Rattle.r4_take.specs.r4_seal

@@ -69,7 +69,6 @@ abbrev pub IsAnswered :
 IsAnswered old new s (asked.Refused reply) a = (a ≡ served.Refused) × IsRefused old new s reply
 IsAnswered old new s (asked.Tall height) a =
     (a ≡ served.Refused) × IsRefused old new s (replies.Tall height)
-IsAnswered old new s asked.InExtents a = (a ≡ served.InExtents) × (new ≡ old)
 IsAnswered old new s (asked.Sealed atom) a =
     (a ≡ served.Waits (why.Sealed atom)) × (new ≡ old)
 IsAnswered old new s (asked.Busy node holder) a =

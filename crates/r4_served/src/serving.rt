@@ -19,8 +19,6 @@ use std::alloc::Global;
 pub enum Served {
     /// It is refused, and the trace tells the reply.
     Refused,
-    /// It touches a body that stands in extents. Nothing is done for such a command yet.
-    InExtents,
     /// It has to wait, and nothing is done.
     Waits { why: Why },
     /// It is out as this task.
@@ -72,7 +70,6 @@ fn answer<D: Device, R: Run>(
     match told {
         Asked::Refused { reply } => refuse(core, alloc, script, reply),
         Asked::Tall { height } => refuse(core, alloc, script, Reply::Tall { height }),
-        Asked::InExtents => Ok(Served::InExtents),
         Asked::Sealed { atom } => Ok(Served::Waits {
             why: Why::Sealed { atom },
         }),

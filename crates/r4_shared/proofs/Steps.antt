@@ -1,18 +1,15 @@
 -- What a step came to.
-use Rattle.std.proofs.Common.{◌≡◌, None, ap, inl, inr, subst, sym, ℕ, Result, Ok, Err, IfOk}
-use Rattle.std.specs.Prelude.{OnErr}
+use Rattle.std.proofs.Common.{◌≡◌, None, ap, inl, inr, subst, sym, ℕ}
 use Rattle.r4_atoms.specs.Atoms.{IsClosedAtom}
 use Rattle.r4_history.specs.Serving.{AsksForFlush}
 use Rattle.r4_history.specs.Tables.{IsOver}
 use Rattle.r4_shared.specs.Finishing.{AllAnswered}
 use Rattle.r4_base.specs.declared.things.AtomNo.{AtomNo}
-use Rattle.r4_base.specs.declared.things.ScriptNo.{ScriptNo}
 use Rattle.r4_apply.specs.r4_next.Taking.{Takes}
 use Rattle.r4_apply.specs.r4_next.declared.taken.Taken.TheVariants as taken
 use Rattle.r4_apply.specs.r4_kept.View.{CoreSeen, committing, tables_of}
 use Rattle.r4_outside.specs.Device.{State}
-use Rattle.r4_apply.specs.r4_ready.Rooms.{HasMoreRoom}
-use Rattle.r4_shared.specs.Stepping.{IsFlushedAs, IsNext, IsNextLeft, RefusesNext}
+use Rattle.r4_shared.specs.Stepping.{IsFlushedAs, IsNext}
 use Rattle.r4_shared.specs.declared.stepping.Next.{Next}
 
 module _ {D : Type 0} (state : D → State) (old mid : CoreSeen D) where
@@ -28,18 +25,6 @@ module _ {D : Type 0} (state : D → State) (old mid : CoreSeen D) where
       → IsFlushedAs mid new atom n → IsNext state old new n
   next_flush new atom n takes (inl f) = subst (IsNext state old new) (sym f.0) (mid, takes, f.1)
   next_flush new atom n takes (inr f) = subst (IsNext state old new) (sym f.0) (mid, takes, f.1)
-
-  pub next_in_extents : {E : Type 0} (new : CoreSeen D) (s : ScriptNo) (r : Result Next E)
-      → Takes state old mid (taken.InExtents s) → IfOk r (RefusesNext mid new s) → IfOk r (IsNext state old new)
-  next_in_extents new s (Ok n) takes f = subst (IsNext state old new) (sym f.0) (inr (mid, takes, f.1))
-  next_in_extents new s (Err e) takes f = tt
-
-  -- nothing was done of a command that was found
-  pub left_in_extents : {E : Type 0} (new : CoreSeen D) (s : ScriptNo) (r : Result Next E)
-      → Takes state old mid (taken.InExtents s) → OnErr r (HasMoreRoom mid new)
-      → OnErr r (IsNextLeft state old new)
-  left_in_extents new s (Ok n) takes room = tt
-  left_in_extents new s (Err e) takes room = inr (inr (s, mid, takes, room))
 
 -- a core whose scripts are answered, and where nothing is left to be committed
 pub over : {D : Type 0} (c : CoreSeen D) → c.broken ≡ None → c.commit ≡ None

@@ -5,17 +5,14 @@ use Rattle.r4_apply.specs.declared.applying.Applied.{Applied}
 use Rattle.r4_apply.specs.declared.applying.Applied.TheVariants as applied
 use Rattle.r4_apply.specs.r4_back.Backing.{GivesBack, RefusesMemory}
 use Rattle.r4_base.specs.declared.things.AtomNo.{AtomNo}
-use Rattle.r4_base.specs.declared.things.ScriptNo.{ScriptNo}
 use Rattle.r4_apply.specs.r4_build.declared.built.Built.{Built}
 use Rattle.r4_apply.specs.r4_build.declared.task.BuildFault.{BuildFault}
-use Rattle.r4_content.specs.declared.reply.Reply.TheVariants.{Memory}
 use Rattle.r4_apply.specs.r4_kept.View.{CoreSeen}
 use Rattle.r4_apply.specs.r4_next.Taking.{Takes}
 use Rattle.r4_apply.specs.r4_next.declared.taken.Taken.TheVariants as taken
 use Rattle.r4_outside.specs.Device.{State}
 use Rattle.r4_apply.specs.r4_seal.Flushing.{IsFlushed, RefusesWaiting}
-use Rattle.r4_apply.specs.r4_ready.Rooms.{HasMoreRoom}
-use Rattle.r4_apply.specs.r4_served.Serving.{IsLeft, IsRefused}
+use Rattle.r4_apply.specs.r4_served.Serving.{IsLeft}
 use Rattle.r4_apply.specs.r4_take.Sending.{CanBeBuilt}
 use Rattle.r4_shared.specs.declared.stepping.Next.{Next}
 use Rattle.r4_shared.specs.declared.stepping.Next.TheVariants as next
@@ -26,22 +23,10 @@ IsFlushedAs old new atom n =
     ((n ≡ next.Flushed atom) × IsFlushed old new atom)
     ⊎ ((n ≡ next.Unflushed atom) × RefusesWaiting old new atom)
 
--- The next command of a script was refused with `memory`.
-abbrev pub RefusesNext : {D : Type 0} → (old new : CoreSeen D) → ScriptNo → Next → Type 0
-RefusesNext old new s n = (n ≡ next.Replied s) × IsRefused old new s Memory
-
--- it touches a body in extents
-abbrev pub RefusesInExtents :
-    {D : Type 0} → (D → State) → (old new : CoreSeen D) → ScriptNo → Type 0
-RefusesInExtents {D} state old new s = (mid : CoreSeen D)
-    × Takes state old mid (taken.InExtents s) × IsRefused mid new s Memory
-
--- What there is to do was taken; an atom that was to be flushed was; and a command that touches a
--- body in extents was refused.
+-- What there is to do was taken; an atom that was to be flushed was.
 abbrev pub IsNext : {D : Type 0} → (D → State) → (old new : CoreSeen D) → Next → Type 0
 IsNext state old new (next.Work task) = Takes state old new (taken.Work task)
-IsNext state old new (next.Replied s) =
-    Takes state old new (taken.Replied s) ⊎ RefusesInExtents state old new s
+IsNext state old new (next.Replied s) = Takes state old new (taken.Replied s)
 IsNext {D} state old new (next.Flushed atom) = (mid : CoreSeen D)
     × Takes state old mid (taken.Flush atom) × IsFlushed mid new atom
 IsNext {D} state old new (next.Unflushed atom) = (mid : CoreSeen D)
@@ -50,14 +35,10 @@ IsNext state old new (next.Wait why) = Takes state old new (taken.Wait why)
 IsNext state old new next.Finished = Takes state old new taken.Finished
 
 -- Nothing was done: all is as it was; or the device may have been read, and there may be more room.
--- So it may also be once a command was found that touches a body in extents, where there was no
--- memory to refuse it.
 abbrev pub IsNextLeft : {D : Type 0} → (D → State) → (old new : CoreSeen D) → Type 0
 IsNextLeft {D} state old new =
     (new ≡ old)
-    ⊎ (IsLeft (state old.dev) (state new.dev) old new
-    ⊎ ((s : ScriptNo) × (mid : CoreSeen D) × Takes state old mid (taken.InExtents s)
-    × HasMoreRoom mid new))
+    ⊎ IsLeft (state old.dev) (state new.dev) old new
 
 -- a task that is to be worked at can be built
 abbrev pub BuildsNext : Next → Type 0

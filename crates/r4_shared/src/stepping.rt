@@ -3,20 +3,16 @@
 ghost use Rattle.std.specs.Prelude.{◌≡◌, ℕ, IfOk, None, OnErr};
 ghost use Rattle.r4_apply.specs.declared.applying.Applied.{Applied as Answer};
 ghost use Rattle.r4_apply.specs.r4_back.Backing.{GivesBack, RefusesMemory};
-ghost use Rattle.r4_content.specs.declared.command.Command.{Command};
 ghost use Rattle.r4_history.specs.Serving.{AsksForFlush};
 ghost use Rattle.r4_shared.specs.Stepping.{AppliesOr, BringsBack, BuildsNext, IsFlushedAs, IsNext};
-ghost use Rattle.r4_shared.specs.Stepping.{IsNextLeft, RefusesNext};
+ghost use Rattle.r4_shared.specs.Stepping.{IsNextLeft};
 ghost use Rattle.r4_apply.specs.r4_kept.View.{tables_of};
-ghost use Rattle.r4_apply.specs.r4_ready.Rooms.{HasMoreRoom};
-ghost use Rattle.r4_apply.specs.r4_take.Sending.{IsServable};
 
 use r4_apply::{
     Applied, BuildFault, Built, Core, Taken, Task, apply, flush, give_back, refuse, refuse_memory,
     take,
 };
 use r4_base::{AtomNo, Memory, ScriptNo};
-use r4_content::Reply;
 use r4_history::Why;
 use r4_outside::{Device, Run};
 use std::alloc::{AllocError, Global};
@@ -39,10 +35,8 @@ pub enum Next {
 }
 
 /// The next step: what there is to do is taken, and an atom that is to be flushed is flushed at once.
-/// A command that touches a body in extents is refused with `memory`, since nothing is built for it
-/// yet. The only error is want of memory, or of numbers for cells and transactions; then the device
-/// may have been read, there may be more room, and all else is as it was, but that such a command may
-/// have been found.
+/// The only error is want of memory, or of numbers for cells and transactions; then the device
+/// may have been read, there may be more room, and all else is as it was.
 pub fn next_step<D: Device, R: Run>(core: &mut Core<D, R>, alloc: Global) -> Result<Next, Memory>
     ensures ok { IfOk result (IsNext D.state core.old core.new) }
     ensures builds { IfOk result BuildsNext }
@@ -57,7 +51,6 @@ pub fn next_step<D: Device, R: Run>(core: &mut Core<D, R>, alloc: Global) -> Res
         Taken::Flush(atom) => Ok(flush_next(core, alloc, atom)),
         Taken::Wait(why) => Ok(Next::Wait(why)),
         Taken::Finished => Ok(Next::Finished),
-        Taken::InExtents(script) => refuse_in_extents(core, alloc, script),
     }
 }
 
@@ -73,21 +66,6 @@ fn flush_next<D: Device, R: Run>(core: &mut Core<D, R>, alloc: Global, atom: Ato
         Ok(()) => Next::Flushed(atom),
         Err(AllocError) => Next::Unflushed(atom),
     }
-}
-
-// A command that touches a body in extents is refused.
-fn refuse_in_extents<D: Device, R: Run>(
-    core: &mut Core<D, R>,
-    alloc: Global,
-    script: ScriptNo,
-) -> Result<Next, Memory>
-    requires sound { core.old.broken ≡ None }
-    requires servable { (x : Command) × IsServable core.old script.0 x }
-    ensures ok { IfOk result (RefusesNext core.old core.new script) }
-    ensures err { OnErr result (HasMoreRoom core.old core.new) }
-{
-    refuse(core, alloc, script, Reply::Memory)?;
-    Ok(Next::Replied(script))
 }
 
 /// A task comes back from whoever worked at it: built, and is applied; or as it went out, where there

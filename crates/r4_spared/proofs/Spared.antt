@@ -127,7 +127,7 @@ own_edits None e h = refl
 own_edits (Some b) e h =
     ap (λ (v : Bool). if v then without_body (whole b) e else e) (unspread b h)
 
-own_changes : (b : Option Body) (rs : Intervals) → spread_keys b ≡ None → raw_changes b rs ≡ rs
+pub own_changes : (b : Option Body) (rs : Intervals) → spread_keys b ≡ None → raw_changes b rs ≡ rs
 own_changes None rs h = refl
 own_changes (Some b) rs h = by_test (is_spread b) (unspread b h)
   where

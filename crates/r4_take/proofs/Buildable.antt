@@ -2,13 +2,12 @@
 use Rattle.std.proofs.Common.{◌≡◌, ◌∙◌, ℕ, List, None, Some, ap, subst, sym}
 use Rattle.std.specs.Arc.{arc_value}
 use Rattle.std.specs.Prelude.{slice_get}
-use Rattle.r4_seal.specs.r4_build.Building.{CanBuild}
-use Rattle.r4_seal.specs.r4_build.Built.{IsTaskIn, edits_for}
+use Rattle.r4_seal.specs.r4_build.Built.{IsBuildable, IsTaskIn, edits_for}
 use Rattle.r4_seal.specs.r4_build.declared.task.Task.{Task}
 use Rattle.r4_cell.specs.Patch.{by_name, root_of_pair}
 use Rattle.r4_cell.specs.Seen.{CellSeen}
 use Rattle.r4_cell.specs.declared.change.Fresh.{Fresh}
-use Rattle.r4_content.specs.Edited.{Edits}
+use Rattle.r4_content.specs.Edited.{Pairs}
 use Rattle.r4_content.specs.Fields.{HasBytePaths}
 use Rattle.r4_content.specs.Held.{pairs_of}
 use Rattle.r4_content.specs.Meaning.{with_id}
@@ -23,11 +22,12 @@ use Rattle.r4_seal.specs.r4_kept.TasksOut.{IsGiven}
 use Rattle.r4_seal.specs.r4_kept.View.{CoreSeen}
 use Rattle.r4_seal.specs.r4_leaf_edits.Suiting.{SuitLeaves}
 use Rattle.r4_outside.specs.Device.{State}
-use Rattle.r4_seal.specs.r4_reach.Touched.{body_on, edits_on, reads_on}
+use Rattle.r4_seal.specs.r4_reach.Touched.{edits_on}
 use Rattle.r4_seal.proofs.r4_suited.Suits.{told_suits}
 use Rattle.r4_seal.specs.r4_taking.GoingOut.{HasGoneOut}
 use Rattle.r4_turns.specs.Turns.{IsScript, commands_at, gone_out, turn_at}
 use Rattle.r4_turns.specs.declared.out.Out.{Out}
+use Rattle.r4_turns.specs.declared.out.Scope.{Scope}
 use Rattle.r4_turns.specs.declared.turn.Turn.{Turn}
 use Rattle.r4_take.specs.Sending.{CanBeBuilt}
 
@@ -57,7 +57,7 @@ module _ {D : Type 0} (f new : CoreSeen D) (s : ℕ) (out : Out) (met : List Cel
 module _ {D : Type 0} (r : Naming) (d : State) (c : CoreSeen D) (k : IsKept r d c) (s : ℕ) (out : Out) (x named : Command)
     (is_out : IsOut c.turns s out) (next : next_at c.turns s ≡ Some x) (named_is : named ≡ with_id out.numbers.oid x)
     (task : Task) (command : task.command ≡ named) (writes : task.writes ≡ out.writes)
-    (seen : arc_value task.seen ≡ arc_value out.seen) (fresh : task.fresh ≡ out.numbers.fresh)
+    (seen : arc_value task.seen ≡ arc_value out.seen) (scope : task.scope ≡ out.scope) (fresh : task.fresh ≡ out.numbers.fresh)
     (paths : HasBytePaths named) where
   g : IsGiven c.tree named out
   g = subst (λ z. IsGiven c.tree z out) (sym named_is) (k.tasks.given s out x is_out next)
@@ -70,25 +70,24 @@ module _ {D : Type 0} (r : Naming) (d : State) (c : CoreSeen D) (k : IsKept r d 
       ap (edits_on named) same_seen
       ∙ ap (λ (z : Command). edits_on z (pairs_of (arc_value task.seen))) (sym command)
 
-  is_task : IsTaskIn (body_on named g.reach.seen g.reach.in_extents) (reads_on named g.reach.seen g.reach.in_extents)
-      (by_name g.met) (root_of_pair g.root) task
+  is_task : IsTaskIn (by_name g.met) (root_of_pair g.root) task
   is_task =
-      let b = body_on named g.reach.seen g.reach.in_extents in
-      let reads = reads_on named g.reach.seen g.reach.in_extents in
       let t = by_name g.met in
       let top = root_of_pair g.root in
-      subst (λ (l : List CellSeen). CanBuild b (edits_for task) reads t top task.fresh l) (sym writes)
-      (subst (λ (n : Fresh). CanBuild b (edits_for task) reads t top n out.writes) (sym fresh)
-      (subst (λ (e : Edits). CanBuild b e reads t top out.numbers.fresh out.writes) same g.can))
+      let s = pairs_of (arc_value task.seen) in
+      subst (λ (z : Command). IsBuildable z s task.scope t top task.fresh task.writes) (sym command)
+      (subst (λ (z : Scope). IsBuildable named s z t top task.fresh task.writes) (sym scope)
+      (subst (λ (l : List CellSeen). IsBuildable named s out.scope t top task.fresh l) (sym writes)
+      (subst (λ (f : Fresh). IsBuildable named s out.scope t top f out.writes) (sym fresh)
+      (subst (λ (z : Pairs). IsBuildable named z out.scope t top out.numbers.fresh out.writes) same_seen g.can))))
 
   pub can_be_built : CanBeBuilt task
   can_be_built = record {
-    body = body_on named g.reach.seen g.reach.in_extents;
-    reads = reads_on named g.reach.seen g.reach.in_extents;
     met = g.met;
     root = g.root;
     is_task = is_task;
     rises = subst Rises same_seen g.reach.sees.rises;
-    suits = subst (SuitLeaves 16384) same
-        (told_suits named g.reach.seen g.reach.in_extents None paths g.reach.sees.rises g.lawful (sym g.can.tails));
+    suits = λ leaves. subst (SuitLeaves 16384) same
+        (told_suits named g.reach.seen out.scope.in_extents None paths g.reach.sees.rises g.lawful
+        (sym (g.can.leaves (ap (λ (z : Scope). z.in_leaves) (sym scope) ∙ leaves)).tails));
   }

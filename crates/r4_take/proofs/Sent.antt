@@ -24,18 +24,18 @@ on_any {T} {E} (Err e) P p = p
 
 module _ {D : Type 0} (old roomy begun fused new : CoreSeen D) (s : ℕ) (named : Command) (draws : Draws) (ready : Ready) (task : Task)
     (own : Own) (g : Gathered) (same : own ≡ own_in old.atoms (turn_at old.turns s).transaction)
-    (is : IsGathered old.atoms own draws ready g) (room : HasRoomier old roomy)
+    (is : IsGathered old.atoms old.tree own draws ready g) (room : HasRoomier old roomy)
     (begins : HasOwn roomy begun s own own.begins)
     (fuses : HasFusedAll begun own.atom.0 (pairs_of g.others.items) fused)
     (out : HasGoneOut fused new s (as_task g.given task.id) (cells_of g.met.items))
     (numbers : new.numbers ≡ draws.next) (script : task.script.0 ≡ s) (index : task.index ≡ answered_at old.turns s)
     (txn : task.txn ≡ own.txn) (command : task.command ≡ named)
     (cells : (task.reads ≡ g.lent.reads) × (task.writes ≡ g.lent.writes)) (seen : task.seen ≡ g.lent.seen)
-    (fresh : task.fresh ≡ draws.own.fresh) (builds : CanBeBuilt task) where
+    (scope : task.scope ≡ g.given.scope) (fresh : task.fresh ≡ draws.own.fresh) (builds : CanBeBuilt task) where
   pub is_sent : IsSent old new s named draws ready task
   is_sent = record {
     gathered = g;
-    is = subst (λ (z : Own). IsGathered old.atoms z draws ready g) same is;
+    is = subst (λ (z : Own). IsGathered old.atoms old.tree z draws ready g) same is;
     roomy = roomy;
     begun = begun;
     fused = fused;
@@ -54,6 +54,7 @@ module _ {D : Type 0} (old roomy begun fused new : CoreSeen D) (s : ℕ) (named 
         cells.1 ∙ is.lent.writes_are ∙ sym (ap (λ (z : Given). z.writes) is.given),
       );
       seen = ap arc_value seen ∙ is.lent.seen_is ∙ sym is.seen;
+      scope = scope;
       fresh = fresh ∙ sym (ap (λ (z : Given). z.numbers.fresh) is.given);
     };
     builds = builds;

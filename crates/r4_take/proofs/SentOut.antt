@@ -38,7 +38,7 @@ use Rattle.r4_locks.specs.declared.task_holds.NewTask.{NewTask}
 use Rattle.r4_seal.specs.r4_others.Others.{pairs_of}
 use Rattle.r4_outside.specs.Device.{State}
 use Rattle.r4_seal.specs.r4_patch.Part.{IsPart}
-use Rattle.r4_seal.specs.r4_ready.Readiness.{AreGotten, IsOfReach, MayStart}
+use Rattle.r4_seal.specs.r4_ready.Readiness.{AreGotten, IsOfReach, MayStart, scope_of}
 use Rattle.r4_seal.specs.r4_rooms.declared.making.Wanted.{Wanted}
 use Rattle.r4_seal.specs.r4_serve.Serving.{need_in}
 use Rattle.r4_seal.specs.r4_serve.declared.asked.Ready.{Ready}
@@ -142,7 +142,7 @@ module _ {D : Type 0} (c : CoreSeen D) (s : ℕ) (x : Command) (draws : Draws) w
 -- ---- from the call on
 
 module _ {D : Type 0} (d : State) (c : CoreSeen D) (s : ℕ) (named : Command) (draws : Draws) (ready : Ready)
-    (may : MaySend d c s named draws ready) (own : Own) (g : Gathered) (is : IsGathered c.atoms own draws ready g)
+    (may : MaySend d c s named draws ready) (own : Own) (g : Gathered) (is : IsGathered c.atoms c.tree own draws ready g)
     (lawful : AreOwners c.atoms) (m : CoreSeen D) (room : HasRoomier c m)
     (has : HasRoomFor g.wanted m) (b : CoreSeen D) (t : HasTxn m b s own) (was : IsLawful c.buffer)
     (now : IsLawful m.buffer) where
@@ -249,6 +249,7 @@ module _ {D : Type 0} (d : State) (c : CoreSeen D) (s : ℕ) (named : Command) (
       writes = ready.reach.writes;
       pins = names_of ready.reach.met;
       seen = g.given.seen;
+      scope = scope_of c.tree ready.reach;
       numbers = draws.own;
       cells = cells_of_reach ready.reach;
       claims = length ready.reach.writes + 1;
@@ -258,11 +259,13 @@ module _ {D : Type 0} (d : State) (c : CoreSeen D) (s : ℕ) (named : Command) (
       abbrev out : Out
       out = as_task given task
 
-      of_reach : IsOfReach ready.reach out
+      of_reach : IsOfReach c.tree ready.reach out
       of_reach = record {
         reads = refl;
         writes = refl;
         seen = is.seen;
+        scope = refl;
+        few = is.few;
         least = is.least;
         most = is.most;
         numbers = is.numbers;

@@ -8,6 +8,7 @@ pub use Rattle.r4_seal.specs.r4_history
 pub use Rattle.r4_seal.specs.r4_kept
 pub use Rattle.r4_seal.specs.r4_open
 pub use Rattle.r4_seal.specs.r4_others
+pub use Rattle.r4_seal.specs.r4_extent_reaching
 pub use Rattle.r4_seal.specs.r4_reaching
 pub use Rattle.r4_seal.specs.r4_ready
 pub use Rattle.r4_seal.specs as r4_seal

@@ -6,11 +6,9 @@ use Rattle.r4_seal.specs.r4_build.Built.{IsTaskIn, edits_for}
 use Rattle.r4_seal.specs.r4_build.declared.task.Task.{Task}
 use Rattle.r4_cell.specs.Patch.{by_name, root_of_pair}
 use Rattle.r4_cell.specs.declared.change.Root.{Root}
-use Rattle.r4_content.specs.Edited.{Intervals}
 use Rattle.r4_content.specs.Held.{pairs_of as seen_pairs}
 use Rattle.r4_content.specs.Seen.{Rises}
 use Rattle.r4_seal.specs.r4_leaf_edits.Suiting.{SuitLeaves}
-use Rattle.r4_seal.specs.r4_reach.Touched.{Body}
 use Rattle.r4_seal.specs.r4_buffer.Seen.{cells_of}
 use Rattle.r4_content.specs.Meaning.{makes_object, with_id}
 use Rattle.r4_cell.specs.Seen.{CellSeen}
@@ -26,8 +24,8 @@ use Rattle.r4_seal.specs.r4_kept.Steps.{HasBegunSingle}
 use Rattle.r4_seal.specs.r4_kept.View.{CoreSeen}
 use Rattle.r4_seal.specs.r4_others.Others.{pairs_of}
 use Rattle.r4_outside.specs.Device.{State}
-use Rattle.r4_seal.specs.r4_reaching.declared.reached.Reach.{Reach}
-use Rattle.r4_seal.specs.r4_ready.Readiness.{MayStart}
+use Rattle.r4_seal.specs.r4_extent_reaching.declared.reached.Reach.{Reach}
+use Rattle.r4_seal.specs.r4_ready.Readiness.{MayStart, scope_of}
 use Rattle.r4_seal.specs.r4_ready.Rooms.{HasMoreRoom}
 use Rattle.r4_seal.specs.r4_serve.declared.asked.Ready.{Ready}
 use Rattle.r4_seal.specs.r4_taking.Fusing.{HasFusedAll}
@@ -39,6 +37,7 @@ use Rattle.r4_take.specs.declared.gathering.Own.{Own}
 use Rattle.r4_take.specs.declared.lending.Lent.{Lent}
 use Rattle.r4_seal.specs.r4_trace.Job.{IsWork}
 use Rattle.r4_turns.specs.Turns.{answered_at, turn_at}
+use Rattle.r4_turns.specs.declared.out.TheConstants.{MOST_NEW}
 use Rattle.r4_turns.specs.declared.turn.Open.{Open}
 
 -- ---- what is gathered
@@ -68,7 +67,7 @@ pub record HasSame (reads writes : List CellSeen) (seen : Seen) (lent : Lent) : 
 
 -- What was gathered of a ready command with these numbers: its task is given the reach and what was
 -- seen, keeps the nodes that were met, and gets room for all that it may capture and claim.
-pub record IsGathered (s : AtomsSeen) (own : Own) (draws : Draws) (ready : Ready) (g : Gathered)
+pub record IsGathered (s : AtomsSeen) (tree : Root) (own : Own) (draws : Draws) (ready : Ready) (g : Gathered)
     : Type 0
   where
     pub seen : arc_value g.given.seen ≡ ready.reach.seen
@@ -78,6 +77,7 @@ pub record IsGathered (s : AtomsSeen) (own : Own) (draws : Draws) (ready : Ready
       writes = ready.reach.writes;
       pins = names_of ready.reach.met;
       seen = g.given.seen;
+      scope = scope_of tree ready.reach;
       numbers = draws.own;
       cells = cells_of_reach ready.reach;
       claims = length ready.reach.writes + 1;
@@ -93,6 +93,7 @@ pub record IsGathered (s : AtomsSeen) (own : Own) (draws : Draws) (ready : Ready
       claims = length ready.reach.writes + 1;
     }
     pub names : g.names ≡ length ready.need.reads + length ready.need.writes
+    pub few : ready.reach.most ≤ MOST_NEW
     pub least : 2 ^ 63 ≤ draws.own.fresh.next
     pub most : draws.own.fresh.end < 2 ^ 64
     pub numbers : draws.own.fresh.next + 64 * length ready.reach.writes ≤ draws.own.fresh.end
@@ -145,18 +146,17 @@ pub record IsLent
     pub command : task.command ≡ named
     pub cells : (task.reads ≡ given.reads) × (task.writes ≡ given.writes)
     pub seen : arc_value task.seen ≡ arc_value given.seen
+    pub scope : task.scope ≡ given.scope
     pub fresh : task.fresh ≡ given.numbers.fresh
 
--- It can be built: its edits may be made in a part of a tree, which has what they write, with the
--- task's numbers, and leaves can take them.
+-- It can be built in a part of a tree, with the task's numbers; where all that it changes lies in leaves, these can
+-- take its edits.
 pub record CanBeBuilt (task : Task) : Type 0 where
-  pub body : Option Body
-  pub reads : Intervals
   pub met : List CellSeen
   pub root : Root
-  pub is_task : IsTaskIn body reads (by_name met) (root_of_pair root) task
+  pub is_task : IsTaskIn (by_name met) (root_of_pair root) task
   pub rises : Rises (seen_pairs (arc_value task.seen))
-  pub suits : SuitLeaves 16384 (edits_for task)
+  pub suits : task.scope.in_leaves ≡ true → SuitLeaves 16384 (edits_for task)
 
 -- Room was made. A single command's transaction began. Its atom fused with each other open atom
 -- that owns a node of its reach. Then it went out as this task, with all that it was given.
@@ -165,7 +165,7 @@ pub record IsSent
     (task : Task) : Type 0
   where
     pub gathered : Gathered
-    pub is : IsGathered old.atoms (own_in old.atoms (turn_at old.turns s).transaction) draws ready
+    pub is : IsGathered old.atoms old.tree (own_in old.atoms (turn_at old.turns s).transaction) draws ready
         gathered
     pub roomy : CoreSeen D
     pub begun : CoreSeen D

@@ -9,9 +9,9 @@ use crate::drawing::Draws;
 use crate::lending::{Lent, lent_of};
 use r4_atoms::Atoms;
 use r4_base::{AtomNo, Memory, NodeId, TxnNo, UNPLACED};
-use r4_cell::{Cell, Fresh};
+use r4_cell::{Cell, Fresh, Root};
 use r4_seal::{Given, NodesNeeded, Other, Reach, Ready, Wanted, nodes_of, others};
-use r4_turns::{Nodes, Open};
+use r4_turns::{MOST_NEW, Nodes, Open, Scope};
 use std::alloc::{AllocError, Global};
 use std::sync::Arc;
 
@@ -60,17 +60,18 @@ pub(crate) fn own_of(atoms: &Atoms, within: Option<Open>) -> Own
     }
 }
 
-// All that a ready command goes out with. The only error is want of memory, or of numbers for new
-// cells.
+// All that a ready command of this tree goes out with. The only error is want of memory, or of
+// numbers for new cells.
 pub(crate) fn gather(
     alloc: Global,
     atoms: &Atoms,
+    tree: Root,
     own: Own,
     draws: Draws,
     ready: Ready,
 ) -> Result<Gathered, Memory>
     requires { ready.need ≡ need_in ready.reach }
-    ensures { IfOk result (IsGathered atoms.now own draws ready) }
+    ensures { IfOk result (IsGathered atoms.now tree own draws ready) }
 {
     let Ready { reach, need } = ready;
     let Reach {
@@ -79,10 +80,12 @@ pub(crate) fn gather(
         met,
         seen,
         most,
+        in_extents,
+        in_leaves,
         ..
     } = reach;
     let writing = writes.as_slice().len() as u64;
-    if !last_for(&draws.own.fresh, writing) {
+    if !last_for(&draws.own.fresh, writing) || most > MOST_NEW {
         return Err(Memory);
     }
     let others = others(alloc, atoms, own.atom, need.reads(), need.writes())?;
@@ -104,6 +107,12 @@ pub(crate) fn gather(
         writes,
         pins: Nodes::from_vec(pins),
         seen,
+        scope: Scope {
+            root: tree,
+            in_leaves,
+            in_extents,
+            most,
+        },
         numbers: draws.own,
         cells,
         claims: writing + 1,

@@ -39,6 +39,7 @@ pub fn send<D: Device, R: Run>(
     core.lawful();
     core.atoms().lawful();
     let own = own_of(core.atoms(), core.turns().open(script));
+    let tree = core.tree();
     let index = core.turns().answered(script);
     let Gathered {
         given,
@@ -48,7 +49,8 @@ pub fn send<D: Device, R: Run>(
         others,
         wanted,
         names,
-    } = gather(alloc, core.atoms(), own, draws, ready)?;
+    } = gather(alloc, core.atoms(), tree, own, draws, ready)?;
+    let scope = given.scope;
     let new = make_all_room(core, alloc, wanted, names)?;
     core.lawful();
     begin_if(core, alloc, script, own);
@@ -75,6 +77,7 @@ pub fn send<D: Device, R: Run>(
         reads: lent.reads,
         writes: lent.writes,
         seen: lent.seen,
+        scope,
         fresh: draws.own.fresh,
     })
 }

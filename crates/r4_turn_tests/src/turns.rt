@@ -94,6 +94,15 @@ fn out_of(alloc: Global, task: u32) -> Result<Out, Memory> {
                 parts: Vec::new(alloc),
             },
         )?,
+        scope: Scope {
+            root: Root {
+                id: NodeId(22),
+                height: 2,
+            },
+            in_leaves: true,
+            in_extents: false,
+            most: 0,
+        },
         numbers: Numbers {
             oid: Oid(42),
             fresh: Fresh {

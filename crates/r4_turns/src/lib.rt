@@ -8,6 +8,6 @@ mod turn;
 mod turns;
 
 pub use laws::order_law;
-pub use out::{Nodes, Numbers, Out};
+pub use out::{MOST_NEW, Nodes, Numbers, Out, Scope};
 pub use turn::{Open, Pending};
 pub use turns::Turns;

@@ -1,14 +1,20 @@
-use Rattle.std.proofs.Common.{ℕ, List, sym, subst}
+use Rattle.std.proofs.Common.{◌≡◌, false, None, ℕ, List, sym, subst}
 use Rattle.r4_content.specs.Edited.{Pairs}
 use Rattle.r4_content.specs.Held.{pairs_of}
 use Rattle.r4_content.specs.declared.command.Command.TheVariants.{Create}
-use Rattle.r4_reach.specs.Touched.{edits_on}
+use Rattle.r4_leaf_edits.specs.Made.{spread_keys}
+use Rattle.r4_reach.specs.Touched.{body_on, edits_on}
 use Rattle.r4_build_testing.specs.Commands.{create_file}
 use Rattle.r4_build_testing.specs.Small.{AreLawful}
-use Rattle.r4_build_testing.proofs.Lawful.{create_lawful}
+use Rattle.r4_build_testing.proofs.Lawful.{create_lawful, create_tails}
 use Rattle.r4_build_testing.proofs.small.build_creation.Goals as goal
 
 pub built-requires-clause-lawful : goal.built-requires-clause-lawful
 built-requires-clause-lawful g c κs within =
     subst (λ (p : List (List ℕ)). AreLawful (edits_on (Create p (record { 0 = 65536 })) (pairs_of c.in_ok-seen.seen))) (sym c.in_ok-path.ensures)
     (subst (λ (s : Pairs). AreLawful (edits_on create_file s)) (sym c.in_ok-seen.ensures) create_lawful)
+
+pub built-requires-clause-tails : goal.built-requires-clause-tails
+built-requires-clause-tails g c κs within =
+    subst (λ (p : List (List ℕ)). spread_keys (body_on (Create p (record { 0 = 65536 })) (pairs_of c.in_ok-seen.seen) false) ≡ None) (sym c.in_ok-path.ensures)
+    (subst (λ (s : Pairs). spread_keys (body_on create_file s false) ≡ None) (sym c.in_ok-seen.ensures) create_tails)

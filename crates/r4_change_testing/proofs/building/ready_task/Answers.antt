@@ -1,11 +1,11 @@
-use Rattle.r4_change_testing.proofs.Ready.{can_build, edits_suit}
+use Rattle.r4_change_testing.proofs.Ready.{buildable, edits_suit}
 use Rattle.r4_change_testing.proofs.building.ready_task.Goals as goal
 
 pub returns-clause-can : goal.returns-clause-can
 returns-clause-can c =
     let (p, h) = c.requires.reach in
     rw (c.in_ok-new.ensures.ok)
-    (can_build p c.args.root c.args.command c.args.reach h c.requires.ready c.requires.paths)
+    (buildable p c.args.root c.args.command c.args.reach h c.requires.ready c.requires.paths)
 
 pub returns-clause-suits : goal.returns-clause-suits
 returns-clause-suits c =

@@ -48,4 +48,4 @@ returns-clause-ok g c = λ command held metfor.
     is_reach p root command c.args.seen held questions (planned_of e b changes)
     (is_touched p root command c.args.seen held questions e b changes metfor met c.in_ok-met.ensures) met
     c.in_ok-met.ensures rs (are_read rs questions (intervals_of c.args.known.now.read) b c.requires.read reads)
-    m marked more c.in_ok-reach_from.field-0 (c.in_ok-reach_from.ensures changes)
+    m marked more c.in_ok-reach_from.field-0 c.in_ok-reach_from.ensures

@@ -1,6 +1,6 @@
 use Rattle.std.proofs.Common.{subst}
 use Rattle.r4_apply.specs.r4_next.Taking.{Takes}
-use Rattle.r4_shared.proofs.Steps.{flush_asked, left_in_extents, next_flush, next_in_extents}
+use Rattle.r4_shared.proofs.Steps.{flush_asked, next_flush}
 use Rattle.r4_shared.proofs.stepping.next_step.Goals as goal
 
 pub flush_next-requires-clause-asked : goal.flush_next-requires-clause-asked
@@ -17,19 +17,3 @@ returns-in-Flush-clause-ok g c =
     let d = g.D.Device.state in
     next_flush d old mid c.flush_next.new.core c.in-Flush.atom c.flush_next.result
     (subst (Takes d old mid) c.in-Flush.is c.in_ok-task.ensures.ok) c.flush_next.ensures
-
-pub returns-in-InExtents-clause-ok : goal.returns-in-InExtents-clause-ok
-returns-in-InExtents-clause-ok g c =
-    let old = c.args.core.now in
-    let mid = c.take.new.core in
-    let d = g.D.Device.state in
-    next_in_extents d old mid c.refuse_in_extents.new.core c.in-InExtents.script c.refuse_in_extents.result
-    (subst (Takes d old mid) c.in-InExtents.is c.in_ok-task.ensures.ok) c.refuse_in_extents.ensures.ok
-
-pub returns-in-InExtents-clause-err : goal.returns-in-InExtents-clause-err
-returns-in-InExtents-clause-err g c =
-    let old = c.args.core.now in
-    let mid = c.take.new.core in
-    let d = g.D.Device.state in
-    left_in_extents d old mid c.refuse_in_extents.new.core c.in-InExtents.script c.refuse_in_extents.result
-    (subst (Takes d old mid) c.in-InExtents.is c.in_ok-task.ensures.ok) c.refuse_in_extents.ensures.err

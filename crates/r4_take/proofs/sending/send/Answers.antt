@@ -44,7 +44,8 @@ fuse_all-requires-after_bounds g c κs within =
     let at = c.open.ensures ∙ ap (λ t. (turn_at t s).transaction) c.turns.ensures in
     let same = c.own_of-own.ensures ∙ ap (λ a. own_in a c.open.result) c.atoms-2.ensures in
     let owners = subst AreOwners c.atoms.ensures c.lawful-2.ensures.owners in
-    let is = subst (λ a. IsGathered a own c.args.draws c.args.ready gathered) c.atoms-3.ensures c.in_ok-given.ensures in
+    let is = subst (λ a. IsGathered a core.tree own c.args.draws c.args.ready gathered) c.atoms-3.ensures
+    (subst (λ z. IsGathered c.atoms-3.result.now z own c.args.draws c.args.ready gathered) c.tree.ensures c.in_ok-given.ensures) in
     let room = c.in_ok-new.ensures.roomier in
     let txn = has_txn _ _ core m b c.lawful-3.ensures.kept room s may.servable.stands.is_script own c.open.result at same
     c.begin_if.ensures in
@@ -67,7 +68,8 @@ hand_out-id-requires-after_bounds g c κs within =
     let at = c.open.ensures ∙ ap (λ t. (turn_at t s).transaction) c.turns.ensures in
     let same = c.own_of-own.ensures ∙ ap (λ a. own_in a c.open.result) c.atoms-2.ensures in
     let owners = subst AreOwners c.atoms.ensures c.lawful-2.ensures.owners in
-    let is = subst (λ a. IsGathered a own c.args.draws c.args.ready gathered) c.atoms-3.ensures c.in_ok-given.ensures in
+    let is = subst (λ a. IsGathered a core.tree own c.args.draws c.args.ready gathered) c.atoms-3.ensures
+    (subst (λ z. IsGathered c.atoms-3.result.now z own c.args.draws c.args.ready gathered) c.tree.ensures c.in_ok-given.ensures) in
     let room = c.in_ok-new.ensures.roomier in
     let has = c.in_ok-new.ensures.room in
     let txn = has_txn _ _ core m b c.lawful-3.ensures.kept room s may.servable.stands.is_script own c.open.result at same
@@ -95,7 +97,8 @@ returns-clause-ok g c =
     let gathered = c.in_ok-given.field-0 in
     let at = c.open.ensures ∙ ap (λ t. (turn_at t s).transaction) c.turns.ensures in
     let same = c.own_of-own.ensures ∙ ap (λ a. own_in a c.open.result) c.atoms-2.ensures in
-    let is = subst (λ a. IsGathered a own c.args.draws c.args.ready gathered) c.atoms-3.ensures c.in_ok-given.ensures in
+    let is = subst (λ a. IsGathered a core.tree own c.args.draws c.args.ready gathered) c.atoms-3.ensures
+    (subst (λ z. IsGathered c.atoms-3.result.now z own c.args.draws c.args.ready gathered) c.tree.ensures c.in_ok-given.ensures) in
     let fuses = rw c.as_slice.ensures.value at c.fuse_all.ensures.fused in
     let may = c.requires.may in
     let owners = subst AreOwners c.atoms.ensures c.lawful-2.ensures.owners in
@@ -127,9 +130,10 @@ returns-clause-ok g c =
       reads = gathered.lent.reads;
       writes = gathered.lent.writes;
       seen = gathered.lent.seen;
+      scope = gathered.given.scope;
       fresh = c.args.draws.own.fresh;
     }) refl (is.lent.writes_are ∙ sym (ap (λ (z : Given). z.writes) is.given)) (is.lent.seen_is ∙ sym is.seen)
-    (sym (ap (λ (n : Numbers). n.fresh) numbers)) c.lawful-6.ensures in
+    refl (sym (ap (λ (n : Numbers). n.fresh) numbers)) c.lawful-6.ensures in
     is_sent core c.make_all_room.new.core c.begin_if.new.core c.fuse_all.new.self c.hand_out-id.new.self s c.args.command
     c.args.draws c.args.ready (record {
       id = c.hand_out-id.result;
@@ -140,8 +144,9 @@ returns-clause-ok g c =
       reads = gathered.lent.reads;
       writes = gathered.lent.writes;
       seen = gathered.lent.seen;
+      scope = gathered.given.scope;
       fresh = c.args.draws.own.fresh;
     })
     own gathered (same ∙ ap (own_in core.atoms) at) is c.in_ok-new.ensures.roomier
     c.begin_if.ensures fuses c.hand_out-id.ensures.out c.hand_out-id.ensures.numbers refl index refl refl (refl, refl) refl
-    refl builds
+    refl refl builds
