@@ -6,7 +6,7 @@ ghost use Rattle.r4_check_objects.specs.Objects.{owner_of};
 ghost use Rattle.r4_check_objects.specs.declared.held.Held.{Held as Found};
 
 use crate::held::Held;
-use crate::table::Table;
+use crate::table::{Span, Table};
 use r4_base::Memory;
 use std::alloc::Global;
 
@@ -14,10 +14,10 @@ use std::alloc::Global;
 pub(crate) type Heads = Table<Option<Held>>;
 
 /// The first things, in a table with room for so many ids in its list.
-pub(crate) fn heads_of(alloc: Global, found: &[Held], low: usize) -> Result<Heads, Memory>
+pub(crate) fn heads_of(alloc: Global, found: &[Held], span: Span) -> Result<Heads, Memory>
     ensures { IfOk result (AreHeads found.now) }
 {
-    let mut heads = Table::new(alloc, None, low)?;
+    let mut heads = Table::new(alloc, None, span)?;
     for held in found {
         let id = held.id();
         if goes_first(heads.get(id), held) {

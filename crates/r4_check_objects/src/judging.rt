@@ -12,6 +12,7 @@ use crate::heads::owner_of;
 use crate::held::{Facts, Held, is_same};
 use crate::known::Known;
 use crate::sums::{Part, Sums, sum_up};
+use crate::table::Span;
 use r4_base::{BLOCK_BYTES, BlockNo, GREATEST_SIZE, Memory, ROOT_OBJECT, Super40};
 use std::alloc::Global;
 
@@ -42,20 +43,20 @@ pub(crate) fn totals_of(
     alloc: Global,
     known: &Known,
     found: &[Held],
-    low: usize,
+    span: Span,
 ) -> Result<Totals, Memory>
     requires { IsKnown found.now known.now }
     ensures { IfOk result (AreTotals found.now) }
 {
     Ok(Totals {
-        entries: sum_up(alloc, known, found, Part::Entries, low)?,
-        directories: sum_up(alloc, known, found, Part::Directories, low)?,
-        links: sum_up(alloc, known, found, Part::Links, low)?,
-        reached: sum_up(alloc, known, found, Part::Reached, low)?,
-        tails: sum_up(alloc, known, found, Part::Tails, low)?,
-        blocks: sum_up(alloc, known, found, Part::Blocks, low)?,
-        past: sum_up(alloc, known, found, Part::Past, low)?,
-        strays: sum_up(alloc, known, found, Part::Strays, low)?,
+        entries: sum_up(alloc, known, found, Part::Entries, span)?,
+        directories: sum_up(alloc, known, found, Part::Directories, span)?,
+        links: sum_up(alloc, known, found, Part::Links, span)?,
+        reached: sum_up(alloc, known, found, Part::Reached, span)?,
+        tails: sum_up(alloc, known, found, Part::Tails, span)?,
+        blocks: sum_up(alloc, known, found, Part::Blocks, span)?,
+        past: sum_up(alloc, known, found, Part::Past, span)?,
+        strays: sum_up(alloc, known, found, Part::Strays, span)?,
     })
 }
 

@@ -9,7 +9,7 @@ ghost use Rattle.r4_check_objects.specs.declared.held.Held.{Held as Found};
 use crate::heads::{Heads, heads_of, owner_of};
 use crate::held::{Facts, Held, is_same};
 use crate::reach::reached_ids;
-use crate::table::Table;
+use crate::table::{Span, Table};
 use r4_base::{Memory, Target};
 use std::alloc::Global;
 
@@ -24,12 +24,12 @@ pub(crate) struct Known {
 
 impl Known {
     /// What is known of these things; tables have room for so many ids in their lists.
-    pub(crate) fn of(alloc: Global, found: &[Held], low: usize) -> Result<Known, Memory>
+    pub(crate) fn of(alloc: Global, found: &[Held], span: Span) -> Result<Known, Memory>
         ensures { IfOk result (IsKnown found.now) }
     {
-        let heads = heads_of(alloc, found, low)?;
+        let heads = heads_of(alloc, found, span)?;
         let others = others_in(alloc, &heads, found)?;
-        let reached = reached_ids(alloc, found, low)?;
+        let reached = reached_ids(alloc, found, span)?;
         Ok(Known {
             heads,
             others,

@@ -9,7 +9,8 @@ use crate::fault::{Fault, What};
 use crate::held::Held;
 use crate::judging::{Judge, totals_of};
 use crate::known::Known;
-use r4_base::{Memory, ROOT_OBJECT, SUPER_BLOCK, Super40};
+use crate::table::Span;
+use r4_base::{FIRST_OBJECT, Memory, ROOT_OBJECT, SUPER_BLOCK, Super40};
 use std::alloc::Global;
 use std::collections::BTreeSet;
 
@@ -24,9 +25,9 @@ pub fn object_faults(
 ) -> Result<Vec<Fault>, Memory>
     ensures { IfOk result (λ v. v.items ≡ object_faults super40.now leaf found.now) }
 {
-    let low = low_ids(found);
-    let known = Known::of(alloc, found, low)?;
-    let totals = totals_of(alloc, &known, found, low)?;
+    let span = span_of(found);
+    let known = Known::of(alloc, found, span)?;
+    let totals = totals_of(alloc, &known, found, span)?;
     let _few = found.len();
     let judge = Judge {
         super40: *super40,
@@ -82,9 +83,24 @@ fn add_count(faults: &mut Vec<Fault>, super40: &Super40, found: &[Held]) -> Resu
     Ok(())
 }
 
-// How many ids a volume with so many objects has, if none of them was removed.
-fn low_ids(found: &[Held]) -> usize {
-    (stats_of(found) as usize).saturating_add(ROOT_OBJECT.oid.0 as usize)
+// From the least id that stat data have up to the greatest, and at most two for each of them. Ids below the first one that a
+// file may have are left out.
+fn span_of(found: &[Held]) -> Span {
+    let mut first = u64::MAX;
+    let mut last = 0;
+    let mut stats: usize = 0;
+    for held in found {
+        if held.is_stat_data() && held.id() >= FIRST_OBJECT {
+            first = first.min(held.id());
+            last = last.max(held.id());
+            stats = stats.saturating_add(2);
+        }
+    }
+    let count = last.saturating_sub(first).saturating_add(1);
+    Span {
+        first,
+        count: stats.min(count as usize),
+    }
 }
 
 // How many stat data there are.

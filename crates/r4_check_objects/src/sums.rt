@@ -9,7 +9,7 @@ ghost use Rattle.r4_check_objects.specs.declared.held.Held.{Held as Found};
 
 use crate::held::{Held, Thing, is_same};
 use crate::known::{Known, is_directory};
-use crate::table::Table;
+use crate::table::{Span, Table};
 use r4_base::{BLOCK_BYTES, GREATEST_SIZE, Memory, ROOT_OBJECT};
 use std::alloc::Global;
 
@@ -37,12 +37,12 @@ pub(crate) fn sum_up(
     known: &Known,
     found: &[Held],
     part: Part,
-    low: usize,
+    span: Span,
 ) -> Result<Sums, Memory>
     requires { IsKnown found.now known.now }
     ensures { IfOk result (AreSums part found.now) }
 {
-    let mut sums = Table::new(alloc, 0, low)?;
+    let mut sums = Table::new(alloc, 0, span)?;
     for held in found {
         let more = share_of(part, known, held);
         if more > 0 {
