@@ -30,12 +30,6 @@ one_told b c w v what x y is block wrong = is ∙ ap (λ (n : ℕ). x ++ map (fa
 pub id_told : (f : ℕ → List Fault) (old new all : List Fault) (id : ℕ) (ids rest : List ℕ) → ids ≡ id ∷ rest → old ++ flat_map f ids ≡ all → new ≡ old ++ f id → new ++ flat_map f rest ≡ all
 id_told f old new all id ids rest is so_far told = ap (λ (l : List Fault). l ++ flat_map f rest) told ∙ append_assoc old (f id) (flat_map f rest) ∙ ap (λ (l : List ℕ). old ++ flat_map f l) (sym is) ∙ so_far
 
-pub ids_more : (found : List Held) (i : ℕ) (d : Held) (lt : i < length found) (k : ℕ) (old new : List ℕ) → old ≡ fold (insert_key nat_cmp) (42 ∷ []) (map id_of (take i found)) → new ≡ insert_key nat_cmp old k → k ≡ id_of (get_or found i d)
-    → new ≡ fold (insert_key nat_cmp) (42 ∷ []) (map id_of (take (i + 1) found))
-ids_more found i d lt k old new so_far is id =
-    is ∙ ap (λ (l : List ℕ). insert_key nat_cmp l k) so_far ∙ ap (insert_key nat_cmp (fold (insert_key nat_cmp) (42 ∷ []) (map id_of (take i found)))) id
-    ∙ sym (ap (λ (l : List Held). fold (insert_key nat_cmp) (42 ∷ []) (map id_of l)) (take_more found i d lt) ∙ ap (fold (insert_key nat_cmp) (42 ∷ [])) (map_push id_of (take i found) (get_or found i d)) ∙ fold_push (insert_key nat_cmp) (42 ∷ []) (map id_of (take i found)) (id_of (get_or found i d)))
-
 -- ---- counts are at most as many as the things
 
 sum_small : (f : Held → ℕ) → ((h : Held) → f h ≤ 1) → (xs : List Held) → sum_by f xs ≤ length xs

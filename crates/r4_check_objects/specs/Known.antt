@@ -3,7 +3,8 @@ use Rattle.std.specs.Prelude.{◌≡◌, ◌≢◌, ℕ, ◌+◌, ◌^◌, ◌<�
 use Rattle.std.specs.Option.{option_map_or}
 use Rattle.r4_base.specs.Volume.{object_of}
 use Rattle.r4_check_objects.specs.Held.{counted, is_stat_data}
-use Rattle.r4_check_objects.specs.Objects.{facts_in, head_of, is_owner, is_reached, sum_of}
+use Rattle.r4_check_objects.specs.Objects.{facts_in, head_of, ids_of, is_owner, is_reached, sum_of}
+use Rattle.r4_check_objects.specs.declared.heads.Firsts.{Firsts}
 use Rattle.r4_check_objects.specs.declared.held.Held.{Held}
 use Rattle.r4_check_objects.specs.declared.judging.Judge.{Judge}
 use Rattle.r4_check_objects.specs.declared.judging.Totals.{Totals}
@@ -20,6 +21,11 @@ pub record AreHeads (found : List Held) (heads : Table (Option Held)) : Type 0 w
 -- whether a thing comes first, where this one did so far
 abbrev pub goes_first : (before : Option Held) → Held → Bool
 goes_first before h = option_map_or (λ f. not (is_stat_data f) && is_stat_data h) before true
+
+-- These are the first things, and the ids.
+pub record AreFirsts (found : List Held) (f : Firsts) : Type 0 where
+  pub heads : AreHeads found f.heads
+  pub ids : f.ids.keys ≡ ids_of found
 
 -- stat data of an object that does not own its id
 abbrev pub is_other : List Held → Held → Bool

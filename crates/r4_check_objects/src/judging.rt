@@ -79,8 +79,8 @@ impl Judge {
         ensures { (found : List Found) → IsJudge found self.now
             → result ≡ block_of self.now.leaf found id }
     {
-        match self.known.heads.get(id) {
-            Some(head) => self.block_under(id, &head),
+        match self.known.heads.at(id) {
+            Some(head) => self.block_under(id, head),
             None => self.leaf,
         }
     }

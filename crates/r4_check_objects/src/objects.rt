@@ -2,10 +2,11 @@
 
 ghost use Rattle.std.specs.Prelude.{◌≡◌, ◌++◌, IfOk, OnOk};
 ghost use Rattle.r4_check_objects.specs.Known.{IsJudge};
-ghost use Rattle.r4_check_objects.specs.Objects.{count_faults, faults_under, ids_of, object_faults, stats_of};
+ghost use Rattle.r4_check_objects.specs.Objects.{count_faults, faults_under, object_faults, stats_of};
 ghost use Rattle.std.specs.List.{flat_map};
 
 use crate::fault::{Fault, What};
+use crate::heads::firsts_of;
 use crate::held::Held;
 use crate::judging::{Judge, totals_of};
 use crate::known::Known;
@@ -26,7 +27,8 @@ pub fn object_faults(
     ensures { IfOk result (λ v. v.items ≡ object_faults super40.now leaf found.now) }
 {
     let span = span_of(found);
-    let known = Known::of(alloc, found, span)?;
+    let firsts = firsts_of(alloc, found, span)?;
+    let known = Known::of(alloc, firsts.heads, found, span)?;
     let totals = totals_of(alloc, &known, found, span)?;
     let _few = found.len();
     let judge = Judge {
@@ -36,7 +38,7 @@ pub fn object_faults(
         totals,
     };
     let mut faults = Vec::new(alloc);
-    add_under(&judge, found, ids_of(alloc, found)?, &mut faults)?;
+    add_under(&judge, found, firsts.ids, &mut faults)?;
     add_count(&mut faults, super40, found)?;
     Ok(faults)
 }
@@ -56,18 +58,6 @@ fn add_under(
         judge.add_faults(faults, id)?;
     }
     Ok(())
-}
-
-// The ids under which something stands, and the root's.
-fn ids_of(alloc: Global, found: &[Held]) -> Result<BTreeSet<u64>, Memory>
-    ensures { IfOk result (λ ids. ids.keys ≡ ids_of found.now) }
-{
-    let mut ids = BTreeSet::new(alloc);
-    ids.insert(ROOT_OBJECT.oid.0)?;
-    for held in found {
-        ids.insert(held.id())?;
-    }
-    Ok(ids)
 }
 
 // Adds the fault of the superblock, where it counts other than the objects.

@@ -3,7 +3,7 @@
 ghost use Rattle.std.specs.Prelude.{◌≡◌, ◌≤◌, List, IfOk, OnOk, if◌then◌else◌};
 ghost use Rattle.r4_base.specs.Key.{offset_of};
 ghost use Rattle.r4_check_objects.specs.Known.{AddsUnder, AreSums, IsKnown};
-ghost use Rattle.r4_check_objects.specs.Objects.{ends_past, is_directory_at, is_own, is_owner, is_past, is_stray, names_one};
+ghost use Rattle.r4_check_objects.specs.Objects.{ends_past, goes_past, is_directory_at, is_own, is_owner, is_past, is_stray, names_one};
 ghost use Rattle.r4_check_objects.specs.Objects.{once, place_of, share_of, strays};
 ghost use Rattle.r4_check_objects.specs.declared.held.Held.{Held as Found};
 
@@ -83,8 +83,8 @@ fn share_of(part: Part, known: &Known, held: &Held) -> u64
         Part::Directories => once(names_directory(known, held)),
         Part::Links => once(names_owner(known, held)),
         Part::Reached => once(names_owner(known, held) && known.reached.get(held.id())),
-        Part::Tails => number_if(is_own(known, held), held.tail_bytes()),
-        Part::Blocks => number_if(is_own(known, held), held.extent_blocks()),
+        Part::Tails => own_number(known, held, held.tail_bytes()),
+        Part::Blocks => own_number(known, held, held.extent_blocks()),
         Part::Past => once(is_past(known, held)),
         Part::Strays => once(is_stray(known, held)),
     }
@@ -102,6 +102,15 @@ fn number_if(holds: bool, number: u64) -> u64
     ensures { result ≡ (if holds then number else 0) }
 {
     if holds { number } else { 0 }
+}
+
+// The number, where a thing is at its place and the owner of an id has its key. Whether that is so is asked only where there
+// is a number: of most parts most things have none.
+fn own_number(known: &Known, held: &Held, number: u64) -> u64
+    ensures { (found : List Found) → IsKnown found known.now
+        → result ≡ (if is_own found held.now then number else 0) }
+{
+    number_if(number > 0 && is_own(known, held), number)
 }
 
 // Whether it is an entry that names a directory.
@@ -137,11 +146,20 @@ fn is_own(known: &Known, held: &Held) -> bool
 fn is_past(known: &Known, held: &Held) -> bool
     ensures { (found : List Found) → IsKnown found known.now → result ≡ is_past found held.now }
 {
-    is_own(known, held)
-        && match known.owner_facts(held.id()) {
-            Some(facts) => facts.size <= GREATEST_SIZE && ends_past(facts.size, held),
-            None => false,
-        }
+    match held.thing {
+        Thing::Stat(_) | Thing::Entry(_) => false,
+        Thing::Tail(_) | Thing::Extent(_) => is_own(known, held) && goes_past(known, held),
+    }
+}
+
+// Whether it goes past the end of the body of its id's owner.
+fn goes_past(known: &Known, held: &Held) -> bool
+    ensures { (found : List Found) → IsKnown found known.now → result ≡ goes_past found held.now }
+{
+    match known.owner_facts(held.id()) {
+        Some(facts) => facts.size <= GREATEST_SIZE && ends_past(facts.size, held),
+        None => false,
+    }
 }
 
 // Whether it is a part of a body that goes past the end of a file of so many bytes.

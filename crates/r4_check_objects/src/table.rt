@@ -38,14 +38,24 @@ impl<T: Copy> Table<T> {
         })
     }
 
+    /// The value under an id, where it stands.
+    pub(crate) fn at(&self, id: u64) -> &T
+        ensures { result.now ≡ value_at self.now id }
+    {
+        if self.is_near(id) {
+            return &self.near[(id - self.first) as usize];
+        }
+        match self.far.get(&id) {
+            Some(value) => value,
+            None => &self.none,
+        }
+    }
+
     /// The value under an id.
     pub(crate) fn get(&self, id: u64) -> T
         ensures { result ≡ value_at self.now id }
     {
-        if self.is_near(id) {
-            return self.near[(id - self.first) as usize];
-        }
-        self.far.get(&id).copied().unwrap_or(self.none)
+        *self.at(id)
     }
 
     /// Puts a value under an id, in the place of the one that is there.
