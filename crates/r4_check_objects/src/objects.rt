@@ -11,7 +11,7 @@ use crate::held::Held;
 use crate::judging::{Judge, totals_of};
 use crate::known::Known;
 use crate::table::Span;
-use r4_base::{FIRST_OBJECT, Memory, ROOT_OBJECT, SUPER_BLOCK, Super40};
+use r4_base::{FIRST_OBJECT, Memory, SUPER_BLOCK, Super40};
 use std::alloc::Global;
 use std::collections::BTreeSet;
 
