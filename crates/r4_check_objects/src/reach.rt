@@ -59,10 +59,11 @@ fn named_ids(alloc: Global, found: &[Held]) -> Result<Named, Memory>
 fn add_name(alloc: Global, named: &mut Named, from: u64, to: u64) -> Result<(), Memory>
     ensures { OnOk result (AddsName from to named.old named.new) }
 {
-    let mut ids = match named.remove(&from) {
-        Some(ids) => ids,
-        None => Vec::new(alloc),
-    };
+    if let Some(ids) = named.get_mut(&from) {
+        ids.push(to)?;
+        return Ok(());
+    }
+    let mut ids = Vec::new(alloc);
     ids.push(to)?;
     named.insert(from, ids)?;
     Ok(())

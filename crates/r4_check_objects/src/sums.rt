@@ -1,17 +1,17 @@
 //! What is added up under ids.
 
-ghost use Rattle.std.specs.Prelude.{◌≡◌, ◌≤◌, List, IfOk, OnOk, if◌then◌else◌};
+ghost use Rattle.std.specs.Prelude.{◌≡◌, ◌≤◌, ◌++◌, ◌∷◌, [], List, OnOk, if◌then◌else◌};
+ghost use Rattle.std.specs.Bool.{OnFalse};
 ghost use Rattle.r4_base.specs.Key.{offset_of};
-ghost use Rattle.r4_check_objects.specs.Known.{AddsUnder, AreSums, IsKnown};
+ghost use Rattle.r4_check_objects.specs.Known.{AddsUnder, AreSumsOf, IsKnown};
 ghost use Rattle.r4_check_objects.specs.Objects.{ends_past, goes_past, is_directory_at, is_own, is_owner, is_past, is_stray, names_one};
 ghost use Rattle.r4_check_objects.specs.Objects.{once, place_of, share_of, strays};
 ghost use Rattle.r4_check_objects.specs.declared.held.Held.{Held as Found};
 
 use crate::held::{Held, Thing, is_same};
 use crate::known::{Known, is_directory};
-use crate::table::{Span, Table};
+use crate::table::Table;
 use r4_base::{BLOCK_BYTES, GREATEST_SIZE, Memory, ROOT_OBJECT};
-use std::alloc::Global;
 
 /// What is added up: entries under their directory; those that name directories; under each id the entries that name its
 /// owner; those of them in reached directories; the bytes of its tails, and the blocks of its extents; its parts of a body
@@ -31,25 +31,38 @@ pub(crate) enum Part {
 /// A number under each id: none is 0.
 pub(crate) type Sums = Table<u64>;
 
-/// Adds up one part, in a table with room for so many ids in its list. The sums stand still at 2^64 - 1.
-pub(crate) fn sum_up(
-    alloc: Global,
-    known: &Known,
-    found: &[Held],
+/// Adds what one thing more counts for a part.
+pub(crate) fn add_share(
+    sums: &mut Sums,
     part: Part,
-    span: Span,
-) -> Result<Sums, Memory>
-    requires { IsKnown found.now known.now }
-    ensures { IfOk result (AreSums part found.now) }
+    known: &Known,
+    held: &Held,
+) -> Result<(), Memory>
+    ensures { (found before : List Found) → IsKnown found known.now
+        → AreSumsOf part found before sums.old
+        → OnOk result (AreSumsOf part found (before ++ held.now ∷ []) sums.new) }
 {
-    let mut sums = Table::new(alloc, 0, span)?;
-    for held in found {
-        let more = share_of(part, known, held);
-        if more > 0 {
-            add_under(&mut sums, place_of(part, held), more)?;
-        }
+    if !may_count(part, held) {
+        return Ok(());
     }
-    Ok(sums)
+    let more = share_of(part, known, held);
+    if more > 0 {
+        add_under(sums, place_of(part, held), more)?;
+    }
+    Ok(())
+}
+
+// Whether a thing is one that may count for a part, whatever is known: most parts are of one kind of things.
+fn may_count(part: Part, held: &Held) -> bool
+    ensures { OnFalse result ((found : List Found) → share_of part found held.now ≡ 0) }
+{
+    match part {
+        Part::Entries | Part::Directories | Part::Links | Part::Reached => held.target().is_some(),
+        Part::Tails => held.tail_bytes() > 0,
+        Part::Blocks => held.extent_blocks() > 0,
+        Part::Past => matches!(held.thing, Thing::Tail(_) | Thing::Extent(_)),
+        Part::Strays => true,
+    }
 }
 
 // Adds a number under an id.
@@ -83,8 +96,8 @@ fn share_of(part: Part, known: &Known, held: &Held) -> u64
         Part::Directories => once(names_directory(known, held)),
         Part::Links => once(names_owner(known, held)),
         Part::Reached => once(names_owner(known, held) && known.reached.get(held.id())),
-        Part::Tails => own_number(known, held, held.tail_bytes()),
-        Part::Blocks => own_number(known, held, held.extent_blocks()),
+        Part::Tails => number_if(is_own(known, held), held.tail_bytes()),
+        Part::Blocks => number_if(is_own(known, held), held.extent_blocks()),
         Part::Past => once(is_past(known, held)),
         Part::Strays => once(is_stray(known, held)),
     }
@@ -102,15 +115,6 @@ fn number_if(holds: bool, number: u64) -> u64
     ensures { result ≡ (if holds then number else 0) }
 {
     if holds { number } else { 0 }
-}
-
-// The number, where a thing is at its place and the owner of an id has its key. Whether that is so is asked only where there
-// is a number: of most parts most things have none.
-fn own_number(known: &Known, held: &Held, number: u64) -> u64
-    ensures { (found : List Found) → IsKnown found known.now
-        → result ≡ (if is_own found held.now then number else 0) }
-{
-    number_if(number > 0 && is_own(known, held), number)
 }
 
 // Whether it is an entry that names a directory.
@@ -146,10 +150,7 @@ fn is_own(known: &Known, held: &Held) -> bool
 fn is_past(known: &Known, held: &Held) -> bool
     ensures { (found : List Found) → IsKnown found known.now → result ≡ is_past found held.now }
 {
-    match held.thing {
-        Thing::Stat(_) | Thing::Entry(_) => false,
-        Thing::Tail(_) | Thing::Extent(_) => is_own(known, held) && goes_past(known, held),
-    }
+    is_own(known, held) && goes_past(known, held)
 }
 
 // Whether it goes past the end of the body of its id's owner.
