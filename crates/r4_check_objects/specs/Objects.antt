@@ -126,11 +126,9 @@ ends_past size offset (Entry t) = false
 ends_past size offset (Tail n) = nat_lt size (offset + n)
 ends_past size offset (Extent n) = nat_lt (4096 * blocks_for size) (offset + 4096 * n)
 
-abbrev pub goes_past : List Held → Held → Bool
-goes_past found h = option_map_or (λ f. nat_le f.size GREATEST_SIZE && ends_past f.size (offset_of h.key) h.thing) (owner_facts found (id_of h)) false
-
 abbrev pub is_past : List Held → Held → Bool
-is_past found h = is_own found h && goes_past found h
+is_past found h = is_own found h
+    && option_map_or (λ f. nat_le f.size GREATEST_SIZE && ends_past f.size (offset_of h.key) h.thing) (owner_facts found (id_of h)) false
 
 -- what may not be there: with a key that no such thing has; stat data of a second object of an id, or of a root that is a
 -- file; an entry without its directory or its target; a part of a body without its file

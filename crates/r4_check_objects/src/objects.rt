@@ -74,8 +74,8 @@ fn add_count(faults: &mut Vec<Fault>, super40: &Super40, found: &[Held]) -> Resu
     Ok(())
 }
 
-// From the least id that stat data have up to the greatest, and at most two for each of them. Ids below the first one that a
-// file may have are left out.
+// From the least id that stat data have up to the greatest, and at most two for each of them. Ids
+// below the first one that a file may have are left out.
 fn span_of(found: &[Held]) -> Span {
     let mut first = u64::MAX;
     let mut last = 0;

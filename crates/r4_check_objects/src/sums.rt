@@ -4,7 +4,7 @@ ghost use Rattle.std.specs.Prelude.{◌≡◌, ◌≤◌, ◌++◌, ◌∷◌, [
 ghost use Rattle.std.specs.Bool.{OnFalse};
 ghost use Rattle.r4_base.specs.Key.{offset_of};
 ghost use Rattle.r4_check_objects.specs.Known.{AddsUnder, AreSumsOf, IsKnown};
-ghost use Rattle.r4_check_objects.specs.Objects.{ends_past, goes_past, is_directory_at, is_own, is_owner, is_past, is_stray, names_one};
+ghost use Rattle.r4_check_objects.specs.Objects.{ends_past, is_directory_at, is_own, is_owner, is_past, is_stray, names_one};
 ghost use Rattle.r4_check_objects.specs.Objects.{once, place_of, share_of, strays};
 ghost use Rattle.r4_check_objects.specs.declared.held.Held.{Held as Found};
 
@@ -52,7 +52,8 @@ pub(crate) fn add_share(
     Ok(())
 }
 
-// Whether a thing is one that may count for a part, whatever is known: most parts are of one kind of things.
+// Whether a thing is one that may count for a part, whatever is known: most parts are of one kind of
+// things.
 fn may_count(part: Part, held: &Held) -> bool
     ensures { OnFalse result ((found : List Found) → share_of part found held.now ≡ 0) }
 {
@@ -150,17 +151,11 @@ fn is_own(known: &Known, held: &Held) -> bool
 fn is_past(known: &Known, held: &Held) -> bool
     ensures { (found : List Found) → IsKnown found known.now → result ≡ is_past found held.now }
 {
-    is_own(known, held) && goes_past(known, held)
-}
-
-// Whether it goes past the end of the body of its id's owner.
-fn goes_past(known: &Known, held: &Held) -> bool
-    ensures { (found : List Found) → IsKnown found known.now → result ≡ goes_past found held.now }
-{
-    match known.owner_facts(held.id()) {
-        Some(facts) => facts.size <= GREATEST_SIZE && ends_past(facts.size, held),
-        None => false,
-    }
+    is_own(known, held)
+        && match known.owner_facts(held.id()) {
+            Some(facts) => facts.size <= GREATEST_SIZE && ends_past(facts.size, held),
+            None => false,
+        }
 }
 
 // Whether it is a part of a body that goes past the end of a file of so many bytes.

@@ -14,9 +14,9 @@ pub(crate) struct Span {
     pub(crate) count: usize,
 }
 
-/// A value under each id. Those of a span stand in a list, so that one is found at once: a volume's ids rise from
-/// `FIRST_OBJECT` on. The others stand in a map, so that its size follows what is put into it, whatever ids a damaged
-/// image has.
+/// A value under each id. Those of a span stand in a list, so that one is found at once: a volume's
+/// ids rise from `FIRST_OBJECT` on. The others stand in a map, so that its size follows what is put
+/// into it, whatever ids a damaged image has.
 #[derive(Drop)]
 pub(crate) struct Table<T> {
     none: T,

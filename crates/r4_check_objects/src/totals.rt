@@ -24,7 +24,8 @@ pub(crate) struct Totals {
     pub(crate) strays: Sums,
 }
 
-/// The sums over these things, with a span of ids in the tables' lists. They stand still at 2^64 - 1.
+/// The sums over these things, with a span of ids in the tables' lists. They stand still at
+/// 2^64 - 1.
 pub(crate) fn totals_of(
     alloc: Global,
     known: &Known,
