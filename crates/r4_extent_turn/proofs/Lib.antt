@@ -1,0 +1,9 @@
+pub mod Bodies
+pub mod Comes
+pub mod SetOver
+pub mod Room
+pub mod Keeps
+pub mod TurnOf
+pub mod SetsBytes
+pub mod ReadyTurn
+pub mod SetTurned

@@ -3,11 +3,12 @@
 use Rattle.std.specs.Prelude.{◌≡◌, ℕ, ◌+◌, ◌-◌, ◌^◌, ◌<◌, List, [], ◌∷◌, ◌++◌, length, replicate, Bool, true, false}
 use Rattle.std.specs.Prelude.{Contains, Option, None, Some, option_map, unwrap_or}
 use Rattle.std.specs.List.{flat_map}
-use Rattle.r4_base.specs.Key.{rank}
+use Rattle.r4_base.specs.Key.{key_of_rank, rank}
 use Rattle.r4_base.specs.Tree.{IsNode}
 use Rattle.r4_base.specs.Value.{Byte, Value}
 use Rattle.r4_base.specs.Volume.{blocks_for}
 use Rattle.r4_base.specs.declared.key.Key.{Key}
+use Rattle.r4_branch.specs.declared.piece.TwigPart.TheVariants.{Pointer}
 use Rattle.r4_branch.specs.declared.piece.TwigPiece.{TwigPiece}
 use Rattle.r4_cell.specs.Patch.{HaveNames}
 use Rattle.r4_cell.specs.Seen.{CellSeen, node_of}
@@ -140,10 +141,15 @@ told_extent b e = runs (gets_bytes b e) (first_byte b) (blocks_for b.now)
 abbrev pub blocks_turned : Body → Edits → ℕ
 blocks_turned b e = coming_count [] (told_extent b e)
 
+-- the pointer to what stays of the first leaf, at the key at which the leaf's own one stands
+abbrev pub left_pointer : Option CellSeen → List TwigPiece
+left_pointer None = []
+left_pointer (Some c) = record { key = key_of_rank (rank c.lo); part = Pointer (record { 0 = c.id }) } ∷ []
+
 -- The twig's pieces, with an extent in the place of the leaves, between pointers to what stays of them.
 abbrev pub pieces_with : Body → Turn → (extent : List TwigPiece) → Kept → List TwigPiece
 pieces_with b x extent s =
-    pieces_over (rank x.leaf.lo) (end_after b) (pointer_to s.left ++ (extent ++ pointer_to s.right)) x.twig
+    pieces_over (rank x.leaf.lo) (end_after b) (left_pointer s.left ++ (extent ++ pointer_to s.right)) x.twig
 
 -- as they tell the room that is needed
 abbrev pub told_pieces : Body → Edits → Turn → Kept → List TwigPiece

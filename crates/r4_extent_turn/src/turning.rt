@@ -1,9 +1,9 @@
 //! The turn of a twig of a body that comes out of tails to extents (docs/volume.md, "Bodies in extents").
 
-ghost use Rattle.std.specs.Prelude.{◌≡◌, ◌+◌, ◌++◌, ◌≤◌, Contains, IfOk, map, false, true};
+ghost use Rattle.std.specs.Prelude.{◌≡◌, ◌+◌, ◌++◌, ◌≤◌, Contains, IfOk, OnOk, map, false, true};
 ghost use Rattle.std.specs.Arc.{arc_value};
 ghost use Rattle.std.specs.Option.{option_map};
-ghost use Rattle.r4_base.specs.Key.{rank};
+ghost use Rattle.r4_base.specs.Key.{key_of_rank, rank};
 ghost use Rattle.r4_base.specs.Tree.{Root as TreeRoot, Store};
 ghost use Rattle.r4_base.specs.Value.{Value};
 ghost use Rattle.r4_branch.specs.declared.piece.TwigPiece.{TwigPiece as PieceSeen};
@@ -18,14 +18,14 @@ ghost use Rattle.r4_path.specs.TwigPieces.{twig_pieces};
 ghost use Rattle.r4_reach.specs.Touched.{Body, first_byte};
 ghost use Rattle.r4_twig_work.specs.Regrafting.{beside_of};
 ghost use Rattle.r4_base.specs.declared.key.Key.{Key as KeySeen};
-ghost use Rattle.r4_extent_turn.specs.Turning.{IsTurnFor, IsTurningBody, told_extent};
+ghost use Rattle.r4_extent_turn.specs.Turning.{IsTurnFor, IsTurningBody, left_pointer, told_extent};
 ghost use Rattle.r4_extent_turn.specs.TurningIn.{CanTurnOut, HasTurnedOut, IsMadeFor, numbers_to_turn, turn_of};
 
 use crate::blocks::number_each;
 use crate::keeping::ends_kept;
 use crate::tails::tails_in;
-use r4_base::{Key, Memory};
-use r4_branch::TwigPiece;
+use r4_base::{Key, Memory, NodeId};
+use r4_branch::{TwigPart, TwigPiece};
 use r4_cell::{Cell, Fresh};
 use r4_content::{Edits, Interval};
 use r4_edit::{LeafParts, add_pointer, cells_of, pieces_parted};
@@ -169,16 +169,41 @@ fn pieces_with(
 ) -> Result<Vec<TwigPiece>, Memory>
     requires turn { (b : Body) × IsTurnFor b (turn_of turning.now) }
     ensures { IfOk result (λ v. v.items ≡ pieces_over (rank (turn_of turning.now).leaf.lo) (rank to.now)
-        (pointer_to (option_map (λ c. arc_value c) kept.now.left)
+        (left_pointer (option_map (λ c. arc_value c) kept.now.left)
         ++ (extent.now ++ pointer_to (option_map (λ c. arc_value c) kept.now.right)))
         (turn_of turning.now).twig) }
 {
     let mut others = Vec::new(alloc);
-    add_pointer(&mut others, &kept.left)?;
+    add_left(&mut others, &kept.left)?;
     others.extend_from_slice(extent)?;
     add_pointer(&mut others, &kept.right)?;
     let from = turning.leaves[0].lo();
     pieces_put_over(alloc, &turning.twig, &from, to, others.as_slice())
+}
+
+// Puts a pointer to what stays of the first leaf behind the pieces, if something does.
+fn add_left(pieces: &mut Vec<TwigPiece>, to: &Option<Arc<Cell>>) -> Result<(), Memory>
+    ensures { OnOk result (pieces.new.items
+        ≡ pieces.old.items ++ left_pointer (option_map (λ c. arc_value c) to.now)) }
+{
+    let Some(cell) = to else {
+        return Ok(());
+    };
+    pieces.push(pointer(cell.lo(), cell.id()))?;
+    Ok(())
+}
+
+// The pointer to a leaf that begins with a key.
+fn pointer(key: Key, id: NodeId) -> TwigPiece
+    ensures { result ≡ record {
+      key = key_of_rank (rank key);
+      part = TwigPart.Pointer (record { 0 = id.0 });
+    } }
+{
+    TwigPiece {
+        key,
+        part: TwigPart::Pointer(id),
+    }
 }
 
 // A twig's pieces, parted at both keys, with others in the place of those between them. The first key lies at a border
