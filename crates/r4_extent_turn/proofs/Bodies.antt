@@ -1,5 +1,5 @@
 -- A body that comes to extents: where it begins, how many blocks it has, and the pieces of its extent.
-use Rattle.std.proofs.Common.{◌≡◌, ℕ, ◌+◌, ◌*◌, ◌/◌, ◌^◌, ◌<◌, ◌≤◌, Bool, true, false, [], List, refl, sym, ap, subst, ◌∙◌, arith, ltb-true}
+use Rattle.std.proofs.Common.{◌≡◌, ℕ, ◌+◌, ◌*◌, ◌/◌, ◌^◌, ◌<◌, ◌≤◌, Bool, true, false, cond, [], List, refl, sym, ap, subst, ◌∙◌, arith, ltb-true}
 use Rattle.std.specs.Prelude.{◌&&◌, ◌||◌, not, nat_lt}
 use Rattle.r4_base.specs.Key.{offset_of, rank}
 use Rattle.r4_base.specs.Tree.{Name}
@@ -13,7 +13,7 @@ use Rattle.r4_extent_build.specs.Numbering.{names_coming, with_numbers}
 use Rattle.r4_extent_build.proofs.Numbers.{numbers_follow, numbers_next, numbers_units}
 use Rattle.r4_extent_build.proofs.RunPieces.{AreFree, AreRuns, are_runs}
 use Rattle.r4_reach.specs.Needs.{gets_bytes, runs}
-use Rattle.r4_reach.specs.Touched.{Body, first_byte}
+use Rattle.r4_reach.specs.Touched.{Body, blocks_end, coming, first_byte}
 use Rattle.r4_extent_turn.specs.Turning.{IsTurningBody, told_extent}
 
 module _ (b : Body) (first : Key) (g : IsTurningBody b first) where
@@ -24,6 +24,14 @@ module _ (b : Body) (first : Key) (g : IsTurningBody b first) where
       by_tests true y h up = absurd cc
       by_tests false true h up = (refl, up refl)
       by_tests false false h up = absurd cc
+
+  pub coming_is : coming b ≡ (first_byte b, end_after b)
+  coming_is = by_tests b.in_extents (nat_lt 16384 b.now) turned.0 g.turns
+    where
+      by_tests : (t l : Bool) → t ≡ false → ((t || l) && not t) ≡ true → ◌≡◌ {A = ℕ × ℕ} (cond (t || l) (cond t (blocks_end b b.was) (first_byte b), end_after b) (0, 0)) (first_byte b, end_after b)
+      by_tests true l is_false on = absurd cc
+      by_tests false true is_false on = refl
+      by_tests false false is_false on = absurd cc
 
   abbrev pub count : ℕ
   count = blocks_for b.now

@@ -7,3 +7,7 @@ pub mod TurnOf
 pub mod SetsBytes
 pub mod ReadyTurn
 pub mod SetTurned
+pub mod Gathered
+pub mod OverBlocks
+pub mod ToldRuns
+pub mod GivenLeaves

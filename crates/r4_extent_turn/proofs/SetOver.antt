@@ -52,7 +52,7 @@ over_is t e k =
     or_none (last_put (pairs_put t ++ pairs_put e) k)
     ∙ (sym (last_more (pairs_put t) (pairs_put e) k) ∙ (λ i. option_or (put_all e k i) (put_all t k i)))
 
-unwrap_over : (x y : Option ℕ) → unwrap_or (option_or x y) 0 ≡ unwrap_or x (unwrap_or y 0)
+pub unwrap_over : (x y : Option ℕ) → unwrap_or (option_or x y) 0 ≡ unwrap_or x (unwrap_or y 0)
 unwrap_over None y = refl
 unwrap_over (Some x) y = refl
 

@@ -28,13 +28,14 @@ use Rattle.r4_extent_turn.specs.Turning.{AreKept, IsTurnFor, IsTurningBody, Kept
 use Rattle.r4_extent_turn.specs.Turning.{kept_cells, last_of, leaves_of, numbered, told_pieces, turning_turn}
 use Rattle.r4_extent_turn.specs.declared.turning.Turning.{Turning}
 
--- what contracts see of a twig and its leaves; where none is given, the twig stands for one
+-- a twig and its leaves; where there is none, the twig stands for one
+abbrev pub turn_from : (twig : CellSeen) → (leaves : List CellSeen) → Turn
+turn_from twig [] = record { twig = twig; leaf = twig; more = [] }
+turn_from twig (c ∷ cs) = record { twig = twig; leaf = c; more = cs }
+
+-- what contracts see of them
 abbrev pub turn_of : Turning → Turn
-turn_of x = by_leaves (map (λ c. arc_value c) x.leaves.items)
-  where
-    by_leaves : List CellSeen → Turn
-    by_leaves [] = record { twig = arc_value x.twig; leaf = arc_value x.twig; more = [] }
-    by_leaves (c ∷ cs) = record { twig = arc_value x.twig; leaf = c; more = cs }
+turn_of x = turn_from (arc_value x.twig) (map (λ c. arc_value c) x.leaves.items)
 
 -- The twig and the leaves stand in the set.
 pub record StandsTurn (w : WorkingSet) (x : Turn) : Type 0 where

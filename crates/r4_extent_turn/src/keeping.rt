@@ -31,7 +31,7 @@ pub(crate) fn ends_kept(
 ) -> Result<LeafParts, Memory>
     requires ends { AreEnds (map (λ c. arc_value c) leaves.now) (rank from.now) (rank to.now) }
     requires numbers { fresh.old.next + 2 ≤ fresh.old.end }
-    ensures keeps { IfOk result (λ p. (leaf : CellSeen) (more : List CellSeen)
+    ensures { IfOk result (λ p. (leaf : CellSeen) (more : List CellSeen)
         → map (λ c. arc_value c) leaves.now ≡ leaf ∷ more
         → KeepsEnds leaf more from.now to.now fresh.old fresh.new
         (option_map (λ c. arc_value c) p.left) (option_map (λ c. arc_value c) p.right)) }

@@ -1,6 +1,6 @@
 //! The turn of a twig of a body that comes out of tails to extents (docs/volume.md, "Bodies in extents").
 
-ghost use Rattle.std.specs.Prelude.{◌≡◌, ◌+◌, ◌++◌, ◌≤◌, Contains, IfOk, OnOk, map, false, true};
+ghost use Rattle.std.specs.Prelude.{◌≡◌, ◌+◌, ◌++◌, ◌≤◌, Contains, IfOk, OnOk, drop, length, map, take, false, true};
 ghost use Rattle.std.specs.Arc.{arc_value};
 ghost use Rattle.std.specs.Option.{option_map};
 ghost use Rattle.r4_base.specs.Key.{key_of_rank, rank};
@@ -152,10 +152,22 @@ fn told_extent(
     let old = pieces_of_cell(alloc, twig)?;
     let all = pieces_after(alloc, Some(body), edits, twig, &[])?;
     let at = place_of(old.as_slice(), &body.first_byte());
-    let count = all.len() - old.len();
-    let mut told = Vec::new(alloc);
-    told.extend_from_slice(&all.as_slice()[at..at + count])?;
-    Ok(told)
+    some_of(alloc, all.as_slice(), at, all.len() - old.len())
+}
+
+// So many of the pieces, from one on.
+fn some_of(
+    alloc: Global,
+    pieces: &[TwigPiece],
+    at: usize,
+    count: usize,
+) -> Result<Vec<TwigPiece>, Memory>
+    requires { at + count ≤ length pieces.now }
+    ensures { IfOk result (λ v. v.items ≡ take count (drop at pieces.now)) }
+{
+    let mut some = Vec::with_capacity(alloc, count)?;
+    some.extend_from_slice(&pieces[at..at + count])?;
+    Ok(some)
 }
 
 // The twig's pieces, with an extent in the place of its leaves, which ends at a key, between pointers to what stays of
