@@ -11,3 +11,5 @@ pub mod Gathered
 pub mod OverBlocks
 pub mod ToldRuns
 pub mod GivenLeaves
+pub mod MadeTurn
+pub mod OneTurn
