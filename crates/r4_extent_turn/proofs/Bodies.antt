@@ -1,11 +1,10 @@
 -- A body that comes to extents: where it begins, how many blocks it has, and the pieces of its extent.
-use Rattle.std.proofs.Common.{◌≡◌, ℕ, ◌+◌, ◌*◌, ◌/◌, ◌^◌, ◌<◌, ◌≤◌, Bool, true, false, cond, [], List, refl, sym, ap, subst, ◌∙◌, arith, ltb-true}
+use Rattle.std.proofs.Common.{◌≡◌, ℕ, ◌+◌, ◌*◌, ◌^◌, ◌<◌, ◌≤◌, Bool, true, false, cond, [], List, refl, subst, ◌∙◌, arith, ltb-true}
 use Rattle.std.specs.Prelude.{◌&&◌, ◌||◌, not, nat_lt}
 use Rattle.r4_base.specs.Key.{offset_of, rank}
-use Rattle.r4_base.specs.Tree.{Name}
 use Rattle.r4_base.specs.Volume.{blocks_for}
 use Rattle.r4_base.specs.declared.key.Key.{Key}
-use Rattle.r4_branch.specs.Pieces.{Follow, bytes_behind, last_end, names_of, next_of, open_end, units_of}
+use Rattle.r4_branch.specs.Pieces.{Follow, names_of, next_of, units_of}
 use Rattle.r4_branch.specs.declared.piece.TwigPiece.{TwigPiece}
 use Rattle.r4_content.specs.Edited.{Edits}
 use Rattle.r4_extent_build.specs.Growing.{end_after}

@@ -1,7 +1,7 @@
 -- What comes in the place of the pointers to leaves: an extent between pointers to what stays of them.
-use Rattle.std.proofs.Common.{map, ◌≡◌, ◌≢◌, ◌↔◌, ◌⊎◌, inl, inr, ℕ, ◌+◌, ◌^◌, ◌<◌, ◌≤◌, Bool, true, false, List, []}
+use Rattle.std.proofs.Common.{map, ◌≡◌, ◌↔◌, ◌⊎◌, ℕ, ◌+◌, ◌^◌, ◌<◌, ◌≤◌, Bool, List, []}
 use Rattle.std.proofs.Common.{◌∷◌, ◌++◌, length, refl, sym, ap, subst, ◌∙◌, arith, eq-eqb}
-use Rattle.std.specs.Prelude.{Contains, Option, None, Some, ◌==◌, if◌then◌else◌, option_map}
+use Rattle.std.specs.Prelude.{Contains, Option, None, Some, if◌then◌else◌, option_map}
 use Rattle.std.proofs.lemmas.List.{append-nil, length-append}
 use Rattle.r4_base.specs.Key.{IsKey, key_of_rank, rank}
 use Rattle.r4_base.specs.Tree.{Name}
@@ -29,9 +29,9 @@ use Rattle.r4_path.specs.Steps.{name_of}
 use Rattle.r4_path.specs.TwigPieces.{twig_pieces}
 use Rattle.r4_path.proofs.Rising.{hi_is}
 use Rattle.r4_reach.specs.Touched.{Body, first_byte}
-use Rattle.r4_extent_turn.specs.Turning.{AreKept, IsTurnFor, IsTurningBody, Kept, Turn, blocks_turned, kept_cells}
+use Rattle.r4_extent_turn.specs.Turning.{AreKept, IsTurnFor, IsTurningBody, Kept, Turn, blocks_turned}
 use Rattle.r4_extent_turn.specs.Turning.{last_of, left_pointer, leaves_of, numbered, pieces_with, told_extent, with_id}
-use Rattle.r4_extent_turn.proofs.Bodies.{extent, extent_follow, extent_names, extent_next, extent_units, some_keys}
+use Rattle.r4_extent_turn.proofs.Bodies.{extent, extent_follow, extent_names, extent_next, extent_units}
 
 module _ (b : Body) (x : Turn) (c : IsTurnFor b x) where
   abbrev pub end : ℕ

@@ -1,13 +1,8 @@
 -- A twig and its leaves, as they are given.
-use Rattle.std.proofs.Common.{◌≡◌, ℕ, ◌+◌, ◌*◌, ◌^◌, ◌<◌, ◌≤◌, true, List, [], ◌∷◌, get_or, refl, sym, ap, subst, ◌∙◌, arith}
-use Rattle.std.specs.Prelude.{Contains}
+use Rattle.std.proofs.Common.{◌≡◌, ℕ, ◌+◌, ◌*◌, ◌^◌, ◌<◌, ◌≤◌, true, List, [], ◌∷◌, get_or, refl, arith}
 use Rattle.r4_base.specs.Key.{IsKey, offset_of, rank}
-use Rattle.r4_base.specs.Tree.{IsNode}
-use Rattle.r4_base.specs.Value.{Value}
 use Rattle.r4_base.specs.declared.key.Key.{Key}
-use Rattle.r4_branch.specs.Pieces.{Follow, piece_end}
-use Rattle.r4_branch.specs.declared.piece.TwigPiece.{TwigPiece}
-use Rattle.r4_cell.specs.Seen.{CellSeen, node_of}
+use Rattle.r4_cell.specs.Seen.{CellSeen}
 use Rattle.r4_extent_build.specs.Growing.{end_after}
 use Rattle.r4_extent_edit.specs.Turning.{AreEnds}
 use Rattle.r4_extent_edit.proofs.ExtentEffect.{is_on}

@@ -1,5 +1,5 @@
 -- What stays of leaves, under other numbers: leaves that may stand, with the units that it is to have.
-use Rattle.std.proofs.Common.{◌≡◌, ◌≢◌, ◌↔◌, ◌⊎◌, inl, inr, ℕ, ◌+◌, ◌<◌, ◌≤◌, Bool, true, false, List, [], ◌∷◌, ◌++◌, length, refl, sym, ap, subst, ◌∙◌, arith}
+use Rattle.std.proofs.Common.{◌≡◌, ◌↔◌, ◌⊎◌, inl, inr, ℕ, ◌+◌, ◌<◌, ◌≤◌, Bool, true, false, List, [], ◌∷◌, ◌++◌, length, refl, sym, ap, subst, ◌∙◌, arith}
 use Rattle.std.specs.Prelude.{Contains, Option, None, Some, ◌==◌, nat_lt, option_map}
 use Rattle.std.proofs.lemmas.Bool.{cases_lt, lt-ltb, ltb-true}
 use Rattle.std.proofs.lemmas.List.Elements.{Contains-append_cases, Contains-append_left, Contains-append_right}
@@ -22,9 +22,9 @@ use Rattle.r4_patch.specs.Effect.{Placed}
 use Rattle.r4_patch.specs.Joining.{ids_of}
 use Rattle.r4_patch.proofs.Members.{Distinct, cases, here, none}
 use Rattle.r4_path.specs.Steps.{CountUp, Follow}
-use Rattle.r4_path.proofs.Rising.{InCell, follow_within, hi_is, in_cell, lo_is}
+use Rattle.r4_path.proofs.Rising.{InCell, follow_within, in_cell}
 use Rattle.r4_reach.specs.Touched.{Body, first_byte}
-use Rattle.r4_work.proofs.UnitMembers.{between, filtered, to_filtered}
+use Rattle.r4_work.proofs.UnitMembers.{filtered, to_filtered}
 use Rattle.r4_extent_turn.specs.Turning.{AreKept, IsTurnFor, Kept, Turn, in_turned, kept_cells, last_of, leaves_of, numbered, with_id}
 use Rattle.r4_extent_turn.proofs.Comes.{right_low}
 

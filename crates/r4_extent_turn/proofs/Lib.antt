@@ -13,3 +13,4 @@ pub mod ToldRuns
 pub mod GivenLeaves
 pub mod MadeTurn
 pub mod OneTurn
+pub mod LeftSet

@@ -1,9 +1,9 @@
 -- What is made for the turn of a twig of a body that comes to extents, as the calls tell it.
-use Rattle.std.proofs.Common.{map, ◌≡◌, ℕ, ◌+◌, ◌*◌, ◌^◌, ◌<◌, ◌≤◌, inl, inr, Bool, true, false, List, [], ◌∷◌, ◌++◌, length, refl, sym, ap, subst, ◌∙◌, arith}
-use Rattle.std.specs.Prelude.{Contains, None, Option, Some, ◌&&◌, option_map}
+use Rattle.std.proofs.Common.{◌≡◌, ℕ, ◌+◌, ◌*◌, ◌^◌, ◌<◌, ◌≤◌, inl, inr, true, List, [], ◌∷◌, ◌++◌, length, refl, sym, ap, subst, ◌∙◌, arith}
+use Rattle.std.specs.Prelude.{Contains, None, Option, Some, option_map}
 use Rattle.std.specs.Option.{option_or}
 use Rattle.std.proofs.lemmas.List.{length-append}
-use Rattle.r4_base.specs.Key.{IsKey, offset_of, rank}
+use Rattle.r4_base.specs.Key.{offset_of, rank}
 use Rattle.r4_base.specs.declared.key.Key.{Key}
 use Rattle.r4_branch.specs.Pieces.{Follow, IsSound, part_end, piece_end}
 use Rattle.r4_branch.specs.declared.piece.TwigPiece.{TwigPiece}
@@ -14,7 +14,7 @@ use Rattle.r4_edit.specs.Extents.{given_cells, pointer_to}
 use Rattle.r4_edit.specs.LeafParts.{HasRight}
 use Rattle.r4_extent_blocks.specs.Setting.{byte_set, last_put}
 use Rattle.r4_extent_build.specs.Growing.{end_after}
-use Rattle.r4_extent_build.specs.Numbering.{CanNumber, IsNumbered, cells_coming, is_coming, with_numbers}
+use Rattle.r4_extent_build.specs.Numbering.{CanNumber, IsNumbered, is_coming}
 use Rattle.r4_extent_build.proofs.Numbers.{told}
 use Rattle.r4_extent_edit.specs.Between.{pieces_over}
 use Rattle.r4_extent_edit.proofs.SpanBorders.{follow_within}
@@ -23,8 +23,8 @@ use Rattle.r4_patch.proofs.Members.{cases, none}
 use Rattle.r4_reach.specs.Touched.{Body, first_byte}
 use Rattle.r4_extent_turn.specs.Gathering.{units_within}
 use Rattle.r4_extent_turn.specs.Keeping.{KeepsEnds}
-use Rattle.r4_extent_turn.specs.Turning.{AreKept, IsTurnFor, IsTurningBody, Kept, Turn, blocks_turned, kept_cells, last_of, left_pointer}
-use Rattle.r4_extent_turn.specs.Turning.{leaves_of, numbered, set_over, tails_of, told_extent, turning_turn, with_id}
+use Rattle.r4_extent_turn.specs.Turning.{AreKept, IsTurningBody, Kept, Turn, blocks_turned, kept_cells, last_of, left_pointer}
+use Rattle.r4_extent_turn.specs.Turning.{leaves_of, numbered, set_over, tails_of, told_extent, with_id}
 use Rattle.r4_extent_turn.specs.TurningIn.{IsMadeFor, numbers_to_turn}
 use Rattle.r4_extent_turn.proofs.Bodies.{count, fits, told_follow}
 use Rattle.r4_extent_turn.proofs.GivenLeaves.{near}

@@ -1,8 +1,8 @@
 -- A standing twig of a body that comes to extents is ready for its turn, and has it.
-use Rattle.std.proofs.Common.{◌≡◌, ◌≢◌, inl, inr, ℕ, ◌+◌, ◌-◌, ◌/◌, ◌^◌, ◌<◌, ◌≤◌, List, [], ◌∷◌, ◌++◌, length, refl, sym, ap, subst, ◌∙◌, arith}
+use Rattle.std.proofs.Common.{◌≡◌, ◌+◌, ◌-◌, ◌/◌, ◌<◌, ◌≤◌, [], ◌∷◌, ◌++◌, length, refl, sym, subst, ◌∙◌, arith}
 use Rattle.std.specs.Prelude.{Contains, None, Option, Some}
 use Rattle.r4_base.specs.Key.{rank}
-use Rattle.r4_base.specs.Tree.{IsNode, Node, Root, Store}
+use Rattle.r4_base.specs.Tree.{Root, Store}
 use Rattle.r4_base.specs.Value.{Value}
 use Rattle.r4_base.specs.declared.key.Key.{Key}
 use Rattle.r4_branch.specs.Pieces.{twig_bytes}
@@ -22,8 +22,8 @@ use Rattle.r4_reach.specs.Touched.{Body}
 use Rattle.r4_work.specs.Working.{IsWorking, now_of, root_of, standing}
 use Rattle.r4_work.specs.declared.working.WorkingSet.{WorkingSet}
 use Rattle.r4_work.proofs.InPlace.{now_part, standing_is}
-use Rattle.r4_extent_turn.specs.Turning.{AreKept, IsTurnFor, IsTurningBody, Kept, Turn, blocks_turned, kept_cells, last_of, leaves_of, numbered, told_pieces, turning_turn}
-use Rattle.r4_extent_turn.specs.TurningIn.{CanTurnOut, IsTurnIn, MayTurnOut, StandsTurn, numbers_to_turn, turns_to}
+use Rattle.r4_extent_turn.specs.Turning.{AreKept, IsTurnFor, IsTurningBody, Kept, Turn, blocks_turned, kept_cells, last_of, leaves_of, told_pieces, turning_turn}
+use Rattle.r4_extent_turn.specs.TurningIn.{CanTurnOut, IsTurnIn, MayTurnOut, StandsTurn, turns_to}
 use Rattle.r4_extent_turn.proofs.Room.{same_bytes}
 use Rattle.r4_extent_turn.proofs.TurnOf.{turn_of}
 
@@ -76,7 +76,7 @@ few_kept s = by_both s.left s.right
     by_both (Some l) (Some c) = omega arith
 
 module _ (b : Body) (first : Key) (e : Edits) (t : Store Value) (r : Root) (x : Turn) (f : Fresh) (w : WorkingSet) (u : Budget) (m : MayTurnOut b first e t r x f w u) where
-  turn : IsTurnFor b x
+  pub turn : IsTurnFor b x
   turn = turn_in_part t r f w b x m.measured.working m.turn
 
   module _ (s : Kept) (k : AreKept b x s) where

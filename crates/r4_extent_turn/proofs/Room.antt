@@ -1,8 +1,8 @@
 -- The room that a turned twig's pieces need is what was told.
-use Rattle.std.proofs.Common.{◌≡◌, ℕ, ◌+◌, ◌*◌, ◌^◌, Bool, true, false, cond, List, [], ◌∷◌, ◌++◌, refl, sym, ap, ◌∙◌, arith}
+use Rattle.std.proofs.Common.{◌≡◌, ℕ, ◌+◌, ◌*◌, ◌^◌, Bool, true, false, cond, List, [], ◌∷◌, ◌++◌, refl, sym, ap, ◌∙◌}
 use Rattle.std.specs.Prelude.{None, Option, Some, nat_lt, option_map}
 use Rattle.r4_base.specs.Key.{offset_of, rank}
-use Rattle.r4_branch.specs.Pieces.{bytes_behind, last_end, open_end, part_bytes, twig_bytes}
+use Rattle.r4_branch.specs.Pieces.{bytes_behind, last_end, open_end, twig_bytes}
 use Rattle.r4_branch.specs.declared.piece.TwigPart.{TwigPart}
 use Rattle.r4_branch.specs.declared.piece.TwigPart.TheVariants.{Blocks, Pointer}
 use Rattle.r4_branch.specs.declared.piece.TwigPiece.{TwigPiece}
@@ -13,7 +13,7 @@ use Rattle.r4_extent_build.specs.Numbering.{block_of, is_coming, with_numbers}
 use Rattle.r4_extent_build.proofs.Numbers.{numbers_bytes, numbers_off, numbers_on, told}
 use Rattle.r4_graft.proofs.Joined.{bytes_join, last_join}
 use Rattle.r4_reach.specs.Touched.{Body}
-use Rattle.r4_extent_turn.specs.Turning.{IsTurnFor, Kept, Turn, left_pointer, numbered, pieces_with, told_extent, told_pieces, with_id}
+use Rattle.r4_extent_turn.specs.Turning.{IsTurnFor, Kept, Turn, left_pointer, pieces_with, told_extent, told_pieces, with_id}
 use Rattle.r4_extent_turn.proofs.Comes.{over, p}
 
 -- These pieces need the same room, whatever stands before them, and leave the same behind them.

@@ -1,7 +1,6 @@
 -- What stood in leaves, with what edits put over it.
 use Rattle.std.proofs.Common.{◌≡◌, ℕ, ◌+◌, ◌-◌, ◌<◌, ◌≤◌, Bool, true, false, cond, List, [], ◌∷◌, ◌++◌, replicate, refl, sym, ap, ◌∙◌, arith, inl, inr}
-use Rattle.std.specs.Prelude.{Contains, None, Option, Some, unwrap_or, ◌==◌, ◌&&◌, ◌||◌, nat_lt, not}
-use Rattle.std.specs.List.{flat_map}
+use Rattle.std.specs.Prelude.{Contains, None, Option, Some, unwrap_or, ◌==◌, ◌&&◌, ◌||◌, nat_lt}
 use Rattle.std.specs.Option.{option_or}
 use Rattle.std.proofs.lemmas.Bool.{eqb-true, ltb-false}
 use Rattle.std.proofs.lemmas.List.Concat.{flat_map-cons}
@@ -16,7 +15,7 @@ use Rattle.r4_extent_blocks.proofs.Sets.{last_filled, last_more}
 use Rattle.r4_extent_build.proofs.TurnEffect.{calm}
 use Rattle.r4_extent_build.specs.Growing.{end_after}
 use Rattle.r4_extent_build.specs.Setting.{byte_after}
-use Rattle.r4_patch.proofs.Members.{cases, here, later, none}
+use Rattle.r4_patch.proofs.Members.{here, later, none}
 use Rattle.r4_reach.specs.Needs.{gets_bytes, is_met}
 use Rattle.r4_reach.specs.Touched.{Body, first_byte, turns_out}
 use Rattle.r4_work.proofs.UnitMembers.{filtered}

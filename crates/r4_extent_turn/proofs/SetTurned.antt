@@ -1,6 +1,6 @@
 -- What the turn of a twig of a body that comes to extents does in a working set.
 use Rattle.std.proofs.Common.{◌≡◌, inl, inr, ℕ, Bool, List, refl, sym, ap, subst, ◌∙◌}
-use Rattle.std.specs.Prelude.{◌↔◌, Contains, Option}
+use Rattle.std.specs.Prelude.{◌↔◌, Option}
 use Rattle.r4_base.specs.Tree.{Holds, Node, Root, Store}
 use Rattle.r4_base.specs.Value.{Value}
 use Rattle.r4_branch.specs.Pieces.{units_of}

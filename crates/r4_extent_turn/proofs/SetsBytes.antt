@@ -1,10 +1,10 @@
 -- What the turn of a twig of a body that comes to extents does to units.
-use Rattle.std.proofs.Common.{◌≡◌, ◌↔◌, ◌⊎◌, inl, inr, ℕ, ◌+◌, ◌*◌, ◌^◌, ◌<◌, ◌≤◌, Bool, true, false, List, [], ◌∷◌, ◌++◌, length, refl, sym, ap, subst, ◌∙◌, arith}
+use Rattle.std.proofs.Common.{◌≡◌, ◌↔◌, ◌⊎◌, inl, inr, ℕ, ◌+◌, ◌*◌, ◌^◌, ◌≤◌, true, false, List, [], ◌++◌, refl, sym, ap, subst, ◌∙◌, arith}
 use Rattle.std.specs.Prelude.{Contains, Some}
 use Rattle.std.proofs.lemmas.List.Elements.{Contains-append_cases, Contains-append_left, Contains-append_right}
 use Rattle.std.proofs.lemmas.Option.{same_Some}
-use Rattle.r4_base.specs.Key.{offset_of, rank}
-use Rattle.r4_base.specs.Tree.{Holds, IsData}
+use Rattle.r4_base.specs.Key.{rank}
+use Rattle.r4_base.specs.Tree.{IsData}
 use Rattle.r4_base.specs.Value.{Value}
 use Rattle.r4_base.specs.declared.key.Key.{Key}
 use Rattle.r4_branch.specs.Pieces.{units_of}
@@ -17,7 +17,6 @@ use Rattle.r4_extent_build.specs.Setting.{byte_after}
 use Rattle.r4_extent_build.proofs.UnitsOfRuns.{IsIn, runs_stand}
 use Rattle.r4_extent_edit.proofs.ExtentEffect.{both_ways, is_on}
 use Rattle.r4_extent_edit.proofs.GraftEffect.{IsPlacedIn}
-use Rattle.r4_leaf.specs.Units.{LeafUnit}
 use Rattle.r4_patch.specs.Effect.{Placed}
 use Rattle.r4_path.specs.Steps.{name_of}
 use Rattle.r4_path.proofs.Rising.{InCell, follow_covers, in_node, level_is}

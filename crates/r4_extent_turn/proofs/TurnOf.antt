@@ -1,5 +1,5 @@
 -- The turn of a twig of a body that comes to extents is one of a twig that is packed anew.
-use Rattle.std.proofs.Common.{map, ◌≡◌, ◌↔◌, ◌⊎◌, inl, inr, ℕ, ◌+◌, ◌^◌, ◌≤◌, Bool, true, false, List, [], ◌∷◌, ◌++◌, length, refl, sym, ap, subst, ◌∙◌, arith}
+use Rattle.std.proofs.Common.{map, ◌≡◌, ◌⊎◌, inl, inr, ℕ, ◌+◌, ◌^◌, ◌≤◌, Bool, true, false, List, [], ◌∷◌, ◌++◌, length, refl, sym, ap, subst, arith}
 use Rattle.std.specs.Prelude.{Contains}
 use Rattle.std.proofs.lemmas.List.Elements.{Contains-append_cases, Contains-append_left, Contains-append_right}
 use Rattle.r4_base.specs.Key.{rank}
@@ -16,14 +16,14 @@ use Rattle.r4_extent_build.proofs.GrowingTurns.{cells_whole}
 use Rattle.r4_extent_build.proofs.Numbers.{cells_named, names_count, names_off, names_on}
 use Rattle.r4_patch.specs.Joining.{ids_of}
 use Rattle.r4_patch.proofs.Members.{cases, have_names, none}
-use Rattle.r4_path.specs.Steps.{CountUp, IsNameOf, name_of}
+use Rattle.r4_path.specs.Steps.{IsNameOf, name_of}
 use Rattle.r4_path.proofs.Grown.{map_names, names_map}
 use Rattle.r4_path.proofs.Rising.{hi_is, id_member, lo_is}
 use Rattle.r4_reach.specs.Touched.{Body}
 use Rattle.r4_extent_turn.specs.Turning.{AreKept, IsTurnFor, IsTurningBody, Kept, Turn, blocks_turned, kept_cells, leaves_of, numbered}
 use Rattle.r4_extent_turn.specs.Turning.{set_over, tails_of, told_extent, told_pieces, turning_turn}
 use Rattle.r4_extent_turn.proofs.Comes.{come_names, new, qs, qs_names, qs_pieces}
-use Rattle.r4_extent_turn.proofs.Keeps.{kept_node, leaf_level, numbers_are}
+use Rattle.r4_extent_turn.proofs.Keeps.{kept_node, numbers_are}
 use Rattle.r4_extent_turn.proofs.Room.{same_bytes}
 
 names_data : (old : List TwigPiece) (n : ℕ) (ps : List TwigPiece) (m : Name) → Contains (names_coming old n ps) m → IsData m

@@ -2,3 +2,4 @@ pub mod Gathering
 pub mod Turning
 pub mod Keeping
 pub mod TurningIn
+pub mod TurnedOut

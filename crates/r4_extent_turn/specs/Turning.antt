@@ -1,6 +1,6 @@
 -- A body that comes out of tails, or had no bytes, to extents below one twig (docs/volume.md, "Bodies in extents"). A key
 -- is its rank.
-use Rattle.std.specs.Prelude.{◌≡◌, ℕ, ◌+◌, ◌-◌, ◌^◌, ◌<◌, List, [], ◌∷◌, ◌++◌, length, replicate, Bool, true, false}
+use Rattle.std.specs.Prelude.{◌≡◌, ℕ, ◌+◌, ◌-◌, ◌<◌, List, [], ◌∷◌, ◌++◌, length, replicate, Bool, true, false}
 use Rattle.std.specs.Prelude.{Contains, Option, None, Some, option_map, unwrap_or}
 use Rattle.std.specs.List.{flat_map}
 use Rattle.r4_base.specs.Key.{key_of_rank, rank}

@@ -19,6 +19,7 @@ ghost use Rattle.r4_work.specs.Working.{IsWorking, root_of, standing};
 ghost use Rattle.r4_work.specs.declared.working.WorkingSet.{WorkingSet};
 ghost use Rattle.r4_extent_turn.specs.Turning.{AreKept, IsTurnFor, IsTurningBody, Kept, Turn, in_turned};
 ghost use Rattle.r4_extent_turn.specs.Turning.{told_pieces, turned_values, turning_turn};
+ghost use Rattle.r4_extent_turn.specs.TurnedOut.{LeavesLeaves};
 ghost use Rattle.r4_extent_turn.specs.TurningIn.{CanTurnOut, IsTurnIn, MayTurnOut, StandsTurn, turns_to};
 
 /// Where a body comes out of leaves below one twig, or had no bytes, to an extent there, the twig has its turn among
@@ -78,4 +79,14 @@ pub fn measured_turns_may_be_made()
         → MayTurnOut b first e t r x f w u → AreKept b x s
         → TurnAtMost (most_from u (root_of w r) (standing w) + come_at_most (turns_to b e x s))
         t r (turns_to b e x s) f w }
+{}
+
+/// It leaves a measured set, in which the leaves stand that stood and were not turned, and what stays of those that were:
+/// so the edits of leaves may follow, with the numbers that are left. No more cells may stand in the end than before, and
+/// the blocks that came and what stays of the leaves.
+pub fn turned_bodies_leave_leaves()
+    ensures { (b : Body) (first : Key) (e : Edits) (t : Store Value) (r : TreeRoot) (x : Turn)
+        (s : Kept) (f : Fresh) (w now : WorkingSet) (u : Budget)
+        → MayTurnOut b first e t r x f w u → AreKept b x s
+        → AreTurned t r (turns_to b e x s) f w now → LeavesLeaves b e u t r f w now x s }
 {}

@@ -1,11 +1,7 @@
-use Rattle.std.proofs.Common.{sym, ap, subst, ◌≡◌, ◌∙◌}
-use Rattle.std.specs.Prelude.{false}
+use Rattle.std.proofs.Common.{◌∙◌}
 use Rattle.std.specs.Arc.{arc_value}
 use Rattle.std.proofs.lemmas.Result.{IfOk-weaker}
-use Rattle.r4_base.specs.Key.{rank}
-use Rattle.r4_cell.specs.Seen.{CellSeen}
 use Rattle.r4_content.specs.Held.{edits_of}
-use Rattle.r4_extent_blocks.specs.Setting.{IsOverwritten, new_cell}
 use Rattle.r4_extent_turn.proofs.OverBlocks.{none_below, put_over}
 use Rattle.r4_extent_turn.proofs.blocks.block_over.Goals as goal
 

@@ -1,4 +1,4 @@
-use Rattle.std.proofs.Common.{refl, ap, sym, subst, ◌∙◌}
+use Rattle.std.proofs.Common.{ap, sym, ◌∙◌}
 use Rattle.r4_base.specs.Key.{rank}
 use Rattle.r4_content.specs.Held.{part_pairs}
 use Rattle.r4_content.specs.Objects.{byte_pairs}

@@ -1,4 +1,4 @@
-use Rattle.std.proofs.Common.{map, ◌≡◌, List, ap, sym, subst, ◌∙◌}
+use Rattle.std.proofs.Common.{map, ◌≡◌, ap, sym, subst, ◌∙◌}
 use Rattle.std.specs.Arc.{arc_value}
 use Rattle.r4_base.specs.Key.{rank}
 use Rattle.r4_cell.specs.Seen.{CellSeen}

@@ -1,4 +1,4 @@
-use Rattle.std.proofs.Common.{map, ◌≡◌, ◌+◌, List, refl, ap, sym, ◌∙◌}
+use Rattle.std.proofs.Common.{map, ◌≡◌, ◌+◌, refl, ap, sym, ◌∙◌}
 use Rattle.std.specs.Arc.{arc_value}
 use Rattle.r4_base.specs.Key.{rank}
 use Rattle.r4_cell.specs.Seen.{CellSeen}
