@@ -267,9 +267,9 @@ module _ (b : Body) (first : Key) (ed : Edits) (t : Store Value) (r : Root) (x :
         own_id : (j : ℕ) → Contains (ids_of ours) j → IsOldOrOwn j
         own_id j node = elim (split_ids made.grafts.grafts.lowest.new (news made.grafts.grafts.more made.grafts.grafts.over) j node) [
           | inl low ↦ elim (cases made.twig.id j (ids_of (drop 1 made.grafts.grafts.lowest.new)) (subst (λ is. Contains is j) made.grafts.grafts.level.row.first low)) [
-          | inl same ↦ inl (old_id j (subst (λ k. Contains (made.twig.id ∷ ids_of upper) k) (sym same) (here made.twig.id (ids_of upper))))
-          | inr more ↦ inr (own_fresh j (Contains-append_left (ids_of (drop 1 made.grafts.grafts.lowest.new)) (fresh_ids made.grafts.grafts.more made.grafts.grafts.over) j more))
-        ]
+            | inl same ↦ inl (old_id j (subst (λ k. Contains (made.twig.id ∷ ids_of upper) k) (sym same) (here made.twig.id (ids_of upper))))
+            | inr more ↦ inr (own_fresh j (Contains-append_left (ids_of (drop 1 made.grafts.grafts.lowest.new)) (fresh_ids made.grafts.grafts.more made.grafts.grafts.over) j more))
+          ]
           | inr high_up ↦ elim (from_new (Some made.grafts.grafts.lowest) made.grafts.grafts.more made.grafts.grafts.over j made.grafts.grafts.climbs high_up) [
             | inl old ↦ inl (old_id j (later made.twig.id j (ids_of upper) old))
             | inr own ↦ inr (own_fresh j (Contains-append_right (ids_of (drop 1 made.grafts.grafts.lowest.new)) (fresh_ids made.grafts.grafts.more made.grafts.grafts.over) j own))
@@ -369,17 +369,17 @@ module _ (b : Body) (first : Key) (ed : Edits) (t : Store Value) (r : Root) (x :
 
     pub leaves_leaves : (now : WorkingSet) → now ≡ v → LeavesLeaves b ed u t r f w now x kp
     leaves_leaves now same = subst (λ z. LeavesLeaves b ed u t r f w z x kp) (sym same) (
-      let (left, measured, still, few) = now_measured in record {
-        left = left;
-        measured = measured;
-        quiet = still;
-        few = few;
-        leaves = other_leaf;
-        kept = λ d at. (kept_stands d at, (kept_node b x (turn b first ed t r x f w u may) kp ks (f.next + blocks_turned b ed) d at).1);
-        taken = λ d at. let k = kept_id d.id (id_member y.below.new d at) in (k.0, omega (arith, k));
-        names = have_names y.below.new (numbers_are (f.next + blocks_turned b ed) kp).0;
-        stays = λ cells from low was. now_of_cells cells from low was;
-      })
+        let (left, measured, still, few) = now_measured in record {
+          left = left;
+          measured = measured;
+          quiet = still;
+          few = few;
+          leaves = other_leaf;
+          kept = λ d at. (kept_stands d at, (kept_node b x (turn b first ed t r x f w u may) kp ks (f.next + blocks_turned b ed) d at).1);
+          taken = λ d at. let k = kept_id d.id (id_member y.below.new d at) in (k.0, omega (arith, k));
+          names = have_names y.below.new (numbers_are (f.next + blocks_turned b ed) kp).0;
+          stays = λ cells from low was. now_of_cells cells from low was;
+        })
 
 pub turn_leaves : (b : Body) (first : Key) (e : Edits) (t : Store Value) (r : Root) (x : Turn) (s : Kept) (f : Fresh) (w now : WorkingSet) (u : Budget)
     → MayTurnOut b first e t r x f w u → AreKept b x s → AreTurned t r (turns_to b e x s) f w now → LeavesLeaves b e u t r f w now x s

@@ -1,4 +1,5 @@
--- What stood in leaves, gathered as runs of bytes (docs/volume.md, "Bodies in extents"). A key is its rank.
+-- What stood in leaves, gathered as runs of bytes (docs/volume.md, "Bodies in extents"). A key is
+-- its rank.
 use Rattle.std.specs.Prelude.{◌≡◌, ℕ, List, [], ◌∷◌}
 use Rattle.std.specs.List.{flat_map}
 use Rattle.std.specs.Option.{option_or}
@@ -17,7 +18,8 @@ units_within from to cells = flat_map (λ (c : CellSeen). pairs_in (node_of c).u
 abbrev pub byte_pair : (key byte : ℕ) → Pairs
 byte_pair k x = (k, Byte x) ∷ []
 
--- The runs put the bytes of these pairs after those that they put before. (What is no byte is left out.)
+-- The runs put the bytes of these pairs after those that they put before. (What is no byte is left
+-- out.)
 abbrev pub Adds : (old : List ByteRun) → Pairs → (new : List ByteRun) → Type 0
 Adds old pairs new = (k : ℕ) → last_put (flat_map run_pairs new) k
     ≡ option_or (last_put pairs k) (last_put (flat_map run_pairs old) k)

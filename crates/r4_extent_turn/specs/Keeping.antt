@@ -1,4 +1,5 @@
--- What stays of leaves in whose range an extent comes, under new numbers (docs/volume.md, "Bodies in extents").
+-- What stays of leaves in whose range an extent comes, under new numbers (docs/volume.md, "Bodies
+-- in extents").
 use Rattle.std.specs.Prelude.{◌≡◌, ℕ, ◌+◌, List, length, Option, option_map}
 use Rattle.r4_base.specs.declared.key.Key.{Key}
 use Rattle.r4_cell.specs.Seen.{CellSeen}
@@ -14,7 +15,8 @@ pub record HasLeftUnder (leaf : CellSeen) (key : Key) (id : ℕ) (o : Option Cel
   pub left : HasLeft leaf key part
   pub is : o ≡ option_map (with_id id) part
 
--- What stays of the first leaf, below one key, and of the last one, from another on, under the next numbers.
+-- What stays of the first leaf, below one key, and of the last one, from another on, under the next
+-- numbers.
 pub record KeepsEnds (leaf : CellSeen) (more : List CellSeen) (from to : Key) (before after : Fresh)
     (left right : Option CellSeen) : Type 0 where
   pub left_is : HasLeftUnder leaf from before.next left

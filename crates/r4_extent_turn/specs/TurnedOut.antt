@@ -1,4 +1,5 @@
--- What the turn of a twig of a body that comes to extents leaves of a working set (docs/volume.md, "Bodies in extents").
+-- What the turn of a twig of a body that comes to extents leaves of a working set (docs/volume.md,
+-- "Bodies in extents").
 use Rattle.std.specs.Prelude.{◌≡◌, ◌+◌, ◌<◌, ◌≤◌, Contains, length}
 use Rattle.r4_base.specs.Tree.{Root, Store}
 use Rattle.r4_base.specs.Value.{Value}
@@ -15,12 +16,14 @@ use Rattle.r4_patch.specs.Joining.{ids_of}
 use Rattle.r4_reach.specs.Touched.{Body}
 use Rattle.r4_work.specs.Working.{root_of, standing}
 use Rattle.r4_work.specs.declared.working.WorkingSet.{WorkingSet}
-use Rattle.r4_extent_turn.specs.Turning.{Kept, Turn, blocks_turned, kept_cells, leaves_of, numbered, turning_turn}
+use Rattle.r4_extent_turn.specs.Turning.{Kept, Turn, blocks_turned, kept_cells, leaves_of, numbered}
+use Rattle.r4_extent_turn.specs.Turning.{turning_turn}
 
--- The set after it is measured for the numbers that are left, and still nothing more comes below twigs. In the end there
--- may be no more cells than before, and the blocks that came and what stays of the leaves. Each leaf that stood and has
--- none of their numbers stands, and so does what stays of them: leaves, each of a number that was taken, no two of one.
--- What was of some cells is still of them.
+-- The set after it is measured for the numbers that are left, and still nothing more comes below
+-- twigs. In the end there may be no more cells than before, and the blocks that came and what stays
+-- of the leaves. Each leaf that stood and has none of their numbers stands, and so does what stays
+-- of them: leaves, each of a number that was taken, no two of one. What was of some cells is still
+-- of them.
 pub record LeavesLeaves (b : Body) (e : Edits) (u : Budget) (t : Store Value) (r : Root) (f : Fresh)
     (w now : WorkingSet) (x : Turn) (s : Kept) : Type 0 where
   pub left : Budget

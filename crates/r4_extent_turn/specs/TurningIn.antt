@@ -1,5 +1,7 @@
--- A body that comes to extents, in a working set (docs/volume.md, "Bodies in extents"). A key is its rank.
-use Rattle.std.specs.Prelude.{◌≡◌, ℕ, ◌+◌, ◌^◌, ◌<◌, ◌≤◌, List, [], ◌∷◌, length, map, Contains, false, true}
+-- A body that comes to extents, in a working set (docs/volume.md, "Bodies in extents"). A key is
+-- its rank.
+use Rattle.std.specs.Prelude.{◌≡◌, ℕ, ◌+◌, ◌^◌, ◌<◌, ◌≤◌, List, [], ◌∷◌, length, map, Contains}
+use Rattle.std.specs.Prelude.{false, true}
 use Rattle.std.specs.Arc.{arc_value}
 use Rattle.r4_base.specs.Key.{rank}
 use Rattle.r4_base.specs.Tree.{Root, Store}
@@ -24,8 +26,10 @@ use Rattle.r4_reach.specs.Touched.{Body, first_byte}
 use Rattle.r4_extent_build.specs.Growing.{end_after}
 use Rattle.r4_work.specs.Working.{standing}
 use Rattle.r4_work.specs.declared.working.WorkingSet.{WorkingSet}
-use Rattle.r4_extent_turn.specs.Turning.{AreKept, IsTurnFor, IsTurningBody, Kept, Turn, blocks_turned, in_turned}
-use Rattle.r4_extent_turn.specs.Turning.{kept_cells, last_of, leaves_of, numbered, told_pieces, turning_turn}
+use Rattle.r4_extent_turn.specs.Turning.{AreKept, IsTurnFor, IsTurningBody, Kept, Turn}
+use Rattle.r4_extent_turn.specs.Turning.{blocks_turned, in_turned}
+use Rattle.r4_extent_turn.specs.Turning.{kept_cells, last_of, leaves_of, numbered, told_pieces}
+use Rattle.r4_extent_turn.specs.Turning.{turning_turn}
 use Rattle.r4_extent_turn.specs.declared.turning.Turning.{Turning}
 
 -- a twig and its leaves; where there is none, the twig stands for one
@@ -42,14 +46,16 @@ pub record StandsTurn (w : WorkingSet) (x : Turn) : Type 0 where
   pub twig : Contains (standing w) x.twig
   pub leaves : (c : CellSeen) → Contains (leaves_of x) c → Contains (standing w) c
 
--- A standing twig names these leaves, which stand one beside the other: all that have a key of the blocks that come.
--- What stands at these keys are bytes that the body had before; none of the twig's extents is a hole of it.
+-- A standing twig names these leaves, which stand one beside the other: all that have a key of the
+-- blocks that come. What stands at these keys are bytes that the body had before; none of the
+-- twig's extents is a hole of it.
 pub record IsTurnIn (b : Body) (w : WorkingSet) (x : Turn) : Type 0 where
   pub stands : StandsTurn w x
   pub pieces : ArePiecesOf x.twig (twig_pieces x.twig)
   pub level : x.twig.level ≡ 2
   pub beside : Follow 1 (rank x.leaf.lo) (rank (last_of x).hi) (leaves_of x)
-  pub named : (c : CellSeen) → Contains (leaves_of x) c → Contains (node_of x.twig).names (name_of c)
+  pub named : (c : CellSeen) → Contains (leaves_of x) c
+      → Contains (node_of x.twig).names (name_of c)
   pub around : AreAround x.leaf x.more (first_byte b) (end_after b)
   pub short : (c : CellSeen) (k : ℕ) (v : Value) → Contains (leaves_of x) c
       → Contains (node_of c).units (k, v) → in_turned b k ≡ true → k < first_byte b + b.was
@@ -63,9 +69,10 @@ turns_to b e x s = turning_turn b e x s ∷ []
 abbrev pub numbers_to_turn : Body → Edits → ℕ
 numbers_to_turn b e = blocks_turned b e + 66
 
--- The twig may be packed anew, whatever stays of the leaves is made of, and there are numbers for it.
-pub record CanTurnOut (b : Body) (e : Edits) (t : Store Value) (r : Root) (x : Turn) (f : Fresh) (w : WorkingSet)
-    : Type 0 where
+-- The twig may be packed anew, whatever stays of the leaves is made of, and there are numbers for
+-- it.
+pub record CanTurnOut (b : Body) (e : Edits) (t : Store Value) (r : Root) (x : Turn) (f : Fresh)
+    (w : WorkingSet) : Type 0 where
   pub first : Key
   pub turning : IsTurningBody b first
   pub turn : IsTurnFor b x
@@ -73,10 +80,11 @@ pub record CanTurnOut (b : Body) (e : Edits) (t : Store Value) (r : Root) (x : T
   pub low : 2 ^ 63 ≤ f.next
   pub numbers : f.next + numbers_to_turn b e ≤ f.end
 
--- The set is measured, and nothing more comes of leaves and blocks. Such a twig stands, and its pieces need no more than
--- 16000 bytes, and what comes beside it is in the budget, whatever stays of the leaves is made of. There are numbers.
-pub record MayTurnOut (b : Body) (first : Key) (e : Edits) (t : Store Value) (r : Root) (x : Turn) (f : Fresh)
-    (w : WorkingSet) (u : Budget) : Type 0 where
+-- The set is measured, and nothing more comes of leaves and blocks. Such a twig stands, and its
+-- pieces need no more than 16000 bytes, and what comes beside it is in the budget, whatever stays
+-- of the leaves is made of. There are numbers.
+pub record MayTurnOut (b : Body) (first : Key) (e : Edits) (t : Store Value) (r : Root) (x : Turn)
+    (f : Fresh) (w : WorkingSet) (u : Budget) : Type 0 where
   pub turning : IsTurningBody b first
   pub measured : IsMeasured t r f w u
   pub quiet : IsQuietBelow u
@@ -88,9 +96,10 @@ pub record MayTurnOut (b : Body) (first : Key) (e : Edits) (t : Store Value) (r 
 
 -- ---- what was done
 
--- The twig's pieces, what goes and comes below it, and what stays of its leaves, as they are made for the turn.
-pub record IsMadeFor (b : Body) (e : Edits) (x : Turn) (f after : Fresh) (pieces : List TwigPiece) (beside : Beside)
-    (cells : List CellSeen) : Type 0 where
+-- The twig's pieces, what goes and comes below it, and what stays of its leaves, as they are made
+-- for the turn.
+pub record IsMadeFor (b : Body) (e : Edits) (x : Turn) (f after : Fresh)
+    (pieces : List TwigPiece) (beside : Beside) (cells : List CellSeen) : Type 0 where
   pub kept : Kept
   pub are : AreKept b x kept
   pub pieces_are : pieces ≡ (turning_turn b e x kept).pieces f.next

@@ -18,9 +18,9 @@ use r4_path::take_number;
 use std::alloc::Global;
 use std::sync::Arc;
 
-/// The pieces of an extent with true numbers: each block that comes takes the next one, and is made of the bytes of
-/// tails, of those that edits set over them, and of zeros. The only error is want of memory; then numbers may have been
-/// taken.
+/// The pieces of an extent with true numbers: each block that comes takes the next one, and is made
+/// of the bytes of tails, of those that edits set over them, and of zeros. The only error is want
+/// of memory; then numbers may have been taken.
 pub(crate) fn number_each(
     alloc: Global,
     tails: &Edits,
@@ -79,8 +79,8 @@ fn add_block(
     Ok(())
 }
 
-// A data block of the bytes of tails, and of those that edits set over them. Few blocks have bytes of tails, and no other
-// one is made twice.
+// A data block of the bytes of tails, and of those that edits set over them. Few blocks have bytes
+// of tails, and no other one is made twice.
 fn block_over(
     alloc: Global,
     id: NodeId,

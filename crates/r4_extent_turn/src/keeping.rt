@@ -20,8 +20,9 @@ use r4_path::take_number;
 use std::alloc::Global;
 use std::sync::Arc;
 
-/// What stays of leaves where the keys from one on and below another go: what the first one has below the first key, and
-/// what the last one has from the other on. Each takes the next number. On `Memory` numbers may have been taken.
+/// What stays of leaves where the keys from one on and below another go: what the first one has
+/// below the first key, and what the last one has from the other on. Each takes the next number. On
+/// `Memory` numbers may have been taken.
 pub(crate) fn ends_kept(
     alloc: Global,
     leaves: &[Arc<Cell>],
@@ -76,7 +77,8 @@ fn renumbered(alloc: Global, leaf: &Cell, id: NodeId) -> Result<Arc<Cell>, Memor
     new_cell(alloc, id, LEAF, leaf.lo(), leaf.hi(), block)
 }
 
-// The part of a leaf from a key behind its first one on, where a unit has that key or one behind it.
+// The part of a leaf from a key behind its first one on, where a unit has that key or one behind
+// it.
 fn right_of(
     alloc: Global,
     leaf: &Cell,

@@ -1,4 +1,5 @@
-//! Laws of the twig of a body that comes out of tails to extents. Each is the contract of a function that does nothing.
+//! Laws of the twig of a body that comes out of tails to extents. Each is the contract of a
+//! function that does nothing.
 
 ghost use Rattle.std.specs.Prelude.{ℕ, ◌+◌, ◌^◌, ◌≤◌};
 ghost use Rattle.r4_base.specs.Tree.{Root as TreeRoot, Store};
@@ -9,7 +10,8 @@ ghost use Rattle.r4_cell.specs.Seen.{node_of};
 ghost use Rattle.r4_cell.specs.declared.change.Fresh.{Fresh};
 ghost use Rattle.r4_content.specs.Edited.{Edits};
 ghost use Rattle.r4_extent_build.specs.Looping.{AreTurned};
-ghost use Rattle.r4_extent_build.specs.r4_twig_turns.Turning.{IsReady, IsTurnOf, TurnAtMost, come_at_most};
+ghost use Rattle.r4_extent_build.specs.r4_twig_turns.Turning.{IsReady, IsTurnOf, TurnAtMost};
+ghost use Rattle.r4_extent_build.specs.r4_twig_turns.Turning.{come_at_most};
 ghost use Rattle.r4_measure.specs.Budget.{Budget, most_from};
 ghost use Rattle.r4_path.specs.Grafts.{extra_twigs};
 ghost use Rattle.r4_reach.specs.Touched.{Body};
@@ -17,15 +19,18 @@ ghost use Rattle.r4_twig_work.specs.Regrafting.{SetsBelow};
 ghost use Rattle.r4_work.specs.Remaking.{Changes};
 ghost use Rattle.r4_work.specs.Working.{IsWorking, root_of, standing};
 ghost use Rattle.r4_work.specs.declared.working.WorkingSet.{WorkingSet};
-ghost use Rattle.r4_extent_turn.specs.Turning.{AreKept, IsTurnFor, IsTurningBody, Kept, Turn, in_turned};
+ghost use Rattle.r4_extent_turn.specs.Turning.{AreKept, IsTurnFor, IsTurningBody, Kept, Turn};
+ghost use Rattle.r4_extent_turn.specs.Turning.{in_turned};
 ghost use Rattle.r4_extent_turn.specs.Turning.{told_pieces, turned_values, turning_turn};
 ghost use Rattle.r4_extent_turn.specs.TurnedOut.{LeavesLeaves};
-ghost use Rattle.r4_extent_turn.specs.TurningIn.{CanTurnOut, IsTurnIn, MayTurnOut, StandsTurn, turns_to};
+ghost use Rattle.r4_extent_turn.specs.TurningIn.{CanTurnOut, IsTurnIn, MayTurnOut, StandsTurn};
+ghost use Rattle.r4_extent_turn.specs.TurningIn.{turns_to};
 
-/// Where a body comes out of leaves below one twig, or had no bytes, to an extent there, the twig has its turn among
-/// those that are packed anew, whatever stays of the leaves is made of: it gets the pieces of the extent, with the
-/// numbers of the blocks that come, between pointers to what stays of the leaves, where these need no more than 16000
-/// bytes. They name what the twig named, but for the leaves, and the blocks and what stays.
+/// Where a body comes out of leaves below one twig, or had no bytes, to an extent there, the twig
+/// has its turn among those that are packed anew, whatever stays of the leaves is made of: it gets
+/// the pieces of the extent, with the numbers of the blocks that come, between pointers to what
+/// stays of the leaves, where these need no more than 16000 bytes. They name what the twig named,
+/// but for the leaves, and the blocks and what stays.
 pub fn turning_twigs_have_their_turn()
     ensures { (b : Body) (first : Key) (e : Edits) (x : Turn) (s : Kept) (next : ℕ)
         → IsTurningBody b first → IsTurnFor b x → AreKept b x s
@@ -33,9 +38,9 @@ pub fn turning_twigs_have_their_turn()
         → IsTurnOf (node_of x.twig) (turning_turn b e x s) next }
 {}
 
-/// That turn sets the bytes of the body: at each key of the blocks that come stands, in an extent, the byte that the
-/// edits set there, else the one that stood in the leaves, else a zero, padding included; at every other key stands what
-/// stood there, so what stays of the leaves is as it was.
+/// That turn sets the bytes of the body: at each key of the blocks that come stands, in an extent,
+/// the byte that the edits set there, else the one that stood in the leaves, else a zero, padding
+/// included; at every other key stands what stood there, so what stays of the leaves is as it was.
 pub fn turning_turns_set_bytes()
     ensures { (b : Body) (first : Key) (e : Edits) (x : Turn) (s : Kept) (next : ℕ)
         → IsTurningBody b first → IsTurnFor b x → AreKept b x s → 2 ^ 63 ≤ next
@@ -51,8 +56,8 @@ pub fn turned_twigs_set_bytes()
         → Changes w now (in_turned b) (turned_values b e x) }
 {}
 
-/// The twig is ready for its turn where it stands, and its leaves do, and what comes beside it is in the budget. So
-/// `each_twig_has_its_turn` of r4_twig_turns gives it its turn.
+/// The twig is ready for its turn where it stands, and its leaves do, and what comes beside it is
+/// in the budget. So `each_twig_has_its_turn` of r4_twig_turns gives it its turn.
 pub fn turning_twigs_are_ready()
     ensures { (t : Store Value) (r : TreeRoot) (f : Fresh) (w : WorkingSet) (u : Budget) (b : Body)
         (first : Key) (e : Edits) (x : Turn) (s : Kept) → IsWorking t r f w
@@ -68,8 +73,9 @@ pub fn turns_of_parts()
         → IsWorking t r f w → IsTurnIn b w x → IsTurnFor b x }
 {}
 
-/// So in a measured set the twig may be packed anew, whatever stays of the leaves is made of, and no more cells stand then
-/// than might come before, and the blocks that come and what stays of the leaves.
+/// So in a measured set the twig may be packed anew, whatever stays of the leaves is made of, and
+/// no more cells stand then than might come before, and the blocks that come and what stays of the
+/// leaves.
 pub fn measured_turns_may_be_made()
     ensures can { (b : Body) (first : Key) (e : Edits) (t : Store Value) (r : TreeRoot) (x : Turn)
         (f : Fresh) (w : WorkingSet) (u : Budget)
@@ -81,9 +87,10 @@ pub fn measured_turns_may_be_made()
         t r (turns_to b e x s) f w }
 {}
 
-/// It leaves a measured set, in which the leaves stand that stood and were not turned, and what stays of those that were:
-/// so the edits of leaves may follow, with the numbers that are left. No more cells may stand in the end than before, and
-/// the blocks that came and what stays of the leaves.
+/// It leaves a measured set, in which the leaves stand that stood and were not turned, and what
+/// stays of those that were: so the edits of leaves may follow, with the numbers that are left. No
+/// more cells may stand in the end than before, and the blocks that came and what stays of the
+/// leaves.
 pub fn turned_bodies_leave_leaves()
     ensures { (b : Body) (first : Key) (e : Edits) (t : Store Value) (r : TreeRoot) (x : Turn)
         (s : Kept) (f : Fresh) (w now : WorkingSet) (u : Budget)

@@ -19,8 +19,8 @@ use r4_sight::parts_of;
 use std::alloc::Global;
 use std::sync::Arc;
 
-/// The bytes that stand in leaves at the keys of an interval, as edits that put them there. They are held in runs, so
-/// no step is taken for a byte. The only error is want of memory.
+/// The bytes that stand in leaves at the keys of an interval, as edits that put them there. They
+/// are held in runs, so no step is taken for a byte. The only error is want of memory.
 pub(crate) fn tails_in(
     alloc: Global,
     leaves: &[Arc<Cell>],
@@ -78,11 +78,7 @@ fn add_leaf(
 }
 
 // Puts the bytes of what was seen behind other runs.
-fn add_parts(
-    alloc: Global,
-    runs: &mut Vec<ByteRun>,
-    parts: &[SeenPart],
-) -> Result<(), Memory>
+fn add_parts(alloc: Global, runs: &mut Vec<ByteRun>, parts: &[SeenPart]) -> Result<(), Memory>
     ensures { OnOk result (Adds runs.old.items (flat_map part_pairs parts.now) runs.new.items) }
 {
     match parts.split_first() {

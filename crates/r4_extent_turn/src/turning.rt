@@ -1,6 +1,8 @@
-//! The turn of a twig of a body that comes out of tails to extents (docs/volume.md, "Bodies in extents").
+//! The turn of a twig of a body that comes out of tails to extents (docs/volume.md, "Bodies in
+//! extents").
 
-ghost use Rattle.std.specs.Prelude.{◌≡◌, ◌+◌, ◌++◌, ◌≤◌, Contains, IfOk, OnOk, drop, length, map, take, false, true};
+ghost use Rattle.std.specs.Prelude.{◌≡◌, ◌+◌, ◌++◌, ◌≤◌, Contains, IfOk, OnOk, drop, length, map};
+ghost use Rattle.std.specs.Prelude.{take, false, true};
 ghost use Rattle.std.specs.Arc.{arc_value};
 ghost use Rattle.std.specs.Option.{option_map};
 ghost use Rattle.r4_base.specs.Key.{key_of_rank, rank};
@@ -19,7 +21,8 @@ ghost use Rattle.r4_reach.specs.Touched.{Body, first_byte};
 ghost use Rattle.r4_twig_work.specs.Regrafting.{beside_of};
 ghost use Rattle.r4_base.specs.declared.key.Key.{Key as KeySeen};
 ghost use Rattle.r4_extent_turn.specs.Turning.{IsTurnFor, IsTurningBody, left_pointer, told_extent};
-ghost use Rattle.r4_extent_turn.specs.TurningIn.{CanTurnOut, HasTurnedOut, IsMadeFor, numbers_to_turn, turn_of};
+ghost use Rattle.r4_extent_turn.specs.TurningIn.{CanTurnOut, HasTurnedOut, IsMadeFor};
+ghost use Rattle.r4_extent_turn.specs.TurningIn.{numbers_to_turn, turn_of};
 
 use crate::blocks::number_each;
 use crate::keeping::ends_kept;
@@ -39,29 +42,34 @@ use r4_work::WorkingSet;
 use std::alloc::Global;
 use std::sync::Arc;
 
-/// How many numbers the twig has of its own, for the twigs and nodes that may come beside it and above.
+/// How many numbers the twig has of its own, for the twigs and nodes that may come beside it and
+/// above.
 const OWN_NUMBERS: u64 = 64;
 
-/// A standing twig, and its leaves that have a key of the blocks that come, in their order. The cells are shared.
+/// A standing twig, and its leaves that have a key of the blocks that come, in their order. The
+/// cells are shared.
 #[derive(Drop)]
 pub struct Turning {
     pub twig: Arc<Cell>,
     pub leaves: Vec<Arc<Cell>>,
 }
 
-// What is made for a turn: the twig's pieces, what goes and comes below it, and what stays of the leaves.
+// What is made for a turn: the twig's pieces, what goes and comes below it, and what stays of the
+// leaves.
 struct Made {
     pieces: Vec<TwigPiece>,
     below: Below,
     cells: Vec<Arc<Cell>>,
 }
 
-/// Packs a standing twig anew, so that a body comes out of its leaves, or had no bytes, to an extent. Its blocks are made
-/// of the bytes that stood in the leaves, of those that the edits set over them, and of zeros. What the first leaf has
-/// below the extent stays, unless the leaf begins there, and what the last one has behind it, from the first of these
-/// units on; the leaves between them go. The blocks take the first numbers, what stays of the leaves the next ones, and 64
-/// more are the twig's own, whether it needs them or not. It gives the cells that come in the place of the leaves. The
-/// only error is want of memory; then numbers may have been taken (docs/volume.md, "Bodies in extents").
+/// Packs a standing twig anew, so that a body comes out of its leaves, or had no bytes, to an
+/// extent. Its blocks are made of the bytes that stood in the leaves, of those that the edits set
+/// over them, and of zeros. What the first leaf has below the extent stays, unless the leaf begins
+/// there, and what the last one has behind it, from the first of these units on; the leaves between
+/// them go. The blocks take the first numbers, what stays of the leaves the next ones, and 64 more
+/// are the twig's own, whether it needs them or not. It gives the cells that come in the place of
+/// the leaves. The only error is want of memory; then numbers may have been taken (docs/volume.md,
+/// "Bodies in extents").
 pub fn turn_out(
     alloc: Global,
     set: &mut WorkingSet,
@@ -99,7 +107,8 @@ pub fn turn_out(
     Ok(cells)
 }
 
-// Makes all that the turn needs. It takes the numbers of the blocks, and of what stays of the leaves.
+// Makes all that the turn needs. It takes the numbers of the blocks, and of what stays of the
+// leaves.
 fn made_for(
     alloc: Global,
     body: &SizedBody,
@@ -109,9 +118,11 @@ fn made_for(
 ) -> Result<Made, Memory>
     requires turning { (first : KeySeen) × IsTurningBody body.now first }
     requires turn { IsTurnFor body.now (turn_of turning.now) }
-    requires numbers { fresh.old.next + numbers_to_turn body.now (edits_of edits.now) ≤ fresh.old.end }
+    requires numbers { fresh.old.next + numbers_to_turn body.now (edits_of edits.now)
+        ≤ fresh.old.end }
     ensures { IfOk result (λ m. IsMadeFor body.now (edits_of edits.now) (turn_of turning.now)
-        fresh.old fresh.new m.pieces.items (beside_of m.below) (map (λ c. arc_value c) m.cells.items)) }
+        fresh.old fresh.new m.pieces.items (beside_of m.below)
+        (map (λ c. arc_value c) m.cells.items)) }
 {
     let KeyRange { from, to } = body.coming();
     let told = told_extent(alloc, body, edits, &turning.twig)?;
@@ -134,8 +145,8 @@ fn made_for(
     })
 }
 
-// The pieces of the extent, as they tell its room: those that the twig has more after the edits. It has no others, since
-// none of its holes is the body's.
+// The pieces of the extent, as they tell its room: those that the twig has more after the edits. It
+// has no others, since none of its holes is the body's.
 fn told_extent(
     alloc: Global,
     body: &SizedBody,
@@ -144,7 +155,8 @@ fn told_extent(
 ) -> Result<Vec<TwigPiece>, Memory>
     requires turning { (first : KeySeen) × IsTurningBody body.now first }
     requires level { twig.now.level ≡ 2 }
-    requires within { is_between (rank twig.now.lo) (rank twig.now.hi) (first_byte body.now) ≡ true }
+    requires within { is_between (rank twig.now.lo) (rank twig.now.hi) (first_byte body.now)
+        ≡ true }
     requires no_holes { (p : PieceSeen) → Contains (twig_pieces twig.now) p
         → is_hole_of body.now p ≡ false }
     ensures { IfOk result (λ v. v.items ≡ told_extent body.now (edits_of edits.now)) }
@@ -170,8 +182,8 @@ fn some_of(
     Ok(some)
 }
 
-// The twig's pieces, with an extent in the place of its leaves, which ends at a key, between pointers to what stays of
-// them.
+// The twig's pieces, with an extent in the place of its leaves, which ends at a key, between
+// pointers to what stays of them.
 fn pieces_with(
     alloc: Global,
     turning: &Turning,
@@ -180,7 +192,8 @@ fn pieces_with(
     to: &Key,
 ) -> Result<Vec<TwigPiece>, Memory>
     requires turn { (b : Body) × IsTurnFor b (turn_of turning.now) }
-    ensures { IfOk result (λ v. v.items ≡ pieces_over (rank (turn_of turning.now).leaf.lo) (rank to.now)
+    ensures { IfOk result (λ v. v.items
+        ≡ pieces_over (rank (turn_of turning.now).leaf.lo) (rank to.now)
         (left_pointer (option_map (λ c. arc_value c) kept.now.left)
         ++ (extent.now ++ pointer_to (option_map (λ c. arc_value c) kept.now.right)))
         (turn_of turning.now).twig) }
@@ -218,8 +231,8 @@ fn pointer(key: Key, id: NodeId) -> TwigPiece
     }
 }
 
-// A twig's pieces, parted at both keys, with others in the place of those between them. The first key lies at a border
-// of blocks.
+// A twig's pieces, parted at both keys, with others in the place of those between them. The first
+// key lies at a border of blocks.
 #[tactic(auto, using(r4_graft::proofs::Placed::place_within))]
 fn pieces_put_over(
     alloc: Global,

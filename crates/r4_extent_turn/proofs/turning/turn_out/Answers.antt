@@ -18,9 +18,17 @@ regraft-requires-clause-can c =
     let f = c.args.fresh.now in
     let made = c.in_ok-pieces.field-0 in
     let (t, (r, can)) = c.requires.can in
-    let key : rank c.lo.result ≡ rank x.twig.lo = ap rank (c.lo.ensures ∙ ap (λ (d : CellSeen). d.lo) (c.deref.ensures ∙ sym (twig_given (arc_value c.args.turning.now.twig) (map (λ d. arc_value d) c.args.turning.now.leaves.items)))) in
-    (t, (r, (f.next + blocks_turned b e, may_turn b e x f c.made_for.new.fresh made.pieces.items (beside_of made.below) (map (λ d. arc_value d) made.cells.items) c.in_ok-pieces.ensures
-    t r c.args.set.now can (rank c.lo.result) key c.as_slice.result.now c.as_slice.ensures.value)))
+    let key : rank c.lo.result ≡ rank x.twig.lo = ap rank (c.lo.ensures ∙ ap (λ (d : CellSeen). d.lo) (c.deref.ensures ∙ sym (twig_given (arc_value c.args.turning.now.twig) (map (λ d. arc_value d) c.args.turning.now.leaves.items)))) in (
+      t,
+      (
+        r,
+        (
+          f.next + blocks_turned b e,
+          may_turn b e x f c.made_for.new.fresh made.pieces.items (beside_of made.below) (map (λ d. arc_value d) made.cells.items) c.in_ok-pieces.ensures
+              t r c.args.set.now can (rank c.lo.result) key c.as_slice.result.now c.as_slice.ensures.value,
+        ),
+      ),
+    )
 
 pub returns : goal.returns
 returns c =
