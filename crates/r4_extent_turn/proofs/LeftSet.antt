@@ -43,11 +43,7 @@ use Rattle.r4_extent_turn.specs.Turning.{AreKept, Kept, Turn, blocks_turned, lea
 use Rattle.r4_extent_turn.specs.TurningIn.{MayTurnOut, turns_to}
 use Rattle.r4_extent_turn.proofs.Keeps.{kept_node, numbers_are}
 use Rattle.r4_extent_turn.proofs.ReadyTurn.{few_kept, ready as ready_turn, turn}
-use Rattle.r4_extent_turn.proofs.TurnOf.{turn_of}
-
-long_ids : (cs : List CellSeen) → length (ids_of cs) ≡ length cs
-long_ids [] = refl
-long_ids (c ∷ cs) = let h = long_ids cs in omega (arith, h)
+use Rattle.r4_extent_turn.proofs.TurnOf.{long_ids, turn_of}
 
 long_names : (ns : List Name) → length (map (λ (n : Name). n.id) ns) ≡ length ns
 long_names [] = refl

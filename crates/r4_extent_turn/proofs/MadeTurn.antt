@@ -1,7 +1,6 @@
 -- What is made for the turn of a twig of a body that comes to extents, as the calls tell it.
 use Rattle.std.proofs.Common.{◌≡◌, ℕ, ◌+◌, ◌*◌, ◌^◌, ◌<◌, ◌≤◌, inl, inr, true, List, [], ◌∷◌, ◌++◌, length, refl, sym, ap, subst, ◌∙◌, arith}
 use Rattle.std.specs.Prelude.{Contains, None, Option, Some, option_map}
-use Rattle.std.specs.Option.{option_or}
 use Rattle.std.proofs.lemmas.List.{length-append}
 use Rattle.r4_base.specs.Key.{offset_of, rank}
 use Rattle.r4_base.specs.declared.key.Key.{Key}
@@ -29,6 +28,7 @@ use Rattle.r4_extent_turn.specs.TurningIn.{IsMadeFor, numbers_to_turn}
 use Rattle.r4_extent_turn.proofs.Bodies.{count, fits, told_follow}
 use Rattle.r4_extent_turn.proofs.GivenLeaves.{near}
 use Rattle.r4_extent_turn.proofs.OverBlocks.{same_cells}
+use Rattle.r4_extent_turn.proofs.SetOver.{or_none}
 
 -- ---- numbers for the blocks
 
@@ -60,10 +60,6 @@ same_id leaf key i (Some c) h = λ j. Some (record c { id = h.number j })
 long_under : (i : ℕ) (o : Option CellSeen) → length (given_cells (option_map (with_id i) o)) ≡ length (given_cells o)
 long_under i None = refl
 long_under i (Some c) = refl
-
-or_none : (o : Option ℕ) → option_or o None ≡ o
-or_none None = refl
-or_none (Some x) = refl
 
 module _ (b : Body) (e : Edits) (x : Turn) (f f1 f2 : Fresh) (tails : Edits) (ps extent : List TwigPiece) (blocks : List CellSeen) (from to : Key) (left right : Option CellSeen)
     (from_is : rank from ≡ first_byte b) (to_is : rank to ≡ end_after b) (ps_is : ps ≡ told_extent b e)

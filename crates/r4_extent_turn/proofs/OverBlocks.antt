@@ -1,6 +1,6 @@
 -- Data blocks of what was put, with what further edits put over it.
 use Rattle.std.proofs.Common.{◌≡◌, ℕ, zero, suc, ◌+◌, ◌<◌, ◌≤◌, Bool, true, false, List, [], ◌∷◌, get_or, refl, sym, ap, subst, ◌∙◌, arith}
-use Rattle.std.specs.Prelude.{None, Option, Some, unwrap_or}
+use Rattle.std.specs.Prelude.{Option, unwrap_or}
 use Rattle.std.specs.Option.{option_or}
 use Rattle.std.proofs.lemmas.List.{ext_get_or}
 use Rattle.r4_base.specs.Key.{later, rank}
@@ -13,7 +13,7 @@ use Rattle.r4_extent_blocks.proofs.MadeCells.{new_whole}
 use Rattle.r4_extent_build.specs.Numbering.{cells_coming, is_coming}
 use Rattle.r4_extent_build.proofs.Numbers.{cells_off, cells_on}
 use Rattle.r4_extent_turn.specs.Turning.{set_over}
-use Rattle.r4_extent_turn.proofs.SetOver.{over_is, unwrap_over}
+use Rattle.r4_extent_turn.proofs.SetOver.{or_none, over_is, unwrap_over}
 
 same_bytes : (a z : Edits) (k n : ℕ) → ((j : ℕ) → k ≤ j → j < k + n → byte_set a j ≡ byte_set z j) → new_bytes a k n ≡ new_bytes z k n
 unfolding new_bytes
@@ -33,10 +33,6 @@ pub none_below : (t e : Edits) (id : ℕ) (lo : Key) → SetsNone (byte_set t) (
 none_below t e id lo none =
     ap (λ (bytes : List ℕ). let c : CellSeen = record { id = id; level = 0; lo = lo; hi = later lo 4096; block = bytes } in c)
     (same_bytes e (set_over t e) (rank lo) 4096 (λ j low high. sym (over_is t e j ∙ (ap (option_or (byte_set e j)) (none j low high) ∙ or_none (byte_set e j)))))
-  where
-    or_none : (o : Option ℕ) → option_or o None ≡ o
-    or_none None = refl
-    or_none (Some x) = refl
 
 -- the block of what was put before, with the other edits' bytes
 pub put_over : (t e : Edits) (id : ℕ) (lo : Key) (old c : CellSeen) → old ≡ new_cell t id lo → IsOverwritten e old c → c ≡ new_cell (set_over t e) id lo

@@ -23,7 +23,7 @@ use Rattle.r4_extent_turn.specs.Gathering.{units_within}
 use Rattle.r4_extent_turn.specs.Turning.{IsTurnFor, IsTurningBody, Turn, leaves_of, pairs_put, set_over, tails_of, turned_byte, zero_pairs}
 use Rattle.r4_base.specs.declared.key.Key.{Key}
 
-or_none : (o : Option ℕ) → option_or o None ≡ o
+pub or_none : (o : Option ℕ) → option_or o None ≡ o
 or_none None = refl
 or_none (Some x) = refl
 

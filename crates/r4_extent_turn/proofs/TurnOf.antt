@@ -38,7 +38,7 @@ names_data old n (p ∷ ps) m at = by_test (is_coming old p) refl (λ k h. names
       | inr more ↦ rest (n + 1) more
     ]
 
-long_ids : (cs : List CellSeen) → length (ids_of cs) ≡ length cs
+pub long_ids : (cs : List CellSeen) → length (ids_of cs) ≡ length cs
 long_ids [] = refl
 long_ids (c ∷ cs) = let h = long_ids cs in omega (arith, h)
 
