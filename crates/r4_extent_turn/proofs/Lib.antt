@@ -14,3 +14,4 @@ pub mod GivenLeaves
 pub mod MadeTurn
 pub mod OneTurn
 pub mod LeftSet
+pub mod AskedRoom

@@ -32,7 +32,7 @@ use Rattle.r4_extent_turn.proofs.SetOver.{or_none}
 
 -- ---- numbers for the blocks
 
-sound_of : (from to : ℕ) (ps : List TwigPiece) (q : TwigPiece) → Follow from to ps → Contains ps q → IsSound q
+pub sound_of : (from to : ℕ) (ps : List TwigPiece) (q : TwigPiece) → Follow from to ps → Contains ps q → IsSound q
 sound_of from to [] q f m = absurd (none q m)
 sound_of from to (r ∷ rs) q f m = elim (cases r q rs m) [ inl is ↦ subst IsSound (sym is) f.1 | inr more ↦ sound_of (piece_end r) to rs q f.2 more ]
 

@@ -20,10 +20,10 @@ use Rattle.r4_extent_turn.proofs.Comes.{over, p}
 abbrev pub SameRoom : (xs ys : List TwigPiece) → Type 0
 SameRoom xs ys = (d : Option ℕ) → (bytes_behind d xs ≡ bytes_behind d ys) × (last_end d xs ≡ last_end d ys)
 
-same_all : (xs : List TwigPiece) → SameRoom xs xs
+pub same_all : (xs : List TwigPiece) → SameRoom xs xs
 same_all xs d = (refl, refl)
 
-same_join : (xs ys us vs : List TwigPiece) → SameRoom xs ys → SameRoom us vs → SameRoom (xs ++ us) (ys ++ vs)
+pub same_join : (xs ys us vs : List TwigPiece) → SameRoom xs ys → SameRoom us vs → SameRoom (xs ++ us) (ys ++ vs)
 same_join xs ys us vs f h d = (
   bytes_join d xs us ∙ ((λ i. (f d).0 i + bytes_behind ((f d).1 i) us) ∙ (ap (λ n. bytes_behind d ys + n) (h (last_end d ys)).0 ∙ sym (bytes_join d ys vs))),
   last_join d xs us ∙ (ap (λ (o : Option ℕ). last_end o us) (f d).1 ∙ ((h (last_end d ys)).1 ∙ sym (last_join d ys vs))),
@@ -43,11 +43,11 @@ same_right m (Some c) d = (refl, refl)
 
 -- ---- blocks with numbers
 
-open_by : (offset key : ℕ) → TwigPart → Option ℕ
+unfoldable pub open_by : (offset key : ℕ) → TwigPart → Option ℕ
 open_by o k (Pointer to) = None
 open_by o k (Blocks u) = cond (nat_lt (o + 4096 * u.width) (2 ^ 64)) (Some (k + 4096 * u.width)) None
 
-open_is : (p : TwigPiece) → open_end p ≡ open_by (offset_of p.key) (rank p.key) p.part
+pub open_is : (p : TwigPiece) → open_end p ≡ open_by (offset_of p.key) (rank p.key) p.part
 unfolding open_by
 open_is p = refl
 

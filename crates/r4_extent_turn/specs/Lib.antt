@@ -3,3 +3,4 @@ pub mod Turning
 pub mod Keeping
 pub mod TurningIn
 pub mod TurnedOut
+pub mod Asked

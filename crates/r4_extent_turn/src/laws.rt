@@ -1,19 +1,21 @@
 //! Laws of the twig of a body that comes out of tails to extents. Each is the contract of a
 //! function that does nothing.
 
-ghost use Rattle.std.specs.Prelude.{ℕ, ◌+◌, ◌^◌, ◌≤◌};
-ghost use Rattle.r4_base.specs.Tree.{Root as TreeRoot, Store};
+ghost use Rattle.std.specs.Prelude.{ℕ, ◌+◌, ◌*◌, ◌^◌, ◌≤◌, List, Some, length};
+ghost use Rattle.r4_base.specs.Tree.{Name, Root as TreeRoot, Store};
 ghost use Rattle.r4_base.specs.Value.{Value};
 ghost use Rattle.r4_base.specs.declared.key.Key.{Key};
 ghost use Rattle.r4_branch.specs.Pieces.{twig_bytes};
 ghost use Rattle.r4_cell.specs.Seen.{node_of};
 ghost use Rattle.r4_cell.specs.declared.change.Fresh.{Fresh};
 ghost use Rattle.r4_content.specs.Edited.{Edits};
+ghost use Rattle.r4_edit.specs.Extents.{given_cells};
 ghost use Rattle.r4_extent_build.specs.Looping.{AreTurned};
 ghost use Rattle.r4_extent_build.specs.r4_twig_turns.Turning.{IsReady, IsTurnOf, TurnAtMost};
 ghost use Rattle.r4_extent_build.specs.r4_twig_turns.Turning.{come_at_most};
 ghost use Rattle.r4_measure.specs.Budget.{Budget, most_from};
 ghost use Rattle.r4_path.specs.Grafts.{extra_twigs};
+ghost use Rattle.r4_reach.specs.Needs.{Ask, pieces_after};
 ghost use Rattle.r4_reach.specs.Touched.{Body};
 ghost use Rattle.r4_twig_work.specs.Regrafting.{SetsBelow};
 ghost use Rattle.r4_work.specs.Remaking.{Changes};
@@ -22,6 +24,7 @@ ghost use Rattle.r4_work.specs.declared.working.WorkingSet.{WorkingSet};
 ghost use Rattle.r4_extent_turn.specs.Turning.{AreKept, IsTurnFor, IsTurningBody, Kept, Turn};
 ghost use Rattle.r4_extent_turn.specs.Turning.{in_turned};
 ghost use Rattle.r4_extent_turn.specs.Turning.{told_pieces, turned_values, turning_turn};
+ghost use Rattle.r4_extent_turn.specs.Asked.{OnlyTurnedGo, pointers_left};
 ghost use Rattle.r4_extent_turn.specs.TurnedOut.{LeavesLeaves};
 ghost use Rattle.r4_extent_turn.specs.TurningIn.{CanTurnOut, IsTurnIn, MayTurnOut, StandsTurn};
 ghost use Rattle.r4_extent_turn.specs.TurningIn.{turns_to};
@@ -96,4 +99,16 @@ pub fn turned_bodies_leave_leaves()
         (s : Kept) (f : Fresh) (w now : WorkingSet) (u : Budget)
         → MayTurnOut b first e t r x f w u → AreKept b x s
         → AreTurned t r (turns_to b e x s) f w now → LeavesLeaves b e u t r f w now x s }
+{}
+
+/// What a turned twig needs is told by what its leaves ask: where of its pointers just some at the
+/// keys of the blocks that come go by that, it needs no more room than `pieces_after` tells without
+/// them, and 46 bytes for the pointer to what stays of the last leaf, unless one is left at these
+/// keys.
+pub fn turned_twigs_need_what_is_asked()
+    ensures { (b : Body) (first : Key) (e : Edits) (x : Turn) (s : Kept) (hs : List (Name × Ask))
+        (more : ℕ) → IsTurningBody b first → IsTurnFor b x → AreKept b x s → OnlyTurnedGo b x hs
+        → length (given_cells s.right) ≤ pointers_left b x hs + more
+        → twig_bytes (told_pieces b e x s)
+        ≤ twig_bytes (pieces_after (Some b) e (node_of x.twig) hs) + 46 * more }
 {}
