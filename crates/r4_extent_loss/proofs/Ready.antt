@@ -19,17 +19,12 @@ use Rattle.r4_work.specs.declared.working.WorkingSet.{WorkingSet}
 use Rattle.r4_work.proofs.InPlace.{standing_is}
 use Rattle.r4_extent_loss.specs.Losing.{IsLosing, IsLossOf, Loss, losing_turn, taken_from, with_leaf}
 use Rattle.r4_extent_loss.specs.LosingEach.{StandsLoss}
-use Rattle.r4_extent_loss.proofs.LosingTurns.{turn_of}
+use Rattle.r4_extent_loss.proofs.LosingTurns.{bytes_are, turn_of}
 use Rattle.r4_extent_loss.proofs.LostPieces.{after_is, some}
 use Rattle.r4_extent_loss.proofs.Taken.{is_taken}
 
 module _ (t : Store Value) (r : Root) (f : Fresh) (w : WorkingSet) (working : IsWorking t r f w) (u : Budget) (b : Body) (first : Key) (e : Edits) (x : Loss) (g : IsLosing b first e) (c : IsLossOf b x) (s : StandsLoss w x)
     (few : extra_twigs (pieces_after (Some b) e (node_of x.twig) []) ≤ u 2 x.twig.id) where
-  same_bytes : (n : ℕ) → twig_bytes (with_leaf (taken_from b x) n (pieces_after (Some b) e (node_of x.twig) [])) ≡ twig_bytes (pieces_after (Some b) e (node_of x.twig) [])
-  same_bytes n =
-      ap (λ ps. twig_bytes (with_leaf (taken_from b x) n ps)) (after_is b x c first e g)
-      ∙ (ap twig_bytes ((is_taken b x c).pieces n) ∙ ((is_taken b x c).bytes n ∙ ap twig_bytes (sym (after_is b x c first e g))))
-
   pub is_ready : IsReady t w u (losing_turn b e x) x.twig.id
   is_ready = record {
     node = node_of x.twig;
@@ -41,5 +36,5 @@ module _ (t : Store Value) (r : Root) (f : Fresh) (w : WorkingSet) (working : Is
     turn = λ n high small. turn_of b x c first e g n high;
     goes = λ n y at. s.goes y at;
     named = λ n y at. (turn_of b x c first e g (2 ^ 63) (omega arith)).goes y at;
-    come = λ n. let same = same_bytes n in subst (λ m. (m - 4068 + 1023) / 1024 ≤ u 2 x.twig.id) (sym same) few;
+    come = λ n. let same = bytes_are b x c first e g n in subst (λ m. (m - 4068 + 1023) / 1024 ≤ u 2 x.twig.id) (sym same) few;
   }

@@ -22,9 +22,9 @@ ghost use Rattle.r4_extent_loss.specs.LosingEach.{CanLoseAll, IsLossIn, MayGo, S
 ghost use Rattle.r4_extent_loss.specs.LosingEach.{gone_of_each, losing_turns};
 
 /// A twig of which blocks of a body go has its turn among those that are packed anew: it gets the pieces that
-/// `pieces_after` tells, with the number of the leaf that takes up the range of what goes. These may be packed, and
-/// need no more than 16000 bytes; they name what the twig named, but for the blocks that go and the leaf left of them,
-/// and that leaf as it goes on.
+/// `pieces_after` tells, with the number of a new leaf where one takes up the range of what goes. These may be packed,
+/// and need no more than 16000 bytes; they name what the twig named, but for the blocks that go and the leaf left of
+/// them, and that leaf as it goes on, under its number.
 pub fn losing_twigs_have_their_turn()
     ensures { (b : Body) (first : Key) (e : Edits) (x : Loss) (next : ℕ)
         → IsLosing b first e → IsLossOf b x → 2 ^ 63 ≤ next

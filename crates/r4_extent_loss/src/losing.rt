@@ -22,7 +22,8 @@ ghost use Rattle.r4_twig_work.specs.Regrafting.{DoesBelow, IsRegraftable};
 ghost use Rattle.r4_extent_demands.specs.Sizes.{IsSizedBody};
 ghost use Rattle.r4_extent_build.specs.Looping.{AreTurned, behind_all};
 ghost use Rattle.r4_extent_loss.specs.Losing.{IsLosing, IsLossOf, gone_from, leaf_at};
-ghost use Rattle.r4_extent_loss.specs.Losing.{losing_turn, pointed, taken_block, taken_from, with_leaf};
+ghost use Rattle.r4_extent_loss.specs.Losing.{losing_turn, numbers_taken, pointed, taken_block};
+ghost use Rattle.r4_extent_loss.specs.Losing.{taken_from, taken_id, taken_pieces, with_leaf};
 ghost use Rattle.r4_extent_loss.specs.LosingEach.{CanLoseAll, leaf_in, loss_of, losing_turns};
 
 use r4_base::{Block, Key, LEAF, Memory, NodeId, get32};
@@ -158,6 +159,16 @@ fn leaf_at(
     Ok(cells)
 }
 
+// Whose number the leaf has that takes up the range of what goes: its own, where it goes on, or the next one.
+fn taken_id(losing: &Losing, next: NodeId) -> NodeId
+    ensures { result.0 ≡ taken_id (loss_of losing.now) next.0 }
+{
+    match &losing.leaf {
+        Some(leaf) => leaf.id(),
+        None => next,
+    }
+}
+
 // A piece, which points to this leaf where it begins at a key.
 fn pointed(piece: &TwigPiece, key: &Key, id: NodeId) -> TwigPiece
     ensures { result ≡ pointed (rank key.now) id.0 piece.now }
@@ -187,6 +198,33 @@ fn with_leaf(
         .collect(alloc)
 }
 
+// The pieces with the pointer to the leaf that takes up the range of what goes. One to a leaf that goes on stands there.
+fn taken_pieces(
+    alloc: Global,
+    losing: &Losing,
+    pieces: Vec<TwigPiece>,
+    key: &Key,
+    next: NodeId,
+) -> Result<Vec<TwigPiece>, Memory>
+    ensures { IfOk result (λ v. v.items
+        ≡ taken_pieces (loss_of losing.now) (rank key.now) next.0 pieces.items) }
+{
+    if let Some(_) = &losing.leaf {
+        return Ok(pieces);
+    }
+    with_leaf(alloc, pieces.as_slice(), key, next)
+}
+
+// How many numbers that takes: a new leaf one, a leaf that goes on none.
+fn numbers_taken(losing: &Losing, come: &[Arc<Cell>]) -> u64
+    ensures { result ≡ numbers_taken (loss_of losing.now) (map (λ c. arc_value c) come.now) }
+{
+    match &losing.leaf {
+        Some(_) => 0,
+        None => come.len() as u64,
+    }
+}
+
 // The cells that go: the blocks, and the leaf, if there is one.
 fn gone_cells(alloc: Global, losing: &Losing) -> Result<Vec<Arc<Cell>>, Memory>
     ensures { IfOk result (λ v. map (λ c. arc_value c) v.items
@@ -202,7 +240,7 @@ fn gone_cells(alloc: Global, losing: &Losing) -> Result<Vec<Arc<Cell>>, Memory>
 
 /// Packs the standing twigs of a body anew of which blocks go, one after the other: each gets the pieces that it has
 /// after the edits. The range of what goes is taken up by what stands left of it: by an extent that ends there; by the
-/// leaf that is given, which goes on with the next number; or by a new leaf without units, of that number. 64 more
+/// leaf that is given, which goes on and keeps its number; or by a new leaf without units, of the next number. 64 more
 /// numbers are the twig's own, whether it needs them or not. The only error is want of memory; then some may have been
 /// packed, and numbers may have been taken (docs/volume.md, "Bodies in extents").
 pub fn regraft_without(
@@ -269,12 +307,12 @@ fn regraft_one(
     // the end of the numbers is a u64, so no sum up to there overflows
     let _end = fresh.end;
     let taken = taken_from(body, losing);
-    let id = NodeId(fresh.next);
+    let id = taken_id(losing, NodeId(fresh.next));
     let after = pieces_after(alloc, Some(body), edits, &losing.twig, &[])?;
     let new = leaf_at(alloc, losing, &taken, id, after.as_slice())?;
-    let pieces = with_leaf(alloc, after.as_slice(), &taken, id)?;
+    let pieces = taken_pieces(alloc, losing, after, &taken, NodeId(fresh.next))?;
     let old = gone_cells(alloc, losing)?;
-    let next = fresh.next + new.len() as u64;
+    let next = fresh.next + numbers_taken(losing, new.as_slice());
     let mut own = Fresh {
         next,
         end: next + OWN_NUMBERS,
