@@ -1,6 +1,7 @@
 mod AtStart
 mod TwigTurn
 mod AllTurned
+mod GrownTurns
 mod LeafTurns
 mod NoBytes
 mod Effects

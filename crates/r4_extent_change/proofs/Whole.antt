@@ -25,7 +25,8 @@ use Rattle.r4_extent_build.specs.r4_twig_turns.r4_twig_work.Renewing.{IsRenewed,
 use Rattle.r4_extent_change.specs.Beside.{is_turning, turning_among, without_bytes}
 use Rattle.r4_extent_change.specs.Changing.{CanGrow, most_grown}
 use Rattle.r4_extent_change.specs.Turned.{LeavesLeaves, MayTurnAll}
-use Rattle.r4_extent_change.proofs.AllTurned.{can_all, leaves_left, left_over, still_of_cells}
+use Rattle.r4_extent_change.proofs.AllTurned.{left_over}
+use Rattle.r4_extent_change.proofs.GrownTurns.{can_all, leaves_left, still_of_cells}
 use Rattle.r4_extent_change.proofs.AtStart.{renewed_of, start_few, start_measured, start_stands, still_stand}
 use Rattle.r4_extent_change.proofs.LeafTurns.{can_make, few_made}
 
@@ -94,7 +95,7 @@ module _ (b : Body) (e : Edits) (u : Budget) (t : Store Value) (r : Root) (f : F
       left = behind_all (turns_of b e twigs) f
 
       leaves : LeavesLeaves b e u t r f w1 w2 twigs
-      leaves = leaves_left b is.first e t r is.growing u f w1 w2 twigs may_turn_all turned
+      leaves = leaves_left b is.first e t r is.growing u f w1 twigs may_turn_all w2 turned
 
       leaf_stands : (c : CellSeen) → Contains cells c → c.level ≡ 1 → Contains (standing w2) c
       leaf_stands c at one = leaves.leaves c (stand c at (omega (arith, one))) one
@@ -122,7 +123,7 @@ module _ (b : Body) (e : Edits) (u : Budget) (t : Store Value) (r : Root) (f : F
           few_made beside t r left w2 leaves.left leaves.measured cells is.names leaf_stands is.room left_low left_high left_enough (most_grown b e u r cells) (omega (arith, a, d, g))
 
       pub of_those : StandAsBefore w0 w1 → IsOf cells f.next left w2
-      of_those as_before = still_of_cells b is.first e t r is.growing cells f.next u f w1 w2 twigs may_turn_all (omega arith) (renewed_of cells w0 start w1 f as_before) turned
+      of_those as_before = still_of_cells b is.first e t r is.growing u f w1 twigs may_turn_all w2 turned cells f.next (omega arith) (renewed_of cells w0 start w1 f as_before)
 
       pub twigs_change : (at : CellSeen → ℕ → Bool) → AreKeysOfEach b e twigs at → Changes w1 w2 (keys_of_each at twigs) (bytes_after e)
       twigs_change at keys = all_set b is.first e t r twigs f w1 w2 at is.growing keys can_twigs.turns (let low = is.unplaced.0 in omega (arith, low)) turned

@@ -1,3 +1,4 @@
 pub mod Beside
 pub mod Turned
+pub mod Wider
 pub mod Changing
