@@ -25,10 +25,12 @@ use Rattle.r4_extent_build.specs.r4_twig_turns.r4_twig_work.Renewing.{IsRenewed,
 use Rattle.r4_extent_change.specs.Beside.{is_turning, turning_among, without_bytes}
 use Rattle.r4_extent_change.specs.Changing.{CanGrow, most_grown}
 use Rattle.r4_extent_change.specs.Turned.{LeavesLeaves, MayTurnAll}
+use Rattle.r4_extent_change.specs.Wider.{GoesOn}
 use Rattle.r4_extent_change.proofs.AllTurned.{left_over}
 use Rattle.r4_extent_change.proofs.GrownTurns.{can_all, leaves_left, still_of_cells}
 use Rattle.r4_extent_change.proofs.AtStart.{renewed_of, start_few, start_measured, start_stands, still_stand}
 use Rattle.r4_extent_change.proofs.LeafTurns.{can_make, few_made}
+use Rattle.r4_extent_change.proofs.TwigTurn.{as_wide}
 
 -- ---- cells of which a test holds
 
@@ -97,8 +99,8 @@ module _ (b : Body) (e : Edits) (u : Budget) (t : Store Value) (r : Root) (f : F
       leaves : LeavesLeaves b e u t r f w1 w2 twigs
       leaves = leaves_left b is.first e t r is.growing u f w1 twigs may_turn_all w2 turned
 
-      leaf_stands : (c : CellSeen) → Contains cells c → c.level ≡ 1 → Contains (standing w2) c
-      leaf_stands c at one = leaves.leaves c (stand c at (omega (arith, one))) one
+      leaf_stands : (c : CellSeen) → Contains cells c → c.level ≡ 1 → GoesOn w2 c
+      leaf_stands c at one = (c, leaves.leaves c (stand c at (omega (arith, one))) one, as_wide c)
 
       pub left_low : 2 ^ 63 ≤ left.next
       left_low = let n = (left_over (turns_of b e twigs) f).0 in let low = is.unplaced.0 in omega (arith, n, low)

@@ -3,9 +3,11 @@
 #![tactic(auto)]
 
 mod beside;
+mod finding;
 mod growing;
 mod laws;
 
 pub use beside::without_bytes;
+pub use finding::losing_among;
 pub use growing::change_of_growing;
 pub use laws::turned_twigs_leave_leaves;

@@ -11,6 +11,7 @@ ghost use Rattle.r4_base.specs.Value.{Value};
 ghost use Rattle.r4_base.specs.declared.key.Key.{Key as KeySeen};
 ghost use Rattle.r4_cell.specs.Seen.{CellSeen, node_of};
 ghost use Rattle.r4_cell.specs.declared.change.Fresh.{Fresh as FreshSeen};
+ghost use Rattle.r4_content.specs.Bodies.{larger, smaller};
 ghost use Rattle.r4_content.specs.Held.{edits_of};
 ghost use Rattle.r4_edit.specs.CutBlocks.{next_key};
 ghost use Rattle.r4_edit.specs.Extents.{given_cells};
@@ -21,7 +22,7 @@ ghost use Rattle.r4_extent_build.specs.r4_twig_turns.Turning.{IsTurned, behind, 
 ghost use Rattle.r4_twig_work.specs.Regrafting.{DoesBelow, IsRegraftable};
 ghost use Rattle.r4_extent_demands.specs.Sizes.{IsSizedBody};
 ghost use Rattle.r4_extent_build.specs.Looping.{AreTurned, behind_all};
-ghost use Rattle.r4_extent_loss.specs.Losing.{IsLosing, IsLossOf, gone_from, leaf_at};
+ghost use Rattle.r4_extent_loss.specs.Losing.{IsLosing, IsLossOf, gone_from, gone_to, leaf_at};
 ghost use Rattle.r4_extent_loss.specs.Losing.{losing_turn, numbers_taken, pointed, taken_block};
 ghost use Rattle.r4_extent_loss.specs.Losing.{taken_from, taken_id, taken_pieces, with_leaf};
 ghost use Rattle.r4_extent_loss.specs.LosingEach.{CanLoseAll, leaf_in, loss_of, losing_turns};
@@ -59,23 +60,37 @@ fn taken_from(body: &SizedBody, losing: &Losing) -> Key
 {
     match &losing.leaf {
         Some(leaf) => leaf.lo(),
-        None => gone_from(body, &losing.twig),
+        None => gone_of(body, &losing.twig).from,
     }
 }
 
-// Where the blocks begin that go of a twig.
-fn gone_from(body: &SizedBody, twig: &Cell) -> Key
+/// The keys of a twig's range of which the blocks of a body in extents go: from where the body ends afterwards, or where
+/// the range begins, up to where the body ended, or where the range does; none where the first is not below the second
+/// (docs/volume.md, "Bodies in extents").
+pub fn gone_of(body: &SizedBody, twig: &Cell) -> KeyRange
     requires sized { IsSizedBody body.now }
     requires in_extents { body.now.in_extents ≡ true }
-    ensures { rank result ≡ gone_from body.now twig.now }
+    ensures from { rank result.from ≡ gone_from body.now twig.now }
+    ensures to { rank result.to ≡ gone_to body.now twig.now }
 {
     let going = body.going();
-    let lo = twig.lo();
-    if lo.is_below(going.from) {
-        going.from
-    } else {
-        lo
-    }
+    let from = later(twig.lo(), going.from);
+    let to = earlier(twig.hi(), going.to);
+    KeyRange { from, to }
+}
+
+// The greater one of two keys.
+fn later(one: Key, other: Key) -> Key
+    ensures { rank result ≡ larger (rank one) (rank other) }
+{
+    if one.is_below(other) { other } else { one }
+}
+
+// The smaller one of two keys.
+fn earlier(one: Key, other: Key) -> Key
+    ensures { rank result ≡ smaller (rank one) (rank other) }
+{
+    if one.is_below(other) { one } else { other }
 }
 
 // The range of the leaf to which the piece at a key points: up to the next piece, or to the end of all.
