@@ -5,5 +5,7 @@ mod GrownTurns
 mod LeafTurns
 mod NoBytes
 mod Effects
+mod Chosen
+mod LossAmong
 mod Whole
 mod Steps

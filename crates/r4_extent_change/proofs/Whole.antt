@@ -27,31 +27,11 @@ use Rattle.r4_extent_change.specs.Changing.{CanGrow, most_grown}
 use Rattle.r4_extent_change.specs.Turned.{LeavesLeaves, MayTurnAll}
 use Rattle.r4_extent_change.specs.Wider.{GoesOn}
 use Rattle.r4_extent_change.proofs.AllTurned.{left_over}
+use Rattle.r4_extent_change.proofs.Chosen.{picked, picked_apart}
 use Rattle.r4_extent_change.proofs.GrownTurns.{can_all, leaves_left, still_of_cells}
 use Rattle.r4_extent_change.proofs.AtStart.{renewed_of, start_few, start_measured, start_stands, still_stand}
 use Rattle.r4_extent_change.proofs.LeafTurns.{can_make, few_made}
 use Rattle.r4_extent_change.proofs.TwigTurn.{as_wide}
-
--- ---- cells of which a test holds
-
-pass_one : (v : Bool) (p : CellSeen → Bool) (x y : CellSeen) (xs rest : List CellSeen) → p x ≡ v → (Contains rest y → Contains xs y × (p y ≡ true)) → Contains (if v then x ∷ rest else rest) y → Contains (x ∷ xs) y × (p y ≡ true)
-pass_one true p x y xs rest is more at = elim (cases x y rest at) [
-  | inl same ↦ (subst (Contains (x ∷ xs)) (sym same) (here x xs), ap p same ∙ is)
-  | inr m ↦ let (a, b) = more m in (later x y xs a, b)
-]
-pass_one false p x y xs rest is more at = let (a, b) = more at in (later x y xs a, b)
-
-picked : (p : CellSeen → Bool) (xs : List CellSeen) (y : CellSeen) → Contains (filter p xs) y → Contains xs y × (p y ≡ true)
-picked p [] y at = absurd (none y at)
-picked p (x ∷ xs) y at = pass_one (p x) p x y xs (filter p xs) refl (picked p xs y) at
-
-apart_one : (v : Bool) (x : CellSeen) (xs rest : List CellSeen) → ((y : CellSeen) → Contains xs y → x.id ≢ y.id) → ((y : CellSeen) → Contains rest y → Contains xs y) → Distinct rest → Distinct (if v then x ∷ rest else rest)
-apart_one true x xs rest first among apart = (λ y m. first y (among y m), apart)
-apart_one false x xs rest first among apart = apart
-
-picked_apart : (p : CellSeen → Bool) (xs : List CellSeen) → Distinct xs → Distinct (filter p xs)
-picked_apart p [] apart = tt
-picked_apart p (x ∷ xs) (first, apart) = apart_one (p x) x xs (filter p xs) first (λ y m. (picked p xs y m).0) (picked_apart p xs apart)
 
 module _ (b : Body) (e : Edits) (u : Budget) (t : Store Value) (r : Root) (f : Fresh) (cells : List CellSeen) (is : CanGrow b e u t r f cells) (w0 : WorkingSet) (start : IsStart cells w0) where
   abbrev twigs : List CellSeen

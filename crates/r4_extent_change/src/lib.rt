@@ -10,4 +10,4 @@ mod laws;
 pub use beside::without_bytes;
 pub use finding::losing_among;
 pub use growing::change_of_growing;
-pub use laws::turned_twigs_leave_leaves;
+pub use laws::{losses_among_cells, turned_twigs_leave_leaves};

@@ -174,7 +174,7 @@ module _ (b : Body) (x : Loss) (c : IsLossOf b x) where
     pub bytes_are : twig_bytes qs ≡ twig_bytes (pieces_after (Some b) e (node_of x.twig) [])
     bytes_are = ap twig_bytes qs_are ∙ ((is_taken b x c).bytes id ∙ ap twig_bytes (sym (after_is b x c first e g)))
 
-    as_many : (length (leaf_at (taken_from b x) 0 x.twig.hi (taken_block x) (pieces_after (Some b) e (node_of x.twig) [])) ≡ length come) × (length come ≤ 1)
+    pub as_many : (length (leaf_at (taken_from b x) 0 x.twig.hi (taken_block x) (pieces_after (Some b) e (node_of x.twig) [])) ≡ length come) × (length come ≤ 1)
     as_many =
         let zero_is : length (leaf_at (taken_from b x) 0 x.twig.hi (taken_block x) (pieces_after (Some b) e (node_of x.twig) [])) ≡ length (cells 0) = ap length (ap (leaf_at (taken_from b x) 0 x.twig.hi (taken_block x)) (after_is b x c first e g) ∙ cells_are 0) in
         let f = few_takers (is_taken b x c).before 0 id (next_key x.twig.hi (is_taken b x c).behind) (taken_block x) (is_taken b x c).gone in

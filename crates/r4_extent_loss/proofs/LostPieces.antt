@@ -65,6 +65,19 @@ both_off a b k j never = by_first (a == k) refl
         by_second false f = (λ i. e i && f i)
         by_second true f = absurd (never (eqb-true a k e) (eqb-true b j f))
 
+-- what goes of a twig lies in its range
+pub gone_low : (b : Body) (twig : CellSeen) → rank twig.lo ≤ gone_from b twig
+gone_low b twig = elim (cases_lt (rank twig.lo) (end_after b)) [
+  | inl lt ↦ let e = larger_high (rank twig.lo) (end_after b) lt in omega (arith, e, lt)
+  | inr le ↦ let e = larger_low (rank twig.lo) (end_after b) le in omega (arith, e)
+]
+
+pub gone_high : (b : Body) (twig : CellSeen) → gone_to b twig ≤ rank twig.hi
+gone_high b twig = elim (cases_lt (rank twig.hi) (end_before b)) [
+  | inl lt ↦ let e = smaller_low (rank twig.hi) (end_before b) lt in omega (arith, e)
+  | inr le ↦ let e = smaller_high (rank twig.hi) (end_before b) le in omega (arith, e, le)
+]
+
 module _ (b : Body) (x : Loss) (c : IsLossOf b x) where
   abbrev pub lo : ℕ
   lo = rank x.twig.lo
@@ -91,16 +104,10 @@ module _ (b : Body) (x : Loss) (c : IsLossOf b x) where
   follow = c.pieces.pieces.follow
 
   pub low : lo ≤ gone_from b x.twig
-  low = elim (cases_lt lo (end_after b)) [
-    | inl lt ↦ let e = larger_high lo (end_after b) lt in omega (arith, e, lt)
-    | inr le ↦ let e = larger_low lo (end_after b) le in omega (arith, e)
-  ]
+  low = gone_low b x.twig
 
   pub high : gone_to b x.twig ≤ hi
-  high = elim (cases_lt hi (end_before b)) [
-    | inl lt ↦ let e = smaller_low hi (end_before b) lt in omega (arith, e)
-    | inr le ↦ let e = smaller_high hi (end_before b) le in omega (arith, e, le)
-  ]
+  high = gone_high b x.twig
 
   pub some : lo < hi
   some = let l = low in let h = high in let s = c.some in omega (arith, l, h, s)
