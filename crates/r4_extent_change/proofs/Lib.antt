@@ -7,5 +7,7 @@ mod NoBytes
 mod Effects
 mod Chosen
 mod LossAmong
+mod LostTurns
+mod LostWhole
 mod Whole
 mod Steps

@@ -7,7 +7,8 @@ ghost use Rattle.r4_base.specs.declared.key.Key.{Key};
 ghost use Rattle.r4_content.specs.Edited.{Edits};
 ghost use Rattle.r4_extent_build.specs.Growing.{IsGrowing};
 ghost use Rattle.r4_extent_build.specs.Looping.{AreTurned, turns_of};
-ghost use Rattle.r4_extent_loss.specs.LosingEach.{IsLossIn};
+ghost use Rattle.r4_extent_loss.specs.Losing.{Loss};
+ghost use Rattle.r4_extent_loss.specs.LosingEach.{IsLossIn, MayGo, losing_turns};
 ghost use Rattle.r4_measure.specs.Budget.{Budget};
 ghost use Rattle.r4_measure.specs.r4_cell.Patch.{HaveNames};
 ghost use Rattle.r4_measure.specs.r4_cell.Seen.{CellSeen};
@@ -17,7 +18,7 @@ ghost use Rattle.r4_measure.specs.r4_reach.Touched.{Body};
 ghost use Rattle.r4_measure.specs.r4_work.Working.{IsWorking, standing};
 ghost use Rattle.r4_measure.specs.r4_work.declared.working.WorkingSet.{WorkingSet};
 ghost use Rattle.r4_extent_change.specs.Among.{loss_among, losing_twigs};
-ghost use Rattle.r4_extent_change.specs.Losing.{HasLoss};
+ghost use Rattle.r4_extent_change.specs.Losing.{HasLoss, LeavesWider};
 ghost use Rattle.r4_extent_change.specs.Turned.{LeavesLeaves, MayTurnAll};
 
 /// Twigs of a growing body that had their turns leave a measured set, in which the leaves stand that stood: so the
@@ -39,4 +40,13 @@ pub fn losses_among_cells()
         → ((d : CellSeen) → Contains cells d → d.level ≡ 1 → IsSound d)
         → Contains (losing_twigs b cells) c → HasLoss b cells c
         → IsLossIn b w (loss_among b cells c) }
+{}
+
+/// Twigs of a body that loses blocks that had their turns leave a measured set, in which the leaves stand that stood, or
+/// go on with a wider range under their numbers: so the edits of leaves may follow, with the numbers that are left. No
+/// more cells may stand in the end than before, and the leaves that came where nothing left of what goes took it up.
+pub fn turned_losses_leave_leaves()
+    ensures { (b : Body) (first : Key) (e : Edits) (u : Budget) (t : Store Value) (r : TreeRoot)
+        (f : Fresh) (w now : WorkingSet) (xs : List Loss) → MayGo b first e t r xs f w u
+        → AreTurned t r (losing_turns b e xs) f w now → LeavesWider b e u t r f w now xs }
 {}
