@@ -9,5 +9,6 @@ mod Chosen
 mod LossAmong
 mod LostTurns
 mod LostWhole
+mod LostSteps
 mod Whole
 mod Steps
