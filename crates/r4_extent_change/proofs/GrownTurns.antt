@@ -1,5 +1,5 @@
 -- Twigs of a growing body that have their turns, one after the other.
-use Rattle.std.proofs.Common.{◌≡◌, ◌≢◌, ℕ, ◌+◌, ◌^◌, ◌<◌, ◌≤◌, List, [], ◌∷◌, inl, inr, refl, sym, subst, ◌∙◌, arith}
+use Rattle.std.proofs.Common.{◌≡◌, ℕ, ◌+◌, ◌≤◌, List, [], ◌∷◌, inl, inr, refl, sym, subst, ◌∙◌, arith}
 use Rattle.std.specs.Prelude.{Contains}
 use Rattle.std.proofs.lemmas.List.Sums.{sum_by-cons}
 use Rattle.r4_base.specs.Tree.{Root, Store}
@@ -20,9 +20,8 @@ use Rattle.r4_measure.specs.r4_cell.Seen.{CellSeen}
 use Rattle.r4_measure.specs.r4_cell.declared.change.Fresh.{Fresh}
 use Rattle.r4_measure.specs.r4_patch.Joining.{ids_of}
 use Rattle.r4_measure.specs.r4_reach.Touched.{Body}
-use Rattle.r4_measure.specs.r4_work.Working.{standing}
 use Rattle.r4_measure.specs.r4_work.declared.working.WorkingSet.{WorkingSet}
-use Rattle.r4_extent_change.specs.Turned.{LeavesLeaves, MayTurn, MayTurnAll, blocks_coming}
+use Rattle.r4_extent_change.specs.Turned.{LeavesLeaves, MayTurnAll, blocks_coming}
 use Rattle.r4_extent_change.proofs.AllTurned.{AreDone, IsMild, all_done, coming}
 
 -- only data blocks come

@@ -29,7 +29,7 @@ use Rattle.r4_measure.specs.r4_reach.Touched.{Body}
 use Rattle.r4_measure.specs.r4_work.Remaking.{Changes}
 use Rattle.r4_measure.specs.r4_work.Working.{HasNoEffect, IsStart, standing}
 use Rattle.r4_measure.specs.r4_work.declared.working.WorkingSet.{WorkingSet}
-use Rattle.r4_extent_change.specs.Among.{gone_among, is_losing, loss_among, losing_twigs, losses_among}
+use Rattle.r4_extent_change.specs.Among.{is_losing, loss_among, losing_twigs, losses_among}
 use Rattle.r4_extent_change.specs.Beside.{without_bytes}
 use Rattle.r4_extent_change.specs.Losing.{CanLose, LeavesWider, lost_keys, lost_values, most_lost}
 use Rattle.r4_extent_change.specs.Wider.{GoesOn}
@@ -37,7 +37,7 @@ use Rattle.r4_extent_change.proofs.AllTurned.{left_over}
 use Rattle.r4_extent_change.proofs.AtStart.{standing_in, start_few, start_measured}
 use Rattle.r4_extent_change.proofs.Chosen.{picked_apart}
 use Rattle.r4_extent_change.proofs.LeafTurns.{can_make, few_made}
-use Rattle.r4_extent_change.proofs.LossAmong.{loss_in, losing_is}
+use Rattle.r4_extent_change.proofs.LossAmong.{loss_in}
 use Rattle.r4_extent_change.proofs.LostTurns.{leaves_wider, still_of_cells}
 
 -- ---- the twigs of what goes

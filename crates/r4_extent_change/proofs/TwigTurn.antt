@@ -108,7 +108,7 @@ module _ (t : Store Value) (r : Root) (f : Fresh) (w : WorkingSet) (u : Budget) 
       let new : Contains made.edit.new d = subst (λ cs. Contains cs d) (sym (new_are t r f w u is quiet e i ready unplaced high numbers after v made))
       (Contains-append_left (x.below.new ++ mine) x.blocks d (Contains-append_left x.below.new mine d at)) in
       Contains-append_left v.made v.kept d (Contains-permutation v.change.new v.made d made.put.made
-          (subst (λ cs. Contains cs d) (sym made.put.followed.new) (Contains-append_left made.edit.new (without (ids_of made.edit.old) w.change.new) d new)))
+      (subst (λ cs. Contains cs d) (sym made.put.followed.new) (Contains-append_left made.edit.new (without (ids_of made.edit.old) w.change.new) d new)))
 
   leaf_apart : (d : CellSeen) → Contains (standing w) d → d.level ≡ 1 → d.id ≢ i
   leaf_apart d at one id =

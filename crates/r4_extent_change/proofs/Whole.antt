@@ -1,7 +1,6 @@
 -- The whole change, step by step: what each step needs, and what it leaves for the next one.
-use Rattle.std.proofs.Common.{◌≡◌, ◌≢◌, inl, inr, ℕ, ◌+◌, ◌*◌, ◌^◌, ◌<◌, ◌≤◌, Bool, true, false, List, [], ◌∷◌, length, refl, sym, ap, subst, ◌∙◌, arith}
-use Rattle.std.specs.Prelude.{◌==◌, Contains, Some, if◌then◌else◌}
-use Rattle.std.specs.List.{filter}
+use Rattle.std.proofs.Common.{◌≡◌, ℕ, ◌+◌, ◌*◌, ◌^◌, ◌<◌, ◌≤◌, Bool, List, length, arith}
+use Rattle.std.specs.Prelude.{◌==◌, Contains, Some}
 use Rattle.std.proofs.lemmas.Bool.{and_parts, eqb-true}
 use Rattle.r4_base.specs.Tree.{Root, Store}
 use Rattle.r4_base.specs.Value.{Value}
@@ -11,7 +10,7 @@ use Rattle.r4_extent_build.proofs.AllTurns.{all_set}
 use Rattle.r4_extent_build.specs.Looping.{AreKeysOfEach, AreTurned, CanTurnAll, behind_all, keys_of_each, turns_of}
 use Rattle.r4_extent_build.specs.Setting.{bytes_after}
 use Rattle.r4_extent_renew.specs.Overwriting.{AreSetAmong, AreStandingCells, StaysMeasured}
-use Rattle.r4_measure.proofs.r4_patch.Members.{Distinct, cases, distinct, have_names, here, later, none}
+use Rattle.r4_measure.proofs.r4_patch.Members.{distinct, have_names}
 use Rattle.r4_measure.specs.Budget.{Budget}
 use Rattle.r4_measure.specs.Measured.{IsMeasured}
 use Rattle.r4_measure.specs.r4_cell.Seen.{CellSeen, node_of}

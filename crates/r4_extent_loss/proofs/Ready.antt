@@ -1,10 +1,9 @@
 -- A standing twig of which blocks go is ready for its turn.
-use Rattle.std.proofs.Common.{◌≡◌, ℕ, ◌+◌, ◌-◌, ◌/◌, ◌^◌, ◌≤◌, [], refl, sym, ap, subst, ◌∙◌, arith}
+use Rattle.std.proofs.Common.{◌+◌, ◌-◌, ◌/◌, ◌^◌, ◌≤◌, [], refl, sym, subst, ◌∙◌, arith}
 use Rattle.std.specs.Prelude.{Some}
 use Rattle.r4_base.specs.Tree.{Root, Store}
 use Rattle.r4_base.specs.Value.{Value}
 use Rattle.r4_base.specs.declared.key.Key.{Key}
-use Rattle.r4_branch.specs.Pieces.{twig_bytes}
 use Rattle.r4_cell.specs.Seen.{node_of}
 use Rattle.r4_cell.specs.declared.change.Fresh.{Fresh}
 use Rattle.r4_content.specs.Edited.{Edits}
@@ -17,11 +16,10 @@ use Rattle.r4_extent_build.specs.r4_twig_turns.Turning.{IsReady}
 use Rattle.r4_work.specs.Working.{IsWorking}
 use Rattle.r4_work.specs.declared.working.WorkingSet.{WorkingSet}
 use Rattle.r4_work.proofs.InPlace.{standing_is}
-use Rattle.r4_extent_loss.specs.Losing.{IsLosing, IsLossOf, Loss, losing_turn, taken_from, with_leaf}
+use Rattle.r4_extent_loss.specs.Losing.{IsLosing, IsLossOf, Loss, losing_turn}
 use Rattle.r4_extent_loss.specs.LosingEach.{StandsLoss}
 use Rattle.r4_extent_loss.proofs.LosingTurns.{bytes_are, turn_of}
-use Rattle.r4_extent_loss.proofs.LostPieces.{after_is, some}
-use Rattle.r4_extent_loss.proofs.Taken.{is_taken}
+use Rattle.r4_extent_loss.proofs.LostPieces.{some}
 
 module _ (t : Store Value) (r : Root) (f : Fresh) (w : WorkingSet) (working : IsWorking t r f w) (u : Budget) (b : Body) (first : Key) (e : Edits) (x : Loss) (g : IsLosing b first e) (c : IsLossOf b x) (s : StandsLoss w x)
     (few : extra_twigs (pieces_after (Some b) e (node_of x.twig) []) ≤ u 2 x.twig.id) where
