@@ -1,6 +1,6 @@
 //! Laws of twigs of a body in extents that loses blocks. Each is the contract of a function that does nothing.
 
-ghost use Rattle.std.specs.Prelude.{ℕ, ◌+◌, ◌^◌, ◌≤◌, [], List, Some};
+ghost use Rattle.std.specs.Prelude.{ℕ, ◌≡◌, ◌+◌, ◌^◌, ◌≤◌, [], List, Some, true};
 ghost use Rattle.r4_base.specs.Tree.{Root as TreeRoot, Store};
 ghost use Rattle.r4_base.specs.Value.{Value};
 ghost use Rattle.r4_base.specs.declared.key.Key.{Key};
@@ -9,7 +9,7 @@ ghost use Rattle.r4_cell.specs.declared.change.Fresh.{Fresh};
 ghost use Rattle.r4_content.specs.Edited.{Edits};
 ghost use Rattle.r4_measure.specs.Budget.{Budget, most_from};
 ghost use Rattle.r4_path.specs.Grafts.{extra_twigs};
-ghost use Rattle.r4_reach.specs.Needs.{pieces_after};
+ghost use Rattle.r4_reach.specs.Needs.{changes_pieces, pieces_after};
 ghost use Rattle.r4_reach.specs.Touched.{Body};
 ghost use Rattle.r4_extent_build.specs.r4_twig_turns.Turning.{IsReady, IsTurnOf, TurnAtMost, come_at_most};
 ghost use Rattle.r4_twig_work.specs.Regrafting.{SetsBelow};
@@ -57,6 +57,12 @@ pub fn losing_twigs_are_ready()
         → IsLossOf b x → StandsLoss w x
         → extra_twigs (pieces_after (Some b) e (node_of x.twig) []) ≤ u 2 x.twig.id
         → IsReady t w u (losing_turn b e x) x.twig.id }
+{}
+
+/// Pieces change of a twig of which blocks go: so it is among those that reach tells to be written.
+pub fn losing_twigs_change_their_pieces()
+    ensures { (b : Body) (first : Key) (e : Edits) (x : Loss) → IsLosing b first e → IsLossOf b x
+        → changes_pieces (Some b) e (node_of x.twig) ≡ true }
 {}
 
 /// Where blocks go of a standing twig of a part of a tree, and their keys lie in its extents, no leaf has one of them,
