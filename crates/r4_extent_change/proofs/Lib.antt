@@ -7,6 +7,7 @@ mod NoBytes
 mod Effects
 mod Chosen
 mod LossAmong
+mod GoneKeys
 mod LostTurns
 mod LostWhole
 mod LostSteps

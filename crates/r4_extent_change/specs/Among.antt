@@ -1,12 +1,14 @@
 -- Which twigs among a task's cells lose blocks of a body in extents, and what goes of each (docs/volume.md, "Bodies in
 -- extents"). A key is its rank.
-use Rattle.std.specs.Prelude.{◌==◌, ◌&&◌, ℕ, Bool, List, [], ◌∷◌, map, nat_le, nat_lt, Option, None, Some}
-use Rattle.std.specs.Prelude.{if◌then◌else◌}
+use Rattle.std.specs.Prelude.{◌≡◌, ◌<◌, ◌≤◌, ◌==◌, ◌&&◌, ℕ, Bool, List, [], ◌∷◌, map, nat_le, nat_lt, Contains}
+use Rattle.std.specs.Prelude.{Option, None, Some, if◌then◌else◌}
 use Rattle.std.specs.List.{filter, list_any}
 use Rattle.r4_base.specs.Key.{rank}
+use Rattle.r4_extent_build.specs.Growing.{end_after, end_before}
 use Rattle.r4_extent_loss.specs.Losing.{Loss, gone_from, gone_to, in_gone}
 use Rattle.r4_measure.specs.r4_cell.Seen.{CellSeen}
 use Rattle.r4_measure.specs.r4_reach.Touched.{Body}
+use Rattle.r4_measure.specs.r4_work.Order.{HasKey}
 
 -- the cell is a twig, and keys of its range go
 abbrev pub is_losing : Body → CellSeen → Bool
@@ -43,3 +45,8 @@ losses_among b cells = map (loss_among b cells) (losing_twigs b cells)
 -- the keys that go of all of them
 abbrev pub gone_among : Body → List CellSeen → (key : ℕ) → Bool
 gone_among b cells k = list_any (λ (c : CellSeen). in_gone b c k) (losing_twigs b cells)
+
+-- The key is one of the body's blocks that go, and lies in the range of a twig among the cells.
+abbrev pub GoesAt : Body → List CellSeen → (key : ℕ) → Type 0
+GoesAt b cells k = (end_after b ≤ k) × (k < end_before b)
+    × ((c : CellSeen) × Contains cells c × (c.level ≡ 2) × HasKey c k)

@@ -1,6 +1,6 @@
 //! Laws of twigs that have their turns. Each is the contract of a function that does nothing.
 
-ghost use Rattle.std.specs.Prelude.{◌≡◌, Contains, List};
+ghost use Rattle.std.specs.Prelude.{◌≡◌, ◌↔◌, ℕ, Contains, List, true};
 ghost use Rattle.r4_base.specs.Tree.{Root as TreeRoot, Store};
 ghost use Rattle.r4_base.specs.Value.{Value};
 ghost use Rattle.r4_base.specs.declared.key.Key.{Key};
@@ -17,7 +17,7 @@ ghost use Rattle.r4_measure.specs.r4_path.Sharing.{IsSound};
 ghost use Rattle.r4_measure.specs.r4_reach.Touched.{Body};
 ghost use Rattle.r4_measure.specs.r4_work.Working.{IsWorking, standing};
 ghost use Rattle.r4_measure.specs.r4_work.declared.working.WorkingSet.{WorkingSet};
-ghost use Rattle.r4_extent_change.specs.Among.{loss_among, losing_twigs};
+ghost use Rattle.r4_extent_change.specs.Among.{GoesAt, gone_among, loss_among, losing_twigs};
 ghost use Rattle.r4_extent_change.specs.Losing.{HasLoss, LeavesWider};
 ghost use Rattle.r4_extent_change.specs.Turned.{LeavesLeaves, MayTurnAll};
 
@@ -49,4 +49,11 @@ pub fn turned_losses_leave_leaves()
     ensures { (b : Body) (first : Key) (e : Edits) (u : Budget) (t : Store Value) (r : TreeRoot)
         (f : Fresh) (w now : WorkingSet) (xs : List Loss) → MayGo b first e t r xs f w u
         → AreTurned t r (losing_turns b e xs) f w now → LeavesWider b e u t r f w now xs }
+{}
+
+/// The keys that go of all twigs among some cells are those of the body's blocks that go, padding included, as far as
+/// they lie in the ranges of these twigs.
+pub fn keys_of_blocks_go()
+    ensures { (b : Body) (cells : List CellSeen) (k : ℕ)
+        → (gone_among b cells k ≡ true) ↔ GoesAt b cells k }
 {}

@@ -11,5 +11,7 @@ mod losing;
 pub use beside::without_bytes;
 pub use finding::losing_among;
 pub use growing::change_of_growing;
-pub use laws::{losses_among_cells, turned_losses_leave_leaves, turned_twigs_leave_leaves};
+pub use laws::{
+    keys_of_blocks_go, losses_among_cells, turned_losses_leave_leaves, turned_twigs_leave_leaves,
+};
 pub use losing::change_of_losing;

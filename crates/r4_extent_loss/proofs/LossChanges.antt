@@ -116,13 +116,13 @@ third false true r s h = refl
 third false false true s h = refl
 third false false false s h = absurd cc
 
-larger_less : (a b k : ℕ) → a ≤ k → b ≤ k → larger a b ≤ k
+pub larger_less : (a b k : ℕ) → a ≤ k → b ≤ k → larger a b ≤ k
 larger_less a b k one two = elim (cases_lt a b) [
   | inl lt ↦ let e = larger_high a b lt in omega (arith, e, two)
   | inr le ↦ let e = larger_low a b le in omega (arith, e, one)
 ]
 
-smaller_more : (a b k : ℕ) → k < a → k < b → k < smaller a b
+pub smaller_more : (a b k : ℕ) → k < a → k < b → k < smaller a b
 smaller_more a b k one two = elim (cases_lt a b) [
   | inl lt ↦ let e = smaller_low a b lt in omega (arith, e, one)
   | inr le ↦ let e = smaller_high a b le in omega (arith, e, two)
