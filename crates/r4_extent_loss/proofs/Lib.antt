@@ -12,5 +12,6 @@ pub mod Ready
 pub mod InParts
 pub mod AllReady
 pub mod LossChanges
+pub mod LossCounts
 -- what crates above name by way of this one
 pub use Rattle.r4_twig_work.proofs.r4_extent_edit

@@ -143,7 +143,7 @@ module _ (b : Body) (x : Loss) (c : IsLossOf b x) where
   rest_follow : Follow lo hi rest
   rest_follow = (cut_twigs lo hi (gone_from b x.twig) (gone_to b x.twig) pp xs ms ys parts (2 ^ 63) x.leaf (led x.leaf c.left) (may_be_named (2 ^ 63) (omega arith)) some all_first).follow
 
-  taken : (qs : List TwigPiece) → BeginsAt (gone_from b x.twig) qs → Follow (gone_from b x.twig) (gone_to b x.twig) qs
+  pub taken : (qs : List TwigPiece) → BeginsAt (gone_from b x.twig) qs → Follow (gone_from b x.twig) (gone_to b x.twig) qs
       → taken_up (node_of x.twig) xs qs ≡ pointer_for x.leaf (last_end None xs) (2 ^ 63) qs
   taken [] begins f = absurd begins
   taken (m ∷ more) begins f = by_leaf x.leaf c.left
@@ -160,7 +160,7 @@ module _ (b : Body) (x : Loss) (c : IsLossOf b x) where
           ap (λ (t : Bool). cond (t || is_at (last_end None xs) (rank m.key)) [] (pointer_at (rank m.key))) on
 
   module _ (first : Key) (e : Edits) (g : IsLosing b first e) where
-    going_is : going b ≡ (end_after b, end_before b)
+    pub going_is : going b ≡ (end_after b, end_before b)
     going_is = ap (λ (t : Bool). cond t (end_after b, end_before b) (0, 0)) g.in_extents
 
     coming_is : coming b ≡ (end_before b, end_after b)

@@ -14,7 +14,7 @@ use Rattle.r4_branch.specs.declared.piece.TwigPart.TheVariants.{Pointer}
 use Rattle.r4_branch.specs.declared.piece.TwigPiece.{TwigPiece}
 use Rattle.r4_branch.proofs.ItemPieces.{units_append}
 use Rattle.r4_cell.specs.Seen.{CellSeen, node_of}
-use Rattle.r4_edit.specs.CutBlocks.{BeginsAt, next_key, pointer_over}
+use Rattle.r4_edit.specs.CutBlocks.{BeginsAt, next_key, pieces_below, pieces_between, pointer_over}
 use Rattle.r4_edit.specs.Extents.{given_cells}
 use Rattle.r4_edit.proofs.CutNames.{EndsWithLeaf, between_names, units_without}
 use Rattle.r4_edit.proofs.CutOut.{IsLed}
@@ -137,6 +137,7 @@ pub record IsTaken (b : Body) (x : Loss) (all : List TwigPiece) : Type 0 where
   pub goes_on : (l : CellSeen) → x.leaf ≡ Some l → (id : ℕ) (hi : Key) (block : List ℕ)
       → (c : CellSeen) × Contains (cells_of (pointer_over before id gone) id hi block) c
   pub stands : (l : CellSeen) → x.leaf ≡ Some l → all ≡ front ++ (pointer_over before l.id gone ++ behind)
+  pub new : x.leaf ≡ None → (before ≡ last_end None (pieces_below (gone_from b x.twig) (parted_pieces b x.twig))) × (gone ≡ pieces_between (gone_from b x.twig) (gone_to b x.twig) (parted_pieces b x.twig))
   pub may : (l : CellSeen) → x.leaf ≡ Some l → names_block true (2 ^ 64) (Some l.id) ≡ true
 
 module _ (b : Body) (x : Loss) (c : IsLossOf b x) where
@@ -194,6 +195,7 @@ module _ (b : Body) (twig : CellSeen) (blocks : List CellSeen) where
         goes_on = λ l is. absurd (none-some l is);
         stands = λ l is. absurd (none-some l is);
         may = λ l is. absurd (none-some l is);
+        new = λ is. (refl, refl);
       }
 
   -- the leaf that ends there goes on
@@ -315,6 +317,7 @@ module _ (b : Body) (twig : CellSeen) (blocks : List CellSeen) where
       ];
       goes_on = λ d is id h block. (record { id = id; level = 1; lo = piece.key; hi = h; block = block }, here (record { id = id; level = 1; lo = piece.key; hi = h; block = block }) []);
       stands = λ d is. stays_is ∙ ((λ i. front ++ (record { key = piece.key; part = part i } ∷ ys b x c)) ∙ ap (λ (z : CellSeen). front ++ (record { key = piece.key; part = Pointer (record { 0 = z.id }) } ∷ ys b x c)) (same_Some l d is));
+      new = λ is. absurd (none-some l (sym is));
       may = λ d is. subst (λ (z : CellSeen). names_block true (2 ^ 64) (Some z.id) ≡ true) (same_Some l d is) (subst (IsSoundPart (offset_of piece.key)) part halves.1.1.1);
     }
 
