@@ -1,9 +1,8 @@
 -- The keys that go of all twigs among a task's cells.
-use Rattle.std.proofs.Common.{◌≡◌, ◌↔◌, inl, inr, ℕ, ◌<◌, ◌≤◌, true, List, arith}
-use Rattle.std.specs.Prelude.{◌==◌, ◌&&◌, Contains, nat_lt}
-use Rattle.std.proofs.lemmas.Bool.{cases_lt, eq-eqb, lt-ltb}
+use Rattle.std.proofs.Common.{◌≡◌, ◌↔◌, ℕ, ◌<◌, ◌≤◌, true, List, arith}
+use Rattle.std.specs.Prelude.{◌&&◌}
+use Rattle.std.proofs.lemmas.Bool.{eq-eqb, lt-ltb}
 use Rattle.r4_base.specs.Key.{rank}
-use Rattle.r4_content.specs.Bodies.{larger, smaller}
 use Rattle.r4_extent_build.specs.Growing.{end_after, end_before}
 use Rattle.r4_extent_demands.proofs.PutsInto.{any_there, there_any}
 use Rattle.r4_extent_loss.proofs.LossChanges.{gone_after, gone_before, larger_less, smaller_more}
@@ -13,7 +12,6 @@ use Rattle.r4_extent_loss.specs.Losing.{gone_from, gone_to, in_gone}
 use Rattle.r4_measure.proofs.r4_work.UnitMembers.{between}
 use Rattle.r4_measure.specs.r4_cell.Seen.{CellSeen}
 use Rattle.r4_measure.specs.r4_reach.Touched.{Body}
-use Rattle.r4_measure.specs.r4_work.Order.{HasKey}
 use Rattle.r4_extent_change.specs.Among.{GoesAt, gone_among, is_losing, losing_twigs}
 use Rattle.r4_extent_change.proofs.Chosen.{kept_in}
 use Rattle.r4_extent_change.proofs.LossAmong.{losing_is}

@@ -56,7 +56,7 @@ module _ (b : Body) (e : Edits) (f : Fresh) (cells : List CellSeen) (w0 w1 : Wor
       made_as : AreMadeIn t r (without_bytes e) cells (behind_all (losing_turns b e (losses_among b cells)) f) g w1 now
       made_as = subst (λ y. AreMadeIn t r y cells (behind_all (losing_turns b e (losses_among b cells)) f) g w1 now) same (subst (λ h. AreMadeIn t r x cells h g w1 now) left_as made)
 
-      pub few_lost : length now.change.new ≤ most_lost b e u r cells
+      pub few_lost : length now.change.new ≤ most_lost b u r cells
       few_lost = few_of b e u t r f cells can w0 lost.start w1 all_turned g now made_as
 
       pub of_cells : IsOf cells f.next g now

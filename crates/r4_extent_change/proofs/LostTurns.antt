@@ -1,5 +1,5 @@
 -- Twigs of a body that loses blocks have their turns, one after the other.
-use Rattle.std.proofs.Common.{◌≡◌, inl, inr, ℕ, ◌+◌, ◌≤◌, List, [], ◌∷◌, ◌++◌, length, refl, sym, ap, subst, ◌∙◌, arith}
+use Rattle.std.proofs.Common.{◌≡◌, inl, inr, ℕ, ◌+◌, ◌≤◌, List, [], ◌∷◌, ◌++◌, length, map, refl, sym, ap, subst, ◌∙◌, arith}
 use Rattle.std.specs.Prelude.{Contains, None, Option, Some}
 use Rattle.std.proofs.lemmas.List.{length-append}
 use Rattle.std.proofs.lemmas.List.Elements.{Contains-append_cases}
@@ -13,8 +13,10 @@ use Rattle.r4_content.specs.Edited.{Edits}
 use Rattle.r4_extent_build.specs.Looping.{AreTurned, behind_all}
 use Rattle.r4_extent_build.specs.r4_twig_turns.Turning.{TwigTurn}
 use Rattle.r4_extent_loss.proofs.AllReady.{ready, twigs}
+use Rattle.r4_extent_counts.specs.Coming.{leaf_taking_up}
 use Rattle.r4_extent_loss.proofs.InParts.{loss_of_part}
 use Rattle.r4_extent_loss.proofs.LosingTurns.{as_many, come_is, each, end, end_low}
+use Rattle.r4_extent_loss.proofs.LossCounts.{leaves_are}
 use Rattle.r4_extent_loss.proofs.Taken.{is_taken}
 use Rattle.r4_extent_loss.specs.Losing.{IsLeft, IsLosing, IsLossOf, Loss, leaf_at, losing_turn, numbers_taken, taken_block, taken_from, taken_id}
 use Rattle.r4_extent_loss.specs.LosingEach.{MayGo, losing_turns}
@@ -33,13 +35,15 @@ use Rattle.r4_extent_change.specs.Wider.{IsWider}
 use Rattle.r4_extent_change.proofs.AllTurned.{AreDone, IsMild, all_done, coming}
 
 -- only leaves come
-lost_coming : (b : Body) (e : Edits) (xs : List Loss) → coming (losing_turns b e xs) ≡ leaves_coming b e xs
-lost_coming b e [] = refl
-lost_coming b e (x ∷ xs) =
+lost_coming : (b : Body) (first : Key) (e : Edits) → IsLosing b first e → (xs : List Loss) → ((x : Loss) → Contains xs x → IsLossOf b x)
+    → coming (losing_turns b e xs) ≡ leaves_coming b (map (λ (x : Loss). x.twig) xs)
+lost_coming b first e g [] each = refl
+lost_coming b first e g (x ∷ xs) each =
     let n = sum_by-cons (λ (d : TwigTurn). d.blocks + d.leaves) (losing_turn b e x) (losing_turns b e xs) in
-    let k = sum_by-cons (λ (y : Loss). (losing_turn b e y).leaves) x xs in
-    let h = lost_coming b e xs in
-    omega (arith, n, k, h)
+    let k = sum_by-cons (λ (c : CellSeen). leaf_taking_up b (node_of c)) x.twig (map (λ (y : Loss). y.twig) xs) in
+    let one : (losing_turn b e x).leaves ≡ leaf_taking_up b (node_of x.twig) = leaves_are b first e g x (each x (here x xs)) in
+    let h = lost_coming b first e g xs (λ y m. each y (later x y xs m)) in
+    omega (arith, n, k, one, h)
 
 turn_among : (b : Body) (e : Edits) (xs : List Loss) (d : TwigTurn) → Contains (losing_turns b e xs) d → (x : Loss) × Contains xs x × (d ≡ losing_turn b e x)
 turn_among b e [] d at = absurd (none d at)
@@ -112,7 +116,7 @@ module _ (b : Body) (first : Key) (e : Edits) (u : Budget) (t : Store Value) (r 
         left = is_done.left;
         measured = is_done.measured;
         quiet = is_done.quiet;
-        few = let n = is_done.few in let k = lost_coming b e xs in omega (arith, n, k);
+        few = let n = is_done.few in let k = lost_coming b first e m.losing xs (λ x at. loss_of_part t r f w m.measured.working b x (m.each x at)) in omega (arith, n, k);
         leaves = is_done.goes_on;
       }
 

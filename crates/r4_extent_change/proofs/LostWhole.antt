@@ -31,7 +31,7 @@ use Rattle.r4_measure.specs.r4_work.Working.{HasNoEffect, IsStart, standing}
 use Rattle.r4_measure.specs.r4_work.declared.working.WorkingSet.{WorkingSet}
 use Rattle.r4_extent_change.specs.Among.{is_losing, loss_among, losing_twigs, losses_among}
 use Rattle.r4_extent_change.specs.Beside.{without_bytes}
-use Rattle.r4_extent_change.specs.Losing.{CanLose, LeavesWider, lost_keys, lost_values, most_lost}
+use Rattle.r4_extent_change.specs.Losing.{CanLose, LeavesWider, leaves_coming, lost_keys, lost_values, most_lost}
 use Rattle.r4_extent_change.specs.Wider.{GoesOn}
 use Rattle.r4_extent_change.proofs.AllTurned.{left_over}
 use Rattle.r4_extent_change.proofs.AtStart.{standing_in, start_few, start_measured}
@@ -137,11 +137,12 @@ module _ (b : Body) (e : Edits) (u : Budget) (t : Store Value) (r : Root) (f : F
     pub can_leaves : CanMake t r beside cells left w1
     can_leaves = can_make beside t r left w1 wider.left wider.measured cells is.names goes_on is.room left_low left_high left_enough
 
-    few_leaves : MakeAtMost (most_lost b e u r cells) t r beside cells left w1
+    few_leaves : MakeAtMost (most_lost b u r cells) t r beside cells left w1
     few_leaves =
         let a = start_few cells w0 start t r f is.cells_in u is.measured in
         let g = wider.few in
-        few_made beside t r left w1 wider.left wider.measured cells is.names goes_on is.room left_low left_high left_enough (most_lost b e u r cells) (omega (arith, a, g))
+        let twigs = ap (leaves_coming b) (of_twigs b cells (losing_twigs b cells)) in
+        few_made beside t r left w1 wider.left wider.measured cells is.names goes_on is.room left_low left_high left_enough (most_lost b u r cells) (omega (arith, a, g, twigs))
 
     of_those : IsOf cells f.next left w1
     of_those = still_of_cells b is.first e u t r f w0 w1 xs may_go turned cells f.next (omega arith) (start_of cells w0 f start)
@@ -150,8 +151,8 @@ module _ (b : Body) (e : Edits) (u : Budget) (t : Store Value) (r : Root) (f : F
     twigs_change = all_lost b is.first e is.losing t r xs f w0 w1 can_losses.each can_losses.turns is.unplaced.0 turned
 
     module _ (g : Fresh) (now : WorkingSet) (made : AreMadeIn t r beside cells left g w1 now) where
-      pub few_lost : length now.change.new ≤ most_lost b e u r cells
-      few_lost = few_new (most_lost b e u r cells) t r g now made.working (made.few (most_lost b e u r cells) few_leaves)
+      pub few_lost : length now.change.new ≤ most_lost b u r cells
+      few_lost = few_new (most_lost b u r cells) t r g now made.working (made.few (most_lost b u r cells) few_leaves)
 
       pub of_cells : IsOf cells f.next g now
       of_cells =

@@ -1,7 +1,7 @@
 -- A command's change of the cells of its task, where its body stands in extents and loses blocks (docs/volume.md,
 -- "Bodies in extents"). A key is its rank.
 use Rattle.std.specs.Prelude.{◌≡◌, ℕ, ◌+◌, ◌*◌, ◌^◌, ◌<◌, ◌≤◌, ◌||◌, if◌then◌else◌, Bool, true, List, [], length}
-use Rattle.std.specs.Prelude.{Contains, None, Option, Some, sum_by}
+use Rattle.std.specs.Prelude.{Contains, None, Option, Some, map, sum_by}
 use Rattle.r4_base.specs.Key.{rank}
 use Rattle.r4_base.specs.Node.{mkfs_id_of}
 use Rattle.r4_base.specs.Tree.{InSpan, Name, Root, Span, Store}
@@ -11,7 +11,8 @@ use Rattle.r4_build.specs.Building.{LiesInLeaf, set_by}
 use Rattle.r4_content.specs.Edited.{Edits, changed, is_in}
 use Rattle.r4_extent_build.specs.Looping.{behind_all}
 use Rattle.r4_extent_build.specs.r4_twig_turns.Turning.{numbers_for}
-use Rattle.r4_extent_loss.specs.Losing.{IsLosing, Loss, gone_from, gone_to, in_gone, losing_turn, parted_pieces}
+use Rattle.r4_extent_counts.specs.Coming.{leaf_taking_up}
+use Rattle.r4_extent_loss.specs.Losing.{IsLosing, Loss, gone_from, gone_to, in_gone, parted_pieces}
 use Rattle.r4_extent_loss.specs.LosingEach.{losing_turns}
 use Rattle.r4_measure.specs.Budget.{AreUnplaced, Budget, most_from}
 use Rattle.r4_measure.specs.Grafting.{IsQuietBelow}
@@ -86,9 +87,9 @@ pub record CanLose (b : Body) (e : Edits) (u : Budget) (t : Store Value) (r : Ro
 
 -- ---- what the turns of the twigs leave
 
--- how many leaves come that take up the range of what goes, where nothing left of it does
-abbrev pub leaves_coming : Body → Edits → List Loss → ℕ
-leaves_coming b e xs = sum_by (λ (x : Loss). (losing_turn b e x).leaves) xs
+-- how many leaves come to these twigs that take up the range of what goes, where nothing left of it does
+abbrev pub leaves_coming : Body → (twigs : List CellSeen) → ℕ
+leaves_coming b twigs = sum_by (λ (c : CellSeen). leaf_taking_up b (node_of c)) twigs
 
 -- The set after it is measured for the numbers that are left, and still nothing more comes below twigs. In the end
 -- there may be no more cells than before, and the leaves that came; each leaf that stood stands, or goes on.
@@ -98,14 +99,14 @@ pub record LeavesWider (b : Body) (e : Edits) (u : Budget) (t : Store Value) (r 
   pub measured : IsMeasured t r (behind_all (losing_turns b e xs) f) now left
   pub quiet : IsQuietBelow left
   pub few : most_from left (root_of now r) (standing now)
-      ≤ most_from u (root_of w r) (standing w) + leaves_coming b e xs
+      ≤ most_from u (root_of w r) (standing w) + leaves_coming b (map (λ (x : Loss). x.twig) xs)
   pub leaves : (c : CellSeen) → Contains (standing w) c → c.level ≡ 1 → GoesOn now c
 
 -- ---- what it does
 
 -- how many new cells come at most: for each cell what may come in its place, a new root, and the leaves that come
-abbrev pub most_lost : Body → Edits → Budget → Root → List CellSeen → ℕ
-most_lost b e u r cells = most_from u r cells + leaves_coming b e (losses_among b cells)
+abbrev pub most_lost : Body → Budget → Root → List CellSeen → ℕ
+most_lost b u r cells = most_from u r cells + leaves_coming b (losing_twigs b cells)
 
 -- the keys that change: those in leaves, and those that go
 abbrev pub lost_keys : Body → Edits → List CellSeen → (key : ℕ) → Bool

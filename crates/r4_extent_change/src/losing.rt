@@ -51,8 +51,7 @@ pub fn change_of_losing(
         → MeetsPart (patch_of_change d) t r) }
     ensures few { IfOk result (λ d. (u : Budget) (t : Store Value) (r : TreeRoot)
         → CanLose body.now (edits_of edits.now) u t r fresh.old (map (λ c. arc_value c) cells.now)
-        → length d.new ≤ most_lost body.now (edits_of edits.now) u r
-        (map (λ c. arc_value c) cells.now)) }
+        → length d.new ≤ most_lost body.now u r (map (λ c. arc_value c) cells.now)) }
     ensures effect { IfOk result (λ d. HasEffect (patch_of_change d)
         (lost_keys body.now (edits_of edits.now) (map (λ c. arc_value c) cells.now))
         (lost_values (edits_of edits.now))) }

@@ -1,6 +1,6 @@
 -- Pieces change of a twig of which blocks go.
-use Rattle.std.proofs.Common.{◌≡◌, ◌⊎◌, inl, inr, ℕ, ◌+◌, ◌-◌, ◌*◌, ◌<◌, ◌≤◌, Bool, true, false, List, [], ◌∷◌, ◌++◌, refl, sym, ap, subst, ◌∙◌, arith}
-use Rattle.std.specs.Prelude.{◌||◌, ◌&&◌, Contains, Some, if◌then◌else◌, nat_lt}
+use Rattle.std.proofs.Common.{◌≡◌, inl, inr, ℕ, ◌+◌, ◌-◌, ◌*◌, ◌<◌, ◌≤◌, Bool, true, false, List, [], ◌∷◌, ◌++◌, refl, sym, ap, subst, ◌∙◌, arith}
+use Rattle.std.specs.Prelude.{◌||◌, Contains, Some, if◌then◌else◌, nat_lt}
 use Rattle.std.specs.List.{list_any}
 use Rattle.std.proofs.lemmas.Bool.{cases_lt, lt-ltb}
 use Rattle.std.proofs.lemmas.List.Elements.{Contains-append_cases, Contains-append_left, Contains-append_right}
@@ -15,12 +15,12 @@ use Rattle.r4_branch.specs.declared.piece.TwigPart.TheVariants.{Blocks, Pointer}
 use Rattle.r4_branch.specs.declared.piece.TwigPiece.{TwigPiece}
 use Rattle.r4_cell.specs.Seen.{CellSeen, node_of}
 use Rattle.r4_content.specs.Bodies.{larger, smaller}
-use Rattle.r4_content.specs.Edited.{Edits, is_between}
+use Rattle.r4_content.specs.Edited.{Edits}
 use Rattle.r4_edit.specs.CutBlocks.{BeginsAt}
 use Rattle.r4_edit.proofs.CutParts.{border_again}
 use Rattle.r4_extent_build.specs.Growing.{end_after, end_before}
 use Rattle.r4_extent_demands.proofs.PutsInto.{any_there}
-use Rattle.r4_graft.specs.Splices.{IsBorder, blocks_past, first_blocks, halves, parted, parted_piece}
+use Rattle.r4_graft.specs.Splices.{IsBorder, blocks_past, first_blocks, parted, parted_piece}
 use Rattle.r4_graft.proofs.Halves.{later_rank}
 use Rattle.r4_graft.proofs.Parted.{halved_or_not, parted_follow}
 use Rattle.r4_graft.proofs.Placed.{has_end}
@@ -29,7 +29,7 @@ use Rattle.r4_patch.proofs.Members.{cases, here, later, none}
 use Rattle.r4_path.specs.TwigPieces.{twig_pieces}
 use Rattle.r4_reach.specs.Needs.{changes_pieces, goes_in}
 use Rattle.r4_reach.specs.Touched.{Body, going}
-use Rattle.r4_extent_loss.specs.Losing.{IsLosing, IsLossOf, Loss, gone_from, gone_to, parted_pieces}
+use Rattle.r4_extent_loss.specs.Losing.{IsLosing, IsLossOf, Loss, gone_from, gone_to}
 use Rattle.r4_extent_loss.proofs.Clipped.{larger_high, larger_low, smaller_high, smaller_low}
 use Rattle.r4_extent_loss.proofs.LostPieces.{hi, lo, ms, parts, pp, ps, xs, ys}
 

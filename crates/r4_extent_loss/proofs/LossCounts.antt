@@ -18,7 +18,7 @@ use Rattle.r4_reach.specs.Touched.{Body, going}
 use Rattle.r4_extent_loss.specs.Losing.{IsLosing, IsLossOf, Loss, leaf_at, losing_turn, numbers_taken, taken_block, taken_from}
 use Rattle.r4_extent_loss.proofs.Clipped.{clipped_taken}
 use Rattle.r4_extent_loss.proofs.LosingTurns.{cells_are}
-use Rattle.r4_extent_loss.proofs.LostPieces.{after_is, all_follow, going_is, hi, lo, ms, parts, ps, rest, taken, xs}
+use Rattle.r4_extent_loss.proofs.LostPieces.{after_is, all_follow, going_is, hi, lo, ms, parts, ps, taken, xs}
 use Rattle.r4_extent_loss.proofs.Replaced.{cells_of}
 use Rattle.r4_extent_loss.proofs.Taken.{is_taken}
 

@@ -15,7 +15,7 @@ use Rattle.r4_cell.specs.Patch.{by_name, over, place}
 use Rattle.r4_cell.specs.Seen.{CellSeen, node_of}
 use Rattle.r4_cell.specs.declared.change.Fresh.{Fresh}
 use Rattle.r4_cell.specs.declared.change.Root.{Root as RootPair}
-use Rattle.r4_twig_work.specs.r4_measure.Budget.{Budget, cells_from, most_from}
+use Rattle.r4_twig_work.specs.r4_measure.Budget.{Budget, most_from}
 use Rattle.r4_twig_work.specs.r4_measure.Grafting.{Beside, IsQuietBelow, comes_below}
 use Rattle.r4_twig_work.specs.r4_measure.Measured.{IsMeasured}
 use Rattle.r4_twig_work.proofs.r4_measure.Loop.{from_new, of_id}

@@ -114,7 +114,7 @@ returns-clause-few c = λ u t r can.
     let x : Edits = edits_of c.in_ok-beside.beside in
     let same = c.in_ok-beside.ensures in
     let made = c.in_ok-make_each.ensures.made t r (may_make b e f cells w0 w1 those left lost u t r can x same) in
-    subst (λ (d : Change). length d.new ≤ most_lost b e u r cells) (sym c.into_change.ensures)
+    subst (λ (d : Change). length d.new ≤ most_lost b u r cells) (sym c.into_change.ensures)
     (few_lost b e f cells w0 w1 those left lost u t r can x same c.make_each.new.fresh c.make_each.new.set made)
 
 pub returns-clause-effect : goal.returns-clause-effect
