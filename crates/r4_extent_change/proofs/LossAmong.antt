@@ -8,6 +8,7 @@ use Rattle.r4_base.proofs.Trees.{one_cell}
 use Rattle.r4_base.specs.Key.{rank}
 use Rattle.r4_base.specs.Tree.{Name, Node, Root, Store}
 use Rattle.r4_base.specs.Value.{Value}
+use Rattle.r4_extent_loss.proofs.Begins.{begins_there}
 use Rattle.r4_extent_loss.proofs.LostPieces.{gone_high, gone_low}
 use Rattle.r4_extent_loss.proofs.r4_extent_edit.ExtentEffect.{is_on}
 use Rattle.r4_extent_loss.specs.Losing.{IsLeft, gone_from, gone_to, in_gone}
@@ -24,6 +25,7 @@ use Rattle.r4_measure.specs.r4_edit.Extents.{given_cells}
 use Rattle.r4_measure.specs.r4_patch.Part.{IsPart}
 use Rattle.r4_measure.specs.r4_path.Sharing.{IsSound}
 use Rattle.r4_measure.specs.r4_path.Steps.{IsNameOf, name_of}
+use Rattle.r4_measure.specs.r4_path.TwigPieces.{twig_pieces}
 use Rattle.r4_measure.specs.r4_reach.Touched.{Body}
 use Rattle.r4_measure.specs.r4_work.Working.{IsWorking, now_of, root_of, standing}
 use Rattle.r4_measure.specs.r4_work.declared.working.WorkingSet.{WorkingSet}
@@ -198,7 +200,7 @@ module _ (t : Store Value) (r : Root) (f : Fresh) (w : WorkingSet) (working : Is
       spanned = has.spanned;
       first_border = has.first_border;
       last_border = has.last_border;
-      begins = has.begins;
+      begins = let (p, in_ps, before, behind) = has.begins in begins_there (rank c.lo) (rank c.hi) (gone_from b c) (gone_to b c) (twig_pieces c) has.pieces.pieces.follow low is.2 high has.first_border has.last_border p in_ps before behind;
       goes = goes;
       once = have_names (filter (is_block_of b c) cells) (picked_apart (is_block_of b c) cells (distinct cells names));
       left = left_by (left_among b c cells) (found_left b c cells);

@@ -12,7 +12,7 @@ use Rattle.r4_content.specs.Edited.{Edits, changed, is_in}
 use Rattle.r4_extent_build.specs.Looping.{behind_all}
 use Rattle.r4_extent_build.specs.r4_twig_turns.Turning.{numbers_for}
 use Rattle.r4_extent_counts.specs.Coming.{leaf_taking_up}
-use Rattle.r4_extent_loss.specs.Losing.{IsLosing, Loss, gone_from, gone_to, in_gone, parted_pieces}
+use Rattle.r4_extent_loss.specs.Losing.{IsLosing, Loss, gone_from, gone_to, in_gone}
 use Rattle.r4_extent_loss.specs.LosingEach.{losing_turns}
 use Rattle.r4_measure.specs.Budget.{AreUnplaced, Budget, most_from}
 use Rattle.r4_measure.specs.Grafting.{IsQuietBelow}
@@ -20,7 +20,8 @@ use Rattle.r4_measure.specs.Measured.{IsMeasured}
 use Rattle.r4_measure.specs.r4_cell.Patch.{HaveNames}
 use Rattle.r4_measure.specs.r4_cell.Seen.{CellSeen, node_of}
 use Rattle.r4_measure.specs.r4_cell.declared.change.Fresh.{Fresh}
-use Rattle.r4_measure.specs.r4_edit.CutBlocks.{BeginsAt, pieces_between}
+use Rattle.r4_measure.specs.r4_branch.Pieces.{piece_end}
+use Rattle.r4_measure.specs.r4_branch.declared.piece.TwigPiece.{TwigPiece}
 use Rattle.r4_measure.specs.r4_path.r4_graft.Splices.{IsBorder}
 use Rattle.r4_measure.specs.r4_leaf.Units.{leaf_bytes}
 use Rattle.r4_measure.specs.r4_patch.Effect.{Placed}
@@ -39,16 +40,16 @@ use Rattle.r4_extent_change.specs.Wider.{GoesOn}
 
 -- ---- when it may be asked for
 
--- The keys that go of the twig lie in its extents, of which one begins there, or ends where they begin. What it names
--- there, data blocks and the leaf left of them, is among the cells.
+-- The keys that go of the twig lie in its extents, and begin and end at borders of blocks; a piece has the first of them.
+-- What the twig names there is among the cells: the data blocks that go, and the leaf that ends where they begin.
 pub record HasLoss (b : Body) (cells : List CellSeen) (c : CellSeen) : Type 0 where
   pub pieces : ArePiecesOf c (twig_pieces c)
   pub spanned : (k : ℕ) → in_gone b c k ≡ true
       → (s : Span) × Contains (node_of c).spans s × InSpan s k
   pub first_border : IsBorder (gone_from b c) (twig_pieces c)
   pub last_border : IsBorder (gone_to b c) (twig_pieces c)
-  pub begins : BeginsAt (gone_from b c)
-      (pieces_between (gone_from b c) (gone_to b c) (parted_pieces b c))
+  pub begins : (p : TwigPiece) × Contains (twig_pieces c) p × (rank p.key ≤ gone_from b c)
+      × (gone_from b c < piece_end p)
   pub blocks : (n : Name) → Contains (node_of c).names n → n.level ≡ 0
       → in_gone b c n.lo ≡ true → IsNameOf cells n
   pub left : (n : Name) → Contains (node_of c).names n → n.level ≡ 1

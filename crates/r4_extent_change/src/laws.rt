@@ -32,7 +32,8 @@ pub fn turned_twigs_leave_leaves()
 {}
 
 /// What `losing_among` tells of a twig is what goes of it in the part of a tree in which the task's cells stand, no two
-/// of one number, where the keys that go lie in its extents, and what it names there is among the cells.
+/// of one number, where the keys that go lie in its extents, begin and end at borders of blocks, and begin in a piece of
+/// it, and where what it names there is among the cells.
 pub fn losses_among_cells()
     ensures { (t : Store Value) (r : TreeRoot) (f : Fresh) (w : WorkingSet) (b : Body)
         (cells : List CellSeen) (c : CellSeen) → IsWorking t r f w → HaveNames cells
