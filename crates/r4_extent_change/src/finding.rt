@@ -1,5 +1,5 @@
-//! Twigs among a task's cells that lose blocks of a body in extents, with what goes of each (docs/volume.md, "Bodies in
-//! extents").
+//! Twigs among a task's cells that lose blocks of a body in extents, with what goes of each
+//! (docs/volume.md, "Bodies in extents").
 
 ghost use Rattle.std.specs.Prelude.{◌≡◌, ◌++◌, ◌∷◌, [], IfOk, OnOk, map, true};
 ghost use Rattle.std.specs.Arc.{arc_value};
@@ -18,10 +18,11 @@ use r4_measure::Cell;
 use std::alloc::Global;
 use std::sync::Arc;
 
-/// The twigs among some cells that lose blocks of a body in extents: those in whose range keys of blocks lie that go.
-/// Of each it tells the data blocks among the cells that begin at such a key of it, and the leaf below it among the
-/// cells that ends where the first of these keys is, if there is one. The cells are shared, and in their order. No
-/// block of a hole is looked at. The only error is want of memory (docs/volume.md, "Bodies in extents").
+/// The twigs among some cells that lose blocks of a body in extents: those in whose range keys of
+/// blocks lie that go. Of each it tells the data blocks among the cells that begin at such a key of
+/// it, and the leaf below it among the cells that ends where the first of these keys is, if there
+/// is one. The cells are shared, and in their order. No block of a hole is looked at. The only
+/// error is want of memory (docs/volume.md, "Bodies in extents").
 pub fn losing_among(
     alloc: Global,
     body: &SizedBody,
@@ -37,7 +38,8 @@ pub fn losing_among(
     Ok(losing)
 }
 
-// Puts those of some cells behind others that are twigs which lose blocks, each with what goes of it among all cells.
+// Puts those of some cells behind others that are twigs which lose blocks, each with what goes of
+// it among all cells.
 fn add_each(
     alloc: Global,
     losing: &mut Vec<Losing>,

@@ -21,9 +21,9 @@ ghost use Rattle.r4_extent_change.specs.Among.{GoesAt, gone_among, loss_among, l
 ghost use Rattle.r4_extent_change.specs.Losing.{HasLoss, LeavesWider};
 ghost use Rattle.r4_extent_change.specs.Turned.{LeavesLeaves, MayTurnAll};
 
-/// Twigs of a growing body that had their turns leave a measured set, in which the leaves stand that stood: so the
-/// edits of leaves may follow, with the numbers that are left. No more cells may stand in the end than before, and the
-/// blocks that came.
+/// Twigs of a growing body that had their turns leave a measured set, in which the leaves stand
+/// that stood: so the edits of leaves may follow, with the numbers that are left. No more cells may
+/// stand in the end than before, and the blocks that came.
 pub fn turned_twigs_leave_leaves()
     ensures { (b : Body) (first : Key) (e : Edits) (u : Budget) (t : Store Value) (r : TreeRoot)
         (f : Fresh) (w now : WorkingSet) (twigs : List CellSeen) → IsGrowing b first
@@ -31,9 +31,9 @@ pub fn turned_twigs_leave_leaves()
         → LeavesLeaves b e u t r f w now twigs }
 {}
 
-/// What `losing_among` tells of a twig is what goes of it in the part of a tree in which the task's cells stand, no two
-/// of one number, where the keys that go lie in its extents, begin and end at borders of blocks, and begin in a piece of
-/// it, and where what it names there is among the cells.
+/// What `losing_among` tells of a twig is what goes of it in the part of a tree in which the task's
+/// cells stand, no two of one number, where the keys that go lie in its extents, begin and end at
+/// borders of blocks, and begin in a piece of it, and where what it names there is among the cells.
 pub fn losses_among_cells()
     ensures { (t : Store Value) (r : TreeRoot) (f : Fresh) (w : WorkingSet) (b : Body)
         (cells : List CellSeen) (c : CellSeen) → IsWorking t r f w → HaveNames cells
@@ -43,17 +43,18 @@ pub fn losses_among_cells()
         → IsLossIn b w (loss_among b cells c) }
 {}
 
-/// Twigs of a body that loses blocks that had their turns leave a measured set, in which the leaves stand that stood, or
-/// go on with a wider range under their numbers: so the edits of leaves may follow, with the numbers that are left. No
-/// more cells may stand in the end than before, and the leaves that came where nothing left of what goes took it up.
+/// Twigs of a body that loses blocks that had their turns leave a measured set, in which the leaves
+/// stand that stood, or go on with a wider range under their numbers: so the edits of leaves may
+/// follow, with the numbers that are left. No more cells may stand in the end than before, and the
+/// leaves that came where nothing left of what goes took it up.
 pub fn turned_losses_leave_leaves()
     ensures { (b : Body) (first : Key) (e : Edits) (u : Budget) (t : Store Value) (r : TreeRoot)
         (f : Fresh) (w now : WorkingSet) (xs : List Loss) → MayGo b first e t r xs f w u
         → AreTurned t r (losing_turns b e xs) f w now → LeavesWider b e u t r f w now xs }
 {}
 
-/// The keys that go of all twigs among some cells are those of the body's blocks that go, padding included, as far as
-/// they lie in the ranges of these twigs.
+/// The keys that go of all twigs among some cells are those of the body's blocks that go, padding
+/// included, as far as they lie in the ranges of these twigs.
 pub fn keys_of_blocks_go()
     ensures { (b : Body) (cells : List CellSeen) (k : ℕ)
         → (gone_among b cells k ≡ true) ↔ GoesAt b cells k }

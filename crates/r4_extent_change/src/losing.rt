@@ -1,5 +1,5 @@
-//! All edits of a command whose body stands in extents and loses blocks, as one change (docs/volume.md, "Bodies in
-//! extents").
+//! All edits of a command whose body stands in extents and loses blocks, as one change
+//! (docs/volume.md, "Bodies in extents").
 
 ghost use Rattle.std.specs.Prelude.{◌≡◌, ◌≤◌, Contains, IfErr, IfOk, Some, length, map};
 ghost use Rattle.std.specs.Arc.{arc_value};
@@ -28,12 +28,13 @@ use r4_measure::{Cell, Change, Fresh, WorkingSet};
 use std::alloc::Global;
 use std::sync::Arc;
 
-/// Makes all edits of a command whose body stands in extents and loses blocks, and gives them as one change of the cells
-/// of its task. Each twig that loses blocks is packed anew once, and the range of what goes is taken up by what stands
-/// left of it; then each leaf with attributes or entries that change is edited once, also one that took up such a range.
-/// The last block that stays is as it was. It has no more new cells than the budget has, and the leaves that come where
-/// nothing left of what goes took it up. The only error is want of memory: then the numbers are as they were
-/// (docs/volume.md, "Bodies in extents").
+/// Makes all edits of a command whose body stands in extents and loses blocks, and gives them as
+/// one change of the cells of its task. Each twig that loses blocks is packed anew once, and the
+/// range of what goes is taken up by what stands left of it; then each leaf with attributes or
+/// entries that change is edited once, also one that took up such a range. The last block that
+/// stays is as it was. It has no more new cells than the budget has, and the leaves that come where
+/// nothing left of what goes took it up. The only error is want of memory: then the numbers are as
+/// they were (docs/volume.md, "Bodies in extents").
 pub fn change_of_losing(
     alloc: Global,
     cells: &[Arc<Cell>],
