@@ -1,12 +1,12 @@
 -- Pieces change of a twig of which blocks go.
-use Rattle.std.proofs.Common.{◌≡◌, inl, inr, ℕ, ◌+◌, ◌-◌, ◌*◌, ◌<◌, ◌≤◌, Bool, true, false, List, [], ◌∷◌, ◌++◌, refl, sym, ap, subst, ◌∙◌, arith}
-use Rattle.std.specs.Prelude.{◌||◌, Contains, Some, if◌then◌else◌, nat_lt}
+use Rattle.std.proofs.Common.{◌≡◌, ◌⊎◌, inl, inr, ℕ, ◌+◌, ◌-◌, ◌*◌, ◌<◌, ◌≤◌, Bool, true, false, List, [], ◌∷◌, ◌++◌, refl, sym, ap, subst, ◌∙◌, arith}
+use Rattle.std.specs.Prelude.{◌||◌, ◌&&◌, Contains, Some, not, nat_lt}
 use Rattle.std.specs.List.{list_any}
-use Rattle.std.proofs.lemmas.Bool.{cases_lt, lt-ltb}
+use Rattle.std.proofs.lemmas.Bool.{and_parts, cases_lt, lt-ltb, ltb-true}
 use Rattle.std.proofs.lemmas.List.Elements.{Contains-append_cases, Contains-append_left, Contains-append_right}
 use Rattle.r4_base.specs.Key.{later as key_later, rank}
 use Rattle.r4_base.specs.Node.{items_of}
-use Rattle.r4_base.specs.Tree.{Name}
+use Rattle.r4_base.specs.Tree.{Name, Span}
 use Rattle.r4_base.specs.declared.key.Key.{Key}
 use Rattle.r4_base.specs.declared.things.NodeId.{NodeId}
 use Rattle.r4_branch.specs.Pieces.{Follow, IsSound, names_of, next_of, part_end, part_names, piece_end, pieces_in}
@@ -15,22 +15,25 @@ use Rattle.r4_branch.specs.declared.piece.TwigPart.TheVariants.{Blocks, Pointer}
 use Rattle.r4_branch.specs.declared.piece.TwigPiece.{TwigPiece}
 use Rattle.r4_cell.specs.Seen.{CellSeen, node_of}
 use Rattle.r4_content.specs.Bodies.{larger, smaller}
-use Rattle.r4_content.specs.Edited.{Edits}
+use Rattle.r4_content.specs.Edited.{Edits, is_between}
 use Rattle.r4_edit.specs.CutBlocks.{BeginsAt}
 use Rattle.r4_edit.proofs.CutParts.{border_again}
 use Rattle.r4_extent_build.specs.Growing.{end_after, end_before}
-use Rattle.r4_extent_demands.proofs.PutsInto.{any_there}
+use Rattle.r4_extent_demands.proofs.Changes.{changes_is}
+use Rattle.r4_extent_demands.proofs.PutsInto.{any_there, there_any}
+use Rattle.r4_extent_demands.specs.Changing.{changes_units, comes_in, goes_from, is_changed, is_other, is_refilled}
 use Rattle.r4_graft.specs.Splices.{IsBorder, blocks_past, first_blocks, parted, parted_piece}
 use Rattle.r4_graft.proofs.Halves.{later_rank}
 use Rattle.r4_graft.proofs.Parted.{halved_or_not, parted_follow}
-use Rattle.r4_graft.proofs.Placed.{has_end}
+use Rattle.r4_graft.proofs.Placed.{follow_above, has_end}
 use Rattle.r4_measure.proofs.Kept.{block_is}
 use Rattle.r4_patch.proofs.Members.{cases, here, later, none}
-use Rattle.r4_path.specs.TwigPieces.{twig_pieces}
-use Rattle.r4_reach.specs.Needs.{changes_pieces, goes_in}
-use Rattle.r4_reach.specs.Touched.{Body, going}
+use Rattle.r4_path.specs.TwigPieces.{ArePiecesOf, twig_pieces}
+use Rattle.r4_reach.specs.Needs.{changes_pieces, goes_in, is_hole_part, put_among}
+use Rattle.r4_reach.specs.Touched.{Body, coming, going}
 use Rattle.r4_extent_loss.specs.Losing.{IsLosing, IsLossOf, Loss, gone_from, gone_to}
-use Rattle.r4_extent_loss.proofs.Clipped.{larger_high, larger_low, smaller_high, smaller_low}
+use Rattle.r4_extent_loss.proofs.Calm.{calm_piece, coming_is, going_is}
+use Rattle.r4_extent_loss.proofs.Clipped.{follow_order, larger_high, larger_low, smaller_high, smaller_low}
 use Rattle.r4_extent_loss.proofs.LostPieces.{hi, lo, ms, parts, pp, ps, xs, ys}
 
 -- ---- a piece of those that were parted lies within one of those before
@@ -148,9 +151,6 @@ module _ (b : Body) (first : Key) (e : Edits) (g : IsLosing b first e) (x : Loss
   abbrev to : ℕ
   to = gone_to b x.twig
 
-  going_is : going b ≡ (end_after b, end_before b)
-  going_is = ap (λ (t : Bool). if t then (end_after b, end_before b) else (0, 0)) g.in_extents
-
   -- the first piece that goes, and the one within which it lies
   gone_piece : (p : TwigPiece) × Contains (twig_pieces x.twig) p × ((m : TwigPiece) × (rank m.key ≡ from) × (from < piece_end m) × IsWithin p m)
   gone_piece = by_pieces (ms b x c) refl c.begins (parts b x c).mid
@@ -195,5 +195,85 @@ module _ (b : Body) (first : Key) (e : Edits) (g : IsLosing b first e) (x : Loss
           let goes = c.some in
           let one = larger_less (rank p.key) (end_after b) from (omega (arith, low, begins)) (omega (arith, after)) in
           let two = smaller_more (rank p.key + 4096 * u.width) (end_before b) from (omega (arith, ends, high, end)) (omega (arith, goes, before)) in
-          ap (λ (r : ℕ × ℕ). nat_lt (larger (rank p.key) r.0) (smaller (rank p.key + 4096 * u.width) r.1)) going_is
+          ap (λ (r : ℕ × ℕ). nat_lt (larger (rank p.key) r.0) (smaller (rank p.key + 4096 * u.width) r.1)) (going_is b first e g)
           ∙ lt-ltb (larger (rank p.key) (end_after b)) (smaller (rank p.key + 4096 * u.width) (end_before b)) (omega (arith, one, two))
+
+-- ---- and back: where no value comes among the extents, pieces change of no other twig
+
+either_of : (t u : Bool) → (t || u) ≡ true → (t ≡ true) ⊎ (u ≡ true)
+either_of true u h = inl refl
+either_of false u h = inr h
+
+larger_over : (a b : ℕ) → (a ≤ larger a b) × (b ≤ larger a b)
+larger_over a b = elim (cases_lt a b) [
+  | inl lt ↦ let e = larger_high a b lt in (omega (arith, e, lt), omega (arith, e))
+  | inr le ↦ let e = larger_low a b le in (omega (arith, e), omega (arith, e, le))
+]
+
+smaller_under : (a b : ℕ) → (smaller a b ≤ a) × (smaller a b ≤ b)
+smaller_under a b = elim (cases_lt a b) [
+  | inl lt ↦ let e = smaller_low a b lt in (omega (arith, e), omega (arith, e, lt))
+  | inr le ↦ let e = smaller_high a b le in (omega (arith, e, le), omega (arith, e))
+]
+
+end_in : (from to : ℕ) (ps : List TwigPiece) → Follow from to ps → (p : TwigPiece) → Contains ps p → piece_end p ≤ to
+end_in from to [] f p at = absurd (none p at)
+end_in from to (q ∷ ps) f p at = elim (cases q p ps at) [
+  | inl is ↦ subst (λ (y : TwigPiece). piece_end y ≤ to) (sym is) (follow_order (piece_end q) to ps f.2)
+  | inr more ↦ end_in (piece_end q) to ps f.2 p more
+]
+
+sound_in : (from to : ℕ) (ps : List TwigPiece) → Follow from to ps → (p : TwigPiece) → Contains ps p → IsSound p
+sound_in from to [] f p at = absurd (none p at)
+sound_in from to (q ∷ ps) f p at = elim (cases q p ps at) [
+  | inl is ↦ subst IsSound (sym is) f.1
+  | inr more ↦ sound_in (piece_end q) to ps f.2 p more
+]
+
+not_both : (t : Bool) → (t && not t) ≡ true → ⊥
+not_both true h = cc
+not_both false h = cc
+
+module _ (b : Body) (first : Key) (e : Edits) (g : IsLosing b first e) (c : CellSeen) (are : ArePiecesOf c (twig_pieces c)) where
+  goes_of : (p : TwigPiece) → Contains (twig_pieces c) p → goes_from (going b) p ≡ true → gone_from b c < gone_to b c
+  goes_of p at h = by_part p.part refl h
+    where
+      by_part : (t : TwigPart) → p.part ≡ t → goes_in (going b) p t ≡ true → gone_from b c < gone_to b c
+      by_part (Pointer id) is on = absurd cc
+      by_part (Blocks u) is on =
+          let follow = are.pieces.follow in
+          let low = follow_above (rank c.lo) (rank c.hi) (twig_pieces c) follow p at in
+          let end : piece_end p ≡ rank p.key + 4096 * u.width = ap (part_end (rank p.key)) is in
+          let high = end_in (rank c.lo) (rank c.hi) (twig_pieces c) follow p at in
+          let met = ltb-true (larger (rank p.key) (end_after b)) (smaller (rank p.key + 4096 * u.width) (end_before b))
+          (ap (λ (r : ℕ × ℕ). nat_lt (larger (rank p.key) r.0) (smaller (rank p.key + 4096 * u.width) r.1)) (sym (going_is b first e g)) ∙ on) in
+          let over = larger_over (rank p.key) (end_after b) in
+          let under = smaller_under (rank p.key + 4096 * u.width) (end_before b) in
+          let one = larger_less (rank c.lo) (end_after b) (larger (rank p.key) (end_after b)) (omega (arith, low, over)) over.1 in
+          let two = smaller_more (rank c.hi) (end_before b) (larger (rank p.key) (end_after b)) (omega (arith, met, under, high, end)) (omega (arith, met, under)) in
+          omega (arith, one, two)
+
+  none_comes : (s : Span) → comes_in b s ≡ true → ⊥
+  none_comes s on =
+      let (inside, some) = and_parts (is_between s.lo s.hi (coming b).0) (nat_lt (coming b).0 (coming b).1) on in
+      let less = ltb-true (end_before b) (end_after b) (ap (λ (r : ℕ × ℕ). nat_lt r.0 r.1) (sym (coming_is b first e g)) ∙ some) in
+      let shorter = g.shorter in
+      omega (arith, less, shorter)
+
+  none_refilled : (p : TwigPiece) → Contains (twig_pieces c) p → is_refilled b e p ≡ true → ⊥
+  none_refilled p at on = not_both (is_hole_part p.part) (ap (is_other p) (sym (calm_piece b first e g p (sound_in (rank c.lo) (rank c.hi) (twig_pieces c) are.pieces.follow p at))) ∙ on)
+
+  pub loses_blocks : put_among (Some b) e (node_of c) ≡ 0 → changes_pieces (Some b) e (node_of c) ≡ true → gone_from b c < gone_to b c
+  loses_blocks nothing on = elim (either_of (nat_lt 0 (put_among (Some b) e (node_of c))) (changes_units (Some b) e (node_of c)) (sym (changes_is b e (node_of c)) ∙ on)) [
+    | inl put ↦ let some = ltb-true 0 (put_among (Some b) e (node_of c)) put in absurd (omega (arith, some, nothing))
+    | inr units ↦ elim (either_of (list_any (comes_in b) (node_of c).spans) (list_any (is_changed b e) (pieces_in (items_of (node_of c).block))) units) [
+      | inl come ↦ let (s, at, comes) = there_any (comes_in b) (node_of c).spans come in absurd (none_comes s comes)
+      | inr piece ↦
+          let (p, m, changed) = there_any (is_changed b e) (pieces_in (items_of (node_of c).block)) piece in
+          let at : Contains (twig_pieces c) p = subst (λ bytes. Contains (pieces_in (items_of bytes)) p) (block_is c) m in
+          elim (either_of (goes_from (going b) p) (is_refilled b e p) changed) [
+            | inl goes ↦ goes_of p at goes
+            | inr filled_up ↦ absurd (none_refilled p at filled_up)
+          ]
+    ]
+  ]

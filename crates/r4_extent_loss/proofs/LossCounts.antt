@@ -16,9 +16,10 @@ use Rattle.r4_measure.proofs.Kept.{block_is}
 use Rattle.r4_reach.specs.Needs.{pieces_after, taken_up}
 use Rattle.r4_reach.specs.Touched.{Body, going}
 use Rattle.r4_extent_loss.specs.Losing.{IsLosing, IsLossOf, Loss, leaf_at, losing_turn, numbers_taken, taken_block, taken_from}
+use Rattle.r4_extent_loss.proofs.Calm.{going_is}
 use Rattle.r4_extent_loss.proofs.Clipped.{clipped_taken}
 use Rattle.r4_extent_loss.proofs.LosingTurns.{cells_are}
-use Rattle.r4_extent_loss.proofs.LostPieces.{after_is, all_follow, going_is, hi, lo, ms, parts, ps, taken, xs}
+use Rattle.r4_extent_loss.proofs.LostPieces.{after_is, all_follow, hi, lo, ms, parts, ps, taken, xs}
 use Rattle.r4_extent_loss.proofs.Replaced.{cells_of}
 use Rattle.r4_extent_loss.proofs.Taken.{is_taken}
 
@@ -54,6 +55,6 @@ module _ (b : Body) (first : Key) (e : Edits) (g : IsLosing b first e) (x : Loss
       let told : ℕ × ℕ → List TwigPiece → ℕ = λ r ts. length (taken_up (node_of x.twig) (take (place r.0 (qs r ts)) (qs r ts)) (take (place r.1 (qs r ts) - place r.0 (qs r ts)) (drop (place r.0 (qs r ts)) (qs r ts)))) in
       by_leaf x.leaf refl
       ∙ sym (ap (λ bytes. told (going b) (pieces_in (items_of bytes))) (block_is x.twig)
-      ∙ (ap (λ r. told r (ps b x c)) (going_is b x c first e g)
+      ∙ (ap (λ r. told r (ps b x c)) (going_is b first e g)
       ∙ (ap length (clipped_taken (node_of x.twig) (lo b x c) (hi b x c) (end_after b) (end_before b) (ps b x c) c.pieces.pieces.follow c.first_border (all_follow b x c))
       ∙ ap length (taken b x c (ms b x c) c.begins (parts b x c).mid))))
