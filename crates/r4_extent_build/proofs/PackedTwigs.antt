@@ -47,13 +47,21 @@ module _ (b : Body) (first : Key) (e : Edits) (twig : CellSeen) (g : IsGrowing b
 
   -- ---- where blocks come
 
-  going_is : going b ≡ (end_after b, end_before b)
-  going_is = ap (λ (t : Bool). cond t (end_after b, end_before b) (0, 0)) g.in_extents
+  -- blocks come from where those before ended: without bytes the body had none
+  comes_from : cond b.in_extents (end_before b) (first_byte b) ≡ end_before b
+  comes_from = elim g.stood [
+    | inl stood ↦ ap (λ (t : Bool). cond t (end_before b) (first_byte b)) stood
+    | inr empty ↦ by_kind b.in_extents (let none : blocks_for b.was ≡ 0 = ap blocks_for empty in omega (arith, none))
+  ]
+    where
+      by_kind : (t : Bool) → first_byte b ≡ end_before b → cond t (end_before b) (first_byte b) ≡ end_before b
+      by_kind true h = refl
+      by_kind false h = h
 
   coming_is : coming b ≡ (end_before b, end_after b)
   coming_is =
       ap (λ (t : Bool). cond t (cond b.in_extents (end_before b) (first_byte b), end_after b) (0, 0)) g.spread
-      ∙ ap (λ (t : Bool). (cond t (end_before b) (first_byte b), end_after b)) g.in_extents
+      ∙ ap (λ (k : ℕ). (k, end_after b)) comes_from
 
   pub key : Key
   key = later first (4096 * blocks_for b.was)
@@ -87,8 +95,11 @@ module _ (b : Body) (first : Key) (e : Edits) (twig : CellSeen) (g : IsGrowing b
   left_is =
       ap (λ bytes. cut_pieces (going b) (node_of twig) (without_gone [] (pieces_in (items_of bytes)))) (block_is twig)
       ∙ (ap (cut_pieces (going b) (node_of twig)) (none_gone ps)
-      ∙ (ap (λ (r : ℕ × ℕ). cut_pieces r (node_of twig) ps) going_is
-      ∙ nothing_goes (node_of twig) lo hi ps all (end_before b) (end_after b) g.longer c.clear))
+      ∙ none_cut b.in_extents)
+    where
+      none_cut : (t : Bool) → cut_pieces (cond t (end_after b, end_before b) (0, 0)) (node_of twig) ps ≡ ps
+      none_cut true = nothing_goes (node_of twig) lo hi ps all (end_before b) (end_after b) g.longer c.clear
+      none_cut false = nothing_goes (node_of twig) lo hi ps all 0 0 (omega arith) (λ p m. inr (omega arith))
 
   pub qs_is : qs ≡ with_coming b e (node_of twig) (flat_map (filled b e) ps)
   qs_is = ap (λ xs. with_coming b e (node_of twig) (flat_map (filled b e) xs)) left_is

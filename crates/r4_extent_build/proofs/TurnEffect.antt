@@ -46,8 +46,8 @@ module _ (k : ℕ) where
               both_ways : {t : Bool} → t ≡ false → t ≡ true → ⊥
               both_ways x y = absurd cc
 
-pub calm : (b : Body) (e : Edits) → b.in_extents ≡ true → (k : ℕ) → gets_bytes b e k ≡ false → (j : ℕ) → k ≤ j → j < k + 4096 → unwrap_or (byte_set e j) 0 ≡ 0
-calm b e in_ext k off j low high =
+pub calm : (b : Body) (e : Edits) → (k : ℕ) → gets_bytes b e k ≡ false → (j : ℕ) → k ≤ j → j < k + 4096 → unwrap_or (byte_set e j) 0 ≡ 0
+calm b e k off j low high =
     let puts = no_put k e.puts (first (is_met (put_keys e.puts) k (k + 4096)) (turns_out b && nat_lt k (first_byte b + b.was)) off) j low high in
     (λ i. unwrap_or (option_or (puts i) (zero_in e.zeros j)) 0) ∙ by_zero (is_in e.zeros j)
   where

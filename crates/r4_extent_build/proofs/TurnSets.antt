@@ -105,7 +105,7 @@ module _ (b : Body) (first : Key) (e : Edits) (twig : CellSeen) (g : IsGrowing b
       ↔ ((((in_hole_of b ps j ≡ true) ⊎ (in_coming b twig j ≡ true)) × (u ≡ (byte_after e j, false))) ⊎ (Contains (other_units b ps) (j, u.0) × (u.1 ≡ false)))
 
   still : (i : ℕ) → gets_bytes b e i ≡ false → (j : ℕ) → i ≤ j → j < i + 4096 → unwrap_or (byte_set e j) 0 ≡ 0
-  still = calm b e g.in_extents
+  still = calm b e
 
   -- where nothing comes
   quiet : ((j : ℕ) → in_coming b twig j ≡ true → ⊥) → StandIn (flat_map (filled b e) ps)

@@ -22,11 +22,11 @@ end_before b = blocks_end b b.was
 abbrev pub end_after : Body → ℕ
 end_after b = blocks_end b b.now
 
--- The body stands in extents and does not lose blocks; its first key is given.
+-- The body stands in extents and does not lose blocks, or it had no bytes and comes to extents; its first key is given.
 pub record IsGrowing (b : Body) (first : Key) : Type 0 where
   pub sized : IsSizedBody b
   pub spread : is_spread b ≡ true
-  pub in_extents : b.in_extents ≡ true
+  pub stood : (b.in_extents ≡ true) ⊎ (b.was ≡ 0)
   pub key : IsFirstKey b first
   pub longer : end_before b ≤ end_after b
 

@@ -1,0 +1,4 @@
+mod BodyKeys
+mod BytesSet
+pub mod Moved
+pub mod Standing
