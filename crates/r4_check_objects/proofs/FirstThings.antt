@@ -1,9 +1,8 @@
 -- The first things under ids, one more thing at a time.
-use Rattle.std.proofs.Common.{◌≡◌, ℕ, ◌+◌, ◌<◌, ◌==◌, Bool, true, false, cond, not, ◌&&◌, List, [], ◌∷◌, ◌++◌, length, take, get_or, Option, Some, None, refl, sym, ap, ◌∙◌}
+use Rattle.std.proofs.Common.{◌≡◌, ℕ, ◌==◌, Bool, true, false, cond, not, ◌&&◌, List, [], ◌∷◌, ◌++◌, Option, Some, None, refl, sym, ap, ◌∙◌}
 use Rattle.std.specs.List.{find}
 use Rattle.std.specs.Option.{option_or}
 use Rattle.std.proofs.lemmas.Bool.{eqb-true}
-use Rattle.std.proofs.lemmas.List.{take_more}
 use Rattle.std.proofs.lemmas.List.Folds.{find-append}
 use Rattle.r4_check_objects.specs.Held.{id_of, is_stat_data}
 use Rattle.r4_check_objects.specs.Known.{AreHeads, goes_first}
@@ -53,10 +52,6 @@ head_push found h q =
     ∙ ap (λ (b : Option Held). option_or (option_or (find (is_stat_of q) found) (find (is_stat_of q) (h ∷ []))) b) (find-append (is_of q) found (h ∷ []))
     ∙ merged h (find (is_stat_of q) found) (find (is_of q) found) (is_stat_data h) (id_of h == q) refl (stat_first found q) (other_first found q)
 
-head_more : (found : List Held) (i : ℕ) (d : Held) (q : ℕ) → i < length found
-    → head_of (take (i + 1) found) q ≡ cond ((id_of (get_or found i d) == q) && goes_first (head_of (take i found) q) (get_or found i d)) (Some (get_or found i d)) (head_of (take i found) q)
-head_more found i d q lt = ap (λ (l : List Held). head_of l q) (take_more found i d lt) ∙ head_push (take i found) (get_or found i d) q
-
 pub no_heads : (m : Table (Option Held)) → ((q : ℕ) → value_at m q ≡ None) → AreHeads [] m
 unfolding head_of owner_of
 no_heads m none = record { each = none }
@@ -69,33 +64,29 @@ kept_or : (h : Held) (t f : Bool) (b : Option Held) → (t ≡ true → f ≡ fa
 kept_or h true f b first = ap (λ (x : Bool). cond x (Some h) b) (sym (first refl))
 kept_or h false f b first = refl
 
-module _ (found : List Held) (i : ℕ) (d : Held) (lt : i < length found) (now : Table (Option Held)) (so_far : AreHeads (take i found) now) where
-  at_id : (b : Bool) → goes_first (value_at now (id_of (get_or found i d))) (get_or found i d) ≡ b → (q : ℕ) → (id_of (get_or found i d) == q) ≡ true → goes_first (head_of (take i found) q) (get_or found i d) ≡ b
+module _ (found : List Held) (h : Held) (now : Table (Option Held)) (so_far : AreHeads found now) where
+  at_id : (b : Bool) → goes_first (value_at now (id_of h)) h ≡ b → (q : ℕ) → (id_of h == q) ≡ true → goes_first (head_of found q) h ≡ b
   at_id b first q same =
-      let here : id_of (get_or found i d) ≡ q = eqb-true _ _ same in
-      ap (λ (o : Option Held). goes_first o (get_or found i d)) (sym (so_far.each q)) ∙ ap (λ (k : ℕ). goes_first (value_at now k) (get_or found i d)) (sym here) ∙ first
+      let here : id_of h ≡ q = eqb-true _ _ same in
+      ap (λ (o : Option Held). goes_first o h) (sym (so_far.each q)) ∙ ap (λ (k : ℕ). goes_first (value_at now k) h) (sym here) ∙ first
 
-  first_is : (k : ℕ) (o : Option Held) (r b : Bool) → k ≡ id_of (get_or found i d) → o ≡ value_at now k → r ≡ goes_first o (get_or found i d) → r ≡ b → goes_first (value_at now (id_of (get_or found i d))) (get_or found i d) ≡ b
-  first_is k o r b key is told was = ap (λ (x : ℕ). goes_first (value_at now x) (get_or found i d)) (sym key) ∙ ap (λ (x : Option Held). goes_first x (get_or found i d)) (sym is) ∙ sym told ∙ was
+  first_is : (k : ℕ) (o : Option Held) (r b : Bool) → k ≡ id_of h → o ≡ value_at now k → r ≡ goes_first o h → r ≡ b → goes_first (value_at now (id_of h)) h ≡ b
+  first_is k o r b key is told was = ap (λ (x : ℕ). goes_first (value_at now x) h) (sym key) ∙ ap (λ (x : Option Held). goes_first x h) (sym is) ∙ sym told ∙ was
 
   -- the thing goes first, or does not
-  pub heads_put : (k : ℕ) (o : Option Held) (r : Bool) (new after : Table (Option Held)) → k ≡ id_of (get_or found i d) → o ≡ value_at now k → r ≡ goes_first o (get_or found i d) → r ≡ true → after ≡ new
-      → ((q : ℕ) → value_at new q ≡ cond (k == q) (Some (get_or found i d)) (value_at now q)) → AreHeads (take (i + 1) found) after
-  heads_put k o r new after key is told was same u =
-      let h : Held = get_or found i d in
+  pub heads_put : (k : ℕ) (o : Option Held) (r : Bool) (new : Table (Option Held)) → k ≡ id_of h → o ≡ value_at now k → r ≡ goes_first o h → r ≡ true
+      → ((q : ℕ) → value_at new q ≡ cond (k == q) (Some h) (value_at now q)) → AreHeads (found ++ h ∷ []) new
+  heads_put k o r new key is told was u =
       let first = first_is k o r true key is told was in
       record {
-        each = λ q. ap (λ (m : Table (Option Held)). value_at m q) same ∙ u q ∙ ap (λ (x : ℕ). cond (x == q) (Some h) (value_at now q)) key
-            ∙ put_or h (id_of h == q) (goes_first (head_of (take i found) q) h) (value_at now q) (head_of (take i found) q) (so_far.each q) (at_id true first q) ∙ sym (head_more found i d q lt);
+        each = λ q. u q ∙ ap (λ (x : ℕ). cond (x == q) (Some h) (value_at now q)) key
+            ∙ put_or h (id_of h == q) (goes_first (head_of found q) h) (value_at now q) (head_of found q) (so_far.each q) (at_id true first q) ∙ sym (head_push found h q);
       }
 
-  pub heads_kept : (k : ℕ) (o : Option Held) (r : Bool) (after : Table (Option Held)) → k ≡ id_of (get_or found i d) → o ≡ value_at now k → r ≡ goes_first o (get_or found i d) → r ≡ false → after ≡ now → AreHeads (take (i + 1) found) after
-  heads_kept k o r after key is told was same =
-      let h : Held = get_or found i d in
+  pub heads_kept : (k : ℕ) (o : Option Held) (r : Bool) → k ≡ id_of h → o ≡ value_at now k → r ≡ goes_first o h → r ≡ false → AreHeads (found ++ h ∷ []) now
+  heads_kept k o r key is told was =
       let first = first_is k o r false key is told was in
-      record {
-        each = λ q. ap (λ (m : Table (Option Held)). value_at m q) same ∙ so_far.each q ∙ kept_or h (id_of h == q) (goes_first (head_of (take i found) q) h) (head_of (take i found) q) (at_id false first q) ∙ sym (head_more found i d q lt);
-      }
+      record { each = λ q. so_far.each q ∙ kept_or h (id_of h == q) (goes_first (head_of found q) h) (head_of found q) (at_id false first q) ∙ sym (head_push found h q) }
 
 -- ---- owners
 

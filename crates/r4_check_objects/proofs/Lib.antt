@@ -6,3 +6,4 @@ mod Walked
 mod Names
 mod Summed
 mod Told
+mod Ids

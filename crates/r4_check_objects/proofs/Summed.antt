@@ -1,25 +1,21 @@
 -- Sums under ids, one more thing at a time.
-use Rattle.std.proofs.Common.{◌≡◌, ◌⊎◌, inl, inr, ℕ, ◌+◌, ◌<◌, ◌==◌, Bool, true, false, cond, List, [], length, take, get_or, refl, sym, ap, ◌∙◌, arith}
+use Rattle.std.proofs.Common.{◌≡◌, ◌⊎◌, inl, inr, ℕ, ◌+◌, ◌==◌, Bool, true, false, cond, List, [], ◌∷◌, ◌++◌, refl, sym, ap, ◌∙◌, arith}
 use Rattle.std.specs.Prelude.{sum_by}
 use Rattle.std.proofs.lemmas.Bool.{cases_eq, eq-eqb}
 use Rattle.std.proofs.lemmas.Bool.Decides.{nat_tests}
-use Rattle.std.proofs.lemmas.List.Sums.{sum_by_more}
+use Rattle.std.proofs.lemmas.List.Sums.{sum_by_push}
 use Rattle.r4_check_objects.specs.Held.{counted}
-use Rattle.r4_check_objects.specs.Known.{AddsUnder, AreSums}
+use Rattle.r4_check_objects.specs.Known.{AddsUnder, AreSums, AreSumsOf}
 use Rattle.r4_check_objects.specs.Objects.{place_of, share_of, share_under, sum_of}
 use Rattle.r4_check_objects.specs.declared.held.Held.{Held}
 use Rattle.r4_check_objects.specs.declared.sums.Part.{Part}
 use Rattle.r4_check_objects.specs.Table.{value_at}
 use Rattle.r4_check_objects.specs.declared.table.Table.{Table}
 
--- The sums so far, each share judged by all that was found.
-pub record IsSummed (part : Part) (found before : List Held) (sums : Table ℕ) : Type 0 where
-  pub each : (q : ℕ) → value_at sums q ≡ counted (sum_by (share_under part found q) before)
-
-pub no_sums : (part : Part) (found : List Held) (sums : Table ℕ) → ((q : ℕ) → value_at sums q ≡ 0) → IsSummed part found [] sums
+pub no_sums : (part : Part) (found : List Held) (sums : Table ℕ) → ((q : ℕ) → value_at sums q ≡ 0) → AreSumsOf part found [] sums
 no_sums _ found sums none = record { each = none }
 
-pub sums_at_end : (part : Part) (found : List Held) (sums : Table ℕ) → IsSummed part found found sums → AreSums part found sums
+pub sums_at_end : (part : Part) (found : List Held) (sums : Table ℕ) → AreSumsOf part found found sums → AreSums part found sums
 unfolding sum_of
 sums_at_end _ found sums s = record { each = s.each }
 
@@ -43,29 +39,22 @@ adds_under id more sum old new is u = record {
 counts_on : (n more : ℕ) → counted (counted n + more) ≡ counted (n + more)
 counts_on n more = omega arith
 
-module _ (part : Part) (found : List Held) (i : ℕ) (d : Held) (lt : i < length found) (now after : Table ℕ) (so_far : IsSummed part found (take i found) now) where
-  step : (q : ℕ) → sum_by (share_under part found q) (take (i + 1) found) ≡ sum_by (share_under part found q) (take i found) + share_under part found q (get_or found i d)
-  step q = sum_by_more (share_under part found q) found i d lt
+module _ (part : Part) (found before : List Held) (h : Held) (now : Table ℕ) (so_far : AreSumsOf part found before now) where
+  step : (q : ℕ) → sum_by (share_under part found q) (before ++ h ∷ []) ≡ sum_by (share_under part found q) before + share_under part found q h
+  step q = sum_by_push (share_under part found q) before h
 
-  here_is : (q : ℕ) (t : Bool) → (place_of part (get_or found i d) == q) ≡ t → share_under part found q (get_or found i d) ≡ cond t (share_of part found (get_or found i d)) 0
-  here_is q t is = ap (λ (b : Bool). cond b (share_of part found (get_or found i d)) 0) is
+  here_is : (q : ℕ) (t : Bool) → (place_of part h == q) ≡ t → share_under part found q h ≡ cond t (share_of part found h) 0
+  here_is q t is = ap (λ (b : Bool). cond b (share_of part found h) 0) is
 
-  pub summed_more : (id more : ℕ) (new : Table ℕ) → id ≡ place_of part (get_or found i d) → more ≡ share_of part found (get_or found i d) → AddsUnder id more now new → after ≡ new → IsSummed part found (take (i + 1) found) after
-  summed_more id more new place share a same = record { each = λ q. ap (λ (m : Table ℕ). value_at m q) same ∙ each q (cases_eq q id) }
+  pub summed_more : (id more : ℕ) (new : Table ℕ) → id ≡ place_of part h → more ≡ share_of part found h → AddsUnder id more now new → AreSumsOf part found (before ++ h ∷ []) new
+  summed_more id more new place share a = record { each = λ q. each q (cases_eq q id) }
     where
-      each : (q : ℕ) → (q ≡ id) ⊎ (q ≡ id → ⊥) → value_at new q ≡ counted (sum_by (share_under part found q) (take (i + 1) found))
+      each : (q : ℕ) → (q ≡ id) ⊎ (q ≡ id → ⊥) → value_at new q ≡ counted (sum_by (share_under part found q) (before ++ h ∷ []))
       each q (inl here) =
-          let mine : (place_of part (get_or found i d) == q) ≡ true = eq-eqb _ _ (sym (here ∙ place)) in
-          ap (value_at new) here ∙ a.here ∙ ap (λ (x : ℕ). counted (value_at now x + more)) (sym here) ∙ ap (λ (x : ℕ). counted (x + more)) (so_far.each q) ∙ counts_on (sum_by (share_under part found q) (take i found)) more
-          ∙ ap (λ (x : ℕ). counted (sum_by (share_under part found q) (take i found) + x)) (share ∙ sym (here_is q true mine)) ∙ ap counted (sym (step q))
+          let mine : (place_of part h == q) ≡ true = eq-eqb _ _ (sym (here ∙ place)) in
+          ap (value_at new) here ∙ a.here ∙ ap (λ (x : ℕ). counted (value_at now x + more)) (sym here) ∙ ap (λ (x : ℕ). counted (x + more)) (so_far.each q) ∙ counts_on (sum_by (share_under part found q) before) more
+          ∙ ap (λ (x : ℕ). counted (sum_by (share_under part found q) before + x)) (share ∙ sym (here_is q true mine)) ∙ ap counted (sym (step q))
       each q (inr other) =
-          let theirs : (place_of part (get_or found i d) == q) ≡ false = let o = other in let p = place in grind (arith, nat_tests) in
-          let e : sum_by (share_under part found q) (take i found) ≡ sum_by (share_under part found q) (take (i + 1) found) = omega (arith, step q, here_is q false theirs) in
+          let theirs : (place_of part h == q) ≡ false = let o = other in let p = place in grind (arith, nat_tests) in
+          let e : sum_by (share_under part found q) before ≡ sum_by (share_under part found q) (before ++ h ∷ []) = omega (arith, step q, here_is q false theirs) in
           a.others q other ∙ so_far.each q ∙ ap counted e
-
-  pub summed_none : (more : ℕ) → more ≡ share_of part found (get_or found i d) → more ≡ 0 → after ≡ now → IsSummed part found (take (i + 1) found) after
-  summed_none more share none same = record { each = λ q. ap (λ (m : Table ℕ). value_at m q) same ∙ so_far.each q ∙ ap counted (nothing q (place_of part (get_or found i d) == q) refl) }
-    where
-      nothing : (q : ℕ) (t : Bool) → (place_of part (get_or found i d) == q) ≡ t → sum_by (share_under part found q) (take i found) ≡ sum_by (share_under part found q) (take (i + 1) found)
-      nothing q true is = omega (arith, step q, here_is q true is, share, none)
-      nothing q false is = omega (arith, step q, here_is q false is)

@@ -1,12 +1,10 @@
 -- The faults of ids, one after the other.
-use Rattle.std.proofs.Common.{◌≡◌, ℕ, ◌+◌, ◌^◌, ◌<◌, ◌≤◌, ◌==◌, Bool, true, false, cond, ◌&&◌, List, [], ◌∷◌, ◌++◌, length, map, take, get_or, sym, ap, ◌∙◌, append_assoc, arith}
+use Rattle.std.proofs.Common.{◌≡◌, ℕ, ◌+◌, ◌^◌, ◌<◌, ◌≤◌, ◌==◌, Bool, true, false, cond, ◌&&◌, List, [], ◌∷◌, ◌++◌, length, map, sym, ap, ◌∙◌, append_assoc, arith}
 use Rattle.std.specs.Prelude.{nat_le, sum_by}
-use Rattle.std.specs.BTreeSet.{insert_key}
-use Rattle.std.specs.List.{flat_map, fold}
-use Rattle.std.specs.Ordering.{nat_cmp}
+use Rattle.std.specs.List.{flat_map}
 use Rattle.std.proofs.lemmas.Bool.{eq-eqb}
-use Rattle.std.proofs.lemmas.List.{map-append, map_push, take_more}
-use Rattle.std.proofs.lemmas.List.Sums.{fold_push, sum_by-cons}
+use Rattle.std.proofs.lemmas.List.{map-append}
+use Rattle.std.proofs.lemmas.List.Sums.{sum_by-cons}
 use Rattle.r4_check_objects.specs.Faults.{fault_at}
 use Rattle.r4_check_objects.specs.Held.{counted, id_of}
 use Rattle.r4_check_objects.specs.Objects.{body_fits, names_one, once, share_under, size_fits, sum_of, what_if}
@@ -29,12 +27,6 @@ one_told b c w v what x y is block wrong = is ∙ ap (λ (n : ℕ). x ++ map (fa
 -- an id more is told
 pub id_told : (f : ℕ → List Fault) (old new all : List Fault) (id : ℕ) (ids rest : List ℕ) → ids ≡ id ∷ rest → old ++ flat_map f ids ≡ all → new ≡ old ++ f id → new ++ flat_map f rest ≡ all
 id_told f old new all id ids rest is so_far told = ap (λ (l : List Fault). l ++ flat_map f rest) told ∙ append_assoc old (f id) (flat_map f rest) ∙ ap (λ (l : List ℕ). old ++ flat_map f l) (sym is) ∙ so_far
-
-pub ids_more : (found : List Held) (i : ℕ) (d : Held) (lt : i < length found) (k : ℕ) (old new : List ℕ) → old ≡ fold (insert_key nat_cmp) (42 ∷ []) (map id_of (take i found)) → new ≡ insert_key nat_cmp old k → k ≡ id_of (get_or found i d)
-    → new ≡ fold (insert_key nat_cmp) (42 ∷ []) (map id_of (take (i + 1) found))
-ids_more found i d lt k old new so_far is id =
-    is ∙ ap (λ (l : List ℕ). insert_key nat_cmp l k) so_far ∙ ap (insert_key nat_cmp (fold (insert_key nat_cmp) (42 ∷ []) (map id_of (take i found)))) id
-    ∙ sym (ap (λ (l : List Held). fold (insert_key nat_cmp) (42 ∷ []) (map id_of l)) (take_more found i d lt) ∙ ap (fold (insert_key nat_cmp) (42 ∷ [])) (map_push id_of (take i found) (get_or found i d)) ∙ fold_push (insert_key nat_cmp) (42 ∷ []) (map id_of (take i found)) (id_of (get_or found i d)))
 
 -- ---- counts are at most as many as the things
 

@@ -1,8 +1,8 @@
 //! What is wrong with an id.
 
-ghost use Rattle.std.specs.Prelude.{◌≡◌, ◌++◌, ◌≤◌, List, IfOk, OnOk, map};
+ghost use Rattle.std.specs.Prelude.{◌≡◌, ◌++◌, ◌≤◌, List, OnOk, map};
 ghost use Rattle.r4_check_objects.specs.Faults.{fault_at};
-ghost use Rattle.r4_check_objects.specs.Known.{AreTotals, IsJudge, IsKnown};
+ghost use Rattle.r4_check_objects.specs.Known.{IsJudge};
 ghost use Rattle.r4_check_objects.specs.Objects.{block_of, block_under, body_fits, faults_under, id_is_wrong, is_lost, is_unmet};
 ghost use Rattle.r4_check_objects.specs.Objects.{links_are_wrong, judged_owner, links_fit, size_fits, size_is_wrong, what_if};
 ghost use Rattle.r4_check_objects.specs.declared.held.Held.{Held as Found};
@@ -11,22 +11,8 @@ use crate::fault::{Fault, What};
 use crate::heads::owner_of;
 use crate::held::{Facts, Held, is_same};
 use crate::known::Known;
-use crate::sums::{Part, Sums, sum_up};
+use crate::totals::Totals;
 use r4_base::{BLOCK_BYTES, BlockNo, GREATEST_SIZE, Memory, ROOT_OBJECT, Super40};
-use std::alloc::Global;
-
-/// The sums of each part.
-#[derive(Drop)]
-pub(crate) struct Totals {
-    pub(crate) entries: Sums,
-    pub(crate) directories: Sums,
-    pub(crate) links: Sums,
-    pub(crate) reached: Sums,
-    pub(crate) tails: Sums,
-    pub(crate) blocks: Sums,
-    pub(crate) past: Sums,
-    pub(crate) strays: Sums,
-}
 
 /// What the faults of an id rest on: the superblock, the leftmost leaf, and what is known and added up.
 #[derive(Drop)]
@@ -35,28 +21,6 @@ pub(crate) struct Judge {
     pub(crate) leaf: u64,
     pub(crate) known: Known,
     pub(crate) totals: Totals,
-}
-
-/// The sums over these things, in tables with room for so many ids in their lists.
-pub(crate) fn totals_of(
-    alloc: Global,
-    known: &Known,
-    found: &[Held],
-    low: usize,
-) -> Result<Totals, Memory>
-    requires { IsKnown found.now known.now }
-    ensures { IfOk result (AreTotals found.now) }
-{
-    Ok(Totals {
-        entries: sum_up(alloc, known, found, Part::Entries, low)?,
-        directories: sum_up(alloc, known, found, Part::Directories, low)?,
-        links: sum_up(alloc, known, found, Part::Links, low)?,
-        reached: sum_up(alloc, known, found, Part::Reached, low)?,
-        tails: sum_up(alloc, known, found, Part::Tails, low)?,
-        blocks: sum_up(alloc, known, found, Part::Blocks, low)?,
-        past: sum_up(alloc, known, found, Part::Past, low)?,
-        strays: sum_up(alloc, known, found, Part::Strays, low)?,
-    })
 }
 
 impl Judge {
@@ -78,8 +42,8 @@ impl Judge {
         ensures { (found : List Found) → IsJudge found self.now
             → result ≡ block_of self.now.leaf found id }
     {
-        match self.known.heads.get(id) {
-            Some(head) => self.block_under(id, &head),
+        match self.known.heads.at(id) {
+            Some(head) => self.block_under(id, head),
             None => self.leaf,
         }
     }

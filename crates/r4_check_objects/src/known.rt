@@ -6,10 +6,10 @@ ghost use Rattle.r4_check_objects.specs.Known.{AreHeads, IsKnown, is_other};
 ghost use Rattle.r4_check_objects.specs.Objects.{facts_at, facts_in, is_directory_id, is_object_at, is_owner, owner_facts};
 ghost use Rattle.r4_check_objects.specs.declared.held.Held.{Held as Found};
 
-use crate::heads::{Heads, heads_of, owner_of};
+use crate::heads::{Heads, owner_of};
 use crate::held::{Facts, Held, is_same};
 use crate::reach::reached_ids;
-use crate::table::Table;
+use crate::table::{Span, Table};
 use r4_base::{Memory, Target};
 use std::alloc::Global;
 
@@ -23,13 +23,18 @@ pub(crate) struct Known {
 }
 
 impl Known {
-    /// What is known of these things; tables have room for so many ids in their lists.
-    pub(crate) fn of(alloc: Global, found: &[Held], low: usize) -> Result<Known, Memory>
+    /// What is known of these things, whose heads these are; with a span of ids in the table's list.
+    pub(crate) fn of(
+        alloc: Global,
+        heads: Heads,
+        found: &[Held],
+        span: Span,
+    ) -> Result<Known, Memory>
+        requires { AreHeads found.now heads }
         ensures { IfOk result (IsKnown found.now) }
     {
-        let heads = heads_of(alloc, found, low)?;
         let others = others_in(alloc, &heads, found)?;
-        let reached = reached_ids(alloc, found, low)?;
+        let reached = reached_ids(alloc, found, span)?;
         Ok(Known {
             heads,
             others,
@@ -49,7 +54,7 @@ impl Known {
         ensures { (found : List Found) → IsKnown found self.now → result ≡ facts_at found object.now }
     {
         match owner_of(&self.heads, object.oid.0) {
-            Some(owner) if is_object_at(&owner, object) => owner.facts(),
+            Some(owner) if is_object_at(owner, object) => owner.facts(),
             _ => facts_among(&self.others, object),
         }
     }
@@ -94,7 +99,7 @@ fn owns(heads: &Heads, object: &Target) -> bool
     ensures { (found : List Found) → AreHeads found heads.now → result ≡ is_owner found object.now }
 {
     match owner_of(heads, object.oid.0) {
-        Some(owner) => is_object_at(&owner, object),
+        Some(owner) => is_object_at(owner, object),
         None => false,
     }
 }

@@ -10,6 +10,7 @@ mod objects;
 mod reach;
 mod sums;
 mod table;
+mod totals;
 
 pub use fault::{Fault, What};
 pub use held::{Facts, Held, Thing};

@@ -2,14 +2,17 @@
 
 ghost use Rattle.std.specs.Prelude.{◌≡◌, ◌++◌, IfOk, OnOk};
 ghost use Rattle.r4_check_objects.specs.Known.{IsJudge};
-ghost use Rattle.r4_check_objects.specs.Objects.{count_faults, faults_under, ids_of, object_faults, stats_of};
+ghost use Rattle.r4_check_objects.specs.Objects.{count_faults, faults_under, object_faults, stats_of};
 ghost use Rattle.std.specs.List.{flat_map};
 
 use crate::fault::{Fault, What};
+use crate::heads::firsts_of;
 use crate::held::Held;
-use crate::judging::{Judge, totals_of};
+use crate::judging::Judge;
 use crate::known::Known;
-use r4_base::{Memory, ROOT_OBJECT, SUPER_BLOCK, Super40};
+use crate::table::Span;
+use crate::totals::totals_of;
+use r4_base::{FIRST_OBJECT, Memory, SUPER_BLOCK, Super40};
 use std::alloc::Global;
 use std::collections::BTreeSet;
 
@@ -24,9 +27,10 @@ pub fn object_faults(
 ) -> Result<Vec<Fault>, Memory>
     ensures { IfOk result (λ v. v.items ≡ object_faults super40.now leaf found.now) }
 {
-    let low = low_ids(found);
-    let known = Known::of(alloc, found, low)?;
-    let totals = totals_of(alloc, &known, found, low)?;
+    let span = span_of(found);
+    let firsts = firsts_of(alloc, found, span)?;
+    let known = Known::of(alloc, firsts.heads, found, span)?;
+    let totals = totals_of(alloc, &known, found, span)?;
     let _few = found.len();
     let judge = Judge {
         super40: *super40,
@@ -35,7 +39,7 @@ pub fn object_faults(
         totals,
     };
     let mut faults = Vec::new(alloc);
-    add_under(&judge, found, ids_of(alloc, found)?, &mut faults)?;
+    add_under(&judge, found, firsts.ids, &mut faults)?;
     add_count(&mut faults, super40, found)?;
     Ok(faults)
 }
@@ -57,18 +61,6 @@ fn add_under(
     Ok(())
 }
 
-// The ids under which something stands, and the root's.
-fn ids_of(alloc: Global, found: &[Held]) -> Result<BTreeSet<u64>, Memory>
-    ensures { IfOk result (λ ids. ids.keys ≡ ids_of found.now) }
-{
-    let mut ids = BTreeSet::new(alloc);
-    ids.insert(ROOT_OBJECT.oid.0)?;
-    for held in found {
-        ids.insert(held.id())?;
-    }
-    Ok(ids)
-}
-
 // Adds the fault of the superblock, where it counts other than the objects.
 fn add_count(faults: &mut Vec<Fault>, super40: &Super40, found: &[Held]) -> Result<(), Memory>
     ensures { OnOk result (faults.new.items
@@ -82,9 +74,24 @@ fn add_count(faults: &mut Vec<Fault>, super40: &Super40, found: &[Held]) -> Resu
     Ok(())
 }
 
-// How many ids a volume with so many objects has, if none of them was removed.
-fn low_ids(found: &[Held]) -> usize {
-    (stats_of(found) as usize).saturating_add(ROOT_OBJECT.oid.0 as usize)
+// From the least id that stat data have up to the greatest, and at most two for each of them. Ids
+// below the first one that a file may have are left out.
+fn span_of(found: &[Held]) -> Span {
+    let mut first = u64::MAX;
+    let mut last = 0;
+    let mut stats: usize = 0;
+    for held in found {
+        if held.is_stat_data() && held.id() >= FIRST_OBJECT {
+            first = first.min(held.id());
+            last = last.max(held.id());
+            stats = stats.saturating_add(2);
+        }
+    }
+    let count = last.saturating_sub(first).saturating_add(1);
+    Span {
+        first,
+        count: stats.min(count as usize),
+    }
 }
 
 // How many stat data there are.

@@ -6,7 +6,7 @@ ghost use Rattle.r4_check_objects.specs.Reach.{Adds, AddsName, AreNamed, Grows, 
 ghost use Rattle.r4_check_objects.specs.Table.{value_at};
 
 use crate::held::Held;
-use crate::table::Table;
+use crate::table::{Span, Table};
 use r4_base::{Memory, ROOT_OBJECT};
 use std::alloc::Global;
 use std::collections::BTreeMap;
@@ -23,12 +23,12 @@ pub(crate) struct Reach {
 
 /// The ids that the root reaches: its own, and each that an entry under a reached one names. The table has room for so
 /// many ids in its list.
-pub(crate) fn reached_ids(alloc: Global, found: &[Held], low: usize) -> Result<Table<bool>, Memory>
+pub(crate) fn reached_ids(alloc: Global, found: &[Held], span: Span) -> Result<Table<bool>, Memory>
     ensures { IfOk result (λ ids. (q : ℕ) → value_at ids q ≡ is_reached found.now q) }
 {
     let named = named_ids(alloc, found)?;
     let mut reach = Reach {
-        ids: Table::new(alloc, false, low)?,
+        ids: Table::new(alloc, false, span)?,
         order: Vec::new(alloc),
     };
     reach.add(ROOT_OBJECT.oid.0)?;
@@ -59,10 +59,11 @@ fn named_ids(alloc: Global, found: &[Held]) -> Result<Named, Memory>
 fn add_name(alloc: Global, named: &mut Named, from: u64, to: u64) -> Result<(), Memory>
     ensures { OnOk result (AddsName from to named.old named.new) }
 {
-    let mut ids = match named.remove(&from) {
-        Some(ids) => ids,
-        None => Vec::new(alloc),
-    };
+    if let Some(ids) = named.get_mut(&from) {
+        ids.push(to)?;
+        return Ok(());
+    }
+    let mut ids = Vec::new(alloc);
     ids.push(to)?;
     named.insert(from, ids)?;
     Ok(())

@@ -1,8 +1,9 @@
 //! What is added up under ids.
 
-ghost use Rattle.std.specs.Prelude.{◌≡◌, ◌≤◌, List, IfOk, OnOk, if◌then◌else◌};
+ghost use Rattle.std.specs.Prelude.{◌≡◌, ◌≤◌, ◌++◌, ◌∷◌, [], List, OnOk, if◌then◌else◌};
+ghost use Rattle.std.specs.Bool.{OnFalse};
 ghost use Rattle.r4_base.specs.Key.{offset_of};
-ghost use Rattle.r4_check_objects.specs.Known.{AddsUnder, AreSums, IsKnown};
+ghost use Rattle.r4_check_objects.specs.Known.{AddsUnder, AreSumsOf, IsKnown};
 ghost use Rattle.r4_check_objects.specs.Objects.{ends_past, is_directory_at, is_own, is_owner, is_past, is_stray, names_one};
 ghost use Rattle.r4_check_objects.specs.Objects.{once, place_of, share_of, strays};
 ghost use Rattle.r4_check_objects.specs.declared.held.Held.{Held as Found};
@@ -11,7 +12,6 @@ use crate::held::{Held, Thing, is_same};
 use crate::known::{Known, is_directory};
 use crate::table::Table;
 use r4_base::{BLOCK_BYTES, GREATEST_SIZE, Memory, ROOT_OBJECT};
-use std::alloc::Global;
 
 /// What is added up: entries under their directory; those that name directories; under each id the entries that name its
 /// owner; those of them in reached directories; the bytes of its tails, and the blocks of its extents; its parts of a body
@@ -31,25 +31,39 @@ pub(crate) enum Part {
 /// A number under each id: none is 0.
 pub(crate) type Sums = Table<u64>;
 
-/// Adds up one part, in a table with room for so many ids in its list. The sums stand still at 2^64 - 1.
-pub(crate) fn sum_up(
-    alloc: Global,
-    known: &Known,
-    found: &[Held],
+/// Adds what one thing more counts for a part.
+pub(crate) fn add_share(
+    sums: &mut Sums,
     part: Part,
-    low: usize,
-) -> Result<Sums, Memory>
-    requires { IsKnown found.now known.now }
-    ensures { IfOk result (AreSums part found.now) }
+    known: &Known,
+    held: &Held,
+) -> Result<(), Memory>
+    ensures { (found before : List Found) → IsKnown found known.now
+        → AreSumsOf part found before sums.old
+        → OnOk result (AreSumsOf part found (before ++ held.now ∷ []) sums.new) }
 {
-    let mut sums = Table::new(alloc, 0, low)?;
-    for held in found {
-        let more = share_of(part, known, held);
-        if more > 0 {
-            add_under(&mut sums, place_of(part, held), more)?;
-        }
+    if !may_count(part, held) {
+        return Ok(());
     }
-    Ok(sums)
+    let more = share_of(part, known, held);
+    if more > 0 {
+        add_under(sums, place_of(part, held), more)?;
+    }
+    Ok(())
+}
+
+// Whether a thing is one that may count for a part, whatever is known: most parts are of one kind of
+// things.
+fn may_count(part: Part, held: &Held) -> bool
+    ensures { OnFalse result ((found : List Found) → share_of part found held.now ≡ 0) }
+{
+    match part {
+        Part::Entries | Part::Directories | Part::Links | Part::Reached => held.target().is_some(),
+        Part::Tails => held.tail_bytes() > 0,
+        Part::Blocks => held.extent_blocks() > 0,
+        Part::Past => matches!(held.thing, Thing::Tail(_) | Thing::Extent(_)),
+        Part::Strays => true,
+    }
 }
 
 // Adds a number under an id.

@@ -1,42 +1,61 @@
 //! Values under ids.
 
-ghost use Rattle.std.specs.Prelude.{◌≡◌, ◌==◌, ◌<◌, ℕ, IfOk, OnOk, if◌then◌else◌, slice_index_or};
-ghost use Rattle.r4_check_objects.specs.Table.{value_at};
+ghost use Rattle.std.specs.Prelude.{◌≡◌, ◌==◌, ℕ, IfOk, OnOk, if◌then◌else◌, slice_index_or};
+ghost use Rattle.r4_check_objects.specs.Table.{is_near, value_at};
 
 use r4_base::Memory;
 use std::alloc::Global;
 use std::collections::BTreeMap;
 
-/// A value under each id. Those of the first ids stand in a list, so that one is found at once: in a volume from which
-/// nothing was removed these are all. The others stand in a map, so that its size follows what is put into it,
-/// whatever ids a damaged image has.
+/// The ids from a first one on, so many.
+#[derive(Clone, Copy)]
+pub(crate) struct Span {
+    pub(crate) first: u64,
+    pub(crate) count: usize,
+}
+
+/// A value under each id. Those of a span stand in a list, so that one is found at once: a volume's
+/// ids rise from `FIRST_OBJECT` on. The others stand in a map, so that its size follows what is put
+/// into it, whatever ids a damaged image has.
 #[derive(Drop)]
 pub(crate) struct Table<T> {
     none: T,
-    low: Vec<T>,
-    high: BTreeMap<u64, T>,
+    first: u64,
+    near: Vec<T>,
+    far: BTreeMap<u64, T>,
 }
 
 impl<T: Copy> Table<T> {
-    /// A table of one value under all ids, of which so many stand in the list.
-    pub(crate) fn new(alloc: Global, none: T, low: usize) -> Result<Table<T>, Memory>
+    /// A table of one value under all ids, of which those of a span stand in the list.
+    pub(crate) fn new(alloc: Global, none: T, span: Span) -> Result<Table<T>, Memory>
         ensures { IfOk result (λ t. (q : ℕ) → value_at t q ≡ none) }
     {
         Ok(Table {
             none,
-            low: filled(alloc, none, low)?,
-            high: BTreeMap::new(alloc),
+            first: span.first,
+            near: filled(alloc, none, span.count)?,
+            far: BTreeMap::new(alloc),
         })
+    }
+
+    /// The value under an id, where it stands.
+    pub(crate) fn at(&self, id: u64) -> &T
+        ensures { result.now ≡ value_at self.now id }
+    {
+        if self.is_near(id) {
+            return &self.near[(id - self.first) as usize];
+        }
+        match self.far.get(&id) {
+            Some(value) => value,
+            None => &self.none,
+        }
     }
 
     /// The value under an id.
     pub(crate) fn get(&self, id: u64) -> T
         ensures { result ≡ value_at self.now id }
     {
-        if id < self.low.len() as u64 {
-            return self.low[id as usize];
-        }
-        self.high.get(&id).copied().unwrap_or(self.none)
+        *self.at(id)
     }
 
     /// Puts a value under an id, in the place of the one that is there.
@@ -44,12 +63,19 @@ impl<T: Copy> Table<T> {
         ensures { OnOk result ((q : ℕ)
             → value_at self.new q ≡ (if id == q then value else value_at self.old q)) }
     {
-        if id < self.low.len() as u64 {
-            self.low[id as usize] = value;
+        if self.is_near(id) {
+            self.near[(id - self.first) as usize] = value;
             return Ok(());
         }
-        self.high.insert(id, value)?;
+        self.far.insert(id, value)?;
         Ok(())
+    }
+
+    // Whether an id's value stands in the list.
+    fn is_near(&self, id: u64) -> bool
+        ensures { result ≡ is_near self.now id }
+    {
+        id >= self.first && id - self.first < self.near.len() as u64
     }
 }
 

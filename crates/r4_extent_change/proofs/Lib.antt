@@ -1,8 +1,15 @@
 mod AtStart
 mod TwigTurn
 mod AllTurned
+mod GrownTurns
 mod LeafTurns
 mod NoBytes
 mod Effects
+mod Chosen
+mod LossAmong
+mod GoneKeys
+mod LostTurns
+mod LostWhole
+mod LostSteps
 mod Whole
 mod Steps

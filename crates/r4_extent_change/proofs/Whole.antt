@@ -1,7 +1,6 @@
 -- The whole change, step by step: what each step needs, and what it leaves for the next one.
-use Rattle.std.proofs.Common.{◌≡◌, ◌≢◌, inl, inr, ℕ, ◌+◌, ◌*◌, ◌^◌, ◌<◌, ◌≤◌, Bool, true, false, List, [], ◌∷◌, length, refl, sym, ap, subst, ◌∙◌, arith}
-use Rattle.std.specs.Prelude.{◌==◌, Contains, Some, if◌then◌else◌}
-use Rattle.std.specs.List.{filter}
+use Rattle.std.proofs.Common.{◌≡◌, ℕ, ◌+◌, ◌*◌, ◌^◌, ◌<◌, ◌≤◌, Bool, List, length, arith}
+use Rattle.std.specs.Prelude.{◌==◌, Contains, Some}
 use Rattle.std.proofs.lemmas.Bool.{and_parts, eqb-true}
 use Rattle.r4_base.specs.Tree.{Root, Store}
 use Rattle.r4_base.specs.Value.{Value}
@@ -11,7 +10,7 @@ use Rattle.r4_extent_build.proofs.AllTurns.{all_set}
 use Rattle.r4_extent_build.specs.Looping.{AreKeysOfEach, AreTurned, CanTurnAll, behind_all, keys_of_each, turns_of}
 use Rattle.r4_extent_build.specs.Setting.{bytes_after}
 use Rattle.r4_extent_renew.specs.Overwriting.{AreSetAmong, AreStandingCells, StaysMeasured}
-use Rattle.r4_measure.proofs.r4_patch.Members.{Distinct, cases, distinct, have_names, here, later, none}
+use Rattle.r4_measure.proofs.r4_patch.Members.{distinct, have_names}
 use Rattle.r4_measure.specs.Budget.{Budget}
 use Rattle.r4_measure.specs.Measured.{IsMeasured}
 use Rattle.r4_measure.specs.r4_cell.Seen.{CellSeen, node_of}
@@ -25,30 +24,13 @@ use Rattle.r4_extent_build.specs.r4_twig_turns.r4_twig_work.Renewing.{IsRenewed,
 use Rattle.r4_extent_change.specs.Beside.{is_turning, turning_among, without_bytes}
 use Rattle.r4_extent_change.specs.Changing.{CanGrow, most_grown}
 use Rattle.r4_extent_change.specs.Turned.{LeavesLeaves, MayTurnAll}
-use Rattle.r4_extent_change.proofs.AllTurned.{can_all, leaves_left, left_over, still_of_cells}
+use Rattle.r4_extent_change.specs.Wider.{GoesOn}
+use Rattle.r4_extent_change.proofs.AllTurned.{left_over}
+use Rattle.r4_extent_change.proofs.Chosen.{picked, picked_apart}
+use Rattle.r4_extent_change.proofs.GrownTurns.{can_all, leaves_left, still_of_cells}
 use Rattle.r4_extent_change.proofs.AtStart.{renewed_of, start_few, start_measured, start_stands, still_stand}
 use Rattle.r4_extent_change.proofs.LeafTurns.{can_make, few_made}
-
--- ---- cells of which a test holds
-
-pass_one : (v : Bool) (p : CellSeen → Bool) (x y : CellSeen) (xs rest : List CellSeen) → p x ≡ v → (Contains rest y → Contains xs y × (p y ≡ true)) → Contains (if v then x ∷ rest else rest) y → Contains (x ∷ xs) y × (p y ≡ true)
-pass_one true p x y xs rest is more at = elim (cases x y rest at) [
-  | inl same ↦ (subst (Contains (x ∷ xs)) (sym same) (here x xs), ap p same ∙ is)
-  | inr m ↦ let (a, b) = more m in (later x y xs a, b)
-]
-pass_one false p x y xs rest is more at = let (a, b) = more at in (later x y xs a, b)
-
-picked : (p : CellSeen → Bool) (xs : List CellSeen) (y : CellSeen) → Contains (filter p xs) y → Contains xs y × (p y ≡ true)
-picked p [] y at = absurd (none y at)
-picked p (x ∷ xs) y at = pass_one (p x) p x y xs (filter p xs) refl (picked p xs y) at
-
-apart_one : (v : Bool) (x : CellSeen) (xs rest : List CellSeen) → ((y : CellSeen) → Contains xs y → x.id ≢ y.id) → ((y : CellSeen) → Contains rest y → Contains xs y) → Distinct rest → Distinct (if v then x ∷ rest else rest)
-apart_one true x xs rest first among apart = (λ y m. first y (among y m), apart)
-apart_one false x xs rest first among apart = apart
-
-picked_apart : (p : CellSeen → Bool) (xs : List CellSeen) → Distinct xs → Distinct (filter p xs)
-picked_apart p [] apart = tt
-picked_apart p (x ∷ xs) (first, apart) = apart_one (p x) x xs (filter p xs) first (λ y m. (picked p xs y m).0) (picked_apart p xs apart)
+use Rattle.r4_extent_change.proofs.TwigTurn.{as_wide}
 
 module _ (b : Body) (e : Edits) (u : Budget) (t : Store Value) (r : Root) (f : Fresh) (cells : List CellSeen) (is : CanGrow b e u t r f cells) (w0 : WorkingSet) (start : IsStart cells w0) where
   abbrev twigs : List CellSeen
@@ -94,10 +76,10 @@ module _ (b : Body) (e : Edits) (u : Budget) (t : Store Value) (r : Root) (f : F
       left = behind_all (turns_of b e twigs) f
 
       leaves : LeavesLeaves b e u t r f w1 w2 twigs
-      leaves = leaves_left b is.first e t r is.growing u f w1 w2 twigs may_turn_all turned
+      leaves = leaves_left b is.first e t r is.growing u f w1 twigs may_turn_all w2 turned
 
-      leaf_stands : (c : CellSeen) → Contains cells c → c.level ≡ 1 → Contains (standing w2) c
-      leaf_stands c at one = leaves.leaves c (stand c at (omega (arith, one))) one
+      leaf_stands : (c : CellSeen) → Contains cells c → c.level ≡ 1 → GoesOn w2 c
+      leaf_stands c at one = (c, leaves.leaves c (stand c at (omega (arith, one))) one, as_wide c)
 
       pub left_low : 2 ^ 63 ≤ left.next
       left_low = let n = (left_over (turns_of b e twigs) f).0 in let low = is.unplaced.0 in omega (arith, n, low)
@@ -122,7 +104,7 @@ module _ (b : Body) (e : Edits) (u : Budget) (t : Store Value) (r : Root) (f : F
           few_made beside t r left w2 leaves.left leaves.measured cells is.names leaf_stands is.room left_low left_high left_enough (most_grown b e u r cells) (omega (arith, a, d, g))
 
       pub of_those : StandAsBefore w0 w1 → IsOf cells f.next left w2
-      of_those as_before = still_of_cells b is.first e t r is.growing cells f.next u f w1 w2 twigs may_turn_all (omega arith) (renewed_of cells w0 start w1 f as_before) turned
+      of_those as_before = still_of_cells b is.first e t r is.growing u f w1 twigs may_turn_all w2 turned cells f.next (omega arith) (renewed_of cells w0 start w1 f as_before)
 
       pub twigs_change : (at : CellSeen → ℕ → Bool) → AreKeysOfEach b e twigs at → Changes w1 w2 (keys_of_each at twigs) (bytes_after e)
       twigs_change at keys = all_set b is.first e t r twigs f w1 w2 at is.growing keys can_twigs.turns (let low = is.unplaced.0 in omega (arith, low)) turned

@@ -1,3 +1,6 @@
 pub mod Beside
 pub mod Turned
+pub mod Wider
 pub mod Changing
+pub mod Among
+pub mod Losing

@@ -35,10 +35,10 @@ module _ (b : Body) (first : Key) (e : Edits) (t : Store Value) (r : Root) (f : 
       )
 
 module _ (b : Body) (first : Key) (e : Edits) (t : Store Value) (r : Root) (xs : List Loss) (f : Fresh) (w : WorkingSet) (u : Budget) (m : MayGo b first e t r xs f w u) where
-  abbrev twigs : List CellSeen
+  abbrev pub twigs : List CellSeen
   twigs = map (λ (x : Loss). x.twig) xs
 
-  ready : AreReady t w u (losing_turns b e xs) (ids_of twigs)
+  pub ready : AreReady t w u (losing_turns b e xs) (ids_of twigs)
   ready = are_ready b first e t r f w u m.losing m.measured.working xs m.each m.come (distinct twigs m.names)
 
   pub may_lose : CanLoseAll b e t r xs f w

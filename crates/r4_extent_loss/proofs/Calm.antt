@@ -1,6 +1,6 @@
 -- Holes of a body of which no block gets bytes stay.
 use Rattle.std.proofs.Common.{◌≡◌, ℕ, ◌+◌, ◌-◌, ◌*◌, ◌^◌, ◌<◌, Bool, true, false, cond, List, [], ◌∷◌, ◌++◌, refl, sym, ap, subst, ◌∙◌, arith}
-use Rattle.std.specs.Prelude.{◌&&◌}
+use Rattle.std.specs.Prelude.{◌||◌, ◌&&◌, nat_lt}
 use Rattle.std.specs.List.{flat_map}
 use Rattle.std.proofs.lemmas.Bool.{eqb-true}
 use Rattle.r4_base.specs.Extents.{is_hole}
@@ -15,18 +15,28 @@ use Rattle.r4_graft.proofs.Placed.{has_end}
 use Rattle.r4_leaf.specs.Units.{is_between}
 use Rattle.r4_leaf_edits.proofs.KeyRanks.{key_again}
 use Rattle.r4_reach.specs.Needs.{filled, gets_bytes, runs}
-use Rattle.r4_reach.specs.Touched.{Body, first_byte}
+use Rattle.r4_reach.specs.Touched.{Body, coming, first_byte, going}
 use Rattle.r4_work.proofs.UnitMembers.{between}
+use Rattle.r4_extent_build.specs.Growing.{end_after, end_before}
 use Rattle.r4_extent_demands.proofs.Low.{at_offset}
 use Rattle.r4_extent_demands.proofs.Runs.{hole_some, quiet_runs}
 use Rattle.r4_extent_loss.specs.Losing.{IsLosing}
 
 module _ (b : Body) (first : Key) (e : Edits) (g : IsLosing b first e) where
+  -- the keys of the blocks that go, and that none come
+  pub going_is : going b ≡ (end_after b, end_before b)
+  going_is = ap (λ (t : Bool). cond t (end_after b, end_before b) (0, 0)) g.in_extents
+
+  pub coming_is : coming b ≡ (end_before b, end_after b)
+  coming_is =
+      ap (λ (t : Bool). cond (t || nat_lt 16384 b.now) (cond b.in_extents (end_before b) (first_byte b), end_after b) (0, 0)) g.in_extents
+      ∙ ap (λ (t : Bool). (cond t (end_before b) (first_byte b), end_after b)) g.in_extents
+
   both_on : (x y : Bool) → (x && y) ≡ true → (x ≡ true) × (y ≡ true)
   both_on true y h = (refl, h)
   both_on false y h = absurd cc
 
-  calm_piece : (p : TwigPiece) → IsSound p → filled b e p ≡ p ∷ []
+  pub calm_piece : (p : TwigPiece) → IsSound p → filled b e p ≡ p ∷ []
   calm_piece p sound = by_part p.part refl
     where
       front : (t : TwigPart) → p.part ≡ t → filled b e p ≡ filled b e (record p { part = t })

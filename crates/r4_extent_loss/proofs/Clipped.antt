@@ -107,3 +107,10 @@ module _ (c : Node Value) (lo hi a z : ℕ) (ps : List TwigPiece) (f : Follow lo
     clipped =
         (λ i. spliced (place a (both i)) (place z (both i)) (taken_up c (take (place a (both i)) (both i)) (take (place z (both i) - place a (both i)) (drop (place a (both i)) (both i)))) (both i))
         ∙ (λ i. spliced (first_place i) (second_place i) (taken_up c (take (first_place i) pp) (take (second_place i - first_place i) (drop (first_place i) pp))) pp)
+
+    -- and so what takes their range up is the same
+    pub clipped_taken : taken_up c (take (place a (parted z (parted a ps))) (parted z (parted a ps))) (take (place z (parted z (parted a ps)) - place a (parted z (parted a ps))) (drop (place a (parted z (parted a ps))) (parted z (parted a ps))))
+        ≡ taken_up c (pieces_below (larger lo a) pp) (pieces_between (larger lo a) (smaller hi z) pp)
+    clipped_taken =
+        (λ i. taken_up c (take (place a (both i)) (both i)) (take (place z (both i) - place a (both i)) (drop (place a (both i)) (both i))))
+        ∙ (λ i. taken_up c (take (first_place i) pp) (take (second_place i - first_place i) (drop (first_place i) pp)))

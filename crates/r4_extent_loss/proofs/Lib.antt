@@ -11,3 +11,8 @@ pub mod EachLoss
 pub mod Ready
 pub mod InParts
 pub mod AllReady
+pub mod LossChanges
+pub mod LossCounts
+pub mod Begins
+-- what crates above name by way of this one
+pub use Rattle.r4_twig_work.proofs.r4_extent_edit

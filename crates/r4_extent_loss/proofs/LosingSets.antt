@@ -30,7 +30,7 @@ use Rattle.r4_path.proofs.Rising.{in_cell, in_node, level_is}
 use Rattle.r4_reach.specs.Touched.{Body}
 use Rattle.r4_twig_work.specs.Regrafting.{SetsBelow, StandsBelow}
 use Rattle.r4_work.proofs.UnitMembers.{between}
-use Rattle.r4_extent_loss.specs.Losing.{IsLeft, IsLosing, IsLossOf, Loss, gone_from, gone_to, in_gone, losing_turn, no_value, taken_block}
+use Rattle.r4_extent_loss.specs.Losing.{IsLeft, IsLosing, IsLossOf, Loss, gone_from, gone_to, in_gone, losing_turn, no_value, taken_block, taken_id}
 use Rattle.r4_extent_loss.proofs.LosingTurns.{cells, come_is, each, end, fresh_leaf, qs, qs_are, come}
 use Rattle.r4_extent_loss.proofs.LostPieces.{high, low}
 use Rattle.r4_extent_loss.proofs.Taken.{is_taken}
@@ -163,20 +163,20 @@ module _ (b : Body) (x : Loss) (c : IsLossOf b x) where
 
   module _ (first : Key) (e : Edits) (g : IsLosing b first e) (n : ℕ) (unplaced : 2 ^ 63 ≤ n) where
     abbrev all : List TwigPiece
-    all = qs b x c first e g n unplaced
+    all = qs b x c first e g n
 
     abbrev new : List CellSeen
-    new = come b x c first e g n unplaced
+    new = come b x c first e g n
 
     units_left : units_of all ≡ cut_units from to (node_of x.twig).units
-    units_left = ap units_of (qs_are b x c first e g n unplaced) ∙ (is_taken b x c).units n
+    units_left = ap units_of (qs_are b x c first e g n) ∙ (is_taken b x c).units (taken_id x n)
 
     comes : (k : ℕ) (u : Placed Value) → StandsBelow (new ++ []) (units_of all) k u
         → HasUnit (given_cells x.leaf) k u ⊎ (Contains (cut_units from to (node_of x.twig).units) (k, u.0) × (u.1 ≡ false))
     comes k u h = elim h [
       | inl low_in ↦
           let (d, at, has, kind) = low_in in
-          inl ((come_units n k u).0 (d, subst (λ ds. Contains ds d) (append-nil new ∙ come_is b x c first e g n unplaced) at, has, kind))
+          inl ((come_units (taken_id x n) k u).0 (d, subst (λ ds. Contains ds d) (append-nil new ∙ come_is b x c first e g n) at, has, kind))
       | inr mine ↦ inr (subst (λ us. Contains us (k, u.0)) units_left mine.0, mine.1)
     ]
 
@@ -184,8 +184,8 @@ module _ (b : Body) (x : Loss) (c : IsLossOf b x) where
         → StandsBelow (new ++ []) (units_of all) k u
     comes_to k u h = elim h [
       | inl low_in ↦
-          let (d, at, has, kind) = (come_units n k u).1 low_in in
-          inl (d, subst (λ ds. Contains ds d) (sym (append-nil new ∙ come_is b x c first e g n unplaced)) at, has, kind)
+          let (d, at, has, kind) = (come_units (taken_id x n) k u).1 low_in in
+          inl (d, subst (λ ds. Contains ds d) (sym (append-nil new ∙ come_is b x c first e g n)) at, has, kind)
       | inr mine ↦ inr (subst (λ us. Contains us (k, u.0)) (sym units_left) mine.0, mine.1)
     ]
 

@@ -1,6 +1,6 @@
 -- The pieces that a twig has after edits, where blocks go of it.
 use Rattle.std.proofs.Common.{◌≡◌, inl, inr, ℕ, ◌+◌, ◌-◌, ◌/◌, ◌^◌, ◌<◌, ◌≤◌, Bool, true, false, cond, List, [], ◌∷◌, ◌++◌, refl, sym, ap, subst, ◌∙◌, arith}
-use Rattle.std.specs.Prelude.{Contains, Option, None, Some, ◌==◌, ◌&&◌, ◌||◌, nat_lt}
+use Rattle.std.specs.Prelude.{Contains, Option, None, Some, ◌==◌, ◌&&◌, ◌||◌}
 use Rattle.std.specs.List.{flat_map, list_any}
 use Rattle.std.proofs.lemmas.Bool.{cases_lt, eq-eqb, eqb-true}
 use Rattle.std.proofs.lemmas.List.{take-append-drop}
@@ -24,11 +24,11 @@ use Rattle.r4_patch.proofs.Members.{cases, here, later, none}
 use Rattle.r4_path.specs.Steps.{name_of}
 use Rattle.r4_path.specs.TwigPieces.{twig_pieces}
 use Rattle.r4_reach.specs.Needs.{cut_pieces, filled, gets_bytes, has_left_leaf, pieces_after, pointer_at, runs, taken_up, with_coming, without_gone}
-use Rattle.r4_reach.specs.Touched.{Body, coming, first_byte, going}
+use Rattle.r4_reach.specs.Touched.{Body, coming, going}
 use Rattle.r4_extent_build.specs.Growing.{end_after, end_before}
 use Rattle.r4_extent_build.proofs.UncutTwigs.{none_gone}
 use Rattle.r4_extent_loss.specs.Losing.{IsLeft, IsLosing, IsLossOf, Loss, gone_from, gone_to, parted_pieces}
-use Rattle.r4_extent_loss.proofs.Calm.{calm_pieces}
+use Rattle.r4_extent_loss.proofs.Calm.{calm_pieces, coming_is, going_is}
 use Rattle.r4_extent_loss.proofs.Clipped.{clipped, larger_high, larger_low, smaller_high, smaller_low}
 
 any_off : (test : Name → Bool) (ns : List Name) → ((n : Name) → Contains ns n → test n ≡ false) → list_any test ns ≡ false
@@ -65,6 +65,19 @@ both_off a b k j never = by_first (a == k) refl
         by_second false f = (λ i. e i && f i)
         by_second true f = absurd (never (eqb-true a k e) (eqb-true b j f))
 
+-- what goes of a twig lies in its range
+pub gone_low : (b : Body) (twig : CellSeen) → rank twig.lo ≤ gone_from b twig
+gone_low b twig = elim (cases_lt (rank twig.lo) (end_after b)) [
+  | inl lt ↦ let e = larger_high (rank twig.lo) (end_after b) lt in omega (arith, e, lt)
+  | inr le ↦ let e = larger_low (rank twig.lo) (end_after b) le in omega (arith, e)
+]
+
+pub gone_high : (b : Body) (twig : CellSeen) → gone_to b twig ≤ rank twig.hi
+gone_high b twig = elim (cases_lt (rank twig.hi) (end_before b)) [
+  | inl lt ↦ let e = smaller_low (rank twig.hi) (end_before b) lt in omega (arith, e)
+  | inr le ↦ let e = smaller_high (rank twig.hi) (end_before b) le in omega (arith, e, le)
+]
+
 module _ (b : Body) (x : Loss) (c : IsLossOf b x) where
   abbrev pub lo : ℕ
   lo = rank x.twig.lo
@@ -91,16 +104,10 @@ module _ (b : Body) (x : Loss) (c : IsLossOf b x) where
   follow = c.pieces.pieces.follow
 
   pub low : lo ≤ gone_from b x.twig
-  low = elim (cases_lt lo (end_after b)) [
-    | inl lt ↦ let e = larger_high lo (end_after b) lt in omega (arith, e, lt)
-    | inr le ↦ let e = larger_low lo (end_after b) le in omega (arith, e)
-  ]
+  low = gone_low b x.twig
 
   pub high : gone_to b x.twig ≤ hi
-  high = elim (cases_lt hi (end_before b)) [
-    | inl lt ↦ let e = smaller_low hi (end_before b) lt in omega (arith, e)
-    | inr le ↦ let e = smaller_high hi (end_before b) le in omega (arith, e, le)
-  ]
+  high = gone_high b x.twig
 
   pub some : lo < hi
   some = let l = low in let h = high in let s = c.some in omega (arith, l, h, s)
@@ -136,7 +143,7 @@ module _ (b : Body) (x : Loss) (c : IsLossOf b x) where
   rest_follow : Follow lo hi rest
   rest_follow = (cut_twigs lo hi (gone_from b x.twig) (gone_to b x.twig) pp xs ms ys parts (2 ^ 63) x.leaf (led x.leaf c.left) (may_be_named (2 ^ 63) (omega arith)) some all_first).follow
 
-  taken : (qs : List TwigPiece) → BeginsAt (gone_from b x.twig) qs → Follow (gone_from b x.twig) (gone_to b x.twig) qs
+  pub taken : (qs : List TwigPiece) → BeginsAt (gone_from b x.twig) qs → Follow (gone_from b x.twig) (gone_to b x.twig) qs
       → taken_up (node_of x.twig) xs qs ≡ pointer_for x.leaf (last_end None xs) (2 ^ 63) qs
   taken [] begins f = absurd begins
   taken (m ∷ more) begins f = by_leaf x.leaf c.left
@@ -153,24 +160,16 @@ module _ (b : Body) (x : Loss) (c : IsLossOf b x) where
           ap (λ (t : Bool). cond (t || is_at (last_end None xs) (rank m.key)) [] (pointer_at (rank m.key))) on
 
   module _ (first : Key) (e : Edits) (g : IsLosing b first e) where
-    going_is : going b ≡ (end_after b, end_before b)
-    going_is = ap (λ (t : Bool). cond t (end_after b, end_before b) (0, 0)) g.in_extents
-
-    coming_is : coming b ≡ (end_before b, end_after b)
-    coming_is =
-        ap (λ (t : Bool). cond (t || nat_lt 16384 b.now) (cond b.in_extents (end_before b) (first_byte b), end_after b) (0, 0)) g.in_extents
-        ∙ ap (λ (t : Bool). (cond t (end_before b) (first_byte b), end_after b)) g.in_extents
-
     left_is : cut_pieces (going b) (node_of x.twig) (without_gone [] (pieces_in (items_of (node_of x.twig).block))) ≡ rest
     left_is =
         ap (λ bytes. cut_pieces (going b) (node_of x.twig) (without_gone [] (pieces_in (items_of bytes)))) (block_is x.twig)
         ∙ (ap (cut_pieces (going b) (node_of x.twig)) (none_gone ps)
-        ∙ (ap (λ (r : ℕ × ℕ). cut_pieces r (node_of x.twig) ps) going_is
+        ∙ (ap (λ (r : ℕ × ℕ). cut_pieces r (node_of x.twig) ps) (going_is b first e g)
         ∙ (clipped (node_of x.twig) lo hi (end_after b) (end_before b) ps follow c.first_border all_follow
         ∙ ap (λ ts. xs ++ (ts ++ ys)) (taken ms c.begins parts.mid))))
 
     none_is : ((coming b).1 - (coming b).0) / 4096 ≡ 0
-    none_is = ap (λ (r : ℕ × ℕ). (r.1 - r.0) / 4096) coming_is ∙ (let s = g.shorter in let z : (end_after b - end_before b) / 4096 ≡ 0 = omega (arith, s) in z)
+    none_is = ap (λ (r : ℕ × ℕ). (r.1 - r.0) / 4096) (coming_is b first e g) ∙ (let s = g.shorter in let z : (end_after b - end_before b) / 4096 ≡ 0 = omega (arith, s) in z)
 
     nothing_comes : (qs : List TwigPiece) → with_coming b e (node_of x.twig) qs ≡ qs
     nothing_comes qs = by_test (is_between (node_of x.twig).lo (node_of x.twig).hi (coming b).0)

@@ -1,5 +1,5 @@
 -- A twig of which blocks go at its turn, as it is packed anew.
-use Rattle.std.proofs.Common.{◌≡◌, ℕ, ◌+◌, ◌^◌, ◌≤◌, List, [], length, sym, ap, subst, ◌∙◌, arith}
+use Rattle.std.proofs.Common.{◌≡◌, ℕ, ◌+◌, ◌^◌, ◌≤◌, List, [], sym, ap, subst, ◌∙◌, arith}
 use Rattle.std.specs.Prelude.{Contains, Some}
 use Rattle.r4_base.specs.declared.key.Key.{Key}
 use Rattle.r4_base.specs.Tree.{Root, Store}
@@ -15,23 +15,23 @@ use Rattle.r4_reach.specs.Touched.{Body}
 use Rattle.r4_extent_build.specs.r4_twig_turns.Turning.{IsTurned, TwigTurn, own_of}
 use Rattle.r4_twig_work.specs.Regrafting.{DoesBelow, IsRegraftable}
 use Rattle.r4_work.specs.declared.working.WorkingSet.{WorkingSet}
-use Rattle.r4_extent_loss.specs.Losing.{IsLosing, IsLossOf, Loss, leaf_at, losing_turn, taken_block, taken_from, with_leaf}
+use Rattle.r4_extent_loss.specs.Losing.{IsLosing, IsLossOf, Loss, leaf_at, losing_turn, numbers_taken, taken_block, taken_from, taken_id, taken_pieces}
 use Rattle.r4_extent_loss.proofs.LosingTurns.{come_is, many_is, taker_sound}
 
 -- what is made for the turn, as the calls tell it
 module _ (b : Body) (first : Key) (e : Edits) (x : Loss) (g : IsLosing b first e) (c : IsLossOf b x) (n : ℕ) (low : 2 ^ 63 ≤ n) (taken : ℕ) (after : List TwigPiece)
     (taken_is : taken ≡ taken_from b x) (after_is : after ≡ pieces_after (Some b) e (node_of x.twig) []) where
-  pub new_is : leaf_at taken n x.twig.hi (taken_block x) after ≡ ((losing_turn b e x).beside n).below.new
-  new_is = λ i. leaf_at (taken_is i) n x.twig.hi (taken_block x) (after_is i)
+  pub new_is : leaf_at taken (taken_id x n) x.twig.hi (taken_block x) after ≡ ((losing_turn b e x).beside n).below.new
+  new_is = λ i. leaf_at (taken_is i) (taken_id x n) x.twig.hi (taken_block x) (after_is i)
 
-  pub pieces_are : with_leaf taken n after ≡ (losing_turn b e x).pieces n
-  pieces_are = λ i. with_leaf (taken_is i) n (after_is i)
+  pub pieces_are : taken_pieces x taken n after ≡ (losing_turn b e x).pieces n
+  pieces_are = λ i. taken_pieces x (taken_is i) n (after_is i)
 
-  pub sounds : (d : CellSeen) → Contains (leaf_at taken n x.twig.hi (taken_block x) after) d → IsSound d
-  sounds d at = taker_sound b x c n d (subst (λ ds. Contains ds d) (new_is ∙ come_is b x c first e g n low) at)
+  pub sounds : (d : CellSeen) → Contains (leaf_at taken (taken_id x n) x.twig.hi (taken_block x) after) d → IsSound d
+  sounds d at = taker_sound b x c (taken_id x n) d (subst (λ ds. Contains ds d) (new_is ∙ come_is b x c first e g n) at)
 
-  pub count_is : (news : List CellSeen) → news ≡ leaf_at taken n x.twig.hi (taken_block x) after → length news ≡ (losing_turn b e x).leaves
-  count_is news is = ap length (is ∙ new_is) ∙ sym (many_is b x c first e g n low).0
+  pub count_is : (news : List CellSeen) → news ≡ leaf_at taken (taken_id x n) x.twig.hi (taken_block x) after → numbers_taken x news ≡ (losing_turn b e x).leaves
+  count_is news is = ap (numbers_taken x) (is ∙ new_is) ∙ sym (many_is b x c first e g n).0
 
 module _ (e : TwigTurn) (f own : Fresh) (next : ℕ) (blocks : e.blocks ≡ 0) (next_is : next ≡ f.next + e.leaves) (own_at : own ≡ record { next = next; end = next + 64 }) where
   own_is : own ≡ own_of e f

@@ -1,10 +1,9 @@
 -- A standing twig of which blocks go is ready for its turn.
-use Rattle.std.proofs.Common.{◌≡◌, ℕ, ◌+◌, ◌-◌, ◌/◌, ◌^◌, ◌≤◌, [], refl, sym, ap, subst, ◌∙◌, arith}
+use Rattle.std.proofs.Common.{◌+◌, ◌-◌, ◌/◌, ◌^◌, ◌≤◌, [], refl, sym, subst, ◌∙◌, arith}
 use Rattle.std.specs.Prelude.{Some}
 use Rattle.r4_base.specs.Tree.{Root, Store}
 use Rattle.r4_base.specs.Value.{Value}
 use Rattle.r4_base.specs.declared.key.Key.{Key}
-use Rattle.r4_branch.specs.Pieces.{twig_bytes}
 use Rattle.r4_cell.specs.Seen.{node_of}
 use Rattle.r4_cell.specs.declared.change.Fresh.{Fresh}
 use Rattle.r4_content.specs.Edited.{Edits}
@@ -17,19 +16,13 @@ use Rattle.r4_extent_build.specs.r4_twig_turns.Turning.{IsReady}
 use Rattle.r4_work.specs.Working.{IsWorking}
 use Rattle.r4_work.specs.declared.working.WorkingSet.{WorkingSet}
 use Rattle.r4_work.proofs.InPlace.{standing_is}
-use Rattle.r4_extent_loss.specs.Losing.{IsLosing, IsLossOf, Loss, losing_turn, taken_from, with_leaf}
+use Rattle.r4_extent_loss.specs.Losing.{IsLosing, IsLossOf, Loss, losing_turn}
 use Rattle.r4_extent_loss.specs.LosingEach.{StandsLoss}
-use Rattle.r4_extent_loss.proofs.LosingTurns.{turn_of}
-use Rattle.r4_extent_loss.proofs.LostPieces.{after_is, some}
-use Rattle.r4_extent_loss.proofs.Taken.{is_taken}
+use Rattle.r4_extent_loss.proofs.LosingTurns.{bytes_are, turn_of}
+use Rattle.r4_extent_loss.proofs.LostPieces.{some}
 
 module _ (t : Store Value) (r : Root) (f : Fresh) (w : WorkingSet) (working : IsWorking t r f w) (u : Budget) (b : Body) (first : Key) (e : Edits) (x : Loss) (g : IsLosing b first e) (c : IsLossOf b x) (s : StandsLoss w x)
     (few : extra_twigs (pieces_after (Some b) e (node_of x.twig) []) ≤ u 2 x.twig.id) where
-  same_bytes : (n : ℕ) → twig_bytes (with_leaf (taken_from b x) n (pieces_after (Some b) e (node_of x.twig) [])) ≡ twig_bytes (pieces_after (Some b) e (node_of x.twig) [])
-  same_bytes n =
-      ap (λ ps. twig_bytes (with_leaf (taken_from b x) n ps)) (after_is b x c first e g)
-      ∙ (ap twig_bytes ((is_taken b x c).pieces n) ∙ ((is_taken b x c).bytes n ∙ ap twig_bytes (sym (after_is b x c first e g))))
-
   pub is_ready : IsReady t w u (losing_turn b e x) x.twig.id
   is_ready = record {
     node = node_of x.twig;
@@ -41,5 +34,5 @@ module _ (t : Store Value) (r : Root) (f : Fresh) (w : WorkingSet) (working : Is
     turn = λ n high small. turn_of b x c first e g n high;
     goes = λ n y at. s.goes y at;
     named = λ n y at. (turn_of b x c first e g (2 ^ 63) (omega arith)).goes y at;
-    come = λ n. let same = same_bytes n in subst (λ m. (m - 4068 + 1023) / 1024 ≤ u 2 x.twig.id) (sym same) few;
+    come = λ n. let same = bytes_are b x c first e g n in subst (λ m. (m - 4068 + 1023) / 1024 ≤ u 2 x.twig.id) (sym same) few;
   }

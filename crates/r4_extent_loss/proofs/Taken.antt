@@ -4,16 +4,17 @@ use Rattle.std.specs.Prelude.{Contains, Option, None, Some, if◌then◌else◌}
 use Rattle.std.proofs.lemmas.Bool.{eq-eqb, ne_eqb}
 use Rattle.std.proofs.lemmas.List.{append_assoc}
 use Rattle.std.proofs.lemmas.Option.{none-some, same_Some}
-use Rattle.r4_base.specs.Key.{rank}
+use Rattle.r4_base.specs.Cell.{names_block}
+use Rattle.r4_base.specs.Key.{offset_of, rank}
 use Rattle.r4_base.specs.Tree.{Name}
 use Rattle.r4_base.specs.declared.key.Key.{Key}
-use Rattle.r4_branch.specs.Pieces.{Follow, bytes_behind, is_at, last_end, names_of, next_of, open_end, part_bytes, part_names, part_units, piece_end, twig_bytes, units_of}
+use Rattle.r4_branch.specs.Pieces.{Follow, IsSoundPart, bytes_behind, is_at, last_end, names_of, next_of, open_end, part_bytes, part_names, part_units, piece_end, twig_bytes, units_of}
 use Rattle.r4_branch.specs.declared.piece.TwigPart.{TwigPart}
 use Rattle.r4_branch.specs.declared.piece.TwigPart.TheVariants.{Pointer}
 use Rattle.r4_branch.specs.declared.piece.TwigPiece.{TwigPiece}
 use Rattle.r4_branch.proofs.ItemPieces.{units_append}
 use Rattle.r4_cell.specs.Seen.{CellSeen, node_of}
-use Rattle.r4_edit.specs.CutBlocks.{BeginsAt, next_key, pointer_over}
+use Rattle.r4_edit.specs.CutBlocks.{BeginsAt, next_key, pieces_below, pieces_between, pointer_over}
 use Rattle.r4_edit.specs.Extents.{given_cells}
 use Rattle.r4_edit.proofs.CutNames.{EndsWithLeaf, between_names, units_without}
 use Rattle.r4_edit.proofs.CutOut.{IsLed}
@@ -135,6 +136,9 @@ pub record IsTaken (b : Body) (x : Loss) (all : List TwigPiece) : Type 0 where
       → Contains (cells_of (pointer_over before id gone) id hi block) c → rank c.lo ≡ rank l.lo
   pub goes_on : (l : CellSeen) → x.leaf ≡ Some l → (id : ℕ) (hi : Key) (block : List ℕ)
       → (c : CellSeen) × Contains (cells_of (pointer_over before id gone) id hi block) c
+  pub stands : (l : CellSeen) → x.leaf ≡ Some l → all ≡ front ++ (pointer_over before l.id gone ++ behind)
+  pub new : x.leaf ≡ None → (before ≡ last_end None (pieces_below (gone_from b x.twig) (parted_pieces b x.twig))) × (gone ≡ pieces_between (gone_from b x.twig) (gone_to b x.twig) (parted_pieces b x.twig))
+  pub may : (l : CellSeen) → x.leaf ≡ Some l → names_block true (2 ^ 64) (Some l.id) ≡ true
 
 module _ (b : Body) (x : Loss) (c : IsLossOf b x) where
   end_off : (k : ℕ) → k ≤ gone_from b x.twig → AreOff k (ys b x c)
@@ -189,6 +193,9 @@ module _ (b : Body) (twig : CellSeen) (blocks : List CellSeen) where
         bytes = λ id. over_same before (xs b x c) (ms b x c) (ys b x c) id (2 ^ 63);
         lead = λ l is. absurd (none-some l is);
         goes_on = λ l is. absurd (none-some l is);
+        stands = λ l is. absurd (none-some l is);
+        may = λ l is. absurd (none-some l is);
+        new = λ is. (refl, refl);
       }
 
   -- the leaf that ends there goes on
@@ -309,6 +316,9 @@ module _ (b : Body) (twig : CellSeen) (blocks : List CellSeen) where
         | inr nil ↦ absurd (none e nil)
       ];
       goes_on = λ d is id h block. (record { id = id; level = 1; lo = piece.key; hi = h; block = block }, here (record { id = id; level = 1; lo = piece.key; hi = h; block = block }) []);
+      stands = λ d is. stays_is ∙ ((λ i. front ++ (record { key = piece.key; part = part i } ∷ ys b x c)) ∙ ap (λ (z : CellSeen). front ++ (record { key = piece.key; part = Pointer (record { 0 = z.id }) } ∷ ys b x c)) (same_Some l d is));
+      new = λ is. absurd (none-some l (sym is));
+      may = λ d is. subst (λ (z : CellSeen). names_block true (2 ^ 64) (Some z.id) ≡ true) (same_Some l d is) (subst (IsSoundPart (offset_of piece.key)) part halves.1.1.1);
     }
 
   taken_by : (o : Option CellSeen) → (c : IsLossOf b (of_leaf o)) → IsTaken b (of_leaf o) (rest b (of_leaf o) c)

@@ -125,26 +125,50 @@ leaf_at k id hi block (p ∷ ps) =
     then record { id = id; level = 1; lo = p.key; hi = next_key hi ps; block = block } ∷ []
     else leaf_at k id hi block ps
 
+-- whose number it has: that of the leaf that goes on, or the next one
+abbrev pub taken_id : Loss → (next : ℕ) → ℕ
+taken_id x next = by_leaf x.leaf
+  where
+    by_leaf : Option CellSeen → ℕ
+    by_leaf None = next
+    by_leaf (Some leaf) = leaf.id
+
+-- the pieces with the pointer to it: that of a leaf which goes on stands among them, one to a new leaf is put in
+abbrev pub taken_pieces : Loss → (key next : ℕ) → List TwigPiece → List TwigPiece
+taken_pieces x k next ps = by_leaf x.leaf
+  where
+    by_leaf : Option CellSeen → List TwigPiece
+    by_leaf None = with_leaf k next ps
+    by_leaf (Some leaf) = ps
+
+-- how many numbers it takes: a new leaf one, a leaf that goes on none
+abbrev pub numbers_taken : Loss → (come : List CellSeen) → ℕ
+numbers_taken x come = by_leaf x.leaf
+  where
+    by_leaf : Option CellSeen → ℕ
+    by_leaf None = length come
+    by_leaf (Some leaf) = 0
+
 -- ---- the turn
 
--- The twig gets the pieces that it has after the edits. A leaf that takes up the range of what goes has the next
--- number; where an extent goes on before what goes, none comes.
+-- The twig gets the pieces that it has after the edits. A leaf that goes on and takes up the range of what goes keeps
+-- its number, and a new one has the next; where an extent goes on before what goes, none comes.
 abbrev pub losing_turn : Body → Edits → Loss → TwigTurn
 losing_turn b e x =
     let ps = pieces_after (Some b) e (node_of x.twig) [] in
     record {
       key = rank x.twig.lo;
       node = node_of x.twig;
-      pieces = λ n. with_leaf (taken_from b x) n ps;
+      pieces = λ n. taken_pieces x (taken_from b x) n ps;
       beside = λ n. record {
         below = record {
           old = x.blocks ++ given_cells x.leaf;
-          new = leaf_at (taken_from b x) n x.twig.hi (taken_block x) ps;
+          new = leaf_at (taken_from b x) (taken_id x n) x.twig.hi (taken_block x) ps;
         };
         blocks = [];
       };
       blocks = 0;
-      leaves = length (leaf_at (taken_from b x) 0 x.twig.hi (taken_block x) ps);
+      leaves = numbers_taken x (leaf_at (taken_from b x) 0 x.twig.hi (taken_block x) ps);
     }
 
 -- nothing stands at the keys of what goes

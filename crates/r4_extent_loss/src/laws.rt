@@ -1,15 +1,16 @@
 //! Laws of twigs of a body in extents that loses blocks. Each is the contract of a function that does nothing.
 
-ghost use Rattle.std.specs.Prelude.{ℕ, ◌+◌, ◌^◌, ◌≤◌, [], List, Some};
+ghost use Rattle.std.specs.Prelude.{ℕ, ◌≡◌, ◌+◌, ◌^◌, ◌<◌, ◌≤◌, [], List, Some, true};
 ghost use Rattle.r4_base.specs.Tree.{Root as TreeRoot, Store};
 ghost use Rattle.r4_base.specs.Value.{Value};
 ghost use Rattle.r4_base.specs.declared.key.Key.{Key};
-ghost use Rattle.r4_cell.specs.Seen.{node_of};
+ghost use Rattle.r4_cell.specs.Seen.{CellSeen, node_of};
 ghost use Rattle.r4_cell.specs.declared.change.Fresh.{Fresh};
 ghost use Rattle.r4_content.specs.Edited.{Edits};
 ghost use Rattle.r4_measure.specs.Budget.{Budget, most_from};
 ghost use Rattle.r4_path.specs.Grafts.{extra_twigs};
-ghost use Rattle.r4_reach.specs.Needs.{pieces_after};
+ghost use Rattle.r4_path.specs.TwigPieces.{ArePiecesOf, twig_pieces};
+ghost use Rattle.r4_reach.specs.Needs.{changes_pieces, pieces_after, put_among};
 ghost use Rattle.r4_reach.specs.Touched.{Body};
 ghost use Rattle.r4_extent_build.specs.r4_twig_turns.Turning.{IsReady, IsTurnOf, TurnAtMost, come_at_most};
 ghost use Rattle.r4_twig_work.specs.Regrafting.{SetsBelow};
@@ -17,14 +18,15 @@ ghost use Rattle.r4_work.specs.Remaking.{Changes};
 ghost use Rattle.r4_work.specs.Working.{IsWorking, root_of, standing};
 ghost use Rattle.r4_work.specs.declared.working.WorkingSet.{WorkingSet};
 ghost use Rattle.r4_extent_build.specs.Looping.{AreTurned};
-ghost use Rattle.r4_extent_loss.specs.Losing.{IsLosing, IsLossOf, Loss, in_gone, losing_turn, no_value};
+ghost use Rattle.r4_extent_loss.specs.Losing.{IsLosing, IsLossOf, Loss, gone_from, gone_to, in_gone};
+ghost use Rattle.r4_extent_loss.specs.Losing.{losing_turn, no_value};
 ghost use Rattle.r4_extent_loss.specs.LosingEach.{CanLoseAll, IsLossIn, MayGo, StandsLoss};
 ghost use Rattle.r4_extent_loss.specs.LosingEach.{gone_of_each, losing_turns};
 
 /// A twig of which blocks of a body go has its turn among those that are packed anew: it gets the pieces that
-/// `pieces_after` tells, with the number of the leaf that takes up the range of what goes. These may be packed, and
-/// need no more than 16000 bytes; they name what the twig named, but for the blocks that go and the leaf left of them,
-/// and that leaf as it goes on.
+/// `pieces_after` tells, with the number of a new leaf where one takes up the range of what goes. These may be packed,
+/// and need no more than 16000 bytes; they name what the twig named, but for the blocks that go and the leaf left of
+/// them, and that leaf as it goes on, under its number.
 pub fn losing_twigs_have_their_turn()
     ensures { (b : Body) (first : Key) (e : Edits) (x : Loss) (next : ℕ)
         → IsLosing b first e → IsLossOf b x → 2 ^ 63 ≤ next
@@ -57,6 +59,20 @@ pub fn losing_twigs_are_ready()
         → IsLossOf b x → StandsLoss w x
         → extra_twigs (pieces_after (Some b) e (node_of x.twig) []) ≤ u 2 x.twig.id
         → IsReady t w u (losing_turn b e x) x.twig.id }
+{}
+
+/// Pieces change of a twig of which blocks go: so it is among those that reach tells to be written.
+pub fn losing_twigs_change_their_pieces()
+    ensures { (b : Body) (first : Key) (e : Edits) (x : Loss) → IsLosing b first e → IsLossOf b x
+        → changes_pieces (Some b) e (node_of x.twig) ≡ true }
+{}
+
+/// And back: where no value comes among the extents of a twig, its pieces change only where keys of its range go. So
+/// the twigs that lose blocks are just those of which reach tells that they turn.
+pub fn only_losing_twigs_change_their_pieces()
+    ensures { (b : Body) (first : Key) (e : Edits) (c : CellSeen) → IsLosing b first e
+        → ArePiecesOf c (twig_pieces c) → put_among (Some b) e (node_of c) ≡ 0
+        → changes_pieces (Some b) e (node_of c) ≡ true → gone_from b c < gone_to b c }
 {}
 
 /// Where blocks go of a standing twig of a part of a tree, and their keys lie in its extents, no leaf has one of them,

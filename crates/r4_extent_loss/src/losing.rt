@@ -11,6 +11,7 @@ ghost use Rattle.r4_base.specs.Value.{Value};
 ghost use Rattle.r4_base.specs.declared.key.Key.{Key as KeySeen};
 ghost use Rattle.r4_cell.specs.Seen.{CellSeen, node_of};
 ghost use Rattle.r4_cell.specs.declared.change.Fresh.{Fresh as FreshSeen};
+ghost use Rattle.r4_content.specs.Bodies.{larger, smaller};
 ghost use Rattle.r4_content.specs.Held.{edits_of};
 ghost use Rattle.r4_edit.specs.CutBlocks.{next_key};
 ghost use Rattle.r4_edit.specs.Extents.{given_cells};
@@ -21,8 +22,9 @@ ghost use Rattle.r4_extent_build.specs.r4_twig_turns.Turning.{IsTurned, behind, 
 ghost use Rattle.r4_twig_work.specs.Regrafting.{DoesBelow, IsRegraftable};
 ghost use Rattle.r4_extent_demands.specs.Sizes.{IsSizedBody};
 ghost use Rattle.r4_extent_build.specs.Looping.{AreTurned, behind_all};
-ghost use Rattle.r4_extent_loss.specs.Losing.{IsLosing, IsLossOf, gone_from, leaf_at};
-ghost use Rattle.r4_extent_loss.specs.Losing.{losing_turn, pointed, taken_block, taken_from, with_leaf};
+ghost use Rattle.r4_extent_loss.specs.Losing.{IsLosing, IsLossOf, gone_from, gone_to, leaf_at};
+ghost use Rattle.r4_extent_loss.specs.Losing.{losing_turn, numbers_taken, pointed, taken_block};
+ghost use Rattle.r4_extent_loss.specs.Losing.{taken_from, taken_id, taken_pieces, with_leaf};
 ghost use Rattle.r4_extent_loss.specs.LosingEach.{CanLoseAll, leaf_in, loss_of, losing_turns};
 
 use r4_base::{Block, Key, LEAF, Memory, NodeId, get32};
@@ -58,23 +60,37 @@ fn taken_from(body: &SizedBody, losing: &Losing) -> Key
 {
     match &losing.leaf {
         Some(leaf) => leaf.lo(),
-        None => gone_from(body, &losing.twig),
+        None => gone_of(body, &losing.twig).from,
     }
 }
 
-// Where the blocks begin that go of a twig.
-fn gone_from(body: &SizedBody, twig: &Cell) -> Key
+/// The keys of a twig's range of which the blocks of a body in extents go: from where the body ends afterwards, or where
+/// the range begins, up to where the body ended, or where the range does; none where the first is not below the second
+/// (docs/volume.md, "Bodies in extents").
+pub fn gone_of(body: &SizedBody, twig: &Cell) -> KeyRange
     requires sized { IsSizedBody body.now }
     requires in_extents { body.now.in_extents ≡ true }
-    ensures { rank result ≡ gone_from body.now twig.now }
+    ensures from { rank result.from ≡ gone_from body.now twig.now }
+    ensures to { rank result.to ≡ gone_to body.now twig.now }
 {
     let going = body.going();
-    let lo = twig.lo();
-    if lo.is_below(going.from) {
-        going.from
-    } else {
-        lo
-    }
+    let from = later(twig.lo(), going.from);
+    let to = earlier(twig.hi(), going.to);
+    KeyRange { from, to }
+}
+
+// The greater one of two keys.
+fn later(one: Key, other: Key) -> Key
+    ensures { rank result ≡ larger (rank one) (rank other) }
+{
+    if one.is_below(other) { other } else { one }
+}
+
+// The smaller one of two keys.
+fn earlier(one: Key, other: Key) -> Key
+    ensures { rank result ≡ smaller (rank one) (rank other) }
+{
+    if one.is_below(other) { one } else { other }
 }
 
 // The range of the leaf to which the piece at a key points: up to the next piece, or to the end of all.
@@ -158,6 +174,16 @@ fn leaf_at(
     Ok(cells)
 }
 
+// Whose number the leaf has that takes up the range of what goes: its own, where it goes on, or the next one.
+fn taken_id(losing: &Losing, next: NodeId) -> NodeId
+    ensures { result.0 ≡ taken_id (loss_of losing.now) next.0 }
+{
+    match &losing.leaf {
+        Some(leaf) => leaf.id(),
+        None => next,
+    }
+}
+
 // A piece, which points to this leaf where it begins at a key.
 fn pointed(piece: &TwigPiece, key: &Key, id: NodeId) -> TwigPiece
     ensures { result ≡ pointed (rank key.now) id.0 piece.now }
@@ -187,6 +213,33 @@ fn with_leaf(
         .collect(alloc)
 }
 
+// The pieces with the pointer to the leaf that takes up the range of what goes. One to a leaf that goes on stands there.
+fn taken_pieces(
+    alloc: Global,
+    losing: &Losing,
+    pieces: Vec<TwigPiece>,
+    key: &Key,
+    next: NodeId,
+) -> Result<Vec<TwigPiece>, Memory>
+    ensures { IfOk result (λ v. v.items
+        ≡ taken_pieces (loss_of losing.now) (rank key.now) next.0 pieces.items) }
+{
+    if let Some(_) = &losing.leaf {
+        return Ok(pieces);
+    }
+    with_leaf(alloc, pieces.as_slice(), key, next)
+}
+
+// How many numbers that takes: a new leaf one, a leaf that goes on none.
+fn numbers_taken(losing: &Losing, come: &[Arc<Cell>]) -> u64
+    ensures { result ≡ numbers_taken (loss_of losing.now) (map (λ c. arc_value c) come.now) }
+{
+    match &losing.leaf {
+        Some(_) => 0,
+        None => come.len() as u64,
+    }
+}
+
 // The cells that go: the blocks, and the leaf, if there is one.
 fn gone_cells(alloc: Global, losing: &Losing) -> Result<Vec<Arc<Cell>>, Memory>
     ensures { IfOk result (λ v. map (λ c. arc_value c) v.items
@@ -202,7 +255,7 @@ fn gone_cells(alloc: Global, losing: &Losing) -> Result<Vec<Arc<Cell>>, Memory>
 
 /// Packs the standing twigs of a body anew of which blocks go, one after the other: each gets the pieces that it has
 /// after the edits. The range of what goes is taken up by what stands left of it: by an extent that ends there; by the
-/// leaf that is given, which goes on with the next number; or by a new leaf without units, of that number. 64 more
+/// leaf that is given, which goes on and keeps its number; or by a new leaf without units, of the next number. 64 more
 /// numbers are the twig's own, whether it needs them or not. The only error is want of memory; then some may have been
 /// packed, and numbers may have been taken (docs/volume.md, "Bodies in extents").
 pub fn regraft_without(
@@ -269,12 +322,12 @@ fn regraft_one(
     // the end of the numbers is a u64, so no sum up to there overflows
     let _end = fresh.end;
     let taken = taken_from(body, losing);
-    let id = NodeId(fresh.next);
+    let id = taken_id(losing, NodeId(fresh.next));
     let after = pieces_after(alloc, Some(body), edits, &losing.twig, &[])?;
     let new = leaf_at(alloc, losing, &taken, id, after.as_slice())?;
-    let pieces = with_leaf(alloc, after.as_slice(), &taken, id)?;
+    let pieces = taken_pieces(alloc, losing, after, &taken, NodeId(fresh.next))?;
     let old = gone_cells(alloc, losing)?;
-    let next = fresh.next + new.len() as u64;
+    let next = fresh.next + numbers_taken(losing, new.as_slice());
     let mut own = Fresh {
         next,
         end: next + OWN_NUMBERS,

@@ -1,5 +1,5 @@
 -- A twig at its turn: the other twigs keep what may come of them.
-use Rattle.std.proofs.Common.{◌≡◌, inl, inr, ℕ, ◌+◌, ◌^◌, ◌<◌, ◌≤◌, List, ◌∷◌, ap, sym, subst, ◌∙◌, arith}
+use Rattle.std.proofs.Common.{◌≡◌, inl, inr, ℕ, ◌+◌, ◌-◌, ◌^◌, ◌<◌, ◌≤◌, List, ◌∷◌, ap, sym, subst, ◌∙◌, arith}
 use Rattle.std.specs.Prelude.{Contains, None, length}
 use Rattle.std.proofs.lemmas.List.Elements.{Contains-append_cases}
 use Rattle.r4_base.specs.Tree.{Root, Store}
@@ -67,7 +67,7 @@ module _ (t : Store Value) (r : Root) (fresh after : Fresh) (w now : WorkingSet)
 
   -- the set after it is measured, and of a cell that the change does not make as much may come as before
   pub kept : (c2 : Budget) × IsMeasured t r after now c2 × IsQuietBelow c2 × ((k i : ℕ) → (Contains (ids_of made.edit.new) i → ⊥) → c2 k i ≡ b k i)
-      × (most_from c2 (root_of now r) (standing now) ≤ most_from b (root_of w r) (standing w) + length (comes_below x))
+      × (most_from c2 (root_of now r) (standing now) ≤ most_from b (root_of w r) (standing w) + (length (comes_below x) - length x.below.old))
   kept =
       let (c2, budget, less, quiet2, same, few, stays) = left_budget s root part is.seen fresh after is.working.free unplaced high is.working.root_number b is.budget made.twig made.ups qs x made.edit grafts in
       let seen2 = graft_seen s root part is.seen fresh after is.working.free unplaced high is.working.root_number b is.budget made.twig made.ups qs x made.edit grafts in
@@ -76,5 +76,5 @@ module _ (t : Store Value) (r : Root) (fresh after : Fresh) (w now : WorkingSet)
         placed_measured t r fresh w b is now after made.edit made.change made.meets stood made.put made.working c2 budget seen2 height2 less,
         quiet2,
         same,
-        placed_few t r fresh w b is now after made.edit made.change made.meets stood made.put made.working c2 budget seen2 height2 less _ few,
+        placed_few t r fresh w b is now after made.edit made.change made.meets stood made.put made.working c2 budget seen2 height2 less (length (comes_below x) - length x.below.old) (omega (arith, few)),
       )

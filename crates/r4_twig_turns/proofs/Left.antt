@@ -29,6 +29,11 @@ use Rattle.r4_twig_work.proofs.r4_measure.Climb.{in_left, in_right}
 use Rattle.r4_twig_work.proofs.r4_measure.Grafted.{none_below}
 use Rattle.r4_twig_work.proofs.r4_measure.Kept.{IsLift, IsLiftOf, lifted_budget, not_named}
 
+-- each cell counts for one at least
+pub long_sum : (b : Budget) (cells : List CellSeen) → length cells ≤ cells_from b cells
+long_sum b [] = omega arith
+long_sum b (c ∷ cs) = let a = sum_by-cons (λ (z : CellSeen). 1 + b z.level z.id) c cs in let h = long_sum b cs in omega (arith, a, h)
+
 module _ (now : Store Value) (r : Root) (it : IsPart now r) (seen : AreSeen now) (f after : Fresh) (free : IsFree f.next f.end now) (unplaced : 2 ^ 63 ≤ f.next) (high : f.end < 2 ^ 64) (able : IsPointable r.id)
     (b : Budget) (is : IsBudget now r b) (twig : CellSeen) (ups : List CellSeen) (qs : List TwigPiece) (x : Beside) (d : Change) (g : AreGraftsIn now r b twig ups qs x f after d) where
   abbrev s : Step
@@ -134,7 +139,7 @@ module _ (now : Store Value) (r : Root) (it : IsPart now r) (seen : AreSeen now)
       omega (arith, a, z, rest)
 
   pub left_budget : (c2 : Budget) × IsBudget (place (patch_of_change d) now) (root_after (patch_of_change d) r) c2 × ((k i : ℕ) → (IsFresh f i → ⊥) → c2 k i ≤ b k i) × IsQuietBelow c2
-      × ((k i : ℕ) → (Contains (ids_of d.new) i → ⊥) → c2 k i ≡ b k i) × (most_from c2 (root_after (patch_of_change d) r) d.new ≤ most_from b r d.old + length (comes_below x)) × (b r.height r.id ≡ 0 → (root_after (patch_of_change d) r ≡ r) × (c2 r.height r.id ≡ 0))
+      × ((k i : ℕ) → (Contains (ids_of d.new) i → ⊥) → c2 k i ≡ b k i) × (most_from c2 (root_after (patch_of_change d) r) d.new + length x.below.old ≤ most_from b r d.old + length (comes_below x)) × (b r.height r.id ≡ 0 → (root_after (patch_of_change d) r ≡ r) × (c2 r.height r.id ≡ 0))
   left_budget =
       let (c2, budget, same, less, few, stays, low) = lifted_budget now r it seen f free unplaced high able b is 2 s more over lift (patch_of_change d) (comes_below x) of in
       let quiet : IsQuietBelow c2 = λ l i at. ap (λ g2. g2 i) (low l (omega (arith, at))) ∙ g.quiet l i at in
@@ -145,12 +150,13 @@ module _ (now : Store Value) (r : Root) (it : IsPart now r) (seen : AreSeen now)
       let z2 = alone c2 quiet x.blocks (λ c m. g.grafts.low c (Contains-append_right x.below.new x.blocks c m)) in
       let n = length-append x.below.new x.blocks in
       let o = ap (cells_from b) old_are in
-      let o1 = sum_by-append (λ (c : CellSeen). 1 + b c.level c.id) x.below.old (s.old ∷ olds more) in (
+      let o1 = sum_by-append (λ (c : CellSeen). 1 + b c.level c.id) x.below.old (s.old ∷ olds more) in
+      let gone = long_sum b x.below.old in (
         c2,
         budget,
         less,
         quiet,
         (λ k i out. same k i (λ m. out (subst (λ cs. Contains (ids_of cs) i) (sym new_are) (in_left (x.below.new ++ ours) x.blocks i (in_right x.below.new ours i m))))),
-        omega (arith, few, e, e1, e2, z1, z2, n, o, o1),
+        omega (arith, few, e, e1, e2, z1, z2, n, o, o1, gone),
         stays,
       )

@@ -1,5 +1,5 @@
 -- Twigs that are packed anew one after the other: each has its condition at its turn.
-use Rattle.std.proofs.Common.{◌≡◌, ◌≢◌, ◌⊎◌, inl, inr, ℕ, zero, suc, ◌+◌, ◌^◌, ◌<◌, ◌≤◌, List, [], ◌∷◌, ◌++◌, drop, length, map, refl, ap, sym, subst, ◌∙◌, arith}
+use Rattle.std.proofs.Common.{◌≡◌, ◌≢◌, ◌⊎◌, inl, inr, ℕ, zero, suc, ◌+◌, ◌-◌, ◌^◌, ◌<◌, ◌≤◌, List, [], ◌∷◌, ◌++◌, drop, length, map, refl, ap, sym, subst, ◌∙◌, arith}
 use Rattle.std.specs.Prelude.{Contains, Option, None, Some}
 use Rattle.std.proofs.lemmas.List.{length-append}
 use Rattle.std.proofs.lemmas.List.Sums.{sum_by-cons}
@@ -15,7 +15,7 @@ use Rattle.r4_cell.specs.Patch.{by_name, over, place}
 use Rattle.r4_cell.specs.Seen.{CellSeen, node_of}
 use Rattle.r4_cell.specs.declared.change.Fresh.{Fresh}
 use Rattle.r4_cell.specs.declared.change.Root.{Root as RootPair}
-use Rattle.r4_twig_work.specs.r4_measure.Budget.{Budget, cells_from, most_from}
+use Rattle.r4_twig_work.specs.r4_measure.Budget.{Budget, most_from}
 use Rattle.r4_twig_work.specs.r4_measure.Grafting.{Beside, IsQuietBelow, comes_below}
 use Rattle.r4_twig_work.specs.r4_measure.Measured.{IsMeasured}
 use Rattle.r4_twig_work.proofs.r4_measure.Loop.{from_new, of_id}
@@ -41,6 +41,7 @@ use Rattle.r4_work.proofs.InPlace.{now_part, now_working, standing_is}
 use Rattle.r4_work.proofs.Paths.{ascends_from, found_is, lowest_from}
 use Rattle.r4_twig_turns.specs.Turning.{AreReady, CanRegraftAll, IsReady, IsTurnOf, IsTurned, IsTwigAt, TurnAtMost, TwigTurn, behind, come_at_most, numbers_for, own_of}
 use Rattle.r4_twig_turns.proofs.KeptTurn.{kept, stood}
+use Rattle.r4_twig_turns.proofs.Left.{long_sum}
 
 first_long : (o : Option CellSeen) (rest : List CellSeen) → length (first_and o rest) ≤ 1 + length rest
 first_long None rest = omega arith
@@ -102,10 +103,10 @@ module _ (t : Store Value) (r : Root) (f : Fresh) (w : WorkingSet) (b : Budget) 
   part : IsPart s root
   part = now_part t r f w is.working
 
-  abbrev qs : List TwigPiece
+  abbrev pub qs : List TwigPiece
   qs = e.pieces f.next
 
-  abbrev x : Beside
+  abbrev pub x : Beside
   x = e.beside f.next
 
   turn : IsTurnOf ready.node e f.next
@@ -275,7 +276,7 @@ module _ (t : Store Value) (r : Root) (f : Fresh) (w : WorkingSet) (b : Budget) 
   -- ---- what it leaves
 
   module _ (after : Fresh) (v : WorkingSet) (made : IsTurned t r e f after w v) where
-    at_twig : (made.twig.id ≡ i) × (node_of made.twig ≡ ready.node)
+    pub at_twig : (made.twig.id ≡ i) × (node_of made.twig ≡ ready.node)
     at_twig = let at = lowest_from 6 (standing w) 2 e.key made.twig made.ups made.path in the_twig made.twig (standing_is t r f w is.working made.twig at.among) at.level_is at.range
 
     fits : extra_twigs qs ≤ b 2 made.twig.id
@@ -287,14 +288,14 @@ module _ (t : Store Value) (r : Root) (f : Fresh) (w : WorkingSet) (b : Budget) 
     abbrev upper : List CellSeen
     upper = olds made.grafts.grafts.more
 
-    abbrev ours : List CellSeen
+    abbrev pub ours : List CellSeen
     ours = made.grafts.grafts.lowest.new ++ news made.grafts.grafts.more made.grafts.grafts.over
 
     old_are : made.edit.old ≡ x.below.old ++ (made.twig ∷ upper)
     old_are = ap (λ c. c.old) made.grafts.is ∙ (made.grafts.below_is.old_is
         ∙ ap (λ cells. x.below.old ++ cells) (made.grafts.grafts.levels.old ∙ ap (λ (c : CellSeen). c ∷ upper) made.grafts.grafts.level.row.old))
 
-    new_are : made.edit.new ≡ (x.below.new ++ ours) ++ x.blocks
+    pub new_are : made.edit.new ≡ (x.below.new ++ ours) ++ x.blocks
     new_are = ap (λ c. c.new) made.grafts.is
         ∙ ap (λ cells. cells ++ x.blocks) (made.grafts.below_is.new_is ∙ ap (λ cells. x.below.new ++ cells) made.grafts.grafts.levels.new)
 
@@ -310,10 +311,10 @@ module _ (t : Store Value) (r : Root) (f : Fresh) (w : WorkingSet) (b : Budget) 
         subst (λ cells. Ascends s (Some made.twig) cells) (sym made.grafts.grafts.ups_are) (ascends_take s (Some made.twig) (length made.grafts.grafts.more) made.ups path.3)
 
     -- a cell that goes is one below the twig, the twig, or one above it
-    abbrev IsOldAt : CellSeen → Type 0
+    abbrev pub IsOldAt : CellSeen → Type 0
     IsOldAt c = Contains x.below.old c ⊎ ((c ≡ made.twig) ⊎ (2 < c.level))
 
-    old_at : (c : CellSeen) → Contains made.edit.old c → (s c.id ≡ Some (node_of c)) × IsOldAt c
+    pub old_at : (c : CellSeen) → Contains made.edit.old c → (s c.id ≡ Some (node_of c)) × IsOldAt c
     old_at c m = elim (Contains-append_cases x.below.old (made.twig ∷ upper) c (subst (λ cs. Contains cs c) old_are m)) [
       | inl goes ↦ (standing_is t r f w is.working c (ready.goes f.next c goes), inl goes)
       | inr more ↦ elim (cases made.twig c upper more) [
@@ -361,7 +362,7 @@ module _ (t : Store Value) (r : Root) (f : Fresh) (w : WorkingSet) (b : Budget) 
         let takes = made.grafts.takes in
         (omega (arith, c, took), omega (arith, c, n, takes))
 
-    IsOldOrOwn : ℕ → Type 0
+    abbrev pub IsOldOrOwn : ℕ → Type 0
     IsOldOrOwn j = Contains (ids_of made.edit.old) j ⊎ ((f.next ≤ j) × (j < f.next + (e.blocks + (e.leaves + 64))))
 
     old_id : (j : ℕ) → Contains (ids_of (x.below.old ++ (made.twig ∷ upper))) j → Contains (ids_of made.edit.old) j
@@ -373,8 +374,7 @@ module _ (t : Store Value) (r : Root) (f : Fresh) (w : WorkingSet) (b : Budget) 
     in_left : (xs ys : List CellSeen) (j : ℕ) → Contains (ids_of xs) j → Contains (ids_of (xs ++ ys)) j
     in_left xs ys j m = subst (λ is. Contains is j) (sym (ids_append xs ys)) (Contains-append_left (ids_of xs) (ids_of ys) j m)
 
-    new_id : (j : ℕ) → Contains (ids_of made.edit.new) j → IsOldOrOwn j
-    unfolding IsOldOrOwn
+    pub new_id : (j : ℕ) → Contains (ids_of made.edit.new) j → IsOldOrOwn j
     new_id j m = elim (split_ids (x.below.new ++ ours) x.blocks j (subst (λ cs. Contains (ids_of cs) j) new_are m)) [
       | inr block ↦
           let (c, at, same) = of_id x.blocks j block in
@@ -403,7 +403,6 @@ module _ (t : Store Value) (r : Root) (f : Fresh) (w : WorkingSet) (b : Budget) 
     -- ---- the set with all numbers that are left
 
     pub next_working : IsWorking t r (behind e f) v
-    unfolding IsOldOrOwn
     next_working = now_working t r w v f (behind e f) made.edit is.working (record {
       change = made.change;
       meets = made.meets;
@@ -422,13 +421,13 @@ module _ (t : Store Value) (r : Root) (f : Fresh) (w : WorkingSet) (b : Budget) 
         root_named : (pair : RootPair) → root_pair made.grafts.grafts.over ≡ Some pair → IsPointable pair.id.0
         root_named pair same = let (d, is_over, id) = by_over made.grafts.grafts.over pair same in subst IsPointable id (made.grafts.grafts.root_able d is_over)
 
-    next_measure : (c2 : Budget) × IsMeasured t r (behind e f) v c2 × IsQuietBelow c2 × ((k j : ℕ) → (Contains (ids_of made.edit.new) j → ⊥) → c2 k j ≡ b k j)
-        × (most_from c2 (root_of v r) (standing v) ≤ most_from b (root_of w r) (standing w) + length (comes_below x))
+    pub next_measure : (c2 : Budget) × IsMeasured t r (behind e f) v c2 × IsQuietBelow c2 × ((k j : ℕ) → (Contains (ids_of made.edit.new) j → ⊥) → c2 k j ≡ b k j)
+        × (most_from c2 (root_of v r) (standing v) ≤ most_from b (root_of w r) (standing w) + (length (comes_below x) - length x.below.old))
     next_measure =
         let (c2, m, quiet2, same, few) = kept t r (own_of e f) after w v b own_measured quiet e.key qs x made fits (omega (arith, unplaced)) (omega (arith, numbers, high)) in
         (c2, record { working = next_working; seen = m.seen; budget = m.budget; height = m.height; kept = m.kept }, quiet2, same, few)
 
-    few_come : length (comes_below x) ≤ e.blocks + (length x.below.new)
+    pub few_come : length (comes_below x) ≤ e.blocks + (length x.below.new)
     few_come =
         let a = length-append x.below.new x.blocks in
         let n = long_cells x.blocks in
@@ -440,10 +439,13 @@ module _ (t : Store Value) (r : Root) (f : Fresh) (w : WorkingSet) (b : Budget) 
         long_cells [] = refl
         long_cells (c ∷ cs) = let h = long_cells cs in omega (arith, h)
 
+    -- the cells that go stand
+    pub olds_stand : (z : CellSeen) → Contains made.edit.old z → Contains (standing w) z
+    olds_stand = stood t r (own_of e f) after w v b own_measured quiet e.key qs x made fits (omega (arith, unplaced)) (omega (arith, numbers, high))
+
     -- ---- another twig
 
-    still_ready : (c2 : Budget) → ((k j : ℕ) → (Contains (ids_of made.edit.new) j → ⊥) → c2 k j ≡ b k j) → (e2 : TwigTurn) (j : ℕ) → j ≢ i → IsReady t w b e2 j → IsReady t v c2 e2 j
-    unfolding IsOldOrOwn
+    pub still_ready : (c2 : Budget) → ((k j : ℕ) → (Contains (ids_of made.edit.new) j → ⊥) → c2 k j ≡ b k j) → (e2 : TwigTurn) (j : ℕ) → j ≢ i → IsReady t w b e2 j → IsReady t v c2 e2 j
     still_ready c2 same e2 j ne ready2 =
         let out : (d : CellSeen) → Contains made.edit.old d → d.id ≢ j = not_old j ready2.node ready2.at (let l = ready2.level in omega (arith, l)) ne (no_twig j ready2.node ready2.at ready2.level) in
         let old_none : by_name made.edit.old j ≡ None = absent made.edit.old j out in
@@ -453,14 +455,13 @@ module _ (t : Store Value) (r : Root) (f : Fresh) (w : WorkingSet) (b : Budget) 
         ] in
         let new_none : by_name made.edit.new j ≡ None = absent made.edit.new j (λ z m id. new_out (subst (λ n. Contains (ids_of made.edit.new) n) id (id_member made.edit.new z m))) in
         let was : place (patch_of_change made.edit) s j ≡ Some ready2.node = ap (λ o. over o (by_name made.edit.old j) (s j)) new_none ∙ (ap (λ o. over None o (s j)) old_none ∙ ready2.at) in
-        let stays : (z : CellSeen) → Contains made.edit.old z → Contains (standing w) z = stood t r (own_of e f) after w v b own_measured quiet e.key qs x made fits (omega (arith, unplaced)) (omega (arith, numbers, high)) in
-        let same_cells = cells_are t r f w b is v (behind e f) made.edit made.change made.meets stays made.put next_working in
+        let same_cells = cells_are t r f w b is v (behind e f) made.edit made.change made.meets olds_stand made.put next_working in
         let (q, mq, id) = ready2.stands in
         record {
           node = ready2.node;
           node_is = ready2.node_is;
           at = ap (λ (u : Store Value). u j) same_cells ∙ was;
-          stands = (q, still_in t r f w b is v (behind e f) made.edit made.change made.meets stays made.put next_working j q id old_none mq, id);
+          stands = (q, still_in t r f w b is v (behind e f) made.edit made.change made.meets olds_stand made.put next_working j q id old_none mq, id);
           level = ready2.level;
           key = ready2.key;
           turn = ready2.turn;
@@ -469,7 +470,7 @@ module _ (t : Store Value) (r : Root) (f : Fresh) (w : WorkingSet) (b : Budget) 
               let low = level_above ready2.node (name_of z) (part.nodes j ready2.node ready2.at) (ready2.named n z m) in
               let l = level_is z in
               let k = ready2.level in
-              still_in t r f w b is v (behind e f) made.edit made.change made.meets stays made.put next_working z.id z refl
+              still_in t r f w b is v (behind e f) made.edit made.change made.meets olds_stand made.put next_working z.id z refl
               (absent made.edit.old z.id (not_old z.id (node_of z) zs (omega (arith, low, l, k)) (not_the_twig z zs (omega (arith, low, l, k)))
               (λ m2 named2 id2. ne (sym (named_once s root part i j z.id ready.node ready2.node (node_of z) m2 (name_of z) ready.at ready2.at named2 (ready2.named n z m) zs id2 refl).0)))) (ready2.goes n z m);
           named = ready2.named;
@@ -485,7 +486,7 @@ module _ (t : Store Value) (r : Root) (f : Fresh) (w : WorkingSet) (b : Budget) 
 
 -- ---- all of them
 
-still_all : (t : Store Value) (w v : WorkingSet) (b c2 : Budget) (i : ℕ) → ((e2 : TwigTurn) (j : ℕ) → j ≢ i → IsReady t w b e2 j → IsReady t v c2 e2 j) → (es : List TwigTurn) (is : List ℕ) → ((j : ℕ) → Contains is j → j ≢ i) → AreReady t w b es is → AreReady t v c2 es is
+pub still_all : (t : Store Value) (w v : WorkingSet) (b c2 : Budget) (i : ℕ) → ((e2 : TwigTurn) (j : ℕ) → j ≢ i → IsReady t w b e2 j → IsReady t v c2 e2 j) → (es : List TwigTurn) (is : List ℕ) → ((j : ℕ) → Contains is j → j ≢ i) → AreReady t w b es is → AreReady t v c2 es is
 still_all t w v b c2 i still [] [] ne h = tt
 still_all t w v b c2 i still [] (j ∷ js) ne h = absurd h
 still_all t w v b c2 i still (e ∷ es) [] ne h = absurd h
@@ -507,10 +508,6 @@ all_turns t r (e ∷ es) (i ∷ is) f w b measured quiet (ready, apart2, rest) u
     )
 
 -- ---- how many cells stand then
-
-long_sum : (b : Budget) (cells : List CellSeen) → length cells ≤ cells_from b cells
-long_sum b [] = omega arith
-long_sum b (c ∷ cs) = let a = sum_by-cons (λ (z : CellSeen). 1 + b z.level z.id) c cs in let h = long_sum b cs in omega (arith, a, h)
 
 pub few_stand : (most : ℕ) (t : Store Value) (r : Root) (es : List TwigTurn) (is : List ℕ) (f : Fresh) (w : WorkingSet) (b : Budget) → IsMeasured t r f w b → IsQuietBelow b → AreReady t w b es is → 2 ^ 63 ≤ f.next → f.end < 2 ^ 64 → f.next + numbers_for es ≤ f.end
     → most_from b (root_of w r) (standing w) + come_at_most es ≤ most → TurnAtMost most t r es f w

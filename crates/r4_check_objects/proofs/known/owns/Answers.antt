@@ -1,4 +1,4 @@
-use Rattle.std.proofs.Common.{◌∙◌, ap, sym}
+use Rattle.std.proofs.Common.{◌∙◌, ap}
 use Rattle.std.specs.Option.{option_map_or}
 use Rattle.std.specs.Prelude.{Option, false}
 use Rattle.r4_check_objects.specs.Objects.{is_object_at}
@@ -6,7 +6,4 @@ use Rattle.r4_check_objects.specs.declared.held.Held.{Held}
 use Rattle.r4_check_objects.proofs.known.owns.Goals as goal
 
 pub returns-in-Some : goal.returns-in-Some
-returns-in-Some c found heads = c.is_object_at.ensures ∙ ap (λ (o : Option Held). option_map_or (is_object_at c.args.object.now) o false) (sym c.in-Some.is ∙ c.owner_of.ensures found heads)
-
-pub returns-in-None : goal.returns-in-None
-returns-in-None c found heads = ap (λ (o : Option Held). option_map_or (is_object_at c.args.object.now) o false) (sym c.in-None.is ∙ c.owner_of.ensures found heads)
+returns-in-Some c found heads = c.is_object_at.ensures ∙ ap (λ (o : Option Held). option_map_or (is_object_at c.args.object.now) o false) (c.in-Some.ensures found heads)

@@ -10,4 +10,4 @@ returns c =
     let under = faults_under c.args.super40.now c.args.leaf c.args.found.now in
     let last = count_faults c.args.super40.now c.args.found.now in
     c.in_ok-add_count.ensures ∙ ap (λ (l : List Fault). l ++ last)
-    (c.in_ok-add_under.ensures ∙ ap (λ (l : List Fault). l ++ flat_map under c.in_ok-ids_of.field-0.keys) c.new-faults.ensures.items ∙ ap (flat_map under) c.in_ok-ids_of.ensures)
+    (c.in_ok-add_under.ensures ∙ ap (λ (l : List Fault). l ++ flat_map under c.in_ok-firsts.firsts.ids.keys) c.new-faults.ensures.items ∙ ap (flat_map under) c.in_ok-firsts.ensures.ids)

@@ -1,0 +1,17 @@
+pub mod Bodies
+pub mod Comes
+pub mod SetOver
+pub mod Room
+pub mod Keeps
+pub mod TurnOf
+pub mod SetsBytes
+pub mod ReadyTurn
+pub mod SetTurned
+pub mod Gathered
+pub mod OverBlocks
+pub mod ToldRuns
+pub mod GivenLeaves
+pub mod MadeTurn
+pub mod OneTurn
+pub mod LeftSet
+pub mod AskedRoom

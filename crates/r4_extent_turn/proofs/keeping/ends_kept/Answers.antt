@@ -1,0 +1,56 @@
+use Rattle.std.proofs.Common.{ℕ, ◌<◌, ◌≤◌, ◌≡◌, ◌+◌, sym, ap, subst, ◌∙◌, arith, length}
+use Rattle.std.specs.Prelude.{Contains}
+use Rattle.std.specs.Arc.{arc_value}
+use Rattle.std.specs.Option.{option_map}
+use Rattle.r4_base.specs.Key.{rank}
+use Rattle.r4_base.specs.Value.{Value}
+use Rattle.r4_cell.specs.Seen.{CellSeen, node_of}
+use Rattle.r4_cell.specs.declared.change.Fresh.{Fresh}
+use Rattle.r4_edit.specs.Extents.{given_cells}
+use Rattle.r4_edit.specs.LeafParts.{HasRight}
+use Rattle.r4_extent_edit.specs.Turning.{last_leaf}
+use Rattle.r4_extent_edit.proofs.TurnEnds.{ends_at, first_is, last_is}
+use Rattle.r4_extent_turn.specs.Keeping.{HasLeftUnder}
+use Rattle.r4_extent_turn.proofs.keeping.ends_kept.Goals as goal
+
+pub right_of-requires-clause-level : goal.right_of-requires-clause-level
+right_of-requires-clause-level c =
+    let (leaf, around) = ends_at arc_value c.args.leaves.now c.index-leaves-leaves.result (rank c.args.from.now)
+    (rank c.args.to.now) c.index-leaves-leaves.is c.requires.ends in
+    subst (λ (x : CellSeen). x.level ≡ 1) (sym c.deref-2.ensures) around.last_level
+
+pub right_of-requires-clause-from : goal.right_of-requires-clause-from
+right_of-requires-clause-from c =
+    let (leaf, around) = ends_at arc_value c.args.leaves.now c.index-leaves-leaves.result (rank c.args.from.now)
+    (rank c.args.to.now) c.index-leaves-leaves.is c.requires.ends in
+    subst (λ (x : CellSeen). rank x.lo < rank c.args.to.now) (sym c.deref-2.ensures) around.ends
+
+pub right_of-requires-clause-to : goal.right_of-requires-clause-to
+right_of-requires-clause-to c =
+    let (leaf, around) = ends_at arc_value c.args.leaves.now c.index-leaves-leaves.result (rank c.args.from.now)
+    (rank c.args.to.now) c.index-leaves-leaves.is c.requires.ends in
+    subst (λ (x : CellSeen). rank c.args.to.now ≤ rank x.hi) (sym c.deref-2.ensures) around.high
+
+pub right_of-requires-clause-units : goal.right_of-requires-clause-units
+right_of-requires-clause-units c =
+    let (leaf, around) = ends_at arc_value c.args.leaves.now c.index-leaves-leaves.result (rank c.args.from.now)
+    (rank c.args.to.now) c.index-leaves-leaves.is c.requires.ends in
+    subst (λ (x : CellSeen). (k : ℕ) (v : Value) → Contains (node_of x).units (k, v)
+    → k < rank x.hi) (sym c.deref-2.ensures) around.units
+
+pub returns : goal.returns
+returns c leaf more same =
+    let next = ap (λ (f : Fresh). f.next) c.in_ok-left.ensures.fresh in
+    record {
+      left_is = subst (λ (x : CellSeen). HasLeftUnder x c.args.from.now c.args.fresh.now.next (option_map arc_value c.in_ok-left.left))
+          (c.deref.ensures ∙ first_is arc_value c.args.leaves.now c.index-leaves-0.result leaf more c.index-leaves-0.is same) c.in_ok-left.ensures.left;
+      right_is = subst (λ (i : ℕ). HasRight (last_leaf leaf more) c.args.to.now i (option_map arc_value c.in_ok-right.right)) next
+          (subst (λ (x : CellSeen). HasRight x c.args.to.now c.left_of.new.fresh.next (option_map arc_value c.in_ok-right.right))
+          (c.deref-2.ensures ∙ last_is arc_value c.args.leaves.now c.index-leaves-leaves.result leaf more c.index-leaves-leaves.is same) c.in_ok-right.ensures.right);
+      number =
+          let l = length (given_cells (option_map arc_value c.in_ok-left.left)) in
+          let r = length (given_cells (option_map arc_value c.in_ok-right.right)) in
+          c.in_ok-right.ensures.fresh
+          ∙ (ap (λ (f : Fresh). let g : Fresh = record f { next = f.next + r } in g) c.in_ok-left.ensures.fresh
+          ∙ ap (λ (k : ℕ). let g : Fresh = record c.args.fresh.now { next = k } in g) (let same : c.args.fresh.now.next + l + r ≡ c.args.fresh.now.next + (l + r) = omega arith in same));
+    }

@@ -1,0 +1,13 @@
+use Rattle.std.proofs.Common.{◌≡◌, ap, sym, ◌∙◌, arith}
+use Rattle.std.proofs.lemmas.Bool.{eqb-true}
+use Rattle.r4_base.specs.Key.{rank}
+use Rattle.r4_cell.specs.Seen.{node_of}
+use Rattle.r4_extent_edit.proofs.TurnEnds.{none_behind}
+use Rattle.r4_extent_turn.proofs.keeping.right_of.Goals as goal
+
+pub returns-then-is_same-clause-right : goal.returns-then-is_same-clause-right
+returns-then-is_same-clause-right c =
+    let same : rank c.args.key.now ≡ rank c.args.leaf.now.hi = eqb-true _ _ (sym c.is_same.ensures.ranks
+    ∙ c.if-is_same.true) ∙ ap rank c.hi.ensures in
+    none_behind (rank c.args.key.now) (node_of c.args.leaf.now).units (λ j v at. let lt = c.requires.units j v at in
+    omega (arith, lt, same))
