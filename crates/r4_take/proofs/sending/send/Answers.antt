@@ -45,7 +45,7 @@ fuse_all-requires-after_bounds g c κs within =
     let same = c.own_of-own.ensures ∙ ap (λ a. own_in a c.open.result) c.atoms-2.ensures in
     let owners = subst AreOwners c.atoms.ensures c.lawful-2.ensures.owners in
     let is = subst (λ a. IsGathered a core.tree own c.args.draws c.args.ready gathered) c.atoms-3.ensures
-    (subst (λ z. IsGathered c.atoms-3.result.now z own c.args.draws c.args.ready gathered) c.tree.ensures c.in_ok-given.ensures) in
+    (subst (λ z. IsGathered c.atoms-3.result.now z own c.args.draws c.args.ready gathered) c.tree-tree.ensures c.in_ok-given.ensures) in
     let room = c.in_ok-new.ensures.roomier in
     let txn = has_txn _ _ core m b c.lawful-3.ensures.kept room s may.servable.stands.is_script own c.open.result at same
     c.begin_if.ensures in
@@ -69,7 +69,7 @@ hand_out-id-requires-after_bounds g c κs within =
     let same = c.own_of-own.ensures ∙ ap (λ a. own_in a c.open.result) c.atoms-2.ensures in
     let owners = subst AreOwners c.atoms.ensures c.lawful-2.ensures.owners in
     let is = subst (λ a. IsGathered a core.tree own c.args.draws c.args.ready gathered) c.atoms-3.ensures
-    (subst (λ z. IsGathered c.atoms-3.result.now z own c.args.draws c.args.ready gathered) c.tree.ensures c.in_ok-given.ensures) in
+    (subst (λ z. IsGathered c.atoms-3.result.now z own c.args.draws c.args.ready gathered) c.tree-tree.ensures c.in_ok-given.ensures) in
     let room = c.in_ok-new.ensures.roomier in
     let has = c.in_ok-new.ensures.room in
     let txn = has_txn _ _ core m b c.lawful-3.ensures.kept room s may.servable.stands.is_script own c.open.result at same
@@ -98,7 +98,7 @@ returns-clause-ok g c =
     let at = c.open.ensures ∙ ap (λ t. (turn_at t s).transaction) c.turns.ensures in
     let same = c.own_of-own.ensures ∙ ap (λ a. own_in a c.open.result) c.atoms-2.ensures in
     let is = subst (λ a. IsGathered a core.tree own c.args.draws c.args.ready gathered) c.atoms-3.ensures
-    (subst (λ z. IsGathered c.atoms-3.result.now z own c.args.draws c.args.ready gathered) c.tree.ensures c.in_ok-given.ensures) in
+    (subst (λ z. IsGathered c.atoms-3.result.now z own c.args.draws c.args.ready gathered) c.tree-tree.ensures c.in_ok-given.ensures) in
     let fuses = rw c.as_slice.ensures.value at c.fuse_all.ensures.fused in
     let may = c.requires.may in
     let owners = subst AreOwners c.atoms.ensures c.lawful-2.ensures.owners in
