@@ -7,14 +7,14 @@ use Rattle.r4_base.specs.Tree.{Span}
 use Rattle.r4_cell.specs.Seen.{CellSeen, node_of}
 use Rattle.r4_content.specs.Edited.{Edits, Intervals}
 use Rattle.r4_leaf_demands.specs.Touching.{MeetsKind}
-use Rattle.r4_extent_demands.proofs.Meets.{HasOf, keys_meet, met_keys}
-use Rattle.r4_marking.proofs.Asked.{node_level}
+use Rattle.r4_twig_asks.proofs.r4_extent_demands.Meets.{HasOf, keys_meet, met_keys}
+use Rattle.r4_twig_asks.proofs.r4_marking.Asked.{node_level}
 use Rattle.r4_patch.proofs.Members.{none}
 use Rattle.r4_path.proofs.Rising.{hi_is, lo_is}
-use Rattle.r4_reach.specs.Demand.{Spans}
-use Rattle.r4_reach.specs.Needs.{demand_of, is_met}
-use Rattle.r4_reach.specs.Reach.{IsReadAt, IsWrittenAt}
-use Rattle.r4_reach.specs.Touched.{Body}
+use Rattle.r4_twig_asks.specs.r4_reach.Demand.{Spans}
+use Rattle.r4_twig_asks.specs.r4_reach.Needs.{demand_of, is_met}
+use Rattle.r4_twig_asks.specs.r4_reach.Reach.{IsReadAt, IsWrittenAt}
+use Rattle.r4_twig_asks.specs.r4_reach.Touched.{Body}
 
 -- a test that is told by the keys of a range
 pub met_iff : (t : Bool) (rs : Intervals) (lo hi : ℕ) → t ≡ is_met rs lo hi → (t ≡ true) ↔ HasOf rs lo hi

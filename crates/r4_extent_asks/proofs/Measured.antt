@@ -24,10 +24,10 @@ use Rattle.r4_leaf.proofs.Standing.{stand_lie}
 use Rattle.r4_leaf_edits.specs.Made.{AreOfLeaf, MakesEdits}
 use Rattle.r4_path.proofs.CellNodes.{units_are}
 use Rattle.r4_path.proofs.Rising.{hi_is, lo_is}
-use Rattle.r4_reach.specs.Needs.{leaf_edits, units_after}
-use Rattle.r4_reach.specs.Touched.{Body}
+use Rattle.r4_twig_asks.specs.r4_reach.Needs.{leaf_edits, units_after}
+use Rattle.r4_twig_asks.specs.r4_reach.Touched.{Body}
 use Rattle.r4_leaf_demands.proofs.r4_suited.Cells.{IsFitting, leaf_fits}
-use Rattle.r4_extent_demands.specs.Sizes.{AreExtentEdits}
+use Rattle.r4_twig_asks.specs.r4_extent_demands.Sizes.{AreExtentEdits}
 
 -- ---- units that rise lie in their range
 

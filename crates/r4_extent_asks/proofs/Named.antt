@@ -12,12 +12,12 @@ use Rattle.r4_base.specs.Key.{rank}
 use Rattle.r4_base.specs.Node.{Item, items_of}
 use Rattle.r4_base.specs.Tree.{Name}
 use Rattle.r4_cell.specs.Seen.{CellSeen, node_of}
-use Rattle.r4_marking.specs.Marks.{IsChildAt, NoChildAt, names_at}
+use Rattle.r4_twig_asks.specs.r4_marking.Marks.{IsChildAt, NoChildAt, names_at}
 use Rattle.r4_cell.proofs.ItemRows.{extent_data}
-use Rattle.r4_marking.proofs.Children.{data_nameless, names_next}
+use Rattle.r4_twig_asks.proofs.r4_marking.Children.{data_nameless, names_next}
 use Rattle.r4_patch.proofs.Members.{cases, here, later, none}
-use Rattle.r4_reach.specs.Needs.{going_of, left_leaves}
-use Rattle.r4_reach.specs.Touched.{Body}
+use Rattle.r4_twig_asks.specs.r4_reach.Needs.{going_of, left_leaves}
+use Rattle.r4_twig_asks.specs.r4_reach.Touched.{Body}
 use Rattle.r4_search.proofs.Places.{item_in}
 use Rattle.r4_search.specs.Place.{child_name}
 use Rattle.r4_search.specs.declared.inside.Child.{Child}

@@ -28,10 +28,10 @@ use Rattle.r4_leaf_edits.proofs.Lookups.{contains_in, found, in_is_found, kept_f
 use Rattle.r4_leaf_edits.proofs.Lookups.{here as here_key}
 use Rattle.r4_path.proofs.CellNodes.{units_are}
 use Rattle.r4_path.proofs.Rising.{hi_is, lo_is}
-use Rattle.r4_reach.specs.Needs.{asking, come_of, cut_in_two, is_gone, leaf_asks, leaf_edits, meets, over, units_after}
-use Rattle.r4_reach.specs.Touched.{Body}
-use Rattle.r4_extent_demands.proofs.Puts.{leaves_none, leaves_some}
-use Rattle.r4_extent_demands.proofs.PutsInto.{same_bool, there_any}
+use Rattle.r4_twig_asks.specs.r4_reach.Needs.{asking, come_of, cut_in_two, is_gone, leaf_asks, leaf_edits, meets, over, units_after}
+use Rattle.r4_twig_asks.specs.r4_reach.Touched.{Body}
+use Rattle.r4_twig_asks.proofs.r4_extent_demands.Puts.{leaves_none, leaves_some}
+use Rattle.r4_twig_asks.proofs.r4_extent_demands.PutsInto.{same_bool, there_any}
 use Rattle.r4_extent_asks.specs.Behind.{has_behind}
 
 -- ---- which units a leaf has afterwards

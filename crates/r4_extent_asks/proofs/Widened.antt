@@ -8,8 +8,8 @@ use Rattle.r4_content.specs.Edited.{Intervals, is_between, is_in}
 use Rattle.r4_content.specs.Held.{interval_of}
 use Rattle.r4_content.specs.declared.edits.Interval.{Interval}
 use Rattle.r4_content.proofs.EditLaws.{in_append}
-use Rattle.r4_reach.specs.Reach.{is_body}
-use Rattle.r4_reach.specs.Touched.{Body, coming, is_spread, raw_changes, turns_out, whole_blocks, with_blocks}
+use Rattle.r4_twig_asks.specs.r4_reach.Reach.{is_body}
+use Rattle.r4_twig_asks.specs.r4_reach.Touched.{Body, coming, is_spread, raw_changes, turns_out, whole_blocks, with_blocks}
 use Rattle.r4_extent_asks.specs.Widening.{AddsKeys, widened}
 
 -- ---- what counts as changed

@@ -11,8 +11,8 @@ use Rattle.r4_base.specs.declared.key.Key.{Key}
 use Rattle.r4_cell.specs.Seen.{CellSeen}
 use Rattle.r4_leaf.specs.Units.{LeafUnit}
 use Rattle.r4_leaf.specs.declared.remaking.KeyRange.{KeyRange}
-use Rattle.r4_marking.specs.Marks.{names_at}
-use Rattle.r4_reach.specs.Needs.{cut_in_two, meets}
+use Rattle.r4_twig_asks.specs.r4_marking.Marks.{names_at}
+use Rattle.r4_twig_asks.specs.r4_reach.Needs.{cut_in_two, meets}
 
 -- ---- names
 

@@ -2,7 +2,7 @@
 use Rattle.std.specs.Prelude.{Option}
 use Rattle.r4_content.specs.Edited.{Intervals}
 use Rattle.r4_content.specs.declared.edits.Edits.{Edits as HeldEdits}
-use Rattle.r4_reach.specs.Touched.{Body}
+use Rattle.r4_twig_asks.specs.r4_reach.Touched.{Body}
 
 -- the body that changes, edits, and the keys that are read and changed
 pub record DemandsSeen : Type 0 where

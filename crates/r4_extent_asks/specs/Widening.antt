@@ -4,7 +4,7 @@ use Rattle.r4_base.specs.Key.{top}
 use Rattle.r4_content.specs.Edited.{Intervals, is_in}
 use Rattle.r4_content.specs.Held.{interval_of}
 use Rattle.r4_content.specs.declared.edits.Interval.{Interval}
-use Rattle.r4_reach.specs.Touched.{Body, is_spread, with_blocks}
+use Rattle.r4_twig_asks.specs.r4_reach.Touched.{Body, is_spread, with_blocks}
 
 -- an interval that is changed, with all that counts as changed by it
 abbrev pub widened : Option Body → ℕ × ℕ → ℕ × ℕ

@@ -5,15 +5,15 @@ ghost use Rattle.std.specs.Option.{option_copied};
 ghost use Rattle.r4_base.specs.Key.{top};
 ghost use Rattle.r4_content.specs.Edited.{changed, is_in};
 ghost use Rattle.r4_content.specs.Held.{edits_of, interval_of};
-ghost use Rattle.r4_reach.specs.Touched.{raw_changes, with_blocks};
-ghost use Rattle.r4_extent_demands.specs.Sizes.{AreExtentEdits, IsSizedBody};
+ghost use Rattle.r4_twig_asks.specs.r4_reach.Touched.{raw_changes, with_blocks};
+ghost use Rattle.r4_twig_asks.specs.r4_extent_demands.Sizes.{AreExtentEdits, IsSizedBody};
 ghost use Rattle.r4_extent_asks.specs.Widening.{AddsKeys};
 
 use crate::blocks::{block_end, block_start};
 use crate::intervals::intervals_of;
 use r4_base::Memory;
 use r4_content::{Edits, Interval};
-use r4_extent_demands::{SizedBody, is_of_body};
+use r4_twig_asks::{SizedBody, is_of_body};
 use std::alloc::Global;
 
 /// The keys of a tree that count as changed by a command's edits of this body, if one: the keys of the edits, where the

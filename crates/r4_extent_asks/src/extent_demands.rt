@@ -4,9 +4,9 @@ ghost use Rattle.std.specs.Prelude.{◌≡◌, ◌≤◌, ◌==◌, ◌||◌, le
 ghost use Rattle.std.specs.Option.{option_copied};
 ghost use Rattle.r4_cell.specs.Seen.{node_of};
 ghost use Rattle.r4_content.specs.Held.{edits_of, interval_of};
-ghost use Rattle.r4_marking.specs.Marks.{heard_seen};
-ghost use Rattle.r4_reach.specs.Needs.{is_touched};
-ghost use Rattle.r4_extent_demands.specs.Sizes.{AreExtentEdits};
+ghost use Rattle.r4_twig_asks.specs.r4_marking.Marks.{heard_seen};
+ghost use Rattle.r4_twig_asks.specs.r4_reach.Needs.{is_touched};
+ghost use Rattle.r4_twig_asks.specs.r4_extent_demands.Sizes.{AreExtentEdits};
 
 use crate::leaves::leaf_asks;
 use crate::left::left_leaves;
@@ -14,11 +14,11 @@ use crate::nodes::node_asks;
 use r4_base::{LEAF, Memory, TWIG};
 use r4_cell::Cell;
 use r4_content::{Edits, Interval};
-use r4_extent_demands::{SizedBody, Way, changes_pieces, extents_have};
 use r4_leaf_demands::low_range;
 use r4_leaf_edits::meets_intervals;
-use r4_marking::{Asking, Demands, Heard};
-use r4_twig_asks::twig_asks;
+use r4_twig_asks::{
+    Asking, Demands, Heard, SizedBody, Way, changes_pieces, extents_have, twig_asks,
+};
 use std::alloc::Global;
 use std::marker::Model;
 
@@ -38,7 +38,7 @@ impl<'a> Model for ExtentDemands<'a> {
     ghost use Rattle.std.specs.Option.{option_copied};
     ghost use Rattle.std.specs.Prelude.{map};
     ghost use Rattle.r4_content.specs.Held.{edits_of, interval_of};
-    ghost use Rattle.r4_extent_demands.specs.Sizes.{AreExtentEdits};
+    ghost use Rattle.r4_twig_asks.specs.r4_extent_demands.Sizes.{AreExtentEdits};
     ghost use Rattle.r4_extent_asks.specs.Demands.{DemandsSeen};
 
     ghost Value = { DemandsSeen };
@@ -102,7 +102,7 @@ fn is_asked(changes: &[Interval], cell: &Cell, heard: &[Heard]) -> bool
 
 impl<'a> Demands for ExtentDemands<'a> {
     ghost use Rattle.r4_content.specs.Held.{edits_of};
-    ghost use Rattle.r4_reach.specs.Needs.{demand_of};
+    ghost use Rattle.r4_twig_asks.specs.r4_reach.Needs.{demand_of};
 
     ghost demand = { λ d. demand_of d.body (edits_of d.edits) d.reads d.changes };
 

@@ -7,7 +7,7 @@ ghost use Rattle.r4_content.specs.Edited.{changed, is_in, put_keys};
 ghost use Rattle.r4_content.specs.Held.{edits_of, fill_pairs, interval_of, pair_of, run_pairs};
 ghost use Rattle.r4_content.specs.Objects.{byte_pairs};
 ghost use Rattle.r4_leaf_edits.specs.Suiting.{IsBefore, SuitLeaves};
-ghost use Rattle.r4_reach.specs.Touched.{Body};
+ghost use Rattle.r4_twig_asks.specs.r4_reach.Touched.{Body};
 ghost use Rattle.r4_extent_asks.specs.Widening.{AddsChanges, widened};
 
 use crate::blocks::next_key;

@@ -6,15 +6,14 @@ ghost use Rattle.r4_base.specs.Key.{rank};
 ghost use Rattle.r4_base.specs.Node.{items_of};
 ghost use Rattle.r4_cell.specs.Seen.{node_of};
 ghost use Rattle.r4_node40.specs.View.{view_items};
-ghost use Rattle.r4_reach.specs.Needs.{going_of, left_leaves};
-ghost use Rattle.r4_extent_demands.specs.Sizes.{IsSized};
+ghost use Rattle.r4_twig_asks.specs.r4_reach.Needs.{going_of, left_leaves};
+ghost use Rattle.r4_twig_asks.specs.r4_extent_demands.Sizes.{IsSized};
 ghost use Rattle.r4_extent_asks.specs.Behind.{AddsLeft, IsFirstGone, leaves_left};
 
 use r4_base::{Key, LEAF, Memory};
 use r4_cell::Cell;
-use r4_extent_demands::SizedBody;
-use r4_marking::child_at;
 use r4_node40::NodeView;
+use r4_twig_asks::{SizedBody, child_at};
 use std::alloc::Global;
 
 /// The numbers of the leaves that a twig names and whose range ends where blocks of the body go: they take these up.

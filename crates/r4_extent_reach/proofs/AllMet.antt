@@ -13,7 +13,7 @@ use Rattle.r4_content.specs.Held.{interval_of}
 use Rattle.r4_content.specs.declared.edits.Interval.{Interval}
 use Rattle.r4_extent_reaching.specs.r4_extent_touching.Holding.{AreHeld}
 use Rattle.r4_extent_reaching.proofs.r4_extent_touching.Held.{all_still}
-use Rattle.r4_reach.specs.Touched.{Body, kind_reads}
+use Rattle.r4_touching.specs.r4_reach.Touched.{Body, kind_reads}
 use Rattle.r4_extent_reaching.specs.r4_reaching.Gathering.{IsOneMet}
 use Rattle.r4_search.specs.Pool.{Goes, PoolState}
 use Rattle.r4_search.specs.declared.pool.FetchFault.{FetchFault}

@@ -7,14 +7,14 @@ use Rattle.r4_content.specs.Held.{pairs_of}
 use Rattle.r4_content.specs.declared.command.Command.{Command}
 use Rattle.r4_content.specs.declared.edits.Edits.{Edits as HeldEdits}
 use Rattle.r4_content.specs.declared.seen.Seen.{Seen}
-use Rattle.r4_gather.specs.Asking.{StaysOver}
+use Rattle.r4_touching.specs.r4_gather.Asking.{StaysOver}
 use Rattle.r4_outside.specs.Device.{State}
-use Rattle.r4_reach.specs.Touched.{Body}
+use Rattle.r4_touching.specs.r4_reach.Touched.{Body}
 use Rattle.r4_extent_reaching.specs.r4_reaching.Answers.{IsAllSeen}
 use Rattle.r4_extent_reaching.proofs.r4_reaching.Standing.{found_on}
 use Rattle.r4_search.specs.Pool.{LeavesDevice, PoolState}
 use Rattle.r4_search.proofs.Walks.{goes_both, goes_same, leaves_both, leaves_same}
-use Rattle.r4_seeing.proofs.Staying.{goes_stay}
+use Rattle.r4_touching.proofs.r4_seeing.Staying.{goes_stay}
 use Rattle.r4_touching.specs.Touching.{Touches}
 use Rattle.r4_extent_reach.specs.Known.{HasBody, HasEdits}
 use Rattle.r4_extent_reach.specs.Meeting.{CanMeet, GoesOn}

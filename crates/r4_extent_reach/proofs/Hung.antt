@@ -8,7 +8,7 @@ use Rattle.r4_base.specs.Tree.{Name}
 use Rattle.r4_cell.specs.Seen.{CellSeen}
 use Rattle.r4_cell.specs.declared.change.Root.{Root}
 use Rattle.r4_extent_reaching.proofs.r4_judging.Below.{name_below}
-use Rattle.r4_patch.proofs.Members.{cases, none}
+use Rattle.r4_touching.proofs.r4_patch.Members.{cases, none}
 use Rattle.r4_extent_reaching.specs.r4_reaching.Gathering.{AreAllMet}
 use Rattle.r4_search.specs.Keeping.{Shared, WereAnswered, keeping_state, met_in}
 use Rattle.r4_search.specs.Path.{root_name}

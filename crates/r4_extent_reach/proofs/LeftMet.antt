@@ -17,17 +17,17 @@ use Rattle.r4_extent_reaching.specs.r4_extent_touching.Holding.{AreLeftMet, Stop
 use Rattle.r4_extent_reaching.proofs.r4_extent_touching.Left.{left_stops}
 use Rattle.r4_extent_reaching.proofs.r4_judging.Below.{name_below}
 use Rattle.r4_outside.specs.Device.{State}
-use Rattle.r4_patch.proofs.Members.{cases, here, later, none}
+use Rattle.r4_touching.proofs.r4_patch.Members.{cases, here, later, none}
 use Rattle.r4_extent_asks.proofs.r4_path.Rising.{level_is}
-use Rattle.r4_reach.specs.Needs.{changes_pieces, going_of, is_touched}
-use Rattle.r4_reach.specs.Touched.{Body}
+use Rattle.r4_touching.specs.r4_reach.Needs.{changes_pieces, going_of, is_touched}
+use Rattle.r4_touching.specs.r4_reach.Touched.{Body}
 use Rattle.r4_extent_reaching.specs.r4_reaching.Gathering.{AreAllMet}
 use Rattle.r4_search.specs.Pool.{Goes, IsNamed, LeavesDevice, PoolState}
 use Rattle.r4_search.specs.declared.pool.FetchFault.{FetchFault}
 use Rattle.r4_search.proofs.Walks.{goes_same}
 use Rattle.r4_search.specs.Keeping.{Shared}
 use Rattle.r4_search.specs.Path.{root_name}
-use Rattle.r4_seeing.specs.Looking.{AreHung, IsNamedByMet}
+use Rattle.r4_touching.specs.r4_seeing.Looking.{AreHung, IsNamedByMet}
 use Rattle.r4_extent_reach.specs.Meeting.{AreBesideMet, GoesOn, MeetsBeside, MeetsBesideOne, StopsAtLeft, StopsBesideOf}
 use Rattle.r4_extent_reach.specs.Meeting.{turns_by}
 

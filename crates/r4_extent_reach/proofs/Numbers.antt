@@ -20,7 +20,7 @@ use Rattle.r4_content.specs.Edited.{Pairs}
 use Rattle.r4_content.specs.Held.{part_pairs}
 use Rattle.r4_content.specs.Objects.{byte_pairs}
 use Rattle.r4_content.specs.declared.seen.SeenPart.{SeenPart}
-use Rattle.r4_patch.proofs.Members.{here}
+use Rattle.r4_touching.proofs.r4_patch.Members.{here}
 use Rattle.r4_content.specs.declared.command.Command.{Command}
 use Rattle.r4_extent_asks.proofs.r4_leaf_edits.KeyRanks.{key_again}
 use Rattle.r4_base.specs.declared.items.CellFault.TheVariants.{Range}
@@ -28,7 +28,7 @@ use Rattle.r4_cell.specs.declared.change.Root.{Root}
 use Rattle.r4_search.specs.Pool.{PoolState}
 use Rattle.r4_search.specs.declared.pool.FetchFault.{FetchFault}
 use Rattle.r4_search.specs.declared.pool.FetchFault.TheVariants.{Damaged}
-use Rattle.r4_seeing.proofs.Found.{found_in}
+use Rattle.r4_touching.proofs.r4_seeing.Found.{found_in}
 use Rattle.r4_extent_reaching.specs.r4_spared.Spared.{AreObjectsSeen}
 use Rattle.r4_extent_reaching.specs.r4_reaching.Answers.{HaveObjectNumbers, IsSeenIn, SeesLowObject, StopsAtObject, number_in}
 

@@ -14,13 +14,13 @@ use Rattle.r4_content.specs.declared.edits.Edits.{Edits as HeldEdits}
 use Rattle.r4_content.specs.declared.seen.Seen.{Seen}
 use Rattle.r4_extent_commands.specs.Bodies.{HaveSizes}
 use Rattle.r4_extent_commands.proofs.Told.{keeps_file_size, lies_in_body}
-use Rattle.r4_extent_demands.specs.Sizes.{AreExtentEdits}
-use Rattle.r4_extent_demands.proofs.OfCommands.{command_asks}
+use Rattle.r4_extent_asks.specs.r4_extent_demands.Sizes.{AreExtentEdits}
+use Rattle.r4_extent_asks.proofs.r4_extent_demands.OfCommands.{command_asks}
 use Rattle.r4_extent_reaching.specs.Answers.{StopsWriting}
 use Rattle.r4_extent_reaching.specs.Meeting.{AreReadKeys, IsTouched, Planned}
 use Rattle.r4_extent_reaching.specs.Standing.{HasFileSizes, IsTooLong}
 use Rattle.r4_extent_reaching.proofs.Told.{told_is_so}
-use Rattle.r4_reach.specs.Touched.{Body, IsKindIn, body_key, body_of, body_on, changes_on, edits_on, kind_reads, raw_changes}
+use Rattle.r4_touching.specs.r4_reach.Touched.{Body, IsKindIn, body_key, body_of, body_on, changes_on, edits_on, kind_reads, raw_changes}
 use Rattle.r4_extent_reaching.specs.r4_reaching.Answers.{HaveObjectNumbers, IsAllSeen, SeesLowObject}
 use Rattle.r4_extent_reaching.specs.r4_reaching.Gathering.{IsPartMet}
 use Rattle.r4_extent_reaching.proofs.r4_reaching.Found.{found_inside, found_lawful}
@@ -30,7 +30,7 @@ use Rattle.r4_search.specs.Keeping.{Shared, WereAnswered, keeping_state}
 use Rattle.r4_search.specs.Pool.{PoolState}
 use Rattle.r4_search.specs.declared.pool.FetchFault.{FetchFault}
 use Rattle.r4_search.specs.declared.pool.FetchFault.TheVariants.{Damaged}
-use Rattle.r4_seeing.specs.Looking.{met_cells}
+use Rattle.r4_touching.specs.r4_seeing.Looking.{met_cells}
 use Rattle.r4_extent_reaching.specs.r4_spared.Spared.{AreObjectsSeen}
 use Rattle.r4_extent_commands.specs.r4_suited.Suited.{AreLawfulSeen}
 use Rattle.r4_extent_reach.specs.Known.{HasBody, HasEdits, IsMetFor}

@@ -13,8 +13,8 @@ use Rattle.r4_content.specs.declared.edits.Edits.{Edits as HeldEdits}
 use Rattle.r4_content.specs.declared.seen.Seen.{Seen}
 use Rattle.r4_extent_reaching.specs.Answers.{StopsWriting, is_met_besides}
 use Rattle.r4_extent_reaching.specs.r4_extent_touching.Holding.{StopsLeft}
-use Rattle.r4_reach.specs.Needs.{going_of, twig_turns}
-use Rattle.r4_reach.specs.Touched.{Body, body_key, body_of, body_on, changes_on, edits_on, kind_reads, raw_changes}
+use Rattle.r4_touching.specs.r4_reach.Needs.{going_of, twig_turns}
+use Rattle.r4_touching.specs.r4_reach.Touched.{Body, body_key, body_of, body_on, changes_on, edits_on, kind_reads, raw_changes}
 use Rattle.r4_extent_reaching.specs.r4_reaching.Answers.{IsAllSeen, IsSeenIn, StopsJudging}
 use Rattle.r4_extent_reaching.proofs.r4_reaching.Standing.{found_on}
 use Rattle.r4_extent_reaching.proofs.r4_reaching.Touched.{seen_in}

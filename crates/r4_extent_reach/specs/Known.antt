@@ -9,10 +9,10 @@ use Rattle.r4_content.specs.declared.command.Command.{Command}
 use Rattle.r4_content.specs.declared.edits.Edits.{Edits as HeldEdits}
 use Rattle.r4_content.specs.declared.seen.Seen.{Seen}
 use Rattle.r4_extent_commands.specs.Bodies.{KeepsFileSize, LiesInBody}
-use Rattle.r4_extent_demands.specs.Sizes.{AreExtentEdits, IsSized}
+use Rattle.r4_extent_asks.specs.r4_extent_demands.Sizes.{AreExtentEdits, IsSized}
 use Rattle.r4_extent_reaching.specs.Standing.{HasFileSizes}
 use Rattle.r4_extent_asks.specs.r4_leaf_edits.Suiting.{SuitLeaves}
-use Rattle.r4_reach.specs.Touched.{Body, body_on, changes_on, edits_on, raw_changes}
+use Rattle.r4_touching.specs.r4_reach.Touched.{Body, body_on, changes_on, edits_on, raw_changes}
 use Rattle.r4_extent_reaching.specs.r4_reaching.Answers.{IsAllSeen}
 use Rattle.r4_search.specs.Pool.{PoolState}
 use Rattle.r4_extent_reach.specs.Meeting.{HasMet}

@@ -9,14 +9,14 @@ use Rattle.r4_extent_asks.specs.Demands.{DemandsSeen}
 use Rattle.r4_content.specs.Held.{edits_of}
 use Rattle.r4_extent_reaching.specs.r4_extent_touching.Holding.{AreHeld, AreLeftMet, StopsLeft}
 use Rattle.r4_outside.specs.Device.{State}
-use Rattle.r4_reach.specs.Needs.{going_of, twig_turns}
-use Rattle.r4_reach.specs.Touched.{Body, kind_reads}
+use Rattle.r4_touching.specs.r4_reach.Needs.{going_of, twig_turns}
+use Rattle.r4_touching.specs.r4_reach.Touched.{Body, kind_reads}
 use Rattle.r4_extent_reaching.specs.r4_reaching.Gathering.{IsOneMet}
 use Rattle.r4_search.specs.Path.{root_name}
 use Rattle.r4_search.specs.Pool.{Goes, IsKnown, IsNamed, LeavesDevice, PoolState}
 use Rattle.r4_search.specs.declared.pool.FetchFault.{FetchFault}
 use Rattle.r4_search.specs.declared.pool.FetchFault.TheVariants.{Memory}
-use Rattle.r4_seeing.specs.Looking.{AreHung}
+use Rattle.r4_touching.specs.r4_seeing.Looking.{AreHung}
 use Rattle.r4_touching.specs.Touching.{StopsFor}
 
 -- ---- a pool that keeps all cells

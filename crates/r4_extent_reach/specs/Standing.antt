@@ -3,7 +3,7 @@ use Rattle.std.specs.Prelude.{◌≡◌, ◌≢◌, ◌⊎◌, ℕ, ◌+◌, ◌
 use Rattle.r4_base.specs.Key.{least, top}
 use Rattle.r4_content.specs.Edited.{is_between}
 use Rattle.r4_extent_reaching.specs.Telling.{IsKindTold}
-use Rattle.r4_reach.specs.Touched.{Body, shown_at}
+use Rattle.r4_touching.specs.r4_reach.Touched.{Body, shown_at}
 use Rattle.r4_search.specs.Pool.{Goes, PoolState}
 
 -- the body where it stood so

@@ -8,20 +8,19 @@ ghost use Rattle.r4_bodies.specs.r4_leaf_demands.Leaves.{IsInLeaves};
 ghost use Rattle.r4_cell.specs.Seen.{CellSeen, node_of};
 ghost use Rattle.r4_content.specs.Held.{edits_of, interval_of};
 ghost use Rattle.r4_extent_reaching.specs.r4_extent_counts.Coming.{twig_cells};
-ghost use Rattle.r4_extent_demands.specs.Sizes.{AreExtentEdits};
+ghost use Rattle.r4_extent_asks.specs.r4_extent_demands.Sizes.{AreExtentEdits};
 ghost use Rattle.r4_extent_reaching.specs.Meeting.{IsFrom, IsOfLeaves};
-ghost use Rattle.r4_marking.specs.Marks.{ask_seen};
-ghost use Rattle.r4_reach.specs.Leaves.{rise_of};
-ghost use Rattle.r4_reach.specs.Needs.{is_met};
+ghost use Rattle.r4_extent_asks.specs.r4_marking.Marks.{ask_seen};
+ghost use Rattle.r4_touching.specs.r4_reach.Leaves.{rise_of};
+ghost use Rattle.r4_touching.specs.r4_reach.Needs.{is_met};
 ghost use Rattle.r4_extent_reach.specs.Standing.{stood};
 
 use crate::known::Known;
 use r4_base::Memory;
 use r4_cell::{Cell, Cells, Root};
 use r4_content::{Interval, Seen};
-use r4_extent_demands::{SizedBody, Way, extents_have};
+use r4_extent_asks::{Marks, SizedBody, Way, extents_have};
 use r4_extent_reaching::{Reach, cells_coming};
-use r4_marking::Marks;
 use std::alloc::{AllocError, Global};
 use std::sync::Arc;
 

@@ -6,9 +6,9 @@ ghost use Rattle.r4_content.specs.Edited.{Intervals};
 ghost use Rattle.r4_content.specs.Fields.{HasBytePaths};
 ghost use Rattle.r4_content.specs.Held.{interval_of};
 ghost use Rattle.r4_content.specs.declared.command.Command.{Command as CommandSeen};
-ghost use Rattle.r4_gather.specs.Asking.{StaysOver};
-ghost use Rattle.r4_gather.specs.Finding.{asked_keys};
-ghost use Rattle.r4_reach.specs.Touched.{kind_reads};
+ghost use Rattle.r4_touching.specs.r4_gather.Asking.{StaysOver};
+ghost use Rattle.r4_touching.specs.r4_gather.Finding.{asked_keys};
+ghost use Rattle.r4_touching.specs.r4_reach.Touched.{kind_reads};
 ghost use Rattle.r4_extent_reaching.specs.r4_reaching.Answers.{IsAllSeen, IsSamePool, StopsJudging};
 ghost use Rattle.r4_search.specs.Keeping.{Shared, keeping_state};
 ghost use Rattle.r4_search.specs.Path.{root_name};
@@ -29,16 +29,12 @@ use r4_base::{BlockNo, CellFault};
 use r4_bodies::body_changed;
 use r4_cell::Root;
 use r4_content::{Command, Edits, Interval, Seen};
-use r4_extent_asks::{ExtentDemands, changes_of};
+use r4_extent_asks::{ExtentDemands, changes_of, commands_of_extents_may_ask, mark};
 use r4_extent_commands::{bodies_keep_file_sizes, edits_lie_in_one_body};
-use r4_extent_demands::commands_of_extents_may_ask;
 use r4_extent_reaching::{Reach, commands_change_lawful_keys, part_met};
 use r4_file::plan;
-use r4_gather::{Asked, see_for};
-use r4_marking::mark;
 use r4_search::{FetchFault, Keeping, Pool};
-use r4_seeing::Seeing;
-use r4_touching::keys_asked;
+use r4_touching::{Asked, Seeing, keys_asked, see_for};
 use std::alloc::Global;
 
 /// What a command reads and writes of the tree of a pool, wherever the body that it changes stands: the pool as it is
@@ -221,7 +217,5 @@ fn reach_of_met<P: Pool>(
     add_read(&mut reads, known.read)?;
     let demands = ExtentDemands::new(known.body.as_ref(), &known.edits, &reads, changes);
     let marks = mark(alloc, &demands, root, &met)?;
-    Ok(reach_from(
-        alloc, root, seen, known, changes, met, marks,
-    )?)
+    Ok(reach_from(alloc, root, seen, known, changes, met, marks)?)
 }

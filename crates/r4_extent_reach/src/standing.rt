@@ -4,7 +4,7 @@ ghost use Rattle.std.specs.Prelude.{◌≡◌, ◌<◌, ◌≤◌, ◌^◌, ℕ,
 ghost use Rattle.std.specs.Option.{option_copied};
 ghost use Rattle.r4_base.specs.Key.{rank};
 ghost use Rattle.r4_bodies.specs.Told.{intervals_of};
-ghost use Rattle.r4_reach.specs.Touched.{Body, kind_reads, shown_at};
+ghost use Rattle.r4_touching.specs.r4_reach.Touched.{Body, kind_reads, shown_at};
 ghost use Rattle.r4_search.specs.Path.{root_name};
 ghost use Rattle.r4_search.specs.Pool.{IsKnown, LeavesDevice};
 ghost use Rattle.r4_touching.specs.Touching.{StopsFor, Touches};
@@ -16,7 +16,7 @@ use r4_base::Key;
 use r4_bodies::BodyChange;
 use r4_cell::Root;
 use r4_content::Interval;
-use r4_extent_demands::SizedBody;
+use r4_extent_asks::SizedBody;
 use r4_extent_reaching::stands_in_extents;
 use r4_search::{FetchFault, Pool};
 use std::alloc::Global;

@@ -30,8 +30,8 @@ use Rattle.r4_history.specs.r4_trace.Job.{IsWork}
 use Rattle.r4_turns.specs.Turns.{IsScript, answered_at, answered_one, commands_at, turn_at}
 use Rattle.r4_turns.specs.declared.out.Out.{Out}
 use Rattle.r4_turns.specs.declared.turn.Open.{Open}
-use Rattle.r4_served.specs.r4_reaching.Answers.{IsReach}
-use Rattle.r4_served.specs.r4_reaching.declared.reached.Reach.{Reach}
+use Rattle.r4_served.specs.r4_extent_reaching.Answers.{IsReach}
+use Rattle.r4_served.specs.r4_extent_reaching.declared.reached.Reach.{Reach}
 use Rattle.r4_served.specs.r4_search.Keeping.{keeping_state}
 use Rattle.r4_served.specs.r4_search.Pool.{PoolState}
 use Rattle.r4_served.specs.r4_ready.Readiness.{parts_of}

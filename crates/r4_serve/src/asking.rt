@@ -14,8 +14,8 @@ use crate::stray::stray_block;
 use r4_base::{MOST_LEVELS, Memory};
 use r4_buffer::Reading;
 use r4_content::{Command, Reply};
-use r4_outside::Device;
 use r4_extent_reach::{Reach, reach};
+use r4_outside::Device;
 use r4_search::FetchFault;
 use std::alloc::Global;
 

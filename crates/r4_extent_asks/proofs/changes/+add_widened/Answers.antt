@@ -1,7 +1,7 @@
 use Rattle.std.proofs.Common.{map, ap}
 use Rattle.std.proofs.lemmas.Result.{on_ok_weaker}
 use Rattle.r4_content.specs.Held.{interval_of}
-use Rattle.r4_reach.specs.Touched.{with_blocks}
+use Rattle.r4_twig_asks.specs.r4_reach.Touched.{with_blocks}
 use Rattle.r4_extent_asks.proofs.Adding.{nothing_of}
 use Rattle.r4_extent_asks.proofs.Widened.{keys_next, keys_none, keys_one}
 use Rattle.r4_extent_asks.proofs.changes.+add_widened.Goals as goal

@@ -4,7 +4,7 @@ use Rattle.std.specs.Prelude.{None, Some}
 use Rattle.std.proofs.lemmas.Result.{IfOk-weaker}
 use Rattle.r4_content.specs.Edited.{changed, is_in}
 use Rattle.r4_content.specs.Held.{edits_of, interval_of}
-use Rattle.r4_reach.specs.Touched.{raw_changes}
+use Rattle.r4_twig_asks.specs.r4_reach.Touched.{raw_changes}
 use Rattle.r4_extent_asks.proofs.Widened.{raw_same}
 use Rattle.r4_extent_asks.proofs.changes.changes_of.Goals as goal
 

@@ -1,7 +1,7 @@
 use Rattle.std.proofs.Common.{ap, length, map, sym, ◌∙◌}
 use Rattle.std.specs.Prelude.{not, ◌==◌, ◌||◌}
 use Rattle.std.proofs.lemmas.List.{length-map}
-use Rattle.r4_marking.specs.Marks.{heard_seen}
+use Rattle.r4_twig_asks.specs.r4_marking.Marks.{heard_seen}
 use Rattle.r4_extent_asks.proofs.extent_demands.is_asked.Goals as goal
 
 pub returns-then-is_touched : goal.returns-then-is_touched

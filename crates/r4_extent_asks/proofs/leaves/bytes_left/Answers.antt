@@ -10,8 +10,8 @@ use Rattle.r4_leaf.specs.Remade.{AreWithin}
 use Rattle.r4_leaf.specs.declared.remaking.Given.{Given}
 use Rattle.r4_leaf_edits.specs.Made.{cuts_in}
 use Rattle.r4_node40.specs.View.{view_items}
-use Rattle.r4_reach.specs.Needs.{leaf_edits}
-use Rattle.r4_extent_demands.proofs.Puts.{told_suits}
+use Rattle.r4_twig_asks.specs.r4_reach.Needs.{leaf_edits}
+use Rattle.r4_twig_asks.proofs.r4_extent_demands.Puts.{told_suits}
 use Rattle.r4_extent_asks.proofs.Measured.{can, lie, makes, measured, measured_few}
 use Rattle.r4_extent_asks.proofs.leaves.bytes_left.Goals as goal
 

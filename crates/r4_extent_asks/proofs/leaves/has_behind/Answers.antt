@@ -12,7 +12,7 @@ use Rattle.r4_leaf.specs.declared.remaking.Given.{Given}
 use Rattle.r4_leaf.specs.declared.remaking.KeyRange.{KeyRange}
 use Rattle.r4_leaf_edits.specs.Made.{AreOfLeaf, MakesEdits, cuts_in}
 use Rattle.r4_node40.specs.View.{view_items}
-use Rattle.r4_reach.specs.Needs.{leaf_edits}
+use Rattle.r4_twig_asks.specs.r4_reach.Needs.{leaf_edits}
 use Rattle.r4_extent_asks.proofs.Measured.{lie}
 use Rattle.r4_extent_asks.proofs.Staying.{can_behind, le, measured_behind, of_rest, within_low}
 use Rattle.r4_extent_asks.proofs.leaves.has_behind.Goals as goal

@@ -5,7 +5,7 @@ use Rattle.std.proofs.lemmas.Bool.{ltb-false}
 use Rattle.r4_base.specs.Key.{rank}
 use Rattle.r4_cell.specs.Seen.{node_of}
 use Rattle.r4_content.specs.Held.{edits_of}
-use Rattle.r4_reach.specs.Needs.{units_after}
+use Rattle.r4_twig_asks.specs.r4_reach.Needs.{units_after}
 use Rattle.r4_extent_asks.proofs.Staying.{cut_as, cut_low, cut_none, none_behind}
 use Rattle.r4_extent_asks.proofs.leaves.is_parted.Goals as goal
 

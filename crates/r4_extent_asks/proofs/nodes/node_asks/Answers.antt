@@ -3,8 +3,8 @@ use Rattle.std.specs.Option.{option_copied}
 use Rattle.std.specs.Prelude.{◌==◌, if◌then◌else◌}
 use Rattle.r4_cell.specs.Seen.{node_of}
 use Rattle.r4_leaf_demands.proofs.Weighed.{little}
-use Rattle.r4_marking.specs.Marks.{heard_seen, most_for}
-use Rattle.r4_reach.specs.Needs.{asking, node_need, over}
+use Rattle.r4_twig_asks.specs.r4_marking.Marks.{heard_seen, most_for}
+use Rattle.r4_twig_asks.specs.r4_reach.Needs.{asking, node_need, over}
 use Rattle.r4_extent_asks.proofs.Naming.{as_many, asks_are, at_most, need_is, over_less, some_few}
 use Rattle.r4_extent_asks.proofs.nodes.node_asks.Goals as goal
 

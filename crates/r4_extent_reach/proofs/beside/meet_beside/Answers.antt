@@ -4,8 +4,8 @@ use Rattle.std.specs.Prelude.{Contains, Option, nat_lt}
 use Rattle.r4_base.specs.Key.{rank}
 use Rattle.r4_content.specs.Held.{edits_of, interval_of}
 use Rattle.r4_extent_reaching.specs.r4_extent_touching.Holding.{AreLeftMet}
-use Rattle.r4_reach.specs.Needs.{going_of}
-use Rattle.r4_reach.specs.Touched.{Body}
+use Rattle.r4_touching.specs.r4_reach.Needs.{going_of}
+use Rattle.r4_touching.specs.r4_reach.Touched.{Body}
 use Rattle.r4_extent_reaching.specs.r4_reaching.Gathering.{AreAllMet}
 use Rattle.r4_search.specs.Keeping.{Shared, keeping_state, met_in}
 use Rattle.r4_search.specs.declared.pool.FetchFault.TheVariants.{Memory as NoMemory}

@@ -4,9 +4,9 @@ use Rattle.r4_cell.specs.declared.change.Root.{Root}
 use Rattle.r4_content.specs.Edited.{Intervals}
 use Rattle.r4_content.specs.Held.{pairs_of}
 use Rattle.r4_content.specs.declared.seen.Seen.{Seen}
-use Rattle.r4_gather.proofs.Staying.{stays_same}
-use Rattle.r4_gather.specs.Asking.{EndsIn, StaysOver}
-use Rattle.r4_gather.specs.Finding.{asked_keys}
+use Rattle.r4_touching.proofs.r4_gather.Staying.{stays_same}
+use Rattle.r4_touching.specs.r4_gather.Asking.{EndsIn, StaysOver}
+use Rattle.r4_touching.specs.r4_gather.Finding.{asked_keys}
 use Rattle.r4_search.specs.Keeping.{keeping_state, met_in}
 use Rattle.r4_search.specs.declared.keeping.Keeping.{Keeping}
 use Rattle.r4_extent_reaching.specs.r4_reaching.Answers.{IsAllSeen, IsSamePool, StopsAsking, asked_by}

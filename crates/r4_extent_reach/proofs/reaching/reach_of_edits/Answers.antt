@@ -3,8 +3,8 @@ use Rattle.std.specs.Prelude.{Option}
 use Rattle.std.specs.Option.{option_copied}
 use Rattle.r4_extent_reaching.specs.Answers.{IsReach, StopsWriting}
 use Rattle.r4_extent_reaching.specs.Standing.{IsTooLong}
-use Rattle.r4_gather.specs.Finding.{asked_keys}
-use Rattle.r4_reach.specs.Touched.{Body, kind_reads}
+use Rattle.r4_touching.specs.r4_gather.Finding.{asked_keys}
+use Rattle.r4_touching.specs.r4_reach.Touched.{Body, kind_reads}
 use Rattle.r4_extent_reaching.proofs.r4_reaching.Touched.{handed_match}
 use Rattle.r4_search.specs.Keeping.{keeping_state}
 use Rattle.r4_touching.specs.Touching.{StopsFor}

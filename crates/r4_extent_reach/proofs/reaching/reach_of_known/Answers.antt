@@ -3,10 +3,10 @@ use Rattle.std.specs.Prelude.{Option}
 use Rattle.r4_content.specs.Edited.{changed, is_in}
 use Rattle.r4_content.specs.Held.{edits_of, interval_of}
 use Rattle.r4_content.specs.declared.edits.Interval.{Interval}
-use Rattle.r4_extent_demands.specs.Sizes.{AreExtentEdits}
+use Rattle.r4_extent_asks.specs.r4_extent_demands.Sizes.{AreExtentEdits}
 use Rattle.r4_extent_reaching.specs.Answers.{IsReach, StopsWriting}
-use Rattle.r4_gather.specs.Finding.{asked_keys}
-use Rattle.r4_reach.specs.Touched.{Body, raw_changes}
+use Rattle.r4_touching.specs.r4_gather.Finding.{asked_keys}
+use Rattle.r4_touching.specs.r4_reach.Touched.{Body, raw_changes}
 use Rattle.r4_extent_reaching.proofs.r4_reaching.Touched.{handed_match}
 use Rattle.r4_search.specs.Keeping.{keeping_state}
 use Rattle.r4_extent_reach.specs.Known.{AreChanges}

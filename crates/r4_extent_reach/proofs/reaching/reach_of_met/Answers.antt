@@ -8,11 +8,11 @@ use Rattle.r4_content.specs.Edited.{Intervals, is_in}
 use Rattle.r4_content.specs.Held.{edits_of, interval_of}
 use Rattle.r4_content.specs.declared.edits.Interval.{Interval}
 use Rattle.r4_extent_reaching.proofs.Assembled.{is_reach}
-use Rattle.r4_gather.specs.Finding.{asked_keys}
-use Rattle.r4_marking.specs.Marks.{AreMarksOf}
-use Rattle.r4_reach.specs.Leaves.{more_in}
-use Rattle.r4_reach.specs.Needs.{Ask, demand_of}
-use Rattle.r4_reach.specs.Demand.{Demand}
+use Rattle.r4_touching.specs.r4_gather.Finding.{asked_keys}
+use Rattle.r4_extent_asks.specs.r4_marking.Marks.{AreMarksOf}
+use Rattle.r4_touching.specs.r4_reach.Leaves.{more_in}
+use Rattle.r4_touching.specs.r4_reach.Needs.{Ask, demand_of}
+use Rattle.r4_touching.specs.r4_reach.Demand.{Demand}
 use Rattle.r4_search.specs.Keeping.{keeping_state}
 use Rattle.r4_extent_reach.proofs.Planned.{are_read, is_touched, planned_of}
 use Rattle.r4_extent_reach.proofs.reaching.reach_of_met.Goals as goal

@@ -3,8 +3,8 @@ use Rattle.std.specs.Prelude.{MatchBool}
 use Rattle.std.specs.List.{flat_map}
 use Rattle.r4_content.specs.Held.{pairs_of, part_pairs}
 use Rattle.r4_content.specs.declared.seen.SeenPart.{SeenPart}
-use Rattle.r4_gather.proofs.Staying.{stays_same}
-use Rattle.r4_gather.specs.Finding.{asked_keys}
+use Rattle.r4_touching.proofs.r4_gather.Staying.{stays_same}
+use Rattle.r4_touching.specs.r4_gather.Finding.{asked_keys}
 use Rattle.r4_extent_reaching.specs.r4_reaching.Answers.{HaveObjectNumbers, SeesLowObject}
 use Rattle.r4_search.specs.Keeping.{keeping_state}
 use Rattle.r4_extent_reach.proofs.Going.{on_stays}

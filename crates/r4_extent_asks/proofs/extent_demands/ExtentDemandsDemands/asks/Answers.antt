@@ -5,8 +5,8 @@ use Rattle.std.specs.Result.{IfOk}
 use Rattle.std.proofs.lemmas.Result.{IfOk-weaker}
 use Rattle.r4_cell.specs.Seen.{node_of}
 use Rattle.r4_content.specs.Held.{edits_of, interval_of}
-use Rattle.r4_marking.specs.Marks.{ask_seen, heard_seen}
-use Rattle.r4_reach.specs.Needs.{Ask, cell_asks}
+use Rattle.r4_twig_asks.specs.r4_marking.Marks.{ask_seen, heard_seen}
+use Rattle.r4_twig_asks.specs.r4_reach.Needs.{Ask, cell_asks}
 use Rattle.r4_extent_asks.specs.Demands.{DemandsSeen}
 use Rattle.r4_extent_asks.proofs.Asks.{asks_leaf, asks_node, asks_none, asks_twig}
 use Rattle.r4_extent_asks.proofs.extent_demands.ExtentDemandsDemands.asks.Goals as goal

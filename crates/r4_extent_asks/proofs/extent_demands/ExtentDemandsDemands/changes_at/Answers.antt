@@ -4,8 +4,8 @@ use Rattle.r4_base.specs.Key.{rank}
 use Rattle.r4_cell.specs.Seen.{node_of}
 use Rattle.r4_content.specs.Held.{edits_of, interval_of}
 use Rattle.r4_leaf_edits.proofs.Touched.{intervals_met}
-use Rattle.r4_reach.specs.Needs.{demand_of, is_met}
-use Rattle.r4_reach.specs.Reach.{IsWrittenAt}
+use Rattle.r4_twig_asks.specs.r4_reach.Needs.{demand_of, is_met}
+use Rattle.r4_twig_asks.specs.r4_reach.Reach.{IsWrittenAt}
 use Rattle.r4_extent_asks.specs.Demands.{DemandsSeen}
 use Rattle.r4_extent_asks.proofs.AtCells.{met_iff, written_high, written_low}
 use Rattle.r4_extent_asks.proofs.extent_demands.ExtentDemandsDemands.changes_at.Goals as goal
