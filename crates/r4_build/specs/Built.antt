@@ -21,7 +21,7 @@ use Rattle.r4_measure.specs.r4_patch.Joining.{ids_of, patch_of_change}
 use Rattle.r4_measure.specs.r4_patch.Part.{MeetsPart}
 use Rattle.r4_measure.specs.r4_reach.Touched.{body_on, edits_on, reads_on}
 use Rattle.r4_measure.specs.r4_work.Working.{AreCellsIn}
-use Rattle.r4_measure.specs.Budget.{AreUnplaced}
+use Rattle.r4_measure.specs.Budget.{AreSeen, AreUnplaced}
 use Rattle.r4_turns.specs.declared.out.Scope.{Scope}
 use Rattle.r4_build.specs.Building.{CanBuild, most_new, set_by}
 use Rattle.r4_build.specs.declared.counting.ObjectCounts.{ObjectCounts}
@@ -41,12 +41,14 @@ born_for task = if makes_object task.command && is_okay (reply_for task) then 1 
 abbrev pub gone_for : Task → ℕ
 gone_for task = stats_in (edits_for task).cuts
 
--- A task's cells are those of a part of a tree with this root, where its numbers are free: 64 for each cell. Where all
+-- A task's cells are those of a part of a tree with this root, of cells of bytes, where its numbers are free: 64 for
+-- each cell. Where all
 -- that the command changes lies in leaves, its edits may be made there, and no more new cells come than are told.
 pub record IsBuildable (c : Command) (s : Pairs) (x : Scope) (t : Store Value) (r : Root) (f : Fresh)
     (cells : List CellSeen) : Type 0 where
   pub root : root_of_pair x.root ≡ r
   pub height : r.height ≤ 8
+  pub seen : AreSeen t
   pub cells_in : AreCellsIn t r f cells
   pub names : HaveNames cells
   pub unplaced : AreUnplaced f

@@ -134,10 +134,7 @@ fn parts_of(alloc: Global, task: &Task) -> Result<(Change, Reply, ObjectCounts),
 }
 
 // The same of a task whose edits all lie in leaves.
-fn parts_in_leaves(
-    alloc: Global,
-    task: &Task,
-) -> Result<(Change, Reply, ObjectCounts), Memory>
+fn parts_in_leaves(alloc: Global, task: &Task) -> Result<(Change, Reply, ObjectCounts), Memory>
     requires task { (t : Store Value) × ((r : TreeRoot) × IsTaskIn t r task.now) }
     requires rises { Rises (pairs_of (arc_value task.now.seen)) }
     requires leaves { task.now.scope.in_leaves ≡ true }

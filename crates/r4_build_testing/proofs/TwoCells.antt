@@ -341,6 +341,7 @@ module _ (twig leaf : CellSeen) (above : HasAllKeys 22 2 twig) (below : HasAllKe
     buildable_two c s is same asked = record {
       root = refl;
       height = omega arith;
+      seen = quiet.seen;
       cells_in = is_reached.cells_in;
       names = have_names cells distinct;
       unplaced = (lit< tt, lit< tt);

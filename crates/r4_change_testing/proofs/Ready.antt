@@ -122,6 +122,7 @@ module _ (p : PoolState) (root : Root) (c : Command) (reach : Reach) (h : IsReac
   buildable_seen = record {
     root = refl;
     height = ready.height;
+    seen = can_build_seen.reached.quiet.seen;
     cells_in = can_build_seen.reached.cells_in;
     names = has_numbers.names;
     unplaced = has_numbers.unplaced;
@@ -141,7 +142,7 @@ module _ (p : PoolState) (root : Root) (c : Command) (reach : Reach) (h : IsReac
     (
       root_of_pair root,
       subst (λ (s : Pairs). IsBuildable c s scope (by_name reach.met) (root_of_pair root) numbers reach.writes) h.seen
-      buildable_seen,
+          buildable_seen,
     ),
   )
 

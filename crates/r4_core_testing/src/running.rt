@@ -78,7 +78,6 @@ fn step(
         Taken::Flush(_) if !tasks.is_empty() => come_back(core, alloc, way, tasks),
         Taken::Flush(atom) => log.say(alloc, "flush a", atom.0).map(|()| false),
         Taken::Finished => log.say_end().map(|()| false),
-        Taken::InExtents(_) => Err(Fail::from("a body is in extents")),
     }
 }
 

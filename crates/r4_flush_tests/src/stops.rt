@@ -127,7 +127,6 @@ fn run(core: &mut Running, alloc: Global) -> Result<(), Fail> {
             Taken::Flush(atom) => commit(core, alloc, atom)?,
             Taken::Finished => return Ok(()),
             Taken::Wait(_) => return Err(Fail::from("a script waits")),
-            Taken::InExtents(_) => return Err(Fail::from("a body is in extents")),
         }
     }
     Err(Fail::from("the run has no end"))

@@ -254,6 +254,7 @@ module _ {D : Type 0} (r : Naming) (d e : State) (c : CoreSeen D) (k : IsKept r 
     buildable = record {
       root = refl;
       height = k.cells.height.1;
+      seen = λ i z at. (let (y, has, _, says) = found met i z at in (y, says));
       cells_in = record {
         part = answer.part;
         stand = λ y at. there met y (distinct met stand.names) ((answer.written y).0 at).0;

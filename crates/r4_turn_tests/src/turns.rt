@@ -1,10 +1,10 @@
 //! Tests of the turns.
 
-use r4_base::{Memory, Oid, ScriptNo, TaskId, TxnNo};
-use r4_cell::{Cells, Fresh};
+use r4_base::{Memory, NodeId, Oid, ScriptNo, TaskId, TxnNo};
+use r4_cell::{Cells, Fresh, Root};
 use r4_content::{Command, Seen};
 use r4_script::{Commands, Job, Script, Scripts};
-use r4_turns::{Nodes, Numbers, Out, Pending, Turns};
+use r4_turns::{Nodes, Numbers, Out, Pending, Scope, Turns};
 use std::alloc::Global;
 use std::process::Abort;
 use std::sync::Arc;

@@ -28,7 +28,7 @@ returns c =
     let same : edits_of c.in_ok-edits.edits ≡ edits_for task = ap (λ (x : Ending). x.edits) ending in
     let cells = map (λ x. arc_value x) c.as_slice.result.now in
     let can : (t : Store Value) (r : Root) → IsTaskIn t r task
-        → CanBuild b (edits_of c.in_ok-edits.edits) reads t r task.fresh (map (λ x. arc_value x) c.as_slice.result.now) =
+    → CanBuild b (edits_of c.in_ok-edits.edits) reads t r task.fresh (map (λ x. arc_value x) c.as_slice.result.now) =
     λ t r is. subst (λ (e : Edits). CanBuild b e reads t r task.fresh (map (λ x. arc_value x) c.as_slice.result.now)) (sym same)
     (subst (λ (l : List CellSeen). CanBuild b (edits_for task) reads t r task.fresh l) (sym c.as_slice.ensures)
     (is.leaves c.requires.leaves)) in
