@@ -35,7 +35,6 @@ use Rattle.r4_sets_told.specs.r4_patch.Effect.{HasEffect, IsSetAt}
 use Rattle.r4_sets_told.specs.r4_patch.Joining.{patch_of_change}
 use Rattle.r4_sets_told.specs.r4_patch.Part.{MeetsPart}
 use Rattle.r4_sets_told.proofs.r4_patch.Members.{found}
-use Rattle.r4_sets_told.proofs.r4_patch.PartCells.{tree_is_part}
 use Rattle.r4_build.proofs.r4_path.Rising.{hi_is, level_is, lo_is}
 use Rattle.r4_build.specs.r4_reach.Needs.{demand_on}
 use Rattle.r4_build.specs.r4_reach.Reach.{HasReached, Touches}

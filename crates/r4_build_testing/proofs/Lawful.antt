@@ -1,5 +1,5 @@
 -- The edits of these commands are such as leaves can take.
-use Rattle.std.proofs.Common.{◌≡◌, inl, inr, ◌⊎◌, ℕ, ◌<◌, ◌≤◌, true, false, List, [], ◌∷◌, refl, arith}
+use Rattle.std.proofs.Common.{◌≡◌, inl, inr, ℕ, ◌<◌, ◌≤◌, true, false, [], ◌∷◌, refl, arith}
 use Rattle.std.specs.Prelude.{All, None}
 use Rattle.std.proofs.Math.Dec.{lit<}
 use Rattle.std.proofs.lemmas.List.Elements.{All-cons, All-nil}

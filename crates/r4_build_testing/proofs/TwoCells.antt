@@ -1,7 +1,6 @@
 -- The root and the one leaf of a small volume, and edits for which the leaf has room.
-use Rattle.std.proofs.Common.{◌≡◌, inl, inr, ℕ, zero, suc, ◌+◌, ◌^◌, ◌<◌, ◌≤◌, ◌⊎◌, Bool, true, false, List, [], ◌∷◌, length, refl, ap, sym, subst, ◌∙◌, arith, if◌then◌else◌, ◌||◌, ◌==◌, not}
-use Rattle.std.specs.Prelude.{Contains, Option, None, Some, filter, nat_lt, sum_by}
-use Rattle.std.specs.List.{list_any}
+use Rattle.std.proofs.Common.{◌≡◌, inl, inr, ℕ, zero, suc, ◌+◌, ◌^◌, ◌<◌, ◌≤◌, ◌⊎◌, Bool, true, false, List, [], ◌∷◌, length, refl, ap, sym, subst, ◌∙◌, arith, if◌then◌else◌, ◌==◌}
+use Rattle.std.specs.Prelude.{Contains, Option, None, Some, filter}
 use Rattle.std.proofs.Math.Dec.{lit<}
 use Rattle.std.proofs.lemmas.Grind.{common_steps}
 use Rattle.r4_base.specs.Bytes.{number_bytes}
@@ -13,7 +12,7 @@ use Rattle.r4_base.specs.Key.{least, rank, top}
 use Rattle.r4_base.specs.Tree.{Fits, IsNode, Name, Node, Store}
 use Rattle.r4_base.specs.Value.{Value}
 use Rattle.r4_base.proofs.FreshTree.{down, fresh_is_tree, fresh_twig, least_below, only, twig_says, twig_there}
-use Rattle.r4_cell.specs.Patch.{HaveNames, NamesId, by_name}
+use Rattle.r4_cell.specs.Patch.{NamesId, by_name}
 use Rattle.r4_cell.specs.Seen.{CellSeen, node_of}
 use Rattle.r4_cell.proofs.Nodes.{cell_node}
 use Rattle.r4_content.specs.Edited.{Edits, Intervals, Pairs, changed, is_in}
@@ -24,7 +23,7 @@ use Rattle.r4_patch.specs.Part.{IsPart}
 use Rattle.r4_patch.proofs.Members.{Distinct, cases, found, have_names, here, later, none, there}
 use Rattle.r4_reach.proofs.r4_path.Rising.{hi_is, level_is, lo_is}
 use Rattle.r4_reach.specs.Demand.{Demand, ask, ask_of, heard, heard_one}
-use Rattle.r4_reach.specs.Needs.{Ask, asking, cell_asks, changes_pieces, cut_in_two, demand_of, is_gone, leaf_asks, meets, over, put_among, units_after}
+use Rattle.r4_reach.specs.Needs.{Ask, asking, cell_asks, changes_pieces, cut_in_two, demand_of, is_gone, leaf_asks, meets, over, units_after}
 use Rattle.r4_reach.specs.Touched.{Body, body_on, edits_on, reads_on}
 use Rattle.r4_reach.specs.Leaves.{more_of, rise_of}
 use Rattle.r4_build.specs.r4_branch.Pieces.{pieces_in}

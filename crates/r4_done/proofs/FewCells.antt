@@ -1,6 +1,6 @@
 -- How many cells a change of a task has: no more old ones than the task writes; and of these, and of new ones, few.
-use Rattle.std.proofs.Common.{◌≡◌, inl, inr, ⊎_elim, ℕ, zero, suc, ◌+◌, ◌*◌, ◌^◌, ◌<◌, ◌≤◌, ◌==◌, ◌&&◌, Bool, true, false, cond, not, List}
-use Rattle.std.proofs.Common.{[], ◌∷◌, ◌++◌, Option, Some, None, Contains, length, refl, sym, ◌∙◌, ap, subst, arith}
+use Rattle.std.proofs.Common.{◌≡◌, inl, inr, ⊎_elim, ℕ, zero, suc, ◌+◌, ◌^◌, ◌<◌, ◌≤◌, ◌==◌, ◌&&◌, Bool, true, false, cond, not, List}
+use Rattle.std.proofs.Common.{[], ◌∷◌, ◌++◌, Option, Some, None, Contains, length, sym, ◌∙◌, ap, subst, arith}
 use Rattle.std.specs.Prelude.{count_by, filter, nat_eq, nat_le}
 use Rattle.std.specs.List.{IsDistinct, range_with_len}
 use Rattle.std.proofs.lemmas.Bool.{and_parts, cases_Bool, cases_eq, eqb-true, or_left}
@@ -8,29 +8,20 @@ use Rattle.std.proofs.lemmas.Cmp.{nat_eq_equiv}
 use Rattle.std.proofs.lemmas.List.{length-append, length-map}
 use Rattle.std.proofs.lemmas.List.Elements.{Contains-append_left, Contains-append_right}
 use Rattle.std.proofs.lemmas.List.FromFn.{length-range_with_len}
-use Rattle.std.proofs.lemmas.List.Sums.{length-filter, sum_by-cons}
+use Rattle.std.proofs.lemmas.List.Sums.{length-filter}
 use Rattle.std.proofs.lemmas.Map.Made.{length-le_from_is_member}
 use Rattle.std.proofs.lemmas.Map.Views.{Contains-from_any, list_any-from_Contains}
 use Rattle.r4_base.proofs.Members.{member_cases, member_here, member_later, no_member}
-use Rattle.r4_base.specs.Tree.{Node, Root, Store}
-use Rattle.r4_base.specs.Value.{Value}
 use Rattle.r4_base.specs.declared.things.AtomNo.{AtomNo}
 use Rattle.r4_base.specs.declared.things.ScriptNo.{ScriptNo}
 use Rattle.r4_atoms.specs.Atoms.{account_of, atom_of}
 use Rattle.r4_taking.specs.r4_buffer.Changed.{has_name}
 use Rattle.r4_taking.specs.r4_buffer.Seen.{buffered, is_dirty_by}
-use Rattle.r4_taking.specs.r4_cell.Patch.{by_name, root_of_pair}
-use Rattle.r4_taking.specs.r4_cell.Seen.{CellSeen, node_of}
+use Rattle.r4_taking.specs.r4_cell.Seen.{CellSeen}
 use Rattle.r4_taking.specs.r4_cell.declared.change.Change.{Change}
-use Rattle.r4_taking.specs.r4_cell.declared.change.Fresh.{Fresh}
-use Rattle.r4_content.specs.Edited.{Edits, Intervals, changed}
 use Rattle.r4_content.specs.declared.command.Command.{Command}
 use Rattle.r4_outside.specs.Device.{State}
 use Rattle.r4_counted.specs.r4_patch.Joining.{ids_of}
-use Rattle.r4_counted.specs.r4_reach.Demand.{Demand, ask, ask_of}
-use Rattle.r4_counted.specs.r4_reach.Leaves.{more_in, more_of, rise_of}
-use Rattle.r4_counted.specs.r4_reach.Needs.{Ask, demand_of}
-use Rattle.r4_counted.specs.r4_reach.Touched.{Body, body_on, edits_on, reads_on}
 use Rattle.r4_taking.specs.r4_trace.Traced.{begun_in}
 use Rattle.r4_taking.specs.r4_trace.declared.entry.Entry.{Entry}
 use Rattle.r4_taking.specs.r4_trace.declared.entry.Entry.TheVariants.{Acked, Begin, Broken, Committed, Done, Ended, Fuse}

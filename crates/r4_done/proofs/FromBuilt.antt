@@ -1,6 +1,6 @@
 -- What was built of a task is a change of its cells, and counts at most one object that comes and one that goes.
 use Rattle.std.proofs.Common.{◌≡◌, ◌⊎◌, ◌∙◌, ◌<◌, ◌≤◌, ◌&&◌, Bool, true, false, List, Contains, sym, subst}
-use Rattle.std.proofs.Common.{ap, arith, if◌then◌else◌, length, Option}
+use Rattle.std.proofs.Common.{arith, if◌then◌else◌, length}
 use Rattle.std.specs.Arc.{arc_value}
 use Rattle.r4_taking.specs.r4_build.Built.{BuiltSeen, IsBuildable, IsBuilt, IsTaskIn, reply_for}
 use Rattle.r4_taking.specs.r4_cell.Patch.{by_name, root_of_pair}

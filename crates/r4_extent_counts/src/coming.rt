@@ -35,14 +35,12 @@ pub fn cells_coming(
         ≡ sum_by (twig_cells (option_copied body.entry) (edits_of edits.now))
         (map (λ c. arc_value c) writes.now)) }
 {
-    match writes.split_first() {
-        None => Ok(0),
-        Some((first, rest)) => {
-            let cells = cells_of(alloc, body, edits, first)?;
-            let others = cells_coming(alloc, body, edits, rest)?;
-            Ok(cells.checked_add(others).ok_or(AllocError)?)
-        }
+    let mut come: u64 = 0;
+    for cell in writes {
+        let more = cells_of(alloc, body, edits, cell)?;
+        come = come.checked_add(more).ok_or(AllocError)?;
     }
+    Ok(come)
 }
 
 // How many come to a cell, if it is a twig.

@@ -1,4 +1,5 @@
 mod Numbers
+mod UpTo
 pub mod Going
 pub mod Hung
 pub mod LeftMet

@@ -83,15 +83,12 @@ fn spare_extents(changes: &[Interval], cells: &[Arc<Cell>]) -> bool
         → Contains (map (λ c. arc_value c) cells.now) x → Contains (node_of x).spans s
         → is_met (map interval_of changes.now) s.lo s.hi ≡ false }
 {
-    match cells.split_first() {
-        None => true,
-        Some((first, rest)) => {
-            if !spares_extents(changes, first) {
-                return false;
-            }
-            spare_extents(changes, rest)
+    for cell in cells {
+        if !spares_extents(changes, cell) {
+            return false;
         }
     }
+    true
 }
 
 // Whether a cell has no extent with one of these keys; a data block has none.

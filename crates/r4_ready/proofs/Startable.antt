@@ -1,5 +1,5 @@
 -- A command that is ready may start, on the core whose device was read.
-use Rattle.std.proofs.Common.{◌≡◌, ◌∙◌, ℕ, ◌<◌, ◌^◌, ap, sym}
+use Rattle.std.proofs.Common.{◌∙◌, ℕ, ◌<◌, ◌^◌, ap, sym}
 use Rattle.r4_serve.specs.r4_cell.Seen.{CellSeen}
 use Rattle.r4_content.specs.Fields.{HasBytePaths}
 use Rattle.r4_content.specs.declared.command.Command.{Command}
@@ -11,7 +11,7 @@ use Rattle.r4_serve.specs.r4_turns.declared.out.Out.{Out}
 use Rattle.r4_taking.specs.r4_kept.Kept.{IsKept}
 use Rattle.r4_taking.specs.r4_kept.Naming.{Naming}
 use Rattle.r4_taking.specs.r4_kept.View.{CoreSeen}
-use Rattle.r4_ready.specs.Readiness.{AreGotten, IsOfReach, IsReady, MayStart}
+use Rattle.r4_ready.specs.Readiness.{AreGotten, IsReady, MayStart}
 use Rattle.r4_ready.proofs.Clear.{among_met, none_holds, none_sealed}
 use Rattle.r4_ready.proofs.Given.{is_given}
 use Rattle.r4_ready.proofs.MetCells.{is_met, is_reach, reach_is}

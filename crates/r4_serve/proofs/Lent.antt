@@ -2,11 +2,10 @@
 use Rattle.std.specs.Prelude.{IfOk, Result, Ok, Err}
 use Rattle.std.specs.Borrow.{GName}
 use Rattle.r4_content.specs.declared.command.Command.{Command}
-use Rattle.r4_extent_reach.specs.r4_gather.Asking.{IsSameTree, StaysOver}
+use Rattle.r4_extent_reach.specs.r4_gather.Asking.{StaysOver}
 use Rattle.r4_outside.specs.Device.{State, lent_to}
-use Rattle.r4_extent_reach.specs.r4_reaching.Answers.{IsSamePool}
 use Rattle.r4_search.proofs.FromDevice.{lent_stays}
-use Rattle.r4_serve.specs.Serving.{Asks, CanAsk, PartsSeen, read_over}
+use Rattle.r4_serve.specs.Serving.{Asks, CanAsk, PartsSeen}
 use Rattle.r4_serve.specs.declared.asked.Asked.{Asked}
 
 pub lent_can : (n : GName) (d : State) (p : PartsSeen) → CanAsk d p → CanAsk (lent_to n d) p

@@ -1,6 +1,6 @@
 -- What becomes of a command before its work (docs/core.md, "Asking").
 use Rattle.std.specs.Prelude.{◌≡◌, ◌⊎◌, ℕ, ◌<◌, ◌≤◌, ◌++◌, ◌∷◌, List, Contains}
-use Rattle.std.specs.Prelude.{MatchOption, MatchResult, Option, IsSome, None, Some}
+use Rattle.std.specs.Prelude.{MatchResult, Option, IsSome, None, Some}
 use Rattle.std.specs.Prelude.{Result, Ok, Err, true}
 use Rattle.std.specs.Option.{option_map}
 use Rattle.r4_atoms.specs.Atoms.{AtomsSeen, is_sealed, owner_of}

@@ -1,4 +1,4 @@
-use Rattle.std.proofs.Common.{◌≡◌, List, ap, arith, rules, ◌∙◌}
+use Rattle.std.proofs.Common.{◌≡◌, ap, arith, rules, ◌∙◌}
 use Rattle.std.specs.Prelude.{length}
 use Rattle.r4_base.specs.Key.{rank}
 use Rattle.r4_graft.specs.Splices.{parted}

@@ -1,4 +1,4 @@
-use Rattle.std.proofs.Common.{◌≡◌, ◌+◌, ◌-◌, ◌*◌, ◌/◌, ℕ, ap, arith, sym, ◌∙◌}
+use Rattle.std.proofs.Common.{◌+◌, ◌*◌, ◌/◌, ap, arith, sym, ◌∙◌}
 use Rattle.r4_base.specs.Key.{rank}
 use Rattle.r4_content.specs.Held.{edits_of}
 use Rattle.r4_graft.proofs.Halves.{later_rank}

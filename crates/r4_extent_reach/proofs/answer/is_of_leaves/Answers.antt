@@ -1,4 +1,3 @@
-use Rattle.r4_extent_reaching.specs.Meeting.{IsOfLeaves}
 use Rattle.r4_extent_reach.proofs.answer.is_of_leaves.Goals as goal
 
 pub returns-then-not-is_spread : goal.returns-then-not-is_spread

@@ -2,7 +2,6 @@ use Rattle.std.proofs.Common.{◌≡◌, ℕ, ◌∙◌, sym, subst}
 use Rattle.std.specs.Prelude.{Contains}
 use Rattle.r4_base.specs.Cell.{cell_of}
 use Rattle.r4_base.specs.Key.{rank}
-use Rattle.r4_base.specs.Tree.{Span}
 use Rattle.r4_touching.proofs.r4_patch.Members.{none}
 use Rattle.r4_extent_reach.proofs.answer.spares_extents.Goals as goal
 
