@@ -3,4 +3,4 @@ use Rattle.r4_shared.proofs.shared.Shared.work.Goals as goal
 pub build-built-requires-clause-task : goal.build-built-requires-clause-task
 build-built-requires-clause-task g c κs within =
     let r = c.requires in
-    (r.body, (r.reads, (_, (_, r.is_task))))
+    (_, (_, r.is_task))
