@@ -1,0 +1,6 @@
+mod Entries
+mod Pointing
+mod Allowed
+mod Searching
+mod Coming
+mod Raised

@@ -1,0 +1,26 @@
+//! Laws of tables. They are contracts of functions that do nothing.
+
+ghost use Rattle.std.specs.Prelude.{ℕ, ◌+◌, ◌*◌, ◌≤◌, List};
+ghost use Rattle.r4_base.specs.Tree.{Root as TreeRoot, Store};
+ghost use Rattle.r4_base.specs.Value.{Value};
+ghost use Rattle.r4_measure.specs.r4_cell.Seen.{CellSeen};
+ghost use Rattle.r4_measure.specs.r4_cell.declared.change.Fresh.{Fresh};
+ghost use Rattle.r4_allowed.specs.Allowing.{AreTaskCells, IsAllowed, IsMeasure};
+ghost use Rattle.r4_allowed.specs.Making.{partings};
+ghost use Rattle.r4_allowed.specs.declared.table.Allowance.{Allowance};
+
+/// A table that is allowed is a budget of each part of a tree of which these are cells: its cells may be changed one
+/// after another, each with what may come in its place, and nothing comes below twigs. A node is named once in a part,
+/// so a cell that is not among these names none of which something comes (docs/volume.md, "What may still come").
+pub fn allowed_tables_are_budgets()
+    ensures { (t : Store Value) (r : TreeRoot) (f : Fresh) (cells : List CellSeen)
+        (table : List Allowance) → AreTaskCells t r f cells → IsAllowed r cells table
+        → IsMeasure t r cells table }
+{}
+
+/// The partings of a node are the least number with which it suffices for so many bytes (docs/volume.md, "What may
+/// still come").
+pub fn partings_are_least()
+    ensures enough { (bytes : ℕ) → bytes ≤ 4068 + 1024 * partings bytes }
+    ensures least { (bytes n : ℕ) → bytes ≤ 4068 + 1024 * n → partings bytes ≤ n }
+{}
