@@ -1,12 +1,12 @@
 -- A table that is allowed is a budget of each part of a tree of which the cells are cells.
-use Rattle.std.proofs.Common.{◌≡◌, ◌≢◌, ◌⊎◌, inl, inr, ℕ, suc, ◌-◌, ◌<◌, ◌≤◌, List, [], ◌∷◌, refl, ap, sym, subst, ◌∙◌, arith}
+use Rattle.std.proofs.Common.{◌≡◌, ◌⊎◌, inl, inr, ℕ, suc, ◌-◌, ◌<◌, ◌≤◌, List, [], ◌∷◌, refl, ap, sym, subst, ◌∙◌, arith}
 use Rattle.std.specs.Prelude.{Contains, Some}
 use Rattle.std.proofs.lemmas.Bool.{cases_eq, cases_lt}
 use Rattle.std.proofs.lemmas.Option.{same_Some}
-use Rattle.r4_base.specs.Node.{Item, items_of}
+use Rattle.r4_base.specs.Node.{items_of}
 use Rattle.r4_base.specs.Tree.{Name, Node, Root, Store}
 use Rattle.r4_base.specs.Value.{Value}
-use Rattle.r4_measure.specs.Budget.{Bears, Budget, below}
+use Rattle.r4_measure.specs.Budget.{Bears, Budget}
 use Rattle.r4_measure.specs.r4_cell.Seen.{CellSeen, node_of}
 use Rattle.r4_measure.specs.r4_cell.declared.change.Fresh.{Fresh}
 use Rattle.r4_measure.proofs.Grafted.{none_below}
@@ -14,10 +14,10 @@ use Rattle.r4_measure.proofs.Kept.{block_is}
 use Rattle.r4_measure.proofs.r4_patch.Members.{cases, here, later, none}
 use Rattle.r4_measure.proofs.r4_patch.PartCells.{named_once, root_unnamed}
 use Rattle.r4_measure.proofs.r4_path.Rising.{level_is}
-use Rattle.r4_allowed.specs.Allowing.{AreTaskCells, IsAllowed, IsMeasure, IsPointerTo, MayGrow, PointsTo}
+use Rattle.r4_allowed.specs.Allowing.{AreTaskCells, IsAllowed, IsMeasure, MayGrow}
 use Rattle.r4_allowed.specs.Table.{budget_of}
 use Rattle.r4_allowed.specs.declared.table.Allowance.{Allowance}
-use Rattle.r4_allowed.proofs.Entries.{HasEntry, entry_of}
+use Rattle.r4_allowed.proofs.Entries.{entry_of}
 use Rattle.r4_allowed.proofs.Pointing.{names_it, nothing_below}
 
 -- one of the cells has the number
@@ -31,9 +31,9 @@ among (c ∷ cells) i = elim (cases_eq c.id i) [
   | inr other ↦ elim (among cells i) [
     | inl found ↦ let (x, member, is) = found in inl (x, later c x cells member, is)
     | inr off ↦ inr (λ (x, member, is). elim (cases c x cells member) [
-        | inl same ↦ other (ap (λ (y : CellSeen). y.id) (sym same) ∙ is)
-        | inr rest ↦ off (x, rest, is)
-      ])
+      | inl same ↦ other (ap (λ (y : CellSeen). y.id) (sym same) ∙ is)
+      | inr rest ↦ off (x, rest, is)
+    ])
   ]
 ]
 

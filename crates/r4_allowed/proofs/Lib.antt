@@ -1,6 +1,7 @@
 mod Entries
 mod Pointing
-mod Allowed
+pub mod Allowed
 mod Searching
 mod Coming
-mod Raised
+pub mod Raised
+mod Suffices

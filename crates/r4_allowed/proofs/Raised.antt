@@ -1,10 +1,9 @@
 -- What a table has that is made level by level.
-use Rattle.std.proofs.Common.{◌≡◌, ◌≢◌, ◌⊎◌, inl, inr, ℕ, suc, ◌+◌, ◌-◌, ◌<◌, ◌≤◌, Bool, true, false, List, [], ◌∷◌, ◌++◌, map, refl, ap, sym, subst, ◌∙◌, arith}
+use Rattle.std.proofs.Common.{◌≡◌, ◌≢◌, inl, inr, ℕ, suc, ◌-◌, ◌≤◌, Bool, true, false, List, [], ◌∷◌, ◌++◌, map, refl, ap, sym, subst, ◌∙◌, arith}
 use Rattle.std.specs.Prelude.{All, ◌==◌, ◌&&◌, if◌then◌else◌}
-use Rattle.std.proofs.lemmas.Bool.{cases_eq, cases_lt, eq-eqb, eqb-true, ne_eqb}
+use Rattle.std.proofs.lemmas.Bool.{cases_eq, eq-eqb, ne_eqb}
 use Rattle.std.proofs.lemmas.List.Elements.{All-append, All-cons, All-head, All-nil, All-tail, All-weaker}
 use Rattle.r4_base.specs.declared.things.NodeId.{NodeId}
-use Rattle.r4_measure.specs.Budget.{Budget}
 use Rattle.r4_measure.specs.r4_cell.Seen.{CellSeen}
 use Rattle.r4_allowed.specs.Making.{IsOfTwig, IsRaised, IsUpTo, entries_at, entry_at, needed_at, needed_by, told_of, twig_entry}
 use Rattle.r4_allowed.specs.Table.{budget_of}

@@ -10,10 +10,10 @@ ghost use Rattle.r4_allowed.specs.Table.{budget_of};
 
 use crate::table::{Allowance, most_of};
 use r4_base::{BlockNo, NODE_ROOM, NodeId, POINTER};
+use r4_cell::pointer;
 use r4_extent_demands::{POINTER_ROOM, node_bytes};
 use r4_measure::Cell;
 use r4_node40::ItemView;
-use r4_cell::pointer;
 
 /// Each half of a node that is parted has so many bytes or more.
 pub(crate) const NODE_SHARE: u128 = 1024;

@@ -1,10 +1,14 @@
 //! Whether a table is what may still come in the place of the cells of a task (docs/volume.md, "What may still come").
 
-ghost use Rattle.std.specs.Prelude.{◌≡◌, ◌↔◌, ◌+◌, ◌*◌, ◌<◌, ◌≤◌, suc, true, All, length, map};
+ghost use Rattle.std.specs.Prelude.{◌≡◌, ◌↔◌, ◌≤◌, suc, true, All, map};
 ghost use Rattle.std.specs.Arc.{arc_value};
+ghost use Rattle.r4_base.specs.Tree.{Store};
+ghost use Rattle.r4_base.specs.Value.{Value};
 ghost use Rattle.r4_measure.specs.r4_cell.Patch.{root_of_pair};
+ghost use Rattle.r4_measure.specs.r4_cell.declared.change.Fresh.{Fresh};
 ghost use Rattle.r4_node40.specs.View.{item_shown};
-ghost use Rattle.r4_allowed.specs.Allowing.{BearsBy, Hangs, IsAllowed, IsAmong, IsEntry, IsLowRoot, IsPointedTo, IsPointerTo, MayGrow, PointsTo};
+ghost use Rattle.r4_allowed.specs.Allowing.{AreTaskCells, BearsBy, Hangs, IsAllowed, IsAmong, IsEntry};
+ghost use Rattle.r4_allowed.specs.Allowing.{IsLowRoot, IsMeasure, IsPointedTo, IsPointerTo, MayGrow, PointsTo};
 
 use crate::bearing::{NODE_SHARE, below, bytes_with};
 use crate::table::{Allowance, most_of};
@@ -25,8 +29,11 @@ const MOST_HEIGHT: u8 = 8;
 /// above the twigs suffices for what comes below it. Then it is a budget of any part of a tree of which these are cells
 /// (`allowed_tables_are_budgets`). It takes no memory (docs/volume.md, "What may still come").
 pub fn is_allowed(root: &Root, cells: &[Arc<Cell>], table: &[Allowance]) -> bool
-    ensures { (result ≡ true) ↔ IsAllowed (root_of_pair root.now)
+    ensures allowed { (result ≡ true) ↔ IsAllowed (root_of_pair root.now)
         (map (λ c. arc_value c) cells.now) table.now }
+    ensures budget { result ≡ true → (t : Store Value) (f : Fresh)
+        → AreTaskCells t (root_of_pair root.now) f (map (λ c. arc_value c) cells.now)
+        → IsMeasure t (root_of_pair root.now) (map (λ c. arc_value c) cells.now) table.now }
 {
     are_entries(root, cells, table) && all_bear(table, cells)
 }
@@ -161,5 +168,6 @@ fn bears(table: &[Allowance], cell: &Cell) -> bool
     }
     let coming = below(table, cell);
     let parts = most_of(table, cell.level(), cell.id());
-    coming == 0 || bytes_with(cell, coming) <= u128::from(NODE_ROOM) + NODE_SHARE * u128::from(parts)
+    coming == 0
+        || bytes_with(cell, coming) <= u128::from(NODE_ROOM) + NODE_SHARE * u128::from(parts)
 }

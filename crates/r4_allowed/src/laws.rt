@@ -1,12 +1,14 @@
 //! Laws of tables. They are contracts of functions that do nothing.
 
-ghost use Rattle.std.specs.Prelude.{ℕ, ◌+◌, ◌*◌, ◌≤◌, List};
+ghost use Rattle.std.specs.Prelude.{ℕ, ◌+◌, ◌*◌, ◌≤◌, Contains, List};
 ghost use Rattle.r4_base.specs.Tree.{Root as TreeRoot, Store};
 ghost use Rattle.r4_base.specs.Value.{Value};
+ghost use Rattle.r4_measure.specs.r4_cell.Patch.{HaveNames};
 ghost use Rattle.r4_measure.specs.r4_cell.Seen.{CellSeen};
 ghost use Rattle.r4_measure.specs.r4_cell.declared.change.Fresh.{Fresh};
-ghost use Rattle.r4_allowed.specs.Allowing.{AreTaskCells, IsAllowed, IsMeasure};
-ghost use Rattle.r4_allowed.specs.Making.{partings};
+ghost use Rattle.r4_allowed.specs.Allowing.{AreTaskCells, BearsBy, IsAllowed, IsMeasure};
+ghost use Rattle.r4_allowed.specs.Making.{IsRaised, partings};
+ghost use Rattle.r4_allowed.specs.Table.{budget_of};
 ghost use Rattle.r4_allowed.specs.declared.table.Allowance.{Allowance};
 
 /// A table that is allowed is a budget of each part of a tree of which these are cells: its cells may be changed one
@@ -16,6 +18,14 @@ pub fn allowed_tables_are_budgets()
     ensures { (t : Store Value) (r : TreeRoot) (f : Fresh) (cells : List CellSeen)
         (table : List Allowance) → AreTaskCells t r f cells → IsAllowed r cells table
         → IsMeasure t r cells table }
+{}
+
+/// A table that was made of what comes of twigs lets each cell above the twigs suffice for what comes below it, where
+/// the cells have names of their own and stand no higher than it was made (docs/volume.md, "What may still come").
+pub fn made_tables_suffice()
+    ensures { (top : ℕ) (cells : List CellSeen) (given : ℕ → ℕ) (table : List Allowance)
+        → HaveNames cells → IsRaised top cells given (budget_of table) → (c : CellSeen)
+        → Contains cells c → c.level ≤ top → BearsBy table c }
 {}
 
 /// The partings of a node are the least number with which it suffices for so many bytes (docs/volume.md, "What may

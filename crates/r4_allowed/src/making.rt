@@ -104,12 +104,7 @@ fn add_each(
 }
 
 // Puts the entry of a cell behind others, where it stands at a level.
-fn add(
-    more: &mut Vec<Allowance>,
-    table: &[Allowance],
-    cell: &Cell,
-    level: u8,
-) -> Result<(), Memory>
+fn add(more: &mut Vec<Allowance>, table: &[Allowance], cell: &Cell, level: u8) -> Result<(), Memory>
     requires { 3 ≤ level }
     ensures { OnOk result (more.new.items ≡ more.old.items
         ++ entries_at (budget_of table.now (level - 1)) level (cell.now ∷ [])) }
