@@ -5,7 +5,7 @@ use Rattle.std.proofs.lemmas.Bool.{cases_eq, eq-eqb, ne_eqb}
 use Rattle.std.proofs.lemmas.List.Elements.{All-append, All-cons, All-head, All-nil, All-tail, All-weaker}
 use Rattle.r4_base.specs.declared.things.NodeId.{NodeId}
 use Rattle.r4_measure.specs.r4_cell.Seen.{CellSeen}
-use Rattle.r4_allowed.specs.Making.{IsOfTwig, IsRaised, IsUpTo, entries_at, entry_at, needed_at, needed_by, told_of, twig_entry}
+use Rattle.r4_allowed.specs.Making.{IsOfTwig, IsRaised, IsUpTo, cell_entry, entries_at, entry_at, needed_at, needed_by, told_of, twig_entry}
 use Rattle.r4_allowed.specs.Table.{budget_of}
 use Rattle.r4_allowed.specs.declared.table.Allowance.{Allowance}
 
@@ -49,8 +49,8 @@ entry_level : (u : ℕ → ℕ) (l : ℕ) (c : CellSeen) → All (AtLevel l) (en
 unfolding AtLevel
 entry_level u l c = by (c.level == l)
   where
-    by : (v : Bool) → All (AtLevel l) (if v then (record { level = l; id = record { 0 = c.id }; most = needed_by u c } ∷ []) else [])
-    by true = All-cons (AtLevel l) (record { level = l; id = record { 0 = c.id }; most = needed_by u c }) [] refl (All-nil (AtLevel l))
+    by : (v : Bool) → All (AtLevel l) (if v then (cell_entry u l c ∷ []) else [])
+    by true = All-cons (AtLevel l) (cell_entry u l c) [] refl (All-nil (AtLevel l))
     by false = All-nil (AtLevel l)
 
 entries_level : (u : ℕ → ℕ) (l : ℕ) (cells : List CellSeen) → All (AtLevel l) (entries_at u l cells)
@@ -73,7 +73,7 @@ entries_have u l i (c ∷ cells) = by (c.level == l) (entries_have u l i cells)
     here false w h rest = absurd cc
 
     by : (v : Bool) → budget_of (entries_at u l cells) l i ≡ needed_at u cells l i
-        → budget_of ((if v then (record { level = l; id = record { 0 = c.id }; most = needed_by u c } ∷ []) else []) ++ entries_at u l cells) l i
+        → budget_of ((if v then (cell_entry u l c ∷ []) else []) ++ entries_at u l cells) l i
         ≡ (if v && (c.id == i) then needed_by u c else needed_at u cells l i)
     by true rest = here (l == l) (c.id == i) (eq-eqb l l refl) rest
     by false rest = rest
@@ -183,12 +183,9 @@ raised_told top cells xs old new is raised =
 
 -- ---- one entry
 
-abbrev pub of_cell : (u : ℕ → ℕ) (l : ℕ) → CellSeen → Allowance
-of_cell u l c = record { level = l; id = record { 0 = c.id }; most = needed_by u c }
-
-pub entry_here : (u : ℕ → ℕ) (l : ℕ) (c : CellSeen) → c.level ≡ l → entries_at u l (c ∷ []) ≡ of_cell u l c ∷ []
+pub entry_here : (u : ℕ → ℕ) (l : ℕ) (c : CellSeen) → c.level ≡ l → entries_at u l (c ∷ []) ≡ cell_entry u l c ∷ []
 entry_here u l c is = by (c.level == l) (eq-eqb c.level l is)
   where
-    by : (v : Bool) → v ≡ true → (if v then (of_cell u l c ∷ []) else []) ++ [] ≡ of_cell u l c ∷ []
+    by : (v : Bool) → v ≡ true → (if v then (cell_entry u l c ∷ []) else []) ++ [] ≡ cell_entry u l c ∷ []
     by true h = refl
     by false h = absurd cc

@@ -1,4 +1,5 @@
--- When a table is what may still come in the place of the cells of a task (docs/volume.md, "What may still come").
+-- When a table is what may still come in the place of the cells of a task (docs/volume.md, "What may
+-- still come").
 use Rattle.std.specs.Prelude.{◌≡◌, ◌⊎◌, ℕ, suc, ◌-◌, ◌<◌, ◌≤◌, List, Contains, Some}
 use Rattle.r4_base.specs.Extents.{pointer_of}
 use Rattle.r4_base.specs.Node.{Item, items_of}
@@ -39,8 +40,8 @@ IsLowRoot r a = (a.level ≡ r.height) × (a.id.0 ≡ r.id) × (r.height < 8)
 abbrev pub Hangs : Root → List CellSeen → Allowance → Type 0
 Hangs r cells a = IsLowRoot r a ⊎ IsPointedTo cells (suc a.level) a.id.0
 
--- Cells may come of this one: no more than 87, it is a twig or stands above twigs, it is among the cells, and is the
--- root, below level 8, or is pointed to from among them.
+-- Cells may come of this one: no more than 87, it is a twig or stands above twigs, it is among the
+-- cells, and is the root, below level 8, or is pointed to from among them.
 pub record MayGrow (r : Root) (cells : List CellSeen) (a : Allowance) : Type 0 where
   pub few : a.most ≤ 87
   pub high : 2 ≤ a.level

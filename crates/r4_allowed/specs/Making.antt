@@ -1,5 +1,6 @@
 -- The table that is made from what may come of twigs (docs/volume.md, "What may still come").
-use Rattle.std.specs.Prelude.{◌≡◌, ◌⊎◌, ℕ, suc, ◌+◌, ◌-◌, ◌*◌, ◌/◌, ◌<◌, ◌≤◌, ◌==◌, ◌&&◌, if◌then◌else◌, List, [], ◌∷◌, ◌++◌}
+use Rattle.std.specs.Prelude.{◌≡◌, ◌⊎◌, ℕ, suc, ◌+◌, ◌-◌, ◌*◌, ◌/◌, ◌<◌, ◌≤◌, ◌==◌, ◌&&◌}
+use Rattle.std.specs.Prelude.{if◌then◌else◌, List, [], ◌∷◌, ◌++◌}
 use Rattle.r4_base.specs.Node.{items_of}
 use Rattle.r4_base.specs.declared.things.NodeId.{NodeId}
 use Rattle.r4_measure.specs.Budget.{Budget, below}
@@ -12,7 +13,8 @@ abbrev pub told_of : List (NodeId × ℕ) → (id : ℕ) → ℕ
 told_of [] id = 0
 told_of (x ∷ xs) id = if x.0.0 == id then x.1 else told_of xs id
 
--- the least number of which each 1024 bytes suffice, with the room of a node, for so many bytes
+-- how often a node has to be parted at least that needs so many bytes, where each parting gives
+-- room for 1024
 abbrev pub partings : (bytes : ℕ) → ℕ
 partings bytes = (bytes - 4068 + 1023) / 1024
 
@@ -26,8 +28,10 @@ needed_at under [] level id = 0
 needed_at under (c ∷ cells) level id =
     if (c.level == level) && (c.id == id) then needed_by under c else needed_at under cells level id
 
--- From twigs up to a level each of the cells gets what it needs for those below it; no other one gets anything.
-pub record IsRaised (top : ℕ) (cells : List CellSeen) (given : ℕ → ℕ) (b : Budget) : Type 0 where
+-- Twigs get this, and from them up to a level each of the cells what it needs for those below it; no
+-- other one gets anything.
+pub record IsRaised (top : ℕ) (cells : List CellSeen) (given : ℕ → ℕ) (b : Budget)
+    : Type 0 where
   pub low : (l i : ℕ) → l ≤ 1 → b l i ≡ 0
   pub twigs : (i : ℕ) → b 2 i ≡ given i
   pub above : (l i : ℕ) → 2 ≤ l → l < top → b (suc l) i ≡ needed_at (b l) cells (suc l) i
@@ -45,10 +49,14 @@ IsOfTwig a = a.level ≡ 2
 abbrev pub IsUpTo : (top : ℕ) → Allowance → Type 0
 IsUpTo top a = (a.level ≤ 2) ⊎ (a.level ≤ top)
 
+-- what a cell needs, as an entry for this level
+abbrev pub cell_entry : (under : ℕ → ℕ) → (level : ℕ) → CellSeen → Allowance
+cell_entry under level c =
+    record { level = level; id = record { 0 = c.id }; most = needed_by under c }
+
 -- the entry of a cell, where it stands at the level
 abbrev pub entry_at : (under : ℕ → ℕ) → (level : ℕ) → CellSeen → List Allowance
-entry_at under level c =
-    if c.level == level then (record { level = level; id = record { 0 = c.id }; most = needed_by under c } ∷ []) else []
+entry_at under level c = if c.level == level then (cell_entry under level c ∷ []) else []
 
 -- those of the cells that do
 abbrev pub entries_at : (under : ℕ → ℕ) → (level : ℕ) → List CellSeen → List Allowance

@@ -1,4 +1,5 @@
--- How many cells may still come in the place of each cell of a task, as a table (docs/volume.md, "What may still come").
+-- How many cells may still come in the place of each cell of a task, as a table (docs/volume.md,
+-- "What may still come").
 use Rattle.std.specs.Prelude.{◌==◌, ◌&&◌, if◌then◌else◌, List, [], ◌∷◌}
 use Rattle.r4_measure.specs.Budget.{Budget}
 use Rattle.r4_allowed.specs.declared.table.Allowance.{Allowance}

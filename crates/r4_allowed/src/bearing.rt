@@ -1,6 +1,7 @@
-//! What comes below a node by a table, and what it needs for that (docs/volume.md, "What may still come").
+//! What comes below a node by a table, and what it needs for that (docs/volume.md, "What may still
+//! come").
 
-ghost use Rattle.std.specs.Prelude.{◌≡◌, ◌+◌, ◌-◌, ◌*◌, ◌/◌, ◌^◌, ◌<◌, ◌≤◌, length};
+ghost use Rattle.std.specs.Prelude.{◌≡◌, ◌+◌, ◌-◌, ◌*◌, ◌^◌, ◌<◌, ◌≤◌};
 ghost use Rattle.r4_base.specs.Node.{items_of};
 ghost use Rattle.r4_measure.specs.Budget.{below, of_item};
 ghost use Rattle.r4_measure.specs.r4_path.Nodes.{weight};
@@ -15,7 +16,7 @@ use r4_extent_demands::{POINTER_ROOM, node_bytes};
 use r4_measure::Cell;
 use r4_node40::ItemView;
 
-/// Each half of a node that is parted has so many bytes or more.
+/// A node that is parted has room for so many bytes more, or for more of them.
 pub(crate) const NODE_SHARE: u128 = 1024;
 
 // How many cells come below a node by a table.
@@ -34,7 +35,8 @@ pub(crate) fn below(table: &[Allowance], node: &Cell) -> u128
     cells
 }
 
-// How many come by a table of the node of this level to which an item points; none where it is no pointer.
+// How many come by a table of the node of this level to which an item points; none where it is no
+// pointer.
 fn coming_at(table: &[Allowance], level: u8, item: &ItemView<'_>) -> u64
     ensures { result ≡ of_item (budget_of table.now level) (item_shown item.now) }
 {
@@ -57,7 +59,8 @@ pub(crate) fn bytes_with(node: &Cell, cells: u128) -> u128
     u128::from(node_bytes(node)) + u128::from(POINTER_ROOM) * cells
 }
 
-// The least number of which each 1024 bytes suffice, with the room of a node, for so many bytes.
+// How often a node has to be parted at least that needs so many bytes, where each parting gives
+// room for 1024.
 pub(crate) fn partings(bytes: u128) -> u128
     requires { bytes < 2 ^ 90 }
     ensures { result ≡ partings bytes }

@@ -1,4 +1,5 @@
-//! Whether a table is what may still come in the place of the cells of a task (docs/volume.md, "What may still come").
+//! Whether a table is what may still come in the place of the cells of a task (docs/volume.md,
+//! "What may still come").
 
 ghost use Rattle.std.specs.Prelude.{◌≡◌, ◌↔◌, ◌≤◌, suc, true, All, map};
 ghost use Rattle.std.specs.Arc.{arc_value};
@@ -7,8 +8,10 @@ ghost use Rattle.r4_base.specs.Value.{Value};
 ghost use Rattle.r4_measure.specs.r4_cell.Patch.{root_of_pair};
 ghost use Rattle.r4_measure.specs.r4_cell.declared.change.Fresh.{Fresh};
 ghost use Rattle.r4_node40.specs.View.{item_shown};
-ghost use Rattle.r4_allowed.specs.Allowing.{AreTaskCells, BearsBy, Hangs, IsAllowed, IsAmong, IsEntry};
-ghost use Rattle.r4_allowed.specs.Allowing.{IsLowRoot, IsMeasure, IsPointedTo, IsPointerTo, MayGrow, PointsTo};
+ghost use Rattle.r4_allowed.specs.Allowing.{AreTaskCells, BearsBy, Hangs, IsAllowed, IsAmong};
+ghost use Rattle.r4_allowed.specs.Allowing.{IsEntry};
+ghost use Rattle.r4_allowed.specs.Allowing.{IsLowRoot, IsMeasure, IsPointedTo, IsPointerTo};
+ghost use Rattle.r4_allowed.specs.Allowing.{MayGrow, PointsTo};
 
 use crate::bearing::{NODE_SHARE, below, bytes_with};
 use crate::table::{Allowance, most_of};
@@ -24,10 +27,11 @@ const MOST_OF_ONE: u64 = 87;
 /// The root may be parted below this level.
 const MOST_HEIGHT: u8 = 8;
 
-/// Whether a table is what may still come in the place of these cells: of each at most 87, of none below twigs, and of
-/// those alone that are among them and are the root, below level 8, or are pointed to from among them; and each node
-/// above the twigs suffices for what comes below it. Then it is a budget of any part of a tree of which these are cells
-/// (`allowed_tables_are_budgets`). It takes no memory (docs/volume.md, "What may still come").
+/// Whether a table is what may still come in the place of these cells: of each at most 87, of none
+/// below twigs, and of those alone that are among them and are the root, below level 8, or are
+/// pointed to from among them; and each node above the twigs suffices for what comes below it. Then
+/// it is a budget of any part of a tree of which these are cells (`allowed_tables_are_budgets`). It
+/// takes no memory (docs/volume.md, "What may still come").
 pub fn is_allowed(root: &Root, cells: &[Arc<Cell>], table: &[Allowance]) -> bool
     ensures allowed { (result ≡ true) ↔ IsAllowed (root_of_pair root.now)
         (map (λ c. arc_value c) cells.now) table.now }
@@ -88,7 +92,8 @@ fn is_at(cell: &Cell, level: u8, id: NodeId) -> bool
     cell.level() == level && cell.id().0 == id.0
 }
 
-// Whether an entry is the root's, which stands below level 8, or one of the cells points to its cell.
+// Whether an entry is the root's, which stands below level 8, or one of the cells points to its
+// cell.
 fn hangs(root: &Root, cells: &[Arc<Cell>], entry: &Allowance) -> bool
     ensures { (result ≡ true) ↔ Hangs (root_of_pair root.now)
         (map (λ c. arc_value c) cells.now) entry.now }

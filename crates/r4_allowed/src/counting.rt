@@ -11,8 +11,9 @@ use r4_cell::Root;
 use r4_measure::Cell;
 use std::sync::Arc;
 
-/// How many cells there may be in the end by a table: these, what may come in the place of each, and a new root where
-/// something may come of it. None where these are 2^64 or more (docs/volume.md, "What may still come").
+/// How many cells there may be in the end by a table: these, what may come in the place of each,
+/// and a new root where something may come of it. None where these are 2^64 or more
+/// (docs/volume.md, "What may still come").
 pub fn most_new(root: &Root, cells: &[Arc<Cell>], table: &[Allowance]) -> Option<u64>
     ensures { MatchOption result
         (2 ^ 64 ≤ most_from (budget_of table.now) (root_of_pair root.now)

@@ -11,25 +11,27 @@ ghost use Rattle.r4_allowed.specs.Making.{IsRaised, partings};
 ghost use Rattle.r4_allowed.specs.Table.{budget_of};
 ghost use Rattle.r4_allowed.specs.declared.table.Allowance.{Allowance};
 
-/// A table that is allowed is a budget of each part of a tree of which these are cells: its cells may be changed one
-/// after another, each with what may come in its place, and nothing comes below twigs. A node is named once in a part,
-/// so a cell that is not among these names none of which something comes (docs/volume.md, "What may still come").
+/// A table that is allowed is a budget of each part of a tree of which these are cells: its cells
+/// may be changed one after another, each with what may come in its place, and nothing comes below
+/// twigs. A node is named once in a part, so a cell that is not among these names none of which
+/// something comes (docs/volume.md, "What may still come").
 pub fn allowed_tables_are_budgets()
     ensures { (t : Store Value) (r : TreeRoot) (f : Fresh) (cells : List CellSeen)
         (table : List Allowance) → AreTaskCells t r f cells → IsAllowed r cells table
         → IsMeasure t r cells table }
 {}
 
-/// A table that was made of what comes of twigs lets each cell above the twigs suffice for what comes below it, where
-/// the cells have names of their own and stand no higher than it was made (docs/volume.md, "What may still come").
+/// A table that was made of what comes of twigs lets each cell above the twigs suffice for what
+/// comes below it, where the cells have names of their own and stand no higher than it was made
+/// (docs/volume.md, "What may still come").
 pub fn made_tables_suffice()
     ensures { (top : ℕ) (cells : List CellSeen) (given : ℕ → ℕ) (table : List Allowance)
         → HaveNames cells → IsRaised top cells given (budget_of table) → (c : CellSeen)
         → Contains cells c → c.level ≤ top → BearsBy table c }
 {}
 
-/// The partings of a node are the least number with which it suffices for so many bytes (docs/volume.md, "What may
-/// still come").
+/// A node is parted no more often than its bytes need, each parting giving room for 1024
+/// (docs/volume.md, "What may still come").
 pub fn partings_are_least()
     ensures enough { (bytes : ℕ) → bytes ≤ 4068 + 1024 * partings bytes }
     ensures least { (bytes n : ℕ) → bytes ≤ 4068 + 1024 * n → partings bytes ≤ n }

@@ -1,5 +1,5 @@
-//! What may still come in the place of the cells of a task, as a table that is made and checked when a command is
-//! carried out (docs/volume.md, "What may still come").
+//! What may still come in the place of the cells of a task, as a table that is made and checked
+//! when a command is carried out (docs/volume.md, "What may still come").
 #![tactic(auto)]
 
 mod bearing;

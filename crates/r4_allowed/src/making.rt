@@ -1,8 +1,10 @@
-//! A table of what may still come, from what may come of twigs (docs/volume.md, "What may still come").
+//! A table of what may still come, from what may come of twigs (docs/volume.md, "What may still
+//! come").
 
 ghost use Rattle.std.specs.Prelude.{◌≡◌, ◌++◌, ◌∷◌, ◌-◌, ◌≤◌, [], map, All, IfOk, OnOk};
 ghost use Rattle.std.specs.Arc.{arc_value};
-ghost use Rattle.r4_allowed.specs.Making.{IsOfTwig, IsRaised, IsUpTo, entries_at, needed_by, told_of, twig_entry};
+ghost use Rattle.r4_allowed.specs.Making.{IsOfTwig, IsRaised, IsUpTo, entries_at, needed_by};
+ghost use Rattle.r4_allowed.specs.Making.{told_of, twig_entry};
 ghost use Rattle.r4_allowed.specs.Table.{budget_of};
 
 use crate::bearing::{below, bytes_with, partings};
@@ -13,10 +15,11 @@ use r4_measure::Cell;
 use std::alloc::{AllocError, Global};
 use std::sync::Arc;
 
-/// What may still come in the place of these cells, where so many may come of these twigs: of each cell above the twigs,
-/// up to the root's level, the least number with which it suffices for what comes below it. Of the entries of one cell
-/// the first counts. Whether it is what may come, `is_allowed` says. The only error is want of memory, also where 2^64
-/// or more come of a cell (docs/volume.md, "What may still come").
+/// What may still come in the place of these cells, where so many may come of these twigs: of each
+/// cell above the twigs, up to the root's level, the least number with which it suffices for what
+/// comes below it. Of the entries of one cell the first counts. Whether it is what may come,
+/// `is_allowed` says. The only error is want of memory, also where 2^64 or more come of a cell
+/// (docs/volume.md, "What may still come").
 pub fn allowances(
     alloc: Global,
     root: &Root,
@@ -46,7 +49,8 @@ fn of_twigs(alloc: Global, twigs: &[(NodeId, u64)]) -> Result<Vec<Allowance>, Me
     Ok(table)
 }
 
-// Puts entries of the cells above the twigs, up to a level, behind those of twigs, the lowest level first.
+// Puts entries of the cells above the twigs, up to a level, behind those of twigs, the lowest level
+// first.
 fn raise(
     alloc: Global,
     table: &mut Vec<Allowance>,

@@ -5,8 +5,8 @@ ghost use Rattle.r4_allowed.specs.Table.{budget_of};
 
 use r4_base::NodeId;
 
-/// How many cells may still come in the place of the cell of this level and number (docs/volume.md, "What may still
-/// come").
+/// How many cells may still come in the place of the cell of this level and number (docs/volume.md,
+/// "What may still come").
 #[derive(Clone, Copy, Debug, PartialEq, Eq)]
 pub struct Allowance {
     pub level: u8,
