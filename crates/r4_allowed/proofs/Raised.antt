@@ -1,10 +1,11 @@
 -- What a table has that is made level by level.
 use Rattle.std.proofs.Common.{◌≡◌, ◌≢◌, inl, inr, ℕ, suc, ◌-◌, ◌≤◌, Bool, true, false, List, [], ◌∷◌, ◌++◌, map, refl, ap, sym, subst, ◌∙◌, arith}
-use Rattle.std.specs.Prelude.{All, ◌==◌, ◌&&◌, if◌then◌else◌}
+use Rattle.std.specs.Prelude.{All, Contains, ◌==◌, ◌&&◌, if◌then◌else◌}
 use Rattle.std.proofs.lemmas.Bool.{cases_eq, eq-eqb, ne_eqb}
 use Rattle.std.proofs.lemmas.List.Elements.{All-append, All-cons, All-head, All-nil, All-tail, All-weaker}
 use Rattle.r4_base.specs.declared.things.NodeId.{NodeId}
 use Rattle.r4_measure.specs.r4_cell.Seen.{CellSeen}
+use Rattle.r4_measure.proofs.r4_patch.Members.{cases, here, later, none}
 use Rattle.r4_allowed.specs.Making.{IsOfTwig, IsRaised, IsUpTo, cell_entry, entries_at, entry_at, needed_at, needed_by, told_of, twig_entry}
 use Rattle.r4_allowed.specs.Table.{budget_of}
 use Rattle.r4_allowed.specs.declared.table.Allowance.{Allowance}
@@ -189,3 +190,26 @@ entry_here u l c is = by (c.level == l) (eq-eqb c.level l is)
     by : (v : Bool) → v ≡ true → (if v then (cell_entry u l c ∷ []) else []) ++ [] ≡ cell_entry u l c ∷ []
     by true h = refl
     by false h = absurd cc
+
+-- a number is told, and each time so many or more: so is what counts
+pub told_least : (xs : List (NodeId × ℕ)) (i n : ℕ) → (x : NodeId × ℕ) × Contains xs x × (x.0.0 ≡ i)
+    → ((x : NodeId × ℕ) → Contains xs x → x.0.0 ≡ i → n ≤ x.1) → n ≤ told_of xs i
+told_least [] i n (x, member, is) least = absurd (none x member)
+told_least (y ∷ xs) i n (x, member, is) least = elim (cases_eq y.0.0 i) [
+  | inl same ↦ at_first (y.0.0 == i) (eq-eqb y.0.0 i same) (least y (here y xs) same)
+  | inr other ↦ at_later (y.0.0 == i) (ne_eqb y.0.0 i other) (told_least xs i n (x, behind_it other, is) (λ z at. least z (later y z xs at)))
+]
+  where
+    at_first : (v : Bool) → v ≡ true → n ≤ y.1 → n ≤ (if v then y.1 else told_of xs i)
+    at_first true h le = le
+    at_first false h le = absurd cc
+
+    at_later : (v : Bool) → v ≡ false → n ≤ told_of xs i → n ≤ (if v then y.1 else told_of xs i)
+    at_later true h le = absurd cc
+    at_later false h le = le
+
+    behind_it : y.0.0 ≢ i → Contains xs x
+    behind_it other = elim (cases y x xs member) [
+      | inl same ↦ absurd (other (ap (λ (z : NodeId × ℕ). z.0.0) (sym same) ∙ is))
+      | inr rest ↦ rest
+    ]

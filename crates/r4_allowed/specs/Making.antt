@@ -1,6 +1,6 @@
 -- The table that is made from what may come of twigs (docs/volume.md, "What may still come").
 use Rattle.std.specs.Prelude.{◌≡◌, ◌⊎◌, ℕ, suc, ◌+◌, ◌-◌, ◌*◌, ◌/◌, ◌<◌, ◌≤◌, ◌==◌, ◌&&◌}
-use Rattle.std.specs.Prelude.{if◌then◌else◌, List, [], ◌∷◌, ◌++◌}
+use Rattle.std.specs.Prelude.{if◌then◌else◌, Contains, List, [], ◌∷◌, ◌++◌}
 use Rattle.r4_base.specs.Node.{items_of}
 use Rattle.r4_base.specs.declared.things.NodeId.{NodeId}
 use Rattle.r4_measure.specs.Budget.{Budget, below}
@@ -12,6 +12,11 @@ use Rattle.r4_allowed.specs.declared.table.Allowance.{Allowance}
 abbrev pub told_of : List (NodeId × ℕ) → (id : ℕ) → ℕ
 told_of [] id = 0
 told_of (x ∷ xs) id = if x.0.0 == id then x.1 else told_of xs id
+
+-- A number is told of, and each time so many or more.
+pub record AreTold (xs : List (NodeId × ℕ)) (id n : ℕ) : Type 0 where
+  pub told : (x : NodeId × ℕ) × Contains xs x × (x.0.0 ≡ id)
+  pub least : (x : NodeId × ℕ) → Contains xs x → x.0.0 ≡ id → n ≤ x.1
 
 -- how often a node has to be parted at least that needs so many bytes, where each parting gives
 -- room for 1024

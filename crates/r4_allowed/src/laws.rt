@@ -3,11 +3,12 @@
 ghost use Rattle.std.specs.Prelude.{ℕ, ◌+◌, ◌*◌, ◌≤◌, Contains, List};
 ghost use Rattle.r4_base.specs.Tree.{Root as TreeRoot, Store};
 ghost use Rattle.r4_base.specs.Value.{Value};
+ghost use Rattle.r4_base.specs.declared.things.NodeId.{NodeId};
 ghost use Rattle.r4_measure.specs.r4_cell.Patch.{HaveNames};
 ghost use Rattle.r4_measure.specs.r4_cell.Seen.{CellSeen};
 ghost use Rattle.r4_measure.specs.r4_cell.declared.change.Fresh.{Fresh};
 ghost use Rattle.r4_allowed.specs.Allowing.{AreTaskCells, BearsBy, IsAllowed, IsMeasure};
-ghost use Rattle.r4_allowed.specs.Making.{IsRaised, partings};
+ghost use Rattle.r4_allowed.specs.Making.{AreTold, IsRaised, partings, told_of};
 ghost use Rattle.r4_allowed.specs.Table.{budget_of};
 ghost use Rattle.r4_allowed.specs.declared.table.Allowance.{Allowance};
 
@@ -28,6 +29,14 @@ pub fn made_tables_suffice()
     ensures { (top : ℕ) (cells : List CellSeen) (given : ℕ → ℕ) (table : List Allowance)
         → HaveNames cells → IsRaised top cells given (budget_of table) → (c : CellSeen)
         → Contains cells c → c.level ≤ top → BearsBy table c }
+{}
+
+/// Of a twig may come what was told of it: so many by a table that was made, where that many or more
+/// are told, each time (docs/volume.md, "What may still come").
+pub fn told_twigs_may_grow()
+    ensures { (top : ℕ) (cells : List CellSeen) (twigs : List (NodeId × ℕ)) (table : List Allowance)
+        → IsRaised top cells (told_of twigs) (budget_of table) → (i n : ℕ)
+        → AreTold twigs i n → n ≤ budget_of table 2 i }
 {}
 
 /// A node is parted no more often than its bytes need, each parting giving room for 1024

@@ -11,6 +11,8 @@ mod table;
 
 pub use checking::is_allowed;
 pub use counting::most_new;
-pub use laws::{allowed_tables_are_budgets, made_tables_suffice, partings_are_least};
+pub use laws::{
+    allowed_tables_are_budgets, made_tables_suffice, partings_are_least, told_twigs_may_grow,
+};
 pub use making::allowances;
 pub use table::Allowance;
