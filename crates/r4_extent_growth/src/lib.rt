@@ -3,5 +3,6 @@
 #![tactic(auto)]
 
 mod coming;
+mod twigs;
 
 pub use coming::twigs_coming;
