@@ -62,15 +62,6 @@ module _ (b : Body) (e : Edits) (c : CellSeen) (cs : List CellSeen) where
       ≡ (list_all (may_turn b e) (turning_among b e cs) && nat_le (numbers_needed b e (c ∷ cs)) left)
   may_off left h = ap (λ (xs : List CellSeen). list_all (may_turn b e) xs && nat_le (numbers_needed b e (c ∷ cs)) left) (among_off h)
 
-  pub refused : (left : ℕ) → numbers_for b e c ≡ None → may_turn_all b e (c ∷ cs) left ≡ false
-  refused left none = by_tests (is_turning b e c) (may_turn b e c) refl refl
-    where
-      by_tests : (v w : Bool) → is_turning b e c ≡ v → may_turn b e c ≡ w → may_turn_all b e (c ∷ cs) left ≡ false
-      by_tests true true t m = let some = sym (told true true t m) ∙ none in absurd cc
-      by_tests true false t m = may_on left t
-          ∙ ap (λ (v : Bool). (v && list_all (may_turn b e) (turning_among b e cs)) && nat_le (numbers_needed b e (c ∷ cs)) left) m
-      by_tests false w t m = let some = sym (told false w t m) ∙ none in absurd cc
-
   pub needs_more : (n left : ℕ) → numbers_for b e c ≡ Some n → left < n → may_turn_all b e (c ∷ cs) left ≡ false
   needs_more n left is lt = right_off (list_all (may_turn b e) (turning_among b e (c ∷ cs))) (nat_le (numbers_needed b e (c ∷ cs)) left)
       (too_few (numbers_needed b e (c ∷ cs)) left (by_tests (is_turning b e c) (may_turn b e c) refl refl))

@@ -1,2 +1,6 @@
 mod Tests
 mod AllTurn
+mod InLeaves
+mod Gaps
+mod Turns
+mod Found

@@ -1,6 +1,6 @@
 -- Tests of two parts, by their parts.
 use Rattle.std.proofs.Common.{◌≡◌, ℕ, Bool, true, false, refl}
-use Rattle.std.specs.Prelude.{◌&&◌, ◌||◌, Option, None, Some, is_some, not}
+use Rattle.std.specs.Prelude.{◌&&◌, ◌||◌, Err, IfOk, None, Ok, Option, Result, Some, is_some}
 use Rattle.std.specs.Option.{option_map}
 
 pub and_on : (x y r : Bool) → x ≡ true → r ≡ y → r ≡ (x && y)
@@ -22,3 +22,7 @@ or_off false y r h e = e
 pub some_mapped : {A : Type 0} (f : A → ℕ) (o : Option A) → is_some o ≡ is_some (option_map f o)
 some_mapped f None = refl
 some_mapped f (Some x) = refl
+
+pub both_ok : {X Y : Type 0} (r : Result X Y) (P Q R : X → Type 0) → ((x : X) → P x → Q x → R x) → IfOk r P → IfOk r Q → IfOk r R
+both_ok (Ok x) P Q R f p q = f x p q
+both_ok (Err y) P Q R f p q = q

@@ -3,6 +3,11 @@
 #![tactic(auto)]
 
 mod coming;
+mod growing;
+mod laws;
+mod lying;
 mod twigs;
 
 pub use coming::twigs_coming;
+pub use growing::may_grow;
+pub use laws::found_growths_can_be_made;

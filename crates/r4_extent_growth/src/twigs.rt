@@ -20,7 +20,8 @@ ghost use Rattle.r4_extent_growth.specs.Turning.{is_clear, may_be_packed, may_tu
 ghost use Rattle.r4_extent_growth.specs.Turning.{numbers_for, numbers_of_turn, stands_clear};
 
 use crate::coming::is_turning;
-use r4_base::{BLOCK_BYTES, Key, Memory, UNPLACED};
+use crate::lying::has_block;
+use r4_base::{Key, Memory, UNPLACED};
 use r4_content::Edits;
 use r4_extent_demands::{SizedBody, comes_first, pieces_after, unit_end};
 use r4_graft::{TwigPart, TwigPiece, place_of};
@@ -205,7 +206,7 @@ fn have_next(old: &[TwigPiece], new: &[TwigPiece]) -> bool
 fn has_next(old: &[TwigPiece], piece: &TwigPiece) -> bool
     ensures { result ≡ has_next old.now piece.now }
 {
-    !is_coming(old, piece) || piece.key.el[3].checked_add(BLOCK_BYTES).is_some()
+    !is_coming(old, piece) || has_block(&piece.key)
 }
 
 // How many of the pieces stand for blocks that come.
