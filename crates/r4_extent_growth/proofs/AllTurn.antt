@@ -1,5 +1,5 @@
 -- Whether each twig among cells may have its turn, from cell to cell.
-use Rattle.std.proofs.Common.{◌≡◌, ◌⊎◌, inl, inr, ℕ, ◌+◌, ◌-◌, ◌*◌, ◌<◌, ◌≤◌, Bool, true, false, List, [], ◌∷◌, length, refl, sym, ap, subst, ◌∙◌, arith}
+use Rattle.std.proofs.Common.{◌≡◌, ◌⊎◌, inl, inr, ℕ, ◌+◌, ◌-◌, ◌*◌, ◌<◌, ◌≤◌, Bool, true, false, List, [], ◌∷◌, drop, drop-cons, get_or, length, map, suc, refl, sym, ap, subst, ◌∙◌, arith}
 use Rattle.std.specs.Prelude.{◌&&◌, Contains, Option, None, Some, nat_le, option_map, if◌then◌else◌}
 use Rattle.std.specs.List.{list_all}
 use Rattle.std.proofs.lemmas.Grind.{common_steps}
@@ -29,6 +29,14 @@ less_first need n m left is h = ap (λ k. nat_le k left) is ∙ shifted n m left
   where
     shifted : (n m left : ℕ) → n ≤ left → nat_le (n + m) left ≡ nat_le m (left - n)
     shifted n m left h = grind (arith, common_steps, h)
+
+-- what is left of the cells, with the next one of them
+pub rest_is : {A : Type 0} (f : A → CellSeen) (xs : List A) (i : ℕ) (d : A) → i < length xs → (c : CellSeen) → c ≡ f (get_or xs i d)
+    → map f (drop i xs) ≡ c ∷ map f (drop (i + 1) xs)
+rest_is f xs i d lt c is = ap (map f) (drop-cons xs i d lt) ∙ (λ k. sym is k ∷ map f (drop (next k) xs))
+  where
+    next : suc i ≡ i + 1
+    next = omega arith
 
 module _ (b : Body) (e : Edits) (c : CellSeen) (cs : List CellSeen) where
   abbrev count : ℕ
@@ -61,6 +69,15 @@ module _ (b : Body) (e : Edits) (c : CellSeen) (cs : List CellSeen) where
   may_off : (left : ℕ) → is_turning b e c ≡ false → may_turn_all b e (c ∷ cs) left
       ≡ (list_all (may_turn b e) (turning_among b e cs) && nat_le (numbers_needed b e (c ∷ cs)) left)
   may_off left h = ap (λ (xs : List CellSeen). list_all (may_turn b e) xs && nat_le (numbers_needed b e (c ∷ cs)) left) (among_off h)
+
+  pub refused : (left : ℕ) → numbers_for b e c ≡ None → may_turn_all b e (c ∷ cs) left ≡ false
+  refused left none = by_tests (is_turning b e c) (may_turn b e c) refl refl
+    where
+      by_tests : (v w : Bool) → is_turning b e c ≡ v → may_turn b e c ≡ w → may_turn_all b e (c ∷ cs) left ≡ false
+      by_tests true true t m = let some = sym (told true true t m) ∙ none in absurd cc
+      by_tests true false t m = may_on left t
+          ∙ ap (λ (v : Bool). (v && list_all (may_turn b e) (turning_among b e cs)) && nat_le (numbers_needed b e (c ∷ cs)) left) m
+      by_tests false w t m = let some = sym (told false w t m) ∙ none in absurd cc
 
   pub needs_more : (n left : ℕ) → numbers_for b e c ≡ Some n → left < n → may_turn_all b e (c ∷ cs) left ≡ false
   needs_more n left is lt = right_off (list_all (may_turn b e) (turning_among b e (c ∷ cs))) (nat_le (numbers_needed b e (c ∷ cs)) left)

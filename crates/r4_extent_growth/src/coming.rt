@@ -37,29 +37,10 @@ pub fn twigs_coming(
         ≡ twigs_coming body.now (edits_of edits.now) (map (λ c. arc_value c) cells.now)) }
 {
     let mut twigs = Vec::new(alloc);
-    add_each(alloc, &mut twigs, body, edits, cells)?;
-    Ok(twigs)
-}
-
-// Puts those of some cells behind others that are twigs whose pieces change, each with how many may come beside it.
-fn add_each(
-    alloc: Global,
-    twigs: &mut Vec<(NodeId, u64)>,
-    body: &SizedBody,
-    edits: &Edits,
-    cells: &[Arc<Cell>],
-) -> Result<(), Memory>
-    requires { AreExtentEdits (Some body.now) (edits_of edits.now) }
-    ensures { OnOk result (map count_of twigs.new.items ≡ map count_of twigs.old.items
-        ++ twigs_coming body.now (edits_of edits.now) (map (λ c. arc_value c) cells.now)) }
-{
-    match cells.split_first() {
-        None => Ok(()),
-        Some((first, rest)) => {
-            add(alloc, twigs, body, edits, first)?;
-            add_each(alloc, twigs, body, edits, rest)
-        }
+    for cell in cells {
+        add(alloc, &mut twigs, body, edits, cell)?;
     }
+    Ok(twigs)
 }
 
 // Puts a cell behind others, with how many twigs may come beside it, where it is a twig whose pieces change.

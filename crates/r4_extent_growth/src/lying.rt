@@ -32,10 +32,12 @@ const LEAF_ROOM: u64 = 4068;
 pub(crate) fn are_whole(cells: &[Arc<Cell>]) -> bool
     ensures { result ≡ list_all is_whole (map (λ c. arc_value c) cells.now) }
 {
-    match cells.split_first() {
-        None => true,
-        Some((first, rest)) => is_whole(first) && are_whole(rest),
+    for cell in cells {
+        if !is_whole(cell) {
+            return false;
+        }
     }
+    true
 }
 
 // Whether a cell is a data block of 4096 bytes and keys, or a node.
@@ -89,10 +91,12 @@ fn cut_lies(cells: &[Arc<Cell>], cut: &Interval) -> bool
 fn some_has_all(cells: &[Arc<Cell>], cut: &Interval) -> bool
     ensures { result ≡ list_any (has_all (interval_of cut.now)) (map (λ c. arc_value c) cells.now) }
 {
-    match cells.split_first() {
-        None => false,
-        Some((first, rest)) => has_all(first, cut) || some_has_all(rest, cut),
+    for cell in cells {
+        if has_all(cell, cut) {
+            return true;
+        }
     }
+    false
 }
 
 // Whether a cell is a leaf that has all keys of an interval.
@@ -127,10 +131,12 @@ fn put_lies(cells: &[Arc<Cell>], put: &(Key, Value)) -> bool
 fn some_has_one(cells: &[Arc<Cell>], key: &Key) -> bool
     ensures { result ≡ list_any (has_one (rank key.now)) (map (λ c. arc_value c) cells.now) }
 {
-    match cells.split_first() {
-        None => false,
-        Some((first, rest)) => has_one(first, key) || some_has_one(rest, key),
+    for cell in cells {
+        if has_one(cell, key) {
+            return true;
+        }
     }
+    false
 }
 
 // Whether a cell is a leaf that has a key.
@@ -152,15 +158,12 @@ pub(crate) fn have_room(
     ensures { IfOk result (λ ok. ok
         ≡ have_room (edits_of edits.now) (map (λ c. arc_value c) cells.now)) }
 {
-    match cells.split_first() {
-        None => Ok(true),
-        Some((first, rest)) => {
-            if !has_room(alloc, edits, first)? {
-                return Ok(false);
-            }
-            have_room(alloc, edits, rest)
+    for cell in cells {
+        if !has_room(alloc, edits, cell)? {
+            return Ok(false);
         }
     }
+    Ok(true)
 }
 
 // Whether a cell is no leaf, or none that the edits change, or has room for them.

@@ -44,27 +44,26 @@ pub(crate) fn may_turn_all(
     body: &SizedBody,
     edits: &Edits,
     cells: &[Arc<Cell>],
-    left: u64,
+    numbers: u64,
 ) -> Result<bool, Memory>
     requires { AreExtentEdits (Some body.now) (edits_of edits.now) }
     ensures exact { IfOk result (λ ok. ok ≡ may_turn_all body.now (edits_of edits.now)
-        (map (λ c. arc_value c) cells.now) left) }
+        (map (λ c. arc_value c) cells.now) numbers) }
     ensures pieces { IfOk result (λ ok. ok ≡ true → (c : CellSeen)
         → Contains (turning_among body.now (edits_of edits.now) (map (λ x. arc_value x) cells.now))
         c → ArePiecesOf c (twig_pieces c)) }
 {
-    match cells.split_first() {
-        None => Ok(true),
-        Some((first, rest)) => {
-            let Some(count) = numbers_for(alloc, body, edits, first)? else {
-                return Ok(false);
-            };
-            let Some(more) = left.checked_sub(count) else {
-                return Ok(false);
-            };
-            may_turn_all(alloc, body, edits, rest, more)
-        }
+    let mut left = numbers;
+    for cell in cells {
+        let Some(count) = numbers_for(alloc, body, edits, cell)? else {
+            return Ok(false);
+        };
+        let Some(rest) = left.checked_sub(count) else {
+            return Ok(false);
+        };
+        left = rest;
     }
+    Ok(true)
 }
 
 // The numbers that a cell needs, and a twig whose pieces change; none if such a twig may not have its turn.
