@@ -51,8 +51,8 @@ module _ (b : Body) (e : Edits) (c : CellSeen) (cs : List CellSeen) where
   needed_on : is_turning b e c ≡ true → numbers_needed b e (c ∷ cs) ≡ (count + 64 + 64) + numbers_needed b e cs
   needed_on h =
       let a : numbers_of_turns (turns_of b e (turning_among b e (c ∷ cs))) ≡ (0 + (count + (0 + 64))) + numbers_of_turns (turns_of b e (turning_among b e cs))
-          = ap (λ (xs : List CellSeen). numbers_of_turns (turns_of b e xs)) (among_on h)
-          ∙ sum_by_from (λ (x : TwigTurn). x.blocks + (x.leaves + 64)) (0 + (count + (0 + 64))) (turns_of b e (turning_among b e cs)) in
+      = ap (λ (xs : List CellSeen). numbers_of_turns (turns_of b e xs)) (among_on h)
+      ∙ sum_by_from (λ (x : TwigTurn). x.blocks + (x.leaves + 64)) (0 + (count + (0 + 64))) (turns_of b e (turning_among b e cs)) in
       omega (arith, a)
 
   needed_off : is_turning b e c ≡ false → numbers_needed b e (c ∷ cs) ≡ 64 + numbers_needed b e cs
@@ -103,14 +103,14 @@ module _ (b : Body) (e : Edits) (c : CellSeen) (cs : List CellSeen) where
           let count_is : count + 64 + 64 ≡ n = cc in
           let need = needed_on t in
           may_on left t ∙ (λ i. (m i && list_all (may_turn b e) (turning_among b e cs))
-              && less_first (numbers_needed b e (c ∷ cs)) n (numbers_needed b e cs) left (omega (arith, need, count_is)) le i)
+          && less_first (numbers_needed b e (c ∷ cs)) n (numbers_needed b e cs) left (omega (arith, need, count_is)) le i)
       by_tests true false t m = let none = sym (told true false t m) ∙ is in absurd cc
       by_tests false w t m =
           let same : Some 64 ≡ Some n = sym (told false w t m) ∙ is in
           let count_is : 64 ≡ n = cc in
           let need = needed_off t in
           may_off left t ∙ (λ i. list_all (may_turn b e) (turning_among b e cs)
-              && less_first (numbers_needed b e (c ∷ cs)) n (numbers_needed b e cs) left (omega (arith, need, count_is)) le i)
+          && less_first (numbers_needed b e (c ∷ cs)) n (numbers_needed b e cs) left (omega (arith, need, count_is)) le i)
 
   -- what holds of the first, if its pieces change, and of those among the others, holds of all
   pub pieces_of_all : (is_turning b e c ≡ true → ArePiecesOf c (twig_pieces c))

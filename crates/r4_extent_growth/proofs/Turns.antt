@@ -75,7 +75,7 @@ module _ (b : Body) (first : Key) (g : IsGrowing b first) (c : CellSeen) (are : 
   clear_pieces : list_all (stands_clear b) ps ≡ true → (p : TwigPiece) → Contains ps p → (piece_end p ≤ end_before b) ⊎ (end_after b ≤ rank p.key)
   clear_pieces all p at =
       let h : (nat_le (end_after b) (rank p.key) || ends_by (end_before b) p) ≡ true
-          = subst (λ (r : ℕ × ℕ). (nat_le r.1 (rank p.key) || ends_by r.0 p) ≡ true) (comes_from b first g) (each (stands_clear b) ps all p at) in
+      = subst (λ (r : ℕ × ℕ). (nat_le r.1 (rank p.key) || ends_by r.0 p) ≡ true) (comes_from b first g) (each (stands_clear b) ps all p at) in
       elim (or_true (nat_le (end_after b) (rank p.key)) (ends_by (end_before b) p) h) [
         | inl behind ↦ inr (leb-true (end_after b) (rank p.key) behind)
         | inr before ↦ inl (part_ends p.key p.part (end_before b) before)
@@ -92,11 +92,11 @@ module _ (b : Body) (first : Key) (g : IsGrowing b first) (c : CellSeen) (are : 
       gap_is clear room inside some =
           let come = comes_from b first g in
           let into : comes_into b c ≡ true
-              = (λ i. is_between (rank c.lo) (rank c.hi) (come i).0 && nat_lt (come i).0 (come i).1)
-              ∙ (λ i. inside i && lt-ltb (end_before b) (end_after b) some i) in
+          = (λ i. is_between (rank c.lo) (rank c.hi) (come i).0 && nat_lt (come i).0 (come i).1)
+          ∙ (λ i. inside i && lt-ltb (end_before b) (end_after b) some i) in
           let gap : has_gap b c ps ≡ true = second (not (comes_into b c)) (has_gap b c ps) (off (comes_into b c) into) room in
           let told : (nat_le (end_after b) (rank c.hi) && is_some (last_end None (take (place (end_before b) ps) ps))) ≡ true
-              = subst (λ (r : ℕ × ℕ). (nat_le r.1 (rank c.hi) && is_some (last_end None (take (place r.0 ps) ps))) ≡ true) come gap in
+          = subst (λ (r : ℕ × ℕ). (nat_le r.1 (rank c.hi) && is_some (last_end None (take (place r.0 ps) ps))) ≡ true) come gap in
           let (high, unit) = and_parts _ _ told in
           let (low, below) = and_parts (nat_le (rank c.lo) (end_before b)) (nat_lt (end_before b) (rank c.hi)) inside in
           gap_behind_unit (rank c.lo) (rank c.hi) (end_before b) (end_after b) ps are.pieces.follow

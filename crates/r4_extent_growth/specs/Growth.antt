@@ -1,6 +1,8 @@
--- When a command's whole change may be made of the cells of its task, where its body stands in extents and loses no
--- blocks, as far as these cells tell it (docs/volume.md, "Bodies in extents"). A key is its rank.
-use Rattle.std.specs.Prelude.{◌≡◌, ℕ, ◌+◌, ◌-◌, ◌≤◌, ◌&&◌, nat_le, Bool, true, List, Contains, None, length}
+-- When a command's whole change may be made of the cells of its task, where its body stands in
+-- extents and loses no blocks, as far as these cells tell it (docs/volume.md, "Bodies in extents").
+-- A key is its rank.
+use Rattle.std.specs.Prelude.{◌≡◌, ℕ, ◌+◌, ◌-◌, ◌≤◌, ◌&&◌, nat_le, Bool, true, List, Contains, None}
+use Rattle.std.specs.Prelude.{length}
 use Rattle.std.specs.List.{list_all}
 use Rattle.r4_base.specs.Key.{rank}
 use Rattle.r4_base.specs.declared.key.Key.{Key}
@@ -17,16 +19,16 @@ use Rattle.r4_extent_change.specs.Changing.{numbers_needed}
 use Rattle.r4_extent_growth.specs.Lying.{have_room, is_whole, lie_in_leaves}
 use Rattle.r4_extent_growth.specs.Turning.{HasTurn, does_grow, may_turn_all}
 
--- The body grows, and data blocks are of 4096 bytes and keys. What is no byte lies in leaves, which have room for it.
--- Each twig whose pieces change may have its turn, and there are numbers enough.
+-- The body grows, and data blocks are of 4096 bytes and keys. What is no byte lies in leaves, which
+-- have room for it. Each twig whose pieces change may have its turn, and there are numbers enough.
 abbrev pub may_grow : Body → Edits → Fresh → List CellSeen → Bool
 may_grow b e f cells =
     (does_grow b && (list_all is_whole cells && lie_in_leaves cells e))
     && (have_room (without_bytes e) cells
     && (nat_le f.next f.end && may_turn_all b e cells (f.end - f.next)))
 
--- The same, in the words of `CanGrow`: all that it asks, but for what is known of the part of a tree in which the cells
--- stand, and of the budget.
+-- The same, in the words of `CanGrow`: all that it asks, but for what is known of the part of a
+-- tree in which the cells stand, and of the budget.
 pub record MayGrow (b : Body) (e : Edits) (f : Fresh) (cells : List CellSeen) : Type 0 where
   pub first : Key
   pub growing : IsGrowing b first

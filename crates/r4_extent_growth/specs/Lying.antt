@@ -1,6 +1,7 @@
--- Whether what is no byte lies in leaves among the cells of a task, and these have room for it; and which data blocks
--- may be renewed (docs/volume.md, "Bodies in extents"). A key is its rank.
-use Rattle.std.specs.Prelude.{ℕ, ◌+◌, ◌^◌, ◌==◌, ◌&&◌, ◌||◌, nat_le, nat_lt, not, Bool, List, None, length}
+-- Whether what is no byte lies in leaves among the cells of a task, and these have room for it; and
+-- which data blocks may be renewed (docs/volume.md, "Bodies in extents"). A key is its rank.
+use Rattle.std.specs.Prelude.{ℕ, ◌+◌, ◌^◌, ◌==◌, ◌&&◌, ◌||◌, nat_le, nat_lt, not, Bool, List, None}
+use Rattle.std.specs.Prelude.{length}
 use Rattle.std.specs.List.{list_all, list_any}
 use Rattle.r4_base.specs.Key.{offset_of, rank}
 use Rattle.r4_base.specs.Value.{Value}

@@ -1,6 +1,7 @@
--- Whether a body grows, and whether a twig may have its turn then (docs/volume.md, "Bodies in extents"). A key is its
--- rank.
-use Rattle.std.specs.Prelude.{ℕ, ◌+◌, ◌^◌, ◌≤◌, ◌==◌, ◌&&◌, ◌||◌, nat_le, nat_lt, not, if◌then◌else◌}
+-- Whether a body grows, and whether a twig may have its turn then (docs/volume.md, "Bodies in
+-- extents"). A key is its rank.
+use Rattle.std.specs.Prelude.{ℕ, ◌+◌, ◌^◌, ◌≤◌, ◌==◌, ◌&&◌, ◌||◌, nat_le, nat_lt, not}
+use Rattle.std.specs.Prelude.{if◌then◌else◌}
 use Rattle.std.specs.Prelude.{Bool, false, List, [], take, is_some, Option, None, Some, option_map}
 use Rattle.std.specs.List.{list_all}
 use Rattle.r4_base.specs.Key.{offset_of, rank}
@@ -54,7 +55,8 @@ abbrev pub has_gap : Body → CellSeen → List TwigPiece → Bool
 has_gap b c ps =
     nat_le (coming b).1 (rank c.hi) && is_some (last_end None (take (place (coming b).0 ps) ps))
 
--- of these pieces of the twig none stands where blocks come, and there is a gap for those that come into it
+-- of these pieces of the twig none stands where blocks come, and there is a gap for those that come
+-- into it
 abbrev pub is_clear : Body → CellSeen → List TwigPiece → Bool
 is_clear b c ps = list_all (stands_clear b) ps && (not (comes_into b c) || has_gap b c ps)
 
@@ -76,7 +78,8 @@ may_turn b e c =
 
 -- ---- each of them
 
--- so many numbers a twig needs: one for each block that comes, and 64; none where it may not have its turn
+-- so many numbers a twig needs: one for each block that comes, and 64; none where it may not have
+-- its turn
 abbrev pub numbers_of_turn : Body → Edits → CellSeen → Option ℕ
 numbers_of_turn b e c =
     if may_turn b e c
@@ -93,8 +96,8 @@ abbrev pub may_turn_all : Body → Edits → List CellSeen → (left : ℕ) → 
 may_turn_all b e cells n =
     list_all (may_turn b e) (turning_among b e cells) && nat_le (numbers_needed b e cells) n
 
--- Nothing stands in the twig where blocks of the body come, and its pieces need no more than 16000 bytes afterwards.
--- What comes beside it is another matter.
+-- Nothing stands in the twig where blocks of the body come, and its pieces need no more than 16000
+-- bytes afterwards. What comes beside it is another matter.
 pub record HasTurn (b : Body) (e : Edits) (c : CellSeen) : Type 0 where
   pub twig : IsTwigFor b e c
   pub clear : IsClearFor b c

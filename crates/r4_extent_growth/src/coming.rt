@@ -1,4 +1,5 @@
-//! How many twigs may come beside those twigs of a task whose pieces change (docs/volume.md, "Bodies in extents").
+//! How many twigs may come beside those twigs of a task whose pieces change (docs/volume.md,
+//! "Bodies in extents").
 
 ghost use Rattle.std.specs.Prelude.{◌≡◌, ◌++◌, ◌∷◌, [], IfOk, OnOk, Some, map};
 ghost use Rattle.std.specs.Arc.{arc_value};
@@ -23,9 +24,9 @@ const TWIG_ROOM: u64 = 4068;
 /// A twig comes beside another one for so many bytes at least that are too many for it.
 const BYTES_FOR_TWIG: u64 = 1024;
 
-/// For each twig among some cells whose pieces change, in their order, its number, and how many twigs may come beside
-/// it once it has the pieces that it is to have after the edits. The only error is want of memory
-/// (docs/volume.md, "Bodies in extents").
+/// For each twig among some cells whose pieces change, in their order, its number, and how many
+/// twigs may come beside it once it has the pieces that it is to have after the edits. The only
+/// error is want of memory (docs/volume.md, "Bodies in extents").
 pub fn twigs_coming(
     alloc: Global,
     body: &SizedBody,
@@ -43,7 +44,8 @@ pub fn twigs_coming(
     Ok(twigs)
 }
 
-// Puts a cell behind others, with how many twigs may come beside it, where it is a twig whose pieces change.
+// Puts a cell behind others, with how many twigs may come beside it, where it is a twig whose
+// pieces change.
 fn add(
     alloc: Global,
     twigs: &mut Vec<(NodeId, u64)>,

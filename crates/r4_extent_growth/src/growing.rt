@@ -1,5 +1,5 @@
-//! Whether a command's whole change may be made of the cells of its task, where its body stands in extents and loses
-//! no blocks (docs/volume.md, "Bodies in extents").
+//! Whether a command's whole change may be made of the cells of its task, where its body stands in
+//! extents and loses no blocks (docs/volume.md, "Bodies in extents").
 
 ghost use Rattle.std.specs.Prelude.{◌≡◌, ◌&&◌, nat_lt, IfOk, Some, map, true};
 ghost use Rattle.std.specs.Arc.{arc_value};
@@ -23,11 +23,13 @@ use r4_measure::{Cell, Fresh};
 use std::alloc::Global;
 use std::sync::Arc;
 
-/// Whether `change_of_growing` may be asked for the whole change of a command, as far as the cells of its task tell it:
-/// its body stands in extents and loses no blocks, or had no bytes and comes to extents; what is no byte lies in leaves
-/// among the cells, which have room for it; nothing stands in their twigs where blocks come, and there are numbers
-/// enough. What it asks for beside that is known of the part of a tree in which the cells stand, and of the budget
-/// (`found_growths_can_be_made`). The only error is want of memory (docs/volume.md, "Bodies in extents").
+/// Whether `change_of_growing` may be asked for the whole change of a command, as far as the cells
+/// of its task tell it: its body stands in extents and loses no blocks, or had no bytes and comes
+/// to extents; what is no byte lies in leaves among the cells, which have room for it; nothing
+/// stands in their twigs where blocks come, and there are numbers enough. What it asks for beside
+/// that is known of the part of a tree in which the cells stand, and of the budget
+/// (`found_growths_can_be_made`). The only error is want of memory (docs/volume.md, "Bodies in
+/// extents").
 pub fn may_grow(
     alloc: Global,
     body: &SizedBody,
@@ -54,7 +56,8 @@ pub fn may_grow(
     may_turn_all(alloc, body, edits, cells, left)
 }
 
-// Whether a body grows, data blocks among the cells are whole, and what is no byte lies in leaves among them.
+// Whether a body grows, data blocks among the cells are whole, and what is no byte lies in leaves
+// among them.
 fn fits_body(alloc: Global, body: &SizedBody, edits: &Edits, cells: &[Arc<Cell>]) -> bool
     requires { IsSizedBody body.now }
     ensures exact { result

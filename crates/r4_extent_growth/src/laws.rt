@@ -1,4 +1,5 @@
-//! Laws of what may be grown of the cells of a task. Each is the contract of a function that does nothing.
+//! Laws of what may be grown of the cells of a task. Each is the contract of a function that does
+//! nothing.
 
 ghost use Rattle.std.specs.Prelude.{List};
 ghost use Rattle.r4_base.specs.Tree.{Root as TreeRoot, Store};
@@ -15,8 +16,8 @@ ghost use Rattle.r4_extent_change.specs.Changing.{AreMeasured, CanGrow};
 ghost use Rattle.r4_extent_growth.specs.Coming.{SufficesFor, twigs_coming};
 ghost use Rattle.r4_extent_growth.specs.Growth.{MayGrow};
 
-/// Where `may_grow` says so of the cells of a part of a tree that have the budget, and the budget has what
-/// `twigs_coming` tells of each twig, `change_of_growing` may be asked for the change.
+/// Where `may_grow` says so of the cells of a part of a tree that have the budget, and the budget
+/// has what `twigs_coming` tells of each twig, `change_of_growing` may be asked for the change.
 pub fn found_growths_can_be_made()
     ensures { (b : Body) (e : Edits) (u : Budget) (t : Store Value) (r : TreeRoot) (f : Fresh)
         (cells : List CellSeen) → MayGrow b e f cells → AreCellsIn t r f cells → HaveNames cells

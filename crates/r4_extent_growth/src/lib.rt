@@ -1,5 +1,5 @@
-//! Whether a command's whole change may be made of the cells of its task, where its body stands in extents and loses
-//! no blocks (docs/volume.md, "Bodies in extents").
+//! Whether a command's whole change may be made of the cells of its task, where its body stands in
+//! extents and loses no blocks (docs/volume.md, "Bodies in extents").
 #![tactic(auto)]
 
 mod coming;

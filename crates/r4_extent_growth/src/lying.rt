@@ -1,5 +1,5 @@
-//! Whether what is no byte lies in leaves among the cells of a task, and these have room for it; and whether data
-//! blocks among them are whole (docs/volume.md, "Bodies in extents").
+//! Whether what is no byte lies in leaves among the cells of a task, and these have room for it;
+//! and whether data blocks among them are whole (docs/volume.md, "Bodies in extents").
 
 ghost use Rattle.std.specs.Prelude.{◌≡◌, ◌+◌, ◌^◌, nat_le, nat_lt, IfOk, None, map, true};
 ghost use Rattle.std.specs.Arc.{arc_value};
@@ -74,10 +74,12 @@ fn cuts_lie(cells: &[Arc<Cell>], cuts: &[Interval]) -> bool
     ensures { result
         ≡ list_all (cut_lies (map (λ c. arc_value c) cells.now)) (map interval_of cuts.now) }
 {
-    match cuts.split_first() {
-        None => true,
-        Some((first, rest)) => cut_lies(cells, first) && cuts_lie(cells, rest),
+    for cut in cuts {
+        if !cut_lies(cells, cut) {
+            return false;
+        }
     }
+    true
 }
 
 // Whether an interval is of a body, or has no keys, or lies in one leaf.
@@ -111,10 +113,12 @@ fn puts_lie(cells: &[Arc<Cell>], puts: &[(Key, Value)]) -> bool
     ensures { result
         ≡ list_all (put_lies (map (λ c. arc_value c) cells.now)) (map pair_of puts.now) }
 {
-    match puts.split_first() {
-        None => true,
-        Some((first, rest)) => put_lies(cells, first) && puts_lie(cells, rest),
+    for put in puts {
+        if !put_lies(cells, put) {
+            return false;
+        }
     }
+    true
 }
 
 // Whether a value is a byte, or has its key in a leaf.
@@ -149,11 +153,7 @@ fn has_one(cell: &Cell, key: &Key) -> bool
 // ---- the room of leaves
 
 // Whether each leaf among the cells has room for the edits that it gets.
-pub(crate) fn have_room(
-    alloc: Global,
-    edits: &Edits,
-    cells: &[Arc<Cell>],
-) -> Result<bool, Memory>
+pub(crate) fn have_room(alloc: Global, edits: &Edits, cells: &[Arc<Cell>]) -> Result<bool, Memory>
     requires { SuitLeaves 16384 (edits_of edits.now) }
     ensures { IfOk result (λ ok. ok
         ≡ have_room (edits_of edits.now) (map (λ c. arc_value c) cells.now)) }

@@ -1,5 +1,5 @@
-//! Whether the twigs of a growing body may have their turns, and the numbers that they need (docs/volume.md, "Bodies
-//! in extents").
+//! Whether the twigs of a growing body may have their turns, and the numbers that they need
+//! (docs/volume.md, "Bodies in extents").
 
 ghost use Rattle.std.specs.Prelude.{◌≡◌, ◌^◌, ◌<◌, ◌≤◌, Contains, IfOk, IfSome, None, Some};
 ghost use Rattle.std.specs.Prelude.{is_some, length, map, true};
@@ -37,8 +37,8 @@ const MOST_BYTES: u64 = 16000;
 /// How many numbers a twig and a cell have of their own, for what may come beside them and above.
 const OWN_NUMBERS: u64 = 64;
 
-// Whether each twig among some cells whose pieces change may have its turn, and so many numbers suffice for these
-// turns and for the edits of all cells.
+// Whether each twig among some cells whose pieces change may have its turn, and so many numbers
+// suffice for these turns and for the edits of all cells.
 pub(crate) fn may_turn_all(
     alloc: Global,
     body: &SizedBody,
@@ -66,7 +66,8 @@ pub(crate) fn may_turn_all(
     Ok(true)
 }
 
-// The numbers that a cell needs, and a twig whose pieces change; none if such a twig may not have its turn.
+// The numbers that a cell needs, and a twig whose pieces change; none if such a twig may not have
+// its turn.
 fn numbers_for(
     alloc: Global,
     body: &SizedBody,
@@ -111,7 +112,8 @@ fn numbers_of_turn(
 
 // ---- nothing stands where blocks come
 
-// Whether none of a twig's pieces stands where blocks come, and there is a gap for those that come into it.
+// Whether none of a twig's pieces stands where blocks come, and there is a gap for those that come
+// into it.
 fn is_clear(body: &SizedBody, twig: &Cell, pieces: &[TwigPiece]) -> bool
     requires { IsSizedBody body.now }
     ensures { result ≡ is_clear body.now twig.now pieces.now }
@@ -187,7 +189,8 @@ fn end_in_unit(pieces: &[TwigPiece]) -> bool
 
 // ---- the pieces afterwards
 
-// Whether there is a key behind each block that comes, and the pieces need no more bytes than a twig may.
+// Whether there is a key behind each block that comes, and the pieces need no more bytes than a
+// twig may.
 fn may_be_packed(old: &[TwigPiece], new: &[TwigPiece]) -> bool
     ensures { result ≡ may_be_packed old.now new.now }
 {
@@ -229,7 +232,8 @@ fn is_coming(old: &[TwigPiece], piece: &TwigPiece) -> bool
     is_told_block(&piece.part) && !has_block_at(old, &piece.key)
 }
 
-// Whether one of the pieces is at a key, and is a block of the number that stands for one that comes.
+// Whether one of the pieces is at a key, and is a block of the number that stands for one that
+// comes.
 fn has_block_at(old: &[TwigPiece], key: &Key) -> bool
     ensures { result ≡ has_block_at (rank key.now) old.now }
 {

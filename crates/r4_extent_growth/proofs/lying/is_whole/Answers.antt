@@ -12,7 +12,7 @@ returns-then-has_block c =
     let node : not (cell.level == 0) ≡ false = ap (λ n. not (n == 0)) (sym c.level.ensures ∙ c.if-level-ne0.false) in
     let whole : (length cell.block == 4096) ≡ true = eq-eqb (length cell.block) 4096 (ap length (sym c.block.ensures) ∙ c.bytes-bytes.ensures.len) in
     let last : nat_lt (offset_of cell.lo + 4096) (2 ^ 64) ≡ true
-        = ap (λ k. nat_lt (offset_of k + 4096) (2 ^ 64)) (sym c.lo-lo.ensures) ∙ (sym c.has_block.ensures ∙ c.if-has_block.true) in
+    = ap (λ k. nat_lt (offset_of k + 4096) (2 ^ 64)) (sym c.lo-lo.ensures) ∙ (sym c.has_block.ensures ∙ c.if-has_block.true) in
     let end = ap rank c.behind.ensures ∙ (later_rank c.lo-lo.result 4096 ∙ ap (λ k. rank k + 4096) c.lo-lo.ensures) in
     or_off _ _ c.is_same.result node
     (and_on _ _ c.is_same.result whole

@@ -19,7 +19,7 @@ returns-in_default-clause-exact c =
     let first = c.deref.result.now in
     let rest : List CellSeen = map (λ x. arc_value x) (drop (i + 1) c.args.cells.now) in
     let is : map (λ x. arc_value x) (drop i c.args.cells.now) ≡ first ∷ rest
-        = rest_is (λ x. arc_value x) c.args.cells.now i _ c.loop-cell-test.true first (c.deref.ensures ∙ ap (λ x. arc_value x) c.cell-item.is) in
+    = rest_is (λ x. arc_value x) c.args.cells.now i _ c.loop-cell-test.true first (c.deref.ensures ∙ ap (λ x. arc_value x) c.cell-item.is) in
     let none = sym c.in_ok-count.ensures.exact ∙ c.in_default.is in
     sym (c.loop-cell.invariant.exact ∙ (ap (λ xs. may_turn_all b e xs left) is ∙ refused b e first rest left none))
 
@@ -32,7 +32,7 @@ returns-in_default-checked_sub-clause-exact c =
     let first = c.deref.result.now in
     let rest : List CellSeen = map (λ x. arc_value x) (drop (i + 1) c.args.cells.now) in
     let is : map (λ x. arc_value x) (drop i c.args.cells.now) ≡ first ∷ rest
-        = rest_is (λ x. arc_value x) c.args.cells.now i _ c.loop-cell-test.true first (c.deref.ensures ∙ ap (λ x. arc_value x) c.cell-item.is) in
+    = rest_is (λ x. arc_value x) c.args.cells.now i _ c.loop-cell-test.true first (c.deref.ensures ∙ ap (λ x. arc_value x) c.cell-item.is) in
     let count = sym c.in_ok-count.ensures.exact ∙ c.in-Some.is in
     let few : left < c.in-Some.count = elim (cases_lt left c.in-Some.count) [ inl lt ↦ lt | inr ge ↦ absurd (c.in_default-checked_sub.ensures ge) ] in
     sym (c.loop-cell.invariant.exact ∙ (ap (λ xs. may_turn_all b e xs left) is ∙ needs_more b e first rest c.in-Some.count left count few))
@@ -46,7 +46,7 @@ loop-cell-preserved c =
     let first = c.deref.result.now in
     let rest : List CellSeen = map (λ x. arc_value x) (drop (i + 1) c.args.cells.now) in
     let is : map (λ x. arc_value x) (drop i c.args.cells.now) ≡ first ∷ rest
-        = rest_is (λ x. arc_value x) c.args.cells.now i _ c.loop-cell-test.true first (c.deref.ensures ∙ ap (λ x. arc_value x) c.cell-item.is) in
+    = rest_is (λ x. arc_value x) c.args.cells.now i _ c.loop-cell-test.true first (c.deref.ensures ∙ ap (λ x. arc_value x) c.cell-item.is) in
     let count = sym c.in_ok-count.ensures.exact ∙ c.in-Some.is in
     let (enough, more) = c.in-Some-checked_sub.ensures in
     record {
