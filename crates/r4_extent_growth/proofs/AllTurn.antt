@@ -1,6 +1,6 @@
 -- Whether each twig among cells may have its turn, from cell to cell.
-use Rattle.std.proofs.Common.{◌≡◌, ◌⊎◌, inl, inr, ℕ, ◌+◌, ◌-◌, ◌*◌, ◌<◌, ◌≤◌, Bool, true, false, List, [], ◌∷◌, drop, drop-cons, get_or, length, map, suc, refl, sym, ap, subst, ◌∙◌, arith}
-use Rattle.std.specs.Prelude.{◌&&◌, Contains, Option, None, Some, nat_le, option_map, if◌then◌else◌}
+use Rattle.std.proofs.Common.{◌≡◌, inl, inr, ℕ, ◌+◌, ◌-◌, ◌<◌, ◌≤◌, Bool, true, false, List, [], ◌∷◌, drop, drop-cons, get_or, length, map, suc, refl, sym, ap, subst, ◌∙◌, arith}
+use Rattle.std.specs.Prelude.{◌&&◌, Contains, None, Some, nat_le, option_map, if◌then◌else◌}
 use Rattle.std.specs.List.{list_all}
 use Rattle.std.proofs.lemmas.Grind.{common_steps}
 use Rattle.std.proofs.lemmas.List.Sums.{sum_by_from}
@@ -15,7 +15,7 @@ use Rattle.r4_extent_build.specs.Numbering.{coming_count}
 use Rattle.r4_extent_build.specs.r4_twig_turns.Turning.{TwigTurn, numbers_for as numbers_of_turns}
 use Rattle.r4_extent_change.specs.Beside.{is_turning, turning_among}
 use Rattle.r4_extent_change.specs.Changing.{numbers_needed}
-use Rattle.r4_extent_growth.specs.Turning.{may_turn, may_turn_all, numbers_for, numbers_of_turn}
+use Rattle.r4_extent_growth.specs.Turning.{may_turn, may_turn_all, numbers_for}
 
 right_off : (x y : Bool) → y ≡ false → (x && y) ≡ false
 right_off true y h = h

@@ -1,5 +1,5 @@
 -- A gap among a twig's pieces, where none of them stands in its range and the one before it is a unit.
-use Rattle.std.proofs.Common.{◌≡◌, ◌⊎◌, inl, inr, ℕ, suc, ◌<◌, ◌≤◌, true, List, [], ◌∷◌, ◌++◌, length, take, refl, sym, ap, subst, ◌∙◌, arith}
+use Rattle.std.proofs.Common.{◌≡◌, ◌⊎◌, inl, inr, ℕ, suc, ◌<◌, ◌≤◌, true, List, [], ◌∷◌, ◌++◌, length, take, refl, ap, subst, ◌∙◌, arith}
 use Rattle.std.specs.Prelude.{Contains, None, Option, is_some}
 use Rattle.std.proofs.lemmas.Bool.{cases_lt}
 use Rattle.r4_base.specs.Key.{rank}

@@ -4,3 +4,4 @@ mod InLeaves
 mod Gaps
 mod Turns
 mod Found
+mod Complete

@@ -1,8 +1,8 @@
 -- What the tests of a body and of a twig say.
 use Rattle.std.proofs.Common.{◌≡◌, ◌⊎◌, inl, inr, ℕ, ◌+◌, ◌*◌, ◌/◌, ◌^◌, ◌<◌, ◌≤◌, Bool, true, false, List, [], refl, sym, ap, subst, ◌∙◌, arith}
-use Rattle.std.specs.Prelude.{◌&&◌, ◌||◌, Contains, None, Option, Some, if◌then◌else◌, is_some, nat_le, nat_lt, not, take}
+use Rattle.std.specs.Prelude.{◌&&◌, ◌||◌, Contains, None, Some, if◌then◌else◌, is_some, nat_le, nat_lt, not, take}
 use Rattle.std.specs.List.{list_all}
-use Rattle.std.proofs.lemmas.Bool.{and_parts, eqb-true, le-leb, leb-true, lt-ltb, ltb-true}
+use Rattle.std.proofs.lemmas.Bool.{and_parts, leb-true, lt-ltb, ltb-true}
 use Rattle.std.proofs.lemmas.List.Sums.{AllPass-from_list_all}
 use Rattle.r4_base.specs.Key.{offset_of, rank}
 use Rattle.r4_base.specs.declared.key.Key.{Key}
@@ -10,16 +10,15 @@ use Rattle.r4_content.specs.Edited.{Edits, is_between}
 use Rattle.r4_graft.specs.Places.{HasGap}
 use Rattle.r4_graft.specs.Splices.{place}
 use Rattle.r4_measure.proofs.r4_work.Remade.{or_true}
-use Rattle.r4_measure.specs.r4_branch.Pieces.{last_end, open_end, part_end, piece_end, twig_bytes}
+use Rattle.r4_measure.specs.r4_branch.Pieces.{last_end, part_end, piece_end, twig_bytes}
 use Rattle.r4_measure.specs.r4_branch.declared.piece.TwigPart.{TwigPart}
 use Rattle.r4_measure.specs.r4_branch.declared.piece.TwigPart.TheVariants.{Blocks, Pointer}
 use Rattle.r4_measure.specs.r4_branch.declared.piece.TwigPiece.{TwigPiece}
 use Rattle.r4_measure.specs.r4_cell.Seen.{CellSeen, node_of}
 use Rattle.r4_measure.specs.r4_path.TwigPieces.{ArePiecesOf, twig_pieces}
 use Rattle.r4_measure.specs.r4_reach.Needs.{pieces_after}
-use Rattle.r4_measure.specs.r4_reach.Touched.{Body, coming, first_byte, is_spread}
+use Rattle.r4_measure.specs.r4_reach.Touched.{Body, coming, first_byte}
 use Rattle.r4_extent_build.specs.Growing.{IsClearFor, IsGrowing, end_after, end_before}
-use Rattle.r4_extent_build.specs.Looping.{IsTwigFor}
 use Rattle.r4_extent_build.specs.Numbering.{is_coming}
 use Rattle.r4_extent_growth.specs.Turning.{HasTurn, comes_into, ends_by, has_gap, has_next, is_clear, is_open_by, may_be_packed, may_turn, stands_clear}
 use Rattle.r4_extent_growth.proofs.Gaps.{gap_behind_unit}
@@ -39,7 +38,7 @@ off false h = absurd cc
 -- ---- the body
 
 -- where blocks come, where a body grows
-comes_from : (b : Body) (first : Key) → IsGrowing b first → coming b ≡ (end_before b, end_after b)
+pub comes_from : (b : Body) (first : Key) → IsGrowing b first → coming b ≡ (end_before b, end_after b)
 comes_from b first g = by_kind b.in_extents refl
   where
     spread : (v : Bool) → b.in_extents ≡ v → coming b ≡ (if v then end_before b else first_byte b, end_after b)

@@ -1,16 +1,21 @@
 -- When a command's whole change may be made of the cells of its task, where its body stands in
 -- extents and loses no blocks, as far as these cells tell it (docs/volume.md, "Bodies in extents").
 -- A key is its rank.
-use Rattle.std.specs.Prelude.{◌≡◌, ℕ, ◌+◌, ◌-◌, ◌≤◌, ◌&&◌, nat_le, Bool, true, List, Contains, None}
+use Rattle.std.specs.Prelude.{◌≡◌, ℕ, ◌+◌, ◌-◌, ◌*◌, ◌^◌, ◌<◌, ◌≤◌, ◌&&◌, nat_le, Bool, true, List}
+use Rattle.std.specs.Prelude.{Contains, None}
 use Rattle.std.specs.Prelude.{length}
 use Rattle.std.specs.List.{list_all}
-use Rattle.r4_base.specs.Key.{rank}
+use Rattle.r4_base.specs.Key.{offset_of, rank}
+use Rattle.r4_base.specs.declared.items.Unit.{Unit as ExtentUnit}
 use Rattle.r4_base.specs.declared.key.Key.{Key}
 use Rattle.r4_build.specs.Building.{LiesInLeaf}
 use Rattle.r4_content.specs.Edited.{Edits, changed, is_in}
+use Rattle.r4_measure.specs.r4_branch.declared.piece.TwigPart.TheVariants.{Blocks}
+use Rattle.r4_measure.specs.r4_branch.declared.piece.TwigPiece.{TwigPiece}
 use Rattle.r4_measure.specs.r4_cell.Seen.{CellSeen, node_of}
 use Rattle.r4_measure.specs.r4_cell.declared.change.Fresh.{Fresh}
 use Rattle.r4_measure.specs.r4_leaf.Units.{leaf_bytes}
+use Rattle.r4_measure.specs.r4_path.TwigPieces.{twig_pieces}
 use Rattle.r4_measure.specs.r4_reach.Needs.{is_met, units_after}
 use Rattle.r4_measure.specs.r4_reach.Touched.{Body}
 use Rattle.r4_extent_build.specs.Growing.{IsGrowing}
@@ -40,3 +45,11 @@ pub record MayGrow (b : Body) (e : Edits) (f : Fresh) (cells : List CellSeen) : 
       → is_met (changed (without_bytes e)) (rank c.lo) (rank c.hi) ≡ true
       → leaf_bytes (units_after None (without_bytes e) (node_of c)) ≤ 4068
   pub numbers : f.next + numbers_needed b e cells ≤ f.end
+
+-- No data block among the cells, and no unit of a twig whose pieces change, reaches the end of its
+-- object. (A file has 2^30 bytes at most, so none of a volume does.)
+pub record EndInObjects (b : Body) (e : Edits) (cells : List CellSeen) : Type 0 where
+  pub blocks : (c : CellSeen) → Contains cells c → c.level ≡ 0 → offset_of c.lo + 4096 < 2 ^ 64
+  pub units : (c : CellSeen) → Contains (turning_among b e cells) c
+      → (p : TwigPiece) → Contains (twig_pieces c) p → (u : ExtentUnit) → p.part ≡ Blocks u
+      → offset_of p.key + 4096 * u.width < 2 ^ 64

@@ -10,4 +10,4 @@ mod twigs;
 
 pub use coming::twigs_coming;
 pub use growing::may_grow;
-pub use laws::found_growths_can_be_made;
+pub use laws::{found_growths_can_be_made, growths_are_found};

@@ -1,4 +1,4 @@
-use Rattle.std.proofs.Common.{◌≡◌, ◌++◌, [], ◌∷◌, ◌+◌, ap, arith, get_or, refl, sym, take, ◌∙◌}
+use Rattle.std.proofs.Common.{[], ◌∷◌, ap, arith, get_or, refl, sym, take, ◌∙◌}
 use Rattle.std.proofs.lemmas.List.{take_more}
 use Rattle.r4_extent_build.specs.Numbering.{coming_count}
 use Rattle.r4_extent_build.proofs.Numbers.{count_append, count_off, count_on}

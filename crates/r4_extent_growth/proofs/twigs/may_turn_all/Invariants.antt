@@ -1,4 +1,4 @@
-use Rattle.std.proofs.Common.{◌≡◌, true, drop, map}
+use Rattle.std.proofs.Common.{◌≡◌, drop, map}
 use Rattle.std.specs.Arc.{arc_value}
 use Rattle.std.specs.Prelude.{Contains}
 use Rattle.r4_content.specs.Held.{edits_of}
