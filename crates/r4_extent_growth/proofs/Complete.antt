@@ -1,7 +1,8 @@
 -- What may be grown passes the tests.
 use Rattle.std.proofs.Common.{◌≡◌, inl, inr, ℕ, ◌+◌, ◌-◌, ◌*◌, ◌^◌, ◌<◌, ◌≤◌, Bool, true, false, List, [], ◌∷◌, ◌++◌, length, drop, refl, sym, ap, subst, ◌∙◌, arith}
 use Rattle.std.specs.Prelude.{◌&&◌, ◌||◌, ◌==◌, Contains, None, Option, Some, if◌then◌else◌, is_some, nat_le, nat_lt, not, take}
-use Rattle.std.specs.List.{list_all}
+use Rattle.std.specs.List.{filter, list_all, list_any}
+use Rattle.std.proofs.lemmas.Grind.{common_steps}
 use Rattle.std.proofs.lemmas.Bool.{and_parts, eq-eqb, eqb-true, le-leb, lt-ltb, ltb-true}
 use Rattle.std.proofs.lemmas.List.Elements.{Contains-append_left}
 use Rattle.r4_base.specs.Key.{offset_of, rank}
@@ -9,7 +10,11 @@ use Rattle.r4_base.specs.Tree.{Name, Root, Store}
 use Rattle.r4_base.specs.Value.{Value}
 use Rattle.r4_base.specs.declared.items.Unit.{Unit as ExtentUnit}
 use Rattle.r4_base.specs.declared.key.Key.{Key}
-use Rattle.r4_content.specs.Edited.{Edits, changed, is_between}
+use Rattle.r4_content.specs.Edited.{Edits, Pairs, changed, is_between, is_in, put_keys}
+use Rattle.r4_build.specs.Building.{LiesInLeaf}
+use Rattle.r4_content.proofs.EditLaws.{in_append}
+use Rattle.r4_leaf_edits.specs.Suiting.{is_byte}
+use Rattle.r4_measure.proofs.r4_patch.Members.{cases, none}
 use Rattle.r4_graft.proofs.Placed.{first_member, follow_end, later_member}
 use Rattle.r4_graft.specs.Places.{HasGap}
 use Rattle.r4_graft.specs.Splices.{place}
@@ -30,7 +35,7 @@ use Rattle.r4_extent_change.specs.Beside.{turning_among, without_bytes}
 use Rattle.r4_extent_change.specs.Changing.{CanGrow, numbers_needed}
 use Rattle.r4_extent_change.specs.Turned.{MayTurn}
 use Rattle.r4_extent_growth.specs.Growth.{EndInObjects, may_grow}
-use Rattle.r4_extent_growth.specs.Lying.{has_room, is_whole, lie_in_leaves}
+use Rattle.r4_extent_growth.specs.Lying.{cut_lies, has_one, has_room, is_whole, put_lies}
 use Rattle.r4_extent_growth.specs.Turning.{comes_into, does_grow, ends_by, has_gap, has_next, is_clear, is_open_by, may_turn, stands_clear}
 use Rattle.r4_extent_growth.proofs.Turns.{comes_from}
 
@@ -70,6 +75,49 @@ room_is e c room = by_tests (c.level == 1) (is_met (changed e) (rank c.lo) (rank
     by_tests true true t m = λ i. not (t i) || (not (m i) || le-leb (leaf_bytes (units_after None e (node_of c))) 4068 (room (eqb-true c.level 1 t) m) i)
     by_tests true false t m = λ i. not (t i) || (not (m i) || nat_le (leaf_bytes (units_after None e (node_of c))) 4068)
     by_tests false w t m = λ i. not (t i) || (not (is_met (changed e) (rank c.lo) (rank c.hi)) || nat_le (leaf_bytes (units_after None e (node_of c))) 4068)
+
+-- ---- where edits lie
+
+put_in : (ps : Pairs) (p : ℕ × Value) → Contains ps p → is_byte p.1 ≡ false → is_in (put_keys (filter (λ q. not (is_byte q.1)) ps)) p.0 ≡ true
+put_in [] p at other = absurd (none p at)
+put_in (q ∷ ps) p at other = elim (cases q p ps at) [
+  | inl is ↦ first (is_byte q.1) (ap (λ (x : ℕ × Value). is_byte x.1) (sym is) ∙ other) (ap (λ (x : ℕ × Value). x.0) is)
+  | inr more ↦ later (is_byte q.1) (put_in ps p more other)
+]
+  where
+    first : (v : Bool) → v ≡ false → p.0 ≡ q.0 → is_in (put_keys (if not v then q ∷ filter (λ x. not (is_byte x.1)) ps else filter (λ x. not (is_byte x.1)) ps)) p.0 ≡ true
+    first true h same = absurd cc
+    first false h same = λ i. in_one q.0 p.0 same i || is_in (put_keys (filter (λ x. not (is_byte x.1)) ps)) p.0
+      where
+        in_one : (k j : ℕ) → j ≡ k → is_between k (k + 1) j ≡ true
+        in_one k j e = grind (arith, common_steps, e)
+
+    later : (v : Bool) → is_in (put_keys (filter (λ x. not (is_byte x.1)) ps)) p.0 ≡ true
+        → is_in (put_keys (if not v then q ∷ filter (λ x. not (is_byte x.1)) ps else filter (λ x. not (is_byte x.1)) ps)) p.0 ≡ true
+    later true rest = rest
+    later false rest = right_on (is_between q.0 (q.0 + 1) p.0) (is_in (put_keys (filter (λ x. not (is_byte x.1)) ps)) p.0) rest
+
+one_has : (cells : List CellSeen) (k : ℕ) → LiesInLeaf cells k → list_any (has_one k) cells ≡ true
+one_has cells k (c, at, level, (low, high)) = any_in cells at
+  where
+    here : has_one k c ≡ true
+    here = λ i. eq-eqb c.level 1 level i && (le-leb (rank c.lo) k low i && lt-ltb k (rank c.hi) high i)
+
+    any_in : (xs : List CellSeen) → Contains xs c → list_any (has_one k) xs ≡ true
+    any_in [] among = absurd (none c among)
+    any_in (x ∷ xs) among = elim (cases x c xs among) [
+      | inl is ↦ (λ i. (ap (has_one k) (sym is) ∙ here) i || list_any (has_one k) xs)
+      | inr more ↦ right_on (has_one k x) (list_any (has_one k) xs) (any_in xs more)
+    ]
+
+puts_lie_is : (cells : List CellSeen) (e : Edits) → ((k : ℕ) → is_in (changed (without_bytes e)) k ≡ true → LiesInLeaf cells k) → list_all (put_lies cells) e.puts ≡ true
+puts_lie_is cells e lie = all_from (put_lies cells) e.puts (λ p at. by_test p at (is_byte p.1) refl)
+  where
+    by_test : (p : ℕ × Value) → Contains e.puts p → (v : Bool) → is_byte p.1 ≡ v → put_lies cells p ≡ true
+    by_test p at true t = λ i. t i || list_any (has_one p.0) cells
+    by_test p at false t = right_on (is_byte p.1) (list_any (has_one p.0) cells) (one_has cells p.0 (lie p.0
+        (in_append (put_keys (without_bytes e).puts) ((without_bytes e).zeros ++ (without_bytes e).cuts) p.0
+        ∙ (λ i. put_in e.puts p at t i || is_in ((without_bytes e).zeros ++ (without_bytes e).cuts) p.0))))
 
 -- ---- pieces
 
@@ -161,12 +209,12 @@ module _ (b : Body) (first : Key) (g : IsGrowing b first) (e : Edits) (u : Budge
 
 -- ---- all of it
 
-pub found : (b : Body) (e : Edits) (u : Budget) (t : Store Value) (r : Root) (f : Fresh) (cells : List CellSeen) → CanGrow b e u t r f cells → lie_in_leaves cells e ≡ true
+pub found : (b : Body) (e : Edits) (u : Budget) (t : Store Value) (r : Root) (f : Fresh) (cells : List CellSeen) → CanGrow b e u t r f cells → list_all (cut_lies cells) e.cuts ≡ true
     → EndInObjects b e cells → may_grow b e f cells ≡ true
-found b e u t r f cells can lie ends =
+found b e u t r f cells can cuts ends =
     let n = can.numbers in
     let whole = all_from is_whole cells (λ c at. whole_is c (can.blocks c at) (ends.blocks c at)) in
     let room = all_from (has_room (without_bytes e)) cells (λ c at. room_is (without_bytes e) c (can.room c at)) in
     let turns = all_from (may_turn b e) (turning_among b e cells) (λ c at. turn_told b can.first can.growing e u c (can.twigs c at) (ends.units c at)) in
-    λ i. (grows b can.first can.growing i && (whole i && lie i))
+    λ i. (grows b can.first can.growing i && (whole i && (cuts i && puts_lie_is cells e can.lie i)))
     && (room i && (le-leb f.next f.end (omega (arith, n)) i && (turns i && le-leb (numbers_needed b e cells) (f.end - f.next) (omega (arith, n)) i)))

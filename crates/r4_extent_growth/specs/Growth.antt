@@ -47,7 +47,7 @@ pub record MayGrow (b : Body) (e : Edits) (f : Fresh) (cells : List CellSeen) : 
   pub numbers : f.next + numbers_needed b e cells ≤ f.end
 
 -- No data block among the cells, and no unit of a twig whose pieces change, reaches the end of its
--- object. (A file has 2^30 bytes at most, so none of a volume does.)
+-- object.
 pub record EndInObjects (b : Body) (e : Edits) (cells : List CellSeen) : Type 0 where
   pub blocks : (c : CellSeen) → Contains cells c → c.level ≡ 0 → offset_of c.lo + 4096 < 2 ^ 64
   pub units : (c : CellSeen) → Contains (turning_among b e cells) c
