@@ -3,14 +3,14 @@ use Rattle.std.proofs.Common.{◌≡◌, inl, inr, ℕ, ◌+◌, ◌-◌, ◌*�
 use Rattle.std.specs.Prelude.{◌&&◌, ◌||◌, ◌==◌, Contains, None, Option, Some, if◌then◌else◌, is_some, nat_le, nat_lt, not, take}
 use Rattle.std.specs.List.{filter, list_all, list_any}
 use Rattle.std.proofs.lemmas.Grind.{common_steps}
-use Rattle.std.proofs.lemmas.Bool.{and_parts, eq-eqb, eqb-true, le-leb, lt-ltb, ltb-true}
+use Rattle.std.proofs.lemmas.Bool.{and_parts, eq-eqb, eqb-true, le-leb, leb-false, lt-ltb, ltb-true}
 use Rattle.std.proofs.lemmas.List.Elements.{Contains-append_left}
 use Rattle.r4_base.specs.Key.{offset_of, rank}
 use Rattle.r4_base.specs.Tree.{Name, Root, Store}
 use Rattle.r4_base.specs.Value.{Value}
 use Rattle.r4_base.specs.declared.items.Unit.{Unit as ExtentUnit}
 use Rattle.r4_base.specs.declared.key.Key.{Key}
-use Rattle.r4_content.specs.Edited.{Edits, Pairs, changed, is_between, is_in, put_keys}
+use Rattle.r4_content.specs.Edited.{Edits, Intervals, Pairs, changed, is_between, is_in, put_keys}
 use Rattle.r4_build.specs.Building.{LiesInLeaf}
 use Rattle.r4_content.proofs.EditLaws.{in_append}
 use Rattle.r4_leaf_edits.specs.Suiting.{is_byte}
@@ -28,6 +28,7 @@ use Rattle.r4_measure.specs.r4_cell.declared.change.Fresh.{Fresh}
 use Rattle.r4_measure.specs.r4_leaf.Units.{leaf_bytes}
 use Rattle.r4_measure.specs.r4_path.TwigPieces.{twig_pieces}
 use Rattle.r4_measure.specs.r4_reach.Needs.{is_met, pieces_after, units_after}
+use Rattle.r4_measure.specs.r4_reach.Reach.{is_body}
 use Rattle.r4_measure.specs.r4_reach.Touched.{Body, is_spread}
 use Rattle.r4_extent_build.specs.Growing.{IsGrowing, end_after, end_before}
 use Rattle.r4_extent_build.specs.Numbering.{is_coming}
@@ -35,7 +36,7 @@ use Rattle.r4_extent_change.specs.Beside.{turning_among, without_bytes}
 use Rattle.r4_extent_change.specs.Changing.{CanGrow, numbers_needed}
 use Rattle.r4_extent_change.specs.Turned.{MayTurn}
 use Rattle.r4_extent_growth.specs.Growth.{EndInObjects, may_grow}
-use Rattle.r4_extent_growth.specs.Lying.{cut_lies, has_one, has_room, is_whole, put_lies}
+use Rattle.r4_extent_growth.specs.Lying.{CutsOneByOne, cut_lies, has_all, has_one, has_room, is_whole, put_lies}
 use Rattle.r4_extent_growth.specs.Turning.{comes_into, does_grow, ends_by, has_gap, has_next, is_clear, is_open_by, may_turn, stands_clear}
 use Rattle.r4_extent_growth.proofs.Turns.{comes_from}
 
@@ -97,18 +98,16 @@ put_in (q ∷ ps) p at other = elim (cases q p ps at) [
     later true rest = rest
     later false rest = right_on (is_between q.0 (q.0 + 1) p.0) (is_in (put_keys (filter (λ x. not (is_byte x.1)) ps)) p.0) rest
 
-one_has : (cells : List CellSeen) (k : ℕ) → LiesInLeaf cells k → list_any (has_one k) cells ≡ true
-one_has cells k (c, at, level, (low, high)) = any_in cells at
-  where
-    here : has_one k c ≡ true
-    here = λ i. eq-eqb c.level 1 level i && (le-leb (rank c.lo) k low i && lt-ltb k (rank c.hi) high i)
+any_one : (p : CellSeen → Bool) (c : CellSeen) → p c ≡ true → (xs : List CellSeen) → Contains xs c → list_any p xs ≡ true
+any_one p c here [] among = absurd (none c among)
+any_one p c here (x ∷ xs) among = elim (cases x c xs among) [
+  | inl is ↦ (λ i. (ap p (sym is) ∙ here) i || list_any p xs)
+  | inr more ↦ right_on (p x) (list_any p xs) (any_one p c here xs more)
+]
 
-    any_in : (xs : List CellSeen) → Contains xs c → list_any (has_one k) xs ≡ true
-    any_in [] among = absurd (none c among)
-    any_in (x ∷ xs) among = elim (cases x c xs among) [
-      | inl is ↦ (λ i. (ap (has_one k) (sym is) ∙ here) i || list_any (has_one k) xs)
-      | inr more ↦ right_on (has_one k x) (list_any (has_one k) xs) (any_in xs more)
-    ]
+one_has : (cells : List CellSeen) (k : ℕ) → LiesInLeaf cells k → list_any (has_one k) cells ≡ true
+one_has cells k (c, at, level, (low, high)) = any_one (has_one k) c
+    (λ i. eq-eqb c.level 1 level i && (le-leb (rank c.lo) k low i && lt-ltb k (rank c.hi) high i)) cells at
 
 puts_lie_is : (cells : List CellSeen) (e : Edits) → ((k : ℕ) → is_in (changed (without_bytes e)) k ≡ true → LiesInLeaf cells k) → list_all (put_lies cells) e.puts ≡ true
 puts_lie_is cells e lie = all_from (put_lies cells) e.puts (λ p at. by_test p at (is_byte p.1) refl)
@@ -118,6 +117,40 @@ puts_lie_is cells e lie = all_from (put_lies cells) e.puts (λ p at. by_test p a
     by_test p at false t = right_on (is_byte p.1) (list_any (has_one p.0) cells) (one_has cells p.0 (lie p.0
         (in_append (put_keys (without_bytes e).puts) ((without_bytes e).zeros ++ (without_bytes e).cuts) p.0
         ∙ (λ i. put_in e.puts p at t i || is_in ((without_bytes e).zeros ++ (without_bytes e).cuts) p.0))))
+
+cut_in : (rs : Intervals) (r : ℕ × ℕ) → Contains rs r → is_body r.0 ≡ false → r.0 < r.1 → is_in (filter (λ q. not (is_body q.0)) rs) r.0 ≡ true
+cut_in [] r at other some = absurd (none r at)
+cut_in (q ∷ rs) r at other some = elim (cases q r rs at) [
+  | inl is ↦ first (is_body q.0) (ap (λ (x : ℕ × ℕ). is_body x.0) (sym is) ∙ other) (ap (λ (x : ℕ × ℕ). x.0) is) (ap (λ (x : ℕ × ℕ). x.1) is)
+  | inr more ↦ later (is_body q.0) (cut_in rs r more other some)
+]
+  where
+    first : (v : Bool) → v ≡ false → r.0 ≡ q.0 → r.1 ≡ q.1 → is_in (if not v then q ∷ filter (λ x. not (is_body x.0)) rs else filter (λ x. not (is_body x.0)) rs) r.0 ≡ true
+    first true h from to = absurd cc
+    first false h from to = λ i. inside q.0 q.1 r.0 (omega (arith, from)) (omega (arith, from, to, some)) i || is_in (filter (λ x. not (is_body x.0)) rs) r.0
+      where
+        inside : (lo hi k : ℕ) → lo ≤ k → k < hi → is_between lo hi k ≡ true
+        inside lo hi k low high = grind (arith, common_steps, low, high)
+
+    later : (v : Bool) → is_in (filter (λ x. not (is_body x.0)) rs) r.0 ≡ true → is_in (if not v then q ∷ filter (λ x. not (is_body x.0)) rs else filter (λ x. not (is_body x.0)) rs) r.0 ≡ true
+    later true rest = rest
+    later false rest = right_on (is_between q.0 q.1 r.0) (is_in (filter (λ x. not (is_body x.0)) rs) r.0) rest
+
+all_has : (cells : List CellSeen) (r : ℕ × ℕ) → r.1 ≤ r.0 + 1 → LiesInLeaf cells r.0 → list_any (has_all r) cells ≡ true
+all_has cells r short (c, at, level, (low, high)) = any_one (has_all r) c
+    (λ i. eq-eqb c.level 1 level i && (le-leb (rank c.lo) r.0 low i && le-leb r.1 (rank c.hi) (omega (arith, high, short)) i)) cells at
+
+cuts_lie_is : (cells : List CellSeen) (e : Edits) → CutsOneByOne e → ((k : ℕ) → is_in (changed (without_bytes e)) k ≡ true → LiesInLeaf cells k) → list_all (cut_lies cells) e.cuts ≡ true
+cuts_lie_is cells e single lie = all_from (cut_lies cells) e.cuts (λ r at. by_test r at (is_body r.0) (nat_le r.1 r.0) refl refl)
+  where
+    by_test : (r : ℕ × ℕ) → Contains e.cuts r → (v w : Bool) → is_body r.0 ≡ v → nat_le r.1 r.0 ≡ w → cut_lies cells r ≡ true
+    by_test r at true w t m = λ i. t i || (nat_le r.1 r.0 || list_any (has_all r) cells)
+    by_test r at false true t m = right_on (is_body r.0) (nat_le r.1 r.0 || list_any (has_all r) cells) (λ i. m i || list_any (has_all r) cells)
+    by_test r at false false t m =
+        let some = leb-false r.1 r.0 m in
+        let leaf = lie r.0 (in_append (put_keys (without_bytes e).puts) ((without_bytes e).zeros ++ (without_bytes e).cuts) r.0
+        ∙ right_on (is_in (put_keys (without_bytes e).puts) r.0) (is_in ((without_bytes e).zeros ++ (without_bytes e).cuts) r.0) (cut_in e.cuts r at t (omega (arith, some)))) in
+        right_on (is_body r.0) (nat_le r.1 r.0 || list_any (has_all r) cells) (right_on (nat_le r.1 r.0) (list_any (has_all r) cells) (all_has cells r (single r at t) leaf))
 
 -- ---- pieces
 
@@ -209,12 +242,12 @@ module _ (b : Body) (first : Key) (g : IsGrowing b first) (e : Edits) (u : Budge
 
 -- ---- all of it
 
-pub found : (b : Body) (e : Edits) (u : Budget) (t : Store Value) (r : Root) (f : Fresh) (cells : List CellSeen) → CanGrow b e u t r f cells → list_all (cut_lies cells) e.cuts ≡ true
+pub found : (b : Body) (e : Edits) (u : Budget) (t : Store Value) (r : Root) (f : Fresh) (cells : List CellSeen) → CanGrow b e u t r f cells → CutsOneByOne e
     → EndInObjects b e cells → may_grow b e f cells ≡ true
-found b e u t r f cells can cuts ends =
+found b e u t r f cells can single ends =
     let n = can.numbers in
     let whole = all_from is_whole cells (λ c at. whole_is c (can.blocks c at) (ends.blocks c at)) in
     let room = all_from (has_room (without_bytes e)) cells (λ c at. room_is (without_bytes e) c (can.room c at)) in
     let turns = all_from (may_turn b e) (turning_among b e cells) (λ c at. turn_told b can.first can.growing e u c (can.twigs c at) (ends.units c at)) in
-    λ i. (grows b can.first can.growing i && (whole i && (cuts i && puts_lie_is cells e can.lie i)))
+    λ i. (grows b can.first can.growing i && (whole i && (cuts_lie_is cells e single can.lie i && puts_lie_is cells e can.lie i)))
     && (room i && (le-leb f.next f.end (omega (arith, n)) i && (turns i && le-leb (numbers_needed b e cells) (f.end - f.next) (omega (arith, n)) i)))

@@ -1,7 +1,8 @@
 -- Whether what is no byte lies in leaves among the cells of a task, and these have room for it; and
 -- which data blocks may be renewed (docs/volume.md, "Bodies in extents"). A key is its rank.
-use Rattle.std.specs.Prelude.{ℕ, ◌+◌, ◌^◌, ◌==◌, ◌&&◌, ◌||◌, nat_le, nat_lt, not, Bool, List, None}
-use Rattle.std.specs.Prelude.{length}
+use Rattle.std.specs.Prelude.{◌≡◌, ℕ, ◌+◌, ◌^◌, ◌≤◌, ◌==◌, ◌&&◌, ◌||◌, nat_le, nat_lt, not, Bool}
+use Rattle.std.specs.Prelude.{List, None}
+use Rattle.std.specs.Prelude.{Contains, false, length}
 use Rattle.std.specs.List.{list_all, list_any}
 use Rattle.r4_base.specs.Key.{offset_of, rank}
 use Rattle.r4_base.specs.Value.{Value}
@@ -35,6 +36,11 @@ cut_lies cells r = is_body r.0 || (nat_le r.1 r.0 || list_any (has_all r) cells)
 abbrev pub put_lies : List CellSeen → ℕ × Value → Bool
 put_lies cells p = is_byte p.1 || list_any (has_one p.0) cells
 
+-- Each interval that is cut, and is of no body, has one key at most.
+abbrev pub CutsOneByOne : Edits → Type 0
+CutsOneByOne e = (r : ℕ × ℕ) → Contains e.cuts r → is_body r.0 ≡ false → r.1 ≤ r.0 + 1
+
+-- all that the edits cut and put lies so
 abbrev pub lie_in_leaves : List CellSeen → Edits → Bool
 lie_in_leaves cells e = list_all (cut_lies cells) e.cuts && list_all (put_lies cells) e.puts
 

@@ -2,7 +2,6 @@
 //! nothing.
 
 ghost use Rattle.std.specs.Prelude.{◌≡◌, List, true};
-ghost use Rattle.std.specs.List.{list_all};
 ghost use Rattle.r4_base.specs.Tree.{Root as TreeRoot, Store};
 ghost use Rattle.r4_base.specs.Value.{Value};
 ghost use Rattle.r4_content.specs.Edited.{Edits};
@@ -16,7 +15,7 @@ ghost use Rattle.r4_measure.specs.r4_work.Working.{AreCellsIn};
 ghost use Rattle.r4_extent_change.specs.Changing.{AreMeasured, CanGrow};
 ghost use Rattle.r4_extent_growth.specs.Coming.{SufficesFor, twigs_coming};
 ghost use Rattle.r4_extent_growth.specs.Growth.{EndInObjects, MayGrow, may_grow};
-ghost use Rattle.r4_extent_growth.specs.Lying.{cut_lies};
+ghost use Rattle.r4_extent_growth.specs.Lying.{CutsOneByOne};
 
 /// Where `may_grow` says so of the cells of a part of a tree that have the budget, and the budget
 /// has what `twigs_coming` tells of each twig, `change_of_growing` may be asked for the change.
@@ -27,12 +26,11 @@ pub fn found_growths_can_be_made()
         → SufficesFor u (twigs_coming b e cells) → CanGrow b e u t r f cells }
 {}
 
-/// Where `change_of_growing` may be asked for a change, `may_grow` says so, if each interval that
-/// is cut and is of no body lies in one leaf among the cells, or has no keys, and no unit and no
-/// data block reaches the end of its object.
+/// Where `change_of_growing` may be asked for a change, `may_grow` says so, if the edits cut no more
+/// than one key at once where it is no body's, and no unit and no data block reaches the end of its
+/// object.
 pub fn growths_are_found()
     ensures { (b : Body) (e : Edits) (u : Budget) (t : Store Value) (r : TreeRoot) (f : Fresh)
         (cells : List CellSeen) → CanGrow b e u t r f cells
-        → list_all (cut_lies cells) e.cuts ≡ true → EndInObjects b e cells
-        → may_grow b e f cells ≡ true }
+        → CutsOneByOne e → EndInObjects b e cells → may_grow b e f cells ≡ true }
 {}
