@@ -5,6 +5,7 @@ use Rattle.std.specs.List.{filter, list_all, list_any}
 use Rattle.std.proofs.lemmas.Grind.{common_steps}
 use Rattle.std.proofs.lemmas.Bool.{and_parts, eq-eqb, eqb-true, le-leb, leb-false, lt-ltb, ltb-true}
 use Rattle.std.proofs.lemmas.List.Elements.{Contains-append_left}
+use Rattle.std.proofs.lemmas.List.Folds.{list_any-from_Any}
 use Rattle.r4_base.specs.Key.{offset_of, rank}
 use Rattle.r4_base.specs.Tree.{Name, Root, Store}
 use Rattle.r4_base.specs.Value.{Value}
@@ -99,11 +100,7 @@ put_in (q ∷ ps) p at other = elim (cases q p ps at) [
     later false rest = right_on (is_between q.0 (q.0 + 1) p.0) (is_in (put_keys (filter (λ x. not (is_byte x.1)) ps)) p.0) rest
 
 any_one : (p : CellSeen → Bool) (c : CellSeen) → p c ≡ true → (xs : List CellSeen) → Contains xs c → list_any p xs ≡ true
-any_one p c here [] among = absurd (none c among)
-any_one p c here (x ∷ xs) among = elim (cases x c xs among) [
-  | inl is ↦ (λ i. (ap p (sym is) ∙ here) i || list_any p xs)
-  | inr more ↦ right_on (p x) (list_any p xs) (any_one p c here xs more)
-]
+any_one p c here xs (k, lt, is) = list_any-from_Any p xs (k, c, lt, is, here)
 
 one_has : (cells : List CellSeen) (k : ℕ) → LiesInLeaf cells k → list_any (has_one k) cells ≡ true
 one_has cells k (c, at, level, (low, high)) = any_one (has_one k) c

@@ -3,6 +3,7 @@ use Rattle.std.proofs.Common.{◌≡◌, inl, inr, ℕ, suc, ◌+◌, ◌-◌, �
 use Rattle.std.specs.Prelude.{◌&&◌, ◌==◌, ◌^◌, Contains, None, Some, if◌then◌else◌, nat_le, nat_lt, not}
 use Rattle.std.specs.List.{filter, list_all, list_any}
 use Rattle.std.proofs.lemmas.Bool.{and_parts, eq-eqb, eqb-true, leb-true, ltb-true}
+use Rattle.std.proofs.lemmas.List.Folds.{Any-from_list_any}
 use Rattle.r4_base.specs.Key.{offset_of, rank}
 use Rattle.r4_base.specs.Tree.{Root, Store}
 use Rattle.r4_base.specs.Value.{Value}
@@ -36,11 +37,7 @@ use Rattle.r4_extent_growth.proofs.Turns.{each, has_turn, off, second}
 
 -- one of which a test holds
 some_of : {A : Type 0} (p : A → Bool) (xs : List A) → list_any p xs ≡ true → (x : A) × Contains xs x × (p x ≡ true)
-some_of p [] h = absurd cc
-some_of p (x ∷ xs) h = elim (or_true (p x) (list_any p xs) h) [
-  | inl here ↦ (x, (0, omega arith, refl), here)
-  | inr more ↦ let (y, (k, lt, is), on) = some_of p xs more in (y, (suc k, omega (arith, lt), is), on)
-]
+some_of p xs h = let (k, x, lt, is, on) = Any-from_list_any p xs h in (x, (k, lt, is), on)
 
 -- ---- where edits lie
 
