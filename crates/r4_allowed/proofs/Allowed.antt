@@ -14,7 +14,7 @@ use Rattle.r4_measure.proofs.Kept.{block_is}
 use Rattle.r4_measure.proofs.r4_patch.Members.{cases, here, later, none}
 use Rattle.r4_measure.proofs.r4_patch.PartCells.{named_once, root_unnamed}
 use Rattle.r4_measure.proofs.r4_path.Rising.{level_is}
-use Rattle.r4_allowed.specs.Allowing.{AreTaskCells, IsAllowed, IsMeasure, MayGrow}
+use Rattle.r4_allowed.specs.Allowing.{AreTaskCells, IsAllowed, IsMeasure, LetsCome}
 use Rattle.r4_allowed.specs.Table.{budget_of}
 use Rattle.r4_allowed.specs.declared.table.Allowance.{Allowance}
 use Rattle.r4_allowed.proofs.Entries.{entry_of}
@@ -43,7 +43,7 @@ module _ (t : Store Value) (r : Root) (f : Fresh) (cells : List CellSeen) (table
 
   -- what may grow at a level and a number
   Grows : (l i : ℕ) → Type 0
-  Grows l i = (a : Allowance) × (a.level ≡ l) × (a.id.0 ≡ i) × (a.most ≡ b l i) × MayGrow r cells a
+  Grows l i = (a : Allowance) × (a.level ≡ l) × (a.id.0 ≡ i) × (a.most ≡ b l i) × LetsCome r cells a
 
   grows : (l i : ℕ) → 1 ≤ b l i → Grows l i
   unfolding Grows

@@ -42,7 +42,7 @@ Hangs r cells a = IsLowRoot r a ⊎ IsPointedTo cells (suc a.level) a.id.0
 
 -- Cells may come of this one: no more than 87, it is a twig or stands above twigs, it is among the
 -- cells, and is the root, below level 8, or is pointed to from among them.
-pub record MayGrow (r : Root) (cells : List CellSeen) (a : Allowance) : Type 0 where
+pub record LetsCome (r : Root) (cells : List CellSeen) (a : Allowance) : Type 0 where
   pub few : a.most ≤ 87
   pub high : 2 ≤ a.level
   pub stands : IsAmong cells a.level a.id.0
@@ -50,7 +50,7 @@ pub record MayGrow (r : Root) (cells : List CellSeen) (a : Allowance) : Type 0 w
 
 -- by the table no cell comes of this one, or it may
 abbrev pub IsEntry : Root → List CellSeen → Allowance → Type 0
-IsEntry r cells a = 1 ≤ a.most → MayGrow r cells a
+IsEntry r cells a = 1 ≤ a.most → LetsCome r cells a
 
 -- A cell above the twigs suffices for what comes below it by the table.
 abbrev pub BearsBy : List Allowance → CellSeen → Type 0

@@ -11,7 +11,7 @@ ghost use Rattle.r4_node40.specs.View.{item_shown};
 ghost use Rattle.r4_allowed.specs.Allowing.{AreTaskCells, BearsBy, Hangs, IsAllowed, IsAmong};
 ghost use Rattle.r4_allowed.specs.Allowing.{IsEntry};
 ghost use Rattle.r4_allowed.specs.Allowing.{IsLowRoot, IsMeasure, IsPointedTo, IsPointerTo};
-ghost use Rattle.r4_allowed.specs.Allowing.{MayGrow, PointsTo};
+ghost use Rattle.r4_allowed.specs.Allowing.{LetsCome, PointsTo};
 
 use crate::bearing::{NODE_SHARE, below, bytes_with};
 use crate::table::{Allowance, most_of};
@@ -60,13 +60,13 @@ fn is_entry(root: &Root, cells: &[Arc<Cell>], entry: &Allowance) -> bool
     ensures { (result ≡ true) ↔ IsEntry (root_of_pair root.now)
         (map (λ c. arc_value c) cells.now) entry.now }
 {
-    entry.most == 0 || may_grow(root, cells, entry)
+    entry.most == 0 || lets_come(root, cells, entry)
 }
 
 // Whether cells may come of the one of an entry.
-fn may_grow(root: &Root, cells: &[Arc<Cell>], entry: &Allowance) -> bool
+fn lets_come(root: &Root, cells: &[Arc<Cell>], entry: &Allowance) -> bool
     requires { 1 ≤ entry.now.most }
-    ensures { (result ≡ true) ↔ MayGrow (root_of_pair root.now)
+    ensures { (result ≡ true) ↔ LetsCome (root_of_pair root.now)
         (map (λ c. arc_value c) cells.now) entry.now }
 {
     entry.most <= MOST_OF_ONE

@@ -3,9 +3,9 @@ mod TwigTurn
 mod AllTurned
 mod GrownTurns
 mod LeafTurns
-mod NoBytes
+pub mod NoBytes
 mod Effects
-mod Chosen
+pub mod Chosen
 mod LossAmong
 mod GoneKeys
 mod LostTurns

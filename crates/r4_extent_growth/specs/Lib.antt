@@ -1,0 +1,4 @@
+pub mod Coming
+pub mod Turning
+pub mod Lying
+pub mod Growth

@@ -1,0 +1,13 @@
+//! Whether a command's whole change may be made of the cells of its task, where its body stands in
+//! extents and loses no blocks (docs/volume.md, "Bodies in extents").
+#![tactic(auto)]
+
+mod coming;
+mod growing;
+mod laws;
+mod lying;
+mod twigs;
+
+pub use coming::twigs_coming;
+pub use growing::may_grow;
+pub use laws::{found_growths_can_be_made, growths_are_found};
