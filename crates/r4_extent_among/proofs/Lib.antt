@@ -1,0 +1,9 @@
+pub mod Ranks
+pub mod SpansRise
+pub mod Numbered
+pub mod Chain
+pub mod WithLeaves
+pub mod Alike
+pub mod TurnOf
+pub mod SetsValues
+pub mod Ready

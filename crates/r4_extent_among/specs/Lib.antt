@@ -1,0 +1,4 @@
+pub mod Among
+pub mod AmongIn
+pub mod LeavesLeft
+pub mod Making
