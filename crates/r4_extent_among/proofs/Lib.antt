@@ -7,3 +7,5 @@ pub mod Alike
 pub mod TurnOf
 pub mod SetsValues
 pub mod Ready
+pub mod LeftSet
+pub mod MadeLeaves
