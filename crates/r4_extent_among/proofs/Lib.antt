@@ -9,3 +9,5 @@ pub mod SetsValues
 pub mod Ready
 pub mod LeftSet
 pub mod MadeLeaves
+pub mod PackedLeaves
+pub mod OneTurn

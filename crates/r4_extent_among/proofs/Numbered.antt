@@ -85,3 +85,8 @@ all_numbered b e m n (s ∷ ss) cs (mine, others, is, for_it, rest) = (
   leaves_numbered (put_into b e s.lo s.hi) s.hi m n mine for_it,
   all_numbered b e m (n + length mine) ss others rest,
 )
+
+-- cells with numbers, and others behind them with the next ones
+pub numbered_both : (n m : ℕ) (xs ys : List CellSeen) → xs ≡ numbered n xs → m ≡ n + length xs → ys ≡ numbered m ys → xs ++ ys ≡ numbered n (xs ++ ys)
+numbered_both n m xs ys one at more =
+    (λ i. one i ++ (more ∙ ap (λ k. numbered k ys) at) i) ∙ sym (numbered_append n xs ys)

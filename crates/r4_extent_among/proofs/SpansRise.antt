@@ -96,3 +96,11 @@ module _ (twig : CellSeen) (sound : IsSound twig) (level : twig.level ≡ 2) whe
 
   pub twig_ends : (s : Span) → Contains (node_of twig).spans s → IsEnd (twig_pieces twig) (rank twig.hi) s.hi
   twig_ends s at = ends_in (rank twig.lo) (rank twig.hi) (items_of twig.block) s lie (subst (λ ss. Contains ss s) (spans_are twig 1 level) at)
+
+-- each range has a key
+pub some_key : (from : ℕ) (ss : List Span) (s : Span) → SpansRise from ss → Contains ss s → s.lo < s.hi
+some_key from [] s rise at = absurd (not_in_none s at)
+some_key from (x ∷ ss) s rise at = elim (first_or_later x ss s at) [
+  | inl is ↦ subst (λ (y : Span). y.lo < y.hi) is rise.1
+  | inr more ↦ some_key x.hi ss s rise.2 more
+]

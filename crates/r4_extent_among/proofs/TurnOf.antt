@@ -34,7 +34,7 @@ long_ids (c ∷ cs) = let h = long_ids cs in omega (arith, h)
 
 -- ---- how many leaves come
 
-few_for : (us : List LeafUnit) (hi m : ℕ) (cs : List CellSeen) → AreLeavesFor us hi m cs → length cs ≤ leaves_for us
+pub few_for : (us : List LeafUnit) (hi m : ℕ) (cs : List CellSeen) → AreLeavesFor us hi m cs → length cs ≤ leaves_for us
 few_for [] hi m cs h = let l = ap length h in omega (arith, l)
 few_for (u ∷ us) hi m cs h = h.few
 

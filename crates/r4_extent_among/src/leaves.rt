@@ -90,12 +90,14 @@ fn leaves_for(
 {
     let mut numbers = *fresh;
     let packed = packed_leaves(alloc, body, edits, mkfs_id, range, &mut numbers)?;
-    let cells = packed.as_slice();
-    let Some(first) = right_part(alloc, &cells[0], &range.from, &mut numbers)? else {
+    let Some((leaf, others)) = packed.as_slice().split_first() else {
+        return Ok(Vec::new(alloc));
+    };
+    let Some(first) = right_part(alloc, leaf, &range.from, &mut numbers)? else {
         return Ok(Vec::new(alloc));
     };
     *fresh = numbers;
-    with_first(alloc, first, &cells[1..])
+    with_first(alloc, first, others)
 }
 
 // The leaves that have the values of a range and share it out, from its first key on: one at least,
