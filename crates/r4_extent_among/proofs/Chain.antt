@@ -22,8 +22,10 @@ use Rattle.r4_path.proofs.Rising.{follow_order, follow_within, hi_is, lo_is}
 use Rattle.r4_reach.specs.Needs.{leaf_edits}
 use Rattle.r4_reach.specs.Touched.{Body}
 use Rattle.r4_work.proofs.UnitMembers.{between, filtered}
-use Rattle.r4_extent_among.specs.Among.{AreLeavesFor, AreLeavesIn, AreNewLeaves, HaveValues, IsAmong, IsBehind}
+use Rattle.r4_extent_among.specs.Among.{AreLeavesFor, AreLeavesIn, AreNewLeaves, HaveValues, IsAmong}
+use Rattle.r4_extent_among.proofs.Behind.{LieApart, lie_behind}
 use Rattle.r4_extent_among.proofs.SpansRise.{IsEnd, SpansRise, twig_ends, twig_spans}
+use Rattle.r4_extent_among.proofs.Values.{to_spans}
 
 -- where a leaf's range ends: where a piece begins or the twig's range ends, or where the next leaf begins
 abbrev pub EndsWell : CellSeen → (key : ℕ) → List CellSeen → Type 0
@@ -83,16 +85,22 @@ module _ (b : Option Body) (e : Edits) (twig : CellSeen) (is : IsAmong b e twig)
     pub value_in : (s.lo ≤ u.0) × (u.0 < s.hi)
     value_in = between s.lo s.hi u.0 (filtered (λ (w : LeafUnit). is_between s.lo s.hi w.0) (list_edited (leaf_edits b e) []) u at).1
 
+    -- the twig's blocks and holes lie before it, or behind the range
+    pub behind_of : LieApart (node_of twig).names (node_of twig).units u.0 s.hi
+    behind_of =
+        let free = is.free u (to_spans b e (node_of twig).spans s u in_it at) in
+        lie_behind twig is.sound is.level s u.0 in_it value_in (free.blocks, free.holes)
+
     clear_from : (from to : ℕ) → u.0 ≤ from → from < to → to ≤ s.hi → AreAmongExtents twig from to
     clear_from from to low some high =
         let v = value_in in
-        let h = is.behind s u in_it at in
+        let h = behind_of in
         among_extents twig s from to is.node in_it (omega (arith, v, low)) some high
-        (λ n named block. elim (h.blocks n named block) [
+        (λ n named block. elim (h.0 n named block) [
           | inl before ↦ inl (omega (arith, before, low))
           | inr behind ↦ inr (omega (arith, behind, high))
         ])
-        (λ k v own. elim (h.holes k v own) [
+        (λ k v own. elim (h.1 k v own) [
           | inl before ↦ inl (omega (arith, before, low))
           | inr behind ↦ inr (omega (arith, behind, high))
         ])

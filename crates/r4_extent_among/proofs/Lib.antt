@@ -1,6 +1,8 @@
 pub mod Ranks
 pub mod SpansRise
+pub mod Behind
 pub mod Numbered
+pub mod Values
 pub mod Chain
 pub mod WithLeaves
 pub mod Alike

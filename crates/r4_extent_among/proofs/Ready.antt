@@ -39,7 +39,7 @@ among_in_part b e t r f w twig working is =
       sound = is.sound;
       node = part.nodes twig.id (node_of twig) (standing_is t r f w working twig is.stands);
       level = is.level;
-      behind = is.behind;
+      free = is.free;
     }
 
 module _ (b : Option Body) (e : Edits) (t : Store Value) (r : Root) (f : Fresh) (w : WorkingSet) (u : Budget) (twig : CellSeen) (cells : List CellSeen)

@@ -30,7 +30,8 @@ use Rattle.r4_twig_work.specs.Regrafting.{SetsBelow, StandsBelow}
 use Rattle.r4_work.proofs.LeafEffect.{units_append}
 use Rattle.r4_work.proofs.UnitMembers.{filtered, to_filtered}
 use Rattle.r4_extent_among.specs.Among.{AreLeavesFor, AreLeavesIn, AreNewLeaves, IsAmong, among_turn, is_put_among, numbered, values_among, with_leaves}
-use Rattle.r4_extent_among.proofs.Chain.{chain_cell, value_in}
+use Rattle.r4_extent_among.proofs.Chain.{behind_of, chain_cell, value_in}
+use Rattle.r4_extent_among.proofs.Values.{from_spans, into, to_spans}
 use Rattle.r4_extent_among.proofs.Numbered.{all_numbered}
 use Rattle.r4_extent_among.proofs.TurnOf.{chain, come, put}
 
@@ -86,37 +87,20 @@ to_cells (d ∷ ds) c w m at = elim (cases d c ds m) [
 -- ---- the values that come
 
 module _ (b : Option Body) (e : Edits) where
-  abbrev into : Span → List LeafUnit
-  into s = put_into b e s.lo s.hi
-
   abbrev edited : List LeafUnit
   edited = list_edited (leaf_edits b e) []
 
   rises : Rises edited
   rises = edited_rises (leaf_edits b e) [] tt
 
-  from_spans : (ss : List Span) (w : LeafUnit) → Contains (flat_map into ss) w → (s : Span) × Contains ss s × Contains (into s) w
-  from_spans [] w at = absurd (none w at)
-  from_spans (s ∷ ss) w at = elim (Contains-append_cases (into s) (flat_map into ss) w at) [
-    | inl mine ↦ (s, here s ss, mine)
-    | inr more ↦ let (z, m, has) = from_spans ss w more in (z, later s z ss m, has)
-  ]
-
-  to_spans : (ss : List Span) (s : Span) (w : LeafUnit) → Contains ss s → Contains (into s) w → Contains (flat_map into ss) w
-  to_spans [] s w m at = absurd (none s m)
-  to_spans (z ∷ ss) s w m at = elim (cases z s ss m) [
-    | inl is ↦ Contains-append_left (into z) (flat_map into ss) w (subst (λ (y : Span). Contains (into y) w) is at)
-    | inr more ↦ Contains-append_right (into z) (flat_map into ss) w (to_spans ss s w more at)
-  ]
-
   units_for : (us : List LeafUnit) (hi m : ℕ) (cs : List CellSeen) → AreLeavesFor us hi m cs → units_of_cells cs ≡ us
   units_for [] hi m cs h = ap units_of_cells h
   units_for (u ∷ us) hi m cs h = h.units
 
-  units_in : (m : ℕ) (ss : List Span) (cs : List CellSeen) → AreLeavesIn b e m ss cs → units_of_cells cs ≡ flat_map into ss
+  units_in : (m : ℕ) (ss : List Span) (cs : List CellSeen) → AreLeavesIn b e m ss cs → units_of_cells cs ≡ flat_map (into b e) ss
   units_in m [] cs h = ap units_of_cells h
   units_in m (s ∷ ss) cs (mine, others, is, for_it, rest) =
-      ap units_of_cells is ∙ (units_append mine others ∙ (λ i. units_for (into s) s.hi m mine for_it i ++ units_in m ss others rest i))
+      ap units_of_cells is ∙ (units_append mine others ∙ (λ i. units_for (into b e s) s.hi m mine for_it i ++ units_in m ss others rest i))
 
   module _ (twig : CellSeen) (cells : List CellSeen) (is : IsAmong b e twig) (are : AreNewLeaves b e twig cells) (n : ℕ) (high : 2 ^ 63 ≤ n) where
     abbrev cs : List CellSeen
@@ -133,19 +117,19 @@ module _ (b : Option Body) (e : Edits) where
       span : Span
       named : Contains (node_of twig).spans span
       value : Value
-      there : Contains (into span) (k, value)
+      there : Contains (into b e span) (k, value)
 
     comes : (k : ℕ) → at k ≡ true → Comes k
     comes k on =
         let (v, m) = has_key (values_among b e twig) k on in
-        let (s, in_it, has) = from_spans (node_of twig).spans (k, v) m in
+        let (s, in_it, has) = from_spans b e (node_of twig).spans (k, v) m in
         record { span = s; named = in_it; value = v; there = has }
 
     -- the twig has no unit of its own there
     no_own : (k : ℕ) (v : Value) → Comes k → Contains (node_of twig).units (k, v) → ⊥
     no_own k v c own =
         let r = value_in b e twig is c.span c.named (k, c.value) c.there in
-        elim ((is.behind c.span (k, c.value) c.named c.there).holes k v own) [
+        elim ((behind_of b e twig is c.span c.named (k, c.value) c.there).1 k v own) [
           | inl before ↦ omega (arith, before)
           | inr behind ↦ omega (arith, behind, r)
         ]
@@ -154,7 +138,7 @@ module _ (b : Option Body) (e : Edits) where
     leaf_value : (k : ℕ) (u : Placed Value) (c : CellSeen) → Contains cs c → Contains (node_of c).units (k, u.0) → (c.level == 1) ≡ u.1 → set_by (leaf_edits b e) k ≡ Some u
     leaf_value k u c m has kind =
         let all = subst (λ us. Contains us (k, u.0)) units_are (to_cells cs c (k, u.0) m has) in
-        let (s, in_it, mine) = from_spans (node_of twig).spans (k, u.0) all in
+        let (s, in_it, mine) = from_spans b e (node_of twig).spans (k, u.0) all in
         let among = (filtered (λ (w : LeafUnit). is_between s.lo s.hi w.0) edited (k, u.0) mine).0 in
         let found = rising_found edited k u.0 rises among in
         let one : true ≡ u.1 = sym (eq-eqb c.level 1 (chain_cell twig cs c is.node (chain b e twig cells is are n) m).1) ∙ kind in
@@ -166,7 +150,7 @@ module _ (b : Option Body) (e : Edits) where
         let among = found_in k edited u.0 found in
         let test = (filtered (λ (w : LeafUnit). is_between come.span.lo come.span.hi w.0) edited (k, come.value) come.there).1 in
         let mine = to_filtered (λ (w : LeafUnit). is_between come.span.lo come.span.hi w.0) edited (k, u.0) test among in
-        let all = to_spans (node_of twig).spans come.span (k, u.0) come.named mine in
+        let all = to_spans b e (node_of twig).spans come.span (k, u.0) come.named mine in
         let (c, m, has) = from_cells cs (k, u.0) (subst (λ us. Contains us (k, u.0)) (sym units_are) all) in
         (c, m, has, eq-eqb c.level 1 (chain_cell twig cs c is.node (chain b e twig cells is are n) m).1 ∙ sym kind)
 
@@ -187,7 +171,7 @@ module _ (b : Option Body) (e : Edits) where
       held = λ k on.
           let c = comes k on in
           let r = value_in b e twig is c.span c.named (k, c.value) c.there in
-          (twig, inr refl, inr (c.span, c.named, r, λ m named block inside. elim ((is.behind c.span (k, c.value) c.named c.there).blocks m named block) [
+          (twig, inr refl, inr (c.span, c.named, r, λ m named block inside. elim ((behind_of b e twig is c.span c.named (k, c.value) c.there).0 m named block) [
             | inl before ↦ omega (arith, before, inside)
             | inr behind ↦ omega (arith, behind, inside, r)
           ]));

@@ -30,7 +30,7 @@ lower : (from to : ℕ) (ss : List Span) → from ≤ to → SpansRise to ss →
 lower from to [] le h = tt
 lower from to (s ∷ ss) le h = let a = h.0 in (omega (arith, a, le), h.1, h.2)
 
-item_wide : (x : Item) → IsSoundItem x → rank x.key < item_end x
+pub item_wide : (x : Item) → IsSoundItem x → rank x.key < item_end x
 item_wide x sound = by_pieces (item_pieces x) (follow_item x sound) (next_of_item x sound (rank x.key + 1))
   where
     by_pieces : (ps : List TwigPiece) → Follow (rank x.key) (item_end x) ps → next_of (rank x.key + 1) ps ≡ rank x.key → rank x.key < item_end x
@@ -41,11 +41,16 @@ next_behind : (from to : ℕ) (xs : List Item) → Lie from to xs → from ≤ n
 next_behind from to [] lie = lie
 next_behind from to (x ∷ xs) lie = lie.0
 
-lie_again : (from to : ℕ) (xs : List Item) → Lie from to xs → Lie (next_key to xs) to xs
+pub lie_again : (from to : ℕ) (xs : List Item) → Lie from to xs → Lie (next_key to xs) to xs
 lie_again from to [] lie = omega arith
 lie_again from to (x ∷ xs) lie = (omega arith, lie.1, lie.2)
 
-spans_rise : (from to : ℕ) (xs : List Item) → Lie from to xs → SpansRise from (spans_in to xs)
+-- they end at the second key, or before
+pub lie_order : (from to : ℕ) (xs : List Item) → Lie from to xs → from ≤ to
+lie_order from to [] lie = lie
+lie_order from to (x ∷ xs) lie = let a = lie.0 in let w = item_wide x lie.1 in let z = lie_order (item_end x) to xs lie.2 in omega (arith, a, w, z)
+
+pub spans_rise : (from to : ℕ) (xs : List Item) → Lie from to xs → SpansRise from (spans_in to xs)
 unfolding spans_in
 spans_rise from to [] lie = tt
 spans_rise from to (x ∷ xs) lie =
@@ -88,7 +93,7 @@ module _ (twig : CellSeen) (sound : IsSound twig) (level : twig.level ≡ 2) whe
     subst (λ (l : ℕ). cell_fault true (2 ^ 64) l (rank twig.lo) (rank twig.hi) twig.block ≡ None) level sound.accepted,
   )
 
-  lie : Lie (rank twig.lo) (rank twig.hi) (items_of twig.block)
+  pub lie : Lie (rank twig.lo) (rank twig.hi) (items_of twig.block)
   lie = stand_lie (rank twig.lo) (rank twig.hi) twig.block stands
 
   pub twig_spans : SpansRise (rank twig.lo) (node_of twig).spans

@@ -1,11 +1,11 @@
 -- Values that come among the extents of a twig, where no leaf is, and are no bytes of a body in
 -- extents (docs/volume.md, "Bodies in extents"). A key is its rank.
-use Rattle.std.specs.Prelude.{◌≡◌, ◌⊎◌, ℕ, ◌+◌, ◌-◌, ◌*◌, ◌/◌, ◌<◌, ◌≤◌, ◌==◌, List, [], ◌∷◌, ◌++◌}
+use Rattle.std.specs.Prelude.{◌≡◌, ℕ, ◌+◌, ◌-◌, ◌*◌, ◌/◌, ◌≤◌, ◌==◌, List, [], ◌∷◌, ◌++◌}
 use Rattle.std.specs.Prelude.{length, Bool, Contains, Option}
 use Rattle.std.specs.List.{flat_map, list_any}
 use Rattle.r4_base.specs.Key.{key_of_rank, rank}
 use Rattle.r4_base.specs.Node.{mkfs_id_of}
-use Rattle.r4_base.specs.Tree.{IsData, IsNode, Name, Span}
+use Rattle.r4_base.specs.Tree.{InName, IsData, IsNode, Name, Span}
 use Rattle.r4_base.specs.Value.{Value}
 use Rattle.r4_branch.specs.Pieces.{twig_bytes}
 use Rattle.r4_branch.specs.declared.piece.TwigPart.TheVariants.{Pointer}
@@ -31,19 +31,17 @@ values_among b e twig = flat_map (λ (s : Span). put_into b e s.lo s.hi) (node_o
 abbrev pub is_put_among : Option Body → Edits → CellSeen → (key : ℕ) → Bool
 is_put_among b e twig k = list_any (λ (u : LeafUnit). u.0 == k) (values_among b e twig)
 
--- No block and no hole of the twig has a key from this one on in the range of an extent.
-pub record IsBehind (twig : CellSeen) (s : Span) (key : ℕ) : Type 0 where
-  pub blocks : (n : Name) → Contains (node_of twig).names n → IsData n → (n.hi ≤ key) ⊎ (s.hi ≤ n.lo)
-  pub holes : (k : ℕ) (v : Value) → Contains (node_of twig).units (k, v) → (k < key) ⊎ (s.hi ≤ k)
+-- No block and no hole of the twig has the key.
+pub record IsFree (twig : CellSeen) (key : ℕ) : Type 0 where
+  pub blocks : (n : Name) → Contains (node_of twig).names n → IsData n → InName n key → ⊥
+  pub holes : (v : Value) → Contains (node_of twig).units (key, v) → ⊥
 
--- A twig that may stand. Each value that comes into the range of one of its extents lies behind the
--- blocks and holes there.
+-- A twig that may stand, and no value comes where it has a block or a hole.
 pub record IsAmong (b : Option Body) (e : Edits) (twig : CellSeen) : Type 0 where
   pub sound : IsSound twig
   pub node : IsNode (node_of twig)
   pub level : twig.level ≡ 2
-  pub behind : (s : Span) (u : LeafUnit) → Contains (node_of twig).spans s
-      → Contains (put_into b e s.lo s.hi) u → IsBehind twig s u.0
+  pub free : (u : LeafUnit) → Contains (values_among b e twig) u → IsFree twig u.0
 
 -- ---- the leaves that come
 

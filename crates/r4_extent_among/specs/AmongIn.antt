@@ -1,13 +1,12 @@
 -- Values that are put among the extents of a standing twig (docs/volume.md, "Bodies in extents").
 use Rattle.std.specs.Prelude.{◌≡◌, ℕ, ◌+◌, ◌^◌, ◌≤◌, List, [], ◌∷◌, Contains, Option}
-use Rattle.r4_base.specs.Tree.{Root, Span, Store}
+use Rattle.r4_base.specs.Tree.{Root, Store}
 use Rattle.r4_base.specs.Value.{Value}
 use Rattle.r4_cell.specs.Seen.{CellSeen, node_of}
 use Rattle.r4_cell.specs.declared.change.Fresh.{Fresh}
 use Rattle.r4_content.specs.Edited.{Edits}
 use Rattle.r4_extent_build.specs.Looping.{AreTurned}
 use Rattle.r4_extent_build.specs.r4_twig_turns.Turning.{CanRegraftAll, TwigTurn, behind}
-use Rattle.r4_extent_demands.specs.Putting.{put_into}
 use Rattle.r4_leaf.specs.Units.{LeafUnit}
 use Rattle.r4_measure.specs.Budget.{AreUnplaced, Budget}
 use Rattle.r4_measure.specs.Grafting.{IsQuietBelow}
@@ -17,17 +16,15 @@ use Rattle.r4_reach.specs.Needs.{put_among}
 use Rattle.r4_reach.specs.Touched.{Body}
 use Rattle.r4_work.specs.Working.{standing}
 use Rattle.r4_work.specs.declared.working.WorkingSet.{WorkingSet}
-use Rattle.r4_extent_among.specs.Among.{AreNewLeaves, IsAmong, IsBehind, among_need, among_turn}
-use Rattle.r4_extent_among.specs.Among.{more_twigs, numbered}
+use Rattle.r4_extent_among.specs.Among.{AreNewLeaves, IsAmong, IsFree, among_need, among_turn}
+use Rattle.r4_extent_among.specs.Among.{more_twigs, numbered, values_among}
 
--- The twig stands in the set, and each value that comes into the range of one of its extents lies
--- behind the blocks and holes there.
+-- The twig stands in the set, and no value comes where it has a block or a hole.
 pub record IsAmongIn (b : Option Body) (e : Edits) (w : WorkingSet) (twig : CellSeen) : Type 0 where
   pub stands : Contains (standing w) twig
   pub sound : IsSound twig
   pub level : twig.level ≡ 2
-  pub behind : (s : Span) (u : LeafUnit) → Contains (node_of twig).spans s
-      → Contains (put_into b e s.lo s.hi) u → IsBehind twig s u.0
+  pub free : (u : LeafUnit) → Contains (values_among b e twig) u → IsFree twig u.0
 
 -- the one turn
 abbrev pub turns_among : CellSeen → (leaves : List CellSeen) → List TwigTurn
