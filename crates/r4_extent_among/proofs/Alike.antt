@@ -19,11 +19,12 @@ plain_part (Blocks u) = Blocks u
 abbrev plain : TwigPiece → TwigPiece
 plain p = record { key = p.key; part = plain_part p.part }
 
-abbrev open_by : (offset key : ℕ) → TwigPart → Option ℕ
+-- where a part's unit ends, as its piece says
+abbrev pub open_by : (offset key : ℕ) → TwigPart → Option ℕ
 open_by o j (Pointer to) = None
 open_by o j (Blocks u) = if nat_lt (o + 4096 * u.width) (2 ^ 64) then Some (j + 4096 * u.width) else None
 
-open_is : (p : TwigPiece) → open_end p ≡ open_by (offset_of p.key) (rank p.key) p.part
+pub open_is : (p : TwigPiece) → open_end p ≡ open_by (offset_of p.key) (rank p.key) p.part
 open_is p = refl
 
 plain_open : (p : TwigPiece) → open_end (plain p) ≡ open_end p

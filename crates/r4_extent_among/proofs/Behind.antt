@@ -1,9 +1,9 @@
 -- A key of an extent's range at which no block and no hole stands lies behind all of the extent's.
-use Rattle.std.proofs.Common.{◌≡◌, ◌⊎◌, inl, inr, ℕ, zero, suc, ◌+◌, ◌*◌, ◌^◌, ◌<◌, ◌≤◌, Bool, true, false, List, [], ◌∷◌, ◌++◌, refl, sym, ap, subst, ◌∙◌, arith}
-use Rattle.std.specs.Prelude.{Contains, None, if◌then◌else◌}
+use Rattle.std.proofs.Common.{◌≡◌, ◌⊎◌, inl, inr, ℕ, zero, suc, ◌+◌, ◌*◌, ◌<◌, ◌≤◌, Bool, true, false, List, [], ◌∷◌, ◌++◌, refl, sym, ap, subst, arith}
+use Rattle.std.specs.Prelude.{Contains, if◌then◌else◌}
 use Rattle.std.proofs.lemmas.Bool.{cases_eq, cases_lt, eqb-true}
 use Rattle.std.proofs.lemmas.List.Elements.{Contains-append_cases, Contains-append_left, Contains-append_right}
-use Rattle.r4_base.specs.Cell.{block_names, cell_fault, hole_bytes, is_extent, item_end, item_names, item_units, names_in, next_key, run_names, spans_in, units_in, zeros_from}
+use Rattle.r4_base.specs.Cell.{block_names, hole_bytes, is_extent, item_end, item_names, item_units, names_in, next_key, run_names, spans_in, units_in, zeros_from}
 use Rattle.r4_base.specs.Extents.{blocks_in, is_hole, units_of}
 use Rattle.r4_base.specs.Key.{rank}
 use Rattle.r4_base.specs.Node.{Item, items_of}
@@ -103,9 +103,9 @@ units_before : (k x : ℕ) (us : List ExtentUnit) → k ≤ x → IsFreeIn (bloc
 units_before k x [] low free = ((λ n at block. absurd (none n at)), λ j v at. absurd (none (j, v) at))
 units_before k x (u ∷ us) low free = elim (cases_lt x (k + 4096 * u.width)) [
   | inl inside ↦ absurd (unit_full k x u low inside (
-      (λ n at block. free.0 n (Contains-append_left (if is_hole u then [] else run_names k u.start u.width) (block_names (k + 4096 * u.width) us) n at) block),
-      λ v at. free.1 v (Contains-append_left (if is_hole u then zeros_from k (4096 * u.width) else []) (hole_bytes (k + 4096 * u.width) us) (x, v) at),
-    ))
+    (λ n at block. free.0 n (Contains-append_left (if is_hole u then [] else run_names k u.start u.width) (block_names (k + 4096 * u.width) us) n at) block),
+    λ v at. free.1 v (Contains-append_left (if is_hole u then zeros_from k (4096 * u.width) else []) (hole_bytes (k + 4096 * u.width) us) (x, v) at),
+  ))
   | inr past ↦
       let one = unit_parts k u in
       let more = units_before (k + 4096 * u.width) x us past (

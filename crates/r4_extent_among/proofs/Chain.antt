@@ -1,10 +1,9 @@
 -- The new leaves of a twig, one behind the other: where their ranges lie.
-use Rattle.std.proofs.Common.{◌≡◌, ◌⊎◌, inl, inr, ℕ, ◌+◌, ◌<◌, ◌≤◌, true, List, [], ◌∷◌, ◌++◌, length, refl, sym, ap, subst, ◌∙◌, arith}
+use Rattle.std.proofs.Common.{◌≡◌, ◌⊎◌, inl, inr, ℕ, ◌<◌, ◌≤◌, List, [], ◌∷◌, ◌++◌, refl, sym, subst, arith}
 use Rattle.std.specs.Prelude.{Contains, Option}
-use Rattle.std.proofs.lemmas.List.Elements.{Contains-append_cases, Contains-append_left, Contains-append_right}
+use Rattle.std.proofs.lemmas.List.Elements.{Contains-append_cases}
 use Rattle.r4_base.specs.Key.{rank}
 use Rattle.r4_base.specs.Tree.{IsNode, Span}
-use Rattle.r4_branch.specs.declared.piece.TwigPiece.{TwigPiece}
 use Rattle.r4_cell.specs.Seen.{CellSeen, node_of}
 use Rattle.r4_content.specs.Edited.{Edits, is_between}
 use Rattle.r4_content.specs.Listed.{list_edited}
@@ -14,15 +13,14 @@ use Rattle.r4_edit.proofs.OverLeaf.{leaf_node}
 use Rattle.r4_extent_demands.specs.Putting.{put_into}
 use Rattle.r4_leaf.specs.Units.{LeafUnit}
 use Rattle.r4_patch.proofs.Members.{cases, here, later, none}
-use Rattle.r4_path.specs.Levels.{units_of_cells}
 use Rattle.r4_path.specs.Sharing.{IsSound}
 use Rattle.r4_path.specs.Steps.{Follow}
 use Rattle.r4_path.specs.TwigPieces.{twig_pieces}
-use Rattle.r4_path.proofs.Rising.{follow_order, follow_within, hi_is, lo_is}
+use Rattle.r4_path.proofs.Rising.{follow_order, follow_within}
 use Rattle.r4_reach.specs.Needs.{leaf_edits}
 use Rattle.r4_reach.specs.Touched.{Body}
 use Rattle.r4_work.proofs.UnitMembers.{between, filtered}
-use Rattle.r4_extent_among.specs.Among.{AreLeavesFor, AreLeavesIn, AreNewLeaves, HaveValues, IsAmong}
+use Rattle.r4_extent_among.specs.Among.{AreLeavesFor, AreLeavesIn, IsAmong}
 use Rattle.r4_extent_among.proofs.Behind.{LieApart, lie_behind}
 use Rattle.r4_extent_among.proofs.SpansRise.{IsEnd, SpansRise, twig_ends, twig_spans}
 use Rattle.r4_extent_among.proofs.Values.{to_spans}

@@ -4,8 +4,8 @@ pub mod Behind
 pub mod Numbered
 pub mod Values
 pub mod Chain
-pub mod WithLeaves
 pub mod Alike
+pub mod WithLeaves
 pub mod TurnOf
 pub mod SetsValues
 pub mod Ready

@@ -1,5 +1,5 @@
 -- A leaf without units that gets the values of its range, as the calls tell it.
-use Rattle.std.proofs.Common.{◌≡◌, inl, ℕ, ◌^◌, ◌<◌, ◌≤◌, true, List, [], length, refl, sym, ap, subst, ◌∙◌, arith}
+use Rattle.std.proofs.Common.{◌≡◌, inl, ℕ, ◌^◌, ◌<◌, true, List, [], length, refl, sym, subst, ◌∙◌, arith}
 use Rattle.std.specs.Prelude.{None, Option}
 use Rattle.r4_base.specs.Cell.{cell_fault, units_in}
 use Rattle.r4_base.specs.Key.{rank}
@@ -22,7 +22,7 @@ use Rattle.r4_leaf_edits.specs.Made.{MakesEdits}
 use Rattle.r4_reach.specs.Needs.{leaf_edits}
 use Rattle.r4_reach.specs.Touched.{Body}
 
-no_bytes : leaf_bytes [] ≡ 0
+pub no_bytes : leaf_bytes [] ≡ 0
 unfolding bytes_behind
 no_bytes = refl
 

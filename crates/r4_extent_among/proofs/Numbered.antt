@@ -1,5 +1,5 @@
 -- Leaves under other numbers.
-use Rattle.std.proofs.Common.{◌≡◌, ◌≢◌, inl, inr, ℕ, ◌+◌, ◌<◌, ◌≤◌, List, [], ◌∷◌, ◌++◌, length, refl, sym, ap, subst, ◌∙◌, arith}
+use Rattle.std.proofs.Common.{◌≡◌, inl, inr, ℕ, ◌+◌, List, [], ◌∷◌, ◌++◌, length, refl, sym, ap, subst, ◌∙◌, arith}
 use Rattle.std.specs.Prelude.{Contains, Option}
 use Rattle.r4_base.specs.Key.{rank}
 use Rattle.r4_base.specs.Node.{mkfs_id_of}
@@ -14,7 +14,6 @@ use Rattle.r4_path.specs.Levels.{units_of_cells}
 use Rattle.r4_path.specs.Sharing.{IsSound}
 use Rattle.r4_path.specs.Steps.{CountUp, Follow}
 use Rattle.r4_path.proofs.Rising.{count_within, id_member}
-use Rattle.r4_reach.specs.Needs.{leaves_for}
 use Rattle.r4_reach.specs.Touched.{Body}
 use Rattle.r4_extent_among.specs.Among.{AreLeavesFor, AreLeavesIn, HaveValues, numbered}
 

@@ -1,5 +1,5 @@
 -- A twig among whose extents values come, as it is packed anew with the leaves that were made.
-use Rattle.std.proofs.Common.{map, ◌≡◌, inl, inr, ℕ, ◌+◌, ◌<◌, ◌≤◌, List, [], ◌∷◌, length, refl, sym, ap, subst, ◌∙◌, arith}
+use Rattle.std.proofs.Common.{map, ◌≡◌, inl, inr, ℕ, ◌+◌, List, [], ◌∷◌, length, refl, sym, ap, subst, ◌∙◌, arith}
 use Rattle.std.specs.Prelude.{Contains, Option}
 use Rattle.r4_base.specs.Key.{rank}
 use Rattle.r4_base.specs.Tree.{IsNode, Root, Span, Store}
@@ -16,7 +16,6 @@ use Rattle.r4_measure.specs.Grafting.{Beside, IsRegrafted}
 use Rattle.r4_patch.proofs.Members.{cases, here, later, none}
 use Rattle.r4_path.specs.Sharing.{IsSound}
 use Rattle.r4_path.specs.TwigPieces.{twig_pieces}
-use Rattle.r4_path.proofs.Rising.{hi_is, lo_is}
 use Rattle.r4_reach.specs.Touched.{Body}
 use Rattle.r4_twig_work.specs.Regrafting.{DoesBelow, IsRegraftable}
 use Rattle.r4_work.specs.declared.working.WorkingSet.{WorkingSet}

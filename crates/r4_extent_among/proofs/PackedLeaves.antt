@@ -1,45 +1,36 @@
 -- The leaves that values are packed into, from the first key of their range on, and from the first value's on.
-use Rattle.std.proofs.Common.{map, ◌≡◌, ◌⊎◌, inl, inr, ℕ, ◌+◌, ◌-◌, ◌*◌, ◌/◌, ◌^◌, ◌<◌, ◌≤◌, Bool, true, false, List, [], ◌∷◌, ◌++◌, drop, length, refl, sym, ap, subst, ◌∙◌, arith}
-use Rattle.std.specs.Prelude.{Contains, None, Option, Some, nat_le, nat_lt, ◌==◌, if◌then◌else◌}
-use Rattle.std.specs.List.{filter}
+use Rattle.std.proofs.Common.{◌≡◌, inl, inr, ℕ, ◌+◌, ◌-◌, ◌/◌, ◌<◌, ◌≤◌, Bool, true, false, List, [], ◌∷◌, ◌++◌, drop, length, refl, sym, ap, subst, ◌∙◌, arith}
+use Rattle.std.specs.Prelude.{Contains, None, Some, nat_le, if◌then◌else◌}
 use Rattle.std.proofs.lemmas.Bool.{cases_lt, eq-eqb, le-leb, lt-ltb}
-use Rattle.std.proofs.lemmas.List.{length-drop}
-use Rattle.std.proofs.lemmas.List.Elements.{All-contains}
 use Rattle.std.proofs.lemmas.Option.{none-some, same_Some}
-use Rattle.r4_base.specs.Cell.{units_in}
 use Rattle.r4_base.specs.Key.{least, rank, top}
-use Rattle.r4_base.specs.Node.{items_of, mkfs_id_of}
+use Rattle.r4_base.specs.Node.{mkfs_id_of}
 use Rattle.r4_base.specs.Tree.{IsNode}
-use Rattle.r4_base.specs.Value.{Value}
 use Rattle.r4_base.specs.declared.key.Key.{Key}
 use Rattle.r4_cell.specs.Seen.{CellSeen, node_of}
 use Rattle.r4_cell.specs.declared.change.Fresh.{Fresh}
 use Rattle.r4_edit.specs.LeafParts.{HasRight, IsEmptyLeaf, IsRightPart, first_from, right_id, units_from}
 use Rattle.r4_edit.proofs.NewLeaves.{leaf_node}
-use Rattle.r4_leaf.specs.Leaves.{AreFew, HaveMkfsId, Packs}
-use Rattle.r4_leaf.specs.Units.{LeafUnit, bytes_behind, leaf_bytes}
+use Rattle.r4_leaf.specs.Leaves.{AreFew, Packs}
+use Rattle.r4_leaf.specs.Units.{LeafUnit, leaf_bytes}
 use Rattle.r4_leaf.specs.declared.leaf.Leaf.{Leaf}
 use Rattle.r4_leaf.specs.declared.remaking.KeyRange.{KeyRange}
 use Rattle.r4_patch.specs.Joining.{ids_of}
-use Rattle.r4_patch.proofs.Members.{cases, here, later, none}
+use Rattle.r4_patch.proofs.Members.{cases, here, later}
 use Rattle.r4_path.specs.LeafSteps.{IsLeafStep, leaf_cells}
 use Rattle.r4_path.specs.Levels.{units_of_cells}
 use Rattle.r4_path.specs.Sharing.{IsSound}
 use Rattle.r4_path.specs.Steps.{CountUp, Follow, Step}
 use Rattle.r4_path.proofs.CellNodes.{units_are}
 use Rattle.r4_path.proofs.LeafCells.{counts_next}
-use Rattle.r4_path.proofs.Rising.{follow_within, hi_is, in_cell, lo_is}
+use Rattle.r4_path.proofs.Rising.{follow_within, in_cell}
 use Rattle.r4_reach.specs.Needs.{leaves_for, over}
-use Rattle.r4_extent_among.specs.Among.{AreLeavesFor, HaveValues, numbered}
+use Rattle.r4_extent_among.specs.Among.{AreLeavesFor}
 use Rattle.r4_extent_among.specs.Making.{ArePackedFrom, IsLeafRange}
-use Rattle.r4_extent_among.proofs.Numbered.{counts_numbered}
+use Rattle.r4_extent_among.proofs.MadeLeaves.{no_bytes}
 use Rattle.r4_extent_among.proofs.TurnOf.{long_ids}
 
 -- ---- how many
-
-no_bytes : leaf_bytes [] ≡ 0
-unfolding bytes_behind
-no_bytes = refl
 
 over_is : (n : ℕ) → 4068 < n → over n ≡ 1 + (n - 4068 + 1023) / 1024
 over_is n h = rw (lt-ltb 4068 n h) refl

@@ -1,5 +1,5 @@
 -- A key of a rank.
-use Rattle.std.proofs.Common.{◌≡◌, ℕ, ◌+◌, ◌*◌, ◌/◌, ◌%◌, ◌^◌, ◌<◌, arith, refl}
+use Rattle.std.proofs.Common.{◌≡◌, ℕ, ◌^◌, ◌<◌, arith, refl}
 use Rattle.r4_base.specs.Key.{IsKey, key_of_rank, rank}
 use Rattle.r4_base.proofs.Keys.{is_key}
 

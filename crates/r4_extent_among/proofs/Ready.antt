@@ -1,7 +1,6 @@
 -- A standing twig among whose extents values come is ready for its turn, and has it.
-use Rattle.std.proofs.Common.{◌≡◌, inl, inr, ℕ, Bool, List, [], ◌∷◌, length, ◌+◌, ◌-◌, ◌*◌, ◌/◌, ◌^◌, ◌<◌, ◌≤◌, refl, sym, ap, subst, ◌∙◌, arith}
-use Rattle.std.specs.Prelude.{◌↔◌, Contains, Option}
-use Rattle.r4_base.specs.Key.{rank}
+use Rattle.std.proofs.Common.{◌≡◌, inl, inr, ℕ, Bool, List, [], ◌∷◌, ◌+◌, ◌≤◌, refl, sym, ap, subst, ◌∙◌, arith}
+use Rattle.std.specs.Prelude.{◌↔◌, Option}
 use Rattle.r4_base.specs.Tree.{Holds, Node, Root, Store}
 use Rattle.r4_base.specs.Value.{Value}
 use Rattle.r4_branch.specs.Pieces.{twig_bytes, units_of}
@@ -19,7 +18,7 @@ use Rattle.r4_patch.specs.Effect.{Placed}
 use Rattle.r4_patch.specs.Part.{IsPart}
 use Rattle.r4_patch.proofs.Members.{none}
 use Rattle.r4_path.proofs.Rising.{hi_is, level_is, lo_is}
-use Rattle.r4_reach.specs.Needs.{leaf_edits, put_among}
+use Rattle.r4_reach.specs.Needs.{leaf_edits}
 use Rattle.r4_reach.specs.Touched.{Body}
 use Rattle.r4_twig_work.specs.Regrafting.{SetsBelow, StandsBelow}
 use Rattle.r4_work.specs.Remaking.{Changes}

@@ -1,5 +1,5 @@
 -- What the turn of a twig among whose extents values come does to units.
-use Rattle.std.proofs.Common.{◌≡◌, ◌↔◌, ◌⊎◌, inl, inr, ℕ, ◌+◌, ◌^◌, ◌<◌, ◌≤◌, Bool, true, false, List, [], ◌∷◌, ◌++◌, refl, sym, ap, subst, ◌∙◌, arith}
+use Rattle.std.proofs.Common.{◌≡◌, ◌⊎◌, inl, inr, ℕ, ◌^◌, ◌≤◌, Bool, true, false, List, [], ◌∷◌, ◌++◌, refl, sym, ap, subst, ◌∙◌, arith}
 use Rattle.std.specs.Prelude.{Contains, None, Option, Some, ◌==◌, ◌||◌}
 use Rattle.std.specs.FinMap.{find}
 use Rattle.std.specs.List.{flat_map, list_any}
@@ -8,7 +8,7 @@ use Rattle.std.proofs.lemmas.Bool.{eq-eqb, eqb-true}
 use Rattle.std.proofs.lemmas.List.Elements.{Contains-append_cases, Contains-append_left, Contains-append_right}
 use Rattle.std.proofs.lemmas.Option.{none-some, same_Some}
 use Rattle.r4_base.specs.Node.{mkfs_id_of}
-use Rattle.r4_base.specs.Tree.{IsData, Span}
+use Rattle.r4_base.specs.Tree.{Span}
 use Rattle.r4_base.specs.Value.{Value}
 use Rattle.r4_branch.specs.Pieces.{units_of}
 use Rattle.r4_build.specs.Building.{set_by}
@@ -17,7 +17,6 @@ use Rattle.r4_cell.specs.Seen.{CellSeen, node_of}
 use Rattle.r4_content.specs.Edited.{Edits, is_between}
 use Rattle.r4_content.specs.Listed.{list_edited}
 use Rattle.r4_content.specs.Seen.{Rises}
-use Rattle.r4_extent_demands.specs.Putting.{put_into}
 use Rattle.r4_leaf.specs.Units.{LeafUnit}
 use Rattle.r4_leaf_edits.proofs.Lookups.{edited_rises}
 use Rattle.r4_patch.specs.Effect.{Placed, in_leaf}
@@ -26,7 +25,7 @@ use Rattle.r4_path.specs.Levels.{units_of_cells}
 use Rattle.r4_path.specs.TwigPieces.{twig_pieces}
 use Rattle.r4_reach.specs.Needs.{leaf_edits}
 use Rattle.r4_reach.specs.Touched.{Body}
-use Rattle.r4_twig_work.specs.Regrafting.{SetsBelow, StandsBelow}
+use Rattle.r4_twig_work.specs.Regrafting.{SetsBelow}
 use Rattle.r4_work.proofs.LeafEffect.{units_append}
 use Rattle.r4_work.proofs.UnitMembers.{filtered, to_filtered}
 use Rattle.r4_extent_among.specs.Among.{AreLeavesFor, AreLeavesIn, AreNewLeaves, IsAmong, among_turn, is_put_among, numbered, values_among, with_leaves}
@@ -161,7 +160,7 @@ module _ (b : Option Body) (e : Edits) where
     own_units = (put b e twig cells is are n high).units
 
     one_of : (c : CellSeen) → Contains (cs ++ []) c → Contains cs c
-    one_of c m = elim (Contains-append_cases cs [] c m) [ | inl mine ↦ mine | inr nothing ↦ absurd (none c nothing) ]
+    one_of c m = elim (Contains-append_cases cs [] c m) [ inl mine ↦ mine | inr nothing ↦ absurd (none c nothing) ]
 
     not_both : (k : ℕ) → at k ≡ true → at k ≡ false → ⊥
     not_both k on off = let bad : true ≡ false = sym on ∙ off in cc
@@ -170,11 +169,19 @@ module _ (b : Option Body) (e : Edits) where
     sets_below = record {
       held = λ k on.
           let c = comes k on in
-          let r = value_in b e twig is c.span c.named (k, c.value) c.there in
-          (twig, inr refl, inr (c.span, c.named, r, λ m named block inside. elim ((behind_of b e twig is c.span c.named (k, c.value) c.there).0 m named block) [
-            | inl before ↦ omega (arith, before, inside)
-            | inr behind ↦ omega (arith, behind, inside, r)
-          ]));
+          let r = value_in b e twig is c.span c.named (k, c.value) c.there in (
+            twig,
+            inr refl,
+            inr (
+              c.span,
+              c.named,
+              r,
+              λ m named block inside. elim ((behind_of b e twig is c.span c.named (k, c.value) c.there).0 m named block) [
+                | inl before ↦ omega (arith, before, inside)
+                | inr behind ↦ omega (arith, behind, inside, r)
+              ],
+            ),
+          );
       there = λ k u on. (
         λ h. elim h [
           | inl (c, m, has, kind) ↦ leaf_value k u c (one_of c m) has kind

@@ -1,14 +1,13 @@
 -- The turn of a twig among whose extents values come is one of a twig that is packed anew.
-use Rattle.std.proofs.Common.{map, ◌≡◌, ◌⊎◌, inl, inr, ℕ, ◌+◌, ◌*◌, ◌^◌, ◌≤◌, List, [], ◌∷◌, ◌++◌, length, refl, sym, ap, subst, ◌∙◌, arith}
-use Rattle.std.specs.Prelude.{Contains, Option, sum_by}
+use Rattle.std.proofs.Common.{◌≡◌, inl, inr, ℕ, ◌+◌, ◌*◌, ◌^◌, ◌≤◌, List, [], ◌∷◌, ◌++◌, length, refl, sym, ap, subst, arith}
+use Rattle.std.specs.Prelude.{Contains, Option}
 use Rattle.std.proofs.lemmas.List.{length-append}
 use Rattle.std.proofs.lemmas.List.Elements.{Contains-append_cases}
 use Rattle.std.proofs.lemmas.List.Sums.{sum_by-cons}
 use Rattle.r4_base.specs.Key.{rank}
 use Rattle.r4_base.specs.Node.{mkfs_id_of}
-use Rattle.r4_base.specs.Tree.{Name, Span}
+use Rattle.r4_base.specs.Tree.{Span}
 use Rattle.r4_branch.specs.Pieces.{AreTwigPieces, names_of, twig_bytes}
-use Rattle.r4_branch.specs.declared.piece.TwigPiece.{TwigPiece}
 use Rattle.r4_cell.specs.Seen.{CellSeen, node_of}
 use Rattle.r4_content.specs.Edited.{Edits}
 use Rattle.r4_extent_build.specs.r4_twig_turns.Turning.{IsTurnOf}
@@ -17,7 +16,7 @@ use Rattle.r4_extent_edit.proofs.SpanBorders.{sound_pieces}
 use Rattle.r4_leaf.specs.Units.{LeafUnit}
 use Rattle.r4_patch.specs.Joining.{ids_of}
 use Rattle.r4_patch.proofs.Members.{have_names, none}
-use Rattle.r4_path.specs.Steps.{CountUp, IsNameOf}
+use Rattle.r4_path.specs.Steps.{CountUp}
 use Rattle.r4_path.specs.TwigPieces.{ArePiecesOf, twig_pieces}
 use Rattle.r4_path.proofs.Rising.{count_within, hi_is, id_member, lo_is}
 use Rattle.r4_reach.specs.Needs.{leaves_for, put_among}
@@ -86,7 +85,7 @@ module _ (b : Option Body) (e : Edits) (twig : CellSeen) (cells : List CellSeen)
           ],
           λ at. subst (λ j. Contains (names_of j (with_leaves come (twig_pieces twig))) m) (sym (hi_is twig)) ((put.names m).1 (elim at [
             | inl was ↦ inl was.0
-            | inr now ↦ elim now [ | inl new ↦ inr new | inr nothing ↦ absurd (none m nothing) ]
+            | inr now ↦ elim now [ inl new ↦ inr new | inr nothing ↦ absurd (none m nothing) ]
           ])),
         );
         nodes = λ c at. (chain_cell twig come c is.node chain at).0;

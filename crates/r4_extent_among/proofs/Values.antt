@@ -1,5 +1,5 @@
 -- The values that come into the ranges of extents.
-use Rattle.std.proofs.Common.{◌≡◌, inl, inr, ℕ, List, [], ◌∷◌, ◌++◌, sym, subst}
+use Rattle.std.proofs.Common.{inl, inr, List, [], ◌∷◌, subst}
 use Rattle.std.specs.Prelude.{Contains, Option}
 use Rattle.std.specs.List.{flat_map}
 use Rattle.std.proofs.lemmas.List.Elements.{Contains-append_cases, Contains-append_left, Contains-append_right}

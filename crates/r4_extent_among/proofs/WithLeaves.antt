@@ -1,16 +1,15 @@
 -- The pieces of a twig with pointers to new leaves: what they name, their units, and the room that they need.
-use Rattle.std.proofs.Common.{map, ◌≡◌, ◌↔◌, ◌⊎◌, inl, inr, ℕ, ◌+◌, ◌-◌, ◌*◌, ◌^◌, ◌<◌, ◌≤◌, Bool, true, false, List, [], ◌∷◌, ◌++◌, length, refl, sym, ap, subst, ◌∙◌, arith}
-use Rattle.std.specs.Prelude.{Contains, None, Option, Some, nat_lt, ◌==◌, if◌then◌else◌}
+use Rattle.std.proofs.Common.{◌≡◌, ◌↔◌, ◌⊎◌, inl, inr, ℕ, ◌+◌, ◌-◌, ◌*◌, ◌^◌, ◌<◌, ◌≤◌, Bool, true, false, List, [], ◌∷◌, ◌++◌, length, refl, sym, ap, subst, ◌∙◌, arith}
+use Rattle.std.specs.Prelude.{Contains, None, Option, Some, nat_lt, if◌then◌else◌}
 use Rattle.std.proofs.Math.Seq.{drop-append_seam, take-append_seam}
 use Rattle.std.proofs.lemmas.Bool.{le-leb, ne_eqb}
 use Rattle.std.proofs.lemmas.List.{length-append}
 use Rattle.std.proofs.lemmas.Option.{none-some, same_Some}
 use Rattle.std.proofs.lemmas.List.Elements.{Contains-append_cases, Contains-append_left, Contains-append_right}
 use Rattle.r4_base.specs.Cell.{names_block}
-use Rattle.r4_base.specs.Key.{key_of_rank, offset_of, rank, top}
+use Rattle.r4_base.specs.Key.{offset_of, rank, top}
 use Rattle.r4_base.specs.Tree.{IsNode, Name}
-use Rattle.r4_base.specs.Value.{Value}
-use Rattle.r4_branch.specs.Pieces.{AreTwigPieces, Follow, bytes_behind, is_at, last_end, names_of, next_of, open_end, part_bytes, part_end, part_names, part_units, piece_end, twig_bytes, units_of}
+use Rattle.r4_branch.specs.Pieces.{AreTwigPieces, Follow, bytes_behind, is_at, last_end, names_of, next_of, open_end, part_bytes, part_end, piece_end, twig_bytes, units_of}
 use Rattle.r4_branch.specs.declared.piece.TwigPart.{TwigPart}
 use Rattle.r4_branch.specs.declared.piece.TwigPart.TheVariants.{Blocks, Pointer}
 use Rattle.r4_branch.specs.declared.piece.TwigPiece.{TwigPiece}
@@ -28,19 +27,12 @@ use Rattle.r4_path.specs.Steps.{IsNameOf, name_of}
 use Rattle.r4_path.specs.TwigPieces.{ArePiecesOf, twig_pieces}
 use Rattle.r4_path.proofs.Rising.{hi_is}
 use Rattle.r4_extent_among.specs.Among.{pointer_of, with_leaves}
+use Rattle.r4_extent_among.proofs.Alike.{open_by, open_is}
 use Rattle.r4_extent_among.proofs.Chain.{EndsWell, IsChain, IsLink}
 use Rattle.r4_extent_among.proofs.Ranks.{key_there, rank_again}
 use Rattle.r4_extent_among.proofs.SpansRise.{IsEnd}
 
 -- ---- where pieces begin and end
-
--- where a part's unit ends, as its piece says
-abbrev open_by : (offset key : ℕ) → TwigPart → Option ℕ
-open_by o j (Pointer to) = None
-open_by o j (Blocks u) = if nat_lt (o + 4096 * u.width) (2 ^ 64) then Some (j + 4096 * u.width) else None
-
-open_is : (p : TwigPiece) → open_end p ≡ open_by (offset_of p.key) (rank p.key) p.part
-open_is p = refl
 
 ends_low : (o k : ℕ) (t : TwigPart) (z : ℕ) → open_by o k t ≡ Some z → z ≤ part_end k t
 ends_low o k (Pointer to) z h = absurd (none-some z h)
@@ -250,7 +242,7 @@ module _ (twig : CellSeen) (node : IsNode (node_of twig)) where
     pub put_all : (cs : List CellSeen) → IsChain twig cs → ((c : CellSeen) → Contains cs c → 2 ^ 63 ≤ c.id) → ArePut twig cs (with_leaves cs (twig_pieces twig))
     put_all [] chain high = record {
       pieces = are.pieces;
-      names = λ n. (λ at. inl (subst (λ ns. Contains ns n) are.names at), λ at. elim at [ | inl was ↦ subst (λ ns. Contains ns n) (sym are.names) was | inr (d, m, same) ↦ absurd (none d m) ]);
+      names = λ n. (λ at. inl (subst (λ ns. Contains ns n) are.names at), λ at. elim at [ inl was ↦ subst (λ ns. Contains ns n) (sym are.names) was | inr (d, m, same) ↦ absurd (none d m) ]);
       units = are.units;
       bytes = omega arith;
       keeps = λ p at. at;

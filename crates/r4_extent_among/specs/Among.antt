@@ -47,7 +47,8 @@ pub record IsAmong (b : Option Body) (e : Edits) (twig : CellSeen) : Type 0 wher
 
 -- The leaves have these values in their order, and share out this range. They are no more than are
 -- counted, and have this mkfs_id.
-pub record HaveValues (us : List LeafUnit) (from hi mkfs_id : ℕ) (cells : List CellSeen) : Type 0 where
+pub record HaveValues (us : List LeafUnit) (from hi mkfs_id : ℕ) (cells : List CellSeen)
+    : Type 0 where
   pub ranges : Follow 1 from hi cells
   pub units : units_of_cells cells ≡ us
   pub sound : (c : CellSeen) → Contains cells c → IsSound c

@@ -43,8 +43,8 @@ pub record CanPutAmong (b : Option Body) (e : Edits) (t : Store Value) (r : Root
   pub low : 2 ^ 63 ≤ f.next
   pub numbers : f.next + numbers_among b e twig ≤ f.end
 
--- The set is measured, and nothing more comes of leaves and blocks. Such a twig stands, and needs no
--- more than 16000 bytes, and what comes beside it is in the budget. There are numbers.
+-- The set is measured, and nothing more comes of leaves and blocks. Such a twig stands, and needs
+-- no more than 16000 bytes, and what comes beside it is in the budget. There are numbers.
 pub record MayPutAmong (b : Option Body) (e : Edits) (t : Store Value) (r : Root) (twig : CellSeen)
     (f : Fresh) (w : WorkingSet) (u : Budget) : Type 0 where
   pub measured : IsMeasured t r f w u

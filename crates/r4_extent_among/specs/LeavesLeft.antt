@@ -16,9 +16,9 @@ use Rattle.r4_work.specs.declared.working.WorkingSet.{WorkingSet}
 use Rattle.r4_extent_among.specs.Among.{among_turn, numbered}
 
 -- The set after it is measured for the numbers that are left, and still nothing more comes below
--- twigs. In the end there may be no more cells than before, and the leaves that came. Each leaf that
--- stood stands, and so do those that came, each of a number that was taken, no two of one. What was
--- of some cells is still of them.
+-- twigs. In the end there may be no more cells than before, and the leaves that came. Each leaf
+-- that stood stands, and so do those that came, each of a number that was taken, no two of one.
+-- What was of some cells is still of them.
 pub record LeavesLeaves (u : Budget) (t : Store Value) (r : Root) (f : Fresh) (w now : WorkingSet)
     (twig : CellSeen) (cells : List CellSeen) : Type 0 where
   pub left : Budget

@@ -18,8 +18,8 @@ pub record IsLeafRange (r : KeyRange) : Type 0 where
   pub high : rank r.to ≤ top
 
 -- The leaves have these units in their order, and share out this range; their numbers count up from
--- this one on. They are no more than are counted for so many bytes, and have this mkfs_id; behind the
--- first one there are others only where it has a unit.
+-- this one on. They are no more than are counted for so many bytes, and have this mkfs_id; behind
+-- the first one there are others only where it has a unit.
 pub record ArePackedFrom (us : List LeafUnit) (lo hi mkfs_id next : ℕ) (cells : List CellSeen)
     : Type 0 where
   pub ranges : Follow 1 lo hi cells

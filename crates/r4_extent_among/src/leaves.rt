@@ -64,8 +64,8 @@ pub(crate) fn leaves_in(
     }
 }
 
-// The leaves of the values that come into one range. A number that is taken for the first one is given
-// back where there is none.
+// The leaves of the values that come into one range. A number that is taken for the first one is
+// given back where there is none.
 fn leaves_for(
     alloc: Global,
     body: Option<&SizedBody>,

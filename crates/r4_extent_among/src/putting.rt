@@ -35,9 +35,9 @@ const OWN_NUMBERS: u64 = 64;
 /// into the ranges of its extents, but for the bytes of a body that stands in extents afterwards.
 /// Behind each extent into whose range values come there is one leaf, or as many as they need, from
 /// the first value's key up to where the range ends. The leaves take the next numbers, and 64 more
-/// are the twig's own, whether it needs them or not. No other leaf changes. It gives the leaves. The
-/// only error is want of memory; then numbers may have been taken (docs/volume.md, "Bodies in
-/// extents").
+/// are the twig's own, whether it needs them or not. No other leaf changes. It gives the new
+/// leaves. The only error is want of memory; then numbers may have been taken (docs/volume.md,
+/// "Bodies in extents").
 pub fn put_among(
     alloc: Global,
     set: &mut WorkingSet,
@@ -66,14 +66,7 @@ pub fn put_among(
         next: fresh.next,
         end: fresh.next + OWN_NUMBERS,
     };
-    regraft(
-        alloc,
-        set,
-        &twig.lo(),
-        pieces.as_slice(),
-        below,
-        &mut own,
-    )?;
+    regraft(alloc, set, &twig.lo(), pieces.as_slice(), below, &mut own)?;
     fresh.next += OWN_NUMBERS;
     Ok(leaves)
 }

@@ -1,4 +1,4 @@
-use Rattle.std.proofs.Common.{map, ◌≡◌, ◌+◌, ◌∷◌, ◌++◌, List, ap, arith, length, subst, sym, ◌∙◌}
+use Rattle.std.proofs.Common.{map, ◌≡◌, ◌++◌, List, ap, arith, length, subst, sym, ◌∙◌}
 use Rattle.std.specs.Prelude.{Contains}
 use Rattle.std.specs.Arc.{arc_value}
 use Rattle.std.specs.Option.{option_copied}
@@ -28,11 +28,16 @@ leaves_in-requires t c =
     let few = few_for (put_into b e (rank r.from) (rank r.to)) (rank r.to) c.args.mkfs_id (map (λ x. arc_value x) c.in_ok-leaves-in-Some.leaves.items) c.in_ok-leaves-in-Some.ensures.leaves in
     let next = ap (λ (f : Fresh). f.next) c.in_ok-leaves-in-Some.ensures.fresh in
     let end = ap (λ (f : Fresh). f.end) c.in_ok-leaves-in-Some.ensures.fresh in
-    let enough = c.requires.numbers in
-    (omega (arith, n), (c.requires.edits, (
-      (λ x at. c.requires.ranges x (subst (λ (rs : List KeyRange). Contains rs x) (sym is) (later r x rest at))),
-      omega (arith, all, few, next, end, enough)
-    )))
+    let enough = c.requires.numbers in (
+      omega (arith, n),
+      (
+        c.requires.edits,
+        (
+          (λ x at. c.requires.ranges x (subst (λ (rs : List KeyRange). Contains rs x) (sym is) (later r x rest at))),
+          omega (arith, all, few, next, end, enough),
+        ),
+      ),
+    )
 
 pub returns-in_ok-add-in-Some-clause-numbered : goal.returns-in_ok-add-in-Some-clause-numbered
 returns-in_ok-add-in-Some-clause-numbered t c =

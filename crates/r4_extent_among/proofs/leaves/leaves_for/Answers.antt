@@ -1,4 +1,4 @@
-use Rattle.std.proofs.Common.{map, ◌≡◌, ◌+◌, ◌∷◌, List, ap, arith, length, refl, subst, sym, ◌∙◌}
+use Rattle.std.proofs.Common.{map, ◌≡◌, ◌∷◌, List, ap, arith, length, refl, subst, sym, ◌∙◌}
 use Rattle.std.specs.Arc.{arc_value}
 use Rattle.std.specs.Option.{option_copied, option_map}
 use Rattle.std.proofs.lemmas.Result.{IfOk-weaker}

@@ -15,15 +15,19 @@ remake-requires-clause-leaf c =
     let e = edits_of c.args.edits.now in
     let leaf = c.args.leaf.now in
     let gs = c.in_ok-items.items.items in
-    let cuts = cuts_in c.in_ok-gets.gets in
-    (rank leaf.hi, (lies b e c.requires.edits leaf c.requires.level c.requires.range c.requires.units c.node.ensures.whole c.node.ensures.stands
-    c.lo.result c.hi.result c.lo-2.result c.lo.ensures c.hi.ensures c.lo-2.ensures cuts c.cuts.result.now gs c.as_slice.result.now (view_items c.node.result) c.cuts.ensures c.as_slice.ensures.value c.node.ensures.items
-    (c.in_ok-gets.ensures.edits b [] gs c.keys_of.ensures (none_of_leaf (rank c.lo.result) (rank c.hi.result)) c.in_ok-items.ensures)
-    (c.in_ok-gets.ensures.items gs c.in_ok-items.ensures).0,
-    are_within b e c.requires.edits leaf c.requires.level c.requires.range c.requires.units c.node.ensures.whole c.node.ensures.stands
-    c.lo.result c.hi.result c.lo-2.result c.lo.ensures c.hi.ensures c.lo-2.ensures cuts c.cuts.result.now gs c.as_slice.result.now (view_items c.node.result) c.cuts.ensures c.as_slice.ensures.value c.node.ensures.items
-    (c.in_ok-gets.ensures.edits b [] gs c.keys_of.ensures (none_of_leaf (rank c.lo.result) (rank c.hi.result)) c.in_ok-items.ensures)
-    (c.in_ok-gets.ensures.items gs c.in_ok-items.ensures).0))
+    let cuts = cuts_in c.in_ok-gets.gets in (
+      rank leaf.hi,
+      (
+        lies b e c.requires.edits leaf c.requires.level c.requires.range c.requires.units c.node.ensures.whole c.node.ensures.stands
+            c.lo.result c.hi.result c.lo-2.result c.lo.ensures c.hi.ensures c.lo-2.ensures cuts c.cuts.result.now gs c.as_slice.result.now (view_items c.node.result) c.cuts.ensures c.as_slice.ensures.value c.node.ensures.items
+            (c.in_ok-gets.ensures.edits b [] gs c.keys_of.ensures (none_of_leaf (rank c.lo.result) (rank c.hi.result)) c.in_ok-items.ensures)
+            (c.in_ok-gets.ensures.items gs c.in_ok-items.ensures).0,
+        are_within b e c.requires.edits leaf c.requires.level c.requires.range c.requires.units c.node.ensures.whole c.node.ensures.stands
+            c.lo.result c.hi.result c.lo-2.result c.lo.ensures c.hi.ensures c.lo-2.ensures cuts c.cuts.result.now gs c.as_slice.result.now (view_items c.node.result) c.cuts.ensures c.as_slice.ensures.value c.node.ensures.items
+            (c.in_ok-gets.ensures.edits b [] gs c.keys_of.ensures (none_of_leaf (rank c.lo.result) (rank c.hi.result)) c.in_ok-items.ensures)
+            (c.in_ok-gets.ensures.items gs c.in_ok-items.ensures).0,
+      ),
+    )
 
 pub remake-requires-clause-can : goal.remake-requires-clause-can
 remake-requires-clause-can c =

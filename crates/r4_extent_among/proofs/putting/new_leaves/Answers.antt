@@ -1,7 +1,5 @@
-use Rattle.std.proofs.Common.{ap, subst, sym, ◌∙◌}
+use Rattle.std.proofs.Common.{subst}
 use Rattle.std.specs.Prelude.{Contains}
-use Rattle.r4_base.specs.Tree.{Span}
-use Rattle.r4_cell.specs.Seen.{node_of}
 use Rattle.r4_leaf.specs.declared.remaking.KeyRange.{KeyRange}
 use Rattle.std.specs.Prelude.{List}
 use Rattle.r4_extent_among.proofs.OneTurn.{leaf_range}

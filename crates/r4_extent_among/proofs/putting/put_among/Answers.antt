@@ -1,11 +1,9 @@
-use Rattle.std.proofs.Common.{map, ◌≡◌, ◌+◌, ◌<◌, [], List, ap, arith, refl, ◌∙◌}
+use Rattle.std.proofs.Common.{map, ◌≡◌, ◌+◌, [], ap, arith, refl, ◌∙◌}
 use Rattle.std.specs.Arc.{arc_value}
 use Rattle.std.specs.Option.{option_copied}
 use Rattle.r4_base.specs.Key.{rank}
-use Rattle.r4_cell.specs.Seen.{CellSeen}
 use Rattle.r4_cell.specs.declared.change.Fresh.{Fresh}
 use Rattle.r4_content.specs.Held.{edits_of}
-use Rattle.r4_measure.specs.Grafting.{Beside}
 use Rattle.r4_path.specs.TwigPieces.{twig_pieces}
 use Rattle.r4_twig_work.specs.Regrafting.{beside_of}
 use Rattle.r4_extent_among.specs.Among.{with_leaves}
