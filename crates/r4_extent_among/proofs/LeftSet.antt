@@ -2,6 +2,7 @@
 use Rattle.std.proofs.Common.{◌≡◌, ◌≢◌, ◌⊎◌, inl, inr, ℕ, ◌+◌, ◌^◌, ◌<◌, ◌≤◌, List, [], ◌∷◌, ◌++◌, drop, length, refl, ap, sym, subst, ◌∙◌, arith}
 use Rattle.std.specs.Prelude.{Contains, None, Option, Some, true, false}
 use Rattle.std.proofs.lemmas.List.{length-append}
+use Rattle.std.proofs.lemmas.Option.{none-some}
 use Rattle.std.proofs.lemmas.List.Elements.{Contains-append_cases, Contains-append_left, Contains-append_right}
 use Rattle.std.proofs.lemmas.List.Sorted.{Contains-permutation, IsPermutation-sym}
 use Rattle.r4_base.specs.Key.{rank}
@@ -247,10 +248,11 @@ module _ (b : Option Body) (ed : Edits) (t : Store Value) (r : Root) (twig : Cel
 
     now_measured : (left : Budget) × IsMeasured t r (behind e f) v left × IsQuietBelow left
         × (most_from left (root_of v r) (standing v) ≤ most_from u (root_of w r) (standing w) + (e.blocks + e.leaves))
+        × ((k i : ℕ) → (Contains (ids_of made.edit.new) i → ⊥) → left k i ≡ u k i)
     now_measured =
         let (left, m, still, same, few) = kept t r (own_of e f) after w v u own_measured quiet e.key qs y made fits (omega (arith, unplaced)) (omega (arith, numbers, high)) in
         let n = come_long in
-        (left, record { working = now_working; seen = m.seen; budget = m.budget; height = m.height; kept = m.kept }, still, omega (arith, few, n))
+        (left, record { working = now_working; seen = m.seen; budget = m.budget; height = m.height; kept = m.kept }, still, omega (arith, few, n), same)
 
     -- another leaf stands as before
     other_leaf : (d : CellSeen) → Contains (standing w) d → d.level ≡ 1 → Contains (standing v) d
@@ -265,6 +267,20 @@ module _ (b : Option Body) (ed : Edits) (t : Store Value) (r : Root) (twig : Cel
             let lc = level_is c in
             let two = may.among.level in
             omega (arith, l, ld, lc, two, one)
+
+    -- and another twig and a data block do, of which as much may come as before
+    no_new_id : (d : CellSeen) → Contains (standing w) d → d.level ≤ 2 → d.id ≢ c.id → Contains (ids_of made.edit.new) d.id → ⊥
+    no_new_id d at low ne new = elim (new_id d.id new) [
+      | inl old ↦ let (z, m, id) = of_id made.edit.old d.id old in not_old d at low ne z m id
+      | inr own ↦
+          let free = is.working.free.cells d.id own.0 (let n = numbers in omega (arith, own, n)) in
+          let there = standing_is t r f w is.working d at in
+          none-some (node_of d) (sym free ∙ there)
+    ]
+
+    other_cell : (d : CellSeen) → Contains (standing w) d → d.level ≤ 2 → d.id ≢ c.id → Contains (standing v) d
+    other_cell d at low ne =
+        still_in t r f w u is v (behind e f) made.edit made.change made.meets old_stands made.put now_working d.id d refl (absent made.edit.old d.id (not_old d at low ne)) at
 
     -- and those that come stand
     come_stands : (d : CellSeen) → Contains y.below.new d → Contains (standing v) d
@@ -324,12 +340,13 @@ module _ (b : Option Body) (ed : Edits) (t : Store Value) (r : Root) (twig : Cel
 
     pub leaves_leaves : (now : WorkingSet) → now ≡ v → LeavesLeaves u t r f w now twig cells
     leaves_leaves now same = subst (λ z. LeavesLeaves u t r f w z twig cells) (sym same) (
-        let (left, measured, still, few) = now_measured in record {
+        let (left, measured, still, few, kept_budget) = now_measured in record {
           left = left;
           measured = measured;
           quiet = still;
           few = omega (arith, few);
           leaves = other_leaf;
+          others = λ d at low ne. (other_cell d at low ne, kept_budget d.level d.id (no_new_id d at low ne));
           come = λ d at. (come_stands d at, (chain_cell twig y.below.new d (among b ed t r twig f w u may).node (chain b ed twig cells (among b ed t r twig f w u may) are f.next) at).1);
           taken = λ d at. come_id d.id (id_member y.below.new d at);
           names = have_names y.below.new (numbered_distinct f.next cells);

@@ -1,5 +1,5 @@
 -- A standing twig among whose extents values come is ready for its turn, and has it.
-use Rattle.std.proofs.Common.{◌≡◌, inl, inr, ℕ, Bool, List, [], ◌∷◌, ◌+◌, ◌≤◌, refl, sym, ap, subst, ◌∙◌, arith}
+use Rattle.std.proofs.Common.{◌≡◌, ◌≢◌, inl, inr, ℕ, Bool, List, [], ◌∷◌, ◌+◌, ◌≤◌, refl, sym, ap, subst, ◌∙◌, arith}
 use Rattle.std.specs.Prelude.{◌↔◌, Option}
 use Rattle.r4_base.specs.Tree.{Holds, Node, Root, Store}
 use Rattle.r4_base.specs.Value.{Value}
@@ -10,9 +10,9 @@ use Rattle.r4_cell.specs.Seen.{CellSeen, node_of}
 use Rattle.r4_cell.specs.declared.change.Fresh.{Fresh}
 use Rattle.r4_content.specs.Edited.{Edits}
 use Rattle.r4_extent_build.specs.Looping.{AreTurned}
-use Rattle.r4_extent_build.specs.r4_twig_turns.Turning.{AreReady, CanRegraftAll, IsReady, TurnAtMost, come_at_most, numbers_for}
+use Rattle.r4_extent_build.specs.r4_twig_turns.Turning.{AreReady, CanRegraftAll, IsReady, TurnAtMost, behind, come_at_most, numbers_for}
 use Rattle.r4_extent_build.proofs.r4_twig_turns.TurnByTurn.{all_turns, few_stand}
-use Rattle.r4_measure.specs.Budget.{Budget, most_from}
+use Rattle.r4_measure.specs.Budget.{AreUnplaced, Budget, most_from}
 use Rattle.r4_measure.specs.Grafting.{Beside, comes_below}
 use Rattle.r4_patch.specs.Effect.{Placed}
 use Rattle.r4_patch.specs.Part.{IsPart}
@@ -26,7 +26,8 @@ use Rattle.r4_work.specs.Working.{IsWorking, now_of, root_of, standing}
 use Rattle.r4_work.specs.declared.working.WorkingSet.{WorkingSet}
 use Rattle.r4_work.proofs.InPlace.{now_part, standing_is}
 use Rattle.r4_extent_among.specs.Among.{AreNewLeaves, IsAmong, among_need, among_turn, is_put_among, more_twigs}
-use Rattle.r4_extent_among.specs.AmongIn.{CanPutAmong, IsAmongIn, MayPutAmong, turns_among}
+use Rattle.r4_extent_among.specs.AmongIn.{CanPutAmong, IsAmongIn, MayPutAmong, numbers_among, turns_among}
+use Rattle.r4_extent_among.specs.LeavesLeft.{LeavesLeaves}
 use Rattle.r4_extent_among.proofs.SetsValues.{sets_below}
 use Rattle.r4_extent_among.proofs.TurnOf.{few_bytes, few_leaves, turn_of}
 
@@ -111,3 +112,21 @@ module _ (b : Option Body) (e : Edits) (t : Store Value) (r : Root) (twig : Cell
 
   pub can_put : CanPutAmong b e t r twig f w
   can_put = record { among = among; turns = can_turn; low = m.unplaced.0; numbers = m.numbers }
+
+-- ---- another twig
+
+pub may_follow : (b : Option Body) (e : Edits) (t : Store Value) (r : Root) (twig other : CellSeen) (cells : List CellSeen) (f : Fresh) (w now : WorkingSet) (u : Budget) → (done : LeavesLeaves u t r f w now twig cells)
+    → AreUnplaced f → IsAmongIn b e w other → other.id ≢ twig.id → among_need b e other ≤ 16000 → more_twigs (among_need b e other) ≤ u 2 other.id
+    → (behind (among_turn twig cells) f).next + numbers_among b e other ≤ f.end → MayPutAmong b e t r other (behind (among_turn twig cells) f) now done.left
+may_follow b e t r twig other cells f w now u done unplaced among ne small few numbers =
+    let two = among.level in
+    let h = done.others other among.stands (omega (arith, two)) ne in
+    record {
+      measured = done.measured;
+      quiet = done.quiet;
+      among = record { stands = h.0; sound = among.sound; level = among.level; free = among.free };
+      room = small;
+      come = let same = subst (λ l. done.left l other.id ≡ u l other.id) two h.1 in omega (arith, few, same);
+      unplaced = let low = unplaced.0 in (omega (arith, low), unplaced.1);
+      numbers = numbers;
+    }

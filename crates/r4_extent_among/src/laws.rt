@@ -1,7 +1,7 @@
 //! Laws of a twig among whose extents values are put. Each is the contract of a function that does
 //! nothing.
 
-ghost use Rattle.std.specs.Prelude.{◌≡◌, ◌<◌, ℕ, ◌+◌, ◌*◌, ◌^◌, ◌≤◌, [], List, Option, length};
+ghost use Rattle.std.specs.Prelude.{◌≡◌, ◌≢◌, ◌<◌, ℕ, ◌+◌, ◌*◌, ◌^◌, ◌≤◌, [], List, Option, length};
 ghost use Rattle.r4_base.specs.Tree.{Root as TreeRoot, Store};
 ghost use Rattle.r4_base.specs.Value.{Value};
 ghost use Rattle.r4_branch.specs.Pieces.{twig_bytes};
@@ -11,8 +11,8 @@ ghost use Rattle.r4_cell.specs.declared.change.Fresh.{Fresh};
 ghost use Rattle.r4_content.specs.Edited.{Edits};
 ghost use Rattle.r4_extent_build.specs.Looping.{AreTurned};
 ghost use Rattle.r4_extent_build.specs.r4_twig_turns.Turning.{IsReady, IsTurnOf, TurnAtMost};
-ghost use Rattle.r4_extent_build.specs.r4_twig_turns.Turning.{come_at_most};
-ghost use Rattle.r4_measure.specs.Budget.{Budget, most_from};
+ghost use Rattle.r4_extent_build.specs.r4_twig_turns.Turning.{behind, come_at_most};
+ghost use Rattle.r4_measure.specs.Budget.{AreUnplaced, Budget, most_from};
 ghost use Rattle.r4_path.specs.TwigPieces.{twig_pieces};
 ghost use Rattle.r4_reach.specs.Needs.{leaf_edits, pieces_after, put_among, twig_need};
 ghost use Rattle.r4_reach.specs.Touched.{Body};
@@ -22,7 +22,8 @@ ghost use Rattle.r4_work.specs.Working.{IsWorking, root_of, standing};
 ghost use Rattle.r4_work.specs.declared.working.WorkingSet.{WorkingSet};
 ghost use Rattle.r4_extent_among.specs.Among.{AreNewLeaves, IsAmong, among_need, among_turn};
 ghost use Rattle.r4_extent_among.specs.Among.{is_put_among, more_twigs};
-ghost use Rattle.r4_extent_among.specs.AmongIn.{CanPutAmong, IsAmongIn, MayPutAmong, turns_among};
+ghost use Rattle.r4_extent_among.specs.AmongIn.{CanPutAmong, IsAmongIn, MayPutAmong, numbers_among};
+ghost use Rattle.r4_extent_among.specs.AmongIn.{turns_among};
 ghost use Rattle.r4_extent_among.specs.LeavesLeft.{LeavesLeaves};
 
 /// Where values come among the extents of a twig, the twig has its turn among those that are packed
@@ -90,6 +91,18 @@ pub fn among_twigs_leave_leaves()
         → MayPutAmong b e t r twig f w u → AreNewLeaves b e twig cells
         → AreTurned t r (turns_among twig cells) f w now
         → LeavesLeaves u t r f w now twig cells }
+{}
+
+/// So another twig of the set may follow, with the numbers that are left: what is asked of it holds
+/// still, and what comes beside it is in what is left of the budget.
+pub fn other_twigs_may_follow()
+    ensures { (b : Option Body) (e : Edits) (t : Store Value) (r : TreeRoot)
+        (twig other : CellSeen) (cells : List CellSeen) (f : Fresh) (w now : WorkingSet)
+        (u : Budget) → (done : LeavesLeaves u t r f w now twig cells) → AreUnplaced f
+        → IsAmongIn b e w other → other.id ≢ twig.id → among_need b e other ≤ 16000
+        → more_twigs (among_need b e other) ≤ u 2 other.id
+        → (behind (among_turn twig cells) f).next + numbers_among b e other ≤ f.end
+        → MayPutAmong b e t r other (behind (among_turn twig cells) f) now done.left }
 {}
 
 /// Each leaf that comes takes 46 bytes of the twig, and there are no more of them than `put_among`

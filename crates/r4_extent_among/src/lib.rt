@@ -10,6 +10,6 @@ mod putting;
 pub use laws::{
     among_turns_set_values, among_twigs_are_ready, among_twigs_have_their_turn,
     among_twigs_leave_leaves, among_twigs_need_what_is_asked, measured_twigs_may_be_put_among,
-    turned_twigs_set_values, twigs_of_parts_are_among,
+    other_twigs_may_follow, turned_twigs_set_values, twigs_of_parts_are_among,
 };
 pub use putting::put_among;
