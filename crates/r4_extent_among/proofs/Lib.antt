@@ -13,3 +13,4 @@ pub mod LeftSet
 pub mod MadeLeaves
 pub mod PackedLeaves
 pub mod OneTurn
+pub mod Several

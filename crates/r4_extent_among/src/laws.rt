@@ -24,6 +24,8 @@ ghost use Rattle.r4_extent_among.specs.Among.{AreNewLeaves, IsAmong, among_need,
 ghost use Rattle.r4_extent_among.specs.Among.{is_put_among, more_twigs};
 ghost use Rattle.r4_extent_among.specs.AmongIn.{CanPutAmong, IsAmongIn, MayPutAmong, numbers_among};
 ghost use Rattle.r4_extent_among.specs.AmongIn.{turns_among};
+ghost use Rattle.r4_extent_among.specs.AmongEach.{CanPutEach, HasPutEach, LeavesAll, MayPutEach};
+ghost use Rattle.r4_extent_among.specs.AmongEach.{is_put_in_each};
 ghost use Rattle.r4_extent_among.specs.LeavesLeft.{LeavesLeaves};
 
 /// Where values come among the extents of a twig, the twig has its turn among those that are packed
@@ -103,6 +105,29 @@ pub fn other_twigs_may_follow()
         → more_twigs (among_need b e other) ≤ u 2 other.id
         → (behind (among_turn twig cells) f).next + numbers_among b e other ≤ f.end
         → MayPutAmong b e t r other (behind (among_turn twig cells) f) now done.left }
+{}
+
+/// So several twigs of a measured set may be packed anew, one after the other.
+pub fn measured_twigs_may_each_be_put_among()
+    ensures { (b : Option Body) (e : Edits) (t : Store Value) (r : TreeRoot)
+        (twigs : List CellSeen) (f : Fresh) (w : WorkingSet) (u : Budget)
+        → MayPutEach b e t r twigs f w u → CanPutEach b e t r twigs f w }
+{}
+
+/// Together they set just the values that come into the ranges of their extents.
+pub fn each_twig_sets_values()
+    ensures { (b : Option Body) (e : Edits) (t : Store Value) (r : TreeRoot)
+        (twigs cells : List CellSeen) (f after : Fresh) (w now : WorkingSet)
+        → CanPutEach b e t r twigs f w → HasPutEach b e twigs f after w now cells
+        → Changes w now (is_put_in_each b e twigs) (set_by (leaf_edits b e)) }
+{}
+
+/// They leave a measured set, in which each leaf stands that stood, and the leaves that came.
+pub fn each_twig_leaves_leaves()
+    ensures { (b : Option Body) (e : Edits) (t : Store Value) (r : TreeRoot)
+        (twigs cells : List CellSeen) (f after : Fresh) (w now : WorkingSet) (u : Budget)
+        → MayPutEach b e t r twigs f w u → HasPutEach b e twigs f after w now cells
+        → LeavesAll u t r f after w now cells }
 {}
 
 /// Each leaf that comes takes 46 bytes of the twig, and there are no more of them than `put_among`
