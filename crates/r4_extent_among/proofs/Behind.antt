@@ -13,6 +13,7 @@ use Rattle.r4_base.specs.declared.items.Unit.{Unit as ExtentUnit}
 use Rattle.r4_branch.specs.Items.{IsSoundItem, Lie}
 use Rattle.r4_branch.proofs.SoundItems.{extent_item, pointer_item}
 use Rattle.r4_cell.specs.Seen.{CellSeen, node_of}
+use Rattle.r4_graft.proofs.FoundPlaces.{runs_level}
 use Rattle.r4_leaf.specs.Units.{LeafUnit}
 use Rattle.r4_patch.proofs.Members.{cases, here, later, none}
 use Rattle.r4_path.specs.Sharing.{IsSound}
@@ -33,13 +34,6 @@ run_lies k start zero n at = absurd (none n at)
 run_lies k start (suc m) n at = elim (cases (record { id = start; level = 0; lo = k; hi = k + 4096 }) n (run_names (k + 4096) (start + 1) m) at) [
   | inl is ↦ let lo = ap (λ (x : Name). x.lo) is in let hi = ap (λ (x : Name). x.hi) is in (omega (arith, lo), omega (arith, hi))
   | inr more ↦ let h = run_lies (k + 4096) (start + 1) m n more in (omega (arith, h), omega (arith, h))
-]
-
-run_data : (k start count : ℕ) (n : Name) → Contains (run_names k start count) n → IsData n
-run_data k start zero n at = absurd (none n at)
-run_data k start (suc m) n at = elim (cases (record { id = start; level = 0; lo = k; hi = k + 4096 }) n (run_names (k + 4096) (start + 1) m) at) [
-  | inl is ↦ ap (λ (x : Name). x.level) is
-  | inr more ↦ run_data (k + 4096) (start + 1) m n more
 ]
 
 zeros_has : (k count x : ℕ) → k ≤ x → x < k + count → Contains (zeros_from k count) (x, Byte 0)
@@ -82,7 +76,7 @@ unit_full k x u low high = by_hole (is_hole u)
   where
     by_hole : (t : Bool) → IsFreeIn (if t then [] else run_names k u.start u.width) (if t then zeros_from k (4096 * u.width) else []) x → ⊥
     by_hole true free = free.1 (Byte 0) (zeros_has k (4096 * u.width) x low high)
-    by_hole false free = let (n, at, inside) = run_has k u.start u.width x low high in free.0 n at (run_data k u.start u.width n at) inside
+    by_hole false free = let (n, at, inside) = run_has k u.start u.width x low high in free.0 n at (runs_level k u.start u.width n at) inside
 
 units_lie : (k : ℕ) (us : List ExtentUnit) → LieIn (block_names k us) (hole_bytes k us) k (k + 4096 * blocks_in us)
 units_lie k [] = ((λ n at block. absurd (none n at)), λ j v at. absurd (none (j, v) at))

@@ -18,6 +18,7 @@ use Rattle.r4_extent_build.proofs.r4_twig_turns.KeptTurn.{kept, stood}
 use Rattle.r4_extent_build.proofs.r4_twig_turns.TurnByTurn.{can_turn, next_working}
 use Rattle.r4_extent_build.specs.Looping.{AreTurned}
 use Rattle.r4_extent_build.specs.r4_twig_turns.Turning.{IsReady, IsTurnOf, IsTurned, TwigTurn, behind, own_of}
+use Rattle.r4_measure.proofs.Climb.{in_left}
 use Rattle.r4_measure.proofs.Loop.{from_new, of_id}
 use Rattle.r4_measure.proofs.Placed.{still_in}
 use Rattle.r4_measure.specs.Budget.{Budget, most_from}
@@ -31,6 +32,7 @@ use Rattle.r4_patch.specs.Joining.{ids_of}
 use Rattle.r4_patch.specs.Part.{IsPart}
 use Rattle.r4_path.proofs.Begun.{ascends_take}
 use Rattle.r4_path.proofs.Rising.{count_within, hi_is, id_member, in_node, level_is, lo_is}
+use Rattle.r4_path.proofs.Upwards.{long_ids}
 use Rattle.r4_path.specs.Grafts.{extra_twigs}
 use Rattle.r4_path.specs.Steps.{Ascends, Step, fresh_ids, name_of, news, olds}
 use Rattle.r4_reach.specs.Touched.{Body}
@@ -44,7 +46,7 @@ use Rattle.r4_extent_among.specs.LeavesLeft.{LeavesLeaves}
 use Rattle.r4_extent_among.proofs.Chain.{chain_cell}
 use Rattle.r4_extent_among.proofs.Numbered.{numbered_counts, numbered_distinct, numbered_long}
 use Rattle.r4_extent_among.proofs.Ready.{among, ready as ready_twig}
-use Rattle.r4_extent_among.proofs.TurnOf.{chain, few_leaves, long_ids, turn_of}
+use Rattle.r4_extent_among.proofs.TurnOf.{chain, few_leaves, turn_of}
 
 ids_append : (xs ys : List CellSeen) → ids_of (xs ++ ys) ≡ ids_of xs ++ ids_of ys
 ids_append [] ys = refl
@@ -52,9 +54,6 @@ ids_append (x ∷ xs) ys = ap (λ is. x.id ∷ is) (ids_append xs ys)
 
 split_ids : (xs ys : List CellSeen) (i : ℕ) → Contains (ids_of (xs ++ ys)) i → Contains (ids_of xs) i ⊎ Contains (ids_of ys) i
 split_ids xs ys i m = Contains-append_cases (ids_of xs) (ids_of ys) i (subst (λ is. Contains is i) (ids_append xs ys) m)
-
-ids_left : (xs ys : List CellSeen) (i : ℕ) → Contains (ids_of xs) i → Contains (ids_of (xs ++ ys)) i
-ids_left xs ys i m = let (x, at, id) = of_id xs i m in subst (Contains (ids_of (xs ++ ys))) id (id_member (xs ++ ys) x (Contains-append_left xs ys x at))
 
 -- cells above one of a level
 above : (s : Store Value) (root : Root) → IsPart s root → (b : CellSeen) (cells : List CellSeen) → 1 ≤ b.level → Ascends s (Some b) cells → (y : CellSeen) → Contains cells y → b.level < y.level
@@ -307,7 +306,7 @@ module _ (b : Option Body) (ed : Edits) (t : Store Value) (r : Root) (twig : Cel
 
       was_new : (z : CellSeen) → Contains w.change.new z → IsNumbered z.id
       was_new z m = elim (was.new z m) [
-        | inl old ↦ inl (subst (λ cs. Contains (ids_of cs) z.id) (sym made.put.followed.old) (ids_left w.change.old (without (ids_of w.change.new) made.edit.old) z.id old))
+        | inl old ↦ inl (subst (λ cs. Contains (ids_of cs) z.id) (sym made.put.followed.old) (in_left w.change.old (without (ids_of w.change.new) made.edit.old) z.id old))
         | inr taken ↦ inr (taken.0, omega (arith, taken))
       ]
 

@@ -24,11 +24,11 @@ use Rattle.r4_path.specs.Steps.{CountUp, Follow, Step}
 use Rattle.r4_path.proofs.CellNodes.{units_are}
 use Rattle.r4_path.proofs.LeafCells.{counts_next}
 use Rattle.r4_path.proofs.Rising.{follow_within, in_cell}
+use Rattle.r4_path.proofs.Upwards.{long_ids}
 use Rattle.r4_reach.specs.Needs.{leaves_for, over}
 use Rattle.r4_extent_among.specs.Among.{AreLeavesFor}
 use Rattle.r4_extent_among.specs.Making.{ArePackedFrom, IsLeafRange}
 use Rattle.r4_extent_among.proofs.MadeLeaves.{no_bytes}
-use Rattle.r4_extent_among.proofs.TurnOf.{long_ids}
 
 -- ---- how many
 

@@ -1,11 +1,11 @@
 -- What the turn of a twig among whose extents values come does to units.
-use Rattle.std.proofs.Common.{◌≡◌, ◌⊎◌, inl, inr, ℕ, ◌^◌, ◌≤◌, Bool, true, false, List, [], ◌∷◌, ◌++◌, refl, sym, ap, subst, ◌∙◌, arith}
-use Rattle.std.specs.Prelude.{Contains, None, Option, Some, ◌==◌, ◌||◌}
+use Rattle.std.proofs.Common.{◌≡◌, inl, inr, ℕ, ◌^◌, ◌≤◌, Bool, true, false, List, [], ◌∷◌, ◌++◌, refl, sym, ap, subst, ◌∙◌, arith}
+use Rattle.std.specs.Prelude.{Contains, None, Option, Some, ◌==◌}
 use Rattle.std.specs.FinMap.{find}
 use Rattle.std.specs.List.{flat_map, list_any}
 use Rattle.std.specs.Ordering.{nat_cmp}
 use Rattle.std.proofs.lemmas.Bool.{eq-eqb, eqb-true}
-use Rattle.std.proofs.lemmas.List.Elements.{Contains-append_cases, Contains-append_left, Contains-append_right}
+use Rattle.std.proofs.lemmas.List.Elements.{Contains-append_cases, Contains-append_left}
 use Rattle.std.proofs.lemmas.Option.{none-some, same_Some}
 use Rattle.r4_base.specs.Node.{mkfs_id_of}
 use Rattle.r4_base.specs.Tree.{Span}
@@ -17,16 +17,17 @@ use Rattle.r4_cell.specs.Seen.{CellSeen, node_of}
 use Rattle.r4_content.specs.Edited.{Edits, is_between}
 use Rattle.r4_content.specs.Listed.{list_edited}
 use Rattle.r4_content.specs.Seen.{Rises}
+use Rattle.r4_extent_demands.proofs.PutsInto.{any_there, there_any}
 use Rattle.r4_leaf.specs.Units.{LeafUnit}
 use Rattle.r4_leaf_edits.proofs.Lookups.{edited_rises}
 use Rattle.r4_patch.specs.Effect.{Placed, in_leaf}
-use Rattle.r4_patch.proofs.Members.{cases, here, later, none}
+use Rattle.r4_patch.proofs.Members.{none}
 use Rattle.r4_path.specs.Levels.{units_of_cells}
 use Rattle.r4_path.specs.TwigPieces.{twig_pieces}
 use Rattle.r4_reach.specs.Needs.{leaf_edits}
 use Rattle.r4_reach.specs.Touched.{Body}
 use Rattle.r4_twig_work.specs.Regrafting.{SetsBelow}
-use Rattle.r4_work.proofs.LeafEffect.{units_append}
+use Rattle.r4_work.proofs.LeafEffect.{from_units, to_units, units_append}
 use Rattle.r4_work.proofs.UnitMembers.{filtered, to_filtered}
 use Rattle.r4_extent_among.specs.Among.{AreLeavesFor, AreLeavesIn, AreNewLeaves, IsAmong, among_turn, is_put_among, numbered, values_among, with_leaves}
 use Rattle.r4_extent_among.proofs.Chain.{behind_of, chain_cell, value_in}
@@ -36,52 +37,20 @@ use Rattle.r4_extent_among.proofs.TurnOf.{chain, come, put}
 
 -- ---- members
 
-or_cases : (a b : Bool) → (a || b) ≡ true → (a ≡ true) ⊎ (b ≡ true)
-or_cases true b h = inl refl
-or_cases false b h = inr h
-
-or_left : (a b : Bool) → a ≡ true → (a || b) ≡ true
-or_left true b h = refl
-or_left false b h = absurd cc
-
-or_right : (a b : Bool) → b ≡ true → (a || b) ≡ true
-or_right true b h = refl
-or_right false b h = h
-
 -- a unit of some has the key
 has_key : (us : List LeafUnit) (k : ℕ) → list_any (λ (u : LeafUnit). u.0 == k) us ≡ true → (v : Value) × Contains us (k, v)
-has_key [] k h = absurd cc
-has_key (u ∷ us) k h = elim (or_cases (u.0 == k) (list_any (λ (w : LeafUnit). w.0 == k) us) h) [
-  | inl is ↦ (u.1, subst (λ (j : ℕ). Contains (u ∷ us) (j, u.1)) (eqb-true u.0 k is) (here u us))
-  | inr more ↦ let (v, at) = has_key us k more in (v, later u (k, v) us at)
-]
+has_key us k h =
+    let (u, at, is) = there_any (λ (w : LeafUnit). w.0 == k) us h in
+    (u.1, subst (λ (j : ℕ). Contains us (j, u.1)) (eqb-true u.0 k is) at)
 
 key_has : (us : List LeafUnit) (k : ℕ) (v : Value) → Contains us (k, v) → list_any (λ (u : LeafUnit). u.0 == k) us ≡ true
-key_has [] k v at = absurd (none (k, v) at)
-key_has (u ∷ us) k v at = elim (cases u (k, v) us at) [
-  | inl is ↦ or_left (u.0 == k) (list_any (λ (w : LeafUnit). w.0 == k) us) (eq-eqb u.0 k (ap (λ (w : LeafUnit). w.0) (sym is)))
-  | inr more ↦ or_right (u.0 == k) (list_any (λ (w : LeafUnit). w.0 == k) us) (key_has us k v more)
-]
+key_has us k v at = any_there (λ (w : LeafUnit). w.0 == k) us (k, v) at (eq-eqb k k refl)
 
 in_leaf_some : (o : Option Value) (u : Placed Value) → in_leaf o ≡ Some u → (o ≡ Some u.0) × (u.1 ≡ true)
 in_leaf_some None u h = absurd (none-some u h)
 in_leaf_some (Some v) u h =
     let same = same_Some (v, true) u h in
     (ap (λ (x : Placed Value). Some x.0) same, ap (λ (x : Placed Value). x.1) (sym same))
-
-from_cells : (cs : List CellSeen) (w : LeafUnit) → Contains (units_of_cells cs) w → (c : CellSeen) × Contains cs c × Contains (node_of c).units w
-from_cells [] w at = absurd (none w at)
-from_cells (c ∷ cs) w at = elim (Contains-append_cases (node_of c).units (units_of_cells cs) w at) [
-  | inl mine ↦ (c, here c cs, mine)
-  | inr more ↦ let (d, m, has) = from_cells cs w more in (d, later c d cs m, has)
-]
-
-to_cells : (cs : List CellSeen) (c : CellSeen) (w : LeafUnit) → Contains cs c → Contains (node_of c).units w → Contains (units_of_cells cs) w
-to_cells [] c w m at = absurd (none c m)
-to_cells (d ∷ ds) c w m at = elim (cases d c ds m) [
-  | inl is ↦ Contains-append_left (node_of d).units (units_of_cells ds) w (subst (λ (x : CellSeen). Contains (node_of x).units w) is at)
-  | inr more ↦ Contains-append_right (node_of d).units (units_of_cells ds) w (to_cells ds c w more at)
-]
 
 -- ---- the values that come
 
@@ -136,7 +105,7 @@ module _ (b : Option Body) (e : Edits) where
     -- what stands in the leaves is what the edits put
     leaf_value : (k : ℕ) (u : Placed Value) (c : CellSeen) → Contains cs c → Contains (node_of c).units (k, u.0) → (c.level == 1) ≡ u.1 → set_by (leaf_edits b e) k ≡ Some u
     leaf_value k u c m has kind =
-        let all = subst (λ us. Contains us (k, u.0)) units_are (to_cells cs c (k, u.0) m has) in
+        let all = subst (λ us. Contains us (k, u.0)) units_are (to_units cs c (k, u.0) m has) in
         let (s, in_it, mine) = from_spans b e (node_of twig).spans (k, u.0) all in
         let among = (filtered (λ (w : LeafUnit). is_between s.lo s.hi w.0) edited (k, u.0) mine).0 in
         let found = rising_found edited k u.0 rises among in
@@ -150,11 +119,11 @@ module _ (b : Option Body) (e : Edits) where
         let test = (filtered (λ (w : LeafUnit). is_between come.span.lo come.span.hi w.0) edited (k, come.value) come.there).1 in
         let mine = to_filtered (λ (w : LeafUnit). is_between come.span.lo come.span.hi w.0) edited (k, u.0) test among in
         let all = to_spans b e (node_of twig).spans come.span (k, u.0) come.named mine in
-        let (c, m, has) = from_cells cs (k, u.0) (subst (λ us. Contains us (k, u.0)) (sym units_are) all) in
+        let (c, m, has) = from_units cs (k, u.0) (subst (λ us. Contains us (k, u.0)) (sym units_are) all) in
         (c, m, has, eq-eqb c.level 1 (chain_cell twig cs c is.node (chain b e twig cells is are n) m).1 ∙ sym kind)
 
     is_at : (k : ℕ) (v : Value) (c : CellSeen) → Contains cs c → Contains (node_of c).units (k, v) → at k ≡ true
-    is_at k v c m has = key_has (values_among b e twig) k v (subst (λ us. Contains us (k, v)) units_are (to_cells cs c (k, v) m has))
+    is_at k v c m has = key_has (values_among b e twig) k v (subst (λ us. Contains us (k, v)) units_are (to_units cs c (k, v) m has))
 
     own_units : units_of (with_leaves cs (twig_pieces twig)) ≡ (node_of twig).units
     own_units = (put b e twig cells is are n high).units

@@ -19,6 +19,7 @@ use Rattle.r4_patch.proofs.Members.{have_names, none}
 use Rattle.r4_path.specs.Steps.{CountUp}
 use Rattle.r4_path.specs.TwigPieces.{ArePiecesOf, twig_pieces}
 use Rattle.r4_path.proofs.Rising.{count_within, hi_is, id_member, lo_is}
+use Rattle.r4_path.proofs.Upwards.{long_ids}
 use Rattle.r4_reach.specs.Needs.{leaves_for, put_among}
 use Rattle.r4_reach.specs.Touched.{Body}
 use Rattle.r4_extent_among.specs.Among.{AreLeavesFor, AreLeavesIn, AreNewLeaves, IsAmong, among_need, among_turn, numbered, with_leaves}
@@ -26,10 +27,6 @@ use Rattle.r4_extent_among.proofs.Alike.{same_bytes}
 use Rattle.r4_extent_among.proofs.Chain.{IsChain, chain_cell, chain_of}
 use Rattle.r4_extent_among.proofs.Numbered.{all_numbered, numbered_counts, numbered_distinct, numbered_long}
 use Rattle.r4_extent_among.proofs.WithLeaves.{ArePut, put_all}
-
-pub long_ids : (cs : List CellSeen) → length (ids_of cs) ≡ length cs
-long_ids [] = refl
-long_ids (c ∷ cs) = let h = long_ids cs in omega (arith, h)
 
 -- ---- how many leaves come
 

@@ -60,9 +60,9 @@ abbrev pub is_put_in_each : Option Body → Edits → List CellSeen → (key : �
 is_put_in_each b e twigs k = list_any (λ (x : CellSeen). is_put_among b e x k) twigs
 
 -- The set after them is measured for the numbers that are left, and still nothing more comes below
--- twigs. In the end there may be no more cells than before, and the leaves that came. Each leaf that
--- stood stands, and so do those that came, each of a number that was taken, no two of one. What was
--- of some cells is still of them.
+-- twigs. In the end there may be no more cells than before, and the leaves that came. Each leaf
+-- that stood stands, and so do those that came, each of a number that was taken, no two of one.
+-- What was of some cells is still of them.
 pub record LeavesAll (u : Budget) (t : Store Value) (r : Root) (f after : Fresh)
     (w now : WorkingSet) (cells : List CellSeen) : Type 0 where
   pub left : Budget

@@ -19,9 +19,9 @@ use r4_work::WorkingSet;
 use std::alloc::Global;
 use std::sync::Arc;
 
-/// Packs standing twigs anew, one after the other, each as `put_among` does. It gives the new leaves
-/// of all. The only error is want of memory; then some may have been packed, and numbers may have
-/// been taken (docs/volume.md, "Bodies in extents").
+/// Packs standing twigs anew, one after the other, each as `put_among` does. It gives the new
+/// leaves of all. The only error is want of memory; then some may have been packed, and numbers may
+/// have been taken (docs/volume.md, "Bodies in extents").
 pub fn put_among_each(
     alloc: Global,
     set: &mut WorkingSet,
