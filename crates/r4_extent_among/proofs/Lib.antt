@@ -1,0 +1,16 @@
+pub mod Ranks
+pub mod SpansRise
+pub mod Behind
+pub mod Numbered
+pub mod Values
+pub mod Chain
+pub mod Alike
+pub mod WithLeaves
+pub mod TurnOf
+pub mod SetsValues
+pub mod Ready
+pub mod LeftSet
+pub mod MadeLeaves
+pub mod PackedLeaves
+pub mod OneTurn
+pub mod Several

@@ -1,0 +1,5 @@
+pub mod Among
+pub mod AmongIn
+pub mod LeavesLeft
+pub mod Making
+pub mod AmongEach
