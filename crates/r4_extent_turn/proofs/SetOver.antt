@@ -95,7 +95,7 @@ module _ (b : Body) (first : Key) (g : IsTurningBody b first) (x : Turn) (c : Is
       let (no_put, no_byte) = by_tests (is_met (put_keys e.puts) k (k + 4096)) (turns_out b) (nat_lt k (first_byte b + b.was)) off g.turns in
       let past : first_byte b + b.was ≤ k = is_past k no_byte in
       ap (λ (o : Option ℕ). unwrap_or o 0) (over_is (tails_of b x) e j ∙ (ap (option_or (byte_set e j)) (no_tail j (omega (arith, past, low))) ∙ or_none (byte_set e j)))
-      ∙ calm (record b { in_extents = true }) e refl k (ap (λ (t : Bool). t || false) no_put) j low high
+      ∙ calm b e k off j low high
     where
       by_tests : (p t l : Bool) → (p || (t && l)) ≡ false → t ≡ true → (p ≡ false) × (l ≡ false)
       by_tests true t l h on = absurd cc
