@@ -104,7 +104,7 @@ module _ (e : Edits) (k : ℕ) (unset : byte_set e k ≡ None)
 
   pub same_set : set_by (without_bytes e) k ≡ set_by e k
   same_set = ap in_leaf (found (without_bytes e) ∙ (
-    values_left k e.puts no_put (cond (is_in (without_bytes e).cuts k) None (at_key (content_of []) k))
-    ∙ ((λ i. laws.last_put e.puts k (cond (sym no_zero i) (Some (Byte 0)) (cond (cuts_left k e.cuts apart i) None (at_key (content_of []) k))))
-    ∙ sym (found e))
-  ))
+      values_left k e.puts no_put (cond (is_in (without_bytes e).cuts k) None (at_key (content_of []) k))
+      ∙ ((λ i. laws.last_put e.puts k (cond (sym no_zero i) (Some (Byte 0)) (cond (cuts_left k e.cuts apart i) None (at_key (content_of []) k))))
+      ∙ sym (found e))
+      ))

@@ -18,6 +18,7 @@ use Rattle.r4_build.specs.r4_branch.declared.piece.TwigPart.TheVariants.{Blocks,
 use Rattle.r4_build.specs.r4_branch.declared.piece.TwigPiece.{TwigPiece}
 use Rattle.r4_build.proofs.r4_patch.Members.{cases, here, later, none}
 use Rattle.r4_build.proofs.r4_path.Rising.{level_is}
+use Rattle.r4_build.proofs.r4_path.r4_graft.Parts.{sound_at}
 use Rattle.r4_applied.specs.r4_patch.Effect.{Placed, UnitIn}
 use Rattle.r4_applied.specs.r4_path.TwigPieces.{twig_pieces}
 use Rattle.r4_applied.specs.r4_reach.Needs.{is_hole_part}
@@ -36,11 +37,7 @@ use Rattle.r4_extent_moves.proofs.BodyKeys.{at_offset, minor_at, offset_at}
 -- ---- members
 
 sound_of : (from to : ℕ) (ps : List TwigPiece) (p : TwigPiece) → Follow from to ps → Contains ps p → IsSound p
-sound_of from to [] p f at = absurd (none p at)
-sound_of from to (q ∷ ps) p f at = elim (cases q p ps at) [
-  | inl same ↦ subst IsSound (sym same) f.1
-  | inr more ↦ sound_of (piece_end q) to ps p f.2 more
-]
+sound_of from to ps p f (i, low, is) = subst IsSound is (sound_at from to ps i p f low)
 
 -- one of the cells has a key that all of them have
 pub one_of : (at : CellSeen → ℕ → Bool) (cs : List CellSeen) (k : ℕ) → keys_of_each at cs k ≡ true

@@ -1,6 +1,7 @@
--- A body in extents that grows: what is asked so that the change of its task's cells moves it (docs/volume.md, "Bodies
--- in extents"). A key is its rank.
-use Rattle.std.specs.Prelude.{◌≡◌, ◌⊎◌, ℕ, ◌+◌, ◌^◌, ◌<◌, ◌≤◌, Bool, true, false, List, Contains, Some}
+-- A body in extents that grows: what is asked so that the change of its task's cells moves it
+-- (docs/volume.md, "Bodies in extents"). A key is its rank.
+use Rattle.std.specs.Prelude.{◌≡◌, ◌⊎◌, ℕ, ◌+◌, ◌^◌, ◌<◌, ◌≤◌, Bool, true, false, List, Contains}
+use Rattle.std.specs.Prelude.{Some}
 use Rattle.r4_base.specs.Tree.{Store}
 use Rattle.r4_base.specs.Value.{Byte, Content, Value, at_key}
 use Rattle.r4_base.specs.Volume.{HasExtents}
@@ -18,8 +19,8 @@ use Rattle.r4_extent_renew.specs.Overwriting.{blocks_among, in_blocks}
 use Rattle.r4_extent_change.specs.Beside.{turning_among, without_bytes}
 use Rattle.r4_extent_moves.specs.Moving.{in_body}
 
--- The byte gets to its key: the key lies in a data block among the cells, or in a hole or among the blocks that come of
--- a twig whose pieces change; or it is a 0 where a 0 stands.
+-- The byte gets to its key: the key lies in a data block among the cells, or in a hole or among the
+-- blocks that come of a twig whose pieces change; or it is a 0 where a 0 stands.
 abbrev pub GetsThere : Body → Edits → (raw : Content) → List CellSeen → (key byte : ℕ) → Type 0
 GetsThere b e raw cells k x =
     (in_blocks (blocks_among cells) k ≡ true)
@@ -27,12 +28,13 @@ GetsThere b e raw cells k x =
     × ((in_hole_of b (twig_pieces c) k ≡ true) ⊎ (in_coming b c k ≡ true)))
     ⊎ ((x ≡ 0) × (at_key raw k ≡ Some (Byte 0))))
 
--- The body does not lose blocks, and stood in extents as files do. The cells are the tree's; nothing stands where blocks
--- come into the twigs whose pieces change, and these are their keys that get bytes. Each byte is set at a key of the
--- body's blocks afterwards, and gets there; each block that comes has its place in such a twig. A cut that begins in a
--- body ends within this one, and what else changes lies outside of it.
-pub record GrowsBody (b : Body) (e : Edits) (u : Store Value) (raw : Content) (cells : List CellSeen)
-    (keys : CellSeen → ℕ → Bool) : Type 0 where
+-- The body does not lose blocks, and stood in extents as files do. The cells are the tree's; nothing
+-- stands where blocks come into the twigs whose pieces change, and these are their keys that get
+-- bytes. Each byte is set at a key of the body's blocks afterwards, and gets there; each block that
+-- comes has its place in such a twig. A cut that begins in a body ends within this one, and
+-- attributes and entries change outside of it.
+pub record GrowsBody (b : Body) (e : Edits) (u : Store Value) (raw : Content)
+    (cells : List CellSeen) (keys : CellSeen → ℕ → Bool) : Type 0 where
   pub first : Key
   pub growing : IsGrowing b first
   pub stood : HasExtents u b.file b.was

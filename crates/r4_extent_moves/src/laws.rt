@@ -36,8 +36,9 @@ pub fn bodies_stand_in_extents()
         → is_directory a ≡ false → HasTails (place p u) o a.size ⊎ HasExtents (place p u) o a.size }
 {}
 
-/// So does the change of a body in extents that loses no blocks, as `change_of_growing` of r4_extent_change makes it: it
-/// leaves at each of its keys what is to stand there, and else moves just the keys that the edits change.
+/// The change that `change_of_growing` of r4_extent_change makes of a body in extents that loses no
+/// blocks is such a change: it leaves at each key of the body what is to stand there, and else moves
+/// just the keys that the edits change.
 pub fn grown_bodies_move()
     ensures { (b : Body) (e : Edits) (u : Store Value) (raw n : Content) (cells : List CellSeen)
         (keys : CellSeen → ℕ → Bool) → ChangesBody b e u raw n → GrowsBody b e u raw cells keys
