@@ -49,7 +49,7 @@ none_more p ps k false at h none =
     (none (sym (ap (λ (s : Bool). s || is_in (put_keys ps) k) (one_key k p.0 ∙ at)) ∙ h))
     ∙ ap (λ (s : Bool). cond s (byte_of p.1) None) (flipped k p.0 false at)
 
-none_put : (ps : Pairs) (k : ℕ) → is_in (put_keys ps) k ≡ false → last_put ps k ≡ None
+pub none_put : (ps : Pairs) (k : ℕ) → is_in (put_keys ps) k ≡ false → last_put ps k ≡ None
 none_put [] k h = refl
 none_put (p ∷ ps) k h = none_more p ps k (k == p.0) refl h (none_put ps k)
 

@@ -30,6 +30,7 @@ use Rattle.r4_extent_moves.specs.Grown.{GetsThere, GrowsBody}
 use Rattle.r4_extent_moves.specs.Moving.{ChangesBody, MovesBody, body_then, byte_there, in_body}
 use Rattle.r4_extent_moves.proofs.BesideBytes.{same_keys, same_set}
 use Rattle.r4_extent_moves.proofs.GrownBody.{all_of, before_end_of, coming_at, coming_in_body, hole_at, in_extent_of, in_on}
+use Rattle.r4_extent_moves.proofs.SuitedBytes.{lies_in}
 use Rattle.r4_extent_moves.proofs.GrownBody.{nothing_at, one_at, one_of}
 
 -- a key in one of some intervals
@@ -49,7 +50,7 @@ module _ (b : Body) (e : Edits) (u : Store Value) (raw n : Content) (cells : Lis
     where
       by : (o : Option ℕ) → byte_set e k ≡ o → byte_set e k ≡ None
       by None is = is
-      by (Some x) is = absurd (not_both_ways (g.bytes k x is).0 off)
+      by (Some x) is = absurd (not_both_ways (lies_in b e u raw n h g.end g.suits k x is).0 off)
 
   cut_changes : (r : ℕ × ℕ) → Contains e.cuts r → r.0 < r.1 → is_in (changed e) r.0 ≡ true
   cut_changes r m some =
@@ -143,7 +144,7 @@ module _ (b : Body) (e : Edits) (u : Store Value) (raw n : Content) (cells : Lis
     where
       by : (o : Option ℕ) → byte_set e k ≡ o → IsMoved k
       by None is = absurd (not_both_ways at (set_off k is))
-      by (Some x) is = record { low = (g.bytes k x is).1; zero = λ no. absurd (none-some x (sym no ∙ is)) }
+      by (Some x) is = record { low = (lies_in b e u raw n h g.end g.suits k x is).1; zero = λ no. absurd (none-some x (sym no ∙ is)) }
 
   is_moved : (k : ℕ) → in_body b k ≡ true → grown_keys b e cells keys k ≡ true → IsMoved k
   is_moved k on at = elim (or_cases (keys_of_each keys (turning_among b e cells) k) (is_set_in e (blocks_among cells) k) (sym (keys_are k on) ∙ at)) [

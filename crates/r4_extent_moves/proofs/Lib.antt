@@ -2,6 +2,7 @@ mod BodyKeys
 mod BytesSet
 mod BesideBytes
 mod GrownBody
+mod SuitedBytes
 mod GrownMoves
 pub mod Moved
 pub mod Standing

@@ -36,7 +36,7 @@ module _ (b : Body) (e : Edits) (u : Store Value) (raw n : Content) (h : Changes
     offset = offset_at b h.object k on
 
     -- what is visible there is a byte below the size
-    byte_then : (v : Value) → at_key (edited e n) k ≡ Some v → (y : ℕ) × (v ≡ Byte y) × (k < blocks_end b b.now)
+    pub byte_then : (v : Value) → at_key (edited e n) k ≡ Some v → (y : ℕ) × (v ≡ Byte y) × (k < blocks_end b b.now)
     byte_then v at = by v at (h.after.keys k v at)
       where
         by : (v : Value) → at_key (edited e n) k ≡ Some v → KeyFits (edited e n) (key_of_rank k) v

@@ -1,6 +1,6 @@
 -- A body in extents that grows: what is asked so that the change of its task's cells moves it
 -- (docs/volume.md, "Bodies in extents"). A key is its rank.
-use Rattle.std.specs.Prelude.{◌≡◌, ◌⊎◌, ℕ, ◌+◌, ◌^◌, ◌<◌, ◌≤◌, Bool, true, false, List, Contains}
+use Rattle.std.specs.Prelude.{◌≡◌, ◌⊎◌, ℕ, ◌+◌, ◌^◌, ◌≤◌, Bool, true, false, List, Contains}
 use Rattle.std.specs.Prelude.{Some}
 use Rattle.r4_base.specs.Tree.{Store}
 use Rattle.r4_base.specs.Value.{Byte, Content, Value, at_key}
@@ -11,6 +11,7 @@ use Rattle.r4_applied.specs.r4_path.TwigPieces.{twig_pieces}
 use Rattle.r4_applied.specs.r4_reach.Reach.{is_body}
 use Rattle.r4_applied.specs.r4_reach.Touched.{Body, first_byte}
 use Rattle.r4_applied.specs.r4_sets_told.r4_cell.Seen.{CellSeen, node_of}
+use Rattle.r4_build.specs.r4_leaf_edits.Suiting.{SuitLeaves}
 use Rattle.r4_extent_blocks.specs.Setting.{byte_set}
 use Rattle.r4_extent_build.specs.Growing.{IsGrowing, end_after, end_before}
 use Rattle.r4_extent_build.specs.Looping.{AreKeysOfEach}
@@ -30,9 +31,9 @@ GetsThere b e raw cells k x =
 
 -- The body does not lose blocks, and stood in extents as files do. The cells are the tree's; nothing
 -- stands where blocks come into the twigs whose pieces change, and these are their keys that get
--- bytes. Each byte is set at a key of the body's blocks afterwards, and gets there; each block that
--- comes has its place in such a twig. A cut that begins in a body ends within this one, and
--- attributes and entries change outside of it.
+-- bytes. Leaves can take the edits. Each byte that is set gets to its key, and each block that comes
+-- has its place in such a twig. A cut that begins in a body ends within this one, and attributes and
+-- entries change outside of it.
 pub record GrowsBody (b : Body) (e : Edits) (u : Store Value) (raw : Content)
     (cells : List CellSeen) (keys : CellSeen → ℕ → Bool) : Type 0 where
   pub first : Key
@@ -40,7 +41,8 @@ pub record GrowsBody (b : Body) (e : Edits) (u : Store Value) (raw : Content)
   pub stood : HasExtents u b.file b.was
   pub cells_in : (c : CellSeen) → Contains cells c → u c.id ≡ Some (node_of c)
   pub twigs : AreKeysOfEach b e (turning_among b e cells) keys
-  pub bytes : (k x : ℕ) → byte_set e k ≡ Some x → (in_body b k ≡ true) × (k < end_after b)
+  pub end : ℕ
+  pub suits : SuitLeaves end e
   pub covered : (k x : ℕ) → byte_set e k ≡ Some x → GetsThere b e raw cells k x
   pub comes : (k : ℕ) → is_between (end_before b) (end_after b) k ≡ true
       → (c : CellSeen) × Contains (turning_among b e cells) c × (in_coming b c k ≡ true)
