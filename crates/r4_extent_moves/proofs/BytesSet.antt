@@ -1,11 +1,11 @@
 -- The byte that edits set, and what stands there then.
-use Rattle.std.proofs.Common.{◌≡◌, ◌⊎◌, inl, inr, ℕ, ◌+◌, Bool, true, false, cond, [], ◌∷◌, Option, Some, None, refl, sym, ap, ◌∙◌, arith}
+use Rattle.std.proofs.Common.{◌≡◌, ◌⊎◌, inl, inr, ℕ, Bool, true, false, cond, [], ◌∷◌, Option, Some, None, refl, sym, ap, ◌∙◌}
 use Rattle.std.specs.Prelude.{◌==◌, ◌||◌}
 use Rattle.std.specs.Option.{option_or}
 use Rattle.std.proofs.lemmas.Bool.{eq-eqb, eqb-true, ne_eqb}
 use Rattle.std.proofs.lemmas.Option.{none-some, same_Some}
 use Rattle.r4_base.specs.Value.{Byte, Content, Value, at_key}
-use Rattle.r4_content.specs.Edited.{Edits, Pairs, changed, edited, is_between, is_in, put_keys}
+use Rattle.r4_content.specs.Edited.{Edits, Pairs, changed, edited, is_in, put_keys}
 use Rattle.r4_content.proofs.EditLaws.{at_edited, in_changed, one_key}
 use Rattle.r4_content.proofs.EditLaws as laws
 use Rattle.r4_content.proofs.EditParts.{off_is}
@@ -13,7 +13,7 @@ use Rattle.r4_extent_blocks.specs.Setting.{byte_of, byte_set, last_put}
 
 -- ---- what is put
 
-flipped : (a b : ℕ) (t : Bool) → (a == b) ≡ t → (b == a) ≡ t
+pub flipped : (a b : ℕ) (t : Bool) → (a == b) ≡ t → (b == a) ≡ t
 flipped a b true h = eq-eqb b a (sym (eqb-true a b h))
 flipped a b false h = ne_eqb b a (λ same. let f : true ≡ false = sym (eq-eqb a b (sym same)) ∙ h in cc)
 
@@ -49,7 +49,7 @@ none_more p ps k false at h none =
     (none (sym (ap (λ (s : Bool). s || is_in (put_keys ps) k) (one_key k p.0 ∙ at)) ∙ h))
     ∙ ap (λ (s : Bool). cond s (byte_of p.1) None) (flipped k p.0 false at)
 
-none_put : (ps : Pairs) (k : ℕ) → is_in (put_keys ps) k ≡ false → last_put ps k ≡ None
+pub none_put : (ps : Pairs) (k : ℕ) → is_in (put_keys ps) k ≡ false → last_put ps k ≡ None
 none_put [] k h = refl
 none_put (p ∷ ps) k h = none_more p ps k (k == p.0) refl h (none_put ps k)
 

@@ -1,8 +1,6 @@
 -- A change that leaves at each key of a body what is to stand there moves units as the edits say.
-use Rattle.std.proofs.Common.{◌≡◌, ◌↔◌, ◌⊎◌, inl, inr, ℕ, ◌+◌, ◌*◌, ◌/◌, ◌<◌, ◌≤◌, ◌==◌, ◌^◌, Bool, true, false, cond, Option, Some, None, refl, sym, ap, subst, ◌∙◌, arith, option_map}
+use Rattle.std.proofs.Common.{◌≡◌, inl, inr, ℕ, ◌+◌, ◌*◌, ◌/◌, ◌<◌, ◌≤◌, ◌==◌, ◌^◌, Bool, true, false, cond, Option, Some, None, refl, sym, ap, subst, ◌∙◌, arith, option_map}
 use Rattle.std.specs.Prelude.{nat_lt, unwrap_or}
-use Rattle.std.proofs.Math.Decide.{dec_le}
-use Rattle.std.proofs.Math.Nat.{lt_of_not-le}
 use Rattle.std.proofs.lemmas.Bool.{cases_Bool, lt-ltb, ltb-true}
 use Rattle.std.proofs.lemmas.Option.{none-some, same_Some}
 use Rattle.r4_base.specs.Key.{key_of_rank, minor_of, offset_of}
@@ -12,18 +10,16 @@ use Rattle.r4_base.specs.Volume.{HasExtents, HasStat, InExtent, InTail, KeyFits,
 use Rattle.r4_base.specs.declared.items.Attr.{Attr}
 use Rattle.r4_base.specs.declared.items.Target.{Target}
 use Rattle.r4_content.specs.Edited.{Edits, Intervals, changed, edited, is_in}
-use Rattle.r4_content.specs.Meaning.{greatest_size}
 use Rattle.r4_content.specs.Units.{IsOfFile, IsOrPads, MovesUnits}
 use Rattle.r4_content.proofs.EditLaws.{edited_off, edited_on}
 use Rattle.r4_content.proofs.Keeping.{byte_key}
 use Rattle.r4_extent_blocks.specs.Setting.{byte_set}
 use Rattle.r4_build.specs.Building.{set_by}
 use Rattle.r4_build.proofs.Contents.{set_is}
-use Rattle.r4_applied.specs.r4_patch.Effect.{IsSetAt, Placed, UnitIn}
-use Rattle.r4_applied.specs.r4_reach.Reach.{is_body}
+use Rattle.r4_applied.specs.r4_patch.Effect.{IsSetAt, Placed}
 use Rattle.r4_applied.specs.r4_reach.Touched.{Body, blocks_end, first_byte}
 use Rattle.r4_applied.proofs.SeenThere.{past_size, stat_seen, stands}
-use Rattle.r4_applied.proofs.r4_sets.Bodies.{in_kind, one_attr, same_option}
+use Rattle.r4_applied.proofs.r4_sets.Bodies.{in_kind, same_option}
 use Rattle.r4_applied.proofs.r4_sets.Carried.{byte_owner, not_both_ways}
 use Rattle.r4_extent_moves.specs.Moving.{AreKeys, ChangesBody, MovesBody, body_then, byte_there, in_body}
 use Rattle.r4_extent_moves.proofs.BodyKeys.{before_end, body_at, minor_at, of_body, offset_at, owner_at, some_bytes}
@@ -40,7 +36,7 @@ module _ (b : Body) (e : Edits) (u : Store Value) (raw n : Content) (h : Changes
     offset = offset_at b h.object k on
 
     -- what is visible there is a byte below the size
-    byte_then : (v : Value) → at_key (edited e n) k ≡ Some v → (y : ℕ) × (v ≡ Byte y) × (k < blocks_end b b.now)
+    pub byte_then : (v : Value) → at_key (edited e n) k ≡ Some v → (y : ℕ) × (v ≡ Byte y) × (k < blocks_end b b.now)
     byte_then v at = by v at (h.after.keys k v at)
       where
         by : (v : Value) → at_key (edited e n) k ≡ Some v → KeyFits (edited e n) (key_of_rank k) v

@@ -1,20 +1,18 @@
 -- How files stand once a body in extents was changed.
-use Rattle.std.proofs.Common.{◌≡◌, ◌↔◌, ◌⊎◌, inl, inr, ℕ, ◌*◌, ◌<◌, ◌≤◌, ◌==◌, ◌^◌, Bool, true, false, cond, Option, Some, None, refl, sym, ap, subst, ◌∙◌, arith, option_map}
+use Rattle.std.proofs.Common.{◌≡◌, ◌↔◌, ◌⊎◌, inl, inr, ℕ, ◌*◌, ◌<◌, ◌==◌, ◌^◌, Bool, true, false, cond, Option, Some, None, refl, sym, ap, subst, ◌∙◌, arith, option_map}
 use Rattle.std.specs.Prelude.{nat_lt, unwrap_or}
 use Rattle.std.proofs.Math.Decide.{dec_le}
 use Rattle.std.proofs.Math.Nat.{lt_of_not-le}
-use Rattle.std.proofs.lemmas.Bool.{cases_Bool, eq-eqb, eqb-true, lt-ltb, ltb-true}
+use Rattle.std.proofs.lemmas.Bool.{cases_Bool, eq-eqb, lt-ltb, ltb-true}
 use Rattle.std.proofs.lemmas.Option.{none-some, same_Some}
-use Rattle.r4_base.specs.Key.{key_of_rank}
 use Rattle.r4_base.specs.Tree.{IsTree, Root, Store}
 use Rattle.r4_base.specs.Value.{Byte, Content, Stat, Value, at_key}
 use Rattle.r4_base.specs.Volume.{HasExtents, HasStat, HasTails, InExtent, InTail, IsObject, blocks_for, byte_rank, is_directory}
-use Rattle.r4_base.specs.Volume.{object_of, stat_rank}
+use Rattle.r4_base.specs.Volume.{stat_rank}
 use Rattle.r4_base.specs.declared.items.Attr.{Attr}
 use Rattle.r4_base.specs.declared.items.Target.{Target}
 use Rattle.r4_content.specs.Edited.{Edits, changed, edited, is_in}
 use Rattle.r4_content.specs.Lawful.{HasByte}
-use Rattle.r4_content.specs.Meaning.{greatest_size}
 use Rattle.r4_content.proofs.EditLaws.{edited_off, edited_on}
 use Rattle.r4_extent_blocks.specs.Setting.{byte_set}
 use Rattle.r4_build.specs.Building.{set_by}
@@ -24,12 +22,11 @@ use Rattle.r4_applied.specs.r4_patch.Part.{MeetsPart}
 use Rattle.r4_applied.specs.r4_reach.Touched.{Body, blocks_end}
 use Rattle.r4_applied.specs.r4_sets.Units.{SameUnit}
 use Rattle.r4_applied.specs.r4_sets_told.r4_cell.Patch.{Patch, place}
-use Rattle.r4_applied.proofs.BodiesThen.{byte_at}
 use Rattle.r4_applied.proofs.BodyTold.{byte_body}
 use Rattle.r4_applied.proofs.SeenThere.{stat_seen, stat_stands}
 use Rattle.r4_applied.proofs.r4_sets.Bodies.{IsFile, body_of_units, file_or_not, no_body, same_body}
 use Rattle.r4_applied.proofs.r4_sets.Carried.{byte_owner, not_both_ways}
-use Rattle.r4_applied.proofs.r4_sets.Cells.{back_iff, then_iff}
+use Rattle.r4_applied.proofs.r4_sets.Cells.{then_iff}
 use Rattle.r4_applied.proofs.r4_sets_told.r4_patch.Effects.{changed_after, others_after}
 use Rattle.r4_applied.proofs.r4_sets_told.r4_patch.PartCells.{tree_is_part}
 use Rattle.r4_extent_moves.specs.Moving.{ChangesBody, MovesBody, body_then, byte_there, in_body}

@@ -2,8 +2,7 @@
 -- extents"). A key is its rank.
 use Rattle.std.specs.Prelude.{◌≡◌, ◌↔◌, ℕ, ◌+◌, ◌^◌, ◌<◌, Bool, true, false, nat_lt, if◌then◌else◌, unwrap_or}
 use Rattle.std.specs.Prelude.{Option, None, Some}
-use Rattle.std.specs.Option.{option_map}
-use Rattle.r4_base.specs.Tree.{Root, Store}
+use Rattle.r4_base.specs.Tree.{Store}
 use Rattle.r4_base.specs.Value.{Byte, Content, Value, at_key}
 use Rattle.r4_base.specs.Volume.{HasFiles, HasStat, HasUnits, IsObject, IsVisible, is_directory}
 use Rattle.r4_base.specs.declared.items.Attr.{Attr}

@@ -1,6 +1,6 @@
 //! Laws of bodies in extents that are changed. Each is the contract of a function that does nothing.
 
-ghost use Rattle.std.specs.Prelude.{◌≡◌, ◌⊎◌, ℕ, Bool, false, Option};
+ghost use Rattle.std.specs.Prelude.{◌≡◌, ◌⊎◌, ℕ, Bool, false, List, Option};
 ghost use Rattle.r4_base.specs.Tree.{IsTree, Root, Store};
 ghost use Rattle.r4_base.specs.Value.{Content, Value};
 ghost use Rattle.r4_base.specs.Volume.{HasExtents, HasStat, HasTails, is_directory};
@@ -12,6 +12,9 @@ ghost use Rattle.r4_applied.specs.r4_patch.Effect.{HasEffect, IsSetAt, Placed};
 ghost use Rattle.r4_applied.specs.r4_patch.Part.{MeetsPart};
 ghost use Rattle.r4_applied.specs.r4_reach.Touched.{Body};
 ghost use Rattle.r4_applied.specs.r4_sets_told.r4_cell.Patch.{Patch, place};
+ghost use Rattle.r4_applied.specs.r4_sets_told.r4_cell.Seen.{CellSeen};
+ghost use Rattle.r4_extent_change.specs.Changing.{grown_keys, grown_values};
+ghost use Rattle.r4_extent_moves.specs.Grown.{GrowsBody};
 ghost use Rattle.r4_extent_moves.specs.Moving.{AreKeys, ChangesBody, MovesBody};
 
 /// A change that leaves at each key of a body what is to stand there, and else moves just the keys that edits change,
@@ -31,4 +34,13 @@ pub fn bodies_stand_in_extents()
         (a : Attr) → ChangesBody b e u raw n → MovesBody b e u raw at to → IsTree u root
         → MeetsPart p u root → HasEffect p at to → IsSetAt at to raw after → HasStat after o a
         → is_directory a ≡ false → HasTails (place p u) o a.size ⊎ HasExtents (place p u) o a.size }
+{}
+
+/// The change that `change_of_growing` of r4_extent_change makes of a body in extents that loses no
+/// blocks is such a change: it leaves at each key of the body what is to stand there, and else moves
+/// just the keys that the edits change.
+pub fn grown_bodies_move()
+    ensures { (b : Body) (e : Edits) (u : Store Value) (raw n : Content) (cells : List CellSeen)
+        (keys : CellSeen → ℕ → Bool) → ChangesBody b e u raw n → GrowsBody b e u raw cells keys
+        → MovesBody b e u raw (grown_keys b e cells keys) (grown_values e) }
 {}

@@ -4,4 +4,4 @@
 
 mod laws;
 
-pub use laws::{bodies_stand_in_extents, moved_bodies_are_edited};
+pub use laws::{bodies_stand_in_extents, grown_bodies_move, moved_bodies_are_edited};
