@@ -300,8 +300,17 @@ def missing_sections():
                 yield f'{where} names "{section}" of {page}, which does not have it'
 
 
+def conflict_marks():
+    """Pages with marks of a merge that was not finished."""
+    pages = ["README.md", "crates.txt", *(f"docs/{name}" for name in sorted(os.listdir(f"{ROOT}/docs")))]
+    for page in pages:
+        if page.endswith((".md", ".txt")) and re.search(r"^(<{7}|={7}|>{7})( |$)", read(page), re.M):
+            yield f"{page} has marks of a merge that was not finished"
+
+
 def check():
     stale = [*crates_without_rows(), *too_many_paths(), *readme_faults(), *stale_rules(), *missing_sections()]
+    stale += conflict_marks()
     if not os.path.exists(f"{ROOT}/docs/trust.md") or read("docs/trust.md") != trust_page():
         stale.append("docs/trust.md is stale: run tools/pages.py")
     for line in stale:
