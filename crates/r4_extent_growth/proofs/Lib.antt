@@ -1,7 +1,7 @@
-mod Tests
+pub mod Tests
 mod AllTurn
 mod InLeaves
 mod Gaps
-mod Turns
-mod Found
+pub mod Turns
+pub mod Found
 mod Complete

@@ -1,0 +1,7 @@
+//! Whether a command's whole change may be made of the cells of its task, where its body stands in
+//! extents and loses blocks (docs/volume.md, "Bodies in extents").
+#![tactic(auto)]
+
+mod coming;
+
+pub use coming::twigs_losing;
