@@ -3,5 +3,8 @@
 #![tactic(auto)]
 
 mod coming;
+mod going;
+mod shrinking;
 
 pub use coming::twigs_losing;
+pub use shrinking::may_lose;
