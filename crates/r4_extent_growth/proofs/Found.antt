@@ -36,7 +36,7 @@ use Rattle.r4_extent_growth.specs.Turning.{may_turn, may_turn_all}
 use Rattle.r4_extent_growth.proofs.Turns.{each, has_turn, off, second}
 
 -- one of which a test holds
-some_of : {A : Type 0} (p : A → Bool) (xs : List A) → list_any p xs ≡ true → (x : A) × Contains xs x × (p x ≡ true)
+pub some_of : {A : Type 0} (p : A → Bool) (xs : List A) → list_any p xs ≡ true → (x : A) × Contains xs x × (p x ≡ true)
 some_of p xs h = let (k, x, lt, is, on) = Any-from_list_any p xs h in (x, (k, lt, is), on)
 
 -- ---- where edits lie

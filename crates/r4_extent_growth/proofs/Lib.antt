@@ -1,5 +1,5 @@
 pub mod Tests
-mod AllTurn
+pub mod AllTurn
 mod InLeaves
 mod Gaps
 pub mod Turns

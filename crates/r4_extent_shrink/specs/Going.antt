@@ -51,7 +51,7 @@ block_suits from to cells k id = not (is_between from to k) || has_number cells 
 -- the leaf has none of the keys that go, and is among the cells, if it ends where they begin
 abbrev pub leaf_suits : (from to : ℕ) → List CellSeen → (lo hi id : ℕ) → Bool
 leaf_suits from to cells lo hi id =
-    nat_le to lo || (nat_lt hi from || ((hi == from) && has_number cells id))
+    (nat_le to lo || nat_le hi from) && (not (hi == from) || has_number cells id)
 
 abbrev pub name_suits : (from to : ℕ) → List CellSeen → Name → Bool
 name_suits from to cells n =

@@ -141,8 +141,8 @@ fn leaf_suits(gone: &KeyRange, cells: &[Arc<Cell>], id: NodeId, lo: &Key, hi: &K
         ≡ leaf_suits (rank gone.now.from) (rank gone.now.to) (map (λ c. arc_value c) cells.now)
         (rank lo.now) (rank hi.now) id.0 }
 {
-    !lo.is_below(gone.to)
-        || (hi.is_below(gone.from) || (hi.is_same(gone.from) && has_number(cells, id.0)))
+    (!lo.is_below(gone.to) || !gone.from.is_below(*hi))
+        && (!hi.is_same(gone.from) || has_number(cells, id.0))
 }
 
 // Whether the blocks of a unit stay, or are among the cells.

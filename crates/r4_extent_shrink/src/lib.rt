@@ -4,7 +4,9 @@
 
 mod coming;
 mod going;
+mod laws;
 mod shrinking;
 
 pub use coming::twigs_losing;
+pub use laws::found_losses_can_be_made;
 pub use shrinking::may_lose;
