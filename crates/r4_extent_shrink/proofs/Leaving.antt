@@ -1,6 +1,6 @@
 -- What may leave a twig, as its pieces and names tell it.
-use Rattle.std.proofs.Common.{◌≡◌, ◌⊎◌, inl, inr, ℕ, ◌+◌, ◌-◌, ◌*◌, ◌/◌, ◌%◌, ◌^◌, ◌<◌, ◌≤◌, Bool, true, false, List, refl, sym, ap, ◌∙◌, arith}
-use Rattle.std.specs.Prelude.{◌&&◌, ◌||◌, ◌==◌, Contains, None, Some, if◌then◌else◌, nat_le, nat_lt, not}
+use Rattle.std.proofs.Common.{◌≡◌, ◌⊎◌, inl, inr, ℕ, ◌+◌, ◌-◌, ◌*◌, ◌/◌, ◌%◌, ◌^◌, ◌<◌, ◌≤◌, Bool, true, false, List, sym, ap, ◌∙◌, arith}
+use Rattle.std.specs.Prelude.{◌&&◌, ◌||◌, ◌==◌, None, Some, if◌then◌else◌, nat_le, nat_lt, not}
 use Rattle.std.specs.List.{list_all, list_any}
 use Rattle.std.proofs.lemmas.Bool.{and_parts, eq-eqb, eqb-true, leb-true, ltb-true}
 use Rattle.r4_base.specs.Key.{offset_of, rank}
@@ -10,7 +10,7 @@ use Rattle.r4_extent_change.specs.Among.{is_losing}
 use Rattle.r4_extent_growth.proofs.Found.{some_of}
 use Rattle.r4_extent_growth.proofs.Turns.{each, off, part_ends, second}
 use Rattle.r4_extent_growth.specs.Turning.{ends_by}
-use Rattle.r4_extent_loss.specs.Losing.{gone_from, gone_to, in_gone}
+use Rattle.r4_extent_loss.specs.Losing.{gone_from, gone_to}
 use Rattle.r4_measure.proofs.r4_work.Remade.{or_true}
 use Rattle.r4_measure.specs.r4_branch.Pieces.{open_end, part_end, piece_end}
 use Rattle.r4_measure.specs.r4_branch.declared.piece.TwigPart.{TwigPart}

@@ -1,15 +1,14 @@
 -- A body that loses blocks, none of which gets bytes.
-use Rattle.std.proofs.Common.{◌≡◌, ℕ, ◌+◌, ◌*◌, ◌^◌, ◌<◌, ◌≤◌, Bool, true, false, List, [], ◌∷◌, refl, ap, ◌∙◌, arith}
+use Rattle.std.proofs.Common.{◌≡◌, ℕ, ◌+◌, ◌*◌, ◌^◌, ◌<◌, ◌≤◌, Bool, true, false, [], ◌∷◌, refl, ap, ◌∙◌, arith}
 use Rattle.std.specs.Prelude.{◌&&◌, ◌||◌, if◌then◌else◌, nat_lt, not}
 use Rattle.std.proofs.lemmas.Grind.{common_steps}
 use Rattle.r4_base.specs.declared.key.Key.{Key}
-use Rattle.r4_content.specs.Bodies.{larger, smaller}
 use Rattle.r4_content.specs.Edited.{Edits, Intervals, put_keys}
 use Rattle.r4_extent_build.specs.Growing.{end_after, end_before}
 use Rattle.r4_extent_demands.specs.Pieces.{gets_among}
 use Rattle.r4_extent_demands.specs.Sizes.{IsFirstKey, IsSizedBody}
 use Rattle.r4_extent_loss.specs.Losing.{IsLosing}
-use Rattle.r4_measure.specs.r4_reach.Needs.{gets_bytes, is_met, meets}
+use Rattle.r4_measure.specs.r4_reach.Needs.{is_met, meets}
 use Rattle.r4_measure.specs.r4_reach.Touched.{Body, first_byte, going, is_spread, turns_out}
 
 pub left_off : (x y : Bool) → (x || y) ≡ false → x ≡ false

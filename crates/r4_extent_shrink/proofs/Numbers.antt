@@ -1,6 +1,6 @@
 -- How many numbers suffice for the twigs that lose blocks, and for the edits of all cells.
-use Rattle.std.proofs.Common.{◌≡◌, ℕ, suc, ◌+◌, ◌-◌, ◌*◌, ◌/◌, ◌≤◌, Bool, true, false, List, [], ◌∷◌, length, map, refl, ap, arith}
-use Rattle.std.specs.Prelude.{◌&&◌, ◌==◌, None, Option, Some, if◌then◌else◌, nat_le}
+use Rattle.std.proofs.Common.{◌≡◌, ℕ, ◌+◌, ◌-◌, ◌*◌, ◌/◌, ◌≤◌, Bool, true, false, List, [], ◌∷◌, length, map, arith}
+use Rattle.std.specs.Prelude.{◌==◌, None, Option, Some, if◌then◌else◌, nat_le}
 use Rattle.std.proofs.lemmas.Bool.{and_parts, leb-true}
 use Rattle.std.proofs.lemmas.List.Sums.{sum_by-cons}
 use Rattle.r4_base.specs.Key.{rank}
@@ -8,7 +8,7 @@ use Rattle.r4_base.specs.declared.key.Key.{Key}
 use Rattle.r4_content.specs.Edited.{Edits}
 use Rattle.r4_measure.specs.r4_edit.CutBlocks.{next_key}
 use Rattle.r4_extent_build.specs.r4_twig_turns.Turning.{TwigTurn, numbers_for}
-use Rattle.r4_extent_change.specs.Among.{is_losing, loss_among, losing_twigs, losses_among}
+use Rattle.r4_extent_change.specs.Among.{is_losing, loss_among, losing_twigs}
 use Rattle.r4_extent_change.specs.Losing.{numbers_lost}
 use Rattle.r4_extent_loss.specs.Losing.{Loss, leaf_at, losing_turn, numbers_taken, taken_block, taken_from}
 use Rattle.r4_extent_loss.specs.LosingEach.{losing_turns}

@@ -1,7 +1,8 @@
 //! Whether blocks of a body may go of a twig, as its pieces and the cells of a task tell it
 //! (docs/volume.md, "Bodies in extents").
 
-ghost use Rattle.std.specs.Prelude.{◌≡◌, ◌+◌, ◌*◌, ◌%◌, ◌^◌, ◌≤◌, ℕ, [], if◌then◌else◌, map, true};
+ghost use Rattle.std.specs.Prelude.{◌≡◌, ◌+◌, ◌*◌, ◌%◌, ◌^◌, ◌≤◌, ◌||◌, ℕ, [], map, nat_le};
+ghost use Rattle.std.specs.Prelude.{if◌then◌else◌, true};
 ghost use Rattle.std.specs.Arc.{arc_value};
 ghost use Rattle.std.specs.List.{list_all, list_any};
 ghost use Rattle.std.specs.Option.{option_map};
@@ -10,6 +11,7 @@ ghost use Rattle.r4_base.specs.Key.{offset_of, rank};
 ghost use Rattle.r4_extent_demands.specs.Sizes.{IsSizedBody};
 ghost use Rattle.r4_measure.specs.r4_branch.Pieces.{Follow, IsSound, names_of, next_of, part_names};
 ghost use Rattle.r4_measure.specs.r4_path.TwigPieces.{ArePiecesOf};
+ghost use Rattle.r4_extent_growth.specs.Turning.{ends_by};
 ghost use Rattle.r4_extent_shrink.specs.Going.{block_suits, has_key, has_number, is_behind};
 ghost use Rattle.r4_extent_shrink.specs.Going.{is_border, leaf_suits, may_leave, name_suits};
 ghost use Rattle.r4_extent_shrink.specs.Going.{pieces_suit};
@@ -131,8 +133,19 @@ fn part_suits(gone: &KeyRange, cells: &[Arc<Cell>], piece: &TwigPiece, next: Key
 {
     match piece.part {
         TwigPart::Pointer(to) => leaf_suits(gone, cells, to, &piece.key, &next),
-        TwigPart::Blocks(unit) => unit.start == 0 || run_suits(gone, cells, piece.key, unit),
+        TwigPart::Blocks(unit) => {
+            // the blocks of other ranges are many, and not looked at
+            unit.start == 0 || (is_apart(gone, piece) || run_suits(gone, cells, piece.key, unit))
+        }
     }
+}
+
+// Whether a piece begins behind the keys that go, or ends before them.
+fn is_apart(gone: &KeyRange, piece: &TwigPiece) -> bool
+    ensures { result ≡ (nat_le (rank gone.now.to) (rank piece.now.key)
+        || ends_by (rank gone.now.from) piece.now) }
+{
+    !piece.key.is_below(gone.to) || ends_by(piece, &gone.from)
 }
 
 // Whether a leaf has none of the keys that go, and is among the cells, if it ends where they begin.

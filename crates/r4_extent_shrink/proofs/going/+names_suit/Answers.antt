@@ -1,9 +1,8 @@
-use Rattle.std.proofs.Common.{◌≡◌, ◌∷◌, [], Bool, List, map, sym, ap, ◌∙◌}
-use Rattle.std.specs.Prelude.{◌&&◌}
+use Rattle.std.proofs.Common.{List, map, sym, ap, ◌∙◌}
 use Rattle.std.specs.Arc.{arc_value}
 use Rattle.std.specs.List.{list_all}
 use Rattle.r4_base.specs.Key.{rank}
-use Rattle.r4_measure.specs.r4_branch.Pieces.{names_of, next_of, part_names}
+use Rattle.r4_measure.specs.r4_branch.Pieces.{names_of, part_names}
 use Rattle.r4_measure.specs.r4_branch.declared.piece.TwigPiece.{TwigPiece}
 use Rattle.r4_measure.specs.r4_cell.Seen.{CellSeen}
 use Rattle.r4_extent_growth.proofs.Tests.{and_off, and_on}
