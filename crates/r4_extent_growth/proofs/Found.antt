@@ -36,7 +36,7 @@ use Rattle.r4_extent_growth.specs.Turning.{may_turn, may_turn_all}
 use Rattle.r4_extent_growth.proofs.Turns.{each, has_turn, off, second}
 
 -- one of which a test holds
-some_of : {A : Type 0} (p : A → Bool) (xs : List A) → list_any p xs ≡ true → (x : A) × Contains xs x × (p x ≡ true)
+pub some_of : {A : Type 0} (p : A → Bool) (xs : List A) → list_any p xs ≡ true → (x : A) × Contains xs x × (p x ≡ true)
 some_of p xs h = let (k, x, lt, is, on) = Any-from_list_any p xs h in (x, (k, lt, is), on)
 
 -- ---- where edits lie
@@ -105,7 +105,7 @@ module _ (cells : List CellSeen) (k : ℕ) where
         | inr others ↦ more others
       ]
 
-  lies_found : (e : Edits) → lie_in_leaves cells e ≡ true → is_in (changed (without_bytes e)) k ≡ true → LiesInLeaf cells k
+  pub lies_found : (e : Edits) → lie_in_leaves cells e ≡ true → is_in (changed (without_bytes e)) k ≡ true → LiesInLeaf cells k
   lies_found e h at =
       let (cuts, puts) = and_parts (list_all (cut_lies cells) e.cuts) (list_all (put_lies cells) e.puts) h in
       elim (or_true _ _ (sym (in_append (put_keys (without_bytes e).puts) ((without_bytes e).zeros ++ (without_bytes e).cuts) k) ∙ at)) [
@@ -122,7 +122,7 @@ whole_block c h level =
     let (near, range) = and_parts (nat_lt (offset_of c.lo + 4096) (2 ^ 64)) (rank c.hi == rank c.lo + 4096) more in
     (eqb-true (rank c.hi) (rank c.lo + 4096) range, eqb-true (length c.block) 4096 bytes)
 
-leaf_room : (e : Edits) (c : CellSeen) → has_room e c ≡ true → c.level ≡ 1 → is_met (changed e) (rank c.lo) (rank c.hi) ≡ true → leaf_bytes (units_after None e (node_of c)) ≤ 4068
+pub leaf_room : (e : Edits) (c : CellSeen) → has_room e c ≡ true → c.level ≡ 1 → is_met (changed e) (rank c.lo) (rank c.hi) ≡ true → leaf_bytes (units_after None e (node_of c)) ≤ 4068
 leaf_room e c h level met =
     let leaf = second (not (c.level == 1)) _ (off (c.level == 1) (eq-eqb c.level 1 level)) h in
     let told = second (not (is_met (changed e) (rank c.lo) (rank c.hi))) _ (off (is_met (changed e) (rank c.lo) (rank c.hi)) met) leaf in
@@ -151,7 +151,7 @@ grown b first growing e f cells whole lie room order turns pieces =
 
 -- ---- with what is known of the part and of the budget
 
-told_in : (b : Body) (e : Edits) (xs : List CellSeen) (c : CellSeen) → Contains xs c → Contains (map (coming_beside b e) xs) (coming_beside b e c)
+pub told_in : (b : Body) (e : Edits) (xs : List CellSeen) (c : CellSeen) → Contains xs c → Contains (map (coming_beside b e) xs) (coming_beside b e c)
 told_in b e [] c (k, lt, is) = absurd (omega (arith, lt))
 told_in b e (x ∷ xs) c at = elim (cases x c xs at) [
   | inl is ↦ (0, omega arith, ap (coming_beside b e) (sym is))

@@ -1,7 +1,7 @@
-mod Tests
-mod AllTurn
+pub mod Tests
+pub mod AllTurn
 mod InLeaves
 mod Gaps
-mod Turns
-mod Found
+pub mod Turns
+pub mod Found
 mod Complete

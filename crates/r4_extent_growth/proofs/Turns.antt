@@ -57,7 +57,7 @@ comes_from b first g = by_kind b.in_extents refl
 
 -- ---- a piece
 
-part_ends : (key : Key) (t : TwigPart) (k : ℕ) → ends_by k (record { key = key; part = t }) ≡ true → part_end (rank key) t ≤ k
+pub part_ends : (key : Key) (t : TwigPart) (k : ℕ) → ends_by k (record { key = key; part = t }) ≡ true → part_end (rank key) t ≤ k
 part_ends key (Pointer to) k h = let lt = ltb-true (rank key) k h in omega (arith, lt)
 part_ends key (Blocks u) k h = by_test (nat_lt (offset_of key + 4096 * u.width) (2 ^ 64)) h
   where

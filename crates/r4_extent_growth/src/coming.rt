@@ -74,8 +74,9 @@ pub(crate) fn is_turning(body: &SizedBody, edits: &Edits, cell: &Cell) -> bool
     cell.level() == 2 && changes_pieces(Some(body), edits, cell)
 }
 
-// How many twigs may come beside one of these pieces.
-fn extra_twigs(pieces: &[TwigPiece]) -> u64
+/// How many twigs may come beside one of these pieces: one for each 1024 bytes, or fewer, that are
+/// too many for it (docs/volume.md, "Bodies in extents").
+pub fn extra_twigs(pieces: &[TwigPiece]) -> u64
     ensures { result ≡ extra_twigs pieces.now }
 {
     twig_bytes(pieces)

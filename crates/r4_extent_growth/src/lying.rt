@@ -62,8 +62,9 @@ pub(crate) fn has_block(key: &Key) -> bool
 
 // ---- where edits lie
 
-// Whether what the edits cut and put lies in leaves among the cells, where it is no body's.
-pub(crate) fn lie_in_leaves(cells: &[Arc<Cell>], edits: &Edits) -> bool
+/// Whether what the edits cut and put lies in leaves among the cells, where it is no body's
+/// (docs/volume.md, "Bodies in extents").
+pub fn lie_in_leaves(cells: &[Arc<Cell>], edits: &Edits) -> bool
     ensures { result ≡ lie_in_leaves (map (λ c. arc_value c) cells.now) (edits_of edits.now) }
 {
     cuts_lie(cells, edits.cuts.as_slice()) && puts_lie(cells, edits.puts.as_slice())
@@ -152,8 +153,9 @@ fn has_one(cell: &Cell, key: &Key) -> bool
 
 // ---- the room of leaves
 
-// Whether each leaf among the cells has room for the edits that it gets.
-pub(crate) fn have_room(alloc: Global, edits: &Edits, cells: &[Arc<Cell>]) -> Result<bool, Memory>
+/// Whether each leaf among the cells has room for the edits that it gets. The only error is want of
+/// memory (docs/volume.md, "Bodies in extents").
+pub fn have_room(alloc: Global, edits: &Edits, cells: &[Arc<Cell>]) -> Result<bool, Memory>
     requires { SuitLeaves 16384 (edits_of edits.now) }
     ensures { IfOk result (λ ok. ok
         ≡ have_room (edits_of edits.now) (map (λ c. arc_value c) cells.now)) }

@@ -138,8 +138,9 @@ fn stands_clear(body: &SizedBody, piece: &TwigPiece) -> bool
     !piece.key.is_below(coming.to) || ends_by(piece, &coming.from)
 }
 
-// Whether a piece ends by a key.
-fn ends_by(piece: &TwigPiece, key: &Key) -> bool
+/// Whether a piece ends by a key; a unit that reaches the end of its object is taken for one that
+/// does not (docs/volume.md, "Bodies in extents").
+pub fn ends_by(piece: &TwigPiece, key: &Key) -> bool
     ensures { result ≡ ends_by (rank key.now) piece.now }
 {
     match piece.part {

@@ -1,0 +1,5 @@
+mod Names
+mod Losing
+mod Leaving
+mod Numbers
+mod Found

@@ -1,0 +1,3 @@
+pub mod Shrinking
+pub mod Going
+pub mod Shrink

@@ -1,0 +1,28 @@
+//! Laws of what may be lost of the cells of a task. Each is the contract of a function that does
+//! nothing.
+
+ghost use Rattle.std.specs.Prelude.{List};
+ghost use Rattle.r4_base.specs.Tree.{Root as TreeRoot, Store};
+ghost use Rattle.r4_base.specs.Value.{Value};
+ghost use Rattle.r4_content.specs.Edited.{Edits};
+ghost use Rattle.r4_measure.specs.Budget.{AreUnplaced, Budget};
+ghost use Rattle.r4_measure.specs.Grafting.{IsQuietBelow};
+ghost use Rattle.r4_measure.specs.r4_cell.Patch.{HaveNames};
+ghost use Rattle.r4_measure.specs.r4_cell.Seen.{CellSeen};
+ghost use Rattle.r4_measure.specs.r4_cell.declared.change.Fresh.{Fresh};
+ghost use Rattle.r4_measure.specs.r4_reach.Touched.{Body};
+ghost use Rattle.r4_measure.specs.r4_work.Working.{AreCellsIn};
+ghost use Rattle.r4_extent_change.specs.Changing.{AreMeasured};
+ghost use Rattle.r4_extent_change.specs.Losing.{CanLose};
+ghost use Rattle.r4_extent_growth.specs.Coming.{SufficesFor};
+ghost use Rattle.r4_extent_shrink.specs.Shrink.{MayLoseAll};
+ghost use Rattle.r4_extent_shrink.specs.Shrinking.{twigs_losing};
+
+/// Where `may_lose` says so of the cells of a part of a tree that have the budget, and the budget
+/// has what `twigs_losing` tells of each twig, `change_of_losing` may be asked for the change.
+pub fn found_losses_can_be_made()
+    ensures { (b : Body) (e : Edits) (u : Budget) (t : Store Value) (r : TreeRoot) (f : Fresh)
+        (cells : List CellSeen) → MayLoseAll b e f cells → AreCellsIn t r f cells → HaveNames cells
+        → AreMeasured t r u cells → IsQuietBelow u → AreUnplaced f
+        → SufficesFor u (twigs_losing b e cells) → CanLose b e u t r f cells }
+{}
