@@ -12,4 +12,5 @@ pub use coming::{extra_twigs, twigs_coming};
 pub use growing::may_grow;
 pub use laws::{found_growths_can_be_made, growths_are_found};
 pub use lying::{have_room, lie_in_leaves};
+pub use r4_extent_change::without_bytes;
 pub use twigs::ends_by;

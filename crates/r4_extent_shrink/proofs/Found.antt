@@ -8,11 +8,11 @@ use Rattle.r4_base.specs.Tree.{Name, Root, Store}
 use Rattle.r4_base.specs.Value.{Value}
 use Rattle.r4_base.specs.declared.key.Key.{Key}
 use Rattle.r4_content.specs.Edited.{Edits}
-use Rattle.r4_extent_change.proofs.Chosen.{picked}
-use Rattle.r4_extent_change.specs.Among.{is_losing, losing_twigs}
-use Rattle.r4_extent_change.specs.Beside.{without_bytes}
-use Rattle.r4_extent_change.specs.Changing.{AreMeasured}
-use Rattle.r4_extent_change.specs.Losing.{CanLose, HasLoss}
+use Rattle.r4_extent_growth.proofs.r4_extent_change.Chosen.{picked}
+use Rattle.r4_extent_growth.specs.r4_extent_change.Among.{is_losing, losing_twigs}
+use Rattle.r4_extent_growth.specs.r4_extent_change.Beside.{without_bytes}
+use Rattle.r4_extent_growth.specs.r4_extent_change.Changing.{AreMeasured}
+use Rattle.r4_extent_growth.specs.r4_extent_change.Losing.{CanLose, HasLoss}
 use Rattle.r4_extent_growth.proofs.Found.{leaf_room, lies_found, told_in}
 use Rattle.r4_extent_growth.proofs.Turns.{each}
 use Rattle.r4_extent_growth.specs.Coming.{SufficesFor, coming_beside}

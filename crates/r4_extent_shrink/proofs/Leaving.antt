@@ -6,7 +6,7 @@ use Rattle.std.proofs.lemmas.Bool.{and_parts, eq-eqb, eqb-true, leb-true, ltb-tr
 use Rattle.r4_base.specs.Key.{offset_of, rank}
 use Rattle.r4_base.specs.Tree.{Name}
 use Rattle.r4_base.specs.declared.key.Key.{Key}
-use Rattle.r4_extent_change.specs.Among.{is_losing}
+use Rattle.r4_extent_growth.specs.r4_extent_change.Among.{is_losing}
 use Rattle.r4_extent_growth.proofs.Found.{some_of}
 use Rattle.r4_extent_growth.proofs.Turns.{each, off, part_ends, second}
 use Rattle.r4_extent_growth.specs.Turning.{ends_by}

@@ -8,8 +8,8 @@ use Rattle.r4_base.specs.declared.key.Key.{Key}
 use Rattle.r4_content.specs.Edited.{Edits}
 use Rattle.r4_measure.specs.r4_edit.CutBlocks.{next_key}
 use Rattle.r4_extent_build.specs.r4_twig_turns.Turning.{TwigTurn, numbers_for}
-use Rattle.r4_extent_change.specs.Among.{is_losing, loss_among, losing_twigs}
-use Rattle.r4_extent_change.specs.Losing.{numbers_lost}
+use Rattle.r4_extent_growth.specs.r4_extent_change.Among.{is_losing, loss_among, losing_twigs}
+use Rattle.r4_extent_growth.specs.r4_extent_change.Losing.{numbers_lost}
 use Rattle.r4_extent_loss.specs.Losing.{Loss, leaf_at, losing_turn, numbers_taken, taken_block, taken_from}
 use Rattle.r4_extent_loss.specs.LosingEach.{losing_turns}
 use Rattle.r4_measure.specs.r4_branch.declared.piece.TwigPiece.{TwigPiece}

@@ -6,7 +6,7 @@ use Rattle.std.specs.List.{list_all, list_any}
 use Rattle.r4_base.specs.Key.{rank}
 use Rattle.r4_base.specs.Node.{mkfs_id_of}
 use Rattle.r4_base.specs.Tree.{Name}
-use Rattle.r4_extent_change.specs.Among.{is_losing}
+use Rattle.r4_extent_growth.specs.r4_extent_change.Among.{is_losing}
 use Rattle.r4_extent_growth.specs.Turning.{ends_by}
 use Rattle.r4_extent_loss.specs.Losing.{gone_from, gone_to, in_gone}
 use Rattle.r4_measure.specs.r4_branch.Pieces.{open_end, piece_end}

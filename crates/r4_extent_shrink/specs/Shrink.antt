@@ -9,9 +9,9 @@ use Rattle.r4_base.specs.declared.key.Key.{Key}
 use Rattle.r4_build.specs.Building.{LiesInLeaf}
 use Rattle.r4_content.specs.Edited.{Edits, changed, is_in}
 use Rattle.r4_extent_build.specs.Growing.{end_after, end_before}
-use Rattle.r4_extent_change.specs.Among.{losing_twigs}
-use Rattle.r4_extent_change.specs.Beside.{without_bytes}
-use Rattle.r4_extent_change.specs.Losing.{numbers_lost}
+use Rattle.r4_extent_growth.specs.r4_extent_change.Among.{losing_twigs}
+use Rattle.r4_extent_growth.specs.r4_extent_change.Beside.{without_bytes}
+use Rattle.r4_extent_growth.specs.r4_extent_change.Losing.{numbers_lost}
 use Rattle.r4_extent_demands.specs.Pieces.{gets_among}
 use Rattle.r4_extent_growth.specs.Lying.{have_room, lie_in_leaves}
 use Rattle.r4_extent_loss.specs.Losing.{IsLosing}

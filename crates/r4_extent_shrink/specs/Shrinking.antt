@@ -3,7 +3,7 @@ use Rattle.std.specs.Prelude.{ℕ, List, map}
 use Rattle.r4_content.specs.Edited.{Edits}
 use Rattle.r4_measure.specs.r4_cell.Seen.{CellSeen}
 use Rattle.r4_measure.specs.r4_reach.Touched.{Body}
-use Rattle.r4_extent_change.specs.Among.{losing_twigs}
+use Rattle.r4_extent_growth.specs.r4_extent_change.Among.{losing_twigs}
 use Rattle.r4_extent_growth.specs.Coming.{coming_beside}
 
 -- each twig among the cells that loses blocks, in their order, and how many may come beside it

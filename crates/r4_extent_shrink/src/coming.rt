@@ -5,7 +5,7 @@ ghost use Rattle.std.specs.Prelude.{◌≡◌, ◌++◌, ◌∷◌, [], IfOk, On
 ghost use Rattle.std.specs.Arc.{arc_value};
 ghost use Rattle.r4_content.specs.Held.{edits_of};
 ghost use Rattle.r4_extent_demands.specs.Sizes.{IsSizedBody};
-ghost use Rattle.r4_extent_change.specs.Among.{is_losing, losing_twigs};
+ghost use Rattle.r4_extent_growth.specs.r4_extent_change.Among.{is_losing, losing_twigs};
 ghost use Rattle.r4_extent_growth.specs.Coming.{coming_beside, count_of};
 ghost use Rattle.r4_extent_shrink.specs.Shrinking.{twigs_losing};
 

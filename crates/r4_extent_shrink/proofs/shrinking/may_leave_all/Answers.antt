@@ -6,7 +6,7 @@ use Rattle.std.specs.Arc.{arc_value}
 use Rattle.std.specs.List.{list_all}
 use Rattle.r4_measure.proofs.r4_patch.Members.{cases}
 use Rattle.r4_measure.specs.r4_cell.Seen.{CellSeen}
-use Rattle.r4_extent_change.specs.Among.{is_losing, losing_twigs}
+use Rattle.r4_extent_growth.specs.r4_extent_change.Among.{is_losing, losing_twigs}
 use Rattle.r4_extent_growth.proofs.AllTurn.{rest_is}
 use Rattle.r4_extent_shrink.specs.Going.{IsKnown, may_leave}
 use Rattle.r4_extent_shrink.proofs.shrinking.may_leave_all.Goals as goal

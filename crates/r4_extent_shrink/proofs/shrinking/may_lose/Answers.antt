@@ -7,9 +7,9 @@ use Rattle.r4_content.specs.Edited.{Edits}
 use Rattle.r4_content.specs.Held.{edits_of}
 use Rattle.r4_leaf_edits.specs.Suiting.{SuitLeaves}
 use Rattle.r4_measure.specs.r4_cell.Seen.{CellSeen}
-use Rattle.r4_extent_change.proofs.NoBytes.{suit_leaves}
-use Rattle.r4_extent_change.specs.Among.{losing_twigs}
-use Rattle.r4_extent_change.specs.Beside.{without_bytes}
+use Rattle.r4_extent_growth.proofs.r4_extent_change.NoBytes.{suit_leaves}
+use Rattle.r4_extent_growth.specs.r4_extent_change.Among.{losing_twigs}
+use Rattle.r4_extent_growth.specs.r4_extent_change.Beside.{without_bytes}
 use Rattle.r4_extent_growth.proofs.Tests.{both_ok}
 use Rattle.r4_extent_growth.specs.Lying.{have_room, lie_in_leaves}
 use Rattle.r4_extent_shrink.specs.Going.{IsKnown, may_leave}
